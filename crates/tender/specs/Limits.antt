@@ -1,0 +1,51 @@
+-- The limits of paper 01, "Time, price and place", and the rule of a window.
+use Prim.Native.Nat.{ℕ}
+use mathlib.Core.Bool.{Bool, true, false, _&&_}
+use mathlib.Core.List.{List, [], _∷_}
+use lib.Dec.{leb, ltb}
+use Rattle.tender.specs.declared.Kind.{Kind}
+use Rattle.tender.specs.declared.Kind.the-variants.{Single, Multi}
+use Rattle.tender.specs.declared.Window.{Window}
+
+-- a ≤ n ≤ z
+unfoldable pub within : ℕ → ℕ → ℕ → Bool
+within a z n = leb a n && leb n z
+
+-- minutes of a week: no window ends later
+abbrev pub week : ℕ
+week = 10080
+
+-- prices are cents, 0 to 100,000,000
+abbrev pub maxPrice : ℕ
+maxPrice = 100000000
+
+-- bidder numbers run from 1 to 999,999
+abbrev pub maxBidder : ℕ
+maxBidder = 999999
+
+abbrev pub maxBids : ℕ
+maxBids = 1000
+
+abbrev pub maxWindows : ℕ
+maxWindows = 32
+
+abbrev pub maxText : ℕ
+maxText = 65536
+
+-- how many windows a bid may have
+unfoldable pub mostWindows : Kind → ℕ
+mostWindows Single = 1
+mostWindows Multi = maxWindows
+
+unfoldable pub isSingle : Kind → Bool
+isSingle Single = true
+isSingle Multi = false
+
+-- a window (S E) has 0 ≤ S < E ≤ 10,080
+unfoldable pub lawful : Window → Bool
+lawful w = ltb (w .start) (w .end) && leb (w .end) week
+
+unfoldable pub allLawful : List Window → Bool
+unfolding lawful
+allLawful [] = true
+allLawful (w ∷ ws) = lawful w && allLawful ws

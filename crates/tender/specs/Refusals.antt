@@ -1,0 +1,36 @@
+-- Each refusal's number and place (paper 01, "What each operation declines").
+use Prim.Native.Nat.{ℕ}
+use Rattle.tender.specs.declared.Refusal.{Refusal}
+use Rattle.tender.specs.declared.Refusal.the-variants.{TextTooLong, BadForm, OutsideLimits, TooMany, BadWindow, BidderRepeated, SeveralWindows, TableTooShort, BadTables, RowsTooFew, MinuteUncovered, OneBidder}
+
+abbrev pub numberOf : Refusal → ℕ
+-- Reading: a text above 65,536 bytes; a line that is not of the form; a bidder or price outside its limits; a 1,001st bid or
+-- a 33rd window; a window with start not below end or end above 10,080; a bidder number used on an earlier line; more than
+-- one window in a single tender; a lent table with fewer rows than the text needs
+numberOf TextTooLong = 1
+numberOf (BadForm line) = 2
+numberOf (OutsideLimits line) = 3
+numberOf (TooMany line) = 4
+numberOf (BadWindow line) = 5
+numberOf (BidderRepeated line) = 6
+numberOf (SeveralWindows line) = 7
+numberOf TableTooShort = 8
+-- Either award: tables that break a rule; fewer award rows than bids; a minute in no bid; a minute in exactly one bid
+numberOf (BadTables row) = 9
+numberOf RowsTooFew = 10
+numberOf (MinuteUncovered minute) = 11
+numberOf (OneBidder minute) = 12
+
+abbrev pub placeOf : Refusal → ℕ
+placeOf TextTooLong = 0
+placeOf (BadForm line) = line
+placeOf (OutsideLimits line) = line
+placeOf (TooMany line) = line
+placeOf (BadWindow line) = line
+placeOf (BidderRepeated line) = line
+placeOf (SeveralWindows line) = line
+placeOf TableTooShort = 0
+placeOf (BadTables row) = row
+placeOf RowsTooFew = 0
+placeOf (MinuteUncovered minute) = minute
+placeOf (OneBidder minute) = minute

@@ -1,0 +1,107 @@
+// The data that every crate here speaks of: kinds, windows, tenders, limits, keywords and refusals.
+// No algorithm stands here. `specs/` has what the crates above cite of it: the limits and the rule of a
+// window, the layout of the two tables, the keywords, and each refusal's number and place.
+ghost use mathlib.Core.Path.{_≡_};
+ghost use Rattle.tender.specs.Refusals.{numberOf, placeOf};
+
+// A single tender takes bids of one window each, a multi tender bids of several.
+pub enum Kind {
+    Single,
+    Multi,
+}
+
+// The minutes from `start` to `end` - 1.
+pub struct Window {
+    pub start: u64,
+    pub end: u64,
+}
+
+// What is bought: every minute of the tender's own window.
+pub struct Tender {
+    pub kind: Kind,
+    pub window: Window,
+}
+
+// Why a call declines. `line` counts the text's lines from 1; `row` counts the rows of the bid table from 1 and
+// is 0 for the tender; `minute` is a minute of the tender.
+pub enum Refusal {
+    TextTooLong,
+    BadForm { line: u64 },
+    OutsideLimits { line: u64 },
+    TooMany { line: u64 },
+    BadWindow { line: u64 },
+    BidderRepeated { line: u64 },
+    SeveralWindows { line: u64 },
+    TableTooShort,
+    BadTables { row: u64 },
+    RowsTooFew,
+    MinuteUncovered { minute: u64 },
+    OneBidder { minute: u64 },
+}
+
+// The last end of a window: a week of minutes.
+pub const WEEK: u64 = 10080;
+
+pub const MAX_PRICE: u64 = 100000000;
+
+pub const MAX_BIDDER: u64 = 999999;
+
+pub const MAX_BIDS: usize = 1000;
+// How many windows a bid of a multi tender may have.
+pub const MAX_WINDOWS: usize = 32;
+
+pub const MAX_TEXT: usize = 65536;
+
+// The cells of a row of the bid table: bidder, price, place of its first window, number of windows.
+pub const BID_CELLS: usize = 4;
+// The cells of a row of the window table: start, end.
+pub const WINDOW_CELLS: usize = 2;
+
+// The keywords of the bid text and of the list.
+pub const TENDER: [u8; 6] = *b"tender";
+
+pub const BID: [u8; 3] = *b"bid";
+
+pub const SINGLE: [u8; 6] = *b"single";
+
+pub const MULTI: [u8; 5] = *b"multi";
+
+// The refusal's number.
+pub fn number(r: Refusal) -> u64
+    ensures { λ n. ⌜ n ≡ numberOf r ⌝ }
+{
+    match r {
+        Refusal::TextTooLong => 1,
+        Refusal::BadForm { line: _ } => 2,
+        Refusal::OutsideLimits { line: _ } => 3,
+        Refusal::TooMany { line: _ } => 4,
+        Refusal::BadWindow { line: _ } => 5,
+        Refusal::BidderRepeated { line: _ } => 6,
+        Refusal::SeveralWindows { line: _ } => 7,
+        Refusal::TableTooShort => 8,
+        Refusal::BadTables { row: _ } => 9,
+        Refusal::RowsTooFew => 10,
+        Refusal::MinuteUncovered { minute: _ } => 11,
+        Refusal::OneBidder { minute: _ } => 12,
+    }
+}
+
+// The refusal's place.
+pub fn place(r: Refusal) -> u64
+    ensures { λ n. ⌜ n ≡ placeOf r ⌝ }
+{
+    match r {
+        Refusal::TextTooLong => 0,
+        Refusal::BadForm { line } => line,
+        Refusal::OutsideLimits { line } => line,
+        Refusal::TooMany { line } => line,
+        Refusal::BadWindow { line } => line,
+        Refusal::BidderRepeated { line } => line,
+        Refusal::SeveralWindows { line } => line,
+        Refusal::TableTooShort => 0,
+        Refusal::BadTables { row } => row,
+        Refusal::RowsTooFew => 0,
+        Refusal::MinuteUncovered { minute } => minute,
+        Refusal::OneBidder { minute } => minute,
+    }
+}
