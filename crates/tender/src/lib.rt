@@ -22,6 +22,12 @@ pub struct Tender {
     pub window: Window,
 }
 
+// What an award answers: the winners' cost and the sum paid, in cents.
+pub struct Totals {
+    pub cost: u64,
+    pub paid: u64,
+}
+
 // Why a call declines. `line` counts the text's lines from 1; `row` counts the rows of the bid table from 1 and
 // is 0 for the tender; `minute` is a minute of the tender.
 pub enum Refusal {

@@ -1,0 +1,6 @@
+pub mod Sets
+pub mod LeastCover
+pub mod Greedy
+pub mod CriticalPrice
+pub mod Threshold
+pub mod Settled
