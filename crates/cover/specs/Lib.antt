@@ -4,3 +4,5 @@ pub mod Greedy
 pub mod CriticalPrice
 pub mod Threshold
 pub mod Settled
+pub mod SetLaws
+pub mod LeastCoverLaws
