@@ -6,3 +6,9 @@ pub mod Threshold
 pub mod Settled
 pub mod SetLaws
 pub mod LeastCoverLaws
+pub mod PickLaws
+pub mod Chance
+pub mod GreedyLaws
+pub mod ChanceLaws
+pub mod GreedyCover
+pub mod BarLaws
