@@ -5,7 +5,7 @@ use mathlib.Core.Path.{_≡_}
 use mathlib.Core.Bool.{Bool, true, false, not, _&&_}
 use mathlib.Core.List.{List}
 use Prim.Native.Nat.{ℕ, zero, suc, _-_, _^_, _≤_, _<_}
-use lib.ListN.{length, getD}
+use lib.ListN.{length, getD, set}
 use lib.Dec.{ltb}
 use Rattle.cover.specs.Sets.{Found, nothing, found, valueOf, bit, cost}
 
@@ -60,3 +60,15 @@ unfolding winners without payment
 vcgPaid ok ps i =
     let m = winners ok ps in
     payment (bit m i) (cost ps (winners (without i ok) ps)) (cost ps m) (getD ps i 0)
+
+unfoldable pub margin : ℕ → (ℕ → ℕ) → Found → ℕ
+margin least price nothing = 0
+margin least price (found s) = least - price s
+
+-- the threshold of bid i, which does not turn on its price: the least cost without it, less what the others cost in the best set with it;
+-- 0 where no set of the family has it
+unfoldable pub vcgThreshold : (ℕ → Bool) → List ℕ → ℕ → ℕ
+unfolding winners without first margin
+vcgThreshold ok ps i =
+    let free = set ps i 0 in
+    margin (cost free (winners (without i ok) free)) (cost free) (first (λ s. ok s && bit s i) (cost free) (2 ^ length ps))

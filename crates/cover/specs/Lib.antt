@@ -6,9 +6,12 @@ pub mod Threshold
 pub mod Settled
 pub mod SetLaws
 pub mod LeastCoverLaws
+pub mod VcgLaws
 pub mod PickLaws
 pub mod Chance
 pub mod GreedyLaws
 pub mod ChanceLaws
 pub mod GreedyCover
 pub mod BarLaws
+pub mod CriticalLaws
+pub mod SpareLaws

@@ -1,0 +1,142 @@
+-- Where each cell has two bidders the others cover without any one bid, for both mechanisms; and the winners of both cover. Assumes nothing.
+use mathlib.Core.Path.{_≡_, refl, sym, ap, _∙_}
+use mathlib.Core.Logic.{_⊎_, inl, inr}
+use mathlib.Core.List.{List, [], _∷_}
+use mathlib.Core.Bool.{Bool, true, false, not, _&&_, _||_, false≢true}
+use Prim.Native.Nat.{ℕ, zero, suc, _+_, _^_, _≤_, _<_}
+use native.Mathlib.Nat.{eq-or-lt-of-le, le-of-suc-le-suc}
+use native.Mathlib.Omega.{arith}
+use lib.ListN.{length}
+use lib.Dec.{leb, eqb}
+use borrow.Author.Tests.{leb-true, eq-eqb, ne-eqb, eqb-true, eqb-false}
+use Rattle.cover.specs.Sets.{when, bit, all, hit, covers, cost, cells, bidders, each}
+use Rattle.cover.specs.LeastCover.{Wins, winners, without}
+use Rattle.cover.specs.Greedy.{Bid, run, taken, bids, wins}
+use Rattle.cover.specs.CriticalPrice.{withdrawn}
+use Rattle.cover.specs.SetLaws.{all-of, all-at, pack, pack-below, pack-bit, hit-of, Member, hit-some}
+use Rattle.cover.specs.LeastCoverLaws.{winners-right}
+use Rattle.cover.specs.VcgLaws.{without-join}
+use Rattle.cover.specs.GreedyLaws.{rounds, withdrawn-other}
+use Rattle.cover.specs.GreedyCover.{Each, Covered, Served, served}
+
+-- a bid other than k has the cell x
+pub record Another (has : ℕ → ℕ → Bool) (n k x : ℕ) : Type 0 where
+  pub who : ℕ
+  pub inside : who < n
+  pub other : who ≡ k → ⊥
+  pub covers-it : has who x ≡ true
+
+module _ (has : ℕ → ℕ → Bool) (k x : ℕ) where
+  up : (n : ℕ) → Another has n k x → Another has (suc n) k x
+  up n a = record { who = a .who; inside = omega (arith, a .inside); other = a .other; covers-it = a .covers-it }
+
+  -- among the bids before k one bidder is enough
+  one-before : (n : ℕ) → n ≤ k → 1 ≤ bidders has n x → Another has n k x
+  unfolding bidders
+  one-before zero l b = absurd (omega arith)
+  one-before (suc n) l b = go (has n x) refl b (one-before n)
+    where
+      go : (t : Bool) → has n x ≡ t → 1 ≤ when t 1 + bidders has n x → (n ≤ k → 1 ≤ bidders has n x → Another has n k x) → Another has (suc n) k x
+      go true e b ih = record { who = n; inside = omega arith; other = λ f. omega arith; covers-it = e }
+      go false e b ih = up n (ih (omega arith) (omega arith))
+
+  pub another : (n : ℕ) → 2 ≤ bidders has n x → Another has n k x
+  unfolding bidders
+  another zero b = absurd (omega arith)
+  another (suc n) b = go (has n x) (eqb n k) refl refl b (another n)
+    where
+      go : (t u : Bool) → has n x ≡ t → eqb n k ≡ u → 2 ≤ when t 1 + bidders has n x → (2 ≤ bidders has n x → Another has n k x) → Another has (suc n) k x
+      go true true e f b ih = up n (one-before n (omega (arith, eqb-true n k f)) (omega arith))
+      go true false e f b ih = record { who = n; inside = omega arith; other = eqb-false n k f; covers-it = e }
+      go false u e f b ih = up n (ih (omega arith))
+
+-- the bids but i
+unfoldable pub others : ℕ → ℕ → ℕ
+unfolding pack
+others n i = pack (λ j. not (eqb j i)) n
+
+pub others-below : (n i : ℕ) → others n i < 2 ^ n
+unfolding others
+others-below n i = pack-below (λ j. not (eqb j i)) n
+
+pub others-without : (n i : ℕ) → i < n → bit (others n i) i ≡ false
+unfolding others
+others-without n i l = pack-bit (λ j. not (eqb j i)) n i l ∙ ap not (eq-eqb i i refl)
+
+-- a fact of each of the cells
+
+pub each-of : (P : ℕ → Type 0) (L : ℕ) → ((x : ℕ) → x < L → P x) → Each P (cells L)
+unfolding cells
+each-of P zero f = tt
+each-of P (suc L) f = (f L (omega arith), each-of P L (λ x l. f x (omega arith)))
+
+pub each-at : (P : ℕ → Type 0) (L : ℕ) → Each P (cells L) → (x : ℕ) → x < L → P x
+unfolding cells
+each-at P zero e x l = absurd (omega arith)
+each-at P (suc L) e x l = go (eq-or-lt-of-le (le-of-suc-le-suc l)) (each-at P L (e .1) x)
+  where
+    go : (x ≡ L) ⊎ (x < L) → (x < L → P x) → P x
+    go (inl h) f = rw h (e .0)
+    go (inr h) f = f h
+
+taken-below : (B : ℕ → Bid) (n k f : ℕ) (O : List ℕ) → length O ≤ f → taken k (run B n f O) ≡ true → k < n
+unfolding taken
+taken-below B n k = rounds B n (λ O t. taken k t ≡ true → k < n) (λ O e z. absurd (false≢true z)) (λ O i t b ih z. go i (eqb i k) (taken k t) refl (b .inside) z ih)
+  where
+    go : (i : ℕ) (a c : Bool) → eqb i k ≡ a → i < n → a || c ≡ true → (c ≡ true → k < n) → k < n
+    go i true c e l z ih = omega (arith, eqb-true i k e)
+    go i false c e l z ih = ih z
+
+-- each cell has two bidders
+module _ (has : ℕ → ℕ → Bool) (n L : ℕ) (two : each has n L 2 ≡ true) where
+  at-least-two : (x : ℕ) → x < L → 2 ≤ bidders has n x
+  unfolding each
+  at-least-two x l = leb-true 2 (bidders has n x) (all-at (λ x. leb 2 (bidders has n x)) L two x l)
+
+  -- the set of the others covers
+  pub others-cover : (i : ℕ) → covers has n L (others n i) ≡ true
+  unfolding covers others
+  others-cover i = all-of (hit has n (others n i)) L (λ x l. let a = another has i x n (at-least-two x l) in
+      hit-of has n (others n i) x (a .who) (a .inside) (pack-bit (λ j. not (eqb j i)) n (a .who) (a .inside) ∙ ap not (ne-eqb (a .who) i (a .other))) (a .covers-it))
+
+  pub spare-set : (i : ℕ) → i < n → without i (covers has n L) (others n i) ≡ true
+  spare-set i l = without-join (covers has n L) i (others n i) (others-cover i) (others-without n i l)
+
+  -- the bids but k cover
+  pub spare-bids : (ps : List ℕ) (k : ℕ) → Each (Covered (withdrawn k (bids has ps)) n) (cells L)
+  unfolding bids
+  spare-bids ps k = each-of (Covered (withdrawn k (bids has ps)) n) L (λ x l. let a = another has k x n (at-least-two x l) in
+      record { who = a .who; inside = a .inside; covers = ap (λ (b : Bid). b .has x) (withdrawn-other k (bids has ps) (a .who) (a .other)) ∙ a .covers-it })
+
+  covered : (ps : List ℕ) → Each (Covered (bids has ps) n) (cells L)
+  unfolding bids
+  covered ps = each-of (Covered (bids has ps) n) L (λ x l. let a = another has n x n (at-least-two x l) in record { who = a .who; inside = a .inside; covers = a .covers-it })
+
+-- the winners of both mechanisms cover
+module _ (has : ℕ → ℕ → Bool) (ps : List ℕ) (L : ℕ) (two : each has (length ps) L 2 ≡ true) where
+  pub least-wins : Wins (covers has (length ps) L) (cost ps) (2 ^ length ps) (winners (covers has (length ps) L) ps)
+  least-wins = winners-right (covers has (length ps) L) ps (others (length ps) 0) (others-below (length ps) 0) (others-cover has (length ps) L two 0)
+
+  pub least-covers : (x : ℕ) → x < L → Member has (length ps) (winners (covers has (length ps) L) ps) x
+  unfolding covers
+  least-covers x l = hit-some has (length ps) (winners (covers has (length ps) L) ps) x (all-at (hit has (length ps) (winners (covers has (length ps) L) ps)) L (least-wins .good) x l)
+
+  -- a bid that the greedy run takes has the cell
+  pub record Taken (x : ℕ) : Type 0 where
+    pub who : ℕ
+    pub inside : who < length ps
+    pub wins-it : wins has ps (cells L) who ≡ true
+    pub covers-it : has who x ≡ true
+
+  pub greedy-covers : (x : ℕ) → x < L → Taken x
+  unfolding wins bids
+  greedy-covers x l = go (each-at (Served (bids has ps) (run (bids has ps) (length ps) (length (cells L)) (cells L))) L
+      (served (bids has ps) (length ps) (length (cells L)) (cells L) (omega arith) (covered has (length ps) L two ps)) x l)
+    where
+      go : Served (bids has ps) (run (bids has ps) (length ps) (length (cells L)) (cells L)) x → Taken x
+      go s = record {
+        who = s .who;
+        inside = taken-below (bids has ps) (length ps) (s .who) (length (cells L)) (cells L) (omega arith) (s .picked);
+        wins-it = s .picked;
+        covers-it = s .covers;
+      }
