@@ -1,0 +1,15 @@
+pub mod Words
+pub mod Line
+pub mod Read
+pub mod Example
+pub mod CutLaws
+pub mod ReadLaws
+pub mod Differ
+pub mod PriceLaw
+pub mod PriceChange
+pub mod Rules
+pub mod RulesLaw
+pub mod CountLaws
+pub mod PlainLaw
+pub mod ScanLaws
+pub mod TallyLaws

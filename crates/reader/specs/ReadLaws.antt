@@ -1,0 +1,74 @@
+-- What an accepted text says of its lines. Assumes nothing.
+use mathlib.Core.Path.{_≡_, refl, ap}
+use mathlib.Core.List.{List, [], _∷_, _++_, map}
+use mathlib.Core.Bool.{Bool, true, false, cond}
+use mathlib.Core.Option.{Option, none, some}
+use Prim.Native.Nat.{ℕ, _+_}
+use native.Mathlib.Omega.{arith}
+use lib.ListN.{length}
+use lib.Dec.{ltb}
+use Rattle.tender.specs.declared.Kind.{Kind}
+use Rattle.tender.specs.declared.Window.{Window}
+use Rattle.tender.specs.declared.Tender.{Tender}
+use Rattle.tender.specs.Limits.{lawful}
+use Rattle.tender.specs.Tables.{Row}
+use Rattle.reader.specs.Words.{cut}
+use Rattle.reader.specs.Line.{Line, tender, bid}
+use Rattle.reader.specs.Read.{Outcome, accepted, refused, rowsFrom, allWindows, bidsOf, linesOf, faultOf, judged, checked, tables, readLines, readText}
+
+pub never : {A : Type 0} {n at : ℕ} {t : Tender} {R : List Row} {W : List Window} → refused n at ≡ accepted t R W → A
+never e = let z : _≡_ {A = ℕ} 0 1 = cc in absurd (omega arith)
+
+module _ (T : Tender) (R : List Row) (W : List Window) where
+  -- the text of an accepted outcome is not too long
+  pub read-lines : (text : List ℕ) → readText text ≡ accepted T R W → readLines (linesOf (cut 10 text)) ≡ accepted T R W
+  unfolding readText
+  read-lines text e = go (ltb 65536 (length text)) e
+    where
+      go : (t : Bool) → cond t (refused 1 0) (readLines (linesOf (cut 10 text))) ≡ accepted T R W → readLines (linesOf (cut 10 text)) ≡ accepted T R W
+      go true x = never x
+      go false x = x
+
+  pub judged-out : (f : Option ℕ) (at : ℕ) (out : Outcome) → judged f at out ≡ accepted T R W → (f ≡ none) × (out ≡ accepted T R W)
+  unfolding judged
+  judged-out none at out e = (refl, e)
+  judged-out (some n) at out e = never e
+
+  -- no line is faulty
+  pub checked-out : (k : Kind) (at : ℕ) (used : List ℕ) (ls : List (Option Line)) (out : Outcome) → checked k at used ls out ≡ accepted T R W → out ≡ accepted T R W
+  unfolding checked
+  checked-out k at used [] out e = e
+  checked-out k at used (none ∷ ls) out e = never e
+  checked-out k at used (some (tender t) ∷ ls) out e = never e
+  checked-out k at used (some (bid b) ∷ ls) out e =
+      checked-out k (at + 1) (used ++ b .bidder ∷ []) ls out (judged-out (faultOf k used b) at (checked k (at + 1) (used ++ b .bidder ∷ []) ls out) e .1)
+
+  -- every line after the first is a bid
+  pub checked-bids : (k : Kind) (at : ℕ) (used : List ℕ) (ls : List (Option Line)) (out : Outcome) → checked k at used ls out ≡ accepted T R W → ls ≡ map (λ b. some (bid b)) (bidsOf ls)
+  unfolding checked bidsOf
+  checked-bids k at used [] out e = refl
+  checked-bids k at used (none ∷ ls) out e = never e
+  checked-bids k at used (some (tender t) ∷ ls) out e = never e
+  checked-bids k at used (some (bid b) ∷ ls) out e =
+      ap {B = List (Option Line)} (λ r. some (bid b) ∷ r) (checked-bids k (at + 1) (used ++ b .bidder ∷ []) ls out (judged-out (faultOf k used b) at (checked k (at + 1) (used ++ b .bidder ∷ []) ls out) e .1))
+
+  pub record Begun (x : Option Line) (ls : List (Option Line)) : Type 0 where
+    pub first : x ≡ some (tender T)
+    pub window : lawful (T .window) ≡ true
+    pub sound : checked (T .kind) 2 [] ls (tables T (bidsOf ls)) ≡ accepted T R W
+    pub rows : R ≡ rowsFrom 0 (bidsOf ls)
+    pub windows : W ≡ allWindows (bidsOf ls)
+
+  -- the first line is the tender's, and the tables hold the bids of the others
+  pub begun : (x : Option Line) (ls : List (Option Line)) → readLines (x ∷ ls) ≡ accepted T R W → Begun x ls
+  unfolding readLines tables
+  begun none ls e = never e
+  begun (some (bid b)) ls e = never e
+  begun (some (tender t)) ls e = go (lawful (t .window)) refl e
+    where
+      go : (v : Bool) → lawful (t .window) ≡ v → cond v (checked (t .kind) 2 [] ls (tables t (bidsOf ls))) (refused 5 1) ≡ accepted T R W → Begun (some (tender t)) ls
+      go false l x = never x
+      go true l x =
+          let o : tables t (bidsOf ls) ≡ accepted T R W = checked-out (t .kind) 2 [] ls (tables t (bidsOf ls)) x in
+          let same : t ≡ T = cc in
+          record { first = cc; window = rw same at l; sound = rw same at x; rows = cc; windows = cc }
