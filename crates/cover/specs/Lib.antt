@@ -15,3 +15,4 @@ pub mod GreedyCover
 pub mod BarLaws
 pub mod CriticalLaws
 pub mod SpareLaws
+pub mod Worked
