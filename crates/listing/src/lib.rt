@@ -1,0 +1,2 @@
+// The list as bytes.
+mod lines;
