@@ -1,16 +1,19 @@
 -- A number spelt from its last digit to its first. Assumes nothing.
 use mathlib.Core.Path.{_≡_, refl, sym, ap, subst, _∙_}
 use mathlib.Core.Bool.{Bool, true, false, cond}
-use mathlib.Core.List.{List, [], _∷_}
+use mathlib.Core.List.{List, [], _∷_, _++_, append-nil}
 use Prim.Native.Nat.{ℕ, zero, suc, _+_, _-_, _*_, _/_, _%_, _^_, _≤_, _<_}
 use native.Mathlib.Nat.{pow-suc}
 use native.Mathlib.Omega.{arith}
-use lib.ListN.{length, drop, set, length-set}
+use lib.ListN.{length, take, drop, set, length-set, length-append}
 use lib.Seq.{drop-length}
-use lib.Dec.{ltb}
-use borrow.Author.Tests.{lt-ltb, le-ltb}
-use Rattle.tender.specs.Keywords.{bytes}
-use Rattle.listing.specs.Lines.{digitsBefore, decimal, closing, pairLine}
+use lib.Dec.{ltb, eqb}
+use borrow.Author.Tests.{lt-ltb, le-ltb, eq-eqb, ne-eqb}
+use Rattle.tender.specs.declared.Kind.{Kind}
+use Rattle.tender.specs.declared.Kind.the-variants.{Single, Multi}
+use Rattle.tender.specs.declared.Tender.{Tender}
+use Rattle.tender.specs.Keywords.{bytes, singleWord, multiWord}
+use Rattle.listing.specs.Lines.{digitsBefore, decimal, closing, numbers, pairLine, kindWord, awardWord, awardLine, winWord, winLine}
 use Rattle.listing.specs.Written.{Written}
 use Rattle.listing.proofs.Writing.{then}
 
@@ -79,7 +82,53 @@ decimal-short n = omega (arith, short 20 n [])
 pub number-written : {old mid new part : List ℕ} {at e f : ℕ} (n : ℕ) → Written old at (32 ∷ []) mid e → Written mid e part new f → part ≡ decimal n → Written old at (32 ∷ decimal n) new f
 number-written {old} {mid} {new} {part} {at} {e} {f} n x y z = then x (subst (λ b. Written mid e b new f) z y)
 
-pub pair-written : {old m1 m2 m3 m4 new word : List ℕ} {at e1 e2 e3 e4 f : ℕ} (a b : ℕ) → Written old at (40 ∷ []) m1 e1 → Written m1 e1 word m2 e2 →
-    Written m2 e2 (32 ∷ decimal a) m3 e3 → Written m3 e3 (32 ∷ decimal b) m4 e4 → Written m4 e4 (41 ∷ 10 ∷ []) new f → Written old at (pairLine word a b) new f
-unfolding pairLine closing bytes
-pair-written {old} {m1} {m2} {m3} {m4} {new} {word} {at} {e1} {e2} {e3} {e4} {f} a b v w x y z = then (then (then (then v w) x) y) z
+-- the parts of a line, one after the other
+
+pub numbers-written : {old m1 m2 new : List ℕ} {at e1 e2 f : ℕ} (a b : ℕ) → Written old at (32 ∷ decimal a) m1 e1 → Written m1 e1 (32 ∷ decimal b) m2 e2 → Written m2 e2 (41 ∷ 10 ∷ []) new f →
+    Written old at (numbers a b) new f
+unfolding numbers closing bytes
+numbers-written {old} {m1} {m2} {new} {at} {e1} {e2} {f} a b x y z = then (then x y) z
+
+pub pair-written : {old m1 m2 new word : List ℕ} {at e1 e2 f : ℕ} (a b : ℕ) → Written old at (40 ∷ []) m1 e1 → Written m1 e1 word m2 e2 → Written m2 e2 (numbers a b) new f → Written old at (pairLine word a b) new f
+unfolding pairLine
+pair-written {old} {m1} {m2} {new} {word} {at} {e1} {e2} {f} a b x y z = then (then x y) z
+
+pub award-written : {old m1 m2 new : List ℕ} {at e1 e2 f : ℕ} (t : Tender) → Written old at (bytes "(award ") m1 e1 → Written m1 e1 (kindWord (t .kind)) m2 e2 → Written m2 e2 (numbers (t .window .start) (t .window .end)) new f →
+    Written old at (awardLine t) new f
+unfolding awardLine pairLine awardWord bytes
+award-written {old} {m1} {m2} {new} {at} {e1} {e2} {f} t x y z = then (then x y) z
+
+pub numbers-short : (a b : ℕ) → length (numbers a b) ≤ 44
+unfolding numbers closing bytes
+numbers-short a b = omega (arith, decimal-short a, decimal-short b, length-append (32 ∷ decimal a) (32 ∷ decimal b), length-append ((32 ∷ decimal a) ++ (32 ∷ decimal b)) (41 ∷ 10 ∷ []))
+
+pub kind-short : (k : Kind) → length (kindWord k) ≤ 6
+unfolding kindWord singleWord multiWord bytes
+kind-short Single = omega arith
+kind-short Multi = omega arith
+
+pub kind-written : {old new : List ℕ} {at f : ℕ} (k l : Kind) → k ≡ l → Written old at (kindWord l) new f → Written old at (kindWord k) new f
+kind-written {old} {new} {at} {f} k l e x = rw e x
+
+pub nothing-written : (old : List ℕ) (at : ℕ) → Written old at [] old at
+nothing-written old at = record { text = sym (append-nil (take at old)); next = omega arith; size = refl }
+
+pub pair-short : (word : List ℕ) (a b : ℕ) → length (pairLine word a b) ≤ 45 + length word
+unfolding pairLine
+pair-short word a b = omega (arith, numbers-short a b, length-append (40 ∷ []) word, length-append ((40 ∷ []) ++ word) (numbers a b))
+
+pub win-short : (bidder flag cents : ℕ) → length (winLine bidder flag cents) ≤ 48
+unfolding winLine winWord bytes
+win-short bidder flag cents = go (eqb flag 1)
+  where
+    go : (t : Bool) → length (cond t (pairLine (119 ∷ 105 ∷ 110 ∷ []) bidder cents) []) ≤ 48
+    go true = omega (arith, pair-short (119 ∷ 105 ∷ 110 ∷ []) bidder cents)
+    go false = omega arith
+
+pub win-written : {old new : List ℕ} {at f : ℕ} (bidder flag cents : ℕ) → flag ≡ 1 → Written old at (pairLine (bytes "win") bidder cents) new f → Written old at (winLine bidder flag cents) new f
+unfolding winLine winWord bytes
+win-written {old} {new} {at} {f} bidder flag cents e x = rw (eq-eqb flag 1 e) x
+
+pub no-win : (bidder flag cents : ℕ) → (flag ≡ 1 → ⊥) → winLine bidder flag cents ≡ []
+unfolding winLine
+no-win bidder flag cents d = rw (ne-eqb flag 1 d)

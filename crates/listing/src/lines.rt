@@ -1,10 +1,12 @@
 // Writes the parts of a list into a buffer: each function puts bytes from `at` on and answers the place past them.
 ghost use mathlib.Core.Path.{_≡_};
 ghost use mathlib.Core.List.{List, [], _∷_};
-ghost use Prim.Native.Nat.{_+_, _≤_, _<_};
+ghost use Prim.Native.Nat.{_+_, _*_, _≤_, _<_};
 ghost use lib.ListN.{length, drop};
-ghost use Rattle.listing.specs.Lines.{decimal, pairLine};
+ghost use Rattle.listing.specs.Lines.{decimal, numbers, pairLine, kindWord, awardLine, winLine, winLines};
 ghost use Rattle.listing.specs.Written.{Written};
+use tender::Kind;
+use tender::Tender;
 
 // One byte.
 fn put(buf: &mut [u8], at: usize, b: u8) -> usize
@@ -64,14 +66,77 @@ fn put_number(buf: &mut [u8], at: usize, n: u64) -> usize
     put_rest(buf, next, &digits, i)
 }
 
+// The two numbers that end a line.
+fn put_numbers(buf: &mut [u8], at: usize, a: u64, b: u64) -> usize
+    requires { ⌜ at + 44 ≤ length (now buf) ⌝ }
+    ensures { λ r. ⌜ Written (now (buf .entry)) at (numbers a b) (now (buf .exit)) r ⌝ }
+{
+    let first = put_number(buf, at, a);
+    let second = put_number(buf, first, b);
+    put_all(buf, second, b")\n")
+}
+
 // The line (word a b).
 pub(crate) fn put_pair(buf: &mut [u8], at: usize, word: &[u8], a: u64, b: u64) -> usize
     requires { ⌜ at + length (now word) + 45 ≤ length (now buf) ⌝ }
     ensures { λ r. ⌜ Written (now (buf .entry)) at (pairLine (now (word .entry)) a b) (now (buf .exit)) r ⌝ }
 {
-    let open = put(buf, at, b'(');
-    let said = put_all(buf, open, word);
-    let first = put_number(buf, said, a);
-    let second = put_number(buf, first, b);
-    put_all(buf, second, b")\n")
+    let begun = put(buf, at, b'(');
+    let said = put_all(buf, begun, word);
+    put_numbers(buf, said, a, b)
+}
+
+// The keyword of a kind.
+fn put_kind(buf: &mut [u8], at: usize, kind: Kind) -> usize
+    requires { ⌜ at + 6 ≤ length (now buf) ⌝ }
+    ensures { λ r. ⌜ Written (now (buf .entry)) at (kindWord kind) (now (buf .exit)) r ⌝ }
+{
+    match kind {
+        Kind::Single => put_all(buf, at, &tender::SINGLE),
+        Kind::Multi => put_all(buf, at, &tender::MULTI),
+    }
+}
+
+// The line (award single 0 100).
+pub(crate) fn put_award(buf: &mut [u8], at: usize, tender: Tender) -> usize
+    requires { ⌜ at + 57 ≤ length (now buf) ⌝ }
+    ensures { λ r. ⌜ Written (now (buf .entry)) at (awardLine tender) (now (buf .exit)) r ⌝ }
+{
+    let kind = tender.kind;
+    let begun = put_all(buf, at, b"(award ");
+    let said = put_kind(buf, begun, kind);
+    put_numbers(buf, said, tender.window.start, tender.window.end)
+}
+
+// The line (win bidder cents), where the bid won.
+fn put_win(buf: &mut [u8], at: usize, bidder: u64, flag: u64, cents: u64) -> usize
+    requires { ⌜ at + 48 ≤ length (now buf) ⌝ }
+    ensures { λ r. ⌜ Written (now (buf .entry)) at (winLine bidder flag cents) (now (buf .exit)) r ⌝ }
+{
+    if flag == 1 {
+        put_pair(buf, at, b"win", bidder, cents)
+    } else {
+        at
+    }
+}
+
+// The lines of the first n bids that won, in entry order.
+pub(crate) fn put_wins(
+    buf: &mut [u8],
+    at: usize,
+    bids: &[u64],
+    won: &[u64],
+    cents: &[u64],
+    n: usize,
+) -> usize
+    requires { ⌜ (4 * n ≤ length (now bids)) × ((n ≤ length (now won)) × ((n ≤ length (now cents)) × (at + 48 * n ≤ length (now buf)))) ⌝ }
+    ensures { λ r. ⌜ Written (now (buf .entry)) at (winLines (now (bids .entry)) (now (won .entry)) (now (cents .entry)) n) (now (buf .exit)) r ⌝ }
+{
+    let mut end = at;
+    let mut i: usize = 0;
+    while i < n {
+        end = put_win(buf, end, bids[4 * i], won[i], cents[i]);
+        i += 1;
+    }
+    end
 }
