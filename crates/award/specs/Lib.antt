@@ -1,2 +1,7 @@
 pub mod Award
 pub mod Gain
+pub mod GainLaws
+pub mod SettleLaws
+pub mod AwardLaws
+pub mod Answered
+pub mod Worked
