@@ -16,21 +16,7 @@ use Rattle.cover.specs.SetLaws.{and-split}
 use Rattle.tables.specs.Cells.{hasOf}
 use Rattle.award.specs.declared.AwardRow.{AwardRow}
 use Rattle.award.specs.Award.{Outcome, awarded, refused, awardOf, number, place, InBids, Answers}
-use Rattle.award.specs.Gain.{lost}
-
-pub record Case : Type 0 where
-  pub kind : Kind
-  pub start : ℕ
-  pub end : ℕ
-  pub bids : List ℕ
-  pub windows : List ℕ
-  pub answer : Outcome
-
-unfoldable pub tenderOf : Case → Tender
-tenderOf c = record { kind = c .kind; window = record { start = c .start; end = c .end } }
-
-unfoldable pub countOf : Case → ℕ
-countOf c = length (c .bids) / 4
+use Rattle.award.specs.WorkedCases.{Case, tenderOf, countOf, cases}
 
 unfoldable pub sameBool : Bool → Bool → Bool
 sameBool true b = b
@@ -61,79 +47,14 @@ inBids c minute m =
 unfoldable pub right : Case → Bool
 unfolding sameOutcome awardOf tenderOf countOf number place inBids
 right c =
-    sameOutcome (awardOf (c .kind) (tenderOf c) (countOf c) (c .bids) (c .windows) (countOf c) (place (c .answer))) (c .answer)
-    && (not (eqb (number (c .answer)) 11) || inBids c (place (c .answer)) 0)
-    && (not (eqb (number (c .answer)) 12) || inBids c (place (c .answer)) 1)
+    sameOutcome (awardOf (c .kind) (tenderOf c) (countOf c) (c .bids) (c .windows) (countOf c) (place (c .outcome))) (c .outcome)
+    && (not (eqb (number (c .outcome)) 11) || inBids c (place (c .outcome)) 0)
+    && (not (eqb (number (c .outcome)) 12) || inBids c (place (c .outcome)) 1)
 
 unfoldable pub allRight : List Case → Bool
 unfolding right
 allRight [] = true
 allRight (c ∷ cs) = right c && allRight cs
-
-unfoldable pub paid : ℕ → AwardRow
-paid n = record { won = true; cents = n }
-
--- the list of paper 01, with bidder 11 at the price p
-unfoldable pub fiveBids : ℕ → Outcome → Case
-fiveBids p a = record {
-  kind = Single;
-  start = 0;
-  end = 100;
-  bids = 11 ∷ p ∷ 0 ∷ 1 ∷ 12 ∷ 40 ∷ 1 ∷ 1 ∷ 13 ∷ 90 ∷ 2 ∷ 1 ∷ 14 ∷ 35 ∷ 3 ∷ 1 ∷ 15 ∷ 50 ∷ 4 ∷ 1 ∷ [];
-  windows = 0 ∷ 50 ∷ 40 ∷ 100 ∷ 0 ∷ 100 ∷ 0 ∷ 60 ∷ 60 ∷ 100 ∷ [];
-  answer = a;
-}
-
--- the third tender, with bidder 21 at the price p
-unfoldable pub fourBids : ℕ → Outcome → Case
-fourBids p a = record {
-  kind = Multi;
-  start = 0;
-  end = 10;
-  bids = 21 ∷ p ∷ 0 ∷ 2 ∷ 22 ∷ 15 ∷ 2 ∷ 1 ∷ 23 ∷ 30 ∷ 3 ∷ 1 ∷ 24 ∷ 9 ∷ 4 ∷ 2 ∷ [];
-  windows = 0 ∷ 4 ∷ 6 ∷ 8 ∷ 4 ∷ 10 ∷ 0 ∷ 10 ∷ 8 ∷ 10 ∷ 4 ∷ 5 ∷ [];
-  answer = a;
-}
-
-unfoldable pub noBids : Kind → Case
-noBids k = record { kind = k; start = 0; end = 1; bids = []; windows = []; answer = refused 11 0 }
-
-unfoldable pub halves : Kind → ℕ → Case
-halves k minute = record { kind = k; start = 0; end = 10; bids = 1 ∷ 3 ∷ 0 ∷ 1 ∷ 2 ∷ 4 ∷ 1 ∷ 1 ∷ []; windows = 0 ∷ 5 ∷ 5 ∷ 10 ∷ []; answer = refused 12 minute }
-
-unfoldable pub twoMinutes : Case
-unfolding paid lost
-twoMinutes = record {
-  kind = Single;
-  start = 0;
-  end = 2;
-  bids = 1 ∷ 3 ∷ 0 ∷ 1 ∷ 2 ∷ 4 ∷ 1 ∷ 1 ∷ 3 ∷ 3 ∷ 2 ∷ 1 ∷ 4 ∷ 6 ∷ 3 ∷ 1 ∷ [];
-  windows = 0 ∷ 1 ∷ 1 ∷ 2 ∷ 0 ∷ 1 ∷ 1 ∷ 2 ∷ [];
-  answer = awarded (paid 3 ∷ paid 6 ∷ lost ∷ lost ∷ []) 7 9;
-}
-
-unfoldable pub free : Kind → Case
-unfolding paid lost
-free k = record { kind = k; start = 0; end = 10; bids = 1 ∷ 0 ∷ 0 ∷ 1 ∷ 2 ∷ 0 ∷ 1 ∷ 1 ∷ []; windows = 0 ∷ 10 ∷ 0 ∷ 10 ∷ []; answer = awarded (paid 0 ∷ lost ∷ []) 0 0 }
-
-unfoldable pub cases : List Case
-unfolding fiveBids fourBids noBids halves twoMinutes free paid lost
-cases =
-    -- 1, 2
-    fiveBids 30 (awarded (paid 35 ∷ paid 55 ∷ lost ∷ lost ∷ lost ∷ []) 70 90)
-    ∷ fiveBids 35 (awarded (paid 35 ∷ paid 50 ∷ lost ∷ lost ∷ lost ∷ []) 75 85)
-    ∷ fiveBids 36 (awarded (lost ∷ paid 50 ∷ lost ∷ paid 36 ∷ lost ∷ []) 75 86)
-    -- 3, 4
-    ∷ fourBids 12 (awarded (paid 30 ∷ paid 30 ∷ lost ∷ paid 11 ∷ []) 36 71)
-    ∷ fourBids 30 (awarded (paid 30 ∷ paid 18 ∷ lost ∷ lost ∷ []) 45 48)
-    ∷ fourBids 31 (awarded (lost ∷ paid 18 ∷ paid 30 ∷ lost ∷ []) 45 48)
-    -- 5, 6
-    ∷ noBids Single ∷ noBids Multi
-    ∷ halves Single 0 ∷ halves Single 9 ∷ halves Multi 4
-    -- 7, 8
-    ∷ twoMinutes
-    ∷ free Single ∷ free Multi
-    ∷ []
 
 same-bool : (a b : Bool) → sameBool a b ≡ true → a ≡ b
 unfolding sameBool
@@ -175,28 +96,28 @@ where-number : (n m : ℕ) (b : Bool) → not (eqb n m) || b ≡ true → n ≡ 
 where-number n m b e f = rw (eq-eqb n m f) at e
 
 right-is : (c : Case) → right c ≡ true →
-    ((sameOutcome (awardOf (c .kind) (tenderOf c) (countOf c) (c .bids) (c .windows) (countOf c) (place (c .answer))) (c .answer) ≡ true) × (not (eqb (number (c .answer)) 11) || inBids c (place (c .answer)) 0 ≡ true))
-    × (not (eqb (number (c .answer)) 12) || inBids c (place (c .answer)) 1 ≡ true)
+    ((sameOutcome (awardOf (c .kind) (tenderOf c) (countOf c) (c .bids) (c .windows) (countOf c) (place (c .outcome))) (c .outcome) ≡ true) × (not (eqb (number (c .outcome)) 11) || inBids c (place (c .outcome)) 0 ≡ true))
+    × (not (eqb (number (c .outcome)) 12) || inBids c (place (c .outcome)) 1 ≡ true)
 unfolding right
 right-is c e =
-    let a = and-split (sameOutcome (awardOf (c .kind) (tenderOf c) (countOf c) (c .bids) (c .windows) (countOf c) (place (c .answer))) (c .answer) && (not (eqb (number (c .answer)) 11) || inBids c (place (c .answer)) 0))
-    (not (eqb (number (c .answer)) 12) || inBids c (place (c .answer)) 1) e in
-    (and-split (sameOutcome (awardOf (c .kind) (tenderOf c) (countOf c) (c .bids) (c .windows) (countOf c) (place (c .answer))) (c .answer)) (not (eqb (number (c .answer)) 11) || inBids c (place (c .answer)) 0) (a .0), a .1)
+    let a = and-split (sameOutcome (awardOf (c .kind) (tenderOf c) (countOf c) (c .bids) (c .windows) (countOf c) (place (c .outcome))) (c .outcome) && (not (eqb (number (c .outcome)) 11) || inBids c (place (c .outcome)) 0))
+    (not (eqb (number (c .outcome)) 12) || inBids c (place (c .outcome)) 1) e in
+    (and-split (sameOutcome (awardOf (c .kind) (tenderOf c) (countOf c) (c .bids) (c .windows) (countOf c) (place (c .outcome))) (c .outcome)) (not (eqb (number (c .outcome)) 11) || inBids c (place (c .outcome)) 0) (a .0), a .1)
 
-right-answers : (c : Case) → right c ≡ true → Answers (c .kind) (tenderOf c) (countOf c) (c .bids) (c .windows) (countOf c) (c .answer)
+right-answers : (c : Case) → right c ≡ true → Answers (c .kind) (tenderOf c) (countOf c) (c .bids) (c .windows) (countOf c) (c .outcome)
 right-answers c e = go (right-is c e)
   where
-    go : ((sameOutcome (awardOf (c .kind) (tenderOf c) (countOf c) (c .bids) (c .windows) (countOf c) (place (c .answer))) (c .answer) ≡ true) × (not (eqb (number (c .answer)) 11) || inBids c (place (c .answer)) 0 ≡ true))
-        × (not (eqb (number (c .answer)) 12) || inBids c (place (c .answer)) 1 ≡ true) → Answers (c .kind) (tenderOf c) (countOf c) (c .bids) (c .windows) (countOf c) (c .answer)
+    go : ((sameOutcome (awardOf (c .kind) (tenderOf c) (countOf c) (c .bids) (c .windows) (countOf c) (place (c .outcome))) (c .outcome) ≡ true) × (not (eqb (number (c .outcome)) 11) || inBids c (place (c .outcome)) 0 ≡ true))
+        × (not (eqb (number (c .outcome)) 12) || inBids c (place (c .outcome)) 1 ≡ true) → Answers (c .kind) (tenderOf c) (countOf c) (c .bids) (c .windows) (countOf c) (c .outcome)
     go s = record {
-      is = sym (same-answer _ (c .answer) (s .0 .0));
-      nobody = λ f. in-bids c (place (c .answer)) 0 (where-number (number (c .answer)) 11 (inBids c (place (c .answer)) 0) (s .0 .1) f);
-      alone = λ f. in-bids c (place (c .answer)) 1 (where-number (number (c .answer)) 12 (inBids c (place (c .answer)) 1) (s .1) f);
+      is = sym (same-answer _ (c .outcome) (s .0 .0));
+      nobody = λ f. in-bids c (place (c .outcome)) 0 (where-number (number (c .outcome)) 11 (inBids c (place (c .outcome)) 0) (s .0 .1) f);
+      alone = λ f. in-bids c (place (c .outcome)) 1 (where-number (number (c .outcome)) 12 (inBids c (place (c .outcome)) 1) (s .1) f);
     }
 
 abbrev pub AllOutcome : List Case → Type 0
 AllOutcome [] = Unit {0}
-AllOutcome (c ∷ cs) = Answers (c .kind) (tenderOf c) (countOf c) (c .bids) (c .windows) (countOf c) (c .answer) × AllOutcome cs
+AllOutcome (c ∷ cs) = Answers (c .kind) (tenderOf c) (countOf c) (c .bids) (c .windows) (countOf c) (c .outcome) × AllOutcome cs
 
 all-answer : (cs : List Case) → allRight cs ≡ true → AllOutcome cs
 unfolding allRight
