@@ -1,0 +1,90 @@
+-- A right outcome is one award or one refusal, in the order of paper 01. Assumes nothing.
+use mathlib.Core.Path.{_≡_, refl, sym, ap, _∙_}
+use mathlib.Core.List.{List, _++_}
+use mathlib.Core.Bool.{Bool, true, false, cond, not}
+use mathlib.Core.Option.{Option, none, some}
+use Prim.Native.Nat.{ℕ, _-_, _≤_, _<_}
+use native.Mathlib.Omega.{arith}
+use lib.ListN.{length, drop}
+use lib.Dec.{leb, ltb}
+use borrow.Author.Tests.{leb-true, ltb-true, ltb-false}
+use Rattle.tender.specs.declared.Kind.{Kind}
+use Rattle.tender.specs.declared.Tender.{Tender}
+use Rattle.tender.specs.Tables.{rowsOf}
+use Rattle.cover.specs.Sets.{bidders, each}
+use Rattle.cover.specs.SetLaws.{all-at}
+use Rattle.tables.specs.Faults.{faultOf}
+use Rattle.tables.specs.Cells.{cellsOf, hasOf, pricesOf}
+use Rattle.tables.specs.AlikeLaws.{rows-length, prices-length}
+use Rattle.award.specs.declared.AwardRow.{AwardRow}
+use Rattle.award.specs.declared.Answer.{Answer}
+use Rattle.award.specs.Award.{Outcome, awarded, refused, filled, costOf, paidOf, settled, awardOf, number, place, InBids, Answers, lentAfter, told, Promise}
+use Rattle.award.specs.Right.{Callable, Bidders, IsAward, IsRefusal, OneAnswer, tables-break-a-rule, rows-too-few, minute-uncovered, one-bidder, award}
+use Rattle.award.specs.SettleLaws.{length-listed, settled-is}
+use Rattle.award.specs.AwardLaws.{award-none, award-nine}
+
+module _ (k : Kind) (t : Tender) (n : ℕ) (bids windows : List ℕ) (old new : List AwardRow) (a : Answer) (p : Promise k t n bids windows old new a) where
+  abbrev o : Outcome
+  o = told n new a
+
+  abbrev has : ℕ → ℕ → Bool
+  has = hasOf t (rowsOf n bids) windows
+
+  abbrev ps : List ℕ
+  ps = pricesOf (rowsOf n bids)
+
+  abbrev L : ℕ
+  L = cellsOf t
+
+  refusal : (m at : ℕ) → o ≡ refused m at → IsRefusal m at old new o
+  unfolding lentAfter
+  refusal m at e = record { outcome = e; lent = p .rows ∙ ap (lentAfter old) e }
+
+  count : length ps ≡ n
+  count = prices-length (rowsOf n bids) ∙ rows-length n bids
+
+  is-award : o ≡ awarded (filled k has ps L) (costOf k has ps L) (paidOf k has ps L) → IsAward k t n bids windows old new o
+  unfolding lentAfter filled
+  is-award e = record {
+    outcome = e;
+    lent = p .rows ∙ ap (lentAfter old) e ∙ ap (λ (m : ℕ). filled k has ps L ++ drop m old) (length-listed (length ps) _ ∙ count);
+  }
+
+  cover : Callable k t n bids windows (length old) → ltb (length old) n ≡ false → (b c : Bool) → each has n L 1 ≡ b → each has n L 2 ≡ c → OneAnswer k t n bids windows old new o
+  unfolding number
+  cover s g b c d e = go b c d e (
+      p .answers .is ∙ award-none k t n bids windows (length old) (place o) (s .sound) ∙ ap (λ z. cond z (refused 10 0) (settled k has ps L (place o))) g
+      ∙ settled-is k has ps L (place o) b c (rw count d) (rw count e))
+    where
+      go : (b c : Bool) → each has n L 1 ≡ b → each has n L 2 ≡ c →
+          o ≡ cond (not b) (refused 11 (place o)) (cond (not c) (refused 12 (place o)) (awarded (filled k has ps L) (costOf k has ps L) (paidOf k has ps L))) → OneAnswer k t n bids windows old new o
+      go false c d e f = minute-uncovered (place o) s (p .answers .nobody (ap number f)) (refusal 11 (place o) f)
+      go true false d e f = one-bidder (place o) s d (p .answers .alone (ap number f)) (refusal 12 (place o) f)
+      go true true d e f = award s e (is-award f)
+
+  pub one-answer : OneAnswer k t n bids windows old new o
+  one-answer = fault (faultOf k t n bids windows) refl
+    where
+      rows : faultOf k t n bids windows ≡ none → (b : Bool) → ltb (length old) n ≡ b → OneAnswer k t n bids windows old new o
+      rows f true g = rows-too-few f (ltb-true (length old) n g)
+          (refusal 10 0 (p .answers .is ∙ award-none k t n bids windows (length old) (place o) f ∙ ap (λ z. cond z (refused 10 0) (settled k has ps L (place o))) g))
+      rows f false g = cover (record { sound = f; rows = ltb-false (length old) n g }) g (each has n L 1) (each has n L 2) refl refl
+
+      fault : (m : Option ℕ) → faultOf k t n bids windows ≡ m → OneAnswer k t n bids windows old new o
+      fault none e = rows e (ltb (length old) n) refl
+      fault (some q) e = tables-break-a-rule q e (refusal 9 q (p .answers .is ∙ award-nine k t n bids windows (length old) (place o) q e))
+
+  few : (m b : ℕ) → Bidders t n bids windows 2 → InBids t n bids windows m b → 2 ≤ b
+  unfolding each cellsOf
+  few m b two i = omega (arith, i .bids-with-it, leb-true 2 (bidders has n (m - t .window .start)) (all-at (λ x. leb 2 (bidders has n x)) L two (m - t .window .start) (omega (arith, i .from, i .to))))
+
+  -- nothing else is declined: where no rule is broken, each bid has a row and each minute two bidders, it awards
+  pub awards : Callable k t n bids windows (length old) → Bidders t n bids windows 2 → IsAward k t n bids windows old new o
+  awards s two = go one-answer
+    where
+      go : OneAnswer k t n bids windows old new o → IsAward k t n bids windows old new o
+      go (tables-break-a-rule q e r) = let f = s .sound in let z : _≡_ {A = ℕ} 0 1 = cc in absurd (omega arith)
+      go (rows-too-few f l r) = absurd (omega (arith, s .rows))
+      go (minute-uncovered m c i r) = absurd (omega (arith, few m 0 two i))
+      go (one-bidder m c b i r) = absurd (omega (arith, few m 1 two i))
+      go (award c b w) = w

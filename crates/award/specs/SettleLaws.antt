@@ -1,0 +1,172 @@
+-- Over cells, in either kind: a loser is paid nothing; where each cell has two bidders the winners cover, naming the true cost is best and no winner is paid less than it named. Assumes nothing.
+use mathlib.Core.Path.{_≡_, refl, sym, ap, _∙_}
+use mathlib.Core.List.{List, [], _∷_}
+use mathlib.Core.Bool.{Bool, true, false, cond, not}
+use Prim.Native.Nat.{ℕ, zero, suc, _+_, _^_, _/_, _≤_, _<_}
+use native.Mathlib.Omega.{arith}
+use lib.ListN.{length, getD, set, length-set}
+use lib.Seq.{set-getD}
+use lib.Dec.{leb}
+use Rattle.tender.specs.declared.Kind.{Kind}
+use Rattle.tender.specs.declared.Kind.the-variants.{Single, Multi}
+use Rattle.cover.specs.Sets.{when, bit, cost, covers, cells, each}
+use Rattle.cover.specs.LeastCover.{Wins, winners, without, payment, vcgPaid}
+use Rattle.cover.specs.Greedy.{wins}
+use Rattle.cover.specs.CriticalPrice.{criticalPaid, winsAt, sum}
+use Rattle.cover.specs.Settled.{listed}
+use Rattle.cover.specs.VcgLaws as vcg
+use Rattle.cover.specs.CriticalLaws as greedy
+use Rattle.cover.specs.SpareLaws.{others, others-below, spare-set, spare-bids, least-wins, least-covers, greedy-covers}
+use Rattle.award.specs.declared.AwardRow.{AwardRow}
+use Rattle.award.specs.Award.{won, cents, Outcome, awarded, refused, filled, costOf, paidOf, settled}
+use Rattle.award.specs.Gain.{lost, rowFor, gain, AtMost}
+use Rattle.award.specs.GainLaws.{gain-most}
+
+-- a loser's row says 0
+pub lost-nothing : (k : Kind) (has : ℕ → ℕ → Bool) (ps : List ℕ) (L i : ℕ) → won k has ps L i ≡ false → cents k has ps L i ≡ 0
+unfolding won cents vcgPaid criticalPaid payment
+lost-nothing Single has ps L i e = rw e
+lost-nothing Multi has ps L i e = rw e
+
+pub won-single : (has : ℕ → ℕ → Bool) (ps : List ℕ) (L i n : ℕ) → length ps ≡ n → won Single has ps L i ≡ bit (winners (covers has n L) ps) i
+unfolding won
+won-single has ps L i n e = rw (← e)
+
+pub cents-single : (has : ℕ → ℕ → Bool) (ps : List ℕ) (L i n : ℕ) → length ps ≡ n → cents Single has ps L i ≡ vcgPaid (covers has n L) ps i
+unfolding cents
+cents-single has ps L i n e = rw (← e)
+
+pub won-multi : (has : ℕ → ℕ → Bool) (ps : List ℕ) (L i : ℕ) → won Multi has ps L i ≡ wins has ps (cells L) i
+unfolding won
+won-multi has ps L i = refl
+
+pub cents-multi : (has : ℕ → ℕ → Bool) (ps : List ℕ) (L i : ℕ) → cents Multi has ps L i ≡ criticalPaid has ps (cells L) i
+unfolding cents
+cents-multi has ps L i = refl
+
+-- where each cell has two bidders
+module _ (has : ℕ → ℕ → Bool) (ps : List ℕ) (L i : ℕ) (inside : i < length ps) (two : each has (length ps) L 2 ≡ true) where
+  abbrev ok : ℕ → Bool
+  ok = covers has (length ps) L
+
+  abbrev rest : ℕ
+  rest = others (length ps) i
+
+  spare : without i ok rest ≡ true
+  spare = spare-set has (length ps) L two i inside
+
+  -- whoever's cost is c gains no more by naming q
+  pub honest : (k : Kind) (c q : ℕ) → cents k has (set ps i q) L i + when (won k has (set ps i c) L i) c ≤ cents k has (set ps i c) L i + when (won k has (set ps i q) L i) c
+  honest Single c q = rw (
+    won-single has (set ps i q) L i (length ps) (length-set ps i q),
+    won-single has (set ps i c) L i (length ps) (length-set ps i c),
+    cents-single has (set ps i q) L i (length ps) (length-set ps i q),
+    cents-single has (set ps i c) L i (length ps) (length-set ps i c),
+  ) (vcg.truthful ok ok ps i (λ s e. e) refl inside rest (others-below (length ps) i) spare c q)
+  honest Multi c q = rw (won-multi has (set ps i q) L i, won-multi has (set ps i c) L i, cents-multi has (set ps i q) L i, cents-multi has (set ps i c) L i)
+      (greedy.truthful has ps (cells L) i inside (spare-bids has (length ps) L two ps i) has (λ j d. refl) (λ x e. e) c q)
+
+  -- a winner is paid no less than it named
+  pub fair : (k : Kind) (q : ℕ) → when (won k has (set ps i q) L i) q ≤ cents k has (set ps i q) L i
+  fair Single q = rw (won-single has (set ps i q) L i (length ps) (length-set ps i q), cents-single has (set ps i q) L i (length ps) (length-set ps i q))
+      (vcg.fair ok ps i inside rest (others-below (length ps) i) spare q)
+  fair Multi q = rw (won-multi has (set ps i q) L i, cents-multi has (set ps i q) L i)
+      (greedy.fair has ps (cells L) i inside (spare-bids has (length ps) L two ps i) q)
+
+  -- document 000, formula 8
+  pub vcg-pays : bit (winners ok ps) i ≡ true → (Wins (without i ok) (cost ps) (2 ^ length ps) (winners (without i ok) ps))
+      × (vcgPaid ok ps i + cost ps (winners ok ps) ≡ cost ps (winners (without i ok) ps) + getD ps i 0)
+  vcg-pays e = vcg.formula ok ps i inside rest (others-below (length ps) i) spare e
+
+  -- a winner of a multi tender is paid the largest whole price with which it would still win if all else stood
+  pub largest : won Multi has ps L i ≡ true → (p : ℕ) → won Multi has (set ps i p) L i ≡ leb p (cents Multi has ps L i)
+  unfolding won cents criticalPaid winsAt
+  largest e p = rw e (greedy.some-price has ps (cells L) i inside (spare-bids has (length ps) L two ps i) (getD ps i 0) (rw (set-getD ps i 0) e) p)
+
+-- the winners cover
+pub record Winner (k : Kind) (has : ℕ → ℕ → Bool) (ps : List ℕ) (L x : ℕ) : Type 0 where
+  pub who : ℕ
+  pub inside : who < length ps
+  pub wins : won k has ps L who ≡ true
+  pub covers-it : has who x ≡ true
+
+pub winners-cover : (k : Kind) (has : ℕ → ℕ → Bool) (ps : List ℕ) (L : ℕ) → each has (length ps) L 2 ≡ true → (x : ℕ) → x < L → Winner k has ps L x
+winners-cover Single has ps L two x l =
+    let m = least-covers has ps L two x l in
+    record { who = m .who; inside = m .inside; wins = won-single has ps L (m .who) (length ps) refl ∙ m .in-set; covers-it = m .covers-it }
+winners-cover Multi has ps L two x l =
+    let m = greedy-covers has ps L two x l in
+    record { who = m .who; inside = m .inside; wins = won-multi has ps L (m .who) ∙ m .wins-it; covers-it = m .covers-it }
+
+-- the rows
+
+pub length-listed : {A : Type 0} (n : ℕ) (f : ℕ → A) → length (listed n f) ≡ n
+unfolding listed
+length-listed zero f = refl
+length-listed (suc n) f = ap suc (length-listed n (λ i. f (suc i)))
+
+pub getD-listed : {A : Type 0} (n : ℕ) (f : ℕ → A) (i : ℕ) (d : A) → i < n → getD (listed n f) i d ≡ f i
+unfolding listed
+getD-listed zero f i d l = absurd (omega arith)
+getD-listed (suc n) f zero d l = refl
+getD-listed (suc n) f (suc i) d l = getD-listed n (λ j. f (suc j)) i d (omega arith)
+
+-- the row that is filled for bid i
+abbrev pub rowIn : Kind → (ℕ → ℕ → Bool) → List ℕ → ℕ → ℕ → AwardRow
+rowIn k has ps L i = record { won = won k has ps L i; cents = cents k has ps L i }
+
+pub row-filled : (k : Kind) (has : ℕ → ℕ → Bool) (ps : List ℕ) (L i cost paid : ℕ) → i < length ps → rowFor (awarded (filled k has ps L) cost paid) i ≡ rowIn k has ps L i
+unfolding rowFor filled
+row-filled k has ps L i cost paid l = getD-listed (length ps) (λ i. rowIn k has ps L i) i lost l
+
+pub settled-is : (k : Kind) (has : ℕ → ℕ → Bool) (ps : List ℕ) (L m : ℕ) (a b : Bool) → each has (length ps) L 1 ≡ a → each has (length ps) L 2 ≡ b →
+    settled k has ps L m ≡ cond (not a) (refused 11 m) (cond (not b) (refused 12 m) (awarded (filled k has ps L) (costOf k has ps L) (paidOf k has ps L)))
+unfolding settled
+settled-is k has ps L m a b e f = rw (e, f)
+
+-- naming q is no better than naming the true cost, which is the price of bid i in ps
+pub settled-honest : (k : Kind) (has : ℕ → ℕ → Bool) (ps : List ℕ) (L i q m m′ : ℕ) → i < length ps →
+    AtMost (gain (getD ps i 0) (rowFor (settled k has (set ps i q) L m′) i)) (gain (getD ps i 0) (rowFor (settled k has ps L m) i))
+unfolding rowFor gain
+settled-honest k has ps L i q m m′ l = go (each has (length ps) L 1) (each has (length ps) L 2) refl refl
+  where
+    go : (a b : Bool) → each has (length ps) L 1 ≡ a → each has (length ps) L 2 ≡ b →
+        AtMost (gain (getD ps i 0) (rowFor (settled k has (set ps i q) L m′) i)) (gain (getD ps i 0) (rowFor (settled k has ps L m) i))
+    go false b e f = rw (settled-is k has ps L m false b e f, settled-is k has (set ps i q) L m′ false b (rw (length-set ps i q) e) (rw (length-set ps i q) f)) (omega arith)
+    go true false e f = rw (settled-is k has ps L m true false e f, settled-is k has (set ps i q) L m′ true false (rw (length-set ps i q) e) (rw (length-set ps i q) f)) (omega arith)
+    go true true e f = rw (settled-is k has ps L m true true e f, settled-is k has (set ps i q) L m′ true true (rw (length-set ps i q) e) (rw (length-set ps i q) f))
+        (rw (
+          row-filled k has ps L i (costOf k has ps L) (paidOf k has ps L) l,
+          row-filled k has (set ps i q) L i (costOf k has (set ps i q) L) (paidOf k has (set ps i q) L) (rw (length-set ps i q) l),
+        )
+        (gain-most (getD ps i 0) (rowIn k has (set ps i q) L i) (rowIn k has ps L i) (lost-nothing k has (set ps i q) L i) (lost-nothing k has ps L i)
+        (ap-set (honest has ps L i l f k (getD ps i 0) q))))
+      where
+        ap-set : cents k has (set ps i q) L i + when (won k has (set ps i (getD ps i 0)) L i) (getD ps i 0) ≤ cents k has (set ps i (getD ps i 0)) L i + when (won k has (set ps i q) L i) (getD ps i 0) →
+            cents k has (set ps i q) L i + when (won k has ps L i) (getD ps i 0) ≤ cents k has ps L i + when (won k has (set ps i q) L i) (getD ps i 0)
+        ap-set h = rw (set-getD ps i 0) at h
+
+-- what an award that is not refused says
+pub record Settled (k : Kind) (has : ℕ → ℕ → Bool) (ps : List ℕ) (L : ℕ) (rows : List AwardRow) (cost paid : ℕ) : Type 0 where
+  pub two : each has (length ps) L 2 ≡ true
+  pub rows-are : rows ≡ filled k has ps L
+  pub cost-is : cost ≡ costOf k has ps L
+  pub paid-is : paid ≡ paidOf k has ps L
+
+pub settled-awarded : (k : Kind) (has : ℕ → ℕ → Bool) (ps : List ℕ) (L m : ℕ) (rows : List AwardRow) (cost paid : ℕ) → settled k has ps L m ≡ awarded rows cost paid → Settled k has ps L rows cost paid
+settled-awarded k has ps L m rows cost paid h = go (each has (length ps) L 1) (each has (length ps) L 2) refl refl
+  where
+    go : (a b : Bool) → each has (length ps) L 1 ≡ a → each has (length ps) L 2 ≡ b → Settled k has ps L rows cost paid
+    go false b e f = let x = sym (settled-is k has ps L m false b e f) ∙ h in let z : _≡_ {A = ℕ} 0 1 = cc in absurd (omega arith)
+    go true false e f = let x = sym (settled-is k has ps L m true false e f) ∙ h in let z : _≡_ {A = ℕ} 0 1 = cc in absurd (omega arith)
+    go true true e f = let x = sym (settled-is k has ps L m true true e f) ∙ h in record { two = f; rows-are = cc; cost-is = cc; paid-is = cc }
+
+-- the sum of the winners' prices is the cost of the set
+pub cost-sum : (ps : List ℕ) (s : ℕ) → sum (listed (length ps) (λ i. when (bit s i) (getD ps i 0))) ≡ cost ps s
+unfolding listed sum cost bit
+cost-sum [] s = refl
+cost-sum (p ∷ ps) s = rw (cost-sum ps (s / 2))
+
+pub cost-single : (has : ℕ → ℕ → Bool) (ps : List ℕ) (L n : ℕ) → length ps ≡ n → costOf Single has ps L ≡ cost ps (winners (covers has n L) ps)
+unfolding costOf won
+cost-single has ps L n e = rw (← e) (cost-sum ps (winners (covers has (length ps) L) ps))

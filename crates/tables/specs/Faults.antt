@@ -1,0 +1,47 @@
+-- The faults of the tables lent to an award (paper 01, refusal 9).
+use mathlib.Core.List.{List, [], _∷_, _++_}
+use mathlib.Core.Bool.{Bool, true, false, cond, not, _&&_}
+use mathlib.Core.Option.{Option, none, some}
+use Prim.Native.Nat.{ℕ, _+_, _/_}
+use lib.ListN.{length}
+use lib.Dec.{leb, eqb}
+use Rattle.tender.specs.declared.Kind.{Kind}
+use Rattle.tender.specs.declared.Kind.the-variants.{Single, Multi}
+use Rattle.tender.specs.declared.Tender.{Tender}
+use Rattle.tender.specs.Limits.{within, maxPrice, maxBidder, maxBids, mostWindows, lawful, allLawful}
+use Rattle.tender.specs.Tables.{Row, rowsOf, own}
+use Rattle.reader.specs.Words.{among}
+
+-- the row rules: at most 1,000 bids, bidder and price within limits, a new bidder number, one window at least and no more than the kind allows,
+-- windows that begin where the row before ended and stand inside the lent rows, each window lawful.
+-- The row stands at `place`, after rows with the bidder numbers `used`, whose windows end at `at`.
+unfoldable pub sound : Kind → List ℕ → ℕ → List ℕ → ℕ → Row → Bool
+unfolding within among mostWindows own allLawful
+sound k windows place used at r =
+    leb place maxBids
+    && (within 1 maxBidder (r .bidder) && not (among (r .bidder) used))
+    && leb (r .price) maxPrice
+    && (within 1 (mostWindows k) (r .count) && eqb (r .first) at && leb (at + r .count) (length windows / 2))
+    && allLawful (own windows r)
+
+-- the place of the first row that breaks a rule
+unfoldable pub rowFault : Kind → List ℕ → ℕ → List ℕ → ℕ → List Row → Option ℕ
+unfolding sound
+rowFault k windows place used at [] = none
+rowFault k windows place used at (r ∷ rs) =
+    let later = rowFault k windows (place + 1) (used ++ r .bidder ∷ []) (at + r .count) rs in
+    cond (sound k windows place used at r) later (some place)
+
+unfoldable pub sameKind : Kind → Kind → Bool
+sameKind Single Single = true
+sameKind Single Multi = false
+sameKind Multi Single = false
+sameKind Multi Multi = true
+
+-- the place of refusal 9 by the award of the kind k, where n bids are stated: 0 for the tender, the kind and the count, else the row, counted from 1
+unfoldable pub faultOf : Kind → Tender → ℕ → List ℕ → List ℕ → Option ℕ
+unfolding sameKind lawful rowsOf rowFault
+faultOf k t n bids windows =
+    cond (sameKind k (t .kind) && lawful (t .window) && leb n (length bids / 4))
+    (rowFault k windows 1 [] 0 (rowsOf n bids))
+    (some 0)

@@ -1,0 +1,5 @@
+pub mod Faults
+pub mod Cells
+pub mod Alike
+pub mod AlikeLaws
+pub mod TextLaws
