@@ -1,0 +1,2 @@
+// The bid reader: bid text to a tender, a table of bids and a table of windows.
+mod words;

@@ -1,0 +1,3 @@
+mod Digits
+mod Ends
+mod Same
