@@ -11,5 +11,7 @@ pub mod Rules
 pub mod RulesLaw
 pub mod CountLaws
 pub mod PlainLaw
+pub mod Scan
 pub mod ScanLaws
 pub mod TallyLaws
+pub mod Answer

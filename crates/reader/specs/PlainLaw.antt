@@ -35,7 +35,7 @@ abbrev PlainPieces : List (List ℕ) → Type 0
 PlainPieces [] = Unit {0}
 PlainPieces (p ∷ ps) = (allPlain p ≡ true) × PlainPieces ps
 
-split : (a b : Bool) → a && b ≡ true → (a ≡ true) × (b ≡ true)
+pub split : (a b : Bool) → a && b ≡ true → (a ≡ true) × (b ≡ true)
 split true b e = (refl, e)
 split false b e = absurd (false≢true e)
 
@@ -175,7 +175,7 @@ bid-plain (n ∷ p ∷ ws) x h =
     let l = then-some (windowsIn ws) _ x (v .2) in
     (number-plain n (y .0) (y .1), (price-plain p (v .0) (v .1), windows-plain ws (l .0) (l .1)))
 
-line-plain : (line : List ℕ) (x : Line) → lineOf line ≡ some x → allPlain line ≡ true
+pub line-plain : (line : List ℕ) (x : Line) → lineOf line ≡ some x → allPlain line ≡ true
 unfolding lineOf allPlain
 line-plain line x h = cut-plain 32 line refl (words (cut 32 line) h)
   where

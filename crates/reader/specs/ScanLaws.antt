@@ -13,12 +13,8 @@ use borrow.Author.Tests.{eq-eqb, ne-eqb}
 use Rattle.reader.specs.Words.{grow, cut}
 use Rattle.reader.specs.Line.{lineOf}
 use Rattle.reader.specs.Read.{linesOf}
+use Rattle.reader.specs.Scan.{toNext}
 use Rattle.reader.specs.CutLaws.{cut-some}
-
--- how many bytes stand before the first d
-unfoldable pub toNext : ℕ → List ℕ → ℕ
-toNext d [] = 0
-toNext d (b ∷ s) = let more = suc (toNext d s) in cond (eqb b d) 0 more
 
 pub next-le : (d : ℕ) (s : List ℕ) → toNext d s ≤ length s
 unfolding toNext

@@ -11,22 +11,8 @@ use Rattle.tender.specs.Limits.{allLawful, lawful}
 use Rattle.reader.specs.Words.{andThen, cut, closed}
 use Rattle.reader.specs.Line.{windowOf, windowsIn}
 use Rattle.reader.specs.CutLaws.{cut-some}
-use Rattle.reader.specs.ScanLaws.{toNext, cut-at, cut-at-end}
-
--- how many windows, and whether all are lawful; none where the form is broken
-pub record Tally : Type 0 where
-  pub count : ℕ
-  pub sound : Bool
-
--- with n windows before, all lawful or not
-unfoldable pub tallied : ℕ → Bool → Option (List Window) → Option Tally
-unfolding allLawful
-tallied n ok none = none
-tallied n ok (some ws) = some (record { count = n + length ws; sound = ok && allLawful ws })
-
--- the bytes of the line from a up to e
-abbrev pub part : List ℕ → ℕ → ℕ → List ℕ
-part line a e = take (e - a) (drop a line)
+use Rattle.reader.specs.Scan.{toNext, part, putWindow, putWindows, tally, tallied}
+use Rattle.reader.specs.ScanLaws.{cut-at, cut-at-end}
 
 and-assoc : (a b c : Bool) → (a && b) && c ≡ a && (b && c)
 and-assoc true b c = refl
@@ -36,29 +22,31 @@ and-true : (a : Bool) → a && true ≡ a
 and-true true = refl
 and-true false = refl
 
-step : (n : ℕ) (ok : Bool) (w : Window) (o : Option (List Window)) → tallied n ok (andThen o (λ r. some (w ∷ r))) ≡ tallied (n + 1) (ok && lawful w) o
+step : (m n : ℕ) (ok : Bool) (cells : List ℕ) (w : Window) (o : Option (List Window)) →
+    tallied m n ok cells (andThen o (λ r. some (w ∷ r))) ≡ tallied m (n + 1) (ok && lawful w) (putWindow cells (m + n) w) o
 unfolding tallied andThen
-step n ok w none = refl
-step n ok w (some ws) =
+step m n ok cells w none = refl
+step m n ok cells w (some ws) =
     let e : n + length (w ∷ ws) ≡ n + 1 + length ws = omega arith in
-    rw (e, and-assoc ok (lawful w) (allLawful ws))
+    let f : m + n + 1 ≡ m + (n + 1) = omega arith in
+    rw (e, f, and-assoc ok (lawful w) (allLawful ws))
 
-module _ (line : List ℕ) (i e f : ℕ) (n : ℕ) (ok : Bool) (q : i + toNext 32 (drop i line) ≡ e) where
+module _ (line : List ℕ) (i e f : ℕ) (m n : ℕ) (ok : Bool) (cells : List ℕ) (q : i + toNext 32 (drop i line) ≡ e) where
   -- one word is no window
-  pub tally-one : i ≤ length line → e ≡ length line → tallied n ok (windowsIn (cut 32 (drop i line))) ≡ none
+  pub tally-one : i ≤ length line → e ≡ length line → tallied m n ok cells (windowsIn (cut 32 (drop i line))) ≡ none
   unfolding tallied windowsIn
   tally-one l h = rw (cut-at-end 32 line i l (q ∙ h))
 
   module _ (h : e < length line) (q′ : e + 1 + toNext 32 (drop (e + 1) line) ≡ f) where
     -- a window with others after it
     pub tally-more : f < length line → (w : Window) → windowOf (part line i e) (part line (e + 1) f) ≡ some w →
-        tallied n ok (windowsIn (cut 32 (drop i line))) ≡ tallied (n + 1) (ok && lawful w) (windowsIn (cut 32 (drop (f + 1) line)))
+        tallied m n ok cells (windowsIn (cut 32 (drop i line))) ≡ tallied m (n + 1) (ok && lawful w) (putWindow cells (m + n) w) (windowsIn (cut 32 (drop (f + 1) line)))
     unfolding windowsIn andThen
     tally-more k w g =
         let c = cut-some 32 (drop (f + 1) line) in
-        rw (cut-at 32 line i e q h, cut-at 32 line (e + 1) f q′ k, c .are, g) (step n ok w (windowsIn (c .first ∷ c .rest)))
+        rw (cut-at 32 line i e q h, cut-at 32 line (e + 1) f q′ k, c .are, g) (step m n ok cells w (windowsIn (c .first ∷ c .rest)))
 
-    pub tally-wrong : f < length line → windowOf (part line i e) (part line (e + 1) f) ≡ none → tallied n ok (windowsIn (cut 32 (drop i line))) ≡ none
+    pub tally-wrong : f < length line → windowOf (part line i e) (part line (e + 1) f) ≡ none → tallied m n ok cells (windowsIn (cut 32 (drop i line))) ≡ none
     unfolding tallied windowsIn andThen
     tally-wrong k g =
         let c = cut-some 32 (drop (f + 1) line) in
@@ -66,11 +54,11 @@ module _ (line : List ℕ) (i e f : ℕ) (n : ℕ) (ok : Bool) (q : i + toNext 3
 
     -- the last window, with the line's own bracket after it
     pub tally-last : f ≡ length line → (w : Window) → andThen (closed (drop (e + 1) line)) (λ z. windowOf (part line i e) z) ≡ some w →
-        tallied n ok (windowsIn (cut 32 (drop i line))) ≡ some (record { count = n + 1; sound = ok && lawful w })
+        tallied m n ok cells (windowsIn (cut 32 (drop i line))) ≡ some (record { count = n + 1; sound = ok && lawful w; cells = putWindow cells (m + n) w })
     unfolding tallied windowsIn andThen
     tally-last k w g = rw (cut-at 32 line i e q h, cut-at-end 32 line (e + 1) (omega arith) (q′ ∙ k)) (go (closed (drop (e + 1) line)) g)
       where
         go : (o : Option (List ℕ)) → andThen o (λ z. windowOf (part line i e) z) ≡ some w →
-            tallied n ok (andThen o (λ z. andThen (windowOf (part line i e) z) (λ v. some (v ∷ [])))) ≡ some (record { count = n + 1; sound = ok && lawful w })
+            tallied m n ok cells (andThen o (λ z. andThen (windowOf (part line i e) z) (λ v. some (v ∷ [])))) ≡ some (record { count = n + 1; sound = ok && lawful w; cells = putWindow cells (m + n) w })
         go none x = let z : _≡_ {A = ℕ} 0 1 = cc in absurd (omega arith)
         go (some z) x = rw x (rw (and-true (lawful w)))
