@@ -12,3 +12,14 @@ pub mod GreedyLaws
 pub mod ChanceLaws
 pub mod GreedyCover
 pub mod BarLaws
+pub mod SetMembers
+pub mod Intervals
+pub mod IntervalScan
+pub mod IntervalPrefix
+pub mod IntervalCover
+pub mod IntervalSplit
+pub mod IntervalPay
+pub mod IntervalDepth
+pub mod IntervalSuffix
+pub mod IntervalAward
+pub mod IntervalExample
