@@ -23,3 +23,6 @@ pub mod IntervalDepth
 pub mod IntervalSuffix
 pub mod IntervalAward
 pub mod IntervalExample
+pub mod IntervalStays
+pub mod IntervalBids
+pub mod IntervalBidsLaws
