@@ -16,3 +16,17 @@ pub mod BarLaws
 pub mod CriticalLaws
 pub mod SpareLaws
 pub mod Worked
+pub mod SetMembers
+pub mod Intervals
+pub mod IntervalScan
+pub mod IntervalPrefix
+pub mod IntervalCover
+pub mod IntervalSplit
+pub mod IntervalPay
+pub mod IntervalDepth
+pub mod IntervalSuffix
+pub mod IntervalAward
+pub mod IntervalExample
+pub mod IntervalStays
+pub mod IntervalBids
+pub mod IntervalBidsLaws
