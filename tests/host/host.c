@@ -1,0 +1,288 @@
+/*
+ * Tests of the entry point for C: tender_list, linked from the proved archive, and the program beside it.
+ *   host PROGRAM [ROUNDS]     ROUNDS random texts of each sort (default 100000)
+ */
+#define _GNU_SOURCE
+#include "../../include/tender_list.h"
+#include "second.h"
+
+#include <pthread.h>
+#include <stdbool.h>
+#include <stdio.h>
+#include <stdlib.h>
+#include <string.h>
+#include <sys/mman.h>
+#include <sys/wait.h>
+#include <unistd.h>
+
+static long checks, faults;
+
+static void expect(bool ok, const char *what, const uint8_t *text, size_t len)
+{
+    checks++;
+    if (ok) return;
+    faults++;
+    if (faults > 5) return;
+    printf("FAULT %s\n", what);
+    if (text) { fwrite(text, 1, len < 2000 ? len : 2000, stdout); puts("--"); }
+}
+
+/* buffers that end where memory ends: a byte read or written past them faults; `sealed` text faults on a write */
+
+enum { ROOM = 1 << 17 };
+static uint8_t *text_room, *list_room;
+
+static uint8_t *fenced(void)
+{
+    uint8_t *m = mmap(NULL, ROOM + 4096, PROT_READ | PROT_WRITE, MAP_PRIVATE | MAP_ANONYMOUS, -1, 0);
+    if (m == MAP_FAILED || mprotect(m + ROOM, 4096, PROT_NONE)) exit(2);
+    return m + ROOM;
+}
+
+static const uint8_t *sealed(const void *bytes, size_t n)
+{
+    mprotect(text_room - ROOM, ROOM, PROT_READ | PROT_WRITE);
+    memcpy(text_room - n, bytes, n);
+    mprotect(text_room - ROOM, ROOM, PROT_READ);
+    return text_room - n;
+}
+
+/* one call with a buffer of `room` bytes: answer, bytes past the list, guard bytes before the buffer */
+static size_t call(const void *bytes, size_t n, size_t room, uint8_t *out)
+{
+    const uint8_t *text = sealed(bytes, n);
+    uint8_t *list = list_room - room;
+    memset(list - 64, 0xA5, room + 64);
+    size_t k = tender_list(text, n, list, room);
+    bool kept = k <= room;
+    for (size_t i = 0; i < 64; i++) kept &= list[-1 - (long)i] == 0xA5;
+    for (size_t i = k; i < room; i++) kept &= list[i] == 0xA5;
+    expect(kept, "bytes past the list or before the buffer changed", bytes, n);
+    expect(!memcmp(text, bytes, n), "the text changed", bytes, n);
+    if (k <= room) memcpy(out, list, k);
+    return k;
+}
+
+static void lists(const char *text, size_t n, const char *want)
+{
+    static uint8_t out[ROOM];
+    size_t k = call(text, n, TENDER_LIST_MAX, out), w = strlen(want);
+    expect(k == w && !memcmp(out, want, w), want, (const uint8_t *)text, n);
+    expect(call(text, n, w, out) == w && !memcmp(out, want, w), "a buffer that just fits", (const uint8_t *)text, n);
+    for (size_t room = 0; room < w; room += room + 8 < w ? 7 : 1)
+        expect(call(text, n, room, out) == 0, "a buffer that is short", (const uint8_t *)text, n);
+}
+
+#define LISTS(text, want) lists(text, sizeof text - 1, want)
+
+static const char EXAMPLE[] =
+    "(tender single 0 100)\n(bid 11 30 (0 50))\n(bid 12 40 (40 100))\n(bid 13 90 (0 100))\n(bid 14 35 (0 60))\n(bid 15 50 (60 100))\n";
+static const char EXAMPLE_LIST[] = "(award single 0 100)\n(win 11 35)\n(win 12 55)\n(total 70 90)\n";
+
+static void worked(void)
+{
+    LISTS(EXAMPLE, EXAMPLE_LIST);
+    LISTS("(tender multi 0 10)\n(bid 21 12 (0 4) (6 8))\n(bid 22 15 (4 10))\n(bid 23 30 (0 10))\n(bid 24 9 (8 10) (4 5))\n",
+          "(award multi 0 10)\n(win 21 30)\n(win 22 30)\n(win 24 11)\n(total 36 71)\n");
+    LISTS("(tender single 0 10)\n(bid 1 0 (0 10))\n(bid 2 0 (0 10))\n", "(award single 0 10)\n(win 1 0)\n(total 0 0)\n");
+    LISTS("(tender multi 0 10)\n(bid 1 0 (0 10))\n(bid 2 0 (0 10))\n", "(award multi 0 10)\n(win 1 0)\n(total 0 0)\n");
+}
+
+static void refusals(void)
+{
+    static char big[70000];
+    memset(big, 'x', sizeof big);
+    lists(big, 65537, "(refused 1 0)\n");
+    lists(big, 65536, "(refused 2 1)\n");
+    LISTS("", "(refused 2 1)\n");
+    LISTS("(tender single 0 100)", "(refused 2 1)\n");
+    LISTS("(tender single 0 100)\r\n", "(refused 2 1)\n");
+    LISTS("(tender single 0 100)\n\n", "(refused 2 2)\n");
+    LISTS("(tender single 0 100)\n(bid 007 1 (0 1))\n", "(refused 2 2)\n");
+    LISTS("(tender single 0 100)\n(bid 1 1 (0 1))\0\n", "(refused 2 2)\n");
+    LISTS("(tender single 0 100)\n(bid 1 1 (0 1))\n(bid 0 1 (0 1))\n", "(refused 3 3)\n");
+    LISTS("(tender single 0 100)\n(bid 1 100000001 (0 1))\n", "(refused 3 2)\n");
+    LISTS("(tender single 0 100)\n(bid 1 1 (5 5))\n", "(refused 5 2)\n");
+    LISTS("(tender single 0 10081)\n", "(refused 5 1)\n");
+    LISTS("(tender single 0 100)\n(bid 1 1 (0 1))\n(bid 1 1 (0 1))\n", "(refused 6 3)\n");
+    LISTS("(tender single 0 100)\n(bid 1 1 (0 1) (2 3))\n", "(refused 7 2)\n");
+    LISTS("(tender multi 0 1)\n", "(refused 11 0)\n");
+    LISTS("(tender single 3 4)\n(bid 1 1 (0 10))\n", "(refused 12 3)\n");
+    size_t n = (size_t)sprintf(big, "(tender multi 0 10)\n(bid 1 1");
+    for (int i = 0; i < 33; i++) n += (size_t)sprintf(big + n, " (0 1)");
+    n += (size_t)sprintf(big + n, ")\n");
+    lists(big, n, "(refused 4 2)\n");
+    n = (size_t)sprintf(big, "(tender multi 0 10)\n");
+    for (int i = 1; i <= 1001; i++) n += (size_t)sprintf(big + n, "(bid %d 1 (0 10))\n", i);
+    lists(big, n, "(refused 4 1002)\n");
+}
+
+/* random texts */
+
+static uint64_t state = 20261115;
+
+static unsigned below(unsigned n)
+{
+    state = state * 6364136223846793005u + 1442695040888963407u;
+    return (unsigned)((state >> 33) % n);
+}
+
+static size_t random_text(char *s)
+{
+    unsigned start = below(30), cells = 1 + below(40), n = below(9), single = below(2);
+    size_t at = (size_t)sprintf(s, "(tender %s %u %u)\n", single ? "single" : "multi", start, start + cells);
+    for (unsigned i = 0; i < n; i++) {
+        at += (size_t)sprintf(s + at, "(bid %u %u", 1 + i * 7 + below(7), below(4) ? below(50) : below(5));
+        for (unsigned k = single ? 1 : 1 + below(4); k; k--) {
+            unsigned a = below(start + cells + 3), e = a + 1 + below(cells + 10);
+            at += (size_t)sprintf(s + at, " (%u %u)", a, e);
+        }
+        at += (size_t)sprintf(s + at, ")\n");
+    }
+    return at;
+}
+
+static size_t mutated(char *s, size_t n)
+{
+    static const char odd[] = "0123456789() \nabdegilmnrstu\r.-\0\377";
+    for (unsigned k = 1 + below(2); k; k--) {
+        size_t at = n ? below((unsigned)n) : 0;
+        char c = odd[below(sizeof odd - 1)];
+        switch (below(3)) {
+        case 0: if (n) s[at] = c; break;
+        case 1: if (n) { memmove(s + at, s + at + 1, n - at - 1); n--; } break;
+        default: memmove(s + at + 1, s + at, n - at); s[at] = c; n++;
+        }
+    }
+    return n;
+}
+
+/* the list is the second implementation's, but that 11 and 12 may name any such minute */
+static bool agrees(const uint8_t *text, size_t n, const uint8_t *out, size_t k)
+{
+    static char other[1 << 16];
+    size_t w = second_list(text, n, other, sizeof other);
+    if (k == w && !memcmp(out, other, w)) return true;
+    int no;
+    long place;
+    char line[64] = {0};
+    if (k >= sizeof line) return false;
+    memcpy(line, out, k);
+    return sscanf(line, "(refused %d %ld)", &no, &place) == 2 && (no == 11 || no == 12)
+        && !memcmp(other, line, 12) && second_bidders(text, n, place) == no - 11;
+}
+
+static void random_texts(long rounds)
+{
+    static char s[1 << 14];
+    static uint8_t out[ROOM];
+    long awards = 0, declined = 0;
+    for (long i = 0; i < 2 * rounds; i++) {
+        size_t n = random_text(s);
+        if (i % 2) n = mutated(s, n);
+        size_t k = call(s, n, TENDER_LIST_MAX, out);
+        expect(agrees((const uint8_t *)s, n, out, k), "differs from the second implementation", (const uint8_t *)s, n);
+        if (k > 6 && !memcmp(out, "(award", 6)) awards++;
+        else declined++;
+    }
+    for (long i = 0; i < rounds; i++) {
+        size_t n = below(64);
+        for (size_t j = 0; j < n; j++) s[j] = (char)below(256);
+        size_t k = call(s, n, TENDER_LIST_MAX, out);
+        expect(agrees((const uint8_t *)s, n, out, k), "random bytes", (const uint8_t *)s, n);
+    }
+    printf("random texts: %ld awarded, %ld declined, %ld of random bytes\n", awards, declined, rounds);
+}
+
+/* several threads at once */
+
+static void *thread(void *arg)
+{
+    unsigned seed = *(unsigned *)arg;
+    char text[256];
+    uint8_t out[4096];
+    for (unsigned i = 0; i < 300; i++) {
+        unsigned p = (seed * 131 + i) % 31;             /* without 11 the cover costs 75, without 12 it costs 85 */
+        size_t n = (size_t)sprintf(text, "(tender single 0 100)\n(bid 11 %u (0 50))\n(bid 12 40 (40 100))\n(bid 14 35 (0 60))\n(bid 15 50 (60 100))\n", p);
+        char want[256];
+        size_t w = (size_t)sprintf(want, "(award single 0 100)\n(win 11 35)\n(win 12 %u)\n(total %u %u)\n", 85 - p, 40 + p, 120 - p);
+        size_t k = tender_list((const uint8_t *)text, n, out, sizeof out);
+        if (k != w || memcmp(out, want, w)) *(unsigned *)arg = 1000000;
+    }
+    return NULL;
+}
+
+static void threads(void)
+{
+    pthread_t id[4];
+    unsigned seed[4] = {1, 2, 3, 4};
+    pthread_attr_t attr;
+    pthread_attr_init(&attr);
+    pthread_attr_setstacksize(&attr, TENDER_LIST_STACK + (1 << 16));
+    for (int i = 0; i < 4; i++) pthread_create(&id[i], &attr, thread, &seed[i]);
+    for (int i = 0; i < 4; i++) pthread_join(id[i], NULL);
+    for (int i = 0; i < 4; i++) expect(seed[i] < 1000000, "threads", NULL, 0);
+}
+
+/* the program writes the same list, however its input arrives */
+static void program(const char *path, const char *text, size_t n, size_t chunk)
+{
+    int in[2], out[2];
+    static uint8_t got[ROOM], want[ROOM];
+    if (pipe(in) || pipe(out)) exit(2);
+    pid_t pid = fork();
+    if (!pid) {
+        dup2(in[0], 0);
+        dup2(out[1], 1);
+        close(in[0]); close(in[1]); close(out[0]); close(out[1]);
+        execl(path, path, (char *)NULL);
+        _exit(127);
+    }
+    close(in[0]);
+    close(out[1]);
+    pid_t writer = fork();
+    if (!writer) {
+        close(out[0]);
+        for (size_t i = 0; i < n; i += chunk) {
+            size_t m = n - i < chunk ? n - i : chunk;
+            if (write(in[1], text + i, m) != (ssize_t)m) break;
+        }
+        _exit(0);
+    }
+    close(in[1]);
+    size_t k = 0;
+    for (ssize_t r; (r = read(out[0], got + k, sizeof got - k)) > 0;) k += (size_t)r;
+    close(out[0]);
+    waitpid(writer, NULL, 0);
+    waitpid(pid, NULL, 0);
+    size_t w = tender_list((const uint8_t *)text, n, want, TENDER_LIST_MAX);
+    expect(k == w && !memcmp(got, want, w), "the program's list", (const uint8_t *)text, n);
+}
+
+static void programs(const char *path)
+{
+    static char big[1 << 17];
+    program(path, EXAMPLE, sizeof EXAMPLE - 1, 1 << 16);
+    program(path, EXAMPLE, sizeof EXAMPLE - 1, 1);
+    program(path, "", 0, 1);
+    memset(big, 'x', sizeof big);
+    program(path, big, 65536, 4096);
+    program(path, big, 65537, 65537);
+    program(path, big, 65537, 1);
+    program(path, big, 100000, 1000);
+    for (int i = 0; i < 40; i++) program(path, big, random_text(big), 1 + below(30));
+}
+
+int main(int argc, char **argv)
+{
+    if (argc < 2) return 2;
+    text_room = fenced();
+    list_room = fenced();
+    worked();
+    refusals();
+    threads();
+    programs(argv[1]);
+    random_texts(argc > 2 ? atol(argv[2]) : 100000);
+    printf("host: %ld checks, %ld faults\n", checks, faults);
+    return faults != 0;
+}
