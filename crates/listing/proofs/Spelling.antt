@@ -64,20 +64,6 @@ spell-goes n digits v i l h =
 pub spell-ends : (n : ℕ) (digits : List ℕ) (v i : ℕ) → v ≤ 9 → Spelling n digits v i → drop (i - 1) (set digits (i - 1) (48 + v % 10)) ≡ decimal n
 spell-ends n digits v i l h = let e : i ≡ suc (i - 1) = omega (arith, h .some-left) in ends n digits v (i - 1) l (subst (λ k. Spelling n digits v k) e h)
 
-short : (f n : ℕ) (done : List ℕ) → length (digitsBefore f n done) ≤ f + length done
-unfolding digitsBefore
-short zero n done = omega arith
-short (suc f) n done = go (ltb n 10) (short f (n / 10) ((48 + n % 10) ∷ done))
-  where
-    go : (t : Bool) → length (digitsBefore f (n / 10) ((48 + n % 10) ∷ done)) ≤ f + suc (length done) →
-        length (cond t ((48 + n % 10) ∷ done) (digitsBefore f (n / 10) ((48 + n % 10) ∷ done))) ≤ suc f + length done
-    go true l = omega arith
-    go false l = omega arith
-
-pub decimal-short : (n : ℕ) → length (decimal n) ≤ 20
-unfolding decimal
-decimal-short n = omega (arith, short 20 n [])
-
 -- a space, then the digits that were spelt
 pub number-written : {old mid new part : List ℕ} {at e f : ℕ} (n : ℕ) → Written old at (32 ∷ []) mid e → Written mid e part new f → part ≡ decimal n → Written old at (32 ∷ decimal n) new f
 number-written {old} {mid} {new} {part} {at} {e} {f} n x y z = then x (subst (λ b. Written mid e b new f) z y)
@@ -98,32 +84,11 @@ pub award-written : {old m1 m2 new : List ℕ} {at e1 e2 f : ℕ} (t : Tender) �
 unfolding awardLine pairLine awardWord bytes
 award-written {old} {m1} {m2} {new} {at} {e1} {e2} {f} t x y z = then (then x y) z
 
-pub numbers-short : (a b : ℕ) → length (numbers a b) ≤ 44
-unfolding numbers closing bytes
-numbers-short a b = omega (arith, decimal-short a, decimal-short b, length-append (32 ∷ decimal a) (32 ∷ decimal b), length-append ((32 ∷ decimal a) ++ (32 ∷ decimal b)) (41 ∷ 10 ∷ []))
-
-pub kind-short : (k : Kind) → length (kindWord k) ≤ 6
-unfolding kindWord singleWord multiWord bytes
-kind-short Single = omega arith
-kind-short Multi = omega arith
-
 pub kind-written : {old new : List ℕ} {at f : ℕ} (k l : Kind) → k ≡ l → Written old at (kindWord l) new f → Written old at (kindWord k) new f
 kind-written {old} {new} {at} {f} k l e x = rw e x
 
 pub nothing-written : (old : List ℕ) (at : ℕ) → Written old at [] old at
 nothing-written old at = record { text = sym (append-nil (take at old)); next = omega arith; size = refl }
-
-pub pair-short : (word : List ℕ) (a b : ℕ) → length (pairLine word a b) ≤ 45 + length word
-unfolding pairLine
-pair-short word a b = omega (arith, numbers-short a b, length-append (40 ∷ []) word, length-append ((40 ∷ []) ++ word) (numbers a b))
-
-pub win-short : (bidder flag cents : ℕ) → length (winLine bidder flag cents) ≤ 48
-unfolding winLine winWord bytes
-win-short bidder flag cents = go (eqb flag 1)
-  where
-    go : (t : Bool) → length (cond t (pairLine (119 ∷ 105 ∷ 110 ∷ []) bidder cents) []) ≤ 48
-    go true = omega (arith, pair-short (119 ∷ 105 ∷ 110 ∷ []) bidder cents)
-    go false = omega arith
 
 pub win-written : {old new : List ℕ} {at f : ℕ} (bidder flag cents : ℕ) → flag ≡ 1 → Written old at (pairLine (bytes "win") bidder cents) new f → Written old at (winLine bidder flag cents) new f
 unfolding winLine winWord bytes

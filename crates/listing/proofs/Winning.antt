@@ -8,7 +8,8 @@ use lib.ListN.{length, getD}
 use Rattle.listing.specs.Lines.{winLine, winLines}
 use Rattle.listing.specs.Written.{Written}
 use Rattle.listing.proofs.Writing.{then}
-use Rattle.listing.proofs.Spelling.{nothing-written, win-short}
+use Rattle.listing.specs.LineLaws.{win-short}
+use Rattle.listing.proofs.Spelling.{nothing-written}
 
 -- the lines of the first i bids are written
 pub record Winning (old : List ℕ) (at : ℕ) (bids won cents new : List ℕ) (end i : ℕ) : Type 0 where

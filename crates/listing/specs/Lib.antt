@@ -1,2 +1,5 @@
 pub mod Lines
 pub mod Written
+pub mod List
+pub mod LineLaws
+pub mod ListLaws

@@ -1,7 +1,8 @@
 -- The opening, the kind's keyword, and the tender's window. Assumes nothing.
 use native.Mathlib.Omega.{arith}
 use Rattle.tender.specs.Keywords.{bytes}
-use Rattle.listing.proofs.Spelling.{kind-short, award-written}
+use Rattle.listing.specs.LineLaws.{kind-short}
+use Rattle.listing.proofs.Spelling.{award-written}
 use borrow.Author.Needs.{needs}
 use Rattle.listing.proofs.lines.put_award.Statement.{statement}
 use Rattle.listing.proofs.lines.put_award.Tie as tie

@@ -1,0 +1,92 @@
+-- How long the lines of a list are. Assumes nothing.
+use mathlib.Core.Path.{_≡_, refl}
+use mathlib.Core.Bool.{Bool, true, false, cond}
+use mathlib.Core.List.{List, [], _∷_, _++_}
+use Prim.Native.Nat.{ℕ, zero, suc, _+_, _*_, _/_, _%_, _≤_, _<_}
+use native.Mathlib.Omega.{arith}
+use lib.ListN.{length, getD, length-append}
+use lib.Dec.{ltb, eqb}
+use Rattle.tender.specs.declared.Kind.{Kind}
+use Rattle.tender.specs.declared.Kind.the-variants.{Single, Multi}
+use Rattle.tender.specs.declared.Tender.{Tender}
+use Rattle.tender.specs.Keywords.{bytes, singleWord, multiWord}
+use Rattle.tender.specs.Tables.{Row}
+use Rattle.tables.specs.Cells.{noRow}
+use Rattle.award.specs.declared.AwardRow.{AwardRow}
+use Rattle.award.specs.Award.{Outcome, awarded, refused}
+use Rattle.award.specs.Gain.{lost}
+use Rattle.listing.specs.Lines.{digitsBefore, decimal, closing, numbers, pairLine, kindWord, awardWord, winWord, totalWord, refusedWord, winLine, awardLine}
+use Rattle.listing.specs.List.{winList, listLines}
+
+short : (f n : ℕ) (done : List ℕ) → length (digitsBefore f n done) ≤ f + length done
+unfolding digitsBefore
+short zero n done = omega arith
+short (suc f) n done = go (ltb n 10) (short f (n / 10) ((48 + n % 10) ∷ done))
+  where
+    go : (t : Bool) → length (digitsBefore f (n / 10) ((48 + n % 10) ∷ done)) ≤ f + suc (length done) →
+        length (cond t ((48 + n % 10) ∷ done) (digitsBefore f (n / 10) ((48 + n % 10) ∷ done))) ≤ suc f + length done
+    go true l = omega arith
+    go false l = omega arith
+
+pub decimal-short : (n : ℕ) → length (decimal n) ≤ 20
+unfolding decimal
+decimal-short n = omega (arith, short 20 n [])
+
+pub numbers-short : (a b : ℕ) → length (numbers a b) ≤ 44
+unfolding numbers closing bytes
+numbers-short a b = omega (arith, decimal-short a, decimal-short b, length-append (32 ∷ decimal a) (32 ∷ decimal b), length-append ((32 ∷ decimal a) ++ (32 ∷ decimal b)) (41 ∷ 10 ∷ []))
+
+pub kind-short : (k : Kind) → length (kindWord k) ≤ 6
+unfolding kindWord singleWord multiWord bytes
+kind-short Single = omega arith
+kind-short Multi = omega arith
+
+pub pair-short : (word : List ℕ) (a b : ℕ) → length (pairLine word a b) ≤ 45 + length word
+unfolding pairLine
+pair-short word a b = omega (arith, numbers-short a b, length-append (40 ∷ []) word, length-append ((40 ∷ []) ++ word) (numbers a b))
+
+pub win-short : (bidder flag cents : ℕ) → length (winLine bidder flag cents) ≤ 48
+unfolding winLine winWord bytes
+win-short bidder flag cents = go (eqb flag 1)
+  where
+    go : (t : Bool) → length (cond t (pairLine (119 ∷ 105 ∷ 110 ∷ []) bidder cents) []) ≤ 48
+    go true = omega (arith, pair-short (119 ∷ 105 ∷ 110 ∷ []) bidder cents)
+    go false = omega arith
+
+pub pair-some : (word : List ℕ) (a b : ℕ) → 0 < length (pairLine word a b)
+unfolding pairLine
+pair-some word a b = omega (arith, length-append (40 ∷ []) word, length-append ((40 ∷ []) ++ word) (numbers a b))
+
+award-short : (t : Tender) → length (awardLine t) ≤ 57
+unfolding awardLine awardWord bytes
+award-short t = omega (arith, pair-short ((97 ∷ 119 ∷ 97 ∷ 114 ∷ 100 ∷ []) ++ (32 ∷ kindWord (t .kind))) (t .window .start) (t .window .end), kind-short (t .kind))
+
+wins-short : (R : List Row) (rows : List AwardRow) (n : ℕ) → length (winList R rows n) ≤ 48 * n
+unfolding winList winWord bytes
+wins-short R rows zero = omega arith
+wins-short R rows (suc n) = go (getD rows n lost .won) (wins-short R rows n)
+  where
+    line : List ℕ
+    line = pairLine (119 ∷ 105 ∷ 110 ∷ []) (getD R n noRow .bidder) (getD rows n lost .cents)
+
+    go : (t : Bool) → length (winList R rows n) ≤ 48 * n → length (winList R rows n ++ cond t line []) ≤ 48 * suc n
+    go true l = omega (arith, length-append (winList R rows n) line, pair-short (119 ∷ 105 ∷ 110 ∷ []) (getD R n noRow .bidder) (getD rows n lost .cents))
+    go false l = omega (arith, length-append (winList R rows n) [])
+
+-- with at most 1,000 bids no list is empty and none is longer than 51,200 bytes
+pub lines-short : (t : Tender) (R : List Row) (o : Outcome) → length R ≤ 1000 → length (listLines t R o) ≤ 51200
+unfolding listLines totalWord refusedWord bytes
+lines-short t R (awarded rows cost paid) l = omega (
+  arith,
+  length-append (awardLine t ++ winList R rows (length R)) (pairLine (116 ∷ 111 ∷ 116 ∷ 97 ∷ 108 ∷ []) cost paid),
+  length-append (awardLine t) (winList R rows (length R)),
+  award-short t,
+  wins-short R rows (length R),
+  pair-short (116 ∷ 111 ∷ 116 ∷ 97 ∷ 108 ∷ []) cost paid,
+)
+lines-short t R (refused n at) l = omega (arith, pair-short (114 ∷ 101 ∷ 102 ∷ 117 ∷ 115 ∷ 101 ∷ 100 ∷ []) n at)
+
+pub lines-some : (t : Tender) (R : List Row) (o : Outcome) → 0 < length (listLines t R o)
+unfolding listLines
+lines-some t R (awarded rows cost paid) = omega (arith, length-append (awardLine t ++ winList R rows (length R)) (pairLine totalWord cost paid), pair-some totalWord cost paid)
+lines-some t R (refused n at) = pair-some refusedWord n at

@@ -1,0 +1,49 @@
+-- What the list of a text is (paper 01, "List" and "One list in full").
+use mathlib.Core.Path.{_≡_}
+use mathlib.Core.Bool.{Bool, true, false, cond}
+use mathlib.Core.List.{List, [], _∷_, _++_}
+use Prim.Native.Nat.{ℕ, zero, suc}
+use lib.ListN.{length, getD, drop}
+use lib.Dec.{leb}
+use Rattle.tender.specs.declared.Window.{Window}
+use Rattle.tender.specs.declared.Tender.{Tender}
+use Rattle.tender.specs.Tables.{Row, flatRows, flatWindows}
+use Rattle.cover.specs.Sets.{when}
+use Rattle.reader.specs.Read.{accepted, readText}
+use Rattle.reader.specs.Read as reading
+use Rattle.tables.specs.Cells.{noRow}
+use Rattle.award.specs.declared.AwardRow.{AwardRow}
+use Rattle.award.specs.Award.{Outcome, awarded, refused, Answers}
+use Rattle.award.specs.Gain.{lost}
+use Rattle.listing.specs.Lines.{pairLine, winWord, totalWord, refusedWord, awardLine}
+
+-- the lines of the winners among the first n bids, in entry order: bidder and cents paid
+unfoldable pub winList : List Row → List AwardRow → ℕ → List ℕ
+unfolding winWord pairLine noRow lost
+winList R rows zero = []
+winList R rows (suc n) = winList R rows n ++ cond (getD rows n lost .won) (pairLine winWord (getD R n noRow .bidder) (getD rows n lost .cents)) []
+
+-- the list of an award's outcome: kind, start and end; the winners; cost and sum paid. A refusal is the whole list
+unfoldable pub listLines : Tender → List Row → Outcome → List ℕ
+unfolding awardLine winList pairLine totalWord refusedWord
+listLines t R (awarded rows cost paid) = awardLine t ++ winList R rows (length R) ++ pairLine totalWord cost paid
+listLines t R (refused n at) = pairLine refusedWord n at
+
+-- the list of the award on what was read, with an award row for every bid
+pub record AwardList (t : Tender) (R : List Row) (W : List Window) (list : List ℕ) : Type 0 where
+  pub outcome : Outcome
+  pub right : Answers (t .kind) t (length R) (flatRows R) (flatWindows W) (length R) outcome
+  pub is : list ≡ listLines t R outcome
+
+-- the list of a text, by what reading it answers
+abbrev pub IsList : reading.Outcome → List ℕ → Type 0
+IsList (reading.refused n at) list = list ≡ pairLine refusedWord n at
+IsList (accepted t R W) list = AwardList t R W list
+
+-- The promise of a call with the text and a lent buffer of the bytes `old`: it answers r and leaves the bytes `new`. Where the list is longer than the
+-- buffer, refusal 13, the answer is 0 and the buffer unchanged
+pub record Listed (text old new : List ℕ) (r : ℕ) : Type 0 where
+  pub list : List ℕ
+  pub right : IsList (readText text) list
+  pub answer : r ≡ when (leb (length list) (length old)) (length list)
+  pub bytes : new ≡ cond (leb (length list) (length old)) (list ++ drop (length list) old) old
