@@ -15,7 +15,7 @@ use Rattle.tables.specs.Cells.{noRow}
 use Rattle.award.specs.declared.AwardRow.{AwardRow}
 use Rattle.award.specs.Award.{Outcome, awarded, refused}
 use Rattle.award.specs.Gain.{lost}
-use Rattle.listing.specs.Lines.{digitsBefore, decimal, closing, numbers, pairLine, kindWord, awardWord, winWord, totalWord, refusedWord, winLine, awardLine}
+use Rattle.listing.specs.Lines.{digitsBefore, decimal, closing, numbers, pairLine, kindWord, awardWord, winWord, totalWord, refusedWord, winLine, winLines, awardLine}
 use Rattle.listing.specs.List.{winList, listLines}
 
 short : (f n : ℕ) (done : List ℕ) → length (digitsBefore f n done) ≤ f + length done
@@ -57,11 +57,11 @@ pub pair-some : (word : List ℕ) (a b : ℕ) → 0 < length (pairLine word a b)
 unfolding pairLine
 pair-some word a b = omega (arith, length-append (40 ∷ []) word, length-append ((40 ∷ []) ++ word) (numbers a b))
 
-award-short : (t : Tender) → length (awardLine t) ≤ 57
+pub award-short : (t : Tender) → length (awardLine t) ≤ 57
 unfolding awardLine awardWord bytes
 award-short t = omega (arith, pair-short ((97 ∷ 119 ∷ 97 ∷ 114 ∷ 100 ∷ []) ++ (32 ∷ kindWord (t .kind))) (t .window .start) (t .window .end), kind-short (t .kind))
 
-wins-short : (R : List Row) (rows : List AwardRow) (n : ℕ) → length (winList R rows n) ≤ 48 * n
+pub wins-short : (R : List Row) (rows : List AwardRow) (n : ℕ) → length (winList R rows n) ≤ 48 * n
 unfolding winList winWord bytes
 wins-short R rows zero = omega arith
 wins-short R rows (suc n) = go (getD rows n lost .won) (wins-short R rows n)
@@ -90,3 +90,13 @@ pub lines-some : (t : Tender) (R : List Row) (o : Outcome) → 0 < length (listL
 unfolding listLines
 lines-some t R (awarded rows cost paid) = omega (arith, length-append (awardLine t ++ winList R rows (length R)) (pairLine totalWord cost paid), pair-some totalWord cost paid)
 lines-some t R (refused n at) = pair-some refusedWord n at
+
+pub win-lines-short : (bids won cents : List ℕ) (n : ℕ) → length (winLines bids won cents n) ≤ 48 * n
+unfolding winLines
+win-lines-short bids won cents zero = omega arith
+win-lines-short bids won cents (suc n) = omega (
+  arith,
+  length-append (winLines bids won cents n) (winLine (getD bids (4 * n) 0) (getD won n 0) (getD cents n 0)),
+  win-lines-short bids won cents n,
+  win-short (getD bids (4 * n) 0) (getD won n 0) (getD cents n 0),
+)
