@@ -1,0 +1,2 @@
+pub mod Winners
+pub mod Along

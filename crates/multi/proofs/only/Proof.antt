@@ -1,0 +1,18 @@
+-- `multi::only` meets its contract. Assumes nothing.
+use Prim.Native.Nat.{ℕ, _≤_, _<_}
+use mathlib.Core.Path.{_≡_, refl}
+use borrow.Author.Tests.{eq-eqb, ne-eqb}
+use native.Mathlib.Omega.{arith}
+use Rattle.multi.proofs.only.Statement.{statement}
+use Rattle.multi.proofs.only.Tie as tie
+use Rattle.multi.proofs.only.Reads as reads
+use Rattle.multi.proofs.only.Lts as lts
+
+returns : tie.Need-returns
+returns c = (rw (eq-eqb (c .before .args .flag) 1 (c .if1 .taken)), omega arith)
+
+returns-2 : tie.Need-returns-2
+returns-2 c = (rw (ne-eqb (c .before .args .flag) 1 (c .if1 .left)), omega arith)
+
+pub only-spec : {M : Type 1} → statement M
+only-spec = tie.close (tie.spec returns returns-2)
