@@ -29,7 +29,6 @@ use Rattle.award.specs.Right.{NoGain}
 use Rattle.award.specs.AwardLaws.{award-honest, award-nine}
 
 kinds : (k l : Kind) → sameKind k l ≡ true → k ≡ l
-unfolding sameKind
 kinds Single Single e = refl
 kinds Multi Multi e = refl
 kinds Single Multi e = let z : _≡_ {A = ℕ} 0 1 = cc in absurd (omega arith)

@@ -17,8 +17,8 @@ use Rattle.tender.specs.Tables.{Row, rowsOf, windowsOf, own}
 use Rattle.reader.specs.Words.{among}
 use Rattle.reader.specs.Differ.{withPrice}
 use Rattle.cover.specs.SetLaws.{and-split}
-use Rattle.tables.specs.Faults.{sound, rowFault, sameKind, faultOf}
-use Rattle.tables.specs.Cells.{holds, noRow, hasOf, pricesOf}
+use Rattle.tables.specs.Faults.{keeps, sound, rowFault, sameKind, faultOf}
+use Rattle.tables.specs.Cells.{holds, cellsOf, noRow, hasOf, pricesOf}
 use Rattle.tables.specs.Alike.{held, Alike}
 
 pub rows-length : (n : ℕ) (bs : List ℕ) → length (rowsOf n bs) ≡ n
@@ -86,15 +86,32 @@ own-set windows (r ∷ rs) zero v (suc j) = refl
 own-set windows (r ∷ rs) (suc i) v zero = refl
 own-set windows (r ∷ rs) (suc i) v (suc j) = own-set windows rs i v j
 
-pub sound-first : (k : Kind) (windows : List ℕ) (place : ℕ) (used : List ℕ) (at : ℕ) (r : Row) → sound k windows place used at r ≡ true → r .first ≡ at
+pub sound-keeps : (k : Kind) (windows : List ℕ) (place : ℕ) (used : List ℕ) (at : ℕ) (r : Row) → sound k windows place used at r ≡ true → keeps k windows at r ≡ true
 unfolding sound
-sound-first k windows place used at r e =
-    let a = and-split (leb place maxBids && (within 1 maxBidder (r .bidder) && not (among (r .bidder) used)) && leb (r .price) maxPrice
-    && (within 1 (mostWindows k) (r .count) && eqb (r .first) at && leb (at + r .count) (length windows / 2))) (allLawful (own windows r)) e in
-    let b = and-split (leb place maxBids && (within 1 maxBidder (r .bidder) && not (among (r .bidder) used)) && leb (r .price) maxPrice)
-    (within 1 (mostWindows k) (r .count) && eqb (r .first) at && leb (at + r .count) (length windows / 2)) (a .0) in
-    let c = and-split (within 1 (mostWindows k) (r .count) && eqb (r .first) at) (leb (at + r .count) (length windows / 2)) (b .1) in
-    eqb-true (r .first) at (and-split (within 1 (mostWindows k) (r .count)) (eqb (r .first) at) (c .0) .1)
+sound-keeps k windows place used at r e =
+    and-split (not (among (r .bidder) used)) (keeps k windows at r) (and-split (leb place maxBids) (not (among (r .bidder) used) && keeps k windows at r) e .1) .1
+
+-- what the row rules say
+pub record Kept (k : Kind) (windows : List ℕ) (at : ℕ) (r : Row) : Type 0 where
+  pub bidder : within 1 maxBidder (r .bidder) ≡ true
+  pub price : leb (r .price) maxPrice ≡ true
+  pub count : within 1 (mostWindows k) (r .count) ≡ true
+  pub first : r .first ≡ at
+  pub room : leb (at + r .count) (length windows / 2) ≡ true
+  pub windows-too : allLawful (own windows r) ≡ true
+
+pub keeps-kept : (k : Kind) (windows : List ℕ) (at : ℕ) (r : Row) → keeps k windows at r ≡ true → Kept k windows at r
+unfolding keeps
+keeps-kept k windows at r e =
+    let a = and-split (within 1 maxBidder (r .bidder)) _ e in
+    let b = and-split (leb (r .price) maxPrice) _ (a .1) in
+    let c = and-split (within 1 (mostWindows k) (r .count)) _ (b .1) in
+    let d = and-split (eqb (r .first) at) _ (c .1) in
+    let f = and-split (leb (at + r .count) (length windows / 2)) _ (d .1) in
+    record { bidder = a .0; price = b .0; count = c .0; first = eqb-true (r .first) at (d .0); room = f .0; windows-too = f .1 }
+
+pub sound-first : (k : Kind) (windows : List ℕ) (place : ℕ) (used : List ℕ) (at : ℕ) (r : Row) → sound k windows place used at r ≡ true → r .first ≡ at
+sound-first k windows place used at r e = keeps-kept k windows at r (sound-keeps k windows place used at r e) .first
 
 -- the windows of each row stand among those held
 pub among-held : (k : Kind) (windows : List ℕ) (place : ℕ) (used : List ℕ) (at : ℕ) (rs : List Row) (j : ℕ) → rowFault k windows place used at rs ≡ none →
@@ -137,7 +154,7 @@ module _ (k : Kind) (t : Tender) (n i : ℕ) (bids windows bids′ windows′ : 
 
   pub cells-alike : hasOf t (rowsOf n bids′) windows′ ≡ hasOf t (rowsOf n bids) windows
   unfolding hasOf
-  cells-alike = fun-ext (λ j. fun-ext (λ x. ap (λ ws. holds ws (t .window .start + x)) (own-alike j)))
+  cells-alike = fun-ext (λ j. fun-ext (λ x. ap (λ ws. ltb x (cellsOf t) && holds ws (t .window .start + x)) (own-alike j)))
 
 pub price-named : (n i : ℕ) (bids : List ℕ) → i < n → getD (pricesOf (rowsOf n bids)) i 0 ≡ getD bids (4 * i + 1) 0
 unfolding pricesOf rowsOf

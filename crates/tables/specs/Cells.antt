@@ -21,10 +21,10 @@ cellsOf t = t .window .end - t .window .start
 unfoldable pub noRow : Row
 noRow = record { bidder = 0; price = 0; first = 0; count = 0 }
 
--- bid i has the cell x
+-- bid i has the cell x; its minutes outside the tender count for nothing
 unfoldable pub hasOf : Tender → List Row → List ℕ → ℕ → ℕ → Bool
-unfolding noRow own holds
-hasOf t rows windows i x = holds (own windows (getD rows i noRow)) (t .window .start + x)
+unfolding cellsOf noRow own holds
+hasOf t rows windows i x = ltb x (cellsOf t) && holds (own windows (getD rows i noRow)) (t .window .start + x)
 
 unfoldable pub pricesOf : List Row → List ℕ
 pricesOf rows = map (λ r. r .price) rows

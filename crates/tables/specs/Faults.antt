@@ -12,17 +12,22 @@ use Rattle.tender.specs.Limits.{within, maxPrice, maxBidder, maxBids, mostWindo
 use Rattle.tender.specs.Tables.{Row, rowsOf, own}
 use Rattle.reader.specs.Words.{among}
 
--- the row rules: at most 1,000 bids, bidder and price within limits, a new bidder number, one window at least and no more than the kind allows,
--- windows that begin where the row before ended and stand inside the lent rows, each window lawful.
--- The row stands at `place`, after rows with the bidder numbers `used`, whose windows end at `at`.
+-- the row rules: bidder and price within limits, one window at least and no more than the kind allows, windows that begin where the row before
+-- ended and stand inside the lent rows, each window lawful; the windows of the row before end at `at`
+unfoldable pub keeps : Kind → List ℕ → ℕ → Row → Bool
+unfolding within mostWindows own allLawful
+keeps k windows at r =
+    within 1 maxBidder (r .bidder)
+    && (leb (r .price) maxPrice
+    && (within 1 (mostWindows k) (r .count)
+    && (eqb (r .first) at
+    && (leb (at + r .count) (length windows / 2)
+    && allLawful (own windows r)))))
+
+-- besides, at most 1,000 bids, and a bidder number that is new: the row stands at `place`, after rows with the bidder numbers `used`
 unfoldable pub sound : Kind → List ℕ → ℕ → List ℕ → ℕ → Row → Bool
-unfolding within among mostWindows own allLawful
-sound k windows place used at r =
-    leb place maxBids
-    && (within 1 maxBidder (r .bidder) && not (among (r .bidder) used))
-    && leb (r .price) maxPrice
-    && (within 1 (mostWindows k) (r .count) && eqb (r .first) at && leb (at + r .count) (length windows / 2))
-    && allLawful (own windows r)
+unfolding among keeps
+sound k windows place used at r = leb place maxBids && (not (among (r .bidder) used) && keeps k windows at r)
 
 -- the place of the first row that breaks a rule
 unfoldable pub rowFault : Kind → List ℕ → ℕ → List ℕ → ℕ → List Row → Option ℕ
@@ -32,7 +37,7 @@ rowFault k windows place used at (r ∷ rs) =
     let later = rowFault k windows (place + 1) (used ++ r .bidder ∷ []) (at + r .count) rs in
     cond (sound k windows place used at r) later (some place)
 
-unfoldable pub sameKind : Kind → Kind → Bool
+abbrev pub sameKind : Kind → Kind → Bool
 sameKind Single Single = true
 sameKind Single Multi = false
 sameKind Multi Single = false
@@ -40,7 +45,7 @@ sameKind Multi Multi = true
 
 -- the place of refusal 9 by the award of the kind k, where n bids are stated: 0 for the tender, the kind and the count, else the row, counted from 1
 unfoldable pub faultOf : Kind → Tender → ℕ → List ℕ → List ℕ → Option ℕ
-unfolding sameKind lawful rowsOf rowFault
+unfolding lawful rowsOf rowFault
 faultOf k t n bids windows =
     cond (sameKind k (t .kind) && lawful (t .window) && leb n (length bids / 4))
     (rowFault k windows 1 [] 0 (rowsOf n bids))

@@ -1,4 +1,5 @@
 pub mod Faults
+pub mod Checks
 pub mod Cells
 pub mod Alike
 pub mod AlikeLaws

@@ -18,7 +18,7 @@ use Rattle.tender.specs.Tables.{Row, rowsOf, windowsOf, own, flatRows, flatWind
 use Rattle.reader.specs.Words.{among, numeralOf, priceOf}
 use Rattle.reader.specs.Rules.{WindowRules, RowRules, RowsRules, WindowsRules, Rules}
 use Rattle.reader.specs.Differ.{withPrice, RowsDifferInPrice}
-use Rattle.tables.specs.Faults.{sound, rowFault, sameKind, faultOf}
+use Rattle.tables.specs.Faults.{keeps, sound, rowFault, sameKind, faultOf}
 use Rattle.tables.specs.Cells.{noRow}
 use Rattle.tables.specs.Alike.{held, Alike}
 
@@ -69,20 +69,23 @@ unfolding held
 rows-end k used at [] end h = omega (arith, h)
 rows-end k used at (r ∷ rs) end h = omega (arith, rows-end k (used ++ r .bidder ∷ []) (at + r .count) rs end (h .1))
 
-count-mostWindows : (k : Kind) (r : Row) → r .count ≤ 32 → (k ≡ Single → r .count ≡ 1) → r .count ≤ mostWindows k
+count-most : (k : Kind) (r : Row) → r .count ≤ 32 → (k ≡ Single → r .count ≡ 1) → r .count ≤ mostWindows k
 unfolding mostWindows
-count-mostWindows Single r l f = omega (arith, f refl)
-count-mostWindows Multi r l f = l
+count-most Single r l f = omega (arith, f refl)
+count-most Multi r l f = l
 
 row-sound : (k : Kind) (windows v : List ℕ) (place : ℕ) (used : List ℕ) (at : ℕ) (r : Row) (W : List Window) → place ≤ 1000 → RowRules k used at r → drop (2 * at) windows ≡ flatWindows W ++ v →
     r .count ≤ length W → at + r .count ≤ length windows / 2 → WindowsRules W → sound k windows place used at r ≡ true
-unfolding sound within own
+unfolding sound keeps within own
 row-sound k windows v place used at r W l h d c e w =
-    both (both (both (both (le-leb place 1000 l)
-    (both (both (le-leb 1 (r .bidder) (h .bidder-low)) (le-leb (r .bidder) 999999 (h .bidder-high))) (ap not (h .bidder-new))))
-    (le-leb (r .price) 100000000 (h .price-high)))
-    (both (both (both (le-leb 1 (r .count) (h .some-window)) (le-leb (r .count) (mostWindows k) (count-mostWindows k r (h .few-windows) (h .one-window)))) (eq-eqb (r .first) at (h .begins))) (le-leb (at + r .count) (length windows / 2) e)))
-    (ap (λ (f : ℕ). allLawful (windowsOf (r .count) (drop (2 * f) windows))) (h .begins) ∙ ap (λ ws. allLawful (windowsOf (r .count) ws)) d ∙ all-lawful (r .count) W v c w)
+    both (le-leb place maxBids l)
+    (both (ap not (h .bidder-new))
+    (both (both (le-leb 1 (r .bidder) (h .bidder-low)) (le-leb (r .bidder) maxBidder (h .bidder-high)))
+    (both (le-leb (r .price) maxPrice (h .price-high))
+    (both (both (le-leb 1 (r .count) (h .some-window)) (le-leb (r .count) (mostWindows k) (count-most k r (h .few-windows) (h .one-window))))
+    (both (eq-eqb (r .first) at (h .begins))
+    (both (le-leb (at + r .count) (length windows / 2) e)
+    (ap (λ (f : ℕ). allLawful (windowsOf (r .count) (drop (2 * f) windows))) (h .begins) ∙ ap (λ ws. allLawful (windowsOf (r .count) ws)) d ∙ all-lawful (r .count) W v c w)))))))
 
 rows-sound : (k : Kind) (windows v : List ℕ) (place : ℕ) (used : List ℕ) (at : ℕ) (rs : List Row) (W : List Window) (end : ℕ) → RowsRules k used at rs end → place + length rs ≤ 1001 →
     drop (2 * at) windows ≡ flatWindows W ++ v → at + length W ≡ end → end ≤ length windows / 2 → WindowsRules W → rowFault k windows place used at rs ≡ none
@@ -97,7 +100,6 @@ rows-sound k windows v place used at (r ∷ rs) W end h l d e f w =
     (rows-sound k windows v (place + 1) (used ++ r .bidder ∷ []) (at + r .count) rs (drop (r .count) W) end (h .1) (omega arith) n (omega (arith, length-drop (r .count) W)) f (drop-rules (r .count) W w))
 
 same-kind : (k : Kind) → sameKind k k ≡ true
-unfolding sameKind
 same-kind Single = refl
 same-kind Multi = refl
 
