@@ -2,7 +2,7 @@
 -- longer than 51,200 bytes; neither 8 nor 10 is ever shown. Assumes nothing.
 use mathlib.Core.Path.{_≡_, refl, sym, ap, fun-ext, _∙_}
 use mathlib.Core.Logic.{_⊎_, inl, inr}
-use mathlib.Core.Bool.{Bool, true, false, cond}
+use mathlib.Core.Bool.{Bool, true, false, cond, _&&_}
 use mathlib.Core.List.{List, [], _∷_, _++_, append-nil}
 use mathlib.Core.Option.{none}
 use Prim.Native.Nat.{ℕ, zero, suc, _+_, _*_, _≤_, _<_}
@@ -48,7 +48,7 @@ module _ (T : Tender) (R : List Row) (W : List Window) (rules : Rules T R W) whe
 
   cells-read : (w : List ℕ) → hasOf T R (flatWindows W ++ w) ≡ hasOf T R (flatWindows W)
   unfolding hasOf
-  cells-read w = fun-ext (λ j. fun-ext (λ x. ap (λ ws. holds ws (T .window .start + x)) (own-read w j)))
+  cells-read w = fun-ext (λ j. fun-ext (λ x. ap (λ ws. ltb x (cellsOf T) && holds ws (T .window .start + x)) (own-read w j)))
 
   rows-alone : rowsOf (length R) (flatRows R) ≡ R
   rows-alone = ap (rowsOf (length R)) (sym (append-nil (flatRows R))) ∙ rows-flat R []
