@@ -30,3 +30,4 @@ pub mod IntervalExample
 pub mod IntervalStays
 pub mod IntervalBids
 pub mod IntervalBidsLaws
+pub mod SettledLaws

@@ -1,0 +1,77 @@
+-- A list written cell by cell is the listed values and the old cells past them; and sums over it. Assumes nothing.
+use mathlib.Core.Path.{_≡_, refl, sym, ap, _∙_}
+use mathlib.Core.Bool.{Bool, true, false}
+use mathlib.Core.List.{List, [], _∷_, _++_}
+use Prim.Native.Nat.{ℕ, zero, suc, _+_, _/_, _≤_, _<_}
+use native.Mathlib.Omega.{arith}
+use lib.Dec.{eqb}
+use lib.ListN.{length, getD, set, length-set, drop, replicate}
+use lib.Seq.{getD-set-same, getD-set-other}
+use borrow.Author.Tests.{eqb-true, eqb-false}
+use Rattle.cover.specs.Sets.{when, bit, cost}
+use Rattle.cover.specs.CriticalPrice.{sum}
+use Rattle.cover.specs.Settled.{listed}
+
+-- the cells below j have their values, and the others are as they were
+pub record Written (f : ℕ → ℕ) (old new : List ℕ) (j : ℕ) : Type 0 where
+  pub sized : length new ≡ length old
+  pub values : (i : ℕ) → i < j → getD new i 0 ≡ f i
+  pub kept : (i : ℕ) → j ≤ i → getD new i 0 ≡ getD old i 0
+
+pub written-none : (f : ℕ → ℕ) (old : List ℕ) → Written f old old 0
+written-none f old = record { sized = refl; values = λ i l. absurd (omega arith); kept = λ i l. refl }
+
+pub written-more : (f : ℕ → ℕ) (old new : List ℕ) (j v : ℕ) → j < length old → v ≡ f j → Written f old new j → Written f old (set new j v) (j + 1)
+written-more f old new j v l e h = record {
+  sized = length-set new j v ∙ h .sized;
+  values = λ i d. go i d (eqb i j) refl;
+  kept = λ i d. getD-set-other new j i v 0 (λ q. omega arith) ∙ h .kept i (omega arith);
+}
+  where
+    go : (i : ℕ) → i < j + 1 → (t : Bool) → eqb i j ≡ t → getD (set new j v) i 0 ≡ f i
+    go i d true g = rw (eqb-true i j g) (getD-set-same new j v 0 (omega (arith, h .sized)) ∙ e)
+    go i d false g = getD-set-other new j i v 0 (eqb-false i j g) ∙ h .values i (omega (arith, eqb-false i j g))
+
+same-list : (xs ys : List ℕ) → length xs ≡ length ys → ((i : ℕ) → getD xs i 0 ≡ getD ys i 0) → xs ≡ ys
+same-list [] [] l f = refl
+same-list [] (y ∷ ys) l f = absurd (omega arith)
+same-list (x ∷ xs) [] l f = absurd (omega arith)
+same-list (x ∷ xs) (y ∷ ys) l f = rw (f 0, same-list xs ys (omega arith) (λ i. f (suc i)))
+
+pub listed-of : (n : ℕ) (f : ℕ → ℕ) (old new : List ℕ) → n ≤ length old → Written f old new n → new ≡ listed n f ++ drop n old
+unfolding listed
+listed-of zero f old new l h = same-list new old (h .sized) (λ i. h .kept i (omega arith))
+listed-of (suc n) f [] new l h = absurd (omega arith)
+listed-of (suc n) f (x ∷ old) [] l h = absurd (omega (arith, h .sized))
+listed-of (suc n) f (x ∷ old) (y ∷ new) l h = go (h .values 0 (omega arith)) (listed-of n (λ i. f (suc i)) old new (omega arith) (record { sized = omega (arith, h .sized); values = λ i d. h .values (suc i) (omega arith); kept = λ i d. h .kept (suc i) (omega arith) }))
+  where
+    go : y ≡ f 0 → new ≡ listed n (λ i. f (suc i)) ++ drop n old → y ∷ new ≡ f 0 ∷ (listed n (λ i. f (suc i)) ++ drop n old)
+    go e g = rw (e, g)
+
+-- a new list is all zeros
+pub zeros : (n s : ℕ) → _≡_ {A = ℕ} (getD (replicate {A = ℕ} n 0) s 0) 0
+zeros zero s = refl
+zeros (suc n) zero = refl
+zeros (suc n) (suc s) = zeros n s
+
+-- sums
+
+pub cost-sum : (ps : List ℕ) (s : ℕ) → cost ps s ≡ sum (listed (length ps) (λ i. when (bit s i) (getD ps i 0)))
+unfolding cost sum listed bit
+cost-sum [] s = refl
+cost-sum (p ∷ ps) s = ap (λ x. when (bit s 0) p + x) (cost-sum ps (s / 2))
+
+-- f 0 + .. + f (n - 1), the last added last
+unfoldable pub sumTo : (ℕ → ℕ) → ℕ → ℕ
+sumTo f zero = 0
+sumTo f (suc n) = sumTo f n + f n
+
+sum-front : (f : ℕ → ℕ) (n : ℕ) → sumTo f (suc n) ≡ f 0 + sumTo (λ i. f (suc i)) n
+unfolding sumTo
+sum-front f zero = omega arith
+sum-front f (suc n) = omega (arith, sum-front f n)
+
+pub sum-listed : (n : ℕ) (f : ℕ → ℕ) → sumTo f n ≡ sum (listed n f)
+unfolding sum listed sumTo
+sum-listed zero f = refl
+sum-listed (suc n) f = omega (arith, sum-front f n, sum-listed n (λ i. f (suc i)))

@@ -1,0 +1,100 @@
+use mathlib.Core.Path.{_≡_, refl, sym, ap, _∙_}
+use Rattle.select.specs.Rows.{row}
+use Prim.Native.Nat.{_≤_, _-_, _+_, _*_}
+use native.Mathlib.Nat.{le-antisymm}
+use borrow.Author.Tests.{lt-ltb, le-ltb}
+use Rattle.select.specs.RowLaws.{upper, upper-none, word-less, word-same, all-same}
+use native.Mathlib.Omega.{arith}
+use borrow.Author.Needs.{needs}
+use Rattle.select.proofs.stands.Statement.{statement}
+use Rattle.select.proofs.stands.Tie as tie
+use Rattle.select.proofs.stands.Reads as reads
+use Rattle.select.proofs.stands.Lts as lts
+
+abbrev Inv-loop : tie.InvT-loop
+Inv-loop sets q r j₀ j = (j ≤ 16) × (upper sets q j ≡ upper sets r j)
+
+abbrev μ-loop : tie.MeasureT-loop
+μ-loop sets q r j₀ j = j
+
+-- src/lib.rt:63:5
+loop-holds : tie.Need-loop-holds Inv-loop μ-loop
+loop-holds c = (omega arith, upper-none _ _ _)
+
+-- src/lib.rt:64:9
+sub-j : tie.Need-sub-j Inv-loop μ-loop
+sub-j c = search needs
+
+-- src/lib.rt:65:22
+mul-x : tie.Need-mul-x Inv-loop μ-loop
+mul-x c = search needs
+
+-- src/lib.rt:65:22
+add-x : tie.Need-add-x Inv-loop μ-loop
+add-x c = search needs
+
+-- src/lib.rt:65:17
+mul-x-2 : tie.Need-mul-x-2 Inv-loop μ-loop
+mul-x-2 c = search needs
+
+-- src/lib.rt:65:17
+shared-slice-read-x : tie.Need-shared-slice-read-x Inv-loop μ-loop
+shared-slice-read-x c = search needs
+
+-- src/lib.rt:66:22
+mul-y : tie.Need-mul-y Inv-loop μ-loop
+mul-y c = search needs
+
+-- src/lib.rt:66:22
+add-y : tie.Need-add-y Inv-loop μ-loop
+add-y c = search needs
+
+-- src/lib.rt:66:17
+mul-y-2 : tie.Need-mul-y-2 Inv-loop μ-loop
+mul-y-2 c = search needs
+
+-- src/lib.rt:66:17
+shared-slice-read-y : tie.Need-shared-slice-read-y Inv-loop μ-loop
+shared-slice-read-y c = search needs
+
+-- src/lib.rt:68:13
+returns : tie.Need-returns Inv-loop μ-loop
+returns c = let e : c .before .before .before .before .loop .j ≡ c .before .before .before .before .loop .j - 1 + 1 = omega arith in sym (lt-ltb _ _ (word-less (c .before .before .before .before .before .args .sets .now) (λ j. omega (arith, c .before .before .shared-slice-known .given j)) (c .before .before .before .before .before .args .q) (c .before .before .before .before .before .args .r) (c .before .before .before .before .loop .j - 1) (omega arith) (rw e at (c .before .before .before .before .loop .inv .1)) (c .if1 .taken)))
+
+-- src/lib.rt:71:13
+returns-2 : tie.Need-returns-2 Inv-loop μ-loop
+returns-2 c = let e : c .before .before .before .before .before .loop .j ≡ c .before .before .before .before .before .loop .j - 1 + 1 = omega arith in sym (le-ltb (row (c .before .before .before .before .before .before .args .sets .now) (c .before .before .before .before .before .before .args .q)) (row (c .before .before .before .before .before .before .args .sets .now) (c .before .before .before .before .before .before .args .r)) (omega (arith, word-less (c .before .before .before .before .before .before .args .sets .now) (λ j. omega (arith, c .before .before .before .shared-slice-known .given j)) (c .before .before .before .before .before .before .args .r) (c .before .before .before .before .before .before .args .q) (c .before .before .before .before .before .loop .j - 1) (omega arith) (rw e at (sym (c .before .before .before .before .before .loop .inv .1))) (c .if2 .taken))))
+
+-- src/lib.rt:63:5
+loop-less : tie.Need-loop-less Inv-loop μ-loop
+loop-less c = search needs
+
+-- src/lib.rt:63:5
+loop-again : tie.Need-loop-again Inv-loop μ-loop
+loop-again c = let e : c .before .before .before .before .before .loop .j ≡ c .before .before .before .before .before .loop .j - 1 + 1 = omega arith in (omega arith, word-same (c .before .before .before .before .before .before .args .sets .now) (λ j. omega (arith, c .before .before .before .shared-slice-known .given j)) (c .before .before .before .before .before .before .args .q) (c .before .before .before .before .before .before .args .r) (c .before .before .before .before .before .loop .j - 1) (omega arith) (rw e at (c .before .before .before .before .before .loop .inv .1)) (le-antisymm (c .if2 .left) (c .before .if1 .left)))
+
+-- src/lib.rt:58:1
+returns-3 : tie.Need-returns-3 Inv-loop μ-loop
+returns-3 c = sym (le-ltb (row (c .before .before .args .sets .now) (c .before .before .args .q)) (row (c .before .before .args .sets .now) (c .before .before .args .r)) (omega (arith, all-same (c .before .before .args .sets .now) (c .before .before .args .q) (c .before .before .args .r) (c .before .loop .j) (omega arith) (c .before .loop .inv .1))))
+
+pub stands-spec : {M : Type 1} → statement M
+stands-spec =
+    tie.close
+    (tie.spec
+    Inv-loop
+    μ-loop
+    loop-holds
+    sub-j
+    mul-x
+    add-x
+    mul-x-2
+    shared-slice-read-x
+    mul-y
+    add-y
+    mul-y-2
+    shared-slice-read-y
+    returns
+    returns-2
+    loop-less
+    loop-again
+    returns-3)
