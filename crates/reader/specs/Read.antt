@@ -10,8 +10,8 @@ use Rattle.tender.specs.declared.Window.{Window}
 use Rattle.tender.specs.declared.Tender.{Tender}
 use Rattle.tender.specs.Limits.{within, maxPrice, maxBidder, maxBids, maxWindows, maxText, isSingle, lawful, allLawful}
 use Rattle.tender.specs.Tables.{Row}
-use Rattle.reader.specs.Words.{cut, among}
-use Rattle.reader.specs.Line.{Bid, Line, tender, bid, lineOf}
+use Rattle.scan.specs.Words.{cut, among}
+use Rattle.scan.specs.Line.{Bid, Line, tender, bid, linesOf}
 
 pub data Outcome : Type 0 where
   accepted : Tender → List Row → List Window → Outcome
@@ -31,14 +31,6 @@ bidsOf [] = []
 bidsOf (none ∷ ls) = bidsOf ls
 bidsOf (some (tender t) ∷ ls) = bidsOf ls
 bidsOf (some (bid b) ∷ ls) = b ∷ bidsOf ls
-
--- the lines of the pieces between bytes 10; a last piece, which no byte 10 ends, is none
-unfoldable pub linesOf : List (List ℕ) → List (Option Line)
-unfolding lineOf
-linesOf [] = []
-linesOf ([] ∷ []) = []
-linesOf ((b ∷ p) ∷ []) = none ∷ []
-linesOf (p ∷ q ∷ ps) = lineOf p ∷ linesOf (q ∷ ps)
 
 -- the first fault of a bid in the page's order, after bids with the bidder numbers `used`
 unfoldable pub faultOf : Kind → List ℕ → Bid → Option ℕ
