@@ -1,0 +1,5 @@
+mod Table
+mod Judge
+mod Takes
+mod Store
+mod Fills
