@@ -1,6 +1,5 @@
-mod Digits
-mod Ends
-mod Same
-mod Spans
-mod Walk
-mod Lines
+mod Table
+mod Judge
+mod Takes
+mod Store
+mod Fills

@@ -1,8 +1,7 @@
 pub mod Words
-pub mod Line
 pub mod Read
 pub mod Example
-pub mod CutLaws
+pub mod Steps
 pub mod ReadLaws
 pub mod Differ
 pub mod PriceLaw
@@ -11,7 +10,3 @@ pub mod Rules
 pub mod RulesLaw
 pub mod CountLaws
 pub mod PlainLaw
-pub mod Scan
-pub mod ScanLaws
-pub mod TallyLaws
-pub mod Answer

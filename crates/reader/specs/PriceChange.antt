@@ -13,10 +13,10 @@ use Rattle.tender.specs.declared.Window.{Window}
 use Rattle.tender.specs.declared.Tender.{Tender}
 use Rattle.tender.specs.Limits.{lawful}
 use Rattle.tender.specs.Tables.{Row}
-use Rattle.reader.specs.Words.{andThen, cut, numeralOf, priceOf}
-use Rattle.reader.specs.Line.{Bid, Line, tender, bid, windowsIn, bidOf, lineOf}
-use Rattle.reader.specs.Read.{Outcome, accepted, rowsFrom, allWindows, bidsOf, linesOf, faultOf, checked, tables, readLines, readText}
-use Rattle.reader.specs.CutLaws.{Pieces, cut-some}
+use Rattle.scan.specs.Words.{andThen, cut, numeralOf, priceOf}
+use Rattle.scan.specs.Line.{Bid, Line, tender, bid, windowsIn, bidOf, lineOf, linesOf}
+use Rattle.reader.specs.Read.{Outcome, accepted, rowsFrom, allWindows, bidsOf, faultIn, faultOf, checked, tables, readLines, readText}
+use Rattle.scan.specs.CutLaws.{Pieces, cut-some}
 use Rattle.reader.specs.ReadLaws.{never, judged-out}
 use Rattle.reader.specs.Differ.{bidLine, Word, DifferInPrice, RowsDifferInPrice}
 use Rattle.reader.specs.PriceLaw.{line-of, parts, Found, text-lines, found, price-law}
@@ -26,7 +26,7 @@ unfoldable pub atPrice : ℕ → Bid → Bid
 atPrice v b = record { bidder = b .bidder; price = v; windows = b .windows }
 
 fault-price : (k : Kind) (used : List ℕ) (b : Bid) (v : ℕ) → v ≤ 100000000 → faultOf k used b ≡ none → faultOf k used (atPrice v b) ≡ none
-unfolding faultOf atPrice
+unfolding faultOf faultIn atPrice
 fault-price k used b v l e =
     let p = (faultless k used b e) .price-high in
     let m : ltb 100000000 (b .price) ≡ false = le-ltb 100000000 (b .price) p in

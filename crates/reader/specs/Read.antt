@@ -1,7 +1,7 @@
 -- What reading a bid text answers (paper 01, "The bid text" and "What each operation declines").
 use Prim.Native.Nat.{ℕ, _+_}
 use mathlib.Core.List.{List, [], _∷_, _++_}
-use mathlib.Core.Bool.{cond, not, _&&_, _||_}
+use mathlib.Core.Bool.{Bool, cond, not, _&&_, _||_}
 use mathlib.Core.Option.{Option, none, some}
 use lib.ListN.{length}
 use lib.Dec.{leb, ltb}
@@ -10,8 +10,8 @@ use Rattle.tender.specs.declared.Window.{Window}
 use Rattle.tender.specs.declared.Tender.{Tender}
 use Rattle.tender.specs.Limits.{within, maxPrice, maxBidder, maxBids, maxWindows, maxText, isSingle, lawful, allLawful}
 use Rattle.tender.specs.Tables.{Row}
-use Rattle.reader.specs.Words.{cut, among}
-use Rattle.reader.specs.Line.{Bid, Line, tender, bid, lineOf}
+use Rattle.scan.specs.Words.{cut, among}
+use Rattle.scan.specs.Line.{Bid, Line, tender, bid, linesOf}
 
 pub data Outcome : Type 0 where
   accepted : Tender → List Row → List Window → Outcome
@@ -32,23 +32,21 @@ bidsOf (none ∷ ls) = bidsOf ls
 bidsOf (some (tender t) ∷ ls) = bidsOf ls
 bidsOf (some (bid b) ∷ ls) = b ∷ bidsOf ls
 
--- the lines of the pieces between bytes 10; a last piece, which no byte 10 ends, is none
-unfoldable pub linesOf : List (List ℕ) → List (Option Line)
-unfolding lineOf
-linesOf [] = []
-linesOf ([] ∷ []) = []
-linesOf ((b ∷ p) ∷ []) = none ∷ []
-linesOf (p ∷ q ∷ ps) = lineOf p ∷ linesOf (q ∷ ps)
+-- the first fault of a bid in the page's order, after so many bids: its numbers, how many windows it has, whether all are
+-- lawful, and whether its bidder number was used before
+unfoldable pub faultIn : Kind → ℕ → ℕ → ℕ → ℕ → Bool → Bool → Option ℕ
+unfolding within isSingle
+faultIn k bids bidder price count sound used =
+    cond (leb maxBids bids || ltb maxWindows count) (some 4)
+    (cond (not (within 1 maxBidder bidder) || ltb maxPrice price) (some 3)
+    (cond (isSingle k && ltb 1 count) (some 7)
+    (cond (not sound) (some 5)
+    (cond used (some 6) none))))
 
--- the first fault of a bid in the page's order, after bids with the bidder numbers `used`
+-- the fault of a bid after bids with the bidder numbers `used`
 unfoldable pub faultOf : Kind → List ℕ → Bid → Option ℕ
-unfolding within isSingle allLawful among
-faultOf k used b =
-    cond (leb maxBids (length used) || ltb maxWindows (length (b .windows))) (some 4)
-    (cond (not (within 1 maxBidder (b .bidder)) || ltb maxPrice (b .price)) (some 3)
-    (cond (isSingle k && ltb 1 (length (b .windows))) (some 7)
-    (cond (not (allLawful (b .windows))) (some 5)
-    (cond (among (b .bidder) used) (some 6) none))))
+unfolding faultIn allLawful among
+faultOf k used b = faultIn k (length used) (b .bidder) (b .price) (length (b .windows)) (allLawful (b .windows)) (among (b .bidder) used)
 
 unfoldable pub judged : Option ℕ → ℕ → Outcome → Outcome
 judged none at out = out

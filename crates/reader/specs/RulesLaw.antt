@@ -16,10 +16,10 @@ use Rattle.tender.specs.declared.Window.{Window}
 use Rattle.tender.specs.declared.Tender.{Tender}
 use Rattle.tender.specs.Limits.{allLawful, isSingle, lawful, within}
 use Rattle.tender.specs.Tables.{Row}
-use Rattle.reader.specs.Words.{andThen, cut, among, same, closed, numeralOf, priceOf}
-use Rattle.reader.specs.Line.{Bid, Line, tender, bid, kindOf, spanOf, windowOf, windowsIn, tenderOf, bidOf, lineOfWords, lineOf}
-use Rattle.reader.specs.Read.{Outcome, accepted, rowsFrom, allWindows, bidsOf, linesOf, faultOf, checked, tables, readLines, readText}
-use Rattle.reader.specs.CutLaws.{or-split}
+use Rattle.scan.specs.Words.{andThen, cut, among, same, closed, numeralOf, priceOf}
+use Rattle.scan.specs.Line.{Bid, Line, tender, bid, kindOf, spanOf, windowOf, windowsIn, tenderOf, bidOf, lineOfWords, lineOf, linesOf}
+use Rattle.reader.specs.Read.{Outcome, accepted, rowsFrom, allWindows, bidsOf, faultIn, faultOf, checked, tables, readLines, readText}
+use Rattle.scan.specs.CutLaws.{or-split}
 use Rattle.reader.specs.ReadLaws.{never, read-lines, judged-out, begun}
 use Rattle.reader.specs.Rules.{WindowRules, RowsRules, WindowsRules, Rules}
 
@@ -114,41 +114,48 @@ cond-none : (t : Bool) (n : ℕ) (x : Option ℕ) → cond t (some n) x ≡ none
 cond-none true n x e = let z : _≡_ {A = ℕ} 0 1 = cc in absurd (omega arith)
 cond-none false n x e = (refl, e)
 
-pub record Faultless (k : Kind) (used : List ℕ) (b : Bid) : Type 0 where
-  pub few-bids : length used < 1000
-  pub few-windows : length (b .windows) ≤ 32
-  pub bidder-low : 1 ≤ b .bidder
-  pub bidder-high : b .bidder ≤ 999999
-  pub price-high : b .price ≤ 100000000
-  pub one-window : k ≡ Single → length (b .windows) ≤ 1
-  pub lawful-windows : allLawful (b .windows) ≡ true
-  pub bidder-new : among (b .bidder) used ≡ false
+pub record Passed (k : Kind) (bids bidder price count : ℕ) (sound used : Bool) : Type 0 where
+  pub few-bids : bids < 1000
+  pub few-windows : count ≤ 32
+  pub bidder-low : 1 ≤ bidder
+  pub bidder-high : bidder ≤ 999999
+  pub price-high : price ≤ 100000000
+  pub one-window : k ≡ Single → count ≤ 1
+  pub lawful-windows : sound ≡ true
+  pub bidder-new : used ≡ false
 
-pub faultless : (k : Kind) (used : List ℕ) (b : Bid) → faultOf k used b ≡ none → Faultless k used b
-unfolding faultOf within
-faultless k used b e =
-    let c4 = cond-none (leb 1000 (length used) || ltb 32 (length (b .windows))) 4 _ e in
-    let c3 = cond-none (not (within 1 999999 (b .bidder)) || ltb 100000000 (b .price)) 3 _ (c4 .1) in
-    let c7 = cond-none (isSingle k && ltb 1 (length (b .windows))) 7 _ (c3 .1) in
-    let c5 = cond-none (not (allLawful (b .windows))) 5 _ (c7 .1) in
-    let c6 = cond-none (among (b .bidder) used) 6 _ (c5 .1) in
-    let f4 = or-split (leb 1000 (length used)) (ltb 32 (length (b .windows))) (c4 .0) in
-    let f3 = or-split (not (within 1 999999 (b .bidder))) (ltb 100000000 (b .price)) (c3 .0) in
-    let w = and-split (leb 1 (b .bidder)) (leb (b .bidder) 999999) (not-false (within 1 999999 (b .bidder)) (f3 .0)) in
+pub passed : (k : Kind) (bids bidder price count : ℕ) (sound used : Bool) → faultIn k bids bidder price count sound used ≡ none → Passed k bids bidder price count sound used
+unfolding faultIn within
+passed k bids bidder price count sound used e =
+    let c4 = cond-none (leb 1000 bids || ltb 32 count) 4 _ e in
+    let c3 = cond-none (not (within 1 999999 bidder) || ltb 100000000 price) 3 _ (c4 .1) in
+    let c7 = cond-none (isSingle k && ltb 1 count) 7 _ (c3 .1) in
+    let c5 = cond-none (not sound) 5 _ (c7 .1) in
+    let c6 = cond-none used 6 _ (c5 .1) in
+    let f4 = or-split (leb 1000 bids) (ltb 32 count) (c4 .0) in
+    let f3 = or-split (not (within 1 999999 bidder)) (ltb 100000000 price) (c3 .0) in
+    let w = and-split (leb 1 bidder) (leb bidder 999999) (not-false (within 1 999999 bidder) (f3 .0)) in
     record {
-      few-bids = leb-false 1000 (length used) (f4 .0);
-      few-windows = ltb-false 32 (length (b .windows)) (f4 .1);
-      bidder-low = leb-true 1 (b .bidder) (w .0);
-      bidder-high = leb-true (b .bidder) 999999 (w .1);
-      price-high = ltb-false 100000000 (b .price) (f3 .1);
+      few-bids = leb-false 1000 bids (f4 .0);
+      few-windows = ltb-false 32 count (f4 .1);
+      bidder-low = leb-true 1 bidder (w .0);
+      bidder-high = leb-true bidder 999999 (w .1);
+      price-high = ltb-false 100000000 price (f3 .1);
       one-window = one k (c7 .0);
-      lawful-windows = not-false (allLawful (b .windows)) (c5 .0);
+      lawful-windows = not-false sound (c5 .0);
       bidder-new = c6 .0;
     }
   where
-    one : (m : Kind) → isSingle m && ltb 1 (length (b .windows)) ≡ false → m ≡ Single → length (b .windows) ≤ 1
-    one Single h q = ltb-false 1 (length (b .windows)) h
+    one : (m : Kind) → isSingle m && ltb 1 count ≡ false → m ≡ Single → count ≤ 1
+    one Single h q = ltb-false 1 count h
     one Multi h q = let z : _≡_ {A = ℕ} 0 1 = cc in absurd (omega arith)
+
+abbrev pub Faultless : Kind → List ℕ → Bid → Type 0
+Faultless k used b = Passed k (length used) (b .bidder) (b .price) (length (b .windows)) (allLawful (b .windows)) (among (b .bidder) used)
+
+pub faultless : (k : Kind) (used : List ℕ) (b : Bid) → faultOf k used b ≡ none → Faultless k used b
+unfolding faultOf
+faultless k used b e = passed k (length used) (b .bidder) (b .price) (length (b .windows)) (allLawful (b .windows)) (among (b .bidder) used) e
 
 lawful-rules : (w : Window) → lawful w ≡ true → WindowRules w
 unfolding lawful

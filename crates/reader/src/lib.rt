@@ -1,3 +1,3 @@
 // The bid reader: bid text to a tender, a table of bids and a table of windows.
-mod line;
-mod words;
+mod bids;
+mod tables;

@@ -1,0 +1,157 @@
+// The bids of a text: each line judged in the paper's order, and put into tables.
+ghost use mathlib.Core.Path.{_≡_};
+ghost use mathlib.Core.Bool.{_&&_};
+ghost use Prim.Native.Nat.{_≤_};
+ghost use lib.ListN.{length, drop, replicate};
+ghost use lib.Dec.{ltb, eqb};
+ghost use Rattle.tender.specs.Limits.{isSingle};
+ghost use Rattle.cells.specs.Cells.{cell};
+ghost use Rattle.scan.specs.Words.{cut};
+ghost use Rattle.scan.specs.Line.{lineOf, linesOf};
+ghost use Rattle.reader.specs.Read.{faultIn};
+ghost use Rattle.reader.specs.Steps.{faultAt, verdictOf, Taken, Filled};
+use crate::tables::put_row;
+use scan::line::Line;
+use scan::line::read_line;
+use scan::words::LineEnd;
+use scan::words::line_end;
+use tender::Kind;
+use tender::Refusal;
+
+// Whether the tender takes one window a bid and there are more.
+fn several(kind: Kind, windows: usize) -> bool
+    ensures { λ r. ⌜ r ≡ (isSingle kind && ltb 1 windows) ⌝ }
+{
+    match kind {
+        Kind::Single => 1 < windows,
+        Kind::Multi => false,
+    }
+}
+
+pub(crate) enum Verdict {
+    Sound,
+    Faulty(Refusal),
+}
+
+// The first fault of the bid on this line, after so many bids: 4, 3, 7, 5, 6. A used bidder number is a set cell of `used`.
+fn judge(
+    kind: Kind,
+    line: u64,
+    bids: usize,
+    used: &[u64],
+    bidder: u64,
+    price: u64,
+    windows: usize,
+    ok: bool,
+) -> Verdict
+    requires { ⌜ length (now used) ≡ 15625 ⌝ }
+    ensures { λ r. ⌜ verdictOf r ≡ faultAt line (faultIn kind bids bidder price windows ok (eqb (cell (now (used .entry)) bidder) 1)) ⌝ }
+{
+    if tender::MAX_BIDS <= bids {
+        return Verdict::Faulty(Refusal::TooMany { line });
+    }
+    if tender::MAX_WINDOWS < windows {
+        return Verdict::Faulty(Refusal::TooMany { line });
+    }
+    if bidder < 1 {
+        return Verdict::Faulty(Refusal::OutsideLimits { line });
+    }
+    if tender::MAX_BIDDER < bidder {
+        return Verdict::Faulty(Refusal::OutsideLimits { line });
+    }
+    if tender::MAX_PRICE < price {
+        return Verdict::Faulty(Refusal::OutsideLimits { line });
+    }
+    if several(kind, windows) {
+        return Verdict::Faulty(Refusal::SeveralWindows { line });
+    }
+    if !ok {
+        return Verdict::Faulty(Refusal::BadWindow { line });
+    }
+    if cells::holds(used, bidder as usize) {
+        return Verdict::Faulty(Refusal::BidderRepeated { line });
+    }
+    Verdict::Sound
+}
+
+pub(crate) enum Step {
+    Bid(usize),
+    Refused(Refusal),
+}
+
+// The line after k bids with m windows: a bid, which goes into the tables and whose number is used from then on, or the line's fault.
+fn take_line(
+    line: &[u8],
+    kind: Kind,
+    k: usize,
+    m: usize,
+    used: &mut [u64],
+    rows: &mut [u64],
+    windows: &mut [u64],
+) -> Step
+    requires { ⌜ (k ≤ 1000) × (m ≤ 32000) × (length (now used) ≡ 15625) × (length (now rows) ≡ 4000) ⌝ }
+    ensures { λ r. ⌜ Taken (lineOf (now (line .entry))) kind k m (now (used .entry)) (now (rows .entry)) (now (windows .entry)) r (now (used .exit)) (now (rows .exit)) (now (windows .exit)) ⌝ }
+{
+    let place = k as u64 + 2;
+    match read_line(line, windows, m) {
+        Line::Bid(bidder, price, count, ok) => match judge(
+            kind,
+            place,
+            k,
+            used,
+            bidder,
+            price,
+            count,
+            ok,
+        ) {
+            Verdict::Sound => {
+                put_row(rows, k, bidder, price, m as u64, count as u64);
+                cells::add(used, bidder as usize);
+                Step::Bid(count)
+            }
+            Verdict::Faulty(r) => Step::Refused(r),
+        },
+        Line::Tender(_) => Step::Refused(Refusal::BadForm { line: place }),
+        Line::Broken => Step::Refused(Refusal::BadForm { line: place }),
+    }
+}
+
+pub(crate) enum Bids {
+    Filled(usize, usize),
+    Refused(Refusal),
+}
+
+// The bids from `at` on, in the first rows of the two tables: how many bids and windows, or the first faulty line.
+pub(crate) fn read_bids(
+    text: &[u8],
+    at: usize,
+    kind: Kind,
+    used: &mut [u64],
+    rows: &mut [u64],
+    windows: &mut [u64],
+) -> Bids
+    requires { ⌜ (at ≤ length (now text)) × (now used ≡ replicate 15625 0) × (length (now rows) ≡ 4000) × (length (now windows) ≡ 64000) ⌝ }
+    ensures { λ r. ⌜ Filled kind (linesOf (cut 10 (drop at (now (text .entry))))) r (now (rows .exit)) (now (windows .exit)) ⌝ }
+{
+    let mut k: usize = 0;
+    let mut m: usize = 0;
+    let mut i = at;
+    while i < text.len() {
+        match line_end(text, i) {
+            LineEnd::At(e) => match take_line(&text[i..e], kind, k, m, used, rows, windows) {
+                Step::Bid(count) => {
+                    k += 1;
+                    m += count;
+                    i = e + 1;
+                }
+                Step::Refused(r) => {
+                    return Bids::Refused(r);
+                }
+            },
+            LineEnd::Broken => {
+                return Bids::Refused(Refusal::BadForm { line: k as u64 + 2 });
+            }
+        }
+    }
+    Bids::Filled(k, m)
+}

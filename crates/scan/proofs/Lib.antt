@@ -1,0 +1,6 @@
+mod Digits
+mod Ends
+mod Same
+mod Spans
+mod Walk
+mod Lines
