@@ -3,3 +3,4 @@ mod Judge
 mod Takes
 mod Store
 mod Fills
+mod Whole

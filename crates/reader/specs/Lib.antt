@@ -1,6 +1,7 @@
 pub mod Words
 pub mod Read
 pub mod Example
+pub mod Answer
 pub mod Steps
 pub mod ReadLaws
 pub mod Differ

@@ -1,20 +1,24 @@
 -- What the reader's functions answer, as the definitions' values.
 use mathlib.Core.Path.{_≡_}
 use mathlib.Core.List.{List, [], _∷_, _++_}
-use mathlib.Core.Bool.{Bool}
+use mathlib.Core.Bool.{true}
 use mathlib.Core.Option.{Option, none, some}
 use Prim.Native.Nat.{ℕ, _+_, _*_, _≤_}
 use lib.ListN.{length, take, drop}
 use lib.Dec.{eqb}
 use Rattle.tender.specs.declared.Kind.{Kind}
 use Rattle.tender.specs.declared.Refusal.{Refusal}
-use Rattle.tender.specs.Limits.{allLawful}
+use Rattle.tender.specs.declared.Tender.{Tender}
+use Rattle.tender.specs.Limits.{lawful, allLawful}
 use Rattle.tender.specs.Refusals.{numberOf, placeOf}
 use Rattle.tender.specs.Tables.{Row, flatRows, flatWindows}
 use Rattle.cells.specs.Cells as cells
-use Rattle.scan.specs.Line.{Bid, Line, tender, bid}
+use Rattle.scan.specs.Words.{cut}
+use Rattle.scan.specs.Line.{Bid, Line, tender, bid, linesOf}
 use Rattle.scan.specs.Scan.{putWindows}
-use Rattle.reader.specs.Read.{Outcome, refused, rowsFrom, allWindows, bidsOf, faultIn, checked}
+use Rattle.reader.specs.Read.{Outcome, refused, rowsFrom, allWindows, bidsOf, faultIn, checked, readLines}
+use Rattle.reader.specs.declared.First.{First}
+use Rattle.reader.specs.declared.First.the-variants as first
 use Rattle.reader.specs.declared.bids.Verdict.{Verdict}
 use Rattle.reader.specs.declared.bids.Verdict.the-variants.{Sound, Faulty}
 use Rattle.reader.specs.declared.bids.Step.{Step}
@@ -78,3 +82,13 @@ pub record Held (kind : Kind) (ls : List (Option Line)) (k m : ℕ) (rows window
 abbrev pub Filled : Kind → List (Option Line) → Bids → (rows windows : List ℕ) → Type 0
 Filled kind ls (bids.Filled k m) rows windows = Held kind ls k m rows windows
 Filled kind ls (bids.Refused r) rows windows = (out : Outcome) → checked kind 2 [] ls out ≡ refused (numberOf r) (placeOf r)
+
+-- what comes of the first line
+pub record Begins (text : List ℕ) (t : Tender) (at : ℕ) : Type 0 where
+  pub inside : at ≤ length text
+  pub lines : linesOf (cut 10 text) ≡ some (tender t) ∷ linesOf (cut 10 (drop at text))
+  pub window : lawful (t .window) ≡ true
+
+abbrev pub Opened : List ℕ → First → Type 0
+Opened text (first.Tender t at) = Begins text t at
+Opened text (first.Refused r) = readLines (linesOf (cut 10 text)) ≡ refused (numberOf r) (placeOf r)

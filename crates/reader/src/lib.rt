@@ -1,3 +1,105 @@
-// The bid reader: bid text to a tender, a table of bids and a table of windows.
+// The bid reader: bid text to a tender, a table of bids and a table of windows. `specs/Read.antt` says what a text gives;
+// a text is read whole or refused, and a refused text leaves both tables as they were.
+ghost use mathlib.Core.Path.{_≡_};
+ghost use Prim.Native.Nat.{_/_};
+ghost use lib.ListN.{length, replicate};
+ghost use Rattle.reader.specs.Read.{readInto};
+ghost use Rattle.reader.specs.Answer.{told, summary, bidsAfter, windowsAfter};
+ghost use Rattle.reader.specs.Steps.{Opened};
+
 mod bids;
 mod tables;
+
+use bids::Bids;
+use bids::read_bids;
+use scan::line::Line;
+use scan::line::keeps;
+use scan::line::read_line;
+use scan::words::LineEnd;
+use scan::words::line_end;
+use tables::copy;
+use tender::Refusal;
+use tender::Tender;
+
+// The rows that the longest readable text needs, and the words of a set of a million bidder numbers.
+const BID_TABLE: usize = 4000;
+
+const WINDOW_TABLE: usize = 64000;
+
+const NUMBER_WORDS: usize = 15625;
+
+pub(crate) enum First {
+    Tender(Tender, usize),
+    Refused(Refusal),
+}
+
+// The first line: the tender and where the second line begins. The table serves the line's reader and is not looked at.
+fn read_first(text: &[u8], windows: &mut [u64]) -> First
+    ensures { λ r. ⌜ Opened (now (text .entry)) r ⌝ }
+{
+    if text.len() == 0 {
+        return First::Refused(Refusal::BadForm { line: 1 });
+    }
+    match line_end(text, 0) {
+        LineEnd::At(e) => match read_line(&text[0..e], windows, 0) {
+            Line::Tender(t) => {
+                let w = t.window;
+                if keeps(true, w.start, w.end) {
+                    First::Tender(t, e + 1)
+                } else {
+                    First::Refused(Refusal::BadWindow { line: 1 })
+                }
+            }
+            Line::Bid(_, _, _, _) => First::Refused(Refusal::BadForm { line: 1 }),
+            Line::Broken => First::Refused(Refusal::BadForm { line: 1 }),
+        },
+        LineEnd::Broken => First::Refused(Refusal::BadForm { line: 1 }),
+    }
+}
+
+pub enum Reading {
+    Accepted {
+        tender: Tender,
+        bids: usize,
+        windows: usize,
+    },
+    Refused(Refusal),
+}
+
+// Reads the text into the first rows of the two tables; cells past them stay.
+pub fn read(text: &[u8], bids: &mut [u64], windows: &mut [u64]) -> Reading
+    ensures answer { λ r. ⌜ told r ≡ summary (readInto (now (text .entry)) (length (now (bids .entry)) / 4) (length (now (windows .entry)) / 2)) ⌝ }
+    ensures rows { λ r. ⌜ now (bids .exit) ≡ bidsAfter (now (bids .entry)) (readInto (now (text .entry)) (length (now (bids .entry)) / 4) (length (now (windows .entry)) / 2)) ⌝ }
+    ensures own { λ r. ⌜ now (windows .exit) ≡ windowsAfter (now (windows .entry)) (readInto (now (text .entry)) (length (now (bids .entry)) / 4) (length (now (windows .entry)) / 2)) ⌝ }
+{
+    if tender::MAX_TEXT < text.len() {
+        return Reading::Refused(Refusal::TextTooLong);
+    }
+    let mut rows = [0u64; BID_TABLE];
+    let mut spans = [0u64; WINDOW_TABLE];
+    let mut used = [0u64; NUMBER_WORDS];
+    match read_first(text, &mut spans) {
+        First::Tender(t, at) => {
+            let kind = t.kind;
+            match read_bids(text, at, kind, &mut used, &mut rows, &mut spans) {
+                Bids::Filled(k, m) => {
+                    if bids.len() / tender::BID_CELLS < k {
+                        return Reading::Refused(Refusal::TableTooShort);
+                    }
+                    if windows.len() / tender::WINDOW_CELLS < m {
+                        return Reading::Refused(Refusal::TableTooShort);
+                    }
+                    copy(&rows, tender::BID_CELLS * k, bids);
+                    copy(&spans, tender::WINDOW_CELLS * m, windows);
+                    Reading::Accepted {
+                        tender: t,
+                        bids: k,
+                        windows: m,
+                    }
+                }
+                Bids::Refused(r) => Reading::Refused(r),
+            }
+        }
+        First::Refused(r) => Reading::Refused(r),
+    }
+}
