@@ -1,0 +1,43 @@
+-- Whether each cell has two bidders: a cell in no bid, else a cell in one bid alone, else neither.
+use mathlib.Core.Path.{_≡_}
+use mathlib.Core.Bool.{Bool, true, false}
+use mathlib.Core.List.{List}
+use Prim.Native.Nat.{ℕ, _*_, _≤_, _<_}
+use lib.ListN.{length, getD, take, drop}
+use lib.Dec.{ltb, eqb}
+use Rattle.cells.specs.Cells.{cell}
+use Rattle.cover.specs.Sets.{bidders, each}
+use Rattle.bidders.specs.declared.Thin.{Thin}
+use Rattle.bidders.specs.declared.Thin.the-variants.{Nobody, Alone, Enough}
+
+abbrev pub Says : (ℕ → ℕ → Bool) → ℕ → ℕ → Thin → Type 0
+Says has n L (Nobody x) = (x < L) × (bidders has n x ≡ 0)
+Says has n L (Alone x) = (each has n L 1 ≡ true) × ((x < L) × (bidders has n x ≡ 1))
+Says has n L Enough = each has n L 2 ≡ true
+
+-- n windows, each from a start to an end that is no earlier and within L cells
+pub record Spans (starts ends : List ℕ) (L : ℕ) : Type 0 where
+  pub same : length ends ≡ length starts
+  pub few : length starts ≤ 1000
+  pub ordered : (i : ℕ) → getD starts i 0 ≤ getD ends i 0
+  pub inside : (i : ℕ) → getD ends i 0 ≤ L
+
+-- bid i has the cell x: the words of the bids stand one after the other, w words a bid
+unfoldable pub masked : List ℕ → ℕ → ℕ → ℕ → Bool
+unfolding cell
+masked ms w i x = eqb (cell (take w (drop (w * i) ms)) x) 1
+
+-- how many of the first n numbers are x
+unfoldable pub times : List ℕ → ℕ → ℕ → ℕ
+times xs n x = bidders (λ i y. eqb (getD xs i 0) y) n x
+
+-- the cell x has fewer than m bidders
+unfoldable pub fewer : (ℕ → ℕ → Bool) → ℕ → ℕ → ℕ → Bool
+unfolding bidders
+fewer has n m x = ltb (bidders has n x) m
+
+-- r is the first number below L that passes, or L where there is none
+pub record FirstOf (P : ℕ → Bool) (L r : ℕ) : Type 0 where
+  pub inside : r ≤ L
+  pub here : r < L → P r ≡ true
+  pub before : (x : ℕ) → x < r → P x ≡ false
