@@ -1,13 +1,11 @@
 // Whether each cell has two bidders, for bids of one window each and for bids as rows of words.
 // The cell answered is the first in no bid, else the first in one bid.
 ghost use mathlib.Core.Path.{_≡_};
-ghost use mathlib.Core.Bool.{not};
-ghost use Prim.Native.Nat.{ℕ, _+_, _-_, _*_, _≤_, _<_, min, max};
+ghost use Prim.Native.Nat.{ℕ, _*_, _≤_, _<_};
 ghost use lib.ListN.{length, getD};
-ghost use lib.Dec.{eqb, ltb};
-ghost use Rattle.cells.specs.Cells.{cell};
 ghost use Rattle.cover.specs.Settled.{spans};
-ghost use Rattle.bidders.specs.Thin.{Says, Spans, masked, times, fewer, FirstOf};
+ghost use Rattle.rounds.specs.Market.{has};
+ghost use Rattle.bidders.specs.Thin.{Says, Spans, times, fewer, unset, Merged, Gathered, FirstOf};
 
 pub enum Thin {
     Nobody { cell: u64 },
@@ -59,6 +57,67 @@ pub fn thin_spans(starts: &[u64], ends: &[u64], cells: usize) -> Thin
         return Thin::Nobody { cell: bare as u64 };
     }
     let lone = spans_below(starts, ends, cells, 2);
+    if lone < cells {
+        return Thin::Alone { cell: lone as u64 };
+    }
+    Thin::Enough
+}
+
+// Adds the cells of a mask to `one`, and to `two` those that were in `one`.
+fn merge(mask: &[u64], one: &mut [u64], two: &mut [u64])
+    requires { ⌜ (length (now mask) ≤ length (now one)) × (length (now mask) ≤ length (now two)) ⌝ }
+    ensures { λ _. ⌜ Merged (now (mask .entry)) (now (one .entry)) (now (two .entry)) (now (one .exit)) (now (two .exit)) ⌝ }
+{
+    let mut k = 0;
+    while k < mask.len() {
+        two[k] = two[k] | (one[k] & mask[k]);
+        one[k] = one[k] | mask[k];
+        k += 1;
+    }
+}
+
+// Gathers the cells in some bid, and those in two or more.
+fn gather(masks: &[u64], w: usize, n: usize, one: &mut [u64], two: &mut [u64])
+    requires { ⌜ (length (now masks) ≡ w * n) × ((w ≤ length (now one)) × ((w ≤ length (now two)) × Gathered (now masks) w 0 (now one) (now two))) ⌝ }
+    ensures { λ _. ⌜ Gathered (now (masks .entry)) w n (now (one .exit)) (now (two .exit)) ⌝ }
+{
+    let mut i = 0;
+    while i < n {
+        let a = w * i;
+        let e = a + w;
+        merge(&masks[a..e], one, two);
+        i += 1;
+    }
+}
+
+// The first cell that is not set, or `cells` where there is none.
+fn first_unset(words: &[u64], cells: usize) -> usize
+    requires { ⌜ cells ≤ 64 * length (now words) ⌝ }
+    ensures { λ r. ⌜ FirstOf (unset (now (words .entry))) cells r ⌝ }
+{
+    let mut x = 0;
+    while x < cells {
+        if !cells::holds(words, x) {
+            return x;
+        }
+        x += 1;
+    }
+    x
+}
+
+// Bids as rows of w words.
+pub fn thin_masks(masks: &[u64], w: usize, n: usize, cells: usize) -> Thin
+    requires { ⌜ (length (now masks) ≡ w * n) × ((w ≤ 158) × (cells ≤ 64 * w)) ⌝ }
+    ensures { λ r. ⌜ Says (has (now (masks .entry)) w) n cells r ⌝ }
+{
+    let mut one = [0u64; 158];
+    let mut two = [0u64; 158];
+    gather(masks, w, n, &mut one, &mut two);
+    let bare = first_unset(&one, cells);
+    if bare < cells {
+        return Thin::Nobody { cell: bare as u64 };
+    }
+    let lone = first_unset(&two, cells);
     if lone < cells {
         return Thin::Alone { cell: lone as u64 };
     }
