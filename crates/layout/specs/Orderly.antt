@@ -7,8 +7,9 @@ use lib.ListN.{length, getD}
 use lib.Dec.{ltb, eqb}
 use Rattle.tender.specs.declared.Kind.{Kind}
 use Rattle.tender.specs.declared.Window.{Window}
-use Rattle.tender.specs.Tables.{Row}
+use Rattle.tender.specs.Tables.{Row, own}
 use Rattle.cells.specs.Cells.{cell}
+use Rattle.rounds.specs.Market.{row}
 use Rattle.tables.specs.Cells.{holds}
 use Rattle.tables.specs.AlikeLaws.{Kept}
 
@@ -34,3 +35,7 @@ pub record Laid (n start L : ℕ) (bids windows starts ends : List ℕ) : Type 0
 -- the words have the cells of the windows, and no other
 pub record Masked (start L : ℕ) (ws : List Window) (words : List ℕ) : Type 0 where
   pub sets : (x : ℕ) → eqb (cell words x) 1 ≡ (ltb x L && holds ws (start + x))
+
+-- the words of each of n bids, w words a bid
+pub record AllMasked (n start L w : ℕ) (bids windows ms : List ℕ) : Type 0 where
+  pub each : (i : ℕ) → i < n → Masked start L (own windows (rowAt bids i)) (row ms w i)

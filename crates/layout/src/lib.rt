@@ -4,11 +4,11 @@ ghost use mathlib.Core.Path.{_≡_};
 ghost use Prim.Native.Nat.{ℕ, _+_, _*_, _/_, _≤_, _<_};
 ghost use lib.ListN.{length, getD, drop};
 ghost use mathlib.Core.Bool.{true};
-ghost use Rattle.tender.specs.declared.Kind.the-variants.{Single};
+ghost use Rattle.tender.specs.declared.Kind.the-variants.{Single, Multi};
 ghost use Rattle.tender.specs.Limits.{allLawful};
 ghost use Rattle.tender.specs.Tables.{rowsOf, windowsOf};
 ghost use Rattle.tables.specs.Cells.{pricesOf};
-ghost use Rattle.layout.specs.Orderly.{rowAt, Orderly, clipped, Laid, Masked};
+ghost use Rattle.layout.specs.Orderly.{rowAt, Orderly, clipped, Laid, Masked, AllMasked};
 
 // The prices of the bids.
 pub fn prices(bids: &[u64], out: &mut [u64])
@@ -69,5 +69,29 @@ fn mask_row(start: u64, cells: u64, windows: &[u64], first: usize, count: usize,
         let e = clip(start, cells, windows[2 * (first + j) + 1]);
         cells::add_range(words, s as usize, e as usize);
         j += 1;
+    }
+}
+
+// The words of each bid, w words a bid, in words that have no cell.
+pub fn masks(
+    start: u64,
+    cells: u64,
+    w: usize,
+    n: usize,
+    bids: &[u64],
+    windows: &[u64],
+    out: &mut [u64],
+)
+    requires { ⌜ Orderly Multi n (now bids) (now windows) × ((length (now out) ≡ w * n) × ((cells ≤ 64 * w) × ((w ≤ 158) × ((i : ℕ) → getD (now out) i 0 ≡ 0)))) ⌝ }
+    ensures { λ _. ⌜ AllMasked n start cells w (now (bids .entry)) (now (windows .entry)) (now (out .exit)) ⌝ }
+{
+    let mut i = 0;
+    while i < n {
+        let first = bids[4 * i + 2] as usize;
+        let count = bids[4 * i + 3] as usize;
+        let a = w * i;
+        let e = a + w;
+        mask_row(start, cells, windows, first, count, &mut out[a..e]);
+        i += 1;
     }
 }
