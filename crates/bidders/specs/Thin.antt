@@ -1,0 +1,54 @@
+-- Whether each cell has two bidders: a cell in no bid, else a cell in one bid alone, else neither.
+use mathlib.Core.Path.{_≡_}
+use mathlib.Core.Bool.{Bool, true, false, not}
+use mathlib.Core.List.{List}
+use Prim.Native.Nat.{ℕ, _*_, _-_, _≤_, _<_, min, max}
+use lib.ListN.{length, getD}
+use lib.Dec.{ltb, eqb}
+use Rattle.cells.specs.Cells.{cell}
+use Rattle.cover.specs.Sets.{bidders, each}
+use Rattle.rounds.specs.Market.{has}
+use Rattle.bidders.specs.declared.Thin.{Thin}
+use Rattle.bidders.specs.declared.Thin.the-variants.{Nobody, Alone, Enough}
+
+abbrev pub Says : (ℕ → ℕ → Bool) → ℕ → ℕ → Thin → Type 0
+Says has n L (Nobody x) = (x < L) × (bidders has n x ≡ 0)
+Says has n L (Alone x) = (each has n L 1 ≡ true) × ((x < L) × (bidders has n x ≡ 1))
+Says has n L Enough = each has n L 2 ≡ true
+
+-- n windows, each from a start to an end that is no earlier and within L cells
+pub record Spans (starts ends : List ℕ) (L : ℕ) : Type 0 where
+  pub same : length ends ≡ length starts
+  pub few : length starts ≤ 1000
+  pub ordered : (i : ℕ) → getD starts i 0 ≤ getD ends i 0
+  pub inside : (i : ℕ) → getD ends i 0 ≤ L
+
+-- how many of the first n numbers are x
+unfoldable pub times : List ℕ → ℕ → ℕ → ℕ
+times xs n x = bidders (λ i y. eqb (getD xs i 0) y) n x
+
+-- the cell x has fewer than m bidders
+unfoldable pub fewer : (ℕ → ℕ → Bool) → ℕ → ℕ → ℕ → Bool
+unfolding bidders
+fewer has n m x = ltb (bidders has n x) m
+
+-- the cell is not set
+unfoldable pub unset : List ℕ → ℕ → Bool
+unfolding cell
+unset words x = not (eqb (cell words x) 1)
+
+-- the cells of a mask are added to `one`, and to `two` where they were in `one` before
+pub record Merged (mask one two one′ two′ : List ℕ) : Type 0 where
+  pub once : (x : ℕ) → x < 64 * length mask → cell one′ x ≡ max (cell one x) (cell mask x)
+  pub twice : (x : ℕ) → x < 64 * length mask → cell two′ x ≡ max (cell two x) (min (cell one x) (cell mask x))
+
+-- the cells in some bid, and those in two or more, of n bids
+pub record Gathered (ms : List ℕ) (w n : ℕ) (one two : List ℕ) : Type 0 where
+  pub once : (x : ℕ) → x < 64 * w → cell one x ≡ min 1 (bidders (has ms w) n x)
+  pub twice : (x : ℕ) → x < 64 * w → cell two x ≡ min 1 (bidders (has ms w) n x - 1)
+
+-- r is the first number below L that passes, or L where there is none
+pub record FirstOf (P : ℕ → Bool) (L r : ℕ) : Type 0 where
+  pub inside : r ≤ L
+  pub here : r < L → P r ≡ true
+  pub before : (x : ℕ) → x < r → P x ≡ false

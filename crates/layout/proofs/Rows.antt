@@ -1,0 +1,95 @@
+-- Rows of words written one after the other into one list. Assumes nothing.
+use mathlib.Core.Path.{_≡_, refl, sym, ap, _∙_}
+use mathlib.Core.Bool.{Bool, true, false}
+use mathlib.Core.List.{List, _++_}
+use Prim.Native.Nat.{ℕ, zero, suc, _+_, _-_, _*_, _/_, _≤_, _<_, min}
+use native.Mathlib.Nat.{mul-le-mul-left, mul-suc}
+use native.Mathlib.Numerals.{add-one}
+use native.Mathlib.Omega.{arith}
+use lib.ListN.{length, getD, take, drop, length-take, length-drop, List·getD-append, List·getD-eq-default}
+use lib.Seq.{ext-getD, getD-take, getD-drop, take-at, drop-at, length-take-le}
+use lib.Dec.{ltb}
+use borrow.Author.Tests.{ltb-true, ltb-false}
+use borrow.Rule.Slice.PartMut.{midOf, putMid, same-len-mid, drop-put}
+use Rattle.tender.specs.Tables.{own}
+use Rattle.rounds.specs.Market.{row}
+use Rattle.rounds.proofs.Rows.{part-row}
+use Rattle.layout.specs.Orderly.{rowAt, Masked, AllMasked}
+
+pub row-within : (w n i : ℕ) → i < n → w * i + w ≤ w * n
+row-within w n i l = omega (arith, mul-le-mul-left w l, mul-suc w i)
+
+module _ (ms : List ℕ) (w n i : ℕ) (size : length ms ≡ w * n) (l : i < n) where
+  pub row-size : length (row ms w i) ≡ w
+  unfolding row
+  row-size = simp (length-take, length-drop) (omega (arith, row-within w n i l))
+
+  pub row-zero : ((q : ℕ) → w * i ≤ q → getD ms q 0 ≡ 0) → (q : ℕ) → getD (row ms w i) q 0 ≡ 0
+  unfolding row
+  row-zero z q = go (ltb q w) refl
+    where
+      go : (b : Bool) → ltb q w ≡ b → getD (take w (drop (w * i) ms)) q 0 ≡ 0
+      go true t = getD-take w (drop (w * i) ms) q 0 (ltb-true q w t) ∙ getD-drop (w * i) ms q 0 ∙ z (w * i + q) (omega arith)
+      go false t = List·getD-eq-default (take w (drop (w * i) ms)) 0 {n = q} (simp (length-take, length-drop) (omega (arith, ltb-false q w t)))
+
+pub row-same : (ms ms′ : List ℕ) (w j : ℕ) → length ms ≡ length ms′ → ((q : ℕ) → q < w * j + w → getD ms q 0 ≡ getD ms′ q 0) → row ms w j ≡ row ms′ w j
+unfolding row
+row-same ms ms′ w j e h = ext-getD 0 (take w (drop (w * j) ms)) (take w (drop (w * j) ms′)) (simp (length-take, length-drop) (ap (λ (m : ℕ). min w (m - w * j)) e))
+    (λ q l. let b : q < w = omega (arith, length-take w (drop (w * j) ms)) in
+    getD-take w (drop (w * j) ms) q 0 b ∙ getD-drop (w * j) ms q 0 ∙ h (w * j + q) (omega arith) ∙ sym (getD-drop (w * j) ms′ q 0) ∙ sym (getD-take w (drop (w * j) ms′) q 0 b))
+
+-- rows before i are written, and no word from row i on is set
+pub record Writing (n start L w : ℕ) (bids windows : List ℕ) (i : ℕ) (ms : List ℕ) : Type 0 where
+  pub size : length ms ≡ w * n
+  pub done : AllMasked i start L w bids windows ms
+  pub rest : (q : ℕ) → w * i ≤ q → getD ms q 0 ≡ 0
+
+pub writing-starts : (n start L w : ℕ) (bids windows ms : List ℕ) → length ms ≡ w * n → ((q : ℕ) → getD ms q 0 ≡ 0) → Writing n start L w bids windows 0 ms
+writing-starts n start L w bids windows ms e z = record { size = e; done = record { each = λ j l. absurd (omega arith) }; rest = λ q l. z q }
+
+module _ (n start L w : ℕ) (bids windows : List ℕ) (i : ℕ) (ms ys : List ℕ) (g : Writing n start L w bids windows i ms) (l : i < n)
+    (m : Masked start L (own windows (rowAt bids i)) ys) (e : length ys ≡ length (midOf (w * i) (w * i + w - w * i) ms)) where
+  abbrev new : List ℕ
+  new = putMid (w * i) (w * i + w - w * i) ms ys
+
+  wide : length ys ≡ w
+  wide = e ∙ ap length (part-row ms w i) ∙ row-size ms w n i (g .size) l
+
+  fits : w * i ≤ length ms
+  fits = omega (arith, g .size, row-within w n i l)
+
+  front : length (take (w * i) ms) ≡ w * i
+  front = length-take-le (w * i) ms fits
+
+  same-size : length new ≡ length ms
+  same-size = same-len-mid (w * i) (w * i + w - w * i) ms ys e
+
+  before : (q : ℕ) → q < w * i → getD new q 0 ≡ getD ms q 0
+  before q h = List·getD-append (take (w * i) ms) _ 0 q (omega (arith, front)) ∙ getD-take (w * i) ms q 0 h
+
+  after : (q : ℕ) → w * i + w ≤ q → getD new q 0 ≡ getD ms q 0
+  after q h =
+      let c : w * i + w + (q - (w * i + w)) ≡ q = omega arith in
+      sym (ap (λ (k : ℕ). getD new k 0) c) ∙ sym (getD-drop (w * i + w) new (q - (w * i + w)) 0)
+      ∙ ap (λ (zs : List ℕ). getD zs (q - (w * i + w)) 0) (drop-put (w * i) (w * i + w) ms ys (omega arith) (omega (arith, g .size, row-within w n i l)) (omega (arith, wide)))
+      ∙ getD-drop (w * i + w) ms (q - (w * i + w)) 0 ∙ ap (λ (k : ℕ). getD ms k 0) c
+
+  here : row new w i ≡ ys
+  unfolding row
+  here = ap (take w) (drop-at (take (w * i) ms) _ (w * i) front) ∙ take-at ys _ w wide
+
+  pub writing-more : Writing n start L w bids windows (i + 1) new
+  writing-more = record { size = same-size ∙ g .size; done = record { each = rows }; rest = λ q h. after q (omega (arith, mul-add-one w i)) ∙ g .rest q (omega (arith, mul-add-one w i)) }
+    where
+      mul-add-one : (w i : ℕ) → w * (i + 1) ≡ w * i + w
+      mul-add-one w i = ap (λ (k : ℕ). w * k) (add-one i) ∙ mul-suc w i
+
+      rows : (j : ℕ) → j < i + 1 → Masked start L (own windows (rowAt bids j)) (row new w j)
+      rows j h = go (ltb j i) refl
+        where
+          go : (b : Bool) → ltb j i ≡ b → Masked start L (own windows (rowAt bids j)) (row new w j)
+          go true t = rw (row-same new ms w j same-size (λ q d. before q (omega (arith, row-within w i j (ltb-true j i t))))) (g .done .each j (ltb-true j i t))
+          go false t = let d : j ≡ i = omega (arith, ltb-false j i t) in rw (d, here) m
+
+pub writing-ends : (n start L w : ℕ) (bids windows : List ℕ) (i : ℕ) (ms : List ℕ) → Writing n start L w bids windows i ms → i ≡ n → AllMasked n start L w bids windows ms
+writing-ends n start L w bids windows i ms g e = rw e at (g .done)
