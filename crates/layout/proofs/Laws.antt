@@ -18,6 +18,7 @@ use Rattle.cells.proofs.Bit.{zero-bit}
 use Rattle.tables.specs.Cells.{holds, pricesOf}
 use Rattle.tables.specs.AlikeLaws.{rows-length, prices-length, price-named, windows-step}
 use Rattle.tables.proofs.Walk.{ahead, ahead-more}
+use Rattle.layout.specs.LayoutLaws.{in-cell}
 use Rattle.layout.specs.Orderly.{rowAt, Orderly, clipped, Masked}
 
 -- a list filled from the front
@@ -31,37 +32,6 @@ filled-more f out i l h v e j m = go (ltb j i) refl
 
 pub prices-are : (bids out : List ℕ) (n : ℕ) → length out ≡ n → ((j : ℕ) → j < n → getD out j 0 ≡ getD bids (4 * j + 1) 0) → out ≡ pricesOf (rowsOf n bids)
 prices-are bids out n e h = ext-getD 0 out (pricesOf (rowsOf n bids)) (e ∙ sym (prices-length (rowsOf n bids) ∙ rows-length n bids)) (λ j l. h j (omega arith) ∙ sym (price-named n j bids (omega arith)))
-
--- a window's cells
-
-in-cell : (s e start L x : ℕ) → (leb (clipped start L s) x && ltb x (clipped start L e)) ≡ (ltb x L && (leb s (start + x) && ltb (start + x) e))
-in-cell s e start L x = go (ltb x L) refl
-  where
-    low : x < L → leb (clipped start L s) x ≡ leb s (start + x)
-    low l = side (leb s (start + x)) refl
-      where
-        side : (b : Bool) → leb s (start + x) ≡ b → leb (clipped start L s) x ≡ b
-        side true t = le-leb (clipped start L s) x (omega (arith, leb-true s (start + x) t))
-        side false t = lt-leb (clipped start L s) x (omega (arith, leb-false s (start + x) t))
-
-    high : x < L → ltb x (clipped start L e) ≡ ltb (start + x) e
-    high l = side (ltb (start + x) e) refl
-      where
-        side : (b : Bool) → ltb (start + x) e ≡ b → ltb x (clipped start L e) ≡ b
-        side true t = lt-ltb x (clipped start L e) (omega (arith, ltb-true (start + x) e t))
-        side false t = le-ltb x (clipped start L e) (omega (arith, ltb-false (start + x) e t))
-
-    off : (a b : Bool) → b ≡ false → (a && b) ≡ false
-    off true b e = e
-    off false b e = refl
-
-    go : (b : Bool) → ltb x L ≡ b → (leb (clipped start L s) x && ltb x (clipped start L e)) ≡ (b && (leb s (start + x) && ltb (start + x) e))
-    go true t = rw (low (ltb-true x L t), high (ltb-true x L t))
-    go false t = off (leb (clipped start L s) x) (ltb x (clipped start L e)) (le-ltb x (clipped start L e) (omega (arith, ltb-false x L t)))
-
-pub one-window : (s e start L x : ℕ) → (leb (clipped start L s) x && ltb x (clipped start L e)) ≡ (ltb x L && holds (record { start = s; end = e } ∷ []) (start + x))
-unfolding holds
-one-window s e start L x = in-cell s e start L x ∙ ap (λ b. ltb x L && b) (sym (or-false (leb s (start + x) && ltb (start + x) e)))
 
 -- the words have the cells of the windows passed, those from j on being left
 pub record Masking (start L : ℕ) (windows : List ℕ) (first count j : ℕ) (words : List ℕ) : Type 0 where
@@ -141,12 +111,6 @@ module _ (k : Kind) (n : ℕ) (bids windows : List ℕ) (o : Orderly k n bids wi
 
   pub first-room : rowAt bids i .first + 1 ≤ length windows / 2
   first-room = omega (arith, row-room, some-window)
-
-pub clip-order : (start L s e : ℕ) → s ≤ e → clipped start L s ≤ clipped start L e
-clip-order start L s e l = omega arith
-
-pub clip-inside : (start L s : ℕ) → clipped start L s ≤ L
-clip-inside start L s = omega arith
 
 -- the window passed next is lawful, and so are those after it
 pub here-lawful : (windows : List ℕ) (first count j : ℕ) → j < count → ahead windows first count j ≡ true →

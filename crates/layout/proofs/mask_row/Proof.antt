@@ -8,7 +8,8 @@ use lib.Dec.{leb, ltb}
 use borrow.Author.Tests.{ltb-true}
 use Rattle.cover.specs.SetLaws.{and-split}
 use Rattle.tables.proofs.Walk.{ahead, ahead-start, ahead-more}
-use Rattle.layout.proofs.Laws.{Masking, masking-starts, masking-more, masking-ends, clip-order, clip-inside, here-lawful}
+use Rattle.layout.proofs.Laws.{Masking, masking-starts, masking-more, masking-ends, here-lawful}
+use Rattle.layout.specs.LayoutLaws.{clip-order, clip-inside}
 use Rattle.layout.proofs.mask_row.Statement.{statement}
 use Rattle.layout.proofs.mask_row.Tie as tie
 use Rattle.layout.proofs.mask_row.Reads as reads
