@@ -2,7 +2,7 @@
 use mathlib.Core.Path.{_≡_}
 use mathlib.Core.Bool.{Bool, true, cond}
 use mathlib.Core.List.{List}
-use Prim.Native.Nat.{ℕ}
+use Prim.Native.Nat.{ℕ, _≤_}
 use lib.ListN.{length, getD}
 use lib.Dec.{eqb}
 use Rattle.cover.specs.Sets.{Found, nothing, cost}
@@ -13,10 +13,10 @@ use Rattle.cover.specs.Intervals.{costOf, raise, leastSet, coversFrom, O
 abbrev pub anyBid : ℕ → Bool
 anyBid i = true
 
--- the lists are as long as the prices, and `order` has the bids in order of start
+-- a start and an end for each price, and `order` has the bids in order of start
 pub record Bids (a b ps order : List ℕ) : Type 0 where
-  pub starts : length a ≡ length ps
-  pub ends : length b ≡ length ps
+  pub starts : length ps ≤ length a
+  pub ends : length ps ≤ length b
   pub sorted : Order (length ps) (λ i. getD a i 0) (λ q. getD order q 0)
 
 -- the sets of the bids below n that cover the cells below t

@@ -2,10 +2,12 @@
 use mathlib.Core.Path.{_≡_, refl, sym, ap, _∙_}
 use mathlib.Core.Bool.{Bool, true, false, cond, not, _&&_}
 use mathlib.Core.List.{List, [], _∷_}
-use Prim.Native.Nat.{ℕ, zero, suc, _+_, _/_, _^_, _≤_, _<_}
+use Prim.Native.Nat.{ℕ, zero, suc, _+_, _*_, _/_, _%_, _^_, _≤_, _<_}
+use native.Mathlib.Nat.{pow-suc}
 use native.Mathlib.Omega.{arith}
 use lib.Dec.{ltb, leb, eqb}
 use lib.ListN.{length, getD}
+use borrow.Author.Tests.{ne-eqb}
 use Rattle.cover.specs.Sets.{Found, nothing, found, valueOf, bit, cost, covers, when}
 use Rattle.cover.specs.LeastCover.{winners, without, payment, vcgPaid}
 use Rattle.cover.specs.LeastCoverLaws.{IsFirst}
@@ -13,9 +15,9 @@ use Rattle.cover.specs.CriticalPrice.{sum}
 use Rattle.cover.specs.Settled.{spans}
 use Rattle.cover.specs.SetMembers.{cost-none}
 use Rattle.cover.specs.Intervals.{costOf, scanCost, lesserCost, raise, across, leastSet, reaches, At, coversFrom, others}
-use Rattle.cover.specs.IntervalScan.{found-one, none-found}
-use Rattle.cover.specs.IntervalPrefix.{Prefixes, leastSet-right, upper-cost, start, scan-cost, cost-plus}
-use Rattle.cover.specs.IntervalCover.{covers-prefixes, without-prefixes, priced}
+use Rattle.cover.specs.IntervalScan.{found-one, none-found, Family, least-same, right-least}
+use Rattle.cover.specs.IntervalPrefix.{Prefixes, leastSet-right, leastSet-is, upper-cost, start, scan-cost, cost-plus}
+use Rattle.cover.specs.IntervalCover.{covers-prefixes, without-prefixes, priced, split}
 use Rattle.cover.specs.IntervalSplit.{unneeded}
 use Rattle.cover.specs.IntervalPay.{cost-without}
 use Rattle.cover.specs.IntervalAward.{winners-are, paid-is, whole}
@@ -167,3 +169,26 @@ module _ (k : ℕ) (a b ps : List ℕ) where
           → cond (reaches (λ i. getD a i 0) (λ i. getD b i 0) anyBid xs (getD b k 0) q) (lesserCost (g q) r) r
           ≡ cond (reaches (λ i. getD a i 0) (λ i. getD b i 0) (others k anyBid) xs (getD b k 0) q) (lesserCost (v q) r) r
       same q d r = rw (values q d) (drop-one (eqb (xs q) k) (ltb (getD a (xs q) 0) (getD b k 0) && leb (getD b k 0) (getD b (xs q) 0)) (v q) r)
+
+bit-past : (n s : ℕ) → s < 2 ^ n → bit s n ≡ false
+unfolding bit
+bit-past zero s l = ne-eqb (s % 2) 1 (λ e. omega arith)
+bit-past (suc n) s l = bit-past n (s / 2) (omega (arith, pow-suc 2 n))
+
+-- there is no bid past the last
+pub without-past : (a b ps : List ℕ) (t : ℕ) → costWithout (length ps) a b ps t ≡ costBelow a b ps t
+unfolding costWithout costBelow leastBelow othersBelow without
+without-past a b ps t = ap (costOf (cost ps)) (sym (leastSet-is (λ t s. without (length ps) (coversBelow a b (length ps) t) s) (cost ps) (length ps) t r
+    (least-same (Family (coversBelow a b (length ps) t) (2 ^ length ps)) (Family (λ s. without (length ps) (coversBelow a b (length ps) t) s) (2 ^ length ps)) (cost ps)
+    (λ s q. record { inside = q .inside; good = rw (q .good, bit-past (length ps) s (q .inside)) })
+    (λ s q. record { inside = q .inside; good = split (coversBelow a b (length ps) t s) (bit s (length ps)) (q .good) .0 })
+    r (right-least (coversBelow a b (length ps) t) (cost ps) (2 ^ length ps) r (leastSet-right (coversBelow a b (length ps)) (cost ps) (length ps) t)))))
+  where
+    r : Found
+    r = leastSet (coversBelow a b (length ps)) (cost ps) (length ps) t
+
+-- a price for each of n bids at most
+pub sum-most : (ps : List ℕ) → ((i : ℕ) → i < length ps → getD ps i 0 ≤ 100000000) → sum ps ≤ length ps * 100000000
+unfolding sum
+sum-most [] f = omega arith
+sum-most (p ∷ ps) f = omega (arith, f 0 (omega arith), sum-most ps (λ i l. f (suc i) (omega arith)))

@@ -31,3 +31,4 @@ pub mod IntervalStays
 pub mod IntervalBids
 pub mod IntervalBidsLaws
 pub mod SettledLaws
+pub mod IntervalMirror

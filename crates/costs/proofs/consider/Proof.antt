@@ -1,0 +1,28 @@
+use Rattle.select.specs.RowLaws.{reached-yes, reached-not, reached-far}
+use mathlib.Core.Path.{_∙_}
+use native.Mathlib.Omega.{arith}
+use borrow.Author.Needs.{needs}
+use Rattle.costs.proofs.consider.Statement.{statement}
+use Rattle.costs.proofs.consider.Tie as tie
+use Rattle.costs.proofs.consider.Reads as reads
+use Rattle.costs.proofs.consider.Lts as lts
+use Rattle.costs.proofs.cheaper.Reads as cheaper-reads
+
+-- src/lib.rt:35:13
+cheaper-requires : tie.Need-cheaper-requires
+cheaper-requires c κs = search needs
+
+-- src/lib.rt:35:13
+returns : tie.Need-returns
+returns c = c .cheaper .ensures ∙ reached-yes _ _ _ _ _ (c .before .before .if1 .taken) (c .before .if2 .taken)
+
+-- src/lib.rt:29:1
+returns-2 : tie.Need-returns-2
+returns-2 c = reached-not _ _ _ _ _ (c .before .if1 .taken) (c .if2 .left)
+
+-- src/lib.rt:29:1
+returns-3 : tie.Need-returns-3
+returns-3 c = reached-far _ _ _ _ _ (c .if1 .left)
+
+pub consider-spec : {M : Type 1} → statement M
+consider-spec = tie.close (tie.spec cheaper-requires returns returns-2 returns-3)

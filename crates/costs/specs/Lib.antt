@@ -1,0 +1,4 @@
+pub mod Run
+pub mod RunLaws
+pub mod Across
+pub mod AcrossLaws
