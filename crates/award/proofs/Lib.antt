@@ -1,1 +1,2 @@
 pub mod Multi
+pub mod Prefix

@@ -60,3 +60,32 @@ fn multi_in(
         Thin::Enough => Answer::Awarded(multi::award(prices, masks, w, cells as usize, won, cents)),
     }
 }
+
+// A faultless multi tender.
+fn settle_multi(
+    tender: Tender,
+    count: usize,
+    bids: &[u64],
+    windows: &[u64],
+    won: &mut [u64],
+    cents: &mut [u64],
+) -> Answer
+    requires { ⌜ (faultOf Multi tender count (now bids) (now windows) ≡ none) × ((count ≤ length (now won)) × (count ≤ length (now cents))) ⌝ }
+    ensures { λ r. ⌜ PlainPromise Multi tender count (now (bids .entry)) (now (windows .entry)) count (now (won .entry)) (now (cents .entry)) (now (won .exit)) (now (cents .exit)) r ⌝ }
+{
+    let window = tender.window;
+    let w = ((window.end - window.start) as usize + 63) / 64;
+    let all = w * count;
+    let mut prices = [0u64; 1000];
+    let mut masks = [0u64; 158000];
+    multi_in(
+        tender,
+        w,
+        bids,
+        windows,
+        &mut prices[..count],
+        &mut masks[..all],
+        won,
+        cents,
+    )
+}
