@@ -6,7 +6,7 @@ use tender::Refusal;
 use tender::Tender;
 ghost use mathlib.Core.Path.{_≡_};
 ghost use mathlib.Core.Option.{none};
-ghost use Prim.Native.Nat.{ℕ, _+_, _*_, _/_, _≤_};
+ghost use Prim.Native.Nat.{ℕ, _+_, _*_, _/_, _≤_, min};
 ghost use lib.ListN.{length, getD};
 ghost use Rattle.tender.specs.declared.Kind.the-variants.{Single, Multi};
 ghost use Rattle.tables.specs.Faults.{faultOf};
@@ -88,4 +88,39 @@ fn settle_multi(
         won,
         cents,
     )
+}
+
+// A faultless single tender of as many bids as `prices` has places, with room lent for prices, starts and ends.
+fn single_in(
+    tender: Tender,
+    bids: &[u64],
+    windows: &[u64],
+    prices: &mut [u64],
+    starts: &mut [u64],
+    ends: &mut [u64],
+    won: &mut [u64],
+    cents: &mut [u64],
+) -> Answer
+    requires { ⌜ (faultOf Single tender (length (now prices)) (now bids) (now windows) ≡ none) × ((length (now starts) ≡ length (now prices)) × ((length (now ends) ≡ length (now prices))
+        × ((length (now prices) ≤ length (now won)) × (length (now prices) ≤ length (now cents))))) ⌝ }
+    ensures { λ r. ⌜ PlainPromise Single tender (length (now (prices .entry))) (now (bids .entry)) (now (windows .entry)) (length (now (prices .entry)))
+        (now (won .entry)) (now (cents .entry)) (now (won .exit)) (now (cents .exit)) r ⌝ }
+{
+    let window = tender.window;
+    let start = window.start;
+    let cells = window.end - window.start;
+    layout::prices(bids, prices);
+    layout::spans(start, cells, bids, windows, starts, ends);
+    let thin = bidders::thin_spans(starts, ends, cells as usize);
+    match thin {
+        // 11: a minute in no bid.
+        Thin::Nobody { cell } => Answer::Refused(Refusal::MinuteUncovered {
+            minute: start + cell,
+        }),
+        // 12: a minute in one bid.
+        Thin::Alone { cell } => Answer::Refused(Refusal::OneBidder {
+            minute: start + cell,
+        }),
+        Thin::Enough => Answer::Awarded(single::award(starts, ends, prices, cells, won, cents)),
+    }
 }
