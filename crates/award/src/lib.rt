@@ -2,6 +2,8 @@
 // `specs/` has what each award answers (`Award`), the promise over plain cells (`Plain`), the laws, the worked tenders and
 // the demands.
 use bidders::Thin;
+use tables::Check;
+use tender::Kind;
 use tender::Refusal;
 use tender::Tender;
 ghost use mathlib.Core.Path.{_≡_};
@@ -123,4 +125,84 @@ fn single_in(
         }),
         Thin::Enough => Answer::Awarded(single::award(starts, ends, prices, cells, won, cents)),
     }
+}
+
+// A faultless single tender.
+fn settle_single(
+    tender: Tender,
+    count: usize,
+    bids: &[u64],
+    windows: &[u64],
+    won: &mut [u64],
+    cents: &mut [u64],
+) -> Answer
+    requires { ⌜ (faultOf Single tender count (now bids) (now windows) ≡ none) × ((count ≤ length (now won)) × (count ≤ length (now cents))) ⌝ }
+    ensures { λ r. ⌜ PlainPromise Single tender count (now (bids .entry)) (now (windows .entry)) count (now (won .entry)) (now (cents .entry)) (now (won .exit)) (now (cents .exit)) r ⌝ }
+{
+    let mut prices = [0u64; 1000];
+    let mut starts = [0u64; 1000];
+    let mut ends = [0u64; 1000];
+    single_in(
+        tender,
+        bids,
+        windows,
+        &mut prices[..count],
+        &mut starts[..count],
+        &mut ends[..count],
+        won,
+        cents,
+    )
+}
+
+// The award of this kind where `lent` award rows are lent: first 9, then 10, then the tender itself.
+pub fn settle_in(
+    kind: Kind,
+    tender: Tender,
+    count: usize,
+    bids: &[u64],
+    windows: &[u64],
+    lent: usize,
+    won: &mut [u64],
+    cents: &mut [u64],
+) -> Answer
+    requires { ⌜ (min lent 1000 ≤ length (now won)) × (min lent 1000 ≤ length (now cents)) ⌝ }
+    ensures { λ r. ⌜ PlainPromise kind tender count (now (bids .entry)) (now (windows .entry)) lent (now (won .entry)) (now (cents .entry)) (now (won .exit)) (now (cents .exit)) r ⌝ }
+{
+    let check = tables::fault(kind, tender, count, bids, windows);
+    if let Check::Faulty { row } = check {
+        // 9: the tables break a rule.
+        return Answer::Refused(Refusal::BadTables { row });
+    }
+    if lent < count {
+        // 10: fewer award rows than bids.
+        return Answer::Refused(Refusal::RowsTooFew);
+    }
+    match kind {
+        Kind::Single => settle_single(tender, count, bids, windows, won, cents),
+        Kind::Multi => settle_multi(tender, count, bids, windows, won, cents),
+    }
+}
+
+fn lesser(a: usize, b: usize) -> usize
+    ensures { λ r. ⌜ r ≡ min a b ⌝ }
+{
+    if a < b { a } else { b }
+}
+
+// The award of this kind over plain cells: for each bid a flag, 1 for a winner, and the cents paid. There are as many
+// award rows as both lists have places.
+pub fn settle(
+    kind: Kind,
+    tender: Tender,
+    count: usize,
+    bids: &[u64],
+    windows: &[u64],
+    won: &mut [u64],
+    cents: &mut [u64],
+) -> Answer
+    ensures { λ r. ⌜ PlainPromise kind tender count (now (bids .entry)) (now (windows .entry)) (min (length (now (won .entry))) (length (now (cents .entry))))
+        (now (won .entry)) (now (cents .entry)) (now (won .exit)) (now (cents .exit)) r ⌝ }
+{
+    let lent = lesser(won.len(), cents.len());
+    settle_in(kind, tender, count, bids, windows, lent, won, cents)
 }
