@@ -9,11 +9,12 @@ use tender::Tender;
 ghost use mathlib.Core.Path.{_≡_};
 ghost use mathlib.Core.Option.{none};
 ghost use Prim.Native.Nat.{ℕ, _+_, _*_, _/_, _≤_, min};
-ghost use lib.ListN.{length, getD};
+ghost use mathlib.Core.List.{_++_};
+ghost use lib.ListN.{length, getD, drop};
 ghost use Rattle.tender.specs.declared.Kind.the-variants.{Single, Multi};
 ghost use Rattle.tables.specs.Faults.{faultOf};
 ghost use Rattle.tables.specs.Cells.{cellsOf};
-ghost use Rattle.award.specs.Plain.{PlainPromise};
+ghost use Rattle.award.specs.Plain.{PlainPromise, rowsIn};
 
 // The row that an award fills for a bid: won or lost, and the cents paid.
 pub struct AwardRow {
@@ -205,4 +206,19 @@ pub fn settle(
 {
     let lent = lesser(won.len(), cents.len());
     settle_in(kind, tender, count, bids, windows, lent, won, cents)
+}
+
+// Fills one award row for each of the n bids, in entry order, from its flag and cents. Rows past the last bid stay.
+pub fn fill(rows: &mut [AwardRow], won: &[u64], cents: &[u64], n: usize)
+    requires { ⌜ (n ≤ length (now rows)) × ((n ≤ length (now won)) × (n ≤ length (now cents))) ⌝ }
+    ensures { λ _. ⌜ now (rows .exit) ≡ rowsIn n (now (won .entry)) (now (cents .entry)) ++ drop n (now (rows .entry)) ⌝ }
+{
+    let mut i = 0;
+    while i < n {
+        rows[i] = AwardRow {
+            won: won[i] == 1,
+            cents: cents[i],
+        };
+        i += 1;
+    }
 }
