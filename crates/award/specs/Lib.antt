@@ -15,3 +15,4 @@ pub mod OneAnswerLaws
 pub mod TextOutcomes
 pub mod PlainLaws
 pub mod Rows
+pub mod RowsPromise
