@@ -1,6 +1,7 @@
-// The two awards on tables. `settle` answers over plain cells: a flag and the cents paid for each bid.
-// `specs/` has what each award answers (`Award`), the promise over plain cells (`Plain`), the laws, the worked tenders and
-// the demands.
+// The awards on tables. `settle` answers every call over plain cells: a flag and the cents paid for each bid. `settle_in`
+// does so for a stated number of award rows, and `fill` fills a lent slice of row structs from the cells.
+// `specs/` has what an award answers (`Award`), the promise over plain cells (`Plain`) and on rows (`RowsPromise`), the
+// worked tenders and the demands.
 use bidders::Thin;
 use tables::Check;
 use tender::Kind;

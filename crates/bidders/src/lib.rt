@@ -113,9 +113,11 @@ pub fn thin_masks(masks: &[u64], w: usize, n: usize, cells: usize) -> Thin
     let mut one = [0u64; 158];
     let mut two = [0u64; 158];
     gather(masks, w, n, &mut one, &mut two);
-    let bare = first_unset(&one, cells);
-    if bare < cells {
-        return Thin::Nobody { cell: bare as u64 };
+    let missing = first_unset(&one, cells);
+    if missing < cells {
+        return Thin::Nobody {
+            cell: missing as u64,
+        };
     }
     let lone = first_unset(&two, cells);
     if lone < cells {
