@@ -145,7 +145,7 @@ pub(crate) fn read_bids(
     rows: &mut [u64],
     windows: &mut [u64],
 ) -> Bids
-    requires { ⌜ (at ≤ length (now text)) × (now used ≡ replicate 15625 0) × (length (now rows) ≡ 4000) × (length (now windows) ≡ 64000) ⌝ }
+    requires { ⌜ (at ≤ length (now text)) × (length (now text) ≤ 65536) × (now used ≡ replicate 15625 0) × (length (now rows) ≡ 4000) × (length (now windows) ≡ 22000) ⌝ }
     ensures { λ r. ⌜ Filled kind (linesOf (cut 10 (drop at (now (text .entry))))) r (now (rows .exit)) (now (windows .exit)) ⌝ }
 {
     let mut k: usize = 0;

@@ -44,7 +44,7 @@ slice-aggregate-read-bids-3 c = search needs
 -- src/lib.rt:77:19
 read-bids-requires : tie.Need-read-bids-requires
 read-bids-requires c κs = let b = opened-tender (c .before .before .before .before .before .before .before .before .before .before .before .before .before .args .text .now) _ (c .before .before .before .before .before .before .before .read-first .ensures) _ _ (c .before .before .before .before .t .given .1) in
-    (b .inside, refl, length-replicate {A = ℕ} 4000 0, c .before .before .before .before .before .before .before .read-first .kept .1 .0 ∙ length-replicate {A = ℕ} 64000 0)
+    (b .inside, c .before .before .before .before .before .before .before .before .before .if1 .left, refl, length-replicate {A = ℕ} 4000 0, c .before .before .before .before .before .before .before .read-first .kept .1 .0 ∙ length-replicate {A = ℕ} 22000 0)
 
 -- src/lib.rt:78:30
 enum-known-k : tie.Need-enum-known-k
@@ -86,7 +86,7 @@ mul-copy-2 c = let h = filled-held _ _ _ _ _ (c .before .before .before .before 
 -- src/lib.rt:86:21
 copy-requires-2 : tie.Need-copy-requires-2
 copy-requires-2 c κs = let h = filled-held _ _ _ _ _ (c .before .before .before .before .before .before .before .before .before .before .before .before .before .before .before .read-bids .ensures) _ _ (c .before .before .before .before .before .before .before .before .before .before .k .given .1) in
-    (omega (arith, h .few-windows, c .before .before .before .before .before .before .before .before .before .before .before .before .before .before .before .read-bids .kept .1 .1 .1 .1 .1 .0, c .before .before .before .before .before .before .before .before .before .before .before .before .before .before .before .before .before .before .before .before .before .before .before .read-first .kept .1 .0, length-replicate {A = ℕ} 64000 0), omega (arith, c .before .before .before .before .before .before .before .if3 .left))
+    (omega (arith, h .few-windows, c .before .before .before .before .before .before .before .before .before .before .before .before .before .before .before .read-bids .kept .1 .1 .1 .1 .1 .0, c .before .before .before .before .before .before .before .before .before .before .before .before .before .before .before .before .before .before .before .before .before .before .before .read-first .kept .1 .0, length-replicate {A = ℕ} 22000 0), omega (arith, c .before .before .before .before .before .before .before .if3 .left))
 
 -- src/lib.rt:89:31
 enum-known-r : tie.Need-enum-known-r

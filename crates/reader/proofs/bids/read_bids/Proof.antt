@@ -1,5 +1,5 @@
 -- `bids::read_bids` meets its contract: the lines before the walk's place are in the tables. Assumes nothing.
-use Prim.Native.Nat.{ℕ, _+_, _-_, _≤_}
+use Prim.Native.Nat.{ℕ, _+_, _-_, _*_, _≤_}
 use mathlib.Core.Path.{_≡_, refl, sym, ap, _∙_}
 use native.Mathlib.Omega.{arith}
 use borrow.Author.Needs.{needs}
@@ -7,7 +7,7 @@ use lib.ListN.{length, take, drop}
 use Rattle.scan.specs.Words.{cut}
 use Rattle.scan.specs.Line.{lineOf, linesOf}
 use Rattle.scan.specs.ScanLaws.{lines-at, lines-end}
-use Rattle.reader.proofs.Fills.{Walk, begins, goes, stops, breaks, ends, ends-at, ends-broken}
+use Rattle.reader.proofs.Fills.{Walk, begins, goes, stops, breaks, ends, ends-at, ends-broken, room-for, taken-room}
 use Rattle.reader.proofs.bids.read_bids.Statement.{statement}
 use Rattle.reader.proofs.bids.read_bids.Tie as tie
 use Rattle.reader.proofs.bids.read_bids.Reads as reads
@@ -16,14 +16,14 @@ use Rattle.reader.proofs.bids.take_line.Reads as take-line-reads
 use Rattle.scan.proofs.words.line_end.Reads as line-end-reads
 
 abbrev Inv-loop : tie.InvT-loop
-Inv-loop text at kind used₀ rows₀ windows₀ k₀ m₀ i₀ used rows windows k m i = Walk kind (linesOf (cut 10 (drop at text))) (linesOf (cut 10 (drop i text))) k m used rows windows × (i ≤ length text) × (length used ≡ length used₀) × (length rows ≡ length rows₀) × (length windows ≡ length windows₀)
+Inv-loop text at kind used₀ rows₀ windows₀ k₀ m₀ i₀ used rows windows k m i = Walk kind (linesOf (cut 10 (drop at text))) (linesOf (cut 10 (drop i text))) k m used rows windows × (i ≤ length text) × (length used ≡ length used₀) × (length rows ≡ length rows₀) × (length windows ≡ length windows₀) × (6 * m ≤ i) × (length text ≤ 65536)
 
 abbrev μ-loop : tie.MeasureT-loop
 μ-loop text at kind used₀ rows₀ windows₀ k₀ m₀ i₀ used rows windows k m i = length text - i
 
 -- src/bids.rt:103:5
 loop-holds : tie.Need-loop-holds Inv-loop μ-loop
-loop-holds c = (begins _ _ _ _ _ (c .before .before .before .before .pre .1) (c .before .before .before .before .pre .2) (c .before .before .before .before .pre .3), c .before .before .before .before .pre .0, refl, refl, refl)
+loop-holds c = (begins _ _ _ _ _ (c .before .before .before .before .pre .2) (c .before .before .before .before .pre .3) (c .before .before .before .before .pre .4), c .before .before .before .before .pre .0, refl, refl, refl, omega arith, c .before .before .before .before .pre .1)
 
 -- src/bids.rt:104:15
 line-end-requires : tie.Need-line-end-requires Inv-loop μ-loop
@@ -61,7 +61,7 @@ add-k c = omega (arith, c .before .before .before .before .before .before .befor
 add-m : tie.Need-add-m Inv-loop μ-loop
 add-m c = let b = ends-at (c .before .before .before .before .before .before .before .before .before .before .before .before .before .before .before .before .before .before .before .before .before .before .before .before .args .text .now) (c .before .before .before .before .before .before .before .before .before .before .before .before .before .before .before .before .before .before .before .loop .i) _ (c .before .before .before .before .before .before .before .before .before .before .before .before .before .before .before .before .before .line-end .ensures) _ (c .before .before .before .before .before .before .before .before .before .before .before .before .before .before .before .e .given .1) in
     let w = goes _ _ _ _ _ _ _ _ _ _ _ _ (rw (lines-at (c .before .before .before .before .before .before .before .before .before .before .before .before .before .before .before .before .before .before .before .before .before .before .before .before .args .text .now) (c .before .before .before .before .before .before .before .before .before .before .before .before .before .before .before .before .before .before .before .loop .i) _ (b .0) (b .1)) at (c .before .before .before .before .before .before .before .before .before .before .before .before .before .before .before .before .before .before .before .loop .inv .0)) _ (c .before .before .before .before .before .before .before .before .before .take-line .ensures)
-    (c .before .before .before .before .before .before .before .before .before .take-line .kept .1 .1 .1 .1 .0) (c .before .before .before .before .before .before .before .before .before .take-line .kept .1 .1 .1 .1 .1 .0) (c .before .before .before .before .before .before .before .before .before .take-line .kept .1 .1 .1 .1 .1 .1 .0) _ (c .before .count .given .1) in omega (arith, w .few-windows, w .few-bids)
+    (c .before .before .before .before .before .before .before .before .before .take-line .kept .1 .1 .1 .1 .0) (c .before .before .before .before .before .before .before .before .before .take-line .kept .1 .1 .1 .1 .1 .0) (c .before .before .before .before .before .before .before .before .before .take-line .kept .1 .1 .1 .1 .1 .1 .0) _ (c .before .count .given .1) (λ b₁ q. let x = room-for (c .before .before .before .before .before .before .before .before .before .before .before .before .before .before .before .before .before .before .before .before .before .before .before .before .args .text .now) (c .before .before .before .before .before .before .before .before .before .before .before .before .before .before .before .before .before .before .before .loop .i) _ (c .before .before .before .before .before .before .before .before .before .before .before .before .before .before .before .before .before .before .before .loop .m) (c .before .before .before .before .before .before .before .before .before .before .before .before .before .before .before .before .before .before .before .loop .inv .5) (omega (arith, b .0)) (b .1) b₁ q in omega (arith, x, b .1, c .before .before .before .before .before .before .before .before .before .before .before .before .before .before .before .before .before .before .before .loop .inv .6)) in omega (arith, w .few-windows, w .few-bids)
 
 -- src/bids.rt:109:25
 add-i : tie.Need-add-i Inv-loop μ-loop
@@ -75,11 +75,13 @@ loop-less c = let b = ends-at (c .before .before .before .before .before .before
 loop-again : tie.Need-loop-again Inv-loop μ-loop
 loop-again c = let b = ends-at (c .before .before .before .before .before .before .before .before .before .before .before .before .before .before .before .before .before .before .before .before .before .before .before .before .args .text .now) (c .before .before .before .before .before .before .before .before .before .before .before .before .before .before .before .before .before .before .before .loop .i) _ (c .before .before .before .before .before .before .before .before .before .before .before .before .before .before .before .before .before .line-end .ensures) _ (c .before .before .before .before .before .before .before .before .before .before .before .before .before .before .before .e .given .1) in (
   goes _ _ _ _ _ _ _ _ _ _ _ _ (rw (lines-at (c .before .before .before .before .before .before .before .before .before .before .before .before .before .before .before .before .before .before .before .before .before .before .before .before .args .text .now) (c .before .before .before .before .before .before .before .before .before .before .before .before .before .before .before .before .before .before .before .loop .i) _ (b .0) (b .1)) at (c .before .before .before .before .before .before .before .before .before .before .before .before .before .before .before .before .before .before .before .loop .inv .0)) _ (c .before .before .before .before .before .before .before .before .before .take-line .ensures)
-      (c .before .before .before .before .before .before .before .before .before .take-line .kept .1 .1 .1 .1 .0) (c .before .before .before .before .before .before .before .before .before .take-line .kept .1 .1 .1 .1 .1 .0) (c .before .before .before .before .before .before .before .before .before .take-line .kept .1 .1 .1 .1 .1 .1 .0) _ (c .before .count .given .1),
+      (c .before .before .before .before .before .before .before .before .before .take-line .kept .1 .1 .1 .1 .0) (c .before .before .before .before .before .before .before .before .before .take-line .kept .1 .1 .1 .1 .1 .0) (c .before .before .before .before .before .before .before .before .before .take-line .kept .1 .1 .1 .1 .1 .1 .0) _ (c .before .count .given .1) (λ b₁ q. let x = room-for (c .before .before .before .before .before .before .before .before .before .before .before .before .before .before .before .before .before .before .before .before .before .before .before .before .args .text .now) (c .before .before .before .before .before .before .before .before .before .before .before .before .before .before .before .before .before .before .before .loop .i) _ (c .before .before .before .before .before .before .before .before .before .before .before .before .before .before .before .before .before .before .before .loop .m) (c .before .before .before .before .before .before .before .before .before .before .before .before .before .before .before .before .before .before .before .loop .inv .5) (omega (arith, b .0)) (b .1) b₁ q in omega (arith, x, b .1, c .before .before .before .before .before .before .before .before .before .before .before .before .before .before .before .before .before .before .before .loop .inv .6)),
   omega (arith, b .1),
   c .before .before .before .before .before .before .before .before .before .take-line .kept .1 .1 .1 .1 .0 ∙ c .before .before .before .before .before .before .before .before .before .before .before .before .before .before .before .before .before .before .before .loop .inv .2,
   c .before .before .before .before .before .before .before .before .before .take-line .kept .1 .1 .1 .1 .1 .0 ∙ c .before .before .before .before .before .before .before .before .before .before .before .before .before .before .before .before .before .before .before .loop .inv .3,
   c .before .before .before .before .before .before .before .before .before .take-line .kept .1 .1 .1 .1 .1 .1 .0 ∙ c .before .before .before .before .before .before .before .before .before .before .before .before .before .before .before .before .before .before .before .loop .inv .4,
+  taken-room _ _ _ _ _ _ _ _ _ _ _ _ _ (c .before .before .before .before .before .before .before .before .before .take-line .ensures) (c .before .count .given .1) (λ b₁ q. room-for (c .before .before .before .before .before .before .before .before .before .before .before .before .before .before .before .before .before .before .before .before .before .before .before .before .args .text .now) (c .before .before .before .before .before .before .before .before .before .before .before .before .before .before .before .before .before .before .before .loop .i) _ (c .before .before .before .before .before .before .before .before .before .before .before .before .before .before .before .before .before .before .before .loop .m) (c .before .before .before .before .before .before .before .before .before .before .before .before .before .before .before .before .before .before .before .loop .inv .5) (omega (arith, b .0)) (b .1) b₁ q),
+  c .before .before .before .before .before .before .before .before .before .before .before .before .before .before .before .before .before .before .before .loop .inv .6,
 )
 
 -- src/bids.rt:111:31
@@ -142,7 +144,7 @@ same-length-9 c = c .before .loop .inv .4
 -- src/bids.rt:96:1
 returns-3 : tie.Need-returns-3 Inv-loop μ-loop
 returns-3 c = let e : c .before .loop .i ≡ length (c .before .before .before .before .before .before .args .text .now) = omega arith in
-    ends _ _ _ _ _ _ _ (rw (e, lines-end (c .before .before .before .before .before .before .args .text .now)) at (c .before .loop .inv .0))
+    ends _ _ _ _ _ _ _ (rw (e, lines-end (c .before .before .before .before .before .before .args .text .now)) at (c .before .loop .inv .0)) (omega (arith, c .before .loop .inv .5, c .before .loop .inv .1, c .before .loop .inv .6))
 
 pub read-bids-spec : {M : Type 1} → statement M
 read-bids-spec =
