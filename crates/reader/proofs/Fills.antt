@@ -1,7 +1,7 @@
 -- The walk over a text's bids: what the tables hold on the way. Assumes nothing.
 use Prim.Native.Nat.{ℕ, suc, _+_, _-_, _*_, _/_, _≤_, _<_}
 use mathlib.Core.Path.{_≡_, refl, sym, ap, _∙_}
-use mathlib.Core.List.{List, [], _∷_, _++_, map, append-assoc, append-nil}
+use mathlib.Core.List.{List, [], _∷_, _++_, append-assoc, append-nil}
 use mathlib.Core.Bool.{Bool, true, false, _||_}
 use mathlib.Core.Option.{Option, none, some}
 use native.Mathlib.Omega.{arith}
@@ -9,12 +9,12 @@ use native.Mathlib.Nat.{zero-add, zero-div}
 use lib.ListN.{length, take, drop, getD, replicate, length-append, length-drop, length-replicate, getD-replicate, List·getD-eq-default}
 use lib.Seq.{length-take-le}
 use lib.Dec.{eqb, ltb}
-use borrow.Author.Tests.{eqb-true, eqb-false, eq-eqb, ltb-true, ltb-false}
+use borrow.Author.Tests.{eqb-true, eqb-false, ltb-true, ltb-false}
 use Rattle.tender.specs.declared.Kind.{Kind}
 use Rattle.tender.specs.declared.Refusal.{Refusal}
 use Rattle.tender.specs.Limits.{allLawful}
 use Rattle.tender.specs.Refusals.{numberOf, placeOf}
-use Rattle.tender.specs.Tables.{Row, flatRows, flatWindows}
+use Rattle.tender.specs.Tables.{flatRows, flatWindows}
 use Rattle.cells.specs.Cells.{cell, Filled}
 use Rattle.scan.specs.Words.{among, cut}
 use Rattle.scan.specs.Line.{Bid, Line, tender, bid, lineOf, linesOf}
@@ -24,8 +24,8 @@ use Rattle.scan.specs.Answer.{FirstBroken, EndsAt}
 use Rattle.scan.specs.declared.words.LineEnd.{LineEnd}
 use Rattle.scan.specs.declared.words.LineEnd.the-variants.{At, Broken}
 use Rattle.reader.specs.Read.{Outcome, refused, rowsFrom, allWindows, bidsOf, faultIn, faultOf, judged, checked}
-use Rattle.reader.specs.RulesLaw.{Passed, passed}
-use Rattle.reader.specs.Steps.{cellsOf, Fault, Declines, Took, Judged, Taken, Held}
+use Rattle.reader.specs.RulesLaw.{passed}
+use Rattle.reader.specs.Steps.{Fault, Declines, Took, Judged, Taken, Held}
 use Rattle.reader.specs.declared.bids.Step.{Step}
 use Rattle.reader.specs.declared.bids.Step.the-variants as step
 use Rattle.reader.proofs.Store.{front, windows-put, windows-more, flat-more, rows-more}

@@ -4,7 +4,7 @@ use mathlib.Core.Path.{_≡_, refl}
 use mathlib.Core.Bool.{Bool, true, false, not, _&&_, _||_, true≢false}
 use mathlib.Core.Option.{none, some}
 use lib.Dec.{leb, ltb}
-use borrow.Author.Tests.{not-false, leb-true}
+use borrow.Author.Tests.{leb-true}
 use Rattle.tender.specs.declared.Kind.{Kind}
 use Rattle.tender.specs.Limits.{within, isSingle}
 use Rattle.reader.specs.Read.{faultIn}

@@ -1,4 +1,4 @@
--- What the reader's functions answer, as the definitions' values.
+-- What this crate's functions answer, as the definitions' values.
 use mathlib.Core.Path.{_≡_}
 use mathlib.Core.List.{List, [], _∷_, _++_}
 use mathlib.Core.Bool.{true}

@@ -1,19 +1,18 @@
 -- A bid's line has six bytes for each of its windows, so that a text's length bounds how many windows it has. Assumes nothing.
-use mathlib.Core.Path.{_≡_, refl, sym, ap, _∙_}
+use mathlib.Core.Path.{_≡_, refl, ap, _∙_}
 use mathlib.Core.List.{List, [], _∷_}
 use mathlib.Core.Bool.{Bool, true, false, cond, not, _&&_}
-use mathlib.Core.Option.{Option, none, some}
+use mathlib.Core.Option.{none, some}
 use Prim.Native.Nat.{ℕ, _+_, _*_, _≤_}
 use native.Mathlib.Omega.{arith}
 use lib.ListN.{length}
 use lib.Dec.{eqb}
 use borrow.Author.Tests.{leb-true}
-use Rattle.tender.specs.declared.Kind.{Kind}
 use Rattle.tender.specs.declared.Window.{Window}
 use Rattle.tender.specs.Keywords.{tenderWord, bidWord}
 use Rattle.tender.specs.Limits.{within}
-use Rattle.scan.specs.Words.{andThen, grow, cut, same, opened, closed, digits, leadingZero, numeralOf, priceOf}
-use Rattle.scan.specs.Line.{Bid, Line, tender, bid, kindOf, spanOf, windowOf, windowsIn, tenderOf, bidOf, lineOfWords, lineOf}
+use Rattle.scan.specs.Words.{grow, cut, same, opened, closed, digits, leadingZero, numeralOf, priceOf}
+use Rattle.scan.specs.Line.{Bid, bid, kindOf, spanOf, windowOf, windowsIn, tenderOf, bidOf, lineOfWords, lineOf}
 use Rattle.scan.specs.CutLaws.{Pieces, cut-some}
 use Rattle.scan.specs.LinePlain.{split, then-some, cond-some}
 

@@ -4,206 +4,148 @@ use lib.Seq.{length-take-le}
 use borrow.Author.Needs.{needs}
 use Rattle.worked.proofs.main.Statement.{statement}
 use Rattle.worked.proofs.main.Tie as tie
-use Rattle.worked.proofs.main.Reads as reads
-use Rattle.worked.proofs.main.Lts as lts
-use Rattle.worked.proofs.lent_tables.Reads as lent-tables-reads
-use Rattle.worked.proofs.near_misses.Reads as near-misses-reads
-use Rattle.worked.proofs.show.Reads as show-reads
-use Rattle.worked.proofs.texts.long_text.Reads as long-text-reads
-use Rattle.worked.proofs.texts.many_bids.Reads as many-bids-reads
-use Rattle.worked.proofs.texts.repeated.Reads as repeated-reads
-use Rattle.worked.proofs.texts.windows_of.Reads as windows-of-reads
-use Rattle.worked.proofs.worked_nine.Reads as worked-nine-reads
 
--- src/main.rt:96:5
 worked-nine-requires : tie.Need-worked-nine-requires
 worked-nine-requires c κs = search needs
 
--- src/main.rt:97:5
 near-misses-requires : tie.Need-near-misses-requires
 near-misses-requires c κs = search needs
 
--- src/main.rt:99:24
 slice-aggregate-windows-of : tie.Need-slice-aggregate-windows-of
 slice-aggregate-windows-of c = search needs
 
--- src/main.rt:99:9
 windows-of-requires : tie.Need-windows-of-requires
 windows-of-requires c κs = search needs
 
--- src/main.rt:100:10
 slice-aggregate-show : tie.Need-slice-aggregate-show
 slice-aggregate-show c = search needs
 
--- src/main.rt:100:25
 array-share-prefix-buf : tie.Need-array-share-prefix-buf
 array-share-prefix-buf c = search needs
 
--- src/main.rt:100:25
 slice-aggregate-show-2 : tie.Need-slice-aggregate-show-2
 slice-aggregate-show-2 c = sym (length-take-le _ _ (c .before .before .before .windows-of .ensures))
 
--- src/main.rt:100:5
 show-requires : tie.Need-show-requires
 show-requires c κs = search needs
 
--- src/main.rt:101:24
 slice-aggregate-windows-of-2 : tie.Need-slice-aggregate-windows-of-2
 slice-aggregate-windows-of-2 c = search needs
 
--- src/main.rt:101:9
 windows-of-requires-2 : tie.Need-windows-of-requires-2
 windows-of-requires-2 c κs = search needs
 
--- src/main.rt:102:10
 slice-aggregate-show-3 : tie.Need-slice-aggregate-show-3
 slice-aggregate-show-3 c = search needs
 
--- src/main.rt:102:25
 array-share-prefix-buf-2 : tie.Need-array-share-prefix-buf-2
 array-share-prefix-buf-2 c = search needs
 
--- src/main.rt:102:25
 slice-aggregate-show-4 : tie.Need-slice-aggregate-show-4
 slice-aggregate-show-4 c = sym (length-take-le _ _ (c .before .before .before .windows-of2 .ensures))
 
--- src/main.rt:102:5
 show-requires-2 : tie.Need-show-requires-2
 show-requires-2 c κs = search needs
 
--- src/main.rt:103:23
 slice-aggregate-many-bids : tie.Need-slice-aggregate-many-bids
 slice-aggregate-many-bids c = search needs
 
--- src/main.rt:103:9
 many-bids-requires : tie.Need-many-bids-requires
 many-bids-requires c κs = search needs
 
--- src/main.rt:104:10
 slice-aggregate-show-5 : tie.Need-slice-aggregate-show-5
 slice-aggregate-show-5 c = search needs
 
--- src/main.rt:104:24
 array-share-prefix-buf-3 : tie.Need-array-share-prefix-buf-3
 array-share-prefix-buf-3 c = search needs
 
--- src/main.rt:104:24
 slice-aggregate-show-6 : tie.Need-slice-aggregate-show-6
 slice-aggregate-show-6 c = sym (length-take-le _ _ (c .before .before .before .many-bids .ensures))
 
--- src/main.rt:104:5
 show-requires-3 : tie.Need-show-requires-3
 show-requires-3 c κs = search needs
 
--- src/main.rt:105:23
 slice-aggregate-many-bids-2 : tie.Need-slice-aggregate-many-bids-2
 slice-aggregate-many-bids-2 c = search needs
 
--- src/main.rt:105:9
 many-bids-requires-2 : tie.Need-many-bids-requires-2
 many-bids-requires-2 c κs = search needs
 
--- src/main.rt:106:10
 slice-aggregate-show-7 : tie.Need-slice-aggregate-show-7
 slice-aggregate-show-7 c = search needs
 
--- src/main.rt:106:24
 array-share-prefix-buf-4 : tie.Need-array-share-prefix-buf-4
 array-share-prefix-buf-4 c = search needs
 
--- src/main.rt:106:24
 slice-aggregate-show-8 : tie.Need-slice-aggregate-show-8
 slice-aggregate-show-8 c = sym (length-take-le _ _ (c .before .before .before .many-bids2 .ensures))
 
--- src/main.rt:106:5
 show-requires-4 : tie.Need-show-requires-4
 show-requires-4 c κs = search needs
 
--- src/main.rt:107:22
 slice-aggregate-repeated : tie.Need-slice-aggregate-repeated
 slice-aggregate-repeated c = search needs
 
--- src/main.rt:107:9
 repeated-requires : tie.Need-repeated-requires
 repeated-requires c κs = search needs
 
--- src/main.rt:108:10
 slice-aggregate-show-9 : tie.Need-slice-aggregate-show-9
 slice-aggregate-show-9 c = search needs
 
--- src/main.rt:108:50
 array-share-prefix-buf-5 : tie.Need-array-share-prefix-buf-5
 array-share-prefix-buf-5 c = search needs
 
--- src/main.rt:108:50
 slice-aggregate-show-10 : tie.Need-slice-aggregate-show-10
 slice-aggregate-show-10 c = sym (length-take-le _ _ (c .before .before .before .repeated .ensures))
 
--- src/main.rt:108:5
 show-requires-5 : tie.Need-show-requires-5
 show-requires-5 c κs = search needs
 
--- src/main.rt:109:23
 slice-aggregate-long-text : tie.Need-slice-aggregate-long-text
 slice-aggregate-long-text c = search needs
 
--- src/main.rt:109:33
 slice-aggregate-long-text-2 : tie.Need-slice-aggregate-long-text-2
 slice-aggregate-long-text-2 c = search needs
 
--- src/main.rt:109:9
 long-text-requires : tie.Need-long-text-requires
 long-text-requires c κs = search needs
 
--- src/main.rt:110:10
 slice-aggregate-show-11 : tie.Need-slice-aggregate-show-11
 slice-aggregate-show-11 c = search needs
 
--- src/main.rt:110:26
 array-share-prefix-buf-6 : tie.Need-array-share-prefix-buf-6
 array-share-prefix-buf-6 c = search needs
 
--- src/main.rt:110:26
 slice-aggregate-show-12 : tie.Need-slice-aggregate-show-12
 slice-aggregate-show-12 c = sym (length-take-le _ _ (c .before .before .before .long-text .ensures))
 
--- src/main.rt:110:5
 show-requires-6 : tie.Need-show-requires-6
 show-requires-6 c κs = search needs
 
--- src/main.rt:111:23
 slice-aggregate-long-text-3 : tie.Need-slice-aggregate-long-text-3
 slice-aggregate-long-text-3 c = search needs
 
--- src/main.rt:111:33
 slice-aggregate-long-text-4 : tie.Need-slice-aggregate-long-text-4
 slice-aggregate-long-text-4 c = search needs
 
--- src/main.rt:111:9
 long-text-requires-2 : tie.Need-long-text-requires-2
 long-text-requires-2 c κs = search needs
 
--- src/main.rt:112:10
 slice-aggregate-show-13 : tie.Need-slice-aggregate-show-13
 slice-aggregate-show-13 c = search needs
 
--- src/main.rt:112:26
 array-share-prefix-buf-7 : tie.Need-array-share-prefix-buf-7
 array-share-prefix-buf-7 c = search needs
 
--- src/main.rt:112:26
 slice-aggregate-show-14 : tie.Need-slice-aggregate-show-14
 slice-aggregate-show-14 c = sym (length-take-le _ _ (c .before .before .before .long-text2 .ensures))
 
--- src/main.rt:112:5
 show-requires-7 : tie.Need-show-requires-7
 show-requires-7 c κs = search needs
 
--- src/main.rt:113:5
 lent-tables-requires : tie.Need-lent-tables-requires
 lent-tables-requires c κs = search needs
 
--- src/main.rt:95:1
 returns : tie.Need-returns
 returns c = search needs
 

@@ -1,12 +1,9 @@
 -- `sevens` is safe and ends. Assumes nothing.
 use Prim.Native.Nat.{_-_, _≤_}
-use native.Mathlib.Omega.{arith}
 use lib.ListN.{length}
 use borrow.Author.Needs.{needs}
 use Rattle.worked.proofs.sevens.Statement.{statement}
 use Rattle.worked.proofs.sevens.Tie as tie
-use Rattle.worked.proofs.sevens.Reads as reads
-use Rattle.worked.proofs.sevens.Lts as lts
 
 abbrev Inv-loop : tie.InvT-loop
 Inv-loop cells at i₀ i = i₀ ≤ i
@@ -14,35 +11,27 @@ Inv-loop cells at i₀ i = i₀ ≤ i
 abbrev μ-loop : tie.MeasureT-loop
 μ-loop cells at i₀ i = length cells - i
 
--- src/main.rt:38:5
 loop-holds : tie.Need-loop-holds Inv-loop μ-loop
 loop-holds c = search needs
 
--- src/main.rt:39:12
 mul-if1 : tie.Need-mul-if1 Inv-loop μ-loop
 mul-if1 c = search needs
 
--- src/main.rt:39:12
 shared-slice-read-if1 : tie.Need-shared-slice-read-if1 Inv-loop μ-loop
 shared-slice-read-if1 c = search needs
 
--- src/main.rt:40:13
 returns : tie.Need-returns Inv-loop μ-loop
 returns c = search needs
 
--- src/main.rt:42:9
 add-i : tie.Need-add-i Inv-loop μ-loop
 add-i c = search needs
 
--- src/main.rt:38:5
 loop-less : tie.Need-loop-less Inv-loop μ-loop
 loop-less c = search needs
 
--- src/main.rt:38:5
 loop-again : tie.Need-loop-again Inv-loop μ-loop
 loop-again c = search needs
 
--- src/main.rt:36:1
 returns-2 : tie.Need-returns-2 Inv-loop μ-loop
 returns-2 c = search needs
 

@@ -1,5 +1,5 @@
 -- `bids::judge` meets its contract: its tests are those of the definition, in their order. Assumes nothing.
-use mathlib.Core.Path.{_≡_, refl, sym, ap, _∙_}
+use mathlib.Core.Path.{sym, ap, _∙_}
 use native.Mathlib.Omega.{arith}
 use borrow.Author.Tests.{not-true, not-false}
 use Rattle.reader.specs.Steps.{faultAt}
@@ -7,50 +7,34 @@ use Rattle.reader.proofs.Judge.{many, beyond, several-windows, unlawful
 use borrow.Author.Needs.{needs}
 use Rattle.reader.proofs.bids.judge.Statement.{statement}
 use Rattle.reader.proofs.bids.judge.Tie as tie
-use Rattle.reader.proofs.bids.judge.Reads as reads
-use Rattle.reader.proofs.bids.judge.Lts as lts
-use Rattle.cells.proofs.holds.Reads as holds-reads
-use Rattle.reader.proofs.bids.outside.Reads as outside-reads
-use Rattle.reader.proofs.bids.several.Reads as several-reads
-use Rattle.reader.proofs.bids.too_many.Reads as too-many-reads
 
--- src/bids.rt:74:8
 too-many-requires : tie.Need-too-many-requires
 too-many-requires c κs = search needs
 
--- src/bids.rt:75:9
 returns : tie.Need-returns
 returns c = ap (faultAt _) (sym (many _ _ _ _ _ _ _ (sym (c .before .too-many .ensures) ∙ c .if1 .taken)))
 
--- src/bids.rt:77:8
 outside-requires : tie.Need-outside-requires
 outside-requires c κs = search needs
 
--- src/bids.rt:78:9
 returns-2 : tie.Need-returns-2
 returns-2 c = ap (faultAt _) (sym (beyond _ _ _ _ _ _ _ (sym (c .before .before .before .too-many .ensures) ∙ c .before .before .if1 .left) (sym (c .before .outside .ensures) ∙ c .if2 .taken)))
 
--- src/bids.rt:80:8
 several-requires : tie.Need-several-requires
 several-requires c κs = search needs
 
--- src/bids.rt:81:9
 returns-3 : tie.Need-returns-3
 returns-3 c = ap (faultAt _) (sym (several-windows _ _ _ _ _ _ _ (sym (c .before .before .before .before .before .too-many .ensures) ∙ c .before .before .before .before .if1 .left) (sym (c .before .before .before .outside .ensures) ∙ c .before .before .if2 .left) (sym (c .before .several .ensures) ∙ c .if3 .taken)))
 
--- src/bids.rt:84:9
 returns-4 : tie.Need-returns-4
 returns-4 c = ap (faultAt _) (sym (unlawful _ _ _ _ _ _ _ (sym (c .before .before .before .before .before .before .too-many .ensures) ∙ c .before .before .before .before .before .if1 .left) (sym (c .before .before .before .before .outside .ensures) ∙ c .before .before .before .if2 .left) (sym (c .before .before .several .ensures) ∙ c .before .if3 .left) (not-true _ (c .if4 .taken))))
 
--- src/bids.rt:86:8
 holds-requires : tie.Need-holds-requires
 holds-requires c κs = omega (arith, bidder-in (c .before .before .before .before .before .before .before .before .args .bidder) (c .before .before .before .before .before .before .before .before .args .price) (sym (c .before .before .before .before .outside .ensures) ∙ c .before .before .before .if2 .left), c .before .before .before .before .before .before .before .before .pre)
 
--- src/bids.rt:87:9
 returns-5 : tie.Need-returns-5
 returns-5 c = ap (faultAt _) (sym (repeated _ _ _ _ _ _ _ (sym (c .before .before .before .before .before .before .before .before .too-many .ensures) ∙ c .before .before .before .before .before .before .before .if1 .left) (sym (c .before .before .before .before .before .before .outside .ensures) ∙ c .before .before .before .before .before .if2 .left) (sym (c .before .before .before .before .several .ensures) ∙ c .before .before .before .if3 .left) (not-false _ (c .before .before .if4 .left)) (sym (c .before .holds .ensures) ∙ c .if5 .taken)))
 
--- src/bids.rt:61:1
 returns-6 : tie.Need-returns-6
 returns-6 c = ap (faultAt _) (sym (sound _ _ _ _ _ _ _ (sym (c .before .before .before .before .before .before .before .before .too-many .ensures) ∙ c .before .before .before .before .before .before .before .if1 .left) (sym (c .before .before .before .before .before .before .outside .ensures) ∙ c .before .before .before .before .before .if2 .left) (sym (c .before .before .before .before .several .ensures) ∙ c .before .before .before .if3 .left) (not-false _ (c .before .before .if4 .left)) (sym (c .before .holds .ensures) ∙ c .if5 .left)))
 

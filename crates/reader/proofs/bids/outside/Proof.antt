@@ -1,24 +1,17 @@
 -- `bids::outside` meets its contract: its tests are those of the definition. Assumes nothing.
-use native.Mathlib.Omega.{arith}
-use Prim.Native.Nat.{_≤_}
 use borrow.Author.Tests.{le-leb, lt-leb}
 use Rattle.tender.specs.Limits.{within}
 use Rattle.reader.proofs.bids.outside.Statement.{statement}
 use Rattle.reader.proofs.bids.outside.Tie as tie
-use Rattle.reader.proofs.bids.outside.Reads as reads
-use Rattle.reader.proofs.bids.outside.Lts as lts
 
--- src/bids.rt:33:1
 returns : tie.Need-returns
 unfolding within
 returns c = simp (lt-leb 1 _ (c .if1 .taken))
 
--- src/bids.rt:33:1
 returns-2 : tie.Need-returns-2
 unfolding within
 returns-2 c = simp (le-leb 1 _ (c .before .if1 .left), lt-leb _ _ (c .if2 .taken))
 
--- src/bids.rt:33:1
 returns-3 : tie.Need-returns-3
 unfolding within
 returns-3 c = simp (le-leb 1 _ (c .before .if1 .left), le-leb _ _ (c .if2 .left))

@@ -2,14 +2,10 @@
 use borrow.Author.Tests.{le-leb, lt-leb}
 use Rattle.reader.proofs.bids.too_many.Statement.{statement}
 use Rattle.reader.proofs.bids.too_many.Tie as tie
-use Rattle.reader.proofs.bids.too_many.Reads as reads
-use Rattle.reader.proofs.bids.too_many.Lts as lts
 
--- src/bids.rt:22:1
 returns : tie.Need-returns
 returns c = simp (le-leb _ _ (c .if1 .taken))
 
--- src/bids.rt:22:1
 returns-2 : tie.Need-returns-2
 returns-2 c = simp (lt-leb _ _ (c .if1 .left))
 

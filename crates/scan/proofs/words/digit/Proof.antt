@@ -3,18 +3,13 @@ use Rattle.scan.proofs.Digits.{inside, below, above}
 use mathlib.Core.Path.{sym}
 use Rattle.scan.proofs.words.digit.Statement.{statement}
 use Rattle.scan.proofs.words.digit.Tie as tie
-use Rattle.scan.proofs.words.digit.Reads as reads
-use Rattle.scan.proofs.words.digit.Lts as lts
 
--- src/words.rt:31:1
 returns : tie.Need-returns
 returns c = sym (inside _ (c .before .if1 .left) (c .if2 .taken))
 
--- src/words.rt:31:1
 returns-2 : tie.Need-returns-2
 returns-2 c = sym (below _ (c .if1 .taken))
 
--- src/words.rt:31:1
 returns-3 : tie.Need-returns-3
 returns-3 c = sym (above _ (c .if2 .left))
 

@@ -1,13 +1,11 @@
 -- `texts::put` stays within the buffer. Assumes nothing.
 use Prim.Native.Nat.{_-_, _≤_}
-use mathlib.Core.Path.{_≡_, refl, _∙_}
+use mathlib.Core.Path.{_≡_, refl}
 use native.Mathlib.Omega.{arith}
 use lib.ListN.{length, length-set}
 use borrow.Author.Needs.{needs}
 use Rattle.worked.proofs.texts.put.Statement.{statement}
 use Rattle.worked.proofs.texts.put.Tie as tie
-use Rattle.worked.proofs.texts.put.Reads as reads
-use Rattle.worked.proofs.texts.put.Lts as lts
 
 abbrev Inv-loop : tie.InvT-loop
 Inv-loop buf₀ at bytes i₀ j₀ buf i j = (j ≤ length buf) × (length buf ≡ length buf₀)
@@ -15,51 +13,39 @@ Inv-loop buf₀ at bytes i₀ j₀ buf i j = (j ≤ length buf) × (length buf �
 abbrev μ-loop : tie.MeasureT-loop
 μ-loop buf₀ at bytes i₀ j₀ buf i j = length bytes - i
 
--- src/texts.rt:12:5
 loop-holds : tie.Need-loop-holds Inv-loop μ-loop
 loop-holds c = (c .pre, refl)
 
--- src/texts.rt:14:22
 shared-slice-read-buf : tie.Need-shared-slice-read-buf Inv-loop μ-loop
 shared-slice-read-buf c = search needs
 
--- src/texts.rt:14:13
 slice-write-buf : tie.Need-slice-write-buf Inv-loop μ-loop
 slice-write-buf c = search needs
 
--- src/texts.rt:15:13
 add-j : tie.Need-add-j Inv-loop μ-loop
 add-j c = search needs
 
--- src/texts.rt:16:13
 add-i : tie.Need-add-i Inv-loop μ-loop
 add-i c = search needs
 
--- src/texts.rt:12:5
 loop-less : tie.Need-loop-less Inv-loop μ-loop
 loop-less c = search needs
 
--- src/texts.rt:12:5
 loop-again : tie.Need-loop-again Inv-loop μ-loop
 loop-again c = (rw length-set (omega arith), rw length-set (c .before .before .before .loop .inv .1))
 
--- src/texts.rt:18:13
 add-i-2 : tie.Need-add-i-2 Inv-loop μ-loop
 add-i-2 c = search needs
 
--- src/texts.rt:12:5
 loop-less-2 : tie.Need-loop-less-2 Inv-loop μ-loop
 loop-less-2 c = search needs
 
--- src/texts.rt:12:5
 loop-again-2 : tie.Need-loop-again-2 Inv-loop μ-loop
 loop-again-2 c = search needs
 
--- src/texts.rt:6:1
 same-length : tie.Need-same-length Inv-loop μ-loop
 same-length c = c .before .loop .inv .1
 
--- src/texts.rt:6:1
 returns : tie.Need-returns Inv-loop μ-loop
 returns c = search needs
 

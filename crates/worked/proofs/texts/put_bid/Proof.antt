@@ -1,15 +1,10 @@
 -- `texts::put_bid` stays within the buffer. Assumes nothing.
 use Prim.Native.Nat.{_-_, _≤_}
 use mathlib.Core.Path.{_≡_, refl, _∙_}
-use native.Mathlib.Omega.{arith}
 use lib.ListN.{length}
 use borrow.Author.Needs.{needs}
 use Rattle.worked.proofs.texts.put_bid.Statement.{statement}
 use Rattle.worked.proofs.texts.put_bid.Tie as tie
-use Rattle.worked.proofs.texts.put_bid.Reads as reads
-use Rattle.worked.proofs.texts.put_bid.Lts as lts
-use Rattle.worked.proofs.texts.put.Reads as put-reads
-use Rattle.worked.proofs.texts.put_number.Reads as put-number-reads
 
 abbrev Inv-loop : tie.InvT-loop
 Inv-loop buf₀ at bidder price windows a b c j₀ i₀ t13 t14 buf j i = (j ≤ length buf) × (length buf ≡ length buf₀)
@@ -17,67 +12,51 @@ Inv-loop buf₀ at bidder price windows a b c j₀ i₀ t13 t14 buf j i = (j ≤
 abbrev μ-loop : tie.MeasureT-loop
 μ-loop buf₀ at bidder price windows a b c j₀ i₀ t13 t14 buf j i = windows - i
 
--- src/texts.rt:39:26
 slice-aggregate-put : tie.Need-slice-aggregate-put Inv-loop μ-loop
 slice-aggregate-put c = search needs
 
--- src/texts.rt:39:9
 put-requires : tie.Need-put-requires Inv-loop μ-loop
 put-requires c κs = search needs
 
--- src/texts.rt:40:9
 put-number-requires : tie.Need-put-number-requires Inv-loop μ-loop
 put-number-requires c κs = search needs
 
--- src/texts.rt:41:25
 slice-aggregate-put-2 : tie.Need-slice-aggregate-put-2 Inv-loop μ-loop
 slice-aggregate-put-2 c = search needs
 
--- src/texts.rt:41:9
 put-requires-2 : tie.Need-put-requires-2 Inv-loop μ-loop
 put-requires-2 c κs = search needs
 
--- src/texts.rt:42:9
 put-requires-3 : tie.Need-put-requires-3 Inv-loop μ-loop
 put-requires-3 c κs = search needs
 
--- src/texts.rt:44:5
 loop-holds : tie.Need-loop-holds Inv-loop μ-loop
 loop-holds c = (c .before .before .put3 .ensures, refl)
 
--- src/texts.rt:45:25
 slice-aggregate-put-3 : tie.Need-slice-aggregate-put-3 Inv-loop μ-loop
 slice-aggregate-put-3 c = search needs
 
--- src/texts.rt:45:9
 put-requires-4 : tie.Need-put-requires-4 Inv-loop μ-loop
 put-requires-4 c κs = search needs
 
--- src/texts.rt:46:9
 add-i : tie.Need-add-i Inv-loop μ-loop
 add-i c = search needs
 
--- src/texts.rt:44:5
 loop-less : tie.Need-loop-less Inv-loop μ-loop
 loop-less c = search needs
 
--- src/texts.rt:44:5
 loop-again : tie.Need-loop-again Inv-loop μ-loop
 loop-again c = (c .before .before .put4 .ensures, c .before .before .put4 .kept .0 ∙ c .before .before .before .before .before .before .loop .inv .1)
 
--- src/texts.rt:48:17
 slice-aggregate-put-4 : tie.Need-slice-aggregate-put-4 Inv-loop μ-loop
 slice-aggregate-put-4 c = search needs
 
--- src/texts.rt:48:5
 put-requires-5 : tie.Need-put-requires-5 Inv-loop μ-loop
 put-requires-5 c κs = search needs
 
--- src/texts.rt:35:1
 same-length : tie.Need-same-length Inv-loop μ-loop
 same-length c = c .before .before .put5 .kept .0 ∙ c .before .before .before .before .before .before .loop .inv .1 ∙ c .before .before .before .before .before .before .before .before .before .put3 .kept .0 ∙ c .before .before .before .before .before .before .before .before .before .before .before .before .before .put2 .kept .0 ∙ c .before .before .before .before .before .before .before .before .before .before .before .before .before .before .before .before .before .before .put-number .kept .0 ∙ c .before .before .before .before .before .before .before .before .before .before .before .before .before .before .before .before .before .before .before .before .before .before .put .kept .0
 
--- src/texts.rt:35:1
 returns : tie.Need-returns Inv-loop μ-loop
 returns c = search needs
 
