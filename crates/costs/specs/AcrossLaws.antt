@@ -18,7 +18,8 @@ use Rattle.cover.specs.IntervalScan.{none-found, found-one}
 use Rattle.cover.specs.IntervalPrefix.{lacks, leastSet-right}
 use Rattle.cover.specs.IntervalCover.{priced}
 use Rattle.cover.specs.IntervalBids.{anyBid, Bids, coversBelow, leastBelow, costBelow, costWithout, endCost, costAfter}
-use Rattle.cover.specs.IntervalBidsLaws.{prefixes, winners-of, cost-most, without-none, fits-without, scan-across, near}
+use Rattle.cover.specs.IntervalBidsLaws.{prefixes, winners-of, cost-most, without-past, without-none, fits-without, scan-across, near}
+use Rattle.cover.specs.IntervalMirror.{Mirrored, mirrored-cost}
 use Rattle.select.specs.Costs.{noCost, costIn, cost-found, cost-least}
 use Rattle.select.specs.RowLaws.{bit-none}
 use Rattle.select.specs.Live.{On, Thinned, Live, live-thinned, live-more, live-none, thinned-none, thinned-more, counted}
@@ -233,3 +234,58 @@ winner-ends a b ps L k l e = go (eqb (getD b k 0) 0) refl
     go : (s : Bool) → eqb (getD b k 0) 0 ≡ s → 0 < getD b k 0
     go true d = absurd (true≢false (sym e ∙ ap (λ s. bit s k) (winners-of a b ps L) ∙ by (eqb-true (getD b k 0) 0 d) (leastSet (coversBelow a b (length ps)) (cost ps) (length ps) L) (leastSet-right (coversBelow a b (length ps)) (cost ps) (length ps) L)))
     go false d = omega (arith, eqb-false (getD b k 0) 0 d)
+
+-- the costs after each bid, by the run over the bids seen from the other end
+
+pub run-all : (a b ps order costs live : List ℕ) (stop : ℕ) → getD costs (length ps) 0 ≡ noCost → Running (length ps) a b ps order costs live 0 0 0 0 0 stop
+unfolding costIn
+run-all a b ps order costs live stop e = record {
+  at = 0;
+  low = omega arith;
+  early = λ j d l. omega arith;
+  reach = live-none order b live;
+  values = λ i y. absurd (omega (arith, y .inside));
+  done = λ j d l. absurd (omega arith);
+  lasts = λ t x y. sym (let z : t ≡ 0 = omega arith in ap (costWithout (length ps) a b ps) z ∙ without-none (length ps) a b ps);
+  guard = e;
+}
+
+pub ran-after : (a b x y ps order : List ℕ) (h : Bids x y ps order) (L m : ℕ) (costs live : List ℕ) → Mirrored a b x y L (length ps) → Ran (length ps) x y ps order costs live 0 (L + 1) m → After a b ps L costs
+unfolding endCost
+ran-after a b x y ps order h L m costs live r g i l = go (g .all i l (omega (arith, r .starts i l)))
+  where
+    go : On order (g .pos) i → costIn (getD costs i 0) ≡ raise (getD ps i 0) (costAfter a b ps L i)
+    go o = ap (λ z. costIn (getD costs z 0)) (sym (o .is)) ∙ g .done (o .place) (omega arith) (o .inside) ∙ rw (o .is, ne-eqb i (length ps) (λ e. omega arith)) (ap (raise (getD ps i 0)) (without-past x y ps (getD x i 0) ∙ mirrored-cost a b x y ps L r i l))
+
+-- the ways through `lessOf`
+module _ (s e t x r : ℕ) where
+  pub less-yes : s < t → t ≤ e → x < r → x ≡ lessOf s e t x r
+  unfolding lessOf
+  less-yes l d g = rw (lt-ltb s t l, le-leb t e d, lt-ltb x r g)
+
+  pub less-more : s < t → t ≤ e → r ≤ x → r ≡ lessOf s e t x r
+  unfolding lessOf
+  less-more l d g = rw (lt-ltb s t l, le-leb t e d, le-ltb x r g)
+
+  pub less-not : s < t → e < t → r ≡ lessOf s e t x r
+  unfolding lessOf
+  less-not l d = rw (lt-ltb s t l, lt-leb t e d)
+
+  pub less-far : t ≤ s → r ≡ lessOf s e t x r
+  unfolding lessOf
+  less-far l = rw (le-ltb s t l)
+
+-- the bids of the lists are bids
+pub waiting-below : (a b ps order : List ℕ) (h : Bids a b ps order) (live : List ℕ) (q m : ℕ) → q ≤ length ps → Waiting a b ps order live q m → (j : ℕ) → j < m → getD live j 0 < length ps
+waiting-below a b ps order h live q m l w j d = let y = w .reach .inside j d in rw (y .is) at (h .sorted .bids (y .place) (omega (arith, y .inside)))
+
+pub ran-below : (k : ℕ) (a b ps order : List ℕ) (h : Bids a b ps order) (costs live : List ℕ) (from stop m : ℕ) → Ran k a b ps order costs live from stop m → (j : ℕ) → j < m → getD live j 0 < length ps
+ran-below k a b ps order h costs live from stop m g j d = let y = g .reach .inside j d in rw (y .is) at (h .sorted .bids (y .place) (omega (arith, y .inside, g .fit)))
+
+pub ran-small : (k : ℕ) (a b ps order : List ℕ) (h : Bids a b ps order) (costs live : List ℕ) (from stop m : ℕ) → sum ps ≤ 100000000000 → Ran k a b ps order costs live from stop m
+    → (j : ℕ) → j < m → (getD costs (getD live j 0) 0 ≡ noCost → ⊥) → getD costs (getD live j 0) 0 ≤ 100000000000
+ran-small k a b ps order h costs live from stop m t g j d n =
+    omega (arith, before-small k a b ps (getD costs (getD live j 0) 0) (getD live j 0) (ran-below k a b ps order h costs live from stop m g j d) (g .values (getD live j 0) (record { place = j; inside = d; is = refl })) n)
+
+pub after-bounds : (a b ps after : List ℕ) (L : ℕ) → sum ps ≤ 100000000000 → After a b ps L after → (i : ℕ) → i < length ps → (getD after i 0 ≡ noCost → ⊥) → (getD ps i 0 ≤ getD after i 0) × (getD after i 0 ≤ 100000000000 + getD ps i 0)
+after-bounds a b ps after L t f i l n = let y = after-small a b ps L (getD after i 0) i (f i l) n in (y .0, omega (arith, y .1))

@@ -48,6 +48,12 @@ listed-of (suc n) f (x ∷ old) (y ∷ new) l h = go (h .values 0 (omega arith))
     go : y ≡ f 0 → new ≡ listed n (λ i. f (suc i)) ++ drop n old → y ∷ new ≡ f 0 ∷ (listed n (λ i. f (suc i)) ++ drop n old)
     go e g = rw (e, g)
 
+pub listed-at : (n : ℕ) (f : ℕ → ℕ) (xs : List ℕ) (i : ℕ) → i < n → getD (listed n f ++ xs) i 0 ≡ f i
+unfolding listed
+listed-at zero f xs i l = absurd (omega arith)
+listed-at (suc n) f xs zero l = refl
+listed-at (suc n) f xs (suc i) l = listed-at n (λ i. f (suc i)) xs i (omega arith)
+
 -- a new list is all zeros
 pub zeros : (n s : ℕ) → _≡_ {A = ℕ} (getD (replicate {A = ℕ} n 0) s 0) 0
 zeros zero s = refl
@@ -75,3 +81,16 @@ pub sum-listed : (n : ℕ) (f : ℕ → ℕ) → sumTo f n ≡ sum (listed n f)
 unfolding sum listed sumTo
 sum-listed zero f = refl
 sum-listed (suc n) f = omega (arith, sum-front f n, sum-listed n (λ i. f (suc i)))
+
+pub sum-same : (n : ℕ) (f g : ℕ → ℕ) → ((i : ℕ) → i < n → f i ≡ g i) → sumTo f n ≡ sumTo g n
+unfolding sumTo
+sum-same zero f g h = refl
+sum-same (suc n) f g h = omega (arith, sum-same n f g (λ i l. h i (omega arith)), h n (omega arith))
+
+pub sum-none : (f : ℕ → ℕ) → 0 ≡ sumTo f 0
+unfolding sumTo
+sum-none f = refl
+
+pub sum-more : (f : ℕ → ℕ) (n s : ℕ) → s ≡ sumTo f n → s + f n ≡ sumTo f (n + 1)
+unfolding sumTo
+sum-more f n s e = let z : n + 1 ≡ suc n = omega arith in rw (z, e)
