@@ -1,5 +1,6 @@
 pub mod Award
 pub mod Gain
+pub mod Plain
 pub mod Right
 pub mod Demands
 pub mod WorkedCases
@@ -12,3 +13,4 @@ pub mod FaultCases
 pub mod OutcomeLaws
 pub mod OneAnswerLaws
 pub mod TextOutcomes
+pub mod PlainLaws

@@ -114,8 +114,9 @@ fn row_fault(kind: Kind, count: usize, bids: &[u64], windows: &[u64]) -> Check
     let mut at = 0;
     let mut j = 0;
     while j < count {
+        let place = j as u64 + 1;
         if 1000 <= j {
-            return Check::Faulty { row: j as u64 + 1 };
+            return Check::Faulty { row: place };
         }
         let bidder = bids[4 * j];
         let windows_here = bids[4 * j + 3];
@@ -128,10 +129,10 @@ fn row_fault(kind: Kind, count: usize, bids: &[u64], windows: &[u64]) -> Check
             bids[4 * j + 2],
             windows_here,
         ) {
-            return Check::Faulty { row: j as u64 + 1 };
+            return Check::Faulty { row: place };
         }
         if cells::holds(&used, bidder as usize) {
-            return Check::Faulty { row: j as u64 + 1 };
+            return Check::Faulty { row: place };
         }
         cells::add(&mut used, bidder as usize);
         at += windows_here as usize;
