@@ -14,6 +14,7 @@ use Rattle.tender.specs.Tables.{rowsOf}
 use Rattle.cover.specs.Sets.{bit, covers, each}
 use Rattle.cover.specs.LeastCover.{winners, vcgPaid}
 use Rattle.cover.specs.Settled.{spans, Settled}
+use Rattle.rounds.specs.Market.{Priced}
 use Rattle.bidders.specs.declared.Thin.the-variants.{Nobody, Alone, Enough}
 use Rattle.bidders.specs.Thin.{Says, Spans}
 use Rattle.tables.specs.Faults.{faultOf}
@@ -23,6 +24,7 @@ use Rattle.layout.specs.Orderly.{Orderly, Laid}
 use Rattle.layout.specs.LayoutLaws.{orderly, spans-have, spans-ordered, spans-inside}
 use Rattle.award.specs.declared.Answer.the-variants.{Awarded, Refused}
 use Rattle.award.specs.Plain.{PlainPromise}
+use Rattle.award.proofs.Multi.{priced}
 use Rattle.award.specs.PlainLaws.{eleven, twelve, awards, single-won, single-cents}
 
 module _ (t : Tender) (n : ℕ) (bids windows starts ends ps ow oc : List ℕ) (f : faultOf Single t n bids windows ≡ none) (a : length starts ≡ n) (b : length ends ≡ n)
@@ -43,6 +45,9 @@ module _ (t : Tender) (n : ℕ) (bids windows starts ends ps ow oc : List ℕ) (
     ordered = spans-ordered t n bids windows starts ends o a b l;
     inside = spans-inside t n bids windows starts ends o a b l;
   }
+
+  pub prices-most : (i : ℕ) → getD ps i 0 ≤ 100000000
+  prices-most i = rw p (priced Single n bids windows o .most i)
 
   pub uncovered : (x : ℕ) → Says (spans starts ends) n (cellsOf t) (Nobody x) → PlainPromise Single t n bids windows n ow oc ow oc (Refused (MinuteUncovered (t .window .start + x)))
   uncovered x s = let h = rw same at s in eleven Single t n bids windows n ow oc f (omega arith) x (h .0) (h .1)

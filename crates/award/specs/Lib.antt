@@ -14,3 +14,4 @@ pub mod OutcomeLaws
 pub mod OneAnswerLaws
 pub mod TextOutcomes
 pub mod PlainLaws
+pub mod Rows

@@ -30,7 +30,7 @@ use Rattle.tables.specs.AlikeLaws.{rows-length, prices-length}
 use Rattle.award.specs.declared.AwardRow.{AwardRow}
 use Rattle.award.specs.declared.Answer.{Answer}
 use Rattle.award.specs.declared.Answer.the-variants.{Awarded, Refused}
-use Rattle.award.specs.Award.{won, cents, Outcome, awarded, refused, filled, costOf, paidOf, settled, awardOf, number, place, InBids, Answers}
+use Rattle.award.specs.Award.{won, cents, Outcome, awarded, refused, filled, costOf, paidOf, settled, judged, awardOf, number, place, InBids, Answers}
 use Rattle.award.specs.Plain.{rowsIn, toldIn, wonAfter, centsAfter, PlainPromise}
 use Rattle.award.specs.SettleLaws.{won-single, cents-single, won-multi, cents-multi, length-listed, getD-listed, settled-is}
 use Rattle.award.specs.AwardLaws.{award-none, award-nine}
@@ -208,3 +208,17 @@ multi-won has ps L i = sym (won-multi has ps L i)
 
 pub multi-cents : (has : ℕ → ℕ → Bool) (ps : List ℕ) (L i : ℕ) → i < length ps → each has (length ps) L 2 ≡ true → roundsPaid has ps (cells L) i ≡ cents Multi has ps L i
 multi-cents has ps L i l two = sym (cents-multi has ps L i ∙ paid-by-rounds has ps (cells L) i l (spare-bids has (length ps) L two ps i))
+
+-- more award rows than bids change nothing
+pub lent-more : (k : Kind) (t : Tender) (n : ℕ) (bids windows : List ℕ) (lent : ℕ) (ow oc nw nc : List ℕ) (a : Answer) → n ≤ lent → PlainPromise k t n bids windows n ow oc nw nc a → PlainPromise k t n bids windows lent ow oc nw nc a
+unfolding awardOf
+lent-more k t n bids windows lent ow oc nw nc a l p = record {
+  answers = record {
+    is = p .answers .is ∙ ap (λ b. judged (faultOf k t n bids windows) (cond b (refused 10 0) (settled k (hasOf t (rowsOf n bids) windows) (pricesOf (rowsOf n bids)) (cellsOf t) (place (toldIn n nw nc a)))))
+        (le-ltb n n (omega arith) ∙ sym (le-ltb lent n l));
+    nobody = p .answers .nobody;
+    alone = p .answers .alone;
+  };
+  won-cells = p .won-cells;
+  cents-cells = p .cents-cells;
+}

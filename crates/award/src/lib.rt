@@ -2,16 +2,19 @@
 // `specs/` has what each award answers (`Award`), the promise over plain cells (`Plain`), the laws, the worked tenders and
 // the demands.
 use bidders::Thin;
+use tables::Check;
+use tender::Kind;
 use tender::Refusal;
 use tender::Tender;
 ghost use mathlib.Core.Path.{_≡_};
 ghost use mathlib.Core.Option.{none};
-ghost use Prim.Native.Nat.{ℕ, _+_, _*_, _/_, _≤_};
-ghost use lib.ListN.{length, getD};
+ghost use Prim.Native.Nat.{ℕ, _+_, _*_, _/_, _≤_, min};
+ghost use mathlib.Core.List.{_++_};
+ghost use lib.ListN.{length, getD, drop};
 ghost use Rattle.tender.specs.declared.Kind.the-variants.{Single, Multi};
 ghost use Rattle.tables.specs.Faults.{faultOf};
 ghost use Rattle.tables.specs.Cells.{cellsOf};
-ghost use Rattle.award.specs.Plain.{PlainPromise};
+ghost use Rattle.award.specs.Plain.{PlainPromise, rowsIn};
 
 // The row that an award fills for a bid: won or lost, and the cents paid.
 pub struct AwardRow {
@@ -88,4 +91,134 @@ fn settle_multi(
         won,
         cents,
     )
+}
+
+// A faultless single tender of as many bids as `prices` has places, with room lent for prices, starts and ends.
+fn single_in(
+    tender: Tender,
+    bids: &[u64],
+    windows: &[u64],
+    prices: &mut [u64],
+    starts: &mut [u64],
+    ends: &mut [u64],
+    won: &mut [u64],
+    cents: &mut [u64],
+) -> Answer
+    requires { ⌜ (faultOf Single tender (length (now prices)) (now bids) (now windows) ≡ none) × ((length (now starts) ≡ length (now prices)) × ((length (now ends) ≡ length (now prices))
+        × ((length (now prices) ≤ length (now won)) × (length (now prices) ≤ length (now cents))))) ⌝ }
+    ensures { λ r. ⌜ PlainPromise Single tender (length (now (prices .entry))) (now (bids .entry)) (now (windows .entry)) (length (now (prices .entry)))
+        (now (won .entry)) (now (cents .entry)) (now (won .exit)) (now (cents .exit)) r ⌝ }
+{
+    let window = tender.window;
+    let start = window.start;
+    let cells = window.end - window.start;
+    layout::prices(bids, prices);
+    layout::spans(start, cells, bids, windows, starts, ends);
+    let thin = bidders::thin_spans(starts, ends, cells as usize);
+    match thin {
+        // 11: a minute in no bid.
+        Thin::Nobody { cell } => Answer::Refused(Refusal::MinuteUncovered {
+            minute: start + cell,
+        }),
+        // 12: a minute in one bid.
+        Thin::Alone { cell } => Answer::Refused(Refusal::OneBidder {
+            minute: start + cell,
+        }),
+        Thin::Enough => Answer::Awarded(single::award(starts, ends, prices, cells, won, cents)),
+    }
+}
+
+// A faultless single tender.
+fn settle_single(
+    tender: Tender,
+    count: usize,
+    bids: &[u64],
+    windows: &[u64],
+    won: &mut [u64],
+    cents: &mut [u64],
+) -> Answer
+    requires { ⌜ (faultOf Single tender count (now bids) (now windows) ≡ none) × ((count ≤ length (now won)) × (count ≤ length (now cents))) ⌝ }
+    ensures { λ r. ⌜ PlainPromise Single tender count (now (bids .entry)) (now (windows .entry)) count (now (won .entry)) (now (cents .entry)) (now (won .exit)) (now (cents .exit)) r ⌝ }
+{
+    let mut prices = [0u64; 1000];
+    let mut starts = [0u64; 1000];
+    let mut ends = [0u64; 1000];
+    single_in(
+        tender,
+        bids,
+        windows,
+        &mut prices[..count],
+        &mut starts[..count],
+        &mut ends[..count],
+        won,
+        cents,
+    )
+}
+
+// The award of this kind where `lent` award rows are lent: first 9, then 10, then the tender itself.
+pub fn settle_in(
+    kind: Kind,
+    tender: Tender,
+    count: usize,
+    bids: &[u64],
+    windows: &[u64],
+    lent: usize,
+    won: &mut [u64],
+    cents: &mut [u64],
+) -> Answer
+    requires { ⌜ (min lent 1000 ≤ length (now won)) × (min lent 1000 ≤ length (now cents)) ⌝ }
+    ensures { λ r. ⌜ PlainPromise kind tender count (now (bids .entry)) (now (windows .entry)) lent (now (won .entry)) (now (cents .entry)) (now (won .exit)) (now (cents .exit)) r ⌝ }
+{
+    let check = tables::fault(kind, tender, count, bids, windows);
+    if let Check::Faulty { row } = check {
+        // 9: the tables break a rule.
+        return Answer::Refused(Refusal::BadTables { row });
+    }
+    if lent < count {
+        // 10: fewer award rows than bids.
+        return Answer::Refused(Refusal::RowsTooFew);
+    }
+    match kind {
+        Kind::Single => settle_single(tender, count, bids, windows, won, cents),
+        Kind::Multi => settle_multi(tender, count, bids, windows, won, cents),
+    }
+}
+
+fn lesser(a: usize, b: usize) -> usize
+    ensures { λ r. ⌜ r ≡ min a b ⌝ }
+{
+    if a < b { a } else { b }
+}
+
+// The award of this kind over plain cells: for each bid a flag, 1 for a winner, and the cents paid. There are as many
+// award rows as both lists have places.
+pub fn settle(
+    kind: Kind,
+    tender: Tender,
+    count: usize,
+    bids: &[u64],
+    windows: &[u64],
+    won: &mut [u64],
+    cents: &mut [u64],
+) -> Answer
+    ensures { λ r. ⌜ PlainPromise kind tender count (now (bids .entry)) (now (windows .entry)) (min (length (now (won .entry))) (length (now (cents .entry))))
+        (now (won .entry)) (now (cents .entry)) (now (won .exit)) (now (cents .exit)) r ⌝ }
+{
+    let lent = lesser(won.len(), cents.len());
+    settle_in(kind, tender, count, bids, windows, lent, won, cents)
+}
+
+// Fills one award row for each of the n bids, in entry order, from its flag and cents. Rows past the last bid stay.
+pub fn fill(rows: &mut [AwardRow], won: &[u64], cents: &[u64], n: usize)
+    requires { ⌜ (n ≤ length (now rows)) × ((n ≤ length (now won)) × (n ≤ length (now cents))) ⌝ }
+    ensures { λ _. ⌜ now (rows .exit) ≡ rowsIn n (now (won .entry)) (now (cents .entry)) ++ drop n (now (rows .entry)) ⌝ }
+{
+    let mut i = 0;
+    while i < n {
+        rows[i] = AwardRow {
+            won: won[i] == 1,
+            cents: cents[i],
+        };
+        i += 1;
+    }
 }
