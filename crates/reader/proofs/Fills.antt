@@ -1,29 +1,31 @@
 -- The walk over a text's bids: what the tables hold on the way. Assumes nothing.
-use Prim.Native.Nat.{ℕ, suc, _+_, _*_, _/_, _%_, _^_, _≤_, _<_}
+use Prim.Native.Nat.{ℕ, suc, _+_, _-_, _*_, _/_, _≤_, _<_}
 use mathlib.Core.Path.{_≡_, refl, sym, ap, _∙_}
-use mathlib.Core.List.{List, [], _∷_, _++_, map, append-assoc, append-nil}
+use mathlib.Core.List.{List, [], _∷_, _++_, append-assoc, append-nil}
 use mathlib.Core.Bool.{Bool, true, false, _||_}
 use mathlib.Core.Option.{Option, none, some}
 use native.Mathlib.Omega.{arith}
 use native.Mathlib.Nat.{zero-add, zero-div}
-use lib.ListN.{length, take, drop, getD, replicate, length-append, length-map, length-replicate, getD-replicate, List·getD-eq-default}
+use lib.ListN.{length, take, drop, getD, replicate, length-append, length-drop, length-replicate, getD-replicate, List·getD-eq-default}
+use lib.Seq.{length-take-le}
 use lib.Dec.{eqb, ltb}
-use borrow.Author.Tests.{eqb-true, eqb-false, eq-eqb, ltb-true, ltb-false}
+use borrow.Author.Tests.{eqb-true, eqb-false, ltb-true, ltb-false}
 use Rattle.tender.specs.declared.Kind.{Kind}
 use Rattle.tender.specs.declared.Refusal.{Refusal}
 use Rattle.tender.specs.Limits.{allLawful}
 use Rattle.tender.specs.Refusals.{numberOf, placeOf}
-use Rattle.tender.specs.Tables.{Row, flatRows, flatWindows}
+use Rattle.tender.specs.Tables.{flatRows, flatWindows}
 use Rattle.cells.specs.Cells.{cell, Filled}
 use Rattle.scan.specs.Words.{among, cut}
-use Rattle.scan.specs.Line.{Bid, Line, tender, bid, linesOf}
+use Rattle.scan.specs.Line.{Bid, Line, tender, bid, lineOf, linesOf}
 use Rattle.scan.specs.Scan.{toNext}
+use Rattle.scan.specs.SizeLaws.{line-windows}
 use Rattle.scan.specs.Answer.{FirstBroken, EndsAt}
 use Rattle.scan.specs.declared.words.LineEnd.{LineEnd}
 use Rattle.scan.specs.declared.words.LineEnd.the-variants.{At, Broken}
 use Rattle.reader.specs.Read.{Outcome, refused, rowsFrom, allWindows, bidsOf, faultIn, faultOf, judged, checked}
-use Rattle.reader.specs.RulesLaw.{Passed, passed}
-use Rattle.reader.specs.Steps.{cellsOf, Fault, Declines, Took, Judged, Taken, Held}
+use Rattle.reader.specs.RulesLaw.{passed}
+use Rattle.reader.specs.Steps.{Fault, Declines, Took, Judged, Taken, Held}
 use Rattle.reader.specs.declared.bids.Step.{Step}
 use Rattle.reader.specs.declared.bids.Step.the-variants as step
 use Rattle.reader.proofs.Store.{front, windows-put, windows-more, flat-more, rows-more}
@@ -56,7 +58,7 @@ pub record Walk (kind : Kind) (whole left : List (Option Line)) (k m : ℕ) (use
   pub marked : (x : ℕ) → eqb (cell used x) 1 ≡ among x (numbers done)
   pub used-long : length used ≡ 15625
   pub rows-long : length rows ≡ 4000
-  pub windows-long : length windows ≡ 64000
+  pub windows-long : length windows ≡ 22000
 
 -- it begins with nothing used
 
@@ -71,7 +73,7 @@ unset n x = let e : getD (zeros n) (x / 64) 0 ≡ 0 = zero-at (ltb (x / 64) n) r
     zero-at true h = getD-replicate n (x / 64) 0 0 (ltb-true (x / 64) n h)
     zero-at false h = List·getD-eq-default (zeros n) 0 (rw length-replicate (ltb-false (x / 64) n h))
 
-pub begins : (kind : Kind) (ls : List (Option Line)) (used rows windows : List ℕ) → used ≡ replicate 15625 0 → length rows ≡ 4000 → length windows ≡ 64000 → Walk kind ls ls 0 0 used rows windows
+pub begins : (kind : Kind) (ls : List (Option Line)) (used rows windows : List ℕ) → used ≡ replicate 15625 0 → length rows ≡ 4000 → length windows ≡ 22000 → Walk kind ls ls 0 0 used rows windows
 unfolding numbers zeros allWindows rowsFrom flatRows flatWindows among
 begins kind ls used rows windows u r w =
     record {
@@ -120,6 +122,21 @@ marked-more b us used used′ h f x = go (eqb b x) refl (ltb x b) refl ∙ sym (
         let l : b + 1 ≤ x = omega (arith, ltb-false x b g) in
         rw (f .above x l, or-false (among x us)) (h x)
 
+bid-not-refused : {A : Type 0} (r : Step) (c n at : ℕ) → r ≡ step.Bid c → Declines r n at → A
+bid-not-refused (step.Bid d) c n at e h = absurd h
+bid-not-refused (step.Refused x) c n at e h = let z : _≡_ {A = ℕ} 0 1 = cc in absurd (omega arith)
+
+-- what bounds the windows of a bid bounds those that a line adds
+pub taken-room : (kind : Kind) (k m : ℕ) (used rows windows used′ rows′ windows′ : List ℕ) (o : Option Line) (r : Step) (c n : ℕ) → Taken o kind k m used rows windows r used′ rows′ windows′ → r ≡ step.Bid c →
+    ((b : Bid) → o ≡ some (bid b) → 6 * (m + length (b .windows)) ≤ n) → 6 * (m + c) ≤ n
+taken-room kind k m used rows windows used′ rows′ windows′ none r c n t e h = bid-not-refused r c 2 (k + 2) e t
+taken-room kind k m used rows windows used′ rows′ windows′ (some (tender x)) r c n t e h = bid-not-refused r c 2 (k + 2) e t
+taken-room kind k m used rows windows used′ rows′ windows′ (some (bid b)) r c n t e h = go (faultIn kind k (b .bidder) (b .price) (length (b .windows)) (allLawful (b .windows)) (eqb (cell used (b .bidder)) 1)) t
+  where
+    go : (f : Option ℕ) → Judged f b k m used rows windows r used′ rows′ windows′ → 6 * (m + c) ≤ n
+    go none j = let q : c ≡ length (b .windows) = cc (e, j .answer) in rw q (h b refl)
+    go (some x) j = bid-not-refused r c x (k + 2) e j
+
 module _ (kind : Kind) (whole rest : List (Option Line)) (k m : ℕ) (used rows windows used′ rows′ windows′ : List ℕ) where
   -- the fault of the next bid
   fault-is : (b : Bid) (w : Walk kind whole (some (bid b) ∷ rest) k m used rows windows) →
@@ -127,17 +144,17 @@ module _ (kind : Kind) (whole rest : List (Option Line)) (k m : ℕ) (used rows 
   unfolding faultOf
   fault-is b w = rw (← (w .marked (b .bidder)), numbers-length (w .done), w .count)
 
-  more : (b : Bid) → Walk kind whole (some (bid b) ∷ rest) k m used rows windows → (r : Step) →
+  more : (b : Bid) → Walk kind whole (some (bid b) ∷ rest) k m used rows windows → (r : Step) → m + length (b .windows) ≤ 11000 →
       faultIn kind k (b .bidder) (b .price) (length (b .windows)) (allLawful (b .windows)) (eqb (cell used (b .bidder)) 1) ≡ none →
       Took b k m used rows windows r used′ rows′ windows′ → length used′ ≡ length used → length rows′ ≡ length rows → length windows′ ≡ length windows →
       Walk kind whole rest (k + 1) (m + length (b .windows)) used′ rows′ windows′
   unfolding checked judged bidsOf
-  more b w r g t lu lr lw =
+  more b w r room g t lu lr lw =
       let p = passed kind k (b .bidder) (b .price) (length (b .windows)) (allLawful (b .windows)) (eqb (cell used (b .bidder)) 1) g in
       let f = fault-is b w ∙ g in
       let n : k + 2 + 1 ≡ k + 1 + 2 = omega arith in
       let i : m + length (b .windows) ≤ 32 * (k + 1) = omega (arith, w .few-windows, p .few-windows) in
-      let j : 2 * (m + length (b .windows)) ≤ length windows = omega (arith, i, p .few-bids, w .windows-long) in
+      let j : 2 * (m + length (b .windows)) ≤ length windows = omega (arith, room, w .windows-long) in
       let z : 4 * k ≤ length rows = omega (arith, w .few-bids, w .rows-long) in
       record {
         done = w .done ++ b ∷ [];
@@ -155,21 +172,17 @@ module _ (kind : Kind) (whole rest : List (Option Line)) (k m : ℕ) (used rows 
         windows-long = lw ∙ w .windows-long;
       }
 
-  bid-not-refused : {A : Type 0} (r : Step) (c n at : ℕ) → r ≡ step.Bid c → Declines r n at → A
-  bid-not-refused (step.Bid d) c n at e h = absurd h
-  bid-not-refused (step.Refused x) c n at e h = let z : _≡_ {A = ℕ} 0 1 = cc in absurd (omega arith)
-
   -- the next line is a bid
   pub goes : (o : Option Line) → Walk kind whole (o ∷ rest) k m used rows windows → (r : Step) → Taken o kind k m used rows windows r used′ rows′ windows′ →
-      length used′ ≡ length used → length rows′ ≡ length rows → length windows′ ≡ length windows → (c : ℕ) → r ≡ step.Bid c →
+      length used′ ≡ length used → length rows′ ≡ length rows → length windows′ ≡ length windows → (c : ℕ) → r ≡ step.Bid c → ((b : Bid) → o ≡ some (bid b) → m + length (b .windows) ≤ 11000) →
       Walk kind whole rest (k + 1) (m + c) used′ rows′ windows′
-  goes none w r t lu lr lw c e = bid-not-refused r c 2 (k + 2) e t
-  goes (some (tender x)) w r t lu lr lw c e = bid-not-refused r c 2 (k + 2) e t
-  goes (some (bid b)) w r t lu lr lw c e = go (faultIn kind k (b .bidder) (b .price) (length (b .windows)) (allLawful (b .windows)) (eqb (cell used (b .bidder)) 1)) refl t
+  goes none w r t lu lr lw c e room = bid-not-refused r c 2 (k + 2) e t
+  goes (some (tender x)) w r t lu lr lw c e room = bid-not-refused r c 2 (k + 2) e t
+  goes (some (bid b)) w r t lu lr lw c e room = go (faultIn kind k (b .bidder) (b .price) (length (b .windows)) (allLawful (b .windows)) (eqb (cell used (b .bidder)) 1)) refl t
     where
       go : (f : Option ℕ) → faultIn kind k (b .bidder) (b .price) (length (b .windows)) (allLawful (b .windows)) (eqb (cell used (b .bidder)) 1) ≡ f →
           Judged f b k m used rows windows r used′ rows′ windows′ → Walk kind whole rest (k + 1) (m + c) used′ rows′ windows′
-      go none g j = let q : c ≡ length (b .windows) = cc (e, j .answer) in rw q (more b w r g j lu lr lw)
+      go none g j = let q : c ≡ length (b .windows) = cc (e, j .answer) in rw q (more b w r (room b refl) g j lu lr lw)
       go (some n) g j = bid-not-refused r c n (k + 2) e j
 
   refusal-is : (r : Step) (x : Refusal) (n at : ℕ) → r ≡ step.Refused x → Declines r n at → refused n at ≡ refused (numberOf x) (placeOf x)
@@ -200,16 +213,16 @@ unfolding checked
 breaks kind whole rest k m used rows windows w out = w .checks out
 
 -- no line is left
-pub ends : (kind : Kind) (whole : List (Option Line)) (k m : ℕ) (used rows windows : List ℕ) → Walk kind whole [] k m used rows windows → Held kind whole k m rows windows
+pub ends : (kind : Kind) (whole : List (Option Line)) (k m : ℕ) (used rows windows : List ℕ) → Walk kind whole [] k m used rows windows → m ≤ 11000 → Held kind whole k m rows windows
 unfolding checked bidsOf
-ends kind whole k m used rows windows w =
+ends kind whole k m used rows windows w l =
     let e : bidsOf whole ≡ w .done = w .bids ∙ append-nil (w .done) in
     record {
       faultless = w .checks;
       bids = ap length e ∙ w .count;
       places = rw e (w .places);
       few-bids = w .few-bids;
-      few-windows = omega (arith, w .few-windows, w .few-bids);
+      few-windows = l;
       rows-are = rw e (w .rows-are);
       windows-are = rw e (w .windows-are);
     }
@@ -223,3 +236,9 @@ ends-at text i Broken h e q = let z : _≡_ {A = ℕ} 0 1 = cc in absurd (omega 
 pub ends-broken : (text : List ℕ) (i : ℕ) (r : LineEnd) → EndsAt text i r → r ≡ Broken → FirstBroken (linesOf (cut 10 (drop i text)))
 ends-broken text i (At f) h q = let z : _≡_ {A = ℕ} 0 1 = cc in absurd (omega arith)
 ends-broken text i Broken h q = h
+
+-- the windows of the text up to the end of the next line
+pub room-for : (text : List ℕ) (i e m : ℕ) → 6 * m ≤ i → i ≤ e → e < length text → (b : Bid) → lineOf (take (e - i) (drop i text)) ≡ some (bid b) → 6 * (m + length (b .windows)) ≤ e + 1
+room-for text i e m h l k b q =
+    let n : length (take (e - i) (drop i text)) ≡ e - i = length-take-le (e - i) (drop i text) (rw length-drop (omega arith)) in
+    omega (arith, line-windows (take (e - i) (drop i text)) b q)

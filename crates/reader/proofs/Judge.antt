@@ -1,54 +1,49 @@
 -- The first fault of a bid, test by test. Assumes nothing.
-use Prim.Native.Nat.{ℕ, _≤_, _<_}
+use Prim.Native.Nat.{ℕ, _≤_}
 use mathlib.Core.Path.{_≡_, refl}
-use mathlib.Core.Bool.{Bool, true, false, _&&_}
+use mathlib.Core.Bool.{Bool, true, false, not, _&&_, _||_, true≢false}
 use mathlib.Core.Option.{none, some}
-use lib.Dec.{ltb}
-use native.Mathlib.Omega.{arith}
-use borrow.Author.Tests.{lt-ltb, le-ltb, le-leb, lt-leb}
+use lib.Dec.{leb, ltb}
+use borrow.Author.Tests.{leb-true}
 use Rattle.tender.specs.declared.Kind.{Kind}
 use Rattle.tender.specs.Limits.{within, isSingle}
 use Rattle.reader.specs.Read.{faultIn}
 
 module _ (k : Kind) (bids bidder price count : ℕ) (ok used : Bool) where
-  pub many-bids : 1000 ≤ bids → faultIn k bids bidder price count ok used ≡ some 4
+  pub many : leb 1000 bids || ltb 32 count ≡ true → faultIn k bids bidder price count ok used ≡ some 4
   unfolding faultIn
-  many-bids h = simp (le-leb 1000 bids h)
+  many h = rw h
 
-  module _ (a : bids < 1000) where
-    pub many-windows : 32 < count → faultIn k bids bidder price count ok used ≡ some 4
+  module _ (a : leb 1000 bids || ltb 32 count ≡ false) where
+    pub beyond : not (within 1 999999 bidder) || ltb 100000000 price ≡ true → faultIn k bids bidder price count ok used ≡ some 3
     unfolding faultIn
-    many-windows h = simp (lt-leb 1000 bids a, lt-ltb 32 count h)
+    beyond h = rw (a, h)
 
-    module _ (b : count ≤ 32) where
-      pub bidder-low : bidder < 1 → faultIn k bids bidder price count ok used ≡ some 3
-      unfolding faultIn within
-      bidder-low h = simp (lt-leb 1000 bids a, le-ltb 32 count b, lt-leb 1 bidder h)
+    module _ (b : not (within 1 999999 bidder) || ltb 100000000 price ≡ false) where
+      pub several-windows : isSingle k && ltb 1 count ≡ true → faultIn k bids bidder price count ok used ≡ some 7
+      unfolding faultIn
+      several-windows h = rw (a, b, h)
 
-      pub bidder-high : 999999 < bidder → faultIn k bids bidder price count ok used ≡ some 3
-      unfolding faultIn within
-      bidder-high h = let l : 1 ≤ bidder = omega arith in simp (lt-leb 1000 bids a, le-ltb 32 count b, le-leb 1 bidder l, lt-leb bidder 999999 h)
+      module _ (c : isSingle k && ltb 1 count ≡ false) where
+        pub unlawful : ok ≡ false → faultIn k bids bidder price count ok used ≡ some 5
+        unfolding faultIn
+        unlawful h = rw (a, b, c, h)
 
-      module _ (c : 1 ≤ bidder) (d : bidder ≤ 999999) where
-        pub price-high : 100000000 < price → faultIn k bids bidder price count ok used ≡ some 3
-        unfolding faultIn within
-        price-high h = simp (lt-leb 1000 bids a, le-ltb 32 count b, le-leb 1 bidder c, le-leb bidder 999999 d, lt-ltb 100000000 price h)
+        module _ (d : ok ≡ true) where
+          pub repeated : used ≡ true → faultIn k bids bidder price count ok used ≡ some 6
+          unfolding faultIn
+          repeated h = rw (a, b, c, d, h)
 
-        module _ (e : price ≤ 100000000) where
-          pub several-windows : isSingle k && ltb 1 count ≡ true → faultIn k bids bidder price count ok used ≡ some 7
-          unfolding faultIn within
-          several-windows h = simp (lt-leb 1000 bids a, le-ltb 32 count b, le-leb 1 bidder c, le-leb bidder 999999 d, le-ltb 100000000 price e, h)
+          pub sound : used ≡ false → faultIn k bids bidder price count ok used ≡ none
+          unfolding faultIn
+          sound h = rw (a, b, c, d, h)
 
-          module _ (f : isSingle k && ltb 1 count ≡ false) where
-            pub unlawful : ok ≡ false → faultIn k bids bidder price count ok used ≡ some 5
-            unfolding faultIn within
-            unlawful h = simp (lt-leb 1000 bids a, le-ltb 32 count b, le-leb 1 bidder c, le-leb bidder 999999 d, le-ltb 100000000 price e, f, h)
-
-            module _ (g : ok ≡ true) where
-              pub repeated : used ≡ true → faultIn k bids bidder price count ok used ≡ some 6
-              unfolding faultIn within
-              repeated h = simp (lt-leb 1000 bids a, le-ltb 32 count b, le-leb 1 bidder c, le-leb bidder 999999 d, le-ltb 100000000 price e, f, g, h)
-
-              pub sound : used ≡ false → faultIn k bids bidder price count ok used ≡ none
-              unfolding faultIn within
-              sound h = simp (lt-leb 1000 bids a, le-ltb 32 count b, le-leb 1 bidder c, le-leb bidder 999999 d, le-ltb 100000000 price e, f, g, h)
+-- a bidder within its limits is one of a million
+pub bidder-in : (bidder price : ℕ) → not (within 1 999999 bidder) || ltb 100000000 price ≡ false → bidder ≤ 999999
+unfolding within
+bidder-in bidder price h = go (leb 1 bidder) (leb bidder 999999) refl h
+  where
+    go : (a b : Bool) → leb bidder 999999 ≡ b → not (a && b) || ltb 100000000 price ≡ false → bidder ≤ 999999
+    go true true e x = leb-true bidder 999999 e
+    go true false e x = absurd (true≢false x)
+    go false b e x = absurd (true≢false x)

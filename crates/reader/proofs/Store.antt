@@ -2,15 +2,13 @@
 use Prim.Native.Nat.{ℕ, suc, _+_, _*_, _/_, _≤_, _<_}
 use mathlib.Core.Path.{_≡_, refl, sym, ap, _∙_}
 use mathlib.Core.List.{List, [], _∷_, _++_, append-assoc, append-nil}
-use mathlib.Core.Bool.{true}
 use native.Mathlib.Omega.{arith}
-use native.Mathlib.Nat.{add-zero, add-assoc}
-use lib.ListN.{length, take, drop, set, length-append, length-set}
+use native.Mathlib.Nat.{add-zero}
+use lib.ListN.{length, take, drop, length-append, length-set}
 use lib.Seq.{sets-eq, length-take-le, take-at}
-use lib.Dec.{ltb}
 use borrow.Author.Tests.{lt-ltb}
 use Rattle.tender.specs.declared.Window.{Window}
-use Rattle.tender.specs.Tables.{Row, flatRows, flatWindows}
+use Rattle.tender.specs.Tables.{flatRows, flatWindows}
 use Rattle.scan.specs.Line.{Bid}
 use Rattle.scan.specs.Scan.{putWindow, putWindows}
 use Rattle.reader.specs.Read.{rowsFrom, allWindows}

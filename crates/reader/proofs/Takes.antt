@@ -1,7 +1,7 @@
 -- What comes of a line, from what is noted of it. Assumes nothing.
 use Prim.Native.Nat.{ℕ, _+_, _*_}
-use mathlib.Core.Path.{_≡_, refl, sym, ap, _∙_}
-use mathlib.Core.List.{List, [], _∷_, _++_}
+use mathlib.Core.Path.{_≡_, refl, ap, _∙_}
+use mathlib.Core.List.{List, _++_}
 use mathlib.Core.Bool.{Bool, true}
 use mathlib.Core.Option.{Option, none, some}
 use native.Mathlib.Omega.{arith}
@@ -9,14 +9,13 @@ use native.Mathlib.Nat.{add-zero, zero-add}
 use lib.ListN.{length, take, drop}
 use lib.Dec.{eqb}
 use Rattle.tender.specs.declared.Kind.{Kind}
-use Rattle.tender.specs.declared.Window.{Window}
 use Rattle.tender.specs.declared.Tender.{Tender}
 use Rattle.tender.specs.Limits.{allLawful}
 use Rattle.cells.specs.Cells.{cell, Filled}
 use Rattle.scan.specs.Line.{Bid, Line, tender, bid}
-use Rattle.scan.specs.Scan.{putWindows, Tally, tally, Note, tenderNote, bidNote, noted}
+use Rattle.scan.specs.Scan.{putWindows, Tally, tally, tenderNote, bidNote, noted}
 use Rattle.reader.specs.Read.{faultIn}
-use Rattle.reader.specs.Steps.{cellsOf, Fault, faultAt, Declines, Took, Judged, Taken}
+use Rattle.reader.specs.Steps.{cellsOf, Fault, faultAt, Declines, Taken}
 use Rattle.reader.specs.declared.bids.Step.{Step}
 use Rattle.reader.specs.declared.bids.Step.the-variants as step
 

@@ -1,8 +1,8 @@
 -- What reading answers, from the first line, the bids and the lent tables' lengths. Assumes nothing.
 use Prim.Native.Nat.{ℕ, _+_, _-_, _*_, _/_, _≤_, _<_}
-use mathlib.Core.Path.{_≡_, refl, sym, ap, _∙_}
+use mathlib.Core.Path.{_≡_, refl, _∙_}
 use mathlib.Core.List.{List, [], _∷_, _++_}
-use mathlib.Core.Bool.{Bool, true, false, _&&_}
+use mathlib.Core.Bool.{false}
 use mathlib.Core.Option.{Option, none, some}
 use native.Mathlib.Omega.{arith}
 use lib.ListN.{length, take, drop}
@@ -15,12 +15,12 @@ use Rattle.tender.specs.Limits.{lawful}
 use Rattle.tender.specs.Refusals.{numberOf, placeOf}
 use Rattle.tender.specs.Tables.{Row, flatRows, flatWindows}
 use Rattle.scan.specs.Words.{cut}
-use Rattle.scan.specs.Line.{Bid, Line, tender, bid, lineOf, linesOf}
-use Rattle.scan.specs.Scan.{Tally, Note, tenderNote, bidNote, noted}
+use Rattle.scan.specs.Line.{Line, tender, bid, linesOf}
+use Rattle.scan.specs.Scan.{Tally, tenderNote, bidNote, noted}
 use Rattle.scan.specs.Answer.{FirstBroken}
 use Rattle.reader.specs.Read.{Outcome, accepted, refused, rowsFrom, allWindows, bidsOf, checked, tables, readLines, readText, fitted, readInto}
 use Rattle.reader.specs.RulesLaw.{rows-length}
-use Rattle.reader.specs.Answer.{Told, filled, declined, summary, bidsAfter, windowsAfter}
+use Rattle.reader.specs.Answer.{filled, declined, summary, bidsAfter, windowsAfter}
 use Rattle.reader.specs.Steps.{Begins, Opened, Held, Filled}
 use Rattle.reader.specs.declared.First.{First}
 use Rattle.reader.specs.declared.First.the-variants as first

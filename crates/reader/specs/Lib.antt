@@ -11,3 +11,4 @@ pub mod Rules
 pub mod RulesLaw
 pub mod CountLaws
 pub mod PlainLaw
+pub mod SizeLaw

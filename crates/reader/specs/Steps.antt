@@ -1,4 +1,4 @@
--- What the reader's functions answer, as the definitions' values.
+-- What this crate's functions answer, as the definitions' values.
 use mathlib.Core.Path.{_≡_}
 use mathlib.Core.List.{List, [], _∷_, _++_}
 use mathlib.Core.Bool.{true}
@@ -74,7 +74,7 @@ pub record Held (kind : Kind) (ls : List (Option Line)) (k m : ℕ) (rows window
   pub bids : length (bidsOf ls) ≡ k
   pub places : length (allWindows (bidsOf ls)) ≡ m
   pub few-bids : k ≤ 1000
-  pub few-windows : m ≤ 32000
+  pub few-windows : m ≤ 11000
   pub rows-are : take (4 * k) rows ≡ flatRows (rowsFrom 0 (bidsOf ls))
   pub windows-are : take (2 * m) windows ≡ flatWindows (allWindows (bidsOf ls))
 

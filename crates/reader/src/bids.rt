@@ -1,10 +1,10 @@
 // The bids of a text: each line judged in the paper's order, and put into tables.
 ghost use mathlib.Core.Path.{_≡_};
-ghost use mathlib.Core.Bool.{_&&_};
+ghost use mathlib.Core.Bool.{not, _&&_, _||_};
 ghost use Prim.Native.Nat.{_≤_};
 ghost use lib.ListN.{length, drop, replicate};
-ghost use lib.Dec.{ltb, eqb};
-ghost use Rattle.tender.specs.Limits.{isSingle};
+ghost use lib.Dec.{leb, ltb, eqb};
+ghost use Rattle.tender.specs.Limits.{within, maxPrice, maxBidder, maxBids, maxWindows, isSingle};
 ghost use Rattle.cells.specs.Cells.{cell};
 ghost use Rattle.scan.specs.Words.{cut};
 ghost use Rattle.scan.specs.Line.{lineOf, linesOf};
@@ -17,6 +17,30 @@ use scan::words::LineEnd;
 use scan::words::line_end;
 use tender::Kind;
 use tender::Refusal;
+
+// Whether this is a 1,001st bid or has a 33rd window.
+fn too_many(bids: usize, windows: usize) -> bool
+    ensures { λ r. ⌜ r ≡ (leb maxBids bids || ltb maxWindows windows) ⌝ }
+{
+    if tender::MAX_BIDS <= bids {
+        true
+    } else {
+        tender::MAX_WINDOWS < windows
+    }
+}
+
+// Whether the bidder or the price is outside its limits.
+fn outside(bidder: u64, price: u64) -> bool
+    ensures { λ r. ⌜ r ≡ (not (within 1 maxBidder bidder) || ltb maxPrice price) ⌝ }
+{
+    if bidder < 1 {
+        true
+    } else if tender::MAX_BIDDER < bidder {
+        true
+    } else {
+        tender::MAX_PRICE < price
+    }
+}
 
 // Whether the tender takes one window a bid and there are more.
 fn several(kind: Kind, windows: usize) -> bool
@@ -47,19 +71,10 @@ fn judge(
     requires { ⌜ length (now used) ≡ 15625 ⌝ }
     ensures { λ r. ⌜ verdictOf r ≡ faultAt line (faultIn kind bids bidder price windows ok (eqb (cell (now (used .entry)) bidder) 1)) ⌝ }
 {
-    if tender::MAX_BIDS <= bids {
+    if too_many(bids, windows) {
         return Verdict::Faulty(Refusal::TooMany { line });
     }
-    if tender::MAX_WINDOWS < windows {
-        return Verdict::Faulty(Refusal::TooMany { line });
-    }
-    if bidder < 1 {
-        return Verdict::Faulty(Refusal::OutsideLimits { line });
-    }
-    if tender::MAX_BIDDER < bidder {
-        return Verdict::Faulty(Refusal::OutsideLimits { line });
-    }
-    if tender::MAX_PRICE < price {
+    if outside(bidder, price) {
         return Verdict::Faulty(Refusal::OutsideLimits { line });
     }
     if several(kind, windows) {
@@ -130,7 +145,7 @@ pub(crate) fn read_bids(
     rows: &mut [u64],
     windows: &mut [u64],
 ) -> Bids
-    requires { ⌜ (at ≤ length (now text)) × (now used ≡ replicate 15625 0) × (length (now rows) ≡ 4000) × (length (now windows) ≡ 64000) ⌝ }
+    requires { ⌜ (at ≤ length (now text)) × (length (now text) ≤ 65536) × (now used ≡ replicate 15625 0) × (length (now rows) ≡ 4000) × (length (now windows) ≡ 22000) ⌝ }
     ensures { λ r. ⌜ Filled kind (linesOf (cut 10 (drop at (now (text .entry))))) r (now (rows .exit)) (now (windows .exit)) ⌝ }
 {
     let mut k: usize = 0;

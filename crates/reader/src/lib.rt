@@ -21,11 +21,11 @@ use tables::copy;
 use tender::Refusal;
 use tender::Tender;
 
-// The rows that the longest readable text needs, and the words of a set of a million bidder numbers.
+// The cells that the longest readable text needs: 1,000 bids, and fewer than 11,000 windows, since each has six bytes.
 const BID_TABLE: usize = 4000;
 
-const WINDOW_TABLE: usize = 64000;
-
+const WINDOW_TABLE: usize = 22000;
+// The words of a set of a million bidder numbers.
 const NUMBER_WORDS: usize = 15625;
 
 pub(crate) enum First {

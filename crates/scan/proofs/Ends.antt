@@ -32,19 +32,20 @@ odd : (b : ℕ) → within 48 57 b ≡ false → within 97 122 b ≡ false → (
 unfolding plain
 odd b d l o c s n = simp (d, l, ne-eqb b 40 o, ne-eqb b 41 c, ne-eqb b 32 s, ne-eqb b 10 n)
 
--- the bytes between those that a text may have
+-- the bytes between those that a text may have, digits apart
 
 pub odd-low : (b : ℕ) → b < 40 → (b ≡ 32 → ⊥) → (b ≡ 10 → ⊥) → plain b ≡ false
 odd-low b h s n = odd b (below 48 57 b (omega arith)) (below 97 122 b (omega arith)) (λ e. omega arith) (λ e. omega arith) s n
 
-pub odd-bracket : (b : ℕ) → 41 < b → b < 48 → plain b ≡ false
-odd-bracket b l h = odd b (below 48 57 b h) (below 97 122 b (omega arith)) (λ e. omega arith) (λ e. omega arith) (λ e. omega arith) (λ e. omega arith)
-
-pub odd-middle : (b : ℕ) → 57 < b → b < 97 → plain b ≡ false
-odd-middle b l h = odd b (above 48 57 b (omega arith) l) (below 97 122 b h) (λ e. omega arith) (λ e. omega arith) (λ e. omega arith) (λ e. omega arith)
+pub odd-middle : (b : ℕ) → within 48 57 b ≡ false → 41 < b → b < 97 → plain b ≡ false
+odd-middle b d l h = odd b d (below 97 122 b h) (λ e. omega arith) (λ e. omega arith) (λ e. omega arith) (λ e. omega arith)
 
 pub odd-high : (b : ℕ) → 122 < b → plain b ≡ false
 odd-high b l = odd b (above 48 57 b (omega arith) (omega arith)) (above 97 122 b (omega arith) l) (λ e. omega arith) (λ e. omega arith) (λ e. omega arith) (λ e. omega arith)
+
+pub digit-not-end : (b : ℕ) → within 48 57 b ≡ true → b ≡ 10 → ⊥
+unfolding within
+digit-not-end b h e = false≢true (sym (below 48 57 b (omega arith)) ∙ h)
 
 plain-at : (p : List ℕ) (k : ℕ) → k < length p → allPlain p ≡ true → plain (getD p k 0) ≡ true
 unfolding allPlain

@@ -1,4 +1,4 @@
--- The answers of the reader's functions as the definitions' values.
+-- The answers of this crate's functions, as the definitions' values.
 use mathlib.Core.Path.{_≡_}
 use mathlib.Core.List.{List, _∷_}
 use mathlib.Core.Option.{Option, none, some}

@@ -50,12 +50,12 @@ cut-plain d (b ∷ s) h a = go (eqb b d) refl (cut d s) (cut-some d s) (cut-plai
     go false e [] c ih x = let q : [] ≡ c .first ∷ c .rest = c .are in let z : _≡_ {A = ℕ} 0 1 = cc in absurd (omega arith)
     go false e (p ∷ ps) c ih x = more p ps ih x
 
-then-some : {A B : Type 0} (o : Option A) (f : A → Option B) (x : B) → andThen o f ≡ some x → (a : A) × (o ≡ some a) × (f a ≡ some x)
+pub then-some : {A B : Type 0} (o : Option A) (f : A → Option B) (x : B) → andThen o f ≡ some x → (a : A) × (o ≡ some a) × (f a ≡ some x)
 unfolding andThen
 then-some none f x e = let z : _≡_ {A = ℕ} 0 1 = cc in absurd (omega arith)
 then-some (some a) f x e = (a, refl, e)
 
-cond-some : {A : Type 0} (t : Bool) (o : Option A) (x : A) → cond t o none ≡ some x → (t ≡ true) × (o ≡ some x)
+pub cond-some : {A : Type 0} (t : Bool) (o : Option A) (x : A) → cond t o none ≡ some x → (t ≡ true) × (o ≡ some x)
 cond-some true o x e = (refl, e)
 cond-some false o x e = let z : _≡_ {A = ℕ} 0 1 = cc in absurd (omega arith)
 

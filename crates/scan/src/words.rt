@@ -2,6 +2,7 @@
 ghost use mathlib.Core.Path.{_≡_};
 ghost use Prim.Native.Nat.{_+_, _≤_, _<_};
 ghost use lib.ListN.{drop, length};
+ghost use Rattle.tender.specs.Limits.{within};
 ghost use Rattle.scan.specs.Words.{same as sameWords, digits, numeralOf, priceOf};
 ghost use Rattle.scan.specs.Scan.{toNext};
 ghost use Rattle.scan.specs.Answer.{asNumber, EndsAt};
@@ -26,6 +27,16 @@ pub(crate) fn next(s: &[u8], at: usize, d: u8) -> usize
     i
 }
 
+// Whether the byte is a digit. Most bytes of a text are.
+fn digit(b: u8) -> bool
+    ensures { λ r. ⌜ r ≡ within 48 57 b ⌝ }
+{
+    match b {
+        b'0'..=b'9' => true,
+        _ => false,
+    }
+}
+
 pub enum LineEnd {
     At(usize),
     Broken,
@@ -38,12 +49,16 @@ pub fn line_end(text: &[u8], at: usize) -> LineEnd
 {
     let mut i = at;
     while i < text.len() {
-        match text[i] {
-            b'0'..=b'9' => i += 1,
-            b'a'..=b'z' => i += 1,
-            b' ' | b'(' | b')' => i += 1,
-            b'\n' => return LineEnd::At(i),
-            _ => return LineEnd::Broken,
+        let b = text[i];
+        if digit(b) {
+            i += 1;
+        } else {
+            match b {
+                b'a'..=b'z' => i += 1,
+                b' ' | b'(' | b')' => i += 1,
+                b'\n' => return LineEnd::At(i),
+                _ => return LineEnd::Broken,
+            }
         }
     }
     LineEnd::Broken

@@ -6,11 +6,10 @@ use Prim.Native.Nat.{ℕ, zero, suc, _+_, _*_, _-_, _/_, _%_, _^_, _≤_, _<_}
 use native.Mathlib.Nat.{mul-assoc, pow-suc, pow-le-pow-right, div-div-eq-div-mul, pow-succ'}
 use native.Mathlib.Omega.{arith}
 use lib.Dec.{ltb, leb, eqb}
-use lib.ListN.{length, getD, set, length-set, replicate}
+use lib.ListN.{length, getD, set, length-set}
 use lib.Seq.{getD-set-same, getD-set-other}
 use borrow.Author.Tests.{ltb-true, ltb-false, eqb-true, eqb-false, lt-ltb, le-ltb, le-leb, lt-leb, eq-eqb, ne-eqb}
 use Rattle.cover.specs.Sets.{Found, nothing, found, bit, when}
-use Rattle.cover.specs.SettledLaws.{zeros}
 use Rattle.cover.specs.SetMembers.{add-below}
 use Rattle.cover.specs.Intervals.{costOf, lesser, earlier}
 use Rattle.cover.specs.IntervalScan.{found-one}
@@ -111,8 +110,12 @@ pub row-none : (xs : List ℕ) (q : ℕ) → ((j : ℕ) → j < 16 → getD xs (
 unfolding row
 row-none xs q h = number-none 16 (λ j. getD xs (q * 16 + j) 0) h
 
-pub row-zeros : (m q : ℕ) → row (replicate m 0) q ≡ 0
-row-zeros m q = row-none (replicate m 0) q (λ j l. zeros m (q * 16 + j))
+pub cleared-more : (xs : List ℕ) (q j : ℕ) → q * 16 + j < length xs → ((i : ℕ) → i < j → getD xs (q * 16 + i) 0 ≡ 0) → (i : ℕ) → i < j + 1 → getD (set xs (q * 16 + j) 0) (q * 16 + i) 0 ≡ 0
+cleared-more xs q j l h i d = go (eqb i j) refl
+  where
+    go : (t : Bool) → eqb i j ≡ t → getD (set xs (q * 16 + j) 0) (q * 16 + i) 0 ≡ 0
+    go true e = rw (eqb-true i j e) (getD-set-same xs (q * 16 + j) 0 0 l)
+    go false e = getD-set-other xs (q * 16 + j) (q * 16 + i) 0 0 (λ z. eqb-false i j e (omega arith)) ∙ h i (omega (arith, eqb-false i j e))
 
 -- a row of which no place was written
 pub row-kept : (old new : List ℕ) (i q : ℕ) → (q ≡ i → ⊥) → ((x : ℕ) → Off i x → getD new x 0 ≡ getD old x 0) → row new q ≡ row old q

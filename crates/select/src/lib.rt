@@ -3,20 +3,23 @@
 // and covers every cell below its end, and that set as a row of 64-bit words, bid i its bit i. The bid that ends the least set
 // leads as long as it reaches the next start; when it no longer does, the bids that still reach are looked through once.
 ghost use mathlib.Core.Path.{_≡_};
-ghost use mathlib.Core.Bool.{Bool, true, false};
-ghost use Prim.Native.Nat.{ℕ, _+_, _*_, _-_, _/_, _%_, _^_, _<_, _≤_};
+ghost use Prim.Native.Nat.{ℕ, _+_, _*_, _-_, _/_, _<_, _≤_};
 ghost use lib.ListN.{getD, length};
-ghost use lib.Dec.{ltb};
-ghost use Rattle.cover.specs.Sets.{bit, when, valueOf};
+ghost use Rattle.cover.specs.Sets.{valueOf};
 ghost use Rattle.cover.specs.CriticalPrice.{sum};
-ghost use Rattle.cover.specs.SettledLaws.{Written};
 ghost use Rattle.cover.specs.IntervalBids.{Bids};
 ghost use Rattle.select.specs.Costs.{costIn, raised};
-ghost use Rattle.select.specs.Rows.{row, prefer, reached, Extended};
-ghost use Rattle.select.specs.RowLaws.{Copied};
+ghost use Rattle.select.specs.Rows.{row, prefer, reached};
 ghost use Rattle.select.specs.Live.{counted};
 ghost use Rattle.select.specs.Lead.{endOf, Renewed, Led, Running};
 ghost use Rattle.select.specs.Turn.{Weighed, Selected};
+
+mod rows;
+
+use rows::clear;
+use rows::extend;
+use rows::lighter;
+use rows::mark;
 
 // No cost: nothing covers.
 pub const NONE: u64 = 18446744073709551615;
@@ -52,44 +55,6 @@ pub fn end_of(ends: &[u64], n: usize, r: usize) -> u64
         return 0;
     }
     ends[r]
-}
-
-// The set in row `q` stands in a tie with the set in row `r`: the highest word that tells them apart decides.
-fn stands(sets: &[u64], q: usize, r: usize) -> bool
-    requires { ⌜ (q * 16 + 16 ≤ length (now sets)) × (r * 16 + 16 ≤ length (now sets)) ⌝ }
-    ensures { λ z. ⌜ z ≡ ltb (row (now (sets .entry)) q) (row (now (sets .entry)) r) ⌝ }
-{
-    let mut j: usize = 16;
-    while j > 0 {
-        j -= 1;
-        let x = sets[q * 16 + j];
-        let y = sets[r * 16 + j];
-        if x < y {
-            return true;
-        }
-        if y < x {
-            return false;
-        }
-    }
-    false
-}
-
-// Of bids `q` and `r` the one of less weight.
-fn lighter(costs: &[u64], sets: &[u64], q: usize, r: usize) -> usize
-    requires { ⌜ (q < length (now costs)) × (r < length (now costs)) × (q * 16 + 16 ≤ length (now sets)) × (r * 16 + 16 ≤ length (now sets)) ⌝ }
-    ensures { λ z. ⌜ z ≡ prefer (now (costs .entry)) (now (sets .entry)) q r ⌝ }
-{
-    let x = costs[q];
-    let y = costs[r];
-    if x < y {
-        return q;
-    }
-    if x == y {
-        if stands(sets, q, r) {
-            return q;
-        }
-    }
-    r
 }
 
 // The lighter where bid `q`, from `start` to `end`, reaches `t`.
@@ -169,48 +134,6 @@ fn lead_at(
         return lead;
     }
     renew(starts, ends, live, costs, sets, n, lead.live, t)
-}
-
-fn mask(i: usize) -> u64
-    ensures { λ x. ⌜ x ≡ 2 ^ (i % 64) ⌝ }
-{
-    let one: u64 = 1;
-    one << ((i % 64) as u64)
-}
-
-fn copy_row(sets: &mut [u64], from: usize, to: usize)
-    requires { ⌜ (from * 16 + 16 ≤ length (now sets)) × (to * 16 + 16 ≤ length (now sets)) × (from ≡ to → ⊥) ⌝ }
-    ensures { λ r. ⌜ Copied (now (sets .entry)) (now (sets .exit)) from to 16 ⌝ }
-{
-    let mut j: usize = 0;
-    while j < 16 {
-        sets[to * 16 + j] = sets[from * 16 + j];
-        j += 1;
-    }
-}
-
-// Row `i`: row `from` with bid `i`.
-fn extend(sets: &mut [u64], from: usize, i: usize)
-    requires { ⌜ (from * 16 + 16 ≤ length (now sets)) × (i * 16 + 16 ≤ length (now sets)) × (from ≡ i → ⊥) × (i < 1024) ⌝ }
-    requires { ⌜ bit (row (now sets) from) i ≡ false ⌝ }
-    ensures { λ r. ⌜ Extended (now (sets .entry)) (now (sets .exit)) from i (2 ^ i) ⌝ }
-{
-    copy_row(sets, from, i);
-    let at = i * 16 + i / 64;
-    sets[at] = sets[at] + mask(i);
-}
-
-// A flag for each bid of the set in row `r`.
-fn mark(sets: &[u64], r: usize, n: usize, won: &mut [u64])
-    requires { ⌜ (r * 16 + 16 ≤ length (now sets)) × (n ≤ 1024) × (n ≤ length (now won)) ⌝ }
-    ensures { λ z. ⌜ Written (λ i. when (bit (row (now (sets .entry)) r) i) 1) (now (won .entry)) (now (won .exit)) n ⌝ }
-{
-    let mut i = 0;
-    while i < n {
-        let word = sets[r * 16 + i / 64];
-        won[i] = (word >> ((i % 64) as u64)) % 2;
-        i += 1;
-    }
 }
 
 // A cost, 0 where there is none.
@@ -305,8 +228,11 @@ pub fn winners(
     requires { ⌜ ((i : ℕ) → i < length (now prices) → getD (now starts) i 0 ≤ cells) ⌝ }
     ensures { λ z. ⌜ Selected (now (starts .entry)) (now (ends .entry)) (now (prices .entry)) (now (costs .exit)) (now (won .entry)) (now (won .exit)) cells z ⌝ }
 {
-    let mut live = [0usize; 1000];
-    let mut sets = [0u64; 16016];
+    // ones, not zeros: the compiler writes these in wide stores
+    let mut live = [1usize; 1000];
+    let mut sets = [1u64; 16016];
+    let n = prices.len();
+    clear(&mut sets, n);
     let lead = weigh(
         starts,
         ends,
@@ -317,7 +243,6 @@ pub fn winners(
         costs,
         &mut sets,
     );
-    let n = prices.len();
     let r = lead.row;
     mark(&sets, r, n, won);
     whole(lead.cost)

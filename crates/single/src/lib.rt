@@ -170,10 +170,11 @@ fn payments(
     requires { ⌜ Before (now starts) (now ends) (now prices) (now before) ⌝ }
     ensures { λ z. ⌜ Written (paidOf (now (starts .entry)) (now (ends .entry)) (now (prices .entry)) cells) (now (cents .entry)) (now (cents .exit)) (length (now (prices .entry))) ⌝ }
 {
-    let mut later = [0u64; 1001];
-    let mut costs = [0u64; 1001];
-    let mut live = [0usize; 1000];
-    let mut xs = [0usize; 1000];
+    // ones, not zeros: the compiler writes these in wide stores
+    let mut later = [1u64; 1001];
+    let mut costs = [1u64; 1001];
+    let mut live = [1usize; 1000];
+    let mut xs = [1usize; 1000];
     costs::after(starts, ends, prices, cells, &mut later);
     pay_each(
         starts,
@@ -208,8 +209,9 @@ pub fn award(
     ensures { λ r. ⌜ Settled (λ i. bit (winners (covers (spans (now (starts .entry)) (now (ends .entry))) (length (now (prices .entry))) cells) (now (prices .entry))) i) (vcgPaid (covers (spans (now (starts .entry)) (now (ends .entry))) (length (now (prices .entry))) cells) (now (prices .entry))) (now (prices .entry)) (now (won .entry)) (now (cents .entry)) (now (won .exit)) (now (cents .exit)) (r .cost) (r .paid) ⌝ }
 {
     let n = prices.len();
-    let mut order = [0usize; 1000];
-    let mut early = [0u64; 1001];
+    // ones, not zeros: the compiler writes these in wide stores
+    let mut order = [1usize; 1000];
+    let mut early = [1u64; 1001];
     order::by_start(starts, n, cells, &mut order);
     let all = select::winners(starts, ends, prices, &order, cells, &mut early, won);
     payments(starts, ends, prices, &order, &early, won, cents, cells, all);

@@ -1,3 +1,4 @@
+-- `costs::begin` meets its contract: the list is thinned out and copied. Assumes nothing.
 use mathlib.Core.Path.{_≡_}
 use Prim.Native.Nat.{_≤_, _-_}
 use lib.ListN.{length, length-set}
@@ -8,9 +9,6 @@ use native.Mathlib.Omega.{arith}
 use borrow.Author.Needs.{needs}
 use Rattle.costs.proofs.begin.Statement.{statement}
 use Rattle.costs.proofs.begin.Tie as tie
-use Rattle.costs.proofs.begin.Reads as reads
-use Rattle.costs.proofs.begin.Lts as lts
-use Rattle.select.proofs.count.Reads as count-reads
 
 abbrev Inv-loop : tie.InvT-loop
 Inv-loop ends live₀ before xs₀ costs₀ m t x₀ j₀ live xs costs x j = (j ≤ m) × (length live ≡ length live₀) × (length xs ≡ length xs₀) × (length costs ≡ length costs₀) × Begun ends live₀ live before xs costs t j x
@@ -18,87 +16,66 @@ Inv-loop ends live₀ before xs₀ costs₀ m t x₀ j₀ live xs costs x j = (j
 abbrev μ-loop : tie.MeasureT-loop
 μ-loop ends live₀ before xs₀ costs₀ m t x₀ j₀ live xs costs x j = m - j
 
--- src/lib.rt:269:5
 loop-holds : tie.Need-loop-holds Inv-loop μ-loop
 loop-holds c = (omega arith, omega arith, omega arith, omega arith, begun-none _ _ _ _ _ _)
 
--- src/lib.rt:270:17
 mul-i : tie.Need-mul-i Inv-loop μ-loop
 mul-i c = search needs
 
--- src/lib.rt:270:17
 slice-read-i : tie.Need-slice-read-i Inv-loop μ-loop
 slice-read-i c = search needs
 
--- src/lib.rt:271:9
 mul-live : tie.Need-mul-live Inv-loop μ-loop
 mul-live c = omega (arith, c .before .before .loop .inv .4 .thinned .short)
 
--- src/lib.rt:271:9
 slice-write-live : tie.Need-slice-write-live Inv-loop μ-loop
 slice-write-live c = omega (arith, c .before .before .loop .inv .4 .thinned .short)
 
--- src/lib.rt:272:9
 mul-xs : tie.Need-mul-xs Inv-loop μ-loop
 mul-xs c = omega (arith, c .before .before .loop .inv .4 .thinned .short)
 
--- src/lib.rt:272:9
 slice-write-xs : tie.Need-slice-write-xs Inv-loop μ-loop
 slice-write-xs c = omega (arith, c .before .before .loop .inv .4 .thinned .short)
 
--- src/lib.rt:273:20
 mul-costs : tie.Need-mul-costs Inv-loop μ-loop
 mul-costs c = omega (arith, c .before .before .before .before .before .before .before .before .pre .1 (c .before .before .loop .j) (c .before .loop-test .taken), c .before .before .loop .inv .4 .thinned .rest (c .before .before .loop .j) (omega arith))
 
--- src/lib.rt:273:20
 shared-slice-read-costs : tie.Need-shared-slice-read-costs Inv-loop μ-loop
 shared-slice-read-costs c = omega (arith, c .before .before .before .before .before .before .before .before .before .pre .1 (c .before .before .before .loop .j) (c .before .before .loop-test .taken), c .before .before .before .loop .inv .4 .thinned .rest (c .before .before .before .loop .j) (omega arith))
 
--- src/lib.rt:273:9
 mul-costs-2 : tie.Need-mul-costs-2 Inv-loop μ-loop
 mul-costs-2 c = omega (arith, c .before .before .before .before .before .before .before .before .before .pre .1 (c .before .before .before .loop .j) (c .before .before .loop-test .taken), c .before .before .before .loop .inv .4 .thinned .rest (c .before .before .before .loop .j) (omega arith))
 
--- src/lib.rt:273:9
 slice-write-costs : tie.Need-slice-write-costs Inv-loop μ-loop
 slice-write-costs c = omega (arith, c .before .before .before .before .before .before .before .before .before .pre .1 (c .before .before .before .loop .j) (c .before .before .loop-test .taken), c .before .before .before .loop .inv .4 .thinned .rest (c .before .before .before .loop .j) (omega arith))
 
--- src/lib.rt:274:27
 mul-count : tie.Need-mul-count Inv-loop μ-loop
 mul-count c = omega (arith, c .before .before .before .before .before .before .before .before .before .pre .1 (c .before .before .before .loop .j) (c .before .before .loop-test .taken), c .before .before .before .loop .inv .4 .thinned .rest (c .before .before .before .loop .j) (omega arith))
 
--- src/lib.rt:274:27
 shared-slice-read-count : tie.Need-shared-slice-read-count Inv-loop μ-loop
 shared-slice-read-count c = omega (arith, c .before .before .before .before .before .before .before .before .before .before .pre .1 (c .before .before .before .before .loop .j) (c .before .before .before .loop-test .taken), c .before .before .before .before .loop .inv .4 .thinned .rest (c .before .before .before .before .loop .j) (omega arith))
 
--- src/lib.rt:274:9
 count-requires : tie.Need-count-requires Inv-loop μ-loop
 count-requires c κs = omega (arith, c .before .before .before .before .loop .inv .4 .thinned .short)
 
--- src/lib.rt:275:9
 add-j : tie.Need-add-j Inv-loop μ-loop
 add-j c = search needs
 
--- src/lib.rt:269:5
 loop-less : tie.Need-loop-less Inv-loop μ-loop
 loop-less c = search needs
 
--- src/lib.rt:269:5
 loop-again : tie.Need-loop-again Inv-loop μ-loop
 loop-again c = (omega arith, simp length-set (omega arith), simp length-set (omega arith), simp length-set (omega arith), rw (c .count .ensures) (begun-more _ _ _ _ _ _ _ _ _ (omega arith) (omega (arith, c .before .before .before .before .before .loop .inv .4 .thinned .short)) (omega (arith, c .before .before .before .before .before .loop .inv .4 .thinned .short)) (omega (arith, c .before .before .before .before .before .before .before .before .before .before .before .pre .1 (c .before .before .before .before .before .loop .j) (c .before .before .before .before .loop-test .taken), c .before .before .before .before .before .loop .inv .4 .thinned .rest (c .before .before .before .before .before .loop .j) (omega arith))) (c .before .before .before .before .before .loop .inv .4)))
 
--- src/lib.rt:254:1
 same-length : tie.Need-same-length Inv-loop μ-loop
 same-length c = search needs
 
--- src/lib.rt:254:1
 same-length-2 : tie.Need-same-length-2 Inv-loop μ-loop
 same-length-2 c = search needs
 
--- src/lib.rt:254:1
 same-length-3 : tie.Need-same-length-3 Inv-loop μ-loop
 same-length-3 c = search needs
 
--- src/lib.rt:254:1
 returns : tie.Need-returns Inv-loop μ-loop
 returns c = rw (le-antisymm (c .before .loop .inv .0) (c .loop-test .left)) at (c .before .loop .inv .4)
 

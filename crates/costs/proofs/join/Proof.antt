@@ -1,29 +1,22 @@
+-- `costs::join` meets its contract: by the ways through it. Assumes nothing.
 use mathlib.Core.Path.{_∙_}
 use Rattle.costs.specs.AcrossLaws.{joined-left, joined-right, joined-both}
 use native.Mathlib.Omega.{arith}
-use borrow.Author.Needs.{needs}
 use Rattle.costs.proofs.join.Statement.{statement}
 use Rattle.costs.proofs.join.Tie as tie
-use Rattle.costs.proofs.join.Reads as reads
-use Rattle.costs.proofs.join.Lts as lts
 
--- src/lib.rt:203:9
 returns : tie.Need-returns
 returns c = c .if1 .taken ∙ joined-left _ _ _ (c .if1 .taken)
 
--- src/lib.rt:206:9
 returns-2 : tie.Need-returns-2
 returns-2 c = c .if2 .taken ∙ joined-right _ _ _ (c .before .if1 .left) (c .if2 .taken)
 
--- src/lib.rt:208:10
 sub-result : tie.Need-sub-result
 sub-result c = omega (arith, c .before .before .pre .1 (c .if2 .left) .0)
 
--- src/lib.rt:208:5
 add-result : tie.Need-add-result
 add-result c = omega (arith, c .before .before .pre .0 (c .before .if1 .left), c .before .before .pre .1 (c .if2 .left))
 
--- src/lib.rt:197:1
 returns-3 : tie.Need-returns-3
 returns-3 c = joined-both _ _ _ (c .before .if1 .left) (c .if2 .left)
 

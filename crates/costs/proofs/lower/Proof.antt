@@ -1,24 +1,17 @@
+-- `costs::lower` meets its contract: by the ways through it. Assumes nothing.
 use Rattle.costs.specs.AcrossLaws.{less-yes, less-more, less-not, less-far}
-use native.Mathlib.Omega.{arith}
-use borrow.Author.Needs.{needs}
 use Rattle.costs.proofs.lower.Statement.{statement}
 use Rattle.costs.proofs.lower.Tie as tie
-use Rattle.costs.proofs.lower.Reads as reads
-use Rattle.costs.proofs.lower.Lts as lts
 
--- src/lib.rt:218:17
 returns : tie.Need-returns
 returns c = less-yes _ _ _ _ _ (c .before .before .if1 .taken) (c .before .if2 .taken) (c .if3 .taken)
 
--- src/lib.rt:212:1
 returns-2 : tie.Need-returns-2
 returns-2 c = less-more _ _ _ _ _ (c .before .before .if1 .taken) (c .before .if2 .taken) (c .if3 .left)
 
--- src/lib.rt:212:1
 returns-3 : tie.Need-returns-3
 returns-3 c = less-not _ _ _ _ _ (c .before .if1 .taken) (c .if2 .left)
 
--- src/lib.rt:212:1
 returns-4 : tie.Need-returns-4
 returns-4 c = less-far _ _ _ _ _ (c .if1 .left)
 

@@ -1,3 +1,4 @@
+-- `costs::mirror` meets its contract: each bid is seen from the other end. Assumes nothing.
 use mathlib.Core.Path.{_≡_}
 use Prim.Native.Nat.{_≤_, _-_}
 use lib.ListN.{length, length-set}
@@ -7,8 +8,6 @@ use native.Mathlib.Omega.{arith}
 use borrow.Author.Needs.{needs}
 use Rattle.costs.proofs.mirror.Statement.{statement}
 use Rattle.costs.proofs.mirror.Tie as tie
-use Rattle.costs.proofs.mirror.Reads as reads
-use Rattle.costs.proofs.mirror.Lts as lts
 
 abbrev Inv-loop : tie.InvT-loop
 Inv-loop starts ends n cells x₀ y₀ i₀ x y i = (i ≤ n) × (length x ≡ length x₀) × (length y ≡ length y₀) × Mirrored starts ends x y cells i
@@ -16,71 +15,54 @@ Inv-loop starts ends n cells x₀ y₀ i₀ x y i = (i ≤ n) × (length x ≡ l
 abbrev μ-loop : tie.MeasureT-loop
 μ-loop starts ends n cells x₀ y₀ i₀ x y i = n - i
 
--- src/lib.rt:333:5
 loop-holds : tie.Need-loop-holds Inv-loop μ-loop
 loop-holds c = (omega arith, omega arith, omega arith, mirrored-none _ _ _ _ _)
 
--- src/lib.rt:334:24
 mul-x : tie.Need-mul-x Inv-loop μ-loop
 mul-x c = search needs
 
--- src/lib.rt:334:24
 shared-slice-read-x : tie.Need-shared-slice-read-x Inv-loop μ-loop
 shared-slice-read-x c = search needs
 
--- src/lib.rt:334:16
 sub-x : tie.Need-sub-x Inv-loop μ-loop
 sub-x c = omega (arith, c .before .before .before .pre .1 (c .before .before .loop .i) (c .before .loop-test .taken))
 
--- src/lib.rt:334:9
 mul-x-2 : tie.Need-mul-x-2 Inv-loop μ-loop
 mul-x-2 c = search needs
 
--- src/lib.rt:334:9
 slice-write-x : tie.Need-slice-write-x Inv-loop μ-loop
 slice-write-x c = search needs
 
--- src/lib.rt:335:24
 mul-y : tie.Need-mul-y Inv-loop μ-loop
 mul-y c = search needs
 
--- src/lib.rt:335:24
 shared-slice-read-y : tie.Need-shared-slice-read-y Inv-loop μ-loop
 shared-slice-read-y c = search needs
 
--- src/lib.rt:335:16
 sub-y : tie.Need-sub-y Inv-loop μ-loop
 sub-y c = omega (arith, c .before .before .before .before .pre .1 (c .before .before .before .loop .i) (c .before .before .loop-test .taken))
 
--- src/lib.rt:335:9
 mul-y-2 : tie.Need-mul-y-2 Inv-loop μ-loop
 mul-y-2 c = search needs
 
--- src/lib.rt:335:9
 slice-write-y : tie.Need-slice-write-y Inv-loop μ-loop
 slice-write-y c = search needs
 
--- src/lib.rt:336:9
 add-i : tie.Need-add-i Inv-loop μ-loop
 add-i c = search needs
 
--- src/lib.rt:333:5
 loop-less : tie.Need-loop-less Inv-loop μ-loop
 loop-less c = search needs
 
--- src/lib.rt:333:5
 loop-again : tie.Need-loop-again Inv-loop μ-loop
 loop-again c = (omega arith, simp length-set (omega arith), simp length-set (omega arith), mirrored-more _ _ _ _ _ _ (omega arith) (omega arith) (c .before .before .before .loop .inv .3))
 
--- src/lib.rt:327:1
 same-length : tie.Need-same-length Inv-loop μ-loop
 same-length c = search needs
 
--- src/lib.rt:327:1
 same-length-2 : tie.Need-same-length-2 Inv-loop μ-loop
 same-length-2 c = search needs
 
--- src/lib.rt:327:1
 returns : tie.Need-returns Inv-loop μ-loop
 returns c = rw (le-antisymm (c .before .loop .inv .0) (c .loop-test .left)) at (c .before .loop .inv .3)
 

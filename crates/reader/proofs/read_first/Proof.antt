@@ -1,6 +1,6 @@
 -- `read_first` meets its contract: the first line is cut, read and judged as the definition does. Assumes nothing.
-use Prim.Native.Nat.{ℕ, _+_, _-_}
-use mathlib.Core.Path.{_≡_, refl, sym, ap, _∙_}
+use Prim.Native.Nat.{_+_, _-_}
+use mathlib.Core.Path.{sym, ap, _∙_}
 use native.Mathlib.Omega.{arith}
 use borrow.Author.Needs.{needs}
 use mathlib.Core.List.{_∷_}
@@ -13,69 +13,49 @@ use Rattle.reader.proofs.Fills.{ends-at, ends-broken}
 use Rattle.reader.proofs.Whole.{first-empty, is-tender, first-bid, first-broken, first-unlawful, first-odd}
 use Rattle.reader.proofs.read_first.Statement.{statement}
 use Rattle.reader.proofs.read_first.Tie as tie
-use Rattle.reader.proofs.read_first.Reads as reads
-use Rattle.reader.proofs.read_first.Lts as lts
-use Rattle.scan.proofs.line.keeps.Reads as keeps-reads
-use Rattle.scan.proofs.line.read_line.Reads as read-line-reads
-use Rattle.scan.proofs.words.line_end.Reads as line-end-reads
 
--- src/lib.rt:34:9
 returns : tie.Need-returns
 returns c = first-empty _ (c .if1 .taken)
 
--- src/lib.rt:36:11
 line-end-requires : tie.Need-line-end-requires
 line-end-requires c κs = search needs
 
--- src/lib.rt:37:21
 enum-known-e : tie.Need-enum-known-e
 enum-known-e c = search needs
 
--- src/lib.rt:37:43
 sub-read-line : tie.Need-sub-read-line
 sub-read-line c = search needs
 
--- src/lib.rt:37:43
 part-read-line-start : tie.Need-part-read-line-start
 part-read-line-start c = search needs
 
--- src/lib.rt:37:43
 part-read-line-end : tie.Need-part-read-line-end
 part-read-line-end c = let b = ends-at (c .before .before .before .before .before .before .before .args .text .now) 0 _ (c .before .before .before .line-end .ensures) _ (c .before .e .given .1) in omega (arith, b .1)
 
--- src/lib.rt:37:33
 read-line-requires : tie.Need-read-line-requires
 read-line-requires c κs = search needs
 
--- src/lib.rt:38:26
 enum-known-t : tie.Need-enum-known-t
 enum-known-t c = search needs
 
--- src/lib.rt:40:20
 keeps-requires : tie.Need-keeps-requires
 keeps-requires c κs = search needs
 
--- src/lib.rt:41:38
 add-t21 : tie.Need-add-t21
 add-t21 c = let b = ends-at (c .before .before .before .before .before .before .before .before .before .before .before .before .before .before .before .before .before .before .args .text .now) 0 _ (c .before .before .before .before .before .before .before .before .before .before .before .before .before .before .line-end .ensures) _ (c .before .before .before .before .before .before .before .before .before .before .before .before .e .given .1) in omega (arith, b .1)
 
--- src/lib.rt:46:53
 enum-told : tie.Need-enum-told
 enum-told c = search needs
 
--- src/lib.rt:47:44
 enum-told-2 : tie.Need-enum-told-2
 enum-told-2 c = search needs
 
--- src/lib.rt:49:43
 enum-told-3 : tie.Need-enum-told-3
 enum-told-3 c = search needs
 
--- src/lib.rt:30:1
 same-length : tie.Need-same-length
 same-length c = search needs
 
--- src/lib.rt:30:1
 returns-2 : tie.Need-returns-2
 returns-2 c = let b = ends-at (c .before .before .before .before .before .before .before .before .before .before .before .before .before .before .before .before .before .before .args .text .now) 0 _ (c .before .before .before .before .before .before .before .before .before .before .before .before .before .before .line-end .ensures) _ (c .before .before .before .before .before .before .before .before .before .before .before .before .e .given .1) in
     let o = is-tender 0 _ _ _ (ap (λ t. toldLine t (c .before .before .before .before .before .before .before .before .read-line .last .1 .0)) (sym (c .before .before .before .before .t .given .1)) ∙ c .before .before .before .before .before .before .before .before .read-line .ensures) in
@@ -85,35 +65,28 @@ returns-2 c = let b = ends-at (c .before .before .before .before .before .before
       window = sym (c .before .keeps .ensures) ∙ c .if2 .taken;
     }
 
--- src/lib.rt:30:1
 same-length-2 : tie.Need-same-length-2
 same-length-2 c = search needs
 
--- src/lib.rt:30:1
 returns-3 : tie.Need-returns-3
 returns-3 c = let b = ends-at (c .before .before .before .before .before .before .before .before .before .before .before .before .before .before .before .before .before .before .args .text .now) 0 _ (c .before .before .before .before .before .before .before .before .before .before .before .before .before .before .line-end .ensures) _ (c .before .before .before .before .before .before .before .before .before .before .before .before .e .given .1) in
     let o = is-tender 0 _ _ _ (ap (λ t. toldLine t (c .before .before .before .before .before .before .before .before .read-line .last .1 .0)) (sym (c .before .before .before .before .t .given .1)) ∙ c .before .before .before .before .before .before .before .before .read-line .ensures) in
     first-unlawful _ _ _ (lines-at (c .before .before .before .before .before .before .before .before .before .before .before .before .before .before .before .before .before .before .args .text .now) 0 _ (b .0) (b .1)) _ o (sym (c .before .keeps .ensures) ∙ c .if2 .left)
 
--- src/lib.rt:30:1
 same-length-3 : tie.Need-same-length-3
 same-length-3 c = search needs
 
--- src/lib.rt:30:1
 returns-4 : tie.Need-returns-4
 returns-4 c = let b = ends-at (c .before .before .before .before .before .before .before .before .before .before .before .before .before .before .args .text .now) 0 _ (c .before .before .before .before .before .before .before .before .before .before .line-end .ensures) _ (c .before .before .before .before .before .before .before .before .e .given .1) in
     first-bid _ _ _ (lines-at (c .before .before .before .before .before .before .before .before .before .before .before .before .before .before .args .text .now) 0 _ (b .0) (b .1)) 0 _ _ _ _ (ap (λ t. toldLine t (c .before .before .before .before .read-line .last .1 .0)) (sym (c .enum-told .given .1)) ∙ c .before .before .before .before .read-line .ensures)
 
--- src/lib.rt:30:1
 same-length-4 : tie.Need-same-length-4
 same-length-4 c = search needs
 
--- src/lib.rt:30:1
 returns-5 : tie.Need-returns-5
 returns-5 c = let b = ends-at (c .before .before .before .before .before .before .before .before .before .before .before .before .before .before .args .text .now) 0 _ (c .before .before .before .before .before .before .before .before .before .before .line-end .ensures) _ (c .before .before .before .before .before .before .before .before .e .given .1) in
     first-broken _ _ _ (lines-at (c .before .before .before .before .before .before .before .before .before .before .before .before .before .before .args .text .now) 0 _ (b .0) (b .1)) 0 _ (ap (λ t. toldLine t (c .before .before .before .before .read-line .last .1 .0)) (sym (c .enum-told2 .given .1)) ∙ c .before .before .before .before .read-line .ensures)
 
--- src/lib.rt:30:1
 returns-6 : tie.Need-returns-6
 returns-6 c = first-odd _ (ends-broken (c .before .before .before .before .before .before .args .text .now) 0 _ (c .before .before .line-end .ensures) (c .enum-told3 .given .1))
 

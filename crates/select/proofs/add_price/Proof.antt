@@ -1,20 +1,15 @@
+-- `select::add_price` meets its contract: by the two ways through it. Assumes nothing.
 use Rattle.select.specs.Costs.{raised-none, raised-some}
 use native.Mathlib.Omega.{arith}
-use borrow.Author.Needs.{needs}
 use Rattle.select.proofs.add_price.Statement.{statement}
 use Rattle.select.proofs.add_price.Tie as tie
-use Rattle.select.proofs.add_price.Reads as reads
-use Rattle.select.proofs.add_price.Lts as lts
 
--- src/lib.rt:30:9
 returns : tie.Need-returns
 returns c = raised-none _ _ (c .if1 .taken)
 
--- src/lib.rt:32:5
 add-result : tie.Need-add-result
 add-result c = omega (arith, c .before .pre (c .if1 .left))
 
--- src/lib.rt:25:1
 returns-2 : tie.Need-returns-2
 returns-2 c = raised-some _ _ (c .if1 .left)
 

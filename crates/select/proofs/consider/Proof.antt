@@ -1,26 +1,19 @@
+-- `select::consider` meets its contract: by the ways through it. Assumes nothing.
 use Rattle.select.specs.RowLaws.{reached-yes, reached-not, reached-far}
 use mathlib.Core.Path.{_∙_}
-use native.Mathlib.Omega.{arith}
 use borrow.Author.Needs.{needs}
 use Rattle.select.proofs.consider.Statement.{statement}
 use Rattle.select.proofs.consider.Tie as tie
-use Rattle.select.proofs.consider.Reads as reads
-use Rattle.select.proofs.consider.Lts as lts
-use Rattle.select.proofs.lighter.Reads as lighter-reads
 
--- src/lib.rt:110:13
 lighter-requires : tie.Need-lighter-requires
 lighter-requires c κs = search needs
 
--- src/lib.rt:110:13
 returns : tie.Need-returns
 returns c = c .lighter .ensures ∙ reached-yes _ _ _ _ _ (c .before .before .if1 .taken) (c .before .if2 .taken)
 
--- src/lib.rt:96:1
 returns-2 : tie.Need-returns-2
 returns-2 c = reached-not _ _ _ _ _ (c .before .if1 .taken) (c .if2 .left)
 
--- src/lib.rt:96:1
 returns-3 : tie.Need-returns-3
 returns-3 c = reached-far _ _ _ _ _ (c .if1 .left)
 

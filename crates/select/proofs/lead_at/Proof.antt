@@ -1,26 +1,20 @@
+-- `select::lead_at` meets its contract: the lead lasts, or is renewed. Assumes nothing.
 use mathlib.Core.Path.{refl}
-use Rattle.select.specs.Lead.{Led, same, anew}
+use Rattle.select.specs.Lead.{same, anew}
 use native.Mathlib.Omega.{arith}
 use borrow.Author.Needs.{needs}
 use Rattle.select.proofs.lead_at.Statement.{statement}
 use Rattle.select.proofs.lead_at.Tie as tie
-use Rattle.select.proofs.lead_at.Reads as reads
-use Rattle.select.proofs.lead_at.Lts as lts
-use Rattle.select.proofs.renew.Reads as renew-reads
 
--- src/lib.rt:177:9
 returns : tie.Need-returns
 returns c = same (c .if1 .taken) refl refl refl refl refl
 
--- src/lib.rt:179:5
 renew-requires : tie.Need-renew-requires
 renew-requires c κs = (omega arith, (c .before .before .before .before .before .before .before .before .pre .1 .0, c .before .before .before .before .before .before .before .before .pre .1 .1))
 
--- src/lib.rt:161:1
 same-length : tie.Need-same-length
 same-length c = search needs
 
--- src/lib.rt:161:1
 returns-2 : tie.Need-returns-2
 returns-2 c = anew (c .before .before .before .before .if1 .left) (c .before .before .renew .ensures)
 

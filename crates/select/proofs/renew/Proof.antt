@@ -1,3 +1,4 @@
+-- `select::renew` meets its contract: the scan goes through the list while it is thinned out. Assumes nothing.
 use mathlib.Core.Path.{_≡_, refl}
 use Prim.Native.Nat.{_≤_, _-_}
 use lib.ListN.{length, length-set}
@@ -9,11 +10,6 @@ use native.Mathlib.Omega.{arith}
 use borrow.Author.Needs.{needs}
 use Rattle.select.proofs.renew.Statement.{statement}
 use Rattle.select.proofs.renew.Tie as tie
-use Rattle.select.proofs.renew.Reads as reads
-use Rattle.select.proofs.renew.Lts as lts
-use Rattle.select.proofs.consider.Reads as consider-reads
-use Rattle.select.proofs.count.Reads as count-reads
-use Rattle.select.proofs.end_of.Reads as end-of-reads
 
 abbrev Inv-loop : tie.InvT-loop
 Inv-loop starts ends live₀ costs sets n m t x₀ r₀ j₀ live x r j = (j ≤ m) × (length live ≡ length live₀) × Thinned ends live₀ live t j x × Seen starts ends live₀ costs sets n t m j r
@@ -21,79 +17,60 @@ Inv-loop starts ends live₀ costs sets n m t x₀ r₀ j₀ live x r j = (j ≤
 abbrev μ-loop : tie.MeasureT-loop
 μ-loop starts ends live₀ costs sets n m t x₀ r₀ j₀ live x r j = m - j
 
--- src/lib.rt:143:5
 loop-holds : tie.Need-loop-holds Inv-loop μ-loop
 loop-holds c = (omega arith, omega arith, thinned-none _ _ _, seen-none _ _ _ _ _ _ _ _ (c .before .before .before .before .before .pre .1 .1 .0))
 
--- src/lib.rt:144:17
 mul-i : tie.Need-mul-i Inv-loop μ-loop
 mul-i c = search needs
 
--- src/lib.rt:144:17
 slice-read-i : tie.Need-slice-read-i Inv-loop μ-loop
 slice-read-i c = search needs
 
--- src/lib.rt:145:9
 mul-live : tie.Need-mul-live Inv-loop μ-loop
 mul-live c = omega (arith, c .before .before .loop .inv .2 .short)
 
--- src/lib.rt:145:9
 slice-write-live : tie.Need-slice-write-live Inv-loop μ-loop
 slice-write-live c = omega (arith, c .before .before .loop .inv .2 .short)
 
--- src/lib.rt:146:17
 mul-e : tie.Need-mul-e Inv-loop μ-loop
 mul-e c = omega (arith, c .before .before .before .before .before .before .before .before .pre .1 .0 (c .before .before .loop .j) (c .before .loop-test .taken), c .before .before .loop .inv .2 .rest (c .before .before .loop .j) (omega arith))
 
--- src/lib.rt:146:17
 shared-slice-read-e : tie.Need-shared-slice-read-e Inv-loop μ-loop
 shared-slice-read-e c = omega (arith, c .before .before .before .before .before .before .before .before .before .pre .1 .0 (c .before .before .before .loop .j) (c .before .before .loop-test .taken), c .before .before .before .loop .inv .2 .rest (c .before .before .before .loop .j) (omega arith))
 
--- src/lib.rt:147:9
 count-requires : tie.Need-count-requires Inv-loop μ-loop
 count-requires c κs = omega (arith, c .before .before .before .loop .inv .2 .short)
 
--- src/lib.rt:148:22
 mul-consider : tie.Need-mul-consider Inv-loop μ-loop
 mul-consider c = omega (arith, c .before .before .before .before .before .before .before .before .before .before .pre .1 .0 (c .before .before .before .before .loop .j) (c .before .before .before .loop-test .taken), c .before .before .before .before .loop .inv .2 .rest (c .before .before .before .before .loop .j) (omega arith))
 
--- src/lib.rt:148:22
 shared-slice-read-consider : tie.Need-shared-slice-read-consider Inv-loop μ-loop
 shared-slice-read-consider c = omega (arith, c .before .before .before .before .before .before .before .before .before .before .before .pre .1 .0 (c .before .before .before .before .before .loop .j) (c .before .before .before .before .loop-test .taken), c .before .before .before .before .before .loop .inv .2 .rest (c .before .before .before .before .before .loop .j) (omega arith))
 
--- src/lib.rt:148:9
 consider-requires : tie.Need-consider-requires Inv-loop μ-loop
 consider-requires c κs = (omega (arith, c .before .before .before .before .before .before .before .before .before .before .before .pre .1 .0 (c .before .before .before .before .before .loop .j) (c .before .before .before .before .loop-test .taken), c .before .before .before .before .before .loop .inv .2 .rest (c .before .before .before .before .before .loop .j) (omega arith)), omega (arith, c .before .before .before .before .before .loop .inv .3 .within), omega (arith, c .before .before .before .before .before .before .before .before .before .before .before .pre .1 .0 (c .before .before .before .before .before .loop .j) (c .before .before .before .before .loop-test .taken), c .before .before .before .before .before .loop .inv .2 .rest (c .before .before .before .before .before .loop .j) (omega arith)), omega (arith, c .before .before .before .before .before .loop .inv .3 .within))
 
--- src/lib.rt:149:9
 add-j : tie.Need-add-j Inv-loop μ-loop
 add-j c = search needs
 
--- src/lib.rt:143:5
 loop-less : tie.Need-loop-less Inv-loop μ-loop
 loop-less c = search needs
 
--- src/lib.rt:143:5
 loop-again : tie.Need-loop-again Inv-loop μ-loop
 loop-again c = (omega arith, simp length-set (omega arith), rw (c .before .before .count .ensures) (thinned-more _ _ _ _ _ _ (omega arith) (c .before .before .before .before .before .before .loop .inv .2)), rw (c .consider .ensures, c .before .before .before .before .before .before .loop .inv .2 .rest (c .before .before .before .before .before .before .loop .j) (omega arith)) (seen-more _ _ _ _ _ _ _ _ _ _ (λ q. omega (arith, c .before .before .before .before .before .before .before .before .shared-slice-known3 .given q)) (c .before .before .before .before .before .before .before .before .before .before .before .before .pre .1 .1 .1) (c .before .before .before .before .before .loop-test .taken) (c .before .before .before .before .before .before .before .before .before .before .before .before .pre .1 .0 (c .before .before .before .before .before .before .loop .j) (c .before .before .before .before .before .loop-test .taken)) (c .before .before .before .before .before .before .loop .inv .3)))
 
--- src/lib.rt:151:9
 end-of-requires : tie.Need-end-of-requires Inv-loop μ-loop
 end-of-requires c κs = (c .before .loop .inv .3 .within, omega arith)
 
--- src/lib.rt:154:15
 mul-t23 : tie.Need-mul-t23 Inv-loop μ-loop
 mul-t23 c = search needs
 
--- src/lib.rt:154:15
 shared-slice-read-t25 : tie.Need-shared-slice-read-t25 Inv-loop μ-loop
 shared-slice-read-t25 c = search needs
 
--- src/lib.rt:125:1
 same-length : tie.Need-same-length Inv-loop μ-loop
 same-length c = search needs
 
--- src/lib.rt:125:1
 returns : tie.Need-returns Inv-loop μ-loop
 returns c = let e = le-antisymm (c .before .before .before .loop .inv .0) (c .before .before .loop-test .left) in record { thinned = rw e at (c .before .before .before .loop .inv .2); seen = rw e at (c .before .before .before .loop .inv .3); cost-is = refl; end-is = c .before .end-of .ensures }
 

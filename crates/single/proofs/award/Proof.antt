@@ -1,64 +1,47 @@
+-- `single::award` meets its contract: the selection gives the winners, the payments the rest. Assumes nothing.
 use Rattle.cover.specs.IntervalBidsLaws.{sum-most}
 use Rattle.single.specs.Pay.{pays-most, selected-flags, selected-all, settled}
 use native.Mathlib.Omega.{arith}
 use borrow.Author.Needs.{needs}
 use Rattle.single.proofs.award.Statement.{statement}
 use Rattle.single.proofs.award.Tie as tie
-use Rattle.single.proofs.award.Reads as reads
-use Rattle.single.proofs.award.Lts as lts
-use Rattle.order.proofs.by_start.Reads as by-start-reads
-use Rattle.select.proofs.winners.Reads as winners-reads
-use Rattle.single.proofs.payments.Reads as payments-reads
-use Rattle.single.proofs.total.Reads as total-reads
 
--- src/lib.rt:213:39
 slice-aggregate-by-start : tie.Need-slice-aggregate-by-start
 slice-aggregate-by-start c = search needs
 
--- src/lib.rt:213:5
 by-start-requires : tie.Need-by-start-requires
 by-start-requires c κs = ((omega (arith, c .before .before .before .before .before .before .pre .0), omega (arith, c .before .before .before .before .before .before .pre .0), omega (arith, c .before .before .before .before .before .before .pre .0), omega (arith, c .before .before .before .before .before .before .pre .0)), λ i l. omega (arith, c .before .before .before .before .before .before .pre .1 .1 .0 i l))
 
--- src/lib.rt:214:53
 slice-aggregate-winners : tie.Need-slice-aggregate-winners
 slice-aggregate-winners c = search needs
 
--- src/lib.rt:214:68
 slice-aggregate-winners-2 : tie.Need-slice-aggregate-winners-2
 slice-aggregate-winners-2 c = search needs
 
--- src/lib.rt:214:9
 winners-requires : tie.Need-winners-requires
 winners-requires c κs = let b = sum-most (c .before .before .before .before .before .before .before .before .before .before .before .args .prices .now) (c .before .before .before .before .before .before .before .before .before .before .before .pre .1 .1 .1) in
     (record { starts = omega (arith, c .before .before .before .before .before .before .before .before .before .before .before .pre .0); ends = omega (arith, c .before .before .before .before .before .before .before .before .before .before .before .pre .0); sorted = c .before .before .before .before .by-start .ensures }, ((omega (arith, c .before .before .before .before .before .before .before .before .before .before .before .pre .0), omega (arith, c .before .before .before .before .before .before .before .before .before .before .before .pre .0, c .before .before .before .before .by-start .kept), omega (arith, c .before .before .before .before .before .before .before .before .before .before .before .pre .0), omega (arith, c .before .before .before .before .before .before .before .before .before .before .before .pre .1 .0), omega (arith, b, c .before .before .before .before .before .before .before .before .before .before .before .pre .0)), λ i l. omega (arith, c .before .before .before .before .before .before .before .before .before .before .before .pre .1 .1 .0 i l)))
 
--- src/lib.rt:215:36
 slice-aggregate-payments : tie.Need-slice-aggregate-payments
 slice-aggregate-payments c = search needs
 
--- src/lib.rt:215:44
 slice-aggregate-payments-2 : tie.Need-slice-aggregate-payments-2
 slice-aggregate-payments-2 c = search needs
 
--- src/lib.rt:215:5
 payments-requires : tie.Need-payments-requires
 payments-requires c κs = let b = sum-most (c .before .before .before .before .before .before .before .before .before .before .before .before .before .before .before .before .before .before .before .args .prices .now) (c .before .before .before .before .before .before .before .before .before .before .before .before .before .before .before .before .before .before .before .pre .1 .1 .1) in
     (record { starts = omega (arith, c .before .before .before .before .before .before .before .before .before .before .before .before .before .before .before .before .before .before .before .pre .0); ends = omega (arith, c .before .before .before .before .before .before .before .before .before .before .before .before .before .before .before .before .before .before .before .pre .0); sorted = c .before .before .before .before .before .before .before .before .before .before .before .before .by-start .ensures }, ((omega (arith, c .before .before .before .before .before .before .before .before .before .before .before .before .before .before .before .before .before .before .before .pre .0), omega (arith, c .before .before .before .before .before .before .before .before .before .before .before .before .before .before .before .before .before .before .before .pre .0, c .before .before .before .before .before .before .before .before .before .before .before .before .by-start .kept), omega (arith, c .before .before .before .before .before .before .before .before .before .before .before .before .before .before .before .before .before .before .before .pre .0, c .before .before .before .before .before .before .before .winners .kept), omega (arith, c .before .before .before .before .before .before .before .before .before .before .before .before .before .before .before .before .before .before .before .pre .0)), ((omega (arith, c .before .before .before .before .before .before .before .before .before .before .before .before .before .before .before .before .before .before .before .pre .1 .0, c .before .before .before .before .before .before .before .winners .kept), omega (arith, c .before .before .before .before .before .before .before .before .before .before .before .before .before .before .before .before .before .before .before .pre .1 .0), omega (arith, b, c .before .before .before .before .before .before .before .before .before .before .before .before .before .before .before .before .before .before .before .pre .0), selected-all _ _ _ _ _ _ _ _ (c .before .before .before .before .before .before .before .winners .ensures)), (selected-flags _ _ _ _ _ _ _ _ (c .before .before .before .before .before .before .before .winners .ensures), (c .before .before .before .before .before .before .before .before .before .before .before .before .before .before .before .before .before .before .before .pre .1 .1 .0, c .before .before .before .before .before .before .before .winners .ensures .costs-are)))))
 
--- src/lib.rt:216:9
 total-requires : tie.Need-total-requires
 total-requires c κs = let b = sum-most (c .before .before .before .before .before .before .before .before .before .before .before .before .before .before .before .before .before .before .before .before .before .before .before .args .prices .now) (c .before .before .before .before .before .before .before .before .before .before .before .before .before .before .before .before .before .before .before .before .before .before .before .pre .1 .1 .1) in
     ((omega (arith, c .before .before .before .before .before .before .before .before .before .before .before .before .before .before .before .before .before .before .before .before .before .before .before .pre .1 .0, c .before .before .before .payments .kept), omega (arith, c .before .before .before .before .before .before .before .before .before .before .before .before .before .before .before .before .before .before .before .before .before .before .before .pre .0)), λ i l. omega (arith, c .before .before .before .payments .ensures .values i l, pays-most (c .before .before .before .before .before .before .before .before .before .before .before .before .before .before .before .before .before .before .before .before .before .before .before .args .starts .now) (c .before .before .before .before .before .before .before .before .before .before .before .before .before .before .before .before .before .before .before .before .before .before .before .args .ends .now) (c .before .before .before .before .before .before .before .before .before .before .before .before .before .before .before .before .before .before .before .before .before .before .before .args .prices .now) (c .before .before .before .before .before .before .before .before .before .before .before .before .before .before .before .before .before .before .before .before .before .before .before .args .cells) i, b, c .before .before .before .before .before .before .before .before .before .before .before .before .before .before .before .before .before .before .before .before .before .before .before .pre .0))
 
--- src/lib.rt:196:1
 same-length : tie.Need-same-length
 same-length c = search needs
 
--- src/lib.rt:196:1
 same-length-2 : tie.Need-same-length-2
 same-length-2 c = search needs
 
--- src/lib.rt:196:1
 returns : tie.Need-returns
 returns c = settled _ _ _ _ _ _ _ _ _ _ _ (omega (arith, c .before .before .before .before .before .before .before .before .before .before .before .before .before .before .before .before .before .before .before .before .before .before .before .before .pre .1 .0)) (c .before .before .before .before .before .before .before .before .before .before .before .before .winners .ensures) (c .before .before .before .before .payments .ensures) (c .total .ensures)
 

@@ -1,14 +1,13 @@
-use mathlib.Core.Path.{_≡_, refl}
+-- `single::total` meets its contract: each turn adds one payment. Assumes nothing.
+use mathlib.Core.Path.{_≡_}
 use Prim.Native.Nat.{_≤_, _-_, _*_}
-use lib.ListN.{length, getD}
+use lib.ListN.{getD}
 use native.Mathlib.Nat.{le-antisymm}
 use Rattle.cover.specs.SettledLaws.{sumTo, sum-none, sum-more}
 use native.Mathlib.Omega.{arith}
 use borrow.Author.Needs.{needs}
 use Rattle.single.proofs.total.Statement.{statement}
 use Rattle.single.proofs.total.Tie as tie
-use Rattle.single.proofs.total.Reads as reads
-use Rattle.single.proofs.total.Lts as lts
 
 abbrev Inv-loop : tie.InvT-loop
 Inv-loop cents n s₀ i₀ s i = (i ≤ n) × (s ≤ i * 100000000000) × (s ≡ sumTo (λ j. getD cents j 0) i)
@@ -16,35 +15,27 @@ Inv-loop cents n s₀ i₀ s i = (i ≤ n) × (s ≤ i * 100000000000) × (s ≡
 abbrev μ-loop : tie.MeasureT-loop
 μ-loop cents n s₀ i₀ s i = n - i
 
--- src/lib.rt:146:5
 loop-holds : tie.Need-loop-holds Inv-loop μ-loop
 loop-holds c = (omega arith, omega arith, sum-none _)
 
--- src/lib.rt:147:14
 mul-s : tie.Need-mul-s Inv-loop μ-loop
 mul-s c = search needs
 
--- src/lib.rt:147:14
 shared-slice-read-s : tie.Need-shared-slice-read-s Inv-loop μ-loop
 shared-slice-read-s c = search needs
 
--- src/lib.rt:147:9
 add-s : tie.Need-add-s Inv-loop μ-loop
 add-s c = omega (arith, c .before .before .loop .inv .1, c .before .before .before .pre .1 (c .before .before .loop .i) (c .before .loop-test .taken), c .before .before .before .pre .0)
 
--- src/lib.rt:148:9
 add-i : tie.Need-add-i Inv-loop μ-loop
 add-i c = search needs
 
--- src/lib.rt:146:5
 loop-less : tie.Need-loop-less Inv-loop μ-loop
 loop-less c = search needs
 
--- src/lib.rt:146:5
 loop-again : tie.Need-loop-again Inv-loop μ-loop
 loop-again c = (omega arith, omega (arith, c .before .before .loop .inv .1, c .before .before .before .pre .1 (c .before .before .loop .i) (c .before .loop-test .taken)), sum-more _ _ _ (c .before .before .loop .inv .2))
 
--- src/lib.rt:139:1
 returns : tie.Need-returns Inv-loop μ-loop
 returns c = rw (le-antisymm (c .before .loop .inv .0) (c .loop-test .left)) at (c .before .loop .inv .2)
 

@@ -1,6 +1,5 @@
 -- `bids::take_line` meets its contract: the line is read, judged and put into the tables. Assumes nothing.
-use Prim.Native.Nat.{ℕ, _+_, _*_}
-use mathlib.Core.Path.{_≡_, refl, sym, ap, _∙_}
+use mathlib.Core.Path.{refl, sym, ap, _∙_}
 use native.Mathlib.Omega.{arith}
 use Rattle.scan.specs.Answer.{toldLine}
 use Rattle.reader.specs.RulesLaw.{passed}
@@ -9,98 +8,71 @@ use Rattle.reader.proofs.Takes.{is-sound, is-fault, taken-broken, taken
 use borrow.Author.Needs.{needs}
 use Rattle.reader.proofs.bids.take_line.Statement.{statement}
 use Rattle.reader.proofs.bids.take_line.Tie as tie
-use Rattle.reader.proofs.bids.take_line.Reads as reads
-use Rattle.reader.proofs.bids.take_line.Lts as lts
-use Rattle.cells.proofs.add.Reads as add-reads
-use Rattle.reader.proofs.bids.judge.Reads as judge-reads
-use Rattle.reader.proofs.tables.put_row.Reads as put-row-reads
-use Rattle.scan.proofs.line.read_line.Reads as read-line-reads
 
--- src/bids.rt:75:17
 add-place : tie.Need-add-place
 add-place c = search needs
 
--- src/bids.rt:76:11
 read-line-requires : tie.Need-read-line-requires
 read-line-requires c κs = search needs
 
--- src/bids.rt:77:19
 enum-known-bidder : tie.Need-enum-known-bidder
 enum-known-bidder c = search needs
 
--- src/bids.rt:77:54
 judge-requires : tie.Need-judge-requires
 judge-requires c κs = search needs
 
--- src/bids.rt:79:25
 enum-told : tie.Need-enum-told
 enum-told c = search needs
 
--- src/bids.rt:79:17
 put-row-requires : tie.Need-put-row-requires
 put-row-requires c κs = let p = passed _ _ _ _ _ _ _ (is-sound _ _ (ap verdictOf (sym (c .before .enum-told .given .1)) ∙ c .before .before .before .judge .ensures)) in omega (arith, p .few-bids, c .before .before .before .before .before .before .before .before .before .before .before .before .before .before .before .before .pre)
 
--- src/bids.rt:80:17
 add-requires : tie.Need-add-requires
 add-requires c κs = let p = passed _ _ _ _ _ _ _ (is-sound _ _ (ap verdictOf (sym (c .before .before .before .before .before .enum-told .given .1)) ∙ c .before .before .before .before .before .before .before .judge .ensures)) in omega (arith, p .bidder-high, c .before .before .before .before .before .before .before .before .before .before .before .before .before .before .before .before .before .before .before .before .pre)
 
--- src/bids.rt:83:29
 enum-known-r : tie.Need-enum-known-r
 enum-known-r c = search needs
 
--- src/bids.rt:85:42
 enum-told-2 : tie.Need-enum-told-2
 enum-told-2 c = search needs
 
--- src/bids.rt:86:39
 enum-told-3 : tie.Need-enum-told-3
 enum-told-3 c = search needs
 
--- src/bids.rt:71:1
 same-length : tie.Need-same-length
 same-length c = search needs
 
--- src/bids.rt:71:1
 same-length-2 : tie.Need-same-length-2
 same-length-2 c = search needs
 
--- src/bids.rt:71:1
 same-length-3 : tie.Need-same-length-3
 same-length-3 c = search needs
 
--- src/bids.rt:71:1
 returns : tie.Need-returns
 returns c = taken-sound _ _ _ _ _ _ _ _ _ _ _ _ _ _ _
     (ap (λ t. toldLine t (c .before .before .before .before .before .before .before .before .before .before .before .before .before .before .before .before .before .read-line .last .1 .0)) (sym (c .before .before .before .before .before .before .before .before .before .before .before .before .before .bidder .given .1)) ∙ c .before .before .before .before .before .before .before .before .before .before .before .before .before .before .before .before .before .read-line .ensures)
     (is-sound _ _ (ap verdictOf (sym (c .before .before .before .before .before .before .before .before .enum-told .given .1)) ∙ c .before .before .before .before .before .before .before .before .before .before .judge .ensures)) refl (c .before .before .before .before .before .before .put-row .ensures) (c .before .before .add .ensures)
 
--- src/bids.rt:71:1
 same-length-4 : tie.Need-same-length-4
 same-length-4 c = search needs
 
--- src/bids.rt:71:1
 same-length-5 : tie.Need-same-length-5
 same-length-5 c = search needs
 
--- src/bids.rt:71:1
 returns-2 : tie.Need-returns-2
 returns-2 c = let x = is-fault _ _ _ (ap verdictOf (sym (c .before .r .given .1)) ∙ c .before .before .before .judge .ensures) in
     taken-fault _ _ _ _ _ _ _ _ _ _ _ _ _ _ _
     (ap (λ t. toldLine t (c .before .before .before .before .before .before .before .before .before .before .read-line .last .1 .0)) (sym (c .before .before .before .before .before .before .bidder .given .1)) ∙ c .before .before .before .before .before .before .before .before .before .before .read-line .ensures) (x .f) (x .number) (x .fault)
 
--- src/bids.rt:71:1
 same-length-6 : tie.Need-same-length-6
 same-length-6 c = search needs
 
--- src/bids.rt:71:1
 returns-3 : tie.Need-returns-3
 returns-3 c = taken-tender _ _ _ _ _ _ _ _ _ _ _ _ (ap (λ t. toldLine t (c .before .before .before .before .read-line .last .1 .0)) (sym (c .enum-told2 .given .1)) ∙ c .before .before .before .before .read-line .ensures) refl
 
--- src/bids.rt:71:1
 same-length-7 : tie.Need-same-length-7
 same-length-7 c = search needs
 
--- src/bids.rt:71:1
 returns-4 : tie.Need-returns-4
 returns-4 c = taken-broken _ _ _ _ _ _ _ _ _ _ _ (ap (λ t. toldLine t (c .before .before .before .before .read-line .last .1 .0)) (sym (c .enum-told3 .given .1)) ∙ c .before .before .before .before .read-line .ensures) refl
 

@@ -1,15 +1,13 @@
 -- `tables::copy` meets its contract: the cells before the walk's place are copied, and the others stand. Assumes nothing.
-use Prim.Native.Nat.{ℕ, _+_, _-_, _≤_}
-use mathlib.Core.Path.{_≡_, refl, sym, ap, _∙_}
+use Prim.Native.Nat.{_+_, _-_, _≤_}
+use mathlib.Core.Path.{_≡_, refl, ap, _∙_}
 use mathlib.Core.List.{_++_}
 use native.Mathlib.Omega.{arith}
-use lib.ListN.{length, take, drop, set, getD, length-set}
+use lib.ListN.{length, take, drop, set, getD}
 use Rattle.reader.proofs.Table.{copied, copied-length}
 use borrow.Author.Needs.{needs}
 use Rattle.reader.proofs.tables.copy.Statement.{statement}
 use Rattle.reader.proofs.tables.copy.Tie as tie
-use Rattle.reader.proofs.tables.copy.Reads as reads
-use Rattle.reader.proofs.tables.copy.Lts as lts
 
 abbrev Inv-loop : tie.InvT-loop
 Inv-loop from n to₀ i₀ to i = (to ≡ take i from ++ drop i to₀) × (i ≤ n) × (n ≤ length from) × (n ≤ length to₀)
@@ -17,35 +15,27 @@ Inv-loop from n to₀ i₀ to i = (to ≡ take i from ++ drop i to₀) × (i ≤
 abbrev μ-loop : tie.MeasureT-loop
 μ-loop from n to₀ i₀ to i = n - i
 
--- src/tables.rt:27:5
 loop-holds : tie.Need-loop-holds Inv-loop μ-loop
 loop-holds c = (refl, omega arith, c .pre .0, c .pre .1)
 
--- src/tables.rt:28:17
 mul-to : tie.Need-mul-to Inv-loop μ-loop
 mul-to c = search needs
 
--- src/tables.rt:28:17
 shared-slice-read-to : tie.Need-shared-slice-read-to Inv-loop μ-loop
 shared-slice-read-to c = search needs
 
--- src/tables.rt:28:9
 mul-to-2 : tie.Need-mul-to-2 Inv-loop μ-loop
 mul-to-2 c = search needs
 
--- src/tables.rt:28:9
 slice-write-to : tie.Need-slice-write-to Inv-loop μ-loop
 slice-write-to c = rw (c .before .before .loop .inv .0) (omega (arith, copied-length (c .before .before .before .args .from .now) (c .before .before .before .args .to .now) (c .before .before .loop .i) (omega arith) (omega arith)))
 
--- src/tables.rt:29:9
 add-i : tie.Need-add-i Inv-loop μ-loop
 add-i c = search needs
 
--- src/tables.rt:27:5
 loop-less : tie.Need-loop-less Inv-loop μ-loop
 loop-less c = search needs
 
--- src/tables.rt:27:5
 loop-again : tie.Need-loop-again Inv-loop μ-loop
 loop-again c = (
   ap (λ l. set l (c .before .before .loop .i) (getD (c .before .before .before .args .from .now) (c .before .before .loop .i) 0)) (c .before .before .loop .inv .0) ∙ copied (c .before .before .before .args .from .now) (c .before .before .before .args .to .now) (c .before .before .loop .i) (omega arith) (omega arith),
@@ -54,11 +44,9 @@ loop-again c = (
   c .before .before .loop .inv .3,
 )
 
--- src/tables.rt:22:1
 same-length : tie.Need-same-length Inv-loop μ-loop
 same-length c = rw (c .before .loop .inv .0) (copied-length (c .before .before .args .from .now) (c .before .before .args .to .now) (c .before .loop .i) (omega arith) (omega arith))
 
--- src/tables.rt:22:1
 returns : tie.Need-returns Inv-loop μ-loop
 returns c = let e : c .before .loop .i ≡ c .before .before .args .n = omega arith in c .before .loop .inv .0 ∙ rw e
 

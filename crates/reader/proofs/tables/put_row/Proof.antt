@@ -6,62 +6,46 @@ use Rattle.reader.proofs.Table.{stored}
 use borrow.Author.Needs.{needs}
 use Rattle.reader.proofs.tables.put_row.Statement.{statement}
 use Rattle.reader.proofs.tables.put_row.Tie as tie
-use Rattle.reader.proofs.tables.put_row.Reads as reads
-use Rattle.reader.proofs.tables.put_row.Lts as lts
 
--- src/tables.rt:14:14
 mul-at : tie.Need-mul-at
 mul-at c = search needs
 
--- src/tables.rt:15:5
 mul-out : tie.Need-mul-out
 mul-out c = search needs
 
--- src/tables.rt:15:5
 slice-write-out : tie.Need-slice-write-out
 slice-write-out c = search needs
 
--- src/tables.rt:16:9
 add-out : tie.Need-add-out
 add-out c = search needs
 
--- src/tables.rt:16:5
 mul-out-2 : tie.Need-mul-out-2
 mul-out-2 c = search needs
 
--- src/tables.rt:16:5
 slice-write-out-2 : tie.Need-slice-write-out-2
 slice-write-out-2 c = simp length-set (omega arith)
 
--- src/tables.rt:17:9
 add-out-2 : tie.Need-add-out-2
 add-out-2 c = search needs
 
--- src/tables.rt:17:5
 mul-out-3 : tie.Need-mul-out-3
 mul-out-3 c = search needs
 
--- src/tables.rt:17:5
 slice-write-out-3 : tie.Need-slice-write-out-3
 slice-write-out-3 c = simp length-set (omega arith)
 
--- src/tables.rt:18:9
 add-out-3 : tie.Need-add-out-3
 add-out-3 c = search needs
 
--- src/tables.rt:18:5
 mul-out-4 : tie.Need-mul-out-4
 mul-out-4 c = search needs
 
--- src/tables.rt:18:5
 slice-write-out-4 : tie.Need-slice-write-out-4
 slice-write-out-4 c = simp length-set (omega arith)
 
--- src/tables.rt:10:1
 same-length : tie.Need-same-length
 same-length c = search needs
 
--- src/tables.rt:10:1
 returns : tie.Need-returns
 returns c = stored (c .args .out .now) (4 * c .args .k) _ _ _ _ (c .pre)
 

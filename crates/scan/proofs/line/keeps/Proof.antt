@@ -4,8 +4,6 @@ use borrow.Author.Tests.{lt-ltb, le-ltb}
 use Rattle.tender.specs.Limits.{lawful}
 use Rattle.scan.proofs.line.keeps.Statement.{statement}
 use Rattle.scan.proofs.line.keeps.Tie as tie
-use Rattle.scan.proofs.line.keeps.Reads as reads
-use Rattle.scan.proofs.line.keeps.Lts as lts
 
 returns : tie.Need-returns
 unfolding lawful

@@ -1,42 +1,32 @@
 -- `line::read_kind` meets its contract: the word is compared with each keyword of a kind. Assumes nothing.
-use mathlib.Core.Path.{_≡_, sym, ap, _∙_}
+use mathlib.Core.Path.{sym, ap, _∙_}
 use Rattle.tender.specs.Keywords.{singleWord, multiWord}
 use Rattle.scan.specs.Answer.{asKind}
 use Rattle.scan.proofs.Lines.{kind-single, kind-multi, kind-none}
 use borrow.Author.Needs.{needs}
 use Rattle.scan.proofs.line.read_kind.Statement.{statement}
 use Rattle.scan.proofs.line.read_kind.Tie as tie
-use Rattle.scan.proofs.line.read_kind.Reads as reads
-use Rattle.scan.proofs.line.read_kind.Lts as lts
-use Rattle.scan.proofs.words.same.Reads as same-reads
 
--- src/line.rt:145:16
 slice-aggregate-same : tie.Need-slice-aggregate-same
 slice-aggregate-same c = search needs
 
--- src/line.rt:145:8
 same-requires : tie.Need-same-requires
 same-requires c κs = search needs
 
--- src/line.rt:146:9
 returns : tie.Need-returns
 unfolding singleWord
 returns c = ap asKind (sym (kind-single _ (sym (c .before .same .ensures) ∙ c .if1 .taken)))
 
--- src/line.rt:148:16
 slice-aggregate-same-2 : tie.Need-slice-aggregate-same-2
 slice-aggregate-same-2 c = search needs
 
--- src/line.rt:148:8
 same-requires-2 : tie.Need-same-requires-2
 same-requires-2 c κs = search needs
 
--- src/line.rt:149:9
 returns-2 : tie.Need-returns-2
 unfolding singleWord multiWord
 returns-2 c = ap asKind (sym (kind-multi _ (sym (c .before .before .before .before .same .ensures) ∙ c .before .before .before .if1 .left) (sym (c .before .same2 .ensures) ∙ c .if2 .taken)))
 
--- src/line.rt:142:1
 returns-3 : tie.Need-returns-3
 unfolding singleWord multiWord
 returns-3 c = ap asKind (sym (kind-none _ (sym (c .before .before .before .before .same .ensures) ∙ c .before .before .before .if1 .left) (sym (c .before .same2 .ensures) ∙ c .if2 .left)))

@@ -1,13 +1,10 @@
 -- `line::read_last` meets its contract: the second word without its last bracket closes a window. Assumes nothing.
-use mathlib.Core.Path.{_≡_, refl, sym, ap, _∙_}
+use mathlib.Core.Path.{sym, ap, _∙_}
 use borrow.Author.Needs.{needs}
 use Rattle.scan.specs.Answer.{asSpan}
 use Rattle.scan.proofs.Spans.{closed-is, closed-not, closed-empty, last-open, last-is}
 use Rattle.scan.proofs.line.read_last.Statement.{statement}
 use Rattle.scan.proofs.line.read_last.Tie as tie
-use Rattle.scan.proofs.line.read_last.Reads as reads
-use Rattle.scan.proofs.line.read_last.Lts as lts
-use Rattle.scan.proofs.line.read_window.Reads as read-window-reads
 
 returns : tie.Need-returns
 returns c = ap asSpan (sym (last-open _ _ (closed-empty _ (c .if1 .taken))))

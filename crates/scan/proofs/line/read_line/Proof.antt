@@ -1,6 +1,6 @@
 -- `line::read_line` meets its contract: the first word tells which line it is. Assumes nothing.
-use Prim.Native.Nat.{ℕ, _+_, _-_, _≤_, _<_}
-use mathlib.Core.Path.{_≡_, refl, sym, ap, _∙_}
+use Prim.Native.Nat.{_-_}
+use mathlib.Core.Path.{_≡_, sym, ap, _∙_}
 use native.Mathlib.Omega.{arith}
 use borrow.Author.Needs.{needs}
 use lib.ListN.{length}
@@ -10,106 +10,77 @@ use Rattle.scan.proofs.Ends.{next-fits}
 use Rattle.scan.proofs.Lines.{noted-none, line-one, line-empty, line-unopened, line-tender, line-bid, line-other}
 use Rattle.scan.proofs.line.read_line.Statement.{statement}
 use Rattle.scan.proofs.line.read_line.Tie as tie
-use Rattle.scan.proofs.line.read_line.Reads as reads
-use Rattle.scan.proofs.line.read_line.Lts as lts
-use Rattle.scan.proofs.line.read_bid.Reads as read-bid-reads
-use Rattle.scan.proofs.line.read_tender.Reads as read-tender-reads
-use Rattle.scan.proofs.words.next.Reads as next-reads
-use Rattle.scan.proofs.words.same.Reads as same-reads
 
--- src/line.rt:223:9
 next-requires : tie.Need-next-requires
 next-requires c κs = search needs
 
--- src/line.rt:225:9
 returns : tie.Need-returns
 returns c = let line = c .before .before .before .before .args .line .now in
     let h : c .before .next .result ≡ length line = omega (arith, next-fits 32 line 0 (omega arith)) in
     noted-none _ (line-one line (c .before .next .result) (sym (c .before .next .ensures)) h) _ _
 
--- src/line.rt:228:9
 returns-2 : tie.Need-returns-2
 returns-2 c = noted-none _ (line-empty (c .before .before .before .before .before .args .line .now) (c .before .before .next .result) (sym (c .before .before .next .ensures)) (c .before .if1 .left) (c .if2 .taken)) _ _
 
--- src/line.rt:230:8
 shared-slice-read-if3 : tie.Need-shared-slice-read-if3
 shared-slice-read-if3 c = search needs
 
--- src/line.rt:231:9
 returns-3 : tie.Need-returns-3
 returns-3 c = noted-none _ (line-unopened (c .before .before .before .before .before .before .before .args .line .now) (c .before .before .before .before .next .result) (sym (c .before .before .before .before .next .ensures)) (c .before .before .before .if1 .left) (c .before .before .if2 .left) (c .if3 .taken)) _ _
 
--- src/line.rt:233:13
 sub-same : tie.Need-sub-same
 sub-same c = search needs
 
--- src/line.rt:233:13
 part-same-start : tie.Need-part-same-start
 part-same-start c = search needs
 
--- src/line.rt:233:13
 part-same-end : tie.Need-part-same-end
 part-same-end c = search needs
 
--- src/line.rt:233:26
 slice-aggregate-same : tie.Need-slice-aggregate-same
 slice-aggregate-same c = search needs
 
--- src/line.rt:233:8
 same-requires : tie.Need-same-requires
 same-requires c κs = search needs
 
--- src/line.rt:234:34
 add-read-tender : tie.Need-add-read-tender
 add-read-tender c = search needs
 
--- src/line.rt:234:9
 read-tender-requires : tie.Need-read-tender-requires
 read-tender-requires c κs = search needs
 
--- src/line.rt:234:9
 returns-4 : tie.Need-returns-4
 unfolding tenderWord
 returns-4 c = c .read-tender .ensures _ _ ∙ ap (noted _ _) (sym (line-tender (c .before .before .before .before .before .before .before .before .before .before .before .before .args .line .now) (c .before .before .before .before .before .before .before .before .before .next .result) (sym (c .before .before .before .before .before .before .before .before .before .next .ensures)) (c .before .before .before .before .before .before .before .before .if1 .left) (c .before .before .before .before .before .before .before .if2 .left) (c .before .before .before .before .before .if3 .left) (sym (c .before .before .same .ensures) ∙ c .before .if4 .taken)))
 
--- src/line.rt:236:13
 sub-same-2 : tie.Need-sub-same-2
 sub-same-2 c = search needs
 
--- src/line.rt:236:13
 part-same-start-2 : tie.Need-part-same-start-2
 part-same-start-2 c = search needs
 
--- src/line.rt:236:13
 part-same-end-2 : tie.Need-part-same-end-2
 part-same-end-2 c = search needs
 
--- src/line.rt:236:26
 slice-aggregate-same-2 : tie.Need-slice-aggregate-same-2
 slice-aggregate-same-2 c = search needs
 
--- src/line.rt:236:8
 same-requires-2 : tie.Need-same-requires-2
 same-requires-2 c κs = search needs
 
--- src/line.rt:237:31
 add-read-bid : tie.Need-add-read-bid
 add-read-bid c = search needs
 
--- src/line.rt:237:9
 read-bid-requires : tie.Need-read-bid-requires
 read-bid-requires c κs = search needs
 
--- src/line.rt:237:9
 same-length : tie.Need-same-length
 same-length c = search needs
 
--- src/line.rt:237:9
 returns-5 : tie.Need-returns-5
 unfolding tenderWord bidWord
 returns-5 c = c .before .before .read-bid .ensures ∙ ap (noted _ _) (sym (line-bid (c .before .before .before .before .before .before .before .before .before .before .before .before .before .before .before .before .before .before .before .args .line .now) (c .before .before .before .before .before .before .before .before .before .before .before .before .before .before .before .before .next .result) (sym (c .before .before .before .before .before .before .before .before .before .before .before .before .before .before .before .before .next .ensures)) (c .before .before .before .before .before .before .before .before .before .before .before .before .before .before .before .if1 .left) (c .before .before .before .before .before .before .before .before .before .before .before .before .before .before .if2 .left) (c .before .before .before .before .before .before .before .before .before .before .before .before .if3 .left) (sym (c .before .before .before .before .before .before .before .before .before .same .ensures) ∙ c .before .before .before .before .before .before .before .before .if4 .left) (sym (c .before .before .before .before .before .same2 .ensures) ∙ c .before .before .before .before .if5 .taken)))
 
--- src/line.rt:219:1
 returns-6 : tie.Need-returns-6
 unfolding tenderWord bidWord
 returns-6 c = noted-none _ (line-other (c .before .before .before .before .before .before .before .before .before .before .before .before .before .before .before .args .line .now) (c .before .before .before .before .before .before .before .before .before .before .before .before .next .result) (sym (c .before .before .before .before .before .before .before .before .before .before .before .before .next .ensures)) (c .before .before .before .before .before .before .before .before .before .before .before .if1 .left) (c .before .before .before .before .before .before .before .before .before .before .if2 .left) (c .before .before .before .before .before .before .before .before .if3 .left) (sym (c .before .before .before .before .before .same .ensures) ∙ c .before .before .before .before .if4 .left) (sym (c .before .same2 .ensures) ∙ c .if5 .left)) _ _

@@ -1,13 +1,10 @@
 -- `line::read_span` meets its contract: it follows `spanOf`. Assumes nothing.
-use mathlib.Core.Path.{_≡_, refl, sym, ap, _∙_}
+use mathlib.Core.Path.{sym, ap, _∙_}
 use borrow.Author.Needs.{needs}
-use Rattle.scan.specs.Answer.{asNumber, asSpan}
+use Rattle.scan.specs.Answer.{asSpan}
 use Rattle.scan.proofs.Spans.{is-value, is-bad, span-first, span-second, span-both}
 use Rattle.scan.proofs.line.read_span.Statement.{statement}
 use Rattle.scan.proofs.line.read_span.Tie as tie
-use Rattle.scan.proofs.line.read_span.Reads as reads
-use Rattle.scan.proofs.line.read_span.Lts as lts
-use Rattle.scan.proofs.words.read_number.Reads as read-number-reads
 
 read-number-requires : tie.Need-read-number-requires
 read-number-requires c κs = search needs

@@ -1,13 +1,10 @@
 -- `line::read_window` meets its contract: the words without their brackets are what `opened` and `closed` give. Assumes nothing.
-use mathlib.Core.Path.{_≡_, refl, sym, ap, _∙_}
+use mathlib.Core.Path.{sym, ap, _∙_}
 use borrow.Author.Needs.{needs}
 use Rattle.scan.specs.Answer.{asSpan}
 use Rattle.scan.proofs.Spans.{opened-is, opened-not, opened-empty, closed-is, closed-not, closed-empty, window-open, window-close, window-both}
 use Rattle.scan.proofs.line.read_window.Statement.{statement}
 use Rattle.scan.proofs.line.read_window.Tie as tie
-use Rattle.scan.proofs.line.read_window.Reads as reads
-use Rattle.scan.proofs.line.read_window.Lts as lts
-use Rattle.scan.proofs.line.read_span.Reads as read-span-reads
 
 returns : tie.Need-returns
 returns c = ap asSpan (sym (window-open _ _ (opened-empty _ (c .if1 .taken))))

@@ -1,5 +1,5 @@
 -- `line::read_windows` meets its contract: what is left of the line adds to what was read. Assumes nothing.
-use Prim.Native.Nat.{ℕ, _+_, _-_, _≤_, _<_}
+use Prim.Native.Nat.{_+_, _-_, _≤_}
 use mathlib.Core.Path.{_≡_, refl, sym, ap, _∙_}
 use mathlib.Core.Bool.{true}
 use native.Mathlib.Omega.{arith}
@@ -7,20 +7,13 @@ use borrow.Author.Needs.{needs}
 use lib.ListN.{length, take, drop}
 use Rattle.scan.specs.Words.{cut}
 use Rattle.scan.specs.Line.{windowsIn}
-use Rattle.scan.specs.Scan.{toNext, tallied}
+use Rattle.scan.specs.Scan.{tallied}
 use Rattle.scan.specs.TallyLaws.{tally-one, tally-more, tally-wrong, tally-last}
 use Rattle.scan.specs.Answer.{lastOf}
 use Rattle.scan.proofs.Ends.{next-fits}
 use Rattle.scan.proofs.Walk.{tally-end, rest-part, is-of, is-wrong, tally-last-wrong}
 use Rattle.scan.proofs.line.read_windows.Statement.{statement}
 use Rattle.scan.proofs.line.read_windows.Tie as tie
-use Rattle.scan.proofs.line.read_windows.Reads as reads
-use Rattle.scan.proofs.line.read_windows.Lts as lts
-use Rattle.scan.proofs.line.keeps.Reads as keeps-reads
-use Rattle.scan.proofs.line.put_window.Reads as put-window-reads
-use Rattle.scan.proofs.line.read_last.Reads as read-last-reads
-use Rattle.scan.proofs.line.read_window.Reads as read-window-reads
-use Rattle.scan.proofs.words.next.Reads as next-reads
 
 abbrev Inv-loop : tie.InvT-loop
 Inv-loop line at windows₀ m n₀ ok₀ i₀ windows n ok i = (tallied m n ok windows (windowsIn (cut 32 (drop i line))) ≡ tallied m 0 true windows₀ (windowsIn (cut 32 (drop at line)))) × (n ≤ i) × (m ≤ 32000) × (length windows ≡ length windows₀)
@@ -28,93 +21,71 @@ Inv-loop line at windows₀ m n₀ ok₀ i₀ windows n ok i = (tallied m n ok w
 abbrev μ-loop : tie.MeasureT-loop
 μ-loop line at windows₀ m n₀ ok₀ i₀ windows n ok i = length line - i
 
--- src/line.rt:103:5
 loop-holds : tie.Need-loop-holds Inv-loop μ-loop
 loop-holds c = (refl, omega arith, c .before .before .pre, refl)
 
--- src/line.rt:104:13
 next-requires : tie.Need-next-requires Inv-loop μ-loop
 next-requires c κs = search needs
 
--- src/line.rt:106:13
 same-length : tie.Need-same-length Inv-loop μ-loop
 same-length c = c .before .before .before .loop .inv .3
 
--- src/line.rt:106:13
 returns : tie.Need-returns Inv-loop μ-loop
 returns c = let line = c .before .before .before .before .before .before .args .line .now in
     let h : c .before .next .result ≡ length line = omega (arith, next-fits 32 line (c .before .before .before .loop .i) (omega arith)) in
     sym (tally-one line (c .before .before .before .loop .i) (c .before .next .result) 0 (c .before .before .before .before .before .before .args .m) (c .before .before .before .loop .n) (c .before .before .before .loop .ok) (c .before .before .before .loop .windows) (sym (c .before .next .ensures)) (omega arith) h) ∙ c .before .before .before .loop .inv .0
 
--- src/line.rt:108:28
 add-next : tie.Need-add-next Inv-loop μ-loop
 add-next c = search needs
 
--- src/line.rt:108:13
 next-requires-2 : tie.Need-next-requires-2 Inv-loop μ-loop
 next-requires-2 c κs = search needs
 
--- src/line.rt:110:31
 sub-read-window : tie.Need-sub-read-window Inv-loop μ-loop
 sub-read-window c = search needs
 
--- src/line.rt:110:31
 part-read-window-start : tie.Need-part-read-window-start Inv-loop μ-loop
 part-read-window-start c = search needs
 
--- src/line.rt:110:31
 part-read-window-end : tie.Need-part-read-window-end Inv-loop μ-loop
 part-read-window-end c = search needs
 
--- src/line.rt:110:50
 add-read-window : tie.Need-add-read-window Inv-loop μ-loop
 add-read-window c = search needs
 
--- src/line.rt:110:44
 sub-read-window-2 : tie.Need-sub-read-window-2 Inv-loop μ-loop
 sub-read-window-2 c = search needs
 
--- src/line.rt:110:44
 part-read-window-start-2 : tie.Need-part-read-window-start-2 Inv-loop μ-loop
 part-read-window-start-2 c = search needs
 
--- src/line.rt:110:44
 part-read-window-end-2 : tie.Need-part-read-window-end-2 Inv-loop μ-loop
 part-read-window-end-2 c = search needs
 
--- src/line.rt:110:19
 read-window-requires : tie.Need-read-window-requires Inv-loop μ-loop
 read-window-requires c κs = search needs
 
--- src/line.rt:111:26
 enum-known-a : tie.Need-enum-known-a Inv-loop μ-loop
 enum-known-a c = search needs
 
--- src/line.rt:112:41
 add-put-window : tie.Need-add-put-window Inv-loop μ-loop
 add-put-window c = search needs
 
--- src/line.rt:112:21
 put-window-requires : tie.Need-put-window-requires Inv-loop μ-loop
 put-window-requires c κs = search needs
 
--- src/line.rt:113:21
 keeps-requires : tie.Need-keeps-requires Inv-loop μ-loop
 keeps-requires c κs = search needs
 
--- src/line.rt:114:21
 add-n : tie.Need-add-n Inv-loop μ-loop
 add-n c = search needs
 
--- src/line.rt:115:25
 add-i : tie.Need-add-i Inv-loop μ-loop
 add-i c = search needs
 
--- src/line.rt:103:5
 loop-less : tie.Need-loop-less Inv-loop μ-loop
 loop-less c = search needs
 
--- src/line.rt:103:5
 loop-again : tie.Need-loop-again Inv-loop μ-loop
 loop-again c = let line = c .before .before .before .before .before .before .before .before .before .before .before .before .before .before .before .before .before .before .before .args .line .now in (
   rw (c .keeps .ensures, c .before .before .before .put-window .ensures) (sym (tally-more line (c .before .before .before .before .before .before .before .before .before .before .before .before .before .before .before .before .loop .i) (c .before .before .before .before .before .before .before .before .before .before .before .before .before .before .next .result) (c .before .before .before .before .before .before .before .before .before .before .before .before .next2 .result) (c .before .before .before .before .before .before .before .before .before .before .before .before .before .before .before .before .before .before .before .args .m) (c .before .before .before .before .before .before .before .before .before .before .before .before .before .before .before .before .loop .n) (c .before .before .before .before .before .before .before .before .before .before .before .before .before .before .before .before .loop .ok) (c .before .before .before .before .before .before .before .before .before .before .before .before .before .before .before .before .loop .windows) (sym (c .before .before .before .before .before .before .before .before .before .before .before .before .before .before .next .ensures)) (c .before .before .before .before .before .before .before .before .before .before .before .before .before .if1 .left)
@@ -124,77 +95,59 @@ loop-again c = let line = c .before .before .before .before .before .before .bef
   c .before .before .before .put-window .kept .0 ∙ c .before .before .before .before .before .before .before .before .before .before .before .before .before .before .before .before .loop .inv .3,
 )
 
--- src/line.rt:118:21
 enum-told : tie.Need-enum-told Inv-loop μ-loop
 enum-told c = search needs
 
--- src/line.rt:118:21
 same-length-2 : tie.Need-same-length-2 Inv-loop μ-loop
 same-length-2 c = c .before .before .before .before .before .before .before .before .before .before .loop .inv .3
 
--- src/line.rt:118:21
 returns-2 : tie.Need-returns-2 Inv-loop μ-loop
 returns-2 c = let line = c .before .before .before .before .before .before .before .before .before .before .before .before .before .args .line .now in
     sym (tally-wrong line (c .before .before .before .before .before .before .before .before .before .before .loop .i) (c .before .before .before .before .before .before .before .before .next .result) (c .before .before .before .before .before .before .next2 .result) (c .before .before .before .before .before .before .before .before .before .before .before .before .before .args .m) (c .before .before .before .before .before .before .before .before .before .before .loop .n) (c .before .before .before .before .before .before .before .before .before .before .loop .ok) (c .before .before .before .before .before .before .before .before .before .before .loop .windows) (sym (c .before .before .before .before .before .before .before .before .next .ensures)) (c .before .before .before .before .before .before .before .if1 .left)
     (sym (c .before .before .before .before .before .before .next2 .ensures)) (c .before .before .before .before .before .if2 .taken) (is-wrong _ (sym (c .before .before .read-window .ensures) ∙ c .enum-told .given .1))) ∙ c .before .before .before .before .before .before .before .before .before .before .loop .inv .0
 
--- src/line.rt:122:29
 sub-read-last : tie.Need-sub-read-last Inv-loop μ-loop
 sub-read-last c = search needs
 
--- src/line.rt:122:29
 part-read-last-start : tie.Need-part-read-last-start Inv-loop μ-loop
 part-read-last-start c = search needs
 
--- src/line.rt:122:29
 part-read-last-end : tie.Need-part-read-last-end Inv-loop μ-loop
 part-read-last-end c = search needs
 
--- src/line.rt:122:48
 add-read-last : tie.Need-add-read-last Inv-loop μ-loop
 add-read-last c = search needs
 
--- src/line.rt:122:42
 sub-read-last-2 : tie.Need-sub-read-last-2 Inv-loop μ-loop
 sub-read-last-2 c = search needs
 
--- src/line.rt:122:42
 part-read-last-start-2 : tie.Need-part-read-last-start-2 Inv-loop μ-loop
 part-read-last-start-2 c = search needs
 
--- src/line.rt:122:42
 part-read-last-end-2 : tie.Need-part-read-last-end-2 Inv-loop μ-loop
 part-read-last-end-2 c = let k : c .before .before .next2 .result ≤ length (c .before .before .before .before .before .before .before .before .before .args .line .now) = omega (arith, next-fits 32 (c .before .before .before .before .before .before .before .before .before .args .line .now) (c .before .before .before .before .next .result + 1) (omega arith)) in search (needs, k)
 
--- src/line.rt:122:19
 read-last-requires : tie.Need-read-last-requires Inv-loop μ-loop
 read-last-requires c κs = search needs
 
--- src/line.rt:123:26
 enum-known-a-2 : tie.Need-enum-known-a-2 Inv-loop μ-loop
 enum-known-a-2 c = search needs
 
--- src/line.rt:124:41
 add-put-window-2 : tie.Need-add-put-window-2 Inv-loop μ-loop
 add-put-window-2 c = search needs
 
--- src/line.rt:124:21
 put-window-requires-2 : tie.Need-put-window-requires-2 Inv-loop μ-loop
 put-window-requires-2 c κs = search needs
 
--- src/line.rt:125:43
 add-t43 : tie.Need-add-t43 Inv-loop μ-loop
 add-t43 c = search needs
 
--- src/line.rt:125:50
 keeps-requires-2 : tie.Need-keeps-requires-2 Inv-loop μ-loop
 keeps-requires-2 c κs = search needs
 
--- src/line.rt:125:21
 same-length-3 : tie.Need-same-length-3 Inv-loop μ-loop
 same-length-3 c = c .before .before .before .put-window2 .kept .0 ∙ c .before .before .before .before .before .before .before .before .before .before .before .before .before .before .before .before .loop .inv .3
 
--- src/line.rt:125:21
 returns-3 : tie.Need-returns-3 Inv-loop μ-loop
 unfolding lastOf
 returns-3 c = let line = c .before .before .before .before .before .before .before .before .before .before .before .before .before .before .before .before .before .before .before .args .line .now in
@@ -204,15 +157,12 @@ returns-3 c = let line = c .before .before .before .before .before .before .befo
     rw (c .keeps2 .ensures, c .before .before .before .put-window2 .ensures) (sym (tally-last line (c .before .before .before .before .before .before .before .before .before .before .before .before .before .before .before .before .loop .i) (c .before .before .before .before .before .before .before .before .before .before .before .before .before .before .next .result) (c .before .before .before .before .before .before .before .before .before .before .before .before .next2 .result) (c .before .before .before .before .before .before .before .before .before .before .before .before .before .before .before .before .before .before .before .args .m) (c .before .before .before .before .before .before .before .before .before .before .before .before .before .before .before .before .loop .n) (c .before .before .before .before .before .before .before .before .before .before .before .before .before .before .before .before .loop .ok) (c .before .before .before .before .before .before .before .before .before .before .before .before .before .before .before .before .loop .windows) (sym (c .before .before .before .before .before .before .before .before .before .before .before .before .before .before .next .ensures)) (c .before .before .before .before .before .before .before .before .before .before .before .before .before .if1 .left)
     (sym (c .before .before .before .before .before .before .before .before .before .before .before .before .next2 .ensures)) k _ g) ∙ c .before .before .before .before .before .before .before .before .before .before .before .before .before .before .before .before .loop .inv .0)
 
--- src/line.rt:128:21
 enum-told-2 : tie.Need-enum-told-2 Inv-loop μ-loop
 enum-told-2 c = search needs
 
--- src/line.rt:128:21
 same-length-4 : tie.Need-same-length-4 Inv-loop μ-loop
 same-length-4 c = c .before .before .before .before .before .before .before .before .before .before .loop .inv .3
 
--- src/line.rt:128:21
 returns-4 : tie.Need-returns-4 Inv-loop μ-loop
 returns-4 c = let line = c .before .before .before .before .before .before .before .before .before .before .before .before .before .args .line .now in
     let k : c .before .before .before .before .before .before .next2 .result ≡ length line = omega (arith, next-fits 32 line (c .before .before .before .before .before .before .before .before .next .result + 1) (omega arith)) in
@@ -221,11 +171,9 @@ returns-4 c = let line = c .before .before .before .before .before .before .befo
     sym (tally-last-wrong line (c .before .before .before .before .before .before .before .before .before .before .loop .i) (c .before .before .before .before .before .before .before .before .next .result) (c .before .before .before .before .before .before .next2 .result) (c .before .before .before .before .before .before .before .before .before .before .before .before .before .args .m) (c .before .before .before .before .before .before .before .before .before .before .loop .n) (c .before .before .before .before .before .before .before .before .before .before .loop .ok) (c .before .before .before .before .before .before .before .before .before .before .loop .windows) (sym (c .before .before .before .before .before .before .before .before .next .ensures)) (c .before .before .before .before .before .before .before .if1 .left)
     (sym (c .before .before .before .before .before .before .next2 .ensures)) k g) ∙ c .before .before .before .before .before .before .before .before .before .before .loop .inv .0
 
--- src/line.rt:96:1
 same-length-5 : tie.Need-same-length-5 Inv-loop μ-loop
 same-length-5 c = c .before .loop .inv .3
 
--- src/line.rt:96:1
 returns-5 : tie.Need-returns-5 Inv-loop μ-loop
 returns-5 c = sym (tally-end (c .before .before .before .before .args .line .now) (c .before .loop .i) (c .before .before .before .before .args .m) (c .before .loop .n) (c .before .loop .ok) (c .before .loop .windows) (c .loop-test .left)) ∙ c .before .loop .inv .0
 

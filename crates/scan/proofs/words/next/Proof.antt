@@ -1,5 +1,5 @@
 -- `words::next` meets its contract: the next byte d is as far from the start wherever the walk stands. Assumes nothing.
-use Prim.Native.Nat.{ℕ, _+_, _-_}
+use Prim.Native.Nat.{_+_, _-_}
 use mathlib.Core.Path.{_≡_, refl, sym, _∙_}
 use native.Mathlib.Omega.{arith}
 use borrow.Author.Needs.{needs}
@@ -8,8 +8,6 @@ use Rattle.scan.specs.Scan.{toNext}
 use Rattle.scan.specs.ScanLaws.{next-here, next-other, next-end}
 use Rattle.scan.proofs.words.next.Statement.{statement}
 use Rattle.scan.proofs.words.next.Tie as tie
-use Rattle.scan.proofs.words.next.Reads as reads
-use Rattle.scan.proofs.words.next.Lts as lts
 
 abbrev Inv-loop : tie.InvT-loop
 Inv-loop s at d i₀ i = i + toNext d (drop i s) ≡ at + toNext d (drop at s)

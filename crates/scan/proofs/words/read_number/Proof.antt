@@ -1,15 +1,11 @@
 -- `words::read_number` meets its contract: each early return is a case in which `numeralOf` is none. Assumes nothing.
-use mathlib.Core.Path.{_≡_, refl, sym, ap, _∙_}
+use mathlib.Core.Path.{sym, ap, _∙_}
 use mathlib.Core.Logic.{⊎-elim}
-use native.Mathlib.Omega.{arith}
 use borrow.Author.Needs.{needs}
 use Rattle.scan.specs.Answer.{asNumber}
 use Rattle.scan.proofs.Digits.{leading-short, leading-other, number-empty, number-long, number-zero, number-digits}
 use Rattle.scan.proofs.words.read_number.Statement.{statement}
 use Rattle.scan.proofs.words.read_number.Tie as tie
-use Rattle.scan.proofs.words.read_number.Reads as reads
-use Rattle.scan.proofs.words.read_number.Lts as lts
-use Rattle.scan.proofs.words.value.Reads as value-reads
 
 returns : tie.Need-returns
 returns c = ap asNumber (sym (number-empty _ (c .if1 .taken)))

@@ -3,15 +3,10 @@ use Rattle.scan.specs.Words.{priceOf}
 use borrow.Author.Needs.{needs}
 use Rattle.scan.proofs.words.read_price.Statement.{statement}
 use Rattle.scan.proofs.words.read_price.Tie as tie
-use Rattle.scan.proofs.words.read_price.Reads as reads
-use Rattle.scan.proofs.words.read_price.Lts as lts
-use Rattle.scan.proofs.words.read_number.Reads as read-number-reads
 
--- src/words.rt:119:5
 read-number-requires : tie.Need-read-number-requires
 read-number-requires c κs = search needs
 
--- src/words.rt:116:1
 returns : tie.Need-returns
 unfolding priceOf
 returns c = c .read-number .ensures

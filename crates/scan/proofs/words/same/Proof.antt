@@ -1,5 +1,5 @@
 -- `words::same` meets its contract: the words from the walk's place on compare as the whole words do. Assumes nothing.
-use Prim.Native.Nat.{ℕ, _+_, _-_, _≤_, _<_}
+use Prim.Native.Nat.{_-_}
 use mathlib.Core.Path.{_≡_, refl, sym, _∙_}
 use native.Mathlib.Omega.{arith}
 use lib.ListN.{length, drop}
@@ -8,8 +8,6 @@ use Rattle.scan.proofs.Same.{lengths-differ, same-end, byte-same, byte-
 use borrow.Author.Needs.{needs}
 use Rattle.scan.proofs.words.same.Statement.{statement}
 use Rattle.scan.proofs.words.same.Tie as tie
-use Rattle.scan.proofs.words.same.Reads as reads
-use Rattle.scan.proofs.words.same.Lts as lts
 
 abbrev Inv-loop : tie.InvT-loop
 Inv-loop a b i₀ i = (same (drop i a) (drop i b) ≡ same a b) × (length a ≡ length b)
@@ -17,39 +15,30 @@ Inv-loop a b i₀ i = (same (drop i a) (drop i b) ≡ same a b) × (length a ≡
 abbrev μ-loop : tie.MeasureT-loop
 μ-loop a b i₀ i = length a - i
 
--- src/words.rt:57:9
 returns : tie.Need-returns Inv-loop μ-loop
 returns c = sym (lengths-differ _ _ (c .if1 .taken))
 
--- src/words.rt:60:5
 loop-holds : tie.Need-loop-holds Inv-loop μ-loop
 loop-holds c = (refl, c .if1 .left)
 
--- src/words.rt:61:12
 shared-slice-read-if2 : tie.Need-shared-slice-read-if2 Inv-loop μ-loop
 shared-slice-read-if2 c = search needs
 
--- src/words.rt:61:20
 shared-slice-read-if2-2 : tie.Need-shared-slice-read-if2-2 Inv-loop μ-loop
 shared-slice-read-if2-2 c = omega arith
 
--- src/words.rt:62:13
 returns-2 : tie.Need-returns-2 Inv-loop μ-loop
 returns-2 c = sym (byte-other _ _ (c .before .before .before .before .loop .i) (c .before .before .before .loop-test .taken) (omega arith) (c .if2 .taken)) ∙ c .before .before .before .before .loop .inv .0
 
--- src/words.rt:64:9
 add-i : tie.Need-add-i Inv-loop μ-loop
 add-i c = search needs
 
--- src/words.rt:60:5
 loop-less : tie.Need-loop-less Inv-loop μ-loop
 loop-less c = search needs
 
--- src/words.rt:60:5
 loop-again : tie.Need-loop-again Inv-loop μ-loop
 loop-again c = (sym (byte-same _ _ (c .before .before .before .before .loop .i) (c .before .before .before .loop-test .taken) (omega arith) (c .if2 .left)) ∙ c .before .before .before .before .loop .inv .0, c .before .before .before .before .loop .inv .1)
 
--- src/words.rt:53:1
 returns-3 : tie.Need-returns-3 Inv-loop μ-loop
 returns-3 c = sym (same-end _ _ (c .before .loop .i) (c .loop-test .left) (omega arith)) ∙ c .before .loop .inv .0
 

@@ -1,17 +1,14 @@
 -- `words::value` meets its contract: what `digits` says from here on is what it says from the start. Assumes nothing.
-use Prim.Native.Nat.{ℕ, _+_, _-_, _*_, _≤_, _<_, _^_}
+use Prim.Native.Nat.{_-_, _≤_, _<_, _^_}
 use mathlib.Core.Path.{_≡_, refl, sym, ap, _∙_}
 use native.Mathlib.Omega.{arith}
 use borrow.Author.Needs.{needs}
-use lib.ListN.{length, drop, getD}
+use lib.ListN.{length, drop}
 use Rattle.scan.specs.Words.{digits}
 use Rattle.scan.specs.Answer.{asNumber}
 use Rattle.scan.proofs.Digits.{inside, below, above, at-end, other, digit, ten-more, ten-below}
 use Rattle.scan.proofs.words.value.Statement.{statement}
 use Rattle.scan.proofs.words.value.Tie as tie
-use Rattle.scan.proofs.words.value.Reads as reads
-use Rattle.scan.proofs.words.value.Lts as lts
-use Rattle.scan.proofs.words.wide.Reads as wide-reads
 
 abbrev Inv-loop : tie.InvT-loop
 Inv-loop w v₀ i₀ v i = (digits v (drop i w) ≡ digits 0 w) × (v < 10 ^ i) × (length w ≤ 9)

@@ -1,0 +1,191 @@
+// Reads the texts of paper 01's worked cases 9 and 10 and their near misses, and writes what each answers.
+mod texts;
+
+ghost use Prim.Native.Nat.{_≤_};
+ghost use lib.ListN.{length};
+use reader::Reading;
+use texts::long_text;
+use texts::many_bids;
+use texts::repeated;
+use texts::windows_of;
+
+// Writes the label, and the answer as numbers: accepted with the rows of each table, or refused with number and place.
+fn tell(label: &[u8], answer: Reading) {
+    io::write_all(1, label);
+    match answer {
+        Reading::Accepted {
+            tender: _,
+            bids,
+            windows,
+        } => {
+            io::write_all(1, b": accepted ");
+            io::print_decimal(1, bids as u64);
+            io::write_all(1, b" ");
+            io::print_decimal(1, windows as u64);
+        }
+        Reading::Refused(r) => {
+            io::write_all(1, b": refused ");
+            io::print_decimal(1, tender::number(r));
+            io::write_all(1, b" ");
+            io::print_decimal(1, tender::place(r));
+        }
+    }
+    io::write_all(1, b"\n");
+}
+
+// Reads the text into tables that are long enough.
+fn show(label: &[u8], text: &[u8]) {
+    let mut bids = [0u64; 4000];
+    let mut windows = [0u64; 22000];
+    tell(label, reader::read(text, &mut bids, &mut windows));
+}
+
+// Whether every cell from `at` on is 7.
+fn sevens(cells: &[u64], at: usize) -> bool {
+    let mut i = at;
+    while i < cells.len() {
+        if cells[i] != 7 {
+            return false;
+        }
+        i += 1;
+    }
+    true
+}
+
+// Reads a text of two bids and three windows into these tables, whose cells are all 7, and tells whether the cells from the
+// given places on stand.
+fn lend(
+    label: &[u8],
+    bids: &mut [u64],
+    windows: &mut [u64],
+    past_bids: usize,
+    past_windows: usize,
+) {
+    let answer = reader::read(
+        b"(tender multi 0 10)\n(bid 21 12 (0 4) (6 8))\n(bid 22 15 (4 10))\n",
+        bids,
+        windows,
+    );
+    tell(label, answer);
+    if sevens(bids, past_bids) {
+        if sevens(windows, past_windows) {
+            io::write_all(1, b"  the other cells stand\n");
+        }
+    }
+}
+
+fn lent_tables() {
+    lend(
+        b"tables of 2 and 3 rows",
+        &mut [7u64; 8],
+        &mut [7u64; 6],
+        8,
+        6,
+    );
+    lend(
+        b"tables with a row more and a cell past it",
+        &mut [7u64; 13],
+        &mut [7u64; 9],
+        8,
+        6,
+    );
+    lend(b"a bid row too few", &mut [7u64; 7], &mut [7u64; 6], 0, 0);
+    lend(
+        b"a window row too few",
+        &mut [7u64; 8],
+        &mut [7u64; 5],
+        0,
+        0,
+    );
+}
+
+fn worked_nine() {
+    show(
+        b"price 100000000",
+        b"(tender single 0 100)\n(bid 11 100000000 (0 50))\n",
+    );
+    show(
+        b"price 100000001",
+        b"(tender single 0 100)\n(bid 11 100000001 (0 50))\n",
+    );
+    show(
+        b"end 10080",
+        b"(tender single 0 100)\n(bid 11 30 (0 10080))\n",
+    );
+    show(
+        b"end 10081",
+        b"(tender single 0 100)\n(bid 11 30 (0 10081))\n",
+    );
+    show(
+        b"window (5 5)",
+        b"(tender single 0 100)\n(bid 11 30 (5 5))\n",
+    );
+    show(
+        b"swapped window",
+        b"(tender single 0 100)\n(bid 11 30 (9 5))\n",
+    );
+    show(
+        b"price 007",
+        b"(tender single 0 100)\n(bid 11 007 (0 50))\n",
+    );
+    show(b"price 0", b"(tender single 0 100)\n(bid 11 0 (0 50))\n");
+    show(
+        b"nine digits",
+        b"(tender single 0 100)\n(bid 999999999 30 (0 50))\n",
+    );
+    show(
+        b"ten digits",
+        b"(tender single 0 100)\n(bid 1000000000 30 (0 50))\n",
+    );
+}
+
+fn near_misses() {
+    show(b"empty text", b"");
+    show(b"no bids", b"(tender single 0 100)\n");
+    show(
+        b"no last byte 10",
+        b"(tender single 0 100)\n(bid 11 30 (0 50))",
+    );
+    show(
+        b"empty last line",
+        b"(tender single 0 100)\n(bid 11 30 (0 50))\n\n",
+    );
+    show(
+        b"CR before byte 10",
+        b"(tender single 0 100)\r\n(bid 11 30 (0 50))\r\n",
+    );
+    show(b"byte 0", b"(tender single 0 100)\n(bid 11 30 (0 50))\0\n");
+    show(
+        b"byte 200",
+        b"(tender single 0 100)\n(bid 11 3\xc8 (0 50))\n",
+    );
+    show(
+        b"two windows in a single tender",
+        b"(tender single 0 100)\n(bid 11 30 (0 50) (9 5))\n",
+    );
+    show(
+        b"bidder 0 with two windows",
+        b"(tender single 0 100)\n(bid 0 30 (0 50) (9 5))\n",
+    );
+}
+
+fn main() {
+    worked_nine();
+    near_misses();
+    let mut buf = [0u8; 65537];
+    let a = windows_of(&mut buf, 32);
+    show(b"32 windows", &buf[..a]);
+    let b = windows_of(&mut buf, 33);
+    show(b"33 windows", &buf[..b]);
+    let c = many_bids(&mut buf, 1000);
+    show(b"1000 bids", &buf[..c]);
+    let d = many_bids(&mut buf, 1001);
+    show(b"1001 bids", &buf[..d]);
+    let e = repeated(&mut buf, 999);
+    show(b"bidder of line 2 again on line 1001", &buf[..e]);
+    let f = long_text(&mut buf, b"500000");
+    show(b"65536 bytes", &buf[..f]);
+    let g = long_text(&mut buf, b"5000000");
+    show(b"65537 bytes", &buf[..g]);
+    lent_tables();
+}
