@@ -1,3 +1,4 @@
 pub mod Writing
 pub mod Spelling
 pub mod Winning
+pub mod Making

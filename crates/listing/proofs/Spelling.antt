@@ -88,7 +88,7 @@ pub kind-written : {old new : List ℕ} {at f : ℕ} (k l : Kind) → k ≡ l �
 kind-written {old} {new} {at} {f} k l e x = rw e x
 
 pub nothing-written : (old : List ℕ) (at : ℕ) → Written old at [] old at
-nothing-written old at = record { text = sym (append-nil (take at old)); next = omega arith; size = refl }
+nothing-written old at = record { text = sym (append-nil (take at old)); next = omega arith; rest = refl; size = refl }
 
 pub win-written : {old new : List ℕ} {at f : ℕ} (bidder flag cents : ℕ) → flag ≡ 1 → Written old at (pairLine (bytes "win") bidder cents) new f → Written old at (winLine bidder flag cents) new f
 unfolding winLine winWord bytes

@@ -1,21 +1,27 @@
 -- Bytes written one after the other: a store, a copy, and two writes that follow each other. Assumes nothing.
 use mathlib.Core.Path.{_≡_, refl, sym, ap, _∙_}
 use mathlib.Core.List.{List, [], _∷_, _++_, append-assoc}
-use Prim.Native.Nat.{ℕ, zero, suc, _+_, _≤_, _<_}
+use Prim.Native.Nat.{ℕ, zero, suc, _+_, _-_, _≤_, _<_}
 use native.Mathlib.Numerals.{add-one}
 use native.Mathlib.Nat.{add-assoc}
 use native.Mathlib.Omega.{arith}
-use lib.ListN.{length, take, drop, getD, set, length-set, length-append}
-use lib.Seq.{take-suc-set, paste, paste-zero, paste-suc, length-paste, take-paste, take-length}
+use lib.ListN.{length, take, drop, getD, set, length-set, length-append, take-append-drop}
+use lib.Seq.{take-suc-set, drop-set-lt, paste, paste-zero, paste-suc, length-paste, take-paste, drop-paste, take-length, drop-drop}
 use Rattle.listing.specs.Written.{Written}
 
 pub one-byte : (old : List ℕ) (at b : ℕ) → at < length old → Written old at (b ∷ []) (set old at b) (at + 1)
-one-byte old at b l = record { text = rw add-one (take-suc-set old at b l); next = refl; size = length-set old at b }
+one-byte old at b l = record { text = rw add-one (take-suc-set old at b l); next = refl; rest = drop-set-lt (at + 1) old at b (omega arith); size = length-set old at b }
+
+further : (old mid : List ℕ) (e f : ℕ) → e ≤ f → drop e mid ≡ drop e old → drop f mid ≡ drop f old
+further old mid e f l h =
+    let g : f ≡ e + (f - e) = omega arith in
+    ap (λ k. drop k mid) g ∙ sym (drop-drop (f - e) e mid) ∙ ap (drop (f - e)) h ∙ drop-drop (f - e) e old ∙ ap (λ k. drop k old) (sym g)
 
 pub then : {old mid new b c : List ℕ} {at e f : ℕ} → Written old at b mid e → Written mid e c new f → Written old at (b ++ c) new f
-then {old} {mid} {new} {b} {c} {at} x y = record {
+then {old} {mid} {new} {b} {c} {at} {e} {f} x y = record {
   text = y .text ∙ ap (λ l. l ++ c) (x .text) ∙ append-assoc (take at old) b c;
   next = omega (arith, x .next, y .next, length-append b c);
+  rest = y .rest ∙ further old mid e f (omega (arith, y .next)) (x .rest);
   size = y .size ∙ x .size;
 }
 
@@ -41,5 +47,10 @@ module _ (old : List ℕ) (at : ℕ) (s : List ℕ) where
       record {
         text = ap (take (at + length s)) (h .is ∙ ap (λ k. paste old at s k) e) ∙ take-paste old at s (length s) (omega (arith, h .fits)) (omega arith) ∙ ap (λ l. take at old ++ l) (take-length s);
         next = refl;
+        rest = ap (drop (at + length s)) (h .is ∙ ap (λ k. paste old at s k) e) ∙ drop-paste old at s (length s) (omega (arith, h .fits)) (omega arith);
         size = copy-size new i h;
       }
+
+-- bytes written from the start, and what stood past them
+pub from-start : (old b new : List ℕ) (e : ℕ) → Written old 0 b new e → new ≡ b ++ drop e old
+from-start old b new e w = sym (take-append-drop e new) ∙ ap (λ l. l ++ drop e new) (w .text) ∙ ap (λ l. b ++ l) (w .rest)

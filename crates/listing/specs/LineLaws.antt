@@ -100,3 +100,7 @@ win-lines-short bids won cents (suc n) = omega (
   win-lines-short bids won cents n,
   win-short (getD bids (4 * n) 0) (getD won n 0) (getD cents n 0),
 )
+
+pub refusal-short : (n at : ℕ) → length (pairLine refusedWord n at) ≤ 51200
+unfolding refusedWord bytes
+refusal-short n at = omega (arith, pair-short (114 ∷ 101 ∷ 102 ∷ 117 ∷ 115 ∷ 101 ∷ 100 ∷ []) n at)

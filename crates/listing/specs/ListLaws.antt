@@ -9,14 +9,17 @@ use Prim.Native.Nat.{ℕ, zero, suc, _+_, _*_, _≤_, _<_}
 use native.Mathlib.Omega.{arith}
 use lib.ListN.{length, getD, drop, length-append, List·getD-append}
 use lib.Seq.{getD-drop}
-use lib.Dec.{ltb, eqb}
-use borrow.Author.Tests.{le-ltb}
+use lib.Dec.{leb, ltb, eqb}
+use borrow.Author.Tests.{le-ltb, le-leb}
 use Rattle.tender.specs.declared.Kind.{Kind}
 use Rattle.tender.specs.declared.Window.{Window}
 use Rattle.tender.specs.declared.Tender.{Tender}
 use Rattle.tender.specs.Tables.{Row, rowsOf, own, flatRows, flatWindows}
 use Rattle.cover.specs.Sets.{when, bidders, each}
+use Rattle.reader.specs.Read.{accepted, readText}
+use Rattle.reader.specs.Read as reading
 use Rattle.reader.specs.Rules.{Rules}
+use Rattle.reader.specs.RulesLaw.{rules-law}
 use Rattle.tables.specs.Cells.{noRow, hasOf, holds, pricesOf, cellsOf}
 use Rattle.tables.specs.Faults.{faultOf}
 use Rattle.tables.specs.AlikeLaws.{windows-same, among-held, faultless}
@@ -24,10 +27,15 @@ use Rattle.tables.specs.TextLaws.{rows-flat, length-windows, rows-end, never-ni
 use Rattle.award.specs.Award.{Outcome, awarded, refused, settled, awardOf, number, place, InBids, Answers}
 use Rattle.award.specs.declared.AwardRow.{AwardRow}
 use Rattle.award.specs.Gain.{lost}
-use Rattle.award.specs.SettleLaws.{settled-is}
+use Rattle.award.specs.SettleLaws.{getD-listed, settled-is}
 use Rattle.award.specs.AwardLaws.{award-none}
-use Rattle.listing.specs.Lines.{winLine, winLines}
-use Rattle.listing.specs.List.{winList}
+use Rattle.award.specs.declared.Answer.{Answer}
+use Rattle.award.specs.declared.Answer.the-variants.{Awarded, Refused}
+use Rattle.award.specs.Plain.{rowsIn, toldIn, PlainPromise}
+use Rattle.listing.specs.Lines.{winLine, winLines, refusedWord}
+use Rattle.listing.specs.Made.{answerLines}
+use Rattle.listing.specs.List.{winList, listLines, AwardList, IsList, Listed}
+use Rattle.listing.specs.LineLaws.{pair-some, refusal-short, lines-short, lines-some}
 
 -- a row's windows stand in the rows that were read, whatever is past them
 module _ (T : Tender) (R : List Row) (W : List Window) (rules : Rules T R W) where
@@ -100,22 +108,43 @@ bidder-cell (r ∷ R) v (suc i) l = ap (λ k. getD (r .bidder ∷ r .price ∷ r
     index : (i : ℕ) → 4 * suc i ≡ suc (suc (suc (suc (4 * i))))
     index i = omega arith
 
--- the flag and the cents of each row stand in two lists of cells
-pub record InCells (rows : List AwardRow) (n : ℕ) (won cents : List ℕ) : Type 0 where
-  pub flags : (i : ℕ) → i < n → getD won i 0 ≡ when (getD rows i lost .won) 1
-  pub payments : (i : ℕ) → i < n → getD cents i 0 ≡ getD rows i lost .cents
+row-cells : (n : ℕ) (won cents : List ℕ) (i : ℕ) → i < n → getD (rowsIn n won cents) i lost ≡ record { won = eqb (getD won i 0) 1; cents = getD cents i 0 }
+unfolding rowsIn
+row-cells n won cents i l = getD-listed n (λ i. record { won = eqb (getD won i 0) 1; cents = getD cents i 0 }) i lost l
 
-flag-one : (b : Bool) → eqb (when b 1) 1 ≡ b
-flag-one true = refl
-flag-one false = refl
-
-pub win-lines : (R : List Row) (v : List ℕ) (rows : List AwardRow) (won cents : List ℕ) (n : ℕ) → n ≤ length R → InCells rows n won cents → winLines (flatRows R ++ v) won cents n ≡ winList R rows n
+win-lines : (R : List Row) (v won cents : List ℕ) (n m : ℕ) → m ≤ n → n ≤ length R → winLines (flatRows R ++ v) won cents m ≡ winList R (rowsIn n won cents) m
 unfolding winLines winList winLine
-win-lines R v rows won cents zero l h = refl
-win-lines R v rows won cents (suc n) l h = rw (
-  bidder-cell R v n (omega arith),
-  h .flags n (omega arith),
-  h .payments n (omega arith),
-  flag-one (getD rows n lost .won),
-  win-lines R v rows won cents n (omega arith) (record { flags = λ i m. h .flags i (omega arith); payments = λ i m. h .payments i (omega arith) }),
-)
+win-lines R v won cents n zero l h = refl
+win-lines R v won cents n (suc m) l h = rw (bidder-cell R v m (omega arith), row-cells n won cents m (omega arith), win-lines R v won cents n m (omega arith) h)
+
+-- what the award over plain cells told is what the list shows
+pub answer-lines : (T : Tender) (R : List Row) (v won cents : List ℕ) (a : Answer) → answerLines T (flatRows R ++ v) won cents (length R) a ≡ listLines T R (toldIn (length R) won cents a)
+unfolding answerLines listLines toldIn
+answer-lines T R v won cents (Awarded totals) = rw (win-lines R v won cents (length R) (length R) (omega arith) (omega arith))
+answer-lines T R v won cents (Refused r) = refl
+
+-- the award on what was read gives the list of the text
+pub award-list : (T : Tender) (R : List Row) (W : List Window) (v w : List ℕ) (lent : ℕ) (won cents won′ cents′ : List ℕ) (a : Answer) → Rules T R W → length R ≤ lent →
+    PlainPromise (T .kind) T (length R) (flatRows R ++ v) (flatWindows W ++ w) lent won cents won′ cents′ a → AwardList T R W (answerLines T (flatRows R ++ v) won′ cents′ (length R) a)
+award-list T R W v w lent won cents won′ cents′ a rules l p = record {
+  outcome = toldIn (length R) won′ cents′ a;
+  right = answers-read T R W rules v w lent (toldIn (length R) won′ cents′ a) l (p .answers);
+  is = answer-lines T R v won′ cents′ a;
+}
+
+-- a list of a readable text is neither empty nor too long
+pub list-short : (T : Tender) (R : List Row) (W : List Window) (list : List ℕ) → Rules T R W → AwardList T R W list → length list ≤ 51200
+list-short T R W list rules h = rw (h .is) (lines-short T R (h .outcome) (rules .few-bids))
+
+pub is-list-short : (o : reading.Outcome) (list : List ℕ) → ((T : Tender) (R : List Row) (W : List Window) → o ≡ accepted T R W → Rules T R W) → IsList o list → (length list ≤ 51200) × (0 < length list)
+is-list-short (reading.refused n at) list f h = (rw h (refusal-short n at), rw h (pair-some refusedWord n at))
+is-list-short (accepted T R W) list f h = (list-short T R W list (f T R W refl) h, rw (h .is) (lines-some T R (h .outcome)))
+
+-- a buffer of 51,200 bytes always suffices
+pub suffices : {text old new : List ℕ} {r : ℕ} → Listed text old new r → 51200 ≤ length old → (0 < r) × (r ≤ length new)
+suffices {text} {old} {new} {r} h l =
+    let s = is-list-short (readText text) (h .list) (λ T R W e. rules-law T R W text e) (h .right) in
+    let e : leb (length (h .list)) (length old) ≡ true = le-leb (length (h .list)) (length old) (omega (arith, s .0)) in
+    let a : r ≡ length (h .list) = rw e at (h .answer) in
+    let b : new ≡ h .list ++ drop (length (h .list)) old = rw e at (h .bytes) in
+    (omega (arith, s .1), omega (arith, ap length b, length-append (h .list) (drop (length (h .list)) old)))

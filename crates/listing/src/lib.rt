@@ -6,8 +6,14 @@ ghost use mathlib.Core.Path.{_≡_};
 ghost use mathlib.Core.List.{_++_};
 ghost use Prim.Native.Nat.{_+_, _*_, _≤_};
 ghost use lib.ListN.{length};
-ghost use Rattle.listing.specs.Lines.{awardLine, winLines, pairLine, totalWord};
+ghost use Rattle.listing.specs.Lines.{awardLine, winLines, pairLine, totalWord, refusedWord};
 ghost use Rattle.listing.specs.Written.{Written};
+ghost use Rattle.listing.specs.List.{Listed};
+ghost use Rattle.listing.specs.Made.{Awarded·written, Made};
+ghost use Rattle.tender.specs.Refusals.{numberOf, placeOf};
+use award::Answer;
+use reader::Reading;
+use tender::Refusal;
 use tender::Tender;
 use tender::Totals;
 
@@ -27,4 +33,59 @@ fn put_awarded(
     let begun = lines::put_award(list, 0, tender);
     let named = lines::put_wins(list, begun, bids, won, cents, n);
     lines::put_pair(list, named, b"total", totals.cost, totals.paid)
+}
+
+// The list of a refusal.
+fn put_refused(list: &mut [u8], refusal: Refusal) -> usize
+    requires { ⌜ 52 ≤ length (now list) ⌝ }
+    ensures { λ r. ⌜ Written (now (list .entry)) 0 (pairLine refusedWord (numberOf refusal) (placeOf refusal)) (now (list .exit)) r ⌝ }
+{
+    let n = tender::number(refusal);
+    let at = tender::place(refusal);
+    lines::put_pair(list, 0, b"refused", n, at)
+}
+
+// The list of the award to these tables.
+fn put_award(list: &mut [u8], tender: Tender, n: usize, bids: &[u64], windows: &[u64]) -> usize
+    requires { ⌜ (n ≤ 1000) × ((4 * n ≤ length (now bids)) × (48 * n + 107 ≤ length (now list))) ⌝ }
+    ensures { λ r. ⌜ Awarded·written tender n (now (bids .entry)) (now (windows .entry)) (now (list .entry)) (now (list .exit)) r ⌝ }
+{
+    let mut won = [1u64; 1000];
+    let mut cents = [1u64; 1000];
+    let kind = tender.kind;
+    match award::settle(kind, tender, n, bids, windows, &mut won, &mut cents) {
+        Answer::Awarded(totals) => put_awarded(list, tender, n, bids, &won, &cents, totals),
+        Answer::Refused(r) => put_refused(list, r),
+    }
+}
+
+// Makes the list of the text, in a buffer that has room for any. The tables have room for any readable text.
+fn make(text: &[u8], list: &mut [u8]) -> usize
+    requires { ⌜ length (now list) ≡ 51200 ⌝ }
+    ensures { λ r. ⌜ Made (now (text .entry)) (now (list .exit)) r ⌝ }
+{
+    let mut bids = [1u64; 4000];
+    let mut windows = [1u64; 22000];
+    match reader::read(text, &mut bids, &mut windows) {
+        Reading::Accepted {
+            tender,
+            bids: n,
+            windows: _,
+        } => put_award(list, tender, n, &bids, &windows),
+        Reading::Refused(r) => put_refused(list, r),
+    }
+}
+
+// The list of a text: its length, with the list at the start of `list` and the bytes past it staying; 0 where the list
+// is longer than `list`, which then stays as it was.
+#[no_mangle]
+pub extern "C" fn tender_list(text: &[u8], list: &mut [u8]) -> usize
+    ensures { λ r. ⌜ Listed (now (text .entry)) (now (list .entry)) (now (list .exit)) r ⌝ }
+{
+    let mut made = [1u8; 51200];
+    let n = make(text, &mut made);
+    if list.len() < n {
+        return 0;
+    }
+    lines::put_all(list, 0, &made[..n])
 }

@@ -18,7 +18,7 @@ fn put(buf: &mut [u8], at: usize, b: u8) -> usize
 }
 
 // All of `s`.
-fn put_all(buf: &mut [u8], at: usize, s: &[u8]) -> usize
+pub(crate) fn put_all(buf: &mut [u8], at: usize, s: &[u8]) -> usize
     requires { ⌜ at + length (now s) ≤ length (now buf) ⌝ }
     ensures { λ r. ⌜ Written (now (buf .entry)) at (now (s .entry)) (now (buf .exit)) r ⌝ }
 {

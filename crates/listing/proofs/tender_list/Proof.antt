@@ -1,0 +1,56 @@
+-- The list is made in a buffer of its own, measured, and copied where there is room. Assumes nothing.
+use mathlib.Core.Path.{sym}
+use native.Mathlib.Omega.{arith}
+use Rattle.listing.proofs.Making.{made-few, listed-none, listed-all}
+use borrow.Author.Needs.{needs}
+use Rattle.listing.proofs.tender_list.Statement.{statement}
+use Rattle.listing.proofs.tender_list.Tie as tie
+use Rattle.listing.proofs.tender_list.Reads as reads
+use Rattle.listing.proofs.tender_list.Lts as lts
+use Rattle.listing.proofs.lines.put_all.Reads as put-all-reads
+use Rattle.listing.proofs.make.Reads as make-reads
+
+-- src/lib.rt:87:24
+slice-aggregate-make : tie.Need-slice-aggregate-make
+slice-aggregate-make c = search needs
+
+-- src/lib.rt:87:9
+make-requires : tie.Need-make-requires
+make-requires c κs = search needs
+
+-- src/lib.rt:89:9
+returns : tie.Need-returns
+returns c = listed-none (c .before .before .make .ensures) (c .if1 .taken)
+
+-- src/lib.rt:91:29
+array-share-prefix-made : tie.Need-array-share-prefix-made
+array-share-prefix-made c = omega (arith, made-few (c .before .before .before .make .ensures))
+
+-- src/lib.rt:91:29
+slice-aggregate-put-all : tie.Need-slice-aggregate-put-all
+slice-aggregate-put-all c = sym (c .before .before .before .before .make .ensures .size)
+
+-- src/lib.rt:91:5
+put-all-requires : tie.Need-put-all-requires
+put-all-requires c κs = omega (arith, c .before .before .before .before .make .ensures .size)
+
+-- src/lib.rt:82:1
+same-length : tie.Need-same-length
+same-length c = search needs
+
+-- src/lib.rt:82:1
+returns-2 : tie.Need-returns-2
+returns-2 c = listed-all (c .before .before .before .before .before .before .before .make .ensures) (omega arith) (c .before .before .put-all .ensures)
+
+pub tender-list-spec : {M : Type 1} → statement M
+tender-list-spec =
+    tie.close
+    (tie.spec
+    slice-aggregate-make
+    make-requires
+    returns
+    array-share-prefix-made
+    slice-aggregate-put-all
+    put-all-requires
+    same-length
+    returns-2)

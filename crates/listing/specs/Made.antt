@@ -1,0 +1,37 @@
+-- What the inner functions of the listing leave in the buffer in which the list is made.
+use mathlib.Core.Path.{_≡_}
+use mathlib.Core.List.{List, _++_}
+use Prim.Native.Nat.{ℕ, _≤_}
+use lib.ListN.{length, take}
+use Rattle.tender.specs.declared.Tender.{Tender}
+use Rattle.tender.specs.Refusals.{numberOf, placeOf}
+use Rattle.reader.specs.Read.{readText}
+use Rattle.award.specs.declared.Answer.{Answer}
+use Rattle.award.specs.declared.Answer.the-variants.{Awarded, Refused}
+use Rattle.award.specs.Plain.{PlainPromise}
+use Rattle.listing.specs.Lines.{awardLine, winLines, pairLine, totalWord, refusedWord}
+use Rattle.listing.specs.List.{IsList}
+use Rattle.listing.specs.Written.{Written}
+
+-- the list of an award's answer, from the cells of the table of bids and of the award rows
+unfoldable pub answerLines : Tender → List ℕ → List ℕ → List ℕ → ℕ → Answer → List ℕ
+unfolding awardLine winLines pairLine totalWord refusedWord
+answerLines t bids won cents n (Awarded totals) = awardLine t ++ winLines bids won cents n ++ pairLine totalWord (totals .cost) (totals .paid)
+answerLines t bids won cents n (Refused r) = pairLine refusedWord (numberOf r) (placeOf r)
+
+-- the list of the award to these tables is written: the award left the cells `won` and `cents` and answered a
+pub record Awarded·written (t : Tender) (n : ℕ) (bids windows old new : List ℕ) (end : ℕ) : Type 0 where
+  pub lent : ℕ
+  pub enough : n ≤ lent
+  pub old-won : List ℕ
+  pub old-cents : List ℕ
+  pub won : List ℕ
+  pub cents : List ℕ
+  pub answer : Answer
+  pub promise : PlainPromise (t .kind) t n bids windows lent old-won old-cents won cents answer
+  pub written : Written old 0 (answerLines t bids won cents n answer) new end
+
+-- the first `end` bytes are the list of the text
+pub record Made (text new : List ℕ) (end : ℕ) : Type 0 where
+  pub right : IsList (readText text) (take end new)
+  pub size : length (take end new) ≡ end
