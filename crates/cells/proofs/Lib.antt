@@ -1,3 +1,5 @@
 pub mod Bit
 pub mod Sum
 pub mod Store
+pub mod Walk
+pub mod Lowest

@@ -1,25 +1,13 @@
 // Sets of cells as rows of 64-bit words: cell x is bit x % 64 of word x / 64.
 // Each function says what every cell is before and after: `reach` counts the cells of two rows in common, `close` clears the
-// cells of a mask, `add_range` and `add` set cells, `holds` reads one.
+// cells of a mask, `add_range` and `add` set cells, `holds` reads one, `next` finds the first of one row that is not in another.
+// `reach` and `close_counted` walk a mask by its hops, over the words that have a cell alone, and keep a count of each word's cells.
 ghost use mathlib.Core.Path.{_≡_};
-ghost use Prim.Native.Nat.{_+_, _*_, _-_, _^_, _<_, _≤_, min};
-ghost use lib.ListN.{length};
+ghost use Prim.Native.Nat.{ℕ, _+_, _*_, _-_, _^_, _<_, _≤_, min};
+ghost use lib.ListN.{length, getD};
 ghost use lib.Dec.{eqb};
-ghost use Rattle.cells.specs.Cells.{cell, common, Closed, Span, Filled};
-
-// How many cells are set in both.
-pub fn reach(held: &[u64], mask: &[u64]) -> u64
-    requires { ⌜ (length (now held) ≡ length (now mask)) × (length (now held) ≤ 158) ⌝ }
-    ensures { λ r. ⌜ r ≡ common (now (held .entry)) (now (mask .entry)) ⌝ }
-{
-    let mut sum: u64 = 0;
-    let mut w = 0;
-    while w < held.len() {
-        sum += u64::count_ones(held[w] & mask[w]) as u64;
-        w += 1;
-    }
-    sum
-}
+ghost use Rattle.cells.specs.Cells.{cell, total, common, Closed, Span, Filled};
+ghost use Rattle.cells.specs.Hops.{whole, Hops, Counted, Onward, Next};
 
 // Clears the cells of the mask.
 pub fn close(held: &mut [u64], mask: &[u64])
@@ -95,4 +83,114 @@ pub fn add(words: &mut [u64], x: usize)
 {
     let q = x / 64;
     words[q] = words[q] | 1 << (x % 64);
+}
+
+fn wide(x: u8) -> usize
+    ensures { λ r. ⌜ r ≡ x ⌝ }
+{
+    x as usize
+}
+
+// The sum of the counts q up to e.
+fn sum_of(counts: &[u64], q: usize, e: usize) -> u64
+    requires { ⌜ (q ≤ e) × ((e ≤ length (now counts)) × ((length (now counts) ≤ 158) × ((p : ℕ) → getD (now counts) p 0 ≤ 64))) ⌝ }
+    ensures { λ r. ⌜ (total (λ p. getD (now (counts .entry)) p 0) q + r ≡ total (λ p. getD (now (counts .entry)) p 0) e) × (r ≤ 64 * e) ⌝ }
+{
+    let mut sum: u64 = 0;
+    let mut p = q;
+    while p < e {
+        sum += counts[p];
+        p += 1;
+    }
+    sum
+}
+
+// How many cells are set in both.
+pub fn reach(held: &[u64], counts: &[u64], mask: &[u64], hop: &[u8]) -> u64
+    requires { ⌜ (length (now held) ≡ length (now mask)) × ((length (now held) ≤ 158) × (Counted (now held) (now counts) × Hops (now mask) (now hop))) ⌝ }
+    ensures { λ r. ⌜ r ≡ common (now (held .entry)) (now (mask .entry)) ⌝ }
+{
+    let mut sum: u64 = 0;
+    let mut q = 0;
+    while q < held.len() {
+        let e = wide(hop[q]);
+        let m = mask[q];
+        if m == !0 {
+            sum += sum_of(counts, q, e);
+            q = e;
+        } else {
+            sum += u64::count_ones(held[q] & m) as u64;
+            q = e;
+        }
+    }
+    sum
+}
+
+// The word of the mask after word q that may have a cell.
+pub fn onward(mask: &[u64], hop: &[u8], q: usize) -> usize
+    requires { ⌜ Hops (now mask) (now hop) × ((q < length (now mask)) × (length (now mask) ≤ 158)) ⌝ }
+    ensures { λ r. ⌜ Onward (now (mask .entry)) q r ⌝ }
+{
+    if mask[q] == !0 {
+        return q + 1;
+    }
+    wide(hop[q])
+}
+
+// Clears the cells of the mask, and keeps the counts.
+pub fn close_counted(held: &mut [u64], counts: &mut [u64], mask: &[u64], hop: &[u8])
+    requires { ⌜ (length (now held) ≡ length (now mask)) × ((length (now held) ≤ 158) × (Counted (now held) (now counts) × Hops (now mask) (now hop))) ⌝ }
+    ensures { λ _. ⌜ Closed (now (held .entry)) (now (mask .entry)) (now (held .exit)) × Counted (now (held .exit)) (now (counts .exit)) ⌝ }
+{
+    let mut q = 0;
+    while q < held.len() {
+        let m = held[q] & !mask[q];
+        held[q] = m;
+        counts[q] = u64::count_ones(m) as u64;
+        q = onward(mask, hop, q);
+    }
+}
+
+// Counts the cells of each word.
+pub fn count(words: &[u64], counts: &mut [u64])
+    requires { ⌜ length (now counts) ≡ length (now words) ⌝ }
+    ensures { λ _. ⌜ Counted (now (words .entry)) (now (counts .exit)) ⌝ }
+{
+    let mut q = 0;
+    while q < words.len() {
+        counts[q] = u64::count_ones(words[q]) as u64;
+        q += 1;
+    }
+}
+
+// The first cell from word `first` on that is in a and not in b; past the last cell where there is none.
+fn next_from(a: &[u64], b: &[u64], first: usize) -> usize
+    requires { ⌜ (length (now a) ≡ length (now b)) × ((length (now a) ≤ 65536) × (first ≤ length (now a))) ⌝ }
+    ensures { λ r. ⌜ Next (now (a .entry)) (now (b .entry)) (64 * first) r ⌝ }
+{
+    let mut q = first;
+    while q < a.len() {
+        let m = a[q] & !b[q];
+        if m != 0 {
+            return 64 * q + u64::trailing_zeros(m) as usize;
+        }
+        q += 1;
+    }
+    64 * a.len()
+}
+
+// The first x from `from` on that is in a and not in b; past the last cell where there is none.
+pub fn next(a: &[u64], b: &[u64], from: usize) -> usize
+    requires { ⌜ (length (now a) ≡ length (now b)) × ((length (now a) ≤ 65536) × (from ≤ 64 * length (now a))) ⌝ }
+    ensures { λ r. ⌜ Next (now (a .entry)) (now (b .entry)) from r ⌝ }
+{
+    let q = from / 64;
+    if q < a.len() {
+        let m = (a[q] & !b[q]) >> (from % 64);
+        if m != 0 {
+            return from + u64::trailing_zeros(m) as usize;
+        }
+        return next_from(a, b, q + 1);
+    }
+    64 * a.len()
 }

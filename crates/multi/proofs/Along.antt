@@ -16,12 +16,13 @@ use Rattle.cover.specs.Settled.{listed, Settled}
 use Rattle.cover.specs.SpareLaws.{spare-bids, each-at}
 use Rattle.cover.specs.GreedyCover.{Covered}
 use Rattle.cells.specs.Cells.{cell, Closed}
-use Rattle.rounds.specs.Market.{row, has, at, Market, First, Cleared}
+use Rattle.rounds.specs.Market.{row, has, Market, First, Cleared}
+use Rattle.tournament.specs.Tournament.{at}
 use Rattle.rounds.specs.Trace.{opens, before, Trace}
-use Rattle.payments.specs.Follow.{Standing, Followed}
+use Rattle.payments.specs.Follow.{Standing, Followed, Course}
 use Rattle.payments.proofs.Prefix.{limit-is}
-use Rattle.rounds.proofs.Turning.{set-at}
-use Rattle.multi.specs.Paying.{picked, Paying, Paid, Summed, Awarded}
+use Rattle.tournament.proofs.Tree.{set-at}
+use Rattle.multi.specs.Paying.{Ground, picked, Paying, Paid, Summed, Awarded}
 use Rattle.multi.proofs.Winners.{winners}
 
 -- lists by their elements
@@ -169,3 +170,6 @@ settles {ps} old-won old-cents a = record {
   cost-is = a .cost-is;
   paid-is = a .paid-is;
 }
+
+pub course : {ps ms hop index : List ℕ} {w n : ℕ} {order gains : List ℕ} {rounds h : ℕ} → Ground ps ms hop index w n order gains rounds → h < rounds → Course ps ms hop index w n order gains rounds h (at order h)
+course g l = record { market = g .market; hopping = g .hopping; indexed = g .indexed; main = g .main; here = l; own = refl }

@@ -1,2 +1,3 @@
 pub mod Winners
 pub mod Along
+pub mod Charting

@@ -9,9 +9,11 @@ use lib.Dec.{eqb}
 use Rattle.cover.specs.Sets.{when, Found, nothing, found, cells}
 use Rattle.cover.specs.Greedy.{Bid, reach, close, Rounds, stop, round, best, run, taken, bids, wins}
 use Rattle.cover.specs.GreedyLaws.{best-right}
-use Rattle.rounds.specs.Market.{has, at}
+use Rattle.rounds.specs.Market.{has}
+use Rattle.tournament.specs.Tournament.{at}
 use Rattle.rounds.specs.Trace.{opens, before, Trace}
-use Rattle.rounds.proofs.Chosen.{right-one, rounds-of, rounds-stop, rounds-more}
+use Rattle.rounds.proofs.Chosen.{rounds-of, rounds-stop, rounds-more}
+use Rattle.rounds.proofs.Fronting.{right-one}
 use Rattle.payments.proofs.Prefix.{closes, opened}
 use Rattle.multi.specs.Paying.{picked}
 

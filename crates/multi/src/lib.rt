@@ -9,9 +9,10 @@ ghost use Rattle.cover.specs.Sets.{when, cells, each};
 ghost use Rattle.cover.specs.Greedy.{wins};
 ghost use Rattle.cover.specs.CriticalPrice.{roundsPaid, sum};
 ghost use Rattle.cover.specs.Settled.{Settled, listed};
-ghost use Rattle.rounds.specs.Market.{has, at, Priced, Market};
-ghost use Rattle.rounds.specs.Trace.{Trace};
-ghost use Rattle.multi.specs.Paying.{Paying, Paid, Summed, Awarded};
+ghost use Rattle.tournament.specs.Tournament.{at, Priced, Tournament};
+ghost use Rattle.rounds.specs.Market.{has, Market, Hopping};
+ghost use Rattle.payments.specs.Marks.{Indexed};
+ghost use Rattle.multi.specs.Paying.{Ground, Charted, Enlisted, Paying, Paid, Summed, Awarded};
 
 fn less_one(a: u64) -> u64
     ensures { λ r. ⌜ r ≡ a - 1 ⌝ }
@@ -23,6 +24,8 @@ fn less_one(a: u64) -> u64
 fn pay(
     prices: &[u64],
     masks: &[u64],
+    hop: &[u8],
+    index: &[u64],
     w: usize,
     count: usize,
     order: &[u64],
@@ -31,40 +34,52 @@ fn pay(
     h: usize,
     held: &mut [u64],
     alt: &mut [u64],
-    stale: &mut [u64],
+    counts: &mut [u64],
+    who: &mut [u64],
+    num: &mut [u64],
     mark: &mut [u64],
     won: &mut [u64],
     cents: &mut [u64],
 )
-    requires { ⌜ Market (now prices) (now masks) w × (Trace (now prices) (now masks) w count (now order) (now gains) rounds × ((h < rounds)
-        × ((count ≤ 64 * w) × ((each (has (now masks) w) (length (now prices)) count 2 ≡ true) × (Paying (now prices) (now masks) w count (now order) h (now held) (now won) (now cents)
-        × ((length (now alt) ≡ w) × ((length (now stale) ≡ length (now prices)) × (length (now mark) ≡ length (now prices))))))))) ⌝ }
-    ensures { λ _. ⌜ Paying (now (prices .entry)) (now (masks .entry)) w count (now (order .entry)) (h + 1) (now (held .exit)) (now (won .exit)) (now (cents .exit)) ⌝ }
+    requires { ⌜ Ground (now prices) (now masks) (now hop) (now index) w count (now order) (now gains) rounds × ((h < rounds)
+        × (Paying (now prices) (now masks) w count (now order) h (now held) (now won) (now cents)
+        × ((length (now alt) ≡ w) × ((length (now counts) ≡ w) × (Tournament (now prices) (now who) (now num) × (length (now mark) ≡ 16)))))) ⌝ }
+    ensures { λ _. ⌜ Paying (now (prices .entry)) (now (masks .entry)) w count (now (order .entry)) (h + 1) (now (held .exit)) (now (won .exit)) (now (cents .exit))
+        × Tournament (now (prices .entry)) (now (who .exit)) (now (num .exit)) ⌝ }
 {
+    let k = order[h] as usize;
     let t = payments::limit_in(
         prices,
         masks,
+        hop,
+        index,
         w,
         count,
         order,
         gains,
         rounds,
         h,
+        k,
         held,
         alt,
-        stale,
+        counts,
+        who,
+        num,
         mark,
     );
-    let k = order[h] as usize;
     won[k] = 1;
     cents[k] = less_one(t);
-    rounds::shut(held, masks, w, k);
+    let a = w * k;
+    let e = a + w;
+    cells::close(held, &masks[a..e]);
 }
 
 // Marks and pays the bid of each round.
 fn pay_all(
     prices: &[u64],
     masks: &[u64],
+    hop: &[u8],
+    index: &[u64],
     w: usize,
     count: usize,
     order: &[u64],
@@ -72,14 +87,16 @@ fn pay_all(
     rounds: usize,
     held: &mut [u64],
     alt: &mut [u64],
-    stale: &mut [u64],
+    counts: &mut [u64],
+    who: &mut [u64],
+    num: &mut [u64],
     mark: &mut [u64],
     won: &mut [u64],
     cents: &mut [u64],
 )
-    requires { ⌜ Market (now prices) (now masks) w × (Trace (now prices) (now masks) w count (now order) (now gains) rounds
-        × ((count ≤ 64 * w) × ((each (has (now masks) w) (length (now prices)) count 2 ≡ true) × (Paying (now prices) (now masks) w count (now order) 0 (now held) (now won) (now cents)
-        × ((length (now alt) ≡ w) × ((length (now stale) ≡ length (now prices)) × (length (now mark) ≡ length (now prices)))))))) ⌝ }
+    requires { ⌜ Ground (now prices) (now masks) (now hop) (now index) w count (now order) (now gains) rounds
+        × (Paying (now prices) (now masks) w count (now order) 0 (now held) (now won) (now cents)
+        × ((length (now alt) ≡ w) × ((length (now counts) ≡ w) × (Tournament (now prices) (now who) (now num) × (length (now mark) ≡ 16))))) ⌝ }
     ensures { λ _. ⌜ Paid (now (prices .entry)) (now (masks .entry)) w count (now (won .exit)) (now (cents .exit)) ⌝ }
 {
     let mut h = 0;
@@ -87,6 +104,8 @@ fn pay_all(
         pay(
             prices,
             masks,
+            hop,
+            index,
             w,
             count,
             order,
@@ -95,7 +114,9 @@ fn pay_all(
             h,
             held,
             alt,
-            stale,
+            counts,
+            who,
+            num,
             mark,
             won,
             cents,
@@ -127,6 +148,80 @@ fn totals(prices: &[u64], won: &[u64], cents: &[u64]) -> tender::Totals
     tender::Totals { cost, paid }
 }
 
+fn byte(x: usize) -> u8
+    requires { ⌜ x < 256 ⌝ }
+    ensures { λ r. ⌜ r ≡ x ⌝ }
+{
+    x as u8
+}
+
+// The hops of bid i's words.
+fn chart_row(masks: &[u64], w: usize, i: usize, hop: &mut [u8])
+    requires { ⌜ (w ≤ 158) × ((w * i + w ≤ length (now masks)) × (length (now hop) ≡ length (now masks))) ⌝ }
+    ensures { λ _. ⌜ Charted (now (masks .entry)) w i (now (hop .entry)) (now (hop .exit)) ⌝ }
+{
+    let a = w * i;
+    let mut q = w;
+    let mut gap = w;
+    let mut run = w;
+    while 0 < q {
+        q -= 1;
+        let m = masks[a + q];
+        if m == !0 {
+            hop[a + q] = byte(run);
+            gap = q;
+        } else if m == 0 {
+            hop[a + q] = byte(gap);
+            run = q;
+        } else {
+            hop[a + q] = byte(gap);
+            run = q;
+            gap = q;
+        }
+    }
+}
+
+// The hops of each bid's words.
+fn chart(prices: &[u64], masks: &[u64], w: usize, hop: &mut [u8])
+    requires { ⌜ Market (now prices) (now masks) w × (length (now hop) ≡ length (now masks)) ⌝ }
+    ensures { λ _. ⌜ Hopping (now (prices .entry)) (now (masks .entry)) (now (hop .exit)) w ⌝ }
+{
+    let mut i = 0;
+    while i < prices.len() {
+        chart_row(masks, w, i, hop);
+        i += 1;
+    }
+}
+
+// Enters bid i in the set of each word where it has a cell.
+fn enlist_row(masks: &[u64], w: usize, i: usize, index: &mut [u64])
+    requires { ⌜ (w ≤ 158) × ((w * i + w ≤ length (now masks)) × ((i < 1000) × (length (now index) ≡ 16 * w))) ⌝ }
+    ensures { λ _. ⌜ Enlisted (now (masks .entry)) w i (now (index .entry)) (now (index .exit)) ⌝ }
+{
+    let a = w * i;
+    let mut q = 0;
+    while q < w {
+        if masks[a + q] != 0 {
+            cells::add(index, 1024 * q + i);
+            q += 1;
+        } else {
+            q += 1;
+        }
+    }
+}
+
+// For each word, the bids that have a cell there.
+fn enlist(prices: &[u64], masks: &[u64], w: usize, index: &mut [u64])
+    requires { ⌜ Market (now prices) (now masks) w × (length (now index) ≡ 16 * w) ⌝ }
+    ensures { λ _. ⌜ Indexed (now (prices .entry)) (now (masks .entry)) (now (index .exit)) w ⌝ }
+{
+    let mut i = 0;
+    while i < prices.len() {
+        enlist_row(masks, w, i, index);
+        i += 1;
+    }
+}
+
 // The award into lists with a place for each bid and no more, with room to work lent.
 fn settle(
     prices: &[u64],
@@ -135,27 +230,50 @@ fn settle(
     count: usize,
     order: &mut [u64],
     gains: &mut [u64],
-    full: &mut [u64],
+    hop: &mut [u8],
+    index: &mut [u64],
     held: &mut [u64],
     alt: &mut [u64],
-    stale: &mut [u64],
+    counts: &mut [u64],
+    who: &mut [u64],
+    num: &mut [u64],
     mark: &mut [u64],
     won: &mut [u64],
     cents: &mut [u64],
 ) -> tender::Totals
     requires { ⌜ Market (now prices) (now masks) w × ((count ≤ 64 * w) × ((each (has (now masks) w) (length (now prices)) count 2 ≡ true)
-        × ((count ≤ length (now order)) × ((count ≤ length (now gains)) × ((length (now full) ≡ length (now prices)) × ((length (now held) ≡ w) × ((length (now alt) ≡ w)
-        × ((length (now stale) ≡ length (now prices)) × ((length (now mark) ≡ length (now prices)) × ((length (now won) ≡ length (now prices)) × (length (now cents) ≡ length (now prices)))))))))))) ⌝ }
+        × ((count ≤ length (now order)) × ((count ≤ length (now gains)) × ((length (now hop) ≡ length (now masks)) × ((length (now index) ≡ 16 * w) × ((length (now held) ≡ w) × ((length (now alt) ≡ w)
+        × ((length (now counts) ≡ w) × ((length (now who) ≡ 2048) × ((length (now num) ≡ 2048) × ((length (now mark) ≡ 16) × ((length (now won) ≡ length (now prices)) × (length (now cents) ≡ length (now prices))))))))))))))) ⌝ }
     ensures { λ r. ⌜ Awarded (now (prices .entry)) (now (masks .entry)) w count (now (won .exit)) (now (cents .exit)) (r .cost) (r .paid) ⌝ }
 {
-    rounds::survey(prices, masks, w, count, held, full);
-    let rounds = rounds::trace(prices, masks, w, count, full, held, stale, order, gains);
+    chart(prices, masks, w, hop);
+    enlist(prices, masks, w, index);
+    rounds::unlock(held, count);
+    cells::count(held, counts);
+    tournament::seat(who);
+    rounds::clear(num);
+    rounds::enter(prices, masks, hop, w, held, counts, who, num);
+    let rounds = rounds::trace(
+        prices,
+        masks,
+        hop,
+        w,
+        count,
+        held,
+        counts,
+        who,
+        num,
+        order,
+        gains,
+    );
     rounds::unlock(held, count);
     rounds::clear(won);
     rounds::clear(cents);
     pay_all(
         prices,
         masks,
+        hop,
+        index,
         w,
         count,
         order,
@@ -163,7 +281,9 @@ fn settle(
         rounds,
         held,
         alt,
-        stale,
+        counts,
+        who,
+        num,
         mark,
         won,
         cents,
@@ -179,21 +299,26 @@ fn award_in(
     count: usize,
     order: &mut [u64],
     gains: &mut [u64],
-    full: &mut [u64],
+    hop: &mut [u8],
+    index: &mut [u64],
     held: &mut [u64],
     alt: &mut [u64],
-    stale: &mut [u64],
+    counts: &mut [u64],
+    who: &mut [u64],
+    num: &mut [u64],
     mark: &mut [u64],
     won: &mut [u64],
     cents: &mut [u64],
 ) -> tender::Totals
     requires { ⌜ Market (now prices) (now masks) w × ((count ≤ 64 * w) × ((each (has (now masks) w) (length (now prices)) count 2 ≡ true)
-        × ((count ≤ length (now order)) × ((count ≤ length (now gains)) × ((1000 ≤ length (now full)) × ((158 ≤ length (now held)) × ((158 ≤ length (now alt))
-        × ((1000 ≤ length (now stale)) × ((1000 ≤ length (now mark)) × ((length (now prices) ≤ length (now won)) × (length (now prices) ≤ length (now cents)))))))))))) ⌝ }
+        × ((count ≤ length (now order)) × ((count ≤ length (now gains)) × ((158000 ≤ length (now hop)) × ((2528 ≤ length (now index)) × ((158 ≤ length (now held)) × ((158 ≤ length (now alt))
+        × ((158 ≤ length (now counts)) × ((length (now who) ≡ 2048) × ((length (now num) ≡ 2048) × ((length (now mark) ≡ 16) × ((length (now prices) ≤ length (now won)) × (length (now prices) ≤ length (now cents))))))))))))))) ⌝ }
     ensures { λ r. ⌜ Settled (wins (has (now (masks .entry)) w) (now (prices .entry)) (cells count)) (roundsPaid (has (now (masks .entry)) w) (now (prices .entry)) (cells count))
         (now (prices .entry)) (now (won .entry)) (now (cents .entry)) (now (won .exit)) (now (cents .exit)) (r .cost) (r .paid) ⌝ }
 {
     let n = prices.len();
+    let z = masks.len();
+    let v = 16 * w;
     settle(
         prices,
         masks,
@@ -201,11 +326,14 @@ fn award_in(
         count,
         order,
         gains,
-        &mut full[..n],
+        &mut hop[..z],
+        &mut index[..v],
         &mut held[..w],
         &mut alt[..w],
-        &mut stale[..n],
-        &mut mark[..n],
+        &mut counts[..w],
+        who,
+        num,
+        mark,
         &mut won[..n],
         &mut cents[..n],
     )
@@ -227,11 +355,14 @@ pub fn award(
 {
     let mut order = [0u64; 10080];
     let mut gains = [0u64; 10080];
-    let mut full = [0u64; 1000];
+    let mut hop = [0u8; 158000];
+    let mut index = [0u64; 2528];
     let mut held = [0u64; 158];
     let mut alt = [0u64; 158];
-    let mut stale = [0u64; 1000];
-    let mut mark = [0u64; 1000];
+    let mut counts = [0u64; 158];
+    let mut who = [0u64; 2048];
+    let mut num = [0u64; 2048];
+    let mut mark = [0u64; 16];
     award_in(
         prices,
         masks,
@@ -239,10 +370,13 @@ pub fn award(
         count,
         &mut order,
         &mut gains,
-        &mut full,
+        &mut hop,
+        &mut index,
         &mut held,
         &mut alt,
-        &mut stale,
+        &mut counts,
+        &mut who,
+        &mut num,
         &mut mark,
         won,
         cents,

@@ -11,30 +11,9 @@ use borrow.Author.Tests.{ltb-true, ltb-false}
 use Rattle.cells.specs.Cells.{cell}
 use Rattle.cover.specs.CriticalPrice.{late}
 use Rattle.cover.specs.Greedy.{pick, reach, keep, close}
-use Rattle.cover.specs.PickLaws.{late-no, late-yes, late-most, Best, Before, IsPick, pick-right, chain, chain-lt}
+use Rattle.cover.specs.PickLaws.{Best}
 use Rattle.cover.specs.Sets.{when, Found, nothing, found}
-use Rattle.rounds.specs.Trace.{opens}
-
-pub zero-or : (x : ℕ) → (x ≡ 0) ⊎ (0 < x)
-zero-or zero = inl refl
-zero-or (suc x) = inr (omega arith)
-
--- a/b ≤ c/d < e/f
-chain-le-lt : (a b c d e f : ℕ) → 0 < b → a * d ≤ c * b → c * f < e * d → a * f < e * b
-chain-le-lt a b c d e f l g h = go (ltb (a * f) (e * b)) refl
-  where
-    go : (t : Bool) → ltb (a * f) (e * b) ≡ t → a * f < e * b
-    go true q = ltb-true _ _ q
-    go false q = absurd (omega (arith, chain e f a b c d l (ltb-false (a * f) (e * b) q) g))
-
--- the bid i at a/b comes before j at c/d, and that before k at e/f
-pub ahead : (i j k a b c d e f : ℕ) → 0 < b → 0 < d → 0 < f → a * d + late i j ≤ c * b → c * f + late j k ≤ e * d → a * f + late i k ≤ e * b
-ahead i j k a b c d e f lb ld lf g h = go (ltb k i) (ltb j i) refl refl
-  where
-    go : (s t : Bool) → ltb k i ≡ s → ltb j i ≡ t → a * f + late i k ≤ e * b
-    go false t u v = omega (arith, late-no i k (ltb-false k i u), chain a b c d e f ld (omega arith) (omega arith))
-    go true true u v = omega (arith, late-most i k, late-yes i j (ltb-true j i v), chain-lt a b c d e f lf (omega (arith, late-yes i j (ltb-true j i v))) (omega arith))
-    go true false u v = omega (arith, late-most i k, chain-le-lt a b c d e f lb (omega arith) (omega (arith, late-yes j k (omega (arith, ltb-true k i u, ltb-false j i v)))))
+use Rattle.tournament.proofs.Order.{zero-or, ahead}
 
 -- no disturbed bid comes before bid b at t/c
 abbrev pub Bound : (ℕ → ℕ) → (ℕ → ℕ) → (ℕ → ℕ) → ℕ → ℕ → ℕ → ℕ → Type 0

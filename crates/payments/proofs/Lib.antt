@@ -1,6 +1,7 @@
+pub mod Limiting
 pub mod Astray
 pub mod Strayed
+pub mod Spreading
 pub mod Following
-pub mod Disturbing
+pub mod Stepping
 pub mod Prefix
-pub mod Limiting

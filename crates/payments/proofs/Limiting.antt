@@ -16,17 +16,13 @@ use Rattle.cover.specs.GreedyLaws.{shrink, withdrawn-other, reach-none, rounds,
 use Rattle.cover.specs.PickLaws.{late-no, late-yes}
 use Rattle.cover.specs.Sets.{when, Found, nothing, found, cells}
 use Rattle.payments.specs.Follow.{raised, Raised}
-use Rattle.rounds.proofs.Begin.{open-first, common-few}
-use Rattle.rounds.proofs.Chosen.{Tied, takes, stops, gains, gains-some, real-bid, shuts, tied, rounds-of, rounds-stop, rounds-more}
-use Rattle.rounds.proofs.Opens.{openOf, reach-open}
-use Rattle.rounds.proofs.Turning.{set-at}
-use Rattle.rounds.specs.Market.{row, has, at, Sized, Market, Turn, First, Full}
+use Rattle.rounds.proofs.Chosen.{rounds-of}
+use Rattle.rounds.specs.Trace.{openOf}
+use Rattle.rounds.specs.Market.{has}
+use Rattle.tournament.specs.Tournament.{at}
 
 abbrev pub others : ℕ → List ℕ → List ℕ → ℕ → ℕ → Bid
 others k ps ms w = withdrawn k (bids (has ms w) ps)
-
-abbrev pub left-to : ℕ → List ℕ → List ℕ → ℕ → List ℕ → Rounds
-left-to k ps ms w held = rounds-of (others k ps ms w) (length ps) (openOf held)
 
 -- a bid that reaches no open cell has no share
 pub bar-none : (k : ℕ) (h : ℕ → Bool) (B : ℕ → Bid) (n : ℕ) (O : List ℕ) → reach h O ≡ 0 → bar k h (rounds-of B n O) ≡ 0

@@ -19,10 +19,12 @@ use Rattle.cover.specs.Sets.{when, Found, nothing, found, cells}
 use Rattle.payments.proofs.Limiting.{others}
 use Rattle.payments.proofs.Strayed.{two-way}
 use Rattle.payments.specs.Follow.{bar-from}
-use Rattle.rounds.proofs.Chosen.{right-one, rounds-of, rounds-more}
+use Rattle.rounds.proofs.Chosen.{rounds-of, rounds-more}
+use Rattle.rounds.proofs.Fronting.{right-one}
 use Rattle.rounds.proofs.Opens.{two, close-step, opens-first, reach-alike}
 use Rattle.rounds.proofs.Tracing.{main-best}
-use Rattle.rounds.specs.Market.{row, has, at, Market}
+use Rattle.rounds.specs.Market.{row, has, Market}
+use Rattle.tournament.specs.Tournament.{at}
 use Rattle.rounds.specs.Trace.{opens, before, Trace}
 
 close-fun : (m : List ℕ) (f g : ℕ → ℕ) → ((x : ℕ) → f x ≤ 1) → ((x : ℕ) → g x ≡ f x - cell m x) → (n : ℕ) → close (λ x. eqb (cell m x) 1) (opens f n) ≡ opens g n

@@ -1,18 +1,19 @@
--- How a payment is found: the run without bid k follows the main run as written down, but for the bids marked, of which some open cell
--- may differ between the two.
+-- How a payment is found: the run without bid k follows the main run as written down, but for the bids marked.
 use mathlib.Core.Path.{_≡_}
-use mathlib.Core.Bool.{Bool, true, _&&_}
-use mathlib.Core.Logic.{_⊎_}
+use mathlib.Core.Bool.{Bool, true, false, _&&_}
 use mathlib.Core.List.{List}
-use Prim.Native.Nat.{ℕ, suc, _+_, _-_, _*_, _/_, _≤_, _<_}
+use Prim.Native.Nat.{ℕ, suc, _+_, _-_, _*_, _/_, _≤_, _<_, max}
 use lib.ListN.{length, getD}
 use lib.Dec.{ltb, leb}
-use Rattle.cover.specs.Sets.{when}
-use Rattle.cover.specs.Greedy.{run, bids}
+use Rattle.cover.specs.Sets.{when, found}
+use Rattle.cover.specs.Greedy.{run, reach, best, bids}
 use Rattle.cover.specs.CriticalPrice.{late, withdrawn, bar}
 use Rattle.cells.specs.Cells.{cell, common}
-use Rattle.rounds.specs.Market.{row, has, at, Sized, Turn}
-use Rattle.rounds.specs.Trace.{opens, before}
+use Rattle.cells.specs.Hops.{Counted}
+use Rattle.tournament.specs.Tournament.{at, known, Tournament}
+use Rattle.rounds.specs.Market.{row, has, Market, Hopping}
+use Rattle.rounds.specs.Trace.{opens, openOf, before, Trace}
+use Rattle.payments.specs.Marks.{Indexed, Strayed}
 
 -- one more than the highest price at which bid k, with m cells, is taken before bid i, which asks q for its c cells
 unfoldable pub raised : ℕ → ℕ → ℕ → ℕ → ℕ → ℕ
@@ -28,36 +29,61 @@ unfoldable pub bar-from : List ℕ → List ℕ → ℕ → ℕ → List ℕ →
 unfolding bar run
 bar-from ps ms w k O = bar k (has ms w k) (run (withdrawn k (bids (has ms w) ps)) (length ps) (length O) O)
 
--- the next bid of the main run is not marked and comes before bid b at t/c
-pub record Clear (ps order gains mark : List ℕ) (rounds g b t c : ℕ) : Type 0 where
-  pub more : g < rounds
-  pub free : at mark (at order g) ≡ 0
-  pub first : at ps (at order g) * c + late (at order g) b ≤ t * at gains g
-
--- bid b at t/c comes before the next bid of the main run, if there is one
-pub record Ahead (ps order gains : List ℕ) (rounds g b t c : ℕ) : Type 0 where
-  pub inside : b < length ps
-  pub first : g < rounds → t * at gains g + late b (at order g) ≤ at ps (at order g) * c
-
--- the bids that share an open cell with bid j are marked
-pub record Disturbed (ps ms : List ℕ) (w : ℕ) (alt : List ℕ) (j : ℕ) (stale mark stale′ mark′ : List ℕ) : Type 0 where
-  pub sized : Sized ps stale′
-  pub kept : (i : ℕ) → i < length ps → 0 < at mark i → (at mark′ i ≡ at mark i) × (at stale′ i ≡ at stale i)
-  pub still : (i : ℕ) → i < length ps → at mark′ i ≡ 0 → (at stale′ i ≡ at stale i) × ((x : ℕ) → cell (row ms w i) x ≡ 1 → cell (row ms w j) x ≡ 1 → cell alt x ≡ 0)
-  pub moved : (i : ℕ) → i < length ps → at mark i ≡ 0 → 0 < at mark′ i → at stale′ i ≡ common alt (row ms w i)
-
--- the bound stands and the main run's next bid is clear of it, or the marked bids were searched anew
-abbrev pub Refreshed : List ℕ → List ℕ → ℕ → List ℕ → List ℕ → List ℕ → List ℕ → List ℕ → List ℕ → ℕ → ℕ → ℕ → ℕ → ℕ → ℕ → ℕ → ℕ → Bool → Type 0
-Refreshed ps ms w alt order gains mark old new rounds g b t c b′ t′ c′ f =
-    ((new ≡ old) × ((b′ ≡ b) × ((t′ ≡ t) × ((c′ ≡ c) × ((f ≡ true) × Clear ps order gains mark rounds g b t c)))))
-    ⊎ (Turn ps ms w alt old new b′ c′ × ((b′ < length ps → t′ ≡ at ps b′) × (f ≡ true → Clear ps order gains mark rounds g b′ t′ c′)))
-
 -- the words stand as the main run has them before round g
 pub record Standing (ms : List ℕ) (w n : ℕ) (order : List ℕ) (g : ℕ) (held : List ℕ) : Type 0 where
   pub words : length held ≡ w
   pub stands : (x : ℕ) → cell held x ≡ before ms w n order g x
 
+-- the market, its hops and index, the written run, and the round h whose bid k is paid
+pub record Course (ps ms hop index : List ℕ) (w n : ℕ) (order gains : List ℕ) (rounds h k : ℕ) : Type 0 where
+  pub market : Market ps ms w
+  pub hopping : Hopping ps ms hop w
+  pub indexed : Indexed ps ms index w
+  pub main : Trace ps ms w n order gains rounds
+  pub here : h < rounds
+  pub own : k ≡ at order h
+
+-- the run without k has come as far as the main run before round g; k has `mine` open cells, and `top` is the maximum so far
+pub record Following (ps ms : List ℕ) (w n : ℕ) (order gains : List ℕ) (rounds h k : ℕ) (alt stale mark : List ℕ) (top mine g : ℕ) : Type 0 where
+  pub strayed : Strayed ps ms w k alt stale mark (before ms w n order g)
+  pub reached : g ≤ rounds
+  pub own : mine ≡ reach (has ms w k) (openOf alt)
+  pub few : mine ≤ 10112
+  pub gone : (x : ℕ) → cell (row ms w k) x ≡ 1 → before ms w n order g x ≡ 0
+  pub highest : bar-from ps ms w k (opens (before ms w n order h) (64 * w)) ≡ max top (bar-from ps ms w k (openOf alt))
+  pub small : top ≤ 1011200000001
+
+-- the same with the tournament of the marked bids and the counts of the open cells
+pub record Walking (ps ms : List ℕ) (w n : ℕ) (order gains : List ℕ) (rounds h k : ℕ) (alt counts who num mark : List ℕ) (top mine g : ℕ) : Type 0 where
+  pub follow : Following ps ms w n order gains rounds h k alt (known num) mark top mine g
+  pub tree : Tournament ps who num
+  pub counted : Counted alt counts
+  pub marks : length mark ≡ 16
+
+-- the run without k takes bid b next, which asks p for c cells
+pub record Takes (ps ms : List ℕ) (w k : ℕ) (alt : List ℕ) (b p c : ℕ) : Type 0 where
+  pub inside : b < length ps
+  pub other : b ≡ k → ⊥
+  pub next : best (withdrawn k (bids (has ms w) ps)) (length ps) (openOf alt) ≡ found b
+  pub price : p ≡ at ps b
+  pub cells : c ≡ common alt (row ms w b)
+  pub some : 0 < c
+  pub few : c ≤ 10112
+
 -- one more than the highest price at which the bid of round h is taken from there on in the run without it
 pub record Followed (ps ms : List ℕ) (w n : ℕ) (order : List ℕ) (h r : ℕ) : Type 0 where
   pub is : r ≡ bar-from ps ms w (at order h) (opens (before ms w n order h) (64 * w))
   pub small : r ≤ 1011200000001
+
+-- bid b at c cells for p is taken, and the maximum goes from `top` to `more`
+pub record Took (k b p c mine top more : ℕ) : Type 0 where
+  pub round : ℕ
+  pub raised-by : Raised k b p c mine round
+  pub is : more ≡ max top round
+
+-- one step: the run goes on, or it is over and the maximum stands
+pub record Stepped (ps ms : List ℕ) (w n : ℕ) (order gains : List ℕ) (rounds h k : ℕ) (alt alt′ counts who num mark : List ℕ) (g top g′ mine top′ : ℕ) (over : Bool) : Type 0 where
+  pub tree : Tournament ps who num
+  pub goes : over ≡ false → Walking ps ms w n order gains rounds h k alt′ counts who num mark top′ mine g′
+  pub falls : over ≡ false → rounds - g′ + length (openOf alt′) < rounds - g + length (openOf alt)
+  pub ends : over ≡ true → Followed ps ms w n order h top

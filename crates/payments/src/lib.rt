@@ -1,14 +1,17 @@
 // What a winner is paid: the highest price at which it is still taken, found by following the run without it along the main run as written down.
-// `limit_in` gives one more than that price for the bid of one round.
+// `limit_in` gives one more than that price for the bid of one round. Bids that share an open cell with one that the two runs do not take
+// alike are marked; the others are read off the written run.
 ghost use mathlib.Core.Path.{_≡_};
-ghost use mathlib.Core.Bool.{true, false};
-ghost use Prim.Native.Nat.{ℕ, _+_, _*_, _-_, _<_, _≤_, max};
+ghost use mathlib.Core.Bool.{true};
+ghost use Prim.Native.Nat.{_+_, _*_, _<_, _≤_, max};
 ghost use lib.ListN.{length};
 ghost use Rattle.cover.specs.CriticalPrice.{late};
-ghost use Rattle.cells.specs.Cells.{cell};
-ghost use Rattle.rounds.specs.Market.{row, at, Priced, Sized, Market, Known};
-ghost use Rattle.rounds.specs.Trace.{Route, Trace};
-ghost use Rattle.payments.specs.Follow.{Raised, Clear, Ahead, Disturbed, Refreshed, Standing, Followed};
+ghost use Rattle.cells.specs.Cells.{Closed};
+ghost use Rattle.cells.specs.Hops.{Hops, Counted};
+ghost use Rattle.tournament.specs.Tournament.{at, known, Tournament};
+ghost use Rattle.rounds.specs.Market.{row, Market, Hopping};
+ghost use Rattle.payments.specs.Marks.{Indexed, Spread, Disturbed};
+ghost use Rattle.payments.specs.Follow.{Raised, Took, Standing, Course, Walking, Takes, Stepped, Followed};
 
 fn higher(a: u64, b: u64) -> u64
     ensures { λ r. ⌜ r ≡ max a b ⌝ }
@@ -31,260 +34,551 @@ fn raise(k: usize, i: usize, price: u64, cells: u64, mine: u64) -> u64
     x / cells + 1
 }
 
-// Bid i at p/r comes before bid b at t/c.
-fn comes(p: u64, r: u64, i: usize, t: u64, c: u64, b: usize) -> bool
-    requires { ⌜ ((p ≤ 100000000) × (r ≤ 10112)) × ((t ≤ 100000000) × (c ≤ 10112)) ⌝ }
-    ensures { λ s. ⌜ (s ≡ true → p * c + late i b ≤ t * r) ⌝ }
-{
-    let x = p * c;
-    let y = t * r;
-    if b < i {
-        return x < y;
-    }
-    x <= y
-}
-
-fn clear_of(
-    prices: &[u64],
-    order: &[u64],
-    gains: &[u64],
-    mark: &[u64],
-    rounds: usize,
-    g: usize,
-    b: usize,
-    t: u64,
-    c: u64,
-) -> bool
-    requires { ⌜ Priced (now prices) × (Route (now prices) (now order) (now gains) rounds × ((length (now mark) ≡ length (now prices)) × ((t ≤ 100000000) × (c ≤ 10112)))) ⌝ }
-    ensures { λ r. ⌜ (r ≡ true → Clear (now (prices .entry)) (now (order .entry)) (now (gains .entry)) (now (mark .entry)) rounds g b t c) ⌝ }
-{
-    if g < rounds {
-        let m = order[g] as usize;
-        if mark[m] == 0 {
-            return comes(prices[m], gains[g], m, t, c, b);
-        }
-    }
-    false
-}
-
-fn leads(
-    prices: &[u64],
-    order: &[u64],
-    gains: &[u64],
-    rounds: usize,
-    g: usize,
-    b: usize,
-    t: u64,
-    c: u64,
-) -> bool
-    requires { ⌜ Priced (now prices) × (Route (now prices) (now order) (now gains) rounds × ((t ≤ 100000000) × (c ≤ 10112))) ⌝ }
-    ensures yes { λ r. ⌜ (r ≡ true → Ahead (now (prices .entry)) (now (order .entry)) (now (gains .entry)) rounds g b t c) ⌝ }
-    ensures no { λ r. ⌜ (r ≡ false → rounds ≤ g → length (now (prices .entry)) ≤ b) ⌝ }
-{
-    if b < prices.len() {
-        if g < rounds {
-            let m = order[g] as usize;
-            return comes(t, c, b, prices[m], gains[g], m);
-        }
-        return true;
-    }
-    false
-}
-
-struct Front {
-    pub bid: usize,
-    pub price: u64,
-    pub cells: u64,
-    pub free: bool,
-}
-
-// The price of bid j, 1 where there is no such bid.
-fn price_of(prices: &[u64], j: usize) -> u64
-    requires { ⌜ Priced (now prices) ⌝ }
-    ensures { λ r. ⌜ (r ≤ 100000000) × (j < length (now (prices .entry)) → r ≡ at (now (prices .entry)) j) ⌝ }
-{
-    if j < prices.len() {
-        return prices[j];
-    }
-    1
-}
-
-// The bound as it is where the main run's next bid is clear of it, and else the best of the marked bids.
-fn refresh(
+// Marks the bids that have a cell of m in word q.
+fn spread(
     prices: &[u64],
     masks: &[u64],
+    hop: &[u8],
+    index: &[u64],
     w: usize,
     alt: &[u64],
-    stale: &mut [u64],
-    order: &[u64],
-    gains: &[u64],
-    mark: &[u64],
-    rounds: usize,
-    g: usize,
-    b: usize,
-    t: u64,
-    c: u64,
-) -> Front
-    requires { ⌜ Market (now prices) (now masks) w × ((length (now alt) ≡ w) × (Known (now prices) (now masks) w (now alt) (now stale)
-        × (Route (now prices) (now order) (now gains) rounds × ((length (now mark) ≡ length (now prices)) × ((t ≤ 100000000) × (c ≤ 10112)))))) ⌝ }
-    ensures fresh { λ r. ⌜ Refreshed (now (prices .entry)) (now (masks .entry)) w (now (alt .entry)) (now (order .entry)) (now (gains .entry)) (now (mark .entry)) (now (stale .entry)) (now (stale .exit)) rounds g b t c (r .bid) (r .price) (r .cells) (r .free) ⌝ }
-    ensures small { λ r. ⌜ (r .price ≤ 100000000) × (r .cells ≤ 10112) ⌝ }
+    counts: &[u64],
+    q: usize,
+    m: u64,
+    who: &mut [u64],
+    num: &mut [u64],
+    mark: &mut [u64],
+)
+    requires { ⌜ Market (now prices) (now masks) w × (Hopping (now prices) (now masks) (now hop) w × (Indexed (now prices) (now masks) (now index) w × ((length (now alt) ≡ w)
+        × (Counted (now alt) (now counts) × ((q < w) × (Tournament (now prices) (now who) (now num) × (length (now mark) ≡ 16))))))) ⌝ }
+    ensures { λ _. ⌜ Tournament (now (prices .entry)) (now (who .exit)) (now (num .exit))
+        × Spread (now (prices .entry)) (now (masks .entry)) w (now (alt .entry)) q m (known (now (num .entry))) (now (mark .entry)) (known (now (num .exit))) (now (mark .exit)) ⌝ }
 {
-    if clear_of(prices, order, gains, mark, rounds, g, b, t, c) {
-        return Front {
-            bid: b,
-            price: t,
-            cells: c,
-            free: true,
-        };
+    if m == 0 {
+        return;
     }
-    let d = rounds::turn(prices, masks, w, alt, stale);
-    let j = d.bid;
-    let v = d.cells;
-    let p = price_of(prices, j);
-    let f = clear_of(prices, order, gains, mark, rounds, g, j, p, v);
-    Front {
-        bid: j,
-        price: p,
-        cells: v,
-        free: f,
-    }
-}
-
-// Some cell is set in all three.
-fn meets(alt: &[u64], a: &[u64], b: &[u64]) -> bool
-    requires { ⌜ (length (now alt) ≡ length (now a)) × (length (now alt) ≡ length (now b)) ⌝ }
-    ensures { λ r. ⌜ (r ≡ false → (x : ℕ) → cell (now (a .entry)) x ≡ 1 → cell (now (b .entry)) x ≡ 1 → cell (now (alt .entry)) x ≡ 0) ⌝ }
-{
-    let mut q = 0;
-    while q < alt.len() {
-        if (alt[q] & a[q]) & b[q] != 0 {
-            return true;
+    let a = 16 * q;
+    let e = a + 16;
+    let mut i = cells::next(&index[a..e], mark, 0);
+    while i < prices.len() {
+        if masks[w * i + q] & m != 0 {
+            let r = rounds::overlap(alt, counts, masks, hop, w, i);
+            tournament::update(prices, who, num, i, r);
+            cells::add(mark, i);
+            i = cells::next(&index[a..e], mark, i + 1);
+        } else {
+            i = cells::next(&index[a..e], mark, i + 1);
         }
-        q += 1;
     }
-    false
-}
-
-// Bids i and j share an open cell.
-fn touches(alt: &[u64], masks: &[u64], w: usize, i: usize, j: usize) -> bool
-    requires { ⌜ (length (now alt) ≡ w) × ((w * i + w ≤ length (now masks)) × (w * j + w ≤ length (now masks))) ⌝ }
-    ensures { λ r. ⌜ (r ≡ false → (x : ℕ) → cell (row (now (masks .entry)) w i) x ≡ 1 → cell (row (now (masks .entry)) w j) x ≡ 1 → cell (now (alt .entry)) x ≡ 0) ⌝ }
-{
-    let a = w * i;
-    let d = a + w;
-    let b = w * j;
-    let e = b + w;
-    meets(alt, &masks[a..d], &masks[b..e])
 }
 
 // Marks the bids that share an open cell with bid j.
 fn disturb(
     prices: &[u64],
     masks: &[u64],
+    hop: &[u8],
+    index: &[u64],
     w: usize,
     alt: &[u64],
+    counts: &[u64],
     j: usize,
-    stale: &mut [u64],
+    who: &mut [u64],
+    num: &mut [u64],
     mark: &mut [u64],
 )
-    requires { ⌜ Market (now prices) (now masks) w × ((length (now alt) ≡ w) × ((j < length (now prices)) × (Sized (now prices) (now stale) × (length (now mark) ≡ length (now prices))))) ⌝ }
-    ensures { λ _. ⌜ Disturbed (now (prices .entry)) (now (masks .entry)) w (now (alt .entry)) j (now (stale .entry)) (now (mark .entry)) (now (stale .exit)) (now (mark .exit)) ⌝ }
+    requires { ⌜ Market (now prices) (now masks) w × (Hopping (now prices) (now masks) (now hop) w × (Indexed (now prices) (now masks) (now index) w × ((length (now alt) ≡ w)
+        × (Counted (now alt) (now counts) × ((j < length (now prices)) × (Tournament (now prices) (now who) (now num) × (length (now mark) ≡ 16))))))) ⌝ }
+    ensures { λ _. ⌜ Tournament (now (prices .entry)) (now (who .exit)) (now (num .exit))
+        × Disturbed (now (prices .entry)) (now (masks .entry)) w (now (alt .entry)) j (known (now (num .entry))) (now (mark .entry)) (known (now (num .exit))) (now (mark .exit)) ⌝ }
 {
-    let mut i = 0;
-    while i < prices.len() {
-        if mark[i] == 0 {
-            if touches(alt, masks, w, i, j) {
-                stale[i] = rounds::overlap(alt, masks, w, i);
-                mark[i] = 1;
-                i += 1;
-            } else {
-                i += 1;
-            }
-        } else {
-            i += 1;
-        }
+    let a = w * j;
+    let e = a + w;
+    let mut q = 0;
+    while q < w {
+        let m = alt[q] & masks[a + q];
+        spread(
+            prices,
+            masks,
+            hop,
+            index,
+            w,
+            alt,
+            counts,
+            q,
+            m,
+            who,
+            num,
+            mark,
+        );
+        q = cells::onward(&masks[a..e], &hop[a..e], q);
     }
 }
 
-// One more than the highest price at which the bid that round h takes is taken from there on in the run without it.
-pub fn limit_in(
+// Takes bid b, which asks p for c cells: closes its cells, and answers the new maximum.
+fn take(
+    masks: &[u64],
+    hop: &[u8],
+    w: usize,
+    k: usize,
+    b: usize,
+    p: u64,
+    c: u64,
+    mine: u64,
+    top: u64,
+    alt: &mut [u64],
+    counts: &mut [u64],
+) -> u64
+    requires { ⌜ ((p ≤ 100000000) × ((0 < c) × ((0 < mine) × (mine ≤ 10112)))) × ((length (now alt) ≡ w) × ((w ≤ 158) × ((w * b + w ≤ length (now masks)) × ((length (now hop) ≡ length (now masks))
+        × (Counted (now alt) (now counts) × Hops (row (now masks) w b) (row (now hop) w b)))))) ⌝ }
+    ensures { λ r. ⌜ Took k b p c mine top r × (Closed (now (alt .entry)) (row (now (masks .entry)) w b) (now (alt .exit)) × Counted (now (alt .exit)) (now (counts .exit))) ⌝ }
+{
+    let s = raise(k, b, p, c, mine);
+    rounds::shut(alt, counts, masks, hop, w, b);
+    higher(top, s)
+}
+
+// Bid b at t/c is there and comes before bid m at p/v.
+fn ahead(n: usize, t: u64, c: u64, b: usize, p: u64, v: u64, m: usize) -> bool
+    requires { ⌜ ((t ≤ 100000000) × (c ≤ 10112)) × ((p ≤ 100000000) × (v ≤ 10112)) ⌝ }
+    ensures { λ r. ⌜ (r ≡ true → (b < n) × (t * v + late b m ≤ p * c)) ⌝ }
+{
+    if b < n {
+        return rounds::comes(t, c, b, p, v, m);
+    }
+    false
+}
+
+struct Move {
+    g: usize,
+    mine: u64,
+    top: u64,
+    over: bool,
+}
+
+// Both runs take bid b, the main run's next.
+fn both(
     prices: &[u64],
     masks: &[u64],
+    hop: &[u8],
+    index: &[u64],
     w: usize,
     count: usize,
     order: &[u64],
     gains: &[u64],
     rounds: usize,
     h: usize,
-    held: &[u64],
+    k: usize,
+    g: usize,
+    mine: u64,
+    top: u64,
+    b: usize,
+    p: u64,
+    c: u64,
     alt: &mut [u64],
-    stale: &mut [u64],
+    counts: &mut [u64],
+    who: &mut [u64],
+    num: &mut [u64],
     mark: &mut [u64],
-) -> u64
-    requires { ⌜ Market (now prices) (now masks) w × (Trace (now prices) (now masks) w count (now order) (now gains) rounds × ((h < rounds)
-        × (Standing (now masks) w count (now order) h (now held) × ((length (now alt) ≡ w) × ((length (now stale) ≡ length (now prices)) × (length (now mark) ≡ length (now prices))))))) ⌝ }
-    ensures { λ r. ⌜ Followed (now (prices .entry)) (now (masks .entry)) w count (now (order .entry)) h r ⌝ }
+) -> Move
+    requires { ⌜ Course (now prices) (now masks) (now hop) (now index) w count (now order) (now gains) rounds h k
+        × (Walking (now prices) (now masks) w count (now order) (now gains) rounds h k (now alt) (now counts) (now who) (now num) (now mark) top mine g
+        × ((0 < mine) × (Takes (now prices) (now masks) w k (now alt) b p c × ((g < rounds) × (b ≡ at (now order) g))))) ⌝ }
+    ensures { λ r. ⌜ Stepped (now (prices .entry)) (now (masks .entry)) w count (now (order .entry)) (now (gains .entry)) rounds h k (now (alt .entry)) (now (alt .exit)) (now (counts .exit)) (now (who .exit)) (now (num .exit)) (now (mark .exit)) g top (r .g) (r .mine) (r .top) (r .over) ⌝ }
 {
-    let k = order[h] as usize;
-    rounds::copy(held, alt);
-    rounds::clear(stale);
-    rounds::clear(mark);
-    mark[k] = 1;
-    disturb(prices, masks, w, alt, k, stale, mark);
-    let mut mine = gains[h];
-    let mut top: u64 = 0;
-    let mut g = h + 1;
-    let mut b: usize = 0;
-    let mut t: u64 = 0;
-    let mut c: u64 = 1;
-    while 0 < mine {
-        let q = refresh(
+    let t = take(masks, hop, w, k, b, p, c, mine, top, alt, counts);
+    let y = rounds::overlap(alt, counts, masks, hop, w, k);
+    Move {
+        g: g + 1,
+        mine: y,
+        top: t,
+        over: false,
+    }
+}
+
+// The run without k alone takes bid b.
+fn other(
+    prices: &[u64],
+    masks: &[u64],
+    hop: &[u8],
+    index: &[u64],
+    w: usize,
+    count: usize,
+    order: &[u64],
+    gains: &[u64],
+    rounds: usize,
+    h: usize,
+    k: usize,
+    g: usize,
+    mine: u64,
+    top: u64,
+    b: usize,
+    p: u64,
+    c: u64,
+    alt: &mut [u64],
+    counts: &mut [u64],
+    who: &mut [u64],
+    num: &mut [u64],
+    mark: &mut [u64],
+) -> Move
+    requires { ⌜ Course (now prices) (now masks) (now hop) (now index) w count (now order) (now gains) rounds h k
+        × (Walking (now prices) (now masks) w count (now order) (now gains) rounds h k (now alt) (now counts) (now who) (now num) (now mark) top mine g
+        × ((0 < mine) × Takes (now prices) (now masks) w k (now alt) b p c)) ⌝ }
+    ensures { λ r. ⌜ Stepped (now (prices .entry)) (now (masks .entry)) w count (now (order .entry)) (now (gains .entry)) rounds h k (now (alt .entry)) (now (alt .exit)) (now (counts .exit)) (now (who .exit)) (now (num .exit)) (now (mark .exit)) g top (r .g) (r .mine) (r .top) (r .over) ⌝ }
+{
+    disturb(prices, masks, hop, index, w, alt, counts, b, who, num, mark);
+    let t = take(masks, hop, w, k, b, p, c, mine, top, alt, counts);
+    let y = rounds::overlap(alt, counts, masks, hop, w, k);
+    Move {
+        g,
+        mine: y,
+        top: t,
+        over: false,
+    }
+}
+
+// One step where the main run has a next bid.
+fn along(
+    prices: &[u64],
+    masks: &[u64],
+    hop: &[u8],
+    index: &[u64],
+    w: usize,
+    count: usize,
+    order: &[u64],
+    gains: &[u64],
+    rounds: usize,
+    h: usize,
+    k: usize,
+    g: usize,
+    mine: u64,
+    top: u64,
+    alt: &mut [u64],
+    counts: &mut [u64],
+    who: &mut [u64],
+    num: &mut [u64],
+    mark: &mut [u64],
+) -> Move
+    requires { ⌜ Course (now prices) (now masks) (now hop) (now index) w count (now order) (now gains) rounds h k
+        × (Walking (now prices) (now masks) w count (now order) (now gains) rounds h k (now alt) (now counts) (now who) (now num) (now mark) top mine g
+        × ((0 < mine) × (g < rounds))) ⌝ }
+    ensures { λ r. ⌜ Stepped (now (prices .entry)) (now (masks .entry)) w count (now (order .entry)) (now (gains .entry)) rounds h k (now (alt .entry)) (now (alt .exit)) (now (counts .exit)) (now (who .exit)) (now (num .exit)) (now (mark .exit)) g top (r .g) (r .mine) (r .top) (r .over) ⌝ }
+{
+    let m = order[g] as usize;
+    let p = prices[m];
+    let v = gains[g];
+    let free = !cells::holds(mark, m);
+    let f = rounds::front(prices, masks, hop, w, alt, counts, who, num, m, p, v, free);
+    if f.clear {
+        let t = take(masks, hop, w, k, m, p, v, mine, top, alt, counts);
+        return Move {
+            g: g + 1,
+            mine,
+            top: t,
+            over: false,
+        };
+    }
+    let b = f.bid;
+    if ahead(prices.len(), f.price, f.cells, b, p, v, m) {
+        if b == m {
+            return both(
+                prices,
+                masks,
+                hop,
+                index,
+                w,
+                count,
+                order,
+                gains,
+                rounds,
+                h,
+                k,
+                g,
+                mine,
+                top,
+                b,
+                f.price,
+                f.cells,
+                alt,
+                counts,
+                who,
+                num,
+                mark,
+            );
+        }
+        return other(
             prices,
             masks,
+            hop,
+            index,
             w,
-            alt,
-            stale,
+            count,
             order,
             gains,
-            mark,
             rounds,
+            h,
+            k,
             g,
+            mine,
+            top,
             b,
-            t,
-            c,
+            f.price,
+            f.cells,
+            alt,
+            counts,
+            who,
+            num,
+            mark,
         );
-        let j = q.bid;
-        let p = q.price;
-        let v = q.cells;
-        if q.free {
-            let m = order[g] as usize;
-            let s = raise(k, m, prices[m], gains[g], mine);
-            top = higher(top, s);
-            rounds::shut(alt, masks, w, m);
-            g += 1;
-            b = j;
-            t = p;
-            c = v;
-        } else if leads(prices, order, gains, rounds, g, j, p, v) {
-            let s = raise(k, j, p, v, mine);
-            top = higher(top, s);
-            disturb(prices, masks, w, alt, j, stale, mark);
-            rounds::shut(alt, masks, w, j);
-            mine = rounds::overlap(alt, masks, w, k);
-            b = 0;
-            t = 0;
-            c = 1;
-        } else if g < rounds {
-            let m = order[g] as usize;
-            disturb(prices, masks, w, alt, m, stale, mark);
-            g += 1;
-            b = 0;
-            t = 0;
-            c = 1;
-        } else {
+    }
+    disturb(prices, masks, hop, index, w, alt, counts, m, who, num, mark);
+    Move {
+        g: g + 1,
+        mine,
+        top,
+        over: false,
+    }
+}
+
+// One step where the main run is over.
+fn beyond(
+    prices: &[u64],
+    masks: &[u64],
+    hop: &[u8],
+    index: &[u64],
+    w: usize,
+    count: usize,
+    order: &[u64],
+    gains: &[u64],
+    rounds: usize,
+    h: usize,
+    k: usize,
+    g: usize,
+    mine: u64,
+    top: u64,
+    alt: &mut [u64],
+    counts: &mut [u64],
+    who: &mut [u64],
+    num: &mut [u64],
+    mark: &mut [u64],
+) -> Move
+    requires { ⌜ Course (now prices) (now masks) (now hop) (now index) w count (now order) (now gains) rounds h k
+        × (Walking (now prices) (now masks) w count (now order) (now gains) rounds h k (now alt) (now counts) (now who) (now num) (now mark) top mine g
+        × ((0 < mine) × (rounds ≤ g))) ⌝ }
+    ensures { λ r. ⌜ Stepped (now (prices .entry)) (now (masks .entry)) w count (now (order .entry)) (now (gains .entry)) rounds h k (now (alt .entry)) (now (alt .exit)) (now (counts .exit)) (now (who .exit)) (now (num .exit)) (now (mark .exit)) g top (r .g) (r .mine) (r .top) (r .over) ⌝ }
+{
+    let f = rounds::front(prices, masks, hop, w, alt, counts, who, num, 0, 0, 0, false);
+    let b = f.bid;
+    if b < prices.len() {
+        return other(
+            prices,
+            masks,
+            hop,
+            index,
+            w,
+            count,
+            order,
+            gains,
+            rounds,
+            h,
+            k,
+            g,
+            mine,
+            top,
+            b,
+            f.price,
+            f.cells,
+            alt,
+            counts,
+            who,
+            num,
+            mark,
+        );
+    }
+    Move {
+        g,
+        mine,
+        top,
+        over: true,
+    }
+}
+
+fn step(
+    prices: &[u64],
+    masks: &[u64],
+    hop: &[u8],
+    index: &[u64],
+    w: usize,
+    count: usize,
+    order: &[u64],
+    gains: &[u64],
+    rounds: usize,
+    h: usize,
+    k: usize,
+    g: usize,
+    mine: u64,
+    top: u64,
+    alt: &mut [u64],
+    counts: &mut [u64],
+    who: &mut [u64],
+    num: &mut [u64],
+    mark: &mut [u64],
+) -> Move
+    requires { ⌜ Course (now prices) (now masks) (now hop) (now index) w count (now order) (now gains) rounds h k
+        × (Walking (now prices) (now masks) w count (now order) (now gains) rounds h k (now alt) (now counts) (now who) (now num) (now mark) top mine g × (0 < mine)) ⌝ }
+    ensures { λ r. ⌜ Stepped (now (prices .entry)) (now (masks .entry)) w count (now (order .entry)) (now (gains .entry)) rounds h k (now (alt .entry)) (now (alt .exit)) (now (counts .exit)) (now (who .exit)) (now (num .exit)) (now (mark .exit)) g top (r .g) (r .mine) (r .top) (r .over) ⌝ }
+{
+    if g < rounds {
+        return along(
+            prices,
+            masks,
+            hop,
+            index,
+            w,
+            count,
+            order,
+            gains,
+            rounds,
+            h,
+            k,
+            g,
+            mine,
+            top,
+            alt,
+            counts,
+            who,
+            num,
+            mark,
+        );
+    }
+    beyond(
+        prices,
+        masks,
+        hop,
+        index,
+        w,
+        count,
+        order,
+        gains,
+        rounds,
+        h,
+        k,
+        g,
+        mine,
+        top,
+        alt,
+        counts,
+        who,
+        num,
+        mark,
+    )
+}
+
+// The run without bid k as the main run has it before round h, with the bids that share a cell with k marked.
+fn begin(
+    prices: &[u64],
+    masks: &[u64],
+    hop: &[u8],
+    index: &[u64],
+    w: usize,
+    count: usize,
+    order: &[u64],
+    gains: &[u64],
+    rounds: usize,
+    h: usize,
+    k: usize,
+    held: &[u64],
+    alt: &mut [u64],
+    counts: &mut [u64],
+    who: &mut [u64],
+    num: &mut [u64],
+    mark: &mut [u64],
+)
+    requires { ⌜ Course (now prices) (now masks) (now hop) (now index) w count (now order) (now gains) rounds h k
+        × (Standing (now masks) w count (now order) h (now held) × ((length (now alt) ≡ w) × ((length (now counts) ≡ w) × (Tournament (now prices) (now who) (now num) × (length (now mark) ≡ 16))))) ⌝ }
+    ensures { λ _. ⌜ Walking (now (prices .entry)) (now (masks .entry)) w count (now (order .entry)) (now (gains .entry)) rounds h k (now (alt .exit)) (now (counts .exit)) (now (who .exit)) (now (num .exit)) (now (mark .exit)) 0 (at (now (gains .entry)) h) (h + 1) ⌝ }
+{
+    rounds::copy(held, alt);
+    cells::count(alt, counts);
+    rounds::clear(num);
+    rounds::clear(mark);
+    cells::add(mark, k);
+    disturb(prices, masks, hop, index, w, alt, counts, k, who, num, mark);
+}
+
+// One more than the highest price at which the bid k that round h takes is taken from there on in the run without it.
+pub fn limit_in(
+    prices: &[u64],
+    masks: &[u64],
+    hop: &[u8],
+    index: &[u64],
+    w: usize,
+    count: usize,
+    order: &[u64],
+    gains: &[u64],
+    rounds: usize,
+    h: usize,
+    k: usize,
+    held: &[u64],
+    alt: &mut [u64],
+    counts: &mut [u64],
+    who: &mut [u64],
+    num: &mut [u64],
+    mark: &mut [u64],
+) -> u64
+    requires { ⌜ Course (now prices) (now masks) (now hop) (now index) w count (now order) (now gains) rounds h k
+        × (Standing (now masks) w count (now order) h (now held) × ((length (now alt) ≡ w) × ((length (now counts) ≡ w) × (Tournament (now prices) (now who) (now num) × (length (now mark) ≡ 16))))) ⌝ }
+    ensures { λ r. ⌜ Followed (now (prices .entry)) (now (masks .entry)) w count (now (order .entry)) h r × Tournament (now (prices .entry)) (now (who .exit)) (now (num .exit)) ⌝ }
+{
+    begin(
+        prices,
+        masks,
+        hop,
+        index,
+        w,
+        count,
+        order,
+        gains,
+        rounds,
+        h,
+        k,
+        held,
+        alt,
+        counts,
+        who,
+        num,
+        mark,
+    );
+    let mut g = h + 1;
+    let mut mine = gains[h];
+    let mut top: u64 = 0;
+    while 0 < mine {
+        let s = step(
+            prices,
+            masks,
+            hop,
+            index,
+            w,
+            count,
+            order,
+            gains,
+            rounds,
+            h,
+            k,
+            g,
+            mine,
+            top,
+            alt,
+            counts,
+            who,
+            num,
+            mark,
+        );
+        if s.over {
             return top;
         }
+        g = s.g;
+        mine = s.mine;
+        top = s.top;
     }
     top
 }

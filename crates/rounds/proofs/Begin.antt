@@ -4,17 +4,18 @@ use mathlib.Core.Bool.{Bool, true, false}
 use mathlib.Core.List.{List}
 use Prim.Native.Nat.{ℕ, zero, suc, _+_, _-_, _*_, _≤_, _<_, min}
 use native.Mathlib.Omega.{arith}
-use lib.ListN.{length, getD}
+use lib.ListN.{length, getD, set}
+use lib.Seq.{getD-set-same, getD-set-other}
 use lib.Dec.{eqb, ltb}
-use borrow.Author.Tests.{ltb-true, ltb-false}
+use borrow.Author.Tests.{eqb-true, eqb-false}
 use Rattle.cells.specs.Cells.{cell, total, both, common}
 use Rattle.cover.specs.Greedy.{Bid, reach, bids}
 use Rattle.cover.specs.Sets.{cells}
-use Rattle.rounds.proofs.Chosen.{Tied}
-use Rattle.rounds.proofs.Filling.{Filling, past}
-use Rattle.rounds.proofs.Opens.{opens-first, openOf, reach-open}
-use Rattle.rounds.specs.Market.{row, has, at, Sized, Market, First, Full}
-use Rattle.rounds.specs.Trace.{opens}
+use Rattle.rounds.proofs.Opens.{opens-first, reach-open}
+use Rattle.rounds.specs.Market.{row, has, Sized, Market, First, Entered}
+use Rattle.tournament.specs.Tournament.{at, known, Tournament}
+use Rattle.tournament.proofs.Tree.{known-at, length-known}
+use Rattle.rounds.specs.Trace.{opens, openOf}
 
 pub open-first : {n : ℕ} {held : List ℕ} → First n held → n ≤ 64 * length held → openOf held ≡ cells n
 unfolding openOf
@@ -29,13 +30,25 @@ pub common-few : (a b : List ℕ) → length a ≤ 158 → common a b ≤ 10112
 unfolding common
 common-few a b l = omega (arith, few a b (64 * length a))
 
-pub full-of : {ps ms : List ℕ} {w n : ℕ} {held old new : List ℕ} {i : ℕ} → Market ps ms w → length held ≡ w → n ≤ 64 * w → First n held → length old ≡ length ps → length ps ≤ i
-    → Filling (λ j. common held (row ms w j)) old new i → Full ps ms w n new
-full-of {ps} {ms} {w} {n} {held} {old} {new} {i} m e l f s q h = record {
-  sized = record { same = h .same ∙ s; few = λ j. go j (ltb j i) refl };
-  each = λ j k. h .done j (omega arith) ∙ sym (reach-open held ms w j) ∙ ap (reach (has ms w j)) (open-first f (omega arith));
-}
+-- the bids below i are entered
+pub record Entering (ps ms : List ℕ) (w : ℕ) (held who num : List ℕ) (i : ℕ) : Type 0 where
+  pub tree : Tournament ps who num
+  pub inside : i ≤ length ps
+  pub done : (j : ℕ) → j < i → at (known num) j ≡ common held (row ms w j)
+
+pub enters-none : {ps ms : List ℕ} {w : ℕ} {held who num : List ℕ} → Tournament ps who num → Entering ps ms w held who num 0
+enters-none t = record { tree = t; inside = omega arith; done = λ j l. absurd (omega arith) }
+
+pub enters-more : {ps ms : List ℕ} {w : ℕ} {held who num who′ num′ : List ℕ} {i r : ℕ} → Market ps ms w → Entering ps ms w held who num i → i < length ps → Tournament ps who′ num′ → known num′ ≡ set (known num) i r
+    → r ≡ common held (row ms w i) → Entering ps ms w held who′ num′ (i + 1)
+enters-more {ps} {ms} {w} {held} {who} {num} {who′} {num′} {i} {r} m s l t q e = record { tree = t; inside = omega arith; done = λ j z. rw q (go j z (eqb j i) refl) }
   where
-    go : (j : ℕ) (t : Bool) → ltb j i ≡ t → at new j ≤ 10112
-    go j true d = rw (h .done j (ltb-true j i d)) (common-few held (row ms w j) (omega (arith, m .words)))
-    go j false d = omega (arith, past new j (omega (arith, h .same, ltb-false j i d)))
+    go : (j : ℕ) → j < i + 1 → (b : Bool) → eqb j i ≡ b → at (set (known num) i r) j ≡ common held (row ms w j)
+    go j z true d = rw (eqb-true j i d, getD-set-same (known num) i r 0 (omega (arith, length-known num (s .tree .seats .numbers), m .priced .count))) e
+    go j z false d = getD-set-other (known num) i j r 0 (eqb-false j i d) ∙ s .done j (omega (arith, eqb-false j i d))
+
+pub enters-all : {ps ms : List ℕ} {w : ℕ} {held who num : List ℕ} {i : ℕ} → Entering ps ms w held who num i → length ps ≤ i → Entered ps ms w held (known num)
+enters-all s l = record { each = λ j z. s .done j (omega arith) }
+
+pub sized-of : {ps who num : List ℕ} → Tournament ps who num → Sized (known num)
+sized-of {num = num} t = record { few = λ i. omega (arith, known-at num i, t .seats .few (1024 + i)) }

@@ -13,14 +13,11 @@ use Rattle.cover.specs.Greedy.{pick, Bid, reach, close, Rounds, stop, round, be
 use Rattle.cover.specs.GreedyLaws.{Rightly, best-right, shrink, close-other}
 use Rattle.cover.specs.PickLaws.{Best, Before, IsPick, pick-right, before-one}
 use Rattle.cover.specs.Sets.{Found, nothing, found}
-use Rattle.rounds.proofs.Opens.{openOf, reach-open, close-open}
-use Rattle.rounds.specs.Market.{row, has, at, place, live, Sized, Known, Turn}
-
-pub right-one : (p r : ℕ → ℕ) (n : ℕ) (u v : Found) → IsPick p r n u → IsPick p r n v → u ≡ v
-right-one p r n nothing nothing x y = refl
-right-one p r n nothing (found b) x y = absurd (x b (y .inside) (y .good))
-right-one p r n (found a) nothing x y = absurd (y a (x .inside) (x .good))
-right-one p r n (found a) (found b) x y = ap found (before-one p r a b (x .least b (y .inside) (y .good)) (y .least a (x .inside) (x .good)))
+use Rattle.rounds.proofs.Fronting.{right-one}
+use Rattle.rounds.proofs.Opens.{reach-open, close-open}
+use Rattle.rounds.specs.Trace.{openOf}
+use Rattle.rounds.specs.Market.{row, has, place, live, Sized, Known, Turn}
+use Rattle.tournament.specs.Tournament.{at}
 
 -- the choice turns on what the bids reach, and on the prices of those that reach a cell
 pub right-ext : (p q r s : ℕ → ℕ) (n : ℕ) → ((i : ℕ) → i < n → r i ≡ s i) → ((i : ℕ) → i < n → 0 < s i → p i ≡ q i) → (u : Found) → IsPick p r n u → IsPick q s n u
@@ -33,7 +30,7 @@ right-ext p q r s n f g (found b) x = let e = f b (x .inside) in let k : 0 < s b
 
 -- the rounds of the bids B over the cells set in `held`; `stale` has no less than each reaches
 pub record Tied (B : ℕ → Bid) (ps ms : List ℕ) (w : ℕ) (held stale : List ℕ) : Type 0 where
-  pub sized : Sized ps stale
+  pub sized : Sized stale
   pub words : length held ≡ w
   pub bound : (i : ℕ) → i < length ps → reach (B i .has) (openOf held) ≤ at stale i
   pub real : (i : ℕ) → i < length ps → 0 < at stale i → B i ≡ bids (has ms w) ps i
@@ -43,8 +40,8 @@ module _ {B : ℕ → Bid} {ps ms : List ℕ} {w : ℕ} {held old : List ℕ} (t
   unfolding bids
   reached i l g = rw (t .real i l g) (reach-open held ms w i)
 
-  pub known : Known ps ms w held old
-  known = record { sized = t .sized; most = λ i l g. omega (arith, reached i l g, t .bound i l) }
+  pub knows : Known ps ms w held old
+  knows = record { sized = t .sized; most = λ i l g. omega (arith, reached i l g, t .bound i l) }
 
   live-is : (i : ℕ) → i < length ps → live ms w held old i ≡ reach (B i .has) (openOf held)
   unfolding live
@@ -103,9 +100,9 @@ module _ {B : ℕ → Bid} {ps ms : List ℕ} {w : ℕ} {held old : List ℕ} (t
     unfolding bids
     shuts l {rest} e k = rw (real-bid l) (close-open held rest ms w b e k)
 
-    pub tied : b < length ps → length new ≡ length old → {rest : List ℕ} → length rest ≡ length held → Closed held (row ms w b) rest → Tied B ps ms w rest new
-    tied l q {rest} e k = record {
-      sized = record { same = q ∙ t .sized .same; few = λ i. omega (arith, u .high i, t .sized .few i) };
+    pub tied : b < length ps → {rest : List ℕ} → length rest ≡ length held → Closed held (row ms w b) rest → Tied B ps ms w rest new
+    tied l {rest} e k = record {
+      sized = record { few = λ i. omega (arith, u .high i, t .sized .few i) };
       words = e ∙ t .words;
       bound = λ i m. rw (← shuts l e k) (omega (arith, close-other (B b .has) (B i .has) (openOf held), live-is i m, u .low i m));
       real = λ i m g. t .real i m (omega (arith, u .high i));

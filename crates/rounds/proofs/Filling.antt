@@ -11,7 +11,8 @@ use lib.Seq.{getD-set-same, getD-set-other, ext-getD}
 use lib.Dec.{eqb, ltb}
 use borrow.Author.Tests.{eqb-true, eqb-false, ltb-true, ltb-false}
 use Rattle.cells.specs.Cells.{cell, bitOf, Filled}
-use Rattle.rounds.specs.Market.{at, Cleared, First}
+use Rattle.rounds.specs.Market.{Cleared, First}
+use Rattle.tournament.specs.Tournament.{at}
 
 -- the places below i of new have the values of f, and new is as long as old
 pub record Filling (f : ℕ → ℕ) (old new : List ℕ) (i : ℕ) : Type 0 where

@@ -1,8 +1,7 @@
-pub mod Lead
-pub mod Turning
-pub mod Opens
-pub mod Chosen
 pub mod Filling
-pub mod Begin
 pub mod Rows
+pub mod Opens
+pub mod Fronting
+pub mod Chosen
+pub mod Begin
 pub mod Tracing

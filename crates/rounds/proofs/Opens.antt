@@ -13,7 +13,7 @@ use Rattle.cells.specs.Cells.{cell, total, both, common, Closed}
 use Rattle.cover.specs.Greedy.{reach, keep, close}
 use Rattle.cover.specs.Sets.{when, cells}
 use Rattle.rounds.specs.Market.{row, has}
-use Rattle.rounds.specs.Trace.{opens}
+use Rattle.rounds.specs.Trace.{opens, openOf}
 
 pub two : (x : ℕ) → x < 2 → (x ≡ 0) ⊎ (x ≡ 1)
 two zero l = inl refl
@@ -65,11 +65,6 @@ pub length-cells : (n : ℕ) → length (cells n) ≡ n
 unfolding cells
 length-cells zero = refl
 length-cells (suc n) = ap suc (length-cells n)
-
--- the cells set in the words
-unfoldable pub openOf : List ℕ → List ℕ
-unfolding opens
-openOf held = opens (cell held) (64 * length held)
 
 pub reach-open : (held ms : List ℕ) (w i : ℕ) → reach (has ms w i) (openOf held) ≡ common held (row ms w i)
 unfolding openOf has common

@@ -16,9 +16,10 @@ use Rattle.cover.specs.PickLaws.{Best}
 use Rattle.cover.specs.Sets.{when, Found, nothing, found, cells}
 use Rattle.rounds.proofs.Begin.{open-first}
 use Rattle.rounds.proofs.Chosen.{Tied, takes, stops, gains, gains-some, shuts, tied}
-use Rattle.rounds.proofs.Opens.{openOf, length-cells, opens-same}
-use Rattle.rounds.specs.Market.{row, has, at, Market, Turn, First, Full}
-use Rattle.rounds.specs.Trace.{opens, before, Route, Trace}
+use Rattle.rounds.proofs.Opens.{length-cells, opens-same, reach-open}
+use Rattle.rounds.specs.Market.{row, has, Sized, Market, Turn, First, Entered}
+use Rattle.tournament.specs.Tournament.{at}
+use Rattle.rounds.specs.Trace.{opens, before, Route, Trace, openOf}
 
 abbrev pub all : List ℕ → List ℕ → ℕ → ℕ → Bid
 all ps ms w = bids (has ms w) ps
@@ -46,10 +47,10 @@ pub record Tracing (ps ms : List ℕ) (w n : ℕ) (held stale order got : List �
   pub standing : (x : ℕ) → cell held x ≡ before ms w n order r x
   past : (g : ℕ) → g < r → Past ps ms w n order got g
 
-pub starts : {ps ms : List ℕ} {w n : ℕ} {held stale order got : List ℕ} → length held ≡ w → n ≤ 64 * w → First n held → Full ps ms w n stale → n ≤ length order → n ≤ length got → Tracing ps ms w n held stale order got n 0
+pub starts : {ps ms : List ℕ} {w n : ℕ} {held stale order got : List ℕ} → length held ≡ w → n ≤ 64 * w → First n held → Sized stale → Entered ps ms w held stale → n ≤ length order → n ≤ length got → Tracing ps ms w n held stale order got n 0
 unfolding bids before
-starts {ps} {ms} {w} {n} {held} {stale} e l f g lo lg = let o = open-first f (omega arith) in record {
-  links = record { sized = g .sized; words = e; bound = λ i q. rw o (omega (arith, g .each i q)); real = λ i q p. refl };
+starts {ps} {ms} {w} {n} {held} {stale} e l f z g lo lg = let o = open-first f (omega arith) in record {
+  links = record { sized = z; words = e; bound = λ i q. omega (arith, g .each i q, reach-open held ms w i); real = λ i q p. refl };
   count = rw o (sym (length-cells n));
   room = omega arith;
   orders = lo;
@@ -90,10 +91,10 @@ module _ {ps ms : List ℕ} {w n : ℕ} {held stale order got : List ℕ} {left 
       pub some : 0 < c
       some = gains-some (s .links) u l
 
-      pub goes : length new ≡ length stale → {rest : List ℕ} → length rest ≡ length held → Closed held (row ms w b) rest → Tracing ps ms w n rest new (set order r b) (set got r c) (left - c) (r + 1)
+      pub goes : {rest : List ℕ} → length rest ≡ length held → Closed held (row ms w b) rest → Tracing ps ms w n rest new (set order r b) (set got r c) (left - c) (r + 1)
       unfolding before bids
-      goes q {rest} e k = let o = shuts (s .links) u l e k in record {
-        links = tied (s .links) u l q e k;
+      goes {rest} e k = let o = shuts (s .links) u l e k in record {
+        links = tied (s .links) u l e k;
         count = rw (← o) (omega (arith, s .count, gains (s .links) u l, shrink (all ps ms w b .has) (openOf held)));
         room = omega (arith, s .room, some, fits);
         orders = simp length-set (s .orders);

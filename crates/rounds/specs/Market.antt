@@ -1,16 +1,16 @@
 -- A market of bids over cells as plain numbers: one price a bid, and the words of each bid's cells one after the other in one list.
 use mathlib.Core.Path.{_≡_}
-use mathlib.Core.Bool.{Bool}
+use mathlib.Core.Bool.{Bool, true, false}
 use mathlib.Core.List.{List}
 use Prim.Native.Nat.{ℕ, _+_, _*_, _≤_, _<_, min}
 use lib.ListN.{length, getD, take, drop}
 use lib.Dec.{eqb}
-use Rattle.cover.specs.Sets.{Found, nothing, found, cells}
-use Rattle.cover.specs.Greedy.{reach, pick}
+use Rattle.cover.specs.Sets.{Found, nothing, found}
+use Rattle.cover.specs.Greedy.{pick}
+use Rattle.cover.specs.CriticalPrice.{late}
 use Rattle.cells.specs.Cells.{cell, common}
-
-abbrev pub at : List ℕ → ℕ → ℕ
-at xs i = getD xs i 0
+use Rattle.cells.specs.Hops.{Hops}
+use Rattle.tournament.specs.Tournament.{at, Priced}
 
 -- the words of bid i, of w words a bid
 unfoldable pub row : List ℕ → ℕ → ℕ → List ℕ
@@ -26,20 +26,19 @@ unfoldable pub place : ℕ → Found → ℕ
 place n nothing = n
 place n (found b) = b
 
--- at most 1,000 bids at prices up to 100,000,000
-pub record Priced (ps : List ℕ) : Type 0 where
-  pub count : length ps ≤ 1000
-  pub most : (i : ℕ) → at ps i ≤ 100000000
-
--- a number of cells for each bid
-pub record Sized (ps rs : List ℕ) : Type 0 where
-  pub same : length rs ≡ length ps
+-- numbers of cells
+pub record Sized (rs : List ℕ) : Type 0 where
   pub few : (i : ℕ) → at rs i ≤ 10112
 
 pub record Market (ps ms : List ℕ) (w : ℕ) : Type 0 where
   pub priced : Priced ps
   pub size : length ms ≡ w * length ps
   pub words : w ≤ 158
+
+-- the hops of each bid's words, one bid after the other
+pub record Hopping (ps ms hop : List ℕ) (w : ℕ) : Type 0 where
+  pub size : length hop ≡ length ms
+  pub each : (i : ℕ) → i < length ps → Hops (row ms w i) (row hop w i)
 
 -- the cells that bid i reaches, and no more than was known of it: a bid of which 0 is known is out
 unfoldable pub live : List ℕ → ℕ → List ℕ → List ℕ → ℕ → ℕ
@@ -48,7 +47,7 @@ live ms w held old i = min (at old i) (common held (row ms w i))
 
 -- what is known of each bid that is not out is no less than it reaches
 pub record Known (ps ms : List ℕ) (w : ℕ) (held old : List ℕ) : Type 0 where
-  pub sized : Sized ps old
+  pub sized : Sized old
   pub most : (i : ℕ) → i < length ps → 0 < at old i → common held (row ms w i) ≤ at old i
 
 -- the round takes bid b, which reaches c cells; what is known of the bids goes from `old` to `new`
@@ -67,7 +66,19 @@ pub record First (n : ℕ) (held : List ℕ) : Type 0 where
 pub record Cleared (xs : List ℕ) : Type 0 where
   pub none : (i : ℕ) → at xs i ≡ 0
 
--- how many of the first n cells each bid has
-pub record Full (ps ms : List ℕ) (w n : ℕ) (full : List ℕ) : Type 0 where
-  pub sized : Sized ps full
-  pub each : (i : ℕ) → i < length ps → at full i ≡ reach (has ms w i) (cells n)
+-- what is known of each bid is what it has of the cells held
+pub record Entered (ps ms : List ℕ) (w : ℕ) (held new : List ℕ) : Type 0 where
+  pub each : (i : ℕ) → i < length ps → at new i ≡ common held (row ms w i)
+
+-- bid b, which asks p, comes before all others by the s cells known of it, after some of the bids were counted anew; the cells known are those that
+-- it has, or else the rival, which asks `ask` for `gain` cells, comes before it and so before all. Where no bid has cells left it is 1 for 0 cells.
+pub record Fronted (ps ms : List ℕ) (w : ℕ) (held old new : List ℕ) (rival ask gain : ℕ) (free : Bool) (b p s : ℕ) (clear : Bool) : Type 0 where
+  pub high : (i : ℕ) → at new i ≤ at old i
+  pub low : (i : ℕ) → i < length ps → live ms w held old i ≤ at new i
+  pub least : (i : ℕ) → i < length ps → 0 < at new i → (0 < s) × (p * at new i + late b i ≤ at ps i * s)
+  pub cheap : p ≤ 100000000
+  pub small : s ≤ 10112
+  pub inside : 0 < s → (b < length ps) × ((p ≡ at ps b) × (at new b ≡ s))
+  pub none : s ≡ 0 → b ≡ length ps
+  pub exact : clear ≡ false → 0 < s → s ≡ common held (row ms w b)
+  pub clear-of : clear ≡ true → (free ≡ true) × (ask * s + late rival b ≤ p * gain)

@@ -7,13 +7,19 @@ use lib.Dec.{eqb, ltb}
 use Rattle.cover.specs.Sets.{when, found}
 use Rattle.cover.specs.Greedy.{reach, keep, best, bids}
 use Rattle.cells.specs.Cells.{cell}
-use Rattle.rounds.specs.Market.{row, has, at}
+use Rattle.rounds.specs.Market.{row, has}
+use Rattle.tournament.specs.Tournament.{at}
 
 -- the numbers x below n with f x other than 0, the greatest first
 unfoldable pub opens : (ℕ → ℕ) → ℕ → List ℕ
 unfolding keep
 opens f zero = []
 opens f (suc n) = keep (eqb (f n) 0) n (opens f n)
+
+-- the cells set in the words
+unfoldable pub openOf : List ℕ → List ℕ
+unfolding opens cell
+openOf held = opens (cell held) (64 * length held)
 
 -- whether cell x is open before round g: 1 or 0
 unfoldable pub before : List ℕ → ℕ → ℕ → List ℕ → ℕ → ℕ → ℕ

@@ -1,4 +1,5 @@
 -- `multi::award` meets its contract: the room that it has itself is enough. Assumes nothing.
+use mathlib.Core.Path.{refl}
 use native.Mathlib.Omega.{arith}
 use borrow.Author.Needs.{needs}
 use Rattle.multi.proofs.award.Statement.{statement}
@@ -28,8 +29,17 @@ slice-aggregate-award-in-6 c = search needs
 slice-aggregate-award-in-7 : tie.Need-slice-aggregate-award-in-7
 slice-aggregate-award-in-7 c = search needs
 
+slice-aggregate-award-in-8 : tie.Need-slice-aggregate-award-in-8
+slice-aggregate-award-in-8 c = search needs
+
+slice-aggregate-award-in-9 : tie.Need-slice-aggregate-award-in-9
+slice-aggregate-award-in-9 c = search needs
+
+slice-aggregate-award-in-10 : tie.Need-slice-aggregate-award-in-10
+slice-aggregate-award-in-10 c = search needs
+
 award-in-requires : tie.Need-award-in-requires
-award-in-requires c κs = let P = c .before .before .before .before .before .before .before .before .before .before .before .before .before .pre in (P .0, (P .1 .1 .0, (P .1 .1 .1 .0, (P .1 .0, (P .1 .0, (omega arith, (omega arith, (omega arith, (omega arith, (omega arith, P .1 .1 .1 .1))))))))))
+award-in-requires c κs = let P = c .before .before .before .before .before .before .before .before .before .before .before .before .before .before .before .before .pre in (P .0, (P .1 .1 .0, (P .1 .1 .1 .0, (P .1 .0, (P .1 .0, (omega arith, (omega arith, (omega arith, (omega arith, (omega arith, (refl, (refl, (refl, P .1 .1 .1 .1)))))))))))))
 
 same-length : tie.Need-same-length
 same-length c = search needs
@@ -51,6 +61,9 @@ award-spec =
     slice-aggregate-award-in-5
     slice-aggregate-award-in-6
     slice-aggregate-award-in-7
+    slice-aggregate-award-in-8
+    slice-aggregate-award-in-9
+    slice-aggregate-award-in-10
     award-in-requires
     same-length
     same-length-2

@@ -2,8 +2,9 @@
 use Prim.Native.Nat.{ℕ, _≤_, _<_, _*_, _+_, _-_}
 use mathlib.Core.Path.{_≡_, refl, _∙_, sym, ap}
 use native.Mathlib.Omega.{arith}
-use lib.ListN.{length}
+use lib.ListN.{length, length-append, length-drop}
 use lib.Seq.{length-take-le}
+use Rattle.tournament.proofs.Order.{product}
 use Rattle.multi.proofs.Along.{settles}
 use borrow.Author.Needs.{needs}
 use Rattle.multi.proofs.award_in.Statement.{statement}
@@ -12,80 +13,53 @@ use Rattle.multi.proofs.award_in.Reads as reads
 use Rattle.multi.proofs.award_in.Lts as lts
 use Rattle.multi.proofs.settle.Reads as settle-reads
 
+mul-v : tie.Need-mul-v
+mul-v c = let P = c .before .before .before .before .before .before .before .before .before .before .before .before .before .before .pre in let A = c .before .before .before .before .before .before .before .before .before .before .before .before .before .before .args in omega (arith, P .0 .words)
+
 slice-relend-prefix-settle : tie.Need-slice-relend-prefix-settle
-slice-relend-prefix-settle c = search needs
+slice-relend-prefix-settle c = let P = c .before .before .before .before .before .before .before .before .before .before .before .before .before .before .before .before .pre in let A = c .before .before .before .before .before .before .before .before .before .before .before .before .before .before .before .before .args in omega (arith, product (A .w) (length (A .prices .now)) 158 1000 (P .0 .words) (P .0 .priced .count), P .0 .size, P .1 .1 .1 .1 .1 .0)
 
 slice-aggregate-settle : tie.Need-slice-aggregate-settle
-slice-aggregate-settle c = let P = c .before .before .before .before .before .before .before .before .before .before .before .before .before .before .pre in sym (length-take-le _ (c .before .before .before .before .before .before .before .before .before .before .before .before .before .before .args .full .now) (omega (arith, P .0 .priced .count, P .1 .1 .1 .1 .1 .0)))
+slice-aggregate-settle c = let P = c .before .before .before .before .before .before .before .before .before .before .before .before .before .before .before .before .before .pre in let A = c .before .before .before .before .before .before .before .before .before .before .before .before .before .before .before .before .before .args in sym (length-take-le _ (A .hop .now) (omega (arith, product (A .w) (length (A .prices .now)) 158 1000 (P .0 .words) (P .0 .priced .count), P .0 .size, P .1 .1 .1 .1 .1 .0)))
 
 slice-relend-prefix-settle-2 : tie.Need-slice-relend-prefix-settle-2
 slice-relend-prefix-settle-2 c = search needs
 
 slice-aggregate-settle-2 : tie.Need-slice-aggregate-settle-2
-slice-aggregate-settle-2 c = let P = c .before .before .before .before .before .before .before .before .before .before .before .before .before .before .before .pre in sym (length-take-le _ (c .before .before .before .before .before .before .before .before .before .before .before .before .before .before .before .args .held .now) (omega (arith, P .0 .words, P .1 .1 .1 .1 .1 .1 .0)))
+slice-aggregate-settle-2 c = let P = c .before .before .before .before .before .before .before .before .before .before .before .before .before .before .before .before .before .before .pre in let A = c .before .before .before .before .before .before .before .before .before .before .before .before .before .before .before .before .before .before .args in sym (length-take-le _ (A .index .now) (omega (arith, P .0 .words, P .1 .1 .1 .1 .1 .1 .0)))
 
 slice-relend-prefix-settle-3 : tie.Need-slice-relend-prefix-settle-3
 slice-relend-prefix-settle-3 c = search needs
 
 slice-aggregate-settle-3 : tie.Need-slice-aggregate-settle-3
-slice-aggregate-settle-3 c = let P = c .before .before .before .before .before .before .before .before .before .before .before .before .before .before .before .before .pre in sym (length-take-le _ (c .before .before .before .before .before .before .before .before .before .before .before .before .before .before .before .before .args .alt .now) (omega (arith, P .0 .words, P .1 .1 .1 .1 .1 .1 .1 .0)))
+slice-aggregate-settle-3 c = let P = c .before .before .before .before .before .before .before .before .before .before .before .before .before .before .before .before .before .before .before .pre in let A = c .before .before .before .before .before .before .before .before .before .before .before .before .before .before .before .before .before .before .before .args in sym (length-take-le _ (A .held .now) (omega (arith, P .0 .words, P .1 .1 .1 .1 .1 .1 .1 .0)))
 
 slice-relend-prefix-settle-4 : tie.Need-slice-relend-prefix-settle-4
 slice-relend-prefix-settle-4 c = search needs
 
 slice-aggregate-settle-4 : tie.Need-slice-aggregate-settle-4
-slice-aggregate-settle-4 c = let P = c .before .before .before .before .before .before .before .before .before .before .before .before .before .before .before .before .before .pre in sym (length-take-le _ (c .before .before .before .before .before .before .before .before .before .before .before .before .before .before .before .before .before .args .stale .now) (omega (arith, P .0 .priced .count, P .1 .1 .1 .1 .1 .1 .1 .1 .0)))
+slice-aggregate-settle-4 c = let P = c .before .before .before .before .before .before .before .before .before .before .before .before .before .before .before .before .before .before .before .before .pre in let A = c .before .before .before .before .before .before .before .before .before .before .before .before .before .before .before .before .before .before .before .before .args in sym (length-take-le _ (A .alt .now) (omega (arith, P .0 .words, P .1 .1 .1 .1 .1 .1 .1 .1 .0)))
 
 slice-relend-prefix-settle-5 : tie.Need-slice-relend-prefix-settle-5
 slice-relend-prefix-settle-5 c = search needs
 
 slice-aggregate-settle-5 : tie.Need-slice-aggregate-settle-5
-slice-aggregate-settle-5 c = let P = c .before .before .before .before .before .before .before .before .before .before .before .before .before .before .before .before .before .before .pre in sym (length-take-le _ (c .before .before .before .before .before .before .before .before .before .before .before .before .before .before .before .before .before .before .args .mark .now) (omega (arith, P .0 .priced .count, P .1 .1 .1 .1 .1 .1 .1 .1 .1 .0)))
+slice-aggregate-settle-5 c = let P = c .before .before .before .before .before .before .before .before .before .before .before .before .before .before .before .before .before .before .before .before .before .pre in let A = c .before .before .before .before .before .before .before .before .before .before .before .before .before .before .before .before .before .before .before .before .before .args in sym (length-take-le _ (A .counts .now) (omega (arith, P .0 .words, P .1 .1 .1 .1 .1 .1 .1 .1 .1 .0)))
 
 slice-relend-prefix-settle-6 : tie.Need-slice-relend-prefix-settle-6
-slice-relend-prefix-settle-6 c = search needs
+slice-relend-prefix-settle-6 c = let P = c .before .before .before .before .before .before .before .before .before .before .before .before .before .before .before .before .before .before .before .before .before .before .before .before .pre in let A = c .before .before .before .before .before .before .before .before .before .before .before .before .before .before .before .before .before .before .before .before .before .before .before .before .args in P .1 .1 .1 .1 .1 .1 .1 .1 .1 .1 .1 .1 .1 .0
 
 slice-aggregate-settle-6 : tie.Need-slice-aggregate-settle-6
-slice-aggregate-settle-6 c = let P = c .before .before .before .before .before .before .before .before .before .before .before .before .before .before .before .before .before .before .before .pre in sym (length-take-le _ (c .before .before .before .before .before .before .before .before .before .before .before .before .before .before .before .before .before .before .before .args .won .now) (P .1 .1 .1 .1 .1 .1 .1 .1 .1 .1 .0))
+slice-aggregate-settle-6 c = let P = c .before .before .before .before .before .before .before .before .before .before .before .before .before .before .before .before .before .before .before .before .before .before .before .before .before .pre in let A = c .before .before .before .before .before .before .before .before .before .before .before .before .before .before .before .before .before .before .before .before .before .before .before .before .before .args in sym (length-take-le _ (A .won .now) (P .1 .1 .1 .1 .1 .1 .1 .1 .1 .1 .1 .1 .1 .0))
 
 slice-relend-prefix-settle-7 : tie.Need-slice-relend-prefix-settle-7
-slice-relend-prefix-settle-7 c = search needs
+slice-relend-prefix-settle-7 c = let P = c .before .before .before .before .before .before .before .before .before .before .before .before .before .before .before .before .before .before .before .before .before .before .before .before .before .pre in let A = c .before .before .before .before .before .before .before .before .before .before .before .before .before .before .before .before .before .before .before .before .before .before .before .before .before .args in P .1 .1 .1 .1 .1 .1 .1 .1 .1 .1 .1 .1 .1 .1
 
 slice-aggregate-settle-7 : tie.Need-slice-aggregate-settle-7
-slice-aggregate-settle-7 c = let P = c .before .before .before .before .before .before .before .before .before .before .before .before .before .before .before .before .before .before .before .before .pre in sym (length-take-le _ (c .before .before .before .before .before .before .before .before .before .before .before .before .before .before .before .before .before .before .before .before .args .cents .now) (P .1 .1 .1 .1 .1 .1 .1 .1 .1 .1 .1))
+slice-aggregate-settle-7 c = let P = c .before .before .before .before .before .before .before .before .before .before .before .before .before .before .before .before .before .before .before .before .before .before .before .before .before .before .pre in let A = c .before .before .before .before .before .before .before .before .before .before .before .before .before .before .before .before .before .before .before .before .before .before .before .before .before .before .args in sym (length-take-le _ (A .cents .now) (P .1 .1 .1 .1 .1 .1 .1 .1 .1 .1 .1 .1 .1 .1))
 
 settle-requires : tie.Need-settle-requires
-settle-requires c κs = let P = c .before .before .before .before .before .before .before .before .before .before .before .before .before .before .before .before .before .before .before .before .pre in let Q = P .1 .1 .1 .1 .1 in let A = c .before .before .before .before .before .before .before .before .before .before .before .before .before .before .before .before .before .before .before .before .args in (
-  P .0,
-  (
-    P .1 .0,
-    (
-      P .1 .1 .0,
-      (
-        P .1 .1 .1 .0,
-        (
-          P .1 .1 .1 .1 .0,
-          (
-            length-take-le _ (A .full .now) (omega (arith, P .0 .priced .count, Q .0)),
-            (
-              length-take-le _ (A .held .now) (omega (arith, P .0 .words, Q .1 .0)),
-              (
-                length-take-le _ (A .alt .now) (omega (arith, P .0 .words, Q .1 .1 .0)),
-                (
-                  length-take-le _ (A .stale .now) (omega (arith, P .0 .priced .count, Q .1 .1 .1 .0)),
-                  (
-                    length-take-le _ (A .mark .now) (omega (arith, P .0 .priced .count, Q .1 .1 .1 .1 .0)),
-                    (length-take-le _ (A .won .now) (Q .1 .1 .1 .1 .1 .0), length-take-le _ (A .cents .now) (Q .1 .1 .1 .1 .1 .1)),
-                  ),
-                ),
-              ),
-            ),
-          ),
-        ),
-      ),
-    ),
-  ),
-)
+settle-requires c κs = let P = c .before .before .before .before .before .before .before .before .before .before .before .before .before .before .before .before .before .before .before .before .before .before .before .before .before .before .pre in let A = c .before .before .before .before .before .before .before .before .before .before .before .before .before .before .before .before .before .before .before .before .before .before .before .before .before .before .args in (P .0, (P .1 .0, (P .1 .1 .0, (P .1 .1 .1 .0, (P .1 .1 .1 .1 .0, (length-take-le _ (A .hop .now) (omega (arith, product (A .w) (length (A .prices .now)) 158 1000 (P .0 .words) (P .0 .priced .count), P .0 .size, P .1 .1 .1 .1 .1 .0)), (length-take-le _ (A .index .now) (omega (arith, P .0 .words, P .1 .1 .1 .1 .1 .1 .0)), (length-take-le _ (A .held .now) (omega (arith, P .0 .words, P .1 .1 .1 .1 .1 .1 .1 .0)), (length-take-le _ (A .alt .now) (omega (arith, P .0 .words, P .1 .1 .1 .1 .1 .1 .1 .1 .0)), (length-take-le _ (A .counts .now) (omega (arith, P .0 .words, P .1 .1 .1 .1 .1 .1 .1 .1 .1 .0)), (P .1 .1 .1 .1 .1 .1 .1 .1 .1 .1 .0, (P .1 .1 .1 .1 .1 .1 .1 .1 .1 .1 .1 .0, (P .1 .1 .1 .1 .1 .1 .1 .1 .1 .1 .1 .1 .0, (length-take-le _ (A .won .now) (P .1 .1 .1 .1 .1 .1 .1 .1 .1 .1 .1 .1 .1 .0), length-take-le _ (A .cents .now) (P .1 .1 .1 .1 .1 .1 .1 .1 .1 .1 .1 .1 .1 .1)))))))))))))))
 
 same-length : tie.Need-same-length
 same-length c = search needs
@@ -97,7 +71,7 @@ same-length-3 : tie.Need-same-length-3
 same-length-3 c = search needs
 
 same-length-4 : tie.Need-same-length-4
-same-length-4 c = search needs
+same-length-4 c = let P = c .before .before .before .before .before .before .before .before .before .before .before .before .before .before .before .before .before .before .before .before .before .before .before .before .before .before .before .before .before .before .before .before .before .before .before .before .before .before .before .before .before .before .before .before .before .before .before .before .before .before .before .pre in let A = c .before .before .before .before .before .before .before .before .before .before .before .before .before .before .before .before .before .before .before .before .before .before .before .before .before .before .before .before .before .before .before .before .before .before .before .before .before .before .before .before .before .before .before .before .before .before .before .before .before .before .before .args in let i : 16 * A .w ≤ length (A .index .now) = omega (arith, P .0 .words, P .1 .1 .1 .1 .1 .1 .0) in simp (length-append, length-drop) (omega (arith, c .before .before .before .before .before .before .before .before .before .before .before .before .before .before .before .before .before .before .before .before .before .before .before .before .settle .kept .1 .1 .1 .1 .1 .1 .1 .0 ∙ length-take-le (16 * A .w) (A .index .now) i))
 
 same-length-5 : tie.Need-same-length-5
 same-length-5 c = search needs
@@ -114,13 +88,23 @@ same-length-8 c = search needs
 same-length-9 : tie.Need-same-length-9
 same-length-9 c = search needs
 
+same-length-10 : tie.Need-same-length-10
+same-length-10 c = search needs
+
+same-length-11 : tie.Need-same-length-11
+same-length-11 c = search needs
+
+same-length-12 : tie.Need-same-length-12
+same-length-12 c = search needs
+
 returns : tie.Need-returns
-returns c = settles (c .before .before .before .before .before .before .before .before .before .before .before .before .before .before .before .before .before .before .before .before .before .before .before .before .before .before .before .before .before .before .before .before .before .before .before .before .before .before .before .args .won .now) (c .before .before .before .before .before .before .before .before .before .before .before .before .before .before .before .before .before .before .before .before .before .before .before .before .before .before .before .before .before .before .before .before .before .before .before .before .before .before .before .args .cents .now) (c .before .before .before .before .before .before .before .before .before .before .before .before .before .before .before .before .before .before .settle .ensures)
+returns c = settles (c .before .before .before .before .before .before .before .before .before .before .before .before .before .before .before .before .before .before .before .before .before .before .before .before .before .before .before .before .before .before .before .before .before .before .before .before .before .before .before .before .before .before .before .before .before .before .before .before .before .before .before .args .won .now) (c .before .before .before .before .before .before .before .before .before .before .before .before .before .before .before .before .before .before .before .before .before .before .before .before .before .before .before .before .before .before .before .before .before .before .before .before .before .before .before .before .before .before .before .before .before .before .before .before .before .before .before .args .cents .now) (c .before .before .before .before .before .before .before .before .before .before .before .before .before .before .before .before .before .before .before .before .before .before .before .before .settle .ensures)
 
 pub award-in-spec : {M : Type 1} → statement M
 award-in-spec =
     tie.close
     (tie.spec
+    mul-v
     slice-relend-prefix-settle
     slice-aggregate-settle
     slice-relend-prefix-settle-2
@@ -145,4 +129,7 @@ award-in-spec =
     same-length-7
     same-length-8
     same-length-9
+    same-length-10
+    same-length-11
+    same-length-12
     returns)

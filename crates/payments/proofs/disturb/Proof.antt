@@ -1,87 +1,99 @@
--- `payments::disturb` meets its contract. Assumes nothing.
-use Prim.Native.Nat.{ℕ, _≤_, _<_, _*_, _+_, _-_}
-use mathlib.Core.Path.{_≡_, refl, _∙_, sym}
+-- `payments::disturb` meets its contract: before word q the bids that share an open cell with bid j in the words below q are marked. Assumes nothing.
+use Prim.Native.Nat.{ℕ, _+_, _-_, _*_, _/_, _≤_, _<_}
+use mathlib.Core.Path.{_≡_, refl, sym, ap, _∙_}
+use mathlib.Core.Bool.{Bool, true, false}
 use native.Mathlib.Omega.{arith}
-use lib.ListN.{length, length-set}
-use Rattle.payments.proofs.Disturbing.{Disturbing, begins, passes, leaves, adds, ends}
-use Rattle.rounds.proofs.Begin.{common-few}
-use Rattle.rounds.proofs.Rows.{row-in}
+use lib.ListN.{length, getD, set, length-set}
+use lib.Bits.{bitAnd}
+use Rattle.cells.specs.Cells.{cell, common}
+use Rattle.cells.specs.Hops.{Counted, Next}
+use Rattle.tournament.specs.Tournament.{at, known, Tournament}
 use Rattle.rounds.specs.Market.{row}
+use Rattle.rounds.proofs.Rows.{part-row, row-in, row-length}
+use Rattle.rounds.proofs.Fronting.{not-clear}
+use Rattle.tournament.proofs.Order.{product}
+use Rattle.payments.proofs.Spreading.{Disturbing, starts, goes, ends-all, row-at}
 use Rattle.payments.proofs.disturb.Statement.{statement}
 use Rattle.payments.proofs.disturb.Tie as tie
 use Rattle.payments.proofs.disturb.Reads as reads
 use Rattle.payments.proofs.disturb.Lts as lts
-use Rattle.rounds.proofs.overlap.Reads as overlap-reads
-use Rattle.payments.proofs.touches.Reads as touches-reads
+use Rattle.cells.proofs.onward.Reads as onward-reads
+use Rattle.payments.proofs.spread.Reads as spread-reads
 
 abbrev Inv-loop : tie.InvT-loop
-Inv-loop prices masks w alt j stale₀ mark₀ i₀ stale mark i = (i ≤ length prices) × Disturbing prices masks w alt j stale₀ mark₀ stale mark i
+Inv-loop prices masks hop index w alt counts j who₀ num₀ mark₀ a e q₀ who num mark q = Disturbing prices masks w alt j (known num₀) mark₀ (known num) mark q × ((q ≤ w) × (Tournament prices who num × (length mark ≡ 16)))
 
 abbrev μ-loop : tie.MeasureT-loop
-μ-loop prices masks w alt j stale₀ mark₀ i₀ stale mark i = length prices - i
+μ-loop prices masks hop index w alt counts j who₀ num₀ mark₀ a e q₀ who num mark q = w - q
+
+mul-a : tie.Need-mul-a Inv-loop μ-loop
+mul-a c = let P = c .before .before .before .before .before .before .before .before .before .pre in let A = c .before .before .before .before .before .before .before .before .before .args in omega (arith, row-in (A .prices .now) (A .masks .now) (A .w) (A .j) (P .0) (P .1 .1 .1 .1 .1 .0))
+
+add-e : tie.Need-add-e Inv-loop μ-loop
+add-e c = let P = c .before .before .before .before .before .before .before .before .before .pre in let A = c .before .before .before .before .before .before .before .before .before .args in omega (arith, row-in (A .prices .now) (A .masks .now) (A .w) (A .j) (P .0) (P .1 .1 .1 .1 .1 .0))
 
 loop-holds : tie.Need-loop-holds Inv-loop μ-loop
-loop-holds c = (omega arith, begins (c .before .before .before .before .before .pre .1 .1 .1 .0))
+loop-holds c = let P = c .before .before .before .before .before .before .before .before .before .pre in let A = c .before .before .before .before .before .before .before .before .before .args in (starts (A .prices .now) (A .masks .now) (A .w) (A .alt .now) (A .j) (known (A .num .now)) (A .mark .now), (omega arith, P .1 .1 .1 .1 .1 .1))
 
-mul-if1 : tie.Need-mul-if1 Inv-loop μ-loop
-mul-if1 c = omega (arith, c .before .before .before .before .before .before .before .pre .0 .priced .count)
+mul-m : tie.Need-mul-m Inv-loop μ-loop
+mul-m c = omega arith
 
-slice-read-if1 : tie.Need-slice-read-if1 Inv-loop μ-loop
-slice-read-if1 c = omega (arith, c .before .before .loop .inv .1 .marks, c .before .before .before .before .before .before .before .before .pre .1 .1 .1 .1)
+shared-slice-read-m : tie.Need-shared-slice-read-m Inv-loop μ-loop
+shared-slice-read-m c = let P = c .before .before .before .before .before .before .before .before .before .before .before .before .pre in omega (arith, P .1 .1 .1 .0)
 
-touches-requires : tie.Need-touches-requires Inv-loop μ-loop
-touches-requires c κs = let S = c .before .before .before .before .before .before .before .before .before in let A = S .args in (S .pre .1 .0, (row-in (A .prices .now) (A .masks .now) (A .w) (c .before .before .before .loop .i) (S .pre .0) (omega arith), row-in (A .prices .now) (A .masks .now) (A .w) (A .j) (S .pre .0) (S .pre .1 .1 .0)))
+add-m : tie.Need-add-m Inv-loop μ-loop
+add-m c = let P = c .before .before .before .before .before .before .before .before .before .before .before .before .pre in let A = c .before .before .before .before .before .before .before .before .before .before .before .before .args in omega (arith, row-in (A .prices .now) (A .masks .now) (A .w) (A .j) (P .0) (P .1 .1 .1 .1 .1 .0))
 
-overlap-requires : tie.Need-overlap-requires Inv-loop μ-loop
-overlap-requires c κs = let S = c .before .before .before .before .before .before .before .before .before .before .before in let A = S .args in (S .pre .1 .0, (S .pre .0 .words, row-in (A .prices .now) (A .masks .now) (A .w) (c .before .before .before .before .before .loop .i) (S .pre .0) (omega arith)))
+mul-m-2 : tie.Need-mul-m-2 Inv-loop μ-loop
+mul-m-2 c = let P = c .before .before .before .before .before .before .before .before .before .before .before .before .pre in let A = c .before .before .before .before .before .before .before .before .before .before .before .before .args in omega (arith, row-in (A .prices .now) (A .masks .now) (A .w) (A .j) (P .0) (P .1 .1 .1 .1 .1 .0))
 
-mul-stale : tie.Need-mul-stale Inv-loop μ-loop
-mul-stale c = omega (arith, c .before .before .before .before .before .before .before .before .before .before .before .before .pre .0 .priced .count)
+shared-slice-read-m-2 : tie.Need-shared-slice-read-m-2 Inv-loop μ-loop
+shared-slice-read-m-2 c = let P = c .before .before .before .before .before .before .before .before .before .before .before .before .before .pre in let A = c .before .before .before .before .before .before .before .before .before .before .before .before .before .args in omega (arith, row-in (A .prices .now) (A .masks .now) (A .w) (A .j) (P .0) (P .1 .1 .1 .1 .1 .0))
 
-slice-write-stale : tie.Need-slice-write-stale Inv-loop μ-loop
-slice-write-stale c = omega (arith, c .before .before .before .before .before .before .loop .inv .1 .sized .same)
+spread-requires : tie.Need-spread-requires Inv-loop μ-loop
+spread-requires c κs = let P = c .before .before .before .before .before .before .before .before .before .before .before .before .before .before .before .before .pre in (P .0, (P .1 .0, (P .1 .1 .0, (P .1 .1 .1 .0, (P .1 .1 .1 .1 .0, (c .before .before .before .before .before .loop-test .taken, c .before .before .before .before .before .before .loop .inv .1 .1))))))
 
-mul-mark : tie.Need-mul-mark Inv-loop μ-loop
-mul-mark c = omega (arith, c .before .before .before .before .before .before .before .before .before .before .before .before .pre .0 .priced .count)
+mul-onward : tie.Need-mul-onward Inv-loop μ-loop
+mul-onward c = let P = c .before .before .before .before .before .before .before .before .before .before .before .before .before .before .before .before .before .before .before .before .before .before .before .pre in let A = c .before .before .before .before .before .before .before .before .before .before .before .before .before .before .before .before .before .before .before .before .before .before .before .args in omega (arith, product (A .w) (A .j) 158 1000 (P .0 .words) (omega (arith, P .1 .1 .1 .1 .1 .0, P .0 .priced .count)))
 
-slice-write-mark : tie.Need-slice-write-mark Inv-loop μ-loop
-slice-write-mark c = omega (arith, c .before .before .before .before .before .before .loop .inv .1 .marks, c .before .before .before .before .before .before .before .before .before .before .before .before .pre .1 .1 .1 .1)
+sub-onward : tie.Need-sub-onward Inv-loop μ-loop
+sub-onward c = let P = c .before .before .before .before .before .before .before .before .before .before .before .before .before .before .before .before .before .before .before .before .before .before .before .pre in let A = c .before .before .before .before .before .before .before .before .before .before .before .before .before .before .before .before .before .before .before .before .before .before .before .args in omega (arith, row-in (A .prices .now) (A .masks .now) (A .w) (A .j) (P .0) (P .1 .1 .1 .1 .1 .0))
 
-add-i : tie.Need-add-i Inv-loop μ-loop
-add-i c = omega arith
+part-onward-start : tie.Need-part-onward-start Inv-loop μ-loop
+part-onward-start c = let P = c .before .before .before .before .before .before .before .before .before .before .before .before .before .before .before .before .before .before .before .before .before .before .before .pre in let A = c .before .before .before .before .before .before .before .before .before .before .before .before .before .before .before .before .before .before .before .before .before .before .before .args in omega (arith, row-in (A .prices .now) (A .masks .now) (A .w) (A .j) (P .0) (P .1 .1 .1 .1 .1 .0))
+
+part-onward-end : tie.Need-part-onward-end Inv-loop μ-loop
+part-onward-end c = let P = c .before .before .before .before .before .before .before .before .before .before .before .before .before .before .before .before .before .before .before .before .before .before .before .pre in let A = c .before .before .before .before .before .before .before .before .before .before .before .before .before .before .before .before .before .before .before .before .before .before .before .args in row-in (A .prices .now) (A .masks .now) (A .w) (A .j) (P .0) (P .1 .1 .1 .1 .1 .0)
+
+sub-onward-2 : tie.Need-sub-onward-2 Inv-loop μ-loop
+sub-onward-2 c = let P = c .before .before .before .before .before .before .before .before .before .before .before .before .before .before .before .before .before .before .before .before .before .before .before .before .pre in let A = c .before .before .before .before .before .before .before .before .before .before .before .before .before .before .before .before .before .before .before .before .before .before .before .before .args in omega (arith, row-in (A .prices .now) (A .masks .now) (A .w) (A .j) (P .0) (P .1 .1 .1 .1 .1 .0))
+
+part-onward-start-2 : tie.Need-part-onward-start-2 Inv-loop μ-loop
+part-onward-start-2 c = let P = c .before .before .before .before .before .before .before .before .before .before .before .before .before .before .before .before .before .before .before .before .before .before .before .before .pre in let A = c .before .before .before .before .before .before .before .before .before .before .before .before .before .before .before .before .before .before .before .before .before .before .before .before .args in omega (arith, row-in (A .prices .now) (A .masks .now) (A .w) (A .j) (P .0) (P .1 .1 .1 .1 .1 .0))
+
+part-onward-end-2 : tie.Need-part-onward-end-2 Inv-loop μ-loop
+part-onward-end-2 c = let P = c .before .before .before .before .before .before .before .before .before .before .before .before .before .before .before .before .before .before .before .before .before .before .before .before .pre in let A = c .before .before .before .before .before .before .before .before .before .before .before .before .before .before .before .before .before .before .before .before .before .before .before .before .args in omega (arith, row-in (A .prices .now) (A .masks .now) (A .w) (A .j) (P .0) (P .1 .1 .1 .1 .1 .0), P .1 .0 .size)
+
+onward-requires : tie.Need-onward-requires Inv-loop μ-loop
+onward-requires c κs = let P = c .before .before .before .before .before .before .before .before .before .before .before .before .before .before .before .before .before .before .before .before .before .before .before .before .before .pre in let A = c .before .before .before .before .before .before .before .before .before .before .before .before .before .before .before .before .before .before .before .before .before .before .before .before .before .args in let e = row-length (A .masks .now) (A .w) (A .j) (row-in (A .prices .now) (A .masks .now) (A .w) (A .j) (P .0) (P .1 .1 .1 .1 .1 .0)) in rw (part-row (A .masks .now) (A .w) (A .j), part-row (A .hop .now) (A .w) (A .j)) ((P .1 .0 .each (A .j) (P .1 .1 .1 .1 .1 .0), (omega (arith, c .before .before .before .before .before .before .before .before .before .before .before .before .before .before .loop-test .taken), omega (arith, P .0 .words))))
 
 loop-less : tie.Need-loop-less Inv-loop μ-loop
-loop-less c = omega arith
+loop-less c = let A = c .before .before .before .before .before .before .before .before .before .before .before .before .before .before .before .before .before .before .before .before .before .before .before .before .before .before .args in let n = rw (part-row (A .masks .now) (A .w) (A .j)) at (c .onward .ensures) in omega (arith, n .on, c .before .before .before .before .before .before .before .before .before .before .before .before .before .before .before .loop-test .taken)
 
 loop-again : tie.Need-loop-again Inv-loop μ-loop
-loop-again c = let S = c .before .before .before .before .before .before .before .before .before .before .before .before in let A = S .args in (omega arith, adds (c .before .before .before .before .before .before .loop .inv .1) (c .overlap .ensures) (c .before .before .before .if1 .taken) (omega (arith, c .before .before .before .before .before .before .loop .inv .1 .sized .same)) (omega (arith, c .before .before .before .before .before .before .loop .inv .1 .marks, S .pre .1 .1 .1 .1)) (rw (c .overlap .ensures) (common-few (A .alt .now) (row (A .masks .now) (A .w) (c .before .before .before .before .before .before .loop .i)) (omega (arith, S .pre .1 .0, S .pre .0 .words)))))
-
-add-i-2 : tie.Need-add-i-2 Inv-loop μ-loop
-add-i-2 c = omega arith
-
-loop-less-2 : tie.Need-loop-less-2 Inv-loop μ-loop
-loop-less-2 c = omega arith
-
-loop-again-2 : tie.Need-loop-again-2 Inv-loop μ-loop
-loop-again-2 c = (omega arith, leaves (c .before .before .before .before .before .loop .inv .1) (c .before .touches .ensures (c .if2 .left)))
-
-add-i-3 : tie.Need-add-i-3 Inv-loop μ-loop
-add-i-3 c = omega arith
-
-loop-less-3 : tie.Need-loop-less-3 Inv-loop μ-loop
-loop-less-3 c = omega arith
-
-loop-again-3 : tie.Need-loop-again-3 Inv-loop μ-loop
-loop-again-3 c = (omega arith, passes (c .before .before .before .loop .inv .1) (c .if1 .left))
+loop-again c = let P = c .before .before .before .before .before .before .before .before .before .before .before .before .before .before .before .before .before .before .before .before .before .before .before .before .before .before .pre in let A = c .before .before .before .before .before .before .before .before .before .before .before .before .before .before .before .before .before .before .before .before .before .before .before .before .before .before .args in let n = rw (part-row (A .masks .now) (A .w) (A .j)) at (c .onward .ensures) in (goes (c .before .before .before .before .before .before .before .before .before .before .before .before .before .before .before .before .loop .inv .0) (ap (bitAnd (at (A .alt .now) (c .before .before .before .before .before .before .before .before .before .before .before .before .before .before .before .before .loop .q))) (sym (row-at (A .masks .now) (A .w) (A .j) (c .before .before .before .before .before .before .before .before .before .before .before .before .before .before .before .before .loop .q) (c .before .before .before .before .before .before .before .before .before .before .before .before .before .before .before .loop-test .taken)))) (c .before .before .before .before .before .before .before .before .before .spread .ensures .1) n, (omega (arith, n .within, row-length (A .masks .now) (A .w) (A .j) (row-in (A .prices .now) (A .masks .now) (A .w) (A .j) (P .0) (P .1 .1 .1 .1 .1 .0))), (c .before .before .before .before .before .before .before .before .before .spread .ensures .0, c .before .before .before .before .before .before .before .before .before .spread .kept .1 .1 .1 .1 .1 .1 .1 .1 .1 .1 .1 .0 ∙ c .before .before .before .before .before .before .before .before .before .before .before .before .before .before .before .before .loop .inv .1 .1 .1)))
 
 same-length : tie.Need-same-length Inv-loop μ-loop
-same-length c = c .before .loop .inv .1 .sized .same ∙ sym (c .before .before .before .before .before .before .before .pre .1 .1 .1 .0 .same)
+same-length c = c .before .loop .inv .1 .1 .0 .seats .players ∙ sym (c .before .before .before .before .before .before .before .before .before .before .before .pre .1 .1 .1 .1 .1 .1 .0 .seats .players)
 
 same-length-2 : tie.Need-same-length-2 Inv-loop μ-loop
-same-length-2 c = c .before .loop .inv .1 .marks
+same-length-2 c = c .before .loop .inv .1 .1 .0 .seats .numbers ∙ sym (c .before .before .before .before .before .before .before .before .before .before .before .pre .1 .1 .1 .1 .1 .1 .0 .seats .numbers)
+
+same-length-3 : tie.Need-same-length-3 Inv-loop μ-loop
+same-length-3 c = c .before .loop .inv .1 .1 .1 ∙ sym (c .before .before .before .before .before .before .before .before .before .before .before .pre .1 .1 .1 .1 .1 .1 .1)
 
 returns : tie.Need-returns Inv-loop μ-loop
-returns c = ends (c .before .loop .inv .1) (omega arith)
+returns c = (c .before .loop .inv .1 .1 .0, ends-all (c .before .loop .inv .0) (omega (arith, c .before .before .before .before .before .before .before .before .before .before .before .pre .1 .1 .1 .0)))
 
 pub disturb-spec : {M : Type 1} → statement M
 disturb-spec =
@@ -89,24 +101,26 @@ disturb-spec =
     (tie.spec
     Inv-loop
     μ-loop
+    mul-a
+    add-e
     loop-holds
-    mul-if1
-    slice-read-if1
-    touches-requires
-    overlap-requires
-    mul-stale
-    slice-write-stale
-    mul-mark
-    slice-write-mark
-    add-i
+    mul-m
+    shared-slice-read-m
+    add-m
+    mul-m-2
+    shared-slice-read-m-2
+    spread-requires
+    mul-onward
+    sub-onward
+    part-onward-start
+    part-onward-end
+    sub-onward-2
+    part-onward-start-2
+    part-onward-end-2
+    onward-requires
     loop-less
     loop-again
-    add-i-2
-    loop-less-2
-    loop-again-2
-    add-i-3
-    loop-less-3
-    loop-again-3
     same-length
     same-length-2
+    same-length-3
     returns)

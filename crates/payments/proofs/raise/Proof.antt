@@ -5,7 +5,7 @@ use native.Mathlib.Nat.{div-le-self}
 use native.Mathlib.Omega.{arith}
 use borrow.Author.Needs.{needs}
 use Rattle.payments.proofs.Limiting.{raise-zero, raise-late, raise-early}
-use Rattle.rounds.proofs.Lead.{product}
+use Rattle.tournament.proofs.Order.{product}
 use Rattle.payments.proofs.raise.Statement.{statement}
 use Rattle.payments.proofs.raise.Tie as tie
 use Rattle.payments.proofs.raise.Reads as reads

@@ -3,7 +3,7 @@ use mathlib.Core.Path.{_≡_, refl, ap, sym, _∙_}
 use native.Mathlib.Omega.{arith}
 use lib.ListN.{length, getD, set, length-set}
 use Rattle.rounds.proofs.Filling.{Filling, none, more, cleared, copied}
-use Rattle.rounds.specs.Market.{at}
+use Rattle.tournament.specs.Tournament.{at}
 use Rattle.rounds.proofs.clear.Statement.{statement}
 use Rattle.rounds.proofs.clear.Tie as tie
 use Rattle.rounds.proofs.clear.Reads as reads

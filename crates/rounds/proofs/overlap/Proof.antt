@@ -1,6 +1,13 @@
-use mathlib.Core.Path.{_≡_, ap, _∙_}
-use Rattle.cells.specs.Cells.{common, Closed}
-use Rattle.rounds.proofs.Rows.{part-row}
+-- `rounds::overlap` meets its contract: the bid's words are a part of all the words. Assumes nothing.
+use Prim.Native.Nat.{ℕ, _+_, _-_, _*_, _/_, _≤_, _<_}
+use mathlib.Core.Path.{_≡_, refl, sym, ap, _∙_}
+use native.Mathlib.Omega.{arith}
+use lib.ListN.{length, getD, set, length-set}
+use Rattle.cover.specs.CriticalPrice.{sum}
+use Rattle.cells.specs.Cells.{common}
+use Rattle.cells.specs.Hops.{Counted}
+use Rattle.tournament.specs.Tournament.{at, known, Tournament}
+use Rattle.rounds.proofs.Rows.{part-row, row-in, row-length}
 use borrow.Author.Needs.{needs}
 use Rattle.rounds.proofs.overlap.Statement.{statement}
 use Rattle.rounds.proofs.overlap.Tie as tie
@@ -26,11 +33,20 @@ part-reach-start c = search needs
 part-reach-end : tie.Need-part-reach-end
 part-reach-end c = search needs
 
+sub-reach-2 : tie.Need-sub-reach-2
+sub-reach-2 c = search needs
+
+part-reach-start-2 : tie.Need-part-reach-start-2
+part-reach-start-2 c = search needs
+
+part-reach-end-2 : tie.Need-part-reach-end-2
+part-reach-end-2 c = search needs
+
 reach-requires : tie.Need-reach-requires
-reach-requires c κs = search needs
+reach-requires c κs = let P = c .before .before .before .before .before .before .pre in let A = c .before .before .before .before .before .before .args in rw (part-row (A .masks .now) (A .w) (A .i), part-row (A .hop .now) (A .w) (A .i)) ((P .0 ∙ sym (row-length (A .masks .now) (A .w) (A .i) (P .1 .1 .0)), (omega arith, (P .1 .1 .1 .1 .0, P .1 .1 .1 .1 .1))))
 
 returns : tie.Need-returns
-returns c = let S = c .before .before .before .before in c .reach .ensures ∙ ap (common (S .args .held .now)) (part-row (S .args .masks .now) (S .args .w) (S .args .i))
+returns c = let A = c .before .before .before .before .before .before .before .args in c .reach .ensures ∙ ap (common (A .held .now)) (part-row (A .masks .now) (A .w) (A .i))
 
 pub overlap-spec : {M : Type 1} → statement M
 overlap-spec =
@@ -42,5 +58,8 @@ overlap-spec =
     sub-reach
     part-reach-start
     part-reach-end
+    sub-reach-2
+    part-reach-start-2
+    part-reach-end-2
     reach-requires
     returns)

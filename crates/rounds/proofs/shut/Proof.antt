@@ -1,12 +1,19 @@
-use mathlib.Core.Path.{_≡_, ap, _∙_}
-use Rattle.cells.specs.Cells.{common, Closed}
-use Rattle.rounds.proofs.Rows.{part-row}
+-- `rounds::shut` meets its contract: the bid's words are a part of all the words. Assumes nothing.
+use Prim.Native.Nat.{ℕ, _+_, _-_, _*_, _/_, _≤_, _<_}
+use mathlib.Core.Path.{_≡_, refl, sym, ap, _∙_}
+use native.Mathlib.Omega.{arith}
+use lib.ListN.{length, getD, set, length-set}
+use Rattle.cover.specs.CriticalPrice.{sum}
+use Rattle.cells.specs.Cells.{common}
+use Rattle.cells.specs.Hops.{Counted}
+use Rattle.tournament.specs.Tournament.{at, known, Tournament}
+use Rattle.rounds.proofs.Rows.{part-row, row-in, row-length}
 use borrow.Author.Needs.{needs}
 use Rattle.rounds.proofs.shut.Statement.{statement}
 use Rattle.rounds.proofs.shut.Tie as tie
 use Rattle.rounds.proofs.shut.Reads as reads
 use Rattle.rounds.proofs.shut.Lts as lts
-use Rattle.cells.proofs.close.Reads as close-reads
+use Rattle.cells.proofs.close_counted.Reads as close-counted-reads
 
 mul-a : tie.Need-mul-a
 mul-a c = search needs
@@ -14,26 +21,38 @@ mul-a c = search needs
 add-e : tie.Need-add-e
 add-e c = search needs
 
-mul-close : tie.Need-mul-close
-mul-close c = search needs
+mul-close-counted : tie.Need-mul-close-counted
+mul-close-counted c = search needs
 
-sub-close : tie.Need-sub-close
-sub-close c = search needs
+sub-close-counted : tie.Need-sub-close-counted
+sub-close-counted c = search needs
 
-part-close-start : tie.Need-part-close-start
-part-close-start c = search needs
+part-close-counted-start : tie.Need-part-close-counted-start
+part-close-counted-start c = search needs
 
-part-close-end : tie.Need-part-close-end
-part-close-end c = search needs
+part-close-counted-end : tie.Need-part-close-counted-end
+part-close-counted-end c = search needs
 
-close-requires : tie.Need-close-requires
-close-requires c κs = search needs
+sub-close-counted-2 : tie.Need-sub-close-counted-2
+sub-close-counted-2 c = search needs
+
+part-close-counted-start-2 : tie.Need-part-close-counted-start-2
+part-close-counted-start-2 c = search needs
+
+part-close-counted-end-2 : tie.Need-part-close-counted-end-2
+part-close-counted-end-2 c = search needs
+
+close-counted-requires : tie.Need-close-counted-requires
+close-counted-requires c κs = let P = c .before .before .before .before .before .before .before .before .pre in let A = c .before .before .before .before .before .before .before .before .args in rw (part-row (A .masks .now) (A .w) (A .i), part-row (A .hop .now) (A .w) (A .i)) ((P .0 ∙ sym (row-length (A .masks .now) (A .w) (A .i) (P .1 .1 .0)), (omega arith, (P .1 .1 .1 .1 .0, P .1 .1 .1 .1 .1))))
 
 same-length : tie.Need-same-length
 same-length c = search needs
 
+same-length-2 : tie.Need-same-length-2
+same-length-2 c = search needs
+
 returns : tie.Need-returns
-returns c = let S = c .before .before .before .before .before .before .before in rw (part-row (S .args .masks .now) (S .args .w) (S .args .i)) at (c .before .before .close .ensures)
+returns c = let A = c .before .before .before .before .before .before .before .before .before .before .before .before .before .args in rw (← part-row (A .masks .now) (A .w) (A .i)) (c .before .before .before .before .close-counted .ensures)
 
 pub shut-spec : {M : Type 1} → statement M
 shut-spec =
@@ -41,10 +60,14 @@ shut-spec =
     (tie.spec
     mul-a
     add-e
-    mul-close
-    sub-close
-    part-close-start
-    part-close-end
-    close-requires
+    mul-close-counted
+    sub-close-counted
+    part-close-counted-start
+    part-close-counted-end
+    sub-close-counted-2
+    part-close-counted-start-2
+    part-close-counted-end-2
+    close-counted-requires
     same-length
+    same-length-2
     returns)

@@ -1,0 +1,73 @@
+-- `cells::next` meets its contract: the rest of the word where the search starts, then the words after it. Assumes nothing.
+use Prim.Native.Nat.{ℕ, _+_, _-_, _*_, _/_, _%_, _^_, _≤_, _<_, min}
+use mathlib.Core.Path.{_≡_, refl, sym, ap, _∙_}
+use native.Mathlib.Omega.{arith}
+use lib.ListN.{length, getD, set, length-set}
+use lib.Count.{ones, ones-le, trailingZeros, trailing-le}
+use lib.Bits.{bitAnd, and-le-l}
+use Rattle.cells.specs.Cells.{cell, total, both, common}
+use Rattle.cells.specs.Hops.{Counted, Hops, Onward, Next, whole}
+use Rattle.cells.proofs.Lowest.{first-at, none-at, search-on, search-over}
+use borrow.Author.Needs.{needs}
+use Rattle.cells.proofs.next.Statement.{statement}
+use Rattle.cells.proofs.next.Tie as tie
+use Rattle.cells.proofs.next.Reads as reads
+use Rattle.cells.proofs.next.Lts as lts
+use Rattle.cells.proofs.next_from.Reads as next-from-reads
+
+mul-m : tie.Need-mul-m
+mul-m c = search needs
+
+shared-slice-read-m : tie.Need-shared-slice-read-m
+shared-slice-read-m c = search needs
+
+mul-m-2 : tie.Need-mul-m-2
+mul-m-2 c = search needs
+
+shared-slice-read-m-2 : tie.Need-shared-slice-read-m-2
+shared-slice-read-m-2 c = search needs
+
+shr-m : tie.Need-shr-m
+shr-m c = search needs
+
+cast-result : tie.Need-cast-result
+cast-result c = let x = c .before .before .before .before .before .before .args .from in let m = bitAnd (getD (c .before .before .before .before .before .before .args .a .now) (x / 64) 0) (whole - getD (c .before .before .before .before .before .before .args .b .now) (x / 64) 0) / 2 ^ (x % 64) in omega (arith, trailing-le 64 m)
+
+add-result : tie.Need-add-result
+add-result c = let x = c .before .before .before .before .before .before .args .from in let m = bitAnd (getD (c .before .before .before .before .before .before .args .a .now) (x / 64) 0) (whole - getD (c .before .before .before .before .before .before .args .b .now) (x / 64) 0) / 2 ^ (x % 64) in omega (arith, trailing-le 64 m)
+
+returns : tie.Need-returns
+returns c = let x = c .before .before .before .before .before .before .args .from in first-at (c .before .before .before .before .before .before .args .a .now) (c .before .before .before .before .before .before .args .b .now) x (c .before .before .before .before .before .shared-slice-known .given (x / 64) .fits) (c .before .before .before .before .shared-slice-known2 .given (x / 64) .fits) (c .if2 .taken) (omega arith)
+
+add-next-from : tie.Need-add-next-from
+add-next-from c = search needs
+
+next-from-requires : tie.Need-next-from-requires
+next-from-requires c κs = search needs
+
+returns-2 : tie.Need-returns-2
+returns-2 c = let x = c .before .before .before .before .before .before .before .args .from in search-on (omega arith) (none-at (c .before .before .before .before .before .before .before .args .a .now) (c .before .before .before .before .before .before .before .args .b .now) x (c .before .before .before .before .before .before .shared-slice-known .given (x / 64) .fits) (c .before .before .before .before .before .shared-slice-known2 .given (x / 64) .fits) (c .before .if2 .left)) (c .next-from .ensures)
+
+mul-result : tie.Need-mul-result
+mul-result c = search needs
+
+returns-3 : tie.Need-returns-3
+returns-3 c = search-over (c .before .before .before .args .a .now) (c .before .before .before .args .b .now) _ (omega arith) (omega arith)
+
+pub next-spec : {M : Type 1} → statement M
+next-spec =
+    tie.close
+    (tie.spec
+    mul-m
+    shared-slice-read-m
+    mul-m-2
+    shared-slice-read-m-2
+    shr-m
+    cast-result
+    add-result
+    returns
+    add-next-from
+    next-from-requires
+    returns-2
+    mul-result
+    returns-3)

@@ -1,0 +1,49 @@
+-- `cells::onward` meets its contract: one word on from a whole word, else the hop. Assumes nothing.
+use Prim.Native.Nat.{ℕ, _+_, _-_, _*_, _/_, _%_, _^_, _≤_, _<_, min}
+use mathlib.Core.Path.{_≡_, refl, sym, ap, _∙_}
+use native.Mathlib.Omega.{arith}
+use lib.ListN.{length, getD, set, length-set}
+use lib.Count.{ones, ones-le, trailingZeros, trailing-le}
+use lib.Bits.{bitAnd, and-le-l}
+use Rattle.cells.specs.Cells.{cell, total, both, common}
+use Rattle.cells.specs.Hops.{Counted, Hops, Onward, Next}
+use Rattle.cells.proofs.Walk.{onward-run, onward-gap}
+use borrow.Author.Needs.{needs}
+use Rattle.cells.proofs.onward.Statement.{statement}
+use Rattle.cells.proofs.onward.Tie as tie
+use Rattle.cells.proofs.onward.Reads as reads
+use Rattle.cells.proofs.onward.Lts as lts
+use Rattle.cells.proofs.wide.Reads as wide-reads
+
+mul-if1 : tie.Need-mul-if1
+mul-if1 c = search needs
+
+shared-slice-read-if1 : tie.Need-shared-slice-read-if1
+shared-slice-read-if1 c = search needs
+
+add-result : tie.Need-add-result
+add-result c = search needs
+
+returns : tie.Need-returns
+returns c = search needs
+
+shared-slice-read-wide : tie.Need-shared-slice-read-wide
+shared-slice-read-wide c = search needs
+
+wide-requires : tie.Need-wide-requires
+wide-requires c κs = search needs
+
+returns-2 : tie.Need-returns-2
+returns-2 c = let A = c .before .before .before .before .before .before .args in rw (c .wide .ensures) (onward-gap (A .mask .now) (A .hop .now) (A .q) (c .before .before .before .before .before .before .pre .0) (omega arith) (c .before .before .if1 .left))
+
+pub onward-spec : {M : Type 1} → statement M
+onward-spec =
+    tie.close
+    (tie.spec
+    mul-if1
+    shared-slice-read-if1
+    add-result
+    returns
+    shared-slice-read-wide
+    wide-requires
+    returns-2)

@@ -1,0 +1,38 @@
+-- A row of words walked by hops: a hop skips words without a cell, or runs over words that have all 64.
+use Prim.Native.Nat.{ℕ, zero, suc, _+_, _*_, _≤_, _<_, min}
+use mathlib.Core.Path.{_≡_}
+use mathlib.Core.List.{List}
+use lib.ListN.{length, getD}
+use lib.Count.{ones}
+use Rattle.cells.specs.Cells.{cell}
+
+-- a word with all its cells
+abbrev pub whole : ℕ
+whole = 18446744073709551615
+
+-- from each word of the mask the hop goes on: from a whole word over whole words, from another word over words without a cell
+pub record Hops (mask hop : List ℕ) : Type 0 where
+  pub same : length hop ≡ length mask
+  pub on : (q : ℕ) → q < length mask → q < getD hop q 0
+  pub within : (q : ℕ) → q < length mask → getD hop q 0 ≤ length mask
+  pub run : (q : ℕ) → q < length mask → getD mask q 0 ≡ whole → (p : ℕ) → q ≤ p → p < getD hop q 0 → getD mask p 0 ≡ whole
+  pub gap : (q : ℕ) → q < length mask → (getD mask q 0 ≡ whole → ⊥) → (p : ℕ) → q < p → p < getD hop q 0 → getD mask p 0 ≡ 0
+
+-- how many cells each word has
+pub record Counted (words counts : List ℕ) : Type 0 where
+  pub same : length counts ≡ length words
+  pub each : (q : ℕ) → q < length words → getD counts q 0 ≡ ones (getD words q 0)
+
+-- the word q of the mask is followed by the word r, and those between have no cell
+pub record Onward (mask : List ℕ) (q r : ℕ) : Type 0 where
+  pub on : q < r
+  pub within : r ≤ length mask
+  pub gap : (p : ℕ) → q < p → p < r → getD mask p 0 ≡ 0
+
+-- the first x from `from` on that is a cell of a and not of b; past the last cell where there is none
+pub record Next (a b : List ℕ) (from r : ℕ) : Type 0 where
+  pub on : from ≤ r
+  pub within : r ≤ 64 * length a
+  pub none : (x : ℕ) → from ≤ x → x < r → cell a x ≡ 1 → cell b x ≡ 1
+  pub inside : r < 64 * length a → cell a r ≡ 1
+  pub outside : r < 64 * length a → cell b r ≡ 0

@@ -1,0 +1,78 @@
+-- `payments::begin` meets its contract: nothing is known of any bid, k alone is marked, then those that share an open cell with it. Assumes nothing.
+use Prim.Native.Nat.{ℕ, _+_, _-_, _*_, _/_, _≤_, _<_}
+use mathlib.Core.Path.{_≡_, refl, sym, ap, _∙_}
+use mathlib.Core.Bool.{Bool, true, false}
+use native.Mathlib.Omega.{arith}
+use lib.ListN.{length, getD, set, length-set}
+use Rattle.cells.specs.Cells.{cell, common}
+use Rattle.cells.specs.Hops.{Counted}
+use Rattle.tournament.specs.Tournament.{at, known, Tournament}
+use Rattle.rounds.specs.Market.{row}
+use Rattle.rounds.specs.Trace.{openOf}
+use Rattle.rounds.proofs.Fronting.{not-clear}
+use Rattle.tournament.proofs.Tree.{emptied, known-at}
+use Rattle.rounds.proofs.Begin.{sized-of}
+use Rattle.payments.proofs.Following.{inside, starts}
+use borrow.Author.Needs.{needs}
+use Rattle.payments.proofs.begin.Statement.{statement}
+use Rattle.payments.proofs.begin.Tie as tie
+use Rattle.payments.proofs.begin.Reads as reads
+use Rattle.payments.proofs.begin.Lts as lts
+use Rattle.cells.proofs.add.Reads as add-reads
+use Rattle.cells.proofs.count.Reads as count-reads
+use Rattle.payments.proofs.disturb.Reads as disturb-reads
+use Rattle.rounds.proofs.clear.Reads as clear-reads
+use Rattle.rounds.proofs.copy.Reads as copy-reads
+
+copy-requires : tie.Need-copy-requires
+copy-requires c κs = let P = c .before .before .before .before .before .before .before .before .before .before .before .before .before .pre in P .1 .0 .words ∙ sym (P .1 .1 .0)
+
+count-requires : tie.Need-count-requires
+count-requires c κs = let P = c .before .before .before .before .before .before .before .before .before .before .before .before .before .before .before .before .before .before .pre in P .1 .1 .1 .0 ∙ sym (c .before .before .before .before .copy .kept .1 .0 ∙ P .1 .1 .0)
+
+clear-requires : tie.Need-clear-requires
+clear-requires c κs = search needs
+
+clear-requires-2 : tie.Need-clear-requires-2
+clear-requires-2 c κs = search needs
+
+add-requires : tie.Need-add-requires
+add-requires c κs = let P = c .before .before .before .before .before .before .before .before .before .before .before .before .before .before .before .before .before .before .before .before .before .before .before .before .before .before .before .before .before .before .pre in omega (arith, inside (P .0), P .0 .market .priced .count, c .before .before .before .clear2 .kept .0, P .1 .1 .1 .1 .1)
+
+disturb-requires : tie.Need-disturb-requires
+disturb-requires c κs = let P = c .before .before .before .before .before .before .before .before .before .before .before .before .before .before .before .before .before .before .before .before .before .before .before .before .before .before .before .before .before .before .before .before .before .before .before .before .before .before .pre in let co = P .0 in (co .market, (co .hopping, (co .indexed, (c .before .before .before .before .before .before .before .before .before .before .before .before .before .before .before .before .before .before .before .before .before .before .before .before .copy .kept .1 .0 ∙ P .1 .1 .0, (c .before .before .before .before .before .before .before .before .before .before .before .before .before .before .before .before .before .before .before .count .ensures, (inside co, (emptied (P .1 .1 .1 .1 .0) (c .before .before .before .before .before .before .before .before .before .before .before .before .before .before .before .clear .kept .0 ∙ P .1 .1 .1 .1 .0 .seats .numbers) (c .before .before .before .before .before .before .before .before .before .before .before .before .before .before .before .clear .ensures .none), c .before .before .before .before .before .before .before .add .kept .0 ∙ c .before .before .before .before .before .before .before .before .before .before .before .clear2 .kept .0 ∙ P .1 .1 .1 .1 .1)))))))
+
+same-length : tie.Need-same-length
+same-length c = search needs
+
+same-length-2 : tie.Need-same-length-2
+same-length-2 c = search needs
+
+same-length-3 : tie.Need-same-length-3
+same-length-3 c = search needs
+
+same-length-4 : tie.Need-same-length-4
+same-length-4 c = search needs
+
+same-length-5 : tie.Need-same-length-5
+same-length-5 c = search needs
+
+returns : tie.Need-returns
+returns c = let P = c .before .before .before .before .before .before .before .before .before .before .before .before .before .before .before .before .before .before .before .before .before .before .before .before .before .before .before .before .before .before .before .before .before .before .before .before .before .before .before .before .before .before .before .before .before .pre in let co = P .0 in let t = c .before .before .before .before .before .before .disturb .ensures .0 in record { follow = rw (c .before .before .before .before .before .before .before .before .before .before .before .before .before .before .before .before .before .before .before .before .before .before .before .before .before .before .before .before .before .before .before .copy .ensures) (starts co (P .1 .0) (λ i. known-at _ i ∙ c .before .before .before .before .before .before .before .before .before .before .before .before .before .before .before .before .before .before .before .before .before .before .clear .ensures .none _) (c .before .before .before .before .before .before .before .before .before .before .before .before .before .before .before .before .before .before .clear2 .ensures) (c .before .before .before .before .before .before .before .before .before .before .before .before .before .before .add .ensures) (sized-of t) (rw (c .before .before .before .before .before .before .before .before .before .before .before .before .before .before .before .before .before .before .before .before .before .before .before .before .before .before .before .before .before .before .before .copy .ensures) at (c .before .before .before .before .before .before .disturb .ensures .1))); tree = t; counted = c .before .before .before .before .before .before .before .before .before .before .before .before .before .before .before .before .before .before .before .before .before .before .before .before .before .before .count .ensures; marks = c .before .before .before .before .before .before .disturb .kept .1 .1 .1 .1 .1 .1 .1 .1 .1 .1 .0 ∙ c .before .before .before .before .before .before .before .before .before .before .before .before .before .before .add .kept .0 ∙ c .before .before .before .before .before .before .before .before .before .before .before .before .before .before .before .before .before .before .clear2 .kept .0 ∙ P .1 .1 .1 .1 .1 }
+
+pub begin-spec : {M : Type 1} → statement M
+begin-spec =
+    tie.close
+    (tie.spec
+    copy-requires
+    count-requires
+    clear-requires
+    clear-requires-2
+    add-requires
+    disturb-requires
+    same-length
+    same-length-2
+    same-length-3
+    same-length-4
+    same-length-5
+    returns)
