@@ -18,7 +18,8 @@ use Rattle.cover.specs.Sets.{cells, each}
 use Rattle.cover.specs.Greedy.{wins}
 use Rattle.cover.specs.CriticalPrice.{roundsPaid}
 use Rattle.cover.specs.Settled.{Settled}
-use Rattle.rounds.specs.Market.{has, Priced, Market}
+use Rattle.tournament.specs.Tournament.{Priced}
+use Rattle.rounds.specs.Market.{has, Market}
 use Rattle.bidders.specs.declared.Thin.{Thin}
 use Rattle.bidders.specs.declared.Thin.the-variants.{Nobody, Alone, Enough}
 use Rattle.bidders.specs.Thin.{Says}

@@ -14,7 +14,7 @@ use Rattle.tender.specs.Tables.{rowsOf}
 use Rattle.cover.specs.Sets.{bit, covers, each}
 use Rattle.cover.specs.LeastCover.{winners, vcgPaid}
 use Rattle.cover.specs.Settled.{spans, Settled}
-use Rattle.rounds.specs.Market.{Priced}
+use Rattle.tournament.specs.Tournament.{Priced}
 use Rattle.bidders.specs.declared.Thin.the-variants.{Nobody, Alone, Enough}
 use Rattle.bidders.specs.Thin.{Says, Spans}
 use Rattle.tables.specs.Faults.{faultOf}

@@ -1,0 +1,444 @@
+// Calls the awards and compares each answer, to the last lent cell, with the other implementation's.
+use crate::brute;
+use crate::random;
+use crate::random::Lot;
+use crate::rules;
+use award::Answer;
+use tender::Kind;
+use tender::Refusal;
+use tender::Tender;
+use tender::Totals;
+use tender::Window;
+
+// What was tried, and how many answers disagree.
+pub(crate) struct Tried {
+    pub(crate) single_awarded: u64,
+    pub(crate) single_declined: u64,
+    pub(crate) multi_awarded: u64,
+    pub(crate) multi_declined: u64,
+    pub(crate) wrong: u64,
+}
+
+pub(crate) struct Checked {
+    pub(crate) sound: u64,
+    pub(crate) faulty: u64,
+    pub(crate) short: u64,
+    pub(crate) wrong: u64,
+}
+
+fn plus_one(n: u64) -> u64 {
+    std::num::wrapping_add_u64(n, 1)
+}
+
+// What is lent in the cells of the rows, to see which of them are written.
+const OLD: u64 = 77;
+
+// The other implementation's answer: the set of winners and what each bid is paid.
+struct Right {
+    winners: u64,
+    paid: [u64; 7],
+}
+
+fn right_single(lot: Lot, cells: u64) -> Right {
+    let masks = lot.masks;
+    let prices = lot.prices;
+    let winners = brute::least_cover(masks, prices, cells, 9);
+    let cost = brute::cost_of(prices, winners);
+    let mut paid = [0u64; 7];
+    let mut i: usize = 0;
+    while i < 7 {
+        if brute::within(winners, i) {
+            let others = brute::cost_of(prices, brute::least_cover(masks, prices, cells, i));
+            paid[i] = std::num::wrapping_sub_u64(
+                std::num::wrapping_add_u64(others, prices[i]),
+                cost,
+            );
+        }
+        i += 1;
+    }
+    Right { winners, paid }
+}
+
+// No bid can ask more than 15 for each of 12 cells, and win against others that cover.
+fn right_multi(lot: Lot, cells: u64) -> Right {
+    let masks = lot.masks;
+    let prices = lot.prices;
+    let winners = brute::greedy(masks, prices, cells);
+    let mut paid = [0u64; 7];
+    let mut i: usize = 0;
+    while i < 7 {
+        if brute::within(winners, i) {
+            paid[i] = brute::largest_price(masks, prices, cells, i, 200);
+        }
+        i += 1;
+    }
+    Right { winners, paid }
+}
+
+// Whether the rows say just that: a flag and the cents of each bid, and the old cells past the last.
+fn rows_right(right: Right, count: usize, won: [u64; 9], cents: [u64; 9]) -> bool {
+    let paid = right.paid;
+    let mut i: usize = 0;
+    while i < 9 {
+        let mut flag = OLD;
+        let mut sum = OLD;
+        if i < count {
+            flag = 0;
+            sum = 0;
+            if brute::within(right.winners, i) {
+                flag = 1;
+                if i < 7 {
+                    sum = paid[i];
+                }
+            }
+        }
+        if won[i] != flag || cents[i] != sum {
+            return false;
+        }
+        i += 1;
+    }
+    true
+}
+
+fn untouched(won: [u64; 9], cents: [u64; 9]) -> bool {
+    let mut i: usize = 0;
+    while i < 9 {
+        if won[i] != OLD || cents[i] != OLD {
+            return false;
+        }
+        i += 1;
+    }
+    true
+}
+
+fn tender_of(lot: Lot, several: bool) -> Tender {
+    let window = Window {
+        start: lot.start,
+        end: std::num::wrapping_add_u64(lot.start, lot.length),
+    };
+    if several {
+        Tender {
+            kind: Kind::Multi,
+            window,
+        }
+    } else {
+        Tender {
+            kind: Kind::Single,
+            window,
+        }
+    }
+}
+
+fn kind_of(several: bool) -> Kind {
+    if several { Kind::Multi } else { Kind::Single }
+}
+
+fn sum_of(paid: [u64; 7]) -> u64 {
+    let mut sum: u64 = 0;
+    let mut i: usize = 0;
+    while i < 7 {
+        sum = std::num::wrapping_add_u64(sum, paid[i]);
+        i += 1;
+    }
+    sum
+}
+
+// Whether an award is the right one.
+fn award_right(lot: Lot, several: bool, totals: Totals, won: [u64; 9], cents: [u64; 9]) -> bool {
+    let masks = lot.masks;
+    let prices = lot.prices;
+    let cells = brute::all_cells(lot.length);
+    if brute::cell_with(masks, lot.length, 0) < 16 || brute::cell_with(masks, lot.length, 1) < 16 {
+        return false;
+    }
+    let right = if several {
+        right_multi(lot, cells)
+    } else {
+        right_single(lot, cells)
+    };
+    let winners = right.winners;
+    let paid = right.paid;
+    if totals.cost != brute::cost_of(prices, winners) || totals.paid != sum_of(paid) {
+        return false;
+    }
+    rows_right(right, lot.count, won, cents)
+}
+
+// Whether a refusal is the right one: 11 or 12, at a minute of the tender in no bid, or in one where none is in no bid.
+fn refusal_right(lot: Lot, refusal: Refusal, won: [u64; 9], cents: [u64; 9]) -> bool {
+    let masks = lot.masks;
+    if !untouched(won, cents) {
+        return false;
+    }
+    match refusal {
+        Refusal::MinuteUncovered { minute } => {
+            let x = std::num::wrapping_sub_u64(minute, lot.start);
+            x < lot.length && brute::bidders_of(masks, x) == 0
+        }
+        Refusal::OneBidder { minute } => {
+            let x = std::num::wrapping_sub_u64(minute, lot.start);
+            x < lot.length
+                && brute::bidders_of(masks, x) == 1
+                && brute::cell_with(masks, lot.length, 0) == 16
+        }
+        _ => false,
+    }
+}
+
+// One tender, tried: how it ended, and whether rightly.
+struct Trial {
+    awarded: bool,
+    right: bool,
+}
+
+fn try_award(lot: Lot, several: bool) -> Trial {
+    let bids = lot.bids;
+    let windows = lot.windows;
+    let count = lot.count;
+    let mut won = [OLD; 9];
+    let mut cents = [OLD; 9];
+    let tender = tender_of(lot, several);
+    let answer = award::settle(
+        kind_of(several),
+        tender,
+        count,
+        &bids,
+        &windows,
+        &mut won,
+        &mut cents,
+    );
+    match answer {
+        Answer::Awarded(totals) => Trial {
+            awarded: true,
+            right: award_right(lot, several, totals, won, cents),
+        },
+        Answer::Refused(r) => Trial {
+            awarded: false,
+            right: refusal_right(lot, r, won, cents),
+        },
+    }
+}
+
+fn counted(t: Tried, several: bool, trial: Trial) -> Tried {
+    let mut n = t;
+    if !trial.right {
+        n.wrong = plus_one(n.wrong);
+    }
+    if several {
+        if trial.awarded {
+            n.multi_awarded = plus_one(n.multi_awarded);
+        } else {
+            n.multi_declined = plus_one(n.multi_declined);
+        }
+    } else {
+        if trial.awarded {
+            n.single_awarded = plus_one(n.single_awarded);
+        } else {
+            n.single_declined = plus_one(n.single_declined);
+        }
+    }
+    n
+}
+
+// Both awards on so many random tenders each.
+pub(crate) fn awards(n: u64) -> Tried {
+    let mut t = Tried {
+        single_awarded: 0,
+        single_declined: 0,
+        multi_awarded: 0,
+        multi_declined: 0,
+        wrong: 0,
+    };
+    let mut state: u64 = 20261115;
+    let mut i: u64 = 0;
+    while i < n {
+        let one = random::draw(state, false);
+        t = counted(t, false, try_award(one, false));
+        let several = random::draw(one.state, true);
+        t = counted(t, true, try_award(several, true));
+        state = several.state;
+        i += 1;
+    }
+    t
+}
+
+// A number that a rule of some cell refuses or just takes.
+fn odd(state: u64) -> u64 {
+    let k = random::below(state, 10);
+    match k {
+        0 => 0,
+        1 => 1,
+        2 => 2,
+        3 => 33,
+        4 => 10080,
+        5 => 10081,
+        6 => 999999,
+        7 => 1000000,
+        8 => 100000001,
+        _ => 18446744073709551615,
+    }
+}
+
+// The lot with one cell of a table set to an odd number.
+fn broken(lot: Lot, state: u64) -> Lot {
+    let mut l = lot;
+    let s = random::next(state);
+    let v = odd(random::next(s));
+    if s % 2 == 0 {
+        let i = (s / 4 % 28) as usize;
+        l.bids[i] = v;
+    } else {
+        let i = (s / 4 % 42) as usize;
+        l.windows[i] = v;
+    }
+    l
+}
+
+// How many of `most` cells are lent: all, or some fewer.
+fn part(most: usize, state: u64) -> usize {
+    let less = (state / 8 % 6) as usize;
+    if state % 3 == 0 && less <= most {
+        return std::num::wrapping_sub_usize(most, less);
+    }
+    most
+}
+
+// The first n cells.
+fn head(cells: &[u64], n: usize) -> &[u64] {
+    if n <= cells.len() {
+        return &cells[..n];
+    }
+    cells
+}
+
+// The award with so many cells of each list lent.
+fn settle_part(
+    kind: Kind,
+    tender: Tender,
+    count: usize,
+    bids: &[u64],
+    windows: &[u64],
+    won: &mut [u64],
+    cents: &mut [u64],
+    rows: usize,
+) -> Answer {
+    if rows <= won.len() {
+        if rows <= cents.len() {
+            return award::settle(
+                kind,
+                tender,
+                count,
+                bids,
+                windows,
+                &mut won[..rows],
+                &mut cents[..rows],
+            );
+        }
+    }
+    award::settle(kind, tender, count, bids, windows, won, cents)
+}
+
+// The award's answer to the tables against the other check, with the count, the tables or the rows off at times.
+fn judged(
+    f: Checked,
+    seed: u64,
+    tender: Tender,
+    several: bool,
+    stated: usize,
+    bids: &[u64],
+    windows: &[u64],
+) -> Checked {
+    let mut n = f;
+    let s = random::next(seed);
+    let s2 = random::next(s);
+    let window = tender.window;
+    let count = (std::num::wrapping_add_u64(stated as u64, random::below(s, 5) / 4) % 16) as usize;
+    let rows = part(9, random::next(s2));
+    let some_bids = head(bids, part(28, s));
+    let some_windows = head(windows, part(42, s2));
+    let mut won = [OLD; 9];
+    let mut cents = [OLD; 9];
+    let place = rules::fault(
+        !several,
+        window.start,
+        window.end,
+        count,
+        some_bids,
+        some_windows,
+    );
+    let answer = settle_part(
+        kind_of(several),
+        tender,
+        count,
+        some_bids,
+        some_windows,
+        &mut won,
+        &mut cents,
+        rows,
+    );
+    match answer {
+        Answer::Refused(r) => {
+            let number = tender::number(r);
+            let at = tender::place(r);
+            if number == 9 {
+                n.faulty = plus_one(n.faulty);
+                if place != at || !untouched(won, cents) {
+                    n.wrong = plus_one(n.wrong);
+                }
+                return n;
+            }
+            if number == 10 {
+                n.short = plus_one(n.short);
+                if place != rules::SOUND || count <= rows || !untouched(won, cents) {
+                    n.wrong = plus_one(n.wrong);
+                }
+                return n;
+            }
+        }
+        Answer::Awarded(_) => {}
+    }
+    n.sound = plus_one(n.sound);
+    if place != rules::SOUND || rows < count {
+        n.wrong = plus_one(n.wrong);
+    }
+    n
+}
+
+fn try_faults(f: Checked, lot: Lot, several: bool) -> Checked {
+    let bids = lot.bids;
+    let windows = lot.windows;
+    judged(
+        f,
+        lot.state,
+        tender_of(lot, several),
+        several,
+        lot.count,
+        &bids,
+        &windows,
+    )
+}
+
+// So many random tables, most of them with an odd number in a cell, a count off by one or a table cut short.
+pub(crate) fn faults(n: u64) -> Checked {
+    let mut f = Checked {
+        sound: 0,
+        faulty: 0,
+        short: 0,
+        wrong: 0,
+    };
+    let mut state: u64 = 7;
+    let mut i: u64 = 0;
+    while i < n {
+        let several = i % 2 == 0;
+        let drawn = random::draw(state, several);
+        state = drawn.state;
+        let lot = if i % 4 < 3 {
+            broken(drawn, state)
+        } else {
+            drawn
+        };
+        f = try_faults(f, lot, several);
+        i += 1;
+    }
+    f
+}

@@ -1,0 +1,31 @@
+// Tries both awards on small random tenders under a fixed seed, against another implementation (`brute`) that tries every
+// set of bids and every price; and the check of the tables on tables with a fault in them, against another check (`rules`).
+// Writes what was tried by kind, and last how many answers disagree.
+mod brute;
+mod compare;
+mod random;
+mod rules;
+
+use libc::STDOUT_FILENO;
+
+fn say(word: &[u8], n: u64) {
+    io::write_all(STDOUT_FILENO, word);
+    io::print_decimal(STDOUT_FILENO, n);
+    io::write_all(STDOUT_FILENO, b"\n");
+}
+
+fn main() {
+    let t = compare::awards(3000);
+    say(b"single awarded ", t.single_awarded);
+    say(b"single declined ", t.single_declined);
+    say(b"multi awarded ", t.multi_awarded);
+    say(b"multi declined ", t.multi_declined);
+    let f = compare::faults(6000);
+    say(b"tables sound ", f.sound);
+    say(b"tables faulty ", f.faulty);
+    say(b"rows too few ", f.short);
+    say(
+        b"disagreements ",
+        std::num::wrapping_add_u64(t.wrong, f.wrong),
+    );
+}
