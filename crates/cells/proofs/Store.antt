@@ -80,39 +80,42 @@ swept-all w old mask new s e el =
           (lt-or-le x (64 * w));
     }
 
--- ---- add_range: the cells of the window below word w are set
-pub record Filling (s e w : ℕ) (old new : List ℕ) : Type 0 where
-  pub inside : (x : ℕ) → s ≤ x → x < e → x < 64 * w → cell new x ≡ 1
-  pub below : (x : ℕ) → x < s → cell new x ≡ cell old x
-  pub above : (x : ℕ) → e ≤ x → cell new x ≡ cell old x
+-- ---- add_range: some bits of a word, whole words, and one range after another
+pub filled-none : (s : ℕ) (ws : List ℕ) → Filled s s ws ws
+filled-none s ws = record { inside = λ x a b. absurd (omega arith); below = λ x h. refl; above = λ x h. refl }
 
-pub filling-none : (s e : ℕ) (old : List ℕ) → Filling s e (s / 64) old old
-filling-none s e old = record { inside = λ x a b c. omega arith; below = λ x h. refl; above = λ x h. refl }
+pub filled-join : {s m e : ℕ} {old mid new : List ℕ} → s ≤ m → m ≤ e → Filled s m old mid → Filled m e mid new → Filled s e old new
+filled-join {s} {m} {e} lo hi f g = record {
+  inside = λ x a b. ⊎-elim (λ lt. g .below x lt ∙ f .inside x a lt) (λ le. g .inside x le b) (lt-or-le x m);
+  below = λ x a. g .below x (omega arith) ∙ f .below x a;
+  above = λ x a. g .above x a ∙ f .above x (omega arith);
+}
 
-module _ (s e w : ℕ) (old new : List ℕ) (f : Filling s e w old new) (h : w < length new) (m : ℕ) (p : Span (s - 64 * w) (min 64 (e - 64 * w)) m) where
-  abbrev next : List ℕ
-  next = set new w (bitOr (getD new w 0) m)
+-- the same range, its ends written in another way
+pub filled-at : {p r s e : ℕ} {old new : List ℕ} → p ≡ s → r ≡ e → Filled p r old new → Filled s e old new
+filled-at a b f = rw (← a, ← b) f
 
-  -- outside the window, the step changes nothing
-  same : (x : ℕ) → (x < s) ⊎ (e ≤ x) → cell next x ≡ cell new x
-  same x o =
-      ⊎-elim (λ q. set-other new w h x (bitOr (getD new w 0) m) q)
-      (λ q. or-same new w h x m q
-      ∙ ap (max (cell new x)) (⊎-elim (λ l. ⊎-elim (λ lo. p .below (x % 64) lo) (λ lo. omega arith) (lt-or-le (x % 64) (s - 64 * w))) (λ g. p .above (x % 64) (omega arith) (omega arith)) o)
-      ∙ omega arith)
-      (ne-or-eq (x / 64) w)
+-- the rest of the first word and whole words
+pub filled-words : (s b : ℕ) {old mid new : List ℕ} → s / 64 < b → Filled (64 * (s / 64) + s % 64) (64 * (s / 64) + 64) old mid → Filled (64 * (s / 64 + 1)) (64 * b) mid new → Filled s (64 * b) old new
+filled-words s b l f g = filled-join (omega arith) (omega arith) (filled-at (omega arith) (omega arith) f) g
 
-  pub filling-more : Filling s e (w + 1) old next
-  filling-more =
-      record {
-        inside = λ x a b c.
-            ⊎-elim (λ lt. set-other new w h x (bitOr (getD new w 0) m) (λ q. omega arith) ∙ f .inside x a b lt) (λ le. or-same new w h x m (omega arith) ∙ ap (max (cell new x)) (p .inside (x % 64) (omega arith) (omega arith)) ∙ omega (arith, cell-lt new x)) (lt-or-le x (64 * w));
-        below = λ x a. same x (inl a) ∙ f .below x a;
-        above = λ x a. same x (inr a) ∙ f .above x a;
-      }
+module _ (ws : List ℕ) (w : ℕ) (h : w < length ws) where
+  pub bits-added : (lo hi m : ℕ) → lo < 64 → hi ≤ 64 → Span lo hi m → Filled (64 * w + lo) (64 * w + hi) ws (set ws w (bitOr (getD ws w 0) m))
+  bits-added lo hi m hl hh p = record {
+    inside = λ x a b. or-same ws w h x m (omega arith) ∙ ap (max (cell ws x)) (p .inside (x % 64) (omega arith) (omega arith)) ∙ omega (arith, cell-lt ws x);
+    below = λ x a. same x (λ q. p .below (x % 64) (omega arith));
+    above = λ x a. same x (λ q. p .above (x % 64) (omega arith) (omega arith));
+  }
+    where
+      same : (x : ℕ) → (x / 64 ≡ w → bitOf m (x % 64) ≡ 0) → cell (set ws w (bitOr (getD ws w 0) m)) x ≡ cell ws x
+      same x z = ⊎-elim (λ n. set-other ws w h x (bitOr (getD ws w 0) m) n) (λ q. or-same ws w h x m q ∙ ap (max (cell ws x)) (z q) ∙ omega arith) (ne-or-eq (x / 64) w)
 
-pub filling-all : (s e w : ℕ) (old new : List ℕ) → Filling s e w old new → e ≤ 64 * w → Filled s e old new
-filling-all s e w old new f h = record { inside = λ x a b. f .inside x a b (omega arith); below = f .below; above = f .above }
+  pub whole-added : Filled (64 * w) (64 * (w + 1)) ws (set ws w 18446744073709551615)
+  whole-added = record {
+    inside = λ x a b. set-same ws w h x 18446744073709551615 (omega arith) ∙ ones-in 64 (x % 64) (omega arith);
+    below = λ x a. set-other ws w h x 18446744073709551615 (λ e. omega arith);
+    above = λ x a. set-other ws w h x 18446744073709551615 (λ e. omega arith);
+  }
 
 -- ---- the bits lo up to hi, of two masks
 module _ (lo hi : ℕ) (hl : lo ≤ 64) (hh : hi ≤ 64) where

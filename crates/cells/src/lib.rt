@@ -3,7 +3,7 @@
 // cells of a mask, `add_range` and `add` set cells, `holds` reads one, `next` finds the first of one row that is not in another.
 // `reach` and `close_counted` walk a mask by its hops, over the words that have a cell alone, and keep a count of each word's cells.
 ghost use mathlib.Core.Path.{_≡_};
-ghost use Prim.Native.Nat.{ℕ, _+_, _*_, _-_, _^_, _<_, _≤_, min};
+ghost use Prim.Native.Nat.{ℕ, _+_, _*_, _-_, _^_, _<_, _≤_};
 ghost use lib.ListN.{length, getD};
 ghost use lib.Dec.{eqb};
 ghost use Rattle.cells.specs.Cells.{cell, total, common, Closed, Span, Filled};
@@ -40,16 +40,25 @@ fn span(lo: usize, hi: usize) -> u64
     first_bits(hi) & !first_bits(lo)
 }
 
-fn minus(a: usize, b: usize) -> usize
-    ensures { λ r. ⌜ r ≡ a - b ⌝ }
+// Sets the bits lo up to hi of word w.
+fn add_bits(words: &mut [u64], w: usize, lo: usize, hi: usize)
+    requires { ⌜ (w < length (now words)) × ((lo < 64) × (hi ≤ 64)) ⌝ }
+    ensures { λ _. ⌜ Filled (64 * w + lo) (64 * w + hi) (now (words .entry)) (now (words .exit)) ⌝ }
 {
-    if b < a { a - b } else { 0 }
+    let m = span(lo, hi);
+    words[w] = words[w] | m;
 }
 
-fn at_most_64(a: usize) -> usize
-    ensures { λ r. ⌜ r ≡ min 64 a ⌝ }
+// Sets all cells of the words a up to b.
+fn add_words(words: &mut [u64], a: usize, b: usize)
+    requires { ⌜ (a ≤ b) × (b ≤ length (now words)) ⌝ }
+    ensures { λ _. ⌜ Filled (64 * a) (64 * b) (now (words .entry)) (now (words .exit)) ⌝ }
 {
-    if a < 64 { a } else { 64 }
+    let mut w = a;
+    while w < b {
+        words[w] = !0;
+        w += 1;
+    }
 }
 
 // Sets the cells s up to e.
@@ -57,13 +66,19 @@ pub fn add_range(words: &mut [u64], s: usize, e: usize)
     requires { ⌜ (s ≤ e) × ((e ≤ 64 * length (now words)) × (length (now words) ≤ 65536)) ⌝ }
     ensures { λ _. ⌜ Filled s e (now (words .entry)) (now (words .exit)) ⌝ }
 {
-    let mut w = s / 64;
-    while 64 * w < e {
-        let lo = minus(s, 64 * w);
-        let hi = at_most_64(e - 64 * w);
-        let m = span(lo, hi);
-        words[w] = words[w] | m;
-        w += 1;
+    if e <= s {
+        return;
+    }
+    let a = s / 64;
+    let b = e / 64;
+    if a == b {
+        add_bits(words, a, s % 64, e % 64);
+        return;
+    }
+    add_bits(words, a, s % 64, 64);
+    add_words(words, a + 1, b);
+    if e % 64 != 0 {
+        add_bits(words, b, 0, e % 64);
     }
 }
 

@@ -1,0 +1,74 @@
+-- `cells::add_words` meets its contract: the words from a up to w have all their cells. Assumes nothing.
+use native.Mathlib.Omega.{arith}
+use Prim.Native.Nat.{_-_, _*_, _+_, _≤_}
+use mathlib.Core.Path.{_≡_, refl}
+use lib.ListN.{length, length-set}
+use borrow.Author.Needs.{needs}
+use Rattle.cells.specs.Cells.{Filled}
+use Rattle.cells.proofs.Store.{filled-none, filled-join, whole-added}
+use Rattle.cells.proofs.add_words.Statement.{statement}
+use Rattle.cells.proofs.add_words.Tie as tie
+use Rattle.cells.proofs.add_words.Reads as reads
+use Rattle.cells.proofs.add_words.Lts as lts
+
+abbrev Inv-loop : tie.InvT-loop
+Inv-loop words₀ a b w₀ words w = (a ≤ w) × ((w ≤ b) × ((length words ≡ length words₀) × Filled (64 * a) (64 * w) words₀ words))
+
+abbrev μ-loop : tie.MeasureT-loop
+μ-loop words₀ a b w₀ words w = b - w
+
+-- src/lib.rt:58:5
+loop-holds : tie.Need-loop-holds Inv-loop μ-loop
+loop-holds c = (omega arith, (omega arith, (refl, filled-none (64 * c .args .a) (c .args .words .now))))
+
+-- src/lib.rt:59:9
+mul-words : tie.Need-mul-words Inv-loop μ-loop
+mul-words c = omega arith
+
+-- src/lib.rt:59:9
+slice-write-words : tie.Need-slice-write-words Inv-loop μ-loop
+slice-write-words c = omega arith
+
+-- src/lib.rt:60:9
+add-w : tie.Need-add-w Inv-loop μ-loop
+add-w c = omega arith
+
+-- src/lib.rt:58:5
+loop-less : tie.Need-loop-less Inv-loop μ-loop
+loop-less c = omega arith
+
+-- src/lib.rt:58:5
+loop-again : tie.Need-loop-again Inv-loop μ-loop
+loop-again c = (
+  omega arith,
+  (
+    omega arith,
+    (
+      simp length-set (c .before .loop .inv .1 .1 .0),
+      filled-join (omega arith) (omega arith) (c .before .loop .inv .1 .1 .1) (whole-added (c .before .loop .words) (c .before .loop .w) (omega arith)),
+    ),
+  ),
+)
+
+-- src/lib.rt:53:1
+same-length : tie.Need-same-length Inv-loop μ-loop
+same-length c = c .before .loop .inv .1 .1 .0
+
+-- src/lib.rt:53:1
+returns : tie.Need-returns Inv-loop μ-loop
+returns c = let e : c .before .loop .w ≡ c .before .before .args .b = omega arith in rw (← e) (c .before .loop .inv .1 .1 .1)
+
+pub add-words-spec : {M : Type 1} → statement M
+add-words-spec =
+    tie.close
+    (tie.spec
+    Inv-loop
+    μ-loop
+    loop-holds
+    mul-words
+    slice-write-words
+    add-w
+    loop-less
+    loop-again
+    same-length
+    returns)
