@@ -24,28 +24,19 @@ module _ (ms : List ℕ) (w n i : ℕ) (size : length ms ≡ w * n) (l : i < n) 
   unfolding row
   row-size = simp (length-take, length-drop) (omega (arith, row-within w n i l))
 
-  pub row-zero : ((q : ℕ) → w * i ≤ q → getD ms q 0 ≡ 0) → (q : ℕ) → getD (row ms w i) q 0 ≡ 0
-  unfolding row
-  row-zero z q = go (ltb q w) refl
-    where
-      go : (b : Bool) → ltb q w ≡ b → getD (take w (drop (w * i) ms)) q 0 ≡ 0
-      go true t = getD-take w (drop (w * i) ms) q 0 (ltb-true q w t) ∙ getD-drop (w * i) ms q 0 ∙ z (w * i + q) (omega arith)
-      go false t = List·getD-eq-default (take w (drop (w * i) ms)) 0 {n = q} (simp (length-take, length-drop) (omega (arith, ltb-false q w t)))
-
 pub row-same : (ms ms′ : List ℕ) (w j : ℕ) → length ms ≡ length ms′ → ((q : ℕ) → q < w * j + w → getD ms q 0 ≡ getD ms′ q 0) → row ms w j ≡ row ms′ w j
 unfolding row
 row-same ms ms′ w j e h = ext-getD 0 (take w (drop (w * j) ms)) (take w (drop (w * j) ms′)) (simp (length-take, length-drop) (ap (λ (m : ℕ). min w (m - w * j)) e))
     (λ q l. let b : q < w = omega (arith, length-take w (drop (w * j) ms)) in
     getD-take w (drop (w * j) ms) q 0 b ∙ getD-drop (w * j) ms q 0 ∙ h (w * j + q) (omega arith) ∙ sym (getD-drop (w * j) ms′ q 0) ∙ sym (getD-take w (drop (w * j) ms′) q 0 b))
 
--- rows before i are written, and no word from row i on is set
+-- rows before i are written
 pub record Writing (n start L w : ℕ) (bids windows : List ℕ) (i : ℕ) (ms : List ℕ) : Type 0 where
   pub size : length ms ≡ w * n
   pub done : AllMasked i start L w bids windows ms
-  pub rest : (q : ℕ) → w * i ≤ q → getD ms q 0 ≡ 0
 
-pub writing-starts : (n start L w : ℕ) (bids windows ms : List ℕ) → length ms ≡ w * n → ((q : ℕ) → getD ms q 0 ≡ 0) → Writing n start L w bids windows 0 ms
-writing-starts n start L w bids windows ms e z = record { size = e; done = record { each = λ j l. absurd (omega arith) }; rest = λ q l. z q }
+pub writing-starts : (n start L w : ℕ) (bids windows ms : List ℕ) → length ms ≡ w * n → Writing n start L w bids windows 0 ms
+writing-starts n start L w bids windows ms e = record { size = e; done = record { each = λ j l. absurd (omega arith) } }
 
 module _ (n start L w : ℕ) (bids windows : List ℕ) (i : ℕ) (ms ys : List ℕ) (g : Writing n start L w bids windows i ms) (l : i < n)
     (m : Masked start L (own windows (rowAt bids i)) ys) (e : length ys ≡ length (midOf (w * i) (w * i + w - w * i) ms)) where
@@ -67,23 +58,13 @@ module _ (n start L w : ℕ) (bids windows : List ℕ) (i : ℕ) (ms ys : List �
   before : (q : ℕ) → q < w * i → getD new q 0 ≡ getD ms q 0
   before q h = List·getD-append (take (w * i) ms) _ 0 q (omega (arith, front)) ∙ getD-take (w * i) ms q 0 h
 
-  after : (q : ℕ) → w * i + w ≤ q → getD new q 0 ≡ getD ms q 0
-  after q h =
-      let c : w * i + w + (q - (w * i + w)) ≡ q = omega arith in
-      sym (ap (λ (k : ℕ). getD new k 0) c) ∙ sym (getD-drop (w * i + w) new (q - (w * i + w)) 0)
-      ∙ ap (λ (zs : List ℕ). getD zs (q - (w * i + w)) 0) (drop-put (w * i) (w * i + w) ms ys (omega arith) (omega (arith, g .size, row-within w n i l)) (omega (arith, wide)))
-      ∙ getD-drop (w * i + w) ms (q - (w * i + w)) 0 ∙ ap (λ (k : ℕ). getD ms k 0) c
-
   here : row new w i ≡ ys
   unfolding row
   here = ap (take w) (drop-at (take (w * i) ms) _ (w * i) front) ∙ take-at ys _ w wide
 
   pub writing-more : Writing n start L w bids windows (i + 1) new
-  writing-more = record { size = same-size ∙ g .size; done = record { each = rows }; rest = λ q h. after q (omega (arith, mul-add-one w i)) ∙ g .rest q (omega (arith, mul-add-one w i)) }
+  writing-more = record { size = same-size ∙ g .size; done = record { each = rows } }
     where
-      mul-add-one : (w i : ℕ) → w * (i + 1) ≡ w * i + w
-      mul-add-one w i = ap (λ (k : ℕ). w * k) (add-one i) ∙ mul-suc w i
-
       rows : (j : ℕ) → j < i + 1 → Masked start L (own windows (rowAt bids j)) (row new w j)
       rows j h = go (ltb j i) refl
         where

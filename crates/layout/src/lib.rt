@@ -58,7 +58,14 @@ pub fn spans(
 }
 
 // Sets the cells of the windows from `first` on, `count` of them, in words that have none.
-fn mask_row(start: u64, cells: u64, windows: &[u64], first: usize, count: usize, words: &mut [u64])
+fn add_windows(
+    start: u64,
+    cells: u64,
+    windows: &[u64],
+    first: usize,
+    count: usize,
+    words: &mut [u64],
+)
     requires { ⌜ (first + count ≤ length (now windows) / 2) × ((allLawful (windowsOf count (drop (2 * first) (now windows))) ≡ true)
         × ((cells ≤ 64 * length (now words)) × ((length (now words) ≤ 158) × ((i : ℕ) → getD (now words) i 0 ≡ 0)))) ⌝ }
     ensures { λ _. ⌜ Masked start cells (windowsOf count (drop (2 * first) (now (windows .entry)))) (now (words .exit)) ⌝ }
@@ -72,7 +79,17 @@ fn mask_row(start: u64, cells: u64, windows: &[u64], first: usize, count: usize,
     }
 }
 
-// The words of each bid, w words a bid, in words that have no cell.
+// The words of the windows from `first` on, `count` of them.
+fn mask_row(start: u64, cells: u64, windows: &[u64], first: usize, count: usize, words: &mut [u64])
+    requires { ⌜ (first + count ≤ length (now windows) / 2) × ((allLawful (windowsOf count (drop (2 * first) (now windows))) ≡ true)
+        × ((cells ≤ 64 * length (now words)) × (length (now words) ≤ 158))) ⌝ }
+    ensures { λ _. ⌜ Masked start cells (windowsOf count (drop (2 * first) (now (windows .entry)))) (now (words .exit)) ⌝ }
+{
+    rounds::clear(words);
+    add_windows(start, cells, windows, first, count, words);
+}
+
+// The words of each bid, w words a bid.
 pub fn masks(
     start: u64,
     cells: u64,
@@ -82,7 +99,7 @@ pub fn masks(
     windows: &[u64],
     out: &mut [u64],
 )
-    requires { ⌜ Orderly Multi n (now bids) (now windows) × ((length (now out) ≡ w * n) × ((cells ≤ 64 * w) × ((w ≤ 158) × ((i : ℕ) → getD (now out) i 0 ≡ 0)))) ⌝ }
+    requires { ⌜ Orderly Multi n (now bids) (now windows) × ((length (now out) ≡ w * n) × ((cells ≤ 64 * w) × (w ≤ 158))) ⌝ }
     ensures { λ _. ⌜ AllMasked n start cells w (now (bids .entry)) (now (windows .entry)) (now (out .exit)) ⌝ }
 {
     let mut i = 0;

@@ -1,4 +1,4 @@
--- `layout::masks` meets its contract: the rows passed have the cells of their bids, and no word after them is set. Assumes nothing.
+-- `layout::masks` meets its contract: the rows passed have the cells of their bids. Assumes nothing.
 use mathlib.Core.Path.{_≡_, refl, sym, ap, _∙_}
 use Prim.Native.Nat.{ℕ, _-_, _*_, _≤_}
 use native.Mathlib.Omega.{arith}
@@ -8,7 +8,7 @@ use Rattle.tender.specs.Tables.{own}
 use Rattle.rounds.specs.Market.{row}
 use Rattle.rounds.proofs.Rows.{part-row}
 use Rattle.layout.proofs.Laws.{row-room}
-use Rattle.layout.proofs.Rows.{Writing, writing-starts, writing-more, writing-ends, row-within, row-size, row-zero}
+use Rattle.layout.proofs.Rows.{Writing, writing-starts, writing-more, writing-ends, row-within, row-size}
 use Rattle.layout.proofs.masks.Statement.{statement}
 use Rattle.layout.proofs.masks.Tie as tie
 use Rattle.layout.proofs.masks.Reads as reads
@@ -23,7 +23,7 @@ abbrev μ-loop : tie.MeasureT-loop
 
 -- src/lib.rt:81:5
 loop-holds : tie.Need-loop-holds Inv-loop μ-loop
-loop-holds c = (omega arith, writing-starts (c .before .before .before .args .n) (c .before .before .before .args .start) (c .before .before .before .args .cells) (c .before .before .before .args .w) (c .before .before .before .args .bids .now) (c .before .before .before .args .windows .now) (c .before .before .before .args .out .now) (c .before .before .before .pre .1 .0) (c .before .before .before .pre .1 .1 .1 .1))
+loop-holds c = (omega arith, writing-starts (c .before .before .before .args .n) (c .before .before .before .args .start) (c .before .before .before .args .cells) (c .before .before .before .args .w) (c .before .before .before .args .bids .now) (c .before .before .before .args .windows .now) (c .before .before .before .args .out .now) (c .before .before .before .pre .1 .0))
 
 -- src/lib.rt:82:26
 mul-first : tie.Need-mul-first Inv-loop μ-loop
@@ -84,7 +84,7 @@ part-mask-row-end c = omega (arith, c .before .before .before .loop .inv .1 .siz
 -- src/lib.rt:86:9
 mask-row-requires : tie.Need-mask-row-requires Inv-loop μ-loop
 unfolding own
-mask-row-requires c κs = (row-room Multi (c .before .before .before .before .before .before .before .before .args .n) (c .before .before .before .before .before .before .before .before .args .bids .now) (c .before .before .before .before .before .before .before .before .args .windows .now) (c .before .before .before .before .before .before .before .before .pre .0) (c .before .before .before .before .loop .i) (c .before .before .before .loop-test .taken), (c .before .before .before .before .before .before .before .before .pre .0 .kept (c .before .before .before .before .loop .i) (c .before .before .before .loop-test .taken) .windows-too, rw (part-row (c .before .before .before .before .loop .out) (c .before .before .before .before .before .before .before .before .args .w) (c .before .before .before .before .loop .i)) (omega (arith, row-size (c .before .before .before .before .loop .out) (c .before .before .before .before .before .before .before .before .args .w) (c .before .before .before .before .before .before .before .before .args .n) (c .before .before .before .before .loop .i) (c .before .before .before .before .loop .inv .1 .size) (c .before .before .before .loop-test .taken), c .before .before .before .before .before .before .before .before .pre .1 .1 .0), (omega (arith, row-size (c .before .before .before .before .loop .out) (c .before .before .before .before .before .before .before .before .args .w) (c .before .before .before .before .before .before .before .before .args .n) (c .before .before .before .before .loop .i) (c .before .before .before .before .loop .inv .1 .size) (c .before .before .before .loop-test .taken), c .before .before .before .before .before .before .before .before .pre .1 .1 .1 .0), row-zero (c .before .before .before .before .loop .out) (c .before .before .before .before .before .before .before .before .args .w) (c .before .before .before .before .before .before .before .before .args .n) (c .before .before .before .before .loop .i) (c .before .before .before .before .loop .inv .1 .size) (c .before .before .before .loop-test .taken) (c .before .before .before .before .loop .inv .1 .rest)))))
+mask-row-requires c κs = (row-room Multi (c .before .before .before .before .before .before .before .before .args .n) (c .before .before .before .before .before .before .before .before .args .bids .now) (c .before .before .before .before .before .before .before .before .args .windows .now) (c .before .before .before .before .before .before .before .before .pre .0) (c .before .before .before .before .loop .i) (c .before .before .before .loop-test .taken), (c .before .before .before .before .before .before .before .before .pre .0 .kept (c .before .before .before .before .loop .i) (c .before .before .before .loop-test .taken) .windows-too, rw (part-row (c .before .before .before .before .loop .out) (c .before .before .before .before .before .before .before .before .args .w) (c .before .before .before .before .loop .i)) (omega (arith, row-size (c .before .before .before .before .loop .out) (c .before .before .before .before .before .before .before .before .args .w) (c .before .before .before .before .before .before .before .before .args .n) (c .before .before .before .before .loop .i) (c .before .before .before .before .loop .inv .1 .size) (c .before .before .before .loop-test .taken), c .before .before .before .before .before .before .before .before .pre .1 .1 .0), omega (arith, row-size (c .before .before .before .before .loop .out) (c .before .before .before .before .before .before .before .before .args .w) (c .before .before .before .before .before .before .before .before .args .n) (c .before .before .before .before .loop .i) (c .before .before .before .before .loop .inv .1 .size) (c .before .before .before .loop-test .taken), c .before .before .before .before .before .before .before .before .pre .1 .1 .1))))
 
 -- src/lib.rt:87:9
 add-i : tie.Need-add-i Inv-loop μ-loop
