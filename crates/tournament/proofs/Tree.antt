@@ -9,7 +9,7 @@ use lib.ListN.{length, getD, set, drop, length-set, length-drop}
 use lib.Seq.{getD-set-same, getD-set-other, getD-drop, ext-getD}
 use lib.Dec.{eqb, ltb}
 use borrow.Author.Tests.{eqb-true, eqb-false, ltb-true, ltb-false}
-use Rattle.tournament.specs.Tournament.{at, Priced, known, Leads, Node, Seats, Tournament, Seated, Played}
+use Rattle.tournament.specs.Tournament.{at, Priced, known, Leads, Node, Seats, Tournament, Seated, Put, Played}
 use Rattle.tournament.proofs.Order.{leads-itself, leads-on}
 
 pub known-at : (num : List ℕ) (i : ℕ) → at (known num) i ≡ at num (1024 + i)
@@ -112,18 +112,18 @@ module _ {ps who num : List ℕ} where
   pub ends : Except ps who num 0 → Tournament ps who num
   ends t = record { seats = t .seats; node = λ v a b. t .node v a b (λ e. omega arith) }
 
-  module _ {who′ num′ : List ℕ} {v : ℕ} (t : Except ps who num v) (l : 0 < v) (m : v < 1024) (p : Played ps who num who′ num′ v) where
+  module _ {who′ num′ : List ℕ} {v : ℕ} {moved : Bool} (t : Except ps who num v) (l : 0 < v) (m : v < 1024) (p : Played ps who num who′ num′ v moved) where
     other-bid : (x : ℕ) → (x ≡ v → ⊥) → at who′ x ≡ at who x
-    other-bid x n = ap (λ (xs : List ℕ). at xs x) (p .bid) ∙ getD-set-other who v x _ 0 n
+    other-bid x n = ap (λ (xs : List ℕ). at xs x) (p .put .bid) ∙ getD-set-other who v x _ 0 n
 
     other-number : (x : ℕ) → (x ≡ v → ⊥) → at num′ x ≡ at num x
-    other-number x n = ap (λ (xs : List ℕ). at xs x) (p .cells) ∙ getD-set-other num v x _ 0 n
+    other-number x n = ap (λ (xs : List ℕ). at xs x) (p .put .cells) ∙ getD-set-other num v x _ 0 n
 
     own-bid : at who′ v ≡ at who (p .better)
-    own-bid = ap (λ (xs : List ℕ). at xs v) (p .bid) ∙ getD-set-same who v _ 0 (omega (arith, t .seats .players))
+    own-bid = ap (λ (xs : List ℕ). at xs v) (p .put .bid) ∙ getD-set-same who v _ 0 (omega (arith, t .seats .players))
 
     own-number : at num′ v ≡ at num (p .better)
-    own-number = ap (λ (xs : List ℕ). at xs v) (p .cells) ∙ getD-set-same num v _ 0 (omega (arith, t .seats .numbers))
+    own-number = ap (λ (xs : List ℕ). at xs v) (p .put .cells) ∙ getD-set-same num v _ 0 (omega (arith, t .seats .numbers))
 
     played : Node ps who′ num′ v
     played =
@@ -142,8 +142,8 @@ module _ {ps who num : List ℕ} where
     pub goes : Except ps who′ num′ (v / 2)
     goes = record {
       seats = record {
-        players = ap length (p .bid) ∙ simp length-set (t .seats .players);
-        numbers = ap length (p .cells) ∙ simp length-set (t .seats .numbers);
+        players = ap length (p .put .bid) ∙ simp length-set (t .seats .players);
+        numbers = ap length (p .put .cells) ∙ simp length-set (t .seats .numbers);
         leaf = λ i q. other-bid (1024 + i) (λ e. omega arith) ∙ t .seats .leaf i q;
         few = λ x. go-few x (eqb x v) refl;
         inside = λ x. go-inside x (eqb x v) refl;
@@ -164,6 +164,14 @@ module _ {ps who num : List ℕ} where
         go-node u a b n false e = let f = eqb-false u v e in
             node-same u (λ x o. let d : (x ≡ v → ⊥) = λ z. ⊎-elim (λ c. f (sym c ∙ z)) (λ c. ⊎-elim (λ d. n (omega arith)) (λ d. n (omega arith)) c) o in (other-bid x d, other-number x d)) (t .node u a b f)
 
+    -- a node that has not moved was the last to be played
+    pub stands : moved ≡ false → Tournament ps who′ num′
+    stands e = record { seats = goes .seats; node = λ u a b. go u a b (eqb u v) refl }
+      where
+        go : (u : ℕ) → 0 < u → u < 1024 → (b : Bool) → eqb u v ≡ b → Node ps who′ num′ u
+        go u a b true d = rw (eqb-true u v d) played
+        go u a b false d = rw (p .put .still e .0, p .put .still e .1) (t .node u a b (eqb-false u v d))
+
   -- without numbers any bids in their places are a tournament
   pub emptied : {num′ : List ℕ} → Tournament ps who num → length num′ ≡ 2048 → ((v : ℕ) → at num′ v ≡ 0) → Tournament ps who num′
   emptied {num′} t e z = record {
@@ -181,6 +189,17 @@ opened ps s e z = record {
   node = λ v a b. record { origin = inl (s .first v a b, z v ∙ sym (z (2 * v))); left = inl (z (2 * v)); right = inl (z (2 * v + 1)) };
 }
 
+-- a store of what stands there already
+pub put-same : (who num : List ℕ) (v b s : ℕ) → v < length who → v < length num → at who v ≡ b → at num v ≡ s → Put who num who num v b s false
+put-same who num v b s l m e d = record { bid = same who v b e; cells = same num v s d; still = λ f. (refl, refl) }
+  where
+    same : (xs : List ℕ) (i x : ℕ) → at xs i ≡ x → xs ≡ set xs i x
+    same xs i x e = ext-getD 0 xs (set xs i x) (sym (length-set xs i x)) (λ j q. go j q (eqb j i) refl)
+      where
+        go : (j : ℕ) → j < length xs → (b : Bool) → eqb j i ≡ b → at xs j ≡ at (set xs i x) j
+        go j q true f = let z = eqb-true j i f in rw (z, getD-set-same xs i x 0 (omega (arith, z))) e
+        go j q false f = sym (getD-set-other xs i j x 0 (eqb-false j i f))
+
 -- what is known, after one store
 
 pub known-keep : (num : List ℕ) (v y : ℕ) → length num ≡ 2048 → v < 1024 → known (set num v y) ≡ known num
@@ -195,8 +214,8 @@ known-set num i x e l = ext-getD 0 (known (set num (1024 + i) x)) (set (known nu
     go j true d = rw (eqb-true j i d, getD-set-same num (1024 + i) x 0 (omega arith), getD-set-same (known num) i x 0 (omega (arith, length-known num e)))
     go j false d = rw (getD-set-other (known num) i j x 0 (eqb-false j i d), known-at num j) (getD-set-other num (1024 + i) (1024 + j) x 0 (λ z. eqb-false j i d (omega arith)))
 
-pub played-known : {ps who num who′ num′ : List ℕ} {v : ℕ} → Played ps who num who′ num′ v → length num ≡ 2048 → v < 1024 → known num′ ≡ known num
-played-known {num = num} {v = v} p e l = ap known (p .cells) ∙ known-keep num v _ e l
+pub played-known : {ps who num who′ num′ : List ℕ} {v : ℕ} {moved : Bool} → Played ps who num who′ num′ v moved → length num ≡ 2048 → v < 1024 → known num′ ≡ known num
+played-known {num = num} {v = v} p e l = ap known (p .put .cells) ∙ known-keep num v _ e l
 
 -- seating, from the last node down to node v
 pub record Seating (who : List ℕ) (v : ℕ) : Type 0 where

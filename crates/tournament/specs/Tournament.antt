@@ -2,6 +2,7 @@
 -- better of the two below. The bid at node 1 has the least price for each cell, on a tie the earlier entry.
 use mathlib.Core.Path.{_≡_}
 use mathlib.Core.Logic.{_⊎_}
+use mathlib.Core.Bool.{Bool, false}
 use mathlib.Core.List.{List}
 use Prim.Native.Nat.{ℕ, _+_, _*_, _≤_, _<_}
 use lib.ListN.{length, getD, set, drop}
@@ -47,11 +48,16 @@ pub record Seated (who : List ℕ) : Type 0 where
   pub leaf : (i : ℕ) → i < 1024 → at who (1024 + i) ≡ i
   pub first : (v : ℕ) → 0 < v → v < 1024 → at who v ≡ at who (2 * v)
 
+-- bid b stands at node v with s cells; where nothing moved it stood there before
+pub record Put (who num who′ num′ : List ℕ) (v b s : ℕ) (moved : Bool) : Type 0 where
+  pub bid : who′ ≡ set who v b
+  pub cells : num′ ≡ set num v s
+  pub still : moved ≡ false → (who′ ≡ who) × (num′ ≡ num)
+
 -- node v is played: it takes the better of the two below
-pub record Played (ps who num who′ num′ : List ℕ) (v : ℕ) : Type 0 where
+pub record Played (ps who num who′ num′ : List ℕ) (v : ℕ) (moved : Bool) : Type 0 where
   pub better : ℕ
   pub one : (better ≡ 2 * v) ⊎ (better ≡ 2 * v + 1)
-  pub bid : who′ ≡ set who v (at who better)
-  pub cells : num′ ≡ set num v (at num better)
+  pub put : Put who num who′ num′ v (at who better) (at num better) moved
   pub left : Leads ps (at who better) (at num better) (at who (2 * v)) (at num (2 * v))
   pub right : Leads ps (at who better) (at num better) (at who (2 * v + 1)) (at num (2 * v + 1))

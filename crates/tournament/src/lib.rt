@@ -4,7 +4,7 @@ ghost use mathlib.Core.Path.{_≡_};
 ghost use mathlib.Core.Bool.{true, false};
 ghost use Prim.Native.Nat.{_+_, _*_, _<_, _≤_};
 ghost use lib.ListN.{length, set};
-ghost use Rattle.tournament.specs.Tournament.{at, Priced, known, Leads, Seats, Tournament, Seated, Played};
+ghost use Rattle.tournament.specs.Tournament.{at, Priced, known, Leads, Seats, Tournament, Seated, Put, Played};
 
 // Whether bid i at s cells comes before bid j at t cells.
 fn leads(prices: &[u64], i: usize, s: u64, j: usize, t: u64) -> bool
@@ -26,23 +26,38 @@ fn leads(prices: &[u64], i: usize, s: u64, j: usize, t: u64) -> bool
     x < y
 }
 
-// Plays node v: it takes the better of the two below.
-fn play(prices: &[u64], who: &mut [u64], num: &mut [u64], v: usize)
-    requires { ⌜ Priced (now prices) × (Seats (now prices) (now who) (now num) × ((0 < v) × (v < 1024))) ⌝ }
-    ensures { λ _. ⌜ Played (now (prices .entry)) (now (who .entry)) (now (num .entry)) (now (who .exit)) (now (num .exit)) v ⌝ }
+// Sets bid b with s cells at node v. Answers whether another bid or number stood there.
+fn put(who: &mut [u64], num: &mut [u64], v: usize, b: u64, s: u64) -> bool
+    requires { ⌜ (v < length (now who)) × (v < length (now num)) ⌝ }
+    ensures { λ r. ⌜ Put (now (who .entry)) (now (num .entry)) (now (who .exit)) (now (num .exit)) v b s r ⌝ }
 {
-    let a = 2 * v;
-    let b = 2 * v + 1;
-    if leads(prices, who[a] as usize, num[a], who[b] as usize, num[b]) {
-        who[v] = who[a];
-        num[v] = num[a];
-    } else {
-        who[v] = who[b];
-        num[v] = num[b];
+    if num[v] == s {
+        if who[v] == b {
+            return false;
+        }
     }
+    who[v] = b;
+    num[v] = s;
+    true
 }
 
-// Changes what is known of bid i to x cells.
+// Plays node v: it takes the better of the two below. Answers whether that changed it.
+fn play(prices: &[u64], who: &mut [u64], num: &mut [u64], v: usize) -> bool
+    requires { ⌜ Priced (now prices) × (Seats (now prices) (now who) (now num) × ((0 < v) × (v < 1024))) ⌝ }
+    ensures { λ r. ⌜ Played (now (prices .entry)) (now (who .entry)) (now (num .entry)) (now (who .exit)) (now (num .exit)) v r ⌝ }
+{
+    let a = 2 * v;
+    let i = who[a];
+    let s = num[a];
+    let j = who[a + 1];
+    let t = num[a + 1];
+    if leads(prices, i as usize, s, j as usize, t) {
+        return put(who, num, v, i, s);
+    }
+    put(who, num, v, j, t)
+}
+
+// Changes what is known of bid i to x cells. A node that stays as it was leaves those above as they were.
 pub fn update(prices: &[u64], who: &mut [u64], num: &mut [u64], i: usize, x: u64)
     requires { ⌜ Priced (now prices) × (Tournament (now prices) (now who) (now num) × ((i < length (now prices)) × (x ≤ 10112))) ⌝ }
     ensures { λ _. ⌜ Tournament (now (prices .entry)) (now (who .exit)) (now (num .exit)) × (known (now (num .exit)) ≡ set (known (now (num .entry))) i x) ⌝ }
@@ -50,7 +65,9 @@ pub fn update(prices: &[u64], who: &mut [u64], num: &mut [u64], i: usize, x: u64
     num[1024 + i] = x;
     let mut v = (1024 + i) / 2;
     while 0 < v {
-        play(prices, who, num, v);
+        if !play(prices, who, num, v) {
+            return;
+        }
         v = v / 2;
     }
 }

@@ -14,7 +14,7 @@ clear-requires c κs = search needs
 
 -- src/lib.rt:89:5
 add-windows-requires : tie.Need-add-windows-requires
-add-windows-requires c κs =  (c .before .before .before .before .before .before .before .pre .0, (c .before .before .before .before .before .before .before .pre .1 .0, (omega (arith, c .before .before .before .clear .kept .0), (omega (arith, c .before .before .before .clear .kept .0), c .before .before .before .clear .ensures .none))))
+add-windows-requires c κs = (c .before .before .before .before .before .before .before .pre .0, (c .before .before .before .before .before .before .before .pre .1 .0, (omega (arith, c .before .before .before .clear .kept .0), (omega (arith, c .before .before .before .clear .kept .0), c .before .before .before .clear .ensures .none))))
 
 -- src/lib.rt:83:1
 same-length : tie.Need-same-length
