@@ -16,7 +16,7 @@ ghost use Rattle.tender.specs.declared.Kind.the-variants.{Single, Multi};
 ghost use Rattle.tables.specs.Faults.{faultOf};
 ghost use Rattle.tables.specs.Cells.{cellsOf};
 ghost use Rattle.award.specs.Award.{Promise};
-ghost use Rattle.award.specs.Plain.{PlainPromise, rowsIn, rowsFilled};
+ghost use Rattle.award.specs.Plain.{PlainPromise, rowOf, rowsIn, rowsFilled};
 
 // The row that an award fills for a bid: won or lost, and the cents paid.
 pub struct AwardRow {
@@ -210,6 +210,16 @@ pub fn settle(
     settle_in(kind, tender, count, bids, windows, lent, won, cents)
 }
 
+// The award row that a bid's cells say: won where its flag is 1, and the cents paid.
+fn row_of(flag: u64, paid: u64) -> AwardRow
+    ensures { λ r. ⌜ r ≡ rowOf flag paid ⌝ }
+{
+    AwardRow {
+        won: flag == 1,
+        cents: paid,
+    }
+}
+
 // Fills one award row for each of the n bids, in entry order, from its flag and cents. Rows past the last bid stay.
 fn fill(rows: &mut [AwardRow], won: &[u64], cents: &[u64], n: usize)
     requires { ⌜ (n ≤ length (now rows)) × ((n ≤ length (now won)) × (n ≤ length (now cents))) ⌝ }
@@ -217,10 +227,7 @@ fn fill(rows: &mut [AwardRow], won: &[u64], cents: &[u64], n: usize)
 {
     let mut i = 0;
     while i < n {
-        rows[i] = AwardRow {
-            won: won[i] == 1,
-            cents: cents[i],
-        };
+        rows[i] = row_of(won[i], cents[i]);
         i += 1;
     }
 }
