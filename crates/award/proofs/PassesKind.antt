@@ -1,4 +1,4 @@
--- A function that passes its parameters on to `award_in` with one kind of tender keeps that kind's promise: a walk of its MIR, by hand, for either kind k, whose number is d. The rows are given
+-- A function that passes its parameters on to `award_in` with one kind of tender keeps that kind's promise: a walk of its MIR, by hand, for either kind. The rows are given
 -- up to the callee. `award_single` and `award_multi` are such functions. Assumes `Given`, and that `award_in` meets its contract.
 use mathlib.Core.Path.{_≡_, refl}
 use Prim.Native.Nat.{ℕ, _<_, _^_}
@@ -38,6 +38,7 @@ use denote.Triple.Call.{calls-at}
 use denote.Triple.Clauses.{Clauses, closing, ensured, lasts}
 use denote.Triple.Walked.{says, Stays, stay-none, stay-none-slice, gave-slice, walkOf, AllGo, Walks, ends-at, walked, goes-none, goes-none-slice, goes-gave-slice, walk-meets}
 use Rattle.tender.specs.declared.Kind.{Kind}
+use Rattle.tender.specs.declared.Kind.the-variants.{Single, Multi}
 use Rattle.tender.specs.declared.Tender.{Tender}
 use Rattle.tender.proofs.Kind as Kin
 use Rattle.tender.proofs.Kind.Laws as Kin′
@@ -60,15 +61,31 @@ word = tyInt w64
 abbrev rowsTy : Ty
 rowsTy = tyRef erased mut (pointee (Row.the-row .written))
 
+-- the kind's number
+abbrev number : Kind → ℕ
+number Single = 0
+number Multi = 1
+
+abbrev kindVal : Kind → Val
+kindVal k = vstruct (vcons (vint w8 (number k)) vnil)
+
+is-kind : (k : Kind) → Is Kin.the-row k (kindVal k ∷ [])
+is-kind Single = EL.owes Kin.the-type Kin′.the-laws Single tt
+is-kind Multi = EL.owes Kin.the-type Kin′.the-laws Multi tt
+
+small : (k : Kind) → Holds (ltb (number k) (2 ^ 8))
+small Single = tt
+small Multi = tt
+
 -- the MIR of the two functions
-abbrev pub function : ℕ → Fn
-function d = record {
+abbrev pub function : Kind → Fn
+function k = record {
   lifetimes = 3;
   outlives = [];
   params = 5;
   locals = local Ans′.mir valueLocal ∷ local Ten′.mir valueLocal ∷ local word valueLocal ∷ local (sliceTy (tyRef (named 0) imm word)) valueLocal ∷ local (sliceTy (tyRef (named 1) imm word)) valueLocal
       ∷ local (sliceTy (tyRef (named 2) mut (pointee (Row.the-row .written)))) valueLocal ∷ local Kin′.mir valueLocal ∷ local rowsTy valueLocal ∷ local (sliceTy rowsTy) valueLocal ∷ [];
-  body = seq (assign (place 6 []) (aggregate (int w8 d ∷ [])))
+  body = seq (assign (place 6 []) (aggregate (int w8 (number k) ∷ [])))
       (seq (assign (place 7 []) (addrOf (place 5 (field 0 ∷ deref Row′.mir ∷ []))))
       (seq (assign (place 8 []) (aggregate (copy (place 7 []) ∷ copy (place 5 (field 1 ∷ [])) ∷ [])))
       (seq (call #award·award-in (copy (place 6 []) ∷ copy (place 1 []) ∷ copy (place 2 []) ∷ copy (place 3 []) ∷ copy (place 4 []) ∷ copy (place 8 []) ∷ []) (place 0 [])) return)));
@@ -96,10 +113,7 @@ Left = Unit {0} × (Unit {0} × (Unit {0} × (Unit {0} × (Unit {0} × (List Awa
 abbrev zs-rows : Left → List AwardRow
 zs-rows zs = zs .1 .1 .1 .1 .1 .0
 
-abbrev kindVal : ℕ → Val
-kindVal d = vstruct (vcons (vint w8 d) vnil)
-
-module _ {M : Type 1} (𝓤 : URA M) (H : Heap 𝓤) (A : Atoms 𝓤) (W : Given 𝓤 H A) (at-mem : Memory → SProp 𝓤) (run : Routine → Fun 𝓤) (k : Kind) (d : ℕ) (small : Holds (ltb d (2 ^ 8))) (isk : Is Kin.the-row k (kindVal d ∷ [])) where
+module _ {M : Type 1} (𝓤 : URA M) (H : Heap 𝓤) (A : Atoms 𝓤) (W : Given 𝓤 H A) (at-mem : Memory → SProp 𝓤) (run : Routine → Fun 𝓤) (k : Kind) where
   module _ (κ0 κ1 κ2 : Lft) (q0 q1 q2 : Share)
       (t : Tender) (vt : Val) (n : ℕ) (b0 o0 : ℕ) (γ0 : GName) (bs : List ℕ) (b1 o1 : ℕ) (γ1 : GName) (ws : List ℕ) (b2 o2 : ℕ) (γ2 : GName) (ys : List AwardRow)
       (ist : Is Ten.the-row t (vt ∷ [])) (gn : n < 2 ^ 64) (g0 : Room u64 (length bs)) (g1 : Room u64 (length ws)) (g2 : Room Row.the-row (length ys)) where
@@ -157,23 +171,23 @@ module _ {M : Type 1} (𝓤 : URA M) (H : Heap 𝓤) (A : Atoms 𝓤) (W : Given
 
     -- what `award_in` is passed
     abbrev to-award : AwardIn 𝓤 H A at-mem run .Ghost
-    to-award = (((κ0, (κ1, (κ2, tt))), (q0, (q1, (q2, tt))), tt, (k, args), (kindVal d ∷ [], at)), tt)
+    to-award = (((κ0, (κ1, (κ2, tt))), (q0, (q1, (q2, tt))), tt, (k, args), (kindVal k ∷ [], at)), tt)
 
     goes-award : ent 𝓤 (⋆ 𝓤 H A (Tokens ∷ Bids ∷ Wins ∷ Rows ∷ [])) (AwardIn 𝓤 H A at-mem run .pre to-award)
     goes-award =
         qed W (Tokens ∷ Bids ∷ Wins ∷ Rows ∷ []) ∵
         nothing ! $ move ! (4 ∷ 0 ∷ []) $ fjoin ! $ move ! (3 ∷ 0 ∷ []) $ fjoin ! $ move ! (2 ∷ 0 ∷ []) $ fjoin ! $ owned ! usize (Is usize) (uint-makes 𝓤 H A W w64) n (vint w64 n ∷ []) (refl, gn) $ fjoin ! $
-        owned ! Ten.the-row (Is Ten.the-row) (LL.makes Ten.the-type Ten′.the-plain 𝓤 H A) t (vt ∷ []) ist $ fjoin ! $ owned ! Kin.the-row (Is Kin.the-row) (EL.makes Kin.the-type Kin′.the-plain 𝓤 H A) k (kindVal d ∷ []) isk $ fjoin ! $
+        owned ! Ten.the-row (Is Ten.the-row) (LL.makes Ten.the-type Ten′.the-plain 𝓤 H A) t (vt ∷ []) ist $ fjoin ! $ owned ! Kin.the-row (Is Kin.the-row) (EL.makes Kin.the-type Kin′.the-plain 𝓤 H A) k (kindVal k ∷ []) (is-kind k) $ fjoin ! $
         move ! (1 ∷ 0 ∷ []) $ join ! $ frame ! $ done !
 
     walk : (𝓣 : Tables 𝓤 H) → FmC 𝓤 H (W .laws) (𝓣 .C) → Triple 𝓤 (𝓣 .C #award·award-in) (AwardIn 𝓤 H A at-mem run)
-        → ent 𝓤 (onEntry 𝓤 H A f.signature (κ0, (κ1, (κ2, tt))) (q0, (q1, (q2, tt))) args at) (WpFn 𝓤 H (𝓣 .C) (𝓣 .Λ) (function d) (vt ∷ vint w64 n ∷ s0 ∷ s1 ∷ s2 ∷ []) Post)
+        → ent 𝓤 (onEntry 𝓤 H A f.signature (κ0, (κ1, (κ2, tt))) (q0, (q1, (q2, tt))) args at) (WpFn 𝓤 H (𝓣 .C) (𝓣 .Λ) (function k) (vt ∷ vint w64 n ∷ s0 ∷ s1 ∷ s2 ∷ []) Post)
     walk 𝓣 fm known =
         qed W (Tokens ∷ ‵ (owns (Ten.the-row ∷ usize ∷ ShrSlice (named 0) κ0 u64 ∷ ShrSlice (named 1) κ1 u64 ∷ MutSlice (named 2) κ2 Row.the-row ∷ []) args at) ∷ []) ∵
-        enter ! (𝓣 .C) (𝓣 .Λ) (function d) (vt ∷ vint w64 n ∷ s0 ∷ s1 ∷ s2 ∷ []) _ $
+        enter ! (𝓣 .C) (𝓣 .Λ) (function k) (vt ∷ vint w64 n ∷ s0 ∷ s1 ∷ s2 ∷ []) _ $
         alloc1 ! (λ l0. alloc1 ! (λ l1. alloc1 ! (λ l2. alloc1 ! (λ l3. alloc1 ! (λ l4. alloc1 ! (λ l5. alloc1 ! (λ l6. alloc1 ! (λ l7. alloc1 ! (λ l8. alloc0 ! $ params1 ! $
         pass1 ! (init ! 14 refl (LL.lawful Ten.the-type Ten′.the-laws 𝓤 H A W .typed t _ ist .0)) $ pass1 ! (init ! 12 refl (tt, record { fits = gn })) $ pass1 ! (init ! 10 refl (tt, (tt, (record { fits = g0 .0 }, tt)))) $ pass1 ! (init ! 8 refl (tt, (tt, (record { fits = g1 .0 }, tt)))) $ pass1 ! (init ! 6 refl (tt, (tt, (record { fits = g2 .0 }, tt)))) $ pass0 ! $
-        assigns ! (agg ! (and-then ! (lit ! small) (no-more !))) (from ! (stop !)) (init ! 4 refl (EL.lawful Kin.the-type Kin′.the-laws 𝓤 H A W tt .typed k _ isk .0)) $
+        assigns ! (agg ! (and-then ! (lit ! (small k)) (no-more !))) (from ! (stop !)) (init ! 4 refl (EL.lawful Kin.the-type Kin′.the-laws 𝓤 H A W tt .typed k _ (is-kind k) .0)) $
         assigns ! (addr ! (from ! (fld ! refl (hop ! (look-in ! 6 (sub ! 0 refl (whole !))) (stop !))))) (from ! (stop !)) (init ! 2 refl (tt, tt)) $
         assigns ! (agg ! (and-then ! (load ! (from ! (stop !)) (look ! 2 refl)) (and-then ! (load ! (from ! (fld ! refl (stop !))) (look-in ! 6 (sub ! 1 refl (whole !)))) (no-more !)))) (from ! (stop !)) (init ! 0 refl (tt, (tt, (record { fits = g2 .0 }, tt)))) $
         -- what is owned is taken apart; the two tables are had twice
@@ -187,8 +201,8 @@ module _ {M : Type 1} (𝓤 : URA M) (H : Heap 𝓤) (A : Atoms 𝓤) (W : Given
         returns ! (look ! 20 refl) $ forget ! 20 refl $ forget ! 18 refl $ forget ! 16 refl $ forget ! 14 refl $ forget ! 12 refl $ forget ! 10 refl $ forget ! 8 refl $ forget ! 6 refl $ forget ! 4 refl $
         move ! (20 ∷ 21 ∷ []) $ free1 ! $ move ! (18 ∷ 19 ∷ []) $ free1 ! $ move ! (16 ∷ 17 ∷ []) $ free1 ! $ move ! (14 ∷ 15 ∷ []) $ free1 ! $ move ! (12 ∷ 13 ∷ []) $ free1 ! $ move ! (10 ∷ 11 ∷ []) $ free1 ! $ move ! (8 ∷ 9 ∷ []) $ free1 ! $ move ! (6 ∷ 7 ∷ []) $ free1 ! $ move ! (4 ∷ 5 ∷ []) $ free1 ! $ free0 ! $ keep ! (0 ∷ 3 ∷ 2 ∷ 1 ∷ []) $ by ! (exits a va isa (zs-rows zs) kr e))))))))))))))))
 
-  passes : (𝓣 : Tables 𝓤 H) → Triple 𝓤 (𝓣 .C #award·award-in) (AwardIn 𝓤 H A at-mem run) → Walks 𝓤 H A f.ended stayed (WpFn 𝓤 H (𝓣 .C) (𝓣 .Λ) (function d)) (clauses 𝓤 k)
-  passes 𝓣 known = walked 𝓤 H A f.ended stayed (clauses 𝓤 k) (WpFn 𝓤 H (𝓣 .C) (𝓣 .Λ) (function d))
+  passes : (𝓣 : Tables 𝓤 H) → Triple 𝓤 (𝓣 .C #award·award-in) (AwardIn 𝓤 H A at-mem run) → Walks 𝓤 H A f.ended stayed (WpFn 𝓤 H (𝓣 .C) (𝓣 .Λ) (function k)) (clauses 𝓤 k)
+  passes 𝓣 known = walked 𝓤 H A f.ended stayed (clauses 𝓤 k) (WpFn 𝓤 H (𝓣 .C) (𝓣 .Λ) (function k))
       (λ κs. (LL.vals Ten.the-type Ten′.the-laws, (uint-vals w64, (slice-vals, (slice-vals, (slice-vals, tt))))))
       (λ κs. (LL.tells Ten.the-type Ten′.the-laws, (uint-tells w64, (shr-slice-tells (named 0) (κs .0) u64, (shr-slice-tells (named 1) (κs .1 .0) u64, (mut-slice-tells (named 2) (κs .1 .1 .0) Row.the-row, tt))))))
       (λ κs qs bounds a g are. via 𝓤 _ (fst∗ 𝓤 _ (emp 𝓤)) (walk (κs .0) (κs .1 .0) (κs .1 .1 .0) (qs .0) (qs .1 .0) (qs .1 .1 .0)
@@ -206,5 +220,5 @@ module _ {M : Type 1} (𝓤 : URA M) (H : Heap 𝓤) (A : Atoms 𝓤) (W : Given
     ),
   )
 
-  pub meets : (𝓣 : Tables 𝓤 H) → Triple 𝓤 (𝓣 .C #award·award-in) (AwardIn 𝓤 H A at-mem run) → Meets 𝓤 H A f.signature (WpFn 𝓤 H (𝓣 .C) (𝓣 .Λ) (function d)) (closing 𝓤 H A f.ended (clauses 𝓤 k))
-  meets 𝓣 known = walk-meets 𝓤 H A f.ended stayed W goes (clauses 𝓤 k) (WpFn 𝓤 H (𝓣 .C) (𝓣 .Λ) (function d)) (WpFn-mono 𝓤 H (W .laws) 𝓣 (function d)) (passes 𝓣 known)
+  pub meets : (𝓣 : Tables 𝓤 H) → Triple 𝓤 (𝓣 .C #award·award-in) (AwardIn 𝓤 H A at-mem run) → Meets 𝓤 H A f.signature (WpFn 𝓤 H (𝓣 .C) (𝓣 .Λ) (function k)) (closing 𝓤 H A f.ended (clauses 𝓤 k))
+  meets 𝓣 known = walk-meets 𝓤 H A f.ended stayed W goes (clauses 𝓤 k) (WpFn 𝓤 H (𝓣 .C) (𝓣 .Λ) (function k)) (WpFn-mono 𝓤 H (W .laws) 𝓣 (function k)) (passes 𝓣 known)

@@ -1,11 +1,8 @@
 -- `award::award_single` meets its contract: it passes its parameters on to `award_in` (`PassesKind`). Assumes nothing.
 use contract.Running.{givenOf, tables, tablesOf}
-use denote.Enum.Laws as EL
 use denote.Triple.Spec.{tripleOf}
 use denote.Triple.Table.{entered, cited}
 use Rattle.tender.specs.declared.Kind.the-variants.{Single}
-use Rattle.tender.proofs.Kind as Kin
-use Rattle.tender.proofs.Kind.Laws as Kin′
 use Rattle.award.proofs.PassesKind.{AwardIn, meets}
 use Rattle.award.proofs.award_in.Symbol as award-def
 use Rattle.award.proofs.award_in.Symbol.{name as #award·award-in}
@@ -20,5 +17,5 @@ unfolding code.routine tablesOf
 award-single-spec 𝓤 H 𝓜 𝓖 𝓡 =
     entered 𝓤 H (tripleOf 𝓤 H (𝓖 .A) f.signature (f.spec 𝓤 H (𝓖 .A) (𝓜 .mem) (𝓡 .run)))
     (tables 𝓤 H 𝓜 𝓡 code.env .C) (tables 𝓤 H 𝓜 𝓡 code.env .Λ) #award·award-single code.function (code.unfolded 𝓤 H 𝓜 𝓡)
-    (meets 𝓤 H (𝓖 .A) (givenOf 𝓤 H 𝓜 𝓖) (𝓜 .mem) (𝓡 .run) Single 0 tt (EL.owes Kin.the-type Kin′.the-laws Single tt) (tablesOf 𝓤 H 𝓜 (tables 𝓤 H 𝓜 𝓡 code.env))
+    (meets 𝓤 H (𝓖 .A) (givenOf 𝓤 H 𝓜 𝓖) (𝓜 .mem) (𝓡 .run) Single (tablesOf 𝓤 H 𝓜 (tables 𝓤 H 𝓜 𝓡 code.env))
     (cited 𝓤 H (AwardIn 𝓤 H (𝓖 .A) (𝓜 .mem) (𝓡 .run)) 𝓜 𝓡 code.env #award·award-in award-def.routine code.calls-award·award-in (award-thm.met 𝓤 H 𝓜 𝓖 𝓡)))
