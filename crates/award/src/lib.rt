@@ -1,7 +1,7 @@
-// The awards on tables. `settle` answers every call over plain cells: a flag and the cents paid for each bid. `settle_in`
-// does so for a stated number of award rows, and `fill` fills a lent slice of row structs from the cells.
-// `specs/` has what an award answers (`Award`), the promise over plain cells (`Plain`) and on rows (`RowsPromise`), the
-// worked tenders and the demands.
+// The awards on tables. `award_single` and `award_multi` answer every call over a lent slice of award rows, and `settle`
+// every call over plain cells: a flag and the cents paid for each bid. None of them requires anything.
+// `specs/` has what an award answers and promises on rows (`Award`), the promise over plain cells (`Plain`), how the one
+// gives the other (`RowsPromise`), the worked tenders and the demands.
 use bidders::Thin;
 use tables::Check;
 use tender::Kind;
@@ -242,7 +242,7 @@ fn rows_filled(answer: Answer, count: usize) -> usize
     }
 }
 
-// The award of this kind, over a lent slice of award rows. No first value of the two arrays is read.
+// The award of this kind over a lent slice of award rows: settled over cells of its own, and then filled in.
 fn award_in(
     kind: Kind,
     tender: Tender,
@@ -271,7 +271,7 @@ fn award_in(
     answer
 }
 
-// The award of a single tender.
+// The award of a single tender: one award row filled for each bid, or a refusal, which leaves every row as it was.
 pub fn award_single(
     tender: Tender,
     count: usize,
@@ -284,7 +284,7 @@ pub fn award_single(
     award_in(Kind::Single, tender, count, bids, windows, rows)
 }
 
-// The award of a multi tender.
+// The award of a multi tender, likewise.
 pub fn award_multi(
     tender: Tender,
     count: usize,
