@@ -1,3 +1,5 @@
 pub mod Multi
 pub mod Prefix
 pub mod Single
+pub mod LocalArray
+pub mod PassesKind

@@ -1,5 +1,5 @@
 -- The demands, each proved by citing. `Promise k ..` says of a call of the award of the kind k, made with n bids stated and the award rows `old` lent, that it answers a and
--- leaves the rows `new`; `told n new a` is what it told. `settle` keeps it, its cells read as rows, and so does `settle_in` followed by `fill` (`RowsPromise`). Assumes nothing.
+-- leaves the rows `new`; `told n new a` is what it told. `award_single` and `award_multi` keep it, and so does `settle`, its cells read as rows (`RowsPromise`). Assumes nothing.
 use mathlib.Core.Path.{_≡_}
 use mathlib.Core.List.{List, _++_}
 use mathlib.Core.Bool.{true}

@@ -14,10 +14,14 @@ use Rattle.award.specs.declared.Answer.{Answer}
 use Rattle.award.specs.declared.Answer.the-variants.{Awarded, Refused}
 use Rattle.award.specs.Award.{Outcome, awarded, refused, Answers}
 
+-- the award row that a bid's flag and cents say
+abbrev pub rowOf : ℕ → ℕ → AwardRow
+rowOf flag paid = record { won = eqb flag 1; cents = paid }
+
 -- the award rows that the cells of n bids say
 unfoldable pub rowsIn : ℕ → List ℕ → List ℕ → List AwardRow
 unfolding listed
-rowsIn n won cents = listed n (λ i. record { won = eqb (getD won i 0) 1; cents = getD cents i 0 })
+rowsIn n won cents = listed n (λ i. rowOf (getD won i 0) (getD cents i 0))
 
 -- what a call on n bids told: its answer, and the cells of the n bids where it awards
 unfoldable pub toldIn : ℕ → List ℕ → List ℕ → Answer → Outcome
@@ -39,3 +43,8 @@ pub record PlainPromise (k : Kind) (t : Tender) (n : ℕ) (bids windows : List �
   pub answers : Answers k t n bids windows lent (toldIn n won′ cents′ a)
   pub won-cells : won′ ≡ wonAfter won (toldIn n won′ cents′ a)
   pub cents-cells : cents′ ≡ centsAfter cents (toldIn n won′ cents′ a)
+
+-- the award rows that an answer on n bids fills: one for each bid where it awards, none where it declines
+unfoldable pub rowsFilled : Answer → ℕ → ℕ
+rowsFilled (Awarded totals) n = n
+rowsFilled (Refused r) n = 0

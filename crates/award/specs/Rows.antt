@@ -1,21 +1,21 @@
 -- The award rows that a fill writes, one store after the other; with the law that they are the rows that the cells say.
 use mathlib.Core.Path.{_≡_, refl, sym, ap, _∙_}
-use mathlib.Core.List.{List, [], _∷_, _++_}
+use mathlib.Core.List.{List, _++_}
 use mathlib.Core.Bool.{Bool, true, false}
 use Prim.Native.Nat.{ℕ, zero, suc, _+_, _-_, _≤_, _<_}
 use native.Mathlib.Omega.{arith}
 use lib.ListN.{length, getD, set, drop, length-set, length-append, length-drop, List·getD-append}
 use lib.Seq.{ext-getD, getD-set-same, getD-set-other, getD-drop, getD-append-add}
-use lib.Dec.{ltb, eqb}
+use lib.Dec.{ltb}
 use borrow.Author.Tests.{ltb-true, ltb-false}
 use Rattle.award.specs.declared.AwardRow.{AwardRow}
 use Rattle.award.specs.Gain.{lost}
-use Rattle.award.specs.Plain.{rowsIn}
+use Rattle.award.specs.Plain.{rowOf, rowsIn}
 use Rattle.award.specs.SettleLaws.{length-listed, getD-listed}
 
 -- the row of bid i: won where its flag is 1, and its cents
 abbrev pub rowAt : List ℕ → List ℕ → ℕ → AwardRow
-rowAt won cents i = record { won = eqb (getD won i 0) 1; cents = getD cents i 0 }
+rowAt won cents i = rowOf (getD won i 0) (getD cents i 0)
 
 -- the rows with those of the first n bids written
 abbrev pub filled : ℕ → List ℕ → List ℕ → List AwardRow → List AwardRow

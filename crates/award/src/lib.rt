@@ -1,7 +1,7 @@
-// The awards on tables. `settle` answers every call over plain cells: a flag and the cents paid for each bid. `settle_in`
-// does so for a stated number of award rows, and `fill` fills a lent slice of row structs from the cells.
-// `specs/` has what an award answers (`Award`), the promise over plain cells (`Plain`) and on rows (`RowsPromise`), the
-// worked tenders and the demands.
+// The awards on tables. `award_single` and `award_multi` answer every call over a lent slice of award rows, and `settle`
+// every call over plain cells: a flag and the cents paid for each bid. None of them requires anything.
+// `specs/` has what an award answers and promises on rows (`Award`), the promise over plain cells (`Plain`), how the one
+// gives the other (`RowsPromise`), the worked tenders and the demands.
 use bidders::Thin;
 use tables::Check;
 use tender::Kind;
@@ -15,7 +15,8 @@ ghost use lib.ListN.{length, getD, drop};
 ghost use Rattle.tender.specs.declared.Kind.the-variants.{Single, Multi};
 ghost use Rattle.tables.specs.Faults.{faultOf};
 ghost use Rattle.tables.specs.Cells.{cellsOf};
-ghost use Rattle.award.specs.Plain.{PlainPromise, rowsIn};
+ghost use Rattle.award.specs.Award.{Promise};
+ghost use Rattle.award.specs.Plain.{PlainPromise, rowOf, rowsIn, rowsFilled};
 
 // The row that an award fills for a bid: won or lost, and the cents paid.
 pub struct AwardRow {
@@ -157,7 +158,7 @@ fn settle_single(
 }
 
 // The award of this kind where `lent` award rows are lent: first 9, then 10, then the tender itself.
-pub fn settle_in(
+fn settle_in(
     kind: Kind,
     tender: Tender,
     count: usize,
@@ -209,17 +210,89 @@ pub fn settle(
     settle_in(kind, tender, count, bids, windows, lent, won, cents)
 }
 
+// The award row that a bid's cells say: won where its flag is 1, and the cents paid.
+fn row_of(flag: u64, paid: u64) -> AwardRow
+    ensures { λ r. ⌜ r ≡ rowOf flag paid ⌝ }
+{
+    AwardRow {
+        won: flag == 1,
+        cents: paid,
+    }
+}
+
 // Fills one award row for each of the n bids, in entry order, from its flag and cents. Rows past the last bid stay.
-pub fn fill(rows: &mut [AwardRow], won: &[u64], cents: &[u64], n: usize)
+fn fill(rows: &mut [AwardRow], won: &[u64], cents: &[u64], n: usize)
     requires { ⌜ (n ≤ length (now rows)) × ((n ≤ length (now won)) × (n ≤ length (now cents))) ⌝ }
     ensures { λ _. ⌜ now (rows .exit) ≡ rowsIn n (now (won .entry)) (now (cents .entry)) ++ drop n (now (rows .entry)) ⌝ }
 {
     let mut i = 0;
     while i < n {
-        rows[i] = AwardRow {
-            won: won[i] == 1,
-            cents: cents[i],
-        };
+        rows[i] = row_of(won[i], cents[i]);
         i += 1;
     }
+}
+
+// The award rows that an answer fills: one for each bid where it awards, none where it declines.
+fn rows_filled(answer: Answer, count: usize) -> usize
+    ensures { λ n. ⌜ n ≡ rowsFilled answer count ⌝ }
+{
+    match answer {
+        Answer::Awarded(totals) => count,
+        Answer::Refused(refusal) => 0,
+    }
+}
+
+// The award of this kind over a lent slice of award rows: settled over cells of its own, and then filled in.
+fn award_in(
+    kind: Kind,
+    tender: Tender,
+    count: usize,
+    bids: &[u64],
+    windows: &[u64],
+    rows: &mut [AwardRow],
+) -> Answer
+    ensures { λ r. ⌜ Promise kind tender count (now (bids .entry)) (now (windows .entry)) (now (rows .entry)) (now (rows .exit)) r ⌝ }
+{
+    let mut won = [1u64; 1000];
+    let mut cents = [1u64; 1000];
+    let lent = rows.len();
+    let answer = settle_in(
+        kind,
+        tender,
+        count,
+        bids,
+        windows,
+        lent,
+        &mut won,
+        &mut cents,
+    );
+    let n = rows_filled(answer, count);
+    fill(rows, &won, &cents, n);
+    answer
+}
+
+// The award of a single tender: one award row filled for each bid, or a refusal, which leaves every row as it was.
+pub fn award_single(
+    tender: Tender,
+    count: usize,
+    bids: &[u64],
+    windows: &[u64],
+    rows: &mut [AwardRow],
+) -> Answer
+    ensures { λ r. ⌜ Promise Single tender count (now (bids .entry)) (now (windows .entry)) (now (rows .entry)) (now (rows .exit)) r ⌝ }
+{
+    award_in(Kind::Single, tender, count, bids, windows, rows)
+}
+
+// The award of a multi tender, likewise.
+pub fn award_multi(
+    tender: Tender,
+    count: usize,
+    bids: &[u64],
+    windows: &[u64],
+    rows: &mut [AwardRow],
+) -> Answer
+    ensures { λ r. ⌜ Promise Multi tender count (now (bids .entry)) (now (windows .entry)) (now (rows .entry)) (now (rows .exit)) r ⌝ }
+{
+    award_in(Kind::Multi, tender, count, bids, windows, rows)
 }
