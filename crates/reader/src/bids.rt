@@ -10,7 +10,7 @@ ghost use Rattle.scan.specs.Words.{cut};
 ghost use Rattle.scan.specs.Line.{lineOf, linesOf};
 ghost use Rattle.reader.specs.Read.{faultIn};
 ghost use Rattle.reader.specs.Steps.{faultAt, verdictOf, Taken, Filled};
-use crate::tables::put_row;
+use crate::rows::put_row;
 use scan::line::Line;
 use scan::line::read_line;
 use scan::words::LineEnd;

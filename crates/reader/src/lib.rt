@@ -8,16 +8,16 @@ ghost use Rattle.reader.specs.Answer.{told, summary, bidsAfter, windowsA
 ghost use Rattle.reader.specs.Steps.{Opened};
 
 mod bids;
-mod tables;
+mod rows;
 
 use bids::Bids;
 use bids::read_bids;
+use rows::copy;
 use scan::line::Line;
 use scan::line::keeps;
 use scan::line::read_line;
 use scan::words::LineEnd;
 use scan::words::line_end;
-use tables::copy;
 use tender::Refusal;
 use tender::Tender;
 
@@ -75,8 +75,8 @@ pub fn read(text: &[u8], bids: &mut [u64], windows: &mut [u64]) -> Reading
     if tender::MAX_TEXT < text.len() {
         return Reading::Refused(Refusal::TextTooLong);
     }
-    let mut rows = [0u64; BID_TABLE];
-    let mut spans = [0u64; WINDOW_TABLE];
+    let mut rows = [1u64; BID_TABLE];
+    let mut spans = [1u64; WINDOW_TABLE];
     let mut used = [0u64; NUMBER_WORDS];
     match read_first(text, &mut spans) {
         First::Tender(t, at) => {

@@ -31,7 +31,7 @@ slice-aggregate-read-bids-3 c = search needs
 
 read-bids-requires : tie.Need-read-bids-requires
 read-bids-requires c κs = let b = opened-tender (c .before .before .before .before .before .before .before .before .before .before .before .before .before .args .text .now) _ (c .before .before .before .before .before .before .before .read-first .ensures) _ _ (c .before .before .before .before .t .given .1) in
-    (b .inside, c .before .before .before .before .before .before .before .before .before .if1 .left, refl, length-replicate {A = ℕ} 4000 0, c .before .before .before .before .before .before .before .read-first .kept .1 .0 ∙ length-replicate {A = ℕ} 22000 0)
+    (b .inside, c .before .before .before .before .before .before .before .before .before .if1 .left, refl, length-replicate {A = ℕ} 4000 1, c .before .before .before .before .before .before .before .read-first .kept .1 .0 ∙ length-replicate {A = ℕ} 22000 1)
 
 enum-known-k : tie.Need-enum-known-k
 enum-known-k c = search needs
@@ -54,7 +54,7 @@ mul-copy c = search needs
 
 copy-requires : tie.Need-copy-requires
 copy-requires c κs = let h = filled-held _ _ _ _ _ (c .before .before .before .before .before .before .before .before .before .before .read-bids .ensures) _ _ (c .before .before .before .before .before .k .given .1) in
-    (omega (arith, h .few-bids, c .before .before .before .before .before .before .before .before .before .before .read-bids .kept .1 .1 .1 .1 .0, length-replicate {A = ℕ} 4000 0), omega (arith, c .before .before .before .if2 .left))
+    (omega (arith, h .few-bids, c .before .before .before .before .before .before .before .before .before .before .read-bids .kept .1 .1 .1 .1 .0, length-replicate {A = ℕ} 4000 1), omega (arith, c .before .before .before .if2 .left))
 
 slice-aggregate-copy-2 : tie.Need-slice-aggregate-copy-2
 slice-aggregate-copy-2 c = search needs
@@ -64,7 +64,7 @@ mul-copy-2 c = let h = filled-held _ _ _ _ _ (c .before .before .before .before 
 
 copy-requires-2 : tie.Need-copy-requires-2
 copy-requires-2 c κs = let h = filled-held _ _ _ _ _ (c .before .before .before .before .before .before .before .before .before .before .before .before .before .before .before .read-bids .ensures) _ _ (c .before .before .before .before .before .before .before .before .before .before .k .given .1) in
-    (omega (arith, h .few-windows, c .before .before .before .before .before .before .before .before .before .before .before .before .before .before .before .read-bids .kept .1 .1 .1 .1 .1 .0, c .before .before .before .before .before .before .before .before .before .before .before .before .before .before .before .before .before .before .before .before .before .before .before .read-first .kept .1 .0, length-replicate {A = ℕ} 22000 0), omega (arith, c .before .before .before .before .before .before .before .if3 .left))
+    (omega (arith, h .few-windows, c .before .before .before .before .before .before .before .before .before .before .before .before .before .before .before .read-bids .kept .1 .1 .1 .1 .1 .0, c .before .before .before .before .before .before .before .before .before .before .before .before .before .before .before .before .before .before .before .before .before .before .before .read-first .kept .1 .0, length-replicate {A = ℕ} 22000 1), omega (arith, c .before .before .before .before .before .before .before .if3 .left))
 
 enum-known-r : tie.Need-enum-known-r
 enum-known-r c = search needs

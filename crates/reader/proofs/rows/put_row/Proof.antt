@@ -1,11 +1,11 @@
--- `tables::put_row` meets its contract: four stores in a row. Assumes nothing.
+-- `rows::put_row` meets its contract: four stores in a row. Assumes nothing.
 use Prim.Native.Nat.{_*_}
 use native.Mathlib.Omega.{arith}
 use lib.ListN.{length-set}
 use Rattle.reader.proofs.Table.{stored}
 use borrow.Author.Needs.{needs}
-use Rattle.reader.proofs.tables.put_row.Statement.{statement}
-use Rattle.reader.proofs.tables.put_row.Tie as tie
+use Rattle.reader.proofs.rows.put_row.Statement.{statement}
+use Rattle.reader.proofs.rows.put_row.Tie as tie
 
 mul-at : tie.Need-mul-at
 mul-at c = search needs

@@ -1,4 +1,4 @@
--- `tables::copy` meets its contract: the cells before the walk's place are copied, and the others stand. Assumes nothing.
+-- `rows::copy` meets its contract: the cells before the walk's place are copied, and the others stand. Assumes nothing.
 use Prim.Native.Nat.{_+_, _-_, _≤_}
 use mathlib.Core.Path.{_≡_, refl, ap, _∙_}
 use mathlib.Core.List.{_++_}
@@ -6,8 +6,8 @@ use native.Mathlib.Omega.{arith}
 use lib.ListN.{length, take, drop, set, getD}
 use Rattle.reader.proofs.Table.{copied, copied-length}
 use borrow.Author.Needs.{needs}
-use Rattle.reader.proofs.tables.copy.Statement.{statement}
-use Rattle.reader.proofs.tables.copy.Tie as tie
+use Rattle.reader.proofs.rows.copy.Statement.{statement}
+use Rattle.reader.proofs.rows.copy.Tie as tie
 
 abbrev Inv-loop : tie.InvT-loop
 Inv-loop from n to₀ i₀ to i = (to ≡ take i from ++ drop i to₀) × (i ≤ n) × (n ≤ length from) × (n ≤ length to₀)
