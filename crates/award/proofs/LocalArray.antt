@@ -1,8 +1,8 @@
 -- A local array of n numbers in a walk by hand: filled with one number, lent as a slice and taken back, and its room again. Between, its elements lie in memory (`row`).
 --     repeated         n times a number is a value of the array's type
 --     elements         the cell that holds n times a number is n elements in memory
---     lends, ends      the elements are lent as a `&κ mut [u64]`, and taken back at their last values once κ is over
---     shows, shown     the elements are lent as a `&κ [u64]`, and taken back once κ is over
+--     lends, comes-back                    the elements are lent as a `&κ mut [u64]`, and come back at their last values once κ is over
+--     lends-shared, comes-back-shared      the elements are lent as a `&κ [u64]`, and come back once κ is over
 --     as-room          n elements in memory are room for an array
 -- Assumes `Given`.
 use mathlib.Core.Path.{_≡_, refl}
@@ -65,13 +65,13 @@ module _ {M : Type 1} (𝓤 : URA M) (H : Heap 𝓤) (A : Atoms 𝓤) (W : Given
   pub lends : Room u64 (length xs) → ent 𝓤 (sem 𝓤 H A (row u64 fullShare xs b 0)) (H .⇛ (ex 𝓤 (Lent 𝓤 H A W u64 ℓ κ xs b 0)))
   lends g = qed W (‵ (row u64 fullShare xs b 0) ∷ []) ∵ use1 W (‵ (cells (mem u64) xs b 0)) (whole-in 𝓤 H A W u64 xs b 0) $ by ! (lends-slice 𝓤 H A W u64 ℓ κ xs b 0 g)
 
-  pub ends : (γ : GName) (zs : List ℕ) → ent 𝓤 (sep 𝓤 (A .dead κ) (sep 𝓤 (A .lent κ (Held u64 (length xs) b 0 γ)) (sem 𝓤 H A (finally u64 γ zs)))) (H .⇛ (sem 𝓤 H A (row u64 fullShare zs b 0)))
-  ends γ zs =
+  pub comes-back : (γ : GName) (zs : List ℕ) → ent 𝓤 (sep 𝓤 (A .dead κ) (sep 𝓤 (A .lent κ (Held u64 (length xs) b 0 γ)) (sem 𝓤 H A (finally u64 γ zs)))) (H .⇛ (sem 𝓤 H A (row u64 fullShare zs b 0)))
+  comes-back γ zs =
       qed W (‵ (fdead κ) ∷ ‵ (flent κ (Held u64 (length xs) b 0 γ)) ∷ ‵ (finally u64 γ zs) ∷ []) ∵ updating ! $
       use3 W (later (‵ (Arr (mem u64) (length xs) .lies zs b 0))) (slice-back 𝓤 H A W u64 κ γ zs (length xs) b 0) $ await ! tt $ fsplit ! $ drop ! $ at-once ! $ by ! (whole-out 𝓤 H A W u64 zs b 0)
 
-  pub shows : Room u64 (length xs) → ent 𝓤 (sem 𝓤 H A (row u64 fullShare xs b 0)) (H .⇛ (ex 𝓤 (LentShrs 𝓤 H A W u64 ℓ κ fullShare xs b 0)))
-  shows g = qed W (‵ (row u64 fullShare xs b 0) ∷ []) ∵ feqI ! ℕ (length xs) (length xs) refl $ fjoin ! $ by ! (lends-shr-slice 𝓤 H A W u64 ℓ κ fullShare xs b 0 g)
+  pub lends-shared : Room u64 (length xs) → ent 𝓤 (sem 𝓤 H A (row u64 fullShare xs b 0)) (H .⇛ (ex 𝓤 (LentShrs 𝓤 H A W u64 ℓ κ fullShare xs b 0)))
+  lends-shared g = qed W (‵ (row u64 fullShare xs b 0) ∷ []) ∵ feqI ! ℕ (length xs) (length xs) refl $ fjoin ! $ by ! (lends-shr-slice 𝓤 H A W u64 ℓ κ fullShare xs b 0 g)
 
-  pub shown : ent 𝓤 (sep 𝓤 (A .dead κ) (A .lent κ (arr-parts (shares u64) (length xs) .part fullShare xs b 0))) (H .⇛ (sem 𝓤 H A (row u64 fullShare xs b 0)))
-  shown = qed W (‵ (fdead κ) ∷ ‵ (flent κ (arr-parts (shares u64) (length xs) .part fullShare xs b 0)) ∷ []) ∵ updating ! $ lent-back ! tt $ fsplit ! $ drop ! $ at-once ! $ done !
+  pub comes-back-shared : ent 𝓤 (sep 𝓤 (A .dead κ) (A .lent κ (arr-parts (shares u64) (length xs) .part fullShare xs b 0))) (H .⇛ (sem 𝓤 H A (row u64 fullShare xs b 0)))
+  comes-back-shared = qed W (‵ (fdead κ) ∷ ‵ (flent κ (arr-parts (shares u64) (length xs) .part fullShare xs b 0)) ∷ []) ∵ updating ! $ lent-back ! tt $ fsplit ! $ drop ! $ at-once ! $ done !
