@@ -1,11 +1,7 @@
 -- `charts::enlist_row` meets its contract: before word q the words below q are done. Assumes nothing.
-use Prim.Native.Nat.{ℕ, _+_, _-_, _*_, _≤_, _<_}
-use mathlib.Core.Path.{_≡_, refl, sym, ap, _∙_}
+use Prim.Native.Nat.{_-_, _≤_}
+use mathlib.Core.Path.{_∙_}
 use native.Mathlib.Omega.{arith}
-use lib.ListN.{length, getD, set, length-set}
-use Rattle.tournament.specs.Tournament.{at}
-use Rattle.rounds.specs.Market.{row}
-use Rattle.rounds.proofs.Rows.{row-in}
 use Rattle.marks.proofs.Spreading.{row-at}
 use Rattle.charts.proofs.Charting.{Enlisting, enlists-none, enlists-bare, enlists-some, enlists-all}
 use Rattle.charts.proofs.enlist_row.Statement.{statement}

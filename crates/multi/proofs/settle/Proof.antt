@@ -1,8 +1,7 @@
 -- `multi::settle` meets its contract: the run is written down, its bids are marked and paid, and the totals summed. Assumes nothing.
-use Prim.Native.Nat.{ℕ, _≤_, _<_, _*_, _+_, _-_}
-use mathlib.Core.Path.{_≡_, refl, _∙_, sym, ap}
+use Prim.Native.Nat.{_-_}
+use mathlib.Core.Path.{_∙_, sym}
 use native.Mathlib.Omega.{arith}
-use lib.ListN.{length}
 use Rattle.tournament.proofs.Tree.{opened}
 use Rattle.multi.proofs.Along.{starts, awarded, paid-lengths}
 use borrow.Author.Needs.{needs}
