@@ -5,7 +5,7 @@ ghost use Prim.Native.Nat.{_+_, _*_, _<_, _≤_};
 ghost use lib.ListN.{length};
 ghost use Rattle.rounds.specs.Market.{Market, Hopping};
 ghost use Rattle.marks.specs.Marks.{Indexed};
-ghost use Rattle.charts.specs.Charts.{Charted, Enlisted};
+ghost use Rattle.charts.specs.Charts.{Backed, Charted, Enlisted};
 
 fn byte(x: usize) -> u8
     requires { ⌜ x < 256 ⌝ }
@@ -14,7 +14,23 @@ fn byte(x: usize) -> u8
     x as u8
 }
 
-// The hops of bid i's words.
+// Goes back from word q over words that are m, and sets their hops to `to`. Answers the first of them.
+fn back(masks: &[u64], a: usize, q: usize, m: u64, to: u8, hop: &mut [u8]) -> usize
+    requires { ⌜ (a + q ≤ length (now masks)) × (length (now hop) ≡ length (now masks)) ⌝ }
+    ensures { λ r. ⌜ Backed (now (masks .entry)) a q m to (now (hop .entry)) (now (hop .exit)) r ⌝ }
+{
+    let mut r = q;
+    while 0 < r {
+        if masks[a + r - 1] != m {
+            return r;
+        }
+        r -= 1;
+        hop[a + r] = to;
+    }
+    r
+}
+
+// The hops of bid i's words, from the last word back: a gap, then a run, else a word with some cells.
 fn chart_row(masks: &[u64], w: usize, i: usize, hop: &mut [u8])
     requires { ⌜ (w ≤ 158) × ((w * i + w ≤ length (now masks)) × (length (now hop) ≡ length (now masks))) ⌝ }
     ensures { λ _. ⌜ Charted (now (masks .entry)) w i (now (hop .entry)) (now (hop .exit)) ⌝ }
@@ -22,20 +38,18 @@ fn chart_row(masks: &[u64], w: usize, i: usize, hop: &mut [u8])
     let a = w * i;
     let mut q = w;
     let mut gap = w;
-    let mut run = w;
     while 0 < q {
-        q -= 1;
-        let m = masks[a + q];
-        if m == !0 {
-            hop[a + q] = byte(run);
-            gap = q;
-        } else if m == 0 {
+        let z = back(masks, a, q, 0, byte(gap), hop);
+        let r = back(masks, a, z, !0, byte(z), hop);
+        if r < z {
+            q = r;
+            gap = r;
+        } else if 0 < z {
+            q = z - 1;
             hop[a + q] = byte(gap);
-            run = q;
+            gap = q;
         } else {
-            hop[a + q] = byte(gap);
-            run = q;
-            gap = q;
+            q = 0;
         }
     }
 }
