@@ -172,7 +172,7 @@ fn settle(
     ensures { λ r. ⌜ Awarded (now (prices .entry)) (now (masks .entry)) w count (now (won .exit)) (now (cents .exit)) (r .cost) (r .paid) ⌝ }
 {
     charts::chart(prices, masks, w, hop);
-    charts::enlist(prices, masks, w, index);
+    charts::enlist(prices, masks, hop, w, index);
     rounds::unlock(held, count);
     cells::count(held, counts);
     tournament::seat(who);
