@@ -1,18 +1,11 @@
 -- `payments::begin` meets its contract: nothing is known of any bid, k alone is marked, then those that share an open cell with it. Assumes nothing.
-use Prim.Native.Nat.{ℕ, _+_, _-_, _*_, _/_, _≤_, _<_}
-use mathlib.Core.Path.{_≡_, refl, sym, ap, _∙_}
-use mathlib.Core.Bool.{Bool, true, false}
+use Prim.Native.Nat.{_-_}
+use mathlib.Core.Path.{sym, _∙_}
 use native.Mathlib.Omega.{arith}
-use lib.ListN.{length, getD, set, length-set}
-use Rattle.cells.specs.Cells.{cell, common}
-use Rattle.cells.specs.Hops.{Counted}
-use Rattle.tournament.specs.Tournament.{at, known, Tournament}
-use Rattle.rounds.specs.Market.{row}
-use Rattle.rounds.specs.Trace.{openOf}
-use Rattle.rounds.proofs.Fronting.{not-clear}
+use Rattle.tournament.specs.Tournament.{at}
 use Rattle.tournament.proofs.Tree.{emptied, known-at}
 use Rattle.rounds.proofs.Begin.{sized-of}
-use Rattle.payments.proofs.Following.{inside, starts}
+use Rattle.follow.proofs.Following.{inside, starts}
 use borrow.Author.Needs.{needs}
 use Rattle.payments.proofs.begin.Statement.{statement}
 use Rattle.payments.proofs.begin.Tie as tie
@@ -20,7 +13,7 @@ use Rattle.payments.proofs.begin.Reads as reads
 use Rattle.payments.proofs.begin.Lts as lts
 use Rattle.cells.proofs.add.Reads as add-reads
 use Rattle.cells.proofs.count.Reads as count-reads
-use Rattle.payments.proofs.disturb.Reads as disturb-reads
+use Rattle.marks.proofs.disturb.Reads as disturb-reads
 use Rattle.rounds.proofs.clear.Reads as clear-reads
 use Rattle.rounds.proofs.copy.Reads as copy-reads
 
