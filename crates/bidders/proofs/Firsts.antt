@@ -31,3 +31,6 @@ module _ (has : ℕ → ℕ → Bool) (n L : ℕ) where
   pub found-one : (r : ℕ) → each has n L 1 ≡ true → FirstOf (fewer has n 2) L r → r < L → bidders has n r ≡ 1
   unfolding fewer each
   found-one r e f l = omega (arith, ltb-true (bidders has n r) 2 (f .here l), leb-true 1 (bidders has n r) (all-at (λ x. leb 1 (bidders has n x)) L e r l))
+
+  pub found-alone : (r s : ℕ) → FirstOf (fewer has n 2) L r → (r ≡ L → ⊥) → FirstOf (fewer has n 1) L s → L ≤ s → (each has n L 1 ≡ true) × ((r < L) × (bidders has n r ≡ 1))
+  found-alone r s f d g l = let e = all-enough 1 s g l in let h : r < L = omega (arith, f .inside) in (e, (h, found-one r e f h))

@@ -1,5 +1,5 @@
 // Whether each cell has two bidders, for bids of one window each and for bids as rows of words.
-// The cell answered is the first in no bid, else the first in one bid.
+// The cell answered is the first in no bid, else the first in one bid. A cell in fewer than two is looked for first: mostly there is none.
 ghost use mathlib.Core.Path.{_≡_};
 ghost use Prim.Native.Nat.{ℕ, _*_, _≤_, _<_};
 ghost use lib.ListN.{length, getD};
@@ -52,15 +52,15 @@ pub fn thin_spans(starts: &[u64], ends: &[u64], cells: usize) -> Thin
     requires { ⌜ Spans (now starts) (now ends) cells × (cells ≤ 10080) ⌝ }
     ensures { λ r. ⌜ Says (spans (now (starts .entry)) (now (ends .entry))) (length (now (starts .entry))) cells r ⌝ }
 {
+    let lone = spans_below(starts, ends, cells, 2);
+    if lone == cells {
+        return Thin::Enough;
+    }
     let bare = spans_below(starts, ends, cells, 1);
     if bare < cells {
         return Thin::Nobody { cell: bare as u64 };
     }
-    let lone = spans_below(starts, ends, cells, 2);
-    if lone < cells {
-        return Thin::Alone { cell: lone as u64 };
-    }
-    Thin::Enough
+    Thin::Alone { cell: lone as u64 }
 }
 
 // Adds the cells of a mask to `one`, and to `two` those that were in `one`.
@@ -113,15 +113,15 @@ pub fn thin_masks(masks: &[u64], w: usize, n: usize, cells: usize) -> Thin
     let mut one = [0u64; 158];
     let mut two = [0u64; 158];
     gather(masks, w, n, &mut one, &mut two);
+    let lone = first_unset(&two, cells);
+    if lone == cells {
+        return Thin::Enough;
+    }
     let missing = first_unset(&one, cells);
     if missing < cells {
         return Thin::Nobody {
             cell: missing as u64,
         };
     }
-    let lone = first_unset(&two, cells);
-    if lone < cells {
-        return Thin::Alone { cell: lone as u64 };
-    }
-    Thin::Enough
+    Thin::Alone { cell: lone as u64 }
 }

@@ -5,7 +5,7 @@ use native.Mathlib.Omega.{arith}
 use lib.ListN.{length, replicate, length-replicate}
 use Rattle.rounds.specs.Market.{has}
 use Rattle.bidders.proofs.Counts.{zeros}
-use Rattle.bidders.proofs.Firsts.{all-enough, found-none, found-one}
+use Rattle.bidders.proofs.Firsts.{all-enough, found-none, found-alone}
 use Rattle.bidders.proofs.Masks.{gathered-none, first-bare, first-lone}
 use borrow.Author.Needs.{needs}
 use Rattle.bidders.proofs.thin_masks.Statement.{statement}
@@ -37,7 +37,7 @@ first-unset-requires c κs = search needs
 
 -- src/lib.rt:118:9
 returns : tie.Need-returns
-returns c = (c .if1 .taken, found-none (has (c .before .before .before .before .before .before .before .before .before .args .masks .now) (c .before .before .before .before .before .before .before .before .before .args .w)) (c .before .before .before .before .before .before .before .before .before .args .n) (c .before .before .before .before .before .before .before .before .before .args .cells) (c .before .first-unset .result) (first-bare (c .before .before .before .before .before .before .before .before .before .args .masks .now) (c .before .before .before .before .before .before .before .before .before .args .w) (c .before .before .before .before .before .before .before .before .before .args .n) (c .before .before .before .before .before .before .before .before .before .args .cells) (c .before .before .before .before .before .gather .last .1 .1 .1 .0) (c .before .before .before .before .before .gather .last .1 .1 .1 .1 .0) (c .before .before .before .before .before .gather .ensures) (c .before .before .before .before .before .before .before .before .before .pre .1 .1) (c .before .first-unset .result) (c .before .first-unset .ensures)) (c .if1 .taken))
+returns c = all-enough (has (c .before .before .before .before .before .before .before .before .before .args .masks .now) (c .before .before .before .before .before .before .before .before .before .args .w)) (c .before .before .before .before .before .before .before .before .before .args .n) (c .before .before .before .before .before .before .before .before .before .args .cells) 2 (c .before .first-unset .result) (first-lone (c .before .before .before .before .before .before .before .before .before .args .masks .now) (c .before .before .before .before .before .before .before .before .before .args .w) (c .before .before .before .before .before .before .before .before .before .args .n) (c .before .before .before .before .before .before .before .before .before .args .cells) (c .before .before .before .before .before .gather .last .1 .1 .1 .0) (c .before .before .before .before .before .gather .last .1 .1 .1 .1 .0) (c .before .before .before .before .before .gather .ensures) (c .before .before .before .before .before .before .before .before .before .pre .1 .1) (c .before .first-unset .result) (c .before .first-unset .ensures)) (omega arith)
 
 -- src/lib.rt:120:28
 slice-aggregate-first-unset-2 : tie.Need-slice-aggregate-first-unset-2
@@ -49,11 +49,11 @@ first-unset-requires-2 c κs = search needs
 
 -- src/lib.rt:122:9
 returns-2 : tie.Need-returns-2
-returns-2 c = let b = first-bare (c .before .before .before .before .before .before .before .before .before .before .before .before .args .masks .now) (c .before .before .before .before .before .before .before .before .before .before .before .before .args .w) (c .before .before .before .before .before .before .before .before .before .before .before .before .args .n) (c .before .before .before .before .before .before .before .before .before .before .before .before .args .cells) (c .before .before .before .before .before .before .before .before .gather .last .1 .1 .1 .0) (c .before .before .before .before .before .before .before .before .gather .last .1 .1 .1 .1 .0) (c .before .before .before .before .before .before .before .before .gather .ensures) (c .before .before .before .before .before .before .before .before .before .before .before .before .pre .1 .1) (c .before .before .before .before .first-unset .result) (c .before .before .before .before .first-unset .ensures) in let d = first-lone (c .before .before .before .before .before .before .before .before .before .before .before .before .args .masks .now) (c .before .before .before .before .before .before .before .before .before .before .before .before .args .w) (c .before .before .before .before .before .before .before .before .before .before .before .before .args .n) (c .before .before .before .before .before .before .before .before .before .before .before .before .args .cells) (c .before .before .before .before .before .before .before .before .gather .last .1 .1 .1 .0) (c .before .before .before .before .before .before .before .before .gather .last .1 .1 .1 .1 .0) (c .before .before .before .before .before .before .before .before .gather .ensures) (c .before .before .before .before .before .before .before .before .before .before .before .before .pre .1 .1) (c .before .first-unset2 .result) (c .before .first-unset2 .ensures) in let e = all-enough (has (c .before .before .before .before .before .before .before .before .before .before .before .before .args .masks .now) (c .before .before .before .before .before .before .before .before .before .before .before .before .args .w)) (c .before .before .before .before .before .before .before .before .before .before .before .before .args .n) (c .before .before .before .before .before .before .before .before .before .before .before .before .args .cells) 1 (c .before .before .before .before .first-unset .result) b (c .before .before .before .if1 .left) in (e, (c .if2 .taken, found-one (has (c .before .before .before .before .before .before .before .before .before .before .before .before .args .masks .now) (c .before .before .before .before .before .before .before .before .before .before .before .before .args .w)) (c .before .before .before .before .before .before .before .before .before .before .before .before .args .n) (c .before .before .before .before .before .before .before .before .before .before .before .before .args .cells) (c .before .first-unset2 .result) e d (c .if2 .taken)))
+returns-2 c = (c .if2 .taken, found-none (has (c .before .before .before .before .before .before .before .before .before .before .before .before .args .masks .now) (c .before .before .before .before .before .before .before .before .before .before .before .before .args .w)) (c .before .before .before .before .before .before .before .before .before .before .before .before .args .n) (c .before .before .before .before .before .before .before .before .before .before .before .before .args .cells) (c .before .first-unset2 .result) (first-bare (c .before .before .before .before .before .before .before .before .before .before .before .before .args .masks .now) (c .before .before .before .before .before .before .before .before .before .before .before .before .args .w) (c .before .before .before .before .before .before .before .before .before .before .before .before .args .n) (c .before .before .before .before .before .before .before .before .before .before .before .before .args .cells) (c .before .before .before .before .before .before .before .before .gather .last .1 .1 .1 .0) (c .before .before .before .before .before .before .before .before .gather .last .1 .1 .1 .1 .0) (c .before .before .before .before .before .before .before .before .gather .ensures) (c .before .before .before .before .before .before .before .before .before .before .before .before .pre .1 .1) (c .before .first-unset2 .result) (c .before .first-unset2 .ensures)) (c .if2 .taken))
 
 -- src/lib.rt:109:1
 returns-3 : tie.Need-returns-3
-returns-3 c = all-enough (has (c .before .before .before .before .before .before .before .before .before .before .before .before .args .masks .now) (c .before .before .before .before .before .before .before .before .before .before .before .before .args .w)) (c .before .before .before .before .before .before .before .before .before .before .before .before .args .n) (c .before .before .before .before .before .before .before .before .before .before .before .before .args .cells) 2 (c .before .first-unset2 .result) (first-lone (c .before .before .before .before .before .before .before .before .before .before .before .before .args .masks .now) (c .before .before .before .before .before .before .before .before .before .before .before .before .args .w) (c .before .before .before .before .before .before .before .before .before .before .before .before .args .n) (c .before .before .before .before .before .before .before .before .before .before .before .before .args .cells) (c .before .before .before .before .before .before .before .before .gather .last .1 .1 .1 .0) (c .before .before .before .before .before .before .before .before .gather .last .1 .1 .1 .1 .0) (c .before .before .before .before .before .before .before .before .gather .ensures) (c .before .before .before .before .before .before .before .before .before .before .before .before .pre .1 .1) (c .before .first-unset2 .result) (c .before .first-unset2 .ensures)) (c .if2 .left)
+returns-3 c = found-alone (has (c .before .before .before .before .before .before .before .before .before .before .before .before .args .masks .now) (c .before .before .before .before .before .before .before .before .before .before .before .before .args .w)) (c .before .before .before .before .before .before .before .before .before .before .before .before .args .n) (c .before .before .before .before .before .before .before .before .before .before .before .before .args .cells) (c .before .before .before .before .first-unset .result) (c .before .first-unset2 .result) (first-lone (c .before .before .before .before .before .before .before .before .before .before .before .before .args .masks .now) (c .before .before .before .before .before .before .before .before .before .before .before .before .args .w) (c .before .before .before .before .before .before .before .before .before .before .before .before .args .n) (c .before .before .before .before .before .before .before .before .before .before .before .before .args .cells) (c .before .before .before .before .before .before .before .before .gather .last .1 .1 .1 .0) (c .before .before .before .before .before .before .before .before .gather .last .1 .1 .1 .1 .0) (c .before .before .before .before .before .before .before .before .gather .ensures) (c .before .before .before .before .before .before .before .before .before .before .before .before .pre .1 .1) (c .before .before .before .before .first-unset .result) (c .before .before .before .before .first-unset .ensures)) (c .before .before .before .if1 .left) (first-bare (c .before .before .before .before .before .before .before .before .before .before .before .before .args .masks .now) (c .before .before .before .before .before .before .before .before .before .before .before .before .args .w) (c .before .before .before .before .before .before .before .before .before .before .before .before .args .n) (c .before .before .before .before .before .before .before .before .before .before .before .before .args .cells) (c .before .before .before .before .before .before .before .before .gather .last .1 .1 .1 .0) (c .before .before .before .before .before .before .before .before .gather .last .1 .1 .1 .1 .0) (c .before .before .before .before .before .before .before .before .gather .ensures) (c .before .before .before .before .before .before .before .before .before .before .before .before .pre .1 .1) (c .before .first-unset2 .result) (c .before .first-unset2 .ensures)) (c .if2 .left)
 
 pub thin-masks-spec : {M : Type 1} → statement M
 thin-masks-spec =
