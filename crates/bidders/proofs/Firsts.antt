@@ -1,5 +1,5 @@
 -- The first cell with fewer than m bidders, m one and two, decides whether each cell has two. Assumes nothing.
-use mathlib.Core.Path.{_≡_, refl, sym, ap, _∙_}
+use mathlib.Core.Path.{_≡_, refl, ap, _∙_}
 use mathlib.Core.Bool.{Bool, true, false}
 use Prim.Native.Nat.{ℕ, _+_, _≤_, _<_}
 use native.Mathlib.Omega.{arith}
@@ -8,9 +8,6 @@ use borrow.Author.Tests.{ltb-true, ltb-false, leb-true, le-leb}
 use Rattle.cover.specs.Sets.{bidders, each}
 use Rattle.cover.specs.SetLaws.{all-of, all-at}
 use Rattle.bidders.specs.Thin.{fewer, FirstOf}
-
-pub none-before : (P : ℕ → Bool) (x : ℕ) → x < 0 → P x ≡ false
-none-before P x l = absurd (omega arith)
 
 pub one-more-before : (P : ℕ → Bool) (r : ℕ) → ((x : ℕ) → x < r → P x ≡ false) → P r ≡ false → (x : ℕ) → x < r + 1 → P x ≡ false
 one-more-before P r f e x l = go (ltb x r) refl
