@@ -1,5 +1,5 @@
 -- The first cell with fewer than m bidders, m one and two, decides whether each cell has two. Assumes nothing.
-use mathlib.Core.Path.{_≡_, refl, sym, ap, _∙_}
+use mathlib.Core.Path.{_≡_, refl, ap, _∙_}
 use mathlib.Core.Bool.{Bool, true, false}
 use Prim.Native.Nat.{ℕ, _+_, _≤_, _<_}
 use native.Mathlib.Omega.{arith}
@@ -8,9 +8,6 @@ use borrow.Author.Tests.{ltb-true, ltb-false, leb-true, le-leb}
 use Rattle.cover.specs.Sets.{bidders, each}
 use Rattle.cover.specs.SetLaws.{all-of, all-at}
 use Rattle.bidders.specs.Thin.{fewer, FirstOf}
-
-pub none-before : (P : ℕ → Bool) (x : ℕ) → x < 0 → P x ≡ false
-none-before P x l = absurd (omega arith)
 
 pub one-more-before : (P : ℕ → Bool) (r : ℕ) → ((x : ℕ) → x < r → P x ≡ false) → P r ≡ false → (x : ℕ) → x < r + 1 → P x ≡ false
 one-more-before P r f e x l = go (ltb x r) refl
@@ -31,3 +28,6 @@ module _ (has : ℕ → ℕ → Bool) (n L : ℕ) where
   pub found-one : (r : ℕ) → each has n L 1 ≡ true → FirstOf (fewer has n 2) L r → r < L → bidders has n r ≡ 1
   unfolding fewer each
   found-one r e f l = omega (arith, ltb-true (bidders has n r) 2 (f .here l), leb-true 1 (bidders has n r) (all-at (λ x. leb 1 (bidders has n x)) L e r l))
+
+  pub found-alone : (r s : ℕ) → FirstOf (fewer has n 2) L r → (r ≡ L → ⊥) → FirstOf (fewer has n 1) L s → L ≤ s → (each has n L 1 ≡ true) × ((r < L) × (bidders has n r ≡ 1))
+  found-alone r s f d g l = let e = all-enough 1 s g l in let h : r < L = omega (arith, f .inside) in (e, (h, found-one r e f h))

@@ -1,62 +1,34 @@
--- Laws of the cells in some bid and in two or more, gathered from masks. Assumes nothing.
+-- Laws of the cells in one bid and in two, seen word by word in the bids' masks. Assumes nothing.
 use mathlib.Core.Path.{_≡_, refl, sym, ap, _∙_}
 use mathlib.Core.Logic.{⊎-elim}
 use mathlib.Core.List.{List}
-use mathlib.Core.Bool.{Bool, true, false, not}
+use mathlib.Core.Bool.{Bool, true, false}
 use Prim.Native.Nat.{ℕ, zero, suc, _+_, _-_, _*_, _/_, _%_, _≤_, _<_, min, max}
 use native.Mathlib.Nat.{mul-le-mul-left, mul-suc}
 use native.Mathlib.Numerals.{add-one}
 use native.Mathlib.Omega.{arith}
-use lib.ListN.{length, getD, set, take, drop, length-set, length-take, length-drop}
+use lib.ListN.{length, getD, set, take, drop, replicate, length-replicate}
+use lib.Seq.{length-take-le, getD-take, getD-drop}
 use lib.Bits.{bitAnd, bitOr}
-use lib.Dec.{ltb, eqb}
-use borrow.Author.Tests.{ltb-true, ltb-false, eqb-true, eqb-false, eq-eqb, ne-eqb}
+use lib.Dec.{leb, ltb, eqb}
+use borrow.Author.Tests.{leb-true, leb-false, le-leb, lt-ltb, le-ltb, ltb-true, ltb-false, eqb-true, eqb-false}
 use Rattle.cells.specs.Cells.{bitOf, cell}
-use Rattle.cells.proofs.Bit.{zero-bit, and-bit, or-bit}
+use Rattle.cells.specs.Hops.{Next}
+use Rattle.cells.proofs.Bit.{bit-lt, zero-bit, and-bit, or-bit}
 use Rattle.cells.proofs.Store.{lt-or-le, cell-lt, set-same, set-other}
 use Rattle.cover.specs.Sets.{when, bidders}
-use Rattle.rounds.specs.Market.{row, has}
-use Rattle.bidders.specs.Thin.{fewer, unset, Merged, Gathered, FirstOf}
+use Rattle.rounds.specs.Market.{row, has, First}
+use Rattle.bidders.specs.Thin.{fewer, Reached, Gathered, FirstOf}
 
--- the words below k are merged, the others are as they were
-pub record Merging (mask one two : List ℕ) (k : ℕ) (one′ two′ : List ℕ) : Type 0 where
-  pub once : (x : ℕ) → x < 64 * k → cell one′ x ≡ max (cell one x) (cell mask x)
-  pub twice : (x : ℕ) → x < 64 * k → cell two′ x ≡ max (cell two x) (min (cell one x) (cell mask x))
-  pub one-left : (x : ℕ) → 64 * k ≤ x → cell one′ x ≡ cell one x
-  pub two-left : (x : ℕ) → 64 * k ≤ x → cell two′ x ≡ cell two x
+-- the words of bid i are within the masks
+pub row-within : (ms : List ℕ) (w n i : ℕ) → length ms ≡ w * n → i < n → w * i + w ≤ length ms
+row-within ms w n i e l = omega (arith, mul-le-mul-left w l, mul-suc w i)
 
-pub merging-none : (mask one two : List ℕ) → Merging mask one two 0 one two
-merging-none mask one two = record { once = λ x h. absurd (omega arith); twice = λ x h. absurd (omega arith); one-left = λ x h. refl; two-left = λ x h. refl }
+-- the first w words of a row of ones
+pub ones-length : (w : ℕ) → w ≤ 158 → length (take w (replicate {A = ℕ} 158 1)) ≡ w
+ones-length w h = length-take-le w (replicate 158 1) (omega (arith, length-replicate {A = ℕ} 158 1))
 
-module _ (mask one two : List ℕ) (k : ℕ) (one′ two′ : List ℕ) (m : Merging mask one two k one′ two′) (h : k < length one′) (h2 : k < length two′) where
-  abbrev next-one : List ℕ
-  next-one = set one′ k (bitOr (getD one′ k 0) (getD mask k 0))
-
-  abbrev next-two : List ℕ
-  next-two = set two′ k (bitOr (getD two′ k 0) (bitAnd (getD one′ k 0) (getD mask k 0)))
-
-  one-here : (x : ℕ) → x / 64 ≡ k → cell next-one x ≡ max (cell one′ x) (cell mask x)
-  unfolding cell
-  one-here x e = set-same one′ k h x (bitOr (getD one′ k 0) (getD mask k 0)) e ∙ or-bit (getD one′ k 0) (getD mask k 0) (x % 64)
-      ∙ ap (λ (j : ℕ). max (bitOf (getD one′ j 0) (x % 64)) (bitOf (getD mask j 0) (x % 64))) (sym e)
-
-  two-here : (x : ℕ) → x / 64 ≡ k → cell next-two x ≡ max (cell two′ x) (min (cell one′ x) (cell mask x))
-  unfolding cell
-  two-here x e = set-same two′ k h2 x (bitOr (getD two′ k 0) (bitAnd (getD one′ k 0) (getD mask k 0))) e ∙ or-bit (getD two′ k 0) (bitAnd (getD one′ k 0) (getD mask k 0)) (x % 64)
-      ∙ ap (max (bitOf (getD two′ k 0) (x % 64))) (and-bit (getD one′ k 0) (getD mask k 0) (x % 64))
-      ∙ ap (λ (j : ℕ). max (bitOf (getD two′ j 0) (x % 64)) (min (bitOf (getD one′ j 0) (x % 64)) (bitOf (getD mask j 0) (x % 64)))) (sym e)
-
-  pub merging-more : Merging mask one two (k + 1) next-one next-two
-  merging-more = record {
-    once = λ x l. ⊎-elim (λ lt. set-other one′ k h x _ (λ e. omega arith) ∙ m .once x lt) (λ le. one-here x (omega arith) ∙ ap (λ (v : ℕ). max v (cell mask x)) (m .one-left x le)) (lt-or-le x (64 * k));
-    twice = λ x l. ⊎-elim (λ lt. set-other two′ k h2 x _ (λ e. omega arith) ∙ m .twice x lt)
-        (λ le. two-here x (omega arith) ∙ ap (λ (v : ℕ). max v (min (cell one′ x) (cell mask x))) (m .two-left x le) ∙ ap (λ (v : ℕ). max (cell two x) (min v (cell mask x))) (m .one-left x le)) (lt-or-le x (64 * k));
-    one-left = λ x l. set-other one′ k h x _ (λ e. omega arith) ∙ m .one-left x (omega arith);
-    two-left = λ x l. set-other two′ k h2 x _ (λ e. omega arith) ∙ m .two-left x (omega arith);
-  }
-
-pub merging-all : (mask one two : List ℕ) (k : ℕ) (one′ two′ : List ℕ) → Merging mask one two k one′ two′ → length mask ≤ k → Merged mask one two one′ two′
-merging-all mask one two k one′ two′ m l = record { once = λ x h. m .once x (omega arith); twice = λ x h. m .twice x (omega arith) }
+-- ---- counts up to two
 
 flag : (c : ℕ) → c < 2 → when (eqb c 1) 1 ≡ c
 flag c l = go (eqb c 1) refl
@@ -91,55 +63,98 @@ twice-more (suc zero) (suc zero) l = refl
 twice-more (suc (suc b)) (suc zero) l = ap (max (min 1 (suc (suc b) - 1))) (two-in b) ∙ full (suc (suc b) - 1) ∙ two-out b
 twice-more b (suc (suc c)) l = absurd (omega arith)
 
--- one bid more
-module _ (ms : List ℕ) (w i : ℕ) (one two one′ two′ : List ℕ) (g : Gathered ms w i one two) (m : Merged (row ms w i) one two one′ two′) (size : length (row ms w i) ≡ w) where
-  more : (x : ℕ) → bidders (has ms w) (i + 1) x ≡ cell (row ms w i) x + bidders (has ms w) i x
-  unfolding bidders has
-  more x = ap (λ (j : ℕ). bidders (has ms w) j x) (add-one i) ∙ ap (λ (v : ℕ). v + bidders (has ms w) i x) (flag (cell (row ms w i) x) (cell-lt (row ms w i) x))
+-- a count of m or more as a bit
+count-bit : (b m : ℕ) → min 1 (b + 1 - m) ≡ when (leb m b) 1
+count-bit b m = go (leb m b) refl
+  where
+    go : (t : Bool) → leb m b ≡ t → min 1 (b + 1 - m) ≡ when t 1
+    go true t = omega (arith, leb-true m b t)
+    go false t = omega (arith, leb-false m b t)
 
-  pub gathered-more : Gathered ms w (i + 1) one′ two′
-  gathered-more = record {
-    once = λ x l. omega (arith, m .once x (omega arith), g .once x l, more x, cell-lt (row ms w i) x);
-    twice = λ x l. m .twice x (omega arith) ∙ ap (λ (v : ℕ). max v (min (cell one x) (cell (row ms w i) x))) (g .twice x l)
-        ∙ ap (λ (v : ℕ). max (min 1 (bidders (has ms w) i x - 1)) (min v (cell (row ms w i) x))) (g .once x l)
-        ∙ twice-more (bidders (has ms w) i x) (cell (row ms w i) x) (cell-lt (row ms w i) x) ∙ ap (λ (v : ℕ). min 1 (v - 1)) (sym (more x));
+pub bidders-grow : (has : ℕ → ℕ → Bool) (i n x : ℕ) → i ≤ n → bidders has i x ≤ bidders has n x
+unfolding bidders
+bidders-grow has i zero x l = let e : i ≡ 0 = omega arith in rw e (omega arith)
+bidders-grow has i (suc n) x l = ⊎-elim (λ lt. let h = bidders-grow has i n x (omega arith) in omega arith) (λ (le : suc n ≤ i). let e : i ≡ suc n = omega arith in rw e (omega arith)) (lt-or-le i (suc n))
+
+-- ---- seen: bit k of `one` and of `two` say whether the first i bids have cell k of word q once and twice
+pub record Seeing (ms : List ℕ) (w q i one two : ℕ) : Type 0 where
+  pub once : (k : ℕ) → k < 64 → bitOf one k ≡ min 1 (bidders (has ms w) i (64 * q + k))
+  pub twice : (k : ℕ) → k < 64 → bitOf two k ≡ min 1 (bidders (has ms w) i (64 * q + k) - 1)
+
+pub seeing-none : (ms : List ℕ) (w q : ℕ) → Seeing ms w q 0 0 0
+unfolding bidders
+seeing-none ms w q = record { once = λ k l. zero-bit k; twice = λ k l. zero-bit k }
+
+module _ (ms : List ℕ) (w q : ℕ) (lq : q < w) where
+  -- the cells of word q of bid i are the bits of one word of the masks
+  row-bit : (i k : ℕ) → k < 64 → cell (row ms w i) (64 * q + k) ≡ bitOf (getD ms (w * i + q) 0) k
+  unfolding cell row
+  row-bit i k l =
+      let a : (64 * q + k) / 64 ≡ q = omega arith in
+      let b : (64 * q + k) % 64 ≡ k = omega arith in
+      rw (a, b, getD-take w (drop (w * i) ms) q 0 lq, getD-drop (w * i) ms q 0)
+
+  more : (i k : ℕ) → k < 64 → bidders (has ms w) (i + 1) (64 * q + k) ≡ bitOf (getD ms (w * i + q) 0) k + bidders (has ms w) i (64 * q + k)
+  unfolding bidders has
+  more i k l =
+      ap (λ (j : ℕ). bidders (has ms w) j (64 * q + k)) (add-one i)
+      ∙ ap (λ (v : ℕ). v + bidders (has ms w) i (64 * q + k)) (flag (cell (row ms w i) (64 * q + k)) (cell-lt (row ms w i) (64 * q + k)) ∙ row-bit i k l)
+
+  pub seeing-more : (i one two : ℕ) → Seeing ms w q i one two → Seeing ms w q (i + 1) (bitOr one (getD ms (w * i + q) 0)) (bitOr two (bitAnd one (getD ms (w * i + q) 0)))
+  seeing-more i one two s = record {
+    once = λ k l. or-bit one (getD ms (w * i + q) 0) k ∙ omega (arith, s .once k l, more i k l, bit-lt (getD ms (w * i + q) 0) k);
+    twice = λ k l. or-bit two (bitAnd one (getD ms (w * i + q) 0)) k
+        ∙ ap (max (bitOf two k)) (and-bit one (getD ms (w * i + q) 0) k)
+        ∙ ap (λ (v : ℕ). max v (min (bitOf one k) (bitOf (getD ms (w * i + q) 0) k))) (s .twice k l)
+        ∙ ap (λ (v : ℕ). max (min 1 (bidders (has ms w) i (64 * q + k) - 1)) (min v (bitOf (getD ms (w * i + q) 0) k))) (s .once k l)
+        ∙ twice-more (bidders (has ms w) i (64 * q + k)) (bitOf (getD ms (w * i + q) 0) k) (bit-lt (getD ms (w * i + q) 0) k)
+        ∙ ap (λ (v : ℕ). min 1 (v - 1)) (sym (more i k l));
   }
 
--- the first cell in no bid, and the first in fewer than two
+module _ (ms : List ℕ) (w q i one two : ℕ) (s : Seeing ms w q i one two) (wanted : ℕ) where
+  -- each cell wanted is in two bids, and so it is with the bids that follow
+  pub reached-soon : (n m : ℕ) → i ≤ n → m ≤ 2 → bitAnd two wanted ≡ wanted → Reached ms w n q wanted m wanted
+  reached-soon n m l h e = record {
+    each = λ k lk on.
+        let both : bitOf wanted k ≡ min (bitOf two k) (bitOf wanted k) = ap (λ (v : ℕ). bitOf v k) (sym e) ∙ and-bit two wanted k in
+        let two-on : bitOf two k ≡ 1 = omega arith in
+        on ∙ ap (λ b. when b 1) (sym (le-leb m (bidders (has ms w) n (64 * q + k)) (omega (arith, s .twice k lk, bidders-grow (has ms w) i n (64 * q + k) l))));
+  }
 
-pub first-same : (P Q : ℕ → Bool) (L r : ℕ) → ((x : ℕ) → x < L → P x ≡ Q x) → FirstOf P L r → FirstOf Q L r
-first-same P Q L r e f = record { inside = f .inside; here = λ l. sym (e r l) ∙ f .here l; before = λ x l. sym (e x (omega (arith, f .inside))) ∙ f .before x l }
+  pub reached-one : (n m : ℕ) → i ≡ n → m ≡ 1 → Reached ms w n q wanted m one
+  reached-one n m e d = rw (← e, d) (record { each = λ k l on. s .once k l ∙ omega (arith, count-bit (bidders (has ms w) i (64 * q + k)) 1) })
 
-unset-fewer : (words : List ℕ) (x b m : ℕ) → cell words x ≡ min 1 (b - m) → unset words x ≡ ltb b (m + 1)
-unfolding unset
-unset-fewer words x b m e = go (ltb b (m + 1)) refl
+  pub reached-two : (n m : ℕ) → i ≡ n → m ≡ 2 → Reached ms w n q wanted m two
+  reached-two n m e d = rw (← e, d) (record { each = λ k l on. s .twice k l ∙ omega (arith, count-bit (bidders (has ms w) i (64 * q + k)) 2) })
+
+-- ---- gather: one word more
+word-bit : (ws : List ℕ) (q x : ℕ) → x / 64 ≡ q → bitOf (getD ws q 0) (x % 64) ≡ cell ws x
+unfolding cell
+word-bit ws q x e = ap (λ (j : ℕ). bitOf (getD ws j 0) (x % 64)) (sym e)
+
+pub gathered-none : (ms : List ℕ) (w n m : ℕ) (wanted enough : List ℕ) → Gathered ms w n m wanted enough 0
+gathered-none ms w n m wanted enough = record { each = λ x l. absurd (omega arith) }
+
+pub gathered-more : (ms : List ℕ) (w n m : ℕ) (wanted enough : List ℕ) (q r : ℕ) → q < length enough → Gathered ms w n m wanted enough q → Reached ms w n q (getD wanted q 0) m r → Gathered ms w n m wanted (set enough q r) (q + 1)
+gathered-more ms w n m wanted enough q r h g s = record { each = λ x l on. ⊎-elim (λ lt. set-other enough q h x r (λ e. omega arith) ∙ g .each x lt on) (λ le. here x (omega arith) on) (lt-or-le x (64 * q)) }
   where
-    go : (t : Bool) → ltb b (m + 1) ≡ t → not (eqb (cell words x) 1) ≡ t
-    go true t = ap not (ne-eqb (cell words x) 1 (λ f. omega (arith, ltb-true b (m + 1) t)))
-    go false t = ap not (eq-eqb (cell words x) 1 (omega (arith, ltb-false b (m + 1) t)))
+    here : (x : ℕ) → x / 64 ≡ q → cell wanted x ≡ 1 → cell (set enough q r) x ≡ when (leb m (bidders (has ms w) n x)) 1
+    here x e on = let d : 64 * q + x % 64 ≡ x = omega arith in
+        set-same enough q h x r e ∙ s .each (x % 64) (omega arith) (word-bit wanted q x e ∙ on) ∙ ap (λ (y : ℕ). when (leb m (bidders (has ms w) n y)) 1) d
 
-module _ (ms : List ℕ) (w n L : ℕ) (one two : List ℕ) (g : Gathered ms w n one two) (l : L ≤ 64 * w) (r : ℕ) where
-  pub first-bare : FirstOf (unset one) L r → FirstOf (fewer (has ms w) n 1) L r
+-- ---- the first cell wanted that is not among those with m bidders
+module _ (ms : List ℕ) (w n L m : ℕ) (wanted enough : List ℕ) (x : ℕ) (f : First L wanted) (g : Gathered ms w n m wanted enough w) (t : Next wanted enough 0 x) (size : length wanted ≡ w) (within : L ≤ 64 * w) where
+  passed : (y : ℕ) → y < x → y < L → fewer (has ms w) n m y ≡ false
   unfolding fewer
-  first-bare f = first-same (unset one) (fewer (has ms w) n 1) L r (λ x h. unset-fewer one x (bidders (has ms w) n x) 0 (omega (arith, g .once x (omega arith)))) f
+  passed y l h = le-ltb (bidders (has ms w) n y) m (omega (arith, t .none y (omega arith) l (f .inside y h), g .each y (omega arith) (f .inside y h), count-bit (bidders (has ms w) n y) m))
 
-  pub first-lone : FirstOf (unset two) L r → FirstOf (fewer (has ms w) n 2) L r
+  pub first-found : x < L → FirstOf (fewer (has ms w) n m) L x
   unfolding fewer
-  first-lone f = first-same (unset two) (fewer (has ms w) n 2) L r (λ x h. unset-fewer two x (bidders (has ms w) n x) 1 (g .twice x (omega arith))) f
+  first-found l = record {
+    inside = omega arith;
+    here = λ h. lt-ltb (bidders (has ms w) n x) m (omega (arith, t .outside (omega arith), g .each x (omega arith) (f .inside x l), count-bit (bidders (has ms w) n x) m));
+    before = λ y h. passed y h (omega arith);
+  }
 
--- words that are 0 gather no bid
-pub gathered-none : (ms : List ℕ) (w : ℕ) (zero-words : List ℕ) → ((i : ℕ) → getD zero-words i 0 ≡ 0) → Gathered ms w 0 zero-words zero-words
-unfolding cell bidders
-gathered-none ms w zs f = record { once = λ x l. clear x; twice = λ x l. clear x }
-  where
-    clear : (x : ℕ) → bitOf (getD zs (x / 64) 0) (x % 64) ≡ 0
-    clear x = ap (λ (v : ℕ). bitOf v (x % 64)) (f (x / 64)) ∙ zero-bit (x % 64)
-
--- the words of bid i are within the masks
-
-pub row-within : (ms : List ℕ) (w n i : ℕ) → length ms ≡ w * n → i < n → w * i + w ≤ length ms
-row-within ms w n i e l = omega (arith, mul-le-mul-left w l, mul-suc w i)
-
-pub row-size : (ms : List ℕ) (w n i : ℕ) → length ms ≡ w * n → i < n → length (row ms w i) ≡ w
-unfolding row
-row-size ms w n i e l = simp (length-take, length-drop) (omega (arith, row-within ms w n i e l))
+  pub first-none : L ≤ x → FirstOf (fewer (has ms w) n m) L L
+  first-none l = record { inside = omega arith; here = λ h. absurd (omega arith); before = λ y h. passed y (omega arith) h }

@@ -1,12 +1,12 @@
 -- Whether each cell has two bidders: a cell in no bid, else a cell in one bid alone, else neither.
 use mathlib.Core.Path.{_≡_}
-use mathlib.Core.Bool.{Bool, true, false, not}
+use mathlib.Core.Bool.{Bool, true, false}
 use mathlib.Core.List.{List}
-use Prim.Native.Nat.{ℕ, _*_, _-_, _≤_, _<_, min, max}
+use Prim.Native.Nat.{ℕ, _+_, _*_, _≤_, _<_}
 use lib.ListN.{length, getD}
-use lib.Dec.{ltb, eqb}
-use Rattle.cells.specs.Cells.{cell}
-use Rattle.cover.specs.Sets.{bidders, each}
+use lib.Dec.{leb, ltb, eqb}
+use Rattle.cells.specs.Cells.{bitOf, cell}
+use Rattle.cover.specs.Sets.{when, bidders, each}
 use Rattle.rounds.specs.Market.{has}
 use Rattle.bidders.specs.declared.Thin.{Thin}
 use Rattle.bidders.specs.declared.Thin.the-variants.{Nobody, Alone, Enough}
@@ -32,20 +32,13 @@ unfoldable pub fewer : (ℕ → ℕ → Bool) → ℕ → ℕ → ℕ → Bool
 unfolding bidders
 fewer has n m x = ltb (bidders has n x) m
 
--- the cell is not set
-unfoldable pub unset : List ℕ → ℕ → Bool
-unfolding cell
-unset words x = not (eqb (cell words x) 1)
+-- the bits of r say which cells of word q have m bidders or more, of those wanted
+pub record Reached (ms : List ℕ) (w n q wanted m r : ℕ) : Type 0 where
+  pub each : (k : ℕ) → k < 64 → bitOf wanted k ≡ 1 → bitOf r k ≡ when (leb m (bidders (has ms w) n (64 * q + k))) 1
 
--- the cells of a mask are added to `one`, and to `two` where they were in `one` before
-pub record Merged (mask one two one′ two′ : List ℕ) : Type 0 where
-  pub once : (x : ℕ) → x < 64 * length mask → cell one′ x ≡ max (cell one x) (cell mask x)
-  pub twice : (x : ℕ) → x < 64 * length mask → cell two′ x ≡ max (cell two x) (min (cell one x) (cell mask x))
-
--- the cells in some bid, and those in two or more, of n bids
-pub record Gathered (ms : List ℕ) (w n : ℕ) (one two : List ℕ) : Type 0 where
-  pub once : (x : ℕ) → x < 64 * w → cell one x ≡ min 1 (bidders (has ms w) n x)
-  pub twice : (x : ℕ) → x < 64 * w → cell two x ≡ min 1 (bidders (has ms w) n x - 1)
+-- the cells of the first words of `enough` are those with m bidders or more, of those wanted
+pub record Gathered (ms : List ℕ) (w n m : ℕ) (wanted enough : List ℕ) (words : ℕ) : Type 0 where
+  pub each : (x : ℕ) → x < 64 * words → cell wanted x ≡ 1 → cell enough x ≡ when (leb m (bidders (has ms w) n x)) 1
 
 -- r is the first number below L that passes, or L where there is none
 pub record FirstOf (P : ℕ → Bool) (L r : ℕ) : Type 0 where

@@ -1,11 +1,11 @@
 // Whether each cell has two bidders, for bids of one window each and for bids as rows of words.
-// The cell answered is the first in no bid, else the first in one bid.
+// The cell answered is the first in no bid, else the first in one bid. A cell in fewer than two is looked for first: mostly there is none.
 ghost use mathlib.Core.Path.{_≡_};
 ghost use Prim.Native.Nat.{ℕ, _*_, _≤_, _<_};
 ghost use lib.ListN.{length, getD};
 ghost use Rattle.cover.specs.Settled.{spans};
 ghost use Rattle.rounds.specs.Market.{has};
-ghost use Rattle.bidders.specs.Thin.{Says, Spans, times, fewer, unset, Merged, Gathered, FirstOf};
+ghost use Rattle.bidders.specs.Thin.{Says, Spans, times, fewer, Reached, Gathered, FirstOf};
 
 pub enum Thin {
     Nobody { cell: u64 },
@@ -52,57 +52,82 @@ pub fn thin_spans(starts: &[u64], ends: &[u64], cells: usize) -> Thin
     requires { ⌜ Spans (now starts) (now ends) cells × (cells ≤ 10080) ⌝ }
     ensures { λ r. ⌜ Says (spans (now (starts .entry)) (now (ends .entry))) (length (now (starts .entry))) cells r ⌝ }
 {
+    let lone = spans_below(starts, ends, cells, 2);
+    if lone == cells {
+        return Thin::Enough;
+    }
     let bare = spans_below(starts, ends, cells, 1);
     if bare < cells {
         return Thin::Nobody { cell: bare as u64 };
     }
-    let lone = spans_below(starts, ends, cells, 2);
-    if lone < cells {
-        return Thin::Alone { cell: lone as u64 };
-    }
-    Thin::Enough
+    Thin::Alone { cell: lone as u64 }
 }
 
-// Adds the cells of a mask to `one`, and to `two` those that were in `one`.
-fn merge(mask: &[u64], one: &mut [u64], two: &mut [u64])
-    requires { ⌜ (length (now mask) ≤ length (now one)) × (length (now mask) ≤ length (now two)) ⌝ }
-    ensures { λ _. ⌜ Merged (now (mask .entry)) (now (one .entry)) (now (two .entry)) (now (one .exit)) (now (two .exit)) ⌝ }
+// The cells of word q in m bids or more, one or two, of those wanted: one word of each bid in turn, until each cell wanted is in two.
+fn seen(masks: &[u64], w: usize, n: usize, q: usize, wanted: u64, m: u64) -> u64
+    requires { ⌜ (length (now masks) ≡ w * n) × ((q < w) × ((1 ≤ m) × (m ≤ 2))) ⌝ }
+    ensures { λ r. ⌜ Reached (now (masks .entry)) w n q wanted m r ⌝ }
 {
-    let mut k = 0;
-    while k < mask.len() {
-        two[k] = two[k] | (one[k] & mask[k]);
-        one[k] = one[k] | mask[k];
-        k += 1;
-    }
-}
-
-// Gathers the cells in some bid, and those in two or more.
-fn gather(masks: &[u64], w: usize, n: usize, one: &mut [u64], two: &mut [u64])
-    requires { ⌜ (length (now masks) ≡ w * n) × ((w ≤ length (now one)) × ((w ≤ length (now two)) × Gathered (now masks) w 0 (now one) (now two))) ⌝ }
-    ensures { λ _. ⌜ Gathered (now (masks .entry)) w n (now (one .exit)) (now (two .exit)) ⌝ }
-{
+    let mut one: u64 = 0;
+    let mut two: u64 = 0;
     let mut i = 0;
     while i < n {
-        let a = w * i;
-        let e = a + w;
-        merge(&masks[a..e], one, two);
+        let x = masks[w * i + q];
+        two = two | (one & x);
+        one = one | x;
+        if two & wanted == wanted {
+            return wanted;
+        }
         i += 1;
+    }
+    if m == 1 {
+        return one;
+    }
+    two
+}
+
+// The cells in m bids or more, of those wanted.
+fn gather(masks: &[u64], w: usize, n: usize, m: u64, wanted: &[u64], enough: &mut [u64])
+    requires { ⌜ (length (now masks) ≡ w * n) × ((length (now wanted) ≡ w) × ((length (now enough) ≡ w) × ((1 ≤ m) × (m ≤ 2)))) ⌝ }
+    ensures { λ _. ⌜ Gathered (now (masks .entry)) w n m (now (wanted .entry)) (now (enough .exit)) w ⌝ }
+{
+    let mut q = 0;
+    while q < w {
+        enough[q] = seen(masks, w, n, q, wanted[q], m);
+        q += 1;
     }
 }
 
-// The first cell that is not set, or `cells` where there is none.
-fn first_unset(words: &[u64], cells: usize) -> usize
-    requires { ⌜ cells ≤ 64 * length (now words) ⌝ }
-    ensures { λ r. ⌜ FirstOf (unset (now (words .entry))) cells r ⌝ }
+// The first cell with fewer than m bidders, or `cells` where there is none; `wanted` and `enough` are lent for the work.
+fn first_below(
+    masks: &[u64],
+    w: usize,
+    n: usize,
+    cells: usize,
+    m: u64,
+    wanted: &mut [u64],
+    enough: &mut [u64],
+) -> usize
+    requires { ⌜ (length (now masks) ≡ w * n) × ((w ≤ 158) × ((cells ≤ 64 * w) × ((length (now wanted) ≡ w) × ((length (now enough) ≡ w) × ((1 ≤ m) × (m ≤ 2)))))) ⌝ }
+    ensures { λ r. ⌜ FirstOf (fewer (has (now (masks .entry)) w) n m) cells r ⌝ }
 {
-    let mut x = 0;
-    while x < cells {
-        if !cells::holds(words, x) {
-            return x;
-        }
-        x += 1;
+    rounds::unlock(wanted, cells);
+    gather(masks, w, n, m, wanted, enough);
+    let x = cells::next(wanted, enough, 0);
+    if x < cells {
+        return x;
     }
-    x
+    cells
+}
+
+// The first cell with fewer than m bidders, or `cells` where there is none.
+fn masks_below(masks: &[u64], w: usize, n: usize, cells: usize, m: u64) -> usize
+    requires { ⌜ (length (now masks) ≡ w * n) × ((w ≤ 158) × ((cells ≤ 64 * w) × ((1 ≤ m) × (m ≤ 2)))) ⌝ }
+    ensures { λ r. ⌜ FirstOf (fewer (has (now (masks .entry)) w) n m) cells r ⌝ }
+{
+    let mut wanted = [1u64; 158];
+    let mut enough = [1u64; 158];
+    first_below(masks, w, n, cells, m, &mut wanted[..w], &mut enough[..w])
 }
 
 // Bids as rows of w words.
@@ -110,18 +135,15 @@ pub fn thin_masks(masks: &[u64], w: usize, n: usize, cells: usize) -> Thin
     requires { ⌜ (length (now masks) ≡ w * n) × ((w ≤ 158) × (cells ≤ 64 * w)) ⌝ }
     ensures { λ r. ⌜ Says (has (now (masks .entry)) w) n cells r ⌝ }
 {
-    let mut one = [0u64; 158];
-    let mut two = [0u64; 158];
-    gather(masks, w, n, &mut one, &mut two);
-    let missing = first_unset(&one, cells);
+    let lone = masks_below(masks, w, n, cells, 2);
+    if lone == cells {
+        return Thin::Enough;
+    }
+    let missing = masks_below(masks, w, n, cells, 1);
     if missing < cells {
         return Thin::Nobody {
             cell: missing as u64,
         };
     }
-    let lone = first_unset(&two, cells);
-    if lone < cells {
-        return Thin::Alone { cell: lone as u64 };
-    }
-    Thin::Enough
+    Thin::Alone { cell: lone as u64 }
 }

@@ -1,78 +1,66 @@
--- `bidders::gather` meets its contract: the bids passed are gathered. Assumes nothing.
-use mathlib.Core.Path.{_≡_, refl, _∙_}
+-- `bidders::gather` meets its contract: the words passed are gathered. Assumes nothing.
+use mathlib.Core.Path.{_≡_, refl}
 use Prim.Native.Nat.{_-_, _≤_}
 use native.Mathlib.Omega.{arith}
-use lib.ListN.{length}
-use Rattle.rounds.proofs.Rows.{part-row}
+use lib.ListN.{length, length-set}
 use Rattle.bidders.specs.Thin.{Gathered}
-use Rattle.bidders.proofs.Masks.{row-within, row-size, gathered-more}
+use Rattle.bidders.proofs.Masks.{gathered-none, gathered-more}
+use borrow.Author.Needs.{needs}
 use Rattle.bidders.proofs.gather.Statement.{statement}
 use Rattle.bidders.proofs.gather.Tie as tie
 use Rattle.bidders.proofs.gather.Reads as reads
 use Rattle.bidders.proofs.gather.Lts as lts
-use Rattle.bidders.proofs.merge.Reads as merge-reads
+use Rattle.bidders.proofs.seen.Reads as seen-reads
 
 abbrev Inv-loop : tie.InvT-loop
-Inv-loop masks w n one₀ two₀ i₀ one two i = (i ≤ n) × ((length one ≡ length one₀) × ((length two ≡ length two₀) × Gathered masks w i one two))
+Inv-loop masks w n m wanted enough₀ q₀ enough q = (q ≤ w) × ((length enough ≡ length enough₀) × Gathered masks w n m wanted enough q)
 
 abbrev μ-loop : tie.MeasureT-loop
-μ-loop masks w n one₀ two₀ i₀ one two i = n - i
+μ-loop masks w n m wanted enough₀ q₀ enough q = w - q
 
--- src/lib.rt:85:5
+-- src/lib.rt:95:5
 loop-holds : tie.Need-loop-holds Inv-loop μ-loop
-loop-holds c = (omega arith, (refl, (refl, c .before .before .before .pre .1 .1 .1)))
+loop-holds c = (omega arith, (refl, gathered-none (c .before .before .before .args .masks .now) (c .before .before .before .args .w) (c .before .before .before .args .n) (c .before .before .before .args .m) (c .before .before .before .args .wanted .now) (c .before .before .before .args .enough .now)))
 
--- src/lib.rt:86:17
-mul-a : tie.Need-mul-a Inv-loop μ-loop
-mul-a c = omega (arith, row-within (c .before .before .before .before .before .args .masks .now) (c .before .before .before .before .before .args .w) (c .before .before .before .before .before .args .n) (c .before .loop .i) (c .before .before .before .before .before .pre .0) (c .loop-test .taken))
+-- src/lib.rt:96:42
+mul-seen : tie.Need-mul-seen Inv-loop μ-loop
+mul-seen c = search needs
 
--- src/lib.rt:87:17
-add-e : tie.Need-add-e Inv-loop μ-loop
-add-e c = omega (arith, row-within (c .before .before .before .before .before .args .masks .now) (c .before .before .before .before .before .args .w) (c .before .before .before .before .before .args .n) (c .before .loop .i) (c .before .before .before .before .before .pre .0) (c .loop-test .taken))
+-- src/lib.rt:96:42
+shared-slice-read-seen : tie.Need-shared-slice-read-seen Inv-loop μ-loop
+shared-slice-read-seen c = search needs
 
--- src/lib.rt:88:15
-mul-merge : tie.Need-mul-merge Inv-loop μ-loop
-mul-merge c = omega (arith, row-within (c .before .before .before .before .before .args .masks .now) (c .before .before .before .before .before .args .w) (c .before .before .before .before .before .args .n) (c .before .loop .i) (c .before .before .before .before .before .pre .0) (c .loop-test .taken))
+-- src/lib.rt:96:21
+seen-requires : tie.Need-seen-requires Inv-loop μ-loop
+seen-requires c κs = search needs
 
--- src/lib.rt:88:15
-sub-merge : tie.Need-sub-merge Inv-loop μ-loop
-sub-merge c = omega (arith, row-within (c .before .before .before .before .before .args .masks .now) (c .before .before .before .before .before .args .w) (c .before .before .before .before .before .args .n) (c .before .loop .i) (c .before .before .before .before .before .pre .0) (c .loop-test .taken))
+-- src/lib.rt:96:9
+mul-enough : tie.Need-mul-enough Inv-loop μ-loop
+mul-enough c = search needs
 
--- src/lib.rt:88:15
-part-merge-start : tie.Need-part-merge-start Inv-loop μ-loop
-part-merge-start c = omega arith
+-- src/lib.rt:96:9
+slice-write-enough : tie.Need-slice-write-enough Inv-loop μ-loop
+slice-write-enough c = search needs
 
--- src/lib.rt:88:15
-part-merge-end : tie.Need-part-merge-end Inv-loop μ-loop
-part-merge-end c = omega (arith, row-within (c .before .before .before .before .before .args .masks .now) (c .before .before .before .before .before .args .w) (c .before .before .before .before .before .args .n) (c .before .loop .i) (c .before .before .before .before .before .pre .0) (c .loop-test .taken))
+-- src/lib.rt:97:9
+add-q : tie.Need-add-q Inv-loop μ-loop
+add-q c = search needs
 
--- src/lib.rt:88:9
-merge-requires : tie.Need-merge-requires Inv-loop μ-loop
-merge-requires c κs = rw (part-row (c .before .before .before .before .before .before .before .before .args .masks .now) (c .before .before .before .before .before .before .before .before .args .w) (c .before .before .before .before .loop .i)) (omega (arith, row-size (c .before .before .before .before .before .before .before .before .args .masks .now) (c .before .before .before .before .before .before .before .before .args .w) (c .before .before .before .before .before .before .before .before .args .n) (c .before .before .before .before .loop .i) (c .before .before .before .before .before .before .before .before .pre .0) (c .before .before .before .loop-test .taken), c .before .before .before .before .before .before .before .before .pre .1 .0, c .before .before .before .before .before .before .before .before .pre .1 .1 .0, c .before .before .before .before .loop .inv .1 .0, c .before .before .before .before .loop .inv .1 .1 .0))
-
--- src/lib.rt:89:9
-add-i : tie.Need-add-i Inv-loop μ-loop
-add-i c = omega arith
-
--- src/lib.rt:85:5
+-- src/lib.rt:95:5
 loop-less : tie.Need-loop-less Inv-loop μ-loop
-loop-less c = omega arith
+loop-less c = search needs
 
--- src/lib.rt:85:5
+-- src/lib.rt:95:5
 loop-again : tie.Need-loop-again Inv-loop μ-loop
-loop-again c = (omega arith, (c .before .before .before .before .merge .kept .1 .0 ∙ c .before .before .before .before .before .before .before .before .before .loop .inv .1 .0, (c .before .before .before .before .merge .kept .1 .1 .0 ∙ c .before .before .before .before .before .before .before .before .before .loop .inv .1 .1 .0, gathered-more (c .before .before .before .before .before .before .before .before .before .before .before .before .before .args .masks .now) (c .before .before .before .before .before .before .before .before .before .before .before .before .before .args .w) (c .before .before .before .before .before .before .before .before .before .loop .i) (c .before .before .before .before .before .before .before .before .before .loop .one) (c .before .before .before .before .before .before .before .before .before .loop .two) (c .before .before .before .before .merge .last .1 .0) (c .before .before .before .before .merge .last .1 .1 .0) (c .before .before .before .before .before .before .before .before .before .loop .inv .1 .1 .1) (rw (part-row (c .before .before .before .before .before .before .before .before .before .before .before .before .before .args .masks .now) (c .before .before .before .before .before .before .before .before .before .before .before .before .before .args .w) (c .before .before .before .before .before .before .before .before .before .loop .i)) at (c .before .before .before .before .merge .ensures)) (row-size (c .before .before .before .before .before .before .before .before .before .before .before .before .before .args .masks .now) (c .before .before .before .before .before .before .before .before .before .before .before .before .before .args .w) (c .before .before .before .before .before .before .before .before .before .before .before .before .before .args .n) (c .before .before .before .before .before .before .before .before .before .loop .i) (c .before .before .before .before .before .before .before .before .before .before .before .before .before .pre .0) (c .before .before .before .before .before .before .before .before .loop-test .taken)))))
+loop-again c = (omega arith, (simp length-set (c .before .before .before .loop .inv .1 .0), gathered-more (c .before .before .before .before .before .before .before .args .masks .now) (c .before .before .before .before .before .before .before .args .w) (c .before .before .before .before .before .before .before .args .n) (c .before .before .before .before .before .before .before .args .m) (c .before .before .before .before .before .before .before .args .wanted .now) (c .before .before .before .loop .enough) (c .before .before .before .loop .q) (c .seen .result) (omega arith) (c .before .before .before .loop .inv .1 .1) (c .seen .ensures)))
 
--- src/lib.rt:80:1
+-- src/lib.rt:90:1
 same-length : tie.Need-same-length Inv-loop μ-loop
 same-length c = c .before .loop .inv .1 .0
 
--- src/lib.rt:80:1
-same-length-2 : tie.Need-same-length-2 Inv-loop μ-loop
-same-length-2 c = c .before .loop .inv .1 .1 .0
-
--- src/lib.rt:80:1
+-- src/lib.rt:90:1
 returns : tie.Need-returns Inv-loop μ-loop
-returns c = let e : c .before .loop .i ≡ c .before .before .before .before .before .args .n = omega arith in rw e at (c .before .loop .inv .1 .1 .1)
+returns c = let e : c .before .loop .q ≡ c .before .before .before .before .before .args .w = omega arith in rw e at (c .before .loop .inv .1 .1)
 
 pub gather-spec : {M : Type 1} → statement M
 gather-spec =
@@ -81,16 +69,13 @@ gather-spec =
     Inv-loop
     μ-loop
     loop-holds
-    mul-a
-    add-e
-    mul-merge
-    sub-merge
-    part-merge-start
-    part-merge-end
-    merge-requires
-    add-i
+    mul-seen
+    shared-slice-read-seen
+    seen-requires
+    mul-enough
+    slice-write-enough
+    add-q
     loop-less
     loop-again
     same-length
-    same-length-2
     returns)
