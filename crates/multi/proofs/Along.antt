@@ -19,7 +19,7 @@ use Rattle.cells.specs.Cells.{cell, Closed}
 use Rattle.rounds.specs.Market.{row, has, Market, First, Cleared}
 use Rattle.tournament.specs.Tournament.{at}
 use Rattle.rounds.specs.Trace.{opens, before, Trace}
-use Rattle.payments.specs.Follow.{Standing, Followed, Course}
+use Rattle.follow.specs.Follow.{Standing, Followed, Course}
 use Rattle.payments.proofs.Prefix.{limit-is}
 use Rattle.tournament.proofs.Tree.{set-at}
 use Rattle.multi.specs.Paying.{Ground, picked, Paying, Paid, Summed, Awarded}

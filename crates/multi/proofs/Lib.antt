@@ -1,3 +1,2 @@
 pub mod Winners
 pub mod Along
-pub mod Charting

@@ -1,7 +1,6 @@
 -- How the award goes along the written run: the bids of the first h rounds are marked and paid.
 use mathlib.Core.Path.{_≡_}
 use mathlib.Core.Bool.{Bool, true, false, _||_}
-use mathlib.Core.Logic.{_⊎_}
 use mathlib.Core.List.{List}
 use Prim.Native.Nat.{ℕ, zero, suc, _+_, _-_, _*_, _≤_, _<_}
 use lib.ListN.{length, getD}
@@ -10,13 +9,11 @@ use Rattle.cover.specs.Sets.{when, cells, each}
 use Rattle.cover.specs.Greedy.{wins}
 use Rattle.cover.specs.CriticalPrice.{limit, roundsPaid, sum}
 use Rattle.cover.specs.Settled.{listed}
-use Rattle.cells.specs.Cells.{cell}
-use Rattle.cells.specs.Hops.{Hops}
-use Rattle.rounds.specs.Market.{row, has, Market, Hopping}
+use Rattle.rounds.specs.Market.{has, Market, Hopping}
 use Rattle.rounds.specs.Trace.{Trace}
-use Rattle.payments.specs.Marks.{Indexed}
+use Rattle.marks.specs.Marks.{Indexed}
 use Rattle.tournament.specs.Tournament.{at}
-use Rattle.payments.specs.Follow.{Standing}
+use Rattle.follow.specs.Follow.{Standing}
 
 -- the market with its hops and index, the run written down, and two bidders at each cell
 pub record Ground (ps ms hop index : List ℕ) (w n : ℕ) (order gains : List ℕ) (rounds : ℕ) : Type 0 where
@@ -26,16 +23,6 @@ pub record Ground (ps ms hop index : List ℕ) (w n : ℕ) (order gains : List �
   pub main : Trace ps ms w n order gains rounds
   pub cells-in : n ≤ 64 * w
   pub two : each (has ms w) (length ps) n 2 ≡ true
-
--- the hops of bid i's words are set, and no others
-pub record Charted (ms : List ℕ) (w i : ℕ) (old new : List ℕ) : Type 0 where
-  pub own : Hops (row ms w i) (row new w i)
-  pub others : (p : ℕ) → (p < w * i) ⊎ (w * i + w ≤ p) → at new p ≡ at old p
-
--- bid i is in the set of each word where it has a cell, and no bid is left out that was in
-pub record Enlisted (ms : List ℕ) (w i : ℕ) (old new : List ℕ) : Type 0 where
-  pub kept : (x : ℕ) → cell old x ≡ 1 → cell new x ≡ 1
-  pub own : (q : ℕ) → q < w → (at (row ms w i) q ≡ 0 → ⊥) → cell new (1024 * q + i) ≡ 1
 
 -- bid k is taken in one of the first h rounds
 unfoldable pub picked : List ℕ → ℕ → ℕ → Bool

@@ -11,8 +11,7 @@ ghost use Rattle.cover.specs.CriticalPrice.{roundsPaid, sum};
 ghost use Rattle.cover.specs.Settled.{Settled, listed};
 ghost use Rattle.tournament.specs.Tournament.{at, Priced, Tournament};
 ghost use Rattle.rounds.specs.Market.{has, Market, Hopping};
-ghost use Rattle.payments.specs.Marks.{Indexed};
-ghost use Rattle.multi.specs.Paying.{Ground, Charted, Enlisted, Paying, Paid, Summed, Awarded};
+ghost use Rattle.multi.specs.Paying.{Ground, Paying, Paid, Summed, Awarded};
 
 fn less_one(a: u64) -> u64
     ensures { λ r. ⌜ r ≡ a - 1 ⌝ }
@@ -148,80 +147,6 @@ fn totals(prices: &[u64], won: &[u64], cents: &[u64]) -> tender::Totals
     tender::Totals { cost, paid }
 }
 
-fn byte(x: usize) -> u8
-    requires { ⌜ x < 256 ⌝ }
-    ensures { λ r. ⌜ r ≡ x ⌝ }
-{
-    x as u8
-}
-
-// The hops of bid i's words.
-fn chart_row(masks: &[u64], w: usize, i: usize, hop: &mut [u8])
-    requires { ⌜ (w ≤ 158) × ((w * i + w ≤ length (now masks)) × (length (now hop) ≡ length (now masks))) ⌝ }
-    ensures { λ _. ⌜ Charted (now (masks .entry)) w i (now (hop .entry)) (now (hop .exit)) ⌝ }
-{
-    let a = w * i;
-    let mut q = w;
-    let mut gap = w;
-    let mut run = w;
-    while 0 < q {
-        q -= 1;
-        let m = masks[a + q];
-        if m == !0 {
-            hop[a + q] = byte(run);
-            gap = q;
-        } else if m == 0 {
-            hop[a + q] = byte(gap);
-            run = q;
-        } else {
-            hop[a + q] = byte(gap);
-            run = q;
-            gap = q;
-        }
-    }
-}
-
-// The hops of each bid's words.
-fn chart(prices: &[u64], masks: &[u64], w: usize, hop: &mut [u8])
-    requires { ⌜ Market (now prices) (now masks) w × (length (now hop) ≡ length (now masks)) ⌝ }
-    ensures { λ _. ⌜ Hopping (now (prices .entry)) (now (masks .entry)) (now (hop .exit)) w ⌝ }
-{
-    let mut i = 0;
-    while i < prices.len() {
-        chart_row(masks, w, i, hop);
-        i += 1;
-    }
-}
-
-// Enters bid i in the set of each word where it has a cell.
-fn enlist_row(masks: &[u64], w: usize, i: usize, index: &mut [u64])
-    requires { ⌜ (w ≤ 158) × ((w * i + w ≤ length (now masks)) × ((i < 1000) × (length (now index) ≡ 16 * w))) ⌝ }
-    ensures { λ _. ⌜ Enlisted (now (masks .entry)) w i (now (index .entry)) (now (index .exit)) ⌝ }
-{
-    let a = w * i;
-    let mut q = 0;
-    while q < w {
-        if masks[a + q] != 0 {
-            cells::add(index, 1024 * q + i);
-            q += 1;
-        } else {
-            q += 1;
-        }
-    }
-}
-
-// For each word, the bids that have a cell there.
-fn enlist(prices: &[u64], masks: &[u64], w: usize, index: &mut [u64])
-    requires { ⌜ Market (now prices) (now masks) w × (length (now index) ≡ 16 * w) ⌝ }
-    ensures { λ _. ⌜ Indexed (now (prices .entry)) (now (masks .entry)) (now (index .exit)) w ⌝ }
-{
-    let mut i = 0;
-    while i < prices.len() {
-        enlist_row(masks, w, i, index);
-        i += 1;
-    }
-}
-
 // The award into lists with a place for each bid and no more, with room to work lent.
 fn settle(
     prices: &[u64],
@@ -246,8 +171,8 @@ fn settle(
         × ((length (now counts) ≡ w) × ((length (now who) ≡ 2048) × ((length (now num) ≡ 2048) × ((length (now mark) ≡ 16) × ((length (now won) ≡ length (now prices)) × (length (now cents) ≡ length (now prices))))))))))))))) ⌝ }
     ensures { λ r. ⌜ Awarded (now (prices .entry)) (now (masks .entry)) w count (now (won .exit)) (now (cents .exit)) (r .cost) (r .paid) ⌝ }
 {
-    chart(prices, masks, w, hop);
-    enlist(prices, masks, w, index);
+    charts::chart(prices, masks, w, hop);
+    charts::enlist(prices, masks, w, index);
     rounds::unlock(held, count);
     cells::count(held, counts);
     tournament::seat(who);

@@ -16,9 +16,9 @@ use Rattle.cover.specs.GreedyCover.{Each, Covered}
 use Rattle.cover.specs.GreedyLaws.{best-right, withdrawn-other, withdrawn-reach}
 use Rattle.cover.specs.PickLaws.{Best, before-one}
 use Rattle.cover.specs.Sets.{when, Found, nothing, found, cells}
-use Rattle.payments.proofs.Limiting.{others}
-use Rattle.payments.proofs.Strayed.{two-way}
-use Rattle.payments.specs.Follow.{bar-from}
+use Rattle.follow.proofs.Limiting.{others}
+use Rattle.follow.proofs.Strayed.{two-way}
+use Rattle.follow.specs.Follow.{bar-from}
 use Rattle.rounds.proofs.Chosen.{rounds-of, rounds-more}
 use Rattle.rounds.proofs.Fronting.{right-one}
 use Rattle.rounds.proofs.Opens.{two, close-step, opens-first, reach-alike}

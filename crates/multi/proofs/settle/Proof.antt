@@ -11,8 +11,8 @@ use Rattle.multi.proofs.settle.Tie as tie
 use Rattle.multi.proofs.settle.Reads as reads
 use Rattle.multi.proofs.settle.Lts as lts
 use Rattle.cells.proofs.count.Reads as count-reads
-use Rattle.multi.proofs.chart.Reads as chart-reads
-use Rattle.multi.proofs.enlist.Reads as enlist-reads
+use Rattle.charts.proofs.chart.Reads as chart-reads
+use Rattle.charts.proofs.enlist.Reads as enlist-reads
 use Rattle.multi.proofs.pay_all.Reads as pay-all-reads
 use Rattle.multi.proofs.totals.Reads as totals-reads
 use Rattle.rounds.proofs.clear.Reads as clear-reads

@@ -12,7 +12,7 @@ use Rattle.rounds.specs.Trace.{openOf}
 use Rattle.rounds.proofs.Fronting.{not-clear}
 use Rattle.tournament.proofs.Tree.{emptied, known-at}
 use Rattle.rounds.proofs.Begin.{sized-of}
-use Rattle.payments.proofs.Following.{inside, starts}
+use Rattle.follow.proofs.Following.{inside, starts}
 use borrow.Author.Needs.{needs}
 use Rattle.payments.proofs.begin.Statement.{statement}
 use Rattle.payments.proofs.begin.Tie as tie
@@ -20,7 +20,7 @@ use Rattle.payments.proofs.begin.Reads as reads
 use Rattle.payments.proofs.begin.Lts as lts
 use Rattle.cells.proofs.add.Reads as add-reads
 use Rattle.cells.proofs.count.Reads as count-reads
-use Rattle.payments.proofs.disturb.Reads as disturb-reads
+use Rattle.marks.proofs.disturb.Reads as disturb-reads
 use Rattle.rounds.proofs.clear.Reads as clear-reads
 use Rattle.rounds.proofs.copy.Reads as copy-reads
 

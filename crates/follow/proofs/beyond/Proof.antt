@@ -1,0 +1,79 @@
+-- `follow::beyond` meets its contract: the first of the marked bids is taken, and without one the run is over. Assumes nothing.
+use Prim.Native.Nat.{ℕ, _+_, _-_, _*_, _/_, _≤_, _<_}
+use mathlib.Core.Path.{_≡_, refl, sym, ap, _∙_}
+use mathlib.Core.Bool.{Bool, true, false}
+use native.Mathlib.Omega.{arith}
+use lib.ListN.{length, getD, set, length-set}
+use Rattle.cells.specs.Cells.{cell, common}
+use Rattle.cells.specs.Hops.{Counted}
+use Rattle.tournament.specs.Tournament.{at, known, Tournament}
+use Rattle.rounds.specs.Market.{row}
+use Rattle.rounds.specs.Trace.{openOf}
+use Rattle.rounds.proofs.Fronting.{not-clear}
+use Rattle.follow.proofs.Strayed.{knows}
+use Rattle.follow.proofs.Following.{inside, takes-last}
+use Rattle.follow.proofs.Stepping.{words, fronted, over-goes}
+use borrow.Author.Needs.{needs}
+use Rattle.follow.proofs.beyond.Statement.{statement}
+use Rattle.follow.proofs.beyond.Tie as tie
+use Rattle.follow.proofs.beyond.Reads as reads
+use Rattle.follow.proofs.beyond.Lts as lts
+use Rattle.follow.proofs.other.Reads as other-reads
+use Rattle.rounds.proofs.front.Reads as front-reads
+
+front-requires : tie.Need-front-requires
+front-requires c κs = let P = c .before .before .before .before .before .before .before .before .before .before .before .before .before .before .before .pre in let co = P .0 in let s = P .1 .0 in (co .market, (co .hopping, (words co s, (s .counted, (s .tree, (knows (inside co) (co .market .words) (s .follow .strayed), (omega arith, (omega arith, omega arith))))))))
+
+other-requires : tie.Need-other-requires
+other-requires c κs = let P = c .before .before .before .before .before .before .before .before .before .before .before .before .before .before .before .before .before .before .before .before .before .before .before .before .before .before .pre in let co = P .0 in let s = P .1 .0 in (co, (fronted co s (c .before .before .before .before .before .before .before .before .before .before .front .ensures .0) (c .before .before .before .before .before .before .before .before .before .before .front .ensures .1), (P .1 .1 .0, takes-last co (s .follow) (c .before .before .before .before .before .before .before .before .before .before .front .ensures .1) (not-clear false _ (λ e. c .before .before .before .before .before .before .before .before .before .before .front .ensures .1 .clear-of e .0) refl) (c .before .before .before .before .before .if1 .taken) (P .1 .1 .1))))
+
+same-length : tie.Need-same-length
+same-length c = search needs
+
+same-length-2 : tie.Need-same-length-2
+same-length-2 c = search needs
+
+same-length-3 : tie.Need-same-length-3
+same-length-3 c = search needs
+
+same-length-4 : tie.Need-same-length-4
+same-length-4 c = search needs
+
+same-length-5 : tie.Need-same-length-5
+same-length-5 c = search needs
+
+returns : tie.Need-returns
+returns c = search needs
+
+same-length-6 : tie.Need-same-length-6
+same-length-6 c = search needs
+
+same-length-7 : tie.Need-same-length-7
+same-length-7 c = search needs
+
+same-length-8 : tie.Need-same-length-8
+same-length-8 c = search needs
+
+same-length-9 : tie.Need-same-length-9
+same-length-9 c = search needs
+
+returns-2 : tie.Need-returns-2
+returns-2 c = let P = c .before .before .before .before .before .before .before .before .before .before .before .before .before .before .before .before .before .before .before .before .before .pre in let co = P .0 in let s = P .1 .0 in over-goes co s (c .before .before .before .before .before .front .ensures .0) (c .before .before .before .before .before .front .ensures .1) (not-clear false _ (λ e. c .before .before .before .before .before .front .ensures .1 .clear-of e .0) refl) (c .if1 .left) (P .1 .1 .1)
+
+pub beyond-spec : {M : Type 1} → statement M
+beyond-spec =
+    tie.close
+    (tie.spec
+    front-requires
+    other-requires
+    same-length
+    same-length-2
+    same-length-3
+    same-length-4
+    same-length-5
+    returns
+    same-length-6
+    same-length-7
+    same-length-8
+    same-length-9
+    returns-2)
