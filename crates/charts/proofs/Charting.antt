@@ -1,17 +1,17 @@
 -- How the hops of a bid's words and the bids of each word are found. Assumes nothing.
 use mathlib.Core.Path.{_≡_, refl, sym, ap, _∙_}
-use mathlib.Core.Logic.{_⊎_, inl, inr, ⊎-elim}
+use mathlib.Core.Logic.{_⊎_, inl, ⊎-elim}
 use mathlib.Core.Bool.{Bool, true, false}
 use mathlib.Core.List.{List}
-use Prim.Native.Nat.{ℕ, zero, suc, _+_, _-_, _*_, _/_, _%_, _≤_, _<_}
+use Prim.Native.Nat.{ℕ, _+_, _-_, _*_, _/_, _%_, _≤_, _<_}
 use native.Mathlib.Nat.{mul-le-mul-left, mul-suc}
 use native.Mathlib.Omega.{arith}
-use lib.ListN.{length, getD, set, length-set}
+use lib.ListN.{length, set, length-set}
 use lib.Seq.{getD-set-same, getD-set-other, ext-getD}
-use lib.Dec.{eqb, ltb}
-use borrow.Author.Tests.{eqb-true, eqb-false, ltb-true, ltb-false}
-use Rattle.cells.specs.Cells.{cell, bitOf, Filled}
-use Rattle.cells.specs.Hops.{whole, Hops}
+use lib.Dec.{eqb}
+use borrow.Author.Tests.{eqb-true, eqb-false}
+use Rattle.cells.specs.Cells.{cell, Filled}
+use Rattle.cells.specs.Hops.{whole, Hops, Onward}
 use Rattle.cells.proofs.Store.{lt-or-le}
 use Rattle.tournament.specs.Tournament.{at}
 use Rattle.rounds.specs.Market.{row, Market, Hopping}
@@ -169,6 +169,10 @@ module _ {ms : List ℕ} {w i : ℕ} {old new : List ℕ} {q : ℕ} (s : Enlisti
       go : (p : ℕ) → p < q + 1 → (at (row ms w i) p ≡ 0 → ⊥) → (t : Bool) → eqb p q ≡ t → cell next (1024 * p + i) ≡ 1
       go p l n true d = rw (eqb-true p q d) (f .inside (1024 * q + i) (omega arith) (omega arith))
       go p l n false d = stays (1024 * p + i) (s .done p (omega (arith, eqb-false p q d)) n)
+
+  -- the words between q and r have no cell
+  pub enlists-past : {p r : ℕ} → q ≡ p + 1 → Onward (row ms w i) p r → Enlisting ms w i old new r
+  enlists-past {p} {r} e o = record { same = s .same; kept = s .kept; done = λ x l n. ⊎-elim (λ a. s .done x a n) (λ a. absurd (n (o .gap x (omega arith) l))) (lt-or-le x q) }
 
   pub enlists-all : w ≤ q → Enlisted ms w i old new
   enlists-all l = record { kept = s .kept; own = λ p a n. s .done p (omega arith) n }

@@ -3,7 +3,8 @@
 ghost use mathlib.Core.Path.{_≡_};
 ghost use Prim.Native.Nat.{_+_, _*_, _<_, _≤_};
 ghost use lib.ListN.{length};
-ghost use Rattle.rounds.specs.Market.{Market, Hopping};
+ghost use Rattle.cells.specs.Hops.{Hops};
+ghost use Rattle.rounds.specs.Market.{row, Market, Hopping};
 ghost use Rattle.marks.specs.Marks.{Indexed};
 ghost use Rattle.charts.specs.Charts.{Charted, Enlisted};
 
@@ -53,30 +54,32 @@ pub fn chart(prices: &[u64], masks: &[u64], w: usize, hop: &mut [u8])
 }
 
 // Enters bid i in the set of each word where it has a cell.
-fn enlist_row(masks: &[u64], w: usize, i: usize, index: &mut [u64])
-    requires { ⌜ (w ≤ 158) × ((w * i + w ≤ length (now masks)) × ((i < 1000) × (length (now index) ≡ 16 * w))) ⌝ }
+fn enlist_row(masks: &[u64], hop: &[u8], w: usize, i: usize, index: &mut [u64])
+    requires { ⌜ (w ≤ 158) × ((w * i + w ≤ length (now masks)) × ((length (now hop) ≡ length (now masks)) × (Hops (row (now masks) w i) (row (now hop) w i)
+        × ((i < 1000) × (length (now index) ≡ 16 * w))))) ⌝ }
     ensures { λ _. ⌜ Enlisted (now (masks .entry)) w i (now (index .entry)) (now (index .exit)) ⌝ }
 {
     let a = w * i;
+    let e = a + w;
     let mut q = 0;
     while q < w {
         if masks[a + q] != 0 {
             cells::add(index, 1024 * q + i);
-            q += 1;
+            q = cells::onward(&masks[a..e], &hop[a..e], q);
         } else {
-            q += 1;
+            q = cells::onward(&masks[a..e], &hop[a..e], q);
         }
     }
 }
 
 // For each word, the bids that have a cell there.
-pub fn enlist(prices: &[u64], masks: &[u64], w: usize, index: &mut [u64])
-    requires { ⌜ Market (now prices) (now masks) w × (length (now index) ≡ 16 * w) ⌝ }
+pub fn enlist(prices: &[u64], masks: &[u64], hop: &[u8], w: usize, index: &mut [u64])
+    requires { ⌜ Market (now prices) (now masks) w × (Hopping (now prices) (now masks) (now hop) w × (length (now index) ≡ 16 * w)) ⌝ }
     ensures { λ _. ⌜ Indexed (now (prices .entry)) (now (masks .entry)) (now (index .exit)) w ⌝ }
 {
     let mut i = 0;
     while i < prices.len() {
-        enlist_row(masks, w, i, index);
+        enlist_row(masks, hop, w, i, index);
         i += 1;
     }
 }

@@ -1,18 +1,10 @@
 -- A run without one bid follows the main run but for the bids that it disturbs. Assumes nothing.
-use mathlib.Core.Path.{_≡_, refl, sym, ap, _∙_}
-use mathlib.Core.Logic.{_⊎_, inl, inr, ⊎-elim}
-use mathlib.Core.Bool.{Bool, true, false}
-use mathlib.Core.List.{List, [], _∷_}
-use Prim.Native.Nat.{ℕ, zero, suc, _+_, _-_, _*_, _≤_, _<_, min}
+use mathlib.Core.Path.{_≡_}
+use mathlib.Core.Logic.{_⊎_, ⊎-elim}
+use Prim.Native.Nat.{ℕ, _+_, _-_, _*_, _≤_, _<_}
 use native.Mathlib.Omega.{arith}
-use lib.ListN.{length, getD}
-use lib.Dec.{eqb, ltb}
-use borrow.Author.Tests.{ltb-true, ltb-false}
-use Rattle.cells.specs.Cells.{cell}
 use Rattle.cover.specs.CriticalPrice.{late}
-use Rattle.cover.specs.Greedy.{pick, reach, keep, close}
 use Rattle.cover.specs.PickLaws.{Best}
-use Rattle.cover.specs.Sets.{when, Found, nothing, found}
 use Rattle.tournament.proofs.Order.{zero-or, ahead}
 
 -- no disturbed bid comes before bid b at t/c

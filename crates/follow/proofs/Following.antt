@@ -2,22 +2,20 @@
 use mathlib.Core.Path.{_≡_, refl, sym, ap, _∙_}
 use mathlib.Core.Logic.{_⊎_, inl, inr, ⊎-elim}
 use mathlib.Core.Bool.{Bool, true, false}
-use mathlib.Core.List.{List, [], _∷_}
-use Prim.Native.Nat.{ℕ, zero, suc, _+_, _-_, _*_, _/_, _≤_, _<_, min, max}
+use mathlib.Core.List.{List}
+use Prim.Native.Nat.{ℕ, _+_, _-_, _*_, _≤_, _<_, max}
 use native.Mathlib.Numerals.{add-one}
 use native.Mathlib.Omega.{arith}
-use lib.ListN.{length, getD}
+use lib.ListN.{length}
 use lib.Dec.{eqb}
 use borrow.Author.Tests.{eqb-true, eqb-false}
 use Rattle.cells.specs.Cells.{cell, common, Closed, Filled}
 use Rattle.cells.proofs.Store.{lt-or-le}
-use Rattle.cover.specs.CriticalPrice.{late, withdrawn, share, bar}
-use Rattle.cover.specs.Greedy.{Bid, reach, close, Rounds, stop, round, best, run, bids}
+use Rattle.cover.specs.CriticalPrice.{late, share, bar}
+use Rattle.cover.specs.Greedy.{reach, close, Rounds, bids}
 use Rattle.cover.specs.GreedyLaws.{shrink, withdrawn-other}
-use Rattle.cover.specs.PickLaws.{Best}
-use Rattle.cover.specs.Sets.{when, Found, nothing, found}
 use Rattle.tournament.specs.Tournament.{at}
-use Rattle.rounds.specs.Market.{row, has, Sized, Market, Cleared, Fronted}
+use Rattle.rounds.specs.Market.{row, has, Sized, Cleared, Fronted}
 use Rattle.rounds.specs.Trace.{opens, openOf, before, Trace}
 use Rattle.rounds.proofs.Begin.{common-few}
 use Rattle.rounds.proofs.Chosen.{rounds-of, rounds-stop, rounds-more}

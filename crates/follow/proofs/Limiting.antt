@@ -1,25 +1,19 @@
 -- The run without bid k, round by round, and the highest price at which k would be taken so far. Assumes nothing.
-use mathlib.Core.Path.{_≡_, refl, sym, ap, _∙_}
-use mathlib.Core.Bool.{Bool, true, false, _&&_}
-use mathlib.Core.List.{List, [], _∷_}
-use Prim.Native.Nat.{ℕ, zero, suc, _+_, _-_, _*_, _/_, _≤_, _<_, min, max}
+use mathlib.Core.Path.{_≡_, refl}
+use mathlib.Core.Bool.{Bool}
+use mathlib.Core.List.{List}
+use Prim.Native.Nat.{ℕ, _+_, _-_, _*_, _/_, _≤_, _<_}
 use native.Mathlib.Nat.{div-le-self}
 use native.Mathlib.Omega.{arith}
-use lib.ListN.{length, getD, set, length-set}
-use lib.Seq.{getD-set-same, getD-set-other}
-use lib.Dec.{eqb, ltb, leb}
-use borrow.Author.Tests.{eqb-true, eqb-false, eq-eqb, lt-ltb, le-ltb, le-leb, lt-leb}
-use Rattle.cells.specs.Cells.{Closed, common}
-use Rattle.cover.specs.CriticalPrice.{late, withdrawn, mute, share, bar, limit}
-use Rattle.cover.specs.Greedy.{Bid, reach, close, Rounds, stop, round, best, run, bids}
-use Rattle.cover.specs.GreedyLaws.{shrink, withdrawn-other, reach-none, rounds, close-other}
+use lib.ListN.{length}
+use borrow.Author.Tests.{lt-ltb, le-leb}
+use Rattle.cover.specs.CriticalPrice.{withdrawn, share, bar}
+use Rattle.cover.specs.Greedy.{Bid, reach, bids}
+use Rattle.cover.specs.GreedyLaws.{rounds, close-other}
 use Rattle.cover.specs.PickLaws.{late-no, late-yes}
-use Rattle.cover.specs.Sets.{when, Found, nothing, found, cells}
 use Rattle.follow.specs.Follow.{raised, Raised}
 use Rattle.rounds.proofs.Chosen.{rounds-of}
-use Rattle.rounds.specs.Trace.{openOf}
 use Rattle.rounds.specs.Market.{has}
-use Rattle.tournament.specs.Tournament.{at}
 
 abbrev pub others : ℕ → List ℕ → List ℕ → ℕ → ℕ → Bid
 others k ps ms w = withdrawn k (bids (has ms w) ps)

@@ -1,25 +1,24 @@
 -- Each kind of step of the run without bid k, with the tournament and the counts. Assumes nothing.
-use mathlib.Core.Path.{_≡_, refl, sym, ap, _∙_}
+use mathlib.Core.Path.{_≡_, sym, _∙_}
 use mathlib.Core.Bool.{Bool, true, false, not, true≢false, false≢true}
 use mathlib.Core.Logic.{⊎-elim}
 use lib.Dec.{eqb}
 use borrow.Author.Tests.{eqb-false}
 use mathlib.Core.List.{List}
-use Prim.Native.Nat.{ℕ, zero, suc, _+_, _-_, _*_, _≤_, _<_, max}
+use Prim.Native.Nat.{ℕ, _+_, _-_, _*_, _≤_, _<_}
 use native.Mathlib.Omega.{arith}
-use lib.ListN.{length, getD}
+use lib.ListN.{length}
 use Rattle.cells.specs.Cells.{cell, common, Closed}
-use Rattle.cells.specs.Hops.{Hops, Counted}
-use Rattle.cover.specs.CriticalPrice.{late}
+use Rattle.cells.specs.Hops.{Counted}
 use Rattle.tournament.specs.Tournament.{at, known, Tournament}
-use Rattle.rounds.specs.Market.{row, Market, Fronted}
+use Rattle.rounds.specs.Market.{row, Fronted}
 use Rattle.rounds.specs.Trace.{openOf}
 use Rattle.rounds.proofs.Rows.{row-in}
 use Rattle.rounds.proofs.Begin.{sized-of}
 use Rattle.marks.specs.Marks.{Disturbed}
-use Rattle.follow.specs.Follow.{Raised, Took, Course, Following, Walking, Takes, Stepped, Followed}
+use Rattle.follow.specs.Follow.{Took, Course, Walking, Takes, Stepped}
 use Rattle.follow.proofs.Strayed.{two-way}
-use Rattle.follow.proofs.Following.{inside, scanned, takes-main, takes-other, takes-last, ends-none, skips, fewer-open, main-step, both-step, other-step}
+use Rattle.follow.proofs.Following.{scanned, ends-none, skips, fewer-open, main-step, both-step, other-step}
 
 module _ {ps ms hop index : List ℕ} {w n : ℕ} {order gains : List ℕ} {rounds h k : ℕ} (co : Course ps ms hop index w n order gains rounds h k) where
   -- the words of a bid, for a call

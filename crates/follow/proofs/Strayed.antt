@@ -2,19 +2,19 @@
 use mathlib.Core.Path.{_≡_, refl, sym, ap, _∙_}
 use mathlib.Core.Logic.{_⊎_, inl, inr, ⊎-elim}
 use mathlib.Core.Bool.{Bool, true, false}
-use mathlib.Core.List.{List, [], _∷_}
+use mathlib.Core.List.{List}
 use Prim.Native.Nat.{ℕ, zero, suc, _+_, _-_, _*_, _≤_, _<_, min}
 use native.Mathlib.Nat.{mul-le-mul-left}
 use native.Mathlib.Omega.{arith}
-use lib.ListN.{length, getD}
-use lib.Dec.{eqb, ltb}
+use lib.ListN.{length}
+use lib.Dec.{eqb}
 use borrow.Author.Tests.{eqb-true, eqb-false}
 use Rattle.cells.specs.Cells.{cell, common, Closed}
 use Rattle.cover.specs.CriticalPrice.{late, withdrawn}
-use Rattle.cover.specs.Greedy.{pick, Bid, reach, close, best, bids}
+use Rattle.cover.specs.Greedy.{reach, best, bids}
 use Rattle.cover.specs.GreedyLaws.{best-right, withdrawn-other, reach-none, close-other}
-use Rattle.cover.specs.PickLaws.{Best, IsPick, pick-right}
-use Rattle.cover.specs.Sets.{Found, nothing, found}
+use Rattle.cover.specs.PickLaws.{Best}
+use Rattle.cover.specs.Sets.{nothing, found}
 use Rattle.follow.proofs.Astray.{Bound, takes-main, takes-other, takes-last}
 use Rattle.follow.proofs.Limiting.{others}
 use Rattle.marks.specs.Marks.{Disturbed, Strayed}
@@ -23,7 +23,7 @@ use Rattle.rounds.proofs.Chosen.{right-ext}
 use Rattle.rounds.proofs.Fronting.{right-one, turned}
 use Rattle.rounds.proofs.Begin.{common-few}
 use Rattle.rounds.proofs.Opens.{reach-open, close-open, reach-alike}
-use Rattle.rounds.specs.Market.{row, has, place, live, Sized, Known, Turn, Fronted}
+use Rattle.rounds.specs.Market.{row, has, live, Sized, Known, Fronted}
 use Rattle.tournament.specs.Tournament.{at}
 use Rattle.tournament.proofs.Order.{zero-or}
 use Rattle.rounds.specs.Trace.{opens, openOf}

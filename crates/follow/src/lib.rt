@@ -1,6 +1,6 @@
-// One step of the run without a bid, which follows the main run as written down: a bid that is not marked is taken as the main run takes
-// it, the marked bids by what is known of them. `step` takes the next bid, or passes over one that the main run alone takes, and gives the
-// highest price so far at which the bid left out would be taken.
+// A bid taken in the run without bid k, which follows the main run as written down. `take` closes the bid's cells and raises the highest
+// price at which k would be taken before it; `both` is the step where the two runs take the bid, `other` the step where the run without k
+// alone does, and marks the bids that share an open cell with it. `ahead` says which of two bids comes first.
 ghost use mathlib.Core.Path.{_≡_};
 ghost use mathlib.Core.Bool.{true};
 ghost use Prim.Native.Nat.{_+_, _*_, _<_, _≤_, max};
@@ -34,7 +34,7 @@ fn raise(k: usize, i: usize, price: u64, cells: u64, mine: u64) -> u64
 }
 
 // Takes bid b, which asks p for c cells: closes its cells, and answers the new maximum.
-fn take(
+pub fn take(
     masks: &[u64],
     hop: &[u8],
     w: usize,
@@ -57,7 +57,7 @@ fn take(
 }
 
 // Bid b at t/c is there and comes before bid m at p/v.
-fn ahead(n: usize, t: u64, c: u64, b: usize, p: u64, v: u64, m: usize) -> bool
+pub fn ahead(n: usize, t: u64, c: u64, b: usize, p: u64, v: u64, m: usize) -> bool
     requires { ⌜ ((t ≤ 100000000) × (c ≤ 10112)) × ((p ≤ 100000000) × (v ≤ 10112)) ⌝ }
     ensures { λ r. ⌜ (r ≡ true → (b < n) × (t * v + late b m ≤ p * c)) ⌝ }
 {
@@ -76,7 +76,7 @@ pub struct Move {
 }
 
 // Both runs take bid b, the main run's next.
-fn both(
+pub fn both(
     prices: &[u64],
     masks: &[u64],
     hop: &[u8],
@@ -116,7 +116,7 @@ fn both(
 }
 
 // The run without k alone takes bid b.
-fn other(
+pub fn other(
     prices: &[u64],
     masks: &[u64],
     hop: &[u8],
@@ -154,242 +154,4 @@ fn other(
         top: t,
         over: false,
     }
-}
-
-// One step where the main run has a next bid.
-fn along(
-    prices: &[u64],
-    masks: &[u64],
-    hop: &[u8],
-    index: &[u64],
-    w: usize,
-    count: usize,
-    order: &[u64],
-    gains: &[u64],
-    rounds: usize,
-    h: usize,
-    k: usize,
-    g: usize,
-    mine: u64,
-    top: u64,
-    alt: &mut [u64],
-    counts: &mut [u64],
-    who: &mut [u64],
-    num: &mut [u64],
-    mark: &mut [u64],
-) -> Move
-    requires { ⌜ Course (now prices) (now masks) (now hop) (now index) w count (now order) (now gains) rounds h k
-        × (Walking (now prices) (now masks) w count (now order) (now gains) rounds h k (now alt) (now counts) (now who) (now num) (now mark) top mine g
-        × ((0 < mine) × (g < rounds))) ⌝ }
-    ensures { λ r. ⌜ Stepped (now (prices .entry)) (now (masks .entry)) w count (now (order .entry)) (now (gains .entry)) rounds h k (now (alt .entry)) (now (alt .exit)) (now (counts .exit)) (now (who .exit)) (now (num .exit)) (now (mark .exit)) g top (r .g) (r .mine) (r .top) (r .over) ⌝ }
-{
-    let m = order[g] as usize;
-    let p = prices[m];
-    let v = gains[g];
-    let free = !cells::holds(mark, m);
-    let f = rounds::front(prices, masks, hop, w, alt, counts, who, num, m, p, v, free);
-    if f.clear {
-        let t = take(masks, hop, w, k, m, p, v, mine, top, alt, counts);
-        return Move {
-            g: g + 1,
-            mine,
-            top: t,
-            over: false,
-        };
-    }
-    let b = f.bid;
-    if ahead(prices.len(), f.price, f.cells, b, p, v, m) {
-        if b == m {
-            return both(
-                prices,
-                masks,
-                hop,
-                index,
-                w,
-                count,
-                order,
-                gains,
-                rounds,
-                h,
-                k,
-                g,
-                mine,
-                top,
-                b,
-                f.price,
-                f.cells,
-                alt,
-                counts,
-                who,
-                num,
-                mark,
-            );
-        }
-        return other(
-            prices,
-            masks,
-            hop,
-            index,
-            w,
-            count,
-            order,
-            gains,
-            rounds,
-            h,
-            k,
-            g,
-            mine,
-            top,
-            b,
-            f.price,
-            f.cells,
-            alt,
-            counts,
-            who,
-            num,
-            mark,
-        );
-    }
-    marks::disturb(prices, masks, hop, index, w, alt, counts, m, who, num, mark);
-    Move {
-        g: g + 1,
-        mine,
-        top,
-        over: false,
-    }
-}
-
-// One step where the main run is over.
-fn beyond(
-    prices: &[u64],
-    masks: &[u64],
-    hop: &[u8],
-    index: &[u64],
-    w: usize,
-    count: usize,
-    order: &[u64],
-    gains: &[u64],
-    rounds: usize,
-    h: usize,
-    k: usize,
-    g: usize,
-    mine: u64,
-    top: u64,
-    alt: &mut [u64],
-    counts: &mut [u64],
-    who: &mut [u64],
-    num: &mut [u64],
-    mark: &mut [u64],
-) -> Move
-    requires { ⌜ Course (now prices) (now masks) (now hop) (now index) w count (now order) (now gains) rounds h k
-        × (Walking (now prices) (now masks) w count (now order) (now gains) rounds h k (now alt) (now counts) (now who) (now num) (now mark) top mine g
-        × ((0 < mine) × (rounds ≤ g))) ⌝ }
-    ensures { λ r. ⌜ Stepped (now (prices .entry)) (now (masks .entry)) w count (now (order .entry)) (now (gains .entry)) rounds h k (now (alt .entry)) (now (alt .exit)) (now (counts .exit)) (now (who .exit)) (now (num .exit)) (now (mark .exit)) g top (r .g) (r .mine) (r .top) (r .over) ⌝ }
-{
-    let f = rounds::front(prices, masks, hop, w, alt, counts, who, num, 0, 0, 0, false);
-    let b = f.bid;
-    if b < prices.len() {
-        return other(
-            prices,
-            masks,
-            hop,
-            index,
-            w,
-            count,
-            order,
-            gains,
-            rounds,
-            h,
-            k,
-            g,
-            mine,
-            top,
-            b,
-            f.price,
-            f.cells,
-            alt,
-            counts,
-            who,
-            num,
-            mark,
-        );
-    }
-    Move {
-        g,
-        mine,
-        top,
-        over: true,
-    }
-}
-
-// One step.
-pub fn step(
-    prices: &[u64],
-    masks: &[u64],
-    hop: &[u8],
-    index: &[u64],
-    w: usize,
-    count: usize,
-    order: &[u64],
-    gains: &[u64],
-    rounds: usize,
-    h: usize,
-    k: usize,
-    g: usize,
-    mine: u64,
-    top: u64,
-    alt: &mut [u64],
-    counts: &mut [u64],
-    who: &mut [u64],
-    num: &mut [u64],
-    mark: &mut [u64],
-) -> Move
-    requires { ⌜ Course (now prices) (now masks) (now hop) (now index) w count (now order) (now gains) rounds h k
-        × (Walking (now prices) (now masks) w count (now order) (now gains) rounds h k (now alt) (now counts) (now who) (now num) (now mark) top mine g × (0 < mine)) ⌝ }
-    ensures { λ r. ⌜ Stepped (now (prices .entry)) (now (masks .entry)) w count (now (order .entry)) (now (gains .entry)) rounds h k (now (alt .entry)) (now (alt .exit)) (now (counts .exit)) (now (who .exit)) (now (num .exit)) (now (mark .exit)) g top (r .g) (r .mine) (r .top) (r .over) ⌝ }
-{
-    if g < rounds {
-        return along(
-            prices,
-            masks,
-            hop,
-            index,
-            w,
-            count,
-            order,
-            gains,
-            rounds,
-            h,
-            k,
-            g,
-            mine,
-            top,
-            alt,
-            counts,
-            who,
-            num,
-            mark,
-        );
-    }
-    beyond(
-        prices,
-        masks,
-        hop,
-        index,
-        w,
-        count,
-        order,
-        gains,
-        rounds,
-        h,
-        k,
-        g,
-        mine,
-        top,
-        alt,
-        counts,
-        who,
-        num,
-        mark,
-    )
 }

@@ -1,7 +1,7 @@
 // The bids whose open cells may differ between the main run and the run without one bid: those that share an open cell with a bid that
 // the two runs do not take alike. `disturb` marks those of one bid, and counts the open cells of each anew.
 ghost use mathlib.Core.Path.{_≡_};
-ghost use Prim.Native.Nat.{_*_, _<_};
+ghost use Prim.Native.Nat.{_<_};
 ghost use lib.ListN.{length};
 ghost use Rattle.cells.specs.Hops.{Counted};
 ghost use Rattle.tournament.specs.Tournament.{known, Tournament};

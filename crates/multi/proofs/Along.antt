@@ -1,14 +1,14 @@
 -- The award along the written run: how it starts, one round more, and what it ends with. Assumes nothing.
 use mathlib.Core.Path.{_≡_, refl, sym, ap, _∙_}
 use mathlib.Core.Bool.{Bool, true, false, _||_}
-use mathlib.Core.List.{List, [], _∷_, _++_}
+use mathlib.Core.List.{List, _++_}
 use Prim.Native.Nat.{ℕ, zero, suc, _+_, _-_, _*_, _≤_, _<_}
 use native.Mathlib.Numerals.{add-one}
 use native.Mathlib.Omega.{arith}
 use lib.ListN.{length, getD, set, drop, length-set}
 use lib.Seq.{getD-set-same, getD-set-other, ext-getD}
 use lib.Dec.{eqb, ltb}
-use borrow.Author.Tests.{eqb-true, eqb-false, eq-eqb, ne-eqb, ltb-true, ltb-false}
+use borrow.Author.Tests.{eqb-true, eqb-false, ltb-true, ltb-false}
 use Rattle.cover.specs.Sets.{when, cells, each}
 use Rattle.cover.specs.Greedy.{wins}
 use Rattle.cover.specs.CriticalPrice.{limit, roundsPaid, sum}
@@ -16,10 +16,10 @@ use Rattle.cover.specs.Settled.{listed, Settled}
 use Rattle.cover.specs.SpareLaws.{spare-bids, each-at}
 use Rattle.cover.specs.GreedyCover.{Covered}
 use Rattle.cells.specs.Cells.{cell, Closed}
-use Rattle.rounds.specs.Market.{row, has, Market, First, Cleared}
+use Rattle.rounds.specs.Market.{row, has, First, Cleared}
 use Rattle.tournament.specs.Tournament.{at}
-use Rattle.rounds.specs.Trace.{opens, before, Trace}
-use Rattle.follow.specs.Follow.{Standing, Followed, Course}
+use Rattle.rounds.specs.Trace.{before, Trace}
+use Rattle.follow.specs.Follow.{Followed, Course}
 use Rattle.payments.proofs.Prefix.{limit-is}
 use Rattle.tournament.proofs.Tree.{set-at}
 use Rattle.multi.specs.Paying.{Ground, picked, Paying, Paid, Summed, Awarded}

@@ -1,13 +1,13 @@
 -- The bids of the written run are the winners. Assumes nothing.
 use mathlib.Core.Path.{_≡_, refl, sym, ap, _∙_}
 use mathlib.Core.Bool.{Bool, true, false, _||_}
-use mathlib.Core.List.{List, [], _∷_}
-use Prim.Native.Nat.{ℕ, zero, suc, _+_, _-_, _*_, _≤_, _<_}
+use mathlib.Core.List.{List}
+use Prim.Native.Nat.{ℕ, zero, suc, _-_, _*_, _≤_, _<_}
 use native.Mathlib.Omega.{arith}
-use lib.ListN.{length, getD}
+use lib.ListN.{length}
 use lib.Dec.{eqb}
-use Rattle.cover.specs.Sets.{when, Found, nothing, found, cells}
-use Rattle.cover.specs.Greedy.{Bid, reach, close, Rounds, stop, round, best, run, taken, bids, wins}
+use Rattle.cover.specs.Sets.{nothing, cells}
+use Rattle.cover.specs.Greedy.{reach, Rounds, best, taken, bids, wins}
 use Rattle.cover.specs.GreedyLaws.{best-right}
 use Rattle.rounds.specs.Market.{has}
 use Rattle.tournament.specs.Tournament.{at}

@@ -7,10 +7,10 @@ ghost use lib.ListN.{length};
 ghost use lib.Dec.{eqb};
 ghost use Rattle.cover.specs.Sets.{when, cells, each};
 ghost use Rattle.cover.specs.Greedy.{wins};
-ghost use Rattle.cover.specs.CriticalPrice.{roundsPaid, sum};
-ghost use Rattle.cover.specs.Settled.{Settled, listed};
+ghost use Rattle.cover.specs.CriticalPrice.{roundsPaid};
+ghost use Rattle.cover.specs.Settled.{Settled};
 ghost use Rattle.tournament.specs.Tournament.{at, Priced, Tournament};
-ghost use Rattle.rounds.specs.Market.{has, Market, Hopping};
+ghost use Rattle.rounds.specs.Market.{has, Market};
 ghost use Rattle.multi.specs.Paying.{Ground, Paying, Paid, Summed, Awarded};
 
 fn less_one(a: u64) -> u64
@@ -172,7 +172,7 @@ fn settle(
     ensures { λ r. ⌜ Awarded (now (prices .entry)) (now (masks .entry)) w count (now (won .exit)) (now (cents .exit)) (r .cost) (r .paid) ⌝ }
 {
     charts::chart(prices, masks, w, hop);
-    charts::enlist(prices, masks, w, index);
+    charts::enlist(prices, masks, hop, w, index);
     rounds::unlock(held, count);
     cells::count_none(held, counts);
     tournament::seat(who);

@@ -1,21 +1,20 @@
 -- The rounds before bid k is taken leave its limit as the rest of the run without it has it, where the others cover the cells. Assumes nothing.
 use mathlib.Core.Path.{_≡_, refl, sym, ap, _∙_}
-use mathlib.Core.Logic.{_⊎_, inl, inr, ⊎-elim}
-use mathlib.Core.Bool.{Bool, true, false, _&&_, _||_}
-use mathlib.Core.List.{List, [], _∷_}
-use Prim.Native.Nat.{ℕ, zero, suc, _+_, _-_, _*_, _/_, _≤_, _<_, max}
+use mathlib.Core.Bool.{Bool, true, false, _&&_}
+use mathlib.Core.List.{List, []}
+use Prim.Native.Nat.{ℕ, zero, suc, _+_, _-_, _*_, _≤_, _<_, max}
 use native.Mathlib.Omega.{arith}
-use lib.ListN.{length, getD}
+use lib.ListN.{length}
 use lib.Dec.{eqb, ltb, leb}
 use borrow.Author.Tests.{eqb-true, eqb-false, eq-eqb, ltb-true, ltb-false, leb-true, le-ltb, lt-ltb}
 use Rattle.cells.specs.Cells.{cell}
 use Rattle.cover.specs.BarLaws.{share-right, under}
-use Rattle.cover.specs.CriticalPrice.{late, withdrawn, share, bar, limit}
-use Rattle.cover.specs.Greedy.{Bid, reach, keep, close, Rounds, round, best, run, taken, bids}
+use Rattle.cover.specs.CriticalPrice.{late, share, bar, limit}
+use Rattle.cover.specs.Greedy.{reach, keep, close, best, run, taken, bids}
 use Rattle.cover.specs.GreedyCover.{Each, Covered}
 use Rattle.cover.specs.GreedyLaws.{best-right, withdrawn-other, withdrawn-reach}
-use Rattle.cover.specs.PickLaws.{Best, before-one}
-use Rattle.cover.specs.Sets.{when, Found, nothing, found, cells}
+use Rattle.cover.specs.PickLaws.{before-one}
+use Rattle.cover.specs.Sets.{when, found, cells}
 use Rattle.follow.proofs.Limiting.{others}
 use Rattle.follow.proofs.Strayed.{two-way}
 use Rattle.follow.specs.Follow.{bar-from}
@@ -23,7 +22,7 @@ use Rattle.rounds.proofs.Chosen.{rounds-of, rounds-more}
 use Rattle.rounds.proofs.Fronting.{right-one}
 use Rattle.rounds.proofs.Opens.{two, close-step, opens-first, reach-alike}
 use Rattle.rounds.proofs.Tracing.{main-best}
-use Rattle.rounds.specs.Market.{row, has, Market}
+use Rattle.rounds.specs.Market.{row, has}
 use Rattle.tournament.specs.Tournament.{at}
 use Rattle.rounds.specs.Trace.{opens, before, Trace}
 

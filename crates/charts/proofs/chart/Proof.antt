@@ -1,12 +1,9 @@
 -- `charts::chart` meets its contract: before bid i the bids below i have their hops. Assumes nothing.
-use Prim.Native.Nat.{ℕ, _+_, _-_, _*_, _≤_, _<_}
-use mathlib.Core.Path.{_≡_, refl, sym, ap, _∙_}
+use Prim.Native.Nat.{_-_}
+use mathlib.Core.Path.{sym, _∙_}
 use native.Mathlib.Omega.{arith}
-use lib.ListN.{length, getD, set, length-set}
-use Rattle.tournament.specs.Tournament.{at}
-use Rattle.rounds.specs.Market.{row}
+use lib.ListN.{length}
 use Rattle.rounds.proofs.Rows.{row-in}
-use Rattle.marks.proofs.Spreading.{row-at}
 use Rattle.charts.proofs.Charting.{Charts, charts-on, charts-end}
 use Rattle.charts.proofs.chart.Statement.{statement}
 use Rattle.charts.proofs.chart.Tie as tie

@@ -1,11 +1,7 @@
 -- `charts::chart_row` meets its contract: from word q on the hops are set. Assumes nothing.
-use Prim.Native.Nat.{ℕ, _+_, _-_, _*_, _≤_, _<_}
-use mathlib.Core.Path.{_≡_, refl, sym, ap, _∙_}
+use Prim.Native.Nat.{_-_, _≤_}
+use mathlib.Core.Path.{sym, _∙_}
 use native.Mathlib.Omega.{arith}
-use lib.ListN.{length, getD, set, length-set}
-use Rattle.tournament.specs.Tournament.{at}
-use Rattle.rounds.specs.Market.{row}
-use Rattle.rounds.proofs.Rows.{row-in}
 use Rattle.marks.proofs.Spreading.{row-at}
 use Rattle.charts.proofs.Charting.{Charting, charts-none, charts-whole, charts-bare, charts-some, charts-all}
 use Rattle.charts.proofs.chart_row.Statement.{statement}

@@ -1,16 +1,7 @@
 -- `follow::both` meets its contract: both runs close the bid's cells. Assumes nothing.
-use Prim.Native.Nat.{ℕ, _+_, _-_, _*_, _/_, _≤_, _<_}
-use mathlib.Core.Path.{_≡_, refl, sym, ap, _∙_}
-use mathlib.Core.Bool.{Bool, true, false}
+use Prim.Native.Nat.{_-_}
+use mathlib.Core.Path.{_∙_}
 use native.Mathlib.Omega.{arith}
-use lib.ListN.{length, getD, set, length-set}
-use lib.Bits.{bitAnd}
-use Rattle.cells.specs.Cells.{cell, common}
-use Rattle.cells.specs.Hops.{Counted, Next}
-use Rattle.tournament.specs.Tournament.{at, known, Tournament}
-use Rattle.rounds.specs.Market.{row}
-use Rattle.rounds.proofs.Rows.{part-row, row-in, row-length}
-use Rattle.rounds.proofs.Fronting.{not-clear}
 use Rattle.follow.proofs.Following.{inside}
 use Rattle.follow.proofs.Stepping.{bid-row, words, price-small, both-goes}
 use borrow.Author.Needs.{needs}

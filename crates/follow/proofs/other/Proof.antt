@@ -1,15 +1,6 @@
 -- `follow::other` meets its contract: the bids that share an open cell with the bid taken are marked, and its cells close in this run alone. Assumes nothing.
-use Prim.Native.Nat.{ℕ, _+_, _-_, _*_, _/_, _≤_, _<_}
-use mathlib.Core.Path.{_≡_, refl, sym, ap, _∙_}
-use mathlib.Core.Bool.{Bool, true, false}
-use native.Mathlib.Omega.{arith}
-use lib.ListN.{length, getD, set, length-set}
-use Rattle.cells.specs.Cells.{cell, common}
-use Rattle.cells.specs.Hops.{Counted}
-use Rattle.tournament.specs.Tournament.{at, known, Tournament}
-use Rattle.rounds.specs.Market.{row}
-use Rattle.rounds.specs.Trace.{openOf}
-use Rattle.rounds.proofs.Fronting.{not-clear}
+use Prim.Native.Nat.{_-_}
+use mathlib.Core.Path.{_∙_}
 use Rattle.follow.proofs.Following.{inside}
 use Rattle.follow.proofs.Stepping.{bid-row, words, price-small, other-goes}
 use borrow.Author.Needs.{needs}

@@ -1,18 +1,14 @@
 -- `marks::disturb` meets its contract: before word q the bids that share an open cell with bid j in the words below q are marked. Assumes nothing.
-use Prim.Native.Nat.{ℕ, _+_, _-_, _*_, _/_, _≤_, _<_}
-use mathlib.Core.Path.{_≡_, refl, sym, ap, _∙_}
-use mathlib.Core.Bool.{Bool, true, false}
+use Prim.Native.Nat.{_-_, _≤_}
+use mathlib.Core.Path.{_≡_, sym, ap, _∙_}
 use native.Mathlib.Omega.{arith}
-use lib.ListN.{length, getD, set, length-set}
+use lib.ListN.{length}
 use lib.Bits.{bitAnd}
-use Rattle.cells.specs.Cells.{cell, common}
-use Rattle.cells.specs.Hops.{Counted, Next}
 use Rattle.tournament.specs.Tournament.{at, known, Tournament}
-use Rattle.rounds.specs.Market.{row}
 use Rattle.rounds.proofs.Rows.{part-row, row-in, row-length}
-use Rattle.rounds.proofs.Fronting.{not-clear}
 use Rattle.tournament.proofs.Order.{product}
 use Rattle.marks.proofs.Spreading.{Disturbing, starts, goes, ends-all, row-at}
+use Rattle.cells.specs.Hops.{Counted}
 use Rattle.marks.proofs.disturb.Statement.{statement}
 use Rattle.marks.proofs.disturb.Tie as tie
 use Rattle.marks.proofs.disturb.Reads as reads

@@ -1,18 +1,16 @@
 -- `marks::spread` meets its contract: before bid i the bids below i that have a cell of m in word q are marked. Assumes nothing.
-use Prim.Native.Nat.{ℕ, _+_, _-_, _*_, _/_, _≤_, _<_}
-use mathlib.Core.Path.{_≡_, refl, sym, ap, _∙_}
-use mathlib.Core.Logic.{inl, inr}
+use Prim.Native.Nat.{ℕ, _-_, _≤_, _<_}
+use mathlib.Core.Path.{_≡_, sym, ap, _∙_}
 use native.Mathlib.Omega.{arith}
-use lib.ListN.{length, getD, set, length-set}
+use lib.ListN.{length}
 use lib.Bits.{bitAnd}
-use Rattle.cells.specs.Cells.{cell, common}
-use Rattle.cells.specs.Hops.{Counted, Next}
+use Rattle.cells.specs.Cells.{cell}
 use Rattle.tournament.specs.Tournament.{at, known, Tournament}
 use Rattle.tournament.proofs.Tree.{length-known}
-use Rattle.rounds.specs.Market.{row}
-use Rattle.rounds.proofs.Rows.{part-row, row-in, row-length}
-use Rattle.rounds.proofs.Begin.{common-few, sized-of}
+use Rattle.rounds.proofs.Rows.{part-row, row-in}
+use Rattle.rounds.proofs.Begin.{common-few}
 use Rattle.marks.proofs.Spreading.{Spreading, begins, passes, leaves, adds, ends, no-cells, row-at, set-in, set-length, next-within, next-free}
+use Rattle.cells.specs.Hops.{Counted}
 use Rattle.marks.proofs.spread.Statement.{statement}
 use Rattle.marks.proofs.spread.Tie as tie
 use Rattle.marks.proofs.spread.Reads as reads

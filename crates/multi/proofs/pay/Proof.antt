@@ -1,8 +1,6 @@
 -- `multi::pay` meets its contract: the round's bid gets its flag and its critical price, and its cells close. Assumes nothing.
-use Prim.Native.Nat.{ℕ, _≤_, _<_, _*_, _+_}
-use mathlib.Core.Path.{_≡_, refl, _∙_, sym}
+use mathlib.Core.Path.{_∙_, sym}
 use native.Mathlib.Omega.{arith}
-use lib.ListN.{length, length-set}
 use Rattle.rounds.proofs.Rows.{row-in, part-row, row-length}
 use Rattle.tournament.specs.Tournament.{at}
 use Rattle.tournament.proofs.Order.{product}

@@ -1,12 +1,11 @@
 -- `multi::pay_all` meets its contract: before round h the bids of the first h rounds are marked and paid. Assumes nothing.
-use Prim.Native.Nat.{ℕ, _≤_, _<_, _*_, _+_, _-_}
-use mathlib.Core.Path.{_≡_, refl, _∙_, sym}
+use Prim.Native.Nat.{_≤_, _-_, _+_}
+use mathlib.Core.Path.{_≡_, _∙_, sym}
 use native.Mathlib.Omega.{arith}
-use lib.ListN.{length, length-set}
+use lib.ListN.{length}
 use Rattle.tournament.specs.Tournament.{Tournament}
 use Rattle.multi.specs.Paying.{Paying}
 use Rattle.multi.proofs.Along.{ends}
-use borrow.Author.Needs.{needs}
 use Rattle.multi.proofs.pay_all.Statement.{statement}
 use Rattle.multi.proofs.pay_all.Tie as tie
 use Rattle.multi.proofs.pay_all.Reads as reads

@@ -1,6 +1,5 @@
 -- `multi::totals` meets its contract: before bid k the sums are those of the first k bids. Assumes nothing.
-use Prim.Native.Nat.{ℕ, _≤_, _<_, _*_, _+_, _-_}
-use mathlib.Core.Path.{_≡_, refl, _∙_, sym}
+use Prim.Native.Nat.{_-_}
 use native.Mathlib.Omega.{arith}
 use lib.ListN.{length}
 use Rattle.multi.proofs.Along.{Summing, sums-none, sums-more, sums-all}

@@ -1,15 +1,8 @@
 -- `payments::begin` meets its contract: nothing is known of any bid, k alone is marked, then those that share an open cell with it. Assumes nothing.
-use Prim.Native.Nat.{ℕ, _+_, _-_, _*_, _/_, _≤_, _<_}
-use mathlib.Core.Path.{_≡_, refl, sym, ap, _∙_}
-use mathlib.Core.Bool.{Bool, true, false}
+use Prim.Native.Nat.{_-_, ℕ, _+_}
+use mathlib.Core.Path.{sym, _∙_, ap}
 use native.Mathlib.Omega.{arith}
-use lib.ListN.{length, getD, set, length-set}
-use Rattle.cells.specs.Cells.{cell, common}
-use Rattle.cells.specs.Hops.{Counted}
-use Rattle.tournament.specs.Tournament.{at, known, Tournament}
-use Rattle.rounds.specs.Market.{row}
-use Rattle.rounds.specs.Trace.{openOf}
-use Rattle.rounds.proofs.Fronting.{not-clear}
+use Rattle.tournament.specs.Tournament.{at}
 use Rattle.tournament.proofs.Tree.{emptied, known-at}
 use Rattle.rounds.proofs.Begin.{sized-of}
 use Rattle.follow.proofs.Following.{inside, starts}

@@ -1,18 +1,17 @@
 -- `payments::limit_in` meets its contract: each step keeps the maximum so far and the run from there on. Assumes nothing.
-use Prim.Native.Nat.{ℕ, _+_, _-_, _≤_, _<_}
-use mathlib.Core.Path.{_≡_, refl, sym, ap, _∙_}
+use Prim.Native.Nat.{ℕ, _+_, _-_}
+use mathlib.Core.Path.{sym, ap, _∙_}
 use native.Mathlib.Omega.{arith}
 use lib.ListN.{length}
 use Rattle.rounds.specs.Trace.{openOf}
 use Rattle.follow.specs.Follow.{Walking}
 use Rattle.follow.proofs.Following.{ends-own}
-use borrow.Author.Needs.{needs}
 use Rattle.payments.proofs.limit_in.Statement.{statement}
 use Rattle.payments.proofs.limit_in.Tie as tie
 use Rattle.payments.proofs.limit_in.Reads as reads
 use Rattle.payments.proofs.limit_in.Lts as lts
-use Rattle.follow.proofs.step.Reads as step-reads
 use Rattle.payments.proofs.begin.Reads as begin-reads
+use Rattle.steps.proofs.step.Reads as step-reads
 
 abbrev Inv-loop : tie.InvT-loop
 Inv-loop prices masks hop index w count order gains rounds h k held alt₀ counts₀ who₀ num₀ mark₀ g₀ mine₀ top₀ alt counts who num mark g mine top = Walking prices masks w count order gains rounds h k alt counts who num mark top mine g

@@ -1,11 +1,11 @@
--- `follow::step` meets its contract. Assumes nothing.
+-- `steps::step` meets its contract. Assumes nothing.
 use borrow.Author.Needs.{needs}
-use Rattle.follow.proofs.step.Statement.{statement}
-use Rattle.follow.proofs.step.Tie as tie
-use Rattle.follow.proofs.step.Reads as reads
-use Rattle.follow.proofs.step.Lts as lts
-use Rattle.follow.proofs.along.Reads as along-reads
-use Rattle.follow.proofs.beyond.Reads as beyond-reads
+use Rattle.steps.proofs.step.Statement.{statement}
+use Rattle.steps.proofs.step.Tie as tie
+use Rattle.steps.proofs.step.Reads as reads
+use Rattle.steps.proofs.step.Lts as lts
+use Rattle.steps.proofs.along.Reads as along-reads
+use Rattle.steps.proofs.beyond.Reads as beyond-reads
 
 along-requires : tie.Need-along-requires
 along-requires c κs = let P = c .before .before .before .before .before .before .before .before .before .before .before .before .before .before .before .before .before .pre in (P .0, (P .1 .0, (P .1 .1, c .before .before .before .before .before .if1 .taken)))

@@ -1,29 +1,21 @@
--- `follow::along` meets its contract: the main run's next bid is taken by both runs, or a marked bid comes before it, or the main run alone takes it. Assumes nothing.
-use Prim.Native.Nat.{ℕ, _+_, _-_, _*_, _/_, _≤_, _<_}
-use mathlib.Core.Path.{_≡_, refl, sym, ap, _∙_}
-use mathlib.Core.Bool.{Bool, true, false}
+-- `steps::along` meets its contract: the main run's next bid is taken by both runs, or a marked bid comes before it, or the main run alone takes it. Assumes nothing.
+use Prim.Native.Nat.{_-_}
+use mathlib.Core.Path.{refl}
 use native.Mathlib.Omega.{arith}
-use lib.ListN.{length, getD, set, length-set}
-use Rattle.cells.specs.Cells.{cell, common}
-use Rattle.cells.specs.Hops.{Counted}
-use Rattle.tournament.specs.Tournament.{at, known, Tournament}
-use Rattle.rounds.specs.Market.{row}
-use Rattle.rounds.specs.Trace.{openOf}
-use Rattle.rounds.proofs.Fronting.{not-clear}
 use Rattle.follow.proofs.Strayed.{knows}
 use Rattle.follow.proofs.Following.{inside, gains-some, takes-main, takes-other}
 use Rattle.follow.proofs.Stepping.{bid-row, words, fronted, main-goes, skip-goes, unmarked}
 use borrow.Author.Needs.{needs}
-use Rattle.follow.proofs.along.Statement.{statement}
-use Rattle.follow.proofs.along.Tie as tie
-use Rattle.follow.proofs.along.Reads as reads
-use Rattle.follow.proofs.along.Lts as lts
+use Rattle.steps.proofs.along.Statement.{statement}
+use Rattle.steps.proofs.along.Tie as tie
+use Rattle.steps.proofs.along.Reads as reads
+use Rattle.steps.proofs.along.Lts as lts
 use Rattle.cells.proofs.holds.Reads as holds-reads
 use Rattle.follow.proofs.ahead.Reads as ahead-reads
 use Rattle.follow.proofs.both.Reads as both-reads
-use Rattle.follow.proofs.other.Reads as other-reads
-use Rattle.follow.proofs.take.Reads as take-reads
 use Rattle.marks.proofs.disturb.Reads as disturb-reads
+use Rattle.follow.proofs.other.Reads as other-reads
+use Rattle.follow.proofs.take.Reads as take-reads
 use Rattle.rounds.proofs.front.Reads as front-reads
 
 mul-m : tie.Need-mul-m

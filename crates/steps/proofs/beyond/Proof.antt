@@ -1,24 +1,18 @@
--- `follow::beyond` meets its contract: the first of the marked bids is taken, and without one the run is over. Assumes nothing.
-use Prim.Native.Nat.{ℕ, _+_, _-_, _*_, _/_, _≤_, _<_}
-use mathlib.Core.Path.{_≡_, refl, sym, ap, _∙_}
-use mathlib.Core.Bool.{Bool, true, false}
+-- `steps::beyond` meets its contract: the first of the marked bids is taken, and without one the run is over. Assumes nothing.
+use Prim.Native.Nat.{_-_}
+use mathlib.Core.Path.{refl}
+use mathlib.Core.Bool.{false}
 use native.Mathlib.Omega.{arith}
-use lib.ListN.{length, getD, set, length-set}
-use Rattle.cells.specs.Cells.{cell, common}
-use Rattle.cells.specs.Hops.{Counted}
-use Rattle.tournament.specs.Tournament.{at, known, Tournament}
-use Rattle.rounds.specs.Market.{row}
-use Rattle.rounds.specs.Trace.{openOf}
 use Rattle.rounds.proofs.Fronting.{not-clear}
 use Rattle.follow.proofs.Strayed.{knows}
 use Rattle.follow.proofs.Following.{inside, takes-last}
 use Rattle.follow.proofs.Stepping.{words, fronted, over-goes}
 use borrow.Author.Needs.{needs}
-use Rattle.follow.proofs.beyond.Statement.{statement}
-use Rattle.follow.proofs.beyond.Tie as tie
-use Rattle.follow.proofs.beyond.Reads as reads
-use Rattle.follow.proofs.beyond.Lts as lts
+use Rattle.steps.proofs.beyond.Statement.{statement}
+use Rattle.steps.proofs.beyond.Tie as tie
+use Rattle.steps.proofs.beyond.Reads as reads
+use Rattle.steps.proofs.beyond.Lts as lts
 use Rattle.follow.proofs.other.Reads as other-reads
 use Rattle.rounds.proofs.front.Reads as front-reads
 
 front-requires : tie.Need-front-requires
