@@ -33,9 +33,9 @@ module _ {ps ms hop index : List ℕ} {w n : ℕ} {order gains : List ℕ} {roun
     price-small {b} t = omega (arith, t .price, co .market .priced .most b)
 
     -- the marked bids were counted anew
-    pub fronted : {who′ num′ : List ℕ} → Tournament ps who′ num′ → {rival ask gain : ℕ} {free : Bool} {b p c : ℕ} {clear : Bool} → Fronted ps ms w alt (known num) (known num′) rival ask gain free b p c clear
-        → Walking ps ms w n order gains rounds h k alt counts who′ num′ mark top mine g
-    fronted t f = record { follow = scanned co (s .follow) f; tree = t; counted = s .counted; marks = s .marks }
+    pub fronted : {counts′ who′ num′ : List ℕ} → Tournament ps who′ num′ → {rival ask gain : ℕ} {free : Bool} {b p c : ℕ} {clear : Bool} → Fronted ps ms w alt (known num) (known num′) rival ask gain free b p c clear
+        → Counted alt counts′ → Walking ps ms w n order gains rounds h k alt counts′ who′ num′ mark top mine g
+    fronted t f y = record { follow = scanned co (s .follow) f; tree = t; counted = y; marks = s .marks }
 
     -- the run without k takes bid b
     module _ {b p c : ℕ} (t : Takes ps ms w k alt b p c) {more : ℕ} (r : Took k b p c mine top more) {rest counts′ : List ℕ} (e : length rest ≡ length alt) (d : Closed alt (row ms w b) rest) (y : Counted rest counts′) where
@@ -69,11 +69,11 @@ module _ {ps ms hop index : List ℕ} {w n : ℕ} {order gains : List ℕ} {roun
         }
 
     -- the main run goes on alone
-    pub skip-goes : g < rounds → {who′ num′ mark′ : List ℕ} → Tournament ps who′ num′ → length mark′ ≡ length mark → Disturbed ps ms w alt (at order g) (known num) mark (known num′) mark′
-        → Stepped ps ms w n order gains rounds h k alt alt counts who′ num′ mark′ g top (g + 1) mine top false
-    skip-goes l t′ m dist = record {
+    pub skip-goes : g < rounds → {counts′ who′ num′ mark′ : List ℕ} → Tournament ps who′ num′ → length mark′ ≡ length mark → Disturbed ps ms w alt (at order g) (known num) mark (known num′) mark′
+        → Counted alt counts′ → Stepped ps ms w n order gains rounds h k alt alt counts′ who′ num′ mark′ g top (g + 1) mine top false
+    skip-goes l t′ m dist y = record {
       tree = t′;
-      goes = λ a. record { follow = skips co (s .follow) l (sized-of t′) dist; tree = t′; counted = s .counted; marks = m ∙ s .marks };
+      goes = λ a. record { follow = skips co (s .follow) l (sized-of t′) dist; tree = t′; counted = y; marks = m ∙ s .marks };
       falls = λ a. omega arith;
       ends = λ a. absurd (false≢true a);
     }

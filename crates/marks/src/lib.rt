@@ -16,7 +16,7 @@ fn spread(
     index: &[u64],
     w: usize,
     alt: &[u64],
-    counts: &[u64],
+    counts: &mut [u64],
     q: usize,
     m: u64,
     who: &mut [u64],
@@ -26,7 +26,8 @@ fn spread(
     requires { ⌜ Market (now prices) (now masks) w × (Hopping (now prices) (now masks) (now hop) w × (Indexed (now prices) (now masks) (now index) w × ((length (now alt) ≡ w)
         × (Counted (now alt) (now counts) × ((q < w) × (Tournament (now prices) (now who) (now num) × (length (now mark) ≡ 16))))))) ⌝ }
     ensures { λ _. ⌜ Tournament (now (prices .entry)) (now (who .exit)) (now (num .exit))
-        × Spread (now (prices .entry)) (now (masks .entry)) w (now (alt .entry)) q m (known (now (num .entry))) (now (mark .entry)) (known (now (num .exit))) (now (mark .exit)) ⌝ }
+        × (Spread (now (prices .entry)) (now (masks .entry)) w (now (alt .entry)) q m (known (now (num .entry))) (now (mark .entry)) (known (now (num .exit))) (now (mark .exit))
+        × Counted (now (alt .entry)) (now (counts .exit))) ⌝ }
 {
     if m == 0 {
         return;
@@ -54,7 +55,7 @@ pub fn disturb(
     index: &[u64],
     w: usize,
     alt: &[u64],
-    counts: &[u64],
+    counts: &mut [u64],
     j: usize,
     who: &mut [u64],
     num: &mut [u64],
@@ -63,7 +64,8 @@ pub fn disturb(
     requires { ⌜ Market (now prices) (now masks) w × (Hopping (now prices) (now masks) (now hop) w × (Indexed (now prices) (now masks) (now index) w × ((length (now alt) ≡ w)
         × (Counted (now alt) (now counts) × ((j < length (now prices)) × (Tournament (now prices) (now who) (now num) × (length (now mark) ≡ 16))))))) ⌝ }
     ensures { λ _. ⌜ Tournament (now (prices .entry)) (now (who .exit)) (now (num .exit))
-        × Disturbed (now (prices .entry)) (now (masks .entry)) w (now (alt .entry)) j (known (now (num .entry))) (now (mark .entry)) (known (now (num .exit))) (now (mark .exit)) ⌝ }
+        × (Disturbed (now (prices .entry)) (now (masks .entry)) w (now (alt .entry)) j (known (now (num .entry))) (now (mark .entry)) (known (now (num .exit))) (now (mark .exit))
+        × Counted (now (alt .entry)) (now (counts .exit))) ⌝ }
 {
     let a = w * j;
     let e = a + w;

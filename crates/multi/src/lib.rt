@@ -42,7 +42,7 @@ fn pay(
 )
     requires { ⌜ Ground (now prices) (now masks) (now hop) (now index) w count (now order) (now gains) rounds × ((h < rounds)
         × (Paying (now prices) (now masks) w count (now order) h (now held) (now won) (now cents)
-        × ((length (now alt) ≡ w) × ((length (now counts) ≡ w) × (Tournament (now prices) (now who) (now num) × (length (now mark) ≡ 16)))))) ⌝ }
+        × ((length (now alt) ≡ w) × ((length (now counts) ≡ w + 2) × (Tournament (now prices) (now who) (now num) × (length (now mark) ≡ 16)))))) ⌝ }
     ensures { λ _. ⌜ Paying (now (prices .entry)) (now (masks .entry)) w count (now (order .entry)) (h + 1) (now (held .exit)) (now (won .exit)) (now (cents .exit))
         × Tournament (now (prices .entry)) (now (who .exit)) (now (num .exit)) ⌝ }
 {
@@ -95,7 +95,7 @@ fn pay_all(
 )
     requires { ⌜ Ground (now prices) (now masks) (now hop) (now index) w count (now order) (now gains) rounds
         × (Paying (now prices) (now masks) w count (now order) 0 (now held) (now won) (now cents)
-        × ((length (now alt) ≡ w) × ((length (now counts) ≡ w) × (Tournament (now prices) (now who) (now num) × (length (now mark) ≡ 16))))) ⌝ }
+        × ((length (now alt) ≡ w) × ((length (now counts) ≡ w + 2) × (Tournament (now prices) (now who) (now num) × (length (now mark) ≡ 16))))) ⌝ }
     ensures { λ _. ⌜ Paid (now (prices .entry)) (now (masks .entry)) w count (now (won .exit)) (now (cents .exit)) ⌝ }
 {
     let mut h = 0;
@@ -168,13 +168,13 @@ fn settle(
 ) -> tender::Totals
     requires { ⌜ Market (now prices) (now masks) w × ((count ≤ 64 * w) × ((each (has (now masks) w) (length (now prices)) count 2 ≡ true)
         × ((count ≤ length (now order)) × ((count ≤ length (now gains)) × ((length (now hop) ≡ length (now masks)) × ((length (now index) ≡ 16 * w) × ((length (now held) ≡ w) × ((length (now alt) ≡ w)
-        × ((length (now counts) ≡ w) × ((length (now who) ≡ 2048) × ((length (now num) ≡ 2048) × ((length (now mark) ≡ 16) × ((length (now won) ≡ length (now prices)) × (length (now cents) ≡ length (now prices))))))))))))))) ⌝ }
+        × ((length (now counts) ≡ w + 2) × ((length (now who) ≡ 2048) × ((length (now num) ≡ 2048) × ((length (now mark) ≡ 16) × ((length (now won) ≡ length (now prices)) × (length (now cents) ≡ length (now prices))))))))))))))) ⌝ }
     ensures { λ r. ⌜ Awarded (now (prices .entry)) (now (masks .entry)) w count (now (won .exit)) (now (cents .exit)) (r .cost) (r .paid) ⌝ }
 {
     charts::chart(prices, masks, w, hop);
     charts::enlist(prices, masks, hop, w, index);
     rounds::unlock(held, count);
-    cells::count(held, counts);
+    cells::count_none(held, counts);
     tournament::seat(who);
     rounds::clear(num);
     rounds::enter(prices, masks, hop, w, held, counts, who, num);
@@ -237,13 +237,14 @@ fn award_in(
 ) -> tender::Totals
     requires { ⌜ Market (now prices) (now masks) w × ((count ≤ 64 * w) × ((each (has (now masks) w) (length (now prices)) count 2 ≡ true)
         × ((count ≤ length (now order)) × ((count ≤ length (now gains)) × ((158000 ≤ length (now hop)) × ((2528 ≤ length (now index)) × ((158 ≤ length (now held)) × ((158 ≤ length (now alt))
-        × ((158 ≤ length (now counts)) × ((length (now who) ≡ 2048) × ((length (now num) ≡ 2048) × ((length (now mark) ≡ 16) × ((length (now prices) ≤ length (now won)) × (length (now prices) ≤ length (now cents))))))))))))))) ⌝ }
+        × ((160 ≤ length (now counts)) × ((length (now who) ≡ 2048) × ((length (now num) ≡ 2048) × ((length (now mark) ≡ 16) × ((length (now prices) ≤ length (now won)) × (length (now prices) ≤ length (now cents))))))))))))))) ⌝ }
     ensures { λ r. ⌜ Settled (wins (has (now (masks .entry)) w) (now (prices .entry)) (cells count)) (roundsPaid (has (now (masks .entry)) w) (now (prices .entry)) (cells count))
         (now (prices .entry)) (now (won .entry)) (now (cents .entry)) (now (won .exit)) (now (cents .exit)) (r .cost) (r .paid) ⌝ }
 {
     let n = prices.len();
     let z = masks.len();
     let v = 16 * w;
+    let u = w + 2;
     settle(
         prices,
         masks,
@@ -255,7 +256,7 @@ fn award_in(
         &mut index[..v],
         &mut held[..w],
         &mut alt[..w],
-        &mut counts[..w],
+        &mut counts[..u],
         who,
         num,
         mark,
@@ -284,7 +285,7 @@ pub fn award(
     let mut index = [0u64; 2528];
     let mut held = [0u64; 158];
     let mut alt = [0u64; 158];
-    let mut counts = [0u64; 158];
+    let mut counts = [0u64; 160];
     let mut who = [0u64; 2048];
     let mut num = [0u64; 2048];
     let mut mark = [0u64; 16];

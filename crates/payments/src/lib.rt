@@ -27,11 +27,11 @@ fn begin(
     mark: &mut [u64],
 )
     requires { ⌜ Course (now prices) (now masks) (now hop) (now index) w count (now order) (now gains) rounds h k
-        × (Standing (now masks) w count (now order) h (now held) × ((length (now alt) ≡ w) × ((length (now counts) ≡ w) × (Tournament (now prices) (now who) (now num) × (length (now mark) ≡ 16))))) ⌝ }
+        × (Standing (now masks) w count (now order) h (now held) × ((length (now alt) ≡ w) × ((length (now counts) ≡ w + 2) × (Tournament (now prices) (now who) (now num) × (length (now mark) ≡ 16))))) ⌝ }
     ensures { λ _. ⌜ Walking (now (prices .entry)) (now (masks .entry)) w count (now (order .entry)) (now (gains .entry)) rounds h k (now (alt .exit)) (now (counts .exit)) (now (who .exit)) (now (num .exit)) (now (mark .exit)) 0 (at (now (gains .entry)) h) (h + 1) ⌝ }
 {
     rounds::copy(held, alt);
-    cells::count(alt, counts);
+    cells::count_none(alt, counts);
     rounds::clear(num);
     rounds::clear(mark);
     cells::add(mark, k);
@@ -59,7 +59,7 @@ pub fn limit_in(
     mark: &mut [u64],
 ) -> u64
     requires { ⌜ Course (now prices) (now masks) (now hop) (now index) w count (now order) (now gains) rounds h k
-        × (Standing (now masks) w count (now order) h (now held) × ((length (now alt) ≡ w) × ((length (now counts) ≡ w) × (Tournament (now prices) (now who) (now num) × (length (now mark) ≡ 16))))) ⌝ }
+        × (Standing (now masks) w count (now order) h (now held) × ((length (now alt) ≡ w) × ((length (now counts) ≡ w + 2) × (Tournament (now prices) (now who) (now num) × (length (now mark) ≡ 16))))) ⌝ }
     ensures { λ r. ⌜ Followed (now (prices .entry)) (now (masks .entry)) w count (now (order .entry)) h r × Tournament (now (prices .entry)) (now (who .exit)) (now (num .exit)) ⌝ }
 {
     begin(

@@ -13,10 +13,17 @@ ghost use Rattle.rounds.specs.Market.{row, Market, Hopping, Known, First
 ghost use Rattle.rounds.specs.Trace.{Trace};
 
 // How many of the cells held bid i has.
-pub fn overlap(held: &[u64], counts: &[u64], masks: &[u64], hop: &[u8], w: usize, i: usize) -> u64
+pub fn overlap(
+    held: &[u64],
+    counts: &mut [u64],
+    masks: &[u64],
+    hop: &[u8],
+    w: usize,
+    i: usize,
+) -> u64
     requires { ⌜ (length (now held) ≡ w) × ((w ≤ 158) × ((w * i + w ≤ length (now masks)) × ((length (now hop) ≡ length (now masks))
         × (Counted (now held) (now counts) × Hops (row (now masks) w i) (row (now hop) w i))))) ⌝ }
-    ensures { λ r. ⌜ r ≡ common (now (held .entry)) (row (now (masks .entry)) w i) ⌝ }
+    ensures { λ r. ⌜ (r ≡ common (now (held .entry)) (row (now (masks .entry)) w i)) × Counted (now (held .entry)) (now (counts .exit)) ⌝ }
 {
     let a = w * i;
     let e = a + w;
@@ -72,7 +79,7 @@ pub fn front(
     hop: &[u8],
     w: usize,
     held: &[u64],
-    counts: &[u64],
+    counts: &mut [u64],
     who: &mut [u64],
     num: &mut [u64],
     rival: usize,
@@ -83,7 +90,8 @@ pub fn front(
     requires { ⌜ Market (now prices) (now masks) w × (Hopping (now prices) (now masks) (now hop) w × ((length (now held) ≡ w) × (Counted (now held) (now counts)
         × (Tournament (now prices) (now who) (now num) × (Known (now prices) (now masks) w (now held) (known (now num)) × ((rival ≤ length (now prices)) × ((ask ≤ 100000000) × (gain ≤ 10112)))))))) ⌝ }
     ensures { λ r. ⌜ Tournament (now (prices .entry)) (now (who .exit)) (now (num .exit))
-        × Fronted (now (prices .entry)) (now (masks .entry)) w (now (held .entry)) (known (now (num .entry))) (known (now (num .exit))) rival ask gain free (r .bid) (r .price) (r .cells) (r .clear) ⌝ }
+        × (Fronted (now (prices .entry)) (now (masks .entry)) w (now (held .entry)) (known (now (num .entry))) (known (now (num .exit))) rival ask gain free (r .bid) (r .price) (r .cells) (r .clear)
+        × Counted (now (held .entry)) (now (counts .exit))) ⌝ }
 {
     loop {
         let s = num[1];
@@ -155,12 +163,13 @@ pub fn enter(
     hop: &[u8],
     w: usize,
     held: &[u64],
-    counts: &[u64],
+    counts: &mut [u64],
     who: &mut [u64],
     num: &mut [u64],
 )
     requires { ⌜ Market (now prices) (now masks) w × (Hopping (now prices) (now masks) (now hop) w × ((length (now held) ≡ w) × (Counted (now held) (now counts) × Tournament (now prices) (now who) (now num)))) ⌝ }
-    ensures { λ _. ⌜ Tournament (now (prices .entry)) (now (who .exit)) (now (num .exit)) × Entered (now (prices .entry)) (now (masks .entry)) w (now (held .entry)) (known (now (num .exit))) ⌝ }
+    ensures { λ _. ⌜ Tournament (now (prices .entry)) (now (who .exit)) (now (num .exit))
+        × (Entered (now (prices .entry)) (now (masks .entry)) w (now (held .entry)) (known (now (num .exit))) × Counted (now (held .entry)) (now (counts .exit))) ⌝ }
 {
     let mut i = 0;
     while i < prices.len() {

@@ -1,29 +1,28 @@
 -- `cells::reach` meets its contract: before word q the sum counts the cells below 64 q that are set in both. Assumes nothing.
-use Prim.Native.Nat.{ℕ, _+_, _-_, _*_, _/_, _%_, _^_, _≤_, _<_, min}
-use mathlib.Core.Path.{_≡_, refl, sym, ap, _∙_}
+use Prim.Native.Nat.{ℕ, _-_, _*_, _≤_, _<_}
+use mathlib.Core.Path.{_≡_, sym, ap, _∙_}
 use native.Mathlib.Omega.{arith}
-use lib.ListN.{length, getD, set, length-set}
-use lib.Count.{ones, ones-le, trailingZeros, trailing-le}
-use lib.Bits.{bitAnd, and-le-l}
-use Rattle.cells.specs.Cells.{cell, total, both, common}
-use Rattle.cells.specs.Hops.{Counted, Hops, Onward, Next, whole}
-use Rattle.cells.proofs.Sum.{ones-and, total-both-le, none}
-use Rattle.cells.proofs.Walk.{counts-few, reach-run, reach-gap}
+use lib.ListN.{length}
+use Rattle.cells.specs.Cells.{total, both, common}
+use Rattle.cells.specs.Hops.{Counted}
+use Rattle.cells.proofs.Sum.{total-both-le, none}
+use Rattle.cells.proofs.Walk.{run-sum, reach-gap}
 use Rattle.cells.proofs.reach.Statement.{statement}
 use Rattle.cells.proofs.reach.Tie as tie
 use Rattle.cells.proofs.reach.Reads as reads
 use Rattle.cells.proofs.reach.Lts as lts
-use Rattle.cells.proofs.sum_of.Reads as sum-of-reads
+use Rattle.cells.proofs.count_to.Reads as count-to-reads
+use Rattle.cells.proofs.ones_of.Reads as ones-of-reads
 use Rattle.cells.proofs.wide.Reads as wide-reads
 
 abbrev Inv-loop : tie.InvT-loop
-Inv-loop held counts mask hop sum₀ q₀ sum q = (q ≤ length held) × (sum ≡ total (both held mask) (64 * q))
+Inv-loop held counts₀ mask hop sum₀ q₀ counts sum q = (q ≤ length held) × ((sum ≡ total (both held mask) (64 * q)) × Counted held counts)
 
 abbrev μ-loop : tie.MeasureT-loop
-μ-loop held counts mask hop sum₀ q₀ sum q = length held - q
+μ-loop held counts₀ mask hop sum₀ q₀ counts sum q = length held - q
 
 loop-holds : tie.Need-loop-holds Inv-loop μ-loop
-loop-holds c = (omega arith, sym (none (c .before .before .before .before .args .held .now) (c .before .before .before .before .args .mask .now)))
+loop-holds c = (omega arith, (sym (none (c .before .before .before .before .args .held .now) (c .before .before .before .before .args .mask .now)), c .before .before .before .before .pre .1 .1 .0))
 
 shared-slice-read-wide : tie.Need-shared-slice-read-wide Inv-loop μ-loop
 shared-slice-read-wide c = omega arith
@@ -37,39 +36,57 @@ mul-m c = omega arith
 shared-slice-read-m : tie.Need-shared-slice-read-m Inv-loop μ-loop
 shared-slice-read-m c = omega arith
 
-sum-of-requires : tie.Need-sum-of-requires Inv-loop μ-loop
-sum-of-requires c κs = let P = c .before .before .before .before .before .before .before .before .before .before .pre in let H = P .1 .1 .1 in let l : c .before .before .before .before .before .loop .q < length (c .before .before .before .before .before .before .before .before .before .before .args .mask .now) = omega arith in (omega (arith, c .before .before .wide .ensures, H .on (c .before .before .before .before .before .loop .q) l), (omega (arith, c .before .before .wide .ensures, H .within (c .before .before .before .before .before .loop .q) l, P .1 .1 .0 .same), (omega (arith, P .1 .1 .0 .same), counts-few (P .1 .1 .0) (λ p. c .before .before .before .before .before .before .before .before .before .shared-slice-known .given p .fits))))
-
-add-sum : tie.Need-add-sum Inv-loop μ-loop
-add-sum c = omega (arith, total-both-le (c .before .before .before .before .before .before .before .before .before .before .before .args .held .now) (c .before .before .before .before .before .before .before .before .before .before .before .args .mask .now) (64 * c .before .before .before .before .before .before .loop .q), c .sum-of .ensures .1, c .before .before .before .before .before .before .before .before .before .before .before .pre .1 .1 .1 .within (c .before .before .before .before .before .before .loop .q) (omega arith), c .before .before .before .wide .ensures)
-
-loop-less : tie.Need-loop-less Inv-loop μ-loop
-loop-less c = omega (arith, c .before .before .before .wide .ensures, c .before .before .before .before .before .before .before .before .before .before .before .pre .1 .1 .1 .on (c .before .before .before .before .before .before .loop .q) (omega arith))
-
-loop-again : tie.Need-loop-again Inv-loop μ-loop
-loop-again c = let P = c .before .before .before .before .before .before .before .before .before .before .before .pre in let A = c .before .before .before .before .before .before .before .before .before .before .before .args in let l : c .before .before .before .before .before .before .loop .q < length (A .mask .now) = omega arith in (omega (arith, c .before .before .before .wide .ensures, P .1 .1 .1 .within (c .before .before .before .before .before .before .loop .q) l), rw (c .before .before .before .wide .ensures) (ap (λ (x : ℕ). x + c .sum-of .result) (c .before .before .before .before .before .before .loop .inv .1) ∙ sym (reach-run (A .held .now) (A .counts .now) (A .mask .now) (A .hop .now) (λ p. c .before .before .before .before .before .before .before .before .before .before .shared-slice-known .given p .fits) (P .1 .1 .0) (P .1 .1 .1) (c .before .before .before .before .before .before .loop .q) l (c .before .if1 .taken) (c .sum-of .result) (rw (c .before .before .before .wide .ensures) at (c .sum-of .ensures .0)))))
+count-to-requires : tie.Need-count-to-requires Inv-loop μ-loop
+count-to-requires c κs = let P = c .before .before .before .before .before .before .before .before .before .before .before .pre in let l : c .before .before .before .before .before .before .loop .q < length (c .before .before .before .before .before .before .before .before .before .before .before .args .mask .now) = omega arith in (c .before .before .before .before .before .before .loop .inv .1 .1, (omega (arith, c .before .before .before .wide .ensures, P .1 .1 .1 .within (c .before .before .before .before .before .before .loop .q) l), P .1 .0))
 
 mul-sum : tie.Need-mul-sum Inv-loop μ-loop
-mul-sum c = omega arith
+mul-sum c = let P = c .before .before .before .before .before .before .before .before .before .before .before .before .before .before .pre in let l : c .before .before .before .before .before .before .before .before .before .loop .q < length (c .before .before .before .before .before .before .before .before .before .before .before .before .before .before .args .mask .now) = omega arith in omega (arith, c .before .before .before .before .before .before .wide .ensures, P .1 .1 .1 .within (c .before .before .before .before .before .before .before .before .before .loop .q) l)
 
-shared-slice-read-sum : tie.Need-shared-slice-read-sum Inv-loop μ-loop
-shared-slice-read-sum c = omega arith
+slice-read-sum : tie.Need-slice-read-sum Inv-loop μ-loop
+slice-read-sum c = let P = c .before .before .before .before .before .before .before .before .before .before .before .before .before .before .before .pre in let l : c .before .before .before .before .before .before .before .before .before .before .loop .q < length (c .before .before .before .before .before .before .before .before .before .before .before .before .before .before .before .args .mask .now) = omega arith in omega (arith, c .before .before .before .before .before .before .before .wide .ensures, P .1 .1 .1 .within (c .before .before .before .before .before .before .before .before .before .before .loop .q) l, c .before .before .before .count-to .ensures .0 .size)
 
-cast-sum : tie.Need-cast-sum Inv-loop μ-loop
-cast-sum c = omega (arith, ones-and (c .before .before .before .before .before .before .before .before .before .before .before .args .held .now) (c .before .before .before .before .before .before .before .before .before .before .before .args .mask .now) (c .before .before .before .before .before .before .loop .q) (c .before .before .before .before .before .before .before .before .before .before .shared-slice-known .given (c .before .before .before .before .before .before .loop .q) .fits))
+mul-sum-2 : tie.Need-mul-sum-2 Inv-loop μ-loop
+mul-sum-2 c = omega arith
+
+slice-read-sum-2 : tie.Need-slice-read-sum-2 Inv-loop μ-loop
+slice-read-sum-2 c = omega (arith, c .before .before .before .before .count-to .ensures .0 .size)
+
+sub-sum : tie.Need-sub-sum Inv-loop μ-loop
+sub-sum c = let P = c .before .before .before .before .before .before .before .before .before .before .before .before .before .before .before .before .pre in let l : c .before .before .before .before .before .before .before .before .before .before .before .loop .q < length (c .before .before .before .before .before .before .before .before .before .before .before .before .before .before .before .before .args .mask .now) = omega arith in run-sum (c .before .before .before .before .before .before .before .before .before .before .before .before .before .before .before .before .args .held .now) (c .before .before .before .before .before .before .before .before .before .before .before .before .before .before .before .before .args .mask .now) (c .before .before .before .before .before .before .before .before .before .before .before .before .before .before .before .before .args .hop .now) (λ p. c .before .before .before .before .before .before .before .before .before .before .before .before .before .before .before .shared-slice-known .given p .fits) (P .1 .1 .1) (c .before .before .before .before .before .before .before .before .before .before .before .loop .q) l (c .before .before .before .before .before .before .before .before .wide .result) (c .before .before .before .before .before .before .before .before .before .before .before .loop .sum) (c .before .before .before .before .before .before .before .before .wide .ensures) (c .before .before .before .before .count-to .ensures .0) (c .before .before .before .before .count-to .ensures .1) (c .before .before .before .before .before .before .if1 .taken) (c .before .before .before .before .before .before .before .before .before .before .before .loop .inv .1 .0) .0
+
+add-sum : tie.Need-add-sum Inv-loop μ-loop
+add-sum c = let P = c .before .before .before .before .before .before .before .before .before .before .before .before .before .before .before .before .pre in let l : c .before .before .before .before .before .before .before .before .before .before .before .loop .q < length (c .before .before .before .before .before .before .before .before .before .before .before .before .before .before .before .before .args .mask .now) = omega arith in omega (arith, run-sum (c .before .before .before .before .before .before .before .before .before .before .before .before .before .before .before .before .args .held .now) (c .before .before .before .before .before .before .before .before .before .before .before .before .before .before .before .before .args .mask .now) (c .before .before .before .before .before .before .before .before .before .before .before .before .before .before .before .before .args .hop .now) (λ p. c .before .before .before .before .before .before .before .before .before .before .before .before .before .before .before .shared-slice-known .given p .fits) (P .1 .1 .1) (c .before .before .before .before .before .before .before .before .before .before .before .loop .q) l (c .before .before .before .before .before .before .before .before .wide .result) (c .before .before .before .before .before .before .before .before .before .before .before .loop .sum) (c .before .before .before .before .before .before .before .before .wide .ensures) (c .before .before .before .before .count-to .ensures .0) (c .before .before .before .before .count-to .ensures .1) (c .before .before .before .before .before .before .if1 .taken) (c .before .before .before .before .before .before .before .before .before .before .before .loop .inv .1 .0) .1, total-both-le (c .before .before .before .before .before .before .before .before .before .before .before .before .before .before .before .before .args .held .now) (c .before .before .before .before .before .before .before .before .before .before .before .before .before .before .before .before .args .mask .now) (64 * c .before .before .before .before .before .before .before .before .wide .result), c .before .before .before .before .before .before .before .before .wide .ensures, P .1 .1 .1 .within (c .before .before .before .before .before .before .before .before .before .before .before .loop .q) l)
+
+loop-less : tie.Need-loop-less Inv-loop μ-loop
+loop-less c = let P = c .before .before .before .before .before .before .before .before .before .before .before .before .before .before .before .before .pre in let l : c .before .before .before .before .before .before .before .before .before .before .before .loop .q < length (c .before .before .before .before .before .before .before .before .before .before .before .before .before .before .before .before .args .mask .now) = omega arith in omega (arith, c .before .before .before .before .before .before .before .before .wide .ensures, P .1 .1 .1 .on (c .before .before .before .before .before .before .before .before .before .before .before .loop .q) l)
+
+loop-again : tie.Need-loop-again Inv-loop μ-loop
+loop-again c = let P = c .before .before .before .before .before .before .before .before .before .before .before .before .before .before .before .before .pre in let l : c .before .before .before .before .before .before .before .before .before .before .before .loop .q < length (c .before .before .before .before .before .before .before .before .before .before .before .before .before .before .before .before .args .mask .now) = omega arith in (omega (arith, c .before .before .before .before .before .before .before .before .wide .ensures, P .1 .1 .1 .within (c .before .before .before .before .before .before .before .before .before .before .before .loop .q) l), (run-sum (c .before .before .before .before .before .before .before .before .before .before .before .before .before .before .before .before .args .held .now) (c .before .before .before .before .before .before .before .before .before .before .before .before .before .before .before .before .args .mask .now) (c .before .before .before .before .before .before .before .before .before .before .before .before .before .before .before .before .args .hop .now) (λ p. c .before .before .before .before .before .before .before .before .before .before .before .before .before .before .before .shared-slice-known .given p .fits) (P .1 .1 .1) (c .before .before .before .before .before .before .before .before .before .before .before .loop .q) l (c .before .before .before .before .before .before .before .before .wide .result) (c .before .before .before .before .before .before .before .before .before .before .before .loop .sum) (c .before .before .before .before .before .before .before .before .wide .ensures) (c .before .before .before .before .count-to .ensures .0) (c .before .before .before .before .count-to .ensures .1) (c .before .before .before .before .before .before .if1 .taken) (c .before .before .before .before .before .before .before .before .before .before .before .loop .inv .1 .0) .1, c .before .before .before .before .count-to .ensures .0))
+
+mul-ones-of : tie.Need-mul-ones-of Inv-loop μ-loop
+mul-ones-of c = omega arith
+
+shared-slice-read-ones-of : tie.Need-shared-slice-read-ones-of Inv-loop μ-loop
+shared-slice-read-ones-of c = omega arith
+
+ones-of-requires : tie.Need-ones-of-requires Inv-loop μ-loop
+ones-of-requires c κs = omega arith
 
 add-sum-2 : tie.Need-add-sum-2 Inv-loop μ-loop
-add-sum-2 c = omega (arith, ones-and (c .before .before .before .before .before .before .before .before .before .before .before .args .held .now) (c .before .before .before .before .before .before .before .before .before .before .before .args .mask .now) (c .before .before .before .before .before .before .loop .q) (c .before .before .before .before .before .before .before .before .before .before .shared-slice-known .given (c .before .before .before .before .before .before .loop .q) .fits), total-both-le (c .before .before .before .before .before .before .before .before .before .before .before .args .held .now) (c .before .before .before .before .before .before .before .before .before .before .before .args .mask .now) (64 * c .before .before .before .before .before .before .loop .q))
+add-sum-2 c = omega (arith, c .ones-of .ensures .1, total-both-le (c .before .before .before .before .before .before .before .before .before .before .before .before .args .held .now) (c .before .before .before .before .before .before .before .before .before .before .before .before .args .mask .now) (64 * c .before .before .before .before .before .before .before .loop .q))
 
 loop-less-2 : tie.Need-loop-less-2 Inv-loop μ-loop
-loop-less-2 c = omega (arith, c .before .before .before .wide .ensures, c .before .before .before .before .before .before .before .before .before .before .before .pre .1 .1 .1 .on (c .before .before .before .before .before .before .loop .q) (omega arith))
+loop-less-2 c = let P = c .before .before .before .before .before .before .before .before .before .before .before .before .pre in let l : c .before .before .before .before .before .before .before .loop .q < length (c .before .before .before .before .before .before .before .before .before .before .before .before .args .mask .now) = omega arith in omega (arith, c .before .before .before .before .wide .ensures, P .1 .1 .1 .on (c .before .before .before .before .before .before .before .loop .q) l)
 
 loop-again-2 : tie.Need-loop-again-2 Inv-loop μ-loop
-loop-again-2 c = let P = c .before .before .before .before .before .before .before .before .before .before .before .pre in let A = c .before .before .before .before .before .before .before .before .before .before .before .args in let l : c .before .before .before .before .before .before .loop .q < length (A .mask .now) = omega arith in (omega (arith, c .before .before .before .wide .ensures, P .1 .1 .1 .within (c .before .before .before .before .before .before .loop .q) l), rw (c .before .before .before .wide .ensures) (omega (arith, reach-gap (A .held .now) (A .counts .now) (A .mask .now) (A .hop .now) (λ p. c .before .before .before .before .before .before .before .before .before .before .shared-slice-known .given p .fits) (P .1 .1 .0) (P .1 .1 .1) (c .before .before .before .before .before .before .loop .q) l (c .before .if1 .left))))
+loop-again-2 c = let P = c .before .before .before .before .before .before .before .before .before .before .before .before .pre in let l : c .before .before .before .before .before .before .before .loop .q < length (c .before .before .before .before .before .before .before .before .before .before .before .before .args .mask .now) = omega arith in (omega (arith, c .before .before .before .before .wide .ensures, P .1 .1 .1 .within (c .before .before .before .before .before .before .before .loop .q) l), (rw (c .before .before .before .before .wide .ensures) (omega (arith, c .ones-of .ensures .0, reach-gap (c .before .before .before .before .before .before .before .before .before .before .before .before .args .held .now) (c .before .before .before .before .before .before .before .before .before .before .before .before .args .mask .now) (c .before .before .before .before .before .before .before .before .before .before .before .before .args .hop .now) (λ p. c .before .before .before .before .before .before .before .before .before .before .before .shared-slice-known .given p .fits) (P .1 .1 .1) (c .before .before .before .before .before .before .before .loop .q) l (c .before .before .if1 .left))), c .before .before .before .before .before .before .before .loop .inv .1 .1))
+
+same-length : tie.Need-same-length Inv-loop μ-loop
+same-length c = c .before .loop .inv .1 .1 .size ∙ sym (c .before .before .before .before .before .before .pre .1 .1 .0 .size)
 
 returns : tie.Need-returns Inv-loop μ-loop
 unfolding common
-returns c = let e : c .before .loop .q ≡ length (c .before .before .before .before .before .before .args .held .now) = omega arith in rw (← e) (c .before .loop .inv .1)
+returns c = let e : c .before .loop .q ≡ length (c .before .before .before .before .before .before .args .held .now) = omega arith in (c .before .loop .inv .1 .0 ∙ ap (λ (x : ℕ). total (both (c .before .before .before .before .before .before .args .held .now) (c .before .before .before .before .before .before .args .mask .now)) (64 * x)) e, c .before .loop .inv .1 .1)
 
 pub reach-spec : {M : Type 1} → statement M
 reach-spec =
@@ -82,14 +99,20 @@ reach-spec =
     wide-requires
     mul-m
     shared-slice-read-m
-    sum-of-requires
+    count-to-requires
+    mul-sum
+    slice-read-sum
+    mul-sum-2
+    slice-read-sum-2
+    sub-sum
     add-sum
     loop-less
     loop-again
-    mul-sum
-    shared-slice-read-sum
-    cast-sum
+    mul-ones-of
+    shared-slice-read-ones-of
+    ones-of-requires
     add-sum-2
     loop-less-2
     loop-again-2
+    same-length
     returns)

@@ -19,7 +19,7 @@ overlap-requires : tie.Need-overlap-requires
 overlap-requires c κs = let P = c .before .before .before .before .before .before .before .before .before .before .before .before .before .before .before .before .before .before .before .before .pre in let co = P .0 in let s = P .1 .0 in (c .before .before .before .before .before .before .take .kept .1 .1 .1 .1 .1 .1 .1 .1 .1 .0 ∙ words co s, (co .market .words, (bid-row co _ (inside co), (co .hopping .size, (c .before .before .before .before .before .before .take .ensures .1 .1, co .hopping .each _ (inside co))))))
 
 add-t33 : tie.Need-add-t33
-add-t33 c = omega (arith, c .before .before .before .before .before .before .before .before .before .before .before .before .before .before .before .before .before .before .before .before .before .pre .1 .1 .1 .1 .0, c .before .before .before .before .before .before .before .before .before .before .before .before .before .before .before .before .before .before .before .before .before .pre .0 .main .route .most)
+add-t33 c = omega (arith, c .before .before .before .before .before .before .before .before .before .before .before .before .before .before .before .before .before .before .before .before .before .before .before .pre .1 .1 .1 .1 .0, c .before .before .before .before .before .before .before .before .before .before .before .before .before .before .before .before .before .before .before .before .before .before .before .pre .0 .main .route .most)
 
 same-length : tie.Need-same-length
 same-length c = search needs
@@ -28,7 +28,7 @@ same-length-2 : tie.Need-same-length-2
 same-length-2 c = search needs
 
 returns : tie.Need-returns
-returns c = let P = c .before .before .before .before .before .before .before .before .before .before .before .before .before .before .before .before .before .before .before .before .before .pre in both-goes (P .0) (P .1 .0) (P .1 .1 .1 .0) (c .before .before .before .before .before .before .before .take .ensures .0) (c .before .before .before .before .before .before .before .take .kept .1 .1 .1 .1 .1 .1 .1 .1 .1 .0) (c .before .before .before .before .before .before .before .take .ensures .1 .0) (c .before .before .before .before .before .before .before .take .ensures .1 .1) (c .overlap .ensures) (P .1 .1 .1 .1 .1) (P .1 .1 .1 .1 .0)
+returns c = let P = c .before .before .before .before .before .before .before .before .before .before .before .before .before .before .before .before .before .before .before .before .before .before .before .pre in both-goes (P .0) (P .1 .0) (P .1 .1 .1 .0) (c .before .before .before .before .before .before .before .before .before .take .ensures .0) (c .before .before .before .before .before .before .before .before .before .take .kept .1 .1 .1 .1 .1 .1 .1 .1 .1 .0) (c .before .before .before .before .before .before .before .before .before .take .ensures .1 .0) (c .before .before .overlap .ensures .1) (c .before .before .overlap .ensures .0) (P .1 .1 .1 .1 .1) (P .1 .1 .1 .1 .0)
 
 pub both-spec : {M : Type 1} → statement M
 both-spec =

@@ -16,6 +16,9 @@ use Rattle.multi.proofs.settle.Reads as settle-reads
 mul-v : tie.Need-mul-v
 mul-v c = let P = c .before .before .before .before .before .before .before .before .before .before .before .before .before .before .pre in let A = c .before .before .before .before .before .before .before .before .before .before .before .before .before .before .args in omega (arith, P .0 .words)
 
+add-u : tie.Need-add-u
+add-u c = search needs
+
 slice-relend-prefix-settle : tie.Need-slice-relend-prefix-settle
 slice-relend-prefix-settle c = let P = c .before .before .before .before .before .before .before .before .before .before .before .before .before .before .before .before .pre in let A = c .before .before .before .before .before .before .before .before .before .before .before .before .before .before .before .before .args in omega (arith, product (A .w) (length (A .prices .now)) 158 1000 (P .0 .words) (P .0 .priced .count), P .0 .size, P .1 .1 .1 .1 .1 .0)
 
@@ -68,7 +71,7 @@ same-length-2 : tie.Need-same-length-2
 same-length-2 c = search needs
 
 same-length-3 : tie.Need-same-length-3
-same-length-3 c = search needs
+same-length-3 c = let P = c .before .before .before .before .before .before .before .before .before .before .before .before .before .before .before .before .before .before .before .before .before .before .before .before .before .before .before .before .before .before .before .before .before .before .before .before .before .before .before .before .before .before .before .before .before .before .before .before .before .before .before .pre in let A = c .before .before .before .before .before .before .before .before .before .before .before .before .before .before .before .before .before .before .before .before .before .before .before .before .before .before .before .before .before .before .before .before .before .before .before .before .before .before .before .before .before .before .before .before .before .before .before .before .before .before .before .args in let i : length (A .masks .now) ≤ length (A .hop .now) = omega (arith, product (A .w) (length (A .prices .now)) 158 1000 (P .0 .words) (P .0 .priced .count), P .0 .size, P .1 .1 .1 .1 .1 .0) in simp (length-append, length-drop) (omega (arith, c .before .before .before .before .before .before .before .before .before .before .before .before .before .before .before .before .before .before .before .before .before .before .before .before .settle .kept .1 .1 .1 .1 .1 .1 .0 ∙ length-take-le (length (A .masks .now)) (A .hop .now) i))
 
 same-length-4 : tie.Need-same-length-4
 same-length-4 c = let P = c .before .before .before .before .before .before .before .before .before .before .before .before .before .before .before .before .before .before .before .before .before .before .before .before .before .before .before .before .before .before .before .before .before .before .before .before .before .before .before .before .before .before .before .before .before .before .before .before .before .before .before .pre in let A = c .before .before .before .before .before .before .before .before .before .before .before .before .before .before .before .before .before .before .before .before .before .before .before .before .before .before .before .before .before .before .before .before .before .before .before .before .before .before .before .before .before .before .before .before .before .before .before .before .before .before .before .args in let i : 16 * A .w ≤ length (A .index .now) = omega (arith, P .0 .words, P .1 .1 .1 .1 .1 .1 .0) in simp (length-append, length-drop) (omega (arith, c .before .before .before .before .before .before .before .before .before .before .before .before .before .before .before .before .before .before .before .before .before .before .before .before .settle .kept .1 .1 .1 .1 .1 .1 .1 .0 ∙ length-take-le (16 * A .w) (A .index .now) i))
@@ -105,6 +108,7 @@ award-in-spec =
     tie.close
     (tie.spec
     mul-v
+    add-u
     slice-relend-prefix-settle
     slice-aggregate-settle
     slice-relend-prefix-settle-2

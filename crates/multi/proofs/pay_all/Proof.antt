@@ -1,5 +1,5 @@
 -- `multi::pay_all` meets its contract: before round h the bids of the first h rounds are marked and paid. Assumes nothing.
-use Prim.Native.Nat.{_≤_, _-_}
+use Prim.Native.Nat.{_≤_, _-_, _+_}
 use mathlib.Core.Path.{_≡_, _∙_, sym}
 use native.Mathlib.Omega.{arith}
 use lib.ListN.{length}
@@ -13,7 +13,7 @@ use Rattle.multi.proofs.pay_all.Lts as lts
 use Rattle.multi.proofs.pay.Reads as pay-reads
 
 abbrev Inv-loop : tie.InvT-loop
-Inv-loop prices masks hop index w count order gains rounds held₀ alt₀ counts₀ who₀ num₀ mark₀ won₀ cents₀ h₀ held alt counts who num mark won cents h = (h ≤ rounds) × (Paying prices masks w count order h held won cents × ((length alt ≡ w) × ((length counts ≡ w) × (Tournament prices who num × (length mark ≡ 16)))))
+Inv-loop prices masks hop index w count order gains rounds held₀ alt₀ counts₀ who₀ num₀ mark₀ won₀ cents₀ h₀ held alt counts who num mark won cents h = (h ≤ rounds) × (Paying prices masks w count order h held won cents × ((length alt ≡ w) × ((length counts ≡ w + 2) × (Tournament prices who num × (length mark ≡ 16)))))
 
 abbrev μ-loop : tie.MeasureT-loop
 μ-loop prices masks hop index w count order gains rounds held₀ alt₀ counts₀ who₀ num₀ mark₀ won₀ cents₀ h₀ held alt counts who num mark won cents h = rounds - h

@@ -32,58 +32,58 @@ front-requires : tie.Need-front-requires Inv-loop μ-loop
 front-requires c κs = let P = c .before .before .before .before .before .before .before .before .before .before .before .before .before .before .before .pre in let s = c .before .before .before .before .before .loop .inv .1 .1 in (P .0, (P .1 .0, (s .0 .links .words, (s .1 .1, (s .1 .0, (knows (s .0 .links), (omega arith, (omega arith, omega arith))))))))
 
 mul-order : tie.Need-mul-order Inv-loop μ-loop
-mul-order c = let P = c .before .before .before .before .before .before .before .before .before .before .before .before .before .before .before .before .before .before .before .before .before .pre in omega (arith, c .before .before .before .before .before .before .before .before .before .before .before .loop .inv .1 .1 .0 .room, P .1 .1 .1 .1 .1 .1 .1 .0, P .0 .words)
+mul-order c = let P = c .before .before .before .before .before .before .before .before .before .before .before .before .before .before .before .before .before .before .before .before .before .before .before .pre in omega (arith, c .before .before .before .before .before .before .before .before .before .before .before .before .before .loop .inv .1 .1 .0 .room, P .1 .1 .1 .1 .1 .1 .1 .0, P .0 .words)
 
 slice-write-order : tie.Need-slice-write-order Inv-loop μ-loop
-slice-write-order c = omega (arith, c .before .before .before .before .before .before .before .before .before .before .before .loop .inv .1 .1 .0 .room, c .before .before .before .before .before .before .before .before .before .before .before .loop .inv .1 .1 .0 .orders, c .before .before .before .before .before .before .before .before .before .before .loop-test .taken)
+slice-write-order c = omega (arith, c .before .before .before .before .before .before .before .before .before .before .before .before .before .loop .inv .1 .1 .0 .room, c .before .before .before .before .before .before .before .before .before .before .before .before .before .loop .inv .1 .1 .0 .orders, c .before .before .before .before .before .before .before .before .before .before .before .before .loop-test .taken)
 
 mul-gains : tie.Need-mul-gains Inv-loop μ-loop
-mul-gains c = let P = c .before .before .before .before .before .before .before .before .before .before .before .before .before .before .before .before .before .before .before .before .before .pre in omega (arith, c .before .before .before .before .before .before .before .before .before .before .before .loop .inv .1 .1 .0 .room, P .1 .1 .1 .1 .1 .1 .1 .0, P .0 .words)
+mul-gains c = let P = c .before .before .before .before .before .before .before .before .before .before .before .before .before .before .before .before .before .before .before .before .before .before .before .pre in omega (arith, c .before .before .before .before .before .before .before .before .before .before .before .before .before .loop .inv .1 .1 .0 .room, P .1 .1 .1 .1 .1 .1 .1 .0, P .0 .words)
 
 slice-write-gains : tie.Need-slice-write-gains Inv-loop μ-loop
-slice-write-gains c = omega (arith, c .before .before .before .before .before .before .before .before .before .before .before .loop .inv .1 .1 .0 .room, c .before .before .before .before .before .before .before .before .before .before .before .loop .inv .1 .1 .0 .space, c .before .before .before .before .before .before .before .before .before .before .loop-test .taken)
+slice-write-gains c = omega (arith, c .before .before .before .before .before .before .before .before .before .before .before .before .before .loop .inv .1 .1 .0 .room, c .before .before .before .before .before .before .before .before .before .before .before .before .before .loop .inv .1 .1 .0 .space, c .before .before .before .before .before .before .before .before .before .before .before .before .loop-test .taken)
 
 shut-requires : tie.Need-shut-requires Inv-loop μ-loop
-shut-requires c κs = let P = c .before .before .before .before .before .before .before .before .before .before .before .before .before .before .before .before .before .before .before .before .before .before .before .pre in let A = c .before .before .before .before .before .before .before .before .before .before .before .before .before .before .before .before .before .before .before .before .before .before .before .args in (c .before .before .before .before .before .before .before .before .before .before .before .before .before .loop .inv .1 .1 .0 .links .words, (P .0 .words, (row-in (A .prices .now) (A .masks .now) (A .w) _ (P .0) (c .before .before .if1 .taken), (P .1 .0 .size, (c .before .before .before .before .before .before .before .before .before .before .before .before .before .loop .inv .1 .1 .1 .1, P .1 .0 .each _ (c .before .before .if1 .taken))))))
+shut-requires c κs = let P = c .before .before .before .before .before .before .before .before .before .before .before .before .before .before .before .before .before .before .before .before .before .before .before .before .before .pre in let A = c .before .before .before .before .before .before .before .before .before .before .before .before .before .before .before .before .before .before .before .before .before .before .before .before .before .args in (c .before .before .before .before .before .before .before .before .before .before .before .before .before .before .before .loop .inv .1 .1 .0 .links .words, (P .0 .words, (row-in (A .prices .now) (A .masks .now) (A .w) _ (P .0) (c .before .before .if1 .taken), (P .1 .0 .size, (c .before .before .before .before .before .before .before .before .before .front .ensures .1 .1, P .1 .0 .each _ (c .before .before .if1 .taken))))))
 
 sub-left : tie.Need-sub-left Inv-loop μ-loop
-sub-left c = fits (c .before .before .before .before .before .before .before .before .before .before .before .before .before .before .before .before .before .before .before .loop .inv .1 .1 .0) (turned (c .before .before .before .before .before .before .before .before .before .before .before .before .before .front .ensures .1) (not-clear false _ (λ e. c .before .before .before .before .before .before .before .before .before .before .before .before .before .front .ensures .1 .clear-of e .0) refl)) (c .before .before .before .before .before .before .before .before .if1 .taken)
+sub-left c = fits (c .before .before .before .before .before .before .before .before .before .before .before .before .before .before .before .before .before .before .before .before .before .loop .inv .1 .1 .0) (turned (c .before .before .before .before .before .before .before .before .before .before .before .before .before .before .before .front .ensures .1 .0) (not-clear false _ (λ e. c .before .before .before .before .before .before .before .before .before .before .before .before .before .before .before .front .ensures .1 .0 .clear-of e .0) refl)) (c .before .before .before .before .before .before .before .before .if1 .taken)
 
 add-r : tie.Need-add-r Inv-loop μ-loop
-add-r c = let P = c .before .before .before .before .before .before .before .before .before .before .before .before .before .before .before .before .before .before .before .before .before .before .before .before .before .before .before .before .before .pre in omega (arith, c .before .before .before .before .before .before .before .before .before .before .before .before .before .before .before .before .before .before .before .loop .inv .1 .1 .0 .room, P .1 .1 .1 .1 .1 .1 .1 .0, P .0 .words)
+add-r c = let P = c .before .before .before .before .before .before .before .before .before .before .before .before .before .before .before .before .before .before .before .before .before .before .before .before .before .before .before .before .before .before .before .pre in omega (arith, c .before .before .before .before .before .before .before .before .before .before .before .before .before .before .before .before .before .before .before .before .before .loop .inv .1 .1 .0 .room, P .1 .1 .1 .1 .1 .1 .1 .0, P .0 .words)
 
 loop-less : tie.Need-loop-less Inv-loop μ-loop
-loop-less c = let s = c .before .before .before .before .before .before .before .before .before .before .before .before .before .before .before .before .before .before .before .loop .inv .1 .1 .0 in let u = turned (c .before .before .before .before .before .before .before .before .before .before .before .before .before .front .ensures .1) (not-clear false _ (λ e. c .before .before .before .before .before .before .before .before .before .before .before .before .before .front .ensures .1 .clear-of e .0) refl) in omega (arith, fits s u (c .before .before .before .before .before .before .before .before .if1 .taken), some s u (c .before .before .before .before .before .before .before .before .if1 .taken))
+loop-less c = let s = c .before .before .before .before .before .before .before .before .before .before .before .before .before .before .before .before .before .before .before .before .before .loop .inv .1 .1 .0 in let u = turned (c .before .before .before .before .before .before .before .before .before .before .before .before .before .before .before .front .ensures .1 .0) (not-clear false _ (λ e. c .before .before .before .before .before .before .before .before .before .before .before .before .before .before .before .front .ensures .1 .0 .clear-of e .0) refl) in omega (arith, fits s u (c .before .before .before .before .before .before .before .before .if1 .taken), some s u (c .before .before .before .before .before .before .before .before .if1 .taken))
 
 loop-again : tie.Need-loop-again Inv-loop μ-loop
-loop-again c = let s = c .before .before .before .before .before .before .before .before .before .before .before .before .before .before .before .before .before .before .before .loop .inv in (simp length-set (s .0), (simp length-set (s .1 .0), (goes (s .1 .1 .0) (turned (c .before .before .before .before .before .before .before .before .before .before .before .before .before .front .ensures .1) (not-clear false _ (λ e. c .before .before .before .before .before .before .before .before .before .before .before .before .before .front .ensures .1 .clear-of e .0) refl)) (c .before .before .before .before .before .before .before .before .if1 .taken) (c .before .before .before .before .before .shut .kept .0) (c .before .before .before .before .before .shut .ensures .0), (c .before .before .before .before .before .before .before .before .before .before .before .before .before .front .ensures .0, c .before .before .before .before .before .shut .ensures .1))))
+loop-again c = let s = c .before .before .before .before .before .before .before .before .before .before .before .before .before .before .before .before .before .before .before .before .before .loop .inv in (simp length-set (s .0), (simp length-set (s .1 .0), (goes (s .1 .1 .0) (turned (c .before .before .before .before .before .before .before .before .before .before .before .before .before .before .before .front .ensures .1 .0) (not-clear false _ (λ e. c .before .before .before .before .before .before .before .before .before .before .before .before .before .before .before .front .ensures .1 .0 .clear-of e .0) refl)) (c .before .before .before .before .before .before .before .before .if1 .taken) (c .before .before .before .before .before .shut .kept .0) (c .before .before .before .before .before .shut .ensures .0), (c .before .before .before .before .before .before .before .before .before .before .before .before .before .before .before .front .ensures .0, c .before .before .before .before .before .shut .ensures .1))))
 
 same-length : tie.Need-same-length Inv-loop μ-loop
-same-length c = c .before .before .before .before .before .before .before .before .before .before .before .loop .inv .1 .1 .0 .links .words ∙ sym (c .before .before .before .before .before .before .before .before .before .before .before .before .before .before .before .before .before .before .before .before .before .pre .1 .1 .0)
+same-length c = c .before .before .before .before .before .before .before .before .before .before .before .before .before .loop .inv .1 .1 .0 .links .words ∙ sym (c .before .before .before .before .before .before .before .before .before .before .before .before .before .before .before .before .before .before .before .before .before .before .before .pre .1 .1 .0)
 
 same-length-2 : tie.Need-same-length-2 Inv-loop μ-loop
-same-length-2 c = c .before .before .before .before .before .before .before .before .before .before .before .loop .inv .1 .1 .1 .1 .same ∙ c .before .before .before .before .before .before .before .before .before .before .before .loop .inv .1 .1 .0 .links .words ∙ sym (c .before .before .before .before .before .before .before .before .before .before .before .before .before .before .before .before .before .before .before .before .before .pre .1 .1 .1 .0 .same ∙ c .before .before .before .before .before .before .before .before .before .before .before .before .before .before .before .before .before .before .before .before .before .pre .1 .1 .0)
+same-length-2 c = c .before .before .before .before .before .before .before .front .ensures .1 .1 .size ∙ ap (λ (x : ℕ). x + 2) (c .before .before .before .before .before .before .before .before .before .before .before .before .before .loop .inv .1 .1 .0 .links .words ∙ sym (c .before .before .before .before .before .before .before .before .before .before .before .before .before .before .before .before .before .before .before .before .before .before .before .pre .1 .1 .0)) ∙ sym (c .before .before .before .before .before .before .before .before .before .before .before .before .before .before .before .before .before .before .before .before .before .before .before .pre .1 .1 .1 .0 .size)
 
 same-length-3 : tie.Need-same-length-3 Inv-loop μ-loop
-same-length-3 c = c .before .before .before .before .before .front .ensures .0 .seats .players ∙ sym (c .before .before .before .before .before .before .before .before .before .before .before .before .before .before .before .before .before .before .before .before .before .pre .1 .1 .1 .1 .0 .seats .players)
+same-length-3 c = c .before .before .before .before .before .before .before .front .ensures .0 .seats .players ∙ sym (c .before .before .before .before .before .before .before .before .before .before .before .before .before .before .before .before .before .before .before .before .before .before .before .pre .1 .1 .1 .1 .0 .seats .players)
 
 same-length-4 : tie.Need-same-length-4 Inv-loop μ-loop
-same-length-4 c = c .before .before .before .before .before .front .ensures .0 .seats .numbers ∙ sym (c .before .before .before .before .before .before .before .before .before .before .before .before .before .before .before .before .before .before .before .before .before .pre .1 .1 .1 .1 .0 .seats .numbers)
+same-length-4 c = c .before .before .before .before .before .before .before .front .ensures .0 .seats .numbers ∙ sym (c .before .before .before .before .before .before .before .before .before .before .before .before .before .before .before .before .before .before .before .before .before .before .before .pre .1 .1 .1 .1 .0 .seats .numbers)
 
 same-length-5 : tie.Need-same-length-5 Inv-loop μ-loop
-same-length-5 c = c .before .before .before .before .before .before .before .before .before .before .before .loop .inv .0
+same-length-5 c = c .before .before .before .before .before .before .before .before .before .before .before .before .before .loop .inv .0
 
 same-length-6 : tie.Need-same-length-6 Inv-loop μ-loop
-same-length-6 c = c .before .before .before .before .before .before .before .before .before .before .before .loop .inv .1 .0
+same-length-6 c = c .before .before .before .before .before .before .before .before .before .before .before .before .before .loop .inv .1 .0
 
 returns : tie.Need-returns Inv-loop μ-loop
-returns c = let P = c .before .before .before .before .before .before .before .before .before .before .before .before .before .before .before .before .before .before .before .before .before .pre in (ends-none (c .before .before .before .before .before .before .before .before .before .before .before .loop .inv .1 .1 .0) (turned (c .before .before .before .before .before .front .ensures .1) (not-clear false _ (λ e. c .before .before .before .before .before .front .ensures .1 .clear-of e .0) refl)) (omega (arith, P .1 .1 .1 .1 .1 .1 .1 .0, P .0 .words)) (c .if1 .left), c .before .before .before .before .before .front .ensures .0)
+returns c = let P = c .before .before .before .before .before .before .before .before .before .before .before .before .before .before .before .before .before .before .before .before .before .before .before .pre in (ends-none (c .before .before .before .before .before .before .before .before .before .before .before .before .before .loop .inv .1 .1 .0) (turned (c .before .before .before .before .before .before .before .front .ensures .1 .0) (not-clear false _ (λ e. c .before .before .before .before .before .before .before .front .ensures .1 .0 .clear-of e .0) refl)) (omega (arith, P .1 .1 .1 .1 .1 .1 .1 .0, P .0 .words)) (c .if1 .left), c .before .before .before .before .before .before .before .front .ensures .0)
 
 same-length-7 : tie.Need-same-length-7 Inv-loop μ-loop
 same-length-7 c = c .before .loop .inv .1 .1 .0 .links .words ∙ sym (c .before .before .before .before .before .before .before .before .before .before .before .pre .1 .1 .0)
 
 same-length-8 : tie.Need-same-length-8 Inv-loop μ-loop
-same-length-8 c = c .before .loop .inv .1 .1 .1 .1 .same ∙ c .before .loop .inv .1 .1 .0 .links .words ∙ sym (c .before .before .before .before .before .before .before .before .before .before .before .pre .1 .1 .1 .0 .same ∙ c .before .before .before .before .before .before .before .before .before .before .before .pre .1 .1 .0)
+same-length-8 c = c .before .loop .inv .1 .1 .1 .1 .size ∙ ap (λ (x : ℕ). x + 2) (c .before .loop .inv .1 .1 .0 .links .words ∙ sym (c .before .before .before .before .before .before .before .before .before .before .before .pre .1 .1 .0)) ∙ sym (c .before .before .before .before .before .before .before .before .before .before .before .pre .1 .1 .1 .0 .size)
 
 same-length-9 : tie.Need-same-length-9 Inv-loop μ-loop
 same-length-9 c = c .before .loop .inv .1 .1 .1 .0 .seats .players ∙ sym (c .before .before .before .before .before .before .before .before .before .before .before .pre .1 .1 .1 .1 .0 .seats .players)

@@ -43,10 +43,10 @@ front-requires : tie.Need-front-requires
 front-requires c κs = let P = c .before .before .before .before .before .before .before .before .before .before .before .before .before .before .before .before .before .before .before .before .pre in let co = P .0 in let s = P .1 .0 in let l = co .main .route .inside (c .before .before .before .before .before .before .before .before .before .before .before .before .before .before .before .before .before .before .before .before .args .g) (P .1 .1 .1) in (co .market, (co .hopping, (words co s, (s .counted, (s .tree, (knows (inside co) (co .market .words) (s .follow .strayed), (omega (arith, l), (co .market .priced .most _, co .main .route .few _ (P .1 .1 .1)))))))))
 
 take-requires : tie.Need-take-requires
-take-requires c κs = let P = c .before .before .before .before .before .before .before .before .before .before .before .before .before .before .before .before .before .before .before .before .before .before .before .before .before .before .before .before .pre in let co = P .0 in let s = P .1 .0 in let l = co .main .route .inside (c .before .before .before .before .before .before .before .before .before .before .before .before .before .before .before .before .before .before .before .before .before .before .before .before .before .before .before .before .args .g) (P .1 .1 .1) in ((co .market .priced .most _, (gains-some (co .main) _ (P .1 .1 .1), (P .1 .1 .0, s .follow .few))), (words co s, (co .market .words, (bid-row co _ l, (co .hopping .size, (s .counted, co .hopping .each _ l))))))
+take-requires c κs = let P = c .before .before .before .before .before .before .before .before .before .before .before .before .before .before .before .before .before .before .before .before .before .before .before .before .before .before .before .before .before .before .pre in let co = P .0 in let s = P .1 .0 in let l = co .main .route .inside (c .before .before .before .before .before .before .before .before .before .before .before .before .before .before .before .before .before .before .before .before .before .before .before .before .before .before .before .before .before .before .args .g) (P .1 .1 .1) in ((co .market .priced .most _, (gains-some (co .main) _ (P .1 .1 .1), (P .1 .1 .0, s .follow .few))), (words co s, (co .market .words, (bid-row co _ l, (co .hopping .size, (c .before .before .before .before .before .before .before .before .before .front .ensures .1 .1, co .hopping .each _ l))))))
 
 add-t47 : tie.Need-add-t47
-add-t47 c = omega (arith, c .before .before .before .before .before .before .before .before .before .before .before .before .before .before .before .before .before .before .before .before .before .before .before .before .before .before .before .before .before .before .before .before .before .pre .1 .1 .1, c .before .before .before .before .before .before .before .before .before .before .before .before .before .before .before .before .before .before .before .before .before .before .before .before .before .before .before .before .before .before .before .before .before .pre .0 .main .route .most)
+add-t47 c = omega (arith, c .before .before .before .before .before .before .before .before .before .before .before .before .before .before .before .before .before .before .before .before .before .before .before .before .before .before .before .before .before .before .before .before .before .before .before .pre .1 .1 .1, c .before .before .before .before .before .before .before .before .before .before .before .before .before .before .before .before .before .before .before .before .before .before .before .before .before .before .before .before .before .before .before .before .before .before .before .pre .0 .main .route .most)
 
 same-length : tie.Need-same-length
 same-length c = search needs
@@ -64,13 +64,13 @@ same-length-5 : tie.Need-same-length-5
 same-length-5 c = search needs
 
 returns : tie.Need-returns
-returns c = let P = c .before .before .before .before .before .before .before .before .before .before .before .before .before .before .before .before .before .before .before .before .before .before .before .before .before .before .before .before .before .before .before .before .before .pre in let co = P .0 in let s = P .1 .0 in let f = c .before .before .before .before .before .before .before .before .before .before .before .before .front .ensures .1 in let z = unmarked _ _ _ (c .before .before .before .before .before .before .before .before .before .before .before .before .before .before .before .before .before .holds .ensures) (f .clear-of (c .before .before .before .before .before .before .before .if1 .taken) .0) in main-goes co (fronted co s (c .before .before .before .before .before .before .before .before .before .before .before .before .front .ensures .0) (c .before .before .before .before .before .before .before .before .before .before .before .before .front .ensures .1)) (takes-main co (s .follow) f (P .1 .1 .1) refl refl refl z (c .before .before .before .before .before .before .before .if1 .taken)) (c .before .before .before .before .take .ensures .0) (c .before .before .before .before .take .kept .1 .1 .1 .1 .1 .1 .1 .1 .1 .0) (c .before .before .before .before .take .ensures .1 .0) (c .before .before .before .before .take .ensures .1 .1) refl (P .1 .1 .1) z
+returns c = let P = c .before .before .before .before .before .before .before .before .before .before .before .before .before .before .before .before .before .before .before .before .before .before .before .before .before .before .before .before .before .before .before .before .before .before .before .pre in let co = P .0 in let s = P .1 .0 in let f = c .before .before .before .before .before .before .before .before .before .before .before .before .before .before .front .ensures .1 .0 in let z = unmarked _ _ _ (c .before .before .before .before .before .before .before .before .before .before .before .before .before .before .before .before .before .before .before .holds .ensures) (f .clear-of (c .before .before .before .before .before .before .before .if1 .taken) .0) in main-goes co (fronted co s (c .before .before .before .before .before .before .before .before .before .before .before .before .before .before .front .ensures .0) (c .before .before .before .before .before .before .before .before .before .before .before .before .before .before .front .ensures .1 .0) (c .before .before .before .before .before .before .before .before .before .before .before .before .before .before .front .ensures .1 .1)) (takes-main co (s .follow) f (P .1 .1 .1) refl refl refl z (c .before .before .before .before .before .before .before .if1 .taken)) (c .before .before .before .before .take .ensures .0) (c .before .before .before .before .take .kept .1 .1 .1 .1 .1 .1 .1 .1 .1 .0) (c .before .before .before .before .take .ensures .1 .0) (c .before .before .before .before .take .ensures .1 .1) refl (P .1 .1 .1) z
 
 ahead-requires : tie.Need-ahead-requires
-ahead-requires c κs = let co = c .before .before .before .before .before .before .before .before .before .before .before .before .before .before .before .before .before .before .before .before .before .before .before .before .before .before .pre .0 in let f = c .before .before .before .before .before .front .ensures .1 in ((f .cheap, f .small), (co .market .priced .most _, co .main .route .few _ (c .before .before .before .before .before .before .before .before .before .before .before .before .before .before .before .before .before .before .before .before .before .before .before .before .before .before .pre .1 .1 .1)))
+ahead-requires c κs = let co = c .before .before .before .before .before .before .before .before .before .before .before .before .before .before .before .before .before .before .before .before .before .before .before .before .before .before .before .before .pre .0 in let f = c .before .before .before .before .before .before .before .front .ensures .1 .0 in ((f .cheap, f .small), (co .market .priced .most _, co .main .route .few _ (c .before .before .before .before .before .before .before .before .before .before .before .before .before .before .before .before .before .before .before .before .before .before .before .before .before .before .before .before .pre .1 .1 .1)))
 
 both-requires : tie.Need-both-requires
-both-requires c κs = let P = c .before .before .before .before .before .before .before .before .before .before .before .before .before .before .before .before .before .before .before .before .before .before .before .before .before .before .before .before .before .before .before .before .before .before .pre in let co = P .0 in let s = P .1 .0 in let f = c .before .before .before .before .before .before .before .before .before .before .before .before .before .front .ensures .1 in let a = c .before .before .before .before .before .before .before .ahead .ensures (c .before .before .before .before .before .before .if2 .taken) in (co, (fronted co s (c .before .before .before .before .before .before .before .before .before .before .before .before .before .front .ensures .0) (c .before .before .before .before .before .before .before .before .before .before .before .before .before .front .ensures .1), (P .1 .1 .0, (takes-other co (s .follow) f (c .before .before .before .before .before .before .before .before .if1 .left) (a .0) (P .1 .1 .1) (a .1), (P .1 .1 .1, c .before .before .before .before .before .if3 .taken)))))
+both-requires c κs = let P = c .before .before .before .before .before .before .before .before .before .before .before .before .before .before .before .before .before .before .before .before .before .before .before .before .before .before .before .before .before .before .before .before .before .before .before .before .pre in let co = P .0 in let s = P .1 .0 in let f = c .before .before .before .before .before .before .before .before .before .before .before .before .before .before .before .front .ensures .1 .0 in let a = c .before .before .before .before .before .before .before .ahead .ensures (c .before .before .before .before .before .before .if2 .taken) in (co, (fronted co s (c .before .before .before .before .before .before .before .before .before .before .before .before .before .before .before .front .ensures .0) (c .before .before .before .before .before .before .before .before .before .before .before .before .before .before .before .front .ensures .1 .0) (c .before .before .before .before .before .before .before .before .before .before .before .before .before .before .before .front .ensures .1 .1), (P .1 .1 .0, (takes-other co (s .follow) f (c .before .before .before .before .before .before .before .before .if1 .left) (a .0) (P .1 .1 .1) (a .1), (P .1 .1 .1, c .before .before .before .before .before .if3 .taken)))))
 
 same-length-6 : tie.Need-same-length-6
 same-length-6 c = search needs
@@ -91,7 +91,7 @@ returns-2 : tie.Need-returns-2
 returns-2 c = search needs
 
 other-requires : tie.Need-other-requires
-other-requires c κs = let P = c .before .before .before .before .before .before .before .before .before .before .before .before .before .before .before .before .before .before .before .before .before .before .before .before .before .before .before .before .before .before .before .before .before .before .pre in let co = P .0 in let s = P .1 .0 in let f = c .before .before .before .before .before .before .before .before .before .before .before .before .before .front .ensures .1 in let a = c .before .before .before .before .before .before .before .ahead .ensures (c .before .before .before .before .before .before .if2 .taken) in (co, (fronted co s (c .before .before .before .before .before .before .before .before .before .before .before .before .before .front .ensures .0) (c .before .before .before .before .before .before .before .before .before .before .before .before .before .front .ensures .1), (P .1 .1 .0, takes-other co (s .follow) f (c .before .before .before .before .before .before .before .before .if1 .left) (a .0) (P .1 .1 .1) (a .1))))
+other-requires c κs = let P = c .before .before .before .before .before .before .before .before .before .before .before .before .before .before .before .before .before .before .before .before .before .before .before .before .before .before .before .before .before .before .before .before .before .before .before .before .pre in let co = P .0 in let s = P .1 .0 in let f = c .before .before .before .before .before .before .before .before .before .before .before .before .before .before .before .front .ensures .1 .0 in let a = c .before .before .before .before .before .before .before .ahead .ensures (c .before .before .before .before .before .before .if2 .taken) in (co, (fronted co s (c .before .before .before .before .before .before .before .before .before .before .before .before .before .before .before .front .ensures .0) (c .before .before .before .before .before .before .before .before .before .before .before .before .before .before .before .front .ensures .1 .0) (c .before .before .before .before .before .before .before .before .before .before .before .before .before .before .before .front .ensures .1 .1), (P .1 .1 .0, takes-other co (s .follow) f (c .before .before .before .before .before .before .before .before .if1 .left) (a .0) (P .1 .1 .1) (a .1))))
 
 same-length-11 : tie.Need-same-length-11
 same-length-11 c = search needs
@@ -112,10 +112,10 @@ returns-3 : tie.Need-returns-3
 returns-3 c = search needs
 
 disturb-requires : tie.Need-disturb-requires
-disturb-requires c κs = let P = c .before .before .before .before .before .before .before .before .before .before .before .before .before .before .before .before .before .before .before .before .before .before .before .before .before .before .before .before .before .before .before .before .before .pre in let co = P .0 in let s = P .1 .0 in (co .market, (co .hopping, (co .indexed, (words co s, (s .counted, (co .main .route .inside (c .before .before .before .before .before .before .before .before .before .before .before .before .before .before .before .before .before .before .before .before .before .before .before .before .before .before .before .before .before .before .before .before .before .args .g) (P .1 .1 .1), (c .before .before .before .before .before .before .before .before .before .before .before .before .front .ensures .0, s .marks)))))))
+disturb-requires c κs = let P = c .before .before .before .before .before .before .before .before .before .before .before .before .before .before .before .before .before .before .before .before .before .before .before .before .before .before .before .before .before .before .before .before .before .before .before .pre in let co = P .0 in let s = P .1 .0 in (co .market, (co .hopping, (co .indexed, (words co s, (c .before .before .before .before .before .before .before .before .before .before .before .before .before .before .front .ensures .1 .1, (co .main .route .inside (c .before .before .before .before .before .before .before .before .before .before .before .before .before .before .before .before .before .before .before .before .before .before .before .before .before .before .before .before .before .before .before .before .before .before .before .args .g) (P .1 .1 .1), (c .before .before .before .before .before .before .before .before .before .before .before .before .before .before .front .ensures .0, s .marks)))))))
 
 add-t27 : tie.Need-add-t27
-add-t27 c = omega (arith, c .before .before .before .before .before .before .before .before .before .before .before .before .before .before .before .before .before .before .before .before .before .before .before .before .before .before .before .before .before .before .before .before .before .before .before .before .before .before .before .before .pre .1 .1 .1, c .before .before .before .before .before .before .before .before .before .before .before .before .before .before .before .before .before .before .before .before .before .before .before .before .before .before .before .before .before .before .before .before .before .before .before .before .before .before .before .before .pre .0 .main .route .most)
+add-t27 c = omega (arith, c .before .before .before .before .before .before .before .before .before .before .before .before .before .before .before .before .before .before .before .before .before .before .before .before .before .before .before .before .before .before .before .before .before .before .before .before .before .before .before .before .before .before .before .before .pre .1 .1 .1, c .before .before .before .before .before .before .before .before .before .before .before .before .before .before .before .before .before .before .before .before .before .before .before .before .before .before .before .before .before .before .before .before .before .before .before .before .before .before .before .before .before .before .before .before .pre .0 .main .route .most)
 
 same-length-16 : tie.Need-same-length-16
 same-length-16 c = search needs
@@ -133,7 +133,7 @@ same-length-20 : tie.Need-same-length-20
 same-length-20 c = search needs
 
 returns-4 : tie.Need-returns-4
-returns-4 c = let P = c .before .before .before .before .before .before .before .before .before .before .before .before .before .before .before .before .before .before .before .before .before .before .before .before .before .before .before .before .before .before .before .before .before .before .before .before .before .before .before .before .pre in let co = P .0 in let s = P .1 .0 in skip-goes co (fronted co s (c .before .before .before .before .before .before .before .before .before .before .before .before .before .before .before .before .before .before .before .front .ensures .0) (c .before .before .before .before .before .before .before .before .before .before .before .before .before .before .before .before .before .before .before .front .ensures .1)) (P .1 .1 .1) (c .before .before .before .before .before .before .disturb .ensures .0) (c .before .before .before .before .before .before .disturb .kept .1 .1 .1 .1 .1 .1 .1 .1 .1 .1 .0) (c .before .before .before .before .before .before .disturb .ensures .1)
+returns-4 c = let P = c .before .before .before .before .before .before .before .before .before .before .before .before .before .before .before .before .before .before .before .before .before .before .before .before .before .before .before .before .before .before .before .before .before .before .before .before .before .before .before .before .before .before .before .before .pre in let co = P .0 in let s = P .1 .0 in skip-goes co (fronted co s (c .before .before .before .before .before .before .before .before .before .before .before .before .before .before .before .before .before .before .before .before .before .before .before .front .ensures .0) (c .before .before .before .before .before .before .before .before .before .before .before .before .before .before .before .before .before .before .before .before .before .before .before .front .ensures .1 .0) (c .before .before .before .before .before .before .before .before .before .before .before .before .before .before .before .before .before .before .before .before .before .before .before .front .ensures .1 .1)) (P .1 .1 .1) (c .before .before .before .before .before .before .before .before .disturb .ensures .0) (c .before .before .before .before .before .before .before .before .disturb .kept .1 .1 .1 .1 .1 .1 .1 .1 .1 .1 .0) (c .before .before .before .before .before .before .before .before .disturb .ensures .1 .0) (c .before .before .before .before .before .before .before .before .disturb .ensures .1 .1)
 
 pub along-spec : {M : Type 1} → statement M
 along-spec =

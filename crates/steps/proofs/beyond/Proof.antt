@@ -19,7 +19,7 @@ front-requires : tie.Need-front-requires
 front-requires c κs = let P = c .before .before .before .before .before .before .before .before .before .before .before .before .before .before .before .pre in let co = P .0 in let s = P .1 .0 in (co .market, (co .hopping, (words co s, (s .counted, (s .tree, (knows (inside co) (co .market .words) (s .follow .strayed), (omega arith, (omega arith, omega arith))))))))
 
 other-requires : tie.Need-other-requires
-other-requires c κs = let P = c .before .before .before .before .before .before .before .before .before .before .before .before .before .before .before .before .before .before .before .before .before .before .before .before .before .before .pre in let co = P .0 in let s = P .1 .0 in (co, (fronted co s (c .before .before .before .before .before .before .before .before .before .before .front .ensures .0) (c .before .before .before .before .before .before .before .before .before .before .front .ensures .1), (P .1 .1 .0, takes-last co (s .follow) (c .before .before .before .before .before .before .before .before .before .before .front .ensures .1) (not-clear false _ (λ e. c .before .before .before .before .before .before .before .before .before .before .front .ensures .1 .clear-of e .0) refl) (c .before .before .before .before .before .if1 .taken) (P .1 .1 .1))))
+other-requires c κs = let P = c .before .before .before .before .before .before .before .before .before .before .before .before .before .before .before .before .before .before .before .before .before .before .before .before .before .before .before .before .pre in let co = P .0 in let s = P .1 .0 in (co, (fronted co s (c .before .before .before .before .before .before .before .before .before .before .before .before .front .ensures .0) (c .before .before .before .before .before .before .before .before .before .before .before .before .front .ensures .1 .0) (c .before .before .before .before .before .before .before .before .before .before .before .before .front .ensures .1 .1), (P .1 .1 .0, takes-last co (s .follow) (c .before .before .before .before .before .before .before .before .before .before .before .before .front .ensures .1 .0) (not-clear false _ (λ e. c .before .before .before .before .before .before .before .before .before .before .before .before .front .ensures .1 .0 .clear-of e .0) refl) (c .before .before .before .before .before .if1 .taken) (P .1 .1 .1))))
 
 same-length : tie.Need-same-length
 same-length c = search needs
@@ -52,7 +52,7 @@ same-length-9 : tie.Need-same-length-9
 same-length-9 c = search needs
 
 returns-2 : tie.Need-returns-2
-returns-2 c = let P = c .before .before .before .before .before .before .before .before .before .before .before .before .before .before .before .before .before .before .before .before .before .pre in let co = P .0 in let s = P .1 .0 in over-goes co s (c .before .before .before .before .before .front .ensures .0) (c .before .before .before .before .before .front .ensures .1) (not-clear false _ (λ e. c .before .before .before .before .before .front .ensures .1 .clear-of e .0) refl) (c .if1 .left) (P .1 .1 .1)
+returns-2 c = let P = c .before .before .before .before .before .before .before .before .before .before .before .before .before .before .before .before .before .before .before .before .before .before .before .pre in let co = P .0 in let s = P .1 .0 in over-goes co s (c .before .before .before .before .before .before .before .front .ensures .0) (c .before .before .before .before .before .before .before .front .ensures .1 .0) (not-clear false _ (λ e. c .before .before .before .before .before .before .before .front .ensures .1 .0 .clear-of e .0) refl) (c .if1 .left) (P .1 .1 .1)
 
 pub beyond-spec : {M : Type 1} → statement M
 beyond-spec =
