@@ -279,8 +279,9 @@ pub fn award(
     ensures { λ r. ⌜ Settled (wins (has (now (masks .entry)) w) (now (prices .entry)) (cells count)) (roundsPaid (has (now (masks .entry)) w) (now (prices .entry)) (cells count))
         (now (prices .entry)) (now (won .entry)) (now (cents .entry)) (now (won .exit)) (now (cents .exit)) (r .cost) (r .paid) ⌝ }
 {
-    let mut order = [0u64; 10080];
-    let mut gains = [0u64; 10080];
+    // Written before they are read: ones are stored in place, zeros by a call of the library.
+    let mut order = [1u64; 10080];
+    let mut gains = [1u64; 10080];
     let mut hop = [0u8; 158000];
     let mut index = [0u64; 2528];
     let mut held = [0u64; 158];
