@@ -42,7 +42,7 @@ fn multi_in(
     cents: &mut [u64],
 ) -> Answer
     requires { ⌜ (faultOf Multi tender (length (now prices)) (now bids) (now windows) ≡ none) × ((w ≡ (cellsOf tender + 63) / 64) × ((length (now masks) ≡ w * length (now prices))
-        × (((i : ℕ) → getD (now masks) i 0 ≡ 0) × ((length (now prices) ≤ length (now won)) × (length (now prices) ≤ length (now cents)))))) ⌝ }
+        × ((length (now prices) ≤ length (now won)) × (length (now prices) ≤ length (now cents))))) ⌝ }
     ensures { λ r. ⌜ PlainPromise Multi tender (length (now (prices .entry))) (now (bids .entry)) (now (windows .entry)) (length (now (prices .entry)))
         (now (won .entry)) (now (cents .entry)) (now (won .exit)) (now (cents .exit)) r ⌝ }
 {
@@ -81,8 +81,8 @@ fn settle_multi(
     let window = tender.window;
     let w = ((window.end - window.start) as usize + 63) / 64;
     let all = w * count;
-    let mut prices = [0u64; 1000];
-    let mut masks = [0u64; 158000];
+    let mut prices = [1u64; 1000];
+    let mut masks = [1u64; 158000];
     multi_in(
         tender,
         w,
@@ -142,9 +142,9 @@ fn settle_single(
     requires { ⌜ (faultOf Single tender count (now bids) (now windows) ≡ none) × ((count ≤ length (now won)) × (count ≤ length (now cents))) ⌝ }
     ensures { λ r. ⌜ PlainPromise Single tender count (now (bids .entry)) (now (windows .entry)) count (now (won .entry)) (now (cents .entry)) (now (won .exit)) (now (cents .exit)) r ⌝ }
 {
-    let mut prices = [0u64; 1000];
-    let mut starts = [0u64; 1000];
-    let mut ends = [0u64; 1000];
+    let mut prices = [1u64; 1000];
+    let mut starts = [1u64; 1000];
+    let mut ends = [1u64; 1000];
     single_in(
         tender,
         bids,

@@ -151,9 +151,6 @@ fn count_back(words: &[u64], counts: &mut [u64], q: usize)
 fn ones_of(x: u64) -> u64
     ensures { λ r. ⌜ (r ≡ ones x) × (r ≤ 64) ⌝ }
 {
-    if x == 0 {
-        return 0;
-    }
     u64::count_ones(x) as u64
 }
 
@@ -172,8 +169,13 @@ pub fn reach(held: &[u64], counts: &mut [u64], mask: &[u64], hop: &[u8]) -> u64
             sum += counts[e] - counts[q];
             q = e;
         } else {
-            sum += ones_of(held[q] & m);
-            q = e;
+            let x = held[q] & m;
+            if x == 0 {
+                q = e;
+            } else {
+                sum += ones_of(x);
+                q = e;
+            }
         }
     }
     sum

@@ -1,5 +1,5 @@
-// Two tables of the bids' words: `chart` gives from each word of a bid on the next that matters, past a gap with no cell or a run with
-// all of them; `enlist` gives for each word the bids that have a cell there.
+// Two tables over the bids' words. `chart` writes the hop from each word of a bid: past the words that follow with no cell, or, from a
+// word that has all its cells, past those that have all theirs. `enlist` writes for each word the bids that have a cell there.
 ghost use mathlib.Core.Path.{_≡_};
 ghost use Prim.Native.Nat.{_+_, _*_, _<_, _≤_};
 ghost use lib.ListN.{length};

@@ -1,6 +1,6 @@
 // A bid taken in the run without bid k, which follows the main run as written down. `take` closes the bid's cells and raises the highest
 // price at which k would be taken before it; `both` is the step where the two runs take the bid, `other` the step where the run without k
-// alone does, and marks the bids that share an open cell with it. `ahead` says which of two bids comes first.
+// alone does, and marks the bids that share an open cell with it. `ahead` says whether a bid is there and comes before another.
 ghost use mathlib.Core.Path.{_≡_};
 ghost use mathlib.Core.Bool.{true};
 ghost use Prim.Native.Nat.{_+_, _*_, _<_, _≤_, max};

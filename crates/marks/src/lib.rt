@@ -1,5 +1,5 @@
 // The bids whose open cells may differ between the main run and the run without one bid: those that share an open cell with a bid that
-// the two runs do not take alike. `disturb` marks those of one bid, and counts the open cells of each anew.
+// the two runs do not take alike. `disturb` marks the bids that share one with a given bid, each with the open cells that it has.
 ghost use mathlib.Core.Path.{_≡_};
 ghost use Prim.Native.Nat.{_<_};
 ghost use lib.ListN.{length};

@@ -85,7 +85,7 @@ pub fn limit_in(
     let mut mine = gains[h];
     let mut top: u64 = 0;
     while 0 < mine {
-        let s = steps::step(
+        let s = walk::step(
             prices,
             masks,
             hop,

@@ -15,7 +15,7 @@ use Rattle.award.proofs.single_in.Reads as single-in-reads
 
 -- src/lib.rt:142:9
 array-borrow-prefix-prices : tie.Need-array-borrow-prefix-prices
-array-borrow-prefix-prices c = omega (arith, orderly Single (c .before .before .before .before .args .tender) (c .before .before .before .before .args .count) (c .before .before .before .before .args .bids .now) (c .before .before .before .before .args .windows .now) (c .before .before .before .before .pre .0) .few, length-replicate {A = ℕ} 1000 0)
+array-borrow-prefix-prices c = omega (arith, orderly Single (c .before .before .before .before .args .tender) (c .before .before .before .before .args .count) (c .before .before .before .before .args .bids .now) (c .before .before .before .before .args .windows .now) (c .before .before .before .before .pre .0) .few, length-replicate {A = ℕ} 1000 1)
 
 -- src/lib.rt:142:9
 slice-aggregate-single-in : tie.Need-slice-aggregate-single-in
@@ -23,7 +23,7 @@ slice-aggregate-single-in c = sym (prefix-length (c .before .before .before .bef
 
 -- src/lib.rt:143:9
 array-borrow-prefix-starts : tie.Need-array-borrow-prefix-starts
-array-borrow-prefix-starts c = omega (arith, orderly Single (c .before .before .before .before .before .args .tender) (c .before .before .before .before .before .args .count) (c .before .before .before .before .before .args .bids .now) (c .before .before .before .before .before .args .windows .now) (c .before .before .before .before .before .pre .0) .few, length-replicate {A = ℕ} 1000 0)
+array-borrow-prefix-starts c = omega (arith, orderly Single (c .before .before .before .before .before .args .tender) (c .before .before .before .before .before .args .count) (c .before .before .before .before .before .args .bids .now) (c .before .before .before .before .before .args .windows .now) (c .before .before .before .before .before .pre .0) .few, length-replicate {A = ℕ} 1000 1)
 
 -- src/lib.rt:143:9
 slice-aggregate-single-in-2 : tie.Need-slice-aggregate-single-in-2
@@ -31,7 +31,7 @@ slice-aggregate-single-in-2 c = sym (prefix-length (c .before .before .before .b
 
 -- src/lib.rt:144:9
 array-borrow-prefix-ends : tie.Need-array-borrow-prefix-ends
-array-borrow-prefix-ends c = omega (arith, orderly Single (c .before .before .before .before .before .before .args .tender) (c .before .before .before .before .before .before .args .count) (c .before .before .before .before .before .before .args .bids .now) (c .before .before .before .before .before .before .args .windows .now) (c .before .before .before .before .before .before .pre .0) .few, length-replicate {A = ℕ} 1000 0)
+array-borrow-prefix-ends c = omega (arith, orderly Single (c .before .before .before .before .before .before .args .tender) (c .before .before .before .before .before .before .args .count) (c .before .before .before .before .before .before .args .bids .now) (c .before .before .before .before .before .before .args .windows .now) (c .before .before .before .before .before .before .pre .0) .few, length-replicate {A = ℕ} 1000 1)
 
 -- src/lib.rt:144:9
 slice-aggregate-single-in-3 : tie.Need-slice-aggregate-single-in-3

@@ -42,13 +42,13 @@ award-in-requires : tie.Need-award-in-requires
 award-in-requires c κs = let P = c .before .before .before .before .before .before .before .before .before .before .before .before .before .before .before .before .pre in (P .0, (P .1 .1 .0, (P .1 .1 .1 .0, (P .1 .0, (P .1 .0, (omega arith, (omega arith, (omega arith, (omega arith, (omega arith, (refl, (refl, (refl, P .1 .1 .1 .1)))))))))))))
 
 same-length : tie.Need-same-length
-same-length c = c .before .before .before .before .before .before .before .before .before .before .before .before .before .before .award-in .kept .1 .1 .1 .1 .1 .1 .1 .1 .1 .1 .1 .1 .1 .1 .0
+same-length c = search needs
 
 same-length-2 : tie.Need-same-length-2
-same-length-2 c = c .before .before .before .before .before .before .before .before .before .before .before .before .before .before .award-in .kept .1 .1 .1 .1 .1 .1 .1 .1 .1 .1 .1 .1 .1 .1 .1 .0
+same-length-2 c = search needs
 
 returns : tie.Need-returns
-returns c = c .before .before .before .before .before .before .before .before .before .before .before .before .before .before .award-in .ensures
+returns c = search needs
 
 pub award-spec : {M : Type 1} → statement M
 award-spec =

@@ -65,10 +65,10 @@ settle-requires : tie.Need-settle-requires
 settle-requires c κs = let P = c .before .before .before .before .before .before .before .before .before .before .before .before .before .before .before .before .before .before .before .before .before .before .before .before .before .before .pre in let A = c .before .before .before .before .before .before .before .before .before .before .before .before .before .before .before .before .before .before .before .before .before .before .before .before .before .before .args in (P .0, (P .1 .0, (P .1 .1 .0, (P .1 .1 .1 .0, (P .1 .1 .1 .1 .0, (length-take-le _ (A .hop .now) (omega (arith, product (A .w) (length (A .prices .now)) 158 1000 (P .0 .words) (P .0 .priced .count), P .0 .size, P .1 .1 .1 .1 .1 .0)), (length-take-le _ (A .index .now) (omega (arith, P .0 .words, P .1 .1 .1 .1 .1 .1 .0)), (length-take-le _ (A .held .now) (omega (arith, P .0 .words, P .1 .1 .1 .1 .1 .1 .1 .0)), (length-take-le _ (A .alt .now) (omega (arith, P .0 .words, P .1 .1 .1 .1 .1 .1 .1 .1 .0)), (length-take-le _ (A .counts .now) (omega (arith, P .0 .words, P .1 .1 .1 .1 .1 .1 .1 .1 .1 .0)), (P .1 .1 .1 .1 .1 .1 .1 .1 .1 .1 .0, (P .1 .1 .1 .1 .1 .1 .1 .1 .1 .1 .1 .0, (P .1 .1 .1 .1 .1 .1 .1 .1 .1 .1 .1 .1 .0, (length-take-le _ (A .won .now) (P .1 .1 .1 .1 .1 .1 .1 .1 .1 .1 .1 .1 .1 .0), length-take-le _ (A .cents .now) (P .1 .1 .1 .1 .1 .1 .1 .1 .1 .1 .1 .1 .1 .1)))))))))))))))
 
 same-length : tie.Need-same-length
-same-length c = c .before .before .before .before .before .before .before .before .before .before .before .before .before .before .before .before .before .before .before .before .before .before .before .before .settle .kept .1 .1 .1 .1 .0
+same-length c = search needs
 
 same-length-2 : tie.Need-same-length-2
-same-length-2 c = c .before .before .before .before .before .before .before .before .before .before .before .before .before .before .before .before .before .before .before .before .before .before .before .before .settle .kept .1 .1 .1 .1 .1 .0
+same-length-2 c = search needs
 
 same-length-3 : tie.Need-same-length-3
 same-length-3 c = let P = c .before .before .before .before .before .before .before .before .before .before .before .before .before .before .before .before .before .before .before .before .before .before .before .before .before .before .before .before .before .before .before .before .before .before .before .before .before .before .before .before .before .before .before .before .before .before .before .before .before .before .before .pre in let A = c .before .before .before .before .before .before .before .before .before .before .before .before .before .before .before .before .before .before .before .before .before .before .before .before .before .before .before .before .before .before .before .before .before .before .before .before .before .before .before .before .before .before .before .before .before .before .before .before .before .before .before .args in let i : length (A .masks .now) ≤ length (A .hop .now) = omega (arith, product (A .w) (length (A .prices .now)) 158 1000 (P .0 .words) (P .0 .priced .count), P .0 .size, P .1 .1 .1 .1 .1 .0) in simp (length-append, length-drop) (omega (arith, c .before .before .before .before .before .before .before .before .before .before .before .before .before .before .before .before .before .before .before .before .before .before .before .before .settle .kept .1 .1 .1 .1 .1 .1 .0 ∙ length-take-le (length (A .masks .now)) (A .hop .now) i))
@@ -86,13 +86,13 @@ same-length-7 : tie.Need-same-length-7
 same-length-7 c = search needs
 
 same-length-8 : tie.Need-same-length-8
-same-length-8 c = c .before .before .before .before .before .before .before .before .before .before .before .before .before .before .before .before .before .before .before .before .before .before .before .before .settle .kept .1 .1 .1 .1 .1 .1 .1 .1 .1 .1 .1 .0
+same-length-8 c = search needs
 
 same-length-9 : tie.Need-same-length-9
-same-length-9 c = c .before .before .before .before .before .before .before .before .before .before .before .before .before .before .before .before .before .before .before .before .before .before .before .before .settle .kept .1 .1 .1 .1 .1 .1 .1 .1 .1 .1 .1 .1 .0
+same-length-9 c = search needs
 
 same-length-10 : tie.Need-same-length-10
-same-length-10 c = c .before .before .before .before .before .before .before .before .before .before .before .before .before .before .before .before .before .before .before .before .before .before .before .before .settle .kept .1 .1 .1 .1 .1 .1 .1 .1 .1 .1 .1 .1 .1 .0
+same-length-10 c = search needs
 
 same-length-11 : tie.Need-same-length-11
 same-length-11 c = search needs

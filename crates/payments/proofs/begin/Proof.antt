@@ -24,10 +24,10 @@ count-none-requires : tie.Need-count-none-requires
 count-none-requires c κs = let P = c .before .before .before .before .before .before .before .before .before .before .before .before .before .before .before .before .before .before .pre in let e = c .before .before .before .before .copy .kept .1 .0 ∙ P .1 .1 .0 in (P .1 .1 .1 .0 ∙ ap (λ (x : ℕ). x + 2) (sym e), omega (arith, e, P .0 .market .words))
 
 clear-requires : tie.Need-clear-requires
-clear-requires c κs = tt
+clear-requires c κs = search needs
 
 clear-requires-2 : tie.Need-clear-requires-2
-clear-requires-2 c κs = tt
+clear-requires-2 c κs = search needs
 
 add-requires : tie.Need-add-requires
 add-requires c κs = let P = c .before .before .before .before .before .before .before .before .before .before .before .before .before .before .before .before .before .before .before .before .before .before .before .before .before .before .before .before .before .before .pre in omega (arith, inside (P .0), P .0 .market .priced .count, c .before .before .before .clear2 .kept .0, P .1 .1 .1 .1 .1)
@@ -36,19 +36,19 @@ disturb-requires : tie.Need-disturb-requires
 disturb-requires c κs = let P = c .before .before .before .before .before .before .before .before .before .before .before .before .before .before .before .before .before .before .before .before .before .before .before .before .before .before .before .before .before .before .before .before .before .before .before .before .before .before .pre in let co = P .0 in (co .market, (co .hopping, (co .indexed, (c .before .before .before .before .before .before .before .before .before .before .before .before .before .before .before .before .before .before .before .before .before .before .before .before .copy .kept .1 .0 ∙ P .1 .1 .0, (c .before .before .before .before .before .before .before .before .before .before .before .before .before .before .before .before .before .before .before .count-none .ensures, (inside co, (emptied (P .1 .1 .1 .1 .0) (c .before .before .before .before .before .before .before .before .before .before .before .before .before .before .before .clear .kept .0 ∙ P .1 .1 .1 .1 .0 .seats .numbers) (c .before .before .before .before .before .before .before .before .before .before .before .before .before .before .before .clear .ensures .none), c .before .before .before .before .before .before .before .add .kept .0 ∙ c .before .before .before .before .before .before .before .before .before .before .before .clear2 .kept .0 ∙ P .1 .1 .1 .1 .1)))))))
 
 same-length : tie.Need-same-length
-same-length c = c .before .before .before .before .before .before .before .before .before .before .before .before .before .before .before .before .before .before .before .before .before .before .before .before .before .before .before .before .before .before .before .copy .kept .1 .0
+same-length c = search needs
 
 same-length-2 : tie.Need-same-length-2
-same-length-2 c = c .before .before .before .before .before .before .before .before .before .before .before .before .before .before .before .before .before .before .before .before .before .before .before .before .before .before .count .kept .1 .0
+same-length-2 c = search needs
 
 same-length-3 : tie.Need-same-length-3
-same-length-3 c = c .before .before .before .before .before .before .disturb .kept .1 .1 .1 .1 .1 .1 .1 .1 .0
+same-length-3 c = search needs
 
 same-length-4 : tie.Need-same-length-4
-same-length-4 c = c .before .before .before .before .before .before .disturb .kept .1 .1 .1 .1 .1 .1 .1 .1 .1 .0 ∙ c .before .before .before .before .before .before .before .before .before .before .before .before .before .before .before .before .before .before .before .before .before .before .clear .kept .0
+same-length-4 c = search needs
 
 same-length-5 : tie.Need-same-length-5
-same-length-5 c = c .before .before .before .before .before .before .disturb .kept .1 .1 .1 .1 .1 .1 .1 .1 .1 .1 .0 ∙ c .before .before .before .before .before .before .before .before .before .before .before .before .before .before .add .kept .0 ∙ c .before .before .before .before .before .before .before .before .before .before .before .before .before .before .before .before .before .before .clear2 .kept .0
+same-length-5 c = search needs
 
 returns : tie.Need-returns
 returns c = let P = c .before .before .before .before .before .before .before .before .before .before .before .before .before .before .before .before .before .before .before .before .before .before .before .before .before .before .before .before .before .before .before .before .before .before .before .before .before .before .before .before .before .before .before .before .before .before .before .pre in let co = P .0 in let t = c .before .before .before .before .before .before .before .before .disturb .ensures .0 in record { follow = rw (c .before .before .before .before .before .before .before .before .before .before .before .before .before .before .before .before .before .before .before .before .before .before .before .before .before .before .before .before .before .before .before .before .before .copy .ensures) (starts co (P .1 .0) (λ i. known-at _ i ∙ c .before .before .before .before .before .before .before .before .before .before .before .before .before .before .before .before .before .before .before .before .before .before .before .before .clear .ensures .none _) (c .before .before .before .before .before .before .before .before .before .before .before .before .before .before .before .before .before .before .before .before .clear2 .ensures) (c .before .before .before .before .before .before .before .before .before .before .before .before .before .before .before .before .add .ensures) (sized-of t) (rw (c .before .before .before .before .before .before .before .before .before .before .before .before .before .before .before .before .before .before .before .before .before .before .before .before .before .before .before .before .before .before .before .before .before .copy .ensures) at (c .before .before .before .before .before .before .before .before .disturb .ensures .1 .0))); tree = t; counted = c .before .before .before .before .before .before .before .before .disturb .ensures .1 .1; marks = c .before .before .before .before .before .before .before .before .disturb .kept .1 .1 .1 .1 .1 .1 .1 .1 .1 .1 .0 ∙ c .before .before .before .before .before .before .before .before .before .before .before .before .before .before .before .before .add .kept .0 ∙ c .before .before .before .before .before .before .before .before .before .before .before .before .before .before .before .before .before .before .before .before .clear2 .kept .0 ∙ P .1 .1 .1 .1 .1 }

@@ -11,7 +11,7 @@ use Rattle.payments.proofs.limit_in.Tie as tie
 use Rattle.payments.proofs.limit_in.Reads as reads
 use Rattle.payments.proofs.limit_in.Lts as lts
 use Rattle.payments.proofs.begin.Reads as begin-reads
-use Rattle.steps.proofs.step.Reads as step-reads
+use Rattle.walk.proofs.step.Reads as step-reads
 
 abbrev Inv-loop : tie.InvT-loop
 Inv-loop prices masks hop index w count order gains rounds h k held alt₀ counts₀ who₀ num₀ mark₀ g₀ mine₀ top₀ alt counts who num mark g mine top = Walking prices masks w count order gains rounds h k alt counts who num mark top mine g

@@ -1,6 +1,6 @@
--- `steps::beyond` meets its contract: the first of the marked bids is taken, and without one the run is over. Assumes nothing.
+-- `walk::beyond` meets its contract: the first of the marked bids is taken, and without one the run is over. Assumes nothing.
 use Prim.Native.Nat.{_-_}
-use mathlib.Core.Path.{refl, _∙_}
+use mathlib.Core.Path.{refl}
 use mathlib.Core.Bool.{false}
 use native.Mathlib.Omega.{arith}
 use Rattle.rounds.proofs.Fronting.{not-clear}
@@ -8,10 +8,10 @@ use Rattle.follow.proofs.Strayed.{knows}
 use Rattle.follow.proofs.Following.{inside, takes-last}
 use Rattle.follow.proofs.Stepping.{words, fronted, over-goes}
 use borrow.Author.Needs.{needs}
-use Rattle.steps.proofs.beyond.Statement.{statement}
-use Rattle.steps.proofs.beyond.Tie as tie
-use Rattle.steps.proofs.beyond.Reads as reads
-use Rattle.steps.proofs.beyond.Lts as lts
+use Rattle.walk.proofs.beyond.Statement.{statement}
+use Rattle.walk.proofs.beyond.Tie as tie
+use Rattle.walk.proofs.beyond.Reads as reads
+use Rattle.walk.proofs.beyond.Lts as lts
 use Rattle.follow.proofs.other.Reads as other-reads
 use Rattle.rounds.proofs.front.Reads as front-reads
 
@@ -22,34 +22,34 @@ other-requires : tie.Need-other-requires
 other-requires c κs = let P = c .before .before .before .before .before .before .before .before .before .before .before .before .before .before .before .before .before .before .before .before .before .before .before .before .before .before .before .before .pre in let co = P .0 in let s = P .1 .0 in (co, (fronted co s (c .before .before .before .before .before .before .before .before .before .before .before .before .front .ensures .0) (c .before .before .before .before .before .before .before .before .before .before .before .before .front .ensures .1 .0) (c .before .before .before .before .before .before .before .before .before .before .before .before .front .ensures .1 .1), (P .1 .1 .0, takes-last co (s .follow) (c .before .before .before .before .before .before .before .before .before .before .before .before .front .ensures .1 .0) (not-clear false _ (λ e. c .before .before .before .before .before .before .before .before .before .before .before .before .front .ensures .1 .0 .clear-of e .0) refl) (c .before .before .before .before .before .if1 .taken) (P .1 .1 .1))))
 
 same-length : tie.Need-same-length
-same-length c = c .before .before .before .before .before .before .before .before .before .before .other .kept .1 .1 .1 .1 .1 .1 .1 .1 .1 .1 .1 .1 .1 .1 .1 .1 .1 .0
+same-length c = search needs
 
 same-length-2 : tie.Need-same-length-2
-same-length-2 c = c .before .before .before .before .before .before .before .before .before .before .other .kept .1 .1 .1 .1 .1 .1 .1 .1 .1 .1 .1 .1 .1 .1 .1 .1 .1 .1 .0
+same-length-2 c = search needs
 
 same-length-3 : tie.Need-same-length-3
-same-length-3 c = c .before .before .before .before .before .before .before .before .before .before .other .kept .1 .1 .1 .1 .1 .1 .1 .1 .1 .1 .1 .1 .1 .1 .1 .1 .1 .1 .1 .0 ∙ c .before .before .before .before .before .before .before .before .before .before .before .before .before .before .before .before .before .before .before .before .before .front .kept .1 .1 .1 .1 .1 .1 .0
+same-length-3 c = search needs
 
 same-length-4 : tie.Need-same-length-4
-same-length-4 c = c .before .before .before .before .before .before .before .before .before .before .other .kept .1 .1 .1 .1 .1 .1 .1 .1 .1 .1 .1 .1 .1 .1 .1 .1 .1 .1 .1 .1 .0 ∙ c .before .before .before .before .before .before .before .before .before .before .before .before .before .before .before .before .before .before .before .before .before .front .kept .1 .1 .1 .1 .1 .1 .1 .0
+same-length-4 c = search needs
 
 same-length-5 : tie.Need-same-length-5
-same-length-5 c = c .before .before .before .before .before .before .before .before .before .before .other .kept .1 .1 .1 .1 .1 .1 .1 .1 .1 .1 .1 .1 .1 .1 .1 .1 .1 .1 .1 .1 .1 .0
+same-length-5 c = search needs
 
 returns : tie.Need-returns
-returns c = c .before .before .before .before .before .before .before .before .before .before .other .ensures
+returns c = search needs
 
 same-length-6 : tie.Need-same-length-6
-same-length-6 c = refl
+same-length-6 c = search needs
 
 same-length-7 : tie.Need-same-length-7
-same-length-7 c = refl
+same-length-7 c = search needs
 
 same-length-8 : tie.Need-same-length-8
-same-length-8 c = c .before .before .before .before .before .front .kept .1 .1 .1 .1 .1 .1 .0
+same-length-8 c = search needs
 
 same-length-9 : tie.Need-same-length-9
-same-length-9 c = c .before .before .before .before .before .front .kept .1 .1 .1 .1 .1 .1 .1 .0
+same-length-9 c = search needs
 
 returns-2 : tie.Need-returns-2
 returns-2 c = let P = c .before .before .before .before .before .before .before .before .before .before .before .before .before .before .before .before .before .before .before .before .before .before .before .pre in let co = P .0 in let s = P .1 .0 in over-goes co s (c .before .before .before .before .before .before .before .front .ensures .0) (c .before .before .before .before .before .before .before .front .ensures .1 .0) (not-clear false _ (λ e. c .before .before .before .before .before .before .before .front .ensures .1 .0 .clear-of e .0) refl) (c .if1 .left) (P .1 .1 .1)

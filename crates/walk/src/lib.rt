@@ -170,7 +170,7 @@ fn beyond(
     }
 }
 
-// One step.
+// One step, along the written run or past its end.
 pub fn step(
     prices: &[u64],
     masks: &[u64],
