@@ -3,13 +3,10 @@ pub mod Gain
 pub mod Plain
 pub mod Right
 pub mod Demands
-pub mod WorkedCases
-pub mod Worked
 pub mod GainLaws
 pub mod SettleLaws
 pub mod AwardLaws
 pub mod Answered
-pub mod FaultCases
 pub mod OutcomeLaws
 pub mod OneAnswerLaws
 pub mod TextOutcomes
