@@ -1,5 +1,2 @@
-pub mod Multi
-pub mod Prefix
-pub mod Single
 pub mod LocalArray
 pub mod PassesKind

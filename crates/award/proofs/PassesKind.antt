@@ -44,13 +44,13 @@ use Rattle.tender.proofs.Kind as Kin
 use Rattle.tender.proofs.Kind.Laws as Kin′
 use Rattle.tender.proofs.Tender as Ten
 use Rattle.tender.proofs.Tender.Laws as Ten′
-use Rattle.award.specs.declared.Answer.{Answer}
-use Rattle.award.specs.declared.AwardRow.{AwardRow}
-use Rattle.award.specs.Award.{Promise}
-use Rattle.award.proofs.Answer as Ans
-use Rattle.award.proofs.Answer.Laws as Ans′
-use Rattle.award.proofs.AwardRow as Row
-use Rattle.award.proofs.AwardRow.Laws as Row′
+use Rattle.tender.specs.declared.Answer.{Answer}
+use Rattle.tender.specs.declared.AwardRow.{AwardRow}
+use Rattle.outcome.specs.Award.{Promise}
+use Rattle.tender.proofs.Answer as Ans
+use Rattle.tender.proofs.Answer.Laws as Ans′
+use Rattle.tender.proofs.AwardRow as Row
+use Rattle.tender.proofs.AwardRow.Laws as Row′
 use Rattle.award.proofs.award_in as award
 use Rattle.award.proofs.award_in.Symbol.{name as #award·award-in}
 use Rattle.award.proofs.award_single as f

@@ -10,15 +10,15 @@ use lib.Dec.{ltb, leb}
 use borrow.Author.Tests.{leb-true, leb-false}
 use Rattle.tender.specs.declared.Kind.{Kind}
 use Rattle.tender.specs.declared.Tender.{Tender}
+use Rattle.tender.specs.declared.Refusal.the-variants.{BadTables, RowsTooFew, MinuteUncovered, OneBidder}
 use Rattle.tender.specs.Tables.{rowsOf}
 use Rattle.cover.specs.Sets.{all, bidders, each}
 use Rattle.cover.specs.SetLaws.{all-at}
 use Rattle.tables.specs.Faults.{faultOf}
 use Rattle.tables.specs.Cells.{cellsOf, hasOf, pricesOf}
-use Rattle.tables.specs.AlikeLaws.{rows-length, prices-length}
-use Rattle.award.specs.Award.{Outcome, awarded, refused, filled, costOf, paidOf, settled, awardOf, number, place, InBids, Answers}
-use Rattle.award.specs.SettleLaws.{settled-is}
-use Rattle.award.specs.AwardLaws.{award-none, award-nine}
+use Rattle.tables.specs.AlikeLaws.{prices-count}
+use Rattle.outcome.specs.Award.{Outcome, awarded, declined, filled, costOf, paidOf, settled, awardOf, number, place, InBids, Answers}
+use Rattle.outcome.specs.AwardLaws.{settled-is, award-none, award-nine}
 
 pub record Failing (P : ℕ → Bool) (L : ℕ) : Type 0 where
   pub at : ℕ
@@ -52,10 +52,10 @@ module _ (k : Kind) (t : Tender) (n : ℕ) (bids windows : List ℕ) (lent : ℕ
       record { from = omega arith; to = omega arith; bids-with-it = ap (bidders has n) s ∙ e }
 
   settles : faultOf k t n bids windows ≡ none → ltb lent n ≡ false → (a b : Bool) → each has n (cellsOf t) 1 ≡ a → each has n (cellsOf t) 2 ≡ b → (m : ℕ) → awardOf k t n bids windows lent m
-      ≡ cond (not a) (refused 11 m) (cond (not b) (refused 12 m) (awarded (filled k has ps (cellsOf t)) (costOf k has ps (cellsOf t)) (paidOf k has ps (cellsOf t))))
+      ≡ cond (not a) (declined (MinuteUncovered m)) (cond (not b) (declined (OneBidder m)) (awarded (filled k has ps (cellsOf t)) (costOf k has ps (cellsOf t)) (paidOf k has ps (cellsOf t))))
   settles f g a b d e m =
-      let c : length ps ≡ n = prices-length (rowsOf n bids) ∙ rows-length n bids in
-      award-none k t n bids windows lent m f ∙ ap (λ z. cond z (refused 10 0) (settled k has ps (cellsOf t) m)) g ∙ settled-is k has ps (cellsOf t) m a b (rw c d) (rw c e)
+      let c : length ps ≡ n = prices-count n bids in
+      award-none k t n bids windows lent m f ∙ ap (λ z. cond z (declined RowsTooFew) (settled k has ps (cellsOf t) m)) g ∙ settled-is k has ps (cellsOf t) m a b (rw c d) (rw c e)
 
   pub answered : Answered k t n bids windows lent
   unfolding number place each
@@ -65,7 +65,7 @@ module _ (k : Kind) (t : Tender) (n : ℕ) (bids windows : List ℕ) (lent : ℕ
       cover f g false b d e =
           let w = failing (λ x. leb 1 (bidders has n x)) (cellsOf t) d in
           record {
-            outcome = refused 11 (t .window .start + w .at);
+            outcome = declined (MinuteUncovered (t .window .start + w .at));
             right = record {
               is = sym (settles f g false b d e (t .window .start + w .at));
               nobody = λ z. in-bids (w .at) 0 (w .below) (omega (arith, leb-false 1 (bidders has n (w .at)) (w .fails)));
@@ -76,7 +76,7 @@ module _ (k : Kind) (t : Tender) (n : ℕ) (bids windows : List ℕ) (lent : ℕ
           let w = failing (λ x. leb 2 (bidders has n x)) (cellsOf t) e in
           let o = leb-true 1 (bidders has n (w .at)) (all-at (λ x. leb 1 (bidders has n x)) (cellsOf t) d (w .at) (w .below)) in
           record {
-            outcome = refused 12 (t .window .start + w .at);
+            outcome = declined (OneBidder (t .window .start + w .at));
             right = record {
               is = sym (settles f g true false d e (t .window .start + w .at));
               nobody = λ z. absurd (omega arith);
@@ -90,9 +90,9 @@ module _ (k : Kind) (t : Tender) (n : ℕ) (bids windows : List ℕ) (lent : ℕ
 
       rows : faultOf k t n bids windows ≡ none → (b : Bool) → ltb lent n ≡ b → Answered k t n bids windows lent
       rows f true g = record {
-        outcome = refused 10 0;
+        outcome = declined RowsTooFew;
         right = record {
-          is = sym (award-none k t n bids windows lent 0 f ∙ ap (λ z. cond z (refused 10 0) (settled k has ps (cellsOf t) 0)) g);
+          is = sym (award-none k t n bids windows lent 0 f ∙ ap (λ z. cond z (declined RowsTooFew) (settled k has ps (cellsOf t) 0)) g);
           nobody = λ z. absurd (omega arith);
           alone = λ z. absurd (omega arith);
         };
@@ -102,6 +102,6 @@ module _ (k : Kind) (t : Tender) (n : ℕ) (bids windows : List ℕ) (lent : ℕ
       fault : (o : Option ℕ) → faultOf k t n bids windows ≡ o → Answered k t n bids windows lent
       fault none e = rows e (ltb lent n) refl
       fault (some p) e = record {
-        outcome = refused 9 p;
+        outcome = declined (BadTables p);
         right = record { is = sym (award-nine k t n bids windows lent p p e); nobody = λ z. absurd (omega arith); alone = λ z. absurd (omega arith) };
       }

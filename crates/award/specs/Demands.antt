@@ -15,9 +15,9 @@ use Rattle.reader.specs.Read.{accepted, readText}
 use Rattle.reader.specs.Differ.{DifferInPrice}
 use Rattle.tables.specs.Cells.{cellsOf, hasOf, pricesOf}
 use Rattle.tables.specs.Alike.{named, Alike}
-use Rattle.award.specs.declared.AwardRow.{AwardRow}
-use Rattle.award.specs.declared.Answer.{Answer}
-use Rattle.award.specs.Award.{won, Outcome, awarded, number, told, Promise}
+use Rattle.tender.specs.declared.AwardRow.{AwardRow}
+use Rattle.tender.specs.declared.Answer.{Answer}
+use Rattle.outcome.specs.Award.{won, Outcome, awarded, number, told, Promise}
 use Rattle.award.specs.Gain.{rowFor, gain, AtMost}
 use Rattle.award.specs.Right.{Callable, Bidders, IsAward, OneAnswer, LeastCover, WinnerAt, PaidByEight, NoGain}
 use Rattle.award.specs.OneAnswerLaws as one

@@ -7,7 +7,7 @@ use lib.IntN.{ℤ, pos, negsuc, subℕ}
 use lib.Dec.{ltb}
 use borrow.Author.Tests.{ltb-true, ltb-false}
 use Rattle.cover.specs.Sets.{when}
-use Rattle.award.specs.declared.AwardRow.{AwardRow}
+use Rattle.tender.specs.declared.AwardRow.{AwardRow}
 use Rattle.award.specs.Gain.{gain, AtMost}
 
 pub sub-most : (a b c d : ℕ) → a + d ≤ c + b → AtMost (subℕ a b) (subℕ c d)

@@ -1,15 +1,12 @@
-pub mod Award
 pub mod Gain
-pub mod Plain
 pub mod Right
 pub mod Demands
 pub mod GainLaws
 pub mod SettleLaws
-pub mod AwardLaws
+pub mod TableLaws
 pub mod Answered
 pub mod OutcomeLaws
 pub mod OneAnswerLaws
 pub mod TextOutcomes
-pub mod PlainLaws
 pub mod Rows
 pub mod RowsPromise

@@ -10,18 +10,21 @@ use lib.Dec.{leb, ltb}
 use borrow.Author.Tests.{leb-true, ltb-true, ltb-false}
 use Rattle.tender.specs.declared.Kind.{Kind}
 use Rattle.tender.specs.declared.Tender.{Tender}
+use Rattle.tender.specs.declared.Refusal.{Refusal}
+use Rattle.tender.specs.declared.Refusal.the-variants.{BadTables, RowsTooFew, MinuteUncovered, OneBidder}
+use Rattle.tender.specs.Refusals.{numberOf, placeOf}
 use Rattle.tender.specs.Tables.{rowsOf}
 use Rattle.cover.specs.Sets.{bidders, each}
 use Rattle.cover.specs.SetLaws.{all-at}
+use Rattle.cover.specs.SettledLaws.{length-listed}
 use Rattle.tables.specs.Faults.{faultOf}
 use Rattle.tables.specs.Cells.{cellsOf, hasOf, pricesOf}
-use Rattle.tables.specs.AlikeLaws.{rows-length, prices-length}
-use Rattle.award.specs.declared.AwardRow.{AwardRow}
-use Rattle.award.specs.declared.Answer.{Answer}
-use Rattle.award.specs.Award.{Outcome, awarded, refused, filled, costOf, paidOf, settled, awardOf, number, place, InBids, Answers, lentAfter, told, Promise}
+use Rattle.tables.specs.AlikeLaws.{prices-count}
+use Rattle.tender.specs.declared.AwardRow.{AwardRow}
+use Rattle.tender.specs.declared.Answer.{Answer}
+use Rattle.outcome.specs.Award.{Outcome, awarded, declined, filled, costOf, paidOf, settled, awardOf, number, place, InBids, Answers, lentAfter, told, Promise}
 use Rattle.award.specs.Right.{Callable, Bidders, IsAward, IsRefusal, OneAnswer, tables-break-a-rule, rows-too-few, minute-uncovered, one-bidder, award}
-use Rattle.award.specs.SettleLaws.{length-listed, settled-is}
-use Rattle.award.specs.AwardLaws.{award-none, award-nine}
+use Rattle.outcome.specs.AwardLaws.{settled-is, award-none, award-nine}
 
 module _ (k : Kind) (t : Tender) (n : ℕ) (bids windows : List ℕ) (old new : List AwardRow) (a : Answer) (p : Promise k t n bids windows old new a) where
   abbrev o : Outcome
@@ -36,30 +39,27 @@ module _ (k : Kind) (t : Tender) (n : ℕ) (bids windows : List ℕ) (old new : 
   abbrev L : ℕ
   L = cellsOf t
 
-  refusal : (m at : ℕ) → o ≡ refused m at → IsRefusal m at old new o
+  refusal : (r : Refusal) → o ≡ declined r → IsRefusal (numberOf r) (placeOf r) old new o
   unfolding lentAfter
-  refusal m at e = record { outcome = e; lent = p .rows ∙ ap (lentAfter old) e }
-
-  count : length ps ≡ n
-  count = prices-length (rowsOf n bids) ∙ rows-length n bids
+  refusal r e = record { outcome = e; lent = p .rows ∙ ap (lentAfter old) e }
 
   is-award : o ≡ awarded (filled k has ps L) (costOf k has ps L) (paidOf k has ps L) → IsAward k t n bids windows old new o
   unfolding lentAfter filled
   is-award e = record {
     outcome = e;
-    lent = p .rows ∙ ap (lentAfter old) e ∙ ap (λ (m : ℕ). filled k has ps L ++ drop m old) (length-listed (length ps) _ ∙ count);
+    lent = p .rows ∙ ap (lentAfter old) e ∙ ap (λ (m : ℕ). filled k has ps L ++ drop m old) (length-listed (length ps) _ ∙ prices-count n bids);
   }
 
   cover : Callable k t n bids windows (length old) → ltb (length old) n ≡ false → (b c : Bool) → each has n L 1 ≡ b → each has n L 2 ≡ c → OneAnswer k t n bids windows old new o
   unfolding number
   cover s g b c d e = go b c d e (
-      p .answers .is ∙ award-none k t n bids windows (length old) (place o) (s .sound) ∙ ap (λ z. cond z (refused 10 0) (settled k has ps L (place o))) g
-      ∙ settled-is k has ps L (place o) b c (rw count d) (rw count e))
+      p .answers .is ∙ award-none k t n bids windows (length old) (place o) (s .sound) ∙ ap (λ z. cond z (declined RowsTooFew) (settled k has ps L (place o))) g
+      ∙ settled-is k has ps L (place o) b c (rw (prices-count n bids) d) (rw (prices-count n bids) e))
     where
       go : (b c : Bool) → each has n L 1 ≡ b → each has n L 2 ≡ c →
-          o ≡ cond (not b) (refused 11 (place o)) (cond (not c) (refused 12 (place o)) (awarded (filled k has ps L) (costOf k has ps L) (paidOf k has ps L))) → OneAnswer k t n bids windows old new o
-      go false c d e f = minute-uncovered (place o) s (p .answers .nobody (ap number f)) (refusal 11 (place o) f)
-      go true false d e f = one-bidder (place o) s d (p .answers .alone (ap number f)) (refusal 12 (place o) f)
+          o ≡ cond (not b) (declined (MinuteUncovered (place o))) (cond (not c) (declined (OneBidder (place o))) (awarded (filled k has ps L) (costOf k has ps L) (paidOf k has ps L))) → OneAnswer k t n bids windows old new o
+      go false c d e f = minute-uncovered (place o) s (p .answers .nobody (ap number f)) (refusal (MinuteUncovered (place o)) f)
+      go true false d e f = one-bidder (place o) s d (p .answers .alone (ap number f)) (refusal (OneBidder (place o)) f)
       go true true d e f = award s e (is-award f)
 
   pub one-answer : OneAnswer k t n bids windows old new o
@@ -67,12 +67,12 @@ module _ (k : Kind) (t : Tender) (n : ℕ) (bids windows : List ℕ) (old new : 
     where
       rows : faultOf k t n bids windows ≡ none → (b : Bool) → ltb (length old) n ≡ b → OneAnswer k t n bids windows old new o
       rows f true g = rows-too-few f (ltb-true (length old) n g)
-          (refusal 10 0 (p .answers .is ∙ award-none k t n bids windows (length old) (place o) f ∙ ap (λ z. cond z (refused 10 0) (settled k has ps L (place o))) g))
+          (refusal RowsTooFew (p .answers .is ∙ award-none k t n bids windows (length old) (place o) f ∙ ap (λ z. cond z (declined RowsTooFew) (settled k has ps L (place o))) g))
       rows f false g = cover (record { sound = f; rows = ltb-false (length old) n g }) g (each has n L 1) (each has n L 2) refl refl
 
       fault : (m : Option ℕ) → faultOf k t n bids windows ≡ m → OneAnswer k t n bids windows old new o
       fault none e = rows e (ltb (length old) n) refl
-      fault (some q) e = tables-break-a-rule q e (refusal 9 q (p .answers .is ∙ award-nine k t n bids windows (length old) (place o) q e))
+      fault (some q) e = tables-break-a-rule q e (refusal (BadTables q) (p .answers .is ∙ award-nine k t n bids windows (length old) (place o) q e))
 
   few : (m b : ℕ) → Bidders t n bids windows 2 → InBids t n bids windows m b → 2 ≤ b
   unfolding each cellsOf

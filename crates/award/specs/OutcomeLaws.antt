@@ -17,13 +17,14 @@ use Rattle.cover.specs.LeastCoverLaws.{tie}
 use Rattle.cover.specs.SpareLaws.{least-wins}
 use Rattle.tables.specs.Cells.{cellsOf, hasOf, pricesOf}
 use Rattle.tables.specs.Alike.{named, Alike}
-use Rattle.tables.specs.AlikeLaws.{price-named}
-use Rattle.award.specs.declared.AwardRow.{AwardRow}
-use Rattle.award.specs.Award.{won, Outcome, awarded, refused, awardOf, number, place, Answers, lentAfter}
+use Rattle.tables.specs.AlikeLaws.{prices-count, price-named}
+use Rattle.tender.specs.declared.AwardRow.{AwardRow}
+use Rattle.outcome.specs.Award.{won, Outcome, awarded, refused, awardOf, number, place, Answers, lentAfter}
 use Rattle.award.specs.Gain.{lost, rowFor, gain, AtMost}
 use Rattle.award.specs.Right.{LeastCover, WinnerAt, PaidByEight}
-use Rattle.award.specs.SettleLaws.{won-single, cents-single, cost-single, largest, vcg-pays, Winner, winners-cover}
-use Rattle.award.specs.AwardLaws.{no-fault, award-honest, Awarded, award-awarded, prices-count, rows-count, row-is, row-fair}
+use Rattle.outcome.specs.AwardLaws.{won-single, cents-single, no-fault, Awarded, award-awarded, rows-count}
+use Rattle.award.specs.SettleLaws.{cost-single, largest, vcg-pays, Winner, winners-cover}
+use Rattle.award.specs.TableLaws.{award-honest, row-is, row-fair}
 
 -- Two tenders that neither answer refuses with 9, alike in all but the price of bid i, each with an award row for every bid or each with fewer:
 -- where the first names the bidder's true cost, its gain in the second is no higher.
@@ -50,7 +51,7 @@ least-cover t n bids windows lent rows cost paid x =
     let has = hasOf t (rowsOf n bids) windows in
     let ps = pricesOf (rowsOf n bids) in
     let L = cellsOf t in
-    let e = prices-count Single t n bids windows lent rows cost paid w in
+    let e = prices-count n bids in
     let v = rw e at (least-wins has ps L (w .settles .two)) in
     let c = w .settles .cost-is ∙ cost-single has ps L n e in
     record {
@@ -68,7 +69,7 @@ pub all-served : (k : Kind) (t : Tender) (n : ℕ) (bids windows : List ℕ) (le
 all-served k t n bids windows lent rows cost paid y x l =
     let w = award-awarded k t n bids windows lent (place (awarded rows cost paid)) rows cost paid (y .is) in
     let m = winners-cover k (hasOf t (rowsOf n bids) windows) (pricesOf (rowsOf n bids)) (cellsOf t) (w .settles .two) x l in
-    let e = prices-count k t n bids windows lent rows cost paid w in
+    let e = prices-count n bids in
     let i = rw e at (m .inside) in
     record { who = m .who; inside = i; wins = ap (λ r. r .won) (row-is k t n bids windows lent rows cost paid w (m .who) i) ∙ m .wins; covers-it = m .covers-it }
 
@@ -79,7 +80,7 @@ pub largest-price : (t : Tender) (n i : ℕ) (bids windows : List ℕ) (lent : �
 largest-price t n i bids windows lent rows cost paid l y f p =
     let w = award-awarded Multi t n bids windows lent (place (awarded rows cost paid)) rows cost paid (y .is) in
     let r = row-is Multi t n bids windows lent rows cost paid w i l in
-    largest (hasOf t (rowsOf n bids) windows) (pricesOf (rowsOf n bids)) (cellsOf t) i (rw (prices-count Multi t n bids windows lent rows cost paid w) l) (w .settles .two) (sym (ap (λ r. r .won) r) ∙ f) p
+    largest (hasOf t (rowsOf n bids) windows) (pricesOf (rowsOf n bids)) (cellsOf t) i (rw (prices-count n bids) l) (w .settles .two) (sym (ap (λ r. r .won) r) ∙ f) p
     ∙ ap (λ r. leb p (r .cents)) (sym r)
 
 pub paid-by-eight : (t : Tender) (n i : ℕ) (bids windows : List ℕ) (lent : ℕ) (rows : List AwardRow) (cost paid : ℕ) → i < n → Answers Single t n bids windows lent (awarded rows cost paid) →
@@ -90,7 +91,7 @@ paid-by-eight t n i bids windows lent rows cost paid l x f =
     let has = hasOf t (rowsOf n bids) windows in
     let ps = pricesOf (rowsOf n bids) in
     let L = cellsOf t in
-    let e = prices-count Single t n bids windows lent rows cost paid w in
+    let e = prices-count n bids in
     let r = row-is Single t n bids windows lent rows cost paid w i l in
     let v = rw e at (vcg-pays has ps L i (rw e l) (w .settles .two) (sym (won-single has ps L i (length ps) refl) ∙ sym (ap (λ r. r .won) r) ∙ f)) in
     let c = ap (λ r. r .cents) r ∙ cents-single has ps L i n e in

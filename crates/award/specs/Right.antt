@@ -15,8 +15,8 @@ use Rattle.reader.specs.Words.{numeralOf, priceOf}
 use Rattle.tables.specs.Faults.{faultOf}
 use Rattle.tables.specs.Cells.{cellsOf, noRow, hasOf, pricesOf}
 use Rattle.tables.specs.Alike.{named}
-use Rattle.award.specs.declared.AwardRow.{AwardRow}
-use Rattle.award.specs.Award.{Outcome, awarded, refused, filled, costOf, paidOf, InBids}
+use Rattle.tender.specs.declared.AwardRow.{AwardRow}
+use Rattle.outcome.specs.Award.{Outcome, awarded, refused, filled, costOf, paidOf, InBids}
 use Rattle.award.specs.Gain.{rowFor, gain, AtMost}
 
 -- no rule is broken, and there is an award row for every bid

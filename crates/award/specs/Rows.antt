@@ -8,10 +8,10 @@ use lib.ListN.{length, getD, set, drop, length-set, length-append, length-drop, 
 use lib.Seq.{ext-getD, getD-set-same, getD-set-other, getD-drop, getD-append-add}
 use lib.Dec.{ltb}
 use borrow.Author.Tests.{ltb-true, ltb-false}
-use Rattle.award.specs.declared.AwardRow.{AwardRow}
+use Rattle.tender.specs.declared.AwardRow.{AwardRow}
 use Rattle.award.specs.Gain.{lost}
-use Rattle.award.specs.Plain.{rowOf, rowsIn}
-use Rattle.award.specs.SettleLaws.{length-listed, getD-listed}
+use Rattle.outcome.specs.Plain.{rowOf, rowsIn}
+use Rattle.cover.specs.SettledLaws.{length-listed, getD-listed}
 
 -- the row of bid i: won where its flag is 1, and its cents
 abbrev pub rowAt : List ℕ → List ℕ → ℕ → AwardRow

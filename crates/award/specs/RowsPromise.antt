@@ -8,15 +8,15 @@ use lib.Seq.{take-at}
 use Rattle.tender.specs.declared.Kind.{Kind}
 use Rattle.tender.specs.declared.Tender.{Tender}
 use Rattle.tender.specs.declared.Totals.{Totals}
-use Rattle.award.specs.declared.AwardRow.{AwardRow}
-use Rattle.award.specs.declared.Answer.{Answer}
-use Rattle.award.specs.declared.Answer.the-variants.{Awarded, Refused}
-use Rattle.award.specs.Award.{awarded, Answers, lentAfter, told, Promise}
+use Rattle.tender.specs.declared.AwardRow.{AwardRow}
+use Rattle.tender.specs.declared.Answer.{Answer}
+use Rattle.tender.specs.declared.Answer.the-variants.{Awarded, Refused}
+use Rattle.outcome.specs.Award.{awarded, Answers, lentAfter, told, Promise}
 use Rattle.layout.specs.LayoutLaws.{orderly}
 use borrow.Author.Tests.{ltb-false}
-use Rattle.award.specs.Plain.{rowsIn, toldIn, rowsFilled, PlainPromise}
-use Rattle.award.specs.SettleLaws.{length-listed}
-use Rattle.award.specs.AwardLaws.{award-awarded}
+use Rattle.outcome.specs.Plain.{rowsIn, toldIn, rowsFilled, PlainPromise}
+use Rattle.cover.specs.SettledLaws.{length-listed}
+use Rattle.outcome.specs.AwardLaws.{award-awarded}
 
 rows-count : (n : ℕ) (won cents : List ℕ) → length (rowsIn n won cents) ≡ n
 unfolding rowsIn

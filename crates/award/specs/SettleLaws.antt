@@ -1,24 +1,24 @@
 -- Over cells, in either kind: a loser is paid nothing; where each cell has two bidders the winners cover, naming the true cost is best and no winner is paid less than it named. Assumes nothing.
-use mathlib.Core.Path.{_≡_, refl, sym, ap, _∙_}
-use mathlib.Core.List.{List, [], _∷_}
-use mathlib.Core.Bool.{Bool, true, false, cond, not}
-use Prim.Native.Nat.{ℕ, zero, suc, _+_, _^_, _/_, _≤_, _<_}
+use mathlib.Core.Path.{_≡_, refl, sym, _∙_}
+use mathlib.Core.List.{List}
+use mathlib.Core.Bool.{Bool, true, false}
+use Prim.Native.Nat.{ℕ, _+_, _^_, _≤_, _<_}
 use native.Mathlib.Omega.{arith}
 use lib.ListN.{length, getD, set, length-set}
 use lib.Seq.{set-getD}
 use lib.Dec.{leb}
 use Rattle.tender.specs.declared.Kind.{Kind}
 use Rattle.tender.specs.declared.Kind.the-variants.{Single, Multi}
+use Rattle.tender.specs.declared.AwardRow.{AwardRow}
 use Rattle.cover.specs.Sets.{when, bit, cost, covers, cells, each}
 use Rattle.cover.specs.LeastCover.{Wins, winners, without, payment, vcgPaid}
-use Rattle.cover.specs.Greedy.{wins}
-use Rattle.cover.specs.CriticalPrice.{criticalPaid, winsAt, sum}
-use Rattle.cover.specs.Settled.{listed}
+use Rattle.cover.specs.CriticalPrice.{criticalPaid, winsAt}
 use Rattle.cover.specs.VcgLaws as vcg
 use Rattle.cover.specs.CriticalLaws as greedy
-use Rattle.cover.specs.SpareLaws.{others, others-below, spare-set, spare-bids, least-wins, least-covers, greedy-covers}
-use Rattle.award.specs.declared.AwardRow.{AwardRow}
-use Rattle.award.specs.Award.{won, cents, Outcome, awarded, refused, filled, costOf, paidOf, settled}
+use Rattle.cover.specs.SpareLaws.{others, others-below, spare-set, spare-bids, least-covers, greedy-covers}
+use Rattle.cover.specs.SettledLaws.{getD-listed, cost-sum}
+use Rattle.outcome.specs.Award.{won, cents, awarded, filled, costOf, paidOf, settled}
+use Rattle.outcome.specs.AwardLaws.{won-single, cents-single, won-multi, cents-multi, settled-is}
 use Rattle.award.specs.Gain.{lost, rowFor, gain, AtMost}
 use Rattle.award.specs.GainLaws.{gain-most}
 
@@ -27,22 +27,6 @@ pub lost-nothing : (k : Kind) (has : ℕ → ℕ → Bool) (ps : List ℕ) (L i 
 unfolding won cents vcgPaid criticalPaid payment
 lost-nothing Single has ps L i e = rw e
 lost-nothing Multi has ps L i e = rw e
-
-pub won-single : (has : ℕ → ℕ → Bool) (ps : List ℕ) (L i n : ℕ) → length ps ≡ n → won Single has ps L i ≡ bit (winners (covers has n L) ps) i
-unfolding won
-won-single has ps L i n e = rw (← e)
-
-pub cents-single : (has : ℕ → ℕ → Bool) (ps : List ℕ) (L i n : ℕ) → length ps ≡ n → cents Single has ps L i ≡ vcgPaid (covers has n L) ps i
-unfolding cents
-cents-single has ps L i n e = rw (← e)
-
-pub won-multi : (has : ℕ → ℕ → Bool) (ps : List ℕ) (L i : ℕ) → won Multi has ps L i ≡ wins has ps (cells L) i
-unfolding won
-won-multi has ps L i = refl
-
-pub cents-multi : (has : ℕ → ℕ → Bool) (ps : List ℕ) (L i : ℕ) → cents Multi has ps L i ≡ criticalPaid has ps (cells L) i
-unfolding cents
-cents-multi has ps L i = refl
 
 -- where each cell has two bidders
 module _ (has : ℕ → ℕ → Bool) (ps : List ℕ) (L i : ℕ) (inside : i < length ps) (two : each has (length ps) L 2 ≡ true) where
@@ -98,19 +82,6 @@ winners-cover Multi has ps L two x l =
     let m = greedy-covers has ps L two x l in
     record { who = m .who; inside = m .inside; wins = won-multi has ps L (m .who) ∙ m .wins-it; covers-it = m .covers-it }
 
--- the rows
-
-pub length-listed : {A : Type 0} (n : ℕ) (f : ℕ → A) → length (listed n f) ≡ n
-unfolding listed
-length-listed zero f = refl
-length-listed (suc n) f = ap suc (length-listed n (λ i. f (suc i)))
-
-pub getD-listed : {A : Type 0} (n : ℕ) (f : ℕ → A) (i : ℕ) (d : A) → i < n → getD (listed n f) i d ≡ f i
-unfolding listed
-getD-listed zero f i d l = absurd (omega arith)
-getD-listed (suc n) f zero d l = refl
-getD-listed (suc n) f (suc i) d l = getD-listed n (λ j. f (suc j)) i d (omega arith)
-
 -- the row that is filled for bid i
 abbrev pub rowIn : Kind → (ℕ → ℕ → Bool) → List ℕ → ℕ → ℕ → AwardRow
 rowIn k has ps L i = record { won = won k has ps L i; cents = cents k has ps L i }
@@ -118,11 +89,6 @@ rowIn k has ps L i = record { won = won k has ps L i; cents = cents k has ps L i
 pub row-filled : (k : Kind) (has : ℕ → ℕ → Bool) (ps : List ℕ) (L i cost paid : ℕ) → i < length ps → rowFor (awarded (filled k has ps L) cost paid) i ≡ rowIn k has ps L i
 unfolding rowFor filled
 row-filled k has ps L i cost paid l = getD-listed (length ps) (λ i. rowIn k has ps L i) i lost l
-
-pub settled-is : (k : Kind) (has : ℕ → ℕ → Bool) (ps : List ℕ) (L m : ℕ) (a b : Bool) → each has (length ps) L 1 ≡ a → each has (length ps) L 2 ≡ b →
-    settled k has ps L m ≡ cond (not a) (refused 11 m) (cond (not b) (refused 12 m) (awarded (filled k has ps L) (costOf k has ps L) (paidOf k has ps L)))
-unfolding settled
-settled-is k has ps L m a b e f = rw (e, f)
 
 -- naming q is no better than naming the true cost, which is the price of bid i in ps
 pub settled-honest : (k : Kind) (has : ℕ → ℕ → Bool) (ps : List ℕ) (L i q m m′ : ℕ) → i < length ps →
@@ -146,27 +112,7 @@ settled-honest k has ps L i q m m′ l = go (each has (length ps) L 1) (each has
             cents k has (set ps i q) L i + when (won k has ps L i) (getD ps i 0) ≤ cents k has ps L i + when (won k has (set ps i q) L i) (getD ps i 0)
         ap-set h = rw (set-getD ps i 0) at h
 
--- what an award that is not refused says
-pub record Settled (k : Kind) (has : ℕ → ℕ → Bool) (ps : List ℕ) (L : ℕ) (rows : List AwardRow) (cost paid : ℕ) : Type 0 where
-  pub two : each has (length ps) L 2 ≡ true
-  pub rows-are : rows ≡ filled k has ps L
-  pub cost-is : cost ≡ costOf k has ps L
-  pub paid-is : paid ≡ paidOf k has ps L
-
-pub settled-awarded : (k : Kind) (has : ℕ → ℕ → Bool) (ps : List ℕ) (L m : ℕ) (rows : List AwardRow) (cost paid : ℕ) → settled k has ps L m ≡ awarded rows cost paid → Settled k has ps L rows cost paid
-settled-awarded k has ps L m rows cost paid h = go (each has (length ps) L 1) (each has (length ps) L 2) refl refl
-  where
-    go : (a b : Bool) → each has (length ps) L 1 ≡ a → each has (length ps) L 2 ≡ b → Settled k has ps L rows cost paid
-    go false b e f = let x = sym (settled-is k has ps L m false b e f) ∙ h in let z : _≡_ {A = ℕ} 0 1 = cc in absurd (omega arith)
-    go true false e f = let x = sym (settled-is k has ps L m true false e f) ∙ h in let z : _≡_ {A = ℕ} 0 1 = cc in absurd (omega arith)
-    go true true e f = let x = sym (settled-is k has ps L m true true e f) ∙ h in record { two = f; rows-are = cc; cost-is = cc; paid-is = cc }
-
 -- the sum of the winners' prices is the cost of the set
-pub cost-sum : (ps : List ℕ) (s : ℕ) → sum (listed (length ps) (λ i. when (bit s i) (getD ps i 0))) ≡ cost ps s
-unfolding listed sum cost bit
-cost-sum [] s = refl
-cost-sum (p ∷ ps) s = rw (cost-sum ps (s / 2))
-
 pub cost-single : (has : ℕ → ℕ → Bool) (ps : List ℕ) (L n : ℕ) → length ps ≡ n → costOf Single has ps L ≡ cost ps (winners (covers has n L) ps)
 unfolding costOf won
-cost-single has ps L n e = rw (← e) (cost-sum ps (winners (covers has (length ps) L) ps))
+cost-single has ps L n e = rw (← e) (sym (cost-sum ps (winners (covers has (length ps) L) ps)))

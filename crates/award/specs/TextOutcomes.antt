@@ -11,6 +11,7 @@ use Rattle.tender.specs.declared.Kind.{Kind}
 use Rattle.tender.specs.declared.Kind.the-variants.{Single, Multi}
 use Rattle.tender.specs.declared.Window.{Window}
 use Rattle.tender.specs.declared.Tender.{Tender}
+use Rattle.tender.specs.declared.Refusal.the-variants.{BadTables}
 use Rattle.tender.specs.Limits.{lawful}
 use Rattle.tender.specs.Tables.{Row, rowsOf, flatRows, flatWindows}
 use Rattle.reader.specs.Words.{numeralOf, priceOf}
@@ -23,10 +24,11 @@ use Rattle.tables.specs.Faults.{sameKind, rowFault, faultOf}
 use Rattle.tables.specs.Cells.{noRow}
 use Rattle.tables.specs.Alike.{named}
 use Rattle.tables.specs.TextLaws.{never-nine, Tabled, tabled}
-use Rattle.award.specs.Award.{Outcome, awarded, refused, awardOf, place, Answers}
+use Rattle.outcome.specs.Award.{Outcome, declined, awardOf, place, Answers}
+use Rattle.outcome.specs.AwardLaws.{award-nine}
 use Rattle.award.specs.Gain.{rowFor, gain, AtMost}
 use Rattle.award.specs.Right.{NoGain}
-use Rattle.award.specs.AwardLaws.{award-honest, award-nine}
+use Rattle.award.specs.TableLaws.{award-honest}
 
 kinds : (k l : Kind) → sameKind k l ≡ true → k ≡ l
 kinds Single Single e = refl
@@ -38,7 +40,7 @@ wrong-kind : (k : Kind) (t : Tender) (n : ℕ) (bids windows : List ℕ) → sam
 unfolding faultOf
 wrong-kind k t n bids windows e = rw e
 
-nothing : (c i : ℕ) → AtMost (gain c (rowFor (refused 9 0) i)) (gain c (rowFor (refused 9 0) i))
+nothing : (c i : ℕ) → AtMost (gain c (rowFor (declined (BadTables 0)) i)) (gain c (rowFor (declined (BadTables 0)) i))
 unfolding gain rowFor
 nothing c i = omega arith
 

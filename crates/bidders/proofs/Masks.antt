@@ -4,7 +4,6 @@ use mathlib.Core.Logic.{⊎-elim}
 use mathlib.Core.List.{List}
 use mathlib.Core.Bool.{Bool, true, false}
 use Prim.Native.Nat.{ℕ, zero, suc, _+_, _-_, _*_, _/_, _%_, _≤_, _<_, min, max}
-use native.Mathlib.Nat.{mul-le-mul-left, mul-suc}
 use native.Mathlib.Numerals.{add-one}
 use native.Mathlib.Omega.{arith}
 use lib.ListN.{length, getD, set, take, drop, replicate, length-replicate}
@@ -19,10 +18,6 @@ use Rattle.cells.proofs.Store.{lt-or-le, cell-lt, set-same, set-other}
 use Rattle.cover.specs.Sets.{when, bidders}
 use Rattle.rounds.specs.Market.{row, has, First}
 use Rattle.bidders.specs.Thin.{fewer, Reached, Gathered, FirstOf}
-
--- the words of bid i are within the masks
-pub row-within : (ms : List ℕ) (w n i : ℕ) → length ms ≡ w * n → i < n → w * i + w ≤ length ms
-row-within ms w n i e l = omega (arith, mul-le-mul-left w l, mul-suc w i)
 
 -- the first w words of a row of ones
 pub ones-length : (w : ℕ) → w ≤ 158 → length (take w (replicate {A = ℕ} 158 1)) ≡ w

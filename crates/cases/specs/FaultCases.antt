@@ -11,7 +11,7 @@ use Rattle.tender.specs.declared.Kind.the-variants.{Single, Multi}
 use Rattle.tender.specs.declared.Window.{Window}
 use Rattle.tender.specs.declared.Tender.{Tender}
 use Rattle.tables.specs.Faults.{faultOf}
-use Rattle.award.specs.Award.{Outcome, awarded, refused, awardOf, number, place}
+use Rattle.outcome.specs.Award.{Outcome, awarded, refused, awardOf, number, place}
 
 unfoldable pub refuses : ℕ → ℕ → Outcome → Bool
 unfolding number place

@@ -14,8 +14,8 @@ use Rattle.tender.specs.Tables.{rowsOf}
 use Rattle.cover.specs.Sets.{bidders}
 use Rattle.cover.specs.SetLaws.{and-split}
 use Rattle.tables.specs.Cells.{hasOf}
-use Rattle.award.specs.declared.AwardRow.{AwardRow}
-use Rattle.award.specs.Award.{Outcome, awarded, refused, awardOf, number, place, InBids, Answers}
+use Rattle.tender.specs.declared.AwardRow.{AwardRow}
+use Rattle.outcome.specs.Award.{Outcome, awarded, refused, awardOf, number, place, InBids, Answers}
 use Rattle.cases.specs.WorkedCases.{Case, tenderOf, countOf, cases}
 
 unfoldable pub sameBool : Bool → Bool → Bool

@@ -6,8 +6,8 @@ use lib.ListN.{length}
 use Rattle.tender.specs.declared.Kind.{Kind}
 use Rattle.tender.specs.declared.Kind.the-variants.{Single, Multi}
 use Rattle.tender.specs.declared.Tender.{Tender}
-use Rattle.award.specs.declared.AwardRow.{AwardRow}
-use Rattle.award.specs.Award.{Outcome, awarded, refused}
+use Rattle.tender.specs.declared.AwardRow.{AwardRow}
+use Rattle.outcome.specs.Award.{Outcome, awarded, refused}
 use Rattle.award.specs.Gain.{lost}
 
 pub record Case : Type 0 where

@@ -1,16 +1,37 @@
--- A list written cell by cell is the listed values and the old cells past them; and sums over it. Assumes nothing.
+-- Listed values by their places; a list written cell by cell is the listed values and the old cells past them; and sums over it. Assumes nothing.
 use mathlib.Core.Path.{_≡_, refl, sym, ap, _∙_}
 use mathlib.Core.Bool.{Bool, true, false}
-use mathlib.Core.List.{List, [], _∷_, _++_}
+use mathlib.Core.List.{List, [], _∷_, _++_, map}
 use Prim.Native.Nat.{ℕ, zero, suc, _+_, _/_, _≤_, _<_}
 use native.Mathlib.Omega.{arith}
 use lib.Dec.{eqb}
 use lib.ListN.{length, getD, set, length-set, drop, replicate}
-use lib.Seq.{getD-set-same, getD-set-other}
+use lib.Seq.{ext-getD, getD-set-same, getD-set-other}
 use borrow.Author.Tests.{eqb-true, eqb-false}
 use Rattle.cover.specs.Sets.{when, bit, cost}
 use Rattle.cover.specs.CriticalPrice.{sum}
 use Rattle.cover.specs.Settled.{listed}
+
+pub length-listed : {A : Type 0} (n : ℕ) (f : ℕ → A) → length (listed n f) ≡ n
+unfolding listed
+length-listed zero f = refl
+length-listed (suc n) f = ap suc (length-listed n (λ i. f (suc i)))
+
+pub getD-listed : {A : Type 0} (n : ℕ) (f : ℕ → A) (i : ℕ) (d : A) → i < n → getD (listed n f) i d ≡ f i
+unfolding listed
+getD-listed zero f i d l = absurd (omega arith)
+getD-listed (suc n) f zero d l = refl
+getD-listed (suc n) f (suc i) d l = getD-listed n (λ j. f (suc j)) i d (omega arith)
+
+pub listed-same : {A : Type 0} (n : ℕ) (f g : ℕ → A) → ((i : ℕ) → i < n → f i ≡ g i) → listed n f ≡ listed n g
+unfolding listed
+listed-same zero f g h = refl
+listed-same (suc n) f g h = rw (h 0 (omega arith), listed-same n (λ i. f (suc i)) (λ i. g (suc i)) (λ i l. h (suc i) (omega arith)))
+
+pub map-listed : {A B : Type 0} (n : ℕ) (f : ℕ → A) (g : A → B) → map g (listed n f) ≡ listed n (λ i. g (f i))
+unfolding listed
+map-listed zero f g = refl
+map-listed (suc n) f g = ap (λ l. g (f 0) ∷ l) (map-listed n (λ i. f (suc i)) g)
 
 -- the cells below j have their values, and the others are as they were
 pub record Written (f : ℕ → ℕ) (old new : List ℕ) (j : ℕ) : Type 0 where
@@ -32,15 +53,9 @@ written-more f old new j v l e h = record {
     go i d true g = rw (eqb-true i j g) (getD-set-same new j v 0 (omega (arith, h .sized)) ∙ e)
     go i d false g = getD-set-other new j i v 0 (eqb-false i j g) ∙ h .values i (omega (arith, eqb-false i j g))
 
-same-list : (xs ys : List ℕ) → length xs ≡ length ys → ((i : ℕ) → getD xs i 0 ≡ getD ys i 0) → xs ≡ ys
-same-list [] [] l f = refl
-same-list [] (y ∷ ys) l f = absurd (omega arith)
-same-list (x ∷ xs) [] l f = absurd (omega arith)
-same-list (x ∷ xs) (y ∷ ys) l f = rw (f 0, same-list xs ys (omega arith) (λ i. f (suc i)))
-
 pub listed-of : (n : ℕ) (f : ℕ → ℕ) (old new : List ℕ) → n ≤ length old → Written f old new n → new ≡ listed n f ++ drop n old
 unfolding listed
-listed-of zero f old new l h = same-list new old (h .sized) (λ i. h .kept i (omega arith))
+listed-of zero f old new l h = ext-getD 0 new old (h .sized) (λ i d. h .kept i (omega arith))
 listed-of (suc n) f [] new l h = absurd (omega arith)
 listed-of (suc n) f (x ∷ old) [] l h = absurd (omega (arith, h .sized))
 listed-of (suc n) f (x ∷ old) (y ∷ new) l h = go (h .values 0 (omega arith)) (listed-of n (λ i. f (suc i)) old new (omega arith) (record { sized = omega (arith, h .sized); values = λ i d. h .values (suc i) (omega arith); kept = λ i d. h .kept (suc i) (omega arith) }))
@@ -53,6 +68,9 @@ unfolding listed
 listed-at zero f xs i l = absurd (omega arith)
 listed-at (suc n) f xs zero l = refl
 listed-at (suc n) f xs (suc i) l = listed-at n (λ i. f (suc i)) xs i (omega arith)
+
+pub as-listed : (xs : List ℕ) (n : ℕ) (f : ℕ → ℕ) → length xs ≡ n → ((i : ℕ) → i < n → getD xs i 0 ≡ f i) → xs ≡ listed n f
+as-listed xs n f e h = ext-getD 0 xs (listed n f) (e ∙ sym (length-listed n f)) (λ i l. h i (omega arith) ∙ sym (getD-listed n f i 0 (omega arith)))
 
 -- a new list is all zeros
 pub zeros : (n s : ℕ) → _≡_ {A = ℕ} (getD (replicate {A = ℕ} n 0) s 0) 0

@@ -3,7 +3,6 @@ use mathlib.Core.Path.{_≡_, refl, sym, ap, _∙_}
 use mathlib.Core.Bool.{Bool, true, false}
 use mathlib.Core.List.{List, _++_}
 use Prim.Native.Nat.{ℕ, zero, suc, _+_, _-_, _*_, _/_, _≤_, _<_, min}
-use native.Mathlib.Nat.{mul-le-mul-left, mul-suc}
 use native.Mathlib.Numerals.{add-one}
 use native.Mathlib.Omega.{arith}
 use lib.ListN.{length, getD, take, drop, length-take, length-drop, List·getD-append, List·getD-eq-default}
@@ -13,16 +12,12 @@ use borrow.Author.Tests.{ltb-true, ltb-false}
 use borrow.Rule.Slice.PartMut.{midOf, putMid, same-len-mid, drop-put}
 use Rattle.tender.specs.Tables.{own}
 use Rattle.rounds.specs.Market.{row}
-use Rattle.rounds.proofs.Rows.{part-row}
+use Rattle.rounds.proofs.Rows.{part-row, row-within, row-length}
 use Rattle.layout.specs.Orderly.{rowAt, Masked, AllMasked}
-
-pub row-within : (w n i : ℕ) → i < n → w * i + w ≤ w * n
-row-within w n i l = omega (arith, mul-le-mul-left w l, mul-suc w i)
 
 module _ (ms : List ℕ) (w n i : ℕ) (size : length ms ≡ w * n) (l : i < n) where
   pub row-size : length (row ms w i) ≡ w
-  unfolding row
-  row-size = simp (length-take, length-drop) (omega (arith, row-within w n i l))
+  row-size = row-length ms w i (omega (arith, row-within w n i l))
 
 pub row-same : (ms ms′ : List ℕ) (w j : ℕ) → length ms ≡ length ms′ → ((q : ℕ) → q < w * j + w → getD ms q 0 ≡ getD ms′ q 0) → row ms w j ≡ row ms′ w j
 unfolding row

@@ -23,9 +23,9 @@ use Rattle.reader.specs.CountLaws.{counts-law}
 use Rattle.reader.specs.SizeLaw.{fits-law}
 use Rattle.reader.specs.Rules.{Rules}
 use Rattle.reader.specs.RulesLaw.{rules-law}
-use Rattle.award.specs.declared.Answer.{Answer}
-use Rattle.award.specs.declared.Answer.the-variants.{Awarded, Refused}
-use Rattle.award.specs.Plain.{PlainPromise}
+use Rattle.tender.specs.declared.Answer.{Answer}
+use Rattle.tender.specs.declared.Answer.the-variants.{Awarded, Refused}
+use Rattle.outcome.specs.Plain.{PlainPromise}
 use Rattle.listing.specs.Lines.{awardLine, winLines, pairLine, totalWord, refusedWord}
 use Rattle.listing.specs.Written.{Written}
 use Rattle.listing.specs.List.{AwardList, IsList, Listed}

@@ -12,8 +12,8 @@ use Rattle.tender.specs.declared.Tender.{Tender}
 use Rattle.tender.specs.Keywords.{bytes, singleWord, multiWord}
 use Rattle.tender.specs.Tables.{Row}
 use Rattle.tables.specs.Cells.{noRow}
-use Rattle.award.specs.declared.AwardRow.{AwardRow}
-use Rattle.award.specs.Award.{Outcome, awarded, refused}
+use Rattle.tender.specs.declared.AwardRow.{AwardRow}
+use Rattle.outcome.specs.Award.{Outcome, awarded, refused}
 use Rattle.award.specs.Gain.{lost}
 use Rattle.listing.specs.Lines.{digitsBefore, decimal, closing, numbers, pairLine, kindWord, awardWord, winWord, totalWord, refusedWord, winLine, winLines, awardLine}
 use Rattle.listing.specs.List.{winList, listLines}

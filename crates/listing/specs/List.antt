@@ -12,8 +12,8 @@ use Rattle.cover.specs.Sets.{when}
 use Rattle.reader.specs.Read.{accepted, readText}
 use Rattle.reader.specs.Read as reading
 use Rattle.tables.specs.Cells.{noRow}
-use Rattle.award.specs.declared.AwardRow.{AwardRow}
-use Rattle.award.specs.Award.{Outcome, awarded, refused, Answers}
+use Rattle.tender.specs.declared.AwardRow.{AwardRow}
+use Rattle.outcome.specs.Award.{Outcome, awarded, refused, Answers}
 use Rattle.award.specs.Gain.{lost}
 use Rattle.listing.specs.Lines.{pairLine, winWord, totalWord, refusedWord, awardLine}
 

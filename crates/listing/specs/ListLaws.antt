@@ -14,8 +14,11 @@ use borrow.Author.Tests.{le-ltb, le-leb}
 use Rattle.tender.specs.declared.Kind.{Kind}
 use Rattle.tender.specs.declared.Window.{Window}
 use Rattle.tender.specs.declared.Tender.{Tender}
+use Rattle.tender.specs.declared.Refusal.the-variants.{RowsTooFew, MinuteUncovered, OneBidder}
+use Rattle.tender.specs.Refusals.{numberOf}
 use Rattle.tender.specs.Tables.{Row, rowsOf, own, flatRows, flatWindows}
 use Rattle.cover.specs.Sets.{when, bidders, each}
+use Rattle.cover.specs.SettledLaws.{getD-listed}
 use Rattle.reader.specs.Read.{accepted, readText}
 use Rattle.reader.specs.Read as reading
 use Rattle.reader.specs.Rules.{Rules}
@@ -24,14 +27,13 @@ use Rattle.tables.specs.Cells.{noRow, hasOf, holds, pricesOf, cellsOf}
 use Rattle.tables.specs.Faults.{faultOf}
 use Rattle.tables.specs.AlikeLaws.{windows-same, among-held, faultless}
 use Rattle.tables.specs.TextLaws.{rows-flat, length-windows, rows-end, never-nine}
-use Rattle.award.specs.Award.{Outcome, awarded, refused, settled, awardOf, number, place, InBids, Answers}
-use Rattle.award.specs.declared.AwardRow.{AwardRow}
+use Rattle.outcome.specs.Award.{Outcome, awarded, refused, declined, settled, awardOf, number, place, InBids, Answers}
+use Rattle.tender.specs.declared.AwardRow.{AwardRow}
 use Rattle.award.specs.Gain.{lost}
-use Rattle.award.specs.SettleLaws.{getD-listed, settled-is}
-use Rattle.award.specs.AwardLaws.{award-none}
-use Rattle.award.specs.declared.Answer.{Answer}
-use Rattle.award.specs.declared.Answer.the-variants.{Awarded, Refused}
-use Rattle.award.specs.Plain.{rowsIn, toldIn, PlainPromise}
+use Rattle.outcome.specs.AwardLaws.{settled-is, award-none}
+use Rattle.tender.specs.declared.Answer.{Answer}
+use Rattle.tender.specs.declared.Answer.the-variants.{Awarded, Refused}
+use Rattle.outcome.specs.Plain.{rowsIn, toldIn, PlainPromise}
 use Rattle.listing.specs.Lines.{winLine, winLines, refusedWord}
 use Rattle.listing.specs.Made.{answerLines}
 use Rattle.listing.specs.List.{winList, listLines, AwardList, IsList, Listed}
@@ -80,21 +82,21 @@ module _ (T : Tender) (R : List Row) (W : List Window) (rules : Rules T R W) whe
     alone = λ e. in-read v w (place o) 1 (a .alone e);
   }
 
-  settled-number : (has : ℕ → ℕ → Bool) (ps : List ℕ) (L m : ℕ) → (number (settled (T .kind) has ps L m) ≡ 0) ⊎ ((number (settled (T .kind) has ps L m) ≡ 11) ⊎ (number (settled (T .kind) has ps L m) ≡ 12))
+  settled-number : (has : ℕ → ℕ → Bool) (ps : List ℕ) (L m : ℕ) → (number (settled (T .kind) has ps L m) ≡ 0) ⊎ ((number (settled (T .kind) has ps L m) ≡ numberOf (MinuteUncovered m)) ⊎ (number (settled (T .kind) has ps L m) ≡ numberOf (OneBidder m)))
   unfolding number
   settled-number has ps L m = go (each has (length ps) L 1) (each has (length ps) L 2) refl refl
     where
       go : (a b : Bool) → each has (length ps) L 1 ≡ a → each has (length ps) L 2 ≡ b →
-          (number (settled (T .kind) has ps L m) ≡ 0) ⊎ ((number (settled (T .kind) has ps L m) ≡ 11) ⊎ (number (settled (T .kind) has ps L m) ≡ 12))
+          (number (settled (T .kind) has ps L m) ≡ 0) ⊎ ((number (settled (T .kind) has ps L m) ≡ numberOf (MinuteUncovered m)) ⊎ (number (settled (T .kind) has ps L m) ≡ numberOf (OneBidder m)))
       go false b e f = inr (inl (ap number (settled-is (T .kind) has ps L m false b e f)))
       go true false e f = inr (inr (ap number (settled-is (T .kind) has ps L m true false e f)))
       go true true e f = inl (ap number (settled-is (T .kind) has ps L m true true e f))
 
   -- the award on what was read is made, or declined with 11 or 12: never with 9 or 10
-  pub award-number : (o : Outcome) → Answers (T .kind) T (length R) (flatRows R) (flatWindows W) (length R) o → (number o ≡ 0) ⊎ ((number o ≡ 11) ⊎ (number o ≡ 12))
+  pub award-number : (o : Outcome) → Answers (T .kind) T (length R) (flatRows R) (flatWindows W) (length R) o → (number o ≡ 0) ⊎ ((number o ≡ numberOf (MinuteUncovered (place o))) ⊎ (number o ≡ numberOf (OneBidder (place o))))
   award-number o a =
       let e = a .is ∙ award-none (T .kind) T (length R) (flatRows R) (flatWindows W) (length R) (place o) sound-alone
-      ∙ ap (λ t. cond t (refused 10 0) (settled (T .kind) (hasOf T (rowsOf (length R) (flatRows R)) (flatWindows W)) (pricesOf (rowsOf (length R) (flatRows R))) (cellsOf T) (place o))) (le-ltb (length R) (length R) (omega arith)) in
+      ∙ ap (λ t. cond t (declined RowsTooFew) (settled (T .kind) (hasOf T (rowsOf (length R) (flatRows R)) (flatWindows W)) (pricesOf (rowsOf (length R) (flatRows R))) (cellsOf T) (place o))) (le-ltb (length R) (length R) (omega arith)) in
       rw e (settled-number (hasOf T (rowsOf (length R) (flatRows R)) (flatWindows W)) (pricesOf (rowsOf (length R) (flatRows R))) (cellsOf T) (place o))
 
 -- the lines that the code writes, from the cells of the tables, are the list's

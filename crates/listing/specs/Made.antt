@@ -6,9 +6,9 @@ use lib.ListN.{length, take}
 use Rattle.tender.specs.declared.Tender.{Tender}
 use Rattle.tender.specs.Refusals.{numberOf, placeOf}
 use Rattle.reader.specs.Read.{readText}
-use Rattle.award.specs.declared.Answer.{Answer}
-use Rattle.award.specs.declared.Answer.the-variants.{Awarded, Refused}
-use Rattle.award.specs.Plain.{PlainPromise}
+use Rattle.tender.specs.declared.Answer.{Answer}
+use Rattle.tender.specs.declared.Answer.the-variants.{Awarded, Refused}
+use Rattle.outcome.specs.Plain.{PlainPromise}
 use Rattle.listing.specs.Lines.{awardLine, winLines, pairLine, totalWord, refusedWord}
 use Rattle.listing.specs.List.{IsList}
 use Rattle.listing.specs.Written.{Written}

@@ -1,2 +1,1 @@
-pub mod Winners
-pub mod Along
+pub mod Sums

@@ -12,8 +12,11 @@ pub part-row : (ms : List ℕ) (w i : ℕ) → take (w * i + w - w * i) (drop (w
 unfolding row
 part-row ms w i = let e : w * i + w - w * i ≡ w = omega arith in rw e
 
+pub row-within : (w n i : ℕ) → i < n → w * i + w ≤ w * n
+row-within w n i l = omega (arith, mul-le-mul-left w l, mul-suc w i)
+
 pub row-in : (ps ms : List ℕ) (w i : ℕ) → Market ps ms w → i < length ps → w * i + w ≤ length ms
-row-in ps ms w i m l = omega (arith, mul-le-mul-left w l, mul-suc w i, m .size)
+row-in ps ms w i m l = omega (arith, row-within w (length ps) i l, m .size)
 
 pub row-length : (ms : List ℕ) (w i : ℕ) → w * i + w ≤ length ms → length (row ms w i) ≡ w
 unfolding row

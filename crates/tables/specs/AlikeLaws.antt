@@ -31,6 +31,9 @@ unfolding pricesOf
 prices-length [] = refl
 prices-length (r ∷ rs) = ap suc (prices-length rs)
 
+pub prices-count : (n : ℕ) (bids : List ℕ) → length (pricesOf (rowsOf n bids)) ≡ n
+prices-count n bids = prices-length (rowsOf n bids) ∙ rows-length n bids
+
 later : (d n : ℕ) (bs cs : List ℕ) → ((j : ℕ) → d ≤ j → j < n → getD bs j 0 ≡ getD cs j 0) → (j : ℕ) → d + j < n → getD (drop d bs) j 0 ≡ getD (drop d cs) j 0
 later d n bs cs h j l = getD-drop d bs j 0 ∙ h (d + j) (omega arith) l ∙ sym (getD-drop d cs j 0)
 

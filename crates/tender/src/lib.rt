@@ -1,4 +1,4 @@
-// The data that every crate here speaks of: kinds, windows, tenders, limits, keywords and refusals.
+// The data that every crate here speaks of: kinds, windows, tenders, limits, keywords, award rows, answers and refusals.
 // No algorithm stands here. `specs/` has what the crates above cite of it: the limits and the rule of a
 // window, the layout of the two tables, the keywords, and each refusal's number and place.
 ghost use mathlib.Core.Path.{_≡_};
@@ -22,7 +22,13 @@ pub struct Tender {
     pub window: Window,
 }
 
-// What an award answers: the winners' cost and the sum paid, in cents.
+// The row that an award fills for a bid: won or lost, and the cents paid.
+pub struct AwardRow {
+    pub won: bool,
+    pub cents: u64,
+}
+
+// The winners' cost and the sum paid, in cents.
 pub struct Totals {
     pub cost: u64,
     pub paid: u64,
@@ -43,6 +49,12 @@ pub enum Refusal {
     RowsTooFew,
     MinuteUncovered { minute: u64 },
     OneBidder { minute: u64 },
+}
+
+// What an award answers: the totals, or why it declines.
+pub enum Answer {
+    Awarded(Totals),
+    Refused(Refusal),
 }
 
 // The last end of a window: a week of minutes.

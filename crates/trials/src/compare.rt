@@ -3,7 +3,7 @@ use crate::brute;
 use crate::random;
 use crate::random::Lot;
 use crate::rules;
-use award::Answer;
+use tender::Answer;
 use tender::Kind;
 use tender::Refusal;
 use tender::Tender;

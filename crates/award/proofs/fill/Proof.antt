@@ -52,9 +52,9 @@ use denote.Triple.Clauses.{ensured, lasts}
 use denote.Triple.Table.{entered, cited}
 use denote.Triple.Walked.{says, needs, Stays, stay-slice, stay-none, stay-none-slice, walkOf, AllGo, Walks, ends-at, walked, goes-slice, goes-none, goes-none-slice, walk-meets}
 use Rattle.award.specs.Rows.{rowAt, filled, filled-rows}
-use Rattle.award.specs.declared.AwardRow.{AwardRow}
-use Rattle.award.proofs.AwardRow as T
-use Rattle.award.proofs.AwardRow.Laws as T′
+use Rattle.tender.specs.declared.AwardRow.{AwardRow}
+use Rattle.tender.proofs.AwardRow as T
+use Rattle.tender.proofs.AwardRow.Laws as T′
 use Rattle.award.proofs.row_of as one
 use Rattle.award.proofs.row_of.Symbol as one-def
 use Rattle.award.proofs.row_of.Symbol.{name as #award·row-of}

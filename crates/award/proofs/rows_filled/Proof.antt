@@ -1,8 +1,8 @@
 -- `award::rows_filled` meets its contract: one row for each bid where the answer awards, none where it declines. Assumes nothing.
 use mathlib.Core.Path.{sym, ap}
 use borrow.Author.Needs.{needs}
-use Rattle.award.specs.declared.Answer.{Answer}
-use Rattle.award.specs.Plain.{rowsFilled}
+use Rattle.tender.specs.declared.Answer.{Answer}
+use Rattle.outcome.specs.Plain.{rowsFilled}
 use Rattle.award.proofs.rows_filled.Statement.{statement}
 use Rattle.award.proofs.rows_filled.Tie as tie
 use Rattle.award.proofs.rows_filled.Reads as reads

@@ -3,7 +3,8 @@ use Prim.Native.Nat.{_+_, _*_, _-_, _≤_}
 use native.Mathlib.Omega.{arith}
 use lib.ListN.{getD}
 use lib.Bits.{bitAnd, bitOr}
-use Rattle.bidders.proofs.Masks.{row-within, Seeing, seeing-none, seeing-more, reached-soon, reached-one, reached-two}
+use Rattle.rounds.proofs.Rows.{row-within}
+use Rattle.bidders.proofs.Masks.{Seeing, seeing-none, seeing-more, reached-soon, reached-one, reached-two}
 use Rattle.bidders.proofs.seen.Statement.{statement}
 use Rattle.bidders.proofs.seen.Tie as tie
 use Rattle.bidders.proofs.seen.Reads as reads
@@ -21,19 +22,19 @@ loop-holds c = (omega arith, seeing-none (c .args .masks .now) (c .args .w) (c .
 
 -- src/lib.rt:75:23
 mul-x : tie.Need-mul-x Inv-loop μ-loop
-mul-x c = omega (arith, row-within (c .before .before .args .masks .now) (c .before .before .args .w) (c .before .before .args .n) (c .before .loop .i) (c .before .before .pre .0) (c .loop-test .taken))
+mul-x c = omega (arith, row-within (c .before .before .args .w) (c .before .before .args .n) (c .before .loop .i) (c .loop-test .taken), c .before .before .pre .0)
 
 -- src/lib.rt:75:23
 add-x : tie.Need-add-x Inv-loop μ-loop
-add-x c = omega (arith, row-within (c .before .before .args .masks .now) (c .before .before .args .w) (c .before .before .args .n) (c .before .loop .i) (c .before .before .pre .0) (c .loop-test .taken))
+add-x c = omega (arith, row-within (c .before .before .args .w) (c .before .before .args .n) (c .before .loop .i) (c .loop-test .taken), c .before .before .pre .0)
 
 -- src/lib.rt:75:17
 mul-x-2 : tie.Need-mul-x-2 Inv-loop μ-loop
-mul-x-2 c = omega (arith, row-within (c .before .before .args .masks .now) (c .before .before .args .w) (c .before .before .args .n) (c .before .loop .i) (c .before .before .pre .0) (c .loop-test .taken))
+mul-x-2 c = omega (arith, row-within (c .before .before .args .w) (c .before .before .args .n) (c .before .loop .i) (c .loop-test .taken), c .before .before .pre .0)
 
 -- src/lib.rt:75:17
 shared-slice-read-x : tie.Need-shared-slice-read-x Inv-loop μ-loop
-shared-slice-read-x c = omega (arith, row-within (c .before .before .before .args .masks .now) (c .before .before .before .args .w) (c .before .before .before .args .n) (c .before .before .loop .i) (c .before .before .before .pre .0) (c .before .loop-test .taken))
+shared-slice-read-x c = omega (arith, row-within (c .before .before .before .args .w) (c .before .before .before .args .n) (c .before .before .loop .i) (c .before .loop-test .taken), c .before .before .before .pre .0)
 
 -- src/lib.rt:79:13
 returns : tie.Need-returns Inv-loop μ-loop

@@ -6,9 +6,9 @@ use lib.ListN.{length}
 use Rattle.tender.specs.declared.Kind.the-variants.{Multi}
 use Rattle.tender.specs.Tables.{own}
 use Rattle.rounds.specs.Market.{row}
-use Rattle.rounds.proofs.Rows.{part-row}
+use Rattle.rounds.proofs.Rows.{part-row, row-within}
 use Rattle.layout.proofs.Laws.{row-room}
-use Rattle.layout.proofs.Rows.{Writing, writing-starts, writing-more, writing-ends, row-within, row-size}
+use Rattle.layout.proofs.Rows.{Writing, writing-starts, writing-more, writing-ends, row-size}
 use Rattle.layout.proofs.masks.Statement.{statement}
 use Rattle.layout.proofs.masks.Tie as tie
 use Rattle.layout.proofs.masks.Reads as reads

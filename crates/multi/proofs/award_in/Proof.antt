@@ -5,7 +5,7 @@ use native.Mathlib.Omega.{arith}
 use lib.ListN.{length, length-append, length-drop}
 use lib.Seq.{length-take-le}
 use Rattle.tournament.proofs.Order.{product}
-use Rattle.multi.proofs.Along.{settles}
+use Rattle.multi.proofs.Sums.{settles}
 use borrow.Author.Needs.{needs}
 use Rattle.multi.proofs.award_in.Statement.{statement}
 use Rattle.multi.proofs.award_in.Tie as tie

@@ -3,7 +3,8 @@ use Prim.Native.Nat.{ℕ, _+_, _-_}
 use mathlib.Core.Path.{_∙_, sym, ap}
 use native.Mathlib.Omega.{arith}
 use Rattle.tournament.proofs.Tree.{opened}
-use Rattle.multi.proofs.Along.{starts, awarded, paid-lengths}
+use Rattle.paying.proofs.Along.{starts}
+use Rattle.multi.proofs.Sums.{awarded, paid-lengths}
 use borrow.Author.Needs.{needs}
 use Rattle.multi.proofs.settle.Statement.{statement}
 use Rattle.multi.proofs.settle.Tie as tie
@@ -12,7 +13,7 @@ use Rattle.multi.proofs.settle.Lts as lts
 use Rattle.cells.proofs.count_none.Reads as count-none-reads
 use Rattle.charts.proofs.chart.Reads as chart-reads
 use Rattle.charts.proofs.enlist.Reads as enlist-reads
-use Rattle.multi.proofs.pay_all.Reads as pay-all-reads
+use Rattle.paying.proofs.pay_all.Reads as pay-all-reads
 use Rattle.multi.proofs.totals.Reads as totals-reads
 use Rattle.rounds.proofs.clear.Reads as clear-reads
 use Rattle.rounds.proofs.enter.Reads as enter-reads

@@ -1,0 +1,57 @@
+-- On tables that are not refused with 9: naming the true cost is best, and the rows of an award. Assumes nothing.
+use mathlib.Core.Path.{_≡_, refl, sym, ap, _∙_}
+use mathlib.Core.List.{List}
+use mathlib.Core.Bool.{Bool, true, false, cond}
+use mathlib.Core.Option.{none}
+use Prim.Native.Nat.{ℕ, _+_, _*_, _≤_, _<_}
+use native.Mathlib.Omega.{arith}
+use lib.ListN.{length, getD}
+use lib.Seq.{set-getD}
+use lib.Dec.{ltb}
+use Rattle.tender.specs.declared.Kind.{Kind}
+use Rattle.tender.specs.declared.Tender.{Tender}
+use Rattle.tender.specs.declared.AwardRow.{AwardRow}
+use Rattle.tender.specs.declared.Refusal.the-variants.{RowsTooFew}
+use Rattle.tender.specs.Tables.{rowsOf}
+use Rattle.cover.specs.Sets.{when}
+use Rattle.tables.specs.Faults.{faultOf}
+use Rattle.tables.specs.Cells.{cellsOf, hasOf, pricesOf}
+use Rattle.tables.specs.Alike.{Alike}
+use Rattle.tables.specs.AlikeLaws.{faultless, prices-count, prices-alike, cells-alike, price-named}
+use Rattle.outcome.specs.Award.{won, cents, awarded, declined, settled, awardOf}
+use Rattle.outcome.specs.AwardLaws.{award-none, Awarded}
+use Rattle.award.specs.Gain.{rowFor, gain, AtMost}
+use Rattle.award.specs.SettleLaws.{settled-honest, row-filled, rowIn, fair}
+
+module _ (k : Kind) (t : Tender) (n i : ℕ) (bids windows : List ℕ) (inside : i < n) (f : faultOf k t n bids windows ≡ none) where
+  ps : List ℕ
+  ps = pricesOf (rowsOf n bids)
+
+  -- naming another price is no better
+  pub award-honest : (bids′ windows′ : List ℕ) (lent lent′ m m′ : ℕ) → faultOf k t n bids′ windows′ ≡ none → Alike n i bids windows bids′ windows′ → ltb lent n ≡ ltb lent′ n →
+      AtMost (gain (getD bids (4 * i + 1) 0) (rowFor (awardOf k t n bids′ windows′ lent′ m′) i)) (gain (getD bids (4 * i + 1) 0) (rowFor (awardOf k t n bids windows lent m) i))
+  unfolding ps rowFor gain
+  award-honest bids′ windows′ lent lent′ m m′ f′ a e = rw (award-none k t n bids windows lent m f, award-none k t n bids′ windows′ lent′ m′ f′, ← e) (go (ltb lent n))
+    where
+      go : (b : Bool) → AtMost (gain (getD bids (4 * i + 1) 0) (rowFor (cond b (declined RowsTooFew) (settled k (hasOf t (rowsOf n bids′) windows′) (pricesOf (rowsOf n bids′)) (cellsOf t) m′)) i))
+          (gain (getD bids (4 * i + 1) 0) (rowFor (cond b (declined RowsTooFew) (settled k (hasOf t (rowsOf n bids) windows) (pricesOf (rowsOf n bids)) (cellsOf t) m)) i))
+      go true = omega arith
+      go false = rw (
+        cells-alike k t n i bids windows bids′ windows′ inside (faultless k t n bids windows f .rows) a,
+        prices-alike k t n i bids windows bids′ windows′ inside (faultless k t n bids windows f .rows) a,
+        ← price-named n i bids inside,
+      ) (settled-honest k (hasOf t (rowsOf n bids) windows) ps (cellsOf t) i (getD bids′ (4 * i + 1) 0) m m′ (rw (prices-count n bids) inside))
+
+module _ (k : Kind) (t : Tender) (n : ℕ) (bids windows : List ℕ) (lent : ℕ) (rows : List AwardRow) (cost paid : ℕ) (w : Awarded k t n bids windows lent rows cost paid) where
+  pub row-is : (i : ℕ) → i < n → rowFor (awarded rows cost paid) i ≡ rowIn k (hasOf t (rowsOf n bids) windows) (pricesOf (rowsOf n bids)) (cellsOf t) i
+  row-is i l = ap (λ rs. rowFor (awarded rs cost paid) i) (w .settles .rows-are) ∙ row-filled k (hasOf t (rowsOf n bids) windows) (pricesOf (rowsOf n bids)) (cellsOf t) i cost paid (rw (prices-count n bids) l)
+
+  pub row-fair : (i : ℕ) → i < n → rowFor (awarded rows cost paid) i .won ≡ true → getD bids (4 * i + 1) 0 ≤ rowFor (awarded rows cost paid) i .cents
+  row-fair i l e =
+      let h = fair (hasOf t (rowsOf n bids) windows) (pricesOf (rowsOf n bids)) (cellsOf t) i (rw (prices-count n bids) l) (w .settles .two) k (getD (pricesOf (rowsOf n bids)) i 0) in
+      rw (row-is i l, ← price-named n i bids l) (go (rw (row-is i l) at e) (rw (set-getD (pricesOf (rowsOf n bids)) i 0) at h))
+    where
+      go : won k (hasOf t (rowsOf n bids) windows) (pricesOf (rowsOf n bids)) (cellsOf t) i ≡ true →
+          when (won k (hasOf t (rowsOf n bids) windows) (pricesOf (rowsOf n bids)) (cellsOf t) i) (getD (pricesOf (rowsOf n bids)) i 0) ≤ cents k (hasOf t (rowsOf n bids) windows) (pricesOf (rowsOf n bids)) (cellsOf t) i →
+          getD (pricesOf (rowsOf n bids)) i 0 ≤ cents k (hasOf t (rowsOf n bids) windows) (pricesOf (rowsOf n bids)) (cellsOf t) i
+      go f h = rw f at h

@@ -1,0 +1,3 @@
+pub mod Multi
+pub mod Prefix
+pub mod Single

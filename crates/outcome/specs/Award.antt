@@ -1,0 +1,114 @@
+-- The whole answer of either award to its tables (paper 01, "Who wins and what is paid" and "What each operation declines").
+use mathlib.Core.Path.{_≡_}
+use mathlib.Core.List.{List, _++_}
+use mathlib.Core.Bool.{Bool, true, false, cond, not}
+use mathlib.Core.Option.{Option, none, some}
+use Prim.Native.Nat.{ℕ, _-_, _≤_, _<_}
+use lib.ListN.{length, getD, take, drop}
+use lib.Dec.{ltb}
+use Rattle.tender.specs.declared.Kind.{Kind}
+use Rattle.tender.specs.declared.Kind.the-variants.{Single, Multi}
+use Rattle.tender.specs.declared.Tender.{Tender}
+use Rattle.tender.specs.declared.Refusal.{Refusal}
+use Rattle.tender.specs.declared.Refusal.the-variants.{BadTables, RowsTooFew, MinuteUncovered, OneBidder}
+use Rattle.tender.specs.Refusals.{numberOf, placeOf}
+use Rattle.tender.specs.Tables.{rowsOf}
+use Rattle.cover.specs.Sets.{when, bit, covers, cells, bidders, each}
+use Rattle.cover.specs.LeastCover.{winners, vcgPaid}
+use Rattle.cover.specs.Greedy.{wins}
+use Rattle.cover.specs.CriticalPrice.{criticalPaid, sum}
+use Rattle.cover.specs.Settled.{listed}
+use Rattle.tables.specs.Faults.{faultOf}
+use Rattle.tables.specs.Cells.{cellsOf, hasOf, pricesOf}
+use Rattle.tender.specs.declared.AwardRow.{AwardRow}
+use Rattle.tender.specs.declared.Answer.{Answer}
+use Rattle.tender.specs.declared.Answer.the-variants.{Awarded, Refused}
+
+-- Over L cells, where bid i of the prices ps has the cell x if `has i x`: bid i wins in a single tender if it is in the least cover, in a multi tender if the greedy run takes it
+unfoldable pub won : Kind → (ℕ → ℕ → Bool) → List ℕ → ℕ → ℕ → Bool
+unfolding bit covers winners cells wins
+won Single has ps L i = bit (winners (covers has (length ps) L) ps) i
+won Multi has ps L i = wins has ps (cells L) i
+
+-- and is paid by document 000's formula 8, or the largest whole price with which it would still win
+unfoldable pub cents : Kind → (ℕ → ℕ → Bool) → List ℕ → ℕ → ℕ → ℕ
+unfolding covers vcgPaid cells criticalPaid
+cents Single has ps L i = vcgPaid (covers has (length ps) L) ps i
+cents Multi has ps L i = criticalPaid has ps (cells L) i
+
+pub data Outcome : Type 0 where
+  -- the rows filled, the winners' cost and the sum paid
+  awarded : List AwardRow → ℕ → ℕ → Outcome
+  -- the refusal's number and place
+  refused : ℕ → ℕ → Outcome
+
+abbrev pub declined : Refusal → Outcome
+declined r = refused (numberOf r) (placeOf r)
+
+-- one award row for each bid, in entry order
+unfoldable pub filled : Kind → (ℕ → ℕ → Bool) → List ℕ → ℕ → List AwardRow
+unfolding won cents listed
+filled k has ps L = listed (length ps) (λ i. record { won = won k has ps L i; cents = cents k has ps L i })
+
+unfoldable pub costOf : Kind → (ℕ → ℕ → Bool) → List ℕ → ℕ → ℕ
+unfolding won listed sum
+costOf k has ps L = sum (listed (length ps) (λ i. when (won k has ps L i) (getD ps i 0)))
+
+unfoldable pub paidOf : Kind → (ℕ → ℕ → Bool) → List ℕ → ℕ → ℕ
+unfolding cents listed sum
+paidOf k has ps L = sum (listed (length ps) (cents k has ps L))
+
+-- 11 where some cell is in no bid, 12 where none is but some cell is in one alone, else the award; `minute` is the place answered with 11 or 12
+unfoldable pub settled : Kind → (ℕ → ℕ → Bool) → List ℕ → ℕ → ℕ → Outcome
+unfolding each filled costOf paidOf
+settled k has ps L minute =
+    cond (not (each has (length ps) L 1)) (declined (MinuteUncovered minute))
+    (cond (not (each has (length ps) L 2)) (declined (OneBidder minute))
+    (awarded (filled k has ps L) (costOf k has ps L) (paidOf k has ps L)))
+
+unfoldable pub judged : Option ℕ → Outcome → Outcome
+judged none o = o
+judged (some place) o = declined (BadTables place)
+
+-- the award of the kind k, where n bids are stated and `lent` award rows are lent: first 9, then 10, then the tender itself
+unfoldable pub awardOf : Kind → Tender → ℕ → List ℕ → List ℕ → ℕ → ℕ → Outcome
+unfolding judged faultOf settled hasOf rowsOf pricesOf cellsOf
+awardOf k t n bids windows lent minute =
+    judged (faultOf k t n bids windows)
+    (cond (ltb lent n) (declined RowsTooFew)
+    (settled k (hasOf t (rowsOf n bids) windows) (pricesOf (rowsOf n bids)) (cellsOf t) minute))
+
+unfoldable pub number : Outcome → ℕ
+number (awarded rows cost paid) = 0
+number (refused n at) = n
+
+unfoldable pub place : Outcome → ℕ
+place (awarded rows cost paid) = 0
+place (refused n at) = at
+
+-- the minute is in the tender, and in exactly m bids
+pub record InBids (t : Tender) (n : ℕ) (bids windows : List ℕ) (minute m : ℕ) : Type 0 where
+  pub from : t .window .start ≤ minute
+  pub to : minute < t .window .end
+  pub bids-with-it : bidders (hasOf t (rowsOf n bids) windows) n (minute - t .window .start) ≡ m
+
+-- the outcome is right: all of it but the minute is given, and of the minute what holds of it
+pub record Answers (k : Kind) (t : Tender) (n : ℕ) (bids windows : List ℕ) (lent : ℕ) (o : Outcome) : Type 0 where
+  pub is : o ≡ awardOf k t n bids windows lent (place o)
+  pub nobody : number o ≡ numberOf (MinuteUncovered (place o)) → InBids t n bids windows (place o) 0
+  pub alone : number o ≡ numberOf (OneBidder (place o)) → InBids t n bids windows (place o) 1
+
+-- the lent award rows after the call: rows past the last bid stay, and all of them where the award declines
+unfoldable pub lentAfter : List AwardRow → Outcome → List AwardRow
+lentAfter old (awarded rows cost paid) = rows ++ drop (length rows) old
+lentAfter old (refused n at) = old
+
+-- what a call on n bids told: its answer, and the first n of the lent rows where it awards
+unfoldable pub told : ℕ → List AwardRow → Answer → Outcome
+told n rows (Awarded totals) = awarded (take n rows) (totals .cost) (totals .paid)
+told n rows (Refused r) = declined r
+
+-- the promise of a call: it leaves the lent rows `new` and answers a
+pub record Promise (k : Kind) (t : Tender) (n : ℕ) (bids windows : List ℕ) (old new : List AwardRow) (a : Answer) : Type 0 where
+  pub answers : Answers k t n bids windows (length old) (told n new a)
+  pub rows : new ≡ lentAfter old (told n new a)

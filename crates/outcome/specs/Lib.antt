@@ -1,0 +1,4 @@
+pub mod Award
+pub mod Plain
+pub mod AwardLaws
+pub mod PlainLaws

@@ -1,0 +1,209 @@
+-- How the answer over plain cells comes about: from a fault, too few rows, a cell in no bid or in one, or what a core settles. Assumes nothing.
+use mathlib.Core.Path.{_≡_, refl, sym, ap, _∙_}
+use mathlib.Core.List.{List, [], _∷_, _++_, map}
+use mathlib.Core.Bool.{Bool, true, false, cond, not, true≢false}
+use mathlib.Core.Option.{Option, none, some}
+use Prim.Native.Nat.{ℕ, zero, suc, _+_, _-_, _≤_, _<_}
+use native.Mathlib.Omega.{arith}
+use lib.ListN.{length, getD, drop, List·getD-append}
+use lib.Dec.{leb, ltb, eqb}
+use borrow.Author.Tests.{ltb-true, ltb-false, lt-ltb, le-ltb, leb-true, le-leb}
+use Rattle.tender.specs.declared.Kind.{Kind}
+use Rattle.tender.specs.declared.Kind.the-variants.{Single, Multi}
+use Rattle.tender.specs.declared.Tender.{Tender}
+use Rattle.tender.specs.declared.Totals.{Totals}
+use Rattle.tender.specs.declared.Refusal.{Refusal}
+use Rattle.tender.specs.declared.Refusal.the-variants.{BadTables, RowsTooFew, MinuteUncovered, OneBidder}
+use Rattle.tender.specs.Tables.{rowsOf}
+use Rattle.cover.specs.Sets.{when, all, bidders, each, covers, cells, bit}
+use Rattle.cover.specs.SetLaws.{all-of, all-at}
+use Rattle.cover.specs.LeastCover.{winners, vcgPaid}
+use Rattle.cover.specs.Greedy.{wins}
+use Rattle.cover.specs.CriticalPrice.{sum, criticalPaid, roundsPaid}
+use Rattle.cover.specs.CriticalLaws.{paid-by-rounds}
+use Rattle.cover.specs.SpareLaws.{spare-bids}
+use Rattle.cover.specs.Settled.{listed}
+use Rattle.cover.specs.Settled as core
+use Rattle.cover.specs.SettledLaws.{length-listed, getD-listed, listed-same, map-listed}
+use Rattle.tables.specs.Faults.{faultOf}
+use Rattle.tables.specs.Cells.{cellsOf, hasOf, pricesOf}
+use Rattle.tables.specs.AlikeLaws.{prices-count}
+use Rattle.tender.specs.declared.AwardRow.{AwardRow}
+use Rattle.tender.specs.declared.Answer.{Answer}
+use Rattle.tender.specs.declared.Answer.the-variants.{Awarded, Refused}
+use Rattle.outcome.specs.Award.{won, cents, awarded, declined, filled, costOf, paidOf, settled, judged, awardOf, number, place, InBids, Answers}
+use Rattle.outcome.specs.Plain.{rowsIn, toldIn, wonAfter, centsAfter, PlainPromise}
+use Rattle.outcome.specs.AwardLaws.{won-single, cents-single, won-multi, cents-multi, settled-is, award-none, award-nine}
+
+flag : (b : Bool) → eqb (when b 1) 1 ≡ b
+flag true = refl
+flag false = refl
+
+-- how many bidders each cell has
+
+pub each-fails : (has : ℕ → ℕ → Bool) (n L m x : ℕ) → x < L → bidders has n x < m → each has n L m ≡ false
+unfolding each
+each-fails has n L m x l h = go (all L (λ x. leb m (bidders has n x))) refl
+  where
+    go : (b : Bool) → all L (λ x. leb m (bidders has n x)) ≡ b → b ≡ false
+    go true e = absurd (omega (arith, leb-true m (bidders has n x) (all-at (λ x. leb m (bidders has n x)) L e x l)))
+    go false e = refl
+
+pub two-one : (has : ℕ → ℕ → Bool) (n L : ℕ) → each has n L 2 ≡ true → each has n L 1 ≡ true
+unfolding each
+two-one has n L e = all-of (λ x. leb 1 (bidders has n x)) L (λ x l. le-leb 1 (bidders has n x) (omega (arith, leb-true 2 (bidders has n x) (all-at (λ x. leb 2 (bidders has n x)) L e x l))))
+
+module _ (k : Kind) (t : Tender) (n : ℕ) (bids windows : List ℕ) (lent : ℕ) (ow oc : List ℕ) where
+  abbrev has : ℕ → ℕ → Bool
+  has = hasOf t (rowsOf n bids) windows
+
+  abbrev ps : List ℕ
+  ps = pricesOf (rowsOf n bids)
+
+  abbrev L : ℕ
+  L = cellsOf t
+
+  -- a refusal leaves the cells
+  refuses : (r : Refusal) → Answers k t n bids windows lent (toldIn n ow oc (Refused r)) → PlainPromise k t n bids windows lent ow oc ow oc (Refused r)
+  unfolding toldIn wonAfter centsAfter
+  refuses r a = record { answers = a; won-cells = refl; cents-cells = refl }
+
+  pub nine : (p : ℕ) → faultOf k t n bids windows ≡ some p → PlainPromise k t n bids windows lent ow oc ow oc (Refused (BadTables p))
+  unfolding toldIn number place
+  nine p e = refuses (BadTables p) (record { is = sym (award-nine k t n bids windows lent p p e); nobody = λ z. absurd (omega arith); alone = λ z. absurd (omega arith) })
+
+  module _ (f : faultOf k t n bids windows ≡ none) where
+    pub ten : lent < n → PlainPromise k t n bids windows lent ow oc ow oc (Refused RowsTooFew)
+    unfolding toldIn number place
+    ten l = refuses RowsTooFew (record {
+      is = sym (award-none k t n bids windows lent 0 f ∙ ap (λ b. cond b (declined RowsTooFew) (settled k has ps L 0)) (lt-ltb lent n l));
+      nobody = λ z. absurd (omega arith);
+      alone = λ z. absurd (omega arith);
+    })
+
+    module _ (enough : n ≤ lent) where
+      settles : (a b : Bool) → each has n L 1 ≡ a → each has n L 2 ≡ b → (m : ℕ) → awardOf k t n bids windows lent m
+          ≡ cond (not a) (declined (MinuteUncovered m)) (cond (not b) (declined (OneBidder m)) (awarded (filled k has ps L) (costOf k has ps L) (paidOf k has ps L)))
+      settles a b d e m =
+          award-none k t n bids windows lent m f ∙ ap (λ b. cond b (declined RowsTooFew) (settled k has ps L m)) (le-ltb lent n enough) ∙ settled-is k has ps L m a b (rw (prices-count n bids) d) (rw (prices-count n bids) e)
+
+      in-bids : (x m : ℕ) → x < L → bidders has n x ≡ m → InBids t n bids windows (t .window .start + x) m
+      unfolding cellsOf
+      in-bids x m l e =
+          let s : t .window .start + x - t .window .start ≡ x = omega arith in
+          record { from = omega arith; to = omega arith; bids-with-it = ap (bidders has n) s ∙ e }
+
+      pub eleven : (x : ℕ) → x < L → bidders has n x ≡ 0 → PlainPromise k t n bids windows lent ow oc ow oc (Refused (MinuteUncovered (t .window .start + x)))
+      unfolding toldIn number place
+      eleven x l e = refuses (MinuteUncovered (t .window .start + x)) (record {
+        is = sym (settles false (each has n L 2) (each-fails has n L 1 x l (omega arith)) refl (t .window .start + x));
+        nobody = λ z. in-bids x 0 l e;
+        alone = λ z. absurd (omega arith);
+      })
+
+      pub twelve : (x : ℕ) → each has n L 1 ≡ true → x < L → bidders has n x ≡ 1 → PlainPromise k t n bids windows lent ow oc ow oc (Refused (OneBidder (t .window .start + x)))
+      unfolding toldIn number place
+      twelve x d l e = refuses (OneBidder (t .window .start + x)) (record {
+        is = sym (settles true false d (each-fails has n L 2 x l (omega arith)) (t .window .start + x));
+        nobody = λ z. absurd (omega arith);
+        alone = λ z. in-bids x 1 l e;
+      })
+
+      -- a core settles by the flags w and the payments c, which are those of the definitions
+      module _ (two : each has n L 2 ≡ true) (w : ℕ → Bool) (c : ℕ → ℕ) (w-is : (i : ℕ) → i < n → w i ≡ won k has ps L i) (c-is : (i : ℕ) → i < n → c i ≡ cents k has ps L i)
+          (nw nc : List ℕ) (totals : Totals) (s : core.Settled w c ps ow oc nw nc (totals .cost) (totals .paid)) where
+        rows-are : rowsIn n nw nc ≡ filled k has ps L
+        unfolding rowsIn filled
+        rows-are =
+            listed-same n (λ i. record { won = eqb (getD nw i 0) 1; cents = getD nc i 0 }) (λ i. record { won = won k has ps L i; cents = cents k has ps L i }) (λ i l. rw (flag-at i l, pay-at i l))
+            ∙ ap (λ (m : ℕ). listed m (λ i. record { won = won k has ps L i; cents = cents k has ps L i })) (sym (prices-count n bids))
+          where
+            flag-at : (i : ℕ) → i < n → eqb (getD nw i 0) 1 ≡ won k has ps L i
+            flag-at i l =
+                ap (λ (v : ℕ). eqb v 1) (ap (λ (zs : List ℕ). getD zs i 0) (s .flags) ∙ List·getD-append (listed (length ps) (λ i. when (w i) 1)) (drop (length ps) ow) 0 i (omega (arith, length-listed (length ps) (λ i. when (w i) 1), prices-count n bids))
+                ∙ getD-listed (length ps) (λ i. when (w i) 1) i 0 (omega (arith, prices-count n bids)))
+                ∙ flag (w i) ∙ w-is i l
+
+            pay-at : (i : ℕ) → i < n → getD nc i 0 ≡ cents k has ps L i
+            pay-at i l =
+                ap (λ (zs : List ℕ). getD zs i 0) (s .payments) ∙ List·getD-append (listed (length ps) c) (drop (length ps) oc) 0 i (omega (arith, length-listed (length ps) c, prices-count n bids))
+                ∙ getD-listed (length ps) c i 0 (omega (arith, prices-count n bids)) ∙ c-is i l
+
+        cost-is : totals .cost ≡ costOf k has ps L
+        unfolding costOf
+        cost-is = s .cost-is ∙ ap sum (listed-same (length ps) (λ i. when (w i) (getD ps i 0)) (λ i. when (won k has ps L i) (getD ps i 0)) (λ i l. ap (λ b. when b (getD ps i 0)) (w-is i (omega (arith, prices-count n bids)))))
+
+        paid-is : totals .paid ≡ paidOf k has ps L
+        unfolding paidOf
+        paid-is = s .paid-is ∙ ap sum (listed-same (length ps) c (cents k has ps L) (λ i l. c-is i (omega (arith, prices-count n bids))))
+
+        outcome-is : toldIn n nw nc (Awarded totals) ≡ awarded (filled k has ps L) (costOf k has ps L) (paidOf k has ps L)
+        unfolding toldIn
+        outcome-is = rw (rows-are, cost-is, paid-is)
+
+        rows-count : length (filled k has ps L) ≡ length ps
+        unfolding filled
+        rows-count = length-listed (length ps) _
+
+        flags-are : map (λ r. when (r .won) 1) (filled k has ps L) ≡ listed (length ps) (λ i. when (w i) 1)
+        unfolding filled
+        flags-are =
+            map-listed (length ps) (λ i. record { won = won k has ps L i; cents = cents k has ps L i }) (λ r. when (r .won) 1)
+            ∙ listed-same (length ps) (λ i. when (won k has ps L i) 1) (λ i. when (w i) 1) (λ i l. ap (λ b. when b 1) (sym (w-is i (omega (arith, prices-count n bids)))))
+
+        pays-are : map (λ r. r .cents) (filled k has ps L) ≡ listed (length ps) c
+        unfolding filled
+        pays-are =
+            map-listed (length ps) (λ i. record { won = won k has ps L i; cents = cents k has ps L i }) (λ r. r .cents)
+            ∙ listed-same (length ps) (cents k has ps L) c (λ i l. sym (c-is i (omega (arith, prices-count n bids))))
+
+        won-after : nw ≡ wonAfter ow (awarded (filled k has ps L) (costOf k has ps L) (paidOf k has ps L))
+        unfolding wonAfter
+        won-after = s .flags ∙ sym (ap (λ l. l ++ drop (length (filled k has ps L)) ow) flags-are ∙ ap (λ (m : ℕ). listed (length ps) (λ i. when (w i) 1) ++ drop m ow) rows-count)
+
+        cents-after : nc ≡ centsAfter oc (awarded (filled k has ps L) (costOf k has ps L) (paidOf k has ps L))
+        unfolding centsAfter
+        cents-after = s .payments ∙ sym (ap (λ l. l ++ drop (length (filled k has ps L)) oc) pays-are ∙ ap (λ (m : ℕ). listed (length ps) c ++ drop m oc) rows-count)
+
+        number-is : number (toldIn n nw nc (Awarded totals)) ≡ 0
+        unfolding number toldIn
+        number-is = refl
+
+        pub awards : PlainPromise k t n bids windows lent ow oc nw nc (Awarded totals)
+        awards = record {
+          answers = record {
+            is = outcome-is ∙ sym (settles true true (two-one has n L two) two (place (toldIn n nw nc (Awarded totals))));
+            nobody = λ z. absurd (omega (arith, number-is));
+            alone = λ z. absurd (omega (arith, number-is));
+          };
+          won-cells = won-after ∙ sym (ap (wonAfter ow) outcome-is);
+          cents-cells = cents-after ∙ sym (ap (centsAfter oc) outcome-is);
+        }
+
+-- what the two cores settle by is what the definitions say
+
+pub single-won : (has : ℕ → ℕ → Bool) (ps : List ℕ) (L i : ℕ) → bit (winners (covers has (length ps) L) ps) i ≡ won Single has ps L i
+single-won has ps L i = sym (won-single has ps L i (length ps) refl)
+
+pub single-cents : (has : ℕ → ℕ → Bool) (ps : List ℕ) (L i : ℕ) → vcgPaid (covers has (length ps) L) ps i ≡ cents Single has ps L i
+single-cents has ps L i = sym (cents-single has ps L i (length ps) refl)
+
+pub multi-won : (has : ℕ → ℕ → Bool) (ps : List ℕ) (L i : ℕ) → wins has ps (cells L) i ≡ won Multi has ps L i
+multi-won has ps L i = sym (won-multi has ps L i)
+
+pub multi-cents : (has : ℕ → ℕ → Bool) (ps : List ℕ) (L i : ℕ) → i < length ps → each has (length ps) L 2 ≡ true → roundsPaid has ps (cells L) i ≡ cents Multi has ps L i
+multi-cents has ps L i l two = sym (cents-multi has ps L i ∙ paid-by-rounds has ps (cells L) i l (spare-bids has (length ps) L two ps i))
+
+-- more award rows than bids change nothing
+pub lent-more : (k : Kind) (t : Tender) (n : ℕ) (bids windows : List ℕ) (lent : ℕ) (ow oc nw nc : List ℕ) (a : Answer) → n ≤ lent → PlainPromise k t n bids windows n ow oc nw nc a → PlainPromise k t n bids windows lent ow oc nw nc a
+unfolding awardOf
+lent-more k t n bids windows lent ow oc nw nc a l p = record {
+  answers = record {
+    is = p .answers .is ∙ ap (λ b. judged (faultOf k t n bids windows) (cond b (declined RowsTooFew) (settled k (hasOf t (rowsOf n bids) windows) (pricesOf (rowsOf n bids)) (cellsOf t) (place (toldIn n nw nc a)))))
+        (le-ltb n n (omega arith) ∙ sym (le-ltb lent n l));
+    nobody = p .answers .nobody;
+    alone = p .answers .alone;
+  };
+  won-cells = p .won-cells;
+  cents-cells = p .cents-cells;
+}
