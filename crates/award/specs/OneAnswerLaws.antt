@@ -1,9 +1,9 @@
 -- A right outcome is one award or one refusal, in the order of paper 01. Assumes nothing.
-use mathlib.Core.Path.{_≡_, refl, sym, ap, _∙_}
+use mathlib.Core.Path.{_≡_, refl, ap, _∙_}
 use mathlib.Core.List.{List, _++_}
 use mathlib.Core.Bool.{Bool, true, false, cond, not}
 use mathlib.Core.Option.{Option, none, some}
-use Prim.Native.Nat.{ℕ, _-_, _≤_, _<_}
+use Prim.Native.Nat.{ℕ, _-_, _≤_}
 use native.Mathlib.Omega.{arith}
 use lib.ListN.{length, drop}
 use lib.Dec.{leb, ltb}
@@ -22,7 +22,7 @@ use Rattle.tables.specs.Cells.{cellsOf, hasOf, pricesOf}
 use Rattle.tables.specs.AlikeLaws.{prices-count}
 use Rattle.tender.specs.declared.AwardRow.{AwardRow}
 use Rattle.tender.specs.declared.Answer.{Answer}
-use Rattle.outcome.specs.Award.{Outcome, awarded, declined, filled, costOf, paidOf, settled, awardOf, number, place, InBids, Answers, lentAfter, told, Promise}
+use Rattle.outcome.specs.Award.{Outcome, awarded, declined, filled, costOf, paidOf, settled, number, place, InBids, lentAfter, told, Promise}
 use Rattle.award.specs.Right.{Callable, Bidders, IsAward, IsRefusal, OneAnswer, tables-break-a-rule, rows-too-few, minute-uncovered, one-bidder, award}
 use Rattle.outcome.specs.AwardLaws.{settled-is, award-none, award-nine}
 

@@ -1,8 +1,8 @@
 -- What a right outcome says of gains, winners and payments. Assumes nothing.
 use mathlib.Core.Path.{_≡_, refl, sym, ap, _∙_}
 use mathlib.Core.List.{List, [], _∷_}
-use mathlib.Core.Bool.{Bool, true, false}
-use Prim.Native.Nat.{ℕ, zero, suc, _+_, _*_, _^_, _≤_, _<_}
+use mathlib.Core.Bool.{true, false}
+use Prim.Native.Nat.{ℕ, zero, suc, _+_, _≤_, _<_}
 use native.Mathlib.Omega.{arith}
 use lib.ListN.{length, getD, set, drop, List·getD-append}
 use lib.Dec.{ltb, leb}
@@ -10,20 +10,20 @@ use Rattle.tender.specs.declared.Kind.{Kind}
 use Rattle.tender.specs.declared.Kind.the-variants.{Single, Multi}
 use Rattle.tender.specs.declared.Tender.{Tender}
 use Rattle.tender.specs.Tables.{rowsOf}
-use Rattle.cover.specs.Sets.{bit, covers}
+use Rattle.cover.specs.Sets.{covers}
 use Rattle.cover.specs.Sets as sets
-use Rattle.cover.specs.LeastCover.{Wins, Stands, winners, without}
+use Rattle.cover.specs.LeastCover.{winners, without}
 use Rattle.cover.specs.LeastCoverLaws.{tie}
 use Rattle.cover.specs.SpareLaws.{least-wins}
 use Rattle.tables.specs.Cells.{cellsOf, hasOf, pricesOf}
 use Rattle.tables.specs.Alike.{named, Alike}
 use Rattle.tables.specs.AlikeLaws.{prices-count, price-named}
 use Rattle.tender.specs.declared.AwardRow.{AwardRow}
-use Rattle.outcome.specs.Award.{won, Outcome, awarded, refused, awardOf, number, place, Answers, lentAfter}
-use Rattle.award.specs.Gain.{lost, rowFor, gain, AtMost}
+use Rattle.outcome.specs.Award.{won, Outcome, awarded, refused, number, place, Answers, lentAfter}
+use Rattle.award.specs.Gain.{rowFor, gain, AtMost}
 use Rattle.award.specs.Right.{LeastCover, WinnerAt, PaidByEight}
-use Rattle.outcome.specs.AwardLaws.{won-single, cents-single, no-fault, Awarded, award-awarded, rows-count}
-use Rattle.award.specs.SettleLaws.{cost-single, largest, vcg-pays, Winner, winners-cover}
+use Rattle.outcome.specs.AwardLaws.{won-single, cents-single, no-fault, award-awarded, rows-count}
+use Rattle.award.specs.SettleLaws.{cost-single, largest, vcg-pays, winners-cover}
 use Rattle.award.specs.TableLaws.{award-honest, row-is, row-fair}
 
 -- Two tenders that neither answer refuses with 9, alike in all but the price of bid i, each with an award row for every bid or each with fewer:

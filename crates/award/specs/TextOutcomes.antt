@@ -1,9 +1,9 @@
 -- Outcomes of an award called on what two texts give that differ in how one price is written. Assumes nothing.
-use mathlib.Core.Path.{_≡_, refl, sym, ap, _∙_}
-use mathlib.Core.List.{List, [], _∷_, _++_}
-use mathlib.Core.Bool.{Bool, true, false, _&&_, cond}
-use mathlib.Core.Option.{Option, none, some}
-use Prim.Native.Nat.{ℕ, _+_, _*_, _≤_, _<_}
+use mathlib.Core.Path.{_≡_, refl, _∙_}
+use mathlib.Core.List.{List, _++_}
+use mathlib.Core.Bool.{Bool, true, false}
+use mathlib.Core.Option.{some}
+use Prim.Native.Nat.{ℕ, _+_, _*_}
 use native.Mathlib.Omega.{arith}
 use lib.ListN.{length, getD}
 use lib.Dec.{ltb}
@@ -12,16 +12,13 @@ use Rattle.tender.specs.declared.Kind.the-variants.{Single, Multi}
 use Rattle.tender.specs.declared.Window.{Window}
 use Rattle.tender.specs.declared.Tender.{Tender}
 use Rattle.tender.specs.declared.Refusal.the-variants.{BadTables}
-use Rattle.tender.specs.Limits.{lawful}
-use Rattle.tender.specs.Tables.{Row, rowsOf, flatRows, flatWindows}
-use Rattle.reader.specs.Words.{numeralOf, priceOf}
+use Rattle.tender.specs.Tables.{Row, flatRows, flatWindows}
 use Rattle.reader.specs.Read.{accepted, readText}
 use Rattle.reader.specs.Rules.{Rules}
 use Rattle.reader.specs.RulesLaw.{rules-law}
 use Rattle.reader.specs.Differ.{DifferInPrice, RowsDifferInPrice}
 use Rattle.reader.specs.PriceLaw.{price-law}
-use Rattle.tables.specs.Faults.{sameKind, rowFault, faultOf}
-use Rattle.tables.specs.Cells.{noRow}
+use Rattle.tables.specs.Faults.{sameKind, faultOf}
 use Rattle.tables.specs.Alike.{named}
 use Rattle.tables.specs.TextLaws.{never-nine, Tabled, tabled}
 use Rattle.outcome.specs.Award.{Outcome, declined, awardOf, place, Answers}

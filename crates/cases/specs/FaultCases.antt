@@ -1,17 +1,14 @@
 -- Tables that are refused with 9 or 10, by computation. Assumes nothing.
 use mathlib.Core.Path.{_≡_, refl}
 use mathlib.Core.List.{List, [], _∷_, _++_}
-use mathlib.Core.Bool.{Bool, true, false, _&&_}
-use Prim.Native.Nat.{ℕ, zero, suc, _+_, _*_}
-use mathlib.Core.Option.{Option, none, some}
-use lib.ListN.{length}
+use mathlib.Core.Bool.{Bool, true, _&&_}
+use Prim.Native.Nat.{ℕ, zero, suc, _+_}
+use mathlib.Core.Option.{some}
 use lib.Dec.{eqb}
 use Rattle.tender.specs.declared.Kind.{Kind}
 use Rattle.tender.specs.declared.Kind.the-variants.{Single, Multi}
-use Rattle.tender.specs.declared.Window.{Window}
-use Rattle.tender.specs.declared.Tender.{Tender}
 use Rattle.tables.specs.Faults.{faultOf}
-use Rattle.outcome.specs.Award.{Outcome, awarded, refused, awardOf, number, place}
+use Rattle.outcome.specs.Award.{Outcome, awardOf, number, place}
 
 unfoldable pub refuses : ℕ → ℕ → Outcome → Bool
 unfolding number place

@@ -2,14 +2,9 @@
 use mathlib.Core.Path.{_≡_, refl, sym, ap, _∙_}
 use mathlib.Core.List.{List, [], _∷_}
 use mathlib.Core.Bool.{Bool, true, false, not, _&&_, _||_, false≢true}
-use Prim.Native.Nat.{ℕ, _+_, _-_, _/_}
-use lib.ListN.{length}
+use Prim.Native.Nat.{ℕ, _-_}
 use lib.Dec.{leb, ltb, eqb}
 use borrow.Author.Tests.{leb-true, ltb-true, eqb-true, eq-eqb}
-use Rattle.tender.specs.declared.Kind.{Kind}
-use Rattle.tender.specs.declared.Kind.the-variants.{Single, Multi}
-use Rattle.tender.specs.declared.Window.{Window}
-use Rattle.tender.specs.declared.Tender.{Tender}
 use Rattle.tender.specs.Tables.{rowsOf}
 use Rattle.cover.specs.Sets.{bidders}
 use Rattle.cover.specs.SetLaws.{and-split}

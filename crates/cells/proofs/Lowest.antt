@@ -2,7 +2,7 @@
 use mathlib.Core.Path.{_≡_, refl, sym, ap, _∙_}
 use mathlib.Core.Logic.{_⊎_, inl, inr, ⊎-elim}
 use mathlib.Core.List.{List}
-use Prim.Native.Nat.{ℕ, zero, suc, _+_, _-_, _*_, _/_, _%_, _^_, _≤_, _<_, min}
+use Prim.Native.Nat.{ℕ, zero, suc, _+_, _-_, _*_, _/_, _%_, _^_, _≤_, _<_}
 use native.Mathlib.Nat.{pow-suc, not-suc-le-zero, div-eq-of-lt}
 use native.Mathlib.Omega.{arith}
 use lib.ListN.{length, getD}
@@ -12,7 +12,7 @@ use lib.Count.{trailingZeros, under}
 use Rattle.cells.specs.Cells.{cell, bitOf}
 use Rattle.cells.specs.Hops.{whole, Next}
 use Rattle.cells.proofs.Bit.{bit-suc, clear-bit, zero-bit}
-use Rattle.cells.proofs.Store.{lt-or-le, cell-past}
+use Rattle.cells.proofs.Store.{lt-or-le}
 
 abbrev at : List ℕ → ℕ → ℕ
 at xs q = getD xs q 0

@@ -1,15 +1,15 @@
 -- Laws of sums of cells. Assumes nothing.
-use mathlib.Core.Path.{_≡_, refl, sym, ap, ap₂, _∙_, subst}
+use mathlib.Core.Path.{_≡_, refl, sym, ap, ap₂, _∙_}
 use mathlib.Core.List.{List}
-use Prim.Native.Nat.{ℕ, zero, suc, _+_, _-_, _*_, _/_, _%_, _^_, _≤_, _<_, min, max}
+use Prim.Native.Nat.{ℕ, zero, suc, _+_, _*_, _/_, _%_, _^_, _≤_, _<_, min}
 use native.Mathlib.Nat.{add-zero, add-suc, pow-suc, lt-of-le-of-lt}
 use native.Mathlib.Omega.{arith}
-use lib.ListN.{length, getD}
+use lib.ListN.{getD}
 use lib.Arith.{lt-one}
 use lib.Bits.{bitAnd, and-le-l}
 use lib.Count.{ones, ones-step, ones-le}
-use Rattle.cells.specs.Cells.{bitOf, cell, total, both, common}
-use Rattle.cells.proofs.Bit.{bit-suc, bit-lt, and-bit}
+use Rattle.cells.specs.Cells.{bitOf, cell, total, both}
+use Rattle.cells.proofs.Bit.{bit-suc, and-bit}
 
 pub total-ext : (f g : ℕ → ℕ) (n : ℕ) → ((i : ℕ) → i < n → f i ≡ g i) → total f n ≡ total g n
 unfolding total

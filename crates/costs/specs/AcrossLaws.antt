@@ -7,7 +7,7 @@ use native.Mathlib.Omega.{arith}
 use lib.Dec.{ltb, leb, eqb}
 use lib.ListN.{length, getD, set, length-set}
 use lib.Seq.{getD-set-same, getD-set-other}
-use borrow.Author.Tests.{ltb-true, ltb-false, lt-ltb, le-ltb, le-leb, lt-leb, eqb-true, eqb-false, eq-eqb, ne-eqb}
+use borrow.Author.Tests.{lt-ltb, le-ltb, le-leb, lt-leb, eqb-true, eqb-false, eq-eqb, ne-eqb}
 use Rattle.cover.specs.Sets.{Found, nothing, found, valueOf, bit, cost, covers}
 use Rattle.cover.specs.LeastCover.{winners}
 use Rattle.cover.specs.LeastCoverLaws.{IsFirst}
@@ -17,12 +17,12 @@ use Rattle.cover.specs.Intervals.{scanCost, lesserCost, reaches, raise, across,
 use Rattle.cover.specs.IntervalScan.{none-found, found-one}
 use Rattle.cover.specs.IntervalPrefix.{lacks, leastSet-right}
 use Rattle.cover.specs.IntervalCover.{priced}
-use Rattle.cover.specs.IntervalBids.{anyBid, Bids, coversBelow, leastBelow, costBelow, costWithout, endCost, costAfter}
+use Rattle.cover.specs.IntervalBids.{anyBid, Bids, coversBelow, leastBelow, costWithout, endCost, costAfter}
 use Rattle.cover.specs.IntervalBidsLaws.{prefixes, winners-of, cost-most, without-past, without-none, fits-without, scan-across, near}
 use Rattle.cover.specs.IntervalMirror.{Mirrored, mirrored-cost}
 use Rattle.select.specs.Costs.{noCost, costIn, cost-found, cost-least}
 use Rattle.select.specs.RowLaws.{bit-none}
-use Rattle.select.specs.Live.{On, Thinned, Live, live-thinned, live-more, live-none, thinned-none, thinned-more, counted}
+use Rattle.select.specs.Live.{On, Live, live-thinned, live-more, live-none, thinned-none, thinned-more, counted}
 use Rattle.costs.specs.Run.{Running, Ran}
 use Rattle.costs.specs.RunLaws.{on-more}
 use Rattle.costs.specs.Across.{joined, lessOf, joinAt, leastAcross, Before, After, Waiting, Begun}

@@ -1,29 +1,29 @@
 -- A turn of the run of costs: the lead is renewed where it ends, the bid gets its cost. Assumes nothing.
 use mathlib.Core.Path.{_≡_, refl, sym, ap, _∙_}
-use mathlib.Core.Bool.{Bool, true, false, cond, not, _&&_}
+use mathlib.Core.Bool.{Bool, true, false, cond, _&&_}
 use mathlib.Core.List.{List}
 use Prim.Native.Nat.{ℕ, suc, _+_, _≤_, _<_}
 use native.Mathlib.Omega.{arith}
 use lib.Dec.{ltb, leb, eqb}
 use lib.ListN.{length, getD, set}
 use lib.Seq.{getD-set-same, getD-set-other}
-use borrow.Author.Tests.{ltb-true, ltb-false, leb-true, lt-ltb, le-ltb, eqb-true, eqb-false, eq-eqb, ne-eqb}
-use Rattle.cover.specs.Sets.{Found, nothing, found, cost}
+use borrow.Author.Tests.{ltb-true, leb-true, lt-ltb, le-ltb, eqb-true, eqb-false, eq-eqb, ne-eqb}
+use Rattle.cover.specs.Sets.{nothing, found, cost}
 use Rattle.cover.specs.SetLaws.{and-split}
 use Rattle.cover.specs.CriticalPrice.{sum}
-use Rattle.cover.specs.Intervals.{scanCost, lesserCost, reaches, raise, costOf, others, Order}
+use Rattle.cover.specs.Intervals.{scanCost, lesserCost, reaches, raise, others}
 use Rattle.cover.specs.IntervalScan.{none-found}
 use Rattle.cover.specs.IntervalPrefix.{ready}
 use Rattle.cover.specs.IntervalCover.{priced}
 use Rattle.cover.specs.IntervalStays.{stays-cost}
 use Rattle.cover.specs.IntervalBids.{anyBid, Bids, othersBelow, costWithout, endCost}
-use Rattle.cover.specs.IntervalBidsLaws.{prefixes-without, without-none, fits-without, scan-without}
+use Rattle.cover.specs.IntervalBidsLaws.{prefixes-without, fits-without, scan-without}
 use Rattle.select.specs.Costs.{noCost, costIn, raised, cost-least, cost-found, cost-raised}
 use Rattle.select.specs.Rows.{reached}
-use Rattle.select.specs.Live.{On, Thinned, Live, live-none, live-thinned, live-more}
-use Rattle.select.specs.Lead.{Reaches, endOf}
+use Rattle.select.specs.Live.{On, Live, live-thinned, live-more}
+use Rattle.select.specs.Lead.{Reaches}
 use Rattle.select.specs.LeadLaws.{end-none, end-some}
-use Rattle.costs.specs.Run.{cheaper, leastCost, Seen, Renewed, Led, same, anew, entry, Running, Ran}
+use Rattle.costs.specs.Run.{cheaper, leastCost, Seen, Led, same, anew, entry, Running, Ran}
 
 -- the scan
 

@@ -10,7 +10,7 @@ use lib.Dec.{leb, ltb}
 use borrow.Author.Tests.{ltb-true, ltb-false, lt-ltb, le-ltb, le-leb, lt-leb, leb-true, leb-false}
 use Rattle.cover.specs.Sets.{when}
 use Rattle.cover.specs.Greedy.{Bid, reach, Rounds, stop, round, run, taken, left}
-use Rattle.cover.specs.CriticalPrice.{late, withdrawn, share, bar}
+use Rattle.cover.specs.CriticalPrice.{late, withdrawn, bar}
 use Rattle.cover.specs.Chance.{chance}
 use Rattle.cover.specs.GreedyLaws.{rounds, follow}
 use Rattle.cover.specs.GreedyCover.{Each, Covered, closed}

@@ -2,15 +2,15 @@
 use mathlib.Core.Path.{_≡_, refl, sym, ap, fun-ext, _∙_}
 use mathlib.Core.Bool.{Bool, true, false, cond, _&&_}
 use mathlib.Core.List.{List, [], _∷_}
-use Prim.Native.Nat.{ℕ, zero, suc, _+_, _-_, _*_, _/_, max, _≤_, _<_}
+use Prim.Native.Nat.{ℕ, zero, suc, _+_, _-_, _*_, _/_, _≤_, _<_}
 use native.Mathlib.Nat.{mul-le-mul, div-le-self}
 use native.Mathlib.Omega.{arith}
 use lib.ListN.{length, getD, set, length-set}
-use lib.Seq.{getD-set-same, getD-set-other, set-set, set-getD}
+use lib.Seq.{getD-set-same, getD-set-other, set-set}
 use lib.Dec.{ltb, leb, eqb}
-use borrow.Author.Tests.{ltb-true, ltb-false, lt-ltb, le-ltb, le-leb, lt-leb, eqb-true, eqb-false}
-use Rattle.cover.specs.Sets.{when, Found, nothing, found, valueOf}
-use Rattle.cover.specs.Greedy.{Bid, reach, Rounds, stop, round, run, taken, left, bids, wins}
+use borrow.Author.Tests.{ltb-true, ltb-false, le-ltb, le-leb, lt-leb, eqb-false}
+use Rattle.cover.specs.Sets.{when, found, valueOf}
+use Rattle.cover.specs.Greedy.{Bid, reach, run, left, bids, wins}
 use Rattle.cover.specs.CriticalPrice.{largest, sum, ceiling, winsAt, critical, criticalPaid, late, mute, withdrawn, share, bar, limit, roundsPaid}
 use Rattle.cover.specs.Threshold.{Threshold, honest, enough}
 use Rattle.cover.specs.GreedyLaws.{shrink, rounds, follow, withdrawn-same}

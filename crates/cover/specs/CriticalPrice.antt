@@ -1,9 +1,8 @@
 -- The critical price (paper 01, "Multi"): a winner is paid the largest whole price with which it would still win if all else stood.
 -- It is defined so, and computed from the rounds of the run without the bid (document 000's maximum, in whole cents under the tie rule).
-use mathlib.Core.Path.{_≡_}
 use mathlib.Core.Bool.{Bool, true, false, cond, _&&_}
 use mathlib.Core.List.{List, [], _∷_}
-use Prim.Native.Nat.{ℕ, zero, suc, _+_, _-_, _*_, _/_, max, _<_}
+use Prim.Native.Nat.{ℕ, zero, suc, _+_, _-_, _*_, _/_, max}
 use lib.ListN.{length, set}
 use lib.Dec.{leb, ltb, eqb}
 use Rattle.cover.specs.Sets.{when, Found, nothing, found, valueOf}

@@ -16,7 +16,7 @@ use Rattle.cover.specs.Settled.{spans}
 use Rattle.cover.specs.SetMembers.{cost-none}
 use Rattle.cover.specs.Intervals.{costOf, scanCost, lesserCost, raise, across, leastSet, reaches, At, coversFrom, others}
 use Rattle.cover.specs.IntervalScan.{found-one, none-found, Family, least-same, right-least}
-use Rattle.cover.specs.IntervalPrefix.{Prefixes, leastSet-right, leastSet-is, upper-cost, start, scan-cost, cost-plus}
+use Rattle.cover.specs.IntervalPrefix.{Prefixes, leastSet-right, leastSet-is, upper-cost, start, scan-cost}
 use Rattle.cover.specs.IntervalCover.{covers-prefixes, without-prefixes, priced, split}
 use Rattle.cover.specs.IntervalSplit.{unneeded}
 use Rattle.cover.specs.IntervalPay.{cost-without}

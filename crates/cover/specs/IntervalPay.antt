@@ -1,7 +1,7 @@
 -- What covering costs without bid k: split at the last cell of its window. Assumes nothing.
 use mathlib.Core.Path.{_≡_, sym, ap, _∙_}
 use mathlib.Core.Bool.{Bool}
-use Prim.Native.Nat.{ℕ, _+_, _^_, _≤_, _<_}
+use Prim.Native.Nat.{ℕ, _≤_, _<_}
 use native.Mathlib.Omega.{arith}
 use Rattle.cover.specs.Sets.{Found}
 use Rattle.cover.specs.LeastCover.{without}

@@ -1,9 +1,9 @@
 -- What an award over plain numbers leaves in the two lent lists and answers: a flag and the cents paid for each bid in entry order, the cells past
 -- the last bid as they were, the winners' cost and the sum paid.
 use mathlib.Core.Path.{_≡_}
-use mathlib.Core.Bool.{Bool, true, false, _&&_}
+use mathlib.Core.Bool.{Bool, _&&_}
 use mathlib.Core.List.{List, [], _∷_, _++_}
-use Prim.Native.Nat.{ℕ, zero, suc, _+_}
+use Prim.Native.Nat.{ℕ, zero, suc}
 use lib.ListN.{length, getD, drop}
 use lib.Dec.{leb, ltb}
 use Rattle.cover.specs.Sets.{when}

@@ -1,15 +1,15 @@
 -- Where each cell has two bidders the others cover without any one bid, for both mechanisms; and the winners of both cover. Assumes nothing.
-use mathlib.Core.Path.{_≡_, refl, sym, ap, _∙_}
+use mathlib.Core.Path.{_≡_, refl, ap, _∙_}
 use mathlib.Core.Logic.{_⊎_, inl, inr}
-use mathlib.Core.List.{List, [], _∷_}
-use mathlib.Core.Bool.{Bool, true, false, not, _&&_, _||_, false≢true}
+use mathlib.Core.List.{List}
+use mathlib.Core.Bool.{Bool, true, false, not, _||_, false≢true}
 use Prim.Native.Nat.{ℕ, zero, suc, _+_, _^_, _≤_, _<_}
 use native.Mathlib.Nat.{eq-or-lt-of-le, le-of-suc-le-suc}
 use native.Mathlib.Omega.{arith}
 use lib.ListN.{length}
 use lib.Dec.{leb, eqb}
 use borrow.Author.Tests.{leb-true, eq-eqb, ne-eqb, eqb-true, eqb-false}
-use Rattle.cover.specs.Sets.{when, bit, all, hit, covers, cost, cells, bidders, each}
+use Rattle.cover.specs.Sets.{when, bit, hit, covers, cost, cells, bidders, each}
 use Rattle.cover.specs.LeastCover.{Wins, winners, without}
 use Rattle.cover.specs.Greedy.{Bid, run, taken, bids, wins}
 use Rattle.cover.specs.CriticalPrice.{withdrawn}

@@ -1,11 +1,11 @@
 -- The least cover with VCG payments is a threshold mechanism, whatever the family of sets, where some set of it is without the bid. Assumes nothing.
-use mathlib.Core.Path.{_≡_, refl, sym, ap, fun-ext, _∙_}
-use mathlib.Core.Bool.{Bool, true, false, not, _&&_, true≢false, false≢true}
+use mathlib.Core.Path.{_≡_, refl}
+use mathlib.Core.Bool.{Bool, true, false, not, _&&_, false≢true}
 use mathlib.Core.List.{List}
 use Prim.Native.Nat.{ℕ, _+_, _-_, _^_, _≤_, _<_}
 use native.Mathlib.Omega.{arith}
 use lib.ListN.{length, getD, set, length-set}
-use lib.Seq.{getD-set-same, set-set, set-getD}
+use lib.Seq.{getD-set-same, set-getD}
 use Rattle.cover.specs.Sets.{when, Found, nothing, found, bit, cost}
 use Rattle.cover.specs.LeastCover.{first, Wins, winners, without, payment, vcgPaid, margin, vcgThreshold}
 use Rattle.cover.specs.Threshold.{Threshold, honest, enough}

@@ -1,7 +1,7 @@
 -- A run without one bid follows the main run but for the bids that it disturbs. Assumes nothing.
 use mathlib.Core.Path.{_≡_}
-use mathlib.Core.Logic.{_⊎_, ⊎-elim}
-use Prim.Native.Nat.{ℕ, _+_, _-_, _*_, _≤_, _<_}
+use mathlib.Core.Logic.{⊎-elim}
+use Prim.Native.Nat.{ℕ, _+_, _*_, _≤_, _<_}
 use native.Mathlib.Omega.{arith}
 use Rattle.cover.specs.CriticalPrice.{late}
 use Rattle.cover.specs.PickLaws.{Best}

@@ -1,9 +1,9 @@
 -- Faultless tables are orderly, and what is laid out of them has the cells of the bids. Assumes nothing.
 use mathlib.Core.Path.{_≡_, refl, sym, ap, subst, _∙_, fun-ext}
 use mathlib.Core.List.{List, [], _∷_, _++_}
-use mathlib.Core.Bool.{Bool, true, false, cond, not, _&&_, _||_, and-false, or-false}
-use mathlib.Core.Option.{Option, none, some}
-use Prim.Native.Nat.{ℕ, zero, suc, _+_, _-_, _*_, _/_, _%_, _^_, _≤_, _<_, min}
+use mathlib.Core.Bool.{Bool, true, false, cond, _&&_, and-false, or-false}
+use mathlib.Core.Option.{none, some}
+use Prim.Native.Nat.{ℕ, zero, suc, _+_, _*_, _/_, _%_, _^_, _≤_, _<_}
 use native.Mathlib.Nat.{mul-le-mul-left, zero-div}
 use native.Mathlib.Omega.{arith}
 use lib.ListN.{length, getD, take, drop, length-take, length-drop, List·getD-eq-default}
@@ -21,8 +21,8 @@ use Rattle.cells.specs.Cells.{cell}
 use Rattle.rounds.specs.Market.{row, has}
 use Rattle.tables.specs.Faults.{sound, rowFault, sameKind, faultOf}
 use Rattle.tables.specs.Cells.{holds, cellsOf, noRow, hasOf}
-use Rattle.tables.specs.AlikeLaws.{Kept, keeps-kept, sound-keeps, sound-first, Faultless, faultless, rows-length, windows-step}
-use Rattle.layout.specs.Orderly.{rowAt, Orderly, clipped, Laid, Masked, AllMasked}
+use Rattle.tables.specs.AlikeLaws.{Kept, keeps-kept, sound-keeps, sound-first, faultless, rows-length, windows-step}
+use Rattle.layout.specs.Orderly.{rowAt, Orderly, clipped, Laid, AllMasked}
 
 pub row-named : (n i : ℕ) (bids : List ℕ) → i < n → getD (rowsOf n bids) i noRow ≡ rowAt bids i
 unfolding rowsOf

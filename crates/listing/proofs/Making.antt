@@ -1,10 +1,10 @@
 -- The list of the award to the tables that were read is the list of the text. Assumes nothing.
-use mathlib.Core.Path.{_≡_, refl, sym, ap, subst, _∙_}
-use mathlib.Core.Bool.{Bool, true, false, cond}
-use mathlib.Core.List.{List, [], _∷_, _++_}
-use Prim.Native.Nat.{ℕ, _+_, _*_, _/_, _≤_, _<_}
+use mathlib.Core.Path.{_≡_, refl, sym, ap, _∙_}
+use mathlib.Core.Bool.{true, false}
+use mathlib.Core.List.{List, _++_}
+use Prim.Native.Nat.{ℕ, _*_, _/_, _≤_, _<_}
 use native.Mathlib.Omega.{arith}
-use lib.ListN.{length, take, drop, length-take}
+use lib.ListN.{length, take, drop}
 use lib.Dec.{leb}
 use borrow.Author.Tests.{le-leb, lt-leb}
 use Rattle.tender.specs.declared.Tender.{Tender}
@@ -21,14 +21,13 @@ use Rattle.reader.specs.Read as reading
 use Rattle.reader.specs.Answer.{filled, declined, told, summary, bidsAfter, windowsAfter}
 use Rattle.reader.specs.CountLaws.{counts-law}
 use Rattle.reader.specs.SizeLaw.{fits-law}
-use Rattle.reader.specs.Rules.{Rules}
 use Rattle.reader.specs.RulesLaw.{rules-law}
 use Rattle.tender.specs.declared.Answer.{Answer}
 use Rattle.tender.specs.declared.Answer.the-variants.{Awarded, Refused}
 use Rattle.outcome.specs.Plain.{PlainPromise}
 use Rattle.listing.specs.Lines.{awardLine, winLines, pairLine, totalWord, refusedWord}
 use Rattle.listing.specs.Written.{Written}
-use Rattle.listing.specs.List.{AwardList, IsList, Listed}
+use Rattle.listing.specs.List.{AwardList, Listed}
 use Rattle.listing.specs.ListLaws.{award-list, is-list-short}
 use Rattle.listing.specs.Made.{answerLines, Awarded·written, Made}
 use Rattle.listing.proofs.Writing.{from-start}

@@ -1,9 +1,8 @@
 -- Bytes written one after the other: a store, a copy, and two writes that follow each other. Assumes nothing.
 use mathlib.Core.Path.{_≡_, refl, sym, ap, _∙_}
 use mathlib.Core.List.{List, [], _∷_, _++_, append-assoc}
-use Prim.Native.Nat.{ℕ, zero, suc, _+_, _-_, _≤_, _<_}
+use Prim.Native.Nat.{ℕ, _+_, _-_, _≤_, _<_}
 use native.Mathlib.Numerals.{add-one}
-use native.Mathlib.Nat.{add-assoc}
 use native.Mathlib.Omega.{arith}
 use lib.ListN.{length, take, drop, getD, set, length-set, length-append, take-append-drop}
 use lib.Seq.{take-suc-set, drop-set-lt, paste, paste-zero, paste-suc, length-paste, take-paste, drop-paste, take-length, drop-drop}

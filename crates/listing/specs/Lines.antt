@@ -1,5 +1,5 @@
 -- The lines of a list as bytes (paper 01, "One list in full"): keywords, numbers in base ten, one space between parts, byte 10 at the end.
-use mathlib.Core.Bool.{Bool, true, false, cond}
+use mathlib.Core.Bool.{cond}
 use mathlib.Core.List.{List, [], _∷_, _++_}
 use Prim.Native.Nat.{ℕ, zero, suc, _+_, _*_, _/_, _%_}
 use lib.ListN.{getD}

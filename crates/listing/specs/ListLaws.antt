@@ -11,13 +11,12 @@ use lib.ListN.{length, getD, drop, length-append, List·getD-append}
 use lib.Seq.{getD-drop}
 use lib.Dec.{leb, ltb, eqb}
 use borrow.Author.Tests.{le-ltb, le-leb}
-use Rattle.tender.specs.declared.Kind.{Kind}
 use Rattle.tender.specs.declared.Window.{Window}
 use Rattle.tender.specs.declared.Tender.{Tender}
 use Rattle.tender.specs.declared.Refusal.the-variants.{RowsTooFew, MinuteUncovered, OneBidder}
 use Rattle.tender.specs.Refusals.{numberOf}
 use Rattle.tender.specs.Tables.{Row, rowsOf, own, flatRows, flatWindows}
-use Rattle.cover.specs.Sets.{when, bidders, each}
+use Rattle.cover.specs.Sets.{each}
 use Rattle.cover.specs.SettledLaws.{getD-listed}
 use Rattle.reader.specs.Read.{accepted, readText}
 use Rattle.reader.specs.Read as reading
@@ -27,8 +26,7 @@ use Rattle.tables.specs.Cells.{noRow, hasOf, holds, pricesOf, cellsOf}
 use Rattle.tables.specs.Faults.{faultOf}
 use Rattle.tables.specs.AlikeLaws.{windows-same, among-held, faultless}
 use Rattle.tables.specs.TextLaws.{rows-flat, length-windows, rows-end, never-nine}
-use Rattle.outcome.specs.Award.{Outcome, awarded, refused, declined, settled, awardOf, number, place, InBids, Answers}
-use Rattle.tender.specs.declared.AwardRow.{AwardRow}
+use Rattle.outcome.specs.Award.{Outcome, refused, declined, settled, awardOf, number, place, InBids, Answers}
 use Rattle.award.specs.Gain.{lost}
 use Rattle.outcome.specs.AwardLaws.{settled-is, award-none}
 use Rattle.tender.specs.declared.Answer.{Answer}

@@ -9,7 +9,7 @@ use lib.Dec.{eqb}
 use Rattle.cover.specs.Sets.{when, cells}
 use Rattle.cover.specs.Greedy.{wins}
 use Rattle.cover.specs.CriticalPrice.{roundsPaid, sum}
-use Rattle.cover.specs.Settled.{listed, Settled}
+use Rattle.cover.specs.Settled.{Settled}
 use Rattle.cover.specs.SettledLaws.{length-listed, getD-listed, listed-same, sumTo, sum-none, sum-more, sum-listed}
 use Rattle.tournament.specs.Tournament.{at}
 use Rattle.rounds.specs.Market.{has}

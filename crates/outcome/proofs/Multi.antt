@@ -1,12 +1,12 @@
 -- A multi tender laid out as words: what the search for thin cells and the core say is what the award answers. Assumes nothing.
-use mathlib.Core.Path.{_≡_, refl, sym, ap, subst, _∙_}
+use mathlib.Core.Path.{_≡_, refl, sym, ap, _∙_}
 use mathlib.Core.List.{List}
 use mathlib.Core.Bool.{Bool, true, false}
 use mathlib.Core.Option.{none}
-use Prim.Native.Nat.{ℕ, _+_, _-_, _*_, _/_, _≤_, _<_}
+use Prim.Native.Nat.{ℕ, _+_, _*_, _/_, _≤_}
 use native.Mathlib.Omega.{arith}
 use lib.ListN.{length, getD, List·getD-eq-default}
-use lib.Dec.{ltb, leb}
+use lib.Dec.{ltb}
 use borrow.Author.Tests.{ltb-true, ltb-false, leb-true}
 use Rattle.tender.specs.declared.Kind.{Kind}
 use Rattle.tender.specs.declared.Kind.the-variants.{Multi}
@@ -20,15 +20,13 @@ use Rattle.cover.specs.CriticalPrice.{roundsPaid}
 use Rattle.cover.specs.Settled.{Settled}
 use Rattle.tournament.specs.Tournament.{Priced}
 use Rattle.rounds.specs.Market.{has, Market}
-use Rattle.bidders.specs.declared.Thin.{Thin}
 use Rattle.bidders.specs.declared.Thin.the-variants.{Nobody, Alone, Enough}
 use Rattle.bidders.specs.Thin.{Says}
 use Rattle.tables.specs.Faults.{faultOf}
 use Rattle.tables.specs.Cells.{cellsOf, hasOf, pricesOf}
 use Rattle.tables.specs.AlikeLaws.{prices-count, price-named}
-use Rattle.layout.specs.Orderly.{rowAt, Orderly, AllMasked}
-use Rattle.layout.specs.LayoutLaws.{orderly, Timed, timed, masks-have}
-use Rattle.tender.specs.declared.Answer.{Answer}
+use Rattle.layout.specs.Orderly.{Orderly, AllMasked}
+use Rattle.layout.specs.LayoutLaws.{orderly, timed, masks-have}
 use Rattle.tender.specs.declared.Answer.the-variants.{Awarded, Refused}
 use Rattle.outcome.specs.Plain.{PlainPromise}
 use Rattle.outcome.specs.PlainLaws.{eleven, twelve, awards, multi-won, multi-cents}

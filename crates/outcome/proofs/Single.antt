@@ -1,9 +1,8 @@
 -- A single tender laid out as starts and ends: what the search for thin cells and the core say is what the award answers. Assumes nothing.
-use mathlib.Core.Path.{_≡_, refl, sym, ap, _∙_}
+use mathlib.Core.Path.{_≡_, sym, ap, _∙_}
 use mathlib.Core.List.{List}
-use mathlib.Core.Bool.{Bool, true, false}
 use mathlib.Core.Option.{none}
-use Prim.Native.Nat.{ℕ, _+_, _-_, _*_, _≤_, _<_}
+use Prim.Native.Nat.{ℕ, _+_, _≤_}
 use native.Mathlib.Omega.{arith}
 use lib.ListN.{length, getD}
 use Rattle.tender.specs.declared.Kind.the-variants.{Single}
@@ -11,10 +10,9 @@ use Rattle.tender.specs.declared.Tender.{Tender}
 use Rattle.tender.specs.declared.Totals.{Totals}
 use Rattle.tender.specs.declared.Refusal.the-variants.{MinuteUncovered, OneBidder}
 use Rattle.tender.specs.Tables.{rowsOf}
-use Rattle.cover.specs.Sets.{bit, covers, each}
+use Rattle.cover.specs.Sets.{bit, covers}
 use Rattle.cover.specs.LeastCover.{winners, vcgPaid}
 use Rattle.cover.specs.Settled.{spans, Settled}
-use Rattle.tournament.specs.Tournament.{Priced}
 use Rattle.bidders.specs.declared.Thin.the-variants.{Nobody, Alone, Enough}
 use Rattle.bidders.specs.Thin.{Says, Spans}
 use Rattle.tables.specs.Faults.{faultOf}

@@ -1,13 +1,13 @@
 -- How the answer over plain cells comes about: from a fault, too few rows, a cell in no bid or in one, or what a core settles. Assumes nothing.
 use mathlib.Core.Path.{_≡_, refl, sym, ap, _∙_}
-use mathlib.Core.List.{List, [], _∷_, _++_, map}
-use mathlib.Core.Bool.{Bool, true, false, cond, not, true≢false}
-use mathlib.Core.Option.{Option, none, some}
-use Prim.Native.Nat.{ℕ, zero, suc, _+_, _-_, _≤_, _<_}
+use mathlib.Core.List.{List, _++_, map}
+use mathlib.Core.Bool.{Bool, true, false, cond, not}
+use mathlib.Core.Option.{none, some}
+use Prim.Native.Nat.{ℕ, _+_, _-_, _≤_, _<_}
 use native.Mathlib.Omega.{arith}
 use lib.ListN.{length, getD, drop, List·getD-append}
-use lib.Dec.{leb, ltb, eqb}
-use borrow.Author.Tests.{ltb-true, ltb-false, lt-ltb, le-ltb, leb-true, le-leb}
+use lib.Dec.{leb, eqb}
+use borrow.Author.Tests.{lt-ltb, le-ltb, leb-true, le-leb}
 use Rattle.tender.specs.declared.Kind.{Kind}
 use Rattle.tender.specs.declared.Kind.the-variants.{Single, Multi}
 use Rattle.tender.specs.declared.Tender.{Tender}
@@ -19,7 +19,7 @@ use Rattle.cover.specs.Sets.{when, all, bidders, each, covers, cells, bit}
 use Rattle.cover.specs.SetLaws.{all-of, all-at}
 use Rattle.cover.specs.LeastCover.{winners, vcgPaid}
 use Rattle.cover.specs.Greedy.{wins}
-use Rattle.cover.specs.CriticalPrice.{sum, criticalPaid, roundsPaid}
+use Rattle.cover.specs.CriticalPrice.{sum, roundsPaid}
 use Rattle.cover.specs.CriticalLaws.{paid-by-rounds}
 use Rattle.cover.specs.SpareLaws.{spare-bids}
 use Rattle.cover.specs.Settled.{listed}
@@ -28,7 +28,6 @@ use Rattle.cover.specs.SettledLaws.{length-listed, getD-listed, listed-same, ma
 use Rattle.tables.specs.Faults.{faultOf}
 use Rattle.tables.specs.Cells.{cellsOf, hasOf, pricesOf}
 use Rattle.tables.specs.AlikeLaws.{prices-count}
-use Rattle.tender.specs.declared.AwardRow.{AwardRow}
 use Rattle.tender.specs.declared.Answer.{Answer}
 use Rattle.tender.specs.declared.Answer.the-variants.{Awarded, Refused}
 use Rattle.outcome.specs.Award.{won, cents, awarded, declined, filled, costOf, paidOf, settled, judged, awardOf, number, place, InBids, Answers}

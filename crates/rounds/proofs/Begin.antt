@@ -1,21 +1,20 @@
 -- How the rounds begin: the first cells open, and what each bid has of them. Assumes nothing.
-use mathlib.Core.Path.{_≡_, refl, sym, ap, _∙_}
+use mathlib.Core.Path.{_≡_, refl, _∙_}
 use mathlib.Core.Bool.{Bool, true, false}
 use mathlib.Core.List.{List}
-use Prim.Native.Nat.{ℕ, zero, suc, _+_, _-_, _*_, _≤_, _<_, min}
+use Prim.Native.Nat.{ℕ, zero, suc, _+_, _*_, _≤_, _<_}
 use native.Mathlib.Omega.{arith}
-use lib.ListN.{length, getD, set}
+use lib.ListN.{length, set}
 use lib.Seq.{getD-set-same, getD-set-other}
-use lib.Dec.{eqb, ltb}
+use lib.Dec.{eqb}
 use borrow.Author.Tests.{eqb-true, eqb-false}
 use Rattle.cells.specs.Cells.{cell, total, both, common}
-use Rattle.cover.specs.Greedy.{Bid, reach, bids}
 use Rattle.cover.specs.Sets.{cells}
-use Rattle.rounds.proofs.Opens.{opens-first, reach-open}
-use Rattle.rounds.specs.Market.{row, has, Sized, Market, First, Entered}
+use Rattle.rounds.proofs.Opens.{opens-first}
+use Rattle.rounds.specs.Market.{row, Sized, Market, First, Entered}
 use Rattle.tournament.specs.Tournament.{at, known, Tournament}
 use Rattle.tournament.proofs.Tree.{known-at, length-known}
-use Rattle.rounds.specs.Trace.{opens, openOf}
+use Rattle.rounds.specs.Trace.{openOf}
 
 pub open-first : {n : ℕ} {held : List ℕ} → First n held → n ≤ 64 * length held → openOf held ≡ cells n
 unfolding openOf

@@ -1,17 +1,14 @@
 -- What the round's code answers is what the theory's round takes. Assumes nothing.
 use mathlib.Core.Path.{_≡_, refl, sym, ap, _∙_}
 use mathlib.Core.Logic.{_⊎_, inl, inr, ⊎-elim}
-use mathlib.Core.Bool.{Bool, true, false}
 use mathlib.Core.List.{List, [], _∷_}
-use Prim.Native.Nat.{ℕ, zero, suc, _+_, _-_, _*_, _≤_, _<_, min}
-use native.Mathlib.Nat.{eq-or-lt-of-le}
+use Prim.Native.Nat.{ℕ, zero, suc, _≤_, _<_}
 use native.Mathlib.Omega.{arith}
-use lib.ListN.{length, getD}
-use Rattle.cells.specs.Cells.{cell, common, Closed}
-use Rattle.cover.specs.CriticalPrice.{late}
+use lib.ListN.{length}
+use Rattle.cells.specs.Cells.{common, Closed}
 use Rattle.cover.specs.Greedy.{pick, Bid, reach, close, Rounds, stop, round, best, grow, run, bids}
 use Rattle.cover.specs.GreedyLaws.{Rightly, best-right, shrink, close-other}
-use Rattle.cover.specs.PickLaws.{Best, Before, IsPick, pick-right, before-one}
+use Rattle.cover.specs.PickLaws.{IsPick, pick-right}
 use Rattle.cover.specs.Sets.{Found, nothing, found}
 use Rattle.rounds.proofs.Fronting.{right-one}
 use Rattle.rounds.proofs.Opens.{reach-open, close-open}

@@ -1,22 +1,21 @@
 -- The first of the bids by what is known of each, while bids are counted anew. Assumes nothing.
 use mathlib.Core.Path.{_≡_, refl, sym, ap, _∙_}
-use mathlib.Core.Logic.{_⊎_, inl, inr, ⊎-elim}
+use mathlib.Core.Logic.{⊎-elim}
 use mathlib.Core.Bool.{Bool, true, false, true≢false, false≢true}
 use mathlib.Core.List.{List, [], _∷_}
 use Prim.Native.Nat.{ℕ, zero, suc, _+_, _*_, _≤_, _<_, min}
 use native.Mathlib.Nat.{mul-le-mul-left}
 use native.Mathlib.Omega.{arith}
-use lib.ListN.{length, getD, set}
-use lib.Seq.{getD-set-same}
+use lib.ListN.{length, set}
 use Rattle.cover.specs.Sets.{Found, nothing, found}
 use Rattle.cover.specs.Greedy.{pick}
 use Rattle.cover.specs.CriticalPrice.{late, sum}
-use Rattle.cover.specs.PickLaws.{late-no, Best, Before, IsPick, pick-right, before-one}
-use Rattle.cells.specs.Cells.{cell, common}
-use Rattle.tournament.specs.Tournament.{at, Priced, known, Tournament}
+use Rattle.cover.specs.PickLaws.{late-no, Best, IsPick, pick-right, before-one}
+use Rattle.cells.specs.Cells.{common}
+use Rattle.tournament.specs.Tournament.{at, known, Tournament}
 use Rattle.tournament.proofs.Order.{zero-or}
 use Rattle.tournament.proofs.Tree.{set-at, first-leads, first-own, length-known}
-use Rattle.rounds.specs.Market.{row, place, Sized, Market, live, Known, Turn, Fronted}
+use Rattle.rounds.specs.Market.{row, place, Market, live, Known, Turn, Fronted}
 
 pub right-one : (p r : ℕ → ℕ) (n : ℕ) (u v : Found) → IsPick p r n u → IsPick p r n v → u ≡ v
 right-one p r n nothing nothing x y = refl

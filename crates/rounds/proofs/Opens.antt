@@ -1,17 +1,16 @@
 -- The cells set in a row of words, as a list, and what closing and counting do to it. Assumes nothing.
-use mathlib.Core.Path.{_≡_, refl, sym, ap, ap₂, _∙_}
-use mathlib.Core.Logic.{_⊎_, inl, inr, ⊎-elim}
+use mathlib.Core.Path.{_≡_, refl, sym, ap, _∙_}
+use mathlib.Core.Logic.{_⊎_, inl, inr}
 use mathlib.Core.Bool.{Bool, true, false}
-use mathlib.Core.List.{List, [], _∷_}
+use mathlib.Core.List.{List}
 use Prim.Native.Nat.{ℕ, zero, suc, _+_, _-_, _*_, _≤_, _<_, min}
 use native.Mathlib.Nat.{eq-or-lt-of-le}
 use native.Mathlib.Omega.{arith}
-use lib.ListN.{length, getD}
+use lib.ListN.{length}
 use lib.Dec.{eqb}
-use borrow.Author.Tests.{eq-eqb, ne-eqb}
 use Rattle.cells.specs.Cells.{cell, total, both, common, Closed}
 use Rattle.cover.specs.Greedy.{reach, keep, close}
-use Rattle.cover.specs.Sets.{when, cells}
+use Rattle.cover.specs.Sets.{cells}
 use Rattle.rounds.specs.Market.{row, has}
 use Rattle.rounds.specs.Trace.{opens, openOf}
 

@@ -1,25 +1,25 @@
 -- The main run, written down round by round. Assumes nothing.
 use mathlib.Core.Path.{_≡_, refl, sym, ap, _∙_}
 use mathlib.Core.Bool.{Bool, true, false}
-use mathlib.Core.List.{List, [], _∷_}
+use mathlib.Core.List.{List}
 use Prim.Native.Nat.{ℕ, zero, suc, _+_, _-_, _*_, _≤_, _<_}
 use native.Mathlib.Numerals.{add-one}
 use native.Mathlib.Omega.{arith}
-use lib.ListN.{length, getD, set, length-set}
+use lib.ListN.{length, set, length-set}
 use lib.Seq.{getD-set-same, getD-set-other}
 use lib.Dec.{eqb, ltb}
-use borrow.Author.Tests.{eqb-true, eqb-false, lt-ltb, le-ltb, ltb-true, ltb-false}
+use borrow.Author.Tests.{eqb-true, eqb-false, ltb-true, ltb-false}
 use Rattle.cells.specs.Cells.{cell, Closed}
-use Rattle.cover.specs.Greedy.{Bid, reach, close, best, bids}
+use Rattle.cover.specs.Greedy.{Bid, reach, best, bids}
 use Rattle.cover.specs.GreedyLaws.{best-right, shrink}
 use Rattle.cover.specs.PickLaws.{Best}
-use Rattle.cover.specs.Sets.{when, Found, nothing, found, cells}
+use Rattle.cover.specs.Sets.{when, found}
 use Rattle.rounds.proofs.Begin.{open-first}
 use Rattle.rounds.proofs.Chosen.{Tied, takes, stops, gains, gains-some, shuts, tied}
 use Rattle.rounds.proofs.Opens.{length-cells, opens-same, reach-open}
-use Rattle.rounds.specs.Market.{row, has, Sized, Market, Turn, First, Entered}
+use Rattle.rounds.specs.Market.{row, has, Sized, Turn, First, Entered}
 use Rattle.tournament.specs.Tournament.{at}
-use Rattle.rounds.specs.Trace.{opens, before, Route, Trace, openOf}
+use Rattle.rounds.specs.Trace.{opens, before, Trace, openOf}
 
 abbrev pub all : List ℕ → List ℕ → ℕ → ℕ → Bid
 all ps ms w = bids (has ms w) ps

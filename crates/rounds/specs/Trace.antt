@@ -1,8 +1,8 @@
 -- The greedy run written down: the bid that each round takes and the cells that it gains.
 use mathlib.Core.Path.{_≡_}
-use mathlib.Core.List.{List, [], _∷_}
+use mathlib.Core.List.{List, []}
 use Prim.Native.Nat.{ℕ, zero, suc, _-_, _*_, _≤_, _<_}
-use lib.ListN.{length, getD}
+use lib.ListN.{length}
 use lib.Dec.{eqb, ltb}
 use Rattle.cover.specs.Sets.{when, found}
 use Rattle.cover.specs.Greedy.{reach, keep, best, bids}

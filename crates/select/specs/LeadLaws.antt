@@ -2,29 +2,24 @@
 use mathlib.Core.Path.{_≡_, refl, sym, ap, _∙_}
 use mathlib.Core.Bool.{Bool, true, false, cond, _&&_, _||_, false≢true}
 use mathlib.Core.List.{List}
-use Prim.Native.Nat.{ℕ, suc, _+_, _*_, _^_, _≤_, _<_}
+use Prim.Native.Nat.{ℕ, suc, _+_, _≤_, _<_}
 use native.Mathlib.Omega.{arith}
 use lib.Dec.{ltb, leb, eqb}
-use lib.ListN.{length, getD, set}
-use lib.Seq.{getD-set-same, getD-set-other}
-use borrow.Author.Tests.{ltb-true, ltb-false, leb-true, leb-false, eqb-true, eqb-false, eq-eqb, ne-eqb}
-use Rattle.cover.specs.Sets.{Found, nothing, found, valueOf, bit, cost, covers}
-use Rattle.cover.specs.LeastCover.{winners}
+use lib.ListN.{length, getD}
+use borrow.Author.Tests.{ltb-true, leb-true, eqb-true, eqb-false, eq-eqb, ne-eqb}
+use Rattle.cover.specs.Sets.{found, cost}
 use Rattle.cover.specs.SetLaws.{and-split}
-use Rattle.cover.specs.CriticalPrice.{sum}
-use Rattle.cover.specs.Settled.{spans}
-use Rattle.cover.specs.Intervals.{scan, reaches, plus, costOf, lesser, raise, Order}
-use Rattle.cover.specs.IntervalScan.{none-found}
-use Rattle.cover.specs.IntervalPrefix.{leastSet-right, lacks, cost-plus, scan-leastSet, ready}
+use Rattle.cover.specs.Intervals.{scan, reaches, costOf, lesser}
+use Rattle.cover.specs.IntervalPrefix.{scan-leastSet}
 use Rattle.cover.specs.IntervalCover.{priced}
 use Rattle.cover.specs.IntervalStays.{stays}
-use Rattle.cover.specs.IntervalBids.{anyBid, Bids, coversBelow, leastBelow, costBelow}
-use Rattle.cover.specs.IntervalBidsLaws.{prefixes, least-none, fits, winners-of, cost-value}
-use Rattle.select.specs.Costs.{noCost, costIn, raised, cost-found, cost-raised}
-use Rattle.select.specs.Rows.{row, Off, weigh, weight, Honest, before?, prefer, reached, Extended}
-use Rattle.select.specs.RowLaws.{bit-none, row-kept, prefer-lesser, prefer-honest}
-use Rattle.select.specs.Live.{On, Thinned, Live, live-none, live-thinned, live-more}
-use Rattle.select.specs.Lead.{leastOf, Reaches, Seen, endOf, Renewed, Led, same, anew, Done, Leads, Running, Ready}
+use Rattle.cover.specs.IntervalBids.{anyBid, Bids, coversBelow, leastBelow}
+use Rattle.cover.specs.IntervalBidsLaws.{prefixes, least-none}
+use Rattle.select.specs.Costs.{noCost, costIn}
+use Rattle.select.specs.Rows.{row, weigh, weight, Honest, before?, prefer, reached}
+use Rattle.select.specs.RowLaws.{prefer-lesser, prefer-honest}
+use Rattle.select.specs.Live.{On, Live, live-none, live-thinned}
+use Rattle.select.specs.Lead.{leastOf, Reaches, Seen, endOf, Led, same, anew, Done, Leads, Running, Ready}
 
 -- the scan
 

@@ -7,7 +7,7 @@ use native.Mathlib.Omega.{arith}
 use lib.Dec.{leb, eqb}
 use lib.ListN.{length, getD, set, length-set}
 use lib.Seq.{getD-set-same, getD-set-other}
-use borrow.Author.Tests.{leb-true, leb-false, eqb-true, eqb-false, le-leb, lt-leb}
+use borrow.Author.Tests.{leb-false, eqb-true, eqb-false, le-leb, lt-leb}
 use Rattle.cover.specs.Intervals.{At}
 
 abbrev pub On : List ℕ → ℕ → ℕ → Type 0

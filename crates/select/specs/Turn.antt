@@ -2,27 +2,26 @@
 use mathlib.Core.Path.{_≡_, refl, sym, ap, _∙_}
 use mathlib.Core.Bool.{Bool, true, false, cond}
 use mathlib.Core.List.{List, _++_}
-use Prim.Native.Nat.{ℕ, _+_, _*_, _^_, _≤_, _<_}
+use Prim.Native.Nat.{ℕ, _+_, _^_, _≤_, _<_}
 use native.Mathlib.Omega.{arith}
 use lib.Dec.{eqb}
 use lib.ListN.{length, getD, set, drop}
 use lib.Seq.{getD-set-same, getD-set-other}
 use borrow.Author.Tests.{eqb-true, eqb-false, eq-eqb, ne-eqb}
-use Rattle.cover.specs.Sets.{Found, nothing, found, valueOf, bit, cost, covers, when}
+use Rattle.cover.specs.Sets.{nothing, found, valueOf, bit, cost, covers, when}
 use Rattle.cover.specs.LeastCover.{winners}
 use Rattle.cover.specs.CriticalPrice.{sum}
 use Rattle.cover.specs.Settled.{spans, listed}
 use Rattle.cover.specs.Intervals.{plus, costOf, raise}
-use Rattle.cover.specs.IntervalScan.{none-found}
 use Rattle.cover.specs.IntervalPrefix.{leastSet-right, lacks, cost-plus, ready}
 use Rattle.cover.specs.IntervalCover.{priced}
 use Rattle.cover.specs.IntervalBids.{anyBid, Bids, coversBelow, leastBelow, costBelow}
 use Rattle.cover.specs.IntervalBidsLaws.{prefixes, fits, winners-of, cost-value}
 use Rattle.select.specs.Costs.{noCost, costIn, raised, cost-found, cost-raised}
-use Rattle.select.specs.Rows.{row, Off, weigh, weight, Extended}
+use Rattle.select.specs.Rows.{row, weigh, weight, Extended}
 use Rattle.select.specs.RowLaws.{bit-none, row-kept}
 use Rattle.select.specs.Live.{live-more}
-use Rattle.select.specs.Lead.{Led, Done, Leads, Running, Ready}
+use Rattle.select.specs.Lead.{Led, Done, Running, Ready}
 use Rattle.select.specs.LeadLaws.{led-ready}
 
 weigh-some : (c s : ℕ) → (c ≡ noCost → ⊥) → weigh c s ≡ found s

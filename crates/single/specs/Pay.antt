@@ -1,17 +1,17 @@
 -- The winners of bids with one window each, what each is paid, and the payments made so far. With laws.
 use mathlib.Core.Path.{_≡_, refl, sym, ap, _∙_}
 use mathlib.Core.Bool.{Bool, true, false}
-use mathlib.Core.List.{List, _++_}
+use mathlib.Core.List.{List}
 use Prim.Native.Nat.{ℕ, _+_, _-_, _≤_, _<_}
 use native.Mathlib.Omega.{arith}
 use lib.Dec.{eqb}
-use lib.ListN.{length, getD, set, length-set, drop}
+use lib.ListN.{length, getD, set, drop}
 use lib.Seq.{getD-set-same, getD-set-other}
 use borrow.Author.Tests.{eqb-true, eqb-false}
 use Rattle.cover.specs.Sets.{when, valueOf, bit, cost, covers}
 use Rattle.cover.specs.LeastCover.{winners, payment, vcgPaid}
 use Rattle.cover.specs.CriticalPrice.{sum}
-use Rattle.cover.specs.Settled.{spans, listed, Settled}
+use Rattle.cover.specs.Settled.{spans, Settled}
 use Rattle.cover.specs.SettledLaws.{Written, listed-of, listed-at, cost-sum, sumTo, sum-listed, sum-same}
 use Rattle.cover.specs.IntervalBids.{Bids, costWithout}
 use Rattle.cover.specs.IntervalBidsLaws.{paid-of, without-most}

@@ -2,7 +2,7 @@
 use mathlib.Core.Path.{_≡_, refl, sym, ap, _∙_}
 use mathlib.Core.List.{List, [], _∷_, _++_}
 use mathlib.Core.Bool.{Bool, true, false, cond, not, _&&_, _||_, and-false, or-true, or-false, or-assoc}
-use mathlib.Core.Option.{Option, none, some}
+use mathlib.Core.Option.{none, some}
 use Prim.Native.Nat.{ℕ, zero, suc, _+_, _-_, _*_, _/_, _%_, _^_, _≤_, _<_}
 use native.Mathlib.Nat.{zero-div}
 use native.Mathlib.Omega.{arith}
@@ -10,14 +10,13 @@ use lib.ListN.{length, getD, drop, replicate, length-replicate}
 use lib.Dec.{leb, ltb, eqb}
 use borrow.Author.Tests.{not-true, not-false, ltb-true, ltb-false, leb-true, leb-false, le-leb, lt-leb, eqb-true, eqb-false, eq-eqb, ne-eqb}
 use Rattle.tender.specs.declared.Kind.{Kind}
-use Rattle.tender.specs.declared.Window.{Window}
 use Rattle.tender.specs.Limits.{within, lawful, allLawful}
 use Rattle.cover.specs.SetLaws.{and-split}
 use Rattle.tender.specs.Tables.{Row, rowsOf, windowsOf}
 use Rattle.reader.specs.Words.{among}
 use Rattle.cells.specs.Cells.{cell, Filled}
 use Rattle.tables.specs.Faults.{keeps, sound, rowFault}
-use Rattle.tables.specs.AlikeLaws.{rows-step, windows-step, Kept, keeps-kept}
+use Rattle.tables.specs.AlikeLaws.{rows-step, windows-step, keeps-kept}
 
 -- the windows from j on, of those from `first` on, where j are not yet passed
 abbrev pub ahead : List ℕ → ℕ → ℕ → ℕ → Bool

@@ -1,7 +1,7 @@
 -- The layout of the two lent tables of numbers (paper 01, "The bid text"): four cells a row of the bid table (bidder, price,
 -- place of its first window, number of windows), two cells a row of the window table (start, end).
 use Prim.Native.Nat.{ℕ, zero, suc, _*_}
-use mathlib.Core.List.{List, [], _∷_, _++_}
+use mathlib.Core.List.{List, [], _∷_}
 use lib.ListN.{getD, drop}
 use Rattle.tender.specs.declared.Window.{Window}
 

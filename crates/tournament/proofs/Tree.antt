@@ -5,11 +5,11 @@ use mathlib.Core.Bool.{Bool, true, false}
 use mathlib.Core.List.{List}
 use Prim.Native.Nat.{ℕ, zero, suc, _+_, _-_, _*_, _/_, _≤_, _<_}
 use native.Mathlib.Omega.{arith}
-use lib.ListN.{length, getD, set, drop, length-set, length-drop}
+use lib.ListN.{length, set, length-set, length-drop}
 use lib.Seq.{getD-set-same, getD-set-other, getD-drop, ext-getD}
 use lib.Dec.{eqb, ltb}
 use borrow.Author.Tests.{eqb-true, eqb-false, ltb-true, ltb-false}
-use Rattle.tournament.specs.Tournament.{at, Priced, known, Leads, Node, Seats, Tournament, Seated, Put, Played}
+use Rattle.tournament.specs.Tournament.{at, known, Leads, Node, Seats, Tournament, Seated, Put, Played}
 use Rattle.tournament.proofs.Order.{leads-itself, leads-on}
 
 pub known-at : (num : List ℕ) (i : ℕ) → at (known num) i ≡ at num (1024 + i)

@@ -1,5 +1,4 @@
 -- `award::settle` meets its contract: as many award rows are lent as both lists have places. Assumes nothing.
-use mathlib.Core.Path.{_≡_}
 use borrow.Author.Needs.{needs}
 use Rattle.award.proofs.settle.Statement.{statement}
 use Rattle.award.proofs.settle.Tie as tie

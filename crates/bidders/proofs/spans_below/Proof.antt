@@ -1,8 +1,7 @@
 -- `bidders::spans_below` meets its contract: the count before a cell is that of the windows started less those ended. Assumes nothing.
-use mathlib.Core.Path.{_≡_, refl, ap, _∙_}
-use Prim.Native.Nat.{ℕ, _-_, _≤_, _<_}
+use Prim.Native.Nat.{ℕ, _-_}
 use native.Mathlib.Omega.{arith}
-use lib.ListN.{length, getD, replicate, length-replicate}
+use lib.ListN.{length-replicate}
 use Rattle.bidders.proofs.Counts.{zeros}
 use Rattle.bidders.proofs.Sweep.{Sweep, sweep-starts, sweep-found, sweep-on, sweep-ends, small, here}
 use Rattle.bidders.proofs.spans_below.Statement.{statement}

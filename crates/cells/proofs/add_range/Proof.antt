@@ -1,7 +1,7 @@
 -- `cells::add_range` meets its contract: bits of one word, or the rest of the first, whole words and the start of the last. Assumes nothing.
 use native.Mathlib.Omega.{arith}
 use Prim.Native.Nat.{_/_}
-use Rattle.cells.proofs.Store.{filled-none, filled-join, filled-at, filled-words}
+use Rattle.cells.proofs.Store.{filled-join, filled-at, filled-words}
 use borrow.Author.Needs.{needs}
 use Rattle.cells.proofs.add_range.Statement.{statement}
 use Rattle.cells.proofs.add_range.Tie as tie

@@ -1,9 +1,8 @@
 -- `cells::add_words` meets its contract: the words from a up to w have all their cells. Assumes nothing.
 use native.Mathlib.Omega.{arith}
-use Prim.Native.Nat.{_-_, _*_, _+_, _≤_}
+use Prim.Native.Nat.{_-_, _*_, _≤_}
 use mathlib.Core.Path.{_≡_, refl}
 use lib.ListN.{length, length-set}
-use borrow.Author.Needs.{needs}
 use Rattle.cells.specs.Cells.{Filled}
 use Rattle.cells.proofs.Store.{filled-none, filled-join, whole-added}
 use Rattle.cells.proofs.add_words.Statement.{statement}

@@ -1,9 +1,9 @@
 -- `cells::close` meets its contract: before word w the cells below 64 w are cleared of the mask, and the others stand. Assumes nothing.
 use Rattle.cells.proofs.Store.{Swept, swept-none, swept-more, swept-all}
-use mathlib.Core.Path.{_≡_, refl, sym, ap, ap₂, _∙_}
-use Prim.Native.Nat.{ℕ, _+_, _-_, _*_, _/_, _%_, _^_, _≤_, _<_}
+use mathlib.Core.Path.{_≡_, refl}
+use Prim.Native.Nat.{_-_, _≤_}
 use native.Mathlib.Omega.{arith}
-use lib.ListN.{length, getD, set, length-set}
+use lib.ListN.{length, length-set}
 use Rattle.cells.proofs.close.Statement.{statement}
 use Rattle.cells.proofs.close.Tie as tie
 use Rattle.cells.proofs.close.Reads as reads

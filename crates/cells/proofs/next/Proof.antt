@@ -1,12 +1,10 @@
 -- `cells::next` meets its contract: the rest of the word where the search starts, then the words after it. Assumes nothing.
-use Prim.Native.Nat.{ℕ, _+_, _-_, _*_, _/_, _%_, _^_, _≤_, _<_, min}
-use mathlib.Core.Path.{_≡_, refl, sym, ap, _∙_}
+use Prim.Native.Nat.{_-_, _/_, _%_, _^_}
 use native.Mathlib.Omega.{arith}
-use lib.ListN.{length, getD, set, length-set}
-use lib.Count.{ones, ones-le, trailingZeros, trailing-le}
-use lib.Bits.{bitAnd, and-le-l}
-use Rattle.cells.specs.Cells.{cell, total, both, common}
-use Rattle.cells.specs.Hops.{Counted, Hops, Onward, Next, whole}
+use lib.ListN.{getD}
+use lib.Count.{trailing-le}
+use lib.Bits.{bitAnd}
+use Rattle.cells.specs.Hops.{whole}
 use Rattle.cells.proofs.Lowest.{first-at, none-at, search-on, search-over}
 use borrow.Author.Needs.{needs}
 use Rattle.cells.proofs.next.Statement.{statement}

@@ -1,12 +1,12 @@
 -- `cells::next_from` meets its contract: before word q no cell of a from the first word on is outside b. Assumes nothing.
-use Prim.Native.Nat.{ℕ, _+_, _-_, _*_, _/_, _%_, _^_, _≤_, _<_, min}
-use mathlib.Core.Path.{_≡_, refl, sym, ap, _∙_}
+use Prim.Native.Nat.{ℕ, _-_, _*_, _≤_, _<_}
+use mathlib.Core.Path.{_≡_}
 use native.Mathlib.Omega.{arith}
-use lib.ListN.{length, getD, set, length-set}
-use lib.Count.{ones, ones-le, trailingZeros, trailing-le}
-use lib.Bits.{bitAnd, and-le-l}
-use Rattle.cells.specs.Cells.{cell, total, both, common}
-use Rattle.cells.specs.Hops.{Counted, Hops, Onward, Next, whole}
+use lib.ListN.{length, getD}
+use lib.Count.{trailing-le}
+use lib.Bits.{bitAnd}
+use Rattle.cells.specs.Cells.{cell}
+use Rattle.cells.specs.Hops.{whole}
 use Rattle.cells.proofs.Lowest.{first-in-word, none-in-word, search-on, search-over}
 use Rattle.cells.proofs.next_from.Statement.{statement}
 use Rattle.cells.proofs.next_from.Tie as tie

@@ -1,13 +1,6 @@
 -- `cells::onward` meets its contract: one word on from a whole word, else the hop. Assumes nothing.
-use Prim.Native.Nat.{ℕ, _+_, _-_, _*_, _/_, _%_, _^_, _≤_, _<_, min}
-use mathlib.Core.Path.{_≡_, refl, sym, ap, _∙_}
 use native.Mathlib.Omega.{arith}
-use lib.ListN.{length, getD, set, length-set}
-use lib.Count.{ones, ones-le, trailingZeros, trailing-le}
-use lib.Bits.{bitAnd, and-le-l}
-use Rattle.cells.specs.Cells.{cell, total, both, common}
-use Rattle.cells.specs.Hops.{Counted, Hops, Onward, Next}
-use Rattle.cells.proofs.Walk.{onward-run, onward-gap}
+use Rattle.cells.proofs.Walk.{onward-gap}
 use borrow.Author.Needs.{needs}
 use Rattle.cells.proofs.onward.Statement.{statement}
 use Rattle.cells.proofs.onward.Tie as tie

@@ -1,9 +1,8 @@
 -- `cells::span` meets its contract: the first hi bits without the first lo. Assumes nothing.
 use Rattle.cells.proofs.Store.{span-of}
-use mathlib.Core.Path.{_≡_, refl, sym, ap, ap₂, _∙_}
-use Prim.Native.Nat.{ℕ, _+_, _-_, _*_, _/_, _%_, _^_, _≤_, _<_}
+use mathlib.Core.Path.{_≡_}
+use Prim.Native.Nat.{_-_, _^_}
 use native.Mathlib.Omega.{arith}
-use lib.ListN.{length, getD, set, length-set}
 use borrow.Author.Needs.{needs}
 use Rattle.cells.proofs.span.Statement.{statement}
 use Rattle.cells.proofs.span.Tie as tie

@@ -1,6 +1,5 @@
 -- `charts::back` meets its contract: the words from r on are m and have their hops. Assumes nothing.
-use Prim.Native.Nat.{_-_, _+_, _<_}
-use mathlib.Core.Path.{_≡_, ap, _∙_}
+use mathlib.Core.Path.{ap, _∙_}
 use native.Mathlib.Omega.{arith}
 use Rattle.tournament.specs.Tournament.{at}
 use Rattle.charts.proofs.Charting.{Backing, backs-none, backs-more, backs-all}

@@ -1,5 +1,4 @@
 -- `follow::both` meets its contract: both runs close the bid's cells. Assumes nothing.
-use Prim.Native.Nat.{_-_}
 use mathlib.Core.Path.{_∙_}
 use native.Mathlib.Omega.{arith}
 use Rattle.follow.proofs.Following.{inside}

@@ -1,5 +1,4 @@
 -- `follow::other` meets its contract: the bids that share an open cell with the bid taken are marked, and its cells close in this run alone. Assumes nothing.
-use Prim.Native.Nat.{_-_}
 use mathlib.Core.Path.{_∙_}
 use Rattle.follow.proofs.Following.{inside}
 use Rattle.follow.proofs.Stepping.{bid-row, words, price-small, other-goes}

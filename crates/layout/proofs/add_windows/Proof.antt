@@ -1,13 +1,10 @@
 -- `layout::add_windows` meets its contract: the words have the cells of the windows passed. Assumes nothing.
 use mathlib.Core.Path.{_≡_, refl, _∙_}
-use mathlib.Core.Bool.{true, _&&_}
-use Prim.Native.Nat.{ℕ, _+_, _*_, _-_, _≤_, _<_}
+use mathlib.Core.Bool.{true}
+use Prim.Native.Nat.{_+_, _*_, _-_}
 use native.Mathlib.Omega.{arith}
 use lib.ListN.{length, getD}
-use lib.Dec.{leb, ltb}
-use borrow.Author.Tests.{ltb-true}
-use Rattle.cover.specs.SetLaws.{and-split}
-use Rattle.tables.proofs.Walk.{ahead, ahead-start, ahead-more}
+use Rattle.tables.proofs.Walk.{ahead, ahead-start}
 use Rattle.layout.proofs.Laws.{Masking, masking-starts, masking-more, masking-ends, here-lawful}
 use Rattle.layout.specs.LayoutLaws.{clip-order, clip-inside}
 use Rattle.layout.proofs.add_windows.Statement.{statement}

@@ -1,11 +1,9 @@
 -- `layout::masks` meets its contract: the rows passed have the cells of their bids. Assumes nothing.
-use mathlib.Core.Path.{_≡_, refl, sym, ap, _∙_}
-use Prim.Native.Nat.{ℕ, _-_, _*_, _≤_}
+use mathlib.Core.Path.{sym, _∙_}
+use Prim.Native.Nat.{_-_, _≤_}
 use native.Mathlib.Omega.{arith}
-use lib.ListN.{length}
 use Rattle.tender.specs.declared.Kind.the-variants.{Multi}
 use Rattle.tender.specs.Tables.{own}
-use Rattle.rounds.specs.Market.{row}
 use Rattle.rounds.proofs.Rows.{part-row, row-within}
 use Rattle.layout.proofs.Laws.{row-room}
 use Rattle.layout.proofs.Rows.{Writing, writing-starts, writing-more, writing-ends, row-size}

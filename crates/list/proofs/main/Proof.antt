@@ -1,6 +1,5 @@
 -- What was read fits the text's buffer, and every list fits the list's. Assumes nothing.
 use mathlib.Core.Path.{sym}
-use native.Mathlib.Omega.{arith}
 use lib.Seq.{length-take-le}
 use borrow.Author.Tests.{lt-ltb}
 use Rattle.list.specs.Input.{text-within}

@@ -1,7 +1,6 @@
 -- The bytes read so far fit the buffer, and each turn reads some. Assumes nothing.
 use mathlib.Core.Path.{_≡_}
 use Prim.Native.Nat.{_≤_, _-_}
-use native.Mathlib.Omega.{arith}
 use lib.ListN.{length}
 use borrow.Author.Needs.{needs}
 use Rattle.list.proofs.read_all.Statement.{statement}

@@ -1,5 +1,4 @@
 -- The award's answer, as its list. Assumes nothing.
-use native.Mathlib.Omega.{arith}
 use Rattle.listing.proofs.Making.{award-written, declined-written}
 use borrow.Author.Needs.{needs}
 use Rattle.listing.proofs.put_award.Statement.{statement}

@@ -1,5 +1,5 @@
 -- `multi::award_in` meets its contract: the award of the parts with a place for each bid. Assumes nothing.
-use Prim.Native.Nat.{_≤_, _*_, _-_}
+use Prim.Native.Nat.{_≤_, _*_}
 use mathlib.Core.Path.{_∙_, sym}
 use native.Mathlib.Omega.{arith}
 use lib.ListN.{length, length-append, length-drop}

@@ -1,5 +1,5 @@
 -- `multi::settle` meets its contract: the run is written down, its bids are marked and paid, and the totals summed. Assumes nothing.
-use Prim.Native.Nat.{ℕ, _+_, _-_}
+use Prim.Native.Nat.{ℕ, _+_}
 use mathlib.Core.Path.{_∙_, sym, ap}
 use native.Mathlib.Omega.{arith}
 use Rattle.tournament.proofs.Tree.{opened}

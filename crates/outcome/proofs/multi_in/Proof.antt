@@ -1,6 +1,5 @@
 -- `outcome::multi_in` meets its contract: the tables are laid out as words, and each way out is one of the laws. Assumes nothing.
-use mathlib.Core.Path.{_≡_, refl, sym, ap, subst, _∙_}
-use Prim.Native.Nat.{ℕ, _*_}
+use mathlib.Core.Path.{subst, _∙_}
 use native.Mathlib.Omega.{arith}
 use lib.ListN.{length}
 use Rattle.tender.specs.declared.Kind.the-variants.{Multi}
@@ -8,7 +7,7 @@ use Rattle.rounds.specs.Market.{has}
 use Rattle.bidders.specs.Thin.{Says}
 use Rattle.tables.specs.Cells.{cellsOf}
 use Rattle.layout.specs.LayoutLaws.{orderly}
-use Rattle.outcome.proofs.Multi.{Words, words-of, uncovered, lone, market, two-bidders, settled}
+use Rattle.outcome.proofs.Multi.{words-of, uncovered, lone, market, two-bidders, settled}
 use borrow.Author.Needs.{needs}
 use Rattle.outcome.proofs.multi_in.Statement.{statement}
 use Rattle.outcome.proofs.multi_in.Tie as tie

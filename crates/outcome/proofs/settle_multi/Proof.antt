@@ -1,14 +1,13 @@
 -- `outcome::settle_multi` meets its contract: the places lent are as many as the bids and their words need. Assumes nothing.
-use mathlib.Core.Path.{_≡_, refl, sym, ap, _∙_}
+use mathlib.Core.Path.{refl, sym}
 use Prim.Native.Nat.{ℕ, _+_, _-_, _*_, _/_}
 use native.Mathlib.Omega.{arith}
-use lib.ListN.{length, take, replicate, length-replicate}
+use lib.ListN.{length-replicate}
 use Rattle.tender.specs.declared.Kind.the-variants.{Multi}
 use Rattle.tables.specs.Cells.{cellsOf}
 use Rattle.layout.specs.LayoutLaws.{orderly}
-use Rattle.outcome.proofs.Multi.{Words, words-of}
+use Rattle.outcome.proofs.Multi.{words-of}
 use Rattle.outcome.proofs.Prefix.{prefix-length, product-most}
-use borrow.Author.Needs.{needs}
 use Rattle.outcome.proofs.settle_multi.Statement.{statement}
 use Rattle.outcome.proofs.settle_multi.Tie as tie
 use Rattle.outcome.proofs.settle_multi.Reads as reads

@@ -1,8 +1,8 @@
 -- `outcome::settle_single` meets its contract: the places lent are as many as the bids. Assumes nothing.
-use mathlib.Core.Path.{_≡_, refl, sym}
+use mathlib.Core.Path.{refl, sym}
 use Prim.Native.Nat.{ℕ}
 use native.Mathlib.Omega.{arith}
-use lib.ListN.{length, take, replicate, length-replicate}
+use lib.ListN.{length-replicate}
 use Rattle.tender.specs.declared.Kind.the-variants.{Single}
 use Rattle.layout.specs.LayoutLaws.{orderly}
 use Rattle.outcome.proofs.Prefix.{prefix-length}

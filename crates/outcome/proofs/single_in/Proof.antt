@@ -1,13 +1,12 @@
 -- `outcome::single_in` meets its contract: the tables are laid out as starts and ends, and each way out is one of the laws. Assumes nothing.
-use mathlib.Core.Path.{_≡_, refl, sym, ap, subst, _∙_}
-use Prim.Native.Nat.{ℕ}
+use mathlib.Core.Path.{sym, subst, _∙_}
 use native.Mathlib.Omega.{arith}
 use lib.ListN.{length}
 use Rattle.tender.specs.declared.Kind.the-variants.{Single}
 use Rattle.cover.specs.Settled.{spans}
-use Rattle.bidders.specs.Thin.{Says, Spans}
+use Rattle.bidders.specs.Thin.{Says}
 use Rattle.tables.specs.Cells.{cellsOf}
-use Rattle.layout.specs.LayoutLaws.{orderly, Timed, timed}
+use Rattle.layout.specs.LayoutLaws.{orderly, timed}
 use Rattle.outcome.proofs.Single.{uncovered, lone, ordered, prices-most, settled}
 use borrow.Author.Needs.{needs}
 use Rattle.outcome.proofs.single_in.Statement.{statement}

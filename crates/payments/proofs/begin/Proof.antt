@@ -1,5 +1,5 @@
 -- `payments::begin` meets its contract: nothing is known of any bid, k alone is marked, then those that share an open cell with it. Assumes nothing.
-use Prim.Native.Nat.{_-_, ℕ, _+_}
+use Prim.Native.Nat.{ℕ, _+_}
 use mathlib.Core.Path.{sym, _∙_, ap}
 use native.Mathlib.Omega.{arith}
 use Rattle.tournament.specs.Tournament.{at}

@@ -1,5 +1,5 @@
 -- `read` meets its contract: the first line, the bids and the lent tables' lengths settle the answer, and the rows are copied. Assumes nothing.
-use Prim.Native.Nat.{ℕ, _-_}
+use Prim.Native.Nat.{ℕ}
 use mathlib.Core.Path.{refl, _∙_}
 use native.Mathlib.Omega.{arith}
 use borrow.Author.Needs.{needs}

@@ -1,6 +1,5 @@
 -- `rounds::comes` meets its contract: fractions by cross-multiplication, on a tie the earlier entry. Assumes nothing.
-use Prim.Native.Nat.{ℕ, _≤_, _<_, _*_, _+_}
-use mathlib.Core.Path.{_≡_}
+use Prim.Native.Nat.{_*_}
 use native.Mathlib.Omega.{arith}
 use borrow.Author.Tests.{ltb-true, leb-true}
 use Rattle.cover.specs.PickLaws.{late-no, late-most}

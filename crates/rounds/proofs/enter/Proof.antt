@@ -1,11 +1,9 @@
 -- `rounds::enter` meets its contract: before bid i the bids below i are entered. Assumes nothing.
-use Prim.Native.Nat.{ℕ, _+_, _-_, _*_, _/_, _≤_, _<_}
-use mathlib.Core.Path.{_≡_, refl, sym, ap, _∙_}
+use Prim.Native.Nat.{_-_}
+use mathlib.Core.Path.{sym, _∙_}
 use native.Mathlib.Omega.{arith}
-use lib.ListN.{length, getD, set, length-set}
-use Rattle.cells.specs.Cells.{common}
+use lib.ListN.{length}
 use Rattle.cells.specs.Hops.{Counted}
-use Rattle.tournament.specs.Tournament.{at, known, Tournament}
 use Rattle.rounds.proofs.Rows.{row-in}
 use Rattle.rounds.proofs.Begin.{Entering, enters-none, enters-more, enters-all, common-few}
 use Rattle.rounds.proofs.enter.Statement.{statement}

@@ -1,13 +1,11 @@
 -- `rounds::front` meets its contract: what is known of each bid stays no less than it reaches, and the tournament has the first by what is known. Assumes nothing.
-use Prim.Native.Nat.{ℕ, _+_, _-_, _*_, _/_, _≤_, _<_}
-use mathlib.Core.Path.{_≡_, refl, sym, ap, _∙_}
+use Prim.Native.Nat.{_<_}
+use mathlib.Core.Path.{sym, _∙_}
 use native.Mathlib.Omega.{arith}
-use lib.ListN.{length, getD, set, length-set}
 use Rattle.cover.specs.CriticalPrice.{sum}
-use Rattle.cells.specs.Cells.{common}
 use Rattle.cells.specs.Hops.{Counted}
-use Rattle.tournament.specs.Tournament.{at, known, Tournament}
-use Rattle.rounds.proofs.Rows.{part-row, row-in, row-length}
+use Rattle.tournament.specs.Tournament.{at, known}
+use Rattle.rounds.proofs.Rows.{row-in}
 use Rattle.rounds.proofs.Fronting.{Fronting, begins, first-small, first-in, no-more, counted, fewer, is-clear, is-exact, is-none}
 use Rattle.rounds.proofs.front.Statement.{statement}
 use Rattle.rounds.proofs.front.Tie as tie

@@ -1,11 +1,10 @@
 -- `rounds::trace` meets its contract: the rounds so far are written down, and the cells left open are counted. Assumes nothing.
-use Prim.Native.Nat.{ℕ, _+_, _-_, _*_, _/_, _≤_, _<_}
+use Prim.Native.Nat.{ℕ, _+_}
 use mathlib.Core.Path.{_≡_, refl, sym, ap, _∙_}
 use native.Mathlib.Omega.{arith}
-use lib.ListN.{length, getD, set, length-set}
-use Rattle.cells.specs.Cells.{common}
+use lib.ListN.{length, length-set}
 use Rattle.cells.specs.Hops.{Counted}
-use Rattle.tournament.specs.Tournament.{at, known, Tournament}
+use Rattle.tournament.specs.Tournament.{known, Tournament}
 use Rattle.rounds.proofs.Rows.{row-in}
 use mathlib.Core.Bool.{false}
 use Rattle.rounds.proofs.Fronting.{turned, not-clear}

@@ -1,5 +1,4 @@
 -- `single::pay` meets its contract: a loser is paid nothing, a winner by the least cost without it. Assumes nothing.
-use Prim.Native.Nat.{_-_}
 use lib.ListN.{getD}
 use Rattle.costs.specs.AcrossLaws.{winner-ends}
 use Rattle.single.specs.Pay.{pays-none, wins-bit, pays-some}

@@ -1,5 +1,5 @@
 -- `tables::row_fault` meets its contract: the rows not yet passed have the first fault of all, and the words hold the bidder numbers of those passed. Assumes nothing.
-use mathlib.Core.Path.{_≡_, refl, sym, _∙_}
+use mathlib.Core.Path.{refl, sym, _∙_}
 use Prim.Native.Nat.{_-_}
 use native.Mathlib.Omega.{arith}
 use borrow.Author.Tests.{not-true, not-false}

@@ -1,9 +1,7 @@
 -- `tournament::leads` meets its contract: a bid without cells comes last, the others by price for each cell and entry. Assumes nothing.
-use Prim.Native.Nat.{ℕ, _+_, _-_, _*_, _/_, _≤_, _<_}
-use mathlib.Core.Path.{_≡_, refl, sym, ap, _∙_}
+use Prim.Native.Nat.{_*_}
 use mathlib.Core.Logic.{inl, inr}
 use native.Mathlib.Omega.{arith}
-use lib.ListN.{length, getD, set, length-set}
 use mathlib.Core.Bool.{true≢false, false≢true}
 use borrow.Author.Tests.{ltb-true, ltb-false, leb-true, leb-false}
 use Rattle.cover.specs.PickLaws.{late-no, late-most}

@@ -1,7 +1,6 @@
 -- `tournament::put` meets its contract: a store of what stands there already is left out. Assumes nothing.
 use mathlib.Core.Path.{refl}
 use mathlib.Core.Bool.{true≢false}
-use native.Mathlib.Omega.{arith}
 use Rattle.tournament.proofs.Tree.{put-same}
 use borrow.Author.Needs.{needs}
 use Rattle.tournament.proofs.put.Statement.{statement}

@@ -1,9 +1,7 @@
 -- `tournament::seat` meets its contract: from node v on the bids are in their places. Assumes nothing.
-use Prim.Native.Nat.{ℕ, _+_, _-_, _*_, _/_, _≤_, _<_}
-use mathlib.Core.Path.{_≡_, refl, sym, ap, _∙_}
-use mathlib.Core.Logic.{inl, inr}
+use Prim.Native.Nat.{_≤_}
+use mathlib.Core.Path.{refl, sym, _∙_}
 use native.Mathlib.Omega.{arith}
-use lib.ListN.{length, getD, set, length-set}
 use Rattle.tournament.proofs.Tree.{Seating, seats-none, seats-leaf, seats-node, seats-all}
 use Rattle.tournament.proofs.seat.Statement.{statement}
 use Rattle.tournament.proofs.seat.Tie as tie

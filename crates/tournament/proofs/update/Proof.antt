@@ -5,7 +5,6 @@ use native.Mathlib.Omega.{arith}
 use borrow.Author.Tests.{not-true}
 use Rattle.tournament.specs.Tournament.{known}
 use Rattle.tournament.proofs.Tree.{Except, starts, goes, stands, ends, known-set, played-known}
-use borrow.Author.Needs.{needs}
 use Rattle.tournament.proofs.update.Statement.{statement}
 use Rattle.tournament.proofs.update.Tie as tie
 use Rattle.tournament.proofs.update.Reads as reads

@@ -1,5 +1,4 @@
 -- `walk::along` meets its contract: the main run's next bid is taken by both runs, or a marked bid comes before it, or the main run alone takes it. Assumes nothing.
-use Prim.Native.Nat.{_-_}
 use mathlib.Core.Path.{refl}
 use native.Mathlib.Omega.{arith}
 use Rattle.follow.proofs.Strayed.{knows}

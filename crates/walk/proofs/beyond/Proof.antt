@@ -1,5 +1,4 @@
 -- `walk::beyond` meets its contract: the first of the marked bids is taken, and without one the run is over. Assumes nothing.
-use Prim.Native.Nat.{_-_}
 use mathlib.Core.Path.{refl}
 use mathlib.Core.Bool.{false}
 use native.Mathlib.Omega.{arith}

@@ -1,5 +1,4 @@
 -- The store puts one byte. Assumes nothing.
-use lib.ListN.{length}
 use Rattle.listing.proofs.Writing.{one-byte}
 use borrow.Author.Needs.{needs}
 use Rattle.listing.proofs.lines.put.Statement.{statement}

@@ -1,5 +1,4 @@
 -- A line for a winner, nothing for another bid. Assumes nothing.
-use mathlib.Core.Path.{sym}
 use Rattle.tender.specs.Keywords.{bytes}
 use Rattle.listing.proofs.Spelling.{win-written, no-win, nothing-written}
 use borrow.Author.Needs.{needs}

@@ -1,5 +1,4 @@
 -- `line::read_line` meets its contract: the first word tells which line it is. Assumes nothing.
-use Prim.Native.Nat.{_-_}
 use mathlib.Core.Path.{_≡_, sym, ap, _∙_}
 use native.Mathlib.Omega.{arith}
 use borrow.Author.Needs.{needs}

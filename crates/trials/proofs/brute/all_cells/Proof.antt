@@ -1,7 +1,6 @@
 -- The loop is bounded, so every place and shift is in range. Assumes nothing.
-use Prim.Native.Nat.{_≤_, _-_, _+_, _*_, _<_}
+use Prim.Native.Nat.{_≤_, _-_}
 use lib.ListN.{length}
-use native.Mathlib.Omega.{arith}
 use borrow.Author.Needs.{needs}
 use Rattle.trials.proofs.brute.all_cells.Statement.{statement}
 use Rattle.trials.proofs.brute.all_cells.Tie as tie

@@ -1,6 +1,6 @@
 -- Both factors are small. Assumes nothing.
 use Prim.Native.Nat.{_%_}
-use native.Mathlib.Nat.{mul-le-mul, mod-lt}
+use native.Mathlib.Nat.{mul-le-mul}
 use native.Mathlib.Omega.{arith}
 use borrow.Author.Needs.{needs}
 use Rattle.trials.proofs.brute.times.Statement.{statement}
