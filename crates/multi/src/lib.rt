@@ -9,8 +9,9 @@ ghost use Rattle.cover.specs.Sets.{when, cells, each};
 ghost use Rattle.cover.specs.Greedy.{wins};
 ghost use Rattle.cover.specs.CriticalPrice.{roundsPaid};
 ghost use Rattle.cover.specs.Settled.{Settled};
-ghost use Rattle.tournament.specs.Tournament.{at, Priced};
-ghost use Rattle.rounds.specs.Market.{has, Market};
+ghost use Rattle.tournament.specs.Tournament.{at, Priced, Tournament};
+ghost use Rattle.rounds.specs.Market.{has, Market, Hopping};
+ghost use Rattle.rounds.specs.Trace.{Trace};
 ghost use Rattle.multi.specs.Totals.{Summed, Awarded};
 
 // The price where the flag is 1.
@@ -34,6 +35,44 @@ fn totals(prices: &[u64], won: &[u64], cents: &[u64]) -> tender::Totals
         k += 1;
     }
     tender::Totals { cost, paid }
+}
+
+// The run from all cells open, written down. Answers the number of rounds.
+fn run(
+    prices: &[u64],
+    masks: &[u64],
+    hop: &[u8],
+    w: usize,
+    count: usize,
+    held: &mut [u64],
+    counts: &mut [u64],
+    who: &mut [u64],
+    num: &mut [u64],
+    order: &mut [u64],
+    gains: &mut [u64],
+) -> usize
+    requires { ⌜ Market (now prices) (now masks) w × (Hopping (now prices) (now masks) (now hop) w × ((count ≤ 64 * w) × ((count ≤ length (now order)) × ((count ≤ length (now gains))
+        × ((length (now held) ≡ w) × ((length (now counts) ≡ w + 2) × ((length (now who) ≡ 2048) × (length (now num) ≡ 2048)))))))) ⌝ }
+    ensures { λ r. ⌜ Trace (now (prices .entry)) (now (masks .entry)) w count (now (order .exit)) (now (gains .exit)) r × Tournament (now (prices .entry)) (now (who .exit)) (now (num .exit)) ⌝ }
+{
+    rounds::unlock(held, count);
+    cells::count_none(held, counts);
+    tournament::seat(who);
+    rounds::clear(num);
+    rounds::enter(prices, masks, hop, w, held, counts, who, num);
+    rounds::trace(
+        prices,
+        masks,
+        hop,
+        w,
+        count,
+        held,
+        counts,
+        who,
+        num,
+        order,
+        gains,
+    )
 }
 
 // The award into lists with a place for each bid and no more, with room to work lent.
@@ -62,12 +101,7 @@ fn settle(
 {
     charts::chart(prices, masks, w, hop);
     charts::enlist(prices, masks, hop, w, index);
-    rounds::unlock(held, count);
-    cells::count_none(held, counts);
-    tournament::seat(who);
-    rounds::clear(num);
-    rounds::enter(prices, masks, hop, w, held, counts, who, num);
-    let rounds = rounds::trace(
+    let rounds = run(
         prices,
         masks,
         hop,

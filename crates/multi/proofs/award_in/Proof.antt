@@ -1,5 +1,5 @@
 -- `multi::award_in` meets its contract: the award of the parts with a place for each bid. Assumes nothing.
-use Prim.Native.Nat.{_≤_, _*_}
+use Prim.Native.Nat.{_+_, _≤_, _*_}
 use mathlib.Core.Path.{_∙_, sym}
 use native.Mathlib.Omega.{arith}
 use lib.ListN.{length, length-append, length-drop}
@@ -23,46 +23,46 @@ slice-relend-prefix-settle : tie.Need-slice-relend-prefix-settle
 slice-relend-prefix-settle c = let P = c .before .before .before .before .before .before .before .before .before .before .before .before .before .before .before .before .pre in let A = c .before .before .before .before .before .before .before .before .before .before .before .before .before .before .before .before .args in omega (arith, product (A .w) (length (A .prices .now)) 158 1000 (P .0 .words) (P .0 .priced .count), P .0 .size, P .1 .1 .1 .1 .1 .0)
 
 slice-aggregate-settle : tie.Need-slice-aggregate-settle
-slice-aggregate-settle c = let P = c .before .before .before .before .before .before .before .before .before .before .before .before .before .before .before .before .before .pre in let A = c .before .before .before .before .before .before .before .before .before .before .before .before .before .before .before .before .before .args in sym (length-take-le _ (A .hop .now) (omega (arith, product (A .w) (length (A .prices .now)) 158 1000 (P .0 .words) (P .0 .priced .count), P .0 .size, P .1 .1 .1 .1 .1 .0)))
+slice-aggregate-settle c = let P = c .before .before .before .before .before .before .before .before .before .before .before .before .before .before .before .before .before .pre in let A = c .before .before .before .before .before .before .before .before .before .before .before .before .before .before .before .before .before .args in sym (length-take-le (length (A .masks .now)) (A .hop .now) (omega (arith, product (A .w) (length (A .prices .now)) 158 1000 (P .0 .words) (P .0 .priced .count), P .0 .size, P .1 .1 .1 .1 .1 .0)))
 
 slice-relend-prefix-settle-2 : tie.Need-slice-relend-prefix-settle-2
 slice-relend-prefix-settle-2 c = search needs
 
 slice-aggregate-settle-2 : tie.Need-slice-aggregate-settle-2
-slice-aggregate-settle-2 c = let P = c .before .before .before .before .before .before .before .before .before .before .before .before .before .before .before .before .before .before .pre in let A = c .before .before .before .before .before .before .before .before .before .before .before .before .before .before .before .before .before .before .args in sym (length-take-le _ (A .index .now) (omega (arith, P .0 .words, P .1 .1 .1 .1 .1 .1 .0)))
+slice-aggregate-settle-2 c = let P = c .before .before .before .before .before .before .before .before .before .before .before .before .before .before .before .before .before .before .pre in let A = c .before .before .before .before .before .before .before .before .before .before .before .before .before .before .before .before .before .before .args in sym (length-take-le (16 * A .w) (A .index .now) (omega (arith, P .0 .words, P .1 .1 .1 .1 .1 .1 .0)))
 
 slice-relend-prefix-settle-3 : tie.Need-slice-relend-prefix-settle-3
 slice-relend-prefix-settle-3 c = search needs
 
 slice-aggregate-settle-3 : tie.Need-slice-aggregate-settle-3
-slice-aggregate-settle-3 c = let P = c .before .before .before .before .before .before .before .before .before .before .before .before .before .before .before .before .before .before .before .pre in let A = c .before .before .before .before .before .before .before .before .before .before .before .before .before .before .before .before .before .before .before .args in sym (length-take-le _ (A .held .now) (omega (arith, P .0 .words, P .1 .1 .1 .1 .1 .1 .1 .0)))
+slice-aggregate-settle-3 c = let P = c .before .before .before .before .before .before .before .before .before .before .before .before .before .before .before .before .before .before .before .pre in let A = c .before .before .before .before .before .before .before .before .before .before .before .before .before .before .before .before .before .before .before .args in sym (length-take-le (A .w) (A .held .now) (omega (arith, P .0 .words, P .1 .1 .1 .1 .1 .1 .1 .0)))
 
 slice-relend-prefix-settle-4 : tie.Need-slice-relend-prefix-settle-4
 slice-relend-prefix-settle-4 c = search needs
 
 slice-aggregate-settle-4 : tie.Need-slice-aggregate-settle-4
-slice-aggregate-settle-4 c = let P = c .before .before .before .before .before .before .before .before .before .before .before .before .before .before .before .before .before .before .before .before .pre in let A = c .before .before .before .before .before .before .before .before .before .before .before .before .before .before .before .before .before .before .before .before .args in sym (length-take-le _ (A .alt .now) (omega (arith, P .0 .words, P .1 .1 .1 .1 .1 .1 .1 .1 .0)))
+slice-aggregate-settle-4 c = let P = c .before .before .before .before .before .before .before .before .before .before .before .before .before .before .before .before .before .before .before .before .pre in let A = c .before .before .before .before .before .before .before .before .before .before .before .before .before .before .before .before .before .before .before .before .args in sym (length-take-le (A .w) (A .alt .now) (omega (arith, P .0 .words, P .1 .1 .1 .1 .1 .1 .1 .1 .0)))
 
 slice-relend-prefix-settle-5 : tie.Need-slice-relend-prefix-settle-5
 slice-relend-prefix-settle-5 c = search needs
 
 slice-aggregate-settle-5 : tie.Need-slice-aggregate-settle-5
-slice-aggregate-settle-5 c = let P = c .before .before .before .before .before .before .before .before .before .before .before .before .before .before .before .before .before .before .before .before .before .pre in let A = c .before .before .before .before .before .before .before .before .before .before .before .before .before .before .before .before .before .before .before .before .before .args in sym (length-take-le _ (A .counts .now) (omega (arith, P .0 .words, P .1 .1 .1 .1 .1 .1 .1 .1 .1 .0)))
+slice-aggregate-settle-5 c = let P = c .before .before .before .before .before .before .before .before .before .before .before .before .before .before .before .before .before .before .before .before .before .pre in let A = c .before .before .before .before .before .before .before .before .before .before .before .before .before .before .before .before .before .before .before .before .before .args in sym (length-take-le (A .w + 2) (A .counts .now) (omega (arith, P .0 .words, P .1 .1 .1 .1 .1 .1 .1 .1 .1 .0)))
 
 slice-relend-prefix-settle-6 : tie.Need-slice-relend-prefix-settle-6
 slice-relend-prefix-settle-6 c = let P = c .before .before .before .before .before .before .before .before .before .before .before .before .before .before .before .before .before .before .before .before .before .before .before .before .pre in let A = c .before .before .before .before .before .before .before .before .before .before .before .before .before .before .before .before .before .before .before .before .before .before .before .before .args in P .1 .1 .1 .1 .1 .1 .1 .1 .1 .1 .1 .1 .1 .0
 
 slice-aggregate-settle-6 : tie.Need-slice-aggregate-settle-6
-slice-aggregate-settle-6 c = let P = c .before .before .before .before .before .before .before .before .before .before .before .before .before .before .before .before .before .before .before .before .before .before .before .before .before .pre in let A = c .before .before .before .before .before .before .before .before .before .before .before .before .before .before .before .before .before .before .before .before .before .before .before .before .before .args in sym (length-take-le _ (A .won .now) (P .1 .1 .1 .1 .1 .1 .1 .1 .1 .1 .1 .1 .1 .0))
+slice-aggregate-settle-6 c = let P = c .before .before .before .before .before .before .before .before .before .before .before .before .before .before .before .before .before .before .before .before .before .before .before .before .before .pre in let A = c .before .before .before .before .before .before .before .before .before .before .before .before .before .before .before .before .before .before .before .before .before .before .before .before .before .args in sym (length-take-le (length (A .prices .now)) (A .won .now) (P .1 .1 .1 .1 .1 .1 .1 .1 .1 .1 .1 .1 .1 .0))
 
 slice-relend-prefix-settle-7 : tie.Need-slice-relend-prefix-settle-7
 slice-relend-prefix-settle-7 c = let P = c .before .before .before .before .before .before .before .before .before .before .before .before .before .before .before .before .before .before .before .before .before .before .before .before .before .pre in let A = c .before .before .before .before .before .before .before .before .before .before .before .before .before .before .before .before .before .before .before .before .before .before .before .before .before .args in P .1 .1 .1 .1 .1 .1 .1 .1 .1 .1 .1 .1 .1 .1
 
 slice-aggregate-settle-7 : tie.Need-slice-aggregate-settle-7
-slice-aggregate-settle-7 c = let P = c .before .before .before .before .before .before .before .before .before .before .before .before .before .before .before .before .before .before .before .before .before .before .before .before .before .before .pre in let A = c .before .before .before .before .before .before .before .before .before .before .before .before .before .before .before .before .before .before .before .before .before .before .before .before .before .before .args in sym (length-take-le _ (A .cents .now) (P .1 .1 .1 .1 .1 .1 .1 .1 .1 .1 .1 .1 .1 .1))
+slice-aggregate-settle-7 c = let P = c .before .before .before .before .before .before .before .before .before .before .before .before .before .before .before .before .before .before .before .before .before .before .before .before .before .before .pre in let A = c .before .before .before .before .before .before .before .before .before .before .before .before .before .before .before .before .before .before .before .before .before .before .before .before .before .before .args in sym (length-take-le (length (A .prices .now)) (A .cents .now) (P .1 .1 .1 .1 .1 .1 .1 .1 .1 .1 .1 .1 .1 .1))
 
 settle-requires : tie.Need-settle-requires
-settle-requires c κs = let P = c .before .before .before .before .before .before .before .before .before .before .before .before .before .before .before .before .before .before .before .before .before .before .before .before .before .before .pre in let A = c .before .before .before .before .before .before .before .before .before .before .before .before .before .before .before .before .before .before .before .before .before .before .before .before .before .before .args in (P .0, (P .1 .0, (P .1 .1 .0, (P .1 .1 .1 .0, (P .1 .1 .1 .1 .0, (length-take-le _ (A .hop .now) (omega (arith, product (A .w) (length (A .prices .now)) 158 1000 (P .0 .words) (P .0 .priced .count), P .0 .size, P .1 .1 .1 .1 .1 .0)), (length-take-le _ (A .index .now) (omega (arith, P .0 .words, P .1 .1 .1 .1 .1 .1 .0)), (length-take-le _ (A .held .now) (omega (arith, P .0 .words, P .1 .1 .1 .1 .1 .1 .1 .0)), (length-take-le _ (A .alt .now) (omega (arith, P .0 .words, P .1 .1 .1 .1 .1 .1 .1 .1 .0)), (length-take-le _ (A .counts .now) (omega (arith, P .0 .words, P .1 .1 .1 .1 .1 .1 .1 .1 .1 .0)), (P .1 .1 .1 .1 .1 .1 .1 .1 .1 .1 .0, (P .1 .1 .1 .1 .1 .1 .1 .1 .1 .1 .1 .0, (P .1 .1 .1 .1 .1 .1 .1 .1 .1 .1 .1 .1 .0, (length-take-le _ (A .won .now) (P .1 .1 .1 .1 .1 .1 .1 .1 .1 .1 .1 .1 .1 .0), length-take-le _ (A .cents .now) (P .1 .1 .1 .1 .1 .1 .1 .1 .1 .1 .1 .1 .1 .1)))))))))))))))
+settle-requires c κs = let P = c .before .before .before .before .before .before .before .before .before .before .before .before .before .before .before .before .before .before .before .before .before .before .before .before .before .before .pre in let A = c .before .before .before .before .before .before .before .before .before .before .before .before .before .before .before .before .before .before .before .before .before .before .before .before .before .before .args in (P .0, (P .1 .0, (P .1 .1 .0, (P .1 .1 .1 .0, (P .1 .1 .1 .1 .0, (length-take-le (length (A .masks .now)) (A .hop .now) (omega (arith, product (A .w) (length (A .prices .now)) 158 1000 (P .0 .words) (P .0 .priced .count), P .0 .size, P .1 .1 .1 .1 .1 .0)), (length-take-le (16 * A .w) (A .index .now) (omega (arith, P .0 .words, P .1 .1 .1 .1 .1 .1 .0)), (length-take-le (A .w) (A .held .now) (omega (arith, P .0 .words, P .1 .1 .1 .1 .1 .1 .1 .0)), (length-take-le (A .w) (A .alt .now) (omega (arith, P .0 .words, P .1 .1 .1 .1 .1 .1 .1 .1 .0)), (length-take-le (A .w + 2) (A .counts .now) (omega (arith, P .0 .words, P .1 .1 .1 .1 .1 .1 .1 .1 .1 .0)), (P .1 .1 .1 .1 .1 .1 .1 .1 .1 .1 .0, (P .1 .1 .1 .1 .1 .1 .1 .1 .1 .1 .1 .0, (P .1 .1 .1 .1 .1 .1 .1 .1 .1 .1 .1 .1 .0, (length-take-le (length (A .prices .now)) (A .won .now) (P .1 .1 .1 .1 .1 .1 .1 .1 .1 .1 .1 .1 .1 .0), length-take-le (length (A .prices .now)) (A .cents .now) (P .1 .1 .1 .1 .1 .1 .1 .1 .1 .1 .1 .1 .1 .1)))))))))))))))
 
 same-length : tie.Need-same-length
 same-length c = search needs
