@@ -5,6 +5,8 @@ use mathlib.Core.Bool.{Bool, true, false, not, _&&_, _||_, false≢true}
 use Prim.Native.Nat.{ℕ, _-_}
 use lib.Dec.{leb, ltb, eqb}
 use borrow.Author.Tests.{leb-true, ltb-true, eqb-true, eq-eqb}
+use Rattle.tender.specs.declared.Refusal.the-variants.{MinuteUncovered, OneBidder}
+use Rattle.tender.specs.Refusals.{numberOf}
 use Rattle.tender.specs.Tables.{rowsOf}
 use Rattle.cover.specs.Sets.{bidders}
 use Rattle.cover.specs.SetLaws.{and-split}
@@ -38,13 +40,20 @@ inBids c minute m =
     leb (c .start) minute && ltb minute (c .end)
     && eqb (bidders (hasOf (tenderOf c) (rowsOf (countOf c) (c .bids)) (c .windows)) (countOf c) (minute - c .start)) m
 
+-- the numbers of the two refusals that name a minute
+abbrev nobody : ℕ
+nobody = numberOf (MinuteUncovered 0)
+
+abbrev alone : ℕ
+alone = numberOf (OneBidder 0)
+
 -- the answer is the one defined, and the minute of 11 or 12 is one that the page allows
 unfoldable pub right : Case → Bool
 unfolding sameOutcome awardOf tenderOf countOf number place inBids
 right c =
     sameOutcome (awardOf (c .kind) (tenderOf c) (countOf c) (c .bids) (c .windows) (countOf c) (place (c .outcome))) (c .outcome)
-    && (not (eqb (number (c .outcome)) 11) || inBids c (place (c .outcome)) 0)
-    && (not (eqb (number (c .outcome)) 12) || inBids c (place (c .outcome)) 1)
+    && (not (eqb (number (c .outcome)) nobody) || inBids c (place (c .outcome)) 0)
+    && (not (eqb (number (c .outcome)) alone) || inBids c (place (c .outcome)) 1)
 
 unfoldable pub allRight : List Case → Bool
 unfolding right
@@ -91,23 +100,23 @@ where-number : (n m : ℕ) (b : Bool) → not (eqb n m) || b ≡ true → n ≡ 
 where-number n m b e f = rw (eq-eqb n m f) at e
 
 right-is : (c : Case) → right c ≡ true →
-    ((sameOutcome (awardOf (c .kind) (tenderOf c) (countOf c) (c .bids) (c .windows) (countOf c) (place (c .outcome))) (c .outcome) ≡ true) × (not (eqb (number (c .outcome)) 11) || inBids c (place (c .outcome)) 0 ≡ true))
-    × (not (eqb (number (c .outcome)) 12) || inBids c (place (c .outcome)) 1 ≡ true)
+    ((sameOutcome (awardOf (c .kind) (tenderOf c) (countOf c) (c .bids) (c .windows) (countOf c) (place (c .outcome))) (c .outcome) ≡ true) × (not (eqb (number (c .outcome)) nobody) || inBids c (place (c .outcome)) 0 ≡ true))
+    × (not (eqb (number (c .outcome)) alone) || inBids c (place (c .outcome)) 1 ≡ true)
 unfolding right
 right-is c e =
-    let a = and-split (sameOutcome (awardOf (c .kind) (tenderOf c) (countOf c) (c .bids) (c .windows) (countOf c) (place (c .outcome))) (c .outcome) && (not (eqb (number (c .outcome)) 11) || inBids c (place (c .outcome)) 0))
-    (not (eqb (number (c .outcome)) 12) || inBids c (place (c .outcome)) 1) e in
-    (and-split (sameOutcome (awardOf (c .kind) (tenderOf c) (countOf c) (c .bids) (c .windows) (countOf c) (place (c .outcome))) (c .outcome)) (not (eqb (number (c .outcome)) 11) || inBids c (place (c .outcome)) 0) (a .0), a .1)
+    let a = and-split (sameOutcome (awardOf (c .kind) (tenderOf c) (countOf c) (c .bids) (c .windows) (countOf c) (place (c .outcome))) (c .outcome) && (not (eqb (number (c .outcome)) nobody) || inBids c (place (c .outcome)) 0))
+    (not (eqb (number (c .outcome)) alone) || inBids c (place (c .outcome)) 1) e in
+    (and-split (sameOutcome (awardOf (c .kind) (tenderOf c) (countOf c) (c .bids) (c .windows) (countOf c) (place (c .outcome))) (c .outcome)) (not (eqb (number (c .outcome)) nobody) || inBids c (place (c .outcome)) 0) (a .0), a .1)
 
 right-answers : (c : Case) → right c ≡ true → Answers (c .kind) (tenderOf c) (countOf c) (c .bids) (c .windows) (countOf c) (c .outcome)
 right-answers c e = go (right-is c e)
   where
-    go : ((sameOutcome (awardOf (c .kind) (tenderOf c) (countOf c) (c .bids) (c .windows) (countOf c) (place (c .outcome))) (c .outcome) ≡ true) × (not (eqb (number (c .outcome)) 11) || inBids c (place (c .outcome)) 0 ≡ true))
-        × (not (eqb (number (c .outcome)) 12) || inBids c (place (c .outcome)) 1 ≡ true) → Answers (c .kind) (tenderOf c) (countOf c) (c .bids) (c .windows) (countOf c) (c .outcome)
+    go : ((sameOutcome (awardOf (c .kind) (tenderOf c) (countOf c) (c .bids) (c .windows) (countOf c) (place (c .outcome))) (c .outcome) ≡ true) × (not (eqb (number (c .outcome)) nobody) || inBids c (place (c .outcome)) 0 ≡ true))
+        × (not (eqb (number (c .outcome)) alone) || inBids c (place (c .outcome)) 1 ≡ true) → Answers (c .kind) (tenderOf c) (countOf c) (c .bids) (c .windows) (countOf c) (c .outcome)
     go s = record {
       is = sym (same-answer _ (c .outcome) (s .0 .0));
-      nobody = λ f. in-bids c (place (c .outcome)) 0 (where-number (number (c .outcome)) 11 (inBids c (place (c .outcome)) 0) (s .0 .1) f);
-      alone = λ f. in-bids c (place (c .outcome)) 1 (where-number (number (c .outcome)) 12 (inBids c (place (c .outcome)) 1) (s .1) f);
+      nobody = λ f. in-bids c (place (c .outcome)) 0 (where-number (number (c .outcome)) nobody (inBids c (place (c .outcome)) 0) (s .0 .1) f);
+      alone = λ f. in-bids c (place (c .outcome)) 1 (where-number (number (c .outcome)) alone (inBids c (place (c .outcome)) 1) (s .1) f);
     }
 
 abbrev pub AllOutcome : List Case → Type 0
