@@ -22,7 +22,7 @@ abbrev pub filled : ℕ → List ℕ → List ℕ → List AwardRow → List Awa
 filled zero won cents rows = rows
 filled (suc i) won cents rows = set (filled i won cents rows) i (rowAt won cents i)
 
-length-filled : (n : ℕ) (won cents : List ℕ) (rows : List AwardRow) → length (filled n won cents rows) ≡ length rows
+pub length-filled : (n : ℕ) (won cents : List ℕ) (rows : List AwardRow) → length (filled n won cents rows) ≡ length rows
 length-filled zero won cents rows = refl
 length-filled (suc i) won cents rows = length-set (filled i won cents rows) i (rowAt won cents i) ∙ length-filled i won cents rows
 

@@ -11,6 +11,7 @@ use lib.Dec.{leb, ltb, eqb}
 use borrow.Author.Tests.{leb-true, leb-false, ltb-true, ltb-false, lt-ltb, le-ltb, eqb-true, eqb-false}
 use Rattle.cover.specs.Sets.{when, bidders}
 use Rattle.cover.specs.Settled.{spans}
+use Rattle.cover.specs.SetLaws.{when-one}
 use Rattle.bidders.specs.Thin.{times}
 
 pub times-none : (xs : List ℕ) (x : ℕ) → times xs 0 x ≡ 0
@@ -21,14 +22,10 @@ pub times-more : (xs : List ℕ) (i x : ℕ) → times xs (i + 1) x ≡ when (eq
 unfolding times bidders
 times-more xs i x = ap (λ (m : ℕ). bidders (λ i y. eqb (getD xs i 0) y) m x) (add-one i)
 
-one-most : (b : Bool) → when b 1 ≤ 1
-one-most true = omega arith
-one-most false = omega arith
-
 pub bidders-fit : (has : ℕ → ℕ → Bool) (n x : ℕ) → bidders has n x ≤ n
 unfolding bidders
 bidders-fit has zero x = omega arith
-bidders-fit has (suc n) x = omega (arith, one-most (has n x), bidders-fit has n x)
+bidders-fit has (suc n) x = omega (arith, when-one (has n x), bidders-fit has n x)
 
 pub times-most : (xs : List ℕ) (n x : ℕ) → times xs n x ≤ n
 unfolding times

@@ -17,7 +17,7 @@ use Rattle.cells.proofs.Store.{lt-or-le}
 abbrev at : List ℕ → ℕ → ℕ
 at xs q = getD xs q 0
 
-two : (x : ℕ) → x < 2 → (x ≡ 0) ⊎ (x ≡ 1)
+pub two : (x : ℕ) → x < 2 → (x ≡ 0) ⊎ (x ≡ 1)
 two zero l = inl refl
 two (suc x) l = inr (omega arith)
 

@@ -71,7 +71,7 @@ module _ (held mask hop : List ℕ) (fits : (p : ℕ) → at held p < 2 ^ 64) (h
       rw e at (gap-more held mask fits q (at hop q - (q + 1)) (λ p x y. h .gap q l n p x (omega arith))) ∙ word-more held mask q (fits q)
 
 -- ---- close: the words before q are done
-bare-cells : (mask : List ℕ) (x : ℕ) → at mask (x / 64) ≡ 0 → cell mask x ≡ 0
+pub bare-cells : (mask : List ℕ) (x : ℕ) → at mask (x / 64) ≡ 0 → cell mask x ≡ 0
 unfolding cell
 bare-cells mask x e = rw e (zero-bit (x % 64))
 

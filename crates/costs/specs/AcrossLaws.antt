@@ -16,12 +16,11 @@ use Rattle.cover.specs.Settled.{spans}
 use Rattle.cover.specs.Intervals.{scanCost, lesserCost, reaches, raise, across, costOf, leastSet, At, coversFrom}
 use Rattle.cover.specs.IntervalScan.{none-found, found-one}
 use Rattle.cover.specs.IntervalPrefix.{lacks, leastSet-right}
-use Rattle.cover.specs.IntervalCover.{priced}
+use Rattle.cover.specs.IntervalCover.{priced, bit-none}
 use Rattle.cover.specs.IntervalBids.{anyBid, Bids, coversBelow, leastBelow, costWithout, endCost, costAfter}
 use Rattle.cover.specs.IntervalBidsLaws.{prefixes, winners-of, cost-most, without-past, without-none, fits-without, scan-across, near}
 use Rattle.cover.specs.IntervalMirror.{Mirrored, mirrored-cost}
 use Rattle.select.specs.Costs.{noCost, costIn, cost-found, cost-least}
-use Rattle.select.specs.RowLaws.{bit-none}
 use Rattle.select.specs.Live.{On, Live, live-thinned, live-more, live-none, thinned-none, thinned-more, counted}
 use Rattle.costs.specs.Run.{Running, Ran}
 use Rattle.costs.specs.RunLaws.{on-more}

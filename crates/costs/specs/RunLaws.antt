@@ -7,9 +7,8 @@ use native.Mathlib.Omega.{arith}
 use lib.Dec.{ltb, leb, eqb}
 use lib.ListN.{length, getD, set}
 use lib.Seq.{getD-set-same, getD-set-other}
-use borrow.Author.Tests.{ltb-true, leb-true, lt-ltb, le-ltb, eqb-true, eqb-false, eq-eqb, ne-eqb}
+use borrow.Author.Tests.{ltb-true, lt-ltb, le-ltb, eqb-true, eqb-false, eq-eqb, ne-eqb}
 use Rattle.cover.specs.Sets.{nothing, found, cost}
-use Rattle.cover.specs.SetLaws.{and-split}
 use Rattle.cover.specs.CriticalPrice.{sum}
 use Rattle.cover.specs.Intervals.{scanCost, lesserCost, reaches, raise, others}
 use Rattle.cover.specs.IntervalScan.{none-found}
@@ -21,8 +20,7 @@ use Rattle.cover.specs.IntervalBidsLaws.{prefixes-without, fits-without, scan-w
 use Rattle.select.specs.Costs.{noCost, costIn, raised, cost-least, cost-found, cost-raised}
 use Rattle.select.specs.Rows.{reached}
 use Rattle.select.specs.Live.{On, Live, live-thinned, live-more}
-use Rattle.select.specs.Lead.{Reaches}
-use Rattle.select.specs.LeadLaws.{end-none, end-some}
+use Rattle.select.specs.LeadLaws.{next-found, next-within, end-none, end-some}
 use Rattle.costs.specs.Run.{cheaper, leastCost, Seen, Led, same, anew, entry, Running, Ran}
 
 -- the scan
@@ -43,24 +41,6 @@ module _ (a b xs costs : List ℕ) (n t j r : ℕ) (f : (q : ℕ) → getD costs
   abbrev q : ℕ
   q = getD xs j 0
 
-  lift : Reaches a b xs j t r → Reaches a b xs (j + 1) t r
-  lift p = record { at = record { place = p .at .place; inside = omega (arith, p .at .inside); is = p .at .is }; begins = p .begins; ends = p .ends }
-
-  mine : ltb (getD a q 0) t && leb t (getD b q 0) ≡ true → Reaches a b xs (j + 1) t q
-  mine e =
-      let u = and-split (ltb (getD a q 0) t) (leb t (getD b q 0)) e in
-      record { at = record { place = j; inside = omega arith; is = refl }; begins = ltb-true (getD a q 0) t (u .0); ends = leb-true t (getD b q 0) (u .1) }
-
-  next-found : (c : Bool) → ltb (getD a q 0) t && leb t (getD b q 0) ≡ c → (z : Bool) → (cond c (cond z q r) r ≡ n → ⊥) → Reaches a b xs (j + 1) t (cond c (cond z q r) r)
-  next-found false e z d = lift (h .found-at d)
-  next-found true e true d = mine e
-  next-found true e false d = lift (h .found-at d)
-
-  next-within : (c z : Bool) → cond c (cond z q r) r ≤ n
-  next-within false z = h .within
-  next-within true true = omega arith
-  next-within true false = h .within
-
   next-priced : (c z : Bool) → ltb (getD costs q 0) (getD costs r 0) ≡ z → getD costs (cond c (cond z q r) r) 0 ≡ noCost → cond c (cond z q r) r ≡ n
   next-priced false z e d = h .priced d
   next-priced true true e d = absurd (omega (arith, ltb-true (getD costs q 0) (getD costs r 0) e, f r))
@@ -78,8 +58,8 @@ module _ (a b xs costs : List ℕ) (n t j r : ℕ) (f : (q : ℕ) → getD costs
   pub seen-more : Seen a b xs costs n t (j + 1) (reached (getD a q 0) (getD b q 0) t (cheaper costs q r) r)
   unfolding reached cheaper
   seen-more = record {
-    within = next-within (ltb (getD a q 0) t && leb t (getD b q 0)) (ltb (getD costs q 0) (getD costs r 0));
-    found-at = next-found (ltb (getD a q 0) t && leb t (getD b q 0)) refl (ltb (getD costs q 0) (getD costs r 0));
+    within = next-within a b xs n t j r i (h .within) (h .found-at) (ltb (getD a q 0) t && leb t (getD b q 0)) (ltb (getD costs q 0) (getD costs r 0));
+    found-at = next-found a b xs n t j r i (h .within) (h .found-at) (ltb (getD a q 0) t && leb t (getD b q 0)) refl (ltb (getD costs q 0) (getD costs r 0));
     priced = next-priced (ltb (getD a q 0) t && leb t (getD b q 0)) (ltb (getD costs q 0) (getD costs r 0)) refl;
     least = let z : j + 1 ≡ suc j = omega arith in rw z (next-least (ltb (getD a q 0) t && leb t (getD b q 0)) refl);
   }

@@ -1,7 +1,7 @@
 -- Bid k wins just where the run without it leaves it a chance, in words. Assumes nothing.
 use mathlib.Core.Path.{_≡_, refl, sym, _∙_}
 use mathlib.Core.Logic.{_↔_, _⊎_, inl, inr}
-use mathlib.Core.Bool.{Bool, true, false, _||_, or-true}
+use mathlib.Core.Bool.{Bool, true, false, or-true}
 use mathlib.Core.List.{List}
 use Prim.Native.Nat.{ℕ, _+_, _*_, _≤_, _<_}
 use native.Mathlib.Nat.{eq-or-lt-of-le}
@@ -12,13 +12,9 @@ use borrow.Author.Tests.{ltb-true, ltb-false, lt-ltb, le-leb, leb-true}
 use Rattle.cover.specs.Greedy.{Bid, reach, Rounds, stop, round, left, run, taken}
 use Rattle.cover.specs.CriticalPrice.{late, withdrawn}
 use Rattle.cover.specs.Chance.{ahead, chance, Chance}
-use Rattle.cover.specs.SetLaws.{and-split}
+use Rattle.cover.specs.SetLaws.{and-split, or-split}
 use Rattle.cover.specs.PickLaws.{late-no, late-yes, late-most}
 use Rattle.cover.specs.GreedyLaws.{follow}
-
-or-split : (a b : Bool) → a || b ≡ true → (a ≡ true) ⊎ (b ≡ true)
-or-split true b e = inl refl
-or-split false b e = inr e
 
 late-in : (k i x y : ℕ) → x + late k i ≤ y → (x < y) ⊎ ((x ≡ y) × (k ≤ i))
 late-in k i x y l = go (eq-or-lt-of-le {n = x} {m = y} (omega arith)) (ltb i k) refl

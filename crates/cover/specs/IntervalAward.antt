@@ -31,17 +31,17 @@ pub others-are : (L : ℕ) (has : ℕ → ℕ → Bool) (n : ℕ) (ps : List ℕ
 unfolding winners leastSet
 others-are L has n ps k = ap (λ ok. valueOf (first (λ s. without k ok s) (cost ps) (2 ^ length ps))) (fun-ext (λ s. sym (covers-is has n L s)))
 
-cost-set-of : (ps : List ℕ) (r : Found) → cost ps (valueOf r) ≡ valueOf (costOf (cost ps) r)
+pub cost-value : (ps : List ℕ) (r : Found) → cost ps (valueOf r) ≡ valueOf (costOf (cost ps) r)
 unfolding valueOf costOf
-cost-set-of ps nothing = cost-none ps
-cost-set-of ps (found s) = refl
+cost-value ps nothing = cost-none ps
+cost-value ps (found s) = refl
 
 -- what k is paid, from the winners and the least cost without it
 pub paid-is : (L : ℕ) (has : ℕ → ℕ → Bool) (n : ℕ) (ps : List ℕ) (k : ℕ) →
     let m = winners (covers has n L) ps in
     vcgPaid (covers has n L) ps k ≡ payment (bit m k) (valueOf (costOf (cost ps) (leastSet (λ t s. without k (coversFrom (λ x. x) 0 has n t) s) (cost ps) (length ps) L))) (cost ps m) (getD ps k 0)
 unfolding vcgPaid
-paid-is L has n ps k = rw (others-are L has n ps k, cost-set-of ps (leastSet (λ t s. without k (coversFrom (λ x. x) 0 has n t) s) (cost ps) (length ps) L))
+paid-is L has n ps k = rw (others-are L has n ps k, cost-value ps (leastSet (λ t s. without k (coversFrom (λ x. x) 0 has n t) s) (cost ps) (length ps) L))
 
 module _ (L : ℕ) (has : ℕ → ℕ → Bool) (ps : List ℕ) (a b : ℕ → ℕ)
     (sees : (i x : ℕ) → i < length ps → x < L → has i x ≡ leb (a i) x && ltb x (b i)) where

@@ -13,7 +13,6 @@ use Rattle.cover.specs.LeastCover.{winners, without, payment, vcgPaid}
 use Rattle.cover.specs.LeastCoverLaws.{IsFirst}
 use Rattle.cover.specs.CriticalPrice.{sum}
 use Rattle.cover.specs.Settled.{spans}
-use Rattle.cover.specs.SetMembers.{cost-none}
 use Rattle.cover.specs.Intervals.{costOf, scanCost, lesserCost, raise, across, leastSet, reaches, At, coversFrom, others}
 use Rattle.cover.specs.IntervalScan.{found-one, none-found, Family, least-same, right-least}
 use Rattle.cover.specs.IntervalPrefix.{Prefixes, leastSet-right, leastSet-is, upper-cost, start, scan-cost}
@@ -32,11 +31,6 @@ pub cost-most : (ps : List ℕ) (s : ℕ) → cost ps s ≤ sum ps
 unfolding cost sum
 cost-most [] s = omega arith
 cost-most (p ∷ ps) s = omega (arith, when-most (bit s 0) p, cost-most ps (s / 2))
-
-pub cost-value : (ps : List ℕ) (r : Found) → cost ps (valueOf r) ≡ valueOf (costOf (cost ps) r)
-unfolding valueOf costOf
-cost-value ps nothing = cost-none ps
-cost-value ps (found s) = refl
 
 value-most : (ps : List ℕ) (r : Found) → valueOf (costOf (cost ps) r) ≤ sum ps
 unfolding valueOf costOf

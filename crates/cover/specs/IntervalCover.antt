@@ -10,21 +10,17 @@ use lib.ListN.{length, getD}
 use borrow.Author.Tests.{ltb-true, ltb-false, leb-true, lt-ltb, le-leb, eqb-true, eqb-false, ne-eqb}
 use Rattle.cover.specs.Sets.{bit, cost, hit}
 use Rattle.cover.specs.LeastCover.{without}
-use Rattle.cover.specs.SetLaws.{Member, all-at, all-of, and-split, hit-of, hit-some}
+use Rattle.cover.specs.SetLaws.{or-split, Member, all-at, all-of, and-split, hit-of, hit-some}
 use Rattle.cover.specs.SetMembers.{added, cost-add, cost-none}
 use Rattle.cover.specs.Intervals.{coversFrom, others}
 use Rattle.cover.specs.IntervalPrefix.{Last, Prefixes, Priced}
-
-pub either : (x y : Bool) → x || y ≡ true → (x ≡ true) ⊎ (y ≡ true)
-either true y e = inl refl
-either false y e = inr e
 
 -- up to L, bid i has the cells from a i to b i
 module _ (f : ℕ → ℕ) (o L : ℕ) (has : ℕ → ℕ → Bool) (n : ℕ) (a b : ℕ → ℕ)
     (sees : (i x : ℕ) → i < n → x < L → has i (f x) ≡ leb (a i) x && ltb x (b i)) where
   pub meets-at : (t s x : ℕ) → coversFrom f o has n t s ≡ true → o ≤ x → x < t → Member has n s (f x)
   unfolding coversFrom
-  meets-at t s x e l k = go (either (ltb x o) (hit has n s (f x)) (all-at (λ y. ltb y o || hit has n s (f y)) t e x k))
+  meets-at t s x e l k = go (or-split (ltb x o) (hit has n s (f x)) (all-at (λ y. ltb y o || hit has n s (f y)) t e x k))
     where
       go : (ltb x o ≡ true) ⊎ (hit has n s (f x) ≡ true) → Member has n s (f x)
       go (inl q) = absurd (omega (arith, ltb-true x o q))
@@ -94,7 +90,7 @@ module _ (f : ℕ → ℕ) (o L : ℕ) (has : ℕ → ℕ → Bool) (n : ℕ) (a
 pub priced : (ps : List ℕ) → Priced (length ps) (λ i. getD ps i 0) (cost ps)
 priced ps = record { empty = cost-none ps; join = λ i m l e. cost-add ps i m l e }
 
-bit-none : (i : ℕ) → bit 0 i ≡ false
+pub bit-none : (i : ℕ) → bit 0 i ≡ false
 unfolding bit
 bit-none zero = refl
 bit-none (suc i) = bit-none i

@@ -14,6 +14,10 @@ pub and-split : (a b : Bool) → a && b ≡ true → (a ≡ true) × (b ≡ true
 and-split true b e = (refl, e)
 and-split false b e = absurd (false≢true e)
 
+pub or-split : (a b : Bool) → a || b ≡ true → (a ≡ true) ⊎ (b ≡ true)
+or-split true b e = inl refl
+or-split false b e = inr e
+
 -- the order of two numbers is the tie rule
 
 stands-half : (s t : ℕ) → Stands (s / 2) (t / 2) → Stands s t
@@ -61,9 +65,13 @@ unfoldable pub pack : (ℕ → Bool) → ℕ → ℕ
 pack p zero = 0
 pack p (suc n) = when (p 0) 1 + 2 * pack (λ i. p (suc i)) n
 
-when-one : (b : Bool) → when b 1 ≤ 1
+pub when-one : (b : Bool) → when b 1 ≤ 1
 when-one true = omega arith
 when-one false = omega arith
+
+pub when-is : (b : Bool) → eqb (when b 1) 1 ≡ b
+when-is true = refl
+when-is false = refl
 
 pub pack-below : (p : ℕ → Bool) (n : ℕ) → pack p n < 2 ^ n
 unfolding pack

@@ -19,13 +19,13 @@ use Rattle.rounds.specs.Market.{row, has, Sized, Cleared, Fronted}
 use Rattle.rounds.specs.Trace.{opens, openOf, before, Trace}
 use Rattle.rounds.proofs.Begin.{common-few}
 use Rattle.rounds.proofs.Chosen.{rounds-of, rounds-stop, rounds-more}
-use Rattle.rounds.proofs.Opens.{opens-same, reach-alike, reach-open, close-open}
+use Rattle.rounds.proofs.Opens.{opens-same, reach-alike, reach-open, close-open, two-way}
 use Rattle.rounds.proofs.Tracing.{main-best}
 use Rattle.rounds.proofs.Filling.{no-cell}
 use Rattle.marks.specs.Marks.{Disturbed, Strayed}
 use Rattle.follow.specs.Follow.{raised, Raised, bar-from, Standing, Course, Following, Takes, Followed}
 use Rattle.follow.proofs.Limiting.{others, bar-none}
-use Rattle.follow.proofs.Strayed.{two-way, both-close, main-closes, other-closes, after-scan, scan-main, scan-other, scan-last, scan-none}
+use Rattle.follow.proofs.Strayed.{both-close, main-closes, other-closes, after-scan, scan-main, scan-other, scan-last, scan-none}
 
 pub gains-some : {ps ms : List ℕ} {w n : ℕ} {order gains : List ℕ} {rounds : ℕ} → Trace ps ms w n order gains rounds → (g : ℕ) → g < rounds → 0 < at gains g
 gains-some tr g l = omega (arith, tr .gets g l, main-best tr g l .good)

@@ -16,8 +16,8 @@ use Rattle.rounds.specs.Trace.{openOf}
 use Rattle.rounds.proofs.Rows.{row-in}
 use Rattle.rounds.proofs.Begin.{sized-of}
 use Rattle.marks.specs.Marks.{Disturbed}
+use Rattle.rounds.proofs.Opens.{two-way}
 use Rattle.follow.specs.Follow.{Took, Course, Walking, Takes, Stepped}
-use Rattle.follow.proofs.Strayed.{two-way}
 use Rattle.follow.proofs.Following.{scanned, ends-none, skips, fewer-open, main-step, both-step, other-step}
 
 module _ {ps ms hop index : List ℕ} {w n : ℕ} {order gains : List ℕ} {rounds h k : ℕ} (co : Course ps ms hop index w n order gains rounds h k) where

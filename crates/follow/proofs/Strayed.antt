@@ -1,9 +1,9 @@
 -- What is known of the bids while the run without bid k follows the main run. Assumes nothing.
 use mathlib.Core.Path.{_≡_, refl, sym, ap, _∙_}
-use mathlib.Core.Logic.{_⊎_, inl, inr, ⊎-elim}
+use mathlib.Core.Logic.{⊎-elim}
 use mathlib.Core.Bool.{Bool, true, false}
 use mathlib.Core.List.{List}
-use Prim.Native.Nat.{ℕ, zero, suc, _+_, _-_, _*_, _≤_, _<_, min}
+use Prim.Native.Nat.{ℕ, _+_, _-_, _*_, _≤_, _<_, min}
 use native.Mathlib.Nat.{mul-le-mul-left}
 use native.Mathlib.Omega.{arith}
 use lib.ListN.{length}
@@ -22,19 +22,11 @@ use Rattle.follow.specs.Follow.{Takes}
 use Rattle.rounds.proofs.Chosen.{right-ext}
 use Rattle.rounds.proofs.Fronting.{right-one, turned}
 use Rattle.rounds.proofs.Begin.{common-few}
-use Rattle.rounds.proofs.Opens.{reach-open, close-open, reach-alike}
+use Rattle.rounds.proofs.Opens.{reach-open, close-open, reach-alike, two-way}
 use Rattle.rounds.specs.Market.{row, has, live, Sized, Known, Fronted}
 use Rattle.tournament.specs.Tournament.{at}
 use Rattle.tournament.proofs.Order.{zero-or}
 use Rattle.rounds.specs.Trace.{opens, openOf}
-
-pub two-way : (ws : List ℕ) (x : ℕ) → (cell ws x ≡ 0) ⊎ (cell ws x ≡ 1)
-unfolding cell
-two-way ws x = go (cell ws x) (omega arith)
-  where
-    go : (v : ℕ) → v < 2 → (v ≡ 0) ⊎ (v ≡ 1)
-    go zero l = inl refl
-    go (suc v) l = inr (omega arith)
 
 module _ {ps ms : List ℕ} {w k : ℕ} {alt stale mark : List ℕ} {og : ℕ → ℕ} (inside : k < length ps) (few-words : w ≤ 158) (s : Strayed ps ms w k alt stale mark og) where
   abbrev pub other : ℕ → ℕ

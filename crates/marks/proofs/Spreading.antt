@@ -13,12 +13,13 @@ use lib.Dec.{eqb}
 use borrow.Author.Tests.{eqb-true, eqb-false}
 use Rattle.cells.specs.Cells.{cell, bitOf, common, Filled}
 use Rattle.cells.specs.Hops.{Next, Onward}
-use Rattle.cells.proofs.Bit.{and-bit, zero-bit}
+use Rattle.cells.proofs.Bit.{and-bit}
 use Rattle.cells.proofs.Store.{lt-or-le, cell-past}
 use Rattle.tournament.specs.Tournament.{at}
 use Rattle.tournament.proofs.Order.{zero-or}
 use Rattle.rounds.specs.Market.{row}
 use Rattle.rounds.proofs.Rows.{row-length}
+use Rattle.cells.proofs.Walk.{bare-cells}
 use Rattle.marks.specs.Marks.{Indexed, Spread, Disturbed}
 
 -- the bids below i are done
@@ -104,10 +105,6 @@ apart alt a b q x e f u v = rw f (omega (arith, rw f at u, rw f at v, zeros, and
     zeros : bitOf (bitAnd (at a q) (bitAnd (at alt q) (at b q))) (x % 64) ≡ 0
     zeros = rw (e, zero-div (2 ^ (x % 64)))
 
-bare : (a : List ℕ) (x : ℕ) → at a (x / 64) ≡ 0 → cell a x ≡ 0
-unfolding cell
-bare a x e = rw e (zero-bit (x % 64))
-
 pub goes : {ps ms : List ℕ} {w : ℕ} {alt : List ℕ} {j : ℕ} {stale mark stale′ mark′ new next : List ℕ} {q r m : ℕ} → Disturbing ps ms w alt j stale mark stale′ mark′ q
     → m ≡ bitAnd (at alt q) (at (row ms w j) q) → Spread ps ms w alt q m stale′ mark′ new next → Onward (row ms w j) q r → Disturbing ps ms w alt j stale mark new next r
 goes {ps} {ms} {w} {alt} {j} {stale} {mark} {stale′} {mark′} {new} {next} {q} {r} {m} s e d o = record {
@@ -122,7 +119,7 @@ goes {ps} {ms} {w} {alt} {j} {stale} {mark} {stale′} {mark′} {new} {next} {q
 
     word : (i : ℕ) → i < length ps → cell next i ≡ 0 → (x : ℕ) → 64 * q ≤ x → x < 64 * r → cell (row ms w i) x ≡ 1 → cell (row ms w j) x ≡ 1 → cell alt x ≡ 0
     word i l z x a y u v = ⊎-elim (λ b. apart alt (row ms w i) (row ms w j) q x (rw e at (d .still i l z .1)) (omega arith) u v)
-        (λ b. absurd (omega (arith, bare (row ms w j) x (o .gap (x / 64) (omega arith) (omega arith))))) (lt-or-le x (64 * (q + 1)))
+        (λ b. absurd (omega (arith, bare-cells (row ms w j) x (o .gap (x / 64) (omega arith) (omega arith))))) (lt-or-le x (64 * (q + 1)))
 
 pub ends-all : {ps ms : List ℕ} {w : ℕ} {alt : List ℕ} {j : ℕ} {stale mark stale′ mark′ : List ℕ} {q : ℕ} → Disturbing ps ms w alt j stale mark stale′ mark′ q → length alt ≤ q → Disturbed ps ms w alt j stale mark stale′ mark′
 ends-all {alt = alt} {q = q} s l = record {

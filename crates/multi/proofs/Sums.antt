@@ -1,6 +1,6 @@
 -- The sums over the bids so far, and the award of the lists with the old places past them. Assumes nothing.
-use mathlib.Core.Path.{_≡_, refl, ap, _∙_}
-use mathlib.Core.Bool.{Bool, true, false}
+use mathlib.Core.Path.{_≡_, ap, _∙_}
+use mathlib.Core.Bool.{Bool}
 use mathlib.Core.List.{List, _++_}
 use Prim.Native.Nat.{ℕ, _+_, _*_, _≤_, _<_}
 use native.Mathlib.Omega.{arith}
@@ -14,6 +14,7 @@ use Rattle.cover.specs.SettledLaws.{length-listed, getD-listed, listed-same, su
 use Rattle.tournament.specs.Tournament.{at}
 use Rattle.rounds.specs.Market.{has}
 use Rattle.paying.specs.Paying.{Paid}
+use Rattle.cover.specs.SetLaws.{when-is}
 use Rattle.multi.specs.Totals.{Summed, Awarded}
 
 abbrev pub asked : List ℕ → List ℕ → ℕ → ℕ
@@ -42,15 +43,11 @@ sums-more {ps} {won} {cents} {cost} {paid} {k} {q} s l e m y = record {
 pub sums-all : {ps won cents : List ℕ} {cost paid k : ℕ} → Summing ps won cents cost paid k → length ps ≤ k → Summed ps won cents cost paid
 sums-all {ps} {won} {cents} {cost} {paid} {k} s l = let z : k ≡ length ps = omega (arith, s .inside) in record { cost-is = rw z at (s .cost-is ∙ sum-listed k (asked ps won)); paid-is = rw z at (s .paid-is ∙ sum-listed k (at cents)) }
 
-mark : (t : Bool) → eqb (when t 1) 1 ≡ t
-mark true = refl
-mark false = refl
-
 pub awarded : {ps ms : List ℕ} {w n : ℕ} {won cents : List ℕ} {cost paid : ℕ} → Paid ps ms w n won cents → Summed ps won cents cost paid → Awarded ps ms w n won cents cost paid
 awarded {ps} {ms} {w} {n} {won} {cents} p s = record {
   each = p;
   cost-is = s .cost-is ∙ ap sum (listed-same (length ps) (asked ps won) _ (λ k l. ap (λ (t : Bool). when t (at ps k))
-      (ap (λ (x : ℕ). eqb x 1) (ap (λ (xs : List ℕ). at xs k) (p .flags) ∙ getD-listed (length ps) _ k 0 l) ∙ mark (wins (has ms w) ps (cells n) k))));
+      (ap (λ (x : ℕ). eqb x 1) (ap (λ (xs : List ℕ). at xs k) (p .flags) ∙ getD-listed (length ps) _ k 0 l) ∙ when-is (wins (has ms w) ps (cells n) k))));
   paid-is = s .paid-is ∙ ap sum (listed-same (length ps) (at cents) _ (λ k l. ap (λ (xs : List ℕ). at xs k) (p .payments) ∙ getD-listed (length ps) _ k 0 l));
 }
 

@@ -1,13 +1,9 @@
 -- The first places of a local array, which is filled with ones. Assumes nothing.
 use mathlib.Core.Path.{_≡_}
-use Prim.Native.Nat.{ℕ, _*_, _≤_}
-use native.Mathlib.Nat.{mul-le-mul}
+use Prim.Native.Nat.{ℕ, _≤_}
 use native.Mathlib.Omega.{arith}
 use lib.ListN.{length, take, replicate, length-replicate}
 use lib.Seq.{length-take-le}
 
 pub prefix-length : (k n : ℕ) → k ≤ n → length (take k (replicate {A = ℕ} n 1)) ≡ k
 prefix-length k n l = length-take-le k (replicate n 1) (omega (arith, length-replicate {A = ℕ} n 1))
-
-pub product-most : (a b m n : ℕ) → a ≤ m → b ≤ n → a * b ≤ m * n
-product-most a b m n h l = mul-le-mul h l

@@ -16,7 +16,7 @@ use Rattle.tender.specs.declared.Refusal.{Refusal}
 use Rattle.tender.specs.declared.Refusal.the-variants.{BadTables, RowsTooFew, MinuteUncovered, OneBidder}
 use Rattle.tender.specs.Tables.{rowsOf}
 use Rattle.cover.specs.Sets.{when, all, bidders, each, covers, cells, bit}
-use Rattle.cover.specs.SetLaws.{all-of, all-at}
+use Rattle.cover.specs.SetLaws.{all-of, all-at, when-is}
 use Rattle.cover.specs.LeastCover.{winners, vcgPaid}
 use Rattle.cover.specs.Greedy.{wins}
 use Rattle.cover.specs.CriticalPrice.{sum, roundsPaid}
@@ -33,10 +33,6 @@ use Rattle.tender.specs.declared.Answer.the-variants.{Awarded, Refused}
 use Rattle.outcome.specs.Award.{won, cents, awarded, declined, filled, costOf, paidOf, settled, judged, awardOf, number, place, InBids, Answers}
 use Rattle.outcome.specs.Plain.{rowsIn, toldIn, wonAfter, centsAfter, PlainPromise}
 use Rattle.outcome.specs.AwardLaws.{won-single, cents-single, won-multi, cents-multi, settled-is, award-none, award-nine}
-
-flag : (b : Bool) → eqb (when b 1) 1 ≡ b
-flag true = refl
-flag false = refl
 
 -- how many bidders each cell has
 
@@ -121,7 +117,7 @@ module _ (k : Kind) (t : Tender) (n : ℕ) (bids windows : List ℕ) (lent : ℕ
             flag-at i l =
                 ap (λ (v : ℕ). eqb v 1) (ap (λ (zs : List ℕ). getD zs i 0) (s .flags) ∙ List·getD-append (listed (length ps) (λ i. when (w i) 1)) (drop (length ps) ow) 0 i (omega (arith, length-listed (length ps) (λ i. when (w i) 1), prices-count n bids))
                 ∙ getD-listed (length ps) (λ i. when (w i) 1) i 0 (omega (arith, prices-count n bids)))
-                ∙ flag (w i) ∙ w-is i l
+                ∙ when-is (w i) ∙ w-is i l
 
             pay-at : (i : ℕ) → i < n → getD nc i 0 ≡ cents k has ps L i
             pay-at i l =

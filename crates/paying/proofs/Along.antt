@@ -1,6 +1,6 @@
 -- The award along the written run: how it starts, one round more, and what it ends with. Assumes nothing.
 use mathlib.Core.Path.{_≡_, refl, sym, ap, _∙_}
-use mathlib.Core.Bool.{Bool, true, false, _||_}
+use mathlib.Core.Bool.{Bool, true, false, _||_, or-false, or-true}
 use mathlib.Core.List.{List}
 use Prim.Native.Nat.{ℕ, _+_, _-_, _*_, _≤_, _<_}
 use native.Mathlib.Numerals.{add-one}
@@ -22,11 +22,7 @@ use Rattle.follow.specs.Follow.{Followed, Course}
 use Rattle.payments.proofs.Prefix.{limit-is}
 use Rattle.tournament.proofs.Tree.{set-at}
 use Rattle.paying.specs.Paying.{Ground, picked, Paying, Paid}
-use Rattle.paying.proofs.Winners.{or-none, winners}
-
-or-true : (a : Bool) → a || true ≡ true
-or-true true = refl
-or-true false = refl
+use Rattle.paying.proofs.Winners.{winners}
 
 pub starts : {ps ms : List ℕ} {w n : ℕ} {order held won cents : List ℕ} → length held ≡ w → First n held → Cleared won → length won ≡ length ps → Cleared cents → length cents ≡ length ps
     → Paying ps ms w n order 0 held won cents
@@ -60,7 +56,7 @@ module _ {ps ms : List ℕ} {w n : ℕ} {order gains : List ℕ} {rounds h : ℕ
     where
       go : (t : Bool) → eqb (at order h) k ≡ t → at (set xs (at order h) v) k ≡ when (picked order h k || t) (f k)
       go true m = rw (← eqb-true (at order h) k m, getD-set-same xs (at order h) v 0 (omega (arith, inside)), or-true (picked order h (at order h))) d
-      go false m = rw (getD-set-other xs (at order h) k v 0 (λ j. eqb-false (at order h) k m (sym j)), or-none (picked order h k)) (g k z)
+      go false m = rw (getD-set-other xs (at order h) k v 0 (λ j. eqb-false (at order h) k m (sym j)), or-false (picked order h k)) (g k z)
 
   pub goes : {t p : ℕ} → Followed ps ms w n order h t → p ≡ t - 1 → {next : List ℕ} → length next ≡ length held → Closed held (row ms w (at order h)) next
       → Paying ps ms w n order (h + 1) next (set won (at order h) 1) (set cents (at order h) p)

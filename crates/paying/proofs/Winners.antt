@@ -1,6 +1,6 @@
 -- The bids of the written run are the winners. Assumes nothing.
 use mathlib.Core.Path.{_≡_, refl, sym, ap, _∙_}
-use mathlib.Core.Bool.{Bool, true, false, _||_}
+use mathlib.Core.Bool.{Bool, true, false, _||_, or-false}
 use mathlib.Core.List.{List}
 use Prim.Native.Nat.{ℕ, zero, suc, _*_, _≤_, _<_}
 use native.Mathlib.Omega.{arith}
@@ -20,10 +20,6 @@ use Rattle.paying.specs.Paying.{picked}
 or-assoc : (a b c : Bool) → (a || b) || c ≡ a || (b || c)
 or-assoc true b c = refl
 or-assoc false b c = refl
-
-pub or-none : (a : Bool) → a || false ≡ a
-or-none true = refl
-or-none false = refl
 
 module _ {ps ms : List ℕ} {w n : ℕ} {order gains : List ℕ} {rounds : ℕ} (tr : Trace ps ms w n order gains rounds) where
   -- the rounds from round g on
@@ -50,4 +46,4 @@ module _ {ps ms : List ℕ} {w n : ℕ} {order gains : List ℕ} {rounds : ℕ} 
   unfolding wins rounds-of taken
   winners q k = sym (rw (← opened tr q) (split k rounds (omega arith))
       ∙ ap (λ (t : Rounds). picked order rounds k || taken k t) (rounds-stop (bids (has ms w) ps) (length ps) (opens (before ms w n order rounds) (64 * w)) none-left)
-      ∙ or-none (picked order rounds k))
+      ∙ or-false (picked order rounds k))

@@ -16,15 +16,16 @@ use Rattle.cover.specs.GreedyLaws.{best-right, withdrawn-other, withdrawn-reach
 use Rattle.cover.specs.PickLaws.{before-one}
 use Rattle.cover.specs.Sets.{when, found, cells}
 use Rattle.follow.proofs.Limiting.{others}
-use Rattle.follow.proofs.Strayed.{two-way}
 use Rattle.follow.specs.Follow.{bar-from}
 use Rattle.rounds.proofs.Chosen.{rounds-of, rounds-more}
 use Rattle.rounds.proofs.Fronting.{right-one}
-use Rattle.rounds.proofs.Opens.{two, close-step, opens-first, reach-alike}
+use Rattle.rounds.proofs.Opens.{close-step, opens-first, reach-alike, two-way}
 use Rattle.rounds.proofs.Tracing.{main-best}
 use Rattle.rounds.specs.Market.{row, has}
 use Rattle.tournament.specs.Tournament.{at}
 use Rattle.rounds.specs.Trace.{opens, before, Trace}
+use Rattle.cover.specs.SetLaws.{when-one}
+use Rattle.cells.proofs.Lowest.{two}
 
 close-fun : (m : List ℕ) (f g : ℕ → ℕ) → ((x : ℕ) → f x ≤ 1) → ((x : ℕ) → g x ≡ f x - cell m x) → (n : ℕ) → close (λ x. eqb (cell m x) 1) (opens f n) ≡ opens g n
 unfolding opens close
@@ -49,12 +50,8 @@ module _ {ps ms : List ℕ} {w n : ℕ} {order gains : List ℕ} {rounds : ℕ} 
   before-most zero x = omega arith
   before-most (suc g) x = omega (arith, before-most g x)
 
-  most : (t : Bool) → when t 1 ≤ 1
-  most true = omega arith
-  most false = omega arith
-
   before-bit : (g x : ℕ) → before ms w n order g x ≤ 1
-  before-bit g x = omega (arith, before-most g x, most (ltb x n))
+  before-bit g x = omega (arith, before-most g x, when-one (ltb x n))
 
   pub closes : (g : ℕ) → close (has ms w (at order g)) (og g) ≡ og (suc g)
   unfolding has before

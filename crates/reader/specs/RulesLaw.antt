@@ -1,7 +1,7 @@
 -- An accepted text keeps every rule. Assumes nothing.
 use mathlib.Core.Path.{_≡_, refl, ap}
 use mathlib.Core.List.{List, [], _∷_, _++_}
-use mathlib.Core.Bool.{Bool, true, false, cond, not, _&&_, _||_, false≢true}
+use mathlib.Core.Bool.{Bool, true, false, cond, not, _&&_, _||_}
 use mathlib.Core.Option.{Option, none, some}
 use Prim.Native.Nat.{ℕ, suc, _+_, _≤_, _<_}
 use native.Mathlib.Omega.{arith}
@@ -18,14 +18,11 @@ use Rattle.tender.specs.Limits.{allLawful, isSingle, lawful, within}
 use Rattle.tender.specs.Tables.{Row}
 use Rattle.scan.specs.Words.{andThen, cut, among, same, closed, numeralOf, priceOf}
 use Rattle.scan.specs.Line.{Bid, Line, tender, bid, kindOf, spanOf, windowOf, windowsIn, tenderOf, bidOf, lineOfWords, lineOf, linesOf}
+use Rattle.scan.specs.LinePlain.{split as and-split}
 use Rattle.reader.specs.Read.{Outcome, accepted, rowsFrom, allWindows, bidsOf, faultIn, faultOf, checked, tables, readLines, readText}
 use Rattle.scan.specs.CutLaws.{or-split}
 use Rattle.reader.specs.ReadLaws.{never, read-lines, judged-out, begun}
 use Rattle.reader.specs.Rules.{WindowRules, RowsRules, WindowsRules, Rules}
-
-and-split : (a b : Bool) → a && b ≡ true → (a ≡ true) × (b ≡ true)
-and-split true b e = (refl, e)
-and-split false b e = absurd (false≢true e)
 
 -- a bid that was read has a window
 

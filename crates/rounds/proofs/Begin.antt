@@ -2,14 +2,15 @@
 use mathlib.Core.Path.{_≡_, refl, _∙_}
 use mathlib.Core.Bool.{Bool, true, false}
 use mathlib.Core.List.{List}
-use Prim.Native.Nat.{ℕ, zero, suc, _+_, _*_, _≤_, _<_}
+use Prim.Native.Nat.{ℕ, _+_, _*_, _≤_, _<_}
 use native.Mathlib.Omega.{arith}
 use lib.ListN.{length, set}
 use lib.Seq.{getD-set-same, getD-set-other}
 use lib.Dec.{eqb}
 use borrow.Author.Tests.{eqb-true, eqb-false}
-use Rattle.cells.specs.Cells.{cell, total, both, common}
+use Rattle.cells.specs.Cells.{cell, common}
 use Rattle.cover.specs.Sets.{cells}
+use Rattle.cells.proofs.Sum.{total-both-le}
 use Rattle.rounds.proofs.Opens.{opens-first}
 use Rattle.rounds.specs.Market.{row, Sized, Market, First, Entered}
 use Rattle.tournament.specs.Tournament.{at, known, Tournament}
@@ -20,14 +21,9 @@ pub open-first : {n : ℕ} {held : List ℕ} → First n held → n ≤ 64 * len
 unfolding openOf
 open-first {n} {held} f l = opens-first (cell held) n (64 * length held) l (f .inside) (f .above)
 
-few : (a b : List ℕ) (n : ℕ) → total (both a b) n ≤ n
-unfolding total both cell
-few a b zero = omega arith
-few a b (suc n) = omega (arith, few a b n)
-
 pub common-few : (a b : List ℕ) → length a ≤ 158 → common a b ≤ 10112
 unfolding common
-common-few a b l = omega (arith, few a b (64 * length a))
+common-few a b l = omega (arith, total-both-le a b (64 * length a))
 
 -- the bids below i are entered
 pub record Entering (ps ms : List ℕ) (w : ℕ) (held who num : List ℕ) (i : ℕ) : Type 0 where

@@ -11,16 +11,13 @@ use lib.Dec.{eqb}
 use Rattle.cells.specs.Cells.{cell, total, both, common, Closed}
 use Rattle.cover.specs.Greedy.{reach, keep, close}
 use Rattle.cover.specs.Sets.{cells}
+use Rattle.cells.proofs.Lowest.{two}
 use Rattle.rounds.specs.Market.{row, has}
 use Rattle.rounds.specs.Trace.{opens, openOf}
 
-pub two : (x : ℕ) → x < 2 → (x ≡ 0) ⊎ (x ≡ 1)
-two zero l = inl refl
-two (suc x) l = inr (omega arith)
-
-flag : (ws : List ℕ) (x : ℕ) → (cell ws x ≡ 0) ⊎ (cell ws x ≡ 1)
+pub two-way : (ws : List ℕ) (x : ℕ) → (cell ws x ≡ 0) ⊎ (cell ws x ≡ 1)
 unfolding cell
-flag ws x = two _ (omega arith)
+two-way ws x = two _ (omega arith)
 
 module _ (h : ℕ → Bool) (x u v : ℕ) (e : h x ≡ eqb v 1) where
   reach-step : (xs : List ℕ) (t : ℕ) → reach h xs ≡ t → (u ≡ 0) ⊎ (u ≡ 1) → (v ≡ 0) ⊎ (v ≡ 1) → reach h (keep (eqb u 0) x xs) ≡ t + min u v
@@ -38,13 +35,13 @@ module _ (h : ℕ → Bool) (x u v : ℕ) (e : h x ≡ eqb v 1) where
 pub reach-opens : (a m : List ℕ) (n : ℕ) → reach (λ x. eqb (cell m x) 1) (opens (cell a) n) ≡ total (both a m) n
 unfolding opens total both reach
 reach-opens a m zero = refl
-reach-opens a m (suc n) = reach-step (λ x. eqb (cell m x) 1) n (cell a n) (cell m n) refl (opens (cell a) n) _ (reach-opens a m n) (flag a n) (flag m n)
+reach-opens a m (suc n) = reach-step (λ x. eqb (cell m x) 1) n (cell a n) (cell m n) refl (opens (cell a) n) _ (reach-opens a m n) (two-way a n) (two-way m n)
 
 pub close-opens : (a m b : List ℕ) → Closed a m b → (n : ℕ) → close (λ x. eqb (cell m x) 1) (opens (cell a) n) ≡ opens (cell b) n
 unfolding opens close
 close-opens a m b c zero = refl
 close-opens a m b c (suc n) =
-    close-step (λ x. eqb (cell m x) 1) n (cell a n) (cell m n) refl (cell b n) (opens (cell a) n) _ (c .clears n) (close-opens a m b c n) (flag a n) (flag m n)
+    close-step (λ x. eqb (cell m x) 1) n (cell a n) (cell m n) refl (cell b n) (opens (cell a) n) _ (c .clears n) (close-opens a m b c n) (two-way a n) (two-way m n)
 
 opens-ones : (f : ℕ → ℕ) (n : ℕ) → ((x : ℕ) → x < n → f x ≡ 1) → opens f n ≡ cells n
 unfolding opens cells

@@ -36,27 +36,32 @@ seen-none a b xs costs sets n t m e = record {
   honest = λ cost h. rw e;
 }
 
-module _ (a b xs costs sets : List ℕ) (n t m j r : ℕ) (f : (q : ℕ) → getD costs q 0 ≤ noCost) (zero-row : row sets n ≡ 0) (l : j < m) (i : getD xs j 0 < n) (h : Seen a b xs costs sets n t m j r) where
-  abbrev q : ℕ
-  q = getD xs j 0
+-- one bid more: the bid kept so far is within and reaches t, and so does the one kept then
+module _ (a b xs : List ℕ) (n t j r : ℕ) (i : getD xs j 0 < n) (inside : r ≤ n) (found-at : (r ≡ n → ⊥) → Reaches a b xs j t r) where
+  abbrev next : ℕ
+  next = getD xs j 0
 
   lift : Reaches a b xs j t r → Reaches a b xs (j + 1) t r
   lift p = record { at = record { place = p .at .place; inside = omega (arith, p .at .inside); is = p .at .is }; begins = p .begins; ends = p .ends }
 
-  mine : ltb (getD a q 0) t && leb t (getD b q 0) ≡ true → Reaches a b xs (j + 1) t q
+  mine : ltb (getD a next 0) t && leb t (getD b next 0) ≡ true → Reaches a b xs (j + 1) t next
   mine e =
-      let u = and-split (ltb (getD a q 0) t) (leb t (getD b q 0)) e in
-      record { at = record { place = j; inside = omega arith; is = refl }; begins = ltb-true (getD a q 0) t (u .0); ends = leb-true t (getD b q 0) (u .1) }
+      let u = and-split (ltb (getD a next 0) t) (leb t (getD b next 0)) e in
+      record { at = record { place = j; inside = omega arith; is = refl }; begins = ltb-true (getD a next 0) t (u .0); ends = leb-true t (getD b next 0) (u .1) }
 
-  next-found : (c : Bool) → ltb (getD a q 0) t && leb t (getD b q 0) ≡ c → (z : Bool) → (cond c (cond z q r) r ≡ n → ⊥) → Reaches a b xs (j + 1) t (cond c (cond z q r) r)
-  next-found false e z d = lift (h .found-at d)
+  pub next-found : (c : Bool) → ltb (getD a next 0) t && leb t (getD b next 0) ≡ c → (z : Bool) → (cond c (cond z next r) r ≡ n → ⊥) → Reaches a b xs (j + 1) t (cond c (cond z next r) r)
+  next-found false e z d = lift (found-at d)
   next-found true e true d = mine e
-  next-found true e false d = lift (h .found-at d)
+  next-found true e false d = lift (found-at d)
 
-  next-within : (c z : Bool) → cond c (cond z q r) r ≤ n
-  next-within false z = h .within
+  pub next-within : (c z : Bool) → cond c (cond z next r) r ≤ n
+  next-within false z = inside
   next-within true true = omega arith
-  next-within true false = h .within
+  next-within true false = inside
+
+module _ (a b xs costs sets : List ℕ) (n t m j r : ℕ) (f : (q : ℕ) → getD costs q 0 ≤ noCost) (zero-row : row sets n ≡ 0) (l : j < m) (i : getD xs j 0 < n) (h : Seen a b xs costs sets n t m j r) where
+  abbrev q : ℕ
+  q = getD xs j 0
 
   cheap : before? costs sets q r ≡ true → getD costs q 0 ≡ noCost → q ≡ n
   unfolding before?
@@ -85,8 +90,8 @@ module _ (a b xs costs sets : List ℕ) (n t m j r : ℕ) (f : (q : ℕ) → get
   pub seen-more : Seen a b xs costs sets n t m (j + 1) (reached (getD a q 0) (getD b q 0) t (prefer costs sets q r) r)
   unfolding reached prefer
   seen-more = record {
-    within = next-within (ltb (getD a q 0) t && leb t (getD b q 0)) (before? costs sets q r);
-    found-at = next-found (ltb (getD a q 0) t && leb t (getD b q 0)) refl (before? costs sets q r);
+    within = next-within a b xs n t j r i (h .within) (h .found-at) (ltb (getD a q 0) t && leb t (getD b q 0)) (before? costs sets q r);
+    found-at = next-found a b xs n t j r i (h .within) (h .found-at) (ltb (getD a q 0) t && leb t (getD b q 0)) refl (before? costs sets q r);
     priced = next-priced (ltb (getD a q 0) t && leb t (getD b q 0)) (before? costs sets q r) refl;
     least = λ cost g. let z : j + 1 ≡ suc j = omega arith in rw z (next-least cost g (ltb (getD a q 0) t && leb t (getD b q 0)) refl);
     honest = λ cost g. next-honest cost g (ltb (getD a q 0) t && leb t (getD b q 0));

@@ -52,11 +52,6 @@ bit-high (suc k) w v i (suc j) e l = ap (λ x. bit x j) half ∙ bit-high k (w /
     half : (w + v * 2 ^ suc k) / 2 ≡ w / 2 + v * 2 ^ k
     half = omega (arith, twice v k)
 
-pub bit-none : (i : ℕ) → bit 0 i ≡ false
-unfolding bit
-bit-none zero = refl
-bit-none (suc i) = bit-none i
-
 pub bit-shift : (i s : ℕ) → s / 2 ^ i % 2 ≡ when (bit s i) 1
 unfolding bit
 bit-shift zero s = go (eqb (s % 2) 1) refl

@@ -14,12 +14,13 @@ use Rattle.cover.specs.CriticalPrice.{sum}
 use Rattle.cover.specs.Settled.{spans, listed}
 use Rattle.cover.specs.Intervals.{plus, costOf, raise}
 use Rattle.cover.specs.IntervalPrefix.{leastSet-right, lacks, cost-plus, ready}
-use Rattle.cover.specs.IntervalCover.{priced}
+use Rattle.cover.specs.IntervalCover.{priced, bit-none}
 use Rattle.cover.specs.IntervalBids.{anyBid, Bids, coversBelow, leastBelow, costBelow}
-use Rattle.cover.specs.IntervalBidsLaws.{prefixes, fits, winners-of, cost-value}
+use Rattle.cover.specs.IntervalBidsLaws.{prefixes, fits, winners-of}
+use Rattle.cover.specs.IntervalAward.{cost-value}
 use Rattle.select.specs.Costs.{noCost, costIn, raised, cost-found, cost-raised}
 use Rattle.select.specs.Rows.{row, weigh, weight, Extended}
-use Rattle.select.specs.RowLaws.{bit-none, row-kept}
+use Rattle.select.specs.RowLaws.{row-kept}
 use Rattle.select.specs.Live.{live-more}
 use Rattle.select.specs.Lead.{Led, Done, Running, Ready}
 use Rattle.select.specs.LeadLaws.{led-ready}

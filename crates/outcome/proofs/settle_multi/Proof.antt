@@ -6,8 +6,9 @@ use lib.ListN.{length-replicate}
 use Rattle.tender.specs.declared.Kind.the-variants.{Multi}
 use Rattle.tables.specs.Cells.{cellsOf}
 use Rattle.layout.specs.LayoutLaws.{orderly}
+use Rattle.tournament.proofs.Order.{product}
 use Rattle.outcome.proofs.Multi.{words-of}
-use Rattle.outcome.proofs.Prefix.{prefix-length, product-most}
+use Rattle.outcome.proofs.Prefix.{prefix-length}
 use Rattle.outcome.proofs.settle_multi.Statement.{statement}
 use Rattle.outcome.proofs.settle_multi.Tie as tie
 use Rattle.outcome.proofs.settle_multi.Reads as reads
@@ -27,7 +28,7 @@ add-w c = omega (arith, words-of Multi (c .before .before .before .before .befor
 -- src/lib.rt:71:15
 mul-all : tie.Need-mul-all
 unfolding cellsOf
-mul-all c = omega (arith, product-most (((c .before .before .before .before .before .before .args .tender) .window .end - (c .before .before .before .before .before .before .args .tender) .window .start + 63) / 64) (c .before .before .before .before .before .before .args .count) 158 1000 (words-of Multi (c .before .before .before .before .before .before .args .tender) (c .before .before .before .before .before .before .args .count) (((c .before .before .before .before .before .before .args .tender) .window .end - (c .before .before .before .before .before .before .args .tender) .window .start + 63) / 64) (c .before .before .before .before .before .before .args .bids .now) (c .before .before .before .before .before .before .args .windows .now) (c .before .before .before .before .before .before .pre .0) refl .words) (orderly Multi (c .before .before .before .before .before .before .args .tender) (c .before .before .before .before .before .before .args .count) (c .before .before .before .before .before .before .args .bids .now) (c .before .before .before .before .before .before .args .windows .now) (c .before .before .before .before .before .before .pre .0) .few))
+mul-all c = omega (arith, product (((c .before .before .before .before .before .before .args .tender) .window .end - (c .before .before .before .before .before .before .args .tender) .window .start + 63) / 64) (c .before .before .before .before .before .before .args .count) 158 1000 (words-of Multi (c .before .before .before .before .before .before .args .tender) (c .before .before .before .before .before .before .args .count) (((c .before .before .before .before .before .before .args .tender) .window .end - (c .before .before .before .before .before .before .args .tender) .window .start + 63) / 64) (c .before .before .before .before .before .before .args .bids .now) (c .before .before .before .before .before .before .args .windows .now) (c .before .before .before .before .before .before .pre .0) refl .words) (orderly Multi (c .before .before .before .before .before .before .args .tender) (c .before .before .before .before .before .before .args .count) (c .before .before .before .before .before .before .args .bids .now) (c .before .before .before .before .before .before .args .windows .now) (c .before .before .before .before .before .before .pre .0) .few))
 
 -- src/lib.rt:79:9
 array-borrow-prefix-prices : tie.Need-array-borrow-prefix-prices
@@ -42,17 +43,17 @@ slice-aggregate-multi-in c = sym (prefix-length (c .before .before .before .befo
 -- src/lib.rt:80:9
 array-borrow-prefix-masks : tie.Need-array-borrow-prefix-masks
 unfolding cellsOf
-array-borrow-prefix-masks c = omega (arith, product-most (((c .before .before .before .before .before .before .before .args .tender) .window .end - (c .before .before .before .before .before .before .before .args .tender) .window .start + 63) / 64) (c .before .before .before .before .before .before .before .args .count) 158 1000 (words-of Multi (c .before .before .before .before .before .before .before .args .tender) (c .before .before .before .before .before .before .before .args .count) (((c .before .before .before .before .before .before .before .args .tender) .window .end - (c .before .before .before .before .before .before .before .args .tender) .window .start + 63) / 64) (c .before .before .before .before .before .before .before .args .bids .now) (c .before .before .before .before .before .before .before .args .windows .now) (c .before .before .before .before .before .before .before .pre .0) refl .words) (orderly Multi (c .before .before .before .before .before .before .before .args .tender) (c .before .before .before .before .before .before .before .args .count) (c .before .before .before .before .before .before .before .args .bids .now) (c .before .before .before .before .before .before .before .args .windows .now) (c .before .before .before .before .before .before .before .pre .0) .few), length-replicate {A = ℕ} 158000 1)
+array-borrow-prefix-masks c = omega (arith, product (((c .before .before .before .before .before .before .before .args .tender) .window .end - (c .before .before .before .before .before .before .before .args .tender) .window .start + 63) / 64) (c .before .before .before .before .before .before .before .args .count) 158 1000 (words-of Multi (c .before .before .before .before .before .before .before .args .tender) (c .before .before .before .before .before .before .before .args .count) (((c .before .before .before .before .before .before .before .args .tender) .window .end - (c .before .before .before .before .before .before .before .args .tender) .window .start + 63) / 64) (c .before .before .before .before .before .before .before .args .bids .now) (c .before .before .before .before .before .before .before .args .windows .now) (c .before .before .before .before .before .before .before .pre .0) refl .words) (orderly Multi (c .before .before .before .before .before .before .before .args .tender) (c .before .before .before .before .before .before .before .args .count) (c .before .before .before .before .before .before .before .args .bids .now) (c .before .before .before .before .before .before .before .args .windows .now) (c .before .before .before .before .before .before .before .pre .0) .few), length-replicate {A = ℕ} 158000 1)
 
 -- src/lib.rt:80:9
 slice-aggregate-multi-in-2 : tie.Need-slice-aggregate-multi-in-2
 unfolding cellsOf
-slice-aggregate-multi-in-2 c = sym (prefix-length ((((c .before .before .before .before .before .before .before .before .args .tender) .window .end - (c .before .before .before .before .before .before .before .before .args .tender) .window .start + 63) / 64) * (c .before .before .before .before .before .before .before .before .args .count)) 158000 (omega (arith, product-most (((c .before .before .before .before .before .before .before .before .args .tender) .window .end - (c .before .before .before .before .before .before .before .before .args .tender) .window .start + 63) / 64) (c .before .before .before .before .before .before .before .before .args .count) 158 1000 (words-of Multi (c .before .before .before .before .before .before .before .before .args .tender) (c .before .before .before .before .before .before .before .before .args .count) (((c .before .before .before .before .before .before .before .before .args .tender) .window .end - (c .before .before .before .before .before .before .before .before .args .tender) .window .start + 63) / 64) (c .before .before .before .before .before .before .before .before .args .bids .now) (c .before .before .before .before .before .before .before .before .args .windows .now) (c .before .before .before .before .before .before .before .before .pre .0) refl .words) (orderly Multi (c .before .before .before .before .before .before .before .before .args .tender) (c .before .before .before .before .before .before .before .before .args .count) (c .before .before .before .before .before .before .before .before .args .bids .now) (c .before .before .before .before .before .before .before .before .args .windows .now) (c .before .before .before .before .before .before .before .before .pre .0) .few))))
+slice-aggregate-multi-in-2 c = sym (prefix-length ((((c .before .before .before .before .before .before .before .before .args .tender) .window .end - (c .before .before .before .before .before .before .before .before .args .tender) .window .start + 63) / 64) * (c .before .before .before .before .before .before .before .before .args .count)) 158000 (omega (arith, product (((c .before .before .before .before .before .before .before .before .args .tender) .window .end - (c .before .before .before .before .before .before .before .before .args .tender) .window .start + 63) / 64) (c .before .before .before .before .before .before .before .before .args .count) 158 1000 (words-of Multi (c .before .before .before .before .before .before .before .before .args .tender) (c .before .before .before .before .before .before .before .before .args .count) (((c .before .before .before .before .before .before .before .before .args .tender) .window .end - (c .before .before .before .before .before .before .before .before .args .tender) .window .start + 63) / 64) (c .before .before .before .before .before .before .before .before .args .bids .now) (c .before .before .before .before .before .before .before .before .args .windows .now) (c .before .before .before .before .before .before .before .before .pre .0) refl .words) (orderly Multi (c .before .before .before .before .before .before .before .before .args .tender) (c .before .before .before .before .before .before .before .before .args .count) (c .before .before .before .before .before .before .before .before .args .bids .now) (c .before .before .before .before .before .before .before .before .args .windows .now) (c .before .before .before .before .before .before .before .before .pre .0) .few))))
 
 -- src/lib.rt:74:5
 multi-in-requires : tie.Need-multi-in-requires
 unfolding cellsOf
-multi-in-requires c κs = rw (prefix-length (c .before .before .before .before .before .before .before .before .before .before .args .count) 1000 (orderly Multi (c .before .before .before .before .before .before .before .before .before .before .args .tender) (c .before .before .before .before .before .before .before .before .before .before .args .count) (c .before .before .before .before .before .before .before .before .before .before .args .bids .now) (c .before .before .before .before .before .before .before .before .before .before .args .windows .now) (c .before .before .before .before .before .before .before .before .before .before .pre .0) .few)) (c .before .before .before .before .before .before .before .before .before .before .pre .0, (refl, (prefix-length ((((c .before .before .before .before .before .before .before .before .before .before .args .tender) .window .end - (c .before .before .before .before .before .before .before .before .before .before .args .tender) .window .start + 63) / 64) * (c .before .before .before .before .before .before .before .before .before .before .args .count)) 158000 (omega (arith, product-most (((c .before .before .before .before .before .before .before .before .before .before .args .tender) .window .end - (c .before .before .before .before .before .before .before .before .before .before .args .tender) .window .start + 63) / 64) (c .before .before .before .before .before .before .before .before .before .before .args .count) 158 1000 (words-of Multi (c .before .before .before .before .before .before .before .before .before .before .args .tender) (c .before .before .before .before .before .before .before .before .before .before .args .count) (((c .before .before .before .before .before .before .before .before .before .before .args .tender) .window .end - (c .before .before .before .before .before .before .before .before .before .before .args .tender) .window .start + 63) / 64) (c .before .before .before .before .before .before .before .before .before .before .args .bids .now) (c .before .before .before .before .before .before .before .before .before .before .args .windows .now) (c .before .before .before .before .before .before .before .before .before .before .pre .0) refl .words) (orderly Multi (c .before .before .before .before .before .before .before .before .before .before .args .tender) (c .before .before .before .before .before .before .before .before .before .before .args .count) (c .before .before .before .before .before .before .before .before .before .before .args .bids .now) (c .before .before .before .before .before .before .before .before .before .before .args .windows .now) (c .before .before .before .before .before .before .before .before .before .before .pre .0) .few))), (c .before .before .before .before .before .before .before .before .before .before .pre .1 .0, c .before .before .before .before .before .before .before .before .before .before .pre .1 .1))))
+multi-in-requires c κs = rw (prefix-length (c .before .before .before .before .before .before .before .before .before .before .args .count) 1000 (orderly Multi (c .before .before .before .before .before .before .before .before .before .before .args .tender) (c .before .before .before .before .before .before .before .before .before .before .args .count) (c .before .before .before .before .before .before .before .before .before .before .args .bids .now) (c .before .before .before .before .before .before .before .before .before .before .args .windows .now) (c .before .before .before .before .before .before .before .before .before .before .pre .0) .few)) (c .before .before .before .before .before .before .before .before .before .before .pre .0, (refl, (prefix-length ((((c .before .before .before .before .before .before .before .before .before .before .args .tender) .window .end - (c .before .before .before .before .before .before .before .before .before .before .args .tender) .window .start + 63) / 64) * (c .before .before .before .before .before .before .before .before .before .before .args .count)) 158000 (omega (arith, product (((c .before .before .before .before .before .before .before .before .before .before .args .tender) .window .end - (c .before .before .before .before .before .before .before .before .before .before .args .tender) .window .start + 63) / 64) (c .before .before .before .before .before .before .before .before .before .before .args .count) 158 1000 (words-of Multi (c .before .before .before .before .before .before .before .before .before .before .args .tender) (c .before .before .before .before .before .before .before .before .before .before .args .count) (((c .before .before .before .before .before .before .before .before .before .before .args .tender) .window .end - (c .before .before .before .before .before .before .before .before .before .before .args .tender) .window .start + 63) / 64) (c .before .before .before .before .before .before .before .before .before .before .args .bids .now) (c .before .before .before .before .before .before .before .before .before .before .args .windows .now) (c .before .before .before .before .before .before .before .before .before .before .pre .0) refl .words) (orderly Multi (c .before .before .before .before .before .before .before .before .before .before .args .tender) (c .before .before .before .before .before .before .before .before .before .before .args .count) (c .before .before .before .before .before .before .before .before .before .before .args .bids .now) (c .before .before .before .before .before .before .before .before .before .before .args .windows .now) (c .before .before .before .before .before .before .before .before .before .before .pre .0) .few))), (c .before .before .before .before .before .before .before .before .before .before .pre .1 .0, c .before .before .before .before .before .before .before .before .before .before .pre .1 .1))))
 
 -- src/lib.rt:65:1
 same-length : tie.Need-same-length
