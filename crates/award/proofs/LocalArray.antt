@@ -1,9 +1,10 @@
--- A local array of n numbers in a walk by hand: filled with one number, lent as a slice and taken back, and its room again. Between, its elements lie in memory (`row`).
---     repeated         n times a number is a value of the array's type
---     elements         the cell that holds n times a number is n elements in memory
---     lends, comes-back                    the elements are lent as a `&κ mut [u64]`, and come back at their last values once κ is over
---     lends-shared, comes-back-shared      the elements are lent as a `&κ [u64]`, and come back once κ is over
+-- A local array in a walk by hand, of elements of any type R of one machine value: filled with a value, lent as a slice and taken back, and a value or room again. Between, its elements lie in memory (`row`).
+--     elements         the cell that holds a value of the array is its elements in memory
+--     whole            n elements in memory are the cell that holds a value of the array
 --     as-room          n elements in memory are room for an array
+--     lends, comes-back                    the elements are lent as a `&κ mut [R]`, and come back at their last values once κ is over
+--     lends-shared, comes-back-shared      the elements are lent as a `&κ [R]`, and come back once κ is over
+--     repeated, repeated-elements          of numbers: n times a number is a value of the array's type, and the cell that holds it is n elements in memory
 -- Assumes `Given`.
 use mathlib.Core.Path.{_≡_, refl}
 use Prim.Native.Nat.{ℕ, zero, suc, _<_, _^_}
@@ -22,17 +23,52 @@ use types.Kit.{Given, ‵, _⊛_, some, later, _$_, _∵_, !, qed, by, move, use
 use types.Tokens.{lent-back}
 use types.SemTy.{cells, Arr}
 use types.Share.{arr-parts}
+use denote.RattleType.{RattleType}
 use denote.Shadow.{shadow}
-use denote.Laws.{Is}
-use denote.Memory.{partAt, mem, shares}
+use denote.Laws.{Is, Makes}
+use denote.Memory.{lone, partAt, mem, shares}
 use denote.Plain.{uint-lawful, uint-makes}
 use denote.Array.{each, Array, arrayVal, array-lawful, array-makes}
-use denote.ArrayMemory.{array-apart, array-whole}
+use denote.ArrayMemory.{Single, array-apart, array-whole}
 use denote.Builtin.{u64}
 use denote.Index.{row, whole-out, whole-in}
 use denote.Lend.{Held, Lent, LentShrs, lends-slice, lends-shr-slice, slice-back}
 use denote.Slice.{Room, finally}
 use borrow.Table.OneValue.{part-in, part-out}
+
+module _ {M : Type 1} (𝓤 : URA M) (H : Heap 𝓤) (A : Atoms 𝓤) (W : Given 𝓤 H A) (R : RattleType) (xs : List (R .Denot)) (b : ℕ) where
+  pub elements : Single (R .mir) → Makes 𝓤 H A R (Is R) → (n : ℕ) (v : Val) → Is (Array R n) xs (v ∷ []) → ent 𝓤 (H .at fullShare (tyArray (lone (R .mir)) n) b 0 v) (sem 𝓤 H A (row R fullShare xs b 0))
+  elements one makes n v is =
+      qed W (‵ (fat fullShare (tyArray (lone (R .mir)) n) b 0 v) ∷ []) ∵
+      use0 W (‵ (Array R n .own xs (v ∷ []))) (array-makes 𝓤 H A W R makes n xs (v ∷ []) is) $ move ! (1 ∷ 0 ∷ []) $
+      use2 W (‵ (partAt (Array R n) fullShare xs b 0)) (part-in 𝓤 H A W (Array R n) refl fullShare xs b 0 v) $
+      use1 W (‵ (arr-parts (shares R) n .part fullShare xs b 0)) (array-apart 𝓤 H A W R fullShare one n xs b 0) $ fsplit ! $ drop ! $ done !
+
+  pub whole : (n : ℕ) → length xs ≡ n → ent 𝓤 (sem 𝓤 H A (row R fullShare xs b 0)) (ex 𝓤 (λ (v : Val). sep 𝓤 (H .at fullShare (tyArray (lone (R .mir)) n) b 0 v) (sem 𝓤 H A (Array R n .own xs (v ∷ [])))))
+  whole n e =
+      qed W (‵ (row R fullShare xs b 0) ∷ []) ∵ feqI ! ℕ (length xs) n e $ fjoin ! $
+      use1 W (‵ (partAt (Array R n) fullShare xs b 0)) (array-whole 𝓤 H A W R fullShare n xs b 0) $ by ! (part-out 𝓤 H A W (Array R n) refl fullShare xs b 0)
+
+  pub as-room : (n : ℕ) → length xs ≡ n → ent 𝓤 (sem 𝓤 H A (row R fullShare xs b 0)) (H .room (tyArray (lone (R .mir)) n) b 0)
+  as-room n e =
+      qed W (‵ (row R fullShare xs b 0) ∷ []) ∵
+      use1 W (some (λ (v : Val). ‵ (fat fullShare (tyArray (lone (R .mir)) n) b 0 v) ⊛ ‵ (Array R n .own xs (v ∷ [])))) (whole n e) $ pick ! (λ v. split ! $ move ! (1 ∷ []) $ drop ! $
+      use1 W (‵ (froom (tyArray (lone (R .mir)) n) b 0)) (W .laws .at-room (tyArray (lone (R .mir)) n) b 0 v) $ done !)
+
+  pub lends : (ℓ : Lifetime) (κ : Lft) → Room R (length xs) → ent 𝓤 (sem 𝓤 H A (row R fullShare xs b 0)) (H .⇛ (ex 𝓤 (Lent 𝓤 H A W R ℓ κ xs b 0)))
+  lends ℓ κ g = qed W (‵ (row R fullShare xs b 0) ∷ []) ∵ use1 W (‵ (cells (mem R) xs b 0)) (whole-in 𝓤 H A W R xs b 0) $ by ! (lends-slice 𝓤 H A W R ℓ κ xs b 0 g)
+
+  -- xs are the last values of the n elements lent under γ
+  pub comes-back : (κ : Lft) (γ : GName) (n : ℕ) → ent 𝓤 (sep 𝓤 (A .dead κ) (sep 𝓤 (A .lent κ (Held R n b 0 γ)) (sem 𝓤 H A (finally R γ xs)))) (H .⇛ (sem 𝓤 H A (row R fullShare xs b 0)))
+  comes-back κ γ n =
+      qed W (‵ (fdead κ) ∷ ‵ (flent κ (Held R n b 0 γ)) ∷ ‵ (finally R γ xs) ∷ []) ∵ updating ! $
+      use3 W (later (‵ (Arr (mem R) n .lies xs b 0))) (slice-back 𝓤 H A W R κ γ xs n b 0) $ await ! tt $ fsplit ! $ drop ! $ at-once ! $ by ! (whole-out 𝓤 H A W R xs b 0)
+
+  pub lends-shared : (ℓ : Lifetime) (κ : Lft) → Room R (length xs) → ent 𝓤 (sem 𝓤 H A (row R fullShare xs b 0)) (H .⇛ (ex 𝓤 (LentShrs 𝓤 H A W R ℓ κ fullShare xs b 0)))
+  lends-shared ℓ κ g = qed W (‵ (row R fullShare xs b 0) ∷ []) ∵ feqI ! ℕ (length xs) (length xs) refl $ fjoin ! $ by ! (lends-shr-slice 𝓤 H A W R ℓ κ fullShare xs b 0 g)
+
+  pub comes-back-shared : (κ : Lft) → ent 𝓤 (sep 𝓤 (A .dead κ) (A .lent κ (arr-parts (shares R) (length xs) .part fullShare xs b 0))) (H .⇛ (sem 𝓤 H A (row R fullShare xs b 0)))
+  comes-back-shared κ = qed W (‵ (fdead κ) ∷ ‵ (flent κ (arr-parts (shares R) (length xs) .part fullShare xs b 0)) ∷ []) ∵ updating ! $ lent-back ! tt $ fsplit ! $ drop ! $ at-once ! $ done !
 
 each-is : (n x : ℕ) → x < 2 ^ 64 → shadow (each ℕ (u64 .own) (replicate n x) (replicate n (vint w64 x)))
 each-is zero x fits = tt
@@ -41,37 +77,13 @@ each-is (suc n) x fits = ((refl, fits), each-is n x fits)
 all-is : (n x : ℕ) → x < 2 ^ 64 → Is (Array u64 n) (replicate n x) (arrayVal (replicate n (vint w64 x)) ∷ [])
 all-is n x fits = (replicate n (vint w64 x), ((refl, length-replicate n x), each-is n x fits))
 
-module _ {M : Type 1} (𝓤 : URA M) (H : Heap 𝓤) (A : Atoms 𝓤) (W : Given 𝓤 H A) (n : ℕ) where
-  pub repeated : (x : ℕ) → x < 2 ^ 64 → T (hasTy (tyArray (tyInt w64) n) (arrayVal (replicate n (vint w64 x)))) × WT (arrayVal (replicate n (vint w64 x)))
-  repeated x fits = array-lawful 𝓤 H A W u64 (uint-lawful 𝓤 H A W w64) n .typed (replicate n x) (arrayVal (replicate n (vint w64 x)) ∷ []) (all-is n x fits) .0
+module _ {M : Type 1} (𝓤 : URA M) (H : Heap 𝓤) (A : Atoms 𝓤) (W : Given 𝓤 H A) (n x : ℕ) (fits : x < 2 ^ 64) where
+  pub repeated : T (hasTy (tyArray (tyInt w64) n) (arrayVal (replicate n (vint w64 x)))) × WT (arrayVal (replicate n (vint w64 x)))
+  repeated = array-lawful 𝓤 H A W u64 (uint-lawful 𝓤 H A W w64) n .typed (replicate n x) (arrayVal (replicate n (vint w64 x)) ∷ []) (all-is n x fits) .0
 
-  pub elements : (x b : ℕ) → x < 2 ^ 64 → ent 𝓤 (H .at fullShare (tyArray (tyInt w64) n) b 0 (arrayVal (replicate n (vint w64 x))))
+  pub repeated-elements : (b : ℕ) → ent 𝓤 (H .at fullShare (tyArray (tyInt w64) n) b 0 (arrayVal (replicate n (vint w64 x))))
       (ex 𝓤 (λ (xs : List ℕ). guard 𝓤 (length xs ≡ n) (sem 𝓤 H A (row u64 fullShare xs b 0))))
-  elements x b fits =
+  repeated-elements b =
       qed W (‵ (fat fullShare (tyArray (tyInt w64) n) b 0 (arrayVal (replicate n (vint w64 x)))) ∷ []) ∵
-      use0 W (‵ (Array u64 n .own (replicate n x) (arrayVal (replicate n (vint w64 x)) ∷ []))) (array-makes 𝓤 H A W u64 (uint-makes 𝓤 H A W w64) n (replicate n x) (arrayVal (replicate n (vint w64 x)) ∷ []) (all-is n x fits)) $ move ! (1 ∷ 0 ∷ []) $
-      use2 W (‵ (partAt (Array u64 n) fullShare (replicate n x) b 0)) (part-in 𝓤 H A W (Array u64 n) refl fullShare (replicate n x) b 0 (arrayVal (replicate n (vint w64 x)))) $
-      use1 W (‵ (arr-parts (shares u64) n .part fullShare (replicate n x) b 0)) (array-apart 𝓤 H A W u64 fullShare tt n (replicate n x) b 0) $ fsplit ! $ drop ! $
+      use1 W (‵ (row u64 fullShare (replicate n x) b 0)) (elements 𝓤 H A W u64 (replicate n x) b tt (uint-makes 𝓤 H A W w64) n (arrayVal (replicate n (vint w64 x))) (all-is n x fits)) $
       show ! (λ (xs : List ℕ). guard 𝓤 (length xs ≡ n) (sem 𝓤 H A (row u64 fullShare xs b 0))) (replicate n x) $ check ! (length-replicate n x) $ done !
-
-  pub as-room : (xs : List ℕ) (b : ℕ) → length xs ≡ n → ent 𝓤 (sem 𝓤 H A (row u64 fullShare xs b 0)) (H .room (tyArray (tyInt w64) n) b 0)
-  as-room xs b e =
-      qed W (‵ (row u64 fullShare xs b 0) ∷ []) ∵ feqI ! ℕ (length xs) n e $ fjoin ! $
-      use1 W (‵ (partAt (Array u64 n) fullShare xs b 0)) (array-whole 𝓤 H A W u64 fullShare n xs b 0) $
-      use1 W (some (λ (v : Val). ‵ (fat fullShare (tyArray (tyInt w64) n) b 0 v) ⊛ ‵ (Array u64 n .own xs (v ∷ [])))) (part-out 𝓤 H A W (Array u64 n) refl fullShare xs b 0) $ pick ! (λ v. split ! $ move ! (1 ∷ []) $ drop ! $
-      use1 W (‵ (froom (tyArray (tyInt w64) n) b 0)) (W .laws .at-room (tyArray (tyInt w64) n) b 0 v) $ done !)
-
-module _ {M : Type 1} (𝓤 : URA M) (H : Heap 𝓤) (A : Atoms 𝓤) (W : Given 𝓤 H A) (ℓ : Lifetime) (κ : Lft) (xs : List ℕ) (b : ℕ) where
-  pub lends : Room u64 (length xs) → ent 𝓤 (sem 𝓤 H A (row u64 fullShare xs b 0)) (H .⇛ (ex 𝓤 (Lent 𝓤 H A W u64 ℓ κ xs b 0)))
-  lends g = qed W (‵ (row u64 fullShare xs b 0) ∷ []) ∵ use1 W (‵ (cells (mem u64) xs b 0)) (whole-in 𝓤 H A W u64 xs b 0) $ by ! (lends-slice 𝓤 H A W u64 ℓ κ xs b 0 g)
-
-  pub comes-back : (γ : GName) (zs : List ℕ) → ent 𝓤 (sep 𝓤 (A .dead κ) (sep 𝓤 (A .lent κ (Held u64 (length xs) b 0 γ)) (sem 𝓤 H A (finally u64 γ zs)))) (H .⇛ (sem 𝓤 H A (row u64 fullShare zs b 0)))
-  comes-back γ zs =
-      qed W (‵ (fdead κ) ∷ ‵ (flent κ (Held u64 (length xs) b 0 γ)) ∷ ‵ (finally u64 γ zs) ∷ []) ∵ updating ! $
-      use3 W (later (‵ (Arr (mem u64) (length xs) .lies zs b 0))) (slice-back 𝓤 H A W u64 κ γ zs (length xs) b 0) $ await ! tt $ fsplit ! $ drop ! $ at-once ! $ by ! (whole-out 𝓤 H A W u64 zs b 0)
-
-  pub lends-shared : Room u64 (length xs) → ent 𝓤 (sem 𝓤 H A (row u64 fullShare xs b 0)) (H .⇛ (ex 𝓤 (LentShrs 𝓤 H A W u64 ℓ κ fullShare xs b 0)))
-  lends-shared g = qed W (‵ (row u64 fullShare xs b 0) ∷ []) ∵ feqI ! ℕ (length xs) (length xs) refl $ fjoin ! $ by ! (lends-shr-slice 𝓤 H A W u64 ℓ κ fullShare xs b 0 g)
-
-  pub comes-back-shared : ent 𝓤 (sep 𝓤 (A .dead κ) (A .lent κ (arr-parts (shares u64) (length xs) .part fullShare xs b 0))) (H .⇛ (sem 𝓤 H A (row u64 fullShare xs b 0)))
-  comes-back-shared = qed W (‵ (fdead κ) ∷ ‵ (flent κ (arr-parts (shares u64) (length xs) .part fullShare xs b 0)) ∷ []) ∵ updating ! $ lent-back ! tt $ fsplit ! $ drop ! $ at-once ! $ done !

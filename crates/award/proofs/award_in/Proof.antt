@@ -56,7 +56,7 @@ use Rattle.tender.specs.declared.AwardRow.{AwardRow}
 use Rattle.outcome.specs.Award.{Promise}
 use Rattle.outcome.specs.Plain.{rowsIn, rowsFilled, PlainPromise}
 use Rattle.award.specs.RowsPromise.{rows-fit, filled-promise}
-use Rattle.award.proofs.LocalArray.{repeated, elements, as-room, lends, comes-back, lends-shared, comes-back-shared}
+use Rattle.award.proofs.LocalArray.{repeated, repeated-elements, as-room, lends, comes-back, lends-shared, comes-back-shared}
 use Rattle.tender.proofs.Answer as Ans
 use Rattle.tender.proofs.Answer.Laws as Ans′
 use Rattle.tender.proofs.AwardRow as Row
@@ -235,9 +235,9 @@ module _ {M : Type 1} (𝓤 : URA M) (H : Heap 𝓤) (A : Atoms 𝓤) (W : Given
       -- the two arrays
       assigns ! (rep ! 1000 (lit ! tt)) (from ! (stop !)) (init ! 30 refl (repeated 𝓤 H A W 1000 1 (lit< tt))) $
       assigns ! (rep ! 1000 (lit ! tt)) (from ! (stop !)) (init ! 28 refl (repeated 𝓤 H A W 1000 1 (lit< tt))) $
-      move ! (30 ∷ []) $ use1 W (some (λ (xs : List ℕ). given (length xs ≡ 1000) (‵ (row u64 fullShare xs l7 0)))) (elements 𝓤 H A W 1000 1 l7 (lit< tt)) $ pick ! (λ xs7.
+      move ! (30 ∷ []) $ use1 W (some (λ (xs : List ℕ). given (length xs ≡ 1000) (‵ (row u64 fullShare xs l7 0)))) (repeated-elements 𝓤 H A W 1000 1 (lit< tt) l7) $ pick ! (λ xs7.
       learn ! (λ e7.
-      move ! (29 ∷ []) $ use1 W (some (λ (xs : List ℕ). given (length xs ≡ 1000) (‵ (row u64 fullShare xs l8 0)))) (elements 𝓤 H A W 1000 1 l8 (lit< tt)) $ pick ! (λ xs8.
+      move ! (29 ∷ []) $ use1 W (some (λ (xs : List ℕ). given (length xs ≡ 1000) (‵ (row u64 fullShare xs l8 0)))) (repeated-elements 𝓤 H A W 1000 1 (lit< tt) l8) $ pick ! (λ xs8.
       learn ! (λ e8.
       -- the number of rows lent, and the references for the call
       assigns ! (of-opd ! (load ! (from ! (fld ! refl (stop !))) (look-in ! 32 (sub ! 1 refl (whole !))))) (from ! (stop !)) (init ! 28 refl (tt, record { fits = g2 .0 })) $
@@ -250,9 +250,9 @@ module _ {M : Type 1} (𝓤 : URA M) (H : Heap 𝓤) (A : Atoms 𝓤) (W : Given
       move ! (47 ∷ []) $ fsplit ! $ drop ! $ fsplit ! $ drop ! $ fsplit ! $ drop ! $ fsplit ! $ move ! (1 ∷ []) $ fsplit ! $ move ! (1 ∷ []) $ fsplit ! $ move ! (1 ∷ []) $ drop ! $ move ! (2 ∷ []) $ use1 W (‵ (ShrSlice (named 0) κ0 u64 .own x0 (s0 ∷ [])) ⊛ ‵ (ShrSlice (named 0) κ0 u64 .own x0 (s0 ∷ []))) (shr-slice-copy 𝓤 H A W (named 0) κ0 u64 .twice x0 (s0 ∷ [])) $ split ! $ move ! (3 ∷ []) $ use1 W (‵ (ShrSlice (named 1) κ1 u64 .own x1 (s1 ∷ [])) ⊛ ‵ (ShrSlice (named 1) κ1 u64 .own x1 (s1 ∷ []))) (shr-slice-copy 𝓤 H A W (named 1) κ1 u64 .twice x1 (s1 ∷ [])) $ split ! $ move ! (51 ∷ []) $ split ! $ move ! (1 ∷ []) $ split ! $ move ! (1 ∷ []) $ split ! $ move ! (1 ∷ []) $ drop ! $
       -- the arrays are lent
       lft-new ! tt (λ ν.
-      move ! (10 ∷ []) $ use1 W (later (some (λ (γ : GName). ‵ (MutSlice (named 2) (ν ∷ []) u64 .own (x l7 γ xs7) (sliceVal (l7, 0) (length xs7) ∷ [])) ⊛ ‵ (flent (ν ∷ []) (Held u64 (length xs7) l7 0 γ))))) (lends 𝓤 H A W (named 2) (ν ∷ []) xs7 l7 (room xs7 e7)) $ await ! tt $ pick ! (λ δ.
+      move ! (10 ∷ []) $ use1 W (later (some (λ (γ : GName). ‵ (MutSlice (named 2) (ν ∷ []) u64 .own (x l7 γ xs7) (sliceVal (l7, 0) (length xs7) ∷ [])) ⊛ ‵ (flent (ν ∷ []) (Held u64 (length xs7) l7 0 γ))))) (lends 𝓤 H A W u64 xs7 l7 (named 2) (ν ∷ []) (room xs7 e7)) $ await ! tt $ pick ! (λ δ.
       split ! $ lft-new ! tt (λ μ.
-      move ! (12 ∷ []) $ use1 W (later (some (λ (γ : GName). ‵ (MutSlice (named 3) (μ ∷ []) u64 .own (x l8 γ xs8) (sliceVal (l8, 0) (length xs8) ∷ [])) ⊛ ‵ (flent (μ ∷ []) (Held u64 (length xs8) l8 0 γ))))) (lends 𝓤 H A W (named 3) (μ ∷ []) xs8 l8 (room xs8 e8)) $ await ! tt $ pick ! (λ ε.
+      move ! (12 ∷ []) $ use1 W (later (some (λ (γ : GName). ‵ (MutSlice (named 3) (μ ∷ []) u64 .own (x l8 γ xs8) (sliceVal (l8, 0) (length xs8) ∷ [])) ⊛ ‵ (flent (μ ∷ []) (Held u64 (length xs8) l8 0 γ))))) (lends 𝓤 H A W u64 xs8 l8 (named 3) (μ ∷ []) (room xs8 e8)) $ await ! tt $ pick ! (λ ε.
       split ! $
       -- the award over plain cells
       nothing ! $ move ! (3 ∷ 0 ∷ []) $ join ! $ move ! (5 ∷ 0 ∷ []) $ join ! $ move ! (6 ∷ 0 ∷ []) $ join ! $ move ! (6 ∷ 0 ∷ []) $ join ! $ move ! (3 ∷ 1 ∷ []) $ join ! $ move ! (6 ∷ 0 ∷ []) $ join ! $ move ! (7 ∷ 0 ∷ []) $ join ! $ move ! (1 ∷ 0 ∷ []) $ join ! $ use1 W (raw (Settle 𝓤 H A at-mem run .pre (to-settle l7 l8 xs7 xs8 ν μ δ ε))) (goes-settle l7 l8 xs7 xs8 ν μ δ ε e7 e8) $ calls-at ! fm (Settle 𝓤 H A at-mem run) known-settle (to-settle l7 l8 xs7 xs8 ν μ δ ε) (and-then ! (load ! (from ! (stop !)) (look ! 47 refl)) (and-then ! (load ! (from ! (stop !)) (look ! 45 refl)) (and-then ! (load ! (from ! (stop !)) (look ! 43 refl)) (and-then ! (load ! (from ! (stop !)) (look ! 41 refl)) (and-then ! (load ! (from ! (stop !)) (look ! 39 refl)) (and-then ! (load ! (from ! (stop !)) (look ! 33 refl)) (and-then ! (load ! (from ! (stop !)) (look ! 25 refl)) (and-then ! (load ! (from ! (stop !)) (look ! 21 refl)) (no-more !))))))))) (λ va.
@@ -264,7 +264,7 @@ module _ {M : Type 1} (𝓤 : URA M) (H : Heap 𝓤) (A : Atoms 𝓤) (W : Given
       move ! (1 ∷ []) $ drop ! $ move ! (2 ∷ []) $ split ! $ move ! (1 ∷ []) $ peeks ! Ans.the-row (Is Ans.the-row) (shows 𝓤 H A Ans.the-row) a (va ∷ []) (λ isa.
       drop ! $ land ! (from ! (stop !)) (init ! 33 refl (EL.lawful Ans.the-type Ans′.the-laws 𝓤 H A W tt .typed a _ isa .0)) $
       -- the arrays come back
-      split ! $ move ! (1 ∷ []) $ split ! $ move ! (1 ∷ []) $ split ! $ move ! (1 ∷ []) $ split ! $ move ! (1 ∷ []) $ drop ! $ move ! (1 ∷ []) $ lft-end ! tt $ move ! (0 ∷ 7 ∷ 5 ∷ []) $ use3 W (later (‵ (row u64 fullShare (zs-won zs) l7 0))) (comes-back 𝓤 H A W (named 2) (ν ∷ []) xs7 l7 δ (zs-won zs)) $ await ! tt $ move ! (1 ∷ []) $ lft-end ! tt $ move ! (0 ∷ 5 ∷ 4 ∷ []) $ use3 W (later (‵ (row u64 fullShare (zs-cents zs) l8 0))) (comes-back 𝓤 H A W (named 3) (μ ∷ []) xs8 l8 ε (zs-cents zs)) $ await ! tt $
+      split ! $ move ! (1 ∷ []) $ split ! $ move ! (1 ∷ []) $ split ! $ move ! (1 ∷ []) $ split ! $ move ! (1 ∷ []) $ drop ! $ move ! (1 ∷ []) $ lft-end ! tt $ move ! (0 ∷ 7 ∷ 5 ∷ []) $ use3 W (later (‵ (row u64 fullShare (zs-won zs) l7 0))) (comes-back 𝓤 H A W u64 (zs-won zs) l7 (ν ∷ []) δ (length xs7)) $ await ! tt $ move ! (1 ∷ []) $ lft-end ! tt $ move ! (0 ∷ 5 ∷ 4 ∷ []) $ use3 W (later (‵ (row u64 fullShare (zs-cents zs) l8 0))) (comes-back 𝓤 H A W u64 (zs-cents zs) l8 (μ ∷ []) ε (length xs8)) $ await ! tt $
       -- the number of rows to fill
       owned ! Ans.the-row (Is Ans.the-row) (EL.makes Ans.the-type Ans′.the-plain 𝓤 H A) a (va ∷ []) isa $ owned ! usize (Is usize) (uint-makes 𝓤 H A W w64) n (vint w64 n ∷ []) (refl, gn) $ nothing ! $ move ! (1 ∷ 0 ∷ []) $ fjoin ! $ move ! (1 ∷ 0 ∷ []) $ fjoin ! $ nothing ! $ join ! $ use1 W (raw (Filled 𝓤 H A at-mem run .pre (to-filled a va))) (qed W ((‵ ftrue ⊛ ‵ (owns (Ans.the-row ∷ usize ∷ []) (a, (n, tt)) (va ∷ [], (vint w64 n ∷ [], tt)))) ∷ []) ∵ frame ! $ done !) $ calls-at ! fm (Filled 𝓤 H A at-mem run) known-filled (to-filled a va) (and-then ! (load ! (from ! (stop !)) (look ! 33 refl)) (and-then ! (load ! (from ! (stop !)) (look ! 45 refl)) (no-more !))) (λ vm.
       use1 W (later (some (λ (r : ℕ). (‵ ftrue ⊛ ‵ (usize .own r (vm ∷ []))) ⊛ raw (ensured 𝓤 H A count.ended (count.clauses 𝓤 H A at-mem run) tt (a, (n, tt)) tt r)))) (id⊢ 𝓤 _) $ await ! tt $ pick ! (λ m.
@@ -283,9 +283,9 @@ module _ {M : Type 1} (𝓤 : URA M) (H : Heap 𝓤) (A : Atoms 𝓤) (W : Given
       rewrite ! 8 (λ (i : ℕ). ‵ (fat fullShare (sliceTy (tyRef erased imm word)) l22 0 (sliceVal (l8, 0) i))) (sym (k8 ∙ e8)) refl $
       -- the arrays are lent once more, and the rows go to the fill
       lft-new ! tt (λ ν′.
-      move ! (2 ∷ []) $ use1 W (later (some (λ (γ : GName). ‵ (ShrSlice (named 1) (ν′ ∷ []) u64 .own (x l7 γ (zs-won zs)) (sliceVal (l7, 0) (length (zs-won zs)) ∷ [])) ⊛ ‵ (flent (ν′ ∷ []) (arr-parts (shares u64) (length (zs-won zs)) .part fullShare (zs-won zs) l7 0))))) (lends-shared 𝓤 H A W (named 1) (ν′ ∷ []) (zs-won zs) l7 (room (zs-won zs) (k7 ∙ e7))) $ await ! tt $ pick ! (λ δ′.
+      move ! (2 ∷ []) $ use1 W (later (some (λ (γ : GName). ‵ (ShrSlice (named 1) (ν′ ∷ []) u64 .own (x l7 γ (zs-won zs)) (sliceVal (l7, 0) (length (zs-won zs)) ∷ [])) ⊛ ‵ (flent (ν′ ∷ []) (arr-parts (shares u64) (length (zs-won zs)) .part fullShare (zs-won zs) l7 0))))) (lends-shared 𝓤 H A W u64 (zs-won zs) l7 (named 1) (ν′ ∷ []) (room (zs-won zs) (k7 ∙ e7))) $ await ! tt $ pick ! (λ δ′.
       split ! $ lft-new ! tt (λ μ′.
-      move ! (4 ∷ []) $ use1 W (later (some (λ (γ : GName). ‵ (ShrSlice (named 2) (μ′ ∷ []) u64 .own (x l8 γ (zs-cents zs)) (sliceVal (l8, 0) (length (zs-cents zs)) ∷ [])) ⊛ ‵ (flent (μ′ ∷ []) (arr-parts (shares u64) (length (zs-cents zs)) .part fullShare (zs-cents zs) l8 0))))) (lends-shared 𝓤 H A W (named 2) (μ′ ∷ []) (zs-cents zs) l8 (room (zs-cents zs) (k8 ∙ e8))) $ await ! tt $ pick ! (λ ε′.
+      move ! (4 ∷ []) $ use1 W (later (some (λ (γ : GName). ‵ (ShrSlice (named 2) (μ′ ∷ []) u64 .own (x l8 γ (zs-cents zs)) (sliceVal (l8, 0) (length (zs-cents zs)) ∷ [])) ⊛ ‵ (flent (μ′ ∷ []) (arr-parts (shares u64) (length (zs-cents zs)) .part fullShare (zs-cents zs) l8 0))))) (lends-shared 𝓤 H A W u64 (zs-cents zs) l8 (named 2) (μ′ ∷ []) (room (zs-cents zs) (k8 ∙ e8))) $ await ! tt $ pick ! (λ ε′.
       split ! $ nothing ! $ move ! (3 ∷ 0 ∷ []) $ join ! $ move ! (5 ∷ 0 ∷ []) $ join ! $ move ! (7 ∷ 0 ∷ []) $ join ! $ move ! (3 ∷ 1 ∷ []) $ join ! $ move ! (8 ∷ 0 ∷ []) $ join ! $ move ! (1 ∷ 0 ∷ []) $ join ! $ use1 W (raw (Fill 𝓤 H A at-mem run .pre (to-fill l7 l8 (zs-won zs) (zs-cents zs) ν′ μ′ δ′ ε′ m))) (goes-fill l7 l8 (zs-won zs) (zs-cents zs) ν′ μ′ δ′ ε′ m (ism .1) (fits-fill e em (k7 ∙ e7) (k8 ∙ e8))) $ calls-at ! fm (Fill 𝓤 H A at-mem run) known-fill (to-fill l7 l8 (zs-won zs) (zs-cents zs) ν′ μ′ δ′ ε′ m) (and-then ! (load ! (from ! (stop !)) (look ! 15 refl)) (and-then ! (load ! (from ! (stop !)) (look ! 11 refl)) (and-then ! (load ! (from ! (stop !)) (look ! 7 refl)) (and-then ! (load ! (from ! (stop !)) (look ! 29 refl)) (no-more !))))) (λ vu.
       use1 W (later (some (λ (r : Unit {0}). ((‵ (flft κ2 q2) ⊛ (‵ (flft (ν′ ∷ []) fullShare) ⊛ (‵ (flft (μ′ ∷ []) fullShare) ⊛ ‵ ftrue))) ⊛ ‵ (unit .own r (vu ∷ []))) ⊛ raw (ensured 𝓤 H A fill.ended (fill.clauses 𝓤 H A at-mem run) (κ2, (ν′ ∷ [], (μ′ ∷ [], tt))) (fill-args l7 l8 (zs-won zs) (zs-cents zs) δ′ ε′ m) tt r)))) (id⊢ 𝓤 _) $ await ! tt $ pick ! (λ u.
       split ! $ move ! (1 ∷ []) $ use1 W (some (λ (fs : List AwardRow × (Unit {0} × (Unit {0} × (Unit {0} × Unit {0})))). ‵ (lasts fill.ended (κ2, (ν′ ∷ [], (μ′ ∷ [], tt))) (fill-args l7 l8 (zs-won zs) (zs-cents zs) δ′ ε′ m) fs) ⊛ raw (fact 𝓤 (fs .0 ≡ rowsIn m (zs-won zs) (zs-cents zs) ++ dropped m ys)))) (id⊢ 𝓤 _) $ pick ! (λ fs.
@@ -294,7 +294,7 @@ module _ {M : Type 1} (𝓤 : URA M) (H : Heap 𝓤) (A : Atoms 𝓤) (W : Given
       move ! (1 ∷ []) $ drop ! $ move ! (1 ∷ []) $ split ! $ move ! (1 ∷ []) $ peeks ! unit (Is unit) (shows 𝓤 H A unit) u (vu ∷ []) (λ isu.
       drop ! $ land ! (from ! (stop !)) (init ! 20 refl (nothing-lawful 𝓤 H A W .typed u _ isu .0)) $
       -- the arrays come back, and are room again; the frame is released
-      split ! $ move ! (1 ∷ []) $ split ! $ move ! (1 ∷ []) $ split ! $ move ! (1 ∷ []) $ drop ! $ move ! (1 ∷ []) $ lft-end ! tt $ move ! (0 ∷ 5 ∷ []) $ use2 W (later (‵ (row u64 fullShare (zs-won zs) l7 0))) (comes-back-shared 𝓤 H A W (named 1) (ν′ ∷ []) (zs-won zs) l7) $ await ! tt $ use1 W (‵ (froom (tyArray word 1000) l7 0)) (as-room 𝓤 H A W 1000 (zs-won zs) l7 (k7 ∙ e7)) $ move ! (1 ∷ []) $ lft-end ! tt $ move ! (0 ∷ 4 ∷ []) $ use2 W (later (‵ (row u64 fullShare (zs-cents zs) l8 0))) (comes-back-shared 𝓤 H A W (named 2) (μ′ ∷ []) (zs-cents zs) l8) $ await ! tt $ use1 W (‵ (froom (tyArray word 1000) l8 0)) (as-room 𝓤 H A W 1000 (zs-cents zs) l8 (k8 ∙ e8)) $ assigns ! (of-opd ! (load ! (from ! (stop !)) (look ! 32 refl))) (from ! (stop !)) (init ! 50 refl (EL.lawful Ans.the-type Ans′.the-laws 𝓤 H A W tt .typed a _ isa .0)) $
+      split ! $ move ! (1 ∷ []) $ split ! $ move ! (1 ∷ []) $ split ! $ move ! (1 ∷ []) $ drop ! $ move ! (1 ∷ []) $ lft-end ! tt $ move ! (0 ∷ 5 ∷ []) $ use2 W (later (‵ (row u64 fullShare (zs-won zs) l7 0))) (comes-back-shared 𝓤 H A W u64 (zs-won zs) l7 (ν′ ∷ [])) $ await ! tt $ use1 W (‵ (froom (tyArray word 1000) l7 0)) (as-room 𝓤 H A W u64 (zs-won zs) l7 1000 (k7 ∙ e7)) $ move ! (1 ∷ []) $ lft-end ! tt $ move ! (0 ∷ 4 ∷ []) $ use2 W (later (‵ (row u64 fullShare (zs-cents zs) l8 0))) (comes-back-shared 𝓤 H A W u64 (zs-cents zs) l8 (μ′ ∷ [])) $ await ! tt $ use1 W (‵ (froom (tyArray word 1000) l8 0)) (as-room 𝓤 H A W u64 (zs-cents zs) l8 1000 (k8 ∙ e8)) $ assigns ! (of-opd ! (load ! (from ! (stop !)) (look ! 32 refl))) (from ! (stop !)) (init ! 50 refl (EL.lawful Ans.the-type Ans′.the-laws 𝓤 H A W tt .typed a _ isa .0)) $
       returns ! (look ! 50 refl) $ forget ! 50 refl $ forget ! 48 refl $ forget ! 46 refl $ forget ! 44 refl $ forget ! 42 refl $ forget ! 40 refl $ forget ! 38 refl $ forget ! 34 refl $ forget ! 32 refl $ forget ! 30 refl $ forget ! 28 refl $ forget ! 26 refl $ forget ! 24 refl $ forget ! 22 refl $ forget ! 20 refl $ forget ! 18 refl $ forget ! 16 refl $ forget ! 14 refl $ forget ! 12 refl $ forget ! 10 refl $ forget ! 8 refl $
       move ! (50 ∷ 51 ∷ []) $ free1 ! $ move ! (48 ∷ 49 ∷ []) $ free1 ! $ move ! (46 ∷ 47 ∷ []) $ free1 ! $ move ! (44 ∷ 45 ∷ []) $ free1 ! $ move ! (42 ∷ 43 ∷ []) $ free1 ! $ move ! (40 ∷ 41 ∷ []) $ free1 ! $ move ! (38 ∷ 39 ∷ []) $ free1 ! $ move ! (1 ∷ 37 ∷ []) $ free1 ! $ move ! (0 ∷ 35 ∷ []) $ free1 ! $ move ! (32 ∷ 33 ∷ []) $ free1 ! $ move ! (30 ∷ 31 ∷ []) $ free1 ! $ move ! (28 ∷ 29 ∷ []) $ free1 ! $ move ! (26 ∷ 27 ∷ []) $ free1 ! $ move ! (24 ∷ 25 ∷ []) $ free1 ! $ move ! (22 ∷ 23 ∷ []) $ free1 ! $ move ! (20 ∷ 21 ∷ []) $ free1 ! $ move ! (18 ∷ 19 ∷ []) $ free1 ! $ move ! (16 ∷ 17 ∷ []) $ free1 ! $ move ! (14 ∷ 15 ∷ []) $ free1 ! $ move ! (12 ∷ 13 ∷ []) $ free1 ! $ move ! (10 ∷ 11 ∷ []) $ free1 ! $ move ! (8 ∷ 9 ∷ []) $ free1 ! $ move ! (6 ∷ 7 ∷ []) $ free1 ! $ free0 ! $ keep ! (3 ∷ 2 ∷ 0 ∷ 5 ∷ 4 ∷ 1 ∷ []) $ by ! (exits a va isa (fs .0) kr (filled-promise k t n bs ws ys (fs .0) _ _ (zs-won zs) (zs-cents zs) a m e em ef)))))))))))))))))))))))))))))))))))))))))))))))))))))))
 
