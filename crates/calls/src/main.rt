@@ -1,0 +1,163 @@
+// Runs `award::award_single` and `award::award_multi` over a lent slice of award rows, and writes what each call answers and
+// every row as the call leaves it. Before each call every row says won and 7 cents.
+mod rows;
+
+use reader::Reading;
+use rows::Called;
+use tender::Answer;
+use tender::AwardRow;
+use tender::Kind;
+use tender::Tender;
+use tender::Window;
+
+// Writes the answer: awarded with cost and sum paid, or refused with number and place.
+fn tell_answer(answer: Answer) {
+    match answer {
+        Answer::Awarded(totals) => {
+            io::write_all(1, b"awarded ");
+            io::print_decimal(1, totals.cost);
+            io::write_all(1, b" ");
+            io::print_decimal(1, totals.paid);
+        }
+        Answer::Refused(r) => {
+            io::write_all(1, b"refused ");
+            io::print_decimal(1, tender::number(r));
+            io::write_all(1, b" ");
+            io::print_decimal(1, tender::place(r));
+        }
+    }
+    io::write_all(1, b"\n");
+}
+
+// Writes a row: won or lost, and the cents.
+fn tell_row(row: AwardRow) {
+    if row.won {
+        io::write_all(1, b"  won ");
+    } else {
+        io::write_all(1, b"  lost ");
+    }
+    io::print_decimal(1, row.cents);
+    io::write_all(1, b"\n");
+}
+
+// Writes the label, the answer and the five rows.
+fn tell(label: &[u8], called: Called) {
+    io::write_all(1, label);
+    io::write_all(1, b": ");
+    let answer = called.answer;
+    tell_answer(answer);
+    let rows = called.rows;
+    tell_row(rows[0]);
+    tell_row(rows[1]);
+    tell_row(rows[2]);
+    tell_row(rows[3]);
+    tell_row(rows[4]);
+}
+
+// Puts the tender to the award of a single tender, with five rows, and writes what it does.
+fn show_single(label: &[u8], tender: Tender, count: usize, bids: &[u64], windows: &[u64]) {
+    let sevens = [AwardRow {
+        won: true,
+        cents: 7,
+    }; 5];
+    tell(label, rows::single(tender, count, bids, windows, sevens));
+}
+
+// The same with the award of a multi tender.
+fn show_multi(label: &[u8], tender: Tender, count: usize, bids: &[u64], windows: &[u64]) {
+    let sevens = [AwardRow {
+        won: true,
+        cents: 7,
+    }; 5];
+    tell(label, rows::multi(tender, count, bids, windows, sevens));
+}
+
+fn tender_of(kind: Kind, start: u64, end: u64) -> Tender {
+    let window = Window { start, end };
+    Tender { kind, window }
+}
+
+// The tables hold six bids, of which the first `count` are put.
+fn single_cases(tender: Tender, bids: &[u64], windows: &[u64]) {
+    show_single(b"single, five bids", tender, 5, bids, windows);
+    show_single(b"single, four of them", tender, 4, bids, windows);
+    show_single(b"single, a row short", tender, 6, bids, windows);
+    show_single(
+        b"single, more bids stated than lent",
+        tender,
+        7,
+        bids,
+        windows,
+    );
+    let longer = tender_of(Kind::Single, 0, 101);
+    show_single(b"single, a minute in no bid", longer, 5, bids, windows);
+    show_single(b"single, minutes in one bid", tender, 2, bids, windows);
+    show_multi(b"single, put to the other award", tender, 5, bids, windows);
+}
+
+fn multi_cases(tender: Tender, bids: &[u64], windows: &[u64]) {
+    show_multi(b"multi, four bids", tender, 4, bids, windows);
+    show_multi(b"multi, five bids", tender, 5, bids, windows);
+    show_multi(b"multi, a row short", tender, 6, bids, windows);
+    let longer = tender_of(Kind::Multi, 0, 11);
+    show_multi(b"multi, a minute in no bid", longer, 4, bids, windows);
+    show_multi(b"multi, minutes in one bid", tender, 2, bids, windows);
+    show_single(b"multi, put to the other award", tender, 4, bids, windows);
+}
+
+// The first worked tender of paper 01, and a sixth bid.
+fn singles() {
+    let mut bids = [0u64; 24];
+    let mut windows = [0u64; 12];
+    let reading = reader::read(
+        b"(tender single 0 100)\n(bid 11 30 (0 50))\n(bid 12 40 (40 100))\n(bid 13 90 (0 100))\n(bid 14 35 (0 60))\n(bid 15 50 (60 100))\n(bid 16 60 (50 100))\n",
+        &mut bids,
+        &mut windows,
+    );
+    if let Reading::Accepted {
+        tender,
+        bids: _,
+        windows: _,
+    } = reading {
+        single_cases(tender, &bids, &windows);
+        bids[9] = 100000001;
+        show_single(
+            b"single, a price above the limit in row 3",
+            tender,
+            5,
+            &bids,
+            &windows,
+        );
+    }
+}
+
+// The third worked tender of paper 01, and two more bids.
+fn multis() {
+    let mut bids = [0u64; 24];
+    let mut windows = [0u64; 16];
+    let reading = reader::read(
+        b"(tender multi 0 10)\n(bid 21 12 (0 4) (6 8))\n(bid 22 15 (4 10))\n(bid 23 30 (0 10))\n(bid 24 9 (8 10) (4 5))\n(bid 25 31 (0 10))\n(bid 26 32 (0 10))\n",
+        &mut bids,
+        &mut windows,
+    );
+    if let Reading::Accepted {
+        tender,
+        bids: _,
+        windows: _,
+    } = reading {
+        multi_cases(tender, &bids, &windows);
+        bids[6] = 3;
+        show_multi(
+            b"multi, a window skipped in row 2",
+            tender,
+            4,
+            &bids,
+            &windows,
+        );
+    }
+}
+
+fn main() {
+    singles();
+    multis();
+}
