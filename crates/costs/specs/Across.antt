@@ -1,4 +1,4 @@
--- The least cost without bid k: the bids that begin in its window once more, and a scan across its end.
+-- The least cost without bid k: the bids that begin in its cells once more, and a scan across its end.
 use mathlib.Core.Path.{_≡_}
 use mathlib.Core.Bool.{cond, _&&_}
 use mathlib.Core.List.{List}

@@ -1,4 +1,4 @@
--- The auction's winners and what each is paid, by the laws of bids with one window each. Assumes nothing.
+-- The auction's winners and what each is paid, by the laws of bids with one run of cells each. Assumes nothing.
 use mathlib.Core.Path.{_≡_, refl, sym, ap, _∙_, fun-ext}
 use mathlib.Core.Bool.{Bool, true, _&&_, _||_}
 use mathlib.Core.List.{List}

@@ -1,4 +1,4 @@
--- The sets that cover the cells below t, of bids with one window each, are such as Prefix asks for; and so are those of them without bid k. Assumes nothing.
+-- The sets that cover the cells below t, of bids with one run of cells each, are such as Prefix asks for; and so are those of them without bid k. Assumes nothing.
 use mathlib.Core.Path.{_≡_, refl, sym, ap, _∙_}
 use mathlib.Core.Logic.{_⊎_, inl, inr}
 use mathlib.Core.Bool.{Bool, true, false, not, false≢true, _&&_, _||_}

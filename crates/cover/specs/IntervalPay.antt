@@ -1,4 +1,4 @@
--- What covering costs without bid k: split at the last cell of its window. Assumes nothing.
+-- What covering costs without bid k: split at its last cell. Assumes nothing.
 use mathlib.Core.Path.{_≡_, sym, ap, _∙_}
 use mathlib.Core.Bool.{Bool}
 use Prim.Native.Nat.{ℕ, _≤_, _<_}

@@ -1,4 +1,4 @@
--- Bids with one window each: the least set that covers the cells below t, from the least sets that cover the cells below a bid's start. Assumes nothing.
+-- Bids with one run of cells each: the least set that covers the cells below t, from the least sets that cover the cells below a bid's start. Assumes nothing.
 use mathlib.Core.Path.{_≡_, refl, sym, ap, _∙_}
 use mathlib.Core.Bool.{Bool, true, false, _&&_, cond}
 use Prim.Native.Nat.{ℕ, _+_, _^_, _≤_, _<_}

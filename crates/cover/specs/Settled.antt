@@ -14,7 +14,7 @@ unfoldable pub listed : {A : Type 0} → ℕ → (ℕ → A) → List A
 listed zero f = []
 listed (suc n) f = f 0 ∷ listed n (λ i. f (suc i))
 
--- bids of one window each: bid i has the cells from a i up to b i
+-- bids of one run of cells each: bid i has the cells from a i up to b i
 unfoldable pub spans : List ℕ → List ℕ → ℕ → ℕ → Bool
 spans a b i x = leb (getD a i 0) x && ltb x (getD b i 0)
 
