@@ -17,7 +17,8 @@ use Rattle.tables.specs.Cells.{cellsOf, hasOf, pricesOf}
 use Rattle.tables.specs.Alike.{named, Alike}
 use Rattle.tender.specs.declared.AwardRow.{AwardRow}
 use Rattle.tender.specs.declared.Answer.{Answer}
-use Rattle.outcome.specs.Award.{won, awarded, number, told, Promise}
+use Rattle.outcome.specs.Award.{won, awarded, number}
+use Rattle.award.specs.Promise.{told, Promise}
 use Rattle.award.specs.Gain.{rowFor, gain, AtMost}
 use Rattle.award.specs.Right.{Callable, Bidders, IsAward, OneAnswer, LeastCover, WinnerAt, PaidByEight, NoGain}
 use Rattle.award.specs.OneAnswerLaws as one

@@ -1,3 +1,4 @@
+pub mod Promise
 pub mod Gain
 pub mod Right
 pub mod Demands

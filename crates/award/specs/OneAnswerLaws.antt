@@ -22,7 +22,8 @@ use Rattle.tables.specs.Cells.{cellsOf, hasOf, pricesOf}
 use Rattle.tables.specs.AlikeLaws.{prices-count}
 use Rattle.tender.specs.declared.AwardRow.{AwardRow}
 use Rattle.tender.specs.declared.Answer.{Answer}
-use Rattle.outcome.specs.Award.{Outcome, awarded, declined, filled, costOf, paidOf, settled, number, place, InBids, lentAfter, told, Promise}
+use Rattle.outcome.specs.Award.{Outcome, awarded, declined, filled, costOf, paidOf, settled, number, place, InBids}
+use Rattle.award.specs.Promise.{lentAfter, told, Promise}
 use Rattle.award.specs.Right.{Callable, Bidders, IsAward, IsRefusal, OneAnswer, tables-break-a-rule, rows-too-few, minute-uncovered, one-bidder, award}
 use Rattle.outcome.specs.AwardLaws.{settled-is, award-none, award-nine}
 

@@ -19,7 +19,8 @@ use Rattle.tables.specs.Cells.{cellsOf, hasOf, pricesOf}
 use Rattle.tables.specs.Alike.{named, Alike}
 use Rattle.tables.specs.AlikeLaws.{prices-count, price-named}
 use Rattle.tender.specs.declared.AwardRow.{AwardRow}
-use Rattle.outcome.specs.Award.{won, Outcome, awarded, refused, number, place, Answers, lentAfter}
+use Rattle.outcome.specs.Award.{won, Outcome, awarded, refused, number, place, Answers}
+use Rattle.award.specs.Promise.{lentAfter}
 use Rattle.award.specs.Gain.{rowFor, gain, AtMost}
 use Rattle.award.specs.Right.{LeastCover, WinnerAt, PaidByEight}
 use Rattle.outcome.specs.AwardLaws.{won-single, cents-single, no-fault, award-awarded, rows-count}

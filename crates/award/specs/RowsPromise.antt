@@ -11,10 +11,11 @@ use Rattle.tender.specs.declared.Totals.{Totals}
 use Rattle.tender.specs.declared.AwardRow.{AwardRow}
 use Rattle.tender.specs.declared.Answer.{Answer}
 use Rattle.tender.specs.declared.Answer.the-variants.{Awarded, Refused}
-use Rattle.outcome.specs.Award.{awarded, Answers, lentAfter, told, Promise}
+use Rattle.outcome.specs.Award.{awarded, Answers}
+use Rattle.award.specs.Promise.{lentAfter, told, Promise, rowsFilled}
 use Rattle.layout.specs.LayoutLaws.{orderly}
 use borrow.Author.Tests.{ltb-false}
-use Rattle.outcome.specs.Plain.{rowsIn, toldIn, rowsFilled, PlainPromise}
+use Rattle.outcome.specs.Plain.{rowsIn, toldIn, PlainPromise}
 use Rattle.cover.specs.SettledLaws.{length-listed}
 use Rattle.outcome.specs.AwardLaws.{award-awarded}
 

@@ -1,6 +1,7 @@
 // The awards on tables. `award_single` and `award_multi` answer every call over a lent slice of award rows, and `settle`
 // every call over plain cells: a flag and the cents paid for each bid. None of them requires anything.
-// `specs/` has how the promise over plain cells gives the one on rows (`RowsPromise`), a bidder's gain, and the demands.
+// `specs/` has what a call promises on rows (`Promise`), how the promise of plain cells gives it (`RowsPromise`), a bidder's gain,
+// and the demands.
 use tender::Answer;
 use tender::AwardRow;
 use tender::Kind;
@@ -10,8 +11,8 @@ ghost use Prim.Native.Nat.{ℕ, _≤_, min};
 ghost use mathlib.Core.List.{_++_};
 ghost use lib.ListN.{length, drop};
 ghost use Rattle.tender.specs.declared.Kind.the-variants.{Single, Multi};
-ghost use Rattle.outcome.specs.Award.{Promise};
-ghost use Rattle.outcome.specs.Plain.{PlainPromise, rowOf, rowsIn, rowsFilled};
+ghost use Rattle.award.specs.Promise.{Promise, rowsFilled};
+ghost use Rattle.outcome.specs.Plain.{PlainPromise, rowOf, rowsIn};
 
 fn lesser(a: usize, b: usize) -> usize
     ensures { λ r. ⌜ r ≡ min a b ⌝ }

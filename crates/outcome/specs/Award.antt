@@ -1,10 +1,10 @@
 -- The whole answer of either award to its tables (paper 01, "Who wins and what is paid" and "What each operation declines").
 use mathlib.Core.Path.{_≡_}
-use mathlib.Core.List.{List, _++_}
+use mathlib.Core.List.{List}
 use mathlib.Core.Bool.{Bool, cond, not}
 use mathlib.Core.Option.{Option, none, some}
 use Prim.Native.Nat.{ℕ, _-_, _≤_, _<_}
-use lib.ListN.{length, getD, take, drop}
+use lib.ListN.{length, getD}
 use lib.Dec.{ltb}
 use Rattle.tender.specs.declared.Kind.{Kind}
 use Rattle.tender.specs.declared.Kind.the-variants.{Single, Multi}
@@ -21,8 +21,6 @@ use Rattle.cover.specs.Settled.{listed}
 use Rattle.tables.specs.Faults.{faultOf}
 use Rattle.tables.specs.Cells.{cellsOf, hasOf, pricesOf}
 use Rattle.tender.specs.declared.AwardRow.{AwardRow}
-use Rattle.tender.specs.declared.Answer.{Answer}
-use Rattle.tender.specs.declared.Answer.the-variants.{Awarded, Refused}
 
 -- Over L cells, where bid i of the prices ps has the cell x if `has i x`: bid i wins in a single tender if it is in the least cover, in a multi tender if the greedy run takes it
 unfoldable pub won : Kind → (ℕ → ℕ → Bool) → List ℕ → ℕ → ℕ → Bool
@@ -97,18 +95,3 @@ pub record Answers (k : Kind) (t : Tender) (n : ℕ) (bids windows : List ℕ) (
   pub is : o ≡ awardOf k t n bids windows lent (place o)
   pub nobody : number o ≡ numberOf (MinuteUncovered (place o)) → InBids t n bids windows (place o) 0
   pub alone : number o ≡ numberOf (OneBidder (place o)) → InBids t n bids windows (place o) 1
-
--- the lent award rows after the call: rows past the last bid stay, and all of them where the award declines
-unfoldable pub lentAfter : List AwardRow → Outcome → List AwardRow
-lentAfter old (awarded rows cost paid) = rows ++ drop (length rows) old
-lentAfter old (refused n at) = old
-
--- what a call on n bids told: its answer, and the first n of the lent rows where it awards
-unfoldable pub told : ℕ → List AwardRow → Answer → Outcome
-told n rows (Awarded totals) = awarded (take n rows) (totals .cost) (totals .paid)
-told n rows (Refused r) = declined r
-
--- the promise of a call: it leaves the lent rows `new` and answers a
-pub record Promise (k : Kind) (t : Tender) (n : ℕ) (bids windows : List ℕ) (old new : List AwardRow) (a : Answer) : Type 0 where
-  pub answers : Answers k t n bids windows (length old) (told n new a)
-  pub rows : new ≡ lentAfter old (told n new a)

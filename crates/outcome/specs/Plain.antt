@@ -42,8 +42,3 @@ pub record PlainPromise (k : Kind) (t : Tender) (n : ℕ) (bids windows : List �
   pub answers : Answers k t n bids windows lent (toldIn n won′ cents′ a)
   pub won-cells : won′ ≡ wonAfter won (toldIn n won′ cents′ a)
   pub cents-cells : cents′ ≡ centsAfter cents (toldIn n won′ cents′ a)
-
--- the award rows that an answer on n bids fills: one for each bid where it awards, none where it declines
-unfoldable pub rowsFilled : Answer → ℕ → ℕ
-rowsFilled (Awarded totals) n = n
-rowsFilled (Refused r) n = 0

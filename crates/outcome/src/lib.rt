@@ -1,5 +1,5 @@
 // The outcome of a tender of either kind over plain cells: a refusal, 9 to 12, or a flag and the cents paid for each bid, and
-// the totals. `specs/` has what an award answers and promises on rows (`Award`) and the promise over plain cells (`Plain`).
+// the totals. `specs/` has what an award answers (`Award`) and what is promised of plain cells (`Plain`).
 use bidders::Thin;
 use tables::Check;
 use tender::Answer;

@@ -53,8 +53,8 @@ use Rattle.tender.proofs.Tender as Ten
 use Rattle.tender.proofs.Tender.Laws as Ten′
 use Rattle.tender.specs.declared.Answer.{Answer}
 use Rattle.tender.specs.declared.AwardRow.{AwardRow}
-use Rattle.outcome.specs.Award.{Promise}
-use Rattle.outcome.specs.Plain.{rowsIn, rowsFilled, PlainPromise}
+use Rattle.award.specs.Promise.{Promise, rowsFilled}
+use Rattle.outcome.specs.Plain.{rowsIn, PlainPromise}
 use Rattle.award.specs.RowsPromise.{rows-fit, filled-promise}
 use Rattle.award.proofs.LocalArray.{repeated, repeated-elements, as-room, lends, comes-back, lends-shared, comes-back-shared}
 use Rattle.tender.proofs.Answer as Ans

@@ -2,7 +2,7 @@
 use mathlib.Core.Path.{sym, ap}
 use borrow.Author.Needs.{needs}
 use Rattle.tender.specs.declared.Answer.{Answer}
-use Rattle.outcome.specs.Plain.{rowsFilled}
+use Rattle.award.specs.Promise.{rowsFilled}
 use Rattle.award.proofs.rows_filled.Statement.{statement}
 use Rattle.award.proofs.rows_filled.Tie as tie
 use Rattle.award.proofs.rows_filled.Reads as reads
