@@ -1,11 +1,10 @@
 -- Each tender has a right outcome: where 11 or 12 is due, such a minute exists. Assumes nothing.
 use mathlib.Core.Path.{_≡_, refl, sym, ap, _∙_}
 use mathlib.Core.List.{List}
-use mathlib.Core.Bool.{Bool, true, false, cond, not, _&&_, true≢false}
+use mathlib.Core.Bool.{Bool, true, false, cond, _&&_, true≢false}
 use mathlib.Core.Option.{Option, none, some}
-use Prim.Native.Nat.{ℕ, zero, suc, _+_, _-_, _<_}
+use Prim.Native.Nat.{ℕ, zero, suc, _+_, _<_}
 use native.Mathlib.Omega.{arith}
-use lib.ListN.{length}
 use lib.Dec.{ltb, leb}
 use borrow.Author.Tests.{leb-true, leb-false}
 use Rattle.tender.specs.declared.Kind.{Kind}
@@ -16,9 +15,8 @@ use Rattle.cover.specs.Sets.{all, bidders, each}
 use Rattle.cover.specs.SetLaws.{all-at}
 use Rattle.tables.specs.Faults.{faultOf}
 use Rattle.tables.specs.Cells.{cellsOf, hasOf, pricesOf}
-use Rattle.tables.specs.AlikeLaws.{prices-count}
-use Rattle.outcome.specs.Award.{Outcome, awarded, declined, filled, costOf, paidOf, settled, awardOf, number, place, InBids, Answers}
-use Rattle.outcome.specs.AwardLaws.{settled-is, award-none, award-nine}
+use Rattle.outcome.specs.Award.{Outcome, awarded, declined, filled, costOf, paidOf, settled, number, place, Answers}
+use Rattle.outcome.specs.AwardLaws.{award-none, award-nine, award-settles, in-bids}
 
 pub record Failing (P : ℕ → Bool) (L : ℕ) : Type 0 where
   pub at : ℕ
@@ -45,18 +43,6 @@ module _ (k : Kind) (t : Tender) (n : ℕ) (bids windows : List ℕ) (lent : ℕ
   abbrev ps : List ℕ
   ps = pricesOf (rowsOf n bids)
 
-  in-bids : (x m : ℕ) → x < cellsOf t → bidders has n x ≡ m → InBids t n bids windows (t .window .start + x) m
-  unfolding cellsOf
-  in-bids x m l e =
-      let s : t .window .start + x - t .window .start ≡ x = omega arith in
-      record { from = omega arith; to = omega arith; bids-with-it = ap (bidders has n) s ∙ e }
-
-  settles : faultOf k t n bids windows ≡ none → ltb lent n ≡ false → (a b : Bool) → each has n (cellsOf t) 1 ≡ a → each has n (cellsOf t) 2 ≡ b → (m : ℕ) → awardOf k t n bids windows lent m
-      ≡ cond (not a) (declined (MinuteUncovered m)) (cond (not b) (declined (OneBidder m)) (awarded (filled k has ps (cellsOf t)) (costOf k has ps (cellsOf t)) (paidOf k has ps (cellsOf t))))
-  settles f g a b d e m =
-      let c : length ps ≡ n = prices-count n bids in
-      award-none k t n bids windows lent m f ∙ ap (λ z. cond z (declined RowsTooFew) (settled k has ps (cellsOf t) m)) g ∙ settled-is k has ps (cellsOf t) m a b (rw c d) (rw c e)
-
   pub answered : Answered k t n bids windows lent
   unfolding number place each
   answered = fault (faultOf k t n bids windows) refl
@@ -67,8 +53,8 @@ module _ (k : Kind) (t : Tender) (n : ℕ) (bids windows : List ℕ) (lent : ℕ
           record {
             outcome = declined (MinuteUncovered (t .window .start + w .at));
             right = record {
-              is = sym (settles f g false b d e (t .window .start + w .at));
-              nobody = λ z. in-bids (w .at) 0 (w .below) (omega (arith, leb-false 1 (bidders has n (w .at)) (w .fails)));
+              is = sym (award-settles k t n bids windows lent f g false b d e (t .window .start + w .at));
+              nobody = λ z. in-bids t n bids windows (w .at) 0 (w .below) (omega (arith, leb-false 1 (bidders has n (w .at)) (w .fails)));
               alone = λ z. absurd (omega arith);
             };
           }
@@ -78,14 +64,14 @@ module _ (k : Kind) (t : Tender) (n : ℕ) (bids windows : List ℕ) (lent : ℕ
           record {
             outcome = declined (OneBidder (t .window .start + w .at));
             right = record {
-              is = sym (settles f g true false d e (t .window .start + w .at));
+              is = sym (award-settles k t n bids windows lent f g true false d e (t .window .start + w .at));
               nobody = λ z. absurd (omega arith);
-              alone = λ z. in-bids (w .at) 1 (w .below) (omega (arith, leb-false 2 (bidders has n (w .at)) (w .fails)));
+              alone = λ z. in-bids t n bids windows (w .at) 1 (w .below) (omega (arith, leb-false 2 (bidders has n (w .at)) (w .fails)));
             };
           }
       cover f g true true d e = record {
         outcome = awarded (filled k has ps (cellsOf t)) (costOf k has ps (cellsOf t)) (paidOf k has ps (cellsOf t));
-        right = record { is = sym (settles f g true true d e 0); nobody = λ z. absurd (omega arith); alone = λ z. absurd (omega arith) };
+        right = record { is = sym (award-settles k t n bids windows lent f g true true d e 0); nobody = λ z. absurd (omega arith); alone = λ z. absurd (omega arith) };
       }
 
       rows : faultOf k t n bids windows ≡ none → (b : Bool) → ltb lent n ≡ b → Answered k t n bids windows lent

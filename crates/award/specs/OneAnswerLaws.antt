@@ -25,7 +25,7 @@ use Rattle.tender.specs.declared.Answer.{Answer}
 use Rattle.outcome.specs.Award.{Outcome, awarded, declined, filled, costOf, paidOf, settled, number, place, InBids}
 use Rattle.award.specs.Promise.{lentAfter, told, Promise}
 use Rattle.award.specs.Right.{Callable, Bidders, IsAward, IsRefusal, OneAnswer, tables-break-a-rule, rows-too-few, minute-uncovered, one-bidder, award}
-use Rattle.outcome.specs.AwardLaws.{settled-is, award-none, award-nine}
+use Rattle.outcome.specs.AwardLaws.{award-none, award-nine, award-settles}
 
 module _ (k : Kind) (t : Tender) (n : ℕ) (bids windows : List ℕ) (old new : List AwardRow) (a : Answer) (p : Promise k t n bids windows old new a) where
   abbrev o : Outcome
@@ -53,9 +53,7 @@ module _ (k : Kind) (t : Tender) (n : ℕ) (bids windows : List ℕ) (old new : 
 
   cover : Callable k t n bids windows (length old) → ltb (length old) n ≡ false → (b c : Bool) → each has n L 1 ≡ b → each has n L 2 ≡ c → OneAnswer k t n bids windows old new o
   unfolding number
-  cover s g b c d e = go b c d e (
-      p .answers .is ∙ award-none k t n bids windows (length old) (place o) (s .sound) ∙ ap (λ z. cond z (declined RowsTooFew) (settled k has ps L (place o))) g
-      ∙ settled-is k has ps L (place o) b c (rw (prices-count n bids) d) (rw (prices-count n bids) e))
+  cover s g b c d e = go b c d e (p .answers .is ∙ award-settles k t n bids windows (length old) (s .sound) g b c d e (place o))
     where
       go : (b c : Bool) → each has n L 1 ≡ b → each has n L 2 ≡ c →
           o ≡ cond (not b) (declined (MinuteUncovered (place o))) (cond (not c) (declined (OneBidder (place o))) (awarded (filled k has ps L) (costOf k has ps L) (paidOf k has ps L))) → OneAnswer k t n bids windows old new o

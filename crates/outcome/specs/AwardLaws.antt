@@ -3,7 +3,7 @@ use mathlib.Core.Path.{_≡_, refl, sym, ap, _∙_}
 use mathlib.Core.List.{List}
 use mathlib.Core.Bool.{Bool, true, false, cond, not}
 use mathlib.Core.Option.{Option, none, some}
-use Prim.Native.Nat.{ℕ}
+use Prim.Native.Nat.{ℕ, _+_, _-_, _<_}
 use native.Mathlib.Omega.{arith}
 use lib.ListN.{length}
 use lib.Dec.{ltb}
@@ -13,7 +13,7 @@ use Rattle.tender.specs.declared.Tender.{Tender}
 use Rattle.tender.specs.declared.AwardRow.{AwardRow}
 use Rattle.tender.specs.declared.Refusal.the-variants.{BadTables, RowsTooFew, MinuteUncovered, OneBidder}
 use Rattle.tender.specs.Tables.{rowsOf}
-use Rattle.cover.specs.Sets.{bit, covers, cells, each}
+use Rattle.cover.specs.Sets.{bit, covers, cells, bidders, each}
 use Rattle.cover.specs.LeastCover.{winners, vcgPaid}
 use Rattle.cover.specs.Greedy.{wins}
 use Rattle.cover.specs.CriticalPrice.{criticalPaid}
@@ -21,7 +21,7 @@ use Rattle.cover.specs.SettledLaws.{length-listed}
 use Rattle.tables.specs.Faults.{faultOf}
 use Rattle.tables.specs.Cells.{cellsOf, hasOf, pricesOf}
 use Rattle.tables.specs.AlikeLaws.{prices-count}
-use Rattle.outcome.specs.Award.{won, cents, Outcome, awarded, declined, filled, costOf, paidOf, settled, judged, awardOf, number}
+use Rattle.outcome.specs.Award.{won, cents, Outcome, awarded, declined, filled, costOf, paidOf, settled, judged, awardOf, number, InBids}
 
 pub won-single : (has : ℕ → ℕ → Bool) (ps : List ℕ) (L i n : ℕ) → length ps ≡ n → won Single has ps L i ≡ bit (winners (covers has n L) ps) i
 unfolding won
@@ -91,6 +91,23 @@ judged-nine (some p) r a e h = absurd (h (ap number e))
 
 pub no-fault : (k : Kind) (t : Tender) (n : ℕ) (bids windows : List ℕ) (lent m : ℕ) (a : Outcome) → a ≡ awardOf k t n bids windows lent m → (number a ≡ 9 → ⊥) → faultOf k t n bids windows ≡ none
 no-fault k t n bids windows lent m a e h = judged-nine (faultOf k t n bids windows) _ a (e ∙ award-is k t n bids windows lent m) h
+
+-- where no rule is broken and each bid has an award row, what settles is answered
+pub award-settles : (k : Kind) (t : Tender) (n : ℕ) (bids windows : List ℕ) (lent : ℕ) → faultOf k t n bids windows ≡ none → ltb lent n ≡ false → (a b : Bool) →
+    each (hasOf t (rowsOf n bids) windows) n (cellsOf t) 1 ≡ a → each (hasOf t (rowsOf n bids) windows) n (cellsOf t) 2 ≡ b → (m : ℕ) → awardOf k t n bids windows lent m
+    ≡ cond (not a) (declined (MinuteUncovered m)) (cond (not b) (declined (OneBidder m))
+    (awarded (filled k (hasOf t (rowsOf n bids) windows) (pricesOf (rowsOf n bids)) (cellsOf t)) (costOf k (hasOf t (rowsOf n bids) windows) (pricesOf (rowsOf n bids)) (cellsOf t)) (paidOf k (hasOf t (rowsOf n bids) windows) (pricesOf (rowsOf n bids)) (cellsOf t))))
+award-settles k t n bids windows lent f g a b d e m =
+    award-none k t n bids windows lent m f
+    ∙ ap (λ z. cond z (declined RowsTooFew) (settled k (hasOf t (rowsOf n bids) windows) (pricesOf (rowsOf n bids)) (cellsOf t) m)) g
+    ∙ settled-is k (hasOf t (rowsOf n bids) windows) (pricesOf (rowsOf n bids)) (cellsOf t) m a b (rw (prices-count n bids) d) (rw (prices-count n bids) e)
+
+-- a cell that is in m bids is a minute of the tender in m bids
+pub in-bids : (t : Tender) (n : ℕ) (bids windows : List ℕ) (x m : ℕ) → x < cellsOf t → bidders (hasOf t (rowsOf n bids) windows) n x ≡ m → InBids t n bids windows (t .window .start + x) m
+unfolding cellsOf
+in-bids t n bids windows x m l e =
+    let s : t .window .start + x - t .window .start ≡ x = omega arith in
+    record { from = omega arith; to = omega arith; bids-with-it = ap (bidders (hasOf t (rowsOf n bids) windows) n) s ∙ e }
 
 -- what an answer that awards says
 pub record Awarded (k : Kind) (t : Tender) (n : ℕ) (bids windows : List ℕ) (lent : ℕ) (rows : List AwardRow) (cost paid : ℕ) : Type 0 where

@@ -1,9 +1,9 @@
 -- How the answer over plain cells comes about: from a fault, too few rows, a cell in no bid or in one, or what a core settles. Assumes nothing.
 use mathlib.Core.Path.{_≡_, refl, sym, ap, _∙_}
 use mathlib.Core.List.{List, _++_, map}
-use mathlib.Core.Bool.{Bool, true, false, cond, not}
+use mathlib.Core.Bool.{Bool, true, false, cond}
 use mathlib.Core.Option.{none, some}
-use Prim.Native.Nat.{ℕ, _+_, _-_, _≤_, _<_}
+use Prim.Native.Nat.{ℕ, _+_, _≤_, _<_}
 use native.Mathlib.Omega.{arith}
 use lib.ListN.{length, getD, drop, List·getD-append}
 use lib.Dec.{leb, eqb}
@@ -30,9 +30,9 @@ use Rattle.tables.specs.Cells.{cellsOf, hasOf, pricesOf}
 use Rattle.tables.specs.AlikeLaws.{prices-count}
 use Rattle.tender.specs.declared.Answer.{Answer}
 use Rattle.tender.specs.declared.Answer.the-variants.{Awarded, Refused}
-use Rattle.outcome.specs.Award.{won, cents, awarded, declined, filled, costOf, paidOf, settled, judged, awardOf, number, place, InBids, Answers}
+use Rattle.outcome.specs.Award.{won, cents, awarded, declined, filled, costOf, paidOf, settled, judged, awardOf, number, place, Answers}
 use Rattle.outcome.specs.Plain.{rowsIn, toldIn, wonAfter, centsAfter, PlainPromise}
-use Rattle.outcome.specs.AwardLaws.{won-single, cents-single, won-multi, cents-multi, settled-is, award-none, award-nine}
+use Rattle.outcome.specs.AwardLaws.{won-single, cents-single, won-multi, cents-multi, award-none, award-nine, award-settles, in-bids}
 
 -- how many bidders each cell has
 
@@ -77,31 +77,20 @@ module _ (k : Kind) (t : Tender) (n : ℕ) (bids windows : List ℕ) (lent : ℕ
     })
 
     module _ (enough : n ≤ lent) where
-      settles : (a b : Bool) → each has n L 1 ≡ a → each has n L 2 ≡ b → (m : ℕ) → awardOf k t n bids windows lent m
-          ≡ cond (not a) (declined (MinuteUncovered m)) (cond (not b) (declined (OneBidder m)) (awarded (filled k has ps L) (costOf k has ps L) (paidOf k has ps L)))
-      settles a b d e m =
-          award-none k t n bids windows lent m f ∙ ap (λ b. cond b (declined RowsTooFew) (settled k has ps L m)) (le-ltb lent n enough) ∙ settled-is k has ps L m a b (rw (prices-count n bids) d) (rw (prices-count n bids) e)
-
-      in-bids : (x m : ℕ) → x < L → bidders has n x ≡ m → InBids t n bids windows (t .window .start + x) m
-      unfolding cellsOf
-      in-bids x m l e =
-          let s : t .window .start + x - t .window .start ≡ x = omega arith in
-          record { from = omega arith; to = omega arith; bids-with-it = ap (bidders has n) s ∙ e }
-
       pub eleven : (x : ℕ) → x < L → bidders has n x ≡ 0 → PlainPromise k t n bids windows lent ow oc ow oc (Refused (MinuteUncovered (t .window .start + x)))
       unfolding toldIn number place
       eleven x l e = refuses (MinuteUncovered (t .window .start + x)) (record {
-        is = sym (settles false (each has n L 2) (each-fails has n L 1 x l (omega arith)) refl (t .window .start + x));
-        nobody = λ z. in-bids x 0 l e;
+        is = sym (award-settles k t n bids windows lent f (le-ltb lent n enough) false (each has n L 2) (each-fails has n L 1 x l (omega arith)) refl (t .window .start + x));
+        nobody = λ z. in-bids t n bids windows x 0 l e;
         alone = λ z. absurd (omega arith);
       })
 
       pub twelve : (x : ℕ) → each has n L 1 ≡ true → x < L → bidders has n x ≡ 1 → PlainPromise k t n bids windows lent ow oc ow oc (Refused (OneBidder (t .window .start + x)))
       unfolding toldIn number place
       twelve x d l e = refuses (OneBidder (t .window .start + x)) (record {
-        is = sym (settles true false d (each-fails has n L 2 x l (omega arith)) (t .window .start + x));
+        is = sym (award-settles k t n bids windows lent f (le-ltb lent n enough) true false d (each-fails has n L 2 x l (omega arith)) (t .window .start + x));
         nobody = λ z. absurd (omega arith);
-        alone = λ z. in-bids x 1 l e;
+        alone = λ z. in-bids t n bids windows x 1 l e;
       })
 
       -- a core settles by the flags w and the payments c, which are those of the definitions
@@ -167,7 +156,7 @@ module _ (k : Kind) (t : Tender) (n : ℕ) (bids windows : List ℕ) (lent : ℕ
         pub awards : PlainPromise k t n bids windows lent ow oc nw nc (Awarded totals)
         awards = record {
           answers = record {
-            is = outcome-is ∙ sym (settles true true (two-one has n L two) two (place (toldIn n nw nc (Awarded totals))));
+            is = outcome-is ∙ sym (award-settles k t n bids windows lent f (le-ltb lent n enough) true true (two-one has n L two) two (place (toldIn n nw nc (Awarded totals))));
             nobody = λ z. absurd (omega (arith, number-is));
             alone = λ z. absurd (omega (arith, number-is));
           };
