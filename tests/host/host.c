@@ -88,6 +88,20 @@ static void worked(void)
     LISTS("(tender multi 0 10)\n(bid 1 0 (0 10))\n(bid 2 0 (0 10))\n", "(award multi 0 10)\n(win 1 0)\n(total 0 0)\n");
 }
 
+/* 11 and 12 name the earliest minute, counted from 0 and not from the tender's start; 11 stands before 12 wherever it falls */
+static void earliest(void)
+{
+    LISTS("(tender single 0 10)\n(bid 1 1 (0 5))\n(bid 2 1 (5 10))\n", "(refused 12 0)\n");
+    LISTS("(tender multi 0 10)\n(bid 1 1 (0 5))\n(bid 2 1 (5 10))\n", "(refused 12 0)\n");
+    LISTS("(tender single 480 600)\n(bid 1 1 (480 500))\n(bid 2 1 (480 500))\n(bid 3 1 (510 600))\n(bid 4 1 (510 600))\n", "(refused 11 500)\n");
+    LISTS("(tender single 0 9)\n(bid 1 1 (0 7))\n(bid 2 1 (0 3))\n(bid 3 1 (4 7))\n(bid 4 1 (8 9))\n", "(refused 11 7)\n");
+    LISTS("(tender multi 0 9)\n(bid 1 1 (0 7))\n(bid 2 1 (0 3) (4 7) (8 9))\n", "(refused 11 7)\n");
+    LISTS("(tender multi 0 128)\n(bid 1 1 (0 64))\n(bid 2 1 (0 64))\n(bid 3 1 (65 128))\n(bid 4 1 (65 128))\n", "(refused 11 64)\n");
+    LISTS("(tender multi 0 128)\n(bid 1 1 (0 63))\n(bid 2 1 (0 128))\n(bid 3 1 (64 128))\n", "(refused 12 63)\n");
+    LISTS("(tender multi 100 300)\n(bid 1 1 (0 10080))\n(bid 2 1 (0 163) (164 10080))\n", "(refused 12 163)\n");
+    LISTS("(tender multi 10000 10080)\n(bid 1 1 (0 10079))\n(bid 2 1 (0 10079))\n", "(refused 11 10079)\n");
+}
+
 static void refusals(void)
 {
     static char big[70000];
@@ -108,6 +122,7 @@ static void refusals(void)
     LISTS("(tender single 0 100)\n(bid 1 1 (0 1) (2 3))\n", "(refused 7 2)\n");
     LISTS("(tender multi 0 1)\n", "(refused 11 0)\n");
     LISTS("(tender single 3 4)\n(bid 1 1 (0 10))\n", "(refused 12 3)\n");
+    earliest();
     size_t n = (size_t)sprintf(big, "(tender multi 0 10)\n(bid 1 1");
     for (int i = 0; i < 33; i++) n += (size_t)sprintf(big + n, " (0 1)");
     n += (size_t)sprintf(big + n, ")\n");
@@ -129,7 +144,7 @@ static unsigned below(unsigned n)
 
 static size_t random_text(char *s)
 {
-    unsigned start = below(30), cells = 1 + below(40), n = below(9), single = below(2);
+    unsigned start = below(30), cells = 1 + below(below(8) ? 40 : 200), n = below(9), single = below(2);
     size_t at = (size_t)sprintf(s, "(tender %s %u %u)\n", single ? "single" : "multi", start, start + cells);
     for (unsigned i = 0; i < n; i++) {
         at += (size_t)sprintf(s + at, "(bid %u %u", 1 + i * 7 + below(7), below(4) ? below(50) : below(5));
@@ -157,19 +172,11 @@ static size_t mutated(char *s, size_t n)
     return n;
 }
 
-/* the list is the second implementation's, but that 11 and 12 may name any such minute */
+/* the list is the second implementation's, byte for byte */
 static bool agrees(const uint8_t *text, size_t n, const uint8_t *out, size_t k)
 {
     static char other[1 << 16];
-    size_t w = second_list(text, n, other, sizeof other);
-    if (k == w && !memcmp(out, other, w)) return true;
-    int no;
-    long place;
-    char line[64] = {0};
-    if (k >= sizeof line) return false;
-    memcpy(line, out, k);
-    return sscanf(line, "(refused %d %ld)", &no, &place) == 2 && (no == 11 || no == 12)
-        && !memcmp(other, line, 12) && second_bidders(text, n, place) == no - 11;
+    return k == second_list(text, n, other, sizeof other) && !memcmp(out, other, k);
 }
 
 static void random_texts(long rounds)

@@ -221,11 +221,3 @@ size_t second_list(const uint8_t *text, size_t len, char *list, size_t room)
     }
     return at + (size_t)snprintf(list + at, room - at, "(total %lld %lld)\n", (long long)cost, (long long)sum);
 }
-
-int second_bidders(const uint8_t *text, size_t len, long minute)
-{
-    static _Thread_local Tender t;
-    long place;
-    if (read_text(text, len, &t, &place) || minute < t.start || minute >= t.end) return -1;
-    return bidders(&t, minute);
-}

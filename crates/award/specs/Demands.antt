@@ -1,6 +1,6 @@
 -- The demands, each proved by citing. `Promise k ..` says of a call of the award of the kind k, made with n bids stated and the award rows `old` lent, that it answers a and
 -- leaves the rows `new`; `told n new a` is what it told. `award_single` and `award_multi` keep it, and so does `settle`, its cells read as rows (`RowsPromise`). Assumes nothing.
-use mathlib.Core.Path.{_≡_}
+use mathlib.Core.Path.{_≡_, sym, _∙_}
 use mathlib.Core.List.{List, _++_}
 use mathlib.Core.Bool.{true}
 use Prim.Native.Nat.{ℕ, _≤_, _<_}
@@ -18,6 +18,7 @@ use Rattle.tables.specs.Alike.{named, Alike}
 use Rattle.tender.specs.declared.AwardRow.{AwardRow}
 use Rattle.tender.specs.declared.Answer.{Answer}
 use Rattle.outcome.specs.Award.{won, awarded, number}
+use Rattle.outcome.specs.AwardLaws.{award-lent}
 use Rattle.award.specs.Promise.{told, Promise}
 use Rattle.award.specs.Gain.{rowFor, gain, AtMost}
 use Rattle.award.specs.Right.{Callable, Bidders, IsAward, OneAnswer, LeastCover, WinnerAt, PaidByEight, NoGain}
@@ -34,6 +35,11 @@ module _ (k : Kind) (t : Tender) (n : ℕ) (bids windows : List ℕ) (old new : 
   -- Demand 2. Where no rule is broken, each bid has an award row and each minute two bidders, the tender is awarded: winners, payments and totals are those of the definitions.
   pub demand-2 : Callable k t n bids windows (length old) → Bidders t n bids windows 2 → IsAward k t n bids windows old new (told n new a)
   demand-2 = one.awards k t n bids windows old new a p
+
+-- Two calls of the same award on the same tables, each time with an award row for every bid or each time with fewer, tell the same: of no answer is anything left to the program.
+pub demand-1-same : (k : Kind) (t : Tender) (n : ℕ) (bids windows : List ℕ) (old new old′ new′ : List AwardRow) (a a′ : Answer) →
+    Promise k t n bids windows old new a → Promise k t n bids windows old′ new′ a′ → ltb (length old) n ≡ ltb (length old′) n → told n new a ≡ told n new′ a′
+demand-1-same k t n bids windows old new old′ new′ a a′ p p′ e = p .answers ∙ award-lent k t n bids windows (length old) (length old′) e ∙ sym (p′ .answers)
 
 -- What is awarded, in either kind: each cell is in a winner's windows.
 pub demand-2-covers : (k : Kind) (t : Tender) (n : ℕ) (bids windows : List ℕ) (old new : List AwardRow) (a : Answer) (rows : List AwardRow) (cost paid : ℕ) → Promise k t n bids windows old new a →

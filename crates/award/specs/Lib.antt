@@ -5,7 +5,6 @@ pub mod Demands
 pub mod GainLaws
 pub mod SettleLaws
 pub mod TableLaws
-pub mod Answered
 pub mod OutcomeLaws
 pub mod OneAnswerLaws
 pub mod TextOutcomes

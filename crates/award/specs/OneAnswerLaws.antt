@@ -1,30 +1,31 @@
 -- A right outcome is one award or one refusal, in the order of paper 01. Assumes nothing.
 use mathlib.Core.Path.{_≡_, refl, ap, _∙_}
 use mathlib.Core.List.{List, _++_}
-use mathlib.Core.Bool.{Bool, true, false, cond, not}
+use mathlib.Core.Bool.{Bool, true, false, cond}
 use mathlib.Core.Option.{Option, none, some}
-use Prim.Native.Nat.{ℕ, _-_, _≤_}
+use Prim.Native.Nat.{ℕ, _+_, _-_, _≤_}
 use native.Mathlib.Omega.{arith}
 use lib.ListN.{length, drop}
-use lib.Dec.{leb, ltb}
-use borrow.Author.Tests.{leb-true, ltb-true, ltb-false}
+use lib.Dec.{ltb}
+use borrow.Author.Tests.{ltb-true, ltb-false}
 use Rattle.tender.specs.declared.Kind.{Kind}
 use Rattle.tender.specs.declared.Tender.{Tender}
 use Rattle.tender.specs.declared.Refusal.{Refusal}
 use Rattle.tender.specs.declared.Refusal.the-variants.{BadTables, RowsTooFew, MinuteUncovered, OneBidder}
 use Rattle.tender.specs.Refusals.{numberOf, placeOf}
 use Rattle.tender.specs.Tables.{rowsOf}
-use Rattle.cover.specs.Sets.{bidders, each}
-use Rattle.cover.specs.SetLaws.{all-at}
+use Rattle.cover.specs.Sets.{Found, nothing, found, bidders}
+use Rattle.cover.specs.Earliest.{cellWith}
+use Rattle.cover.specs.EarliestLaws.{cell-found, one-at, two-at}
 use Rattle.cover.specs.SettledLaws.{length-listed}
 use Rattle.tables.specs.Faults.{faultOf}
 use Rattle.tables.specs.Cells.{cellsOf, hasOf, pricesOf}
 use Rattle.tables.specs.AlikeLaws.{prices-count}
 use Rattle.tender.specs.declared.AwardRow.{AwardRow}
 use Rattle.tender.specs.declared.Answer.{Answer}
-use Rattle.outcome.specs.Award.{Outcome, awarded, declined, filled, costOf, paidOf, settled, number, place, InBids}
+use Rattle.outcome.specs.Award.{Outcome, awarded, declined, filled, costOf, paidOf, thinned, settled}
 use Rattle.award.specs.Promise.{lentAfter, told, Promise}
-use Rattle.award.specs.Right.{Callable, Bidders, IsAward, IsRefusal, OneAnswer, tables-break-a-rule, rows-too-few, minute-uncovered, one-bidder, award}
+use Rattle.award.specs.Right.{Callable, Bidders, EarliestIn, IsAward, IsRefusal, OneAnswer, tables-break-a-rule, rows-too-few, minute-uncovered, one-bidder, award}
 use Rattle.outcome.specs.AwardLaws.{award-none, award-nine, award-settles}
 
 module _ (k : Kind) (t : Tender) (n : ℕ) (bids windows : List ℕ) (old new : List AwardRow) (a : Answer) (p : Promise k t n bids windows old new a) where
@@ -51,31 +52,43 @@ module _ (k : Kind) (t : Tender) (n : ℕ) (bids windows : List ℕ) (old new : 
     lent = p .rows ∙ ap (lentAfter old) e ∙ ap (λ (m : ℕ). filled k has ps L ++ drop m old) (length-listed (length ps) _ ∙ prices-count n bids);
   }
 
-  cover : Callable k t n bids windows (length old) → ltb (length old) n ≡ false → (b c : Bool) → each has n L 1 ≡ b → each has n L 2 ≡ c → OneAnswer k t n bids windows old new o
-  unfolding number
-  cover s g b c d e = go b c d e (p .answers .is ∙ award-settles k t n bids windows (length old) (s .sound) g b c d e (place o))
+  -- a cell found is the earliest minute
+  at-cell : (b x : ℕ) → cellWith has n L b ≡ found x → EarliestIn t n bids windows (t .window .start + x) b
+  unfolding cellsOf
+  at-cell b x e =
+      let h = cell-found has n L b x e in
+      let s : t .window .start + x - t .window .start ≡ x = omega arith in
+      record {
+        from = omega arith;
+        to = omega (arith, h .inside);
+        bids-with-it = ap (bidders has n) s ∙ h .here;
+        earliest = λ m l k. h .before (m - t .window .start) (omega arith);
+      }
+
+  cover : Callable k t n bids windows (length old) → ltb (length old) n ≡ false → OneAnswer k t n bids windows old new o
+  unfolding thinned
+  cover s g = go (cellWith has n L 0) (cellWith has n L 1) refl refl
     where
-      go : (b c : Bool) → each has n L 1 ≡ b → each has n L 2 ≡ c →
-          o ≡ cond (not b) (declined (MinuteUncovered (place o))) (cond (not c) (declined (OneBidder (place o))) (awarded (filled k has ps L) (costOf k has ps L) (paidOf k has ps L))) → OneAnswer k t n bids windows old new o
-      go false c d e f = minute-uncovered (place o) s (p .answers .nobody (ap number f)) (refusal (MinuteUncovered (place o)) f)
-      go true false d e f = one-bidder (place o) s d (p .answers .alone (ap number f)) (refusal (OneBidder (place o)) f)
-      go true true d e f = award s e (is-award f)
+      go : (x y : Found) → cellWith has n L 0 ≡ x → cellWith has n L 1 ≡ y → OneAnswer k t n bids windows old new o
+      go (found x) y d e = minute-uncovered (t .window .start + x) s (at-cell 0 x d) (refusal (MinuteUncovered (t .window .start + x)) (p .answers ∙ award-settles k t n bids windows (length old) (s .sound) g (found x) y d e))
+      go nothing (found x) d e = one-bidder (t .window .start + x) s (one-at has n L d) (at-cell 1 x e) (refusal (OneBidder (t .window .start + x)) (p .answers ∙ award-settles k t n bids windows (length old) (s .sound) g nothing (found x) d e))
+      go nothing nothing d e = award s (two-at has n L d e) (is-award (p .answers ∙ award-settles k t n bids windows (length old) (s .sound) g nothing nothing d e))
 
   pub one-answer : OneAnswer k t n bids windows old new o
   one-answer = fault (faultOf k t n bids windows) refl
     where
       rows : faultOf k t n bids windows ≡ none → (b : Bool) → ltb (length old) n ≡ b → OneAnswer k t n bids windows old new o
       rows f true g = rows-too-few f (ltb-true (length old) n g)
-          (refusal RowsTooFew (p .answers .is ∙ award-none k t n bids windows (length old) (place o) f ∙ ap (λ z. cond z (declined RowsTooFew) (settled k has ps L (place o))) g))
-      rows f false g = cover (record { sound = f; rows = ltb-false (length old) n g }) g (each has n L 1) (each has n L 2) refl refl
+          (refusal RowsTooFew (p .answers ∙ award-none k t n bids windows (length old) f ∙ ap (λ z. cond z (declined RowsTooFew) (settled k has ps L (t .window .start))) g))
+      rows f false g = cover (record { sound = f; rows = ltb-false (length old) n g }) g
 
       fault : (m : Option ℕ) → faultOf k t n bids windows ≡ m → OneAnswer k t n bids windows old new o
       fault none e = rows e (ltb (length old) n) refl
-      fault (some q) e = tables-break-a-rule q e (refusal (BadTables q) (p .answers .is ∙ award-nine k t n bids windows (length old) (place o) q e))
+      fault (some q) e = tables-break-a-rule q e (refusal (BadTables q) (p .answers ∙ award-nine k t n bids windows (length old) q e))
 
-  few : (m b : ℕ) → Bidders t n bids windows 2 → InBids t n bids windows m b → 2 ≤ b
-  unfolding each cellsOf
-  few m b two i = omega (arith, i .bids-with-it, leb-true 2 (bidders has n (m - t .window .start)) (all-at (λ x. leb 2 (bidders has n x)) L two (m - t .window .start) (omega (arith, i .from, i .to))))
+  few : (m b : ℕ) → Bidders t n bids windows 2 → EarliestIn t n bids windows m b → 2 ≤ b
+  unfolding cellsOf
+  few m b two i = omega (arith, i .bids-with-it, two (m - t .window .start) (omega (arith, i .from, i .to)))
 
   -- nothing else is declined: where no rule is broken, each bid has a row and each minute two bidders, it awards
   pub awards : Callable k t n bids windows (length old) → Bidders t n bids windows 2 → IsAward k t n bids windows old new o

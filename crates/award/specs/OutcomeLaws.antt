@@ -19,7 +19,7 @@ use Rattle.tables.specs.Cells.{cellsOf, hasOf, pricesOf}
 use Rattle.tables.specs.Alike.{named, Alike}
 use Rattle.tables.specs.AlikeLaws.{prices-count, price-named}
 use Rattle.tender.specs.declared.AwardRow.{AwardRow}
-use Rattle.outcome.specs.Award.{won, Outcome, awarded, refused, number, place, Answers}
+use Rattle.outcome.specs.Award.{won, Outcome, awarded, refused, number, awardOf}
 use Rattle.award.specs.Promise.{lentAfter}
 use Rattle.award.specs.Gain.{rowFor, gain, AtMost}
 use Rattle.award.specs.Right.{LeastCover, WinnerAt, PaidByEight}
@@ -31,24 +31,24 @@ use Rattle.award.specs.TableLaws.{award-honest, row-is, row-fair}
 -- where the first names the bidder's true cost, its gain in the second is no higher.
 pub honest-outcome : (k : Kind) (t : Tender) (n i : ℕ) (bids windows bids′ windows′ : List ℕ) (lent lent′ : ℕ) (a a′ : Outcome) → i < n →
     Alike n i bids windows bids′ windows′ → ltb lent n ≡ ltb lent′ n →
-    Answers k t n bids windows lent a → Answers k t n bids′ windows′ lent′ a′ → (number a ≡ 9 → ⊥) → (number a′ ≡ 9 → ⊥) →
+    a ≡ awardOf k t n bids windows lent → a′ ≡ awardOf k t n bids′ windows′ lent′ → (number a ≡ 9 → ⊥) → (number a′ ≡ 9 → ⊥) →
     AtMost (gain (named bids i) (rowFor a′ i)) (gain (named bids i) (rowFor a i))
 unfolding named
 honest-outcome k t n i bids windows bids′ windows′ lent lent′ a a′ l d e x x′ h h′ =
-    let f = no-fault k t n bids windows lent (place a) a (x .is) h in
-    let f′ = no-fault k t n bids′ windows′ lent′ (place a′) a′ (x′ .is) h′ in
-    rw (x .is, x′ .is) (award-honest k t n i bids windows l f bids′ windows′ lent lent′ (place a) (place a′) f′ d e)
+    let f = no-fault k t n bids windows lent a x h in
+    let f′ = no-fault k t n bids′ windows′ lent′ a′ x′ h′ in
+    rw (x, x′) (award-honest k t n i bids windows l f bids′ windows′ lent lent′ f′ d e)
 
 -- no winner is paid less than it named
-pub no-loss : (k : Kind) (t : Tender) (n i : ℕ) (bids windows : List ℕ) (lent : ℕ) (a : Outcome) → i < n → Answers k t n bids windows lent a →
+pub no-loss : (k : Kind) (t : Tender) (n i : ℕ) (bids windows : List ℕ) (lent : ℕ) (a : Outcome) → i < n → a ≡ awardOf k t n bids windows lent →
     rowFor a i .won ≡ true → named bids i ≤ rowFor a i .cents
 unfolding named rowFor
-no-loss k t n i bids windows lent (awarded rows cost paid) l x e = row-fair k t n bids windows lent rows cost paid (award-awarded k t n bids windows lent _ rows cost paid (x .is)) i l e
+no-loss k t n i bids windows lent (awarded rows cost paid) l x e = row-fair k t n bids windows lent rows cost paid (award-awarded k t n bids windows lent rows cost paid x) i l e
 no-loss k t n i bids windows lent (refused m at) l x e = let z : _≡_ {A = ℕ} 0 1 = cc in absurd (omega arith)
 
-pub least-cover : (t : Tender) (n : ℕ) (bids windows : List ℕ) (lent : ℕ) (rows : List AwardRow) (cost paid : ℕ) → Answers Single t n bids windows lent (awarded rows cost paid) → LeastCover t n bids windows rows cost paid
+pub least-cover : (t : Tender) (n : ℕ) (bids windows : List ℕ) (lent : ℕ) (rows : List AwardRow) (cost paid : ℕ) → awarded rows cost paid ≡ awardOf Single t n bids windows lent → LeastCover t n bids windows rows cost paid
 least-cover t n bids windows lent rows cost paid x =
-    let w = award-awarded Single t n bids windows lent (place (awarded rows cost paid)) rows cost paid (x .is) in
+    let w = award-awarded Single t n bids windows lent rows cost paid x in
     let has = hasOf t (rowsOf n bids) windows in
     let ps = pricesOf (rowsOf n bids) in
     let L = cellsOf t in
@@ -65,30 +65,30 @@ least-cover t n bids windows lent rows cost paid x =
       ties = λ s l g q d. tie (covers has n L) ps s (rw e l) g (q ∙ c) d;
     }
 
-pub all-served : (k : Kind) (t : Tender) (n : ℕ) (bids windows : List ℕ) (lent : ℕ) (rows : List AwardRow) (cost paid : ℕ) → Answers k t n bids windows lent (awarded rows cost paid) →
+pub all-served : (k : Kind) (t : Tender) (n : ℕ) (bids windows : List ℕ) (lent : ℕ) (rows : List AwardRow) (cost paid : ℕ) → awarded rows cost paid ≡ awardOf k t n bids windows lent →
     (x : ℕ) → x < cellsOf t → WinnerAt t n bids windows (awarded rows cost paid) x
 all-served k t n bids windows lent rows cost paid y x l =
-    let w = award-awarded k t n bids windows lent (place (awarded rows cost paid)) rows cost paid (y .is) in
+    let w = award-awarded k t n bids windows lent rows cost paid y in
     let m = winners-cover k (hasOf t (rowsOf n bids) windows) (pricesOf (rowsOf n bids)) (cellsOf t) (w .settles .two) x l in
     let e = prices-count n bids in
     let i = rw e at (m .inside) in
     record { who = m .who; inside = i; wins = ap (λ r. r .won) (row-is k t n bids windows lent rows cost paid w (m .who) i) ∙ m .wins; covers-it = m .covers-it }
 
 -- a winner of a multi tender is paid the largest whole price with which it would still win if all else stood
-pub largest-price : (t : Tender) (n i : ℕ) (bids windows : List ℕ) (lent : ℕ) (rows : List AwardRow) (cost paid : ℕ) → i < n → Answers Multi t n bids windows lent (awarded rows cost paid) →
+pub largest-price : (t : Tender) (n i : ℕ) (bids windows : List ℕ) (lent : ℕ) (rows : List AwardRow) (cost paid : ℕ) → i < n → awarded rows cost paid ≡ awardOf Multi t n bids windows lent →
     rowFor (awarded rows cost paid) i .won ≡ true → (p : ℕ) →
     won Multi (hasOf t (rowsOf n bids) windows) (set (pricesOf (rowsOf n bids)) i p) (cellsOf t) i ≡ leb p (rowFor (awarded rows cost paid) i .cents)
 largest-price t n i bids windows lent rows cost paid l y f p =
-    let w = award-awarded Multi t n bids windows lent (place (awarded rows cost paid)) rows cost paid (y .is) in
+    let w = award-awarded Multi t n bids windows lent rows cost paid y in
     let r = row-is Multi t n bids windows lent rows cost paid w i l in
     largest (hasOf t (rowsOf n bids) windows) (pricesOf (rowsOf n bids)) (cellsOf t) i (rw (prices-count n bids) l) (w .settles .two) (sym (ap (λ r. r .won) r) ∙ f) p
     ∙ ap (λ r. leb p (r .cents)) (sym r)
 
-pub paid-by-eight : (t : Tender) (n i : ℕ) (bids windows : List ℕ) (lent : ℕ) (rows : List AwardRow) (cost paid : ℕ) → i < n → Answers Single t n bids windows lent (awarded rows cost paid) →
+pub paid-by-eight : (t : Tender) (n i : ℕ) (bids windows : List ℕ) (lent : ℕ) (rows : List AwardRow) (cost paid : ℕ) → i < n → awarded rows cost paid ≡ awardOf Single t n bids windows lent →
     rowFor (awarded rows cost paid) i .won ≡ true → PaidByEight t n i bids windows (rowFor (awarded rows cost paid) i .cents) cost
 unfolding named
 paid-by-eight t n i bids windows lent rows cost paid l x f =
-    let w = award-awarded Single t n bids windows lent (place (awarded rows cost paid)) rows cost paid (x .is) in
+    let w = award-awarded Single t n bids windows lent rows cost paid x in
     let has = hasOf t (rowsOf n bids) windows in
     let ps = pricesOf (rowsOf n bids) in
     let L = cellsOf t in
@@ -108,10 +108,10 @@ any-default (r ∷ rs) zero d e l = refl
 any-default (r ∷ rs) (suc i) d e l = any-default rs i d e (omega arith)
 
 -- the award rows after the call: a filled row is the row that a gain is taken from, and rows past the last bid stay
-pub row-lent : (k : Kind) (t : Tender) (n i : ℕ) (bids windows : List ℕ) (old : List AwardRow) (d : AwardRow) (rows : List AwardRow) (cost paid : ℕ) → i < n → Answers k t n bids windows (length old) (awarded rows cost paid) →
+pub row-lent : (k : Kind) (t : Tender) (n i : ℕ) (bids windows : List ℕ) (old : List AwardRow) (d : AwardRow) (rows : List AwardRow) (cost paid : ℕ) → i < n → awarded rows cost paid ≡ awardOf k t n bids windows (length old) →
     getD (lentAfter old (awarded rows cost paid)) i d ≡ rowFor (awarded rows cost paid) i
 unfolding lentAfter rowFor
 row-lent k t n i bids windows old d rows cost paid l x =
-    let w = award-awarded k t n bids windows (length old) (place (awarded rows cost paid)) rows cost paid (x .is) in
+    let w = award-awarded k t n bids windows (length old) rows cost paid x in
     let m = rows-count k t n bids windows (length old) rows cost paid w in
     List·getD-append rows (drop (length rows) old) d i (rw m l) ∙ any-default rows i d (record { won = false; cents = 0 }) (rw m l)

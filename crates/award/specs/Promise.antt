@@ -8,7 +8,7 @@ use Rattle.tender.specs.declared.Tender.{Tender}
 use Rattle.tender.specs.declared.AwardRow.{AwardRow}
 use Rattle.tender.specs.declared.Answer.{Answer}
 use Rattle.tender.specs.declared.Answer.the-variants.{Awarded, Refused}
-use Rattle.outcome.specs.Award.{Outcome, awarded, refused, declined, Answers}
+use Rattle.outcome.specs.Award.{Outcome, awarded, refused, declined, awardOf}
 
 -- the lent award rows after the call: rows past the last bid stay, and all of them where the award declines
 unfoldable pub lentAfter : List AwardRow → Outcome → List AwardRow
@@ -22,7 +22,7 @@ told n rows (Refused r) = declined r
 
 -- the promise of a call: it leaves the lent rows `new` and answers a
 pub record Promise (k : Kind) (t : Tender) (n : ℕ) (bids windows : List ℕ) (old new : List AwardRow) (a : Answer) : Type 0 where
-  pub answers : Answers k t n bids windows (length old) (told n new a)
+  pub answers : told n new a ≡ awardOf k t n bids windows (length old)
   pub rows : new ≡ lentAfter old (told n new a)
 
 -- the award rows that an answer on n bids fills: one for each bid where it awards, none where it declines

@@ -3,12 +3,12 @@ use mathlib.Core.Path.{_≡_}
 use mathlib.Core.List.{List, _++_}
 use mathlib.Core.Bool.{true}
 use mathlib.Core.Option.{none, some}
-use Prim.Native.Nat.{ℕ, _+_, _^_, _≤_, _<_}
+use Prim.Native.Nat.{ℕ, _+_, _-_, _^_, _≤_, _<_}
 use lib.ListN.{length, getD, drop}
 use Rattle.tender.specs.declared.Kind.{Kind}
 use Rattle.tender.specs.declared.Tender.{Tender}
 use Rattle.tender.specs.Tables.{Row, rowsOf}
-use Rattle.cover.specs.Sets.{bit, covers, each}
+use Rattle.cover.specs.Sets.{bit, covers, bidders}
 use Rattle.cover.specs.Sets as sets
 use Rattle.cover.specs.LeastCover.{Wins, Stands, without}
 use Rattle.reader.specs.Words.{numeralOf, priceOf}
@@ -16,7 +16,7 @@ use Rattle.tables.specs.Faults.{faultOf}
 use Rattle.tables.specs.Cells.{cellsOf, noRow, hasOf, pricesOf}
 use Rattle.tables.specs.Alike.{named}
 use Rattle.tender.specs.declared.AwardRow.{AwardRow}
-use Rattle.outcome.specs.Award.{Outcome, awarded, refused, filled, costOf, paidOf, InBids}
+use Rattle.outcome.specs.Award.{Outcome, awarded, refused, filled, costOf, paidOf}
 use Rattle.award.specs.Gain.{rowFor, gain, AtMost}
 
 -- no rule is broken, and there is an award row for every bid
@@ -24,9 +24,16 @@ pub record Callable (k : Kind) (t : Tender) (n : ℕ) (bids windows : List ℕ) 
   pub sound : faultOf k t n bids windows ≡ none
   pub rows : n ≤ lent
 
--- each minute of the tender is in m bids at least
+-- each minute of the tender, cell x, is in m bids at least
 abbrev pub Bidders : Tender → ℕ → List ℕ → List ℕ → ℕ → Type 0
-Bidders t n bids windows m = each (hasOf t (rowsOf n bids) windows) n (cellsOf t) m ≡ true
+Bidders t n bids windows m = (x : ℕ) → x < cellsOf t → m ≤ bidders (hasOf t (rowsOf n bids) windows) n x
+
+-- the minute is in the tender and in exactly b bids, and no earlier minute of the tender is
+pub record EarliestIn (t : Tender) (n : ℕ) (bids windows : List ℕ) (minute b : ℕ) : Type 0 where
+  pub from : t .window .start ≤ minute
+  pub to : minute < t .window .end
+  pub bids-with-it : bidders (hasOf t (rowsOf n bids) windows) n (minute - t .window .start) ≡ b
+  pub earliest : (m : ℕ) → t .window .start ≤ m → m < minute → bidders (hasOf t (rowsOf n bids) windows) n (m - t .window .start) ≡ b → ⊥
 
 -- the outcome is the award of the definitions, and it alone changed the lent rows
 pub record IsAward (k : Kind) (t : Tender) (n : ℕ) (bids windows : List ℕ) (old new : List AwardRow) (o : Outcome) : Type 0 where
@@ -43,8 +50,8 @@ pub record IsRefusal (number place : ℕ) (old new : List AwardRow) (o : Outcome
 pub data OneAnswer (k : Kind) (t : Tender) (n : ℕ) (bids windows : List ℕ) (old new : List AwardRow) (o : Outcome) : Type 0 where
   tables-break-a-rule : (p : ℕ) → faultOf k t n bids windows ≡ some p → IsRefusal 9 p old new o → OneAnswer k t n bids windows old new o
   rows-too-few : faultOf k t n bids windows ≡ none → length old < n → IsRefusal 10 0 old new o → OneAnswer k t n bids windows old new o
-  minute-uncovered : (m : ℕ) → Callable k t n bids windows (length old) → InBids t n bids windows m 0 → IsRefusal 11 m old new o → OneAnswer k t n bids windows old new o
-  one-bidder : (m : ℕ) → Callable k t n bids windows (length old) → Bidders t n bids windows 1 → InBids t n bids windows m 1 → IsRefusal 12 m old new o → OneAnswer k t n bids windows old new o
+  minute-uncovered : (m : ℕ) → Callable k t n bids windows (length old) → EarliestIn t n bids windows m 0 → IsRefusal 11 m old new o → OneAnswer k t n bids windows old new o
+  one-bidder : (m : ℕ) → Callable k t n bids windows (length old) → Bidders t n bids windows 1 → EarliestIn t n bids windows m 1 → IsRefusal 12 m old new o → OneAnswer k t n bids windows old new o
   award : Callable k t n bids windows (length old) → Bidders t n bids windows 2 → IsAward k t n bids windows old new o → OneAnswer k t n bids windows old new o
 
 -- the winners of a single tender: bid i of the n is bit i of the set

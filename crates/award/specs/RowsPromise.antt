@@ -11,7 +11,7 @@ use Rattle.tender.specs.declared.Totals.{Totals}
 use Rattle.tender.specs.declared.AwardRow.{AwardRow}
 use Rattle.tender.specs.declared.Answer.{Answer}
 use Rattle.tender.specs.declared.Answer.the-variants.{Awarded, Refused}
-use Rattle.outcome.specs.Award.{awarded, Answers}
+use Rattle.outcome.specs.Award.{awarded}
 use Rattle.award.specs.Promise.{lentAfter, told, Promise, rowsFilled}
 use Rattle.layout.specs.LayoutLaws.{orderly}
 use borrow.Author.Tests.{ltb-false}
@@ -39,7 +39,7 @@ same-told n won cents (Refused r) old = refl
 pub rows-promise : (k : Kind) (t : Tender) (n : ℕ) (bids windows : List ℕ) (old : List AwardRow) (ow oc nw nc : List ℕ) (a : Answer) → PlainPromise k t n bids windows (length old) ow oc nw nc a →
     Promise k t n bids windows old (lentAfter old (toldIn n nw nc a)) a
 rows-promise k t n bids windows old ow oc nw nc a p = record {
-  answers = subst (Answers k t n bids windows (length old)) (sym (same-told n nw nc a old)) (p .answers);
+  answers = same-told n nw nc a old ∙ p .answers;
   rows = ap (lentAfter old) (sym (same-told n nw nc a old));
 }
 
@@ -48,7 +48,7 @@ pub rows-fit : (k : Kind) (t : Tender) (n : ℕ) (bids windows : List ℕ) (lent
     (rowsFilled a n ≤ lent) × (rowsFilled a n ≤ 1000)
 unfolding rowsFilled toldIn
 rows-fit k t n bids windows lent ow oc nw nc (Awarded totals) p =
-    let w = award-awarded k t n bids windows lent _ (rowsIn n nw nc) (totals .cost) (totals .paid) (p .answers .is) in
+    let w = award-awarded k t n bids windows lent (rowsIn n nw nc) (totals .cost) (totals .paid) (p .answers) in
     (ltb-false lent n (w .enough), orderly k t n bids windows (w .sound) .few)
 rows-fit k t n bids windows lent ow oc nw nc (Refused r) p = (omega arith, omega arith)
 

@@ -10,14 +10,16 @@ use lib.Dec.{leb}
 use Rattle.tender.specs.declared.Kind.{Kind}
 use Rattle.tender.specs.declared.Kind.the-variants.{Single, Multi}
 use Rattle.tender.specs.declared.AwardRow.{AwardRow}
-use Rattle.cover.specs.Sets.{when, bit, cost, covers, cells, each}
+use Rattle.cover.specs.Sets.{when, Found, nothing, found, bit, cost, covers, cells, each}
+use Rattle.cover.specs.Earliest.{cellWith}
 use Rattle.cover.specs.LeastCover.{Wins, winners, without, payment, vcgPaid}
 use Rattle.cover.specs.CriticalPrice.{criticalPaid, winsAt}
+use Rattle.cover.specs.EarliestLaws.{two-each}
 use Rattle.cover.specs.VcgLaws as vcg
 use Rattle.cover.specs.CriticalLaws as greedy
 use Rattle.cover.specs.SpareLaws.{others, others-below, spare-set, spare-bids, least-covers, greedy-covers}
 use Rattle.cover.specs.SettledLaws.{getD-listed, cost-sum}
-use Rattle.outcome.specs.Award.{won, cents, awarded, filled, costOf, paidOf, settled}
+use Rattle.outcome.specs.Award.{won, cents, awarded, filled, costOf, paidOf, thinned, settled}
 use Rattle.outcome.specs.AwardLaws.{won-single, cents-single, won-multi, cents-multi, settled-is}
 use Rattle.award.specs.Gain.{lost, rowFor, gain, AtMost}
 use Rattle.award.specs.GainLaws.{gain-most}
@@ -91,22 +93,22 @@ unfolding rowFor filled
 row-filled k has ps L i cost paid l = getD-listed (length ps) (λ i. rowIn k has ps L i) i lost l
 
 -- naming q is no better than naming the true cost, which is the price of bid i in ps
-pub settled-honest : (k : Kind) (has : ℕ → ℕ → Bool) (ps : List ℕ) (L i q m m′ : ℕ) → i < length ps →
-    AtMost (gain (getD ps i 0) (rowFor (settled k has (set ps i q) L m′) i)) (gain (getD ps i 0) (rowFor (settled k has ps L m) i))
-unfolding rowFor gain
-settled-honest k has ps L i q m m′ l = go (each has (length ps) L 1) (each has (length ps) L 2) refl refl
+pub settled-honest : (k : Kind) (has : ℕ → ℕ → Bool) (ps : List ℕ) (L i q start : ℕ) → i < length ps →
+    AtMost (gain (getD ps i 0) (rowFor (settled k has (set ps i q) L start) i)) (gain (getD ps i 0) (rowFor (settled k has ps L start) i))
+unfolding rowFor gain thinned
+settled-honest k has ps L i q start l = go (cellWith has (length ps) L 0) (cellWith has (length ps) L 1) refl refl
   where
-    go : (a b : Bool) → each has (length ps) L 1 ≡ a → each has (length ps) L 2 ≡ b →
-        AtMost (gain (getD ps i 0) (rowFor (settled k has (set ps i q) L m′) i)) (gain (getD ps i 0) (rowFor (settled k has ps L m) i))
-    go false b e f = rw (settled-is k has ps L m false b e f, settled-is k has (set ps i q) L m′ false b (rw (length-set ps i q) e) (rw (length-set ps i q) f)) (omega arith)
-    go true false e f = rw (settled-is k has ps L m true false e f, settled-is k has (set ps i q) L m′ true false (rw (length-set ps i q) e) (rw (length-set ps i q) f)) (omega arith)
-    go true true e f = rw (settled-is k has ps L m true true e f, settled-is k has (set ps i q) L m′ true true (rw (length-set ps i q) e) (rw (length-set ps i q) f))
+    go : (x y : Found) → cellWith has (length ps) L 0 ≡ x → cellWith has (length ps) L 1 ≡ y →
+        AtMost (gain (getD ps i 0) (rowFor (settled k has (set ps i q) L start) i)) (gain (getD ps i 0) (rowFor (settled k has ps L start) i))
+    go (found x) y e f = rw (settled-is k has ps L start (found x) y e f, settled-is k has (set ps i q) L start (found x) y (rw (length-set ps i q) e) (rw (length-set ps i q) f)) (omega arith)
+    go nothing (found x) e f = rw (settled-is k has ps L start nothing (found x) e f, settled-is k has (set ps i q) L start nothing (found x) (rw (length-set ps i q) e) (rw (length-set ps i q) f)) (omega arith)
+    go nothing nothing e f = rw (settled-is k has ps L start nothing nothing e f, settled-is k has (set ps i q) L start nothing nothing (rw (length-set ps i q) e) (rw (length-set ps i q) f))
         (rw (
           row-filled k has ps L i (costOf k has ps L) (paidOf k has ps L) l,
           row-filled k has (set ps i q) L i (costOf k has (set ps i q) L) (paidOf k has (set ps i q) L) (rw (length-set ps i q) l),
         )
         (gain-most (getD ps i 0) (rowIn k has (set ps i q) L i) (rowIn k has ps L i) (lost-nothing k has (set ps i q) L i) (lost-nothing k has ps L i)
-        (ap-set (honest has ps L i l f k (getD ps i 0) q))))
+        (ap-set (honest has ps L i l (two-each has (length ps) L e f) k (getD ps i 0) q))))
       where
         ap-set : cents k has (set ps i q) L i + when (won k has (set ps i (getD ps i 0)) L i) (getD ps i 0) ≤ cents k has (set ps i (getD ps i 0)) L i + when (won k has (set ps i q) L i) (getD ps i 0) →
             cents k has (set ps i q) L i + when (won k has ps L i) (getD ps i 0) ≤ cents k has ps L i + when (won k has (set ps i q) L i) (getD ps i 0)

@@ -28,19 +28,19 @@ module _ (k : Kind) (t : Tender) (n i : ℕ) (bids windows : List ℕ) (inside :
   ps = pricesOf (rowsOf n bids)
 
   -- naming another price is no better
-  pub award-honest : (bids′ windows′ : List ℕ) (lent lent′ m m′ : ℕ) → faultOf k t n bids′ windows′ ≡ none → Alike n i bids windows bids′ windows′ → ltb lent n ≡ ltb lent′ n →
-      AtMost (gain (getD bids (4 * i + 1) 0) (rowFor (awardOf k t n bids′ windows′ lent′ m′) i)) (gain (getD bids (4 * i + 1) 0) (rowFor (awardOf k t n bids windows lent m) i))
+  pub award-honest : (bids′ windows′ : List ℕ) (lent lent′ : ℕ) → faultOf k t n bids′ windows′ ≡ none → Alike n i bids windows bids′ windows′ → ltb lent n ≡ ltb lent′ n →
+      AtMost (gain (getD bids (4 * i + 1) 0) (rowFor (awardOf k t n bids′ windows′ lent′) i)) (gain (getD bids (4 * i + 1) 0) (rowFor (awardOf k t n bids windows lent) i))
   unfolding ps rowFor gain
-  award-honest bids′ windows′ lent lent′ m m′ f′ a e = rw (award-none k t n bids windows lent m f, award-none k t n bids′ windows′ lent′ m′ f′, ← e) (go (ltb lent n))
+  award-honest bids′ windows′ lent lent′ f′ a e = rw (award-none k t n bids windows lent f, award-none k t n bids′ windows′ lent′ f′, ← e) (go (ltb lent n))
     where
-      go : (b : Bool) → AtMost (gain (getD bids (4 * i + 1) 0) (rowFor (cond b (declined RowsTooFew) (settled k (hasOf t (rowsOf n bids′) windows′) (pricesOf (rowsOf n bids′)) (cellsOf t) m′)) i))
-          (gain (getD bids (4 * i + 1) 0) (rowFor (cond b (declined RowsTooFew) (settled k (hasOf t (rowsOf n bids) windows) (pricesOf (rowsOf n bids)) (cellsOf t) m)) i))
+      go : (b : Bool) → AtMost (gain (getD bids (4 * i + 1) 0) (rowFor (cond b (declined RowsTooFew) (settled k (hasOf t (rowsOf n bids′) windows′) (pricesOf (rowsOf n bids′)) (cellsOf t) (t .window .start))) i))
+          (gain (getD bids (4 * i + 1) 0) (rowFor (cond b (declined RowsTooFew) (settled k (hasOf t (rowsOf n bids) windows) (pricesOf (rowsOf n bids)) (cellsOf t) (t .window .start))) i))
       go true = omega arith
       go false = rw (
         cells-alike k t n i bids windows bids′ windows′ inside (faultless k t n bids windows f .rows) a,
         prices-alike k t n i bids windows bids′ windows′ inside (faultless k t n bids windows f .rows) a,
         ← price-named n i bids inside,
-      ) (settled-honest k (hasOf t (rowsOf n bids) windows) ps (cellsOf t) i (getD bids′ (4 * i + 1) 0) m m′ (rw (prices-count n bids) inside))
+      ) (settled-honest k (hasOf t (rowsOf n bids) windows) ps (cellsOf t) i (getD bids′ (4 * i + 1) 0) (t .window .start) (rw (prices-count n bids) inside))
 
 module _ (k : Kind) (t : Tender) (n : ℕ) (bids windows : List ℕ) (lent : ℕ) (rows : List AwardRow) (cost paid : ℕ) (w : Awarded k t n bids windows lent rows cost paid) where
   pub row-is : (i : ℕ) → i < n → rowFor (awarded rows cost paid) i ≡ rowIn k (hasOf t (rowsOf n bids) windows) (pricesOf (rowsOf n bids)) (cellsOf t) i

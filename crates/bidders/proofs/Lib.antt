@@ -1,4 +1,5 @@
 pub mod Counts
 pub mod Firsts
+pub mod Bare
 pub mod Sweep
 pub mod Masks

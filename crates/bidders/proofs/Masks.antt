@@ -58,13 +58,13 @@ twice-more (suc zero) (suc zero) l = refl
 twice-more (suc (suc b)) (suc zero) l = ap (max (min 1 (suc (suc b) - 1))) (two-in b) ∙ full (suc (suc b) - 1) ∙ two-out b
 twice-more b (suc (suc c)) l = absurd (omega arith)
 
--- a count of m or more as a bit
-count-bit : (b m : ℕ) → min 1 (b + 1 - m) ≡ when (leb m b) 1
-count-bit b m = go (leb m b) refl
+-- a count of two or more as a bit
+count-bit : (b : ℕ) → min 1 (b - 1) ≡ when (leb 2 b) 1
+count-bit b = go (leb 2 b) refl
   where
-    go : (t : Bool) → leb m b ≡ t → min 1 (b + 1 - m) ≡ when t 1
-    go true t = omega (arith, leb-true m b t)
-    go false t = omega (arith, leb-false m b t)
+    go : (t : Bool) → leb 2 b ≡ t → min 1 (b - 1) ≡ when t 1
+    go true t = omega (arith, leb-true 2 b t)
+    go false t = omega (arith, leb-false 2 b t)
 
 pub bidders-grow : (has : ℕ → ℕ → Bool) (i n x : ℕ) → i ≤ n → bidders has i x ≤ bidders has n x
 unfolding bidders
@@ -108,48 +108,45 @@ module _ (ms : List ℕ) (w q : ℕ) (lq : q < w) where
 
 module _ (ms : List ℕ) (w q i one two : ℕ) (s : Seeing ms w q i one two) (wanted : ℕ) where
   -- each cell wanted is in two bids, and so it is with the bids that follow
-  pub reached-soon : (n m : ℕ) → i ≤ n → m ≤ 2 → bitAnd two wanted ≡ wanted → Reached ms w n q wanted m wanted
-  reached-soon n m l h e = record {
+  pub reached-soon : (n : ℕ) → i ≤ n → bitAnd two wanted ≡ wanted → Reached ms w n q wanted wanted
+  reached-soon n l e = record {
     each = λ k lk on.
         let both : bitOf wanted k ≡ min (bitOf two k) (bitOf wanted k) = ap (λ (v : ℕ). bitOf v k) (sym e) ∙ and-bit two wanted k in
         let two-on : bitOf two k ≡ 1 = omega arith in
-        on ∙ ap (λ b. when b 1) (sym (le-leb m (bidders (has ms w) n (64 * q + k)) (omega (arith, s .twice k lk, bidders-grow (has ms w) i n (64 * q + k) l))));
+        on ∙ ap (λ b. when b 1) (sym (le-leb 2 (bidders (has ms w) n (64 * q + k)) (omega (arith, s .twice k lk, bidders-grow (has ms w) i n (64 * q + k) l))));
   }
 
-  pub reached-one : (n m : ℕ) → i ≡ n → m ≡ 1 → Reached ms w n q wanted m one
-  reached-one n m e d = rw (← e, d) (record { each = λ k l on. s .once k l ∙ omega (arith, count-bit (bidders (has ms w) i (64 * q + k)) 1) })
-
-  pub reached-two : (n m : ℕ) → i ≡ n → m ≡ 2 → Reached ms w n q wanted m two
-  reached-two n m e d = rw (← e, d) (record { each = λ k l on. s .twice k l ∙ omega (arith, count-bit (bidders (has ms w) i (64 * q + k)) 2) })
+  pub reached-all : (n : ℕ) → i ≡ n → Reached ms w n q wanted two
+  reached-all n e = rw (← e) (record { each = λ k l on. s .twice k l ∙ count-bit (bidders (has ms w) i (64 * q + k)) })
 
 -- ---- gather: one word more
 word-bit : (ws : List ℕ) (q x : ℕ) → x / 64 ≡ q → bitOf (getD ws q 0) (x % 64) ≡ cell ws x
 unfolding cell
 word-bit ws q x e = ap (λ (j : ℕ). bitOf (getD ws j 0) (x % 64)) (sym e)
 
-pub gathered-none : (ms : List ℕ) (w n m : ℕ) (wanted enough : List ℕ) → Gathered ms w n m wanted enough 0
-gathered-none ms w n m wanted enough = record { each = λ x l. absurd (omega arith) }
+pub gathered-none : (ms : List ℕ) (w n : ℕ) (wanted enough : List ℕ) → Gathered ms w n wanted enough 0
+gathered-none ms w n wanted enough = record { each = λ x l. absurd (omega arith) }
 
-pub gathered-more : (ms : List ℕ) (w n m : ℕ) (wanted enough : List ℕ) (q r : ℕ) → q < length enough → Gathered ms w n m wanted enough q → Reached ms w n q (getD wanted q 0) m r → Gathered ms w n m wanted (set enough q r) (q + 1)
-gathered-more ms w n m wanted enough q r h g s = record { each = λ x l on. ⊎-elim (λ lt. set-other enough q h x r (λ e. omega arith) ∙ g .each x lt on) (λ le. here x (omega arith) on) (lt-or-le x (64 * q)) }
+pub gathered-more : (ms : List ℕ) (w n : ℕ) (wanted enough : List ℕ) (q r : ℕ) → q < length enough → Gathered ms w n wanted enough q → Reached ms w n q (getD wanted q 0) r → Gathered ms w n wanted (set enough q r) (q + 1)
+gathered-more ms w n wanted enough q r h g s = record { each = λ x l on. ⊎-elim (λ lt. set-other enough q h x r (λ e. omega arith) ∙ g .each x lt on) (λ le. here x (omega arith) on) (lt-or-le x (64 * q)) }
   where
-    here : (x : ℕ) → x / 64 ≡ q → cell wanted x ≡ 1 → cell (set enough q r) x ≡ when (leb m (bidders (has ms w) n x)) 1
+    here : (x : ℕ) → x / 64 ≡ q → cell wanted x ≡ 1 → cell (set enough q r) x ≡ when (leb 2 (bidders (has ms w) n x)) 1
     here x e on = let d : 64 * q + x % 64 ≡ x = omega arith in
-        set-same enough q h x r e ∙ s .each (x % 64) (omega arith) (word-bit wanted q x e ∙ on) ∙ ap (λ (y : ℕ). when (leb m (bidders (has ms w) n y)) 1) d
+        set-same enough q h x r e ∙ s .each (x % 64) (omega arith) (word-bit wanted q x e ∙ on) ∙ ap (λ (y : ℕ). when (leb 2 (bidders (has ms w) n y)) 1) d
 
--- ---- the first cell wanted that is not among those with m bidders
-module _ (ms : List ℕ) (w n L m : ℕ) (wanted enough : List ℕ) (x : ℕ) (f : First L wanted) (g : Gathered ms w n m wanted enough w) (t : Next wanted enough 0 x) (size : length wanted ≡ w) (within : L ≤ 64 * w) where
-  passed : (y : ℕ) → y < x → y < L → fewer (has ms w) n m y ≡ false
+-- ---- the first cell wanted that is not among those with two bidders
+module _ (ms : List ℕ) (w n L : ℕ) (wanted enough : List ℕ) (x : ℕ) (f : First L wanted) (g : Gathered ms w n wanted enough w) (t : Next wanted enough 0 x) (size : length wanted ≡ w) (within : L ≤ 64 * w) where
+  passed : (y : ℕ) → y < x → y < L → fewer (has ms w) n 2 y ≡ false
   unfolding fewer
-  passed y l h = le-ltb (bidders (has ms w) n y) m (omega (arith, t .none y (omega arith) l (f .inside y h), g .each y (omega arith) (f .inside y h), count-bit (bidders (has ms w) n y) m))
+  passed y l h = le-ltb (bidders (has ms w) n y) 2 (omega (arith, t .none y (omega arith) l (f .inside y h), g .each y (omega arith) (f .inside y h), count-bit (bidders (has ms w) n y)))
 
-  pub first-found : x < L → FirstOf (fewer (has ms w) n m) L x
+  pub first-found : x < L → FirstOf (fewer (has ms w) n 2) L x
   unfolding fewer
   first-found l = record {
     inside = omega arith;
-    here = λ h. lt-ltb (bidders (has ms w) n x) m (omega (arith, t .outside (omega arith), g .each x (omega arith) (f .inside x l), count-bit (bidders (has ms w) n x) m));
+    here = λ h. lt-ltb (bidders (has ms w) n x) 2 (omega (arith, t .outside (omega arith), g .each x (omega arith) (f .inside x l), count-bit (bidders (has ms w) n x)));
     before = λ y h. passed y h (omega arith);
   }
 
-  pub first-none : L ≤ x → FirstOf (fewer (has ms w) n m) L L
+  pub first-none : L ≤ x → FirstOf (fewer (has ms w) n 2) L L
   first-none l = record { inside = omega arith; here = λ h. absurd (omega arith); before = λ y h. passed y (omega arith) h }

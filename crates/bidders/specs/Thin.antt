@@ -1,4 +1,4 @@
--- Whether each cell has two bidders: a cell in no bid, else a cell in one bid alone, else neither.
+-- Whether each cell has two bidders: the earliest cell in no bid, else the earliest in one bid alone, else neither.
 use mathlib.Core.Path.{_≡_}
 use mathlib.Core.Bool.{Bool, true, false}
 use mathlib.Core.List.{List}
@@ -6,15 +6,16 @@ use Prim.Native.Nat.{ℕ, _+_, _*_, _≤_, _<_}
 use lib.ListN.{length, getD}
 use lib.Dec.{leb, ltb, eqb}
 use Rattle.cells.specs.Cells.{bitOf, cell}
-use Rattle.cover.specs.Sets.{when, bidders, each}
+use Rattle.cover.specs.Sets.{when, nothing, found, bidders}
+use Rattle.cover.specs.Earliest.{cellWith}
 use Rattle.rounds.specs.Market.{has}
 use Rattle.bidders.specs.declared.Thin.{Thin}
 use Rattle.bidders.specs.declared.Thin.the-variants.{Nobody, Alone, Enough}
 
 abbrev pub Says : (ℕ → ℕ → Bool) → ℕ → ℕ → Thin → Type 0
-Says has n L (Nobody x) = (x < L) × (bidders has n x ≡ 0)
-Says has n L (Alone x) = (each has n L 1 ≡ true) × ((x < L) × (bidders has n x ≡ 1))
-Says has n L Enough = each has n L 2 ≡ true
+Says has n L (Nobody x) = cellWith has n L 0 ≡ found x
+Says has n L (Alone x) = (cellWith has n L 0 ≡ nothing) × (cellWith has n L 1 ≡ found x)
+Says has n L Enough = (cellWith has n L 0 ≡ nothing) × (cellWith has n L 1 ≡ nothing)
 
 -- n windows, each from a start to an end that is no earlier and within L cells
 pub record Spans (starts ends : List ℕ) (L : ℕ) : Type 0 where
@@ -32,13 +33,13 @@ unfoldable pub fewer : (ℕ → ℕ → Bool) → ℕ → ℕ → ℕ → Bool
 unfolding bidders
 fewer has n m x = ltb (bidders has n x) m
 
--- the bits of r say which cells of word q have m bidders or more, of those wanted
-pub record Reached (ms : List ℕ) (w n q wanted m r : ℕ) : Type 0 where
-  pub each : (k : ℕ) → k < 64 → bitOf wanted k ≡ 1 → bitOf r k ≡ when (leb m (bidders (has ms w) n (64 * q + k))) 1
+-- the bits of r say which cells of word q have two bidders or more, of those wanted
+pub record Reached (ms : List ℕ) (w n q wanted r : ℕ) : Type 0 where
+  pub each : (k : ℕ) → k < 64 → bitOf wanted k ≡ 1 → bitOf r k ≡ when (leb 2 (bidders (has ms w) n (64 * q + k))) 1
 
--- the cells of the first words of `enough` are those with m bidders or more, of those wanted
-pub record Gathered (ms : List ℕ) (w n m : ℕ) (wanted enough : List ℕ) (words : ℕ) : Type 0 where
-  pub each : (x : ℕ) → x < 64 * words → cell wanted x ≡ 1 → cell enough x ≡ when (leb m (bidders (has ms w) n x)) 1
+-- the cells of the first words of `enough` are those with two bidders or more, of those wanted
+pub record Gathered (ms : List ℕ) (w n : ℕ) (wanted enough : List ℕ) (words : ℕ) : Type 0 where
+  pub each : (x : ℕ) → x < 64 * words → cell wanted x ≡ 1 → cell enough x ≡ when (leb 2 (bidders (has ms w) n x)) 1
 
 -- r is the first number below L that passes, or L where there is none
 pub record FirstOf (P : ℕ → Bool) (L r : ℕ) : Type 0 where

@@ -17,7 +17,7 @@ refuses m p a = eqb (number a) m && eqb (place a) p
 -- an award of the kind k to a tender of the kind l from s to e, n bids stated and n award rows lent
 unfoldable pub try : Kind → Kind → ℕ → ℕ → ℕ → List ℕ → List ℕ → Outcome
 unfolding awardOf
-try k l s e n bids windows = awardOf k (record { kind = l; window = record { start = s; end = e } }) n bids windows n 0
+try k l s e n bids windows = awardOf k (record { kind = l; window = record { start = s; end = e } }) n bids windows n
 
 unfoldable pub row : ℕ → ℕ → ℕ → ℕ → List ℕ
 row b p f c = b ∷ p ∷ f ∷ c ∷ []
@@ -51,7 +51,7 @@ nine = refl
 
 unfoldable pub shortRows : Outcome
 unfolding awardOf row
-shortRows = awardOf Single (record { kind = Single; window = record { start = 0; end = 10 } }) 1 (row 1 5 0 1) (0 ∷ 5 ∷ []) 0 0
+shortRows = awardOf Single (record { kind = Single; window = record { start = 0; end = 10 } }) 1 (row 1 5 0 1) (0 ∷ 5 ∷ []) 0
 
 -- 10 after 9 and before 11
 pub ten : refuses 10 0 shortRows ≡ true

@@ -1,3 +1,4 @@
 pub mod FaultCases
 pub mod Worked
 pub mod WorkedCases
+pub mod ThinCases

@@ -1,18 +1,12 @@
 -- The starred tenders of paper 01, by computation from the definitions. Assumes nothing.
 use mathlib.Core.Path.{_≡_, refl, sym, ap, _∙_}
 use mathlib.Core.List.{List, [], _∷_}
-use mathlib.Core.Bool.{Bool, true, false, not, _&&_, _||_, false≢true}
-use Prim.Native.Nat.{ℕ, _-_}
-use lib.Dec.{leb, ltb, eqb}
-use borrow.Author.Tests.{leb-true, ltb-true, eqb-true, eq-eqb}
-use Rattle.tender.specs.declared.Refusal.the-variants.{MinuteUncovered, OneBidder}
-use Rattle.tender.specs.Refusals.{numberOf}
-use Rattle.tender.specs.Tables.{rowsOf}
-use Rattle.cover.specs.Sets.{bidders}
+use mathlib.Core.Bool.{Bool, true, false, not, _&&_, false≢true}
+use lib.Dec.{eqb}
+use borrow.Author.Tests.{eqb-true}
 use Rattle.cover.specs.SetLaws.{and-split}
-use Rattle.tables.specs.Cells.{hasOf}
 use Rattle.tender.specs.declared.AwardRow.{AwardRow}
-use Rattle.outcome.specs.Award.{Outcome, awarded, refused, awardOf, number, place, InBids, Answers}
+use Rattle.outcome.specs.Award.{Outcome, awarded, refused, awardOf}
 use Rattle.cases.specs.WorkedCases.{Case, tenderOf, countOf, cases}
 
 unfoldable pub sameBool : Bool → Bool → Bool
@@ -33,27 +27,10 @@ sameOutcome (awarded rs c p) (refused n m) = false
 sameOutcome (refused n m) (awarded rs c p) = false
 sameOutcome (refused n m) (refused o l) = eqb n o && eqb m l
 
--- the minute is in the tender, and in exactly m bids
-unfoldable pub inBids : Case → ℕ → ℕ → Bool
-unfolding tenderOf countOf bidders hasOf rowsOf
-inBids c minute m =
-    leb (c .start) minute && ltb minute (c .end)
-    && eqb (bidders (hasOf (tenderOf c) (rowsOf (countOf c) (c .bids)) (c .windows)) (countOf c) (minute - c .start)) m
-
--- the numbers of the two refusals that name a minute
-abbrev nobody : ℕ
-nobody = numberOf (MinuteUncovered 0)
-
-abbrev alone : ℕ
-alone = numberOf (OneBidder 0)
-
--- the answer is the one defined, and the minute of 11 or 12 is one that the page allows
+-- the answer is the one defined
 unfoldable pub right : Case → Bool
-unfolding sameOutcome awardOf tenderOf countOf number place inBids
-right c =
-    sameOutcome (awardOf (c .kind) (tenderOf c) (countOf c) (c .bids) (c .windows) (countOf c) (place (c .outcome))) (c .outcome)
-    && (not (eqb (number (c .outcome)) nobody) || inBids c (place (c .outcome)) 0)
-    && (not (eqb (number (c .outcome)) alone) || inBids c (place (c .outcome)) 1)
+unfolding sameOutcome awardOf tenderOf countOf
+right c = sameOutcome (awardOf (c .kind) (tenderOf c) (countOf c) (c .bids) (c .windows) (countOf c)) (c .outcome)
 
 unfoldable pub allRight : List Case → Bool
 unfolding right
@@ -89,44 +66,14 @@ same-answer (refused n m) (refused o l) e =
     let a = and-split (eqb n o) (eqb m l) e in
     ap (λ x. refused x m) (eqb-true n o (a .0)) ∙ ap (λ x. refused o x) (eqb-true m l (a .1))
 
-in-bids : (c : Case) (minute m : ℕ) → inBids c minute m ≡ true → InBids (tenderOf c) (countOf c) (c .bids) (c .windows) minute m
-unfolding inBids tenderOf
-in-bids c minute m e =
-    let a = and-split (leb (c .start) minute && ltb minute (c .end)) _ e in
-    let b = and-split (leb (c .start) minute) (ltb minute (c .end)) (a .0) in
-    record { from = leb-true (c .start) minute (b .0); to = ltb-true minute (c .end) (b .1); bids-with-it = eqb-true _ m (a .1) }
-
-where-number : (n m : ℕ) (b : Bool) → not (eqb n m) || b ≡ true → n ≡ m → b ≡ true
-where-number n m b e f = rw (eq-eqb n m f) at e
-
-right-is : (c : Case) → right c ≡ true →
-    ((sameOutcome (awardOf (c .kind) (tenderOf c) (countOf c) (c .bids) (c .windows) (countOf c) (place (c .outcome))) (c .outcome) ≡ true) × (not (eqb (number (c .outcome)) nobody) || inBids c (place (c .outcome)) 0 ≡ true))
-    × (not (eqb (number (c .outcome)) alone) || inBids c (place (c .outcome)) 1 ≡ true)
-unfolding right
-right-is c e =
-    let a = and-split (sameOutcome (awardOf (c .kind) (tenderOf c) (countOf c) (c .bids) (c .windows) (countOf c) (place (c .outcome))) (c .outcome) && (not (eqb (number (c .outcome)) nobody) || inBids c (place (c .outcome)) 0))
-    (not (eqb (number (c .outcome)) alone) || inBids c (place (c .outcome)) 1) e in
-    (and-split (sameOutcome (awardOf (c .kind) (tenderOf c) (countOf c) (c .bids) (c .windows) (countOf c) (place (c .outcome))) (c .outcome)) (not (eqb (number (c .outcome)) nobody) || inBids c (place (c .outcome)) 0) (a .0), a .1)
-
-right-answers : (c : Case) → right c ≡ true → Answers (c .kind) (tenderOf c) (countOf c) (c .bids) (c .windows) (countOf c) (c .outcome)
-right-answers c e = go (right-is c e)
-  where
-    go : ((sameOutcome (awardOf (c .kind) (tenderOf c) (countOf c) (c .bids) (c .windows) (countOf c) (place (c .outcome))) (c .outcome) ≡ true) × (not (eqb (number (c .outcome)) nobody) || inBids c (place (c .outcome)) 0 ≡ true))
-        × (not (eqb (number (c .outcome)) alone) || inBids c (place (c .outcome)) 1 ≡ true) → Answers (c .kind) (tenderOf c) (countOf c) (c .bids) (c .windows) (countOf c) (c .outcome)
-    go s = record {
-      is = sym (same-answer _ (c .outcome) (s .0 .0));
-      nobody = λ f. in-bids c (place (c .outcome)) 0 (where-number (number (c .outcome)) nobody (inBids c (place (c .outcome)) 0) (s .0 .1) f);
-      alone = λ f. in-bids c (place (c .outcome)) 1 (where-number (number (c .outcome)) alone (inBids c (place (c .outcome)) 1) (s .1) f);
-    }
-
 abbrev pub AllOutcome : List Case → Type 0
 AllOutcome [] = Unit {0}
-AllOutcome (c ∷ cs) = Answers (c .kind) (tenderOf c) (countOf c) (c .bids) (c .windows) (countOf c) (c .outcome) × AllOutcome cs
+AllOutcome (c ∷ cs) = (awardOf (c .kind) (tenderOf c) (countOf c) (c .bids) (c .windows) (countOf c) ≡ c .outcome) × AllOutcome cs
 
 all-answer : (cs : List Case) → allRight cs ≡ true → AllOutcome cs
-unfolding allRight
+unfolding allRight right
 all-answer [] e = tt
-all-answer (c ∷ cs) e = let s = and-split (right c) (allRight cs) e in (right-answers c (s .0), all-answer cs (s .1))
+all-answer (c ∷ cs) e = let s = and-split (right c) (allRight cs) e in (same-answer _ (c .outcome) (s .0), all-answer cs (s .1))
 
 tested : allRight cases ≡ true
 unfolding allRight cases

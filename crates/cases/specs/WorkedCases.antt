@@ -52,8 +52,8 @@ fourBids p a = record {
 unfoldable pub noBids : Kind → Case
 noBids k = record { kind = k; start = 0; end = 1; bids = []; windows = []; outcome = refused 11 0 }
 
-unfoldable pub halves : Kind → ℕ → Case
-halves k minute = record { kind = k; start = 0; end = 10; bids = 1 ∷ 3 ∷ 0 ∷ 1 ∷ 2 ∷ 4 ∷ 1 ∷ 1 ∷ []; windows = 0 ∷ 5 ∷ 5 ∷ 10 ∷ []; outcome = refused 12 minute }
+unfoldable pub halves : Kind → Case
+halves k = record { kind = k; start = 0; end = 10; bids = 1 ∷ 3 ∷ 0 ∷ 1 ∷ 2 ∷ 4 ∷ 1 ∷ 1 ∷ []; windows = 0 ∷ 5 ∷ 5 ∷ 10 ∷ []; outcome = refused 12 0 }
 
 unfoldable pub twoMinutes : Case
 unfolding paid lost
@@ -83,7 +83,7 @@ cases =
     ∷ fourBids 31 (awarded (lost ∷ paid 18 ∷ paid 30 ∷ lost ∷ []) 45 48)
     -- 5, 6
     ∷ noBids Single ∷ noBids Multi
-    ∷ halves Single 0 ∷ halves Single 9 ∷ halves Multi 4
+    ∷ halves Single ∷ halves Multi
     -- 7, 8
     ∷ twoMinutes
     ∷ free Single ∷ free Multi

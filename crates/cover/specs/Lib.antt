@@ -1,11 +1,13 @@
 pub mod Sets
 pub mod LeastCover
+pub mod Earliest
 pub mod Greedy
 pub mod CriticalPrice
 pub mod Threshold
 pub mod Settled
 pub mod SetLaws
 pub mod LeastCoverLaws
+pub mod EarliestLaws
 pub mod VcgLaws
 pub mod PickLaws
 pub mod Chance

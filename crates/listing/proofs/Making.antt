@@ -27,8 +27,8 @@ use Rattle.tender.specs.declared.Answer.the-variants.{Awarded, Refused}
 use Rattle.outcome.specs.Plain.{PlainPromise}
 use Rattle.listing.specs.Lines.{awardLine, winLines, pairLine, totalWord, refusedWord}
 use Rattle.listing.specs.Written.{Written}
-use Rattle.listing.specs.List.{AwardList, Listed}
-use Rattle.listing.specs.ListLaws.{award-list, is-list-short}
+use Rattle.listing.specs.List.{listOf, Listed}
+use Rattle.listing.specs.ListLaws.{award-list, list-short}
 use Rattle.listing.specs.Made.{answerLines, Awarded·written, Made}
 use Rattle.listing.proofs.Writing.{from-start}
 
@@ -89,28 +89,30 @@ pub made-award : {text bids windows old new : List ℕ} {t : Tender} {n f : ℕ}
 made-award {text} {bids} {windows} {old} {new} {t} {n} {f} h w =
     let lines : List ℕ = answerLines t bids (w .won) (w .cents) n (w .answer) in
     let g : take f new ≡ lines = w .written .text in
-    let l : AwardList t (h .rows) (h .spans) lines =
+    let l : lines ≡ listOf (accepted t (h .rows) (h .spans)) =
     rw (h .bids-are, ← (h .count)) (award-list t (h .rows) (h .spans) (h .past-rows) (h .past-spans) (w .lent) (w .old-won) (w .old-cents) (w .won) (w .cents) (w .answer) (rules-law t (h .rows) (h .spans) text (h .is))
     (rw (h .count) (w .enough)) (rw (h .bids-are, h .windows-are, ← (h .count)) at (w .promise))) in
     record { right = rw (h .is, g) l; size = omega (arith, ap length g, w .written .next) }
 
 pub made-refusal : {text old new : List ℕ} {f : ℕ} (q : Refusal) → readText text ≡ reading.refused (numberOf q) (placeOf q) → Written old 0 (pairLine refusedWord (numberOf q) (placeOf q)) new f → Made text new f
+unfolding listOf
 made-refusal {text} {old} {new} {f} q e w =
     let g : take f new ≡ pairLine refusedWord (numberOf q) (placeOf q) = w .text in
     record { right = rw (e, g) refl; size = omega (arith, ap length g, w .next) }
 
 -- what is made fits the buffer that it is made in
 pub made-few : {text made : List ℕ} {n : ℕ} → Made text made n → n ≤ 51200
-made-few {text} {made} {n} m = omega (arith, m .size, is-list-short (readText text) (take n made) (λ T R W e. rules-law T R W text e) (m .right) .0)
+made-few {text} {made} {n} m = omega (arith, m .size, ap length (m .right), list-short text .0)
 
 -- it is copied where there is room, and else nothing is
 pub listed-none : {text made old : List ℕ} {n : ℕ} → Made text made n → length old < n → Listed text old old 0
 listed-none {text} {made} {old} {n} m l =
-    let e : leb (length (take n made)) (length old) ≡ false = lt-leb (length (take n made)) (length old) (omega (arith, m .size)) in
-    record { list = take n made; right = m .right; answer = rw e; bytes = rw e }
+    let e : leb (length (listOf (readText text))) (length old) ≡ false = lt-leb (length (listOf (readText text))) (length old) (omega (arith, m .size, ap length (m .right))) in
+    record { answer = rw e; bytes = rw e }
 
 pub listed-all : {text made old new : List ℕ} {n r : ℕ} → Made text made n → n ≤ length old → Written old 0 (take n made) new r → Listed text old new r
 listed-all {text} {made} {old} {new} {n} {r} m l w =
-    let e : leb (length (take n made)) (length old) ≡ true = le-leb (length (take n made)) (length old) (omega (arith, m .size)) in
-    let k : length (take n made) ≡ r = omega (arith, w .next) in
-    record { list = take n made; right = m .right; answer = rw e (sym k); bytes = rw (e, k) (from-start old (take n made) new r w) }
+    let list = listOf (readText text) in
+    let e : leb (length list) (length old) ≡ true = le-leb (length list) (length old) (omega (arith, m .size, ap length (m .right))) in
+    let k : length list ≡ r = omega (arith, w .next, ap length (m .right)) in
+    record { answer = rw e (sym k); bytes = rw (e, k) (from-start old list new r (rw (m .right) at w)) }

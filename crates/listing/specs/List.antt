@@ -5,7 +5,6 @@ use mathlib.Core.List.{List, [], _++_}
 use Prim.Native.Nat.{ℕ, zero, suc}
 use lib.ListN.{length, getD, drop}
 use lib.Dec.{leb}
-use Rattle.tender.specs.declared.Window.{Window}
 use Rattle.tender.specs.declared.Tender.{Tender}
 use Rattle.tender.specs.Tables.{Row, flatRows, flatWindows}
 use Rattle.cover.specs.Sets.{when}
@@ -13,7 +12,7 @@ use Rattle.reader.specs.Read.{accepted, readText}
 use Rattle.reader.specs.Read as reading
 use Rattle.tables.specs.Cells.{noRow}
 use Rattle.tender.specs.declared.AwardRow.{AwardRow}
-use Rattle.outcome.specs.Award.{Outcome, awarded, refused, Answers}
+use Rattle.outcome.specs.Award.{Outcome, awarded, refused, awardOf}
 use Rattle.award.specs.Gain.{lost}
 use Rattle.listing.specs.Lines.{pairLine, winWord, totalWord, refusedWord, awardLine}
 
@@ -29,21 +28,14 @@ unfolding awardLine winList pairLine totalWord refusedWord
 listLines t R (awarded rows cost paid) = awardLine t ++ winList R rows (length R) ++ pairLine totalWord cost paid
 listLines t R (refused n at) = pairLine refusedWord n at
 
--- the list of the award on what was read, with an award row for every bid
-pub record AwardList (t : Tender) (R : List Row) (W : List Window) (list : List ℕ) : Type 0 where
-  pub outcome : Outcome
-  pub right : Answers (t .kind) t (length R) (flatRows R) (flatWindows W) (length R) outcome
-  pub is : list ≡ listLines t R outcome
-
--- the list of a text, by what reading it answers
-abbrev pub IsList : reading.Outcome → List ℕ → Type 0
-IsList (reading.refused n at) list = list ≡ pairLine refusedWord n at
-IsList (accepted t R W) list = AwardList t R W list
+-- the list of a text, by what reading it answers: of the award on what was read, with an award row for every bid
+unfoldable pub listOf : reading.Outcome → List ℕ
+unfolding listLines awardOf flatRows flatWindows
+listOf (reading.refused n at) = pairLine refusedWord n at
+listOf (accepted t R W) = listLines t R (awardOf (t .kind) t (length R) (flatRows R) (flatWindows W) (length R))
 
 -- The promise of a call with the text and a lent buffer of the bytes `old`: it answers r and leaves the bytes `new`. Where the list is longer than the
 -- buffer, refusal 13, the answer is 0 and the buffer unchanged
 pub record Listed (text old new : List ℕ) (r : ℕ) : Type 0 where
-  pub list : List ℕ
-  pub right : IsList (readText text) list
-  pub answer : r ≡ when (leb (length list) (length old)) (length list)
-  pub bytes : new ≡ cond (leb (length list) (length old)) (list ++ drop (length list) old) old
+  pub answer : let list = listOf (readText text) in r ≡ when (leb (length list) (length old)) (length list)
+  pub bytes : let list = listOf (readText text) in new ≡ cond (leb (length list) (length old)) (list ++ drop (length list) old) old

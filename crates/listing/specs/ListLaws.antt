@@ -7,16 +7,17 @@ use mathlib.Core.List.{List, [], _∷_, _++_, append-nil}
 use mathlib.Core.Option.{none}
 use Prim.Native.Nat.{ℕ, zero, suc, _+_, _*_, _≤_, _<_}
 use native.Mathlib.Omega.{arith}
-use lib.ListN.{length, getD, drop, length-append, List·getD-append}
-use lib.Seq.{getD-drop}
+use lib.ListN.{length, getD, take, drop, length-append, List·getD-append}
+use lib.Seq.{getD-drop, take-append-seam}
 use lib.Dec.{leb, ltb, eqb}
 use borrow.Author.Tests.{le-ltb, le-leb}
 use Rattle.tender.specs.declared.Window.{Window}
 use Rattle.tender.specs.declared.Tender.{Tender}
-use Rattle.tender.specs.declared.Refusal.the-variants.{RowsTooFew, MinuteUncovered, OneBidder}
+use Rattle.tender.specs.declared.Refusal.the-variants.{MinuteUncovered, OneBidder}
 use Rattle.tender.specs.Refusals.{numberOf}
 use Rattle.tender.specs.Tables.{Row, rowsOf, own, flatRows, flatWindows}
-use Rattle.cover.specs.Sets.{each}
+use Rattle.cover.specs.Sets.{when, Found, nothing, found}
+use Rattle.cover.specs.Earliest.{cellWith}
 use Rattle.cover.specs.SettledLaws.{getD-listed}
 use Rattle.reader.specs.Read.{accepted, readText}
 use Rattle.reader.specs.Read as reading
@@ -26,7 +27,7 @@ use Rattle.tables.specs.Cells.{noRow, hasOf, holds, pricesOf, cellsOf}
 use Rattle.tables.specs.Faults.{faultOf}
 use Rattle.tables.specs.AlikeLaws.{windows-same, among-held, faultless}
 use Rattle.tables.specs.TextLaws.{rows-flat, length-windows, rows-end, never-nine}
-use Rattle.outcome.specs.Award.{Outcome, refused, declined, settled, awardOf, number, place, InBids, Answers}
+use Rattle.outcome.specs.Award.{Outcome, thinned, settled, awardOf, number, place}
 use Rattle.award.specs.Gain.{lost}
 use Rattle.outcome.specs.AwardLaws.{settled-is, award-none}
 use Rattle.tender.specs.declared.Answer.{Answer}
@@ -34,7 +35,7 @@ use Rattle.tender.specs.declared.Answer.the-variants.{Awarded, Refused}
 use Rattle.outcome.specs.Plain.{rowsIn, toldIn, PlainPromise}
 use Rattle.listing.specs.Lines.{winLine, winLines, refusedWord}
 use Rattle.listing.specs.Made.{answerLines}
-use Rattle.listing.specs.List.{winList, listLines, AwardList, IsList, Listed}
+use Rattle.listing.specs.List.{winList, listLines, listOf, Listed}
 use Rattle.listing.specs.LineLaws.{pair-some, refusal-short, lines-short, lines-some}
 
 -- a row's windows stand in the rows that were read, whatever is past them
@@ -64,38 +65,31 @@ module _ (T : Tender) (R : List Row) (W : List Window) (rules : Rules T R W) whe
   sound-alone : faultOf (T .kind) T (length R) (flatRows R) (flatWindows W) ≡ none
   sound-alone = rw (append-nil (flatRows R), append-nil (flatWindows W)) at (never-nine T R W [] [] rules)
 
-  award-read : (v w : List ℕ) (lent m : ℕ) → length R ≤ lent → awardOf (T .kind) T (length R) (flatRows R ++ v) (flatWindows W ++ w) lent m ≡ awardOf (T .kind) T (length R) (flatRows R) (flatWindows W) (length R) m
-  award-read v w lent m l =
-      award-none (T .kind) T (length R) (flatRows R ++ v) (flatWindows W ++ w) lent m (never-nine T R W v w rules)
+  pub award-read : (v w : List ℕ) (lent : ℕ) → length R ≤ lent → awardOf (T .kind) T (length R) (flatRows R ++ v) (flatWindows W ++ w) lent ≡ awardOf (T .kind) T (length R) (flatRows R) (flatWindows W) (length R)
+  award-read v w lent l =
+      award-none (T .kind) T (length R) (flatRows R ++ v) (flatWindows W ++ w) lent (never-nine T R W v w rules)
       ∙ rw (le-ltb lent (length R) l, rows-flat R v, cells-read w)
-      (sym (award-none (T .kind) T (length R) (flatRows R) (flatWindows W) (length R) m sound-alone ∙ rw (le-ltb (length R) (length R) (omega arith), rows-alone)))
-
-  in-read : (v w : List ℕ) (minute m : ℕ) → InBids T (length R) (flatRows R ++ v) (flatWindows W ++ w) minute m → InBids T (length R) (flatRows R) (flatWindows W) minute m
-  in-read v w minute m b = record { from = b .from; to = b .to; bids-with-it = rw rows-alone (rw (rows-flat R v, cells-read w) at (b .bids-with-it)) }
-
-  pub answers-read : (v w : List ℕ) (lent : ℕ) (o : Outcome) → length R ≤ lent → Answers (T .kind) T (length R) (flatRows R ++ v) (flatWindows W ++ w) lent o → Answers (T .kind) T (length R) (flatRows R) (flatWindows W) (length R) o
-  answers-read v w lent o l a = record {
-    is = a .is ∙ award-read v w lent (place o) l;
-    nobody = λ e. in-read v w (place o) 0 (a .nobody e);
-    alone = λ e. in-read v w (place o) 1 (a .alone e);
-  }
-
-  settled-number : (has : ℕ → ℕ → Bool) (ps : List ℕ) (L m : ℕ) → (number (settled (T .kind) has ps L m) ≡ 0) ⊎ ((number (settled (T .kind) has ps L m) ≡ numberOf (MinuteUncovered m)) ⊎ (number (settled (T .kind) has ps L m) ≡ numberOf (OneBidder m)))
-  unfolding number
-  settled-number has ps L m = go (each has (length ps) L 1) (each has (length ps) L 2) refl refl
-    where
-      go : (a b : Bool) → each has (length ps) L 1 ≡ a → each has (length ps) L 2 ≡ b →
-          (number (settled (T .kind) has ps L m) ≡ 0) ⊎ ((number (settled (T .kind) has ps L m) ≡ numberOf (MinuteUncovered m)) ⊎ (number (settled (T .kind) has ps L m) ≡ numberOf (OneBidder m)))
-      go false b e f = inr (inl (ap number (settled-is (T .kind) has ps L m false b e f)))
-      go true false e f = inr (inr (ap number (settled-is (T .kind) has ps L m true false e f)))
-      go true true e f = inl (ap number (settled-is (T .kind) has ps L m true true e f))
+      (sym (award-none (T .kind) T (length R) (flatRows R) (flatWindows W) (length R) sound-alone ∙ rw (le-ltb (length R) (length R) (omega arith), rows-alone)))
 
   -- the award on what was read is made, or declined with 11 or 12: never with 9 or 10
-  pub award-number : (o : Outcome) → Answers (T .kind) T (length R) (flatRows R) (flatWindows W) (length R) o → (number o ≡ 0) ⊎ ((number o ≡ numberOf (MinuteUncovered (place o))) ⊎ (number o ≡ numberOf (OneBidder (place o))))
-  award-number o a =
-      let e = a .is ∙ award-none (T .kind) T (length R) (flatRows R) (flatWindows W) (length R) (place o) sound-alone
-      ∙ ap (λ t. cond t (declined RowsTooFew) (settled (T .kind) (hasOf T (rowsOf (length R) (flatRows R)) (flatWindows W)) (pricesOf (rowsOf (length R) (flatRows R))) (cellsOf T) (place o))) (le-ltb (length R) (length R) (omega arith)) in
-      rw e (settled-number (hasOf T (rowsOf (length R) (flatRows R)) (flatWindows W)) (pricesOf (rowsOf (length R) (flatRows R))) (cellsOf T) (place o))
+  pub award-number : let o = awardOf (T .kind) T (length R) (flatRows R) (flatWindows W) (length R) in (number o ≡ 0) ⊎ ((number o ≡ numberOf (MinuteUncovered (place o))) ⊎ (number o ≡ numberOf (OneBidder (place o))))
+  unfolding number thinned
+  award-number = rw (award-none (T .kind) T (length R) (flatRows R) (flatWindows W) (length R) sound-alone, le-ltb (length R) (length R) (omega arith))
+      (go (cellWith has (length ps) (cellsOf T) 0) (cellWith has (length ps) (cellsOf T) 1) refl refl)
+    where
+      has : ℕ → ℕ → Bool
+      has = hasOf T (rowsOf (length R) (flatRows R)) (flatWindows W)
+
+      ps : List ℕ
+      ps = pricesOf (rowsOf (length R) (flatRows R))
+
+      o : Outcome
+      o = settled (T .kind) has ps (cellsOf T) (T .window .start)
+
+      go : (x y : Found) → cellWith has (length ps) (cellsOf T) 0 ≡ x → cellWith has (length ps) (cellsOf T) 1 ≡ y → (number o ≡ 0) ⊎ ((number o ≡ numberOf (MinuteUncovered (place o))) ⊎ (number o ≡ numberOf (OneBidder (place o))))
+      go (found x) y e f = inr (inl (ap number (settled-is (T .kind) has ps (cellsOf T) (T .window .start) (found x) y e f)))
+      go nothing (found x) e f = inr (inr (ap number (settled-is (T .kind) has ps (cellsOf T) (T .window .start) nothing (found x) e f)))
+      go nothing nothing e f = inl (ap number (settled-is (T .kind) has ps (cellsOf T) (T .window .start) nothing nothing e f))
 
 -- the lines that the code writes, from the cells of the tables, are the list's
 
@@ -125,26 +119,40 @@ answer-lines T R v won cents (Refused r) = refl
 
 -- the award on what was read gives the list of the text
 pub award-list : (T : Tender) (R : List Row) (W : List Window) (v w : List ℕ) (lent : ℕ) (won cents won′ cents′ : List ℕ) (a : Answer) → Rules T R W → length R ≤ lent →
-    PlainPromise (T .kind) T (length R) (flatRows R ++ v) (flatWindows W ++ w) lent won cents won′ cents′ a → AwardList T R W (answerLines T (flatRows R ++ v) won′ cents′ (length R) a)
-award-list T R W v w lent won cents won′ cents′ a rules l p = record {
-  outcome = toldIn (length R) won′ cents′ a;
-  right = answers-read T R W rules v w lent (toldIn (length R) won′ cents′ a) l (p .answers);
-  is = answer-lines T R v won′ cents′ a;
-}
+    PlainPromise (T .kind) T (length R) (flatRows R ++ v) (flatWindows W ++ w) lent won cents won′ cents′ a → answerLines T (flatRows R ++ v) won′ cents′ (length R) a ≡ listOf (accepted T R W)
+unfolding listOf
+award-list T R W v w lent won cents won′ cents′ a rules l p = answer-lines T R v won′ cents′ a ∙ ap (listLines T R) (p .answers ∙ award-read T R W rules v w lent l)
 
--- a list of a readable text is neither empty nor too long
-pub list-short : (T : Tender) (R : List Row) (W : List Window) (list : List ℕ) → Rules T R W → AwardList T R W list → length list ≤ 51200
-list-short T R W list rules h = rw (h .is) (lines-short T R (h .outcome) (rules .few-bids))
-
-pub is-list-short : (o : reading.Outcome) (list : List ℕ) → ((T : Tender) (R : List Row) (W : List Window) → o ≡ accepted T R W → Rules T R W) → IsList o list → (length list ≤ 51200) × (0 < length list)
-is-list-short (reading.refused n at) list f h = (rw h (refusal-short n at), rw h (pair-some refusedWord n at))
-is-list-short (accepted T R W) list f h = (list-short T R W list (f T R W refl) h, rw (h .is) (lines-some T R (h .outcome)))
+-- the list of a text is neither empty nor too long
+pub list-short : (text : List ℕ) → (length (listOf (readText text)) ≤ 51200) × (0 < length (listOf (readText text)))
+unfolding listOf
+list-short text = go (readText text) (λ T R W e. rules-law T R W text e)
+  where
+    go : (o : reading.Outcome) → ((T : Tender) (R : List Row) (W : List Window) → o ≡ accepted T R W → Rules T R W) → (length (listOf o) ≤ 51200) × (0 < length (listOf o))
+    go (reading.refused n at) f = (refusal-short n at, pair-some refusedWord n at)
+    go (accepted T R W) f = let o = awardOf (T .kind) T (length R) (flatRows R) (flatWindows W) (length R) in (lines-short T R o (f T R W refl .few-bids), lines-some T R o)
 
 -- a buffer of 51,200 bytes always suffices
 pub suffices : {text old new : List ℕ} {r : ℕ} → Listed text old new r → 51200 ≤ length old → (0 < r) × (r ≤ length new)
 suffices {text} {old} {new} {r} h l =
-    let s = is-list-short (readText text) (h .list) (λ T R W e. rules-law T R W text e) (h .right) in
-    let e : leb (length (h .list)) (length old) ≡ true = le-leb (length (h .list)) (length old) (omega (arith, s .0)) in
-    let a : r ≡ length (h .list) = rw e at (h .answer) in
-    let b : new ≡ h .list ++ drop (length (h .list)) old = rw e at (h .bytes) in
-    (omega (arith, s .1), omega (arith, ap length b, length-append (h .list) (drop (length (h .list)) old)))
+    let s = list-short text in
+    let list = listOf (readText text) in
+    let e : leb (length list) (length old) ≡ true = le-leb (length list) (length old) (omega (arith, s .0)) in
+    let a : r ≡ length list = rw e at (h .answer) in
+    let b : new ≡ list ++ drop (length list) old = rw e at (h .bytes) in
+    (omega (arith, s .1), omega (arith, ap length b, length-append list (drop (length list) old)))
+
+-- what a call shows is the list of the text
+pub listed-is : {text old new : List ℕ} {r : ℕ} → Listed text old new r → 0 < r → take r new ≡ listOf (readText text)
+listed-is {text} {old} {new} {r} h l = go (leb (length list) (length old)) (h .answer) (h .bytes)
+  where
+    list : List ℕ
+    list = listOf (readText text)
+
+    go : (b : Bool) → r ≡ when b (length list) → new ≡ cond b (list ++ drop (length list) old) old → take r new ≡ list
+    go true a e = rw (a, e) (take-append-seam list (drop (length list) old))
+    go false a e = absurd (omega arith)
+
+-- two calls on the same text show the same list
+pub same-list : {text old new old′ new′ : List ℕ} {r r′ : ℕ} → Listed text old new r → Listed text old′ new′ r′ → 0 < r → 0 < r′ → take r new ≡ take r′ new′
+same-list h h′ l l′ = listed-is h l ∙ sym (listed-is h′ l′)

@@ -10,7 +10,7 @@ use Rattle.tender.specs.declared.Answer.{Answer}
 use Rattle.tender.specs.declared.Answer.the-variants.{Awarded, Refused}
 use Rattle.outcome.specs.Plain.{PlainPromise}
 use Rattle.listing.specs.Lines.{awardLine, winLines, pairLine, totalWord, refusedWord}
-use Rattle.listing.specs.List.{IsList}
+use Rattle.listing.specs.List.{listOf}
 use Rattle.listing.specs.Written.{Written}
 
 -- the list of an award's answer, from the cells of the table of bids and of the award rows
@@ -33,5 +33,5 @@ pub record Awarded·written (t : Tender) (n : ℕ) (bids windows old new : List 
 
 -- the first `end` bytes are the list of the text
 pub record Made (text new : List ℕ) (end : ℕ) : Type 0 where
-  pub right : IsList (readText text) (take end new)
+  pub right : take end new ≡ listOf (readText text)
   pub size : length (take end new) ≡ end

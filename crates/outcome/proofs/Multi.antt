@@ -15,6 +15,7 @@ use Rattle.tender.specs.declared.Totals.{Totals}
 use Rattle.tender.specs.declared.Refusal.the-variants.{MinuteUncovered, OneBidder}
 use Rattle.tender.specs.Tables.{rowsOf}
 use Rattle.cover.specs.Sets.{cells, each}
+use Rattle.cover.specs.EarliestLaws.{two-each}
 use Rattle.cover.specs.Greedy.{wins}
 use Rattle.cover.specs.CriticalPrice.{roundsPaid}
 use Rattle.cover.specs.Settled.{Settled}
@@ -63,23 +64,23 @@ module _ (t : Tender) (n w : ℕ) (bids windows ms ps ow oc : List ℕ) (f : fau
   count = ap length p ∙ prices-count n bids
 
   pub uncovered : (x : ℕ) → Says (has ms w) n (cellsOf t) (Nobody x) → PlainPromise Multi t n bids windows n ow oc ow oc (Refused (MinuteUncovered (t .window .start + x)))
-  uncovered x s = let h = rw same at s in eleven Multi t n bids windows n ow oc f (omega arith) x (h .0) (h .1)
+  uncovered x s = eleven Multi t n bids windows n ow oc f (omega arith) x (rw same at s)
 
   pub lone : (x : ℕ) → Says (has ms w) n (cellsOf t) (Alone x) → PlainPromise Multi t n bids windows n ow oc ow oc (Refused (OneBidder (t .window .start + x)))
-  lone x s = let h = rw same at s in twelve Multi t n bids windows n ow oc f (omega arith) x (h .0) (h .1 .0) (h .1 .1)
+  lone x s = let h = rw same at s in twelve Multi t n bids windows n ow oc f (omega arith) x (h .0) (h .1)
 
   pub market : Words t w → Market ps ms w
   market d = record { priced = rw p (priced Multi n bids windows (orderly Multi t n bids windows f)); size = size ∙ ap (λ (k : ℕ). w * k) (sym count); words = d .words }
 
   pub two-bidders : Says (has ms w) n (cellsOf t) Enough → each (has ms w) (length ps) (cellsOf t) 2 ≡ true
-  two-bidders s = rw count s
+  two-bidders s = rw count (two-each (has ms w) n (cellsOf t) (s .0) (s .1))
 
   pub settled : Says (has ms w) n (cellsOf t) Enough → (nw nc : List ℕ) (totals : Totals) →
       Settled (wins (has ms w) ps (cells (cellsOf t))) (roundsPaid (has ms w) ps (cells (cellsOf t))) ps ow oc nw nc (totals .cost) (totals .paid) →
       PlainPromise Multi t n bids windows n ow oc nw nc (Awarded totals)
   settled s nw nc totals h =
-      let two = rw same at s in
+      let h′ = rw same at s in
       let ps′ = pricesOf (rowsOf n bids) in
       let c : length ps′ ≡ n = prices-count n bids in
-      awards Multi t n bids windows n ow oc f (omega arith) two (wins (hasOf t (rowsOf n bids) windows) ps′ (cells (cellsOf t))) (roundsPaid (hasOf t (rowsOf n bids) windows) ps′ (cells (cellsOf t)))
-      (λ i l. multi-won (hasOf t (rowsOf n bids) windows) ps′ (cellsOf t) i) (λ i l. multi-cents (hasOf t (rowsOf n bids) windows) ps′ (cellsOf t) i (omega arith) (rw c two)) nw nc totals (rw (same, p) at h)
+      awards Multi t n bids windows n ow oc f (omega arith) (h′ .0) (h′ .1) (wins (hasOf t (rowsOf n bids) windows) ps′ (cells (cellsOf t))) (roundsPaid (hasOf t (rowsOf n bids) windows) ps′ (cells (cellsOf t)))
+      (λ i l. multi-won (hasOf t (rowsOf n bids) windows) ps′ (cellsOf t) i) (λ i l. multi-cents (hasOf t (rowsOf n bids) windows) ps′ (cellsOf t) i (omega arith) (rw c (two-each (hasOf t (rowsOf n bids) windows) n (cellsOf t) (h′ .0) (h′ .1)))) nw nc totals (rw (same, p) at h)

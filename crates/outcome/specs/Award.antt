@@ -1,9 +1,8 @@
 -- The whole answer of either award to its tables (paper 01, "Who wins and what is paid" and "What each operation declines").
-use mathlib.Core.Path.{_≡_}
 use mathlib.Core.List.{List}
-use mathlib.Core.Bool.{Bool, cond, not}
+use mathlib.Core.Bool.{Bool, cond}
 use mathlib.Core.Option.{Option, none, some}
-use Prim.Native.Nat.{ℕ, _-_, _≤_, _<_}
+use Prim.Native.Nat.{ℕ, _+_}
 use lib.ListN.{length, getD}
 use lib.Dec.{ltb}
 use Rattle.tender.specs.declared.Kind.{Kind}
@@ -13,7 +12,8 @@ use Rattle.tender.specs.declared.Refusal.{Refusal}
 use Rattle.tender.specs.declared.Refusal.the-variants.{BadTables, RowsTooFew, MinuteUncovered, OneBidder}
 use Rattle.tender.specs.Refusals.{numberOf, placeOf}
 use Rattle.tender.specs.Tables.{rowsOf}
-use Rattle.cover.specs.Sets.{when, bit, covers, cells, bidders, each}
+use Rattle.cover.specs.Sets.{when, Found, nothing, found, bit, covers, cells}
+use Rattle.cover.specs.Earliest.{cellWith}
 use Rattle.cover.specs.LeastCover.{winners, vcgPaid}
 use Rattle.cover.specs.Greedy.{wins}
 use Rattle.cover.specs.CriticalPrice.{criticalPaid, sum}
@@ -56,25 +56,30 @@ unfoldable pub paidOf : Kind → (ℕ → ℕ → Bool) → List ℕ → ℕ →
 unfolding cents listed sum
 paidOf k has ps L = sum (listed (length ps) (cents k has ps L))
 
--- 11 where some cell is in no bid, 12 where none is but some cell is in one alone, else the award; `minute` is the place answered with 11 or 12
+-- 11 at the cell found in no bid, else 12 at the cell found in one alone, else the outcome; cell x is the minute start + x
+unfoldable pub thinned : ℕ → Found → Found → Outcome → Outcome
+thinned start (found x) lone o = declined (MinuteUncovered (start + x))
+thinned start nothing (found x) o = declined (OneBidder (start + x))
+thinned start nothing nothing o = o
+
+-- 11 at the earliest cell in no bid, else 12 at the earliest in exactly one, else the award
 unfoldable pub settled : Kind → (ℕ → ℕ → Bool) → List ℕ → ℕ → ℕ → Outcome
-unfolding each filled costOf paidOf
-settled k has ps L minute =
-    cond (not (each has (length ps) L 1)) (declined (MinuteUncovered minute))
-    (cond (not (each has (length ps) L 2)) (declined (OneBidder minute))
-    (awarded (filled k has ps L) (costOf k has ps L) (paidOf k has ps L)))
+unfolding thinned cellWith filled costOf paidOf
+settled k has ps L start =
+    thinned start (cellWith has (length ps) L 0) (cellWith has (length ps) L 1)
+    (awarded (filled k has ps L) (costOf k has ps L) (paidOf k has ps L))
 
 unfoldable pub judged : Option ℕ → Outcome → Outcome
 judged none o = o
 judged (some place) o = declined (BadTables place)
 
 -- the award of the kind k, where n bids are stated and `lent` award rows are lent: first 9, then 10, then the tender itself
-unfoldable pub awardOf : Kind → Tender → ℕ → List ℕ → List ℕ → ℕ → ℕ → Outcome
+unfoldable pub awardOf : Kind → Tender → ℕ → List ℕ → List ℕ → ℕ → Outcome
 unfolding judged faultOf settled hasOf rowsOf pricesOf cellsOf
-awardOf k t n bids windows lent minute =
+awardOf k t n bids windows lent =
     judged (faultOf k t n bids windows)
     (cond (ltb lent n) (declined RowsTooFew)
-    (settled k (hasOf t (rowsOf n bids) windows) (pricesOf (rowsOf n bids)) (cellsOf t) minute))
+    (settled k (hasOf t (rowsOf n bids) windows) (pricesOf (rowsOf n bids)) (cellsOf t) (t .window .start)))
 
 unfoldable pub number : Outcome → ℕ
 number (awarded rows cost paid) = 0
@@ -83,15 +88,3 @@ number (refused n at) = n
 unfoldable pub place : Outcome → ℕ
 place (awarded rows cost paid) = 0
 place (refused n at) = at
-
--- the minute is in the tender, and in exactly m bids
-pub record InBids (t : Tender) (n : ℕ) (bids windows : List ℕ) (minute m : ℕ) : Type 0 where
-  pub from : t .window .start ≤ minute
-  pub to : minute < t .window .end
-  pub bids-with-it : bidders (hasOf t (rowsOf n bids) windows) n (minute - t .window .start) ≡ m
-
--- the outcome is right: all of it but the minute is given, and of the minute what holds of it
-pub record Answers (k : Kind) (t : Tender) (n : ℕ) (bids windows : List ℕ) (lent : ℕ) (o : Outcome) : Type 0 where
-  pub is : o ≡ awardOf k t n bids windows lent (place o)
-  pub nobody : number o ≡ numberOf (MinuteUncovered (place o)) → InBids t n bids windows (place o) 0
-  pub alone : number o ≡ numberOf (OneBidder (place o)) → InBids t n bids windows (place o) 1

@@ -11,7 +11,7 @@ use Rattle.cover.specs.Settled.{listed}
 use Rattle.tender.specs.declared.AwardRow.{AwardRow}
 use Rattle.tender.specs.declared.Answer.{Answer}
 use Rattle.tender.specs.declared.Answer.the-variants.{Awarded, Refused}
-use Rattle.outcome.specs.Award.{Outcome, awarded, refused, declined, Answers}
+use Rattle.outcome.specs.Award.{Outcome, awarded, refused, declined, awardOf}
 
 -- the award row that a bid's flag and cents say
 abbrev pub rowOf : ℕ → ℕ → AwardRow
@@ -39,6 +39,6 @@ centsAfter old (refused n at) = old
 
 -- the promise of a call, with `lent` award rows: it leaves the cells won′ and cents′ and answers a
 pub record PlainPromise (k : Kind) (t : Tender) (n : ℕ) (bids windows : List ℕ) (lent : ℕ) (won cents won′ cents′ : List ℕ) (a : Answer) : Type 0 where
-  pub answers : Answers k t n bids windows lent (toldIn n won′ cents′ a)
+  pub answers : toldIn n won′ cents′ a ≡ awardOf k t n bids windows lent
   pub won-cells : won′ ≡ wonAfter won (toldIn n won′ cents′ a)
   pub cents-cells : cents′ ≡ centsAfter cents (toldIn n won′ cents′ a)

@@ -1,13 +1,13 @@
 -- How the answer over plain cells comes about: from a fault, too few rows, a cell in no bid or in one, or what a core settles. Assumes nothing.
 use mathlib.Core.Path.{_≡_, refl, sym, ap, _∙_}
 use mathlib.Core.List.{List, _++_, map}
-use mathlib.Core.Bool.{Bool, true, false, cond}
+use mathlib.Core.Bool.{Bool, true, cond}
 use mathlib.Core.Option.{none, some}
 use Prim.Native.Nat.{ℕ, _+_, _≤_, _<_}
 use native.Mathlib.Omega.{arith}
 use lib.ListN.{length, getD, drop, List·getD-append}
-use lib.Dec.{leb, eqb}
-use borrow.Author.Tests.{lt-ltb, le-ltb, leb-true, le-leb}
+use lib.Dec.{eqb}
+use borrow.Author.Tests.{lt-ltb, le-ltb}
 use Rattle.tender.specs.declared.Kind.{Kind}
 use Rattle.tender.specs.declared.Kind.the-variants.{Single, Multi}
 use Rattle.tender.specs.declared.Tender.{Tender}
@@ -15,8 +15,9 @@ use Rattle.tender.specs.declared.Totals.{Totals}
 use Rattle.tender.specs.declared.Refusal.{Refusal}
 use Rattle.tender.specs.declared.Refusal.the-variants.{BadTables, RowsTooFew, MinuteUncovered, OneBidder}
 use Rattle.tender.specs.Tables.{rowsOf}
-use Rattle.cover.specs.Sets.{when, all, bidders, each, covers, cells, bit}
-use Rattle.cover.specs.SetLaws.{all-of, all-at, when-is}
+use Rattle.cover.specs.Sets.{when, nothing, found, each, covers, cells, bit}
+use Rattle.cover.specs.Earliest.{cellWith}
+use Rattle.cover.specs.SetLaws.{when-is}
 use Rattle.cover.specs.LeastCover.{winners, vcgPaid}
 use Rattle.cover.specs.Greedy.{wins}
 use Rattle.cover.specs.CriticalPrice.{sum, roundsPaid}
@@ -30,23 +31,9 @@ use Rattle.tables.specs.Cells.{cellsOf, hasOf, pricesOf}
 use Rattle.tables.specs.AlikeLaws.{prices-count}
 use Rattle.tender.specs.declared.Answer.{Answer}
 use Rattle.tender.specs.declared.Answer.the-variants.{Awarded, Refused}
-use Rattle.outcome.specs.Award.{won, cents, awarded, declined, filled, costOf, paidOf, settled, judged, awardOf, number, place, Answers}
+use Rattle.outcome.specs.Award.{won, cents, awarded, declined, filled, costOf, paidOf, thinned, settled, judged, awardOf}
 use Rattle.outcome.specs.Plain.{rowsIn, toldIn, wonAfter, centsAfter, PlainPromise}
-use Rattle.outcome.specs.AwardLaws.{won-single, cents-single, won-multi, cents-multi, award-none, award-nine, award-settles, in-bids}
-
--- how many bidders each cell has
-
-pub each-fails : (has : ℕ → ℕ → Bool) (n L m x : ℕ) → x < L → bidders has n x < m → each has n L m ≡ false
-unfolding each
-each-fails has n L m x l h = go (all L (λ x. leb m (bidders has n x))) refl
-  where
-    go : (b : Bool) → all L (λ x. leb m (bidders has n x)) ≡ b → b ≡ false
-    go true e = absurd (omega (arith, leb-true m (bidders has n x) (all-at (λ x. leb m (bidders has n x)) L e x l)))
-    go false e = refl
-
-pub two-one : (has : ℕ → ℕ → Bool) (n L : ℕ) → each has n L 2 ≡ true → each has n L 1 ≡ true
-unfolding each
-two-one has n L e = all-of (λ x. leb 1 (bidders has n x)) L (λ x l. le-leb 1 (bidders has n x) (omega (arith, leb-true 2 (bidders has n x) (all-at (λ x. leb 2 (bidders has n x)) L e x l))))
+use Rattle.outcome.specs.AwardLaws.{won-single, cents-single, won-multi, cents-multi, award-none, award-nine, award-settles}
 
 module _ (k : Kind) (t : Tender) (n : ℕ) (bids windows : List ℕ) (lent : ℕ) (ow oc : List ℕ) where
   abbrev has : ℕ → ℕ → Bool
@@ -59,42 +46,28 @@ module _ (k : Kind) (t : Tender) (n : ℕ) (bids windows : List ℕ) (lent : ℕ
   L = cellsOf t
 
   -- a refusal leaves the cells
-  refuses : (r : Refusal) → Answers k t n bids windows lent (toldIn n ow oc (Refused r)) → PlainPromise k t n bids windows lent ow oc ow oc (Refused r)
+  refuses : (r : Refusal) → awardOf k t n bids windows lent ≡ declined r → PlainPromise k t n bids windows lent ow oc ow oc (Refused r)
   unfolding toldIn wonAfter centsAfter
-  refuses r a = record { answers = a; won-cells = refl; cents-cells = refl }
+  refuses r e = record { answers = sym e; won-cells = refl; cents-cells = refl }
 
   pub nine : (p : ℕ) → faultOf k t n bids windows ≡ some p → PlainPromise k t n bids windows lent ow oc ow oc (Refused (BadTables p))
-  unfolding toldIn number place
-  nine p e = refuses (BadTables p) (record { is = sym (award-nine k t n bids windows lent p p e); nobody = λ z. absurd (omega arith); alone = λ z. absurd (omega arith) })
+  nine p e = refuses (BadTables p) (award-nine k t n bids windows lent p e)
 
   module _ (f : faultOf k t n bids windows ≡ none) where
     pub ten : lent < n → PlainPromise k t n bids windows lent ow oc ow oc (Refused RowsTooFew)
-    unfolding toldIn number place
-    ten l = refuses RowsTooFew (record {
-      is = sym (award-none k t n bids windows lent 0 f ∙ ap (λ b. cond b (declined RowsTooFew) (settled k has ps L 0)) (lt-ltb lent n l));
-      nobody = λ z. absurd (omega arith);
-      alone = λ z. absurd (omega arith);
-    })
+    ten l = refuses RowsTooFew (award-none k t n bids windows lent f ∙ ap (λ b. cond b (declined RowsTooFew) (settled k has ps L (t .window .start))) (lt-ltb lent n l))
 
     module _ (enough : n ≤ lent) where
-      pub eleven : (x : ℕ) → x < L → bidders has n x ≡ 0 → PlainPromise k t n bids windows lent ow oc ow oc (Refused (MinuteUncovered (t .window .start + x)))
-      unfolding toldIn number place
-      eleven x l e = refuses (MinuteUncovered (t .window .start + x)) (record {
-        is = sym (award-settles k t n bids windows lent f (le-ltb lent n enough) false (each has n L 2) (each-fails has n L 1 x l (omega arith)) refl (t .window .start + x));
-        nobody = λ z. in-bids t n bids windows x 0 l e;
-        alone = λ z. absurd (omega arith);
-      })
+      pub eleven : (x : ℕ) → cellWith has n L 0 ≡ found x → PlainPromise k t n bids windows lent ow oc ow oc (Refused (MinuteUncovered (t .window .start + x)))
+      unfolding thinned
+      eleven x e = refuses (MinuteUncovered (t .window .start + x)) (award-settles k t n bids windows lent f (le-ltb lent n enough) (found x) (cellWith has n L 1) e refl)
 
-      pub twelve : (x : ℕ) → each has n L 1 ≡ true → x < L → bidders has n x ≡ 1 → PlainPromise k t n bids windows lent ow oc ow oc (Refused (OneBidder (t .window .start + x)))
-      unfolding toldIn number place
-      twelve x d l e = refuses (OneBidder (t .window .start + x)) (record {
-        is = sym (award-settles k t n bids windows lent f (le-ltb lent n enough) true false d (each-fails has n L 2 x l (omega arith)) (t .window .start + x));
-        nobody = λ z. absurd (omega arith);
-        alone = λ z. in-bids t n bids windows x 1 l e;
-      })
+      pub twelve : (x : ℕ) → cellWith has n L 0 ≡ nothing → cellWith has n L 1 ≡ found x → PlainPromise k t n bids windows lent ow oc ow oc (Refused (OneBidder (t .window .start + x)))
+      unfolding thinned
+      twelve x d e = refuses (OneBidder (t .window .start + x)) (award-settles k t n bids windows lent f (le-ltb lent n enough) nothing (found x) d e)
 
       -- a core settles by the flags w and the payments c, which are those of the definitions
-      module _ (two : each has n L 2 ≡ true) (w : ℕ → Bool) (c : ℕ → ℕ) (w-is : (i : ℕ) → i < n → w i ≡ won k has ps L i) (c-is : (i : ℕ) → i < n → c i ≡ cents k has ps L i)
+      module _ (some : cellWith has n L 0 ≡ nothing) (more : cellWith has n L 1 ≡ nothing) (w : ℕ → Bool) (c : ℕ → ℕ) (w-is : (i : ℕ) → i < n → w i ≡ won k has ps L i) (c-is : (i : ℕ) → i < n → c i ≡ cents k has ps L i)
           (nw nc : List ℕ) (totals : Totals) (s : core.Settled w c ps ow oc nw nc (totals .cost) (totals .paid)) where
         rows-are : rowsIn n nw nc ≡ filled k has ps L
         unfolding rowsIn filled
@@ -149,17 +122,10 @@ module _ (k : Kind) (t : Tender) (n : ℕ) (bids windows : List ℕ) (lent : ℕ
         unfolding centsAfter
         cents-after = s .payments ∙ sym (ap (λ l. l ++ drop (length (filled k has ps L)) oc) pays-are ∙ ap (λ (m : ℕ). listed (length ps) c ++ drop m oc) rows-count)
 
-        number-is : number (toldIn n nw nc (Awarded totals)) ≡ 0
-        unfolding number toldIn
-        number-is = refl
-
         pub awards : PlainPromise k t n bids windows lent ow oc nw nc (Awarded totals)
+        unfolding thinned
         awards = record {
-          answers = record {
-            is = outcome-is ∙ sym (award-settles k t n bids windows lent f (le-ltb lent n enough) true true (two-one has n L two) two (place (toldIn n nw nc (Awarded totals))));
-            nobody = λ z. absurd (omega (arith, number-is));
-            alone = λ z. absurd (omega (arith, number-is));
-          };
+          answers = outcome-is ∙ sym (award-settles k t n bids windows lent f (le-ltb lent n enough) nothing nothing some more);
           won-cells = won-after ∙ sym (ap (wonAfter ow) outcome-is);
           cents-cells = cents-after ∙ sym (ap (centsAfter oc) outcome-is);
         }
@@ -182,12 +148,8 @@ multi-cents has ps L i l two = sym (cents-multi has ps L i ∙ paid-by-rounds ha
 pub lent-more : (k : Kind) (t : Tender) (n : ℕ) (bids windows : List ℕ) (lent : ℕ) (ow oc nw nc : List ℕ) (a : Answer) → n ≤ lent → PlainPromise k t n bids windows n ow oc nw nc a → PlainPromise k t n bids windows lent ow oc nw nc a
 unfolding awardOf
 lent-more k t n bids windows lent ow oc nw nc a l p = record {
-  answers = record {
-    is = p .answers .is ∙ ap (λ b. judged (faultOf k t n bids windows) (cond b (declined RowsTooFew) (settled k (hasOf t (rowsOf n bids) windows) (pricesOf (rowsOf n bids)) (cellsOf t) (place (toldIn n nw nc a)))))
-        (le-ltb n n (omega arith) ∙ sym (le-ltb lent n l));
-    nobody = p .answers .nobody;
-    alone = p .answers .alone;
-  };
+  answers = p .answers ∙ ap (λ b. judged (faultOf k t n bids windows) (cond b (declined RowsTooFew) (settled k (hasOf t (rowsOf n bids) windows) (pricesOf (rowsOf n bids)) (cellsOf t) (t .window .start))))
+      (le-ltb n n (omega arith) ∙ sym (le-ltb lent n l));
   won-cells = p .won-cells;
   cents-cells = p .cents-cells;
 }

@@ -26,7 +26,7 @@ pub(crate) fn cell_with(masks: [u64; 7], length: u64, bidders: u64) -> u64 {
 }
 
 // How many of the bids have the cell.
-pub(crate) fn bidders_of(masks: [u64; 7], x: u64) -> u64 {
+fn bidders_of(masks: [u64; 7], x: u64) -> u64 {
     let mut n: u64 = 0;
     let mut i: usize = 0;
     while i < 7 {

@@ -164,22 +164,20 @@ fn award_right(lot: Lot, several: bool, totals: Totals, won: [u64; 9], cents: [u
     rows_right(right, lot.count, won, cents)
 }
 
-// Whether a refusal is the right one: 11 or 12, at a minute of the tender in no bid, or in one where none is in no bid.
+// Whether a refusal is the right one: 11 at the first minute in no bid, or 12, where there is none, at the first in one bid.
 fn refusal_right(lot: Lot, refusal: Refusal, won: [u64; 9], cents: [u64; 9]) -> bool {
     let masks = lot.masks;
+    let uncovered = brute::cell_with(masks, lot.length, 0);
+    let lone = brute::cell_with(masks, lot.length, 1);
     if !untouched(won, cents) {
         return false;
     }
     match refusal {
         Refusal::MinuteUncovered { minute } => {
-            let x = std::num::wrapping_sub_u64(minute, lot.start);
-            x < lot.length && brute::bidders_of(masks, x) == 0
+            uncovered < 16 && minute == std::num::wrapping_add_u64(lot.start, uncovered)
         }
         Refusal::OneBidder { minute } => {
-            let x = std::num::wrapping_sub_u64(minute, lot.start);
-            x < lot.length
-                && brute::bidders_of(masks, x) == 1
-                && brute::cell_with(masks, lot.length, 0) == 16
+            uncovered == 16 && lone < 16 && minute == std::num::wrapping_add_u64(lot.start, lone)
         }
         _ => false,
     }

@@ -1,4 +1,4 @@
--- `bidders::first_below` meets its contract: the first of the cells that is not among those with m bidders. Assumes nothing.
+-- `bidders::first_below` meets its contract: the first of the cells that is not among those with two bidders. Assumes nothing.
 use mathlib.Core.Path.{_∙_}
 use Rattle.bidders.proofs.Masks.{first-found, first-none}
 use borrow.Author.Needs.{needs}
@@ -32,7 +32,7 @@ same-length-2 c = search needs
 
 -- src/lib.rt:110:9
 returns : tie.Need-returns
-returns c = first-found (c .before .before .before .before .before .before .before .before .before .before .before .before .before .before .before .before .args .masks .now) (c .before .before .before .before .before .before .before .before .before .before .before .before .before .before .before .before .args .w) (c .before .before .before .before .before .before .before .before .before .before .before .before .before .before .before .before .args .n) (c .before .before .before .before .before .before .before .before .before .before .before .before .before .before .before .before .args .cells) (c .before .before .before .before .before .before .before .before .before .before .before .before .before .before .before .before .args .m) (c .before .before .before .before .before .before .before .before .before .before .before .unlock .last .0) (c .before .before .before .before .before .before .gather .last .1 .1 .1 .1 .1 .0) (c .before .next .result) (c .before .before .before .before .before .before .before .before .before .before .before .unlock .ensures) (c .before .before .before .before .before .before .gather .ensures) (c .before .next .ensures) (c .before .before .before .before .before .before .before .before .before .before .before .unlock .kept .0 ∙ c .before .before .before .before .before .before .before .before .before .before .before .before .before .before .before .before .pre .1 .1 .1 .0) (c .before .before .before .before .before .before .before .before .before .before .before .before .before .before .before .before .pre .1 .1 .0) (c .if1 .taken)
+returns c = first-found (c .before .before .before .before .before .before .before .before .before .before .before .before .before .before .before .before .args .masks .now) (c .before .before .before .before .before .before .before .before .before .before .before .before .before .before .before .before .args .w) (c .before .before .before .before .before .before .before .before .before .before .before .before .before .before .before .before .args .n) (c .before .before .before .before .before .before .before .before .before .before .before .before .before .before .before .before .args .cells) (c .before .before .before .before .before .before .before .before .before .before .before .unlock .last .0) (c .before .before .before .before .before .before .gather .last .1 .1 .1 .1 .0) (c .before .next .result) (c .before .before .before .before .before .before .before .before .before .before .before .unlock .ensures) (c .before .before .before .before .before .before .gather .ensures) (c .before .next .ensures) (c .before .before .before .before .before .before .before .before .before .before .before .unlock .kept .0 ∙ c .before .before .before .before .before .before .before .before .before .before .before .before .before .before .before .before .pre .1 .1 .1 .0) (c .before .before .before .before .before .before .before .before .before .before .before .before .before .before .before .before .pre .1 .1 .0) (c .if1 .taken)
 
 -- src/lib.rt:102:1
 same-length-3 : tie.Need-same-length-3
@@ -44,7 +44,7 @@ same-length-4 c = search needs
 
 -- src/lib.rt:102:1
 returns-2 : tie.Need-returns-2
-returns-2 c = first-none (c .before .before .before .before .before .before .before .before .before .before .before .before .before .before .before .before .args .masks .now) (c .before .before .before .before .before .before .before .before .before .before .before .before .before .before .before .before .args .w) (c .before .before .before .before .before .before .before .before .before .before .before .before .before .before .before .before .args .n) (c .before .before .before .before .before .before .before .before .before .before .before .before .before .before .before .before .args .cells) (c .before .before .before .before .before .before .before .before .before .before .before .before .before .before .before .before .args .m) (c .before .before .before .before .before .before .before .before .before .before .before .unlock .last .0) (c .before .before .before .before .before .before .gather .last .1 .1 .1 .1 .1 .0) (c .before .next .result) (c .before .before .before .before .before .before .before .before .before .before .before .unlock .ensures) (c .before .before .before .before .before .before .gather .ensures) (c .before .next .ensures) (c .before .before .before .before .before .before .before .before .before .before .before .unlock .kept .0 ∙ c .before .before .before .before .before .before .before .before .before .before .before .before .before .before .before .before .pre .1 .1 .1 .0) (c .before .before .before .before .before .before .before .before .before .before .before .before .before .before .before .before .pre .1 .1 .0) (c .if1 .left)
+returns-2 c = first-none (c .before .before .before .before .before .before .before .before .before .before .before .before .before .before .before .before .args .masks .now) (c .before .before .before .before .before .before .before .before .before .before .before .before .before .before .before .before .args .w) (c .before .before .before .before .before .before .before .before .before .before .before .before .before .before .before .before .args .n) (c .before .before .before .before .before .before .before .before .before .before .before .before .before .before .before .before .args .cells) (c .before .before .before .before .before .before .before .before .before .before .before .unlock .last .0) (c .before .before .before .before .before .before .gather .last .1 .1 .1 .1 .0) (c .before .next .result) (c .before .before .before .before .before .before .before .before .before .before .before .unlock .ensures) (c .before .before .before .before .before .before .gather .ensures) (c .before .next .ensures) (c .before .before .before .before .before .before .before .before .before .before .before .unlock .kept .0 ∙ c .before .before .before .before .before .before .before .before .before .before .before .before .before .before .before .before .pre .1 .1 .1 .0) (c .before .before .before .before .before .before .before .before .before .before .before .before .before .before .before .before .pre .1 .1 .0) (c .if1 .left)
 
 pub first-below-spec : {M : Type 1} → statement M
 first-below-spec =

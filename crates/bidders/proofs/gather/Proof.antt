@@ -13,14 +13,14 @@ use Rattle.bidders.proofs.gather.Lts as lts
 use Rattle.bidders.proofs.seen.Reads as seen-reads
 
 abbrev Inv-loop : tie.InvT-loop
-Inv-loop masks w n m wanted enough₀ q₀ enough q = (q ≤ w) × ((length enough ≡ length enough₀) × Gathered masks w n m wanted enough q)
+Inv-loop masks w n wanted enough₀ q₀ enough q = (q ≤ w) × ((length enough ≡ length enough₀) × Gathered masks w n wanted enough q)
 
 abbrev μ-loop : tie.MeasureT-loop
-μ-loop masks w n m wanted enough₀ q₀ enough q = w - q
+μ-loop masks w n wanted enough₀ q₀ enough q = w - q
 
 -- src/lib.rt:95:5
 loop-holds : tie.Need-loop-holds Inv-loop μ-loop
-loop-holds c = (omega arith, (refl, gathered-none (c .before .before .before .args .masks .now) (c .before .before .before .args .w) (c .before .before .before .args .n) (c .before .before .before .args .m) (c .before .before .before .args .wanted .now) (c .before .before .before .args .enough .now)))
+loop-holds c = (omega arith, (refl, gathered-none (c .before .before .before .args .masks .now) (c .before .before .before .args .w) (c .before .before .before .args .n) (c .before .before .before .args .wanted .now) (c .before .before .before .args .enough .now)))
 
 -- src/lib.rt:96:42
 mul-seen : tie.Need-mul-seen Inv-loop μ-loop
@@ -52,7 +52,7 @@ loop-less c = search needs
 
 -- src/lib.rt:95:5
 loop-again : tie.Need-loop-again Inv-loop μ-loop
-loop-again c = (omega arith, (simp length-set (c .before .before .before .loop .inv .1 .0), gathered-more (c .before .before .before .before .before .before .before .args .masks .now) (c .before .before .before .before .before .before .before .args .w) (c .before .before .before .before .before .before .before .args .n) (c .before .before .before .before .before .before .before .args .m) (c .before .before .before .before .before .before .before .args .wanted .now) (c .before .before .before .loop .enough) (c .before .before .before .loop .q) (c .seen .result) (omega arith) (c .before .before .before .loop .inv .1 .1) (c .seen .ensures)))
+loop-again c = (omega arith, (simp length-set (c .before .before .before .loop .inv .1 .0), gathered-more (c .before .before .before .before .before .before .before .args .masks .now) (c .before .before .before .before .before .before .before .args .w) (c .before .before .before .before .before .before .before .args .n) (c .before .before .before .before .before .before .before .args .wanted .now) (c .before .before .before .loop .enough) (c .before .before .before .loop .q) (c .seen .result) (omega arith) (c .before .before .before .loop .inv .1 .1) (c .seen .ensures)))
 
 -- src/lib.rt:90:1
 same-length : tie.Need-same-length Inv-loop μ-loop

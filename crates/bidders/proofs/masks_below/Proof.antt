@@ -26,7 +26,7 @@ slice-aggregate-first-below-2 c = sym (ones-length (c .before .before .before .a
 
 -- src/lib.rt:122:5
 first-below-requires : tie.Need-first-below-requires
-first-below-requires c κs = (c .before .before .before .pre .0, (c .before .before .before .pre .1 .0, (c .before .before .before .pre .1 .1 .0, (ones-length (c .before .before .before .args .w) (c .before .before .before .pre .1 .0), (ones-length (c .before .before .before .args .w) (c .before .before .before .pre .1 .0), c .before .before .before .pre .1 .1 .1)))))
+first-below-requires c κs = (c .before .before .before .pre .0, (c .before .before .before .pre .1 .0, (c .before .before .before .pre .1 .1, (ones-length (c .before .before .before .args .w) (c .before .before .before .pre .1 .0), ones-length (c .before .before .before .args .w) (c .before .before .before .pre .1 .0)))))
 
 -- src/lib.rt:116:1
 returns : tie.Need-returns

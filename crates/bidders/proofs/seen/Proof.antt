@@ -4,17 +4,17 @@ use native.Mathlib.Omega.{arith}
 use lib.ListN.{getD}
 use lib.Bits.{bitAnd, bitOr}
 use Rattle.rounds.proofs.Rows.{row-within}
-use Rattle.bidders.proofs.Masks.{Seeing, seeing-none, seeing-more, reached-soon, reached-one, reached-two}
+use Rattle.bidders.proofs.Masks.{Seeing, seeing-none, seeing-more, reached-soon, reached-all}
 use Rattle.bidders.proofs.seen.Statement.{statement}
 use Rattle.bidders.proofs.seen.Tie as tie
 use Rattle.bidders.proofs.seen.Reads as reads
 use Rattle.bidders.proofs.seen.Lts as lts
 
 abbrev Inv-loop : tie.InvT-loop
-Inv-loop masks w n q wanted m one₀ two₀ i₀ one two i = (i ≤ n) × Seeing masks w q i one two
+Inv-loop masks w n q wanted one₀ two₀ i₀ one two i = (i ≤ n) × Seeing masks w q i one two
 
 abbrev μ-loop : tie.MeasureT-loop
-μ-loop masks w n q wanted m one₀ two₀ i₀ one two i = n - i
+μ-loop masks w n q wanted one₀ two₀ i₀ one two i = n - i
 
 -- src/lib.rt:74:5
 loop-holds : tie.Need-loop-holds Inv-loop μ-loop
@@ -38,7 +38,7 @@ shared-slice-read-x c = omega (arith, row-within (c .before .before .before .arg
 
 -- src/lib.rt:79:13
 returns : tie.Need-returns Inv-loop μ-loop
-returns c = let x = getD (c .before .before .before .before .args .masks .now) (c .before .before .before .before .args .w * c .before .before .before .loop .i + c .before .before .before .before .args .q) 0 in reached-soon (c .before .before .before .before .args .masks .now) (c .before .before .before .before .args .w) (c .before .before .before .before .args .q) (c .before .before .before .loop .i + 1) (bitOr (c .before .before .before .loop .one) x) (bitOr (c .before .before .before .loop .two) (bitAnd (c .before .before .before .loop .one) x)) (seeing-more (c .before .before .before .before .args .masks .now) (c .before .before .before .before .args .w) (c .before .before .before .before .args .q) (c .before .before .before .before .pre .1 .0) (c .before .before .before .loop .i) (c .before .before .before .loop .one) (c .before .before .before .loop .two) (c .before .before .before .loop .inv .1)) (c .before .before .before .before .args .wanted) (c .before .before .before .before .args .n) (c .before .before .before .before .args .m) (omega arith) (c .before .before .before .before .pre .1 .1 .1) (c .if1 .taken)
+returns c = let x = getD (c .before .before .before .before .args .masks .now) (c .before .before .before .before .args .w * c .before .before .before .loop .i + c .before .before .before .before .args .q) 0 in reached-soon (c .before .before .before .before .args .masks .now) (c .before .before .before .before .args .w) (c .before .before .before .before .args .q) (c .before .before .before .loop .i + 1) (bitOr (c .before .before .before .loop .one) x) (bitOr (c .before .before .before .loop .two) (bitAnd (c .before .before .before .loop .one) x)) (seeing-more (c .before .before .before .before .args .masks .now) (c .before .before .before .before .args .w) (c .before .before .before .before .args .q) (c .before .before .before .before .pre .1) (c .before .before .before .loop .i) (c .before .before .before .loop .one) (c .before .before .before .loop .two) (c .before .before .before .loop .inv .1)) (c .before .before .before .before .args .wanted) (c .before .before .before .before .args .n) (omega arith) (c .if1 .taken)
 
 -- src/lib.rt:81:9
 add-i : tie.Need-add-i Inv-loop μ-loop
@@ -50,15 +50,11 @@ loop-less c = omega arith
 
 -- src/lib.rt:74:5
 loop-again : tie.Need-loop-again Inv-loop μ-loop
-loop-again c = (omega arith, seeing-more (c .before .before .before .before .args .masks .now) (c .before .before .before .before .args .w) (c .before .before .before .before .args .q) (c .before .before .before .before .pre .1 .0) (c .before .before .before .loop .i) (c .before .before .before .loop .one) (c .before .before .before .loop .two) (c .before .before .before .loop .inv .1))
-
--- src/lib.rt:84:9
-returns-2 : tie.Need-returns-2 Inv-loop μ-loop
-returns-2 c = reached-one (c .before .before .before .args .masks .now) (c .before .before .before .args .w) (c .before .before .before .args .q) (c .before .before .loop .i) (c .before .before .loop .one) (c .before .before .loop .two) (c .before .before .loop .inv .1) (c .before .before .before .args .wanted) (c .before .before .before .args .n) (c .before .before .before .args .m) (omega arith) (c .if2 .taken)
+loop-again c = (omega arith, seeing-more (c .before .before .before .before .args .masks .now) (c .before .before .before .before .args .w) (c .before .before .before .before .args .q) (c .before .before .before .before .pre .1) (c .before .before .before .loop .i) (c .before .before .before .loop .one) (c .before .before .before .loop .two) (c .before .before .before .loop .inv .1))
 
 -- src/lib.rt:67:1
-returns-3 : tie.Need-returns-3 Inv-loop μ-loop
-returns-3 c = reached-two (c .before .before .before .args .masks .now) (c .before .before .before .args .w) (c .before .before .before .args .q) (c .before .before .loop .i) (c .before .before .loop .one) (c .before .before .loop .two) (c .before .before .loop .inv .1) (c .before .before .before .args .wanted) (c .before .before .before .args .n) (c .before .before .before .args .m) (omega arith) (omega arith)
+returns-2 : tie.Need-returns-2 Inv-loop μ-loop
+returns-2 c = reached-all (c .before .before .args .masks .now) (c .before .before .args .w) (c .before .before .args .q) (c .before .loop .i) (c .before .loop .one) (c .before .loop .two) (c .before .loop .inv .1) (c .before .before .args .wanted) (c .before .before .args .n) (omega arith)
 
 pub seen-spec : {M : Type 1} → statement M
 seen-spec =
@@ -75,5 +71,4 @@ seen-spec =
     add-i
     loop-less
     loop-again
-    returns-2
-    returns-3)
+    returns-2)

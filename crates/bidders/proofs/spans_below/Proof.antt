@@ -11,10 +11,10 @@ use Rattle.bidders.proofs.spans_below.Lts as lts
 use Rattle.bidders.proofs.count_at.Reads as count-at-reads
 
 abbrev Inv-loop : tie.InvT-loop
-Inv-loop starts ends cells m opened ended count₀ x₀ count x = Sweep starts ends opened ended cells m count x
+Inv-loop starts ends cells opened ended count₀ x₀ count x = Sweep starts ends opened ended cells count x
 
 abbrev μ-loop : tie.MeasureT-loop
-μ-loop starts ends cells m opened ended count₀ x₀ count x = cells - x
+μ-loop starts ends cells opened ended count₀ x₀ count x = cells - x
 
 -- src/lib.rt:38:22
 slice-aggregate-count-at : tie.Need-slice-aggregate-count-at Inv-loop μ-loop
@@ -34,7 +34,7 @@ count-at-requires-2 c κs = (omega (arith, c .before .before .before .before .be
 
 -- src/lib.rt:42:5
 loop-holds : tie.Need-loop-holds Inv-loop μ-loop
-loop-holds c = sweep-starts (c .before .before .before .before .before .before .before .before .args .starts .now) (c .before .before .before .before .before .before .before .before .args .ends .now) (c .before .before .before .before .count-at .last .1 .0) (c .before .count-at2 .last .1 .0) (c .before .before .before .before .before .before .before .before .args .cells) (c .before .before .before .before .before .before .before .before .args .m) (c .before .before .before .before .before .before .before .before .pre .0 .same) (c .before .before .before .before .count-at .ensures) (c .before .count-at2 .ensures)
+loop-holds c = sweep-starts (c .before .before .before .before .before .before .before .before .args .starts .now) (c .before .before .before .before .before .before .before .before .args .ends .now) (c .before .before .before .before .count-at .last .1 .0) (c .before .count-at2 .last .1 .0) (c .before .before .before .before .before .before .before .before .args .cells) (c .before .before .before .before .before .before .before .before .pre .0 .same) (c .before .before .before .before .count-at .ensures) (c .before .count-at2 .ensures)
 
 -- src/lib.rt:43:25
 mul-count : tie.Need-mul-count Inv-loop μ-loop
@@ -46,7 +46,7 @@ array-read-count c = omega arith
 
 -- src/lib.rt:43:17
 add-count : tie.Need-add-count Inv-loop μ-loop
-add-count c = omega (arith, small (c .before .before .before .before .before .before .before .before .before .before .args .starts .now) (c .before .before .before .before .before .before .before .before .before .before .args .ends .now) (c .before .before .before .before .before .before .count-at .last .1 .0) (c .before .before .before .count-at2 .last .1 .0) (c .before .before .before .before .before .before .before .before .before .before .args .cells) (c .before .before .before .before .before .before .before .before .before .before .args .m) (c .before .loop .count) (c .before .loop .x) (c .before .loop .inv) (c .before .before .before .before .before .before .before .before .before .before .pre .0))
+add-count c = omega (arith, small (c .before .before .before .before .before .before .before .before .before .before .args .starts .now) (c .before .before .before .before .before .before .before .before .before .before .args .ends .now) (c .before .before .before .before .before .before .count-at .last .1 .0) (c .before .before .before .count-at2 .last .1 .0) (c .before .before .before .before .before .before .before .before .before .before .args .cells) (c .before .loop .count) (c .before .loop .x) (c .before .loop .inv) (c .before .before .before .before .before .before .before .before .before .before .pre .0))
 
 -- src/lib.rt:43:37
 mul-count-2 : tie.Need-mul-count-2 Inv-loop μ-loop
@@ -58,11 +58,11 @@ array-read-count-2 c = omega arith
 
 -- src/lib.rt:43:17
 sub-count : tie.Need-sub-count Inv-loop μ-loop
-sub-count c = omega (arith, here (c .before .before .before .before .before .before .before .before .before .before .args .starts .now) (c .before .before .before .before .before .before .before .before .before .before .args .ends .now) (c .before .before .before .before .before .before .count-at .last .1 .0) (c .before .before .before .count-at2 .last .1 .0) (c .before .before .before .before .before .before .before .before .before .before .args .cells) (c .before .before .before .before .before .before .before .before .before .before .args .m) (c .before .loop .count) (c .before .loop .x) (c .before .loop .inv) (c .before .before .before .before .before .before .before .before .before .before .pre .0))
+sub-count c = omega (arith, here (c .before .before .before .before .before .before .before .before .before .before .args .starts .now) (c .before .before .before .before .before .before .before .before .before .before .args .ends .now) (c .before .before .before .before .before .before .count-at .last .1 .0) (c .before .before .before .count-at2 .last .1 .0) (c .before .before .before .before .before .before .before .before .before .before .args .cells) (c .before .loop .count) (c .before .loop .x) (c .before .loop .inv) (c .before .before .before .before .before .before .before .before .before .before .pre .0))
 
 -- src/lib.rt:45:13
 returns : tie.Need-returns Inv-loop μ-loop
-returns c = sweep-found (c .before .before .before .before .before .before .before .before .before .before .before .args .starts .now) (c .before .before .before .before .before .before .before .before .before .before .before .args .ends .now) (c .before .before .before .before .before .before .before .count-at .last .1 .0) (c .before .before .before .before .count-at2 .last .1 .0) (c .before .before .before .before .before .before .before .before .before .before .before .args .cells) (c .before .before .before .before .before .before .before .before .before .before .before .args .m) (c .before .before .loop .count) (c .before .before .loop .x) (c .before .before .loop .inv) (c .before .before .before .before .before .before .before .before .before .before .before .pre .0) (c .before .loop-test .taken) (c .if1 .taken)
+returns c = sweep-found (c .before .before .before .before .before .before .before .before .before .before .before .args .starts .now) (c .before .before .before .before .before .before .before .before .before .before .before .args .ends .now) (c .before .before .before .before .before .before .before .count-at .last .1 .0) (c .before .before .before .before .count-at2 .last .1 .0) (c .before .before .before .before .before .before .before .before .before .before .before .args .cells) (c .before .before .loop .count) (c .before .before .loop .x) (c .before .before .loop .inv) (c .before .before .before .before .before .before .before .before .before .before .before .pre .0) (c .before .loop-test .taken) (c .if1 .taken)
 
 -- src/lib.rt:47:9
 add-x : tie.Need-add-x Inv-loop μ-loop
@@ -74,11 +74,11 @@ loop-less c = omega arith
 
 -- src/lib.rt:42:5
 loop-again : tie.Need-loop-again Inv-loop μ-loop
-loop-again c = sweep-on (c .before .before .before .before .before .before .before .before .before .before .before .args .starts .now) (c .before .before .before .before .before .before .before .before .before .before .before .args .ends .now) (c .before .before .before .before .before .before .before .count-at .last .1 .0) (c .before .before .before .before .count-at2 .last .1 .0) (c .before .before .before .before .before .before .before .before .before .before .before .args .cells) (c .before .before .before .before .before .before .before .before .before .before .before .args .m) (c .before .before .loop .count) (c .before .before .loop .x) (c .before .before .loop .inv) (c .before .before .before .before .before .before .before .before .before .before .before .pre .0) (c .before .loop-test .taken) (c .if1 .left)
+loop-again c = sweep-on (c .before .before .before .before .before .before .before .before .before .before .before .args .starts .now) (c .before .before .before .before .before .before .before .before .before .before .before .args .ends .now) (c .before .before .before .before .before .before .before .count-at .last .1 .0) (c .before .before .before .before .count-at2 .last .1 .0) (c .before .before .before .before .before .before .before .before .before .before .before .args .cells) (c .before .before .loop .count) (c .before .before .loop .x) (c .before .before .loop .inv) (c .before .before .before .before .before .before .before .before .before .before .before .pre .0) (c .before .loop-test .taken) (c .if1 .left)
 
 -- src/lib.rt:32:1
 returns-2 : tie.Need-returns-2 Inv-loop μ-loop
-returns-2 c = sweep-ends (c .before .before .before .before .before .before .before .before .before .before .args .starts .now) (c .before .before .before .before .before .before .before .before .before .before .args .ends .now) (c .before .before .before .before .before .before .count-at .last .1 .0) (c .before .before .before .count-at2 .last .1 .0) (c .before .before .before .before .before .before .before .before .before .before .args .cells) (c .before .before .before .before .before .before .before .before .before .before .args .m) (c .before .loop .count) (c .before .loop .x) (c .before .loop .inv) (c .before .before .before .before .before .before .before .before .before .before .pre .0) (c .loop-test .left)
+returns-2 c = sweep-ends (c .before .before .before .before .before .before .before .before .before .before .args .starts .now) (c .before .before .before .before .before .before .before .before .before .before .args .ends .now) (c .before .before .before .before .before .before .count-at .last .1 .0) (c .before .before .before .count-at2 .last .1 .0) (c .before .before .before .before .before .before .before .before .before .before .args .cells) (c .before .loop .count) (c .before .loop .x) (c .before .loop .inv) (c .before .before .before .before .before .before .before .before .before .before .pre .0) (c .loop-test .left)
 
 pub spans-below-spec : {M : Type 1} → statement M
 spans-below-spec =

@@ -8,6 +8,7 @@ use Rattle.bidders.specs.Thin.{Says}
 use Rattle.tables.specs.Cells.{cellsOf}
 use Rattle.layout.specs.LayoutLaws.{orderly, timed}
 use Rattle.outcome.proofs.Single.{uncovered, lone, ordered, prices-most, settled}
+use Rattle.cover.specs.EarliestLaws.{cell-found}
 use borrow.Author.Needs.{needs}
 use Rattle.outcome.proofs.single_in.Statement.{statement}
 use Rattle.outcome.proofs.single_in.Tie as tie
@@ -45,7 +46,7 @@ enum-known-thin c = search needs
 -- src/lib.rt:118:21
 add-t28 : tie.Need-add-t28
 unfolding cellsOf
-add-t28 c = let s = rw (c .before .before .before .before .before .before .before .before .before .before .spans .kept .1 .1 .1 .1 .0 ∙ c .before .before .before .before .before .before .before .before .before .before .before .before .before .before .before .before .before .before .before .before .before .before .before .before .before .before .pre .1 .0) at (subst (Says (spans (c .before .before .before .before .before .before .before .before .before .before .spans .last .1 .1 .1 .1 .0) (c .before .before .before .before .before .before .before .before .before .before .spans .last .1 .1 .1 .1 .1 .0)) (length (c .before .before .before .before .before .before .before .before .before .before .spans .last .1 .1 .1 .1 .0)) (cellsOf (c .before .before .before .before .before .before .before .before .before .before .before .before .before .before .before .before .before .before .before .before .before .before .before .before .before .before .args .tender))) (c .before .thin .given .1) (c .before .before .before .thin-spans .ensures)) in let d = timed Single (c .before .before .before .before .before .before .before .before .before .before .before .before .before .before .before .before .before .before .before .before .before .before .before .before .before .before .args .tender) (length (c .before .before .before .before .before .before .before .before .before .before .before .before .before .before .before .before .before .before .before .before .before .before .before .before .before .before .args .prices .now)) (c .before .before .before .before .before .before .before .before .before .before .before .before .before .before .before .before .before .before .before .before .before .before .before .before .before .before .args .bids .now) (c .before .before .before .before .before .before .before .before .before .before .before .before .before .before .before .before .before .before .before .before .before .before .before .before .before .before .args .windows .now) (c .before .before .before .before .before .before .before .before .before .before .before .before .before .before .before .before .before .before .before .before .before .before .before .before .before .before .pre .0) in omega (arith, s .0, d .some-minute, d .in-week)
+add-t28 c = let s = rw (c .before .before .before .before .before .before .before .before .before .before .spans .kept .1 .1 .1 .1 .0 ∙ c .before .before .before .before .before .before .before .before .before .before .before .before .before .before .before .before .before .before .before .before .before .before .before .before .before .before .pre .1 .0) at (subst (Says (spans (c .before .before .before .before .before .before .before .before .before .before .spans .last .1 .1 .1 .1 .0) (c .before .before .before .before .before .before .before .before .before .before .spans .last .1 .1 .1 .1 .1 .0)) (length (c .before .before .before .before .before .before .before .before .before .before .spans .last .1 .1 .1 .1 .0)) (cellsOf (c .before .before .before .before .before .before .before .before .before .before .before .before .before .before .before .before .before .before .before .before .before .before .before .before .before .before .args .tender))) (c .before .thin .given .1) (c .before .before .before .thin-spans .ensures)) in let d = timed Single (c .before .before .before .before .before .before .before .before .before .before .before .before .before .before .before .before .before .before .before .before .before .before .before .before .before .before .args .tender) (length (c .before .before .before .before .before .before .before .before .before .before .before .before .before .before .before .before .before .before .before .before .before .before .before .before .before .before .args .prices .now)) (c .before .before .before .before .before .before .before .before .before .before .before .before .before .before .before .before .before .before .before .before .before .before .before .before .before .before .args .bids .now) (c .before .before .before .before .before .before .before .before .before .before .before .before .before .before .before .before .before .before .before .before .before .before .before .before .before .before .args .windows .now) (c .before .before .before .before .before .before .before .before .before .before .before .before .before .before .before .before .before .before .before .before .before .before .before .before .before .before .pre .0) in omega (arith, cell-found _ _ _ _ _ s .inside, d .some-minute, d .in-week)
 
 -- src/lib.rt:121:23
 enum-known-thin-2 : tie.Need-enum-known-thin-2
@@ -54,7 +55,7 @@ enum-known-thin-2 c = search needs
 -- src/lib.rt:122:21
 add-t30 : tie.Need-add-t30
 unfolding cellsOf
-add-t30 c = let s = rw (c .before .before .before .before .before .before .before .before .before .before .spans .kept .1 .1 .1 .1 .0 ∙ c .before .before .before .before .before .before .before .before .before .before .before .before .before .before .before .before .before .before .before .before .before .before .before .before .before .before .pre .1 .0) at (subst (Says (spans (c .before .before .before .before .before .before .before .before .before .before .spans .last .1 .1 .1 .1 .0) (c .before .before .before .before .before .before .before .before .before .before .spans .last .1 .1 .1 .1 .1 .0)) (length (c .before .before .before .before .before .before .before .before .before .before .spans .last .1 .1 .1 .1 .0)) (cellsOf (c .before .before .before .before .before .before .before .before .before .before .before .before .before .before .before .before .before .before .before .before .before .before .before .before .before .before .args .tender))) (c .before .thin2 .given .1) (c .before .before .before .thin-spans .ensures)) in let d = timed Single (c .before .before .before .before .before .before .before .before .before .before .before .before .before .before .before .before .before .before .before .before .before .before .before .before .before .before .args .tender) (length (c .before .before .before .before .before .before .before .before .before .before .before .before .before .before .before .before .before .before .before .before .before .before .before .before .before .before .args .prices .now)) (c .before .before .before .before .before .before .before .before .before .before .before .before .before .before .before .before .before .before .before .before .before .before .before .before .before .before .args .bids .now) (c .before .before .before .before .before .before .before .before .before .before .before .before .before .before .before .before .before .before .before .before .before .before .before .before .before .before .args .windows .now) (c .before .before .before .before .before .before .before .before .before .before .before .before .before .before .before .before .before .before .before .before .before .before .before .before .before .before .pre .0) in omega (arith, s .1 .0, d .some-minute, d .in-week)
+add-t30 c = let s = rw (c .before .before .before .before .before .before .before .before .before .before .spans .kept .1 .1 .1 .1 .0 ∙ c .before .before .before .before .before .before .before .before .before .before .before .before .before .before .before .before .before .before .before .before .before .before .before .before .before .before .pre .1 .0) at (subst (Says (spans (c .before .before .before .before .before .before .before .before .before .before .spans .last .1 .1 .1 .1 .0) (c .before .before .before .before .before .before .before .before .before .before .spans .last .1 .1 .1 .1 .1 .0)) (length (c .before .before .before .before .before .before .before .before .before .before .spans .last .1 .1 .1 .1 .0)) (cellsOf (c .before .before .before .before .before .before .before .before .before .before .before .before .before .before .before .before .before .before .before .before .before .before .before .before .before .before .args .tender))) (c .before .thin2 .given .1) (c .before .before .before .thin-spans .ensures)) in let d = timed Single (c .before .before .before .before .before .before .before .before .before .before .before .before .before .before .before .before .before .before .before .before .before .before .before .before .before .before .args .tender) (length (c .before .before .before .before .before .before .before .before .before .before .before .before .before .before .before .before .before .before .before .before .before .before .before .before .before .before .args .prices .now)) (c .before .before .before .before .before .before .before .before .before .before .before .before .before .before .before .before .before .before .before .before .before .before .before .before .before .before .args .bids .now) (c .before .before .before .before .before .before .before .before .before .before .before .before .before .before .before .before .before .before .before .before .before .before .before .before .before .before .args .windows .now) (c .before .before .before .before .before .before .before .before .before .before .before .before .before .before .before .before .before .before .before .before .before .before .before .before .before .before .pre .0) in omega (arith, cell-found _ _ _ _ _ (s .1) .inside, d .some-minute, d .in-week)
 
 -- src/lib.rt:124:55
 enum-told : tie.Need-enum-told
