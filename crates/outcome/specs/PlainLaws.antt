@@ -31,9 +31,9 @@ use Rattle.tables.specs.Cells.{cellsOf, hasOf, pricesOf}
 use Rattle.tables.specs.AlikeLaws.{prices-count}
 use Rattle.tender.specs.declared.Answer.{Answer}
 use Rattle.tender.specs.declared.Answer.the-variants.{Awarded, Refused}
-use Rattle.outcome.specs.Award.{won, cents, awarded, declined, filled, costOf, paidOf, thinned, settled, judged, awardOf}
+use Rattle.outcome.specs.Award.{won, cents, awarded, declined, filled, costOf, paidOf, thinned, settled, awardOf}
 use Rattle.outcome.specs.Plain.{rowsIn, toldIn, wonAfter, centsAfter, PlainPromise}
-use Rattle.outcome.specs.AwardLaws.{won-single, cents-single, won-multi, cents-multi, award-none, award-nine, award-settles}
+use Rattle.outcome.specs.AwardLaws.{won-single, cents-single, won-multi, cents-multi, award-none, award-lent, award-nine, award-settles}
 
 module _ (k : Kind) (t : Tender) (n : ℕ) (bids windows : List ℕ) (lent : ℕ) (ow oc : List ℕ) where
   abbrev has : ℕ → ℕ → Bool
@@ -67,7 +67,7 @@ module _ (k : Kind) (t : Tender) (n : ℕ) (bids windows : List ℕ) (lent : ℕ
       twelve x d e = refuses (OneBidder (t .window .start + x)) (award-settles k t n bids windows lent f (le-ltb lent n enough) nothing (found x) d e)
 
       -- a core settles by the flags w and the payments c, which are those of the definitions
-      module _ (some : cellWith has n L 0 ≡ nothing) (more : cellWith has n L 1 ≡ nothing) (w : ℕ → Bool) (c : ℕ → ℕ) (w-is : (i : ℕ) → i < n → w i ≡ won k has ps L i) (c-is : (i : ℕ) → i < n → c i ≡ cents k has ps L i)
+      module _ (covered : cellWith has n L 0 ≡ nothing) (doubled : cellWith has n L 1 ≡ nothing) (w : ℕ → Bool) (c : ℕ → ℕ) (w-is : (i : ℕ) → i < n → w i ≡ won k has ps L i) (c-is : (i : ℕ) → i < n → c i ≡ cents k has ps L i)
           (nw nc : List ℕ) (totals : Totals) (s : core.Settled w c ps ow oc nw nc (totals .cost) (totals .paid)) where
         rows-are : rowsIn n nw nc ≡ filled k has ps L
         unfolding rowsIn filled
@@ -125,7 +125,7 @@ module _ (k : Kind) (t : Tender) (n : ℕ) (bids windows : List ℕ) (lent : ℕ
         pub awards : PlainPromise k t n bids windows lent ow oc nw nc (Awarded totals)
         unfolding thinned
         awards = record {
-          answers = outcome-is ∙ sym (award-settles k t n bids windows lent f (le-ltb lent n enough) nothing nothing some more);
+          answers = outcome-is ∙ sym (award-settles k t n bids windows lent f (le-ltb lent n enough) nothing nothing covered doubled);
           won-cells = won-after ∙ sym (ap (wonAfter ow) outcome-is);
           cents-cells = cents-after ∙ sym (ap (centsAfter oc) outcome-is);
         }
@@ -146,10 +146,8 @@ multi-cents has ps L i l two = sym (cents-multi has ps L i ∙ paid-by-rounds ha
 
 -- more award rows than bids change nothing
 pub lent-more : (k : Kind) (t : Tender) (n : ℕ) (bids windows : List ℕ) (lent : ℕ) (ow oc nw nc : List ℕ) (a : Answer) → n ≤ lent → PlainPromise k t n bids windows n ow oc nw nc a → PlainPromise k t n bids windows lent ow oc nw nc a
-unfolding awardOf
 lent-more k t n bids windows lent ow oc nw nc a l p = record {
-  answers = p .answers ∙ ap (λ b. judged (faultOf k t n bids windows) (cond b (declined RowsTooFew) (settled k (hasOf t (rowsOf n bids) windows) (pricesOf (rowsOf n bids)) (cellsOf t) (t .window .start))))
-      (le-ltb n n (omega arith) ∙ sym (le-ltb lent n l));
+  answers = p .answers ∙ award-lent k t n bids windows n lent (le-ltb n n (omega arith) ∙ sym (le-ltb lent n l));
   won-cells = p .won-cells;
   cents-cells = p .cents-cells;
 }
