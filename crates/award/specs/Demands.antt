@@ -36,10 +36,13 @@ module _ (k : Kind) (t : Tender) (n : ℕ) (bids windows : List ℕ) (old new : 
   pub demand-2 : Callable k t n bids windows (length old) → Bidders t n bids windows 2 → IsAward k t n bids windows old new (told n new a)
   demand-2 = one.awards k t n bids windows old new a p
 
--- Two calls of the same award on the same tables, each time with an award row for every bid or each time with fewer, tell the same: of no answer is anything left to the program.
+-- Two calls of the same award on the same tables, each time with an award row for every bid or each time with fewer, tell the same:
+-- of no answer is anything left to the program.
 pub demand-1-same : (k : Kind) (t : Tender) (n : ℕ) (bids windows : List ℕ) (old new old′ new′ : List AwardRow) (a a′ : Answer) →
-    Promise k t n bids windows old new a → Promise k t n bids windows old′ new′ a′ → ltb (length old) n ≡ ltb (length old′) n → told n new a ≡ told n new′ a′
-demand-1-same k t n bids windows old new old′ new′ a a′ p p′ e = p .answers ∙ award-lent k t n bids windows (length old) (length old′) e ∙ sym (p′ .answers)
+    Promise k t n bids windows old new a → Promise k t n bids windows old′ new′ a′ → ltb (length old) n ≡ ltb (length old′) n →
+    told n new a ≡ told n new′ a′
+demand-1-same k t n bids windows old new old′ new′ a a′ p p′ e =
+    p .answers ∙ award-lent k t n bids windows (length old) (length old′) e ∙ sym (p′ .answers)
 
 -- What is awarded, in either kind: each cell is in a winner's windows.
 pub demand-2-covers : (k : Kind) (t : Tender) (n : ℕ) (bids windows : List ℕ) (old new : List AwardRow) (a : Answer) (rows : List AwardRow) (cost paid : ℕ) → Promise k t n bids windows old new a →

@@ -50,8 +50,10 @@ pub record IsRefusal (number place : ℕ) (old new : List AwardRow) (o : Outcome
 pub data OneAnswer (k : Kind) (t : Tender) (n : ℕ) (bids windows : List ℕ) (old new : List AwardRow) (o : Outcome) : Type 0 where
   tables-break-a-rule : (p : ℕ) → faultOf k t n bids windows ≡ some p → IsRefusal 9 p old new o → OneAnswer k t n bids windows old new o
   rows-too-few : faultOf k t n bids windows ≡ none → length old < n → IsRefusal 10 0 old new o → OneAnswer k t n bids windows old new o
-  minute-uncovered : (m : ℕ) → Callable k t n bids windows (length old) → EarliestIn t n bids windows m 0 → IsRefusal 11 m old new o → OneAnswer k t n bids windows old new o
-  one-bidder : (m : ℕ) → Callable k t n bids windows (length old) → Bidders t n bids windows 1 → EarliestIn t n bids windows m 1 → IsRefusal 12 m old new o → OneAnswer k t n bids windows old new o
+  minute-uncovered : (m : ℕ) → Callable k t n bids windows (length old) → EarliestIn t n bids windows m 0 → IsRefusal 11 m old new o →
+      OneAnswer k t n bids windows old new o
+  one-bidder : (m : ℕ) → Callable k t n bids windows (length old) → Bidders t n bids windows 1 → EarliestIn t n bids windows m 1 →
+      IsRefusal 12 m old new o → OneAnswer k t n bids windows old new o
   award : Callable k t n bids windows (length old) → Bidders t n bids windows 2 → IsAward k t n bids windows old new o → OneAnswer k t n bids windows old new o
 
 -- the winners of a single tender: bid i of the n is bit i of the set

@@ -132,7 +132,8 @@ fn first_below(
     wanted: &mut [u64],
     enough: &mut [u64],
 ) -> usize
-    requires { ⌜ (length (now masks) ≡ w * n) × ((w ≤ 158) × ((cells ≤ 64 * w) × ((length (now wanted) ≡ w) × (length (now enough) ≡ w)))) ⌝ }
+    requires { ⌜ (length (now masks) ≡ w * n) × ((w ≤ 158) × ((cells ≤ 64 * w)
+        × ((length (now wanted) ≡ w) × (length (now enough) ≡ w)))) ⌝ }
     ensures { λ r. ⌜ FirstOf (fewer (has (now (masks .entry)) w) n 2) cells r ⌝ }
 {
     rounds::unlock(wanted, cells);

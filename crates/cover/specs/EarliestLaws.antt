@@ -72,7 +72,8 @@ pub one-at : (has : ℕ → ℕ → Bool) (n L : ℕ) → cellWith has n L 0 ≡
 one-at has n L e x l = omega (arith, none-found has n L 0 e x l)
 
 -- and none in one alone: each has two
-pub two-at : (has : ℕ → ℕ → Bool) (n L : ℕ) → cellWith has n L 0 ≡ nothing → cellWith has n L 1 ≡ nothing → (x : ℕ) → x < L → 2 ≤ bidders has n x
+pub two-at : (has : ℕ → ℕ → Bool) (n L : ℕ) → cellWith has n L 0 ≡ nothing → cellWith has n L 1 ≡ nothing →
+    (x : ℕ) → x < L → 2 ≤ bidders has n x
 two-at has n L e f x l = omega (arith, none-found has n L 0 e x l, none-found has n L 1 f x l)
 
 pub two-each : (has : ℕ → ℕ → Bool) (n L : ℕ) → cellWith has n L 0 ≡ nothing → cellWith has n L 1 ≡ nothing → each has n L 2 ≡ true
