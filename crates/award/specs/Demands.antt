@@ -13,12 +13,12 @@ use Rattle.tender.specs.declared.Tender.{Tender}
 use Rattle.tender.specs.Tables.{Row, rowsOf, flatRows, flatWindows}
 use Rattle.reader.specs.Read.{accepted, readText}
 use Rattle.reader.specs.Differ.{DifferInPrice}
-use Rattle.tables.specs.Cells.{cellsOf, hasOf, pricesOf}
-use Rattle.tables.specs.Alike.{named, Alike}
+use Rattle.award_check.specs.Cells.{cellsOf, hasOf, pricesOf}
+use Rattle.award_check.specs.Alike.{named, Alike}
 use Rattle.tender.specs.declared.AwardRow.{AwardRow}
 use Rattle.tender.specs.declared.Answer.{Answer}
-use Rattle.outcome.specs.Award.{won, awarded, number}
-use Rattle.outcome.specs.AwardLaws.{award-lent}
+use Rattle.award_plain.specs.Award.{won, awarded, number}
+use Rattle.award_plain.specs.AwardLaws.{award-lent}
 use Rattle.award.specs.Promise.{told, Promise}
 use Rattle.award.specs.Gain.{rowFor, gain, AtMost}
 use Rattle.award.specs.Right.{Callable, Bidders, IsAward, OneAnswer, LeastCover, WinnerAt, PaidByEight, NoGain}

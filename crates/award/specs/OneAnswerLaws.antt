@@ -18,15 +18,15 @@ use Rattle.cover.specs.Sets.{Found, nothing, found, bidders}
 use Rattle.cover.specs.Earliest.{cellWith}
 use Rattle.cover.specs.EarliestLaws.{cell-found, one-at, two-at}
 use Rattle.cover.specs.SettledLaws.{length-listed}
-use Rattle.tables.specs.Faults.{faultOf}
-use Rattle.tables.specs.Cells.{cellsOf, hasOf, pricesOf}
-use Rattle.tables.specs.AlikeLaws.{prices-count}
+use Rattle.award_check.specs.Faults.{faultOf}
+use Rattle.award_check.specs.Cells.{cellsOf, hasOf, pricesOf}
+use Rattle.award_check.specs.AlikeLaws.{prices-count}
 use Rattle.tender.specs.declared.AwardRow.{AwardRow}
 use Rattle.tender.specs.declared.Answer.{Answer}
-use Rattle.outcome.specs.Award.{Outcome, awarded, declined, filled, costOf, paidOf, thinned, settled}
+use Rattle.award_plain.specs.Award.{Outcome, awarded, declined, filled, costOf, paidOf, thinned, settled}
 use Rattle.award.specs.Promise.{lentAfter, told, Promise}
 use Rattle.award.specs.Right.{Callable, Bidders, EarliestIn, IsAward, IsRefusal, OneAnswer, tables-break-a-rule, rows-too-few, minute-uncovered, one-bidder, award}
-use Rattle.outcome.specs.AwardLaws.{award-none, award-nine, award-settles}
+use Rattle.award_plain.specs.AwardLaws.{award-none, award-nine, award-settles}
 
 module _ (k : Kind) (t : Tender) (n : ℕ) (bids windows : List ℕ) (old new : List AwardRow) (a : Answer) (p : Promise k t n bids windows old new a) where
   abbrev o : Outcome

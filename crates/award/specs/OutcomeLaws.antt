@@ -15,15 +15,15 @@ use Rattle.cover.specs.Sets as sets
 use Rattle.cover.specs.LeastCover.{winners, without}
 use Rattle.cover.specs.LeastCoverLaws.{tie}
 use Rattle.cover.specs.SpareLaws.{least-wins}
-use Rattle.tables.specs.Cells.{cellsOf, hasOf, pricesOf}
-use Rattle.tables.specs.Alike.{named, Alike}
-use Rattle.tables.specs.AlikeLaws.{prices-count, price-named}
+use Rattle.award_check.specs.Cells.{cellsOf, hasOf, pricesOf}
+use Rattle.award_check.specs.Alike.{named, Alike}
+use Rattle.award_check.specs.AlikeLaws.{prices-count, price-named}
 use Rattle.tender.specs.declared.AwardRow.{AwardRow}
-use Rattle.outcome.specs.Award.{won, Outcome, awarded, refused, number, awardOf}
+use Rattle.award_plain.specs.Award.{won, Outcome, awarded, refused, number, awardOf}
 use Rattle.award.specs.Promise.{lentAfter}
 use Rattle.award.specs.Gain.{rowFor, gain, AtMost}
 use Rattle.award.specs.Right.{LeastCover, WinnerAt, PaidByEight}
-use Rattle.outcome.specs.AwardLaws.{won-single, cents-single, no-fault, award-awarded, rows-count}
+use Rattle.award_plain.specs.AwardLaws.{won-single, cents-single, no-fault, award-awarded, rows-count}
 use Rattle.award.specs.SettleLaws.{cost-single, largest, vcg-pays, winners-cover}
 use Rattle.award.specs.TableLaws.{award-honest, row-is, row-fair}
 

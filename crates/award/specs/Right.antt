@@ -12,11 +12,11 @@ use Rattle.cover.specs.Sets.{bit, covers, bidders}
 use Rattle.cover.specs.Sets as sets
 use Rattle.cover.specs.LeastCover.{Wins, Stands, without}
 use Rattle.reader.specs.Words.{numeralOf, priceOf}
-use Rattle.tables.specs.Faults.{faultOf}
-use Rattle.tables.specs.Cells.{cellsOf, noRow, hasOf, pricesOf}
-use Rattle.tables.specs.Alike.{named}
+use Rattle.award_check.specs.Faults.{faultOf}
+use Rattle.award_check.specs.Cells.{cellsOf, noRow, hasOf, pricesOf}
+use Rattle.award_check.specs.Alike.{named}
 use Rattle.tender.specs.declared.AwardRow.{AwardRow}
-use Rattle.outcome.specs.Award.{Outcome, awarded, refused, filled, costOf, paidOf}
+use Rattle.award_plain.specs.Award.{Outcome, awarded, refused, filled, costOf, paidOf}
 use Rattle.award.specs.Gain.{rowFor, gain, AtMost}
 
 -- no rule is broken, and there is an award row for every bid

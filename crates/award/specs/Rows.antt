@@ -10,7 +10,7 @@ use lib.Dec.{ltb}
 use borrow.Author.Tests.{ltb-true, ltb-false}
 use Rattle.tender.specs.declared.AwardRow.{AwardRow}
 use Rattle.award.specs.Gain.{lost}
-use Rattle.outcome.specs.Plain.{rowOf, rowsIn}
+use Rattle.award_plain.specs.Plain.{rowOf, rowsIn}
 use Rattle.cover.specs.SettledLaws.{length-listed, getD-listed}
 
 -- the row of bid i: won where its flag is 1, and its cents

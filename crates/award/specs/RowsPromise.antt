@@ -11,13 +11,13 @@ use Rattle.tender.specs.declared.Totals.{Totals}
 use Rattle.tender.specs.declared.AwardRow.{AwardRow}
 use Rattle.tender.specs.declared.Answer.{Answer}
 use Rattle.tender.specs.declared.Answer.the-variants.{Awarded, Refused}
-use Rattle.outcome.specs.Award.{awarded}
+use Rattle.award_plain.specs.Award.{awarded}
 use Rattle.award.specs.Promise.{lentAfter, told, Promise, rowsFilled}
-use Rattle.layout.specs.LayoutLaws.{orderly}
+use Rattle.award_layout.specs.LayoutLaws.{orderly}
 use borrow.Author.Tests.{ltb-false}
-use Rattle.outcome.specs.Plain.{rowsIn, toldIn, PlainPromise}
+use Rattle.award_plain.specs.Plain.{rowsIn, toldIn, PlainPromise}
 use Rattle.cover.specs.SettledLaws.{length-listed}
-use Rattle.outcome.specs.AwardLaws.{award-awarded}
+use Rattle.award_plain.specs.AwardLaws.{award-awarded}
 
 rows-count : (n : ℕ) (won cents : List ℕ) → length (rowsIn n won cents) ≡ n
 unfolding rowsIn

@@ -19,8 +19,8 @@ use Rattle.cover.specs.VcgLaws as vcg
 use Rattle.cover.specs.CriticalLaws as greedy
 use Rattle.cover.specs.SpareLaws.{others, others-below, spare-set, spare-bids, least-covers, greedy-covers}
 use Rattle.cover.specs.SettledLaws.{getD-listed, cost-sum}
-use Rattle.outcome.specs.Award.{won, cents, awarded, filled, costOf, paidOf, thinned, settled}
-use Rattle.outcome.specs.AwardLaws.{won-single, cents-single, won-multi, cents-multi, settled-is}
+use Rattle.award_plain.specs.Award.{won, cents, awarded, filled, costOf, paidOf, thinned, settled}
+use Rattle.award_plain.specs.AwardLaws.{won-single, cents-single, won-multi, cents-multi, settled-is}
 use Rattle.award.specs.Gain.{lost, rowFor, gain, AtMost}
 use Rattle.award.specs.GainLaws.{gain-most}
 

@@ -14,12 +14,12 @@ use Rattle.tender.specs.declared.AwardRow.{AwardRow}
 use Rattle.tender.specs.declared.Refusal.the-variants.{RowsTooFew}
 use Rattle.tender.specs.Tables.{rowsOf}
 use Rattle.cover.specs.Sets.{when}
-use Rattle.tables.specs.Faults.{faultOf}
-use Rattle.tables.specs.Cells.{cellsOf, hasOf, pricesOf}
-use Rattle.tables.specs.Alike.{Alike}
-use Rattle.tables.specs.AlikeLaws.{faultless, prices-count, prices-alike, cells-alike, price-named}
-use Rattle.outcome.specs.Award.{won, cents, awarded, declined, settled, awardOf}
-use Rattle.outcome.specs.AwardLaws.{award-none, Awarded}
+use Rattle.award_check.specs.Faults.{faultOf}
+use Rattle.award_check.specs.Cells.{cellsOf, hasOf, pricesOf}
+use Rattle.award_check.specs.Alike.{Alike}
+use Rattle.award_check.specs.AlikeLaws.{faultless, prices-count, prices-alike, cells-alike, price-named}
+use Rattle.award_plain.specs.Award.{won, cents, awarded, declined, settled, awardOf}
+use Rattle.award_plain.specs.AwardLaws.{award-none, Awarded}
 use Rattle.award.specs.Gain.{rowFor, gain, AtMost}
 use Rattle.award.specs.SettleLaws.{settled-honest, row-filled, rowIn, fair}
 

@@ -18,11 +18,11 @@ use Rattle.reader.specs.Rules.{Rules}
 use Rattle.reader.specs.RulesLaw.{rules-law}
 use Rattle.reader.specs.Differ.{DifferInPrice, RowsDifferInPrice}
 use Rattle.reader.specs.PriceLaw.{price-law}
-use Rattle.tables.specs.Faults.{sameKind, faultOf}
-use Rattle.tables.specs.Alike.{named}
-use Rattle.tables.specs.TextLaws.{never-nine, Tabled, tabled}
-use Rattle.outcome.specs.Award.{Outcome, declined, awardOf}
-use Rattle.outcome.specs.AwardLaws.{award-nine}
+use Rattle.award_check.specs.Faults.{sameKind, faultOf}
+use Rattle.award_check.specs.Alike.{named}
+use Rattle.award_check.specs.TextLaws.{never-nine, Tabled, tabled}
+use Rattle.award_plain.specs.Award.{Outcome, declined, awardOf}
+use Rattle.award_plain.specs.AwardLaws.{award-nine}
 use Rattle.award.specs.Gain.{rowFor, gain, AtMost}
 use Rattle.award.specs.Right.{NoGain}
 use Rattle.award.specs.TableLaws.{award-honest}

@@ -12,7 +12,7 @@ ghost use mathlib.Core.List.{_++_};
 ghost use lib.ListN.{length, drop};
 ghost use Rattle.tender.specs.declared.Kind.the-variants.{Single, Multi};
 ghost use Rattle.award.specs.Promise.{Promise, rowsFilled};
-ghost use Rattle.outcome.specs.Plain.{PlainPromise, rowOf, rowsIn};
+ghost use Rattle.award_plain.specs.Plain.{PlainPromise, rowOf, rowsIn};
 
 fn lesser(a: usize, b: usize) -> usize
     ensures { λ r. ⌜ r ≡ min a b ⌝ }
@@ -35,7 +35,7 @@ pub fn settle(
         (now (won .entry)) (now (cents .entry)) (now (won .exit)) (now (cents .exit)) r ⌝ }
 {
     let lent = lesser(won.len(), cents.len());
-    outcome::settle_in(kind, tender, count, bids, windows, lent, won, cents)
+    award_plain::settle_in(kind, tender, count, bids, windows, lent, won, cents)
 }
 
 // The award row that a bid's cells say: won where its flag is 1, and the cents paid.
@@ -84,7 +84,7 @@ fn award_in(
     let mut won = [1u64; 1000];
     let mut cents = [1u64; 1000];
     let lent = rows.len();
-    let answer = outcome::settle_in(
+    let answer = award_plain::settle_in(
         kind,
         tender,
         count,

@@ -24,7 +24,7 @@ use Rattle.reader.specs.SizeLaw.{fits-law}
 use Rattle.reader.specs.RulesLaw.{rules-law}
 use Rattle.tender.specs.declared.Answer.{Answer}
 use Rattle.tender.specs.declared.Answer.the-variants.{Awarded, Refused}
-use Rattle.outcome.specs.Plain.{PlainPromise}
+use Rattle.award_plain.specs.Plain.{PlainPromise}
 use Rattle.listing.specs.Lines.{awardLine, winLines, pairLine, totalWord, refusedWord}
 use Rattle.listing.specs.Written.{Written}
 use Rattle.listing.specs.List.{listOf, Listed}

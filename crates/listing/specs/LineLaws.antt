@@ -10,9 +10,9 @@ use Rattle.tender.specs.declared.Kind.the-variants.{Single, Multi}
 use Rattle.tender.specs.declared.Tender.{Tender}
 use Rattle.tender.specs.Keywords.{bytes, singleWord, multiWord}
 use Rattle.tender.specs.Tables.{Row}
-use Rattle.tables.specs.Cells.{noRow}
+use Rattle.award_check.specs.Cells.{noRow}
 use Rattle.tender.specs.declared.AwardRow.{AwardRow}
-use Rattle.outcome.specs.Award.{Outcome, awarded, refused}
+use Rattle.award_plain.specs.Award.{Outcome, awarded, refused}
 use Rattle.award.specs.Gain.{lost}
 use Rattle.listing.specs.Lines.{digitsBefore, decimal, closing, numbers, pairLine, kindWord, awardWord, winWord, totalWord, refusedWord, winLine, winLines, awardLine}
 use Rattle.listing.specs.List.{winList, listLines}

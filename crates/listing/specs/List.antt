@@ -10,9 +10,9 @@ use Rattle.tender.specs.Tables.{Row, flatRows, flatWindows}
 use Rattle.cover.specs.Sets.{when}
 use Rattle.reader.specs.Read.{accepted, readText}
 use Rattle.reader.specs.Read as reading
-use Rattle.tables.specs.Cells.{noRow}
+use Rattle.award_check.specs.Cells.{noRow}
 use Rattle.tender.specs.declared.AwardRow.{AwardRow}
-use Rattle.outcome.specs.Award.{Outcome, awarded, refused, awardOf}
+use Rattle.award_plain.specs.Award.{Outcome, awarded, refused, awardOf}
 use Rattle.award.specs.Gain.{lost}
 use Rattle.listing.specs.Lines.{pairLine, winWord, totalWord, refusedWord, awardLine}
 

@@ -23,16 +23,16 @@ use Rattle.reader.specs.Read.{accepted, readText}
 use Rattle.reader.specs.Read as reading
 use Rattle.reader.specs.Rules.{Rules}
 use Rattle.reader.specs.RulesLaw.{rules-law}
-use Rattle.tables.specs.Cells.{noRow, hasOf, holds, pricesOf, cellsOf}
-use Rattle.tables.specs.Faults.{faultOf}
-use Rattle.tables.specs.AlikeLaws.{windows-same, among-held, faultless}
-use Rattle.tables.specs.TextLaws.{rows-flat, length-windows, rows-end, never-nine}
-use Rattle.outcome.specs.Award.{Outcome, thinned, settled, awardOf, number, place}
+use Rattle.award_check.specs.Cells.{noRow, hasOf, holds, pricesOf, cellsOf}
+use Rattle.award_check.specs.Faults.{faultOf}
+use Rattle.award_check.specs.AlikeLaws.{windows-same, among-held, faultless}
+use Rattle.award_check.specs.TextLaws.{rows-flat, length-windows, rows-end, never-nine}
+use Rattle.award_plain.specs.Award.{Outcome, thinned, settled, awardOf, number, place}
 use Rattle.award.specs.Gain.{lost}
-use Rattle.outcome.specs.AwardLaws.{settled-is, award-none}
+use Rattle.award_plain.specs.AwardLaws.{settled-is, award-none}
 use Rattle.tender.specs.declared.Answer.{Answer}
 use Rattle.tender.specs.declared.Answer.the-variants.{Awarded, Refused}
-use Rattle.outcome.specs.Plain.{rowsIn, toldIn, PlainPromise}
+use Rattle.award_plain.specs.Plain.{rowsIn, toldIn, PlainPromise}
 use Rattle.listing.specs.Lines.{winLine, winLines, refusedWord}
 use Rattle.listing.specs.Made.{answerLines}
 use Rattle.listing.specs.List.{winList, listLines, listOf, Listed}

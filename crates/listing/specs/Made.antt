@@ -8,7 +8,7 @@ use Rattle.tender.specs.Refusals.{numberOf, placeOf}
 use Rattle.reader.specs.Read.{readText}
 use Rattle.tender.specs.declared.Answer.{Answer}
 use Rattle.tender.specs.declared.Answer.the-variants.{Awarded, Refused}
-use Rattle.outcome.specs.Plain.{PlainPromise}
+use Rattle.award_plain.specs.Plain.{PlainPromise}
 use Rattle.listing.specs.Lines.{awardLine, winLines, pairLine, totalWord, refusedWord}
 use Rattle.listing.specs.List.{listOf}
 use Rattle.listing.specs.Written.{Written}

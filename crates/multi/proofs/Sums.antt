@@ -11,9 +11,9 @@ use Rattle.cover.specs.Greedy.{wins}
 use Rattle.cover.specs.CriticalPrice.{roundsPaid, sum}
 use Rattle.cover.specs.Settled.{Settled}
 use Rattle.cover.specs.SettledLaws.{length-listed, getD-listed, listed-same, sumTo, sum-none, sum-more, sum-listed}
-use Rattle.tournament.specs.Tournament.{at}
-use Rattle.rounds.specs.Market.{has}
-use Rattle.paying.specs.Paying.{Paid}
+use Rattle.multi_tournament.specs.Tournament.{at}
+use Rattle.multi_rounds.specs.Market.{has}
+use Rattle.multi_pay.specs.Paying.{Paid}
 use Rattle.cover.specs.SetLaws.{when-is}
 use Rattle.multi.specs.Totals.{Summed, Awarded}
 

@@ -8,9 +8,9 @@ use Rattle.cover.specs.Sets.{when, cells}
 use Rattle.cover.specs.Greedy.{wins}
 use Rattle.cover.specs.CriticalPrice.{roundsPaid, sum}
 use Rattle.cover.specs.Settled.{listed}
-use Rattle.tournament.specs.Tournament.{at}
-use Rattle.rounds.specs.Market.{has}
-use Rattle.paying.specs.Paying.{Paid}
+use Rattle.multi_tournament.specs.Tournament.{at}
+use Rattle.multi_rounds.specs.Market.{has}
+use Rattle.multi_pay.specs.Paying.{Paid}
 
 pub record Summed (ps won cents : List ℕ) (cost paid : ℕ) : Type 0 where
   pub cost-is : cost ≡ sum (listed (length ps) (λ k. when (eqb (at won k) 1) (at ps k)))

@@ -9,9 +9,9 @@ ghost use Rattle.cover.specs.Sets.{when, cells, each};
 ghost use Rattle.cover.specs.Greedy.{wins};
 ghost use Rattle.cover.specs.CriticalPrice.{roundsPaid};
 ghost use Rattle.cover.specs.Settled.{Settled};
-ghost use Rattle.tournament.specs.Tournament.{at, Priced, Tournament};
-ghost use Rattle.rounds.specs.Market.{has, Market, Hopping};
-ghost use Rattle.rounds.specs.Trace.{Trace};
+ghost use Rattle.multi_tournament.specs.Tournament.{at, Priced, Tournament};
+ghost use Rattle.multi_rounds.specs.Market.{has, Market, Hopping};
+ghost use Rattle.multi_rounds.specs.Trace.{Trace};
 ghost use Rattle.multi.specs.Totals.{Summed, Awarded};
 
 // The price where the flag is 1.
@@ -55,12 +55,12 @@ fn run(
         × ((length (now held) ≡ w) × ((length (now counts) ≡ w + 2) × ((length (now who) ≡ 2048) × (length (now num) ≡ 2048)))))))) ⌝ }
     ensures { λ r. ⌜ Trace (now (prices .entry)) (now (masks .entry)) w count (now (order .exit)) (now (gains .exit)) r × Tournament (now (prices .entry)) (now (who .exit)) (now (num .exit)) ⌝ }
 {
-    rounds::unlock(held, count);
+    multi_rounds::unlock(held, count);
     cells::count_none(held, counts);
-    tournament::seat(who);
-    rounds::clear(num);
-    rounds::enter(prices, masks, hop, w, held, counts, who, num);
-    rounds::trace(
+    multi_tournament::seat(who);
+    multi_rounds::clear(num);
+    multi_rounds::enter(prices, masks, hop, w, held, counts, who, num);
+    multi_rounds::trace(
         prices,
         masks,
         hop,
@@ -99,8 +99,8 @@ fn settle(
         × ((length (now counts) ≡ w + 2) × ((length (now who) ≡ 2048) × ((length (now num) ≡ 2048) × ((length (now mark) ≡ 16) × ((length (now won) ≡ length (now prices)) × (length (now cents) ≡ length (now prices))))))))))))))) ⌝ }
     ensures { λ r. ⌜ Awarded (now (prices .entry)) (now (masks .entry)) w count (now (won .exit)) (now (cents .exit)) (r .cost) (r .paid) ⌝ }
 {
-    charts::chart(prices, masks, w, hop);
-    charts::enlist(prices, masks, hop, w, index);
+    multi_charts::chart(prices, masks, w, hop);
+    multi_charts::enlist(prices, masks, hop, w, index);
     let rounds = run(
         prices,
         masks,
@@ -114,10 +114,10 @@ fn settle(
         order,
         gains,
     );
-    rounds::unlock(held, count);
-    rounds::clear(won);
-    rounds::clear(cents);
-    paying::pay_all(
+    multi_rounds::unlock(held, count);
+    multi_rounds::clear(won);
+    multi_rounds::clear(cents);
+    multi_pay::pay_all(
         prices,
         masks,
         hop,

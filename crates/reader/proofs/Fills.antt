@@ -16,13 +16,13 @@ use Rattle.tender.specs.Limits.{allLawful}
 use Rattle.tender.specs.Refusals.{numberOf, placeOf}
 use Rattle.tender.specs.Tables.{flatRows, flatWindows}
 use Rattle.cells.specs.Cells.{cell, Filled}
-use Rattle.scan.specs.Words.{among, cut}
-use Rattle.scan.specs.Line.{Bid, Line, tender, bid, lineOf, linesOf}
-use Rattle.scan.specs.Scan.{toNext}
-use Rattle.scan.specs.SizeLaws.{line-windows}
-use Rattle.scan.specs.Answer.{FirstBroken, EndsAt}
-use Rattle.scan.specs.declared.words.LineEnd.{LineEnd}
-use Rattle.scan.specs.declared.words.LineEnd.the-variants.{At, Broken}
+use Rattle.reader_line.specs.Words.{among, cut}
+use Rattle.reader_line.specs.Line.{Bid, Line, tender, bid, lineOf, linesOf}
+use Rattle.reader_line.specs.Scan.{toNext}
+use Rattle.reader_line.specs.SizeLaws.{line-windows}
+use Rattle.reader_line.specs.Answer.{FirstBroken, EndsAt}
+use Rattle.reader_line.specs.declared.words.LineEnd.{LineEnd}
+use Rattle.reader_line.specs.declared.words.LineEnd.the-variants.{At, Broken}
 use Rattle.reader.specs.Read.{Outcome, refused, rowsFrom, allWindows, bidsOf, faultIn, faultOf, judged, checked}
 use Rattle.reader.specs.RulesLaw.{passed}
 use Rattle.reader.specs.Steps.{Fault, Declines, Took, Judged, Taken, Held}

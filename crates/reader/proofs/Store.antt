@@ -9,8 +9,8 @@ use lib.Seq.{sets-eq, length-take-le, take-at}
 use borrow.Author.Tests.{lt-ltb}
 use Rattle.tender.specs.declared.Window.{Window}
 use Rattle.tender.specs.Tables.{flatRows, flatWindows}
-use Rattle.scan.specs.Line.{Bid}
-use Rattle.scan.specs.Scan.{putWindow, putWindows}
+use Rattle.reader_line.specs.Line.{Bid}
+use Rattle.reader_line.specs.Scan.{putWindow, putWindows}
 use Rattle.reader.specs.Read.{rowsFrom, allWindows}
 use Rattle.reader.specs.Steps.{cellsOf}
 

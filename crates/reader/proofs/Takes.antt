@@ -12,8 +12,8 @@ use Rattle.tender.specs.declared.Kind.{Kind}
 use Rattle.tender.specs.declared.Tender.{Tender}
 use Rattle.tender.specs.Limits.{allLawful}
 use Rattle.cells.specs.Cells.{cell, Filled}
-use Rattle.scan.specs.Line.{Bid, Line, tender, bid}
-use Rattle.scan.specs.Scan.{putWindows, Tally, tally, tenderNote, bidNote, noted}
+use Rattle.reader_line.specs.Line.{Bid, Line, tender, bid}
+use Rattle.reader_line.specs.Scan.{putWindows, Tally, tally, tenderNote, bidNote, noted}
 use Rattle.reader.specs.Read.{faultIn}
 use Rattle.reader.specs.Steps.{cellsOf, Fault, faultAt, Declines, Taken}
 use Rattle.reader.specs.declared.bids.Step.{Step}

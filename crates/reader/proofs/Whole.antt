@@ -14,10 +14,10 @@ use Rattle.tender.specs.declared.Refusal.{Refusal}
 use Rattle.tender.specs.Limits.{lawful}
 use Rattle.tender.specs.Refusals.{numberOf, placeOf}
 use Rattle.tender.specs.Tables.{Row, flatRows, flatWindows}
-use Rattle.scan.specs.Words.{cut}
-use Rattle.scan.specs.Line.{Line, tender, bid, linesOf}
-use Rattle.scan.specs.Scan.{Tally, tenderNote, bidNote, noted}
-use Rattle.scan.specs.Answer.{FirstBroken}
+use Rattle.reader_line.specs.Words.{cut}
+use Rattle.reader_line.specs.Line.{Line, tender, bid, linesOf}
+use Rattle.reader_line.specs.Scan.{Tally, tenderNote, bidNote, noted}
+use Rattle.reader_line.specs.Answer.{FirstBroken}
 use Rattle.reader.specs.Read.{Outcome, accepted, refused, rowsFrom, allWindows, bidsOf, checked, tables, readLines, readText, fitted, readInto}
 use Rattle.reader.specs.RulesLaw.{rows-length}
 use Rattle.reader.specs.Answer.{filled, declined, summary, bidsAfter, windowsAfter}

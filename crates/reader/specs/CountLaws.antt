@@ -12,10 +12,10 @@ use Rattle.tender.specs.declared.Kind.{Kind}
 use Rattle.tender.specs.declared.Window.{Window}
 use Rattle.tender.specs.declared.Tender.{Tender}
 use Rattle.tender.specs.Tables.{Row}
-use Rattle.scan.specs.Words.{cut, grow}
-use Rattle.scan.specs.Line.{Bid, Line, bid, lineOf, linesOf}
+use Rattle.reader_line.specs.Words.{cut, grow}
+use Rattle.reader_line.specs.Line.{Bid, Line, bid, lineOf, linesOf}
 use Rattle.reader.specs.Read.{Outcome, accepted, refused, bidsOf, tables, readLines, readText, fitted, readInto}
-use Rattle.scan.specs.CutLaws.{Pieces, cut-some}
+use Rattle.reader_line.specs.CutLaws.{Pieces, cut-some}
 use Rattle.reader.specs.ReadLaws.{never, read-lines, checked-bids, begun}
 use Rattle.reader.specs.Rules.{RowsRules, times}
 use Rattle.reader.specs.RulesLaw.{rows-length, rules-law}

@@ -7,11 +7,11 @@ use Prim.Native.Nat.{ℕ}
 use Rattle.tender.specs.declared.Window.{Window}
 use Rattle.tender.specs.declared.Tender.{Tender}
 use Rattle.tender.specs.Tables.{Row}
-use Rattle.scan.specs.Words.{cut}
-use Rattle.scan.specs.LinePlain.{plain, allPlain, PlainPieces, cut-plain, line-plain}
-use Rattle.scan.specs.Line.{Line, lineOf, linesOf}
+use Rattle.reader_line.specs.Words.{cut}
+use Rattle.reader_line.specs.LinePlain.{plain, allPlain, PlainPieces, cut-plain, line-plain}
+use Rattle.reader_line.specs.Line.{Line, lineOf, linesOf}
 use Rattle.reader.specs.Read.{accepted, bidsOf, tables, readLines, readText}
-use Rattle.scan.specs.CutLaws.{Pieces, cut-some}
+use Rattle.reader_line.specs.CutLaws.{Pieces, cut-some}
 use Rattle.reader.specs.ReadLaws.{never, read-lines, checked-bids, begun}
 use Rattle.reader.specs.CountLaws.{AllRead, bids-read}
 

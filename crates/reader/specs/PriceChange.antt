@@ -13,10 +13,10 @@ use Rattle.tender.specs.declared.Window.{Window}
 use Rattle.tender.specs.declared.Tender.{Tender}
 use Rattle.tender.specs.Limits.{lawful}
 use Rattle.tender.specs.Tables.{Row}
-use Rattle.scan.specs.Words.{andThen, cut, numeralOf, priceOf}
-use Rattle.scan.specs.Line.{Bid, Line, tender, bid, windowsIn, bidOf, lineOf, linesOf}
+use Rattle.reader_line.specs.Words.{andThen, cut, numeralOf, priceOf}
+use Rattle.reader_line.specs.Line.{Bid, Line, tender, bid, windowsIn, bidOf, lineOf, linesOf}
 use Rattle.reader.specs.Read.{Outcome, accepted, rowsFrom, allWindows, bidsOf, faultIn, faultOf, checked, tables, readLines, readText}
-use Rattle.scan.specs.CutLaws.{Pieces, cut-some}
+use Rattle.reader_line.specs.CutLaws.{Pieces, cut-some}
 use Rattle.reader.specs.ReadLaws.{never, judged-out}
 use Rattle.reader.specs.Differ.{bidLine, Word, DifferInPrice, RowsDifferInPrice}
 use Rattle.reader.specs.PriceLaw.{line-of, parts, Found, text-lines, found, price-law}

@@ -10,10 +10,10 @@ use Rattle.tender.specs.Keywords.{bidWord}
 use Rattle.tender.specs.declared.Window.{Window}
 use Rattle.tender.specs.declared.Tender.{Tender}
 use Rattle.tender.specs.Tables.{Row}
-use Rattle.scan.specs.Words.{andThen, cut, among, numeralOf, priceOf}
-use Rattle.scan.specs.Line.{Bid, Line, tender, bid, windowsIn, bidOf, lineOfWords, lineOf, linesOf}
+use Rattle.reader_line.specs.Words.{andThen, cut, among, numeralOf, priceOf}
+use Rattle.reader_line.specs.Line.{Bid, Line, tender, bid, windowsIn, bidOf, lineOfWords, lineOf, linesOf}
 use Rattle.reader.specs.Read.{accepted, rowsFrom, allWindows, bidsOf, tables, readText}
-use Rattle.scan.specs.CutLaws.{Pieces, cut-some, cut-end, cut-word, cut-append, lines-append}
+use Rattle.reader_line.specs.CutLaws.{Pieces, cut-some, cut-end, cut-word, cut-append, lines-append}
 use Rattle.reader.specs.Differ.{bidLine, Word, DifferInPrice, withPrice, RowsDifferInPrice, DifferInOnePrice}
 use Rattle.reader.specs.ReadLaws.{read-lines, checked-bids, Begun, begun}
 

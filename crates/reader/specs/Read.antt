@@ -10,8 +10,8 @@ use Rattle.tender.specs.declared.Window.{Window}
 use Rattle.tender.specs.declared.Tender.{Tender}
 use Rattle.tender.specs.Limits.{within, maxPrice, maxBidder, maxBids, maxWindows, maxText, isSingle, lawful, allLawful}
 use Rattle.tender.specs.Tables.{Row}
-use Rattle.scan.specs.Words.{cut, among}
-use Rattle.scan.specs.Line.{Bid, Line, tender, bid, linesOf}
+use Rattle.reader_line.specs.Words.{cut, among}
+use Rattle.reader_line.specs.Line.{Bid, Line, tender, bid, linesOf}
 
 pub data Outcome : Type 0 where
   accepted : Tender → List Row → List Window → Outcome

@@ -12,8 +12,8 @@ use Rattle.tender.specs.declared.Window.{Window}
 use Rattle.tender.specs.declared.Tender.{Tender}
 use Rattle.tender.specs.Limits.{lawful}
 use Rattle.tender.specs.Tables.{Row}
-use Rattle.scan.specs.Words.{cut}
-use Rattle.scan.specs.Line.{Line, tender, bid, linesOf}
+use Rattle.reader_line.specs.Words.{cut}
+use Rattle.reader_line.specs.Line.{Line, tender, bid, linesOf}
 use Rattle.reader.specs.Read.{Outcome, accepted, refused, rowsFrom, allWindows, bidsOf, faultOf, judged, checked, tables, readLines, readText}
 
 pub never : {A : Type 0} {n at : ℕ} {t : Tender} {R : List Row} {W : List Window} → refused n at ≡ accepted t R W → A

@@ -16,11 +16,11 @@ use Rattle.tender.specs.declared.Window.{Window}
 use Rattle.tender.specs.declared.Tender.{Tender}
 use Rattle.tender.specs.Limits.{allLawful, isSingle, lawful, within}
 use Rattle.tender.specs.Tables.{Row}
-use Rattle.scan.specs.Words.{andThen, cut, among, same, closed, numeralOf, priceOf}
-use Rattle.scan.specs.Line.{Bid, Line, tender, bid, kindOf, spanOf, windowOf, windowsIn, tenderOf, bidOf, lineOfWords, lineOf, linesOf}
-use Rattle.scan.specs.LinePlain.{split as and-split}
+use Rattle.reader_line.specs.Words.{andThen, cut, among, same, closed, numeralOf, priceOf}
+use Rattle.reader_line.specs.Line.{Bid, Line, tender, bid, kindOf, spanOf, windowOf, windowsIn, tenderOf, bidOf, lineOfWords, lineOf, linesOf}
+use Rattle.reader_line.specs.LinePlain.{split as and-split}
 use Rattle.reader.specs.Read.{Outcome, accepted, rowsFrom, allWindows, bidsOf, faultIn, faultOf, checked, tables, readLines, readText}
-use Rattle.scan.specs.CutLaws.{or-split}
+use Rattle.reader_line.specs.CutLaws.{or-split}
 use Rattle.reader.specs.ReadLaws.{never, read-lines, judged-out, begun}
 use Rattle.reader.specs.Rules.{WindowRules, RowsRules, WindowsRules, Rules}
 

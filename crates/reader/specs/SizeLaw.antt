@@ -11,10 +11,10 @@ use borrow.Author.Tests.{le-leb, ltb-false}
 use Rattle.tender.specs.declared.Window.{Window}
 use Rattle.tender.specs.declared.Tender.{Tender}
 use Rattle.tender.specs.Tables.{Row}
-use Rattle.scan.specs.Words.{cut, grow}
-use Rattle.scan.specs.Line.{Bid, Line, tender, bid, lineOf, linesOf}
-use Rattle.scan.specs.CutLaws.{Pieces, cut-some}
-use Rattle.scan.specs.SizeLaws.{line-windows}
+use Rattle.reader_line.specs.Words.{cut, grow}
+use Rattle.reader_line.specs.Line.{Bid, Line, tender, bid, lineOf, linesOf}
+use Rattle.reader_line.specs.CutLaws.{Pieces, cut-some}
+use Rattle.reader_line.specs.SizeLaws.{line-windows}
 use Rattle.reader.specs.Read.{Outcome, accepted, refused, bidsOf, allWindows, readLines, readText, fitted, readInto}
 use Rattle.reader.specs.ReadLaws.{never, read-lines, begun}
 use Rattle.reader.specs.CountLaws.{counts-law}

@@ -13,9 +13,9 @@ use Rattle.tender.specs.Limits.{lawful, allLawful}
 use Rattle.tender.specs.Refusals.{numberOf, placeOf}
 use Rattle.tender.specs.Tables.{Row, flatRows, flatWindows}
 use Rattle.cells.specs.Cells as cells
-use Rattle.scan.specs.Words.{cut}
-use Rattle.scan.specs.Line.{Bid, Line, tender, bid, linesOf}
-use Rattle.scan.specs.Scan.{putWindows}
+use Rattle.reader_line.specs.Words.{cut}
+use Rattle.reader_line.specs.Line.{Bid, Line, tender, bid, linesOf}
+use Rattle.reader_line.specs.Scan.{putWindows}
 use Rattle.reader.specs.Read.{Outcome, refused, rowsFrom, allWindows, bidsOf, faultIn, checked, readLines}
 use Rattle.reader.specs.declared.First.{First}
 use Rattle.reader.specs.declared.First.the-variants as first

@@ -13,11 +13,11 @@ mod rows;
 use bids::Bids;
 use bids::read_bids;
 use rows::copy;
-use scan::line::Line;
-use scan::line::keeps;
-use scan::line::read_line;
-use scan::words::LineEnd;
-use scan::words::line_end;
+use reader_line::line::Line;
+use reader_line::line::keeps;
+use reader_line::line::read_line;
+use reader_line::words::LineEnd;
+use reader_line::words::line_end;
 use tender::Refusal;
 use tender::Tender;
 

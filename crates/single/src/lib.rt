@@ -10,7 +10,7 @@ ghost use Rattle.cover.specs.CriticalPrice.{sum};
 ghost use Rattle.cover.specs.Settled.{spans, Settled};
 ghost use Rattle.cover.specs.SettledLaws.{Written, sumTo};
 ghost use Rattle.cover.specs.IntervalBids.{Bids};
-ghost use Rattle.costs.specs.Across.{Before, After, Waiting};
+ghost use Rattle.single_costs.specs.Across.{Before, After, Waiting};
 ghost use Rattle.single.specs.Pay.{winnersOf, paidOf};
 
 // The difference, 0 where `y` is more.
@@ -60,7 +60,7 @@ fn pay(
         return Paid { cents: 0, live: m };
     }
     let i = order[q];
-    let rest = costs::without(
+    let rest = single_costs::without(
         starts,
         ends,
         prices,
@@ -175,7 +175,7 @@ fn payments(
     let mut costs = [1u64; 1001];
     let mut live = [1usize; 1000];
     let mut xs = [1usize; 1000];
-    costs::after(starts, ends, prices, cells, &mut later);
+    single_costs::after(starts, ends, prices, cells, &mut later);
     pay_each(
         starts,
         ends,
@@ -212,8 +212,8 @@ pub fn award(
     // ones, not zeros: the compiler writes these in wide stores
     let mut order = [1usize; 1000];
     let mut early = [1u64; 1001];
-    order::by_start(starts, n, cells, &mut order);
-    let all = select::winners(starts, ends, prices, &order, cells, &mut early, won);
+    single_order::by_start(starts, n, cells, &mut order);
+    let all = single_select::winners(starts, ends, prices, &order, cells, &mut early, won);
     payments(starts, ends, prices, &order, &early, won, cents, cells, all);
     let paid = total(cents, n);
     tender::Totals {

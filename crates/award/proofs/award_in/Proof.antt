@@ -54,16 +54,16 @@ use Rattle.tender.proofs.Tender.Laws as Ten′
 use Rattle.tender.specs.declared.Answer.{Answer}
 use Rattle.tender.specs.declared.AwardRow.{AwardRow}
 use Rattle.award.specs.Promise.{Promise, rowsFilled}
-use Rattle.outcome.specs.Plain.{rowsIn, PlainPromise}
+use Rattle.award_plain.specs.Plain.{rowsIn, PlainPromise}
 use Rattle.award.specs.RowsPromise.{rows-fit, filled-promise}
 use Rattle.award.proofs.LocalArray.{repeated, repeated-elements, as-room, lends, comes-back, lends-shared, comes-back-shared}
 use Rattle.tender.proofs.Answer as Ans
 use Rattle.tender.proofs.Answer.Laws as Ans′
 use Rattle.tender.proofs.AwardRow as Row
-use Rattle.outcome.proofs.settle_in as settle
-use Rattle.outcome.proofs.settle_in.Symbol as settle-def
-use Rattle.outcome.proofs.settle_in.Symbol.{name as #outcome·settle-in}
-use Rattle.outcome.proofs.settle_in.Met as settle-thm
+use Rattle.award_plain.proofs.settle_in as settle
+use Rattle.award_plain.proofs.settle_in.Symbol as settle-def
+use Rattle.award_plain.proofs.settle_in.Symbol.{name as #award_plain·settle-in}
+use Rattle.award_plain.proofs.settle_in.Met as settle-thm
 use Rattle.award.proofs.rows_filled as count
 use Rattle.award.proofs.rows_filled.Symbol as count-def
 use Rattle.award.proofs.rows_filled.Symbol.{name as #award·rows-filled}
@@ -225,7 +225,7 @@ module _ {M : Type 1} (𝓤 : URA M) (H : Heap 𝓤) (A : Atoms 𝓤) (W : Given
         ∷ ‵ (ShrSlice (named 1) (ν ∷ []) u64 .own (x l7 δ xs7) (sliceVal (l7, 0) (length xs7) ∷ [])) ∷ ‵ (ShrSlice (named 2) (μ ∷ []) u64 .own (x l8 ε xs8) (sliceVal (l8, 0) (length xs8) ∷ [])) ∷ []) ∵
         says ! h $ frame ! $ nothing ! $ owned ! usize (Is usize) (uint-makes 𝓤 H A W w64) m (vint w64 m ∷ []) (refl, gm) $ fjoin ! $ move ! (3 ∷ 0 ∷ []) $ fjoin ! $ move ! (2 ∷ 0 ∷ []) $ fjoin ! $ move ! (1 ∷ 0 ∷ []) $ fjoin ! $ done !
 
-  walk : (𝓣 : Tables 𝓤 H) → FmC 𝓤 H (W .laws) (𝓣 .C) → Triple 𝓤 (𝓣 .C #outcome·settle-in) (Settle 𝓤 H A at-mem run) → Triple 𝓤 (𝓣 .C #award·rows-filled) (Filled 𝓤 H A at-mem run) → Triple 𝓤 (𝓣 .C #award·fill) (Fill 𝓤 H A at-mem run)
+  walk : (𝓣 : Tables 𝓤 H) → FmC 𝓤 H (W .laws) (𝓣 .C) → Triple 𝓤 (𝓣 .C #award_plain·settle-in) (Settle 𝓤 H A at-mem run) → Triple 𝓤 (𝓣 .C #award·rows-filled) (Filled 𝓤 H A at-mem run) → Triple 𝓤 (𝓣 .C #award·fill) (Fill 𝓤 H A at-mem run)
       → ent 𝓤 (onEntry 𝓤 H A f.signature (κ0, (κ1, (κ2, tt))) (q0, (q1, (q2, tt))) args at) (WpFn 𝓤 H (𝓣 .C) (𝓣 .Λ) code.function (vk ∷ vt ∷ vint w64 n ∷ s0 ∷ s1 ∷ s2 ∷ []) Post)
   walk 𝓣 fm known-settle known-filled known-fill =
       qed W ((‵ (flft κ0 q0) ⊛ (‵ (flft κ1 q1) ⊛ (‵ (flft κ2 q2) ⊛ ‵ ftrue))) ∷ ‵ (owns (Kin.the-row ∷ Ten.the-row ∷ usize ∷ ShrSlice (named 0) κ0 u64 ∷ ShrSlice (named 1) κ1 u64 ∷ MutSlice (named 2) κ2 Row.the-row ∷ []) args at) ∷ []) ∵
@@ -299,7 +299,7 @@ module _ {M : Type 1} (𝓤 : URA M) (H : Heap 𝓤) (A : Atoms 𝓤) (W : Given
       move ! (50 ∷ 51 ∷ []) $ free1 ! $ move ! (48 ∷ 49 ∷ []) $ free1 ! $ move ! (46 ∷ 47 ∷ []) $ free1 ! $ move ! (44 ∷ 45 ∷ []) $ free1 ! $ move ! (42 ∷ 43 ∷ []) $ free1 ! $ move ! (40 ∷ 41 ∷ []) $ free1 ! $ move ! (38 ∷ 39 ∷ []) $ free1 ! $ move ! (1 ∷ 37 ∷ []) $ free1 ! $ move ! (0 ∷ 35 ∷ []) $ free1 ! $ move ! (32 ∷ 33 ∷ []) $ free1 ! $ move ! (30 ∷ 31 ∷ []) $ free1 ! $ move ! (28 ∷ 29 ∷ []) $ free1 ! $ move ! (26 ∷ 27 ∷ []) $ free1 ! $ move ! (24 ∷ 25 ∷ []) $ free1 ! $ move ! (22 ∷ 23 ∷ []) $ free1 ! $ move ! (20 ∷ 21 ∷ []) $ free1 ! $ move ! (18 ∷ 19 ∷ []) $ free1 ! $ move ! (16 ∷ 17 ∷ []) $ free1 ! $ move ! (14 ∷ 15 ∷ []) $ free1 ! $ move ! (12 ∷ 13 ∷ []) $ free1 ! $ move ! (10 ∷ 11 ∷ []) $ free1 ! $ move ! (8 ∷ 9 ∷ []) $ free1 ! $ move ! (6 ∷ 7 ∷ []) $ free1 ! $ free0 ! $ keep ! (3 ∷ 2 ∷ 0 ∷ 5 ∷ 4 ∷ 1 ∷ []) $ by ! (exits a va isa (fs .0) kr (filled-promise k t n bs ws ys (fs .0) _ _ (zs-won zs) (zs-cents zs) a m e em ef)))))))))))))))))))))))))))))))))))))))))))))))))))))))
 
 module _ {M : Type 1} (𝓤 : URA M) (H : Heap 𝓤) (A : Atoms 𝓤) (W : Given 𝓤 H A) (at-mem : Memory → SProp 𝓤) (run : Routine → Fun 𝓤) where
-  award-in-walks : (𝓣 : Tables 𝓤 H) → Triple 𝓤 (𝓣 .C #outcome·settle-in) (Settle 𝓤 H A at-mem run) → Triple 𝓤 (𝓣 .C #award·rows-filled) (Filled 𝓤 H A at-mem run) → Triple 𝓤 (𝓣 .C #award·fill) (Fill 𝓤 H A at-mem run)
+  award-in-walks : (𝓣 : Tables 𝓤 H) → Triple 𝓤 (𝓣 .C #award_plain·settle-in) (Settle 𝓤 H A at-mem run) → Triple 𝓤 (𝓣 .C #award·rows-filled) (Filled 𝓤 H A at-mem run) → Triple 𝓤 (𝓣 .C #award·fill) (Fill 𝓤 H A at-mem run)
       → Walks 𝓤 H A f.ended stayed (WpFn 𝓤 H (𝓣 .C) (𝓣 .Λ) code.function) (f.clauses 𝓤 H A at-mem run)
   award-in-walks 𝓣 known-settle known-filled known-fill = walked 𝓤 H A f.ended stayed (f.clauses 𝓤 H A at-mem run) (WpFn 𝓤 H (𝓣 .C) (𝓣 .Λ) code.function)
       (λ κs. (EL.vals Kin.the-type Kin′.the-laws, (LL.vals Ten.the-type Ten′.the-laws, (uint-vals w64, (slice-vals, (slice-vals, (slice-vals, tt)))))))
@@ -323,7 +323,7 @@ module _ {M : Type 1} (𝓤 : URA M) (H : Heap 𝓤) (A : Atoms 𝓤) (W : Given
   )
 
 award-in-meets : {M : Type 1} (𝓤 : URA M) (H : Heap 𝓤) (A : Atoms 𝓤) → Given 𝓤 H A → (at-mem : Memory → SProp 𝓤) (run : Routine → Fun 𝓤) (𝓣 : Tables 𝓤 H)
-    → Triple 𝓤 (𝓣 .C #outcome·settle-in) (Settle 𝓤 H A at-mem run) → Triple 𝓤 (𝓣 .C #award·rows-filled) (Filled 𝓤 H A at-mem run) → Triple 𝓤 (𝓣 .C #award·fill) (Fill 𝓤 H A at-mem run)
+    → Triple 𝓤 (𝓣 .C #award_plain·settle-in) (Settle 𝓤 H A at-mem run) → Triple 𝓤 (𝓣 .C #award·rows-filled) (Filled 𝓤 H A at-mem run) → Triple 𝓤 (𝓣 .C #award·fill) (Fill 𝓤 H A at-mem run)
     → Meets 𝓤 H A f.signature (WpFn 𝓤 H (𝓣 .C) (𝓣 .Λ) code.function) (f.spec 𝓤 H A at-mem run)
 award-in-meets 𝓤 H A W at-mem run 𝓣 known-settle known-filled known-fill = walk-meets 𝓤 H A f.ended stayed W (goes 𝓤 H A W at-mem run) (f.clauses 𝓤 H A at-mem run) (WpFn 𝓤 H (𝓣 .C) (𝓣 .Λ) code.function)
     (WpFn-mono 𝓤 H (W .laws) 𝓣 code.function) (award-in-walks 𝓤 H A W at-mem run 𝓣 known-settle known-filled known-fill)
@@ -334,6 +334,6 @@ award-in-spec 𝓤 H 𝓜 𝓖 𝓡 =
     entered 𝓤 H (tripleOf 𝓤 H (𝓖 .A) f.signature (f.spec 𝓤 H (𝓖 .A) (𝓜 .mem) (𝓡 .run)))
     (tables 𝓤 H 𝓜 𝓡 code.env .C) (tables 𝓤 H 𝓜 𝓡 code.env .Λ) #award·award-in code.function (code.unfolded 𝓤 H 𝓜 𝓡)
     (award-in-meets 𝓤 H (𝓖 .A) (givenOf 𝓤 H 𝓜 𝓖) (𝓜 .mem) (𝓡 .run) (tablesOf 𝓤 H 𝓜 (tables 𝓤 H 𝓜 𝓡 code.env))
-    (cited 𝓤 H (Settle 𝓤 H (𝓖 .A) (𝓜 .mem) (𝓡 .run)) 𝓜 𝓡 code.env #outcome·settle-in settle-def.routine code.calls-outcome·settle-in (settle-thm.met 𝓤 H 𝓜 𝓖 𝓡))
+    (cited 𝓤 H (Settle 𝓤 H (𝓖 .A) (𝓜 .mem) (𝓡 .run)) 𝓜 𝓡 code.env #award_plain·settle-in settle-def.routine code.calls-award_plain·settle-in (settle-thm.met 𝓤 H 𝓜 𝓖 𝓡))
     (cited 𝓤 H (Filled 𝓤 H (𝓖 .A) (𝓜 .mem) (𝓡 .run)) 𝓜 𝓡 code.env #award·rows-filled count-def.routine code.calls-award·rows-filled (count-thm.met 𝓤 H 𝓜 𝓖 𝓡))
     (cited 𝓤 H (Fill 𝓤 H (𝓖 .A) (𝓜 .mem) (𝓡 .run)) 𝓜 𝓡 code.env #award·fill fill-def.routine code.calls-award·fill (fill-thm.met 𝓤 H 𝓜 𝓖 𝓡)))

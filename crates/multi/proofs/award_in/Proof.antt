@@ -4,7 +4,7 @@ use mathlib.Core.Path.{_∙_, sym}
 use native.Mathlib.Omega.{arith}
 use lib.ListN.{length, length-append, length-drop}
 use lib.Seq.{length-take-le}
-use Rattle.tournament.proofs.Order.{product}
+use Rattle.multi_tournament.proofs.Order.{product}
 use Rattle.multi.proofs.Sums.{settles}
 use borrow.Author.Needs.{needs}
 use Rattle.multi.proofs.award_in.Statement.{statement}

@@ -2,18 +2,18 @@
 use Prim.Native.Nat.{ℕ, _+_}
 use mathlib.Core.Path.{_∙_, sym, ap}
 use native.Mathlib.Omega.{arith}
-use Rattle.tournament.proofs.Tree.{opened}
+use Rattle.multi_tournament.proofs.Tree.{opened}
 use borrow.Author.Needs.{needs}
 use Rattle.multi.proofs.run.Statement.{statement}
 use Rattle.multi.proofs.run.Tie as tie
 use Rattle.multi.proofs.run.Reads as reads
 use Rattle.multi.proofs.run.Lts as lts
 use Rattle.cells.proofs.count_none.Reads as count-none-reads
-use Rattle.rounds.proofs.clear.Reads as clear-reads
-use Rattle.rounds.proofs.enter.Reads as enter-reads
-use Rattle.rounds.proofs.trace.Reads as trace-reads
-use Rattle.rounds.proofs.unlock.Reads as unlock-reads
-use Rattle.tournament.proofs.seat.Reads as seat-reads
+use Rattle.multi_rounds.proofs.clear.Reads as clear-reads
+use Rattle.multi_rounds.proofs.enter.Reads as enter-reads
+use Rattle.multi_rounds.proofs.trace.Reads as trace-reads
+use Rattle.multi_rounds.proofs.unlock.Reads as unlock-reads
+use Rattle.multi_tournament.proofs.seat.Reads as seat-reads
 
 -- src/lib.rt:58:5
 unlock-requires : tie.Need-unlock-requires

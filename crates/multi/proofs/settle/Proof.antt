@@ -1,20 +1,20 @@
 -- `multi::settle` meets its contract: the run is written down, its bids are marked and paid, and the totals summed. Assumes nothing.
 use mathlib.Core.Path.{_∙_}
 use native.Mathlib.Omega.{arith}
-use Rattle.paying.proofs.Along.{starts}
+use Rattle.multi_pay.proofs.Along.{starts}
 use Rattle.multi.proofs.Sums.{awarded, paid-lengths}
 use borrow.Author.Needs.{needs}
 use Rattle.multi.proofs.settle.Statement.{statement}
 use Rattle.multi.proofs.settle.Tie as tie
 use Rattle.multi.proofs.settle.Reads as reads
 use Rattle.multi.proofs.settle.Lts as lts
-use Rattle.charts.proofs.chart.Reads as chart-reads
-use Rattle.charts.proofs.enlist.Reads as enlist-reads
+use Rattle.multi_charts.proofs.chart.Reads as chart-reads
+use Rattle.multi_charts.proofs.enlist.Reads as enlist-reads
 use Rattle.multi.proofs.run.Reads as run-reads
 use Rattle.multi.proofs.totals.Reads as totals-reads
-use Rattle.paying.proofs.pay_all.Reads as pay-all-reads
-use Rattle.rounds.proofs.clear.Reads as clear-reads
-use Rattle.rounds.proofs.unlock.Reads as unlock-reads
+use Rattle.multi_pay.proofs.pay_all.Reads as pay-all-reads
+use Rattle.multi_rounds.proofs.clear.Reads as clear-reads
+use Rattle.multi_rounds.proofs.unlock.Reads as unlock-reads
 
 -- src/lib.rt:102:5
 chart-requires : tie.Need-chart-requires

@@ -5,10 +5,10 @@ use native.Mathlib.Omega.{arith}
 use borrow.Author.Needs.{needs}
 use mathlib.Core.List.{_∷_}
 use lib.ListN.{drop}
-use Rattle.scan.specs.Words.{cut}
-use Rattle.scan.specs.Line.{linesOf}
-use Rattle.scan.specs.ScanLaws.{lines-at}
-use Rattle.scan.specs.Answer.{toldLine}
+use Rattle.reader_line.specs.Words.{cut}
+use Rattle.reader_line.specs.Line.{linesOf}
+use Rattle.reader_line.specs.ScanLaws.{lines-at}
+use Rattle.reader_line.specs.Answer.{toldLine}
 use Rattle.reader.proofs.Fills.{ends-at, ends-broken}
 use Rattle.reader.proofs.Whole.{first-empty, is-tender, first-bid, first-broken, first-unlawful, first-odd}
 use Rattle.reader.proofs.read_first.Statement.{statement}

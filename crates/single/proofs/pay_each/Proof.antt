@@ -3,8 +3,8 @@ use mathlib.Core.Path.{_≡_, refl}
 use Prim.Native.Nat.{_≤_, _-_}
 use lib.ListN.{length, length-set}
 use native.Mathlib.Nat.{le-antisymm}
-use Rattle.costs.specs.Across.{Waiting}
-use Rattle.costs.specs.AcrossLaws.{waiting-none, waiting-more}
+use Rattle.single_costs.specs.Across.{Waiting}
+use Rattle.single_costs.specs.AcrossLaws.{waiting-none, waiting-more}
 use Rattle.single.specs.Pay.{paidOf, PaidTo, paid-none, paid-more, paid-all}
 use native.Mathlib.Omega.{arith}
 use borrow.Author.Needs.{needs}

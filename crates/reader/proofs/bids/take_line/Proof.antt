@@ -1,7 +1,7 @@
 -- `bids::take_line` meets its contract: the line is read, judged and put into the tables. Assumes nothing.
 use mathlib.Core.Path.{refl, sym, ap, _∙_}
 use native.Mathlib.Omega.{arith}
-use Rattle.scan.specs.Answer.{toldLine}
+use Rattle.reader_line.specs.Answer.{toldLine}
 use Rattle.reader.specs.RulesLaw.{passed}
 use Rattle.reader.specs.Steps.{verdictOf}
 use Rattle.reader.proofs.Takes.{is-sound, is-fault, taken-broken, taken-tender, taken-fault, taken-sound}

@@ -1,0 +1,20 @@
+-- `award_check::between` meets its contract: each way out rewrites with the test that led there. Assumes nothing.
+use borrow.Author.Tests.{le-leb, lt-leb}
+use Rattle.tender.specs.Limits.{within}
+use Rattle.award_check.proofs.between.Statement.{statement}
+use Rattle.award_check.proofs.between.Tie as tie
+use Rattle.award_check.proofs.between.Reads as reads
+use Rattle.award_check.proofs.between.Lts as lts
+
+-- src/lib.rt:69:1
+returns : tie.Need-returns
+unfolding within
+returns c = rw (le-leb _ _ (c .if1 .taken))
+
+-- src/lib.rt:69:1
+returns-2 : tie.Need-returns-2
+unfolding within
+returns-2 c = rw (lt-leb _ _ (c .if1 .left))
+
+pub between-spec : {M : Type 1} → statement M
+between-spec = tie.close (tie.spec returns returns-2)

@@ -1,0 +1,185 @@
+-- Tables that are alike in all but one price: the prices differ in that one, and each bid has the same cells. Assumes nothing.
+use mathlib.Core.Path.{_≡_, refl, sym, ap, _∙_, fun-ext}
+use mathlib.Core.List.{List, [], _∷_, _++_}
+use mathlib.Core.Bool.{Bool, true, false, cond, not, _&&_}
+use mathlib.Core.Option.{none, some}
+use Prim.Native.Nat.{ℕ, zero, suc, _+_, _*_, _/_, _≤_, _<_}
+use native.Mathlib.Omega.{arith}
+use lib.ListN.{length, getD, set, drop}
+use lib.Seq.{getD-drop, drop-drop}
+use lib.Dec.{leb, ltb, eqb}
+use borrow.Author.Tests.{eqb-true}
+use Rattle.tender.specs.declared.Kind.{Kind}
+use Rattle.tender.specs.declared.Tender.{Tender}
+use Rattle.tender.specs.Limits.{within, maxPrice, maxBidder, maxBids, mostWindows, lawful, allLawful}
+use Rattle.tender.specs.Tables.{Row, rowsOf, windowsOf, own}
+use Rattle.reader.specs.Words.{among}
+use Rattle.reader.specs.Differ.{withPrice}
+use Rattle.cover.specs.SetLaws.{and-split}
+use Rattle.award_check.specs.Faults.{keeps, sound, rowFault, sameKind, faultOf}
+use Rattle.award_check.specs.Cells.{holds, cellsOf, noRow, hasOf, pricesOf}
+use Rattle.award_check.specs.Alike.{held, Alike}
+
+pub rows-length : (n : ℕ) (bs : List ℕ) → length (rowsOf n bs) ≡ n
+unfolding rowsOf
+rows-length zero bs = refl
+rows-length (suc n) bs = ap suc (rows-length n (drop 4 bs))
+
+pub prices-length : (rs : List Row) → length (pricesOf rs) ≡ length rs
+unfolding pricesOf
+prices-length [] = refl
+prices-length (r ∷ rs) = ap suc (prices-length rs)
+
+pub prices-count : (n : ℕ) (bids : List ℕ) → length (pricesOf (rowsOf n bids)) ≡ n
+prices-count n bids = prices-length (rowsOf n bids) ∙ rows-length n bids
+
+later : (d n : ℕ) (bs cs : List ℕ) → ((j : ℕ) → d ≤ j → j < n → getD bs j 0 ≡ getD cs j 0) → (j : ℕ) → d + j < n → getD (drop d bs) j 0 ≡ getD (drop d cs) j 0
+later d n bs cs h j l = getD-drop d bs j 0 ∙ h (d + j) (omega arith) l ∙ sym (getD-drop d cs j 0)
+
+rows-same : (n : ℕ) (bs cs : List ℕ) → ((j : ℕ) → j < 4 * n → getD bs j 0 ≡ getD cs j 0) → rowsOf n cs ≡ rowsOf n bs
+unfolding rowsOf
+rows-same zero bs cs h = refl
+rows-same (suc n) bs cs h = rw (
+  h 0 (omega arith),
+  h 1 (omega arith),
+  h 2 (omega arith),
+  h 3 (omega arith),
+  rows-same n (drop 4 bs) (drop 4 cs) (λ j l. later 4 (4 * suc n) bs cs (λ k m o. h k o) j (omega arith)),
+)
+
+pub windows-same : (n : ℕ) (bs cs : List ℕ) → ((j : ℕ) → j < 2 * n → getD bs j 0 ≡ getD cs j 0) → windowsOf n bs ≡ windowsOf n cs
+unfolding windowsOf
+windows-same zero bs cs h = refl
+windows-same (suc n) bs cs h = rw (
+  h 0 (omega arith),
+  h 1 (omega arith),
+  windows-same n (drop 2 bs) (drop 2 cs) (λ j l. later 2 (2 * suc n) bs cs (λ k m o. h k o) j (omega arith)),
+)
+
+pub rows-set : (n i : ℕ) (bs cs : List ℕ) → i < n → ((j : ℕ) → j < 4 * n → (j ≡ 4 * i + 1 → ⊥) → getD bs j 0 ≡ getD cs j 0) →
+    rowsOf n cs ≡ set (rowsOf n bs) i (withPrice (getD cs (4 * i + 1) 0) (getD (rowsOf n bs) i noRow))
+unfolding rowsOf withPrice
+rows-set zero i bs cs l h = absurd (omega arith)
+rows-set (suc n) zero bs cs l h = rw (
+  h 0 (omega arith) (λ e. omega arith),
+  h 2 (omega arith) (λ e. omega arith),
+  h 3 (omega arith) (λ e. omega arith),
+  rows-same n (drop 4 bs) (drop 4 cs) (λ j m. later 4 (4 * suc n) bs cs (λ k o p. h k p (λ e. omega arith)) j (omega arith)),
+)
+rows-set (suc n) (suc i) bs cs l h =
+    let e : getD (drop 4 cs) (4 * i + 1) 0 ≡ getD cs (4 * suc i + 1) 0 = getD-drop 4 cs (4 * i + 1) 0 ∙ ap (λ (j : ℕ). getD cs j 0) (index i) in
+    let f = rows-set n i (drop 4 bs) (drop 4 cs) (omega arith) (λ j m d. getD-drop 4 bs j 0 ∙ h (4 + j) (omega arith) (λ p. d (omega arith)) ∙ sym (getD-drop 4 cs j 0)) in
+    rw (h 0 (omega arith) (λ e. omega arith), h 1 (omega arith) (λ e. omega arith), h 2 (omega arith) (λ e. omega arith), h 3 (omega arith) (λ e. omega arith), ← e, f)
+  where
+    index : (i : ℕ) → 4 + (4 * i + 1) ≡ 4 * suc i + 1
+    index i = omega arith
+
+pub prices-set : (rs : List Row) (i v : ℕ) → pricesOf (set rs i (withPrice v (getD rs i noRow))) ≡ set (pricesOf rs) i v
+unfolding pricesOf withPrice
+prices-set [] i v = refl
+prices-set (r ∷ rs) zero v = refl
+prices-set (r ∷ rs) (suc i) v = ap (λ ps. r .price ∷ ps) (prices-set rs i v)
+
+own-set : (windows : List ℕ) (rs : List Row) (i v j : ℕ) → own windows (getD (set rs i (withPrice v (getD rs i noRow))) j noRow) ≡ own windows (getD rs j noRow)
+unfolding own withPrice
+own-set windows [] i v j = refl
+own-set windows (r ∷ rs) zero v zero = refl
+own-set windows (r ∷ rs) zero v (suc j) = refl
+own-set windows (r ∷ rs) (suc i) v zero = refl
+own-set windows (r ∷ rs) (suc i) v (suc j) = own-set windows rs i v j
+
+pub sound-keeps : (k : Kind) (windows : List ℕ) (place : ℕ) (used : List ℕ) (at : ℕ) (r : Row) → sound k windows place used at r ≡ true → keeps k windows at r ≡ true
+unfolding sound
+sound-keeps k windows place used at r e =
+    and-split (not (among (r .bidder) used)) (keeps k windows at r) (and-split (leb place maxBids) (not (among (r .bidder) used) && keeps k windows at r) e .1) .1
+
+-- what the row rules say
+pub record Kept (k : Kind) (windows : List ℕ) (at : ℕ) (r : Row) : Type 0 where
+  pub bidder : within 1 maxBidder (r .bidder) ≡ true
+  pub price : leb (r .price) maxPrice ≡ true
+  pub count : within 1 (mostWindows k) (r .count) ≡ true
+  pub first : r .first ≡ at
+  pub room : leb (at + r .count) (length windows / 2) ≡ true
+  pub windows-too : allLawful (own windows r) ≡ true
+
+pub keeps-kept : (k : Kind) (windows : List ℕ) (at : ℕ) (r : Row) → keeps k windows at r ≡ true → Kept k windows at r
+unfolding keeps
+keeps-kept k windows at r e =
+    let a = and-split (within 1 maxBidder (r .bidder)) _ e in
+    let b = and-split (leb (r .price) maxPrice) _ (a .1) in
+    let c = and-split (within 1 (mostWindows k) (r .count)) _ (b .1) in
+    let d = and-split (eqb (r .first) at) _ (c .1) in
+    let f = and-split (leb (at + r .count) (length windows / 2)) _ (d .1) in
+    record { bidder = a .0; price = b .0; count = c .0; first = eqb-true (r .first) at (d .0); room = f .0; windows-too = f .1 }
+
+pub sound-first : (k : Kind) (windows : List ℕ) (place : ℕ) (used : List ℕ) (at : ℕ) (r : Row) → sound k windows place used at r ≡ true → r .first ≡ at
+sound-first k windows place used at r e = keeps-kept k windows at r (sound-keeps k windows place used at r e) .first
+
+-- the windows of each row stand among those held
+pub among-held : (k : Kind) (windows : List ℕ) (place : ℕ) (used : List ℕ) (at : ℕ) (rs : List Row) (j : ℕ) → rowFault k windows place used at rs ≡ none →
+    getD rs j noRow .first + getD rs j noRow .count ≤ at + held rs
+unfolding rowFault held noRow
+among-held k windows place used at [] j e = omega arith
+among-held k windows place used at (r ∷ rs) j e = go (sound k windows place used at r) refl e j (λ j f. among-held k windows (place + 1) (used ++ r .bidder ∷ []) (at + r .count) rs j f)
+  where
+    go : (b : Bool) → sound k windows place used at r ≡ b → cond b (rowFault k windows (place + 1) (used ++ r .bidder ∷ []) (at + r .count) rs) (some place) ≡ none → (j : ℕ) →
+        ((j : ℕ) → rowFault k windows (place + 1) (used ++ r .bidder ∷ []) (at + r .count) rs ≡ none → getD rs j noRow .first + getD rs j noRow .count ≤ at + r .count + held rs) →
+        getD (r ∷ rs) j noRow .first + getD (r ∷ rs) j noRow .count ≤ at + (r .count + held rs)
+    go false s e j ih = let z : _≡_ {A = ℕ} 0 1 = cc in absurd (omega arith)
+    go true s e zero ih = omega (arith, sound-first k windows place used at r s)
+    go true s e (suc j) ih = omega (arith, ih j e)
+
+-- what no refusal 9 says
+pub record Faultless (k : Kind) (t : Tender) (n : ℕ) (bids windows : List ℕ) : Type 0 where
+  pub tender : sameKind k (t .kind) && lawful (t .window) && leb n (length bids / 4) ≡ true
+  pub rows : rowFault k windows 1 [] 0 (rowsOf n bids) ≡ none
+
+pub faultless : (k : Kind) (t : Tender) (n : ℕ) (bids windows : List ℕ) → faultOf k t n bids windows ≡ none → Faultless k t n bids windows
+unfolding faultOf
+faultless k t n bids windows e = go (sameKind k (t .kind) && lawful (t .window) && leb n (length bids / 4)) refl e
+  where
+    go : (b : Bool) → sameKind k (t .kind) && lawful (t .window) && leb n (length bids / 4) ≡ b → cond b (rowFault k windows 1 [] 0 (rowsOf n bids)) (some 0) ≡ none → Faultless k t n bids windows
+    go true f e = record { tender = f; rows = e }
+    go false f e = let z : _≡_ {A = ℕ} 0 1 = cc in absurd (omega arith)
+
+module _ (k : Kind) (t : Tender) (n i : ℕ) (bids windows bids′ windows′ : List ℕ) (inside : i < n) (f : rowFault k windows 1 [] 0 (rowsOf n bids) ≡ none) (a : Alike n i bids windows bids′ windows′) where
+  pub prices-alike : pricesOf (rowsOf n bids′) ≡ set (pricesOf (rowsOf n bids)) i (getD bids′ (4 * i + 1) 0)
+  prices-alike = ap pricesOf (rows-set n i bids bids′ inside (a .rows)) ∙ prices-set (rowsOf n bids) i (getD bids′ (4 * i + 1) 0)
+
+  own-alike : (j : ℕ) → own windows′ (getD (rowsOf n bids′) j noRow) ≡ own windows (getD (rowsOf n bids) j noRow)
+  unfolding own
+  own-alike j = ap (λ rs. own windows′ (getD rs j noRow)) (rows-set n i bids bids′ inside (a .rows)) ∙ own-set windows′ (rowsOf n bids) i (getD bids′ (4 * i + 1) 0) j ∙ sym (go (getD (rowsOf n bids) j noRow) (among-held k windows 1 [] 0 (rowsOf n bids) j f))
+    where
+      go : (r : Row) → r .first + r .count ≤ 0 + held (rowsOf n bids) → own windows r ≡ own windows′ r
+      go r l = windows-same (r .count) (drop (2 * r .first) windows) (drop (2 * r .first) windows′)
+          (λ x m. getD-drop (2 * r .first) windows x 0 ∙ a .windows-too (2 * r .first + x) (omega arith) ∙ sym (getD-drop (2 * r .first) windows′ x 0))
+
+  pub cells-alike : hasOf t (rowsOf n bids′) windows′ ≡ hasOf t (rowsOf n bids) windows
+  unfolding hasOf
+  cells-alike = fun-ext (λ j. fun-ext (λ x. ap (λ ws. ltb x (cellsOf t) && holds ws (t .window .start + x)) (own-alike j)))
+
+pub price-named : (n i : ℕ) (bids : List ℕ) → i < n → getD (pricesOf (rowsOf n bids)) i 0 ≡ getD bids (4 * i + 1) 0
+unfolding pricesOf rowsOf
+price-named zero i bids l = absurd (omega arith)
+price-named (suc n) zero bids l = refl
+price-named (suc n) (suc i) bids l = price-named n i (drop 4 bids) (omega arith) ∙ getD-drop 4 bids (4 * i + 1) 0 ∙ ap (λ (j : ℕ). getD bids j 0) (index i)
+  where
+    index : (i : ℕ) → 4 + (4 * i + 1) ≡ 4 * suc i + 1
+    index i = omega arith
+
+-- for a loop over the rows: row j, and those after it
+pub rows-step : (m j : ℕ) (bids : List ℕ) → rowsOf (suc m) (drop (4 * j) bids)
+    ≡ record { bidder = getD bids (4 * j) 0; price = getD bids (4 * j + 1) 0; first = getD bids (4 * j + 2) 0; count = getD bids (4 * j + 3) 0 } ∷ rowsOf m (drop (4 * (j + 1)) bids)
+unfolding rowsOf
+rows-step m j bids =
+    let z : 4 * j + 0 ≡ 4 * j = omega arith in
+    let e : 4 * j + 4 ≡ 4 * (j + 1) = omega arith in
+    rw (getD-drop (4 * j) bids 0 0, getD-drop (4 * j) bids 1 0, getD-drop (4 * j) bids 2 0, getD-drop (4 * j) bids 3 0, drop-drop 4 (4 * j) bids, z, e)
+
+pub windows-step : (m j : ℕ) (windows : List ℕ) → windowsOf (suc m) (drop (2 * j) windows)
+    ≡ record { start = getD windows (2 * j) 0; end = getD windows (2 * j + 1) 0 } ∷ windowsOf m (drop (2 * (j + 1)) windows)
+unfolding windowsOf
+windows-step m j windows =
+    let z : 2 * j + 0 ≡ 2 * j = omega arith in
+    let e : 2 * j + 2 ≡ 2 * (j + 1) = omega arith in
+    rw (getD-drop (2 * j) windows 0 0, getD-drop (2 * j) windows 1 0, drop-drop 2 (2 * j) windows, z, e)

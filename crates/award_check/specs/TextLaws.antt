@@ -1,0 +1,165 @@
+-- The tables of an accepted text: the award never refuses them with 9, and two texts that differ in one price give tables alike in all but that price. Assumes nothing.
+use mathlib.Core.Path.{_≡_, refl, sym, ap, _∙_}
+use mathlib.Core.List.{List, [], _∷_, _++_}
+use mathlib.Core.Bool.{Bool, true, not, _&&_}
+use mathlib.Core.Option.{none, some}
+use Prim.Native.Nat.{ℕ, zero, suc, _+_, _*_, _/_, _≤_, _<_}
+use native.Mathlib.Omega.{arith}
+use lib.ListN.{length, getD, drop, length-append, length-drop, List·getD-append}
+use lib.Seq.{drop-drop, getD-append-seam}
+use borrow.Author.Tests.{eq-eqb, le-leb, lt-ltb}
+use Rattle.tender.specs.declared.Kind.{Kind}
+use Rattle.tender.specs.declared.Kind.the-variants.{Single, Multi}
+use Rattle.tender.specs.declared.Window.{Window}
+use Rattle.tender.specs.declared.Tender.{Tender}
+use Rattle.tender.specs.Limits.{within, maxPrice, maxBidder, maxBids, mostWindows, lawful, allLawful}
+use Rattle.tender.specs.Tables.{Row, rowsOf, windowsOf, own, flatRows, flatWindows}
+use Rattle.reader.specs.Words.{numeralOf, priceOf}
+use Rattle.reader.specs.Rules.{WindowRules, RowRules, RowsRules, WindowsRules, Rules}
+use Rattle.reader.specs.Differ.{withPrice, RowsDifferInPrice}
+use Rattle.award_check.specs.Faults.{keeps, sound, rowFault, sameKind, faultOf}
+use Rattle.award_check.specs.Cells.{noRow}
+use Rattle.award_check.specs.Alike.{held, Alike}
+
+pub rows-flat : (R : List Row) (v : List ℕ) → rowsOf (length R) (flatRows R ++ v) ≡ R
+unfolding rowsOf flatRows
+rows-flat [] v = refl
+rows-flat (r ∷ rs) v = ap (λ l. r ∷ l) (rows-flat rs v)
+
+pub length-rows : (R : List Row) → length (flatRows R) ≡ 4 * length R
+unfolding flatRows
+length-rows [] = refl
+length-rows (r ∷ rs) = omega (arith, length-rows rs)
+
+pub length-windows : (W : List Window) → length (flatWindows W) ≡ 2 * length W
+unfolding flatWindows
+length-windows [] = refl
+length-windows (w ∷ ws) = omega (arith, length-windows ws)
+
+lawful-of : (w : Window) → WindowRules w → lawful w ≡ true
+unfolding lawful
+lawful-of w r = rw (lt-ltb (w .start) (w .end) (r .some-minute), le-leb (w .end) 10080 (r .in-week))
+
+all-lawful : (c : ℕ) (W : List Window) (v : List ℕ) → c ≤ length W → WindowsRules W → allLawful (windowsOf c (flatWindows W ++ v)) ≡ true
+unfolding allLawful windowsOf flatWindows
+all-lawful zero W v l r = refl
+all-lawful (suc c) [] v l r = absurd (omega arith)
+all-lawful (suc c) (w ∷ W) v l r = rw (lawful-of w (r .0), all-lawful c W v (omega arith) (r .1))
+
+drop-rules : (c : ℕ) (W : List Window) → WindowsRules W → WindowsRules (drop c W)
+drop-rules zero W r = r
+drop-rules (suc c) [] r = r
+drop-rules (suc c) (w ∷ W) r = drop-rules c W (r .1)
+
+drop-flat : (c : ℕ) (W : List Window) (v : List ℕ) → c ≤ length W → drop (2 * c) (flatWindows W ++ v) ≡ flatWindows (drop c W) ++ v
+unfolding flatWindows
+drop-flat zero W v l = refl
+drop-flat (suc c) [] v l = absurd (omega arith)
+drop-flat (suc c) (w ∷ W) v l = ap (λ (m : ℕ). drop m (w .start ∷ w .end ∷ (flatWindows W ++ v))) (double c) ∙ drop-flat c W v (omega arith)
+  where
+    double : (c : ℕ) → 2 * suc c ≡ suc (suc (2 * c))
+    double c = omega arith
+
+both : {a b : Bool} → a ≡ true → b ≡ true → a && b ≡ true
+both e f = rw (e, f)
+
+pub rows-end : (k : Kind) (used : List ℕ) (at : ℕ) (rs : List Row) (end : ℕ) → RowsRules k used at rs end → at + held rs ≡ end
+unfolding held
+rows-end k used at [] end h = omega (arith, h)
+rows-end k used at (r ∷ rs) end h = omega (arith, rows-end k (used ++ r .bidder ∷ []) (at + r .count) rs end (h .1))
+
+count-most : (k : Kind) (r : Row) → r .count ≤ 32 → (k ≡ Single → r .count ≡ 1) → r .count ≤ mostWindows k
+unfolding mostWindows
+count-most Single r l f = omega (arith, f refl)
+count-most Multi r l f = l
+
+row-sound : (k : Kind) (windows v : List ℕ) (place : ℕ) (used : List ℕ) (at : ℕ) (r : Row) (W : List Window) → place ≤ 1000 → RowRules k used at r → drop (2 * at) windows ≡ flatWindows W ++ v →
+    r .count ≤ length W → at + r .count ≤ length windows / 2 → WindowsRules W → sound k windows place used at r ≡ true
+unfolding sound keeps within own
+row-sound k windows v place used at r W l h d c e w =
+    both (le-leb place maxBids l)
+    (both (ap not (h .bidder-new))
+    (both (both (le-leb 1 (r .bidder) (h .bidder-low)) (le-leb (r .bidder) maxBidder (h .bidder-high)))
+    (both (le-leb (r .price) maxPrice (h .price-high))
+    (both (both (le-leb 1 (r .count) (h .some-window)) (le-leb (r .count) (mostWindows k) (count-most k r (h .few-windows) (h .one-window))))
+    (both (eq-eqb (r .first) at (h .begins))
+    (both (le-leb (at + r .count) (length windows / 2) e)
+    (ap (λ (f : ℕ). allLawful (windowsOf (r .count) (drop (2 * f) windows))) (h .begins) ∙ ap (λ ws. allLawful (windowsOf (r .count) ws)) d ∙ all-lawful (r .count) W v c w)))))))
+
+rows-sound : (k : Kind) (windows v : List ℕ) (place : ℕ) (used : List ℕ) (at : ℕ) (rs : List Row) (W : List Window) (end : ℕ) → RowsRules k used at rs end → place + length rs ≤ 1001 →
+    drop (2 * at) windows ≡ flatWindows W ++ v → at + length W ≡ end → end ≤ length windows / 2 → WindowsRules W → rowFault k windows place used at rs ≡ none
+unfolding rowFault
+rows-sound k windows v place used at [] W end h l d e f w = refl
+rows-sound k windows v place used at (r ∷ rs) W end h l d e f w =
+    let m = rows-end k (used ++ r .bidder ∷ []) (at + r .count) rs end (h .1) in
+    let i : 2 * (at + r .count) ≡ 2 * at + 2 * r .count = omega arith in
+    let n : drop (2 * (at + r .count)) windows ≡ flatWindows (drop (r .count) W) ++ v =
+    ap (λ (j : ℕ). drop j windows) i ∙ sym (drop-drop (2 * r .count) (2 * at) windows) ∙ ap (drop (2 * r .count)) d ∙ drop-flat (r .count) W v (omega arith) in
+    rw (row-sound k windows v place used at r W (omega arith) (h .0) d (omega arith) (omega arith) w)
+    (rows-sound k windows v (place + 1) (used ++ r .bidder ∷ []) (at + r .count) rs (drop (r .count) W) end (h .1) (omega arith) n (omega (arith, length-drop (r .count) W)) f (drop-rules (r .count) W w))
+
+same-kind : (k : Kind) → sameKind k k ≡ true
+same-kind Single = refl
+same-kind Multi = refl
+
+-- what was read is never refused with 9 by the award of its kind
+pub never-nine : (T : Tender) (R : List Row) (W : List Window) (v w : List ℕ) → Rules T R W → faultOf (T .kind) T (length R) (flatRows R ++ v) (flatWindows W ++ w) ≡ none
+unfolding faultOf
+never-nine T R W v w h =
+    let l : length R ≤ length (flatRows R ++ v) / 4 = omega (arith, length-append (flatRows R) v, length-rows R) in
+    let m : length W ≤ length (flatWindows W ++ w) / 2 = omega (arith, length-append (flatWindows W) w, length-windows W) in
+    rw (both (both (same-kind (T .kind)) (lawful-of (T .window) (h .tender))) (le-leb (length R) (length (flatRows R ++ v) / 4) l), rows-flat R v)
+    (rows-sound (T .kind) (flatWindows W ++ w) w 1 [] 0 R W (length W) (h .rows) (omega (arith, h .few-bids)) refl (omega arith) m (h .windows))
+
+before-end : (xs v v′ : List ℕ) (j : ℕ) → j < length xs → getD (xs ++ v) j 0 ≡ getD (xs ++ v′) j 0
+before-end xs v v′ j l = List·getD-append xs v 0 j l ∙ sym (List·getD-append xs v′ 0 j l)
+
+-- cells of rows that differ in the price of the row after bs
+rows-alike : (bs : List Row) (r : Row) (ls : List Row) (q : ℕ) (v v′ : List ℕ) (j : ℕ) → j < 4 * length (bs ++ r ∷ ls) → (j ≡ 4 * length bs + 1 → ⊥) →
+    getD (flatRows (bs ++ r ∷ ls) ++ v) j 0 ≡ getD (flatRows (bs ++ withPrice q r ∷ ls) ++ v′) j 0
+unfolding flatRows withPrice
+rows-alike [] r ls q v v′ zero l d = refl
+rows-alike [] r ls q v v′ (suc zero) l d = absurd (d refl)
+rows-alike [] r ls q v v′ (suc (suc zero)) l d = refl
+rows-alike [] r ls q v v′ (suc (suc (suc zero))) l d = refl
+rows-alike [] r ls q v v′ (suc (suc (suc (suc j)))) l d = before-end (flatRows ls) v v′ j (omega (arith, length-rows ls))
+rows-alike (b ∷ bs) r ls q v v′ zero l d = refl
+rows-alike (b ∷ bs) r ls q v v′ (suc zero) l d = refl
+rows-alike (b ∷ bs) r ls q v v′ (suc (suc zero)) l d = refl
+rows-alike (b ∷ bs) r ls q v v′ (suc (suc (suc zero))) l d = refl
+rows-alike (b ∷ bs) r ls q v v′ (suc (suc (suc (suc j)))) l d = rows-alike bs r ls q v v′ j (omega arith) (λ e. d (omega arith))
+
+named-flat : (bs : List Row) (r : Row) (ls : List Row) (v : List ℕ) → getD (flatRows (bs ++ r ∷ ls) ++ v) (4 * length bs + 1) 0 ≡ r .price
+unfolding flatRows
+named-flat [] r ls v = refl
+named-flat (b ∷ bs) r ls v =
+    let i : 4 * suc (length bs) + 1 ≡ suc (suc (suc (suc (4 * length bs + 1)))) = omega arith in
+    ap (λ (j : ℕ). getD (flatRows (b ∷ (bs ++ r ∷ ls)) ++ v) j 0) i ∙ named-flat bs r ls v
+
+-- the tables that two accepted texts fill, whatever stands past their rows
+pub record Tabled (R S : List Row) (W : List Window) (v w v′ w′ bidder p q : List ℕ) : Type 0 where
+  pub i : ℕ
+  pub inside : i < length R
+  pub count : length S ≡ length R
+  pub bidder-is : numeralOf bidder ≡ some (getD R i noRow .bidder)
+  pub named-p : priceOf p ≡ some (getD (flatRows R ++ v) (4 * i + 1) 0)
+  pub named-q : priceOf q ≡ some (getD (flatRows S ++ v′) (4 * i + 1) 0)
+  pub alike : Alike (length R) i (flatRows R ++ v) (flatWindows W ++ w) (flatRows S ++ v′) (flatWindows W ++ w′)
+
+pub tabled : (T : Tender) (R S : List Row) (W : List Window) (v w v′ w′ bidder p q : List ℕ) → Rules T R W → RowsDifferInPrice R S bidder p q → Tabled R S W v w v′ w′ bidder p q
+unfolding withPrice
+tabled T R S W v w v′ w′ bidder p q h d = record {
+  i = length (d .before);
+  inside = rw (d .left) (omega (arith, length-append (d .before) (d .row ∷ d .after)));
+  count = rw (d .left, d .right) (length-append (d .before) (withPrice (d .w) (d .row) ∷ d .after) ∙ sym (length-append (d .before) (d .row ∷ d .after)));
+  bidder-is = d .bidder-is ∙ rw (d .left, getD-append-seam (d .before) (d .row) (d .after) noRow);
+  named-p = d .p-is ∙ rw (d .left, named-flat (d .before) (d .row) (d .after) v);
+  named-q = d .q-is ∙ rw (d .right, named-flat (d .before) (withPrice (d .w) (d .row)) (d .after) v′);
+  alike = record {
+    rows = rw (d .left, d .right) (rows-alike (d .before) (d .row) (d .after) (d .w) v v′);
+    windows-too = λ j l. before-end (flatWindows W) w w′ j (few j (rw (rows-flat R v) at l));
+  };
+}
+  where
+    few : (j : ℕ) → j < 2 * held R → j < length (flatWindows W)
+    few j l = omega (arith, rows-end (T .kind) [] 0 R (length W) (h .rows), length-windows W)

@@ -1,0 +1,160 @@
+// The tables lent to an award: `fault` finds the place of refusal 9. `specs/` has the rules, the cells of each bid, and
+// the laws of tables that are alike in all but one price and of the tables of a text.
+use tender::Kind;
+use tender::Tender;
+ghost use mathlib.Core.Path.{_≡_};
+ghost use mathlib.Core.Bool.{_&&_};
+ghost use mathlib.Core.List.{[]};
+ghost use Prim.Native.Nat.{_+_, _*_, _/_, _≤_};
+ghost use lib.ListN.{length, drop};
+ghost use lib.Dec.{leb, ltb, eqb};
+ghost use Rattle.tender.specs.Limits.{mostWindows, within, allLawful};
+ghost use Rattle.tender.specs.Tables.{rowsOf, windowsOf};
+ghost use Rattle.award_check.specs.Faults.{keeps, rowFault, faultOf, sameKind};
+ghost use Rattle.award_check.specs.Checks.{faultIn};
+
+// What checking the tables answers.
+pub enum Check {
+    Sound,
+    // The first faulty row, counted from 1; 0 for the tender, the kind or the stated count.
+    Faulty { row: u64 },
+}
+
+fn same_kind(a: Kind, b: Kind) -> bool
+    ensures { λ r. ⌜ r ≡ sameKind a b ⌝ }
+{
+    match a {
+        Kind::Single => match b {
+            Kind::Single => true,
+            Kind::Multi => false,
+        },
+        Kind::Multi => match b {
+            Kind::Single => false,
+            Kind::Multi => true,
+        },
+    }
+}
+
+fn most_windows(kind: Kind) -> u64
+    ensures { λ r. ⌜ r ≡ mostWindows kind ⌝ }
+{
+    match kind {
+        Kind::Single => 1,
+        Kind::Multi => 32,
+    }
+}
+
+fn window_lawful(start: u64, end: u64) -> bool
+    ensures { λ r. ⌜ r ≡ (ltb start end && leb end 10080) ⌝ }
+{
+    start < end && end <= 10080
+}
+
+// Whether the windows from `first` on, `count` of them, are lawful.
+fn windows_lawful(windows: &[u64], first: usize, count: usize) -> bool
+    requires { ⌜ first + count ≤ length (now windows) / 2 ⌝ }
+    ensures { λ r. ⌜ r ≡ allLawful (windowsOf count (drop (2 * first) (now (windows .entry)))) ⌝ }
+{
+    let mut j = 0;
+    while j < count {
+        let s = windows[2 * (first + j)];
+        let e = windows[2 * (first + j) + 1];
+        if !window_lawful(s, e) {
+            return false;
+        }
+        j += 1;
+    }
+    true
+}
+
+fn between(a: u64, z: u64, n: u64) -> bool
+    ensures { λ r. ⌜ r ≡ within a z n ⌝ }
+{
+    a <= n && n <= z
+}
+
+// Whether a row keeps its rules, where the windows of the row before end at `at`.
+fn row_keeps(
+    kind: Kind,
+    windows: &[u64],
+    at: usize,
+    bidder: u64,
+    price: u64,
+    first: u64,
+    count: u64,
+) -> bool
+    requires { ⌜ at ≤ length (now windows) / 2 ⌝ }
+    ensures { λ r. ⌜ r ≡ keeps kind (now (windows .entry)) at (record { bidder = bidder; price = price; first = first; count = count }) ⌝ }
+{
+    if !between(1, 999999, bidder) {
+        return false;
+    }
+    if 100000000 < price {
+        return false;
+    }
+    if !between(1, most_windows(kind), count) {
+        return false;
+    }
+    if first != at as u64 {
+        return false;
+    }
+    if ((windows.len() / 2 - at) as u64) < count {
+        return false;
+    }
+    windows_lawful(windows, at, count as usize)
+}
+
+// The place of the first row that breaks a rule.
+fn row_fault(kind: Kind, count: usize, bids: &[u64], windows: &[u64]) -> Check
+    requires { ⌜ count ≤ length (now bids) / 4 ⌝ }
+    ensures { λ r. ⌜ faultIn r ≡ rowFault kind (now (windows .entry)) 1 [] 0 (rowsOf count (now (bids .entry))) ⌝ }
+{
+    // The bidder numbers of the rows passed.
+    let mut used = [0u64; 15625];
+    let mut at = 0;
+    let mut j = 0;
+    while j < count {
+        let place = j as u64 + 1;
+        if 1000 <= j {
+            return Check::Faulty { row: place };
+        }
+        let bidder = bids[4 * j];
+        let windows_here = bids[4 * j + 3];
+        if !row_keeps(
+            kind,
+            windows,
+            at,
+            bidder,
+            bids[4 * j + 1],
+            bids[4 * j + 2],
+            windows_here,
+        ) {
+            return Check::Faulty { row: place };
+        }
+        if cells::holds(&used, bidder as usize) {
+            return Check::Faulty { row: place };
+        }
+        cells::add(&mut used, bidder as usize);
+        at += windows_here as usize;
+        j += 1;
+    }
+    Check::Sound
+}
+
+// The place of refusal 9 by the award of this kind, where `count` bids are stated.
+pub fn fault(kind: Kind, tender: Tender, count: usize, bids: &[u64], windows: &[u64]) -> Check
+    ensures { λ r. ⌜ faultIn r ≡ faultOf kind tender count (now (bids .entry)) (now (windows .entry)) ⌝ }
+{
+    let own_kind = tender.kind;
+    let window = tender.window;
+    if !same_kind(kind, own_kind) {
+        return Check::Faulty { row: 0 };
+    }
+    if !window_lawful(window.start, window.end) {
+        return Check::Faulty { row: 0 };
+    }
+    if bids.len() / 4 < count {
+        return Check::Faulty { row: 0 };
+    }
+    row_fault(kind, count, bids, windows)
+}

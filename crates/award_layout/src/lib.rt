@@ -1,0 +1,114 @@
+// Faultless tables laid out as bids over cells, in plain numbers: the prices, the starts and ends of bids of one window,
+// and the words of bids of several windows. Minutes outside the tender are clipped.
+ghost use mathlib.Core.Path.{_≡_};
+ghost use Prim.Native.Nat.{ℕ, _+_, _*_, _/_, _≤_, _<_};
+ghost use lib.ListN.{length, getD, drop};
+ghost use mathlib.Core.Bool.{true};
+ghost use Rattle.tender.specs.declared.Kind.the-variants.{Single, Multi};
+ghost use Rattle.tender.specs.Limits.{allLawful};
+ghost use Rattle.tender.specs.Tables.{rowsOf, windowsOf};
+ghost use Rattle.award_check.specs.Cells.{pricesOf};
+ghost use Rattle.award_layout.specs.Orderly.{rowAt, Orderly, clipped, Laid, Masked, AllMasked};
+
+// The prices of the bids.
+pub fn prices(bids: &[u64], out: &mut [u64])
+    requires { ⌜ length (now out) ≤ length (now bids) / 4 ⌝ }
+    ensures { λ _. ⌜ now (out .exit) ≡ pricesOf (rowsOf (length (now (out .entry))) (now (bids .entry))) ⌝ }
+{
+    let mut i = 0;
+    while i < out.len() {
+        out[i] = bids[4 * i + 1];
+        i += 1;
+    }
+}
+
+// The cell of a minute.
+fn clip(start: u64, cells: u64, minute: u64) -> u64
+    ensures { λ r. ⌜ r ≡ clipped start cells minute ⌝ }
+{
+    if minute <= start {
+        return 0;
+    }
+    if minute - start < cells {
+        minute - start
+    } else {
+        cells
+    }
+}
+
+// The starts and ends of bids of one window each.
+pub fn spans(
+    start: u64,
+    cells: u64,
+    bids: &[u64],
+    windows: &[u64],
+    starts: &mut [u64],
+    ends: &mut [u64],
+)
+    requires { ⌜ Orderly Single (length (now starts)) (now bids) (now windows) × (length (now ends) ≡ length (now starts)) ⌝ }
+    ensures { λ _. ⌜ Laid (length (now (starts .entry))) start cells (now (bids .entry)) (now (windows .entry)) (now (starts .exit)) (now (ends .exit)) ⌝ }
+{
+    let mut i = 0;
+    while i < starts.len() {
+        let j = bids[4 * i + 2] as usize;
+        starts[i] = clip(start, cells, windows[2 * j]);
+        ends[i] = clip(start, cells, windows[2 * j + 1]);
+        i += 1;
+    }
+}
+
+// Sets the cells of the windows from `first` on, `count` of them, in words that have none.
+fn add_windows(
+    start: u64,
+    cells: u64,
+    windows: &[u64],
+    first: usize,
+    count: usize,
+    words: &mut [u64],
+)
+    requires { ⌜ (first + count ≤ length (now windows) / 2) × ((allLawful (windowsOf count (drop (2 * first) (now windows))) ≡ true)
+        × ((cells ≤ 64 * length (now words)) × ((length (now words) ≤ 158) × ((i : ℕ) → getD (now words) i 0 ≡ 0)))) ⌝ }
+    ensures { λ _. ⌜ Masked start cells (windowsOf count (drop (2 * first) (now (windows .entry)))) (now (words .exit)) ⌝ }
+{
+    let mut j = 0;
+    while j < count {
+        let s = clip(start, cells, windows[2 * (first + j)]);
+        let e = clip(start, cells, windows[2 * (first + j) + 1]);
+        cells::add_range(words, s as usize, e as usize);
+        j += 1;
+    }
+}
+
+// The words of the windows from `first` on, `count` of them.
+fn mask_row(start: u64, cells: u64, windows: &[u64], first: usize, count: usize, words: &mut [u64])
+    requires { ⌜ (first + count ≤ length (now windows) / 2) × ((allLawful (windowsOf count (drop (2 * first) (now windows))) ≡ true)
+        × ((cells ≤ 64 * length (now words)) × (length (now words) ≤ 158))) ⌝ }
+    ensures { λ _. ⌜ Masked start cells (windowsOf count (drop (2 * first) (now (windows .entry)))) (now (words .exit)) ⌝ }
+{
+    multi_rounds::clear(words);
+    add_windows(start, cells, windows, first, count, words);
+}
+
+// The words of each bid, w words a bid.
+pub fn masks(
+    start: u64,
+    cells: u64,
+    w: usize,
+    n: usize,
+    bids: &[u64],
+    windows: &[u64],
+    out: &mut [u64],
+)
+    requires { ⌜ Orderly Multi n (now bids) (now windows) × ((length (now out) ≡ w * n) × ((cells ≤ 64 * w) × (w ≤ 158))) ⌝ }
+    ensures { λ _. ⌜ AllMasked n start cells w (now (bids .entry)) (now (windows .entry)) (now (out .exit)) ⌝ }
+{
+    let mut i = 0;
+    while i < n {
+        let first = bids[4 * i + 2] as usize;
+        let count = bids[4 * i + 3] as usize;
+        let a = w * i;
+        let e = a + w;
+        mask_row(start, cells, windows, first, count, &mut out[a..e]);
+        i += 1;
+    }
+}

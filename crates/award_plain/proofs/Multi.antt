@@ -1,0 +1,86 @@
+-- A multi tender laid out as words: what the search for thin cells and the core say is what the award answers. Assumes nothing.
+use mathlib.Core.Path.{_≡_, refl, sym, ap, _∙_}
+use mathlib.Core.List.{List}
+use mathlib.Core.Bool.{Bool, true, false}
+use mathlib.Core.Option.{none}
+use Prim.Native.Nat.{ℕ, _+_, _*_, _/_, _≤_}
+use native.Mathlib.Omega.{arith}
+use lib.ListN.{length, getD, List·getD-eq-default}
+use lib.Dec.{ltb}
+use borrow.Author.Tests.{ltb-true, ltb-false, leb-true}
+use Rattle.tender.specs.declared.Kind.{Kind}
+use Rattle.tender.specs.declared.Kind.the-variants.{Multi}
+use Rattle.tender.specs.declared.Tender.{Tender}
+use Rattle.tender.specs.declared.Totals.{Totals}
+use Rattle.tender.specs.declared.Refusal.the-variants.{MinuteUncovered, OneBidder}
+use Rattle.tender.specs.Tables.{rowsOf}
+use Rattle.cover.specs.Sets.{cells, each}
+use Rattle.cover.specs.EarliestLaws.{two-each}
+use Rattle.cover.specs.Greedy.{wins}
+use Rattle.cover.specs.CriticalPrice.{roundsPaid}
+use Rattle.cover.specs.Settled.{Settled}
+use Rattle.multi_tournament.specs.Tournament.{Priced}
+use Rattle.multi_rounds.specs.Market.{has, Market}
+use Rattle.award_thin.specs.declared.Thin.the-variants.{Nobody, Alone, Enough}
+use Rattle.award_thin.specs.Thin.{Says}
+use Rattle.award_check.specs.Faults.{faultOf}
+use Rattle.award_check.specs.Cells.{cellsOf, hasOf, pricesOf}
+use Rattle.award_check.specs.AlikeLaws.{prices-count, price-named}
+use Rattle.award_layout.specs.Orderly.{Orderly, AllMasked}
+use Rattle.award_layout.specs.LayoutLaws.{orderly, timed, masks-have}
+use Rattle.tender.specs.declared.Answer.the-variants.{Awarded, Refused}
+use Rattle.award_plain.specs.Plain.{PlainPromise}
+use Rattle.award_plain.specs.PlainLaws.{eleven, twelve, awards, multi-won, multi-cents}
+
+-- the prices of orderly rows are within the limit
+pub priced : (k : Kind) (n : ℕ) (bids windows : List ℕ) → Orderly k n bids windows → Priced (pricesOf (rowsOf n bids))
+priced k n bids windows o = record { count = omega (arith, o .few, prices-count n bids); most = most }
+  where
+    most : (i : ℕ) → getD (pricesOf (rowsOf n bids)) i 0 ≤ 100000000
+    most i = go (ltb i n) refl
+      where
+        go : (b : Bool) → ltb i n ≡ b → getD (pricesOf (rowsOf n bids)) i 0 ≤ 100000000
+        go true u = omega (arith, price-named n i bids (ltb-true i n u), leb-true (getD bids (4 * i + 1) 0) 100000000 (o .kept i (ltb-true i n u) .price))
+        go false u = omega (arith, List·getD-eq-default (pricesOf (rowsOf n bids)) 0 {n = i} (omega (arith, ltb-false i n u, prices-count n bids)))
+
+-- the words of a tender's cells
+pub record Words (t : Tender) (w : ℕ) : Type 0 where
+  pub forwards : t .window .start ≤ t .window .end
+  pub few : cellsOf t ≤ 10080
+  pub early : t .window .start ≤ 10080
+  pub words : w ≤ 158
+  pub fits : cellsOf t ≤ 64 * w
+
+pub words-of : (k : Kind) (t : Tender) (n w : ℕ) (bids windows : List ℕ) → faultOf k t n bids windows ≡ none → w ≡ (cellsOf t + 63) / 64 → Words t w
+unfolding cellsOf
+words-of k t n w bids windows f e = let d = timed k t n bids windows f in record { forwards = omega (arith, d .some-minute); few = omega (arith, d .in-week); early = omega (arith, d .some-minute, d .in-week); words = omega (arith, d .in-week); fits = omega arith }
+
+module _ (t : Tender) (n w : ℕ) (bids windows ms ps ow oc : List ℕ) (f : faultOf Multi t n bids windows ≡ none) (size : length ms ≡ w * n)
+    (m : AllMasked n (t .window .start) (cellsOf t) w bids windows ms) (p : ps ≡ pricesOf (rowsOf n bids)) where
+  same : has ms w ≡ hasOf t (rowsOf n bids) windows
+  same = masks-have t n w bids windows ms size m
+
+  count : length ps ≡ n
+  count = ap length p ∙ prices-count n bids
+
+  pub uncovered : (x : ℕ) → Says (has ms w) n (cellsOf t) (Nobody x) → PlainPromise Multi t n bids windows n ow oc ow oc (Refused (MinuteUncovered (t .window .start + x)))
+  uncovered x s = eleven Multi t n bids windows n ow oc f (omega arith) x (rw same at s)
+
+  pub lone : (x : ℕ) → Says (has ms w) n (cellsOf t) (Alone x) → PlainPromise Multi t n bids windows n ow oc ow oc (Refused (OneBidder (t .window .start + x)))
+  lone x s = let h = rw same at s in twelve Multi t n bids windows n ow oc f (omega arith) x (h .0) (h .1)
+
+  pub market : Words t w → Market ps ms w
+  market d = record { priced = rw p (priced Multi n bids windows (orderly Multi t n bids windows f)); size = size ∙ ap (λ (k : ℕ). w * k) (sym count); words = d .words }
+
+  pub two-bidders : Says (has ms w) n (cellsOf t) Enough → each (has ms w) (length ps) (cellsOf t) 2 ≡ true
+  two-bidders s = rw count (two-each (has ms w) n (cellsOf t) (s .0) (s .1))
+
+  pub settled : Says (has ms w) n (cellsOf t) Enough → (nw nc : List ℕ) (totals : Totals) →
+      Settled (wins (has ms w) ps (cells (cellsOf t))) (roundsPaid (has ms w) ps (cells (cellsOf t))) ps ow oc nw nc (totals .cost) (totals .paid) →
+      PlainPromise Multi t n bids windows n ow oc nw nc (Awarded totals)
+  settled s nw nc totals h =
+      let h′ = rw same at s in
+      let ps′ = pricesOf (rowsOf n bids) in
+      let c : length ps′ ≡ n = prices-count n bids in
+      awards Multi t n bids windows n ow oc f (omega arith) (h′ .0) (h′ .1) (wins (hasOf t (rowsOf n bids) windows) ps′ (cells (cellsOf t))) (roundsPaid (hasOf t (rowsOf n bids) windows) ps′ (cells (cellsOf t)))
+      (λ i l. multi-won (hasOf t (rowsOf n bids) windows) ps′ (cellsOf t) i) (λ i l. multi-cents (hasOf t (rowsOf n bids) windows) ps′ (cellsOf t) i (omega arith) (rw c (two-each (hasOf t (rowsOf n bids) windows) n (cellsOf t) (h′ .0) (h′ .1)))) nw nc totals (rw (same, p) at h)

@@ -1,0 +1,172 @@
+// The outcome of a tender of either kind over plain cells: a refusal, 9 to 12, or a flag and the cents paid for each bid, and
+// the totals. `specs/` has what an award answers (`Award`) and what is promised of plain cells (`Plain`).
+use award_thin::Thin;
+use award_check::Check;
+use tender::Answer;
+use tender::Kind;
+use tender::Refusal;
+use tender::Tender;
+ghost use mathlib.Core.Path.{_≡_};
+ghost use mathlib.Core.Option.{none};
+ghost use Prim.Native.Nat.{ℕ, _+_, _*_, _/_, _≤_, min};
+ghost use lib.ListN.{length};
+ghost use Rattle.tender.specs.declared.Kind.the-variants.{Single, Multi};
+ghost use Rattle.award_check.specs.Faults.{faultOf};
+ghost use Rattle.award_check.specs.Cells.{cellsOf};
+ghost use Rattle.award_plain.specs.Plain.{PlainPromise};
+
+// A faultless multi tender of as many bids as `prices` has places, with room lent for prices and words.
+fn multi_in(
+    tender: Tender,
+    w: usize,
+    bids: &[u64],
+    windows: &[u64],
+    prices: &mut [u64],
+    masks: &mut [u64],
+    won: &mut [u64],
+    cents: &mut [u64],
+) -> Answer
+    requires { ⌜ (faultOf Multi tender (length (now prices)) (now bids) (now windows) ≡ none) × ((w ≡ (cellsOf tender + 63) / 64) × ((length (now masks) ≡ w * length (now prices))
+        × ((length (now prices) ≤ length (now won)) × (length (now prices) ≤ length (now cents))))) ⌝ }
+    ensures { λ r. ⌜ PlainPromise Multi tender (length (now (prices .entry))) (now (bids .entry)) (now (windows .entry)) (length (now (prices .entry)))
+        (now (won .entry)) (now (cents .entry)) (now (won .exit)) (now (cents .exit)) r ⌝ }
+{
+    let n = prices.len();
+    let window = tender.window;
+    let start = window.start;
+    let cells = window.end - window.start;
+    award_layout::prices(bids, prices);
+    award_layout::masks(start, cells, w, n, bids, windows, masks);
+    let thin = award_thin::thin_masks(masks, w, n, cells as usize);
+    match thin {
+        // 11: a minute in no bid.
+        Thin::Nobody { cell } => Answer::Refused(Refusal::MinuteUncovered {
+            minute: start + cell,
+        }),
+        // 12: a minute in one bid.
+        Thin::Alone { cell } => Answer::Refused(Refusal::OneBidder {
+            minute: start + cell,
+        }),
+        Thin::Enough => Answer::Awarded(multi::award(prices, masks, w, cells as usize, won, cents)),
+    }
+}
+
+// A faultless multi tender.
+fn settle_multi(
+    tender: Tender,
+    count: usize,
+    bids: &[u64],
+    windows: &[u64],
+    won: &mut [u64],
+    cents: &mut [u64],
+) -> Answer
+    requires { ⌜ (faultOf Multi tender count (now bids) (now windows) ≡ none) × ((count ≤ length (now won)) × (count ≤ length (now cents))) ⌝ }
+    ensures { λ r. ⌜ PlainPromise Multi tender count (now (bids .entry)) (now (windows .entry)) count (now (won .entry)) (now (cents .entry)) (now (won .exit)) (now (cents .exit)) r ⌝ }
+{
+    let window = tender.window;
+    let w = ((window.end - window.start) as usize + 63) / 64;
+    let all = w * count;
+    let mut prices = [1u64; 1000];
+    let mut masks = [1u64; 158000];
+    multi_in(
+        tender,
+        w,
+        bids,
+        windows,
+        &mut prices[..count],
+        &mut masks[..all],
+        won,
+        cents,
+    )
+}
+
+// A faultless single tender of as many bids as `prices` has places, with room lent for prices, starts and ends.
+fn single_in(
+    tender: Tender,
+    bids: &[u64],
+    windows: &[u64],
+    prices: &mut [u64],
+    starts: &mut [u64],
+    ends: &mut [u64],
+    won: &mut [u64],
+    cents: &mut [u64],
+) -> Answer
+    requires { ⌜ (faultOf Single tender (length (now prices)) (now bids) (now windows) ≡ none) × ((length (now starts) ≡ length (now prices)) × ((length (now ends) ≡ length (now prices))
+        × ((length (now prices) ≤ length (now won)) × (length (now prices) ≤ length (now cents))))) ⌝ }
+    ensures { λ r. ⌜ PlainPromise Single tender (length (now (prices .entry))) (now (bids .entry)) (now (windows .entry)) (length (now (prices .entry)))
+        (now (won .entry)) (now (cents .entry)) (now (won .exit)) (now (cents .exit)) r ⌝ }
+{
+    let window = tender.window;
+    let start = window.start;
+    let cells = window.end - window.start;
+    award_layout::prices(bids, prices);
+    award_layout::spans(start, cells, bids, windows, starts, ends);
+    let thin = award_thin::thin_spans(starts, ends, cells as usize);
+    match thin {
+        // 11: a minute in no bid.
+        Thin::Nobody { cell } => Answer::Refused(Refusal::MinuteUncovered {
+            minute: start + cell,
+        }),
+        // 12: a minute in one bid.
+        Thin::Alone { cell } => Answer::Refused(Refusal::OneBidder {
+            minute: start + cell,
+        }),
+        Thin::Enough => Answer::Awarded(single::award(starts, ends, prices, cells, won, cents)),
+    }
+}
+
+// A faultless single tender.
+fn settle_single(
+    tender: Tender,
+    count: usize,
+    bids: &[u64],
+    windows: &[u64],
+    won: &mut [u64],
+    cents: &mut [u64],
+) -> Answer
+    requires { ⌜ (faultOf Single tender count (now bids) (now windows) ≡ none) × ((count ≤ length (now won)) × (count ≤ length (now cents))) ⌝ }
+    ensures { λ r. ⌜ PlainPromise Single tender count (now (bids .entry)) (now (windows .entry)) count (now (won .entry)) (now (cents .entry)) (now (won .exit)) (now (cents .exit)) r ⌝ }
+{
+    let mut prices = [1u64; 1000];
+    let mut starts = [1u64; 1000];
+    let mut ends = [1u64; 1000];
+    single_in(
+        tender,
+        bids,
+        windows,
+        &mut prices[..count],
+        &mut starts[..count],
+        &mut ends[..count],
+        won,
+        cents,
+    )
+}
+
+// The award of this kind where `lent` award rows are lent: first 9, then 10, then the tender itself.
+pub fn settle_in(
+    kind: Kind,
+    tender: Tender,
+    count: usize,
+    bids: &[u64],
+    windows: &[u64],
+    lent: usize,
+    won: &mut [u64],
+    cents: &mut [u64],
+) -> Answer
+    requires { ⌜ (min lent 1000 ≤ length (now won)) × (min lent 1000 ≤ length (now cents)) ⌝ }
+    ensures { λ r. ⌜ PlainPromise kind tender count (now (bids .entry)) (now (windows .entry)) lent (now (won .entry)) (now (cents .entry)) (now (won .exit)) (now (cents .exit)) r ⌝ }
+{
+    let check = award_check::fault(kind, tender, count, bids, windows);
+    if let Check::Faulty { row } = check {
+        // 9: the tables break a rule.
+        return Answer::Refused(Refusal::BadTables { row });
+    }
+    if lent < count {
+        // 10: fewer award rows than bids.
+        return Answer::Refused(Refusal::RowsTooFew);
+    }
+    match kind {
+        Kind::Single => settle_single(tender, count, bids, windows, won, cents),
+        Kind::Multi => settle_multi(tender, count, bids, windows, won, cents),
+    }
+}

@@ -1,0 +1,88 @@
+-- `award_thin::bare_mask` meets its contract: each cell passed has a bidder, and none of the bids asked has the cell. Assumes nothing.
+use Prim.Native.Nat.{_-_}
+use native.Mathlib.Omega.{arith}
+use Rattle.multi_rounds.proofs.Rows.{row-within}
+use mathlib.Core.Path.{_≡_, refl, sym, _∙_}
+use Rattle.multi_rounds.specs.Market.{has}
+use Rattle.award_thin.proofs.Bare.{Looking, Asking, looks-none, asks-none, looks-on, asks-on, bare-found, bare-none}
+use Rattle.award_thin.proofs.bare_mask.Statement.{statement}
+use Rattle.award_thin.proofs.bare_mask.Tie as tie
+use Rattle.award_thin.proofs.bare_mask.Reads as reads
+use Rattle.award_thin.proofs.bare_mask.Lts as lts
+use Rattle.award_thin.proofs.mask_has.Reads as mask-has-reads
+
+abbrev Inv-loop : tie.InvT-loop
+Inv-loop masks w n cells x₀ i₀ x i = Asking (has masks w) n cells x i × (x ≡ x₀)
+
+abbrev μ-loop : tie.MeasureT-loop
+μ-loop masks w n cells x₀ i₀ x i = n - i
+
+abbrev Inv-cells : tie.InvT-cells
+Inv-cells masks w n cells x₀ x = Looking (has masks w) n cells x
+
+abbrev μ-cells : tie.MeasureT-cells
+μ-cells masks w n cells x₀ x = cells - x
+
+-- src/lib.rt:177:5
+cells-holds : tie.Need-cells-holds Inv-loop μ-loop Inv-cells μ-cells
+cells-holds c = looks-none _ _ _
+
+-- src/lib.rt:179:9
+loop-holds : tie.Need-loop-holds Inv-loop μ-loop Inv-cells μ-cells
+loop-holds c = (asks-none _ _ _ _ (c .before .cells .inv) (c .cells-test .taken), refl)
+
+-- src/lib.rt:180:16
+mask-has-requires : tie.Need-mask-has-requires Inv-loop μ-loop Inv-cells μ-cells
+mask-has-requires c κs = (omega (arith, c .before .before .before .before .before .pre .0, row-within (c .before .before .before .before .before .args .w) (c .before .before .before .before .before .args .n) (c .before .loop .i) (c .loop-test .taken)), omega (arith, c .before .loop .inv .0 .here, c .before .before .before .before .before .pre .1))
+
+-- src/lib.rt:181:17
+add-x : tie.Need-add-x Inv-loop μ-loop Inv-cells μ-cells
+add-x c = omega (arith, c .before .before .before .loop .inv .0 .here, c .before .before .before .loop .inv .1)
+
+-- src/lib.rt:177:5
+cells-less : tie.Need-cells-less Inv-loop μ-loop Inv-cells μ-cells
+cells-less c = omega (arith, c .before .before .before .loop .inv .0 .here, c .before .before .before .loop .inv .1)
+
+-- src/lib.rt:177:5
+cells-again : tie.Need-cells-again Inv-loop μ-loop Inv-cells μ-cells
+cells-again c = looks-on (c .before .before .before .loop .inv .0) (c .before .before .loop-test .taken) (sym (c .before .mask-has .ensures) ∙ c .if1 .taken)
+
+-- src/lib.rt:184:13
+add-i : tie.Need-add-i Inv-loop μ-loop Inv-cells μ-cells
+add-i c = omega arith
+
+-- src/lib.rt:179:9
+loop-less : tie.Need-loop-less Inv-loop μ-loop Inv-cells μ-cells
+loop-less c = omega arith
+
+-- src/lib.rt:179:9
+loop-again : tie.Need-loop-again Inv-loop μ-loop Inv-cells μ-cells
+loop-again c = (asks-on (c .before .before .before .loop .inv .0) (c .before .before .loop-test .taken) (sym (c .before .mask-has .ensures) ∙ c .if1 .left), c .before .before .before .loop .inv .1)
+
+-- src/lib.rt:186:9
+returns : tie.Need-returns Inv-loop μ-loop Inv-cells μ-cells
+returns c = bare-found (c .before .loop .inv .0) (c .loop-test .left)
+
+-- src/lib.rt:172:1
+returns-2 : tie.Need-returns-2 Inv-loop μ-loop Inv-cells μ-cells
+returns-2 c = bare-none (c .before .cells .inv) (c .cells-test .left)
+
+pub bare-mask-spec : {M : Type 1} → statement M
+bare-mask-spec =
+    tie.close
+    (tie.spec
+    Inv-loop
+    μ-loop
+    Inv-cells
+    μ-cells
+    cells-holds
+    loop-holds
+    mask-has-requires
+    add-x
+    cells-less
+    cells-again
+    add-i
+    loop-less
+    loop-again
+    returns
+    returns-2)

@@ -1,0 +1,157 @@
+// A bid taken in the run without bid k, which follows the main run as written down. `take` closes the bid's cells and raises the highest
+// price at which k would be taken before it; `both` is the step where the two runs take the bid, `other` the step where the run without k
+// alone does, and marks the bids that share an open cell with it. `ahead` says whether a bid is there and comes before another.
+ghost use mathlib.Core.Path.{_≡_};
+ghost use mathlib.Core.Bool.{true};
+ghost use Prim.Native.Nat.{_+_, _*_, _<_, _≤_, max};
+ghost use lib.ListN.{length};
+ghost use Rattle.cover.specs.CriticalPrice.{late};
+ghost use Rattle.cells.specs.Cells.{Closed};
+ghost use Rattle.cells.specs.Hops.{Hops, Counted};
+ghost use Rattle.multi_tournament.specs.Tournament.{at};
+ghost use Rattle.multi_rounds.specs.Market.{row};
+ghost use Rattle.multi_follow.specs.Follow.{Raised, Took, Course, Walking, Takes, Stepped};
+
+fn higher(a: u64, b: u64) -> u64
+    ensures { λ r. ⌜ r ≡ max a b ⌝ }
+{
+    if a < b { b } else { a }
+}
+
+// One more than the highest price at which bid k, with `mine` cells, is taken before bid i.
+fn raise(k: usize, i: usize, price: u64, cells: u64, mine: u64) -> u64
+    requires { ⌜ (price ≤ 100000000) × ((0 < cells) × ((0 < mine) × (mine ≤ 10112))) ⌝ }
+    ensures { λ r. ⌜ Raised k i price cells mine r ⌝ }
+{
+    let x = price * mine;
+    if i < k {
+        if x == 0 {
+            return 0;
+        }
+        return (x - 1) / cells + 1;
+    }
+    x / cells + 1
+}
+
+// Takes bid b, which asks p for c cells: closes its cells, and answers the new maximum.
+pub fn take(
+    masks: &[u64],
+    hop: &[u8],
+    w: usize,
+    k: usize,
+    b: usize,
+    p: u64,
+    c: u64,
+    mine: u64,
+    top: u64,
+    alt: &mut [u64],
+    counts: &mut [u64],
+) -> u64
+    requires { ⌜ ((p ≤ 100000000) × ((0 < c) × ((0 < mine) × (mine ≤ 10112)))) × ((length (now alt) ≡ w) × ((w ≤ 158) × ((w * b + w ≤ length (now masks)) × ((length (now hop) ≡ length (now masks))
+        × (Counted (now alt) (now counts) × Hops (row (now masks) w b) (row (now hop) w b)))))) ⌝ }
+    ensures { λ r. ⌜ Took k b p c mine top r × (Closed (now (alt .entry)) (row (now (masks .entry)) w b) (now (alt .exit)) × Counted (now (alt .exit)) (now (counts .exit))) ⌝ }
+{
+    let s = raise(k, b, p, c, mine);
+    multi_rounds::shut(alt, counts, masks, hop, w, b);
+    higher(top, s)
+}
+
+// Bid b at t/c is there and comes before bid m at p/v.
+pub fn ahead(n: usize, t: u64, c: u64, b: usize, p: u64, v: u64, m: usize) -> bool
+    requires { ⌜ ((t ≤ 100000000) × (c ≤ 10112)) × ((p ≤ 100000000) × (v ≤ 10112)) ⌝ }
+    ensures { λ r. ⌜ (r ≡ true → (b < n) × (t * v + late b m ≤ p * c)) ⌝ }
+{
+    if b < n {
+        return multi_rounds::comes(t, c, b, p, v, m);
+    }
+    false
+}
+
+// Where the run stands after a step: the main run's next round, the open cells of bid k, the maximum, and whether the run is over.
+pub struct Move {
+    pub g: usize,
+    pub mine: u64,
+    pub top: u64,
+    pub over: bool,
+}
+
+// Both runs take bid b, the main run's next.
+pub fn both(
+    prices: &[u64],
+    masks: &[u64],
+    hop: &[u8],
+    index: &[u64],
+    w: usize,
+    count: usize,
+    order: &[u64],
+    gains: &[u64],
+    rounds: usize,
+    h: usize,
+    k: usize,
+    g: usize,
+    mine: u64,
+    top: u64,
+    b: usize,
+    p: u64,
+    c: u64,
+    alt: &mut [u64],
+    counts: &mut [u64],
+    who: &mut [u64],
+    num: &mut [u64],
+    mark: &mut [u64],
+) -> Move
+    requires { ⌜ Course (now prices) (now masks) (now hop) (now index) w count (now order) (now gains) rounds h k
+        × (Walking (now prices) (now masks) w count (now order) (now gains) rounds h k (now alt) (now counts) (now who) (now num) (now mark) top mine g
+        × ((0 < mine) × (Takes (now prices) (now masks) w k (now alt) b p c × ((g < rounds) × (b ≡ at (now order) g))))) ⌝ }
+    ensures { λ r. ⌜ Stepped (now (prices .entry)) (now (masks .entry)) w count (now (order .entry)) (now (gains .entry)) rounds h k (now (alt .entry)) (now (alt .exit)) (now (counts .exit)) (now (who .exit)) (now (num .exit)) (now (mark .exit)) g top (r .g) (r .mine) (r .top) (r .over) ⌝ }
+{
+    let t = take(masks, hop, w, k, b, p, c, mine, top, alt, counts);
+    let y = multi_rounds::overlap(alt, counts, masks, hop, w, k);
+    Move {
+        g: g + 1,
+        mine: y,
+        top: t,
+        over: false,
+    }
+}
+
+// The run without k alone takes bid b.
+pub fn other(
+    prices: &[u64],
+    masks: &[u64],
+    hop: &[u8],
+    index: &[u64],
+    w: usize,
+    count: usize,
+    order: &[u64],
+    gains: &[u64],
+    rounds: usize,
+    h: usize,
+    k: usize,
+    g: usize,
+    mine: u64,
+    top: u64,
+    b: usize,
+    p: u64,
+    c: u64,
+    alt: &mut [u64],
+    counts: &mut [u64],
+    who: &mut [u64],
+    num: &mut [u64],
+    mark: &mut [u64],
+) -> Move
+    requires { ⌜ Course (now prices) (now masks) (now hop) (now index) w count (now order) (now gains) rounds h k
+        × (Walking (now prices) (now masks) w count (now order) (now gains) rounds h k (now alt) (now counts) (now who) (now num) (now mark) top mine g
+        × ((0 < mine) × Takes (now prices) (now masks) w k (now alt) b p c)) ⌝ }
+    ensures { λ r. ⌜ Stepped (now (prices .entry)) (now (masks .entry)) w count (now (order .entry)) (now (gains .entry)) rounds h k (now (alt .entry)) (now (alt .exit)) (now (counts .exit)) (now (who .exit)) (now (num .exit)) (now (mark .exit)) g top (r .g) (r .mine) (r .top) (r .over) ⌝ }
+{
+    multi_marks::disturb(prices, masks, hop, index, w, alt, counts, b, who, num, mark);
+    let t = take(masks, hop, w, k, b, p, c, mine, top, alt, counts);
+    let y = multi_rounds::overlap(alt, counts, masks, hop, w, k);
+    Move {
+        g,
+        mine: y,
+        top: t,
+        over: false,
+    }
+}

@@ -1,0 +1,71 @@
+-- `multi_limit::begin` meets its contract: nothing is known of any bid, k alone is marked, then those that share an open cell with it. Assumes nothing.
+use Prim.Native.Nat.{ℕ, _+_}
+use mathlib.Core.Path.{sym, _∙_, ap}
+use native.Mathlib.Omega.{arith}
+use Rattle.multi_tournament.specs.Tournament.{at}
+use Rattle.multi_tournament.proofs.Tree.{emptied, known-at}
+use Rattle.multi_rounds.proofs.Begin.{sized-of}
+use Rattle.multi_follow.proofs.Following.{inside, starts}
+use borrow.Author.Needs.{needs}
+use Rattle.multi_limit.proofs.begin.Statement.{statement}
+use Rattle.multi_limit.proofs.begin.Tie as tie
+use Rattle.multi_limit.proofs.begin.Reads as reads
+use Rattle.multi_limit.proofs.begin.Lts as lts
+use Rattle.cells.proofs.add.Reads as add-reads
+use Rattle.cells.proofs.count_none.Reads as count-none-reads
+use Rattle.multi_marks.proofs.disturb.Reads as disturb-reads
+use Rattle.multi_rounds.proofs.clear.Reads as clear-reads
+use Rattle.multi_rounds.proofs.copy.Reads as copy-reads
+
+copy-requires : tie.Need-copy-requires
+copy-requires c κs = let P = c .before .before .before .before .before .before .before .before .before .before .before .before .before .pre in P .1 .0 .words ∙ sym (P .1 .1 .0)
+
+count-none-requires : tie.Need-count-none-requires
+count-none-requires c κs = let P = c .before .before .before .before .before .before .before .before .before .before .before .before .before .before .before .before .before .before .pre in let e = c .before .before .before .before .copy .kept .1 .0 ∙ P .1 .1 .0 in (P .1 .1 .1 .0 ∙ ap (λ (x : ℕ). x + 2) (sym e), omega (arith, e, P .0 .market .words))
+
+clear-requires : tie.Need-clear-requires
+clear-requires c κs = search needs
+
+clear-requires-2 : tie.Need-clear-requires-2
+clear-requires-2 c κs = search needs
+
+add-requires : tie.Need-add-requires
+add-requires c κs = let P = c .before .before .before .before .before .before .before .before .before .before .before .before .before .before .before .before .before .before .before .before .before .before .before .before .before .before .before .before .before .before .pre in omega (arith, inside (P .0), P .0 .market .priced .count, c .before .before .before .clear2 .kept .0, P .1 .1 .1 .1 .1)
+
+disturb-requires : tie.Need-disturb-requires
+disturb-requires c κs = let P = c .before .before .before .before .before .before .before .before .before .before .before .before .before .before .before .before .before .before .before .before .before .before .before .before .before .before .before .before .before .before .before .before .before .before .before .before .before .before .pre in let co = P .0 in (co .market, (co .hopping, (co .indexed, (c .before .before .before .before .before .before .before .before .before .before .before .before .before .before .before .before .before .before .before .before .before .before .before .before .copy .kept .1 .0 ∙ P .1 .1 .0, (c .before .before .before .before .before .before .before .before .before .before .before .before .before .before .before .before .before .before .before .count-none .ensures, (inside co, (emptied (P .1 .1 .1 .1 .0) (c .before .before .before .before .before .before .before .before .before .before .before .before .before .before .before .clear .kept .0 ∙ P .1 .1 .1 .1 .0 .seats .numbers) (c .before .before .before .before .before .before .before .before .before .before .before .before .before .before .before .clear .ensures .none), c .before .before .before .before .before .before .before .add .kept .0 ∙ c .before .before .before .before .before .before .before .before .before .before .before .clear2 .kept .0 ∙ P .1 .1 .1 .1 .1)))))))
+
+same-length : tie.Need-same-length
+same-length c = search needs
+
+same-length-2 : tie.Need-same-length-2
+same-length-2 c = search needs
+
+same-length-3 : tie.Need-same-length-3
+same-length-3 c = search needs
+
+same-length-4 : tie.Need-same-length-4
+same-length-4 c = search needs
+
+same-length-5 : tie.Need-same-length-5
+same-length-5 c = search needs
+
+returns : tie.Need-returns
+returns c = let P = c .before .before .before .before .before .before .before .before .before .before .before .before .before .before .before .before .before .before .before .before .before .before .before .before .before .before .before .before .before .before .before .before .before .before .before .before .before .before .before .before .before .before .before .before .before .before .before .pre in let co = P .0 in let t = c .before .before .before .before .before .before .before .before .disturb .ensures .0 in record { follow = rw (c .before .before .before .before .before .before .before .before .before .before .before .before .before .before .before .before .before .before .before .before .before .before .before .before .before .before .before .before .before .before .before .before .before .copy .ensures) (starts co (P .1 .0) (λ i. known-at _ i ∙ c .before .before .before .before .before .before .before .before .before .before .before .before .before .before .before .before .before .before .before .before .before .before .before .before .clear .ensures .none _) (c .before .before .before .before .before .before .before .before .before .before .before .before .before .before .before .before .before .before .before .before .clear2 .ensures) (c .before .before .before .before .before .before .before .before .before .before .before .before .before .before .before .before .add .ensures) (sized-of t) (rw (c .before .before .before .before .before .before .before .before .before .before .before .before .before .before .before .before .before .before .before .before .before .before .before .before .before .before .before .before .before .before .before .before .before .copy .ensures) at (c .before .before .before .before .before .before .before .before .disturb .ensures .1 .0))); tree = t; counted = c .before .before .before .before .before .before .before .before .disturb .ensures .1 .1; marks = c .before .before .before .before .before .before .before .before .disturb .kept .1 .1 .1 .1 .1 .1 .1 .1 .1 .1 .0 ∙ c .before .before .before .before .before .before .before .before .before .before .before .before .before .before .before .before .add .kept .0 ∙ c .before .before .before .before .before .before .before .before .before .before .before .before .before .before .before .before .before .before .before .before .clear2 .kept .0 ∙ P .1 .1 .1 .1 .1 }
+
+pub begin-spec : {M : Type 1} → statement M
+begin-spec =
+    tie.close
+    (tie.spec
+    copy-requires
+    count-none-requires
+    clear-requires
+    clear-requires-2
+    add-requires
+    disturb-requires
+    same-length
+    same-length-2
+    same-length-3
+    same-length-4
+    same-length-5
+    returns)

@@ -1,0 +1,82 @@
+-- `multi_pay::pay_all` meets its contract: before round h the bids of the first h rounds are marked and paid. Assumes nothing.
+use Prim.Native.Nat.{_≤_, _-_, _+_}
+use mathlib.Core.Path.{_≡_, _∙_, sym}
+use native.Mathlib.Omega.{arith}
+use lib.ListN.{length}
+use Rattle.multi_tournament.specs.Tournament.{Tournament}
+use Rattle.multi_pay.specs.Paying.{Paying}
+use Rattle.multi_pay.proofs.Along.{ends}
+use Rattle.multi_pay.proofs.pay_all.Statement.{statement}
+use Rattle.multi_pay.proofs.pay_all.Tie as tie
+use Rattle.multi_pay.proofs.pay_all.Reads as reads
+use Rattle.multi_pay.proofs.pay_all.Lts as lts
+use Rattle.multi_pay.proofs.pay.Reads as pay-reads
+
+abbrev Inv-loop : tie.InvT-loop
+Inv-loop prices masks hop index w count order gains rounds held₀ alt₀ counts₀ who₀ num₀ mark₀ won₀ cents₀ h₀ held alt counts who num mark won cents h = (h ≤ rounds) × (Paying prices masks w count order h held won cents × ((length alt ≡ w) × ((length counts ≡ w + 2) × (Tournament prices who num × (length mark ≡ 16)))))
+
+abbrev μ-loop : tie.MeasureT-loop
+μ-loop prices masks hop index w count order gains rounds held₀ alt₀ counts₀ who₀ num₀ mark₀ won₀ cents₀ h₀ held alt counts who num mark won cents h = rounds - h
+
+loop-holds : tie.Need-loop-holds Inv-loop μ-loop
+loop-holds c = let P = c .before .before .before .before .before .before .before .before .before .before .before .before .before .before .pre in (omega arith, P .1)
+
+pay-requires : tie.Need-pay-requires Inv-loop μ-loop
+pay-requires c κs = (c .before .before .before .before .before .before .before .before .before .before .before .before .before .before .before .before .before .before .before .before .before .before .before .before .pre .0, (c .before .before .before .before .before .before .before .before .loop-test .taken, c .before .before .before .before .before .before .before .before .before .loop .inv .1))
+
+add-h : tie.Need-add-h Inv-loop μ-loop
+add-h c = omega (arith, c .before .before .before .before .before .before .before .before .before .before .before .before .before .before .before .before .before .before .before .before .before .before .before .before .before .before .before .before .before .before .before .before .before .before .before .before .before .before .before .before .before .pre .0 .main .route .most)
+
+loop-less : tie.Need-loop-less Inv-loop μ-loop
+loop-less c = omega arith
+
+loop-again : tie.Need-loop-again Inv-loop μ-loop
+loop-again c = let s = c .before .before .before .before .before .before .before .before .before .before .before .before .before .before .before .before .before .before .before .before .before .before .before .before .before .before .loop .inv .1 .1 in let K = c .before .before .before .before .before .before .before .before .before .before .before .before .before .before .before .before .pay .kept .1 .1 .1 .1 .1 .1 .1 .1 .1 .1 .1 in (omega arith, (c .before .before .before .before .before .before .before .before .before .before .before .before .before .before .before .before .pay .ensures .0, (K .0 ∙ s .0, (K .1 .0 ∙ s .1 .0, (c .before .before .before .before .before .before .before .before .before .before .before .before .before .before .before .before .pay .ensures .1, K .1 .1 .1 .1 .0 ∙ s .1 .1 .1)))))
+
+same-length : tie.Need-same-length Inv-loop μ-loop
+same-length c = c .before .loop .inv .1 .0 .standing .words ∙ sym (c .before .before .before .before .before .before .before .before .before .before .before .before .before .before .before .before .pre .1 .0 .standing .words)
+
+same-length-2 : tie.Need-same-length-2 Inv-loop μ-loop
+same-length-2 c = c .before .loop .inv .1 .1 .0 ∙ sym (c .before .before .before .before .before .before .before .before .before .before .before .before .before .before .before .before .pre .1 .1 .0)
+
+same-length-3 : tie.Need-same-length-3 Inv-loop μ-loop
+same-length-3 c = c .before .loop .inv .1 .1 .1 .0 ∙ sym (c .before .before .before .before .before .before .before .before .before .before .before .before .before .before .before .before .pre .1 .1 .1 .0)
+
+same-length-4 : tie.Need-same-length-4 Inv-loop μ-loop
+same-length-4 c = c .before .loop .inv .1 .1 .1 .1 .0 .seats .players ∙ sym (c .before .before .before .before .before .before .before .before .before .before .before .before .before .before .before .before .pre .1 .1 .1 .1 .0 .seats .players)
+
+same-length-5 : tie.Need-same-length-5 Inv-loop μ-loop
+same-length-5 c = c .before .loop .inv .1 .1 .1 .1 .0 .seats .numbers ∙ sym (c .before .before .before .before .before .before .before .before .before .before .before .before .before .before .before .before .pre .1 .1 .1 .1 .0 .seats .numbers)
+
+same-length-6 : tie.Need-same-length-6 Inv-loop μ-loop
+same-length-6 c = c .before .loop .inv .1 .1 .1 .1 .1 ∙ sym (c .before .before .before .before .before .before .before .before .before .before .before .before .before .before .before .before .pre .1 .1 .1 .1 .1)
+
+same-length-7 : tie.Need-same-length-7 Inv-loop μ-loop
+same-length-7 c = c .before .loop .inv .1 .0 .as-won ∙ sym (c .before .before .before .before .before .before .before .before .before .before .before .before .before .before .before .before .pre .1 .0 .as-won)
+
+same-length-8 : tie.Need-same-length-8 Inv-loop μ-loop
+same-length-8 c = c .before .loop .inv .1 .0 .as-cents ∙ sym (c .before .before .before .before .before .before .before .before .before .before .before .before .before .before .before .before .pre .1 .0 .as-cents)
+
+returns : tie.Need-returns Inv-loop μ-loop
+returns c = let P = c .before .before .before .before .before .before .before .before .before .before .before .before .before .before .before .before .pre in ends (P .0 .main) (P .0 .cells-in) (omega arith) (c .before .loop .inv .1 .0)
+
+pub pay-all-spec : {M : Type 1} → statement M
+pay-all-spec =
+    tie.close
+    (tie.spec
+    Inv-loop
+    μ-loop
+    loop-holds
+    pay-requires
+    add-h
+    loop-less
+    loop-again
+    same-length
+    same-length-2
+    same-length-3
+    same-length-4
+    same-length-5
+    same-length-6
+    same-length-7
+    same-length-8
+    returns)

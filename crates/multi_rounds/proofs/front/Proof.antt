@@ -1,0 +1,117 @@
+-- `multi_rounds::front` meets its contract: what is known of each bid stays no less than it reaches, and the tournament has the first by what is known. Assumes nothing.
+use Prim.Native.Nat.{_<_}
+use mathlib.Core.Path.{sym, _∙_}
+use native.Mathlib.Omega.{arith}
+use Rattle.cover.specs.CriticalPrice.{sum}
+use Rattle.cells.specs.Hops.{Counted}
+use Rattle.multi_tournament.specs.Tournament.{at, known}
+use Rattle.multi_rounds.proofs.Rows.{row-in}
+use Rattle.multi_rounds.proofs.Fronting.{Fronting, begins, first-small, first-in, no-more, counted, fewer, is-clear, is-exact, is-none}
+use Rattle.multi_rounds.proofs.front.Statement.{statement}
+use Rattle.multi_rounds.proofs.front.Tie as tie
+use Rattle.multi_rounds.proofs.front.Reads as reads
+use Rattle.multi_rounds.proofs.front.Lts as lts
+use Rattle.multi_rounds.proofs.clear_of.Reads as clear-of-reads
+use Rattle.multi_rounds.proofs.overlap.Reads as overlap-reads
+use Rattle.multi_tournament.proofs.update.Reads as update-reads
+
+abbrev Inv-loop : tie.InvT-loop
+Inv-loop prices masks hop w held counts₀ who₀ num₀ rival ask gain free counts who num = Fronting prices masks w held (known num₀) who num × Counted held counts
+
+abbrev μ-loop : tie.MeasureT-loop
+μ-loop prices masks hop w held counts₀ who₀ num₀ rival ask gain free counts who num = sum (known num)
+
+loop-holds : tie.Need-loop-holds Inv-loop μ-loop
+loop-holds c = let P = c .before .before .before .before .before .before .before .pre in (begins (P .1 .1 .1 .1 .0) (P .1 .1 .1 .1 .1 .0), P .1 .1 .1 .0)
+
+slice-read-s : tie.Need-slice-read-s Inv-loop μ-loop
+slice-read-s c = omega (arith, c .before .loop .inv .0 .tree .seats .numbers)
+
+same-length : tie.Need-same-length Inv-loop μ-loop
+same-length c = c .before .before .loop .inv .1 .size ∙ sym (c .before .before .before .before .before .before .before .before .before .before .pre .1 .1 .1 .0 .size)
+
+same-length-2 : tie.Need-same-length-2 Inv-loop μ-loop
+same-length-2 c = c .before .before .loop .inv .0 .tree .seats .players ∙ sym (c .before .before .before .before .before .before .before .before .before .before .pre .1 .1 .1 .1 .0 .seats .players)
+
+same-length-3 : tie.Need-same-length-3 Inv-loop μ-loop
+same-length-3 c = c .before .before .loop .inv .0 .tree .seats .numbers ∙ sym (c .before .before .before .before .before .before .before .before .before .before .pre .1 .1 .1 .1 .0 .seats .numbers)
+
+returns : tie.Need-returns Inv-loop μ-loop
+returns c = (c .before .before .loop .inv .0 .tree, (is-none (c .before .before .before .before .before .before .before .before .before .before .pre .0) (c .before .before .loop .inv .0) (c .if1 .taken) (c .before .before .before .before .before .before .before .before .before .before .pre .1 .1 .1 .1 .1 .1 .0), c .before .before .loop .inv .1))
+
+slice-read-b : tie.Need-slice-read-b Inv-loop μ-loop
+slice-read-b c = omega (arith, c .before .before .before .loop .inv .0 .tree .seats .players)
+
+mul-p : tie.Need-mul-p Inv-loop μ-loop
+mul-p c = let z : 0 < at (c .before .before .before .loop .num) 1 = omega arith in omega (arith, first-in (c .before .before .before .before .before .before .before .before .before .before .before .pre .0) (c .before .before .before .loop .inv .0) z, c .before .before .before .before .before .before .before .before .before .before .before .pre .0 .priced .count)
+
+shared-slice-read-p : tie.Need-shared-slice-read-p Inv-loop μ-loop
+shared-slice-read-p c = let z : 0 < at (c .before .before .before .before .loop .num) 1 = omega arith in first-in (c .before .before .before .before .before .before .before .before .before .before .before .before .pre .0) (c .before .before .before .before .loop .inv .0) z
+
+clear-of-requires : tie.Need-clear-of-requires Inv-loop μ-loop
+clear-of-requires c κs = let P = c .before .before .before .before .before .before .before .before .before .before .before .before .pre in ((P .1 .1 .1 .1 .1 .1 .1 .0, P .1 .1 .1 .1 .1 .1 .1 .1), (P .0 .priced .most (at (c .before .before .before .before .loop .who) 1), first-small (P .0) (c .before .before .before .before .loop .inv .0)))
+
+same-length-4 : tie.Need-same-length-4 Inv-loop μ-loop
+same-length-4 c = c .before .before .before .before .before .before .loop .inv .1 .size ∙ sym (c .before .before .before .before .before .before .before .before .before .before .before .before .before .before .pre .1 .1 .1 .0 .size)
+
+same-length-5 : tie.Need-same-length-5 Inv-loop μ-loop
+same-length-5 c = c .before .before .before .before .before .before .loop .inv .0 .tree .seats .players ∙ sym (c .before .before .before .before .before .before .before .before .before .before .before .before .before .before .pre .1 .1 .1 .1 .0 .seats .players)
+
+same-length-6 : tie.Need-same-length-6 Inv-loop μ-loop
+same-length-6 c = c .before .before .before .before .before .before .loop .inv .0 .tree .seats .numbers ∙ sym (c .before .before .before .before .before .before .before .before .before .before .before .before .before .before .pre .1 .1 .1 .1 .0 .seats .numbers)
+
+returns-2 : tie.Need-returns-2 Inv-loop μ-loop
+returns-2 c = let z : 0 < at (c .before .before .before .before .before .before .loop .num) 1 = omega arith in (c .before .before .before .before .before .before .loop .inv .0 .tree, (is-clear (c .before .before .before .before .before .before .before .before .before .before .before .before .before .before .pre .0) (c .before .before .before .before .before .before .loop .inv .0) z (c .before .clear-of .ensures (c .if2 .taken)), c .before .before .before .before .before .before .loop .inv .1))
+
+overlap-requires : tie.Need-overlap-requires Inv-loop μ-loop
+overlap-requires c κs = let P = c .before .before .before .before .before .before .before .before .before .before .before .before .before .before .before .pre in let A = c .before .before .before .before .before .before .before .before .before .before .before .before .before .before .before .args in let z : 0 < at (c .before .before .before .before .before .before .before .loop .num) 1 = omega arith in let l = first-in (P .0) (c .before .before .before .before .before .before .before .loop .inv .0) z in (P .1 .1 .0, (P .0 .words, (row-in (A .prices .now) (A .masks .now) (A .w) (at (c .before .before .before .before .before .before .before .loop .who) 1) (P .0) l, (P .1 .0 .size, (c .before .before .before .before .before .before .before .loop .inv .1, P .1 .0 .each (at (c .before .before .before .before .before .before .before .loop .who) 1) l)))))
+
+same-length-7 : tie.Need-same-length-7 Inv-loop μ-loop
+same-length-7 c = c .before .before .before .overlap .ensures .1 .size ∙ sym (c .before .before .before .before .before .before .before .before .before .before .before .before .before .before .before .before .before .before .before .pre .1 .1 .1 .0 .size)
+
+same-length-8 : tie.Need-same-length-8 Inv-loop μ-loop
+same-length-8 c = c .before .before .before .before .before .before .before .before .before .before .before .loop .inv .0 .tree .seats .players ∙ sym (c .before .before .before .before .before .before .before .before .before .before .before .before .before .before .before .before .before .before .before .pre .1 .1 .1 .1 .0 .seats .players)
+
+same-length-9 : tie.Need-same-length-9 Inv-loop μ-loop
+same-length-9 c = c .before .before .before .before .before .before .before .before .before .before .before .loop .inv .0 .tree .seats .numbers ∙ sym (c .before .before .before .before .before .before .before .before .before .before .before .before .before .before .before .before .before .before .before .pre .1 .1 .1 .1 .0 .seats .numbers)
+
+returns-3 : tie.Need-returns-3 Inv-loop μ-loop
+returns-3 c = let z : 0 < at (c .before .before .before .before .before .before .before .before .before .before .before .loop .num) 1 = omega arith in (c .before .before .before .before .before .before .before .before .before .before .before .loop .inv .0 .tree, (is-exact (c .before .before .before .before .before .before .before .before .before .before .before .before .before .before .before .before .before .before .before .pre .0) (c .before .before .before .before .before .before .before .before .before .before .before .loop .inv .0) z (sym (c .if3 .taken) ∙ c .before .before .before .overlap .ensures .0), c .before .before .before .overlap .ensures .1))
+
+update-requires : tie.Need-update-requires Inv-loop μ-loop
+update-requires c κs = let z : 0 < at (c .before .before .before .before .before .before .before .before .before .before .before .before .before .loop .num) 1 = omega arith in let s = c .before .before .before .before .before .before .before .before .before .before .before .before .before .loop .inv .0 in let m = c .before .before .before .before .before .before .before .before .before .before .before .before .before .before .before .before .before .before .before .before .before .pre .0 in (m .priced, (s .tree, (first-in m s z, omega (arith, no-more m s z (c .before .before .before .before .before .overlap .ensures .0), first-small m s))))
+
+loop-less : tie.Need-loop-less Inv-loop μ-loop
+loop-less c = let z : 0 < at (c .before .before .before .before .before .before .before .before .before .before .before .before .before .before .before .before .before .before .loop .num) 1 = omega arith in fewer (c .before .before .before .before .before .before .before .before .before .before .before .before .before .before .before .before .before .before .before .before .before .before .before .before .before .before .pre .0) (c .before .before .before .before .before .before .before .before .before .before .before .before .before .before .before .before .before .before .loop .inv .0) z (c .before .before .before .before .before .before .before .before .before .before .overlap .ensures .0) (c .before .before .before .before .before .before .before .if3 .left) _ (c .before .before .before .before .update .ensures .1)
+
+loop-again : tie.Need-loop-again Inv-loop μ-loop
+loop-again c = let z : 0 < at (c .before .before .before .before .before .before .before .before .before .before .before .before .before .before .before .before .before .before .loop .num) 1 = omega arith in (counted (c .before .before .before .before .before .before .before .before .before .before .before .before .before .before .before .before .before .before .before .before .before .before .before .before .before .before .pre .0) (c .before .before .before .before .before .before .before .before .before .before .before .before .before .before .before .before .before .before .loop .inv .0) z (c .before .before .before .before .before .before .before .before .before .before .overlap .ensures .0) (c .before .before .before .before .before .before .before .if3 .left) (c .before .before .before .before .update .ensures .0) (c .before .before .before .before .update .ensures .1), c .before .before .before .before .before .before .before .before .before .before .overlap .ensures .1)
+
+pub front-spec : {M : Type 1} → statement M
+front-spec =
+    tie.close
+    (tie.spec
+    Inv-loop
+    μ-loop
+    loop-holds
+    slice-read-s
+    same-length
+    same-length-2
+    same-length-3
+    returns
+    slice-read-b
+    mul-p
+    shared-slice-read-p
+    clear-of-requires
+    same-length-4
+    same-length-5
+    same-length-6
+    returns-2
+    overlap-requires
+    same-length-7
+    same-length-8
+    same-length-9
+    returns-3
+    update-requires
+    loop-less
+    loop-again)

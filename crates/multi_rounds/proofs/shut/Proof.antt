@@ -1,0 +1,67 @@
+-- `multi_rounds::shut` meets its contract: the bid's words are a part of all the words. Assumes nothing.
+use mathlib.Core.Path.{sym, _∙_}
+use native.Mathlib.Omega.{arith}
+use Rattle.multi_rounds.proofs.Rows.{part-row, row-length}
+use borrow.Author.Needs.{needs}
+use Rattle.multi_rounds.proofs.shut.Statement.{statement}
+use Rattle.multi_rounds.proofs.shut.Tie as tie
+use Rattle.multi_rounds.proofs.shut.Reads as reads
+use Rattle.multi_rounds.proofs.shut.Lts as lts
+use Rattle.cells.proofs.close_counted.Reads as close-counted-reads
+
+mul-a : tie.Need-mul-a
+mul-a c = search needs
+
+add-e : tie.Need-add-e
+add-e c = search needs
+
+mul-close-counted : tie.Need-mul-close-counted
+mul-close-counted c = search needs
+
+sub-close-counted : tie.Need-sub-close-counted
+sub-close-counted c = search needs
+
+part-close-counted-start : tie.Need-part-close-counted-start
+part-close-counted-start c = search needs
+
+part-close-counted-end : tie.Need-part-close-counted-end
+part-close-counted-end c = search needs
+
+sub-close-counted-2 : tie.Need-sub-close-counted-2
+sub-close-counted-2 c = search needs
+
+part-close-counted-start-2 : tie.Need-part-close-counted-start-2
+part-close-counted-start-2 c = search needs
+
+part-close-counted-end-2 : tie.Need-part-close-counted-end-2
+part-close-counted-end-2 c = search needs
+
+close-counted-requires : tie.Need-close-counted-requires
+close-counted-requires c κs = let P = c .before .before .before .before .before .before .before .before .pre in let A = c .before .before .before .before .before .before .before .before .args in rw (part-row (A .masks .now) (A .w) (A .i), part-row (A .hop .now) (A .w) (A .i)) ((P .0 ∙ sym (row-length (A .masks .now) (A .w) (A .i) (P .1 .1 .0)), (omega arith, (P .1 .1 .1 .1 .0, P .1 .1 .1 .1 .1))))
+
+same-length : tie.Need-same-length
+same-length c = search needs
+
+same-length-2 : tie.Need-same-length-2
+same-length-2 c = search needs
+
+returns : tie.Need-returns
+returns c = let A = c .before .before .before .before .before .before .before .before .before .before .before .before .before .args in rw (← part-row (A .masks .now) (A .w) (A .i)) (c .before .before .before .before .close-counted .ensures)
+
+pub shut-spec : {M : Type 1} → statement M
+shut-spec =
+    tie.close
+    (tie.spec
+    mul-a
+    add-e
+    mul-close-counted
+    sub-close-counted
+    part-close-counted-start
+    part-close-counted-end
+    sub-close-counted-2
+    part-close-counted-start-2
+    part-close-counted-end-2
+    close-counted-requires
+    same-length
+    same-length-2
+    returns)

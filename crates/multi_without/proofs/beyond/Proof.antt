@@ -1,0 +1,72 @@
+-- `multi_without::beyond` meets its contract: the first of the marked bids is taken, and without one the run is over. Assumes nothing.
+use mathlib.Core.Path.{refl}
+use mathlib.Core.Bool.{false}
+use native.Mathlib.Omega.{arith}
+use Rattle.multi_rounds.proofs.Fronting.{not-clear}
+use Rattle.multi_follow.proofs.Strayed.{knows}
+use Rattle.multi_follow.proofs.Following.{inside, takes-last}
+use Rattle.multi_follow.proofs.Stepping.{words, fronted, over-goes}
+use borrow.Author.Needs.{needs}
+use Rattle.multi_without.proofs.beyond.Statement.{statement}
+use Rattle.multi_without.proofs.beyond.Tie as tie
+use Rattle.multi_without.proofs.beyond.Reads as reads
+use Rattle.multi_without.proofs.beyond.Lts as lts
+use Rattle.multi_follow.proofs.other.Reads as other-reads
+use Rattle.multi_rounds.proofs.front.Reads as front-reads
+
+front-requires : tie.Need-front-requires
+front-requires c κs = let P = c .before .before .before .before .before .before .before .before .before .before .before .before .before .before .before .pre in let co = P .0 in let s = P .1 .0 in (co .market, (co .hopping, (words co s, (s .counted, (s .tree, (knows (inside co) (co .market .words) (s .follow .strayed), (omega arith, (omega arith, omega arith))))))))
+
+other-requires : tie.Need-other-requires
+other-requires c κs = let P = c .before .before .before .before .before .before .before .before .before .before .before .before .before .before .before .before .before .before .before .before .before .before .before .before .before .before .before .before .pre in let co = P .0 in let s = P .1 .0 in (co, (fronted co s (c .before .before .before .before .before .before .before .before .before .before .before .before .front .ensures .0) (c .before .before .before .before .before .before .before .before .before .before .before .before .front .ensures .1 .0) (c .before .before .before .before .before .before .before .before .before .before .before .before .front .ensures .1 .1), (P .1 .1 .0, takes-last co (s .follow) (c .before .before .before .before .before .before .before .before .before .before .before .before .front .ensures .1 .0) (not-clear false _ (λ e. c .before .before .before .before .before .before .before .before .before .before .before .before .front .ensures .1 .0 .clear-of e .0) refl) (c .before .before .before .before .before .if1 .taken) (P .1 .1 .1))))
+
+same-length : tie.Need-same-length
+same-length c = search needs
+
+same-length-2 : tie.Need-same-length-2
+same-length-2 c = search needs
+
+same-length-3 : tie.Need-same-length-3
+same-length-3 c = search needs
+
+same-length-4 : tie.Need-same-length-4
+same-length-4 c = search needs
+
+same-length-5 : tie.Need-same-length-5
+same-length-5 c = search needs
+
+returns : tie.Need-returns
+returns c = search needs
+
+same-length-6 : tie.Need-same-length-6
+same-length-6 c = search needs
+
+same-length-7 : tie.Need-same-length-7
+same-length-7 c = search needs
+
+same-length-8 : tie.Need-same-length-8
+same-length-8 c = search needs
+
+same-length-9 : tie.Need-same-length-9
+same-length-9 c = search needs
+
+returns-2 : tie.Need-returns-2
+returns-2 c = let P = c .before .before .before .before .before .before .before .before .before .before .before .before .before .before .before .before .before .before .before .before .before .before .before .pre in let co = P .0 in let s = P .1 .0 in over-goes co s (c .before .before .before .before .before .before .before .front .ensures .0) (c .before .before .before .before .before .before .before .front .ensures .1 .0) (not-clear false _ (λ e. c .before .before .before .before .before .before .before .front .ensures .1 .0 .clear-of e .0) refl) (c .if1 .left) (P .1 .1 .1)
+
+pub beyond-spec : {M : Type 1} → statement M
+beyond-spec =
+    tie.close
+    (tie.spec
+    front-requires
+    other-requires
+    same-length
+    same-length-2
+    same-length-3
+    same-length-4
+    same-length-5
+    returns
+    same-length-6
+    same-length-7
+    same-length-8
+    same-length-9
+    returns-2)

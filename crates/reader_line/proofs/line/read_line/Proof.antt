@@ -1,0 +1,113 @@
+-- `line::read_line` meets its contract: the first word tells which line it is. Assumes nothing.
+use mathlib.Core.Path.{_≡_, sym, ap, _∙_}
+use native.Mathlib.Omega.{arith}
+use borrow.Author.Needs.{needs}
+use lib.ListN.{length}
+use Rattle.tender.specs.Keywords.{tenderWord, bidWord}
+use Rattle.reader_line.specs.Scan.{noted}
+use Rattle.reader_line.proofs.Ends.{next-fits}
+use Rattle.reader_line.proofs.Lines.{noted-none, line-one, line-empty, line-unopened, line-tender, line-bid, line-other}
+use Rattle.reader_line.proofs.line.read_line.Statement.{statement}
+use Rattle.reader_line.proofs.line.read_line.Tie as tie
+
+next-requires : tie.Need-next-requires
+next-requires c κs = search needs
+
+returns : tie.Need-returns
+returns c = let line = c .before .before .before .before .args .line .now in
+    let h : c .before .next .result ≡ length line = omega (arith, next-fits 32 line 0 (omega arith)) in
+    noted-none _ (line-one line (c .before .next .result) (sym (c .before .next .ensures)) h) _ _
+
+returns-2 : tie.Need-returns-2
+returns-2 c = noted-none _ (line-empty (c .before .before .before .before .before .args .line .now) (c .before .before .next .result) (sym (c .before .before .next .ensures)) (c .before .if1 .left) (c .if2 .taken)) _ _
+
+shared-slice-read-if3 : tie.Need-shared-slice-read-if3
+shared-slice-read-if3 c = search needs
+
+returns-3 : tie.Need-returns-3
+returns-3 c = noted-none _ (line-unopened (c .before .before .before .before .before .before .before .args .line .now) (c .before .before .before .before .next .result) (sym (c .before .before .before .before .next .ensures)) (c .before .before .before .if1 .left) (c .before .before .if2 .left) (c .if3 .taken)) _ _
+
+sub-same : tie.Need-sub-same
+sub-same c = search needs
+
+part-same-start : tie.Need-part-same-start
+part-same-start c = search needs
+
+part-same-end : tie.Need-part-same-end
+part-same-end c = search needs
+
+slice-aggregate-same : tie.Need-slice-aggregate-same
+slice-aggregate-same c = search needs
+
+same-requires : tie.Need-same-requires
+same-requires c κs = search needs
+
+add-read-tender : tie.Need-add-read-tender
+add-read-tender c = search needs
+
+read-tender-requires : tie.Need-read-tender-requires
+read-tender-requires c κs = search needs
+
+returns-4 : tie.Need-returns-4
+unfolding tenderWord
+returns-4 c = c .read-tender .ensures _ _ ∙ ap (noted _ _) (sym (line-tender (c .before .before .before .before .before .before .before .before .before .before .before .before .args .line .now) (c .before .before .before .before .before .before .before .before .before .next .result) (sym (c .before .before .before .before .before .before .before .before .before .next .ensures)) (c .before .before .before .before .before .before .before .before .if1 .left) (c .before .before .before .before .before .before .before .if2 .left) (c .before .before .before .before .before .if3 .left) (sym (c .before .before .same .ensures) ∙ c .before .if4 .taken)))
+
+sub-same-2 : tie.Need-sub-same-2
+sub-same-2 c = search needs
+
+part-same-start-2 : tie.Need-part-same-start-2
+part-same-start-2 c = search needs
+
+part-same-end-2 : tie.Need-part-same-end-2
+part-same-end-2 c = search needs
+
+slice-aggregate-same-2 : tie.Need-slice-aggregate-same-2
+slice-aggregate-same-2 c = search needs
+
+same-requires-2 : tie.Need-same-requires-2
+same-requires-2 c κs = search needs
+
+add-read-bid : tie.Need-add-read-bid
+add-read-bid c = search needs
+
+read-bid-requires : tie.Need-read-bid-requires
+read-bid-requires c κs = search needs
+
+same-length : tie.Need-same-length
+same-length c = search needs
+
+returns-5 : tie.Need-returns-5
+unfolding tenderWord bidWord
+returns-5 c = c .before .before .read-bid .ensures ∙ ap (noted _ _) (sym (line-bid (c .before .before .before .before .before .before .before .before .before .before .before .before .before .before .before .before .before .before .before .args .line .now) (c .before .before .before .before .before .before .before .before .before .before .before .before .before .before .before .before .next .result) (sym (c .before .before .before .before .before .before .before .before .before .before .before .before .before .before .before .before .next .ensures)) (c .before .before .before .before .before .before .before .before .before .before .before .before .before .before .before .if1 .left) (c .before .before .before .before .before .before .before .before .before .before .before .before .before .before .if2 .left) (c .before .before .before .before .before .before .before .before .before .before .before .before .if3 .left) (sym (c .before .before .before .before .before .before .before .before .before .same .ensures) ∙ c .before .before .before .before .before .before .before .before .if4 .left) (sym (c .before .before .before .before .before .same2 .ensures) ∙ c .before .before .before .before .if5 .taken)))
+
+returns-6 : tie.Need-returns-6
+unfolding tenderWord bidWord
+returns-6 c = noted-none _ (line-other (c .before .before .before .before .before .before .before .before .before .before .before .before .before .before .before .args .line .now) (c .before .before .before .before .before .before .before .before .before .before .before .before .next .result) (sym (c .before .before .before .before .before .before .before .before .before .before .before .before .next .ensures)) (c .before .before .before .before .before .before .before .before .before .before .before .if1 .left) (c .before .before .before .before .before .before .before .before .before .before .if2 .left) (c .before .before .before .before .before .before .before .before .if3 .left) (sym (c .before .before .before .before .before .same .ensures) ∙ c .before .before .before .before .if4 .left) (sym (c .before .same2 .ensures) ∙ c .if5 .left)) _ _
+
+pub read-line-spec : {M : Type 1} → statement M
+read-line-spec =
+    tie.close
+    (tie.spec
+    next-requires
+    returns
+    returns-2
+    shared-slice-read-if3
+    returns-3
+    sub-same
+    part-same-start
+    part-same-end
+    slice-aggregate-same
+    same-requires
+    add-read-tender
+    read-tender-requires
+    returns-4
+    sub-same-2
+    part-same-start-2
+    part-same-end-2
+    slice-aggregate-same-2
+    same-requires-2
+    add-read-bid
+    read-bid-requires
+    same-length
+    returns-5
+    returns-6)

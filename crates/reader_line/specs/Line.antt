@@ -1,0 +1,78 @@
+-- One line of a bid text, read by itself: the tender's line, a bid's line, or no line of the form.
+use Prim.Native.Nat.{ℕ}
+use mathlib.Core.List.{List, [], _∷_}
+use mathlib.Core.Bool.{cond}
+use mathlib.Core.Option.{Option, none, some}
+use Rattle.tender.specs.declared.Kind.{Kind}
+use Rattle.tender.specs.declared.Kind.the-variants.{Single, Multi}
+use Rattle.tender.specs.declared.Window.{Window}
+use Rattle.tender.specs.declared.Tender.{Tender}
+use Rattle.tender.specs.Keywords.{bidWord, multiWord, singleWord, tenderWord}
+use Rattle.reader_line.specs.Words.{andThen, cut, same, opened, closed, numeralOf, priceOf}
+
+pub record Bid : Type 0 where
+  pub bidder : ℕ
+  pub price : ℕ
+  pub windows : List Window
+
+pub data Line : Type 0 where
+  tender : Tender → Line
+  bid : Bid → Line
+
+unfoldable pub kindOf : List ℕ → Option Kind
+unfolding same singleWord multiWord
+kindOf w = cond (same w singleWord) (some Single) (cond (same w multiWord) (some Multi) none)
+
+-- the words "S" and "E"
+unfoldable pub spanOf : List ℕ → List ℕ → Option Window
+unfolding andThen numeralOf
+spanOf s e = andThen (numeralOf s) (λ a. andThen (numeralOf e) (λ z. some (record { start = a; end = z })))
+
+-- the words "(S" and "E)"
+unfoldable pub windowOf : List ℕ → List ℕ → Option Window
+unfolding andThen opened closed spanOf
+windowOf s e = andThen (opened s) (λ a. andThen (closed e) (λ z. spanOf a z))
+
+-- one or more windows; the bracket that closes the line stands after the last
+unfoldable pub windowsIn : List (List ℕ) → Option (List Window)
+unfolding andThen closed windowOf
+windowsIn [] = none
+windowsIn (s ∷ []) = none
+windowsIn (s ∷ e ∷ []) = andThen (closed e) (λ z. andThen (windowOf s z) (λ w. some (w ∷ [])))
+windowsIn (s ∷ e ∷ x ∷ ws) = andThen (windowOf s e) (λ w. andThen (windowsIn (x ∷ ws)) (λ r. some (w ∷ r)))
+
+-- after "(tender": kind, start, end and a closing bracket
+unfoldable pub tenderOf : List (List ℕ) → Option Line
+unfolding andThen kindOf closed spanOf
+tenderOf [] = none
+tenderOf (k ∷ []) = none
+tenderOf (k ∷ s ∷ []) = none
+tenderOf (k ∷ s ∷ e ∷ []) =
+    andThen (kindOf k) (λ y. andThen (closed e) (λ z. andThen (spanOf s z) (λ w. some (tender (record { kind = y; window = w })))))
+tenderOf (k ∷ s ∷ e ∷ x ∷ ws) = none
+
+-- after "(bid": bidder, price and the windows
+unfoldable pub bidOf : List (List ℕ) → Option Line
+unfolding andThen numeralOf priceOf windowsIn
+bidOf [] = none
+bidOf (n ∷ []) = none
+bidOf (n ∷ p ∷ ws) =
+    andThen (numeralOf n) (λ y. andThen (priceOf p) (λ v. andThen (windowsIn ws) (λ l. some (bid (record { bidder = y; price = v; windows = l })))))
+
+unfoldable pub lineOfWords : List (List ℕ) → Option Line
+unfolding same tenderWord bidWord tenderOf bidOf
+lineOfWords [] = none
+lineOfWords (w ∷ ws) = cond (same w (40 ∷ tenderWord)) (tenderOf ws) (cond (same w (40 ∷ bidWord)) (bidOf ws) none)
+
+-- the line with these bytes, the byte 10 left out; one space stands between two words, and none elsewhere
+unfoldable pub lineOf : List ℕ → Option Line
+unfolding cut lineOfWords
+lineOf line = lineOfWords (cut 32 line)
+
+-- the lines of the pieces between bytes 10; a last piece, which no byte 10 ends, is none
+unfoldable pub linesOf : List (List ℕ) → List (Option Line)
+unfolding lineOf
+linesOf [] = []
+linesOf ([] ∷ []) = []
+linesOf ((b ∷ p) ∷ []) = none ∷ []
+linesOf (p ∷ q ∷ ps) = lineOf p ∷ linesOf (q ∷ ps)

@@ -1,0 +1,58 @@
+-- What a reader that walks the bytes of a line holds: places, and of a bid's windows their number, whether all are lawful,
+-- and the table with each of them in its row.
+use Prim.Native.Nat.{ℕ, suc, _+_, _-_, _*_, _/_}
+use mathlib.Core.List.{List, [], _∷_}
+use mathlib.Core.Bool.{Bool, true, cond, _&&_}
+use mathlib.Core.Option.{Option, none, some}
+use lib.ListN.{length, take, drop, set}
+use lib.Dec.{ltb, eqb}
+use Rattle.tender.specs.declared.Window.{Window}
+use Rattle.tender.specs.declared.Tender.{Tender}
+use Rattle.tender.specs.Limits.{allLawful}
+use Rattle.reader_line.specs.Line.{Line, tender, bid}
+
+-- how many bytes stand before the first d
+unfoldable pub toNext : ℕ → List ℕ → ℕ
+toNext d [] = 0
+toNext d (b ∷ s) = let more = suc (toNext d s) in cond (eqb b d) 0 more
+
+-- the bytes of the line from a up to e
+abbrev pub part : List ℕ → ℕ → ℕ → List ℕ
+part line a e = take (e - a) (drop a line)
+
+-- the window in row m, where the table has that row
+unfoldable pub putWindow : List ℕ → ℕ → Window → List ℕ
+putWindow cells m w = cond (ltb m (length cells / 2)) (set (set cells (2 * m) (w .start)) (2 * m + 1) (w .end)) cells
+
+-- the windows in the rows from m on
+unfoldable pub putWindows : List ℕ → ℕ → List Window → List ℕ
+unfolding putWindow
+putWindows cells m [] = cells
+putWindows cells m (w ∷ ws) = putWindows (putWindow cells m w) (m + 1) ws
+
+pub record Tally : Type 0 where
+  pub count : ℕ
+  pub sound : Bool
+  pub cells : List ℕ
+
+-- the windows ws after n others, all lawful or not, whose rows begin at m
+unfoldable pub tally : ℕ → ℕ → Bool → List ℕ → List Window → Tally
+unfolding allLawful putWindows
+tally m n ok cells ws = record { count = n + length ws; sound = ok && allLawful ws; cells = putWindows cells (m + n) ws }
+
+-- none where the form is broken
+unfoldable pub tallied : ℕ → ℕ → Bool → List ℕ → Option (List Window) → Option Tally
+unfolding tally
+tallied m n ok cells none = none
+tallied m n ok cells (some ws) = some (tally m n ok cells ws)
+
+-- a line as it is noted: a bid's windows are in the table, from row m on
+pub data Note : Type 0 where
+  tenderNote : Tender → Note
+  bidNote : ℕ → ℕ → Tally → Note
+
+unfoldable pub noted : ℕ → List ℕ → Option Line → Option Note
+unfolding tally
+noted m cells none = none
+noted m cells (some (tender t)) = some (tenderNote t)
+noted m cells (some (bid b)) = some (bidNote (b .bidder) (b .price) (tally m 0 true cells (b .windows)))

@@ -1,0 +1,249 @@
+// One line of a bid text, read into a value before it is judged.
+ghost use mathlib.Core.Path.{_≡_};
+ghost use mathlib.Core.Bool.{true, _&&_};
+ghost use mathlib.Core.List.{List};
+ghost use Prim.Native.Nat.{ℕ, _≤_};
+ghost use lib.ListN.{drop, length};
+ghost use Rattle.tender.specs.Limits.{lawful};
+ghost use Rattle.reader_line.specs.Words.{cut};
+ghost use Rattle.reader_line.specs.Line.{kindOf, spanOf, windowOf, windowsIn, tenderOf, bidOf, lineOf};
+ghost use Rattle.reader_line.specs.Scan.{putWindow, tallied, noted};
+ghost use Rattle.reader_line.specs.Answer.{asKind, asSpan, lastOf, toldTally, toldLine};
+use crate::words::Number;
+use crate::words::next;
+use crate::words::read_number;
+use crate::words::read_price;
+use crate::words::same;
+use tender::Kind;
+use tender::Tender;
+use tender::Window;
+
+pub(crate) enum Span {
+    Of(u64, u64),
+    Wrong,
+}
+
+// The numbers that the words s and e spell.
+fn read_span(s: &[u8], e: &[u8]) -> Span
+    ensures { λ r. ⌜ r ≡ asSpan (spanOf (now (s .entry)) (now (e .entry))) ⌝ }
+{
+    let Number::Value(a) = read_number(s) else {
+        return Span::Wrong;
+    };
+    let Number::Value(z) = read_number(e) else {
+        return Span::Wrong;
+    };
+    Span::Of(a, z)
+}
+
+// The window that the words "(S" and "E)" spell.
+fn read_window(s: &[u8], e: &[u8]) -> Span
+    ensures { λ r. ⌜ r ≡ asSpan (windowOf (now (s .entry)) (now (e .entry))) ⌝ }
+{
+    let n = s.len();
+    if n == 0 {
+        return Span::Wrong;
+    }
+    if s[0] != b'(' {
+        return Span::Wrong;
+    }
+    let m = e.len();
+    if m == 0 {
+        return Span::Wrong;
+    }
+    if e[m - 1] != b')' {
+        return Span::Wrong;
+    }
+    read_span(&s[1..n], &e[0..m - 1])
+}
+
+// The window that the words "(S" and "E))" spell.
+fn read_last(s: &[u8], e: &[u8]) -> Span
+    ensures { λ r. ⌜ r ≡ asSpan (lastOf (now (s .entry)) (now (e .entry))) ⌝ }
+{
+    let m = e.len();
+    if m == 0 {
+        return Span::Wrong;
+    }
+    if e[m - 1] != b')' {
+        return Span::Wrong;
+    }
+    read_window(s, &e[0..m - 1])
+}
+
+// Whether all windows are lawful, with one more.
+pub fn keeps(ok: bool, a: u64, z: u64) -> bool
+    ensures { λ r. ⌜ r ≡ (ok && lawful (record { start = a; end = z })) ⌝ }
+{
+    if ok {
+        if a < z { z <= tender::WEEK } else { false }
+    } else {
+        false
+    }
+}
+
+// The window in row m, where the table has that row.
+fn put_window(windows: &mut [u64], m: usize, a: u64, z: u64)
+    ensures { λ r. ⌜ now (windows .exit) ≡ putWindow (now (windows .entry)) m (record { start = a; end = z }) ⌝ }
+{
+    if m < windows.len() / tender::WINDOW_CELLS {
+        let at = tender::WINDOW_CELLS * m;
+        windows[at] = a;
+        windows[at + 1] = z;
+    }
+}
+
+pub(crate) enum Tally {
+    Windows(usize, bool),
+    Broken,
+}
+
+// The windows from `at` to the line's end: how many, and whether all are lawful. They are put into the rows from m on.
+fn read_windows(line: &[u8], at: usize, windows: &mut [u64], m: usize) -> Tally
+    requires { ⌜ m ≤ 32000 ⌝ }
+    ensures { λ r. ⌜ toldTally r (now (windows .exit)) ≡ tallied m 0 true (now (windows .entry)) (windowsIn (cut 32 (drop at (now (line .entry))))) ⌝ }
+{
+    let mut n: usize = 0;
+    let mut ok = true;
+    let mut i = at;
+    while i < line.len() {
+        let e = next(line, i, b' ');
+        if line.len() <= e {
+            return Tally::Broken;
+        }
+        let f = next(line, e + 1, b' ');
+        if f < line.len() {
+            match read_window(&line[i..e], &line[e + 1..f]) {
+                Span::Of(a, z) => {
+                    put_window(windows, m + n, a, z);
+                    ok = keeps(ok, a, z);
+                    n += 1;
+                    i = f + 1;
+                }
+                Span::Wrong => {
+                    return Tally::Broken;
+                }
+            }
+        } else {
+            match read_last(&line[i..e], &line[e + 1..f]) {
+                Span::Of(a, z) => {
+                    put_window(windows, m + n, a, z);
+                    return Tally::Windows(n + 1, keeps(ok, a, z));
+                }
+                Span::Wrong => {
+                    return Tally::Broken;
+                }
+            }
+        }
+    }
+    Tally::Broken
+}
+
+pub(crate) enum KindWord {
+    Of(Kind),
+    Wrong,
+}
+
+// The kind that the word spells.
+fn read_kind(w: &[u8]) -> KindWord
+    ensures { λ r. ⌜ r ≡ asKind (kindOf (now (w .entry))) ⌝ }
+{
+    if same(w, &tender::SINGLE) {
+        return KindWord::Of(Kind::Single);
+    }
+    if same(w, &tender::MULTI) {
+        return KindWord::Of(Kind::Multi);
+    }
+    KindWord::Wrong
+}
+
+// A line as it stands, with what is judged of a bid: bidder, price, how many windows, and whether all are lawful.
+pub enum Line {
+    Tender(Tender),
+    Bid(u64, u64, usize, bool),
+    Broken,
+}
+
+// The tender's line from the word after "(tender" on: kind, start, end and a closing bracket.
+fn read_tender(line: &[u8], at: usize) -> Line
+    requires { ⌜ at ≤ length (now line) ⌝ }
+    ensures { λ r. ⌜ ((m : ℕ) (cells : List ℕ) → toldLine r cells ≡ noted m cells (tenderOf (cut 32 (drop at (now (line .entry)))))) ⌝ }
+{
+    let k = next(line, at, b' ');
+    if line.len() <= k {
+        return Line::Broken;
+    }
+    let s = next(line, k + 1, b' ');
+    if line.len() <= s {
+        return Line::Broken;
+    }
+    let e = next(line, s + 1, b' ');
+    if e < line.len() {
+        return Line::Broken;
+    }
+    if e <= s + 1 {
+        return Line::Broken;
+    }
+    if line[e - 1] != b')' {
+        return Line::Broken;
+    }
+    let KindWord::Of(kind) = read_kind(&line[at..k]) else {
+        return Line::Broken;
+    };
+    let Span::Of(start, end) = read_span(&line[k + 1..s], &line[s + 1..e - 1]) else {
+        return Line::Broken;
+    };
+    Line::Tender(Tender {
+        kind,
+        window: Window { start, end },
+    })
+}
+
+// A bid's line from the word after "(bid" on: bidder, price and the windows, which are put into the rows from m on.
+fn read_bid(line: &[u8], at: usize, windows: &mut [u64], m: usize) -> Line
+    requires { ⌜ (at ≤ length (now line)) × (m ≤ 32000) ⌝ }
+    ensures { λ r. ⌜ toldLine r (now (windows .exit)) ≡ noted m (now (windows .entry)) (bidOf (cut 32 (drop at (now (line .entry))))) ⌝ }
+{
+    let n = next(line, at, b' ');
+    if line.len() <= n {
+        return Line::Broken;
+    }
+    let p = next(line, n + 1, b' ');
+    if line.len() <= p {
+        return Line::Broken;
+    }
+    let Number::Value(bidder) = read_number(&line[at..n]) else {
+        return Line::Broken;
+    };
+    let Number::Value(price) = read_price(&line[n + 1..p]) else {
+        return Line::Broken;
+    };
+    match read_windows(line, p + 1, windows, m) {
+        Tally::Windows(count, ok) => Line::Bid(bidder, price, count, ok),
+        Tally::Broken => Line::Broken,
+    }
+}
+
+// The line with these bytes, the byte 10 left out. A bid's windows are put into the rows from m on.
+pub fn read_line(line: &[u8], windows: &mut [u64], m: usize) -> Line
+    requires { ⌜ m ≤ 32000 ⌝ }
+    ensures { λ r. ⌜ toldLine r (now (windows .exit)) ≡ noted m (now (windows .entry)) (lineOf (now (line .entry))) ⌝ }
+{
+    let e = next(line, 0, b' ');
+    if line.len() <= e {
+        return Line::Broken;
+    }
+    if e == 0 {
+        return Line::Broken;
+    }
+    if line[0] != b'(' {
+        return Line::Broken;
+    }
+    if same(&line[1..e], &tender::TENDER) {
+        return read_tender(line, e + 1);
+    }
+    if same(&line[1..e], &tender::BID) {
+        return read_bid(line, e + 1, windows, m);
+    }
+    Line::Broken
+}

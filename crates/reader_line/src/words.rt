@@ -1,0 +1,135 @@
+// The bytes, words and numbers of a bid text.
+ghost use mathlib.Core.Path.{_≡_};
+ghost use Prim.Native.Nat.{_+_, _≤_, _<_};
+ghost use lib.ListN.{drop, length};
+ghost use Rattle.tender.specs.Limits.{within};
+ghost use Rattle.reader_line.specs.Words.{same as sameWords, digits, numeralOf, priceOf};
+ghost use Rattle.reader_line.specs.Scan.{toNext};
+ghost use Rattle.reader_line.specs.Answer.{asNumber, EndsAt};
+
+pub(crate) fn wide(x: u8) -> u64
+    ensures { λ r. ⌜ r ≡ x ⌝ }
+{
+    x as u64
+}
+
+// The place of the next byte d, or the end.
+pub(crate) fn next(s: &[u8], at: usize, d: u8) -> usize
+    ensures { λ r. ⌜ r ≡ at + toNext d (drop at (now (s .entry))) ⌝ }
+{
+    let mut i = at;
+    while i < s.len() {
+        if s[i] == d {
+            return i;
+        }
+        i += 1;
+    }
+    i
+}
+
+// Whether the byte is a digit. Most bytes of a text are.
+fn digit(b: u8) -> bool
+    ensures { λ r. ⌜ r ≡ within 48 57 b ⌝ }
+{
+    match b {
+        b'0'..=b'9' => true,
+        _ => false,
+    }
+}
+
+pub enum LineEnd {
+    At(usize),
+    Broken,
+}
+
+// The place of the byte 10 that ends the line from `at` on. A byte that no line has breaks the form.
+pub fn line_end(text: &[u8], at: usize) -> LineEnd
+    requires { ⌜ at < length (now text) ⌝ }
+    ensures { λ r. ⌜ EndsAt (now (text .entry)) at r ⌝ }
+{
+    let mut i = at;
+    while i < text.len() {
+        let b = text[i];
+        if digit(b) {
+            i += 1;
+        } else {
+            match b {
+                b'a'..=b'z' => i += 1,
+                b' ' | b'(' | b')' => i += 1,
+                b'\n' => return LineEnd::At(i),
+                _ => return LineEnd::Broken,
+            }
+        }
+    }
+    LineEnd::Broken
+}
+
+// Whether the two words have the same bytes.
+pub(crate) fn same(a: &[u8], b: &[u8]) -> bool
+    ensures { λ r. ⌜ r ≡ sameWords (now (a .entry)) (now (b .entry)) ⌝ }
+{
+    if a.len() != b.len() {
+        return false;
+    }
+    let mut i = 0;
+    while i < a.len() {
+        if a[i] != b[i] {
+            return false;
+        }
+        i += 1;
+    }
+    true
+}
+
+pub(crate) enum Number {
+    Value(u64),
+    Bad,
+}
+
+// The number that the whole word spells: 1 to 9 digits and no leading zero, except 0 itself.
+pub(crate) fn read_number(w: &[u8]) -> Number
+    ensures { λ r. ⌜ r ≡ asNumber (numeralOf (now (w .entry))) ⌝ }
+{
+    let n = w.len();
+    if n == 0 {
+        return Number::Bad;
+    }
+    if 9 < n {
+        return Number::Bad;
+    }
+    if 1 < n {
+        if w[0] == b'0' {
+            return Number::Bad;
+        }
+    }
+    value(w)
+}
+
+// The value of the digits, at most nine.
+fn value(w: &[u8]) -> Number
+    requires { ⌜ length (now w) ≤ 9 ⌝ }
+    ensures { λ r. ⌜ r ≡ asNumber (digits 0 (now (w .entry))) ⌝ }
+{
+    let mut v: u64 = 0;
+    let mut i: usize = 0;
+    while i < w.len() {
+        let b = w[i];
+        match b {
+            b'0'..=b'9' => {
+                v = v * 10 + wide(b - b'0');
+                i += 1;
+            }
+            _ => {
+                return Number::Bad;
+            }
+        }
+    }
+    Number::Value(v)
+}
+
+// The price that the whole word spells, in cents.
+pub(crate) fn read_price(w: &[u8]) -> Number
+    ensures { λ r. ⌜ r ≡ asNumber (priceOf (now (w .entry))) ⌝ }
+{
+    read_number(w)
+}

@@ -1,0 +1,22 @@
+-- `single_costs::steps::lead_at` meets its contract: the lead lasts, or is renewed. Assumes nothing.
+use mathlib.Core.Path.{refl}
+use Rattle.single_costs.specs.Run.{same, anew}
+use native.Mathlib.Omega.{arith}
+use borrow.Author.Needs.{needs}
+use Rattle.single_costs.proofs.steps.lead_at.Statement.{statement}
+use Rattle.single_costs.proofs.steps.lead_at.Tie as tie
+
+returns : tie.Need-returns
+returns c = same (c .if1 .taken) refl refl refl refl
+
+renew-requires : tie.Need-renew-requires
+renew-requires c κs = (omega arith, (c .before .before .before .before .before .before .before .pre .1 .0, c .before .before .before .before .before .before .before .pre .1 .1))
+
+same-length : tie.Need-same-length
+same-length c = search needs
+
+returns-2 : tie.Need-returns-2
+returns-2 c = anew (c .before .before .before .before .if1 .left) (c .before .before .renew .ensures)
+
+pub lead-at-spec : {M : Type 1} → statement M
+lead-at-spec = tie.close (tie.spec returns renew-requires same-length returns-2)

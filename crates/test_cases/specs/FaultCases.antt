@@ -1,0 +1,77 @@
+-- Tables that are refused with 9 or 10, by computation. Assumes nothing.
+use mathlib.Core.Path.{_≡_, refl}
+use mathlib.Core.List.{List, [], _∷_, _++_}
+use mathlib.Core.Bool.{Bool, true, _&&_}
+use Prim.Native.Nat.{ℕ, zero, suc, _+_}
+use mathlib.Core.Option.{some}
+use lib.Dec.{eqb}
+use Rattle.tender.specs.declared.Kind.{Kind}
+use Rattle.tender.specs.declared.Kind.the-variants.{Single, Multi}
+use Rattle.award_check.specs.Faults.{faultOf}
+use Rattle.award_plain.specs.Award.{Outcome, awardOf, number, place}
+
+unfoldable pub refuses : ℕ → ℕ → Outcome → Bool
+unfolding number place
+refuses m p a = eqb (number a) m && eqb (place a) p
+
+-- an award of the kind k to a tender of the kind l from s to e, n bids stated and n award rows lent
+unfoldable pub try : Kind → Kind → ℕ → ℕ → ℕ → List ℕ → List ℕ → Outcome
+unfolding awardOf
+try k l s e n bids windows = awardOf k (record { kind = l; window = record { start = s; end = e } }) n bids windows n
+
+unfoldable pub row : ℕ → ℕ → ℕ → ℕ → List ℕ
+row b p f c = b ∷ p ∷ f ∷ c ∷ []
+
+unfoldable pub all : List Bool → Bool
+all [] = true
+all (b ∷ bs) = b && all bs
+
+pub nine : all (
+    -- the tender, the kind, the stated count
+    refuses 9 0 (try Single Multi 0 10 0 [] []) ∷ refuses 9 0 (try Multi Single 0 10 0 [] [])
+    ∷ refuses 9 0 (try Single Single 10 10 0 [] []) ∷ refuses 9 0 (try Single Single 0 10081 0 [] [])
+    ∷ refuses 9 0 (try Single Single 0 10 1 [] []) ∷ refuses 9 0 (try Single Single 0 10 2 (row 1 5 0 1 ++ 2 ∷ 5 ∷ 1 ∷ []) (0 ∷ 10 ∷ 0 ∷ 10 ∷ []))
+    -- the tender stands before a row
+    ∷ refuses 9 0 (try Single Single 10 10 1 (row 0 5 0 1) (0 ∷ 10 ∷ []))
+    -- limits
+    ∷ refuses 9 1 (try Single Single 0 10 1 (row 0 5 0 1) (0 ∷ 10 ∷ [])) ∷ refuses 9 1 (try Single Single 0 10 1 (row 1000000 5 0 1) (0 ∷ 10 ∷ []))
+    ∷ refuses 9 1 (try Single Single 0 10 1 (row 1 100000001 0 1) (0 ∷ 10 ∷ []))
+    ∷ refuses 9 1 (try Single Single 0 10 1 (row 1 5 0 1) (10 ∷ 10 ∷ [])) ∷ refuses 9 1 (try Single Single 0 10 1 (row 1 5 0 1) (0 ∷ 10081 ∷ []))
+    -- number of windows
+    ∷ refuses 9 1 (try Single Single 0 10 1 (row 1 5 0 0) []) ∷ refuses 9 1 (try Single Single 0 10 1 (row 1 5 0 2) (0 ∷ 5 ∷ 5 ∷ 10 ∷ []))
+    -- bidder number new, windows where the row before ended, inside the lent rows
+    ∷ refuses 9 2 (try Multi Multi 0 10 2 (row 1 5 0 1 ++ row 1 6 1 1) (0 ∷ 10 ∷ 0 ∷ 10 ∷ []))
+    ∷ refuses 9 2 (try Multi Multi 0 10 2 (row 1 5 0 1 ++ row 2 6 0 1) (0 ∷ 10 ∷ 0 ∷ 10 ∷ [])) ∷ refuses 9 1 (try Multi Multi 0 10 1 (row 1 5 1 1) (0 ∷ 10 ∷ 0 ∷ 10 ∷ []))
+    ∷ refuses 9 2 (try Multi Multi 0 10 2 (row 1 5 0 1 ++ row 2 6 1 1) (0 ∷ 10 ∷ 0 ∷ []))
+    -- rows past the stated count, and cells past the last whole row, say nothing
+    ∷ refuses 12 0 (try Multi Multi 0 10 1 (row 1 5 0 1 ++ row 0 0 0 0 ++ 7 ∷ []) (0 ∷ 10 ∷ 5 ∷ 5 ∷ 3 ∷ []))
+    ∷ []) ≡ true
+unfolding all refuses try row
+nine = refl
+
+unfoldable pub shortRows : Outcome
+unfolding awardOf row
+shortRows = awardOf Single (record { kind = Single; window = record { start = 0; end = 10 } }) 1 (row 1 5 0 1) (0 ∷ 5 ∷ []) 0
+
+-- 10 after 9 and before 11
+pub ten : refuses 10 0 shortRows ≡ true
+unfolding refuses shortRows
+ten = refl
+
+-- n bids on (0 10), the first by bidder b + 1
+unfoldable pub many : ℕ → ℕ → List ℕ
+many zero b = []
+many (suc n) b = (b + 1) ∷ 1 ∷ b ∷ 1 ∷ many n (b + 1)
+
+unfoldable pub same : ℕ → List ℕ
+same zero = []
+same (suc n) = 0 ∷ 10 ∷ same n
+
+-- too many bids; a faulty row before stands
+pub too-many : faultOf Multi (record { kind = Multi; window = record { start = 0; end = 10 } }) 1001 (many 1001 0) (same 1001) ≡ some 1001
+unfolding faultOf many same
+too-many = refl
+
+pub row-first : faultOf Multi (record { kind = Multi; window = record { start = 0; end = 10 } }) 1001 (many 3 0 ++ many 998 5) (same 1001) ≡ some 4
+unfolding faultOf many same
+row-first = refl

@@ -1,0 +1,78 @@
+-- The loop is bounded, so every place and shift is in range. Assumes nothing.
+use Prim.Native.Nat.{_≤_, _-_}
+use borrow.Author.Needs.{needs}
+use Rattle.test_trials.proofs.compare.awards.Statement.{statement}
+use Rattle.test_trials.proofs.compare.awards.Tie as tie
+use Rattle.test_trials.proofs.compare.awards.Reads as reads
+use Rattle.test_trials.proofs.compare.awards.Lts as lts
+use Rattle.test_trials.proofs.compare.counted.Reads as counted-reads
+use Rattle.test_trials.proofs.compare.try_award.Reads as try-award-reads
+use Rattle.test_trials.proofs.random.draw.Reads as draw-reads
+
+abbrev Inv-loop : tie.InvT-loop
+Inv-loop n t₀ state₀ i₀ t state i = (i ≤ n)
+
+abbrev μ-loop : tie.MeasureT-loop
+μ-loop n t₀ state₀ i₀ t state i = n - i
+
+-- src/compare.rt:238:5
+loop-holds : tie.Need-loop-holds Inv-loop μ-loop
+loop-holds c = search needs
+
+-- src/compare.rt:239:13
+draw-requires : tie.Need-draw-requires Inv-loop μ-loop
+draw-requires c κs = search needs
+
+-- src/compare.rt:240:31
+try-award-requires : tie.Need-try-award-requires Inv-loop μ-loop
+try-award-requires c κs = search needs
+
+-- src/compare.rt:240:9
+counted-requires : tie.Need-counted-requires Inv-loop μ-loop
+counted-requires c κs = search needs
+
+-- src/compare.rt:241:13
+draw-requires-2 : tie.Need-draw-requires-2 Inv-loop μ-loop
+draw-requires-2 c κs = search needs
+
+-- src/compare.rt:242:30
+try-award-requires-2 : tie.Need-try-award-requires-2 Inv-loop μ-loop
+try-award-requires-2 c κs = search needs
+
+-- src/compare.rt:242:9
+counted-requires-2 : tie.Need-counted-requires-2 Inv-loop μ-loop
+counted-requires-2 c κs = search needs
+
+-- src/compare.rt:244:9
+add-i : tie.Need-add-i Inv-loop μ-loop
+add-i c = search needs
+
+-- src/compare.rt:238:5
+loop-less : tie.Need-loop-less Inv-loop μ-loop
+loop-less c = search needs
+
+-- src/compare.rt:238:5
+loop-again : tie.Need-loop-again Inv-loop μ-loop
+loop-again c = search needs
+
+-- src/compare.rt:228:1
+returns : tie.Need-returns Inv-loop μ-loop
+returns c = search needs
+
+pub awards-spec : {M : Type 1} → statement M
+awards-spec =
+    tie.close
+    (tie.spec
+    Inv-loop
+    μ-loop
+    loop-holds
+    draw-requires
+    try-award-requires
+    counted-requires
+    draw-requires-2
+    try-award-requires-2
+    counted-requires-2
+    add-i
+    loop-less
+    loop-again
+    returns)

@@ -1,0 +1,57 @@
+-- The loop is bounded, so every place and shift is in range. Assumes nothing.
+use Prim.Native.Nat.{_≤_, _-_}
+use lib.ListN.{length}
+use borrow.Author.Needs.{needs}
+use Rattle.test_trials.proofs.random.bits.Statement.{statement}
+use Rattle.test_trials.proofs.random.bits.Tie as tie
+use Rattle.test_trials.proofs.random.bits.Reads as reads
+use Rattle.test_trials.proofs.random.bits.Lts as lts
+use Rattle.std.proofs.num.wrapping_add_u64.Reads as wrapping-add-u64-reads
+
+abbrev Inv-loop : tie.InvT-loop
+Inv-loop s e start length m₀ x₀ m x = (x ≤ 16)
+
+abbrev μ-loop : tie.MeasureT-loop
+μ-loop s e start length m₀ x₀ m x = 16 - x
+
+-- src/random.rt:34:5
+loop-holds : tie.Need-loop-holds Inv-loop μ-loop
+loop-holds c = search needs
+
+-- src/random.rt:35:13
+wrapping-add-u64-requires : tie.Need-wrapping-add-u64-requires Inv-loop μ-loop
+wrapping-add-u64-requires c κs = search needs
+
+-- src/random.rt:37:22
+shl-m : tie.Need-shl-m Inv-loop μ-loop
+shl-m c = search needs
+
+-- src/random.rt:39:9
+add-x : tie.Need-add-x Inv-loop μ-loop
+add-x c = search needs
+
+-- src/random.rt:34:5
+loop-less : tie.Need-loop-less Inv-loop μ-loop
+loop-less c = search needs
+
+-- src/random.rt:34:5
+loop-again : tie.Need-loop-again Inv-loop μ-loop
+loop-again c = search needs
+
+-- src/random.rt:31:1
+returns : tie.Need-returns Inv-loop μ-loop
+returns c = search needs
+
+pub bits-spec : {M : Type 1} → statement M
+bits-spec =
+    tie.close
+    (tie.spec
+    Inv-loop
+    μ-loop
+    loop-holds
+    wrapping-add-u64-requires
+    shl-m
+    add-x
+    loop-less
+    loop-again
+    returns)
