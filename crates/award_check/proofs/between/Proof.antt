@@ -6,12 +6,10 @@ use Rattle.award_check.proofs.between.Tie as tie
 use Rattle.award_check.proofs.between.Reads as reads
 use Rattle.award_check.proofs.between.Lts as lts
 
--- src/lib.rt:69:1
 returns : tie.Need-returns
 unfolding within
 returns c = rw (le-leb _ _ (c .if1 .taken))
 
--- src/lib.rt:69:1
 returns-2 : tie.Need-returns-2
 unfolding within
 returns-2 c = rw (lt-leb _ _ (c .if1 .left))

@@ -11,37 +11,35 @@ use Rattle.award_check.proofs.row_fault.Reads as row-fault-reads
 use Rattle.award_check.proofs.same_kind.Reads as same-kind-reads
 use Rattle.award_check.proofs.window_lawful.Reads as window-lawful-reads
 
--- src/lib.rt:133:9
 same-kind-requires : tie.Need-same-kind-requires
 same-kind-requires c κs = search needs
 
--- src/lib.rt:134:9
 returns : tie.Need-returns
 unfolding faultOf lawful
 returns c = rw (← c .before .same-kind .ensures, not-true (c .before .same-kind .result) (c .if1 .taken))
 
--- src/lib.rt:136:9
 window-lawful-requires : tie.Need-window-lawful-requires
 window-lawful-requires c κs = search needs
 
--- src/lib.rt:137:9
 returns-2 : tie.Need-returns-2
 unfolding faultOf lawful
 returns-2 c = rw (← c .before .before .before .same-kind .ensures, not-false (c .before .before .before .same-kind .result) (c .before .before .if1 .left), ← c .before .window-lawful .ensures, not-true (c .before .window-lawful .result) (c .if2 .taken))
 
--- src/lib.rt:140:9
 returns-3 : tie.Need-returns-3
 unfolding faultOf lawful
-returns-3 c = rw (← c .before .before .before .before .same-kind .ensures, not-false (c .before .before .before .before .same-kind .result) (c .before .before .before .if1 .left), ← c .before .before .window-lawful .ensures, not-false (c .before .before .window-lawful .result) (c .before .if2 .left), lt-leb _ _ (c .if3 .taken))
+returns-3 c =
+    let c4 = c .before .before .before .before in
+    rw (← c4 .same-kind .ensures, not-false (c4 .same-kind .result) (c .before .before .before .if1 .left), ← c .before .before .window-lawful .ensures, not-false (c .before .before .window-lawful .result) (c .before .if2 .left), lt-leb _ _ (c .if3 .taken))
 
--- src/lib.rt:142:5
 row-fault-requires : tie.Need-row-fault-requires
 row-fault-requires c κs = search needs
 
--- src/lib.rt:128:1
 returns-4 : tie.Need-returns-4
 unfolding faultOf lawful
-returns-4 c = rw (← c .before .before .before .before .before .same-kind .ensures, not-false (c .before .before .before .before .before .same-kind .result) (c .before .before .before .before .if1 .left), ← c .before .before .before .window-lawful .ensures, not-false (c .before .before .before .window-lawful .result) (c .before .before .if2 .left), le-leb _ _ (c .before .if3 .left)) (c .row-fault .ensures)
+returns-4 c =
+    let c4 = c .before .before .before .before in
+    let c5 = c4 .before in
+    rw (← c5 .same-kind .ensures, not-false (c5 .same-kind .result) (c4 .if1 .left), ← c .before .before .before .window-lawful .ensures, not-false (c .before .before .before .window-lawful .result) (c .before .before .if2 .left), le-leb _ _ (c .before .if3 .left)) (c .row-fault .ensures)
 
 pub fault-spec : {M : Type 1} → statement M
 fault-spec =

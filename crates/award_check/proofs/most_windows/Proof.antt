@@ -6,20 +6,16 @@ use Rattle.award_check.proofs.most_windows.Tie as tie
 use Rattle.award_check.proofs.most_windows.Reads as reads
 use Rattle.award_check.proofs.most_windows.Lts as lts
 
--- src/lib.rt:41:25
 enum-told : tie.Need-enum-told
 enum-told c = search needs
 
--- src/lib.rt:42:24
 enum-told-2 : tie.Need-enum-told-2
 enum-told-2 c = search needs
 
--- src/lib.rt:37:1
 returns : tie.Need-returns
 unfolding mostWindows
 returns c = search needs
 
--- src/lib.rt:37:1
 returns-2 : tie.Need-returns-2
 unfolding mostWindows
 returns-2 c = search needs

@@ -5,11 +5,9 @@ use Rattle.award_check.proofs.window_lawful.Tie as tie
 use Rattle.award_check.proofs.window_lawful.Reads as reads
 use Rattle.award_check.proofs.window_lawful.Lts as lts
 
--- src/lib.rt:46:1
 returns : tie.Need-returns
 returns c = rw (lt-ltb _ _ (c .if1 .taken))
 
--- src/lib.rt:46:1
 returns-2 : tie.Need-returns-2
 returns-2 c = rw (le-ltb _ _ (c .if1 .left))
 

@@ -20,77 +20,78 @@ Inv-loop start cells windows first count words₀ j₀ words j = (length words �
 abbrev μ-loop : tie.MeasureT-loop
 μ-loop start cells windows first count words₀ j₀ words j = count - j
 
--- src/lib.rt:60:5
 loop-holds : tie.Need-loop-holds Inv-loop μ-loop
-loop-holds c = (refl, (ahead-start (c .before .before .args .windows .now) (c .before .before .args .first) (c .before .before .args .count) ∙ c .before .before .pre .1 .0, masking-starts (c .before .before .args .start) (c .before .before .args .cells) (c .before .before .args .windows .now) (c .before .before .args .first) (c .before .before .args .count) (c .before .before .args .words .now) (c .before .before .pre .1 .1 .1 .1)))
+loop-holds c =
+    let args = c .before .before .args in
+    let pre = c .before .before .pre in
+    (refl, (ahead-start (args .windows .now) (args .first) (args .count) ∙ pre .1 .0, masking-starts (args .start) (args .cells) (args .windows .now) (args .first) (args .count) (args .words .now) (pre .1 .1 .1 .1)))
 
--- src/lib.rt:61:49
 add-clip : tie.Need-add-clip Inv-loop μ-loop
 add-clip c = omega arith
 
--- src/lib.rt:61:44
 mul-clip : tie.Need-mul-clip Inv-loop μ-loop
 mul-clip c = omega arith
 
--- src/lib.rt:61:36
 mul-clip-2 : tie.Need-mul-clip-2 Inv-loop μ-loop
 mul-clip-2 c = omega arith
 
--- src/lib.rt:61:36
 shared-slice-read-clip : tie.Need-shared-slice-read-clip Inv-loop μ-loop
 shared-slice-read-clip c = omega arith
 
--- src/lib.rt:61:13
 clip-requires : tie.Need-clip-requires Inv-loop μ-loop
 clip-requires c κs = omega arith
 
--- src/lib.rt:62:49
 add-clip-2 : tie.Need-add-clip-2 Inv-loop μ-loop
 add-clip-2 c = omega arith
 
--- src/lib.rt:62:44
 mul-clip-3 : tie.Need-mul-clip-3 Inv-loop μ-loop
 mul-clip-3 c = omega arith
 
--- src/lib.rt:62:44
 add-clip-3 : tie.Need-add-clip-3 Inv-loop μ-loop
 add-clip-3 c = omega arith
 
--- src/lib.rt:62:36
 mul-clip-4 : tie.Need-mul-clip-4 Inv-loop μ-loop
 mul-clip-4 c = omega arith
 
--- src/lib.rt:62:36
 shared-slice-read-clip-2 : tie.Need-shared-slice-read-clip-2 Inv-loop μ-loop
 shared-slice-read-clip-2 c = omega arith
 
--- src/lib.rt:62:13
 clip-requires-2 : tie.Need-clip-requires-2 Inv-loop μ-loop
 clip-requires-2 c κs = omega arith
 
--- src/lib.rt:63:9
 add-range-requires : tie.Need-add-range-requires Inv-loop μ-loop
-add-range-requires c κs = let h = here-lawful (c .before .before .before .before .before .before .before .before .before .args .windows .now) (c .before .before .before .before .before .before .before .before .before .args .first) (c .before .before .before .before .before .before .before .before .before .args .count) (c .before .before .before .before .before .before .loop .j) (c .before .before .before .before .before .loop-test .taken) (c .before .before .before .before .before .before .loop .inv .1 .0) in (omega (arith, c .before .before .before .clip .ensures, c .before .clip2 .ensures, clip-order (c .before .before .before .before .before .before .before .before .before .args .start) (c .before .before .before .before .before .before .before .before .before .args .cells) _ _ (h .0)), (omega (arith, c .before .clip2 .ensures, clip-inside (c .before .before .before .before .before .before .before .before .before .args .start) (c .before .before .before .before .before .before .before .before .before .args .cells) (getD (c .before .before .before .before .before .before .before .before .before .args .windows .now) (2 * (c .before .before .before .before .before .before .before .before .before .args .first + c .before .before .before .before .before .before .loop .j) + 1) 0), c .before .before .before .before .before .before .before .before .before .pre .1 .1 .0, c .before .before .before .before .before .before .loop .inv .0), omega (arith, c .before .before .before .before .before .before .before .before .before .pre .1 .1 .1 .0, c .before .before .before .before .before .before .loop .inv .0)))
+add-range-requires c κs =
+    let c5 = c .before .before .before .before .before in
+    let c6 = c5 .before in
+    let c9 = c6 .before .before .before in
+    let args = c9 .args in
+    let pre = c9 .pre in
+    let h = here-lawful (args .windows .now) (args .first) (args .count) (c6 .loop .j) (c5 .loop-test .taken) (c6 .loop .inv .1 .0) in (omega (arith, c .before .before .before .clip .ensures, c .before .clip2 .ensures, clip-order (args .start) (args .cells) _ _ (h .0)), (omega (arith, c .before .clip2 .ensures, clip-inside (args .start) (args .cells) (getD (args .windows .now) (2 * (args .first + c6 .loop .j) + 1) 0), pre .1 .1 .0, c6 .loop .inv .0), omega (arith, pre .1 .1 .1 .0, c6 .loop .inv .0)))
 
--- src/lib.rt:64:9
 add-j : tie.Need-add-j Inv-loop μ-loop
 add-j c = omega arith
 
--- src/lib.rt:60:5
 loop-less : tie.Need-loop-less Inv-loop μ-loop
 loop-less c = omega arith
 
--- src/lib.rt:60:5
 loop-again : tie.Need-loop-again Inv-loop μ-loop
-loop-again c = let h = here-lawful (c .before .before .before .before .before .before .before .before .before .before .before .before .args .windows .now) (c .before .before .before .before .before .before .before .before .before .before .before .before .args .first) (c .before .before .before .before .before .before .before .before .before .before .before .before .args .count) (c .before .before .before .before .before .before .before .before .before .loop .j) (c .before .before .before .before .before .before .before .before .loop-test .taken) (c .before .before .before .before .before .before .before .before .before .loop .inv .1 .0) in (c .before .before .add-range .kept .0 ∙ c .before .before .before .before .before .before .before .before .before .loop .inv .0, (h .1, masking-more (c .before .before .before .before .before .before .before .before .before .before .before .before .args .start) (c .before .before .before .before .before .before .before .before .before .before .before .before .args .cells) (c .before .before .before .before .before .before .before .before .before .before .before .before .args .windows .now) (c .before .before .before .before .before .before .before .before .before .before .before .before .args .first) (c .before .before .before .before .before .before .before .before .before .before .before .before .args .count) (c .before .before .before .before .before .before .before .before .before .loop .j) (c .before .before .before .before .before .before .before .before .before .loop .words) (c .before .before .add-range .last .0) (c .before .before .before .before .before .before .clip .result) (c .before .before .before .before .clip2 .result) (c .before .before .before .before .before .before .before .before .before .loop .inv .1 .1) (c .before .before .before .before .before .before .before .before .loop-test .taken) (c .before .before .before .before .before .before .clip .ensures) (c .before .before .before .before .clip2 .ensures) (omega (arith, c .before .before .before .before .before .before .clip .ensures, c .before .before .before .before .clip2 .ensures, clip-order (c .before .before .before .before .before .before .before .before .before .before .before .before .args .start) (c .before .before .before .before .before .before .before .before .before .before .before .before .args .cells) _ _ (h .0))) (c .before .before .add-range .ensures)))
+loop-again c =
+    let c4 = c .before .before .before .before in
+    let c6 = c4 .before .before in
+    let c8 = c6 .before .before in
+    let c9 = c8 .before in
+    let c12 = c9 .before .before .before in
+    let args = c12 .args in
+    let h = here-lawful (args .windows .now) (args .first) (args .count) (c9 .loop .j) (c8 .loop-test .taken) (c9 .loop .inv .1 .0) in (c .before .before .add-range .kept .0 ∙ c9 .loop .inv .0, (h .1, masking-more (args .start) (args .cells) (args .windows .now) (args .first) (args .count) (c9 .loop .j) (c9 .loop .words) (c .before .before .add-range .last .0) (c6 .clip .result) (c4 .clip2 .result) (c9 .loop .inv .1 .1) (c8 .loop-test .taken) (c6 .clip .ensures) (c4 .clip2 .ensures) (omega (arith, c6 .clip .ensures, c4 .clip2 .ensures, clip-order (args .start) (args .cells) _ _ (h .0))) (c .before .before .add-range .ensures)))
 
--- src/lib.rt:54:1
 same-length : tie.Need-same-length Inv-loop μ-loop
 same-length c = c .before .loop .inv .0
 
--- src/lib.rt:54:1
 returns : tie.Need-returns Inv-loop μ-loop
-returns c = masking-ends (c .before .before .before .before .args .start) (c .before .before .before .before .args .cells) (c .before .before .before .before .args .windows .now) (c .before .before .before .before .args .first) (c .before .before .before .before .args .count) (c .before .loop .j) (c .before .loop .words) (c .before .loop .inv .1 .1) (c .loop-test .left)
+returns c =
+    let c4 = c .before .before .before .before in
+    let args = c4 .args in
+    masking-ends (args .start) (args .cells) (args .windows .now) (args .first) (args .count) (c .before .loop .j) (c .before .loop .words) (c .before .loop .inv .1 .1) (c .loop-test .left)
 
 pub add-windows-spec : {M : Type 1} → statement M
 add-windows-spec =

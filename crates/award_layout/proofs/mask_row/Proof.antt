@@ -8,19 +8,18 @@ use Rattle.award_layout.proofs.mask_row.Lts as lts
 use Rattle.award_layout.proofs.add_windows.Reads as add-windows-reads
 use Rattle.multi_rounds.proofs.clear.Reads as clear-reads
 
--- src/lib.rt:88:5
 clear-requires : tie.Need-clear-requires
 clear-requires c κs = search needs
 
--- src/lib.rt:89:5
 add-windows-requires : tie.Need-add-windows-requires
-add-windows-requires c κs = (c .before .before .before .before .before .before .before .pre .0, (c .before .before .before .before .before .before .before .pre .1 .0, (omega (arith, c .before .before .before .clear .kept .0), (omega (arith, c .before .before .before .clear .kept .0), c .before .before .before .clear .ensures .none))))
+add-windows-requires c κs =
+    let c7 = c .before .before .before .before .before .before .before in
+    let pre = c7 .pre in
+    (pre .0, (pre .1 .0, (omega (arith, c .before .before .before .clear .kept .0), (omega (arith, c .before .before .before .clear .kept .0), c .before .before .before .clear .ensures .none))))
 
--- src/lib.rt:83:1
 same-length : tie.Need-same-length
 same-length c = search needs
 
--- src/lib.rt:83:1
 returns : tie.Need-returns
 returns c = search needs
 

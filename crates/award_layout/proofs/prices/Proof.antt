@@ -15,53 +15,43 @@ Inv-loop bids out₀ i₀ out i = (i ≤ length out) × ((length out ≡ length 
 abbrev μ-loop : tie.MeasureT-loop
 μ-loop bids out₀ i₀ out i = length out - i
 
--- src/lib.rt:17:5
 loop-holds : tie.Need-loop-holds Inv-loop μ-loop
 loop-holds c = (omega arith, (refl, λ j l. absurd (omega arith)))
 
--- src/lib.rt:18:23
 mul-out : tie.Need-mul-out Inv-loop μ-loop
 mul-out c = omega arith
 
--- src/lib.rt:18:23
 add-out : tie.Need-add-out Inv-loop μ-loop
 add-out c = omega arith
 
--- src/lib.rt:18:18
 mul-out-2 : tie.Need-mul-out-2 Inv-loop μ-loop
 mul-out-2 c = omega arith
 
--- src/lib.rt:18:18
 shared-slice-read-out : tie.Need-shared-slice-read-out Inv-loop μ-loop
 shared-slice-read-out c = omega arith
 
--- src/lib.rt:18:9
 mul-out-3 : tie.Need-mul-out-3 Inv-loop μ-loop
 mul-out-3 c = omega arith
 
--- src/lib.rt:18:9
 slice-write-out : tie.Need-slice-write-out Inv-loop μ-loop
 slice-write-out c = omega arith
 
--- src/lib.rt:19:9
 add-i : tie.Need-add-i Inv-loop μ-loop
 add-i c = omega arith
 
--- src/lib.rt:17:5
 loop-less : tie.Need-loop-less Inv-loop μ-loop
 loop-less c = simp length-set (omega arith)
 
--- src/lib.rt:17:5
 loop-again : tie.Need-loop-again Inv-loop μ-loop
 loop-again c = (simp length-set (omega arith), (simp length-set (c .before .before .loop .inv .1 .0), filled-more (λ j. getD (c .before .before .before .args .bids .now) (4 * j + 1) 0) (c .before .before .loop .out) (c .before .before .loop .i) (c .before .loop-test .taken) (c .before .before .loop .inv .1 .1) _ refl))
 
--- src/lib.rt:12:1
 same-length : tie.Need-same-length Inv-loop μ-loop
 same-length c = c .before .loop .inv .1 .0
 
--- src/lib.rt:12:1
 returns : tie.Need-returns Inv-loop μ-loop
-returns c = prices-are (c .before .before .args .bids .now) (c .before .loop .out) (length (c .before .before .args .out .now)) (c .before .loop .inv .1 .0) (λ j l. c .before .loop .inv .1 .1 j (omega arith))
+returns c =
+    let args = c .before .before .args in
+    prices-are (args .bids .now) (c .before .loop .out) (length (args .out .now)) (c .before .loop .inv .1 .0) (λ j l. c .before .loop .inv .1 .1 j (omega arith))
 
 pub prices-spec : {M : Type 1} → statement M
 prices-spec =

@@ -19,99 +19,132 @@ use Rattle.award_layout.proofs.masks.Reads as masks-reads
 use Rattle.award_layout.proofs.prices.Reads as prices-reads
 use Rattle.multi.proofs.award.Reads as award-reads
 
--- src/lib.rt:47:17
 sub-cells : tie.Need-sub-cells
 unfolding cellsOf
-sub-cells c = omega (arith, words-of Multi (c .before .before .before .before .before .before .before .before .args .tender) (length (c .before .before .before .before .before .before .before .before .args .prices .now)) (c .before .before .before .before .before .before .before .before .args .w) (c .before .before .before .before .before .before .before .before .args .bids .now) (c .before .before .before .before .before .before .before .before .args .windows .now) (c .before .before .before .before .before .before .before .before .pre .0) (c .before .before .before .before .before .before .before .before .pre .1 .0) .forwards)
+sub-cells c =
+    let c8 = c .before .before .before .before .before .before .before .before in
+    let args = c8 .args in
+    let pre = c8 .pre in
+    omega (arith, words-of Multi (args .tender) (length (args .prices .now)) (args .w) (args .bids .now) (args .windows .now) (pre .0) (pre .1 .0) .forwards)
 
--- src/lib.rt:48:5
 prices-requires : tie.Need-prices-requires
 unfolding cellsOf
-prices-requires c κs = orderly Multi (c .before .before .before .before .before .before .before .before .before .args .tender) (length (c .before .before .before .before .before .before .before .before .before .args .prices .now)) (c .before .before .before .before .before .before .before .before .before .args .bids .now) (c .before .before .before .before .before .before .before .before .before .args .windows .now) (c .before .before .before .before .before .before .before .before .before .pre .0) .lent
+prices-requires c κs =
+    let c9 = c .before .before .before .before .before .before .before .before .before in
+    let args = c9 .args in
+    orderly Multi (args .tender) (length (args .prices .now)) (args .bids .now) (args .windows .now) (c9 .pre .0) .lent
 
--- src/lib.rt:49:5
 masks-requires : tie.Need-masks-requires
 unfolding cellsOf
-masks-requires c κs = (orderly Multi (c .before .before .before .before .before .before .before .before .before .before .before .before .before .args .tender) (length (c .before .before .before .before .before .before .before .before .before .before .before .before .before .args .prices .now)) (c .before .before .before .before .before .before .before .before .before .before .before .before .before .args .bids .now) (c .before .before .before .before .before .before .before .before .before .before .before .before .before .args .windows .now) (c .before .before .before .before .before .before .before .before .before .before .before .before .before .pre .0), (c .before .before .before .before .before .before .before .before .before .before .before .before .before .pre .1 .1 .0, (words-of Multi (c .before .before .before .before .before .before .before .before .before .before .before .before .before .args .tender) (length (c .before .before .before .before .before .before .before .before .before .before .before .before .before .args .prices .now)) (c .before .before .before .before .before .before .before .before .before .before .before .before .before .args .w) (c .before .before .before .before .before .before .before .before .before .before .before .before .before .args .bids .now) (c .before .before .before .before .before .before .before .before .before .before .before .before .before .args .windows .now) (c .before .before .before .before .before .before .before .before .before .before .before .before .before .pre .0) (c .before .before .before .before .before .before .before .before .before .before .before .before .before .pre .1 .0) .fits, words-of Multi (c .before .before .before .before .before .before .before .before .before .before .before .before .before .args .tender) (length (c .before .before .before .before .before .before .before .before .before .before .before .before .before .args .prices .now)) (c .before .before .before .before .before .before .before .before .before .before .before .before .before .args .w) (c .before .before .before .before .before .before .before .before .before .before .before .before .before .args .bids .now) (c .before .before .before .before .before .before .before .before .before .before .before .before .before .args .windows .now) (c .before .before .before .before .before .before .before .before .before .before .before .before .before .pre .0) (c .before .before .before .before .before .before .before .before .before .before .before .before .before .pre .1 .0) .words)))
+masks-requires c κs =
+    let c13 = c .before .before .before .before .before .before .before .before .before .before .before .before .before in
+    let args = c13 .args in
+    let pre = c13 .pre in
+    (orderly Multi (args .tender) (length (args .prices .now)) (args .bids .now) (args .windows .now) (pre .0), (pre .1 .1 .0, (words-of Multi (args .tender) (length (args .prices .now)) (args .w) (args .bids .now) (args .windows .now) (pre .0) (pre .1 .0) .fits, words-of Multi (args .tender) (length (args .prices .now)) (args .w) (args .bids .now) (args .windows .now) (pre .0) (pre .1 .0) .words)))
 
--- src/lib.rt:50:9
 thin-masks-requires : tie.Need-thin-masks-requires
 unfolding cellsOf
-thin-masks-requires c κs = (c .before .before .before .masks .kept .1 .1 .1 .1 .1 .1 .0 ∙ c .before .before .before .before .before .before .before .before .before .before .before .before .before .before .before .before .before .pre .1 .1 .0, (words-of Multi (c .before .before .before .before .before .before .before .before .before .before .before .before .before .before .before .before .before .args .tender) (length (c .before .before .before .before .before .before .before .before .before .before .before .before .before .before .before .before .before .args .prices .now)) (c .before .before .before .before .before .before .before .before .before .before .before .before .before .before .before .before .before .args .w) (c .before .before .before .before .before .before .before .before .before .before .before .before .before .before .before .before .before .args .bids .now) (c .before .before .before .before .before .before .before .before .before .before .before .before .before .before .before .before .before .args .windows .now) (c .before .before .before .before .before .before .before .before .before .before .before .before .before .before .before .before .before .pre .0) (c .before .before .before .before .before .before .before .before .before .before .before .before .before .before .before .before .before .pre .1 .0) .words, words-of Multi (c .before .before .before .before .before .before .before .before .before .before .before .before .before .before .before .before .before .args .tender) (length (c .before .before .before .before .before .before .before .before .before .before .before .before .before .before .before .before .before .args .prices .now)) (c .before .before .before .before .before .before .before .before .before .before .before .before .before .before .before .before .before .args .w) (c .before .before .before .before .before .before .before .before .before .before .before .before .before .before .before .before .before .args .bids .now) (c .before .before .before .before .before .before .before .before .before .before .before .before .before .before .before .before .before .args .windows .now) (c .before .before .before .before .before .before .before .before .before .before .before .before .before .before .before .before .before .pre .0) (c .before .before .before .before .before .before .before .before .before .before .before .before .before .before .before .before .before .pre .1 .0) .fits))
+thin-masks-requires c κs =
+    let c17 = c .before .before .before .before .before .before .before .before .before .before .before .before .before .before .before .before .before in
+    let args = c17 .args in
+    let pre = c17 .pre in
+    (c .before .before .before .masks .kept .1 .1 .1 .1 .1 .1 .0 ∙ pre .1 .1 .0, (words-of Multi (args .tender) (length (args .prices .now)) (args .w) (args .bids .now) (args .windows .now) (pre .0) (pre .1 .0) .words, words-of Multi (args .tender) (length (args .prices .now)) (args .w) (args .bids .now) (args .windows .now) (pre .0) (pre .1 .0) .fits))
 
--- src/lib.rt:53:24
 enum-known-thin : tie.Need-enum-known-thin
 enum-known-thin c = search needs
 
--- src/lib.rt:54:21
 add-t25 : tie.Need-add-t25
 unfolding cellsOf
-add-t25 c = let s = subst (Says (has (c .before .before .before .before .before .before .before .masks .last .1 .1 .1 .1 .1 .1 .0) (c .before .before .before .before .before .before .before .before .before .before .before .before .before .before .before .before .before .before .before .before .before .args .w)) (length (c .before .before .before .before .before .before .before .before .before .before .before .before .before .before .before .before .before .before .before .before .before .args .prices .now)) (cellsOf (c .before .before .before .before .before .before .before .before .before .before .before .before .before .before .before .before .before .before .before .before .before .args .tender))) (c .before .thin .given .1) (c .before .before .before .thin-masks .ensures) in let d = words-of Multi (c .before .before .before .before .before .before .before .before .before .before .before .before .before .before .before .before .before .before .before .before .before .args .tender) (length (c .before .before .before .before .before .before .before .before .before .before .before .before .before .before .before .before .before .before .before .before .before .args .prices .now)) (c .before .before .before .before .before .before .before .before .before .before .before .before .before .before .before .before .before .before .before .before .before .args .w) (c .before .before .before .before .before .before .before .before .before .before .before .before .before .before .before .before .before .before .before .before .before .args .bids .now) (c .before .before .before .before .before .before .before .before .before .before .before .before .before .before .before .before .before .before .before .before .before .args .windows .now) (c .before .before .before .before .before .before .before .before .before .before .before .before .before .before .before .before .before .before .before .before .before .pre .0) (c .before .before .before .before .before .before .before .before .before .before .before .before .before .before .before .before .before .before .before .before .before .pre .1 .0) in omega (arith, cell-found _ _ _ _ _ s .inside, d .few, d .early)
+add-t25 c =
+    let c7 = c .before .before .before .before .before .before .before in
+    let c21 = c7 .before .before .before .before .before .before .before .before .before .before .before .before .before .before in
+    let args = c21 .args in
+    let pre = c21 .pre in
+    let s = subst (Says (has (c7 .masks .last .1 .1 .1 .1 .1 .1 .0) (args .w)) (length (args .prices .now)) (cellsOf (args .tender))) (c .before .thin .given .1) (c .before .before .before .thin-masks .ensures) in let d = words-of Multi (args .tender) (length (args .prices .now)) (args .w) (args .bids .now) (args .windows .now) (pre .0) (pre .1 .0) in omega (arith, cell-found _ _ _ _ _ s .inside, d .few, d .early)
 
--- src/lib.rt:57:23
 enum-known-thin-2 : tie.Need-enum-known-thin-2
 enum-known-thin-2 c = search needs
 
--- src/lib.rt:58:21
 add-t27 : tie.Need-add-t27
 unfolding cellsOf
-add-t27 c = let s = subst (Says (has (c .before .before .before .before .before .before .before .masks .last .1 .1 .1 .1 .1 .1 .0) (c .before .before .before .before .before .before .before .before .before .before .before .before .before .before .before .before .before .before .before .before .before .args .w)) (length (c .before .before .before .before .before .before .before .before .before .before .before .before .before .before .before .before .before .before .before .before .before .args .prices .now)) (cellsOf (c .before .before .before .before .before .before .before .before .before .before .before .before .before .before .before .before .before .before .before .before .before .args .tender))) (c .before .thin2 .given .1) (c .before .before .before .thin-masks .ensures) in let d = words-of Multi (c .before .before .before .before .before .before .before .before .before .before .before .before .before .before .before .before .before .before .before .before .before .args .tender) (length (c .before .before .before .before .before .before .before .before .before .before .before .before .before .before .before .before .before .before .before .before .before .args .prices .now)) (c .before .before .before .before .before .before .before .before .before .before .before .before .before .before .before .before .before .before .before .before .before .args .w) (c .before .before .before .before .before .before .before .before .before .before .before .before .before .before .before .before .before .before .before .before .before .args .bids .now) (c .before .before .before .before .before .before .before .before .before .before .before .before .before .before .before .before .before .before .before .before .before .args .windows .now) (c .before .before .before .before .before .before .before .before .before .before .before .before .before .before .before .before .before .before .before .before .before .pre .0) (c .before .before .before .before .before .before .before .before .before .before .before .before .before .before .before .before .before .before .before .before .before .pre .1 .0) in omega (arith, cell-found _ _ _ _ _ (s .1) .inside, d .few, d .early)
+add-t27 c =
+    let c7 = c .before .before .before .before .before .before .before in
+    let c21 = c7 .before .before .before .before .before .before .before .before .before .before .before .before .before .before in
+    let args = c21 .args in
+    let pre = c21 .pre in
+    let s = subst (Says (has (c7 .masks .last .1 .1 .1 .1 .1 .1 .0) (args .w)) (length (args .prices .now)) (cellsOf (args .tender))) (c .before .thin2 .given .1) (c .before .before .before .thin-masks .ensures) in let d = words-of Multi (args .tender) (length (args .prices .now)) (args .w) (args .bids .now) (args .windows .now) (pre .0) (pre .1 .0) in omega (arith, cell-found _ _ _ _ _ (s .1) .inside, d .few, d .early)
 
--- src/lib.rt:60:54
 enum-told : tie.Need-enum-told
 enum-told c = search needs
 
--- src/lib.rt:60:41
 award-requires : tie.Need-award-requires
 unfolding cellsOf
-award-requires c κs = let s = subst (Says (has (c .before .before .before .before .before .before .before .before .before .before .masks .last .1 .1 .1 .1 .1 .1 .0) (c .before .before .before .before .before .before .before .before .before .before .before .before .before .before .before .before .before .before .before .before .before .before .before .before .args .w)) (length (c .before .before .before .before .before .before .before .before .before .before .before .before .before .before .before .before .before .before .before .before .before .before .before .before .args .prices .now)) (cellsOf (c .before .before .before .before .before .before .before .before .before .before .before .before .before .before .before .before .before .before .before .before .before .before .before .before .args .tender))) (c .before .before .before .before .enum-told .given .1) (c .before .before .before .before .before .before .thin-masks .ensures) in let d = words-of Multi (c .before .before .before .before .before .before .before .before .before .before .before .before .before .before .before .before .before .before .before .before .before .before .before .before .args .tender) (length (c .before .before .before .before .before .before .before .before .before .before .before .before .before .before .before .before .before .before .before .before .before .before .before .before .args .prices .now)) (c .before .before .before .before .before .before .before .before .before .before .before .before .before .before .before .before .before .before .before .before .before .before .before .before .args .w) (c .before .before .before .before .before .before .before .before .before .before .before .before .before .before .before .before .before .before .before .before .before .before .before .before .args .bids .now) (c .before .before .before .before .before .before .before .before .before .before .before .before .before .before .before .before .before .before .before .before .before .before .before .before .args .windows .now) (c .before .before .before .before .before .before .before .before .before .before .before .before .before .before .before .before .before .before .before .before .before .before .before .before .pre .0) (c .before .before .before .before .before .before .before .before .before .before .before .before .before .before .before .before .before .before .before .before .before .before .before .before .pre .1 .0) in (market (c .before .before .before .before .before .before .before .before .before .before .before .before .before .before .before .before .before .before .before .before .before .before .before .before .args .tender) (length (c .before .before .before .before .before .before .before .before .before .before .before .before .before .before .before .before .before .before .before .before .before .before .before .before .args .prices .now)) (c .before .before .before .before .before .before .before .before .before .before .before .before .before .before .before .before .before .before .before .before .before .before .before .before .args .w) (c .before .before .before .before .before .before .before .before .before .before .before .before .before .before .before .before .before .before .before .before .before .before .before .before .args .bids .now) (c .before .before .before .before .before .before .before .before .before .before .before .before .before .before .before .before .before .before .before .before .before .before .before .before .args .windows .now) (c .before .before .before .before .before .before .before .before .before .before .masks .last .1 .1 .1 .1 .1 .1 .0) (c .before .before .before .before .before .before .before .before .before .before .before .before .before .before .prices .last .1 .0) (c .before .before .before .before .before .before .before .before .before .before .before .before .before .before .before .before .before .before .before .before .before .before .before .before .args .won .now) (c .before .before .before .before .before .before .before .before .before .before .before .before .before .before .before .before .before .before .before .before .before .before .before .before .args .cents .now) (c .before .before .before .before .before .before .before .before .before .before .before .before .before .before .before .before .before .before .before .before .before .before .before .before .pre .0) (c .before .before .before .before .before .before .before .before .before .before .masks .kept .1 .1 .1 .1 .1 .1 .0 ∙ c .before .before .before .before .before .before .before .before .before .before .before .before .before .before .before .before .before .before .before .before .before .before .before .before .pre .1 .1 .0) (c .before .before .before .before .before .before .before .before .before .before .masks .ensures) (c .before .before .before .before .before .before .before .before .before .before .before .before .before .before .prices .ensures) d, (d .few, (d .fits, (two-bidders (c .before .before .before .before .before .before .before .before .before .before .before .before .before .before .before .before .before .before .before .before .before .before .before .before .args .tender) (length (c .before .before .before .before .before .before .before .before .before .before .before .before .before .before .before .before .before .before .before .before .before .before .before .before .args .prices .now)) (c .before .before .before .before .before .before .before .before .before .before .before .before .before .before .before .before .before .before .before .before .before .before .before .before .args .w) (c .before .before .before .before .before .before .before .before .before .before .before .before .before .before .before .before .before .before .before .before .before .before .before .before .args .bids .now) (c .before .before .before .before .before .before .before .before .before .before .before .before .before .before .before .before .before .before .before .before .before .before .before .before .args .windows .now) (c .before .before .before .before .before .before .before .before .before .before .masks .last .1 .1 .1 .1 .1 .1 .0) (c .before .before .before .before .before .before .before .before .before .before .before .before .before .before .prices .last .1 .0) (c .before .before .before .before .before .before .before .before .before .before .before .before .before .before .before .before .before .before .before .before .before .before .before .before .args .won .now) (c .before .before .before .before .before .before .before .before .before .before .before .before .before .before .before .before .before .before .before .before .before .before .before .before .args .cents .now) (c .before .before .before .before .before .before .before .before .before .before .before .before .before .before .before .before .before .before .before .before .before .before .before .before .pre .0) (c .before .before .before .before .before .before .before .before .before .before .masks .kept .1 .1 .1 .1 .1 .1 .0 ∙ c .before .before .before .before .before .before .before .before .before .before .before .before .before .before .before .before .before .before .before .before .before .before .before .before .pre .1 .1 .0) (c .before .before .before .before .before .before .before .before .before .before .masks .ensures) (c .before .before .before .before .before .before .before .before .before .before .before .before .before .before .prices .ensures) s, (omega (arith, c .before .before .before .before .before .before .before .before .before .before .before .before .before .before .prices .kept .1 .0, c .before .before .before .before .before .before .before .before .before .before .before .before .before .before .before .before .before .before .before .before .before .before .before .before .pre .1 .1 .1 .0), omega (arith, c .before .before .before .before .before .before .before .before .before .before .before .before .before .before .prices .kept .1 .0, c .before .before .before .before .before .before .before .before .before .before .before .before .before .before .before .before .before .before .before .before .before .before .before .before .pre .1 .1 .1 .1))))))
+award-requires c κs =
+    let c4 = c .before .before .before .before in
+    let c6 = c4 .before .before in
+    let c10 = c6 .before .before .before .before in
+    let c14 = c10 .before .before .before .before in
+    let c24 = c14 .before .before .before .before .before .before .before .before .before .before in
+    let args = c24 .args in
+    let pre = c24 .pre in
+    let s = subst (Says (has (c10 .masks .last .1 .1 .1 .1 .1 .1 .0) (args .w)) (length (args .prices .now)) (cellsOf (args .tender))) (c4 .enum-told .given .1) (c6 .thin-masks .ensures) in let d = words-of Multi (args .tender) (length (args .prices .now)) (args .w) (args .bids .now) (args .windows .now) (pre .0) (pre .1 .0) in (market (args .tender) (length (args .prices .now)) (args .w) (args .bids .now) (args .windows .now) (c10 .masks .last .1 .1 .1 .1 .1 .1 .0) (c14 .prices .last .1 .0) (args .won .now) (args .cents .now) (pre .0) (c10 .masks .kept .1 .1 .1 .1 .1 .1 .0 ∙ pre .1 .1 .0) (c10 .masks .ensures) (c14 .prices .ensures) d, (d .few, (d .fits, (two-bidders (args .tender) (length (args .prices .now)) (args .w) (args .bids .now) (args .windows .now) (c10 .masks .last .1 .1 .1 .1 .1 .1 .0) (c14 .prices .last .1 .0) (args .won .now) (args .cents .now) (pre .0) (c10 .masks .kept .1 .1 .1 .1 .1 .1 .0 ∙ pre .1 .1 .0) (c10 .masks .ensures) (c14 .prices .ensures) s, (omega (arith, c14 .prices .kept .1 .0, pre .1 .1 .1 .0), omega (arith, c14 .prices .kept .1 .0, pre .1 .1 .1 .1))))))
 
--- src/lib.rt:29:1
 same-length : tie.Need-same-length
 same-length c = search needs
 
--- src/lib.rt:29:1
 same-length-2 : tie.Need-same-length-2
 same-length-2 c = search needs
 
--- src/lib.rt:29:1
 returns : tie.Need-returns
 unfolding cellsOf
-returns c = uncovered (c .before .before .before .before .before .before .before .before .before .before .before .before .before .before .before .before .before .before .before .before .before .args .tender) (length (c .before .before .before .before .before .before .before .before .before .before .before .before .before .before .before .before .before .before .before .before .before .args .prices .now)) (c .before .before .before .before .before .before .before .before .before .before .before .before .before .before .before .before .before .before .before .before .before .args .w) (c .before .before .before .before .before .before .before .before .before .before .before .before .before .before .before .before .before .before .before .before .before .args .bids .now) (c .before .before .before .before .before .before .before .before .before .before .before .before .before .before .before .before .before .before .before .before .before .args .windows .now) (c .before .before .before .before .before .before .before .masks .last .1 .1 .1 .1 .1 .1 .0) (c .before .before .before .before .before .before .before .before .before .before .before .prices .last .1 .0) (c .before .before .before .before .before .before .before .before .before .before .before .before .before .before .before .before .before .before .before .before .before .args .won .now) (c .before .before .before .before .before .before .before .before .before .before .before .before .before .before .before .before .before .before .before .before .before .args .cents .now) (c .before .before .before .before .before .before .before .before .before .before .before .before .before .before .before .before .before .before .before .before .before .pre .0) (c .before .before .before .before .before .before .before .masks .kept .1 .1 .1 .1 .1 .1 .0 ∙ c .before .before .before .before .before .before .before .before .before .before .before .before .before .before .before .before .before .before .before .before .before .pre .1 .1 .0) (c .before .before .before .before .before .before .before .masks .ensures) (c .before .before .before .before .before .before .before .before .before .before .before .prices .ensures) _ (subst (Says (has (c .before .before .before .before .before .before .before .masks .last .1 .1 .1 .1 .1 .1 .0) (c .before .before .before .before .before .before .before .before .before .before .before .before .before .before .before .before .before .before .before .before .before .args .w)) (length (c .before .before .before .before .before .before .before .before .before .before .before .before .before .before .before .before .before .before .before .before .before .args .prices .now)) (cellsOf (c .before .before .before .before .before .before .before .before .before .before .before .before .before .before .before .before .before .before .before .before .before .args .tender))) (c .before .thin .given .1) (c .before .before .before .thin-masks .ensures))
+returns c =
+    let c7 = c .before .before .before .before .before .before .before in
+    let c11 = c7 .before .before .before .before in
+    let c21 = c11 .before .before .before .before .before .before .before .before .before .before in
+    let args = c21 .args in
+    let pre = c21 .pre in
+    uncovered (args .tender) (length (args .prices .now)) (args .w) (args .bids .now) (args .windows .now) (c7 .masks .last .1 .1 .1 .1 .1 .1 .0) (c11 .prices .last .1 .0) (args .won .now) (args .cents .now) (pre .0) (c7 .masks .kept .1 .1 .1 .1 .1 .1 .0 ∙ pre .1 .1 .0) (c7 .masks .ensures) (c11 .prices .ensures) _ (subst (Says (has (c7 .masks .last .1 .1 .1 .1 .1 .1 .0) (args .w)) (length (args .prices .now)) (cellsOf (args .tender))) (c .before .thin .given .1) (c .before .before .before .thin-masks .ensures))
 
--- src/lib.rt:29:1
 same-length-3 : tie.Need-same-length-3
 same-length-3 c = search needs
 
--- src/lib.rt:29:1
 same-length-4 : tie.Need-same-length-4
 same-length-4 c = search needs
 
--- src/lib.rt:29:1
 returns-2 : tie.Need-returns-2
 unfolding cellsOf
-returns-2 c = lone (c .before .before .before .before .before .before .before .before .before .before .before .before .before .before .before .before .before .before .before .before .before .args .tender) (length (c .before .before .before .before .before .before .before .before .before .before .before .before .before .before .before .before .before .before .before .before .before .args .prices .now)) (c .before .before .before .before .before .before .before .before .before .before .before .before .before .before .before .before .before .before .before .before .before .args .w) (c .before .before .before .before .before .before .before .before .before .before .before .before .before .before .before .before .before .before .before .before .before .args .bids .now) (c .before .before .before .before .before .before .before .before .before .before .before .before .before .before .before .before .before .before .before .before .before .args .windows .now) (c .before .before .before .before .before .before .before .masks .last .1 .1 .1 .1 .1 .1 .0) (c .before .before .before .before .before .before .before .before .before .before .before .prices .last .1 .0) (c .before .before .before .before .before .before .before .before .before .before .before .before .before .before .before .before .before .before .before .before .before .args .won .now) (c .before .before .before .before .before .before .before .before .before .before .before .before .before .before .before .before .before .before .before .before .before .args .cents .now) (c .before .before .before .before .before .before .before .before .before .before .before .before .before .before .before .before .before .before .before .before .before .pre .0) (c .before .before .before .before .before .before .before .masks .kept .1 .1 .1 .1 .1 .1 .0 ∙ c .before .before .before .before .before .before .before .before .before .before .before .before .before .before .before .before .before .before .before .before .before .pre .1 .1 .0) (c .before .before .before .before .before .before .before .masks .ensures) (c .before .before .before .before .before .before .before .before .before .before .before .prices .ensures) _ (subst (Says (has (c .before .before .before .before .before .before .before .masks .last .1 .1 .1 .1 .1 .1 .0) (c .before .before .before .before .before .before .before .before .before .before .before .before .before .before .before .before .before .before .before .before .before .args .w)) (length (c .before .before .before .before .before .before .before .before .before .before .before .before .before .before .before .before .before .before .before .before .before .args .prices .now)) (cellsOf (c .before .before .before .before .before .before .before .before .before .before .before .before .before .before .before .before .before .before .before .before .before .args .tender))) (c .before .thin2 .given .1) (c .before .before .before .thin-masks .ensures))
+returns-2 c =
+    let c7 = c .before .before .before .before .before .before .before in
+    let c11 = c7 .before .before .before .before in
+    let c21 = c11 .before .before .before .before .before .before .before .before .before .before in
+    let args = c21 .args in
+    let pre = c21 .pre in
+    lone (args .tender) (length (args .prices .now)) (args .w) (args .bids .now) (args .windows .now) (c7 .masks .last .1 .1 .1 .1 .1 .1 .0) (c11 .prices .last .1 .0) (args .won .now) (args .cents .now) (pre .0) (c7 .masks .kept .1 .1 .1 .1 .1 .1 .0 ∙ pre .1 .1 .0) (c7 .masks .ensures) (c11 .prices .ensures) _ (subst (Says (has (c7 .masks .last .1 .1 .1 .1 .1 .1 .0) (args .w)) (length (args .prices .now)) (cellsOf (args .tender))) (c .before .thin2 .given .1) (c .before .before .before .thin-masks .ensures))
 
--- src/lib.rt:29:1
 same-length-5 : tie.Need-same-length-5
 same-length-5 c = search needs
 
--- src/lib.rt:29:1
 same-length-6 : tie.Need-same-length-6
 same-length-6 c = search needs
 
--- src/lib.rt:29:1
 same-length-7 : tie.Need-same-length-7
 same-length-7 c = search needs
 
--- src/lib.rt:29:1
 same-length-8 : tie.Need-same-length-8
 same-length-8 c = search needs
 
--- src/lib.rt:29:1
 returns-3 : tie.Need-returns-3
 unfolding cellsOf
-returns-3 c = let s = subst (Says (has (c .before .before .before .before .before .before .before .before .before .before .before .before .before .before .before .masks .last .1 .1 .1 .1 .1 .1 .0) (c .before .before .before .before .before .before .before .before .before .before .before .before .before .before .before .before .before .before .before .before .before .before .before .before .before .before .before .before .before .args .w)) (length (c .before .before .before .before .before .before .before .before .before .before .before .before .before .before .before .before .before .before .before .before .before .before .before .before .before .before .before .before .before .args .prices .now)) (cellsOf (c .before .before .before .before .before .before .before .before .before .before .before .before .before .before .before .before .before .before .before .before .before .before .before .before .before .before .before .before .before .args .tender))) (c .before .before .before .before .before .before .before .before .before .enum-told .given .1) (c .before .before .before .before .before .before .before .before .before .before .before .thin-masks .ensures) in settled (c .before .before .before .before .before .before .before .before .before .before .before .before .before .before .before .before .before .before .before .before .before .before .before .before .before .before .before .before .before .args .tender) (length (c .before .before .before .before .before .before .before .before .before .before .before .before .before .before .before .before .before .before .before .before .before .before .before .before .before .before .before .before .before .args .prices .now)) (c .before .before .before .before .before .before .before .before .before .before .before .before .before .before .before .before .before .before .before .before .before .before .before .before .before .before .before .before .before .args .w) (c .before .before .before .before .before .before .before .before .before .before .before .before .before .before .before .before .before .before .before .before .before .before .before .before .before .before .before .before .before .args .bids .now) (c .before .before .before .before .before .before .before .before .before .before .before .before .before .before .before .before .before .before .before .before .before .before .before .before .before .before .before .before .before .args .windows .now) (c .before .before .before .before .before .before .before .before .before .before .before .before .before .before .before .masks .last .1 .1 .1 .1 .1 .1 .0) (c .before .before .before .before .before .before .before .before .before .before .before .before .before .before .before .before .before .before .before .prices .last .1 .0) (c .before .before .before .before .before .before .before .before .before .before .before .before .before .before .before .before .before .before .before .before .before .before .before .before .before .before .before .before .before .args .won .now) (c .before .before .before .before .before .before .before .before .before .before .before .before .before .before .before .before .before .before .before .before .before .before .before .before .before .before .before .before .before .args .cents .now) (c .before .before .before .before .before .before .before .before .before .before .before .before .before .before .before .before .before .before .before .before .before .before .before .before .before .before .before .before .before .pre .0) (c .before .before .before .before .before .before .before .before .before .before .before .before .before .before .before .masks .kept .1 .1 .1 .1 .1 .1 .0 ∙ c .before .before .before .before .before .before .before .before .before .before .before .before .before .before .before .before .before .before .before .before .before .before .before .before .before .before .before .before .before .pre .1 .1 .0) (c .before .before .before .before .before .before .before .before .before .before .before .before .before .before .before .masks .ensures) (c .before .before .before .before .before .before .before .before .before .before .before .before .before .before .before .before .before .before .before .prices .ensures) s (c .before .before .before .before .award .last .1 .1 .1 .1 .0) (c .before .before .before .before .award .last .1 .1 .1 .1 .1 .0) (c .before .before .before .before .award .result) (c .before .before .before .before .award .ensures)
+returns-3 c =
+    let c4 = c .before .before .before .before in
+    let c9 = c4 .before .before .before .before .before in
+    let c11 = c9 .before .before in
+    let c15 = c11 .before .before .before .before in
+    let c19 = c15 .before .before .before .before in
+    let c29 = c19 .before .before .before .before .before .before .before .before .before .before in
+    let args = c29 .args in
+    let pre = c29 .pre in
+    let s = subst (Says (has (c15 .masks .last .1 .1 .1 .1 .1 .1 .0) (args .w)) (length (args .prices .now)) (cellsOf (args .tender))) (c9 .enum-told .given .1) (c11 .thin-masks .ensures) in settled (args .tender) (length (args .prices .now)) (args .w) (args .bids .now) (args .windows .now) (c15 .masks .last .1 .1 .1 .1 .1 .1 .0) (c19 .prices .last .1 .0) (args .won .now) (args .cents .now) (pre .0) (c15 .masks .kept .1 .1 .1 .1 .1 .1 .0 ∙ pre .1 .1 .0) (c15 .masks .ensures) (c19 .prices .ensures) s (c4 .award .last .1 .1 .1 .1 .0) (c4 .award .last .1 .1 .1 .1 .1 .0) (c4 .award .result) (c4 .award .ensures)
 
 pub multi-in-spec : {M : Type 1} → statement M
 multi-in-spec =

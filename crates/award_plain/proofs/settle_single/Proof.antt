@@ -13,45 +13,61 @@ use Rattle.award_plain.proofs.settle_single.Reads as reads
 use Rattle.award_plain.proofs.settle_single.Lts as lts
 use Rattle.award_plain.proofs.single_in.Reads as single-in-reads
 
--- src/lib.rt:142:9
 array-borrow-prefix-prices : tie.Need-array-borrow-prefix-prices
-array-borrow-prefix-prices c = omega (arith, orderly Single (c .before .before .before .before .args .tender) (c .before .before .before .before .args .count) (c .before .before .before .before .args .bids .now) (c .before .before .before .before .args .windows .now) (c .before .before .before .before .pre .0) .few, length-replicate {A = ℕ} 1000 1)
+array-borrow-prefix-prices c =
+    let c4 = c .before .before .before .before in
+    let args = c4 .args in
+    omega (arith, orderly Single (args .tender) (args .count) (args .bids .now) (args .windows .now) (c4 .pre .0) .few, length-replicate {A = ℕ} 1000 1)
 
--- src/lib.rt:142:9
 slice-aggregate-single-in : tie.Need-slice-aggregate-single-in
-slice-aggregate-single-in c = sym (prefix-length (c .before .before .before .before .before .args .count) 1000 (orderly Single (c .before .before .before .before .before .args .tender) (c .before .before .before .before .before .args .count) (c .before .before .before .before .before .args .bids .now) (c .before .before .before .before .before .args .windows .now) (c .before .before .before .before .before .pre .0) .few))
+slice-aggregate-single-in c =
+    let c5 = c .before .before .before .before .before in
+    let args = c5 .args in
+    sym (prefix-length (args .count) 1000 (orderly Single (args .tender) (args .count) (args .bids .now) (args .windows .now) (c5 .pre .0) .few))
 
--- src/lib.rt:143:9
 array-borrow-prefix-starts : tie.Need-array-borrow-prefix-starts
-array-borrow-prefix-starts c = omega (arith, orderly Single (c .before .before .before .before .before .args .tender) (c .before .before .before .before .before .args .count) (c .before .before .before .before .before .args .bids .now) (c .before .before .before .before .before .args .windows .now) (c .before .before .before .before .before .pre .0) .few, length-replicate {A = ℕ} 1000 1)
+array-borrow-prefix-starts c =
+    let c5 = c .before .before .before .before .before in
+    let args = c5 .args in
+    omega (arith, orderly Single (args .tender) (args .count) (args .bids .now) (args .windows .now) (c5 .pre .0) .few, length-replicate {A = ℕ} 1000 1)
 
--- src/lib.rt:143:9
 slice-aggregate-single-in-2 : tie.Need-slice-aggregate-single-in-2
-slice-aggregate-single-in-2 c = sym (prefix-length (c .before .before .before .before .before .before .args .count) 1000 (orderly Single (c .before .before .before .before .before .before .args .tender) (c .before .before .before .before .before .before .args .count) (c .before .before .before .before .before .before .args .bids .now) (c .before .before .before .before .before .before .args .windows .now) (c .before .before .before .before .before .before .pre .0) .few))
+slice-aggregate-single-in-2 c =
+    let c6 = c .before .before .before .before .before .before in
+    let args = c6 .args in
+    sym (prefix-length (args .count) 1000 (orderly Single (args .tender) (args .count) (args .bids .now) (args .windows .now) (c6 .pre .0) .few))
 
--- src/lib.rt:144:9
 array-borrow-prefix-ends : tie.Need-array-borrow-prefix-ends
-array-borrow-prefix-ends c = omega (arith, orderly Single (c .before .before .before .before .before .before .args .tender) (c .before .before .before .before .before .before .args .count) (c .before .before .before .before .before .before .args .bids .now) (c .before .before .before .before .before .before .args .windows .now) (c .before .before .before .before .before .before .pre .0) .few, length-replicate {A = ℕ} 1000 1)
+array-borrow-prefix-ends c =
+    let c6 = c .before .before .before .before .before .before in
+    let args = c6 .args in
+    omega (arith, orderly Single (args .tender) (args .count) (args .bids .now) (args .windows .now) (c6 .pre .0) .few, length-replicate {A = ℕ} 1000 1)
 
--- src/lib.rt:144:9
 slice-aggregate-single-in-3 : tie.Need-slice-aggregate-single-in-3
-slice-aggregate-single-in-3 c = sym (prefix-length (c .before .before .before .before .before .before .before .args .count) 1000 (orderly Single (c .before .before .before .before .before .before .before .args .tender) (c .before .before .before .before .before .before .before .args .count) (c .before .before .before .before .before .before .before .args .bids .now) (c .before .before .before .before .before .before .before .args .windows .now) (c .before .before .before .before .before .before .before .pre .0) .few))
+slice-aggregate-single-in-3 c =
+    let c7 = c .before .before .before .before .before .before .before in
+    let args = c7 .args in
+    sym (prefix-length (args .count) 1000 (orderly Single (args .tender) (args .count) (args .bids .now) (args .windows .now) (c7 .pre .0) .few))
 
--- src/lib.rt:138:5
 single-in-requires : tie.Need-single-in-requires
-single-in-requires c κs = rw (prefix-length (c .before .before .before .before .before .before .before .before .before .args .count) 1000 (orderly Single (c .before .before .before .before .before .before .before .before .before .args .tender) (c .before .before .before .before .before .before .before .before .before .args .count) (c .before .before .before .before .before .before .before .before .before .args .bids .now) (c .before .before .before .before .before .before .before .before .before .args .windows .now) (c .before .before .before .before .before .before .before .before .before .pre .0) .few)) (c .before .before .before .before .before .before .before .before .before .pre .0, (refl, (refl, (c .before .before .before .before .before .before .before .before .before .pre .1 .0, c .before .before .before .before .before .before .before .before .before .pre .1 .1))))
+single-in-requires c κs =
+    let c9 = c .before .before .before .before .before .before .before .before .before in
+    let args = c9 .args in
+    let pre = c9 .pre in
+    rw (prefix-length (args .count) 1000 (orderly Single (args .tender) (args .count) (args .bids .now) (args .windows .now) (pre .0) .few)) (pre .0, (refl, (refl, (pre .1 .0, pre .1 .1))))
 
--- src/lib.rt:131:1
 same-length : tie.Need-same-length
 same-length c = search needs
 
--- src/lib.rt:131:1
 same-length-2 : tie.Need-same-length-2
 same-length-2 c = search needs
 
--- src/lib.rt:131:1
 returns : tie.Need-returns
-returns c = rw (prefix-length (c .before .before .before .before .before .before .before .before .before .before .before .before .before .before .before .before .before .args .count) 1000 (orderly Single (c .before .before .before .before .before .before .before .before .before .before .before .before .before .before .before .before .before .args .tender) (c .before .before .before .before .before .before .before .before .before .before .before .before .before .before .before .before .before .args .count) (c .before .before .before .before .before .before .before .before .before .before .before .before .before .before .before .before .before .args .bids .now) (c .before .before .before .before .before .before .before .before .before .before .before .before .before .before .before .before .before .args .windows .now) (c .before .before .before .before .before .before .before .before .before .before .before .before .before .before .before .before .before .pre .0) .few)) at (c .before .before .before .before .before .before .before .single-in .ensures)
+returns c =
+    let c7 = c .before .before .before .before .before .before .before in
+    let c17 = c7 .before .before .before .before .before .before .before .before .before .before in
+    let args = c17 .args in
+    rw (prefix-length (args .count) 1000 (orderly Single (args .tender) (args .count) (args .bids .now) (args .windows .now) (c17 .pre .0) .few)) at (c7 .single-in .ensures)
 
 pub settle-single-spec : {M : Type 1} → statement M
 settle-single-spec =

@@ -19,111 +19,140 @@ use Rattle.award_layout.proofs.prices.Reads as prices-reads
 use Rattle.award_layout.proofs.spans.Reads as spans-reads
 use Rattle.single.proofs.award.Reads as award-reads
 
--- src/lib.rt:111:17
 sub-cells : tie.Need-sub-cells
 unfolding cellsOf
-sub-cells c = omega (arith, timed Single (c .before .before .before .before .before .before .before .before .before .args .tender) (length (c .before .before .before .before .before .before .before .before .before .args .prices .now)) (c .before .before .before .before .before .before .before .before .before .args .bids .now) (c .before .before .before .before .before .before .before .before .before .args .windows .now) (c .before .before .before .before .before .before .before .before .before .pre .0) .some-minute)
+sub-cells c =
+    let c9 = c .before .before .before .before .before .before .before .before .before in
+    let args = c9 .args in
+    omega (arith, timed Single (args .tender) (length (args .prices .now)) (args .bids .now) (args .windows .now) (c9 .pre .0) .some-minute)
 
--- src/lib.rt:112:5
 prices-requires : tie.Need-prices-requires
 unfolding cellsOf
-prices-requires c κs = orderly Single (c .before .before .before .before .before .before .before .before .before .before .args .tender) (length (c .before .before .before .before .before .before .before .before .before .before .args .prices .now)) (c .before .before .before .before .before .before .before .before .before .before .args .bids .now) (c .before .before .before .before .before .before .before .before .before .before .args .windows .now) (c .before .before .before .before .before .before .before .before .before .before .pre .0) .lent
+prices-requires c κs =
+    let c10 = c .before .before .before .before .before .before .before .before .before .before in
+    let args = c10 .args in
+    orderly Single (args .tender) (length (args .prices .now)) (args .bids .now) (args .windows .now) (c10 .pre .0) .lent
 
--- src/lib.rt:113:5
 spans-requires : tie.Need-spans-requires
 unfolding cellsOf
-spans-requires c κs = (rw (c .before .before .before .before .before .before .before .before .before .before .before .before .before .before .before .pre .1 .0) (orderly Single (c .before .before .before .before .before .before .before .before .before .before .before .before .before .before .before .args .tender) (length (c .before .before .before .before .before .before .before .before .before .before .before .before .before .before .before .args .prices .now)) (c .before .before .before .before .before .before .before .before .before .before .before .before .before .before .before .args .bids .now) (c .before .before .before .before .before .before .before .before .before .before .before .before .before .before .before .args .windows .now) (c .before .before .before .before .before .before .before .before .before .before .before .before .before .before .before .pre .0)), c .before .before .before .before .before .before .before .before .before .before .before .before .before .before .before .pre .1 .1 .0 ∙ sym (c .before .before .before .before .before .before .before .before .before .before .before .before .before .before .before .pre .1 .0))
+spans-requires c κs =
+    let c15 = c .before .before .before .before .before .before .before .before .before .before .before .before .before .before .before in
+    let args = c15 .args in
+    let pre = c15 .pre in
+    (rw (pre .1 .0) (orderly Single (args .tender) (length (args .prices .now)) (args .bids .now) (args .windows .now) (pre .0)), pre .1 .1 .0 ∙ sym (pre .1 .0))
 
--- src/lib.rt:114:9
 thin-spans-requires : tie.Need-thin-spans-requires
 unfolding cellsOf
-thin-spans-requires c κs = (ordered (c .before .before .before .before .before .before .before .before .before .before .before .before .before .before .before .before .before .before .before .before .before .before .args .tender) (length (c .before .before .before .before .before .before .before .before .before .before .before .before .before .before .before .before .before .before .before .before .before .before .args .prices .now)) (c .before .before .before .before .before .before .before .before .before .before .before .before .before .before .before .before .before .before .before .before .before .before .args .bids .now) (c .before .before .before .before .before .before .before .before .before .before .before .before .before .before .before .before .before .before .before .before .before .before .args .windows .now) (c .before .before .before .before .before .before .spans .last .1 .1 .1 .1 .0) (c .before .before .before .before .before .before .spans .last .1 .1 .1 .1 .1 .0) (c .before .before .before .before .before .before .before .before .before .before .before .prices .last .1 .0) (c .before .before .before .before .before .before .before .before .before .before .before .before .before .before .before .before .before .before .before .before .before .before .args .won .now) (c .before .before .before .before .before .before .before .before .before .before .before .before .before .before .before .before .before .before .before .before .before .before .args .cents .now) (c .before .before .before .before .before .before .before .before .before .before .before .before .before .before .before .before .before .before .before .before .before .before .pre .0) (c .before .before .before .before .before .before .spans .kept .1 .1 .1 .1 .0 ∙ c .before .before .before .before .before .before .before .before .before .before .before .before .before .before .before .before .before .before .before .before .before .before .pre .1 .0) (c .before .before .before .before .before .before .spans .kept .1 .1 .1 .1 .1 .0 ∙ c .before .before .before .before .before .before .before .before .before .before .before .before .before .before .before .before .before .before .before .before .before .before .pre .1 .1 .0) (rw (c .before .before .before .before .before .before .before .before .before .before .before .before .before .before .before .before .before .before .before .before .before .before .pre .1 .0) at (c .before .before .before .before .before .before .spans .ensures)) (c .before .before .before .before .before .before .before .before .before .before .before .prices .ensures), omega (arith, timed Single (c .before .before .before .before .before .before .before .before .before .before .before .before .before .before .before .before .before .before .before .before .before .before .args .tender) (length (c .before .before .before .before .before .before .before .before .before .before .before .before .before .before .before .before .before .before .before .before .before .before .args .prices .now)) (c .before .before .before .before .before .before .before .before .before .before .before .before .before .before .before .before .before .before .before .before .before .before .args .bids .now) (c .before .before .before .before .before .before .before .before .before .before .before .before .before .before .before .before .before .before .before .before .before .before .args .windows .now) (c .before .before .before .before .before .before .before .before .before .before .before .before .before .before .before .before .before .before .before .before .before .before .pre .0) .in-week))
+thin-spans-requires c κs =
+    let c6 = c .before .before .before .before .before .before in
+    let c11 = c6 .before .before .before .before .before in
+    let c22 = c11 .before .before .before .before .before .before .before .before .before .before .before in
+    let args = c22 .args in
+    let pre = c22 .pre in
+    (ordered (args .tender) (length (args .prices .now)) (args .bids .now) (args .windows .now) (c6 .spans .last .1 .1 .1 .1 .0) (c6 .spans .last .1 .1 .1 .1 .1 .0) (c11 .prices .last .1 .0) (args .won .now) (args .cents .now) (pre .0) (c6 .spans .kept .1 .1 .1 .1 .0 ∙ pre .1 .0) (c6 .spans .kept .1 .1 .1 .1 .1 .0 ∙ pre .1 .1 .0) (rw (pre .1 .0) at (c6 .spans .ensures)) (c11 .prices .ensures), omega (arith, timed Single (args .tender) (length (args .prices .now)) (args .bids .now) (args .windows .now) (pre .0) .in-week))
 
--- src/lib.rt:117:24
 enum-known-thin : tie.Need-enum-known-thin
 enum-known-thin c = search needs
 
--- src/lib.rt:118:21
 add-t28 : tie.Need-add-t28
 unfolding cellsOf
-add-t28 c = let s = rw (c .before .before .before .before .before .before .before .before .before .before .spans .kept .1 .1 .1 .1 .0 ∙ c .before .before .before .before .before .before .before .before .before .before .before .before .before .before .before .before .before .before .before .before .before .before .before .before .before .before .pre .1 .0) at (subst (Says (spans (c .before .before .before .before .before .before .before .before .before .before .spans .last .1 .1 .1 .1 .0) (c .before .before .before .before .before .before .before .before .before .before .spans .last .1 .1 .1 .1 .1 .0)) (length (c .before .before .before .before .before .before .before .before .before .before .spans .last .1 .1 .1 .1 .0)) (cellsOf (c .before .before .before .before .before .before .before .before .before .before .before .before .before .before .before .before .before .before .before .before .before .before .before .before .before .before .args .tender))) (c .before .thin .given .1) (c .before .before .before .thin-spans .ensures)) in let d = timed Single (c .before .before .before .before .before .before .before .before .before .before .before .before .before .before .before .before .before .before .before .before .before .before .before .before .before .before .args .tender) (length (c .before .before .before .before .before .before .before .before .before .before .before .before .before .before .before .before .before .before .before .before .before .before .before .before .before .before .args .prices .now)) (c .before .before .before .before .before .before .before .before .before .before .before .before .before .before .before .before .before .before .before .before .before .before .before .before .before .before .args .bids .now) (c .before .before .before .before .before .before .before .before .before .before .before .before .before .before .before .before .before .before .before .before .before .before .before .before .before .before .args .windows .now) (c .before .before .before .before .before .before .before .before .before .before .before .before .before .before .before .before .before .before .before .before .before .before .before .before .before .before .pre .0) in omega (arith, cell-found _ _ _ _ _ s .inside, d .some-minute, d .in-week)
+add-t28 c =
+    let c10 = c .before .before .before .before .before .before .before .before .before .before in
+    let c26 = c10 .before .before .before .before .before .before .before .before .before .before .before .before .before .before .before .before in
+    let args = c26 .args in
+    let pre = c26 .pre in
+    let s = rw (c10 .spans .kept .1 .1 .1 .1 .0 ∙ pre .1 .0) at (subst (Says (spans (c10 .spans .last .1 .1 .1 .1 .0) (c10 .spans .last .1 .1 .1 .1 .1 .0)) (length (c10 .spans .last .1 .1 .1 .1 .0)) (cellsOf (args .tender))) (c .before .thin .given .1) (c .before .before .before .thin-spans .ensures)) in let d = timed Single (args .tender) (length (args .prices .now)) (args .bids .now) (args .windows .now) (pre .0) in omega (arith, cell-found _ _ _ _ _ s .inside, d .some-minute, d .in-week)
 
--- src/lib.rt:121:23
 enum-known-thin-2 : tie.Need-enum-known-thin-2
 enum-known-thin-2 c = search needs
 
--- src/lib.rt:122:21
 add-t30 : tie.Need-add-t30
 unfolding cellsOf
-add-t30 c = let s = rw (c .before .before .before .before .before .before .before .before .before .before .spans .kept .1 .1 .1 .1 .0 ∙ c .before .before .before .before .before .before .before .before .before .before .before .before .before .before .before .before .before .before .before .before .before .before .before .before .before .before .pre .1 .0) at (subst (Says (spans (c .before .before .before .before .before .before .before .before .before .before .spans .last .1 .1 .1 .1 .0) (c .before .before .before .before .before .before .before .before .before .before .spans .last .1 .1 .1 .1 .1 .0)) (length (c .before .before .before .before .before .before .before .before .before .before .spans .last .1 .1 .1 .1 .0)) (cellsOf (c .before .before .before .before .before .before .before .before .before .before .before .before .before .before .before .before .before .before .before .before .before .before .before .before .before .before .args .tender))) (c .before .thin2 .given .1) (c .before .before .before .thin-spans .ensures)) in let d = timed Single (c .before .before .before .before .before .before .before .before .before .before .before .before .before .before .before .before .before .before .before .before .before .before .before .before .before .before .args .tender) (length (c .before .before .before .before .before .before .before .before .before .before .before .before .before .before .before .before .before .before .before .before .before .before .before .before .before .before .args .prices .now)) (c .before .before .before .before .before .before .before .before .before .before .before .before .before .before .before .before .before .before .before .before .before .before .before .before .before .before .args .bids .now) (c .before .before .before .before .before .before .before .before .before .before .before .before .before .before .before .before .before .before .before .before .before .before .before .before .before .before .args .windows .now) (c .before .before .before .before .before .before .before .before .before .before .before .before .before .before .before .before .before .before .before .before .before .before .before .before .before .before .pre .0) in omega (arith, cell-found _ _ _ _ _ (s .1) .inside, d .some-minute, d .in-week)
+add-t30 c =
+    let c10 = c .before .before .before .before .before .before .before .before .before .before in
+    let c26 = c10 .before .before .before .before .before .before .before .before .before .before .before .before .before .before .before .before in
+    let args = c26 .args in
+    let pre = c26 .pre in
+    let s = rw (c10 .spans .kept .1 .1 .1 .1 .0 ∙ pre .1 .0) at (subst (Says (spans (c10 .spans .last .1 .1 .1 .1 .0) (c10 .spans .last .1 .1 .1 .1 .1 .0)) (length (c10 .spans .last .1 .1 .1 .1 .0)) (cellsOf (args .tender))) (c .before .thin2 .given .1) (c .before .before .before .thin-spans .ensures)) in let d = timed Single (args .tender) (length (args .prices .now)) (args .bids .now) (args .windows .now) (pre .0) in omega (arith, cell-found _ _ _ _ _ (s .1) .inside, d .some-minute, d .in-week)
 
--- src/lib.rt:124:55
 enum-told : tie.Need-enum-told
 enum-told c = search needs
 
--- src/lib.rt:124:41
 award-requires : tie.Need-award-requires
 unfolding cellsOf
-award-requires c κs = let h = ordered (c .before .before .before .before .before .before .before .before .before .before .before .before .before .before .before .before .before .before .before .before .before .before .before .before .before .before .before .before .before .before .args .tender) (length (c .before .before .before .before .before .before .before .before .before .before .before .before .before .before .before .before .before .before .before .before .before .before .before .before .before .before .before .before .before .before .args .prices .now)) (c .before .before .before .before .before .before .before .before .before .before .before .before .before .before .before .before .before .before .before .before .before .before .before .before .before .before .before .before .before .before .args .bids .now) (c .before .before .before .before .before .before .before .before .before .before .before .before .before .before .before .before .before .before .before .before .before .before .before .before .before .before .before .before .before .before .args .windows .now) (c .before .before .before .before .before .before .before .before .before .before .before .before .before .before .spans .last .1 .1 .1 .1 .0) (c .before .before .before .before .before .before .before .before .before .before .before .before .before .before .spans .last .1 .1 .1 .1 .1 .0) (c .before .before .before .before .before .before .before .before .before .before .before .before .before .before .before .before .before .before .before .prices .last .1 .0) (c .before .before .before .before .before .before .before .before .before .before .before .before .before .before .before .before .before .before .before .before .before .before .before .before .before .before .before .before .before .before .args .won .now) (c .before .before .before .before .before .before .before .before .before .before .before .before .before .before .before .before .before .before .before .before .before .before .before .before .before .before .before .before .before .before .args .cents .now) (c .before .before .before .before .before .before .before .before .before .before .before .before .before .before .before .before .before .before .before .before .before .before .before .before .before .before .before .before .before .before .pre .0) (c .before .before .before .before .before .before .before .before .before .before .before .before .before .before .spans .kept .1 .1 .1 .1 .0 ∙ c .before .before .before .before .before .before .before .before .before .before .before .before .before .before .before .before .before .before .before .before .before .before .before .before .before .before .before .before .before .before .pre .1 .0) (c .before .before .before .before .before .before .before .before .before .before .before .before .before .before .spans .kept .1 .1 .1 .1 .1 .0 ∙ c .before .before .before .before .before .before .before .before .before .before .before .before .before .before .before .before .before .before .before .before .before .before .before .before .before .before .before .before .before .before .pre .1 .1 .0) (rw (c .before .before .before .before .before .before .before .before .before .before .before .before .before .before .before .before .before .before .before .before .before .before .before .before .before .before .before .before .before .before .pre .1 .0) at (c .before .before .before .before .before .before .before .before .before .before .before .before .before .before .spans .ensures)) (c .before .before .before .before .before .before .before .before .before .before .before .before .before .before .before .before .before .before .before .prices .ensures) in ((omega (arith, c .before .before .before .before .before .before .before .before .before .before .before .before .before .before .before .before .before .before .before .prices .kept .1 .0, orderly Single (c .before .before .before .before .before .before .before .before .before .before .before .before .before .before .before .before .before .before .before .before .before .before .before .before .before .before .before .before .before .before .args .tender) (length (c .before .before .before .before .before .before .before .before .before .before .before .before .before .before .before .before .before .before .before .before .before .before .before .before .before .before .before .before .before .before .args .prices .now)) (c .before .before .before .before .before .before .before .before .before .before .before .before .before .before .before .before .before .before .before .before .before .before .before .before .before .before .before .before .before .before .args .bids .now) (c .before .before .before .before .before .before .before .before .before .before .before .before .before .before .before .before .before .before .before .before .before .before .before .before .before .before .before .before .before .before .args .windows .now) (c .before .before .before .before .before .before .before .before .before .before .before .before .before .before .before .before .before .before .before .before .before .before .before .before .before .before .before .before .before .before .pre .0) .few), (c .before .before .before .before .before .before .before .before .before .before .before .before .before .before .spans .kept .1 .1 .1 .1 .0 ∙ c .before .before .before .before .before .before .before .before .before .before .before .before .before .before .before .before .before .before .before .before .before .before .before .before .before .before .before .before .before .before .pre .1 .0) ∙ sym (c .before .before .before .before .before .before .before .before .before .before .before .before .before .before .before .before .before .before .before .prices .kept .1 .0), (c .before .before .before .before .before .before .before .before .before .before .before .before .before .before .spans .kept .1 .1 .1 .1 .1 .0 ∙ c .before .before .before .before .before .before .before .before .before .before .before .before .before .before .before .before .before .before .before .before .before .before .before .before .before .before .before .before .before .before .pre .1 .1 .0) ∙ sym (c .before .before .before .before .before .before .before .before .before .before .before .before .before .before .before .before .before .before .before .prices .kept .1 .0), omega (arith, timed Single (c .before .before .before .before .before .before .before .before .before .before .before .before .before .before .before .before .before .before .before .before .before .before .before .before .before .before .before .before .before .before .args .tender) (length (c .before .before .before .before .before .before .before .before .before .before .before .before .before .before .before .before .before .before .before .before .before .before .before .before .before .before .before .before .before .before .args .prices .now)) (c .before .before .before .before .before .before .before .before .before .before .before .before .before .before .before .before .before .before .before .before .before .before .before .before .before .before .before .before .before .before .args .bids .now) (c .before .before .before .before .before .before .before .before .before .before .before .before .before .before .before .before .before .before .before .before .before .before .before .before .before .before .before .before .before .before .args .windows .now) (c .before .before .before .before .before .before .before .before .before .before .before .before .before .before .before .before .before .before .before .before .before .before .before .before .before .before .before .before .before .before .pre .0) .some-minute), omega (arith, timed Single (c .before .before .before .before .before .before .before .before .before .before .before .before .before .before .before .before .before .before .before .before .before .before .before .before .before .before .before .before .before .before .args .tender) (length (c .before .before .before .before .before .before .before .before .before .before .before .before .before .before .before .before .before .before .before .before .before .before .before .before .before .before .before .before .before .before .args .prices .now)) (c .before .before .before .before .before .before .before .before .before .before .before .before .before .before .before .before .before .before .before .before .before .before .before .before .before .before .before .before .before .before .args .bids .now) (c .before .before .before .before .before .before .before .before .before .before .before .before .before .before .before .before .before .before .before .before .before .before .before .before .before .before .before .before .before .before .args .windows .now) (c .before .before .before .before .before .before .before .before .before .before .before .before .before .before .before .before .before .before .before .before .before .before .before .before .before .before .before .before .before .before .pre .0) .in-week)), ((omega (arith, c .before .before .before .before .before .before .before .before .before .before .before .before .before .before .before .before .before .before .before .prices .kept .1 .0, c .before .before .before .before .before .before .before .before .before .before .before .before .before .before .before .before .before .before .before .before .before .before .before .before .before .before .before .before .before .before .pre .1 .1 .1 .0), omega (arith, c .before .before .before .before .before .before .before .before .before .before .before .before .before .before .before .before .before .before .before .prices .kept .1 .0, c .before .before .before .before .before .before .before .before .before .before .before .before .before .before .before .before .before .before .before .before .before .before .before .before .before .before .before .before .before .before .pre .1 .1 .1 .1)), (λ i m. (h .ordered i, h .inside i), λ i m. prices-most (c .before .before .before .before .before .before .before .before .before .before .before .before .before .before .before .before .before .before .before .before .before .before .before .before .before .before .before .before .before .before .args .tender) (length (c .before .before .before .before .before .before .before .before .before .before .before .before .before .before .before .before .before .before .before .before .before .before .before .before .before .before .before .before .before .before .args .prices .now)) (c .before .before .before .before .before .before .before .before .before .before .before .before .before .before .before .before .before .before .before .before .before .before .before .before .before .before .before .before .before .before .args .bids .now) (c .before .before .before .before .before .before .before .before .before .before .before .before .before .before .before .before .before .before .before .before .before .before .before .before .before .before .before .before .before .before .args .windows .now) (c .before .before .before .before .before .before .before .before .before .before .before .before .before .before .spans .last .1 .1 .1 .1 .0) (c .before .before .before .before .before .before .before .before .before .before .before .before .before .before .spans .last .1 .1 .1 .1 .1 .0) (c .before .before .before .before .before .before .before .before .before .before .before .before .before .before .before .before .before .before .before .prices .last .1 .0) (c .before .before .before .before .before .before .before .before .before .before .before .before .before .before .before .before .before .before .before .before .before .before .before .before .before .before .before .before .before .before .args .won .now) (c .before .before .before .before .before .before .before .before .before .before .before .before .before .before .before .before .before .before .before .before .before .before .before .before .before .before .before .before .before .before .args .cents .now) (c .before .before .before .before .before .before .before .before .before .before .before .before .before .before .before .before .before .before .before .before .before .before .before .before .before .before .before .before .before .before .pre .0) (c .before .before .before .before .before .before .before .before .before .before .before .before .before .before .spans .kept .1 .1 .1 .1 .0 ∙ c .before .before .before .before .before .before .before .before .before .before .before .before .before .before .before .before .before .before .before .before .before .before .before .before .before .before .before .before .before .before .pre .1 .0) (c .before .before .before .before .before .before .before .before .before .before .before .before .before .before .spans .kept .1 .1 .1 .1 .1 .0 ∙ c .before .before .before .before .before .before .before .before .before .before .before .before .before .before .before .before .before .before .before .before .before .before .before .before .before .before .before .before .before .before .pre .1 .1 .0) (rw (c .before .before .before .before .before .before .before .before .before .before .before .before .before .before .before .before .before .before .before .before .before .before .before .before .before .before .before .before .before .before .pre .1 .0) at (c .before .before .before .before .before .before .before .before .before .before .before .before .before .before .spans .ensures)) (c .before .before .before .before .before .before .before .before .before .before .before .before .before .before .before .before .before .before .before .prices .ensures) i)))
+award-requires c κs =
+    let c14 = c .before .before .before .before .before .before .before .before .before .before .before .before .before .before in
+    let c19 = c14 .before .before .before .before .before in
+    let c30 = c19 .before .before .before .before .before .before .before .before .before .before .before in
+    let args = c30 .args in
+    let pre = c30 .pre in
+    let h = ordered (args .tender) (length (args .prices .now)) (args .bids .now) (args .windows .now) (c14 .spans .last .1 .1 .1 .1 .0) (c14 .spans .last .1 .1 .1 .1 .1 .0) (c19 .prices .last .1 .0) (args .won .now) (args .cents .now) (pre .0) (c14 .spans .kept .1 .1 .1 .1 .0 ∙ pre .1 .0) (c14 .spans .kept .1 .1 .1 .1 .1 .0 ∙ pre .1 .1 .0) (rw (pre .1 .0) at (c14 .spans .ensures)) (c19 .prices .ensures) in ((omega (arith, c19 .prices .kept .1 .0, orderly Single (args .tender) (length (args .prices .now)) (args .bids .now) (args .windows .now) (pre .0) .few), (c14 .spans .kept .1 .1 .1 .1 .0 ∙ pre .1 .0) ∙ sym (c19 .prices .kept .1 .0), (c14 .spans .kept .1 .1 .1 .1 .1 .0 ∙ pre .1 .1 .0) ∙ sym (c19 .prices .kept .1 .0), omega (arith, timed Single (args .tender) (length (args .prices .now)) (args .bids .now) (args .windows .now) (pre .0) .some-minute), omega (arith, timed Single (args .tender) (length (args .prices .now)) (args .bids .now) (args .windows .now) (pre .0) .in-week)), ((omega (arith, c19 .prices .kept .1 .0, pre .1 .1 .1 .0), omega (arith, c19 .prices .kept .1 .0, pre .1 .1 .1 .1)), (λ i m. (h .ordered i, h .inside i), λ i m. prices-most (args .tender) (length (args .prices .now)) (args .bids .now) (args .windows .now) (c14 .spans .last .1 .1 .1 .1 .0) (c14 .spans .last .1 .1 .1 .1 .1 .0) (c19 .prices .last .1 .0) (args .won .now) (args .cents .now) (pre .0) (c14 .spans .kept .1 .1 .1 .1 .0 ∙ pre .1 .0) (c14 .spans .kept .1 .1 .1 .1 .1 .0 ∙ pre .1 .1 .0) (rw (pre .1 .0) at (c14 .spans .ensures)) (c19 .prices .ensures) i)))
 
--- src/lib.rt:94:1
 same-length : tie.Need-same-length
 same-length c = search needs
 
--- src/lib.rt:94:1
 same-length-2 : tie.Need-same-length-2
 same-length-2 c = search needs
 
--- src/lib.rt:94:1
 same-length-3 : tie.Need-same-length-3
 same-length-3 c = search needs
 
--- src/lib.rt:94:1
 returns : tie.Need-returns
 unfolding cellsOf
-returns c = uncovered (c .before .before .before .before .before .before .before .before .before .before .before .before .before .before .before .before .before .before .before .before .before .before .before .before .before .before .args .tender) (length (c .before .before .before .before .before .before .before .before .before .before .before .before .before .before .before .before .before .before .before .before .before .before .before .before .before .before .args .prices .now)) (c .before .before .before .before .before .before .before .before .before .before .before .before .before .before .before .before .before .before .before .before .before .before .before .before .before .before .args .bids .now) (c .before .before .before .before .before .before .before .before .before .before .before .before .before .before .before .before .before .before .before .before .before .before .before .before .before .before .args .windows .now) (c .before .before .before .before .before .before .before .before .before .before .spans .last .1 .1 .1 .1 .0) (c .before .before .before .before .before .before .before .before .before .before .spans .last .1 .1 .1 .1 .1 .0) (c .before .before .before .before .before .before .before .before .before .before .before .before .before .before .before .prices .last .1 .0) (c .before .before .before .before .before .before .before .before .before .before .before .before .before .before .before .before .before .before .before .before .before .before .before .before .before .before .args .won .now) (c .before .before .before .before .before .before .before .before .before .before .before .before .before .before .before .before .before .before .before .before .before .before .before .before .before .before .args .cents .now) (c .before .before .before .before .before .before .before .before .before .before .before .before .before .before .before .before .before .before .before .before .before .before .before .before .before .before .pre .0) (c .before .before .before .before .before .before .before .before .before .before .spans .kept .1 .1 .1 .1 .0 ∙ c .before .before .before .before .before .before .before .before .before .before .before .before .before .before .before .before .before .before .before .before .before .before .before .before .before .before .pre .1 .0) (c .before .before .before .before .before .before .before .before .before .before .spans .kept .1 .1 .1 .1 .1 .0 ∙ c .before .before .before .before .before .before .before .before .before .before .before .before .before .before .before .before .before .before .before .before .before .before .before .before .before .before .pre .1 .1 .0) (rw (c .before .before .before .before .before .before .before .before .before .before .before .before .before .before .before .before .before .before .before .before .before .before .before .before .before .before .pre .1 .0) at (c .before .before .before .before .before .before .before .before .before .before .spans .ensures)) (c .before .before .before .before .before .before .before .before .before .before .before .before .before .before .before .prices .ensures) _ (rw (c .before .before .before .before .before .before .before .before .before .before .spans .kept .1 .1 .1 .1 .0 ∙ c .before .before .before .before .before .before .before .before .before .before .before .before .before .before .before .before .before .before .before .before .before .before .before .before .before .before .pre .1 .0) at (subst (Says (spans (c .before .before .before .before .before .before .before .before .before .before .spans .last .1 .1 .1 .1 .0) (c .before .before .before .before .before .before .before .before .before .before .spans .last .1 .1 .1 .1 .1 .0)) (length (c .before .before .before .before .before .before .before .before .before .before .spans .last .1 .1 .1 .1 .0)) (cellsOf (c .before .before .before .before .before .before .before .before .before .before .before .before .before .before .before .before .before .before .before .before .before .before .before .before .before .before .args .tender))) (c .before .thin .given .1) (c .before .before .before .thin-spans .ensures)))
+returns c =
+    let c10 = c .before .before .before .before .before .before .before .before .before .before in
+    let c15 = c10 .before .before .before .before .before in
+    let c26 = c15 .before .before .before .before .before .before .before .before .before .before .before in
+    let args = c26 .args in
+    let pre = c26 .pre in
+    uncovered (args .tender) (length (args .prices .now)) (args .bids .now) (args .windows .now) (c10 .spans .last .1 .1 .1 .1 .0) (c10 .spans .last .1 .1 .1 .1 .1 .0) (c15 .prices .last .1 .0) (args .won .now) (args .cents .now) (pre .0) (c10 .spans .kept .1 .1 .1 .1 .0 ∙ pre .1 .0) (c10 .spans .kept .1 .1 .1 .1 .1 .0 ∙ pre .1 .1 .0) (rw (pre .1 .0) at (c10 .spans .ensures)) (c15 .prices .ensures) _ (rw (c10 .spans .kept .1 .1 .1 .1 .0 ∙ pre .1 .0) at (subst (Says (spans (c10 .spans .last .1 .1 .1 .1 .0) (c10 .spans .last .1 .1 .1 .1 .1 .0)) (length (c10 .spans .last .1 .1 .1 .1 .0)) (cellsOf (args .tender))) (c .before .thin .given .1) (c .before .before .before .thin-spans .ensures)))
 
--- src/lib.rt:94:1
 same-length-4 : tie.Need-same-length-4
 same-length-4 c = search needs
 
--- src/lib.rt:94:1
 same-length-5 : tie.Need-same-length-5
 same-length-5 c = search needs
 
--- src/lib.rt:94:1
 same-length-6 : tie.Need-same-length-6
 same-length-6 c = search needs
 
--- src/lib.rt:94:1
 returns-2 : tie.Need-returns-2
 unfolding cellsOf
-returns-2 c = lone (c .before .before .before .before .before .before .before .before .before .before .before .before .before .before .before .before .before .before .before .before .before .before .before .before .before .before .args .tender) (length (c .before .before .before .before .before .before .before .before .before .before .before .before .before .before .before .before .before .before .before .before .before .before .before .before .before .before .args .prices .now)) (c .before .before .before .before .before .before .before .before .before .before .before .before .before .before .before .before .before .before .before .before .before .before .before .before .before .before .args .bids .now) (c .before .before .before .before .before .before .before .before .before .before .before .before .before .before .before .before .before .before .before .before .before .before .before .before .before .before .args .windows .now) (c .before .before .before .before .before .before .before .before .before .before .spans .last .1 .1 .1 .1 .0) (c .before .before .before .before .before .before .before .before .before .before .spans .last .1 .1 .1 .1 .1 .0) (c .before .before .before .before .before .before .before .before .before .before .before .before .before .before .before .prices .last .1 .0) (c .before .before .before .before .before .before .before .before .before .before .before .before .before .before .before .before .before .before .before .before .before .before .before .before .before .before .args .won .now) (c .before .before .before .before .before .before .before .before .before .before .before .before .before .before .before .before .before .before .before .before .before .before .before .before .before .before .args .cents .now) (c .before .before .before .before .before .before .before .before .before .before .before .before .before .before .before .before .before .before .before .before .before .before .before .before .before .before .pre .0) (c .before .before .before .before .before .before .before .before .before .before .spans .kept .1 .1 .1 .1 .0 ∙ c .before .before .before .before .before .before .before .before .before .before .before .before .before .before .before .before .before .before .before .before .before .before .before .before .before .before .pre .1 .0) (c .before .before .before .before .before .before .before .before .before .before .spans .kept .1 .1 .1 .1 .1 .0 ∙ c .before .before .before .before .before .before .before .before .before .before .before .before .before .before .before .before .before .before .before .before .before .before .before .before .before .before .pre .1 .1 .0) (rw (c .before .before .before .before .before .before .before .before .before .before .before .before .before .before .before .before .before .before .before .before .before .before .before .before .before .before .pre .1 .0) at (c .before .before .before .before .before .before .before .before .before .before .spans .ensures)) (c .before .before .before .before .before .before .before .before .before .before .before .before .before .before .before .prices .ensures) _ (rw (c .before .before .before .before .before .before .before .before .before .before .spans .kept .1 .1 .1 .1 .0 ∙ c .before .before .before .before .before .before .before .before .before .before .before .before .before .before .before .before .before .before .before .before .before .before .before .before .before .before .pre .1 .0) at (subst (Says (spans (c .before .before .before .before .before .before .before .before .before .before .spans .last .1 .1 .1 .1 .0) (c .before .before .before .before .before .before .before .before .before .before .spans .last .1 .1 .1 .1 .1 .0)) (length (c .before .before .before .before .before .before .before .before .before .before .spans .last .1 .1 .1 .1 .0)) (cellsOf (c .before .before .before .before .before .before .before .before .before .before .before .before .before .before .before .before .before .before .before .before .before .before .before .before .before .before .args .tender))) (c .before .thin2 .given .1) (c .before .before .before .thin-spans .ensures)))
+returns-2 c =
+    let c10 = c .before .before .before .before .before .before .before .before .before .before in
+    let c15 = c10 .before .before .before .before .before in
+    let c26 = c15 .before .before .before .before .before .before .before .before .before .before .before in
+    let args = c26 .args in
+    let pre = c26 .pre in
+    lone (args .tender) (length (args .prices .now)) (args .bids .now) (args .windows .now) (c10 .spans .last .1 .1 .1 .1 .0) (c10 .spans .last .1 .1 .1 .1 .1 .0) (c15 .prices .last .1 .0) (args .won .now) (args .cents .now) (pre .0) (c10 .spans .kept .1 .1 .1 .1 .0 ∙ pre .1 .0) (c10 .spans .kept .1 .1 .1 .1 .1 .0 ∙ pre .1 .1 .0) (rw (pre .1 .0) at (c10 .spans .ensures)) (c15 .prices .ensures) _ (rw (c10 .spans .kept .1 .1 .1 .1 .0 ∙ pre .1 .0) at (subst (Says (spans (c10 .spans .last .1 .1 .1 .1 .0) (c10 .spans .last .1 .1 .1 .1 .1 .0)) (length (c10 .spans .last .1 .1 .1 .1 .0)) (cellsOf (args .tender))) (c .before .thin2 .given .1) (c .before .before .before .thin-spans .ensures)))
 
--- src/lib.rt:94:1
 same-length-7 : tie.Need-same-length-7
 same-length-7 c = search needs
 
--- src/lib.rt:94:1
 same-length-8 : tie.Need-same-length-8
 same-length-8 c = search needs
 
--- src/lib.rt:94:1
 same-length-9 : tie.Need-same-length-9
 same-length-9 c = search needs
 
--- src/lib.rt:94:1
 same-length-10 : tie.Need-same-length-10
 same-length-10 c = search needs
 
--- src/lib.rt:94:1
 same-length-11 : tie.Need-same-length-11
 same-length-11 c = search needs
 
--- src/lib.rt:94:1
 returns-3 : tie.Need-returns-3
 unfolding cellsOf
-returns-3 c = settled (c .before .before .before .before .before .before .before .before .before .before .before .before .before .before .before .before .before .before .before .before .before .before .before .before .before .before .before .before .before .before .before .before .before .before .before .args .tender) (length (c .before .before .before .before .before .before .before .before .before .before .before .before .before .before .before .before .before .before .before .before .before .before .before .before .before .before .before .before .before .before .before .before .before .before .before .args .prices .now)) (c .before .before .before .before .before .before .before .before .before .before .before .before .before .before .before .before .before .before .before .before .before .before .before .before .before .before .before .before .before .before .before .before .before .before .before .args .bids .now) (c .before .before .before .before .before .before .before .before .before .before .before .before .before .before .before .before .before .before .before .before .before .before .before .before .before .before .before .before .before .before .before .before .before .before .before .args .windows .now) (c .before .before .before .before .before .before .before .before .before .before .before .before .before .before .before .before .before .before .before .spans .last .1 .1 .1 .1 .0) (c .before .before .before .before .before .before .before .before .before .before .before .before .before .before .before .before .before .before .before .spans .last .1 .1 .1 .1 .1 .0) (c .before .before .before .before .before .before .before .before .before .before .before .before .before .before .before .before .before .before .before .before .before .before .before .before .prices .last .1 .0) (c .before .before .before .before .before .before .before .before .before .before .before .before .before .before .before .before .before .before .before .before .before .before .before .before .before .before .before .before .before .before .before .before .before .before .before .args .won .now) (c .before .before .before .before .before .before .before .before .before .before .before .before .before .before .before .before .before .before .before .before .before .before .before .before .before .before .before .before .before .before .before .before .before .before .before .args .cents .now) (c .before .before .before .before .before .before .before .before .before .before .before .before .before .before .before .before .before .before .before .before .before .before .before .before .before .before .before .before .before .before .before .before .before .before .before .pre .0) (c .before .before .before .before .before .before .before .before .before .before .before .before .before .before .before .before .before .before .before .spans .kept .1 .1 .1 .1 .0 ∙ c .before .before .before .before .before .before .before .before .before .before .before .before .before .before .before .before .before .before .before .before .before .before .before .before .before .before .before .before .before .before .before .before .before .before .before .pre .1 .0) (c .before .before .before .before .before .before .before .before .before .before .before .before .before .before .before .before .before .before .before .spans .kept .1 .1 .1 .1 .1 .0 ∙ c .before .before .before .before .before .before .before .before .before .before .before .before .before .before .before .before .before .before .before .before .before .before .before .before .before .before .before .before .before .before .before .before .before .before .before .pre .1 .1 .0) (rw (c .before .before .before .before .before .before .before .before .before .before .before .before .before .before .before .before .before .before .before .before .before .before .before .before .before .before .before .before .before .before .before .before .before .before .before .pre .1 .0) at (c .before .before .before .before .before .before .before .before .before .before .before .before .before .before .before .before .before .before .before .spans .ensures)) (c .before .before .before .before .before .before .before .before .before .before .before .before .before .before .before .before .before .before .before .before .before .before .before .before .prices .ensures) (rw (c .before .before .before .before .before .before .before .before .before .before .before .before .before .before .before .before .before .before .before .spans .kept .1 .1 .1 .1 .0 ∙ c .before .before .before .before .before .before .before .before .before .before .before .before .before .before .before .before .before .before .before .before .before .before .before .before .before .before .before .before .before .before .before .before .before .before .before .pre .1 .0) at (subst (Says (spans (c .before .before .before .before .before .before .before .before .before .before .before .before .before .before .before .before .before .before .before .spans .last .1 .1 .1 .1 .0) (c .before .before .before .before .before .before .before .before .before .before .before .before .before .before .before .before .before .before .before .spans .last .1 .1 .1 .1 .1 .0)) (length (c .before .before .before .before .before .before .before .before .before .before .before .before .before .before .before .before .before .before .before .spans .last .1 .1 .1 .1 .0)) (cellsOf (c .before .before .before .before .before .before .before .before .before .before .before .before .before .before .before .before .before .before .before .before .before .before .before .before .before .before .before .before .before .before .before .before .before .before .before .args .tender))) (c .before .before .before .before .before .before .before .before .before .before .enum-told .given .1) (c .before .before .before .before .before .before .before .before .before .before .before .before .thin-spans .ensures))) (c .before .before .before .before .award .last .1 .1 .1 .1 .0) (c .before .before .before .before .award .last .1 .1 .1 .1 .1 .0) (c .before .before .before .before .award .result) (c .before .before .before .before .award .ensures)
+returns-3 c =
+    let c4 = c .before .before .before .before in
+    let c10 = c4 .before .before .before .before .before .before in
+    let c12 = c10 .before .before in
+    let c19 = c12 .before .before .before .before .before .before .before in
+    let c24 = c19 .before .before .before .before .before in
+    let c35 = c24 .before .before .before .before .before .before .before .before .before .before .before in
+    let args = c35 .args in
+    let pre = c35 .pre in
+    settled (args .tender) (length (args .prices .now)) (args .bids .now) (args .windows .now) (c19 .spans .last .1 .1 .1 .1 .0) (c19 .spans .last .1 .1 .1 .1 .1 .0) (c24 .prices .last .1 .0) (args .won .now) (args .cents .now) (pre .0) (c19 .spans .kept .1 .1 .1 .1 .0 ∙ pre .1 .0) (c19 .spans .kept .1 .1 .1 .1 .1 .0 ∙ pre .1 .1 .0) (rw (pre .1 .0) at (c19 .spans .ensures)) (c24 .prices .ensures) (rw (c19 .spans .kept .1 .1 .1 .1 .0 ∙ pre .1 .0) at (subst (Says (spans (c19 .spans .last .1 .1 .1 .1 .0) (c19 .spans .last .1 .1 .1 .1 .1 .0)) (length (c19 .spans .last .1 .1 .1 .1 .0)) (cellsOf (args .tender))) (c10 .enum-told .given .1) (c12 .thin-spans .ensures))) (c4 .award .last .1 .1 .1 .1 .0) (c4 .award .last .1 .1 .1 .1 .1 .0) (c4 .award .result) (c4 .award .ensures)
 
 pub single-in-spec : {M : Type 1} → statement M
 single-in-spec =

@@ -23,47 +23,40 @@ Inv-cells masks w n cells x₀ x = Looking (has masks w) n cells x
 abbrev μ-cells : tie.MeasureT-cells
 μ-cells masks w n cells x₀ x = cells - x
 
--- src/lib.rt:177:5
 cells-holds : tie.Need-cells-holds Inv-loop μ-loop Inv-cells μ-cells
 cells-holds c = looks-none _ _ _
 
--- src/lib.rt:179:9
 loop-holds : tie.Need-loop-holds Inv-loop μ-loop Inv-cells μ-cells
 loop-holds c = (asks-none _ _ _ _ (c .before .cells .inv) (c .cells-test .taken), refl)
 
--- src/lib.rt:180:16
 mask-has-requires : tie.Need-mask-has-requires Inv-loop μ-loop Inv-cells μ-cells
-mask-has-requires c κs = (omega (arith, c .before .before .before .before .before .pre .0, row-within (c .before .before .before .before .before .args .w) (c .before .before .before .before .before .args .n) (c .before .loop .i) (c .loop-test .taken)), omega (arith, c .before .loop .inv .0 .here, c .before .before .before .before .before .pre .1))
+mask-has-requires c κs =
+    let c5 = c .before .before .before .before .before in
+    let args = c5 .args in
+    let pre = c5 .pre in
+    (omega (arith, pre .0, row-within (args .w) (args .n) (c .before .loop .i) (c .loop-test .taken)), omega (arith, c .before .loop .inv .0 .here, pre .1))
 
--- src/lib.rt:181:17
 add-x : tie.Need-add-x Inv-loop μ-loop Inv-cells μ-cells
 add-x c = omega (arith, c .before .before .before .loop .inv .0 .here, c .before .before .before .loop .inv .1)
 
--- src/lib.rt:177:5
 cells-less : tie.Need-cells-less Inv-loop μ-loop Inv-cells μ-cells
 cells-less c = omega (arith, c .before .before .before .loop .inv .0 .here, c .before .before .before .loop .inv .1)
 
--- src/lib.rt:177:5
 cells-again : tie.Need-cells-again Inv-loop μ-loop Inv-cells μ-cells
 cells-again c = looks-on (c .before .before .before .loop .inv .0) (c .before .before .loop-test .taken) (sym (c .before .mask-has .ensures) ∙ c .if1 .taken)
 
--- src/lib.rt:184:13
 add-i : tie.Need-add-i Inv-loop μ-loop Inv-cells μ-cells
 add-i c = omega arith
 
--- src/lib.rt:179:9
 loop-less : tie.Need-loop-less Inv-loop μ-loop Inv-cells μ-cells
 loop-less c = omega arith
 
--- src/lib.rt:179:9
 loop-again : tie.Need-loop-again Inv-loop μ-loop Inv-cells μ-cells
 loop-again c = (asks-on (c .before .before .before .loop .inv .0) (c .before .before .loop-test .taken) (sym (c .before .mask-has .ensures) ∙ c .if1 .left), c .before .before .before .loop .inv .1)
 
--- src/lib.rt:186:9
 returns : tie.Need-returns Inv-loop μ-loop Inv-cells μ-cells
 returns c = bare-found (c .before .loop .inv .0) (c .loop-test .left)
 
--- src/lib.rt:172:1
 returns-2 : tie.Need-returns-2 Inv-loop μ-loop Inv-cells μ-cells
 returns-2 c = bare-none (c .before .cells .inv) (c .cells-test .left)
 

@@ -23,47 +23,38 @@ Inv-cells starts ends cells x₀ x = Looking (spans starts ends) (length starts)
 abbrev μ-cells : tie.MeasureT-cells
 μ-cells starts ends cells x₀ x = cells - x
 
--- src/lib.rt:64:5
 cells-holds : tie.Need-cells-holds Inv-loop μ-loop Inv-cells μ-cells
 cells-holds c = looks-none _ _ _
 
--- src/lib.rt:66:9
 loop-holds : tie.Need-loop-holds Inv-loop μ-loop Inv-cells μ-cells
 loop-holds c = (asks-none _ _ _ _ (c .before .cells .inv) (c .cells-test .taken), refl)
 
--- src/lib.rt:67:16
 span-has-requires : tie.Need-span-has-requires Inv-loop μ-loop Inv-cells μ-cells
-span-has-requires c κs = (omega arith, c .before .before .before .before .before .before .pre)
+span-has-requires c κs =
+    let c6 = c .before .before .before .before .before .before in
+    (omega arith, c6 .pre)
 
--- src/lib.rt:68:17
 add-x : tie.Need-add-x Inv-loop μ-loop Inv-cells μ-cells
 add-x c = omega (arith, c .before .before .before .loop .inv .0 .here, c .before .before .before .loop .inv .1)
 
--- src/lib.rt:64:5
 cells-less : tie.Need-cells-less Inv-loop μ-loop Inv-cells μ-cells
 cells-less c = omega (arith, c .before .before .before .loop .inv .0 .here, c .before .before .before .loop .inv .1)
 
--- src/lib.rt:64:5
 cells-again : tie.Need-cells-again Inv-loop μ-loop Inv-cells μ-cells
 cells-again c = looks-on (c .before .before .before .loop .inv .0) (c .before .before .loop-test .taken) (sym (c .before .span-has .ensures) ∙ c .if1 .taken)
 
--- src/lib.rt:71:13
 add-i : tie.Need-add-i Inv-loop μ-loop Inv-cells μ-cells
 add-i c = omega arith
 
--- src/lib.rt:66:9
 loop-less : tie.Need-loop-less Inv-loop μ-loop Inv-cells μ-cells
 loop-less c = omega arith
 
--- src/lib.rt:66:9
 loop-again : tie.Need-loop-again Inv-loop μ-loop Inv-cells μ-cells
 loop-again c = (asks-on (c .before .before .before .loop .inv .0) (c .before .before .loop-test .taken) (sym (c .before .span-has .ensures) ∙ c .if1 .left), c .before .before .before .loop .inv .1)
 
--- src/lib.rt:73:9
 returns : tie.Need-returns Inv-loop μ-loop Inv-cells μ-cells
 returns c = bare-found (c .before .loop .inv .0) (c .loop-test .left)
 
--- src/lib.rt:59:1
 returns-2 : tie.Need-returns-2 Inv-loop μ-loop Inv-cells μ-cells
 returns-2 c = bare-none (c .before .cells .inv) (c .cells-test .left)
 

@@ -16,55 +16,53 @@ Inv-loop at table₀ i₀ table i = (i ≤ length at) × ((length table ≡ leng
 abbrev μ-loop : tie.MeasureT-loop
 μ-loop at table₀ i₀ table i = length at - i
 
--- src/lib.rt:24:5
 loop-holds : tie.Need-loop-holds Inv-loop μ-loop
 loop-holds c = (omega arith, (refl, λ x. c .pre .1 .1 x ∙ omega (arith, times-none (c .args .at .now) x)))
 
--- src/lib.rt:25:17
 mul-x : tie.Need-mul-x Inv-loop μ-loop
 mul-x c = omega arith
 
--- src/lib.rt:25:17
 shared-slice-read-x : tie.Need-shared-slice-read-x Inv-loop μ-loop
 shared-slice-read-x c = omega arith
 
--- src/lib.rt:26:20
 mul-table : tie.Need-mul-table Inv-loop μ-loop
 mul-table c = omega (arith, c .before .before .before .pre .1 .0 (c .before .before .loop .i))
 
--- src/lib.rt:26:20
 slice-read-table : tie.Need-slice-read-table Inv-loop μ-loop
-slice-read-table c = omega (arith, c .before .before .before .before .pre .1 .0 (c .before .before .before .loop .i))
+slice-read-table c =
+    let c4 = c .before .before .before .before in
+    omega (arith, c4 .pre .1 .0 (c .before .before .before .loop .i))
 
--- src/lib.rt:26:20
 add-table : tie.Need-add-table Inv-loop μ-loop
-add-table c = omega (arith, c .before .before .before .loop .inv .1 .1 (getD (c .before .before .before .before .args .at .now) (c .before .before .before .loop .i) 0), times-most (c .before .before .before .before .args .at .now) (c .before .before .before .loop .i) (getD (c .before .before .before .before .args .at .now) (c .before .before .before .loop .i) 0))
+add-table c =
+    let c4 = c .before .before .before .before in
+    let args = c4 .args in
+    omega (arith, c .before .before .before .loop .inv .1 .1 (getD (args .at .now) (c .before .before .before .loop .i) 0), times-most (args .at .now) (c .before .before .before .loop .i) (getD (args .at .now) (c .before .before .before .loop .i) 0))
 
--- src/lib.rt:26:9
 mul-table-2 : tie.Need-mul-table-2 Inv-loop μ-loop
-mul-table-2 c = omega (arith, c .before .before .before .before .pre .1 .0 (c .before .before .before .loop .i))
+mul-table-2 c =
+    let c4 = c .before .before .before .before in
+    omega (arith, c4 .pre .1 .0 (c .before .before .before .loop .i))
 
--- src/lib.rt:26:9
 slice-write-table : tie.Need-slice-write-table Inv-loop μ-loop
-slice-write-table c = omega (arith, c .before .before .before .before .pre .1 .0 (c .before .before .before .loop .i))
+slice-write-table c =
+    let c4 = c .before .before .before .before in
+    omega (arith, c4 .pre .1 .0 (c .before .before .before .loop .i))
 
--- src/lib.rt:27:9
 add-i : tie.Need-add-i Inv-loop μ-loop
 add-i c = omega arith
 
--- src/lib.rt:24:5
 loop-less : tie.Need-loop-less Inv-loop μ-loop
 loop-less c = omega arith
 
--- src/lib.rt:24:5
 loop-again : tie.Need-loop-again Inv-loop μ-loop
-loop-again c = (omega arith, (simp length-set (c .before .before .before .loop .inv .1 .0), counted (c .before .before .before .before .args .at .now) (c .before .before .before .loop .table) (c .before .before .before .loop .i) (omega (arith, c .before .before .before .before .pre .1 .0 (c .before .before .before .loop .i))) (c .before .before .before .loop .inv .1 .1)))
+loop-again c =
+    let c4 = c .before .before .before .before in
+    (omega arith, (simp length-set (c .before .before .before .loop .inv .1 .0), counted (c4 .args .at .now) (c .before .before .before .loop .table) (c .before .before .before .loop .i) (omega (arith, c4 .pre .1 .0 (c .before .before .before .loop .i))) (c .before .before .before .loop .inv .1 .1)))
 
--- src/lib.rt:19:1
 same-length : tie.Need-same-length Inv-loop μ-loop
 same-length c = omega arith
 
--- src/lib.rt:19:1
 returns : tie.Need-returns Inv-loop μ-loop
 returns c = λ x. c .before .loop .inv .1 .1 x ∙ ap (λ (n : ℕ). times (c .before .before .args .at .now) n x) (omega arith)
 

@@ -10,41 +10,44 @@ use Rattle.award_thin.proofs.gather.Reads as gather-reads
 use Rattle.cells.proofs.next.Reads as next-reads
 use Rattle.multi_rounds.proofs.unlock.Reads as unlock-reads
 
--- src/lib.rt:106:5
 unlock-requires : tie.Need-unlock-requires
 unlock-requires c κs = search needs
 
--- src/lib.rt:107:5
 gather-requires : tie.Need-gather-requires
 gather-requires c κs = search needs
 
--- src/lib.rt:108:9
 next-requires : tie.Need-next-requires
 next-requires c κs = search needs
 
--- src/lib.rt:110:9
 same-length : tie.Need-same-length
 same-length c = search needs
 
--- src/lib.rt:110:9
 same-length-2 : tie.Need-same-length-2
 same-length-2 c = search needs
 
--- src/lib.rt:110:9
 returns : tie.Need-returns
-returns c = first-found (c .before .before .before .before .before .before .before .before .before .before .before .before .before .before .before .before .args .masks .now) (c .before .before .before .before .before .before .before .before .before .before .before .before .before .before .before .before .args .w) (c .before .before .before .before .before .before .before .before .before .before .before .before .before .before .before .before .args .n) (c .before .before .before .before .before .before .before .before .before .before .before .before .before .before .before .before .args .cells) (c .before .before .before .before .before .before .before .before .before .before .before .unlock .last .0) (c .before .before .before .before .before .before .gather .last .1 .1 .1 .1 .0) (c .before .next .result) (c .before .before .before .before .before .before .before .before .before .before .before .unlock .ensures) (c .before .before .before .before .before .before .gather .ensures) (c .before .next .ensures) (c .before .before .before .before .before .before .before .before .before .before .before .unlock .kept .0 ∙ c .before .before .before .before .before .before .before .before .before .before .before .before .before .before .before .before .pre .1 .1 .1 .0) (c .before .before .before .before .before .before .before .before .before .before .before .before .before .before .before .before .pre .1 .1 .0) (c .if1 .taken)
+returns c =
+    let c6 = c .before .before .before .before .before .before in
+    let c11 = c6 .before .before .before .before .before in
+    let c16 = c11 .before .before .before .before .before in
+    let args = c16 .args in
+    let pre = c16 .pre in
+    first-found (args .masks .now) (args .w) (args .n) (args .cells) (c11 .unlock .last .0) (c6 .gather .last .1 .1 .1 .1 .0) (c .before .next .result) (c11 .unlock .ensures) (c6 .gather .ensures) (c .before .next .ensures) (c11 .unlock .kept .0 ∙ pre .1 .1 .1 .0) (pre .1 .1 .0) (c .if1 .taken)
 
--- src/lib.rt:102:1
 same-length-3 : tie.Need-same-length-3
 same-length-3 c = search needs
 
--- src/lib.rt:102:1
 same-length-4 : tie.Need-same-length-4
 same-length-4 c = search needs
 
--- src/lib.rt:102:1
 returns-2 : tie.Need-returns-2
-returns-2 c = first-none (c .before .before .before .before .before .before .before .before .before .before .before .before .before .before .before .before .args .masks .now) (c .before .before .before .before .before .before .before .before .before .before .before .before .before .before .before .before .args .w) (c .before .before .before .before .before .before .before .before .before .before .before .before .before .before .before .before .args .n) (c .before .before .before .before .before .before .before .before .before .before .before .before .before .before .before .before .args .cells) (c .before .before .before .before .before .before .before .before .before .before .before .unlock .last .0) (c .before .before .before .before .before .before .gather .last .1 .1 .1 .1 .0) (c .before .next .result) (c .before .before .before .before .before .before .before .before .before .before .before .unlock .ensures) (c .before .before .before .before .before .before .gather .ensures) (c .before .next .ensures) (c .before .before .before .before .before .before .before .before .before .before .before .unlock .kept .0 ∙ c .before .before .before .before .before .before .before .before .before .before .before .before .before .before .before .before .pre .1 .1 .1 .0) (c .before .before .before .before .before .before .before .before .before .before .before .before .before .before .before .before .pre .1 .1 .0) (c .if1 .left)
+returns-2 c =
+    let c6 = c .before .before .before .before .before .before in
+    let c11 = c6 .before .before .before .before .before in
+    let c16 = c11 .before .before .before .before .before in
+    let args = c16 .args in
+    let pre = c16 .pre in
+    first-none (args .masks .now) (args .w) (args .n) (args .cells) (c11 .unlock .last .0) (c6 .gather .last .1 .1 .1 .1 .0) (c .before .next .result) (c11 .unlock .ensures) (c6 .gather .ensures) (c .before .next .ensures) (c11 .unlock .kept .0 ∙ pre .1 .1 .1 .0) (pre .1 .1 .0) (c .if1 .left)
 
 pub first-below-spec : {M : Type 1} → statement M
 first-below-spec =

@@ -18,49 +18,45 @@ Inv-loop masks w n wanted enough₀ q₀ enough q = (q ≤ w) × ((length enough
 abbrev μ-loop : tie.MeasureT-loop
 μ-loop masks w n wanted enough₀ q₀ enough q = w - q
 
--- src/lib.rt:95:5
 loop-holds : tie.Need-loop-holds Inv-loop μ-loop
-loop-holds c = (omega arith, (refl, gathered-none (c .before .before .before .args .masks .now) (c .before .before .before .args .w) (c .before .before .before .args .n) (c .before .before .before .args .wanted .now) (c .before .before .before .args .enough .now)))
+loop-holds c =
+    let args = c .before .before .before .args in
+    (omega arith, (refl, gathered-none (args .masks .now) (args .w) (args .n) (args .wanted .now) (args .enough .now)))
 
--- src/lib.rt:96:42
 mul-seen : tie.Need-mul-seen Inv-loop μ-loop
 mul-seen c = search needs
 
--- src/lib.rt:96:42
 shared-slice-read-seen : tie.Need-shared-slice-read-seen Inv-loop μ-loop
 shared-slice-read-seen c = search needs
 
--- src/lib.rt:96:21
 seen-requires : tie.Need-seen-requires Inv-loop μ-loop
 seen-requires c κs = search needs
 
--- src/lib.rt:96:9
 mul-enough : tie.Need-mul-enough Inv-loop μ-loop
 mul-enough c = search needs
 
--- src/lib.rt:96:9
 slice-write-enough : tie.Need-slice-write-enough Inv-loop μ-loop
 slice-write-enough c = search needs
 
--- src/lib.rt:97:9
 add-q : tie.Need-add-q Inv-loop μ-loop
 add-q c = search needs
 
--- src/lib.rt:95:5
 loop-less : tie.Need-loop-less Inv-loop μ-loop
 loop-less c = search needs
 
--- src/lib.rt:95:5
 loop-again : tie.Need-loop-again Inv-loop μ-loop
-loop-again c = (omega arith, (simp length-set (c .before .before .before .loop .inv .1 .0), gathered-more (c .before .before .before .before .before .before .before .args .masks .now) (c .before .before .before .before .before .before .before .args .w) (c .before .before .before .before .before .before .before .args .n) (c .before .before .before .before .before .before .before .args .wanted .now) (c .before .before .before .loop .enough) (c .before .before .before .loop .q) (c .seen .result) (omega arith) (c .before .before .before .loop .inv .1 .1) (c .seen .ensures)))
+loop-again c =
+    let c7 = c .before .before .before .before .before .before .before in
+    let args = c7 .args in
+    (omega arith, (simp length-set (c .before .before .before .loop .inv .1 .0), gathered-more (args .masks .now) (args .w) (args .n) (args .wanted .now) (c .before .before .before .loop .enough) (c .before .before .before .loop .q) (c .seen .result) (omega arith) (c .before .before .before .loop .inv .1 .1) (c .seen .ensures)))
 
--- src/lib.rt:90:1
 same-length : tie.Need-same-length Inv-loop μ-loop
 same-length c = c .before .loop .inv .1 .0
 
--- src/lib.rt:90:1
 returns : tie.Need-returns Inv-loop μ-loop
-returns c = let e : c .before .loop .q ≡ c .before .before .before .before .before .args .w = omega arith in rw e at (c .before .loop .inv .1 .1)
+returns c =
+    let c5 = c .before .before .before .before .before in
+    let e : c .before .loop .q ≡ c5 .args .w = omega arith in rw e at (c .before .loop .inv .1 .1)
 
 pub gather-spec : {M : Type 1} → statement M
 gather-spec =

@@ -11,38 +11,32 @@ use Rattle.award_thin.proofs.mask_has.Reads as reads
 use Rattle.award_thin.proofs.mask_has.Lts as lts
 use Rattle.cells.proofs.holds.Reads as holds-reads
 
--- src/lib.rt:166:13
 mul-a : tie.Need-mul-a
 mul-a c = search needs
 
--- src/lib.rt:167:13
 add-e : tie.Need-add-e
 add-e c = search needs
 
--- src/lib.rt:168:18
 mul-holds : tie.Need-mul-holds
 mul-holds c = search needs
 
--- src/lib.rt:168:18
 sub-holds : tie.Need-sub-holds
 sub-holds c = search needs
 
--- src/lib.rt:168:18
 part-holds-start : tie.Need-part-holds-start
 part-holds-start c = search needs
 
--- src/lib.rt:168:18
 part-holds-end : tie.Need-part-holds-end
 part-holds-end c = search needs
 
--- src/lib.rt:168:5
 holds-requires : tie.Need-holds-requires
 holds-requires c κs = search needs
 
--- src/lib.rt:162:1
 returns : tie.Need-returns
 unfolding has
-returns c = c .holds .ensures ∙ ap (λ r. eqb (cell r (c .before .before .before .args .x)) 1) (part-row (c .before .before .before .args .masks .now) (c .before .before .before .args .w) (c .before .before .before .args .i))
+returns c =
+    let args = c .before .before .before .args in
+    c .holds .ensures ∙ ap (λ r. eqb (cell r (args .x)) 1) (part-row (args .masks .now) (args .w) (args .i))
 
 pub mask-has-spec : {M : Type 1} → statement M
 mask-has-spec =

@@ -8,27 +8,24 @@ use Rattle.award_thin.proofs.masks_below.Reads as reads
 use Rattle.award_thin.proofs.masks_below.Lts as lts
 use Rattle.award_thin.proofs.first_below.Reads as first-below-reads
 
--- src/lib.rt:122:40
 array-borrow-prefix-wanted : tie.Need-array-borrow-prefix-wanted
 array-borrow-prefix-wanted c = search needs
 
--- src/lib.rt:122:40
 slice-aggregate-first-below : tie.Need-slice-aggregate-first-below
 slice-aggregate-first-below c = sym (ones-length (c .before .before .args .w) (c .before .before .pre .1 .0))
 
--- src/lib.rt:122:58
 array-borrow-prefix-enough : tie.Need-array-borrow-prefix-enough
 array-borrow-prefix-enough c = search needs
 
--- src/lib.rt:122:58
 slice-aggregate-first-below-2 : tie.Need-slice-aggregate-first-below-2
 slice-aggregate-first-below-2 c = sym (ones-length (c .before .before .before .args .w) (c .before .before .before .pre .1 .0))
 
--- src/lib.rt:122:5
 first-below-requires : tie.Need-first-below-requires
-first-below-requires c κs = (c .before .before .before .pre .0, (c .before .before .before .pre .1 .0, (c .before .before .before .pre .1 .1, (ones-length (c .before .before .before .args .w) (c .before .before .before .pre .1 .0), ones-length (c .before .before .before .args .w) (c .before .before .before .pre .1 .0)))))
+first-below-requires c κs =
+    let args = c .before .before .before .args in
+    let pre = c .before .before .before .pre in
+    (pre .0, (pre .1 .0, (pre .1 .1, (ones-length (args .w) (pre .1 .0), ones-length (args .w) (pre .1 .0)))))
 
--- src/lib.rt:116:1
 returns : tie.Need-returns
 returns c = search needs
 

@@ -7,28 +7,22 @@ use Rattle.award_thin.proofs.span_has.Tie as tie
 use Rattle.award_thin.proofs.span_has.Reads as reads
 use Rattle.award_thin.proofs.span_has.Lts as lts
 
--- src/lib.rt:55:5
 mul-if1 : tie.Need-mul-if1
 mul-if1 c = search needs
 
--- src/lib.rt:55:5
 shared-slice-read-if1 : tie.Need-shared-slice-read-if1
 shared-slice-read-if1 c = search needs
 
--- src/lib.rt:55:43
 mul-result : tie.Need-mul-result
 mul-result c = search needs
 
--- src/lib.rt:55:43
 shared-slice-read-result : tie.Need-shared-slice-read-result
 shared-slice-read-result c = search needs
 
--- src/lib.rt:51:1
 returns : tie.Need-returns
 unfolding spans
 returns c = rw (le-leb _ _ (c .before .if1 .taken))
 
--- src/lib.rt:51:1
 returns-2 : tie.Need-returns-2
 unfolding spans
 returns-2 c = rw (lt-leb _ _ (c .if1 .left))

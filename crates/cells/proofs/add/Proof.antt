@@ -26,7 +26,9 @@ same-length : tie.Need-same-length
 same-length c = search needs
 
 returns : tie.Need-returns
-returns c = one-added (c .before .args .words .now) (c .before .args .x) (omega arith)
+returns c =
+    let args = c .before .args in
+    one-added (args .words .now) (args .x) (omega arith)
 
 pub add-spec : {M : Type 1} → statement M
 add-spec =

@@ -10,53 +10,50 @@ use Rattle.cells.proofs.add_range.Lts as lts
 use Rattle.cells.proofs.add_bits.Reads as add-bits-reads
 use Rattle.cells.proofs.add_words.Reads as add-words-reads
 
--- src/lib.rt:70:9
 returns : tie.Need-returns
 returns c = search needs
 
--- src/lib.rt:75:9
 add-bits-requires : tie.Need-add-bits-requires
 add-bits-requires c κs = search needs
 
--- src/lib.rt:76:9
 same-length : tie.Need-same-length
 same-length c = search needs
 
--- src/lib.rt:76:9
 returns-2 : tie.Need-returns-2
 returns-2 c = filled-at (omega arith) (omega arith) (c .before .before .add-bits .ensures)
 
--- src/lib.rt:78:5
 add-bits-requires-2 : tie.Need-add-bits-requires-2
 add-bits-requires-2 c κs = search needs
 
--- src/lib.rt:79:22
 add-add-words : tie.Need-add-add-words
 add-add-words c = search needs
 
--- src/lib.rt:79:5
 add-words-requires : tie.Need-add-words-requires
 add-words-requires c κs = search needs
 
--- src/lib.rt:81:9
 add-bits-requires-3 : tie.Need-add-bits-requires-3
 add-bits-requires-3 c κs = search needs
 
--- src/lib.rt:65:1
 same-length-2 : tie.Need-same-length-2
 same-length-2 c = search needs
 
--- src/lib.rt:65:1
 returns-3 : tie.Need-returns-3
-returns-3 c = filled-join (omega arith) (omega arith) (filled-words (c .before .before .before .before .before .before .before .before .before .before .before .before .before .before .before .before .args .s) (c .before .before .before .before .before .before .before .before .before .before .before .before .before .before .before .before .args .e / 64) (omega arith) (c .before .before .before .before .before .before .before .before .before .before .before .add-bits2 .ensures) (c .before .before .before .before .before .before .before .add-words .ensures)) (filled-at (omega arith) (omega arith) (c .before .before .add-bits3 .ensures))
+returns-3 c =
+    let c7 = c .before .before .before .before .before .before .before in
+    let c11 = c7 .before .before .before .before in
+    let c16 = c11 .before .before .before .before .before in
+    let args = c16 .args in
+    filled-join (omega arith) (omega arith) (filled-words (args .s) (args .e / 64) (omega arith) (c11 .add-bits2 .ensures) (c7 .add-words .ensures)) (filled-at (omega arith) (omega arith) (c .before .before .add-bits3 .ensures))
 
--- src/lib.rt:65:1
 same-length-3 : tie.Need-same-length-3
 same-length-3 c = search needs
 
--- src/lib.rt:65:1
 returns-4 : tie.Need-returns-4
-returns-4 c = filled-at (omega arith) (omega arith) (filled-words (c .before .before .before .before .before .before .before .before .before .before .before .before .args .s) (c .before .before .before .before .before .before .before .before .before .before .before .before .args .e / 64) (omega arith) (c .before .before .before .before .before .before .before .add-bits2 .ensures) (c .before .before .before .add-words .ensures))
+returns-4 c =
+    let c7 = c .before .before .before .before .before .before .before in
+    let c12 = c7 .before .before .before .before .before in
+    let args = c12 .args in
+    filled-at (omega arith) (omega arith) (filled-words (args .s) (args .e / 64) (omega arith) (c7 .add-bits2 .ensures) (c .before .before .before .add-words .ensures))
 
 pub add-range-spec : {M : Type 1} → statement M
 add-range-spec =

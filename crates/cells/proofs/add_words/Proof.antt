@@ -16,27 +16,21 @@ Inv-loop words₀ a b w₀ words w = (a ≤ w) × ((w ≤ b) × ((length words �
 abbrev μ-loop : tie.MeasureT-loop
 μ-loop words₀ a b w₀ words w = b - w
 
--- src/lib.rt:58:5
 loop-holds : tie.Need-loop-holds Inv-loop μ-loop
 loop-holds c = (omega arith, (omega arith, (refl, filled-none (64 * c .args .a) (c .args .words .now))))
 
--- src/lib.rt:59:9
 mul-words : tie.Need-mul-words Inv-loop μ-loop
 mul-words c = omega arith
 
--- src/lib.rt:59:9
 slice-write-words : tie.Need-slice-write-words Inv-loop μ-loop
 slice-write-words c = omega arith
 
--- src/lib.rt:60:9
 add-w : tie.Need-add-w Inv-loop μ-loop
 add-w c = omega arith
 
--- src/lib.rt:58:5
 loop-less : tie.Need-loop-less Inv-loop μ-loop
 loop-less c = omega arith
 
--- src/lib.rt:58:5
 loop-again : tie.Need-loop-again Inv-loop μ-loop
 loop-again c = (
   omega arith,
@@ -49,11 +43,9 @@ loop-again c = (
   ),
 )
 
--- src/lib.rt:53:1
 same-length : tie.Need-same-length Inv-loop μ-loop
 same-length c = c .before .loop .inv .1 .1 .0
 
--- src/lib.rt:53:1
 returns : tie.Need-returns Inv-loop μ-loop
 returns c = let e : c .before .loop .w ≡ c .before .before .args .b = omega arith in rw (← e) (c .before .loop .inv .1 .1 .1)
 

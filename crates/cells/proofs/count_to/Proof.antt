@@ -32,7 +32,9 @@ mul-sum : tie.Need-mul-sum Inv-loop μ-loop
 mul-sum c = omega (arith, c .before .before .pre .0 .known)
 
 slice-read-sum : tie.Need-slice-read-sum Inv-loop μ-loop
-slice-read-sum c = omega (arith, c .before .before .before .pre .0 .size, c .before .before .before .pre .0 .known)
+slice-read-sum c =
+    let pre = c .before .before .before .pre in
+    omega (arith, pre .0 .size, pre .0 .known)
 
 loop-holds : tie.Need-loop-holds Inv-loop μ-loop
 loop-holds c = (omega arith, counting-from (c .before .before .before .pre .0))
@@ -44,10 +46,15 @@ shared-slice-read-sum : tie.Need-shared-slice-read-sum Inv-loop μ-loop
 shared-slice-read-sum c = omega arith
 
 cast-sum : tie.Need-cast-sum Inv-loop μ-loop
-cast-sum c = omega (arith, ones-le 64 (getD (c .before .before .before .before .before .before .args .words .now) (c .before .before .loop .q) 0) (c .shared-slice-known .given (c .before .before .loop .q) .fits))
+cast-sum c =
+    let c6 = c .before .before .before .before .before .before in
+    omega (arith, ones-le 64 (getD (c6 .args .words .now) (c .before .before .loop .q) 0) (c .shared-slice-known .given (c .before .before .loop .q) .fits))
 
 add-sum : tie.Need-add-sum Inv-loop μ-loop
-add-sum c = omega (arith, ones-le 64 (getD (c .before .before .before .before .before .before .args .words .now) (c .before .before .loop .q) 0) (c .shared-slice-known .given (c .before .before .loop .q) .fits), c .before .before .loop .inv .1 .last, cells-few (c .before .before .before .before .before .before .args .words .now) (λ p. c .shared-slice-known .given p .fits) (c .before .before .loop .q))
+add-sum c =
+    let c6 = c .before .before .before .before .before .before in
+    let args = c6 .args in
+    omega (arith, ones-le 64 (getD (args .words .now) (c .before .before .loop .q) 0) (c .shared-slice-known .given (c .before .before .loop .q) .fits), c .before .before .loop .inv .1 .last, cells-few (args .words .now) (λ p. c .shared-slice-known .given p .fits) (c .before .before .loop .q))
 
 add-q : tie.Need-add-q Inv-loop μ-loop
 add-q c = omega arith
@@ -71,10 +78,15 @@ slice-write-counts-2 : tie.Need-slice-write-counts-2 Inv-loop μ-loop
 slice-write-counts-2 c = omega (arith, c .before .loop .inv .1 .size)
 
 same-length : tie.Need-same-length Inv-loop μ-loop
-same-length c = simp length-set (c .before .loop .inv .1 .size ∙ sym (c .before .before .before .before .before .pre .0 .size))
+same-length c =
+    let c5 = c .before .before .before .before .before in
+    simp length-set (c .before .loop .inv .1 .size ∙ sym (c5 .pre .0 .size))
 
 returns-2 : tie.Need-returns-2 Inv-loop μ-loop
-returns-2 c = (counting-done (c .before .before .before .before .before .args .e) (c .before .loop .inv .1) (c .before .before .before .before .before .pre .1 .0) (omega arith), omega (arith, counted-last (c .before .before .before .before .before .args .words .now) (c .before .loop .counts) (c .before .before .before .before .before .args .e) (c .before .loop .inv .1 .size)))
+returns-2 c =
+    let c5 = c .before .before .before .before .before in
+    let args = c5 .args in
+    (counting-done (args .e) (c .before .loop .inv .1) (c5 .pre .1 .0) (omega arith), omega (arith, counted-last (args .words .now) (c .before .loop .counts) (args .e) (c .before .loop .inv .1 .size)))
 
 pub count-to-spec : {M : Type 1} → statement M
 count-to-spec =

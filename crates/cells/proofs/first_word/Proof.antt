@@ -21,7 +21,10 @@ wide-requires : tie.Need-wide-requires
 wide-requires c κs = search needs
 
 returns-2 : tie.Need-returns-2
-returns-2 c = rw (c .wide .ensures) (first-gap (c .before .before .before .before .before .before .before .args .mask .now) (c .before .before .before .before .before .before .before .args .hop .now) (c .before .before .before .before .before .before .before .pre .0) (omega arith) (c .before .before .if2 .taken))
+returns-2 c =
+    let c7 = c .before .before .before .before .before .before .before in
+    let args = c7 .args in
+    rw (c .wide .ensures) (first-gap (args .mask .now) (args .hop .now) (c7 .pre .0) (omega arith) (c .before .before .if2 .taken))
 
 returns-3 : tie.Need-returns-3
 returns-3 c = search needs

@@ -22,7 +22,9 @@ shr-result c = search needs
 
 returns : tie.Need-returns
 unfolding cell
-returns c = ap (λ (v : ℕ). eqb v 1) (and-mask (getD (c .before .args .words .now) (c .before .args .x / 64) 0 / 2 ^ (c .before .args .x % 64)) 1)
+returns c =
+    let args = c .before .args in
+    ap (λ (v : ℕ). eqb v 1) (and-mask (getD (args .words .now) (args .x / 64) 0 / 2 ^ (args .x % 64)) 1)
 
 pub holds-spec : {M : Type 1} → statement M
 holds-spec = tie.close (tie.spec mul-w shared-slice-read-w shr-result returns)

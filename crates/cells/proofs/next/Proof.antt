@@ -29,13 +29,24 @@ shr-m : tie.Need-shr-m
 shr-m c = search needs
 
 cast-result : tie.Need-cast-result
-cast-result c = let x = c .before .before .before .before .before .before .args .from in let m = bitAnd (getD (c .before .before .before .before .before .before .args .a .now) (x / 64) 0) (whole - getD (c .before .before .before .before .before .before .args .b .now) (x / 64) 0) / 2 ^ (x % 64) in omega (arith, trailing-le 64 m)
+cast-result c =
+    let c6 = c .before .before .before .before .before .before in
+    let args = c6 .args in
+    let x = args .from in let m = bitAnd (getD (args .a .now) (x / 64) 0) (whole - getD (args .b .now) (x / 64) 0) / 2 ^ (x % 64) in omega (arith, trailing-le 64 m)
 
 add-result : tie.Need-add-result
-add-result c = let x = c .before .before .before .before .before .before .args .from in let m = bitAnd (getD (c .before .before .before .before .before .before .args .a .now) (x / 64) 0) (whole - getD (c .before .before .before .before .before .before .args .b .now) (x / 64) 0) / 2 ^ (x % 64) in omega (arith, trailing-le 64 m)
+add-result c =
+    let c6 = c .before .before .before .before .before .before in
+    let args = c6 .args in
+    let x = args .from in let m = bitAnd (getD (args .a .now) (x / 64) 0) (whole - getD (args .b .now) (x / 64) 0) / 2 ^ (x % 64) in omega (arith, trailing-le 64 m)
 
 returns : tie.Need-returns
-returns c = let x = c .before .before .before .before .before .before .args .from in first-at (c .before .before .before .before .before .before .args .a .now) (c .before .before .before .before .before .before .args .b .now) x (c .before .before .before .before .before .shared-slice-known .given (x / 64) .fits) (c .before .before .before .before .shared-slice-known2 .given (x / 64) .fits) (c .if2 .taken) (omega arith)
+returns c =
+    let c4 = c .before .before .before .before in
+    let c5 = c4 .before in
+    let c6 = c5 .before in
+    let args = c6 .args in
+    let x = args .from in first-at (args .a .now) (args .b .now) x (c5 .shared-slice-known .given (x / 64) .fits) (c4 .shared-slice-known2 .given (x / 64) .fits) (c .if2 .taken) (omega arith)
 
 add-next-from : tie.Need-add-next-from
 add-next-from c = search needs
@@ -44,13 +55,20 @@ next-from-requires : tie.Need-next-from-requires
 next-from-requires c κs = search needs
 
 returns-2 : tie.Need-returns-2
-returns-2 c = let x = c .before .before .before .before .before .before .before .args .from in search-on (omega arith) (none-at (c .before .before .before .before .before .before .before .args .a .now) (c .before .before .before .before .before .before .before .args .b .now) x (c .before .before .before .before .before .before .shared-slice-known .given (x / 64) .fits) (c .before .before .before .before .before .shared-slice-known2 .given (x / 64) .fits) (c .before .if2 .left)) (c .next-from .ensures)
+returns-2 c =
+    let c5 = c .before .before .before .before .before in
+    let c6 = c5 .before in
+    let c7 = c6 .before in
+    let args = c7 .args in
+    let x = args .from in search-on (omega arith) (none-at (args .a .now) (args .b .now) x (c6 .shared-slice-known .given (x / 64) .fits) (c5 .shared-slice-known2 .given (x / 64) .fits) (c .before .if2 .left)) (c .next-from .ensures)
 
 mul-result : tie.Need-mul-result
 mul-result c = search needs
 
 returns-3 : tie.Need-returns-3
-returns-3 c = search-over (c .before .before .before .args .a .now) (c .before .before .before .args .b .now) _ (omega arith) (omega arith)
+returns-3 c =
+    let args = c .before .before .before .args in
+    search-over (args .a .now) (args .b .now) _ (omega arith) (omega arith)
 
 pub next-spec : {M : Type 1} → statement M
 next-spec =

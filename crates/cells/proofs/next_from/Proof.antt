@@ -38,13 +38,25 @@ mul-result : tie.Need-mul-result Inv-loop μ-loop
 mul-result c = omega arith
 
 cast-result : tie.Need-cast-result Inv-loop μ-loop
-cast-result c = let m = bitAnd (getD (c .before .before .before .before .before .args .a .now) (c .before .before .before .before .loop .q) 0) (whole - getD (c .before .before .before .before .before .args .b .now) (c .before .before .before .before .loop .q) 0) in omega (arith, trailing-le 64 m)
+cast-result c =
+    let c4 = c .before .before .before .before in
+    let c5 = c4 .before in
+    let args = c5 .args in
+    let m = bitAnd (getD (args .a .now) (c4 .loop .q) 0) (whole - getD (args .b .now) (c4 .loop .q) 0) in omega (arith, trailing-le 64 m)
 
 add-result : tie.Need-add-result Inv-loop μ-loop
-add-result c = let m = bitAnd (getD (c .before .before .before .before .before .args .a .now) (c .before .before .before .before .loop .q) 0) (whole - getD (c .before .before .before .before .before .args .b .now) (c .before .before .before .before .loop .q) 0) in omega (arith, trailing-le 64 m)
+add-result c =
+    let c4 = c .before .before .before .before in
+    let c5 = c4 .before in
+    let args = c5 .args in
+    let m = bitAnd (getD (args .a .now) (c4 .loop .q) 0) (whole - getD (args .b .now) (c4 .loop .q) 0) in omega (arith, trailing-le 64 m)
 
 returns : tie.Need-returns Inv-loop μ-loop
-returns c = search-on (omega arith) (c .before .before .before .before .loop .inv .1 .1) (first-in-word (c .before .before .before .before .before .args .a .now) (c .before .before .before .before .before .args .b .now) (c .before .before .before .before .loop .q) (c .before .before .shared-slice-known .given (c .before .before .before .before .loop .q) .fits) (c .before .shared-slice-known2 .given (c .before .before .before .before .loop .q) .fits) (c .if1 .taken) (omega arith))
+returns c =
+    let c4 = c .before .before .before .before in
+    let c5 = c4 .before in
+    let args = c5 .args in
+    search-on (omega arith) (c4 .loop .inv .1 .1) (first-in-word (args .a .now) (args .b .now) (c4 .loop .q) (c .before .before .shared-slice-known .given (c4 .loop .q) .fits) (c .before .shared-slice-known2 .given (c4 .loop .q) .fits) (c .if1 .taken) (omega arith))
 
 add-q : tie.Need-add-q Inv-loop μ-loop
 add-q c = omega arith
@@ -53,13 +65,19 @@ loop-less : tie.Need-loop-less Inv-loop μ-loop
 loop-less c = omega arith
 
 loop-again : tie.Need-loop-again Inv-loop μ-loop
-loop-again c = (omega arith, (omega arith, none-in-word (c .before .before .before .before .before .args .a .now) (c .before .before .before .before .before .args .b .now) (c .before .before .before .before .loop .q) (c .before .before .shared-slice-known .given (c .before .before .before .before .loop .q) .fits) (c .before .shared-slice-known2 .given (c .before .before .before .before .loop .q) .fits) (c .before .before .before .before .before .args .first) (c .if1 .left) (c .before .before .before .before .loop .inv .1 .1)))
+loop-again c =
+    let c4 = c .before .before .before .before in
+    let c5 = c4 .before in
+    let args = c5 .args in
+    (omega arith, (omega arith, none-in-word (args .a .now) (args .b .now) (c4 .loop .q) (c .before .before .shared-slice-known .given (c4 .loop .q) .fits) (c .before .shared-slice-known2 .given (c4 .loop .q) .fits) (args .first) (c .if1 .left) (c4 .loop .inv .1 .1)))
 
 mul-result-2 : tie.Need-mul-result-2 Inv-loop μ-loop
 mul-result-2 c = omega arith
 
 returns-2 : tie.Need-returns-2 Inv-loop μ-loop
-returns-2 c = let e : c .before .loop .q ≡ length (c .before .before .args .a .now) = omega arith in search-on (omega arith) (rw e at (c .before .loop .inv .1 .1)) (search-over (c .before .before .args .a .now) (c .before .before .args .b .now) _ (omega arith) (omega arith))
+returns-2 c =
+    let args = c .before .before .args in
+    let e : c .before .loop .q ≡ length (args .a .now) = omega arith in search-on (omega arith) (rw e at (c .before .loop .inv .1 .1)) (search-over (args .a .now) (args .b .now) _ (omega arith) (omega arith))
 
 pub next-from-spec : {M : Type 1} → statement M
 next-from-spec =

@@ -7,11 +7,9 @@ use Rattle.cells.proofs.ones_of.Tie as tie
 use Rattle.cells.proofs.ones_of.Reads as reads
 use Rattle.cells.proofs.ones_of.Lts as lts
 
--- src/lib.rt:154:5
 cast-result : tie.Need-cast-result
 cast-result c = omega (arith, ones-le 64 (c .args .x) (omega arith))
 
--- src/lib.rt:151:1
 returns : tie.Need-returns
 returns c = (refl, ones-le 64 (c .args .x) (omega arith))
 

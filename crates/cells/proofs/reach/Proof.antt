@@ -22,102 +22,151 @@ Inv-loop held counts₀ mask hop sum₀ q₀ counts sum q = (q ≤ length held) 
 abbrev μ-loop : tie.MeasureT-loop
 μ-loop held counts₀ mask hop sum₀ q₀ counts sum q = length held - q
 
--- src/lib.rt:164:5
 loop-holds : tie.Need-loop-holds Inv-loop μ-loop
-loop-holds c = (omega arith, (sym (none (c .before .before .before .before .args .held .now) (c .before .before .before .before .args .mask .now)), c .before .before .before .before .pre .1 .1 .0))
+loop-holds c =
+    let c4 = c .before .before .before .before in
+    let args = c4 .args in
+    (omega arith, (sym (none (args .held .now) (args .mask .now)), c4 .pre .1 .1 .0))
 
--- src/lib.rt:165:22
 shared-slice-read-wide : tie.Need-shared-slice-read-wide Inv-loop μ-loop
 shared-slice-read-wide c = omega arith
 
--- src/lib.rt:165:13
 wide-requires : tie.Need-wide-requires Inv-loop μ-loop
 wide-requires c κs = omega arith
 
--- src/lib.rt:166:17
 mul-m : tie.Need-mul-m Inv-loop μ-loop
 mul-m c = omega arith
 
--- src/lib.rt:166:17
 shared-slice-read-m : tie.Need-shared-slice-read-m Inv-loop μ-loop
 shared-slice-read-m c = omega arith
 
--- src/lib.rt:168:13
 count-to-requires : tie.Need-count-to-requires Inv-loop μ-loop
-count-to-requires c κs = let P = c .before .before .before .before .before .before .before .before .before .before .before .pre in let l : c .before .before .before .before .before .before .loop .q < length (c .before .before .before .before .before .before .before .before .before .before .before .args .mask .now) = omega arith in (c .before .before .before .before .before .before .loop .inv .1 .1, (omega (arith, c .before .before .before .wide .ensures, P .1 .1 .1 .within (c .before .before .before .before .before .before .loop .q) l), P .1 .0))
+count-to-requires c κs =
+    let c6 = c .before .before .before .before .before .before in
+    let c11 = c6 .before .before .before .before .before in
+    let P = c11 .pre in let l : c6 .loop .q < length (c11 .args .mask .now) = omega arith in (c6 .loop .inv .1 .1, (omega (arith, c .before .before .before .wide .ensures, P .1 .1 .1 .within (c6 .loop .q) l), P .1 .0))
 
--- src/lib.rt:169:20
 mul-sum : tie.Need-mul-sum Inv-loop μ-loop
-mul-sum c = let P = c .before .before .before .before .before .before .before .before .before .before .before .before .before .before .pre in let l : c .before .before .before .before .before .before .before .before .before .loop .q < length (c .before .before .before .before .before .before .before .before .before .before .before .before .before .before .args .mask .now) = omega arith in omega (arith, c .before .before .before .before .before .before .wide .ensures, P .1 .1 .1 .within (c .before .before .before .before .before .before .before .before .before .loop .q) l)
+mul-sum c =
+    let c6 = c .before .before .before .before .before .before in
+    let c9 = c6 .before .before .before in
+    let c14 = c9 .before .before .before .before .before in
+    let P = c14 .pre in let l : c9 .loop .q < length (c14 .args .mask .now) = omega arith in omega (arith, c6 .wide .ensures, P .1 .1 .1 .within (c9 .loop .q) l)
 
--- src/lib.rt:169:20
 slice-read-sum : tie.Need-slice-read-sum Inv-loop μ-loop
-slice-read-sum c = let P = c .before .before .before .before .before .before .before .before .before .before .before .before .before .before .before .pre in let l : c .before .before .before .before .before .before .before .before .before .before .loop .q < length (c .before .before .before .before .before .before .before .before .before .before .before .before .before .before .before .args .mask .now) = omega arith in omega (arith, c .before .before .before .before .before .before .before .wide .ensures, P .1 .1 .1 .within (c .before .before .before .before .before .before .before .before .before .before .loop .q) l, c .before .before .before .count-to .ensures .0 .size)
+slice-read-sum c =
+    let c7 = c .before .before .before .before .before .before .before in
+    let c10 = c7 .before .before .before in
+    let c15 = c10 .before .before .before .before .before in
+    let P = c15 .pre in let l : c10 .loop .q < length (c15 .args .mask .now) = omega arith in omega (arith, c7 .wide .ensures, P .1 .1 .1 .within (c10 .loop .q) l, c .before .before .before .count-to .ensures .0 .size)
 
--- src/lib.rt:169:32
 mul-sum-2 : tie.Need-mul-sum-2 Inv-loop μ-loop
 mul-sum-2 c = omega arith
 
--- src/lib.rt:169:32
 slice-read-sum-2 : tie.Need-slice-read-sum-2 Inv-loop μ-loop
-slice-read-sum-2 c = omega (arith, c .before .before .before .before .count-to .ensures .0 .size)
+slice-read-sum-2 c =
+    let c4 = c .before .before .before .before in
+    omega (arith, c4 .count-to .ensures .0 .size)
 
--- src/lib.rt:169:20
 sub-sum : tie.Need-sub-sum Inv-loop μ-loop
-sub-sum c = let P = c .before .before .before .before .before .before .before .before .before .before .before .before .before .before .before .before .pre in let l : c .before .before .before .before .before .before .before .before .before .before .before .loop .q < length (c .before .before .before .before .before .before .before .before .before .before .before .before .before .before .before .before .args .mask .now) = omega arith in run-sum (c .before .before .before .before .before .before .before .before .before .before .before .before .before .before .before .before .args .held .now) (c .before .before .before .before .before .before .before .before .before .before .before .before .before .before .before .before .args .mask .now) (c .before .before .before .before .before .before .before .before .before .before .before .before .before .before .before .before .args .hop .now) (λ p. c .before .before .before .before .before .before .before .before .before .before .before .before .before .before .before .shared-slice-known .given p .fits) (P .1 .1 .1) (c .before .before .before .before .before .before .before .before .before .before .before .loop .q) l (c .before .before .before .before .before .before .before .before .wide .result) (c .before .before .before .before .before .before .before .before .before .before .before .loop .sum) (c .before .before .before .before .before .before .before .before .wide .ensures) (c .before .before .before .before .count-to .ensures .0) (c .before .before .before .before .count-to .ensures .1) (c .before .before .before .before .before .before .if1 .taken) (c .before .before .before .before .before .before .before .before .before .before .before .loop .inv .1 .0) .0
+sub-sum c =
+    let c4 = c .before .before .before .before in
+    let c6 = c4 .before .before in
+    let c8 = c6 .before .before in
+    let c11 = c8 .before .before .before in
+    let c15 = c11 .before .before .before .before in
+    let c16 = c15 .before in
+    let args = c16 .args in
+    let P = c16 .pre in let l : c11 .loop .q < length (args .mask .now) = omega arith in run-sum (args .held .now) (args .mask .now) (args .hop .now) (λ p. c15 .shared-slice-known .given p .fits) (P .1 .1 .1) (c11 .loop .q) l (c8 .wide .result) (c11 .loop .sum) (c8 .wide .ensures) (c4 .count-to .ensures .0) (c4 .count-to .ensures .1) (c6 .if1 .taken) (c11 .loop .inv .1 .0) .0
 
--- src/lib.rt:169:13
 add-sum : tie.Need-add-sum Inv-loop μ-loop
-add-sum c = let P = c .before .before .before .before .before .before .before .before .before .before .before .before .before .before .before .before .pre in let l : c .before .before .before .before .before .before .before .before .before .before .before .loop .q < length (c .before .before .before .before .before .before .before .before .before .before .before .before .before .before .before .before .args .mask .now) = omega arith in omega (arith, run-sum (c .before .before .before .before .before .before .before .before .before .before .before .before .before .before .before .before .args .held .now) (c .before .before .before .before .before .before .before .before .before .before .before .before .before .before .before .before .args .mask .now) (c .before .before .before .before .before .before .before .before .before .before .before .before .before .before .before .before .args .hop .now) (λ p. c .before .before .before .before .before .before .before .before .before .before .before .before .before .before .before .shared-slice-known .given p .fits) (P .1 .1 .1) (c .before .before .before .before .before .before .before .before .before .before .before .loop .q) l (c .before .before .before .before .before .before .before .before .wide .result) (c .before .before .before .before .before .before .before .before .before .before .before .loop .sum) (c .before .before .before .before .before .before .before .before .wide .ensures) (c .before .before .before .before .count-to .ensures .0) (c .before .before .before .before .count-to .ensures .1) (c .before .before .before .before .before .before .if1 .taken) (c .before .before .before .before .before .before .before .before .before .before .before .loop .inv .1 .0) .1, total-both-le (c .before .before .before .before .before .before .before .before .before .before .before .before .before .before .before .before .args .held .now) (c .before .before .before .before .before .before .before .before .before .before .before .before .before .before .before .before .args .mask .now) (64 * c .before .before .before .before .before .before .before .before .wide .result), c .before .before .before .before .before .before .before .before .wide .ensures, P .1 .1 .1 .within (c .before .before .before .before .before .before .before .before .before .before .before .loop .q) l)
+add-sum c =
+    let c4 = c .before .before .before .before in
+    let c6 = c4 .before .before in
+    let c8 = c6 .before .before in
+    let c11 = c8 .before .before .before in
+    let c15 = c11 .before .before .before .before in
+    let c16 = c15 .before in
+    let args = c16 .args in
+    let P = c16 .pre in let l : c11 .loop .q < length (args .mask .now) = omega arith in omega (arith, run-sum (args .held .now) (args .mask .now) (args .hop .now) (λ p. c15 .shared-slice-known .given p .fits) (P .1 .1 .1) (c11 .loop .q) l (c8 .wide .result) (c11 .loop .sum) (c8 .wide .ensures) (c4 .count-to .ensures .0) (c4 .count-to .ensures .1) (c6 .if1 .taken) (c11 .loop .inv .1 .0) .1, total-both-le (args .held .now) (args .mask .now) (64 * c8 .wide .result), c8 .wide .ensures, P .1 .1 .1 .within (c11 .loop .q) l)
 
--- src/lib.rt:164:5
 loop-less : tie.Need-loop-less Inv-loop μ-loop
-loop-less c = let P = c .before .before .before .before .before .before .before .before .before .before .before .before .before .before .before .before .pre in let l : c .before .before .before .before .before .before .before .before .before .before .before .loop .q < length (c .before .before .before .before .before .before .before .before .before .before .before .before .before .before .before .before .args .mask .now) = omega arith in omega (arith, c .before .before .before .before .before .before .before .before .wide .ensures, P .1 .1 .1 .on (c .before .before .before .before .before .before .before .before .before .before .before .loop .q) l)
+loop-less c =
+    let c8 = c .before .before .before .before .before .before .before .before in
+    let c11 = c8 .before .before .before in
+    let c16 = c11 .before .before .before .before .before in
+    let P = c16 .pre in let l : c11 .loop .q < length (c16 .args .mask .now) = omega arith in omega (arith, c8 .wide .ensures, P .1 .1 .1 .on (c11 .loop .q) l)
 
--- src/lib.rt:164:5
 loop-again : tie.Need-loop-again Inv-loop μ-loop
-loop-again c = let P = c .before .before .before .before .before .before .before .before .before .before .before .before .before .before .before .before .pre in let l : c .before .before .before .before .before .before .before .before .before .before .before .loop .q < length (c .before .before .before .before .before .before .before .before .before .before .before .before .before .before .before .before .args .mask .now) = omega arith in (omega (arith, c .before .before .before .before .before .before .before .before .wide .ensures, P .1 .1 .1 .within (c .before .before .before .before .before .before .before .before .before .before .before .loop .q) l), (run-sum (c .before .before .before .before .before .before .before .before .before .before .before .before .before .before .before .before .args .held .now) (c .before .before .before .before .before .before .before .before .before .before .before .before .before .before .before .before .args .mask .now) (c .before .before .before .before .before .before .before .before .before .before .before .before .before .before .before .before .args .hop .now) (λ p. c .before .before .before .before .before .before .before .before .before .before .before .before .before .before .before .shared-slice-known .given p .fits) (P .1 .1 .1) (c .before .before .before .before .before .before .before .before .before .before .before .loop .q) l (c .before .before .before .before .before .before .before .before .wide .result) (c .before .before .before .before .before .before .before .before .before .before .before .loop .sum) (c .before .before .before .before .before .before .before .before .wide .ensures) (c .before .before .before .before .count-to .ensures .0) (c .before .before .before .before .count-to .ensures .1) (c .before .before .before .before .before .before .if1 .taken) (c .before .before .before .before .before .before .before .before .before .before .before .loop .inv .1 .0) .1, c .before .before .before .before .count-to .ensures .0))
+loop-again c =
+    let c4 = c .before .before .before .before in
+    let c6 = c4 .before .before in
+    let c8 = c6 .before .before in
+    let c11 = c8 .before .before .before in
+    let c15 = c11 .before .before .before .before in
+    let c16 = c15 .before in
+    let args = c16 .args in
+    let P = c16 .pre in let l : c11 .loop .q < length (args .mask .now) = omega arith in (omega (arith, c8 .wide .ensures, P .1 .1 .1 .within (c11 .loop .q) l), (run-sum (args .held .now) (args .mask .now) (args .hop .now) (λ p. c15 .shared-slice-known .given p .fits) (P .1 .1 .1) (c11 .loop .q) l (c8 .wide .result) (c11 .loop .sum) (c8 .wide .ensures) (c4 .count-to .ensures .0) (c4 .count-to .ensures .1) (c6 .if1 .taken) (c11 .loop .inv .1 .0) .1, c4 .count-to .ensures .0))
 
--- src/lib.rt:172:21
 mul-x : tie.Need-mul-x Inv-loop μ-loop
 mul-x c = omega arith
 
--- src/lib.rt:172:21
 shared-slice-read-x : tie.Need-shared-slice-read-x Inv-loop μ-loop
 shared-slice-read-x c = omega arith
 
--- src/lib.rt:164:5
 loop-less-2 : tie.Need-loop-less-2 Inv-loop μ-loop
-loop-less-2 c = let P = c .before .before .before .before .before .before .before .before .before .before .before .before .pre in let l : c .before .before .before .before .before .before .before .loop .q < length (c .before .before .before .before .before .before .before .before .before .before .before .before .args .mask .now) = omega arith in omega (arith, c .before .before .before .before .wide .ensures, P .1 .1 .1 .on (c .before .before .before .before .before .before .before .loop .q) l)
+loop-less-2 c =
+    let c4 = c .before .before .before .before in
+    let c7 = c4 .before .before .before in
+    let c12 = c7 .before .before .before .before .before in
+    let P = c12 .pre in let l : c7 .loop .q < length (c12 .args .mask .now) = omega arith in omega (arith, c4 .wide .ensures, P .1 .1 .1 .on (c7 .loop .q) l)
 
--- src/lib.rt:164:5
 loop-again-2 : tie.Need-loop-again-2 Inv-loop μ-loop
-loop-again-2 c = let P = c .before .before .before .before .before .before .before .before .before .before .before .before .pre in let l : c .before .before .before .before .before .before .before .loop .q < length (c .before .before .before .before .before .before .before .before .before .before .before .before .args .mask .now) = omega arith in (omega (arith, c .before .before .before .before .wide .ensures, P .1 .1 .1 .within (c .before .before .before .before .before .before .before .loop .q) l), (rw (c .before .before .before .before .wide .ensures) (omega (arith, c .before .before .before .before .before .before .before .loop .inv .1 .0, ap ones (c .if2 .taken), none-counted, reach-gap (c .before .before .before .before .before .before .before .before .before .before .before .before .args .held .now) (c .before .before .before .before .before .before .before .before .before .before .before .before .args .mask .now) (c .before .before .before .before .before .before .before .before .before .before .before .before .args .hop .now) (λ p. c .before .before .before .before .before .before .before .before .before .before .before .shared-slice-known .given p .fits) (P .1 .1 .1) (c .before .before .before .before .before .before .before .loop .q) l (c .before .before .if1 .left))), c .before .before .before .before .before .before .before .loop .inv .1 .1))
+loop-again-2 c =
+    let c4 = c .before .before .before .before in
+    let c7 = c4 .before .before .before in
+    let c11 = c7 .before .before .before .before in
+    let c12 = c11 .before in
+    let args = c12 .args in
+    let P = c12 .pre in let l : c7 .loop .q < length (args .mask .now) = omega arith in (omega (arith, c4 .wide .ensures, P .1 .1 .1 .within (c7 .loop .q) l), (rw (c4 .wide .ensures) (omega (arith, c7 .loop .inv .1 .0, ap ones (c .if2 .taken), none-counted, reach-gap (args .held .now) (args .mask .now) (args .hop .now) (λ p. c11 .shared-slice-known .given p .fits) (P .1 .1 .1) (c7 .loop .q) l (c .before .before .if1 .left))), c7 .loop .inv .1 .1))
 
--- src/lib.rt:176:24
 ones-of-requires : tie.Need-ones-of-requires Inv-loop μ-loop
 ones-of-requires c κs = omega arith
 
--- src/lib.rt:176:17
 add-sum-2 : tie.Need-add-sum-2 Inv-loop μ-loop
-add-sum-2 c = omega (arith, c .ones-of .ensures .1, c .before .before .before .before .before .before .before .before .loop .inv .1 .0, total-both-le (c .before .before .before .before .before .before .before .before .before .before .before .before .before .args .held .now) (c .before .before .before .before .before .before .before .before .before .before .before .before .before .args .mask .now) (64 * c .before .before .before .before .before .before .before .before .loop .q))
+add-sum-2 c =
+    let c8 = c .before .before .before .before .before .before .before .before in
+    let c13 = c8 .before .before .before .before .before in
+    let args = c13 .args in
+    omega (arith, c .ones-of .ensures .1, c8 .loop .inv .1 .0, total-both-le (args .held .now) (args .mask .now) (64 * c8 .loop .q))
 
--- src/lib.rt:164:5
 loop-less-3 : tie.Need-loop-less-3 Inv-loop μ-loop
-loop-less-3 c = let P = c .before .before .before .before .before .before .before .before .before .before .before .before .before .pre in let l : c .before .before .before .before .before .before .before .before .loop .q < length (c .before .before .before .before .before .before .before .before .before .before .before .before .before .args .mask .now) = omega arith in omega (arith, c .before .before .before .before .before .wide .ensures, P .1 .1 .1 .on (c .before .before .before .before .before .before .before .before .loop .q) l)
+loop-less-3 c =
+    let c5 = c .before .before .before .before .before in
+    let c8 = c5 .before .before .before in
+    let c13 = c8 .before .before .before .before .before in
+    let P = c13 .pre in let l : c8 .loop .q < length (c13 .args .mask .now) = omega arith in omega (arith, c5 .wide .ensures, P .1 .1 .1 .on (c8 .loop .q) l)
 
--- src/lib.rt:164:5
 loop-again-3 : tie.Need-loop-again-3 Inv-loop μ-loop
-loop-again-3 c = let P = c .before .before .before .before .before .before .before .before .before .before .before .before .before .pre in let l : c .before .before .before .before .before .before .before .before .loop .q < length (c .before .before .before .before .before .before .before .before .before .before .before .before .before .args .mask .now) = omega arith in (omega (arith, c .before .before .before .before .before .wide .ensures, P .1 .1 .1 .within (c .before .before .before .before .before .before .before .before .loop .q) l), (rw (c .before .before .before .before .before .wide .ensures) (omega (arith, c .ones-of .ensures .0, reach-gap (c .before .before .before .before .before .before .before .before .before .before .before .before .before .args .held .now) (c .before .before .before .before .before .before .before .before .before .before .before .before .before .args .mask .now) (c .before .before .before .before .before .before .before .before .before .before .before .before .before .args .hop .now) (λ p. c .before .before .before .before .before .before .before .before .before .before .before .before .shared-slice-known .given p .fits) (P .1 .1 .1) (c .before .before .before .before .before .before .before .before .loop .q) l (c .before .before .before .if1 .left))), c .before .before .before .before .before .before .before .before .loop .inv .1 .1))
+loop-again-3 c =
+    let c5 = c .before .before .before .before .before in
+    let c8 = c5 .before .before .before in
+    let c12 = c8 .before .before .before .before in
+    let c13 = c12 .before in
+    let args = c13 .args in
+    let P = c13 .pre in let l : c8 .loop .q < length (args .mask .now) = omega arith in (omega (arith, c5 .wide .ensures, P .1 .1 .1 .within (c8 .loop .q) l), (rw (c5 .wide .ensures) (omega (arith, c .ones-of .ensures .0, reach-gap (args .held .now) (args .mask .now) (args .hop .now) (λ p. c12 .shared-slice-known .given p .fits) (P .1 .1 .1) (c8 .loop .q) l (c .before .before .before .if1 .left))), c8 .loop .inv .1 .1))
 
--- src/lib.rt:158:1
 same-length : tie.Need-same-length Inv-loop μ-loop
-same-length c = c .before .loop .inv .1 .1 .size ∙ sym (c .before .before .before .before .before .before .pre .1 .1 .0 .size)
+same-length c =
+    let c6 = c .before .before .before .before .before .before in
+    c .before .loop .inv .1 .1 .size ∙ sym (c6 .pre .1 .1 .0 .size)
 
--- src/lib.rt:158:1
 returns : tie.Need-returns Inv-loop μ-loop
 unfolding common
-returns c = let e : c .before .loop .q ≡ length (c .before .before .before .before .before .before .args .held .now) = omega arith in (c .before .loop .inv .1 .0 ∙ ap (λ (x : ℕ). total (both (c .before .before .before .before .before .before .args .held .now) (c .before .before .before .before .before .before .args .mask .now)) (64 * x)) e, c .before .loop .inv .1 .1)
+returns c =
+    let c6 = c .before .before .before .before .before .before in
+    let args = c6 .args in
+    let e : c .before .loop .q ≡ length (args .held .now) = omega arith in (c .before .loop .inv .1 .0 ∙ ap (λ (x : ℕ). total (both (args .held .now) (args .mask .now)) (64 * x)) e, c .before .loop .inv .1 .1)
 
 pub reach-spec : {M : Type 1} → statement M
 reach-spec =

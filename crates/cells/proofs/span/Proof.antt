@@ -18,9 +18,10 @@ first-bits-requires-2 c κs = search needs
 
 returns : tie.Need-returns
 returns c =
-    let e1 : c .before .first-bits .result ≡ 2 ^ c .before .before .args .hi - 1 = c .before .first-bits .ensures in
-    let e2 : c .first-bits2 .result ≡ 2 ^ c .before .before .args .lo - 1 = c .first-bits2 .ensures in
-    rw (e1, e2) (span-of (c .before .before .args .lo) (c .before .before .args .hi) (omega arith) (omega arith))
+    let args = c .before .before .args in
+    let e1 : c .before .first-bits .result ≡ 2 ^ args .hi - 1 = c .before .first-bits .ensures in
+    let e2 : c .first-bits2 .result ≡ 2 ^ args .lo - 1 = c .first-bits2 .ensures in
+    rw (e1, e2) (span-of (args .lo) (args .hi) (omega arith) (omega arith))
 
 pub span-spec : {M : Type 1} → statement M
 span-spec = tie.close (tie.spec first-bits-requires first-bits-requires-2 returns)

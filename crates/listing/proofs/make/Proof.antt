@@ -10,57 +10,56 @@ use Rattle.listing.proofs.put_award.Reads as put-award-reads
 use Rattle.listing.proofs.put_refused.Reads as put-refused-reads
 use Rattle.reader.proofs.read.Reads as read-reads
 
--- src/lib.rt:70:30
 slice-aggregate-read : tie.Need-slice-aggregate-read
 slice-aggregate-read c = search needs
 
--- src/lib.rt:70:41
 slice-aggregate-read-2 : tie.Need-slice-aggregate-read-2
 slice-aggregate-read-2 c = search needs
 
--- src/lib.rt:70:11
 read-requires : tie.Need-read-requires
 read-requires c κs = search needs
 
--- src/lib.rt:72:13
 enum-known-tender : tie.Need-enum-known-tender
 enum-known-tender c = search needs
 
--- src/lib.rt:75:41
 slice-aggregate-put-award : tie.Need-slice-aggregate-put-award
 slice-aggregate-put-award c = search needs
 
--- src/lib.rt:75:48
 slice-aggregate-put-award-2 : tie.Need-slice-aggregate-put-award-2
 slice-aggregate-put-award-2 c = search needs
 
--- src/lib.rt:75:14
 put-award-requires : tie.Need-put-award-requires
-put-award-requires c κs = let h = few-read (accepted-read (c .before .before .before .before .before .before .before .before .before .before .before .before .before .args .text .now) _ _ (search needs) (search needs) (c .before .before .before .before .tender .given .0 .0) (c .before .before .before .before .tender .given .0 .1 .0) (c .before .before .before .before .tender .given .0 .1 .1 .0) (c .before .before .before .before .before .before .before .before .read .ensures .0) (c .before .before .before .before .before .before .before .before .read .ensures .1 .0) (c .before .before .before .before .before .before .before .before .read .ensures .1 .1) (c .before .before .before .before .tender .given .1)) in (h, (omega arith, omega (arith, c .before .before .before .before .before .before .before .before .before .before .before .before .before .pre)))
+put-award-requires c κs =
+    let c4 = c .before .before .before .before in
+    let c8 = c4 .before .before .before .before in
+    let c13 = c8 .before .before .before .before .before in
+    let h = few-read (accepted-read (c13 .args .text .now) _ _ (search needs) (search needs) (c4 .tender .given .0 .0) (c4 .tender .given .0 .1 .0) (c4 .tender .given .0 .1 .1 .0) (c8 .read .ensures .0) (c8 .read .ensures .1 .0) (c8 .read .ensures .1 .1) (c4 .tender .given .1)) in (h, (omega arith, omega (arith, c13 .pre)))
 
--- src/lib.rt:76:26
 enum-known-r : tie.Need-enum-known-r
 enum-known-r c = search needs
 
--- src/lib.rt:76:32
 put-refused-requires : tie.Need-put-refused-requires
 put-refused-requires c κs = search needs
 
--- src/lib.rt:64:1
 same-length : tie.Need-same-length
 same-length c = search needs
 
--- src/lib.rt:64:1
 returns : tie.Need-returns
-returns c = made-award (accepted-read (c .before .before .before .before .before .before .before .before .before .before .before .before .before .before .before .before .args .text .now) _ _ (search needs) (search needs) (c .before .before .before .before .before .before .before .tender .given .0 .0) (c .before .before .before .before .before .before .before .tender .given .0 .1 .0) (c .before .before .before .before .before .before .before .tender .given .0 .1 .1 .0) (c .before .before .before .before .before .before .before .before .before .before .before .read .ensures .0) (c .before .before .before .before .before .before .before .before .before .before .before .read .ensures .1 .0) (c .before .before .before .before .before .before .before .before .before .before .before .read .ensures .1 .1) (c .before .before .before .before .before .before .before .tender .given .1)) (c .before .before .put-award .ensures)
+returns c =
+    let c7 = c .before .before .before .before .before .before .before in
+    let c11 = c7 .before .before .before .before in
+    let c16 = c11 .before .before .before .before .before in
+    made-award (accepted-read (c16 .args .text .now) _ _ (search needs) (search needs) (c7 .tender .given .0 .0) (c7 .tender .given .0 .1 .0) (c7 .tender .given .0 .1 .1 .0) (c11 .read .ensures .0) (c11 .read .ensures .1 .0) (c11 .read .ensures .1 .1) (c7 .tender .given .1)) (c .before .before .put-award .ensures)
 
--- src/lib.rt:64:1
 same-length-2 : tie.Need-same-length-2
 same-length-2 c = search needs
 
--- src/lib.rt:64:1
 returns-2 : tie.Need-returns-2
-returns-2 c = made-refusal (c .before .before .before .before .before .r .given .0 .0) (refused-read (c .before .before .before .before .before .before .before .before .before .before .before .before .before .before .args .text .now) _ _ (search needs) (search needs) (c .before .before .before .before .before .r .given .0 .0) (c .before .before .before .before .before .before .before .before .before .read .ensures .0) (c .before .before .before .before .before .before .before .before .before .read .ensures .1 .0) (c .before .before .before .before .before .before .before .before .before .read .ensures .1 .1) (c .before .before .before .before .before .r .given .1)) (c .before .before .put-refused .ensures)
+returns-2 c =
+    let c5 = c .before .before .before .before .before in
+    let c9 = c5 .before .before .before .before in
+    let c14 = c9 .before .before .before .before .before in
+    made-refusal (c5 .r .given .0 .0) (refused-read (c14 .args .text .now) _ _ (search needs) (search needs) (c5 .r .given .0 .0) (c9 .read .ensures .0) (c9 .read .ensures .1 .0) (c9 .read .ensures .1 .1) (c5 .r .given .1)) (c .before .before .put-refused .ensures)
 
 pub make-spec : {M : Type 1} → statement M
 make-spec =

@@ -13,30 +13,35 @@ use Rattle.listing.proofs.lines.put_award.Reads as put-award-reads
 use Rattle.listing.proofs.lines.put_pair.Reads as put-pair-reads
 use Rattle.listing.proofs.lines.put_wins.Reads as put-wins-reads
 
--- src/lib.rt:27:9
 put-award-requires : tie.Need-put-award-requires
 put-award-requires c κs = search needs
 
--- src/lib.rt:28:9
 put-wins-requires : tie.Need-put-wins-requires
-put-wins-requires c κs = (c .before .before .before .before .before .before .before .before .before .pre .0, (c .before .before .before .before .before .before .before .before .before .pre .1 .0, (c .before .before .before .before .before .before .before .before .before .pre .1 .1 .0, omega (arith, c .before .before .before .before .before .before .before .before .before .pre .1 .1 .1, award-short (c .before .before .before .before .before .before .before .before .before .args .tender), c .before .before .before .put-award .ensures .next, c .before .before .before .put-award .ensures .size))))
+put-wins-requires c κs =
+    let c9 = c .before .before .before .before .before .before .before .before .before in
+    let pre = c9 .pre in
+    (pre .0, (pre .1 .0, (pre .1 .1 .0, omega (arith, pre .1 .1 .1, award-short (c9 .args .tender), c .before .before .before .put-award .ensures .next, c .before .before .before .put-award .ensures .size))))
 
--- src/lib.rt:29:34
 slice-aggregate-put-pair : tie.Need-slice-aggregate-put-pair
 slice-aggregate-put-pair c = search needs
 
--- src/lib.rt:29:5
 put-pair-requires : tie.Need-put-pair-requires
-put-pair-requires c κs = omega (arith, c .before .before .before .before .before .before .before .before .before .before .before .before .before .before .pre .1 .1 .1, award-short (c .before .before .before .before .before .before .before .before .before .before .before .before .before .before .args .tender), win-lines-short (c .before .before .before .before .before .before .before .before .before .before .before .before .before .before .args .bids .now) (c .before .before .before .before .before .before .before .before .before .before .before .before .before .before .args .won .now) (c .before .before .before .before .before .before .before .before .before .before .before .before .before .before .args .cents .now) (c .before .before .before .before .before .before .before .before .before .before .before .before .before .before .args .n), c .before .before .before .before .before .before .before .before .put-award .ensures .next, c .before .before .before .before .before .before .before .before .put-award .ensures .size, c .before .before .before .before .put-wins .ensures .next, c .before .before .before .before .put-wins .ensures .size)
+put-pair-requires c κs =
+    let c4 = c .before .before .before .before in
+    let c8 = c4 .before .before .before .before in
+    let c14 = c8 .before .before .before .before .before .before in
+    let args = c14 .args in
+    omega (arith, c14 .pre .1 .1 .1, award-short (args .tender), win-lines-short (args .bids .now) (args .won .now) (args .cents .now) (args .n), c8 .put-award .ensures .next, c8 .put-award .ensures .size, c4 .put-wins .ensures .next, c4 .put-wins .ensures .size)
 
--- src/lib.rt:15:1
 same-length : tie.Need-same-length
 same-length c = search needs
 
--- src/lib.rt:15:1
 returns : tie.Need-returns
 unfolding totalWord bytes
-returns c = then (then (c .before .before .before .before .before .before .before .before .before .before .before .put-award .ensures) (c .before .before .before .before .before .before .before .put-wins .ensures)) (c .before .before .put-pair .ensures)
+returns c =
+    let c7 = c .before .before .before .before .before .before .before in
+    let c11 = c7 .before .before .before .before in
+    then (then (c11 .put-award .ensures) (c7 .put-wins .ensures)) (c .before .before .put-pair .ensures)
 
 pub put-awarded-spec : {M : Type 1} → statement M
 put-awarded-spec =

@@ -10,30 +10,28 @@ use Rattle.listing.proofs.lines.put_pair.Reads as put-pair-reads
 use Rattle.tender.proofs.number.Reads as number-reads
 use Rattle.tender.proofs.place.Reads as place-reads
 
--- src/lib.rt:44:9
 number-requires : tie.Need-number-requires
 number-requires c κs = search needs
 
--- src/lib.rt:45:9
 place-requires : tie.Need-place-requires
 place-requires c κs = search needs
 
--- src/lib.rt:46:30
 slice-aggregate-put-pair : tie.Need-slice-aggregate-put-pair
 slice-aggregate-put-pair c = search needs
 
--- src/lib.rt:46:5
 put-pair-requires : tie.Need-put-pair-requires
 put-pair-requires c κs = search needs
 
--- src/lib.rt:40:1
 same-length : tie.Need-same-length
 same-length c = search needs
 
--- src/lib.rt:40:1
 returns : tie.Need-returns
 unfolding bytes
-returns c = refusal-written (c .before .before .before .before .before .before .before .before .args .refusal) (c .before .before .before .before .before .before .number .ensures) (c .before .before .before .before .before .place .ensures) (c .before .before .put-pair .ensures)
+returns c =
+    let c5 = c .before .before .before .before .before in
+    let c6 = c5 .before in
+    let c8 = c6 .before .before in
+    refusal-written (c8 .args .refusal) (c6 .number .ensures) (c5 .place .ensures) (c .before .before .put-pair .ensures)
 
 pub put-refused-spec : {M : Type 1} → statement M
 put-refused-spec =

@@ -10,37 +10,35 @@ use Rattle.listing.proofs.tender_list.Lts as lts
 use Rattle.listing.proofs.lines.put_all.Reads as put-all-reads
 use Rattle.listing.proofs.make.Reads as make-reads
 
--- src/lib.rt:87:24
 slice-aggregate-make : tie.Need-slice-aggregate-make
 slice-aggregate-make c = search needs
 
--- src/lib.rt:87:9
 make-requires : tie.Need-make-requires
 make-requires c κs = search needs
 
--- src/lib.rt:89:9
 returns : tie.Need-returns
 returns c = listed-none (c .before .before .make .ensures) (c .if1 .taken)
 
--- src/lib.rt:91:29
 array-share-prefix-made : tie.Need-array-share-prefix-made
 array-share-prefix-made c = omega (arith, made-few (c .before .before .before .make .ensures))
 
--- src/lib.rt:91:29
 slice-aggregate-put-all : tie.Need-slice-aggregate-put-all
-slice-aggregate-put-all c = sym (c .before .before .before .before .make .ensures .size)
+slice-aggregate-put-all c =
+    let c4 = c .before .before .before .before in
+    sym (c4 .make .ensures .size)
 
--- src/lib.rt:91:5
 put-all-requires : tie.Need-put-all-requires
-put-all-requires c κs = omega (arith, c .before .before .before .before .make .ensures .size)
+put-all-requires c κs =
+    let c4 = c .before .before .before .before in
+    omega (arith, c4 .make .ensures .size)
 
--- src/lib.rt:82:1
 same-length : tie.Need-same-length
 same-length c = search needs
 
--- src/lib.rt:82:1
 returns-2 : tie.Need-returns-2
-returns-2 c = listed-all (c .before .before .before .before .before .before .before .make .ensures) (omega arith) (c .before .before .put-all .ensures)
+returns-2 c =
+    let c7 = c .before .before .before .before .before .before .before in
+    listed-all (c7 .make .ensures) (omega arith) (c .before .before .put-all .ensures)
 
 pub tender-list-spec : {M : Type 1} → statement M
 tender-list-spec =

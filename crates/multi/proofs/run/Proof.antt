@@ -15,57 +15,82 @@ use Rattle.multi_rounds.proofs.trace.Reads as trace-reads
 use Rattle.multi_rounds.proofs.unlock.Reads as unlock-reads
 use Rattle.multi_tournament.proofs.seat.Reads as seat-reads
 
--- src/lib.rt:58:5
 unlock-requires : tie.Need-unlock-requires
-unlock-requires c κs = let P = c .before .before .before .before .before .before .before .before .before .before .pre in (omega (arith, P .1 .1 .0, P .1 .1 .1 .1 .1 .0), omega (arith, P .0 .words, P .1 .1 .1 .1 .1 .0))
+unlock-requires c κs =
+    let c10 = c .before .before .before .before .before .before .before .before .before .before in
+    let P = c10 .pre in (omega (arith, P .1 .1 .0, P .1 .1 .1 .1 .1 .0), omega (arith, P .0 .words, P .1 .1 .1 .1 .1 .0))
 
--- src/lib.rt:59:5
 count-none-requires : tie.Need-count-none-requires
-count-none-requires c κs = let P = c .before .before .before .before .before .before .before .before .before .before .before .before .before .before .before .pre in let e = c .before .before .before .before .unlock .kept .0 ∙ P .1 .1 .1 .1 .1 .0 in (P .1 .1 .1 .1 .1 .1 .0 ∙ ap (λ (x : ℕ). x + 2) (sym e), omega (arith, e, P .0 .words))
+count-none-requires c κs =
+    let c4 = c .before .before .before .before in
+    let c15 = c4 .before .before .before .before .before .before .before .before .before .before .before in
+    let P = c15 .pre in let e = c4 .unlock .kept .0 ∙ P .1 .1 .1 .1 .1 .0 in (P .1 .1 .1 .1 .1 .1 .0 ∙ ap (λ (x : ℕ). x + 2) (sym e), omega (arith, e, P .0 .words))
 
--- src/lib.rt:60:5
 seat-requires : tie.Need-seat-requires
-seat-requires c κs = c .before .before .before .before .before .before .before .before .before .before .before .before .before .before .before .before .before .before .before .pre .1 .1 .1 .1 .1 .1 .1 .0
+seat-requires c κs =
+    let c19 = c .before .before .before .before .before .before .before .before .before .before .before .before .before .before .before .before .before .before .before in
+    c19 .pre .1 .1 .1 .1 .1 .1 .1 .0
 
--- src/lib.rt:61:5
 clear-requires : tie.Need-clear-requires
 clear-requires c κs = search needs
 
--- src/lib.rt:62:5
 enter-requires : tie.Need-enter-requires
-enter-requires c κs = let P = c .before .before .before .before .before .before .before .before .before .before .before .before .before .before .before .before .before .before .before .before .before .before .before .before .before .before .before .before .before .before .pre in (P .0, (P .1 .0, (c .before .before .before .before .before .before .before .before .before .before .before .before .before .before .before .before .before .before .before .unlock .kept .0 ∙ P .1 .1 .1 .1 .1 .0, (c .before .before .before .before .before .before .before .before .before .before .before .before .before .before .count-none .ensures, opened (c .before .before .before .before .before .before .before .before .before .before .before .before .before .before .before .before .before .before .before .before .before .before .before .before .before .before .before .before .before .before .args .prices .now) (c .before .before .before .before .before .before .before .before .before .before .seat .ensures) (c .before .before .before .before .before .before .clear .kept .0 ∙ P .1 .1 .1 .1 .1 .1 .1 .1) (c .before .before .before .before .before .before .clear .ensures .none)))))
+enter-requires c κs =
+    let c6 = c .before .before .before .before .before .before in
+    let c10 = c6 .before .before .before .before in
+    let c14 = c10 .before .before .before .before in
+    let c19 = c14 .before .before .before .before .before in
+    let c30 = c19 .before .before .before .before .before .before .before .before .before .before .before in
+    let P = c30 .pre in (P .0, (P .1 .0, (c19 .unlock .kept .0 ∙ P .1 .1 .1 .1 .1 .0, (c14 .count-none .ensures, opened (c30 .args .prices .now) (c10 .seat .ensures) (c6 .clear .kept .0 ∙ P .1 .1 .1 .1 .1 .1 .1 .1) (c6 .clear .ensures .none)))))
 
--- src/lib.rt:63:5
 trace-requires : tie.Need-trace-requires
-trace-requires c κs = let P = c .before .before .before .before .before .before .before .before .before .before .before .before .before .before .before .before .before .before .before .before .before .before .before .before .before .before .before .before .before .before .before .before .before .before .before .before .before .before .before .before .before .before .before .pre in (P .0, (P .1 .0, (c .before .before .before .before .before .before .before .before .before .before .before .before .before .before .before .before .before .before .before .before .before .before .before .before .before .before .before .before .before .before .before .before .unlock .kept .0 ∙ P .1 .1 .1 .1 .1 .0, (c .before .before .before .before .before .before .before .before .before .before .before .before .enter .ensures .1 .1, (c .before .before .before .before .before .before .before .before .before .before .before .before .enter .ensures .0, (c .before .before .before .before .before .before .before .before .before .before .before .before .before .before .before .before .before .before .before .before .before .before .before .before .before .before .before .before .before .before .before .before .unlock .ensures, (c .before .before .before .before .before .before .before .before .before .before .before .before .enter .ensures .1 .0, (P .1 .1 .0, (P .1 .1 .1 .0, P .1 .1 .1 .1 .0)))))))))
+trace-requires c κs =
+    let c12 = c .before .before .before .before .before .before .before .before .before .before .before .before in
+    let c32 = c12 .before .before .before .before .before .before .before .before .before .before .before .before .before .before .before .before .before .before .before .before in
+    let c43 = c32 .before .before .before .before .before .before .before .before .before .before .before in
+    let P = c43 .pre in (P .0, (P .1 .0, (c32 .unlock .kept .0 ∙ P .1 .1 .1 .1 .1 .0, (c12 .enter .ensures .1 .1, (c12 .enter .ensures .0, (c32 .unlock .ensures, (c12 .enter .ensures .1 .0, (P .1 .1 .0, (P .1 .1 .1 .0, P .1 .1 .1 .1 .0)))))))))
 
--- src/lib.rt:41:1
 same-length : tie.Need-same-length
-same-length c = c .before .before .before .before .before .before .before .before .before .before .before .before .trace .kept .1 .1 .1 .1 .1 .0 ∙ c .before .before .before .before .before .before .before .before .before .before .before .before .before .before .before .before .before .before .before .before .before .before .before .before .before .before .before .before .before .before .before .before .before .before .before .before .before .before .before .before .before .before .before .before .before .unlock .kept .0
+same-length c =
+    let c12 = c .before .before .before .before .before .before .before .before .before .before .before .before in
+    let c45 = c12 .before .before .before .before .before .before .before .before .before .before .before .before .before .before .before .before .before .before .before .before .before .before .before .before .before .before .before .before .before .before .before .before .before in
+    c12 .trace .kept .1 .1 .1 .1 .1 .0 ∙ c45 .unlock .kept .0
 
--- src/lib.rt:41:1
 same-length-2 : tie.Need-same-length-2
-same-length-2 c = c .before .before .before .before .before .before .before .before .before .before .before .before .trace .kept .1 .1 .1 .1 .1 .1 .0 ∙ c .before .before .before .before .before .before .before .before .before .before .before .before .before .before .before .before .before .before .before .before .before .before .before .before .before .enter .kept .1 .1 .1 .1 .1 .0 ∙ c .before .before .before .before .before .before .before .before .before .before .before .before .before .before .before .before .before .before .before .before .before .before .before .before .before .before .before .before .before .before .before .before .before .before .before .before .before .before .before .before .count-none .kept .1 .0
+same-length-2 c =
+    let c12 = c .before .before .before .before .before .before .before .before .before .before .before .before in
+    let c25 = c12 .before .before .before .before .before .before .before .before .before .before .before .before .before in
+    let c40 = c25 .before .before .before .before .before .before .before .before .before .before .before .before .before .before .before in
+    c12 .trace .kept .1 .1 .1 .1 .1 .1 .0 ∙ c25 .enter .kept .1 .1 .1 .1 .1 .0 ∙ c40 .count-none .kept .1 .0
 
--- src/lib.rt:41:1
 same-length-3 : tie.Need-same-length-3
-same-length-3 c = c .before .before .before .before .before .before .before .before .before .before .before .before .trace .kept .1 .1 .1 .1 .1 .1 .1 .0 ∙ c .before .before .before .before .before .before .before .before .before .before .before .before .before .before .before .before .before .before .before .before .before .before .before .before .before .enter .kept .1 .1 .1 .1 .1 .1 .0 ∙ c .before .before .before .before .before .before .before .before .before .before .before .before .before .before .before .before .before .before .before .before .before .before .before .before .before .before .before .before .before .before .before .before .before .before .before .before .seat .kept .0
+same-length-3 c =
+    let c12 = c .before .before .before .before .before .before .before .before .before .before .before .before in
+    let c25 = c12 .before .before .before .before .before .before .before .before .before .before .before .before .before in
+    let c36 = c25 .before .before .before .before .before .before .before .before .before .before .before in
+    c12 .trace .kept .1 .1 .1 .1 .1 .1 .1 .0 ∙ c25 .enter .kept .1 .1 .1 .1 .1 .1 .0 ∙ c36 .seat .kept .0
 
--- src/lib.rt:41:1
 same-length-4 : tie.Need-same-length-4
-same-length-4 c = c .before .before .before .before .before .before .before .before .before .before .before .before .trace .kept .1 .1 .1 .1 .1 .1 .1 .1 .0 ∙ c .before .before .before .before .before .before .before .before .before .before .before .before .before .before .before .before .before .before .before .before .before .before .before .before .before .enter .kept .1 .1 .1 .1 .1 .1 .1 .0 ∙ c .before .before .before .before .before .before .before .before .before .before .before .before .before .before .before .before .before .before .before .before .before .before .before .before .before .before .before .before .before .before .before .before .clear .kept .0
+same-length-4 c =
+    let c12 = c .before .before .before .before .before .before .before .before .before .before .before .before in
+    let c25 = c12 .before .before .before .before .before .before .before .before .before .before .before .before .before in
+    let c32 = c25 .before .before .before .before .before .before .before in
+    c12 .trace .kept .1 .1 .1 .1 .1 .1 .1 .1 .0 ∙ c25 .enter .kept .1 .1 .1 .1 .1 .1 .1 .0 ∙ c32 .clear .kept .0
 
--- src/lib.rt:41:1
 same-length-5 : tie.Need-same-length-5
-same-length-5 c = c .before .before .before .before .before .before .before .before .before .before .before .before .trace .kept .1 .1 .1 .1 .1 .1 .1 .1 .1 .0
+same-length-5 c =
+    let c12 = c .before .before .before .before .before .before .before .before .before .before .before .before in
+    c12 .trace .kept .1 .1 .1 .1 .1 .1 .1 .1 .1 .0
 
--- src/lib.rt:41:1
 same-length-6 : tie.Need-same-length-6
-same-length-6 c = c .before .before .before .before .before .before .before .before .before .before .before .before .trace .kept .1 .1 .1 .1 .1 .1 .1 .1 .1 .1 .0
+same-length-6 c =
+    let c12 = c .before .before .before .before .before .before .before .before .before .before .before .before in
+    c12 .trace .kept .1 .1 .1 .1 .1 .1 .1 .1 .1 .1 .0
 
--- src/lib.rt:41:1
 returns : tie.Need-returns
-returns c = c .before .before .before .before .before .before .before .before .before .before .before .before .trace .ensures
+returns c =
+    let c12 = c .before .before .before .before .before .before .before .before .before .before .before .before in
+    c12 .trace .ensures
 
 pub run-spec : {M : Type 1} → statement M
 run-spec =

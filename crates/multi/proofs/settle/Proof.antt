@@ -16,89 +16,123 @@ use Rattle.multi_pay.proofs.pay_all.Reads as pay-all-reads
 use Rattle.multi_rounds.proofs.clear.Reads as clear-reads
 use Rattle.multi_rounds.proofs.unlock.Reads as unlock-reads
 
--- src/lib.rt:102:5
 chart-requires : tie.Need-chart-requires
-chart-requires c κs = let P = c .before .before .before .before .before .before .before .before .before .before .before .before .before .before .before .pre in (P .0, P .1 .1 .1 .1 .1 .0)
+chart-requires c κs =
+    let c15 = c .before .before .before .before .before .before .before .before .before .before .before .before .before .before .before in
+    let P = c15 .pre in (P .0, P .1 .1 .1 .1 .1 .0)
 
--- src/lib.rt:103:5
 enlist-requires : tie.Need-enlist-requires
-enlist-requires c κs = let P = c .before .before .before .before .before .before .before .before .before .before .before .before .before .before .before .before .before .before .before .before .pre in (P .0, (c .before .before .before .before .chart .ensures, P .1 .1 .1 .1 .1 .1 .0))
+enlist-requires c κs =
+    let c4 = c .before .before .before .before in
+    let c20 = c4 .before .before .before .before .before .before .before .before .before .before .before .before .before .before .before .before in
+    let P = c20 .pre in (P .0, (c4 .chart .ensures, P .1 .1 .1 .1 .1 .1 .0))
 
--- src/lib.rt:104:9
 run-requires : tie.Need-run-requires
-run-requires c κs = let P = c .before .before .before .before .before .before .before .before .before .before .before .before .before .before .before .before .before .before .before .before .before .before .before .before .before .before .before .before .before .before .pre in (P .0, (c .before .before .before .before .before .before .before .before .before .before .before .before .before .before .chart .ensures, (P .1 .0, (P .1 .1 .1 .0, (P .1 .1 .1 .1 .0, (P .1 .1 .1 .1 .1 .1 .1 .0, (P .1 .1 .1 .1 .1 .1 .1 .1 .1 .0, (P .1 .1 .1 .1 .1 .1 .1 .1 .1 .1 .0, P .1 .1 .1 .1 .1 .1 .1 .1 .1 .1 .1 .0))))))))
+run-requires c κs =
+    let c14 = c .before .before .before .before .before .before .before .before .before .before .before .before .before .before in
+    let c30 = c14 .before .before .before .before .before .before .before .before .before .before .before .before .before .before .before .before in
+    let P = c30 .pre in (P .0, (c14 .chart .ensures, (P .1 .0, (P .1 .1 .1 .0, (P .1 .1 .1 .1 .0, (P .1 .1 .1 .1 .1 .1 .1 .0, (P .1 .1 .1 .1 .1 .1 .1 .1 .1 .0, (P .1 .1 .1 .1 .1 .1 .1 .1 .1 .1 .0, P .1 .1 .1 .1 .1 .1 .1 .1 .1 .1 .1 .0))))))))
 
--- src/lib.rt:117:5
 unlock-requires : tie.Need-unlock-requires
-unlock-requires c κs = let P = c .before .before .before .before .before .before .before .before .before .before .before .before .before .before .before .before .before .before .before .before .before .before .before .before .before .before .before .before .before .before .before .before .before .before .before .before .before .before .before .before .before .before .before .before .pre in let e = c .before .before .before .before .before .before .before .before .before .before .before .before .before .run .kept .1 .1 .1 .1 .1 .0 ∙ P .1 .1 .1 .1 .1 .1 .1 .0 in (omega (arith, P .1 .0), omega (arith, P .0 .words))
+unlock-requires c κs =
+    let c13 = c .before .before .before .before .before .before .before .before .before .before .before .before .before in
+    let c44 = c13 .before .before .before .before .before .before .before .before .before .before .before .before .before .before .before .before .before .before .before .before .before .before .before .before .before .before .before .before .before .before .before in
+    let P = c44 .pre in let e = c13 .run .kept .1 .1 .1 .1 .1 .0 ∙ P .1 .1 .1 .1 .1 .1 .1 .0 in (omega (arith, P .1 .0), omega (arith, P .0 .words))
 
--- src/lib.rt:118:5
 clear-requires : tie.Need-clear-requires
 clear-requires c κs = search needs
 
--- src/lib.rt:119:5
 clear-requires-2 : tie.Need-clear-requires-2
 clear-requires-2 c κs = search needs
 
--- src/lib.rt:120:5
 pay-all-requires : tie.Need-pay-all-requires
-pay-all-requires c κs = let P = c .before .before .before .before .before .before .before .before .before .before .before .before .before .before .before .before .before .before .before .before .before .before .before .before .before .before .before .before .before .before .before .before .before .before .before .before .before .before .before .before .before .before .before .before .before .before .before .before .before .before .before .before .before .before .before .before .before .before .before .before .before .before .before .before .before .before .before .pre in (record { market = P .0; hopping = c .before .before .before .before .before .before .before .before .before .before .before .before .before .before .before .before .before .before .before .before .before .before .before .before .before .before .before .before .before .before .before .before .before .before .before .before .before .before .before .before .before .before .before .before .before .before .before .before .before .before .before .chart .ensures; indexed = c .before .before .before .before .before .before .before .before .before .before .before .before .before .before .before .before .before .before .before .before .before .before .before .before .before .before .before .before .before .before .before .before .before .before .before .before .before .before .before .before .before .before .before .before .before .before .enlist .ensures; main = c .before .before .before .before .before .before .before .before .before .before .before .before .before .before .before .before .before .before .before .before .before .before .before .before .before .before .before .before .before .before .before .before .before .before .before .before .run .ensures .0; cells-in = P .1 .0; two = P .1 .1 .0 }, (starts (c .before .before .before .before .before .before .before .before .before .before .before .before .before .before .before .before .before .before .before .before .before .before .unlock .kept .0 ∙ c .before .before .before .before .before .before .before .before .before .before .before .before .before .before .before .before .before .before .before .before .before .before .before .before .before .before .before .before .before .before .before .before .before .before .before .before .run .kept .1 .1 .1 .1 .1 .0 ∙ P .1 .1 .1 .1 .1 .1 .1 .0) (c .before .before .before .before .before .before .before .before .before .before .before .before .before .before .before .before .before .before .before .before .before .before .unlock .ensures) (c .before .before .before .before .before .before .before .before .before .before .before .before .before .before .before .before .before .before .clear .ensures) (c .before .before .before .before .before .before .before .before .before .before .before .before .before .before .before .before .before .before .clear .kept .0 ∙ P .1 .1 .1 .1 .1 .1 .1 .1 .1 .1 .1 .1 .1 .0) (c .before .before .before .before .before .before .before .before .before .before .before .before .before .before .clear2 .ensures) (c .before .before .before .before .before .before .before .before .before .before .before .before .before .before .clear2 .kept .0 ∙ P .1 .1 .1 .1 .1 .1 .1 .1 .1 .1 .1 .1 .1 .1), (P .1 .1 .1 .1 .1 .1 .1 .1 .0, (c .before .before .before .before .before .before .before .before .before .before .before .before .before .before .before .before .before .before .before .before .before .before .before .before .before .before .before .before .before .before .before .before .before .before .before .before .run .kept .1 .1 .1 .1 .1 .1 .0 ∙ P .1 .1 .1 .1 .1 .1 .1 .1 .1 .0, (c .before .before .before .before .before .before .before .before .before .before .before .before .before .before .before .before .before .before .before .before .before .before .before .before .before .before .before .before .before .before .before .before .before .before .before .before .run .ensures .1, P .1 .1 .1 .1 .1 .1 .1 .1 .1 .1 .1 .1 .0)))))
+pay-all-requires c κs =
+    let c14 = c .before .before .before .before .before .before .before .before .before .before .before .before .before .before in
+    let c18 = c14 .before .before .before .before in
+    let c22 = c18 .before .before .before .before in
+    let c36 = c22 .before .before .before .before .before .before .before .before .before .before .before .before .before .before in
+    let c46 = c36 .before .before .before .before .before .before .before .before .before .before in
+    let c51 = c46 .before .before .before .before .before in
+    let c67 = c51 .before .before .before .before .before .before .before .before .before .before .before .before .before .before .before .before in
+    let P = c67 .pre in (record { market = P .0; hopping = c51 .chart .ensures; indexed = c46 .enlist .ensures; main = c36 .run .ensures .0; cells-in = P .1 .0; two = P .1 .1 .0 }, (starts (c22 .unlock .kept .0 ∙ c36 .run .kept .1 .1 .1 .1 .1 .0 ∙ P .1 .1 .1 .1 .1 .1 .1 .0) (c22 .unlock .ensures) (c18 .clear .ensures) (c18 .clear .kept .0 ∙ P .1 .1 .1 .1 .1 .1 .1 .1 .1 .1 .1 .1 .1 .0) (c14 .clear2 .ensures) (c14 .clear2 .kept .0 ∙ P .1 .1 .1 .1 .1 .1 .1 .1 .1 .1 .1 .1 .1 .1), (P .1 .1 .1 .1 .1 .1 .1 .1 .0, (c36 .run .kept .1 .1 .1 .1 .1 .1 .0 ∙ P .1 .1 .1 .1 .1 .1 .1 .1 .1 .0, (c36 .run .ensures .1, P .1 .1 .1 .1 .1 .1 .1 .1 .1 .1 .1 .1 .0)))))
 
--- src/lib.rt:139:5
 totals-requires : tie.Need-totals-requires
-totals-requires c κs = let p = paid-lengths (c .before .before .before .before .before .before .before .before .before .before .before .before .before .before .before .before .before .before .pay-all .ensures) in (c .before .before .before .before .before .before .before .before .before .before .before .before .before .before .before .before .before .before .before .before .before .before .before .before .before .before .before .before .before .before .before .before .before .before .before .before .before .before .before .before .before .before .before .before .before .before .before .before .before .before .before .before .before .before .before .before .before .before .before .before .before .before .before .before .before .before .before .before .before .before .before .before .before .before .before .before .before .before .before .before .before .before .before .before .before .before .pre .0 .priced, (p .0, (p .1, c .before .before .before .before .before .before .before .before .before .before .before .before .before .before .before .before .before .before .pay-all .ensures .small)))
+totals-requires c κs =
+    let c18 = c .before .before .before .before .before .before .before .before .before .before .before .before .before .before .before .before .before .before in
+    let c86 = c18 .before .before .before .before .before .before .before .before .before .before .before .before .before .before .before .before .before .before .before .before .before .before .before .before .before .before .before .before .before .before .before .before .before .before .before .before .before .before .before .before .before .before .before .before .before .before .before .before .before .before .before .before .before .before .before .before .before .before .before .before .before .before .before .before .before .before .before .before in
+    let p = paid-lengths (c18 .pay-all .ensures) in (c86 .pre .0 .priced, (p .0, (p .1, c18 .pay-all .ensures .small)))
 
--- src/lib.rt:79:1
 same-length : tie.Need-same-length
-same-length c = c .before .before .before .before .before .before .before .before .before .before .before .before .before .before .before .before .before .before .before .before .before .before .before .before .before .before .before .before .before .before .before .before .before .before .before .before .before .before .before .before .before .before .before .before .before .before .before .before .before .before .before .before .before .before .before .before .run .kept .1 .1 .1 .1 .1 .1 .1 .1 .1 .0
+same-length c =
+    let c56 = c .before .before .before .before .before .before .before .before .before .before .before .before .before .before .before .before .before .before .before .before .before .before .before .before .before .before .before .before .before .before .before .before .before .before .before .before .before .before .before .before .before .before .before .before .before .before .before .before .before .before .before .before .before .before .before .before in
+    c56 .run .kept .1 .1 .1 .1 .1 .1 .1 .1 .1 .0
 
--- src/lib.rt:79:1
 same-length-2 : tie.Need-same-length-2
-same-length-2 c = c .before .before .before .before .before .before .before .before .before .before .before .before .before .before .before .before .before .before .before .before .before .before .before .before .before .before .before .before .before .before .before .before .before .before .before .before .before .before .before .before .before .before .before .before .before .before .before .before .before .before .before .before .before .before .before .before .run .kept .1 .1 .1 .1 .1 .1 .1 .1 .1 .1 .0
+same-length-2 c =
+    let c56 = c .before .before .before .before .before .before .before .before .before .before .before .before .before .before .before .before .before .before .before .before .before .before .before .before .before .before .before .before .before .before .before .before .before .before .before .before .before .before .before .before .before .before .before .before .before .before .before .before .before .before .before .before .before .before .before .before in
+    c56 .run .kept .1 .1 .1 .1 .1 .1 .1 .1 .1 .1 .0
 
--- src/lib.rt:79:1
 same-length-3 : tie.Need-same-length-3
-same-length-3 c = c .before .before .before .before .before .before .before .before .before .before .before .before .before .before .before .before .before .before .before .before .before .before .before .before .before .before .before .before .before .before .before .before .before .before .before .before .before .before .before .before .before .before .before .before .before .before .before .before .before .before .before .before .before .before .before .before .before .before .before .before .before .before .before .before .before .before .before .before .before .before .before .chart .kept .1 .1 .1 .0
+same-length-3 c =
+    let c71 = c .before .before .before .before .before .before .before .before .before .before .before .before .before .before .before .before .before .before .before .before .before .before .before .before .before .before .before .before .before .before .before .before .before .before .before .before .before .before .before .before .before .before .before .before .before .before .before .before .before .before .before .before .before .before .before .before .before .before .before .before .before .before .before .before .before .before .before .before .before .before .before in
+    c71 .chart .kept .1 .1 .1 .0
 
--- src/lib.rt:79:1
 same-length-4 : tie.Need-same-length-4
-same-length-4 c = c .before .before .before .before .before .before .before .before .before .before .before .before .before .before .before .before .before .before .before .before .before .before .before .before .before .before .before .before .before .before .before .before .before .before .before .before .before .before .before .before .before .before .before .before .before .before .before .before .before .before .before .before .before .before .before .before .before .before .before .before .before .before .before .before .before .before .enlist .kept .1 .1 .1 .1 .0
+same-length-4 c =
+    let c66 = c .before .before .before .before .before .before .before .before .before .before .before .before .before .before .before .before .before .before .before .before .before .before .before .before .before .before .before .before .before .before .before .before .before .before .before .before .before .before .before .before .before .before .before .before .before .before .before .before .before .before .before .before .before .before .before .before .before .before .before .before .before .before .before .before .before .before in
+    c66 .enlist .kept .1 .1 .1 .1 .0
 
--- src/lib.rt:79:1
 same-length-5 : tie.Need-same-length-5
-same-length-5 c = c .before .before .before .before .before .before .before .before .before .before .before .before .before .before .before .before .before .before .before .pay-all .kept .1 .1 .1 .1 .1 .1 .1 .1 .1 .0 ∙ c .before .before .before .before .before .before .before .before .before .before .before .before .before .before .before .before .before .before .before .before .before .before .before .before .before .before .before .before .before .before .before .before .before .before .before .before .before .before .before .before .before .before .unlock .kept .0 ∙ c .before .before .before .before .before .before .before .before .before .before .before .before .before .before .before .before .before .before .before .before .before .before .before .before .before .before .before .before .before .before .before .before .before .before .before .before .before .before .before .before .before .before .before .before .before .before .before .before .before .before .before .before .before .before .before .before .run .kept .1 .1 .1 .1 .1 .0
+same-length-5 c =
+    let c19 = c .before .before .before .before .before .before .before .before .before .before .before .before .before .before .before .before .before .before .before in
+    let c42 = c19 .before .before .before .before .before .before .before .before .before .before .before .before .before .before .before .before .before .before .before .before .before .before .before in
+    let c56 = c42 .before .before .before .before .before .before .before .before .before .before .before .before .before .before in
+    c19 .pay-all .kept .1 .1 .1 .1 .1 .1 .1 .1 .1 .0 ∙ c42 .unlock .kept .0 ∙ c56 .run .kept .1 .1 .1 .1 .1 .0
 
--- src/lib.rt:79:1
 same-length-6 : tie.Need-same-length-6
-same-length-6 c = c .before .before .before .before .before .before .before .before .before .before .before .before .before .before .before .before .before .before .before .pay-all .kept .1 .1 .1 .1 .1 .1 .1 .1 .1 .1 .0
+same-length-6 c =
+    let c19 = c .before .before .before .before .before .before .before .before .before .before .before .before .before .before .before .before .before .before .before in
+    c19 .pay-all .kept .1 .1 .1 .1 .1 .1 .1 .1 .1 .1 .0
 
--- src/lib.rt:79:1
 same-length-7 : tie.Need-same-length-7
-same-length-7 c = c .before .before .before .before .before .before .before .before .before .before .before .before .before .before .before .before .before .before .before .pay-all .kept .1 .1 .1 .1 .1 .1 .1 .1 .1 .1 .1 .0 ∙ c .before .before .before .before .before .before .before .before .before .before .before .before .before .before .before .before .before .before .before .before .before .before .before .before .before .before .before .before .before .before .before .before .before .before .before .before .before .before .before .before .before .before .before .before .before .before .before .before .before .before .before .before .before .before .before .before .run .kept .1 .1 .1 .1 .1 .1 .0
+same-length-7 c =
+    let c19 = c .before .before .before .before .before .before .before .before .before .before .before .before .before .before .before .before .before .before .before in
+    let c56 = c19 .before .before .before .before .before .before .before .before .before .before .before .before .before .before .before .before .before .before .before .before .before .before .before .before .before .before .before .before .before .before .before .before .before .before .before .before .before in
+    c19 .pay-all .kept .1 .1 .1 .1 .1 .1 .1 .1 .1 .1 .1 .0 ∙ c56 .run .kept .1 .1 .1 .1 .1 .1 .0
 
--- src/lib.rt:79:1
 same-length-8 : tie.Need-same-length-8
-same-length-8 c = c .before .before .before .before .before .before .before .before .before .before .before .before .before .before .before .before .before .before .before .pay-all .kept .1 .1 .1 .1 .1 .1 .1 .1 .1 .1 .1 .1 .0 ∙ c .before .before .before .before .before .before .before .before .before .before .before .before .before .before .before .before .before .before .before .before .before .before .before .before .before .before .before .before .before .before .before .before .before .before .before .before .before .before .before .before .before .before .before .before .before .before .before .before .before .before .before .before .before .before .before .before .run .kept .1 .1 .1 .1 .1 .1 .1 .0
+same-length-8 c =
+    let c19 = c .before .before .before .before .before .before .before .before .before .before .before .before .before .before .before .before .before .before .before in
+    let c56 = c19 .before .before .before .before .before .before .before .before .before .before .before .before .before .before .before .before .before .before .before .before .before .before .before .before .before .before .before .before .before .before .before .before .before .before .before .before .before in
+    c19 .pay-all .kept .1 .1 .1 .1 .1 .1 .1 .1 .1 .1 .1 .1 .0 ∙ c56 .run .kept .1 .1 .1 .1 .1 .1 .1 .0
 
--- src/lib.rt:79:1
 same-length-9 : tie.Need-same-length-9
-same-length-9 c = c .before .before .before .before .before .before .before .before .before .before .before .before .before .before .before .before .before .before .before .pay-all .kept .1 .1 .1 .1 .1 .1 .1 .1 .1 .1 .1 .1 .1 .0 ∙ c .before .before .before .before .before .before .before .before .before .before .before .before .before .before .before .before .before .before .before .before .before .before .before .before .before .before .before .before .before .before .before .before .before .before .before .before .before .before .before .before .before .before .before .before .before .before .before .before .before .before .before .before .before .before .before .before .run .kept .1 .1 .1 .1 .1 .1 .1 .1 .0
+same-length-9 c =
+    let c19 = c .before .before .before .before .before .before .before .before .before .before .before .before .before .before .before .before .before .before .before in
+    let c56 = c19 .before .before .before .before .before .before .before .before .before .before .before .before .before .before .before .before .before .before .before .before .before .before .before .before .before .before .before .before .before .before .before .before .before .before .before .before .before in
+    c19 .pay-all .kept .1 .1 .1 .1 .1 .1 .1 .1 .1 .1 .1 .1 .1 .0 ∙ c56 .run .kept .1 .1 .1 .1 .1 .1 .1 .1 .0
 
--- src/lib.rt:79:1
 same-length-10 : tie.Need-same-length-10
-same-length-10 c = c .before .before .before .before .before .before .before .before .before .before .before .before .before .before .before .before .before .before .before .pay-all .kept .1 .1 .1 .1 .1 .1 .1 .1 .1 .1 .1 .1 .1 .1 .0
+same-length-10 c =
+    let c19 = c .before .before .before .before .before .before .before .before .before .before .before .before .before .before .before .before .before .before .before in
+    c19 .pay-all .kept .1 .1 .1 .1 .1 .1 .1 .1 .1 .1 .1 .1 .1 .1 .0
 
--- src/lib.rt:79:1
 same-length-11 : tie.Need-same-length-11
-same-length-11 c = c .before .before .before .before .before .before .before .before .before .before .before .before .before .before .before .before .before .before .before .pay-all .kept .1 .1 .1 .1 .1 .1 .1 .1 .1 .1 .1 .1 .1 .1 .1 .0 ∙ c .before .before .before .before .before .before .before .before .before .before .before .before .before .before .before .before .before .before .before .before .before .before .before .before .before .before .before .before .before .before .before .before .before .before .before .before .before .before .clear .kept .0
+same-length-11 c =
+    let c19 = c .before .before .before .before .before .before .before .before .before .before .before .before .before .before .before .before .before .before .before in
+    let c38 = c19 .before .before .before .before .before .before .before .before .before .before .before .before .before .before .before .before .before .before .before in
+    c19 .pay-all .kept .1 .1 .1 .1 .1 .1 .1 .1 .1 .1 .1 .1 .1 .1 .1 .0 ∙ c38 .clear .kept .0
 
--- src/lib.rt:79:1
 same-length-12 : tie.Need-same-length-12
-same-length-12 c = c .before .before .before .before .before .before .before .before .before .before .before .before .before .before .before .before .before .before .before .pay-all .kept .1 .1 .1 .1 .1 .1 .1 .1 .1 .1 .1 .1 .1 .1 .1 .1 .0 ∙ c .before .before .before .before .before .before .before .before .before .before .before .before .before .before .before .before .before .before .before .before .before .before .before .before .before .before .before .before .before .before .before .before .before .before .clear2 .kept .0
+same-length-12 c =
+    let c19 = c .before .before .before .before .before .before .before .before .before .before .before .before .before .before .before .before .before .before .before in
+    let c34 = c19 .before .before .before .before .before .before .before .before .before .before .before .before .before .before .before in
+    c19 .pay-all .kept .1 .1 .1 .1 .1 .1 .1 .1 .1 .1 .1 .1 .1 .1 .1 .1 .0 ∙ c34 .clear2 .kept .0
 
--- src/lib.rt:79:1
 returns : tie.Need-returns
-returns c = awarded (c .before .before .before .before .before .before .before .before .before .before .before .before .before .before .before .before .before .before .before .pay-all .ensures) (c .totals .ensures)
+returns c =
+    let c19 = c .before .before .before .before .before .before .before .before .before .before .before .before .before .before .before .before .before .before .before in
+    awarded (c19 .pay-all .ensures) (c .totals .ensures)
 
 pub settle-spec : {M : Type 1} → statement M
 settle-spec =

@@ -16,7 +16,9 @@ abbrev μ-loop : tie.MeasureT-loop
 μ-loop prices won cents cost₀ paid₀ k₀ cost paid k = length prices - k
 
 loop-holds : tie.Need-loop-holds Inv-loop μ-loop
-loop-holds c = sums-none (c .before .before .before .args .prices .now) (c .before .before .before .args .won .now) (c .before .before .before .args .cents .now)
+loop-holds c =
+    let args = c .before .before .before .args in
+    sums-none (args .prices .now) (args .won .now) (args .cents .now)
 
 mul-only : tie.Need-mul-only Inv-loop μ-loop
 mul-only c = omega arith
@@ -34,7 +36,10 @@ only-requires : tie.Need-only-requires Inv-loop μ-loop
 only-requires c κs = tt
 
 add-cost : tie.Need-add-cost Inv-loop μ-loop
-add-cost c = let P = c .before .before .before .before .before .before .before .before .pre in omega (arith, c .before .before .before .before .loop .inv .cost-small, P .0 .most (c .before .before .before .before .loop .k), c .only .ensures .1, P .0 .count)
+add-cost c =
+    let c4 = c .before .before .before .before in
+    let c8 = c4 .before .before .before .before in
+    let P = c8 .pre in omega (arith, c4 .loop .inv .cost-small, P .0 .most (c4 .loop .k), c .only .ensures .1, P .0 .count)
 
 mul-paid : tie.Need-mul-paid Inv-loop μ-loop
 mul-paid c = omega arith
@@ -43,7 +48,10 @@ shared-slice-read-paid : tie.Need-shared-slice-read-paid Inv-loop μ-loop
 shared-slice-read-paid c = omega arith
 
 add-paid : tie.Need-add-paid Inv-loop μ-loop
-add-paid c = let P = c .before .before .before .before .before .before .before .before .before .pre in omega (arith, c .before .before .before .before .before .loop .inv .paid-small, P .1 .1 .1 (c .before .before .before .before .before .loop .k), P .0 .count)
+add-paid c =
+    let c5 = c .before .before .before .before .before in
+    let c9 = c5 .before .before .before .before in
+    let P = c9 .pre in omega (arith, c5 .loop .inv .paid-small, P .1 .1 .1 (c5 .loop .k), P .0 .count)
 
 add-k : tie.Need-add-k Inv-loop μ-loop
 add-k c = omega arith
@@ -52,7 +60,11 @@ loop-less : tie.Need-loop-less Inv-loop μ-loop
 loop-less c = omega arith
 
 loop-again : tie.Need-loop-again Inv-loop μ-loop
-loop-again c = let P = c .before .before .before .before .before .before .before .before .before .pre in sums-more (c .before .before .before .before .before .loop .inv) (c .before .before .before .before .loop-test .taken) (c .before .only .ensures .0) (omega (arith, P .0 .most (c .before .before .before .before .before .loop .k), c .before .only .ensures .1)) (P .1 .1 .1 (c .before .before .before .before .before .loop .k))
+loop-again c =
+    let c4 = c .before .before .before .before in
+    let c5 = c4 .before in
+    let c9 = c5 .before .before .before .before in
+    let P = c9 .pre in sums-more (c5 .loop .inv) (c4 .loop-test .taken) (c .before .only .ensures .0) (omega (arith, P .0 .most (c5 .loop .k), c .before .only .ensures .1)) (P .1 .1 .1 (c5 .loop .k))
 
 returns : tie.Need-returns Inv-loop μ-loop
 returns c = sums-all (c .before .loop .inv) (omega arith)

@@ -14,59 +14,70 @@ Inv-loop masks a q m to hop₀ r₀ hop r = Backing masks a q m to hop₀ hop r
 abbrev μ-loop : tie.MeasureT-loop
 μ-loop masks a q m to hop₀ r₀ hop r = r
 
--- src/lib.rt:23:5
 loop-holds : tie.Need-loop-holds Inv-loop μ-loop
 loop-holds c = let A = c .args in backs-none (A .masks .now) (A .a) (A .q) (A .m) (A .to) (A .hop .now)
 
--- src/lib.rt:24:18
 add-if1 : tie.Need-add-if1 Inv-loop μ-loop
-add-if1 c = omega (arith, c .before .before .pre .0, c .before .before .pre .1, c .before .loop .inv .low, c .before .loop .inv .same)
+add-if1 c =
+    let pre = c .before .before .pre in
+    omega (arith, pre .0, pre .1, c .before .loop .inv .low, c .before .loop .inv .same)
 
--- src/lib.rt:24:18
 sub-if1 : tie.Need-sub-if1 Inv-loop μ-loop
-sub-if1 c = omega (arith, c .before .before .pre .0, c .before .before .pre .1, c .before .loop .inv .low, c .before .loop .inv .same)
+sub-if1 c =
+    let pre = c .before .before .pre in
+    omega (arith, pre .0, pre .1, c .before .loop .inv .low, c .before .loop .inv .same)
 
--- src/lib.rt:24:12
 mul-if1 : tie.Need-mul-if1 Inv-loop μ-loop
-mul-if1 c = omega (arith, c .before .before .pre .0, c .before .before .pre .1, c .before .loop .inv .low, c .before .loop .inv .same)
+mul-if1 c =
+    let pre = c .before .before .pre in
+    omega (arith, pre .0, pre .1, c .before .loop .inv .low, c .before .loop .inv .same)
 
--- src/lib.rt:24:12
 shared-slice-read-if1 : tie.Need-shared-slice-read-if1 Inv-loop μ-loop
-shared-slice-read-if1 c = omega (arith, c .before .before .before .pre .0, c .before .before .before .pre .1, c .before .before .loop .inv .low, c .before .before .loop .inv .same)
+shared-slice-read-if1 c =
+    let pre = c .before .before .before .pre in
+    omega (arith, pre .0, pre .1, c .before .before .loop .inv .low, c .before .before .loop .inv .same)
 
--- src/lib.rt:25:13
 same-length : tie.Need-same-length Inv-loop μ-loop
 same-length c = c .before .before .before .loop .inv .same
 
--- src/lib.rt:25:13
 returns : tie.Need-returns Inv-loop μ-loop
-returns c = let A = c .before .before .before .before .args in backs-all (c .before .before .before .loop .inv) (λ l e. c .if1 .taken (ap (at (A .masks .now)) (omega arith) ∙ e))
+returns c =
+    let c4 = c .before .before .before .before in
+    let A = c4 .args in backs-all (c .before .before .before .loop .inv) (λ l e. c .if1 .taken (ap (at (A .masks .now)) (omega arith) ∙ e))
 
--- src/lib.rt:27:9
 sub-r : tie.Need-sub-r Inv-loop μ-loop
-sub-r c = omega (arith, c .before .before .before .before .pre .0, c .before .before .before .before .pre .1, c .before .before .before .loop .inv .low, c .before .before .before .loop .inv .same)
+sub-r c =
+    let c4 = c .before .before .before .before in
+    let pre = c4 .pre in
+    omega (arith, pre .0, pre .1, c .before .before .before .loop .inv .low, c .before .before .before .loop .inv .same)
 
--- src/lib.rt:28:13
 add-hop : tie.Need-add-hop Inv-loop μ-loop
-add-hop c = omega (arith, c .before .before .before .before .pre .0, c .before .before .before .before .pre .1, c .before .before .before .loop .inv .low, c .before .before .before .loop .inv .same)
+add-hop c =
+    let c4 = c .before .before .before .before in
+    let pre = c4 .pre in
+    omega (arith, pre .0, pre .1, c .before .before .before .loop .inv .low, c .before .before .before .loop .inv .same)
 
--- src/lib.rt:28:9
 slice-write-hop : tie.Need-slice-write-hop Inv-loop μ-loop
-slice-write-hop c = omega (arith, c .before .before .before .before .pre .0, c .before .before .before .before .pre .1, c .before .before .before .loop .inv .low, c .before .before .before .loop .inv .same)
+slice-write-hop c =
+    let c4 = c .before .before .before .before in
+    let pre = c4 .pre in
+    omega (arith, pre .0, pre .1, c .before .before .before .loop .inv .low, c .before .before .before .loop .inv .same)
 
--- src/lib.rt:23:5
 loop-less : tie.Need-loop-less Inv-loop μ-loop
-loop-less c = omega (arith, c .before .before .before .before .pre .0, c .before .before .before .before .pre .1, c .before .before .before .loop .inv .low, c .before .before .before .loop .inv .same)
+loop-less c =
+    let c4 = c .before .before .before .before in
+    let pre = c4 .pre in
+    omega (arith, pre .0, pre .1, c .before .before .before .loop .inv .low, c .before .before .before .loop .inv .same)
 
--- src/lib.rt:23:5
 loop-again : tie.Need-loop-again Inv-loop μ-loop
-loop-again c = backs-more (c .before .before .before .loop .inv) (c .before .before .loop-test .taken) (omega (arith, c .before .before .before .before .pre .0, c .before .before .before .before .pre .1)) (c .if1 .left)
+loop-again c =
+    let c4 = c .before .before .before .before in
+    let pre = c4 .pre in
+    backs-more (c .before .before .before .loop .inv) (c .before .before .loop-test .taken) (omega (arith, pre .0, pre .1)) (c .if1 .left)
 
--- src/lib.rt:18:1
 same-length-2 : tie.Need-same-length-2 Inv-loop μ-loop
 same-length-2 c = c .before .loop .inv .same
 
--- src/lib.rt:18:1
 returns-2 : tie.Need-returns-2 Inv-loop μ-loop
 returns-2 c = backs-all (c .before .loop .inv) (λ l e. omega (arith, l, c .loop-test .left))
 

@@ -21,7 +21,9 @@ loop-holds : tie.Need-loop-holds Inv-loop μ-loop
 loop-holds c = record { size = c .before .before .before .pre .1; done = λ j l. absurd (omega arith) }
 
 chart-row-requires : tie.Need-chart-row-requires Inv-loop μ-loop
-chart-row-requires c κs = let P = c .before .before .before .before .before .before .pre in let A = c .before .before .before .before .before .before .args in (P .0 .words, (row-in (A .prices .now) (A .masks .now) (A .w) (c .before .before .loop .i) (P .0) (c .before .loop-test .taken), c .before .before .loop .inv .size))
+chart-row-requires c κs =
+    let c6 = c .before .before .before .before .before .before in
+    let P = c6 .pre in let A = c6 .args in (P .0 .words, (row-in (A .prices .now) (A .masks .now) (A .w) (c .before .before .loop .i) (P .0) (c .before .loop-test .taken), c .before .before .loop .inv .size))
 
 add-i : tie.Need-add-i Inv-loop μ-loop
 add-i c = omega arith
@@ -30,10 +32,16 @@ loop-less : tie.Need-loop-less Inv-loop μ-loop
 loop-less c = omega arith
 
 loop-again : tie.Need-loop-again Inv-loop μ-loop
-loop-again c = charts-on (c .before .before .before .before .before .before .before .before .before .pre .0) (c .before .before .before .before .before .loop .inv) (c .before .before .before .before .loop-test .taken) (c .before .before .chart-row .kept .1 .1 .1 .0) (c .before .before .chart-row .ensures)
+loop-again c =
+    let c4 = c .before .before .before .before in
+    let c5 = c4 .before in
+    let c9 = c5 .before .before .before .before in
+    charts-on (c9 .pre .0) (c5 .loop .inv) (c4 .loop-test .taken) (c .before .before .chart-row .kept .1 .1 .1 .0) (c .before .before .chart-row .ensures)
 
 same-length : tie.Need-same-length Inv-loop μ-loop
-same-length c = c .before .loop .inv .size ∙ sym (c .before .before .before .before .before .pre .1)
+same-length c =
+    let c5 = c .before .before .before .before .before in
+    c .before .loop .inv .size ∙ sym (c5 .pre .1)
 
 returns : tie.Need-returns Inv-loop μ-loop
 returns c = charts-end (c .before .loop .inv) (omega arith)

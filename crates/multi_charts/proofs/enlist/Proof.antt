@@ -18,10 +18,14 @@ abbrev μ-loop : tie.MeasureT-loop
 μ-loop prices masks hop w index₀ i₀ index i = length prices - i
 
 loop-holds : tie.Need-loop-holds Inv-loop μ-loop
-loop-holds c = record { size = c .before .before .before .before .pre .1 .1; done = λ j p l. absurd (omega arith) }
+loop-holds c =
+    let c4 = c .before .before .before .before in
+    record { size = c4 .pre .1 .1; done = λ j p l. absurd (omega arith) }
 
 enlist-row-requires : tie.Need-enlist-row-requires Inv-loop μ-loop
-enlist-row-requires c κs = let P = c .before .before .before .before .before .before .before .pre in let A = c .before .before .before .before .before .before .before .args in let l = c .before .loop-test .taken in (P .0 .words, (row-in (A .prices .now) (A .masks .now) (A .w) (c .before .before .loop .i) (P .0) l, (P .1 .0 .size, (P .1 .0 .each (c .before .before .loop .i) l, (omega (arith, l, P .0 .priced .count), c .before .before .loop .inv .size)))))
+enlist-row-requires c κs =
+    let c7 = c .before .before .before .before .before .before .before in
+    let P = c7 .pre in let A = c7 .args in let l = c .before .loop-test .taken in (P .0 .words, (row-in (A .prices .now) (A .masks .now) (A .w) (c .before .before .loop .i) (P .0) l, (P .1 .0 .size, (P .1 .0 .each (c .before .before .loop .i) l, (omega (arith, l, P .0 .priced .count), c .before .before .loop .inv .size)))))
 
 add-i : tie.Need-add-i Inv-loop μ-loop
 add-i c = omega arith
@@ -30,13 +34,19 @@ loop-less : tie.Need-loop-less Inv-loop μ-loop
 loop-less c = omega arith
 
 loop-again : tie.Need-loop-again Inv-loop μ-loop
-loop-again c = enlists-on (c .before .before .before .before .before .loop .inv) (c .before .before .enlist-row .kept .1 .1 .1 .1 .0) (c .before .before .enlist-row .ensures)
+loop-again c =
+    let c5 = c .before .before .before .before .before in
+    enlists-on (c5 .loop .inv) (c .before .before .enlist-row .kept .1 .1 .1 .1 .0) (c .before .before .enlist-row .ensures)
 
 same-length : tie.Need-same-length Inv-loop μ-loop
-same-length c = c .before .loop .inv .size ∙ sym (c .before .before .before .before .before .before .pre .1 .1)
+same-length c =
+    let c6 = c .before .before .before .before .before .before in
+    c .before .loop .inv .size ∙ sym (c6 .pre .1 .1)
 
 returns : tie.Need-returns Inv-loop μ-loop
-returns c = enlists-end (c .before .before .before .before .before .before .pre .0) (c .before .loop .inv) (omega arith)
+returns c =
+    let c6 = c .before .before .before .before .before .before in
+    enlists-end (c6 .pre .0) (c .before .loop .inv) (omega arith)
 
 pub enlist-spec : {M : Type 1} → statement M
 enlist-spec =

@@ -18,10 +18,15 @@ use Rattle.multi_rounds.proofs.clear.Reads as clear-reads
 use Rattle.multi_rounds.proofs.copy.Reads as copy-reads
 
 copy-requires : tie.Need-copy-requires
-copy-requires c κs = let P = c .before .before .before .before .before .before .before .before .before .before .before .before .before .pre in P .1 .0 .words ∙ sym (P .1 .1 .0)
+copy-requires c κs =
+    let c13 = c .before .before .before .before .before .before .before .before .before .before .before .before .before in
+    let P = c13 .pre in P .1 .0 .words ∙ sym (P .1 .1 .0)
 
 count-none-requires : tie.Need-count-none-requires
-count-none-requires c κs = let P = c .before .before .before .before .before .before .before .before .before .before .before .before .before .before .before .before .before .before .pre in let e = c .before .before .before .before .copy .kept .1 .0 ∙ P .1 .1 .0 in (P .1 .1 .1 .0 ∙ ap (λ (x : ℕ). x + 2) (sym e), omega (arith, e, P .0 .market .words))
+count-none-requires c κs =
+    let c4 = c .before .before .before .before in
+    let c18 = c4 .before .before .before .before .before .before .before .before .before .before .before .before .before .before in
+    let P = c18 .pre in let e = c4 .copy .kept .1 .0 ∙ P .1 .1 .0 in (P .1 .1 .1 .0 ∙ ap (λ (x : ℕ). x + 2) (sym e), omega (arith, e, P .0 .market .words))
 
 clear-requires : tie.Need-clear-requires
 clear-requires c κs = search needs
@@ -30,10 +35,19 @@ clear-requires-2 : tie.Need-clear-requires-2
 clear-requires-2 c κs = search needs
 
 add-requires : tie.Need-add-requires
-add-requires c κs = let P = c .before .before .before .before .before .before .before .before .before .before .before .before .before .before .before .before .before .before .before .before .before .before .before .before .before .before .before .before .before .before .pre in omega (arith, inside (P .0), P .0 .market .priced .count, c .before .before .before .clear2 .kept .0, P .1 .1 .1 .1 .1)
+add-requires c κs =
+    let c30 = c .before .before .before .before .before .before .before .before .before .before .before .before .before .before .before .before .before .before .before .before .before .before .before .before .before .before .before .before .before .before in
+    let P = c30 .pre in omega (arith, inside (P .0), P .0 .market .priced .count, c .before .before .before .clear2 .kept .0, P .1 .1 .1 .1 .1)
 
 disturb-requires : tie.Need-disturb-requires
-disturb-requires c κs = let P = c .before .before .before .before .before .before .before .before .before .before .before .before .before .before .before .before .before .before .before .before .before .before .before .before .before .before .before .before .before .before .before .before .before .before .before .before .before .before .pre in let co = P .0 in (co .market, (co .hopping, (co .indexed, (c .before .before .before .before .before .before .before .before .before .before .before .before .before .before .before .before .before .before .before .before .before .before .before .before .copy .kept .1 .0 ∙ P .1 .1 .0, (c .before .before .before .before .before .before .before .before .before .before .before .before .before .before .before .before .before .before .before .count-none .ensures, (inside co, (emptied (P .1 .1 .1 .1 .0) (c .before .before .before .before .before .before .before .before .before .before .before .before .before .before .before .clear .kept .0 ∙ P .1 .1 .1 .1 .0 .seats .numbers) (c .before .before .before .before .before .before .before .before .before .before .before .before .before .before .before .clear .ensures .none), c .before .before .before .before .before .before .before .add .kept .0 ∙ c .before .before .before .before .before .before .before .before .before .before .before .clear2 .kept .0 ∙ P .1 .1 .1 .1 .1)))))))
+disturb-requires c κs =
+    let c7 = c .before .before .before .before .before .before .before in
+    let c11 = c7 .before .before .before .before in
+    let c15 = c11 .before .before .before .before in
+    let c19 = c15 .before .before .before .before in
+    let c24 = c19 .before .before .before .before .before in
+    let c38 = c24 .before .before .before .before .before .before .before .before .before .before .before .before .before .before in
+    let P = c38 .pre in let co = P .0 in (co .market, (co .hopping, (co .indexed, (c24 .copy .kept .1 .0 ∙ P .1 .1 .0, (c19 .count-none .ensures, (inside co, (emptied (P .1 .1 .1 .1 .0) (c15 .clear .kept .0 ∙ P .1 .1 .1 .1 .0 .seats .numbers) (c15 .clear .ensures .none), c7 .add .kept .0 ∙ c11 .clear2 .kept .0 ∙ P .1 .1 .1 .1 .1)))))))
 
 same-length : tie.Need-same-length
 same-length c = search needs
@@ -51,7 +65,14 @@ same-length-5 : tie.Need-same-length-5
 same-length-5 c = search needs
 
 returns : tie.Need-returns
-returns c = let P = c .before .before .before .before .before .before .before .before .before .before .before .before .before .before .before .before .before .before .before .before .before .before .before .before .before .before .before .before .before .before .before .before .before .before .before .before .before .before .before .before .before .before .before .before .before .before .before .pre in let co = P .0 in let t = c .before .before .before .before .before .before .before .before .disturb .ensures .0 in record { follow = rw (c .before .before .before .before .before .before .before .before .before .before .before .before .before .before .before .before .before .before .before .before .before .before .before .before .before .before .before .before .before .before .before .before .before .copy .ensures) (starts co (P .1 .0) (λ i. known-at _ i ∙ c .before .before .before .before .before .before .before .before .before .before .before .before .before .before .before .before .before .before .before .before .before .before .before .before .clear .ensures .none _) (c .before .before .before .before .before .before .before .before .before .before .before .before .before .before .before .before .before .before .before .before .clear2 .ensures) (c .before .before .before .before .before .before .before .before .before .before .before .before .before .before .before .before .add .ensures) (sized-of t) (rw (c .before .before .before .before .before .before .before .before .before .before .before .before .before .before .before .before .before .before .before .before .before .before .before .before .before .before .before .before .before .before .before .before .before .copy .ensures) at (c .before .before .before .before .before .before .before .before .disturb .ensures .1 .0))); tree = t; counted = c .before .before .before .before .before .before .before .before .disturb .ensures .1 .1; marks = c .before .before .before .before .before .before .before .before .disturb .kept .1 .1 .1 .1 .1 .1 .1 .1 .1 .1 .0 ∙ c .before .before .before .before .before .before .before .before .before .before .before .before .before .before .before .before .add .kept .0 ∙ c .before .before .before .before .before .before .before .before .before .before .before .before .before .before .before .before .before .before .before .before .clear2 .kept .0 ∙ P .1 .1 .1 .1 .1 }
+returns c =
+    let c8 = c .before .before .before .before .before .before .before .before in
+    let c16 = c8 .before .before .before .before .before .before .before .before in
+    let c20 = c16 .before .before .before .before in
+    let c24 = c20 .before .before .before .before in
+    let c33 = c24 .before .before .before .before .before .before .before .before .before in
+    let c47 = c33 .before .before .before .before .before .before .before .before .before .before .before .before .before .before in
+    let P = c47 .pre in let co = P .0 in let t = c8 .disturb .ensures .0 in record { follow = rw (c33 .copy .ensures) (starts co (P .1 .0) (λ i. known-at _ i ∙ c24 .clear .ensures .none _) (c20 .clear2 .ensures) (c16 .add .ensures) (sized-of t) (rw (c33 .copy .ensures) at (c8 .disturb .ensures .1 .0))); tree = t; counted = c8 .disturb .ensures .1 .1; marks = c8 .disturb .kept .1 .1 .1 .1 .1 .1 .1 .1 .1 .1 .0 ∙ c16 .add .kept .0 ∙ c20 .clear2 .kept .0 ∙ P .1 .1 .1 .1 .1 }
 
 pub begin-spec : {M : Type 1} → statement M
 begin-spec =

@@ -27,16 +27,25 @@ abbrev μ-loop : tie.MeasureT-loop
 μ-loop prices masks hop index w alt counts₀ q m who₀ num₀ mark₀ a e i₀ counts who num mark i = 1024 - i
 
 returns : tie.Need-returns Inv-loop μ-loop
-returns c = let A = c .before .before .before .before .before .before .before .before .before .before .args in (c .before .before .before .before .before .before .before .before .before .before .pre .1 .1 .1 .1 .1 .1 .0, (no-cells (A .prices .now) (A .masks .now) (A .w) (A .alt .now) (A .q) (A .m) (known (A .num .now)) (A .mark .now) (c .if1 .taken), c .before .before .before .before .before .before .before .before .before .before .pre .1 .1 .1 .1 .0))
+returns c =
+    let c10 = c .before .before .before .before .before .before .before .before .before .before in
+    let pre = c10 .pre in
+    let A = c10 .args in (pre .1 .1 .1 .1 .1 .1 .0, (no-cells (A .prices .now) (A .masks .now) (A .w) (A .alt .now) (A .q) (A .m) (known (A .num .now)) (A .mark .now) (c .if1 .taken), pre .1 .1 .1 .1 .0))
 
 mul-a : tie.Need-mul-a Inv-loop μ-loop
-mul-a c = let P = c .before .before .before .before .before .before .before .before .before .before .pre in omega (arith, P .1 .1 .1 .1 .1 .0, P .0 .words)
+mul-a c =
+    let c10 = c .before .before .before .before .before .before .before .before .before .before in
+    let P = c10 .pre in omega (arith, P .1 .1 .1 .1 .1 .0, P .0 .words)
 
 add-e : tie.Need-add-e Inv-loop μ-loop
-add-e c = let P = c .before .before .before .before .before .before .before .before .before .before .pre in omega (arith, P .1 .1 .1 .1 .1 .0, P .0 .words)
+add-e c =
+    let c10 = c .before .before .before .before .before .before .before .before .before .before in
+    let P = c10 .pre in omega (arith, P .1 .1 .1 .1 .1 .0, P .0 .words)
 
 mul-next : tie.Need-mul-next Inv-loop μ-loop
-mul-next c = let P = c .before .before .before .before .before .before .before .before .before .before .pre in omega (arith, P .1 .1 .1 .1 .1 .0, P .0 .words)
+mul-next c =
+    let c10 = c .before .before .before .before .before .before .before .before .before .before in
+    let P = c10 .pre in omega (arith, P .1 .1 .1 .1 .1 .0, P .0 .words)
 
 sub-next : tie.Need-sub-next Inv-loop μ-loop
 sub-next c = omega arith
@@ -45,37 +54,65 @@ part-next-start : tie.Need-part-next-start Inv-loop μ-loop
 part-next-start c = omega arith
 
 part-next-end : tie.Need-part-next-end Inv-loop μ-loop
-part-next-end c = let P = c .before .before .before .before .before .before .before .before .before .before .pre in set-in (P .1 .1 .0) (P .1 .1 .1 .1 .1 .0)
+part-next-end c =
+    let c10 = c .before .before .before .before .before .before .before .before .before .before in
+    let P = c10 .pre in set-in (P .1 .1 .0) (P .1 .1 .1 .1 .1 .0)
 
 next-requires : tie.Need-next-requires Inv-loop μ-loop
-next-requires c κs = let P = c .before .before .before .before .before .before .before .before .before .before .before .before .pre in let A = c .before .before .before .before .before .before .before .before .before .before .before .before .args in rw (part-row (A .index .now) 16 (A .q)) (let e = set-length (P .1 .1 .0) (P .1 .1 .1 .1 .1 .0) in (e ∙ sym (P .1 .1 .1 .1 .1 .1 .1), (omega arith, omega arith)))
+next-requires c κs =
+    let c12 = c .before .before .before .before .before .before .before .before .before .before .before .before in
+    let P = c12 .pre in let A = c12 .args in rw (part-row (A .index .now) 16 (A .q)) (let e = set-length (P .1 .1 .0) (P .1 .1 .1 .1 .1 .0) in (e ∙ sym (P .1 .1 .1 .1 .1 .1 .1), (omega arith, omega arith)))
 
 loop-holds : tie.Need-loop-holds Inv-loop μ-loop
-loop-holds c = let P = c .before .before .before .before .before .before .before .before .before .before .before .before .before .pre in let A = c .before .before .before .before .before .before .before .before .before .before .before .before .before .args in let x = P .1 .1 .0 in let l = P .1 .1 .1 .1 .1 .0 in let n = rw (part-row (A .index .now) 16 (A .q)) at (c .next .ensures) in (passes (begins (A .prices .now) (A .masks .now) (A .w) (A .alt .now) (A .q) (A .m) (known (A .num .now)) (A .mark .now)) x l n, (next-within x l n, (next-free x l n, (P .1 .1 .1 .1 .1 .1 .0, (P .1 .1 .1 .1 .1 .1 .1, P .1 .1 .1 .1 .0)))))
+loop-holds c =
+    let c13 = c .before .before .before .before .before .before .before .before .before .before .before .before .before in
+    let P = c13 .pre in let A = c13 .args in let x = P .1 .1 .0 in let l = P .1 .1 .1 .1 .1 .0 in let n = rw (part-row (A .index .now) 16 (A .q)) at (c .next .ensures) in (passes (begins (A .prices .now) (A .masks .now) (A .w) (A .alt .now) (A .q) (A .m) (known (A .num .now)) (A .mark .now)) x l n, (next-within x l n, (next-free x l n, (P .1 .1 .1 .1 .1 .1 .0, (P .1 .1 .1 .1 .1 .1 .1, P .1 .1 .1 .1 .0)))))
 
 mul-if2 : tie.Need-mul-if2 Inv-loop μ-loop
-mul-if2 c = let P = c .before .before .before .before .before .before .before .before .before .before .before .before .before .before .before .pre in let A = c .before .before .before .before .before .before .before .before .before .before .before .before .before .before .before .args in omega (arith, row-in (A .prices .now) (A .masks .now) (A .w) (c .before .loop .i) (P .0) (c .loop-test .taken))
+mul-if2 c =
+    let c15 = c .before .before .before .before .before .before .before .before .before .before .before .before .before .before .before in
+    let P = c15 .pre in let A = c15 .args in omega (arith, row-in (A .prices .now) (A .masks .now) (A .w) (c .before .loop .i) (P .0) (c .loop-test .taken))
 
 add-if2 : tie.Need-add-if2 Inv-loop μ-loop
-add-if2 c = let P = c .before .before .before .before .before .before .before .before .before .before .before .before .before .before .before .pre in let A = c .before .before .before .before .before .before .before .before .before .before .before .before .before .before .before .args in omega (arith, row-in (A .prices .now) (A .masks .now) (A .w) (c .before .loop .i) (P .0) (c .loop-test .taken), P .1 .1 .1 .1 .1 .0)
+add-if2 c =
+    let c15 = c .before .before .before .before .before .before .before .before .before .before .before .before .before .before .before in
+    let P = c15 .pre in let A = c15 .args in omega (arith, row-in (A .prices .now) (A .masks .now) (A .w) (c .before .loop .i) (P .0) (c .loop-test .taken), P .1 .1 .1 .1 .1 .0)
 
 mul-if2-2 : tie.Need-mul-if2-2 Inv-loop μ-loop
-mul-if2-2 c = let P = c .before .before .before .before .before .before .before .before .before .before .before .before .before .before .before .pre in let A = c .before .before .before .before .before .before .before .before .before .before .before .before .before .before .before .args in omega (arith, row-in (A .prices .now) (A .masks .now) (A .w) (c .before .loop .i) (P .0) (c .loop-test .taken), P .1 .1 .1 .1 .1 .0)
+mul-if2-2 c =
+    let c15 = c .before .before .before .before .before .before .before .before .before .before .before .before .before .before .before in
+    let P = c15 .pre in let A = c15 .args in omega (arith, row-in (A .prices .now) (A .masks .now) (A .w) (c .before .loop .i) (P .0) (c .loop-test .taken), P .1 .1 .1 .1 .1 .0)
 
 shared-slice-read-if2 : tie.Need-shared-slice-read-if2 Inv-loop μ-loop
-shared-slice-read-if2 c = let P = c .before .before .before .before .before .before .before .before .before .before .before .before .before .before .before .before .pre in let A = c .before .before .before .before .before .before .before .before .before .before .before .before .before .before .before .before .args in omega (arith, row-in (A .prices .now) (A .masks .now) (A .w) (c .before .before .loop .i) (P .0) (c .before .loop-test .taken), P .1 .1 .1 .1 .1 .0)
+shared-slice-read-if2 c =
+    let c16 = c .before .before .before .before .before .before .before .before .before .before .before .before .before .before .before .before in
+    let P = c16 .pre in let A = c16 .args in omega (arith, row-in (A .prices .now) (A .masks .now) (A .w) (c .before .before .loop .i) (P .0) (c .before .loop-test .taken), P .1 .1 .1 .1 .1 .0)
 
 overlap-requires : tie.Need-overlap-requires Inv-loop μ-loop
-overlap-requires c κs = let P = c .before .before .before .before .before .before .before .before .before .before .before .before .before .before .before .before .before .before .pre in let A = c .before .before .before .before .before .before .before .before .before .before .before .before .before .before .before .before .before .before .args in (P .1 .1 .1 .0, (P .0 .words, (row-in (A .prices .now) (A .masks .now) (A .w) (c .before .before .before .before .loop .i) (P .0) (c .before .before .before .loop-test .taken), (P .1 .0 .size, (c .before .before .before .before .loop .inv .1 .1 .1 .1 .1, P .1 .0 .each (c .before .before .before .before .loop .i) (c .before .before .before .loop-test .taken))))))
+overlap-requires c κs =
+    let c4 = c .before .before .before .before in
+    let c18 = c4 .before .before .before .before .before .before .before .before .before .before .before .before .before .before in
+    let P = c18 .pre in let A = c18 .args in (P .1 .1 .1 .0, (P .0 .words, (row-in (A .prices .now) (A .masks .now) (A .w) (c4 .loop .i) (P .0) (c .before .before .before .loop-test .taken), (P .1 .0 .size, (c4 .loop .inv .1 .1 .1 .1 .1, P .1 .0 .each (c4 .loop .i) (c .before .before .before .loop-test .taken))))))
 
 update-requires : tie.Need-update-requires Inv-loop μ-loop
-update-requires c κs = let P = c .before .before .before .before .before .before .before .before .before .before .before .before .before .before .before .before .before .before .before .before .before .before .before .pre in let A = c .before .before .before .before .before .before .before .before .before .before .before .before .before .before .before .before .before .before .before .before .before .before .before .args in (P .0 .priced, (c .before .before .before .before .before .before .before .before .before .loop .inv .1 .1 .1 .0, (c .before .before .before .before .before .before .before .before .loop-test .taken, rw (c .before .before .before .before .overlap .ensures .0) (common-few (A .alt .now) _ (omega (arith, P .1 .1 .1 .0, P .0 .words))))))
+update-requires c κs =
+    let c4 = c .before .before .before .before in
+    let c8 = c4 .before .before .before .before in
+    let c9 = c8 .before in
+    let c23 = c9 .before .before .before .before .before .before .before .before .before .before .before .before .before .before in
+    let P = c23 .pre in let A = c23 .args in (P .0 .priced, (c9 .loop .inv .1 .1 .1 .0, (c8 .loop-test .taken, rw (c4 .overlap .ensures .0) (common-few (A .alt .now) _ (omega (arith, P .1 .1 .1 .0, P .0 .words))))))
 
 add-requires : tie.Need-add-requires Inv-loop μ-loop
-add-requires c κs = let P = c .before .before .before .before .before .before .before .before .before .before .before .before .before .before .before .before .before .before .before .before .before .before .before .before .before .before .before .before .before .pre in omega (arith, c .before .before .before .before .before .before .before .before .before .before .before .before .before .before .loop-test .taken, P .0 .priced .count, c .before .before .before .before .before .before .before .before .before .before .before .before .before .before .before .loop .inv .1 .1 .1 .1 .0)
+add-requires c κs =
+    let c14 = c .before .before .before .before .before .before .before .before .before .before .before .before .before .before in
+    let c15 = c14 .before in
+    let c29 = c15 .before .before .before .before .before .before .before .before .before .before .before .before .before .before in
+    let P = c29 .pre in omega (arith, c14 .loop-test .taken, P .0 .priced .count, c15 .loop .inv .1 .1 .1 .1 .0)
 
 mul-next-2 : tie.Need-mul-next-2 Inv-loop μ-loop
-mul-next-2 c = let P = c .before .before .before .before .before .before .before .before .before .before .before .before .before .before .before .before .before .before .before .before .before .before .before .before .before .before .before .before .before .before .before .before .pre in omega (arith, P .1 .1 .1 .1 .1 .0, P .0 .words)
+mul-next-2 c =
+    let c32 = c .before .before .before .before .before .before .before .before .before .before .before .before .before .before .before .before .before .before .before .before .before .before .before .before .before .before .before .before .before .before .before .before in
+    let P = c32 .pre in omega (arith, P .1 .1 .1 .1 .1 .0, P .0 .words)
 
 sub-next-2 : tie.Need-sub-next-2 Inv-loop μ-loop
 sub-next-2 c = omega arith
@@ -84,22 +121,44 @@ part-next-start-2 : tie.Need-part-next-start-2 Inv-loop μ-loop
 part-next-start-2 c = omega arith
 
 part-next-end-2 : tie.Need-part-next-end-2 Inv-loop μ-loop
-part-next-end-2 c = let P = c .before .before .before .before .before .before .before .before .before .before .before .before .before .before .before .before .before .before .before .before .before .before .before .before .before .before .before .before .before .before .before .before .pre in set-in (P .1 .1 .0) (P .1 .1 .1 .1 .1 .0)
+part-next-end-2 c =
+    let c32 = c .before .before .before .before .before .before .before .before .before .before .before .before .before .before .before .before .before .before .before .before .before .before .before .before .before .before .before .before .before .before .before .before in
+    let P = c32 .pre in set-in (P .1 .1 .0) (P .1 .1 .1 .1 .1 .0)
 
 add-next : tie.Need-add-next Inv-loop μ-loop
-add-next c = let P = c .before .before .before .before .before .before .before .before .before .before .before .before .before .before .before .before .before .before .before .before .before .before .before .before .before .before .before .before .before .before .before .before .before .before .pre in omega (arith, c .before .before .before .before .before .before .before .before .before .before .before .before .before .before .before .before .before .before .before .loop-test .taken, P .0 .priced .count)
+add-next c =
+    let c19 = c .before .before .before .before .before .before .before .before .before .before .before .before .before .before .before .before .before .before .before in
+    let c34 = c19 .before .before .before .before .before .before .before .before .before .before .before .before .before .before .before in
+    let P = c34 .pre in omega (arith, c19 .loop-test .taken, P .0 .priced .count)
 
 next-requires-2 : tie.Need-next-requires-2 Inv-loop μ-loop
-next-requires-2 c κs = let P = c .before .before .before .before .before .before .before .before .before .before .before .before .before .before .before .before .before .before .before .before .before .before .before .before .before .before .before .before .before .before .before .before .before .before .pre in let A = c .before .before .before .before .before .before .before .before .before .before .before .before .before .before .before .before .before .before .before .before .before .before .before .before .before .before .before .before .before .before .before .before .before .before .args in rw (part-row (A .index .now) 16 (A .q)) (let e = set-length (P .1 .1 .0) (P .1 .1 .1 .1 .1 .0) in (e ∙ sym (c .before .before .before .before .add .kept .0 ∙ c .before .before .before .before .before .before .before .before .before .before .before .before .before .before .before .before .before .before .before .before .loop .inv .1 .1 .1 .1 .0), (omega arith, omega (arith, c .before .before .before .before .before .before .before .before .before .before .before .before .before .before .before .before .before .before .before .loop-test .taken, P .0 .priced .count))))
+next-requires-2 c κs =
+    let c4 = c .before .before .before .before in
+    let c19 = c4 .before .before .before .before .before .before .before .before .before .before .before .before .before .before .before in
+    let c20 = c19 .before in
+    let c34 = c20 .before .before .before .before .before .before .before .before .before .before .before .before .before .before in
+    let P = c34 .pre in let A = c34 .args in rw (part-row (A .index .now) 16 (A .q)) (let e = set-length (P .1 .1 .0) (P .1 .1 .1 .1 .1 .0) in (e ∙ sym (c4 .add .kept .0 ∙ c20 .loop .inv .1 .1 .1 .1 .0), (omega arith, omega (arith, c19 .loop-test .taken, P .0 .priced .count))))
 
 loop-less : tie.Need-loop-less Inv-loop μ-loop
-loop-less c = let A = c .before .before .before .before .before .before .before .before .before .before .before .before .before .before .before .before .before .before .before .before .before .before .before .before .before .before .before .before .before .before .before .before .before .before .before .args in let P = c .before .before .before .before .before .before .before .before .before .before .before .before .before .before .before .before .before .before .before .before .before .before .before .before .before .before .before .before .before .before .before .before .before .before .before .pre in let n = rw (part-row (A .index .now) 16 (A .q)) at (c .next2 .ensures) in omega (arith, n .on, c .before .before .before .before .before .before .before .before .before .before .before .before .before .before .before .before .before .before .before .before .loop-test .taken, P .0 .priced .count)
+loop-less c =
+    let c20 = c .before .before .before .before .before .before .before .before .before .before .before .before .before .before .before .before .before .before .before .before in
+    let c35 = c20 .before .before .before .before .before .before .before .before .before .before .before .before .before .before .before in
+    let A = c35 .args in let P = c35 .pre in let n = rw (part-row (A .index .now) 16 (A .q)) at (c .next2 .ensures) in omega (arith, n .on, c20 .loop-test .taken, P .0 .priced .count)
 
 loop-again : tie.Need-loop-again Inv-loop μ-loop
-loop-again c = let P = c .before .before .before .before .before .before .before .before .before .before .before .before .before .before .before .before .before .before .before .before .before .before .before .before .before .before .before .before .before .before .before .before .before .before .before .pre in let A = c .before .before .before .before .before .before .before .before .before .before .before .before .before .before .before .before .before .before .before .before .before .before .before .before .before .before .before .before .before .before .before .before .before .before .before .args in let x = P .1 .1 .0 in let l = P .1 .1 .1 .1 .1 .0 in let n = rw (part-row (A .index .now) 16 (A .q)) at (c .next2 .ensures) in let s = c .before .before .before .before .before .before .before .before .before .before .before .before .before .before .before .before .before .before .before .before .before .loop .inv in let t = s .1 .1 .1 .0 in (passes (adds (s .0) (c .before .before .before .before .before .before .before .before .before .before .before .before .before .before .before .before .before .before .before .before .loop-test .taken) (omega (arith, length-known (c .before .before .before .before .before .before .before .before .before .before .before .before .before .before .before .before .before .before .before .before .before .loop .num) (t .seats .numbers), c .before .before .before .before .before .before .before .before .before .before .before .before .before .before .before .before .before .before .before .before .loop-test .taken, P .0 .priced .count)) (s .1 .1 .0 (omega (arith, c .before .before .before .before .before .before .before .before .before .before .before .before .before .before .before .before .before .before .before .before .loop-test .taken, P .0 .priced .count))) (c .before .before .before .before .before .before .before .before .before .before .before .before .before .before .before .before .overlap .ensures .0) (c .before .before .before .before .before .before .before .before .before .before .before .update .ensures .1) (c .before .before .before .before .before .add .ensures)) x l n, (next-within x l n, (next-free x l n, (c .before .before .before .before .before .before .before .before .before .before .before .update .ensures .0, (c .before .before .before .before .before .add .kept .0 ∙ s .1 .1 .1 .1 .0, c .before .before .before .before .before .before .before .before .before .before .before .before .before .before .before .before .overlap .ensures .1)))))
+loop-again c =
+    let c5 = c .before .before .before .before .before in
+    let c11 = c5 .before .before .before .before .before .before in
+    let c16 = c11 .before .before .before .before .before in
+    let c20 = c16 .before .before .before .before in
+    let c21 = c20 .before in
+    let c35 = c21 .before .before .before .before .before .before .before .before .before .before .before .before .before .before in
+    let P = c35 .pre in let A = c35 .args in let x = P .1 .1 .0 in let l = P .1 .1 .1 .1 .1 .0 in let n = rw (part-row (A .index .now) 16 (A .q)) at (c .next2 .ensures) in let s = c21 .loop .inv in let t = s .1 .1 .1 .0 in (passes (adds (s .0) (c20 .loop-test .taken) (omega (arith, length-known (c21 .loop .num) (t .seats .numbers), c20 .loop-test .taken, P .0 .priced .count)) (s .1 .1 .0 (omega (arith, c20 .loop-test .taken, P .0 .priced .count))) (c16 .overlap .ensures .0) (c11 .update .ensures .1) (c5 .add .ensures)) x l n, (next-within x l n, (next-free x l n, (c11 .update .ensures .0, (c5 .add .kept .0 ∙ s .1 .1 .1 .1 .0, c16 .overlap .ensures .1)))))
 
 mul-next-3 : tie.Need-mul-next-3 Inv-loop μ-loop
-mul-next-3 c = let P = c .before .before .before .before .before .before .before .before .before .before .before .before .before .before .before .before .before .pre in omega (arith, P .1 .1 .1 .1 .1 .0, P .0 .words)
+mul-next-3 c =
+    let c17 = c .before .before .before .before .before .before .before .before .before .before .before .before .before .before .before .before .before in
+    let P = c17 .pre in omega (arith, P .1 .1 .1 .1 .1 .0, P .0 .words)
 
 sub-next-3 : tie.Need-sub-next-3 Inv-loop μ-loop
 sub-next-3 c = omega arith
@@ -108,31 +167,54 @@ part-next-start-3 : tie.Need-part-next-start-3 Inv-loop μ-loop
 part-next-start-3 c = omega arith
 
 part-next-end-3 : tie.Need-part-next-end-3 Inv-loop μ-loop
-part-next-end-3 c = let P = c .before .before .before .before .before .before .before .before .before .before .before .before .before .before .before .before .before .pre in set-in (P .1 .1 .0) (P .1 .1 .1 .1 .1 .0)
+part-next-end-3 c =
+    let c17 = c .before .before .before .before .before .before .before .before .before .before .before .before .before .before .before .before .before in
+    let P = c17 .pre in set-in (P .1 .1 .0) (P .1 .1 .1 .1 .1 .0)
 
 add-next-2 : tie.Need-add-next-2 Inv-loop μ-loop
-add-next-2 c = let P = c .before .before .before .before .before .before .before .before .before .before .before .before .before .before .before .before .before .before .before .pre in omega (arith, c .before .before .before .before .loop-test .taken, P .0 .priced .count)
+add-next-2 c =
+    let c4 = c .before .before .before .before in
+    let c19 = c4 .before .before .before .before .before .before .before .before .before .before .before .before .before .before .before in
+    let P = c19 .pre in omega (arith, c4 .loop-test .taken, P .0 .priced .count)
 
 next-requires-3 : tie.Need-next-requires-3 Inv-loop μ-loop
-next-requires-3 c κs = let P = c .before .before .before .before .before .before .before .before .before .before .before .before .before .before .before .before .before .before .before .pre in let A = c .before .before .before .before .before .before .before .before .before .before .before .before .before .before .before .before .before .before .before .args in rw (part-row (A .index .now) 16 (A .q)) (let e = set-length (P .1 .1 .0) (P .1 .1 .1 .1 .1 .0) in (e ∙ sym (c .before .before .before .before .before .loop .inv .1 .1 .1 .1 .0), (omega arith, omega (arith, c .before .before .before .before .loop-test .taken, P .0 .priced .count))))
+next-requires-3 c κs =
+    let c4 = c .before .before .before .before in
+    let c5 = c4 .before in
+    let c19 = c5 .before .before .before .before .before .before .before .before .before .before .before .before .before .before in
+    let P = c19 .pre in let A = c19 .args in rw (part-row (A .index .now) 16 (A .q)) (let e = set-length (P .1 .1 .0) (P .1 .1 .1 .1 .1 .0) in (e ∙ sym (c5 .loop .inv .1 .1 .1 .1 .0), (omega arith, omega (arith, c4 .loop-test .taken, P .0 .priced .count))))
 
 loop-less-2 : tie.Need-loop-less-2 Inv-loop μ-loop
-loop-less-2 c = let A = c .before .before .before .before .before .before .before .before .before .before .before .before .before .before .before .before .before .before .before .before .args in let P = c .before .before .before .before .before .before .before .before .before .before .before .before .before .before .before .before .before .before .before .before .pre in let n = rw (part-row (A .index .now) 16 (A .q)) at (c .next3 .ensures) in omega (arith, n .on, c .before .before .before .before .before .loop-test .taken, P .0 .priced .count)
+loop-less-2 c =
+    let c5 = c .before .before .before .before .before in
+    let c20 = c5 .before .before .before .before .before .before .before .before .before .before .before .before .before .before .before in
+    let A = c20 .args in let P = c20 .pre in let n = rw (part-row (A .index .now) 16 (A .q)) at (c .next3 .ensures) in omega (arith, n .on, c5 .loop-test .taken, P .0 .priced .count)
 
 loop-again-2 : tie.Need-loop-again-2 Inv-loop μ-loop
-loop-again-2 c = let P = c .before .before .before .before .before .before .before .before .before .before .before .before .before .before .before .before .before .before .before .before .pre in let A = c .before .before .before .before .before .before .before .before .before .before .before .before .before .before .before .before .before .before .before .before .args in let x = P .1 .1 .0 in let l = P .1 .1 .1 .1 .1 .0 in let n = rw (part-row (A .index .now) 16 (A .q)) at (c .next3 .ensures) in let s = c .before .before .before .before .before .before .loop .inv in (passes (leaves (s .0) (ap (λ (y : ℕ). bitAnd y (A .m)) (row-at (A .masks .now) (A .w) (c .before .before .before .before .before .before .loop .i) (A .q) l) ∙ c .before .before .before .if2 .left)) x l n, (next-within x l n, (next-free x l n, s .1 .1 .1)))
+loop-again-2 c =
+    let c6 = c .before .before .before .before .before .before in
+    let c20 = c6 .before .before .before .before .before .before .before .before .before .before .before .before .before .before in
+    let P = c20 .pre in let A = c20 .args in let x = P .1 .1 .0 in let l = P .1 .1 .1 .1 .1 .0 in let n = rw (part-row (A .index .now) 16 (A .q)) at (c .next3 .ensures) in let s = c6 .loop .inv in (passes (leaves (s .0) (ap (λ (y : ℕ). bitAnd y (A .m)) (row-at (A .masks .now) (A .w) (c6 .loop .i) (A .q) l) ∙ c .before .before .before .if2 .left)) x l n, (next-within x l n, (next-free x l n, s .1 .1 .1)))
 
 same-length : tie.Need-same-length Inv-loop μ-loop
-same-length c = c .before .loop .inv .1 .1 .1 .1 .1 .size ∙ sym (c .before .before .before .before .before .before .before .before .before .before .before .before .before .before .before .pre .1 .1 .1 .1 .0 .size)
+same-length c =
+    let c15 = c .before .before .before .before .before .before .before .before .before .before .before .before .before .before .before in
+    c .before .loop .inv .1 .1 .1 .1 .1 .size ∙ sym (c15 .pre .1 .1 .1 .1 .0 .size)
 
 same-length-2 : tie.Need-same-length-2 Inv-loop μ-loop
-same-length-2 c = c .before .loop .inv .1 .1 .1 .0 .seats .players ∙ sym (c .before .before .before .before .before .before .before .before .before .before .before .before .before .before .before .pre .1 .1 .1 .1 .1 .1 .0 .seats .players)
+same-length-2 c =
+    let c15 = c .before .before .before .before .before .before .before .before .before .before .before .before .before .before .before in
+    c .before .loop .inv .1 .1 .1 .0 .seats .players ∙ sym (c15 .pre .1 .1 .1 .1 .1 .1 .0 .seats .players)
 
 same-length-3 : tie.Need-same-length-3 Inv-loop μ-loop
-same-length-3 c = c .before .loop .inv .1 .1 .1 .0 .seats .numbers ∙ sym (c .before .before .before .before .before .before .before .before .before .before .before .before .before .before .before .pre .1 .1 .1 .1 .1 .1 .0 .seats .numbers)
+same-length-3 c =
+    let c15 = c .before .before .before .before .before .before .before .before .before .before .before .before .before .before .before in
+    c .before .loop .inv .1 .1 .1 .0 .seats .numbers ∙ sym (c15 .pre .1 .1 .1 .1 .1 .1 .0 .seats .numbers)
 
 same-length-4 : tie.Need-same-length-4 Inv-loop μ-loop
-same-length-4 c = c .before .loop .inv .1 .1 .1 .1 .0 ∙ sym (c .before .before .before .before .before .before .before .before .before .before .before .before .before .before .before .pre .1 .1 .1 .1 .1 .1 .1)
+same-length-4 c =
+    let c15 = c .before .before .before .before .before .before .before .before .before .before .before .before .before .before .before in
+    c .before .loop .inv .1 .1 .1 .1 .0 ∙ sym (c15 .pre .1 .1 .1 .1 .1 .1 .1)
 
 returns-2 : tie.Need-returns-2 Inv-loop μ-loop
 returns-2 c = (c .before .loop .inv .1 .1 .1 .0, (ends (c .before .loop .inv .0) (omega arith), c .before .loop .inv .1 .1 .1 .1 .1))

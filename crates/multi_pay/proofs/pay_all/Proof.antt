@@ -19,46 +19,75 @@ abbrev μ-loop : tie.MeasureT-loop
 μ-loop prices masks hop index w count order gains rounds held₀ alt₀ counts₀ who₀ num₀ mark₀ won₀ cents₀ h₀ held alt counts who num mark won cents h = rounds - h
 
 loop-holds : tie.Need-loop-holds Inv-loop μ-loop
-loop-holds c = let P = c .before .before .before .before .before .before .before .before .before .before .before .before .before .before .pre in (omega arith, P .1)
+loop-holds c =
+    let c14 = c .before .before .before .before .before .before .before .before .before .before .before .before .before .before in
+    let P = c14 .pre in (omega arith, P .1)
 
 pay-requires : tie.Need-pay-requires Inv-loop μ-loop
-pay-requires c κs = (c .before .before .before .before .before .before .before .before .before .before .before .before .before .before .before .before .before .before .before .before .before .before .before .before .pre .0, (c .before .before .before .before .before .before .before .before .loop-test .taken, c .before .before .before .before .before .before .before .before .before .loop .inv .1))
+pay-requires c κs =
+    let c8 = c .before .before .before .before .before .before .before .before in
+    let c9 = c8 .before in
+    let c24 = c9 .before .before .before .before .before .before .before .before .before .before .before .before .before .before .before in
+    (c24 .pre .0, (c8 .loop-test .taken, c9 .loop .inv .1))
 
 add-h : tie.Need-add-h Inv-loop μ-loop
-add-h c = omega (arith, c .before .before .before .before .before .before .before .before .before .before .before .before .before .before .before .before .before .before .before .before .before .before .before .before .before .before .before .before .before .before .before .before .before .before .before .before .before .before .before .before .before .pre .0 .main .route .most)
+add-h c =
+    let c41 = c .before .before .before .before .before .before .before .before .before .before .before .before .before .before .before .before .before .before .before .before .before .before .before .before .before .before .before .before .before .before .before .before .before .before .before .before .before .before .before .before .before in
+    omega (arith, c41 .pre .0 .main .route .most)
 
 loop-less : tie.Need-loop-less Inv-loop μ-loop
 loop-less c = omega arith
 
 loop-again : tie.Need-loop-again Inv-loop μ-loop
-loop-again c = let s = c .before .before .before .before .before .before .before .before .before .before .before .before .before .before .before .before .before .before .before .before .before .before .before .before .before .before .loop .inv .1 .1 in let K = c .before .before .before .before .before .before .before .before .before .before .before .before .before .before .before .before .pay .kept .1 .1 .1 .1 .1 .1 .1 .1 .1 .1 .1 in (omega arith, (c .before .before .before .before .before .before .before .before .before .before .before .before .before .before .before .before .pay .ensures .0, (K .0 ∙ s .0, (K .1 .0 ∙ s .1 .0, (c .before .before .before .before .before .before .before .before .before .before .before .before .before .before .before .before .pay .ensures .1, K .1 .1 .1 .1 .0 ∙ s .1 .1 .1)))))
+loop-again c =
+    let c16 = c .before .before .before .before .before .before .before .before .before .before .before .before .before .before .before .before in
+    let c26 = c16 .before .before .before .before .before .before .before .before .before .before in
+    let s = c26 .loop .inv .1 .1 in let K = c16 .pay .kept .1 .1 .1 .1 .1 .1 .1 .1 .1 .1 .1 in (omega arith, (c16 .pay .ensures .0, (K .0 ∙ s .0, (K .1 .0 ∙ s .1 .0, (c16 .pay .ensures .1, K .1 .1 .1 .1 .0 ∙ s .1 .1 .1)))))
 
 same-length : tie.Need-same-length Inv-loop μ-loop
-same-length c = c .before .loop .inv .1 .0 .standing .words ∙ sym (c .before .before .before .before .before .before .before .before .before .before .before .before .before .before .before .before .pre .1 .0 .standing .words)
+same-length c =
+    let c16 = c .before .before .before .before .before .before .before .before .before .before .before .before .before .before .before .before in
+    c .before .loop .inv .1 .0 .standing .words ∙ sym (c16 .pre .1 .0 .standing .words)
 
 same-length-2 : tie.Need-same-length-2 Inv-loop μ-loop
-same-length-2 c = c .before .loop .inv .1 .1 .0 ∙ sym (c .before .before .before .before .before .before .before .before .before .before .before .before .before .before .before .before .pre .1 .1 .0)
+same-length-2 c =
+    let c16 = c .before .before .before .before .before .before .before .before .before .before .before .before .before .before .before .before in
+    c .before .loop .inv .1 .1 .0 ∙ sym (c16 .pre .1 .1 .0)
 
 same-length-3 : tie.Need-same-length-3 Inv-loop μ-loop
-same-length-3 c = c .before .loop .inv .1 .1 .1 .0 ∙ sym (c .before .before .before .before .before .before .before .before .before .before .before .before .before .before .before .before .pre .1 .1 .1 .0)
+same-length-3 c =
+    let c16 = c .before .before .before .before .before .before .before .before .before .before .before .before .before .before .before .before in
+    c .before .loop .inv .1 .1 .1 .0 ∙ sym (c16 .pre .1 .1 .1 .0)
 
 same-length-4 : tie.Need-same-length-4 Inv-loop μ-loop
-same-length-4 c = c .before .loop .inv .1 .1 .1 .1 .0 .seats .players ∙ sym (c .before .before .before .before .before .before .before .before .before .before .before .before .before .before .before .before .pre .1 .1 .1 .1 .0 .seats .players)
+same-length-4 c =
+    let c16 = c .before .before .before .before .before .before .before .before .before .before .before .before .before .before .before .before in
+    c .before .loop .inv .1 .1 .1 .1 .0 .seats .players ∙ sym (c16 .pre .1 .1 .1 .1 .0 .seats .players)
 
 same-length-5 : tie.Need-same-length-5 Inv-loop μ-loop
-same-length-5 c = c .before .loop .inv .1 .1 .1 .1 .0 .seats .numbers ∙ sym (c .before .before .before .before .before .before .before .before .before .before .before .before .before .before .before .before .pre .1 .1 .1 .1 .0 .seats .numbers)
+same-length-5 c =
+    let c16 = c .before .before .before .before .before .before .before .before .before .before .before .before .before .before .before .before in
+    c .before .loop .inv .1 .1 .1 .1 .0 .seats .numbers ∙ sym (c16 .pre .1 .1 .1 .1 .0 .seats .numbers)
 
 same-length-6 : tie.Need-same-length-6 Inv-loop μ-loop
-same-length-6 c = c .before .loop .inv .1 .1 .1 .1 .1 ∙ sym (c .before .before .before .before .before .before .before .before .before .before .before .before .before .before .before .before .pre .1 .1 .1 .1 .1)
+same-length-6 c =
+    let c16 = c .before .before .before .before .before .before .before .before .before .before .before .before .before .before .before .before in
+    c .before .loop .inv .1 .1 .1 .1 .1 ∙ sym (c16 .pre .1 .1 .1 .1 .1)
 
 same-length-7 : tie.Need-same-length-7 Inv-loop μ-loop
-same-length-7 c = c .before .loop .inv .1 .0 .as-won ∙ sym (c .before .before .before .before .before .before .before .before .before .before .before .before .before .before .before .before .pre .1 .0 .as-won)
+same-length-7 c =
+    let c16 = c .before .before .before .before .before .before .before .before .before .before .before .before .before .before .before .before in
+    c .before .loop .inv .1 .0 .as-won ∙ sym (c16 .pre .1 .0 .as-won)
 
 same-length-8 : tie.Need-same-length-8 Inv-loop μ-loop
-same-length-8 c = c .before .loop .inv .1 .0 .as-cents ∙ sym (c .before .before .before .before .before .before .before .before .before .before .before .before .before .before .before .before .pre .1 .0 .as-cents)
+same-length-8 c =
+    let c16 = c .before .before .before .before .before .before .before .before .before .before .before .before .before .before .before .before in
+    c .before .loop .inv .1 .0 .as-cents ∙ sym (c16 .pre .1 .0 .as-cents)
 
 returns : tie.Need-returns Inv-loop μ-loop
-returns c = let P = c .before .before .before .before .before .before .before .before .before .before .before .before .before .before .before .before .pre in ends (P .0 .main) (P .0 .cells-in) (omega arith) (c .before .loop .inv .1 .0)
+returns c =
+    let c16 = c .before .before .before .before .before .before .before .before .before .before .before .before .before .before .before .before in
+    let P = c16 .pre in ends (P .0 .main) (P .0 .cells-in) (omega arith) (c .before .loop .inv .1 .0)
 
 pub pay-all-spec : {M : Type 1} → statement M
 pay-all-spec =

@@ -22,70 +22,132 @@ abbrev μ-loop : tie.MeasureT-loop
 μ-loop prices masks hop w held counts₀ who₀ num₀ rival ask gain free counts who num = sum (known num)
 
 loop-holds : tie.Need-loop-holds Inv-loop μ-loop
-loop-holds c = let P = c .before .before .before .before .before .before .before .pre in (begins (P .1 .1 .1 .1 .0) (P .1 .1 .1 .1 .1 .0), P .1 .1 .1 .0)
+loop-holds c =
+    let c7 = c .before .before .before .before .before .before .before in
+    let P = c7 .pre in (begins (P .1 .1 .1 .1 .0) (P .1 .1 .1 .1 .1 .0), P .1 .1 .1 .0)
 
 slice-read-s : tie.Need-slice-read-s Inv-loop μ-loop
 slice-read-s c = omega (arith, c .before .loop .inv .0 .tree .seats .numbers)
 
 same-length : tie.Need-same-length Inv-loop μ-loop
-same-length c = c .before .before .loop .inv .1 .size ∙ sym (c .before .before .before .before .before .before .before .before .before .before .pre .1 .1 .1 .0 .size)
+same-length c =
+    let c10 = c .before .before .before .before .before .before .before .before .before .before in
+    c .before .before .loop .inv .1 .size ∙ sym (c10 .pre .1 .1 .1 .0 .size)
 
 same-length-2 : tie.Need-same-length-2 Inv-loop μ-loop
-same-length-2 c = c .before .before .loop .inv .0 .tree .seats .players ∙ sym (c .before .before .before .before .before .before .before .before .before .before .pre .1 .1 .1 .1 .0 .seats .players)
+same-length-2 c =
+    let c10 = c .before .before .before .before .before .before .before .before .before .before in
+    c .before .before .loop .inv .0 .tree .seats .players ∙ sym (c10 .pre .1 .1 .1 .1 .0 .seats .players)
 
 same-length-3 : tie.Need-same-length-3 Inv-loop μ-loop
-same-length-3 c = c .before .before .loop .inv .0 .tree .seats .numbers ∙ sym (c .before .before .before .before .before .before .before .before .before .before .pre .1 .1 .1 .1 .0 .seats .numbers)
+same-length-3 c =
+    let c10 = c .before .before .before .before .before .before .before .before .before .before in
+    c .before .before .loop .inv .0 .tree .seats .numbers ∙ sym (c10 .pre .1 .1 .1 .1 .0 .seats .numbers)
 
 returns : tie.Need-returns Inv-loop μ-loop
-returns c = (c .before .before .loop .inv .0 .tree, (is-none (c .before .before .before .before .before .before .before .before .before .before .pre .0) (c .before .before .loop .inv .0) (c .if1 .taken) (c .before .before .before .before .before .before .before .before .before .before .pre .1 .1 .1 .1 .1 .1 .0), c .before .before .loop .inv .1))
+returns c =
+    let c10 = c .before .before .before .before .before .before .before .before .before .before in
+    let pre = c10 .pre in
+    (c .before .before .loop .inv .0 .tree, (is-none (pre .0) (c .before .before .loop .inv .0) (c .if1 .taken) (pre .1 .1 .1 .1 .1 .1 .0), c .before .before .loop .inv .1))
 
 slice-read-b : tie.Need-slice-read-b Inv-loop μ-loop
 slice-read-b c = omega (arith, c .before .before .before .loop .inv .0 .tree .seats .players)
 
 mul-p : tie.Need-mul-p Inv-loop μ-loop
-mul-p c = let z : 0 < at (c .before .before .before .loop .num) 1 = omega arith in omega (arith, first-in (c .before .before .before .before .before .before .before .before .before .before .before .pre .0) (c .before .before .before .loop .inv .0) z, c .before .before .before .before .before .before .before .before .before .before .before .pre .0 .priced .count)
+mul-p c =
+    let c11 = c .before .before .before .before .before .before .before .before .before .before .before in
+    let pre = c11 .pre in
+    let z : 0 < at (c .before .before .before .loop .num) 1 = omega arith in omega (arith, first-in (pre .0) (c .before .before .before .loop .inv .0) z, pre .0 .priced .count)
 
 shared-slice-read-p : tie.Need-shared-slice-read-p Inv-loop μ-loop
-shared-slice-read-p c = let z : 0 < at (c .before .before .before .before .loop .num) 1 = omega arith in first-in (c .before .before .before .before .before .before .before .before .before .before .before .before .pre .0) (c .before .before .before .before .loop .inv .0) z
+shared-slice-read-p c =
+    let c4 = c .before .before .before .before in
+    let c12 = c4 .before .before .before .before .before .before .before .before in
+    let z : 0 < at (c4 .loop .num) 1 = omega arith in first-in (c12 .pre .0) (c4 .loop .inv .0) z
 
 clear-of-requires : tie.Need-clear-of-requires Inv-loop μ-loop
-clear-of-requires c κs = let P = c .before .before .before .before .before .before .before .before .before .before .before .before .pre in ((P .1 .1 .1 .1 .1 .1 .1 .0, P .1 .1 .1 .1 .1 .1 .1 .1), (P .0 .priced .most (at (c .before .before .before .before .loop .who) 1), first-small (P .0) (c .before .before .before .before .loop .inv .0)))
+clear-of-requires c κs =
+    let c4 = c .before .before .before .before in
+    let c12 = c4 .before .before .before .before .before .before .before .before in
+    let P = c12 .pre in ((P .1 .1 .1 .1 .1 .1 .1 .0, P .1 .1 .1 .1 .1 .1 .1 .1), (P .0 .priced .most (at (c4 .loop .who) 1), first-small (P .0) (c4 .loop .inv .0)))
 
 same-length-4 : tie.Need-same-length-4 Inv-loop μ-loop
-same-length-4 c = c .before .before .before .before .before .before .loop .inv .1 .size ∙ sym (c .before .before .before .before .before .before .before .before .before .before .before .before .before .before .pre .1 .1 .1 .0 .size)
+same-length-4 c =
+    let c6 = c .before .before .before .before .before .before in
+    let c14 = c6 .before .before .before .before .before .before .before .before in
+    c6 .loop .inv .1 .size ∙ sym (c14 .pre .1 .1 .1 .0 .size)
 
 same-length-5 : tie.Need-same-length-5 Inv-loop μ-loop
-same-length-5 c = c .before .before .before .before .before .before .loop .inv .0 .tree .seats .players ∙ sym (c .before .before .before .before .before .before .before .before .before .before .before .before .before .before .pre .1 .1 .1 .1 .0 .seats .players)
+same-length-5 c =
+    let c6 = c .before .before .before .before .before .before in
+    let c14 = c6 .before .before .before .before .before .before .before .before in
+    c6 .loop .inv .0 .tree .seats .players ∙ sym (c14 .pre .1 .1 .1 .1 .0 .seats .players)
 
 same-length-6 : tie.Need-same-length-6 Inv-loop μ-loop
-same-length-6 c = c .before .before .before .before .before .before .loop .inv .0 .tree .seats .numbers ∙ sym (c .before .before .before .before .before .before .before .before .before .before .before .before .before .before .pre .1 .1 .1 .1 .0 .seats .numbers)
+same-length-6 c =
+    let c6 = c .before .before .before .before .before .before in
+    let c14 = c6 .before .before .before .before .before .before .before .before in
+    c6 .loop .inv .0 .tree .seats .numbers ∙ sym (c14 .pre .1 .1 .1 .1 .0 .seats .numbers)
 
 returns-2 : tie.Need-returns-2 Inv-loop μ-loop
-returns-2 c = let z : 0 < at (c .before .before .before .before .before .before .loop .num) 1 = omega arith in (c .before .before .before .before .before .before .loop .inv .0 .tree, (is-clear (c .before .before .before .before .before .before .before .before .before .before .before .before .before .before .pre .0) (c .before .before .before .before .before .before .loop .inv .0) z (c .before .clear-of .ensures (c .if2 .taken)), c .before .before .before .before .before .before .loop .inv .1))
+returns-2 c =
+    let c6 = c .before .before .before .before .before .before in
+    let c14 = c6 .before .before .before .before .before .before .before .before in
+    let z : 0 < at (c6 .loop .num) 1 = omega arith in (c6 .loop .inv .0 .tree, (is-clear (c14 .pre .0) (c6 .loop .inv .0) z (c .before .clear-of .ensures (c .if2 .taken)), c6 .loop .inv .1))
 
 overlap-requires : tie.Need-overlap-requires Inv-loop μ-loop
-overlap-requires c κs = let P = c .before .before .before .before .before .before .before .before .before .before .before .before .before .before .before .pre in let A = c .before .before .before .before .before .before .before .before .before .before .before .before .before .before .before .args in let z : 0 < at (c .before .before .before .before .before .before .before .loop .num) 1 = omega arith in let l = first-in (P .0) (c .before .before .before .before .before .before .before .loop .inv .0) z in (P .1 .1 .0, (P .0 .words, (row-in (A .prices .now) (A .masks .now) (A .w) (at (c .before .before .before .before .before .before .before .loop .who) 1) (P .0) l, (P .1 .0 .size, (c .before .before .before .before .before .before .before .loop .inv .1, P .1 .0 .each (at (c .before .before .before .before .before .before .before .loop .who) 1) l)))))
+overlap-requires c κs =
+    let c7 = c .before .before .before .before .before .before .before in
+    let c15 = c7 .before .before .before .before .before .before .before .before in
+    let P = c15 .pre in let A = c15 .args in let z : 0 < at (c7 .loop .num) 1 = omega arith in let l = first-in (P .0) (c7 .loop .inv .0) z in (P .1 .1 .0, (P .0 .words, (row-in (A .prices .now) (A .masks .now) (A .w) (at (c7 .loop .who) 1) (P .0) l, (P .1 .0 .size, (c7 .loop .inv .1, P .1 .0 .each (at (c7 .loop .who) 1) l)))))
 
 same-length-7 : tie.Need-same-length-7 Inv-loop μ-loop
-same-length-7 c = c .before .before .before .overlap .ensures .1 .size ∙ sym (c .before .before .before .before .before .before .before .before .before .before .before .before .before .before .before .before .before .before .before .pre .1 .1 .1 .0 .size)
+same-length-7 c =
+    let c19 = c .before .before .before .before .before .before .before .before .before .before .before .before .before .before .before .before .before .before .before in
+    c .before .before .before .overlap .ensures .1 .size ∙ sym (c19 .pre .1 .1 .1 .0 .size)
 
 same-length-8 : tie.Need-same-length-8 Inv-loop μ-loop
-same-length-8 c = c .before .before .before .before .before .before .before .before .before .before .before .loop .inv .0 .tree .seats .players ∙ sym (c .before .before .before .before .before .before .before .before .before .before .before .before .before .before .before .before .before .before .before .pre .1 .1 .1 .1 .0 .seats .players)
+same-length-8 c =
+    let c11 = c .before .before .before .before .before .before .before .before .before .before .before in
+    let c19 = c11 .before .before .before .before .before .before .before .before in
+    c11 .loop .inv .0 .tree .seats .players ∙ sym (c19 .pre .1 .1 .1 .1 .0 .seats .players)
 
 same-length-9 : tie.Need-same-length-9 Inv-loop μ-loop
-same-length-9 c = c .before .before .before .before .before .before .before .before .before .before .before .loop .inv .0 .tree .seats .numbers ∙ sym (c .before .before .before .before .before .before .before .before .before .before .before .before .before .before .before .before .before .before .before .pre .1 .1 .1 .1 .0 .seats .numbers)
+same-length-9 c =
+    let c11 = c .before .before .before .before .before .before .before .before .before .before .before in
+    let c19 = c11 .before .before .before .before .before .before .before .before in
+    c11 .loop .inv .0 .tree .seats .numbers ∙ sym (c19 .pre .1 .1 .1 .1 .0 .seats .numbers)
 
 returns-3 : tie.Need-returns-3 Inv-loop μ-loop
-returns-3 c = let z : 0 < at (c .before .before .before .before .before .before .before .before .before .before .before .loop .num) 1 = omega arith in (c .before .before .before .before .before .before .before .before .before .before .before .loop .inv .0 .tree, (is-exact (c .before .before .before .before .before .before .before .before .before .before .before .before .before .before .before .before .before .before .before .pre .0) (c .before .before .before .before .before .before .before .before .before .before .before .loop .inv .0) z (sym (c .if3 .taken) ∙ c .before .before .before .overlap .ensures .0), c .before .before .before .overlap .ensures .1))
+returns-3 c =
+    let c11 = c .before .before .before .before .before .before .before .before .before .before .before in
+    let c19 = c11 .before .before .before .before .before .before .before .before in
+    let z : 0 < at (c11 .loop .num) 1 = omega arith in (c11 .loop .inv .0 .tree, (is-exact (c19 .pre .0) (c11 .loop .inv .0) z (sym (c .if3 .taken) ∙ c .before .before .before .overlap .ensures .0), c .before .before .before .overlap .ensures .1))
 
 update-requires : tie.Need-update-requires Inv-loop μ-loop
-update-requires c κs = let z : 0 < at (c .before .before .before .before .before .before .before .before .before .before .before .before .before .loop .num) 1 = omega arith in let s = c .before .before .before .before .before .before .before .before .before .before .before .before .before .loop .inv .0 in let m = c .before .before .before .before .before .before .before .before .before .before .before .before .before .before .before .before .before .before .before .before .before .pre .0 in (m .priced, (s .tree, (first-in m s z, omega (arith, no-more m s z (c .before .before .before .before .before .overlap .ensures .0), first-small m s))))
+update-requires c κs =
+    let c5 = c .before .before .before .before .before in
+    let c13 = c5 .before .before .before .before .before .before .before .before in
+    let c21 = c13 .before .before .before .before .before .before .before .before in
+    let z : 0 < at (c13 .loop .num) 1 = omega arith in let s = c13 .loop .inv .0 in let m = c21 .pre .0 in (m .priced, (s .tree, (first-in m s z, omega (arith, no-more m s z (c5 .overlap .ensures .0), first-small m s))))
 
 loop-less : tie.Need-loop-less Inv-loop μ-loop
-loop-less c = let z : 0 < at (c .before .before .before .before .before .before .before .before .before .before .before .before .before .before .before .before .before .before .loop .num) 1 = omega arith in fewer (c .before .before .before .before .before .before .before .before .before .before .before .before .before .before .before .before .before .before .before .before .before .before .before .before .before .before .pre .0) (c .before .before .before .before .before .before .before .before .before .before .before .before .before .before .before .before .before .before .loop .inv .0) z (c .before .before .before .before .before .before .before .before .before .before .overlap .ensures .0) (c .before .before .before .before .before .before .before .if3 .left) _ (c .before .before .before .before .update .ensures .1)
+loop-less c =
+    let c4 = c .before .before .before .before in
+    let c7 = c4 .before .before .before in
+    let c10 = c7 .before .before .before in
+    let c18 = c10 .before .before .before .before .before .before .before .before in
+    let c26 = c18 .before .before .before .before .before .before .before .before in
+    let z : 0 < at (c18 .loop .num) 1 = omega arith in fewer (c26 .pre .0) (c18 .loop .inv .0) z (c10 .overlap .ensures .0) (c7 .if3 .left) _ (c4 .update .ensures .1)
 
 loop-again : tie.Need-loop-again Inv-loop μ-loop
-loop-again c = let z : 0 < at (c .before .before .before .before .before .before .before .before .before .before .before .before .before .before .before .before .before .before .loop .num) 1 = omega arith in (counted (c .before .before .before .before .before .before .before .before .before .before .before .before .before .before .before .before .before .before .before .before .before .before .before .before .before .before .pre .0) (c .before .before .before .before .before .before .before .before .before .before .before .before .before .before .before .before .before .before .loop .inv .0) z (c .before .before .before .before .before .before .before .before .before .before .overlap .ensures .0) (c .before .before .before .before .before .before .before .if3 .left) (c .before .before .before .before .update .ensures .0) (c .before .before .before .before .update .ensures .1), c .before .before .before .before .before .before .before .before .before .before .overlap .ensures .1)
+loop-again c =
+    let c4 = c .before .before .before .before in
+    let c7 = c4 .before .before .before in
+    let c10 = c7 .before .before .before in
+    let c18 = c10 .before .before .before .before .before .before .before .before in
+    let c26 = c18 .before .before .before .before .before .before .before .before in
+    let z : 0 < at (c18 .loop .num) 1 = omega arith in (counted (c26 .pre .0) (c18 .loop .inv .0) z (c10 .overlap .ensures .0) (c7 .if3 .left) (c4 .update .ensures .0) (c4 .update .ensures .1), c10 .overlap .ensures .1)
 
 pub front-spec : {M : Type 1} → statement M
 front-spec =

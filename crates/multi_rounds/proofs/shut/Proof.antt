@@ -37,7 +37,9 @@ part-close-counted-end-2 : tie.Need-part-close-counted-end-2
 part-close-counted-end-2 c = search needs
 
 close-counted-requires : tie.Need-close-counted-requires
-close-counted-requires c κs = let P = c .before .before .before .before .before .before .before .before .pre in let A = c .before .before .before .before .before .before .before .before .args in rw (part-row (A .masks .now) (A .w) (A .i), part-row (A .hop .now) (A .w) (A .i)) ((P .0 ∙ sym (row-length (A .masks .now) (A .w) (A .i) (P .1 .1 .0)), (omega arith, (P .1 .1 .1 .1 .0, P .1 .1 .1 .1 .1))))
+close-counted-requires c κs =
+    let c8 = c .before .before .before .before .before .before .before .before in
+    let P = c8 .pre in let A = c8 .args in rw (part-row (A .masks .now) (A .w) (A .i), part-row (A .hop .now) (A .w) (A .i)) ((P .0 ∙ sym (row-length (A .masks .now) (A .w) (A .i) (P .1 .1 .0)), (omega arith, (P .1 .1 .1 .1 .0, P .1 .1 .1 .1 .1))))
 
 same-length : tie.Need-same-length
 same-length c = search needs
@@ -46,7 +48,10 @@ same-length-2 : tie.Need-same-length-2
 same-length-2 c = search needs
 
 returns : tie.Need-returns
-returns c = let A = c .before .before .before .before .before .before .before .before .before .before .before .before .before .args in rw (← part-row (A .masks .now) (A .w) (A .i)) (c .before .before .before .before .close-counted .ensures)
+returns c =
+    let c4 = c .before .before .before .before in
+    let c13 = c4 .before .before .before .before .before .before .before .before .before in
+    let A = c13 .args in rw (← part-row (A .masks .now) (A .w) (A .i)) (c4 .close-counted .ensures)
 
 pub shut-spec : {M : Type 1} → statement M
 shut-spec =

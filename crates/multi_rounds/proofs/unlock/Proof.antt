@@ -17,7 +17,9 @@ same-length : tie.Need-same-length
 same-length c = search needs
 
 returns : tie.Need-returns
-returns c = first-of _ _ _ (c .before .before .before .before .before .before .clear .ensures) (c .before .before .add-range .ensures)
+returns c =
+    let c6 = c .before .before .before .before .before .before in
+    first-of _ _ _ (c6 .clear .ensures) (c .before .before .add-range .ensures)
 
 pub unlock-spec : {M : Type 1} → statement M
 unlock-spec = tie.close (tie.spec clear-requires add-range-requires same-length returns)

@@ -13,85 +13,78 @@ use Rattle.multi_tournament.proofs.play.Lts as lts
 use Rattle.multi_tournament.proofs.leads.Reads as leads-reads
 use Rattle.multi_tournament.proofs.put.Reads as put-reads
 
--- src/lib.rt:49:13
 mul-a : tie.Need-mul-a
 mul-a c = search needs
 
--- src/lib.rt:50:13
 mul-i : tie.Need-mul-i
 mul-i c = search needs
 
--- src/lib.rt:50:13
 slice-read-i : tie.Need-slice-read-i
 slice-read-i c = search needs
 
--- src/lib.rt:51:13
 mul-s : tie.Need-mul-s
 mul-s c = search needs
 
--- src/lib.rt:51:13
 slice-read-s : tie.Need-slice-read-s
 slice-read-s c = search needs
 
--- src/lib.rt:52:17
 add-j : tie.Need-add-j
 add-j c = search needs
 
--- src/lib.rt:52:13
 mul-j : tie.Need-mul-j
 mul-j c = search needs
 
--- src/lib.rt:52:13
 slice-read-j : tie.Need-slice-read-j
 slice-read-j c = search needs
 
--- src/lib.rt:53:17
 add-t : tie.Need-add-t
 add-t c = search needs
 
--- src/lib.rt:53:13
 mul-t : tie.Need-mul-t
 mul-t c = search needs
 
--- src/lib.rt:53:13
 slice-read-t : tie.Need-slice-read-t
 slice-read-t c = search needs
 
--- src/lib.rt:54:8
 leads-requires : tie.Need-leads-requires
-leads-requires c κs = let S = c .before .before .before .before .before .before .before .pre .1 .0 in let v = c .before .before .before .before .before .before .before .args .v in (c .before .before .before .before .before .before .before .pre .0, ((S .few (2 * v), S .few (2 * v + 1)), (S .inside (2 * v) (omega arith), S .inside (2 * v + 1) (omega arith))))
+leads-requires c κs =
+    let c7 = c .before .before .before .before .before .before .before in
+    let pre = c7 .pre in
+    let S = pre .1 .0 in let v = c7 .args .v in (pre .0, ((S .few (2 * v), S .few (2 * v + 1)), (S .inside (2 * v) (omega arith), S .inside (2 * v + 1) (omega arith))))
 
--- src/lib.rt:55:9
 put-requires : tie.Need-put-requires
 put-requires c κs = search needs
 
--- src/lib.rt:55:9
 same-length : tie.Need-same-length
 same-length c = search needs
 
--- src/lib.rt:55:9
 same-length-2 : tie.Need-same-length-2
 same-length-2 c = search needs
 
--- src/lib.rt:55:9
 returns : tie.Need-returns
-returns c = let A = c .before .before .before .before .before .before .before .before .before .before .before .before .before .before .before .before .args in record { better = 2 * A .v; one = inl refl; put = c .before .before .before .before .put .ensures; left = leads-itself (A .prices .now) (at (A .who .now) (2 * A .v)) (at (A .num .now) (2 * A .v)); right = c .before .before .before .before .before .before .before .before .leads .ensures .0 (c .before .before .before .before .before .before .before .if1 .taken) }
+returns c =
+    let c4 = c .before .before .before .before in
+    let c7 = c4 .before .before .before in
+    let c8 = c7 .before in
+    let c16 = c8 .before .before .before .before .before .before .before .before in
+    let A = c16 .args in record { better = 2 * A .v; one = inl refl; put = c4 .put .ensures; left = leads-itself (A .prices .now) (at (A .who .now) (2 * A .v)) (at (A .num .now) (2 * A .v)); right = c8 .leads .ensures .0 (c7 .if1 .taken) }
 
--- src/lib.rt:57:5
 put-requires-2 : tie.Need-put-requires-2
 put-requires-2 c κs = search needs
 
--- src/lib.rt:45:1
 same-length-3 : tie.Need-same-length-3
 same-length-3 c = search needs
 
--- src/lib.rt:45:1
 same-length-4 : tie.Need-same-length-4
 same-length-4 c = search needs
 
--- src/lib.rt:45:1
 returns-2 : tie.Need-returns-2
-returns-2 c = let A = c .before .before .before .before .before .before .before .before .before .before .before .before .before .before .before .before .args in record { better = 2 * A .v + 1; one = inr refl; put = c .before .before .before .before .put2 .ensures; left = c .before .before .before .before .before .before .before .before .leads .ensures .1 (c .before .before .before .before .before .before .before .if1 .left); right = leads-itself (A .prices .now) (at (A .who .now) (2 * A .v + 1)) (at (A .num .now) (2 * A .v + 1)) }
+returns-2 c =
+    let c4 = c .before .before .before .before in
+    let c7 = c4 .before .before .before in
+    let c8 = c7 .before in
+    let c16 = c8 .before .before .before .before .before .before .before .before in
+    let A = c16 .args in record { better = 2 * A .v + 1; one = inr refl; put = c4 .put2 .ensures; left = c8 .leads .ensures .1 (c7 .if1 .left); right = leads-itself (A .prices .now) (at (A .who .now) (2 * A .v + 1)) (at (A .num .now) (2 * A .v + 1)) }
 
 pub play-spec : {M : Type 1} → statement M
 play-spec =

@@ -18,34 +18,63 @@ use Rattle.multi_follow.proofs.take.Reads as take-reads
 use Rattle.multi_rounds.proofs.front.Reads as front-reads
 
 mul-m : tie.Need-mul-m
-mul-m c = omega (arith, c .before .before .before .before .before .before .before .before .before .before .before .pre .1 .1 .1, c .before .before .before .before .before .before .before .before .before .before .before .pre .0 .main .route .most)
+mul-m c =
+    let c11 = c .before .before .before .before .before .before .before .before .before .before .before in
+    let pre = c11 .pre in
+    omega (arith, pre .1 .1 .1, pre .0 .main .route .most)
 
 shared-slice-read-m : tie.Need-shared-slice-read-m
-shared-slice-read-m c = omega (arith, c .before .before .before .before .before .before .before .before .before .before .before .before .pre .1 .1 .1, c .before .before .before .before .before .before .before .before .before .before .before .before .pre .0 .main .route .room)
+shared-slice-read-m c =
+    let c12 = c .before .before .before .before .before .before .before .before .before .before .before .before in
+    let pre = c12 .pre in
+    omega (arith, pre .1 .1 .1, pre .0 .main .route .room)
 
 mul-p : tie.Need-mul-p
-mul-p c = let co = c .before .before .before .before .before .before .before .before .before .before .before .before .pre .0 in omega (arith, co .main .route .inside (c .before .before .before .before .before .before .before .before .before .before .before .before .args .g) (c .before .before .before .before .before .before .before .before .before .before .before .before .pre .1 .1 .1), co .market .priced .count)
+mul-p c =
+    let c12 = c .before .before .before .before .before .before .before .before .before .before .before .before in
+    let pre = c12 .pre in
+    let co = pre .0 in omega (arith, co .main .route .inside (c12 .args .g) (pre .1 .1 .1), co .market .priced .count)
 
 shared-slice-read-p : tie.Need-shared-slice-read-p
-shared-slice-read-p c = c .before .before .before .before .before .before .before .before .before .before .before .before .before .pre .0 .main .route .inside (c .before .before .before .before .before .before .before .before .before .before .before .before .before .args .g) (c .before .before .before .before .before .before .before .before .before .before .before .before .before .pre .1 .1 .1)
+shared-slice-read-p c =
+    let c13 = c .before .before .before .before .before .before .before .before .before .before .before .before .before in
+    let pre = c13 .pre in
+    pre .0 .main .route .inside (c13 .args .g) (pre .1 .1 .1)
 
 mul-v : tie.Need-mul-v
-mul-v c = omega (arith, c .before .before .before .before .before .before .before .before .before .before .before .before .before .pre .1 .1 .1, c .before .before .before .before .before .before .before .before .before .before .before .before .before .pre .0 .main .route .most)
+mul-v c =
+    let c13 = c .before .before .before .before .before .before .before .before .before .before .before .before .before in
+    let pre = c13 .pre in
+    omega (arith, pre .1 .1 .1, pre .0 .main .route .most)
 
 shared-slice-read-v : tie.Need-shared-slice-read-v
-shared-slice-read-v c = omega (arith, c .before .before .before .before .before .before .before .before .before .before .before .before .before .before .pre .1 .1 .1, c .before .before .before .before .before .before .before .before .before .before .before .before .before .before .pre .0 .main .route .space)
+shared-slice-read-v c =
+    let c14 = c .before .before .before .before .before .before .before .before .before .before .before .before .before .before in
+    let pre = c14 .pre in
+    omega (arith, pre .1 .1 .1, pre .0 .main .route .space)
 
 holds-requires : tie.Need-holds-requires
-holds-requires c κs = let co = c .before .before .before .before .before .before .before .before .before .before .before .before .before .before .before .pre .0 in omega (arith, co .main .route .inside (c .before .before .before .before .before .before .before .before .before .before .before .before .before .before .before .args .g) (c .before .before .before .before .before .before .before .before .before .before .before .before .before .before .before .pre .1 .1 .1), co .market .priced .count, c .before .before .before .before .before .before .before .before .before .before .before .before .before .before .before .pre .1 .0 .marks)
+holds-requires c κs =
+    let c15 = c .before .before .before .before .before .before .before .before .before .before .before .before .before .before .before in
+    let pre = c15 .pre in
+    let co = pre .0 in omega (arith, co .main .route .inside (c15 .args .g) (pre .1 .1 .1), co .market .priced .count, pre .1 .0 .marks)
 
 front-requires : tie.Need-front-requires
-front-requires c κs = let P = c .before .before .before .before .before .before .before .before .before .before .before .before .before .before .before .before .before .before .before .before .pre in let co = P .0 in let s = P .1 .0 in let l = co .main .route .inside (c .before .before .before .before .before .before .before .before .before .before .before .before .before .before .before .before .before .before .before .before .args .g) (P .1 .1 .1) in (co .market, (co .hopping, (words co s, (s .counted, (s .tree, (knows (inside co) (co .market .words) (s .follow .strayed), (omega (arith, l), (co .market .priced .most _, co .main .route .few _ (P .1 .1 .1)))))))))
+front-requires c κs =
+    let c20 = c .before .before .before .before .before .before .before .before .before .before .before .before .before .before .before .before .before .before .before .before in
+    let P = c20 .pre in let co = P .0 in let s = P .1 .0 in let l = co .main .route .inside (c20 .args .g) (P .1 .1 .1) in (co .market, (co .hopping, (words co s, (s .counted, (s .tree, (knows (inside co) (co .market .words) (s .follow .strayed), (omega (arith, l), (co .market .priced .most _, co .main .route .few _ (P .1 .1 .1)))))))))
 
 take-requires : tie.Need-take-requires
-take-requires c κs = let P = c .before .before .before .before .before .before .before .before .before .before .before .before .before .before .before .before .before .before .before .before .before .before .before .before .before .before .before .before .before .before .pre in let co = P .0 in let s = P .1 .0 in let l = co .main .route .inside (c .before .before .before .before .before .before .before .before .before .before .before .before .before .before .before .before .before .before .before .before .before .before .before .before .before .before .before .before .before .before .args .g) (P .1 .1 .1) in ((co .market .priced .most _, (gains-some (co .main) _ (P .1 .1 .1), (P .1 .1 .0, s .follow .few))), (words co s, (co .market .words, (bid-row co _ l, (co .hopping .size, (c .before .before .before .before .before .before .before .before .before .front .ensures .1 .1, co .hopping .each _ l))))))
+take-requires c κs =
+    let c9 = c .before .before .before .before .before .before .before .before .before in
+    let c30 = c9 .before .before .before .before .before .before .before .before .before .before .before .before .before .before .before .before .before .before .before .before .before in
+    let P = c30 .pre in let co = P .0 in let s = P .1 .0 in let l = co .main .route .inside (c30 .args .g) (P .1 .1 .1) in ((co .market .priced .most _, (gains-some (co .main) _ (P .1 .1 .1), (P .1 .1 .0, s .follow .few))), (words co s, (co .market .words, (bid-row co _ l, (co .hopping .size, (c9 .front .ensures .1 .1, co .hopping .each _ l))))))
 
 add-t47 : tie.Need-add-t47
-add-t47 c = omega (arith, c .before .before .before .before .before .before .before .before .before .before .before .before .before .before .before .before .before .before .before .before .before .before .before .before .before .before .before .before .before .before .before .before .before .before .before .pre .1 .1 .1, c .before .before .before .before .before .before .before .before .before .before .before .before .before .before .before .before .before .before .before .before .before .before .before .before .before .before .before .before .before .before .before .before .before .before .before .pre .0 .main .route .most)
+add-t47 c =
+    let c35 = c .before .before .before .before .before .before .before .before .before .before .before .before .before .before .before .before .before .before .before .before .before .before .before .before .before .before .before .before .before .before .before .before .before .before .before in
+    let pre = c35 .pre in
+    omega (arith, pre .1 .1 .1, pre .0 .main .route .most)
 
 same-length : tie.Need-same-length
 same-length c = search needs
@@ -63,13 +92,30 @@ same-length-5 : tie.Need-same-length-5
 same-length-5 c = search needs
 
 returns : tie.Need-returns
-returns c = let P = c .before .before .before .before .before .before .before .before .before .before .before .before .before .before .before .before .before .before .before .before .before .before .before .before .before .before .before .before .before .before .before .before .before .before .before .pre in let co = P .0 in let s = P .1 .0 in let f = c .before .before .before .before .before .before .before .before .before .before .before .before .before .before .front .ensures .1 .0 in let z = unmarked _ _ _ (c .before .before .before .before .before .before .before .before .before .before .before .before .before .before .before .before .before .before .before .holds .ensures) (f .clear-of (c .before .before .before .before .before .before .before .if1 .taken) .0) in main-goes co (fronted co s (c .before .before .before .before .before .before .before .before .before .before .before .before .before .before .front .ensures .0) (c .before .before .before .before .before .before .before .before .before .before .before .before .before .before .front .ensures .1 .0) (c .before .before .before .before .before .before .before .before .before .before .before .before .before .before .front .ensures .1 .1)) (takes-main co (s .follow) f (P .1 .1 .1) refl refl refl z (c .before .before .before .before .before .before .before .if1 .taken)) (c .before .before .before .before .take .ensures .0) (c .before .before .before .before .take .kept .1 .1 .1 .1 .1 .1 .1 .1 .1 .0) (c .before .before .before .before .take .ensures .1 .0) (c .before .before .before .before .take .ensures .1 .1) refl (P .1 .1 .1) z
+returns c =
+    let c4 = c .before .before .before .before in
+    let c7 = c4 .before .before .before in
+    let c14 = c7 .before .before .before .before .before .before .before in
+    let c19 = c14 .before .before .before .before .before in
+    let c35 = c19 .before .before .before .before .before .before .before .before .before .before .before .before .before .before .before .before in
+    let P = c35 .pre in let co = P .0 in let s = P .1 .0 in let f = c14 .front .ensures .1 .0 in let z = unmarked _ _ _ (c19 .holds .ensures) (f .clear-of (c7 .if1 .taken) .0) in main-goes co (fronted co s (c14 .front .ensures .0) (c14 .front .ensures .1 .0) (c14 .front .ensures .1 .1)) (takes-main co (s .follow) f (P .1 .1 .1) refl refl refl z (c7 .if1 .taken)) (c4 .take .ensures .0) (c4 .take .kept .1 .1 .1 .1 .1 .1 .1 .1 .1 .0) (c4 .take .ensures .1 .0) (c4 .take .ensures .1 .1) refl (P .1 .1 .1) z
 
 ahead-requires : tie.Need-ahead-requires
-ahead-requires c κs = let co = c .before .before .before .before .before .before .before .before .before .before .before .before .before .before .before .before .before .before .before .before .before .before .before .before .before .before .before .before .pre .0 in let f = c .before .before .before .before .before .before .before .front .ensures .1 .0 in ((f .cheap, f .small), (co .market .priced .most _, co .main .route .few _ (c .before .before .before .before .before .before .before .before .before .before .before .before .before .before .before .before .before .before .before .before .before .before .before .before .before .before .before .before .pre .1 .1 .1)))
+ahead-requires c κs =
+    let c7 = c .before .before .before .before .before .before .before in
+    let c28 = c7 .before .before .before .before .before .before .before .before .before .before .before .before .before .before .before .before .before .before .before .before .before in
+    let pre = c28 .pre in
+    let co = pre .0 in let f = c7 .front .ensures .1 .0 in ((f .cheap, f .small), (co .market .priced .most _, co .main .route .few _ (pre .1 .1 .1)))
 
 both-requires : tie.Need-both-requires
-both-requires c κs = let P = c .before .before .before .before .before .before .before .before .before .before .before .before .before .before .before .before .before .before .before .before .before .before .before .before .before .before .before .before .before .before .before .before .before .before .before .before .pre in let co = P .0 in let s = P .1 .0 in let f = c .before .before .before .before .before .before .before .before .before .before .before .before .before .before .before .front .ensures .1 .0 in let a = c .before .before .before .before .before .before .before .ahead .ensures (c .before .before .before .before .before .before .if2 .taken) in (co, (fronted co s (c .before .before .before .before .before .before .before .before .before .before .before .before .before .before .before .front .ensures .0) (c .before .before .before .before .before .before .before .before .before .before .before .before .before .before .before .front .ensures .1 .0) (c .before .before .before .before .before .before .before .before .before .before .before .before .before .before .before .front .ensures .1 .1), (P .1 .1 .0, (takes-other co (s .follow) f (c .before .before .before .before .before .before .before .before .if1 .left) (a .0) (P .1 .1 .1) (a .1), (P .1 .1 .1, c .before .before .before .before .before .if3 .taken)))))
+both-requires c κs =
+    let c5 = c .before .before .before .before .before in
+    let c6 = c5 .before in
+    let c7 = c6 .before in
+    let c8 = c7 .before in
+    let c15 = c8 .before .before .before .before .before .before .before in
+    let c36 = c15 .before .before .before .before .before .before .before .before .before .before .before .before .before .before .before .before .before .before .before .before .before in
+    let P = c36 .pre in let co = P .0 in let s = P .1 .0 in let f = c15 .front .ensures .1 .0 in let a = c7 .ahead .ensures (c6 .if2 .taken) in (co, (fronted co s (c15 .front .ensures .0) (c15 .front .ensures .1 .0) (c15 .front .ensures .1 .1), (P .1 .1 .0, (takes-other co (s .follow) f (c8 .if1 .left) (a .0) (P .1 .1 .1) (a .1), (P .1 .1 .1, c5 .if3 .taken)))))
 
 same-length-6 : tie.Need-same-length-6
 same-length-6 c = search needs
@@ -90,7 +136,13 @@ returns-2 : tie.Need-returns-2
 returns-2 c = search needs
 
 other-requires : tie.Need-other-requires
-other-requires c κs = let P = c .before .before .before .before .before .before .before .before .before .before .before .before .before .before .before .before .before .before .before .before .before .before .before .before .before .before .before .before .before .before .before .before .before .before .before .before .pre in let co = P .0 in let s = P .1 .0 in let f = c .before .before .before .before .before .before .before .before .before .before .before .before .before .before .before .front .ensures .1 .0 in let a = c .before .before .before .before .before .before .before .ahead .ensures (c .before .before .before .before .before .before .if2 .taken) in (co, (fronted co s (c .before .before .before .before .before .before .before .before .before .before .before .before .before .before .before .front .ensures .0) (c .before .before .before .before .before .before .before .before .before .before .before .before .before .before .before .front .ensures .1 .0) (c .before .before .before .before .before .before .before .before .before .before .before .before .before .before .before .front .ensures .1 .1), (P .1 .1 .0, takes-other co (s .follow) f (c .before .before .before .before .before .before .before .before .if1 .left) (a .0) (P .1 .1 .1) (a .1))))
+other-requires c κs =
+    let c6 = c .before .before .before .before .before .before in
+    let c7 = c6 .before in
+    let c8 = c7 .before in
+    let c15 = c8 .before .before .before .before .before .before .before in
+    let c36 = c15 .before .before .before .before .before .before .before .before .before .before .before .before .before .before .before .before .before .before .before .before .before in
+    let P = c36 .pre in let co = P .0 in let s = P .1 .0 in let f = c15 .front .ensures .1 .0 in let a = c7 .ahead .ensures (c6 .if2 .taken) in (co, (fronted co s (c15 .front .ensures .0) (c15 .front .ensures .1 .0) (c15 .front .ensures .1 .1), (P .1 .1 .0, takes-other co (s .follow) f (c8 .if1 .left) (a .0) (P .1 .1 .1) (a .1))))
 
 same-length-11 : tie.Need-same-length-11
 same-length-11 c = search needs
@@ -111,10 +163,16 @@ returns-3 : tie.Need-returns-3
 returns-3 c = search needs
 
 disturb-requires : tie.Need-disturb-requires
-disturb-requires c κs = let P = c .before .before .before .before .before .before .before .before .before .before .before .before .before .before .before .before .before .before .before .before .before .before .before .before .before .before .before .before .before .before .before .before .before .before .before .pre in let co = P .0 in let s = P .1 .0 in (co .market, (co .hopping, (co .indexed, (words co s, (c .before .before .before .before .before .before .before .before .before .before .before .before .before .before .front .ensures .1 .1, (co .main .route .inside (c .before .before .before .before .before .before .before .before .before .before .before .before .before .before .before .before .before .before .before .before .before .before .before .before .before .before .before .before .before .before .before .before .before .before .before .args .g) (P .1 .1 .1), (c .before .before .before .before .before .before .before .before .before .before .before .before .before .before .front .ensures .0, s .marks)))))))
+disturb-requires c κs =
+    let c14 = c .before .before .before .before .before .before .before .before .before .before .before .before .before .before in
+    let c35 = c14 .before .before .before .before .before .before .before .before .before .before .before .before .before .before .before .before .before .before .before .before .before in
+    let P = c35 .pre in let co = P .0 in let s = P .1 .0 in (co .market, (co .hopping, (co .indexed, (words co s, (c14 .front .ensures .1 .1, (co .main .route .inside (c35 .args .g) (P .1 .1 .1), (c14 .front .ensures .0, s .marks)))))))
 
 add-t27 : tie.Need-add-t27
-add-t27 c = omega (arith, c .before .before .before .before .before .before .before .before .before .before .before .before .before .before .before .before .before .before .before .before .before .before .before .before .before .before .before .before .before .before .before .before .before .before .before .before .before .before .before .before .before .before .before .before .pre .1 .1 .1, c .before .before .before .before .before .before .before .before .before .before .before .before .before .before .before .before .before .before .before .before .before .before .before .before .before .before .before .before .before .before .before .before .before .before .before .before .before .before .before .before .before .before .before .before .pre .0 .main .route .most)
+add-t27 c =
+    let c44 = c .before .before .before .before .before .before .before .before .before .before .before .before .before .before .before .before .before .before .before .before .before .before .before .before .before .before .before .before .before .before .before .before .before .before .before .before .before .before .before .before .before .before .before .before in
+    let pre = c44 .pre in
+    omega (arith, pre .1 .1 .1, pre .0 .main .route .most)
 
 same-length-16 : tie.Need-same-length-16
 same-length-16 c = search needs
@@ -132,7 +190,11 @@ same-length-20 : tie.Need-same-length-20
 same-length-20 c = search needs
 
 returns-4 : tie.Need-returns-4
-returns-4 c = let P = c .before .before .before .before .before .before .before .before .before .before .before .before .before .before .before .before .before .before .before .before .before .before .before .before .before .before .before .before .before .before .before .before .before .before .before .before .before .before .before .before .before .before .before .before .pre in let co = P .0 in let s = P .1 .0 in skip-goes co (fronted co s (c .before .before .before .before .before .before .before .before .before .before .before .before .before .before .before .before .before .before .before .before .before .before .before .front .ensures .0) (c .before .before .before .before .before .before .before .before .before .before .before .before .before .before .before .before .before .before .before .before .before .before .before .front .ensures .1 .0) (c .before .before .before .before .before .before .before .before .before .before .before .before .before .before .before .before .before .before .before .before .before .before .before .front .ensures .1 .1)) (P .1 .1 .1) (c .before .before .before .before .before .before .before .before .disturb .ensures .0) (c .before .before .before .before .before .before .before .before .disturb .kept .1 .1 .1 .1 .1 .1 .1 .1 .1 .1 .0) (c .before .before .before .before .before .before .before .before .disturb .ensures .1 .0) (c .before .before .before .before .before .before .before .before .disturb .ensures .1 .1)
+returns-4 c =
+    let c8 = c .before .before .before .before .before .before .before .before in
+    let c23 = c8 .before .before .before .before .before .before .before .before .before .before .before .before .before .before .before in
+    let c44 = c23 .before .before .before .before .before .before .before .before .before .before .before .before .before .before .before .before .before .before .before .before .before in
+    let P = c44 .pre in let co = P .0 in let s = P .1 .0 in skip-goes co (fronted co s (c23 .front .ensures .0) (c23 .front .ensures .1 .0) (c23 .front .ensures .1 .1)) (P .1 .1 .1) (c8 .disturb .ensures .0) (c8 .disturb .kept .1 .1 .1 .1 .1 .1 .1 .1 .1 .1 .0) (c8 .disturb .ensures .1 .0) (c8 .disturb .ensures .1 .1)
 
 pub along-spec : {M : Type 1} → statement M
 along-spec =

@@ -8,7 +8,10 @@ use Rattle.multi_without.proofs.along.Reads as along-reads
 use Rattle.multi_without.proofs.beyond.Reads as beyond-reads
 
 along-requires : tie.Need-along-requires
-along-requires c κs = let P = c .before .before .before .before .before .before .before .before .before .before .before .before .before .before .before .before .before .pre in (P .0, (P .1 .0, (P .1 .1, c .before .before .before .before .before .if1 .taken)))
+along-requires c κs =
+    let c5 = c .before .before .before .before .before in
+    let c17 = c5 .before .before .before .before .before .before .before .before .before .before .before .before in
+    let P = c17 .pre in (P .0, (P .1 .0, (P .1 .1, c5 .if1 .taken)))
 
 same-length : tie.Need-same-length
 same-length c = search needs
@@ -29,7 +32,10 @@ returns : tie.Need-returns
 returns c = search needs
 
 beyond-requires : tie.Need-beyond-requires
-beyond-requires c κs = let P = c .before .before .before .before .before .before .before .before .before .before .before .before .before .before .before .before .before .pre in (P .0, (P .1 .0, (P .1 .1, c .before .before .before .before .before .if1 .left)))
+beyond-requires c κs =
+    let c5 = c .before .before .before .before .before in
+    let c17 = c5 .before .before .before .before .before .before .before .before .before .before .before .before in
+    let P = c17 .pre in (P .0, (P .1 .0, (P .1 .1, c5 .if1 .left)))
 
 same-length-6 : tie.Need-same-length-6
 same-length-6 c = search needs

@@ -9,7 +9,10 @@ use Rattle.reader.proofs.read.Statement.{statement}
 use Rattle.reader.proofs.read.Tie as tie
 
 returns : tie.Need-returns
-returns c = let x = answer-refused (c .before .before .before .before .args .text .now) (c .before .before .before .before .args .bids .now) (c .before .before .before .before .args .windows .now) 1 0 (too-long (c .before .before .before .before .args .text .now) (c .before .before .before .before .args .bids .now) (c .before .before .before .before .args .windows .now) (c .if1 .taken)) in (x .0, (x .1, x .2))
+returns c =
+    let c4 = c .before .before .before .before in
+    let args = c4 .args in
+    let x = answer-refused (args .text .now) (args .bids .now) (args .windows .now) 1 0 (too-long (args .text .now) (args .bids .now) (args .windows .now) (c .if1 .taken)) in (x .0, (x .1, x .2))
 
 slice-aggregate-read-first : tie.Need-slice-aggregate-read-first
 slice-aggregate-read-first c = search needs
@@ -30,21 +33,40 @@ slice-aggregate-read-bids-3 : tie.Need-slice-aggregate-read-bids-3
 slice-aggregate-read-bids-3 c = search needs
 
 read-bids-requires : tie.Need-read-bids-requires
-read-bids-requires c κs = let b = opened-tender (c .before .before .before .before .before .before .before .before .before .before .before .before .before .args .text .now) _ (c .before .before .before .before .before .before .before .read-first .ensures) _ _ (c .before .before .before .before .t .given .1) in
-    (b .inside, c .before .before .before .before .before .before .before .before .before .if1 .left, refl, length-replicate {A = ℕ} 4000 1, c .before .before .before .before .before .before .before .read-first .kept .1 .0 ∙ length-replicate {A = ℕ} 22000 1)
+read-bids-requires c κs =
+    let c4 = c .before .before .before .before in
+    let c7 = c4 .before .before .before in
+    let c9 = c7 .before .before in
+    let c13 = c9 .before .before .before .before in
+    let b = opened-tender (c13 .args .text .now) _ (c7 .read-first .ensures) _ _ (c4 .t .given .1) in
+    (b .inside, c9 .if1 .left, refl, length-replicate {A = ℕ} 4000 1, c7 .read-first .kept .1 .0 ∙ length-replicate {A = ℕ} 22000 1)
 
 enum-known-k : tie.Need-enum-known-k
 enum-known-k c = search needs
 
 returns-2 : tie.Need-returns-2
-returns-2 c = let b = opened-tender (c .before .before .before .before .before .before .before .before .before .before .before .before .before .before .before .before .before .before .before .before .before .args .text .now) _ (c .before .before .before .before .before .before .before .before .before .before .before .before .before .before .before .read-first .ensures) _ _ (c .before .before .before .before .before .before .before .before .before .before .before .before .t .given .1) in
-    let h = filled-held _ _ _ _ _ (c .before .before .before .before .before .before .before .read-bids .ensures) _ _ (c .before .before .k .given .1) in
-    let x = answer-refused (c .before .before .before .before .before .before .before .before .before .before .before .before .before .before .before .before .before .before .before .before .before .args .text .now) (c .before .before .before .before .before .before .before .before .before .before .before .before .before .before .before .before .before .before .before .before .before .args .bids .now) (c .before .before .before .before .before .before .before .before .before .before .before .before .before .before .before .before .before .before .before .before .before .args .windows .now) 8 0 (bids-short (c .before .before .before .before .before .before .before .before .before .before .before .before .before .before .before .before .before .before .before .before .before .args .text .now) (c .before .before .before .before .before .before .before .before .before .before .before .before .before .before .before .before .before .before .before .before .before .args .bids .now) (c .before .before .before .before .before .before .before .before .before .before .before .before .before .before .before .before .before .before .before .before .before .args .windows .now) (c .before .before .before .before .before .before .before .before .before .before .before .before .before .before .before .before .before .if1 .left) _ _ b _ _ _ _ h (c .if2 .taken)) in (x .0, (x .1, x .2))
+returns-2 c =
+    let c7 = c .before .before .before .before .before .before .before in
+    let c12 = c7 .before .before .before .before .before in
+    let c15 = c12 .before .before .before in
+    let c17 = c15 .before .before in
+    let c21 = c17 .before .before .before .before in
+    let args = c21 .args in
+    let b = opened-tender (args .text .now) _ (c15 .read-first .ensures) _ _ (c12 .t .given .1) in
+    let h = filled-held _ _ _ _ _ (c7 .read-bids .ensures) _ _ (c .before .before .k .given .1) in
+    let x = answer-refused (args .text .now) (args .bids .now) (args .windows .now) 8 0 (bids-short (args .text .now) (args .bids .now) (args .windows .now) (c17 .if1 .left) _ _ b _ _ _ _ h (c .if2 .taken)) in (x .0, (x .1, x .2))
 
 returns-3 : tie.Need-returns-3
-returns-3 c = let b = opened-tender (c .before .before .before .before .before .before .before .before .before .before .before .before .before .before .before .before .before .before .before .before .before .before .args .text .now) _ (c .before .before .before .before .before .before .before .before .before .before .before .before .before .before .before .before .read-first .ensures) _ _ (c .before .before .before .before .before .before .before .before .before .before .before .before .before .t .given .1) in
-    let h = filled-held _ _ _ _ _ (c .before .before .before .before .before .before .before .before .read-bids .ensures) _ _ (c .before .before .before .k .given .1) in
-    let x = answer-refused (c .before .before .before .before .before .before .before .before .before .before .before .before .before .before .before .before .before .before .before .before .before .before .args .text .now) (c .before .before .before .before .before .before .before .before .before .before .before .before .before .before .before .before .before .before .before .before .before .before .args .bids .now) (c .before .before .before .before .before .before .before .before .before .before .before .before .before .before .before .before .before .before .before .before .before .before .args .windows .now) 8 0 (windows-short (c .before .before .before .before .before .before .before .before .before .before .before .before .before .before .before .before .before .before .before .before .before .before .args .text .now) (c .before .before .before .before .before .before .before .before .before .before .before .before .before .before .before .before .before .before .before .before .before .before .args .bids .now) (c .before .before .before .before .before .before .before .before .before .before .before .before .before .before .before .before .before .before .before .before .before .before .args .windows .now) (c .before .before .before .before .before .before .before .before .before .before .before .before .before .before .before .before .before .before .if1 .left) _ _ b _ _ _ _ h (c .before .if2 .left) (c .if3 .taken)) in (x .0, (x .1, x .2))
+returns-3 c =
+    let c8 = c .before .before .before .before .before .before .before .before in
+    let c13 = c8 .before .before .before .before .before in
+    let c16 = c13 .before .before .before in
+    let c18 = c16 .before .before in
+    let c22 = c18 .before .before .before .before in
+    let args = c22 .args in
+    let b = opened-tender (args .text .now) _ (c16 .read-first .ensures) _ _ (c13 .t .given .1) in
+    let h = filled-held _ _ _ _ _ (c8 .read-bids .ensures) _ _ (c .before .before .before .k .given .1) in
+    let x = answer-refused (args .text .now) (args .bids .now) (args .windows .now) 8 0 (windows-short (args .text .now) (args .bids .now) (args .windows .now) (c18 .if1 .left) _ _ b _ _ _ _ h (c .before .if2 .left) (c .if3 .taken)) in (x .0, (x .1, x .2))
 
 slice-aggregate-copy : tie.Need-slice-aggregate-copy
 slice-aggregate-copy c = search needs
@@ -53,18 +75,29 @@ mul-copy : tie.Need-mul-copy
 mul-copy c = search needs
 
 copy-requires : tie.Need-copy-requires
-copy-requires c κs = let h = filled-held _ _ _ _ _ (c .before .before .before .before .before .before .before .before .before .before .read-bids .ensures) _ _ (c .before .before .before .before .before .k .given .1) in
-    (omega (arith, h .few-bids, c .before .before .before .before .before .before .before .before .before .before .read-bids .kept .1 .1 .1 .1 .0, length-replicate {A = ℕ} 4000 1), omega (arith, c .before .before .before .if2 .left))
+copy-requires c κs =
+    let c5 = c .before .before .before .before .before in
+    let c10 = c5 .before .before .before .before .before in
+    let h = filled-held _ _ _ _ _ (c10 .read-bids .ensures) _ _ (c5 .k .given .1) in
+    (omega (arith, h .few-bids, c10 .read-bids .kept .1 .1 .1 .1 .0, length-replicate {A = ℕ} 4000 1), omega (arith, c .before .before .before .if2 .left))
 
 slice-aggregate-copy-2 : tie.Need-slice-aggregate-copy-2
 slice-aggregate-copy-2 c = search needs
 
 mul-copy-2 : tie.Need-mul-copy-2
-mul-copy-2 c = let h = filled-held _ _ _ _ _ (c .before .before .before .before .before .before .before .before .before .before .before .before .before .before .read-bids .ensures) _ _ (c .before .before .before .before .before .before .before .before .before .k .given .1) in omega (arith, h .few-windows)
+mul-copy-2 c =
+    let c9 = c .before .before .before .before .before .before .before .before .before in
+    let c14 = c9 .before .before .before .before .before in
+    let h = filled-held _ _ _ _ _ (c14 .read-bids .ensures) _ _ (c9 .k .given .1) in omega (arith, h .few-windows)
 
 copy-requires-2 : tie.Need-copy-requires-2
-copy-requires-2 c κs = let h = filled-held _ _ _ _ _ (c .before .before .before .before .before .before .before .before .before .before .before .before .before .before .before .read-bids .ensures) _ _ (c .before .before .before .before .before .before .before .before .before .before .k .given .1) in
-    (omega (arith, h .few-windows, c .before .before .before .before .before .before .before .before .before .before .before .before .before .before .before .read-bids .kept .1 .1 .1 .1 .1 .0, c .before .before .before .before .before .before .before .before .before .before .before .before .before .before .before .before .before .before .before .before .before .before .before .read-first .kept .1 .0, length-replicate {A = ℕ} 22000 1), omega (arith, c .before .before .before .before .before .before .before .if3 .left))
+copy-requires-2 c κs =
+    let c7 = c .before .before .before .before .before .before .before in
+    let c10 = c7 .before .before .before in
+    let c15 = c10 .before .before .before .before .before in
+    let c23 = c15 .before .before .before .before .before .before .before .before in
+    let h = filled-held _ _ _ _ _ (c15 .read-bids .ensures) _ _ (c10 .k .given .1) in
+    (omega (arith, h .few-windows, c15 .read-bids .kept .1 .1 .1 .1 .1 .0, c23 .read-first .kept .1 .0, length-replicate {A = ℕ} 22000 1), omega (arith, c7 .if3 .left))
 
 enum-known-r : tie.Need-enum-known-r
 enum-known-r c = search needs
@@ -79,16 +112,39 @@ same-length-2 : tie.Need-same-length-2
 same-length-2 c = search needs
 
 returns-4 : tie.Need-returns-4
-returns-4 c = let b = opened-tender (c .before .before .before .before .before .before .before .before .before .before .before .before .before .before .before .before .before .before .before .before .before .before .before .before .before .before .before .before .before .before .before .before .args .text .now) _ (c .before .before .before .before .before .before .before .before .before .before .before .before .before .before .before .before .before .before .before .before .before .before .before .before .before .before .read-first .ensures) _ _ (c .before .before .before .before .before .before .before .before .before .before .before .before .before .before .before .before .before .before .before .before .before .before .before .t .given .1) in
-    let h = filled-held _ _ _ _ _ (c .before .before .before .before .before .before .before .before .before .before .before .before .before .before .before .before .before .before .read-bids .ensures) _ _ (c .before .before .before .before .before .before .before .before .before .before .before .before .before .k .given .1) in
-    let y = answer-accepted (c .before .before .before .before .before .before .before .before .before .before .before .before .before .before .before .before .before .before .before .before .before .before .before .before .before .before .before .before .before .before .before .before .args .text .now) (c .before .before .before .before .before .before .before .before .before .before .before .before .before .before .before .before .before .before .before .before .before .before .before .before .before .before .before .before .before .before .before .before .args .bids .now) (c .before .before .before .before .before .before .before .before .before .before .before .before .before .before .before .before .before .before .before .before .before .before .before .before .before .before .before .before .before .before .before .before .args .windows .now) (c .before .before .before .before .before .before .before .before .before .before .before .before .before .before .before .before .before .before .before .before .before .before .before .before .before .before .before .before .if1 .left) _ _ b _ _ _ _ h (c .before .before .before .before .before .before .before .before .before .before .before .if2 .left) (c .before .before .before .before .before .before .before .before .before .before .if3 .left) in (y .0, (c .before .before .before .before .before .before .before .copy .ensures ∙ y .1, c .before .before .copy2 .ensures ∙ y .2))
+returns-4 c =
+    let c7 = c .before .before .before .before .before .before .before in
+    let c10 = c7 .before .before .before in
+    let c11 = c10 .before in
+    let c13 = c11 .before .before in
+    let c18 = c13 .before .before .before .before .before in
+    let c23 = c18 .before .before .before .before .before in
+    let c26 = c23 .before .before .before in
+    let c28 = c26 .before .before in
+    let c32 = c28 .before .before .before .before in
+    let args = c32 .args in
+    let b = opened-tender (args .text .now) _ (c26 .read-first .ensures) _ _ (c23 .t .given .1) in
+    let h = filled-held _ _ _ _ _ (c18 .read-bids .ensures) _ _ (c13 .k .given .1) in
+    let y = answer-accepted (args .text .now) (args .bids .now) (args .windows .now) (c28 .if1 .left) _ _ b _ _ _ _ h (c11 .if2 .left) (c10 .if3 .left) in (y .0, (c7 .copy .ensures ∙ y .1, c .before .before .copy2 .ensures ∙ y .2))
 
 returns-5 : tie.Need-returns-5
-returns-5 c = let b = opened-tender (c .before .before .before .before .before .before .before .before .before .before .before .before .before .before .before .before .before .before .before .before .args .text .now) _ (c .before .before .before .before .before .before .before .before .before .before .before .before .before .before .read-first .ensures) _ _ (c .before .before .before .before .before .before .before .before .before .before .before .t .given .1) in
-    let x = answer-refused (c .before .before .before .before .before .before .before .before .before .before .before .before .before .before .before .before .before .before .before .before .args .text .now) (c .before .before .before .before .before .before .before .before .before .before .before .before .before .before .before .before .before .before .before .before .args .bids .now) (c .before .before .before .before .before .before .before .before .before .before .before .before .before .before .before .before .before .before .before .before .args .windows .now) _ _ (bids-refused (c .before .before .before .before .before .before .before .before .before .before .before .before .before .before .before .before .before .before .before .before .args .text .now) (c .before .before .before .before .before .before .before .before .before .before .before .before .before .before .before .before .before .before .before .before .args .bids .now) (c .before .before .before .before .before .before .before .before .before .before .before .before .before .before .before .before .before .before .before .before .args .windows .now) (c .before .before .before .before .before .before .before .before .before .before .before .before .before .before .before .before .if1 .left) _ _ b _ _ (filled-refused _ _ _ _ _ (c .before .before .before .before .before .before .read-bids .ensures) _ (c .before .r .given .1))) in (x .0, (x .1, x .2))
+returns-5 c =
+    let c6 = c .before .before .before .before .before .before in
+    let c11 = c6 .before .before .before .before .before in
+    let c14 = c11 .before .before .before in
+    let c16 = c14 .before .before in
+    let c20 = c16 .before .before .before .before in
+    let args = c20 .args in
+    let b = opened-tender (args .text .now) _ (c14 .read-first .ensures) _ _ (c11 .t .given .1) in
+    let x = answer-refused (args .text .now) (args .bids .now) (args .windows .now) _ _ (bids-refused (args .text .now) (args .bids .now) (args .windows .now) (c16 .if1 .left) _ _ b _ _ (filled-refused _ _ _ _ _ (c6 .read-bids .ensures) _ (c .before .r .given .1))) in (x .0, (x .1, x .2))
 
 returns-6 : tie.Need-returns-6
-returns-6 c = let x = answer-refused (c .before .before .before .before .before .before .before .before .before .before .args .text .now) (c .before .before .before .before .before .before .before .before .before .before .args .bids .now) (c .before .before .before .before .before .before .before .before .before .before .args .windows .now) _ _ (lines-refused (c .before .before .before .before .before .before .before .before .before .before .args .text .now) (c .before .before .before .before .before .before .before .before .before .before .args .bids .now) (c .before .before .before .before .before .before .before .before .before .before .args .windows .now) (c .before .before .before .before .before .before .if1 .left) _ _ (opened-refused (c .before .before .before .before .before .before .before .before .before .before .args .text .now) _ (c .before .before .before .before .read-first .ensures) _ (c .before .r2 .given .1))) in (x .0, (x .1, x .2))
+returns-6 c =
+    let c4 = c .before .before .before .before in
+    let c6 = c4 .before .before in
+    let c10 = c6 .before .before .before .before in
+    let args = c10 .args in
+    let x = answer-refused (args .text .now) (args .bids .now) (args .windows .now) _ _ (lines-refused (args .text .now) (args .bids .now) (args .windows .now) (c6 .if1 .left) _ _ (opened-refused (args .text .now) _ (c4 .read-first .ensures) _ (c .before .r2 .given .1))) in (x .0, (x .1, x .2))
 
 pub read-spec : {M : Type 1} → statement M
 read-spec =

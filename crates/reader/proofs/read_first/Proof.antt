@@ -30,7 +30,9 @@ part-read-line-start : tie.Need-part-read-line-start
 part-read-line-start c = search needs
 
 part-read-line-end : tie.Need-part-read-line-end
-part-read-line-end c = let b = ends-at (c .before .before .before .before .before .before .before .args .text .now) 0 _ (c .before .before .before .line-end .ensures) _ (c .before .e .given .1) in omega (arith, b .1)
+part-read-line-end c =
+    let c7 = c .before .before .before .before .before .before .before in
+    let b = ends-at (c7 .args .text .now) 0 _ (c .before .before .before .line-end .ensures) _ (c .before .e .given .1) in omega (arith, b .1)
 
 read-line-requires : tie.Need-read-line-requires
 read-line-requires c κs = search needs
@@ -42,7 +44,11 @@ keeps-requires : tie.Need-keeps-requires
 keeps-requires c κs = search needs
 
 add-t21 : tie.Need-add-t21
-add-t21 c = let b = ends-at (c .before .before .before .before .before .before .before .before .before .before .before .before .before .before .before .before .before .before .args .text .now) 0 _ (c .before .before .before .before .before .before .before .before .before .before .before .before .before .before .line-end .ensures) _ (c .before .before .before .before .before .before .before .before .before .before .before .before .e .given .1) in omega (arith, b .1)
+add-t21 c =
+    let c12 = c .before .before .before .before .before .before .before .before .before .before .before .before in
+    let c14 = c12 .before .before in
+    let c18 = c14 .before .before .before .before in
+    let b = ends-at (c18 .args .text .now) 0 _ (c14 .line-end .ensures) _ (c12 .e .given .1) in omega (arith, b .1)
 
 enum-told : tie.Need-enum-told
 enum-told c = search needs
@@ -57,11 +63,18 @@ same-length : tie.Need-same-length
 same-length c = search needs
 
 returns-2 : tie.Need-returns-2
-returns-2 c = let b = ends-at (c .before .before .before .before .before .before .before .before .before .before .before .before .before .before .before .before .before .before .args .text .now) 0 _ (c .before .before .before .before .before .before .before .before .before .before .before .before .before .before .line-end .ensures) _ (c .before .before .before .before .before .before .before .before .before .before .before .before .e .given .1) in
-    let o = is-tender 0 _ _ _ (ap (λ t. toldLine t (c .before .before .before .before .before .before .before .before .read-line .last .1 .0)) (sym (c .before .before .before .before .t .given .1)) ∙ c .before .before .before .before .before .before .before .before .read-line .ensures) in
+returns-2 c =
+    let c4 = c .before .before .before .before in
+    let c8 = c4 .before .before .before .before in
+    let c12 = c8 .before .before .before .before in
+    let c14 = c12 .before .before in
+    let c18 = c14 .before .before .before .before in
+    let args = c18 .args in
+    let b = ends-at (args .text .now) 0 _ (c14 .line-end .ensures) _ (c12 .e .given .1) in
+    let o = is-tender 0 _ _ _ (ap (λ t. toldLine t (c8 .read-line .last .1 .0)) (sym (c4 .t .given .1)) ∙ c8 .read-line .ensures) in
     record {
       inside = omega (arith, b .1);
-      lines = lines-at (c .before .before .before .before .before .before .before .before .before .before .before .before .before .before .before .before .before .before .args .text .now) 0 _ (b .0) (b .1) ∙ ap (λ x. x ∷ linesOf (cut 10 (drop (c .before .before .before .before .before .before .before .before .before .before .before .before .e .given .0 .0 + 1) (c .before .before .before .before .before .before .before .before .before .before .before .before .before .before .before .before .before .before .args .text .now)))) o;
+      lines = lines-at (args .text .now) 0 _ (b .0) (b .1) ∙ ap (λ x. x ∷ linesOf (cut 10 (drop (c12 .e .given .0 .0 + 1) (args .text .now)))) o;
       window = sym (c .before .keeps .ensures) ∙ c .if2 .taken;
     }
 
@@ -69,26 +82,47 @@ same-length-2 : tie.Need-same-length-2
 same-length-2 c = search needs
 
 returns-3 : tie.Need-returns-3
-returns-3 c = let b = ends-at (c .before .before .before .before .before .before .before .before .before .before .before .before .before .before .before .before .before .before .args .text .now) 0 _ (c .before .before .before .before .before .before .before .before .before .before .before .before .before .before .line-end .ensures) _ (c .before .before .before .before .before .before .before .before .before .before .before .before .e .given .1) in
-    let o = is-tender 0 _ _ _ (ap (λ t. toldLine t (c .before .before .before .before .before .before .before .before .read-line .last .1 .0)) (sym (c .before .before .before .before .t .given .1)) ∙ c .before .before .before .before .before .before .before .before .read-line .ensures) in
-    first-unlawful _ _ _ (lines-at (c .before .before .before .before .before .before .before .before .before .before .before .before .before .before .before .before .before .before .args .text .now) 0 _ (b .0) (b .1)) _ o (sym (c .before .keeps .ensures) ∙ c .if2 .left)
+returns-3 c =
+    let c4 = c .before .before .before .before in
+    let c8 = c4 .before .before .before .before in
+    let c12 = c8 .before .before .before .before in
+    let c14 = c12 .before .before in
+    let c18 = c14 .before .before .before .before in
+    let args = c18 .args in
+    let b = ends-at (args .text .now) 0 _ (c14 .line-end .ensures) _ (c12 .e .given .1) in
+    let o = is-tender 0 _ _ _ (ap (λ t. toldLine t (c8 .read-line .last .1 .0)) (sym (c4 .t .given .1)) ∙ c8 .read-line .ensures) in
+    first-unlawful _ _ _ (lines-at (args .text .now) 0 _ (b .0) (b .1)) _ o (sym (c .before .keeps .ensures) ∙ c .if2 .left)
 
 same-length-3 : tie.Need-same-length-3
 same-length-3 c = search needs
 
 returns-4 : tie.Need-returns-4
-returns-4 c = let b = ends-at (c .before .before .before .before .before .before .before .before .before .before .before .before .before .before .args .text .now) 0 _ (c .before .before .before .before .before .before .before .before .before .before .line-end .ensures) _ (c .before .before .before .before .before .before .before .before .e .given .1) in
-    first-bid _ _ _ (lines-at (c .before .before .before .before .before .before .before .before .before .before .before .before .before .before .args .text .now) 0 _ (b .0) (b .1)) 0 _ _ _ _ (ap (λ t. toldLine t (c .before .before .before .before .read-line .last .1 .0)) (sym (c .enum-told .given .1)) ∙ c .before .before .before .before .read-line .ensures)
+returns-4 c =
+    let c4 = c .before .before .before .before in
+    let c8 = c4 .before .before .before .before in
+    let c10 = c8 .before .before in
+    let c14 = c10 .before .before .before .before in
+    let args = c14 .args in
+    let b = ends-at (args .text .now) 0 _ (c10 .line-end .ensures) _ (c8 .e .given .1) in
+    first-bid _ _ _ (lines-at (args .text .now) 0 _ (b .0) (b .1)) 0 _ _ _ _ (ap (λ t. toldLine t (c4 .read-line .last .1 .0)) (sym (c .enum-told .given .1)) ∙ c4 .read-line .ensures)
 
 same-length-4 : tie.Need-same-length-4
 same-length-4 c = search needs
 
 returns-5 : tie.Need-returns-5
-returns-5 c = let b = ends-at (c .before .before .before .before .before .before .before .before .before .before .before .before .before .before .args .text .now) 0 _ (c .before .before .before .before .before .before .before .before .before .before .line-end .ensures) _ (c .before .before .before .before .before .before .before .before .e .given .1) in
-    first-broken _ _ _ (lines-at (c .before .before .before .before .before .before .before .before .before .before .before .before .before .before .args .text .now) 0 _ (b .0) (b .1)) 0 _ (ap (λ t. toldLine t (c .before .before .before .before .read-line .last .1 .0)) (sym (c .enum-told2 .given .1)) ∙ c .before .before .before .before .read-line .ensures)
+returns-5 c =
+    let c4 = c .before .before .before .before in
+    let c8 = c4 .before .before .before .before in
+    let c10 = c8 .before .before in
+    let c14 = c10 .before .before .before .before in
+    let args = c14 .args in
+    let b = ends-at (args .text .now) 0 _ (c10 .line-end .ensures) _ (c8 .e .given .1) in
+    first-broken _ _ _ (lines-at (args .text .now) 0 _ (b .0) (b .1)) 0 _ (ap (λ t. toldLine t (c4 .read-line .last .1 .0)) (sym (c .enum-told2 .given .1)) ∙ c4 .read-line .ensures)
 
 returns-6 : tie.Need-returns-6
-returns-6 c = first-odd _ (ends-broken (c .before .before .before .before .before .before .args .text .now) 0 _ (c .before .before .line-end .ensures) (c .enum-told3 .given .1))
+returns-6 c =
+    let c6 = c .before .before .before .before .before .before in
+    first-odd _ (ends-broken (c6 .args .text .now) 0 _ (c .before .before .line-end .ensures) (c .enum-told3 .given .1))
 
 pub read-first-spec : {M : Type 1} → statement M
 read-first-spec =

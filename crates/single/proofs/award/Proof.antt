@@ -10,7 +10,10 @@ slice-aggregate-by-start : tie.Need-slice-aggregate-by-start
 slice-aggregate-by-start c = search needs
 
 by-start-requires : tie.Need-by-start-requires
-by-start-requires c κs = ((omega (arith, c .before .before .before .before .before .before .pre .0), omega (arith, c .before .before .before .before .before .before .pre .0), omega (arith, c .before .before .before .before .before .before .pre .0), omega (arith, c .before .before .before .before .before .before .pre .0)), λ i l. omega (arith, c .before .before .before .before .before .before .pre .1 .1 .0 i l))
+by-start-requires c κs =
+    let c6 = c .before .before .before .before .before .before in
+    let pre = c6 .pre in
+    ((omega (arith, pre .0), omega (arith, pre .0), omega (arith, pre .0), omega (arith, pre .0)), λ i l. omega (arith, pre .1 .1 .0 i l))
 
 slice-aggregate-winners : tie.Need-slice-aggregate-winners
 slice-aggregate-winners c = search needs
@@ -19,8 +22,12 @@ slice-aggregate-winners-2 : tie.Need-slice-aggregate-winners-2
 slice-aggregate-winners-2 c = search needs
 
 winners-requires : tie.Need-winners-requires
-winners-requires c κs = let b = sum-most (c .before .before .before .before .before .before .before .before .before .before .before .args .prices .now) (c .before .before .before .before .before .before .before .before .before .before .before .pre .1 .1 .1) in
-    (record { starts = omega (arith, c .before .before .before .before .before .before .before .before .before .before .before .pre .0); ends = omega (arith, c .before .before .before .before .before .before .before .before .before .before .before .pre .0); sorted = c .before .before .before .before .by-start .ensures }, ((omega (arith, c .before .before .before .before .before .before .before .before .before .before .before .pre .0), omega (arith, c .before .before .before .before .before .before .before .before .before .before .before .pre .0, c .before .before .before .before .by-start .kept), omega (arith, c .before .before .before .before .before .before .before .before .before .before .before .pre .0), omega (arith, c .before .before .before .before .before .before .before .before .before .before .before .pre .1 .0), omega (arith, b, c .before .before .before .before .before .before .before .before .before .before .before .pre .0)), λ i l. omega (arith, c .before .before .before .before .before .before .before .before .before .before .before .pre .1 .1 .0 i l)))
+winners-requires c κs =
+    let c4 = c .before .before .before .before in
+    let c11 = c4 .before .before .before .before .before .before .before in
+    let pre = c11 .pre in
+    let b = sum-most (c11 .args .prices .now) (pre .1 .1 .1) in
+    (record { starts = omega (arith, pre .0); ends = omega (arith, pre .0); sorted = c4 .by-start .ensures }, ((omega (arith, pre .0), omega (arith, pre .0, c4 .by-start .kept), omega (arith, pre .0), omega (arith, pre .1 .0), omega (arith, b, pre .0)), λ i l. omega (arith, pre .1 .1 .0 i l)))
 
 slice-aggregate-payments : tie.Need-slice-aggregate-payments
 slice-aggregate-payments c = search needs
@@ -29,12 +36,21 @@ slice-aggregate-payments-2 : tie.Need-slice-aggregate-payments-2
 slice-aggregate-payments-2 c = search needs
 
 payments-requires : tie.Need-payments-requires
-payments-requires c κs = let b = sum-most (c .before .before .before .before .before .before .before .before .before .before .before .before .before .before .before .before .before .before .before .args .prices .now) (c .before .before .before .before .before .before .before .before .before .before .before .before .before .before .before .before .before .before .before .pre .1 .1 .1) in
-    (record { starts = omega (arith, c .before .before .before .before .before .before .before .before .before .before .before .before .before .before .before .before .before .before .before .pre .0); ends = omega (arith, c .before .before .before .before .before .before .before .before .before .before .before .before .before .before .before .before .before .before .before .pre .0); sorted = c .before .before .before .before .before .before .before .before .before .before .before .before .by-start .ensures }, ((omega (arith, c .before .before .before .before .before .before .before .before .before .before .before .before .before .before .before .before .before .before .before .pre .0), omega (arith, c .before .before .before .before .before .before .before .before .before .before .before .before .before .before .before .before .before .before .before .pre .0, c .before .before .before .before .before .before .before .before .before .before .before .before .by-start .kept), omega (arith, c .before .before .before .before .before .before .before .before .before .before .before .before .before .before .before .before .before .before .before .pre .0, c .before .before .before .before .before .before .before .winners .kept), omega (arith, c .before .before .before .before .before .before .before .before .before .before .before .before .before .before .before .before .before .before .before .pre .0)), ((omega (arith, c .before .before .before .before .before .before .before .before .before .before .before .before .before .before .before .before .before .before .before .pre .1 .0, c .before .before .before .before .before .before .before .winners .kept), omega (arith, c .before .before .before .before .before .before .before .before .before .before .before .before .before .before .before .before .before .before .before .pre .1 .0), omega (arith, b, c .before .before .before .before .before .before .before .before .before .before .before .before .before .before .before .before .before .before .before .pre .0), selected-all _ _ _ _ _ _ _ _ (c .before .before .before .before .before .before .before .winners .ensures)), (selected-flags _ _ _ _ _ _ _ _ (c .before .before .before .before .before .before .before .winners .ensures), (c .before .before .before .before .before .before .before .before .before .before .before .before .before .before .before .before .before .before .before .pre .1 .1 .0, c .before .before .before .before .before .before .before .winners .ensures .costs-are)))))
+payments-requires c κs =
+    let c7 = c .before .before .before .before .before .before .before in
+    let c12 = c7 .before .before .before .before .before in
+    let c19 = c12 .before .before .before .before .before .before .before in
+    let pre = c19 .pre in
+    let b = sum-most (c19 .args .prices .now) (pre .1 .1 .1) in
+    (record { starts = omega (arith, pre .0); ends = omega (arith, pre .0); sorted = c12 .by-start .ensures }, ((omega (arith, pre .0), omega (arith, pre .0, c12 .by-start .kept), omega (arith, pre .0, c7 .winners .kept), omega (arith, pre .0)), ((omega (arith, pre .1 .0, c7 .winners .kept), omega (arith, pre .1 .0), omega (arith, b, pre .0), selected-all _ _ _ _ _ _ _ _ (c7 .winners .ensures)), (selected-flags _ _ _ _ _ _ _ _ (c7 .winners .ensures), (pre .1 .1 .0, c7 .winners .ensures .costs-are)))))
 
 total-requires : tie.Need-total-requires
-total-requires c κs = let b = sum-most (c .before .before .before .before .before .before .before .before .before .before .before .before .before .before .before .before .before .before .before .before .before .before .before .args .prices .now) (c .before .before .before .before .before .before .before .before .before .before .before .before .before .before .before .before .before .before .before .before .before .before .before .pre .1 .1 .1) in
-    ((omega (arith, c .before .before .before .before .before .before .before .before .before .before .before .before .before .before .before .before .before .before .before .before .before .before .before .pre .1 .0, c .before .before .before .payments .kept), omega (arith, c .before .before .before .before .before .before .before .before .before .before .before .before .before .before .before .before .before .before .before .before .before .before .before .pre .0)), λ i l. omega (arith, c .before .before .before .payments .ensures .values i l, pays-most (c .before .before .before .before .before .before .before .before .before .before .before .before .before .before .before .before .before .before .before .before .before .before .before .args .starts .now) (c .before .before .before .before .before .before .before .before .before .before .before .before .before .before .before .before .before .before .before .before .before .before .before .args .ends .now) (c .before .before .before .before .before .before .before .before .before .before .before .before .before .before .before .before .before .before .before .before .before .before .before .args .prices .now) (c .before .before .before .before .before .before .before .before .before .before .before .before .before .before .before .before .before .before .before .before .before .before .before .args .cells) i, b, c .before .before .before .before .before .before .before .before .before .before .before .before .before .before .before .before .before .before .before .before .before .before .before .pre .0))
+total-requires c κs =
+    let c23 = c .before .before .before .before .before .before .before .before .before .before .before .before .before .before .before .before .before .before .before .before .before .before .before in
+    let args = c23 .args in
+    let pre = c23 .pre in
+    let b = sum-most (args .prices .now) (pre .1 .1 .1) in
+    ((omega (arith, pre .1 .0, c .before .before .before .payments .kept), omega (arith, pre .0)), λ i l. omega (arith, c .before .before .before .payments .ensures .values i l, pays-most (args .starts .now) (args .ends .now) (args .prices .now) (args .cells) i, b, pre .0))
 
 same-length : tie.Need-same-length
 same-length c = search needs
@@ -43,7 +59,11 @@ same-length-2 : tie.Need-same-length-2
 same-length-2 c = search needs
 
 returns : tie.Need-returns
-returns c = settled _ _ _ _ _ _ _ _ _ _ _ (omega (arith, c .before .before .before .before .before .before .before .before .before .before .before .before .before .before .before .before .before .before .before .before .before .before .before .before .pre .1 .0)) (c .before .before .before .before .before .before .before .before .before .before .before .before .winners .ensures) (c .before .before .before .before .payments .ensures) (c .total .ensures)
+returns c =
+    let c4 = c .before .before .before .before in
+    let c12 = c4 .before .before .before .before .before .before .before .before in
+    let c24 = c12 .before .before .before .before .before .before .before .before .before .before .before .before in
+    settled _ _ _ _ _ _ _ _ _ _ _ (omega (arith, c24 .pre .1 .0)) (c12 .winners .ensures) (c4 .payments .ensures) (c .total .ensures)
 
 pub award-spec : {M : Type 1} → statement M
 award-spec =

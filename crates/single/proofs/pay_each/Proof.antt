@@ -27,37 +27,87 @@ shared-slice-read-i : tie.Need-shared-slice-read-i Inv-loop μ-loop
 shared-slice-read-i c = search needs
 
 mul-pay : tie.Need-mul-pay Inv-loop μ-loop
-mul-pay c = omega (arith, c .before .before .before .before .before .before .before .before .before .before .before .before .before .before .before .before .before .pre .1 .1 .0, c .before .before .before .before .before .before .before .before .before .before .before .before .before .before .before .before .before .pre .0 .sorted .bids (c .before .before .before .before .before .loop .q) (c .before .before .before .before .loop-test .taken))
+mul-pay c =
+    let c4 = c .before .before .before .before in
+    let c5 = c4 .before in
+    let c17 = c5 .before .before .before .before .before .before .before .before .before .before .before .before in
+    let pre = c17 .pre in
+    omega (arith, pre .1 .1 .0, pre .0 .sorted .bids (c5 .loop .q) (c4 .loop-test .taken))
 
 shared-slice-read-pay : tie.Need-shared-slice-read-pay Inv-loop μ-loop
-shared-slice-read-pay c = omega (arith, c .before .before .before .before .before .before .before .before .before .before .before .before .before .before .before .before .before .before .pre .1 .1 .0, c .before .before .before .before .before .before .before .before .before .before .before .before .before .before .before .before .before .before .pre .0 .sorted .bids (c .before .before .before .before .before .before .loop .q) (c .before .before .before .before .before .loop-test .taken))
+shared-slice-read-pay c =
+    let c5 = c .before .before .before .before .before in
+    let c6 = c5 .before in
+    let c18 = c6 .before .before .before .before .before .before .before .before .before .before .before .before in
+    let pre = c18 .pre in
+    omega (arith, pre .1 .1 .0, pre .0 .sorted .bids (c6 .loop .q) (c5 .loop-test .taken))
 
 pay-requires : tie.Need-pay-requires Inv-loop μ-loop
-pay-requires c κs = (c .before .before .before .before .before .before .before .before .before .before .before .before .before .before .before .before .before .before .pre .0, ((omega (arith, c .before .before .before .before .before .before .before .before .before .before .before .before .before .before .before .before .before .before .pre .1 .0), omega (arith, c .before .before .before .before .before .before .before .before .before .before .before .before .before .before .before .before .before .before .pre .1 .0), omega (arith, c .before .before .before .before .before .before .before .before .before .before .before .before .before .before .before .before .before .before .pre .1 .0), omega (arith, c .before .before .before .before .before .before .before .before .before .before .before .before .before .before .before .before .before .before .pre .1 .0), omega (arith, c .before .before .before .before .before .before .before .before .before .before .before .before .before .before .before .before .before .before .pre .1 .0, c .before .before .before .before .before .before .loop .inv .1), omega (arith, c .before .before .before .before .before .before .before .before .before .before .before .before .before .before .before .before .before .before .pre .1 .0, c .before .before .before .before .before .before .loop .inv .2), omega (arith, c .before .before .before .before .before .before .before .before .before .before .before .before .before .before .before .before .before .before .pre .1 .0, c .before .before .before .before .before .before .loop .inv .3)), ((c .before .before .before .before .before .loop-test .taken, c .before .before .before .before .before .before .before .before .before .before .before .before .before .before .before .before .before .before .pre .1 .1 .0 .2), ((c .before .before .before .before .before .before .before .before .before .before .before .before .before .before .before .before .before .before .pre .1 .1 .1 .0 _ (c .before .before .before .before .before .before .before .before .before .before .before .before .before .before .before .before .before .before .pre .0 .sorted .bids (c .before .before .before .before .before .before .loop .q) (c .before .before .before .before .before .loop-test .taken)), c .before .before .before .before .before .before .before .before .before .before .before .before .before .before .before .before .before .before .pre .1 .1 .0 .3), (c .before .before .before .before .before .before .before .before .before .before .before .before .before .before .before .before .before .before .pre .1 .1 .1 .1 .0, (c .before .before .before .before .before .before .before .before .before .before .before .before .before .before .before .before .before .before .pre .1 .1 .1 .1 .1, c .before .before .before .before .before .before .loop .inv .5))))))
+pay-requires c κs =
+    let c5 = c .before .before .before .before .before in
+    let c6 = c5 .before in
+    let c18 = c6 .before .before .before .before .before .before .before .before .before .before .before .before in
+    let pre = c18 .pre in
+    (pre .0, ((omega (arith, pre .1 .0), omega (arith, pre .1 .0), omega (arith, pre .1 .0), omega (arith, pre .1 .0), omega (arith, pre .1 .0, c6 .loop .inv .1), omega (arith, pre .1 .0, c6 .loop .inv .2), omega (arith, pre .1 .0, c6 .loop .inv .3)), ((c5 .loop-test .taken, pre .1 .1 .0 .2), ((pre .1 .1 .1 .0 _ (pre .0 .sorted .bids (c6 .loop .q) (c5 .loop-test .taken)), pre .1 .1 .0 .3), (pre .1 .1 .1 .1 .0, (pre .1 .1 .1 .1 .1, c6 .loop .inv .5))))))
 
 mul-cents : tie.Need-mul-cents Inv-loop μ-loop
-mul-cents c = omega (arith, c .before .before .before .before .before .before .before .before .before .before .before .before .before .loop .inv .4, c .before .before .before .before .before .before .before .before .before .before .before .before .before .before .before .before .before .before .before .before .before .before .before .before .before .pre .1 .1 .0, c .before .before .before .before .before .before .before .before .before .before .before .before .before .before .before .before .before .before .before .before .before .before .before .before .before .pre .0 .sorted .bids (c .before .before .before .before .before .before .before .before .before .before .before .before .before .loop .q) (c .before .before .before .before .before .before .before .before .before .before .before .before .loop-test .taken))
+mul-cents c =
+    let c12 = c .before .before .before .before .before .before .before .before .before .before .before .before in
+    let c13 = c12 .before in
+    let c25 = c13 .before .before .before .before .before .before .before .before .before .before .before .before in
+    let pre = c25 .pre in
+    omega (arith, c13 .loop .inv .4, pre .1 .1 .0, pre .0 .sorted .bids (c13 .loop .q) (c12 .loop-test .taken))
 
 slice-write-cents : tie.Need-slice-write-cents Inv-loop μ-loop
-slice-write-cents c = omega (arith, c .before .before .before .before .before .before .before .before .before .before .before .before .before .loop .inv .4, c .before .before .before .before .before .before .before .before .before .before .before .before .before .before .before .before .before .before .before .before .before .before .before .before .before .pre .1 .1 .0, c .before .before .before .before .before .before .before .before .before .before .before .before .before .before .before .before .before .before .before .before .before .before .before .before .before .pre .0 .sorted .bids (c .before .before .before .before .before .before .before .before .before .before .before .before .before .loop .q) (c .before .before .before .before .before .before .before .before .before .before .before .before .loop-test .taken))
+slice-write-cents c =
+    let c12 = c .before .before .before .before .before .before .before .before .before .before .before .before in
+    let c13 = c12 .before in
+    let c25 = c13 .before .before .before .before .before .before .before .before .before .before .before .before in
+    let pre = c25 .pre in
+    omega (arith, c13 .loop .inv .4, pre .1 .1 .0, pre .0 .sorted .bids (c13 .loop .q) (c12 .loop-test .taken))
 
 mul-live : tie.Need-mul-live Inv-loop μ-loop
-mul-live c = omega (arith, c .before .before .before .before .before .before .pay .ensures .1 .reach .few, c .before .before .before .before .before .before .before .before .before .before .before .before .loop-test .taken, c .before .before .before .before .before .before .before .before .before .before .before .before .before .loop .inv .1, c .before .before .before .before .before .before .pay .kept, c .before .before .before .before .before .before .before .before .before .before .before .before .before .before .before .before .before .before .before .before .before .before .before .before .before .pre .1 .0)
+mul-live c =
+    let c6 = c .before .before .before .before .before .before in
+    let c12 = c6 .before .before .before .before .before .before in
+    let c13 = c12 .before in
+    let c25 = c13 .before .before .before .before .before .before .before .before .before .before .before .before in
+    omega (arith, c6 .pay .ensures .1 .reach .few, c12 .loop-test .taken, c13 .loop .inv .1, c6 .pay .kept, c25 .pre .1 .0)
 
 slice-write-live : tie.Need-slice-write-live Inv-loop μ-loop
-slice-write-live c = omega (arith, c .before .before .before .before .before .before .pay .ensures .1 .reach .few, c .before .before .before .before .before .before .before .before .before .before .before .before .loop-test .taken, c .before .before .before .before .before .before .before .before .before .before .before .before .before .loop .inv .1, c .before .before .before .before .before .before .pay .kept, c .before .before .before .before .before .before .before .before .before .before .before .before .before .before .before .before .before .before .before .before .before .before .before .before .before .pre .1 .0)
+slice-write-live c =
+    let c6 = c .before .before .before .before .before .before in
+    let c12 = c6 .before .before .before .before .before .before in
+    let c13 = c12 .before in
+    let c25 = c13 .before .before .before .before .before .before .before .before .before .before .before .before in
+    omega (arith, c6 .pay .ensures .1 .reach .few, c12 .loop-test .taken, c13 .loop .inv .1, c6 .pay .kept, c25 .pre .1 .0)
 
 add-m : tie.Need-add-m Inv-loop μ-loop
-add-m c = omega (arith, c .before .before .before .before .before .before .pay .ensures .1 .reach .few, c .before .before .before .before .before .before .before .before .before .before .before .before .loop-test .taken, c .before .before .before .before .before .before .before .before .before .before .before .before .before .before .before .before .before .before .before .before .before .before .before .before .before .pre .1 .0)
+add-m c =
+    let c6 = c .before .before .before .before .before .before in
+    let c12 = c6 .before .before .before .before .before .before in
+    let c25 = c12 .before .before .before .before .before .before .before .before .before .before .before .before .before in
+    omega (arith, c6 .pay .ensures .1 .reach .few, c12 .loop-test .taken, c25 .pre .1 .0)
 
 add-q : tie.Need-add-q Inv-loop μ-loop
-add-q c = omega (arith, c .before .before .before .before .before .before .before .before .before .before .before .before .loop-test .taken, c .before .before .before .before .before .before .before .before .before .before .before .before .before .before .before .before .before .before .before .before .before .before .before .before .before .pre .1 .0)
+add-q c =
+    let c12 = c .before .before .before .before .before .before .before .before .before .before .before .before in
+    let c25 = c12 .before .before .before .before .before .before .before .before .before .before .before .before .before in
+    omega (arith, c12 .loop-test .taken, c25 .pre .1 .0)
 
 loop-less : tie.Need-loop-less Inv-loop μ-loop
-loop-less c = omega (arith, c .before .before .before .before .before .before .before .before .before .before .before .before .loop-test .taken)
+loop-less c =
+    let c12 = c .before .before .before .before .before .before .before .before .before .before .before .before in
+    omega (arith, c12 .loop-test .taken)
 
 loop-again : tie.Need-loop-again Inv-loop μ-loop
-loop-again c = (omega (arith, c .before .before .before .before .before .before .before .before .before .before .before .before .loop-test .taken), simp length-set (omega (arith, c .before .before .before .before .before .before .before .before .before .before .before .before .before .loop .inv .1, c .before .before .before .before .before .before .pay .kept)), omega (arith, c .before .before .before .before .before .before .before .before .before .before .before .before .before .loop .inv .2, c .before .before .before .before .before .before .pay .kept), omega (arith, c .before .before .before .before .before .before .before .before .before .before .before .before .before .loop .inv .3, c .before .before .before .before .before .before .pay .kept), simp length-set (omega (arith, c .before .before .before .before .before .before .before .before .before .before .before .before .before .loop .inv .4)), waiting-more _ _ _ _ _ _ _ (omega (arith, c .before .before .before .before .before .before .pay .ensures .1 .reach .few, c .before .before .before .before .before .before .before .before .before .before .before .before .loop-test .taken, c .before .before .before .before .before .before .before .before .before .before .before .before .before .loop .inv .1, c .before .before .before .before .before .before .pay .kept, c .before .before .before .before .before .before .before .before .before .before .before .before .before .before .before .before .before .before .before .before .before .before .before .before .before .pre .1 .0)) (c .before .before .before .before .before .before .pay .ensures .1), paid-more _ _ _ _ _ _ _ (c .before .before .before .before .before .before .before .before .before .before .before .before .before .before .before .before .before .before .before .before .before .before .before .before .before .pre .0 .sorted .bids (c .before .before .before .before .before .before .before .before .before .before .before .before .before .loop .q) (c .before .before .before .before .before .before .before .before .before .before .before .before .loop-test .taken)) (omega (arith, c .before .before .before .before .before .before .before .before .before .before .before .before .before .loop .inv .4, c .before .before .before .before .before .before .before .before .before .before .before .before .before .before .before .before .before .before .before .before .before .before .before .before .before .pre .1 .1 .0)) (c .before .before .before .before .before .before .pay .ensures .0) (c .before .before .before .before .before .before .before .before .before .before .before .before .before .loop .inv .6))
+loop-again c =
+    let c6 = c .before .before .before .before .before .before in
+    let c12 = c6 .before .before .before .before .before .before in
+    let c13 = c12 .before in
+    let c25 = c13 .before .before .before .before .before .before .before .before .before .before .before .before in
+    let pre = c25 .pre in
+    (omega (arith, c12 .loop-test .taken), simp length-set (omega (arith, c13 .loop .inv .1, c6 .pay .kept)), omega (arith, c13 .loop .inv .2, c6 .pay .kept), omega (arith, c13 .loop .inv .3, c6 .pay .kept), simp length-set (omega (arith, c13 .loop .inv .4)), waiting-more _ _ _ _ _ _ _ (omega (arith, c6 .pay .ensures .1 .reach .few, c12 .loop-test .taken, c13 .loop .inv .1, c6 .pay .kept, pre .1 .0)) (c6 .pay .ensures .1), paid-more _ _ _ _ _ _ _ (pre .0 .sorted .bids (c13 .loop .q) (c12 .loop-test .taken)) (omega (arith, c13 .loop .inv .4, pre .1 .1 .0)) (c6 .pay .ensures .0) (c13 .loop .inv .6))
 
 same-length : tie.Need-same-length Inv-loop μ-loop
 same-length c = search needs
@@ -72,7 +122,9 @@ same-length-4 : tie.Need-same-length-4 Inv-loop μ-loop
 same-length-4 c = search needs
 
 returns : tie.Need-returns Inv-loop μ-loop
-returns c = paid-all _ _ _ _ _ _ _ (c .before .before .before .before .before .before .before .before .before .before .before .before .before .pre .0) (c .before .loop .inv .4) _ (le-antisymm (c .before .loop .inv .0) (c .loop-test .left)) (c .before .loop .inv .6)
+returns c =
+    let c13 = c .before .before .before .before .before .before .before .before .before .before .before .before .before in
+    paid-all _ _ _ _ _ _ _ (c13 .pre .0) (c .before .loop .inv .4) _ (le-antisymm (c .before .loop .inv .0) (c .loop-test .left)) (c .before .loop .inv .6)
 
 pub pay-each-spec : {M : Type 1} → statement M
 pay-each-spec =

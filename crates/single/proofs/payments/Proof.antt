@@ -8,7 +8,10 @@ slice-aggregate-after : tie.Need-slice-aggregate-after
 slice-aggregate-after c = search needs
 
 after-requires : tie.Need-after-requires
-after-requires c κs = ((omega (arith, c .before .before .before .before .before .before .before .before .pre .1 .0), c .before .before .before .before .before .before .before .before .pre .0 .starts, c .before .before .before .before .before .before .before .before .pre .0 .ends, omega (arith, c .before .before .before .before .before .before .before .before .pre .1 .0)), ((omega (arith, c .before .before .before .before .before .before .before .before .pre .1 .0), omega (arith, c .before .before .before .before .before .before .before .before .pre .1 .1 .0)), c .before .before .before .before .before .before .before .before .pre .1 .1 .1 .1 .0))
+after-requires c κs =
+    let c8 = c .before .before .before .before .before .before .before .before in
+    let pre = c8 .pre in
+    ((omega (arith, pre .1 .0), pre .0 .starts, pre .0 .ends, omega (arith, pre .1 .0)), ((omega (arith, pre .1 .0), omega (arith, pre .1 .1 .0)), pre .1 .1 .1 .1 .0))
 
 slice-aggregate-pay-each : tie.Need-slice-aggregate-pay-each
 slice-aggregate-pay-each c = search needs
@@ -23,7 +26,11 @@ slice-aggregate-pay-each-4 : tie.Need-slice-aggregate-pay-each-4
 slice-aggregate-pay-each-4 c = search needs
 
 pay-each-requires : tie.Need-pay-each-requires
-pay-each-requires c κs = (c .before .before .before .before .before .before .before .before .before .before .before .before .before .before .before .pre .0, ((omega (arith, c .before .before .before .before .before .before .before .before .before .before .before .before .before .before .before .pre .1 .0), omega (arith, c .before .before .before .before .before .before .before .before .before .before .before .before .before .before .before .pre .1 .0), omega (arith, c .before .before .before .before .before .before .before .before .before .before .before .before .before .before .before .pre .1 .0), omega (arith, c .before .before .before .before .before .before .before .before .before .before .before .before .before .before .before .pre .1 .0, c .before .before .before .before .before .before .after .kept), omega (arith, c .before .before .before .before .before .before .before .before .before .before .before .before .before .before .before .pre .1 .0), omega (arith, c .before .before .before .before .before .before .before .before .before .before .before .before .before .before .before .pre .1 .0), omega (arith, c .before .before .before .before .before .before .before .before .before .before .before .before .before .before .before .pre .1 .0)), (c .before .before .before .before .before .before .before .before .before .before .before .before .before .before .before .pre .1 .1 .0, (c .before .before .before .before .before .before .before .before .before .before .before .before .before .before .before .pre .1 .1 .1 .0, (c .before .before .before .before .before .before .before .before .before .before .before .before .before .before .before .pre .1 .1 .1 .1 .0, (c .before .before .before .before .before .before .before .before .before .before .before .before .before .before .before .pre .1 .1 .1 .1 .1, c .before .before .before .before .before .before .after .ensures))))))
+pay-each-requires c κs =
+    let c6 = c .before .before .before .before .before .before in
+    let c15 = c6 .before .before .before .before .before .before .before .before .before in
+    let pre = c15 .pre in
+    (pre .0, ((omega (arith, pre .1 .0), omega (arith, pre .1 .0), omega (arith, pre .1 .0), omega (arith, pre .1 .0, c6 .after .kept), omega (arith, pre .1 .0), omega (arith, pre .1 .0), omega (arith, pre .1 .0)), (pre .1 .1 .0, (pre .1 .1 .1 .0, (pre .1 .1 .1 .1 .0, (pre .1 .1 .1 .1 .1, c6 .after .ensures))))))
 
 same-length : tie.Need-same-length
 same-length c = search needs

@@ -25,7 +25,9 @@ shared-slice-read-s : tie.Need-shared-slice-read-s Inv-loop μ-loop
 shared-slice-read-s c = search needs
 
 add-s : tie.Need-add-s Inv-loop μ-loop
-add-s c = omega (arith, c .before .before .loop .inv .1, c .before .before .before .pre .1 (c .before .before .loop .i) (c .before .loop-test .taken), c .before .before .before .pre .0)
+add-s c =
+    let pre = c .before .before .before .pre in
+    omega (arith, c .before .before .loop .inv .1, pre .1 (c .before .before .loop .i) (c .before .loop-test .taken), pre .0)
 
 add-i : tie.Need-add-i Inv-loop μ-loop
 add-i c = search needs

@@ -23,7 +23,11 @@ slice-aggregate-by-start-2 : tie.Need-slice-aggregate-by-start-2
 slice-aggregate-by-start-2 c = search needs
 
 by-start-requires : tie.Need-by-start-requires
-by-start-requires c κs = ((omega (arith, c .before .before .before .before .before .before .before .before .before .before .before .pre .0), omega (arith, c .before .before .before .before .before .before .before .before .before .before .before .pre .0, c .before .before .before .before .mirror .kept), omega (arith, c .before .before .before .before .before .before .before .before .before .before .before .pre .1 .0), omega (arith, c .before .before .before .before .before .before .before .before .before .before .before .pre .0)), λ i l. omega (arith, c .before .before .before .before .mirror .ensures .starts i l))
+by-start-requires c κs =
+    let c4 = c .before .before .before .before in
+    let c11 = c4 .before .before .before .before .before .before .before in
+    let pre = c11 .pre in
+    ((omega (arith, pre .0), omega (arith, pre .0, c4 .mirror .kept), omega (arith, pre .1 .0), omega (arith, pre .0)), λ i l. omega (arith, c4 .mirror .ensures .starts i l))
 
 mul-costs : tie.Need-mul-costs
 mul-costs c = search needs
@@ -47,13 +51,27 @@ add-run : tie.Need-add-run
 add-run c = search needs
 
 run-requires : tie.Need-run-requires
-run-requires c κs = (record { starts = omega (arith, c .before .before .before .before .before .before .before .before .before .before .before .before .before .before .before .before .before .before .pre .0, c .before .before .before .before .before .before .before .before .before .before .before .mirror .kept); ends = omega (arith, c .before .before .before .before .before .before .before .before .before .before .before .before .before .before .before .before .before .before .pre .0, c .before .before .before .before .before .before .before .before .before .before .before .mirror .kept); sorted = c .before .before .before .before .before .before .by-start .ensures }, ((omega (arith, c .before .before .before .before .before .before .before .before .before .before .before .before .before .before .before .before .before .before .pre .0), omega (arith, c .before .before .before .before .before .before .before .before .before .before .before .before .before .before .before .before .before .before .pre .0, c .before .before .before .before .before .before .by-start .kept), omega (arith, c .before .before .before .before .before .before .before .before .before .before .before .before .before .before .before .before .before .before .pre .0), simp length-set (omega (arith, c .before .before .before .before .before .before .before .before .before .before .before .before .before .before .before .before .before .before .pre .0))), ((omega arith, omega (arith, c .before .before .before .before .before .before .before .before .before .before .before .before .before .before .before .before .before .before .pre .1 .0)), run-all _ _ _ _ _ _ _ (getD-set-same (c .before .before .before .before .before .before .before .before .before .before .before .before .before .before .before .before .before .before .args .costs .now) (length (c .before .before .before .before .before .before .before .before .before .before .before .before .before .before .before .before .before .before .args .prices .now)) 18446744073709551615 0 (omega (arith, c .before .before .before .before .before .before .before .before .before .before .before .before .before .before .before .before .before .before .pre .0))))))
+run-requires c κs =
+    let c6 = c .before .before .before .before .before .before in
+    let c11 = c6 .before .before .before .before .before in
+    let c18 = c11 .before .before .before .before .before .before .before in
+    let args = c18 .args in
+    let pre = c18 .pre in
+    (record { starts = omega (arith, pre .0, c11 .mirror .kept); ends = omega (arith, pre .0, c11 .mirror .kept); sorted = c6 .by-start .ensures }, ((omega (arith, pre .0), omega (arith, pre .0, c6 .by-start .kept), omega (arith, pre .0), simp length-set (omega (arith, pre .0))), ((omega arith, omega (arith, pre .1 .0)), run-all _ _ _ _ _ _ _ (getD-set-same (args .costs .now) (length (args .prices .now)) 18446744073709551615 0 (omega (arith, pre .0))))))
 
 same-length : tie.Need-same-length
-same-length c = omega (arith, c .before .before .before .run .kept, length-set (c .before .before .before .before .before .before .before .before .before .before .before .before .before .before .before .before .before .before .before .before .before .before .args .costs .now) (length (c .before .before .before .before .before .before .before .before .before .before .before .before .before .before .before .before .before .before .before .before .before .before .args .prices .now)) 18446744073709551615)
+same-length c =
+    let c22 = c .before .before .before .before .before .before .before .before .before .before .before .before .before .before .before .before .before .before .before .before .before .before in
+    let args = c22 .args in
+    omega (arith, c .before .before .before .run .kept, length-set (args .costs .now) (length (args .prices .now)) 18446744073709551615)
 
 returns : tie.Need-returns
-returns c = ran-after _ _ _ _ _ _ (record { starts = omega (arith, c .before .before .before .before .before .before .before .before .before .before .before .before .before .before .before .before .before .before .before .before .before .before .pre .0, c .before .before .before .before .before .before .before .before .before .before .before .before .before .before .before .mirror .kept); ends = omega (arith, c .before .before .before .before .before .before .before .before .before .before .before .before .before .before .before .before .before .before .before .before .before .before .pre .0, c .before .before .before .before .before .before .before .before .before .before .before .before .before .before .before .mirror .kept); sorted = c .before .before .before .before .before .before .before .before .before .before .by-start .ensures }) _ _ _ _ (c .before .before .before .before .before .before .before .before .before .before .before .before .before .before .before .mirror .ensures) (c .before .before .before .run .ensures)
+returns c =
+    let c10 = c .before .before .before .before .before .before .before .before .before .before in
+    let c15 = c10 .before .before .before .before .before in
+    let c22 = c15 .before .before .before .before .before .before .before in
+    let pre = c22 .pre in
+    ran-after _ _ _ _ _ _ (record { starts = omega (arith, pre .0, c15 .mirror .kept); ends = omega (arith, pre .0, c15 .mirror .kept); sorted = c10 .by-start .ensures }) _ _ _ _ (c15 .mirror .ensures) (c .before .before .before .run .ensures)
 
 pub after-spec : {M : Type 1} → statement M
 after-spec =

@@ -38,25 +38,40 @@ slice-write-xs : tie.Need-slice-write-xs Inv-loop μ-loop
 slice-write-xs c = omega (arith, c .before .before .loop .inv .4 .thinned .short)
 
 mul-costs : tie.Need-mul-costs Inv-loop μ-loop
-mul-costs c = omega (arith, c .before .before .before .before .before .before .before .before .pre .1 (c .before .before .loop .j) (c .before .loop-test .taken), c .before .before .loop .inv .4 .thinned .rest (c .before .before .loop .j) (omega arith))
+mul-costs c =
+    let c8 = c .before .before .before .before .before .before .before .before in
+    omega (arith, c8 .pre .1 (c .before .before .loop .j) (c .before .loop-test .taken), c .before .before .loop .inv .4 .thinned .rest (c .before .before .loop .j) (omega arith))
 
 shared-slice-read-costs : tie.Need-shared-slice-read-costs Inv-loop μ-loop
-shared-slice-read-costs c = omega (arith, c .before .before .before .before .before .before .before .before .before .pre .1 (c .before .before .before .loop .j) (c .before .before .loop-test .taken), c .before .before .before .loop .inv .4 .thinned .rest (c .before .before .before .loop .j) (omega arith))
+shared-slice-read-costs c =
+    let c9 = c .before .before .before .before .before .before .before .before .before in
+    omega (arith, c9 .pre .1 (c .before .before .before .loop .j) (c .before .before .loop-test .taken), c .before .before .before .loop .inv .4 .thinned .rest (c .before .before .before .loop .j) (omega arith))
 
 mul-costs-2 : tie.Need-mul-costs-2 Inv-loop μ-loop
-mul-costs-2 c = omega (arith, c .before .before .before .before .before .before .before .before .before .pre .1 (c .before .before .before .loop .j) (c .before .before .loop-test .taken), c .before .before .before .loop .inv .4 .thinned .rest (c .before .before .before .loop .j) (omega arith))
+mul-costs-2 c =
+    let c9 = c .before .before .before .before .before .before .before .before .before in
+    omega (arith, c9 .pre .1 (c .before .before .before .loop .j) (c .before .before .loop-test .taken), c .before .before .before .loop .inv .4 .thinned .rest (c .before .before .before .loop .j) (omega arith))
 
 slice-write-costs : tie.Need-slice-write-costs Inv-loop μ-loop
-slice-write-costs c = omega (arith, c .before .before .before .before .before .before .before .before .before .pre .1 (c .before .before .before .loop .j) (c .before .before .loop-test .taken), c .before .before .before .loop .inv .4 .thinned .rest (c .before .before .before .loop .j) (omega arith))
+slice-write-costs c =
+    let c9 = c .before .before .before .before .before .before .before .before .before in
+    omega (arith, c9 .pre .1 (c .before .before .before .loop .j) (c .before .before .loop-test .taken), c .before .before .before .loop .inv .4 .thinned .rest (c .before .before .before .loop .j) (omega arith))
 
 mul-count : tie.Need-mul-count Inv-loop μ-loop
-mul-count c = omega (arith, c .before .before .before .before .before .before .before .before .before .pre .1 (c .before .before .before .loop .j) (c .before .before .loop-test .taken), c .before .before .before .loop .inv .4 .thinned .rest (c .before .before .before .loop .j) (omega arith))
+mul-count c =
+    let c9 = c .before .before .before .before .before .before .before .before .before in
+    omega (arith, c9 .pre .1 (c .before .before .before .loop .j) (c .before .before .loop-test .taken), c .before .before .before .loop .inv .4 .thinned .rest (c .before .before .before .loop .j) (omega arith))
 
 shared-slice-read-count : tie.Need-shared-slice-read-count Inv-loop μ-loop
-shared-slice-read-count c = omega (arith, c .before .before .before .before .before .before .before .before .before .before .pre .1 (c .before .before .before .before .loop .j) (c .before .before .before .loop-test .taken), c .before .before .before .before .loop .inv .4 .thinned .rest (c .before .before .before .before .loop .j) (omega arith))
+shared-slice-read-count c =
+    let c4 = c .before .before .before .before in
+    let c10 = c4 .before .before .before .before .before .before in
+    omega (arith, c10 .pre .1 (c4 .loop .j) (c .before .before .before .loop-test .taken), c4 .loop .inv .4 .thinned .rest (c4 .loop .j) (omega arith))
 
 count-requires : tie.Need-count-requires Inv-loop μ-loop
-count-requires c κs = omega (arith, c .before .before .before .before .loop .inv .4 .thinned .short)
+count-requires c κs =
+    let c4 = c .before .before .before .before in
+    omega (arith, c4 .loop .inv .4 .thinned .short)
 
 add-j : tie.Need-add-j Inv-loop μ-loop
 add-j c = search needs
@@ -65,7 +80,11 @@ loop-less : tie.Need-loop-less Inv-loop μ-loop
 loop-less c = search needs
 
 loop-again : tie.Need-loop-again Inv-loop μ-loop
-loop-again c = (omega arith, simp length-set (omega arith), simp length-set (omega arith), simp length-set (omega arith), rw (c .count .ensures) (begun-more _ _ _ _ _ _ _ _ _ (omega arith) (omega (arith, c .before .before .before .before .before .loop .inv .4 .thinned .short)) (omega (arith, c .before .before .before .before .before .loop .inv .4 .thinned .short)) (omega (arith, c .before .before .before .before .before .before .before .before .before .before .before .pre .1 (c .before .before .before .before .before .loop .j) (c .before .before .before .before .loop-test .taken), c .before .before .before .before .before .loop .inv .4 .thinned .rest (c .before .before .before .before .before .loop .j) (omega arith))) (c .before .before .before .before .before .loop .inv .4)))
+loop-again c =
+    let c4 = c .before .before .before .before in
+    let c5 = c4 .before in
+    let c11 = c5 .before .before .before .before .before .before in
+    (omega arith, simp length-set (omega arith), simp length-set (omega arith), simp length-set (omega arith), rw (c .count .ensures) (begun-more _ _ _ _ _ _ _ _ _ (omega arith) (omega (arith, c5 .loop .inv .4 .thinned .short)) (omega (arith, c5 .loop .inv .4 .thinned .short)) (omega (arith, c11 .pre .1 (c5 .loop .j) (c4 .loop-test .taken), c5 .loop .inv .4 .thinned .rest (c5 .loop .j) (omega arith))) (c5 .loop .inv .4)))
 
 same-length : tie.Need-same-length Inv-loop μ-loop
 same-length c = search needs

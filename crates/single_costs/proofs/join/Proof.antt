@@ -15,7 +15,9 @@ sub-result : tie.Need-sub-result
 sub-result c = omega (arith, c .before .before .pre .1 (c .if2 .left) .0)
 
 add-result : tie.Need-add-result
-add-result c = omega (arith, c .before .before .pre .0 (c .before .if1 .left), c .before .before .pre .1 (c .if2 .left))
+add-result c =
+    let pre = c .before .before .pre in
+    omega (arith, pre .0 (c .before .if1 .left), pre .1 (c .if2 .left))
 
 returns-3 : tie.Need-returns-3
 returns-3 c = joined-both _ _ _ (c .before .if1 .left) (c .if2 .left)

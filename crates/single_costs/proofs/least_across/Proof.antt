@@ -28,37 +28,84 @@ shared-slice-read-i : tie.Need-shared-slice-read-i Inv-loop μ-loop
 shared-slice-read-i c = search needs
 
 mul-join : tie.Need-mul-join Inv-loop μ-loop
-mul-join c = omega (arith, c .before .before .before .before .before .before .before .before .before .pre .1 .0 (c .before .before .loop .j) (c .before .loop-test .taken), c .before .before .before .before .before .before .before .before .before .pre .0)
+mul-join c =
+    let c9 = c .before .before .before .before .before .before .before .before .before in
+    let pre = c9 .pre in
+    omega (arith, pre .1 .0 (c .before .before .loop .j) (c .before .loop-test .taken), pre .0)
 
 shared-slice-read-join : tie.Need-shared-slice-read-join Inv-loop μ-loop
-shared-slice-read-join c = omega (arith, c .before .before .before .before .before .before .before .before .before .before .pre .1 .0 (c .before .before .before .loop .j) (c .before .before .loop-test .taken), c .before .before .before .before .before .before .before .before .before .before .pre .0)
+shared-slice-read-join c =
+    let c10 = c .before .before .before .before .before .before .before .before .before .before in
+    let pre = c10 .pre in
+    omega (arith, pre .1 .0 (c .before .before .before .loop .j) (c .before .before .loop-test .taken), pre .0)
 
 mul-join-2 : tie.Need-mul-join-2 Inv-loop μ-loop
-mul-join-2 c = omega (arith, c .before .before .before .before .before .before .before .before .before .before .pre .1 .0 (c .before .before .before .loop .j) (c .before .before .loop-test .taken), c .before .before .before .before .before .before .before .before .before .before .pre .0)
+mul-join-2 c =
+    let c10 = c .before .before .before .before .before .before .before .before .before .before in
+    let pre = c10 .pre in
+    omega (arith, pre .1 .0 (c .before .before .before .loop .j) (c .before .before .loop-test .taken), pre .0)
 
 shared-slice-read-join-2 : tie.Need-shared-slice-read-join-2 Inv-loop μ-loop
-shared-slice-read-join-2 c = omega (arith, c .before .before .before .before .before .before .before .before .before .before .before .pre .1 .0 (c .before .before .before .before .loop .j) (c .before .before .before .loop-test .taken), c .before .before .before .before .before .before .before .before .before .before .before .pre .0)
+shared-slice-read-join-2 c =
+    let c4 = c .before .before .before .before in
+    let c11 = c4 .before .before .before .before .before .before .before in
+    let pre = c11 .pre in
+    omega (arith, pre .1 .0 (c4 .loop .j) (c .before .before .before .loop-test .taken), pre .0)
 
 mul-join-3 : tie.Need-mul-join-3 Inv-loop μ-loop
-mul-join-3 c = omega (arith, c .before .before .before .before .before .before .before .before .before .before .before .pre .1 .0 (c .before .before .before .before .loop .j) (c .before .before .before .loop-test .taken), c .before .before .before .before .before .before .before .before .before .before .before .pre .0)
+mul-join-3 c =
+    let c4 = c .before .before .before .before in
+    let c11 = c4 .before .before .before .before .before .before .before in
+    let pre = c11 .pre in
+    omega (arith, pre .1 .0 (c4 .loop .j) (c .before .before .before .loop-test .taken), pre .0)
 
 shared-slice-read-join-3 : tie.Need-shared-slice-read-join-3 Inv-loop μ-loop
-shared-slice-read-join-3 c = omega (arith, c .before .before .before .before .before .before .before .before .before .before .before .before .pre .1 .0 (c .before .before .before .before .before .loop .j) (c .before .before .before .before .loop-test .taken), c .before .before .before .before .before .before .before .before .before .before .before .before .pre .0)
+shared-slice-read-join-3 c =
+    let c4 = c .before .before .before .before in
+    let c5 = c4 .before in
+    let c12 = c5 .before .before .before .before .before .before .before in
+    let pre = c12 .pre in
+    omega (arith, pre .1 .0 (c5 .loop .j) (c4 .loop-test .taken), pre .0)
 
 join-requires : tie.Need-join-requires Inv-loop μ-loop
-join-requires c κs = (c .before .before .before .before .before .before .before .before .before .before .before .before .pre .1 .1 .0 (c .before .before .before .before .before .loop .j) (c .before .before .before .before .loop-test .taken), c .before .before .before .before .before .before .before .before .before .before .before .before .pre .1 .1 .1 (getD (c .before .before .before .before .before .before .before .before .before .before .before .before .args .live .now) (c .before .before .before .before .before .loop .j) 0) (c .before .before .before .before .before .before .before .before .before .before .before .before .pre .1 .0 (c .before .before .before .before .before .loop .j) (c .before .before .before .before .loop-test .taken)))
+join-requires c κs =
+    let c4 = c .before .before .before .before in
+    let c5 = c4 .before in
+    let c12 = c5 .before .before .before .before .before .before .before in
+    let pre = c12 .pre in
+    (pre .1 .1 .0 (c5 .loop .j) (c4 .loop-test .taken), pre .1 .1 .1 (getD (c12 .args .live .now) (c5 .loop .j) 0) (pre .1 .0 (c5 .loop .j) (c4 .loop-test .taken)))
 
 mul-lower : tie.Need-mul-lower Inv-loop μ-loop
-mul-lower c = omega (arith, c .before .before .before .before .before .before .before .before .before .before .before .before .before .pre .1 .0 (c .before .before .before .before .before .before .loop .j) (c .before .before .before .before .before .loop-test .taken), c .before .before .before .before .before .before .before .before .before .before .before .before .before .pre .0)
+mul-lower c =
+    let c5 = c .before .before .before .before .before in
+    let c6 = c5 .before in
+    let c13 = c6 .before .before .before .before .before .before .before in
+    let pre = c13 .pre in
+    omega (arith, pre .1 .0 (c6 .loop .j) (c5 .loop-test .taken), pre .0)
 
 shared-slice-read-lower : tie.Need-shared-slice-read-lower Inv-loop μ-loop
-shared-slice-read-lower c = omega (arith, c .before .before .before .before .before .before .before .before .before .before .before .before .before .before .pre .1 .0 (c .before .before .before .before .before .before .before .loop .j) (c .before .before .before .before .before .before .loop-test .taken), c .before .before .before .before .before .before .before .before .before .before .before .before .before .before .pre .0)
+shared-slice-read-lower c =
+    let c6 = c .before .before .before .before .before .before in
+    let c7 = c6 .before in
+    let c14 = c7 .before .before .before .before .before .before .before in
+    let pre = c14 .pre in
+    omega (arith, pre .1 .0 (c7 .loop .j) (c6 .loop-test .taken), pre .0)
 
 mul-lower-2 : tie.Need-mul-lower-2 Inv-loop μ-loop
-mul-lower-2 c = omega (arith, c .before .before .before .before .before .before .before .before .before .before .before .before .before .before .pre .1 .0 (c .before .before .before .before .before .before .before .loop .j) (c .before .before .before .before .before .before .loop-test .taken), c .before .before .before .before .before .before .before .before .before .before .before .before .before .before .pre .0)
+mul-lower-2 c =
+    let c6 = c .before .before .before .before .before .before in
+    let c7 = c6 .before in
+    let c14 = c7 .before .before .before .before .before .before .before in
+    let pre = c14 .pre in
+    omega (arith, pre .1 .0 (c7 .loop .j) (c6 .loop-test .taken), pre .0)
 
 shared-slice-read-lower-2 : tie.Need-shared-slice-read-lower-2 Inv-loop μ-loop
-shared-slice-read-lower-2 c = omega (arith, c .before .before .before .before .before .before .before .before .before .before .before .before .before .before .before .pre .1 .0 (c .before .before .before .before .before .before .before .before .loop .j) (c .before .before .before .before .before .before .before .loop-test .taken), c .before .before .before .before .before .before .before .before .before .before .before .before .before .before .before .pre .0)
+shared-slice-read-lower-2 c =
+    let c7 = c .before .before .before .before .before .before .before in
+    let c8 = c7 .before in
+    let c15 = c8 .before .before .before .before .before .before .before in
+    let pre = c15 .pre in
+    omega (arith, pre .1 .0 (c8 .loop .j) (c7 .loop-test .taken), pre .0)
 
 lower-requires : tie.Need-lower-requires Inv-loop μ-loop
 lower-requires c κs = search needs
@@ -70,7 +117,11 @@ loop-less : tie.Need-loop-less Inv-loop μ-loop
 loop-less c = search needs
 
 loop-again : tie.Need-loop-again Inv-loop μ-loop
-loop-again c = (omega arith, omega arith, rw (c .lower .ensures, c .before .before .before .join .ensures, add-one) (across-more (c .before .before .before .before .before .before .before .before .before .before .before .before .before .before .before .before .args .starts .now) (c .before .before .before .before .before .before .before .before .before .before .before .before .before .before .before .before .args .ends .now) (c .before .before .before .before .before .before .before .before .before .before .before .before .before .before .before .before .args .prices .now) (c .before .before .before .before .before .before .before .before .before .before .before .before .before .before .before .before .args .live .now) (c .before .before .before .before .before .before .before .before .before .before .before .before .before .before .before .before .args .costs .now) (c .before .before .before .before .before .before .before .before .before .before .before .before .before .before .before .before .args .after .now) (c .before .before .before .before .before .before .before .before .before .before .before .before .before .before .before .before .args .t) (c .before .before .before .before .before .before .before .before .before .loop .j) (c .before .before .before .before .before .before .before .before .before .loop .r) (omega (arith, c .before .before .before .join .ensures, c .before .before .before .join .ok)) (c .before .before .before .before .before .before .before .before .before .loop .inv .1) (c .before .before .before .before .before .before .before .before .before .loop .inv .2)))
+loop-again c =
+    let c9 = c .before .before .before .before .before .before .before .before .before in
+    let c16 = c9 .before .before .before .before .before .before .before in
+    let args = c16 .args in
+    (omega arith, omega arith, rw (c .lower .ensures, c .before .before .before .join .ensures, add-one) (across-more (args .starts .now) (args .ends .now) (args .prices .now) (args .live .now) (args .costs .now) (args .after .now) (args .t) (c9 .loop .j) (c9 .loop .r) (omega (arith, c .before .before .before .join .ensures, c .before .before .before .join .ok)) (c9 .loop .inv .1) (c9 .loop .inv .2)))
 
 returns : tie.Need-returns Inv-loop μ-loop
 returns c = rw (le-antisymm (c .before .loop .inv .0) (c .loop-test .left)) at (c .before .loop .inv .2)

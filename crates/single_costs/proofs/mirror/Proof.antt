@@ -40,7 +40,9 @@ shared-slice-read-y : tie.Need-shared-slice-read-y Inv-loop μ-loop
 shared-slice-read-y c = search needs
 
 sub-y : tie.Need-sub-y Inv-loop μ-loop
-sub-y c = omega (arith, c .before .before .before .before .pre .1 (c .before .before .before .loop .i) (c .before .before .loop-test .taken))
+sub-y c =
+    let c4 = c .before .before .before .before in
+    omega (arith, c4 .pre .1 (c .before .before .before .loop .i) (c .before .before .loop-test .taken))
 
 mul-y-2 : tie.Need-mul-y-2 Inv-loop μ-loop
 mul-y-2 c = search needs

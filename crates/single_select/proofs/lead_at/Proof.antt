@@ -10,13 +10,18 @@ returns : tie.Need-returns
 returns c = same (c .if1 .taken) refl refl refl refl refl
 
 renew-requires : tie.Need-renew-requires
-renew-requires c κs = (omega arith, (c .before .before .before .before .before .before .before .before .pre .1 .0, c .before .before .before .before .before .before .before .before .pre .1 .1))
+renew-requires c κs =
+    let c8 = c .before .before .before .before .before .before .before .before in
+    let pre = c8 .pre in
+    (omega arith, (pre .1 .0, pre .1 .1))
 
 same-length : tie.Need-same-length
 same-length c = search needs
 
 returns-2 : tie.Need-returns-2
-returns-2 c = anew (c .before .before .before .before .if1 .left) (c .before .before .renew .ensures)
+returns-2 c =
+    let c4 = c .before .before .before .before in
+    anew (c4 .if1 .left) (c .before .before .renew .ensures)
 
 pub lead-at-spec : {M : Type 1} → statement M
 lead-at-spec = tie.close (tie.spec returns renew-requires same-length returns-2)

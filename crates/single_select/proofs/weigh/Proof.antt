@@ -25,10 +25,19 @@ slice-write-costs : tie.Need-slice-write-costs Inv-loop μ-loop
 slice-write-costs c = search needs
 
 loop-holds : tie.Need-loop-holds Inv-loop μ-loop
-loop-holds c = (omega arith, refl, simp length-set refl, refl, running-none _ _ _ _ _ _ _ (getD-set-same (c .before .before .before .before .before .before .before .args .costs .now) (length (c .before .before .before .before .before .before .before .args .prices .now)) 18446744073709551615 0 (omega (arith, c .before .before .before .before .before .before .before .pre .1 .0))) (c .before .before .before .before .before .before .before .pre .1 .1 .0 .1))
+loop-holds c =
+    let c7 = c .before .before .before .before .before .before .before in
+    let args = c7 .args in
+    let pre = c7 .pre in
+    (omega arith, refl, simp length-set refl, refl, running-none _ _ _ _ _ _ _ (getD-set-same (args .costs .now) (length (args .prices .now)) 18446744073709551615 0 (omega (arith, pre .1 .0))) (pre .1 .1 .0 .1))
 
 step-requires : tie.Need-step-requires Inv-loop μ-loop
-step-requires c κs = (c .before .before .before .before .before .before .before .before .before .before .before .before .pre .0, ((omega arith, omega arith, omega (arith, c .before .before .before .before .loop .inv .1), omega (arith, c .before .before .before .before .loop .inv .2, length-set (c .before .before .before .before .before .before .before .before .before .before .before .before .args .costs .now) (length (c .before .before .before .before .before .before .before .before .before .before .before .before .args .prices .now)) 18446744073709551615), omega (arith, c .before .before .before .before .loop .inv .3)), ((c .before .before .before .loop-test .taken, c .before .before .before .before .before .before .before .before .before .before .before .before .pre .1 .1 .0 .0), c .before .before .before .before .loop .inv .4)))
+step-requires c κs =
+    let c4 = c .before .before .before .before in
+    let c12 = c4 .before .before .before .before .before .before .before .before in
+    let args = c12 .args in
+    let pre = c12 .pre in
+    (pre .0, ((omega arith, omega arith, omega (arith, c4 .loop .inv .1), omega (arith, c4 .loop .inv .2, length-set (args .costs .now) (length (args .prices .now)) 18446744073709551615), omega (arith, c4 .loop .inv .3)), ((c .before .before .before .loop-test .taken, pre .1 .1 .0 .0), c4 .loop .inv .4)))
 
 add-k : tie.Need-add-k Inv-loop μ-loop
 add-k c = search needs
@@ -37,22 +46,39 @@ loop-less : tie.Need-loop-less Inv-loop μ-loop
 loop-less c = search needs
 
 loop-again : tie.Need-loop-again Inv-loop μ-loop
-loop-again c = (omega arith, omega (arith, c .before .before .before .before .before .before .before .before .before .before .before .loop .inv .1, c .before .before .before .before .before .before .step .kept), omega (arith, c .before .before .before .before .before .before .before .before .before .before .before .loop .inv .2, c .before .before .before .before .before .before .step .kept), omega (arith, c .before .before .before .before .before .before .before .before .before .before .before .loop .inv .3, c .before .before .before .before .before .before .step .kept), c .before .before .before .before .before .before .step .ensures)
+loop-again c =
+    let c6 = c .before .before .before .before .before .before in
+    let c11 = c6 .before .before .before .before .before in
+    (omega arith, omega (arith, c11 .loop .inv .1, c6 .step .kept), omega (arith, c11 .loop .inv .2, c6 .step .kept), omega (arith, c11 .loop .inv .3, c6 .step .kept), c6 .step .ensures)
 
 lead-at-requires : tie.Need-lead-at-requires Inv-loop μ-loop
-lead-at-requires c κs = ((omega (arith, c .before .before .before .before .loop .inv .4 .reach .few, c .before .before .before .before .loop .inv, c .before .before .before .before .before .before .before .before .before .before .before .before .pre .1 .0), omega (arith, c .before .before .before .before .loop .inv .4 .reach .few, c .before .before .before .before .loop .inv, c .before .before .before .before .before .before .before .before .before .before .before .before .pre .1 .0), omega (arith, c .before .before .before .before .loop .inv .2, c .before .before .before .before .before .before .before .before .before .before .before .before .pre .1 .0, length-set (c .before .before .before .before .before .before .before .before .before .before .before .before .args .costs .now) (length (c .before .before .before .before .before .before .before .before .before .before .before .before .args .prices .now)) 18446744073709551615), omega (arith, c .before .before .before .before .loop .inv .3, c .before .before .before .before .before .before .before .before .before .before .before .before .pre .1 .0), omega (arith, c .before .before .before .before .before .before .before .before .before .before .before .before .pre .0 .starts), omega (arith, c .before .before .before .before .before .before .before .before .before .before .before .before .pre .0 .ends)), (live-below _ _ _ _ _ _ _ (c .before .before .before .before .before .before .before .before .before .before .before .before .pre .0) _ _ _ _ _ (c .before .before .before .before .loop .inv .0) (c .before .before .before .before .loop .inv .4), (c .before .before .before .before .loop .inv .4 .guard, c .before .before .before .before .loop .inv .4 .empty)))
+lead-at-requires c κs =
+    let c4 = c .before .before .before .before in
+    let c12 = c4 .before .before .before .before .before .before .before .before in
+    let args = c12 .args in
+    let pre = c12 .pre in
+    ((omega (arith, c4 .loop .inv .4 .reach .few, c4 .loop .inv, pre .1 .0), omega (arith, c4 .loop .inv .4 .reach .few, c4 .loop .inv, pre .1 .0), omega (arith, c4 .loop .inv .2, pre .1 .0, length-set (args .costs .now) (length (args .prices .now)) 18446744073709551615), omega (arith, c4 .loop .inv .3, pre .1 .0), omega (arith, pre .0 .starts), omega (arith, pre .0 .ends)), (live-below _ _ _ _ _ _ _ (pre .0) _ _ _ _ _ (c4 .loop .inv .0) (c4 .loop .inv .4), (c4 .loop .inv .4 .guard, c4 .loop .inv .4 .empty)))
 
 same-length : tie.Need-same-length Inv-loop μ-loop
 same-length c = search needs
 
 same-length-2 : tie.Need-same-length-2 Inv-loop μ-loop
-same-length-2 c = omega (arith, c .before .before .before .before .before .before .before .loop .inv .2, length-set (c .before .before .before .before .before .before .before .before .before .before .before .before .before .before .before .args .costs .now) (length (c .before .before .before .before .before .before .before .before .before .before .before .before .before .before .before .args .prices .now)) 18446744073709551615)
+same-length-2 c =
+    let c7 = c .before .before .before .before .before .before .before in
+    let c15 = c7 .before .before .before .before .before .before .before .before in
+    let args = c15 .args in
+    omega (arith, c7 .loop .inv .2, length-set (args .costs .now) (length (args .prices .now)) 18446744073709551615)
 
 same-length-3 : tie.Need-same-length-3 Inv-loop μ-loop
 same-length-3 c = search needs
 
 returns : tie.Need-returns Inv-loop μ-loop
-returns c = weighed _ _ _ _ _ _ (c .before .before .before .before .before .before .before .before .before .before .before .before .before .before .before .pre .0) _ _ _ _ _ _ _ _ _ _ _ _ (le-antisymm (c .before .before .before .before .before .before .before .loop .inv .0) (c .before .before .before .before .before .before .loop-test .left)) (c .before .before .before .before .before .before .before .before .before .before .before .before .before .before .before .pre .1 .1 .1) (c .before .before .before .before .before .before .before .loop .inv .4) (c .before .before .lead-at .ensures)
+returns c =
+    let c6 = c .before .before .before .before .before .before in
+    let c7 = c6 .before in
+    let c15 = c7 .before .before .before .before .before .before .before .before in
+    let pre = c15 .pre in
+    weighed _ _ _ _ _ _ (pre .0) _ _ _ _ _ _ _ _ _ _ _ _ (le-antisymm (c7 .loop .inv .0) (c6 .loop-test .left)) (pre .1 .1 .1) (c7 .loop .inv .4) (c .before .before .lead-at .ensures)
 
 pub weigh-spec : {M : Type 1} → statement M
 weigh-spec =

@@ -10,7 +10,9 @@ slice-aggregate-clear : tie.Need-slice-aggregate-clear
 slice-aggregate-clear c = search needs
 
 clear-requires : tie.Need-clear-requires
-clear-requires c κs = omega (arith, c .before .before .before .before .before .before .before .pre .1 .0)
+clear-requires c κs =
+    let c7 = c .before .before .before .before .before .before .before in
+    omega (arith, c7 .pre .1 .0)
 
 slice-aggregate-weigh : tie.Need-slice-aggregate-weigh
 slice-aggregate-weigh c = search needs
@@ -19,13 +21,22 @@ slice-aggregate-weigh-2 : tie.Need-slice-aggregate-weigh-2
 slice-aggregate-weigh-2 c = search needs
 
 weigh-requires : tie.Need-weigh-requires
-weigh-requires c κs = (c .before .before .before .before .before .before .before .before .before .before .before .before .pre .0, ((omega (arith, c .before .before .before .before .before .before .before .before .before .before .before .before .pre .1 .0), omega (arith, c .before .before .before .before .before .before .before .before .before .before .before .before .pre .1 .0), omega (arith, c .before .before .before .before .before .before .before .before .before .before .before .before .pre .1 .0), omega (arith, c .before .before .before .before .before .before .before .before .before .before .before .before .pre .1 .0), omega (arith, c .before .before .before .before .before .before .before .before .before .before .before .before .pre .1 .0, c .before .before .before .before .clear .kept)), ((omega (arith, c .before .before .before .before .before .before .before .before .before .before .before .before .pre .1 .0), c .before .before .before .before .clear .ensures), c .before .before .before .before .before .before .before .before .before .before .before .before .pre .1 .1)))
+weigh-requires c κs =
+    let c4 = c .before .before .before .before in
+    let c12 = c4 .before .before .before .before .before .before .before .before in
+    let pre = c12 .pre in
+    (pre .0, ((omega (arith, pre .1 .0), omega (arith, pre .1 .0), omega (arith, pre .1 .0), omega (arith, pre .1 .0), omega (arith, pre .1 .0, c4 .clear .kept)), ((omega (arith, pre .1 .0), c4 .clear .ensures), pre .1 .1)))
 
 slice-aggregate-mark : tie.Need-slice-aggregate-mark
 slice-aggregate-mark c = search needs
 
 mark-requires : tie.Need-mark-requires
-mark-requires c κs = (omega (arith, c .before .before .before .before .before .before .before .before .before .before .before .before .before .before .before .before .before .before .before .pre .1 .0, c .before .before .before .before .before .before .weigh .ensures .within, c .before .before .before .before .before .before .weigh .kept, c .before .before .before .before .before .before .before .before .before .before .before .clear .kept), omega (arith, c .before .before .before .before .before .before .before .before .before .before .before .before .before .before .before .before .before .before .before .pre .1 .0), omega (arith, c .before .before .before .before .before .before .before .before .before .before .before .before .before .before .before .before .before .before .before .pre .1 .0))
+mark-requires c κs =
+    let c6 = c .before .before .before .before .before .before in
+    let c11 = c6 .before .before .before .before .before in
+    let c19 = c11 .before .before .before .before .before .before .before .before in
+    let pre = c19 .pre in
+    (omega (arith, pre .1 .0, c6 .weigh .ensures .within, c6 .weigh .kept, c11 .clear .kept), omega (arith, pre .1 .0), omega (arith, pre .1 .0))
 
 whole-requires : tie.Need-whole-requires
 whole-requires c κs = search needs
@@ -37,7 +48,10 @@ same-length-2 : tie.Need-same-length-2
 same-length-2 c = search needs
 
 returns : tie.Need-returns
-returns c = record { flags = listed-of _ _ _ _ (omega (arith, c .before .before .before .before .before .before .before .before .before .before .before .before .before .before .before .before .before .before .before .before .before .before .before .pre .1 .0)) (rw (c .before .before .before .before .before .before .before .before .before .before .weigh .ensures .wins) at (c .before .before .before .mark .ensures)); costs-are = c .before .before .before .before .before .before .before .before .before .before .weigh .ensures .costs-are; all-is = c .whole .ensures ∙ c .before .before .before .before .before .before .before .before .before .before .weigh .ensures .all }
+returns c =
+    let c10 = c .before .before .before .before .before .before .before .before .before .before in
+    let c23 = c10 .before .before .before .before .before .before .before .before .before .before .before .before .before in
+    record { flags = listed-of _ _ _ _ (omega (arith, c23 .pre .1 .0)) (rw (c10 .weigh .ensures .wins) at (c .before .before .before .mark .ensures)); costs-are = c10 .weigh .ensures .costs-are; all-is = c .whole .ensures ∙ c10 .weigh .ensures .all }
 
 pub winners-spec : {M : Type 1} → statement M
 winners-spec =

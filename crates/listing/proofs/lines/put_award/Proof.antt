@@ -12,30 +12,31 @@ use Rattle.listing.proofs.lines.put_all.Reads as put-all-reads
 use Rattle.listing.proofs.lines.put_kind.Reads as put-kind-reads
 use Rattle.listing.proofs.lines.put_numbers.Reads as put-numbers-reads
 
--- src/lines.rt:106:34
 slice-aggregate-put-all : tie.Need-slice-aggregate-put-all
 slice-aggregate-put-all c = search needs
 
--- src/lines.rt:106:9
 put-all-requires : tie.Need-put-all-requires
 put-all-requires c κs = search needs
 
--- src/lines.rt:107:9
 put-kind-requires : tie.Need-put-kind-requires
 put-kind-requires c κs = search needs
 
--- src/lines.rt:108:5
 put-numbers-requires : tie.Need-put-numbers-requires
-put-numbers-requires c κs = omega (arith, kind-short (c .before .before .before .before .before .before .before .before .before .before .before .args .tender .kind), c .before .before .before .before .before .before .before .before .before .before .before .pre, c .before .before .before .before .before .before .before .put-all .ensures .next, c .before .before .before .before .before .before .before .put-all .ensures .size, c .before .before .before .put-kind .ensures .next, c .before .before .before .put-kind .ensures .size)
+put-numbers-requires c κs =
+    let c7 = c .before .before .before .before .before .before .before in
+    let c11 = c7 .before .before .before .before in
+    omega (arith, kind-short (c11 .args .tender .kind), c11 .pre, c7 .put-all .ensures .next, c7 .put-all .ensures .size, c .before .before .before .put-kind .ensures .next, c .before .before .before .put-kind .ensures .size)
 
--- src/lines.rt:101:1
 same-length : tie.Need-same-length
 same-length c = search needs
 
--- src/lines.rt:101:1
 returns : tie.Need-returns
 unfolding bytes
-returns c = award-written (c .before .before .before .before .before .before .before .before .before .before .before .before .before .before .args .tender) (c .before .before .before .before .before .before .before .before .before .before .put-all .ensures) (c .before .before .before .before .before .before .put-kind .ensures) (c .before .before .put-numbers .ensures)
+returns c =
+    let c6 = c .before .before .before .before .before .before in
+    let c10 = c6 .before .before .before .before in
+    let c14 = c10 .before .before .before .before in
+    award-written (c14 .args .tender) (c10 .put-all .ensures) (c6 .put-kind .ensures) (c .before .before .put-numbers .ensures)
 
 pub put-award-spec : {M : Type 1} → statement M
 put-award-spec =

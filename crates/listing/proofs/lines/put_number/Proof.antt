@@ -9,33 +9,30 @@ use Rattle.listing.proofs.lines.put.Reads as put-reads
 use Rattle.listing.proofs.lines.put_rest.Reads as put-rest-reads
 use Rattle.listing.proofs.lines.spell.Reads as spell-reads
 
--- src/lines.rt:62:22
 slice-aggregate-spell : tie.Need-slice-aggregate-spell
 slice-aggregate-spell c = search needs
 
--- src/lines.rt:62:9
 spell-requires : tie.Need-spell-requires
 spell-requires c κs = search needs
 
--- src/lines.rt:63:9
 put-requires : tie.Need-put-requires
 put-requires c κs = search needs
 
--- src/lines.rt:64:25
 slice-aggregate-put-rest : tie.Need-slice-aggregate-put-rest
 slice-aggregate-put-rest c = search needs
 
--- src/lines.rt:64:5
 put-rest-requires : tie.Need-put-rest-requires
 put-rest-requires c κs = search needs
 
--- src/lines.rt:57:1
 same-length : tie.Need-same-length
 same-length c = search needs
 
--- src/lines.rt:57:1
 returns : tie.Need-returns
-returns c = number-written (c .before .before .before .before .before .before .before .before .before .before .before .before .before .args .n) (c .before .before .before .before .before .before .before .put .ensures) (c .before .before .put-rest .ensures) (c .before .before .before .before .before .before .before .before .before .before .spell .ensures .0)
+returns c =
+    let c7 = c .before .before .before .before .before .before .before in
+    let c10 = c7 .before .before .before in
+    let c13 = c10 .before .before .before in
+    number-written (c13 .args .n) (c7 .put .ensures) (c .before .before .put-rest .ensures) (c10 .spell .ensures .0)
 
 pub put-number-spec : {M : Type 1} → statement M
 put-number-spec =

@@ -10,29 +10,35 @@ use Rattle.listing.proofs.lines.put_numbers.Lts as lts
 use Rattle.listing.proofs.lines.put_all.Reads as put-all-reads
 use Rattle.listing.proofs.lines.put_number.Reads as put-number-reads
 
--- src/lines.rt:74:9
 put-number-requires : tie.Need-put-number-requires
 put-number-requires c κs = search needs
 
--- src/lines.rt:75:9
 put-number-requires-2 : tie.Need-put-number-requires-2
-put-number-requires-2 c κs = omega (arith, decimal-short (c .before .before .before .before .before .before .args .a))
+put-number-requires-2 c κs =
+    let c6 = c .before .before .before .before .before .before in
+    omega (arith, decimal-short (c6 .args .a))
 
--- src/lines.rt:76:26
 slice-aggregate-put-all : tie.Need-slice-aggregate-put-all
 slice-aggregate-put-all c = search needs
 
--- src/lines.rt:76:5
 put-all-requires : tie.Need-put-all-requires
-put-all-requires c κs = omega (arith, decimal-short (c .before .before .before .before .before .before .before .before .before .before .before .args .a), decimal-short (c .before .before .before .before .before .before .before .before .before .before .before .args .b), c .before .before .before .before .before .before .before .before .before .before .before .pre, c .before .before .before .before .before .before .before .before .put-number .ensures .next, c .before .before .before .before .before .before .before .before .put-number .ensures .size, c .before .before .before .before .put-number2 .ensures .next, c .before .before .before .before .put-number2 .ensures .size)
+put-all-requires c κs =
+    let c4 = c .before .before .before .before in
+    let c8 = c4 .before .before .before .before in
+    let c11 = c8 .before .before .before in
+    let args = c11 .args in
+    omega (arith, decimal-short (args .a), decimal-short (args .b), c11 .pre, c8 .put-number .ensures .next, c8 .put-number .ensures .size, c4 .put-number2 .ensures .next, c4 .put-number2 .ensures .size)
 
--- src/lines.rt:70:1
 same-length : tie.Need-same-length
 same-length c = search needs
 
--- src/lines.rt:70:1
 returns : tie.Need-returns
-returns c = numbers-written (c .before .before .before .before .before .before .before .before .before .before .before .before .before .before .args .a) (c .before .before .before .before .before .before .before .before .before .before .before .before .before .before .args .b) (c .before .before .before .before .before .before .before .before .before .before .before .put-number .ensures) (c .before .before .before .before .before .before .before .put-number2 .ensures) (c .before .before .put-all .ensures)
+returns c =
+    let c7 = c .before .before .before .before .before .before .before in
+    let c11 = c7 .before .before .before .before in
+    let c14 = c11 .before .before .before in
+    let args = c14 .args in
+    numbers-written (args .a) (args .b) (c11 .put-number .ensures) (c7 .put-number2 .ensures) (c .before .before .put-all .ensures)
 
 pub put-numbers-spec : {M : Type 1} → statement M
 put-numbers-spec =

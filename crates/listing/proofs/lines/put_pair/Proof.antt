@@ -9,25 +9,25 @@ use Rattle.listing.proofs.lines.put.Reads as put-reads
 use Rattle.listing.proofs.lines.put_all.Reads as put-all-reads
 use Rattle.listing.proofs.lines.put_numbers.Reads as put-numbers-reads
 
--- src/lines.rt:84:9
 put-requires : tie.Need-put-requires
 put-requires c κs = search needs
 
--- src/lines.rt:85:9
 put-all-requires : tie.Need-put-all-requires
 put-all-requires c κs = search needs
 
--- src/lines.rt:86:5
 put-numbers-requires : tie.Need-put-numbers-requires
 put-numbers-requires c κs = search needs
 
--- src/lines.rt:80:1
 same-length : tie.Need-same-length
 same-length c = search needs
 
--- src/lines.rt:80:1
 returns : tie.Need-returns
-returns c = pair-written (c .before .before .before .before .before .before .before .before .before .before .before .before .before .before .args .a) (c .before .before .before .before .before .before .before .before .before .before .before .before .before .before .args .b) (c .before .before .before .before .before .before .before .before .before .before .put .ensures) (c .before .before .before .before .before .before .put-all .ensures) (c .before .before .put-numbers .ensures)
+returns c =
+    let c6 = c .before .before .before .before .before .before in
+    let c10 = c6 .before .before .before .before in
+    let c14 = c10 .before .before .before .before in
+    let args = c14 .args in
+    pair-written (args .a) (args .b) (c10 .put .ensures) (c6 .put-all .ensures) (c .before .before .put-numbers .ensures)
 
 pub put-pair-spec : {M : Type 1} → statement M
 put-pair-spec =

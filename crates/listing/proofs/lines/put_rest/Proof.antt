@@ -10,29 +10,26 @@ use Rattle.listing.proofs.lines.put_rest.Reads as reads
 use Rattle.listing.proofs.lines.put_rest.Lts as lts
 use Rattle.listing.proofs.lines.put_all.Reads as put-all-reads
 
--- src/lines.rt:53:22
 sub-put-all : tie.Need-sub-put-all
 sub-put-all c = search needs
 
--- src/lines.rt:53:22
 part-put-all-start : tie.Need-part-put-all-start
 part-put-all-start c = search needs
 
--- src/lines.rt:53:22
 part-put-all-end : tie.Need-part-put-all-end
 part-put-all-end c = search needs
 
--- src/lines.rt:53:5
 put-all-requires : tie.Need-put-all-requires
 put-all-requires c κs = search needs
 
--- src/lines.rt:49:1
 same-length : tie.Need-same-length
 same-length c = search needs
 
--- src/lines.rt:49:1
 returns : tie.Need-returns
-returns c = rw (take-all (length (c .before .before .before .before .before .before .before .args .s .now) - c .before .before .before .before .before .before .before .args .from) (drop (c .before .before .before .before .before .before .before .args .from) (c .before .before .before .before .before .before .before .args .s .now)) (simp length-drop (omega arith))) at (c .before .before .put-all .ensures)
+returns c =
+    let c7 = c .before .before .before .before .before .before .before in
+    let args = c7 .args in
+    rw (take-all (length (args .s .now) - args .from) (drop (args .from) (args .s .now)) (simp length-drop (omega arith))) at (c .before .before .put-all .ensures)
 
 pub put-rest-spec : {M : Type 1} → statement M
 put-rest-spec =

@@ -15,55 +15,42 @@ Inv-loop n digits₀ v₀ i₀ digits v i = Spelling n digits v i
 abbrev μ-loop : tie.MeasureT-loop
 μ-loop n digits₀ v₀ i₀ digits v i = v
 
--- src/lines.rt:38:5
 loop-holds : tie.Need-loop-holds Inv-loop μ-loop
 loop-holds c = spell-begins (c .args .n) (c .args .digits .now) (omega arith) (c .pre)
 
--- src/lines.rt:39:9
 sub-i : tie.Need-sub-i Inv-loop μ-loop
 sub-i c = omega arith
 
--- src/lines.rt:40:26
 cast-digits : tie.Need-cast-digits Inv-loop μ-loop
 cast-digits c = omega arith
 
--- src/lines.rt:40:21
 add-digits : tie.Need-add-digits Inv-loop μ-loop
 add-digits c = omega arith
 
--- src/lines.rt:40:9
 slice-write-digits : tie.Need-slice-write-digits Inv-loop μ-loop
 slice-write-digits c = omega arith
 
--- src/lines.rt:38:5
 loop-less : tie.Need-loop-less Inv-loop μ-loop
 loop-less c = omega arith
 
--- src/lines.rt:38:5
 loop-again : tie.Need-loop-again Inv-loop μ-loop
 loop-again c = spell-goes (c .before .before .args .n) (c .before .loop .digits) (c .before .loop .v) (c .before .loop .i) (omega arith) (c .before .loop .inv)
 
--- src/lines.rt:43:5
 sub-i-2 : tie.Need-sub-i-2 Inv-loop μ-loop
 sub-i-2 c = omega arith
 
--- src/lines.rt:44:22
 cast-digits-2 : tie.Need-cast-digits-2 Inv-loop μ-loop
 cast-digits-2 c = omega arith
 
--- src/lines.rt:44:17
 add-digits-2 : tie.Need-add-digits-2 Inv-loop μ-loop
 add-digits-2 c = omega arith
 
--- src/lines.rt:44:5
 slice-write-digits-2 : tie.Need-slice-write-digits-2 Inv-loop μ-loop
 slice-write-digits-2 c = omega arith
 
--- src/lines.rt:32:1
 same-length : tie.Need-same-length Inv-loop μ-loop
 same-length c = length-set (c .before .loop .digits) (c .before .loop .i - 1) (48 + c .before .loop .v % 10) ∙ c .before .loop .inv .room ∙ sym (c .before .before .pre)
 
--- src/lines.rt:32:1
 returns : tie.Need-returns Inv-loop μ-loop
 returns c = (spell-ends (c .before .before .args .n) (c .before .loop .digits) (c .before .loop .v) (c .before .loop .i) (omega arith) (c .before .loop .inv), omega arith)
 

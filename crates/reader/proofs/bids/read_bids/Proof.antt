@@ -18,7 +18,10 @@ abbrev μ-loop : tie.MeasureT-loop
 μ-loop text at kind used₀ rows₀ windows₀ k₀ m₀ i₀ used rows windows k m i = length text - i
 
 loop-holds : tie.Need-loop-holds Inv-loop μ-loop
-loop-holds c = (begins _ _ _ _ _ (c .before .before .before .before .pre .2) (c .before .before .before .before .pre .3) (c .before .before .before .before .pre .4), c .before .before .before .before .pre .0, refl, refl, refl, omega arith, c .before .before .before .before .pre .1)
+loop-holds c =
+    let c4 = c .before .before .before .before in
+    let pre = c4 .pre in
+    (begins _ _ _ _ _ (pre .2) (pre .3) (pre .4), pre .0, refl, refl, refl, omega arith, pre .1)
 
 line-end-requires : tie.Need-line-end-requires Inv-loop μ-loop
 line-end-requires c κs = search needs
@@ -27,79 +30,143 @@ enum-known-e : tie.Need-enum-known-e Inv-loop μ-loop
 enum-known-e c = search needs
 
 sub-take-line : tie.Need-sub-take-line Inv-loop μ-loop
-sub-take-line c = let b = ends-at (c .before .before .before .before .before .before .before .before .before .before .args .text .now) (c .before .before .before .before .before .loop .i) _ (c .before .before .before .line-end .ensures) _ (c .before .e .given .1) in omega (arith, b .0)
+sub-take-line c =
+    let c5 = c .before .before .before .before .before in
+    let c10 = c5 .before .before .before .before .before in
+    let b = ends-at (c10 .args .text .now) (c5 .loop .i) _ (c .before .before .before .line-end .ensures) _ (c .before .e .given .1) in omega (arith, b .0)
 
 part-take-line-start : tie.Need-part-take-line-start Inv-loop μ-loop
-part-take-line-start c = let b = ends-at (c .before .before .before .before .before .before .before .before .before .before .args .text .now) (c .before .before .before .before .before .loop .i) _ (c .before .before .before .line-end .ensures) _ (c .before .e .given .1) in omega (arith, b .0)
+part-take-line-start c =
+    let c5 = c .before .before .before .before .before in
+    let c10 = c5 .before .before .before .before .before in
+    let b = ends-at (c10 .args .text .now) (c5 .loop .i) _ (c .before .before .before .line-end .ensures) _ (c .before .e .given .1) in omega (arith, b .0)
 
 part-take-line-end : tie.Need-part-take-line-end Inv-loop μ-loop
-part-take-line-end c = let b = ends-at (c .before .before .before .before .before .before .before .before .before .before .args .text .now) (c .before .before .before .before .before .loop .i) _ (c .before .before .before .line-end .ensures) _ (c .before .e .given .1) in omega (arith, b .1)
+part-take-line-end c =
+    let c5 = c .before .before .before .before .before in
+    let c10 = c5 .before .before .before .before .before in
+    let b = ends-at (c10 .args .text .now) (c5 .loop .i) _ (c .before .before .before .line-end .ensures) _ (c .before .e .given .1) in omega (arith, b .1)
 
 take-line-requires : tie.Need-take-line-requires Inv-loop μ-loop
-take-line-requires c κs = (c .before .before .before .before .before .before .before .before .before .loop .inv .0 .few-bids, omega (arith, c .before .before .before .before .before .before .before .before .before .loop .inv .0 .few-windows, c .before .before .before .before .before .before .before .before .before .loop .inv .0 .few-bids), c .before .before .before .before .before .before .before .before .before .loop .inv .0 .used-long, c .before .before .before .before .before .before .before .before .before .loop .inv .0 .rows-long)
+take-line-requires c κs =
+    let c9 = c .before .before .before .before .before .before .before .before .before in
+    (c9 .loop .inv .0 .few-bids, omega (arith, c9 .loop .inv .0 .few-windows, c9 .loop .inv .0 .few-bids), c9 .loop .inv .0 .used-long, c9 .loop .inv .0 .rows-long)
 
 enum-known-count : tie.Need-enum-known-count Inv-loop μ-loop
 enum-known-count c = search needs
 
 add-k : tie.Need-add-k Inv-loop μ-loop
-add-k c = omega (arith, c .before .before .before .before .before .before .before .before .before .before .before .before .before .before .before .before .before .before .before .loop .inv .0 .few-bids)
+add-k c =
+    let c19 = c .before .before .before .before .before .before .before .before .before .before .before .before .before .before .before .before .before .before .before in
+    omega (arith, c19 .loop .inv .0 .few-bids)
 
 add-m : tie.Need-add-m Inv-loop μ-loop
-add-m c = let b = ends-at (c .before .before .before .before .before .before .before .before .before .before .before .before .before .before .before .before .before .before .before .before .before .before .before .before .args .text .now) (c .before .before .before .before .before .before .before .before .before .before .before .before .before .before .before .before .before .before .before .loop .i) _ (c .before .before .before .before .before .before .before .before .before .before .before .before .before .before .before .before .before .line-end .ensures) _ (c .before .before .before .before .before .before .before .before .before .before .before .before .before .before .before .e .given .1) in
-    let w = goes _ _ _ _ _ _ _ _ _ _ _ _ (rw (lines-at (c .before .before .before .before .before .before .before .before .before .before .before .before .before .before .before .before .before .before .before .before .before .before .before .before .args .text .now) (c .before .before .before .before .before .before .before .before .before .before .before .before .before .before .before .before .before .before .before .loop .i) _ (b .0) (b .1)) at (c .before .before .before .before .before .before .before .before .before .before .before .before .before .before .before .before .before .before .before .loop .inv .0)) _ (c .before .before .before .before .before .before .before .before .before .take-line .ensures)
-    (c .before .before .before .before .before .before .before .before .before .take-line .kept .1 .1 .1 .1 .0) (c .before .before .before .before .before .before .before .before .before .take-line .kept .1 .1 .1 .1 .1 .0) (c .before .before .before .before .before .before .before .before .before .take-line .kept .1 .1 .1 .1 .1 .1 .0) _ (c .before .count .given .1) (λ b₁ q. let x = room-for (c .before .before .before .before .before .before .before .before .before .before .before .before .before .before .before .before .before .before .before .before .before .before .before .before .args .text .now) (c .before .before .before .before .before .before .before .before .before .before .before .before .before .before .before .before .before .before .before .loop .i) _ (c .before .before .before .before .before .before .before .before .before .before .before .before .before .before .before .before .before .before .before .loop .m) (c .before .before .before .before .before .before .before .before .before .before .before .before .before .before .before .before .before .before .before .loop .inv .5) (omega (arith, b .0)) (b .1) b₁ q in omega (arith, x, b .1, c .before .before .before .before .before .before .before .before .before .before .before .before .before .before .before .before .before .before .before .loop .inv .6)) in omega (arith, w .few-windows, w .few-bids)
+add-m c =
+    let c9 = c .before .before .before .before .before .before .before .before .before in
+    let c15 = c9 .before .before .before .before .before .before in
+    let c17 = c15 .before .before in
+    let c19 = c17 .before .before in
+    let c24 = c19 .before .before .before .before .before in
+    let args = c24 .args in
+    let b = ends-at (args .text .now) (c19 .loop .i) _ (c17 .line-end .ensures) _ (c15 .e .given .1) in
+    let w = goes _ _ _ _ _ _ _ _ _ _ _ _ (rw (lines-at (args .text .now) (c19 .loop .i) _ (b .0) (b .1)) at (c19 .loop .inv .0)) _ (c9 .take-line .ensures)
+    (c9 .take-line .kept .1 .1 .1 .1 .0) (c9 .take-line .kept .1 .1 .1 .1 .1 .0) (c9 .take-line .kept .1 .1 .1 .1 .1 .1 .0) _ (c .before .count .given .1) (λ b₁ q. let x = room-for (args .text .now) (c19 .loop .i) _ (c19 .loop .m) (c19 .loop .inv .5) (omega (arith, b .0)) (b .1) b₁ q in omega (arith, x, b .1, c19 .loop .inv .6)) in omega (arith, w .few-windows, w .few-bids)
 
 add-i : tie.Need-add-i Inv-loop μ-loop
-add-i c = let b = ends-at (c .before .before .before .before .before .before .before .before .before .before .before .before .before .before .before .before .before .before .before .before .before .before .before .before .args .text .now) (c .before .before .before .before .before .before .before .before .before .before .before .before .before .before .before .before .before .before .before .loop .i) _ (c .before .before .before .before .before .before .before .before .before .before .before .before .before .before .before .before .before .line-end .ensures) _ (c .before .before .before .before .before .before .before .before .before .before .before .before .before .before .before .e .given .1) in omega (arith, b .1)
+add-i c =
+    let c15 = c .before .before .before .before .before .before .before .before .before .before .before .before .before .before .before in
+    let c17 = c15 .before .before in
+    let c19 = c17 .before .before in
+    let c24 = c19 .before .before .before .before .before in
+    let b = ends-at (c24 .args .text .now) (c19 .loop .i) _ (c17 .line-end .ensures) _ (c15 .e .given .1) in omega (arith, b .1)
 
 loop-less : tie.Need-loop-less Inv-loop μ-loop
-loop-less c = let b = ends-at (c .before .before .before .before .before .before .before .before .before .before .before .before .before .before .before .before .before .before .before .before .before .before .before .before .args .text .now) (c .before .before .before .before .before .before .before .before .before .before .before .before .before .before .before .before .before .before .before .loop .i) _ (c .before .before .before .before .before .before .before .before .before .before .before .before .before .before .before .before .before .line-end .ensures) _ (c .before .before .before .before .before .before .before .before .before .before .before .before .before .before .before .e .given .1) in omega (arith, b .0, b .1)
+loop-less c =
+    let c15 = c .before .before .before .before .before .before .before .before .before .before .before .before .before .before .before in
+    let c17 = c15 .before .before in
+    let c19 = c17 .before .before in
+    let c24 = c19 .before .before .before .before .before in
+    let b = ends-at (c24 .args .text .now) (c19 .loop .i) _ (c17 .line-end .ensures) _ (c15 .e .given .1) in omega (arith, b .0, b .1)
 
 loop-again : tie.Need-loop-again Inv-loop μ-loop
-loop-again c = let b = ends-at (c .before .before .before .before .before .before .before .before .before .before .before .before .before .before .before .before .before .before .before .before .before .before .before .before .args .text .now) (c .before .before .before .before .before .before .before .before .before .before .before .before .before .before .before .before .before .before .before .loop .i) _ (c .before .before .before .before .before .before .before .before .before .before .before .before .before .before .before .before .before .line-end .ensures) _ (c .before .before .before .before .before .before .before .before .before .before .before .before .before .before .before .e .given .1) in (
-  goes _ _ _ _ _ _ _ _ _ _ _ _ (rw (lines-at (c .before .before .before .before .before .before .before .before .before .before .before .before .before .before .before .before .before .before .before .before .before .before .before .before .args .text .now) (c .before .before .before .before .before .before .before .before .before .before .before .before .before .before .before .before .before .before .before .loop .i) _ (b .0) (b .1)) at (c .before .before .before .before .before .before .before .before .before .before .before .before .before .before .before .before .before .before .before .loop .inv .0)) _ (c .before .before .before .before .before .before .before .before .before .take-line .ensures)
-      (c .before .before .before .before .before .before .before .before .before .take-line .kept .1 .1 .1 .1 .0) (c .before .before .before .before .before .before .before .before .before .take-line .kept .1 .1 .1 .1 .1 .0) (c .before .before .before .before .before .before .before .before .before .take-line .kept .1 .1 .1 .1 .1 .1 .0) _ (c .before .count .given .1) (λ b₁ q. let x = room-for (c .before .before .before .before .before .before .before .before .before .before .before .before .before .before .before .before .before .before .before .before .before .before .before .before .args .text .now) (c .before .before .before .before .before .before .before .before .before .before .before .before .before .before .before .before .before .before .before .loop .i) _ (c .before .before .before .before .before .before .before .before .before .before .before .before .before .before .before .before .before .before .before .loop .m) (c .before .before .before .before .before .before .before .before .before .before .before .before .before .before .before .before .before .before .before .loop .inv .5) (omega (arith, b .0)) (b .1) b₁ q in omega (arith, x, b .1, c .before .before .before .before .before .before .before .before .before .before .before .before .before .before .before .before .before .before .before .loop .inv .6)),
+loop-again c =
+    let c9 = c .before .before .before .before .before .before .before .before .before in
+    let c15 = c9 .before .before .before .before .before .before in
+    let c17 = c15 .before .before in
+    let c19 = c17 .before .before in
+    let c24 = c19 .before .before .before .before .before in
+    let args = c24 .args in
+    let b = ends-at (args .text .now) (c19 .loop .i) _ (c17 .line-end .ensures) _ (c15 .e .given .1) in (
+  goes _ _ _ _ _ _ _ _ _ _ _ _ (rw (lines-at (args .text .now) (c19 .loop .i) _ (b .0) (b .1)) at (c19 .loop .inv .0)) _ (c9 .take-line .ensures)
+      (c9 .take-line .kept .1 .1 .1 .1 .0) (c9 .take-line .kept .1 .1 .1 .1 .1 .0) (c9 .take-line .kept .1 .1 .1 .1 .1 .1 .0) _ (c .before .count .given .1) (λ b₁ q. let x = room-for (args .text .now) (c19 .loop .i) _ (c19 .loop .m) (c19 .loop .inv .5) (omega (arith, b .0)) (b .1) b₁ q in omega (arith, x, b .1, c19 .loop .inv .6)),
   omega (arith, b .1),
-  c .before .before .before .before .before .before .before .before .before .take-line .kept .1 .1 .1 .1 .0 ∙ c .before .before .before .before .before .before .before .before .before .before .before .before .before .before .before .before .before .before .before .loop .inv .2,
-  c .before .before .before .before .before .before .before .before .before .take-line .kept .1 .1 .1 .1 .1 .0 ∙ c .before .before .before .before .before .before .before .before .before .before .before .before .before .before .before .before .before .before .before .loop .inv .3,
-  c .before .before .before .before .before .before .before .before .before .take-line .kept .1 .1 .1 .1 .1 .1 .0 ∙ c .before .before .before .before .before .before .before .before .before .before .before .before .before .before .before .before .before .before .before .loop .inv .4,
-  taken-room _ _ _ _ _ _ _ _ _ _ _ _ _ (c .before .before .before .before .before .before .before .before .before .take-line .ensures) (c .before .count .given .1) (λ b₁ q. room-for (c .before .before .before .before .before .before .before .before .before .before .before .before .before .before .before .before .before .before .before .before .before .before .before .before .args .text .now) (c .before .before .before .before .before .before .before .before .before .before .before .before .before .before .before .before .before .before .before .loop .i) _ (c .before .before .before .before .before .before .before .before .before .before .before .before .before .before .before .before .before .before .before .loop .m) (c .before .before .before .before .before .before .before .before .before .before .before .before .before .before .before .before .before .before .before .loop .inv .5) (omega (arith, b .0)) (b .1) b₁ q),
-  c .before .before .before .before .before .before .before .before .before .before .before .before .before .before .before .before .before .before .before .loop .inv .6,
+  c9 .take-line .kept .1 .1 .1 .1 .0 ∙ c19 .loop .inv .2,
+  c9 .take-line .kept .1 .1 .1 .1 .1 .0 ∙ c19 .loop .inv .3,
+  c9 .take-line .kept .1 .1 .1 .1 .1 .1 .0 ∙ c19 .loop .inv .4,
+  taken-room _ _ _ _ _ _ _ _ _ _ _ _ _ (c9 .take-line .ensures) (c .before .count .given .1) (λ b₁ q. room-for (args .text .now) (c19 .loop .i) _ (c19 .loop .m) (c19 .loop .inv .5) (omega (arith, b .0)) (b .1) b₁ q),
+  c19 .loop .inv .6,
 )
 
 enum-known-r : tie.Need-enum-known-r Inv-loop μ-loop
 enum-known-r c = search needs
 
 same-length : tie.Need-same-length Inv-loop μ-loop
-same-length c = c .before .before .before .before .before .before .before .before .before .take-line .kept .1 .1 .1 .1 .0 ∙ c .before .before .before .before .before .before .before .before .before .before .before .before .before .before .before .before .before .before .before .loop .inv .2
+same-length c =
+    let c9 = c .before .before .before .before .before .before .before .before .before in
+    let c19 = c9 .before .before .before .before .before .before .before .before .before .before in
+    c9 .take-line .kept .1 .1 .1 .1 .0 ∙ c19 .loop .inv .2
 
 same-length-2 : tie.Need-same-length-2 Inv-loop μ-loop
-same-length-2 c = c .before .before .before .before .before .before .before .before .before .take-line .kept .1 .1 .1 .1 .1 .0 ∙ c .before .before .before .before .before .before .before .before .before .before .before .before .before .before .before .before .before .before .before .loop .inv .3
+same-length-2 c =
+    let c9 = c .before .before .before .before .before .before .before .before .before in
+    let c19 = c9 .before .before .before .before .before .before .before .before .before .before in
+    c9 .take-line .kept .1 .1 .1 .1 .1 .0 ∙ c19 .loop .inv .3
 
 same-length-3 : tie.Need-same-length-3 Inv-loop μ-loop
-same-length-3 c = c .before .before .before .before .before .before .before .before .before .take-line .kept .1 .1 .1 .1 .1 .1 .0 ∙ c .before .before .before .before .before .before .before .before .before .before .before .before .before .before .before .before .before .before .before .loop .inv .4
+same-length-3 c =
+    let c9 = c .before .before .before .before .before .before .before .before .before in
+    let c19 = c9 .before .before .before .before .before .before .before .before .before .before in
+    c9 .take-line .kept .1 .1 .1 .1 .1 .1 .0 ∙ c19 .loop .inv .4
 
 returns : tie.Need-returns Inv-loop μ-loop
-returns c = let b = ends-at (c .before .before .before .before .before .before .before .before .before .before .before .before .before .before .before .before .before .before .before .before .before .before .before .before .args .text .now) (c .before .before .before .before .before .before .before .before .before .before .before .before .before .before .before .before .before .before .before .loop .i) _ (c .before .before .before .before .before .before .before .before .before .before .before .before .before .before .before .before .before .line-end .ensures) _ (c .before .before .before .before .before .before .before .before .before .before .before .before .before .before .before .e .given .1) in
-    stops _ _ _ _ _ _ _ _ _ _ _ _ (rw (lines-at (c .before .before .before .before .before .before .before .before .before .before .before .before .before .before .before .before .before .before .before .before .before .before .before .before .args .text .now) (c .before .before .before .before .before .before .before .before .before .before .before .before .before .before .before .before .before .before .before .loop .i) _ (b .0) (b .1)) at (c .before .before .before .before .before .before .before .before .before .before .before .before .before .before .before .before .before .before .before .loop .inv .0)) _ (c .before .before .before .before .before .before .before .before .before .take-line .ensures) _ (c .before .r .given .1)
+returns c =
+    let c9 = c .before .before .before .before .before .before .before .before .before in
+    let c15 = c9 .before .before .before .before .before .before in
+    let c17 = c15 .before .before in
+    let c19 = c17 .before .before in
+    let c24 = c19 .before .before .before .before .before in
+    let args = c24 .args in
+    let b = ends-at (args .text .now) (c19 .loop .i) _ (c17 .line-end .ensures) _ (c15 .e .given .1) in
+    stops _ _ _ _ _ _ _ _ _ _ _ _ (rw (lines-at (args .text .now) (c19 .loop .i) _ (b .0) (b .1)) at (c19 .loop .inv .0)) _ (c9 .take-line .ensures) _ (c .before .r .given .1)
 
 enum-told : tie.Need-enum-told Inv-loop μ-loop
 enum-told c = search needs
 
 add-t28 : tie.Need-add-t28 Inv-loop μ-loop
-add-t28 c = omega (arith, c .before .before .before .before .loop .inv .0 .few-bids)
+add-t28 c =
+    let c4 = c .before .before .before .before in
+    omega (arith, c4 .loop .inv .0 .few-bids)
 
 same-length-4 : tie.Need-same-length-4 Inv-loop μ-loop
-same-length-4 c = c .before .before .before .before .loop .inv .2
+same-length-4 c =
+    let c4 = c .before .before .before .before in
+    c4 .loop .inv .2
 
 same-length-5 : tie.Need-same-length-5 Inv-loop μ-loop
-same-length-5 c = c .before .before .before .before .loop .inv .3
+same-length-5 c =
+    let c4 = c .before .before .before .before in
+    c4 .loop .inv .3
 
 same-length-6 : tie.Need-same-length-6 Inv-loop μ-loop
-same-length-6 c = c .before .before .before .before .loop .inv .4
+same-length-6 c =
+    let c4 = c .before .before .before .before in
+    c4 .loop .inv .4
 
 returns-2 : tie.Need-returns-2 Inv-loop μ-loop
-returns-2 c = let b = ends-broken (c .before .before .before .before .before .before .before .before .before .args .text .now) (c .before .before .before .before .loop .i) _ (c .before .before .line-end .ensures) (c .enum-told .given .1) in breaks _ _ _ _ _ _ _ _ (rw (b .are) at (c .before .before .before .before .loop .inv .0))
+returns-2 c =
+    let c4 = c .before .before .before .before in
+    let c9 = c4 .before .before .before .before .before in
+    let b = ends-broken (c9 .args .text .now) (c4 .loop .i) _ (c .before .before .line-end .ensures) (c .enum-told .given .1) in breaks _ _ _ _ _ _ _ _ (rw (b .are) at (c4 .loop .inv .0))
 
 same-length-7 : tie.Need-same-length-7 Inv-loop μ-loop
 same-length-7 c = c .before .loop .inv .2
@@ -111,8 +178,11 @@ same-length-9 : tie.Need-same-length-9 Inv-loop μ-loop
 same-length-9 c = c .before .loop .inv .4
 
 returns-3 : tie.Need-returns-3 Inv-loop μ-loop
-returns-3 c = let e : c .before .loop .i ≡ length (c .before .before .before .before .before .before .args .text .now) = omega arith in
-    ends _ _ _ _ _ _ _ (rw (e, lines-end (c .before .before .before .before .before .before .args .text .now)) at (c .before .loop .inv .0)) (omega (arith, c .before .loop .inv .5, c .before .loop .inv .1, c .before .loop .inv .6))
+returns-3 c =
+    let c6 = c .before .before .before .before .before .before in
+    let args = c6 .args in
+    let e : c .before .loop .i ≡ length (args .text .now) = omega arith in
+    ends _ _ _ _ _ _ _ (rw (e, lines-end (args .text .now)) at (c .before .loop .inv .0)) (omega (arith, c .before .loop .inv .5, c .before .loop .inv .1, c .before .loop .inv .6))
 
 pub read-bids-spec : {M : Type 1} → statement M
 read-bids-spec =

@@ -28,7 +28,9 @@ mul-to-2 : tie.Need-mul-to-2 Inv-loop μ-loop
 mul-to-2 c = search needs
 
 slice-write-to : tie.Need-slice-write-to Inv-loop μ-loop
-slice-write-to c = rw (c .before .before .loop .inv .0) (omega (arith, copied-length (c .before .before .before .args .from .now) (c .before .before .before .args .to .now) (c .before .before .loop .i) (omega arith) (omega arith)))
+slice-write-to c =
+    let args = c .before .before .before .args in
+    rw (c .before .before .loop .inv .0) (omega (arith, copied-length (args .from .now) (args .to .now) (c .before .before .loop .i) (omega arith) (omega arith)))
 
 add-i : tie.Need-add-i Inv-loop μ-loop
 add-i c = search needs
@@ -37,15 +39,19 @@ loop-less : tie.Need-loop-less Inv-loop μ-loop
 loop-less c = search needs
 
 loop-again : tie.Need-loop-again Inv-loop μ-loop
-loop-again c = (
-  ap (λ l. set l (c .before .before .loop .i) (getD (c .before .before .before .args .from .now) (c .before .before .loop .i) 0)) (c .before .before .loop .inv .0) ∙ copied (c .before .before .before .args .from .now) (c .before .before .before .args .to .now) (c .before .before .loop .i) (omega arith) (omega arith),
+loop-again c =
+    let args = c .before .before .before .args in
+    (
+  ap (λ l. set l (c .before .before .loop .i) (getD (args .from .now) (c .before .before .loop .i) 0)) (c .before .before .loop .inv .0) ∙ copied (args .from .now) (args .to .now) (c .before .before .loop .i) (omega arith) (omega arith),
   omega arith,
   c .before .before .loop .inv .2,
   c .before .before .loop .inv .3,
 )
 
 same-length : tie.Need-same-length Inv-loop μ-loop
-same-length c = rw (c .before .loop .inv .0) (copied-length (c .before .before .args .from .now) (c .before .before .args .to .now) (c .before .loop .i) (omega arith) (omega arith))
+same-length c =
+    let args = c .before .before .args in
+    rw (c .before .loop .inv .0) (copied-length (args .from .now) (args .to .now) (c .before .loop .i) (omega arith) (omega arith))
 
 returns : tie.Need-returns Inv-loop μ-loop
 returns c = let e : c .before .loop .i ≡ c .before .before .args .n = omega arith in c .before .loop .inv .0 ∙ rw e

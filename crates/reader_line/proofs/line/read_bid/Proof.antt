@@ -15,9 +15,13 @@ next-requires : tie.Need-next-requires
 next-requires c κs = search needs
 
 returns : tie.Need-returns
-returns c = let line = c .before .before .before .before .args .line .now in
-    let h : c .before .next .result ≡ length line = omega (arith, next-fits 32 line (c .before .before .before .before .args .at) (c .before .before .before .before .pre .0)) in
-    noted-none _ (bid-one line (c .before .before .before .before .args .at) (c .before .next .result) 0 (c .before .before .before .before .pre .0) (sym (c .before .next .ensures)) h) _ _
+returns c =
+    let c4 = c .before .before .before .before in
+    let args = c4 .args in
+    let pre = c4 .pre in
+    let line = args .line .now in
+    let h : c .before .next .result ≡ length line = omega (arith, next-fits 32 line (args .at) (pre .0)) in
+    noted-none _ (bid-one line (args .at) (c .before .next .result) 0 (pre .0) (sym (c .before .next .ensures)) h) _ _
 
 add-next : tie.Need-add-next
 add-next c = search needs
@@ -26,9 +30,12 @@ next-requires-2 : tie.Need-next-requires-2
 next-requires-2 c κs = search needs
 
 returns-2 : tie.Need-returns-2
-returns-2 c = let line = c .before .before .before .before .before .before .args .line .now in
+returns-2 c =
+    let c6 = c .before .before .before .before .before .before in
+    let args = c6 .args in
+    let line = args .line .now in
     let h : c .before .next2 .result ≡ length line = omega (arith, next-fits 32 line (c .before .before .before .next .result + 1) (omega arith)) in
-    noted-none _ (bid-two line (c .before .before .before .before .before .before .args .at) (c .before .before .before .next .result) (c .before .next2 .result) (c .before .before .before .before .before .before .pre .0) (sym (c .before .before .before .next .ensures)) (c .before .before .if1 .left) (sym (c .before .next2 .ensures)) h) _ _
+    noted-none _ (bid-two line (args .at) (c .before .before .before .next .result) (c .before .next2 .result) (c6 .pre .0) (sym (c .before .before .before .next .ensures)) (c .before .before .if1 .left) (sym (c .before .next2 .ensures)) h) _ _
 
 sub-read-number : tie.Need-sub-read-number
 sub-read-number c = search needs
@@ -49,8 +56,15 @@ enum-told : tie.Need-enum-told
 enum-told c = search needs
 
 returns-3 : tie.Need-returns-3
-returns-3 c = let line = c .before .before .before .before .before .before .before .before .before .before .args .line .now in
-    noted-none _ (bid-unnumbered line (c .before .before .before .before .before .before .before .before .before .before .args .at) (c .before .before .before .before .before .before .before .next .result) (c .before .before .before .before .before .next2 .result) (c .before .before .before .before .before .before .before .before .before .before .pre .0) (sym (c .before .before .before .before .before .before .before .next .ensures)) (c .before .before .before .before .before .before .if1 .left) (sym (c .before .before .before .before .before .next2 .ensures)) (c .before .before .before .before .if2 .left)
+returns-3 c =
+    let c4 = c .before .before .before .before in
+    let c5 = c4 .before in
+    let c6 = c5 .before in
+    let c7 = c6 .before in
+    let c10 = c7 .before .before .before in
+    let args = c10 .args in
+    let line = args .line .now in
+    noted-none _ (bid-unnumbered line (args .at) (c7 .next .result) (c5 .next2 .result) (c10 .pre .0) (sym (c7 .next .ensures)) (c6 .if1 .left) (sym (c5 .next2 .ensures)) (c4 .if2 .left)
     (is-bad _ (sym (c .before .before .read-number .ensures) ∙ c .enum-told .given .1))) _ _
 
 add-read-price : tie.Need-add-read-price
@@ -75,9 +89,18 @@ enum-told-2 : tie.Need-enum-told-2
 enum-told-2 c = search needs
 
 returns-4 : tie.Need-returns-4
-returns-4 c = let line = c .before .before .before .before .before .before .before .before .before .before .before .before .before .before .before .args .line .now in
-    noted-none _ (bid-unpriced line (c .before .before .before .before .before .before .before .before .before .before .before .before .before .before .before .args .at) (c .before .before .before .before .before .before .before .before .before .before .before .before .next .result) (c .before .before .before .before .before .before .before .before .before .before .next2 .result) (c .before .before .before .before .before .before .before .before .before .before .before .before .before .before .before .pre .0) (sym (c .before .before .before .before .before .before .before .before .before .before .before .before .next .ensures)) (c .before .before .before .before .before .before .before .before .before .before .before .if1 .left) (sym (c .before .before .before .before .before .before .before .before .before .before .next2 .ensures)) (c .before .before .before .before .before .before .before .before .before .if2 .left)
-    _ (is-value _ _ (sym (c .before .before .before .before .before .before .before .read-number .ensures) ∙ c .before .before .before .before .before .bidder .given .1)) (is-bad _ (sym (c .before .before .read-price .ensures) ∙ c .enum-told2 .given .1))) _ _
+returns-4 c =
+    let c5 = c .before .before .before .before .before in
+    let c7 = c5 .before .before in
+    let c9 = c7 .before .before in
+    let c10 = c9 .before in
+    let c11 = c10 .before in
+    let c12 = c11 .before in
+    let c15 = c12 .before .before .before in
+    let args = c15 .args in
+    let line = args .line .now in
+    noted-none _ (bid-unpriced line (args .at) (c12 .next .result) (c10 .next2 .result) (c15 .pre .0) (sym (c12 .next .ensures)) (c11 .if1 .left) (sym (c10 .next2 .ensures)) (c9 .if2 .left)
+    _ (is-value _ _ (sym (c7 .read-number .ensures) ∙ c5 .bidder .given .1)) (is-bad _ (sym (c .before .before .read-price .ensures) ∙ c .enum-told2 .given .1))) _ _
 
 add-read-windows : tie.Need-add-read-windows
 add-read-windows c = search needs
@@ -95,19 +118,43 @@ same-length : tie.Need-same-length
 same-length c = search needs
 
 returns-5 : tie.Need-returns-5
-returns-5 c = let line = c .before .before .before .before .before .before .before .before .before .before .before .before .before .before .before .before .before .before .before .before .before .before .before .args .line .now in
-    bid-whole line (c .before .before .before .before .before .before .before .before .before .before .before .before .before .before .before .before .before .before .before .before .before .before .before .args .at) (c .before .before .before .before .before .before .before .before .before .before .before .before .before .before .before .before .before .before .before .before .next .result) (c .before .before .before .before .before .before .before .before .before .before .before .before .before .before .before .before .before .before .next2 .result) (c .before .before .before .before .before .before .before .before .before .before .before .before .before .before .before .before .before .before .before .before .before .before .before .pre .0) (sym (c .before .before .before .before .before .before .before .before .before .before .before .before .before .before .before .before .before .before .before .before .next .ensures)) (c .before .before .before .before .before .before .before .before .before .before .before .before .before .before .before .before .before .before .before .if1 .left) (sym (c .before .before .before .before .before .before .before .before .before .before .before .before .before .before .before .before .before .before .next2 .ensures)) (c .before .before .before .before .before .before .before .before .before .before .before .before .before .before .before .before .before .if2 .left)
-    _ (is-value _ _ (sym (c .before .before .before .before .before .before .before .before .before .before .before .before .before .before .before .read-number .ensures) ∙ c .before .before .before .before .before .before .before .before .before .before .before .before .before .bidder .given .1)) _ (is-value _ _ (sym (c .before .before .before .before .before .before .before .before .before .before .read-price .ensures) ∙ c .before .before .before .before .before .before .before .before .price .given .1)) _ _ _
-    (ap (λ t. toldTally t (c .before .before .before .before .before .read-windows .last .1 .1 .0)) (sym (c .before .count .given .1)) ∙ c .before .before .before .before .before .read-windows .ensures)
+returns-5 c =
+    let c5 = c .before .before .before .before .before in
+    let c8 = c5 .before .before .before in
+    let c10 = c8 .before .before in
+    let c13 = c10 .before .before .before in
+    let c15 = c13 .before .before in
+    let c17 = c15 .before .before in
+    let c18 = c17 .before in
+    let c19 = c18 .before in
+    let c20 = c19 .before in
+    let c23 = c20 .before .before .before in
+    let args = c23 .args in
+    let line = args .line .now in
+    bid-whole line (args .at) (c20 .next .result) (c18 .next2 .result) (c23 .pre .0) (sym (c20 .next .ensures)) (c19 .if1 .left) (sym (c18 .next2 .ensures)) (c17 .if2 .left)
+    _ (is-value _ _ (sym (c15 .read-number .ensures) ∙ c13 .bidder .given .1)) _ (is-value _ _ (sym (c10 .read-price .ensures) ∙ c8 .price .given .1)) _ _ _
+    (ap (λ t. toldTally t (c5 .read-windows .last .1 .1 .0)) (sym (c .before .count .given .1)) ∙ c5 .read-windows .ensures)
 
 same-length-2 : tie.Need-same-length-2
 same-length-2 c = search needs
 
 returns-6 : tie.Need-returns-6
-returns-6 c = let line = c .before .before .before .before .before .before .before .before .before .before .before .before .before .before .before .before .before .before .before .before .before .before .args .line .now in
-    bid-unwindowed line (c .before .before .before .before .before .before .before .before .before .before .before .before .before .before .before .before .before .before .before .before .before .before .args .at) (c .before .before .before .before .before .before .before .before .before .before .before .before .before .before .before .before .before .before .before .next .result) (c .before .before .before .before .before .before .before .before .before .before .before .before .before .before .before .before .before .next2 .result) (c .before .before .before .before .before .before .before .before .before .before .before .before .before .before .before .before .before .before .before .before .before .before .pre .0) (sym (c .before .before .before .before .before .before .before .before .before .before .before .before .before .before .before .before .before .before .before .next .ensures)) (c .before .before .before .before .before .before .before .before .before .before .before .before .before .before .before .before .before .before .if1 .left) (sym (c .before .before .before .before .before .before .before .before .before .before .before .before .before .before .before .before .before .next2 .ensures)) (c .before .before .before .before .before .before .before .before .before .before .before .before .before .before .before .before .if2 .left)
-    _ (is-value _ _ (sym (c .before .before .before .before .before .before .before .before .before .before .before .before .before .before .read-number .ensures) ∙ c .before .before .before .before .before .before .before .before .before .before .before .before .bidder .given .1)) _ (is-value _ _ (sym (c .before .before .before .before .before .before .before .before .before .read-price .ensures) ∙ c .before .before .before .before .before .before .before .price .given .1)) _ _
-    (sym (c .before .before .before .before .read-windows .ensures) ∙ ap (λ t. toldTally t (c .before .before .before .before .read-windows .last .1 .1 .0)) (c .enum-told3 .given .1))
+returns-6 c =
+    let c4 = c .before .before .before .before in
+    let c7 = c4 .before .before .before in
+    let c9 = c7 .before .before in
+    let c12 = c9 .before .before .before in
+    let c14 = c12 .before .before in
+    let c16 = c14 .before .before in
+    let c17 = c16 .before in
+    let c18 = c17 .before in
+    let c19 = c18 .before in
+    let c22 = c19 .before .before .before in
+    let args = c22 .args in
+    let line = args .line .now in
+    bid-unwindowed line (args .at) (c19 .next .result) (c17 .next2 .result) (c22 .pre .0) (sym (c19 .next .ensures)) (c18 .if1 .left) (sym (c17 .next2 .ensures)) (c16 .if2 .left)
+    _ (is-value _ _ (sym (c14 .read-number .ensures) ∙ c12 .bidder .given .1)) _ (is-value _ _ (sym (c9 .read-price .ensures) ∙ c7 .price .given .1)) _ _
+    (sym (c4 .read-windows .ensures) ∙ ap (λ t. toldTally t (c4 .read-windows .last .1 .1 .0)) (c .enum-told3 .given .1))
 
 pub read-bid-spec : {M : Type 1} → statement M
 read-bid-spec =

@@ -24,7 +24,8 @@ shared-slice-read-b c = search needs
 
 mul-v : tie.Need-mul-v Inv-loop μ-loop
 mul-v c =
-    let l = c .before .before .before .before in
+    let c4 = c .before .before .before .before in
+    let l = c4 in
     omega (arith, ten-below (l .loop .v) (l .loop .i) (l .loop .inv .1) (omega arith))
 
 wide-requires : tie.Need-wide-requires Inv-loop μ-loop
@@ -32,7 +33,8 @@ wide-requires c κs = search needs
 
 add-v : tie.Need-add-v Inv-loop μ-loop
 add-v c =
-    let l = c .before .before .before .before .before in
+    let c5 = c .before .before .before .before .before in
+    let l = c5 in
     omega (arith, ten-below (l .loop .v) (l .loop .i) (l .loop .inv .1) (omega arith))
 
 add-i : tie.Need-add-i Inv-loop μ-loop
@@ -59,7 +61,8 @@ returns c =
 
 returns-2 : tie.Need-returns-2 Inv-loop μ-loop
 returns-2 c =
-    let l = c .before .before .before .before in
+    let c4 = c .before .before .before .before in
+    let l = c4 in
     ap asNumber (sym (other _ (l .loop .v) (l .loop .i) (c .before .before .before .loop-test .taken) (above _ (c .if2 .left))) ∙ l .loop .inv .0)
 
 returns-3 : tie.Need-returns-3 Inv-loop μ-loop

@@ -17,7 +17,10 @@ abbrev μ-loop : tie.MeasureT-loop
 μ-loop starts ends prices order live₀ costs₀ skip from len stop n lead₀ q₀ live costs lead q = length prices - q
 
 loop-holds : tie.Need-loop-holds Inv-loop μ-loop
-loop-holds c = (omega (arith, c .before .before .before .before .before .before .pre .1 .1 .0), refl, refl, c .before .before .before .before .before .before .pre .1 .1 .1)
+loop-holds c =
+    let c6 = c .before .before .before .before .before .before in
+    let pre = c6 .pre in
+    (omega (arith, pre .1 .1 .0), refl, refl, pre .1 .1 .1)
 
 mul-i : tie.Need-mul-i Inv-loop μ-loop
 mul-i c = search needs
@@ -26,10 +29,16 @@ shared-slice-read-i : tie.Need-shared-slice-read-i Inv-loop μ-loop
 shared-slice-read-i c = search needs
 
 mul-if1 : tie.Need-mul-if1 Inv-loop μ-loop
-mul-if1 c = omega (arith, c .before .before .before .before .before .before .before .before .before .pre .0 .starts, c .before .before .before .before .before .before .before .before .before .pre .0 .sorted .bids (c .before .before .loop .q) (c .before .loop-test .taken))
+mul-if1 c =
+    let c9 = c .before .before .before .before .before .before .before .before .before in
+    let pre = c9 .pre in
+    omega (arith, pre .0 .starts, pre .0 .sorted .bids (c .before .before .loop .q) (c .before .loop-test .taken))
 
 shared-slice-read-if1 : tie.Need-shared-slice-read-if1 Inv-loop μ-loop
-shared-slice-read-if1 c = omega (arith, c .before .before .before .before .before .before .before .before .before .before .pre .0 .starts, c .before .before .before .before .before .before .before .before .before .before .pre .0 .sorted .bids (c .before .before .before .loop .q) (c .before .before .loop-test .taken))
+shared-slice-read-if1 c =
+    let c10 = c .before .before .before .before .before .before .before .before .before .before in
+    let pre = c10 .pre in
+    omega (arith, pre .0 .starts, pre .0 .sorted .bids (c .before .before .before .loop .q) (c .before .before .loop-test .taken))
 
 same-length : tie.Need-same-length Inv-loop μ-loop
 same-length c = search needs
@@ -38,10 +47,18 @@ same-length-2 : tie.Need-same-length-2 Inv-loop μ-loop
 same-length-2 c = search needs
 
 returns : tie.Need-returns Inv-loop μ-loop
-returns c = ran-stop _ _ _ _ _ _ _ (c .before .before .before .before .before .before .before .before .before .before .before .pre .0) _ _ _ _ _ _ (c .before .before .before .loop-test .taken) (c .if1 .taken) (c .before .before .before .before .loop .inv .3)
+returns c =
+    let c4 = c .before .before .before .before in
+    let c11 = c4 .before .before .before .before .before .before .before in
+    ran-stop _ _ _ _ _ _ _ (c11 .pre .0) _ _ _ _ _ _ (c .before .before .before .loop-test .taken) (c .if1 .taken) (c4 .loop .inv .3)
 
 step-requires : tie.Need-step-requires Inv-loop μ-loop
-step-requires c κs = (c .before .before .before .before .before .before .before .before .before .before .before .before .before .pre .0, ((omega (arith, c .before .before .before .before .before .before .before .before .before .before .before .before .before .pre .1 .0), omega (arith, c .before .before .before .before .before .before .before .before .before .before .before .before .before .pre .1 .0), omega (arith, c .before .before .before .before .before .before .before .before .before .before .before .before .before .pre .1 .0, c .before .before .before .before .before .before .loop .inv .1), omega (arith, c .before .before .before .before .before .before .before .before .before .before .before .before .before .pre .1 .0, c .before .before .before .before .before .before .loop .inv .2)), ((c .before .before .before .before .before .loop-test .taken, c .before .before .before .before .before .before .before .before .before .before .before .before .before .pre .1 .1 .0 .1, c .before .before .if1 .left), c .before .before .before .before .before .before .loop .inv .3)))
+step-requires c κs =
+    let c5 = c .before .before .before .before .before in
+    let c6 = c5 .before in
+    let c13 = c6 .before .before .before .before .before .before .before in
+    let pre = c13 .pre in
+    (pre .0, ((omega (arith, pre .1 .0), omega (arith, pre .1 .0), omega (arith, pre .1 .0, c6 .loop .inv .1), omega (arith, pre .1 .0, c6 .loop .inv .2)), ((c5 .loop-test .taken, pre .1 .1 .0 .1, c .before .before .if1 .left), c6 .loop .inv .3)))
 
 add-q : tie.Need-add-q Inv-loop μ-loop
 add-q c = search needs
@@ -50,7 +67,11 @@ loop-less : tie.Need-loop-less Inv-loop μ-loop
 loop-less c = search needs
 
 loop-again : tie.Need-loop-again Inv-loop μ-loop
-loop-again c = (omega (arith, c .before .before .before .before .before .before .before .before .before .before .loop-test .taken), omega (arith, c .before .before .before .before .before .before .before .before .before .before .before .loop .inv .1, c .before .before .before .before .step .kept), omega (arith, c .before .before .before .before .before .before .before .before .before .before .before .loop .inv .2, c .before .before .before .before .step .kept), c .before .before .before .before .step .ensures)
+loop-again c =
+    let c4 = c .before .before .before .before in
+    let c10 = c4 .before .before .before .before .before .before in
+    let c11 = c10 .before in
+    (omega (arith, c10 .loop-test .taken), omega (arith, c11 .loop .inv .1, c4 .step .kept), omega (arith, c11 .loop .inv .2, c4 .step .kept), c4 .step .ensures)
 
 same-length-3 : tie.Need-same-length-3 Inv-loop μ-loop
 same-length-3 c = search needs
@@ -59,7 +80,9 @@ same-length-4 : tie.Need-same-length-4 Inv-loop μ-loop
 same-length-4 c = search needs
 
 returns-2 : tie.Need-returns-2 Inv-loop μ-loop
-returns-2 c = ran-end _ _ _ _ _ _ _ (c .before .before .before .before .before .before .before .before .pre .0) _ _ _ _ _ _ (le-antisymm (c .before .loop .inv .0) (c .loop-test .left)) (c .before .loop .inv .3)
+returns-2 c =
+    let c8 = c .before .before .before .before .before .before .before .before in
+    ran-end _ _ _ _ _ _ _ (c8 .pre .0) _ _ _ _ _ _ (le-antisymm (c .before .loop .inv .0) (c .loop-test .left)) (c .before .loop .inv .3)
 
 pub run-spec : {M : Type 1} → statement M
 run-spec =

@@ -12,38 +12,74 @@ shared-slice-read-i : tie.Need-shared-slice-read-i
 shared-slice-read-i c = search needs
 
 mul-lead-at : tie.Need-mul-lead-at
-mul-lead-at c = omega (arith, c .before .before .before .before .before .before .before .before .before .pre .0 .starts, c .before .before .before .before .before .before .before .before .before .pre .0 .sorted .bids (c .before .before .before .before .before .before .before .before .before .args .q) (c .before .before .before .before .before .before .before .before .before .pre .1 .1 .0 .0))
+mul-lead-at c =
+    let c9 = c .before .before .before .before .before .before .before .before .before in
+    let pre = c9 .pre in
+    omega (arith, pre .0 .starts, pre .0 .sorted .bids (c9 .args .q) (pre .1 .1 .0 .0))
 
 shared-slice-read-lead-at : tie.Need-shared-slice-read-lead-at
-shared-slice-read-lead-at c = omega (arith, c .before .before .before .before .before .before .before .before .before .before .pre .0 .starts, c .before .before .before .before .before .before .before .before .before .before .pre .0 .sorted .bids (c .before .before .before .before .before .before .before .before .before .before .args .q) (c .before .before .before .before .before .before .before .before .before .before .pre .1 .1 .0 .0))
+shared-slice-read-lead-at c =
+    let c10 = c .before .before .before .before .before .before .before .before .before .before in
+    let pre = c10 .pre in
+    omega (arith, pre .0 .starts, pre .0 .sorted .bids (c10 .args .q) (pre .1 .1 .0 .0))
 
 lead-at-requires : tie.Need-lead-at-requires
-lead-at-requires c κs = ((omega (arith, c .before .before .before .before .before .before .before .before .before .before .pre .1 .0, c .before .before .before .before .before .before .before .before .before .before .pre .1 .1 .0, c .before .before .before .before .before .before .before .before .before .before .pre .1 .1 .1 .reach .few), omega (arith, c .before .before .before .before .before .before .before .before .before .before .pre .1 .0, c .before .before .before .before .before .before .before .before .before .before .pre .1 .1 .0, c .before .before .before .before .before .before .before .before .before .before .pre .1 .1 .1 .reach .few), omega (arith, c .before .before .before .before .before .before .before .before .before .before .pre .1 .0), omega (arith, c .before .before .before .before .before .before .before .before .before .before .pre .0 .starts), omega (arith, c .before .before .before .before .before .before .before .before .before .before .pre .0 .ends)), (live-below _ _ _ _ _ _ _ (c .before .before .before .before .before .before .before .before .before .before .pre .0) _ _ _ _ _ _ (omega (arith, c .before .before .before .before .before .before .before .before .before .before .pre .1 .1 .0)) (c .before .before .before .before .before .before .before .before .before .before .pre .1 .1 .1), c .before .before .before .before .before .before .before .before .before .before .pre .1 .1 .1 .guard))
+lead-at-requires c κs =
+    let c10 = c .before .before .before .before .before .before .before .before .before .before in
+    let pre = c10 .pre in
+    ((omega (arith, pre .1 .0, pre .1 .1 .0, pre .1 .1 .1 .reach .few), omega (arith, pre .1 .0, pre .1 .1 .0, pre .1 .1 .1 .reach .few), omega (arith, pre .1 .0), omega (arith, pre .0 .starts), omega (arith, pre .0 .ends)), (live-below _ _ _ _ _ _ _ (pre .0) _ _ _ _ _ _ (omega (arith, pre .1 .1 .0)) (pre .1 .1 .1), pre .1 .1 .1 .guard))
 
 mul-entry : tie.Need-mul-entry
-mul-entry c = omega (arith, c .before .before .before .before .before .before .before .before .before .before .before .before .before .pre .0 .sorted .bids (c .before .before .before .before .before .before .before .before .before .before .before .before .before .args .q) (c .before .before .before .before .before .before .before .before .before .before .before .before .before .pre .1 .1 .0 .0))
+mul-entry c =
+    let c13 = c .before .before .before .before .before .before .before .before .before .before .before .before .before in
+    let pre = c13 .pre in
+    omega (arith, pre .0 .sorted .bids (c13 .args .q) (pre .1 .1 .0 .0))
 
 shared-slice-read-entry : tie.Need-shared-slice-read-entry
-shared-slice-read-entry c = omega (arith, c .before .before .before .before .before .before .before .before .before .before .before .before .before .before .pre .0 .sorted .bids (c .before .before .before .before .before .before .before .before .before .before .before .before .before .before .args .q) (c .before .before .before .before .before .before .before .before .before .before .before .before .before .before .pre .1 .1 .0 .0))
+shared-slice-read-entry c =
+    let c14 = c .before .before .before .before .before .before .before .before .before .before .before .before .before .before in
+    let pre = c14 .pre in
+    omega (arith, pre .0 .sorted .bids (c14 .args .q) (pre .1 .1 .0 .0))
 
 entry-requires : tie.Need-entry-requires
-entry-requires c κs = let y = led-ready _ _ _ _ _ _ _ _ (c .before .before .before .before .before .before .before .before .before .before .before .before .before .before .pre .0) _ _ _ _ _ _ _ _ _ (c .before .before .before .before .before .before .before .before .before .before .before .before .before .before .pre .1 .1 .0 .0) (c .before .before .before .before .before .before .before .before .before .before .before .before .before .before .pre .1 .1 .1) (c .before .before .before .lead-at .ensures) in
-    ready-fits _ _ _ _ _ _ _ (c .before .before .before .before .before .before .before .before .before .before .before .before .before .before .pre .0) _ _ _ _ (c .before .before .before .before .before .before .before .before .before .before .before .before .before .before .pre .1 .1 .0 .0) (c .before .before .before .before .before .before .before .before .before .before .before .before .before .before .pre .1 .1 .0 .1) y
+entry-requires c κs =
+    let c14 = c .before .before .before .before .before .before .before .before .before .before .before .before .before .before in
+    let pre = c14 .pre in
+    let y = led-ready _ _ _ _ _ _ _ _ (pre .0) _ _ _ _ _ _ _ _ _ (pre .1 .1 .0 .0) (pre .1 .1 .1) (c .before .before .before .lead-at .ensures) in
+    ready-fits _ _ _ _ _ _ _ (pre .0) _ _ _ _ (pre .1 .1 .0 .0) (pre .1 .1 .0 .1) y
 
 mul-costs : tie.Need-mul-costs
-mul-costs c = omega (arith, c .before .before .before .before .before .before .before .before .before .before .before .before .before .before .before .pre .1 .0, c .before .before .before .before .before .before .before .before .before .before .before .before .before .before .before .pre .0 .sorted .bids (c .before .before .before .before .before .before .before .before .before .before .before .before .before .before .before .args .q) (c .before .before .before .before .before .before .before .before .before .before .before .before .before .before .before .pre .1 .1 .0 .0))
+mul-costs c =
+    let c15 = c .before .before .before .before .before .before .before .before .before .before .before .before .before .before .before in
+    let pre = c15 .pre in
+    omega (arith, pre .1 .0, pre .0 .sorted .bids (c15 .args .q) (pre .1 .1 .0 .0))
 
 slice-write-costs : tie.Need-slice-write-costs
-slice-write-costs c = omega (arith, c .before .before .before .before .before .before .before .before .before .before .before .before .before .before .before .pre .1 .0, c .before .before .before .before .before .before .before .before .before .before .before .before .before .before .before .pre .0 .sorted .bids (c .before .before .before .before .before .before .before .before .before .before .before .before .before .before .before .args .q) (c .before .before .before .before .before .before .before .before .before .before .before .before .before .before .before .pre .1 .1 .0 .0))
+slice-write-costs c =
+    let c15 = c .before .before .before .before .before .before .before .before .before .before .before .before .before .before .before in
+    let pre = c15 .pre in
+    omega (arith, pre .1 .0, pre .0 .sorted .bids (c15 .args .q) (pre .1 .1 .0 .0))
 
 mul-live : tie.Need-mul-live
-mul-live c = let y = led-ready _ _ _ _ _ _ _ _ (c .before .before .before .before .before .before .before .before .before .before .before .before .before .before .before .pre .0) _ _ _ _ _ _ _ _ _ (c .before .before .before .before .before .before .before .before .before .before .before .before .before .before .before .pre .1 .1 .0 .0) (c .before .before .before .before .before .before .before .before .before .before .before .before .before .before .before .pre .1 .1 .1) (c .before .before .before .before .lead-at .ensures) in omega (arith, y .reach .few, c .before .before .before .before .before .before .before .before .before .before .before .before .before .before .before .pre .1 .0, c .before .before .before .before .before .before .before .before .before .before .before .before .before .before .before .pre .1 .1 .0, c .before .before .before .before .lead-at .kept)
+mul-live c =
+    let c4 = c .before .before .before .before in
+    let c15 = c4 .before .before .before .before .before .before .before .before .before .before .before in
+    let pre = c15 .pre in
+    let y = led-ready _ _ _ _ _ _ _ _ (pre .0) _ _ _ _ _ _ _ _ _ (pre .1 .1 .0 .0) (pre .1 .1 .1) (c4 .lead-at .ensures) in omega (arith, y .reach .few, pre .1 .0, pre .1 .1 .0, c4 .lead-at .kept)
 
 slice-write-live : tie.Need-slice-write-live
-slice-write-live c = let y = led-ready _ _ _ _ _ _ _ _ (c .before .before .before .before .before .before .before .before .before .before .before .before .before .before .before .pre .0) _ _ _ _ _ _ _ _ _ (c .before .before .before .before .before .before .before .before .before .before .before .before .before .before .before .pre .1 .1 .0 .0) (c .before .before .before .before .before .before .before .before .before .before .before .before .before .before .before .pre .1 .1 .1) (c .before .before .before .before .lead-at .ensures) in omega (arith, y .reach .few, c .before .before .before .before .before .before .before .before .before .before .before .before .before .before .before .pre .1 .0, c .before .before .before .before .before .before .before .before .before .before .before .before .before .before .before .pre .1 .1 .0, c .before .before .before .before .lead-at .kept)
+slice-write-live c =
+    let c4 = c .before .before .before .before in
+    let c15 = c4 .before .before .before .before .before .before .before .before .before .before .before in
+    let pre = c15 .pre in
+    let y = led-ready _ _ _ _ _ _ _ _ (pre .0) _ _ _ _ _ _ _ _ _ (pre .1 .1 .0 .0) (pre .1 .1 .1) (c4 .lead-at .ensures) in omega (arith, y .reach .few, pre .1 .0, pre .1 .1 .0, c4 .lead-at .kept)
 
 add-t16 : tie.Need-add-t16
-add-t16 c = let y = led-ready _ _ _ _ _ _ _ _ (c .before .before .before .before .before .before .before .before .before .before .before .before .before .before .before .pre .0) _ _ _ _ _ _ _ _ _ (c .before .before .before .before .before .before .before .before .before .before .before .before .before .before .before .pre .1 .1 .0 .0) (c .before .before .before .before .before .before .before .before .before .before .before .before .before .before .before .pre .1 .1 .1) (c .before .before .before .before .lead-at .ensures) in omega (arith, y .reach .few, c .before .before .before .before .before .before .before .before .before .before .before .before .before .before .before .pre .1 .0, c .before .before .before .before .before .before .before .before .before .before .before .before .before .before .before .pre .1 .1 .0, c .before .before .before .before .lead-at .kept)
+add-t16 c =
+    let c4 = c .before .before .before .before in
+    let c15 = c4 .before .before .before .before .before .before .before .before .before .before .before in
+    let pre = c15 .pre in
+    let y = led-ready _ _ _ _ _ _ _ _ (pre .0) _ _ _ _ _ _ _ _ _ (pre .1 .1 .0 .0) (pre .1 .1 .1) (c4 .lead-at .ensures) in omega (arith, y .reach .few, pre .1 .0, pre .1 .1 .0, c4 .lead-at .kept)
 
 same-length : tie.Need-same-length
 same-length c = search needs
@@ -52,9 +88,13 @@ same-length-2 : tie.Need-same-length-2
 same-length-2 c = search needs
 
 returns : tie.Need-returns
-returns c = let y = led-ready _ _ _ _ _ _ _ _ (c .before .before .before .before .before .before .before .before .before .before .before .before .before .before .before .pre .0) _ _ _ _ _ _ _ _ _ (c .before .before .before .before .before .before .before .before .before .before .before .before .before .before .before .pre .1 .1 .0 .0) (c .before .before .before .before .before .before .before .before .before .before .before .before .before .before .before .pre .1 .1 .1) (c .before .before .before .before .lead-at .ensures) in
-    let g = c .before .before .before .before .before .before .before .before .before .before .before .before .before .before .before .pre .1 .1 .1 in
-    rw (c .entry .ensures) (turn _ _ _ _ _ _ _ (c .before .before .before .before .before .before .before .before .before .before .before .before .before .before .before .pre .0) _ _ _ _ _ _ (c .before .before .before .before .before .before .before .before .before .before .before .before .before .before .before .pre .1 .1 .0 .0) (c .before .before .before .before .before .before .before .before .before .before .before .before .before .before .before .pre .1 .1 .0 .1) (omega (arith, c .before .before .before .before .before .before .before .before .before .before .before .before .before .before .before .pre .1 .0)) (omega (arith, y .reach .few, c .before .before .before .before .before .before .before .before .before .before .before .before .before .before .before .pre .1 .0, c .before .before .before .before .before .before .before .before .before .before .before .before .before .before .before .pre .1 .1 .0, c .before .before .before .before .lead-at .kept)) (omega (arith, c .before .before .before .before .before .before .before .before .before .before .before .before .before .before .before .pre .1 .1 .0)) (g .guard) (g .done) y)
+returns c =
+    let c4 = c .before .before .before .before in
+    let c15 = c4 .before .before .before .before .before .before .before .before .before .before .before in
+    let pre = c15 .pre in
+    let y = led-ready _ _ _ _ _ _ _ _ (pre .0) _ _ _ _ _ _ _ _ _ (pre .1 .1 .0 .0) (pre .1 .1 .1) (c4 .lead-at .ensures) in
+    let g = pre .1 .1 .1 in
+    rw (c .entry .ensures) (turn _ _ _ _ _ _ _ (pre .0) _ _ _ _ _ _ (pre .1 .1 .0 .0) (pre .1 .1 .0 .1) (omega (arith, pre .1 .0)) (omega (arith, y .reach .few, pre .1 .0, pre .1 .1 .0, c4 .lead-at .kept)) (omega (arith, pre .1 .1 .0)) (g .guard) (g .done) y)
 
 pub step-spec : {M : Type 1} → statement M
 step-spec =

@@ -25,7 +25,12 @@ mask-requires : tie.Need-mask-requires
 mask-requires c κs = search needs
 
 add-sets : tie.Need-add-sets
-add-sets c = omega (arith, c .mask .ensures, c .before .before .before .before .copy-row .ensures .written (c .before .before .before .before .before .before .before .args .i / 64) (omega arith), word-room (c .before .before .before .before .before .before .before .args .sets .now) (c .before .before .before .before .before .before .before .args .from) (c .before .before .before .before .before .before .before .args .i) (λ j. omega (arith, c .before .before .before .before .before .before .slice-known .given j)) (omega arith) (c .before .before .before .before .before .before .before .pre .1))
+add-sets c =
+    let c4 = c .before .before .before .before in
+    let c6 = c4 .before .before in
+    let c7 = c6 .before in
+    let args = c7 .args in
+    omega (arith, c .mask .ensures, c4 .copy-row .ensures .written (args .i / 64) (omega arith), word-room (args .sets .now) (args .from) (args .i) (λ j. omega (arith, c6 .slice-known .given j)) (omega arith) (c7 .pre .1))
 
 mul-sets-2 : tie.Need-mul-sets-2
 mul-sets-2 c = search needs
@@ -37,7 +42,9 @@ same-length : tie.Need-same-length
 same-length c = search needs
 
 returns : tie.Need-returns
-returns c = rw (c .mask .ensures) (extended _ _ _ _ (omega arith) (omega arith) (c .before .before .before .before .copy-row .ensures))
+returns c =
+    let c4 = c .before .before .before .before in
+    rw (c .mask .ensures) (extended _ _ _ _ (omega arith) (omega arith) (c4 .copy-row .ensures))
 
 pub extend-spec : {M : Type 1} → statement M
 extend-spec =

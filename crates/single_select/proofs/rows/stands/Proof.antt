@@ -47,19 +47,33 @@ shared-slice-read-y : tie.Need-shared-slice-read-y Inv-loop μ-loop
 shared-slice-read-y c = search needs
 
 returns : tie.Need-returns Inv-loop μ-loop
-returns c = let e : c .before .before .before .before .loop .j ≡ c .before .before .before .before .loop .j - 1 + 1 = omega arith in sym (lt-ltb _ _ (word-less (c .before .before .before .before .before .args .sets .now) (λ j. omega (arith, c .before .before .shared-slice-known .given j)) (c .before .before .before .before .before .args .q) (c .before .before .before .before .before .args .r) (c .before .before .before .before .loop .j - 1) (omega arith) (rw e at (c .before .before .before .before .loop .inv .1)) (c .if1 .taken)))
+returns c =
+    let c4 = c .before .before .before .before in
+    let c5 = c4 .before in
+    let args = c5 .args in
+    let e : c4 .loop .j ≡ c4 .loop .j - 1 + 1 = omega arith in sym (lt-ltb _ _ (word-less (args .sets .now) (λ j. omega (arith, c .before .before .shared-slice-known .given j)) (args .q) (args .r) (c4 .loop .j - 1) (omega arith) (rw e at (c4 .loop .inv .1)) (c .if1 .taken)))
 
 returns-2 : tie.Need-returns-2 Inv-loop μ-loop
-returns-2 c = let e : c .before .before .before .before .before .loop .j ≡ c .before .before .before .before .before .loop .j - 1 + 1 = omega arith in sym (le-ltb (row (c .before .before .before .before .before .before .args .sets .now) (c .before .before .before .before .before .before .args .q)) (row (c .before .before .before .before .before .before .args .sets .now) (c .before .before .before .before .before .before .args .r)) (omega (arith, word-less (c .before .before .before .before .before .before .args .sets .now) (λ j. omega (arith, c .before .before .before .shared-slice-known .given j)) (c .before .before .before .before .before .before .args .r) (c .before .before .before .before .before .before .args .q) (c .before .before .before .before .before .loop .j - 1) (omega arith) (rw e at (sym (c .before .before .before .before .before .loop .inv .1))) (c .if2 .taken))))
+returns-2 c =
+    let c5 = c .before .before .before .before .before in
+    let c6 = c5 .before in
+    let args = c6 .args in
+    let e : c5 .loop .j ≡ c5 .loop .j - 1 + 1 = omega arith in sym (le-ltb (row (args .sets .now) (args .q)) (row (args .sets .now) (args .r)) (omega (arith, word-less (args .sets .now) (λ j. omega (arith, c .before .before .before .shared-slice-known .given j)) (args .r) (args .q) (c5 .loop .j - 1) (omega arith) (rw e at (sym (c5 .loop .inv .1))) (c .if2 .taken))))
 
 loop-less : tie.Need-loop-less Inv-loop μ-loop
 loop-less c = search needs
 
 loop-again : tie.Need-loop-again Inv-loop μ-loop
-loop-again c = let e : c .before .before .before .before .before .loop .j ≡ c .before .before .before .before .before .loop .j - 1 + 1 = omega arith in (omega arith, word-same (c .before .before .before .before .before .before .args .sets .now) (λ j. omega (arith, c .before .before .before .shared-slice-known .given j)) (c .before .before .before .before .before .before .args .q) (c .before .before .before .before .before .before .args .r) (c .before .before .before .before .before .loop .j - 1) (omega arith) (rw e at (c .before .before .before .before .before .loop .inv .1)) (le-antisymm (c .if2 .left) (c .before .if1 .left)))
+loop-again c =
+    let c5 = c .before .before .before .before .before in
+    let c6 = c5 .before in
+    let args = c6 .args in
+    let e : c5 .loop .j ≡ c5 .loop .j - 1 + 1 = omega arith in (omega arith, word-same (args .sets .now) (λ j. omega (arith, c .before .before .before .shared-slice-known .given j)) (args .q) (args .r) (c5 .loop .j - 1) (omega arith) (rw e at (c5 .loop .inv .1)) (le-antisymm (c .if2 .left) (c .before .if1 .left)))
 
 returns-3 : tie.Need-returns-3 Inv-loop μ-loop
-returns-3 c = sym (le-ltb (row (c .before .before .args .sets .now) (c .before .before .args .q)) (row (c .before .before .args .sets .now) (c .before .before .args .r)) (omega (arith, all-same (c .before .before .args .sets .now) (c .before .before .args .q) (c .before .before .args .r) (c .before .loop .j) (omega arith) (c .before .loop .inv .1))))
+returns-3 c =
+    let args = c .before .before .args in
+    sym (le-ltb (row (args .sets .now) (args .q)) (row (args .sets .now) (args .r)) (omega (arith, all-same (args .sets .now) (args .q) (args .r) (c .before .loop .j) (omega arith) (c .before .loop .inv .1))))
 
 pub stands-spec : {M : Type 1} → statement M
 stands-spec =

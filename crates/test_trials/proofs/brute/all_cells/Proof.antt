@@ -13,27 +13,21 @@ Inv-loop length m₀ x₀ m x = (x ≤ 16)
 abbrev μ-loop : tie.MeasureT-loop
 μ-loop length m₀ x₀ m x = 16 - x
 
--- src/brute.rt:7:5
 loop-holds : tie.Need-loop-holds Inv-loop μ-loop
 loop-holds c = search needs
 
--- src/brute.rt:9:22
 shl-m : tie.Need-shl-m Inv-loop μ-loop
 shl-m c = search needs
 
--- src/brute.rt:11:9
 add-x : tie.Need-add-x Inv-loop μ-loop
 add-x c = search needs
 
--- src/brute.rt:7:5
 loop-less : tie.Need-loop-less Inv-loop μ-loop
 loop-less c = search needs
 
--- src/brute.rt:7:5
 loop-again : tie.Need-loop-again Inv-loop μ-loop
 loop-again c = search needs
 
--- src/brute.rt:4:1
 returns : tie.Need-returns Inv-loop μ-loop
 returns c = search needs
 

@@ -14,31 +14,24 @@ Inv-loop masks length bidders x₀ x = (x ≤ 16)
 abbrev μ-loop : tie.MeasureT-loop
 μ-loop masks length bidders x₀ x = 16 - x
 
--- src/brute.rt:19:5
 loop-holds : tie.Need-loop-holds Inv-loop μ-loop
 loop-holds c = search needs
 
--- src/brute.rt:20:26
 bidders-of-requires : tie.Need-bidders-of-requires Inv-loop μ-loop
 bidders-of-requires c κs = search needs
 
--- src/brute.rt:21:13
 returns : tie.Need-returns Inv-loop μ-loop
 returns c = search needs
 
--- src/brute.rt:23:9
 add-x : tie.Need-add-x Inv-loop μ-loop
 add-x c = search needs
 
--- src/brute.rt:19:5
 loop-less : tie.Need-loop-less Inv-loop μ-loop
 loop-less c = search needs
 
--- src/brute.rt:19:5
 loop-again : tie.Need-loop-again Inv-loop μ-loop
 loop-again c = search needs
 
--- src/brute.rt:17:1
 returns-2 : tie.Need-returns-2 Inv-loop μ-loop
 returns-2 c = search needs
 

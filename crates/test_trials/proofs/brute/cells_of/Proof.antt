@@ -13,35 +13,27 @@ Inv-loop set masks m₀ i₀ m i = (i ≤ 7)
 abbrev μ-loop : tie.MeasureT-loop
 μ-loop set masks m₀ i₀ m i = 7 - i
 
--- src/brute.rt:61:5
 loop-holds : tie.Need-loop-holds Inv-loop μ-loop
 loop-holds c = search needs
 
--- src/brute.rt:62:12
 within-requires : tie.Need-within-requires Inv-loop μ-loop
 within-requires c κs = search needs
 
--- src/brute.rt:63:21
 mul-m : tie.Need-mul-m Inv-loop μ-loop
 mul-m c = search needs
 
--- src/brute.rt:63:21
 array-read-m : tie.Need-array-read-m Inv-loop μ-loop
 array-read-m c = search needs
 
--- src/brute.rt:65:9
 add-i : tie.Need-add-i Inv-loop μ-loop
 add-i c = search needs
 
--- src/brute.rt:61:5
 loop-less : tie.Need-loop-less Inv-loop μ-loop
 loop-less c = search needs
 
--- src/brute.rt:61:5
 loop-again : tie.Need-loop-again Inv-loop μ-loop
 loop-again c = search needs
 
--- src/brute.rt:58:1
 returns : tie.Need-returns Inv-loop μ-loop
 returns c = search needs
 

@@ -13,39 +13,30 @@ Inv-loop prices cells masks held₀ taken₀ round₀ held taken round = (round 
 abbrev μ-loop : tie.MeasureT-loop
 μ-loop prices cells masks held₀ taken₀ round₀ held taken round = 7 - round
 
--- src/brute.rt:131:5
 loop-holds : tie.Need-loop-holds Inv-loop μ-loop
 loop-holds c = search needs
 
--- src/brute.rt:132:13
 pick-requires : tie.Need-pick-requires Inv-loop μ-loop
 pick-requires c κs = search needs
 
--- src/brute.rt:134:28
 mul-held : tie.Need-mul-held Inv-loop μ-loop
 mul-held c = search needs
 
--- src/brute.rt:134:28
 array-read-held : tie.Need-array-read-held Inv-loop μ-loop
 array-read-held c = search needs
 
--- src/brute.rt:135:30
 shl-taken : tie.Need-shl-taken Inv-loop μ-loop
 shl-taken c = search needs
 
--- src/brute.rt:137:9
 add-round : tie.Need-add-round Inv-loop μ-loop
 add-round c = search needs
 
--- src/brute.rt:131:5
 loop-less : tie.Need-loop-less Inv-loop μ-loop
 loop-less c = search needs
 
--- src/brute.rt:131:5
 loop-again : tie.Need-loop-again Inv-loop μ-loop
 loop-again c = search needs
 
--- src/brute.rt:127:1
 returns : tie.Need-returns Inv-loop μ-loop
 returns c = search needs
 

@@ -14,39 +14,30 @@ Inv-loop masks prices cells k limit best₀ p₀ best p = (p ≤ limit)
 abbrev μ-loop : tie.MeasureT-loop
 μ-loop masks prices cells k limit best₀ p₀ best p = limit - p
 
--- src/brute.rt:145:5
 loop-holds : tie.Need-loop-holds Inv-loop μ-loop
 loop-holds c = search needs
 
--- src/brute.rt:148:13
 mul-asked : tie.Need-mul-asked Inv-loop μ-loop
 mul-asked c = search needs
 
--- src/brute.rt:148:13
 array-write-asked : tie.Need-array-write-asked Inv-loop μ-loop
 array-write-asked c = search needs
 
--- src/brute.rt:150:19
 greedy-requires : tie.Need-greedy-requires Inv-loop μ-loop
 greedy-requires c κs = search needs
 
--- src/brute.rt:150:12
 within-requires : tie.Need-within-requires Inv-loop μ-loop
 within-requires c κs = search needs
 
--- src/brute.rt:153:9
 add-p : tie.Need-add-p Inv-loop μ-loop
 add-p c = search needs
 
--- src/brute.rt:145:5
 loop-less : tie.Need-loop-less Inv-loop μ-loop
 loop-less c = search needs
 
--- src/brute.rt:145:5
 loop-again : tie.Need-loop-again Inv-loop μ-loop
 loop-again c = search needs
 
--- src/brute.rt:136:1
 returns : tie.Need-returns Inv-loop μ-loop
 returns c = search needs
 

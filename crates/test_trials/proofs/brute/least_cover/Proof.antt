@@ -15,35 +15,27 @@ Inv-loop masks prices cells skip best₀ least₀ set₀ best least set = (set �
 abbrev μ-loop : tie.MeasureT-loop
 μ-loop masks prices cells skip best₀ least₀ set₀ best least set = 128 - set
 
--- src/brute.rt:75:5
 loop-holds : tie.Need-loop-holds Inv-loop μ-loop
 loop-holds c = search needs
 
--- src/brute.rt:76:12
 cells-of-requires : tie.Need-cells-of-requires Inv-loop μ-loop
 cells-of-requires c κs = search needs
 
--- src/brute.rt:76:46
 within-requires : tie.Need-within-requires Inv-loop μ-loop
 within-requires c κs = search needs
 
--- src/brute.rt:77:17
 cost-of-requires : tie.Need-cost-of-requires Inv-loop μ-loop
 cost-of-requires c κs = search needs
 
--- src/brute.rt:83:9
 add-set : tie.Need-add-set Inv-loop μ-loop
 add-set c = search needs
 
--- src/brute.rt:75:5
 loop-less : tie.Need-loop-less Inv-loop μ-loop
 loop-less c = search needs
 
--- src/brute.rt:75:5
 loop-again : tie.Need-loop-again Inv-loop μ-loop
 loop-again c = search needs
 
--- src/brute.rt:71:1
 returns : tie.Need-returns Inv-loop μ-loop
 returns c = search needs
 

@@ -15,55 +15,42 @@ Inv-loop held taken masks prices best₀ top₀ reach₀ i₀ best top reach i =
 abbrev μ-loop : tie.MeasureT-loop
 μ-loop held taken masks prices best₀ top₀ reach₀ i₀ best top reach i = 7 - i
 
--- src/brute.rt:104:5
 loop-holds : tie.Need-loop-holds Inv-loop μ-loop
 loop-holds c = search needs
 
--- src/brute.rt:105:32
 mul-reach-of : tie.Need-mul-reach-of Inv-loop μ-loop
 mul-reach-of c = search needs
 
--- src/brute.rt:105:32
 array-read-reach-of : tie.Need-array-read-reach-of Inv-loop μ-loop
 array-read-reach-of c = search needs
 
--- src/brute.rt:105:13
 reach-of-requires : tie.Need-reach-of-requires Inv-loop μ-loop
 reach-of-requires c κs = search needs
 
--- src/brute.rt:106:17
 mul-p : tie.Need-mul-p Inv-loop μ-loop
 mul-p c = search needs
 
--- src/brute.rt:106:17
 array-read-p : tie.Need-array-read-p Inv-loop μ-loop
 array-read-p c = search needs
 
--- src/brute.rt:107:22
 within-requires : tie.Need-within-requires Inv-loop μ-loop
 within-requires c κs = search needs
 
--- src/brute.rt:108:29
 times-requires : tie.Need-times-requires Inv-loop μ-loop
 times-requires c κs = search needs
 
--- src/brute.rt:108:47
 times-requires-2 : tie.Need-times-requires-2 Inv-loop μ-loop
 times-requires-2 c κs = search needs
 
--- src/brute.rt:114:9
 add-i : tie.Need-add-i Inv-loop μ-loop
 add-i c = search needs
 
--- src/brute.rt:104:5
 loop-less : tie.Need-loop-less Inv-loop μ-loop
 loop-less c = search needs
 
--- src/brute.rt:104:5
 loop-again : tie.Need-loop-again Inv-loop μ-loop
 loop-again c = search needs
 
--- src/brute.rt:99:1
 returns : tie.Need-returns Inv-loop μ-loop
 returns c = search needs
 

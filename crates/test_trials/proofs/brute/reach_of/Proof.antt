@@ -13,31 +13,24 @@ Inv-loop held mask both n₀ x₀ n x = (x ≤ 16)
 abbrev μ-loop : tie.MeasureT-loop
 μ-loop held mask both n₀ x₀ n x = 16 - x
 
--- src/brute.rt:93:5
 loop-holds : tie.Need-loop-holds Inv-loop μ-loop
 loop-holds c = search needs
 
--- src/brute.rt:94:44
 shr-wrapping-add-u64 : tie.Need-shr-wrapping-add-u64 Inv-loop μ-loop
 shr-wrapping-add-u64 c = search needs
 
--- src/brute.rt:94:9
 wrapping-add-u64-requires : tie.Need-wrapping-add-u64-requires Inv-loop μ-loop
 wrapping-add-u64-requires c κs = search needs
 
--- src/brute.rt:95:9
 add-x : tie.Need-add-x Inv-loop μ-loop
 add-x c = search needs
 
--- src/brute.rt:93:5
 loop-less : tie.Need-loop-less Inv-loop μ-loop
 loop-less c = search needs
 
--- src/brute.rt:93:5
 loop-again : tie.Need-loop-again Inv-loop μ-loop
 loop-again c = search needs
 
--- src/brute.rt:89:1
 returns : tie.Need-returns Inv-loop μ-loop
 returns c = search needs
 

@@ -8,11 +8,9 @@ use Rattle.test_trials.proofs.brute.times.Tie as tie
 use Rattle.test_trials.proofs.brute.times.Reads as reads
 use Rattle.test_trials.proofs.brute.times.Lts as lts
 
--- src/brute.rt:102:5
 mul-result : tie.Need-mul-result
 mul-result c = record { fits = omega (arith, mul-le-mul {n₁ = c .args .a % 65536} {m₁ = c .args .b % 128} {n₂ = 65535} {m₂ = 127} (omega arith) (omega arith)) }
 
--- src/brute.rt:101:1
 returns : tie.Need-returns
 returns c = search needs
 

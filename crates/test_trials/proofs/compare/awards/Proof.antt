@@ -15,47 +15,36 @@ Inv-loop n t₀ state₀ i₀ t state i = (i ≤ n)
 abbrev μ-loop : tie.MeasureT-loop
 μ-loop n t₀ state₀ i₀ t state i = n - i
 
--- src/compare.rt:238:5
 loop-holds : tie.Need-loop-holds Inv-loop μ-loop
 loop-holds c = search needs
 
--- src/compare.rt:239:13
 draw-requires : tie.Need-draw-requires Inv-loop μ-loop
 draw-requires c κs = search needs
 
--- src/compare.rt:240:31
 try-award-requires : tie.Need-try-award-requires Inv-loop μ-loop
 try-award-requires c κs = search needs
 
--- src/compare.rt:240:9
 counted-requires : tie.Need-counted-requires Inv-loop μ-loop
 counted-requires c κs = search needs
 
--- src/compare.rt:241:13
 draw-requires-2 : tie.Need-draw-requires-2 Inv-loop μ-loop
 draw-requires-2 c κs = search needs
 
--- src/compare.rt:242:30
 try-award-requires-2 : tie.Need-try-award-requires-2 Inv-loop μ-loop
 try-award-requires-2 c κs = search needs
 
--- src/compare.rt:242:9
 counted-requires-2 : tie.Need-counted-requires-2 Inv-loop μ-loop
 counted-requires-2 c κs = search needs
 
--- src/compare.rt:244:9
 add-i : tie.Need-add-i Inv-loop μ-loop
 add-i c = search needs
 
--- src/compare.rt:238:5
 loop-less : tie.Need-loop-less Inv-loop μ-loop
 loop-less c = search needs
 
--- src/compare.rt:238:5
 loop-again : tie.Need-loop-again Inv-loop μ-loop
 loop-again c = search needs
 
--- src/compare.rt:228:1
 returns : tie.Need-returns Inv-loop μ-loop
 returns c = search needs
 

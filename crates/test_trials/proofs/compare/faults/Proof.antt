@@ -15,35 +15,27 @@ Inv-loop n f₀ state₀ i₀ f state i = (i ≤ n)
 abbrev μ-loop : tie.MeasureT-loop
 μ-loop n f₀ state₀ i₀ f state i = n - i
 
--- src/compare.rt:374:5
 loop-holds : tie.Need-loop-holds Inv-loop μ-loop
 loop-holds c = search needs
 
--- src/compare.rt:376:13
 draw-requires : tie.Need-draw-requires Inv-loop μ-loop
 draw-requires c κs = search needs
 
--- src/compare.rt:378:34
 broken-requires : tie.Need-broken-requires Inv-loop μ-loop
 broken-requires c κs = search needs
 
--- src/compare.rt:379:9
 try-faults-requires : tie.Need-try-faults-requires Inv-loop μ-loop
 try-faults-requires c κs = search needs
 
--- src/compare.rt:380:9
 add-i : tie.Need-add-i Inv-loop μ-loop
 add-i c = search needs
 
--- src/compare.rt:374:5
 loop-less : tie.Need-loop-less Inv-loop μ-loop
 loop-less c = search needs
 
--- src/compare.rt:374:5
 loop-again : tie.Need-loop-again Inv-loop μ-loop
 loop-again c = search needs
 
--- src/compare.rt:365:1
 returns : tie.Need-returns Inv-loop μ-loop
 returns c = search needs
 

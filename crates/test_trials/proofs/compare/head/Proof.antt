@@ -8,15 +8,14 @@ use Rattle.test_trials.proofs.compare.head.Tie as tie
 use Rattle.test_trials.proofs.compare.head.Reads as reads
 use Rattle.test_trials.proofs.compare.head.Lts as lts
 
--- src/compare.rt:292:9
 slice-aggregate-result : tie.Need-slice-aggregate-result
-slice-aggregate-result c = sym (length-take-le (c .before .before .args .n) (c .before .before .args .cells .now) (omega arith))
+slice-aggregate-result c =
+    let args = c .before .before .args in
+    sym (length-take-le (args .n) (args .cells .now) (omega arith))
 
--- src/compare.rt:292:9
 returns : tie.Need-returns
 returns c = search needs
 
--- src/compare.rt:290:1
 returns-2 : tie.Need-returns-2
 returns-2 c = search needs
 

@@ -15,43 +15,33 @@ Inv-loop cells masks prices winners paid₀ i₀ paid i = (i ≤ 7)
 abbrev μ-loop : tie.MeasureT-loop
 μ-loop cells masks prices winners paid₀ i₀ paid i = 7 - i
 
--- src/compare.rt:64:9
 greedy-requires : tie.Need-greedy-requires Inv-loop μ-loop
 greedy-requires c κs = search needs
 
--- src/compare.rt:67:5
 loop-holds : tie.Need-loop-holds Inv-loop μ-loop
 loop-holds c = search needs
 
--- src/compare.rt:68:12
 within-requires : tie.Need-within-requires Inv-loop μ-loop
 within-requires c κs = search needs
 
--- src/compare.rt:69:23
 largest-price-requires : tie.Need-largest-price-requires Inv-loop μ-loop
 largest-price-requires c κs = search needs
 
--- src/compare.rt:69:13
 mul-paid : tie.Need-mul-paid Inv-loop μ-loop
 mul-paid c = search needs
 
--- src/compare.rt:69:13
 array-write-paid : tie.Need-array-write-paid Inv-loop μ-loop
 array-write-paid c = search needs
 
--- src/compare.rt:71:9
 add-i : tie.Need-add-i Inv-loop μ-loop
 add-i c = search needs
 
--- src/compare.rt:67:5
 loop-less : tie.Need-loop-less Inv-loop μ-loop
 loop-less c = search needs
 
--- src/compare.rt:67:5
 loop-again : tie.Need-loop-again Inv-loop μ-loop
 loop-again c = search needs
 
--- src/compare.rt:61:1
 returns : tie.Need-returns Inv-loop μ-loop
 returns c = search needs
 

@@ -13,55 +13,42 @@ Inv-loop right count won cents paid i₀ i = (i ≤ 9)
 abbrev μ-loop : tie.MeasureT-loop
 μ-loop right count won cents paid i₀ i = 9 - i
 
--- src/compare.rt:80:5
 loop-holds : tie.Need-loop-holds Inv-loop μ-loop
 loop-holds c = search needs
 
--- src/compare.rt:86:16
 within-requires : tie.Need-within-requires Inv-loop μ-loop
 within-requires c κs = search needs
 
--- src/compare.rt:89:27
 mul-sum : tie.Need-mul-sum Inv-loop μ-loop
 mul-sum c = search needs
 
--- src/compare.rt:89:27
 array-read-sum : tie.Need-array-read-sum Inv-loop μ-loop
 array-read-sum c = search needs
 
--- src/compare.rt:93:12
 mul-if4 : tie.Need-mul-if4 Inv-loop μ-loop
 mul-if4 c = search needs
 
--- src/compare.rt:93:12
 array-read-if4 : tie.Need-array-read-if4 Inv-loop μ-loop
 array-read-if4 c = search needs
 
--- src/compare.rt:93:30
 mul-if5 : tie.Need-mul-if5 Inv-loop μ-loop
 mul-if5 c = search needs
 
--- src/compare.rt:93:30
 array-read-if5 : tie.Need-array-read-if5 Inv-loop μ-loop
 array-read-if5 c = search needs
 
--- src/compare.rt:94:13
 returns : tie.Need-returns Inv-loop μ-loop
 returns c = search needs
 
--- src/compare.rt:96:9
 add-i : tie.Need-add-i Inv-loop μ-loop
 add-i c = search needs
 
--- src/compare.rt:80:5
 loop-less : tie.Need-loop-less Inv-loop μ-loop
 loop-less c = search needs
 
--- src/compare.rt:80:5
 loop-again : tie.Need-loop-again Inv-loop μ-loop
 loop-again c = search needs
 
--- src/compare.rt:77:1
 returns-2 : tie.Need-returns-2 Inv-loop μ-loop
 returns-2 c = search needs
 

@@ -13,35 +13,27 @@ Inv-loop paid sum₀ i₀ sum i = (i ≤ 7)
 abbrev μ-loop : tie.MeasureT-loop
 μ-loop paid sum₀ i₀ sum i = 7 - i
 
--- src/compare.rt:137:5
 loop-holds : tie.Need-loop-holds Inv-loop μ-loop
 loop-holds c = search needs
 
--- src/compare.rt:138:47
 mul-wrapping-add-u64 : tie.Need-mul-wrapping-add-u64 Inv-loop μ-loop
 mul-wrapping-add-u64 c = search needs
 
--- src/compare.rt:138:47
 array-read-wrapping-add-u64 : tie.Need-array-read-wrapping-add-u64 Inv-loop μ-loop
 array-read-wrapping-add-u64 c = search needs
 
--- src/compare.rt:138:9
 wrapping-add-u64-requires : tie.Need-wrapping-add-u64-requires Inv-loop μ-loop
 wrapping-add-u64-requires c κs = search needs
 
--- src/compare.rt:139:9
 add-i : tie.Need-add-i Inv-loop μ-loop
 add-i c = search needs
 
--- src/compare.rt:137:5
 loop-less : tie.Need-loop-less Inv-loop μ-loop
 loop-less c = search needs
 
--- src/compare.rt:137:5
 loop-again : tie.Need-loop-again Inv-loop μ-loop
 loop-again c = search needs
 
--- src/compare.rt:134:1
 returns : tie.Need-returns Inv-loop μ-loop
 returns c = search needs
 

@@ -14,31 +14,24 @@ Inv-loop s e start length m₀ x₀ m x = (x ≤ 16)
 abbrev μ-loop : tie.MeasureT-loop
 μ-loop s e start length m₀ x₀ m x = 16 - x
 
--- src/random.rt:34:5
 loop-holds : tie.Need-loop-holds Inv-loop μ-loop
 loop-holds c = search needs
 
--- src/random.rt:35:13
 wrapping-add-u64-requires : tie.Need-wrapping-add-u64-requires Inv-loop μ-loop
 wrapping-add-u64-requires c κs = search needs
 
--- src/random.rt:37:22
 shl-m : tie.Need-shl-m Inv-loop μ-loop
 shl-m c = search needs
 
--- src/random.rt:39:9
 add-x : tie.Need-add-x Inv-loop μ-loop
 add-x c = search needs
 
--- src/random.rt:34:5
 loop-less : tie.Need-loop-less Inv-loop μ-loop
 loop-less c = search needs
 
--- src/random.rt:34:5
 loop-again : tie.Need-loop-again Inv-loop μ-loop
 loop-again c = search needs
 
--- src/random.rt:31:1
 returns : tie.Need-returns Inv-loop μ-loop
 returns c = search needs
 

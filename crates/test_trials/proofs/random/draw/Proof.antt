@@ -15,59 +15,45 @@ Inv-loop seed several s1 s2 s3 count lot₀ i₀ lot i = (i ≤ 7)
 abbrev μ-loop : tie.MeasureT-loop
 μ-loop seed several s1 s2 s3 count lot₀ i₀ lot i = 7 - i
 
--- src/random.rt:112:9
 next-requires : tie.Need-next-requires Inv-loop μ-loop
 next-requires c κs = search needs
 
--- src/random.rt:113:9
 next-requires-2 : tie.Need-next-requires-2 Inv-loop μ-loop
 next-requires-2 c κs = search needs
 
--- src/random.rt:114:9
 next-requires-3 : tie.Need-next-requires-3 Inv-loop μ-loop
 next-requires-3 c κs = search needs
 
--- src/random.rt:115:22
 below-requires : tie.Need-below-requires Inv-loop μ-loop
 below-requires c κs = search needs
 
--- src/random.rt:115:18
 add-count : tie.Need-add-count Inv-loop μ-loop
 add-count c = search needs
 
--- src/random.rt:118:16
 below-requires-2 : tie.Need-below-requires-2 Inv-loop μ-loop
 below-requires-2 c κs = search needs
 
--- src/random.rt:119:21
 below-requires-3 : tie.Need-below-requires-3 Inv-loop μ-loop
 below-requires-3 c κs = search needs
 
--- src/random.rt:119:17
 add-t11 : tie.Need-add-t11 Inv-loop μ-loop
 add-t11 c = search needs
 
--- src/random.rt:128:5
 loop-holds : tie.Need-loop-holds Inv-loop μ-loop
 loop-holds c = search needs
 
--- src/random.rt:130:13
 with-bid-requires : tie.Need-with-bid-requires Inv-loop μ-loop
 with-bid-requires c κs = search needs
 
--- src/random.rt:132:9
 add-i : tie.Need-add-i Inv-loop μ-loop
 add-i c = search needs
 
--- src/random.rt:128:5
 loop-less : tie.Need-loop-less Inv-loop μ-loop
 loop-less c = search needs
 
--- src/random.rt:128:5
 loop-again : tie.Need-loop-again Inv-loop μ-loop
 loop-again c = search needs
 
--- src/random.rt:111:1
 returns : tie.Need-returns Inv-loop μ-loop
 returns c = search needs
 

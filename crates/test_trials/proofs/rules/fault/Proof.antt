@@ -16,59 +16,45 @@ Inv-loop single start end count bids windows stop first₀ j₀ first j = (j ≤
 abbrev μ-loop : tie.MeasureT-loop
 μ-loop single start end count bids windows stop first₀ j₀ first j = 1001 - j
 
--- src/rules.rt:79:9
 returns : tie.Need-returns Inv-loop μ-loop
 returns c = search needs
 
--- src/rules.rt:81:16
 lesser-requires : tie.Need-lesser-requires Inv-loop μ-loop
 lesser-requires c κs = search needs
 
--- src/rules.rt:84:5
 loop-holds : tie.Need-loop-holds Inv-loop μ-loop
 loop-holds c = search needs
 
--- src/rules.rt:85:26
 row-right-requires : tie.Need-row-right-requires Inv-loop μ-loop
 row-right-requires c κs = search needs
 
--- src/rules.rt:86:20
 add-result : tie.Need-add-result Inv-loop μ-loop
 add-result c = search needs
 
--- src/rules.rt:86:13
 returns-2 : tie.Need-returns-2 Inv-loop μ-loop
 returns-2 c = search needs
 
--- src/rules.rt:88:60
 mul-at : tie.Need-mul-at Inv-loop μ-loop
 mul-at c = search needs
 
--- src/rules.rt:88:60
 add-at : tie.Need-add-at Inv-loop μ-loop
 add-at c = search needs
 
--- src/rules.rt:88:51
 at-requires : tie.Need-at-requires Inv-loop μ-loop
 at-requires c κs = search needs
 
--- src/rules.rt:88:9
 wrapping-add-u64-requires : tie.Need-wrapping-add-u64-requires Inv-loop μ-loop
 wrapping-add-u64-requires c κs = search needs
 
--- src/rules.rt:89:9
 add-j : tie.Need-add-j Inv-loop μ-loop
 add-j c = search needs
 
--- src/rules.rt:84:5
 loop-less : tie.Need-loop-less Inv-loop μ-loop
 loop-less c = search needs
 
--- src/rules.rt:84:5
 loop-again : tie.Need-loop-again Inv-loop μ-loop
 loop-again c = search needs
 
--- src/rules.rt:70:1
 returns-3 : tie.Need-returns-3 Inv-loop μ-loop
 returns-3 c = search needs
 

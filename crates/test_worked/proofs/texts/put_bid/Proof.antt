@@ -46,7 +46,9 @@ loop-less : tie.Need-loop-less Inv-loop μ-loop
 loop-less c = search needs
 
 loop-again : tie.Need-loop-again Inv-loop μ-loop
-loop-again c = (c .before .before .put4 .ensures, c .before .before .put4 .kept .0 ∙ c .before .before .before .before .before .before .loop .inv .1)
+loop-again c =
+    let c6 = c .before .before .before .before .before .before in
+    (c .before .before .put4 .ensures, c .before .before .put4 .kept .0 ∙ c6 .loop .inv .1)
 
 slice-aggregate-put-4 : tie.Need-slice-aggregate-put-4 Inv-loop μ-loop
 slice-aggregate-put-4 c = search needs
@@ -55,7 +57,13 @@ put-requires-5 : tie.Need-put-requires-5 Inv-loop μ-loop
 put-requires-5 c κs = search needs
 
 same-length : tie.Need-same-length Inv-loop μ-loop
-same-length c = c .before .before .put5 .kept .0 ∙ c .before .before .before .before .before .before .loop .inv .1 ∙ c .before .before .before .before .before .before .before .before .before .put3 .kept .0 ∙ c .before .before .before .before .before .before .before .before .before .before .before .before .before .put2 .kept .0 ∙ c .before .before .before .before .before .before .before .before .before .before .before .before .before .before .before .before .before .before .put-number .kept .0 ∙ c .before .before .before .before .before .before .before .before .before .before .before .before .before .before .before .before .before .before .before .before .before .before .put .kept .0
+same-length c =
+    let c6 = c .before .before .before .before .before .before in
+    let c9 = c6 .before .before .before in
+    let c13 = c9 .before .before .before .before in
+    let c18 = c13 .before .before .before .before .before in
+    let c22 = c18 .before .before .before .before in
+    c .before .before .put5 .kept .0 ∙ c6 .loop .inv .1 ∙ c9 .put3 .kept .0 ∙ c13 .put2 .kept .0 ∙ c18 .put-number .kept .0 ∙ c22 .put .kept .0
 
 returns : tie.Need-returns Inv-loop μ-loop
 returns c = search needs

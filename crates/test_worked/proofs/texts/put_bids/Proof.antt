@@ -31,7 +31,9 @@ loop-less : tie.Need-loop-less Inv-loop μ-loop
 loop-less c = search needs
 
 loop-again : tie.Need-loop-again Inv-loop μ-loop
-loop-again c = (c .before .before .before .put-bid .ensures, c .before .before .before .put-bid .kept .0 ∙ c .before .before .before .before .before .before .before .loop .inv .1)
+loop-again c =
+    let c7 = c .before .before .before .before .before .before .before in
+    (c .before .before .before .put-bid .ensures, c .before .before .before .put-bid .kept .0 ∙ c7 .loop .inv .1)
 
 add-i-2 : tie.Need-add-i-2 Inv-loop μ-loop
 add-i-2 c = search needs
@@ -40,7 +42,9 @@ loop-less-2 : tie.Need-loop-less-2 Inv-loop μ-loop
 loop-less-2 c = search needs
 
 loop-again-2 : tie.Need-loop-again-2 Inv-loop μ-loop
-loop-again-2 c = (c .before .before .before .put-bid .ensures, c .before .before .before .put-bid .kept .0 ∙ c .before .before .before .before .before .before .before .loop .inv .1)
+loop-again-2 c =
+    let c7 = c .before .before .before .before .before .before .before in
+    (c .before .before .before .put-bid .ensures, c .before .before .before .put-bid .kept .0 ∙ c7 .loop .inv .1)
 
 same-length : tie.Need-same-length Inv-loop μ-loop
 same-length c = c .before .loop .inv .1
