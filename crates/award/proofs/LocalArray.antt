@@ -1,10 +1,12 @@
--- A local array in a walk by hand, of elements of any type R of one machine value: filled with a value, lent as a slice and taken back, and a value or room again. Between, its elements lie in memory (`row`).
+-- A local array in a walk by hand, of elements of any type R of one machine value: filled with a value, lent as a slice and taken
+-- back, and a value or room again. Between, its elements lie in memory (`row`).
 --     elements         the cell that holds a value of the array is its elements in memory
 --     whole            n elements in memory are the cell that holds a value of the array
 --     as-room          n elements in memory are room for an array
 --     lends, comes-back                    the elements are lent as a `&κ mut [R]`, and come back at their last values once κ is over
 --     lends-shared, comes-back-shared      the elements are lent as a `&κ [R]`, and come back once κ is over
---     repeated, repeated-elements          of numbers: n times a number is a value of the array's type, and the cell that holds it is n elements in memory
+-- repeated, repeated-elements of numbers: n times a number is a value of the array's type, and the cell that holds it is n
+-- elements in memory
 -- Assumes `Given`.
 use mathlib.Core.Path.{_≡_, refl}
 use Prim.Native.Nat.{ℕ, zero, suc, _<_, _^_}
@@ -19,7 +21,8 @@ use base.Logic.{ent, sep, ex, guard}
 use base.Fml.{Lft, GName, fat, froom, fdead, flent}
 use prog.Wp.{Heap}
 use ghost.Atoms.{Atoms, sem}
-use types.Kit.{Given, ‵, _⊛_, some, later, _$_, _∵_, !, qed, by, move, use0, use1, use2, use3, drop, split, pick, fsplit, fjoin, feqI, await, updating, now as at-once, show, check, done}
+use types.Kit.{Given, ‵, _⊛_, some, later, _$_, _∵_, !, qed, by, move, use0, use1, use2, use3, drop, split, pick, fsplit, fjoin, feqI}
+use types.Kit.{await, updating, now as at-once, show, check, done}
 use types.Tokens.{lent-back}
 use types.SemTy.{cells, Arr}
 use types.Share.{arr-parts}
@@ -37,38 +40,50 @@ use denote.Slice.{Room, finally}
 use borrow.Table.OneValue.{part-in, part-out}
 
 module _ {M : Type 1} (𝓤 : URA M) (H : Heap 𝓤) (A : Atoms 𝓤) (W : Given 𝓤 H A) (R : RattleType) (xs : List (R .Denot)) (b : ℕ) where
-  pub elements : Single (R .mir) → Makes 𝓤 H A R (Is R) → (n : ℕ) (v : Val) → Is (Array R n) xs (v ∷ []) → ent 𝓤 (H .at fullShare (tyArray (lone (R .mir)) n) b 0 v) (sem 𝓤 H A (row R fullShare xs b 0))
+  pub elements : Single (R .mir) → Makes 𝓤 H A R (Is R) → (n : ℕ) (v : Val) → Is (Array R n) xs (v ∷ [])
+      → ent 𝓤 (H .at fullShare (tyArray (lone (R .mir)) n) b 0 v) (sem 𝓤 H A (row R fullShare xs b 0))
   elements one makes n v is =
       qed W (‵ (fat fullShare (tyArray (lone (R .mir)) n) b 0 v) ∷ []) ∵
       use0 W (‵ (Array R n .own xs (v ∷ []))) (array-makes 𝓤 H A W R makes n xs (v ∷ []) is) $ move ! (1 ∷ 0 ∷ []) $
       use2 W (‵ (partAt (Array R n) fullShare xs b 0)) (part-in 𝓤 H A W (Array R n) refl fullShare xs b 0 v) $
       use1 W (‵ (arr-parts (shares R) n .part fullShare xs b 0)) (array-apart 𝓤 H A W R fullShare one n xs b 0) $ fsplit ! $ drop ! $ done !
 
-  pub whole : (n : ℕ) → length xs ≡ n → ent 𝓤 (sem 𝓤 H A (row R fullShare xs b 0)) (ex 𝓤 (λ (v : Val). sep 𝓤 (H .at fullShare (tyArray (lone (R .mir)) n) b 0 v) (sem 𝓤 H A (Array R n .own xs (v ∷ [])))))
+  pub whole : (n : ℕ) → length xs ≡ n → ent 𝓤 (sem 𝓤 H A (row R fullShare xs b 0))
+      (ex 𝓤 (λ (v : Val). sep 𝓤 (H .at fullShare (tyArray (lone (R .mir)) n) b 0 v) (sem 𝓤 H A (Array R n .own xs (v ∷ [])))))
   whole n e =
       qed W (‵ (row R fullShare xs b 0) ∷ []) ∵ feqI ! ℕ (length xs) n e $ fjoin ! $
-      use1 W (‵ (partAt (Array R n) fullShare xs b 0)) (array-whole 𝓤 H A W R fullShare n xs b 0) $ by ! (part-out 𝓤 H A W (Array R n) refl fullShare xs b 0)
+      use1 W (‵ (partAt (Array R n) fullShare xs b 0)) (array-whole 𝓤 H A W R fullShare n xs b 0) $ by !
+      (part-out 𝓤 H A W (Array R n) refl fullShare xs b 0)
 
   pub as-room : (n : ℕ) → length xs ≡ n → ent 𝓤 (sem 𝓤 H A (row R fullShare xs b 0)) (H .room (tyArray (lone (R .mir)) n) b 0)
   as-room n e =
       qed W (‵ (row R fullShare xs b 0) ∷ []) ∵
-      use1 W (some (λ (v : Val). ‵ (fat fullShare (tyArray (lone (R .mir)) n) b 0 v) ⊛ ‵ (Array R n .own xs (v ∷ [])))) (whole n e) $ pick ! (λ v. split ! $ move ! (1 ∷ []) $ drop ! $
+      use1 W (some (λ (v : Val). ‵ (fat fullShare (tyArray (lone (R .mir)) n) b 0 v) ⊛ ‵ (Array R n .own xs (v ∷ [])))) (whole n e) $ pick
+      ! (λ v. split ! $ move ! (1 ∷ []) $ drop ! $
       use1 W (‵ (froom (tyArray (lone (R .mir)) n) b 0)) (W .laws .at-room (tyArray (lone (R .mir)) n) b 0 v) $ done !)
 
-  pub lends : (ℓ : Lifetime) (κ : Lft) → Room R (length xs) → ent 𝓤 (sem 𝓤 H A (row R fullShare xs b 0)) (H .⇛ (ex 𝓤 (Lent 𝓤 H A W R ℓ κ xs b 0)))
-  lends ℓ κ g = qed W (‵ (row R fullShare xs b 0) ∷ []) ∵ use1 W (‵ (cells (mem R) xs b 0)) (whole-in 𝓤 H A W R xs b 0) $ by ! (lends-slice 𝓤 H A W R ℓ κ xs b 0 g)
+  pub lends : (ℓ : Lifetime) (κ : Lft) → Room R (length xs)
+      → ent 𝓤 (sem 𝓤 H A (row R fullShare xs b 0)) (H .⇛ (ex 𝓤 (Lent 𝓤 H A W R ℓ κ xs b 0)))
+  lends ℓ κ g = qed W (‵ (row R fullShare xs b 0) ∷ []) ∵ use1 W (‵ (cells (mem R) xs b 0)) (whole-in 𝓤 H A W R xs b 0) $ by !
+      (lends-slice 𝓤 H A W R ℓ κ xs b 0 g)
 
   -- xs are the last values of the n elements lent under γ
-  pub comes-back : (κ : Lft) (γ : GName) (n : ℕ) → ent 𝓤 (sep 𝓤 (A .dead κ) (sep 𝓤 (A .lent κ (Held R n b 0 γ)) (sem 𝓤 H A (finally R γ xs)))) (H .⇛ (sem 𝓤 H A (row R fullShare xs b 0)))
+  pub comes-back : (κ : Lft) (γ : GName) (n : ℕ) → ent 𝓤
+      (sep 𝓤 (A .dead κ) (sep 𝓤 (A .lent κ (Held R n b 0 γ)) (sem 𝓤 H A (finally R γ xs)))) (H .⇛ (sem 𝓤 H A (row R fullShare xs b 0)))
   comes-back κ γ n =
       qed W (‵ (fdead κ) ∷ ‵ (flent κ (Held R n b 0 γ)) ∷ ‵ (finally R γ xs) ∷ []) ∵ updating ! $
-      use3 W (later (‵ (Arr (mem R) n .lies xs b 0))) (slice-back 𝓤 H A W R κ γ xs n b 0) $ await ! tt $ fsplit ! $ drop ! $ at-once ! $ by ! (whole-out 𝓤 H A W R xs b 0)
+      use3 W (later (‵ (Arr (mem R) n .lies xs b 0))) (slice-back 𝓤 H A W R κ γ xs n b 0) $ await ! tt $ fsplit ! $ drop ! $ at-once ! $
+      by ! (whole-out 𝓤 H A W R xs b 0)
 
-  pub lends-shared : (ℓ : Lifetime) (κ : Lft) → Room R (length xs) → ent 𝓤 (sem 𝓤 H A (row R fullShare xs b 0)) (H .⇛ (ex 𝓤 (LentShrs 𝓤 H A W R ℓ κ fullShare xs b 0)))
-  lends-shared ℓ κ g = qed W (‵ (row R fullShare xs b 0) ∷ []) ∵ feqI ! ℕ (length xs) (length xs) refl $ fjoin ! $ by ! (lends-shr-slice 𝓤 H A W R ℓ κ fullShare xs b 0 g)
+  pub lends-shared : (ℓ : Lifetime) (κ : Lft) → Room R (length xs)
+      → ent 𝓤 (sem 𝓤 H A (row R fullShare xs b 0)) (H .⇛ (ex 𝓤 (LentShrs 𝓤 H A W R ℓ κ fullShare xs b 0)))
+  lends-shared ℓ κ g = qed W (‵ (row R fullShare xs b 0) ∷ []) ∵ feqI ! ℕ (length xs) (length xs) refl $ fjoin ! $ by !
+      (lends-shr-slice 𝓤 H A W R ℓ κ fullShare xs b 0 g)
 
-  pub comes-back-shared : (κ : Lft) → ent 𝓤 (sep 𝓤 (A .dead κ) (A .lent κ (arr-parts (shares R) (length xs) .part fullShare xs b 0))) (H .⇛ (sem 𝓤 H A (row R fullShare xs b 0)))
-  comes-back-shared κ = qed W (‵ (fdead κ) ∷ ‵ (flent κ (arr-parts (shares R) (length xs) .part fullShare xs b 0)) ∷ []) ∵ updating ! $ lent-back ! tt $ fsplit ! $ drop ! $ at-once ! $ done !
+  pub comes-back-shared : (κ : Lft) → ent 𝓤 (sep 𝓤 (A .dead κ) (A .lent κ (arr-parts (shares R) (length xs) .part fullShare xs b 0)))
+      (H .⇛ (sem 𝓤 H A (row R fullShare xs b 0)))
+  comes-back-shared κ = qed W (‵ (fdead κ) ∷ ‵ (flent κ (arr-parts (shares R) (length xs) .part fullShare xs b 0)) ∷ []) ∵ updating ! $
+      lent-back ! tt $ fsplit ! $ drop ! $ at-once ! $ done !
 
 each-is : (n x : ℕ) → x < 2 ^ 64 → shadow (each ℕ (u64 .own) (replicate n x) (replicate n (vint w64 x)))
 each-is zero x fits = tt
@@ -79,11 +94,14 @@ all-is n x fits = (replicate n (vint w64 x), ((refl, length-replicate n x), each
 
 module _ {M : Type 1} (𝓤 : URA M) (H : Heap 𝓤) (A : Atoms 𝓤) (W : Given 𝓤 H A) (n x : ℕ) (fits : x < 2 ^ 64) where
   pub repeated : T (hasTy (tyArray (tyInt w64) n) (arrayVal (replicate n (vint w64 x)))) × WT (arrayVal (replicate n (vint w64 x)))
-  repeated = array-lawful 𝓤 H A W u64 (uint-lawful 𝓤 H A W w64) n .typed (replicate n x) (arrayVal (replicate n (vint w64 x)) ∷ []) (all-is n x fits) .0
+  repeated = array-lawful 𝓤 H A W u64 (uint-lawful 𝓤 H A W w64) n .typed (replicate n x) (arrayVal (replicate n (vint w64 x)) ∷ [])
+      (all-is n x fits) .0
 
   pub repeated-elements : (b : ℕ) → ent 𝓤 (H .at fullShare (tyArray (tyInt w64) n) b 0 (arrayVal (replicate n (vint w64 x))))
       (ex 𝓤 (λ (xs : List ℕ). guard 𝓤 (length xs ≡ n) (sem 𝓤 H A (row u64 fullShare xs b 0))))
   repeated-elements b =
       qed W (‵ (fat fullShare (tyArray (tyInt w64) n) b 0 (arrayVal (replicate n (vint w64 x)))) ∷ []) ∵
-      use1 W (‵ (row u64 fullShare (replicate n x) b 0)) (elements 𝓤 H A W u64 (replicate n x) b tt (uint-makes 𝓤 H A W w64) n (arrayVal (replicate n (vint w64 x))) (all-is n x fits)) $
-      show ! (λ (xs : List ℕ). guard 𝓤 (length xs ≡ n) (sem 𝓤 H A (row u64 fullShare xs b 0))) (replicate n x) $ check ! (length-replicate n x) $ done !
+      use1 W (‵ (row u64 fullShare (replicate n x) b 0))
+      (elements 𝓤 H A W u64 (replicate n x) b tt (uint-makes 𝓤 H A W w64) n (arrayVal (replicate n (vint w64 x))) (all-is n x fits)) $
+      show ! (λ (xs : List ℕ). guard 𝓤 (length xs ≡ n) (sem 𝓤 H A (row u64 fullShare xs b 0))) (replicate n x) $ check !
+      (length-replicate n x) $ done !

@@ -25,10 +25,12 @@ use Rattle.tender.specs.declared.AwardRow.{AwardRow}
 use Rattle.tender.specs.declared.Answer.{Answer}
 use Rattle.award_plain.specs.Award.{Outcome, awarded, declined, filled, costOf, paidOf, thinned, settled}
 use Rattle.award.specs.Promise.{lentAfter, told, Promise}
-use Rattle.award.specs.Right.{Callable, Bidders, EarliestIn, IsAward, IsRefusal, OneAnswer, tables-break-a-rule, rows-too-few, minute-uncovered, one-bidder, award}
+use Rattle.award.specs.Right.{Callable, Bidders, EarliestIn, IsAward, IsRefusal, OneAnswer, tables-break-a-rule, rows-too-few}
+use Rattle.award.specs.Right.{minute-uncovered, one-bidder, award}
 use Rattle.award_plain.specs.AwardLaws.{award-none, award-nine, award-settles}
 
-module _ (k : Kind) (t : Tender) (n : ℕ) (bids windows : List ℕ) (old new : List AwardRow) (a : Answer) (p : Promise k t n bids windows old new a) where
+module _ (k : Kind) (t : Tender) (n : ℕ) (bids windows : List ℕ) (old new : List AwardRow) (a : Answer)
+    (p : Promise k t n bids windows old new a) where
   abbrev o : Outcome
   o = told n new a
 
@@ -49,7 +51,8 @@ module _ (k : Kind) (t : Tender) (n : ℕ) (bids windows : List ℕ) (old new : 
   unfolding lentAfter filled
   is-award e = record {
     outcome = e;
-    lent = p .rows ∙ ap (lentAfter old) e ∙ ap (λ (m : ℕ). filled k has ps L ++ drop m old) (length-listed (length ps) _ ∙ prices-count n bids);
+    lent = p .rows ∙ ap (lentAfter old) e ∙ ap (λ (m : ℕ). filled k has ps L ++ drop m old)
+        (length-listed (length ps) _ ∙ prices-count n bids);
   }
 
   -- a cell found is the earliest minute
@@ -70,16 +73,22 @@ module _ (k : Kind) (t : Tender) (n : ℕ) (bids windows : List ℕ) (old new : 
   cover s g = go (cellWith has n L 0) (cellWith has n L 1) refl refl
     where
       go : (x y : Found) → cellWith has n L 0 ≡ x → cellWith has n L 1 ≡ y → OneAnswer k t n bids windows old new o
-      go (found x) y d e = minute-uncovered (t .window .start + x) s (at-cell 0 x d) (refusal (MinuteUncovered (t .window .start + x)) (p .answers ∙ award-settles k t n bids windows (length old) (s .sound) g (found x) y d e))
-      go nothing (found x) d e = one-bidder (t .window .start + x) s (one-at has n L d) (at-cell 1 x e) (refusal (OneBidder (t .window .start + x)) (p .answers ∙ award-settles k t n bids windows (length old) (s .sound) g nothing (found x) d e))
-      go nothing nothing d e = award s (two-at has n L d e) (is-award (p .answers ∙ award-settles k t n bids windows (length old) (s .sound) g nothing nothing d e))
+      go (found x) y d e = minute-uncovered (t .window .start + x) s (at-cell 0 x d)
+          (refusal (MinuteUncovered (t .window .start + x))
+          (p .answers ∙ award-settles k t n bids windows (length old) (s .sound) g (found x) y d e))
+      go nothing (found x) d e = one-bidder (t .window .start + x) s (one-at has n L d) (at-cell 1 x e)
+          (refusal (OneBidder (t .window .start + x)) (p .answers
+          ∙ award-settles k t n bids windows (length old) (s .sound) g nothing (found x) d e))
+      go nothing nothing d e = award s (two-at has n L d e)
+          (is-award (p .answers ∙ award-settles k t n bids windows (length old) (s .sound) g nothing nothing d e))
 
   pub one-answer : OneAnswer k t n bids windows old new o
   one-answer = fault (faultOf k t n bids windows) refl
     where
       rows : faultOf k t n bids windows ≡ none → (b : Bool) → ltb (length old) n ≡ b → OneAnswer k t n bids windows old new o
       rows f true g = rows-too-few f (ltb-true (length old) n g)
-          (refusal RowsTooFew (p .answers ∙ award-none k t n bids windows (length old) f ∙ ap (λ z. cond z (declined RowsTooFew) (settled k has ps L (t .window .start))) g))
+          (refusal RowsTooFew (p .answers ∙ award-none k t n bids windows (length old) f
+          ∙ ap (λ z. cond z (declined RowsTooFew) (settled k has ps L (t .window .start))) g))
       rows f false g = cover (record { sound = f; rows = ltb-false (length old) n g }) g
 
       fault : (m : Option ℕ) → faultOf k t n bids windows ≡ m → OneAnswer k t n bids windows old new o

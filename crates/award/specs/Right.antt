@@ -54,7 +54,8 @@ pub data OneAnswer (k : Kind) (t : Tender) (n : ℕ) (bids windows : List ℕ) (
       OneAnswer k t n bids windows old new o
   one-bidder : (m : ℕ) → Callable k t n bids windows (length old) → Bidders t n bids windows 1 → EarliestIn t n bids windows m 1 →
       IsRefusal 12 m old new o → OneAnswer k t n bids windows old new o
-  award : Callable k t n bids windows (length old) → Bidders t n bids windows 2 → IsAward k t n bids windows old new o → OneAnswer k t n bids windows old new o
+  award : Callable k t n bids windows (length old) → Bidders t n bids windows 2 → IsAward k t n bids windows old new o
+      → OneAnswer k t n bids windows old new o
 
 -- the winners of a single tender: bid i of the n is bit i of the set
 pub record LeastCover (t : Tender) (n : ℕ) (bids windows : List ℕ) (rows : List AwardRow) (cost paid : ℕ) : Type 0 where
@@ -63,8 +64,10 @@ pub record LeastCover (t : Tender) (n : ℕ) (bids windows : List ℕ) (rows : L
   pub members : (i : ℕ) → i < n → rowFor (awarded rows cost paid) i .won ≡ bit set i
   pub all-covered : covers (hasOf t (rowsOf n bids) windows) n (cellsOf t) set ≡ true
   pub cost-is : cost ≡ sets.cost (pricesOf (rowsOf n bids)) set
-  pub least : (s : ℕ) → s < 2 ^ n → covers (hasOf t (rowsOf n bids) windows) n (cellsOf t) s ≡ true → cost ≤ sets.cost (pricesOf (rowsOf n bids)) s
-  pub ties : (s : ℕ) → s < 2 ^ n → covers (hasOf t (rowsOf n bids) windows) n (cellsOf t) s ≡ true → sets.cost (pricesOf (rowsOf n bids)) s ≡ cost → (s ≡ set → ⊥) → Stands set s
+  pub least : (s : ℕ) → s < 2 ^ n → covers (hasOf t (rowsOf n bids) windows) n (cellsOf t) s ≡ true
+      → cost ≤ sets.cost (pricesOf (rowsOf n bids)) s
+  pub ties : (s : ℕ) → s < 2 ^ n → covers (hasOf t (rowsOf n bids) windows) n (cellsOf t) s ≡ true
+      → sets.cost (pricesOf (rowsOf n bids)) s ≡ cost → (s ≡ set → ⊥) → Stands set s
 
 -- the winners of either kind cover: each minute of the tender, cell x, is in a winner's windows
 pub record WinnerAt (t : Tender) (n : ℕ) (bids windows : List ℕ) (a : Outcome) (x : ℕ) : Type 0 where
@@ -76,7 +79,8 @@ pub record WinnerAt (t : Tender) (n : ℕ) (bids windows : List ℕ) (a : Outcom
 -- document 000, formula 8: a winner's payment is the least cost without this bid, less the winners' cost, plus the winner's own price
 pub record PaidByEight (t : Tender) (n i : ℕ) (bids windows : List ℕ) (cents cost : ℕ) : Type 0 where
   pub other : ℕ
-  pub least-without : Wins (without i (covers (hasOf t (rowsOf n bids) windows) n (cellsOf t))) (sets.cost (pricesOf (rowsOf n bids))) (2 ^ n) other
+  pub least-without : Wins (without i (covers (hasOf t (rowsOf n bids) windows) n (cellsOf t))) (sets.cost (pricesOf (rowsOf n bids)))
+      (2 ^ n) other
   pub formula : cents + cost ≡ sets.cost (pricesOf (rowsOf n bids)) other + named bids i
 
 -- bid i is the one whose price the texts write p and q: where p names the true cost, q gains no more

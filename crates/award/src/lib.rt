@@ -31,7 +31,8 @@ pub fn settle(
     won: &mut [u64],
     cents: &mut [u64],
 ) -> Answer
-    ensures { λ r. ⌜ PlainPromise kind tender count (now (bids .entry)) (now (windows .entry)) (min (length (now (won .entry))) (length (now (cents .entry))))
+    ensures { λ r. ⌜ PlainPromise kind tender count (now (bids .entry)) (now (windows .entry))
+        (min (length (now (won .entry))) (length (now (cents .entry))))
         (now (won .entry)) (now (cents .entry)) (now (won .exit)) (now (cents .exit)) r ⌝ }
 {
     let lent = lesser(won.len(), cents.len());

@@ -23,32 +23,41 @@ abbrev pub ahead : List ℕ → ℕ → ℕ → ℕ → Bool
 ahead windows first count j = allLawful (windowsOf (count - j) (drop (2 * (first + j)) windows))
 
 pub ahead-more : (windows : List ℕ) (first count j : ℕ) → j < count →
-    ahead windows first count j ≡ (ltb (getD windows (2 * (first + j)) 0) (getD windows (2 * (first + j) + 1) 0) && leb (getD windows (2 * (first + j) + 1) 0) 10080) && ahead windows first count (j + 1)
+    ahead windows first count j ≡ (ltb (getD windows (2 * (first + j)) 0) (getD windows (2 * (first + j) + 1) 0)
+    && leb (getD windows (2 * (first + j) + 1) 0) 10080) && ahead windows first count (j + 1)
 unfolding allLawful lawful
 ahead-more windows first count j l =
     let e : count - j ≡ suc (count - (j + 1)) = omega arith in
     let f : first + j + 1 ≡ first + (j + 1) = omega arith in
-    ap (λ (m : ℕ). allLawful (windowsOf m (drop (2 * (first + j)) windows))) e ∙ ap allLawful (windows-step (count - (j + 1)) (first + j) windows)
-    ∙ ap (λ (i : ℕ). (ltb (getD windows (2 * (first + j)) 0) (getD windows (2 * (first + j) + 1) 0) && leb (getD windows (2 * (first + j) + 1) 0) 10080) && allLawful (windowsOf (count - (j + 1)) (drop (2 * i) windows))) f
+    ap (λ (m : ℕ). allLawful (windowsOf m (drop (2 * (first + j)) windows))) e
+    ∙ ap allLawful (windows-step (count - (j + 1)) (first + j) windows)
+    ∙ ap (λ (i : ℕ). (ltb (getD windows (2 * (first + j)) 0) (getD windows (2 * (first + j) + 1) 0)
+    && leb (getD windows (2 * (first + j) + 1) 0) 10080) && allLawful (windowsOf (count - (j + 1)) (drop (2 * i) windows))) f
 
 pub ahead-all : (windows : List ℕ) (first count j : ℕ) → count ≤ j → ahead windows first count j ≡ true
 unfolding allLawful windowsOf
-ahead-all windows first count j l = let e : count - j ≡ 0 = omega arith in ap (λ (m : ℕ). allLawful (windowsOf m (drop (2 * (first + j)) windows))) e
+ahead-all windows first count j l = let e : count - j ≡ 0 = omega arith in
+    ap (λ (m : ℕ). allLawful (windowsOf m (drop (2 * (first + j)) windows))) e
 
-pub ahead-start : (windows : List ℕ) (first count : ℕ) → ahead windows first count 0 ≡ allLawful (windowsOf count (drop (2 * first) windows))
+pub ahead-start : (windows : List ℕ) (first count : ℕ)
+    → ahead windows first count 0 ≡ allLawful (windowsOf count (drop (2 * first) windows))
 ahead-start windows first count =
     let d : count - 0 ≡ count = omega arith in
     let e : first + 0 ≡ first = omega arith in
-    ap (λ (m : ℕ). allLawful (windowsOf m (drop (2 * (first + 0)) windows))) d ∙ ap (λ (i : ℕ). allLawful (windowsOf count (drop (2 * i) windows))) e
+    ap (λ (m : ℕ). allLawful (windowsOf m (drop (2 * (first + 0)) windows))) d
+    ∙ ap (λ (i : ℕ). allLawful (windowsOf count (drop (2 * i) windows))) e
 
 -- window j was found lawful, or not
 module _ (windows : List ℕ) (first count j : ℕ) (r : Bool) (l : j < count)
-    (is : r ≡ (ltb (getD windows (2 * (first + j)) 0) (getD windows (2 * (first + j) + 1) 0) && leb (getD windows (2 * (first + j) + 1) 0) 10080)) where
+    (is : r ≡ (ltb (getD windows (2 * (first + j)) 0) (getD windows (2 * (first + j) + 1) 0)
+    && leb (getD windows (2 * (first + j) + 1) 0) 10080)) where
   pub ahead-goes : (X : Bool) → not r ≡ false → ahead windows first count j ≡ X → ahead windows first count (j + 1) ≡ X
-  ahead-goes X t e = sym (ahead-more windows first count j l ∙ ap (λ b. b && ahead windows first count (j + 1)) (sym is ∙ not-false r t)) ∙ e
+  ahead-goes X t e = sym (ahead-more windows first count j l ∙ ap (λ b. b && ahead windows first count (j + 1)) (sym is ∙ not-false r t))
+      ∙ e
 
   pub ahead-fails : (X : Bool) → not r ≡ true → ahead windows first count j ≡ X → false ≡ X
-  ahead-fails X t e = sym (ahead-more windows first count j l ∙ ap (λ b. b && ahead windows first count (j + 1)) (sym is ∙ not-true r t)) ∙ e
+  ahead-fails X t e = sym (ahead-more windows first count j l ∙ ap (λ b. b && ahead windows first count (j + 1)) (sym is ∙ not-true r t))
+      ∙ e
 
 pub room-left : (at count lent : ℕ) → at ≤ lent → leb count (lent - at) ≡ leb (at + count) lent
 room-left at count lent l = go (leb count (lent - at)) refl
@@ -66,7 +75,8 @@ pub passed-none : (used : List ℕ) → used ≡ replicate {A = ℕ} 15625 0 →
 unfolding cell among
 passed-none used e = rw e (record {
   size = length-replicate {A = ℕ} 15625 0;
-  tied = λ x. ap (λ (v : ℕ). eqb (v / 2 ^ (x % 64) % 2) 1) (getD-zeros 15625 (x / 64)) ∙ ne-eqb (0 / 2 ^ (x % 64) % 2) 1 (λ f. omega (arith, zero-div (2 ^ (x % 64))));
+  tied = λ x. ap (λ (v : ℕ). eqb (v / 2 ^ (x % 64) % 2) 1) (getD-zeros 15625 (x / 64))
+      ∙ ne-eqb (0 / 2 ^ (x % 64) % 2) 1 (λ f. omega (arith, zero-div (2 ^ (x % 64))));
 })
   where
     getD-zeros : (n i : ℕ) → getD (replicate {A = ℕ} n 0) i 0 ≡ 0
@@ -79,27 +89,36 @@ unfolding among
 among-last x b [] = or-false (eqb b x)
 among-last x b (m ∷ list) = rw (among-last x b list) (sym (or-assoc (eqb m x) (among x list) (eqb b x)))
 
-pub passed-more : (used used′ list : List ℕ) (b : ℕ) → Passed used list → Filled b (b + 1) used used′ → length used′ ≡ length used → Passed used′ (list ++ b ∷ [])
+pub passed-more : (used used′ list : List ℕ) (b : ℕ) → Passed used list → Filled b (b + 1) used used′ → length used′ ≡ length used
+    → Passed used′ (list ++ b ∷ [])
 passed-more used used′ list b p f l = record { size = l ∙ p .size; tied = λ x. go x (eqb b x) refl }
   where
     go : (x : ℕ) (t : Bool) → eqb b x ≡ t → eqb (cell used′ x) 1 ≡ among x (list ++ b ∷ [])
     go x true e =
         let i : b ≡ x = eqb-true b x e in
-        eq-eqb (cell used′ x) 1 (f .inside x (omega arith) (omega arith)) ∙ sym (among-last x b list ∙ ap (λ t. among x list || t) e ∙ or-true (among x list))
-    go x false e = ap (λ (v : ℕ). eqb v 1) (side x e (ltb x b) (ltb b x) refl refl) ∙ p .tied x ∙ sym (among-last x b list ∙ ap (λ t. among x list || t) e ∙ or-false (among x list))
+        eq-eqb (cell used′ x) 1 (f .inside x (omega arith) (omega arith))
+        ∙ sym (among-last x b list ∙ ap (λ t. among x list || t) e ∙ or-true (among x list))
+    go x false e = ap (λ (v : ℕ). eqb v 1) (side x e (ltb x b) (ltb b x) refl refl) ∙ p .tied x
+        ∙ sym (among-last x b list ∙ ap (λ t. among x list || t) e ∙ or-false (among x list))
       where
         side : (x : ℕ) → eqb b x ≡ false → (t u : Bool) → ltb x b ≡ t → ltb b x ≡ u → cell used′ x ≡ cell used x
         side x d true u e f′ = f .below x (ltb-true x b e)
         side x d false true e f′ = f .above x (omega (arith, ltb-true b x f′))
         side x d false false e f′ = absurd (eqb-false b x d (omega (arith, ltb-false x b e, ltb-false b x f′)))
 
-is-sound : (k : Kind) (windows : List ℕ) (place : ℕ) (used : List ℕ) (at : ℕ) (r : Row) → leb place 1000 ≡ true → among (r .bidder) used ≡ false → keeps k windows at r ≡ true → sound k windows place used at r ≡ true
+is-sound : (k : Kind) (windows : List ℕ) (place : ℕ) (used : List ℕ) (at : ℕ) (r : Row) → leb place 1000 ≡ true
+    → among (r .bidder) used ≡ false → keeps k windows at r ≡ true → sound k windows place used at r ≡ true
 unfolding sound
 is-sound k windows place used at r a b c = rw (a, b, c)
 
 -- row j of the bid table
 abbrev pub rowAt : List ℕ → ℕ → Row
-rowAt bids j = record { bidder = getD bids (4 * j) 0; price = getD bids (4 * j + 1) 0; first = getD bids (4 * j + 2) 0; count = getD bids (4 * j + 3) 0 }
+rowAt bids j = record {
+  bidder = getD bids (4 * j) 0;
+  price = getD bids (4 * j + 1) 0;
+  first = getD bids (4 * j + 2) 0;
+  count = getD bids (4 * j + 3) 0;
+}
 
 -- the rows from j on have the first fault of all of them
 pub record Going (k : Kind) (n : ℕ) (bids windows used : List ℕ) (at j : ℕ) : Type 0 where
@@ -112,20 +131,29 @@ pub record Going (k : Kind) (n : ℕ) (bids windows used : List ℕ) (at j : ℕ
 pub going-starts : (k : Kind) (n : ℕ) (bids windows used : List ℕ) → used ≡ replicate {A = ℕ} 15625 0 → Going k n bids windows used 0 0
 going-starts k n bids windows used e =
     let d : n - 0 ≡ n = omega arith in
-    record { list = []; passed = passed-none used e; inside = omega arith; room = omega arith; rest = ap (λ (m : ℕ). rowFault k windows 1 [] 0 (rowsOf m bids)) d }
+    record {
+      list = [];
+      passed = passed-none used e;
+      inside = omega arith;
+      room = omega arith;
+      rest = ap (λ (m : ℕ). rowFault k windows 1 [] 0 (rowsOf m bids)) d;
+    }
 
 module _ (k : Kind) (n : ℕ) (bids windows used : List ℕ) (at j : ℕ) (g : Going k n bids windows used at j) where
   pub going-ends : n ≤ j → none ≡ rowFault k windows 1 [] 0 (rowsOf n bids)
   unfolding rowFault rowsOf
-  going-ends l = let d : n - j ≡ 0 = omega arith in sym (ap (λ (m : ℕ). rowFault k windows (j + 1) (g .list) at (rowsOf m (drop (4 * j) bids))) d) ∙ g .rest
+  going-ends l = let d : n - j ≡ 0 = omega arith in
+      sym (ap (λ (m : ℕ). rowFault k windows (j + 1) (g .list) at (rowsOf m (drop (4 * j) bids))) d) ∙ g .rest
 
   step : j < n → rowFault k windows 1 [] 0 (rowsOf n bids)
       ≡ cond (sound k windows (j + 1) (g .list) at (rowAt bids j))
-      (rowFault k windows (j + 1 + 1) (g .list ++ rowAt bids j .bidder ∷ []) (at + rowAt bids j .count) (rowsOf (n - (j + 1)) (drop (4 * (j + 1)) bids))) (some (j + 1))
+      (rowFault k windows (j + 1 + 1) (g .list ++ rowAt bids j .bidder ∷ []) (at + rowAt bids j .count)
+      (rowsOf (n - (j + 1)) (drop (4 * (j + 1)) bids))) (some (j + 1))
   unfolding rowFault
   step l =
       let d : n - j ≡ suc (n - (j + 1)) = omega arith in
-      sym (g .rest) ∙ ap (λ (m : ℕ). rowFault k windows (j + 1) (g .list) at (rowsOf m (drop (4 * j) bids))) d ∙ ap (rowFault k windows (j + 1) (g .list) at) (rows-step (n - (j + 1)) j bids)
+      sym (g .rest) ∙ ap (λ (m : ℕ). rowFault k windows (j + 1) (g .list) at (rowsOf m (drop (4 * j) bids))) d
+      ∙ ap (rowFault k windows (j + 1) (g .list) at) (rows-step (n - (j + 1)) j bids)
 
   unsound : j < n → sound k windows (j + 1) (g .list) at (rowAt bids j) ≡ false → some (j + 1) ≡ rowFault k windows 1 [] 0 (rowsOf n bids)
   unsound l e = sym (rw e at (step l))
@@ -139,28 +167,34 @@ module _ (k : Kind) (n : ℕ) (bids windows used : List ℕ) (at j : ℕ) (g : G
   unfolding sound
   breaks l h e = unsound l (rw (le-leb (j + 1) 1000 (omega arith), e) (and-false (not (among (rowAt bids j .bidder) (g .list)))))
 
-  pub repeated : j < n → j < 1000 → eqb (cell used (rowAt bids j .bidder)) 1 ≡ true → some (j + 1) ≡ rowFault k windows 1 [] 0 (rowsOf n bids)
+  pub repeated : j < n → j < 1000 → eqb (cell used (rowAt bids j .bidder)) 1 ≡ true
+      → some (j + 1) ≡ rowFault k windows 1 [] 0 (rowsOf n bids)
   unfolding sound
   repeated l h e = unsound l (rw (le-leb (j + 1) 1000 (omega arith), ← g .passed .tied (rowAt bids j .bidder), e))
 
-  pub going-on : j < n → j < 1000 → keeps k windows at (rowAt bids j) ≡ true → eqb (cell used (rowAt bids j .bidder)) 1 ≡ false → (used′ : List ℕ) →
-      Filled (rowAt bids j .bidder) (rowAt bids j .bidder + 1) used used′ → length used′ ≡ length used → Going k n bids windows used′ (at + rowAt bids j .count) (j + 1)
+  pub going-on : j < n → j < 1000 → keeps k windows at (rowAt bids j) ≡ true → eqb (cell used (rowAt bids j .bidder)) 1 ≡ false
+      → (used′ : List ℕ) →
+      Filled (rowAt bids j .bidder) (rowAt bids j .bidder + 1) used used′ → length used′ ≡ length used
+      → Going k n bids windows used′ (at + rowAt bids j .count) (j + 1)
   going-on l h e f used′ fills s = record {
     list = g .list ++ rowAt bids j .bidder ∷ [];
     passed = passed-more used used′ (g .list) (rowAt bids j .bidder) (g .passed) fills s;
     inside = omega arith;
     room = leb-true (at + rowAt bids j .count) (length windows / 2) (keeps-kept k windows at (rowAt bids j) e .room);
-    rest = sym (step l ∙ ap (λ t. cond t (rowFault k windows (j + 1 + 1) (g .list ++ rowAt bids j .bidder ∷ []) (at + rowAt bids j .count) (rowsOf (n - (j + 1)) (drop (4 * (j + 1)) bids))) (some (j + 1))) sound-here);
+    rest = sym (step l ∙ ap (λ t. cond t (rowFault k windows (j + 1 + 1) (g .list ++ rowAt bids j .bidder ∷ []) (at + rowAt bids j .count)
+        (rowsOf (n - (j + 1)) (drop (4 * (j + 1)) bids))) (some (j + 1))) sound-here);
   }
     where
       sound-here : sound k windows (j + 1) (g .list) at (rowAt bids j) ≡ true
-      sound-here = is-sound k windows (j + 1) (g .list) at (rowAt bids j) (le-leb (j + 1) 1000 (omega arith)) (sym (g .passed .tied (rowAt bids j .bidder)) ∙ f) e
+      sound-here = is-sound k windows (j + 1) (g .list) at (rowAt bids j) (le-leb (j + 1) 1000 (omega arith))
+          (sym (g .passed .tied (rowAt bids j .bidder)) ∙ f) e
 
   -- the bidder number of a row that keeps its rules is a cell of the words
   pub bidder-cell : keeps k windows at (rowAt bids j) ≡ true → rowAt bids j .bidder < 64 * length used
   unfolding within
   bidder-cell e =
-      let b = and-split (leb 1 (rowAt bids j .bidder)) (leb (rowAt bids j .bidder) 999999) (keeps-kept k windows at (rowAt bids j) e .bidder) in
+      let b = and-split (leb 1 (rowAt bids j .bidder)) (leb (rowAt bids j .bidder) 999999)
+      (keeps-kept k windows at (rowAt bids j) e .bidder) in
       omega (arith, g .passed .size, leb-true (rowAt bids j .bidder) 999999 (b .1))
 
   pub room-here : keeps k windows at (rowAt bids j) ≡ true → at + rowAt bids j .count ≤ length windows / 2

@@ -33,7 +33,8 @@ prices-length (r ∷ rs) = ap suc (prices-length rs)
 pub prices-count : (n : ℕ) (bids : List ℕ) → length (pricesOf (rowsOf n bids)) ≡ n
 prices-count n bids = prices-length (rowsOf n bids) ∙ rows-length n bids
 
-later : (d n : ℕ) (bs cs : List ℕ) → ((j : ℕ) → d ≤ j → j < n → getD bs j 0 ≡ getD cs j 0) → (j : ℕ) → d + j < n → getD (drop d bs) j 0 ≡ getD (drop d cs) j 0
+later : (d n : ℕ) (bs cs : List ℕ) → ((j : ℕ) → d ≤ j → j < n → getD bs j 0 ≡ getD cs j 0) → (j : ℕ) → d + j < n
+    → getD (drop d bs) j 0 ≡ getD (drop d cs) j 0
 later d n bs cs h j l = getD-drop d bs j 0 ∙ h (d + j) (omega arith) l ∙ sym (getD-drop d cs j 0)
 
 rows-same : (n : ℕ) (bs cs : List ℕ) → ((j : ℕ) → j < 4 * n → getD bs j 0 ≡ getD cs j 0) → rowsOf n cs ≡ rowsOf n bs
@@ -67,9 +68,18 @@ rows-set (suc n) zero bs cs l h = rw (
   rows-same n (drop 4 bs) (drop 4 cs) (λ j m. later 4 (4 * suc n) bs cs (λ k o p. h k p (λ e. omega arith)) j (omega arith)),
 )
 rows-set (suc n) (suc i) bs cs l h =
-    let e : getD (drop 4 cs) (4 * i + 1) 0 ≡ getD cs (4 * suc i + 1) 0 = getD-drop 4 cs (4 * i + 1) 0 ∙ ap (λ (j : ℕ). getD cs j 0) (index i) in
-    let f = rows-set n i (drop 4 bs) (drop 4 cs) (omega arith) (λ j m d. getD-drop 4 bs j 0 ∙ h (4 + j) (omega arith) (λ p. d (omega arith)) ∙ sym (getD-drop 4 cs j 0)) in
-    rw (h 0 (omega arith) (λ e. omega arith), h 1 (omega arith) (λ e. omega arith), h 2 (omega arith) (λ e. omega arith), h 3 (omega arith) (λ e. omega arith), ← e, f)
+    let e : getD (drop 4 cs) (4 * i + 1) 0 ≡ getD cs (4 * suc i + 1) 0 = getD-drop 4 cs (4 * i + 1) 0
+    ∙ ap (λ (j : ℕ). getD cs j 0) (index i) in
+    let f = rows-set n i (drop 4 bs) (drop 4 cs) (omega arith)
+    (λ j m d. getD-drop 4 bs j 0 ∙ h (4 + j) (omega arith) (λ p. d (omega arith)) ∙ sym (getD-drop 4 cs j 0)) in
+    rw (
+      h 0 (omega arith) (λ e. omega arith),
+      h 1 (omega arith) (λ e. omega arith),
+      h 2 (omega arith) (λ e. omega arith),
+      h 3 (omega arith) (λ e. omega arith),
+      ← e,
+      f,
+    )
   where
     index : (i : ℕ) → 4 + (4 * i + 1) ≡ 4 * suc i + 1
     index i = omega arith
@@ -80,7 +90,8 @@ prices-set [] i v = refl
 prices-set (r ∷ rs) zero v = refl
 prices-set (r ∷ rs) (suc i) v = ap (λ ps. r .price ∷ ps) (prices-set rs i v)
 
-own-set : (windows : List ℕ) (rs : List Row) (i v j : ℕ) → own windows (getD (set rs i (withPrice v (getD rs i noRow))) j noRow) ≡ own windows (getD rs j noRow)
+own-set : (windows : List ℕ) (rs : List Row) (i v j : ℕ) → own windows (getD (set rs i (withPrice v (getD rs i noRow))) j noRow)
+    ≡ own windows (getD rs j noRow)
 unfolding own withPrice
 own-set windows [] i v j = refl
 own-set windows (r ∷ rs) zero v zero = refl
@@ -88,10 +99,12 @@ own-set windows (r ∷ rs) zero v (suc j) = refl
 own-set windows (r ∷ rs) (suc i) v zero = refl
 own-set windows (r ∷ rs) (suc i) v (suc j) = own-set windows rs i v j
 
-pub sound-keeps : (k : Kind) (windows : List ℕ) (place : ℕ) (used : List ℕ) (at : ℕ) (r : Row) → sound k windows place used at r ≡ true → keeps k windows at r ≡ true
+pub sound-keeps : (k : Kind) (windows : List ℕ) (place : ℕ) (used : List ℕ) (at : ℕ) (r : Row) → sound k windows place used at r ≡ true
+    → keeps k windows at r ≡ true
 unfolding sound
 sound-keeps k windows place used at r e =
-    and-split (not (among (r .bidder) used)) (keeps k windows at r) (and-split (leb place maxBids) (not (among (r .bidder) used) && keeps k windows at r) e .1) .1
+    and-split (not (among (r .bidder) used)) (keeps k windows at r)
+    (and-split (leb place maxBids) (not (among (r .bidder) used) && keeps k windows at r) e .1) .1
 
 -- what the row rules say
 pub record Kept (k : Kind) (windows : List ℕ) (at : ℕ) (r : Row) : Type 0 where
@@ -112,18 +125,24 @@ keeps-kept k windows at r e =
     let f = and-split (leb (at + r .count) (length windows / 2)) _ (d .1) in
     record { bidder = a .0; price = b .0; count = c .0; first = eqb-true (r .first) at (d .0); room = f .0; windows-too = f .1 }
 
-pub sound-first : (k : Kind) (windows : List ℕ) (place : ℕ) (used : List ℕ) (at : ℕ) (r : Row) → sound k windows place used at r ≡ true → r .first ≡ at
+pub sound-first : (k : Kind) (windows : List ℕ) (place : ℕ) (used : List ℕ) (at : ℕ) (r : Row) → sound k windows place used at r ≡ true
+    → r .first ≡ at
 sound-first k windows place used at r e = keeps-kept k windows at r (sound-keeps k windows place used at r e) .first
 
 -- the windows of each row stand among those held
-pub among-held : (k : Kind) (windows : List ℕ) (place : ℕ) (used : List ℕ) (at : ℕ) (rs : List Row) (j : ℕ) → rowFault k windows place used at rs ≡ none →
+pub among-held : (k : Kind) (windows : List ℕ) (place : ℕ) (used : List ℕ) (at : ℕ) (rs : List Row) (j : ℕ)
+    → rowFault k windows place used at rs ≡ none →
     getD rs j noRow .first + getD rs j noRow .count ≤ at + held rs
 unfolding rowFault held noRow
 among-held k windows place used at [] j e = omega arith
-among-held k windows place used at (r ∷ rs) j e = go (sound k windows place used at r) refl e j (λ j f. among-held k windows (place + 1) (used ++ r .bidder ∷ []) (at + r .count) rs j f)
+among-held k windows place used at (r ∷ rs) j e =
+    go (sound k windows place used at r) refl e j (λ j f. among-held k windows (place + 1) (used ++ r .bidder ∷ []) (at + r .count) rs j
+    f)
   where
-    go : (b : Bool) → sound k windows place used at r ≡ b → cond b (rowFault k windows (place + 1) (used ++ r .bidder ∷ []) (at + r .count) rs) (some place) ≡ none → (j : ℕ) →
-        ((j : ℕ) → rowFault k windows (place + 1) (used ++ r .bidder ∷ []) (at + r .count) rs ≡ none → getD rs j noRow .first + getD rs j noRow .count ≤ at + r .count + held rs) →
+    go : (b : Bool) → sound k windows place used at r ≡ b
+        → cond b (rowFault k windows (place + 1) (used ++ r .bidder ∷ []) (at + r .count) rs) (some place) ≡ none → (j : ℕ) →
+        ((j : ℕ) → rowFault k windows (place + 1) (used ++ r .bidder ∷ []) (at + r .count) rs ≡ none
+        → getD rs j noRow .first + getD rs j noRow .count ≤ at + r .count + held rs) →
         getD (r ∷ rs) j noRow .first + getD (r ∷ rs) j noRow .count ≤ at + (r .count + held rs)
     go false s e j ih = let z : _≡_ {A = ℕ} 0 1 = cc in absurd (omega arith)
     go true s e zero ih = omega (arith, sound-first k windows place used at r s)
@@ -138,21 +157,26 @@ pub faultless : (k : Kind) (t : Tender) (n : ℕ) (bids windows : List ℕ) → 
 unfolding faultOf
 faultless k t n bids windows e = go (sameKind k (t .kind) && lawful (t .window) && leb n (length bids / 4)) refl e
   where
-    go : (b : Bool) → sameKind k (t .kind) && lawful (t .window) && leb n (length bids / 4) ≡ b → cond b (rowFault k windows 1 [] 0 (rowsOf n bids)) (some 0) ≡ none → Faultless k t n bids windows
+    go : (b : Bool) → sameKind k (t .kind) && lawful (t .window) && leb n (length bids / 4) ≡ b
+        → cond b (rowFault k windows 1 [] 0 (rowsOf n bids)) (some 0) ≡ none → Faultless k t n bids windows
     go true f e = record { tender = f; rows = e }
     go false f e = let z : _≡_ {A = ℕ} 0 1 = cc in absurd (omega arith)
 
-module _ (k : Kind) (t : Tender) (n i : ℕ) (bids windows bids′ windows′ : List ℕ) (inside : i < n) (f : rowFault k windows 1 [] 0 (rowsOf n bids) ≡ none) (a : Alike n i bids windows bids′ windows′) where
+module _ (k : Kind) (t : Tender) (n i : ℕ) (bids windows bids′ windows′ : List ℕ) (inside : i < n)
+    (f : rowFault k windows 1 [] 0 (rowsOf n bids) ≡ none) (a : Alike n i bids windows bids′ windows′) where
   pub prices-alike : pricesOf (rowsOf n bids′) ≡ set (pricesOf (rowsOf n bids)) i (getD bids′ (4 * i + 1) 0)
   prices-alike = ap pricesOf (rows-set n i bids bids′ inside (a .rows)) ∙ prices-set (rowsOf n bids) i (getD bids′ (4 * i + 1) 0)
 
   own-alike : (j : ℕ) → own windows′ (getD (rowsOf n bids′) j noRow) ≡ own windows (getD (rowsOf n bids) j noRow)
   unfolding own
-  own-alike j = ap (λ rs. own windows′ (getD rs j noRow)) (rows-set n i bids bids′ inside (a .rows)) ∙ own-set windows′ (rowsOf n bids) i (getD bids′ (4 * i + 1) 0) j ∙ sym (go (getD (rowsOf n bids) j noRow) (among-held k windows 1 [] 0 (rowsOf n bids) j f))
+  own-alike j = ap (λ rs. own windows′ (getD rs j noRow)) (rows-set n i bids bids′ inside (a .rows))
+      ∙ own-set windows′ (rowsOf n bids) i (getD bids′ (4 * i + 1) 0) j
+      ∙ sym (go (getD (rowsOf n bids) j noRow) (among-held k windows 1 [] 0 (rowsOf n bids) j f))
     where
       go : (r : Row) → r .first + r .count ≤ 0 + held (rowsOf n bids) → own windows r ≡ own windows′ r
       go r l = windows-same (r .count) (drop (2 * r .first) windows) (drop (2 * r .first) windows′)
-          (λ x m. getD-drop (2 * r .first) windows x 0 ∙ a .windows-too (2 * r .first + x) (omega arith) ∙ sym (getD-drop (2 * r .first) windows′ x 0))
+          (λ x m. getD-drop (2 * r .first) windows x 0 ∙ a .windows-too (2 * r .first + x) (omega arith)
+          ∙ sym (getD-drop (2 * r .first) windows′ x 0))
 
   pub cells-alike : hasOf t (rowsOf n bids′) windows′ ≡ hasOf t (rowsOf n bids) windows
   unfolding hasOf
@@ -162,19 +186,33 @@ pub price-named : (n i : ℕ) (bids : List ℕ) → i < n → getD (pricesOf (ro
 unfolding pricesOf rowsOf
 price-named zero i bids l = absurd (omega arith)
 price-named (suc n) zero bids l = refl
-price-named (suc n) (suc i) bids l = price-named n i (drop 4 bids) (omega arith) ∙ getD-drop 4 bids (4 * i + 1) 0 ∙ ap (λ (j : ℕ). getD bids j 0) (index i)
+price-named (suc n) (suc i) bids l = price-named n i (drop 4 bids) (omega arith) ∙ getD-drop 4 bids (4 * i + 1) 0
+    ∙ ap (λ (j : ℕ). getD bids j 0) (index i)
   where
     index : (i : ℕ) → 4 + (4 * i + 1) ≡ 4 * suc i + 1
     index i = omega arith
 
 -- for a loop over the rows: row j, and those after it
 pub rows-step : (m j : ℕ) (bids : List ℕ) → rowsOf (suc m) (drop (4 * j) bids)
-    ≡ record { bidder = getD bids (4 * j) 0; price = getD bids (4 * j + 1) 0; first = getD bids (4 * j + 2) 0; count = getD bids (4 * j + 3) 0 } ∷ rowsOf m (drop (4 * (j + 1)) bids)
+    ≡ record {
+      bidder = getD bids (4 * j) 0;
+      price = getD bids (4 * j + 1) 0;
+      first = getD bids (4 * j + 2) 0;
+      count = getD bids (4 * j + 3) 0;
+    } ∷ rowsOf m (drop (4 * (j + 1)) bids)
 unfolding rowsOf
 rows-step m j bids =
     let z : 4 * j + 0 ≡ 4 * j = omega arith in
     let e : 4 * j + 4 ≡ 4 * (j + 1) = omega arith in
-    rw (getD-drop (4 * j) bids 0 0, getD-drop (4 * j) bids 1 0, getD-drop (4 * j) bids 2 0, getD-drop (4 * j) bids 3 0, drop-drop 4 (4 * j) bids, z, e)
+    rw (
+      getD-drop (4 * j) bids 0 0,
+      getD-drop (4 * j) bids 1 0,
+      getD-drop (4 * j) bids 2 0,
+      getD-drop (4 * j) bids 3 0,
+      drop-drop 4 (4 * j) bids,
+      z,
+      e,
+    )
 
 pub windows-step : (m j : ℕ) (windows : List ℕ) → windowsOf (suc m) (drop (2 * j) windows)
     ≡ record { start = getD windows (2 * j) 0; end = getD windows (2 * j + 1) 0 } ∷ windowsOf m (drop (2 * (j + 1)) windows)

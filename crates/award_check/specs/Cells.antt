@@ -1,4 +1,5 @@
--- From tables to bids over cells: the cells of a tender are its minutes, and a bid has those that its windows hold (paper 01, "Time, price and place").
+-- From tables to bids over cells: the cells of a tender are its minutes, and a bid has those that its windows hold (paper 01,
+-- "Time, price and place").
 use mathlib.Core.List.{List, [], _∷_, map}
 use mathlib.Core.Bool.{Bool, false, _&&_, _||_}
 use Prim.Native.Nat.{ℕ, _+_, _-_}

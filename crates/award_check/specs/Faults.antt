@@ -12,7 +12,8 @@ use Rattle.tender.specs.Limits.{within, maxPrice, maxBidder, maxBids, mostWindo
 use Rattle.tender.specs.Tables.{Row, rowsOf, own}
 use Rattle.reader.specs.Words.{among}
 
--- the row rules: bidder and price within limits, one window at least and no more than the kind allows, windows that begin where the row before
+-- the row rules: bidder and price within limits, one window at least and no more than the kind allows, windows that begin where
+-- the row before
 -- ended and stand inside the lent rows, each window lawful; the windows of the row before end at `at`
 unfoldable pub keeps : Kind → List ℕ → ℕ → Row → Bool
 unfolding within mostWindows own allLawful
@@ -43,7 +44,8 @@ sameKind Single Multi = false
 sameKind Multi Single = false
 sameKind Multi Multi = true
 
--- the place of refusal 9 by the award of the kind k, where n bids are stated: 0 for the tender, the kind and the count, else the row, counted from 1
+-- the place of refusal 9 by the award of the kind k, where n bids are stated: 0 for the tender, the kind and the count, else the
+-- row, counted from 1
 unfoldable pub faultOf : Kind → Tender → ℕ → List ℕ → List ℕ → Option ℕ
 unfolding lawful rowsOf rowFault
 faultOf k t n bids windows =

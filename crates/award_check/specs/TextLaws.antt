@@ -1,4 +1,5 @@
--- The tables of an accepted text: the award never refuses them with 9, and two texts that differ in one price give tables alike in all but that price. Assumes nothing.
+-- The tables of an accepted text: the award never refuses them with 9, and two texts that differ in one price give tables alike
+-- in all but that price. Assumes nothing.
 use mathlib.Core.Path.{_≡_, refl, sym, ap, _∙_}
 use mathlib.Core.List.{List, [], _∷_, _++_}
 use mathlib.Core.Bool.{Bool, true, not, _&&_}
@@ -73,7 +74,8 @@ unfolding mostWindows
 count-most Single r l f = omega (arith, f refl)
 count-most Multi r l f = l
 
-row-sound : (k : Kind) (windows v : List ℕ) (place : ℕ) (used : List ℕ) (at : ℕ) (r : Row) (W : List Window) → place ≤ 1000 → RowRules k used at r → drop (2 * at) windows ≡ flatWindows W ++ v →
+row-sound : (k : Kind) (windows v : List ℕ) (place : ℕ) (used : List ℕ) (at : ℕ) (r : Row) (W : List Window) → place ≤ 1000
+    → RowRules k used at r → drop (2 * at) windows ≡ flatWindows W ++ v →
     r .count ≤ length W → at + r .count ≤ length windows / 2 → WindowsRules W → sound k windows place used at r ≡ true
 unfolding sound keeps within own
 row-sound k windows v place used at r W l h d c e w =
@@ -81,41 +83,53 @@ row-sound k windows v place used at r W l h d c e w =
     (both (ap not (h .bidder-new))
     (both (both (le-leb 1 (r .bidder) (h .bidder-low)) (le-leb (r .bidder) maxBidder (h .bidder-high)))
     (both (le-leb (r .price) maxPrice (h .price-high))
-    (both (both (le-leb 1 (r .count) (h .some-window)) (le-leb (r .count) (mostWindows k) (count-most k r (h .few-windows) (h .one-window))))
+    (both (both (le-leb 1 (r .count) (h .some-window))
+    (le-leb (r .count) (mostWindows k) (count-most k r (h .few-windows) (h .one-window))))
     (both (eq-eqb (r .first) at (h .begins))
     (both (le-leb (at + r .count) (length windows / 2) e)
-    (ap (λ (f : ℕ). allLawful (windowsOf (r .count) (drop (2 * f) windows))) (h .begins) ∙ ap (λ ws. allLawful (windowsOf (r .count) ws)) d ∙ all-lawful (r .count) W v c w)))))))
+    (ap (λ (f : ℕ). allLawful (windowsOf (r .count) (drop (2 * f) windows))) (h .begins)
+    ∙ ap (λ ws. allLawful (windowsOf (r .count) ws)) d ∙ all-lawful (r .count) W v c w)))))))
 
-rows-sound : (k : Kind) (windows v : List ℕ) (place : ℕ) (used : List ℕ) (at : ℕ) (rs : List Row) (W : List Window) (end : ℕ) → RowsRules k used at rs end → place + length rs ≤ 1001 →
-    drop (2 * at) windows ≡ flatWindows W ++ v → at + length W ≡ end → end ≤ length windows / 2 → WindowsRules W → rowFault k windows place used at rs ≡ none
+rows-sound : (k : Kind) (windows v : List ℕ) (place : ℕ) (used : List ℕ) (at : ℕ) (rs : List Row) (W : List Window) (end : ℕ)
+    → RowsRules k used at rs end → place + length rs ≤ 1001 →
+    drop (2 * at) windows ≡ flatWindows W ++ v → at + length W ≡ end → end ≤ length windows / 2 → WindowsRules W
+    → rowFault k windows place used at rs ≡ none
 unfolding rowFault
 rows-sound k windows v place used at [] W end h l d e f w = refl
 rows-sound k windows v place used at (r ∷ rs) W end h l d e f w =
     let m = rows-end k (used ++ r .bidder ∷ []) (at + r .count) rs end (h .1) in
     let i : 2 * (at + r .count) ≡ 2 * at + 2 * r .count = omega arith in
     let n : drop (2 * (at + r .count)) windows ≡ flatWindows (drop (r .count) W) ++ v =
-    ap (λ (j : ℕ). drop j windows) i ∙ sym (drop-drop (2 * r .count) (2 * at) windows) ∙ ap (drop (2 * r .count)) d ∙ drop-flat (r .count) W v (omega arith) in
+    ap (λ (j : ℕ). drop j windows) i ∙ sym (drop-drop (2 * r .count) (2 * at) windows) ∙ ap (drop (2 * r .count)) d
+    ∙ drop-flat (r .count) W v (omega arith) in
     rw (row-sound k windows v place used at r W (omega arith) (h .0) d (omega arith) (omega arith) w)
-    (rows-sound k windows v (place + 1) (used ++ r .bidder ∷ []) (at + r .count) rs (drop (r .count) W) end (h .1) (omega arith) n (omega (arith, length-drop (r .count) W)) f (drop-rules (r .count) W w))
+    (rows-sound k windows v (place + 1) (used ++ r .bidder ∷ []) (at + r .count) rs (drop (r .count) W) end (h .1) (omega arith) n
+    (omega (arith, length-drop (r .count) W)) f (drop-rules (r .count) W w))
 
 same-kind : (k : Kind) → sameKind k k ≡ true
 same-kind Single = refl
 same-kind Multi = refl
 
 -- what was read is never refused with 9 by the award of its kind
-pub never-nine : (T : Tender) (R : List Row) (W : List Window) (v w : List ℕ) → Rules T R W → faultOf (T .kind) T (length R) (flatRows R ++ v) (flatWindows W ++ w) ≡ none
+pub never-nine : (T : Tender) (R : List Row) (W : List Window) (v w : List ℕ) → Rules T R W
+    → faultOf (T .kind) T (length R) (flatRows R ++ v) (flatWindows W ++ w) ≡ none
 unfolding faultOf
 never-nine T R W v w h =
     let l : length R ≤ length (flatRows R ++ v) / 4 = omega (arith, length-append (flatRows R) v, length-rows R) in
     let m : length W ≤ length (flatWindows W ++ w) / 2 = omega (arith, length-append (flatWindows W) w, length-windows W) in
-    rw (both (both (same-kind (T .kind)) (lawful-of (T .window) (h .tender))) (le-leb (length R) (length (flatRows R ++ v) / 4) l), rows-flat R v)
-    (rows-sound (T .kind) (flatWindows W ++ w) w 1 [] 0 R W (length W) (h .rows) (omega (arith, h .few-bids)) refl (omega arith) m (h .windows))
+    rw (
+      both (both (same-kind (T .kind)) (lawful-of (T .window) (h .tender))) (le-leb (length R) (length (flatRows R ++ v) / 4) l),
+      rows-flat R v,
+    )
+    (rows-sound (T .kind) (flatWindows W ++ w) w 1 [] 0 R W (length W) (h .rows) (omega (arith, h .few-bids)) refl (omega arith) m
+    (h .windows))
 
 before-end : (xs v v′ : List ℕ) (j : ℕ) → j < length xs → getD (xs ++ v) j 0 ≡ getD (xs ++ v′) j 0
 before-end xs v v′ j l = List·getD-append xs v 0 j l ∙ sym (List·getD-append xs v′ 0 j l)
 
 -- cells of rows that differ in the price of the row after bs
-rows-alike : (bs : List Row) (r : Row) (ls : List Row) (q : ℕ) (v v′ : List ℕ) (j : ℕ) → j < 4 * length (bs ++ r ∷ ls) → (j ≡ 4 * length bs + 1 → ⊥) →
+rows-alike : (bs : List Row) (r : Row) (ls : List Row) (q : ℕ) (v v′ : List ℕ) (j : ℕ) → j < 4 * length (bs ++ r ∷ ls)
+    → (j ≡ 4 * length bs + 1 → ⊥) →
     getD (flatRows (bs ++ r ∷ ls) ++ v) j 0 ≡ getD (flatRows (bs ++ withPrice q r ∷ ls) ++ v′) j 0
 unfolding flatRows withPrice
 rows-alike [] r ls q v v′ zero l d = refl
@@ -146,12 +160,14 @@ pub record Tabled (R S : List Row) (W : List Window) (v w v′ w′ bidder p q :
   pub named-q : priceOf q ≡ some (getD (flatRows S ++ v′) (4 * i + 1) 0)
   pub alike : Alike (length R) i (flatRows R ++ v) (flatWindows W ++ w) (flatRows S ++ v′) (flatWindows W ++ w′)
 
-pub tabled : (T : Tender) (R S : List Row) (W : List Window) (v w v′ w′ bidder p q : List ℕ) → Rules T R W → RowsDifferInPrice R S bidder p q → Tabled R S W v w v′ w′ bidder p q
+pub tabled : (T : Tender) (R S : List Row) (W : List Window) (v w v′ w′ bidder p q : List ℕ) → Rules T R W
+    → RowsDifferInPrice R S bidder p q → Tabled R S W v w v′ w′ bidder p q
 unfolding withPrice
 tabled T R S W v w v′ w′ bidder p q h d = record {
   i = length (d .before);
   inside = rw (d .left) (omega (arith, length-append (d .before) (d .row ∷ d .after)));
-  count = rw (d .left, d .right) (length-append (d .before) (withPrice (d .w) (d .row) ∷ d .after) ∙ sym (length-append (d .before) (d .row ∷ d .after)));
+  count = rw (d .left, d .right) (length-append (d .before) (withPrice (d .w) (d .row) ∷ d .after)
+      ∙ sym (length-append (d .before) (d .row ∷ d .after)));
   bidder-is = d .bidder-is ∙ rw (d .left, getD-append-seam (d .before) (d .row) (d .after) noRow);
   named-p = d .p-is ∙ rw (d .left, named-flat (d .before) (d .row) (d .after) v);
   named-q = d .q-is ∙ rw (d .right, named-flat (d .before) (withPrice (d .w) (d .row)) (d .after) v′);

@@ -51,25 +51,35 @@ module _ (k : Kind) (windows : List ℕ) where
   unfolding sound
   sound-place place used at r e = leb-true place 1000 (and-split (leb place 1000) _ e .0)
 
-  rows-kept : (place : ℕ) (used : List ℕ) (at : ℕ) (rs : List Row) → rowFault k windows place used at rs ≡ none → (i : ℕ) → i < length rs → Kept k windows (getD rs i noRow .first) (getD rs i noRow)
+  rows-kept : (place : ℕ) (used : List ℕ) (at : ℕ) (rs : List Row) → rowFault k windows place used at rs ≡ none → (i : ℕ) → i < length rs
+      → Kept k windows (getD rs i noRow .first) (getD rs i noRow)
   unfolding rowFault
   rows-kept place used at [] e i l = absurd (omega arith)
-  rows-kept place used at (r ∷ rs) e i l = go (sound k windows place used at r) refl e i l (rows-kept (place + 1) (used ++ r .bidder ∷ []) (at + r .count) rs)
+  rows-kept place used at (r ∷ rs) e i l = go (sound k windows place used at r) refl e i l
+      (rows-kept (place + 1) (used ++ r .bidder ∷ []) (at + r .count) rs)
     where
-      go : (b : Bool) → sound k windows place used at r ≡ b → cond b (rowFault k windows (place + 1) (used ++ r .bidder ∷ []) (at + r .count) rs) (some place) ≡ none → (i : ℕ) → i < suc (length rs) →
-          (rowFault k windows (place + 1) (used ++ r .bidder ∷ []) (at + r .count) rs ≡ none → (i : ℕ) → i < length rs → Kept k windows (getD rs i noRow .first) (getD rs i noRow)) →
+      go : (b : Bool) → sound k windows place used at r ≡ b
+          → cond b (rowFault k windows (place + 1) (used ++ r .bidder ∷ []) (at + r .count) rs) (some place) ≡ none → (i : ℕ)
+          → i < suc (length rs) →
+          (rowFault k windows (place + 1) (used ++ r .bidder ∷ []) (at + r .count) rs ≡ none → (i : ℕ) → i < length rs
+          → Kept k windows (getD rs i noRow .first) (getD rs i noRow)) →
           Kept k windows (getD (r ∷ rs) i noRow .first) (getD (r ∷ rs) i noRow)
       go false s e i l ih = let z : _≡_ {A = ℕ} 0 1 = cc in absurd (omega arith)
-      go true s e zero l ih = subst (λ (a : ℕ). Kept k windows a r) (sym (sound-first k windows place used at r s)) (keeps-kept k windows at r (sound-keeps k windows place used at r s))
+      go true s e zero l ih = subst (λ (a : ℕ). Kept k windows a r) (sym (sound-first k windows place used at r s))
+          (keeps-kept k windows at r (sound-keeps k windows place used at r s))
       go true s e (suc i) l ih = ih e i (omega arith)
 
-  rows-few : (place : ℕ) (used : List ℕ) (at : ℕ) (rs : List Row) → rowFault k windows place used at rs ≡ none → place ≤ 1001 → place + length rs ≤ 1001
+  rows-few : (place : ℕ) (used : List ℕ) (at : ℕ) (rs : List Row) → rowFault k windows place used at rs ≡ none → place ≤ 1001
+      → place + length rs ≤ 1001
   unfolding rowFault
   rows-few place used at [] e l = omega arith
-  rows-few place used at (r ∷ rs) e l = go (sound k windows place used at r) refl e (rows-few (place + 1) (used ++ r .bidder ∷ []) (at + r .count) rs)
+  rows-few place used at (r ∷ rs) e l = go (sound k windows place used at r) refl e
+      (rows-few (place + 1) (used ++ r .bidder ∷ []) (at + r .count) rs)
     where
-      go : (b : Bool) → sound k windows place used at r ≡ b → cond b (rowFault k windows (place + 1) (used ++ r .bidder ∷ []) (at + r .count) rs) (some place) ≡ none →
-          (rowFault k windows (place + 1) (used ++ r .bidder ∷ []) (at + r .count) rs ≡ none → place + 1 ≤ 1001 → place + 1 + length rs ≤ 1001) → place + suc (length rs) ≤ 1001
+      go : (b : Bool) → sound k windows place used at r ≡ b
+          → cond b (rowFault k windows (place + 1) (used ++ r .bidder ∷ []) (at + r .count) rs) (some place) ≡ none →
+          (rowFault k windows (place + 1) (used ++ r .bidder ∷ []) (at + r .count) rs ≡ none → place + 1 ≤ 1001
+          → place + 1 + length rs ≤ 1001) → place + suc (length rs) ≤ 1001
       go false s e ih = let z : _≡_ {A = ℕ} 0 1 = cc in absurd (omega arith)
       go true s e ih = omega (arith, ih e (omega (arith, sound-place place used at r s)))
 
@@ -80,7 +90,8 @@ orderly k t n bids windows e =
     record {
       few = omega (arith, rows-few k windows 1 [] 0 (rowsOf n bids) (f .rows) (omega arith), rows-length n bids);
       lent = leb-true n (length bids / 4) (a .1);
-      kept = λ i l. rw (row-named n i bids l) at (rows-kept k windows 1 [] 0 (rowsOf n bids) (f .rows) i (omega (arith, rows-length n bids)));
+      kept = λ i l. rw (row-named n i bids l) at (rows-kept k windows 1 [] 0 (rowsOf n bids) (f .rows) i
+          (omega (arith, rows-length n bids)));
     }
 
 -- the tender's own window
@@ -101,7 +112,8 @@ timed k t n bids windows e =
 no-cells : (t : Tender) (n : ℕ) (bids windows : List ℕ) (i x : ℕ) → n ≤ i → hasOf t (rowsOf n bids) windows i x ≡ false
 unfolding hasOf own noRow windowsOf holds
 no-cells t n bids windows i x l =
-    ap (λ (r : Row). ltb x (cellsOf t) && holds (windowsOf (r .count) (drop (2 * r .first) windows)) (t .window .start + x)) (List·getD-eq-default (rowsOf n bids) noRow {n = i} (omega (arith, rows-length n bids)))
+    ap (λ (r : Row). ltb x (cellsOf t) && holds (windowsOf (r .count) (drop (2 * r .first) windows)) (t .window .start + x))
+    (List·getD-eq-default (rowsOf n bids) noRow {n = i} (omega (arith, rows-length n bids)))
     ∙ and-false (ltb x (cellsOf t))
 
 -- words have the cells of the bids
@@ -109,20 +121,25 @@ no-cells t n bids windows i x l =
 empty-row : (ms : List ℕ) (w n i x : ℕ) → length ms ≡ w * n → n ≤ i → eqb (cell (row ms w i) x) 1 ≡ false
 unfolding cell row
 empty-row ms w n i x e l =
-    ap (λ (v : ℕ). eqb (v / 2 ^ (x % 64) % 2) 1) (List·getD-eq-default (take w (drop (w * i) ms)) 0 {n = x / 64} (simp (length-take, length-drop) (omega (arith, mul-le-mul-left w l))))
+    ap (λ (v : ℕ). eqb (v / 2 ^ (x % 64) % 2) 1) (List·getD-eq-default (take w (drop (w * i) ms)) 0 {n = x / 64}
+    (simp (length-take, length-drop) (omega (arith, mul-le-mul-left w l))))
     ∙ ap (λ (v : ℕ). eqb (v % 2) 1) (zero-div (2 ^ (x % 64)))
 
-pub masks-have : (t : Tender) (n w : ℕ) (bids windows ms : List ℕ) → length ms ≡ w * n → AllMasked n (t .window .start) (cellsOf t) w bids windows ms → has ms w ≡ hasOf t (rowsOf n bids) windows
+pub masks-have : (t : Tender) (n w : ℕ) (bids windows ms : List ℕ) → length ms ≡ w * n
+    → AllMasked n (t .window .start) (cellsOf t) w bids windows ms → has ms w ≡ hasOf t (rowsOf n bids) windows
 unfolding has hasOf
 masks-have t n w bids windows ms e m = fun-ext (λ i. fun-ext (λ x. go i x (ltb i n) refl))
   where
-    go : (i x : ℕ) (b : Bool) → ltb i n ≡ b → eqb (cell (row ms w i) x) 1 ≡ (ltb x (cellsOf t) && holds (own windows (getD (rowsOf n bids) i noRow)) (t .window .start + x))
-    go i x true u = m .each i (ltb-true i n u) .sets x ∙ ap (λ (r : Row). ltb x (cellsOf t) && holds (own windows r) (t .window .start + x)) (sym (row-named n i bids (ltb-true i n u)))
+    go : (i x : ℕ) (b : Bool) → ltb i n ≡ b → eqb (cell (row ms w i) x) 1
+        ≡ (ltb x (cellsOf t) && holds (own windows (getD (rowsOf n bids) i noRow)) (t .window .start + x))
+    go i x true u = m .each i (ltb-true i n u) .sets x
+        ∙ ap (λ (r : Row). ltb x (cellsOf t) && holds (own windows r) (t .window .start + x)) (sym (row-named n i bids (ltb-true i n u)))
     go i x false u = empty-row ms w n i x e (ltb-false i n u) ∙ sym (no-cells t n bids windows i x (ltb-false i n u))
 
 -- a window's cells
 
-pub in-cell : (s e start L x : ℕ) → (leb (clipped start L s) x && ltb x (clipped start L e)) ≡ (ltb x L && (leb s (start + x) && ltb (start + x) e))
+pub in-cell : (s e start L x : ℕ) → (leb (clipped start L s) x && ltb x (clipped start L e))
+    ≡ (ltb x L && (leb s (start + x) && ltb (start + x) e))
 in-cell s e start L x = go (ltb x L) refl
   where
     low : x < L → leb (clipped start L s) x ≡ leb s (start + x)
@@ -143,7 +160,8 @@ in-cell s e start L x = go (ltb x L) refl
     off true b e = e
     off false b e = refl
 
-    go : (b : Bool) → ltb x L ≡ b → (leb (clipped start L s) x && ltb x (clipped start L e)) ≡ (b && (leb s (start + x) && ltb (start + x) e))
+    go : (b : Bool) → ltb x L ≡ b → (leb (clipped start L s) x && ltb x (clipped start L e))
+        ≡ (b && (leb s (start + x) && ltb (start + x) e))
     go true t = rw (low (ltb-true x L t), high (ltb-true x L t))
     go false t = off (leb (clipped start L s) x) (ltb x (clipped start L e)) (le-ltb x (clipped start L e) (omega (arith, ltb-false x L t)))
 
@@ -154,7 +172,8 @@ pub clip-inside : (start L s : ℕ) → clipped start L s ≤ L
 clip-inside start L s = omega arith
 
 -- starts and ends have the cells of bids of one window each
-module _ (t : Tender) (n : ℕ) (bids windows starts ends : List ℕ) (o : Orderly Single n bids windows) (a : length starts ≡ n) (b : length ends ≡ n)
+module _ (t : Tender) (n : ℕ) (bids windows starts ends : List ℕ) (o : Orderly Single n bids windows) (a : length starts ≡ n)
+    (b : length ends ≡ n)
     (p : Laid n (t .window .start) (cellsOf t) bids windows starts ends) where
   one-count : (i : ℕ) → i < n → rowAt bids i .count ≡ 1
   unfolding within mostWindows
@@ -162,9 +181,11 @@ module _ (t : Tender) (n : ℕ) (bids windows starts ends : List ℕ) (o : Order
       let c = and-split (leb 1 (rowAt bids i .count)) (leb (rowAt bids i .count) 1) (o .kept i l .count) in
       omega (arith, leb-true 1 (rowAt bids i .count) (c .0), leb-true (rowAt bids i .count) 1 (c .1))
 
-  own-one : (i : ℕ) → i < n → own windows (rowAt bids i) ≡ record { start = getD windows (2 * rowAt bids i .first) 0; end = getD windows (2 * rowAt bids i .first + 1) 0 } ∷ []
+  own-one : (i : ℕ) → i < n → own windows (rowAt bids i)
+      ≡ record { start = getD windows (2 * rowAt bids i .first) 0; end = getD windows (2 * rowAt bids i .first + 1) 0 } ∷ []
   unfolding own windowsOf
-  own-one i l = ap (λ (c : ℕ). windowsOf c (drop (2 * rowAt bids i .first) windows)) (one-count i l) ∙ windows-step 0 (rowAt bids i .first) windows
+  own-one i l = ap (λ (c : ℕ). windowsOf c (drop (2 * rowAt bids i .first) windows)) (one-count i l)
+      ∙ windows-step 0 (rowAt bids i .first) windows
 
   pub spans-ordered : (i : ℕ) → getD starts i 0 ≤ getD ends i 0
   unfolding allLawful lawful
@@ -173,14 +194,17 @@ module _ (t : Tender) (n : ℕ) (bids windows starts ends : List ℕ) (o : Order
       go : (c : Bool) → ltb i n ≡ c → getD starts i 0 ≤ getD ends i 0
       go true u =
           let l = ltb-true i n u in
-          let h : (ltb (getD windows (2 * rowAt bids i .first) 0) (getD windows (2 * rowAt bids i .first + 1) 0) && leb (getD windows (2 * rowAt bids i .first + 1) 0) 10080) && true ≡ true =
+          let h : (ltb (getD windows (2 * rowAt bids i .first) 0) (getD windows (2 * rowAt bids i .first + 1) 0)
+          && leb (getD windows (2 * rowAt bids i .first + 1) 0) 10080) && true ≡ true =
           sym (ap allLawful (own-one i l)) ∙ o .kept i l .windows-too in
-          let c = and-split (ltb (getD windows (2 * rowAt bids i .first) 0) (getD windows (2 * rowAt bids i .first + 1) 0)) (leb (getD windows (2 * rowAt bids i .first + 1) 0) 10080) (and-split _ true h .0) in
+          let c = and-split (ltb (getD windows (2 * rowAt bids i .first) 0) (getD windows (2 * rowAt bids i .first + 1) 0))
+          (leb (getD windows (2 * rowAt bids i .first + 1) 0) 10080) (and-split _ true h .0) in
           omega (
             arith,
             p .starts-are i l,
             p .ends-are i l,
-            clip-order (t .window .start) (cellsOf t) (getD windows (2 * rowAt bids i .first) 0) (getD windows (2 * rowAt bids i .first + 1) 0)
+            clip-order (t .window .start) (cellsOf t) (getD windows (2 * rowAt bids i .first) 0)
+                (getD windows (2 * rowAt bids i .first + 1) 0)
                 (omega (arith, ltb-true (getD windows (2 * rowAt bids i .first) 0) (getD windows (2 * rowAt bids i .first + 1) 0) (c .0))),
           )
       go false u = omega (arith, ltb-false i n u, List·getD-eq-default starts 0 {n = i} (omega (arith, ltb-false i n u)))
@@ -189,19 +213,28 @@ module _ (t : Tender) (n : ℕ) (bids windows starts ends : List ℕ) (o : Order
   spans-inside i = go (ltb i n) refl
     where
       go : (c : Bool) → ltb i n ≡ c → getD ends i 0 ≤ cellsOf t
-      go true u = omega (arith, p .ends-are i (ltb-true i n u), clip-inside (t .window .start) (cellsOf t) (getD windows (2 * rowAt bids i .first + 1) 0))
+      go true u = omega (
+        arith,
+        p .ends-are i (ltb-true i n u),
+        clip-inside (t .window .start) (cellsOf t) (getD windows (2 * rowAt bids i .first + 1) 0),
+      )
       go false u = omega (arith, List·getD-eq-default ends 0 {n = i} (omega (arith, ltb-false i n u)))
 
   pub spans-have : spans starts ends ≡ hasOf t (rowsOf n bids) windows
   unfolding spans hasOf holds
   spans-have = fun-ext (λ i. fun-ext (λ x. go i x (ltb i n) refl))
     where
-      go : (i x : ℕ) (c : Bool) → ltb i n ≡ c → (leb (getD starts i 0) x && ltb x (getD ends i 0)) ≡ (ltb x (cellsOf t) && holds (own windows (getD (rowsOf n bids) i noRow)) (t .window .start + x))
+      go : (i x : ℕ) (c : Bool) → ltb i n ≡ c → (leb (getD starts i 0) x && ltb x (getD ends i 0))
+          ≡ (ltb x (cellsOf t) && holds (own windows (getD (rowsOf n bids) i noRow)) (t .window .start + x))
       go i x true u =
           let l = ltb-true i n u in
           rw (p .starts-are i l, p .ends-are i l, row-named n i bids l, own-one i l)
-          (in-cell (getD windows (2 * rowAt bids i .first) 0) (getD windows (2 * rowAt bids i .first + 1) 0) (t .window .start) (cellsOf t) x
-          ∙ ap (λ b. ltb x (cellsOf t) && b) (sym (or-false (leb (getD windows (2 * rowAt bids i .first) 0) (t .window .start + x) && ltb (t .window .start + x) (getD windows (2 * rowAt bids i .first + 1) 0)))))
+          (in-cell (getD windows (2 * rowAt bids i .first) 0) (getD windows (2 * rowAt bids i .first + 1) 0) (t .window .start)
+          (cellsOf t) x
+          ∙ ap (λ b. ltb x (cellsOf t) && b) (sym (or-false
+          (leb (getD windows (2 * rowAt bids i .first) 0) (t .window .start + x)
+          && ltb (t .window .start + x) (getD windows (2 * rowAt bids i .first + 1) 0)))))
       go i x false u =
-          ap (λ (v : ℕ). leb (getD starts i 0) x && ltb x v) (List·getD-eq-default ends 0 {n = i} (omega (arith, ltb-false i n u))) ∙ ap (λ c. leb (getD starts i 0) x && c) (le-ltb x 0 (omega arith)) ∙ and-false (leb (getD starts i 0) x)
+          ap (λ (v : ℕ). leb (getD starts i 0) x && ltb x v) (List·getD-eq-default ends 0 {n = i} (omega (arith, ltb-false i n u)))
+          ∙ ap (λ c. leb (getD starts i 0) x && c) (le-ltb x 0 (omega arith)) ∙ and-false (leb (getD starts i 0) x)
           ∙ sym (no-cells t n bids windows i x (ltb-false i n u))

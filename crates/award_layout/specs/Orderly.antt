@@ -15,7 +15,12 @@ use Rattle.award_check.specs.AlikeLaws.{Kept}
 
 -- row i of the bid table
 abbrev pub rowAt : List ℕ → ℕ → Row
-rowAt bids i = record { bidder = getD bids (4 * i) 0; price = getD bids (4 * i + 1) 0; first = getD bids (4 * i + 2) 0; count = getD bids (4 * i + 3) 0 }
+rowAt bids i = record {
+  bidder = getD bids (4 * i) 0;
+  price = getD bids (4 * i + 1) 0;
+  first = getD bids (4 * i + 2) 0;
+  count = getD bids (4 * i + 3) 0;
+}
 
 -- n rows that keep the row rules
 pub record Orderly (k : Kind) (n : ℕ) (bids windows : List ℕ) : Type 0 where

@@ -46,7 +46,8 @@ pub fn spans(
     ends: &mut [u64],
 )
     requires { ⌜ Orderly Single (length (now starts)) (now bids) (now windows) × (length (now ends) ≡ length (now starts)) ⌝ }
-    ensures { λ _. ⌜ Laid (length (now (starts .entry))) start cells (now (bids .entry)) (now (windows .entry)) (now (starts .exit)) (now (ends .exit)) ⌝ }
+    ensures { λ _. ⌜ Laid (length (now (starts .entry))) start cells (now (bids .entry)) (now (windows .entry)) (now (starts .exit))
+        (now (ends .exit)) ⌝ }
 {
     let mut i = 0;
     while i < starts.len() {

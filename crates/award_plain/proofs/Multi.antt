@@ -40,8 +40,16 @@ priced k n bids windows o = record { count = omega (arith, o .few, prices-count 
     most i = go (ltb i n) refl
       where
         go : (b : Bool) → ltb i n ≡ b → getD (pricesOf (rowsOf n bids)) i 0 ≤ 100000000
-        go true u = omega (arith, price-named n i bids (ltb-true i n u), leb-true (getD bids (4 * i + 1) 0) 100000000 (o .kept i (ltb-true i n u) .price))
-        go false u = omega (arith, List·getD-eq-default (pricesOf (rowsOf n bids)) 0 {n = i} (omega (arith, ltb-false i n u, prices-count n bids)))
+        go true u = omega (
+          arith,
+          price-named n i bids (ltb-true i n u),
+          leb-true (getD bids (4 * i + 1) 0) 100000000 (o .kept i (ltb-true i n u) .price),
+        )
+        go false u = omega (
+          arith,
+          List·getD-eq-default (pricesOf (rowsOf n bids)) 0 {n = i}
+              (omega (arith, ltb-false i n u, prices-count n bids)),
+        )
 
 -- the words of a tender's cells
 pub record Words (t : Tender) (w : ℕ) : Type 0 where
@@ -51,9 +59,17 @@ pub record Words (t : Tender) (w : ℕ) : Type 0 where
   pub words : w ≤ 158
   pub fits : cellsOf t ≤ 64 * w
 
-pub words-of : (k : Kind) (t : Tender) (n w : ℕ) (bids windows : List ℕ) → faultOf k t n bids windows ≡ none → w ≡ (cellsOf t + 63) / 64 → Words t w
+pub words-of : (k : Kind) (t : Tender) (n w : ℕ) (bids windows : List ℕ) → faultOf k t n bids windows ≡ none → w ≡ (cellsOf t + 63) / 64
+    → Words t w
 unfolding cellsOf
-words-of k t n w bids windows f e = let d = timed k t n bids windows f in record { forwards = omega (arith, d .some-minute); few = omega (arith, d .in-week); early = omega (arith, d .some-minute, d .in-week); words = omega (arith, d .in-week); fits = omega arith }
+words-of k t n w bids windows f e = let d = timed k t n bids windows f in
+    record {
+      forwards = omega (arith, d .some-minute);
+      few = omega (arith, d .in-week);
+      early = omega (arith, d .some-minute, d .in-week);
+      words = omega (arith, d .in-week);
+      fits = omega arith;
+    }
 
 module _ (t : Tender) (n w : ℕ) (bids windows ms ps ow oc : List ℕ) (f : faultOf Multi t n bids windows ≡ none) (size : length ms ≡ w * n)
     (m : AllMasked n (t .window .start) (cellsOf t) w bids windows ms) (p : ps ≡ pricesOf (rowsOf n bids)) where
@@ -63,24 +79,36 @@ module _ (t : Tender) (n w : ℕ) (bids windows ms ps ow oc : List ℕ) (f : fau
   count : length ps ≡ n
   count = ap length p ∙ prices-count n bids
 
-  pub uncovered : (x : ℕ) → Says (has ms w) n (cellsOf t) (Nobody x) → PlainPromise Multi t n bids windows n ow oc ow oc (Refused (MinuteUncovered (t .window .start + x)))
+  pub uncovered : (x : ℕ) → Says (has ms w) n (cellsOf t) (Nobody x)
+      → PlainPromise Multi t n bids windows n ow oc ow oc (Refused (MinuteUncovered (t .window .start + x)))
   uncovered x s = eleven Multi t n bids windows n ow oc f (omega arith) x (rw same at s)
 
-  pub lone : (x : ℕ) → Says (has ms w) n (cellsOf t) (Alone x) → PlainPromise Multi t n bids windows n ow oc ow oc (Refused (OneBidder (t .window .start + x)))
+  pub lone : (x : ℕ) → Says (has ms w) n (cellsOf t) (Alone x)
+      → PlainPromise Multi t n bids windows n ow oc ow oc (Refused (OneBidder (t .window .start + x)))
   lone x s = let h = rw same at s in twelve Multi t n bids windows n ow oc f (omega arith) x (h .0) (h .1)
 
   pub market : Words t w → Market ps ms w
-  market d = record { priced = rw p (priced Multi n bids windows (orderly Multi t n bids windows f)); size = size ∙ ap (λ (k : ℕ). w * k) (sym count); words = d .words }
+  market d = record {
+    priced = rw p (priced Multi n bids windows (orderly Multi t n bids windows f));
+    size = size
+        ∙ ap (λ (k : ℕ). w * k) (sym count);
+    words = d .words;
+  }
 
   pub two-bidders : Says (has ms w) n (cellsOf t) Enough → each (has ms w) (length ps) (cellsOf t) 2 ≡ true
   two-bidders s = rw count (two-each (has ms w) n (cellsOf t) (s .0) (s .1))
 
   pub settled : Says (has ms w) n (cellsOf t) Enough → (nw nc : List ℕ) (totals : Totals) →
-      Settled (wins (has ms w) ps (cells (cellsOf t))) (roundsPaid (has ms w) ps (cells (cellsOf t))) ps ow oc nw nc (totals .cost) (totals .paid) →
+      Settled (wins (has ms w) ps (cells (cellsOf t))) (roundsPaid (has ms w) ps (cells (cellsOf t))) ps ow oc nw nc (totals .cost)
+      (totals .paid) →
       PlainPromise Multi t n bids windows n ow oc nw nc (Awarded totals)
   settled s nw nc totals h =
       let h′ = rw same at s in
       let ps′ = pricesOf (rowsOf n bids) in
       let c : length ps′ ≡ n = prices-count n bids in
-      awards Multi t n bids windows n ow oc f (omega arith) (h′ .0) (h′ .1) (wins (hasOf t (rowsOf n bids) windows) ps′ (cells (cellsOf t))) (roundsPaid (hasOf t (rowsOf n bids) windows) ps′ (cells (cellsOf t)))
-      (λ i l. multi-won (hasOf t (rowsOf n bids) windows) ps′ (cellsOf t) i) (λ i l. multi-cents (hasOf t (rowsOf n bids) windows) ps′ (cellsOf t) i (omega arith) (rw c (two-each (hasOf t (rowsOf n bids) windows) n (cellsOf t) (h′ .0) (h′ .1)))) nw nc totals (rw (same, p) at h)
+      awards Multi t n bids windows n ow oc f (omega arith) (h′ .0) (h′ .1)
+      (wins (hasOf t (rowsOf n bids) windows) ps′ (cells (cellsOf t)))
+      (roundsPaid (hasOf t (rowsOf n bids) windows) ps′ (cells (cellsOf t)))
+      (λ i l. multi-won (hasOf t (rowsOf n bids) windows) ps′ (cellsOf t) i)
+      (λ i l. multi-cents (hasOf t (rowsOf n bids) windows) ps′ (cellsOf t) i (omega arith)
+      (rw c (two-each (hasOf t (rowsOf n bids) windows) n (cellsOf t) (h′ .0) (h′ .1)))) nw nc totals (rw (same, p) at h)

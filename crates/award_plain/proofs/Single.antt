@@ -25,7 +25,8 @@ use Rattle.award_plain.specs.Plain.{PlainPromise}
 use Rattle.award_plain.proofs.Multi.{priced}
 use Rattle.award_plain.specs.PlainLaws.{eleven, twelve, awards, single-won, single-cents}
 
-module _ (t : Tender) (n : ℕ) (bids windows starts ends ps ow oc : List ℕ) (f : faultOf Single t n bids windows ≡ none) (a : length starts ≡ n) (b : length ends ≡ n)
+module _ (t : Tender) (n : ℕ) (bids windows starts ends ps ow oc : List ℕ) (f : faultOf Single t n bids windows ≡ none)
+    (a : length starts ≡ n) (b : length ends ≡ n)
     (l : Laid n (t .window .start) (cellsOf t) bids windows starts ends) (p : ps ≡ pricesOf (rowsOf n bids)) where
   o : Orderly Single n bids windows
   o = orderly Single t n bids windows f
@@ -47,18 +48,22 @@ module _ (t : Tender) (n : ℕ) (bids windows starts ends ps ow oc : List ℕ) (
   pub prices-most : (i : ℕ) → getD ps i 0 ≤ 100000000
   prices-most i = rw p (priced Single n bids windows o .most i)
 
-  pub uncovered : (x : ℕ) → Says (spans starts ends) n (cellsOf t) (Nobody x) → PlainPromise Single t n bids windows n ow oc ow oc (Refused (MinuteUncovered (t .window .start + x)))
+  pub uncovered : (x : ℕ) → Says (spans starts ends) n (cellsOf t) (Nobody x)
+      → PlainPromise Single t n bids windows n ow oc ow oc (Refused (MinuteUncovered (t .window .start + x)))
   uncovered x s = eleven Single t n bids windows n ow oc f (omega arith) x (rw same at s)
 
-  pub lone : (x : ℕ) → Says (spans starts ends) n (cellsOf t) (Alone x) → PlainPromise Single t n bids windows n ow oc ow oc (Refused (OneBidder (t .window .start + x)))
+  pub lone : (x : ℕ) → Says (spans starts ends) n (cellsOf t) (Alone x)
+      → PlainPromise Single t n bids windows n ow oc ow oc (Refused (OneBidder (t .window .start + x)))
   lone x s = let h = rw same at s in twelve Single t n bids windows n ow oc f (omega arith) x (h .0) (h .1)
 
   pub settled : Says (spans starts ends) n (cellsOf t) Enough → (nw nc : List ℕ) (totals : Totals) →
-      Settled (λ i. bit (winners (covers (spans starts ends) (length ps) (cellsOf t)) ps) i) (vcgPaid (covers (spans starts ends) (length ps) (cellsOf t)) ps) ps ow oc nw nc (totals .cost) (totals .paid) →
+      Settled (λ i. bit (winners (covers (spans starts ends) (length ps) (cellsOf t)) ps) i)
+      (vcgPaid (covers (spans starts ends) (length ps) (cellsOf t)) ps) ps ow oc nw nc (totals .cost) (totals .paid) →
       PlainPromise Single t n bids windows n ow oc nw nc (Awarded totals)
   settled s nw nc totals h =
       let ps′ = pricesOf (rowsOf n bids) in
       let g = hasOf t (rowsOf n bids) windows in
       let h′ = rw same at s in
-      awards Single t n bids windows n ow oc f (omega arith) (h′ .0) (h′ .1) (λ i. bit (winners (covers g (length ps′) (cellsOf t)) ps′) i) (vcgPaid (covers g (length ps′) (cellsOf t)) ps′)
+      awards Single t n bids windows n ow oc f (omega arith) (h′ .0) (h′ .1)
+      (λ i. bit (winners (covers g (length ps′) (cellsOf t)) ps′) i) (vcgPaid (covers g (length ps′) (cellsOf t)) ps′)
       (λ i d. single-won g ps′ (cellsOf t) i) (λ i d. single-cents g ps′ (cellsOf t) i) nw nc totals (rw (same, p) at h)

@@ -22,7 +22,8 @@ use Rattle.award_check.specs.Faults.{faultOf}
 use Rattle.award_check.specs.Cells.{cellsOf, hasOf, pricesOf}
 use Rattle.tender.specs.declared.AwardRow.{AwardRow}
 
--- Over L cells, where bid i of the prices ps has the cell x if `has i x`: bid i wins in a single tender if it is in the least cover, in a multi tender if the greedy run takes it
+-- Over L cells, where bid i of the prices ps has the cell x if `has i x`: bid i wins in a single tender if it is in the least
+-- cover, in a multi tender if the greedy run takes it
 unfoldable pub won : Kind → (ℕ → ℕ → Bool) → List ℕ → ℕ → ℕ → Bool
 unfolding bit covers winners cells wins
 won Single has ps L i = bit (winners (covers has (length ps) L) ps) i

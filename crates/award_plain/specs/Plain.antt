@@ -38,7 +38,8 @@ centsAfter old (awarded rows cost paid) = map (λ r. r .cents) rows ++ drop (len
 centsAfter old (refused n at) = old
 
 -- the promise of a call, with `lent` award rows: it leaves the cells won′ and cents′ and answers a
-pub record PlainPromise (k : Kind) (t : Tender) (n : ℕ) (bids windows : List ℕ) (lent : ℕ) (won cents won′ cents′ : List ℕ) (a : Answer) : Type 0 where
+pub record PlainPromise (k : Kind) (t : Tender) (n : ℕ) (bids windows : List ℕ) (lent : ℕ) (won cents won′ cents′ : List ℕ)
+    (a : Answer) : Type 0 where
   pub answers : toldIn n won′ cents′ a ≡ awardOf k t n bids windows lent
   pub won-cells : won′ ≡ wonAfter won (toldIn n won′ cents′ a)
   pub cents-cells : cents′ ≡ centsAfter cents (toldIn n won′ cents′ a)

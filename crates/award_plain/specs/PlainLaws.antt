@@ -1,4 +1,5 @@
--- How the answer over plain cells comes about: from a fault, too few rows, a cell in no bid or in one, or what a core settles. Assumes nothing.
+-- How the answer over plain cells comes about: from a fault, too few rows, a cell in no bid or in one, or what a core settles.
+-- Assumes nothing.
 use mathlib.Core.Path.{_≡_, refl, sym, ap, _∙_}
 use mathlib.Core.List.{List, _++_, map}
 use mathlib.Core.Bool.{Bool, true, cond}
@@ -33,7 +34,8 @@ use Rattle.tender.specs.declared.Answer.{Answer}
 use Rattle.tender.specs.declared.Answer.the-variants.{Awarded, Refused}
 use Rattle.award_plain.specs.Award.{won, cents, awarded, declined, filled, costOf, paidOf, thinned, settled, awardOf}
 use Rattle.award_plain.specs.Plain.{rowsIn, toldIn, wonAfter, centsAfter, PlainPromise}
-use Rattle.award_plain.specs.AwardLaws.{won-single, cents-single, won-multi, cents-multi, award-none, award-lent, award-nine, award-settles}
+use Rattle.award_plain.specs.AwardLaws.{won-single, cents-single, won-multi, cents-multi, award-none, award-lent, award-nine}
+use Rattle.award_plain.specs.AwardLaws.{award-settles}
 
 module _ (k : Kind) (t : Tender) (n : ℕ) (bids windows : List ℕ) (lent : ℕ) (ow oc : List ℕ) where
   abbrev has : ℕ → ℕ → Bool
@@ -55,40 +57,53 @@ module _ (k : Kind) (t : Tender) (n : ℕ) (bids windows : List ℕ) (lent : ℕ
 
   module _ (f : faultOf k t n bids windows ≡ none) where
     pub ten : lent < n → PlainPromise k t n bids windows lent ow oc ow oc (Refused RowsTooFew)
-    ten l = refuses RowsTooFew (award-none k t n bids windows lent f ∙ ap (λ b. cond b (declined RowsTooFew) (settled k has ps L (t .window .start))) (lt-ltb lent n l))
+    ten l = refuses RowsTooFew (award-none k t n bids windows lent f
+        ∙ ap (λ b. cond b (declined RowsTooFew) (settled k has ps L (t .window .start))) (lt-ltb lent n l))
 
     module _ (enough : n ≤ lent) where
-      pub eleven : (x : ℕ) → cellWith has n L 0 ≡ found x → PlainPromise k t n bids windows lent ow oc ow oc (Refused (MinuteUncovered (t .window .start + x)))
+      pub eleven : (x : ℕ) → cellWith has n L 0 ≡ found x
+          → PlainPromise k t n bids windows lent ow oc ow oc (Refused (MinuteUncovered (t .window .start + x)))
       unfolding thinned
-      eleven x e = refuses (MinuteUncovered (t .window .start + x)) (award-settles k t n bids windows lent f (le-ltb lent n enough) (found x) (cellWith has n L 1) e refl)
+      eleven x e = refuses (MinuteUncovered (t .window .start + x))
+          (award-settles k t n bids windows lent f (le-ltb lent n enough) (found x) (cellWith has n L 1) e refl)
 
-      pub twelve : (x : ℕ) → cellWith has n L 0 ≡ nothing → cellWith has n L 1 ≡ found x → PlainPromise k t n bids windows lent ow oc ow oc (Refused (OneBidder (t .window .start + x)))
+      pub twelve : (x : ℕ) → cellWith has n L 0 ≡ nothing → cellWith has n L 1 ≡ found x
+          → PlainPromise k t n bids windows lent ow oc ow oc (Refused (OneBidder (t .window .start + x)))
       unfolding thinned
-      twelve x d e = refuses (OneBidder (t .window .start + x)) (award-settles k t n bids windows lent f (le-ltb lent n enough) nothing (found x) d e)
+      twelve x d e = refuses (OneBidder (t .window .start + x))
+          (award-settles k t n bids windows lent f (le-ltb lent n enough) nothing (found x) d e)
 
       -- a core settles by the flags w and the payments c, which are those of the definitions
-      module _ (covered : cellWith has n L 0 ≡ nothing) (doubled : cellWith has n L 1 ≡ nothing) (w : ℕ → Bool) (c : ℕ → ℕ) (w-is : (i : ℕ) → i < n → w i ≡ won k has ps L i) (c-is : (i : ℕ) → i < n → c i ≡ cents k has ps L i)
+      module _ (covered : cellWith has n L 0 ≡ nothing) (doubled : cellWith has n L 1 ≡ nothing) (w : ℕ → Bool) (c : ℕ → ℕ)
+          (w-is : (i : ℕ) → i < n → w i ≡ won k has ps L i) (c-is : (i : ℕ) → i < n → c i ≡ cents k has ps L i)
           (nw nc : List ℕ) (totals : Totals) (s : core.Settled w c ps ow oc nw nc (totals .cost) (totals .paid)) where
         rows-are : rowsIn n nw nc ≡ filled k has ps L
         unfolding rowsIn filled
         rows-are =
-            listed-same n (λ i. record { won = eqb (getD nw i 0) 1; cents = getD nc i 0 }) (λ i. record { won = won k has ps L i; cents = cents k has ps L i }) (λ i l. rw (flag-at i l, pay-at i l))
+            listed-same n (λ i. record { won = eqb (getD nw i 0) 1; cents = getD nc i 0 })
+            (λ i. record { won = won k has ps L i; cents = cents k has ps L i }) (λ i l. rw (flag-at i l, pay-at i l))
             ∙ ap (λ (m : ℕ). listed m (λ i. record { won = won k has ps L i; cents = cents k has ps L i })) (sym (prices-count n bids))
           where
             flag-at : (i : ℕ) → i < n → eqb (getD nw i 0) 1 ≡ won k has ps L i
             flag-at i l =
-                ap (λ (v : ℕ). eqb v 1) (ap (λ (zs : List ℕ). getD zs i 0) (s .flags) ∙ List·getD-append (listed (length ps) (λ i. when (w i) 1)) (drop (length ps) ow) 0 i (omega (arith, length-listed (length ps) (λ i. when (w i) 1), prices-count n bids))
+                ap (λ (v : ℕ). eqb v 1) (ap (λ (zs : List ℕ). getD zs i 0) (s .flags)
+                ∙ List·getD-append (listed (length ps) (λ i. when (w i) 1)) (drop (length ps) ow) 0 i
+                (omega (arith, length-listed (length ps) (λ i. when (w i) 1), prices-count n bids))
                 ∙ getD-listed (length ps) (λ i. when (w i) 1) i 0 (omega (arith, prices-count n bids)))
                 ∙ when-is (w i) ∙ w-is i l
 
             pay-at : (i : ℕ) → i < n → getD nc i 0 ≡ cents k has ps L i
             pay-at i l =
-                ap (λ (zs : List ℕ). getD zs i 0) (s .payments) ∙ List·getD-append (listed (length ps) c) (drop (length ps) oc) 0 i (omega (arith, length-listed (length ps) c, prices-count n bids))
+                ap (λ (zs : List ℕ). getD zs i 0) (s .payments)
+                ∙ List·getD-append (listed (length ps) c) (drop (length ps) oc) 0 i
+                (omega (arith, length-listed (length ps) c, prices-count n bids))
                 ∙ getD-listed (length ps) c i 0 (omega (arith, prices-count n bids)) ∙ c-is i l
 
         cost-is : totals .cost ≡ costOf k has ps L
         unfolding costOf
-        cost-is = s .cost-is ∙ ap sum (listed-same (length ps) (λ i. when (w i) (getD ps i 0)) (λ i. when (won k has ps L i) (getD ps i 0)) (λ i l. ap (λ b. when b (getD ps i 0)) (w-is i (omega (arith, prices-count n bids)))))
+        cost-is = s .cost-is ∙ ap sum (listed-same (length ps) (λ i. when (w i) (getD ps i 0))
+            (λ i. when (won k has ps L i) (getD ps i 0)) (λ i l. ap (λ b. when b (getD ps i 0))
+            (w-is i (omega (arith, prices-count n bids)))))
 
         paid-is : totals .paid ≡ paidOf k has ps L
         unfolding paidOf
@@ -106,7 +121,8 @@ module _ (k : Kind) (t : Tender) (n : ℕ) (bids windows : List ℕ) (lent : ℕ
         unfolding filled
         flags-are =
             map-listed (length ps) (λ i. record { won = won k has ps L i; cents = cents k has ps L i }) (λ r. when (r .won) 1)
-            ∙ listed-same (length ps) (λ i. when (won k has ps L i) 1) (λ i. when (w i) 1) (λ i l. ap (λ b. when b 1) (sym (w-is i (omega (arith, prices-count n bids)))))
+            ∙ listed-same (length ps) (λ i. when (won k has ps L i) 1) (λ i. when (w i) 1)
+            (λ i l. ap (λ b. when b 1) (sym (w-is i (omega (arith, prices-count n bids)))))
 
         pays-are : map (λ r. r .cents) (filled k has ps L) ≡ listed (length ps) c
         unfolding filled
@@ -116,11 +132,13 @@ module _ (k : Kind) (t : Tender) (n : ℕ) (bids windows : List ℕ) (lent : ℕ
 
         won-after : nw ≡ wonAfter ow (awarded (filled k has ps L) (costOf k has ps L) (paidOf k has ps L))
         unfolding wonAfter
-        won-after = s .flags ∙ sym (ap (λ l. l ++ drop (length (filled k has ps L)) ow) flags-are ∙ ap (λ (m : ℕ). listed (length ps) (λ i. when (w i) 1) ++ drop m ow) rows-count)
+        won-after = s .flags ∙ sym (ap (λ l. l ++ drop (length (filled k has ps L)) ow) flags-are
+            ∙ ap (λ (m : ℕ). listed (length ps) (λ i. when (w i) 1) ++ drop m ow) rows-count)
 
         cents-after : nc ≡ centsAfter oc (awarded (filled k has ps L) (costOf k has ps L) (paidOf k has ps L))
         unfolding centsAfter
-        cents-after = s .payments ∙ sym (ap (λ l. l ++ drop (length (filled k has ps L)) oc) pays-are ∙ ap (λ (m : ℕ). listed (length ps) c ++ drop m oc) rows-count)
+        cents-after = s .payments ∙ sym (ap (λ l. l ++ drop (length (filled k has ps L)) oc) pays-are
+            ∙ ap (λ (m : ℕ). listed (length ps) c ++ drop m oc) rows-count)
 
         pub awards : PlainPromise k t n bids windows lent ow oc nw nc (Awarded totals)
         unfolding thinned
@@ -141,11 +159,13 @@ single-cents has ps L i = sym (cents-single has ps L i (length ps) refl)
 pub multi-won : (has : ℕ → ℕ → Bool) (ps : List ℕ) (L i : ℕ) → wins has ps (cells L) i ≡ won Multi has ps L i
 multi-won has ps L i = sym (won-multi has ps L i)
 
-pub multi-cents : (has : ℕ → ℕ → Bool) (ps : List ℕ) (L i : ℕ) → i < length ps → each has (length ps) L 2 ≡ true → roundsPaid has ps (cells L) i ≡ cents Multi has ps L i
+pub multi-cents : (has : ℕ → ℕ → Bool) (ps : List ℕ) (L i : ℕ) → i < length ps → each has (length ps) L 2 ≡ true
+    → roundsPaid has ps (cells L) i ≡ cents Multi has ps L i
 multi-cents has ps L i l two = sym (cents-multi has ps L i ∙ paid-by-rounds has ps (cells L) i l (spare-bids has (length ps) L two ps i))
 
 -- more award rows than bids change nothing
-pub lent-more : (k : Kind) (t : Tender) (n : ℕ) (bids windows : List ℕ) (lent : ℕ) (ow oc nw nc : List ℕ) (a : Answer) → n ≤ lent → PlainPromise k t n bids windows n ow oc nw nc a → PlainPromise k t n bids windows lent ow oc nw nc a
+pub lent-more : (k : Kind) (t : Tender) (n : ℕ) (bids windows : List ℕ) (lent : ℕ) (ow oc nw nc : List ℕ) (a : Answer) → n ≤ lent
+    → PlainPromise k t n bids windows n ow oc nw nc a → PlainPromise k t n bids windows lent ow oc nw nc a
 lent-more k t n bids windows lent ow oc nw nc a l p = record {
   answers = p .answers ∙ award-lent k t n bids windows n lent (le-ltb n n (omega arith) ∙ sym (le-ltb lent n l));
   won-cells = p .won-cells;

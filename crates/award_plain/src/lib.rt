@@ -1,7 +1,7 @@
 // The outcome of a tender of either kind over plain cells: a refusal, 9 to 12, or a flag and the cents paid for each bid, and
 // the totals. `specs/` has what an award answers (`Award`) and what is promised of plain cells (`Plain`).
-use award_thin::Thin;
 use award_check::Check;
+use award_thin::Thin;
 use tender::Answer;
 use tender::Kind;
 use tender::Refusal;
@@ -26,9 +26,11 @@ fn multi_in(
     won: &mut [u64],
     cents: &mut [u64],
 ) -> Answer
-    requires { ⌜ (faultOf Multi tender (length (now prices)) (now bids) (now windows) ≡ none) × ((w ≡ (cellsOf tender + 63) / 64) × ((length (now masks) ≡ w * length (now prices))
+    requires { ⌜ (faultOf Multi tender (length (now prices)) (now bids) (now windows) ≡ none)
+        × ((w ≡ (cellsOf tender + 63) / 64) × ((length (now masks) ≡ w * length (now prices))
         × ((length (now prices) ≤ length (now won)) × (length (now prices) ≤ length (now cents))))) ⌝ }
-    ensures { λ r. ⌜ PlainPromise Multi tender (length (now (prices .entry))) (now (bids .entry)) (now (windows .entry)) (length (now (prices .entry)))
+    ensures { λ r. ⌜ PlainPromise Multi tender (length (now (prices .entry))) (now (bids .entry)) (now (windows .entry))
+        (length (now (prices .entry)))
         (now (won .entry)) (now (cents .entry)) (now (won .exit)) (now (cents .exit)) r ⌝ }
 {
     let n = prices.len();
@@ -60,8 +62,10 @@ fn settle_multi(
     won: &mut [u64],
     cents: &mut [u64],
 ) -> Answer
-    requires { ⌜ (faultOf Multi tender count (now bids) (now windows) ≡ none) × ((count ≤ length (now won)) × (count ≤ length (now cents))) ⌝ }
-    ensures { λ r. ⌜ PlainPromise Multi tender count (now (bids .entry)) (now (windows .entry)) count (now (won .entry)) (now (cents .entry)) (now (won .exit)) (now (cents .exit)) r ⌝ }
+    requires { ⌜ (faultOf Multi tender count (now bids) (now windows) ≡ none)
+        × ((count ≤ length (now won)) × (count ≤ length (now cents))) ⌝ }
+    ensures { λ r. ⌜ PlainPromise Multi tender count (now (bids .entry)) (now (windows .entry)) count (now (won .entry))
+        (now (cents .entry)) (now (won .exit)) (now (cents .exit)) r ⌝ }
 {
     let window = tender.window;
     let w = ((window.end - window.start) as usize + 63) / 64;
@@ -91,9 +95,11 @@ fn single_in(
     won: &mut [u64],
     cents: &mut [u64],
 ) -> Answer
-    requires { ⌜ (faultOf Single tender (length (now prices)) (now bids) (now windows) ≡ none) × ((length (now starts) ≡ length (now prices)) × ((length (now ends) ≡ length (now prices))
+    requires { ⌜ (faultOf Single tender (length (now prices)) (now bids) (now windows) ≡ none)
+        × ((length (now starts) ≡ length (now prices)) × ((length (now ends) ≡ length (now prices))
         × ((length (now prices) ≤ length (now won)) × (length (now prices) ≤ length (now cents))))) ⌝ }
-    ensures { λ r. ⌜ PlainPromise Single tender (length (now (prices .entry))) (now (bids .entry)) (now (windows .entry)) (length (now (prices .entry)))
+    ensures { λ r. ⌜ PlainPromise Single tender (length (now (prices .entry))) (now (bids .entry)) (now (windows .entry))
+        (length (now (prices .entry)))
         (now (won .entry)) (now (cents .entry)) (now (won .exit)) (now (cents .exit)) r ⌝ }
 {
     let window = tender.window;
@@ -124,8 +130,10 @@ fn settle_single(
     won: &mut [u64],
     cents: &mut [u64],
 ) -> Answer
-    requires { ⌜ (faultOf Single tender count (now bids) (now windows) ≡ none) × ((count ≤ length (now won)) × (count ≤ length (now cents))) ⌝ }
-    ensures { λ r. ⌜ PlainPromise Single tender count (now (bids .entry)) (now (windows .entry)) count (now (won .entry)) (now (cents .entry)) (now (won .exit)) (now (cents .exit)) r ⌝ }
+    requires { ⌜ (faultOf Single tender count (now bids) (now windows) ≡ none)
+        × ((count ≤ length (now won)) × (count ≤ length (now cents))) ⌝ }
+    ensures { λ r. ⌜ PlainPromise Single tender count (now (bids .entry)) (now (windows .entry)) count (now (won .entry))
+        (now (cents .entry)) (now (won .exit)) (now (cents .exit)) r ⌝ }
 {
     let mut prices = [1u64; 1000];
     let mut starts = [1u64; 1000];
@@ -154,7 +162,8 @@ pub fn settle_in(
     cents: &mut [u64],
 ) -> Answer
     requires { ⌜ (min lent 1000 ≤ length (now won)) × (min lent 1000 ≤ length (now cents)) ⌝ }
-    ensures { λ r. ⌜ PlainPromise kind tender count (now (bids .entry)) (now (windows .entry)) lent (now (won .entry)) (now (cents .entry)) (now (won .exit)) (now (cents .exit)) r ⌝ }
+    ensures { λ r. ⌜ PlainPromise kind tender count (now (bids .entry)) (now (windows .entry)) lent (now (won .entry))
+        (now (cents .entry)) (now (won .exit)) (now (cents .exit)) r ⌝ }
 {
     let check = award_check::fault(kind, tender, count, bids, windows);
     if let Check::Faulty { row } = check {

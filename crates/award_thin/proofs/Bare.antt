@@ -48,12 +48,21 @@ module _ {has : ℕ → ℕ → Bool} {n L x i : ℕ} (a : Asking has n L x i) w
 
   pub asks-on : i < n → has i x ≡ false → Asking has n L x (i + 1)
   unfolding bidders
-  asks-on l e = record { looking = a .looking; here = a .here; upto = omega arith; none = rw add-one (omega (arith, a .none, ap (λ b. when b 1) e)) }
+  asks-on l e = record {
+    looking = a .looking;
+    here = a .here;
+    upto = omega arith;
+    none = rw add-one (omega (arith, a .none, ap (λ b. when b 1) e));
+  }
 
   pub bare-found : n ≤ i → FirstOf (fewer has n 1) L x
   unfolding fewer
   bare-found l = let d : i ≡ n = omega (arith, a .upto) in
-      record { inside = a .looking .inside; here = λ k. lt-ltb (bidders has n x) 1 (omega (arith, rw d at (a .none))); before = a .looking .before }
+      record {
+        inside = a .looking .inside;
+        here = λ k. lt-ltb (bidders has n x) 1 (omega (arith, rw d at (a .none)));
+        before = a .looking .before;
+      }
 
 pub bare-none : {has : ℕ → ℕ → Bool} {n L x : ℕ} → Looking has n L x → L ≤ x → FirstOf (fewer has n 1) L x
 bare-none h l = record { inside = h .inside; here = λ k. absurd (omega arith); before = h .before }

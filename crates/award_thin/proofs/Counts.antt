@@ -38,7 +38,8 @@ counted xs table i l f x = go (eqb (getD xs i 0) x) refl
     go : (b : Bool) → eqb (getD xs i 0) x ≡ b → getD (set table (getD xs i 0) (getD table (getD xs i 0) 0 + 1)) x 0 ≡ times xs (i + 1) x
     go true e =
         let d : x ≡ getD xs i 0 = sym (eqb-true (getD xs i 0) x e) in
-        ap (λ (y : ℕ). getD (set table (getD xs i 0) (getD table (getD xs i 0) 0 + 1)) y 0) d ∙ getD-set-same table (getD xs i 0) (getD table (getD xs i 0) 0 + 1) 0 l
+        ap (λ (y : ℕ). getD (set table (getD xs i 0) (getD table (getD xs i 0) 0 + 1)) y 0) d
+        ∙ getD-set-same table (getD xs i 0) (getD table (getD xs i 0) 0 + 1) 0 l
         ∙ omega (arith, f (getD xs i 0), ap (times xs i) d, times-more xs i x, ap (λ b. when b 1) e)
     go false e =
         getD-set-other table (getD xs i 0) x (getD table (getD xs i 0) 0 + 1) 0 (λ d. eqb-false (getD xs i 0) x e (sym d))
@@ -70,12 +71,18 @@ below-more xs (suc n) x = omega (arith, below-more xs n x, go (ltb (getD xs n 0)
         next l false t = absurd (eqb-false (getD xs n 0) x f (omega (arith, ltb-false x (getD xs n 0) t)))
 
 -- the bidders of a cell: the windows that start at it or before, less those that end at it or before
-pub bidders-below : (starts ends : List ℕ) (n x : ℕ) → ((i : ℕ) → getD starts i 0 ≤ getD ends i 0) → bidders (spans starts ends) n x + below ends n (x + 1) ≡ below starts n (x + 1)
+pub bidders-below : (starts ends : List ℕ) (n x : ℕ) → ((i : ℕ) → getD starts i 0 ≤ getD ends i 0)
+    → bidders (spans starts ends) n x + below ends n (x + 1) ≡ below starts n (x + 1)
 unfolding below bidders spans
 bidders-below starts ends zero x o = refl
-bidders-below starts ends (suc n) x o = omega (arith, bidders-below starts ends n x o, go (leb (getD starts n 0) x) (ltb x (getD ends n 0)) refl refl)
+bidders-below starts ends (suc n) x o = omega (
+  arith,
+  bidders-below starts ends n x o,
+  go (leb (getD starts n 0) x) (ltb x (getD ends n 0)) refl refl,
+)
   where
-    go : (a b : Bool) → leb (getD starts n 0) x ≡ a → ltb x (getD ends n 0) ≡ b → when (a && b) 1 + when (ltb (getD ends n 0) (x + 1)) 1 ≡ when (ltb (getD starts n 0) (x + 1)) 1
+    go : (a b : Bool) → leb (getD starts n 0) x ≡ a → ltb x (getD ends n 0) ≡ b → when (a && b) 1 + when (ltb (getD ends n 0) (x + 1)) 1
+        ≡ when (ltb (getD starts n 0) (x + 1)) 1
     go true true e f = omega (
       arith,
       ap (λ b. when b 1) (le-ltb (getD ends n 0) (x + 1) (omega (arith, ltb-true x (getD ends n 0) f))),

@@ -34,7 +34,8 @@ module _ (has : ℕ → ℕ → Bool) (n L : ℕ) where
     before = λ x q e. omega (arith, ltb-false (bidders has n x) 1 (f .before x q));
   })
 
-  pub lone : (r s : ℕ) → FirstOf (fewer has n 2) L r → (r ≡ L → ⊥) → FirstOf (fewer has n 1) L s → L ≤ s → (cellWith has n L 0 ≡ nothing) × (cellWith has n L 1 ≡ found r)
+  pub lone : (r s : ℕ) → FirstOf (fewer has n 2) L r → (r ≡ L → ⊥) → FirstOf (fewer has n 1) L s → L ≤ s → (cellWith has n L 0 ≡ nothing)
+      × (cellWith has n L 1 ≡ found r)
   unfolding fewer
   lone r s f d g l = let h : r < L = omega (arith, f .inside) in (
     none-with 1 s 0 g l (omega arith),

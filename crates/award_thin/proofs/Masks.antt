@@ -69,7 +69,8 @@ count-bit b = go (leb 2 b) refl
 pub bidders-grow : (has : ℕ → ℕ → Bool) (i n x : ℕ) → i ≤ n → bidders has i x ≤ bidders has n x
 unfolding bidders
 bidders-grow has i zero x l = let e : i ≡ 0 = omega arith in rw e (omega arith)
-bidders-grow has i (suc n) x l = ⊎-elim (λ lt. let h = bidders-grow has i n x (omega arith) in omega arith) (λ (le : suc n ≤ i). let e : i ≡ suc n = omega arith in rw e (omega arith)) (lt-or-le i (suc n))
+bidders-grow has i (suc n) x l = ⊎-elim (λ lt. let h = bidders-grow has i n x (omega arith) in omega arith)
+    (λ (le : suc n ≤ i). let e : i ≡ suc n = omega arith in rw e (omega arith)) (lt-or-le i (suc n))
 
 -- ---- seen: bit k of `one` and of `two` say whether the first i bids have cell k of word q once and twice
 pub record Seeing (ms : List ℕ) (w q i one two : ℕ) : Type 0 where
@@ -93,9 +94,11 @@ module _ (ms : List ℕ) (w q : ℕ) (lq : q < w) where
   unfolding bidders has
   more i k l =
       ap (λ (j : ℕ). bidders (has ms w) j (64 * q + k)) (add-one i)
-      ∙ ap (λ (v : ℕ). v + bidders (has ms w) i (64 * q + k)) (flag (cell (row ms w i) (64 * q + k)) (cell-lt (row ms w i) (64 * q + k)) ∙ row-bit i k l)
+      ∙ ap (λ (v : ℕ). v + bidders (has ms w) i (64 * q + k))
+      (flag (cell (row ms w i) (64 * q + k)) (cell-lt (row ms w i) (64 * q + k)) ∙ row-bit i k l)
 
-  pub seeing-more : (i one two : ℕ) → Seeing ms w q i one two → Seeing ms w q (i + 1) (bitOr one (getD ms (w * i + q) 0)) (bitOr two (bitAnd one (getD ms (w * i + q) 0)))
+  pub seeing-more : (i one two : ℕ) → Seeing ms w q i one two
+      → Seeing ms w q (i + 1) (bitOr one (getD ms (w * i + q) 0)) (bitOr two (bitAnd one (getD ms (w * i + q) 0)))
   seeing-more i one two s = record {
     once = λ k l. or-bit one (getD ms (w * i + q) 0) k ∙ omega (arith, s .once k l, more i k l, bit-lt (getD ms (w * i + q) 0) k);
     twice = λ k l. or-bit two (bitAnd one (getD ms (w * i + q) 0)) k
@@ -113,7 +116,8 @@ module _ (ms : List ℕ) (w q i one two : ℕ) (s : Seeing ms w q i one two) (wa
     each = λ k lk on.
         let both : bitOf wanted k ≡ min (bitOf two k) (bitOf wanted k) = ap (λ (v : ℕ). bitOf v k) (sym e) ∙ and-bit two wanted k in
         let two-on : bitOf two k ≡ 1 = omega arith in
-        on ∙ ap (λ b. when b 1) (sym (le-leb 2 (bidders (has ms w) n (64 * q + k)) (omega (arith, s .twice k lk, bidders-grow (has ms w) i n (64 * q + k) l))));
+        on ∙ ap (λ b. when b 1) (sym (le-leb 2 (bidders (has ms w) n (64 * q + k))
+        (omega (arith, s .twice k lk, bidders-grow (has ms w) i n (64 * q + k) l))));
   }
 
   pub reached-all : (n : ℕ) → i ≡ n → Reached ms w n q wanted two
@@ -127,24 +131,37 @@ word-bit ws q x e = ap (λ (j : ℕ). bitOf (getD ws j 0) (x % 64)) (sym e)
 pub gathered-none : (ms : List ℕ) (w n : ℕ) (wanted enough : List ℕ) → Gathered ms w n wanted enough 0
 gathered-none ms w n wanted enough = record { each = λ x l. absurd (omega arith) }
 
-pub gathered-more : (ms : List ℕ) (w n : ℕ) (wanted enough : List ℕ) (q r : ℕ) → q < length enough → Gathered ms w n wanted enough q → Reached ms w n q (getD wanted q 0) r → Gathered ms w n wanted (set enough q r) (q + 1)
-gathered-more ms w n wanted enough q r h g s = record { each = λ x l on. ⊎-elim (λ lt. set-other enough q h x r (λ e. omega arith) ∙ g .each x lt on) (λ le. here x (omega arith) on) (lt-or-le x (64 * q)) }
+pub gathered-more : (ms : List ℕ) (w n : ℕ) (wanted enough : List ℕ) (q r : ℕ) → q < length enough → Gathered ms w n wanted enough q
+    → Reached ms w n q (getD wanted q 0) r → Gathered ms w n wanted (set enough q r) (q + 1)
+gathered-more ms w n wanted enough q r h g s = record {
+  each = λ x l on. ⊎-elim (λ lt. set-other enough q h x r (λ e. omega arith) ∙ g .each x lt on) (λ le. here x (omega arith) on)
+      (lt-or-le x (64 * q));
+}
   where
     here : (x : ℕ) → x / 64 ≡ q → cell wanted x ≡ 1 → cell (set enough q r) x ≡ when (leb 2 (bidders (has ms w) n x)) 1
     here x e on = let d : 64 * q + x % 64 ≡ x = omega arith in
-        set-same enough q h x r e ∙ s .each (x % 64) (omega arith) (word-bit wanted q x e ∙ on) ∙ ap (λ (y : ℕ). when (leb 2 (bidders (has ms w) n y)) 1) d
+        set-same enough q h x r e ∙ s .each (x % 64) (omega arith) (word-bit wanted q x e ∙ on)
+        ∙ ap (λ (y : ℕ). when (leb 2 (bidders (has ms w) n y)) 1) d
 
 -- ---- the first cell wanted that is not among those with two bidders
-module _ (ms : List ℕ) (w n L : ℕ) (wanted enough : List ℕ) (x : ℕ) (f : First L wanted) (g : Gathered ms w n wanted enough w) (t : Next wanted enough 0 x) (size : length wanted ≡ w) (within : L ≤ 64 * w) where
+module _ (ms : List ℕ) (w n L : ℕ) (wanted enough : List ℕ) (x : ℕ) (f : First L wanted) (g : Gathered ms w n wanted enough w)
+    (t : Next wanted enough 0 x) (size : length wanted ≡ w) (within : L ≤ 64 * w) where
   passed : (y : ℕ) → y < x → y < L → fewer (has ms w) n 2 y ≡ false
   unfolding fewer
-  passed y l h = le-ltb (bidders (has ms w) n y) 2 (omega (arith, t .none y (omega arith) l (f .inside y h), g .each y (omega arith) (f .inside y h), count-bit (bidders (has ms w) n y)))
+  passed y l h = le-ltb (bidders (has ms w) n y) 2
+      (omega (
+        arith,
+        t .none y (omega arith) l (f .inside y h),
+        g .each y (omega arith) (f .inside y h),
+        count-bit (bidders (has ms w) n y),
+      ))
 
   pub first-found : x < L → FirstOf (fewer (has ms w) n 2) L x
   unfolding fewer
   first-found l = record {
     inside = omega arith;
-    here = λ h. lt-ltb (bidders (has ms w) n x) 2 (omega (arith, t .outside (omega arith), g .each x (omega arith) (f .inside x l), count-bit (bidders (has ms w) n x)));
+    here = λ h. lt-ltb (bidders (has ms w) n x) 2 (omega
+        (arith, t .outside (omega arith), g .each x (omega arith) (f .inside x l), count-bit (bidders (has ms w) n x)));
     before = λ y h. passed y h (omega arith);
   }
 

@@ -19,7 +19,8 @@ pub record Sweep (starts ends opened ended : List ℕ) (cells count x : ℕ) : T
   pub counts : count + below ends (length starts) x ≡ below starts (length starts) x
   pub before : (y : ℕ) → y < x → fewer (spans starts ends) (length starts) 2 y ≡ false
 
-pub sweep-starts : (starts ends opened ended : List ℕ) (cells : ℕ) → length ends ≡ length starts → ((y : ℕ) → getD opened y 0 ≡ times starts (length starts) y) → ((y : ℕ) → getD ended y 0 ≡ times ends (length ends) y) →
+pub sweep-starts : (starts ends opened ended : List ℕ) (cells : ℕ) → length ends ≡ length starts
+    → ((y : ℕ) → getD opened y 0 ≡ times starts (length starts) y) → ((y : ℕ) → getD ended y 0 ≡ times ends (length ends) y) →
     Sweep starts ends opened ended cells 0 0
 sweep-starts starts ends opened ended cells e f g = record {
   inside = omega arith;
@@ -29,29 +30,52 @@ sweep-starts starts ends opened ended cells e f g = record {
   before = λ y l. absurd (omega arith);
 }
 
-module _ (starts ends opened ended : List ℕ) (cells count x : ℕ) (s : Sweep starts ends opened ended cells count x) (ordered : Spans starts ends cells) where
+module _ (starts ends opened ended : List ℕ) (cells count x : ℕ) (s : Sweep starts ends opened ended cells count x)
+    (ordered : Spans starts ends cells) where
   -- the count after this cell
   pub here : count + getD opened x 0 ≡ bidders (spans starts ends) (length starts) x + getD ended x 0
-  here = omega (arith, s .counts, s .opens x, s .closes x, below-more starts (length starts) x, below-more ends (length starts) x, bidders-below starts ends (length starts) x (ordered .ordered))
+  here = omega (
+    arith,
+    s .counts,
+    s .opens x,
+    s .closes x,
+    below-more starts (length starts) x,
+    below-more ends (length starts) x,
+    bidders-below starts ends (length starts) x (ordered .ordered),
+  )
 
   pub small : count + getD opened x 0 ≤ 2000
-  small = omega (arith, here, s .closes x, times-most ends (length starts) x, bidders-fit (spans starts ends) (length starts) x, ordered .few)
+  small = omega (
+    arith,
+    here,
+    s .closes x,
+    times-most ends (length starts) x,
+    bidders-fit (spans starts ends) (length starts) x,
+    ordered .few,
+  )
 
   pub count-is : count + getD opened x 0 - getD ended x 0 ≡ bidders (spans starts ends) (length starts) x
   count-is = omega (arith, here)
 
   pub sweep-found : x < cells → count + getD opened x 0 - getD ended x 0 < 2 → FirstOf (fewer (spans starts ends) (length starts) 2) cells x
   unfolding fewer
-  sweep-found l h = record { inside = s .inside; here = λ k. lt-ltb (bidders (spans starts ends) (length starts) x) 2 (omega (arith, count-is)); before = s .before }
+  sweep-found l h = record {
+    inside = s .inside;
+    here = λ k. lt-ltb (bidders (spans starts ends) (length starts) x) 2
+        (omega (arith, count-is));
+    before = s .before;
+  }
 
-  pub sweep-on : x < cells → 2 ≤ count + getD opened x 0 - getD ended x 0 → Sweep starts ends opened ended cells (count + getD opened x 0 - getD ended x 0) (x + 1)
+  pub sweep-on : x < cells → 2 ≤ count + getD opened x 0 - getD ended x 0
+      → Sweep starts ends opened ended cells (count + getD opened x 0 - getD ended x 0) (x + 1)
   unfolding fewer
   sweep-on l h = record {
     inside = omega arith;
     opens = s .opens;
     closes = s .closes;
     counts = omega (arith, here, bidders-below starts ends (length starts) x (ordered .ordered));
-    before = one-more-before (fewer (spans starts ends) (length starts) 2) x (s .before) (le-ltb (bidders (spans starts ends) (length starts) x) 2 (omega (arith, count-is)));
+    before = one-more-before (fewer (spans starts ends) (length starts) 2) x (s .before)
+        (le-ltb (bidders (spans starts ends) (length starts) x) 2 (omega (arith, count-is)));
   }
 
   pub sweep-ends : cells ≤ x → FirstOf (fewer (spans starts ends) (length starts) 2) cells x

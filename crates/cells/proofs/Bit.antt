@@ -64,7 +64,8 @@ clear-bit a m k h hk =
 -- the top k bits of a word of ones, shifted down
 pub ones-shifted : (k : ℕ) → k ≤ 64 → 18446744073709551615 / 2 ^ (64 - k) ≡ 2 ^ k - 1
 ones-shifted k h =
-    ap (λ (x : ℕ). x / 2 ^ (64 - k)) (ap (λ (j : ℕ). 2 ^ j - 1) whole ∙ ones-split k (64 - k)) ∙ high (2 ^ k - 1) (64 - k) (ones-lt (64 - k))
+    ap (λ (x : ℕ). x / 2 ^ (64 - k)) (ap (λ (j : ℕ). 2 ^ j - 1) whole ∙ ones-split k (64 - k))
+    ∙ high (2 ^ k - 1) (64 - k) (ones-lt (64 - k))
   where
     whole : 64 ≡ k + (64 - k)
     whole = omega arith

@@ -27,7 +27,8 @@ unfolding trailingZeros
 lowest-none zero n j l = absurd (omega arith)
 lowest-none (suc d) n j l = go (two (n % 2) (omega arith)) j l (lowest-none d (n / 2))
   where
-    go : (n % 2 ≡ 0) ⊎ (n % 2 ≡ 1) → (j : ℕ) → j < under (n % 2) (trailingZeros d (n / 2)) → ((j : ℕ) → j < trailingZeros d (n / 2) → bitOf (n / 2) j ≡ 0) → bitOf n j ≡ 0
+    go : (n % 2 ≡ 0) ⊎ (n % 2 ≡ 1) → (j : ℕ) → j < under (n % 2) (trailingZeros d (n / 2))
+        → ((j : ℕ) → j < trailingZeros d (n / 2) → bitOf (n / 2) j ≡ 0) → bitOf n j ≡ 0
     go (inr o) j l ih = absurd (not-suc-le-zero (rw o at l))
     go (inl e) zero l ih = omega arith
     go (inl e) (suc j) l ih = bit-suc n j ∙ ih j (omega (arith, rw e at l))
@@ -38,7 +39,8 @@ unfolding trailingZeros
 lowest-set zero n l z = absurd (z (omega arith))
 lowest-set (suc d) n l z = go (two (n % 2) (omega arith)) (lowest-set d (n / 2) (omega (arith, pow-suc 2 d)))
   where
-    go : (n % 2 ≡ 0) ⊎ (n % 2 ≡ 1) → ((n / 2 ≡ 0 → ⊥) → bitOf (n / 2) (trailingZeros d (n / 2)) ≡ 1) → bitOf n (under (n % 2) (trailingZeros d (n / 2))) ≡ 1
+    go : (n % 2 ≡ 0) ⊎ (n % 2 ≡ 1) → ((n / 2 ≡ 0 → ⊥) → bitOf (n / 2) (trailingZeros d (n / 2)) ≡ 1)
+        → bitOf n (under (n % 2) (trailingZeros d (n / 2))) ≡ 1
     go (inr o) ih = rw o (omega arith)
     go (inl e) ih = rw e (bit-suc n (trailingZeros d (n / 2)) ∙ ih (λ y. z (omega arith)))
 
@@ -63,19 +65,25 @@ module _ (a b : List ℕ) (q : ℕ) (fa : at a q < 2 ^ 64) (fb : at b q < 2 ^ 64
 
   free-found : (x : ℕ) → x / 64 ≡ q → bitOf free (x % 64) ≡ 1 → (cell a x ≡ 1) × (cell b x ≡ 0)
   unfolding cell
-  free-found x e z = rw e ((omega (arith, clear-bit (at a q) (at b q) (x % 64) fb (omega arith)), omega (arith, clear-bit (at a q) (at b q) (x % 64) fb (omega arith))))
+  free-found x e z = rw e ((
+    omega (arith, clear-bit (at a q) (at b q) (x % 64) fb (omega arith)),
+    omega (arith, clear-bit (at a q) (at b q) (x % 64) fb (omega arith)),
+  ))
 
   module _ (s : ℕ) (hs : s < 64) where
     -- from bit s on the word has no such cell
     pub none-here : free / 2 ^ s ≡ 0 → (x : ℕ) → 64 * q + s ≤ x → x < 64 * (q + 1) → cell a x ≡ 1 → cell b x ≡ 1
-    none-here z x l m = free-none x (omega arith) (ap (λ (j : ℕ). bitOf free j) (omega arith) ∙ sym (shifted-bit free s (x % 64 - s)) ∙ rw z (zero-bit (x % 64 - s)))
+    none-here z x l m = free-none x (omega arith) (ap (λ (j : ℕ). bitOf free j) (omega arith) ∙ sym (shifted-bit free s (x % 64 - s))
+        ∙ rw z (zero-bit (x % 64 - s)))
 
     -- or the first such cell
     pub first-here : (free / 2 ^ s ≡ 0 → ⊥) → q < length a → Next a b (64 * q + s) (64 * q + s + trailingZeros 64 (free / 2 ^ s))
     first-here n l = record {
       on = omega arith;
       within = omega (arith, inside);
-      none = λ x y z. free-none x (omega (arith, inside)) (ap (λ (j : ℕ). bitOf free j) (omega (arith, inside)) ∙ sym (shifted-bit free s (x - (64 * q + s))) ∙ lowest-none 64 (free / 2 ^ s) (x - (64 * q + s)) (omega arith));
+      none = λ x y z. free-none x (omega (arith, inside))
+          (ap (λ (j : ℕ). bitOf free j) (omega (arith, inside)) ∙ sym (shifted-bit free s (x - (64 * q + s)))
+          ∙ lowest-none 64 (free / 2 ^ s) (x - (64 * q + s)) (omega arith));
       inside = λ y. found .0;
       outside = λ y. found .1;
     }
@@ -93,7 +101,8 @@ module _ (a b : List ℕ) (q : ℕ) (fa : at a q < 2 ^ 64) (fb : at b q < 2 ^ 64
         found = free-found (64 * q + s + t) (omega (arith, inside)) (ap (λ (j : ℕ). bitOf free j) (omega (arith, inside)) ∙ is-set)
 
 -- a search that found nothing up to m goes on from there
-pub search-on : {a b : List ℕ} {from m r : ℕ} → from ≤ m → ((x : ℕ) → from ≤ x → x < m → cell a x ≡ 1 → cell b x ≡ 1) → Next a b m r → Next a b from r
+pub search-on : {a b : List ℕ} {from m r : ℕ} → from ≤ m → ((x : ℕ) → from ≤ x → x < m → cell a x ≡ 1 → cell b x ≡ 1) → Next a b m r
+    → Next a b from r
 search-on {a} {b} {from} {m} {r} l h n = record {
   on = omega (arith, n .on);
   within = n .within;
@@ -103,19 +112,29 @@ search-on {a} {b} {from} {m} {r} l h n = record {
 }
 
 pub search-over : (a b : List ℕ) (from : ℕ) → 64 * length a ≤ from → from ≤ 64 * length a → Next a b from (64 * length a)
-search-over a b from l m = record { on = m; within = omega arith; none = λ x y z. absurd (omega arith); inside = λ y. absurd (omega arith); outside = λ y. absurd (omega arith) }
+search-over a b from l m = record {
+  on = m;
+  within = omega arith;
+  none = λ x y z. absurd (omega arith);
+  inside = λ y. absurd (omega arith);
+  outside = λ y. absurd (omega arith);
+}
 
 -- the same for a whole word, and for a place
 module _ (a b : List ℕ) (q : ℕ) (fa : at a q < 2 ^ 64) (fb : at b q < 2 ^ 64) where
   whole-word : bitAnd (at a q) (whole - at b q) / 2 ^ 0 ≡ bitAnd (at a q) (whole - at b q)
   whole-word = omega arith
 
-  pub first-in-word : (bitAnd (at a q) (whole - at b q) ≡ 0 → ⊥) → q < length a → Next a b (64 * q) (64 * q + trailingZeros 64 (bitAnd (at a q) (whole - at b q)))
-  first-in-word n l = let e : 64 * q + 0 ≡ 64 * q = omega arith in rw (whole-word, e) at (first-here a b q fa fb 0 (omega arith) (λ z. n (sym whole-word ∙ z)) l)
+  pub first-in-word : (bitAnd (at a q) (whole - at b q) ≡ 0 → ⊥) → q < length a
+      → Next a b (64 * q) (64 * q + trailingZeros 64 (bitAnd (at a q) (whole - at b q)))
+  first-in-word n l = let e : 64 * q + 0 ≡ 64 * q = omega arith in
+      rw (whole-word, e) at (first-here a b q fa fb 0 (omega arith) (λ z. n (sym whole-word ∙ z)) l)
 
-  pub none-in-word : (first : ℕ) → bitAnd (at a q) (whole - at b q) ≡ 0 → ((x : ℕ) → 64 * first ≤ x → x < 64 * q → cell a x ≡ 1 → cell b x ≡ 1)
+  pub none-in-word : (first : ℕ) → bitAnd (at a q) (whole - at b q) ≡ 0
+      → ((x : ℕ) → 64 * first ≤ x → x < 64 * q → cell a x ≡ 1 → cell b x ≡ 1)
       → (x : ℕ) → 64 * first ≤ x → x < 64 * (q + 1) → cell a x ≡ 1 → cell b x ≡ 1
-  none-in-word first z h x l m u = ⊎-elim (λ y. h x l y u) (λ y. none-here a b q fa fb 0 (omega arith) (whole-word ∙ z) x (omega arith) m u) (lt-or-le x (64 * q))
+  none-in-word first z h x l m u = ⊎-elim (λ y. h x l y u)
+      (λ y. none-here a b q fa fb 0 (omega arith) (whole-word ∙ z) x (omega arith) m u) (lt-or-le x (64 * q))
 
 module _ (a b : List ℕ) (from : ℕ) (fa : at a (from / 64) < 2 ^ 64) (fb : at b (from / 64) < 2 ^ 64) where
   place : 64 * (from / 64) + from % 64 ≡ from
@@ -123,10 +142,13 @@ module _ (a b : List ℕ) (from : ℕ) (fa : at a (from / 64) < 2 ^ 64) (fb : at
 
   pub first-at : (bitAnd (at a (from / 64)) (whole - at b (from / 64)) / 2 ^ (from % 64) ≡ 0 → ⊥) → from / 64 < length a
       → Next a b from (from + trailingZeros 64 (bitAnd (at a (from / 64)) (whole - at b (from / 64)) / 2 ^ (from % 64)))
-  first-at n l = carry (64 * (from / 64) + from % 64) place (trailingZeros 64 (bitAnd (at a (from / 64)) (whole - at b (from / 64)) / 2 ^ (from % 64))) (first-here a b (from / 64) fa fb (from % 64) (omega arith) n l)
+  first-at n l = carry (64 * (from / 64) + from % 64) place
+      (trailingZeros 64 (bitAnd (at a (from / 64)) (whole - at b (from / 64)) / 2 ^ (from % 64)))
+      (first-here a b (from / 64) fa fb (from % 64) (omega arith) n l)
     where
       carry : (y : ℕ) → y ≡ from → (t : ℕ) → Next a b y (y + t) → Next a b from (from + t)
       carry y e t x = rw (← e) x
 
-  pub none-at : bitAnd (at a (from / 64)) (whole - at b (from / 64)) / 2 ^ (from % 64) ≡ 0 → (x : ℕ) → from ≤ x → x < 64 * (from / 64 + 1) → cell a x ≡ 1 → cell b x ≡ 1
+  pub none-at : bitAnd (at a (from / 64)) (whole - at b (from / 64)) / 2 ^ (from % 64) ≡ 0 → (x : ℕ) → from ≤ x → x < 64 * (from / 64 + 1)
+      → cell a x ≡ 1 → cell b x ≡ 1
   none-at z x l m = none-here a b (from / 64) fa fb (from % 64) (omega arith) z x (omega arith) m

@@ -17,7 +17,8 @@ lt-or-le zero (suc b) = inl (suc-le-suc zero-le)
 lt-or-le (suc a) (suc b) = ⊎-elim (λ h. inl (suc-le-suc h)) (λ h. inr (suc-le-suc h)) (lt-or-le a b)
 
 pub ne-or-eq : (a b : ℕ) → (a ≡ b → ⊥) ⊎ (a ≡ b)
-ne-or-eq a b = ⊎-elim (λ lt. inl (λ e. omega arith)) (λ le. ⊎-elim (λ gt. inl (λ e. omega arith)) (λ ge. inr (omega arith)) (lt-or-le b a)) (lt-or-le a b)
+ne-or-eq a b = ⊎-elim (λ lt. inl (λ e. omega arith))
+    (λ le. ⊎-elim (λ gt. inl (λ e. omega arith)) (λ ge. inr (omega arith)) (lt-or-le b a)) (lt-or-le a b)
 
 pub cell-lt : (ws : List ℕ) (x : ℕ) → cell ws x < 2
 unfolding cell
@@ -49,7 +50,8 @@ module _ (ws : List ℕ) (q : ℕ) (h : q < length ws) (x : ℕ) where
       → cell (set ws q (bitAnd (getD ws q 0) (18446744073709551615 - getD ms q 0))) x ≡ cell ws x - cell ms x
   unfolding cell
   clear-same ms hm e =
-      set-same (bitAnd (getD ws q 0) (18446744073709551615 - getD ms q 0)) e ∙ clear-bit (getD ws q 0) (getD ms q 0) (x % 64) hm (omega arith)
+      set-same (bitAnd (getD ws q 0) (18446744073709551615 - getD ms q 0)) e
+      ∙ clear-bit (getD ws q 0) (getD ms q 0) (x % 64) hm (omega arith)
       ∙ ap (λ (j : ℕ). bitOf (getD ws j 0) (x % 64) - bitOf (getD ms j 0) (x % 64)) (sym e)
 
 -- ---- close: the words below w are done, the others are as they were
@@ -65,10 +67,12 @@ pub swept-more : (w : ℕ) (old mask new : List ℕ) → Swept w old mask new �
 swept-more w old mask new s h hm =
     record {
       done = λ x hx.
-          ⊎-elim (λ lt. set-other new w h x (bitAnd (getD new w 0) (18446744073709551615 - getD mask w 0)) (λ e. omega arith) ∙ s .done x lt)
+          ⊎-elim (λ lt. set-other new w h x (bitAnd (getD new w 0) (18446744073709551615 - getD mask w 0)) (λ e. omega arith)
+          ∙ s .done x lt)
           (λ le. clear-same new w h x mask hm (omega arith) ∙ ap (λ (u : ℕ). u - cell mask x) (s .rest x le))
           (lt-or-le x (64 * w));
-      rest = λ x hx. set-other new w h x (bitAnd (getD new w 0) (18446744073709551615 - getD mask w 0)) (λ e. omega arith) ∙ s .rest x (omega arith);
+      rest = λ x hx. set-other new w h x (bitAnd (getD new w 0) (18446744073709551615 - getD mask w 0)) (λ e. omega arith)
+          ∙ s .rest x (omega arith);
     }
 
 pub swept-all : (w : ℕ) (old mask new : List ℕ) → Swept w old mask new → w ≡ length old → length old ≡ length mask → Closed old mask new
@@ -96,19 +100,23 @@ pub filled-at : {p r s e : ℕ} {old new : List ℕ} → p ≡ s → r ≡ e →
 filled-at a b f = rw (← a, ← b) f
 
 -- the rest of the first word and whole words
-pub filled-words : (s b : ℕ) {old mid new : List ℕ} → s / 64 < b → Filled (64 * (s / 64) + s % 64) (64 * (s / 64) + 64) old mid → Filled (64 * (s / 64 + 1)) (64 * b) mid new → Filled s (64 * b) old new
+pub filled-words : (s b : ℕ) {old mid new : List ℕ} → s / 64 < b → Filled (64 * (s / 64) + s % 64) (64 * (s / 64) + 64) old mid
+    → Filled (64 * (s / 64 + 1)) (64 * b) mid new → Filled s (64 * b) old new
 filled-words s b l f g = filled-join (omega arith) (omega arith) (filled-at (omega arith) (omega arith) f) g
 
 module _ (ws : List ℕ) (w : ℕ) (h : w < length ws) where
-  pub bits-added : (lo hi m : ℕ) → lo < 64 → hi ≤ 64 → Span lo hi m → Filled (64 * w + lo) (64 * w + hi) ws (set ws w (bitOr (getD ws w 0) m))
+  pub bits-added : (lo hi m : ℕ) → lo < 64 → hi ≤ 64 → Span lo hi m
+      → Filled (64 * w + lo) (64 * w + hi) ws (set ws w (bitOr (getD ws w 0) m))
   bits-added lo hi m hl hh p = record {
-    inside = λ x a b. or-same ws w h x m (omega arith) ∙ ap (max (cell ws x)) (p .inside (x % 64) (omega arith) (omega arith)) ∙ omega (arith, cell-lt ws x);
+    inside = λ x a b. or-same ws w h x m (omega arith) ∙ ap (max (cell ws x)) (p .inside (x % 64) (omega arith) (omega arith))
+        ∙ omega (arith, cell-lt ws x);
     below = λ x a. same x (λ q. p .below (x % 64) (omega arith));
     above = λ x a. same x (λ q. p .above (x % 64) (omega arith) (omega arith));
   }
     where
       same : (x : ℕ) → (x / 64 ≡ w → bitOf m (x % 64) ≡ 0) → cell (set ws w (bitOr (getD ws w 0) m)) x ≡ cell ws x
-      same x z = ⊎-elim (λ n. set-other ws w h x (bitOr (getD ws w 0) m) n) (λ q. or-same ws w h x m q ∙ ap (max (cell ws x)) (z q) ∙ omega arith) (ne-or-eq (x / 64) w)
+      same x z = ⊎-elim (λ n. set-other ws w h x (bitOr (getD ws w 0) m) n)
+          (λ q. or-same ws w h x m q ∙ ap (max (cell ws x)) (z q) ∙ omega arith) (ne-or-eq (x / 64) w)
 
   pub whole-added : Filled (64 * w) (64 * (w + 1)) ws (set ws w 18446744073709551615)
   whole-added = record {
@@ -122,7 +130,8 @@ module _ (lo hi : ℕ) (hl : lo ≤ 64) (hh : hi ≤ 64) where
   low-fits : 2 ^ lo - 1 < 2 ^ 64
   low-fits = omega (arith, ones-lt lo, pow-mono hl)
 
-  each : (k : ℕ) → k < 64 → bitOf (bitAnd (2 ^ hi - 1) (18446744073709551615 - (2 ^ lo - 1))) k ≡ bitOf (2 ^ hi - 1) k - bitOf (2 ^ lo - 1) k
+  each : (k : ℕ) → k < 64 → bitOf (bitAnd (2 ^ hi - 1) (18446744073709551615 - (2 ^ lo - 1))) k
+      ≡ bitOf (2 ^ hi - 1) k - bitOf (2 ^ lo - 1) k
   each k h = clear-bit (2 ^ hi - 1) (2 ^ lo - 1) k low-fits h
 
   pub span-of : Span lo hi (bitAnd (2 ^ hi - 1) (18446744073709551615 - (2 ^ lo - 1)))
@@ -137,10 +146,12 @@ module _ (lo hi : ℕ) (hl : lo ≤ 64) (hh : hi ≤ 64) where
 shifted : (k : ℕ) → k < 64 → (1 * 2 ^ k) % 2 ^ 64 ≡ 2 ^ k
 shifted k h = shl-exact {a = 1} 1 k 64 (omega arith) (omega arith) ∙ omega arith
 
-pub one-added : (ws : List ℕ) (x : ℕ) → x / 64 < length ws → Filled x (x + 1) ws (set ws (x / 64) (bitOr (getD ws (x / 64) 0) ((1 * 2 ^ (x % 64)) % 2 ^ 64)))
+pub one-added : (ws : List ℕ) (x : ℕ) → x / 64 < length ws
+    → Filled x (x + 1) ws (set ws (x / 64) (bitOr (getD ws (x / 64) 0) ((1 * 2 ^ (x % 64)) % 2 ^ 64)))
 one-added ws x h =
     rw (shifted (x % 64) (omega arith)) (record {
-      inside = λ y a b. let e : y ≡ x = omega arith in rw e (or-same ws (x / 64) h x (2 ^ (x % 64)) refl ∙ ap (max (cell ws x)) (power-in (x % 64)) ∙ omega (arith, cell-lt ws x));
+      inside = λ y a b. let e : y ≡ x = omega arith in
+          rw e (or-same ws (x / 64) h x (2 ^ (x % 64)) refl ∙ ap (max (cell ws x)) (power-in (x % 64)) ∙ omega (arith, cell-lt ws x));
       below = λ y a. other y (λ e. omega arith);
       above = λ y a. other y (λ e. omega arith);
     })
@@ -148,5 +159,6 @@ one-added ws x h =
     other : (y : ℕ) → (y ≡ x → ⊥) → cell (set ws (x / 64) (bitOr (getD ws (x / 64) 0) (2 ^ (x % 64)))) y ≡ cell ws y
     other y n =
         ⊎-elim (λ q. set-other ws (x / 64) h y (bitOr (getD ws (x / 64) 0) (2 ^ (x % 64))) q)
-        (λ q. or-same ws (x / 64) h y (2 ^ (x % 64)) q ∙ ap (max (cell ws y)) (power-out (x % 64) (y % 64) (λ e. n (omega arith))) ∙ omega arith)
+        (λ q. or-same ws (x / 64) h y (2 ^ (x % 64)) q ∙ ap (max (cell ws y)) (power-out (x % 64) (y % 64) (λ e. n (omega arith)))
+        ∙ omega arith)
         (ne-or-eq (y / 64) (x / 64))

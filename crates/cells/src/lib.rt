@@ -156,7 +156,8 @@ fn ones_of(x: u64) -> u64
 
 // How many cells are set in both.
 pub fn reach(held: &[u64], counts: &mut [u64], mask: &[u64], hop: &[u8]) -> u64
-    requires { ⌜ (length (now held) ≡ length (now mask)) × ((length (now held) ≤ 158) × (Counted (now held) (now counts) × Hops (now mask) (now hop))) ⌝ }
+    requires { ⌜ (length (now held) ≡ length (now mask))
+        × ((length (now held) ≤ 158) × (Counted (now held) (now counts) × Hops (now mask) (now hop))) ⌝ }
     ensures { λ r. ⌜ (r ≡ common (now (held .entry)) (now (mask .entry))) × Counted (now (held .entry)) (now (counts .exit)) ⌝ }
 {
     let mut sum: u64 = 0;
@@ -208,7 +209,8 @@ fn first_word(mask: &[u64], hop: &[u8]) -> usize
 
 // Clears the cells of the mask; the sums that have one of its words are forgotten.
 pub fn close_counted(held: &mut [u64], counts: &mut [u64], mask: &[u64], hop: &[u8])
-    requires { ⌜ (length (now held) ≡ length (now mask)) × ((length (now held) ≤ 158) × (Counted (now held) (now counts) × Hops (now mask) (now hop))) ⌝ }
+    requires { ⌜ (length (now held) ≡ length (now mask))
+        × ((length (now held) ≤ 158) × (Counted (now held) (now counts) × Hops (now mask) (now hop))) ⌝ }
     ensures { λ _. ⌜ Closed (now (held .entry)) (now (mask .entry)) (now (held .exit)) × Counted (now (held .exit)) (now (counts .exit)) ⌝ }
 {
     let n = held.len();

@@ -26,8 +26,15 @@ share-right true p m l x g = go (leb l x) refl
   where
     go : (t : Bool) → leb l x ≡ t → leb (p * m + l) x ≡ ltb p (when t (suc ((x - l) / m)))
     go true e = let h = leb-true l x e in both _ _
-        (λ f. lt-ltb p (suc ((x - l) / m)) (omega (arith, le-div-iff-mul-le {x = p} {y = x - l} g .1 (omega (arith, leb-true (p * m + l) x f)))))
-        (λ f. le-leb (p * m + l) x (omega (arith, le-div-iff-mul-le {x = p} {y = x - l} g .0 (omega (arith, ltb-true p (suc ((x - l) / m)) f)))))
+        (λ f. lt-ltb p (suc ((x - l) / m)) (omega (
+          arith,
+          le-div-iff-mul-le {x = p} {y = x - l} g .1 (omega (arith, leb-true (p * m + l) x f)),
+        )))
+        (λ f. le-leb (p * m + l) x (omega (
+          arith,
+          le-div-iff-mul-le {x = p} {y = x - l} g .0
+              (omega (arith, ltb-true p (suc ((x - l) / m)) f)),
+        )))
     go false e = lt-leb (p * m + l) x (omega (arith, leb-false l x e)) ∙ sym (le-ltb p 0 (omega arith))
 
 ltb-max : (p u v : ℕ) → ltb p u || ltb p v ≡ ltb p (max u v)
@@ -46,7 +53,10 @@ Sound (round i c O t) = (0 < reach (c .has) O) × Sound t
 bar-right : (k p : ℕ) (h : ℕ → Bool) (t : Rounds) → Sound t → reach h (left t) ≡ 0 → chance k p h t ≡ ltb p (bar k h t)
 unfolding bar chance left
 bar-right k p h (stop O) s e = rw e (sym (le-ltb p 0 (omega arith)))
-bar-right k p h (round i c O t) s e = rw (share-right (ltb 0 (reach h O)) p (reach (c .has) O) (late k i) (c .price * reach h O) (s .0), bar-right k p h t (s .1) e) (ltb-max p _ _)
+bar-right k p h (round i c O t) s e = rw (
+  share-right (ltb 0 (reach h O)) p (reach (c .has) O) (late k i) (c .price * reach h O) (s .0),
+  bar-right k p h t (s .1) e,
+) (ltb-max p _ _)
 
 -- where the bids withdrawn k cover all the cells, bid k is taken just where its price is below the bar
 pub under : (B : ℕ → Bid) (n k : ℕ) → k < n → (f : ℕ) (O : List ℕ) → length O ≤ f → Each (Covered (withdrawn k B) n) O
@@ -72,15 +82,25 @@ pub div-le : (x y m : ℕ) → x ≤ y → x / m ≤ y / m
 div-le x y zero l = omega (arith, div-zero x)
 div-le x y (suc m) l = le-div-iff-mul-le {k = suc m} {x = x / suc m} {y = y} (omega arith) .1 (omega (arith, div-mul-le-self x (suc m)))
 
-share-fewer : (l m q r s : ℕ) → r ≤ s → when (ltb 0 r && leb l (q * r)) (suc ((q * r - l) / m)) ≤ when (ltb 0 s && leb l (q * s)) (suc ((q * s - l) / m))
+share-fewer : (l m q r s : ℕ) → r ≤ s → when (ltb 0 r && leb l (q * r)) (suc ((q * r - l) / m))
+    ≤ when (ltb 0 s && leb l (q * s)) (suc ((q * s - l) / m))
 share-fewer l m q r s h = go (ltb 0 r) (leb l (q * r)) refl refl
   where
-    go : (a b : Bool) → ltb 0 r ≡ a → leb l (q * r) ≡ b → when (a && b) (suc ((q * r - l) / m)) ≤ when (ltb 0 s && leb l (q * s)) (suc ((q * s - l) / m))
-    go true true d e = rw (lt-ltb 0 s (omega (arith, ltb-true 0 r d)), le-leb l (q * s) (omega (arith, mul-le-mul-left q h, leb-true l (q * r) e))) (omega (arith, div-le (q * r - l) (q * s - l) m (omega (arith, mul-le-mul-left q h))))
+    go : (a b : Bool) → ltb 0 r ≡ a → leb l (q * r) ≡ b
+        → when (a && b) (suc ((q * r - l) / m)) ≤ when (ltb 0 s && leb l (q * s)) (suc ((q * s - l) / m))
+    go true true d e = rw (
+      lt-ltb 0 s (omega (arith, ltb-true 0 r d)),
+      le-leb l (q * s) (omega (arith, mul-le-mul-left q h, leb-true l (q * r) e)),
+    )
+        (omega (arith, div-le (q * r - l) (q * s - l) m (omega (arith, mul-le-mul-left q h))))
     go true false d e = omega arith
     go false b d e = omega arith
 
 pub bar-fewer : (k : ℕ) (g h : ℕ → Bool) → ((x : ℕ) → g x ≡ true → h x ≡ true) → (t : Rounds) → bar k g t ≤ bar k h t
 unfolding bar
 bar-fewer k g h f (stop O) = omega arith
-bar-fewer k g h f (round i c O t) = omega (arith, share-fewer (late k i) (reach (c .has) O) (c .price) (reach g O) (reach h O) (reach-fewer g h f O), bar-fewer k g h f t)
+bar-fewer k g h f (round i c O t) = omega (
+  arith,
+  share-fewer (late k i) (reach (c .has) O) (c .price) (reach g O) (reach h O) (reach-fewer g h f O),
+  bar-fewer k g h f t,
+)

@@ -40,13 +40,18 @@ chance-in k p h (round i c O t) e = go (or-split (ahead k p h i c O) (chance k p
 pub chance-out : (k p : ℕ) (h : ℕ → Bool) (t : Rounds) → Chance k p h t → chance k p h t ≡ true
 unfolding chance ahead
 chance-out k p h (stop O) l = lt-ltb _ _ l
-chance-out k p h (round i c O t) (inl (l, d)) = rw (lt-ltb 0 (reach h O) l, le-leb (p * reach (c .has) O + late k i) (c .price * reach h O) (late-out k i _ _ d))
+chance-out k p h (round i c O t) (inl (l, d)) = rw
+    (lt-ltb 0 (reach h O) l, le-leb (p * reach (c .has) O + late k i) (c .price * reach h O) (late-out k i _ _ d))
 chance-out k p h (round i c O t) (inr s) = rw (chance-out k p h t s) (or-true (ahead k p h i c O))
 
 -- bid k is taken just where the run withdrawn it leaves it a chance
 pub wins-iff : (n k : ℕ) → k < n → (B : ℕ → Bid) (f : ℕ) (O : List ℕ) → length O ≤ f
     → (taken k (run B n f O) ≡ true) ↔ Chance k (B k .price) (B k .has) (run (withdrawn k B) n f O)
-wins-iff n k m B f O l = (λ e. chance-in k (B k .price) (B k .has) _ (sym (follow n k m B f O l) ∙ e), λ c. follow n k m B f O l ∙ chance-out k (B k .price) (B k .has) _ c)
+wins-iff n k m B f O l = (
+  λ e. chance-in k (B k .price) (B k .has) _ (sym (follow n k m B f O l) ∙ e),
+  λ c. follow n k m B f O l
+      ∙ chance-out k (B k .price) (B k .has) _ c,
+)
 
 -- a cell that stays open is a chance at every price
 pub chance-left : (k p : ℕ) (h : ℕ → Bool) (t : Rounds) → 0 < reach h (left t) → chance k p h t ≡ true

@@ -50,7 +50,8 @@ unfoldable pub withdrawn : ℕ → (ℕ → Bid) → ℕ → Bid
 unfolding mute
 withdrawn k B i = mute (eqb i k) (B i)
 
--- one more than the largest price at which bid k, with the cells h, is taken before bid i, which is c, where the cells O are open; 0 where no price is
+-- one more than the largest price at which bid k, with the cells h, is taken before bid i, which is c, where the cells O are
+-- open; 0 where no price is
 unfoldable pub share : ℕ → (ℕ → Bool) → ℕ → Bid → List ℕ → ℕ
 unfolding reach late
 share k h i c O = let x = c .price * reach h O in when (ltb 0 (reach h O) && leb (late k i) x) (suc ((x - late k i) / reach (c .has) O))

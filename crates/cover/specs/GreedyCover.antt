@@ -61,4 +61,5 @@ module _ (B : ℕ → Bid) (i : ℕ) (c : Bid) (U : List ℕ) (t : Rounds) where
 
 pub served : (B : ℕ → Bid) (n f : ℕ) (O : List ℕ) → length O ≤ f → Each (Covered B n) O → Each (Served B (run B n f O)) O
 unfolding left
-served B n f O l g = rounds B n (λ O t. left t ≡ [] → Each (Served B t) O) (λ O e z. rw z tt) (λ O i t b ih z. reopen B i (B i) O t O (ih z)) f O l (closed B n f O l g)
+served B n f O l g = rounds B n (λ O t. left t ≡ [] → Each (Served B t) O) (λ O e z. rw z tt)
+    (λ O i t b ih z. reopen B i (B i) O t O (ih z)) f O l (closed B n f O l g)

@@ -19,7 +19,8 @@ unfolding reach close
 shrink h [] = refl
 shrink h (x ∷ xs) = go (h x) (shrink h xs)
   where
-    go : (t : Bool) → reach h xs + length (close h xs) ≡ length xs → when t 1 + reach h xs + length (keep t x (close h xs)) ≡ suc (length xs)
+    go : (t : Bool) → reach h xs + length (close h xs) ≡ length xs → when t 1 + reach h xs + length (keep t x (close h xs))
+        ≡ suc (length xs)
     go true e = omega arith
     go false e = omega arith
 
@@ -70,8 +71,10 @@ close-other g h (x ∷ xs) = go (g x) (close-other g h xs)
     go true l = omega arith
     go false l = omega arith
 
--- a fact of a run, by its rounds: of the end, where nothing reaches an open cell, and of a round before others. As many rounds as open cells are enough
-module _ (B : ℕ → Bid) (n : ℕ) (P : List ℕ → Rounds → Type 0) (end : (O : List ℕ) → ((i : ℕ) → i < n → reach (B i .has) O ≡ 0) → P O (stop O))
+-- a fact of a run, by its rounds: of the end, where nothing reaches an open cell, and of a round before others. As many rounds as
+-- open cells are enough
+module _ (B : ℕ → Bid) (n : ℕ) (P : List ℕ → Rounds → Type 0)
+    (end : (O : List ℕ) → ((i : ℕ) → i < n → reach (B i .has) O ≡ 0) → P O (stop O))
     (more : (O : List ℕ) (i : ℕ) (t : Rounds) → Rightly B n O (found i) → P (close (B i .has) O) t → P O (round i (B i) O t)) where
   pub rounds : (f : ℕ) (O : List ℕ) → length O ≤ f → P O (run B n f O)
   unfolding run reach
@@ -79,7 +82,8 @@ module _ (B : ℕ → Bid) (n : ℕ) (P : List ℕ → Rounds → Type 0) (end :
   rounds zero (x ∷ O) l = absurd (omega arith)
   rounds (suc f) O l = go (best B n O) (best-right B n O) (λ i h. rounds f (close (B i .has) O) (omega (arith, shrink (B i .has) O)))
     where
-      go : (u : Found) → Rightly B n O u → ((i : ℕ) → 0 < reach (B i .has) O → P (close (B i .has) O) (run B n f (close (B i .has) O))) → P O (grow B O u (λ i. run B n f (close (B i .has) O)))
+      go : (u : Found) → Rightly B n O u → ((i : ℕ) → 0 < reach (B i .has) O → P (close (B i .has) O) (run B n f (close (B i .has) O)))
+          → P O (grow B O u (λ i. run B n f (close (B i .has) O)))
       go nothing x ih = end O (λ i m. omega (arith, x i m))
       go (found a) x ih = more O a _ x (ih a (x .good))
 
@@ -101,7 +105,8 @@ module _ (n k : ℕ) (inside : k < n) (B : ℕ → Bid) where
   here O (found i) = ahead k (p k) (B k .has) i (withdrawn k B i) O
 
   -- the run takes k where k is ahead of what the run withdrawn k takes, and else it takes the same
-  turn : (O : List ℕ) (u v : Found) → Rightly B n O u → Rightly (withdrawn k B) n O v → ((u ≡ found k) × (here O v ≡ true)) ⊎ ((u ≡ v) × (here O v ≡ false))
+  turn : (O : List ℕ) (u v : Found) → Rightly B n O u → Rightly (withdrawn k B) n O v → ((u ≡ found k) × (here O v ≡ true))
+      ⊎ ((u ≡ v) × (here O v ≡ false))
   unfolding here ahead
   turn O nothing nothing x y = inr (refl, none (ltb 0 (r O k)) refl)
     where
@@ -130,9 +135,17 @@ module _ (n k : ℕ) (inside : k < n) (B : ℕ → Bid) where
       beaten ne true false e f = refl
       beaten ne false d e f = refl
 
-      go : (q : Bool) → eqb a k ≡ q → ((found a ≡ found k) × (ahead k (p k) (B k .has) b (withdrawn k B b) O ≡ true)) ⊎ ((found a ≡ found b) × (ahead k (p k) (B k .has) b (withdrawn k B b) O ≡ false))
+      go : (q : Bool) → eqb a k ≡ q → ((found a ≡ found k) × (ahead k (p k) (B k .has) b (withdrawn k B b) O ≡ true))
+          ⊎ ((found a ≡ found b) × (ahead k (p k) (B k .has) b (withdrawn k B b) O ≡ false))
       go true e = let j = eqb-true a k e in
-          inl (ap found j, rw (same-b, lt-ltb 0 (r O k) (rw j at (x .good)), le-leb (p k * r O b + late k b) (p b * r O k) (rw j at a-first)))
+          inl (
+            ap found j,
+            rw (
+              same-b,
+              lt-ltb 0 (r O k) (rw j at (x .good)),
+              le-leb (p k * r O b + late k b) (p b * r O k) (rw j at a-first),
+            ),
+          )
       go false e = let j = eqb-false a k e in let m = equal (withdrawn-other k B a j) in
           inr (ap found m, rw (same-b, ← m) (beaten j _ _ refl refl))
 
@@ -141,7 +154,8 @@ module _ (n k : ℕ) (inside : k < n) (B : ℕ → Bid) where
   unfolding run taken chance here
   follow zero [] l = refl
   follow zero (x ∷ O) l = absurd (omega arith)
-  follow (suc f) O l = go (best B n O) (best (withdrawn k B) n O) (best-right (withdrawn k B) n O) (turn O _ _ (best-right B n O) (best-right (withdrawn k B) n O))
+  follow (suc f) O l = go (best B n O) (best (withdrawn k B) n O) (best-right (withdrawn k B) n O)
+      (turn O _ _ (best-right B n O) (best-right (withdrawn k B) n O))
       (λ i h. follow f (close (B i .has) O) (omega (arith, shrink (B i .has) O)))
     where
       s : ℕ → Rounds
@@ -163,7 +177,8 @@ module _ (n k : ℕ) (inside : k < n) (B : ℕ → Bid) where
   pub alike : (f : ℕ) (O : List ℕ) → taken k (run B n f O) ≡ false → run B n f O ≡ run (withdrawn k B) n f O
   unfolding run taken
   alike zero O e = refl
-  alike (suc f) O e = go (best B n O) (best (withdrawn k B) n O) (best-right (withdrawn k B) n O) (turn O _ _ (best-right B n O) (best-right (withdrawn k B) n O)) e
+  alike (suc f) O e = go (best B n O) (best (withdrawn k B) n O) (best-right (withdrawn k B) n O)
+      (turn O _ _ (best-right B n O) (best-right (withdrawn k B) n O)) e
       (λ i. alike f (close (B i .has) O))
     where
       s : ℕ → Rounds
@@ -172,7 +187,8 @@ module _ (n k : ℕ) (inside : k < n) (B : ℕ → Bid) where
       t : ℕ → Rounds
       t i = run (withdrawn k B) n f (close (withdrawn k B i .has) O)
 
-      go : (u v : Found) → Rightly (withdrawn k B) n O v → ((u ≡ found k) × (here O v ≡ true)) ⊎ ((u ≡ v) × (here O v ≡ false)) → taken k (grow B O u s) ≡ false
+      go : (u v : Found) → Rightly (withdrawn k B) n O v → ((u ≡ found k) × (here O v ≡ true)) ⊎ ((u ≡ v) × (here O v ≡ false))
+          → taken k (grow B O u s) ≡ false
           → ((i : ℕ) → taken k (s i) ≡ false → s i ≡ run (withdrawn k B) n f (close (B i .has) O))
           → grow B O u s ≡ grow (withdrawn k B) O v t
       go u v y (inl h) e ih = absurd (true≢false (rw (h .0, eq-eqb k k refl) at e))

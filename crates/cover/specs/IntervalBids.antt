@@ -1,4 +1,5 @@
--- Bids with one run of cells each, as lists of starts, ends and prices: the least sets and costs that the code of the single award computes.
+-- Bids with one run of cells each, as lists of starts, ends and prices: the least sets and costs that the code of the single
+-- award computes.
 use mathlib.Core.Bool.{Bool, true, cond}
 use mathlib.Core.List.{List}
 use Prim.Native.Nat.{ℕ, _≤_}

@@ -1,4 +1,5 @@
--- Laws of bids given by lists of starts, ends and prices: the winners and payments by least sets and costs, and each cost by a scan. Assumes nothing.
+-- Laws of bids given by lists of starts, ends and prices: the winners and payments by least sets and costs, and each cost by a
+-- scan. Assumes nothing.
 use mathlib.Core.Path.{_≡_, refl, sym, ap, _∙_}
 use mathlib.Core.Bool.{Bool, true, false, cond, not, _&&_}
 use mathlib.Core.List.{List, [], _∷_}
@@ -38,10 +39,13 @@ value-most ps nothing = omega arith
 value-most ps (found s) = cost-most ps s
 
 -- two scans whose steps are the same
-scan-same : (s t : ℕ → Bool) (v w : ℕ → Found) (m : ℕ) → ((q : ℕ) → q < m → (r : Found) → cond (s q) (lesserCost (v q) r) r ≡ cond (t q) (lesserCost (w q) r) r) → scanCost s v m ≡ scanCost t w m
+scan-same : (s t : ℕ → Bool) (v w : ℕ → Found) (m : ℕ)
+    → ((q : ℕ) → q < m → (r : Found) → cond (s q) (lesserCost (v q) r) r ≡ cond (t q) (lesserCost (w q) r) r)
+    → scanCost s v m ≡ scanCost t w m
 unfolding scanCost
 scan-same s t v w zero f = refl
-scan-same s t v w (suc m) f = f m (omega arith) (scanCost s v m) ∙ ap (λ r. cond (t m) (lesserCost (w m) r) r) (scan-same s t v w m (λ q l. f q (omega arith)))
+scan-same s t v w (suc m) f = f m (omega arith) (scanCost s v m)
+    ∙ ap (λ r. cond (t m) (lesserCost (w m) r) r) (scan-same s t v w m (λ q l. f q (omega arith)))
 
 drop-one : (c t : Bool) (x r : Found) → cond t (lesserCost (cond c nothing x) r) r ≡ cond (not c && t) (lesserCost x r) r
 unfolding lesserCost
@@ -61,43 +65,53 @@ module _ (a b ps : List ℕ) where
   -- none is needed before the first cell
   pub least-none : leastBelow a b ps 0 ≡ found 0
   unfolding leastBelow
-  least-none = start (length ps) 0 0 (λ i. getD a i 0) (λ i. getD b i 0) (λ i. getD ps i 0) (cost ps) anyBid (coversBelow a b (length ps)) (prefixes 0) (priced ps) 0 (omega arith)
+  least-none = start (length ps) 0 0 (λ i. getD a i 0) (λ i. getD b i 0) (λ i. getD ps i 0) (cost ps) anyBid (coversBelow a b (length ps))
+      (prefixes 0) (priced ps) 0 (omega arith)
 
   -- a bid and what comes before it cost no more than all the bids
   pub fits : (i c : ℕ) → i < length ps → costBelow a b ps (getD a i 0) ≡ found c → c + getD ps i 0 ≤ sum ps
   unfolding costBelow leastBelow costOf
-  fits i c l e = go (leastSet (coversBelow a b (length ps)) (cost ps) (length ps) (getD a i 0)) e (leastSet-right (coversBelow a b (length ps)) (cost ps) (length ps) (getD a i 0))
+  fits i c l e = go (leastSet (coversBelow a b (length ps)) (cost ps) (length ps) (getD a i 0)) e
+      (leastSet-right (coversBelow a b (length ps)) (cost ps) (length ps) (getD a i 0))
     where
-      go : (r : Found) → costOf (cost ps) r ≡ found c → IsFirst (coversBelow a b (length ps) (getD a i 0)) (cost ps) (2 ^ length ps) r → c + getD ps i 0 ≤ sum ps
+      go : (r : Found) → costOf (cost ps) r ≡ found c → IsFirst (coversBelow a b (length ps) (getD a i 0)) (cost ps) (2 ^ length ps) r
+          → c + getD ps i 0 ≤ sum ps
       go nothing e w = absurd (none-found e)
       go (found m) e w = omega (
         arith,
         found-one e,
         cost-most ps (m + 2 ^ i),
-        upper-cost (length ps) 0 (getD a i 0) (λ i. getD a i 0) (λ i. getD b i 0) (λ i. getD ps i 0) (cost ps) anyBid (coversBelow a b (length ps)) (prefixes (getD a i 0)) (priced ps) i m l (omega arith) w,
+        upper-cost (length ps) 0 (getD a i 0) (λ i. getD a i 0) (λ i. getD b i 0) (λ i. getD ps i 0) (cost ps) anyBid
+            (coversBelow a b (length ps)) (prefixes (getD a i 0)) (priced ps) i m l (omega arith) w,
       )
 
 -- without bid k
 module _ (k : ℕ) (a b ps : List ℕ) where
-  pub prefixes-without : (L : ℕ) → Prefixes (length ps) 0 L (λ i. getD a i 0) (λ i. getD b i 0) (others k anyBid) (othersBelow k a b (length ps))
+  pub prefixes-without : (L : ℕ) → Prefixes (length ps) 0 L (λ i. getD a i 0) (λ i. getD b i 0) (others k anyBid)
+      (othersBelow k a b (length ps))
   unfolding othersBelow
-  prefixes-without L = without-prefixes (length ps) 0 L (λ i. getD a i 0) (λ i. getD b i 0) anyBid (coversBelow a b (length ps)) k (prefixes a b ps L)
+  prefixes-without L = without-prefixes (length ps) 0 L (λ i. getD a i 0) (λ i. getD b i 0) anyBid (coversBelow a b (length ps)) k
+      (prefixes a b ps L)
 
   pub without-none : costWithout k a b ps 0 ≡ found 0
   unfolding costWithout costOf
-  without-none = ap (costOf (cost ps)) (start (length ps) 0 0 (λ i. getD a i 0) (λ i. getD b i 0) (λ i. getD ps i 0) (cost ps) (others k anyBid) (othersBelow k a b (length ps)) (prefixes-without 0) (priced ps) 0 (omega arith)) ∙ ap found (priced ps .empty)
+  without-none = ap (costOf (cost ps)) (start (length ps) 0 0 (λ i. getD a i 0) (λ i. getD b i 0) (λ i. getD ps i 0) (cost ps)
+      (others k anyBid) (othersBelow k a b (length ps)) (prefixes-without 0) (priced ps) 0 (omega arith)) ∙ ap found (priced ps .empty)
 
   pub fits-without : (i c : ℕ) → i < length ps → costWithout k a b ps (getD a i 0) ≡ found c → c + getD ps i 0 ≤ sum ps
   unfolding costWithout costOf
-  fits-without i c l e = go (leastSet (othersBelow k a b (length ps)) (cost ps) (length ps) (getD a i 0)) e (leastSet-right (othersBelow k a b (length ps)) (cost ps) (length ps) (getD a i 0))
+  fits-without i c l e = go (leastSet (othersBelow k a b (length ps)) (cost ps) (length ps) (getD a i 0)) e
+      (leastSet-right (othersBelow k a b (length ps)) (cost ps) (length ps) (getD a i 0))
     where
-      go : (r : Found) → costOf (cost ps) r ≡ found c → IsFirst (othersBelow k a b (length ps) (getD a i 0)) (cost ps) (2 ^ length ps) r → c + getD ps i 0 ≤ sum ps
+      go : (r : Found) → costOf (cost ps) r ≡ found c → IsFirst (othersBelow k a b (length ps) (getD a i 0)) (cost ps) (2 ^ length ps) r
+          → c + getD ps i 0 ≤ sum ps
       go nothing e w = absurd (none-found e)
       go (found m) e w = omega (
         arith,
         found-one e,
         cost-most ps (m + 2 ^ i),
-        upper-cost (length ps) 0 (getD a i 0) (λ i. getD a i 0) (λ i. getD b i 0) (λ i. getD ps i 0) (cost ps) (others k anyBid) (othersBelow k a b (length ps)) (prefixes-without (getD a i 0)) (priced ps) i m l (omega arith) w,
+        upper-cost (length ps) 0 (getD a i 0) (λ i. getD a i 0) (λ i. getD b i 0) (λ i. getD ps i 0) (cost ps) (others k anyBid)
+            (othersBelow k a b (length ps)) (prefixes-without (getD a i 0)) (priced ps) i m l (omega arith) w,
       )
 
   pub without-most : (L : ℕ) → valueOf (costWithout k a b ps L) ≤ sum ps
@@ -119,8 +133,10 @@ module _ (k : ℕ) (a b ps : List ℕ) where
       → scanCost (reaches (λ i. getD a i 0) (λ i. getD b i 0) anyBid xs t) v m ≡ costWithout k a b ps t
   unfolding costWithout endCost reaches others
   scan-without xs v m t z bids every values =
-      scan-same (reaches (λ i. getD a i 0) (λ i. getD b i 0) anyBid xs t) (reaches (λ i. getD a i 0) (λ i. getD b i 0) (others k anyBid) xs t) v u m same
-      ∙ scan-cost (length ps) 0 t (λ i. getD a i 0) (λ i. getD b i 0) (λ i. getD ps i 0) (cost ps) (others k anyBid) (othersBelow k a b (length ps)) (prefixes-without t) (priced ps)
+      scan-same (reaches (λ i. getD a i 0) (λ i. getD b i 0) anyBid xs t)
+      (reaches (λ i. getD a i 0) (λ i. getD b i 0) (others k anyBid) xs t) v u m same
+      ∙ scan-cost (length ps) 0 t (λ i. getD a i 0) (λ i. getD b i 0) (λ i. getD ps i 0) (cost ps) (others k anyBid)
+      (othersBelow k a b (length ps)) (prefixes-without t) (priced ps)
       xs u m t z (omega arith) bids every (λ q d g. refl)
     where
       u : ℕ → Found
@@ -134,23 +150,28 @@ module _ (k : ℕ) (a b ps : List ℕ) where
   -- up to its start bid k is not needed
   pub near : (u : ℕ) → k < length ps → u ≤ getD a k 0 → costWithout k a b ps u ≡ costBelow a b ps u
   unfolding costWithout costBelow leastBelow othersBelow
-  near u l d = ap (costOf (cost ps)) (unneeded (length ps) 0 u (λ i. getD a i 0) (λ i. getD b i 0) (λ i. getD ps i 0) (cost ps) anyBid (coversBelow a b (length ps)) (prefixes a b ps u) (priced ps) k u l (omega arith) (λ x z g y w. omega arith))
+  near u l d = ap (costOf (cost ps)) (unneeded (length ps) 0 u (λ i. getD a i 0) (λ i. getD b i 0) (λ i. getD ps i 0) (cost ps) anyBid
+      (coversBelow a b (length ps)) (prefixes a b ps u) (priced ps) k u l (omega arith) (λ x z g y w. omega arith))
 
   -- a bid that ends before the first cell is not needed at all
   pub idle : (L : ℕ) → k < length ps → getD b k 0 ≡ 0 → costWithout k a b ps L ≡ costBelow a b ps L
   unfolding costWithout costBelow leastBelow othersBelow
-  idle L l d = ap (costOf (cost ps)) (unneeded (length ps) 0 L (λ i. getD a i 0) (λ i. getD b i 0) (λ i. getD ps i 0) (cost ps) anyBid (coversBelow a b (length ps)) (prefixes a b ps L) (priced ps) k L l (omega arith) (λ x z g y w. omega arith))
+  idle L l d = ap (costOf (cost ps)) (unneeded (length ps) 0 L (λ i. getD a i 0) (λ i. getD b i 0) (λ i. getD ps i 0) (cost ps) anyBid
+      (coversBelow a b (length ps)) (prefixes a b ps L) (priced ps) k L l (omega arith) (λ x z g y w. omega arith))
 
   -- the bids of a list that have the last cell of bid k: what comes before each, its price, and what comes after
   pub scan-across : (L : ℕ) (xs : ℕ → ℕ) (g : ℕ → Found) (m : ℕ) → k < length ps → 0 < getD b k 0 → getD b k 0 ≤ L
       → ((j : ℕ) → j < m → xs j < length ps)
       → ((i : ℕ) → i < length ps → getD a i 0 < getD b k 0 → getD b k 0 ≤ getD b i 0 → At xs m i)
-      → ((j : ℕ) → j < m → g j ≡ cond (eqb (xs j) k) nothing (across (getD ps (xs j) 0) (costWithout k a b ps (getD a (xs j) 0)) (costAfter a b ps L (xs j))))
+      → ((j : ℕ) → j < m → g j ≡ cond (eqb (xs j) k) nothing
+      (across (getD ps (xs j) 0) (costWithout k a b ps (getD a (xs j) 0)) (costAfter a b ps L (xs j))))
       → scanCost (reaches (λ i. getD a i 0) (λ i. getD b i 0) anyBid xs (getD b k 0)) g m ≡ costWithout k a b ps L
   unfolding costWithout othersBelow coversBelow costAfter reaches others spans
   scan-across L xs g m l z f bids every values =
-      scan-same (reaches (λ i. getD a i 0) (λ i. getD b i 0) anyBid xs (getD b k 0)) (reaches (λ i. getD a i 0) (λ i. getD b i 0) (others k anyBid) xs (getD b k 0)) g v m same
-      ∙ cost-without (length ps) L (λ i. getD a i 0) (λ i. getD b i 0) (λ i. getD ps i 0) (cost ps) anyBid (λ o. coversFrom (λ x. x) o (spans a b) (length ps)) family (priced ps) k l
+      scan-same (reaches (λ i. getD a i 0) (λ i. getD b i 0) anyBid xs (getD b k 0))
+      (reaches (λ i. getD a i 0) (λ i. getD b i 0) (others k anyBid) xs (getD b k 0)) g v m same
+      ∙ cost-without (length ps) L (λ i. getD a i 0) (λ i. getD b i 0) (λ i. getD ps i 0) (cost ps) anyBid
+      (λ o. coversFrom (λ x. x) o (spans a b) (length ps)) family (priced ps) k l
       xs v m 0 z f bids every (λ q d x y. refl)
     where
       family : (o : ℕ) → Prefixes (length ps) o L (λ i. getD a i 0) (λ i. getD b i 0) anyBid (coversFrom (λ x. x) o (spans a b) (length ps))
@@ -162,7 +183,8 @@ module _ (k : ℕ) (a b ps : List ℕ) where
       same : (q : ℕ) → q < m → (r : Found)
           → cond (reaches (λ i. getD a i 0) (λ i. getD b i 0) anyBid xs (getD b k 0) q) (lesserCost (g q) r) r
           ≡ cond (reaches (λ i. getD a i 0) (λ i. getD b i 0) (others k anyBid) xs (getD b k 0) q) (lesserCost (v q) r) r
-      same q d r = rw (values q d) (drop-one (eqb (xs q) k) (ltb (getD a (xs q) 0) (getD b k 0) && leb (getD b k 0) (getD b (xs q) 0)) (v q) r)
+      same q d r = rw (values q d) (drop-one (eqb (xs q) k) (ltb (getD a (xs q) 0) (getD b k 0) && leb (getD b k 0) (getD b (xs q) 0))
+          (v q) r)
 
 bit-past : (n s : ℕ) → s < 2 ^ n → bit s n ≡ false
 unfolding bit
@@ -172,11 +194,14 @@ bit-past (suc n) s l = bit-past n (s / 2) (omega (arith, pow-suc 2 n))
 -- there is no bid past the last
 pub without-past : (a b ps : List ℕ) (t : ℕ) → costWithout (length ps) a b ps t ≡ costBelow a b ps t
 unfolding costWithout costBelow leastBelow othersBelow without
-without-past a b ps t = ap (costOf (cost ps)) (sym (leastSet-is (λ t s. without (length ps) (coversBelow a b (length ps) t) s) (cost ps) (length ps) t r
-    (least-same (Family (coversBelow a b (length ps) t) (2 ^ length ps)) (Family (λ s. without (length ps) (coversBelow a b (length ps) t) s) (2 ^ length ps)) (cost ps)
+without-past a b ps t = ap (costOf (cost ps)) (sym
+    (leastSet-is (λ t s. without (length ps) (coversBelow a b (length ps) t) s) (cost ps) (length ps) t r
+    (least-same (Family (coversBelow a b (length ps) t) (2 ^ length ps))
+    (Family (λ s. without (length ps) (coversBelow a b (length ps) t) s) (2 ^ length ps)) (cost ps)
     (λ s q. record { inside = q .inside; good = rw (q .good, bit-past (length ps) s (q .inside)) })
     (λ s q. record { inside = q .inside; good = split (coversBelow a b (length ps) t s) (bit s (length ps)) (q .good) .0 })
-    r (right-least (coversBelow a b (length ps) t) (cost ps) (2 ^ length ps) r (leastSet-right (coversBelow a b (length ps)) (cost ps) (length ps) t)))))
+    r (right-least (coversBelow a b (length ps) t) (cost ps) (2 ^ length ps) r
+    (leastSet-right (coversBelow a b (length ps)) (cost ps) (length ps) t)))))
   where
     r : Found
     r = leastSet (coversBelow a b (length ps)) (cost ps) (length ps) t

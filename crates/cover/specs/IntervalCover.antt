@@ -1,4 +1,5 @@
--- The sets that cover the cells below t, of bids with one run of cells each, are such as Prefix asks for; and so are those of them without bid k. Assumes nothing.
+-- The sets that cover the cells below t, of bids with one run of cells each, are such as Prefix asks for; and so are those of
+-- them without bid k. Assumes nothing.
 use mathlib.Core.Path.{_≡_, refl, sym, ap, _∙_}
 use mathlib.Core.Logic.{_⊎_, inl, inr}
 use mathlib.Core.Bool.{Bool, true, false, not, false≢true, _&&_, _||_}
@@ -54,20 +55,24 @@ module _ (f : ℕ → ℕ) (o L : ℕ) (has : ℕ → ℕ → Bool) (n : ℕ) (a
       }
 
   -- a bid whose cells the rest has can go
-  pub spare : (t m i : ℕ) → t ≤ L → bit m i ≡ false → ((x : ℕ) → o ≤ x → x < t → a i ≤ x → x < b i → hit has n m (f x) ≡ true) → coversFrom f o has n t (m + 2 ^ i) ≡ true → coversFrom f o has n t m ≡ true
+  pub spare : (t m i : ℕ) → t ≤ L → bit m i ≡ false → ((x : ℕ) → o ≤ x → x < t → a i ≤ x → x < b i → hit has n m (f x) ≡ true)
+      → coversFrom f o has n t (m + 2 ^ i) ≡ true → coversFrom f o has n t m ≡ true
   spare t m i l k d e = covers-of t m (λ x z g. go x z g (meets-at t (m + 2 ^ i) x e z g))
     where
       go : (x : ℕ) → o ≤ x → x < t → Member has n (m + 2 ^ i) (f x) → hit has n m (f x) ≡ true
       go x z g y = by (eqb (y .who) i) refl
         where
           by : (w : Bool) → eqb (y .who) i ≡ w → hit has n m (f x) ≡ true
-          by true q = d x z g (omega (arith, ap a (eqb-true (y .who) i q), span (m + 2 ^ i) x (omega arith) y .0)) (omega (arith, ap b (eqb-true (y .who) i q), span (m + 2 ^ i) x (omega arith) y .1))
-          by false q = hit-of has n m (f x) (y .who) (y .inside) (sym (added i m k .keeps (y .who) (eqb-false (y .who) i q)) ∙ y .in-set) (y .covers-it)
+          by true q = d x z g (omega (arith, ap a (eqb-true (y .who) i q), span (m + 2 ^ i) x (omega arith) y .0))
+              (omega (arith, ap b (eqb-true (y .who) i q), span (m + 2 ^ i) x (omega arith) y .1))
+          by false q = hit-of has n m (f x) (y .who) (y .inside) (sym (added i m k .keeps (y .who) (eqb-false (y .who) i q)) ∙ y .in-set)
+              (y .covers-it)
 
   stay : (m i j : ℕ) → bit m i ≡ false → bit m j ≡ true → bit (m + 2 ^ i) j ≡ true
   stay m i j k e = added i m k .keeps j (λ q. false≢true (sym k ∙ ap (bit m) (sym q) ∙ e)) ∙ e
 
-  add : (t m i : ℕ) → t ≤ L → i < n → bit m i ≡ false → t ≤ b i → coversFrom f o has n (a i) m ≡ true → coversFrom f o has n t (m + 2 ^ i) ≡ true
+  add : (t m i : ℕ) → t ≤ L → i < n → bit m i ≡ false → t ≤ b i → coversFrom f o has n (a i) m ≡ true
+      → coversFrom f o has n t (m + 2 ^ i) ≡ true
   add t m i l j k d e = covers-of t (m + 2 ^ i) (λ x z g. go x z g (ltb x (a i)) refl)
     where
       up : (x : ℕ) → Member has n m (f x) → hit has n (m + 2 ^ i) (f x) ≡ true
@@ -81,7 +86,8 @@ module _ (f : ℕ → ℕ) (o L : ℕ) (has : ℕ → ℕ → Bool) (n : ℕ) (a
   pub covers-prefixes : Prefixes n o L a b (λ i. true) (coversFrom f o has n)
   covers-prefixes = record {
     none = λ t l. covers-of t 0 (λ x z g. absurd (omega arith));
-    less = λ t u s l e. covers-of u s (λ x z g. let m = meets-at t s x e z (omega arith) in hit-of has n s (f x) (m .who) (m .inside) (m .in-set) (m .covers-it));
+    less = λ t u s l e. covers-of u s (λ x z g. let m = meets-at t s x e z (omega arith) in
+        hit-of has n s (f x) (m .who) (m .inside) (m .in-set) (m .covers-it));
     last = last;
     drop = λ t m i l d k e. spare t m i l k (λ x z g y w. absurd (d x z g y w)) e;
     add = λ t m i l j u k x y e. add t m i l j k y e;
@@ -119,7 +125,8 @@ module _ (n o L : ℕ) (a b : ℕ → ℕ) (may : ℕ → Bool) (ok : ℕ → �
             ends = m .ends;
           }
 
-  without-drop : (t m i : ℕ) → t ≤ L → ((x : ℕ) → o ≤ x → x < t → a i ≤ x → x < b i → ⊥) → bit m i ≡ false → without k (ok t) (m + 2 ^ i) ≡ true → without k (ok t) m ≡ true
+  without-drop : (t m i : ℕ) → t ≤ L → ((x : ℕ) → o ≤ x → x < t → a i ≤ x → x < b i → ⊥) → bit m i ≡ false
+      → without k (ok t) (m + 2 ^ i) ≡ true → without k (ok t) m ≡ true
   unfolding without
   without-drop t m i l d x e = go (split (ok t (m + 2 ^ i)) (bit (m + 2 ^ i) k) e)
     where
@@ -130,7 +137,8 @@ module _ (n o L : ℕ) (a b : ℕ → ℕ) (may : ℕ → Bool) (ok : ℕ → �
           by true g = ap (bit m) (eqb-true k i g) ∙ x
           by false g = sym (added i m x .keeps k (eqb-false k i g)) ∙ q .1
 
-  without-add : (t m i : ℕ) → t ≤ L → i < n → others k may i ≡ true → bit m i ≡ false → a i < t → t ≤ b i → without k (ok (a i)) m ≡ true → without k (ok t) (m + 2 ^ i) ≡ true
+  without-add : (t m i : ℕ) → t ≤ L → i < n → others k may i ≡ true → bit m i ≡ false → a i < t → t ≤ b i → without k (ok (a i)) m ≡ true
+      → without k (ok t) (m + 2 ^ i) ≡ true
   unfolding without others
   without-add t m i l j u x y z e = go (split (ok (a i) m) (bit m k) e) (split (may i) (eqb i k) u)
     where

@@ -15,8 +15,13 @@ use Rattle.cover.specs.IntervalPrefix.{Priced}
 use Rattle.cover.specs.IntervalCover.{spare}
 
 -- a winner with a bid that can go is none
-pub tight : (n : ℕ) (p cost : ℕ → ℕ) (ok : ℕ → Bool) → Priced n p cost → (m i : ℕ) → i < n → Wins ok cost (2 ^ n) m → (d : Removed m i) → ok (d .rest) ≡ true → ⊥
-tight n p cost ok c m i l w d g = omega (arith, one-le-pow i 2 (omega arith), w .earliest (d .rest) under g (omega (arith, w .least (d .rest) under g, paid)))
+pub tight : (n : ℕ) (p cost : ℕ → ℕ) (ok : ℕ → Bool) → Priced n p cost → (m i : ℕ) → i < n → Wins ok cost (2 ^ n) m → (d : Removed m i)
+    → ok (d .rest) ≡ true → ⊥
+tight n p cost ok c m i l w d g = omega (
+  arith,
+  one-le-pow i 2 (omega arith),
+  w .earliest (d .rest) under g (omega (arith, w .least (d .rest) under g, paid)),
+)
   where
     under : d .rest < 2 ^ n
     under = omega (arith, w .inside)
@@ -39,13 +44,15 @@ module _ (f : ℕ → ℕ) (o L : ℕ) (has : ℕ → ℕ → Bool) (n : ℕ) (a
   middle lo i hi u v y d e g k = go (removed i m (v .takes))
     where
       go : Removed m i → ⊥
-      go r = tight n p cost (coversFrom f o has n L) c m i (v .inside) w r (spare f o L has n a b sees L (r .rest) i (omega arith) (r .lacks) cells (rw (r .sum) at (w .good)))
+      go r = tight n p cost (coversFrom f o has n L) c m i (v .inside) w r
+          (spare f o L has n a b sees L (r .rest) i (omega arith) (r .lacks) cells (rw (r .sum) at (w .good)))
         where
           stays : (j : ℕ) → (j ≡ i → ⊥) → bit m j ≡ true → bit (r .rest) j ≡ true
           stays j q t = sym (added i (r .rest) (r .lacks) .keeps j q) ∙ ap (λ s. bit s j) (sym (r .sum)) ∙ t
 
           seen : (j z : ℕ) → (j ≡ i → ⊥) → Has n a b m x j → z < L → a j ≤ z → z < b j → hit has n (r .rest) (f z) ≡ true
-          seen j z q h l s t = hit-of has n (r .rest) (f z) j (h .inside) (stays j q (h .takes)) (sees j z (h .inside) l ∙ rw (le-leb (a j) z s, lt-ltb z (b j) t))
+          seen j z q h l s t = hit-of has n (r .rest) (f z) j (h .inside) (stays j q (h .takes))
+              (sees j z (h .inside) l ∙ rw (le-leb (a j) z s, lt-ltb z (b j) t))
 
           cells : (z : ℕ) → o ≤ z → z < L → a i ≤ z → z < b i → hit has n (r .rest) (f z) ≡ true
           cells z q l s t = by (leb z x) refl
@@ -54,7 +61,8 @@ module _ (f : ℕ → ℕ) (o L : ℕ) (has : ℕ → ℕ → Bool) (n : ℕ) (a
               by true n = seen lo z d u l (omega arith) (omega (arith, leb-true z x n))
               by false n = seen hi z e y l (omega (arith, leb-false z x n)) (omega arith)
 
-  first-of : (i j k : ℕ) → Has n a b m x i → Has n a b m x j → Has n a b m x k → (i ≡ j → ⊥) → (i ≡ k → ⊥) → (j ≡ k → ⊥) → a i ≤ a j → a i ≤ a k → ⊥
+  first-of : (i j k : ℕ) → Has n a b m x i → Has n a b m x j → Has n a b m x k → (i ≡ j → ⊥) → (i ≡ k → ⊥) → (j ≡ k → ⊥) → a i ≤ a j
+      → a i ≤ a k → ⊥
   first-of i j k u v y d e g l r = by (leb (b j) (b k)) refl
     where
       by : (t : Bool) → leb (b j) (b k) ≡ t → ⊥
@@ -66,6 +74,8 @@ module _ (f : ℕ → ℕ) (o L : ℕ) (has : ℕ → ℕ → Bool) (n : ℕ) (a
     where
       by : (s t r : Bool) → leb (a i) (a j) ≡ s → leb (a i) (a k) ≡ t → leb (a j) (a k) ≡ r → ⊥
       by true true r p q n = first-of i j k u v y d e g (leb-true (a i) (a j) p) (leb-true (a i) (a k) q)
-      by true false r p q n = first-of k i j y u v (λ z. e (sym z)) (λ z. g (sym z)) d (omega (arith, leb-false (a i) (a k) q)) (omega (arith, leb-true (a i) (a j) p, leb-false (a i) (a k) q))
+      by true false r p q n = first-of k i j y u v (λ z. e (sym z)) (λ z. g (sym z)) d (omega (arith, leb-false (a i) (a k) q))
+          (omega (arith, leb-true (a i) (a j) p, leb-false (a i) (a k) q))
       by false t true p q n = first-of j i k v u y (λ z. d (sym z)) g e (omega (arith, leb-false (a i) (a j) p)) (leb-true (a j) (a k) n)
-      by false t false p q n = first-of k i j y u v (λ z. e (sym z)) (λ z. g (sym z)) d (omega (arith, leb-false (a i) (a j) p, leb-false (a j) (a k) n)) (omega (arith, leb-false (a j) (a k) n))
+      by false t false p q n = first-of k i j y u v (λ z. e (sym z)) (λ z. g (sym z)) d
+          (omega (arith, leb-false (a i) (a j) p, leb-false (a j) (a k) n)) (omega (arith, leb-false (a j) (a k) n))

@@ -41,7 +41,8 @@ winners = refl
 unfoldable pub tableCost : ℕ → ℕ → List Found
 unfolding growCost at starts ends others prices
 tableCost i zero = []
-tableCost i (suc k) = let t = tableCost i k in t ++ (growCost 0 starts ends (λ j. getD prices j 0) (others i any) at (λ q. getD t q nothing) k ∷ [])
+tableCost i (suc k) = let t = tableCost i k in t ++
+    (growCost 0 starts ends (λ j. getD prices j 0) (others i any) at (λ q. getD t q nothing) k ∷ [])
 
 pub without-0 : scanCost (reaches starts ends (others 0 any) at 100) (λ q. getD (tableCost 0 5) q nothing) 5 ≡ found 75
 unfolding scanCost reaches tableCost others starts ends at

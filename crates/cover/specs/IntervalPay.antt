@@ -10,7 +10,8 @@ use Rattle.cover.specs.IntervalPrefix.{Prefixes, Priced}
 use Rattle.cover.specs.IntervalCover.{without-prefixes}
 use Rattle.cover.specs.IntervalSplit.{split-cost, unneeded}
 
-module _ (n L : ℕ) (a b p cost : ℕ → ℕ) (may : ℕ → Bool) (ok : ℕ → ℕ → ℕ → Bool) (h : (o : ℕ) → Prefixes n o L a b may (ok o)) (c : Priced n p cost) (k : ℕ) (l : k < n) where
+module _ (n L : ℕ) (a b p cost : ℕ → ℕ) (may : ℕ → Bool) (ok : ℕ → ℕ → ℕ → Bool) (h : (o : ℕ) → Prefixes n o L a b may (ok o))
+    (c : Priced n p cost) (k : ℕ) (l : k < n) where
   -- up to its start, as with it
   pub near : (o u : ℕ) → u ≤ a k → u ≤ L → leastSet (λ t s. without k (ok o t) s) cost n u ≡ leastSet (ok o) cost n u
   near o u d f = unneeded n o L a b p cost may (ok o) (h o) c k u l f (λ x z g y w. omega arith)
@@ -24,8 +25,11 @@ module _ (n L : ℕ) (a b p cost : ℕ → ℕ) (may : ℕ → Bool) (ok : ℕ �
       → ((q : ℕ) → q < m → at q < n)
       → ((i : ℕ) → i < n → a i < b k → b k ≤ b i → At at m i)
       → ((q : ℕ) → q < m → a (at q) < b k → b k ≤ b (at q)
-      → w q ≡ across (p (at q)) (costOf cost (leastSet (λ t s. without k (ok o t) s) cost n (a (at q)))) (costOf cost (leastSet (ok (b (at q))) cost n L)))
+      → w q ≡ across (p (at q)) (costOf cost (leastSet (λ t s. without k (ok o t) s) cost n (a (at q))))
+      (costOf cost (leastSet (ok (b (at q))) cost n L)))
       → scanCost (reaches a b (others k may) at (b k)) w m ≡ costOf cost (leastSet (λ t s. without k (ok o t) s) cost n L)
-  cost-without at w m o z f bids every values = split-cost n L a b p cost (others k may) (λ o t s. without k (ok o t) s) (λ o. without-prefixes n o L a b may (ok o) k (h o)) c
+  cost-without at w m o z f bids every values = split-cost n L a b p cost (others k may) (λ o t s. without k (ok o t) s)
+      (λ o. without-prefixes n o L a b may (ok o) k (h o)) c
       at w m o (b k) z f bids every
-      (λ q d x y. values q d x y ∙ ap (λ r. across (p (at q)) (costOf cost (leastSet (λ t s. without k (ok o t) s) cost n (a (at q)))) (costOf cost r)) (sym (far (b (at q)) y)))
+      (λ q d x y. values q d x y ∙ ap (λ r. across (p (at q)) (costOf cost (leastSet (λ t s. without k (ok o t) s) cost n (a (at q))))
+      (costOf cost r)) (sym (far (b (at q)) y)))

@@ -1,4 +1,5 @@
--- Bids with one run of cells each: the least set that covers the cells below t, from the least sets that cover the cells below a bid's start. Assumes nothing.
+-- Bids with one run of cells each: the least set that covers the cells below t, from the least sets that cover the cells below a
+-- bid's start. Assumes nothing.
 use mathlib.Core.Path.{_≡_, refl, sym, ap, _∙_}
 use mathlib.Core.Bool.{Bool, true, false, _&&_, cond}
 use Prim.Native.Nat.{ℕ, _+_, _^_, _≤_, _<_}
@@ -12,7 +13,8 @@ use Rattle.cover.specs.LeastCoverLaws.{IsFirst, first-right}
 use Rattle.cover.specs.SetLaws.{and-split}
 use Rattle.cover.specs.SetMembers.{Removed, add-below, removed}
 use Rattle.cover.specs.Intervals.{At, Order, costOf, grow, growCost, leastSet, plus, raise, reaches, scan, scanCost}
-use Rattle.cover.specs.IntervalScan.{Before, Family, IsLeast, Picked, cost-scan, found-one, least-of, least-one, least-same, none-found, right-least, scan-least}
+use Rattle.cover.specs.IntervalScan.{Before, Family, IsLeast, Picked, cost-scan, found-one, least-of, least-one, least-same}
+use Rattle.cover.specs.IntervalScan.{none-found, right-least, scan-least}
 
 -- a bid of s that has the cell before t
 pub record Last (n : ℕ) (a b : ℕ → ℕ) (may : ℕ → Bool) (t s : ℕ) : Type 0 where
@@ -28,7 +30,8 @@ pub record Prefixes (n o L : ℕ) (a b : ℕ → ℕ) (may : ℕ → Bool) (ok :
   pub none : (t : ℕ) → t ≤ o → ok t 0 ≡ true
   pub less : (t u s : ℕ) → u ≤ t → ok t s ≡ true → ok u s ≡ true
   pub last : (t s : ℕ) → o < t → t ≤ L → ok t s ≡ true → Last n a b may t s
-  pub drop : (t m i : ℕ) → t ≤ L → ((x : ℕ) → o ≤ x → x < t → a i ≤ x → x < b i → ⊥) → bit m i ≡ false → ok t (m + 2 ^ i) ≡ true → ok t m ≡ true
+  pub drop : (t m i : ℕ) → t ≤ L → ((x : ℕ) → o ≤ x → x < t → a i ≤ x → x < b i → ⊥) → bit m i ≡ false → ok t (m + 2 ^ i) ≡ true
+      → ok t m ≡ true
   pub add : (t m i : ℕ) → t ≤ L → i < n → may i ≡ true → bit m i ≡ false → a i < t → t ≤ b i → ok (a i) m ≡ true → ok t (m + 2 ^ i) ≡ true
 
 pub record Priced (n : ℕ) (p cost : ℕ → ℕ) : Type 0 where
@@ -72,8 +75,10 @@ pub leastSet-right : (ok : ℕ → ℕ → Bool) (cost : ℕ → ℕ) (n t : ℕ
 unfolding leastSet
 leastSet-right ok cost n t = first-right (ok t) cost (2 ^ n)
 
-pub leastSet-is : (ok : ℕ → ℕ → Bool) (cost : ℕ → ℕ) (n t : ℕ) (r : Found) → IsLeast (Family (ok t) (2 ^ n)) cost r → r ≡ leastSet ok cost n t
-leastSet-is ok cost n t r h = least-one (Family (ok t) (2 ^ n)) cost r (leastSet ok cost n t) h (right-least (ok t) cost (2 ^ n) (leastSet ok cost n t) (leastSet-right ok cost n t))
+pub leastSet-is : (ok : ℕ → ℕ → Bool) (cost : ℕ → ℕ) (n t : ℕ) (r : Found) → IsLeast (Family (ok t) (2 ^ n)) cost r
+    → r ≡ leastSet ok cost n t
+leastSet-is ok cost n t r h = least-one (Family (ok t) (2 ^ n)) cost r (leastSet ok cost n t) h
+    (right-least (ok t) cost (2 ^ n) (leastSet ok cost n t) (leastSet-right ok cost n t))
 
 module _ (n o L : ℕ) (a b p cost : ℕ → ℕ) (may : ℕ → Bool) (ok : ℕ → ℕ → Bool) (h : Prefixes n o L a b may ok) (c : Priced n p cost) where
   -- a winner is without a bid that has none of the cells
@@ -99,7 +104,8 @@ module _ (n o L : ℕ) (a b p cost : ℕ → ℕ) (may : ℕ → Bool) (ok : ℕ
       go true e = absurd (bad (removed i m e))
       go false e = e
 
-  pub upper : (t i m : ℕ) → t ≤ L → i < n → may i ≡ true → a i < t → t ≤ b i → Wins (ok (a i)) cost (2 ^ n) m → Family (ok t) (2 ^ n) (m + 2 ^ i)
+  pub upper : (t i m : ℕ) → t ≤ L → i < n → may i ≡ true → a i < t → t ≤ b i → Wins (ok (a i)) cost (2 ^ n) m
+      → Family (ok t) (2 ^ n) (m + 2 ^ i)
   upper t i m f l u x y w = record { inside = add-below n i m l k (w .inside); good = h .add t m i f l u k x y (w .good) }
     where
       k : bit m i ≡ false
@@ -126,7 +132,8 @@ module _ (n o L : ℕ) (a b p cost : ℕ → ℕ) (may : ℕ → Bool) (ok : ℕ
             sum = d .sum;
             covers = record {
               inside = omega arith;
-              good = h .drop (a (x .bid)) (d .rest) (x .bid) (omega arith) (λ y z g k e. omega arith) (d .lacks) (h .less t (a (x .bid)) _ (omega arith) (rw (d .sum) at (q .good)));
+              good = h .drop (a (x .bid)) (d .rest) (x .bid) (omega arith) (λ y z g k e. omega arith) (d .lacks)
+                  (h .less t (a (x .bid)) _ (omega arith) (rw (d .sum) at (q .good)));
             };
             price = ap cost (d .sum) ∙ c .join (x .bid) (d .rest) (x .inside) (d .lacks);
           }
@@ -143,12 +150,16 @@ module _ (n o L : ℕ) (a b p cost : ℕ → ℕ) (may : ℕ → Bool) (ok : ℕ
   unfolding plus
   cand-before t s f x = go (leastSet ok cost n (a (x .bid))) refl (leastSet-right ok cost n (a (x .bid)))
     where
-      go : (r : Found) → leastSet ok cost n (a (x .bid)) ≡ r → IsFirst (ok (a (x .bid))) cost (2 ^ n) r → Before (Candidate n a b cost may ok t) cost s
+      go : (r : Found) → leastSet ok cost n (a (x .bid)) ≡ r → IsFirst (ok (a (x .bid))) cost (2 ^ n) r
+          → Before (Candidate n a b cost may ok t) cost s
       go nothing e w = absurd (w (x .rest) (x .covers .inside) (x .covers .good))
       go (found m) e w = record {
         one = m + 2 ^ x .bid;
         good = record { bid = x .bid; inside = x .inside; usable = x .usable; begins = x .begins; ends = x .ends; value = rw e };
-        fore = record { cheap = omega (arith, paid, dear); early = λ q. omega (arith, w .earliest (x .rest) (x .covers .inside) (x .covers .good) (omega (arith, paid))) };
+        fore = record {
+          cheap = omega (arith, paid, dear);
+          early = λ q. omega (arith, w .earliest (x .rest) (x .covers .inside) (x .covers .good) (omega (arith, paid)));
+        };
       }
         where
           paid : cost (m + 2 ^ x .bid) ≡ cost m + p (x .bid)
@@ -159,7 +170,8 @@ module _ (n o L : ℕ) (a b p cost : ℕ → ℕ) (may : ℕ → Bool) (ok : ℕ
 
   -- THE PREFIX LAW
   pub prefix : (t : ℕ) (r : Found) → o < t → t ≤ L → IsLeast (Candidate n a b cost may ok t) cost r → r ≡ leastSet ok cost n t
-  prefix t r z f g = leastSet-is ok cost n t r (least-of (Candidate n a b cost may ok t) (Family (ok t) (2 ^ n)) cost (λ s. cand-in t s f) (λ s q. cand-before t s f (last-of t s z f q)) r g)
+  prefix t r z f g = leastSet-is ok cost n t r (least-of (Candidate n a b cost may ok t) (Family (ok t) (2 ^ n)) cost (λ s. cand-in t s f)
+      (λ s q. cand-before t s f (last-of t s z f q)) r g)
 
   pub start : (t : ℕ) → t ≤ o → leastSet ok cost n t ≡ found 0
   start t l = sym (leastSet-is ok cost n t (found 0) (record {
@@ -207,7 +219,8 @@ module _ (n o L : ℕ) (a b p cost : ℕ → ℕ) (may : ℕ → Bool) (ok : ℕ
     pub scan-leastSet : scan cost (reaches a b may at t) v k ≡ leastSet ok cost n t
     scan-leastSet = scanned (scan cost (reaches a b may at t) v k) (scan-least cost (reaches a b may at t) v k)
 
-  pub cost-plus : (i : ℕ) → i < n → a i ≤ L → costOf cost (plus i (leastSet ok cost n (a i))) ≡ raise (p i) (costOf cost (leastSet ok cost n (a i)))
+  pub cost-plus : (i : ℕ) → i < n → a i ≤ L → costOf cost (plus i (leastSet ok cost n (a i)))
+      ≡ raise (p i) (costOf cost (leastSet ok cost n (a i)))
   unfolding costOf plus raise
   cost-plus i l f = go (leastSet ok cost n (a i)) (leastSet-right ok cost n (a i))
     where
@@ -242,11 +255,14 @@ module _ (n o L : ℕ) (a b p cost : ℕ → ℕ) (may : ℕ → Bool) (ok : ℕ
     unfolding grow
     grown v k l f values = ap (plus (at k)) (go (leb (a (at k)) o) refl)
       where
-        go : (t : Bool) → leb (a (at k)) o ≡ t → cond t (found 0) (scan cost (reaches a b may at (a (at k))) v k) ≡ leastSet ok cost n (a (at k))
+        go : (t : Bool) → leb (a (at k)) o ≡ t → cond t (found 0) (scan cost (reaches a b may at (a (at k))) v k)
+            ≡ leastSet ok cost n (a (at k))
         go true e = sym (start (a (at k)) (leb-true (a (at k)) o e))
-        go false e = scan-leastSet at v k (a (at k)) (leb-false (a (at k)) o e) f (λ q d. r .bids q (omega arith)) (λ i d g u. ready n a at r k l i d (omega arith)) (λ q d g. values q d (omega arith))
+        go false e = scan-leastSet at v k (a (at k)) (leb-false (a (at k)) o e) f (λ q d. r .bids q (omega arith))
+            (λ i d g u. ready n a at r k l i d (omega arith)) (λ q d g. values q d (omega arith))
 
-    pub award : (v : ℕ → Found) → o < L → ((q : ℕ) → q < n → a (at q) < L → v q ≡ plus (at q) (leastSet ok cost n (a (at q)))) → scan cost (reaches a b may at L) v n ≡ leastSet ok cost n L
+    pub award : (v : ℕ → Found) → o < L → ((q : ℕ) → q < n → a (at q) < L → v q ≡ plus (at q) (leastSet ok cost n (a (at q))))
+        → scan cost (reaches a b may at L) v n ≡ leastSet ok cost n L
     award v z values = scan-leastSet at v n L z (omega arith) (r .bids) (λ i d g u. r .every i d) values
 
     pub grown-cost : (w : ℕ → Found) (k : ℕ) → k < n → a (at k) ≤ L
@@ -255,9 +271,13 @@ module _ (n o L : ℕ) (a b p cost : ℕ → ℕ) (may : ℕ → Bool) (ok : ℕ
     unfolding growCost costOf
     grown-cost w k l f values = ap (raise (p (at k))) (go (leb (a (at k)) o) refl)
       where
-        go : (t : Bool) → leb (a (at k)) o ≡ t → cond t (found 0) (scanCost (reaches a b may at (a (at k))) w k) ≡ costOf cost (leastSet ok cost n (a (at k)))
+        go : (t : Bool) → leb (a (at k)) o ≡ t → cond t (found 0) (scanCost (reaches a b may at (a (at k))) w k)
+            ≡ costOf cost (leastSet ok cost n (a (at k)))
         go true e = sym (ap (costOf cost) (start (a (at k)) (leb-true (a (at k)) o e)) ∙ ap found (c .empty))
-        go false e = scan-cost at w k (a (at k)) (leb-false (a (at k)) o e) f (λ q d. r .bids q (omega arith)) (λ i d g u. ready n a at r k l i d (omega arith)) (λ q d g. values q d (omega arith))
+        go false e = scan-cost at w k (a (at k)) (leb-false (a (at k)) o e) f (λ q d. r .bids q (omega arith))
+            (λ i d g u. ready n a at r k l i d (omega arith)) (λ q d g. values q d (omega arith))
 
-    pub award-cost : (w : ℕ → Found) → o < L → ((q : ℕ) → q < n → a (at q) < L → w q ≡ raise (p (at q)) (costOf cost (leastSet ok cost n (a (at q))))) → scanCost (reaches a b may at L) w n ≡ costOf cost (leastSet ok cost n L)
+    pub award-cost : (w : ℕ → Found) → o < L → ((q : ℕ) → q < n → a (at q) < L
+        → w q ≡ raise (p (at q)) (costOf cost (leastSet ok cost n (a (at q)))))
+        → scanCost (reaches a b may at L) w n ≡ costOf cost (leastSet ok cost n L)
     award-cost w z values = scan-cost at w n L z (omega arith) (r .bids) (λ i d g u. r .every i d) values

@@ -55,14 +55,16 @@ least-one P cost (found a) (found b) u v = ap found (le-antisymm (x .early same)
     same = le-antisymm (x .cheap) (y .cheap)
 
 -- candidates among which each set has one before it decide the least of the sets
-pub least-of : (P Q : ℕ → Type 0) (cost : ℕ → ℕ) → ((s : ℕ) → P s → Q s) → ((s : ℕ) → Q s → Before P cost s) → (r : Found) → IsLeast P cost r → IsLeast Q cost r
+pub least-of : (P Q : ℕ → Type 0) (cost : ℕ → ℕ) → ((s : ℕ) → P s → Q s) → ((s : ℕ) → Q s → Before P cost s) → (r : Found)
+    → IsLeast P cost r → IsLeast Q cost r
 least-of P Q cost f g nothing h = λ s q. h (g s q .one) (g s q .good)
 least-of P Q cost f g (found b) h = record {
   good = f b (h .good);
   fore = λ s q. precedes-trans (h .fore (g s q .one) (g s q .good)) (g s q .fore);
 }
 
-pub least-same : (P Q : ℕ → Type 0) (cost : ℕ → ℕ) → ((s : ℕ) → P s → Q s) → ((s : ℕ) → Q s → P s) → (r : Found) → IsLeast P cost r → IsLeast Q cost r
+pub least-same : (P Q : ℕ → Type 0) (cost : ℕ → ℕ) → ((s : ℕ) → P s → Q s) → ((s : ℕ) → Q s → P s) → (r : Found) → IsLeast P cost r
+    → IsLeast Q cost r
 least-same P Q cost f g = least-of P Q cost f (λ s q. record { one = s; good = g s q; fore = precedes-refl cost s })
 
 -- the sets of a family below n, as candidates
@@ -92,17 +94,29 @@ found-one e = cc
 pub none-found : {b : ℕ} → nothing ≡ found b → ⊥
 none-found e = let z : _≡_ {A = ℕ} 0 1 = cc in omega arith
 
-fore-of : (cost : ℕ → ℕ) (a b : ℕ) (t u w : Bool) → ltb (cost a) (cost b) ≡ t → eqb (cost a) (cost b) ≡ u → ltb a b ≡ w → t || (u && w) ≡ true → Precedes cost a b
-fore-of cost a b true u w x y z e = record { cheap = omega (arith, ltb-true (cost a) (cost b) x); early = λ q. omega (arith, ltb-true (cost a) (cost b) x) }
-fore-of cost a b false true true x y z e = record { cheap = omega (arith, eqb-true (cost a) (cost b) y); early = λ q. omega (arith, ltb-true a b z) }
+fore-of : (cost : ℕ → ℕ) (a b : ℕ) (t u w : Bool) → ltb (cost a) (cost b) ≡ t → eqb (cost a) (cost b) ≡ u → ltb a b ≡ w
+    → t || (u && w) ≡ true → Precedes cost a b
+fore-of cost a b true u w x y z e = record {
+  cheap = omega (arith, ltb-true (cost a) (cost b) x);
+  early = λ q. omega (arith, ltb-true (cost a) (cost b) x);
+}
+fore-of cost a b false true true x y z e = record
+    { cheap = omega (arith, eqb-true (cost a) (cost b) y); early = λ q. omega (arith, ltb-true a b z) }
 fore-of cost a b false true false x y z e = absurd (false≢true e)
 fore-of cost a b false false w x y z e = absurd (false≢true e)
 
-fore-not : (cost : ℕ → ℕ) (a b : ℕ) (t u w : Bool) → ltb (cost a) (cost b) ≡ t → eqb (cost a) (cost b) ≡ u → ltb a b ≡ w → t || (u && w) ≡ false → Precedes cost b a
+fore-not : (cost : ℕ → ℕ) (a b : ℕ) (t u w : Bool) → ltb (cost a) (cost b) ≡ t → eqb (cost a) (cost b) ≡ u → ltb a b ≡ w
+    → t || (u && w) ≡ false → Precedes cost b a
 fore-not cost a b true u w x y z e = absurd (true≢false e)
 fore-not cost a b false true true x y z e = absurd (true≢false e)
-fore-not cost a b false true false x y z e = record { cheap = omega (arith, ltb-false (cost a) (cost b) x); early = λ q. omega (arith, ltb-false a b z) }
-fore-not cost a b false false w x y z e = record { cheap = omega (arith, ltb-false (cost a) (cost b) x); early = λ q. absurd (eqb-false (cost a) (cost b) y (sym q)) }
+fore-not cost a b false true false x y z e = record {
+  cheap = omega (arith, ltb-false (cost a) (cost b) x);
+  early = λ q. omega (arith, ltb-false a b z);
+}
+fore-not cost a b false false w x y z e = record {
+  cheap = omega (arith, ltb-false (cost a) (cost b) x);
+  early = λ q. absurd (eqb-false (cost a) (cost b) y (sym q));
+}
 
 pub earlier-true : (cost : ℕ → ℕ) (a b : ℕ) → earlier cost a b ≡ true → Precedes cost a b
 unfolding earlier
@@ -113,7 +127,8 @@ unfolding earlier
 earlier-false cost a b = fore-not cost a b (ltb (cost a) (cost b)) (eqb (cost a) (cost b)) (ltb a b) refl refl refl
 
 -- of the candidates P and one more, x
-pub lesser-least : (P Q : ℕ → Type 0) (cost : ℕ → ℕ) (x r : Found) → ((s : ℕ) → P s → Q s) → ((s : ℕ) → x ≡ found s → Q s) → ((s : ℕ) → Q s → P s ⊎ (x ≡ found s)) → IsLeast P cost r → IsLeast Q cost (lesser cost x r)
+pub lesser-least : (P Q : ℕ → Type 0) (cost : ℕ → ℕ) (x r : Found) → ((s : ℕ) → P s → Q s) → ((s : ℕ) → x ≡ found s → Q s)
+    → ((s : ℕ) → Q s → P s ⊎ (x ≡ found s)) → IsLeast P cost r → IsLeast Q cost (lesser cost x r)
 unfolding lesser
 lesser-least P Q cost nothing r f g d h = least-same P Q cost f (λ s q. go s (d s q)) r h
   where
@@ -161,8 +176,10 @@ module _ (cost : ℕ → ℕ) (test : ℕ → Bool) (v : ℕ → Found) where
       go (inl e) = inr (rw e at (q .passes), rw e at (q .value))
       go (inr l) = inl (record { at = q .at; inside = l; passes = q .passes; value = q .value })
 
-  pub scan-step : (k : ℕ) (t : Bool) (r : Found) → test k ≡ t → IsLeast (Picked test v k) cost r → IsLeast (Picked test v (suc k)) cost (cond t (lesser cost (v k) r) r)
-  scan-step k true r e h = lesser-least (Picked test v k) (Picked test v (suc k)) cost (v k) r (more k) (λ s. here k s e) (λ s q. go s (cut k s q)) h
+  pub scan-step : (k : ℕ) (t : Bool) (r : Found) → test k ≡ t → IsLeast (Picked test v k) cost r
+      → IsLeast (Picked test v (suc k)) cost (cond t (lesser cost (v k) r) r)
+  scan-step k true r e h = lesser-least (Picked test v k) (Picked test v (suc k)) cost (v k) r (more k) (λ s. here k s e)
+      (λ s q. go s (cut k s q)) h
     where
       go : (s : ℕ) → Picked test v k s ⊎ ((test k ≡ true) × (v k ≡ found s)) → Picked test v k s ⊎ (v k ≡ found s)
       go s (inl p) = inl p
@@ -188,20 +205,24 @@ cost-lesser cost nothing r = refl
 cost-lesser cost (found a) nothing = refl
 cost-lesser cost (found a) (found b) = go (earlier cost a b) (ltb (cost a) (cost b)) refl refl
   where
-    go : (t u : Bool) → earlier cost a b ≡ t → ltb (cost a) (cost b) ≡ u → costOf cost (cond t (found a) (found b)) ≡ cond u (found (cost a)) (found (cost b))
+    go : (t u : Bool) → earlier cost a b ≡ t → ltb (cost a) (cost b) ≡ u
+        → costOf cost (cond t (found a) (found b)) ≡ cond u (found (cost a)) (found (cost b))
     go true true e d = refl
     go true false e d = ap found (omega (arith, earlier-true cost a b e .cheap, ltb-false (cost a) (cost b) d))
     go false true e d = ap found (omega (arith, earlier-false cost a b e .cheap, ltb-true (cost a) (cost b) d))
     go false false e d = refl
 
 -- the least cost is the cost of the least
-pub cost-scan : (cost : ℕ → ℕ) (test : ℕ → Bool) (v w : ℕ → Found) (k : ℕ) → ((q : ℕ) → q < k → test q ≡ true → w q ≡ costOf cost (v q)) → costOf cost (scan cost test v k) ≡ scanCost test w k
+pub cost-scan : (cost : ℕ → ℕ) (test : ℕ → Bool) (v w : ℕ → Found) (k : ℕ) → ((q : ℕ) → q < k → test q ≡ true → w q ≡ costOf cost (v q))
+    → costOf cost (scan cost test v k) ≡ scanCost test w k
 unfolding scan scanCost costOf
 cost-scan cost test v w zero f = refl
-cost-scan cost test v w (suc k) f = cost-cond cost (test k) (lesser cost (v k) (scan cost test v k)) (scan cost test v k) ∙ go (test k) refl (cost-scan cost test v w k (λ q l. f q (omega arith)))
+cost-scan cost test v w (suc k) f = cost-cond cost (test k) (lesser cost (v k) (scan cost test v k)) (scan cost test v k)
+    ∙ go (test k) refl (cost-scan cost test v w k (λ q l. f q (omega arith)))
   where
     go : (t : Bool) → test k ≡ t → costOf cost (scan cost test v k) ≡ scanCost test w k
-        → cond t (costOf cost (lesser cost (v k) (scan cost test v k))) (costOf cost (scan cost test v k)) ≡ cond t (lesserCost (w k) (scanCost test w k)) (scanCost test w k)
+        → cond t (costOf cost (lesser cost (v k) (scan cost test v k))) (costOf cost (scan cost test v k))
+        ≡ cond t (lesserCost (w k) (scanCost test w k)) (scanCost test w k)
     go true e d = rw (cost-lesser, d, f k (omega arith) e)
     go false e d = d
 
@@ -231,7 +252,14 @@ pub min-one : (P Q : ℕ → Type 0) → ((s : ℕ) → P s → Under Q s) → (
 min-one P Q f g nothing nothing u v = refl
 min-one P Q f g nothing (found b) u v = absurd (u (g b (v .0) .one) (g b (v .0) .good))
 min-one P Q f g (found a) nothing u v = absurd (v (f a (u .0) .one) (f a (u .0) .good))
-min-one P Q f g (found a) (found b) u v = ap found (omega (arith, u .1 (g b (v .0) .one) (g b (v .0) .good), g b (v .0) .under, v .1 (f a (u .0) .one) (f a (u .0) .good), f a (u .0) .under))
+min-one P Q f g (found a) (found b) u v = ap found
+    (omega (
+      arith,
+      u .1 (g b (v .0) .one) (g b (v .0) .good),
+      g b (v .0) .under,
+      v .1 (f a (u .0) .one) (f a (u .0) .good),
+      f a (u .0) .under,
+    ))
 
 least-min : (P : ℕ → Type 0) (r : Found) → IsLeast P (λ e. e) r → IsMin P r
 least-min P nothing h = h

@@ -47,16 +47,20 @@ module _ (L : ℕ) (has : ℕ → ℕ → Bool) (n : ℕ) (a b : ℕ → ℕ)
   there : (u s : ℕ) → coversFrom (λ x. x) u has n L s ≡ true → coversFrom (turn L) 0 has n (L - u) s ≡ true
   unfolding turn
   there u s e = covers-of (turn L) 0 L has n (λ i. L - b i) (λ i. L - a i) turned (L - u) s
-      (λ y z g. let m = meets-at (λ x. x) u L has n a b sees L s (L - 1 - y) e (omega arith) (omega arith) in hit-of has n s (L - 1 - y) (m .who) (m .inside) (m .in-set) (m .covers-it))
+      (λ y z g. let m = meets-at (λ x. x) u L has n a b sees L s (L - 1 - y) e (omega arith) (omega arith) in
+      hit-of has n s (L - 1 - y) (m .who) (m .inside) (m .in-set) (m .covers-it))
 
   back : (u s : ℕ) → coversFrom (turn L) 0 has n (L - u) s ≡ true → coversFrom (λ x. x) u has n L s ≡ true
   unfolding turn
-  back u s e = covers-of (λ x. x) u L has n a b sees L s (λ x z g. go x z g (meets-at (turn L) 0 L has n (λ i. L - b i) (λ i. L - a i) turned (L - u) s (L - 1 - x) e (omega arith) (omega arith)))
+  back u s e = covers-of (λ x. x) u L has n a b sees L s
+      (λ x z g. go x z g (meets-at (turn L) 0 L has n (λ i. L - b i) (λ i. L - a i) turned (L - u) s (L - 1 - x) e (omega arith)
+      (omega arith)))
     where
       go : (x : ℕ) → u ≤ x → x < L → Member has n s (L - 1 - (L - 1 - x)) → hit has n s x ≡ true
       go x z g m = hit-of has n s x (m .who) (m .inside) (m .in-set) (ap (has (m .who)) (omega arith) ∙ m .covers-it)
 
-  pub suffix : (cost : ℕ → ℕ) (m u : ℕ) → leastSet (coversFrom (λ x. x) u has n) cost m L ≡ leastSet (coversFrom (turn L) 0 has n) cost m (L - u)
+  pub suffix : (cost : ℕ → ℕ) (m u : ℕ) → leastSet (coversFrom (λ x. x) u has n) cost m L
+      ≡ leastSet (coversFrom (turn L) 0 has n) cost m (L - u)
   suffix cost m u = leastSet-is (coversFrom (turn L) 0 has n) cost m (L - u) r
       (least-same (Family (coversFrom (λ x. x) u has n L) (2 ^ m)) (Family (coversFrom (turn L) 0 has n (L - u)) (2 ^ m)) cost
       (λ s q. record { inside = q .inside; good = there u s (q .good) }) (λ s q. record { inside = q .inside; good = back u s (q .good) })

@@ -25,7 +25,8 @@ module _ (ok : ℕ → Bool) (price : ℕ → ℕ) where
       go (inl p) = rw p (h (rw p at g))
       go (inr k) = f s k g
 
-  step : (n : ℕ) (t u : Bool) (r : Found) → ok n ≡ t → dearer price n r ≡ u → IsFirst ok price n r → IsFirst ok price (suc n) (choose t u r n)
+  step : (n : ℕ) (t u : Bool) (r : Found) → ok n ≡ t → dearer price n r ≡ u → IsFirst ok price n r
+      → IsFirst ok price (suc n) (choose t u r n)
   unfolding choose dearer
   step n false u nothing e d h = last n h (λ g. absurd (false≢true (sym e ∙ g)))
   step n false u (found b) e d h = record {
@@ -74,7 +75,8 @@ wins-of ok f g n b e w = record {
   earliest = λ s l h q. w .earliest s l h (omega (arith, e s h, e b (w .good)));
 }
 
-pub winners-right : (ok : ℕ → Bool) (ps : List ℕ) (s : ℕ) → s < 2 ^ length ps → ok s ≡ true → Wins ok (cost ps) (2 ^ length ps) (winners ok ps)
+pub winners-right : (ok : ℕ → Bool) (ps : List ℕ) (s : ℕ) → s < 2 ^ length ps → ok s ≡ true
+    → Wins ok (cost ps) (2 ^ length ps) (winners ok ps)
 unfolding winners valueOf
 winners-right ok ps s l g = go (first ok (cost ps) (2 ^ length ps)) (first-right ok (cost ps) (2 ^ length ps))
   where
@@ -92,6 +94,8 @@ cost-set (p ∷ ps) zero q s l = go (bit s 0)
     go false = omega arith
 cost-set (p ∷ ps) (suc i) q s l = omega (arith, cost-set ps i q (s / 2) (omega arith))
 
--- the tie rule in the paper's words: of a least-cost set other than the winners, the latest bid that tells the two apart is in it and not in the winners
-pub tie : (ok : ℕ → Bool) (ps : List ℕ) (s : ℕ) → s < 2 ^ length ps → ok s ≡ true → cost ps s ≡ cost ps (winners ok ps) → (s ≡ winners ok ps → ⊥) → Stands (winners ok ps) s
+-- the tie rule in the paper's words: of a least-cost set other than the winners, the latest bid that tells the two apart is in it
+-- and not in the winners
+pub tie : (ok : ℕ → Bool) (ps : List ℕ) (s : ℕ) → s < 2 ^ length ps → ok s ≡ true → cost ps s ≡ cost ps (winners ok ps)
+    → (s ≡ winners ok ps → ⊥) → Stands (winners ok ps) s
 tie ok ps s l g e d = stands (length ps) (winners ok ps) s l (omega (arith, winners-right ok ps s l g .earliest s l g e))

@@ -43,7 +43,8 @@ late-most i j = go (ltb j i)
 
 -- fractions: a/b ≤ c/d ≤ e/f
 pub chain : (a b c d e f : ℕ) → 0 < d → a * d ≤ c * b → c * f ≤ e * d → a * f ≤ e * b
-chain a b c d e f l g h = le-of-mul-le-mul-right (omega (arith, mul-le-mul-right f g, mul-le-mul-right b h, mul-right-comm a f d, mul-right-comm c b f, mul-right-comm e b d)) l
+chain a b c d e f l g h = le-of-mul-le-mul-right (omega
+    (arith, mul-le-mul-right f g, mul-le-mul-right b h, mul-right-comm a f d, mul-right-comm c b f, mul-right-comm e b d)) l
 
 -- a/b < c/d ≤ e/f
 pub chain-lt : (a b c d e f : ℕ) → 0 < f → a * d < c * b → c * f ≤ e * d → a * f < e * b
@@ -65,19 +66,31 @@ module _ (p r : ℕ → ℕ) where
   step : (n : ℕ) (t u : Bool) (b : Found) → ltb 0 (r n) ≡ t → cheaper p r n b ≡ u → IsPick p r n b → IsPick p r (suc n) (choose t u b n)
   unfolding choose cheaper
   step n false u nothing e d h = last n h (λ g. omega (arith, ltb-false 0 (r n) e))
-  step n false u (found b) e d h = record { inside = omega arith; good = h .good; least = last n (h .least) (λ g. absurd (omega (arith, ltb-false 0 (r n) e))) }
+  step n false u (found b) e d h = record {
+    inside = omega arith;
+    good = h .good;
+    least = last n (h .least) (λ g. absurd (omega (arith, ltb-false 0 (r n) e)));
+  }
   step n true false nothing e d h = absurd (true≢false d)
   step n true false (found b) e d h = record {
     inside = omega arith;
     good = h .good;
     least = last n (h .least) (λ g. omega (arith, ltb-false (p n * r b) (p b * r n) d, late-no b n (omega (arith, h .inside))));
   }
-  step n true true nothing e d h = record { inside = omega arith; good = ltb-true _ _ e; least = last n (λ s l g. absurd (h s l g)) (λ g. omega (arith, late-no n n (omega arith))) }
+  step n true true nothing e d h = record {
+    inside = omega arith;
+    good = ltb-true _ _ e;
+    least = last n (λ s l g. absurd (h s l g)) (λ g. omega (arith, late-no n n (omega arith)));
+  }
   step n true true (found b) e d h = record {
     inside = omega arith;
     good = ltb-true _ _ e;
     least = last n
-        (λ s l g. omega (arith, chain-lt (p n) (r n) (p b) (r b) (p s) (r s) g (ltb-true _ _ d) (omega (arith, h .least s l g)), late-most n s))
+        (λ s l g. omega (
+          arith,
+          chain-lt (p n) (r n) (p b) (r b) (p s) (r s) g (ltb-true _ _ d) (omega (arith, h .least s l g)),
+          late-most n s,
+        ))
         (λ g. omega (arith, late-no n n (omega arith)));
   }
 

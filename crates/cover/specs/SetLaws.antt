@@ -114,7 +114,8 @@ hit-some has (suc n) s x e = go (bit s n) (has n x) refl refl e (hit-some has n 
     up : Member has n s x → Member has (suc n) s x
     up m = record { who = m .who; inside = omega (arith, m .inside); in-set = m .in-set; covers-it = m .covers-it }
 
-    go : (a b : Bool) → bit s n ≡ a → has n x ≡ b → a && b || hit has n s x ≡ true → (hit has n s x ≡ true → Member has n s x) → Member has (suc n) s x
+    go : (a b : Bool) → bit s n ≡ a → has n x ≡ b → a && b || hit has n s x ≡ true → (hit has n s x ≡ true → Member has n s x)
+        → Member has (suc n) s x
     go true true f g e ih = record { who = n; inside = omega arith; in-set = f; covers-it = g }
     go true false f g e ih = up (ih e)
     go false b f g e ih = up (ih e)

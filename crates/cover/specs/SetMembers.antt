@@ -43,7 +43,11 @@ pub record Removed (s i : ℕ) : Type 0 where
 
 pub removed : (i s : ℕ) → bit s i ≡ true → Removed s i
 unfolding bit
-removed zero s e = record { rest = s - 1; sum = omega (arith, eqb-true (s % 2) 1 e); lacks = ne-eqb ((s - 1) % 2) 1 (λ p. omega (arith, eqb-true (s % 2) 1 e)) }
+removed zero s e = record {
+  rest = s - 1;
+  sum = omega (arith, eqb-true (s % 2) 1 e);
+  lacks = ne-eqb ((s - 1) % 2) 1 (λ p. omega (arith, eqb-true (s % 2) 1 e));
+}
 removed (suc i) s e = up (removed i (s / 2) e)
   where
     up : Removed (s / 2) i → Removed s (suc i)
@@ -57,7 +61,12 @@ pub add-below : (n i m : ℕ) → i < n → bit m i ≡ false → m < 2 ^ n → 
 unfolding bit
 add-below zero i m l e b = absurd (omega arith)
 add-below (suc n) zero m l e b = omega (arith, pow-suc 2 n, eqb-false (m % 2) 1 e)
-add-below (suc n) (suc i) m l e b = omega (arith, pow-suc 2 n, pow-suc 2 i, add-below n i (m / 2) (omega arith) e (omega (arith, pow-suc 2 n)))
+add-below (suc n) (suc i) m l e b = omega (
+  arith,
+  pow-suc 2 n,
+  pow-suc 2 i,
+  add-below n i (m / 2) (omega arith) e (omega (arith, pow-suc 2 n)),
+)
 
 pub cost-none : (ps : List ℕ) → cost ps 0 ≡ 0
 unfolding cost bit

@@ -1,4 +1,5 @@
--- Listed values by their places; a list written cell by cell is the listed values and the old cells past them; and sums over it. Assumes nothing.
+-- Listed values by their places; a list written cell by cell is the listed values and the old cells past them; and sums over it.
+-- Assumes nothing.
 use mathlib.Core.Path.{_≡_, refl, sym, ap, _∙_}
 use mathlib.Core.Bool.{Bool, true, false}
 use mathlib.Core.List.{List, [], _∷_, _++_, map}
@@ -42,7 +43,8 @@ pub record Written (f : ℕ → ℕ) (old new : List ℕ) (j : ℕ) : Type 0 whe
 pub written-none : (f : ℕ → ℕ) (old : List ℕ) → Written f old old 0
 written-none f old = record { sized = refl; values = λ i l. absurd (omega arith); kept = λ i l. refl }
 
-pub written-more : (f : ℕ → ℕ) (old new : List ℕ) (j v : ℕ) → j < length old → v ≡ f j → Written f old new j → Written f old (set new j v) (j + 1)
+pub written-more : (f : ℕ → ℕ) (old new : List ℕ) (j v : ℕ) → j < length old → v ≡ f j → Written f old new j
+    → Written f old (set new j v) (j + 1)
 written-more f old new j v l e h = record {
   sized = length-set new j v ∙ h .sized;
   values = λ i d. go i d (eqb i j) refl;
@@ -58,7 +60,13 @@ unfolding listed
 listed-of zero f old new l h = ext-getD 0 new old (h .sized) (λ i d. h .kept i (omega arith))
 listed-of (suc n) f [] new l h = absurd (omega arith)
 listed-of (suc n) f (x ∷ old) [] l h = absurd (omega (arith, h .sized))
-listed-of (suc n) f (x ∷ old) (y ∷ new) l h = go (h .values 0 (omega arith)) (listed-of n (λ i. f (suc i)) old new (omega arith) (record { sized = omega (arith, h .sized); values = λ i d. h .values (suc i) (omega arith); kept = λ i d. h .kept (suc i) (omega arith) }))
+listed-of (suc n) f (x ∷ old) (y ∷ new) l h = go (h .values 0 (omega arith))
+    (listed-of n (λ i. f (suc i)) old new (omega arith)
+    (record {
+      sized = omega (arith, h .sized);
+      values = λ i d. h .values (suc i) (omega arith);
+      kept = λ i d. h .kept (suc i) (omega arith);
+    }))
   where
     go : y ≡ f 0 → new ≡ listed n (λ i. f (suc i)) ++ drop n old → y ∷ new ≡ f 0 ∷ (listed n (λ i. f (suc i)) ++ drop n old)
     go e g = rw (e, g)
@@ -70,7 +78,8 @@ listed-at (suc n) f xs zero l = refl
 listed-at (suc n) f xs (suc i) l = listed-at n (λ i. f (suc i)) xs i (omega arith)
 
 pub as-listed : (xs : List ℕ) (n : ℕ) (f : ℕ → ℕ) → length xs ≡ n → ((i : ℕ) → i < n → getD xs i 0 ≡ f i) → xs ≡ listed n f
-as-listed xs n f e h = ext-getD 0 xs (listed n f) (e ∙ sym (length-listed n f)) (λ i l. h i (omega arith) ∙ sym (getD-listed n f i 0 (omega arith)))
+as-listed xs n f e h = ext-getD 0 xs (listed n f) (e ∙ sym (length-listed n f))
+    (λ i l. h i (omega arith) ∙ sym (getD-listed n f i 0 (omega arith)))
 
 -- a new list is all zeros
 pub zeros : (n s : ℕ) → _≡_ {A = ℕ} (getD (replicate {A = ℕ} n 0) s 0) 0

@@ -1,4 +1,5 @@
--- Where each cell has two bidders the others cover without any one bid, for both mechanisms; and the winners of both cover. Assumes nothing.
+-- Where each cell has two bidders the others cover without any one bid, for both mechanisms; and the winners of both cover.
+-- Assumes nothing.
 use mathlib.Core.Path.{_≡_, refl, ap, _∙_}
 use mathlib.Core.Logic.{_⊎_, inl, inr}
 use mathlib.Core.List.{List}
@@ -36,7 +37,8 @@ module _ (has : ℕ → ℕ → Bool) (k x : ℕ) where
   one-before zero l b = absurd (omega arith)
   one-before (suc n) l b = go (has n x) refl b (one-before n)
     where
-      go : (t : Bool) → has n x ≡ t → 1 ≤ when t 1 + bidders has n x → (n ≤ k → 1 ≤ bidders has n x → Another has n k x) → Another has (suc n) k x
+      go : (t : Bool) → has n x ≡ t → 1 ≤ when t 1 + bidders has n x → (n ≤ k → 1 ≤ bidders has n x → Another has n k x)
+          → Another has (suc n) k x
       go true e b ih = record { who = n; inside = omega arith; other = λ f. omega arith; covers-it = e }
       go false e b ih = up n (ih (omega arith) (omega arith))
 
@@ -45,7 +47,8 @@ module _ (has : ℕ → ℕ → Bool) (k x : ℕ) where
   another zero b = absurd (omega arith)
   another (suc n) b = go (has n x) (eqb n k) refl refl b (another n)
     where
-      go : (t u : Bool) → has n x ≡ t → eqb n k ≡ u → 2 ≤ when t 1 + bidders has n x → (2 ≤ bidders has n x → Another has n k x) → Another has (suc n) k x
+      go : (t u : Bool) → has n x ≡ t → eqb n k ≡ u → 2 ≤ when t 1 + bidders has n x → (2 ≤ bidders has n x → Another has n k x)
+          → Another has (suc n) k x
       go true true e f b ih = up n (one-before n (omega (arith, eqb-true n k f)) (omega arith))
       go true false e f b ih = record { who = n; inside = omega arith; other = eqb-false n k f; covers-it = e }
       go false u e f b ih = up n (ih (omega arith))
@@ -81,7 +84,8 @@ each-at P (suc L) e x l = go (eq-or-lt-of-le (le-of-suc-le-suc l)) (each-at P L 
 
 taken-below : (B : ℕ → Bid) (n k f : ℕ) (O : List ℕ) → length O ≤ f → taken k (run B n f O) ≡ true → k < n
 unfolding taken
-taken-below B n k = rounds B n (λ O t. taken k t ≡ true → k < n) (λ O e z. absurd (false≢true z)) (λ O i t b ih z. go i (eqb i k) (taken k t) refl (b .inside) z ih)
+taken-below B n k = rounds B n (λ O t. taken k t ≡ true → k < n) (λ O e z. absurd (false≢true z))
+    (λ O i t b ih z. go i (eqb i k) (taken k t) refl (b .inside) z ih)
   where
     go : (i : ℕ) (a c : Bool) → eqb i k ≡ a → i < n → a || c ≡ true → (c ≡ true → k < n) → k < n
     go i true c e l z ih = omega (arith, eqb-true i k e)
@@ -97,7 +101,8 @@ module _ (has : ℕ → ℕ → Bool) (n L : ℕ) (two : each has n L 2 ≡ true
   pub others-cover : (i : ℕ) → covers has n L (others n i) ≡ true
   unfolding covers others
   others-cover i = all-of (hit has n (others n i)) L (λ x l. let a = another has i x n (at-least-two x l) in
-      hit-of has n (others n i) x (a .who) (a .inside) (pack-bit (λ j. not (eqb j i)) n (a .who) (a .inside) ∙ ap not (ne-eqb (a .who) i (a .other))) (a .covers-it))
+      hit-of has n (others n i) x (a .who) (a .inside)
+      (pack-bit (λ j. not (eqb j i)) n (a .who) (a .inside) ∙ ap not (ne-eqb (a .who) i (a .other))) (a .covers-it))
 
   pub spare-set : (i : ℕ) → i < n → without i (covers has n L) (others n i) ≡ true
   spare-set i l = without-join (covers has n L) i (others n i) (others-cover i) (others-without n i l)
@@ -106,20 +111,28 @@ module _ (has : ℕ → ℕ → Bool) (n L : ℕ) (two : each has n L 2 ≡ true
   pub spare-bids : (ps : List ℕ) (k : ℕ) → Each (Covered (withdrawn k (bids has ps)) n) (cells L)
   unfolding bids
   spare-bids ps k = each-of (Covered (withdrawn k (bids has ps)) n) L (λ x l. let a = another has k x n (at-least-two x l) in
-      record { who = a .who; inside = a .inside; covers = ap (λ (b : Bid). b .has x) (withdrawn-other k (bids has ps) (a .who) (a .other)) ∙ a .covers-it })
+      record {
+        who = a .who;
+        inside = a .inside;
+        covers = ap (λ (b : Bid). b .has x) (withdrawn-other k (bids has ps) (a .who) (a .other))
+            ∙ a .covers-it;
+      })
 
   covered : (ps : List ℕ) → Each (Covered (bids has ps) n) (cells L)
   unfolding bids
-  covered ps = each-of (Covered (bids has ps) n) L (λ x l. let a = another has n x n (at-least-two x l) in record { who = a .who; inside = a .inside; covers = a .covers-it })
+  covered ps = each-of (Covered (bids has ps) n) L
+      (λ x l. let a = another has n x n (at-least-two x l) in record { who = a .who; inside = a .inside; covers = a .covers-it })
 
 -- the winners of both mechanisms cover
 module _ (has : ℕ → ℕ → Bool) (ps : List ℕ) (L : ℕ) (two : each has (length ps) L 2 ≡ true) where
   pub least-wins : Wins (covers has (length ps) L) (cost ps) (2 ^ length ps) (winners (covers has (length ps) L) ps)
-  least-wins = winners-right (covers has (length ps) L) ps (others (length ps) 0) (others-below (length ps) 0) (others-cover has (length ps) L two 0)
+  least-wins = winners-right (covers has (length ps) L) ps (others (length ps) 0) (others-below (length ps) 0)
+      (others-cover has (length ps) L two 0)
 
   pub least-covers : (x : ℕ) → x < L → Member has (length ps) (winners (covers has (length ps) L) ps) x
   unfolding covers
-  least-covers x l = hit-some has (length ps) (winners (covers has (length ps) L) ps) x (all-at (hit has (length ps) (winners (covers has (length ps) L) ps)) L (least-wins .good) x l)
+  least-covers x l = hit-some has (length ps) (winners (covers has (length ps) L) ps) x
+      (all-at (hit has (length ps) (winners (covers has (length ps) L) ps)) L (least-wins .good) x l)
 
   -- a bid that the greedy run takes has the cell
   pub record Taken (x : ℕ) : Type 0 where

@@ -1,4 +1,5 @@
--- The least cover with VCG payments is a threshold mechanism, whatever the family of sets, where some set of it is without the bid. Assumes nothing.
+-- The least cover with VCG payments is a threshold mechanism, whatever the family of sets, where some set of it is without the
+-- bid. Assumes nothing.
 use mathlib.Core.Path.{_≡_, refl}
 use mathlib.Core.Bool.{Bool, true, false, not, _&&_, false≢true}
 use mathlib.Core.List.{List}
@@ -30,7 +31,8 @@ pub own-price : (ps : List ℕ) (i s : ℕ) → i < length ps → bit s i ≡ tr
 own-price ps i s l e = omega (arith, rw (set-getD ps i 0, e) at (cost-set ps i (getD ps i 0) s l))
 
 -- the set s of the family is without bid i
-module _ (ok : ℕ → Bool) (ps : List ℕ) (i : ℕ) (inside : i < length ps) (s : ℕ) (below : s < 2 ^ length ps) (spare : without i ok s ≡ true) where
+module _ (ok : ℕ → Bool) (ps : List ℕ) (i : ℕ) (inside : i < length ps) (s : ℕ) (below : s < 2 ^ length ps)
+    (spare : without i ok s ≡ true) where
   -- what the other bids of a set cost
   abbrev others : ℕ → ℕ
   others t = cost (set ps i 0) t
@@ -67,11 +69,17 @@ module _ (ok : ℕ → Bool) (ps : List ℕ) (i : ℕ) (inside : i < length ps) 
       under = let g = without-split ok i rest (alt 0 .good) in omega (arith, rw (g .1) at (beats rest (alt 0 .inside) (g .0)))
 
       go : (f : Found) → IsFirst (λ t. ok t && bit t i) others (2 ^ length ps) f →
-          ((bit m i ≡ true) → (q ≤ margin (others rest) others f) × (margin (others rest) others f ≡ others rest - others m)) × ((bit m i ≡ false) → margin (others rest) others f ≤ q)
+          ((bit m i ≡ true) → (q ≤ margin (others rest) others f) × (margin (others rest) others f ≡ others rest - others m))
+          × ((bit m i ≡ false) → margin (others rest) others f ≤ q)
       go nothing h = (λ e. absurd (h m (wins q .inside) (rw (wins q .good, e))), λ e. omega arith)
       go (found v) h = let g = and-split (ok v) (bit v i) (h .good) in (
-        λ e. let l = h .least m (wins q .inside) (rw (wins q .good, e)) in omega (arith, rw e at under, rw (e, g .1) at (beats v (h .inside) (g .0))),
-        λ e. omega (arith, alt 0 .least m (wins q .inside) (without-join ok i m (wins q .good) e), rw (e, g .1) at (beats v (h .inside) (g .0))),
+        λ e. let l = h .least m (wins q .inside) (rw (wins q .good, e)) in
+            omega (arith, rw e at under, rw (e, g .1) at (beats v (h .inside) (g .0))),
+        λ e. omega (
+          arith,
+          alt 0 .least m (wins q .inside) (without-join ok i m (wins q .good) e),
+          rw (e, g .1) at (beats v (h .inside) (g .0)),
+        ),
       )
 
   pub threshold : Threshold (λ q. bit (winners ok (set ps i q)) i) (vcgThreshold ok ps i)
@@ -109,41 +117,47 @@ module _ (ok : ℕ → Bool) (ps : List ℕ) (i : ℕ) (inside : i < length ps) 
       own = own-price ps i (winners ok ps) inside e
 
       less : cost ps (winners ok ps) ≤ cost ps (winners (without i ok) ps)
-      less = winners-right ok ps s below (without-split ok i s spare .0) .least (winners (without i ok) ps) (v .inside) (without-split ok i (winners (without i ok) ps) (v .good) .0)
+      less = winners-right ok ps s below (without-split ok i s spare .0) .least (winners (without i ok) ps) (v .inside)
+          (without-split ok i (winners (without i ok) ps) (v .good) .0)
 
-      go : (b : Bool) → b ≡ true → payment b (cost ps (winners (without i ok) ps)) (cost ps (winners ok ps)) (getD ps i 0) + cost ps (winners ok ps) ≡ cost ps (winners (without i ok) ps) + getD ps i 0
+      go : (b : Bool) → b ≡ true → payment b (cost ps (winners (without i ok) ps)) (cost ps (winners ok ps)) (getD ps i 0)
+          + cost ps (winners ok ps) ≡ cost ps (winners (without i ok) ps) + getD ps i 0
       go true f = omega (arith, own, less)
       go false f = absurd (false≢true f)
 
 -- bid i may offer fewer cells: fewer sets with it are in the family ok′, and the same without it
-module _ (ok ok′ : ℕ → Bool) (ps : List ℕ) (i : ℕ) (fewer : (s : ℕ) → ok′ s ≡ true → ok s ≡ true) (same : without i ok′ ≡ without i ok) where
-  -- it never raises the threshold
-  pub threshold-fewer : vcgThreshold ok′ ps i ≤ vcgThreshold ok ps i
-  unfolding vcgThreshold margin
-  threshold-fewer = rw same (go (first with′ price n) (first with-i price n) (first-right with′ price n) (first-right with-i price n))
-    where
-      n : ℕ
-      n = 2 ^ length ps
+module _ (ok ok′ : ℕ → Bool) (ps : List ℕ) (i : ℕ) (fewer : (s : ℕ) → ok′ s ≡ true → ok s ≡ true) (same : without i ok′ ≡ without i ok)
+  where
+    -- it never raises the threshold
+    pub threshold-fewer : vcgThreshold ok′ ps i ≤ vcgThreshold ok ps i
+    unfolding vcgThreshold margin
+    threshold-fewer = rw same (go (first with′ price n) (first with-i price n) (first-right with′ price n) (first-right with-i price n))
+      where
+        n : ℕ
+        n = 2 ^ length ps
 
-      price : ℕ → ℕ
-      price t = cost (set ps i 0) t
+        price : ℕ → ℕ
+        price t = cost (set ps i 0) t
 
-      with-i : ℕ → Bool
-      with-i t = ok t && bit t i
+        with-i : ℕ → Bool
+        with-i t = ok t && bit t i
 
-      with′ : ℕ → Bool
-      with′ t = ok′ t && bit t i
+        with′ : ℕ → Bool
+        with′ t = ok′ t && bit t i
 
-      more : (t : ℕ) → with′ t ≡ true → with-i t ≡ true
-      more t e = let g = and-split (ok′ t) (bit t i) e in rw (fewer t (g .0), g .1)
+        more : (t : ℕ) → with′ t ≡ true → with-i t ≡ true
+        more t e = let g = and-split (ok′ t) (bit t i) e in rw (fewer t (g .0), g .1)
 
-      go : (f g : Found) → IsFirst with′ price n f → IsFirst with-i price n g → margin (price (winners (without i ok) (set ps i 0))) price f ≤ margin (price (winners (without i ok) (set ps i 0))) price g
-      go nothing g x y = omega arith
-      go (found v) nothing x y = absurd (y v (x .inside) (more v (x .good)))
-      go (found v) (found u) x y = omega (arith, y .least v (x .inside) (more v (x .good)))
+        go : (f g : Found) → IsFirst with′ price n f → IsFirst with-i price n g
+            → margin (price (winners (without i ok) (set ps i 0))) price f ≤ margin (price (winners (without i ok) (set ps i 0))) price g
+        go nothing g x y = omega arith
+        go (found v) nothing x y = absurd (y v (x .inside) (more v (x .good)))
+        go (found v) (found u) x y = omega (arith, y .least v (x .inside) (more v (x .good)))
 
-  -- whoever's cost is c gains no more by asking q and offering fewer cells
-  pub truthful : i < length ps → (s : ℕ) → s < 2 ^ length ps → without i ok s ≡ true → (c q : ℕ)
-      → vcgPaid ok′ (set ps i q) i + when (bit (winners ok (set ps i c)) i) c ≤ vcgPaid ok (set ps i c) i + when (bit (winners ok′ (set ps i q)) i) c
-  truthful inside s below spare c q = rw (pays ok ps i inside s below spare c, pays ok′ ps i inside s below (rw same spare) q)
-      (honest (λ p. bit (winners ok (set ps i p)) i) (vcgThreshold ok ps i) (threshold ok ps i inside s below spare) c (bit (winners ok′ (set ps i q)) i) (vcgThreshold ok′ ps i) threshold-fewer)
+    -- whoever's cost is c gains no more by asking q and offering fewer cells
+    pub truthful : i < length ps → (s : ℕ) → s < 2 ^ length ps → without i ok s ≡ true → (c q : ℕ)
+        → vcgPaid ok′ (set ps i q) i + when (bit (winners ok (set ps i c)) i) c ≤ vcgPaid ok (set ps i c) i
+        + when (bit (winners ok′ (set ps i q)) i) c
+    truthful inside s below spare c q = rw (pays ok ps i inside s below spare c, pays ok′ ps i inside s below (rw same spare) q)
+        (honest (λ p. bit (winners ok (set ps i p)) i) (vcgThreshold ok ps i) (threshold ok ps i inside s below spare) c
+        (bit (winners ok′ (set ps i q)) i) (vcgThreshold ok′ ps i) threshold-fewer)

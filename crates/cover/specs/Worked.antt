@@ -30,7 +30,8 @@ unfolding given same bit covers winners cost vcgPaid listed sum
 leastIs hs ps L flags cents all paid =
     let ok = covers (given hs) (length ps) L in
     let m = winners ok ps in
-    same (listed (length ps) (λ i. when (bit m i) 1)) flags && same (listed (length ps) (vcgPaid ok ps)) cents && eqb (cost ps m) all && eqb (sum cents) paid
+    same (listed (length ps) (λ i. when (bit m i) 1)) flags && same (listed (length ps) (vcgPaid ok ps)) cents && eqb (cost ps m) all
+    && eqb (sum cents) paid
 
 unfoldable pub greedyIs : List (ℕ → Bool) → List ℕ → ℕ → List ℕ → List ℕ → ℕ → ℕ → Bool
 unfolding given same cells wins criticalPaid listed sum

@@ -21,12 +21,14 @@ module _ (old : List ℕ) (at : ℕ) (bids won cents : List ℕ) where
   unfolding winLines
   wins-begin = record { written = nothing-written old at; few = omega arith }
 
-  pub wins-go : {mid new : List ℕ} {e f : ℕ} (i : ℕ) → Winning old at bids won cents mid e i → Written mid e (winLine (getD bids (4 * i) 0) (getD won i 0) (getD cents i 0)) new f → Winning old at bids won cents new f (i + 1)
+  pub wins-go : {mid new : List ℕ} {e f : ℕ} (i : ℕ) → Winning old at bids won cents mid e i
+      → Written mid e (winLine (getD bids (4 * i) 0) (getD won i 0) (getD cents i 0)) new f → Winning old at bids won cents new f (i + 1)
   unfolding winLines
   wins-go {mid} {new} {e} {f} i h w = record {
     written = rw (add-one i) (then (h .written) w);
     few = omega (arith, h .few, w .next, win-short (getD bids (4 * i) 0) (getD won i 0) (getD cents i 0));
   }
 
-  pub wins-end : {new : List ℕ} {e i n : ℕ} → i ≡ n → Winning old at bids won cents new e i → Written old at (winLines bids won cents n) new e
+  pub wins-end : {new : List ℕ} {e i n : ℕ} → i ≡ n → Winning old at bids won cents new e i
+      → Written old at (winLines bids won cents n) new e
   wins-end {new} {e} {i} {n} p h = rw (← p) (h .written)

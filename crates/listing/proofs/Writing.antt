@@ -9,7 +9,12 @@ use lib.Seq.{take-suc-set, drop-set-lt, paste, paste-zero, paste-suc, length-pas
 use Rattle.listing.specs.Written.{Written}
 
 pub one-byte : (old : List ℕ) (at b : ℕ) → at < length old → Written old at (b ∷ []) (set old at b) (at + 1)
-one-byte old at b l = record { text = rw add-one (take-suc-set old at b l); next = refl; rest = drop-set-lt (at + 1) old at b (omega arith); size = length-set old at b }
+one-byte old at b l = record {
+  text = rw add-one (take-suc-set old at b l);
+  next = refl;
+  rest = drop-set-lt (at + 1) old at b (omega arith);
+  size = length-set old at b;
+}
 
 further : (old mid : List ℕ) (e f : ℕ) → e ≤ f → drop e mid ≡ drop e old → drop f mid ≡ drop f old
 further old mid e f l h =
@@ -35,7 +40,12 @@ module _ (old : List ℕ) (at : ℕ) (s : List ℕ) where
   copy-begins l = record { is = paste-zero old at s; fits = l; within = omega arith }
 
   pub copy-goes : (new : List ℕ) (i : ℕ) → i < length s → Copying old at s new i → Copying old at s (set new (at + i) (getD s i 0)) (i + 1)
-  copy-goes new i l h = record { is = ap (λ l. set l (at + i) (getD s i 0)) (h .is) ∙ paste-suc old at s i 0 (omega (arith, h .fits)) l ∙ ap (λ k. paste old at s k) (sym (add-one i)); fits = h .fits; within = omega arith }
+  copy-goes new i l h = record {
+    is = ap (λ l. set l (at + i) (getD s i 0)) (h .is) ∙ paste-suc old at s i 0 (omega (arith, h .fits)) l
+        ∙ ap (λ k. paste old at s k) (sym (add-one i));
+    fits = h .fits;
+    within = omega arith;
+  }
 
   pub copy-size : (new : List ℕ) (i : ℕ) → Copying old at s new i → length new ≡ length old
   copy-size new i h = ap length (h .is) ∙ length-paste old at s i (omega (arith, h .fits, h .within)) (h .within)
@@ -44,9 +54,11 @@ module _ (old : List ℕ) (at : ℕ) (s : List ℕ) where
   copy-ends new i l h =
       let e : i ≡ length s = omega (arith, h .within) in
       record {
-        text = ap (take (at + length s)) (h .is ∙ ap (λ k. paste old at s k) e) ∙ take-paste old at s (length s) (omega (arith, h .fits)) (omega arith) ∙ ap (λ l. take at old ++ l) (take-length s);
+        text = ap (take (at + length s)) (h .is ∙ ap (λ k. paste old at s k) e)
+            ∙ take-paste old at s (length s) (omega (arith, h .fits)) (omega arith) ∙ ap (λ l. take at old ++ l) (take-length s);
         next = refl;
-        rest = ap (drop (at + length s)) (h .is ∙ ap (λ k. paste old at s k) e) ∙ drop-paste old at s (length s) (omega (arith, h .fits)) (omega arith);
+        rest = ap (drop (at + length s)) (h .is ∙ ap (λ k. paste old at s k) e)
+            ∙ drop-paste old at s (length s) (omega (arith, h .fits)) (omega arith);
         size = copy-size new i h;
       }
 

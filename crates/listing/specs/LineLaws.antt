@@ -14,7 +14,8 @@ use Rattle.award_check.specs.Cells.{noRow}
 use Rattle.tender.specs.declared.AwardRow.{AwardRow}
 use Rattle.award_plain.specs.Award.{Outcome, awarded, refused}
 use Rattle.award.specs.Gain.{lost}
-use Rattle.listing.specs.Lines.{digitsBefore, decimal, closing, numbers, pairLine, kindWord, awardWord, winWord, totalWord, refusedWord, winLine, winLines, awardLine}
+use Rattle.listing.specs.Lines.{digitsBefore, decimal, closing, numbers, pairLine, kindWord, awardWord, winWord, totalWord}
+use Rattle.listing.specs.Lines.{refusedWord, winLine, winLines, awardLine}
 use Rattle.listing.specs.List.{winList, listLines}
 
 short : (f n : ℕ) (done : List ℕ) → length (digitsBefore f n done) ≤ f + length done
@@ -33,7 +34,13 @@ decimal-short n = omega (arith, short 20 n [])
 
 pub numbers-short : (a b : ℕ) → length (numbers a b) ≤ 44
 unfolding numbers closing bytes
-numbers-short a b = omega (arith, decimal-short a, decimal-short b, length-append (32 ∷ decimal a) (32 ∷ decimal b), length-append ((32 ∷ decimal a) ++ (32 ∷ decimal b)) (41 ∷ 10 ∷ []))
+numbers-short a b = omega (
+  arith,
+  decimal-short a,
+  decimal-short b,
+  length-append (32 ∷ decimal a) (32 ∷ decimal b),
+  length-append ((32 ∷ decimal a) ++ (32 ∷ decimal b)) (41 ∷ 10 ∷ []),
+)
 
 pub kind-short : (k : Kind) → length (kindWord k) ≤ 6
 unfolding kindWord singleWord multiWord bytes
@@ -58,7 +65,12 @@ pair-some word a b = omega (arith, length-append (40 ∷ []) word, length-append
 
 pub award-short : (t : Tender) → length (awardLine t) ≤ 57
 unfolding awardLine awardWord bytes
-award-short t = omega (arith, pair-short ((97 ∷ 119 ∷ 97 ∷ 114 ∷ 100 ∷ []) ++ (32 ∷ kindWord (t .kind))) (t .window .start) (t .window .end), kind-short (t .kind))
+award-short t = omega (
+  arith,
+  pair-short ((97 ∷ 119 ∷ 97 ∷ 114 ∷ 100 ∷ []) ++ (32 ∷ kindWord (t .kind))) (t .window .start)
+      (t .window .end),
+  kind-short (t .kind),
+)
 
 pub wins-short : (R : List Row) (rows : List AwardRow) (n : ℕ) → length (winList R rows n) ≤ 48 * n
 unfolding winList winWord bytes
@@ -69,7 +81,11 @@ wins-short R rows (suc n) = go (getD rows n lost .won) (wins-short R rows n)
     line = pairLine (119 ∷ 105 ∷ 110 ∷ []) (getD R n noRow .bidder) (getD rows n lost .cents)
 
     go : (t : Bool) → length (winList R rows n) ≤ 48 * n → length (winList R rows n ++ cond t line []) ≤ 48 * suc n
-    go true l = omega (arith, length-append (winList R rows n) line, pair-short (119 ∷ 105 ∷ 110 ∷ []) (getD R n noRow .bidder) (getD rows n lost .cents))
+    go true l = omega (
+      arith,
+      length-append (winList R rows n) line,
+      pair-short (119 ∷ 105 ∷ 110 ∷ []) (getD R n noRow .bidder) (getD rows n lost .cents),
+    )
     go false l = omega (arith, length-append (winList R rows n) [])
 
 -- with at most 1,000 bids no list is empty and none is longer than 51,200 bytes
@@ -87,7 +103,11 @@ lines-short t R (refused n at) l = omega (arith, pair-short (114 ∷ 101 ∷ 102
 
 pub lines-some : (t : Tender) (R : List Row) (o : Outcome) → 0 < length (listLines t R o)
 unfolding listLines
-lines-some t R (awarded rows cost paid) = omega (arith, length-append (awardLine t ++ winList R rows (length R)) (pairLine totalWord cost paid), pair-some totalWord cost paid)
+lines-some t R (awarded rows cost paid) = omega (
+  arith,
+  length-append (awardLine t ++ winList R rows (length R)) (pairLine totalWord cost paid),
+  pair-some totalWord cost paid,
+)
 lines-some t R (refused n at) = pair-some refusedWord n at
 
 pub win-lines-short : (bids won cents : List ℕ) (n : ℕ) → length (winLines bids won cents n) ≤ 48 * n

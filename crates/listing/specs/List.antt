@@ -20,7 +20,8 @@ use Rattle.listing.specs.Lines.{pairLine, winWord, totalWord, refusedWor
 unfoldable pub winList : List Row → List AwardRow → ℕ → List ℕ
 unfolding winWord pairLine noRow lost
 winList R rows zero = []
-winList R rows (suc n) = winList R rows n ++ cond (getD rows n lost .won) (pairLine winWord (getD R n noRow .bidder) (getD rows n lost .cents)) []
+winList R rows (suc n) = winList R rows n ++ cond (getD rows n lost .won)
+    (pairLine winWord (getD R n noRow .bidder) (getD rows n lost .cents)) []
 
 -- the list of an award's outcome: kind, start and end; the winners; cost and sum paid. A refusal is the whole list
 unfoldable pub listLines : Tender → List Row → Outcome → List ℕ
@@ -34,7 +35,8 @@ unfolding listLines awardOf flatRows flatWindows
 listOf (reading.refused n at) = pairLine refusedWord n at
 listOf (accepted t R W) = listLines t R (awardOf (t .kind) t (length R) (flatRows R) (flatWindows W) (length R))
 
--- The promise of a call with the text and a lent buffer of the bytes `old`: it answers r and leaves the bytes `new`. Where the list is longer than the
+-- The promise of a call with the text and a lent buffer of the bytes `old`: it answers r and leaves the bytes `new`. Where the
+-- list is longer than the
 -- buffer, refusal 13, the answer is 0 and the buffer unchanged
 pub record Listed (text old new : List ℕ) (r : ℕ) : Type 0 where
   pub answer : let list = listOf (readText text) in r ≡ when (leb (length list) (length old)) (length list)

@@ -1,4 +1,5 @@
--- The award on what was read does not turn on what stands past the rows in the tables, nor on more award rows than bids; no list is empty and none is
+-- The award on what was read does not turn on what stands past the rows in the tables, nor on more award rows than bids; no list
+-- is empty and none is
 -- longer than 51,200 bytes; neither 8 nor 10 is ever shown. Assumes nothing.
 use mathlib.Core.Path.{_≡_, refl, sym, ap, fun-ext, _∙_}
 use mathlib.Core.Logic.{_⊎_, inl, inr}
@@ -43,7 +44,9 @@ module _ (T : Tender) (R : List Row) (W : List Window) (rules : Rules T R W) whe
   within : (v w : List ℕ) (j : ℕ) → getD R j noRow .first + getD R j noRow .count ≤ length W
   within v w j = omega (
     arith,
-    among-held (T .kind) (flatWindows W ++ w) 1 [] 0 R j (rw (rows-flat R v) at (faultless (T .kind) T (length R) (flatRows R ++ v) (flatWindows W ++ w) (never-nine T R W v w rules) .rows)),
+    among-held (T .kind) (flatWindows W ++ w) 1 [] 0 R j
+        (rw (rows-flat R v) at (faultless (T .kind) T (length R) (flatRows R ++ v) (flatWindows W ++ w)
+        (never-nine T R W v w rules) .rows)),
     rows-end (T .kind) [] 0 R (length W) (rules .rows),
   )
 
@@ -53,7 +56,9 @@ module _ (T : Tender) (R : List Row) (W : List Window) (rules : Rules T R W) whe
     where
       go : (r : Row) → r .first + r .count ≤ length W → own (flatWindows W ++ w) r ≡ own (flatWindows W) r
       go r l = windows-same (r .count) (drop (2 * r .first) (flatWindows W ++ w)) (drop (2 * r .first) (flatWindows W))
-          (λ x m. getD-drop (2 * r .first) (flatWindows W ++ w) x 0 ∙ List·getD-append (flatWindows W) w 0 (2 * r .first + x) (omega (arith, length-windows W)) ∙ sym (getD-drop (2 * r .first) (flatWindows W) x 0))
+          (λ x m. getD-drop (2 * r .first) (flatWindows W ++ w) x 0
+          ∙ List·getD-append (flatWindows W) w 0 (2 * r .first + x) (omega (arith, length-windows W))
+          ∙ sym (getD-drop (2 * r .first) (flatWindows W) x 0))
 
   cells-read : (w : List ℕ) → hasOf T R (flatWindows W ++ w) ≡ hasOf T R (flatWindows W)
   unfolding hasOf
@@ -65,16 +70,23 @@ module _ (T : Tender) (R : List Row) (W : List Window) (rules : Rules T R W) whe
   sound-alone : faultOf (T .kind) T (length R) (flatRows R) (flatWindows W) ≡ none
   sound-alone = rw (append-nil (flatRows R), append-nil (flatWindows W)) at (never-nine T R W [] [] rules)
 
-  pub award-read : (v w : List ℕ) (lent : ℕ) → length R ≤ lent → awardOf (T .kind) T (length R) (flatRows R ++ v) (flatWindows W ++ w) lent ≡ awardOf (T .kind) T (length R) (flatRows R) (flatWindows W) (length R)
+  pub award-read : (v w : List ℕ) (lent : ℕ) → length R ≤ lent
+      → awardOf (T .kind) T (length R) (flatRows R ++ v) (flatWindows W ++ w) lent
+      ≡ awardOf (T .kind) T (length R) (flatRows R) (flatWindows W) (length R)
   award-read v w lent l =
       award-none (T .kind) T (length R) (flatRows R ++ v) (flatWindows W ++ w) lent (never-nine T R W v w rules)
       ∙ rw (le-ltb lent (length R) l, rows-flat R v, cells-read w)
-      (sym (award-none (T .kind) T (length R) (flatRows R) (flatWindows W) (length R) sound-alone ∙ rw (le-ltb (length R) (length R) (omega arith), rows-alone)))
+      (sym (award-none (T .kind) T (length R) (flatRows R) (flatWindows W) (length R) sound-alone
+      ∙ rw (le-ltb (length R) (length R) (omega arith), rows-alone)))
 
   -- the award on what was read is made, or declined with 11 or 12: never with 9 or 10
-  pub award-number : let o = awardOf (T .kind) T (length R) (flatRows R) (flatWindows W) (length R) in (number o ≡ 0) ⊎ ((number o ≡ numberOf (MinuteUncovered (place o))) ⊎ (number o ≡ numberOf (OneBidder (place o))))
+  pub award-number : let o = awardOf (T .kind) T (length R) (flatRows R) (flatWindows W) (length R) in (number o ≡ 0)
+      ⊎ ((number o ≡ numberOf (MinuteUncovered (place o))) ⊎ (number o ≡ numberOf (OneBidder (place o))))
   unfolding number thinned
-  award-number = rw (award-none (T .kind) T (length R) (flatRows R) (flatWindows W) (length R) sound-alone, le-ltb (length R) (length R) (omega arith))
+  award-number = rw (
+    award-none (T .kind) T (length R) (flatRows R) (flatWindows W) (length R) sound-alone,
+    le-ltb (length R) (length R) (omega arith),
+  )
       (go (cellWith has (length ps) (cellsOf T) 0) (cellWith has (length ps) (cellsOf T) 1) refl refl)
     where
       has : ℕ → ℕ → Bool
@@ -86,7 +98,8 @@ module _ (T : Tender) (R : List Row) (W : List Window) (rules : Rules T R W) whe
       o : Outcome
       o = settled (T .kind) has ps (cellsOf T) (T .window .start)
 
-      go : (x y : Found) → cellWith has (length ps) (cellsOf T) 0 ≡ x → cellWith has (length ps) (cellsOf T) 1 ≡ y → (number o ≡ 0) ⊎ ((number o ≡ numberOf (MinuteUncovered (place o))) ⊎ (number o ≡ numberOf (OneBidder (place o))))
+      go : (x y : Found) → cellWith has (length ps) (cellsOf T) 0 ≡ x → cellWith has (length ps) (cellsOf T) 1 ≡ y → (number o ≡ 0)
+          ⊎ ((number o ≡ numberOf (MinuteUncovered (place o))) ⊎ (number o ≡ numberOf (OneBidder (place o))))
       go (found x) y e f = inr (inl (ap number (settled-is (T .kind) has ps (cellsOf T) (T .window .start) (found x) y e f)))
       go nothing (found x) e f = inr (inr (ap number (settled-is (T .kind) has ps (cellsOf T) (T .window .start) nothing (found x) e f)))
       go nothing nothing e f = inl (ap number (settled-is (T .kind) has ps (cellsOf T) (T .window .start) nothing nothing e f))
@@ -97,40 +110,53 @@ bidder-cell : (R : List Row) (v : List ℕ) (i : ℕ) → i < length R → getD 
 unfolding flatRows
 bidder-cell [] v i l = absurd (omega arith)
 bidder-cell (r ∷ R) v zero l = refl
-bidder-cell (r ∷ R) v (suc i) l = ap (λ k. getD (r .bidder ∷ r .price ∷ r .first ∷ r .count ∷ (flatRows R ++ v)) k 0) (index i) ∙ bidder-cell R v i (omega arith)
+bidder-cell (r ∷ R) v (suc i) l = ap (λ k. getD (r .bidder ∷ r .price ∷ r .first ∷ r .count ∷ (flatRows R ++ v)) k 0) (index i)
+    ∙ bidder-cell R v i (omega arith)
   where
     index : (i : ℕ) → 4 * suc i ≡ suc (suc (suc (suc (4 * i))))
     index i = omega arith
 
-row-cells : (n : ℕ) (won cents : List ℕ) (i : ℕ) → i < n → getD (rowsIn n won cents) i lost ≡ record { won = eqb (getD won i 0) 1; cents = getD cents i 0 }
+row-cells : (n : ℕ) (won cents : List ℕ) (i : ℕ) → i < n
+    → getD (rowsIn n won cents) i lost ≡ record { won = eqb (getD won i 0) 1; cents = getD cents i 0 }
 unfolding rowsIn
 row-cells n won cents i l = getD-listed n (λ i. record { won = eqb (getD won i 0) 1; cents = getD cents i 0 }) i lost l
 
-win-lines : (R : List Row) (v won cents : List ℕ) (n m : ℕ) → m ≤ n → n ≤ length R → winLines (flatRows R ++ v) won cents m ≡ winList R (rowsIn n won cents) m
+win-lines : (R : List Row) (v won cents : List ℕ) (n m : ℕ) → m ≤ n → n ≤ length R
+    → winLines (flatRows R ++ v) won cents m ≡ winList R (rowsIn n won cents) m
 unfolding winLines winList winLine
 win-lines R v won cents n zero l h = refl
-win-lines R v won cents n (suc m) l h = rw (bidder-cell R v m (omega arith), row-cells n won cents m (omega arith), win-lines R v won cents n m (omega arith) h)
+win-lines R v won cents n (suc m) l h = rw (
+  bidder-cell R v m (omega arith),
+  row-cells n won cents m (omega arith),
+  win-lines R v won cents n m (omega arith) h,
+)
 
 -- what the award over plain cells told is what the list shows
-pub answer-lines : (T : Tender) (R : List Row) (v won cents : List ℕ) (a : Answer) → answerLines T (flatRows R ++ v) won cents (length R) a ≡ listLines T R (toldIn (length R) won cents a)
+pub answer-lines : (T : Tender) (R : List Row) (v won cents : List ℕ) (a : Answer)
+    → answerLines T (flatRows R ++ v) won cents (length R) a ≡ listLines T R (toldIn (length R) won cents a)
 unfolding answerLines listLines toldIn
 answer-lines T R v won cents (Awarded totals) = rw (win-lines R v won cents (length R) (length R) (omega arith) (omega arith))
 answer-lines T R v won cents (Refused r) = refl
 
 -- the award on what was read gives the list of the text
-pub award-list : (T : Tender) (R : List Row) (W : List Window) (v w : List ℕ) (lent : ℕ) (won cents won′ cents′ : List ℕ) (a : Answer) → Rules T R W → length R ≤ lent →
-    PlainPromise (T .kind) T (length R) (flatRows R ++ v) (flatWindows W ++ w) lent won cents won′ cents′ a → answerLines T (flatRows R ++ v) won′ cents′ (length R) a ≡ listOf (accepted T R W)
+pub award-list : (T : Tender) (R : List Row) (W : List Window) (v w : List ℕ) (lent : ℕ) (won cents won′ cents′ : List ℕ) (a : Answer)
+    → Rules T R W → length R ≤ lent →
+    PlainPromise (T .kind) T (length R) (flatRows R ++ v) (flatWindows W ++ w) lent won cents won′ cents′ a
+    → answerLines T (flatRows R ++ v) won′ cents′ (length R) a ≡ listOf (accepted T R W)
 unfolding listOf
-award-list T R W v w lent won cents won′ cents′ a rules l p = answer-lines T R v won′ cents′ a ∙ ap (listLines T R) (p .answers ∙ award-read T R W rules v w lent l)
+award-list T R W v w lent won cents won′ cents′ a rules l p = answer-lines T R v won′ cents′ a
+    ∙ ap (listLines T R) (p .answers ∙ award-read T R W rules v w lent l)
 
 -- the list of a text is neither empty nor too long
 pub list-short : (text : List ℕ) → (length (listOf (readText text)) ≤ 51200) × (0 < length (listOf (readText text)))
 unfolding listOf
 list-short text = go (readText text) (λ T R W e. rules-law T R W text e)
   where
-    go : (o : reading.Outcome) → ((T : Tender) (R : List Row) (W : List Window) → o ≡ accepted T R W → Rules T R W) → (length (listOf o) ≤ 51200) × (0 < length (listOf o))
+    go : (o : reading.Outcome) → ((T : Tender) (R : List Row) (W : List Window) → o ≡ accepted T R W → Rules T R W)
+        → (length (listOf o) ≤ 51200) × (0 < length (listOf o))
     go (reading.refused n at) f = (refusal-short n at, pair-some refusedWord n at)
-    go (accepted T R W) f = let o = awardOf (T .kind) T (length R) (flatRows R) (flatWindows W) (length R) in (lines-short T R o (f T R W refl .few-bids), lines-some T R o)
+    go (accepted T R W) f = let o = awardOf (T .kind) T (length R) (flatRows R) (flatWindows W) (length R) in
+        (lines-short T R o (f T R W refl .few-bids), lines-some T R o)
 
 -- a buffer of 51,200 bytes always suffices
 pub suffices : {text old new : List ℕ} {r : ℕ} → Listed text old new r → 51200 ≤ length old → (0 < r) × (r ≤ length new)
@@ -154,5 +180,6 @@ listed-is {text} {old} {new} {r} h l = go (leb (length list) (length old)) (h .a
     go false a e = absurd (omega arith)
 
 -- two calls on the same text show the same list
-pub same-list : {text old new old′ new′ : List ℕ} {r r′ : ℕ} → Listed text old new r → Listed text old′ new′ r′ → 0 < r → 0 < r′ → take r new ≡ take r′ new′
+pub same-list : {text old new old′ new′ : List ℕ} {r r′ : ℕ} → Listed text old new r → Listed text old′ new′ r′ → 0 < r → 0 < r′
+    → take r new ≡ take r′ new′
 same-list h h′ l l′ = listed-is h l ∙ sym (listed-is h′ l′)

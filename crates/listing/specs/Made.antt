@@ -16,7 +16,8 @@ use Rattle.listing.specs.Written.{Written}
 -- the list of an award's answer, from the cells of the table of bids and of the award rows
 unfoldable pub answerLines : Tender → List ℕ → List ℕ → List ℕ → ℕ → Answer → List ℕ
 unfolding awardLine winLines pairLine totalWord refusedWord
-answerLines t bids won cents n (Awarded totals) = awardLine t ++ winLines bids won cents n ++ pairLine totalWord (totals .cost) (totals .paid)
+answerLines t bids won cents n (Awarded totals) = awardLine t ++ winLines bids won cents n
+    ++ pairLine totalWord (totals .cost) (totals .paid)
 answerLines t bids won cents n (Refused r) = pairLine refusedWord (numberOf r) (placeOf r)
 
 -- the list of the award to these tables is written: the award left the cells `won` and `cents` and answered a

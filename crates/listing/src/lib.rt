@@ -27,8 +27,11 @@ fn put_awarded(
     cents: &[u64],
     totals: Totals,
 ) -> usize
-    requires { ⌜ (4 * n ≤ length (now bids)) × ((n ≤ length (now won)) × ((n ≤ length (now cents)) × (48 * n + 107 ≤ length (now list)))) ⌝ }
-    ensures { λ r. ⌜ Written (now (list .entry)) 0 (awardLine tender ++ winLines (now (bids .entry)) (now (won .entry)) (now (cents .entry)) n ++ pairLine totalWord (totals .cost) (totals .paid)) (now (list .exit)) r ⌝ }
+    requires { ⌜ (4 * n ≤ length (now bids)) × ((n ≤ length (now won)) × ((n ≤ length (now cents)) × (48 * n + 107 ≤ length (now list))))
+        ⌝ }
+    ensures { λ r. ⌜ Written (now (list .entry)) 0 (awardLine tender
+        ++ winLines (now (bids .entry)) (now (won .entry)) (now (cents .entry)) n ++ pairLine totalWord (totals .cost) (totals .paid))
+        (now (list .exit)) r ⌝ }
 {
     let begun = lines::put_award(list, 0, tender);
     let named = lines::put_wins(list, begun, bids, won, cents, n);

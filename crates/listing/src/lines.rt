@@ -130,7 +130,8 @@ pub(crate) fn put_wins(
     n: usize,
 ) -> usize
     requires { ⌜ (4 * n ≤ length (now bids)) × ((n ≤ length (now won)) × ((n ≤ length (now cents)) × (at + 48 * n ≤ length (now buf)))) ⌝ }
-    ensures { λ r. ⌜ Written (now (buf .entry)) at (winLines (now (bids .entry)) (now (won .entry)) (now (cents .entry)) n) (now (buf .exit)) r ⌝ }
+    ensures { λ r. ⌜ Written (now (buf .entry)) at (winLines (now (bids .entry)) (now (won .entry)) (now (cents .entry)) n)
+        (now (buf .exit)) r ⌝ }
 {
     let mut end = at;
     let mut i: usize = 0;

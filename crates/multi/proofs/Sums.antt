@@ -28,9 +28,16 @@ pub record Summing (ps won cents : List ℕ) (cost paid k : ℕ) : Type 0 where
   pub paid-small : paid ≤ 1011200000000 * k
 
 pub sums-none : (ps won cents : List ℕ) → Summing ps won cents 0 0 0
-sums-none ps won cents = record { inside = omega arith; cost-is = sum-none (asked ps won); paid-is = sum-none (at cents); cost-small = omega arith; paid-small = omega arith }
+sums-none ps won cents = record {
+  inside = omega arith;
+  cost-is = sum-none (asked ps won);
+  paid-is = sum-none (at cents);
+  cost-small = omega arith;
+  paid-small = omega arith;
+}
 
-pub sums-more : {ps won cents : List ℕ} {cost paid k q : ℕ} → Summing ps won cents cost paid k → k < length ps → q ≡ asked ps won k → q ≤ 100000000 → at cents k ≤ 1011200000000
+pub sums-more : {ps won cents : List ℕ} {cost paid k q : ℕ} → Summing ps won cents cost paid k → k < length ps → q ≡ asked ps won k
+    → q ≤ 100000000 → at cents k ≤ 1011200000000
     → Summing ps won cents (cost + q) (paid + at cents k) (k + 1)
 sums-more {ps} {won} {cents} {cost} {paid} {k} {q} s l e m y = record {
   inside = omega arith;
@@ -41,21 +48,28 @@ sums-more {ps} {won} {cents} {cost} {paid} {k} {q} s l e m y = record {
 }
 
 pub sums-all : {ps won cents : List ℕ} {cost paid k : ℕ} → Summing ps won cents cost paid k → length ps ≤ k → Summed ps won cents cost paid
-sums-all {ps} {won} {cents} {cost} {paid} {k} s l = let z : k ≡ length ps = omega (arith, s .inside) in record { cost-is = rw z at (s .cost-is ∙ sum-listed k (asked ps won)); paid-is = rw z at (s .paid-is ∙ sum-listed k (at cents)) }
+sums-all {ps} {won} {cents} {cost} {paid} {k} s l = let z : k ≡ length ps = omega (arith, s .inside) in
+    record { cost-is = rw z at (s .cost-is ∙ sum-listed k (asked ps won)); paid-is = rw z at (s .paid-is ∙ sum-listed k (at cents)) }
 
-pub awarded : {ps ms : List ℕ} {w n : ℕ} {won cents : List ℕ} {cost paid : ℕ} → Paid ps ms w n won cents → Summed ps won cents cost paid → Awarded ps ms w n won cents cost paid
+pub awarded : {ps ms : List ℕ} {w n : ℕ} {won cents : List ℕ} {cost paid : ℕ} → Paid ps ms w n won cents → Summed ps won cents cost paid
+    → Awarded ps ms w n won cents cost paid
 awarded {ps} {ms} {w} {n} {won} {cents} p s = record {
   each = p;
   cost-is = s .cost-is ∙ ap sum (listed-same (length ps) (asked ps won) _ (λ k l. ap (λ (t : Bool). when t (at ps k))
-      (ap (λ (x : ℕ). eqb x 1) (ap (λ (xs : List ℕ). at xs k) (p .flags) ∙ getD-listed (length ps) _ k 0 l) ∙ when-is (wins (has ms w) ps (cells n) k))));
-  paid-is = s .paid-is ∙ ap sum (listed-same (length ps) (at cents) _ (λ k l. ap (λ (xs : List ℕ). at xs k) (p .payments) ∙ getD-listed (length ps) _ k 0 l));
+      (ap (λ (x : ℕ). eqb x 1) (ap (λ (xs : List ℕ). at xs k) (p .flags) ∙ getD-listed (length ps) _ k 0 l)
+      ∙ when-is (wins (has ms w) ps (cells n) k))));
+  paid-is = s .paid-is ∙ ap sum (listed-same (length ps) (at cents) _
+      (λ k l. ap (λ (xs : List ℕ). at xs k) (p .payments) ∙ getD-listed (length ps) _ k 0 l));
 }
 
-pub paid-lengths : {ps ms : List ℕ} {w n : ℕ} {won cents : List ℕ} → Paid ps ms w n won cents → (length won ≡ length ps) × (length cents ≡ length ps)
+pub paid-lengths : {ps ms : List ℕ} {w n : ℕ} {won cents : List ℕ} → Paid ps ms w n won cents → (length won ≡ length ps)
+    × (length cents ≡ length ps)
 paid-lengths {ps} p = (ap length (p .flags) ∙ length-listed (length ps) _, ap length (p .payments) ∙ length-listed (length ps) _)
 
-pub settles : {ps ms : List ℕ} {w n : ℕ} {won cents : List ℕ} {cost paid : ℕ} (old-won old-cents : List ℕ) → Awarded ps ms w n won cents cost paid
-    → Settled (wins (has ms w) ps (cells n)) (roundsPaid (has ms w) ps (cells n)) ps old-won old-cents (won ++ drop (length ps) old-won) (cents ++ drop (length ps) old-cents) cost paid
+pub settles : {ps ms : List ℕ} {w n : ℕ} {won cents : List ℕ} {cost paid : ℕ} (old-won old-cents : List ℕ)
+    → Awarded ps ms w n won cents cost paid
+    → Settled (wins (has ms w) ps (cells n)) (roundsPaid (has ms w) ps (cells n)) ps old-won old-cents (won ++ drop (length ps) old-won)
+    (cents ++ drop (length ps) old-cents) cost paid
 settles {ps} old-won old-cents a = record {
   flags = ap (λ (xs : List ℕ). xs ++ drop (length ps) old-won) (a .each .flags);
   payments = ap (λ (xs : List ℕ). xs ++ drop (length ps) old-cents) (a .each .payments);

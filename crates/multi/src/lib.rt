@@ -23,7 +23,8 @@ fn only(flag: u64, price: u64) -> u64
 
 // The winners' cost and the sum paid.
 fn totals(prices: &[u64], won: &[u64], cents: &[u64]) -> tender::Totals
-    requires { ⌜ Priced (now prices) × ((length (now won) ≡ length (now prices)) × ((length (now cents) ≡ length (now prices)) × ((k : ℕ) → at (now cents) k ≤ 1011200000000))) ⌝ }
+    requires { ⌜ Priced (now prices) × ((length (now won) ≡ length (now prices))
+        × ((length (now cents) ≡ length (now prices)) × ((k : ℕ) → at (now cents) k ≤ 1011200000000))) ⌝ }
     ensures { λ r. ⌜ Summed (now (prices .entry)) (now (won .entry)) (now (cents .entry)) (r .cost) (r .paid) ⌝ }
 {
     let mut cost: u64 = 0;
@@ -51,9 +52,11 @@ fn run(
     order: &mut [u64],
     gains: &mut [u64],
 ) -> usize
-    requires { ⌜ Market (now prices) (now masks) w × (Hopping (now prices) (now masks) (now hop) w × ((count ≤ 64 * w) × ((count ≤ length (now order)) × ((count ≤ length (now gains))
+    requires { ⌜ Market (now prices) (now masks) w ×
+        (Hopping (now prices) (now masks) (now hop) w × ((count ≤ 64 * w) × ((count ≤ length (now order)) × ((count ≤ length (now gains))
         × ((length (now held) ≡ w) × ((length (now counts) ≡ w + 2) × ((length (now who) ≡ 2048) × (length (now num) ≡ 2048)))))))) ⌝ }
-    ensures { λ r. ⌜ Trace (now (prices .entry)) (now (masks .entry)) w count (now (order .exit)) (now (gains .exit)) r × Tournament (now (prices .entry)) (now (who .exit)) (now (num .exit)) ⌝ }
+    ensures { λ r. ⌜ Trace (now (prices .entry)) (now (masks .entry)) w count (now (order .exit)) (now (gains .exit)) r
+        × Tournament (now (prices .entry)) (now (who .exit)) (now (num .exit)) ⌝ }
 {
     multi_rounds::unlock(held, count);
     cells::count_none(held, counts);
@@ -95,9 +98,13 @@ fn settle(
     cents: &mut [u64],
 ) -> tender::Totals
     requires { ⌜ Market (now prices) (now masks) w × ((count ≤ 64 * w) × ((each (has (now masks) w) (length (now prices)) count 2 ≡ true)
-        × ((count ≤ length (now order)) × ((count ≤ length (now gains)) × ((length (now hop) ≡ length (now masks)) × ((length (now index) ≡ 16 * w) × ((length (now held) ≡ w) × ((length (now alt) ≡ w)
-        × ((length (now counts) ≡ w + 2) × ((length (now who) ≡ 2048) × ((length (now num) ≡ 2048) × ((length (now mark) ≡ 16) × ((length (now won) ≡ length (now prices)) × (length (now cents) ≡ length (now prices))))))))))))))) ⌝ }
-    ensures { λ r. ⌜ Awarded (now (prices .entry)) (now (masks .entry)) w count (now (won .exit)) (now (cents .exit)) (r .cost) (r .paid) ⌝ }
+        × ((count ≤ length (now order)) × ((count ≤ length (now gains))
+        × ((length (now hop) ≡ length (now masks)) × ((length (now index) ≡ 16 * w) × ((length (now held) ≡ w) × ((length (now alt) ≡ w)
+        × ((length (now counts) ≡ w + 2) × ((length (now who) ≡ 2048)
+        × ((length (now num) ≡ 2048) × ((length (now mark) ≡ 16)
+        × ((length (now won) ≡ length (now prices)) × (length (now cents) ≡ length (now prices))))))))))))))) ⌝ }
+    ensures { λ r. ⌜ Awarded (now (prices .entry)) (now (masks .entry)) w count (now (won .exit)) (now (cents .exit)) (r .cost) (r .paid)
+        ⌝ }
 {
     multi_charts::chart(prices, masks, w, hop);
     multi_charts::enlist(prices, masks, hop, w, index);
@@ -159,9 +166,13 @@ fn award_in(
     cents: &mut [u64],
 ) -> tender::Totals
     requires { ⌜ Market (now prices) (now masks) w × ((count ≤ 64 * w) × ((each (has (now masks) w) (length (now prices)) count 2 ≡ true)
-        × ((count ≤ length (now order)) × ((count ≤ length (now gains)) × ((158000 ≤ length (now hop)) × ((2528 ≤ length (now index)) × ((158 ≤ length (now held)) × ((158 ≤ length (now alt))
-        × ((160 ≤ length (now counts)) × ((length (now who) ≡ 2048) × ((length (now num) ≡ 2048) × ((length (now mark) ≡ 16) × ((length (now prices) ≤ length (now won)) × (length (now prices) ≤ length (now cents))))))))))))))) ⌝ }
-    ensures { λ r. ⌜ Settled (wins (has (now (masks .entry)) w) (now (prices .entry)) (cells count)) (roundsPaid (has (now (masks .entry)) w) (now (prices .entry)) (cells count))
+        × ((count ≤ length (now order)) × ((count ≤ length (now gains))
+        × ((158000 ≤ length (now hop)) × ((2528 ≤ length (now index)) × ((158 ≤ length (now held)) × ((158 ≤ length (now alt))
+        × ((160 ≤ length (now counts)) × ((length (now who) ≡ 2048)
+        × ((length (now num) ≡ 2048) × ((length (now mark) ≡ 16)
+        × ((length (now prices) ≤ length (now won)) × (length (now prices) ≤ length (now cents))))))))))))))) ⌝ }
+    ensures { λ r. ⌜ Settled (wins (has (now (masks .entry)) w) (now (prices .entry)) (cells count))
+        (roundsPaid (has (now (masks .entry)) w) (now (prices .entry)) (cells count))
         (now (prices .entry)) (now (won .entry)) (now (cents .entry)) (now (won .exit)) (now (cents .exit)) (r .cost) (r .paid) ⌝ }
 {
     let n = prices.len();
@@ -197,9 +208,11 @@ pub fn award(
     won: &mut [u64],
     cents: &mut [u64],
 ) -> tender::Totals
-    requires { ⌜ Market (now prices) (now masks) w × ((count ≤ 10080) × ((count ≤ 64 * w) × ((each (has (now masks) w) (length (now prices)) count 2 ≡ true)
+    requires { ⌜ Market (now prices) (now masks) w ×
+        ((count ≤ 10080) × ((count ≤ 64 * w) × ((each (has (now masks) w) (length (now prices)) count 2 ≡ true)
         × ((length (now prices) ≤ length (now won)) × (length (now prices) ≤ length (now cents)))))) ⌝ }
-    ensures { λ r. ⌜ Settled (wins (has (now (masks .entry)) w) (now (prices .entry)) (cells count)) (roundsPaid (has (now (masks .entry)) w) (now (prices .entry)) (cells count))
+    ensures { λ r. ⌜ Settled (wins (has (now (masks .entry)) w) (now (prices .entry)) (cells count))
+        (roundsPaid (has (now (masks .entry)) w) (now (prices .entry)) (cells count))
         (now (prices .entry)) (now (won .entry)) (now (cents .entry)) (now (won .exit)) (now (cents .exit)) (r .cost) (r .paid) ⌝ }
 {
     // Written before they are read: ones are stored in place, zeros by a call of the library.

@@ -55,8 +55,10 @@ module _ {ms : List ℕ} {w i : ℕ} {old new : List ℕ} {q gap : ℕ} (s : Cha
   abbrev M : ℕ → ℕ
   M p = at (row ms w i) p
 
-  more : {new′ : List ℕ} {r v gap′ : ℕ} → Set w i new new′ r q v → r ≤ q → q ≤ v → v ≤ w → ((p : ℕ) → r ≤ p → p < q → M p ≡ whole → (x : ℕ) → p ≤ x → x < v → M x ≡ whole)
-      → ((p : ℕ) → r ≤ p → p < q → (M p ≡ whole → ⊥) → (x : ℕ) → p < x → x < v → M x ≡ 0) → r ≤ gap′ → gap′ ≤ w → ((p : ℕ) → r ≤ p → p < gap′ → M p ≡ 0) → Charting ms w i old new′ r gap′
+  more : {new′ : List ℕ} {r v gap′ : ℕ} → Set w i new new′ r q v → r ≤ q → q ≤ v → v ≤ w
+      → ((p : ℕ) → r ≤ p → p < q → M p ≡ whole → (x : ℕ) → p ≤ x → x < v → M x ≡ whole)
+      → ((p : ℕ) → r ≤ p → p < q → (M p ≡ whole → ⊥) → (x : ℕ) → p < x → x < v → M x ≡ 0) → r ≤ gap′ → gap′ ≤ w
+      → ((p : ℕ) → r ≤ p → p < gap′ → M p ≡ 0) → Charting ms w i old new′ r gap′
   more {new′} {r} {v} {gap′} t low a b rs gs g1 g2 g3 = record {
     same = t .size ∙ s .same;
     gap-low = g1;
@@ -82,16 +84,20 @@ module _ {ms : List ℕ} {w i : ℕ} {old new : List ℕ} {q gap : ℕ} (s : Cha
 
     pub charts-still : (r < q → ⊥) → Charting ms w i old new′ q gap
     charts-still n = let d : r ≡ q = omega (arith, b .low) in
-        more {r = q} {v = gap} (record { size = e; here = λ p x y. absurd (omega arith); there = λ p o. b .others p (rw d o) }) (omega arith) (s .gap-low) (s .gap-high) (λ p x y. absurd (omega arith)) (λ p x y. absurd (omega arith)) (s .gap-low) (s .gap-high) (s .zeros)
+        more {r = q} {v = gap} (record { size = e; here = λ p x y. absurd (omega arith); there = λ p o. b .others p (rw d o) })
+        (omega arith) (s .gap-low) (s .gap-high) (λ p x y. absurd (omega arith)) (λ p x y. absurd (omega arith)) (s .gap-low)
+        (s .gap-high) (s .zeros)
 
     pub charts-gap : u ≡ 0 → v ≡ gap → Charting ms w i old new′ r gap
-    charts-gap z d = more (rw d at back-set) (b .low) (s .gap-low) (s .gap-high) (λ p x y h. absurd (omega (arith, words p x y))) (λ p x y h k c l. wide k (omega arith) l) (omega (arith, b .low, s .gap-low)) (s .gap-high) wide
+    charts-gap z d = more (rw d at back-set) (b .low) (s .gap-low) (s .gap-high) (λ p x y h. absurd (omega (arith, words p x y)))
+        (λ p x y h k c l. wide k (omega arith) l) (omega (arith, b .low, s .gap-low)) (s .gap-high) wide
       where
         wide : (p : ℕ) → r ≤ p → p < gap → M p ≡ 0
         wide p x y = ⊎-elim (λ c. words p x c ∙ z) (λ c. s .zeros p c y) (lt-or-le p q)
 
     pub charts-run : u ≡ whole → v ≡ q → r < q → Charting ms w i old new′ r r
-    charts-run z d l = more (rw d at back-set) (b .low) (omega arith) m (λ p x y h k c f. words k (omega arith) f ∙ z) (λ p x y h. absurd (h (words p x y ∙ z))) (omega arith) (omega arith) (λ p x y. absurd (omega arith))
+    charts-run z d l = more (rw d at back-set) (b .low) (omega arith) m (λ p x y h k c f. words k (omega arith) f ∙ z)
+        (λ p x y h. absurd (h (words p x y ∙ z))) (omega arith) (omega arith) (λ p x y. absurd (omega arith))
 
 -- ---- back: the words from r on are m and have their hops
 pub record Backing (ms : List ℕ) (a q m v : ℕ) (old new : List ℕ) (r : ℕ) : Type 0 where
@@ -102,7 +108,13 @@ pub record Backing (ms : List ℕ) (a q m v : ℕ) (old new : List ℕ) (r : ℕ
   pub others : (p : ℕ) → (p < a + r) ⊎ (a + q ≤ p) → at new p ≡ at old p
 
 pub backs-none : (ms : List ℕ) (a q m v : ℕ) (old : List ℕ) → Backing ms a q m v old old q
-backs-none ms a q m v old = record { same = refl; low = omega arith; words = λ p x y. absurd (omega arith); hops = λ p x y. absurd (omega arith); others = λ p o. refl }
+backs-none ms a q m v old = record {
+  same = refl;
+  low = omega arith;
+  words = λ p x y. absurd (omega arith);
+  hops = λ p x y. absurd (omega arith);
+  others = λ p o. refl;
+}
 
 module _ {ms : List ℕ} {a q m v : ℕ} {old new : List ℕ} {r : ℕ} (s : Backing ms a q m v old new r) where
   pub backs-more : 0 < r → a + q ≤ length old → at ms (a + r - 1) ≡ m → Backing ms a q m v old (set new (a + (r - 1)) v) (r - 1)
@@ -110,18 +122,23 @@ module _ {ms : List ℕ} {a q m v : ℕ} {old new : List ℕ} {r : ℕ} (s : Bac
     same = simp length-set (s .same);
     low = omega (arith, s .low);
     words = λ p x y. ⊎-elim (λ z. let d : a + p ≡ a + r - 1 = omega arith in rw d e) (λ z. s .words p z y) (lt-or-le p r);
-    hops = λ p x y. ⊎-elim (λ z. let d : p ≡ r - 1 = omega arith in rw d (getD-set-same new (a + (r - 1)) v 0 (omega (arith, s .same, s .low)))) (λ z. getD-set-other new (a + (r - 1)) (a + p) v 0 (λ d. omega arith) ∙ s .hops p z y) (lt-or-le p r);
-    others = λ p o. getD-set-other new (a + (r - 1)) p v 0 (λ d. ⊎-elim (λ z. omega arith) (λ z. omega (arith, s .low)) o) ∙ s .others p (⊎-elim (λ z. inl (omega arith)) (λ z. inr z) o);
+    hops = λ p x y. ⊎-elim (λ z. let d : p ≡ r - 1 = omega arith in
+        rw d (getD-set-same new (a + (r - 1)) v 0 (omega (arith, s .same, s .low))))
+        (λ z. getD-set-other new (a + (r - 1)) (a + p) v 0 (λ d. omega arith) ∙ s .hops p z y) (lt-or-le p r);
+    others = λ p o. getD-set-other new (a + (r - 1)) p v 0 (λ d. ⊎-elim (λ z. omega arith) (λ z. omega (arith, s .low)) o)
+        ∙ s .others p (⊎-elim (λ z. inl (omega arith)) (λ z. inr z) o);
   }
 
   pub backs-all : (0 < r → at ms (a + (r - 1)) ≡ m → ⊥) → Backed ms a q m v old new r
   backs-all n = record { low = s .low; words = s .words; hops = s .hops; others = s .others; stop = n }
 
 -- a word with some cells
-pub charts-some : {ms : List ℕ} {w i : ℕ} {old new : List ℕ} {q gap : ℕ} → Charting ms w i old new q gap → q ≤ w → 0 < q → w * i + w ≤ length old → (at ms (w * i + (q - 1)) ≡ whole → ⊥)
+pub charts-some : {ms : List ℕ} {w i : ℕ} {old new : List ℕ} {q gap : ℕ} → Charting ms w i old new q gap → q ≤ w → 0 < q
+    → w * i + w ≤ length old → (at ms (w * i + (q - 1)) ≡ whole → ⊥)
     → Charting ms w i old (set new (w * i + (q - 1)) gap) (q - 1) (q - 1)
 charts-some {ms} {w} {i} {old} {new} {q} {gap} s m l f n =
-    more s m stored (omega arith) (s .gap-low) (s .gap-high) (λ p x y h. absurd (n (one p x y h))) (λ p x y h k c d. s .zeros k (omega arith) d) (omega arith) (omega arith) (λ p x y. absurd (omega arith))
+    more s m stored (omega arith) (s .gap-low) (s .gap-high) (λ p x y h. absurd (n (one p x y h)))
+    (λ p x y h k c d. s .zeros k (omega arith) d) (omega arith) (omega arith) (λ p x y. absurd (omega arith))
   where
     stored : Set w i new (set new (w * i + (q - 1)) gap) (q - 1) q gap
     stored = record {
@@ -133,7 +150,8 @@ charts-some {ms} {w} {i} {old} {new} {q} {gap} s m l f n =
     one : (p : ℕ) → q - 1 ≤ p → p < q → at (row ms w i) p ≡ whole → at ms (w * i + (q - 1)) ≡ whole
     one p x y h = let e : p ≡ q - 1 = omega arith in rw (← e) (sym (row-at ms w i p (omega arith)) ∙ h)
 
-pub charts-all : {ms : List ℕ} {w i : ℕ} {old new : List ℕ} {q gap : ℕ} → Charting ms w i old new q gap → q ≡ 0 → w * i + w ≤ length ms → length old ≡ length ms → Charted ms w i old new
+pub charts-all : {ms : List ℕ} {w i : ℕ} {old new : List ℕ} {q gap : ℕ} → Charting ms w i old new q gap → q ≡ 0 → w * i + w ≤ length ms
+    → length old ≡ length ms → Charted ms w i old new
 charts-all {ms} {w} {i} {old} {new} s e f g = record {
   own = record {
     same = row-length new w i (omega (arith, s .same)) ∙ sym (row-length ms w i f);
@@ -153,17 +171,20 @@ pub record Charts (ps ms : List ℕ) (w : ℕ) (hop : List ℕ) (i : ℕ) : Type
   pub size : length hop ≡ length ms
   pub done : (j : ℕ) → j < i → Hops (row ms w j) (row hop w j)
 
-same-row : (w j : ℕ) (a b : List ℕ) → length a ≡ length b → ((q : ℕ) → q < w → at a (w * j + q) ≡ at b (w * j + q)) → w * j + w ≤ length b → row a w j ≡ row b w j
+same-row : (w j : ℕ) (a b : List ℕ) → length a ≡ length b → ((q : ℕ) → q < w → at a (w * j + q) ≡ at b (w * j + q)) → w * j + w ≤ length b
+    → row a w j ≡ row b w j
 same-row w j a b e h l = ext-getD 0 (row a w j) (row b w j) (row-length a w j (omega arith) ∙ sym (row-length b w j l))
     (λ q m. let z : q < w = omega (arith, row-length a w j (omega arith)) in row-at a w j q z ∙ h q z ∙ sym (row-at b w j q z))
 
-pub charts-on : {ps ms : List ℕ} {w : ℕ} {hop new : List ℕ} {i : ℕ} → Market ps ms w → Charts ps ms w hop i → i < length ps → length new ≡ length hop → Charted ms w i hop new → Charts ps ms w new (i + 1)
+pub charts-on : {ps ms : List ℕ} {w : ℕ} {hop new : List ℕ} {i : ℕ} → Market ps ms w → Charts ps ms w hop i → i < length ps
+    → length new ≡ length hop → Charted ms w i hop new → Charts ps ms w new (i + 1)
 charts-on {ps} {ms} {w} {hop} {new} {i} m s l e c = record { size = e ∙ s .size; done = λ j z. go j z (eqb j i) refl }
   where
     go : (j : ℕ) → j < i + 1 → (t : Bool) → eqb j i ≡ t → Hops (row ms w j) (row new w j)
     go j z true d = rw (eqb-true j i d) (c .own)
     go j z false d = let y : j < i = omega (arith, eqb-false j i d) in
-        rw (same-row w j new hop e (λ q v. c .others (w * j + q) (inl (omega (arith, mul-le-mul-left w y, mul-suc w j)))) (omega (arith, row-in ps ms w j m (omega arith), s .size))) (s .done j y)
+        rw (same-row w j new hop e (λ q v. c .others (w * j + q) (inl (omega (arith, mul-le-mul-left w y, mul-suc w j))))
+        (omega (arith, row-in ps ms w j m (omega arith), s .size))) (s .done j y)
 
 pub charts-end : {ps ms : List ℕ} {w : ℕ} {hop : List ℕ} {i : ℕ} → Charts ps ms w hop i → length ps ≤ i → Hopping ps ms hop w
 charts-end s l = record { size = s .size; each = λ j z. s .done j (omega arith) }
@@ -171,7 +192,8 @@ charts-end s l = record { size = s .size; each = λ j z. s .done j (omega arith)
 -- ---- the bids of each word
 cell-row : (index : List ℕ) (q i : ℕ) → i < 1024 → cell (row index 16 q) i ≡ cell index (1024 * q + i)
 unfolding cell
-cell-row index q i l = let a : (1024 * q + i) / 64 ≡ 16 * q + i / 64 = omega arith in let b : (1024 * q + i) % 64 ≡ i % 64 = omega arith in rw (row-at index 16 q (i / 64) (omega arith), a, b)
+cell-row index q i l = let a : (1024 * q + i) / 64 ≡ 16 * q + i / 64 = omega arith in let b : (1024 * q + i) % 64 ≡ i % 64 =
+    omega arith in rw (row-at index 16 q (i / 64) (omega arith), a, b)
 
 -- the words of bid i below q are entered
 pub record Enlisting (ms : List ℕ) (w i : ℕ) (old new : List ℕ) (q : ℕ) : Type 0 where
@@ -190,11 +212,13 @@ module _ {ms : List ℕ} {w i : ℕ} {old new : List ℕ} {q : ℕ} (s : Enlisti
       go p l n true d = absurd (n (ap (at (row ms w i)) (eqb-true p q d) ∙ e))
       go p l n false d = s .done p (omega (arith, eqb-false p q d)) n
 
-  pub enlists-some : {next : List ℕ} → length next ≡ length new → Filled (1024 * q + i) (1024 * q + i + 1) new next → Enlisting ms w i old next (q + 1)
+  pub enlists-some : {next : List ℕ} → length next ≡ length new → Filled (1024 * q + i) (1024 * q + i + 1) new next
+      → Enlisting ms w i old next (q + 1)
   enlists-some {next} e f = record { same = e ∙ s .same; kept = λ x z. stays x (s .kept x z); done = λ p l n. go p l n (eqb p q) refl }
     where
       stays : (x : ℕ) → cell new x ≡ 1 → cell next x ≡ 1
-      stays x z = ⊎-elim (λ a. f .below x a ∙ z) (λ a. ⊎-elim (λ b. f .inside x a b) (λ b. f .above x b ∙ z) (lt-or-le x (1024 * q + i + 1))) (lt-or-le x (1024 * q + i))
+      stays x z = ⊎-elim (λ a. f .below x a ∙ z) (λ a. ⊎-elim (λ b. f .inside x a b) (λ b. f .above x b ∙ z)
+          (lt-or-le x (1024 * q + i + 1))) (lt-or-le x (1024 * q + i))
 
       go : (p : ℕ) → p < q + 1 → (at (row ms w i) p ≡ 0 → ⊥) → (t : Bool) → eqb p q ≡ t → cell next (1024 * p + i) ≡ 1
       go p l n true d = rw (eqb-true p q d) (f .inside (1024 * q + i) (omega arith) (omega arith))
@@ -202,7 +226,11 @@ module _ {ms : List ℕ} {w i : ℕ} {old new : List ℕ} {q : ℕ} (s : Enlisti
 
   -- the words between q and r have no cell
   pub enlists-past : {p r : ℕ} → q ≡ p + 1 → Onward (row ms w i) p r → Enlisting ms w i old new r
-  enlists-past {p} {r} e o = record { same = s .same; kept = s .kept; done = λ x l n. ⊎-elim (λ a. s .done x a n) (λ a. absurd (n (o .gap x (omega arith) l))) (lt-or-le x q) }
+  enlists-past {p} {r} e o = record {
+    same = s .same;
+    kept = s .kept;
+    done = λ x l n. ⊎-elim (λ a. s .done x a n) (λ a. absurd (n (o .gap x (omega arith) l))) (lt-or-le x q);
+  }
 
   pub enlists-all : w ≤ q → Enlisted ms w i old new
   enlists-all l = record { kept = s .kept; own = λ p a n. s .done p (omega arith) n }
@@ -211,12 +239,18 @@ pub record Enlists (ps ms : List ℕ) (w : ℕ) (index : List ℕ) (i : ℕ) : T
   pub size : length index ≡ 16 * w
   pub done : (j p : ℕ) → j < i → p < w → (at (row ms w j) p ≡ 0 → ⊥) → cell index (1024 * p + j) ≡ 1
 
-pub enlists-on : {ps ms : List ℕ} {w : ℕ} {index new : List ℕ} {i : ℕ} → Enlists ps ms w index i → length new ≡ length index → Enlisted ms w i index new → Enlists ps ms w new (i + 1)
+pub enlists-on : {ps ms : List ℕ} {w : ℕ} {index new : List ℕ} {i : ℕ} → Enlists ps ms w index i → length new ≡ length index
+    → Enlisted ms w i index new → Enlists ps ms w new (i + 1)
 enlists-on {ps} {ms} {w} {index} {new} {i} s e c = record { size = e ∙ s .size; done = λ j p z y n. go j p z y n (eqb j i) refl }
   where
     go : (j p : ℕ) → j < i + 1 → p < w → (at (row ms w j) p ≡ 0 → ⊥) → (t : Bool) → eqb j i ≡ t → cell new (1024 * p + j) ≡ 1
     go j p z y n true d = let f = eqb-true j i d in rw f (c .own p y (rw f at n))
     go j p z y n false d = c .kept (1024 * p + j) (s .done j p (omega (arith, eqb-false j i d)) y n)
 
-pub enlists-end : {ps ms : List ℕ} {w : ℕ} {index : List ℕ} {i : ℕ} → Market ps ms w → Enlists ps ms w index i → length ps ≤ i → Indexed ps ms index w
-enlists-end {index = index} m s l = record { size = s .size; lists = λ j q a b n. cell-row index q j (omega (arith, m .priced .count)) ∙ s .done j q (omega arith) b n }
+pub enlists-end : {ps ms : List ℕ} {w : ℕ} {index : List ℕ} {i : ℕ} → Market ps ms w → Enlists ps ms w index i → length ps ≤ i
+    → Indexed ps ms index w
+enlists-end {index = index} m s l = record {
+  size = s .size;
+  lists = λ j q a b n. cell-row index q j (omega (arith, m .priced .count))
+      ∙ s .done j q (omega arith) b n;
+}

@@ -69,7 +69,8 @@ pub fn chart(prices: &[u64], masks: &[u64], w: usize, hop: &mut [u8])
 
 // Enters bid i in the set of each word where it has a cell.
 fn enlist_row(masks: &[u64], hop: &[u8], w: usize, i: usize, index: &mut [u64])
-    requires { ⌜ (w ≤ 158) × ((w * i + w ≤ length (now masks)) × ((length (now hop) ≡ length (now masks)) × (Hops (row (now masks) w i) (row (now hop) w i)
+    requires { ⌜ (w ≤ 158) × ((w * i + w ≤ length (now masks))
+        × ((length (now hop) ≡ length (now masks)) × (Hops (row (now masks) w i) (row (now hop) w i)
         × ((i < 1000) × (length (now index) ≡ 16 * w))))) ⌝ }
     ensures { λ _. ⌜ Enlisted (now (masks .entry)) w i (now (index .entry)) (now (index .exit)) ⌝ }
 {

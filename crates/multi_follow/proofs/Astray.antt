@@ -23,14 +23,20 @@ module _ (p r s d : ℕ → ℕ) (n : ℕ) (same : (i : ℕ) → i < n → d i �
   }
 
   -- bid j is the best of the disturbed, and comes before the main run's next
-  pub takes-other : (m j : ℕ) → Best p r n m → j < n → 0 < s j → Bound p s d n j (p j) (s j) → p j * r m + late j m ≤ p m * s j → Best p s n j
+  pub takes-other : (m j : ℕ) → Best p r n m → j < n → 0 < s j → Bound p s d n j (p j) (s j) → p j * r m + late j m ≤ p m * s j
+      → Best p s n j
   takes-other m j x l g h a = record {
     inside = l;
     good = g;
-    least = λ i q k. ⊎-elim (λ z. rw (same i q z) (ahead j m i (p j) (s j) (p m) (r m) (p i) (r i) g (x .good) (omega (arith, same i q z)) a (x .least i q (omega (arith, same i q z)))))
+    least = λ i q k. ⊎-elim (λ z. rw (same i q z) (ahead j m i (p j) (s j) (p m) (r m) (p i) (r i) g (x .good) (omega (arith, same i q z))
+        a (x .least i q (omega (arith, same i q z)))))
         (λ z. h i q z k .1) (zero-or (d i));
   }
 
   -- the main run is over
   pub takes-last : (j : ℕ) → ((i : ℕ) → i < n → r i ≡ 0) → j < n → 0 < s j → Bound p s d n j (p j) (s j) → Best p s n j
-  takes-last j x l g h = record { inside = l; good = g; least = λ i q k. ⊎-elim (λ z. absurd (omega (arith, same i q z, x i q))) (λ z. h i q z k .1) (zero-or (d i)) }
+  takes-last j x l g h = record {
+    inside = l;
+    good = g;
+    least = λ i q k. ⊎-elim (λ z. absurd (omega (arith, same i q z, x i q))) (λ z. h i q z k .1) (zero-or (d i));
+  }

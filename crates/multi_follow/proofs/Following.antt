@@ -25,24 +25,39 @@ use Rattle.multi_rounds.proofs.Filling.{no-cell}
 use Rattle.multi_marks.specs.Marks.{Disturbed, Strayed}
 use Rattle.multi_follow.specs.Follow.{raised, Raised, bar-from, Standing, Course, Following, Takes, Followed}
 use Rattle.multi_follow.proofs.Limiting.{others, bar-none}
-use Rattle.multi_follow.proofs.Strayed.{both-close, main-closes, other-closes, after-scan, scan-main, scan-other, scan-last, scan-none}
+use Rattle.multi_follow.proofs.Strayed.{both-close, main-closes, other-closes, after-scan, scan-main, scan-other, scan-last}
+use Rattle.multi_follow.proofs.Strayed.{scan-none}
 
-pub gains-some : {ps ms : List ℕ} {w n : ℕ} {order gains : List ℕ} {rounds : ℕ} → Trace ps ms w n order gains rounds → (g : ℕ) → g < rounds → 0 < at gains g
+pub gains-some : {ps ms : List ℕ} {w n : ℕ} {order gains : List ℕ} {rounds : ℕ} → Trace ps ms w n order gains rounds → (g : ℕ)
+    → g < rounds → 0 < at gains g
 gains-some tr g l = omega (arith, tr .gets g l, main-best tr g l .good)
 
-opened-of : {ms : List ℕ} {w n : ℕ} {order : List ℕ} {g : ℕ} {held : List ℕ} → Standing ms w n order g held → opens (before ms w n order g) (64 * w) ≡ openOf held
+opened-of : {ms : List ℕ} {w n : ℕ} {order : List ℕ} {g : ℕ} {held : List ℕ} → Standing ms w n order g held
+    → opens (before ms w n order g) (64 * w) ≡ openOf held
 unfolding openOf
-opened-of {ms} {w} {n} {order} {g} {held} st = rw (st .words) (opens-same (before ms w n order g) (cell held) (64 * w) (λ x. sym (st .stands x)))
+opened-of {ms} {w} {n} {order} {g} {held} st = rw (st .words)
+    (opens-same (before ms w n order g) (cell held) (64 * w) (λ x. sym (st .stands x)))
 
 -- one round more of the main run
-after-round : (ms : List ℕ) (w n : ℕ) (order : List ℕ) (g b : ℕ) → b ≡ at order g → (x : ℕ) → before ms w n order g x - cell (row ms w b) x ≡ before ms w n order (g + 1) x
+after-round : (ms : List ℕ) (w n : ℕ) (order : List ℕ) (g b : ℕ) → b ≡ at order g → (x : ℕ)
+    → before ms w n order g x - cell (row ms w b) x ≡ before ms w n order (g + 1) x
 unfolding before
 after-round ms w n order g b q x = rw (add-one, q)
 
-strayed-as : {ps ms : List ℕ} {w k : ℕ} {alt stale mark : List ℕ} {og og′ : ℕ → ℕ} → Strayed ps ms w k alt stale mark og → ((x : ℕ) → og x ≡ og′ x) → Strayed ps ms w k alt stale mark og′
-strayed-as s e = record { words = s .words; sized = s .sized; own = s .own; skip = s .skip; out = s .out; bound = s .bound; same = λ i l z x h. s .same i l z x h ∙ e x }
+strayed-as : {ps ms : List ℕ} {w k : ℕ} {alt stale mark : List ℕ} {og og′ : ℕ → ℕ} → Strayed ps ms w k alt stale mark og
+    → ((x : ℕ) → og x ≡ og′ x) → Strayed ps ms w k alt stale mark og′
+strayed-as s e = record {
+  words = s .words;
+  sized = s .sized;
+  own = s .own;
+  skip = s .skip;
+  out = s .out;
+  bound = s .bound;
+  same = λ i l z x h. s .same i l z x h ∙ e x;
+}
 
-module _ {ps ms hop index : List ℕ} {w n : ℕ} {order gains : List ℕ} {rounds h k : ℕ} (co : Course ps ms hop index w n order gains rounds h k) where
+module _ {ps ms hop index : List ℕ} {w n : ℕ} {order gains : List ℕ} {rounds h k : ℕ}
+    (co : Course ps ms hop index w n order gains rounds h k) where
   pub inside : k < length ps
   inside = rw (co .own) (co .main .route .inside h (co .here))
 
@@ -57,20 +72,35 @@ module _ {ps ms hop index : List ℕ} {w n : ℕ} {order gains : List ℕ} {roun
     pub ends-own : mine ≡ 0 → Followed ps ms w n order h top
     unfolding bar-from rounds-of
     ends-own z = record {
-      is = rw (← co .own) (sym (s .highest ∙ ap (max top) (bar-none k (has ms w k) (others k ps ms w) (length ps) (openOf alt) (sym (s .own) ∙ z)) ∙ omega arith));
+      is = rw (← co .own) (sym (s .highest ∙ ap (max top)
+          (bar-none k (has ms w k) (others k ps ms w) (length ps) (openOf alt) (sym (s .own) ∙ z)) ∙ omega arith));
       small = s .small;
     }
 
     -- the front is known
-    module _ {new : List ℕ} {rival ask gain : ℕ} {free : Bool} {b p c : ℕ} {clear : Bool} (f : Fronted ps ms w alt stale new rival ask gain free b p c clear) where
+    module _ {new : List ℕ} {rival ask gain : ℕ} {free : Bool} {b p c : ℕ} {clear : Bool}
+        (f : Fronted ps ms w alt stale new rival ask gain free b p c clear) where
       pub scanned : Following ps ms w n order gains rounds h k alt new mark top mine g
-      scanned = record { strayed = after-scan inside (co .market .words) (s .strayed) f; reached = s .reached; own = s .own; few = s .few; gone = s .gone; highest = s .highest; small = s .small }
+      scanned = record {
+        strayed = after-scan inside (co .market .words) (s .strayed) f;
+        reached = s .reached;
+        own = s .own;
+        few = s .few;
+        gone = s .gone;
+        highest = s .highest;
+        small = s .small;
+      }
 
-      pub takes-main : g < rounds → rival ≡ at order g → ask ≡ at ps (at order g) → gain ≡ at gains g → cell mark (at order g) ≡ 0 → clear ≡ true → Takes ps ms w k alt (at order g) (at ps (at order g)) (at gains g)
-      takes-main l e a y z d = rw (co .main .gets g l) (scan-main inside (co .market .words) (s .strayed) f (at order g) (main-best (co .main) g l) z (rw (e, a, y, co .main .gets g l) at (f .clear-of d .1)))
+      pub takes-main : g < rounds → rival ≡ at order g → ask ≡ at ps (at order g) → gain ≡ at gains g → cell mark (at order g) ≡ 0
+          → clear ≡ true → Takes ps ms w k alt (at order g) (at ps (at order g)) (at gains g)
+      takes-main l e a y z d = rw (co .main .gets g l)
+          (scan-main inside (co .market .words) (s .strayed) f (at order g) (main-best (co .main) g l) z
+          (rw (e, a, y, co .main .gets g l) at (f .clear-of d .1)))
 
-      pub takes-other : clear ≡ false → b < length ps → g < rounds → p * at gains g + late b (at order g) ≤ at ps (at order g) * c → Takes ps ms w k alt b p c
-      takes-other e l m a = scan-other inside (co .market .words) (s .strayed) f e l (at order g) (main-best (co .main) g m) (rw (co .main .gets g m) at a)
+      pub takes-other : clear ≡ false → b < length ps → g < rounds → p * at gains g + late b (at order g) ≤ at ps (at order g) * c
+          → Takes ps ms w k alt b p c
+      takes-other e l m a = scan-other inside (co .market .words) (s .strayed) f e l (at order g) (main-best (co .main) g m)
+          (rw (co .main .gets g m) at a)
 
       pub takes-last : clear ≡ false → b < length ps → rounds ≤ g → Takes ps ms w k alt b p c
       takes-last e l m = scan-last inside (co .market .words) (s .strayed) f e l (over-main m)
@@ -78,7 +108,9 @@ module _ {ps ms hop index : List ℕ} {w n : ℕ} {order gains : List ℕ} {roun
       pub ends-none : clear ≡ false → length ps ≤ b → rounds ≤ g → Followed ps ms w n order h top
       unfolding bar-from rounds-of bar
       ends-none e q m = record {
-        is = rw (← co .own) (sym (s .highest ∙ ap (λ (t : Rounds). max top (bar k (has ms w k) t)) (rounds-stop (others k ps ms w) (length ps) (openOf alt) (scan-none inside (co .market .words) (s .strayed) f e q (over-main m))) ∙ omega arith));
+        is = rw (← co .own) (sym (s .highest ∙ ap (λ (t : Rounds). max top (bar k (has ms w k) t))
+            (rounds-stop (others k ps ms w) (length ps) (openOf alt)
+            (scan-none inside (co .market .words) (s .strayed) f e q (over-main m))) ∙ omega arith));
         small = s .small;
       }
 
@@ -87,7 +119,8 @@ module _ {ps ms hop index : List ℕ} {w n : ℕ} {order gains : List ℕ} {roun
     gone-after x e = rw add-one (omega (arith, s .gone x e))
 
     -- the main run goes on alone
-    pub skips : g < rounds → {stale′ mark′ : List ℕ} → Sized stale′ → Disturbed ps ms w alt (at order g) stale mark stale′ mark′ → Following ps ms w n order gains rounds h k alt stale′ mark′ top mine (g + 1)
+    pub skips : g < rounds → {stale′ mark′ : List ℕ} → Sized stale′ → Disturbed ps ms w alt (at order g) stale mark stale′ mark′
+        → Following ps ms w n order gains rounds h k alt stale′ mark′ top mine (g + 1)
     unfolding before
     skips l z d = record {
       strayed = rw add-one (main-closes inside (co .market .words) (s .strayed) z d);
@@ -100,7 +133,8 @@ module _ {ps ms hop index : List ℕ} {w n : ℕ} {order gains : List ℕ} {roun
     }
 
     -- the run without k takes bid b and closes its cells
-    module _ {b p c : ℕ} (t : Takes ps ms w k alt b p c) {r more : ℕ} (a : Raised k b p c mine r) (x : more ≡ max top r) {rest : List ℕ} (e : length rest ≡ length alt) (d : Closed alt (row ms w b) rest) where
+    module _ {b p c : ℕ} (t : Takes ps ms w k alt b p c) {r more : ℕ} (a : Raised k b p c mine r) (x : more ≡ max top r) {rest : List ℕ}
+        (e : length rest ≡ length alt) (d : Closed alt (row ms w b) rest) where
       plain : others k ps ms w b ≡ bids (has ms w) ps b
       plain = withdrawn-other k (bids (has ms w) ps) b (t .other)
 
@@ -114,16 +148,19 @@ module _ {ps ms hop index : List ℕ} {w n : ℕ} {order gains : List ℕ} {roun
 
       one-round : bar-from ps ms w k (opens (before ms w n order h) (64 * w)) ≡ max more (bar-from ps ms w k (openOf rest))
       unfolding bar-from rounds-of bar
-      one-round = s .highest ∙ ap (λ (t : Rounds). max top (bar k (has ms w k) t)) (rounds-more (others k ps ms w) (length ps) (openOf alt) b (t .next)) ∙ rw (closes, ← shared, ← a .is) (omega arith)
+      one-round = s .highest ∙ ap (λ (t : Rounds). max top (bar k (has ms w k) t))
+          (rounds-more (others k ps ms w) (length ps) (openOf alt) b (t .next)) ∙ rw (closes, ← shared, ← a .is) (omega arith)
 
       small-after : more ≤ 1011200000001
       small-after = omega (arith, s .small, a .small)
 
       pub fewer-open : length (openOf rest) < length (openOf alt)
-      fewer-open = rw (← close-open alt rest ms w b e d) (omega (arith, t .some, t .cells, reach-open alt ms w b, shrink (has ms w b) (openOf alt)))
+      fewer-open = rw (← close-open alt rest ms w b e d)
+          (omega (arith, t .some, t .cells, reach-open alt ms w b, shrink (has ms w b) (openOf alt)))
 
       -- both runs take it
-      both-with : b ≡ at order g → g < rounds → {next : ℕ} → next ≡ reach (has ms w k) (openOf rest) → next ≤ 10112 → Following ps ms w n order gains rounds h k rest stale mark more next (g + 1)
+      both-with : b ≡ at order g → g < rounds → {next : ℕ} → next ≡ reach (has ms w k) (openOf rest) → next ≤ 10112
+          → Following ps ms w n order gains rounds h k rest stale mark more next (g + 1)
       unfolding before
       both-with q l y m = record {
         strayed = strayed-as (both-close inside (co .market .words) (s .strayed) b e d) (after-round ms w n order g b q);
@@ -138,13 +175,15 @@ module _ {ps ms hop index : List ℕ} {w n : ℕ} {order gains : List ℕ} {roun
       -- a bid that is not marked shares no open cell with bid k
       own-kept : cell mark b ≡ 0 → reach (has ms w k) (openOf alt) ≡ reach (has ms w k) (openOf rest)
       unfolding openOf has
-      own-kept z = rw e (reach-alike (has ms w k) (cell alt) (cell rest) (64 * length alt) (λ x q. go x (eqb-true (cell (row ms w k) x) 1 q) (two-way (row ms w b) x)))
+      own-kept z = rw e (reach-alike (has ms w k) (cell alt) (cell rest) (64 * length alt)
+          (λ x q. go x (eqb-true (cell (row ms w k) x) 1 q) (two-way (row ms w b) x)))
         where
           go : (x : ℕ) → cell (row ms w k) x ≡ 1 → (cell (row ms w b) x ≡ 0) ⊎ (cell (row ms w b) x ≡ 1) → cell alt x ≡ cell rest x
           go x y (inl u) = omega (arith, d .clears x)
           go x y (inr u) = omega (arith, d .clears x, s .strayed .same b (t .inside) z x u, s .gone x y)
 
-      pub main-step : b ≡ at order g → g < rounds → cell mark b ≡ 0 → Following ps ms w n order gains rounds h k rest stale mark more mine (g + 1)
+      pub main-step : b ≡ at order g → g < rounds → cell mark b ≡ 0
+          → Following ps ms w n order gains rounds h k rest stale mark more mine (g + 1)
       main-step q l z = both-with q l (s .own ∙ own-kept z) (s .few)
 
       module _ {next : ℕ} (y : next ≡ common rest (row ms w k)) where
@@ -154,7 +193,8 @@ module _ {ps ms hop index : List ℕ} {w n : ℕ} {order gains : List ℕ} {roun
         pub both-step : b ≡ at order g → g < rounds → Following ps ms w n order gains rounds h k rest stale mark more next (g + 1)
         both-step q l = both-with q l (y ∙ sym (reach-open rest ms w k)) next-few
 
-        pub other-step : {stale′ mark′ : List ℕ} → Sized stale′ → Disturbed ps ms w alt b stale mark stale′ mark′ → Following ps ms w n order gains rounds h k rest stale′ mark′ more next g
+        pub other-step : {stale′ mark′ : List ℕ} → Sized stale′ → Disturbed ps ms w alt b stale mark stale′ mark′
+            → Following ps ms w n order gains rounds h k rest stale′ mark′ more next g
         other-step z dist = record {
           strayed = other-closes inside (co .market .words) (s .strayed) z dist e d;
           reached = s .reached;
@@ -166,8 +206,10 @@ module _ {ps ms hop index : List ℕ} {w n : ℕ} {order gains : List ℕ} {roun
         }
 
   -- how it starts: the cells of the main run before round h, k alone marked, then the bids that share a cell with k
-  pub starts : {held : List ℕ} → Standing ms w n order h held → {stale none mark : List ℕ} → ((i : ℕ) → at stale i ≡ 0) → Cleared none → Filled k (k + 1) none mark → {stale′ mark′ : List ℕ} → Sized stale′
-      → Disturbed ps ms w held k stale mark stale′ mark′ → Following ps ms w n order gains rounds h k held stale′ mark′ 0 (at gains h) (h + 1)
+  pub starts : {held : List ℕ} → Standing ms w n order h held → {stale none mark : List ℕ} → ((i : ℕ) → at stale i ≡ 0) → Cleared none
+      → Filled k (k + 1) none mark → {stale′ mark′ : List ℕ} → Sized stale′
+      → Disturbed ps ms w held k stale mark stale′ mark′
+      → Following ps ms w n order gains rounds h k held stale′ mark′ 0 (at gains h) (h + 1)
   unfolding before bar-from
   starts {held} st {stale} {none} {mark} zs zm fm {stale′} {mark′} z d = record {
     strayed = strayed-as (main-closes inside (co .market .words) first z d) (after-round ms w n order h k (co .own));

@@ -32,8 +32,15 @@ module _ (k i q c m : ℕ) (x : ℕ) (e : x ≡ q * m) (p : 0 < m) (fits : x ≤
 
   pub raise-late : i < k → (x ≡ 0 → ⊥) → Raised k i q c m ((x - 1) / c + 1)
   unfolding raised
-  raise-late l z = record { is = rw (lt-ltb 0 m p, late-yes k i l, ← e, le-leb 1 x (omega arith)) (omega arith); small = omega (arith, div-le-self (x - 1) c) }
+  raise-late l z = record {
+    is = rw (lt-ltb 0 m p, late-yes k i l, ← e, le-leb 1 x (omega arith)) (omega arith);
+    small = omega (arith, div-le-self (x - 1) c);
+  }
 
   pub raise-early : k ≤ i → Raised k i q c m (x / c + 1)
   unfolding raised
-  raise-early l = record { is = let z : x - 0 ≡ x = omega arith in rw (lt-ltb 0 m p, late-no k i l, ← e, le-leb 0 x (omega arith), z) (omega arith); small = omega (arith, div-le-self x c) }
+  raise-early l = record {
+    is = let z : x - 0 ≡ x = omega arith in
+        rw (lt-ltb 0 m p, late-no k i l, ← e, le-leb 0 x (omega arith), z) (omega arith);
+    small = omega (arith, div-le-self x c);
+  }

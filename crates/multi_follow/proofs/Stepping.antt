@@ -20,12 +20,14 @@ use Rattle.multi_rounds.proofs.Opens.{two-way}
 use Rattle.multi_follow.specs.Follow.{Took, Course, Walking, Takes, Stepped}
 use Rattle.multi_follow.proofs.Following.{scanned, ends-none, skips, fewer-open, main-step, both-step, other-step}
 
-module _ {ps ms hop index : List ℕ} {w n : ℕ} {order gains : List ℕ} {rounds h k : ℕ} (co : Course ps ms hop index w n order gains rounds h k) where
+module _ {ps ms hop index : List ℕ} {w n : ℕ} {order gains : List ℕ} {rounds h k : ℕ}
+    (co : Course ps ms hop index w n order gains rounds h k) where
   -- the words of a bid, for a call
   pub bid-row : (i : ℕ) → i < length ps → w * i + w ≤ length ms
   bid-row i l = row-in ps ms w i (co .market) l
 
-  module _ {alt counts who num mark : List ℕ} {top mine g : ℕ} (s : Walking ps ms w n order gains rounds h k alt counts who num mark top mine g) where
+  module _ {alt counts who num mark : List ℕ} {top mine g : ℕ}
+      (s : Walking ps ms w n order gains rounds h k alt counts who num mark top mine g) where
     pub words : length alt ≡ w
     words = s .follow .strayed .words
 
@@ -33,43 +35,64 @@ module _ {ps ms hop index : List ℕ} {w n : ℕ} {order gains : List ℕ} {roun
     price-small {b} t = omega (arith, t .price, co .market .priced .most b)
 
     -- the marked bids were counted anew
-    pub fronted : {counts′ who′ num′ : List ℕ} → Tournament ps who′ num′ → {rival ask gain : ℕ} {free : Bool} {b p c : ℕ} {clear : Bool} → Fronted ps ms w alt (known num) (known num′) rival ask gain free b p c clear
+    pub fronted : {counts′ who′ num′ : List ℕ} → Tournament ps who′ num′ → {rival ask gain : ℕ} {free : Bool} {b p c : ℕ} {clear : Bool}
+        → Fronted ps ms w alt (known num) (known num′) rival ask gain free b p c clear
         → Counted alt counts′ → Walking ps ms w n order gains rounds h k alt counts′ who′ num′ mark top mine g
     fronted t f y = record { follow = scanned co (s .follow) f; tree = t; counted = y; marks = s .marks }
 
     -- the run without k takes bid b
-    module _ {b p c : ℕ} (t : Takes ps ms w k alt b p c) {more : ℕ} (r : Took k b p c mine top more) {rest counts′ : List ℕ} (e : length rest ≡ length alt) (d : Closed alt (row ms w b) rest) (y : Counted rest counts′) where
+    module _ {b p c : ℕ} (t : Takes ps ms w k alt b p c) {more : ℕ} (r : Took k b p c mine top more) {rest counts′ : List ℕ}
+        (e : length rest ≡ length alt) (d : Closed alt (row ms w b) rest) (y : Counted rest counts′) where
       less : length (openOf rest) < length (openOf alt)
       less = fewer-open co (s .follow) t (r .raised-by) (r .is) e d
 
-      pub main-goes : b ≡ at order g → g < rounds → cell mark b ≡ 0 → Stepped ps ms w n order gains rounds h k alt rest counts′ who num mark g top (g + 1) mine more false
+      pub main-goes : b ≡ at order g → g < rounds → cell mark b ≡ 0
+          → Stepped ps ms w n order gains rounds h k alt rest counts′ who num mark g top (g + 1) mine more false
       main-goes q l z = record {
         tree = s .tree;
-        goes = λ a. record { follow = main-step co (s .follow) t (r .raised-by) (r .is) e d q l z; tree = s .tree; counted = y; marks = s .marks };
+        goes = λ a. record {
+          follow = main-step co (s .follow) t (r .raised-by) (r .is) e d q l z;
+          tree = s .tree;
+          counted = y;
+          marks = s .marks;
+        };
         falls = λ a. omega (arith, less);
         ends = λ a. absurd (false≢true a);
       }
 
       module _ {next : ℕ} (x : next ≡ common rest (row ms w k)) where
-        pub both-goes : b ≡ at order g → g < rounds → Stepped ps ms w n order gains rounds h k alt rest counts′ who num mark g top (g + 1) next more false
+        pub both-goes : b ≡ at order g → g < rounds → Stepped ps ms w n order gains rounds h k alt rest counts′ who num mark g top (g + 1)
+            next more false
         both-goes q l = record {
           tree = s .tree;
-          goes = λ a. record { follow = both-step co (s .follow) t (r .raised-by) (r .is) e d x q l; tree = s .tree; counted = y; marks = s .marks };
+          goes = λ a. record {
+            follow = both-step co (s .follow) t (r .raised-by) (r .is) e d x q l;
+            tree = s .tree;
+            counted = y;
+            marks = s .marks;
+          };
           falls = λ a. omega (arith, less);
           ends = λ a. absurd (false≢true a);
         }
 
-        pub other-goes : {who′ num′ mark′ : List ℕ} → Tournament ps who′ num′ → length mark′ ≡ length mark → Disturbed ps ms w alt b (known num) mark (known num′) mark′
+        pub other-goes : {who′ num′ mark′ : List ℕ} → Tournament ps who′ num′ → length mark′ ≡ length mark
+            → Disturbed ps ms w alt b (known num) mark (known num′) mark′
             → Stepped ps ms w n order gains rounds h k alt rest counts′ who′ num′ mark′ g top g next more false
         other-goes t′ m dist = record {
           tree = t′;
-          goes = λ a. record { follow = other-step co (s .follow) t (r .raised-by) (r .is) e d x (sized-of t′) dist; tree = t′; counted = y; marks = m ∙ s .marks };
+          goes = λ a. record {
+            follow = other-step co (s .follow) t (r .raised-by) (r .is) e d x (sized-of t′) dist;
+            tree = t′;
+            counted = y;
+            marks = m ∙ s .marks;
+          };
           falls = λ a. omega (arith, less);
           ends = λ a. absurd (false≢true a);
         }
 
     -- the main run goes on alone
-    pub skip-goes : g < rounds → {counts′ who′ num′ mark′ : List ℕ} → Tournament ps who′ num′ → length mark′ ≡ length mark → Disturbed ps ms w alt (at order g) (known num) mark (known num′) mark′
+    pub skip-goes : g < rounds → {counts′ who′ num′ mark′ : List ℕ} → Tournament ps who′ num′ → length mark′ ≡ length mark
+        → Disturbed ps ms w alt (at order g) (known num) mark (known num′) mark′
         → Counted alt counts′ → Stepped ps ms w n order gains rounds h k alt alt counts′ who′ num′ mark′ g top (g + 1) mine top false
     skip-goes l t′ m dist y = record {
       tree = t′;
@@ -78,9 +101,16 @@ module _ {ps ms hop index : List ℕ} {w n : ℕ} {order gains : List ℕ} {roun
       ends = λ a. absurd (false≢true a);
     }
 
-    pub over-goes : {who′ num′ : List ℕ} → Tournament ps who′ num′ → {rival ask gain : ℕ} {free : Bool} {b p c : ℕ} {clear : Bool} → Fronted ps ms w alt (known num) (known num′) rival ask gain free b p c clear
-        → clear ≡ false → length ps ≤ b → rounds ≤ g → {counts′ mark′ : List ℕ} → Stepped ps ms w n order gains rounds h k alt alt counts′ who′ num′ mark′ g top g mine top true
-    over-goes t′ f e q l = record { tree = t′; goes = λ a. absurd (true≢false a); falls = λ a. absurd (true≢false a); ends = λ a. ends-none co (s .follow) f e q l }
+    pub over-goes : {who′ num′ : List ℕ} → Tournament ps who′ num′ → {rival ask gain : ℕ} {free : Bool} {b p c : ℕ} {clear : Bool}
+        → Fronted ps ms w alt (known num) (known num′) rival ask gain free b p c clear
+        → clear ≡ false → length ps ≤ b → rounds ≤ g → {counts′ mark′ : List ℕ}
+        → Stepped ps ms w n order gains rounds h k alt alt counts′ who′ num′ mark′ g top g mine top true
+    over-goes t′ f e q l = record {
+      tree = t′;
+      goes = λ a. absurd (true≢false a);
+      falls = λ a. absurd (true≢false a);
+      ends = λ a. ends-none co (s .follow) f e q l;
+    }
 
 pub unmarked : (mark : List ℕ) (m : ℕ) (r : Bool) → r ≡ eqb (cell mark m) 1 → not r ≡ true → cell mark m ≡ 0
 unmarked mark m true e f = absurd (false≢true f)

@@ -28,7 +28,8 @@ use Rattle.multi_tournament.specs.Tournament.{at}
 use Rattle.multi_tournament.proofs.Order.{zero-or}
 use Rattle.multi_rounds.specs.Trace.{opens, openOf}
 
-module _ {ps ms : List ℕ} {w k : ℕ} {alt stale mark : List ℕ} {og : ℕ → ℕ} (inside : k < length ps) (few-words : w ≤ 158) (s : Strayed ps ms w k alt stale mark og) where
+module _ {ps ms : List ℕ} {w k : ℕ} {alt stale mark : List ℕ} {og : ℕ → ℕ} (inside : k < length ps) (few-words : w ≤ 158)
+    (s : Strayed ps ms w k alt stale mark og) where
   abbrev pub other : ℕ → ℕ
   other i = reach (others k ps ms w i .has) (openOf alt)
 
@@ -51,7 +52,8 @@ module _ {ps ms : List ℕ} {w k : ℕ} {alt stale mark : List ℕ} {og : ℕ �
   not-own i e d = omega (arith, s .own, rw d at e)
 
   -- both runs close bid m
-  pub both-close : (m : ℕ) {new : List ℕ} → length new ≡ length alt → Closed alt (row ms w m) new → Strayed ps ms w k new stale mark (λ x. og x - cell (row ms w m) x)
+  pub both-close : (m : ℕ) {new : List ℕ} → length new ≡ length alt → Closed alt (row ms w m) new
+      → Strayed ps ms w k new stale mark (λ x. og x - cell (row ms w m) x)
   both-close m {new} e c = record {
     words = e ∙ s .words;
     sized = s .sized;
@@ -63,14 +65,16 @@ module _ {ps ms : List ℕ} {w k : ℕ} {alt stale mark : List ℕ} {og : ℕ �
   }
     where
       falls : (i : ℕ) → common new (row ms w i) ≤ common alt (row ms w i)
-      falls i = rw (← reach-open new ms w i, ← reach-open alt ms w i, ← close-open alt new ms w m e c) (close-other (has ms w m) (has ms w i) (openOf alt))
+      falls i = rw (← reach-open new ms w i, ← reach-open alt ms w i, ← close-open alt new ms w m e c)
+          (close-other (has ms w m) (has ms w i) (openOf alt))
 
   module _ {j : ℕ} {stale′ mark′ : List ℕ} (z′ : Sized stale′) (d : Disturbed ps ms w alt j stale mark stale′ mark′) where
     was-free : (i : ℕ) → i < length ps → cell mark′ i ≡ 0 → cell mark i ≡ 0
     was-free i l z = ⊎-elim (λ a. a) (λ a. absurd (omega (arith, d .kept i l a .0))) (zero-or (cell mark i))
 
     bound-after : (i : ℕ) → i < length ps → 0 < cell mark′ i → (i ≡ k → ⊥) → common alt (row ms w i) ≤ at stale′ i
-    bound-after i l g n = ⊎-elim (λ a. omega (arith, d .moved i l a g)) (λ a. omega (arith, d .kept i l a .1, s .bound i l a n)) (zero-or (cell mark i))
+    bound-after i l g n = ⊎-elim (λ a. omega (arith, d .moved i l a g)) (λ a. omega (arith, d .kept i l a .1, s .bound i l a n))
+        (zero-or (cell mark i))
 
     -- the main run alone closes bid j
     pub main-closes : Strayed ps ms w k alt stale′ mark′ (λ x. og x - cell (row ms w j) x)
@@ -81,7 +85,8 @@ module _ {ps ms : List ℕ} {w k : ℕ} {alt stale mark : List ℕ} {og : ℕ �
       skip = d .kept k inside (s .own) .1 ∙ s .skip;
       out = λ i l z. d .still i l z .0 ∙ s .out i l (was-free i l z);
       bound = bound-after;
-      same = λ i l z x h. ⊎-elim (λ a. omega (arith, s .same i l (was-free i l z) x h)) (λ a. omega (arith, s .same i l (was-free i l z) x h, d .still i l z .1 x h a)) (two-way (row ms w j) x);
+      same = λ i l z x h. ⊎-elim (λ a. omega (arith, s .same i l (was-free i l z) x h))
+          (λ a. omega (arith, s .same i l (was-free i l z) x h, d .still i l z .1 x h a)) (two-way (row ms w j) x);
     }
 
     -- this run alone closes bid j
@@ -93,15 +98,21 @@ module _ {ps ms : List ℕ} {w k : ℕ} {alt stale mark : List ℕ} {og : ℕ �
       skip = d .kept k inside (s .own) .1 ∙ s .skip;
       out = λ i l z. d .still i l z .0 ∙ s .out i l (was-free i l z);
       bound = λ i l g n. omega (arith, bound-after i l g n, falls i);
-      same = λ i l z x h. ⊎-elim (λ a. omega (arith, c .clears x, s .same i l (was-free i l z) x h)) (λ a. omega (arith, c .clears x, s .same i l (was-free i l z) x h, d .still i l z .1 x h a)) (two-way (row ms w j) x);
+      same = λ i l z x h. ⊎-elim (λ a. omega (arith, c .clears x, s .same i l (was-free i l z) x h))
+          (λ a. omega (arith, c .clears x, s .same i l (was-free i l z) x h, d .still i l z .1 x h a)) (two-way (row ms w j) x);
     }
       where
         falls : (i : ℕ) → common new (row ms w i) ≤ common alt (row ms w i)
-        falls i = rw (← reach-open new ms w i, ← reach-open alt ms w i, ← close-open alt new ms w j e c) (close-other (has ms w j) (has ms w i) (openOf alt))
+        falls i = rw (← reach-open new ms w i, ← reach-open alt ms w i, ← close-open alt new ms w j e c)
+            (close-other (has ms w j) (has ms w i) (openOf alt))
 
   -- a scan of the marked bids
   pub knows : Known ps ms w alt stale
-  knows = record { sized = s .sized; most = λ i l g. ⊎-elim (λ a. absurd (omega (arith, s .out i l a))) (λ a. s .bound i l a (λ e. omega (arith, s .skip, rw e at g))) (zero-or (cell mark i)) }
+  knows = record {
+    sized = s .sized;
+    most = λ i l g. ⊎-elim (λ a. absurd (omega (arith, s .out i l a)))
+        (λ a. s .bound i l a (λ e. omega (arith, s .skip, rw e at g))) (zero-or (cell mark i));
+  }
 
   live-in : (i : ℕ) → i < length ps → 0 < cell mark i → live ms w alt stale i ≡ other i
   unfolding live
@@ -145,7 +156,8 @@ module _ {ps ms : List ℕ} {w k : ℕ} {alt stale mark : List ℕ} {og : ℕ �
       (best-right (others k ps ms w) (length ps) (openOf alt)) (λ i l g. omega (arith, x i l))
 
   -- the marked bids were counted anew until the front is known
-  module _ {new : List ℕ} {rival ask gain : ℕ} {free : Bool} {b p c : ℕ} {clear : Bool} (f : Fronted ps ms w alt stale new rival ask gain free b p c clear) where
+  module _ {new : List ℕ} {rival ask gain : ℕ} {free : Bool} {b p c : ℕ} {clear : Bool}
+      (f : Fronted ps ms w alt stale new rival ask gain free b p c clear) where
     pub after-scan : Strayed ps ms w k alt new mark og
     after-scan = record {
       words = s .words;
@@ -163,7 +175,8 @@ module _ {ps ms : List ℕ} {w k : ℕ} {alt stale mark : List ℕ} {og : ℕ �
         (y .0, omega (arith, y .1, mul-le-mul-left p h))
 
     -- the main run's next bid is not marked and comes before the front
-    pub scan-main : (m : ℕ) → Best (at ps) main (length ps) m → cell mark m ≡ 0 → at ps m * c + late m b ≤ p * main m → Takes ps ms w k alt m (at ps m) (main m)
+    pub scan-main : (m : ℕ) → Best (at ps) main (length ps) m → cell mark m ≡ 0 → at ps m * c + late m b ≤ p * main m
+        → Takes ps ms w k alt m (at ps m) (main m)
     scan-main m x e a = record {
       inside = x .inside;
       other = not-own m e;
@@ -171,7 +184,12 @@ module _ {ps ms : List ℕ} {w k : ℕ} {alt stale mark : List ℕ} {og : ℕ �
       price = refl;
       cells = sym (alike m (x .inside) e) ∙ other-is m (not-own m e);
       some = x .good;
-      few = omega (arith, alike m (x .inside) e, other-is m (not-own m e), common-few alt (row ms w m) (omega (arith, s .words, few-words)));
+      few = omega (
+        arith,
+        alike m (x .inside) e,
+        other-is m (not-own m e),
+        common-few alt (row ms w m) (omega (arith, s .words, few-words)),
+      );
     }
 
     module _ (e : clear ≡ false) (l : b < length ps) where
@@ -179,7 +197,8 @@ module _ {ps ms : List ℕ} {w k : ℕ} {alt stale mark : List ℕ} {og : ℕ �
       some-cells = ⊎-elim (λ z. absurd (omega (arith, f .none z))) (λ z. z) (zero-or c)
 
       leads-marked : 0 < cell mark b
-      leads-marked = ⊎-elim (λ z. absurd (omega (arith, f .high b, f .inside some-cells .1 .1, s .out b l z, some-cells))) (λ z. z) (zero-or (cell mark b))
+      leads-marked = ⊎-elim (λ z. absurd (omega (arith, f .high b, f .inside some-cells .1 .1, s .out b l z, some-cells))) (λ z. z)
+          (zero-or (cell mark b))
 
       front-gains : other b ≡ c
       front-gains = sym (live-in b l leads-marked) ∙ sym (turned f e .exact l)
@@ -194,18 +213,30 @@ module _ {ps ms : List ℕ} {w k : ℕ} {alt stale mark : List ℕ} {og : ℕ �
       front-bound = rw (front-gains, ← price-is) scan-bound
 
       takes-front : best (others k ps ms w) (length ps) (openOf alt) ≡ found b → Takes ps ms w k alt b p c
-      takes-front n = record { inside = l; other = not-k; next = n; price = price-is; cells = f .exact e some-cells; some = some-cells; few = f .small }
+      takes-front n = record {
+        inside = l;
+        other = not-k;
+        next = n;
+        price = price-is;
+        cells = f .exact e some-cells;
+        some = some-cells;
+        few = f .small;
+      }
 
       -- the front comes before the main run's next bid
       pub scan-other : (m : ℕ) → Best (at ps) main (length ps) m → p * main m + late b m ≤ at ps m * c → Takes ps ms w k alt b p c
-      scan-other m x a = takes-front (settles b (takes-other (at ps) main other (cell mark) (length ps) alike m b x l (omega (arith, front-gains, some-cells)) front-bound (rw (front-gains, ← price-is) a)))
+      scan-other m x a = takes-front (settles b (takes-other (at ps) main other (cell mark) (length ps) alike m b x l
+          (omega (arith, front-gains, some-cells)) front-bound (rw (front-gains, ← price-is) a)))
 
       -- the main run is over
       pub scan-last : ((i : ℕ) → i < length ps → main i ≡ 0) → Takes ps ms w k alt b p c
-      scan-last x = takes-front (settles b (takes-last (at ps) main other (cell mark) (length ps) alike b x l (omega (arith, front-gains, some-cells)) front-bound))
+      scan-last x = takes-front (settles b (takes-last (at ps) main other (cell mark) (length ps) alike b x l
+          (omega (arith, front-gains, some-cells)) front-bound))
 
-    pub scan-none : clear ≡ false → length ps ≤ b → ((i : ℕ) → i < length ps → main i ≡ 0) → best (others k ps ms w) (length ps) (openOf alt) ≡ nothing
-    scan-none e q x = settles-none (λ i l. ⊎-elim (λ z. alike i l z ∙ x i l) (λ z. omega (arith, live-in i l z, f .low i l, none-left i l)) (zero-or (cell mark i)))
+    pub scan-none : clear ≡ false → length ps ≤ b → ((i : ℕ) → i < length ps → main i ≡ 0)
+        → best (others k ps ms w) (length ps) (openOf alt) ≡ nothing
+    scan-none e q x = settles-none (λ i l. ⊎-elim (λ z. alike i l z ∙ x i l)
+        (λ z. omega (arith, live-in i l z, f .low i l, none-left i l)) (zero-or (cell mark i)))
       where
         none-left : (i : ℕ) → i < length ps → at new i ≡ 0
         none-left i l = ⊎-elim (λ y. y) (λ y. absurd (omega (arith, f .inside (f .least i l y .0) .0))) (zero-or (at new i))

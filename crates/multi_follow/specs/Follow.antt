@@ -44,7 +44,8 @@ pub record Course (ps ms hop index : List ℕ) (w n : ℕ) (order gains : List �
   pub own : k ≡ at order h
 
 -- the run without k has come as far as the main run before round g; k has `mine` open cells, and `top` is the maximum so far
-pub record Following (ps ms : List ℕ) (w n : ℕ) (order gains : List ℕ) (rounds h k : ℕ) (alt stale mark : List ℕ) (top mine g : ℕ) : Type 0 where
+pub record Following (ps ms : List ℕ) (w n : ℕ) (order gains : List ℕ) (rounds h k : ℕ) (alt stale mark : List ℕ) (top mine g : ℕ) : Type
+    0 where
   pub strayed : Strayed ps ms w k alt stale mark (before ms w n order g)
   pub reached : g ≤ rounds
   pub own : mine ≡ reach (has ms w k) (openOf alt)
@@ -54,7 +55,8 @@ pub record Following (ps ms : List ℕ) (w n : ℕ) (order gains : List ℕ) (ro
   pub small : top ≤ 1011200000001
 
 -- the same with the tournament of the marked bids and the counts of the open cells
-pub record Walking (ps ms : List ℕ) (w n : ℕ) (order gains : List ℕ) (rounds h k : ℕ) (alt counts who num mark : List ℕ) (top mine g : ℕ) : Type 0 where
+pub record Walking (ps ms : List ℕ) (w n : ℕ) (order gains : List ℕ) (rounds h k : ℕ) (alt counts who num mark : List ℕ)
+    (top mine g : ℕ) : Type 0 where
   pub follow : Following ps ms w n order gains rounds h k alt (known num) mark top mine g
   pub tree : Tournament ps who num
   pub counted : Counted alt counts
@@ -82,7 +84,8 @@ pub record Took (k b p c mine top more : ℕ) : Type 0 where
   pub is : more ≡ max top round
 
 -- one step: the run goes on, or it is over and the maximum stands
-pub record Stepped (ps ms : List ℕ) (w n : ℕ) (order gains : List ℕ) (rounds h k : ℕ) (alt alt′ counts who num mark : List ℕ) (g top g′ mine top′ : ℕ) (over : Bool) : Type 0 where
+pub record Stepped (ps ms : List ℕ) (w n : ℕ) (order gains : List ℕ) (rounds h k : ℕ) (alt alt′ counts who num mark : List ℕ)
+    (g top g′ mine top′ : ℕ) (over : Bool) : Type 0 where
   pub tree : Tournament ps who num
   pub goes : over ≡ false → Walking ps ms w n order gains rounds h k alt′ counts who num mark top′ mine g′
   pub falls : over ≡ false → rounds - g′ + length (openOf alt′) < rounds - g + length (openOf alt)

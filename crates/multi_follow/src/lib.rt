@@ -47,9 +47,11 @@ pub fn take(
     alt: &mut [u64],
     counts: &mut [u64],
 ) -> u64
-    requires { ⌜ ((p ≤ 100000000) × ((0 < c) × ((0 < mine) × (mine ≤ 10112)))) × ((length (now alt) ≡ w) × ((w ≤ 158) × ((w * b + w ≤ length (now masks)) × ((length (now hop) ≡ length (now masks))
+    requires { ⌜ ((p ≤ 100000000) × ((0 < c) × ((0 < mine) × (mine ≤ 10112))))
+        × ((length (now alt) ≡ w) × ((w ≤ 158) × ((w * b + w ≤ length (now masks)) × ((length (now hop) ≡ length (now masks))
         × (Counted (now alt) (now counts) × Hops (row (now masks) w b) (row (now hop) w b)))))) ⌝ }
-    ensures { λ r. ⌜ Took k b p c mine top r × (Closed (now (alt .entry)) (row (now (masks .entry)) w b) (now (alt .exit)) × Counted (now (alt .exit)) (now (counts .exit))) ⌝ }
+    ensures { λ r. ⌜ Took k b p c mine top r × (Closed (now (alt .entry)) (row (now (masks .entry)) w b) (now (alt .exit))
+        × Counted (now (alt .exit)) (now (counts .exit))) ⌝ }
 {
     let s = raise(k, b, p, c, mine);
     multi_rounds::shut(alt, counts, masks, hop, w, b);
@@ -101,9 +103,12 @@ pub fn both(
     mark: &mut [u64],
 ) -> Move
     requires { ⌜ Course (now prices) (now masks) (now hop) (now index) w count (now order) (now gains) rounds h k
-        × (Walking (now prices) (now masks) w count (now order) (now gains) rounds h k (now alt) (now counts) (now who) (now num) (now mark) top mine g
+        × (Walking (now prices) (now masks) w count (now order) (now gains) rounds h k (now alt) (now counts) (now who) (now num)
+        (now mark) top mine g
         × ((0 < mine) × (Takes (now prices) (now masks) w k (now alt) b p c × ((g < rounds) × (b ≡ at (now order) g))))) ⌝ }
-    ensures { λ r. ⌜ Stepped (now (prices .entry)) (now (masks .entry)) w count (now (order .entry)) (now (gains .entry)) rounds h k (now (alt .entry)) (now (alt .exit)) (now (counts .exit)) (now (who .exit)) (now (num .exit)) (now (mark .exit)) g top (r .g) (r .mine) (r .top) (r .over) ⌝ }
+    ensures { λ r. ⌜ Stepped (now (prices .entry)) (now (masks .entry)) w count (now (order .entry)) (now (gains .entry)) rounds h k
+        (now (alt .entry)) (now (alt .exit)) (now (counts .exit)) (now (who .exit)) (now (num .exit)) (now (mark .exit)) g top (r .g)
+        (r .mine) (r .top) (r .over) ⌝ }
 {
     let t = take(masks, hop, w, k, b, p, c, mine, top, alt, counts);
     let y = multi_rounds::overlap(alt, counts, masks, hop, w, k);
@@ -141,9 +146,12 @@ pub fn other(
     mark: &mut [u64],
 ) -> Move
     requires { ⌜ Course (now prices) (now masks) (now hop) (now index) w count (now order) (now gains) rounds h k
-        × (Walking (now prices) (now masks) w count (now order) (now gains) rounds h k (now alt) (now counts) (now who) (now num) (now mark) top mine g
+        × (Walking (now prices) (now masks) w count (now order) (now gains) rounds h k (now alt) (now counts) (now who) (now num)
+        (now mark) top mine g
         × ((0 < mine) × Takes (now prices) (now masks) w k (now alt) b p c)) ⌝ }
-    ensures { λ r. ⌜ Stepped (now (prices .entry)) (now (masks .entry)) w count (now (order .entry)) (now (gains .entry)) rounds h k (now (alt .entry)) (now (alt .exit)) (now (counts .exit)) (now (who .exit)) (now (num .exit)) (now (mark .exit)) g top (r .g) (r .mine) (r .top) (r .over) ⌝ }
+    ensures { λ r. ⌜ Stepped (now (prices .entry)) (now (masks .entry)) w count (now (order .entry)) (now (gains .entry)) rounds h k
+        (now (alt .entry)) (now (alt .exit)) (now (counts .exit)) (now (who .exit)) (now (num .exit)) (now (mark .exit)) g top (r .g)
+        (r .mine) (r .top) (r .over) ⌝ }
 {
     multi_marks::disturb(prices, masks, hop, index, w, alt, counts, b, who, num, mark);
     let t = take(masks, hop, w, k, b, p, c, mine, top, alt, counts);

@@ -1,4 +1,5 @@
--- The rounds before bid k is taken leave its limit as the rest of the run without it has it, where the others cover the cells. Assumes nothing.
+-- The rounds before bid k is taken leave its limit as the rest of the run without it has it, where the others cover the cells.
+-- Assumes nothing.
 use mathlib.Core.Path.{_≡_, refl, sym, ap, _∙_}
 use mathlib.Core.Bool.{Bool, true, false, _&&_}
 use mathlib.Core.List.{List, []}
@@ -27,10 +28,12 @@ use Rattle.multi_rounds.specs.Trace.{opens, before, Trace}
 use Rattle.cover.specs.SetLaws.{when-one}
 use Rattle.cells.proofs.Lowest.{two}
 
-close-fun : (m : List ℕ) (f g : ℕ → ℕ) → ((x : ℕ) → f x ≤ 1) → ((x : ℕ) → g x ≡ f x - cell m x) → (n : ℕ) → close (λ x. eqb (cell m x) 1) (opens f n) ≡ opens g n
+close-fun : (m : List ℕ) (f g : ℕ → ℕ) → ((x : ℕ) → f x ≤ 1) → ((x : ℕ) → g x ≡ f x - cell m x) → (n : ℕ)
+    → close (λ x. eqb (cell m x) 1) (opens f n) ≡ opens g n
 unfolding opens close
 close-fun m f g b h zero = refl
-close-fun m f g b h (suc n) = close-step (λ x. eqb (cell m x) 1) n (f n) (cell m n) refl (g n) (opens f n) _ (h n) (close-fun m f g b h n) (two (f n) (omega (arith, b n))) (two-way m n)
+close-fun m f g b h (suc n) = close-step (λ x. eqb (cell m x) 1) n (f n) (cell m n) refl (g n) (opens f n) _ (h n) (close-fun m f g b h n)
+    (two (f n) (omega (arith, b n))) (two-way m n)
 
 each-opens : (P : ℕ → Type 0) (f : ℕ → ℕ) → ((x : ℕ) → 0 < f x → P x) → (n : ℕ) → Each P (opens f n)
 unfolding opens
@@ -62,14 +65,18 @@ module _ {ps ms : List ℕ} {w n : ℕ} {order gains : List ℕ} {rounds : ℕ} 
     r g i = reach (has ms w i) (og g)
 
     -- bid k is not ahead of the bid that the round takes
-    not-ahead : (g : ℕ) → g < rounds → (at order g ≡ k → ⊥) → (a b : Bool) → ltb 0 (r g k) ≡ a → leb (at ps k * r g (at order g) + late k (at order g)) (at ps (at order g) * r g k) ≡ b → a && b ≡ false
-    not-ahead g l ne true true e f = absurd (ne (before-one (at ps) (r g) (at order g) k (main-best tr g l .least k inside (ltb-true _ _ e)) (leb-true _ _ f)))
+    not-ahead : (g : ℕ) → g < rounds → (at order g ≡ k → ⊥) → (a b : Bool) → ltb 0 (r g k) ≡ a
+        → leb (at ps k * r g (at order g) + late k (at order g)) (at ps (at order g) * r g k) ≡ b → a && b ≡ false
+    not-ahead g l ne true true e f = absurd (ne (before-one (at ps) (r g) (at order g) k
+        (main-best tr g l .least k inside (ltb-true _ _ e)) (leb-true _ _ f)))
     not-ahead g l ne true false e f = refl
     not-ahead g l ne false b e f = refl
 
-    share-low : (g : ℕ) → g < rounds → (at order g ≡ k → ⊥) → share k (has ms w k) (at order g) (bids (has ms w) ps (at order g)) (og g) ≤ at ps k
+    share-low : (g : ℕ) → g < rounds → (at order g ≡ k → ⊥) → share k (has ms w k) (at order g) (bids (has ms w) ps (at order g)) (og g)
+        ≤ at ps k
     unfolding share bids
-    share-low g l ne = ltb-false (at ps k) _ (sym (share-right (ltb 0 (r g k)) (at ps k) (r g (at order g)) (late k (at order g)) (at ps (at order g) * r g k) (main-best tr g l .good)) ∙ not-ahead g l ne _ _ refl refl)
+    share-low g l ne = ltb-false (at ps k) _ (sym (share-right (ltb 0 (r g k)) (at ps k) (r g (at order g)) (late k (at order g))
+        (at ps (at order g) * r g k) (main-best tr g l .good)) ∙ not-ahead g l ne _ _ refl refl)
 
     plain : (i : ℕ) → (i ≡ k → ⊥) → others k ps ms w i ≡ bids (has ms w) ps i
     plain i ne = withdrawn-other k (bids (has ms w) ps) i ne
@@ -77,17 +84,22 @@ module _ {ps ms : List ℕ} {w n : ℕ} {order gains : List ℕ} {rounds : ℕ} 
     -- the run without k takes the same bid
     without-best : (g : ℕ) → g < rounds → (at order g ≡ k → ⊥) → best (others k ps ms w) (length ps) (og g) ≡ found (at order g)
     unfolding best bids
-    without-best g l ne = right-one (λ i. others k ps ms w i .price) (λ i. reach (others k ps ms w i .has) (og g)) (length ps) (best (others k ps ms w) (length ps) (og g)) (found (at order g))
+    without-best g l ne = right-one (λ i. others k ps ms w i .price) (λ i. reach (others k ps ms w i .has) (og g)) (length ps)
+        (best (others k ps ms w) (length ps) (og g)) (found (at order g))
         (best-right (others k ps ms w) (length ps) (og g))
         (record {
           inside = main-best tr g l .inside;
           good = rw (plain (at order g) ne) (main-best tr g l .good);
-          least = λ i q z. let d = withdrawn-reach k (bids (has ms w) ps) (og g) i z in rw (plain (at order g) ne, plain i d) (main-best tr g l .least i q (rw (plain i d) at z));
+          least = λ i q z. let d = withdrawn-reach k (bids (has ms w) ps) (og g) i z in
+              rw (plain (at order g) ne, plain i d) (main-best tr g l .least i q (rw (plain i d) at z));
         })
 
-    bar-step : (g : ℕ) → g < rounds → (at order g ≡ k → ⊥) → bar-from ps ms w k (og g) ≡ max (share k (has ms w k) (at order g) (bids (has ms w) ps (at order g)) (og g)) (bar-from ps ms w k (og (suc g)))
+    bar-step : (g : ℕ) → g < rounds → (at order g ≡ k → ⊥)
+        → bar-from ps ms w k (og g) ≡ max (share k (has ms w k) (at order g) (bids (has ms w) ps (at order g)) (og g))
+        (bar-from ps ms w k (og (suc g)))
     unfolding bar-from rounds-of bar bids
-    bar-step g l ne = ap (bar k (has ms w k)) (rounds-more (others k ps ms w) (length ps) (og g) (at order g) (without-best g l ne)) ∙ rw (plain (at order g) ne, closes g)
+    bar-step g l ne = ap (bar k (has ms w k)) (rounds-more (others k ps ms w) (length ps) (og g) (at order g) (without-best g l ne))
+        ∙ rw (plain (at order g) ne, closes g)
 
     record Split (g : ℕ) : Type 0 where
       low : ℕ
@@ -112,7 +124,8 @@ module _ {ps ms : List ℕ} {w n : ℕ} {order gains : List ℕ} {rounds : ℕ} 
   gone g zero x q e = absurd (omega arith)
   gone g (suc j) x q e = go (eqb g j) refl (gone g j x)
     where
-      go : (t : Bool) → eqb g j ≡ t → (g < j → cell (row ms w (at order g)) x ≡ 1 → before ms w n order j x ≡ 0) → before ms w n order j x - cell (row ms w (at order j)) x ≡ 0
+      go : (t : Bool) → eqb g j ≡ t → (g < j → cell (row ms w (at order g)) x ≡ 1 → before ms w n order j x ≡ 0)
+          → before ms w n order j x - cell (row ms w (at order j)) x ≡ 0
       go true d ih = omega (arith, before-bit j x, rw (eqb-true g j d) at e)
       go false d ih = omega (arith, ih (omega (arith, eqb-false g j d)) e)
 
@@ -145,13 +158,18 @@ module _ {ps ms : List ℕ} {w n : ℕ} {order gains : List ℕ} {rounds : ℕ} 
 
     taken-here : taken (at order h) (run (bids (has ms w) ps) (length ps) (length (og h)) (og h)) ≡ true
     unfolding rounds-of taken
-    taken-here = rw (rounds-more (bids (has ms w) ps) (length ps) (og h) (at order h) (tr .takes h l), eq-eqb (at order h) (at order h) refl)
+    taken-here = rw (
+      rounds-more (bids (has ms w) ps) (length ps) (og h) (at order h) (tr .takes h l),
+      eq-eqb (at order h) (at order h) refl,
+    )
 
     above : at ps (at order h) < bar-from ps ms w (at order h) (og h)
     unfolding bar-from bids
-    above = ltb-true _ _ (sym (under (bids (has ms w) ps) (length ps) (at order h) inside (length (og h)) (og h) (omega arith) covers) ∙ taken-here)
+    above = ltb-true _ _ (sym (under (bids (has ms w) ps) (length ps) (at order h) inside (length (og h)) (og h) (omega arith) covers)
+        ∙ taken-here)
 
-    pub suffix-is : ((j : ℕ) → j < h → at order j ≡ at order h → ⊥) → bar-from ps ms w (at order h) (og 0) ≡ bar-from ps ms w (at order h) (og h)
+    pub suffix-is : ((j : ℕ) → j < h → at order j ≡ at order h → ⊥)
+        → bar-from ps ms w (at order h) (og 0) ≡ bar-from ps ms w (at order h) (og h)
     suffix-is ne = let s = split (at order h) inside h (omega arith) ne in s .whole ∙ omega (arith, s .below, above)
 
     pub limit-is : n ≤ 64 * w → limit (has ms w) ps (cells n) (at order h) ≡ bar-from ps ms w (at order h) (og h)

@@ -1,4 +1,5 @@
-// What a winner is paid: the highest price at which it is still taken, found by following the run without it along the main run as written down.
+// What a winner is paid: the highest price at which it is still taken, found by following the run without it along the main run
+// as written down.
 // `limit_in` gives one more than that price for the bid of one round.
 ghost use mathlib.Core.Path.{_≡_};
 ghost use Prim.Native.Nat.{_+_};
@@ -27,8 +28,12 @@ fn begin(
     mark: &mut [u64],
 )
     requires { ⌜ Course (now prices) (now masks) (now hop) (now index) w count (now order) (now gains) rounds h k
-        × (Standing (now masks) w count (now order) h (now held) × ((length (now alt) ≡ w) × ((length (now counts) ≡ w + 2) × (Tournament (now prices) (now who) (now num) × (length (now mark) ≡ 16))))) ⌝ }
-    ensures { λ _. ⌜ Walking (now (prices .entry)) (now (masks .entry)) w count (now (order .entry)) (now (gains .entry)) rounds h k (now (alt .exit)) (now (counts .exit)) (now (who .exit)) (now (num .exit)) (now (mark .exit)) 0 (at (now (gains .entry)) h) (h + 1) ⌝ }
+        × (Standing (now masks) w count (now order) h (now held)
+        × ((length (now alt) ≡ w) × ((length (now counts) ≡ w + 2)
+        × (Tournament (now prices) (now who) (now num) × (length (now mark) ≡ 16))))) ⌝ }
+    ensures { λ _. ⌜ Walking (now (prices .entry)) (now (masks .entry)) w count (now (order .entry)) (now (gains .entry)) rounds h k
+        (now (alt .exit)) (now (counts .exit)) (now (who .exit)) (now (num .exit)) (now (mark .exit)) 0 (at (now (gains .entry)) h)
+        (h + 1) ⌝ }
 {
     multi_rounds::copy(held, alt);
     cells::count_none(alt, counts);
@@ -59,8 +64,11 @@ pub fn limit_in(
     mark: &mut [u64],
 ) -> u64
     requires { ⌜ Course (now prices) (now masks) (now hop) (now index) w count (now order) (now gains) rounds h k
-        × (Standing (now masks) w count (now order) h (now held) × ((length (now alt) ≡ w) × ((length (now counts) ≡ w + 2) × (Tournament (now prices) (now who) (now num) × (length (now mark) ≡ 16))))) ⌝ }
-    ensures { λ r. ⌜ Followed (now (prices .entry)) (now (masks .entry)) w count (now (order .entry)) h r × Tournament (now (prices .entry)) (now (who .exit)) (now (num .exit)) ⌝ }
+        × (Standing (now masks) w count (now order) h (now held)
+        × ((length (now alt) ≡ w) × ((length (now counts) ≡ w + 2)
+        × (Tournament (now prices) (now who) (now num) × (length (now mark) ≡ 16))))) ⌝ }
+    ensures { λ r. ⌜ Followed (now (prices .entry)) (now (masks .entry)) w count (now (order .entry)) h r
+        × Tournament (now (prices .entry)) (now (who .exit)) (now (num .exit)) ⌝ }
 {
     begin(
         prices,

@@ -30,15 +30,24 @@ pub record Spreading (ps ms : List ℕ) (w : ℕ) (alt : List ℕ) (q m : ℕ) (
   pub moved : (b : ℕ) → b < length ps → cell mark b ≡ 0 → 0 < cell mark′ b → at stale′ b ≡ common alt (row ms w b)
 
 pub begins : (ps ms : List ℕ) (w : ℕ) (alt : List ℕ) (q m : ℕ) (stale mark : List ℕ) → Spreading ps ms w alt q m stale mark stale mark 0
-begins ps ms w alt q m stale mark = record { kept = λ b l g. (refl, refl); same = λ b l z. refl; still = λ b l. absurd (omega arith); moved = λ b l z g. absurd (omega arith) }
+begins ps ms w alt q m stale mark = record {
+  kept = λ b l g. (refl, refl);
+  same = λ b l z. refl;
+  still = λ b l. absurd (omega arith);
+  moved = λ b l z g. absurd (omega arith);
+}
 
-module _ {ps ms : List ℕ} {w : ℕ} {alt : List ℕ} {q m : ℕ} {stale mark stale′ mark′ : List ℕ} {i : ℕ} (s : Spreading ps ms w alt q m stale mark stale′ mark′ i) where
+module _ {ps ms : List ℕ} {w : ℕ} {alt : List ℕ} {q m : ℕ} {stale mark stale′ mark′ : List ℕ} {i : ℕ}
+    (s : Spreading ps ms w alt q m stale mark stale′ mark′ i) where
   -- the bids passed over are marked or have no cell in the word
-  pub passes : {index : List ℕ} {r : ℕ} → Indexed ps ms index w → q < w → Next (row index 16 q) mark′ i r → Spreading ps ms w alt q m stale mark stale′ mark′ r
+  pub passes : {index : List ℕ} {r : ℕ} → Indexed ps ms index w → q < w → Next (row index 16 q) mark′ i r
+      → Spreading ps ms w alt q m stale mark stale′ mark′ r
   passes {index} {r} x l n = record {
     kept = s .kept;
     same = s .same;
-    still = λ b a c z. ⊎-elim (λ d. s .still b d c z) (λ d. ⊎-elim (λ e. rw e (and-zero-l m)) (λ e. absurd (omega (arith, n .none b d a (x .lists b q c l (λ y. omega arith))))) (zero-or (at (row ms w b) q))) (lt-or-le b i);
+    still = λ b a c z. ⊎-elim (λ d. s .still b d c z)
+        (λ d. ⊎-elim (λ e. rw e (and-zero-l m)) (λ e. absurd (omega (arith, n .none b d a (x .lists b q c l (λ y. omega arith)))))
+        (zero-or (at (row ms w b) q))) (lt-or-le b i);
     moved = s .moved;
   }
 
@@ -56,12 +65,15 @@ module _ {ps ms : List ℕ} {w : ℕ} {alt : List ℕ} {q m : ℕ} {stale mark s
       go b a c z false d = s .still b (omega (arith, eqb-false b i d)) c z
 
   -- bid i is marked
-  pub adds : {v : ℕ} {new next : List ℕ} → i < length ps → i < length stale′ → cell mark′ i ≡ 0 → v ≡ common alt (row ms w i) → new ≡ set stale′ i v → Filled i (i + 1) mark′ next
+  pub adds : {v : ℕ} {new next : List ℕ} → i < length ps → i < length stale′ → cell mark′ i ≡ 0 → v ≡ common alt (row ms w i)
+      → new ≡ set stale′ i v → Filled i (i + 1) mark′ next
       → Spreading ps ms w alt q m stale mark new next (i + 1)
   adds {v} {new} {next} l ls z e d f = record {
     kept = λ b a g. let n = free b a g in let k = s .kept b a g in (other-mark b n ∙ k .0, other-stale b n ∙ k .1);
-    same = λ b a y. let n : (b ≡ i → ⊥) = λ j. omega (arith, own-mark, rw j at y) in other-stale b n ∙ s .same b a (sym (other-mark b n) ∙ y);
-    still = λ b a c y. let n : (b ≡ i → ⊥) = λ j. omega (arith, own-mark, rw j at y) in s .still b (omega arith) c (sym (other-mark b n) ∙ y);
+    same = λ b a y. let n : (b ≡ i → ⊥) = λ j. omega (arith, own-mark, rw j at y) in other-stale b n
+        ∙ s .same b a (sym (other-mark b n) ∙ y);
+    still = λ b a c y. let n : (b ≡ i → ⊥) = λ j. omega (arith, own-mark, rw j at y) in
+        s .still b (omega arith) c (sym (other-mark b n) ∙ y);
     moved = λ b a y g. go b a y g (eqb b i) refl;
   }
     where
@@ -84,29 +96,50 @@ module _ {ps ms : List ℕ} {w : ℕ} {alt : List ℕ} {q m : ℕ} {stale mark s
   pub ends : length ps ≤ i → Spread ps ms w alt q m stale mark stale′ mark′
   ends l = record { kept = s .kept; still = λ b a z. (s .same b a z, s .still b (omega arith) a z); moved = s .moved }
 
-pub no-cells : (ps ms : List ℕ) (w : ℕ) (alt : List ℕ) (q m : ℕ) (stale mark : List ℕ) → m ≡ 0 → Spread ps ms w alt q m stale mark stale mark
-no-cells ps ms w alt q m stale mark e = record { kept = λ b l g. (refl, refl); still = λ b l z. (refl, rw e (and-zero-r (at (row ms w b) q))); moved = λ b l z g. absurd (omega arith) }
+pub no-cells : (ps ms : List ℕ) (w : ℕ) (alt : List ℕ) (q m : ℕ) (stale mark : List ℕ) → m ≡ 0
+    → Spread ps ms w alt q m stale mark stale mark
+no-cells ps ms w alt q m stale mark e = record {
+  kept = λ b l g. (refl, refl);
+  still = λ b l z. (refl, rw e (and-zero-r (at (row ms w b) q)));
+  moved = λ b l z g. absurd (omega arith);
+}
 
 -- ---- the words of bid j below q are done
 pub record Disturbing (ps ms : List ℕ) (w : ℕ) (alt : List ℕ) (j : ℕ) (stale mark stale′ mark′ : List ℕ) (q : ℕ) : Type 0 where
   pub kept : (i : ℕ) → i < length ps → 0 < cell mark i → (cell mark′ i ≡ cell mark i) × (at stale′ i ≡ at stale i)
   pub same : (i : ℕ) → i < length ps → cell mark′ i ≡ 0 → at stale′ i ≡ at stale i
-  pub still : (i : ℕ) → i < length ps → cell mark′ i ≡ 0 → (x : ℕ) → x < 64 * q → cell (row ms w i) x ≡ 1 → cell (row ms w j) x ≡ 1 → cell alt x ≡ 0
+  pub still : (i : ℕ) → i < length ps → cell mark′ i ≡ 0 → (x : ℕ) → x < 64 * q → cell (row ms w i) x ≡ 1 → cell (row ms w j) x ≡ 1
+      → cell alt x ≡ 0
   pub moved : (i : ℕ) → i < length ps → cell mark i ≡ 0 → 0 < cell mark′ i → at stale′ i ≡ common alt (row ms w i)
 
 pub starts : (ps ms : List ℕ) (w : ℕ) (alt : List ℕ) (j : ℕ) (stale mark : List ℕ) → Disturbing ps ms w alt j stale mark stale mark 0
-starts ps ms w alt j stale mark = record { kept = λ i l g. (refl, refl); same = λ i l z. refl; still = λ i l z x m. absurd (omega arith); moved = λ i l z g. absurd (omega arith) }
+starts ps ms w alt j stale mark = record {
+  kept = λ i l g. (refl, refl);
+  same = λ i l z. refl;
+  still = λ i l z x m. absurd (omega arith);
+  moved = λ i l z g. absurd (omega arith);
+}
 
 -- no cell of word q is in all three
-apart : (alt a b : List ℕ) (q x : ℕ) → bitAnd (at a q) (bitAnd (at alt q) (at b q)) ≡ 0 → x / 64 ≡ q → cell a x ≡ 1 → cell b x ≡ 1 → cell alt x ≡ 0
+apart : (alt a b : List ℕ) (q x : ℕ) → bitAnd (at a q) (bitAnd (at alt q) (at b q)) ≡ 0 → x / 64 ≡ q → cell a x ≡ 1 → cell b x ≡ 1
+    → cell alt x ≡ 0
 unfolding cell
-apart alt a b q x e f u v = rw f (omega (arith, rw f at u, rw f at v, zeros, and-bit (at a q) (bitAnd (at alt q) (at b q)) (x % 64), and-bit (at alt q) (at b q) (x % 64)))
+apart alt a b q x e f u v = rw f (omega (
+  arith,
+  rw f at u,
+  rw f at v,
+  zeros,
+  and-bit (at a q) (bitAnd (at alt q) (at b q)) (x % 64),
+  and-bit (at alt q) (at b q) (x % 64),
+))
   where
     zeros : bitOf (bitAnd (at a q) (bitAnd (at alt q) (at b q))) (x % 64) ≡ 0
     zeros = rw (e, zero-div (2 ^ (x % 64)))
 
-pub goes : {ps ms : List ℕ} {w : ℕ} {alt : List ℕ} {j : ℕ} {stale mark stale′ mark′ new next : List ℕ} {q r m : ℕ} → Disturbing ps ms w alt j stale mark stale′ mark′ q
-    → m ≡ bitAnd (at alt q) (at (row ms w j) q) → Spread ps ms w alt q m stale′ mark′ new next → Onward (row ms w j) q r → Disturbing ps ms w alt j stale mark new next r
+pub goes : {ps ms : List ℕ} {w : ℕ} {alt : List ℕ} {j : ℕ} {stale mark stale′ mark′ new next : List ℕ} {q r m : ℕ}
+    → Disturbing ps ms w alt j stale mark stale′ mark′ q
+    → m ≡ bitAnd (at alt q) (at (row ms w j) q) → Spread ps ms w alt q m stale′ mark′ new next → Onward (row ms w j) q r
+    → Disturbing ps ms w alt j stale mark new next r
 goes {ps} {ms} {w} {alt} {j} {stale} {mark} {stale′} {mark′} {new} {next} {q} {r} {m} s e d o = record {
   kept = λ i l g. let a = s .kept i l g in let b = d .kept i l (omega (arith, a .0)) in (b .0 ∙ a .0, b .1 ∙ a .1);
   same = λ i l z. d .still i l z .0 ∙ s .same i l (was i l z);
@@ -117,14 +150,20 @@ goes {ps} {ms} {w} {alt} {j} {stale} {mark} {stale′} {mark′} {new} {next} {q
     was : (i : ℕ) → i < length ps → cell next i ≡ 0 → cell mark′ i ≡ 0
     was i l z = ⊎-elim (λ a. a) (λ a. absurd (omega (arith, d .kept i l a .0))) (zero-or (cell mark′ i))
 
-    word : (i : ℕ) → i < length ps → cell next i ≡ 0 → (x : ℕ) → 64 * q ≤ x → x < 64 * r → cell (row ms w i) x ≡ 1 → cell (row ms w j) x ≡ 1 → cell alt x ≡ 0
+    word : (i : ℕ) → i < length ps → cell next i ≡ 0 → (x : ℕ) → 64 * q ≤ x → x < 64 * r → cell (row ms w i) x ≡ 1
+        → cell (row ms w j) x ≡ 1 → cell alt x ≡ 0
     word i l z x a y u v = ⊎-elim (λ b. apart alt (row ms w i) (row ms w j) q x (rw e at (d .still i l z .1)) (omega arith) u v)
         (λ b. absurd (omega (arith, bare-cells (row ms w j) x (o .gap (x / 64) (omega arith) (omega arith))))) (lt-or-le x (64 * (q + 1)))
 
-pub ends-all : {ps ms : List ℕ} {w : ℕ} {alt : List ℕ} {j : ℕ} {stale mark stale′ mark′ : List ℕ} {q : ℕ} → Disturbing ps ms w alt j stale mark stale′ mark′ q → length alt ≤ q → Disturbed ps ms w alt j stale mark stale′ mark′
+pub ends-all : {ps ms : List ℕ} {w : ℕ} {alt : List ℕ} {j : ℕ} {stale mark stale′ mark′ : List ℕ} {q : ℕ}
+    → Disturbing ps ms w alt j stale mark stale′ mark′ q → length alt ≤ q → Disturbed ps ms w alt j stale mark stale′ mark′
 ends-all {alt = alt} {q = q} s l = record {
   kept = s .kept;
-  still = λ i a z. (s .same i a z, λ x u v. ⊎-elim (λ b. s .still i a z x b u v) (λ b. cell-past alt x (omega arith)) (lt-or-le x (64 * q)));
+  still = λ i a z. (
+    s .same i a z,
+    λ x u v. ⊎-elim (λ b. s .still i a z x b u v) (λ b. cell-past alt x (omega arith))
+        (lt-or-le x (64 * q)),
+  );
   moved = s .moved;
 }
 
@@ -140,8 +179,10 @@ set-in x l = omega (arith, x .size)
 pub set-length : {ps ms index : List ℕ} {w q : ℕ} → Indexed ps ms index w → q < w → length (row index 16 q) ≡ 16
 set-length {index = index} {q = q} x l = row-length index 16 q (set-in x l)
 
-pub next-within : {ps ms index : List ℕ} {w q : ℕ} {mark : List ℕ} {i r : ℕ} → Indexed ps ms index w → q < w → Next (row index 16 q) mark i r → r ≤ 1024
+pub next-within : {ps ms index : List ℕ} {w q : ℕ} {mark : List ℕ} {i r : ℕ} → Indexed ps ms index w → q < w
+    → Next (row index 16 q) mark i r → r ≤ 1024
 next-within x l n = omega (arith, n .within, set-length x l)
 
-pub next-free : {ps ms index : List ℕ} {w q : ℕ} {mark : List ℕ} {i r : ℕ} → Indexed ps ms index w → q < w → Next (row index 16 q) mark i r → r < 1024 → cell mark r ≡ 0
+pub next-free : {ps ms index : List ℕ} {w q : ℕ} {mark : List ℕ} {i r : ℕ} → Indexed ps ms index w → q < w
+    → Next (row index 16 q) mark i r → r < 1024 → cell mark r ≡ 0
 next-free x l n y = n .outside (omega (arith, set-length x l))

@@ -1,4 +1,5 @@
--- The bids marked: those of which some open cell may differ between the main run and the run without bid k. A mark is a cell of a row of 16 words.
+-- The bids marked: those of which some open cell may differ between the main run and the run without bid k. A mark is a cell of a
+-- row of 16 words.
 use mathlib.Core.Path.{_≡_}
 use mathlib.Core.List.{List}
 use Prim.Native.Nat.{ℕ, _*_, _≤_, _<_}
@@ -22,7 +23,8 @@ pub record Spread (ps ms : List ℕ) (w : ℕ) (alt : List ℕ) (q m : ℕ) (sta
 -- the bids that share an open cell with bid j are marked
 pub record Disturbed (ps ms : List ℕ) (w : ℕ) (alt : List ℕ) (j : ℕ) (stale mark stale′ mark′ : List ℕ) : Type 0 where
   pub kept : (i : ℕ) → i < length ps → 0 < cell mark i → (cell mark′ i ≡ cell mark i) × (at stale′ i ≡ at stale i)
-  pub still : (i : ℕ) → i < length ps → cell mark′ i ≡ 0 → (at stale′ i ≡ at stale i) × ((x : ℕ) → cell (row ms w i) x ≡ 1 → cell (row ms w j) x ≡ 1 → cell alt x ≡ 0)
+  pub still : (i : ℕ) → i < length ps → cell mark′ i ≡ 0 → (at stale′ i ≡ at stale i)
+      × ((x : ℕ) → cell (row ms w i) x ≡ 1 → cell (row ms w j) x ≡ 1 → cell alt x ≡ 0)
   pub moved : (i : ℕ) → i < length ps → cell mark i ≡ 0 → 0 < cell mark′ i → at stale′ i ≡ common alt (row ms w i)
 
 -- og x: whether cell x is open in the main run. A bid without mark has the same open cells in both runs, and nothing is known of it;

@@ -23,10 +23,12 @@ fn spread(
     num: &mut [u64],
     mark: &mut [u64],
 )
-    requires { ⌜ Market (now prices) (now masks) w × (Hopping (now prices) (now masks) (now hop) w × (Indexed (now prices) (now masks) (now index) w × ((length (now alt) ≡ w)
+    requires { ⌜ Market (now prices) (now masks) w ×
+        (Hopping (now prices) (now masks) (now hop) w × (Indexed (now prices) (now masks) (now index) w × ((length (now alt) ≡ w)
         × (Counted (now alt) (now counts) × ((q < w) × (Tournament (now prices) (now who) (now num) × (length (now mark) ≡ 16))))))) ⌝ }
     ensures { λ _. ⌜ Tournament (now (prices .entry)) (now (who .exit)) (now (num .exit))
-        × (Spread (now (prices .entry)) (now (masks .entry)) w (now (alt .entry)) q m (known (now (num .entry))) (now (mark .entry)) (known (now (num .exit))) (now (mark .exit))
+        × (Spread (now (prices .entry)) (now (masks .entry)) w (now (alt .entry)) q m (known (now (num .entry))) (now (mark .entry))
+        (known (now (num .exit))) (now (mark .exit))
         × Counted (now (alt .entry)) (now (counts .exit))) ⌝ }
 {
     if m == 0 {
@@ -61,10 +63,13 @@ pub fn disturb(
     num: &mut [u64],
     mark: &mut [u64],
 )
-    requires { ⌜ Market (now prices) (now masks) w × (Hopping (now prices) (now masks) (now hop) w × (Indexed (now prices) (now masks) (now index) w × ((length (now alt) ≡ w)
-        × (Counted (now alt) (now counts) × ((j < length (now prices)) × (Tournament (now prices) (now who) (now num) × (length (now mark) ≡ 16))))))) ⌝ }
+    requires { ⌜ Market (now prices) (now masks) w ×
+        (Hopping (now prices) (now masks) (now hop) w × (Indexed (now prices) (now masks) (now index) w × ((length (now alt) ≡ w)
+        × (Counted (now alt) (now counts) × ((j < length (now prices))
+        × (Tournament (now prices) (now who) (now num) × (length (now mark) ≡ 16))))))) ⌝ }
     ensures { λ _. ⌜ Tournament (now (prices .entry)) (now (who .exit)) (now (num .exit))
-        × (Disturbed (now (prices .entry)) (now (masks .entry)) w (now (alt .entry)) j (known (now (num .entry))) (now (mark .entry)) (known (now (num .exit))) (now (mark .exit))
+        × (Disturbed (now (prices .entry)) (now (masks .entry)) w (now (alt .entry)) j (known (now (num .entry))) (now (mark .entry))
+        (known (now (num .exit))) (now (mark .exit))
         × Counted (now (alt .entry)) (now (counts .exit))) ⌝ }
 {
     let a = w * j;

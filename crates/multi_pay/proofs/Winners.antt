@@ -28,7 +28,10 @@ module _ {ps ms : List ℕ} {w n : ℕ} {order gains : List ℕ} {rounds : ℕ} 
 
   one-more : (k g : ℕ) → g < rounds → taken k (rest g) ≡ eqb (at order g) k || taken k (rest (suc g))
   unfolding taken bids
-  one-more k g l = rw (rounds-more (bids (has ms w) ps) (length ps) (opens (before ms w n order g) (64 * w)) (at order g) (tr .takes g l), closes tr g)
+  one-more k g l = rw (
+    rounds-more (bids (has ms w) ps) (length ps) (opens (before ms w n order g) (64 * w)) (at order g) (tr .takes g l),
+    closes tr g,
+  )
 
   none-left : best (bids (has ms w) ps) (length ps) (opens (before ms w n order rounds) (64 * w)) ≡ nothing
   unfolding best bids
@@ -39,11 +42,13 @@ module _ {ps ms : List ℕ} {w n : ℕ} {order gains : List ℕ} {rounds : ℕ} 
   split : (k g : ℕ) → g ≤ rounds → taken k (rest 0) ≡ picked order g k || taken k (rest g)
   unfolding picked
   split k zero l = refl
-  split k (suc g) l = split k g (omega arith) ∙ ap (λ (t : Bool). picked order g k || t) (one-more k g (omega arith)) ∙ sym (or-assoc (picked order g k) (eqb (at order g) k) (taken k (rest (suc g))))
+  split k (suc g) l = split k g (omega arith) ∙ ap (λ (t : Bool). picked order g k || t) (one-more k g (omega arith))
+      ∙ sym (or-assoc (picked order g k) (eqb (at order g) k) (taken k (rest (suc g))))
 
   -- whoever is taken in a round wins, and nobody else
   pub winners : n ≤ 64 * w → (k : ℕ) → picked order rounds k ≡ wins (has ms w) ps (cells n) k
   unfolding wins rounds-of taken
   winners q k = sym (rw (← opened tr q) (split k rounds (omega arith))
-      ∙ ap (λ (t : Rounds). picked order rounds k || taken k t) (rounds-stop (bids (has ms w) ps) (length ps) (opens (before ms w n order rounds) (64 * w)) none-left)
+      ∙ ap (λ (t : Rounds). picked order rounds k || taken k t)
+      (rounds-stop (bids (has ms w) ps) (length ps) (opens (before ms w n order rounds) (64 * w)) none-left)
       ∙ or-false (picked order rounds k))

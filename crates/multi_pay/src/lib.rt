@@ -34,8 +34,10 @@ fn pay(
 )
     requires { ⌜ Ground (now prices) (now masks) (now hop) (now index) w count (now order) (now gains) rounds × ((h < rounds)
         × (Paying (now prices) (now masks) w count (now order) h (now held) (now won) (now cents)
-        × ((length (now alt) ≡ w) × ((length (now counts) ≡ w + 2) × (Tournament (now prices) (now who) (now num) × (length (now mark) ≡ 16)))))) ⌝ }
-    ensures { λ _. ⌜ Paying (now (prices .entry)) (now (masks .entry)) w count (now (order .entry)) (h + 1) (now (held .exit)) (now (won .exit)) (now (cents .exit))
+        × ((length (now alt) ≡ w) × ((length (now counts) ≡ w + 2)
+        × (Tournament (now prices) (now who) (now num) × (length (now mark) ≡ 16)))))) ⌝ }
+    ensures { λ _. ⌜ Paying (now (prices .entry)) (now (masks .entry)) w count (now (order .entry)) (h + 1) (now (held .exit))
+        (now (won .exit)) (now (cents .exit))
         × Tournament (now (prices .entry)) (now (who .exit)) (now (num .exit)) ⌝ }
 {
     let k = order[h] as usize;
@@ -87,7 +89,8 @@ pub fn pay_all(
 )
     requires { ⌜ Ground (now prices) (now masks) (now hop) (now index) w count (now order) (now gains) rounds
         × (Paying (now prices) (now masks) w count (now order) 0 (now held) (now won) (now cents)
-        × ((length (now alt) ≡ w) × ((length (now counts) ≡ w + 2) × (Tournament (now prices) (now who) (now num) × (length (now mark) ≡ 16))))) ⌝ }
+        × ((length (now alt) ≡ w) × ((length (now counts) ≡ w + 2)
+        × (Tournament (now prices) (now who) (now num) × (length (now mark) ≡ 16))))) ⌝ }
     ensures { λ _. ⌜ Paid (now (prices .entry)) (now (masks .entry)) w count (now (won .exit)) (now (cents .exit)) ⌝ }
 {
     let mut h = 0;

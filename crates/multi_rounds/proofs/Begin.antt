@@ -34,15 +34,22 @@ pub record Entering (ps ms : List ℕ) (w : ℕ) (held who num : List ℕ) (i : 
 pub enters-none : {ps ms : List ℕ} {w : ℕ} {held who num : List ℕ} → Tournament ps who num → Entering ps ms w held who num 0
 enters-none t = record { tree = t; inside = omega arith; done = λ j l. absurd (omega arith) }
 
-pub enters-more : {ps ms : List ℕ} {w : ℕ} {held who num who′ num′ : List ℕ} {i r : ℕ} → Market ps ms w → Entering ps ms w held who num i → i < length ps → Tournament ps who′ num′ → known num′ ≡ set (known num) i r
+pub enters-more : {ps ms : List ℕ} {w : ℕ} {held who num who′ num′ : List ℕ} {i r : ℕ} → Market ps ms w → Entering ps ms w held who num i
+    → i < length ps → Tournament ps who′ num′ → known num′ ≡ set (known num) i r
     → r ≡ common held (row ms w i) → Entering ps ms w held who′ num′ (i + 1)
-enters-more {ps} {ms} {w} {held} {who} {num} {who′} {num′} {i} {r} m s l t q e = record { tree = t; inside = omega arith; done = λ j z. rw q (go j z (eqb j i) refl) }
+enters-more {ps} {ms} {w} {held} {who} {num} {who′} {num′} {i} {r} m s l t q e =
+    record { tree = t; inside = omega arith; done = λ j z. rw q (go j z (eqb j i) refl) }
   where
     go : (j : ℕ) → j < i + 1 → (b : Bool) → eqb j i ≡ b → at (set (known num) i r) j ≡ common held (row ms w j)
-    go j z true d = rw (eqb-true j i d, getD-set-same (known num) i r 0 (omega (arith, length-known num (s .tree .seats .numbers), m .priced .count))) e
+    go j z true d = rw (
+      eqb-true j i d,
+      getD-set-same (known num) i r 0
+          (omega (arith, length-known num (s .tree .seats .numbers), m .priced .count)),
+    ) e
     go j z false d = getD-set-other (known num) i j r 0 (eqb-false j i d) ∙ s .done j (omega (arith, eqb-false j i d))
 
-pub enters-all : {ps ms : List ℕ} {w : ℕ} {held who num : List ℕ} {i : ℕ} → Entering ps ms w held who num i → length ps ≤ i → Entered ps ms w held (known num)
+pub enters-all : {ps ms : List ℕ} {w : ℕ} {held who num : List ℕ} {i : ℕ} → Entering ps ms w held who num i → length ps ≤ i
+    → Entered ps ms w held (known num)
 enters-all s l = record { each = λ j z. s .done j (omega arith) }
 
 pub sized-of : {ps who num : List ℕ} → Tournament ps who num → Sized (known num)

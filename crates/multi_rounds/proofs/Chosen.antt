@@ -17,7 +17,8 @@ use Rattle.multi_rounds.specs.Market.{row, has, place, live, Sized, Know
 use Rattle.multi_tournament.specs.Tournament.{at}
 
 -- the choice turns on what the bids reach, and on the prices of those that reach a cell
-pub right-ext : (p q r s : ℕ → ℕ) (n : ℕ) → ((i : ℕ) → i < n → r i ≡ s i) → ((i : ℕ) → i < n → 0 < s i → p i ≡ q i) → (u : Found) → IsPick p r n u → IsPick q s n u
+pub right-ext : (p q r s : ℕ → ℕ) (n : ℕ) → ((i : ℕ) → i < n → r i ≡ s i) → ((i : ℕ) → i < n → 0 < s i → p i ≡ q i) → (u : Found)
+    → IsPick p r n u → IsPick q s n u
 right-ext p q r s n f g nothing x = λ i l k. x i l (omega (arith, f i l))
 right-ext p q r s n f g (found b) x = let e = f b (x .inside) in let k : 0 < s b = omega (arith, x .good) in record {
   inside = x .inside;
@@ -56,9 +57,11 @@ module _ {B : ℕ → Bid} {ps ms : List ℕ} {w : ℕ} {held old : List ℕ} (t
 
     same-choice : pick (at ps) (live ms w held old) (length ps) ≡ best B (length ps) (openOf held)
     unfolding best
-    same-choice = right-one (λ i. B i .price) (λ i. reach (B i .has) (openOf held)) (length ps) (pick (at ps) (live ms w held old) (length ps)) (best B (length ps) (openOf held))
+    same-choice = right-one (λ i. B i .price) (λ i. reach (B i .has) (openOf held)) (length ps)
+        (pick (at ps) (live ms w held old) (length ps)) (best B (length ps) (openOf held))
         (right-ext (at ps) (λ i. B i .price) (live ms w held old) (λ i. reach (B i .has) (openOf held)) (length ps) live-is
-        (λ i l g. price i (t .real i l (omega (arith, t .bound i l)))) (pick (at ps) (live ms w held old) (length ps)) (pick-right (at ps) (live ms w held old) (length ps)))
+        (λ i l g. price i (t .real i l (omega (arith, t .bound i l)))) (pick (at ps) (live ms w held old) (length ps))
+        (pick-right (at ps) (live ms w held old) (length ps)))
         (best-right B (length ps) (openOf held))
 
     placed : b ≡ place (length ps) (best B (length ps) (openOf held))
@@ -93,7 +96,8 @@ module _ {B : ℕ → Bid} {ps ms : List ℕ} {w : ℕ} {held old : List ℕ} (t
     real-bid l = t .real b l (omega (arith, good l, t .bound b l))
 
     -- the cells that stay open
-    pub shuts : b < length ps → {rest : List ℕ} → length rest ≡ length held → Closed held (row ms w b) rest → close (B b .has) (openOf held) ≡ openOf rest
+    pub shuts : b < length ps → {rest : List ℕ} → length rest ≡ length held → Closed held (row ms w b) rest
+        → close (B b .has) (openOf held) ≡ openOf rest
     unfolding bids
     shuts l {rest} e k = rw (real-bid l) (close-open held rest ms w b e k)
 
@@ -124,7 +128,8 @@ fuel B n (suc f) zero (x ∷ O) l m = absurd (omega arith)
 fuel B n (suc f) (suc g) O l m = go (best B n O) (best-right B n O)
     (λ i h. fuel B n f g (close (B i .has) O) (omega (arith, shrink (B i .has) O)) (omega (arith, shrink (B i .has) O)))
   where
-    go : (u : Found) → Rightly B n O u → ((i : ℕ) → 0 < reach (B i .has) O → run B n f (close (B i .has) O) ≡ run B n g (close (B i .has) O))
+    go : (u : Found) → Rightly B n O u → ((i : ℕ) → 0 < reach (B i .has) O
+        → run B n f (close (B i .has) O) ≡ run B n g (close (B i .has) O))
         → grow B O u (λ i. run B n f (close (B i .has) O)) ≡ grow B O u (λ i. run B n g (close (B i .has) O))
     go nothing x ih = refl
     go (found a) x ih = ap (round a (B a) O) (ih a (x .good))
@@ -142,9 +147,12 @@ rounds-stop B n O e = go (length O)
     go zero = refl
     go (suc f) = rw e
 
-pub rounds-more : (B : ℕ → Bid) (n : ℕ) (O : List ℕ) (b : ℕ) → best B n O ≡ found b → rounds-of B n O ≡ round b (B b) O (rounds-of B n (close (B b .has) O))
+pub rounds-more : (B : ℕ → Bid) (n : ℕ) (O : List ℕ) (b : ℕ) → best B n O ≡ found b
+    → rounds-of B n O ≡ round b (B b) O (rounds-of B n (close (B b .has) O))
 unfolding rounds-of run grow
 rounds-more B n O b e = fuel B n (length O) (suc (length O)) O (omega arith) (omega arith) ∙ go
   where
-    go : grow B O (best B n O) (λ i. run B n (length O) (close (B i .has) O)) ≡ round b (B b) O (run B n (length (close (B b .has) O)) (close (B b .has) O))
-    go = rw e (ap (round b (B b) O) (fuel B n (length O) (length (close (B b .has) O)) (close (B b .has) O) (omega (arith, shrink (B b .has) O)) (omega arith)))
+    go : grow B O (best B n O) (λ i. run B n (length O) (close (B i .has) O))
+        ≡ round b (B b) O (run B n (length (close (B b .has) O)) (close (B b .has) O))
+    go = rw e (ap (round b (B b) O) (fuel B n (length O) (length (close (B b .has) O)) (close (B b .has) O)
+        (omega (arith, shrink (B b .has) O)) (omega arith)))

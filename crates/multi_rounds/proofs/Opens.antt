@@ -26,7 +26,8 @@ module _ (h : ℕ → Bool) (x u v : ℕ) (e : h x ≡ eqb v 1) where
   reach-step xs t d (inr a) (inl b) = rw (a, e, b) (omega arith)
   reach-step xs t d (inr a) (inr b) = rw (a, e, b) (omega arith)
 
-  pub close-step : (y : ℕ) (xs ys : List ℕ) → y ≡ u - v → close h xs ≡ ys → (u ≡ 0) ⊎ (u ≡ 1) → (v ≡ 0) ⊎ (v ≡ 1) → close h (keep (eqb u 0) x xs) ≡ keep (eqb y 0) x ys
+  pub close-step : (y : ℕ) (xs ys : List ℕ) → y ≡ u - v → close h xs ≡ ys → (u ≡ 0) ⊎ (u ≡ 1) → (v ≡ 0) ⊎ (v ≡ 1)
+      → close h (keep (eqb u 0) x xs) ≡ keep (eqb y 0) x ys
   unfolding keep close
   close-step y xs ys c d (inl a) q = let z : y ≡ 0 = omega arith in rw (a, z) d
   close-step y xs ys c d (inr a) (inl b) = let z : y ≡ 1 = omega arith in rw (a, z, e, b, d)
@@ -35,13 +36,15 @@ module _ (h : ℕ → Bool) (x u v : ℕ) (e : h x ≡ eqb v 1) where
 pub reach-opens : (a m : List ℕ) (n : ℕ) → reach (λ x. eqb (cell m x) 1) (opens (cell a) n) ≡ total (both a m) n
 unfolding opens total both reach
 reach-opens a m zero = refl
-reach-opens a m (suc n) = reach-step (λ x. eqb (cell m x) 1) n (cell a n) (cell m n) refl (opens (cell a) n) _ (reach-opens a m n) (two-way a n) (two-way m n)
+reach-opens a m (suc n) = reach-step (λ x. eqb (cell m x) 1) n (cell a n) (cell m n) refl (opens (cell a) n) _ (reach-opens a m n)
+    (two-way a n) (two-way m n)
 
 pub close-opens : (a m b : List ℕ) → Closed a m b → (n : ℕ) → close (λ x. eqb (cell m x) 1) (opens (cell a) n) ≡ opens (cell b) n
 unfolding opens close
 close-opens a m b c zero = refl
 close-opens a m b c (suc n) =
-    close-step (λ x. eqb (cell m x) 1) n (cell a n) (cell m n) refl (cell b n) (opens (cell a) n) _ (c .clears n) (close-opens a m b c n) (two-way a n) (two-way m n)
+    close-step (λ x. eqb (cell m x) 1) n (cell a n) (cell m n) refl (cell b n) (opens (cell a) n) _ (c .clears n) (close-opens a m b c n)
+    (two-way a n) (two-way m n)
 
 opens-ones : (f : ℕ → ℕ) (n : ℕ) → ((x : ℕ) → x < n → f x ≡ 1) → opens f n ≡ cells n
 unfolding opens cells
@@ -53,7 +56,8 @@ unfolding opens cells
 opens-first f k zero l h g = let e : k ≡ 0 = omega arith in rw e
 opens-first f k (suc n) l h g = go (eq-or-lt-of-le l) (opens-first f k n)
   where
-    go : (k ≡ suc n) ⊎ (k < suc n) → (k ≤ n → ((x : ℕ) → x < k → f x ≡ 1) → ((x : ℕ) → k ≤ x → f x ≡ 0) → opens f n ≡ cells k) → opens f (suc n) ≡ cells k
+    go : (k ≡ suc n) ⊎ (k < suc n) → (k ≤ n → ((x : ℕ) → x < k → f x ≡ 1) → ((x : ℕ) → k ≤ x → f x ≡ 0) → opens f n ≡ cells k)
+        → opens f (suc n) ≡ cells k
     go (inl e) ih = rw e (opens-ones f (suc n) (λ x q. h x (omega arith)))
     go (inr q) ih = rw (g n (omega arith)) (ih (omega arith) h g)
 
@@ -66,7 +70,8 @@ pub reach-open : (held ms : List ℕ) (w i : ℕ) → reach (has ms w i) (openOf
 unfolding openOf has common
 reach-open held ms w i = reach-opens held (row ms w i) (64 * length held)
 
-pub close-open : (held new ms : List ℕ) (w i : ℕ) → length new ≡ length held → Closed held (row ms w i) new → close (has ms w i) (openOf held) ≡ openOf new
+pub close-open : (held new ms : List ℕ) (w i : ℕ) → length new ≡ length held → Closed held (row ms w i) new
+    → close (has ms w i) (openOf held) ≡ openOf new
 unfolding openOf has
 close-open held new ms w i e c = rw e (close-opens held (row ms w i) new c (64 * length held))
 
@@ -92,6 +97,7 @@ reach-alike h f g (suc n) e = go (h n) refl (reach-alike h f g n e)
     two true a = a
     two false a = omega arith
 
-    go : (t : Bool) → h n ≡ t → reach h (opens f n) ≡ reach h (opens g n) → reach h (keep (eqb (f n) 0) n (opens f n)) ≡ reach h (keep (eqb (g n) 0) n (opens g n))
+    go : (t : Bool) → h n ≡ t → reach h (opens f n) ≡ reach h (opens g n)
+        → reach h (keep (eqb (f n) 0) n (opens f n)) ≡ reach h (keep (eqb (g n) 0) n (opens g n))
     go true a ih = rw (e n a) (two (eqb (g n) 0) ih)
     go false a ih = one (f n) (opens f n) a ∙ ih ∙ sym (one (g n) (opens g n) a)

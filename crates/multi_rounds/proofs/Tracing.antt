@@ -24,10 +24,14 @@ use Rattle.multi_rounds.specs.Trace.{opens, before, Trace, openOf}
 abbrev pub all : List ℕ → List ℕ → ℕ → ℕ → Bid
 all ps ms w = bids (has ms w) ps
 
-before-set : (ms : List ℕ) (w n : ℕ) (order : List ℕ) (r b g : ℕ) → g ≤ r → (x : ℕ) → before ms w n (set order r b) g x ≡ before ms w n order g x
+before-set : (ms : List ℕ) (w n : ℕ) (order : List ℕ) (r b g : ℕ) → g ≤ r → (x : ℕ)
+    → before ms w n (set order r b) g x ≡ before ms w n order g x
 unfolding before
 before-set ms w n order r b zero l x = refl
-before-set ms w n order r b (suc g) l x = rw (before-set ms w n order r b g (omega arith) x, getD-set-other order r g b 0 (λ e. omega arith))
+before-set ms w n order r b (suc g) l x = rw (
+  before-set ms w n order r b g (omega arith) x,
+  getD-set-other order r g b 0 (λ e. omega arith),
+)
 
 abbrev og : List ℕ → ℕ → ℕ → List ℕ → ℕ → List ℕ
 og ms w n order g = opens (before ms w n order g) (64 * w)
@@ -47,7 +51,8 @@ pub record Tracing (ps ms : List ℕ) (w n : ℕ) (held stale order got : List �
   pub standing : (x : ℕ) → cell held x ≡ before ms w n order r x
   past : (g : ℕ) → g < r → Past ps ms w n order got g
 
-pub starts : {ps ms : List ℕ} {w n : ℕ} {held stale order got : List ℕ} → length held ≡ w → n ≤ 64 * w → First n held → Sized stale → Entered ps ms w held stale → n ≤ length order → n ≤ length got → Tracing ps ms w n held stale order got n 0
+pub starts : {ps ms : List ℕ} {w n : ℕ} {held stale order got : List ℕ} → length held ≡ w → n ≤ 64 * w → First n held → Sized stale
+    → Entered ps ms w held stale → n ≤ length order → n ≤ length got → Tracing ps ms w n held stale order got n 0
 unfolding bids before
 starts {ps} {ms} {w} {n} {held} {stale} e l f z g lo lg = let o = open-first f (omega arith) in record {
   links = record { sized = z; words = e; bound = λ i q. omega (arith, g .each i q, reach-open held ms w i); real = λ i q p. refl };
@@ -70,7 +75,13 @@ module _ {ps ms : List ℕ} {w n : ℕ} {held stale order got : List ℕ} {left 
 
   ends : n ≤ 10112 → ((i : ℕ) → i < length ps → reach (has ms w i) (openOf held) ≡ 0) → Trace ps ms w n order got r
   ends m h = record {
-    route = record { most = omega (arith, s .room); room = omega (arith, s .room, s .orders); space = omega (arith, s .room, s .space); inside = λ g l. s .past g l .inside; few = λ g l. s .past g l .few };
+    route = record {
+      most = omega (arith, s .room);
+      room = omega (arith, s .room, s .orders);
+      space = omega (arith, s .room, s .space);
+      inside = λ g l. s .past g l .inside;
+      few = λ g l. s .past g l .few;
+    };
     takes = λ g l. s .past g l .takes′;
     gets = λ g l. s .past g l .gets;
     over = λ i l. ap (reach (has ms w i)) opened ∙ h i l;
@@ -91,7 +102,8 @@ module _ {ps ms : List ℕ} {w n : ℕ} {held stale order got : List ℕ} {left 
       pub some : 0 < c
       some = gains-some (s .links) u l
 
-      pub goes : {rest : List ℕ} → length rest ≡ length held → Closed held (row ms w b) rest → Tracing ps ms w n rest new (set order r b) (set got r c) (left - c) (r + 1)
+      pub goes : {rest : List ℕ} → length rest ≡ length held → Closed held (row ms w b) rest
+          → Tracing ps ms w n rest new (set order r b) (set got r c) (left - c) (r + 1)
       unfolding before bids
       goes {rest} e k = let o = shuts (s .links) u l e k in record {
         links = tied (s .links) u l e k;
@@ -99,7 +111,8 @@ module _ {ps ms : List ℕ} {w n : ℕ} {held stale order got : List ℕ} {left 
         room = omega (arith, s .room, some, fits);
         orders = simp length-set (s .orders);
         space = simp length-set (s .space);
-        standing = λ x. rw (add-one, before-set ms w n order r b r (omega arith) x, getD-set-same order r b 0 within) (k .clears x ∙ ap (λ (v : ℕ). v - cell (row ms w b) x) (s .standing x));
+        standing = λ x. rw (add-one, before-set ms w n order r b r (omega arith) x, getD-set-same order r b 0 within)
+            (k .clears x ∙ ap (λ (v : ℕ). v - cell (row ms w b) x) (s .standing x));
         past = λ g z. go g z (eqb g r) refl;
       }
         where
@@ -116,7 +129,8 @@ module _ {ps ms : List ℕ} {w n : ℕ} {held stale order got : List ℕ} {left 
           go g z true d = rw (eqb-true g r d) (record {
             inside = rw (getD-set-same order r b 0 within) l;
             takes′ = rw (same r (omega arith), opened, getD-set-same order r b 0 within) (takes (s .links) u l);
-            gets = rw (same r (omega arith), opened, getD-set-same order r b 0 within, getD-set-same got r c 0 within′) (gains (s .links) u l);
+            gets = rw (same r (omega arith), opened, getD-set-same order r b 0 within, getD-set-same got r c 0 within′)
+                (gains (s .links) u l);
             few = rw (getD-set-same got r c 0 within′) (u .small);
           })
           go g z false d = let f = eqb-false g r d in let a = s .past g (omega arith) in record {
@@ -129,4 +143,5 @@ module _ {ps ms : List ℕ} {w n : ℕ} {held stale order got : List ℕ} {left 
 pub main-best : {ps ms : List ℕ} {w n : ℕ} {order gains : List ℕ} {rounds : ℕ} → Trace ps ms w n order gains rounds → (g : ℕ) → g < rounds
     → Best (at ps) (λ i. reach (has ms w i) (opens (before ms w n order g) (64 * w))) (length ps) (at order g)
 unfolding bids
-main-best {ps} {ms} {w} {n} {order} tr g l = rw (tr .takes g l) at (best-right (bids (has ms w) ps) (length ps) (opens (before ms w n order g) (64 * w)))
+main-best {ps} {ms} {w} {n} {order} tr g l = rw (tr .takes g l)
+    at (best-right (bids (has ms w) ps) (length ps) (opens (before ms w n order g) (64 * w)))

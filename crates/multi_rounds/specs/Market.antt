@@ -70,15 +70,18 @@ pub record Cleared (xs : List ℕ) : Type 0 where
 pub record Entered (ps ms : List ℕ) (w : ℕ) (held new : List ℕ) : Type 0 where
   pub each : (i : ℕ) → i < length ps → at new i ≡ common held (row ms w i)
 
--- bid b, which asks p, comes before all others by the s cells known of it, after some of the bids were counted anew; the cells known are those that
--- it has, or else the rival, which asks `ask` for `gain` cells, comes before it and so before all. Where no bid has cells left it is 1 for 0 cells.
-pub record Fronted (ps ms : List ℕ) (w : ℕ) (held old new : List ℕ) (rival ask gain : ℕ) (free : Bool) (b p s : ℕ) (clear : Bool) : Type 0 where
-  pub high : (i : ℕ) → at new i ≤ at old i
-  pub low : (i : ℕ) → i < length ps → live ms w held old i ≤ at new i
-  pub least : (i : ℕ) → i < length ps → 0 < at new i → (0 < s) × (p * at new i + late b i ≤ at ps i * s)
-  pub cheap : p ≤ 100000000
-  pub small : s ≤ 10112
-  pub inside : 0 < s → (b < length ps) × ((p ≡ at ps b) × (at new b ≡ s))
-  pub none : s ≡ 0 → b ≡ length ps
-  pub exact : clear ≡ false → 0 < s → s ≡ common held (row ms w b)
-  pub clear-of : clear ≡ true → (free ≡ true) × (ask * s + late rival b ≤ p * gain)
+-- bid b, which asks p, comes before all others by the s cells known of it, after some of the bids were counted anew; the cells
+-- known are those that
+-- it has, or else the rival, which asks `ask` for `gain` cells, comes before it and so before all. Where no bid has cells left it
+-- is 1 for 0 cells.
+pub record Fronted (ps ms : List ℕ) (w : ℕ) (held old new : List ℕ) (rival ask gain : ℕ) (free : Bool) (b p s : ℕ) (clear : Bool) : Type 0
+  where
+    pub high : (i : ℕ) → at new i ≤ at old i
+    pub low : (i : ℕ) → i < length ps → live ms w held old i ≤ at new i
+    pub least : (i : ℕ) → i < length ps → 0 < at new i → (0 < s) × (p * at new i + late b i ≤ at ps i * s)
+    pub cheap : p ≤ 100000000
+    pub small : s ≤ 10112
+    pub inside : 0 < s → (b < length ps) × ((p ≡ at ps b) × (at new b ≡ s))
+    pub none : s ≡ 0 → b ≡ length ps
+    pub exact : clear ≡ false → 0 < s → s ≡ common held (row ms w b)
+    pub clear-of : clear ≡ true → (free ≡ true) × (ask * s + late rival b ≤ p * gain)

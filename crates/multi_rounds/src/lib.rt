@@ -34,7 +34,8 @@ pub fn overlap(
 pub fn shut(held: &mut [u64], counts: &mut [u64], masks: &[u64], hop: &[u8], w: usize, i: usize)
     requires { ⌜ (length (now held) ≡ w) × ((w ≤ 158) × ((w * i + w ≤ length (now masks)) × ((length (now hop) ≡ length (now masks))
         × (Counted (now held) (now counts) × Hops (row (now masks) w i) (row (now hop) w i))))) ⌝ }
-    ensures { λ _. ⌜ Closed (now (held .entry)) (row (now (masks .entry)) w i) (now (held .exit)) × Counted (now (held .exit)) (now (counts .exit)) ⌝ }
+    ensures { λ _. ⌜ Closed (now (held .entry)) (row (now (masks .entry)) w i) (now (held .exit))
+        × Counted (now (held .exit)) (now (counts .exit)) ⌝ }
 {
     let a = w * i;
     let e = a + w;
@@ -87,10 +88,14 @@ pub fn front(
     gain: u64,
     free: bool,
 ) -> Lead
-    requires { ⌜ Market (now prices) (now masks) w × (Hopping (now prices) (now masks) (now hop) w × ((length (now held) ≡ w) × (Counted (now held) (now counts)
-        × (Tournament (now prices) (now who) (now num) × (Known (now prices) (now masks) w (now held) (known (now num)) × ((rival ≤ length (now prices)) × ((ask ≤ 100000000) × (gain ≤ 10112)))))))) ⌝ }
+    requires { ⌜ Market (now prices) (now masks) w ×
+        (Hopping (now prices) (now masks) (now hop) w × ((length (now held) ≡ w) × (Counted (now held) (now counts)
+        × (Tournament (now prices) (now who) (now num)
+        × (Known (now prices) (now masks) w (now held) (known (now num))
+        × ((rival ≤ length (now prices)) × ((ask ≤ 100000000) × (gain ≤ 10112)))))))) ⌝ }
     ensures { λ r. ⌜ Tournament (now (prices .entry)) (now (who .exit)) (now (num .exit))
-        × (Fronted (now (prices .entry)) (now (masks .entry)) w (now (held .entry)) (known (now (num .entry))) (known (now (num .exit))) rival ask gain free (r .bid) (r .price) (r .cells) (r .clear)
+        × (Fronted (now (prices .entry)) (now (masks .entry)) w (now (held .entry)) (known (now (num .entry))) (known (now (num .exit)))
+        rival ask gain free (r .bid) (r .price) (r .cells) (r .clear)
         × Counted (now (held .entry)) (now (counts .exit))) ⌝ }
 {
     loop {
@@ -167,9 +172,12 @@ pub fn enter(
     who: &mut [u64],
     num: &mut [u64],
 )
-    requires { ⌜ Market (now prices) (now masks) w × (Hopping (now prices) (now masks) (now hop) w × ((length (now held) ≡ w) × (Counted (now held) (now counts) × Tournament (now prices) (now who) (now num)))) ⌝ }
+    requires { ⌜ Market (now prices) (now masks) w ×
+        (Hopping (now prices) (now masks) (now hop) w ×
+        ((length (now held) ≡ w) × (Counted (now held) (now counts) × Tournament (now prices) (now who) (now num)))) ⌝ }
     ensures { λ _. ⌜ Tournament (now (prices .entry)) (now (who .exit)) (now (num .exit))
-        × (Entered (now (prices .entry)) (now (masks .entry)) w (now (held .entry)) (known (now (num .exit))) × Counted (now (held .entry)) (now (counts .exit))) ⌝ }
+        × (Entered (now (prices .entry)) (now (masks .entry)) w (now (held .entry)) (known (now (num .exit)))
+        × Counted (now (held .entry)) (now (counts .exit))) ⌝ }
 {
     let mut i = 0;
     while i < prices.len() {
@@ -193,9 +201,13 @@ pub fn trace(
     order: &mut [u64],
     gains: &mut [u64],
 ) -> usize
-    requires { ⌜ Market (now prices) (now masks) w × (Hopping (now prices) (now masks) (now hop) w × ((length (now held) ≡ w) × (Counted (now held) (now counts) × (Tournament (now prices) (now who) (now num)
-        × (First count (now held) × (Entered (now prices) (now masks) w (now held) (known (now num)) × ((count ≤ 64 * w) × ((count ≤ length (now order)) × (count ≤ length (now gains)))))))))) ⌝ }
-    ensures { λ r. ⌜ Trace (now (prices .entry)) (now (masks .entry)) w count (now (order .exit)) (now (gains .exit)) r × Tournament (now (prices .entry)) (now (who .exit)) (now (num .exit)) ⌝ }
+    requires { ⌜ Market (now prices) (now masks) w ×
+        (Hopping (now prices) (now masks) (now hop) w ×
+        ((length (now held) ≡ w) × (Counted (now held) (now counts) × (Tournament (now prices) (now who) (now num)
+        × (First count (now held) × (Entered (now prices) (now masks) w (now held) (known (now num))
+        × ((count ≤ 64 * w) × ((count ≤ length (now order)) × (count ≤ length (now gains)))))))))) ⌝ }
+    ensures { λ r. ⌜ Trace (now (prices .entry)) (now (masks .entry)) w count (now (order .exit)) (now (gains .exit)) r
+        × Tournament (now (prices .entry)) (now (who .exit)) (now (num .exit)) ⌝ }
 {
     let mut left = count as u64;
     let mut r = 0;

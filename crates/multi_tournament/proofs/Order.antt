@@ -34,8 +34,17 @@ ahead i j k a b c d e f lb ld lf g h = go (ltb k i) (ltb j i) refl refl
   where
     go : (s t : Bool) → ltb k i ≡ s → ltb j i ≡ t → a * f + late i k ≤ e * b
     go false t u v = omega (arith, late-no i k (ltb-false k i u), chain a b c d e f ld (omega arith) (omega arith))
-    go true true u v = omega (arith, late-most i k, late-yes i j (ltb-true j i v), chain-lt a b c d e f lf (omega (arith, late-yes i j (ltb-true j i v))) (omega arith))
-    go true false u v = omega (arith, late-most i k, chain-le-lt a b c d e f lb (omega arith) (omega (arith, late-yes j k (omega (arith, ltb-true k i u, ltb-false j i v)))))
+    go true true u v = omega (
+      arith,
+      late-most i k,
+      late-yes i j (ltb-true j i v),
+      chain-lt a b c d e f lf (omega (arith, late-yes i j (ltb-true j i v))) (omega arith),
+    )
+    go true false u v = omega (
+      arith,
+      late-most i k,
+      chain-le-lt a b c d e f lb (omega arith) (omega (arith, late-yes j k (omega (arith, ltb-true k i u, ltb-false j i v)))),
+    )
 
 pub leads-itself : (ps : List ℕ) (i s : ℕ) → Leads ps i s i s
 leads-itself ps i s = ⊎-elim (λ z. inl z) (λ z. inr (z, omega (arith, late-no i i (omega arith)))) (zero-or s)
@@ -43,4 +52,5 @@ leads-itself ps i s = ⊎-elim (λ z. inl z) (λ z. inr (z, omega (arith, late-n
 pub leads-on : (ps : List ℕ) (i s j t k u : ℕ) → Leads ps i s j t → Leads ps j t k u → Leads ps i s k u
 leads-on ps i s j t k u a (inl z) = inl z
 leads-on ps i s j t k u (inl z) (inr b) = absurd (omega (arith, b .0))
-leads-on ps i s j t k u (inr a) (inr b) = ⊎-elim (λ z. inl z) (λ z. inr (a .0, ahead i j k (at ps i) s (at ps j) t (at ps k) u (a .0) (b .0) z (a .1) (b .1))) (zero-or u)
+leads-on ps i s j t k u (inr a) (inr b) = ⊎-elim (λ z. inl z)
+    (λ z. inr (a .0, ahead i j k (at ps i) s (at ps j) t (at ps k) u (a .0) (b .0) z (a .1) (b .1))) (zero-or u)

@@ -26,7 +26,8 @@ Leads ps i s j t = (t ≡ 0) ⊎ ((0 < s) × (at ps i * t + late i j ≤ at ps j
 
 -- the bid and the number at node v are those of one of the nodes below, and come before both
 pub record Node (ps who num : List ℕ) (v : ℕ) : Type 0 where
-  pub origin : ((at who v ≡ at who (2 * v)) × (at num v ≡ at num (2 * v))) ⊎ ((at who v ≡ at who (2 * v + 1)) × (at num v ≡ at num (2 * v + 1)))
+  pub origin : ((at who v ≡ at who (2 * v)) × (at num v ≡ at num (2 * v)))
+      ⊎ ((at who v ≡ at who (2 * v + 1)) × (at num v ≡ at num (2 * v + 1)))
   pub left : Leads ps (at who v) (at num v) (at who (2 * v)) (at num (2 * v))
   pub right : Leads ps (at who v) (at num v) (at who (2 * v + 1)) (at num (2 * v + 1))
 

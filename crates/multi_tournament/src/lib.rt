@@ -8,7 +8,8 @@ ghost use Rattle.multi_tournament.specs.Tournament.{at, Priced, known, L
 
 // Whether bid i at s cells comes before bid j at t cells.
 fn leads(prices: &[u64], i: usize, s: u64, j: usize, t: u64) -> bool
-    requires { ⌜ Priced (now prices) × (((s ≤ 10112) × (t ≤ 10112)) × ((0 < s → i < length (now prices)) × (0 < t → j < length (now prices)))) ⌝ }
+    requires { ⌜ Priced (now prices) × (((s ≤ 10112) × (t ≤ 10112))
+        × ((0 < s → i < length (now prices)) × (0 < t → j < length (now prices)))) ⌝ }
     ensures yes { λ r. ⌜ (r ≡ true → Leads (now (prices .entry)) i s j t) ⌝ }
     ensures no { λ r. ⌜ (r ≡ false → Leads (now (prices .entry)) j t i s) ⌝ }
 {
@@ -60,7 +61,8 @@ fn play(prices: &[u64], who: &mut [u64], num: &mut [u64], v: usize) -> bool
 // Changes what is known of bid i to x cells. A node that stays as it was leaves those above as they were.
 pub fn update(prices: &[u64], who: &mut [u64], num: &mut [u64], i: usize, x: u64)
     requires { ⌜ Priced (now prices) × (Tournament (now prices) (now who) (now num) × ((i < length (now prices)) × (x ≤ 10112))) ⌝ }
-    ensures { λ _. ⌜ Tournament (now (prices .entry)) (now (who .exit)) (now (num .exit)) × (known (now (num .exit)) ≡ set (known (now (num .entry))) i x) ⌝ }
+    ensures { λ _. ⌜ Tournament (now (prices .entry)) (now (who .exit)) (now (num .exit))
+        × (known (now (num .exit)) ≡ set (known (now (num .entry))) i x) ⌝ }
 {
     num[1024 + i] = x;
     let mut v = (1024 + i) / 2;

@@ -27,9 +27,12 @@ fn along(
     mark: &mut [u64],
 ) -> multi_follow::Move
     requires { ⌜ Course (now prices) (now masks) (now hop) (now index) w count (now order) (now gains) rounds h k
-        × (Walking (now prices) (now masks) w count (now order) (now gains) rounds h k (now alt) (now counts) (now who) (now num) (now mark) top mine g
+        × (Walking (now prices) (now masks) w count (now order) (now gains) rounds h k (now alt) (now counts) (now who) (now num)
+        (now mark) top mine g
         × ((0 < mine) × (g < rounds))) ⌝ }
-    ensures { λ r. ⌜ Stepped (now (prices .entry)) (now (masks .entry)) w count (now (order .entry)) (now (gains .entry)) rounds h k (now (alt .entry)) (now (alt .exit)) (now (counts .exit)) (now (who .exit)) (now (num .exit)) (now (mark .exit)) g top (r .g) (r .mine) (r .top) (r .over) ⌝ }
+    ensures { λ r. ⌜ Stepped (now (prices .entry)) (now (masks .entry)) w count (now (order .entry)) (now (gains .entry)) rounds h k
+        (now (alt .entry)) (now (alt .exit)) (now (counts .exit)) (now (who .exit)) (now (num .exit)) (now (mark .exit)) g top (r .g)
+        (r .mine) (r .top) (r .over) ⌝ }
 {
     let m = order[g] as usize;
     let p = prices[m];
@@ -130,9 +133,12 @@ fn beyond(
     mark: &mut [u64],
 ) -> multi_follow::Move
     requires { ⌜ Course (now prices) (now masks) (now hop) (now index) w count (now order) (now gains) rounds h k
-        × (Walking (now prices) (now masks) w count (now order) (now gains) rounds h k (now alt) (now counts) (now who) (now num) (now mark) top mine g
+        × (Walking (now prices) (now masks) w count (now order) (now gains) rounds h k (now alt) (now counts) (now who) (now num)
+        (now mark) top mine g
         × ((0 < mine) × (rounds ≤ g))) ⌝ }
-    ensures { λ r. ⌜ Stepped (now (prices .entry)) (now (masks .entry)) w count (now (order .entry)) (now (gains .entry)) rounds h k (now (alt .entry)) (now (alt .exit)) (now (counts .exit)) (now (who .exit)) (now (num .exit)) (now (mark .exit)) g top (r .g) (r .mine) (r .top) (r .over) ⌝ }
+    ensures { λ r. ⌜ Stepped (now (prices .entry)) (now (masks .entry)) w count (now (order .entry)) (now (gains .entry)) rounds h k
+        (now (alt .entry)) (now (alt .exit)) (now (counts .exit)) (now (who .exit)) (now (num .exit)) (now (mark .exit)) g top (r .g)
+        (r .mine) (r .top) (r .over) ⌝ }
 {
     let f = multi_rounds::front(prices, masks, hop, w, alt, counts, who, num, 0, 0, 0, false);
     let b = f.bid;
@@ -193,8 +199,11 @@ pub fn step(
     mark: &mut [u64],
 ) -> multi_follow::Move
     requires { ⌜ Course (now prices) (now masks) (now hop) (now index) w count (now order) (now gains) rounds h k
-        × (Walking (now prices) (now masks) w count (now order) (now gains) rounds h k (now alt) (now counts) (now who) (now num) (now mark) top mine g × (0 < mine)) ⌝ }
-    ensures { λ r. ⌜ Stepped (now (prices .entry)) (now (masks .entry)) w count (now (order .entry)) (now (gains .entry)) rounds h k (now (alt .entry)) (now (alt .exit)) (now (counts .exit)) (now (who .exit)) (now (num .exit)) (now (mark .exit)) g top (r .g) (r .mine) (r .top) (r .over) ⌝ }
+        × (Walking (now prices) (now masks) w count (now order) (now gains) rounds h k (now alt) (now counts) (now who) (now num)
+        (now mark) top mine g × (0 < mine)) ⌝ }
+    ensures { λ r. ⌜ Stepped (now (prices .entry)) (now (masks .entry)) w count (now (order .entry)) (now (gains .entry)) rounds h k
+        (now (alt .entry)) (now (alt .exit)) (now (counts .exit)) (now (who .exit)) (now (num .exit)) (now (mark .exit)) g top (r .g)
+        (r .mine) (r .top) (r .over) ⌝ }
 {
     if g < rounds {
         return along(

@@ -73,7 +73,8 @@ unset n x = let e : getD (zeros n) (x / 64) 0 ≡ 0 = zero-at (ltb (x / 64) n) r
     zero-at true h = getD-replicate n (x / 64) 0 0 (ltb-true (x / 64) n h)
     zero-at false h = List·getD-eq-default (zeros n) 0 (rw length-replicate (ltb-false (x / 64) n h))
 
-pub begins : (kind : Kind) (ls : List (Option Line)) (used rows windows : List ℕ) → used ≡ replicate 15625 0 → length rows ≡ 4000 → length windows ≡ 22000 → Walk kind ls ls 0 0 used rows windows
+pub begins : (kind : Kind) (ls : List (Option Line)) (used rows windows : List ℕ) → used ≡ replicate 15625 0 → length rows ≡ 4000
+    → length windows ≡ 22000 → Walk kind ls ls 0 0 used rows windows
 unfolding numbers zeros allWindows rowsFrom flatRows flatWindows among
 begins kind ls used rows windows u r w =
     record {
@@ -103,7 +104,8 @@ unfolding among
 among-more x [] b = or-false (eqb b x)
 among-more x (u ∷ us) b = rw (among-more x us b) (or-assoc (eqb u x) (among x us) (eqb b x))
 
-marked-more : (b : ℕ) (us used used′ : List ℕ) → ((x : ℕ) → eqb (cell used x) 1 ≡ among x us) → Filled b (b + 1) used used′ → (x : ℕ) → eqb (cell used′ x) 1 ≡ among x (us ++ b ∷ [])
+marked-more : (b : ℕ) (us used used′ : List ℕ) → ((x : ℕ) → eqb (cell used x) 1 ≡ among x us) → Filled b (b + 1) used used′ → (x : ℕ)
+    → eqb (cell used′ x) 1 ≡ among x (us ++ b ∷ [])
 marked-more b us used used′ h f x = go (eqb b x) refl (ltb x b) refl ∙ sym (among-more x us b)
   where
     go : (t : Bool) → eqb b x ≡ t → (s : Bool) → ltb x b ≡ s → eqb (cell used′ x) 1 ≡ among x us || t
@@ -119,11 +121,13 @@ bid-not-refused (step.Bid d) c n at e h = absurd h
 bid-not-refused (step.Refused x) c n at e h = let z : _≡_ {A = ℕ} 0 1 = cc in absurd (omega arith)
 
 -- what bounds the windows of a bid bounds those that a line adds
-pub taken-room : (kind : Kind) (k m : ℕ) (used rows windows used′ rows′ windows′ : List ℕ) (o : Option Line) (r : Step) (c n : ℕ) → Taken o kind k m used rows windows r used′ rows′ windows′ → r ≡ step.Bid c →
+pub taken-room : (kind : Kind) (k m : ℕ) (used rows windows used′ rows′ windows′ : List ℕ) (o : Option Line) (r : Step) (c n : ℕ)
+    → Taken o kind k m used rows windows r used′ rows′ windows′ → r ≡ step.Bid c →
     ((b : Bid) → o ≡ some (bid b) → 6 * (m + length (b .windows)) ≤ n) → 6 * (m + c) ≤ n
 taken-room kind k m used rows windows used′ rows′ windows′ none r c n t e h = bid-not-refused r c 2 (k + 2) e t
 taken-room kind k m used rows windows used′ rows′ windows′ (some (tender x)) r c n t e h = bid-not-refused r c 2 (k + 2) e t
-taken-room kind k m used rows windows used′ rows′ windows′ (some (bid b)) r c n t e h = go (faultIn kind k (b .bidder) (b .price) (length (b .windows)) (allLawful (b .windows)) (eqb (cell used (b .bidder)) 1)) t
+taken-room kind k m used rows windows used′ rows′ windows′ (some (bid b)) r c n t e h =
+    go (faultIn kind k (b .bidder) (b .price) (length (b .windows)) (allLawful (b .windows)) (eqb (cell used (b .bidder)) 1)) t
   where
     go : (f : Option ℕ) → Judged f b k m used rows windows r used′ rows′ windows′ → 6 * (m + c) ≤ n
     go none j = let q : c ≡ length (b .windows) = cc (e, j .answer) in rw q (h b refl)
@@ -132,13 +136,15 @@ taken-room kind k m used rows windows used′ rows′ windows′ (some (bid b)) 
 module _ (kind : Kind) (whole rest : List (Option Line)) (k m : ℕ) (used rows windows used′ rows′ windows′ : List ℕ) where
   -- the fault of the next bid
   fault-is : (b : Bid) (w : Walk kind whole (some (bid b) ∷ rest) k m used rows windows) →
-      faultOf kind (numbers (w .done)) b ≡ faultIn kind k (b .bidder) (b .price) (length (b .windows)) (allLawful (b .windows)) (eqb (cell used (b .bidder)) 1)
+      faultOf kind (numbers (w .done)) b ≡ faultIn kind k (b .bidder) (b .price) (length (b .windows)) (allLawful (b .windows))
+      (eqb (cell used (b .bidder)) 1)
   unfolding faultOf
   fault-is b w = rw (← (w .marked (b .bidder)), numbers-length (w .done), w .count)
 
   more : (b : Bid) → Walk kind whole (some (bid b) ∷ rest) k m used rows windows → (r : Step) → m + length (b .windows) ≤ 11000 →
       faultIn kind k (b .bidder) (b .price) (length (b .windows)) (allLawful (b .windows)) (eqb (cell used (b .bidder)) 1) ≡ none →
-      Took b k m used rows windows r used′ rows′ windows′ → length used′ ≡ length used → length rows′ ≡ length rows → length windows′ ≡ length windows →
+      Took b k m used rows windows r used′ rows′ windows′ → length used′ ≡ length used → length rows′ ≡ length rows
+      → length windows′ ≡ length windows →
       Walk kind whole rest (k + 1) (m + length (b .windows)) used′ rows′ windows′
   unfolding checked judged bidsOf
   more b w r room g t lu lr lw =
@@ -156,8 +162,10 @@ module _ (kind : Kind) (whole rest : List (Option Line)) (k m : ℕ) (used rows 
         places = ap length (windows-more (w .done) b) ∙ length-append (allWindows (w .done)) (b .windows) ∙ omega (arith, w .places);
         few-bids = omega (arith, p .few-bids);
         few-windows = i;
-        rows-are = ap (take (4 * (k + 1))) (t .row) ∙ front rows _ _ (4 * k) (4 * (k + 1)) z (omega arith) ∙ rw (w .rows-are, ← (w .places)) (sym (rw (zero-add (length (allWindows (w .done)))) at (rows-more 0 (w .done) b)));
-        windows-are = ap (take (2 * (m + length (b .windows)))) (t .own) ∙ windows-put windows m (b .windows) j ∙ rw (w .windows-are, windows-more (w .done) b) (sym (flat-more (allWindows (w .done)) (b .windows)));
+        rows-are = ap (take (4 * (k + 1))) (t .row) ∙ front rows _ _ (4 * k) (4 * (k + 1)) z (omega arith)
+            ∙ rw (w .rows-are, ← (w .places)) (sym (rw (zero-add (length (allWindows (w .done)))) at (rows-more 0 (w .done) b)));
+        windows-are = ap (take (2 * (m + length (b .windows)))) (t .own) ∙ windows-put windows m (b .windows) j
+            ∙ rw (w .windows-are, windows-more (w .done) b) (sym (flat-more (allWindows (w .done)) (b .windows)));
         marked = λ x. rw (numbers-more (w .done) b) (marked-more (b .bidder) (numbers (w .done)) used used′ (w .marked) (t .mark) x);
         used-long = lu ∙ w .used-long;
         rows-long = lr ∙ w .rows-long;
@@ -165,14 +173,18 @@ module _ (kind : Kind) (whole rest : List (Option Line)) (k m : ℕ) (used rows 
       }
 
   -- the next line is a bid
-  pub goes : (o : Option Line) → Walk kind whole (o ∷ rest) k m used rows windows → (r : Step) → Taken o kind k m used rows windows r used′ rows′ windows′ →
-      length used′ ≡ length used → length rows′ ≡ length rows → length windows′ ≡ length windows → (c : ℕ) → r ≡ step.Bid c → ((b : Bid) → o ≡ some (bid b) → m + length (b .windows) ≤ 11000) →
+  pub goes : (o : Option Line) → Walk kind whole (o ∷ rest) k m used rows windows → (r : Step)
+      → Taken o kind k m used rows windows r used′ rows′ windows′ →
+      length used′ ≡ length used → length rows′ ≡ length rows → length windows′ ≡ length windows → (c : ℕ) → r ≡ step.Bid c
+      → ((b : Bid) → o ≡ some (bid b) → m + length (b .windows) ≤ 11000) →
       Walk kind whole rest (k + 1) (m + c) used′ rows′ windows′
   goes none w r t lu lr lw c e room = bid-not-refused r c 2 (k + 2) e t
   goes (some (tender x)) w r t lu lr lw c e room = bid-not-refused r c 2 (k + 2) e t
-  goes (some (bid b)) w r t lu lr lw c e room = go (faultIn kind k (b .bidder) (b .price) (length (b .windows)) (allLawful (b .windows)) (eqb (cell used (b .bidder)) 1)) refl t
+  goes (some (bid b)) w r t lu lr lw c e room = go
+      (faultIn kind k (b .bidder) (b .price) (length (b .windows)) (allLawful (b .windows)) (eqb (cell used (b .bidder)) 1)) refl t
     where
-      go : (f : Option ℕ) → faultIn kind k (b .bidder) (b .price) (length (b .windows)) (allLawful (b .windows)) (eqb (cell used (b .bidder)) 1) ≡ f →
+      go : (f : Option ℕ) → faultIn kind k (b .bidder) (b .price) (length (b .windows)) (allLawful (b .windows))
+          (eqb (cell used (b .bidder)) 1) ≡ f →
           Judged f b k m used rows windows r used′ rows′ windows′ → Walk kind whole rest (k + 1) (m + c) used′ rows′ windows′
       go none g j = let q : c ≡ length (b .windows) = cc (e, j .answer) in rw q (more b w r (room b refl) g j lu lr lw)
       go (some n) g j = bid-not-refused r c n (k + 2) e j
@@ -186,26 +198,33 @@ module _ (kind : Kind) (whole rest : List (Option Line)) (k m : ℕ) (used rows 
       rw (← q, a, b)
 
   -- the next line is faulty
-  pub stops : (o : Option Line) → Walk kind whole (o ∷ rest) k m used rows windows → (r : Step) → Taken o kind k m used rows windows r used′ rows′ windows′ → (x : Refusal) → r ≡ step.Refused x →
+  pub stops : (o : Option Line) → Walk kind whole (o ∷ rest) k m used rows windows → (r : Step)
+      → Taken o kind k m used rows windows r used′ rows′ windows′ → (x : Refusal) → r ≡ step.Refused x →
       (out : Outcome) → checked kind 2 [] whole out ≡ refused (numberOf x) (placeOf x)
   unfolding checked judged
   stops none w r t x e out = w .checks out ∙ refusal-is r x 2 (k + 2) e t
   stops (some (tender y)) w r t x e out = w .checks out ∙ refusal-is r x 2 (k + 2) e t
-  stops (some (bid b)) w r t x e out = w .checks out ∙ go (faultIn kind k (b .bidder) (b .price) (length (b .windows)) (allLawful (b .windows)) (eqb (cell used (b .bidder)) 1)) refl t
+  stops (some (bid b)) w r t x e out = w .checks out
+      ∙ go (faultIn kind k (b .bidder) (b .price) (length (b .windows)) (allLawful (b .windows)) (eqb (cell used (b .bidder)) 1)) refl t
     where
-      go : (f : Option ℕ) → faultIn kind k (b .bidder) (b .price) (length (b .windows)) (allLawful (b .windows)) (eqb (cell used (b .bidder)) 1) ≡ f →
-          Judged f b k m used rows windows r used′ rows′ windows′ → checked kind (k + 2) (numbers (w .done)) (some (bid b) ∷ rest) out ≡ refused (numberOf x) (placeOf x)
-      go none g j = let q : step.Bid (length (b .windows)) ≡ step.Refused x = sym (j .answer) ∙ e in let z : _≡_ {A = ℕ} 0 1 = cc in absurd (omega arith)
+      go : (f : Option ℕ) → faultIn kind k (b .bidder) (b .price) (length (b .windows)) (allLawful (b .windows))
+          (eqb (cell used (b .bidder)) 1) ≡ f →
+          Judged f b k m used rows windows r used′ rows′ windows′ → checked kind (k + 2) (numbers (w .done)) (some (bid b) ∷ rest) out
+          ≡ refused (numberOf x) (placeOf x)
+      go none g j = let q : step.Bid (length (b .windows)) ≡ step.Refused x = sym (j .answer) ∙ e in let z : _≡_ {A = ℕ} 0 1 = cc in
+          absurd (omega arith)
       go (some n) g j = rw (fault-is b w ∙ g) (refusal-is r x n (k + 2) e j)
 
 -- the next line is not of the form
-pub breaks : (kind : Kind) (whole rest : List (Option Line)) (k m : ℕ) (used rows windows : List ℕ) → Walk kind whole (none ∷ rest) k m used rows windows →
+pub breaks : (kind : Kind) (whole rest : List (Option Line)) (k m : ℕ) (used rows windows : List ℕ)
+    → Walk kind whole (none ∷ rest) k m used rows windows →
     (out : Outcome) → checked kind 2 [] whole out ≡ refused 2 (k + 2)
 unfolding checked
 breaks kind whole rest k m used rows windows w out = w .checks out
 
 -- no line is left
-pub ends : (kind : Kind) (whole : List (Option Line)) (k m : ℕ) (used rows windows : List ℕ) → Walk kind whole [] k m used rows windows → m ≤ 11000 → Held kind whole k m rows windows
+pub ends : (kind : Kind) (whole : List (Option Line)) (k m : ℕ) (used rows windows : List ℕ) → Walk kind whole [] k m used rows windows
+    → m ≤ 11000 → Held kind whole k m rows windows
 unfolding checked bidsOf
 ends kind whole k m used rows windows w l =
     let e : bidsOf whole ≡ w .done = w .bids ∙ append-nil (w .done) in
@@ -221,7 +240,8 @@ ends kind whole k m used rows windows w l =
 
 -- where the next line ends
 
-pub ends-at : (text : List ℕ) (i : ℕ) (r : LineEnd) → EndsAt text i r → (e : ℕ) → r ≡ At e → (i + toNext 10 (drop i text) ≡ e) × (e < length text)
+pub ends-at : (text : List ℕ) (i : ℕ) (r : LineEnd) → EndsAt text i r → (e : ℕ) → r ≡ At e → (i + toNext 10 (drop i text) ≡ e)
+    × (e < length text)
 ends-at text i (At f) h e q = let x : f ≡ e = cc in rw (← x) h
 ends-at text i Broken h e q = let z : _≡_ {A = ℕ} 0 1 = cc in absurd (omega arith)
 
@@ -230,7 +250,8 @@ ends-broken text i (At f) h q = let z : _≡_ {A = ℕ} 0 1 = cc in absurd (omeg
 ends-broken text i Broken h q = h
 
 -- the windows of the text up to the end of the next line
-pub room-for : (text : List ℕ) (i e m : ℕ) → 6 * m ≤ i → i ≤ e → e < length text → (b : Bid) → lineOf (take (e - i) (drop i text)) ≡ some (bid b) → 6 * (m + length (b .windows)) ≤ e + 1
+pub room-for : (text : List ℕ) (i e m : ℕ) → 6 * m ≤ i → i ≤ e → e < length text → (b : Bid)
+    → lineOf (take (e - i) (drop i text)) ≡ some (bid b) → 6 * (m + length (b .windows)) ≤ e + 1
 room-for text i e m h l k b q =
     let n : length (take (e - i) (drop i text)) ≡ e - i = length-take-le (e - i) (drop i text) (rw length-drop (omega arith)) in
     omega (arith, line-windows (take (e - i) (drop i text)) b q)

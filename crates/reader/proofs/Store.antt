@@ -18,7 +18,8 @@ use Rattle.reader.specs.Steps.{cellsOf}
 pub front : (l vs rest : List ℕ) (n t : ℕ) → n ≤ length l → n + length vs ≡ t → take t (take n l ++ vs ++ rest) ≡ take n l ++ vs
 front l vs rest n t h e = take-at (take n l ++ vs) rest t (length-append (take n l) vs ∙ omega (arith, length-take-le n l h))
 
-put-is : (cells : List ℕ) (m : ℕ) (w : Window) → 2 * m + 2 ≤ length cells → putWindow cells m w ≡ take (2 * m) cells ++ (w .start ∷ w .end ∷ []) ++ drop (2 * m + 2) cells
+put-is : (cells : List ℕ) (m : ℕ) (w : Window) → 2 * m + 2 ≤ length cells → putWindow cells m w ≡ take (2 * m) cells
+    ++ (w .start ∷ w .end ∷ []) ++ drop (2 * m + 2) cells
 unfolding putWindow
 put-is cells m w h =
     let l : m < length cells / 2 = omega arith in
@@ -30,7 +31,8 @@ unfolding putWindow
 put-length cells m w h = let l : m < length cells / 2 = omega arith in rw (lt-ltb m (length cells / 2) l) (simp length-set)
 
 -- the windows stand in the rows from m on
-pub windows-put : (cells : List ℕ) (m : ℕ) (ws : List Window) → 2 * (m + length ws) ≤ length cells → take (2 * (m + length ws)) (putWindows cells m ws) ≡ take (2 * m) cells ++ flatWindows ws
+pub windows-put : (cells : List ℕ) (m : ℕ) (ws : List Window) → 2 * (m + length ws) ≤ length cells
+    → take (2 * (m + length ws)) (putWindows cells m ws) ≡ take (2 * m) cells ++ flatWindows ws
 unfolding putWindows flatWindows
 windows-put cells m [] h = rw add-zero (sym (append-nil (take (2 * m) cells)))
 windows-put cells m (w ∷ ws) h =
@@ -38,7 +40,8 @@ windows-put cells m (w ∷ ws) h =
     let l : 2 * m + 2 ≤ length cells = omega arith in
     let b = windows-put (putWindow cells m w) (m + 1) ws (rw (put-length cells m w l) (omega arith)) in
     let c : take (2 * (m + 1)) (putWindow cells m w) ≡ take (2 * m) cells ++ (w .start ∷ w .end ∷ []) =
-    ap (take (2 * (m + 1))) (put-is cells m w l) ∙ front cells (w .start ∷ w .end ∷ []) (drop (2 * m + 2) cells) (2 * m) (2 * (m + 1)) (omega arith) (omega arith) in
+    ap (take (2 * (m + 1))) (put-is cells m w l) ∙ front cells (w .start ∷ w .end ∷ []) (drop (2 * m + 2) cells) (2 * m) (2 * (m + 1))
+    (omega arith) (omega arith) in
     rw a (b ∙ rw c (append-assoc (take (2 * m) cells) (w .start ∷ w .end ∷ []) (flatWindows ws)))
 
 -- one bid more
@@ -54,9 +57,11 @@ flat-more [] ys = refl
 flat-more (x ∷ xs) ys = ap (λ l. x .start ∷ x .end ∷ l) (flat-more xs ys)
 
 pub rows-more : (at : ℕ) (bs : List Bid) (b : Bid) →
-    flatRows (rowsFrom at (bs ++ b ∷ [])) ≡ flatRows (rowsFrom at bs) ++ cellsOf (record { bidder = b .bidder; price = b .price; first = at + length (allWindows bs); count = length (b .windows) })
+    flatRows (rowsFrom at (bs ++ b ∷ [])) ≡ flatRows (rowsFrom at bs)
+    ++ cellsOf (record { bidder = b .bidder; price = b .price; first = at + length (allWindows bs); count = length (b .windows) })
 unfolding flatRows rowsFrom allWindows
 rows-more at [] b = rw add-zero
 rows-more at (c ∷ bs) b =
-    let e : at + length (c .windows ++ allWindows bs) ≡ at + length (c .windows) + length (allWindows bs) = omega (arith, length-append (c .windows) (allWindows bs)) in
+    let e : at + length (c .windows ++ allWindows bs) ≡ at + length (c .windows) + length (allWindows bs) =
+    omega (arith, length-append (c .windows) (allWindows bs)) in
     rw e (ap (λ l. c .bidder ∷ c .price ∷ at ∷ length (c .windows) ∷ l) (rows-more (at + length (c .windows)) bs b))

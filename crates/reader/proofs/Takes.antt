@@ -40,7 +40,8 @@ record Noted (n p c : ℕ) (ok : Bool) (m : ℕ) (old new : List ℕ) (b : Bid) 
   sound-is : ok ≡ allLawful (b .windows)
   windows-are : new ≡ putWindows old m (b .windows)
 
-noted-bid : (n p c : ℕ) (ok : Bool) (m : ℕ) (old new : List ℕ) (b : Bid) → some (bidNote n p (record { count = c; sound = ok; cells = new })) ≡ noted m old (some (bid b)) → Noted n p c ok m old new b
+noted-bid : (n p c : ℕ) (ok : Bool) (m : ℕ) (old new : List ℕ) (b : Bid)
+    → some (bidNote n p (record { count = c; sound = ok; cells = new })) ≡ noted m old (some (bid b)) → Noted n p c ok m old new b
 unfolding noted tally
 noted-bid n p c ok m old new b e =
     let t : _≡_ {A = Tally} (record { count = c; sound = ok; cells = new }) (tally m 0 true old (b .windows)) = cc in
@@ -53,38 +54,45 @@ noted-bid n p c ok m old new b e =
     }
 
 module _ (kind : Kind) (k m : ℕ) (used rows windows : List ℕ) (r : Step) (used′ rows′ windows′ : List ℕ) where
-  pub taken-broken : (o : Option Line) → none ≡ noted m windows o → Declines r 2 (k + 2) → Taken o kind k m used rows windows r used′ rows′ windows′
+  pub taken-broken : (o : Option Line) → none ≡ noted m windows o → Declines r 2 (k + 2)
+      → Taken o kind k m used rows windows r used′ rows′ windows′
   unfolding noted
   taken-broken none e h = h
   taken-broken (some (tender t)) e h = let z : _≡_ {A = ℕ} 0 1 = cc in absurd (omega arith)
   taken-broken (some (bid b)) e h = let z : _≡_ {A = ℕ} 0 1 = cc in absurd (omega arith)
 
-  pub taken-tender : (o : Option Line) (t : Tender) → some (tenderNote t) ≡ noted m windows o → Declines r 2 (k + 2) → Taken o kind k m used rows windows r used′ rows′ windows′
+  pub taken-tender : (o : Option Line) (t : Tender) → some (tenderNote t) ≡ noted m windows o → Declines r 2 (k + 2)
+      → Taken o kind k m used rows windows r used′ rows′ windows′
   unfolding noted
   taken-tender none t e h = let z : _≡_ {A = ℕ} 0 1 = cc in absurd (omega arith)
   taken-tender (some (tender u)) t e h = h
   taken-tender (some (bid b)) t e h = let z : _≡_ {A = ℕ} 0 1 = cc in absurd (omega arith)
 
   module _ (n p c : ℕ) (ok : Bool) where
-    pub taken-fault : (o : Option Line) → some (bidNote n p (record { count = c; sound = ok; cells = windows′ })) ≡ noted m windows o → (f : ℕ) → faultIn kind k n p c ok (eqb (cell used n) 1) ≡ some f →
+    pub taken-fault : (o : Option Line) → some (bidNote n p (record { count = c; sound = ok; cells = windows′ })) ≡ noted m windows o
+        → (f : ℕ) → faultIn kind k n p c ok (eqb (cell used n) 1) ≡ some f →
         Declines r f (k + 2) → Taken o kind k m used rows windows r used′ rows′ windows′
     unfolding noted
     taken-fault none e f g h = let z : _≡_ {A = ℕ} 0 1 = cc in absurd (omega arith)
     taken-fault (some (tender u)) e f g h = let z : _≡_ {A = ℕ} 0 1 = cc in absurd (omega arith)
     taken-fault (some (bid b)) e f g h =
         let x = noted-bid n p c ok m windows windows′ b e in
-        let y : faultIn kind k (b .bidder) (b .price) (length (b .windows)) (allLawful (b .windows)) (eqb (cell used (b .bidder)) 1) ≡ some f = rw (x .bidder-is, x .price-is, x .count-is, x .sound-is) at g in
+        let y : faultIn kind k (b .bidder) (b .price) (length (b .windows)) (allLawful (b .windows)) (eqb (cell used (b .bidder)) 1)
+        ≡ some f = rw (x .bidder-is, x .price-is, x .count-is, x .sound-is) at g in
         rw y h
 
-    pub taken-sound : (o : Option Line) → some (bidNote n p (record { count = c; sound = ok; cells = windows′ })) ≡ noted m windows o → faultIn kind k n p c ok (eqb (cell used n) 1) ≡ none →
-        r ≡ step.Bid c → rows′ ≡ take (4 * k) rows ++ cellsOf (record { bidder = n; price = p; first = m; count = c }) ++ drop (4 * k + 4) rows → Filled n (n + 1) used used′ →
+    pub taken-sound : (o : Option Line) → some (bidNote n p (record { count = c; sound = ok; cells = windows′ })) ≡ noted m windows o
+        → faultIn kind k n p c ok (eqb (cell used n) 1) ≡ none →
+        r ≡ step.Bid c → rows′ ≡ take (4 * k) rows ++ cellsOf (record { bidder = n; price = p; first = m; count = c })
+        ++ drop (4 * k + 4) rows → Filled n (n + 1) used used′ →
         Taken o kind k m used rows windows r used′ rows′ windows′
     unfolding noted
     taken-sound none e g q s t = let z : _≡_ {A = ℕ} 0 1 = cc in absurd (omega arith)
     taken-sound (some (tender u)) e g q s t = let z : _≡_ {A = ℕ} 0 1 = cc in absurd (omega arith)
     taken-sound (some (bid b)) e g q s t =
         let x = noted-bid n p c ok m windows windows′ b e in
-        let y : faultIn kind k (b .bidder) (b .price) (length (b .windows)) (allLawful (b .windows)) (eqb (cell used (b .bidder)) 1) ≡ none = rw (x .bidder-is, x .price-is, x .count-is, x .sound-is) at g in
+        let y : faultIn kind k (b .bidder) (b .price) (length (b .windows)) (allLawful (b .windows)) (eqb (cell used (b .bidder)) 1)
+        ≡ none = rw (x .bidder-is, x .price-is, x .count-is, x .sound-is) at g in
         rw y (record {
           answer = q ∙ ap step.Bid (x .count-is);
           row = rw (x .bidder-is, x .price-is, x .count-is) at s;

@@ -18,7 +18,8 @@ use Rattle.reader_line.specs.Words.{cut}
 use Rattle.reader_line.specs.Line.{Line, tender, bid, linesOf}
 use Rattle.reader_line.specs.Scan.{Tally, tenderNote, bidNote, noted}
 use Rattle.reader_line.specs.Answer.{FirstBroken}
-use Rattle.reader.specs.Read.{Outcome, accepted, refused, rowsFrom, allWindows, bidsOf, checked, tables, readLines, readText, fitted, readInto}
+use Rattle.reader.specs.Read.{Outcome, accepted, refused, rowsFrom, allWindows, bidsOf, checked, tables, readLines, readText}
+use Rattle.reader.specs.Read.{fitted, readInto}
 use Rattle.reader.specs.RulesLaw.{rows-length}
 use Rattle.reader.specs.Answer.{filled, declined, summary, bidsAfter, windowsAfter}
 use Rattle.reader.specs.Steps.{Begins, Opened, Held, Filled}
@@ -73,7 +74,8 @@ pub opened-tender : (text : List ℕ) (r : First) → Opened text r → (t : Ten
 opened-tender text (first.Tender u i) h t at e = let x : u ≡ t = cc in let y : i ≡ at = cc in rw (← x, ← y) h
 opened-tender text (first.Refused r) h t at e = let z : _≡_ {A = ℕ} 0 1 = cc in absurd (omega arith)
 
-pub opened-refused : (text : List ℕ) (r : First) → Opened text r → (x : Refusal) → r ≡ first.Refused x → readLines (linesOf (cut 10 text)) ≡ refused (numberOf x) (placeOf x)
+pub opened-refused : (text : List ℕ) (r : First) → Opened text r → (x : Refusal) → r ≡ first.Refused x
+    → readLines (linesOf (cut 10 text)) ≡ refused (numberOf x) (placeOf x)
 opened-refused text (first.Tender u i) h x e = let z : _≡_ {A = ℕ} 0 1 = cc in absurd (omega arith)
 opened-refused text (first.Refused r) h x e = let y : r ≡ x = cc in rw (← y) h
 
@@ -82,7 +84,8 @@ module _ (kind : Kind) (ls : List (Option Line)) (rows spans : List ℕ) where
   filled-held (bids.Filled j n) h k m e = let x : j ≡ k = cc in let y : n ≡ m = cc in rw (← x, ← y) h
   filled-held (bids.Refused r) h k m e = let z : _≡_ {A = ℕ} 0 1 = cc in absurd (omega arith)
 
-  pub filled-refused : (r : Bids) → Filled kind ls r rows spans → (x : Refusal) → r ≡ bids.Refused x → (out : Outcome) → checked kind 2 [] ls out ≡ refused (numberOf x) (placeOf x)
+  pub filled-refused : (r : Bids) → Filled kind ls r rows spans → (x : Refusal) → r ≡ bids.Refused x → (out : Outcome)
+      → checked kind 2 [] ls out ≡ refused (numberOf x) (placeOf x)
   filled-refused (bids.Filled j n) h x e out = let z : _≡_ {A = ℕ} 0 1 = cc in absurd (omega arith)
   filled-refused (bids.Refused r) h x e out = let y : r ≡ x = cc in rw (← y) (h out)
 
@@ -113,11 +116,13 @@ module _ (text bids windows : List ℕ) where
     lines-refused n at e = rw (short, e)
 
     module _ (t : Tender) (at : ℕ) (g : Begins text t at) where
-      begun : readLines (linesOf (cut 10 text)) ≡ checked (t .kind) 2 [] (linesOf (cut 10 (drop at text))) (tables t (bidsOf (linesOf (cut 10 (drop at text)))))
+      begun : readLines (linesOf (cut 10 text)) ≡ checked (t .kind) 2 [] (linesOf (cut 10 (drop at text)))
+          (tables t (bidsOf (linesOf (cut 10 (drop at text)))))
       unfolding readLines
       begun = rw (g .lines) (rw (g .window))
 
-      pub bids-refused : (n p : ℕ) → ((out : Outcome) → checked (t .kind) 2 [] (linesOf (cut 10 (drop at text))) out ≡ refused n p) → Refuses n p
+      pub bids-refused : (n p : ℕ) → ((out : Outcome) → checked (t .kind) 2 [] (linesOf (cut 10 (drop at text))) out ≡ refused n p)
+          → Refuses n p
       bids-refused n p h = lines-refused n p (begun ∙ h _)
 
       module _ (k m : ℕ) (rows spans : List ℕ) (h : Held (t .kind) (linesOf (cut 10 (drop at text))) k m rows spans) where

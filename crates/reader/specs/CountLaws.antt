@@ -30,7 +30,8 @@ cut-count d (b ∷ s) = go (eqb b d) (cut-some d s) (cut-count d s)
     grown : (ps : List (List ℕ)) → Pieces ps → length (grow b ps) ≡ length ps
     grown ps c = rw (c .are)
 
-    go : (t : Bool) → Pieces (cut d s) → length (cut d s) ≡ times d s + 1 → length (cond t ([] ∷ cut d s) (grow b (cut d s))) ≡ cond t 1 0 + times d s + 1
+    go : (t : Bool) → Pieces (cut d s) → length (cut d s) ≡ times d s + 1 → length (cond t ([] ∷ cut d s) (grow b (cut d s))) ≡ cond t 1 0
+        + times d s + 1
     go true c e = omega arith
     go false c e = omega (arith, grown (cut d s) c)
 
@@ -49,16 +50,20 @@ lines-count [] [] a = refl
 lines-count (b ∷ p) [] a = absurd a
 lines-count p (q ∷ ps) a = go (lineOf p) a (lines-count q ps)
   where
-    go : (x : Option Line) → AllRead (x ∷ linesOf (q ∷ ps)) → (AllRead (linesOf (q ∷ ps)) → length (linesOf (q ∷ ps)) + 1 ≡ length (q ∷ ps)) → length (x ∷ linesOf (q ∷ ps)) + 1 ≡ length (p ∷ q ∷ ps)
+    go : (x : Option Line) → AllRead (x ∷ linesOf (q ∷ ps))
+        → (AllRead (linesOf (q ∷ ps)) → length (linesOf (q ∷ ps)) + 1 ≡ length (q ∷ ps))
+        → length (x ∷ linesOf (q ∷ ps)) + 1 ≡ length (p ∷ q ∷ ps)
     go none h ih = absurd h
     go (some l) h ih = omega (arith, ih h)
 
 -- an accepted text has a row for each line after the first; each line ends with byte 10
-pub lines-law : (T : Tender) (R : List Row) (W : List Window) (text : List ℕ) → readText text ≡ accepted T R W → length R + 1 ≡ times 10 text
+pub lines-law : (T : Tender) (R : List Row) (W : List Window) (text : List ℕ) → readText text ≡ accepted T R W
+    → length R + 1 ≡ times 10 text
 unfolding readLines
 lines-law T R W text e = go (linesOf (cut 10 text)) refl (cut-some 10 text) (read-lines T R W text e)
   where
-    go : (ls : List (Option Line)) → linesOf (cut 10 text) ≡ ls → Pieces (cut 10 text) → readLines ls ≡ accepted T R W → length R + 1 ≡ times 10 text
+    go : (ls : List (Option Line)) → linesOf (cut 10 text) ≡ ls → Pieces (cut 10 text) → readLines ls ≡ accepted T R W
+        → length R + 1 ≡ times 10 text
     go [] q c x = never x
     go (l ∷ ls) q c x =
         let g = begun T R W l ls x in
@@ -66,16 +71,26 @@ lines-law T R W text e = go (linesOf (cut 10 text)) refl (cut-some 10 text) (rea
         let m : linesOf (c .first ∷ c .rest) ≡ l ∷ ls = rw (← (c .are)) q in
         let r : AllRead (linesOf (c .first ∷ c .rest)) = rw (m, g .first, h) (bids-read (bidsOf ls)) in
         let o : length ls ≡ length (bidsOf ls) = ap length h ∙ simp length-map in
-        omega (arith, lines-count (c .first) (c .rest) r, ap length m, ap length (c .are), cut-count 10 text, ap length (g .rows), rows-length 0 (bidsOf ls))
+        omega (
+          arith,
+          lines-count (c .first) (c .rest) r,
+          ap length m,
+          ap length (c .are),
+          cut-count 10 text,
+          ap length (g .rows),
+          rows-length 0 (bidsOf ls),
+        )
 
 -- counts
 
 windows-few : (k : Kind) (used : List ℕ) (at : ℕ) (R : List Row) (end : ℕ) → RowsRules k used at R end → end ≤ at + 32 * length R
 windows-few k used at [] end h = omega (arith, h)
-windows-few k used at (r ∷ rs) end (h, hs) = let a = h .few-windows in let b = windows-few k (used ++ r .bidder ∷ []) (at + r .count) rs end hs in omega (arith, a, b)
+windows-few k used at (r ∷ rs) end (h, hs) = let a = h .few-windows in
+    let b = windows-few k (used ++ r .bidder ∷ []) (at + r .count) rs end hs in omega (arith, a, b)
 
 -- at most 1,000 rows and 32,000 windows
-pub counts-law : (T : Tender) (R : List Row) (W : List Window) (text : List ℕ) → readText text ≡ accepted T R W → (length R ≤ 1000) × (length W ≤ 32000)
+pub counts-law : (T : Tender) (R : List Row) (W : List Window) (text : List ℕ) → readText text ≡ accepted T R W → (length R ≤ 1000)
+    × (length W ≤ 32000)
 counts-law T R W text e =
     let r = rules-law T R W text e in
     let a = r .few-bids in
@@ -83,7 +98,8 @@ counts-law T R W text e =
     (a, omega (arith, a, b))
 
 -- tables of that size never answer 8
-pub room-law : (text : List ℕ) (bidRows windowRows : ℕ) → 1000 ≤ bidRows → 32000 ≤ windowRows → readInto text bidRows windowRows ≡ readText text
+pub room-law : (text : List ℕ) (bidRows windowRows : ℕ) → 1000 ≤ bidRows → 32000 ≤ windowRows
+    → readInto text bidRows windowRows ≡ readText text
 unfolding readInto fitted
 room-law text b w hb hw = go (readText text) refl
   where

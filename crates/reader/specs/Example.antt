@@ -22,11 +22,17 @@ read : String → Outcome
 unfolding bytes readText
 read s = readText (bytes s)
 
-the-list : read "(tender single 0 100)\n(bid 11 30 (0 50))\n(bid 12 40 (40 100))\n(bid 13 90 (0 100))\n(bid 14 35 (0 60))\n(bid 15 50 (60 100))\n" ≡ accepted (record { kind = Single; window = win 0 100 }) (row 11 30 0 1 ∷ row 12 40 1 1 ∷ row 13 90 2 1 ∷ row 14 35 3 1 ∷ row 15 50 4 1 ∷ []) (win 0 50 ∷ win 40 100 ∷ win 0 100 ∷ win 0 60 ∷ win 60 100 ∷ [])
+the-list : read
+    "(tender single 0 100)\n(bid 11 30 (0 50))\n(bid 12 40 (40 100))\n(bid 13 90 (0 100))\n(bid 14 35 (0 60))\n(bid 15 50 (60 100))\n"
+    ≡ accepted (record { kind = Single; window = win 0 100 })
+    (row 11 30 0 1 ∷ row 12 40 1 1 ∷ row 13 90 2 1 ∷ row 14 35 3 1 ∷ row 15 50 4 1 ∷ [])
+    (win 0 50 ∷ win 40 100 ∷ win 0 100 ∷ win 0 60 ∷ win 60 100 ∷ [])
 unfolding read row win
 the-list = refl
 
-several-windows : read "(tender multi 0 10)\n(bid 21 12 (0 4) (6 8))\n(bid 22 15 (4 10))\n(bid 23 30 (0 10))\n(bid 24 9 (8 10) (4 5))\n" ≡ accepted (record { kind = Multi; window = win 0 10 }) (row 21 12 0 2 ∷ row 22 15 2 1 ∷ row 23 30 3 1 ∷ row 24 9 4 2 ∷ []) (win 0 4 ∷ win 6 8 ∷ win 4 10 ∷ win 0 10 ∷ win 8 10 ∷ win 4 5 ∷ [])
+several-windows : read "(tender multi 0 10)\n(bid 21 12 (0 4) (6 8))\n(bid 22 15 (4 10))\n(bid 23 30 (0 10))\n(bid 24 9 (8 10) (4 5))\n"
+    ≡ accepted (record { kind = Multi; window = win 0 10 }) (row 21 12 0 2 ∷ row 22 15 2 1 ∷ row 23 30 3 1 ∷ row 24 9 4 2 ∷ [])
+    (win 0 4 ∷ win 6 8 ∷ win 4 10 ∷ win 0 10 ∷ win 8 10 ∷ win 4 5 ∷ [])
 unfolding read row win
 several-windows = refl
 
@@ -34,7 +40,9 @@ no-bids : read "(tender single 0 100)\n" ≡ accepted (record { kind = Single; w
 unfolding read row win
 no-bids = refl
 
-at-the-limits : read "(tender single 0 10080)\n(bid 999999 100000000 (10079 10080))\n(bid 1 0 (0 1))\n" ≡ accepted (record { kind = Single; window = win 0 10080 }) (row 999999 100000000 0 1 ∷ row 1 0 1 1 ∷ []) (win 10079 10080 ∷ win 0 1 ∷ [])
+at-the-limits : read "(tender single 0 10080)\n(bid 999999 100000000 (10079 10080))\n(bid 1 0 (0 1))\n"
+    ≡ accepted (record { kind = Single; window = win 0 10080 }) (row 999999 100000000 0 1 ∷ row 1 0 1 1 ∷ [])
+    (win 10079 10080 ∷ win 0 1 ∷ [])
 unfolding read row win
 at-the-limits = refl
 
@@ -114,15 +122,18 @@ tender-late : read "(tender single 0 10081)\n" ≡ refused 5 1
 unfolding read
 tender-late = refl
 
-window-33 : read "(tender multi 0 10)\n(bid 0 30 (0 1) (0 1) (0 1) (0 1) (0 1) (0 1) (0 1) (0 1) (0 1) (0 1) (0 1) (0 1) (0 1) (0 1) (0 1) (0 1) (0 1) (0 1) (0 1) (0 1) (0 1) (0 1) (0 1) (0 1) (0 1) (0 1) (0 1) (0 1) (0 1) (0 1) (0 1) (0 1) (0 1))\n" ≡ refused 4 2
+window-33 : read
+    "(tender multi 0 10)\n(bid 0 30 (0 1) (0 1) (0 1) (0 1) (0 1) (0 1) (0 1) (0 1) (0 1) (0 1) (0 1) (0 1) (0 1) (0 1) (0 1) (0 1) (0 1) (0 1) (0 1) (0 1) (0 1) (0 1) (0 1) (0 1) (0 1) (0 1) (0 1) (0 1) (0 1) (0 1) (0 1) (0 1) (0 1))\n" ≡ refused 4 2
 unfolding read
 window-33 = refl
 
-window-33-single : read "(tender single 0 100)\n(bid 11 30 (0 1) (0 1) (0 1) (0 1) (0 1) (0 1) (0 1) (0 1) (0 1) (0 1) (0 1) (0 1) (0 1) (0 1) (0 1) (0 1) (0 1) (0 1) (0 1) (0 1) (0 1) (0 1) (0 1) (0 1) (0 1) (0 1) (0 1) (0 1) (0 1) (0 1) (0 1) (0 1) (0 1))\n" ≡ refused 4 2
+window-33-single : read
+    "(tender single 0 100)\n(bid 11 30 (0 1) (0 1) (0 1) (0 1) (0 1) (0 1) (0 1) (0 1) (0 1) (0 1) (0 1) (0 1) (0 1) (0 1) (0 1) (0 1) (0 1) (0 1) (0 1) (0 1) (0 1) (0 1) (0 1) (0 1) (0 1) (0 1) (0 1) (0 1) (0 1) (0 1) (0 1) (0 1) (0 1))\n" ≡ refused 4 2
 unfolding read
 window-33-single = refl
 
-window-32-single : read "(tender single 0 100)\n(bid 11 30 (0 1) (0 1) (0 1) (0 1) (0 1) (0 1) (0 1) (0 1) (0 1) (0 1) (0 1) (0 1) (0 1) (0 1) (0 1) (0 1) (0 1) (0 1) (0 1) (0 1) (0 1) (0 1) (0 1) (0 1) (0 1) (0 1) (0 1) (0 1) (0 1) (0 1) (0 1) (0 1))\n" ≡ refused 7 2
+window-32-single : read
+    "(tender single 0 100)\n(bid 11 30 (0 1) (0 1) (0 1) (0 1) (0 1) (0 1) (0 1) (0 1) (0 1) (0 1) (0 1) (0 1) (0 1) (0 1) (0 1) (0 1) (0 1) (0 1) (0 1) (0 1) (0 1) (0 1) (0 1) (0 1) (0 1) (0 1) (0 1) (0 1) (0 1) (0 1) (0 1) (0 1))\n" ≡ refused 7 2
 unfolding read
 window-32-single = refl
 
@@ -166,7 +177,8 @@ first-fault : read "(tender single 0 100)\n(bid 11 30 (0 0))\n(bid 11 30 (0 50)\
 unfolding read
 first-fault = refl
 
-window-32 : read "(tender multi 0 10)\n(bid 11 30 (0 1) (0 1) (0 1) (0 1) (0 1) (0 1) (0 1) (0 1) (0 1) (0 1) (0 1) (0 1) (0 1) (0 1) (0 1) (0 1) (0 1) (0 1) (0 1) (0 1) (0 1) (0 1) (0 1) (0 1) (0 1) (0 1) (0 1) (0 1) (0 1) (0 1) (0 1) (0 1))\n" ≡ accepted (record { kind = Multi; window = win 0 10 }) (row 11 30 0 32 ∷ []) (win 0 1 ∷ win 0 1 ∷ win 0 1 ∷ win 0 1 ∷ win 0 1 ∷ win 0 1 ∷ win 0 1 ∷ win 0 1 ∷ win 0 1 ∷ win 0 1 ∷ win 0 1 ∷ win 0 1 ∷ win 0 1 ∷ win 0 1 ∷ win 0 1 ∷ win 0 1 ∷ win 0 1 ∷ win 0 1 ∷ win 0 1 ∷ win 0 1 ∷ win 0 1 ∷ win 0 1 ∷ win 0 1 ∷ win 0 1 ∷ win 0 1 ∷ win 0 1 ∷ win 0 1 ∷ win 0 1 ∷ win 0 1 ∷ win 0 1 ∷ win 0 1 ∷ win 0 1 ∷ [])
+window-32 : read
+    "(tender multi 0 10)\n(bid 11 30 (0 1) (0 1) (0 1) (0 1) (0 1) (0 1) (0 1) (0 1) (0 1) (0 1) (0 1) (0 1) (0 1) (0 1) (0 1) (0 1) (0 1) (0 1) (0 1) (0 1) (0 1) (0 1) (0 1) (0 1) (0 1) (0 1) (0 1) (0 1) (0 1) (0 1) (0 1) (0 1))\n" ≡ accepted (record { kind = Multi; window = win 0 10 }) (row 11 30 0 32 ∷ []) (win 0 1 ∷ win 0 1 ∷ win 0 1 ∷ win 0 1 ∷ win 0 1 ∷ win 0 1 ∷ win 0 1 ∷ win 0 1 ∷ win 0 1 ∷ win 0 1 ∷ win 0 1 ∷ win 0 1 ∷ win 0 1 ∷ win 0 1 ∷ win 0 1 ∷ win 0 1 ∷ win 0 1 ∷ win 0 1 ∷ win 0 1 ∷ win 0 1 ∷ win 0 1 ∷ win 0 1 ∷ win 0 1 ∷ win 0 1 ∷ win 0 1 ∷ win 0 1 ∷ win 0 1 ∷ win 0 1 ∷ win 0 1 ∷ win 0 1 ∷ win 0 1 ∷ win 0 1 ∷ [])
 unfolding read row win
 window-32 = refl
 

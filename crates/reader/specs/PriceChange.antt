@@ -35,7 +35,8 @@ fault-price k used b v l e =
 
 module _ (T : Tender) (R : List Row) (W : List Window) where
   -- the tables play no part in the checks
-  checked-any : (k : Kind) (at : ℕ) (used : List ℕ) (ls : List (Option Line)) (out o : Outcome) → checked k at used ls out ≡ accepted T R W → checked k at used ls o ≡ o
+  checked-any : (k : Kind) (at : ℕ) (used : List ℕ) (ls : List (Option Line)) (out o : Outcome)
+      → checked k at used ls out ≡ accepted T R W → checked k at used ls o ≡ o
   unfolding checked
   checked-any k at used [] out o e = refl
   checked-any k at used (none ∷ ls) out o e = never e
@@ -44,7 +45,8 @@ module _ (T : Tender) (R : List Row) (W : List Window) where
       let j = judged-out T R W (faultOf k used b) at (checked k (at + 1) (used ++ b .bidder ∷ []) ls out) e in
       rw (j .0) (checked-any k (at + 1) (used ++ b .bidder ∷ []) ls out o (j .1))
 
-  checked-price : (k : Kind) (at : ℕ) (used : List ℕ) (xs : List (Option Line)) (b : Bid) (ys : List (Option Line)) (out o : Outcome) (v : ℕ) → v ≤ 100000000 →
+  checked-price : (k : Kind) (at : ℕ) (used : List ℕ) (xs : List (Option Line)) (b : Bid) (ys : List (Option Line)) (out o : Outcome)
+      (v : ℕ) → v ≤ 100000000 →
       checked k at used (xs ++ some (bid b) ∷ ys) out ≡ accepted T R W → checked k at used (xs ++ some (bid (atPrice v b)) ∷ ys) o ≡ o
   unfolding checked atPrice
   checked-price k at used [] b ys out o v l e =
@@ -56,11 +58,13 @@ module _ (T : Tender) (R : List Row) (W : List Window) where
       let j = judged-out T R W (faultOf k used c) at (checked k (at + 1) (used ++ c .bidder ∷ []) (xs ++ some (bid b) ∷ ys) out) e in
       rw (j .0) (checked-price k (at + 1) (used ++ c .bidder ∷ []) xs b ys out o v l (j .1))
 
-bid-of : (n q : List ℕ) (ws : List (List ℕ)) (b : Bid) (v : ℕ) → numeralOf n ≡ some (b .bidder) → priceOf q ≡ some v → windowsIn ws ≡ some (b .windows) → bidOf (n ∷ q ∷ ws) ≡ some (bid (atPrice v b))
+bid-of : (n q : List ℕ) (ws : List (List ℕ)) (b : Bid) (v : ℕ) → numeralOf n ≡ some (b .bidder) → priceOf q ≡ some v
+    → windowsIn ws ≡ some (b .windows) → bidOf (n ∷ q ∷ ws) ≡ some (bid (atPrice v b))
 unfolding bidOf andThen atPrice
 bid-of n q ws b v hn hq hw = rw (hn, hq, hw)
 
-line-lines : (n q f : List ℕ) (ps : List (List ℕ)) → Word n → Word q → Pieces ps → linesOf (bidLine n q f ∷ ps) ≡ bidOf (n ∷ q ∷ cut 32 f) ∷ linesOf ps
+line-lines : (n q f : List ℕ) (ps : List (List ℕ)) → Word n → Word q → Pieces ps → linesOf (bidLine n q f ∷ ps) ≡ bidOf (n ∷ q ∷ cut 32 f)
+    ∷ linesOf ps
 unfolding linesOf
 line-lines n q f ps wn wq c = rw (c .are) (rw (line-of n q f wn wq))
 
@@ -74,24 +78,30 @@ unfolding readLines
 begins T x ls e l = rw e (rw l)
 
 -- the text with the price written q
-rewritten : (before n p q after f : List ℕ) (ps : List (List ℕ)) (v : ℕ) (T : Tender) (R : List Row) (W : List Window) → Word n → Word q → cut 10 after ≡ f ∷ ps →
+rewritten : (before n p q after f : List ℕ) (ps : List (List ℕ)) (v : ℕ) (T : Tender) (R : List Row) (W : List Window) → Word n → Word q
+    → cut 10 after ≡ f ∷ ps →
     Found before n p f ps T R W → priceOf q ≡ some v → v ≤ 100000000 → length (before ++ 10 ∷ bidLine n q after) ≤ 65536 →
     (bs : List Bid) × (readText (before ++ 10 ∷ bidLine n q after) ≡ tables T bs)
 rewritten before n p q after f ps v T R W wn wq e x hv lv lu =
     let m = parts n p (cut 32 f) (x .line .b) (x .line .is) in
-    let c : bidOf (n ∷ q ∷ cut 32 f) ≡ some (bid (atPrice v (x .line .b))) = bid-of n q (cut 32 f) (x .line .b) v (m .bidder-is) hv (m .windows-are) in
-    go (cut-some 10 before .first) (map lineOf (cut-some 10 before .rest)) (x .line .b) c (x .begin .first) (x .begin .window) (rw (x .line .is) at (x .begin .sound)) (text-lines before n q after f ps wn wq e T R W)
+    let c : bidOf (n ∷ q ∷ cut 32 f) ≡ some (bid (atPrice v (x .line .b))) =
+    bid-of n q (cut 32 f) (x .line .b) v (m .bidder-is) hv (m .windows-are) in
+    go (cut-some 10 before .first) (map lineOf (cut-some 10 before .rest)) (x .line .b) c (x .begin .first) (x .begin .window)
+    (rw (x .line .is) at (x .begin .sound)) (text-lines before n q after f ps wn wq e T R W)
   where
-    go : (a : List ℕ) (xs : List (Option Line)) (b : Bid) → bidOf (n ∷ q ∷ cut 32 f) ≡ some (bid (atPrice v b)) → lineOf a ≡ some (tender T) → lawful (T .window) ≡ true →
+    go : (a : List ℕ) (xs : List (Option Line)) (b : Bid) → bidOf (n ∷ q ∷ cut 32 f) ≡ some (bid (atPrice v b))
+        → lineOf a ≡ some (tender T) → lawful (T .window) ≡ true →
         checked (T .kind) 2 [] (xs ++ some (bid b) ∷ linesOf ps) (tables T (bidsOf (xs ++ some (bid b) ∷ linesOf ps))) ≡ accepted T R W →
         linesOf (cut 10 (before ++ 10 ∷ bidLine n q after)) ≡ lineOf a ∷ (xs ++ linesOf (bidLine n q f ∷ ps)) →
         (bs : List Bid) × (readText (before ++ 10 ∷ bidLine n q after) ≡ tables T bs)
     go a xs b c hf hl hs ht =
         let ls = xs ++ some (bid (atPrice v b)) ∷ linesOf ps in
-        let r : linesOf (bidLine n q f ∷ ps) ≡ some (bid (atPrice v b)) ∷ linesOf ps = line-lines n q f ps wn wq (x .ended) ∙ ap (λ o. o ∷ linesOf ps) c in (
+        let r : linesOf (bidLine n q f ∷ ps) ≡ some (bid (atPrice v b)) ∷ linesOf ps = line-lines n q f ps wn wq (x .ended)
+        ∙ ap (λ o. o ∷ linesOf ps) c in (
           bidsOf ls,
           short (before ++ 10 ∷ bidLine n q after) lu ∙ ap readLines (ht ∙ ap (λ l. lineOf a ∷ (xs ++ l)) r) ∙ begins T (lineOf a) ls hf hl
-              ∙ checked-price T R W (T .kind) 2 [] xs b (linesOf ps) (tables T (bidsOf (xs ++ some (bid b) ∷ linesOf ps))) (tables T (bidsOf ls)) v lv hs,
+              ∙ checked-price T R W (T .kind) 2 [] xs b (linesOf ps) (tables T (bidsOf (xs ++ some (bid b) ∷ linesOf ps)))
+              (tables T (bidsOf ls)) v lv hs,
         )
 
 pub record Changed (T : Tender) (R : List Row) (W : List Window) (u bidder p q : List ℕ) : Type 0 where
@@ -105,7 +115,8 @@ unfolding tables
 price-change t u n p q v T R W d h hv lv lu =
     let s = cut-some 10 (d .after) in
     let x = found (d .before) n p (d .after) (s .first) (s .rest) (d .bidder-word) (d .p-word) (s .are) T R W (rw (d .left) at h) in
-    go (rewritten (d .before) n p q (d .after) (s .first) (s .rest) v T R W (d .bidder-word) (d .q-word) (s .are) x hv lv (rw (d .right) at lu))
+    go (rewritten (d .before) n p q (d .after) (s .first) (s .rest) v T R W (d .bidder-word) (d .q-word) (s .are) x hv lv
+    (rw (d .right) at lu))
   where
     go : (bs : List Bid) × (readText (d .before ++ 10 ∷ bidLine n q (d .after)) ≡ tables T bs) → Changed T R W u n p q
     go (bs, e) =

@@ -21,19 +21,22 @@ use Rattle.reader.specs.ReadLaws.{read-lines, checked-bids, Begun, begun
 line-words : (bidder p after : List ℕ) → Word bidder → Word p → cut 32 (bidLine bidder p after) ≡ (40 ∷ bidWord) ∷ bidder ∷ p ∷ cut 32 after
 unfolding bidLine among
 line-words n p s wn wp =
-    cut-end 32 (40 ∷ bidWord) (n ++ 32 ∷ (p ++ 32 ∷ s)) refl ∙ ap (λ l. (40 ∷ bidWord) ∷ l) (cut-end 32 n (p ++ 32 ∷ s) (wn .no-space) ∙ ap (λ l. n ∷ l) (cut-end 32 p s (wp .no-space)))
+    cut-end 32 (40 ∷ bidWord) (n ++ 32 ∷ (p ++ 32 ∷ s)) refl
+    ∙ ap (λ l. (40 ∷ bidWord) ∷ l) (cut-end 32 n (p ++ 32 ∷ s) (wn .no-space) ∙ ap (λ l. n ∷ l) (cut-end 32 p s (wp .no-space)))
 
 pub line-of : (bidder p after : List ℕ) → Word bidder → Word p → lineOf (bidLine bidder p after) ≡ bidOf (bidder ∷ p ∷ cut 32 after)
 unfolding lineOf
 line-of n p s wn wp = ap lineOfWords (line-words n p s wn wp)
 
 -- the pieces from the line on
-line-cut : (bidder p after f : List ℕ) (ps : List (List ℕ)) → Word bidder → Word p → cut 10 after ≡ f ∷ ps → cut 10 (bidLine bidder p after) ≡ bidLine bidder p f ∷ ps
+line-cut : (bidder p after f : List ℕ) (ps : List (List ℕ)) → Word bidder → Word p → cut 10 after ≡ f ∷ ps
+    → cut 10 (bidLine bidder p after) ≡ bidLine bidder p f ∷ ps
 unfolding bidLine bidWord among cut
 line-cut n p s f ps wn wp e =
     let a : cut 10 (32 ∷ s) ≡ (32 ∷ f) ∷ ps = rw e in
     let b : cut 10 (32 ∷ (p ++ 32 ∷ s)) ≡ (32 ∷ (p ++ 32 ∷ f)) ∷ ps = rw (cut-word 10 p (32 ∷ s) (32 ∷ f) ps (wp .no-end) a) in
-    let c : cut 10 (32 ∷ (n ++ 32 ∷ (p ++ 32 ∷ s))) ≡ (32 ∷ (n ++ 32 ∷ (p ++ 32 ∷ f))) ∷ ps = rw (cut-word 10 n (32 ∷ (p ++ 32 ∷ s)) (32 ∷ (p ++ 32 ∷ f)) ps (wn .no-end) b) in
+    let c : cut 10 (32 ∷ (n ++ 32 ∷ (p ++ 32 ∷ s))) ≡ (32 ∷ (n ++ 32 ∷ (p ++ 32 ∷ f))) ∷ ps =
+    rw (cut-word 10 n (32 ∷ (p ++ 32 ∷ s)) (32 ∷ (p ++ 32 ∷ f)) ps (wn .no-end) b) in
     cut-word 10 (40 ∷ bidWord) (32 ∷ (n ++ 32 ∷ (p ++ 32 ∷ s))) (32 ∷ (n ++ 32 ∷ (p ++ 32 ∷ f))) ps refl c
 
 pub record Parts (n p : List ℕ) (ws : List (List ℕ)) (b : Bid) : Type 0 where
@@ -46,13 +49,18 @@ unfolding bidOf andThen
 parts n p ws b e = go (numeralOf n) (priceOf p) (windowsIn ws) refl refl refl e
   where
     go : (x y : Option ℕ) (z : Option (List Window)) → numeralOf n ≡ x → priceOf p ≡ y → windowsIn ws ≡ z →
-        andThen x (λ i. andThen y (λ v. andThen z (λ l. some (bid (record { bidder = i; price = v; windows = l }))))) ≡ some (bid b) → Parts n p ws b
+        andThen x (λ i. andThen y (λ v. andThen z (λ l. some (bid (record { bidder = i; price = v; windows = l }))))) ≡ some (bid b)
+        → Parts n p ws b
     go none y z hx hy hz h = let c : _≡_ {A = ℕ} 0 1 = cc in absurd (omega arith)
     go (some i) none z hx hy hz h = let c : _≡_ {A = ℕ} 0 1 = cc in absurd (omega arith)
     go (some i) (some v) none hx hy hz h = let c : _≡_ {A = ℕ} 0 1 = cc in absurd (omega arith)
     go (some i) (some v) (some l) hx hy hz h =
         let q : _≡_ {A = Bid} (record { bidder = i; price = v; windows = l }) b = cc in
-        record { bidder-is = hx ∙ ap (λ (k : Bid). some (k .bidder)) q; price-is = hy ∙ ap (λ (k : Bid). some (k .price)) q; windows-are = hz ∙ ap (λ (k : Bid). some (k .windows)) q }
+        record {
+          bidder-is = hx ∙ ap (λ (k : Bid). some (k .bidder)) q;
+          price-is = hy ∙ ap (λ (k : Bid). some (k .price)) q;
+          windows-are = hz ∙ ap (λ (k : Bid). some (k .windows)) q;
+        }
 
 bids-append : (xs : List (Option Line)) (b : Bid) (ys : List (Option Line)) → bidsOf (xs ++ some (bid b) ∷ ys) ≡ bidsOf xs ++ b ∷ bidsOf ys
 unfolding bidsOf
@@ -77,7 +85,8 @@ windows-append [] cs = refl
 windows-append (b ∷ bs) cs = rw (windows-append bs cs, append-assoc)
 
 -- a line among bids is a bid
-is-bid : (xs : List (Option Line)) (x : Option Line) (ys : List (Option Line)) (bs : List Bid) → xs ++ x ∷ ys ≡ map (λ b. some (bid b)) bs → (b : Bid) × (x ≡ some (bid b))
+is-bid : (xs : List (Option Line)) (x : Option Line) (ys : List (Option Line)) (bs : List Bid) → xs ++ x ∷ ys ≡ map (λ b. some (bid b)) bs
+    → (b : Bid) × (x ≡ some (bid b))
 is-bid [] x ys [] e = let c : _≡_ {A = ℕ} 0 1 = cc in absurd (omega arith)
 is-bid [] x ys (b ∷ bs) e = (b, cc)
 is-bid (z ∷ xs) x ys [] e = let c : _≡_ {A = ℕ} 0 1 = cc in absurd (omega arith)
@@ -90,8 +99,10 @@ pub record Held (x : Option Line) (xs ys : List (Option Line)) (R : List Row) (W
   pub rows : R ≡ rowsFrom 0 (bidsOf xs ++ b ∷ bidsOf ys)
   pub windows : W ≡ allWindows (bidsOf xs ++ b ∷ bidsOf ys)
 
-pub held : (T : Tender) (R : List Row) (W : List Window) (l x : Option Line) (xs ys : List (Option Line)) → Begun T R W l (xs ++ x ∷ ys) → Held x xs ys R W
-held T R W l x xs ys c = go (is-bid xs x ys (bidsOf (xs ++ x ∷ ys)) (checked-bids T R W (T .kind) 2 [] (xs ++ x ∷ ys) (tables T (bidsOf (xs ++ x ∷ ys))) (c .sound)))
+pub held : (T : Tender) (R : List Row) (W : List Window) (l x : Option Line) (xs ys : List (Option Line)) → Begun T R W l (xs ++ x ∷ ys)
+    → Held x xs ys R W
+held T R W l x xs ys c = go (is-bid xs x ys (bidsOf (xs ++ x ∷ ys))
+    (checked-bids T R W (T .kind) 2 [] (xs ++ x ∷ ys) (tables T (bidsOf (xs ++ x ∷ ys))) (c .sound)))
   where
     go : (b : Bid) × (x ≡ some (bid b)) → Held x xs ys R W
     go (b, e) =
@@ -102,25 +113,43 @@ held T R W l x xs ys c = go (is-bid xs x ys (bidsOf (xs ++ x ∷ ys)) (checked-b
 pub record Found (before n p f : List ℕ) (ps : List (List ℕ)) (T : Tender) (R : List Row) (W : List Window) : Type 0 where
   pub first : lineOf (cut-some 10 before .first) ≡ some (tender T)
   pub line : Held (bidOf (n ∷ p ∷ cut 32 f)) (map lineOf (cut-some 10 before .rest)) (linesOf ps) R W
-  pub begin : Begun T R W (lineOf (cut-some 10 before .first)) (map lineOf (cut-some 10 before .rest) ++ bidOf (n ∷ p ∷ cut 32 f) ∷ linesOf ps)
+  pub begin : Begun T R W (lineOf (cut-some 10 before .first))
+      (map lineOf (cut-some 10 before .rest) ++ bidOf (n ∷ p ∷ cut 32 f) ∷ linesOf ps)
   pub ended : Pieces ps
 
-module _ (before n p after f : List ℕ) (ps : List (List ℕ)) (wn : Word n) (wp : Word p) (e : cut 10 after ≡ f ∷ ps) (T : Tender) (R : List Row) (W : List Window) where
-  pub text-lines : linesOf (cut 10 (before ++ 10 ∷ bidLine n p after)) ≡ lineOf (cut-some 10 before .first) ∷ (map lineOf (cut-some 10 before .rest) ++ linesOf (bidLine n p f ∷ ps))
-  text-lines = rw (cut-append 10 before (bidLine n p after), line-cut n p after f ps wn wp e, lines-append (cut 10 before) (bidLine n p f) ps, cut-some 10 before .are)
+module _ (before n p after f : List ℕ) (ps : List (List ℕ)) (wn : Word n) (wp : Word p) (e : cut 10 after ≡ f ∷ ps) (T : Tender)
+    (R : List Row) (W : List Window) where
+  pub text-lines : linesOf (cut 10 (before ++ 10 ∷ bidLine n p after)) ≡ lineOf (cut-some 10 before .first)
+      ∷ (map lineOf (cut-some 10 before .rest) ++ linesOf (bidLine n p f ∷ ps))
+  text-lines = rw (
+    cut-append 10 before (bidLine n p after),
+    line-cut n p after f ps wn wp e,
+    lines-append (cut 10 before) (bidLine n p f) ps,
+    cut-some 10 before .are,
+  )
 
   pub found : readText (before ++ 10 ∷ bidLine n p after) ≡ accepted T R W → Found before n p f ps T R W
   unfolding linesOf bidLine
-  found h = go ps (begun T R W (lineOf (cut-some 10 before .first)) (map lineOf (cut-some 10 before .rest) ++ linesOf (bidLine n p f ∷ ps)) (rw text-lines at (read-lines T R W (before ++ 10 ∷ bidLine n p after) h)))
+  found h = go ps (begun T R W (lineOf (cut-some 10 before .first))
+      (map lineOf (cut-some 10 before .rest) ++ linesOf (bidLine n p f ∷ ps))
+      (rw text-lines at (read-lines T R W (before ++ 10 ∷ bidLine n p after) h)))
     where
-      go : (qs : List (List ℕ)) → Begun T R W (lineOf (cut-some 10 before .first)) (map lineOf (cut-some 10 before .rest) ++ linesOf (bidLine n p f ∷ qs)) → Found before n p f qs T R W
+      go : (qs : List (List ℕ)) → Begun T R W (lineOf (cut-some 10 before .first))
+          (map lineOf (cut-some 10 before .rest) ++ linesOf (bidLine n p f ∷ qs)) → Found before n p f qs T R W
       go [] c =
           let s = held T R W (lineOf (cut-some 10 before .first)) none (map lineOf (cut-some 10 before .rest)) [] c in
           let x : none ≡ some (bid (s .b)) = s .is in
           let z : _≡_ {A = ℕ} 0 1 = cc in absurd (omega arith)
       go (q ∷ qs) c =
-          let d : Begun T R W (lineOf (cut-some 10 before .first)) (map lineOf (cut-some 10 before .rest) ++ bidOf (n ∷ p ∷ cut 32 f) ∷ linesOf (q ∷ qs)) = rw (line-of n p f wn wp) at c in
-          record { first = c .first; line = held T R W (lineOf (cut-some 10 before .first)) (bidOf (n ∷ p ∷ cut 32 f)) (map lineOf (cut-some 10 before .rest)) (linesOf (q ∷ qs)) d; begin = d; ended = record { first = q; rest = qs; are = refl } }
+          let d : Begun T R W (lineOf (cut-some 10 before .first))
+          (map lineOf (cut-some 10 before .rest) ++ bidOf (n ∷ p ∷ cut 32 f) ∷ linesOf (q ∷ qs)) = rw (line-of n p f wn wp) at c in
+          record {
+            first = c .first;
+            line = held T R W (lineOf (cut-some 10 before .first)) (bidOf (n ∷ p ∷ cut 32 f))
+                (map lineOf (cut-some 10 before .rest)) (linesOf (q ∷ qs)) d;
+            begin = d;
+            ended = record { first = q; rest = qs; are = refl };
+          }
 
 pub price-law : (t u bidder p q : List ℕ) (T U : Tender) (R S : List Row) (W X : List Window) → DifferInPrice t u bidder p q →
     readText t ≡ accepted T R W → readText u ≡ accepted U S X → DifferInOnePrice T U R S W X bidder p q
@@ -130,7 +159,8 @@ price-law t u n p q T U R S W X d h k =
     go (found (d .before) n p (d .after) (s .first) (s .rest) (d .bidder-word) (d .p-word) (s .are) T R W (rw (d .left) at h))
     (found (d .before) n q (d .after) (s .first) (s .rest) (d .bidder-word) (d .q-word) (s .are) U S X (rw (d .right) at k))
   where
-    go : {f : List ℕ} {ps : List (List ℕ)} → Found (d .before) n p f ps T R W → Found (d .before) n q f ps U S X → DifferInOnePrice T U R S W X n p q
+    go : {f : List ℕ} {ps : List (List ℕ)} → Found (d .before) n p f ps T R W → Found (d .before) n q f ps U S X
+        → DifferInOnePrice T U R S W X n p q
     go {f} {ps} x y =
         let b = x .line .b in
         let c = y .line .b in
@@ -170,7 +200,8 @@ module _ (R S : List Row) (bidder p q : List ℕ) (d : RowsDifferInPrice R S bid
   unfolding withPrice
   prices-set = rw (d .left, d .right) (go (d .before))
     where
-      go : (bs : List Row) → map (λ r. r .price) (bs ++ withPrice (d .w) (d .row) ∷ d .after) ≡ set (map (λ r. r .price) (bs ++ d .row ∷ d .after)) (length bs) (d .w)
+      go : (bs : List Row) → map (λ r. r .price) (bs ++ withPrice (d .w) (d .row) ∷ d .after)
+          ≡ set (map (λ r. r .price) (bs ++ d .row ∷ d .after)) (length bs) (d .w)
       go [] = refl
       go (b ∷ bs) = ap (λ l. b .price ∷ l) (go bs)
 

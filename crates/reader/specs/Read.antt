@@ -20,7 +20,8 @@ pub data Outcome : Type 0 where
 -- the rows of the bids, whose windows stand from `at` on
 unfoldable pub rowsFrom : ℕ → List Bid → List Row
 rowsFrom at [] = []
-rowsFrom at (b ∷ bs) = record { bidder = b .bidder; price = b .price; first = at; count = length (b .windows) } ∷ rowsFrom (at + length (b .windows)) bs
+rowsFrom at (b ∷ bs) = record { bidder = b .bidder; price = b .price; first = at; count = length (b .windows) }
+    ∷ rowsFrom (at + length (b .windows)) bs
 
 unfoldable pub allWindows : List Bid → List Window
 allWindows [] = []
@@ -58,7 +59,8 @@ unfolding faultOf judged
 checked k at used [] out = out
 checked k at used (none ∷ ls) out = refused 2 at
 checked k at used (some (tender t) ∷ ls) out = refused 2 at
-checked k at used (some (bid b) ∷ ls) out = let rest = checked k (at + 1) (used ++ b .bidder ∷ []) ls out in judged (faultOf k used b) at rest
+checked k at used (some (bid b) ∷ ls) out = let rest = checked k (at + 1) (used ++ b .bidder ∷ []) ls out in
+    judged (faultOf k used b) at rest
 
 unfoldable pub tables : Tender → List Bid → Outcome
 unfolding rowsFrom allWindows
@@ -78,7 +80,8 @@ readText text = cond (ltb maxText (length text)) (refused 1 0) (readLines (lines
 -- a lent table with fewer rows than the text needs is told last
 unfoldable pub fitted : ℕ → ℕ → Outcome → Outcome
 fitted bidRows windowRows (refused n at) = refused n at
-fitted bidRows windowRows (accepted t rows windows) = cond (leb (length rows) bidRows && leb (length windows) windowRows) (accepted t rows windows) (refused 8 0)
+fitted bidRows windowRows (accepted t rows windows) =
+    cond (leb (length rows) bidRows && leb (length windows) windowRows) (accepted t rows windows) (refused 8 0)
 
 -- what reading answers, with lent tables of so many rows
 unfoldable pub readInto : List ℕ → ℕ → ℕ → Outcome

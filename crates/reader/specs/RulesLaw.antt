@@ -17,7 +17,8 @@ use Rattle.tender.specs.declared.Tender.{Tender}
 use Rattle.tender.specs.Limits.{allLawful, isSingle, lawful, within}
 use Rattle.tender.specs.Tables.{Row}
 use Rattle.reader_line.specs.Words.{andThen, cut, among, same, closed, numeralOf, priceOf}
-use Rattle.reader_line.specs.Line.{Bid, Line, tender, bid, kindOf, spanOf, windowOf, windowsIn, tenderOf, bidOf, lineOfWords, lineOf, linesOf}
+use Rattle.reader_line.specs.Line.{Bid, Line, tender, bid, kindOf, spanOf, windowOf, windowsIn, tenderOf, bidOf, lineOfWords, lineOf}
+use Rattle.reader_line.specs.Line.{linesOf}
 use Rattle.reader_line.specs.LinePlain.{split as and-split}
 use Rattle.reader.specs.Read.{Outcome, accepted, rowsFrom, allWindows, bidsOf, faultIn, faultOf, checked, tables, readLines, readText}
 use Rattle.reader_line.specs.CutLaws.{or-split}
@@ -61,7 +62,8 @@ bid-filled [] = tt
 bid-filled (n ∷ []) = tt
 bid-filled (n ∷ p ∷ ws) = go (numeralOf n) (priceOf p) (windowsIn ws) (windows-long ws)
   where
-    go : (x y : Option ℕ) (z : Option (List Window)) → Long z → Filled (andThen x (λ i. andThen y (λ v. andThen z (λ l. some (bid (record { bidder = i; price = v; windows = l }))))))
+    go : (x y : Option ℕ) (z : Option (List Window)) → Long z
+        → Filled (andThen x (λ i. andThen y (λ v. andThen z (λ l. some (bid (record { bidder = i; price = v; windows = l }))))))
     go none y z h = tt
     go (some i) none z h = tt
     go (some i) (some v) none h = tt
@@ -78,7 +80,8 @@ tender-filled (k ∷ s ∷ e ∷ []) = go (kindOf k) (closed e)
     last y none = tt
     last y (some w) = tt
 
-    go : (x : Option Kind) (o : Option (List ℕ)) → Filled (andThen x (λ y. andThen o (λ z. andThen (spanOf s z) (λ w. some (tender (record { kind = y; window = w }))))))
+    go : (x : Option Kind) (o : Option (List ℕ)) → Filled
+        (andThen x (λ y. andThen o (λ z. andThen (spanOf s z) (λ w. some (tender (record { kind = y; window = w }))))))
     go none o = tt
     go (some y) none = tt
     go (some y) (some z) = last y (spanOf s z)
@@ -121,7 +124,8 @@ pub record Passed (k : Kind) (bids bidder price count : ℕ) (sound used : Bool)
   pub lawful-windows : sound ≡ true
   pub bidder-new : used ≡ false
 
-pub passed : (k : Kind) (bids bidder price count : ℕ) (sound used : Bool) → faultIn k bids bidder price count sound used ≡ none → Passed k bids bidder price count sound used
+pub passed : (k : Kind) (bids bidder price count : ℕ) (sound used : Bool) → faultIn k bids bidder price count sound used ≡ none
+    → Passed k bids bidder price count sound used
 unfolding faultIn within
 passed k bids bidder price count sound used e =
     let c4 = cond-none (leb 1000 bids || ltb 32 count) 4 _ e in
@@ -152,7 +156,8 @@ Faultless k used b = Passed k (length used) (b .bidder) (b .price) (length (b .w
 
 pub faultless : (k : Kind) (used : List ℕ) (b : Bid) → faultOf k used b ≡ none → Faultless k used b
 unfolding faultOf
-faultless k used b e = passed k (length used) (b .bidder) (b .price) (length (b .windows)) (allLawful (b .windows)) (among (b .bidder) used) e
+faultless k used b e = passed k (length used) (b .bidder) (b .price) (length (b .windows)) (allLawful (b .windows))
+    (among (b .bidder) used) e
 
 lawful-rules : (w : Window) → lawful w ≡ true → WindowRules w
 unfolding lawful
@@ -173,10 +178,12 @@ record Sound (k : Kind) (used : List ℕ) (at : ℕ) (bs : List Bid) : Type 0 wh
   rows : RowsRules k used at (rowsFrom at bs) (at + length (allWindows bs))
   windows : WindowsRules (allWindows bs)
 
-more : (k : Kind) (used : List ℕ) (at : ℕ) (b : Bid) (bs : List Bid) → 1 ≤ length (b .windows) → Faultless k used b → Sound k (used ++ b .bidder ∷ []) (at + length (b .windows)) bs → Sound k used at (b ∷ bs)
+more : (k : Kind) (used : List ℕ) (at : ℕ) (b : Bid) (bs : List Bid) → 1 ≤ length (b .windows) → Faultless k used b
+    → Sound k (used ++ b .bidder ∷ []) (at + length (b .windows)) bs → Sound k used at (b ∷ bs)
 unfolding rowsFrom allWindows
 more k used at b bs l h s =
-    let e : at + length (b .windows ++ allWindows bs) ≡ at + length (b .windows) + length (allWindows bs) = simp length-append (omega arith) in
+    let e : at + length (b .windows ++ allWindows bs) ≡ at + length (b .windows) + length (allWindows bs) =
+    simp length-append (omega arith) in
     let f = h .few-bids in
     let g = s .few-bids in
     let m = length-append used (b .bidder ∷ []) in
@@ -204,14 +211,16 @@ rows-length at [] = refl
 rows-length at (b ∷ bs) = ap suc (rows-length (at + length (b .windows)) bs)
 
 module _ (T : Tender) (R : List Row) (W : List Window) where
-  sound : (k : Kind) (n : ℕ) (used : List ℕ) (at : ℕ) (ls : List (Option Line)) (out : Outcome) → AllFilled ls → checked k n used ls out ≡ accepted T R W → Sound k used at (bidsOf ls)
+  sound : (k : Kind) (n : ℕ) (used : List ℕ) (at : ℕ) (ls : List (Option Line)) (out : Outcome) → AllFilled ls
+      → checked k n used ls out ≡ accepted T R W → Sound k used at (bidsOf ls)
   unfolding checked bidsOf rowsFrom allWindows
   sound k n used at [] out a e = record { few-bids = λ u. omega arith; rows = omega arith; windows = tt }
   sound k n used at (none ∷ ls) out a e = never e
   sound k n used at (some (tender t) ∷ ls) out a e = never e
   sound k n used at (some (bid b) ∷ ls) out a e =
       let j = judged-out T R W (faultOf k used b) n (checked k (n + 1) (used ++ b .bidder ∷ []) ls out) e in
-      more k used at b (bidsOf ls) (a .0) (faultless k used b (j .0)) (sound k (n + 1) (used ++ b .bidder ∷ []) (at + length (b .windows)) ls out (a .1) (j .1))
+      more k used at b (bidsOf ls) (a .0) (faultless k used b (j .0))
+      (sound k (n + 1) (used ++ b .bidder ∷ []) (at + length (b .windows)) ls out (a .1) (j .1))
 
   -- every rule holds of what an accepted text gives
   pub rules-law : (text : List ℕ) → readText text ≡ accepted T R W → Rules T R W

@@ -1,4 +1,5 @@
--- A window takes six bytes of its line, so an accepted text has at most 10,922 windows: a table of 11,000 rows never answers 8. Assumes nothing.
+-- A window takes six bytes of its line, so an accepted text has at most 10,922 windows: a table of 11,000 rows never answers 8.
+-- Assumes nothing.
 use mathlib.Core.Path.{_≡_, refl, ap}
 use mathlib.Core.List.{List, [], _∷_}
 use mathlib.Core.Bool.{Bool, true, false, cond}
@@ -32,7 +33,8 @@ cut-size d (b ∷ s) = go (eqb b d) (cut-some d s) (cut-size d s)
     grown : (ps : List (List ℕ)) → Pieces ps → size (grow b ps) ≡ suc (size ps)
     grown ps c = rw (c .are) (omega arith)
 
-    go : (t : Bool) → Pieces (cut d s) → size (cut d s) ≡ length s + 1 → size (cond t ([] ∷ cut d s) (grow b (cut d s))) ≡ suc (length s) + 1
+    go : (t : Bool) → Pieces (cut d s) → size (cut d s) ≡ length s + 1 → size (cond t ([] ∷ cut d s) (grow b (cut d s))) ≡ suc (length s)
+        + 1
     go true c e = omega arith
     go false c e = omega (arith, grown (cut d s) c)
 
@@ -44,7 +46,8 @@ lines-size ([] ∷ []) = omega arith
 lines-size ((b ∷ p) ∷ []) = omega arith
 lines-size (p ∷ q ∷ ps) = go (lineOf p) (line-windows p) (lines-size (q ∷ ps))
   where
-    go : (x : Option Line) → ((b : Bid) → x ≡ some (bid b) → 6 * length (b .windows) ≤ length p + 1) → 6 * length (allWindows (bidsOf (linesOf (q ∷ ps)))) ≤ size (q ∷ ps) →
+    go : (x : Option Line) → ((b : Bid) → x ≡ some (bid b) → 6 * length (b .windows) ≤ length p + 1)
+        → 6 * length (allWindows (bidsOf (linesOf (q ∷ ps)))) ≤ size (q ∷ ps) →
         6 * length (allWindows (bidsOf (x ∷ linesOf (q ∷ ps)))) ≤ length p + 1 + size (q ∷ ps)
     go none f ih = omega arith
     go (some (tender t)) f ih = omega arith
@@ -54,7 +57,8 @@ short-text : (T : Tender) (R : List Row) (W : List Window) (text : List ℕ) →
 unfolding readText
 short-text T R W text e = go (ltb 65536 (length text)) refl e
   where
-    go : (t : Bool) → ltb 65536 (length text) ≡ t → cond t (refused 1 0) (readLines (linesOf (cut 10 text))) ≡ accepted T R W → length text ≤ 65536
+    go : (t : Bool) → ltb 65536 (length text) ≡ t → cond t (refused 1 0) (readLines (linesOf (cut 10 text))) ≡ accepted T R W
+        → length text ≤ 65536
     go true f x = never x
     go false f x = ltb-false 65536 (length text) f
 
@@ -62,7 +66,8 @@ pub size-law : (T : Tender) (R : List Row) (W : List Window) (text : List ℕ) �
 unfolding readLines bidsOf
 size-law T R W text e = go (linesOf (cut 10 text)) (lines-size (cut 10 text)) (read-lines T R W text e)
   where
-    go : (ls : List (Option Line)) → 6 * length (allWindows (bidsOf ls)) ≤ size (cut 10 text) → readLines ls ≡ accepted T R W → length W ≤ 10922
+    go : (ls : List (Option Line)) → 6 * length (allWindows (bidsOf ls)) ≤ size (cut 10 text) → readLines ls ≡ accepted T R W
+        → length W ≤ 10922
     go [] h x = never x
     go (l ∷ ls) h x =
         let g = begun T R W l ls x in
@@ -70,10 +75,14 @@ size-law T R W text e = go (linesOf (cut 10 text)) (lines-size (cut 10 text)) (r
         omega (arith, k, cut-size 10 text, ap length (g .windows), short-text T R W text e)
 
 -- tables of that size never answer 8
-pub fits-law : (text : List ℕ) (bidRows windowRows : ℕ) → 1000 ≤ bidRows → 10922 ≤ windowRows → readInto text bidRows windowRows ≡ readText text
+pub fits-law : (text : List ℕ) (bidRows windowRows : ℕ) → 1000 ≤ bidRows → 10922 ≤ windowRows
+    → readInto text bidRows windowRows ≡ readText text
 unfolding readInto fitted
 fits-law text b w hb hw = go (readText text) refl
   where
     go : (o : Outcome) → readText text ≡ o → fitted b w o ≡ o
     go (refused n at) e = refl
-    go (accepted T R W) e = rw (le-leb (length R) b (omega (arith, counts-law T R W text e .0)), le-leb (length W) w (omega (arith, size-law T R W text e)))
+    go (accepted T R W) e = rw (
+      le-leb (length R) b (omega (arith, counts-law T R W text e .0)),
+      le-leb (length W) w (omega (arith, size-law T R W text e)),
+    )

@@ -53,7 +53,8 @@ Declines (step.Refused r) n at = faultOfRefusal r ≡ record { number = n; place
 -- a bid goes into the tables after k bids with m windows
 pub record Took (b : Bid) (k m : ℕ) (used rows windows : List ℕ) (r : Step) (used′ rows′ windows′ : List ℕ) : Type 0 where
   pub answer : r ≡ step.Bid (length (b .windows))
-  pub row : rows′ ≡ take (4 * k) rows ++ cellsOf (record { bidder = b .bidder; price = b .price; first = m; count = length (b .windows) }) ++ drop (4 * k + 4) rows
+  pub row : rows′ ≡ take (4 * k) rows ++ cellsOf (record { bidder = b .bidder; price = b .price; first = m; count = length (b .windows) })
+      ++ drop (4 * k + 4) rows
   pub own : windows′ ≡ putWindows windows m (b .windows)
   pub mark : cells.Filled (b .bidder) (b .bidder + 1) used used′
 
@@ -66,7 +67,8 @@ abbrev pub Taken : Option Line → Kind → ℕ → ℕ → (used rows windows :
 Taken none kind k m used rows windows r used′ rows′ windows′ = Declines r 2 (k + 2)
 Taken (some (tender t)) kind k m used rows windows r used′ rows′ windows′ = Declines r 2 (k + 2)
 Taken (some (bid b)) kind k m used rows windows r used′ rows′ windows′ =
-    Judged (faultIn kind k (b .bidder) (b .price) (length (b .windows)) (allLawful (b .windows)) (eqb (cells.cell used (b .bidder)) 1)) b k m used rows windows r used′ rows′ windows′
+    Judged (faultIn kind k (b .bidder) (b .price) (length (b .windows)) (allLawful (b .windows)) (eqb (cells.cell used (b .bidder)) 1)) b
+    k m used rows windows r used′ rows′ windows′
 
 -- the tables hold the bids of these lines, none of which is faulty
 pub record Held (kind : Kind) (ls : List (Option Line)) (k m : ℕ) (rows windows : List ℕ) : Type 0 where

@@ -105,7 +105,8 @@ fn take_line(
     windows: &mut [u64],
 ) -> Step
     requires { ⌜ (k ≤ 1000) × (m ≤ 32000) × (length (now used) ≡ 15625) × (length (now rows) ≡ 4000) ⌝ }
-    ensures { λ r. ⌜ Taken (lineOf (now (line .entry))) kind k m (now (used .entry)) (now (rows .entry)) (now (windows .entry)) r (now (used .exit)) (now (rows .exit)) (now (windows .exit)) ⌝ }
+    ensures { λ r. ⌜ Taken (lineOf (now (line .entry))) kind k m (now (used .entry)) (now (rows .entry)) (now (windows .entry)) r
+        (now (used .exit)) (now (rows .exit)) (now (windows .exit)) ⌝ }
 {
     let place = k as u64 + 2;
     match read_line(line, windows, m) {
@@ -145,7 +146,8 @@ pub(crate) fn read_bids(
     rows: &mut [u64],
     windows: &mut [u64],
 ) -> Bids
-    requires { ⌜ (at ≤ length (now text)) × (length (now text) ≤ 65536) × (now used ≡ replicate 15625 0) × (length (now rows) ≡ 4000) × (length (now windows) ≡ 22000) ⌝ }
+    requires { ⌜ (at ≤ length (now text)) × (length (now text) ≤ 65536) × (now used ≡ replicate 15625 0) × (length (now rows) ≡ 4000)
+        × (length (now windows) ≡ 22000) ⌝ }
     ensures { λ r. ⌜ Filled kind (linesOf (cut 10 (drop at (now (text .entry))))) r (now (rows .exit)) (now (windows .exit)) ⌝ }
 {
     let mut k: usize = 0;

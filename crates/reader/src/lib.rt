@@ -12,12 +12,12 @@ mod rows;
 
 use bids::Bids;
 use bids::read_bids;
-use rows::copy;
 use reader_line::line::Line;
 use reader_line::line::keeps;
 use reader_line::line::read_line;
 use reader_line::words::LineEnd;
 use reader_line::words::line_end;
+use rows::copy;
 use tender::Refusal;
 use tender::Tender;
 
@@ -68,9 +68,12 @@ pub enum Reading {
 
 // Reads the text into the first rows of the two tables; cells past them stay.
 pub fn read(text: &[u8], bids: &mut [u64], windows: &mut [u64]) -> Reading
-    ensures answer { λ r. ⌜ told r ≡ summary (readInto (now (text .entry)) (length (now (bids .entry)) / 4) (length (now (windows .entry)) / 2)) ⌝ }
-    ensures rows { λ r. ⌜ now (bids .exit) ≡ bidsAfter (now (bids .entry)) (readInto (now (text .entry)) (length (now (bids .entry)) / 4) (length (now (windows .entry)) / 2)) ⌝ }
-    ensures own { λ r. ⌜ now (windows .exit) ≡ windowsAfter (now (windows .entry)) (readInto (now (text .entry)) (length (now (bids .entry)) / 4) (length (now (windows .entry)) / 2)) ⌝ }
+    ensures answer { λ r. ⌜ told r ≡ summary (readInto (now (text .entry)) (length (now (bids .entry)) / 4)
+        (length (now (windows .entry)) / 2)) ⌝ }
+    ensures rows { λ r. ⌜ now (bids .exit) ≡ bidsAfter (now (bids .entry))
+        (readInto (now (text .entry)) (length (now (bids .entry)) / 4) (length (now (windows .entry)) / 2)) ⌝ }
+    ensures own { λ r. ⌜ now (windows .exit) ≡ windowsAfter (now (windows .entry))
+        (readInto (now (text .entry)) (length (now (bids .entry)) / 4) (length (now (windows .entry)) / 2)) ⌝ }
 {
     if tender::MAX_TEXT < text.len() {
         return Reading::Refused(Refusal::TextTooLong);

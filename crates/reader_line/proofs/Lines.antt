@@ -55,7 +55,8 @@ module _ (line : List ℕ) (a e : ℕ) (l : e ≡ length line) (h : a < e) where
   pub tail-open : (getD line (e - 1) 0 ≡ 41 → ⊥) → closed (drop a line) ≡ none
   tail-open g =
       let n : a + (e - 1 - a) ≡ e - 1 = omega arith in
-      closed-other (e - 1 - a) (drop a line) (rw length-drop (omega arith)) (λ x. g (ap (λ k. getD line k 0) (sym n) ∙ sym (getD-drop a line (e - 1 - a) 0) ∙ x))
+      closed-other (e - 1 - a) (drop a line) (rw length-drop (omega arith))
+      (λ x. g (ap (λ k. getD line k 0) (sym n) ∙ sym (getD-drop a line (e - 1 - a) 0) ∙ x))
 
 -- what is noted of a line
 
@@ -82,7 +83,8 @@ module _ (line : List ℕ) (at k s e : ℕ) (l : at ≤ length line) (q : at + t
     module _ (h₂ : s < length line) (q₃ : s + 1 + toNext 32 (drop (s + 1) line) ≡ e) where
       pub tender-four : e < length line → tenderOf (cut 32 (drop at line)) ≡ none
       unfolding tenderOf
-      tender-four j = let c = cut-some 32 (drop (e + 1) line) in rw (cut-at 32 line at k q h, cut-at 32 line (k + 1) s q₂ h₂, cut-at 32 line (s + 1) e q₃ j, c .are)
+      tender-four j = let c = cut-some 32 (drop (e + 1) line) in
+          rw (cut-at 32 line at k q h, cut-at 32 line (k + 1) s q₂ h₂, cut-at 32 line (s + 1) e q₃ j, c .are)
 
       three : e ≡ length line → cut 32 (drop at line) ≡ part line at k ∷ part line (k + 1) s ∷ drop (s + 1) line ∷ []
       three j = rw (cut-at 32 line at k q h, cut-at 32 line (k + 1) s q₂ h₂, cut-at-end 32 line (s + 1) (omega arith) (q₃ ∙ j))
@@ -91,7 +93,8 @@ module _ (line : List ℕ) (at k s e : ℕ) (l : at ≤ length line) (q : at + t
       unfolding tenderOf andThen
       tender-open j c = rw (three j) (go (kindOf (part line at k)))
         where
-          go : (o : Option Kind) → andThen o (λ y. andThen (closed (drop (s + 1) line)) (λ z. andThen (spanOf (part line (k + 1) s) z) (λ w. some (tender (record { kind = y; window = w }))))) ≡ none
+          go : (o : Option Kind) → andThen o (λ y. andThen (closed (drop (s + 1) line))
+              (λ z. andThen (spanOf (part line (k + 1) s) z) (λ w. some (tender (record { kind = y; window = w }))))) ≡ none
           go none = refl
           go (some y) = rw c
 
@@ -99,12 +102,14 @@ module _ (line : List ℕ) (at k s e : ℕ) (l : at ≤ length line) (q : at + t
       unfolding tenderOf andThen
       tender-unkind j y = rw (three j) (rw y)
 
-      module _ (j : e ≡ length line) (y : Kind) (z : List ℕ) (gy : kindOf (part line at k) ≡ some y) (gz : closed (drop (s + 1) line) ≡ some z) where
+      module _ (j : e ≡ length line) (y : Kind) (z : List ℕ) (gy : kindOf (part line at k) ≡ some y)
+          (gz : closed (drop (s + 1) line) ≡ some z) where
         pub tender-unspan : spanOf (part line (k + 1) s) z ≡ none → tenderOf (cut 32 (drop at line)) ≡ none
         unfolding tenderOf andThen
         tender-unspan g = rw (three j) (rw (gy, gz, g))
 
-        pub tender-whole : (w : Window) → spanOf (part line (k + 1) s) z ≡ some w → tenderOf (cut 32 (drop at line)) ≡ some (tender (record { kind = y; window = w }))
+        pub tender-whole : (w : Window) → spanOf (part line (k + 1) s) z ≡ some w
+            → tenderOf (cut 32 (drop at line)) ≡ some (tender (record { kind = y; window = w }))
         unfolding tenderOf andThen
         tender-whole w g = rw (three j) (rw (gy, gz, g))
 
@@ -118,9 +123,11 @@ module _ (line : List ℕ) (at n p : ℕ) (l : at ≤ length line) (q : at + toN
   module _ (h : n < length line) (q₂ : n + 1 + toNext 32 (drop (n + 1) line) ≡ p) where
     pub bid-two : p ≡ length line → bidOf (cut 32 (drop at line)) ≡ none
     unfolding bidOf andThen windowsIn
-    bid-two j = rw (cut-at 32 line at n q h, cut-at-end 32 line (n + 1) (omega arith) (q₂ ∙ j)) (go (numeralOf (part line at n)) (priceOf (drop (n + 1) line)))
+    bid-two j = rw (cut-at 32 line at n q h, cut-at-end 32 line (n + 1) (omega arith) (q₂ ∙ j))
+        (go (numeralOf (part line at n)) (priceOf (drop (n + 1) line)))
       where
-        go : (x y : Option ℕ) → andThen x (λ i. andThen y (λ v. andThen none (λ ws. some (bid (record { bidder = i; price = v; windows = ws }))))) ≡ none
+        go : (x y : Option ℕ) → andThen x (λ i. andThen y
+            (λ v. andThen none (λ ws. some (bid (record { bidder = i; price = v; windows = ws }))))) ≡ none
         go none y = refl
         go (some i) none = refl
         go (some i) (some v) = refl
@@ -139,19 +146,23 @@ module _ (line : List ℕ) (at n p : ℕ) (l : at ≤ length line) (q : at + toN
         bid-unpriced g = rw words (rw (gi, g))
 
         module _ (v : ℕ) (gv : priceOf (part line (n + 1) p) ≡ some v) (m : ℕ) (cells : List ℕ) where
-          pub bid-unwindowed : tallied m 0 true cells (windowsIn (cut 32 (drop (p + 1) line))) ≡ none → none ≡ noted m cells (bidOf (cut 32 (drop at line)))
+          pub bid-unwindowed : tallied m 0 true cells (windowsIn (cut 32 (drop (p + 1) line))) ≡ none
+              → none ≡ noted m cells (bidOf (cut 32 (drop at line)))
           unfolding bidOf andThen noted tallied
           bid-unwindowed g = rw words (rw (gi, gv) (go (windowsIn (cut 32 (drop (p + 1) line))) g))
             where
-              go : (o : Option (List Window)) → tallied m 0 true cells o ≡ none → none ≡ noted m cells (andThen o (λ ws. some (bid (record { bidder = i; price = v; windows = ws }))))
+              go : (o : Option (List Window)) → tallied m 0 true cells o ≡ none
+                  → none ≡ noted m cells (andThen o (λ ws. some (bid (record { bidder = i; price = v; windows = ws }))))
               go none e = refl
               go (some ws) e = let z : _≡_ {A = ℕ} 0 1 = cc in absurd (omega arith)
 
-          pub bid-whole : (t : Tally) → some t ≡ tallied m 0 true cells (windowsIn (cut 32 (drop (p + 1) line))) → some (bidNote i v t) ≡ noted m cells (bidOf (cut 32 (drop at line)))
+          pub bid-whole : (t : Tally) → some t ≡ tallied m 0 true cells (windowsIn (cut 32 (drop (p + 1) line)))
+              → some (bidNote i v t) ≡ noted m cells (bidOf (cut 32 (drop at line)))
           unfolding bidOf andThen noted tallied
           bid-whole t g = rw words (rw (gi, gv) (go (windowsIn (cut 32 (drop (p + 1) line))) g))
             where
-              go : (o : Option (List Window)) → some t ≡ tallied m 0 true cells o → some (bidNote i v t) ≡ noted m cells (andThen o (λ ws. some (bid (record { bidder = i; price = v; windows = ws }))))
+              go : (o : Option (List Window)) → some t ≡ tallied m 0 true cells o
+                  → some (bidNote i v t) ≡ noted m cells (andThen o (λ ws. some (bid (record { bidder = i; price = v; windows = ws }))))
               go none e = let z : _≡_ {A = ℕ} 0 1 = cc in absurd (omega arith)
               go (some ws) e = cc
 
@@ -193,7 +204,8 @@ module _ (line : List ℕ) (e : ℕ) (q : 0 + toNext 32 (drop 0 line) ≡ e) whe
         unfolding lineOf lineOfWords same
         line-tender s = ap lineOfWords opened-words ∙ rw (eq-eqb (getD line 0 0) 40 g) (rw s)
 
-        pub line-bid : same (part line 1 e) tenderWord ≡ false → same (part line 1 e) bidWord ≡ true → lineOf line ≡ bidOf (cut 32 (drop (e + 1) line))
+        pub line-bid : same (part line 1 e) tenderWord ≡ false → same (part line 1 e) bidWord ≡ true
+            → lineOf line ≡ bidOf (cut 32 (drop (e + 1) line))
         unfolding lineOf lineOfWords same
         line-bid s t = ap lineOfWords opened-words ∙ rw (eq-eqb (getD line 0 0) 40 g) (rw (s, t))
 

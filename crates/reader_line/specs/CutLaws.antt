@@ -50,7 +50,8 @@ unfolding cut
 cut-append d [] y = rw (eq-eqb d d refl)
 cut-append d (b ∷ x) y = go (eqb b d) (cut-append d x y)
   where
-    go : (t : Bool) → cut d (x ++ d ∷ y) ≡ cut d x ++ cut d y → cond t ([] ∷ cut d (x ++ d ∷ y)) (grow b (cut d (x ++ d ∷ y))) ≡ cond t ([] ∷ cut d x) (grow b (cut d x)) ++ cut d y
+    go : (t : Bool) → cut d (x ++ d ∷ y) ≡ cut d x ++ cut d y → cond t ([] ∷ cut d (x ++ d ∷ y)) (grow b (cut d (x ++ d ∷ y)))
+        ≡ cond t ([] ∷ cut d x) (grow b (cut d x)) ++ cut d y
     go true e = rw e
     go false e = rw e (grow-append b (cut d x) (cut d y) (cut-some d x))
 

@@ -57,7 +57,8 @@ unfolding andThen numeralOf priceOf windowsIn
 bidOf [] = none
 bidOf (n ∷ []) = none
 bidOf (n ∷ p ∷ ws) =
-    andThen (numeralOf n) (λ y. andThen (priceOf p) (λ v. andThen (windowsIn ws) (λ l. some (bid (record { bidder = y; price = v; windows = l })))))
+    andThen (numeralOf n) (λ y. andThen (priceOf p)
+    (λ v. andThen (windowsIn ws) (λ l. some (bid (record { bidder = y; price = v; windows = l })))))
 
 unfoldable pub lineOfWords : List (List ℕ) → Option Line
 unfolding same tenderWord bidWord tenderOf bidOf

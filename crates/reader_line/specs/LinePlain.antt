@@ -42,10 +42,12 @@ unfolding cut allPlain
 cut-plain d [] h a = refl
 cut-plain d (b ∷ s) h a = go (eqb b d) refl (cut d s) (cut-some d s) (cut-plain d s h) a
   where
-    more : (p : List ℕ) (ps : List (List ℕ)) → (PlainPieces (p ∷ ps) → allPlain s ≡ true) → PlainPieces (grow b (p ∷ ps)) → plain b && allPlain s ≡ true
+    more : (p : List ℕ) (ps : List (List ℕ)) → (PlainPieces (p ∷ ps) → allPlain s ≡ true) → PlainPieces (grow b (p ∷ ps)) → plain b
+        && allPlain s ≡ true
     more p ps ih x = let y = split (plain b) (allPlain p) (x .0) in both (plain b) (allPlain s) (y .0) (ih (y .1, x .1))
 
-    go : (t : Bool) → eqb b d ≡ t → (ps : List (List ℕ)) → Pieces ps → (PlainPieces ps → allPlain s ≡ true) → PlainPieces (cond t ([] ∷ ps) (grow b ps)) → plain b && allPlain s ≡ true
+    go : (t : Bool) → eqb b d ≡ t → (ps : List (List ℕ)) → Pieces ps → (PlainPieces ps → allPlain s ≡ true)
+        → PlainPieces (cond t ([] ∷ ps) (grow b ps)) → plain b && allPlain s ≡ true
     go true e ps c ih x = both (plain b) (allPlain s) (rw (eqb-true b d e) h) (ih (x .1))
     go false e [] c ih x = let q : [] ≡ c .first ∷ c .rest = c .are in let z : _≡_ {A = ℕ} 0 1 = cc in absurd (omega arith)
     go false e (p ∷ ps) c ih x = more p ps ih x
@@ -142,7 +144,8 @@ kind-plain : (w : List ℕ) (k : Kind) → kindOf w ≡ some k → allPlain w �
 unfolding kindOf allPlain singleWord multiWord
 kind-plain w k e = go (same w singleWord) refl (same w multiWord) refl e
   where
-    go : (a : Bool) → same w singleWord ≡ a → (b : Bool) → same w multiWord ≡ b → cond a (some Single) (cond b (some Multi) none) ≡ some k → allPlain w ≡ true
+    go : (a : Bool) → same w singleWord ≡ a → (b : Bool) → same w multiWord ≡ b → cond a (some Single) (cond b (some Multi) none) ≡ some k
+        → allPlain w ≡ true
     go true h b j x = rw (same-is w singleWord h)
     go false h true j x = rw (same-is w multiWord j)
     go false h false j x = let z : _≡_ {A = ℕ} 0 1 = cc in absurd (omega arith)
@@ -178,7 +181,8 @@ line-plain line x h = cut-plain 32 line refl (words (cut 32 line) h)
     words [] e = tt
     words (w ∷ ws) e = go (same w (40 ∷ tenderWord)) refl (same w (40 ∷ bidWord)) refl e
       where
-        go : (a : Bool) → same w (40 ∷ tenderWord) ≡ a → (b : Bool) → same w (40 ∷ bidWord) ≡ b → cond a (tenderOf ws) (cond b (bidOf ws) none) ≡ some x → PlainPieces (w ∷ ws)
+        go : (a : Bool) → same w (40 ∷ tenderWord) ≡ a → (b : Bool) → same w (40 ∷ bidWord) ≡ b
+            → cond a (tenderOf ws) (cond b (bidOf ws) none) ≡ some x → PlainPieces (w ∷ ws)
         go true h b j y = (rw (same-is w (40 ∷ tenderWord) h), tender-plain ws x y)
         go false h true j y = (rw (same-is w (40 ∷ bidWord) j), bid-plain ws x y)
         go false h false j y = let z : _≡_ {A = ℕ} 0 1 = cc in absurd (omega arith)

@@ -30,8 +30,10 @@ unfolding toNext cut
 cut-next d [] h = absurd (omega arith)
 cut-next d (b ∷ s) h = go (eqb b d) h (cut-next d s)
   where
-    go : (t : Bool) → cond t 0 (suc (toNext d s)) < suc (length s) → (toNext d s < length s → cut d s ≡ take (toNext d s) s ∷ cut d (drop (suc (toNext d s)) s)) →
-        cond t ([] ∷ cut d s) (grow b (cut d s)) ≡ take (cond t 0 (suc (toNext d s))) (b ∷ s) ∷ cut d (drop (suc (cond t 0 (suc (toNext d s)))) (b ∷ s))
+    go : (t : Bool) → cond t 0 (suc (toNext d s)) < suc (length s)
+        → (toNext d s < length s → cut d s ≡ take (toNext d s) s ∷ cut d (drop (suc (toNext d s)) s)) →
+        cond t ([] ∷ cut d s) (grow b (cut d s)) ≡ take (cond t 0 (suc (toNext d s))) (b ∷ s)
+        ∷ cut d (drop (suc (cond t 0 (suc (toNext d s)))) (b ∷ s))
     go true l ih = refl
     go false l ih = rw (ih (omega arith))
 
@@ -41,7 +43,8 @@ unfolding toNext cut
 cut-last d [] h = refl
 cut-last d (b ∷ s) h = go (eqb b d) h (cut-last d s)
   where
-    go : (t : Bool) → cond t 0 (suc (toNext d s)) ≡ suc (length s) → (toNext d s ≡ length s → cut d s ≡ s ∷ []) → cond t ([] ∷ cut d s) (grow b (cut d s)) ≡ (b ∷ s) ∷ []
+    go : (t : Bool) → cond t 0 (suc (toNext d s)) ≡ suc (length s) → (toNext d s ≡ length s → cut d s ≡ s ∷ [])
+        → cond t ([] ∷ cut d s) (grow b (cut d s)) ≡ (b ∷ s) ∷ []
     go true l ih = absurd (omega arith)
     go false l ih = rw (ih (omega arith))
 
@@ -54,7 +57,8 @@ pub next-here : (d : ℕ) (s : List ℕ) (i : ℕ) → i < length s → getD s i
 unfolding toNext
 next-here d s i h e = rw (drop-next s i h) (rw (eq-eqb (getD s i 0) d e))
 
-pub next-other : (d : ℕ) (s : List ℕ) (i : ℕ) → i < length s → (getD s i 0 ≡ d → ⊥) → i + toNext d (drop i s) ≡ i + 1 + toNext d (drop (i + 1) s)
+pub next-other : (d : ℕ) (s : List ℕ) (i : ℕ) → i < length s → (getD s i 0 ≡ d → ⊥)
+    → i + toNext d (drop i s) ≡ i + 1 + toNext d (drop (i + 1) s)
 unfolding toNext
 next-other d s i h e = rw (drop-next s i h) (rw (ne-eqb (getD s i 0) d e) (omega arith))
 
@@ -63,7 +67,8 @@ unfolding toNext
 next-end d s i h = rw (drop-of-length-le s h)
 
 -- the pieces from place i on, where e is the next place of a byte d
-pub cut-at : (d : ℕ) (s : List ℕ) (i e : ℕ) → i + toNext d (drop i s) ≡ e → e < length s → cut d (drop i s) ≡ take (e - i) (drop i s) ∷ cut d (drop (e + 1) s)
+pub cut-at : (d : ℕ) (s : List ℕ) (i e : ℕ) → i + toNext d (drop i s) ≡ e → e < length s
+    → cut d (drop i s) ≡ take (e - i) (drop i s) ∷ cut d (drop (e + 1) s)
 cut-at d s i e q h =
     let n : toNext d (drop i s) ≡ e - i = omega arith in
     let l : toNext d (drop i s) < length (drop i s) = rw length-drop (omega arith) in
@@ -75,7 +80,8 @@ pub cut-at-end : (d : ℕ) (s : List ℕ) (i : ℕ) → i ≤ length s → i + t
 cut-at-end d s i l q = cut-last d (drop i s) (rw length-drop (omega arith))
 
 -- lines from place i on
-pub lines-at : (s : List ℕ) (i e : ℕ) → i + toNext 10 (drop i s) ≡ e → e < length s → linesOf (cut 10 (drop i s)) ≡ lineOf (take (e - i) (drop i s)) ∷ linesOf (cut 10 (drop (e + 1) s))
+pub lines-at : (s : List ℕ) (i e : ℕ) → i + toNext 10 (drop i s) ≡ e → e < length s
+    → linesOf (cut 10 (drop i s)) ≡ lineOf (take (e - i) (drop i s)) ∷ linesOf (cut 10 (drop (e + 1) s))
 unfolding linesOf
 lines-at s i e q h = let c = cut-some 10 (drop (e + 1) s) in rw (cut-at 10 s i e q h, c .are)
 

@@ -29,7 +29,8 @@ cut-bytes d (b ∷ s) = go (eqb b d) (cut-some d s) (cut-bytes d s)
     grown : (ps : List (List ℕ)) → Pieces ps → bytesOf (grow b ps) ≡ bytesOf ps + 1
     grown ps c = rw (c .are) (omega arith)
 
-    go : (t : Bool) → Pieces (cut d s) → bytesOf (cut d s) ≡ length s + 1 → bytesOf (cond t ([] ∷ cut d s) (grow b (cut d s))) ≡ length (b ∷ s) + 1
+    go : (t : Bool) → Pieces (cut d s) → bytesOf (cut d s) ≡ length s + 1
+        → bytesOf (cond t ([] ∷ cut d s) (grow b (cut d s))) ≡ length (b ∷ s) + 1
     go true c e = omega arith
     go false c e = grown (cut d s) c ∙ omega arith
 
@@ -59,8 +60,10 @@ window-long s e w h =
     let a = then-some (opened s) _ w h in
     let z = then-some (closed e) _ w (a .2) in
     let n = then-some (numeralOf (a .0)) _ w (z .2) in
-    let m = then-some (numeralOf (z .0)) _ w (n .2) in
-    (omega (arith, opened-long s (a .0) (a .1), numeral-long (a .0) (n .0) (n .1)), omega (arith, closed-long e (z .0) (z .1), numeral-long (z .0) (m .0) (m .1)))
+    let m = then-some (numeralOf (z .0)) _ w (n .2) in (
+      omega (arith, opened-long s (a .0) (a .1), numeral-long (a .0) (n .0) (n .1)),
+      omega (arith, closed-long e (z .0) (z .1), numeral-long (z .0) (m .0) (m .1)),
+    )
 
 windows-long : (ws : List (List ℕ)) (l : List Window) → windowsIn ws ≡ some l → 6 * length l ≤ bytesOf ws
 unfolding windowsIn bytesOf

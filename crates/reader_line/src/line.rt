@@ -101,7 +101,8 @@ pub(crate) enum Tally {
 // The windows from `at` to the line's end: how many, and whether all are lawful. They are put into the rows from m on.
 fn read_windows(line: &[u8], at: usize, windows: &mut [u64], m: usize) -> Tally
     requires { ⌜ m ≤ 32000 ⌝ }
-    ensures { λ r. ⌜ toldTally r (now (windows .exit)) ≡ tallied m 0 true (now (windows .entry)) (windowsIn (cut 32 (drop at (now (line .entry))))) ⌝ }
+    ensures { λ r. ⌜ toldTally r (now (windows .exit))
+        ≡ tallied m 0 true (now (windows .entry)) (windowsIn (cut 32 (drop at (now (line .entry))))) ⌝ }
 {
     let mut n: usize = 0;
     let mut ok = true;

@@ -47,14 +47,19 @@ fn pay(
     all: u64,
 ) -> Paid
     requires { ⌜ Bids (now starts) (now ends) (now prices) (now order) ⌝ }
-    requires { ⌜ (length (now prices) ≤ 1000) × (length (now prices) ≤ length (now order)) × (length (now prices) ≤ length (now before)) × (length (now prices) ≤ length (now after)) × (length (now prices) ≤ length (now live)) × (length (now prices) ≤ length (now xs)) × (length (now prices) < length (now costs)) ⌝ }
+    requires { ⌜ (length (now prices) ≤ 1000) × (length (now prices) ≤ length (now order)) × (length (now prices) ≤ length (now before))
+        × (length (now prices) ≤ length (now after)) × (length (now prices) ≤ length (now live)) × (length (now prices) ≤ length (now xs))
+        × (length (now prices) < length (now costs)) ⌝ }
     requires { ⌜ (q < length (now prices)) × (sum (now prices) ≤ 100000000000) ⌝ }
-    requires { ⌜ (won ≡ when (bit (winnersOf (now starts) (now ends) (now prices) cells) (getD (now order) q 0)) 1) × (all ≡ cost (now prices) (winnersOf (now starts) (now ends) (now prices) cells)) ⌝ }
+    requires { ⌜ (won ≡ when (bit (winnersOf (now starts) (now ends) (now prices) cells) (getD (now order) q 0)) 1)
+        × (all ≡ cost (now prices) (winnersOf (now starts) (now ends) (now prices) cells)) ⌝ }
     requires { ⌜ ((i : ℕ) → i < length (now prices) → (getD (now starts) i 0 ≤ getD (now ends) i 0) × (getD (now ends) i 0 ≤ cells)) ⌝ }
     requires { ⌜ Before (now starts) (now ends) (now prices) (now before) × After (now starts) (now ends) (now prices) cells (now after) ⌝ }
     requires { ⌜ Waiting (now starts) (now ends) (now prices) (now order) (now live) q m ⌝ }
-    ensures { λ z. ⌜ z .cents ≡ paidOf (now (starts .entry)) (now (ends .entry)) (now (prices .entry)) cells (getD (now (order .entry)) q 0) ⌝ }
-    ensures { λ z. ⌜ Waiting (now (starts .entry)) (now (ends .entry)) (now (prices .entry)) (now (order .entry)) (now (live .exit)) q (z .live) ⌝ }
+    ensures { λ z. ⌜ z .cents ≡ paidOf (now (starts .entry)) (now (ends .entry)) (now (prices .entry)) cells
+        (getD (now (order .entry)) q 0) ⌝ }
+    ensures { λ z. ⌜ Waiting (now (starts .entry)) (now (ends .entry)) (now (prices .entry)) (now (order .entry)) (now (live .exit)) q
+        (z .live) ⌝ }
 {
     if won == 0 {
         return Paid { cents: 0, live: m };
@@ -99,12 +104,17 @@ fn pay_each(
     all: u64,
 )
     requires { ⌜ Bids (now starts) (now ends) (now prices) (now order) ⌝ }
-    requires { ⌜ (length (now prices) ≤ 1000) × (length (now prices) ≤ length (now order)) × (length (now prices) ≤ length (now before)) × (length (now prices) ≤ length (now after)) × (length (now prices) ≤ length (now live)) × (length (now prices) ≤ length (now xs)) × (length (now prices) < length (now costs)) ⌝ }
-    requires { ⌜ (length (now prices) ≤ length (now won)) × (length (now prices) ≤ length (now cents)) × (sum (now prices) ≤ 100000000000) × (all ≡ cost (now prices) (winnersOf (now starts) (now ends) (now prices) cells)) ⌝ }
-    requires { ⌜ ((i : ℕ) → i < length (now prices) → getD (now won) i 0 ≡ when (bit (winnersOf (now starts) (now ends) (now prices) cells) i) 1) ⌝ }
+    requires { ⌜ (length (now prices) ≤ 1000) × (length (now prices) ≤ length (now order)) × (length (now prices) ≤ length (now before))
+        × (length (now prices) ≤ length (now after)) × (length (now prices) ≤ length (now live)) × (length (now prices) ≤ length (now xs))
+        × (length (now prices) < length (now costs)) ⌝ }
+    requires { ⌜ (length (now prices) ≤ length (now won)) × (length (now prices) ≤ length (now cents)) × (sum (now prices) ≤ 100000000000)
+        × (all ≡ cost (now prices) (winnersOf (now starts) (now ends) (now prices) cells)) ⌝ }
+    requires { ⌜ ((i : ℕ) → i < length (now prices)
+        → getD (now won) i 0 ≡ when (bit (winnersOf (now starts) (now ends) (now prices) cells) i) 1) ⌝ }
     requires { ⌜ ((i : ℕ) → i < length (now prices) → (getD (now starts) i 0 ≤ getD (now ends) i 0) × (getD (now ends) i 0 ≤ cells)) ⌝ }
     requires { ⌜ Before (now starts) (now ends) (now prices) (now before) × After (now starts) (now ends) (now prices) cells (now after) ⌝ }
-    ensures { λ z. ⌜ Written (paidOf (now (starts .entry)) (now (ends .entry)) (now (prices .entry)) cells) (now (cents .entry)) (now (cents .exit)) (length (now (prices .entry))) ⌝ }
+    ensures { λ z. ⌜ Written (paidOf (now (starts .entry)) (now (ends .entry)) (now (prices .entry)) cells) (now (cents .entry))
+        (now (cents .exit)) (length (now (prices .entry))) ⌝ }
 {
     let n = prices.len();
     let mut m: usize = 0;
@@ -163,12 +173,16 @@ fn payments(
     all: u64,
 )
     requires { ⌜ Bids (now starts) (now ends) (now prices) (now order) ⌝ }
-    requires { ⌜ (length (now prices) ≤ 1000) × (length (now prices) ≤ length (now order)) × (length (now prices) ≤ length (now before)) × (cells ≤ 10080) ⌝ }
-    requires { ⌜ (length (now prices) ≤ length (now won)) × (length (now prices) ≤ length (now cents)) × (sum (now prices) ≤ 100000000000) × (all ≡ cost (now prices) (winnersOf (now starts) (now ends) (now prices) cells)) ⌝ }
-    requires { ⌜ ((i : ℕ) → i < length (now prices) → getD (now won) i 0 ≡ when (bit (winnersOf (now starts) (now ends) (now prices) cells) i) 1) ⌝ }
+    requires { ⌜ (length (now prices) ≤ 1000) × (length (now prices) ≤ length (now order)) × (length (now prices) ≤ length (now before))
+        × (cells ≤ 10080) ⌝ }
+    requires { ⌜ (length (now prices) ≤ length (now won)) × (length (now prices) ≤ length (now cents)) × (sum (now prices) ≤ 100000000000)
+        × (all ≡ cost (now prices) (winnersOf (now starts) (now ends) (now prices) cells)) ⌝ }
+    requires { ⌜ ((i : ℕ) → i < length (now prices)
+        → getD (now won) i 0 ≡ when (bit (winnersOf (now starts) (now ends) (now prices) cells) i) 1) ⌝ }
     requires { ⌜ ((i : ℕ) → i < length (now prices) → (getD (now starts) i 0 ≤ getD (now ends) i 0) × (getD (now ends) i 0 ≤ cells)) ⌝ }
     requires { ⌜ Before (now starts) (now ends) (now prices) (now before) ⌝ }
-    ensures { λ z. ⌜ Written (paidOf (now (starts .entry)) (now (ends .entry)) (now (prices .entry)) cells) (now (cents .entry)) (now (cents .exit)) (length (now (prices .entry))) ⌝ }
+    ensures { λ z. ⌜ Written (paidOf (now (starts .entry)) (now (ends .entry)) (now (prices .entry)) cells) (now (cents .entry))
+        (now (cents .exit)) (length (now (prices .entry))) ⌝ }
 {
     // ones, not zeros: the compiler writes these in wide stores
     let mut later = [1u64; 1001];
@@ -202,11 +216,15 @@ pub fn award(
     won: &mut [u64],
     cents: &mut [u64],
 ) -> tender::Totals
-    requires { ⌜ (length (now prices) ≤ 1000) × (length (now starts) ≡ length (now prices)) × (length (now ends) ≡ length (now prices)) × (0 < cells) × (cells ≤ 10080) ⌝ }
+    requires { ⌜ (length (now prices) ≤ 1000) × (length (now starts) ≡ length (now prices)) × (length (now ends) ≡ length (now prices))
+        × (0 < cells) × (cells ≤ 10080) ⌝ }
     requires { ⌜ (length (now prices) ≤ length (now won)) × (length (now prices) ≤ length (now cents)) ⌝ }
     requires { ⌜ ((i : ℕ) → i < length (now prices) → (getD (now starts) i 0 ≤ getD (now ends) i 0) × (getD (now ends) i 0 ≤ cells)) ⌝ }
     requires { ⌜ ((i : ℕ) → i < length (now prices) → getD (now prices) i 0 ≤ 100000000) ⌝ }
-    ensures { λ r. ⌜ Settled (λ i. bit (winners (covers (spans (now (starts .entry)) (now (ends .entry))) (length (now (prices .entry))) cells) (now (prices .entry))) i) (vcgPaid (covers (spans (now (starts .entry)) (now (ends .entry))) (length (now (prices .entry))) cells) (now (prices .entry))) (now (prices .entry)) (now (won .entry)) (now (cents .entry)) (now (won .exit)) (now (cents .exit)) (r .cost) (r .paid) ⌝ }
+    ensures { λ r. ⌜ Settled (λ i. bit (winners (covers (spans (now (starts .entry)) (now (ends .entry))) (length (now (prices .entry)))
+        cells) (now (prices .entry))) i) (vcgPaid (covers (spans (now (starts .entry)) (now (ends .entry))) (length (now (prices .entry)))
+        cells) (now (prices .entry))) (now (prices .entry)) (now (won .entry)) (now (cents .entry)) (now (won .exit)) (now (cents .exit))
+        (r .cost) (r .paid) ⌝ }
 {
     let n = prices.len();
     // ones, not zeros: the compiler writes these in wide stores

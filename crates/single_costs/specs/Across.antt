@@ -26,7 +26,8 @@ joinAt ps xs costs after j = joined (getD costs (getD xs j 0) 0) (getD after (ge
 -- the least of them at the places below j whose bids reach t
 unfoldable pub leastAcross : List ℕ → List ℕ → List ℕ → List ℕ → List ℕ → List ℕ → ℕ → ℕ → Found
 unfolding scanCost reaches costIn
-leastAcross a b ps xs costs after t j = scanCost (reaches (λ i. getD a i 0) (λ i. getD b i 0) anyBid (λ q. getD xs q 0) t) (λ q. costIn (joinAt ps xs costs after q)) j
+leastAcross a b ps xs costs after t j = scanCost (reaches (λ i. getD a i 0) (λ i. getD b i 0) anyBid (λ q. getD xs q 0) t)
+    (λ q. costIn (joinAt ps xs costs after q)) j
 
 -- each bid's cost with what comes before it, and with what comes after it
 abbrev pub Before : List ℕ → List ℕ → List ℕ → List ℕ → Type 0

@@ -1,4 +1,5 @@
--- The least costs without bid k, over the bids in order of start: what the records of the run say. k is no bid's number where none is left out.
+-- The least costs without bid k, over the bids in order of start: what the records of the run say. k is no bid's number where
+-- none is left out.
 use mathlib.Core.Path.{_≡_}
 use mathlib.Core.Bool.{cond}
 use mathlib.Core.List.{List}
@@ -19,7 +20,8 @@ cheaper costs q r = cond (ltb (getD costs q 0) (getD costs r 0)) q r
 -- the least cost at the places below j of xs whose bids reach t
 unfoldable pub leastCost : List ℕ → List ℕ → List ℕ → List ℕ → ℕ → ℕ → Found
 unfolding scanCost reaches costIn
-leastCost a b xs costs t j = scanCost (reaches (λ i. getD a i 0) (λ i. getD b i 0) anyBid (λ q. getD xs q 0) t) (λ q. costIn (getD costs (getD xs q 0) 0)) j
+leastCost a b xs costs t j = scanCost (reaches (λ i. getD a i 0) (λ i. getD b i 0) anyBid (λ q. getD xs q 0) t)
+    (λ q. costIn (getD costs (getD xs q 0) 0)) j
 
 -- what the scan of the places below j has found: bid r, or n for none
 pub record Seen (a b xs costs : List ℕ) (n t j r : ℕ) : Type 0 where

@@ -37,11 +37,13 @@ pub seen-none : (a b xs costs : List ℕ) (n t : ℕ) → getD costs n 0 ≡ noC
 unfolding leastCost scanCost costIn
 seen-none a b xs costs n t e = record { within = omega arith; found-at = λ d. absurd (d refl); priced = λ d. refl; least = rw e }
 
-module _ (a b xs costs : List ℕ) (n t j r : ℕ) (f : (q : ℕ) → getD costs q 0 ≤ noCost) (i : getD xs j 0 < n) (h : Seen a b xs costs n t j r) where
+module _ (a b xs costs : List ℕ) (n t j r : ℕ) (f : (q : ℕ) → getD costs q 0 ≤ noCost) (i : getD xs j 0 < n)
+    (h : Seen a b xs costs n t j r) where
   abbrev q : ℕ
   q = getD xs j 0
 
-  next-priced : (c z : Bool) → ltb (getD costs q 0) (getD costs r 0) ≡ z → getD costs (cond c (cond z q r) r) 0 ≡ noCost → cond c (cond z q r) r ≡ n
+  next-priced : (c z : Bool) → ltb (getD costs q 0) (getD costs r 0) ≡ z → getD costs (cond c (cond z q r) r) 0 ≡ noCost
+      → cond c (cond z q r) r ≡ n
   next-priced false z e d = h .priced d
   next-priced true true e d = absurd (omega (arith, ltb-true (getD costs q 0) (getD costs r 0) e, f r))
   next-priced true false e d = h .priced d
@@ -50,51 +52,62 @@ module _ (a b xs costs : List ℕ) (n t j r : ℕ) (f : (q : ℕ) → getD costs
   cost-of true = refl
   cost-of false = refl
 
-  next-least : (c : Bool) → ltb (getD a q 0) t && leb t (getD b q 0) ≡ c → costIn (getD costs (cond c (cheaper costs q r) r) 0) ≡ leastCost a b xs costs t (suc j)
+  next-least : (c : Bool) → ltb (getD a q 0) t && leb t (getD b q 0) ≡ c
+      → costIn (getD costs (cond c (cheaper costs q r) r) 0) ≡ leastCost a b xs costs t (suc j)
   unfolding leastCost scanCost reaches cheaper
-  next-least true e = rw e (cost-of (ltb (getD costs q 0) (getD costs r 0)) ∙ cost-least (getD costs q 0) (getD costs r 0) (f q) (f r) ∙ ap (lesserCost (costIn (getD costs q 0))) (h .least))
+  next-least true e = rw e (cost-of (ltb (getD costs q 0) (getD costs r 0)) ∙ cost-least (getD costs q 0) (getD costs r 0) (f q) (f r)
+      ∙ ap (lesserCost (costIn (getD costs q 0))) (h .least))
   next-least false e = rw e (h .least)
 
   pub seen-more : Seen a b xs costs n t (j + 1) (reached (getD a q 0) (getD b q 0) t (cheaper costs q r) r)
   unfolding reached cheaper
   seen-more = record {
-    within = next-within a b xs n t j r i (h .within) (h .found-at) (ltb (getD a q 0) t && leb t (getD b q 0)) (ltb (getD costs q 0) (getD costs r 0));
-    found-at = next-found a b xs n t j r i (h .within) (h .found-at) (ltb (getD a q 0) t && leb t (getD b q 0)) refl (ltb (getD costs q 0) (getD costs r 0));
+    within = next-within a b xs n t j r i (h .within) (h .found-at) (ltb (getD a q 0) t && leb t (getD b q 0))
+        (ltb (getD costs q 0) (getD costs r 0));
+    found-at = next-found a b xs n t j r i (h .within) (h .found-at) (ltb (getD a q 0) t && leb t (getD b q 0)) refl
+        (ltb (getD costs q 0) (getD costs r 0));
     priced = next-priced (ltb (getD a q 0) t && leb t (getD b q 0)) (ltb (getD costs q 0) (getD costs r 0)) refl;
     least = let z : j + 1 ≡ suc j = omega arith in rw z (next-least (ltb (getD a q 0) t && leb t (getD b q 0)) refl);
   }
 
 -- the lead
 
-end-found : (k : ℕ) (a b ps : List ℕ) (i c : ℕ) → endCost k a b ps i ≡ found c → (eqb i k ≡ false) × (endCost k a b ps i ≡ raise (getD ps i 0) (costWithout k a b ps (getD a i 0)))
+end-found : (k : ℕ) (a b ps : List ℕ) (i c : ℕ) → endCost k a b ps i ≡ found c → (eqb i k ≡ false)
+    × (endCost k a b ps i ≡ raise (getD ps i 0) (costWithout k a b ps (getD a i 0)))
 unfolding endCost
 end-found k a b ps i c e = go (eqb i k) refl e
   where
     go : (s : Bool) → eqb i k ≡ s → cond s nothing (raise (getD ps i 0) (costWithout k a b ps (getD a i 0))) ≡ found c
-        → (eqb i k ≡ false) × (cond (eqb i k) nothing (raise (getD ps i 0) (costWithout k a b ps (getD a i 0))) ≡ raise (getD ps i 0) (costWithout k a b ps (getD a i 0)))
+        → (eqb i k ≡ false) × (cond (eqb i k) nothing (raise (getD ps i 0) (costWithout k a b ps (getD a i 0)))
+        ≡ raise (getD ps i 0) (costWithout k a b ps (getD a i 0)))
     go true g d = absurd (none-found d)
     go false g d = (g, rw g)
 
-module _ (k : ℕ) (a b ps order costs live : List ℕ) (h : Bids a b ps order) (from q m c end stop : ℕ) (fit : q ≤ length ps) (g : Running k a b ps order costs live from q m c end stop) where
+module _ (k : ℕ) (a b ps order costs live : List ℕ) (h : Bids a b ps order) (from q m c end stop : ℕ) (fit : q ≤ length ps)
+    (g : Running k a b ps order costs live from q m c end stop) where
   pub live-below : (j : ℕ) → j < m → getD live j 0 < length ps
   live-below j l = let y = g .reach .inside j l in rw (y .is) at (h .sorted .bids (y .place) (omega (arith, y .inside)))
 
   value-at : (j : ℕ) → j < m → costIn (getD costs (getD live j 0) 0) ≡ endCost k a b ps (getD live j 0)
   value-at j l = g .values (getD live j 0) (record { place = j; inside = l; is = refl })
 
-  seen-least : (t r : ℕ) → 0 < t → g .at ≤ t → ((i : ℕ) → i < length ps → getD a i 0 < t → On order q i) → Seen a b live costs (length ps) t m r → costIn (getD costs r 0) ≡ costWithout k a b ps t
+  seen-least : (t r : ℕ) → 0 < t → g .at ≤ t → ((i : ℕ) → i < length ps → getD a i 0 < t → On order q i)
+      → Seen a b live costs (length ps) t m r → costIn (getD costs r 0) ≡ costWithout k a b ps t
   unfolding leastCost
-  seen-least t r z d all s = s .least ∙ scan-without k a b ps (λ j. getD live j 0) (λ j. costIn (getD costs (getD live j 0) 0)) m t z live-below
+  seen-least t r z d all s = s .least ∙ scan-without k a b ps (λ j. getD live j 0) (λ j. costIn (getD costs (getD live j 0) 0)) m t z
+      live-below
       (λ i l u e. let y = all i l u in rw (y .is) at (g .reach .every (y .place) (y .inside) (rw (y .is) (omega arith)))) value-at
 
-  least-lasts : (t r u : ℕ) → (r ≡ length ps → ⊥) → Seen a b live costs (length ps) t m r → t ≤ u → u ≤ getD b r 0 → costIn (getD costs r 0) ≡ costWithout k a b ps t → costIn (getD costs r 0) ≡ costWithout k a b ps u
+  least-lasts : (t r u : ℕ) → (r ≡ length ps → ⊥) → Seen a b live costs (length ps) t m r → t ≤ u → u ≤ getD b r 0
+      → costIn (getD costs r 0) ≡ costWithout k a b ps t → costIn (getD costs r 0) ≡ costWithout k a b ps u
   unfolding costWithout others
   least-lasts t r u d s l e w =
       let p = s .found-at d in
       let o : r < length ps = rw (p .at .is) at (live-below (p .at .place) (p .at .inside)) in
       let v : costIn (getD costs r 0) ≡ endCost k a b ps r = g .values r (p .at) in
       let f = end-found k a b ps r (getD costs r 0) (sym v ∙ cost-found (getD costs r 0) (λ z. d (s .priced z))) in
-      w ∙ stays-cost (length ps) 0 u (λ i. getD a i 0) (λ i. getD b i 0) (λ i. getD ps i 0) (cost ps) (others k anyBid) (othersBelow k a b (length ps)) (prefixes-without k a b ps u) (priced ps)
+      w ∙ stays-cost (length ps) 0 u (λ i. getD a i 0) (λ i. getD b i 0) (λ i. getD ps i 0) (cost ps) (others k anyBid)
+      (othersBelow k a b (length ps)) (prefixes-without k a b ps u) (priced ps)
       r t u o (rw (f .0)) (p .begins) l e (omega arith) (sym w ∙ v ∙ f .1)
 
 -- the lead is known for t
@@ -108,7 +121,8 @@ pub record Ready (k : ℕ) (a b ps order costs live : List ℕ) (q t m c end : �
 
 pub led-ready : (k : ℕ) (a b ps order costs old live : List ℕ) (h : Bids a b ps order) (from q m c end stop c′ end′ m′ : ℕ) → q < length ps
     → Running k a b ps order costs old from q m c end stop
-    → Led a b old live costs (length ps) (getD a (getD order q 0) 0) c end m c′ end′ m′ → Ready k a b ps order costs live q (getD a (getD order q 0) 0) m′ c′ end′
+    → Led a b old live costs (length ps) (getD a (getD order q 0) 0) c end m c′ end′ m′
+    → Ready k a b ps order costs live q (getD a (getD order q 0) 0) m′ c′ end′
 led-ready k a b ps order costs old live h from q m c end stop c′ end′ m′ fit g (same d e1 e2 e3 e4) = record {
   at = g .at;
   early = g .early q (omega arith) fit;
@@ -121,7 +135,8 @@ led-ready k a b ps order costs old live h from q m c end stop c′ end′ m′ f
   at = t;
   early = omega arith;
   reach = live-thinned order b old live q m (g .at) t m′ low (g .reach) (v .thinned);
-  values = λ i y. let z = v .thinned .from (y .place) (y .inside) in g .values i (record { place = z .place; inside = z .inside; is = z .is ∙ y .is });
+  values = λ i y. let z = v .thinned .from (y .place) (y .inside) in
+      g .values i (record { place = z .place; inside = z .inside; is = z .is ∙ y .is });
   lasts = λ u x y. rw (v .cost-is) (go (eqb (v .bid) (length ps)) refl u x y);
   now = rw (v .cost-is) least;
 }
@@ -133,11 +148,13 @@ led-ready k a b ps order costs old live h from q m c end stop c′ end′ m′ f
     low = g .early q (omega arith) fit
 
     least : costIn (getD costs (v .bid) 0) ≡ costWithout k a b ps t
-    least = seen-least k a b ps order costs old h from q m c end stop (omega arith) g t (v .bid) (omega arith) low (λ i l e. ready (length ps) (λ i. getD a i 0) (λ q. getD order q 0) (h .sorted) q fit i l e) (v .seen)
+    least = seen-least k a b ps order costs old h from q m c end stop (omega arith) g t (v .bid) (omega arith) low
+        (λ i l e. ready (length ps) (λ i. getD a i 0) (λ q. getD order q 0) (h .sorted) q fit i l e) (v .seen)
 
     go : (s : Bool) → eqb (v .bid) (length ps) ≡ s → (u : ℕ) → t ≤ u → u ≤ end′ → costIn (getD costs (v .bid) 0) ≡ costWithout k a b ps u
     go true e u x y = absurd (omega (arith, v .end-is, end-none b (length ps) (v .bid) (eqb-true (v .bid) (length ps) e)))
-    go false e u x y = least-lasts k a b ps order costs old h from q m c end stop (omega arith) g t (v .bid) u (eqb-false (v .bid) (length ps) e) (v .seen) x
+    go false e u x y = least-lasts k a b ps order costs old h from q m c end stop (omega arith) g t (v .bid) u
+        (eqb-false (v .bid) (length ps) e) (v .seen) x
         (omega (arith, v .end-is, end-some b (length ps) (v .bid) (eqb-false (v .bid) (length ps) e))) least
 
 -- the turn
@@ -150,20 +167,25 @@ pub entry-some : (i k c p : ℕ) → (i ≡ k → ⊥) → raised c p ≡ entry 
 unfolding entry
 entry-some i k c p e = rw (ne-eqb i k e)
 
-pub ready-fits : (k : ℕ) (a b ps order costs live : List ℕ) (h : Bids a b ps order) (q m c end : ℕ) → q < length ps → sum ps < noCost → Ready k a b ps order costs live q (getD a (getD order q 0) 0) m c end
+pub ready-fits : (k : ℕ) (a b ps order costs live : List ℕ) (h : Bids a b ps order) (q m c end : ℕ) → q < length ps → sum ps < noCost
+    → Ready k a b ps order costs live q (getD a (getD order q 0) 0) m c end
     → (c ≡ noCost → ⊥) → c + getD ps (getD order q 0) 0 < noCost
-ready-fits k a b ps order costs live h q m c end l rich g n = omega (arith, fits-without k a b ps (getD order q 0) c (h .sorted .bids q l) (sym (g .now) ∙ cost-found c n))
+ready-fits k a b ps order costs live h q m c end l rich g n =
+    omega (arith, fits-without k a b ps (getD order q 0) c (h .sorted .bids q l) (sym (g .now) ∙ cost-found c n))
 
-cost-entry : (k : ℕ) (a b ps : List ℕ) (i c : ℕ) → ((c ≡ noCost → ⊥) → c + getD ps i 0 < noCost) → costIn c ≡ costWithout k a b ps (getD a i 0) → costIn (entry i k c (getD ps i 0)) ≡ endCost k a b ps i
+cost-entry : (k : ℕ) (a b ps : List ℕ) (i c : ℕ) → ((c ≡ noCost → ⊥) → c + getD ps i 0 < noCost)
+    → costIn c ≡ costWithout k a b ps (getD a i 0) → costIn (entry i k c (getD ps i 0)) ≡ endCost k a b ps i
 unfolding entry endCost costIn
 cost-entry k a b ps i c f e = go (eqb i k)
   where
-    go : (s : Bool) → costIn (cond s noCost (raised c (getD ps i 0))) ≡ cond s nothing (raise (getD ps i 0) (costWithout k a b ps (getD a i 0)))
+    go : (s : Bool) → costIn (cond s noCost (raised c (getD ps i 0)))
+        ≡ cond s nothing (raise (getD ps i 0) (costWithout k a b ps (getD a i 0)))
     go true = refl
     go false = cost-raised c (getD ps i 0) f ∙ ap (raise (getD ps i 0)) e
 
 -- a value for bid i as well
-value-more : (k : ℕ) (a b ps costs : List ℕ) (i v : ℕ) → i < length costs → costIn v ≡ endCost k a b ps i → (z : ℕ) → ((z ≡ i → ⊥) → costIn (getD costs z 0) ≡ endCost k a b ps z) → costIn (getD (set costs i v) z 0) ≡ endCost k a b ps z
+value-more : (k : ℕ) (a b ps costs : List ℕ) (i v : ℕ) → i < length costs → costIn v ≡ endCost k a b ps i → (z : ℕ)
+    → ((z ≡ i → ⊥) → costIn (getD costs z 0) ≡ endCost k a b ps z) → costIn (getD (set costs i v) z 0) ≡ endCost k a b ps z
 value-more k a b ps costs i v l e z f = go (eqb z i) refl
   where
     go : (s : Bool) → eqb z i ≡ s → costIn (getD (set costs i v) z 0) ≡ endCost k a b ps z
@@ -171,7 +193,11 @@ value-more k a b ps costs i v l e z f = go (eqb z i) refl
     go false d = rw (getD-set-other costs i z v 0 (eqb-false z i d)) (f (eqb-false z i d))
 
 pub on-more : (live : List ℕ) (m i z : ℕ) → m < length live → On (set live m i) (m + 1) z → (z ≡ i → ⊥) → On live m z
-on-more live m i z l y n = record { place = y .place; inside = less (eqb (y .place) m) refl; is = sym (getD-set-other live m (y .place) i 0 other) ∙ y .is }
+on-more live m i z l y n = record {
+  place = y .place;
+  inside = less (eqb (y .place) m) refl;
+  is = sym (getD-set-other live m (y .place) i 0 other) ∙ y .is;
+}
   where
     other : y .place ≡ m → ⊥
     other e = n (sym (y .is) ∙ ap (λ x. getD (set live m i) x 0) e ∙ getD-set-same live m i 0 l)
@@ -180,11 +206,13 @@ on-more live m i z l y n = record { place = y .place; inside = less (eqb (y .pla
     less true e = absurd (other (eqb-true (y .place) m e))
     less false e = omega (arith, y .inside, eqb-false (y .place) m e)
 
-pub turn : (k : ℕ) (a b ps order costs live : List ℕ) (h : Bids a b ps order) (from q m c end stop : ℕ) → q < length ps → sum ps < noCost → length ps ≤ length costs → m < length live
+pub turn : (k : ℕ) (a b ps order costs live : List ℕ) (h : Bids a b ps order) (from q m c end stop : ℕ) → q < length ps → sum ps < noCost
+    → length ps ≤ length costs → m < length live
     → getD a (getD order q 0) 0 ≤ stop → getD costs (length ps) 0 ≡ noCost
     → ((j : ℕ) → from ≤ j → j < q → costIn (getD costs (getD order j 0) 0) ≡ endCost k a b ps (getD order j 0))
     → Ready k a b ps order costs live q (getD a (getD order q 0) 0) m c end
-    → Running k a b ps order (set costs (getD order q 0) (entry (getD order q 0) k c (getD ps (getD order q 0) 0))) (set live m (getD order q 0)) from (q + 1) (m + 1) c end stop
+    → Running k a b ps order (set costs (getD order q 0) (entry (getD order q 0) k c (getD ps (getD order q 0) 0)))
+    (set live m (getD order q 0)) from (q + 1) (m + 1) c end stop
 turn k a b ps order costs live h from q m c end stop l rich fit u low guard done g = record {
   at = g .at;
   low = omega (arith, g .early);
@@ -214,7 +242,8 @@ turn k a b ps order costs live h from q m c end stop l rich fit u low guard done
 
 -- where the run ends
 
-pub ran-stop : (k : ℕ) (a b ps order costs live : List ℕ) (h : Bids a b ps order) (from q m c end stop : ℕ) → q < length ps → stop ≤ getD a (getD order q 0) 0
+pub ran-stop : (k : ℕ) (a b ps order costs live : List ℕ) (h : Bids a b ps order) (from q m c end stop : ℕ) → q < length ps
+    → stop ≤ getD a (getD order q 0) 0
     → Running k a b ps order costs live from q m c end stop → Ran k a b ps order costs live from stop m
 ran-stop k a b ps order costs live h from q m c end stop l d g = record {
   pos = q;

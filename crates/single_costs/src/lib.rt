@@ -56,11 +56,15 @@ fn least_across(
     m: usize,
     t: u64,
 ) -> u64
-    requires { ⌜ (m ≤ length (now live)) × (length (now prices) ≤ length (now starts)) × (length (now prices) ≤ length (now ends)) × (length (now prices) ≤ length (now costs)) × (length (now prices) ≤ length (now after)) ⌝ }
+    requires { ⌜ (m ≤ length (now live)) × (length (now prices) ≤ length (now starts)) × (length (now prices) ≤ length (now ends))
+        × (length (now prices) ≤ length (now costs)) × (length (now prices) ≤ length (now after)) ⌝ }
     requires { ⌜ ((j : ℕ) → j < m → getD (now live) j 0 < length (now prices)) ⌝ }
-    requires { ⌜ ((j : ℕ) → j < m → (getD (now costs) (getD (now live) j 0) 0 ≡ 18446744073709551615 → ⊥) → getD (now costs) (getD (now live) j 0) 0 ≤ 100000000000) ⌝ }
-    requires { ⌜ ((i : ℕ) → i < length (now prices) → (getD (now after) i 0 ≡ 18446744073709551615 → ⊥) → (getD (now prices) i 0 ≤ getD (now after) i 0) × (getD (now after) i 0 ≤ 100000000000 + getD (now prices) i 0)) ⌝ }
-    ensures { λ r. ⌜ costIn r ≡ leastAcross (now (starts .entry)) (now (ends .entry)) (now (prices .entry)) (now (live .entry)) (now (costs .entry)) (now (after .entry)) t m ⌝ }
+    requires { ⌜ ((j : ℕ) → j < m → (getD (now costs) (getD (now live) j 0) 0 ≡ 18446744073709551615 → ⊥)
+        → getD (now costs) (getD (now live) j 0) 0 ≤ 100000000000) ⌝ }
+    requires { ⌜ ((i : ℕ) → i < length (now prices) → (getD (now after) i 0 ≡ 18446744073709551615 → ⊥)
+        → (getD (now prices) i 0 ≤ getD (now after) i 0) × (getD (now after) i 0 ≤ 100000000000 + getD (now prices) i 0)) ⌝ }
+    ensures { λ r. ⌜ costIn r ≡ leastAcross (now (starts .entry)) (now (ends .entry)) (now (prices .entry)) (now (live .entry))
+        (now (costs .entry)) (now (after .entry)) t m ⌝ }
 {
     let mut r: u64 = single_select::NONE;
     let mut j = 0;
@@ -84,8 +88,10 @@ fn begin(
     t: u64,
 ) -> usize
     requires { ⌜ (m ≤ length (now live)) × (m ≤ length (now xs)) × (m < 1000000) ⌝ }
-    requires { ⌜ ((j : ℕ) → j < m → (getD (now live) j 0 < length (now ends)) × (getD (now live) j 0 < length (now before)) × (getD (now live) j 0 < length (now costs))) ⌝ }
-    ensures { λ x. ⌜ Begun (now (ends .entry)) (now (live .entry)) (now (live .exit)) (now (before .entry)) (now (xs .exit)) (now (costs .exit)) t m x ⌝ }
+    requires { ⌜ ((j : ℕ) → j < m → (getD (now live) j 0 < length (now ends)) × (getD (now live) j 0 < length (now before))
+        × (getD (now live) j 0 < length (now costs))) ⌝ }
+    ensures { λ x. ⌜ Begun (now (ends .entry)) (now (live .entry)) (now (live .exit)) (now (before .entry)) (now (xs .exit))
+        (now (costs .exit)) t m x ⌝ }
 {
     let mut x: usize = 0;
     let mut j: usize = 0;
@@ -122,13 +128,17 @@ pub fn without(
     cells: u64,
 ) -> Rest
     requires { ⌜ Bids (now starts) (now ends) (now prices) (now order) ⌝ }
-    requires { ⌜ (length (now prices) ≤ 1000) × (length (now prices) ≤ length (now order)) × (length (now prices) ≤ length (now before)) × (length (now prices) ≤ length (now after)) × (length (now prices) ≤ length (now live)) × (length (now prices) ≤ length (now xs)) × (length (now prices) < length (now costs)) ⌝ }
+    requires { ⌜ (length (now prices) ≤ 1000) × (length (now prices) ≤ length (now order)) × (length (now prices) ≤ length (now before))
+        × (length (now prices) ≤ length (now after)) × (length (now prices) ≤ length (now live)) × (length (now prices) ≤ length (now xs))
+        × (length (now prices) < length (now costs)) ⌝ }
     requires { ⌜ (q < length (now prices)) × (sum (now prices) ≤ 100000000000) × (0 < getD (now ends) (getD (now order) q 0) 0) ⌝ }
     requires { ⌜ ((i : ℕ) → i < length (now prices) → (getD (now starts) i 0 ≤ getD (now ends) i 0) × (getD (now ends) i 0 ≤ cells)) ⌝ }
     requires { ⌜ Before (now starts) (now ends) (now prices) (now before) × After (now starts) (now ends) (now prices) cells (now after) ⌝ }
     requires { ⌜ Waiting (now starts) (now ends) (now prices) (now order) (now live) q m ⌝ }
-    ensures { λ z. ⌜ z .cost ≡ valueOf (costWithout (getD (now (order .entry)) q 0) (now (starts .entry)) (now (ends .entry)) (now (prices .entry)) cells) ⌝ }
-    ensures { λ z. ⌜ Waiting (now (starts .entry)) (now (ends .entry)) (now (prices .entry)) (now (order .entry)) (now (live .exit)) q (z .live) ⌝ }
+    ensures { λ z. ⌜ z .cost ≡ valueOf (costWithout (getD (now (order .entry)) q 0) (now (starts .entry)) (now (ends .entry))
+        (now (prices .entry)) cells) ⌝ }
+    ensures { λ z. ⌜ Waiting (now (starts .entry)) (now (ends .entry)) (now (prices .entry)) (now (order .entry)) (now (live .exit)) q
+        (z .live) ⌝ }
 {
     let n = prices.len();
     let k = order[q];
@@ -162,7 +172,8 @@ fn mirror(starts: &[u64], ends: &[u64], n: usize, cells: u64, x: &mut [u64], y: 
 
 // The cost of each bid with what comes after it.
 pub fn after(starts: &[u64], ends: &[u64], prices: &[u64], cells: u64, costs: &mut [u64])
-    requires { ⌜ (length (now prices) ≤ 1000) × (length (now prices) ≤ length (now starts)) × (length (now prices) ≤ length (now ends)) × (length (now prices) < length (now costs)) ⌝ }
+    requires { ⌜ (length (now prices) ≤ 1000) × (length (now prices) ≤ length (now starts)) × (length (now prices) ≤ length (now ends))
+        × (length (now prices) < length (now costs)) ⌝ }
     requires { ⌜ (cells ≤ 10080) × (sum (now prices) < 18446744073709551615) ⌝ }
     requires { ⌜ ((i : ℕ) → i < length (now prices) → (getD (now starts) i 0 ≤ getD (now ends) i 0) × (getD (now ends) i 0 ≤ cells)) ⌝ }
     ensures { λ r. ⌜ After (now (starts .entry)) (now (ends .entry)) (now (prices .entry)) cells (now (costs .exit)) ⌝ }

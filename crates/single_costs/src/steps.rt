@@ -48,10 +48,12 @@ fn renew(
     m: usize,
     t: u64,
 ) -> Lead
-    requires { ⌜ (m ≤ length (now live)) × (m < 1000000) × (n < length (now costs)) × (n ≤ length (now starts)) × (n ≤ length (now ends)) ⌝ }
+    requires { ⌜ (m ≤ length (now live)) × (m < 1000000) × (n < length (now costs)) × (n ≤ length (now starts))
+        × (n ≤ length (now ends)) ⌝ }
     requires { ⌜ ((j : ℕ) → j < m → getD (now live) j 0 < n) ⌝ }
     requires { ⌜ getD (now costs) n 0 ≡ 18446744073709551615 ⌝ }
-    ensures { λ z. ⌜ Renewed (now (starts .entry)) (now (ends .entry)) (now (live .entry)) (now (live .exit)) (now (costs .entry)) n t m (z .cost) (z .end) (z .live) ⌝ }
+    ensures { λ z. ⌜ Renewed (now (starts .entry)) (now (ends .entry)) (now (live .entry)) (now (live .exit)) (now (costs .entry)) n t m
+        (z .cost) (z .end) (z .live) ⌝ }
 {
     let mut x: usize = 0;
     let mut r = n;
@@ -82,10 +84,12 @@ fn lead_at(
     lead: Lead,
     t: u64,
 ) -> Lead
-    requires { ⌜ (lead .live ≤ length (now live)) × (lead .live < 1000000) × (n < length (now costs)) × (n ≤ length (now starts)) × (n ≤ length (now ends)) ⌝ }
+    requires { ⌜ (lead .live ≤ length (now live)) × (lead .live < 1000000) × (n < length (now costs)) × (n ≤ length (now starts))
+        × (n ≤ length (now ends)) ⌝ }
     requires { ⌜ ((j : ℕ) → j < lead .live → getD (now live) j 0 < n) ⌝ }
     requires { ⌜ getD (now costs) n 0 ≡ 18446744073709551615 ⌝ }
-    ensures { λ z. ⌜ Led (now (starts .entry)) (now (ends .entry)) (now (live .entry)) (now (live .exit)) (now (costs .entry)) n t (lead .cost) (lead .end) (lead .live) (z .cost) (z .end) (z .live) ⌝ }
+    ensures { λ z. ⌜ Led (now (starts .entry)) (now (ends .entry)) (now (live .entry)) (now (live .exit)) (now (costs .entry)) n t
+        (lead .cost) (lead .end) (lead .live) (z .cost) (z .end) (z .live) ⌝ }
 {
     if t <= lead.end {
         return lead;
@@ -119,10 +123,14 @@ fn step(
     lead: Lead,
 ) -> Lead
     requires { ⌜ Bids (now starts) (now ends) (now prices) (now order) ⌝ }
-    requires { ⌜ (length (now prices) ≤ 1000) × (length (now prices) ≤ length (now order)) × (length (now prices) ≤ length (now live)) × (length (now prices) < length (now costs)) ⌝ }
-    requires { ⌜ (q < length (now prices)) × (sum (now prices) < 18446744073709551615) × (getD (now starts) (getD (now order) q 0) 0 < stop) ⌝ }
-    requires { ⌜ Running skip (now starts) (now ends) (now prices) (now order) (now costs) (now live) from q (lead .live) (lead .cost) (lead .end) stop ⌝ }
-    ensures { λ z. ⌜ Running skip (now (starts .entry)) (now (ends .entry)) (now (prices .entry)) (now (order .entry)) (now (costs .exit)) (now (live .exit)) from (q + 1) (z .live) (z .cost) (z .end) stop ⌝ }
+    requires { ⌜ (length (now prices) ≤ 1000) × (length (now prices) ≤ length (now order)) × (length (now prices) ≤ length (now live))
+        × (length (now prices) < length (now costs)) ⌝ }
+    requires { ⌜ (q < length (now prices)) × (sum (now prices) < 18446744073709551615)
+        × (getD (now starts) (getD (now order) q 0) 0 < stop) ⌝ }
+    requires { ⌜ Running skip (now starts) (now ends) (now prices) (now order) (now costs) (now live) from q (lead .live) (lead .cost)
+        (lead .end) stop ⌝ }
+    ensures { λ z. ⌜ Running skip (now (starts .entry)) (now (ends .entry)) (now (prices .entry)) (now (order .entry)) (now (costs .exit))
+        (now (live .exit)) from (q + 1) (z .live) (z .cost) (z .end) stop ⌝ }
 {
     let n = prices.len();
     let i = order[q];
@@ -151,10 +159,12 @@ pub(crate) fn run(
     stop: u64,
 ) -> usize
     requires { ⌜ Bids (now starts) (now ends) (now prices) (now order) ⌝ }
-    requires { ⌜ (length (now prices) ≤ 1000) × (length (now prices) ≤ length (now order)) × (length (now prices) ≤ length (now live)) × (length (now prices) < length (now costs)) ⌝ }
+    requires { ⌜ (length (now prices) ≤ 1000) × (length (now prices) ≤ length (now order)) × (length (now prices) ≤ length (now live))
+        × (length (now prices) < length (now costs)) ⌝ }
     requires { ⌜ (from ≤ length (now prices)) × (sum (now prices) < 18446744073709551615) ⌝ }
     requires { ⌜ Running skip (now starts) (now ends) (now prices) (now order) (now costs) (now live) from from len 0 0 stop ⌝ }
-    ensures { λ m. ⌜ Ran skip (now (starts .entry)) (now (ends .entry)) (now (prices .entry)) (now (order .entry)) (now (costs .exit)) (now (live .exit)) from stop m ⌝ }
+    ensures { λ m. ⌜ Ran skip (now (starts .entry)) (now (ends .entry)) (now (prices .entry)) (now (order .entry)) (now (costs .exit))
+        (now (live .exit)) from stop m ⌝ }
 {
     let n = prices.len();
     let mut lead = Lead {

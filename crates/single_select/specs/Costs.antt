@@ -43,7 +43,8 @@ pub cost-least : (x r : ℕ) → x ≤ noCost → r ≤ noCost → costIn (cond 
 unfolding costIn lesserCost
 cost-least x r u v = go (eqb x noCost) (eqb r noCost) (ltb x r) refl refl refl
   where
-    go : (s t q : Bool) → eqb x noCost ≡ s → eqb r noCost ≡ t → ltb x r ≡ q → costIn (cond q x r) ≡ lesserCost (cond s nothing (found x)) (cond t nothing (found r))
+    go : (s t q : Bool) → eqb x noCost ≡ s → eqb r noCost ≡ t → ltb x r ≡ q
+        → costIn (cond q x r) ≡ lesserCost (cond s nothing (found x)) (cond t nothing (found r))
     go true t true d e l = absurd (omega (arith, eqb-true x noCost d, ltb-true x r l))
     go true t false d e l = ap (λ z. cond z nothing (found r)) e
     go false true true d e l = ap (λ z. cond z nothing (found x)) d

@@ -15,7 +15,8 @@ use Rattle.single_select.specs.Live.{On, Thinned, Live}
 -- the least weight at the places below j of xs whose bids reach t
 unfoldable pub leastOf : (ℕ → ℕ) → List ℕ → List ℕ → List ℕ → List ℕ → List ℕ → ℕ → ℕ → Found
 unfolding scan reaches weight
-leastOf cost a b xs costs sets t j = scan cost (reaches (λ i. getD a i 0) (λ i. getD b i 0) anyBid (λ q. getD xs q 0) t) (λ q. weight costs sets (getD xs q 0)) j
+leastOf cost a b xs costs sets t j = scan cost (reaches (λ i. getD a i 0) (λ i. getD b i 0) anyBid (λ q. getD xs q 0) t)
+    (λ q. weight costs sets (getD xs q 0)) j
 
 -- a bid of the list that reaches t
 pub record Reaches (a b xs : List ℕ) (j t r : ℕ) : Type 0 where
@@ -28,7 +29,8 @@ pub record Seen (a b xs costs sets : List ℕ) (n t m j r : ℕ) : Type 0 where
   pub within : r ≤ n
   pub found-at : (r ≡ n → ⊥) → Reaches a b xs j t r
   pub priced : getD costs r 0 ≡ noCost → r ≡ n
-  pub least : (cost : ℕ → ℕ) → ((q : ℕ) → q < m → Honest cost costs sets (getD xs q 0)) → weight costs sets r ≡ leastOf cost a b xs costs sets t j
+  pub least : (cost : ℕ → ℕ) → ((q : ℕ) → q < m → Honest cost costs sets (getD xs q 0))
+      → weight costs sets r ≡ leastOf cost a b xs costs sets t j
   pub honest : (cost : ℕ → ℕ) → ((q : ℕ) → q < m → Honest cost costs sets (getD xs q 0)) → Honest cost costs sets r
 
 -- where the lead of bid r ends: nowhere for none

@@ -22,7 +22,13 @@ pub record Thinned (b old act : List ℕ) (t j x : ℕ) : Type 0 where
   pub kept : (i : ℕ) → i < j → t ≤ getD b (getD old i 0) 0 → On act x (getD old i 0)
 
 pub thinned-none : (b old : List ℕ) (t : ℕ) → Thinned b old old t 0 0
-thinned-none b old t = record { sized = refl; short = omega arith; rest = λ i l. refl; from = λ i l. absurd (omega arith); kept = λ i l d. absurd (omega arith) }
+thinned-none b old t = record {
+  sized = refl;
+  short = omega arith;
+  rest = λ i l. refl;
+  from = λ i l. absurd (omega arith);
+  kept = λ i l d. absurd (omega arith);
+}
 
 unfoldable pub counted : ℕ → ℕ → ℕ → ℕ
 counted e t x = cond (leb t e) (x + 1) x
@@ -44,7 +50,12 @@ module _ (b old act : List ℕ) (t j x : ℕ) (l : j < length old) (h : Thinned 
   up i y = record { place = y .place; inside = omega (arith, y .inside); is = y .is }
 
   stay : (i : ℕ) → On act x i → (y : ℕ) → x ≤ y → On now y i
-  stay i q y d = record { place = q .place; inside = omega (arith, q .inside); is = other (q .place) (λ e. omega (arith, q .inside)) ∙ q .is }
+  stay i q y d = record {
+    place = q .place;
+    inside = omega (arith, q .inside);
+    is = other (q .place) (λ e. omega (arith, q .inside))
+        ∙ q .is;
+  }
 
   was : v ≡ getD old j 0
   was = h .rest j (omega arith)
@@ -74,7 +85,11 @@ module _ (b old act : List ℕ) (t j x : ℕ) (l : j < length old) (h : Thinned 
   }
     where
       two : (i : ℕ) → i < j + 1 → t ≤ getD b (getD old i 0) 0 → (s : Bool) → eqb i j ≡ s → On now x (getD old i 0)
-      two i d g true q = absurd (omega (arith, leb-false t (getD b v 0) e, ap (λ z. getD b z 0) (was ∙ ap (λ z. getD old z 0) (sym (eqb-true i j q)))))
+      two i d g true q = absurd (omega (
+        arith,
+        leb-false t (getD b v 0) e,
+        ap (λ z. getD b z 0) (was ∙ ap (λ z. getD old z 0) (sym (eqb-true i j q))),
+      ))
       two i d g false q = stay (getD old i 0) (h .kept i (omega (arith, eqb-false i j q)) g) x (omega arith)
 
   pub thinned-more : Thinned b old now t (j + 1) (counted (getD b v 0) t x)
@@ -93,7 +108,8 @@ pub record Live (order b act : List ℕ) (k m at : ℕ) : Type 0 where
 pub live-none : (order b act : List ℕ) → Live order b act 0 0 0
 live-none order b act = record { few = omega arith; inside = λ j l. absurd (omega arith); every = λ q l d. absurd (omega arith) }
 
-pub live-thinned : (order b old act : List ℕ) (k m at t x : ℕ) → at ≤ t → Live order b old k m at → Thinned b old act t m x → Live order b act k x t
+pub live-thinned : (order b old act : List ℕ) (k m at t x : ℕ) → at ≤ t → Live order b old k m at → Thinned b old act t m x
+    → Live order b act k x t
 live-thinned order b old act k m at t x l h f = record {
   few = omega (arith, h .few, f .short);
   inside = λ j d. let y = f .from j d in rw (y .is) at (h .inside (y .place) (y .inside));
@@ -103,7 +119,8 @@ live-thinned order b old act k m at t x l h f = record {
     by : (q : ℕ) → t ≤ getD b (getD order q 0) 0 → On old m (getD order q 0) → On act x (getD order q 0)
     by q g y = rw (y .is) at (f .kept (y .place) (y .inside) (rw (y .is) g))
 
-pub live-more : (order b act : List ℕ) (k m at : ℕ) → m < length act → Live order b act k m at → Live order b (set act m (getD order k 0)) (k + 1) (m + 1) at
+pub live-more : (order b act : List ℕ) (k m at : ℕ) → m < length act → Live order b act k m at
+    → Live order b (set act m (getD order k 0)) (k + 1) (m + 1) at
 live-more order b act k m at l h = record {
   few = omega (arith, h .few);
   inside = λ j d. one j d (eqb j m) refl;
@@ -111,18 +128,32 @@ live-more order b act k m at l h = record {
 }
   where
     one : (j : ℕ) → j < m + 1 → (s : Bool) → eqb j m ≡ s → On order (k + 1) (getD (set act m (getD order k 0)) j 0)
-    one j d true e = record { place = k; inside = omega arith; is = sym (ap (λ z. getD (set act m (getD order k 0)) z 0) (eqb-true j m e) ∙ getD-set-same act m (getD order k 0) 0 l) }
+    one j d true e = record {
+      place = k;
+      inside = omega arith;
+      is = sym (ap (λ z. getD (set act m (getD order k 0)) z 0) (eqb-true j m e) ∙ getD-set-same act m (getD order k 0) 0 l);
+    }
     one j d false e = rw (getD-set-other act m j (getD order k 0) 0 (eqb-false j m e)) (up (h .inside j (omega (arith, eqb-false j m e))))
       where
         up : {i : ℕ} → On order k i → On order (k + 1) i
         up y = record { place = y .place; inside = omega (arith, y .inside); is = y .is }
 
-    two : (q : ℕ) → q < k + 1 → at ≤ getD b (getD order q 0) 0 → (s : Bool) → eqb q k ≡ s → On (set act m (getD order k 0)) (m + 1) (getD order q 0)
-    two q d g true e = record { place = m; inside = omega arith; is = getD-set-same act m (getD order k 0) 0 l ∙ ap (λ z. getD order z 0) (sym (eqb-true q k e)) }
+    two : (q : ℕ) → q < k + 1 → at ≤ getD b (getD order q 0) 0 → (s : Bool) → eqb q k ≡ s
+        → On (set act m (getD order k 0)) (m + 1) (getD order q 0)
+    two q d g true e = record {
+      place = m;
+      inside = omega arith;
+      is = getD-set-same act m (getD order k 0) 0 l
+          ∙ ap (λ z. getD order z 0) (sym (eqb-true q k e));
+    }
     two q d g false e = up (h .every q (omega (arith, eqb-false q k e)) g)
       where
         up : On act m (getD order q 0) → On (set act m (getD order k 0)) (m + 1) (getD order q 0)
-        up y = record { place = y .place; inside = omega (arith, y .inside); is = getD-set-other act m (y .place) (getD order k 0) 0 (λ z. omega (arith, y .inside)) ∙ y .is }
+        up y = record {
+          place = y .place;
+          inside = omega (arith, y .inside);
+          is = getD-set-other act m (y .place) (getD order k 0) 0 (λ z. omega (arith, y .inside)) ∙ y .is;
+        }
 
 pub counted-yes : (e t x : ℕ) → t ≤ e → x + 1 ≡ counted e t x
 unfolding counted

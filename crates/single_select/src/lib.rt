@@ -59,7 +59,8 @@ pub fn end_of(ends: &[u64], n: usize, r: usize) -> u64
 
 // The lighter where bid `q`, from `start` to `end`, reaches `t`.
 fn consider(start: u64, end: u64, t: u64, costs: &[u64], sets: &[u64], q: usize, r: usize) -> usize
-    requires { ⌜ (q < length (now costs)) × (r < length (now costs)) × (q * 16 + 16 ≤ length (now sets)) × (r * 16 + 16 ≤ length (now sets)) ⌝ }
+    requires { ⌜ (q < length (now costs)) × (r < length (now costs)) × (q * 16 + 16 ≤ length (now sets))
+        × (r * 16 + 16 ≤ length (now sets)) ⌝ }
     ensures { λ z. ⌜ z ≡ reached start end t (prefer (now (costs .entry)) (now (sets .entry)) q r) r ⌝ }
 {
     if start < t {
@@ -89,10 +90,12 @@ fn renew(
     m: usize,
     t: u64,
 ) -> Lead
-    requires { ⌜ (m ≤ length (now live)) × (m < 1000000) × (n < length (now costs)) × (n * 16 + 16 ≤ length (now sets)) × (n ≤ length (now starts)) × (n ≤ length (now ends)) ⌝ }
+    requires { ⌜ (m ≤ length (now live)) × (m < 1000000) × (n < length (now costs)) × (n * 16 + 16 ≤ length (now sets))
+        × (n ≤ length (now starts)) × (n ≤ length (now ends)) ⌝ }
     requires { ⌜ ((j : ℕ) → j < m → getD (now live) j 0 < n) ⌝ }
     requires { ⌜ (getD (now costs) n 0 ≡ 18446744073709551615) × (row (now sets) n ≡ 0) ⌝ }
-    ensures { λ z. ⌜ Renewed (now (starts .entry)) (now (ends .entry)) (now (live .entry)) (now (live .exit)) (now (costs .entry)) (now (sets .entry)) n t m (z .row) (z .cost) (z .end) (z .live) ⌝ }
+    ensures { λ z. ⌜ Renewed (now (starts .entry)) (now (ends .entry)) (now (live .entry)) (now (live .exit)) (now (costs .entry))
+        (now (sets .entry)) n t m (z .row) (z .cost) (z .end) (z .live) ⌝ }
 {
     let mut x: usize = 0;
     let mut r = n;
@@ -125,10 +128,12 @@ fn lead_at(
     lead: Lead,
     t: u64,
 ) -> Lead
-    requires { ⌜ (lead .live ≤ length (now live)) × (lead .live < 1000000) × (n < length (now costs)) × (n * 16 + 16 ≤ length (now sets)) × (n ≤ length (now starts)) × (n ≤ length (now ends)) ⌝ }
+    requires { ⌜ (lead .live ≤ length (now live)) × (lead .live < 1000000) × (n < length (now costs)) × (n * 16 + 16 ≤ length (now sets))
+        × (n ≤ length (now starts)) × (n ≤ length (now ends)) ⌝ }
     requires { ⌜ ((j : ℕ) → j < lead .live → getD (now live) j 0 < n) ⌝ }
     requires { ⌜ (getD (now costs) n 0 ≡ 18446744073709551615) × (row (now sets) n ≡ 0) ⌝ }
-    ensures { λ z. ⌜ Led (now (starts .entry)) (now (ends .entry)) (now (live .entry)) (now (live .exit)) (now (costs .entry)) (now (sets .entry)) n t (lead .row) (lead .cost) (lead .end) (lead .live) (z .row) (z .cost) (z .end) (z .live) ⌝ }
+    ensures { λ z. ⌜ Led (now (starts .entry)) (now (ends .entry)) (now (live .entry)) (now (live .exit)) (now (costs .entry))
+        (now (sets .entry)) n t (lead .row) (lead .cost) (lead .end) (lead .live) (z .row) (z .cost) (z .end) (z .live) ⌝ }
 {
     if t <= lead.end {
         return lead;
@@ -159,10 +164,13 @@ fn step(
     lead: Lead,
 ) -> Lead
     requires { ⌜ Bids (now starts) (now ends) (now prices) (now order) ⌝ }
-    requires { ⌜ (length (now prices) ≤ 1000) × (length (now prices) ≤ length (now order)) × (length (now prices) ≤ length (now live)) × (length (now prices) < length (now costs)) × (length (now prices) * 16 + 16 ≤ length (now sets)) ⌝ }
+    requires { ⌜ (length (now prices) ≤ 1000) × (length (now prices) ≤ length (now order)) × (length (now prices) ≤ length (now live))
+        × (length (now prices) < length (now costs)) × (length (now prices) * 16 + 16 ≤ length (now sets)) ⌝ }
     requires { ⌜ (k < length (now prices)) × (sum (now prices) < 18446744073709551615) ⌝ }
-    requires { ⌜ Running (now starts) (now ends) (now prices) (now order) (now costs) (now sets) (now live) k (lead .live) (lead .row) (lead .cost) (lead .end) ⌝ }
-    ensures { λ z. ⌜ Running (now (starts .entry)) (now (ends .entry)) (now (prices .entry)) (now (order .entry)) (now (costs .exit)) (now (sets .exit)) (now (live .exit)) (k + 1) (z .live) (z .row) (z .cost) (z .end) ⌝ }
+    requires { ⌜ Running (now starts) (now ends) (now prices) (now order) (now costs) (now sets) (now live) k (lead .live) (lead .row)
+        (lead .cost) (lead .end) ⌝ }
+    ensures { λ z. ⌜ Running (now (starts .entry)) (now (ends .entry)) (now (prices .entry)) (now (order .entry)) (now (costs .exit))
+        (now (sets .exit)) (now (live .exit)) (k + 1) (z .live) (z .row) (z .cost) (z .end) ⌝ }
 {
     let n = prices.len();
     let i = order[k];
@@ -192,10 +200,12 @@ fn weigh(
     sets: &mut [u64],
 ) -> Lead
     requires { ⌜ Bids (now starts) (now ends) (now prices) (now order) ⌝ }
-    requires { ⌜ (length (now prices) ≤ 1000) × (length (now prices) ≤ length (now order)) × (length (now prices) ≤ length (now live)) × (length (now prices) < length (now costs)) × (length (now prices) * 16 + 16 ≤ length (now sets)) ⌝ }
+    requires { ⌜ (length (now prices) ≤ 1000) × (length (now prices) ≤ length (now order)) × (length (now prices) ≤ length (now live))
+        × (length (now prices) < length (now costs)) × (length (now prices) * 16 + 16 ≤ length (now sets)) ⌝ }
     requires { ⌜ (sum (now prices) < 18446744073709551615) × (row (now sets) (length (now prices)) ≡ 0) ⌝ }
     requires { ⌜ ((i : ℕ) → i < length (now prices) → getD (now starts) i 0 ≤ cells) ⌝ }
-    ensures { λ z. ⌜ Weighed (now (starts .entry)) (now (ends .entry)) (now (prices .entry)) (now (costs .exit)) (now (sets .exit)) cells (z .row) (z .cost) ⌝ }
+    ensures { λ z. ⌜ Weighed (now (starts .entry)) (now (ends .entry)) (now (prices .entry)) (now (costs .exit)) (now (sets .exit)) cells
+        (z .row) (z .cost) ⌝ }
 {
     let n = prices.len();
     costs[n] = NONE;
@@ -224,9 +234,11 @@ pub fn winners(
     won: &mut [u64],
 ) -> u64
     requires { ⌜ Bids (now starts) (now ends) (now prices) (now order) ⌝ }
-    requires { ⌜ (length (now prices) ≤ 1000) × (length (now prices) ≤ length (now order)) × (length (now prices) < length (now costs)) × (length (now prices) ≤ length (now won)) × (sum (now prices) < 18446744073709551615) ⌝ }
+    requires { ⌜ (length (now prices) ≤ 1000) × (length (now prices) ≤ length (now order)) × (length (now prices) < length (now costs))
+        × (length (now prices) ≤ length (now won)) × (sum (now prices) < 18446744073709551615) ⌝ }
     requires { ⌜ ((i : ℕ) → i < length (now prices) → getD (now starts) i 0 ≤ cells) ⌝ }
-    ensures { λ z. ⌜ Selected (now (starts .entry)) (now (ends .entry)) (now (prices .entry)) (now (costs .exit)) (now (won .entry)) (now (won .exit)) cells z ⌝ }
+    ensures { λ z. ⌜ Selected (now (starts .entry)) (now (ends .entry)) (now (prices .entry)) (now (costs .exit)) (now (won .entry))
+        (now (won .exit)) cells z ⌝ }
 {
     // ones, not zeros: the compiler writes these in wide stores
     let mut live = [1usize; 1000];

@@ -31,7 +31,8 @@ fn stands(sets: &[u64], q: usize, r: usize) -> bool
 
 // Of bids `q` and `r` the one of less weight.
 pub(crate) fn lighter(costs: &[u64], sets: &[u64], q: usize, r: usize) -> usize
-    requires { ⌜ (q < length (now costs)) × (r < length (now costs)) × (q * 16 + 16 ≤ length (now sets)) × (r * 16 + 16 ≤ length (now sets)) ⌝ }
+    requires { ⌜ (q < length (now costs)) × (r < length (now costs)) × (q * 16 + 16 ≤ length (now sets))
+        × (r * 16 + 16 ≤ length (now sets)) ⌝ }
     ensures { λ z. ⌜ z ≡ prefer (now (costs .entry)) (now (sets .entry)) q r ⌝ }
 {
     let x = costs[q];

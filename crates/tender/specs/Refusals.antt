@@ -1,7 +1,9 @@
 -- Each refusal's number and place (paper 01, "What each operation declines").
 use Prim.Native.Nat.{ℕ}
 use Rattle.tender.specs.declared.Refusal.{Refusal}
-use Rattle.tender.specs.declared.Refusal.the-variants.{TextTooLong, BadForm, OutsideLimits, TooMany, BadWindow, BidderRepeated, SeveralWindows, TableTooShort, BadTables, RowsTooFew, MinuteUncovered, OneBidder}
+use Rattle.tender.specs.declared.Refusal.the-variants.{TextTooLong, BadForm, OutsideLimits, TooMany, BadWindow, BidderRepeated}
+use Rattle.tender.specs.declared.Refusal.the-variants.{SeveralWindows, TableTooShort, BadTables, RowsTooFew, MinuteUncovered}
+use Rattle.tender.specs.declared.Refusal.the-variants.{OneBidder}
 
 abbrev pub numberOf : Refusal → ℕ
 -- Reading: a text above 65,536 bytes; a line that is not of the form; a bidder or price outside its limits; a 1,001st bid or

@@ -24,7 +24,8 @@ flatWindows (w ∷ ws) = w .start ∷ w .end ∷ flatWindows ws
 -- the first n rows that the cells hold
 unfoldable pub rowsOf : ℕ → List ℕ → List Row
 rowsOf zero cells = []
-rowsOf (suc n) cells = record { bidder = getD cells 0 0; price = getD cells 1 0; first = getD cells 2 0; count = getD cells 3 0 } ∷ rowsOf n (drop 4 cells)
+rowsOf (suc n) cells = record { bidder = getD cells 0 0; price = getD cells 1 0; first = getD cells 2 0; count = getD cells 3 0 }
+    ∷ rowsOf n (drop 4 cells)
 
 unfoldable pub windowsOf : ℕ → List ℕ → List Window
 windowsOf zero cells = []

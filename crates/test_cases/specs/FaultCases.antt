@@ -30,18 +30,22 @@ pub nine : all (
     -- the tender, the kind, the stated count
     refuses 9 0 (try Single Multi 0 10 0 [] []) ∷ refuses 9 0 (try Multi Single 0 10 0 [] [])
     ∷ refuses 9 0 (try Single Single 10 10 0 [] []) ∷ refuses 9 0 (try Single Single 0 10081 0 [] [])
-    ∷ refuses 9 0 (try Single Single 0 10 1 [] []) ∷ refuses 9 0 (try Single Single 0 10 2 (row 1 5 0 1 ++ 2 ∷ 5 ∷ 1 ∷ []) (0 ∷ 10 ∷ 0 ∷ 10 ∷ []))
+    ∷ refuses 9 0 (try Single Single 0 10 1 [] []) ∷ refuses 9 0
+    (try Single Single 0 10 2 (row 1 5 0 1 ++ 2 ∷ 5 ∷ 1 ∷ []) (0 ∷ 10 ∷ 0 ∷ 10 ∷ []))
     -- the tender stands before a row
     ∷ refuses 9 0 (try Single Single 10 10 1 (row 0 5 0 1) (0 ∷ 10 ∷ []))
     -- limits
-    ∷ refuses 9 1 (try Single Single 0 10 1 (row 0 5 0 1) (0 ∷ 10 ∷ [])) ∷ refuses 9 1 (try Single Single 0 10 1 (row 1000000 5 0 1) (0 ∷ 10 ∷ []))
+    ∷ refuses 9 1 (try Single Single 0 10 1 (row 0 5 0 1) (0 ∷ 10 ∷ []))
+    ∷ refuses 9 1 (try Single Single 0 10 1 (row 1000000 5 0 1) (0 ∷ 10 ∷ []))
     ∷ refuses 9 1 (try Single Single 0 10 1 (row 1 100000001 0 1) (0 ∷ 10 ∷ []))
-    ∷ refuses 9 1 (try Single Single 0 10 1 (row 1 5 0 1) (10 ∷ 10 ∷ [])) ∷ refuses 9 1 (try Single Single 0 10 1 (row 1 5 0 1) (0 ∷ 10081 ∷ []))
+    ∷ refuses 9 1 (try Single Single 0 10 1 (row 1 5 0 1) (10 ∷ 10 ∷ []))
+    ∷ refuses 9 1 (try Single Single 0 10 1 (row 1 5 0 1) (0 ∷ 10081 ∷ []))
     -- number of windows
     ∷ refuses 9 1 (try Single Single 0 10 1 (row 1 5 0 0) []) ∷ refuses 9 1 (try Single Single 0 10 1 (row 1 5 0 2) (0 ∷ 5 ∷ 5 ∷ 10 ∷ []))
     -- bidder number new, windows where the row before ended, inside the lent rows
     ∷ refuses 9 2 (try Multi Multi 0 10 2 (row 1 5 0 1 ++ row 1 6 1 1) (0 ∷ 10 ∷ 0 ∷ 10 ∷ []))
-    ∷ refuses 9 2 (try Multi Multi 0 10 2 (row 1 5 0 1 ++ row 2 6 0 1) (0 ∷ 10 ∷ 0 ∷ 10 ∷ [])) ∷ refuses 9 1 (try Multi Multi 0 10 1 (row 1 5 1 1) (0 ∷ 10 ∷ 0 ∷ 10 ∷ []))
+    ∷ refuses 9 2 (try Multi Multi 0 10 2 (row 1 5 0 1 ++ row 2 6 0 1) (0 ∷ 10 ∷ 0 ∷ 10 ∷ []))
+    ∷ refuses 9 1 (try Multi Multi 0 10 1 (row 1 5 1 1) (0 ∷ 10 ∷ 0 ∷ 10 ∷ []))
     ∷ refuses 9 2 (try Multi Multi 0 10 2 (row 1 5 0 1 ++ row 2 6 1 1) (0 ∷ 10 ∷ 0 ∷ []))
     -- rows past the stated count, and cells past the last whole row, say nothing
     ∷ refuses 12 0 (try Multi Multi 0 10 1 (row 1 5 0 1 ++ row 0 0 0 0 ++ 7 ∷ []) (0 ∷ 10 ∷ 5 ∷ 5 ∷ 3 ∷ []))
@@ -72,6 +76,7 @@ pub too-many : faultOf Multi (record { kind = Multi; window = record { start = 0
 unfolding faultOf many same
 too-many = refl
 
-pub row-first : faultOf Multi (record { kind = Multi; window = record { start = 0; end = 10 } }) 1001 (many 3 0 ++ many 998 5) (same 1001) ≡ some 4
+pub row-first : faultOf Multi (record { kind = Multi; window = record { start = 0; end = 10 } }) 1001 (many 3 0 ++ many 998 5) (same 1001)
+    ≡ some 4
 unfolding faultOf many same
 row-first = refl

@@ -59,7 +59,8 @@ unfolding sameOutcome
 same-answer (awarded rs c p) (awarded ss d q) e =
     let a = and-split (sameRows rs ss && eqb c d) (eqb p q) e in
     let b = and-split (sameRows rs ss) (eqb c d) (a .0) in
-    ap (λ l. awarded l c p) (same-rows rs ss (b .0)) ∙ ap (λ m. awarded ss m p) (eqb-true c d (b .1)) ∙ ap (λ m. awarded ss d m) (eqb-true p q (a .1))
+    ap (λ l. awarded l c p) (same-rows rs ss (b .0)) ∙ ap (λ m. awarded ss m p) (eqb-true c d (b .1))
+    ∙ ap (λ m. awarded ss d m) (eqb-true p q (a .1))
 same-answer (awarded rs c p) (refused n m) e = absurd (false≢true e)
 same-answer (refused n m) (awarded rs c p) e = absurd (false≢true e)
 same-answer (refused n m) (refused o l) e =

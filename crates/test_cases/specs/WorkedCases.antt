@@ -53,7 +53,14 @@ unfoldable pub noBids : Kind → Case
 noBids k = record { kind = k; start = 0; end = 1; bids = []; windows = []; outcome = refused 11 0 }
 
 unfoldable pub halves : Kind → Case
-halves k = record { kind = k; start = 0; end = 10; bids = 1 ∷ 3 ∷ 0 ∷ 1 ∷ 2 ∷ 4 ∷ 1 ∷ 1 ∷ []; windows = 0 ∷ 5 ∷ 5 ∷ 10 ∷ []; outcome = refused 12 0 }
+halves k = record {
+  kind = k;
+  start = 0;
+  end = 10;
+  bids = 1 ∷ 3 ∷ 0 ∷ 1 ∷ 2 ∷ 4 ∷ 1 ∷ 1 ∷ [];
+  windows = 0 ∷ 5 ∷ 5 ∷ 10 ∷ [];
+  outcome = refused 12 0;
+}
 
 unfoldable pub twoMinutes : Case
 unfolding paid lost
@@ -68,7 +75,14 @@ twoMinutes = record {
 
 unfoldable pub free : Kind → Case
 unfolding paid lost
-free k = record { kind = k; start = 0; end = 10; bids = 1 ∷ 0 ∷ 0 ∷ 1 ∷ 2 ∷ 0 ∷ 1 ∷ 1 ∷ []; windows = 0 ∷ 10 ∷ 0 ∷ 10 ∷ []; outcome = awarded (paid 0 ∷ lost ∷ []) 0 0 }
+free k = record {
+  kind = k;
+  start = 0;
+  end = 10;
+  bids = 1 ∷ 0 ∷ 0 ∷ 1 ∷ 2 ∷ 0 ∷ 1 ∷ 1 ∷ [];
+  windows = 0 ∷ 10 ∷ 0 ∷ 10 ∷ [];
+  outcome = awarded (paid 0 ∷ lost ∷ []) 0 0;
+}
 
 unfoldable pub cases : List Case
 unfolding fiveBids fourBids noBids halves twoMinutes free paid lost

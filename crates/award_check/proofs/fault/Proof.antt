@@ -23,13 +23,24 @@ window-lawful-requires c κs = search needs
 
 returns-2 : tie.Need-returns-2
 unfolding faultOf lawful
-returns-2 c = rw (← c .before .before .before .same-kind .ensures, not-false (c .before .before .before .same-kind .result) (c .before .before .if1 .left), ← c .before .window-lawful .ensures, not-true (c .before .window-lawful .result) (c .if2 .taken))
+returns-2 c = rw (
+  ← c .before .before .before .same-kind .ensures,
+  not-false (c .before .before .before .same-kind .result) (c .before .before .if1 .left),
+  ← c .before .window-lawful .ensures,
+  not-true (c .before .window-lawful .result) (c .if2 .taken),
+)
 
 returns-3 : tie.Need-returns-3
 unfolding faultOf lawful
 returns-3 c =
     let c4 = c .before .before .before .before in
-    rw (← c4 .same-kind .ensures, not-false (c4 .same-kind .result) (c .before .before .before .if1 .left), ← c .before .before .window-lawful .ensures, not-false (c .before .before .window-lawful .result) (c .before .if2 .left), lt-leb _ _ (c .if3 .taken))
+    rw (
+      ← c4 .same-kind .ensures,
+      not-false (c4 .same-kind .result) (c .before .before .before .if1 .left),
+      ← c .before .before .window-lawful .ensures,
+      not-false (c .before .before .window-lawful .result) (c .before .if2 .left),
+      lt-leb _ _ (c .if3 .taken),
+    )
 
 row-fault-requires : tie.Need-row-fault-requires
 row-fault-requires c κs = search needs
@@ -39,7 +50,14 @@ unfolding faultOf lawful
 returns-4 c =
     let c4 = c .before .before .before .before in
     let c5 = c4 .before in
-    rw (← c5 .same-kind .ensures, not-false (c5 .same-kind .result) (c4 .if1 .left), ← c .before .before .before .window-lawful .ensures, not-false (c .before .before .before .window-lawful .result) (c .before .before .if2 .left), le-leb _ _ (c .before .if3 .left)) (c .row-fault .ensures)
+    rw (
+      ← c5 .same-kind .ensures,
+      not-false (c5 .same-kind .result) (c4 .if1 .left),
+      ← c .before .before .before .window-lawful .ensures,
+      not-false (c .before .before .before .window-lawful .result) (c .before .before .if2 .left),
+      le-leb _ _ (c .before .if3 .left),
+    )
+    (c .row-fault .ensures)
 
 pub fault-spec : {M : Type 1} → statement M
 fault-spec =

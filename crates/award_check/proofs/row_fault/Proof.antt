@@ -1,4 +1,5 @@
--- `award_check::row_fault` meets its contract: the rows not yet passed have the first fault of all, and the words hold the bidder numbers of those passed. Assumes nothing.
+-- `award_check::row_fault` meets its contract: the rows not yet passed have the first fault of all, and the words hold the bidder
+-- numbers of those passed. Assumes nothing.
 use mathlib.Core.Path.{refl, sym, _∙_}
 use Prim.Native.Nat.{_-_}
 use native.Mathlib.Omega.{arith}
@@ -30,7 +31,9 @@ returns : tie.Need-returns Inv-loop μ-loop
 returns c =
     let c5 = c .before .before .before .before .before in
     let args = c5 .args in
-    too-many (args .kind) (args .count) (args .bids .now) (args .windows .now) (c .before .before .loop .used) (c .before .before .loop .at) (c .before .before .loop .j) (c .before .before .loop .inv) (c .before .loop-test .taken) (c .if1 .taken)
+    too-many (args .kind) (args .count) (args .bids .now) (args .windows .now) (c .before .before .loop .used)
+    (c .before .before .loop .at) (c .before .before .loop .j) (c .before .before .loop .inv) (c .before .loop-test .taken)
+    (c .if1 .taken)
 
 mul-bidder : tie.Need-mul-bidder Inv-loop μ-loop
 mul-bidder c = omega arith
@@ -87,7 +90,9 @@ returns-2 c =
     let c8 = c7 .before in
     let c11 = c8 .before .before .before in
     let args = c11 .args in
-    breaks (args .kind) (args .count) (args .bids .now) (args .windows .now) (c8 .loop .used) (c8 .loop .at) (c8 .loop .j) (c8 .loop .inv) (c7 .loop-test .taken) (c6 .if1 .left) (sym (c .before .row-keeps .ensures) ∙ not-true (c .before .row-keeps .result) (c .if2 .taken))
+    breaks (args .kind) (args .count) (args .bids .now) (args .windows .now) (c8 .loop .used) (c8 .loop .at) (c8 .loop .j) (c8 .loop .inv)
+    (c7 .loop-test .taken) (c6 .if1 .left) (sym (c .before .row-keeps .ensures)
+    ∙ not-true (c .before .row-keeps .result) (c .if2 .taken))
 
 slice-aggregate-holds : tie.Need-slice-aggregate-holds Inv-loop μ-loop
 slice-aggregate-holds c = omega arith
@@ -97,7 +102,9 @@ holds-requires c κs =
     let c9 = c .before .before .before .before .before .before .before .before .before in
     let c12 = c9 .before .before .before in
     let args = c12 .args in
-    bidder-cell (args .kind) (args .count) (args .bids .now) (args .windows .now) (c9 .loop .used) (c9 .loop .at) (c9 .loop .j) (c9 .loop .inv) (sym (c .before .before .row-keeps .ensures) ∙ not-false (c .before .before .row-keeps .result) (c .before .if2 .left))
+    bidder-cell (args .kind) (args .count) (args .bids .now) (args .windows .now) (c9 .loop .used) (c9 .loop .at) (c9 .loop .j)
+    (c9 .loop .inv) (sym (c .before .before .row-keeps .ensures)
+    ∙ not-false (c .before .before .row-keeps .result) (c .before .if2 .left))
 
 returns-3 : tie.Need-returns-3 Inv-loop μ-loop
 returns-3 c =
@@ -106,7 +113,8 @@ returns-3 c =
     let c11 = c10 .before in
     let c14 = c11 .before .before .before in
     let args = c14 .args in
-    repeated (args .kind) (args .count) (args .bids .now) (args .windows .now) (c11 .loop .used) (c11 .loop .at) (c11 .loop .j) (c11 .loop .inv) (c10 .loop-test .taken) (c9 .if1 .left) (sym (c .before .holds .ensures) ∙ c .if3 .taken)
+    repeated (args .kind) (args .count) (args .bids .now) (args .windows .now) (c11 .loop .used) (c11 .loop .at) (c11 .loop .j)
+    (c11 .loop .inv) (c10 .loop-test .taken) (c9 .if1 .left) (sym (c .before .holds .ensures) ∙ c .if3 .taken)
 
 slice-aggregate-add : tie.Need-slice-aggregate-add Inv-loop μ-loop
 slice-aggregate-add c = omega arith
@@ -118,7 +126,8 @@ add-requires c κs =
     let c12 = c5 .before .before .before .before .before .before .before in
     let c15 = c12 .before .before .before in
     let args = c15 .args in
-    bidder-cell (args .kind) (args .count) (args .bids .now) (args .windows .now) (c12 .loop .used) (c12 .loop .at) (c12 .loop .j) (c12 .loop .inv) (sym (c5 .row-keeps .ensures) ∙ not-false (c5 .row-keeps .result) (c4 .if2 .left))
+    bidder-cell (args .kind) (args .count) (args .bids .now) (args .windows .now) (c12 .loop .used) (c12 .loop .at) (c12 .loop .j)
+    (c12 .loop .inv) (sym (c5 .row-keeps .ensures) ∙ not-false (c5 .row-keeps .result) (c4 .if2 .left))
 
 add-at : tie.Need-add-at Inv-loop μ-loop
 add-at c =
@@ -127,7 +136,11 @@ add-at c =
     let c14 = c7 .before .before .before .before .before .before .before in
     let c17 = c14 .before .before .before in
     let args = c17 .args in
-    omega (arith, room-here (args .kind) (args .count) (args .bids .now) (args .windows .now) (c14 .loop .used) (c14 .loop .at) (c14 .loop .j) (c14 .loop .inv) (sym (c7 .row-keeps .ensures) ∙ not-false (c7 .row-keeps .result) (c6 .if2 .left)))
+    omega (
+      arith,
+      room-here (args .kind) (args .count) (args .bids .now) (args .windows .now) (c14 .loop .used) (c14 .loop .at)
+          (c14 .loop .j) (c14 .loop .inv) (sym (c7 .row-keeps .ensures) ∙ not-false (c7 .row-keeps .result) (c6 .if2 .left)),
+    )
 
 add-j : tie.Need-add-j Inv-loop μ-loop
 add-j c = omega arith
@@ -145,13 +158,18 @@ loop-again c =
     let c14 = c13 .before in
     let c17 = c14 .before .before .before in
     let args = c17 .args in
-    going-on (args .kind) (args .count) (args .bids .now) (args .windows .now) (c14 .loop .used) (c14 .loop .at) (c14 .loop .j) (c14 .loop .inv) (c13 .loop-test .taken) (c12 .if1 .left) (sym (c7 .row-keeps .ensures) ∙ not-false (c7 .row-keeps .result) (c6 .if2 .left)) (sym (c4 .holds .ensures) ∙ c .before .before .before .if3 .left) (c .before .add .last .0) (c .before .add .ensures) (c .before .add .kept .0)
+    going-on (args .kind) (args .count) (args .bids .now) (args .windows .now) (c14 .loop .used) (c14 .loop .at) (c14 .loop .j)
+    (c14 .loop .inv) (c13 .loop-test .taken) (c12 .if1 .left)
+    (sym (c7 .row-keeps .ensures) ∙ not-false (c7 .row-keeps .result) (c6 .if2 .left))
+    (sym (c4 .holds .ensures) ∙ c .before .before .before .if3 .left) (c .before .add .last .0) (c .before .add .ensures)
+    (c .before .add .kept .0)
 
 returns-4 : tie.Need-returns-4 Inv-loop μ-loop
 returns-4 c =
     let c4 = c .before .before .before .before in
     let args = c4 .args in
-    going-ends (args .kind) (args .count) (args .bids .now) (args .windows .now) (c .before .loop .used) (c .before .loop .at) (c .before .loop .j) (c .before .loop .inv) (c .loop-test .left)
+    going-ends (args .kind) (args .count) (args .bids .now) (args .windows .now) (c .before .loop .used) (c .before .loop .at)
+    (c .before .loop .j) (c .before .loop .inv) (c .loop-test .left)
 
 pub row-fault-spec : {M : Type 1} → statement M
 row-fault-spec =

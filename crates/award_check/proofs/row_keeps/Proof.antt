@@ -23,7 +23,11 @@ returns c = rw (← c .before .between .ensures, not-true (c .before .between .r
 
 returns-2 : tie.Need-returns-2
 unfolding keeps own
-returns-2 c = rw (← c .before .before .between .ensures, not-false (c .before .before .between .result) (c .before .if1 .left), lt-leb _ _ (c .if2 .taken))
+returns-2 c = rw (
+  ← c .before .before .between .ensures,
+  not-false (c .before .before .between .result) (c .before .if1 .left),
+  lt-leb _ _ (c .if2 .taken),
+)
 
 most-windows-requires : tie.Need-most-windows-requires
 most-windows-requires c κs = search needs
@@ -36,7 +40,14 @@ unfolding keeps own
 returns-3 c =
     let c4 = c .before .before .before .before in
     let c5 = c4 .before in
-    rw (← c5 .between .ensures, not-false (c5 .between .result) (c4 .if1 .left), le-leb _ _ (c .before .before .before .if2 .left), ← c .before .before .most-windows .ensures, ← c .before .between2 .ensures, not-true (c .before .between2 .result) (c .if3 .taken))
+    rw (
+      ← c5 .between .ensures,
+      not-false (c5 .between .result) (c4 .if1 .left),
+      le-leb _ _ (c .before .before .before .if2 .left),
+      ← c .before .before .most-windows .ensures,
+      ← c .before .between2 .ensures,
+      not-true (c .before .between2 .result) (c .if3 .taken),
+    )
 
 returns-4 : tie.Need-returns-4
 unfolding keeps own
@@ -44,7 +55,15 @@ returns-4 c =
     let c4 = c .before .before .before .before in
     let c5 = c4 .before in
     let c6 = c5 .before in
-    rw (← c6 .between .ensures, not-false (c6 .between .result) (c5 .if1 .left), le-leb _ _ (c4 .if2 .left), ← c .before .before .before .most-windows .ensures, ← c .before .before .between2 .ensures, not-false (c .before .before .between2 .result) (c .before .if3 .left), ne-eqb _ _ (c .if4 .taken))
+    rw (
+      ← c6 .between .ensures,
+      not-false (c6 .between .result) (c5 .if1 .left),
+      le-leb _ _ (c4 .if2 .left),
+      ← c .before .before .before .most-windows .ensures,
+      ← c .before .before .between2 .ensures,
+      not-false (c .before .before .between2 .result) (c .before .if3 .left),
+      ne-eqb _ _ (c .if4 .taken),
+    )
 
 sub-if5 : tie.Need-sub-if5
 sub-if5 c = omega arith
@@ -58,7 +77,16 @@ returns-5 c =
     let c7 = c6 .before in
     let c9 = c7 .before .before in
     let args = c9 .args in
-    rw (← c7 .between .ensures, not-false (c7 .between .result) (c6 .if1 .left), le-leb _ _ (c5 .if2 .left), ← c4 .most-windows .ensures, ← c .before .before .before .between2 .ensures, not-false (c .before .before .before .between2 .result) (c .before .before .if3 .left), eq-eqb _ _ (c .before .if4 .left), lt-leb (args .at + args .count) (length (args .windows .now) / 2) (omega arith))
+    rw (
+      ← c7 .between .ensures,
+      not-false (c7 .between .result) (c6 .if1 .left),
+      le-leb _ _ (c5 .if2 .left),
+      ← c4 .most-windows .ensures,
+      ← c .before .before .before .between2 .ensures,
+      not-false (c .before .before .before .between2 .result) (c .before .before .if3 .left),
+      eq-eqb _ _ (c .before .if4 .left),
+      lt-leb (args .at + args .count) (length (args .windows .now) / 2) (omega arith),
+    )
 
 windows-lawful-requires : tie.Need-windows-lawful-requires
 windows-lawful-requires c κs = omega arith
@@ -73,7 +101,17 @@ returns-6 c =
     let c8 = c7 .before in
     let c10 = c8 .before .before in
     let args = c10 .args in
-    rw (← c8 .between .ensures, not-false (c8 .between .result) (c7 .if1 .left), le-leb _ _ (c6 .if2 .left), ← c5 .most-windows .ensures, ← c4 .between2 .ensures, not-false (c4 .between2 .result) (c .before .before .before .if3 .left), eq-eqb _ _ (c .before .before .if4 .left), le-leb (args .at + args .count) (length (args .windows .now) / 2) (omega arith)) (rw (c .before .before .if4 .left) (c .windows-lawful .ensures))
+    rw (
+      ← c8 .between .ensures,
+      not-false (c8 .between .result) (c7 .if1 .left),
+      le-leb _ _ (c6 .if2 .left),
+      ← c5 .most-windows .ensures,
+      ← c4 .between2 .ensures,
+      not-false (c4 .between2 .result) (c .before .before .before .if3 .left),
+      eq-eqb _ _ (c .before .before .if4 .left),
+      le-leb (args .at + args .count) (length (args .windows .now) / 2) (omega arith),
+    )
+    (rw (c .before .before .if4 .left) (c .windows-lawful .ensures))
 
 pub row-keeps-spec : {M : Type 1} → statement M
 row-keeps-spec =

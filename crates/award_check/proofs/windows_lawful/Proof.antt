@@ -59,7 +59,8 @@ returns c =
     let c5 = c4 .before in
     let c7 = c5 .before .before in
     let args = c7 .args in
-    ahead-fails (args .windows .now) (args .first) (args .count) (c5 .loop .j) (c .before .window-lawful .result) (c4 .loop-test .taken) (c .before .window-lawful .ensures) _ (c .if1 .taken) (c5 .loop .inv .1)
+    ahead-fails (args .windows .now) (args .first) (args .count) (c5 .loop .j) (c .before .window-lawful .result) (c4 .loop-test .taken)
+    (c .before .window-lawful .ensures) _ (c .if1 .taken) (c5 .loop .inv .1)
 
 add-j : tie.Need-add-j Inv-loop μ-loop
 add-j c = omega arith
@@ -72,8 +73,11 @@ loop-again c =
     let c4 = c .before .before .before .before in
     let c5 = c4 .before in
     let c7 = c5 .before .before in
-    let args = c7 .args in
-    (omega arith, ahead-goes (args .windows .now) (args .first) (args .count) (c5 .loop .j) (c .before .window-lawful .result) (c4 .loop-test .taken) (c .before .window-lawful .ensures) _ (c .if1 .left) (c5 .loop .inv .1))
+    let args = c7 .args in (
+      omega arith,
+      ahead-goes (args .windows .now) (args .first) (args .count) (c5 .loop .j) (c .before .window-lawful .result)
+          (c4 .loop-test .taken) (c .before .window-lawful .ensures) _ (c .if1 .left) (c5 .loop .inv .1),
+    )
 
 returns-2 : tie.Need-returns-2 Inv-loop μ-loop
 returns-2 c =

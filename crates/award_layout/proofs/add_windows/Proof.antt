@@ -15,7 +15,8 @@ use Rattle.cells.proofs.add_range.Reads as add-range-reads
 use Rattle.award_layout.proofs.clip.Reads as clip-reads
 
 abbrev Inv-loop : tie.InvT-loop
-Inv-loop start cells windows first count words₀ j₀ words j = (length words ≡ length words₀) × ((ahead windows first count j ≡ true) × Masking start cells windows first count j words)
+Inv-loop start cells windows first count words₀ j₀ words j = (length words ≡ length words₀)
+    × ((ahead windows first count j ≡ true) × Masking start cells windows first count j words)
 
 abbrev μ-loop : tie.MeasureT-loop
 μ-loop start cells windows first count words₀ j₀ words j = count - j
@@ -23,8 +24,13 @@ abbrev μ-loop : tie.MeasureT-loop
 loop-holds : tie.Need-loop-holds Inv-loop μ-loop
 loop-holds c =
     let args = c .before .before .args in
-    let pre = c .before .before .pre in
-    (refl, (ahead-start (args .windows .now) (args .first) (args .count) ∙ pre .1 .0, masking-starts (args .start) (args .cells) (args .windows .now) (args .first) (args .count) (args .words .now) (pre .1 .1 .1 .1)))
+    let pre = c .before .before .pre in (
+      refl,
+      (
+        ahead-start (args .windows .now) (args .first) (args .count) ∙ pre .1 .0,
+        masking-starts (args .start) (args .cells) (args .windows .now) (args .first) (args .count) (args .words .now) (pre .1 .1 .1 .1),
+      ),
+    )
 
 add-clip : tie.Need-add-clip Inv-loop μ-loop
 add-clip c = omega arith
@@ -66,7 +72,25 @@ add-range-requires c κs =
     let c9 = c6 .before .before .before in
     let args = c9 .args in
     let pre = c9 .pre in
-    let h = here-lawful (args .windows .now) (args .first) (args .count) (c6 .loop .j) (c5 .loop-test .taken) (c6 .loop .inv .1 .0) in (omega (arith, c .before .before .before .clip .ensures, c .before .clip2 .ensures, clip-order (args .start) (args .cells) _ _ (h .0)), (omega (arith, c .before .clip2 .ensures, clip-inside (args .start) (args .cells) (getD (args .windows .now) (2 * (args .first + c6 .loop .j) + 1) 0), pre .1 .1 .0, c6 .loop .inv .0), omega (arith, pre .1 .1 .1 .0, c6 .loop .inv .0)))
+    let h = here-lawful (args .windows .now) (args .first) (args .count) (c6 .loop .j) (c5 .loop-test .taken) (c6 .loop .inv .1 .0) in (
+      omega (
+        arith,
+        c .before .before .before .clip .ensures,
+        c .before .clip2 .ensures,
+        clip-order (args .start) (args .cells) _ _ (h .0),
+      ),
+      (
+        omega (
+          arith,
+          c .before .clip2 .ensures,
+          clip-inside (args .start) (args .cells)
+              (getD (args .windows .now) (2 * (args .first + c6 .loop .j) + 1) 0),
+          pre .1 .1 .0,
+          c6 .loop .inv .0,
+        ),
+        omega (arith, pre .1 .1 .1 .0, c6 .loop .inv .0),
+      ),
+    )
 
 add-j : tie.Need-add-j Inv-loop μ-loop
 add-j c = omega arith
@@ -82,7 +106,17 @@ loop-again c =
     let c9 = c8 .before in
     let c12 = c9 .before .before .before in
     let args = c12 .args in
-    let h = here-lawful (args .windows .now) (args .first) (args .count) (c9 .loop .j) (c8 .loop-test .taken) (c9 .loop .inv .1 .0) in (c .before .before .add-range .kept .0 ∙ c9 .loop .inv .0, (h .1, masking-more (args .start) (args .cells) (args .windows .now) (args .first) (args .count) (c9 .loop .j) (c9 .loop .words) (c .before .before .add-range .last .0) (c6 .clip .result) (c4 .clip2 .result) (c9 .loop .inv .1 .1) (c8 .loop-test .taken) (c6 .clip .ensures) (c4 .clip2 .ensures) (omega (arith, c6 .clip .ensures, c4 .clip2 .ensures, clip-order (args .start) (args .cells) _ _ (h .0))) (c .before .before .add-range .ensures)))
+    let h = here-lawful (args .windows .now) (args .first) (args .count) (c9 .loop .j) (c8 .loop-test .taken) (c9 .loop .inv .1 .0) in (
+      c .before .before .add-range .kept .0 ∙ c9 .loop .inv .0,
+      (
+        h .1,
+        masking-more (args .start) (args .cells) (args .windows .now) (args .first) (args .count) (c9 .loop .j) (c9 .loop .words)
+            (c .before .before .add-range .last .0) (c6 .clip .result) (c4 .clip2 .result) (c9 .loop .inv .1 .1) (c8 .loop-test .taken)
+            (c6 .clip .ensures) (c4 .clip2 .ensures) (omega
+            (arith, c6 .clip .ensures, c4 .clip2 .ensures, clip-order (args .start) (args .cells) _ _ (h .0)))
+            (c .before .before .add-range .ensures),
+      ),
+    )
 
 same-length : tie.Need-same-length Inv-loop μ-loop
 same-length c = c .before .loop .inv .0
@@ -91,7 +125,8 @@ returns : tie.Need-returns Inv-loop μ-loop
 returns c =
     let c4 = c .before .before .before .before in
     let args = c4 .args in
-    masking-ends (args .start) (args .cells) (args .windows .now) (args .first) (args .count) (c .before .loop .j) (c .before .loop .words) (c .before .loop .inv .1 .1) (c .loop-test .left)
+    masking-ends (args .start) (args .cells) (args .windows .now) (args .first) (args .count) (c .before .loop .j)
+    (c .before .loop .words) (c .before .loop .inv .1 .1) (c .loop-test .left)
 
 pub add-windows-spec : {M : Type 1} → statement M
 add-windows-spec =

@@ -14,8 +14,16 @@ clear-requires c κs = search needs
 add-windows-requires : tie.Need-add-windows-requires
 add-windows-requires c κs =
     let c7 = c .before .before .before .before .before .before .before in
-    let pre = c7 .pre in
-    (pre .0, (pre .1 .0, (omega (arith, c .before .before .before .clear .kept .0), (omega (arith, c .before .before .before .clear .kept .0), c .before .before .before .clear .ensures .none))))
+    let pre = c7 .pre in (
+      pre .0,
+      (
+        pre .1 .0,
+        (
+          omega (arith, c .before .before .before .clear .kept .0),
+          (omega (arith, c .before .before .before .clear .kept .0), c .before .before .before .clear .ensures .none),
+        ),
+      ),
+    )
 
 same-length : tie.Need-same-length
 same-length c = search needs

@@ -21,8 +21,11 @@ abbrev μ-loop : tie.MeasureT-loop
 
 loop-holds : tie.Need-loop-holds Inv-loop μ-loop
 loop-holds c =
-    let args = c .before .before .before .args in
-    (omega arith, writing-starts (args .n) (args .start) (args .cells) (args .w) (args .bids .now) (args .windows .now) (args .out .now) (c .before .before .before .pre .1 .0))
+    let args = c .before .before .before .args in (
+      omega arith,
+      writing-starts (args .n) (args .start) (args .cells) (args .w) (args .bids .now) (args .windows .now) (args .out .now)
+          (c .before .before .before .pre .1 .0),
+    )
 
 mul-first : tie.Need-mul-first Inv-loop μ-loop
 mul-first c =
@@ -92,7 +95,11 @@ part-mask-row-end : tie.Need-part-mask-row-end Inv-loop μ-loop
 part-mask-row-end c =
     let c7 = c .before .before .before .before .before .before .before in
     let args = c7 .args in
-    omega (arith, c .before .before .before .loop .inv .1 .size, row-within (args .w) (args .n) (c .before .before .before .loop .i) (c .before .before .loop-test .taken))
+    omega (
+      arith,
+      c .before .before .before .loop .inv .1 .size,
+      row-within (args .w) (args .n) (c .before .before .before .loop .i) (c .before .before .loop-test .taken),
+    )
 
 mask-row-requires : tie.Need-mask-row-requires Inv-loop μ-loop
 unfolding own
@@ -100,8 +107,26 @@ mask-row-requires c κs =
     let c4 = c .before .before .before .before in
     let c8 = c4 .before .before .before .before in
     let args = c8 .args in
-    let pre = c8 .pre in
-    (row-room Multi (args .n) (args .bids .now) (args .windows .now) (pre .0) (c4 .loop .i) (c .before .before .before .loop-test .taken), (pre .0 .kept (c4 .loop .i) (c .before .before .before .loop-test .taken) .windows-too, rw (part-row (c4 .loop .out) (args .w) (c4 .loop .i)) (omega (arith, row-size (c4 .loop .out) (args .w) (args .n) (c4 .loop .i) (c4 .loop .inv .1 .size) (c .before .before .before .loop-test .taken), pre .1 .1 .0), omega (arith, row-size (c4 .loop .out) (args .w) (args .n) (c4 .loop .i) (c4 .loop .inv .1 .size) (c .before .before .before .loop-test .taken), pre .1 .1 .1))))
+    let pre = c8 .pre in (
+      row-room Multi (args .n) (args .bids .now) (args .windows .now) (pre .0) (c4 .loop .i) (c .before .before .before .loop-test .taken),
+      (
+        pre .0 .kept (c4 .loop .i) (c .before .before .before .loop-test .taken) .windows-too,
+        rw (part-row (c4 .loop .out) (args .w) (c4 .loop .i)) (
+          omega (
+            arith,
+            row-size (c4 .loop .out) (args .w) (args .n) (c4 .loop .i) (c4 .loop .inv .1 .size)
+                (c .before .before .before .loop-test .taken),
+            pre .1 .1 .0,
+          ),
+          omega (
+            arith,
+            row-size (c4 .loop .out) (args .w) (args .n) (c4 .loop .i) (c4 .loop .inv .1 .size)
+                (c .before .before .before .loop-test .taken),
+            pre .1 .1 .1,
+          ),
+        ),
+      ),
+    )
 
 add-i : tie.Need-add-i Inv-loop μ-loop
 add-i c = omega arith
@@ -115,8 +140,12 @@ loop-again c =
     let c6 = c .before .before .before .before .before .before in
     let c7 = c6 .before in
     let c11 = c7 .before .before .before .before in
-    let args = c11 .args in
-    (omega arith, writing-more (args .n) (args .start) (args .cells) (args .w) (args .bids .now) (args .windows .now) (c7 .loop .i) (c7 .loop .out) (c .before .before .mask-row .last .1 .1 .1 .1 .1 .0) (c7 .loop .inv .1) (c6 .loop-test .taken) (c .before .before .mask-row .ensures) (c .before .before .mask-row .kept .1 .1 .1 .1 .1 .0))
+    let args = c11 .args in (
+      omega arith,
+      writing-more (args .n) (args .start) (args .cells) (args .w) (args .bids .now) (args .windows .now) (c7 .loop .i)
+          (c7 .loop .out) (c .before .before .mask-row .last .1 .1 .1 .1 .1 .0) (c7 .loop .inv .1) (c6 .loop-test .taken)
+          (c .before .before .mask-row .ensures) (c .before .before .mask-row .kept .1 .1 .1 .1 .1 .0),
+    )
 
 same-length : tie.Need-same-length Inv-loop μ-loop
 same-length c =
@@ -127,7 +156,8 @@ returns : tie.Need-returns Inv-loop μ-loop
 returns c =
     let c5 = c .before .before .before .before .before in
     let args = c5 .args in
-    writing-ends (args .n) (args .start) (args .cells) (args .w) (args .bids .now) (args .windows .now) (c .before .loop .i) (c .before .loop .out) (c .before .loop .inv .1) (omega arith)
+    writing-ends (args .n) (args .start) (args .cells) (args .w) (args .bids .now) (args .windows .now) (c .before .loop .i)
+    (c .before .loop .out) (c .before .loop .inv .1) (omega arith)
 
 pub masks-spec : {M : Type 1} → statement M
 masks-spec =

@@ -43,7 +43,14 @@ loop-less : tie.Need-loop-less Inv-loop μ-loop
 loop-less c = simp length-set (omega arith)
 
 loop-again : tie.Need-loop-again Inv-loop μ-loop
-loop-again c = (simp length-set (omega arith), (simp length-set (c .before .before .loop .inv .1 .0), filled-more (λ j. getD (c .before .before .before .args .bids .now) (4 * j + 1) 0) (c .before .before .loop .out) (c .before .before .loop .i) (c .before .loop-test .taken) (c .before .before .loop .inv .1 .1) _ refl))
+loop-again c = (
+  simp length-set (omega arith),
+  (
+    simp length-set (c .before .before .loop .inv .1 .0),
+    filled-more (λ j. getD (c .before .before .before .args .bids .now) (4 * j + 1) 0) (c .before .before .loop .out)
+        (c .before .before .loop .i) (c .before .loop-test .taken) (c .before .before .loop .inv .1 .1) _ refl,
+  ),
+)
 
 same-length : tie.Need-same-length Inv-loop μ-loop
 same-length c = c .before .loop .inv .1 .0
@@ -51,7 +58,8 @@ same-length c = c .before .loop .inv .1 .0
 returns : tie.Need-returns Inv-loop μ-loop
 returns c =
     let args = c .before .before .args in
-    prices-are (args .bids .now) (c .before .loop .out) (length (args .out .now)) (c .before .loop .inv .1 .0) (λ j l. c .before .loop .inv .1 .1 j (omega arith))
+    prices-are (args .bids .now) (c .before .loop .out) (length (args .out .now)) (c .before .loop .inv .1 .0)
+    (λ j l. c .before .loop .inv .1 .1 j (omega arith))
 
 pub prices-spec : {M : Type 1} → statement M
 prices-spec =

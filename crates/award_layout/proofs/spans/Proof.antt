@@ -13,7 +13,8 @@ use Rattle.award_layout.proofs.spans.Lts as lts
 use Rattle.award_layout.proofs.clip.Reads as clip-reads
 
 abbrev Inv-loop : tie.InvT-loop
-Inv-loop start cells bids windows starts₀ ends₀ i₀ starts ends i = (i ≤ length starts₀) × ((length starts ≡ length starts₀) × ((length ends ≡ length ends₀) × Laid i start cells bids windows starts ends))
+Inv-loop start cells bids windows starts₀ ends₀ i₀ starts ends i = (i ≤ length starts₀)
+    × ((length starts ≡ length starts₀) × ((length ends ≡ length ends₀) × Laid i start cells bids windows starts ends))
 
 abbrev μ-loop : tie.MeasureT-loop
 μ-loop start cells bids windows starts₀ ends₀ i₀ starts ends i = length starts₀ - i
@@ -45,19 +46,31 @@ mul-clip : tie.Need-mul-clip Inv-loop μ-loop
 mul-clip c =
     let c7 = c .before .before .before .before .before .before .before in
     let args = c7 .args in
-    omega (arith, first-room Single (length (args .starts .now)) (args .bids .now) (args .windows .now) (c7 .pre .0) (c .before .before .loop .i) (omega arith))
+    omega (
+      arith,
+      first-room Single (length (args .starts .now)) (args .bids .now) (args .windows .now) (c7 .pre .0)
+          (c .before .before .loop .i) (omega arith),
+    )
 
 mul-clip-2 : tie.Need-mul-clip-2 Inv-loop μ-loop
 mul-clip-2 c =
     let c7 = c .before .before .before .before .before .before .before in
     let args = c7 .args in
-    omega (arith, first-room Single (length (args .starts .now)) (args .bids .now) (args .windows .now) (c7 .pre .0) (c .before .before .loop .i) (omega arith))
+    omega (
+      arith,
+      first-room Single (length (args .starts .now)) (args .bids .now) (args .windows .now) (c7 .pre .0)
+          (c .before .before .loop .i) (omega arith),
+    )
 
 shared-slice-read-clip : tie.Need-shared-slice-read-clip Inv-loop μ-loop
 shared-slice-read-clip c =
     let c8 = c .before .before .before .before .before .before .before .before in
     let args = c8 .args in
-    omega (arith, first-room Single (length (args .starts .now)) (args .bids .now) (args .windows .now) (c8 .pre .0) (c .before .before .before .loop .i) (omega arith))
+    omega (
+      arith,
+      first-room Single (length (args .starts .now)) (args .bids .now) (args .windows .now) (c8 .pre .0)
+          (c .before .before .before .loop .i) (omega arith),
+    )
 
 clip-requires : tie.Need-clip-requires Inv-loop μ-loop
 clip-requires c κs = omega arith
@@ -73,28 +86,44 @@ mul-clip-3 c =
     let c4 = c .before .before .before .before in
     let c9 = c4 .before .before .before .before .before in
     let args = c9 .args in
-    omega (arith, first-room Single (length (args .starts .now)) (args .bids .now) (args .windows .now) (c9 .pre .0) (c4 .loop .i) (omega arith))
+    omega (
+      arith,
+      first-room Single (length (args .starts .now)) (args .bids .now) (args .windows .now) (c9 .pre .0) (c4 .loop .i)
+          (omega arith),
+    )
 
 add-clip : tie.Need-add-clip Inv-loop μ-loop
 add-clip c =
     let c4 = c .before .before .before .before in
     let c9 = c4 .before .before .before .before .before in
     let args = c9 .args in
-    omega (arith, first-room Single (length (args .starts .now)) (args .bids .now) (args .windows .now) (c9 .pre .0) (c4 .loop .i) (omega arith))
+    omega (
+      arith,
+      first-room Single (length (args .starts .now)) (args .bids .now) (args .windows .now) (c9 .pre .0) (c4 .loop .i)
+          (omega arith),
+    )
 
 mul-clip-4 : tie.Need-mul-clip-4 Inv-loop μ-loop
 mul-clip-4 c =
     let c4 = c .before .before .before .before in
     let c9 = c4 .before .before .before .before .before in
     let args = c9 .args in
-    omega (arith, first-room Single (length (args .starts .now)) (args .bids .now) (args .windows .now) (c9 .pre .0) (c4 .loop .i) (omega arith))
+    omega (
+      arith,
+      first-room Single (length (args .starts .now)) (args .bids .now) (args .windows .now) (c9 .pre .0) (c4 .loop .i)
+          (omega arith),
+    )
 
 shared-slice-read-clip-2 : tie.Need-shared-slice-read-clip-2 Inv-loop μ-loop
 shared-slice-read-clip-2 c =
     let c5 = c .before .before .before .before .before in
     let c10 = c5 .before .before .before .before .before in
     let args = c10 .args in
-    omega (arith, first-room Single (length (args .starts .now)) (args .bids .now) (args .windows .now) (c10 .pre .0) (c5 .loop .i) (omega arith))
+    omega (
+      arith,
+      first-room Single (length (args .starts .now)) (args .bids .now) (args .windows .now) (c10 .pre .0) (c5 .loop .i)
+          (omega arith),
+    )
 
 clip-requires-2 : tie.Need-clip-requires-2 Inv-loop μ-loop
 clip-requires-2 c κs = omega arith
@@ -121,8 +150,23 @@ loop-again : tie.Need-loop-again Inv-loop μ-loop
 loop-again c =
     let c6 = c .before .before .before .before .before .before in
     let c11 = c6 .before .before .before .before .before in
-    let args = c11 .args in
-    (omega arith, (simp length-set (c6 .loop .inv .1 .0), (simp length-set (c6 .loop .inv .1 .1 .0), record { starts-are = filled-more (λ j. clipped (args .start) (args .cells) (getD (args .windows .now) (2 * rowAt (args .bids .now) j .first) 0)) (c6 .loop .starts) (c6 .loop .i) (omega arith) (c6 .loop .inv .1 .1 .1 .starts-are) _ (c .before .before .clip .ensures); ends-are = filled-more (λ j. clipped (args .start) (args .cells) (getD (args .windows .now) (2 * rowAt (args .bids .now) j .first + 1) 0)) (c6 .loop .ends) (c6 .loop .i) (omega (arith, c6 .loop .inv .1 .1 .0, c11 .pre .1)) (c6 .loop .inv .1 .1 .1 .ends-are) _ (c .clip2 .ensures) })))
+    let args = c11 .args in (
+      omega arith,
+      (
+        simp length-set (c6 .loop .inv .1 .0),
+        (
+          simp length-set (c6 .loop .inv .1 .1 .0),
+          record {
+            starts-are = filled-more (λ j. clipped (args .start) (args .cells)
+                (getD (args .windows .now) (2 * rowAt (args .bids .now) j .first) 0)) (c6 .loop .starts) (c6 .loop .i) (omega arith)
+                (c6 .loop .inv .1 .1 .1 .starts-are) _ (c .before .before .clip .ensures);
+            ends-are = filled-more (λ j. clipped (args .start) (args .cells)
+                (getD (args .windows .now) (2 * rowAt (args .bids .now) j .first + 1) 0)) (c6 .loop .ends) (c6 .loop .i)
+                (omega (arith, c6 .loop .inv .1 .1 .0, c11 .pre .1)) (c6 .loop .inv .1 .1 .1 .ends-are) _ (c .clip2 .ensures);
+          },
+        ),
+      ),
+    )
 
 same-length : tie.Need-same-length Inv-loop μ-loop
 same-length c = c .before .loop .inv .1 .0

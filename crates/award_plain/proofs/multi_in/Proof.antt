@@ -25,7 +25,11 @@ sub-cells c =
     let c8 = c .before .before .before .before .before .before .before .before in
     let args = c8 .args in
     let pre = c8 .pre in
-    omega (arith, words-of Multi (args .tender) (length (args .prices .now)) (args .w) (args .bids .now) (args .windows .now) (pre .0) (pre .1 .0) .forwards)
+    omega (
+      arith,
+      words-of Multi (args .tender) (length (args .prices .now)) (args .w) (args .bids .now) (args .windows .now) (pre .0)
+          (pre .1 .0) .forwards,
+    )
 
 prices-requires : tie.Need-prices-requires
 unfolding cellsOf
@@ -39,16 +43,34 @@ unfolding cellsOf
 masks-requires c κs =
     let c13 = c .before .before .before .before .before .before .before .before .before .before .before .before .before in
     let args = c13 .args in
-    let pre = c13 .pre in
-    (orderly Multi (args .tender) (length (args .prices .now)) (args .bids .now) (args .windows .now) (pre .0), (pre .1 .1 .0, (words-of Multi (args .tender) (length (args .prices .now)) (args .w) (args .bids .now) (args .windows .now) (pre .0) (pre .1 .0) .fits, words-of Multi (args .tender) (length (args .prices .now)) (args .w) (args .bids .now) (args .windows .now) (pre .0) (pre .1 .0) .words)))
+    let pre = c13 .pre in (
+      orderly Multi (args .tender) (length (args .prices .now)) (args .bids .now) (args .windows .now) (pre .0),
+      (
+        pre .1 .1 .0,
+        (
+          words-of Multi (args .tender) (length (args .prices .now)) (args .w) (args .bids .now) (args .windows .now)
+              (pre .0) (pre .1 .0) .fits,
+          words-of Multi (args .tender) (length (args .prices .now)) (args .w) (args .bids .now)
+              (args .windows .now) (pre .0) (pre .1 .0) .words,
+        ),
+      ),
+    )
 
 thin-masks-requires : tie.Need-thin-masks-requires
 unfolding cellsOf
 thin-masks-requires c κs =
-    let c17 = c .before .before .before .before .before .before .before .before .before .before .before .before .before .before .before .before .before in
+    let c17 = c .before .before .before .before .before .before .before .before .before .before .before .before .before .before .before
+    .before .before in
     let args = c17 .args in
-    let pre = c17 .pre in
-    (c .before .before .before .masks .kept .1 .1 .1 .1 .1 .1 .0 ∙ pre .1 .1 .0, (words-of Multi (args .tender) (length (args .prices .now)) (args .w) (args .bids .now) (args .windows .now) (pre .0) (pre .1 .0) .words, words-of Multi (args .tender) (length (args .prices .now)) (args .w) (args .bids .now) (args .windows .now) (pre .0) (pre .1 .0) .fits))
+    let pre = c17 .pre in (
+      c .before .before .before .masks .kept .1 .1 .1 .1 .1 .1 .0 ∙ pre .1 .1 .0,
+      (
+        words-of Multi (args .tender) (length (args .prices .now)) (args .w) (args .bids .now) (args .windows .now) (pre .0)
+            (pre .1 .0) .words,
+        words-of Multi (args .tender) (length (args .prices .now)) (args .w) (args .bids .now) (args .windows .now)
+            (pre .0) (pre .1 .0) .fits,
+      ),
+    )
 
 enum-known-thin : tie.Need-enum-known-thin
 enum-known-thin c = search needs
@@ -60,7 +82,10 @@ add-t25 c =
     let c21 = c7 .before .before .before .before .before .before .before .before .before .before .before .before .before .before in
     let args = c21 .args in
     let pre = c21 .pre in
-    let s = subst (Says (has (c7 .masks .last .1 .1 .1 .1 .1 .1 .0) (args .w)) (length (args .prices .now)) (cellsOf (args .tender))) (c .before .thin .given .1) (c .before .before .before .thin-masks .ensures) in let d = words-of Multi (args .tender) (length (args .prices .now)) (args .w) (args .bids .now) (args .windows .now) (pre .0) (pre .1 .0) in omega (arith, cell-found _ _ _ _ _ s .inside, d .few, d .early)
+    let s = subst (Says (has (c7 .masks .last .1 .1 .1 .1 .1 .1 .0) (args .w)) (length (args .prices .now)) (cellsOf (args .tender)))
+    (c .before .thin .given .1) (c .before .before .before .thin-masks .ensures) in
+    let d = words-of Multi (args .tender) (length (args .prices .now)) (args .w) (args .bids .now) (args .windows .now) (pre .0)
+    (pre .1 .0) in omega (arith, cell-found _ _ _ _ _ s .inside, d .few, d .early)
 
 enum-known-thin-2 : tie.Need-enum-known-thin-2
 enum-known-thin-2 c = search needs
@@ -72,7 +97,10 @@ add-t27 c =
     let c21 = c7 .before .before .before .before .before .before .before .before .before .before .before .before .before .before in
     let args = c21 .args in
     let pre = c21 .pre in
-    let s = subst (Says (has (c7 .masks .last .1 .1 .1 .1 .1 .1 .0) (args .w)) (length (args .prices .now)) (cellsOf (args .tender))) (c .before .thin2 .given .1) (c .before .before .before .thin-masks .ensures) in let d = words-of Multi (args .tender) (length (args .prices .now)) (args .w) (args .bids .now) (args .windows .now) (pre .0) (pre .1 .0) in omega (arith, cell-found _ _ _ _ _ (s .1) .inside, d .few, d .early)
+    let s = subst (Says (has (c7 .masks .last .1 .1 .1 .1 .1 .1 .0) (args .w)) (length (args .prices .now)) (cellsOf (args .tender)))
+    (c .before .thin2 .given .1) (c .before .before .before .thin-masks .ensures) in
+    let d = words-of Multi (args .tender) (length (args .prices .now)) (args .w) (args .bids .now) (args .windows .now) (pre .0)
+    (pre .1 .0) in omega (arith, cell-found _ _ _ _ _ (s .1) .inside, d .few, d .early)
 
 enum-told : tie.Need-enum-told
 enum-told c = search needs
@@ -87,7 +115,26 @@ award-requires c κs =
     let c24 = c14 .before .before .before .before .before .before .before .before .before .before in
     let args = c24 .args in
     let pre = c24 .pre in
-    let s = subst (Says (has (c10 .masks .last .1 .1 .1 .1 .1 .1 .0) (args .w)) (length (args .prices .now)) (cellsOf (args .tender))) (c4 .enum-told .given .1) (c6 .thin-masks .ensures) in let d = words-of Multi (args .tender) (length (args .prices .now)) (args .w) (args .bids .now) (args .windows .now) (pre .0) (pre .1 .0) in (market (args .tender) (length (args .prices .now)) (args .w) (args .bids .now) (args .windows .now) (c10 .masks .last .1 .1 .1 .1 .1 .1 .0) (c14 .prices .last .1 .0) (args .won .now) (args .cents .now) (pre .0) (c10 .masks .kept .1 .1 .1 .1 .1 .1 .0 ∙ pre .1 .1 .0) (c10 .masks .ensures) (c14 .prices .ensures) d, (d .few, (d .fits, (two-bidders (args .tender) (length (args .prices .now)) (args .w) (args .bids .now) (args .windows .now) (c10 .masks .last .1 .1 .1 .1 .1 .1 .0) (c14 .prices .last .1 .0) (args .won .now) (args .cents .now) (pre .0) (c10 .masks .kept .1 .1 .1 .1 .1 .1 .0 ∙ pre .1 .1 .0) (c10 .masks .ensures) (c14 .prices .ensures) s, (omega (arith, c14 .prices .kept .1 .0, pre .1 .1 .1 .0), omega (arith, c14 .prices .kept .1 .0, pre .1 .1 .1 .1))))))
+    let s = subst (Says (has (c10 .masks .last .1 .1 .1 .1 .1 .1 .0) (args .w)) (length (args .prices .now)) (cellsOf (args .tender)))
+    (c4 .enum-told .given .1) (c6 .thin-masks .ensures) in
+    let d = words-of Multi (args .tender) (length (args .prices .now)) (args .w) (args .bids .now) (args .windows .now) (pre .0)
+    (pre .1 .0) in (
+      market (args .tender) (length (args .prices .now)) (args .w) (args .bids .now) (args .windows .now)
+          (c10 .masks .last .1 .1 .1 .1 .1 .1 .0) (c14 .prices .last .1 .0) (args .won .now) (args .cents .now) (pre .0)
+          (c10 .masks .kept .1 .1 .1 .1 .1 .1 .0 ∙ pre .1 .1 .0) (c10 .masks .ensures) (c14 .prices .ensures) d,
+      (
+        d .few,
+        (
+          d .fits,
+          (
+            two-bidders (args .tender) (length (args .prices .now)) (args .w) (args .bids .now) (args .windows .now)
+                (c10 .masks .last .1 .1 .1 .1 .1 .1 .0) (c14 .prices .last .1 .0) (args .won .now) (args .cents .now) (pre .0)
+                (c10 .masks .kept .1 .1 .1 .1 .1 .1 .0 ∙ pre .1 .1 .0) (c10 .masks .ensures) (c14 .prices .ensures) s,
+            (omega (arith, c14 .prices .kept .1 .0, pre .1 .1 .1 .0), omega (arith, c14 .prices .kept .1 .0, pre .1 .1 .1 .1)),
+          ),
+        ),
+      ),
+    )
 
 same-length : tie.Need-same-length
 same-length c = search needs
@@ -103,7 +150,11 @@ returns c =
     let c21 = c11 .before .before .before .before .before .before .before .before .before .before in
     let args = c21 .args in
     let pre = c21 .pre in
-    uncovered (args .tender) (length (args .prices .now)) (args .w) (args .bids .now) (args .windows .now) (c7 .masks .last .1 .1 .1 .1 .1 .1 .0) (c11 .prices .last .1 .0) (args .won .now) (args .cents .now) (pre .0) (c7 .masks .kept .1 .1 .1 .1 .1 .1 .0 ∙ pre .1 .1 .0) (c7 .masks .ensures) (c11 .prices .ensures) _ (subst (Says (has (c7 .masks .last .1 .1 .1 .1 .1 .1 .0) (args .w)) (length (args .prices .now)) (cellsOf (args .tender))) (c .before .thin .given .1) (c .before .before .before .thin-masks .ensures))
+    uncovered (args .tender) (length (args .prices .now)) (args .w) (args .bids .now) (args .windows .now)
+    (c7 .masks .last .1 .1 .1 .1 .1 .1 .0) (c11 .prices .last .1 .0) (args .won .now) (args .cents .now) (pre .0)
+    (c7 .masks .kept .1 .1 .1 .1 .1 .1 .0 ∙ pre .1 .1 .0) (c7 .masks .ensures) (c11 .prices .ensures) _
+    (subst (Says (has (c7 .masks .last .1 .1 .1 .1 .1 .1 .0) (args .w)) (length (args .prices .now)) (cellsOf (args .tender)))
+    (c .before .thin .given .1) (c .before .before .before .thin-masks .ensures))
 
 same-length-3 : tie.Need-same-length-3
 same-length-3 c = search needs
@@ -119,7 +170,11 @@ returns-2 c =
     let c21 = c11 .before .before .before .before .before .before .before .before .before .before in
     let args = c21 .args in
     let pre = c21 .pre in
-    lone (args .tender) (length (args .prices .now)) (args .w) (args .bids .now) (args .windows .now) (c7 .masks .last .1 .1 .1 .1 .1 .1 .0) (c11 .prices .last .1 .0) (args .won .now) (args .cents .now) (pre .0) (c7 .masks .kept .1 .1 .1 .1 .1 .1 .0 ∙ pre .1 .1 .0) (c7 .masks .ensures) (c11 .prices .ensures) _ (subst (Says (has (c7 .masks .last .1 .1 .1 .1 .1 .1 .0) (args .w)) (length (args .prices .now)) (cellsOf (args .tender))) (c .before .thin2 .given .1) (c .before .before .before .thin-masks .ensures))
+    lone (args .tender) (length (args .prices .now)) (args .w) (args .bids .now) (args .windows .now)
+    (c7 .masks .last .1 .1 .1 .1 .1 .1 .0) (c11 .prices .last .1 .0) (args .won .now) (args .cents .now) (pre .0)
+    (c7 .masks .kept .1 .1 .1 .1 .1 .1 .0 ∙ pre .1 .1 .0) (c7 .masks .ensures) (c11 .prices .ensures) _
+    (subst (Says (has (c7 .masks .last .1 .1 .1 .1 .1 .1 .0) (args .w)) (length (args .prices .now)) (cellsOf (args .tender)))
+    (c .before .thin2 .given .1) (c .before .before .before .thin-masks .ensures))
 
 same-length-5 : tie.Need-same-length-5
 same-length-5 c = search needs
@@ -144,7 +199,12 @@ returns-3 c =
     let c29 = c19 .before .before .before .before .before .before .before .before .before .before in
     let args = c29 .args in
     let pre = c29 .pre in
-    let s = subst (Says (has (c15 .masks .last .1 .1 .1 .1 .1 .1 .0) (args .w)) (length (args .prices .now)) (cellsOf (args .tender))) (c9 .enum-told .given .1) (c11 .thin-masks .ensures) in settled (args .tender) (length (args .prices .now)) (args .w) (args .bids .now) (args .windows .now) (c15 .masks .last .1 .1 .1 .1 .1 .1 .0) (c19 .prices .last .1 .0) (args .won .now) (args .cents .now) (pre .0) (c15 .masks .kept .1 .1 .1 .1 .1 .1 .0 ∙ pre .1 .1 .0) (c15 .masks .ensures) (c19 .prices .ensures) s (c4 .award .last .1 .1 .1 .1 .0) (c4 .award .last .1 .1 .1 .1 .1 .0) (c4 .award .result) (c4 .award .ensures)
+    let s = subst (Says (has (c15 .masks .last .1 .1 .1 .1 .1 .1 .0) (args .w)) (length (args .prices .now)) (cellsOf (args .tender)))
+    (c9 .enum-told .given .1) (c11 .thin-masks .ensures) in
+    settled (args .tender) (length (args .prices .now)) (args .w) (args .bids .now) (args .windows .now)
+    (c15 .masks .last .1 .1 .1 .1 .1 .1 .0) (c19 .prices .last .1 .0) (args .won .now) (args .cents .now) (pre .0)
+    (c15 .masks .kept .1 .1 .1 .1 .1 .1 .0 ∙ pre .1 .1 .0) (c15 .masks .ensures) (c19 .prices .ensures) s
+    (c4 .award .last .1 .1 .1 .1 .0) (c4 .award .last .1 .1 .1 .1 .1 .0) (c4 .award .result) (c4 .award .ensures)
 
 pub multi-in-spec : {M : Type 1} → statement M
 multi-in-spec =

@@ -27,7 +27,8 @@ returns : tie.Need-returns
 returns c =
     let c8 = c .before .before .before .before .before .before .before .before in
     let args = c8 .args in
-    nine (args .kind) (args .tender) (args .count) (args .bids .now) (args .windows .now) (args .lent) (args .won .now) (args .cents .now) _ (sym (c .before .before .before .fault .ensures) ∙ ap faultIn (c .before .check .given .1))
+    nine (args .kind) (args .tender) (args .count) (args .bids .now) (args .windows .now) (args .lent) (args .won .now) (args .cents .now)
+    _ (sym (c .before .before .before .fault .ensures) ∙ ap faultIn (c .before .check .given .1))
 
 enum-told : tie.Need-enum-told
 enum-told c = search needs
@@ -36,7 +37,8 @@ returns-2 : tie.Need-returns-2
 returns-2 c =
     let c8 = c .before .before .before .before .before .before .before .before in
     let args = c8 .args in
-    ten (args .kind) (args .tender) (args .count) (args .bids .now) (args .windows .now) (args .lent) (args .won .now) (args .cents .now) (sym (c .before .before .before .fault .ensures) ∙ ap faultIn (c .before .enum-told .given .1)) (c .if1 .taken)
+    ten (args .kind) (args .tender) (args .count) (args .bids .now) (args .windows .now) (args .lent) (args .won .now) (args .cents .now)
+    (sym (c .before .before .before .fault .ensures) ∙ ap faultIn (c .before .enum-told .given .1)) (c .if1 .taken)
 
 enum-told-2 : tie.Need-enum-told-2
 enum-told-2 c = search needs
@@ -49,7 +51,15 @@ settle-single-requires c κs =
     let c12 = c7 .before .before .before .before .before in
     let args = c12 .args in
     let pre = c12 .pre in
-    let f = (sym (c7 .fault .ensures) ∙ ap faultIn (c5 .enum-told .given .1)) in let o = orderly (args .kind) (args .tender) (args .count) (args .bids .now) (args .windows .now) f in (subst (λ (k : Kind). faultOf k (args .tender) (args .count) (args .bids .now) (args .windows .now) ≡ none) (c .before .before .enum-told2 .given .1) f, (omega (arith, o .few, pre .0, c4 .if1 .left), omega (arith, o .few, pre .1, c4 .if1 .left)))
+    let f = (sym (c7 .fault .ensures) ∙ ap faultIn (c5 .enum-told .given .1)) in
+    let o = orderly (args .kind) (args .tender) (args .count) (args .bids .now) (args .windows .now) f in (
+      subst (λ (k : Kind). faultOf k (args .tender) (args .count) (args .bids .now) (args .windows .now) ≡ none)
+          (c .before .before .enum-told2 .given .1) f,
+      (
+        omega (arith, o .few, pre .0, c4 .if1 .left),
+        omega (arith, o .few, pre .1, c4 .if1 .left),
+      ),
+    )
 
 enum-told-3 : tie.Need-enum-told-3
 enum-told-3 c = search needs
@@ -62,7 +72,15 @@ settle-multi-requires c κs =
     let c12 = c7 .before .before .before .before .before in
     let args = c12 .args in
     let pre = c12 .pre in
-    let f = (sym (c7 .fault .ensures) ∙ ap faultIn (c5 .enum-told .given .1)) in let o = orderly (args .kind) (args .tender) (args .count) (args .bids .now) (args .windows .now) f in (subst (λ (k : Kind). faultOf k (args .tender) (args .count) (args .bids .now) (args .windows .now) ≡ none) (c .before .before .enum-told3 .given .1) f, (omega (arith, o .few, pre .0, c4 .if1 .left), omega (arith, o .few, pre .1, c4 .if1 .left)))
+    let f = (sym (c7 .fault .ensures) ∙ ap faultIn (c5 .enum-told .given .1)) in
+    let o = orderly (args .kind) (args .tender) (args .count) (args .bids .now) (args .windows .now) f in (
+      subst (λ (k : Kind). faultOf k (args .tender) (args .count) (args .bids .now) (args .windows .now) ≡ none)
+          (c .before .before .enum-told3 .given .1) f,
+      (
+        omega (arith, o .few, pre .0, c4 .if1 .left),
+        omega (arith, o .few, pre .1, c4 .if1 .left),
+      ),
+    )
 
 same-length : tie.Need-same-length
 same-length c = search needs
@@ -77,7 +95,9 @@ returns-3 c =
     let c9 = c7 .before .before in
     let c17 = c9 .before .before .before .before .before .before .before .before in
     let args = c17 .args in
-    rw (c7 .enum-told2 .given .1) (lent-more Single (args .tender) (args .count) (args .bids .now) (args .windows .now) (args .lent) (args .won .now) (args .cents .now) (c4 .settle-single .last .1 .1 .1 .1 .0) (c4 .settle-single .last .1 .1 .1 .1 .1 .0) (c4 .settle-single .result) (c9 .if1 .left) (c4 .settle-single .ensures))
+    rw (c7 .enum-told2 .given .1) (lent-more Single (args .tender) (args .count) (args .bids .now) (args .windows .now) (args .lent)
+    (args .won .now) (args .cents .now) (c4 .settle-single .last .1 .1 .1 .1 .0) (c4 .settle-single .last .1 .1 .1 .1 .1 .0)
+    (c4 .settle-single .result) (c9 .if1 .left) (c4 .settle-single .ensures))
 
 same-length-3 : tie.Need-same-length-3
 same-length-3 c = search needs
@@ -92,7 +112,9 @@ returns-4 c =
     let c9 = c7 .before .before in
     let c17 = c9 .before .before .before .before .before .before .before .before in
     let args = c17 .args in
-    rw (c7 .enum-told3 .given .1) (lent-more Multi (args .tender) (args .count) (args .bids .now) (args .windows .now) (args .lent) (args .won .now) (args .cents .now) (c4 .settle-multi .last .1 .1 .1 .1 .0) (c4 .settle-multi .last .1 .1 .1 .1 .1 .0) (c4 .settle-multi .result) (c9 .if1 .left) (c4 .settle-multi .ensures))
+    rw (c7 .enum-told3 .given .1) (lent-more Multi (args .tender) (args .count) (args .bids .now) (args .windows .now) (args .lent)
+    (args .won .now) (args .cents .now) (c4 .settle-multi .last .1 .1 .1 .1 .0) (c4 .settle-multi .last .1 .1 .1 .1 .1 .0)
+    (c4 .settle-multi .result) (c9 .if1 .left) (c4 .settle-multi .ensures))
 
 pub settle-in-spec : {M : Type 1} → statement M
 settle-in-spec =

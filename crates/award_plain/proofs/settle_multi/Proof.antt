@@ -20,14 +20,22 @@ unfolding cellsOf
 sub-w c =
     let c6 = c .before .before .before .before .before .before in
     let args = c6 .args in
-    omega (arith, words-of Multi (args .tender) (args .count) (((args .tender) .window .end - (args .tender) .window .start + 63) / 64) (args .bids .now) (args .windows .now) (c6 .pre .0) refl .forwards)
+    omega (
+      arith,
+      words-of Multi (args .tender) (args .count) (((args .tender) .window .end - (args .tender) .window .start + 63) / 64)
+          (args .bids .now) (args .windows .now) (c6 .pre .0) refl .forwards,
+    )
 
 add-w : tie.Need-add-w
 unfolding cellsOf
 add-w c =
     let c6 = c .before .before .before .before .before .before in
     let args = c6 .args in
-    omega (arith, words-of Multi (args .tender) (args .count) (((args .tender) .window .end - (args .tender) .window .start + 63) / 64) (args .bids .now) (args .windows .now) (c6 .pre .0) refl .few)
+    omega (
+      arith,
+      words-of Multi (args .tender) (args .count) (((args .tender) .window .end - (args .tender) .window .start + 63) / 64)
+          (args .bids .now) (args .windows .now) (c6 .pre .0) refl .few,
+    )
 
 mul-all : tie.Need-mul-all
 unfolding cellsOf
@@ -35,21 +43,32 @@ mul-all c =
     let c6 = c .before .before .before .before .before .before in
     let args = c6 .args in
     let pre = c6 .pre in
-    omega (arith, product (((args .tender) .window .end - (args .tender) .window .start + 63) / 64) (args .count) 158 1000 (words-of Multi (args .tender) (args .count) (((args .tender) .window .end - (args .tender) .window .start + 63) / 64) (args .bids .now) (args .windows .now) (pre .0) refl .words) (orderly Multi (args .tender) (args .count) (args .bids .now) (args .windows .now) (pre .0) .few))
+    omega (
+      arith,
+      product (((args .tender) .window .end - (args .tender) .window .start + 63) / 64) (args .count) 158 1000
+          (words-of Multi (args .tender) (args .count) (((args .tender) .window .end - (args .tender) .window .start + 63) / 64)
+          (args .bids .now) (args .windows .now) (pre .0) refl .words)
+          (orderly Multi (args .tender) (args .count) (args .bids .now) (args .windows .now) (pre .0) .few),
+    )
 
 array-borrow-prefix-prices : tie.Need-array-borrow-prefix-prices
 unfolding cellsOf
 array-borrow-prefix-prices c =
     let c6 = c .before .before .before .before .before .before in
     let args = c6 .args in
-    omega (arith, orderly Multi (args .tender) (args .count) (args .bids .now) (args .windows .now) (c6 .pre .0) .few, length-replicate {A = ℕ} 1000 1)
+    omega (
+      arith,
+      orderly Multi (args .tender) (args .count) (args .bids .now) (args .windows .now) (c6 .pre .0) .few,
+      length-replicate {A = ℕ} 1000 1,
+    )
 
 slice-aggregate-multi-in : tie.Need-slice-aggregate-multi-in
 unfolding cellsOf
 slice-aggregate-multi-in c =
     let c7 = c .before .before .before .before .before .before .before in
     let args = c7 .args in
-    sym (prefix-length (args .count) 1000 (orderly Multi (args .tender) (args .count) (args .bids .now) (args .windows .now) (c7 .pre .0) .few))
+    sym (prefix-length (args .count) 1000 (orderly Multi (args .tender) (args .count) (args .bids .now) (args .windows .now)
+    (c7 .pre .0) .few))
 
 array-borrow-prefix-masks : tie.Need-array-borrow-prefix-masks
 unfolding cellsOf
@@ -57,7 +76,14 @@ array-borrow-prefix-masks c =
     let c7 = c .before .before .before .before .before .before .before in
     let args = c7 .args in
     let pre = c7 .pre in
-    omega (arith, product (((args .tender) .window .end - (args .tender) .window .start + 63) / 64) (args .count) 158 1000 (words-of Multi (args .tender) (args .count) (((args .tender) .window .end - (args .tender) .window .start + 63) / 64) (args .bids .now) (args .windows .now) (pre .0) refl .words) (orderly Multi (args .tender) (args .count) (args .bids .now) (args .windows .now) (pre .0) .few), length-replicate {A = ℕ} 158000 1)
+    omega (
+      arith,
+      product (((args .tender) .window .end - (args .tender) .window .start + 63) / 64) (args .count) 158 1000
+          (words-of Multi (args .tender) (args .count) (((args .tender) .window .end - (args .tender) .window .start + 63) / 64)
+          (args .bids .now) (args .windows .now) (pre .0) refl .words)
+          (orderly Multi (args .tender) (args .count) (args .bids .now) (args .windows .now) (pre .0) .few),
+      length-replicate {A = ℕ} 158000 1,
+    )
 
 slice-aggregate-multi-in-2 : tie.Need-slice-aggregate-multi-in-2
 unfolding cellsOf
@@ -65,7 +91,14 @@ slice-aggregate-multi-in-2 c =
     let c8 = c .before .before .before .before .before .before .before .before in
     let args = c8 .args in
     let pre = c8 .pre in
-    sym (prefix-length ((((args .tender) .window .end - (args .tender) .window .start + 63) / 64) * (args .count)) 158000 (omega (arith, product (((args .tender) .window .end - (args .tender) .window .start + 63) / 64) (args .count) 158 1000 (words-of Multi (args .tender) (args .count) (((args .tender) .window .end - (args .tender) .window .start + 63) / 64) (args .bids .now) (args .windows .now) (pre .0) refl .words) (orderly Multi (args .tender) (args .count) (args .bids .now) (args .windows .now) (pre .0) .few))))
+    sym (prefix-length ((((args .tender) .window .end - (args .tender) .window .start + 63) / 64) * (args .count)) 158000
+    (omega (
+      arith,
+      product (((args .tender) .window .end - (args .tender) .window .start + 63) / 64) (args .count) 158 1000
+          (words-of Multi (args .tender) (args .count) (((args .tender) .window .end - (args .tender) .window .start + 63) / 64)
+          (args .bids .now) (args .windows .now) (pre .0) refl .words)
+          (orderly Multi (args .tender) (args .count) (args .bids .now) (args .windows .now) (pre .0) .few),
+    )))
 
 multi-in-requires : tie.Need-multi-in-requires
 unfolding cellsOf
@@ -73,7 +106,25 @@ multi-in-requires c κs =
     let c10 = c .before .before .before .before .before .before .before .before .before .before in
     let args = c10 .args in
     let pre = c10 .pre in
-    rw (prefix-length (args .count) 1000 (orderly Multi (args .tender) (args .count) (args .bids .now) (args .windows .now) (pre .0) .few)) (pre .0, (refl, (prefix-length ((((args .tender) .window .end - (args .tender) .window .start + 63) / 64) * (args .count)) 158000 (omega (arith, product (((args .tender) .window .end - (args .tender) .window .start + 63) / 64) (args .count) 158 1000 (words-of Multi (args .tender) (args .count) (((args .tender) .window .end - (args .tender) .window .start + 63) / 64) (args .bids .now) (args .windows .now) (pre .0) refl .words) (orderly Multi (args .tender) (args .count) (args .bids .now) (args .windows .now) (pre .0) .few))), (pre .1 .0, pre .1 .1))))
+    rw (prefix-length (args .count) 1000 (orderly Multi (args .tender) (args .count) (args .bids .now) (args .windows .now)
+    (pre .0) .few)) (
+      pre .0,
+      (
+        refl,
+        (
+          prefix-length
+              ((((args .tender) .window .end - (args .tender) .window .start + 63) / 64) * (args .count)) 158000
+              (omega (
+                arith,
+                product (((args .tender) .window .end - (args .tender) .window .start + 63) / 64) (args .count) 158 1000
+                    (words-of Multi (args .tender) (args .count) (((args .tender) .window .end - (args .tender) .window .start + 63) / 64)
+                    (args .bids .now) (args .windows .now) (pre .0) refl .words)
+                    (orderly Multi (args .tender) (args .count) (args .bids .now) (args .windows .now) (pre .0) .few),
+              )),
+          (pre .1 .0, pre .1 .1),
+        ),
+      ),
+    )
 
 same-length : tie.Need-same-length
 unfolding cellsOf
@@ -93,7 +144,8 @@ returns c =
     let c6 = c .before .before .before .before .before .before in
     let c17 = c6 .before .before .before .before .before .before .before .before .before .before .before in
     let args = c17 .args in
-    rw (prefix-length (args .count) 1000 (orderly Multi (args .tender) (args .count) (args .bids .now) (args .windows .now) (c17 .pre .0) .few)) at (c6 .multi-in .ensures)
+    rw (prefix-length (args .count) 1000 (orderly Multi (args .tender) (args .count) (args .bids .now) (args .windows .now)
+    (c17 .pre .0) .few)) at (c6 .multi-in .ensures)
 
 pub settle-multi-spec : {M : Type 1} → statement M
 settle-multi-spec =

@@ -1,4 +1,5 @@
--- `award_plain::single_in` meets its contract: the tables are laid out as starts and ends, and each way out is one of the laws. Assumes nothing.
+-- `award_plain::single_in` meets its contract: the tables are laid out as starts and ends, and each way out is one of the laws.
+-- Assumes nothing.
 use mathlib.Core.Path.{sym, subst, _∙_}
 use native.Mathlib.Omega.{arith}
 use lib.ListN.{length}
@@ -38,8 +39,10 @@ unfolding cellsOf
 spans-requires c κs =
     let c15 = c .before .before .before .before .before .before .before .before .before .before .before .before .before .before .before in
     let args = c15 .args in
-    let pre = c15 .pre in
-    (rw (pre .1 .0) (orderly Single (args .tender) (length (args .prices .now)) (args .bids .now) (args .windows .now) (pre .0)), pre .1 .1 .0 ∙ sym (pre .1 .0))
+    let pre = c15 .pre in (
+      rw (pre .1 .0) (orderly Single (args .tender) (length (args .prices .now)) (args .bids .now) (args .windows .now) (pre .0)),
+      pre .1 .1 .0 ∙ sym (pre .1 .0),
+    )
 
 thin-spans-requires : tie.Need-thin-spans-requires
 unfolding cellsOf
@@ -48,8 +51,13 @@ thin-spans-requires c κs =
     let c11 = c6 .before .before .before .before .before in
     let c22 = c11 .before .before .before .before .before .before .before .before .before .before .before in
     let args = c22 .args in
-    let pre = c22 .pre in
-    (ordered (args .tender) (length (args .prices .now)) (args .bids .now) (args .windows .now) (c6 .spans .last .1 .1 .1 .1 .0) (c6 .spans .last .1 .1 .1 .1 .1 .0) (c11 .prices .last .1 .0) (args .won .now) (args .cents .now) (pre .0) (c6 .spans .kept .1 .1 .1 .1 .0 ∙ pre .1 .0) (c6 .spans .kept .1 .1 .1 .1 .1 .0 ∙ pre .1 .1 .0) (rw (pre .1 .0) at (c6 .spans .ensures)) (c11 .prices .ensures), omega (arith, timed Single (args .tender) (length (args .prices .now)) (args .bids .now) (args .windows .now) (pre .0) .in-week))
+    let pre = c22 .pre in (
+      ordered (args .tender) (length (args .prices .now)) (args .bids .now) (args .windows .now) (c6 .spans .last .1 .1 .1 .1 .0)
+          (c6 .spans .last .1 .1 .1 .1 .1 .0) (c11 .prices .last .1 .0) (args .won .now) (args .cents .now) (pre .0)
+          (c6 .spans .kept .1 .1 .1 .1 .0 ∙ pre .1 .0) (c6 .spans .kept .1 .1 .1 .1 .1 .0 ∙ pre .1 .1 .0)
+          (rw (pre .1 .0) at (c6 .spans .ensures)) (c11 .prices .ensures),
+      omega (arith, timed Single (args .tender) (length (args .prices .now)) (args .bids .now) (args .windows .now) (pre .0) .in-week),
+    )
 
 enum-known-thin : tie.Need-enum-known-thin
 enum-known-thin c = search needs
@@ -58,10 +66,16 @@ add-t28 : tie.Need-add-t28
 unfolding cellsOf
 add-t28 c =
     let c10 = c .before .before .before .before .before .before .before .before .before .before in
-    let c26 = c10 .before .before .before .before .before .before .before .before .before .before .before .before .before .before .before .before in
+    let c26 = c10 .before .before .before .before .before .before .before .before .before .before .before .before .before .before .before
+    .before in
     let args = c26 .args in
     let pre = c26 .pre in
-    let s = rw (c10 .spans .kept .1 .1 .1 .1 .0 ∙ pre .1 .0) at (subst (Says (spans (c10 .spans .last .1 .1 .1 .1 .0) (c10 .spans .last .1 .1 .1 .1 .1 .0)) (length (c10 .spans .last .1 .1 .1 .1 .0)) (cellsOf (args .tender))) (c .before .thin .given .1) (c .before .before .before .thin-spans .ensures)) in let d = timed Single (args .tender) (length (args .prices .now)) (args .bids .now) (args .windows .now) (pre .0) in omega (arith, cell-found _ _ _ _ _ s .inside, d .some-minute, d .in-week)
+    let s = rw (c10 .spans .kept .1 .1 .1 .1 .0 ∙ pre .1 .0)
+    at (subst (Says (spans (c10 .spans .last .1 .1 .1 .1 .0) (c10 .spans .last .1 .1 .1 .1 .1 .0))
+    (length (c10 .spans .last .1 .1 .1 .1 .0)) (cellsOf (args .tender))) (c .before .thin .given .1)
+    (c .before .before .before .thin-spans .ensures)) in
+    let d = timed Single (args .tender) (length (args .prices .now)) (args .bids .now) (args .windows .now) (pre .0) in
+    omega (arith, cell-found _ _ _ _ _ s .inside, d .some-minute, d .in-week)
 
 enum-known-thin-2 : tie.Need-enum-known-thin-2
 enum-known-thin-2 c = search needs
@@ -70,10 +84,16 @@ add-t30 : tie.Need-add-t30
 unfolding cellsOf
 add-t30 c =
     let c10 = c .before .before .before .before .before .before .before .before .before .before in
-    let c26 = c10 .before .before .before .before .before .before .before .before .before .before .before .before .before .before .before .before in
+    let c26 = c10 .before .before .before .before .before .before .before .before .before .before .before .before .before .before .before
+    .before in
     let args = c26 .args in
     let pre = c26 .pre in
-    let s = rw (c10 .spans .kept .1 .1 .1 .1 .0 ∙ pre .1 .0) at (subst (Says (spans (c10 .spans .last .1 .1 .1 .1 .0) (c10 .spans .last .1 .1 .1 .1 .1 .0)) (length (c10 .spans .last .1 .1 .1 .1 .0)) (cellsOf (args .tender))) (c .before .thin2 .given .1) (c .before .before .before .thin-spans .ensures)) in let d = timed Single (args .tender) (length (args .prices .now)) (args .bids .now) (args .windows .now) (pre .0) in omega (arith, cell-found _ _ _ _ _ (s .1) .inside, d .some-minute, d .in-week)
+    let s = rw (c10 .spans .kept .1 .1 .1 .1 .0 ∙ pre .1 .0)
+    at (subst (Says (spans (c10 .spans .last .1 .1 .1 .1 .0) (c10 .spans .last .1 .1 .1 .1 .1 .0))
+    (length (c10 .spans .last .1 .1 .1 .1 .0)) (cellsOf (args .tender))) (c .before .thin2 .given .1)
+    (c .before .before .before .thin-spans .ensures)) in
+    let d = timed Single (args .tender) (length (args .prices .now)) (args .bids .now) (args .windows .now) (pre .0) in
+    omega (arith, cell-found _ _ _ _ _ (s .1) .inside, d .some-minute, d .in-week)
 
 enum-told : tie.Need-enum-told
 enum-told c = search needs
@@ -86,7 +106,44 @@ award-requires c κs =
     let c30 = c19 .before .before .before .before .before .before .before .before .before .before .before in
     let args = c30 .args in
     let pre = c30 .pre in
-    let h = ordered (args .tender) (length (args .prices .now)) (args .bids .now) (args .windows .now) (c14 .spans .last .1 .1 .1 .1 .0) (c14 .spans .last .1 .1 .1 .1 .1 .0) (c19 .prices .last .1 .0) (args .won .now) (args .cents .now) (pre .0) (c14 .spans .kept .1 .1 .1 .1 .0 ∙ pre .1 .0) (c14 .spans .kept .1 .1 .1 .1 .1 .0 ∙ pre .1 .1 .0) (rw (pre .1 .0) at (c14 .spans .ensures)) (c19 .prices .ensures) in ((omega (arith, c19 .prices .kept .1 .0, orderly Single (args .tender) (length (args .prices .now)) (args .bids .now) (args .windows .now) (pre .0) .few), (c14 .spans .kept .1 .1 .1 .1 .0 ∙ pre .1 .0) ∙ sym (c19 .prices .kept .1 .0), (c14 .spans .kept .1 .1 .1 .1 .1 .0 ∙ pre .1 .1 .0) ∙ sym (c19 .prices .kept .1 .0), omega (arith, timed Single (args .tender) (length (args .prices .now)) (args .bids .now) (args .windows .now) (pre .0) .some-minute), omega (arith, timed Single (args .tender) (length (args .prices .now)) (args .bids .now) (args .windows .now) (pre .0) .in-week)), ((omega (arith, c19 .prices .kept .1 .0, pre .1 .1 .1 .0), omega (arith, c19 .prices .kept .1 .0, pre .1 .1 .1 .1)), (λ i m. (h .ordered i, h .inside i), λ i m. prices-most (args .tender) (length (args .prices .now)) (args .bids .now) (args .windows .now) (c14 .spans .last .1 .1 .1 .1 .0) (c14 .spans .last .1 .1 .1 .1 .1 .0) (c19 .prices .last .1 .0) (args .won .now) (args .cents .now) (pre .0) (c14 .spans .kept .1 .1 .1 .1 .0 ∙ pre .1 .0) (c14 .spans .kept .1 .1 .1 .1 .1 .0 ∙ pre .1 .1 .0) (rw (pre .1 .0) at (c14 .spans .ensures)) (c19 .prices .ensures) i)))
+    let h = ordered (args .tender) (length (args .prices .now)) (args .bids .now) (args .windows .now) (c14 .spans .last .1 .1 .1 .1 .0)
+    (c14 .spans .last .1 .1 .1 .1 .1 .0) (c19 .prices .last .1 .0) (args .won .now) (args .cents .now) (pre .0)
+    (c14 .spans .kept .1 .1 .1 .1 .0 ∙ pre .1 .0) (c14 .spans .kept .1 .1 .1 .1 .1 .0 ∙ pre .1 .1 .0)
+    (rw (pre .1 .0) at (c14 .spans .ensures)) (c19 .prices .ensures) in (
+      (
+        omega (
+          arith,
+          c19 .prices .kept .1 .0,
+          orderly Single (args .tender) (length (args .prices .now)) (args .bids .now)
+              (args .windows .now) (pre .0) .few,
+        ),
+        (c14 .spans .kept .1 .1 .1 .1 .0 ∙ pre .1 .0) ∙ sym (c19 .prices .kept .1 .0),
+        (c14 .spans .kept .1 .1 .1 .1 .1 .0 ∙ pre .1 .1 .0) ∙ sym (c19 .prices .kept .1 .0),
+        omega (
+          arith,
+          timed Single (args .tender) (length (args .prices .now)) (args .bids .now) (args .windows .now)
+              (pre .0) .some-minute,
+        ),
+        omega (
+          arith,
+          timed Single (args .tender) (length (args .prices .now)) (args .bids .now)
+              (args .windows .now) (pre .0) .in-week,
+        ),
+      ),
+      (
+        (
+          omega (arith, c19 .prices .kept .1 .0, pre .1 .1 .1 .0),
+          omega (arith, c19 .prices .kept .1 .0, pre .1 .1 .1 .1),
+        ),
+        (
+          λ i m. (h .ordered i, h .inside i),
+          λ i m. prices-most (args .tender) (length (args .prices .now)) (args .bids .now)
+              (args .windows .now) (c14 .spans .last .1 .1 .1 .1 .0) (c14 .spans .last .1 .1 .1 .1 .1 .0) (c19 .prices .last .1 .0)
+              (args .won .now) (args .cents .now) (pre .0) (c14 .spans .kept .1 .1 .1 .1 .0 ∙ pre .1 .0)
+              (c14 .spans .kept .1 .1 .1 .1 .1 .0 ∙ pre .1 .1 .0) (rw (pre .1 .0) at (c14 .spans .ensures)) (c19 .prices .ensures) i,
+        ),
+      ),
+    )
 
 same-length : tie.Need-same-length
 same-length c = search needs
@@ -105,7 +162,14 @@ returns c =
     let c26 = c15 .before .before .before .before .before .before .before .before .before .before .before in
     let args = c26 .args in
     let pre = c26 .pre in
-    uncovered (args .tender) (length (args .prices .now)) (args .bids .now) (args .windows .now) (c10 .spans .last .1 .1 .1 .1 .0) (c10 .spans .last .1 .1 .1 .1 .1 .0) (c15 .prices .last .1 .0) (args .won .now) (args .cents .now) (pre .0) (c10 .spans .kept .1 .1 .1 .1 .0 ∙ pre .1 .0) (c10 .spans .kept .1 .1 .1 .1 .1 .0 ∙ pre .1 .1 .0) (rw (pre .1 .0) at (c10 .spans .ensures)) (c15 .prices .ensures) _ (rw (c10 .spans .kept .1 .1 .1 .1 .0 ∙ pre .1 .0) at (subst (Says (spans (c10 .spans .last .1 .1 .1 .1 .0) (c10 .spans .last .1 .1 .1 .1 .1 .0)) (length (c10 .spans .last .1 .1 .1 .1 .0)) (cellsOf (args .tender))) (c .before .thin .given .1) (c .before .before .before .thin-spans .ensures)))
+    uncovered (args .tender) (length (args .prices .now)) (args .bids .now) (args .windows .now) (c10 .spans .last .1 .1 .1 .1 .0)
+    (c10 .spans .last .1 .1 .1 .1 .1 .0) (c15 .prices .last .1 .0) (args .won .now) (args .cents .now) (pre .0)
+    (c10 .spans .kept .1 .1 .1 .1 .0 ∙ pre .1 .0) (c10 .spans .kept .1 .1 .1 .1 .1 .0 ∙ pre .1 .1 .0)
+    (rw (pre .1 .0) at (c10 .spans .ensures)) (c15 .prices .ensures) _
+    (rw (c10 .spans .kept .1 .1 .1 .1 .0 ∙ pre .1 .0)
+    at (subst (Says (spans (c10 .spans .last .1 .1 .1 .1 .0) (c10 .spans .last .1 .1 .1 .1 .1 .0))
+    (length (c10 .spans .last .1 .1 .1 .1 .0)) (cellsOf (args .tender))) (c .before .thin .given .1)
+    (c .before .before .before .thin-spans .ensures)))
 
 same-length-4 : tie.Need-same-length-4
 same-length-4 c = search needs
@@ -124,7 +188,14 @@ returns-2 c =
     let c26 = c15 .before .before .before .before .before .before .before .before .before .before .before in
     let args = c26 .args in
     let pre = c26 .pre in
-    lone (args .tender) (length (args .prices .now)) (args .bids .now) (args .windows .now) (c10 .spans .last .1 .1 .1 .1 .0) (c10 .spans .last .1 .1 .1 .1 .1 .0) (c15 .prices .last .1 .0) (args .won .now) (args .cents .now) (pre .0) (c10 .spans .kept .1 .1 .1 .1 .0 ∙ pre .1 .0) (c10 .spans .kept .1 .1 .1 .1 .1 .0 ∙ pre .1 .1 .0) (rw (pre .1 .0) at (c10 .spans .ensures)) (c15 .prices .ensures) _ (rw (c10 .spans .kept .1 .1 .1 .1 .0 ∙ pre .1 .0) at (subst (Says (spans (c10 .spans .last .1 .1 .1 .1 .0) (c10 .spans .last .1 .1 .1 .1 .1 .0)) (length (c10 .spans .last .1 .1 .1 .1 .0)) (cellsOf (args .tender))) (c .before .thin2 .given .1) (c .before .before .before .thin-spans .ensures)))
+    lone (args .tender) (length (args .prices .now)) (args .bids .now) (args .windows .now) (c10 .spans .last .1 .1 .1 .1 .0)
+    (c10 .spans .last .1 .1 .1 .1 .1 .0) (c15 .prices .last .1 .0) (args .won .now) (args .cents .now) (pre .0)
+    (c10 .spans .kept .1 .1 .1 .1 .0 ∙ pre .1 .0) (c10 .spans .kept .1 .1 .1 .1 .1 .0 ∙ pre .1 .1 .0)
+    (rw (pre .1 .0) at (c10 .spans .ensures)) (c15 .prices .ensures) _
+    (rw (c10 .spans .kept .1 .1 .1 .1 .0 ∙ pre .1 .0)
+    at (subst (Says (spans (c10 .spans .last .1 .1 .1 .1 .0) (c10 .spans .last .1 .1 .1 .1 .1 .0))
+    (length (c10 .spans .last .1 .1 .1 .1 .0)) (cellsOf (args .tender))) (c .before .thin2 .given .1)
+    (c .before .before .before .thin-spans .ensures)))
 
 same-length-7 : tie.Need-same-length-7
 same-length-7 c = search needs
@@ -152,7 +223,14 @@ returns-3 c =
     let c35 = c24 .before .before .before .before .before .before .before .before .before .before .before in
     let args = c35 .args in
     let pre = c35 .pre in
-    settled (args .tender) (length (args .prices .now)) (args .bids .now) (args .windows .now) (c19 .spans .last .1 .1 .1 .1 .0) (c19 .spans .last .1 .1 .1 .1 .1 .0) (c24 .prices .last .1 .0) (args .won .now) (args .cents .now) (pre .0) (c19 .spans .kept .1 .1 .1 .1 .0 ∙ pre .1 .0) (c19 .spans .kept .1 .1 .1 .1 .1 .0 ∙ pre .1 .1 .0) (rw (pre .1 .0) at (c19 .spans .ensures)) (c24 .prices .ensures) (rw (c19 .spans .kept .1 .1 .1 .1 .0 ∙ pre .1 .0) at (subst (Says (spans (c19 .spans .last .1 .1 .1 .1 .0) (c19 .spans .last .1 .1 .1 .1 .1 .0)) (length (c19 .spans .last .1 .1 .1 .1 .0)) (cellsOf (args .tender))) (c10 .enum-told .given .1) (c12 .thin-spans .ensures))) (c4 .award .last .1 .1 .1 .1 .0) (c4 .award .last .1 .1 .1 .1 .1 .0) (c4 .award .result) (c4 .award .ensures)
+    settled (args .tender) (length (args .prices .now)) (args .bids .now) (args .windows .now) (c19 .spans .last .1 .1 .1 .1 .0)
+    (c19 .spans .last .1 .1 .1 .1 .1 .0) (c24 .prices .last .1 .0) (args .won .now) (args .cents .now) (pre .0)
+    (c19 .spans .kept .1 .1 .1 .1 .0 ∙ pre .1 .0) (c19 .spans .kept .1 .1 .1 .1 .1 .0 ∙ pre .1 .1 .0)
+    (rw (pre .1 .0) at (c19 .spans .ensures)) (c24 .prices .ensures)
+    (rw (c19 .spans .kept .1 .1 .1 .1 .0 ∙ pre .1 .0)
+    at (subst (Says (spans (c19 .spans .last .1 .1 .1 .1 .0) (c19 .spans .last .1 .1 .1 .1 .1 .0))
+    (length (c19 .spans .last .1 .1 .1 .1 .0)) (cellsOf (args .tender))) (c10 .enum-told .given .1) (c12 .thin-spans .ensures)))
+    (c4 .award .last .1 .1 .1 .1 .0) (c4 .award .last .1 .1 .1 .1 .1 .0) (c4 .award .result) (c4 .award .ensures)
 
 pub single-in-spec : {M : Type 1} → statement M
 single-in-spec =

@@ -41,7 +41,8 @@ cells-less : tie.Need-cells-less Inv-loop μ-loop Inv-cells μ-cells
 cells-less c = omega (arith, c .before .before .before .loop .inv .0 .here, c .before .before .before .loop .inv .1)
 
 cells-again : tie.Need-cells-again Inv-loop μ-loop Inv-cells μ-cells
-cells-again c = looks-on (c .before .before .before .loop .inv .0) (c .before .before .loop-test .taken) (sym (c .before .span-has .ensures) ∙ c .if1 .taken)
+cells-again c = looks-on (c .before .before .before .loop .inv .0) (c .before .before .loop-test .taken)
+    (sym (c .before .span-has .ensures) ∙ c .if1 .taken)
 
 add-i : tie.Need-add-i Inv-loop μ-loop Inv-cells μ-cells
 add-i c = omega arith
@@ -50,7 +51,11 @@ loop-less : tie.Need-loop-less Inv-loop μ-loop Inv-cells μ-cells
 loop-less c = omega arith
 
 loop-again : tie.Need-loop-again Inv-loop μ-loop Inv-cells μ-cells
-loop-again c = (asks-on (c .before .before .before .loop .inv .0) (c .before .before .loop-test .taken) (sym (c .before .span-has .ensures) ∙ c .if1 .left), c .before .before .before .loop .inv .1)
+loop-again c = (
+  asks-on (c .before .before .before .loop .inv .0) (c .before .before .loop-test .taken)
+      (sym (c .before .span-has .ensures) ∙ c .if1 .left),
+  c .before .before .before .loop .inv .1,
+)
 
 returns : tie.Need-returns Inv-loop μ-loop Inv-cells μ-cells
 returns c = bare-found (c .before .loop .inv .0) (c .loop-test .left)

@@ -37,7 +37,11 @@ add-table : tie.Need-add-table Inv-loop μ-loop
 add-table c =
     let c4 = c .before .before .before .before in
     let args = c4 .args in
-    omega (arith, c .before .before .before .loop .inv .1 .1 (getD (args .at .now) (c .before .before .before .loop .i) 0), times-most (args .at .now) (c .before .before .before .loop .i) (getD (args .at .now) (c .before .before .before .loop .i) 0))
+    omega (
+      arith,
+      c .before .before .before .loop .inv .1 .1 (getD (args .at .now) (c .before .before .before .loop .i) 0),
+      times-most (args .at .now) (c .before .before .before .loop .i) (getD (args .at .now) (c .before .before .before .loop .i) 0),
+    )
 
 mul-table-2 : tie.Need-mul-table-2 Inv-loop μ-loop
 mul-table-2 c =
@@ -57,8 +61,14 @@ loop-less c = omega arith
 
 loop-again : tie.Need-loop-again Inv-loop μ-loop
 loop-again c =
-    let c4 = c .before .before .before .before in
-    (omega arith, (simp length-set (c .before .before .before .loop .inv .1 .0), counted (c4 .args .at .now) (c .before .before .before .loop .table) (c .before .before .before .loop .i) (omega (arith, c4 .pre .1 .0 (c .before .before .before .loop .i))) (c .before .before .before .loop .inv .1 .1)))
+    let c4 = c .before .before .before .before in (
+      omega arith,
+      (
+        simp length-set (c .before .before .before .loop .inv .1 .0),
+        counted (c4 .args .at .now) (c .before .before .before .loop .table) (c .before .before .before .loop .i)
+            (omega (arith, c4 .pre .1 .0 (c .before .before .before .loop .i))) (c .before .before .before .loop .inv .1 .1),
+      ),
+    )
 
 same-length : tie.Need-same-length Inv-loop μ-loop
 same-length c = omega arith

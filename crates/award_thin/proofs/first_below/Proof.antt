@@ -32,7 +32,9 @@ returns c =
     let c16 = c11 .before .before .before .before .before in
     let args = c16 .args in
     let pre = c16 .pre in
-    first-found (args .masks .now) (args .w) (args .n) (args .cells) (c11 .unlock .last .0) (c6 .gather .last .1 .1 .1 .1 .0) (c .before .next .result) (c11 .unlock .ensures) (c6 .gather .ensures) (c .before .next .ensures) (c11 .unlock .kept .0 ∙ pre .1 .1 .1 .0) (pre .1 .1 .0) (c .if1 .taken)
+    first-found (args .masks .now) (args .w) (args .n) (args .cells) (c11 .unlock .last .0) (c6 .gather .last .1 .1 .1 .1 .0)
+    (c .before .next .result) (c11 .unlock .ensures) (c6 .gather .ensures) (c .before .next .ensures)
+    (c11 .unlock .kept .0 ∙ pre .1 .1 .1 .0) (pre .1 .1 .0) (c .if1 .taken)
 
 same-length-3 : tie.Need-same-length-3
 same-length-3 c = search needs
@@ -47,7 +49,9 @@ returns-2 c =
     let c16 = c11 .before .before .before .before .before in
     let args = c16 .args in
     let pre = c16 .pre in
-    first-none (args .masks .now) (args .w) (args .n) (args .cells) (c11 .unlock .last .0) (c6 .gather .last .1 .1 .1 .1 .0) (c .before .next .result) (c11 .unlock .ensures) (c6 .gather .ensures) (c .before .next .ensures) (c11 .unlock .kept .0 ∙ pre .1 .1 .1 .0) (pre .1 .1 .0) (c .if1 .left)
+    first-none (args .masks .now) (args .w) (args .n) (args .cells) (c11 .unlock .last .0) (c6 .gather .last .1 .1 .1 .1 .0)
+    (c .before .next .result) (c11 .unlock .ensures) (c6 .gather .ensures) (c .before .next .ensures)
+    (c11 .unlock .kept .0 ∙ pre .1 .1 .1 .0) (pre .1 .1 .0) (c .if1 .left)
 
 pub first-below-spec : {M : Type 1} → statement M
 first-below-spec =

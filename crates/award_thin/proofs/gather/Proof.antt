@@ -47,8 +47,15 @@ loop-less c = search needs
 loop-again : tie.Need-loop-again Inv-loop μ-loop
 loop-again c =
     let c7 = c .before .before .before .before .before .before .before in
-    let args = c7 .args in
-    (omega arith, (simp length-set (c .before .before .before .loop .inv .1 .0), gathered-more (args .masks .now) (args .w) (args .n) (args .wanted .now) (c .before .before .before .loop .enough) (c .before .before .before .loop .q) (c .seen .result) (omega arith) (c .before .before .before .loop .inv .1 .1) (c .seen .ensures)))
+    let args = c7 .args in (
+      omega arith,
+      (
+        simp length-set (c .before .before .before .loop .inv .1 .0),
+        gathered-more (args .masks .now) (args .w) (args .n) (args .wanted .now) (c .before .before .before .loop .enough)
+            (c .before .before .before .loop .q) (c .seen .result) (omega arith) (c .before .before .before .loop .inv .1 .1)
+            (c .seen .ensures),
+      ),
+    )
 
 same-length : tie.Need-same-length Inv-loop μ-loop
 same-length c = c .before .loop .inv .1 .0

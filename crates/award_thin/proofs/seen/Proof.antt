@@ -1,4 +1,5 @@
--- `award_thin::seen` meets its contract: `one` and `two` have the cells that the bids passed have once and twice, and more bids only add to them. Assumes nothing.
+-- `award_thin::seen` meets its contract: `one` and `two` have the cells that the bids passed have once and twice, and more bids
+-- only add to them. Assumes nothing.
 use Prim.Native.Nat.{_+_, _*_, _-_, _≤_}
 use native.Mathlib.Omega.{arith}
 use lib.ListN.{getD}
@@ -39,13 +40,23 @@ mul-x-2 c =
 shared-slice-read-x : tie.Need-shared-slice-read-x Inv-loop μ-loop
 shared-slice-read-x c =
     let args = c .before .before .before .args in
-    omega (arith, row-within (args .w) (args .n) (c .before .before .loop .i) (c .before .loop-test .taken), c .before .before .before .pre .0)
+    omega (
+      arith,
+      row-within (args .w) (args .n) (c .before .before .loop .i) (c .before .loop-test .taken),
+      c .before .before .before .pre .0,
+    )
 
 returns : tie.Need-returns Inv-loop μ-loop
 returns c =
     let c4 = c .before .before .before .before in
     let args = c4 .args in
-    let x = getD (args .masks .now) (args .w * c .before .before .before .loop .i + args .q) 0 in reached-soon (args .masks .now) (args .w) (args .q) (c .before .before .before .loop .i + 1) (bitOr (c .before .before .before .loop .one) x) (bitOr (c .before .before .before .loop .two) (bitAnd (c .before .before .before .loop .one) x)) (seeing-more (args .masks .now) (args .w) (args .q) (c4 .pre .1) (c .before .before .before .loop .i) (c .before .before .before .loop .one) (c .before .before .before .loop .two) (c .before .before .before .loop .inv .1)) (args .wanted) (args .n) (omega arith) (c .if1 .taken)
+    let x = getD (args .masks .now) (args .w * c .before .before .before .loop .i + args .q) 0 in
+    reached-soon (args .masks .now) (args .w) (args .q) (c .before .before .before .loop .i + 1)
+    (bitOr (c .before .before .before .loop .one) x)
+    (bitOr (c .before .before .before .loop .two) (bitAnd (c .before .before .before .loop .one) x))
+    (seeing-more (args .masks .now) (args .w) (args .q) (c4 .pre .1) (c .before .before .before .loop .i)
+    (c .before .before .before .loop .one) (c .before .before .before .loop .two) (c .before .before .before .loop .inv .1))
+    (args .wanted) (args .n) (omega arith) (c .if1 .taken)
 
 add-i : tie.Need-add-i Inv-loop μ-loop
 add-i c = omega arith
@@ -56,13 +67,17 @@ loop-less c = omega arith
 loop-again : tie.Need-loop-again Inv-loop μ-loop
 loop-again c =
     let c4 = c .before .before .before .before in
-    let args = c4 .args in
-    (omega arith, seeing-more (args .masks .now) (args .w) (args .q) (c4 .pre .1) (c .before .before .before .loop .i) (c .before .before .before .loop .one) (c .before .before .before .loop .two) (c .before .before .before .loop .inv .1))
+    let args = c4 .args in (
+      omega arith,
+      seeing-more (args .masks .now) (args .w) (args .q) (c4 .pre .1) (c .before .before .before .loop .i)
+          (c .before .before .before .loop .one) (c .before .before .before .loop .two) (c .before .before .before .loop .inv .1),
+    )
 
 returns-2 : tie.Need-returns-2 Inv-loop μ-loop
 returns-2 c =
     let args = c .before .before .args in
-    reached-all (args .masks .now) (args .w) (args .q) (c .before .loop .i) (c .before .loop .one) (c .before .loop .two) (c .before .loop .inv .1) (args .wanted) (args .n) (omega arith)
+    reached-all (args .masks .now) (args .w) (args .q) (c .before .loop .i) (c .before .loop .one) (c .before .loop .two)
+    (c .before .loop .inv .1) (args .wanted) (args .n) (omega arith)
 
 pub seen-spec : {M : Type 1} → statement M
 seen-spec =

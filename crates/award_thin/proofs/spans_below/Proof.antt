@@ -38,7 +38,8 @@ loop-holds c =
     let c4 = c .before .before .before .before in
     let c8 = c4 .before .before .before .before in
     let args = c8 .args in
-    sweep-starts (args .starts .now) (args .ends .now) (c4 .count-at .last .1 .0) (c .before .count-at2 .last .1 .0) (args .cells) (c8 .pre .0 .same) (c4 .count-at .ensures) (c .before .count-at2 .ensures)
+    sweep-starts (args .starts .now) (args .ends .now) (c4 .count-at .last .1 .0) (c .before .count-at2 .last .1 .0) (args .cells)
+    (c8 .pre .0 .same) (c4 .count-at .ensures) (c .before .count-at2 .ensures)
 
 mul-count : tie.Need-mul-count Inv-loop μ-loop
 mul-count c = omega arith
@@ -51,7 +52,12 @@ add-count c =
     let c6 = c .before .before .before .before .before .before in
     let c10 = c6 .before .before .before .before in
     let args = c10 .args in
-    omega (arith, small (args .starts .now) (args .ends .now) (c6 .count-at .last .1 .0) (c .before .before .before .count-at2 .last .1 .0) (args .cells) (c .before .loop .count) (c .before .loop .x) (c .before .loop .inv) (c10 .pre .0))
+    omega (
+      arith,
+      small (args .starts .now) (args .ends .now) (c6 .count-at .last .1 .0)
+          (c .before .before .before .count-at2 .last .1 .0) (args .cells) (c .before .loop .count) (c .before .loop .x)
+          (c .before .loop .inv) (c10 .pre .0),
+    )
 
 mul-count-2 : tie.Need-mul-count-2 Inv-loop μ-loop
 mul-count-2 c = omega arith
@@ -64,7 +70,11 @@ sub-count c =
     let c6 = c .before .before .before .before .before .before in
     let c10 = c6 .before .before .before .before in
     let args = c10 .args in
-    omega (arith, here (args .starts .now) (args .ends .now) (c6 .count-at .last .1 .0) (c .before .before .before .count-at2 .last .1 .0) (args .cells) (c .before .loop .count) (c .before .loop .x) (c .before .loop .inv) (c10 .pre .0))
+    omega (
+      arith,
+      here (args .starts .now) (args .ends .now) (c6 .count-at .last .1 .0) (c .before .before .before .count-at2 .last .1 .0)
+          (args .cells) (c .before .loop .count) (c .before .loop .x) (c .before .loop .inv) (c10 .pre .0),
+    )
 
 returns : tie.Need-returns Inv-loop μ-loop
 returns c =
@@ -72,7 +82,9 @@ returns c =
     let c7 = c4 .before .before .before in
     let c11 = c7 .before .before .before .before in
     let args = c11 .args in
-    sweep-found (args .starts .now) (args .ends .now) (c7 .count-at .last .1 .0) (c4 .count-at2 .last .1 .0) (args .cells) (c .before .before .loop .count) (c .before .before .loop .x) (c .before .before .loop .inv) (c11 .pre .0) (c .before .loop-test .taken) (c .if1 .taken)
+    sweep-found (args .starts .now) (args .ends .now) (c7 .count-at .last .1 .0) (c4 .count-at2 .last .1 .0) (args .cells)
+    (c .before .before .loop .count) (c .before .before .loop .x) (c .before .before .loop .inv) (c11 .pre .0)
+    (c .before .loop-test .taken) (c .if1 .taken)
 
 add-x : tie.Need-add-x Inv-loop μ-loop
 add-x c = omega arith
@@ -86,14 +98,17 @@ loop-again c =
     let c7 = c4 .before .before .before in
     let c11 = c7 .before .before .before .before in
     let args = c11 .args in
-    sweep-on (args .starts .now) (args .ends .now) (c7 .count-at .last .1 .0) (c4 .count-at2 .last .1 .0) (args .cells) (c .before .before .loop .count) (c .before .before .loop .x) (c .before .before .loop .inv) (c11 .pre .0) (c .before .loop-test .taken) (c .if1 .left)
+    sweep-on (args .starts .now) (args .ends .now) (c7 .count-at .last .1 .0) (c4 .count-at2 .last .1 .0) (args .cells)
+    (c .before .before .loop .count) (c .before .before .loop .x) (c .before .before .loop .inv) (c11 .pre .0)
+    (c .before .loop-test .taken) (c .if1 .left)
 
 returns-2 : tie.Need-returns-2 Inv-loop μ-loop
 returns-2 c =
     let c6 = c .before .before .before .before .before .before in
     let c10 = c6 .before .before .before .before in
     let args = c10 .args in
-    sweep-ends (args .starts .now) (args .ends .now) (c6 .count-at .last .1 .0) (c .before .before .before .count-at2 .last .1 .0) (args .cells) (c .before .loop .count) (c .before .loop .x) (c .before .loop .inv) (c10 .pre .0) (c .loop-test .left)
+    sweep-ends (args .starts .now) (args .ends .now) (c6 .count-at .last .1 .0) (c .before .before .before .count-at2 .last .1 .0)
+    (args .cells) (c .before .loop .count) (c .before .loop .x) (c .before .loop .inv) (c10 .pre .0) (c .loop-test .left)
 
 pub spans-below-spec : {M : Type 1} → statement M
 spans-below-spec =

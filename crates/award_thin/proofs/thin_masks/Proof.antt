@@ -16,7 +16,8 @@ masks-below-requires c κs = search needs
 returns : tie.Need-returns
 returns c =
     let args = c .before .before .before .args in
-    enough (has (args .masks .now) (args .w)) (args .n) (args .cells) (c .before .masks-below .result) (c .before .masks-below .ensures) (omega arith)
+    enough (has (args .masks .now) (args .w)) (args .n) (args .cells) (c .before .masks-below .result) (c .before .masks-below .ensures)
+    (omega arith)
 
 bare-mask-requires : tie.Need-bare-mask-requires
 bare-mask-requires c κs =
@@ -27,13 +28,16 @@ returns-2 : tie.Need-returns-2
 returns-2 c =
     let c5 = c .before .before .before .before .before in
     let args = c5 .args in
-    bare (has (args .masks .now) (args .w)) (args .n) (args .cells) (c .before .bare-mask .result) (c .before .bare-mask .ensures) (c .if2 .taken)
+    bare (has (args .masks .now) (args .w)) (args .n) (args .cells) (c .before .bare-mask .result) (c .before .bare-mask .ensures)
+    (c .if2 .taken)
 
 returns-3 : tie.Need-returns-3
 returns-3 c =
     let c5 = c .before .before .before .before .before in
     let args = c5 .args in
-    lone (has (args .masks .now) (args .w)) (args .n) (args .cells) (c .before .before .before .masks-below .result) (c .before .bare-mask .result) (c .before .before .before .masks-below .ensures) (c .before .before .if1 .left) (c .before .bare-mask .ensures) (c .if2 .left)
+    lone (has (args .masks .now) (args .w)) (args .n) (args .cells) (c .before .before .before .masks-below .result)
+    (c .before .bare-mask .result) (c .before .before .before .masks-below .ensures) (c .before .before .if1 .left)
+    (c .before .bare-mask .ensures) (c .if2 .left)
 
 pub thin-masks-spec : {M : Type 1} → statement M
 thin-masks-spec =

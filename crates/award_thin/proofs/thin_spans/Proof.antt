@@ -18,7 +18,8 @@ returns : tie.Need-returns
 returns c =
     let c4 = c .before .before .before .before in
     let args = c4 .args in
-    enough (spans (args .starts .now) (args .ends .now)) (length (args .starts .now)) (args .cells) (c .before .spans-below .result) (c .before .spans-below .ensures) (omega arith)
+    enough (spans (args .starts .now) (args .ends .now)) (length (args .starts .now)) (args .cells) (c .before .spans-below .result)
+    (c .before .spans-below .ensures) (omega arith)
 
 bare-span-requires : tie.Need-bare-span-requires
 bare-span-requires c κs =
@@ -29,13 +30,16 @@ returns-2 : tie.Need-returns-2
 returns-2 c =
     let c6 = c .before .before .before .before .before .before in
     let args = c6 .args in
-    bare (spans (args .starts .now) (args .ends .now)) (length (args .starts .now)) (args .cells) (c .before .bare-span .result) (c .before .bare-span .ensures) (c .if2 .taken)
+    bare (spans (args .starts .now) (args .ends .now)) (length (args .starts .now)) (args .cells) (c .before .bare-span .result)
+    (c .before .bare-span .ensures) (c .if2 .taken)
 
 returns-3 : tie.Need-returns-3
 returns-3 c =
     let c6 = c .before .before .before .before .before .before in
     let args = c6 .args in
-    lone (spans (args .starts .now) (args .ends .now)) (length (args .starts .now)) (args .cells) (c .before .before .before .spans-below .result) (c .before .bare-span .result) (c .before .before .before .spans-below .ensures) (c .before .before .if1 .left) (c .before .bare-span .ensures) (c .if2 .left)
+    lone (spans (args .starts .now) (args .ends .now)) (length (args .starts .now)) (args .cells)
+    (c .before .before .before .spans-below .result) (c .before .bare-span .result) (c .before .before .before .spans-below .ensures)
+    (c .before .before .if1 .left) (c .before .bare-span .ensures) (c .if2 .left)
 
 pub thin-spans-spec : {M : Type 1} → statement M
 thin-spans-spec =

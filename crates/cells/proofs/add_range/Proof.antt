@@ -1,4 +1,5 @@
--- `cells::add_range` meets its contract: bits of one word, or the rest of the first, whole words and the start of the last. Assumes nothing.
+-- `cells::add_range` meets its contract: bits of one word, or the rest of the first, whole words and the start of the last.
+-- Assumes nothing.
 use native.Mathlib.Omega.{arith}
 use Prim.Native.Nat.{_/_}
 use Rattle.cells.proofs.Store.{filled-join, filled-at, filled-words}
@@ -43,7 +44,8 @@ returns-3 c =
     let c11 = c7 .before .before .before .before in
     let c16 = c11 .before .before .before .before .before in
     let args = c16 .args in
-    filled-join (omega arith) (omega arith) (filled-words (args .s) (args .e / 64) (omega arith) (c11 .add-bits2 .ensures) (c7 .add-words .ensures)) (filled-at (omega arith) (omega arith) (c .before .before .add-bits3 .ensures))
+    filled-join (omega arith) (omega arith) (filled-words (args .s) (args .e / 64) (omega arith) (c11 .add-bits2 .ensures)
+    (c7 .add-words .ensures)) (filled-at (omega arith) (omega arith) (c .before .before .add-bits3 .ensures))
 
 same-length-3 : tie.Need-same-length-3
 same-length-3 c = search needs
@@ -53,7 +55,8 @@ returns-4 c =
     let c7 = c .before .before .before .before .before .before .before in
     let c12 = c7 .before .before .before .before .before in
     let args = c12 .args in
-    filled-at (omega arith) (omega arith) (filled-words (args .s) (args .e / 64) (omega arith) (c7 .add-bits2 .ensures) (c .before .before .before .add-words .ensures))
+    filled-at (omega arith) (omega arith) (filled-words (args .s) (args .e / 64) (omega arith) (c7 .add-bits2 .ensures)
+    (c .before .before .before .add-words .ensures))
 
 pub add-range-spec : {M : Type 1} → statement M
 add-range-spec =

@@ -38,7 +38,8 @@ loop-again c = (
     omega arith,
     (
       simp length-set (c .before .loop .inv .1 .1 .0),
-      filled-join (omega arith) (omega arith) (c .before .loop .inv .1 .1 .1) (whole-added (c .before .loop .words) (c .before .loop .w) (omega arith)),
+      filled-join (omega arith) (omega arith) (c .before .loop .inv .1 .1 .1)
+          (whole-added (c .before .loop .words) (c .before .loop .w) (omega arith)),
     ),
   ),
 )

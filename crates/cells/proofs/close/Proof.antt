@@ -45,16 +45,15 @@ loop-less c = omega arith
 loop-again : tie.Need-loop-again Inv-loop μ-loop
 loop-again c =
     let c4 = c .before .before .before .before in
-    let args = c4 .args in
-    (
-  simp length-set (omega arith),
-  (
-    simp length-set (c .before .before .before .loop .inv .1 .0),
-    swept-more (c .before .before .before .loop .w) (args .held .now) (args .mask .now)
-        (c .before .before .before .loop .held) (c .before .before .before .loop .inv .1 .1) (omega arith)
-        (c .shared-slice-known .given (c .before .before .before .loop .w) .fits),
-  ),
-)
+    let args = c4 .args in (
+      simp length-set (omega arith),
+      (
+        simp length-set (c .before .before .before .loop .inv .1 .0),
+        swept-more (c .before .before .before .loop .w) (args .held .now) (args .mask .now)
+            (c .before .before .before .loop .held) (c .before .before .before .loop .inv .1 .1) (omega arith)
+            (c .shared-slice-known .given (c .before .before .before .loop .w) .fits),
+      ),
+    )
 
 same-length : tie.Need-same-length Inv-loop μ-loop
 same-length c = c .before .loop .inv .1 .0
@@ -62,7 +61,8 @@ same-length c = c .before .loop .inv .1 .0
 returns : tie.Need-returns Inv-loop μ-loop
 returns c =
     let args = c .before .before .args in
-    swept-all (c .before .loop .w) (args .held .now) (args .mask .now) (c .before .loop .held) (c .before .loop .inv .1 .1) (omega arith) (omega arith)
+    swept-all (c .before .loop .w) (args .held .now) (args .mask .now) (c .before .loop .held) (c .before .loop .inv .1 .1) (omega arith)
+    (omega arith)
 
 pub close-spec : {M : Type 1} → statement M
 close-spec =

@@ -1,4 +1,5 @@
--- `cells::close_counted` meets its contract: before word q the cells below 64 q are cleared of the mask, and the words up to which the cells are counted are not cleared. Assumes nothing.
+-- `cells::close_counted` meets its contract: before word q the cells below 64 q are cleared of the mask, and the words up to
+-- which the cells are counted are not cleared. Assumes nothing.
 use Prim.Native.Nat.{_-_, _≤_}
 use mathlib.Core.Path.{_≡_, refl}
 use native.Mathlib.Omega.{arith}
@@ -16,7 +17,8 @@ use Rattle.cells.proofs.first_word.Reads as first-word-reads
 use Rattle.cells.proofs.onward.Reads as onward-reads
 
 abbrev Inv-loop : tie.InvT-loop
-Inv-loop held₀ counts mask hop n q₀ held q = (q ≤ length held) × ((length held ≡ length held₀) × (Swept q held₀ mask held × (Counted held counts × (countedTo held₀ counts ≤ q))))
+Inv-loop held₀ counts mask hop n q₀ held q = (q ≤ length held)
+    × ((length held ≡ length held₀) × (Swept q held₀ mask held × (Counted held counts × (countedTo held₀ counts ≤ q))))
 
 abbrev μ-loop : tie.MeasureT-loop
 μ-loop held₀ counts mask hop n q₀ held q = length held₀ - q
@@ -36,7 +38,16 @@ loop-holds c =
     let c5 = c .before .before .before .before .before in
     let c10 = c5 .before .before .before .before .before in
     let args = c10 .args in
-    let P = c10 .pre in (omega (arith, c5 .first-word .ensures .0, P .0), (refl, (swept-first (c5 .first-word .result) (args .held .now) (args .mask .now) (c5 .first-word .ensures .1), c .before .before .count-back .ensures)))
+    let P = c10 .pre in (
+      omega (arith, c5 .first-word .ensures .0, P .0),
+      (
+        refl,
+        (
+          swept-first (c5 .first-word .result) (args .held .now) (args .mask .now) (c5 .first-word .ensures .1),
+          c .before .before .count-back .ensures,
+        ),
+      ),
+    )
 
 mul-held : tie.Need-mul-held Inv-loop μ-loop
 mul-held c = omega arith
@@ -69,7 +80,18 @@ loop-again c =
     let c4 = c .before .before .before .before in
     let c15 = c4 .before .before .before .before .before .before .before .before .before .before .before in
     let args = c15 .args in
-    let s = c4 .loop .inv .1 in let l : length (c4 .loop .held) ≡ length (args .held .now) = s .0 in (simp length-set (omega (arith, c .onward .ensures .within)), (simp length-set (s .0), (swept-on (c4 .loop .q) (c .onward .result) (args .held .now) (args .mask .now) _ (swept-more (c4 .loop .q) (args .held .now) (args .mask .now) (c4 .loop .held) (s .1 .0) (omega arith) (c .before .shared-slice-known3 .given (c4 .loop .q) .fits)) (c .onward .ensures), (counted-set (c4 .loop .q) _ (s .1 .1 .0) (rw l (s .1 .1 .1)), omega (arith, c .onward .ensures .on, s .1 .1 .1)))))
+    let s = c4 .loop .inv .1 in let l : length (c4 .loop .held) ≡ length (args .held .now) = s .0 in (
+      simp length-set (omega (arith, c .onward .ensures .within)),
+      (
+        simp length-set (s .0),
+        (
+          swept-on (c4 .loop .q) (c .onward .result) (args .held .now) (args .mask .now) _
+              (swept-more (c4 .loop .q) (args .held .now) (args .mask .now) (c4 .loop .held) (s .1 .0) (omega arith)
+              (c .before .shared-slice-known3 .given (c4 .loop .q) .fits)) (c .onward .ensures),
+          (counted-set (c4 .loop .q) _ (s .1 .1 .0) (rw l (s .1 .1 .1)), omega (arith, c .onward .ensures .on, s .1 .1 .1)),
+        ),
+      ),
+    )
 
 same-length : tie.Need-same-length Inv-loop μ-loop
 same-length c = c .before .loop .inv .1 .0
@@ -83,7 +105,11 @@ returns : tie.Need-returns Inv-loop μ-loop
 returns c =
     let c12 = c .before .before .before .before .before .before .before .before .before .before .before .before in
     let args = c12 .args in
-    let s = c .before .loop .inv .1 in (swept-all (c .before .loop .q) (args .held .now) (args .mask .now) (c .before .loop .held) (s .1 .0) (omega arith) (c12 .pre .0), s .1 .1 .0)
+    let s = c .before .loop .inv .1 in (
+      swept-all (c .before .loop .q) (args .held .now) (args .mask .now) (c .before .loop .held)
+          (s .1 .0) (omega arith) (c12 .pre .0),
+      s .1 .1 .0,
+    )
 
 pub close-counted-spec : {M : Type 1} → statement M
 close-counted-spec =

@@ -28,7 +28,10 @@ same-length c = search needs
 returns : tie.Need-returns
 returns c =
     let args = c .before .before .args in
-    let k = c .before .before .pre .0 in (counted-back (args .q) k (c .if1 .taken), omega (arith, counted-last (args .words .now) (args .counts .now) (args .q) (k .size)))
+    let k = c .before .before .pre .0 in (
+      counted-back (args .q) k (c .if1 .taken),
+      omega (arith, counted-last (args .words .now) (args .counts .now) (args .q) (k .size)),
+    )
 
 returns-2 : tie.Need-returns-2
 returns-2 c = search needs

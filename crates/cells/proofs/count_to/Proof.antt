@@ -48,13 +48,23 @@ shared-slice-read-sum c = omega arith
 cast-sum : tie.Need-cast-sum Inv-loop μ-loop
 cast-sum c =
     let c6 = c .before .before .before .before .before .before in
-    omega (arith, ones-le 64 (getD (c6 .args .words .now) (c .before .before .loop .q) 0) (c .shared-slice-known .given (c .before .before .loop .q) .fits))
+    omega (
+      arith,
+      ones-le 64 (getD (c6 .args .words .now) (c .before .before .loop .q) 0)
+          (c .shared-slice-known .given (c .before .before .loop .q) .fits),
+    )
 
 add-sum : tie.Need-add-sum Inv-loop μ-loop
 add-sum c =
     let c6 = c .before .before .before .before .before .before in
     let args = c6 .args in
-    omega (arith, ones-le 64 (getD (args .words .now) (c .before .before .loop .q) 0) (c .shared-slice-known .given (c .before .before .loop .q) .fits), c .before .before .loop .inv .1 .last, cells-few (args .words .now) (λ p. c .shared-slice-known .given p .fits) (c .before .before .loop .q))
+    omega (
+      arith,
+      ones-le 64 (getD (args .words .now) (c .before .before .loop .q) 0)
+          (c .shared-slice-known .given (c .before .before .loop .q) .fits),
+      c .before .before .loop .inv .1 .last,
+      cells-few (args .words .now) (λ p. c .shared-slice-known .given p .fits) (c .before .before .loop .q),
+    )
 
 add-q : tie.Need-add-q Inv-loop μ-loop
 add-q c = omega arith
@@ -85,8 +95,10 @@ same-length c =
 returns-2 : tie.Need-returns-2 Inv-loop μ-loop
 returns-2 c =
     let c5 = c .before .before .before .before .before in
-    let args = c5 .args in
-    (counting-done (args .e) (c .before .loop .inv .1) (c5 .pre .1 .0) (omega arith), omega (arith, counted-last (args .words .now) (c .before .loop .counts) (args .e) (c .before .loop .inv .1 .size)))
+    let args = c5 .args in (
+      counting-done (args .e) (c .before .loop .inv .1) (c5 .pre .1 .0) (omega arith),
+      omega (arith, counted-last (args .words .now) (c .before .loop .counts) (args .e) (c .before .loop .inv .1 .size)),
+    )
 
 pub count-to-spec : {M : Type 1} → statement M
 count-to-spec =

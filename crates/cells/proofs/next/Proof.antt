@@ -32,13 +32,15 @@ cast-result : tie.Need-cast-result
 cast-result c =
     let c6 = c .before .before .before .before .before .before in
     let args = c6 .args in
-    let x = args .from in let m = bitAnd (getD (args .a .now) (x / 64) 0) (whole - getD (args .b .now) (x / 64) 0) / 2 ^ (x % 64) in omega (arith, trailing-le 64 m)
+    let x = args .from in let m = bitAnd (getD (args .a .now) (x / 64) 0) (whole - getD (args .b .now) (x / 64) 0) / 2 ^ (x % 64) in
+    omega (arith, trailing-le 64 m)
 
 add-result : tie.Need-add-result
 add-result c =
     let c6 = c .before .before .before .before .before .before in
     let args = c6 .args in
-    let x = args .from in let m = bitAnd (getD (args .a .now) (x / 64) 0) (whole - getD (args .b .now) (x / 64) 0) / 2 ^ (x % 64) in omega (arith, trailing-le 64 m)
+    let x = args .from in let m = bitAnd (getD (args .a .now) (x / 64) 0) (whole - getD (args .b .now) (x / 64) 0) / 2 ^ (x % 64) in
+    omega (arith, trailing-le 64 m)
 
 returns : tie.Need-returns
 returns c =
@@ -46,7 +48,8 @@ returns c =
     let c5 = c4 .before in
     let c6 = c5 .before in
     let args = c6 .args in
-    let x = args .from in first-at (args .a .now) (args .b .now) x (c5 .shared-slice-known .given (x / 64) .fits) (c4 .shared-slice-known2 .given (x / 64) .fits) (c .if2 .taken) (omega arith)
+    let x = args .from in first-at (args .a .now) (args .b .now) x (c5 .shared-slice-known .given (x / 64) .fits)
+    (c4 .shared-slice-known2 .given (x / 64) .fits) (c .if2 .taken) (omega arith)
 
 add-next-from : tie.Need-add-next-from
 add-next-from c = search needs
@@ -60,7 +63,8 @@ returns-2 c =
     let c6 = c5 .before in
     let c7 = c6 .before in
     let args = c7 .args in
-    let x = args .from in search-on (omega arith) (none-at (args .a .now) (args .b .now) x (c6 .shared-slice-known .given (x / 64) .fits) (c5 .shared-slice-known2 .given (x / 64) .fits) (c .before .if2 .left)) (c .next-from .ensures)
+    let x = args .from in search-on (omega arith) (none-at (args .a .now) (args .b .now) x (c6 .shared-slice-known .given (x / 64) .fits)
+    (c5 .shared-slice-known2 .given (x / 64) .fits) (c .before .if2 .left)) (c .next-from .ensures)
 
 mul-result : tie.Need-mul-result
 mul-result c = search needs

@@ -56,7 +56,9 @@ returns c =
     let c4 = c .before .before .before .before in
     let c5 = c4 .before in
     let args = c5 .args in
-    search-on (omega arith) (c4 .loop .inv .1 .1) (first-in-word (args .a .now) (args .b .now) (c4 .loop .q) (c .before .before .shared-slice-known .given (c4 .loop .q) .fits) (c .before .shared-slice-known2 .given (c4 .loop .q) .fits) (c .if1 .taken) (omega arith))
+    search-on (omega arith) (c4 .loop .inv .1 .1) (first-in-word (args .a .now) (args .b .now) (c4 .loop .q)
+    (c .before .before .shared-slice-known .given (c4 .loop .q) .fits) (c .before .shared-slice-known2 .given (c4 .loop .q) .fits)
+    (c .if1 .taken) (omega arith))
 
 add-q : tie.Need-add-q Inv-loop μ-loop
 add-q c = omega arith
@@ -68,8 +70,15 @@ loop-again : tie.Need-loop-again Inv-loop μ-loop
 loop-again c =
     let c4 = c .before .before .before .before in
     let c5 = c4 .before in
-    let args = c5 .args in
-    (omega arith, (omega arith, none-in-word (args .a .now) (args .b .now) (c4 .loop .q) (c .before .before .shared-slice-known .given (c4 .loop .q) .fits) (c .before .shared-slice-known2 .given (c4 .loop .q) .fits) (args .first) (c .if1 .left) (c4 .loop .inv .1 .1)))
+    let args = c5 .args in (
+      omega arith,
+      (
+        omega arith,
+        none-in-word (args .a .now) (args .b .now) (c4 .loop .q)
+            (c .before .before .shared-slice-known .given (c4 .loop .q) .fits) (c .before .shared-slice-known2 .given (c4 .loop .q) .fits)
+            (args .first) (c .if1 .left) (c4 .loop .inv .1 .1),
+      ),
+    )
 
 mul-result-2 : tie.Need-mul-result-2 Inv-loop μ-loop
 mul-result-2 c = omega arith
@@ -77,7 +86,9 @@ mul-result-2 c = omega arith
 returns-2 : tie.Need-returns-2 Inv-loop μ-loop
 returns-2 c =
     let args = c .before .before .args in
-    let e : c .before .loop .q ≡ length (args .a .now) = omega arith in search-on (omega arith) (rw e at (c .before .loop .inv .1 .1)) (search-over (args .a .now) (args .b .now) _ (omega arith) (omega arith))
+    let e : c .before .loop .q ≡ length (args .a .now) = omega arith in
+    search-on (omega arith) (rw e at (c .before .loop .inv .1 .1))
+    (search-over (args .a .now) (args .b .now) _ (omega arith) (omega arith))
 
 pub next-from-spec : {M : Type 1} → statement M
 next-from-spec =

@@ -29,7 +29,8 @@ wide-requires c κs = search needs
 returns-2 : tie.Need-returns-2
 returns-2 c =
     let c6 = c .before .before .before .before .before .before in
-    let A = c6 .args in rw (c .wide .ensures) (onward-gap (A .mask .now) (A .hop .now) (A .q) (c6 .pre .0) (omega arith) (c .before .before .if1 .left))
+    let A = c6 .args in rw (c .wide .ensures) (onward-gap (A .mask .now) (A .hop .now) (A .q) (c6 .pre .0) (omega arith)
+    (c .before .before .if1 .left))
 
 pub onward-spec : {M : Type 1} → statement M
 onward-spec =

@@ -31,7 +31,8 @@ array-share-prefix-text c =
 slice-aggregate-tender-list : tie.Need-slice-aggregate-tender-list
 slice-aggregate-tender-list c =
     let c5 = c .before .before .before .before .before in
-    sym (length-take-le (c .before .before .n .given .0 .0) (c5 .read-all .last .1 .0) (text-within _ _ _ (c5 .read-all .ensures) (c .before .before .n .given .1)))
+    sym (length-take-le (c .before .before .n .given .0 .0) (c5 .read-all .last .1 .0)
+    (text-within _ _ _ (c5 .read-all .ensures) (c .before .before .n .given .1)))
 
 slice-aggregate-tender-list-2 : tie.Need-slice-aggregate-tender-list-2
 slice-aggregate-tender-list-2 c = search needs
@@ -46,7 +47,8 @@ array-share-prefix-list : tie.Need-array-share-prefix-list
 array-share-prefix-list c = suffices (c .before .before .tender-list .ensures) (search needs) .1
 
 slice-aggregate-write-all : tie.Need-slice-aggregate-write-all
-slice-aggregate-write-all c = sym (length-take-le (c .before .before .before .tender-list .result) (c .before .before .before .tender-list .last .1 .0) (suffices (c .before .before .before .tender-list .ensures) (search needs) .1))
+slice-aggregate-write-all c = sym (length-take-le (c .before .before .before .tender-list .result)
+    (c .before .before .before .tender-list .last .1 .0) (suffices (c .before .before .before .tender-list .ensures) (search needs) .1))
 
 write-all-requires : tie.Need-write-all-requires
 write-all-requires c κs = search needs

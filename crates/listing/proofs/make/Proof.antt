@@ -33,7 +33,9 @@ put-award-requires c κs =
     let c4 = c .before .before .before .before in
     let c8 = c4 .before .before .before .before in
     let c13 = c8 .before .before .before .before .before in
-    let h = few-read (accepted-read (c13 .args .text .now) _ _ (search needs) (search needs) (c4 .tender .given .0 .0) (c4 .tender .given .0 .1 .0) (c4 .tender .given .0 .1 .1 .0) (c8 .read .ensures .0) (c8 .read .ensures .1 .0) (c8 .read .ensures .1 .1) (c4 .tender .given .1)) in (h, (omega arith, omega (arith, c13 .pre)))
+    let h = few-read (accepted-read (c13 .args .text .now) _ _ (search needs) (search needs) (c4 .tender .given .0 .0)
+    (c4 .tender .given .0 .1 .0) (c4 .tender .given .0 .1 .1 .0) (c8 .read .ensures .0) (c8 .read .ensures .1 .0)
+    (c8 .read .ensures .1 .1) (c4 .tender .given .1)) in (h, (omega arith, omega (arith, c13 .pre)))
 
 enum-known-r : tie.Need-enum-known-r
 enum-known-r c = search needs
@@ -49,7 +51,9 @@ returns c =
     let c7 = c .before .before .before .before .before .before .before in
     let c11 = c7 .before .before .before .before in
     let c16 = c11 .before .before .before .before .before in
-    made-award (accepted-read (c16 .args .text .now) _ _ (search needs) (search needs) (c7 .tender .given .0 .0) (c7 .tender .given .0 .1 .0) (c7 .tender .given .0 .1 .1 .0) (c11 .read .ensures .0) (c11 .read .ensures .1 .0) (c11 .read .ensures .1 .1) (c7 .tender .given .1)) (c .before .before .put-award .ensures)
+    made-award (accepted-read (c16 .args .text .now) _ _ (search needs) (search needs) (c7 .tender .given .0 .0)
+    (c7 .tender .given .0 .1 .0) (c7 .tender .given .0 .1 .1 .0) (c11 .read .ensures .0) (c11 .read .ensures .1 .0)
+    (c11 .read .ensures .1 .1) (c7 .tender .given .1)) (c .before .before .put-award .ensures)
 
 same-length-2 : tie.Need-same-length-2
 same-length-2 c = search needs
@@ -59,7 +63,9 @@ returns-2 c =
     let c5 = c .before .before .before .before .before in
     let c9 = c5 .before .before .before .before in
     let c14 = c9 .before .before .before .before .before in
-    made-refusal (c5 .r .given .0 .0) (refused-read (c14 .args .text .now) _ _ (search needs) (search needs) (c5 .r .given .0 .0) (c9 .read .ensures .0) (c9 .read .ensures .1 .0) (c9 .read .ensures .1 .1) (c5 .r .given .1)) (c .before .before .put-refused .ensures)
+    made-refusal (c5 .r .given .0 .0) (refused-read (c14 .args .text .now) _ _ (search needs) (search needs) (c5 .r .given .0 .0)
+    (c9 .read .ensures .0) (c9 .read .ensures .1 .0) (c9 .read .ensures .1 .1) (c5 .r .given .1))
+    (c .before .before .put-refused .ensures)
 
 pub make-spec : {M : Type 1} → statement M
 make-spec =

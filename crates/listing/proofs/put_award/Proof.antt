@@ -43,7 +43,8 @@ returns : tie.Need-returns
 returns c =
     let c7 = c .before .before .before .before .before .before .before in
     let c11 = c7 .before .before .before .before in
-    award-written (c7 .totals .given .0 .0) (c7 .totals .given .1) (search needs) (c11 .settle .ensures) (c .before .before .put-awarded .ensures)
+    award-written (c7 .totals .given .0 .0) (c7 .totals .given .1) (search needs) (c11 .settle .ensures)
+    (c .before .before .put-awarded .ensures)
 
 same-length-2 : tie.Need-same-length-2
 same-length-2 c = search needs

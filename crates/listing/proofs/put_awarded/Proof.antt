@@ -19,8 +19,22 @@ put-award-requires c κs = search needs
 put-wins-requires : tie.Need-put-wins-requires
 put-wins-requires c κs =
     let c9 = c .before .before .before .before .before .before .before .before .before in
-    let pre = c9 .pre in
-    (pre .0, (pre .1 .0, (pre .1 .1 .0, omega (arith, pre .1 .1 .1, award-short (c9 .args .tender), c .before .before .before .put-award .ensures .next, c .before .before .before .put-award .ensures .size))))
+    let pre = c9 .pre in (
+      pre .0,
+      (
+        pre .1 .0,
+        (
+          pre .1 .1 .0,
+          omega (
+            arith,
+            pre .1 .1 .1,
+            award-short (c9 .args .tender),
+            c .before .before .before .put-award .ensures .next,
+            c .before .before .before .put-award .ensures .size,
+          ),
+        ),
+      ),
+    )
 
 slice-aggregate-put-pair : tie.Need-slice-aggregate-put-pair
 slice-aggregate-put-pair c = search needs
@@ -31,7 +45,16 @@ put-pair-requires c κs =
     let c8 = c4 .before .before .before .before in
     let c14 = c8 .before .before .before .before .before .before in
     let args = c14 .args in
-    omega (arith, c14 .pre .1 .1 .1, award-short (args .tender), win-lines-short (args .bids .now) (args .won .now) (args .cents .now) (args .n), c8 .put-award .ensures .next, c8 .put-award .ensures .size, c4 .put-wins .ensures .next, c4 .put-wins .ensures .size)
+    omega (
+      arith,
+      c14 .pre .1 .1 .1,
+      award-short (args .tender),
+      win-lines-short (args .bids .now) (args .won .now) (args .cents .now) (args .n),
+      c8 .put-award .ensures .next,
+      c8 .put-award .ensures .size,
+      c4 .put-wins .ensures .next,
+      c4 .put-wins .ensures .size,
+    )
 
 same-length : tie.Need-same-length
 same-length c = search needs

@@ -40,8 +40,30 @@ slice-aggregate-award-in-10 c = search needs
 
 award-in-requires : tie.Need-award-in-requires
 award-in-requires c κs =
-    let c16 = c .before .before .before .before .before .before .before .before .before .before .before .before .before .before .before .before in
-    let P = c16 .pre in (P .0, (P .1 .1 .0, (P .1 .1 .1 .0, (P .1 .0, (P .1 .0, (omega arith, (omega arith, (omega arith, (omega arith, (omega arith, (refl, (refl, (refl, P .1 .1 .1 .1)))))))))))))
+    let c16 = c .before .before .before .before .before .before .before .before .before .before .before .before .before .before .before
+    .before in
+    let P = c16 .pre in (
+      P .0,
+      (
+        P .1 .1 .0,
+        (
+          P .1 .1 .1 .0,
+          (
+            P .1 .0,
+            (
+              P .1 .0,
+              (
+                omega arith,
+                (
+                  omega arith,
+                  (omega arith, (omega arith, (omega arith, (refl, (refl, (refl, P .1 .1 .1 .1)))))),
+                ),
+              ),
+            ),
+          ),
+        ),
+      ),
+    )
 
 same-length : tie.Need-same-length
 same-length c = search needs

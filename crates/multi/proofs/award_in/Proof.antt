@@ -23,70 +23,147 @@ add-u c = search needs
 
 slice-relend-prefix-settle : tie.Need-slice-relend-prefix-settle
 slice-relend-prefix-settle c =
-    let c16 = c .before .before .before .before .before .before .before .before .before .before .before .before .before .before .before .before in
-    let P = c16 .pre in let A = c16 .args in omega (arith, product (A .w) (length (A .prices .now)) 158 1000 (P .0 .words) (P .0 .priced .count), P .0 .size, P .1 .1 .1 .1 .1 .0)
+    let c16 = c .before .before .before .before .before .before .before .before .before .before .before .before .before .before .before
+    .before in
+    let P = c16 .pre in let A = c16 .args in omega (
+      arith,
+      product (A .w) (length (A .prices .now)) 158 1000 (P .0 .words) (P .0 .priced .count),
+      P .0 .size,
+      P .1 .1 .1 .1 .1 .0,
+    )
 
 slice-aggregate-settle : tie.Need-slice-aggregate-settle
 slice-aggregate-settle c =
-    let c17 = c .before .before .before .before .before .before .before .before .before .before .before .before .before .before .before .before .before in
-    let P = c17 .pre in let A = c17 .args in sym (length-take-le (length (A .masks .now)) (A .hop .now) (omega (arith, product (A .w) (length (A .prices .now)) 158 1000 (P .0 .words) (P .0 .priced .count), P .0 .size, P .1 .1 .1 .1 .1 .0)))
+    let c17 = c .before .before .before .before .before .before .before .before .before .before .before .before .before .before .before
+    .before .before in
+    let P = c17 .pre in let A = c17 .args in sym (length-take-le (length (A .masks .now)) (A .hop .now)
+    (omega (
+      arith,
+      product (A .w) (length (A .prices .now)) 158 1000 (P .0 .words) (P .0 .priced .count),
+      P .0 .size,
+      P .1 .1 .1 .1 .1 .0,
+    )))
 
 slice-relend-prefix-settle-2 : tie.Need-slice-relend-prefix-settle-2
 slice-relend-prefix-settle-2 c = search needs
 
 slice-aggregate-settle-2 : tie.Need-slice-aggregate-settle-2
 slice-aggregate-settle-2 c =
-    let c18 = c .before .before .before .before .before .before .before .before .before .before .before .before .before .before .before .before .before .before in
-    let P = c18 .pre in let A = c18 .args in sym (length-take-le (16 * A .w) (A .index .now) (omega (arith, P .0 .words, P .1 .1 .1 .1 .1 .1 .0)))
+    let c18 = c .before .before .before .before .before .before .before .before .before .before .before .before .before .before .before
+    .before .before .before in
+    let P = c18 .pre in let A = c18 .args in sym (length-take-le (16 * A .w) (A .index .now)
+    (omega (arith, P .0 .words, P .1 .1 .1 .1 .1 .1 .0)))
 
 slice-relend-prefix-settle-3 : tie.Need-slice-relend-prefix-settle-3
 slice-relend-prefix-settle-3 c = search needs
 
 slice-aggregate-settle-3 : tie.Need-slice-aggregate-settle-3
 slice-aggregate-settle-3 c =
-    let c19 = c .before .before .before .before .before .before .before .before .before .before .before .before .before .before .before .before .before .before .before in
-    let P = c19 .pre in let A = c19 .args in sym (length-take-le (A .w) (A .held .now) (omega (arith, P .0 .words, P .1 .1 .1 .1 .1 .1 .1 .0)))
+    let c19 = c .before .before .before .before .before .before .before .before .before .before .before .before .before .before .before
+    .before .before .before .before in
+    let P = c19 .pre in let A = c19 .args in sym (length-take-le (A .w) (A .held .now)
+    (omega (arith, P .0 .words, P .1 .1 .1 .1 .1 .1 .1 .0)))
 
 slice-relend-prefix-settle-4 : tie.Need-slice-relend-prefix-settle-4
 slice-relend-prefix-settle-4 c = search needs
 
 slice-aggregate-settle-4 : tie.Need-slice-aggregate-settle-4
 slice-aggregate-settle-4 c =
-    let c20 = c .before .before .before .before .before .before .before .before .before .before .before .before .before .before .before .before .before .before .before .before in
-    let P = c20 .pre in let A = c20 .args in sym (length-take-le (A .w) (A .alt .now) (omega (arith, P .0 .words, P .1 .1 .1 .1 .1 .1 .1 .1 .0)))
+    let c20 = c .before .before .before .before .before .before .before .before .before .before .before .before .before .before .before
+    .before .before .before .before .before in
+    let P = c20 .pre in let A = c20 .args in sym (length-take-le (A .w) (A .alt .now)
+    (omega (arith, P .0 .words, P .1 .1 .1 .1 .1 .1 .1 .1 .0)))
 
 slice-relend-prefix-settle-5 : tie.Need-slice-relend-prefix-settle-5
 slice-relend-prefix-settle-5 c = search needs
 
 slice-aggregate-settle-5 : tie.Need-slice-aggregate-settle-5
 slice-aggregate-settle-5 c =
-    let c21 = c .before .before .before .before .before .before .before .before .before .before .before .before .before .before .before .before .before .before .before .before .before in
-    let P = c21 .pre in let A = c21 .args in sym (length-take-le (A .w + 2) (A .counts .now) (omega (arith, P .0 .words, P .1 .1 .1 .1 .1 .1 .1 .1 .1 .0)))
+    let c21 = c .before .before .before .before .before .before .before .before .before .before .before .before .before .before .before
+    .before .before .before .before .before .before in
+    let P = c21 .pre in let A = c21 .args in sym (length-take-le (A .w + 2) (A .counts .now)
+    (omega (arith, P .0 .words, P .1 .1 .1 .1 .1 .1 .1 .1 .1 .0)))
 
 slice-relend-prefix-settle-6 : tie.Need-slice-relend-prefix-settle-6
 slice-relend-prefix-settle-6 c =
-    let c24 = c .before .before .before .before .before .before .before .before .before .before .before .before .before .before .before .before .before .before .before .before .before .before .before .before in
+    let c24 = c .before .before .before .before .before .before .before .before .before .before .before .before .before .before .before
+    .before .before .before .before .before .before .before .before .before in
     let P = c24 .pre in let A = c24 .args in P .1 .1 .1 .1 .1 .1 .1 .1 .1 .1 .1 .1 .1 .0
 
 slice-aggregate-settle-6 : tie.Need-slice-aggregate-settle-6
 slice-aggregate-settle-6 c =
-    let c25 = c .before .before .before .before .before .before .before .before .before .before .before .before .before .before .before .before .before .before .before .before .before .before .before .before .before in
-    let P = c25 .pre in let A = c25 .args in sym (length-take-le (length (A .prices .now)) (A .won .now) (P .1 .1 .1 .1 .1 .1 .1 .1 .1 .1 .1 .1 .1 .0))
+    let c25 = c .before .before .before .before .before .before .before .before .before .before .before .before .before .before .before
+    .before .before .before .before .before .before .before .before .before .before in
+    let P = c25 .pre in let A = c25 .args in sym (length-take-le (length (A .prices .now)) (A .won .now)
+    (P .1 .1 .1 .1 .1 .1 .1 .1 .1 .1 .1 .1 .1 .0))
 
 slice-relend-prefix-settle-7 : tie.Need-slice-relend-prefix-settle-7
 slice-relend-prefix-settle-7 c =
-    let c25 = c .before .before .before .before .before .before .before .before .before .before .before .before .before .before .before .before .before .before .before .before .before .before .before .before .before in
+    let c25 = c .before .before .before .before .before .before .before .before .before .before .before .before .before .before .before
+    .before .before .before .before .before .before .before .before .before .before in
     let P = c25 .pre in let A = c25 .args in P .1 .1 .1 .1 .1 .1 .1 .1 .1 .1 .1 .1 .1 .1
 
 slice-aggregate-settle-7 : tie.Need-slice-aggregate-settle-7
 slice-aggregate-settle-7 c =
-    let c26 = c .before .before .before .before .before .before .before .before .before .before .before .before .before .before .before .before .before .before .before .before .before .before .before .before .before .before in
-    let P = c26 .pre in let A = c26 .args in sym (length-take-le (length (A .prices .now)) (A .cents .now) (P .1 .1 .1 .1 .1 .1 .1 .1 .1 .1 .1 .1 .1 .1))
+    let c26 = c .before .before .before .before .before .before .before .before .before .before .before .before .before .before .before
+    .before .before .before .before .before .before .before .before .before .before .before in
+    let P = c26 .pre in let A = c26 .args in sym (length-take-le (length (A .prices .now)) (A .cents .now)
+    (P .1 .1 .1 .1 .1 .1 .1 .1 .1 .1 .1 .1 .1 .1))
 
 settle-requires : tie.Need-settle-requires
 settle-requires c κs =
-    let c26 = c .before .before .before .before .before .before .before .before .before .before .before .before .before .before .before .before .before .before .before .before .before .before .before .before .before .before in
-    let P = c26 .pre in let A = c26 .args in (P .0, (P .1 .0, (P .1 .1 .0, (P .1 .1 .1 .0, (P .1 .1 .1 .1 .0, (length-take-le (length (A .masks .now)) (A .hop .now) (omega (arith, product (A .w) (length (A .prices .now)) 158 1000 (P .0 .words) (P .0 .priced .count), P .0 .size, P .1 .1 .1 .1 .1 .0)), (length-take-le (16 * A .w) (A .index .now) (omega (arith, P .0 .words, P .1 .1 .1 .1 .1 .1 .0)), (length-take-le (A .w) (A .held .now) (omega (arith, P .0 .words, P .1 .1 .1 .1 .1 .1 .1 .0)), (length-take-le (A .w) (A .alt .now) (omega (arith, P .0 .words, P .1 .1 .1 .1 .1 .1 .1 .1 .0)), (length-take-le (A .w + 2) (A .counts .now) (omega (arith, P .0 .words, P .1 .1 .1 .1 .1 .1 .1 .1 .1 .0)), (P .1 .1 .1 .1 .1 .1 .1 .1 .1 .1 .0, (P .1 .1 .1 .1 .1 .1 .1 .1 .1 .1 .1 .0, (P .1 .1 .1 .1 .1 .1 .1 .1 .1 .1 .1 .1 .0, (length-take-le (length (A .prices .now)) (A .won .now) (P .1 .1 .1 .1 .1 .1 .1 .1 .1 .1 .1 .1 .1 .0), length-take-le (length (A .prices .now)) (A .cents .now) (P .1 .1 .1 .1 .1 .1 .1 .1 .1 .1 .1 .1 .1 .1)))))))))))))))
+    let c26 = c .before .before .before .before .before .before .before .before .before .before .before .before .before .before .before
+    .before .before .before .before .before .before .before .before .before .before .before in
+    let P = c26 .pre in let A = c26 .args in (
+      P .0,
+      (
+        P .1 .0,
+        (
+          P .1 .1 .0,
+          (
+            P .1 .1 .1 .0,
+            (
+              P .1 .1 .1 .1 .0,
+              (
+                length-take-le (length (A .masks .now)) (A .hop .now)
+                    (omega (
+                      arith,
+                      product (A .w) (length (A .prices .now)) 158 1000 (P .0 .words) (P .0 .priced .count),
+                      P .0 .size,
+                      P .1 .1 .1 .1 .1 .0,
+                    )),
+                (
+                  length-take-le (16 * A .w) (A .index .now) (omega (arith, P .0 .words, P .1 .1 .1 .1 .1 .1 .0)),
+                  (
+                    length-take-le (A .w) (A .held .now) (omega (arith, P .0 .words, P .1 .1 .1 .1 .1 .1 .1 .0)),
+                    (
+                      length-take-le (A .w) (A .alt .now) (omega (arith, P .0 .words, P .1 .1 .1 .1 .1 .1 .1 .1 .0)),
+                      (
+                        length-take-le (A .w + 2) (A .counts .now) (omega (arith, P .0 .words, P .1 .1 .1 .1 .1 .1 .1 .1 .1 .0)),
+                        (
+                          P .1 .1 .1 .1 .1 .1 .1 .1 .1 .1 .0,
+                          (
+                            P .1 .1 .1 .1 .1 .1 .1 .1 .1 .1 .1 .0,
+                            (
+                              P .1 .1 .1 .1 .1 .1 .1 .1 .1 .1 .1 .1 .0,
+                              (
+                                length-take-le (length (A .prices .now)) (A .won .now)
+                                    (P .1 .1 .1 .1 .1 .1 .1 .1 .1 .1 .1 .1 .1 .0),
+                                length-take-le (length (A .prices .now)) (A .cents .now) (P .1 .1 .1 .1 .1 .1 .1 .1 .1 .1 .1 .1 .1 .1),
+                              ),
+                            ),
+                          ),
+                        ),
+                      ),
+                    ),
+                  ),
+                ),
+              ),
+            ),
+          ),
+        ),
+      ),
+    )
 
 same-length : tie.Need-same-length
 same-length c = search needs
@@ -96,15 +173,32 @@ same-length-2 c = search needs
 
 same-length-3 : tie.Need-same-length-3
 same-length-3 c =
-    let c24 = c .before .before .before .before .before .before .before .before .before .before .before .before .before .before .before .before .before .before .before .before .before .before .before .before in
-    let c51 = c24 .before .before .before .before .before .before .before .before .before .before .before .before .before .before .before .before .before .before .before .before .before .before .before .before .before .before .before in
-    let P = c51 .pre in let A = c51 .args in let i : length (A .masks .now) ≤ length (A .hop .now) = omega (arith, product (A .w) (length (A .prices .now)) 158 1000 (P .0 .words) (P .0 .priced .count), P .0 .size, P .1 .1 .1 .1 .1 .0) in simp (length-append, length-drop) (omega (arith, c24 .settle .kept .1 .1 .1 .1 .1 .1 .0 ∙ length-take-le (length (A .masks .now)) (A .hop .now) i))
+    let c24 = c .before .before .before .before .before .before .before .before .before .before .before .before .before .before .before
+    .before .before .before .before .before .before .before .before .before in
+    let c51 = c24 .before .before .before .before .before .before .before .before .before .before .before .before .before .before .before
+    .before .before .before .before .before .before .before .before .before .before .before .before in
+    let P = c51 .pre in let A = c51 .args in let i : length (A .masks .now) ≤ length (A .hop .now) =
+    omega (
+      arith,
+      product (A .w) (length (A .prices .now)) 158 1000 (P .0 .words) (P .0 .priced .count),
+      P .0 .size,
+      P .1 .1 .1 .1 .1 .0,
+    ) in simp (length-append, length-drop)
+    (omega (arith, c24 .settle .kept .1 .1 .1 .1 .1 .1 .0 ∙ length-take-le (length (A .masks .now)) (A .hop .now) i))
 
 same-length-4 : tie.Need-same-length-4
 same-length-4 c =
-    let c24 = c .before .before .before .before .before .before .before .before .before .before .before .before .before .before .before .before .before .before .before .before .before .before .before .before in
-    let c51 = c24 .before .before .before .before .before .before .before .before .before .before .before .before .before .before .before .before .before .before .before .before .before .before .before .before .before .before .before in
-    let P = c51 .pre in let A = c51 .args in let i : 16 * A .w ≤ length (A .index .now) = omega (arith, P .0 .words, P .1 .1 .1 .1 .1 .1 .0) in simp (length-append, length-drop) (omega (arith, c24 .settle .kept .1 .1 .1 .1 .1 .1 .1 .0 ∙ length-take-le (16 * A .w) (A .index .now) i))
+    let c24 = c .before .before .before .before .before .before .before .before .before .before .before .before .before .before .before
+    .before .before .before .before .before .before .before .before .before in
+    let c51 = c24 .before .before .before .before .before .before .before .before .before .before .before .before .before .before .before
+    .before .before .before .before .before .before .before .before .before .before .before .before in
+    let P = c51 .pre in let A = c51 .args in let i : 16 * A .w ≤ length (A .index .now) =
+    omega (arith, P .0 .words, P .1 .1 .1 .1 .1 .1 .0) in
+    simp (length-append, length-drop) (omega (
+      arith,
+      c24 .settle .kept .1 .1 .1 .1 .1 .1 .1 .0
+          ∙ length-take-le (16 * A .w) (A .index .now) i,
+    ))
 
 same-length-5 : tie.Need-same-length-5
 same-length-5 c = search needs
@@ -132,8 +226,10 @@ same-length-12 c = search needs
 
 returns : tie.Need-returns
 returns c =
-    let c24 = c .before .before .before .before .before .before .before .before .before .before .before .before .before .before .before .before .before .before .before .before .before .before .before .before in
-    let c51 = c24 .before .before .before .before .before .before .before .before .before .before .before .before .before .before .before .before .before .before .before .before .before .before .before .before .before .before .before in
+    let c24 = c .before .before .before .before .before .before .before .before .before .before .before .before .before .before .before
+    .before .before .before .before .before .before .before .before .before in
+    let c51 = c24 .before .before .before .before .before .before .before .before .before .before .before .before .before .before .before
+    .before .before .before .before .before .before .before .before .before .before .before .before in
     let args = c51 .args in
     settles (args .won .now) (args .cents .now) (c24 .settle .ensures)
 

@@ -1,4 +1,5 @@
--- `multi::run` meets its contract: all cells are opened, each bid is entered with the cells that it has, and the run written down. Assumes nothing.
+-- `multi::run` meets its contract: all cells are opened, each bid is entered with the cells that it has, and the run written
+-- down. Assumes nothing.
 use Prim.Native.Nat.{ℕ, _+_}
 use mathlib.Core.Path.{_∙_, sym, ap}
 use native.Mathlib.Omega.{arith}
@@ -24,11 +25,13 @@ count-none-requires : tie.Need-count-none-requires
 count-none-requires c κs =
     let c4 = c .before .before .before .before in
     let c15 = c4 .before .before .before .before .before .before .before .before .before .before .before in
-    let P = c15 .pre in let e = c4 .unlock .kept .0 ∙ P .1 .1 .1 .1 .1 .0 in (P .1 .1 .1 .1 .1 .1 .0 ∙ ap (λ (x : ℕ). x + 2) (sym e), omega (arith, e, P .0 .words))
+    let P = c15 .pre in let e = c4 .unlock .kept .0 ∙ P .1 .1 .1 .1 .1 .0 in
+    (P .1 .1 .1 .1 .1 .1 .0 ∙ ap (λ (x : ℕ). x + 2) (sym e), omega (arith, e, P .0 .words))
 
 seat-requires : tie.Need-seat-requires
 seat-requires c κs =
-    let c19 = c .before .before .before .before .before .before .before .before .before .before .before .before .before .before .before .before .before .before .before in
+    let c19 = c .before .before .before .before .before .before .before .before .before .before .before .before .before .before .before
+    .before .before .before .before in
     c19 .pre .1 .1 .1 .1 .1 .1 .1 .0
 
 clear-requires : tie.Need-clear-requires
@@ -41,19 +44,50 @@ enter-requires c κs =
     let c14 = c10 .before .before .before .before in
     let c19 = c14 .before .before .before .before .before in
     let c30 = c19 .before .before .before .before .before .before .before .before .before .before .before in
-    let P = c30 .pre in (P .0, (P .1 .0, (c19 .unlock .kept .0 ∙ P .1 .1 .1 .1 .1 .0, (c14 .count-none .ensures, opened (c30 .args .prices .now) (c10 .seat .ensures) (c6 .clear .kept .0 ∙ P .1 .1 .1 .1 .1 .1 .1 .1) (c6 .clear .ensures .none)))))
+    let P = c30 .pre in (
+      P .0,
+      (
+        P .1 .0,
+        (
+          c19 .unlock .kept .0 ∙ P .1 .1 .1 .1 .1 .0,
+          (
+            c14 .count-none .ensures,
+            opened (c30 .args .prices .now) (c10 .seat .ensures) (c6 .clear .kept .0 ∙ P .1 .1 .1 .1 .1 .1 .1 .1)
+                (c6 .clear .ensures .none),
+          ),
+        ),
+      ),
+    )
 
 trace-requires : tie.Need-trace-requires
 trace-requires c κs =
     let c12 = c .before .before .before .before .before .before .before .before .before .before .before .before in
-    let c32 = c12 .before .before .before .before .before .before .before .before .before .before .before .before .before .before .before .before .before .before .before .before in
+    let c32 = c12 .before .before .before .before .before .before .before .before .before .before .before .before .before .before .before
+    .before .before .before .before .before in
     let c43 = c32 .before .before .before .before .before .before .before .before .before .before .before in
-    let P = c43 .pre in (P .0, (P .1 .0, (c32 .unlock .kept .0 ∙ P .1 .1 .1 .1 .1 .0, (c12 .enter .ensures .1 .1, (c12 .enter .ensures .0, (c32 .unlock .ensures, (c12 .enter .ensures .1 .0, (P .1 .1 .0, (P .1 .1 .1 .0, P .1 .1 .1 .1 .0)))))))))
+    let P = c43 .pre in (
+      P .0,
+      (
+        P .1 .0,
+        (
+          c32 .unlock .kept .0 ∙ P .1 .1 .1 .1 .1 .0,
+          (
+            c12 .enter .ensures .1 .1,
+            (
+              c12 .enter .ensures .0,
+              (c32 .unlock .ensures, (c12 .enter .ensures .1 .0, (P .1 .1 .0, (P .1 .1 .1 .0, P .1 .1 .1 .1 .0)))),
+            ),
+          ),
+        ),
+      ),
+    )
 
 same-length : tie.Need-same-length
 same-length c =
     let c12 = c .before .before .before .before .before .before .before .before .before .before .before .before in
-    let c45 = c12 .before .before .before .before .before .before .before .before .before .before .before .before .before .before .before .before .before .before .before .before .before .before .before .before .before .before .before .before .before .before .before .before .before in
+    let c45 = c12 .before .before .before .before .before .before .before .before .before .before .before .before .before .before .before
+    .before .before .before .before .before .before .before .before .before .before .before .before .before .before .before .before
+    .before .before in
     c12 .trace .kept .1 .1 .1 .1 .1 .0 ∙ c45 .unlock .kept .0
 
 same-length-2 : tie.Need-same-length-2

@@ -24,20 +24,42 @@ chart-requires c κs =
 enlist-requires : tie.Need-enlist-requires
 enlist-requires c κs =
     let c4 = c .before .before .before .before in
-    let c20 = c4 .before .before .before .before .before .before .before .before .before .before .before .before .before .before .before .before in
+    let c20 = c4 .before .before .before .before .before .before .before .before .before .before .before .before .before .before .before
+    .before in
     let P = c20 .pre in (P .0, (c4 .chart .ensures, P .1 .1 .1 .1 .1 .1 .0))
 
 run-requires : tie.Need-run-requires
 run-requires c κs =
     let c14 = c .before .before .before .before .before .before .before .before .before .before .before .before .before .before in
-    let c30 = c14 .before .before .before .before .before .before .before .before .before .before .before .before .before .before .before .before in
-    let P = c30 .pre in (P .0, (c14 .chart .ensures, (P .1 .0, (P .1 .1 .1 .0, (P .1 .1 .1 .1 .0, (P .1 .1 .1 .1 .1 .1 .1 .0, (P .1 .1 .1 .1 .1 .1 .1 .1 .1 .0, (P .1 .1 .1 .1 .1 .1 .1 .1 .1 .1 .0, P .1 .1 .1 .1 .1 .1 .1 .1 .1 .1 .1 .0))))))))
+    let c30 = c14 .before .before .before .before .before .before .before .before .before .before .before .before .before .before .before
+    .before in
+    let P = c30 .pre in (
+      P .0,
+      (
+        c14 .chart .ensures,
+        (
+          P .1 .0,
+          (
+            P .1 .1 .1 .0,
+            (
+              P .1 .1 .1 .1 .0,
+              (
+                P .1 .1 .1 .1 .1 .1 .1 .0,
+                (P .1 .1 .1 .1 .1 .1 .1 .1 .1 .0, (P .1 .1 .1 .1 .1 .1 .1 .1 .1 .1 .0, P .1 .1 .1 .1 .1 .1 .1 .1 .1 .1 .1 .0)),
+              ),
+            ),
+          ),
+        ),
+      ),
+    )
 
 unlock-requires : tie.Need-unlock-requires
 unlock-requires c κs =
     let c13 = c .before .before .before .before .before .before .before .before .before .before .before .before .before in
-    let c44 = c13 .before .before .before .before .before .before .before .before .before .before .before .before .before .before .before .before .before .before .before .before .before .before .before .before .before .before .before .before .before .before .before in
-    let P = c44 .pre in let e = c13 .run .kept .1 .1 .1 .1 .1 .0 ∙ P .1 .1 .1 .1 .1 .1 .1 .0 in (omega (arith, P .1 .0), omega (arith, P .0 .words))
+    let c44 = c13 .before .before .before .before .before .before .before .before .before .before .before .before .before .before .before
+    .before .before .before .before .before .before .before .before .before .before .before .before .before .before .before .before in
+    let P = c44 .pre in let e = c13 .run .kept .1 .1 .1 .1 .1 .0 ∙ P .1 .1 .1 .1 .1 .1 .1 .0 in
+    (omega (arith, P .1 .0), omega (arith, P .0 .words))
 
 clear-requires : tie.Need-clear-requires
 clear-requires c κs = search needs
@@ -53,85 +75,143 @@ pay-all-requires c κs =
     let c36 = c22 .before .before .before .before .before .before .before .before .before .before .before .before .before .before in
     let c46 = c36 .before .before .before .before .before .before .before .before .before .before in
     let c51 = c46 .before .before .before .before .before in
-    let c67 = c51 .before .before .before .before .before .before .before .before .before .before .before .before .before .before .before .before in
-    let P = c67 .pre in (record { market = P .0; hopping = c51 .chart .ensures; indexed = c46 .enlist .ensures; main = c36 .run .ensures .0; cells-in = P .1 .0; two = P .1 .1 .0 }, (starts (c22 .unlock .kept .0 ∙ c36 .run .kept .1 .1 .1 .1 .1 .0 ∙ P .1 .1 .1 .1 .1 .1 .1 .0) (c22 .unlock .ensures) (c18 .clear .ensures) (c18 .clear .kept .0 ∙ P .1 .1 .1 .1 .1 .1 .1 .1 .1 .1 .1 .1 .1 .0) (c14 .clear2 .ensures) (c14 .clear2 .kept .0 ∙ P .1 .1 .1 .1 .1 .1 .1 .1 .1 .1 .1 .1 .1 .1), (P .1 .1 .1 .1 .1 .1 .1 .1 .0, (c36 .run .kept .1 .1 .1 .1 .1 .1 .0 ∙ P .1 .1 .1 .1 .1 .1 .1 .1 .1 .0, (c36 .run .ensures .1, P .1 .1 .1 .1 .1 .1 .1 .1 .1 .1 .1 .1 .0)))))
+    let c67 = c51 .before .before .before .before .before .before .before .before .before .before .before .before .before .before .before
+    .before in
+    let P = c67 .pre in (
+      record {
+        market = P .0;
+        hopping = c51 .chart .ensures;
+        indexed = c46 .enlist .ensures;
+        main = c36 .run .ensures .0;
+        cells-in = P .1 .0;
+        two = P .1 .1 .0;
+      },
+      (
+        starts (c22 .unlock .kept .0 ∙ c36 .run .kept .1 .1 .1 .1 .1 .0 ∙ P .1 .1 .1 .1 .1 .1 .1 .0) (c22 .unlock .ensures)
+            (c18 .clear .ensures) (c18 .clear .kept .0 ∙ P .1 .1 .1 .1 .1 .1 .1 .1 .1 .1 .1 .1 .1 .0) (c14 .clear2 .ensures)
+            (c14 .clear2 .kept .0 ∙ P .1 .1 .1 .1 .1 .1 .1 .1 .1 .1 .1 .1 .1 .1),
+        (
+          P .1 .1 .1 .1 .1 .1 .1 .1 .0,
+          (
+            c36 .run .kept .1 .1 .1 .1 .1 .1 .0 ∙ P .1 .1 .1 .1 .1 .1 .1 .1 .1 .0,
+            (c36 .run .ensures .1, P .1 .1 .1 .1 .1 .1 .1 .1 .1 .1 .1 .1 .0),
+          ),
+        ),
+      ),
+    )
 
 totals-requires : tie.Need-totals-requires
 totals-requires c κs =
-    let c18 = c .before .before .before .before .before .before .before .before .before .before .before .before .before .before .before .before .before .before in
-    let c86 = c18 .before .before .before .before .before .before .before .before .before .before .before .before .before .before .before .before .before .before .before .before .before .before .before .before .before .before .before .before .before .before .before .before .before .before .before .before .before .before .before .before .before .before .before .before .before .before .before .before .before .before .before .before .before .before .before .before .before .before .before .before .before .before .before .before .before .before .before .before in
+    let c18 = c .before .before .before .before .before .before .before .before .before .before .before .before .before .before .before
+    .before .before .before in
+    let c86 = c18 .before .before .before .before .before .before .before .before .before .before .before .before .before .before .before
+    .before .before .before .before .before .before .before .before .before .before .before .before .before .before .before .before
+    .before .before .before .before .before .before .before .before .before .before .before .before .before .before .before .before
+    .before .before .before .before .before .before .before .before .before .before .before .before .before .before .before .before
+    .before .before .before .before .before in
     let p = paid-lengths (c18 .pay-all .ensures) in (c86 .pre .0 .priced, (p .0, (p .1, c18 .pay-all .ensures .small)))
 
 same-length : tie.Need-same-length
 same-length c =
-    let c56 = c .before .before .before .before .before .before .before .before .before .before .before .before .before .before .before .before .before .before .before .before .before .before .before .before .before .before .before .before .before .before .before .before .before .before .before .before .before .before .before .before .before .before .before .before .before .before .before .before .before .before .before .before .before .before .before .before in
+    let c56 = c .before .before .before .before .before .before .before .before .before .before .before .before .before .before .before
+    .before .before .before .before .before .before .before .before .before .before .before .before .before .before .before .before
+    .before .before .before .before .before .before .before .before .before .before .before .before .before .before .before .before
+    .before .before .before .before .before .before .before .before .before in
     c56 .run .kept .1 .1 .1 .1 .1 .1 .1 .1 .1 .0
 
 same-length-2 : tie.Need-same-length-2
 same-length-2 c =
-    let c56 = c .before .before .before .before .before .before .before .before .before .before .before .before .before .before .before .before .before .before .before .before .before .before .before .before .before .before .before .before .before .before .before .before .before .before .before .before .before .before .before .before .before .before .before .before .before .before .before .before .before .before .before .before .before .before .before .before in
+    let c56 = c .before .before .before .before .before .before .before .before .before .before .before .before .before .before .before
+    .before .before .before .before .before .before .before .before .before .before .before .before .before .before .before .before
+    .before .before .before .before .before .before .before .before .before .before .before .before .before .before .before .before
+    .before .before .before .before .before .before .before .before .before in
     c56 .run .kept .1 .1 .1 .1 .1 .1 .1 .1 .1 .1 .0
 
 same-length-3 : tie.Need-same-length-3
 same-length-3 c =
-    let c71 = c .before .before .before .before .before .before .before .before .before .before .before .before .before .before .before .before .before .before .before .before .before .before .before .before .before .before .before .before .before .before .before .before .before .before .before .before .before .before .before .before .before .before .before .before .before .before .before .before .before .before .before .before .before .before .before .before .before .before .before .before .before .before .before .before .before .before .before .before .before .before .before in
+    let c71 = c .before .before .before .before .before .before .before .before .before .before .before .before .before .before .before
+    .before .before .before .before .before .before .before .before .before .before .before .before .before .before .before .before
+    .before .before .before .before .before .before .before .before .before .before .before .before .before .before .before .before
+    .before .before .before .before .before .before .before .before .before .before .before .before .before .before .before .before
+    .before .before .before .before .before .before .before .before in
     c71 .chart .kept .1 .1 .1 .0
 
 same-length-4 : tie.Need-same-length-4
 same-length-4 c =
-    let c66 = c .before .before .before .before .before .before .before .before .before .before .before .before .before .before .before .before .before .before .before .before .before .before .before .before .before .before .before .before .before .before .before .before .before .before .before .before .before .before .before .before .before .before .before .before .before .before .before .before .before .before .before .before .before .before .before .before .before .before .before .before .before .before .before .before .before .before in
+    let c66 = c .before .before .before .before .before .before .before .before .before .before .before .before .before .before .before
+    .before .before .before .before .before .before .before .before .before .before .before .before .before .before .before .before
+    .before .before .before .before .before .before .before .before .before .before .before .before .before .before .before .before
+    .before .before .before .before .before .before .before .before .before .before .before .before .before .before .before .before
+    .before .before .before in
     c66 .enlist .kept .1 .1 .1 .1 .0
 
 same-length-5 : tie.Need-same-length-5
 same-length-5 c =
-    let c19 = c .before .before .before .before .before .before .before .before .before .before .before .before .before .before .before .before .before .before .before in
-    let c42 = c19 .before .before .before .before .before .before .before .before .before .before .before .before .before .before .before .before .before .before .before .before .before .before .before in
+    let c19 = c .before .before .before .before .before .before .before .before .before .before .before .before .before .before .before
+    .before .before .before .before in
+    let c42 = c19 .before .before .before .before .before .before .before .before .before .before .before .before .before .before .before
+    .before .before .before .before .before .before .before .before in
     let c56 = c42 .before .before .before .before .before .before .before .before .before .before .before .before .before .before in
     c19 .pay-all .kept .1 .1 .1 .1 .1 .1 .1 .1 .1 .0 ∙ c42 .unlock .kept .0 ∙ c56 .run .kept .1 .1 .1 .1 .1 .0
 
 same-length-6 : tie.Need-same-length-6
 same-length-6 c =
-    let c19 = c .before .before .before .before .before .before .before .before .before .before .before .before .before .before .before .before .before .before .before in
+    let c19 = c .before .before .before .before .before .before .before .before .before .before .before .before .before .before .before
+    .before .before .before .before in
     c19 .pay-all .kept .1 .1 .1 .1 .1 .1 .1 .1 .1 .1 .0
 
 same-length-7 : tie.Need-same-length-7
 same-length-7 c =
-    let c19 = c .before .before .before .before .before .before .before .before .before .before .before .before .before .before .before .before .before .before .before in
-    let c56 = c19 .before .before .before .before .before .before .before .before .before .before .before .before .before .before .before .before .before .before .before .before .before .before .before .before .before .before .before .before .before .before .before .before .before .before .before .before .before in
+    let c19 = c .before .before .before .before .before .before .before .before .before .before .before .before .before .before .before
+    .before .before .before .before in
+    let c56 = c19 .before .before .before .before .before .before .before .before .before .before .before .before .before .before .before
+    .before .before .before .before .before .before .before .before .before .before .before .before .before .before .before .before
+    .before .before .before .before .before .before in
     c19 .pay-all .kept .1 .1 .1 .1 .1 .1 .1 .1 .1 .1 .1 .0 ∙ c56 .run .kept .1 .1 .1 .1 .1 .1 .0
 
 same-length-8 : tie.Need-same-length-8
 same-length-8 c =
-    let c19 = c .before .before .before .before .before .before .before .before .before .before .before .before .before .before .before .before .before .before .before in
-    let c56 = c19 .before .before .before .before .before .before .before .before .before .before .before .before .before .before .before .before .before .before .before .before .before .before .before .before .before .before .before .before .before .before .before .before .before .before .before .before .before in
+    let c19 = c .before .before .before .before .before .before .before .before .before .before .before .before .before .before .before
+    .before .before .before .before in
+    let c56 = c19 .before .before .before .before .before .before .before .before .before .before .before .before .before .before .before
+    .before .before .before .before .before .before .before .before .before .before .before .before .before .before .before .before
+    .before .before .before .before .before .before in
     c19 .pay-all .kept .1 .1 .1 .1 .1 .1 .1 .1 .1 .1 .1 .1 .0 ∙ c56 .run .kept .1 .1 .1 .1 .1 .1 .1 .0
 
 same-length-9 : tie.Need-same-length-9
 same-length-9 c =
-    let c19 = c .before .before .before .before .before .before .before .before .before .before .before .before .before .before .before .before .before .before .before in
-    let c56 = c19 .before .before .before .before .before .before .before .before .before .before .before .before .before .before .before .before .before .before .before .before .before .before .before .before .before .before .before .before .before .before .before .before .before .before .before .before .before in
+    let c19 = c .before .before .before .before .before .before .before .before .before .before .before .before .before .before .before
+    .before .before .before .before in
+    let c56 = c19 .before .before .before .before .before .before .before .before .before .before .before .before .before .before .before
+    .before .before .before .before .before .before .before .before .before .before .before .before .before .before .before .before
+    .before .before .before .before .before .before in
     c19 .pay-all .kept .1 .1 .1 .1 .1 .1 .1 .1 .1 .1 .1 .1 .1 .0 ∙ c56 .run .kept .1 .1 .1 .1 .1 .1 .1 .1 .0
 
 same-length-10 : tie.Need-same-length-10
 same-length-10 c =
-    let c19 = c .before .before .before .before .before .before .before .before .before .before .before .before .before .before .before .before .before .before .before in
+    let c19 = c .before .before .before .before .before .before .before .before .before .before .before .before .before .before .before
+    .before .before .before .before in
     c19 .pay-all .kept .1 .1 .1 .1 .1 .1 .1 .1 .1 .1 .1 .1 .1 .1 .0
 
 same-length-11 : tie.Need-same-length-11
 same-length-11 c =
-    let c19 = c .before .before .before .before .before .before .before .before .before .before .before .before .before .before .before .before .before .before .before in
-    let c38 = c19 .before .before .before .before .before .before .before .before .before .before .before .before .before .before .before .before .before .before .before in
+    let c19 = c .before .before .before .before .before .before .before .before .before .before .before .before .before .before .before
+    .before .before .before .before in
+    let c38 = c19 .before .before .before .before .before .before .before .before .before .before .before .before .before .before .before
+    .before .before .before .before in
     c19 .pay-all .kept .1 .1 .1 .1 .1 .1 .1 .1 .1 .1 .1 .1 .1 .1 .1 .0 ∙ c38 .clear .kept .0
 
 same-length-12 : tie.Need-same-length-12
 same-length-12 c =
-    let c19 = c .before .before .before .before .before .before .before .before .before .before .before .before .before .before .before .before .before .before .before in
+    let c19 = c .before .before .before .before .before .before .before .before .before .before .before .before .before .before .before
+    .before .before .before .before in
     let c34 = c19 .before .before .before .before .before .before .before .before .before .before .before .before .before .before .before in
     c19 .pay-all .kept .1 .1 .1 .1 .1 .1 .1 .1 .1 .1 .1 .1 .1 .1 .1 .1 .0 ∙ c34 .clear2 .kept .0
 
 returns : tie.Need-returns
 returns c =
-    let c19 = c .before .before .before .before .before .before .before .before .before .before .before .before .before .before .before .before .before .before .before in
+    let c19 = c .before .before .before .before .before .before .before .before .before .before .before .before .before .before .before
+    .before .before .before .before in
     awarded (c19 .pay-all .ensures) (c .totals .ensures)
 
 pub settle-spec : {M : Type 1} → statement M

@@ -64,7 +64,8 @@ loop-again c =
     let c4 = c .before .before .before .before in
     let c5 = c4 .before in
     let c9 = c5 .before .before .before .before in
-    let P = c9 .pre in sums-more (c5 .loop .inv) (c4 .loop-test .taken) (c .before .only .ensures .0) (omega (arith, P .0 .most (c5 .loop .k), c .before .only .ensures .1)) (P .1 .1 .1 (c5 .loop .k))
+    let P = c9 .pre in sums-more (c5 .loop .inv) (c4 .loop-test .taken) (c .before .only .ensures .0)
+    (omega (arith, P .0 .most (c5 .loop .k), c .before .only .ensures .1)) (P .1 .1 .1 (c5 .loop .k))
 
 returns : tie.Need-returns Inv-loop μ-loop
 returns c = sums-all (c .before .loop .inv) (omega arith)

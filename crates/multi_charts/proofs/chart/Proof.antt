@@ -23,7 +23,13 @@ loop-holds c = record { size = c .before .before .before .pre .1; done = λ j l.
 chart-row-requires : tie.Need-chart-row-requires Inv-loop μ-loop
 chart-row-requires c κs =
     let c6 = c .before .before .before .before .before .before in
-    let P = c6 .pre in let A = c6 .args in (P .0 .words, (row-in (A .prices .now) (A .masks .now) (A .w) (c .before .before .loop .i) (P .0) (c .before .loop-test .taken), c .before .before .loop .inv .size))
+    let P = c6 .pre in let A = c6 .args in (
+      P .0 .words,
+      (
+        row-in (A .prices .now) (A .masks .now) (A .w) (c .before .before .loop .i) (P .0) (c .before .loop-test .taken),
+        c .before .before .loop .inv .size,
+      ),
+    )
 
 add-i : tie.Need-add-i Inv-loop μ-loop
 add-i c = omega arith
@@ -36,7 +42,8 @@ loop-again c =
     let c4 = c .before .before .before .before in
     let c5 = c4 .before in
     let c9 = c5 .before .before .before .before in
-    charts-on (c9 .pre .0) (c5 .loop .inv) (c4 .loop-test .taken) (c .before .before .chart-row .kept .1 .1 .1 .0) (c .before .before .chart-row .ensures)
+    charts-on (c9 .pre .0) (c5 .loop .inv) (c4 .loop-test .taken) (c .before .before .chart-row .kept .1 .1 .1 .0)
+    (c .before .before .chart-row .ensures)
 
 same-length : tie.Need-same-length Inv-loop μ-loop
 same-length c =

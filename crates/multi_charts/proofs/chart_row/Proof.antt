@@ -31,23 +31,73 @@ byte-requires c κs =
 back-requires : tie.Need-back-requires Inv-loop μ-loop
 back-requires c κs =
     let c6 = c .before .before .before .before .before .before in
-    let pre = c6 .pre in
-    (omega (arith, pre .0, pre .1 .0, pre .1 .1, c .before .before .before .loop .inv .1, c .before .before .before .loop .inv .0 .same, c .before .before .before .loop .inv .0 .gap-high), omega (arith, pre .0, pre .1 .0, pre .1 .1, c .before .before .before .loop .inv .1, c .before .before .before .loop .inv .0 .same, c .before .before .before .loop .inv .0 .gap-high))
+    let pre = c6 .pre in (
+      omega (
+        arith,
+        pre .0,
+        pre .1 .0,
+        pre .1 .1,
+        c .before .before .before .loop .inv .1,
+        c .before .before .before .loop .inv .0 .same,
+        c .before .before .before .loop .inv .0 .gap-high,
+      ),
+      omega (
+        arith,
+        pre .0,
+        pre .1 .0,
+        pre .1 .1,
+        c .before .before .before .loop .inv .1,
+        c .before .before .before .loop .inv .0 .same,
+        c .before .before .before .loop .inv .0 .gap-high,
+      ),
+    )
 
 byte-requires-2 : tie.Need-byte-requires-2 Inv-loop μ-loop
 byte-requires-2 c κs =
     let c6 = c .before .before .before .before .before .before in
     let c9 = c6 .before .before .before in
     let pre = c9 .pre in
-    omega (arith, pre .0, pre .1 .0, pre .1 .1, c6 .loop .inv .1, c6 .loop .inv .0 .same, c6 .loop .inv .0 .gap-high, c .before .before .back .ensures .low, c .before .before .back .kept .1 .1 .1 .1 .1 .0)
+    omega (
+      arith,
+      pre .0,
+      pre .1 .0,
+      pre .1 .1,
+      c6 .loop .inv .1,
+      c6 .loop .inv .0 .same,
+      c6 .loop .inv .0 .gap-high,
+      c .before .before .back .ensures .low,
+      c .before .before .back .kept .1 .1 .1 .1 .1 .0,
+    )
 
 back-requires-2 : tie.Need-back-requires-2 Inv-loop μ-loop
 back-requires-2 c κs =
     let c4 = c .before .before .before .before in
     let c8 = c4 .before .before .before .before in
     let c11 = c8 .before .before .before in
-    let pre = c11 .pre in
-    (omega (arith, pre .0, pre .1 .0, pre .1 .1, c8 .loop .inv .1, c8 .loop .inv .0 .same, c8 .loop .inv .0 .gap-high, c4 .back .ensures .low, c4 .back .kept .1 .1 .1 .1 .1 .0), omega (arith, pre .0, pre .1 .0, pre .1 .1, c8 .loop .inv .1, c8 .loop .inv .0 .same, c8 .loop .inv .0 .gap-high, c4 .back .ensures .low, c4 .back .kept .1 .1 .1 .1 .1 .0))
+    let pre = c11 .pre in (
+      omega (
+        arith,
+        pre .0,
+        pre .1 .0,
+        pre .1 .1,
+        c8 .loop .inv .1,
+        c8 .loop .inv .0 .same,
+        c8 .loop .inv .0 .gap-high,
+        c4 .back .ensures .low,
+        c4 .back .kept .1 .1 .1 .1 .1 .0,
+      ),
+      omega (
+        arith,
+        pre .0,
+        pre .1 .0,
+        pre .1 .1,
+        c8 .loop .inv .1,
+        c8 .loop .inv .0 .same,
+        c8 .loop .inv .0 .gap-high,
+        c4 .back .ensures .low,
+        c4 .back .kept .1 .1 .1 .1 .1 .0,
+      ),
+    )
 
 loop-less : tie.Need-loop-less Inv-loop μ-loop
 loop-less c =
@@ -55,7 +105,19 @@ loop-less c =
     let c12 = c8 .before .before .before .before in
     let c15 = c12 .before .before .before in
     let pre = c15 .pre in
-    omega (arith, pre .0, pre .1 .0, pre .1 .1, c12 .loop .inv .1, c12 .loop .inv .0 .same, c12 .loop .inv .0 .gap-high, c8 .back .ensures .low, c8 .back .kept .1 .1 .1 .1 .1 .0, c .before .before .before .back2 .ensures .low, c .before .before .before .back2 .kept .1 .1 .1 .1 .1 .0)
+    omega (
+      arith,
+      pre .0,
+      pre .1 .0,
+      pre .1 .1,
+      c12 .loop .inv .1,
+      c12 .loop .inv .0 .same,
+      c12 .loop .inv .0 .gap-high,
+      c8 .back .ensures .low,
+      c8 .back .kept .1 .1 .1 .1 .1 .0,
+      c .before .before .before .back2 .ensures .low,
+      c .before .before .before .back2 .kept .1 .1 .1 .1 .1 .0,
+    )
 
 loop-again : tie.Need-loop-again Inv-loop μ-loop
 loop-again c =
@@ -64,8 +126,24 @@ loop-again c =
     let c10 = c8 .before .before in
     let c12 = c10 .before .before in
     let c15 = c12 .before .before .before in
-    let pre = c15 .pre in
-    (charts-run (charts-gap (c12 .loop .inv .0) (c12 .loop .inv .1) (c8 .back .ensures) (c8 .back .kept .1 .1 .1 .1 .1 .0) refl (c10 .byte .ensures)) (omega (arith, c12 .loop .inv .1, c8 .back .ensures .low)) (c .before .before .before .back2 .ensures) (c .before .before .before .back2 .kept .1 .1 .1 .1 .1 .0) refl (c5 .byte2 .ensures) (c .if1 .taken), omega (arith, pre .0, pre .1 .0, pre .1 .1, c12 .loop .inv .1, c12 .loop .inv .0 .same, c12 .loop .inv .0 .gap-high, c8 .back .ensures .low, c8 .back .kept .1 .1 .1 .1 .1 .0, c .before .before .before .back2 .ensures .low, c .before .before .before .back2 .kept .1 .1 .1 .1 .1 .0))
+    let pre = c15 .pre in (
+      charts-run (charts-gap (c12 .loop .inv .0) (c12 .loop .inv .1) (c8 .back .ensures) (c8 .back .kept .1 .1 .1 .1 .1 .0) refl
+          (c10 .byte .ensures)) (omega (arith, c12 .loop .inv .1, c8 .back .ensures .low)) (c .before .before .before .back2 .ensures)
+          (c .before .before .before .back2 .kept .1 .1 .1 .1 .1 .0) refl (c5 .byte2 .ensures) (c .if1 .taken),
+      omega (
+        arith,
+        pre .0,
+        pre .1 .0,
+        pre .1 .1,
+        c12 .loop .inv .1,
+        c12 .loop .inv .0 .same,
+        c12 .loop .inv .0 .gap-high,
+        c8 .back .ensures .low,
+        c8 .back .kept .1 .1 .1 .1 .1 .0,
+        c .before .before .before .back2 .ensures .low,
+        c .before .before .before .back2 .kept .1 .1 .1 .1 .1 .0,
+      ),
+    )
 
 sub-q : tie.Need-sub-q Inv-loop μ-loop
 sub-q c = omega arith
@@ -84,7 +162,19 @@ add-hop c =
     let c14 = c10 .before .before .before .before in
     let c17 = c14 .before .before .before in
     let pre = c17 .pre in
-    omega (arith, pre .0, pre .1 .0, pre .1 .1, c14 .loop .inv .1, c14 .loop .inv .0 .same, c14 .loop .inv .0 .gap-high, c10 .back .ensures .low, c10 .back .kept .1 .1 .1 .1 .1 .0, c5 .back2 .ensures .low, c5 .back2 .kept .1 .1 .1 .1 .1 .0)
+    omega (
+      arith,
+      pre .0,
+      pre .1 .0,
+      pre .1 .1,
+      c14 .loop .inv .1,
+      c14 .loop .inv .0 .same,
+      c14 .loop .inv .0 .gap-high,
+      c10 .back .ensures .low,
+      c10 .back .kept .1 .1 .1 .1 .1 .0,
+      c5 .back2 .ensures .low,
+      c5 .back2 .kept .1 .1 .1 .1 .1 .0,
+    )
 
 slice-write-hop : tie.Need-slice-write-hop Inv-loop μ-loop
 slice-write-hop c =
@@ -93,7 +183,19 @@ slice-write-hop c =
     let c14 = c10 .before .before .before .before in
     let c17 = c14 .before .before .before in
     let pre = c17 .pre in
-    omega (arith, pre .0, pre .1 .0, pre .1 .1, c14 .loop .inv .1, c14 .loop .inv .0 .same, c14 .loop .inv .0 .gap-high, c10 .back .ensures .low, c10 .back .kept .1 .1 .1 .1 .1 .0, c5 .back2 .ensures .low, c5 .back2 .kept .1 .1 .1 .1 .1 .0)
+    omega (
+      arith,
+      pre .0,
+      pre .1 .0,
+      pre .1 .1,
+      c14 .loop .inv .1,
+      c14 .loop .inv .0 .same,
+      c14 .loop .inv .0 .gap-high,
+      c10 .back .ensures .low,
+      c10 .back .kept .1 .1 .1 .1 .1 .0,
+      c5 .back2 .ensures .low,
+      c5 .back2 .kept .1 .1 .1 .1 .1 .0,
+    )
 
 loop-less-2 : tie.Need-loop-less-2 Inv-loop μ-loop
 loop-less-2 c =
@@ -102,7 +204,19 @@ loop-less-2 c =
     let c14 = c10 .before .before .before .before in
     let c17 = c14 .before .before .before in
     let pre = c17 .pre in
-    omega (arith, pre .0, pre .1 .0, pre .1 .1, c14 .loop .inv .1, c14 .loop .inv .0 .same, c14 .loop .inv .0 .gap-high, c10 .back .ensures .low, c10 .back .kept .1 .1 .1 .1 .1 .0, c5 .back2 .ensures .low, c5 .back2 .kept .1 .1 .1 .1 .1 .0)
+    omega (
+      arith,
+      pre .0,
+      pre .1 .0,
+      pre .1 .1,
+      c14 .loop .inv .1,
+      c14 .loop .inv .0 .same,
+      c14 .loop .inv .0 .gap-high,
+      c10 .back .ensures .low,
+      c10 .back .kept .1 .1 .1 .1 .1 .0,
+      c5 .back2 .ensures .low,
+      c5 .back2 .kept .1 .1 .1 .1 .1 .0,
+    )
 
 loop-again-2 : tie.Need-loop-again-2 Inv-loop μ-loop
 loop-again-2 c =
@@ -111,8 +225,30 @@ loop-again-2 c =
     let c12 = c10 .before .before in
     let c14 = c12 .before .before in
     let c17 = c14 .before .before .before in
-    let pre = c17 .pre in
-    (rw (c .byte3 .ensures) (charts-some (charts-still (charts-gap (c14 .loop .inv .0) (c14 .loop .inv .1) (c10 .back .ensures) (c10 .back .kept .1 .1 .1 .1 .1 .0) refl (c12 .byte .ensures)) (omega (arith, c14 .loop .inv .1, c10 .back .ensures .low)) (c5 .back2 .ensures) (c5 .back2 .kept .1 .1 .1 .1 .1 .0) (λ l. omega (arith, l, c .before .before .if1 .left))) (omega (arith, c14 .loop .inv .1, c10 .back .ensures .low)) (c .before .if2 .taken) (omega (arith, pre .0, pre .1 .0, pre .1 .1, c14 .loop .inv .1, c14 .loop .inv .0 .same, c14 .loop .inv .0 .gap-high)) (λ e. c5 .back2 .ensures .stop (omega (arith, c .before .before .if1 .left, c .before .if2 .taken)) (let d : c5 .back2 .result ≡ c10 .back .result = omega (arith, c .before .before .if1 .left, c5 .back2 .ensures .low) in rw d e))), omega (arith, pre .0, pre .1 .0, pre .1 .1, c14 .loop .inv .1, c14 .loop .inv .0 .same, c14 .loop .inv .0 .gap-high, c10 .back .ensures .low, c10 .back .kept .1 .1 .1 .1 .1 .0, c5 .back2 .ensures .low, c5 .back2 .kept .1 .1 .1 .1 .1 .0))
+    let pre = c17 .pre in (
+      rw (c .byte3 .ensures) (charts-some (charts-still
+          (charts-gap (c14 .loop .inv .0) (c14 .loop .inv .1) (c10 .back .ensures) (c10 .back .kept .1 .1 .1 .1 .1 .0) refl
+          (c12 .byte .ensures)) (omega (arith, c14 .loop .inv .1, c10 .back .ensures .low)) (c5 .back2 .ensures)
+          (c5 .back2 .kept .1 .1 .1 .1 .1 .0) (λ l. omega (arith, l, c .before .before .if1 .left)))
+          (omega (arith, c14 .loop .inv .1, c10 .back .ensures .low)) (c .before .if2 .taken)
+          (omega (arith, pre .0, pre .1 .0, pre .1 .1, c14 .loop .inv .1, c14 .loop .inv .0 .same, c14 .loop .inv .0 .gap-high))
+          (λ e. c5 .back2 .ensures .stop (omega (arith, c .before .before .if1 .left, c .before .if2 .taken))
+          (let d : c5 .back2 .result ≡ c10 .back .result = omega (arith, c .before .before .if1 .left, c5 .back2 .ensures .low) in
+          rw d e))),
+      omega (
+        arith,
+        pre .0,
+        pre .1 .0,
+        pre .1 .1,
+        c14 .loop .inv .1,
+        c14 .loop .inv .0 .same,
+        c14 .loop .inv .0 .gap-high,
+        c10 .back .ensures .low,
+        c10 .back .kept .1 .1 .1 .1 .1 .0,
+        c5 .back2 .ensures .low,
+        c5 .back2 .kept .1 .1 .1 .1 .1 .0,
+      ),
+    )
 
 loop-less-3 : tie.Need-loop-less-3 Inv-loop μ-loop
 loop-less-3 c =
@@ -124,8 +260,13 @@ loop-again-3 c =
     let c4 = c .before .before .before .before in
     let c9 = c4 .before .before .before .before .before in
     let c11 = c9 .before .before in
-    let c13 = c11 .before .before in
-    (let d : c9 .back .result ≡ 0 = omega (arith, c .if2 .left) in rw d at (charts-still (charts-gap (c13 .loop .inv .0) (c13 .loop .inv .1) (c9 .back .ensures) (c9 .back .kept .1 .1 .1 .1 .1 .0) refl (c11 .byte .ensures)) (omega (arith, c13 .loop .inv .1, c9 .back .ensures .low)) (c4 .back2 .ensures) (c4 .back2 .kept .1 .1 .1 .1 .1 .0) (λ l. omega (arith, l, c .before .if1 .left))), omega arith)
+    let c13 = c11 .before .before in (
+      let d : c9 .back .result ≡ 0 = omega (arith, c .if2 .left) in
+          rw d at (charts-still (charts-gap (c13 .loop .inv .0) (c13 .loop .inv .1) (c9 .back .ensures) (c9 .back .kept .1 .1 .1 .1 .1 .0)
+          refl (c11 .byte .ensures)) (omega (arith, c13 .loop .inv .1, c9 .back .ensures .low)) (c4 .back2 .ensures)
+          (c4 .back2 .kept .1 .1 .1 .1 .1 .0) (λ l. omega (arith, l, c .before .if1 .left))),
+      omega arith,
+    )
 
 same-length : tie.Need-same-length Inv-loop μ-loop
 same-length c = c .before .loop .inv .0 .same

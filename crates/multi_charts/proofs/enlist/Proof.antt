@@ -25,7 +25,19 @@ loop-holds c =
 enlist-row-requires : tie.Need-enlist-row-requires Inv-loop μ-loop
 enlist-row-requires c κs =
     let c7 = c .before .before .before .before .before .before .before in
-    let P = c7 .pre in let A = c7 .args in let l = c .before .loop-test .taken in (P .0 .words, (row-in (A .prices .now) (A .masks .now) (A .w) (c .before .before .loop .i) (P .0) l, (P .1 .0 .size, (P .1 .0 .each (c .before .before .loop .i) l, (omega (arith, l, P .0 .priced .count), c .before .before .loop .inv .size)))))
+    let P = c7 .pre in let A = c7 .args in let l = c .before .loop-test .taken in (
+      P .0 .words,
+      (
+        row-in (A .prices .now) (A .masks .now) (A .w) (c .before .before .loop .i) (P .0) l,
+        (
+          P .1 .0 .size,
+          (
+            P .1 .0 .each (c .before .before .loop .i) l,
+            (omega (arith, l, P .0 .priced .count), c .before .before .loop .inv .size),
+          ),
+        ),
+      ),
+    )
 
 add-i : tie.Need-add-i Inv-loop μ-loop
 add-i c = omega arith

@@ -58,7 +58,13 @@ add-requires : tie.Need-add-requires Inv-loop μ-loop
 add-requires c κs =
     let c4 = c .before .before .before .before in
     let c8 = c4 .before .before .before .before in
-    let P = c8 .pre in omega (arith, P .1 .1 .1 .1 .0, P .1 .1 .1 .1 .1, c4 .loop .inv .0 .same, c .before .before .before .loop-test .taken)
+    let P = c8 .pre in omega (
+      arith,
+      P .1 .1 .1 .1 .0,
+      P .1 .1 .1 .1 .1,
+      c4 .loop .inv .0 .same,
+      c .before .before .before .loop-test .taken,
+    )
 
 mul-onward : tie.Need-mul-onward Inv-loop μ-loop
 mul-onward c =
@@ -92,20 +98,26 @@ onward-requires : tie.Need-onward-requires Inv-loop μ-loop
 onward-requires c κs =
     let c8 = c .before .before .before .before .before .before .before .before in
     let c13 = c8 .before .before .before .before .before in
-    let P = c13 .pre in let A = c13 .args in let e = row-length (A .masks .now) (A .w) (A .i) (P .1 .0) in rw (part-row (A .masks .now) (A .w) (A .i), part-row (A .hop .now) (A .w) (A .i)) ((P .1 .1 .1 .0, (omega (arith, c8 .loop-test .taken), omega (arith, P .0))))
+    let P = c13 .pre in let A = c13 .args in let e = row-length (A .masks .now) (A .w) (A .i) (P .1 .0) in
+    rw (part-row (A .masks .now) (A .w) (A .i), part-row (A .hop .now) (A .w) (A .i))
+    ((P .1 .1 .1 .0, (omega (arith, c8 .loop-test .taken), omega (arith, P .0))))
 
 loop-less : tie.Need-loop-less Inv-loop μ-loop
 loop-less c =
     let c9 = c .before .before .before .before .before .before .before .before .before in
     let c14 = c9 .before .before .before .before .before in
-    let A = c14 .args in let n = rw (part-row (A .masks .now) (A .w) (A .i)) at (c .onward .ensures) in omega (arith, n .on, c9 .loop-test .taken)
+    let A = c14 .args in let n = rw (part-row (A .masks .now) (A .w) (A .i)) at (c .onward .ensures) in
+    omega (arith, n .on, c9 .loop-test .taken)
 
 loop-again : tie.Need-loop-again Inv-loop μ-loop
 loop-again c =
     let c5 = c .before .before .before .before .before in
     let c10 = c5 .before .before .before .before .before in
     let c14 = c10 .before .before .before .before in
-    let A = c14 .args in let P = c14 .pre in let n = rw (part-row (A .masks .now) (A .w) (A .i)) at (c .onward .ensures) in (enlists-past (enlists-some (c10 .loop .inv .0) (c5 .add .kept .0) (c5 .add .ensures)) refl n, omega (arith, n .within, row-length (A .masks .now) (A .w) (A .i) (P .1 .0)))
+    let A = c14 .args in let P = c14 .pre in let n = rw (part-row (A .masks .now) (A .w) (A .i)) at (c .onward .ensures) in (
+      enlists-past (enlists-some (c10 .loop .inv .0) (c5 .add .kept .0) (c5 .add .ensures)) refl n,
+      omega (arith, n .within, row-length (A .masks .now) (A .w) (A .i) (P .1 .0)),
+    )
 
 mul-onward-2 : tie.Need-mul-onward-2 Inv-loop μ-loop
 mul-onward-2 c =
@@ -139,20 +151,27 @@ onward-requires-2 : tie.Need-onward-requires-2 Inv-loop μ-loop
 onward-requires-2 c κs =
     let c4 = c .before .before .before .before in
     let c9 = c4 .before .before .before .before .before in
-    let P = c9 .pre in let A = c9 .args in let e = row-length (A .masks .now) (A .w) (A .i) (P .1 .0) in rw (part-row (A .masks .now) (A .w) (A .i), part-row (A .hop .now) (A .w) (A .i)) ((P .1 .1 .1 .0, (omega (arith, c4 .loop-test .taken), omega (arith, P .0))))
+    let P = c9 .pre in let A = c9 .args in let e = row-length (A .masks .now) (A .w) (A .i) (P .1 .0) in
+    rw (part-row (A .masks .now) (A .w) (A .i), part-row (A .hop .now) (A .w) (A .i))
+    ((P .1 .1 .1 .0, (omega (arith, c4 .loop-test .taken), omega (arith, P .0))))
 
 loop-less-2 : tie.Need-loop-less-2 Inv-loop μ-loop
 loop-less-2 c =
     let c5 = c .before .before .before .before .before in
     let c10 = c5 .before .before .before .before .before in
-    let A = c10 .args in let n = rw (part-row (A .masks .now) (A .w) (A .i)) at (c .onward2 .ensures) in omega (arith, n .on, c5 .loop-test .taken)
+    let A = c10 .args in let n = rw (part-row (A .masks .now) (A .w) (A .i)) at (c .onward2 .ensures) in
+    omega (arith, n .on, c5 .loop-test .taken)
 
 loop-again-2 : tie.Need-loop-again-2 Inv-loop μ-loop
 loop-again-2 c =
     let c5 = c .before .before .before .before .before in
     let c6 = c5 .before in
     let c10 = c6 .before .before .before .before in
-    let A = c10 .args in let P = c10 .pre in let n = rw (part-row (A .masks .now) (A .w) (A .i)) at (c .onward2 .ensures) in (enlists-past (enlists-bare (c6 .loop .inv .0) (row-at (A .masks .now) (A .w) (A .i) (c6 .loop .q) (c5 .loop-test .taken) ∙ c .before .before .before .if1 .left)) refl n, omega (arith, n .within, row-length (A .masks .now) (A .w) (A .i) (P .1 .0)))
+    let A = c10 .args in let P = c10 .pre in let n = rw (part-row (A .masks .now) (A .w) (A .i)) at (c .onward2 .ensures) in (
+      enlists-past (enlists-bare (c6 .loop .inv .0)
+          (row-at (A .masks .now) (A .w) (A .i) (c6 .loop .q) (c5 .loop-test .taken) ∙ c .before .before .before .if1 .left)) refl n,
+      omega (arith, n .within, row-length (A .masks .now) (A .w) (A .i) (P .1 .0)),
+    )
 
 same-length : tie.Need-same-length Inv-loop μ-loop
 same-length c = c .before .loop .inv .0 .same

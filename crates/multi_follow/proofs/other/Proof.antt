@@ -1,4 +1,5 @@
--- `multi_follow::other` meets its contract: the bids that share an open cell with the bid taken are marked, and its cells close in this run alone. Assumes nothing.
+-- `multi_follow::other` meets its contract: the bids that share an open cell with the bid taken are marked, and its cells close
+-- in this run alone. Assumes nothing.
 use mathlib.Core.Path.{_∙_}
 use Rattle.multi_follow.proofs.Following.{inside}
 use Rattle.multi_follow.proofs.Stepping.{bid-row, words, price-small, other-goes}
@@ -13,20 +14,39 @@ use Rattle.multi_rounds.proofs.overlap.Reads as overlap-reads
 
 disturb-requires : tie.Need-disturb-requires
 disturb-requires c κs =
-    let c16 = c .before .before .before .before .before .before .before .before .before .before .before .before .before .before .before .before in
-    let P = c16 .pre in let co = P .0 in let s = P .1 .0 in (co .market, (co .hopping, (co .indexed, (words co s, (s .counted, (P .1 .1 .1 .inside, (s .tree, s .marks)))))))
+    let c16 = c .before .before .before .before .before .before .before .before .before .before .before .before .before .before .before
+    .before in
+    let P = c16 .pre in let co = P .0 in let s = P .1 .0 in
+    (co .market, (co .hopping, (co .indexed, (words co s, (s .counted, (P .1 .1 .1 .inside, (s .tree, s .marks)))))))
 
 take-requires : tie.Need-take-requires
 take-requires c κs =
     let c10 = c .before .before .before .before .before .before .before .before .before .before in
-    let c27 = c10 .before .before .before .before .before .before .before .before .before .before .before .before .before .before .before .before .before in
-    let P = c27 .pre in let co = P .0 in let s = P .1 .0 in let t = P .1 .1 .1 in ((price-small co s t, (t .some, (P .1 .1 .0, s .follow .few))), (words co s, (co .market .words, (bid-row co _ (t .inside), (co .hopping .size, (c10 .disturb .ensures .1 .1, co .hopping .each _ (t .inside)))))))
+    let c27 = c10 .before .before .before .before .before .before .before .before .before .before .before .before .before .before .before
+    .before .before in
+    let P = c27 .pre in let co = P .0 in let s = P .1 .0 in let t = P .1 .1 .1 in (
+      (price-small co s t, (t .some, (P .1 .1 .0, s .follow .few))),
+      (
+        words co s,
+        (
+          co .market .words,
+          (
+            bid-row co _ (t .inside),
+            (co .hopping .size, (c10 .disturb .ensures .1 .1, co .hopping .each _ (t .inside))),
+          ),
+        ),
+      ),
+    )
 
 overlap-requires : tie.Need-overlap-requires
 overlap-requires c κs =
     let c6 = c .before .before .before .before .before .before in
-    let c34 = c6 .before .before .before .before .before .before .before .before .before .before .before .before .before .before .before .before .before .before .before .before .before .before .before .before .before .before .before .before in
-    let P = c34 .pre in let co = P .0 in let s = P .1 .0 in (c6 .take .kept .1 .1 .1 .1 .1 .1 .1 .1 .1 .0 ∙ words co s, (co .market .words, (bid-row co _ (inside co), (co .hopping .size, (c6 .take .ensures .1 .1, co .hopping .each _ (inside co))))))
+    let c34 = c6 .before .before .before .before .before .before .before .before .before .before .before .before .before .before .before
+    .before .before .before .before .before .before .before .before .before .before .before .before .before in
+    let P = c34 .pre in let co = P .0 in let s = P .1 .0 in (
+      c6 .take .kept .1 .1 .1 .1 .1 .1 .1 .1 .1 .0 ∙ words co s,
+      (co .market .words, (bid-row co _ (inside co), (co .hopping .size, (c6 .take .ensures .1 .1, co .hopping .each _ (inside co))))),
+    )
 
 same-length : tie.Need-same-length
 same-length c = search needs
@@ -47,8 +67,11 @@ returns : tie.Need-returns
 returns c =
     let c9 = c .before .before .before .before .before .before .before .before .before in
     let c20 = c9 .before .before .before .before .before .before .before .before .before .before .before in
-    let c37 = c20 .before .before .before .before .before .before .before .before .before .before .before .before .before .before .before .before .before in
-    let P = c37 .pre in other-goes (P .0) (P .1 .0) (P .1 .1 .1) (c9 .take .ensures .0) (c9 .take .kept .1 .1 .1 .1 .1 .1 .1 .1 .1 .0) (c9 .take .ensures .1 .0) (c .before .before .overlap .ensures .1) (c .before .before .overlap .ensures .0) (c20 .disturb .ensures .0) (c20 .disturb .kept .1 .1 .1 .1 .1 .1 .1 .1 .1 .1 .0) (c20 .disturb .ensures .1 .0)
+    let c37 = c20 .before .before .before .before .before .before .before .before .before .before .before .before .before .before .before
+    .before .before in
+    let P = c37 .pre in other-goes (P .0) (P .1 .0) (P .1 .1 .1) (c9 .take .ensures .0) (c9 .take .kept .1 .1 .1 .1 .1 .1 .1 .1 .1 .0)
+    (c9 .take .ensures .1 .0) (c .before .before .overlap .ensures .1) (c .before .before .overlap .ensures .0)
+    (c20 .disturb .ensures .0) (c20 .disturb .kept .1 .1 .1 .1 .1 .1 .1 .1 .1 .1 .0) (c20 .disturb .ensures .1 .0)
 
 pub other-spec : {M : Type 1} → statement M
 other-spec =

@@ -1,4 +1,5 @@
--- `multi_limit::begin` meets its contract: nothing is known of any bid, k alone is marked, then those that share an open cell with it. Assumes nothing.
+-- `multi_limit::begin` meets its contract: nothing is known of any bid, k alone is marked, then those that share an open cell
+-- with it. Assumes nothing.
 use Prim.Native.Nat.{ℕ, _+_}
 use mathlib.Core.Path.{sym, _∙_, ap}
 use native.Mathlib.Omega.{arith}
@@ -26,7 +27,8 @@ count-none-requires : tie.Need-count-none-requires
 count-none-requires c κs =
     let c4 = c .before .before .before .before in
     let c18 = c4 .before .before .before .before .before .before .before .before .before .before .before .before .before .before in
-    let P = c18 .pre in let e = c4 .copy .kept .1 .0 ∙ P .1 .1 .0 in (P .1 .1 .1 .0 ∙ ap (λ (x : ℕ). x + 2) (sym e), omega (arith, e, P .0 .market .words))
+    let P = c18 .pre in let e = c4 .copy .kept .1 .0 ∙ P .1 .1 .0 in
+    (P .1 .1 .1 .0 ∙ ap (λ (x : ℕ). x + 2) (sym e), omega (arith, e, P .0 .market .words))
 
 clear-requires : tie.Need-clear-requires
 clear-requires c κs = search needs
@@ -36,8 +38,15 @@ clear-requires-2 c κs = search needs
 
 add-requires : tie.Need-add-requires
 add-requires c κs =
-    let c30 = c .before .before .before .before .before .before .before .before .before .before .before .before .before .before .before .before .before .before .before .before .before .before .before .before .before .before .before .before .before .before in
-    let P = c30 .pre in omega (arith, inside (P .0), P .0 .market .priced .count, c .before .before .before .clear2 .kept .0, P .1 .1 .1 .1 .1)
+    let c30 = c .before .before .before .before .before .before .before .before .before .before .before .before .before .before .before
+    .before .before .before .before .before .before .before .before .before .before .before .before .before .before .before in
+    let P = c30 .pre in omega (
+      arith,
+      inside (P .0),
+      P .0 .market .priced .count,
+      c .before .before .before .clear2 .kept .0,
+      P .1 .1 .1 .1 .1,
+    )
 
 disturb-requires : tie.Need-disturb-requires
 disturb-requires c κs =
@@ -47,7 +56,29 @@ disturb-requires c κs =
     let c19 = c15 .before .before .before .before in
     let c24 = c19 .before .before .before .before .before in
     let c38 = c24 .before .before .before .before .before .before .before .before .before .before .before .before .before .before in
-    let P = c38 .pre in let co = P .0 in (co .market, (co .hopping, (co .indexed, (c24 .copy .kept .1 .0 ∙ P .1 .1 .0, (c19 .count-none .ensures, (inside co, (emptied (P .1 .1 .1 .1 .0) (c15 .clear .kept .0 ∙ P .1 .1 .1 .1 .0 .seats .numbers) (c15 .clear .ensures .none), c7 .add .kept .0 ∙ c11 .clear2 .kept .0 ∙ P .1 .1 .1 .1 .1)))))))
+    let P = c38 .pre in let co = P .0 in (
+      co .market,
+      (
+        co .hopping,
+        (
+          co .indexed,
+          (
+            c24 .copy .kept .1 .0 ∙ P .1 .1 .0,
+            (
+              c19 .count-none .ensures,
+              (
+                inside co,
+                (
+                  emptied (P .1 .1 .1 .1 .0) (c15 .clear .kept .0 ∙ P .1 .1 .1 .1 .0 .seats .numbers)
+                      (c15 .clear .ensures .none),
+                  c7 .add .kept .0 ∙ c11 .clear2 .kept .0 ∙ P .1 .1 .1 .1 .1,
+                ),
+              ),
+            ),
+          ),
+        ),
+      ),
+    )
 
 same-length : tie.Need-same-length
 same-length c = search needs
@@ -72,7 +103,15 @@ returns c =
     let c24 = c20 .before .before .before .before in
     let c33 = c24 .before .before .before .before .before .before .before .before .before in
     let c47 = c33 .before .before .before .before .before .before .before .before .before .before .before .before .before .before in
-    let P = c47 .pre in let co = P .0 in let t = c8 .disturb .ensures .0 in record { follow = rw (c33 .copy .ensures) (starts co (P .1 .0) (λ i. known-at _ i ∙ c24 .clear .ensures .none _) (c20 .clear2 .ensures) (c16 .add .ensures) (sized-of t) (rw (c33 .copy .ensures) at (c8 .disturb .ensures .1 .0))); tree = t; counted = c8 .disturb .ensures .1 .1; marks = c8 .disturb .kept .1 .1 .1 .1 .1 .1 .1 .1 .1 .1 .0 ∙ c16 .add .kept .0 ∙ c20 .clear2 .kept .0 ∙ P .1 .1 .1 .1 .1 }
+    let P = c47 .pre in let co = P .0 in let t = c8 .disturb .ensures .0 in
+    record {
+      follow = rw (c33 .copy .ensures) (starts co (P .1 .0) (λ i. known-at _ i ∙ c24 .clear .ensures .none _)
+          (c20 .clear2 .ensures) (c16 .add .ensures) (sized-of t) (rw (c33 .copy .ensures) at (c8 .disturb .ensures .1 .0)));
+      tree = t;
+      counted = c8 .disturb .ensures .1 .1;
+      marks = c8 .disturb .kept .1 .1 .1 .1 .1 .1 .1 .1 .1 .1 .0 ∙ c16 .add .kept .0
+          ∙ c20 .clear2 .kept .0 ∙ P .1 .1 .1 .1 .1;
+    }
 
 pub begin-spec : {M : Type 1} → statement M
 begin-spec =

@@ -14,31 +14,37 @@ use Rattle.multi_limit.proofs.begin.Reads as begin-reads
 use Rattle.multi_without.proofs.step.Reads as step-reads
 
 abbrev Inv-loop : tie.InvT-loop
-Inv-loop prices masks hop index w count order gains rounds h k held alt₀ counts₀ who₀ num₀ mark₀ g₀ mine₀ top₀ alt counts who num mark g mine top = Walking prices masks w count order gains rounds h k alt counts who num mark top mine g
+Inv-loop prices masks hop index w count order gains rounds h k held alt₀ counts₀ who₀ num₀ mark₀ g₀ mine₀ top₀ alt counts who num mark g
+    mine top = Walking prices masks w count order gains rounds h k alt counts who num mark top mine g
 
 abbrev μ-loop : tie.MeasureT-loop
-μ-loop prices masks hop index w count order gains rounds h k held alt₀ counts₀ who₀ num₀ mark₀ g₀ mine₀ top₀ alt counts who num mark g mine top = rounds - g + length (openOf alt)
+μ-loop prices masks hop index w count order gains rounds h k held alt₀ counts₀ who₀ num₀ mark₀ g₀ mine₀ top₀ alt counts who num mark g
+    mine top = rounds - g + length (openOf alt)
 
 begin-requires : tie.Need-begin-requires Inv-loop μ-loop
 begin-requires c κs =
-    let c17 = c .before .before .before .before .before .before .before .before .before .before .before .before .before .before .before .before .before in
+    let c17 = c .before .before .before .before .before .before .before .before .before .before .before .before .before .before .before
+    .before .before in
     c17 .pre
 
 add-g : tie.Need-add-g Inv-loop μ-loop
 add-g c =
-    let c28 = c .before .before .before .before .before .before .before .before .before .before .before .before .before .before .before .before .before .before .before .before .before .before .before .before .before .before .before .before in
+    let c28 = c .before .before .before .before .before .before .before .before .before .before .before .before .before .before .before
+    .before .before .before .before .before .before .before .before .before .before .before .before .before in
     let pre = c28 .pre in
     omega (arith, pre .0 .here, pre .0 .main .route .most)
 
 mul-mine : tie.Need-mul-mine Inv-loop μ-loop
 mul-mine c =
-    let c28 = c .before .before .before .before .before .before .before .before .before .before .before .before .before .before .before .before .before .before .before .before .before .before .before .before .before .before .before .before in
+    let c28 = c .before .before .before .before .before .before .before .before .before .before .before .before .before .before .before
+    .before .before .before .before .before .before .before .before .before .before .before .before .before in
     let pre = c28 .pre in
     omega (arith, pre .0 .here, pre .0 .main .route .most)
 
 shared-slice-read-mine : tie.Need-shared-slice-read-mine Inv-loop μ-loop
 shared-slice-read-mine c =
-    let c29 = c .before .before .before .before .before .before .before .before .before .before .before .before .before .before .before .before .before .before .before .before .before .before .before .before .before .before .before .before .before in
+    let c29 = c .before .before .before .before .before .before .before .before .before .before .before .before .before .before .before
+    .before .before .before .before .before .before .before .before .before .before .before .before .before .before in
     let pre = c29 .pre in
     omega (arith, pre .0 .here, pre .0 .main .route .space)
 
@@ -51,40 +57,49 @@ step-requires : tie.Need-step-requires Inv-loop μ-loop
 step-requires c κs =
     let c5 = c .before .before .before .before .before in
     let c6 = c5 .before in
-    let c36 = c6 .before .before .before .before .before .before .before .before .before .before .before .before .before .before .before .before .before .before .before .before .before .before .before .before .before .before .before .before .before .before in
+    let c36 = c6 .before .before .before .before .before .before .before .before .before .before .before .before .before .before .before
+    .before .before .before .before .before .before .before .before .before .before .before .before .before .before .before in
     (c36 .pre .0, (c6 .loop .inv, c5 .loop-test .taken))
 
 same-length : tie.Need-same-length Inv-loop μ-loop
 same-length c =
     let c11 = c .before .before .before .before .before .before .before .before .before .before .before in
     let c18 = c11 .before .before .before .before .before .before .before in
-    let c48 = c18 .before .before .before .before .before .before .before .before .before .before .before .before .before .before .before .before .before .before .before .before .before .before .before .before .before .before .before .before .before .before in
+    let c48 = c18 .before .before .before .before .before .before .before .before .before .before .before .before .before .before .before
+    .before .before .before .before .before .before .before .before .before .before .before .before .before .before .before in
     c11 .step .kept .1 .1 .1 .1 .1 .1 .1 .1 .1 .1 .1 .1 .1 .1 .0 ∙ c18 .loop .inv .follow .strayed .words ∙ sym (c48 .pre .1 .1 .0)
 
 same-length-2 : tie.Need-same-length-2 Inv-loop μ-loop
 same-length-2 c =
     let c11 = c .before .before .before .before .before .before .before .before .before .before .before in
     let c18 = c11 .before .before .before .before .before .before .before in
-    let c48 = c18 .before .before .before .before .before .before .before .before .before .before .before .before .before .before .before .before .before .before .before .before .before .before .before .before .before .before .before .before .before .before in
-    c11 .step .kept .1 .1 .1 .1 .1 .1 .1 .1 .1 .1 .1 .1 .1 .1 .1 .0 ∙ c18 .loop .inv .counted .size ∙ ap (λ (x : ℕ). x + 2) (c18 .loop .inv .follow .strayed .words) ∙ sym (c48 .pre .1 .1 .1 .0)
+    let c48 = c18 .before .before .before .before .before .before .before .before .before .before .before .before .before .before .before
+    .before .before .before .before .before .before .before .before .before .before .before .before .before .before .before in
+    c11 .step .kept .1 .1 .1 .1 .1 .1 .1 .1 .1 .1 .1 .1 .1 .1 .1 .0 ∙ c18 .loop .inv .counted .size
+    ∙ ap (λ (x : ℕ). x + 2) (c18 .loop .inv .follow .strayed .words) ∙ sym (c48 .pre .1 .1 .1 .0)
 
 same-length-3 : tie.Need-same-length-3 Inv-loop μ-loop
 same-length-3 c =
     let c11 = c .before .before .before .before .before .before .before .before .before .before .before in
-    let c48 = c11 .before .before .before .before .before .before .before .before .before .before .before .before .before .before .before .before .before .before .before .before .before .before .before .before .before .before .before .before .before .before .before .before .before .before .before .before .before in
+    let c48 = c11 .before .before .before .before .before .before .before .before .before .before .before .before .before .before .before
+    .before .before .before .before .before .before .before .before .before .before .before .before .before .before .before .before
+    .before .before .before .before .before .before in
     c11 .step .ensures .tree .seats .players ∙ sym (c48 .pre .1 .1 .1 .1 .0 .seats .players)
 
 same-length-4 : tie.Need-same-length-4 Inv-loop μ-loop
 same-length-4 c =
     let c11 = c .before .before .before .before .before .before .before .before .before .before .before in
-    let c48 = c11 .before .before .before .before .before .before .before .before .before .before .before .before .before .before .before .before .before .before .before .before .before .before .before .before .before .before .before .before .before .before .before .before .before .before .before .before .before in
+    let c48 = c11 .before .before .before .before .before .before .before .before .before .before .before .before .before .before .before
+    .before .before .before .before .before .before .before .before .before .before .before .before .before .before .before .before
+    .before .before .before .before .before .before in
     c11 .step .ensures .tree .seats .numbers ∙ sym (c48 .pre .1 .1 .1 .1 .0 .seats .numbers)
 
 same-length-5 : tie.Need-same-length-5 Inv-loop μ-loop
 same-length-5 c =
     let c11 = c .before .before .before .before .before .before .before .before .before .before .before in
     let c18 = c11 .before .before .before .before .before .before .before in
-    let c48 = c18 .before .before .before .before .before .before .before .before .before .before .before .before .before .before .before .before .before .before .before .before .before .before .before .before .before .before .before .before .before .before in
+    let c48 = c18 .before .before .before .before .before .before .before .before .before .before .before .before .before .before .before
+    .before .before .before .before .before .before .before .before .before .before .before .before .before .before .before in
     c11 .step .kept .1 .1 .1 .1 .1 .1 .1 .1 .1 .1 .1 .1 .1 .1 .1 .1 .1 .1 .0 ∙ c18 .loop .inv .marks ∙ sym (c48 .pre .1 .1 .1 .1 .1)
 
 returns : tie.Need-returns Inv-loop μ-loop
@@ -104,32 +119,38 @@ loop-again c =
 
 same-length-6 : tie.Need-same-length-6 Inv-loop μ-loop
 same-length-6 c =
-    let c31 = c .before .before .before .before .before .before .before .before .before .before .before .before .before .before .before .before .before .before .before .before .before .before .before .before .before .before .before .before .before .before .before in
+    let c31 = c .before .before .before .before .before .before .before .before .before .before .before .before .before .before .before
+    .before .before .before .before .before .before .before .before .before .before .before .before .before .before .before .before in
     c .before .loop .inv .follow .strayed .words ∙ sym (c31 .pre .1 .1 .0)
 
 same-length-7 : tie.Need-same-length-7 Inv-loop μ-loop
 same-length-7 c =
-    let c31 = c .before .before .before .before .before .before .before .before .before .before .before .before .before .before .before .before .before .before .before .before .before .before .before .before .before .before .before .before .before .before .before in
+    let c31 = c .before .before .before .before .before .before .before .before .before .before .before .before .before .before .before
+    .before .before .before .before .before .before .before .before .before .before .before .before .before .before .before .before in
     c .before .loop .inv .counted .size ∙ ap (λ (x : ℕ). x + 2) (c .before .loop .inv .follow .strayed .words) ∙ sym (c31 .pre .1 .1 .1 .0)
 
 same-length-8 : tie.Need-same-length-8 Inv-loop μ-loop
 same-length-8 c =
-    let c31 = c .before .before .before .before .before .before .before .before .before .before .before .before .before .before .before .before .before .before .before .before .before .before .before .before .before .before .before .before .before .before .before in
+    let c31 = c .before .before .before .before .before .before .before .before .before .before .before .before .before .before .before
+    .before .before .before .before .before .before .before .before .before .before .before .before .before .before .before .before in
     c .before .loop .inv .tree .seats .players ∙ sym (c31 .pre .1 .1 .1 .1 .0 .seats .players)
 
 same-length-9 : tie.Need-same-length-9 Inv-loop μ-loop
 same-length-9 c =
-    let c31 = c .before .before .before .before .before .before .before .before .before .before .before .before .before .before .before .before .before .before .before .before .before .before .before .before .before .before .before .before .before .before .before in
+    let c31 = c .before .before .before .before .before .before .before .before .before .before .before .before .before .before .before
+    .before .before .before .before .before .before .before .before .before .before .before .before .before .before .before .before in
     c .before .loop .inv .tree .seats .numbers ∙ sym (c31 .pre .1 .1 .1 .1 .0 .seats .numbers)
 
 same-length-10 : tie.Need-same-length-10 Inv-loop μ-loop
 same-length-10 c =
-    let c31 = c .before .before .before .before .before .before .before .before .before .before .before .before .before .before .before .before .before .before .before .before .before .before .before .before .before .before .before .before .before .before .before in
+    let c31 = c .before .before .before .before .before .before .before .before .before .before .before .before .before .before .before
+    .before .before .before .before .before .before .before .before .before .before .before .before .before .before .before .before in
     c .before .loop .inv .marks ∙ sym (c31 .pre .1 .1 .1 .1 .1)
 
 returns-2 : tie.Need-returns-2 Inv-loop μ-loop
 returns-2 c =
-    let c31 = c .before .before .before .before .before .before .before .before .before .before .before .before .before .before .before .before .before .before .before .before .before .before .before .before .before .before .before .before .before .before .before in
+    let c31 = c .before .before .before .before .before .before .before .before .before .before .before .before .before .before .before
+    .before .before .before .before .before .before .before .before .before .before .before .before .before .before .before .before in
     (ends-own (c31 .pre .0) (c .before .loop .inv .follow) (omega arith), c .before .loop .inv .tree)
 
 pub limit-in-spec : {M : Type 1} → statement M

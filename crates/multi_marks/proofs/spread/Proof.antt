@@ -9,7 +9,8 @@ use Rattle.multi_tournament.specs.Tournament.{at, known, Tournament}
 use Rattle.multi_tournament.proofs.Tree.{length-known}
 use Rattle.multi_rounds.proofs.Rows.{part-row, row-in}
 use Rattle.multi_rounds.proofs.Begin.{common-few}
-use Rattle.multi_marks.proofs.Spreading.{Spreading, begins, passes, leaves, adds, ends, no-cells, row-at, set-in, set-length, next-within, next-free}
+use Rattle.multi_marks.proofs.Spreading.{Spreading, begins, passes, leaves, adds, ends, no-cells, row-at, set-in, set-length}
+use Rattle.multi_marks.proofs.Spreading.{next-within, next-free}
 use Rattle.cells.specs.Hops.{Counted}
 use Rattle.multi_marks.proofs.spread.Statement.{statement}
 use Rattle.multi_marks.proofs.spread.Tie as tie
@@ -21,7 +22,9 @@ use Rattle.multi_rounds.proofs.overlap.Reads as overlap-reads
 use Rattle.multi_tournament.proofs.update.Reads as update-reads
 
 abbrev Inv-loop : tie.InvT-loop
-Inv-loop prices masks hop index w alt counts₀ q m who₀ num₀ mark₀ a e i₀ counts who num mark i = Spreading prices masks w alt q m (known num₀) mark₀ (known num) mark i × ((i ≤ 1024) × ((i < 1024 → cell mark i ≡ 0) × (Tournament prices who num × ((length mark ≡ 16) × Counted alt counts))))
+Inv-loop prices masks hop index w alt counts₀ q m who₀ num₀ mark₀ a e i₀ counts who num mark i =
+    Spreading prices masks w alt q m (known num₀) mark₀ (known num) mark i
+    × ((i ≤ 1024) × ((i < 1024 → cell mark i ≡ 0) × (Tournament prices who num × ((length mark ≡ 16) × Counted alt counts))))
 
 abbrev μ-loop : tie.MeasureT-loop
 μ-loop prices masks hop index w alt counts₀ q m who₀ num₀ mark₀ a e i₀ counts who num mark i = 1024 - i
@@ -30,7 +33,14 @@ returns : tie.Need-returns Inv-loop μ-loop
 returns c =
     let c10 = c .before .before .before .before .before .before .before .before .before .before in
     let pre = c10 .pre in
-    let A = c10 .args in (pre .1 .1 .1 .1 .1 .1 .0, (no-cells (A .prices .now) (A .masks .now) (A .w) (A .alt .now) (A .q) (A .m) (known (A .num .now)) (A .mark .now) (c .if1 .taken), pre .1 .1 .1 .1 .0))
+    let A = c10 .args in (
+      pre .1 .1 .1 .1 .1 .1 .0,
+      (
+        no-cells (A .prices .now) (A .masks .now) (A .w) (A .alt .now) (A .q) (A .m) (known (A .num .now)) (A .mark .now)
+            (c .if1 .taken),
+        pre .1 .1 .1 .1 .0,
+      ),
+    )
 
 mul-a : tie.Need-mul-a Inv-loop μ-loop
 mul-a c =
@@ -61,38 +71,68 @@ part-next-end c =
 next-requires : tie.Need-next-requires Inv-loop μ-loop
 next-requires c κs =
     let c12 = c .before .before .before .before .before .before .before .before .before .before .before .before in
-    let P = c12 .pre in let A = c12 .args in rw (part-row (A .index .now) 16 (A .q)) (let e = set-length (P .1 .1 .0) (P .1 .1 .1 .1 .1 .0) in (e ∙ sym (P .1 .1 .1 .1 .1 .1 .1), (omega arith, omega arith)))
+    let P = c12 .pre in let A = c12 .args in rw (part-row (A .index .now) 16 (A .q))
+    (let e = set-length (P .1 .1 .0) (P .1 .1 .1 .1 .1 .0) in (e ∙ sym (P .1 .1 .1 .1 .1 .1 .1), (omega arith, omega arith)))
 
 loop-holds : tie.Need-loop-holds Inv-loop μ-loop
 loop-holds c =
     let c13 = c .before .before .before .before .before .before .before .before .before .before .before .before .before in
-    let P = c13 .pre in let A = c13 .args in let x = P .1 .1 .0 in let l = P .1 .1 .1 .1 .1 .0 in let n = rw (part-row (A .index .now) 16 (A .q)) at (c .next .ensures) in (passes (begins (A .prices .now) (A .masks .now) (A .w) (A .alt .now) (A .q) (A .m) (known (A .num .now)) (A .mark .now)) x l n, (next-within x l n, (next-free x l n, (P .1 .1 .1 .1 .1 .1 .0, (P .1 .1 .1 .1 .1 .1 .1, P .1 .1 .1 .1 .0)))))
+    let P = c13 .pre in let A = c13 .args in let x = P .1 .1 .0 in let l = P .1 .1 .1 .1 .1 .0 in
+    let n = rw (part-row (A .index .now) 16 (A .q)) at (c .next .ensures) in (
+      passes (begins (A .prices .now) (A .masks .now) (A .w) (A .alt .now) (A .q) (A .m) (known (A .num .now)) (A .mark .now)) x l n,
+      (next-within x l n, (next-free x l n, (P .1 .1 .1 .1 .1 .1 .0, (P .1 .1 .1 .1 .1 .1 .1, P .1 .1 .1 .1 .0)))),
+    )
 
 mul-if2 : tie.Need-mul-if2 Inv-loop μ-loop
 mul-if2 c =
     let c15 = c .before .before .before .before .before .before .before .before .before .before .before .before .before .before .before in
-    let P = c15 .pre in let A = c15 .args in omega (arith, row-in (A .prices .now) (A .masks .now) (A .w) (c .before .loop .i) (P .0) (c .loop-test .taken))
+    let P = c15 .pre in let A = c15 .args in omega (
+      arith,
+      row-in (A .prices .now) (A .masks .now) (A .w) (c .before .loop .i) (P .0) (c .loop-test .taken),
+    )
 
 add-if2 : tie.Need-add-if2 Inv-loop μ-loop
 add-if2 c =
     let c15 = c .before .before .before .before .before .before .before .before .before .before .before .before .before .before .before in
-    let P = c15 .pre in let A = c15 .args in omega (arith, row-in (A .prices .now) (A .masks .now) (A .w) (c .before .loop .i) (P .0) (c .loop-test .taken), P .1 .1 .1 .1 .1 .0)
+    let P = c15 .pre in let A = c15 .args in omega (
+      arith,
+      row-in (A .prices .now) (A .masks .now) (A .w) (c .before .loop .i) (P .0) (c .loop-test .taken),
+      P .1 .1 .1 .1 .1 .0,
+    )
 
 mul-if2-2 : tie.Need-mul-if2-2 Inv-loop μ-loop
 mul-if2-2 c =
     let c15 = c .before .before .before .before .before .before .before .before .before .before .before .before .before .before .before in
-    let P = c15 .pre in let A = c15 .args in omega (arith, row-in (A .prices .now) (A .masks .now) (A .w) (c .before .loop .i) (P .0) (c .loop-test .taken), P .1 .1 .1 .1 .1 .0)
+    let P = c15 .pre in let A = c15 .args in omega (
+      arith,
+      row-in (A .prices .now) (A .masks .now) (A .w) (c .before .loop .i) (P .0) (c .loop-test .taken),
+      P .1 .1 .1 .1 .1 .0,
+    )
 
 shared-slice-read-if2 : tie.Need-shared-slice-read-if2 Inv-loop μ-loop
 shared-slice-read-if2 c =
-    let c16 = c .before .before .before .before .before .before .before .before .before .before .before .before .before .before .before .before in
-    let P = c16 .pre in let A = c16 .args in omega (arith, row-in (A .prices .now) (A .masks .now) (A .w) (c .before .before .loop .i) (P .0) (c .before .loop-test .taken), P .1 .1 .1 .1 .1 .0)
+    let c16 = c .before .before .before .before .before .before .before .before .before .before .before .before .before .before .before
+    .before in
+    let P = c16 .pre in let A = c16 .args in omega (
+      arith,
+      row-in (A .prices .now) (A .masks .now) (A .w) (c .before .before .loop .i) (P .0) (c .before .loop-test .taken),
+      P .1 .1 .1 .1 .1 .0,
+    )
 
 overlap-requires : tie.Need-overlap-requires Inv-loop μ-loop
 overlap-requires c κs =
     let c4 = c .before .before .before .before in
     let c18 = c4 .before .before .before .before .before .before .before .before .before .before .before .before .before .before in
-    let P = c18 .pre in let A = c18 .args in (P .1 .1 .1 .0, (P .0 .words, (row-in (A .prices .now) (A .masks .now) (A .w) (c4 .loop .i) (P .0) (c .before .before .before .loop-test .taken), (P .1 .0 .size, (c4 .loop .inv .1 .1 .1 .1 .1, P .1 .0 .each (c4 .loop .i) (c .before .before .before .loop-test .taken))))))
+    let P = c18 .pre in let A = c18 .args in (
+      P .1 .1 .1 .0,
+      (
+        P .0 .words,
+        (
+          row-in (A .prices .now) (A .masks .now) (A .w) (c4 .loop .i) (P .0) (c .before .before .before .loop-test .taken),
+          (P .1 .0 .size, (c4 .loop .inv .1 .1 .1 .1 .1, P .1 .0 .each (c4 .loop .i) (c .before .before .before .loop-test .taken))),
+        ),
+      ),
+    )
 
 update-requires : tie.Need-update-requires Inv-loop μ-loop
 update-requires c κs =
@@ -100,7 +140,16 @@ update-requires c κs =
     let c8 = c4 .before .before .before .before in
     let c9 = c8 .before in
     let c23 = c9 .before .before .before .before .before .before .before .before .before .before .before .before .before .before in
-    let P = c23 .pre in let A = c23 .args in (P .0 .priced, (c9 .loop .inv .1 .1 .1 .0, (c8 .loop-test .taken, rw (c4 .overlap .ensures .0) (common-few (A .alt .now) _ (omega (arith, P .1 .1 .1 .0, P .0 .words))))))
+    let P = c23 .pre in let A = c23 .args in (
+      P .0 .priced,
+      (
+        c9 .loop .inv .1 .1 .1 .0,
+        (
+          c8 .loop-test .taken,
+          rw (c4 .overlap .ensures .0) (common-few (A .alt .now) _ (omega (arith, P .1 .1 .1 .0, P .0 .words))),
+        ),
+      ),
+    )
 
 add-requires : tie.Need-add-requires Inv-loop μ-loop
 add-requires c κs =
@@ -111,7 +160,9 @@ add-requires c κs =
 
 mul-next-2 : tie.Need-mul-next-2 Inv-loop μ-loop
 mul-next-2 c =
-    let c32 = c .before .before .before .before .before .before .before .before .before .before .before .before .before .before .before .before .before .before .before .before .before .before .before .before .before .before .before .before .before .before .before .before in
+    let c32 = c .before .before .before .before .before .before .before .before .before .before .before .before .before .before .before
+    .before .before .before .before .before .before .before .before .before .before .before .before .before .before .before .before
+    .before in
     let P = c32 .pre in omega (arith, P .1 .1 .1 .1 .1 .0, P .0 .words)
 
 sub-next-2 : tie.Need-sub-next-2 Inv-loop μ-loop
@@ -122,12 +173,15 @@ part-next-start-2 c = omega arith
 
 part-next-end-2 : tie.Need-part-next-end-2 Inv-loop μ-loop
 part-next-end-2 c =
-    let c32 = c .before .before .before .before .before .before .before .before .before .before .before .before .before .before .before .before .before .before .before .before .before .before .before .before .before .before .before .before .before .before .before .before in
+    let c32 = c .before .before .before .before .before .before .before .before .before .before .before .before .before .before .before
+    .before .before .before .before .before .before .before .before .before .before .before .before .before .before .before .before
+    .before in
     let P = c32 .pre in set-in (P .1 .1 .0) (P .1 .1 .1 .1 .1 .0)
 
 add-next : tie.Need-add-next Inv-loop μ-loop
 add-next c =
-    let c19 = c .before .before .before .before .before .before .before .before .before .before .before .before .before .before .before .before .before .before .before in
+    let c19 = c .before .before .before .before .before .before .before .before .before .before .before .before .before .before .before
+    .before .before .before .before in
     let c34 = c19 .before .before .before .before .before .before .before .before .before .before .before .before .before .before .before in
     let P = c34 .pre in omega (arith, c19 .loop-test .taken, P .0 .priced .count)
 
@@ -137,13 +191,19 @@ next-requires-2 c κs =
     let c19 = c4 .before .before .before .before .before .before .before .before .before .before .before .before .before .before .before in
     let c20 = c19 .before in
     let c34 = c20 .before .before .before .before .before .before .before .before .before .before .before .before .before .before in
-    let P = c34 .pre in let A = c34 .args in rw (part-row (A .index .now) 16 (A .q)) (let e = set-length (P .1 .1 .0) (P .1 .1 .1 .1 .1 .0) in (e ∙ sym (c4 .add .kept .0 ∙ c20 .loop .inv .1 .1 .1 .1 .0), (omega arith, omega (arith, c19 .loop-test .taken, P .0 .priced .count))))
+    let P = c34 .pre in let A = c34 .args in rw (part-row (A .index .now) 16 (A .q))
+    (let e = set-length (P .1 .1 .0) (P .1 .1 .1 .1 .1 .0) in (
+      e ∙ sym (c4 .add .kept .0 ∙ c20 .loop .inv .1 .1 .1 .1 .0),
+      (omega arith, omega (arith, c19 .loop-test .taken, P .0 .priced .count)),
+    ))
 
 loop-less : tie.Need-loop-less Inv-loop μ-loop
 loop-less c =
-    let c20 = c .before .before .before .before .before .before .before .before .before .before .before .before .before .before .before .before .before .before .before .before in
+    let c20 = c .before .before .before .before .before .before .before .before .before .before .before .before .before .before .before
+    .before .before .before .before .before in
     let c35 = c20 .before .before .before .before .before .before .before .before .before .before .before .before .before .before .before in
-    let A = c35 .args in let P = c35 .pre in let n = rw (part-row (A .index .now) 16 (A .q)) at (c .next2 .ensures) in omega (arith, n .on, c20 .loop-test .taken, P .0 .priced .count)
+    let A = c35 .args in let P = c35 .pre in let n = rw (part-row (A .index .now) 16 (A .q)) at (c .next2 .ensures) in
+    omega (arith, n .on, c20 .loop-test .taken, P .0 .priced .count)
 
 loop-again : tie.Need-loop-again Inv-loop μ-loop
 loop-again c =
@@ -153,11 +213,22 @@ loop-again c =
     let c20 = c16 .before .before .before .before in
     let c21 = c20 .before in
     let c35 = c21 .before .before .before .before .before .before .before .before .before .before .before .before .before .before in
-    let P = c35 .pre in let A = c35 .args in let x = P .1 .1 .0 in let l = P .1 .1 .1 .1 .1 .0 in let n = rw (part-row (A .index .now) 16 (A .q)) at (c .next2 .ensures) in let s = c21 .loop .inv in let t = s .1 .1 .1 .0 in (passes (adds (s .0) (c20 .loop-test .taken) (omega (arith, length-known (c21 .loop .num) (t .seats .numbers), c20 .loop-test .taken, P .0 .priced .count)) (s .1 .1 .0 (omega (arith, c20 .loop-test .taken, P .0 .priced .count))) (c16 .overlap .ensures .0) (c11 .update .ensures .1) (c5 .add .ensures)) x l n, (next-within x l n, (next-free x l n, (c11 .update .ensures .0, (c5 .add .kept .0 ∙ s .1 .1 .1 .1 .0, c16 .overlap .ensures .1)))))
+    let P = c35 .pre in let A = c35 .args in let x = P .1 .1 .0 in let l = P .1 .1 .1 .1 .1 .0 in
+    let n = rw (part-row (A .index .now) 16 (A .q)) at (c .next2 .ensures) in let s = c21 .loop .inv in let t = s .1 .1 .1 .0 in (
+      passes (adds (s .0) (c20 .loop-test .taken) (omega
+          (arith, length-known (c21 .loop .num) (t .seats .numbers), c20 .loop-test .taken, P .0 .priced .count))
+          (s .1 .1 .0 (omega (arith, c20 .loop-test .taken, P .0 .priced .count))) (c16 .overlap .ensures .0) (c11 .update .ensures .1)
+          (c5 .add .ensures)) x l n,
+      (
+        next-within x l n,
+        (next-free x l n, (c11 .update .ensures .0, (c5 .add .kept .0 ∙ s .1 .1 .1 .1 .0, c16 .overlap .ensures .1))),
+      ),
+    )
 
 mul-next-3 : tie.Need-mul-next-3 Inv-loop μ-loop
 mul-next-3 c =
-    let c17 = c .before .before .before .before .before .before .before .before .before .before .before .before .before .before .before .before .before in
+    let c17 = c .before .before .before .before .before .before .before .before .before .before .before .before .before .before .before
+    .before .before in
     let P = c17 .pre in omega (arith, P .1 .1 .1 .1 .1 .0, P .0 .words)
 
 sub-next-3 : tie.Need-sub-next-3 Inv-loop μ-loop
@@ -168,7 +239,8 @@ part-next-start-3 c = omega arith
 
 part-next-end-3 : tie.Need-part-next-end-3 Inv-loop μ-loop
 part-next-end-3 c =
-    let c17 = c .before .before .before .before .before .before .before .before .before .before .before .before .before .before .before .before .before in
+    let c17 = c .before .before .before .before .before .before .before .before .before .before .before .before .before .before .before
+    .before .before in
     let P = c17 .pre in set-in (P .1 .1 .0) (P .1 .1 .1 .1 .1 .0)
 
 add-next-2 : tie.Need-add-next-2 Inv-loop μ-loop
@@ -182,19 +254,27 @@ next-requires-3 c κs =
     let c4 = c .before .before .before .before in
     let c5 = c4 .before in
     let c19 = c5 .before .before .before .before .before .before .before .before .before .before .before .before .before .before in
-    let P = c19 .pre in let A = c19 .args in rw (part-row (A .index .now) 16 (A .q)) (let e = set-length (P .1 .1 .0) (P .1 .1 .1 .1 .1 .0) in (e ∙ sym (c5 .loop .inv .1 .1 .1 .1 .0), (omega arith, omega (arith, c4 .loop-test .taken, P .0 .priced .count))))
+    let P = c19 .pre in let A = c19 .args in rw (part-row (A .index .now) 16 (A .q))
+    (let e = set-length (P .1 .1 .0) (P .1 .1 .1 .1 .1 .0) in
+    (e ∙ sym (c5 .loop .inv .1 .1 .1 .1 .0), (omega arith, omega (arith, c4 .loop-test .taken, P .0 .priced .count))))
 
 loop-less-2 : tie.Need-loop-less-2 Inv-loop μ-loop
 loop-less-2 c =
     let c5 = c .before .before .before .before .before in
     let c20 = c5 .before .before .before .before .before .before .before .before .before .before .before .before .before .before .before in
-    let A = c20 .args in let P = c20 .pre in let n = rw (part-row (A .index .now) 16 (A .q)) at (c .next3 .ensures) in omega (arith, n .on, c5 .loop-test .taken, P .0 .priced .count)
+    let A = c20 .args in let P = c20 .pre in let n = rw (part-row (A .index .now) 16 (A .q)) at (c .next3 .ensures) in
+    omega (arith, n .on, c5 .loop-test .taken, P .0 .priced .count)
 
 loop-again-2 : tie.Need-loop-again-2 Inv-loop μ-loop
 loop-again-2 c =
     let c6 = c .before .before .before .before .before .before in
     let c20 = c6 .before .before .before .before .before .before .before .before .before .before .before .before .before .before in
-    let P = c20 .pre in let A = c20 .args in let x = P .1 .1 .0 in let l = P .1 .1 .1 .1 .1 .0 in let n = rw (part-row (A .index .now) 16 (A .q)) at (c .next3 .ensures) in let s = c6 .loop .inv in (passes (leaves (s .0) (ap (λ (y : ℕ). bitAnd y (A .m)) (row-at (A .masks .now) (A .w) (c6 .loop .i) (A .q) l) ∙ c .before .before .before .if2 .left)) x l n, (next-within x l n, (next-free x l n, s .1 .1 .1)))
+    let P = c20 .pre in let A = c20 .args in let x = P .1 .1 .0 in let l = P .1 .1 .1 .1 .1 .0 in
+    let n = rw (part-row (A .index .now) 16 (A .q)) at (c .next3 .ensures) in let s = c6 .loop .inv in (
+      passes (leaves (s .0) (ap (λ (y : ℕ). bitAnd y (A .m)) (row-at (A .masks .now) (A .w) (c6 .loop .i) (A .q) l)
+          ∙ c .before .before .before .if2 .left)) x l n,
+      (next-within x l n, (next-free x l n, s .1 .1 .1)),
+    )
 
 same-length : tie.Need-same-length Inv-loop μ-loop
 same-length c =

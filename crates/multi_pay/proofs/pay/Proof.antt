@@ -26,17 +26,22 @@ shared-slice-read-k c =
 
 limit-in-requires : tie.Need-limit-in-requires
 limit-in-requires c κs =
-    let c21 = c .before .before .before .before .before .before .before .before .before .before .before .before .before .before .before .before .before .before .before .before .before in
+    let c21 = c .before .before .before .before .before .before .before .before .before .before .before .before .before .before .before
+    .before .before .before .before .before .before in
     let P = c21 .pre in (course (P .0) (P .1 .0), (P .1 .1 .0 .standing, P .1 .1 .1))
 
 mul-won : tie.Need-mul-won
 mul-won c =
-    let c32 = c .before .before .before .before .before .before .before .before .before .before .before .before .before .before .before .before .before .before .before .before .before .before .before .before .before .before .before .before .before .before .before .before in
+    let c32 = c .before .before .before .before .before .before .before .before .before .before .before .before .before .before .before
+    .before .before .before .before .before .before .before .before .before .before .before .before .before .before .before .before
+    .before in
     let P = c32 .pre in omega (arith, P .0 .main .route .inside (c32 .args .h) (P .1 .0), P .0 .market .priced .count)
 
 slice-write-won : tie.Need-slice-write-won
 slice-write-won c =
-    let c32 = c .before .before .before .before .before .before .before .before .before .before .before .before .before .before .before .before .before .before .before .before .before .before .before .before .before .before .before .before .before .before .before .before in
+    let c32 = c .before .before .before .before .before .before .before .before .before .before .before .before .before .before .before
+    .before .before .before .before .before .before .before .before .before .before .before .before .before .before .before .before
+    .before in
     let P = c32 .pre in omega (arith, P .0 .main .route .inside (c32 .args .h) (P .1 .0), P .1 .1 .0 .as-won)
 
 less-one-requires : tie.Need-less-one-requires
@@ -44,28 +49,53 @@ less-one-requires c κs = search needs
 
 mul-cents : tie.Need-mul-cents
 mul-cents c =
-    let c33 = c .before .before .before .before .before .before .before .before .before .before .before .before .before .before .before .before .before .before .before .before .before .before .before .before .before .before .before .before .before .before .before .before .before in
+    let c33 = c .before .before .before .before .before .before .before .before .before .before .before .before .before .before .before
+    .before .before .before .before .before .before .before .before .before .before .before .before .before .before .before .before
+    .before .before in
     let P = c33 .pre in omega (arith, P .0 .main .route .inside (c33 .args .h) (P .1 .0), P .0 .market .priced .count)
 
 slice-write-cents : tie.Need-slice-write-cents
 slice-write-cents c =
-    let c33 = c .before .before .before .before .before .before .before .before .before .before .before .before .before .before .before .before .before .before .before .before .before .before .before .before .before .before .before .before .before .before .before .before .before in
+    let c33 = c .before .before .before .before .before .before .before .before .before .before .before .before .before .before .before
+    .before .before .before .before .before .before .before .before .before .before .before .before .before .before .before .before
+    .before .before in
     let P = c33 .pre in omega (arith, P .0 .main .route .inside (c33 .args .h) (P .1 .0), P .1 .1 .0 .as-cents)
 
 mul-a : tie.Need-mul-a
 mul-a c =
-    let c33 = c .before .before .before .before .before .before .before .before .before .before .before .before .before .before .before .before .before .before .before .before .before .before .before .before .before .before .before .before .before .before .before .before .before in
-    let P = c33 .pre in let A = c33 .args in omega (arith, product (A .w) (at (A .order .now) (A .h)) 158 1000 (P .0 .market .words) (omega (arith, P .0 .main .route .inside (A .h) (P .1 .0), P .0 .market .priced .count)), P .0 .market .words)
+    let c33 = c .before .before .before .before .before .before .before .before .before .before .before .before .before .before .before
+    .before .before .before .before .before .before .before .before .before .before .before .before .before .before .before .before
+    .before .before in
+    let P = c33 .pre in let A = c33 .args in omega (
+      arith,
+      product (A .w) (at (A .order .now) (A .h)) 158 1000 (P .0 .market .words)
+          (omega (arith, P .0 .main .route .inside (A .h) (P .1 .0), P .0 .market .priced .count)),
+      P .0 .market .words,
+    )
 
 add-e : tie.Need-add-e
 add-e c =
-    let c33 = c .before .before .before .before .before .before .before .before .before .before .before .before .before .before .before .before .before .before .before .before .before .before .before .before .before .before .before .before .before .before .before .before .before in
-    let P = c33 .pre in let A = c33 .args in omega (arith, product (A .w) (at (A .order .now) (A .h)) 158 1000 (P .0 .market .words) (omega (arith, P .0 .main .route .inside (A .h) (P .1 .0), P .0 .market .priced .count)), P .0 .market .words)
+    let c33 = c .before .before .before .before .before .before .before .before .before .before .before .before .before .before .before
+    .before .before .before .before .before .before .before .before .before .before .before .before .before .before .before .before
+    .before .before in
+    let P = c33 .pre in let A = c33 .args in omega (
+      arith,
+      product (A .w) (at (A .order .now) (A .h)) 158 1000 (P .0 .market .words)
+          (omega (arith, P .0 .main .route .inside (A .h) (P .1 .0), P .0 .market .priced .count)),
+      P .0 .market .words,
+    )
 
 mul-close : tie.Need-mul-close
 mul-close c =
-    let c34 = c .before .before .before .before .before .before .before .before .before .before .before .before .before .before .before .before .before .before .before .before .before .before .before .before .before .before .before .before .before .before .before .before .before .before in
-    let P = c34 .pre in let A = c34 .args in omega (arith, product (A .w) (at (A .order .now) (A .h)) 158 1000 (P .0 .market .words) (omega (arith, P .0 .main .route .inside (A .h) (P .1 .0), P .0 .market .priced .count)), P .0 .market .words)
+    let c34 = c .before .before .before .before .before .before .before .before .before .before .before .before .before .before .before
+    .before .before .before .before .before .before .before .before .before .before .before .before .before .before .before .before
+    .before .before .before in
+    let P = c34 .pre in let A = c34 .args in omega (
+      arith,
+      product (A .w) (at (A .order .now) (A .h)) 158 1000 (P .0 .market .words)
+          (omega (arith, P .0 .main .route .inside (A .h) (P .1 .0), P .0 .market .priced .count)),
+      P .0 .market .words,
+    )
 
 sub-close : tie.Need-sub-close
 sub-close c = search needs
@@ -75,13 +105,20 @@ part-close-start c = search needs
 
 part-close-end : tie.Need-part-close-end
 part-close-end c =
-    let c34 = c .before .before .before .before .before .before .before .before .before .before .before .before .before .before .before .before .before .before .before .before .before .before .before .before .before .before .before .before .before .before .before .before .before .before in
-    let P = c34 .pre in let A = c34 .args in row-in (A .prices .now) (A .masks .now) (A .w) _ (P .0 .market) (P .0 .main .route .inside (A .h) (P .1 .0))
+    let c34 = c .before .before .before .before .before .before .before .before .before .before .before .before .before .before .before
+    .before .before .before .before .before .before .before .before .before .before .before .before .before .before .before .before
+    .before .before .before in
+    let P = c34 .pre in let A = c34 .args in row-in (A .prices .now) (A .masks .now) (A .w) _ (P .0 .market)
+    (P .0 .main .route .inside (A .h) (P .1 .0))
 
 close-requires : tie.Need-close-requires
 close-requires c κs =
-    let c35 = c .before .before .before .before .before .before .before .before .before .before .before .before .before .before .before .before .before .before .before .before .before .before .before .before .before .before .before .before .before .before .before .before .before .before .before in
-    let P = c35 .pre in let A = c35 .args in rw (part-row (A .masks .now) (A .w)) (P .1 .1 .0 .standing .words ∙ sym (row-length (A .masks .now) (A .w) _ (row-in (A .prices .now) (A .masks .now) (A .w) _ (P .0 .market) (P .0 .main .route .inside (A .h) (P .1 .0)))))
+    let c35 = c .before .before .before .before .before .before .before .before .before .before .before .before .before .before .before
+    .before .before .before .before .before .before .before .before .before .before .before .before .before .before .before .before
+    .before .before .before .before in
+    let P = c35 .pre in let A = c35 .args in rw (part-row (A .masks .now) (A .w))
+    (P .1 .1 .0 .standing .words ∙ sym (row-length (A .masks .now) (A .w) _
+    (row-in (A .prices .now) (A .masks .now) (A .w) _ (P .0 .market) (P .0 .main .route .inside (A .h) (P .1 .0)))))
 
 same-length : tie.Need-same-length
 same-length c = search needs
@@ -111,8 +148,14 @@ returns : tie.Need-returns
 returns c =
     let c5 = c .before .before .before .before .before in
     let c16 = c5 .before .before .before .before .before .before .before .before .before .before .before in
-    let c38 = c16 .before .before .before .before .before .before .before .before .before .before .before .before .before .before .before .before .before .before .before .before .before .before in
-    let P = c38 .pre in let A = c38 .args in (goes (P .0 .main) (P .1 .0) (P .0 .cells-in) (P .0 .two) (P .1 .1 .0) (c16 .limit-in .ensures .0) (c5 .less-one .ensures) (c .before .before .close .kept .0) (rw (part-row (A .masks .now) (A .w)) at (c .before .before .close .ensures)), c16 .limit-in .ensures .1)
+    let c38 = c16 .before .before .before .before .before .before .before .before .before .before .before .before .before .before .before
+    .before .before .before .before .before .before .before in
+    let P = c38 .pre in let A = c38 .args in (
+      goes (P .0 .main) (P .1 .0) (P .0 .cells-in) (P .0 .two) (P .1 .1 .0)
+          (c16 .limit-in .ensures .0) (c5 .less-one .ensures) (c .before .before .close .kept .0)
+          (rw (part-row (A .masks .now) (A .w)) at (c .before .before .close .ensures)),
+      c16 .limit-in .ensures .1,
+    )
 
 pub pay-spec : {M : Type 1} → statement M
 pay-spec =

@@ -13,10 +13,13 @@ use Rattle.multi_pay.proofs.pay_all.Lts as lts
 use Rattle.multi_pay.proofs.pay.Reads as pay-reads
 
 abbrev Inv-loop : tie.InvT-loop
-Inv-loop prices masks hop index w count order gains rounds held₀ alt₀ counts₀ who₀ num₀ mark₀ won₀ cents₀ h₀ held alt counts who num mark won cents h = (h ≤ rounds) × (Paying prices masks w count order h held won cents × ((length alt ≡ w) × ((length counts ≡ w + 2) × (Tournament prices who num × (length mark ≡ 16)))))
+Inv-loop prices masks hop index w count order gains rounds held₀ alt₀ counts₀ who₀ num₀ mark₀ won₀ cents₀ h₀ held alt counts who num mark
+    won cents h = (h ≤ rounds) × (Paying prices masks w count order h held won cents
+    × ((length alt ≡ w) × ((length counts ≡ w + 2) × (Tournament prices who num × (length mark ≡ 16)))))
 
 abbrev μ-loop : tie.MeasureT-loop
-μ-loop prices masks hop index w count order gains rounds held₀ alt₀ counts₀ who₀ num₀ mark₀ won₀ cents₀ h₀ held alt counts who num mark won cents h = rounds - h
+μ-loop prices masks hop index w count order gains rounds held₀ alt₀ counts₀ who₀ num₀ mark₀ won₀ cents₀ h₀ held alt counts who num mark
+    won cents h = rounds - h
 
 loop-holds : tie.Need-loop-holds Inv-loop μ-loop
 loop-holds c =
@@ -32,7 +35,9 @@ pay-requires c κs =
 
 add-h : tie.Need-add-h Inv-loop μ-loop
 add-h c =
-    let c41 = c .before .before .before .before .before .before .before .before .before .before .before .before .before .before .before .before .before .before .before .before .before .before .before .before .before .before .before .before .before .before .before .before .before .before .before .before .before .before .before .before .before in
+    let c41 = c .before .before .before .before .before .before .before .before .before .before .before .before .before .before .before
+    .before .before .before .before .before .before .before .before .before .before .before .before .before .before .before .before
+    .before .before .before .before .before .before .before .before .before .before in
     omega (arith, c41 .pre .0 .main .route .most)
 
 loop-less : tie.Need-loop-less Inv-loop μ-loop
@@ -40,53 +45,64 @@ loop-less c = omega arith
 
 loop-again : tie.Need-loop-again Inv-loop μ-loop
 loop-again c =
-    let c16 = c .before .before .before .before .before .before .before .before .before .before .before .before .before .before .before .before in
+    let c16 = c .before .before .before .before .before .before .before .before .before .before .before .before .before .before .before
+    .before in
     let c26 = c16 .before .before .before .before .before .before .before .before .before .before in
-    let s = c26 .loop .inv .1 .1 in let K = c16 .pay .kept .1 .1 .1 .1 .1 .1 .1 .1 .1 .1 .1 in (omega arith, (c16 .pay .ensures .0, (K .0 ∙ s .0, (K .1 .0 ∙ s .1 .0, (c16 .pay .ensures .1, K .1 .1 .1 .1 .0 ∙ s .1 .1 .1)))))
+    let s = c26 .loop .inv .1 .1 in let K = c16 .pay .kept .1 .1 .1 .1 .1 .1 .1 .1 .1 .1 .1 in
+    (omega arith, (c16 .pay .ensures .0, (K .0 ∙ s .0, (K .1 .0 ∙ s .1 .0, (c16 .pay .ensures .1, K .1 .1 .1 .1 .0 ∙ s .1 .1 .1)))))
 
 same-length : tie.Need-same-length Inv-loop μ-loop
 same-length c =
-    let c16 = c .before .before .before .before .before .before .before .before .before .before .before .before .before .before .before .before in
+    let c16 = c .before .before .before .before .before .before .before .before .before .before .before .before .before .before .before
+    .before in
     c .before .loop .inv .1 .0 .standing .words ∙ sym (c16 .pre .1 .0 .standing .words)
 
 same-length-2 : tie.Need-same-length-2 Inv-loop μ-loop
 same-length-2 c =
-    let c16 = c .before .before .before .before .before .before .before .before .before .before .before .before .before .before .before .before in
+    let c16 = c .before .before .before .before .before .before .before .before .before .before .before .before .before .before .before
+    .before in
     c .before .loop .inv .1 .1 .0 ∙ sym (c16 .pre .1 .1 .0)
 
 same-length-3 : tie.Need-same-length-3 Inv-loop μ-loop
 same-length-3 c =
-    let c16 = c .before .before .before .before .before .before .before .before .before .before .before .before .before .before .before .before in
+    let c16 = c .before .before .before .before .before .before .before .before .before .before .before .before .before .before .before
+    .before in
     c .before .loop .inv .1 .1 .1 .0 ∙ sym (c16 .pre .1 .1 .1 .0)
 
 same-length-4 : tie.Need-same-length-4 Inv-loop μ-loop
 same-length-4 c =
-    let c16 = c .before .before .before .before .before .before .before .before .before .before .before .before .before .before .before .before in
+    let c16 = c .before .before .before .before .before .before .before .before .before .before .before .before .before .before .before
+    .before in
     c .before .loop .inv .1 .1 .1 .1 .0 .seats .players ∙ sym (c16 .pre .1 .1 .1 .1 .0 .seats .players)
 
 same-length-5 : tie.Need-same-length-5 Inv-loop μ-loop
 same-length-5 c =
-    let c16 = c .before .before .before .before .before .before .before .before .before .before .before .before .before .before .before .before in
+    let c16 = c .before .before .before .before .before .before .before .before .before .before .before .before .before .before .before
+    .before in
     c .before .loop .inv .1 .1 .1 .1 .0 .seats .numbers ∙ sym (c16 .pre .1 .1 .1 .1 .0 .seats .numbers)
 
 same-length-6 : tie.Need-same-length-6 Inv-loop μ-loop
 same-length-6 c =
-    let c16 = c .before .before .before .before .before .before .before .before .before .before .before .before .before .before .before .before in
+    let c16 = c .before .before .before .before .before .before .before .before .before .before .before .before .before .before .before
+    .before in
     c .before .loop .inv .1 .1 .1 .1 .1 ∙ sym (c16 .pre .1 .1 .1 .1 .1)
 
 same-length-7 : tie.Need-same-length-7 Inv-loop μ-loop
 same-length-7 c =
-    let c16 = c .before .before .before .before .before .before .before .before .before .before .before .before .before .before .before .before in
+    let c16 = c .before .before .before .before .before .before .before .before .before .before .before .before .before .before .before
+    .before in
     c .before .loop .inv .1 .0 .as-won ∙ sym (c16 .pre .1 .0 .as-won)
 
 same-length-8 : tie.Need-same-length-8 Inv-loop μ-loop
 same-length-8 c =
-    let c16 = c .before .before .before .before .before .before .before .before .before .before .before .before .before .before .before .before in
+    let c16 = c .before .before .before .before .before .before .before .before .before .before .before .before .before .before .before
+    .before in
     c .before .loop .inv .1 .0 .as-cents ∙ sym (c16 .pre .1 .0 .as-cents)
 
 returns : tie.Need-returns Inv-loop μ-loop
 returns c =
-    let c16 = c .before .before .before .before .before .before .before .before .before .before .before .before .before .before .before .before in
+    let c16 = c .before .before .before .before .before .before .before .before .before .before .before .before .before .before .before
+    .before in
     let P = c16 .pre in ends (P .0 .main) (P .0 .cells-in) (omega arith) (c .before .loop .inv .1 .0)
 
 pub pay-all-spec : {M : Type 1} → statement M

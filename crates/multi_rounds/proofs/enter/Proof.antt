@@ -28,7 +28,16 @@ loop-holds c =
 overlap-requires : tie.Need-overlap-requires Inv-loop μ-loop
 overlap-requires c κs =
     let c10 = c .before .before .before .before .before .before .before .before .before .before in
-    let P = c10 .pre in let A = c10 .args in (P .1 .1 .0, (P .0 .words, (row-in (A .prices .now) (A .masks .now) (A .w) (c .before .before .loop .i) (P .0) (c .before .loop-test .taken), (P .1 .0 .size, (c .before .before .loop .inv .1, P .1 .0 .each (c .before .before .loop .i) (c .before .loop-test .taken))))))
+    let P = c10 .pre in let A = c10 .args in (
+      P .1 .1 .0,
+      (
+        P .0 .words,
+        (
+          row-in (A .prices .now) (A .masks .now) (A .w) (c .before .before .loop .i) (P .0) (c .before .loop-test .taken),
+          (P .1 .0 .size, (c .before .before .loop .inv .1, P .1 .0 .each (c .before .before .loop .i) (c .before .loop-test .taken))),
+        ),
+      ),
+    )
 
 update-requires : tie.Need-update-requires Inv-loop μ-loop
 update-requires c κs =
@@ -36,7 +45,17 @@ update-requires c κs =
     let c6 = c4 .before .before in
     let c7 = c6 .before in
     let c15 = c7 .before .before .before .before .before .before .before .before in
-    let P = c15 .pre in (P .0 .priced, (c7 .loop .inv .0 .tree, (c6 .loop-test .taken, rw (c4 .overlap .ensures .0) (common-few (c15 .args .held .now) _ (omega (arith, P .1 .1 .0, P .0 .words))))))
+    let P = c15 .pre in (
+      P .0 .priced,
+      (
+        c7 .loop .inv .0 .tree,
+        (
+          c6 .loop-test .taken,
+          rw (c4 .overlap .ensures .0)
+              (common-few (c15 .args .held .now) _ (omega (arith, P .1 .1 .0, P .0 .words))),
+        ),
+      ),
+    )
 
 add-i : tie.Need-add-i Inv-loop μ-loop
 add-i c = omega arith
@@ -50,8 +69,11 @@ loop-again c =
     let c9 = c4 .before .before .before .before .before in
     let c11 = c9 .before .before in
     let c12 = c11 .before in
-    let c20 = c12 .before .before .before .before .before .before .before .before in
-    (enters-more (c20 .pre .0) (c12 .loop .inv .0) (c11 .loop-test .taken) (c4 .update .ensures .0) (c4 .update .ensures .1) (c9 .overlap .ensures .0), c9 .overlap .ensures .1)
+    let c20 = c12 .before .before .before .before .before .before .before .before in (
+      enters-more (c20 .pre .0) (c12 .loop .inv .0) (c11 .loop-test .taken) (c4 .update .ensures .0) (c4 .update .ensures .1)
+          (c9 .overlap .ensures .0),
+      c9 .overlap .ensures .1,
+    )
 
 same-length : tie.Need-same-length Inv-loop μ-loop
 same-length c =

@@ -40,7 +40,8 @@ part-reach-end-2 c = search needs
 reach-requires : tie.Need-reach-requires
 reach-requires c κs =
     let c7 = c .before .before .before .before .before .before .before in
-    let P = c7 .pre in let A = c7 .args in rw (part-row (A .masks .now) (A .w) (A .i), part-row (A .hop .now) (A .w) (A .i)) ((P .0 ∙ sym (row-length (A .masks .now) (A .w) (A .i) (P .1 .1 .0)), (omega arith, (P .1 .1 .1 .1 .0, P .1 .1 .1 .1 .1))))
+    let P = c7 .pre in let A = c7 .args in rw (part-row (A .masks .now) (A .w) (A .i), part-row (A .hop .now) (A .w) (A .i))
+    ((P .0 ∙ sym (row-length (A .masks .now) (A .w) (A .i) (P .1 .1 .0)), (omega arith, (P .1 .1 .1 .1 .0, P .1 .1 .1 .1 .1))))
 
 same-length : tie.Need-same-length
 same-length c = search needs
@@ -48,7 +49,10 @@ same-length c = search needs
 returns : tie.Need-returns
 returns c =
     let c10 = c .before .before .before .before .before .before .before .before .before .before in
-    let A = c10 .args in (c .before .before .reach .ensures .0 ∙ ap (common (A .held .now)) (part-row (A .masks .now) (A .w) (A .i)), c .before .before .reach .ensures .1)
+    let A = c10 .args in (
+      c .before .before .reach .ensures .0 ∙ ap (common (A .held .now)) (part-row (A .masks .now) (A .w) (A .i)),
+      c .before .before .reach .ensures .1,
+    )
 
 pub overlap-spec : {M : Type 1} → statement M
 overlap-spec =

@@ -39,7 +39,8 @@ part-close-counted-end-2 c = search needs
 close-counted-requires : tie.Need-close-counted-requires
 close-counted-requires c κs =
     let c8 = c .before .before .before .before .before .before .before .before in
-    let P = c8 .pre in let A = c8 .args in rw (part-row (A .masks .now) (A .w) (A .i), part-row (A .hop .now) (A .w) (A .i)) ((P .0 ∙ sym (row-length (A .masks .now) (A .w) (A .i) (P .1 .1 .0)), (omega arith, (P .1 .1 .1 .1 .0, P .1 .1 .1 .1 .1))))
+    let P = c8 .pre in let A = c8 .args in rw (part-row (A .masks .now) (A .w) (A .i), part-row (A .hop .now) (A .w) (A .i))
+    ((P .0 ∙ sym (row-length (A .masks .now) (A .w) (A .i) (P .1 .1 .0)), (omega arith, (P .1 .1 .1 .1 .0, P .1 .1 .1 .1 .1))))
 
 same-length : tie.Need-same-length
 same-length c = search needs

@@ -1,4 +1,5 @@
--- `multi_tournament::leads` meets its contract: a bid without cells comes last, the others by price for each cell and entry. Assumes nothing.
+-- `multi_tournament::leads` meets its contract: a bid without cells comes last, the others by price for each cell and entry.
+-- Assumes nothing.
 use Prim.Native.Nat.{_*_}
 use mathlib.Core.Logic.{inl, inr}
 use native.Mathlib.Omega.{arith}
@@ -27,7 +28,12 @@ shared-slice-read-x : tie.Need-shared-slice-read-x
 shared-slice-read-x c = c .before .before .before .pre .1 .1 .0 (omega arith)
 
 mul-x-2 : tie.Need-mul-x-2
-mul-x-2 c = let A = c .before .before .before .args in omega (arith, product (at (A .prices .now) (A .i)) (A .t) 100000000 10112 (c .before .before .before .pre .0 .most (A .i)) (omega arith))
+mul-x-2 c = let A = c .before .before .before .args in
+    omega (
+      arith,
+      product (at (A .prices .now) (A .i)) (A .t) 100000000 10112 (c .before .before .before .pre .0 .most (A .i))
+          (omega arith),
+    )
 
 mul-y : tie.Need-mul-y
 mul-y c =
@@ -47,12 +53,43 @@ mul-y-2 c =
 returns-3 : tie.Need-returns-3
 returns-3 c =
     let c5 = c .before .before .before .before .before in
-    let A = c5 .args in (λ e. inr (omega arith, omega (arith, late-no (A .i) (A .j) (c .if3 .taken), leb-true (at (A .prices .now) (A .i) * A .t) (at (A .prices .now) (A .j) * A .s) e)), λ e. inr (omega arith, omega (arith, late-most (A .j) (A .i), leb-false (at (A .prices .now) (A .i) * A .t) (at (A .prices .now) (A .j) * A .s) e)))
+    let A = c5 .args in (
+      λ e. inr (
+        omega arith,
+        omega (
+          arith,
+          late-no (A .i) (A .j) (c .if3 .taken),
+          leb-true (at (A .prices .now) (A .i) * A .t) (at (A .prices .now) (A .j) * A .s) e,
+        ),
+      ),
+      λ e. inr (
+        omega arith,
+        omega (
+          arith,
+          late-most (A .j) (A .i),
+          leb-false (at (A .prices .now) (A .i) * A .t) (at (A .prices .now) (A .j) * A .s) e,
+        ),
+      ),
+    )
 
 returns-4 : tie.Need-returns-4
 returns-4 c =
     let c5 = c .before .before .before .before .before in
-    let A = c5 .args in (λ e. inr (omega arith, omega (arith, late-most (A .i) (A .j), ltb-true (at (A .prices .now) (A .i) * A .t) (at (A .prices .now) (A .j) * A .s) e)), λ e. inr (omega arith, omega (arith, late-no (A .j) (A .i) (omega arith), ltb-false (at (A .prices .now) (A .i) * A .t) (at (A .prices .now) (A .j) * A .s) e)))
+    let A = c5 .args in (
+      λ e. inr (
+        omega arith,
+        omega
+            (arith, late-most (A .i) (A .j), ltb-true (at (A .prices .now) (A .i) * A .t) (at (A .prices .now) (A .j) * A .s) e),
+      ),
+      λ e. inr (
+        omega arith,
+        omega (
+          arith,
+          late-no (A .j) (A .i) (omega arith),
+          ltb-false (at (A .prices .now) (A .i) * A .t) (at (A .prices .now) (A .j) * A .s) e,
+        ),
+      ),
+    )
 
 pub leads-spec : {M : Type 1} → statement M
 leads-spec =

@@ -50,7 +50,10 @@ leads-requires : tie.Need-leads-requires
 leads-requires c κs =
     let c7 = c .before .before .before .before .before .before .before in
     let pre = c7 .pre in
-    let S = pre .1 .0 in let v = c7 .args .v in (pre .0, ((S .few (2 * v), S .few (2 * v + 1)), (S .inside (2 * v) (omega arith), S .inside (2 * v + 1) (omega arith))))
+    let S = pre .1 .0 in let v = c7 .args .v in (
+      pre .0,
+      ((S .few (2 * v), S .few (2 * v + 1)), (S .inside (2 * v) (omega arith), S .inside (2 * v + 1) (omega arith))),
+    )
 
 put-requires : tie.Need-put-requires
 put-requires c κs = search needs
@@ -67,7 +70,13 @@ returns c =
     let c7 = c4 .before .before .before in
     let c8 = c7 .before in
     let c16 = c8 .before .before .before .before .before .before .before .before in
-    let A = c16 .args in record { better = 2 * A .v; one = inl refl; put = c4 .put .ensures; left = leads-itself (A .prices .now) (at (A .who .now) (2 * A .v)) (at (A .num .now) (2 * A .v)); right = c8 .leads .ensures .0 (c7 .if1 .taken) }
+    let A = c16 .args in record {
+      better = 2 * A .v;
+      one = inl refl;
+      put = c4 .put .ensures;
+      left = leads-itself (A .prices .now) (at (A .who .now) (2 * A .v)) (at (A .num .now) (2 * A .v));
+      right = c8 .leads .ensures .0 (c7 .if1 .taken);
+    }
 
 put-requires-2 : tie.Need-put-requires-2
 put-requires-2 c κs = search needs
@@ -84,7 +93,14 @@ returns-2 c =
     let c7 = c4 .before .before .before in
     let c8 = c7 .before in
     let c16 = c8 .before .before .before .before .before .before .before .before in
-    let A = c16 .args in record { better = 2 * A .v + 1; one = inr refl; put = c4 .put2 .ensures; left = c8 .leads .ensures .1 (c7 .if1 .left); right = leads-itself (A .prices .now) (at (A .who .now) (2 * A .v + 1)) (at (A .num .now) (2 * A .v + 1)) }
+    let A = c16 .args in record {
+      better = 2 * A .v + 1;
+      one = inr refl;
+      put = c4 .put2 .ensures;
+      left = c8 .leads .ensures .1 (c7 .if1 .left);
+      right =
+          leads-itself (A .prices .now) (at (A .who .now) (2 * A .v + 1)) (at (A .num .now) (2 * A .v + 1));
+    }
 
 pub play-spec : {M : Type 1} → statement M
 play-spec =

@@ -25,7 +25,8 @@ returns c =
     let c4 = c .before .before .before .before in
     let args = c4 .args in
     let pre = c4 .pre in
-    put-same (args .who .now) (args .num .now) (args .v) (args .b) (args .s) (pre .0) (pre .1) (c .if2 .taken) (c .before .before .if1 .taken)
+    put-same (args .who .now) (args .num .now) (args .v) (args .b) (args .s) (pre .0) (pre .1) (c .if2 .taken)
+    (c .before .before .if1 .taken)
 
 mul-who : tie.Need-mul-who
 mul-who c = search needs

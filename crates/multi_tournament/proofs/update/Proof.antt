@@ -32,12 +32,18 @@ add-v : tie.Need-add-v Inv-loop μ-loop
 add-v c = omega (arith, c .before .before .before .pre .0 .count)
 
 loop-holds : tie.Need-loop-holds Inv-loop μ-loop
-loop-holds c = let P = c .before .before .before .pre in let A = c .before .before .before .args in (starts (P .1 .0) (A .i) (A .x) (P .1 .1 .0) (P .0 .count) (P .1 .1 .1), (omega (arith, P .0 .count), refl))
+loop-holds c = let P = c .before .before .before .pre in let A = c .before .before .before .args in
+    (starts (P .1 .0) (A .i) (A .x) (P .1 .1 .0) (P .0 .count) (P .1 .1 .1), (omega (arith, P .0 .count), refl))
 
 play-requires : tie.Need-play-requires Inv-loop μ-loop
 play-requires c κs =
-    let c7 = c .before .before .before .before .before .before .before in
-    (c7 .pre .0, (c .before .before .before .loop .inv .0 .seats, (c .before .before .loop-test .taken, c .before .before .before .loop .inv .1 .0)))
+    let c7 = c .before .before .before .before .before .before .before in (
+      c7 .pre .0,
+      (
+        c .before .before .before .loop .inv .0 .seats,
+        (c .before .before .loop-test .taken, c .before .before .before .loop .inv .1 .0),
+      ),
+    )
 
 same-length : tie.Need-same-length Inv-loop μ-loop
 same-length c =
@@ -45,7 +51,8 @@ same-length c =
     let c8 = c5 .before .before .before in
     let c9 = c8 .before in
     let c13 = c9 .before .before .before .before in
-    goes (c9 .loop .inv .0) (c8 .loop-test .taken) (c9 .loop .inv .1 .0) (c5 .play .ensures) .seats .players ∙ sym (c13 .pre .1 .0 .seats .players)
+    goes (c9 .loop .inv .0) (c8 .loop-test .taken) (c9 .loop .inv .1 .0) (c5 .play .ensures) .seats .players
+    ∙ sym (c13 .pre .1 .0 .seats .players)
 
 same-length-2 : tie.Need-same-length-2 Inv-loop μ-loop
 same-length-2 c =
@@ -53,7 +60,8 @@ same-length-2 c =
     let c8 = c5 .before .before .before in
     let c9 = c8 .before in
     let c13 = c9 .before .before .before .before in
-    goes (c9 .loop .inv .0) (c8 .loop-test .taken) (c9 .loop .inv .1 .0) (c5 .play .ensures) .seats .numbers ∙ sym (c13 .pre .1 .0 .seats .numbers)
+    goes (c9 .loop .inv .0) (c8 .loop-test .taken) (c9 .loop .inv .1 .0) (c5 .play .ensures) .seats .numbers
+    ∙ sym (c13 .pre .1 .0 .seats .numbers)
 
 returns : tie.Need-returns Inv-loop μ-loop
 returns c =
@@ -62,7 +70,12 @@ returns c =
     let c9 = c8 .before in
     let c13 = c9 .before .before .before .before in
     let pre = c13 .pre in
-    let A = c13 .args in let s = c9 .loop .inv in (stands (s .0) (c8 .loop-test .taken) (s .1 .0) (c5 .play .ensures) (not-true _ (c .if1 .taken)), played-known (c5 .play .ensures) (s .0 .seats .numbers) (s .1 .0) ∙ s .1 .1 ∙ known-set (A .num .now) (A .i) (A .x) (pre .1 .0 .seats .numbers) (omega (arith, pre .0 .count)))
+    let A = c13 .args in let s = c9 .loop .inv in (
+      stands (s .0) (c8 .loop-test .taken) (s .1 .0) (c5 .play .ensures)
+          (not-true _ (c .if1 .taken)),
+      played-known (c5 .play .ensures) (s .0 .seats .numbers) (s .1 .0) ∙ s .1 .1
+          ∙ known-set (A .num .now) (A .i) (A .x) (pre .1 .0 .seats .numbers) (omega (arith, pre .0 .count)),
+    )
 
 loop-less : tie.Need-loop-less Inv-loop μ-loop
 loop-less c =
@@ -74,7 +87,10 @@ loop-again c =
     let c5 = c .before .before .before .before .before in
     let c8 = c5 .before .before .before in
     let c9 = c8 .before in
-    let s = c9 .loop .inv in (goes (s .0) (c8 .loop-test .taken) (s .1 .0) (c5 .play .ensures), (omega (arith, s .1 .0), played-known (c5 .play .ensures) (s .0 .seats .numbers) (s .1 .0) ∙ s .1 .1))
+    let s = c9 .loop .inv in (
+      goes (s .0) (c8 .loop-test .taken) (s .1 .0) (c5 .play .ensures),
+      (omega (arith, s .1 .0), played-known (c5 .play .ensures) (s .0 .seats .numbers) (s .1 .0) ∙ s .1 .1),
+    )
 
 same-length-3 : tie.Need-same-length-3 Inv-loop μ-loop
 same-length-3 c =
@@ -90,7 +106,11 @@ returns-2 : tie.Need-returns-2 Inv-loop μ-loop
 returns-2 c =
     let c5 = c .before .before .before .before .before in
     let pre = c5 .pre in
-    let e : c .before .loop .v ≡ 0 = omega arith in let A = c5 .args in (ends (rw e at (c .before .loop .inv .0)), c .before .loop .inv .1 .1 ∙ known-set (A .num .now) (A .i) (A .x) (pre .1 .0 .seats .numbers) (omega (arith, pre .0 .count)))
+    let e : c .before .loop .v ≡ 0 = omega arith in let A = c5 .args in (
+      ends (rw e at (c .before .loop .inv .0)),
+      c .before .loop .inv .1 .1
+          ∙ known-set (A .num .now) (A .i) (A .x) (pre .1 .0 .seats .numbers) (omega (arith, pre .0 .count)),
+    )
 
 pub update-spec : {M : Type 1} → statement M
 update-spec =

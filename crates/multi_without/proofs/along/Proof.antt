@@ -1,4 +1,5 @@
--- `multi_without::along` meets its contract: the main run's next bid is taken by both runs, or a marked bid comes before it, or the main run alone takes it. Assumes nothing.
+-- `multi_without::along` meets its contract: the main run's next bid is taken by both runs, or a marked bid comes before it, or
+-- the main run alone takes it. Assumes nothing.
 use mathlib.Core.Path.{refl}
 use native.Mathlib.Omega.{arith}
 use Rattle.multi_follow.proofs.Strayed.{knows}
@@ -61,18 +62,43 @@ holds-requires c κs =
 
 front-requires : tie.Need-front-requires
 front-requires c κs =
-    let c20 = c .before .before .before .before .before .before .before .before .before .before .before .before .before .before .before .before .before .before .before .before in
-    let P = c20 .pre in let co = P .0 in let s = P .1 .0 in let l = co .main .route .inside (c20 .args .g) (P .1 .1 .1) in (co .market, (co .hopping, (words co s, (s .counted, (s .tree, (knows (inside co) (co .market .words) (s .follow .strayed), (omega (arith, l), (co .market .priced .most _, co .main .route .few _ (P .1 .1 .1)))))))))
+    let c20 = c .before .before .before .before .before .before .before .before .before .before .before .before .before .before .before
+    .before .before .before .before .before in
+    let P = c20 .pre in let co = P .0 in let s = P .1 .0 in let l = co .main .route .inside (c20 .args .g) (P .1 .1 .1) in (
+      co .market,
+      (
+        co .hopping,
+        (
+          words co s,
+          (
+            s .counted,
+            (
+              s .tree,
+              (
+                knows (inside co) (co .market .words) (s .follow .strayed),
+                (omega (arith, l), (co .market .priced .most _, co .main .route .few _ (P .1 .1 .1))),
+              ),
+            ),
+          ),
+        ),
+      ),
+    )
 
 take-requires : tie.Need-take-requires
 take-requires c κs =
     let c9 = c .before .before .before .before .before .before .before .before .before in
-    let c30 = c9 .before .before .before .before .before .before .before .before .before .before .before .before .before .before .before .before .before .before .before .before .before in
-    let P = c30 .pre in let co = P .0 in let s = P .1 .0 in let l = co .main .route .inside (c30 .args .g) (P .1 .1 .1) in ((co .market .priced .most _, (gains-some (co .main) _ (P .1 .1 .1), (P .1 .1 .0, s .follow .few))), (words co s, (co .market .words, (bid-row co _ l, (co .hopping .size, (c9 .front .ensures .1 .1, co .hopping .each _ l))))))
+    let c30 = c9 .before .before .before .before .before .before .before .before .before .before .before .before .before .before .before
+    .before .before .before .before .before .before in
+    let P = c30 .pre in let co = P .0 in let s = P .1 .0 in let l = co .main .route .inside (c30 .args .g) (P .1 .1 .1) in (
+      (co .market .priced .most _, (gains-some (co .main) _ (P .1 .1 .1), (P .1 .1 .0, s .follow .few))),
+      (words co s, (co .market .words, (bid-row co _ l, (co .hopping .size, (c9 .front .ensures .1 .1, co .hopping .each _ l))))),
+    )
 
 add-t47 : tie.Need-add-t47
 add-t47 c =
-    let c35 = c .before .before .before .before .before .before .before .before .before .before .before .before .before .before .before .before .before .before .before .before .before .before .before .before .before .before .before .before .before .before .before .before .before .before .before in
+    let c35 = c .before .before .before .before .before .before .before .before .before .before .before .before .before .before .before
+    .before .before .before .before .before .before .before .before .before .before .before .before .before .before .before .before
+    .before .before .before .before in
     let pre = c35 .pre in
     omega (arith, pre .1 .1 .1, pre .0 .main .route .most)
 
@@ -97,15 +123,22 @@ returns c =
     let c7 = c4 .before .before .before in
     let c14 = c7 .before .before .before .before .before .before .before in
     let c19 = c14 .before .before .before .before .before in
-    let c35 = c19 .before .before .before .before .before .before .before .before .before .before .before .before .before .before .before .before in
-    let P = c35 .pre in let co = P .0 in let s = P .1 .0 in let f = c14 .front .ensures .1 .0 in let z = unmarked _ _ _ (c19 .holds .ensures) (f .clear-of (c7 .if1 .taken) .0) in main-goes co (fronted co s (c14 .front .ensures .0) (c14 .front .ensures .1 .0) (c14 .front .ensures .1 .1)) (takes-main co (s .follow) f (P .1 .1 .1) refl refl refl z (c7 .if1 .taken)) (c4 .take .ensures .0) (c4 .take .kept .1 .1 .1 .1 .1 .1 .1 .1 .1 .0) (c4 .take .ensures .1 .0) (c4 .take .ensures .1 .1) refl (P .1 .1 .1) z
+    let c35 = c19 .before .before .before .before .before .before .before .before .before .before .before .before .before .before .before
+    .before in
+    let P = c35 .pre in let co = P .0 in let s = P .1 .0 in let f = c14 .front .ensures .1 .0 in
+    let z = unmarked _ _ _ (c19 .holds .ensures) (f .clear-of (c7 .if1 .taken) .0) in
+    main-goes co (fronted co s (c14 .front .ensures .0) (c14 .front .ensures .1 .0) (c14 .front .ensures .1 .1))
+    (takes-main co (s .follow) f (P .1 .1 .1) refl refl refl z (c7 .if1 .taken)) (c4 .take .ensures .0)
+    (c4 .take .kept .1 .1 .1 .1 .1 .1 .1 .1 .1 .0) (c4 .take .ensures .1 .0) (c4 .take .ensures .1 .1) refl (P .1 .1 .1) z
 
 ahead-requires : tie.Need-ahead-requires
 ahead-requires c κs =
     let c7 = c .before .before .before .before .before .before .before in
-    let c28 = c7 .before .before .before .before .before .before .before .before .before .before .before .before .before .before .before .before .before .before .before .before .before in
+    let c28 = c7 .before .before .before .before .before .before .before .before .before .before .before .before .before .before .before
+    .before .before .before .before .before .before in
     let pre = c28 .pre in
-    let co = pre .0 in let f = c7 .front .ensures .1 .0 in ((f .cheap, f .small), (co .market .priced .most _, co .main .route .few _ (pre .1 .1 .1)))
+    let co = pre .0 in let f = c7 .front .ensures .1 .0 in
+    ((f .cheap, f .small), (co .market .priced .most _, co .main .route .few _ (pre .1 .1 .1)))
 
 both-requires : tie.Need-both-requires
 both-requires c κs =
@@ -114,8 +147,16 @@ both-requires c κs =
     let c7 = c6 .before in
     let c8 = c7 .before in
     let c15 = c8 .before .before .before .before .before .before .before in
-    let c36 = c15 .before .before .before .before .before .before .before .before .before .before .before .before .before .before .before .before .before .before .before .before .before in
-    let P = c36 .pre in let co = P .0 in let s = P .1 .0 in let f = c15 .front .ensures .1 .0 in let a = c7 .ahead .ensures (c6 .if2 .taken) in (co, (fronted co s (c15 .front .ensures .0) (c15 .front .ensures .1 .0) (c15 .front .ensures .1 .1), (P .1 .1 .0, (takes-other co (s .follow) f (c8 .if1 .left) (a .0) (P .1 .1 .1) (a .1), (P .1 .1 .1, c5 .if3 .taken)))))
+    let c36 = c15 .before .before .before .before .before .before .before .before .before .before .before .before .before .before .before
+    .before .before .before .before .before .before in
+    let P = c36 .pre in let co = P .0 in let s = P .1 .0 in let f = c15 .front .ensures .1 .0 in
+    let a = c7 .ahead .ensures (c6 .if2 .taken) in (
+      co,
+      (
+        fronted co s (c15 .front .ensures .0) (c15 .front .ensures .1 .0) (c15 .front .ensures .1 .1),
+        (P .1 .1 .0, (takes-other co (s .follow) f (c8 .if1 .left) (a .0) (P .1 .1 .1) (a .1), (P .1 .1 .1, c5 .if3 .taken))),
+      ),
+    )
 
 same-length-6 : tie.Need-same-length-6
 same-length-6 c = search needs
@@ -141,8 +182,16 @@ other-requires c κs =
     let c7 = c6 .before in
     let c8 = c7 .before in
     let c15 = c8 .before .before .before .before .before .before .before in
-    let c36 = c15 .before .before .before .before .before .before .before .before .before .before .before .before .before .before .before .before .before .before .before .before .before in
-    let P = c36 .pre in let co = P .0 in let s = P .1 .0 in let f = c15 .front .ensures .1 .0 in let a = c7 .ahead .ensures (c6 .if2 .taken) in (co, (fronted co s (c15 .front .ensures .0) (c15 .front .ensures .1 .0) (c15 .front .ensures .1 .1), (P .1 .1 .0, takes-other co (s .follow) f (c8 .if1 .left) (a .0) (P .1 .1 .1) (a .1))))
+    let c36 = c15 .before .before .before .before .before .before .before .before .before .before .before .before .before .before .before
+    .before .before .before .before .before .before in
+    let P = c36 .pre in let co = P .0 in let s = P .1 .0 in let f = c15 .front .ensures .1 .0 in
+    let a = c7 .ahead .ensures (c6 .if2 .taken) in (
+      co,
+      (
+        fronted co s (c15 .front .ensures .0) (c15 .front .ensures .1 .0) (c15 .front .ensures .1 .1),
+        (P .1 .1 .0, takes-other co (s .follow) f (c8 .if1 .left) (a .0) (P .1 .1 .1) (a .1)),
+      ),
+    )
 
 same-length-11 : tie.Need-same-length-11
 same-length-11 c = search needs
@@ -165,12 +214,27 @@ returns-3 c = search needs
 disturb-requires : tie.Need-disturb-requires
 disturb-requires c κs =
     let c14 = c .before .before .before .before .before .before .before .before .before .before .before .before .before .before in
-    let c35 = c14 .before .before .before .before .before .before .before .before .before .before .before .before .before .before .before .before .before .before .before .before .before in
-    let P = c35 .pre in let co = P .0 in let s = P .1 .0 in (co .market, (co .hopping, (co .indexed, (words co s, (c14 .front .ensures .1 .1, (co .main .route .inside (c35 .args .g) (P .1 .1 .1), (c14 .front .ensures .0, s .marks)))))))
+    let c35 = c14 .before .before .before .before .before .before .before .before .before .before .before .before .before .before .before
+    .before .before .before .before .before .before in
+    let P = c35 .pre in let co = P .0 in let s = P .1 .0 in (
+      co .market,
+      (
+        co .hopping,
+        (
+          co .indexed,
+          (
+            words co s,
+            (c14 .front .ensures .1 .1, (co .main .route .inside (c35 .args .g) (P .1 .1 .1), (c14 .front .ensures .0, s .marks))),
+          ),
+        ),
+      ),
+    )
 
 add-t27 : tie.Need-add-t27
 add-t27 c =
-    let c44 = c .before .before .before .before .before .before .before .before .before .before .before .before .before .before .before .before .before .before .before .before .before .before .before .before .before .before .before .before .before .before .before .before .before .before .before .before .before .before .before .before .before .before .before .before in
+    let c44 = c .before .before .before .before .before .before .before .before .before .before .before .before .before .before .before
+    .before .before .before .before .before .before .before .before .before .before .before .before .before .before .before .before
+    .before .before .before .before .before .before .before .before .before .before .before .before .before in
     let pre = c44 .pre in
     omega (arith, pre .1 .1 .1, pre .0 .main .route .most)
 
@@ -193,8 +257,12 @@ returns-4 : tie.Need-returns-4
 returns-4 c =
     let c8 = c .before .before .before .before .before .before .before .before in
     let c23 = c8 .before .before .before .before .before .before .before .before .before .before .before .before .before .before .before in
-    let c44 = c23 .before .before .before .before .before .before .before .before .before .before .before .before .before .before .before .before .before .before .before .before .before in
-    let P = c44 .pre in let co = P .0 in let s = P .1 .0 in skip-goes co (fronted co s (c23 .front .ensures .0) (c23 .front .ensures .1 .0) (c23 .front .ensures .1 .1)) (P .1 .1 .1) (c8 .disturb .ensures .0) (c8 .disturb .kept .1 .1 .1 .1 .1 .1 .1 .1 .1 .1 .0) (c8 .disturb .ensures .1 .0) (c8 .disturb .ensures .1 .1)
+    let c44 = c23 .before .before .before .before .before .before .before .before .before .before .before .before .before .before .before
+    .before .before .before .before .before .before in
+    let P = c44 .pre in let co = P .0 in let s = P .1 .0 in
+    skip-goes co (fronted co s (c23 .front .ensures .0) (c23 .front .ensures .1 .0) (c23 .front .ensures .1 .1)) (P .1 .1 .1)
+    (c8 .disturb .ensures .0) (c8 .disturb .kept .1 .1 .1 .1 .1 .1 .1 .1 .1 .1 .0) (c8 .disturb .ensures .1 .0)
+    (c8 .disturb .ensures .1 .1)
 
 pub along-spec : {M : Type 1} → statement M
 along-spec =

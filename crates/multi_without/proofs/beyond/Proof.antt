@@ -17,14 +17,37 @@ use Rattle.multi_rounds.proofs.front.Reads as front-reads
 front-requires : tie.Need-front-requires
 front-requires c κs =
     let c15 = c .before .before .before .before .before .before .before .before .before .before .before .before .before .before .before in
-    let P = c15 .pre in let co = P .0 in let s = P .1 .0 in (co .market, (co .hopping, (words co s, (s .counted, (s .tree, (knows (inside co) (co .market .words) (s .follow .strayed), (omega arith, (omega arith, omega arith))))))))
+    let P = c15 .pre in let co = P .0 in let s = P .1 .0 in (
+      co .market,
+      (
+        co .hopping,
+        (
+          words co s,
+          (
+            s .counted,
+            (s .tree, (knows (inside co) (co .market .words) (s .follow .strayed), (omega arith, (omega arith, omega arith)))),
+          ),
+        ),
+      ),
+    )
 
 other-requires : tie.Need-other-requires
 other-requires c κs =
     let c5 = c .before .before .before .before .before in
     let c12 = c5 .before .before .before .before .before .before .before in
-    let c28 = c12 .before .before .before .before .before .before .before .before .before .before .before .before .before .before .before .before in
-    let P = c28 .pre in let co = P .0 in let s = P .1 .0 in (co, (fronted co s (c12 .front .ensures .0) (c12 .front .ensures .1 .0) (c12 .front .ensures .1 .1), (P .1 .1 .0, takes-last co (s .follow) (c12 .front .ensures .1 .0) (not-clear false _ (λ e. c12 .front .ensures .1 .0 .clear-of e .0) refl) (c5 .if1 .taken) (P .1 .1 .1))))
+    let c28 = c12 .before .before .before .before .before .before .before .before .before .before .before .before .before .before .before
+    .before in
+    let P = c28 .pre in let co = P .0 in let s = P .1 .0 in (
+      co,
+      (
+        fronted co s (c12 .front .ensures .0) (c12 .front .ensures .1 .0) (c12 .front .ensures .1 .1),
+        (
+          P .1 .1 .0,
+          takes-last co (s .follow) (c12 .front .ensures .1 .0)
+              (not-clear false _ (λ e. c12 .front .ensures .1 .0 .clear-of e .0) refl) (c5 .if1 .taken) (P .1 .1 .1),
+        ),
+      ),
+    )
 
 same-length : tie.Need-same-length
 same-length c = search needs
@@ -59,8 +82,11 @@ same-length-9 c = search needs
 returns-2 : tie.Need-returns-2
 returns-2 c =
     let c7 = c .before .before .before .before .before .before .before in
-    let c23 = c7 .before .before .before .before .before .before .before .before .before .before .before .before .before .before .before .before in
-    let P = c23 .pre in let co = P .0 in let s = P .1 .0 in over-goes co s (c7 .front .ensures .0) (c7 .front .ensures .1 .0) (not-clear false _ (λ e. c7 .front .ensures .1 .0 .clear-of e .0) refl) (c .if1 .left) (P .1 .1 .1)
+    let c23 = c7 .before .before .before .before .before .before .before .before .before .before .before .before .before .before .before
+    .before in
+    let P = c23 .pre in let co = P .0 in let s = P .1 .0 in
+    over-goes co s (c7 .front .ensures .0) (c7 .front .ensures .1 .0)
+    (not-clear false _ (λ e. c7 .front .ensures .1 .0 .clear-of e .0) refl) (c .if1 .left) (P .1 .1 .1)
 
 pub beyond-spec : {M : Type 1} → statement M
 beyond-spec =

@@ -1,10 +1,12 @@
--- `read` meets its contract: the first line, the bids and the lent tables' lengths settle the answer, and the rows are copied. Assumes nothing.
+-- `read` meets its contract: the first line, the bids and the lent tables' lengths settle the answer, and the rows are copied.
+-- Assumes nothing.
 use Prim.Native.Nat.{ℕ}
 use mathlib.Core.Path.{refl, _∙_}
 use native.Mathlib.Omega.{arith}
 use borrow.Author.Needs.{needs}
 use lib.ListN.{length-replicate}
-use Rattle.reader.proofs.Whole.{opened-tender, opened-refused, filled-held, filled-refused, answer-refused, too-long, lines-refused, bids-refused, bids-short, windows-short, answer-accepted}
+use Rattle.reader.proofs.Whole.{opened-tender, opened-refused, filled-held, filled-refused, answer-refused, too-long}
+use Rattle.reader.proofs.Whole.{lines-refused, bids-refused, bids-short, windows-short, answer-accepted}
 use Rattle.reader.proofs.read.Statement.{statement}
 use Rattle.reader.proofs.read.Tie as tie
 
@@ -12,7 +14,8 @@ returns : tie.Need-returns
 returns c =
     let c4 = c .before .before .before .before in
     let args = c4 .args in
-    let x = answer-refused (args .text .now) (args .bids .now) (args .windows .now) 1 0 (too-long (args .text .now) (args .bids .now) (args .windows .now) (c .if1 .taken)) in (x .0, (x .1, x .2))
+    let x = answer-refused (args .text .now) (args .bids .now) (args .windows .now) 1 0
+    (too-long (args .text .now) (args .bids .now) (args .windows .now) (c .if1 .taken)) in (x .0, (x .1, x .2))
 
 slice-aggregate-read-first : tie.Need-slice-aggregate-read-first
 slice-aggregate-read-first c = search needs
@@ -54,7 +57,9 @@ returns-2 c =
     let args = c21 .args in
     let b = opened-tender (args .text .now) _ (c15 .read-first .ensures) _ _ (c12 .t .given .1) in
     let h = filled-held _ _ _ _ _ (c7 .read-bids .ensures) _ _ (c .before .before .k .given .1) in
-    let x = answer-refused (args .text .now) (args .bids .now) (args .windows .now) 8 0 (bids-short (args .text .now) (args .bids .now) (args .windows .now) (c17 .if1 .left) _ _ b _ _ _ _ h (c .if2 .taken)) in (x .0, (x .1, x .2))
+    let x = answer-refused (args .text .now) (args .bids .now) (args .windows .now) 8 0
+    (bids-short (args .text .now) (args .bids .now) (args .windows .now) (c17 .if1 .left) _ _ b _ _ _ _ h (c .if2 .taken)) in
+    (x .0, (x .1, x .2))
 
 returns-3 : tie.Need-returns-3
 returns-3 c =
@@ -66,7 +71,9 @@ returns-3 c =
     let args = c22 .args in
     let b = opened-tender (args .text .now) _ (c16 .read-first .ensures) _ _ (c13 .t .given .1) in
     let h = filled-held _ _ _ _ _ (c8 .read-bids .ensures) _ _ (c .before .before .before .k .given .1) in
-    let x = answer-refused (args .text .now) (args .bids .now) (args .windows .now) 8 0 (windows-short (args .text .now) (args .bids .now) (args .windows .now) (c18 .if1 .left) _ _ b _ _ _ _ h (c .before .if2 .left) (c .if3 .taken)) in (x .0, (x .1, x .2))
+    let x = answer-refused (args .text .now) (args .bids .now) (args .windows .now) 8 0
+    (windows-short (args .text .now) (args .bids .now) (args .windows .now) (c18 .if1 .left) _ _ b _ _ _ _ h (c .before .if2 .left)
+    (c .if3 .taken)) in (x .0, (x .1, x .2))
 
 slice-aggregate-copy : tie.Need-slice-aggregate-copy
 slice-aggregate-copy c = search needs
@@ -78,8 +85,10 @@ copy-requires : tie.Need-copy-requires
 copy-requires c κs =
     let c5 = c .before .before .before .before .before in
     let c10 = c5 .before .before .before .before .before in
-    let h = filled-held _ _ _ _ _ (c10 .read-bids .ensures) _ _ (c5 .k .given .1) in
-    (omega (arith, h .few-bids, c10 .read-bids .kept .1 .1 .1 .1 .0, length-replicate {A = ℕ} 4000 1), omega (arith, c .before .before .before .if2 .left))
+    let h = filled-held _ _ _ _ _ (c10 .read-bids .ensures) _ _ (c5 .k .given .1) in (
+      omega (arith, h .few-bids, c10 .read-bids .kept .1 .1 .1 .1 .0, length-replicate {A = ℕ} 4000 1),
+      omega (arith, c .before .before .before .if2 .left),
+    )
 
 slice-aggregate-copy-2 : tie.Need-slice-aggregate-copy-2
 slice-aggregate-copy-2 c = search needs
@@ -96,8 +105,10 @@ copy-requires-2 c κs =
     let c10 = c7 .before .before .before in
     let c15 = c10 .before .before .before .before .before in
     let c23 = c15 .before .before .before .before .before .before .before .before in
-    let h = filled-held _ _ _ _ _ (c15 .read-bids .ensures) _ _ (c10 .k .given .1) in
-    (omega (arith, h .few-windows, c15 .read-bids .kept .1 .1 .1 .1 .1 .0, c23 .read-first .kept .1 .0, length-replicate {A = ℕ} 22000 1), omega (arith, c7 .if3 .left))
+    let h = filled-held _ _ _ _ _ (c15 .read-bids .ensures) _ _ (c10 .k .given .1) in (
+      omega (arith, h .few-windows, c15 .read-bids .kept .1 .1 .1 .1 .1 .0, c23 .read-first .kept .1 .0, length-replicate {A = ℕ} 22000 1),
+      omega (arith, c7 .if3 .left),
+    )
 
 enum-known-r : tie.Need-enum-known-r
 enum-known-r c = search needs
@@ -125,7 +136,8 @@ returns-4 c =
     let args = c32 .args in
     let b = opened-tender (args .text .now) _ (c26 .read-first .ensures) _ _ (c23 .t .given .1) in
     let h = filled-held _ _ _ _ _ (c18 .read-bids .ensures) _ _ (c13 .k .given .1) in
-    let y = answer-accepted (args .text .now) (args .bids .now) (args .windows .now) (c28 .if1 .left) _ _ b _ _ _ _ h (c11 .if2 .left) (c10 .if3 .left) in (y .0, (c7 .copy .ensures ∙ y .1, c .before .before .copy2 .ensures ∙ y .2))
+    let y = answer-accepted (args .text .now) (args .bids .now) (args .windows .now) (c28 .if1 .left) _ _ b _ _ _ _ h (c11 .if2 .left)
+    (c10 .if3 .left) in (y .0, (c7 .copy .ensures ∙ y .1, c .before .before .copy2 .ensures ∙ y .2))
 
 returns-5 : tie.Need-returns-5
 returns-5 c =
@@ -136,7 +148,9 @@ returns-5 c =
     let c20 = c16 .before .before .before .before in
     let args = c20 .args in
     let b = opened-tender (args .text .now) _ (c14 .read-first .ensures) _ _ (c11 .t .given .1) in
-    let x = answer-refused (args .text .now) (args .bids .now) (args .windows .now) _ _ (bids-refused (args .text .now) (args .bids .now) (args .windows .now) (c16 .if1 .left) _ _ b _ _ (filled-refused _ _ _ _ _ (c6 .read-bids .ensures) _ (c .before .r .given .1))) in (x .0, (x .1, x .2))
+    let x = answer-refused (args .text .now) (args .bids .now) (args .windows .now) _ _
+    (bids-refused (args .text .now) (args .bids .now) (args .windows .now) (c16 .if1 .left) _ _ b _ _
+    (filled-refused _ _ _ _ _ (c6 .read-bids .ensures) _ (c .before .r .given .1))) in (x .0, (x .1, x .2))
 
 returns-6 : tie.Need-returns-6
 returns-6 c =
@@ -144,7 +158,9 @@ returns-6 c =
     let c6 = c4 .before .before in
     let c10 = c6 .before .before .before .before in
     let args = c10 .args in
-    let x = answer-refused (args .text .now) (args .bids .now) (args .windows .now) _ _ (lines-refused (args .text .now) (args .bids .now) (args .windows .now) (c6 .if1 .left) _ _ (opened-refused (args .text .now) _ (c4 .read-first .ensures) _ (c .before .r2 .given .1))) in (x .0, (x .1, x .2))
+    let x = answer-refused (args .text .now) (args .bids .now) (args .windows .now) _ _
+    (lines-refused (args .text .now) (args .bids .now) (args .windows .now) (c6 .if1 .left) _ _
+    (opened-refused (args .text .now) _ (c4 .read-first .ensures) _ (c .before .r2 .given .1))) in (x .0, (x .1, x .2))
 
 pub read-spec : {M : Type 1} → statement M
 read-spec =

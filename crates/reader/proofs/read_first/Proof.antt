@@ -32,7 +32,8 @@ part-read-line-start c = search needs
 part-read-line-end : tie.Need-part-read-line-end
 part-read-line-end c =
     let c7 = c .before .before .before .before .before .before .before in
-    let b = ends-at (c7 .args .text .now) 0 _ (c .before .before .before .line-end .ensures) _ (c .before .e .given .1) in omega (arith, b .1)
+    let b = ends-at (c7 .args .text .now) 0 _ (c .before .before .before .line-end .ensures) _ (c .before .e .given .1) in
+    omega (arith, b .1)
 
 read-line-requires : tie.Need-read-line-requires
 read-line-requires c κs = search needs
@@ -74,7 +75,8 @@ returns-2 c =
     let o = is-tender 0 _ _ _ (ap (λ t. toldLine t (c8 .read-line .last .1 .0)) (sym (c4 .t .given .1)) ∙ c8 .read-line .ensures) in
     record {
       inside = omega (arith, b .1);
-      lines = lines-at (args .text .now) 0 _ (b .0) (b .1) ∙ ap (λ x. x ∷ linesOf (cut 10 (drop (c12 .e .given .0 .0 + 1) (args .text .now)))) o;
+      lines = lines-at (args .text .now) 0 _ (b .0) (b .1)
+          ∙ ap (λ x. x ∷ linesOf (cut 10 (drop (c12 .e .given .0 .0 + 1) (args .text .now)))) o;
       window = sym (c .before .keeps .ensures) ∙ c .if2 .taken;
     }
 
@@ -104,7 +106,8 @@ returns-4 c =
     let c14 = c10 .before .before .before .before in
     let args = c14 .args in
     let b = ends-at (args .text .now) 0 _ (c10 .line-end .ensures) _ (c8 .e .given .1) in
-    first-bid _ _ _ (lines-at (args .text .now) 0 _ (b .0) (b .1)) 0 _ _ _ _ (ap (λ t. toldLine t (c4 .read-line .last .1 .0)) (sym (c .enum-told .given .1)) ∙ c4 .read-line .ensures)
+    first-bid _ _ _ (lines-at (args .text .now) 0 _ (b .0) (b .1)) 0 _ _ _ _
+    (ap (λ t. toldLine t (c4 .read-line .last .1 .0)) (sym (c .enum-told .given .1)) ∙ c4 .read-line .ensures)
 
 same-length-4 : tie.Need-same-length-4
 same-length-4 c = search needs
@@ -117,7 +120,8 @@ returns-5 c =
     let c14 = c10 .before .before .before .before in
     let args = c14 .args in
     let b = ends-at (args .text .now) 0 _ (c10 .line-end .ensures) _ (c8 .e .given .1) in
-    first-broken _ _ _ (lines-at (args .text .now) 0 _ (b .0) (b .1)) 0 _ (ap (λ t. toldLine t (c4 .read-line .last .1 .0)) (sym (c .enum-told2 .given .1)) ∙ c4 .read-line .ensures)
+    first-broken _ _ _ (lines-at (args .text .now) 0 _ (b .0) (b .1)) 0 _
+    (ap (λ t. toldLine t (c4 .read-line .last .1 .0)) (sym (c .enum-told2 .given .1)) ∙ c4 .read-line .ensures)
 
 returns-6 : tie.Need-returns-6
 returns-6 c =

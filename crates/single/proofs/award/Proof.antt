@@ -26,8 +26,19 @@ winners-requires c κs =
     let c4 = c .before .before .before .before in
     let c11 = c4 .before .before .before .before .before .before .before in
     let pre = c11 .pre in
-    let b = sum-most (c11 .args .prices .now) (pre .1 .1 .1) in
-    (record { starts = omega (arith, pre .0); ends = omega (arith, pre .0); sorted = c4 .by-start .ensures }, ((omega (arith, pre .0), omega (arith, pre .0, c4 .by-start .kept), omega (arith, pre .0), omega (arith, pre .1 .0), omega (arith, b, pre .0)), λ i l. omega (arith, pre .1 .1 .0 i l)))
+    let b = sum-most (c11 .args .prices .now) (pre .1 .1 .1) in (
+      record { starts = omega (arith, pre .0); ends = omega (arith, pre .0); sorted = c4 .by-start .ensures },
+      (
+        (
+          omega (arith, pre .0),
+          omega (arith, pre .0, c4 .by-start .kept),
+          omega (arith, pre .0),
+          omega (arith, pre .1 .0),
+          omega (arith, b, pre .0),
+        ),
+        λ i l. omega (arith, pre .1 .1 .0 i l),
+      ),
+    )
 
 slice-aggregate-payments : tie.Need-slice-aggregate-payments
 slice-aggregate-payments c = search needs
@@ -41,16 +52,43 @@ payments-requires c κs =
     let c12 = c7 .before .before .before .before .before in
     let c19 = c12 .before .before .before .before .before .before .before in
     let pre = c19 .pre in
-    let b = sum-most (c19 .args .prices .now) (pre .1 .1 .1) in
-    (record { starts = omega (arith, pre .0); ends = omega (arith, pre .0); sorted = c12 .by-start .ensures }, ((omega (arith, pre .0), omega (arith, pre .0, c12 .by-start .kept), omega (arith, pre .0, c7 .winners .kept), omega (arith, pre .0)), ((omega (arith, pre .1 .0, c7 .winners .kept), omega (arith, pre .1 .0), omega (arith, b, pre .0), selected-all _ _ _ _ _ _ _ _ (c7 .winners .ensures)), (selected-flags _ _ _ _ _ _ _ _ (c7 .winners .ensures), (pre .1 .1 .0, c7 .winners .ensures .costs-are)))))
+    let b = sum-most (c19 .args .prices .now) (pre .1 .1 .1) in (
+      record { starts = omega (arith, pre .0); ends = omega (arith, pre .0); sorted = c12 .by-start .ensures },
+      (
+        (
+          omega (arith, pre .0),
+          omega (arith, pre .0, c12 .by-start .kept),
+          omega (arith, pre .0, c7 .winners .kept),
+          omega (arith, pre .0),
+        ),
+        (
+          (
+            omega (arith, pre .1 .0, c7 .winners .kept),
+            omega (arith, pre .1 .0),
+            omega (arith, b, pre .0),
+            selected-all _ _ _ _ _ _ _ _ (c7 .winners .ensures),
+          ),
+          (selected-flags _ _ _ _ _ _ _ _ (c7 .winners .ensures), (pre .1 .1 .0, c7 .winners .ensures .costs-are)),
+        ),
+      ),
+    )
 
 total-requires : tie.Need-total-requires
 total-requires c κs =
-    let c23 = c .before .before .before .before .before .before .before .before .before .before .before .before .before .before .before .before .before .before .before .before .before .before .before in
+    let c23 = c .before .before .before .before .before .before .before .before .before .before .before .before .before .before .before
+    .before .before .before .before .before .before .before .before in
     let args = c23 .args in
     let pre = c23 .pre in
-    let b = sum-most (args .prices .now) (pre .1 .1 .1) in
-    ((omega (arith, pre .1 .0, c .before .before .before .payments .kept), omega (arith, pre .0)), λ i l. omega (arith, c .before .before .before .payments .ensures .values i l, pays-most (args .starts .now) (args .ends .now) (args .prices .now) (args .cells) i, b, pre .0))
+    let b = sum-most (args .prices .now) (pre .1 .1 .1) in (
+      (omega (arith, pre .1 .0, c .before .before .before .payments .kept), omega (arith, pre .0)),
+      λ i l. omega (
+        arith,
+        c .before .before .before .payments .ensures .values i l,
+        pays-most (args .starts .now) (args .ends .now) (args .prices .now) (args .cells) i,
+        b,
+        pre .0,
+      ),
+    )
 
 same-length : tie.Need-same-length
 same-length c = search needs

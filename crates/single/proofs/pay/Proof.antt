@@ -25,18 +25,34 @@ without-requires c κs =
     let c14 = c4 .before .before .before .before .before .before .before .before .before .before in
     let args = c14 .args in
     let pre = c14 .pre in
-    let l = pre .0 .sorted .bids (args .q) (pre .1 .1 .0 .0) in
-    (pre .0, (pre .1 .0, ((pre .1 .1 .0 .0, pre .1 .1 .0 .1, winner-ends (args .starts .now) (args .ends .now) (args .prices .now) (args .cells) (getD (args .order .now) (args .q) 0) l (wins-bit (args .starts .now) (args .ends .now) (args .prices .now) (args .cells) (getD (args .order .now) (args .q) 0) _ (pre .1 .1 .1 .0 .0) (c4 .if1 .left))), (pre .1 .1 .1 .1 .0, (pre .1 .1 .1 .1 .1 .0, pre .1 .1 .1 .1 .1 .1)))))
+    let l = pre .0 .sorted .bids (args .q) (pre .1 .1 .0 .0) in (
+      pre .0,
+      (
+        pre .1 .0,
+        (
+          (
+            pre .1 .1 .0 .0,
+            pre .1 .1 .0 .1,
+            winner-ends (args .starts .now) (args .ends .now) (args .prices .now) (args .cells) (getD (args .order .now) (args .q) 0) l
+                (wins-bit (args .starts .now) (args .ends .now) (args .prices .now) (args .cells) (getD (args .order .now) (args .q) 0) _
+                (pre .1 .1 .1 .0 .0) (c4 .if1 .left)),
+          ),
+          (pre .1 .1 .1 .1 .0, (pre .1 .1 .1 .1 .1 .0, pre .1 .1 .1 .1 .1 .1)),
+        ),
+      ),
+    )
 
 mul-less : tie.Need-mul-less
 mul-less c =
-    let c21 = c .before .before .before .before .before .before .before .before .before .before .before .before .before .before .before .before .before .before .before .before .before in
+    let c21 = c .before .before .before .before .before .before .before .before .before .before .before .before .before .before .before
+    .before .before .before .before .before .before in
     let pre = c21 .pre in
     omega (arith, pre .0 .sorted .bids (c21 .args .q) (pre .1 .1 .0 .0))
 
 shared-slice-read-less : tie.Need-shared-slice-read-less
 shared-slice-read-less c =
-    let c22 = c .before .before .before .before .before .before .before .before .before .before .before .before .before .before .before .before .before .before .before .before .before .before in
+    let c22 = c .before .before .before .before .before .before .before .before .before .before .before .before .before .before .before
+    .before .before .before .before .before .before .before in
     let pre = c22 .pre in
     omega (arith, pre .0 .sorted .bids (c22 .args .q) (pre .1 .1 .0 .0))
 
@@ -60,8 +76,11 @@ returns-2 c =
     let c9 = c .before .before .before .before .before .before .before .before .before in
     let c14 = c9 .before .before .before .before .before in
     let c24 = c14 .before .before .before .before .before .before .before .before .before .before in
-    let pre = c24 .pre in
-    (rw (c .less2 .ensures, c .before .less .ensures) (pays-some _ _ _ _ _ _ _ _ (pre .1 .1 .1 .0 .0) (c14 .if1 .left) (c9 .without .ensures .0) (pre .1 .1 .1 .0 .1)), c9 .without .ensures .1)
+    let pre = c24 .pre in (
+      rw (c .less2 .ensures, c .before .less .ensures)
+          (pays-some _ _ _ _ _ _ _ _ (pre .1 .1 .1 .0 .0) (c14 .if1 .left) (c9 .without .ensures .0) (pre .1 .1 .1 .0 .1)),
+      c9 .without .ensures .1,
+    )
 
 pub pay-spec : {M : Type 1} → statement M
 pay-spec =

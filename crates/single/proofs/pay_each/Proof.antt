@@ -12,7 +12,9 @@ use Rattle.single.proofs.pay_each.Statement.{statement}
 use Rattle.single.proofs.pay_each.Tie as tie
 
 abbrev Inv-loop : tie.InvT-loop
-Inv-loop starts ends prices order before after live₀ xs₀ costs₀ won cents₀ cells all n m₀ q₀ live xs costs cents m q = (q ≤ length prices) × (length live ≡ length live₀) × (length xs ≡ length xs₀) × (length costs ≡ length costs₀) × (length cents ≡ length cents₀) × Waiting starts ends prices order live q m × PaidTo (paidOf starts ends prices cells) order cents₀ cents (length prices) q
+Inv-loop starts ends prices order before after live₀ xs₀ costs₀ won cents₀ cells all n m₀ q₀ live xs costs cents m q = (q ≤ length prices)
+    × (length live ≡ length live₀) × (length xs ≡ length xs₀) × (length costs ≡ length costs₀) × (length cents ≡ length cents₀)
+    × Waiting starts ends prices order live q m × PaidTo (paidOf starts ends prices cells) order cents₀ cents (length prices) q
 
 abbrev μ-loop : tie.MeasureT-loop
 μ-loop starts ends prices order before after live₀ xs₀ costs₀ won cents₀ cells all n m₀ q₀ live xs costs cents m q = length prices - q
@@ -47,8 +49,27 @@ pay-requires c κs =
     let c5 = c .before .before .before .before .before in
     let c6 = c5 .before in
     let c18 = c6 .before .before .before .before .before .before .before .before .before .before .before .before in
-    let pre = c18 .pre in
-    (pre .0, ((omega (arith, pre .1 .0), omega (arith, pre .1 .0), omega (arith, pre .1 .0), omega (arith, pre .1 .0), omega (arith, pre .1 .0, c6 .loop .inv .1), omega (arith, pre .1 .0, c6 .loop .inv .2), omega (arith, pre .1 .0, c6 .loop .inv .3)), ((c5 .loop-test .taken, pre .1 .1 .0 .2), ((pre .1 .1 .1 .0 _ (pre .0 .sorted .bids (c6 .loop .q) (c5 .loop-test .taken)), pre .1 .1 .0 .3), (pre .1 .1 .1 .1 .0, (pre .1 .1 .1 .1 .1, c6 .loop .inv .5))))))
+    let pre = c18 .pre in (
+      pre .0,
+      (
+        (
+          omega (arith, pre .1 .0),
+          omega (arith, pre .1 .0),
+          omega (arith, pre .1 .0),
+          omega (arith, pre .1 .0),
+          omega (arith, pre .1 .0, c6 .loop .inv .1),
+          omega (arith, pre .1 .0, c6 .loop .inv .2),
+          omega (arith, pre .1 .0, c6 .loop .inv .3),
+        ),
+        (
+          (c5 .loop-test .taken, pre .1 .1 .0 .2),
+          (
+            (pre .1 .1 .1 .0 _ (pre .0 .sorted .bids (c6 .loop .q) (c5 .loop-test .taken)), pre .1 .1 .0 .3),
+            (pre .1 .1 .1 .1 .0, (pre .1 .1 .1 .1 .1, c6 .loop .inv .5)),
+          ),
+        ),
+      ),
+    )
 
 mul-cents : tie.Need-mul-cents Inv-loop μ-loop
 mul-cents c =
@@ -106,8 +127,23 @@ loop-again c =
     let c12 = c6 .before .before .before .before .before .before in
     let c13 = c12 .before in
     let c25 = c13 .before .before .before .before .before .before .before .before .before .before .before .before in
-    let pre = c25 .pre in
-    (omega (arith, c12 .loop-test .taken), simp length-set (omega (arith, c13 .loop .inv .1, c6 .pay .kept)), omega (arith, c13 .loop .inv .2, c6 .pay .kept), omega (arith, c13 .loop .inv .3, c6 .pay .kept), simp length-set (omega (arith, c13 .loop .inv .4)), waiting-more _ _ _ _ _ _ _ (omega (arith, c6 .pay .ensures .1 .reach .few, c12 .loop-test .taken, c13 .loop .inv .1, c6 .pay .kept, pre .1 .0)) (c6 .pay .ensures .1), paid-more _ _ _ _ _ _ _ (pre .0 .sorted .bids (c13 .loop .q) (c12 .loop-test .taken)) (omega (arith, c13 .loop .inv .4, pre .1 .1 .0)) (c6 .pay .ensures .0) (c13 .loop .inv .6))
+    let pre = c25 .pre in (
+      omega (arith, c12 .loop-test .taken),
+      simp length-set (omega (arith, c13 .loop .inv .1, c6 .pay .kept)),
+      omega (arith, c13 .loop .inv .2, c6 .pay .kept),
+      omega (arith, c13 .loop .inv .3, c6 .pay .kept),
+      simp length-set (omega (arith, c13 .loop .inv .4)),
+      waiting-more _ _ _ _ _ _ _ (omega (
+        arith,
+        c6 .pay .ensures .1 .reach .few,
+        c12 .loop-test .taken,
+        c13 .loop .inv .1,
+        c6 .pay .kept,
+        pre .1 .0,
+      )) (c6 .pay .ensures .1),
+      paid-more _ _ _ _ _ _ _ (pre .0 .sorted .bids (c13 .loop .q) (c12 .loop-test .taken))
+          (omega (arith, c13 .loop .inv .4, pre .1 .1 .0)) (c6 .pay .ensures .0) (c13 .loop .inv .6),
+    )
 
 same-length : tie.Need-same-length Inv-loop μ-loop
 same-length c = search needs
@@ -124,7 +160,8 @@ same-length-4 c = search needs
 returns : tie.Need-returns Inv-loop μ-loop
 returns c =
     let c13 = c .before .before .before .before .before .before .before .before .before .before .before .before .before in
-    paid-all _ _ _ _ _ _ _ (c13 .pre .0) (c .before .loop .inv .4) _ (le-antisymm (c .before .loop .inv .0) (c .loop-test .left)) (c .before .loop .inv .6)
+    paid-all _ _ _ _ _ _ _ (c13 .pre .0) (c .before .loop .inv .4) _ (le-antisymm (c .before .loop .inv .0) (c .loop-test .left))
+    (c .before .loop .inv .6)
 
 pub pay-each-spec : {M : Type 1} → statement M
 pay-each-spec =

@@ -10,8 +10,10 @@ slice-aggregate-after c = search needs
 after-requires : tie.Need-after-requires
 after-requires c κs =
     let c8 = c .before .before .before .before .before .before .before .before in
-    let pre = c8 .pre in
-    ((omega (arith, pre .1 .0), pre .0 .starts, pre .0 .ends, omega (arith, pre .1 .0)), ((omega (arith, pre .1 .0), omega (arith, pre .1 .1 .0)), pre .1 .1 .1 .1 .0))
+    let pre = c8 .pre in (
+      (omega (arith, pre .1 .0), pre .0 .starts, pre .0 .ends, omega (arith, pre .1 .0)),
+      ((omega (arith, pre .1 .0), omega (arith, pre .1 .1 .0)), pre .1 .1 .1 .1 .0),
+    )
 
 slice-aggregate-pay-each : tie.Need-slice-aggregate-pay-each
 slice-aggregate-pay-each c = search needs
@@ -29,8 +31,21 @@ pay-each-requires : tie.Need-pay-each-requires
 pay-each-requires c κs =
     let c6 = c .before .before .before .before .before .before in
     let c15 = c6 .before .before .before .before .before .before .before .before .before in
-    let pre = c15 .pre in
-    (pre .0, ((omega (arith, pre .1 .0), omega (arith, pre .1 .0), omega (arith, pre .1 .0), omega (arith, pre .1 .0, c6 .after .kept), omega (arith, pre .1 .0), omega (arith, pre .1 .0), omega (arith, pre .1 .0)), (pre .1 .1 .0, (pre .1 .1 .1 .0, (pre .1 .1 .1 .1 .0, (pre .1 .1 .1 .1 .1, c6 .after .ensures))))))
+    let pre = c15 .pre in (
+      pre .0,
+      (
+        (
+          omega (arith, pre .1 .0),
+          omega (arith, pre .1 .0),
+          omega (arith, pre .1 .0),
+          omega (arith, pre .1 .0, c6 .after .kept),
+          omega (arith, pre .1 .0),
+          omega (arith, pre .1 .0),
+          omega (arith, pre .1 .0),
+        ),
+        (pre .1 .1 .0, (pre .1 .1 .1 .0, (pre .1 .1 .1 .1 .0, (pre .1 .1 .1 .1 .1, c6 .after .ensures)))),
+      ),
+    )
 
 same-length : tie.Need-same-length
 same-length c = search needs

@@ -36,7 +36,15 @@ loop-less : tie.Need-loop-less Inv-loop μ-loop
 loop-less c = search needs
 
 loop-again : tie.Need-loop-again Inv-loop μ-loop
-loop-again c = (omega arith, omega (arith, c .before .before .loop .inv .1, c .before .before .before .pre .1 (c .before .before .loop .i) (c .before .loop-test .taken)), sum-more _ _ _ (c .before .before .loop .inv .2))
+loop-again c = (
+  omega arith,
+  omega (
+    arith,
+    c .before .before .loop .inv .1,
+    c .before .before .before .pre .1 (c .before .before .loop .i) (c .before .loop-test .taken),
+  ),
+  sum-more _ _ _ (c .before .before .loop .inv .2),
+)
 
 returns : tie.Need-returns Inv-loop μ-loop
 returns c = rw (le-antisymm (c .before .loop .inv .0) (c .loop-test .left)) at (c .before .loop .inv .2)

@@ -26,8 +26,10 @@ by-start-requires : tie.Need-by-start-requires
 by-start-requires c κs =
     let c4 = c .before .before .before .before in
     let c11 = c4 .before .before .before .before .before .before .before in
-    let pre = c11 .pre in
-    ((omega (arith, pre .0), omega (arith, pre .0, c4 .mirror .kept), omega (arith, pre .1 .0), omega (arith, pre .0)), λ i l. omega (arith, c4 .mirror .ensures .starts i l))
+    let pre = c11 .pre in (
+      (omega (arith, pre .0), omega (arith, pre .0, c4 .mirror .kept), omega (arith, pre .1 .0), omega (arith, pre .0)),
+      λ i l. omega (arith, c4 .mirror .ensures .starts i l),
+    )
 
 mul-costs : tie.Need-mul-costs
 mul-costs c = search needs
@@ -56,12 +58,31 @@ run-requires c κs =
     let c11 = c6 .before .before .before .before .before in
     let c18 = c11 .before .before .before .before .before .before .before in
     let args = c18 .args in
-    let pre = c18 .pre in
-    (record { starts = omega (arith, pre .0, c11 .mirror .kept); ends = omega (arith, pre .0, c11 .mirror .kept); sorted = c6 .by-start .ensures }, ((omega (arith, pre .0), omega (arith, pre .0, c6 .by-start .kept), omega (arith, pre .0), simp length-set (omega (arith, pre .0))), ((omega arith, omega (arith, pre .1 .0)), run-all _ _ _ _ _ _ _ (getD-set-same (args .costs .now) (length (args .prices .now)) 18446744073709551615 0 (omega (arith, pre .0))))))
+    let pre = c18 .pre in (
+      record {
+        starts = omega (arith, pre .0, c11 .mirror .kept);
+        ends = omega (arith, pre .0, c11 .mirror .kept);
+        sorted = c6 .by-start .ensures;
+      },
+      (
+        (
+          omega (arith, pre .0),
+          omega (arith, pre .0, c6 .by-start .kept),
+          omega (arith, pre .0),
+          simp length-set (omega (arith, pre .0)),
+        ),
+        (
+          (omega arith, omega (arith, pre .1 .0)),
+          run-all _ _ _ _ _ _ _ (getD-set-same (args .costs .now) (length (args .prices .now)) 18446744073709551615 0
+              (omega (arith, pre .0))),
+        ),
+      ),
+    )
 
 same-length : tie.Need-same-length
 same-length c =
-    let c22 = c .before .before .before .before .before .before .before .before .before .before .before .before .before .before .before .before .before .before .before .before .before .before in
+    let c22 = c .before .before .before .before .before .before .before .before .before .before .before .before .before .before .before
+    .before .before .before .before .before .before .before in
     let args = c22 .args in
     omega (arith, c .before .before .before .run .kept, length-set (args .costs .now) (length (args .prices .now)) 18446744073709551615)
 
@@ -71,7 +92,11 @@ returns c =
     let c15 = c10 .before .before .before .before .before in
     let c22 = c15 .before .before .before .before .before .before .before in
     let pre = c22 .pre in
-    ran-after _ _ _ _ _ _ (record { starts = omega (arith, pre .0, c15 .mirror .kept); ends = omega (arith, pre .0, c15 .mirror .kept); sorted = c10 .by-start .ensures }) _ _ _ _ (c15 .mirror .ensures) (c .before .before .before .run .ensures)
+    ran-after _ _ _ _ _ _ (record {
+      starts = omega (arith, pre .0, c15 .mirror .kept);
+      ends = omega (arith, pre .0, c15 .mirror .kept);
+      sorted = c10 .by-start .ensures;
+    }) _ _ _ _ (c15 .mirror .ensures) (c .before .before .before .run .ensures)
 
 pub after-spec : {M : Type 1} → statement M
 after-spec =

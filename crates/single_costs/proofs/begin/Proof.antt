@@ -11,7 +11,8 @@ use Rattle.single_costs.proofs.begin.Statement.{statement}
 use Rattle.single_costs.proofs.begin.Tie as tie
 
 abbrev Inv-loop : tie.InvT-loop
-Inv-loop ends live₀ before xs₀ costs₀ m t x₀ j₀ live xs costs x j = (j ≤ m) × (length live ≡ length live₀) × (length xs ≡ length xs₀) × (length costs ≡ length costs₀) × Begun ends live₀ live before xs costs t j x
+Inv-loop ends live₀ before xs₀ costs₀ m t x₀ j₀ live xs costs x j = (j ≤ m) × (length live ≡ length live₀) × (length xs ≡ length xs₀)
+    × (length costs ≡ length costs₀) × Begun ends live₀ live before xs costs t j x
 
 abbrev μ-loop : tie.MeasureT-loop
 μ-loop ends live₀ before xs₀ costs₀ m t x₀ j₀ live xs costs x j = m - j
@@ -40,33 +41,57 @@ slice-write-xs c = omega (arith, c .before .before .loop .inv .4 .thinned .short
 mul-costs : tie.Need-mul-costs Inv-loop μ-loop
 mul-costs c =
     let c8 = c .before .before .before .before .before .before .before .before in
-    omega (arith, c8 .pre .1 (c .before .before .loop .j) (c .before .loop-test .taken), c .before .before .loop .inv .4 .thinned .rest (c .before .before .loop .j) (omega arith))
+    omega (
+      arith,
+      c8 .pre .1 (c .before .before .loop .j) (c .before .loop-test .taken),
+      c .before .before .loop .inv .4 .thinned .rest (c .before .before .loop .j) (omega arith),
+    )
 
 shared-slice-read-costs : tie.Need-shared-slice-read-costs Inv-loop μ-loop
 shared-slice-read-costs c =
     let c9 = c .before .before .before .before .before .before .before .before .before in
-    omega (arith, c9 .pre .1 (c .before .before .before .loop .j) (c .before .before .loop-test .taken), c .before .before .before .loop .inv .4 .thinned .rest (c .before .before .before .loop .j) (omega arith))
+    omega (
+      arith,
+      c9 .pre .1 (c .before .before .before .loop .j) (c .before .before .loop-test .taken),
+      c .before .before .before .loop .inv .4 .thinned .rest (c .before .before .before .loop .j) (omega arith),
+    )
 
 mul-costs-2 : tie.Need-mul-costs-2 Inv-loop μ-loop
 mul-costs-2 c =
     let c9 = c .before .before .before .before .before .before .before .before .before in
-    omega (arith, c9 .pre .1 (c .before .before .before .loop .j) (c .before .before .loop-test .taken), c .before .before .before .loop .inv .4 .thinned .rest (c .before .before .before .loop .j) (omega arith))
+    omega (
+      arith,
+      c9 .pre .1 (c .before .before .before .loop .j) (c .before .before .loop-test .taken),
+      c .before .before .before .loop .inv .4 .thinned .rest (c .before .before .before .loop .j) (omega arith),
+    )
 
 slice-write-costs : tie.Need-slice-write-costs Inv-loop μ-loop
 slice-write-costs c =
     let c9 = c .before .before .before .before .before .before .before .before .before in
-    omega (arith, c9 .pre .1 (c .before .before .before .loop .j) (c .before .before .loop-test .taken), c .before .before .before .loop .inv .4 .thinned .rest (c .before .before .before .loop .j) (omega arith))
+    omega (
+      arith,
+      c9 .pre .1 (c .before .before .before .loop .j) (c .before .before .loop-test .taken),
+      c .before .before .before .loop .inv .4 .thinned .rest (c .before .before .before .loop .j) (omega arith),
+    )
 
 mul-count : tie.Need-mul-count Inv-loop μ-loop
 mul-count c =
     let c9 = c .before .before .before .before .before .before .before .before .before in
-    omega (arith, c9 .pre .1 (c .before .before .before .loop .j) (c .before .before .loop-test .taken), c .before .before .before .loop .inv .4 .thinned .rest (c .before .before .before .loop .j) (omega arith))
+    omega (
+      arith,
+      c9 .pre .1 (c .before .before .before .loop .j) (c .before .before .loop-test .taken),
+      c .before .before .before .loop .inv .4 .thinned .rest (c .before .before .before .loop .j) (omega arith),
+    )
 
 shared-slice-read-count : tie.Need-shared-slice-read-count Inv-loop μ-loop
 shared-slice-read-count c =
     let c4 = c .before .before .before .before in
     let c10 = c4 .before .before .before .before .before .before in
-    omega (arith, c10 .pre .1 (c4 .loop .j) (c .before .before .before .loop-test .taken), c4 .loop .inv .4 .thinned .rest (c4 .loop .j) (omega arith))
+    omega (
+      arith,
+      c10 .pre .1 (c4 .loop .j) (c .before .before .before .loop-test .taken),
+      c4 .loop .inv .4 .thinned .rest (c4 .loop .j) (omega arith),
+    )
 
 count-requires : tie.Need-count-requires Inv-loop μ-loop
 count-requires c κs =
@@ -83,8 +108,16 @@ loop-again : tie.Need-loop-again Inv-loop μ-loop
 loop-again c =
     let c4 = c .before .before .before .before in
     let c5 = c4 .before in
-    let c11 = c5 .before .before .before .before .before .before in
-    (omega arith, simp length-set (omega arith), simp length-set (omega arith), simp length-set (omega arith), rw (c .count .ensures) (begun-more _ _ _ _ _ _ _ _ _ (omega arith) (omega (arith, c5 .loop .inv .4 .thinned .short)) (omega (arith, c5 .loop .inv .4 .thinned .short)) (omega (arith, c11 .pre .1 (c5 .loop .j) (c4 .loop-test .taken), c5 .loop .inv .4 .thinned .rest (c5 .loop .j) (omega arith))) (c5 .loop .inv .4)))
+    let c11 = c5 .before .before .before .before .before .before in (
+      omega arith,
+      simp length-set (omega arith),
+      simp length-set (omega arith),
+      simp length-set (omega arith),
+      rw (c .count .ensures) (begun-more _ _ _ _ _ _ _ _ _ (omega arith) (omega (arith, c5 .loop .inv .4 .thinned .short))
+          (omega (arith, c5 .loop .inv .4 .thinned .short))
+          (omega (arith, c11 .pre .1 (c5 .loop .j) (c4 .loop-test .taken), c5 .loop .inv .4 .thinned .rest (c5 .loop .j) (omega arith)))
+          (c5 .loop .inv .4)),
+    )
 
 same-length : tie.Need-same-length Inv-loop μ-loop
 same-length c = search needs

@@ -13,7 +13,8 @@ use Rattle.single_costs.proofs.least_across.Statement.{statement}
 use Rattle.single_costs.proofs.least_across.Tie as tie
 
 abbrev Inv-loop : tie.InvT-loop
-Inv-loop starts ends prices live costs after m t r₀ j₀ r j = (j ≤ m) × (r ≤ 18446744073709551615) × (costIn r ≡ leastAcross starts ends prices live costs after t j)
+Inv-loop starts ends prices live costs after m t r₀ j₀ r j = (j ≤ m) × (r ≤ 18446744073709551615)
+    × (costIn r ≡ leastAcross starts ends prices live costs after t j)
 
 abbrev μ-loop : tie.MeasureT-loop
 μ-loop starts ends prices live costs after m t r₀ j₀ r j = m - j
@@ -72,8 +73,10 @@ join-requires c κs =
     let c4 = c .before .before .before .before in
     let c5 = c4 .before in
     let c12 = c5 .before .before .before .before .before .before .before in
-    let pre = c12 .pre in
-    (pre .1 .1 .0 (c5 .loop .j) (c4 .loop-test .taken), pre .1 .1 .1 (getD (c12 .args .live .now) (c5 .loop .j) 0) (pre .1 .0 (c5 .loop .j) (c4 .loop-test .taken)))
+    let pre = c12 .pre in (
+      pre .1 .1 .0 (c5 .loop .j) (c4 .loop-test .taken),
+      pre .1 .1 .1 (getD (c12 .args .live .now) (c5 .loop .j) 0) (pre .1 .0 (c5 .loop .j) (c4 .loop-test .taken)),
+    )
 
 mul-lower : tie.Need-mul-lower Inv-loop μ-loop
 mul-lower c =
@@ -120,8 +123,17 @@ loop-again : tie.Need-loop-again Inv-loop μ-loop
 loop-again c =
     let c9 = c .before .before .before .before .before .before .before .before .before in
     let c16 = c9 .before .before .before .before .before .before .before in
-    let args = c16 .args in
-    (omega arith, omega arith, rw (c .lower .ensures, c .before .before .before .join .ensures, add-one) (across-more (args .starts .now) (args .ends .now) (args .prices .now) (args .live .now) (args .costs .now) (args .after .now) (args .t) (c9 .loop .j) (c9 .loop .r) (omega (arith, c .before .before .before .join .ensures, c .before .before .before .join .ok)) (c9 .loop .inv .1) (c9 .loop .inv .2)))
+    let args = c16 .args in (
+      omega arith,
+      omega arith,
+      rw (c .lower .ensures, c .before .before .before .join .ensures, add-one)
+          (across-more (args .starts .now) (args .ends .now) (args .prices .now) (args .live .now) (args .costs .now) (args .after .now)
+          (args .t) (c9 .loop .j) (c9 .loop .r) (omega (
+            arith,
+            c .before .before .before .join .ensures,
+            c .before .before .before .join .ok,
+          )) (c9 .loop .inv .1) (c9 .loop .inv .2)),
+    )
 
 returns : tie.Need-returns Inv-loop μ-loop
 returns c = rw (le-antisymm (c .before .loop .inv .0) (c .loop-test .left)) at (c .before .loop .inv .2)

@@ -57,7 +57,12 @@ loop-less : tie.Need-loop-less Inv-loop μ-loop
 loop-less c = search needs
 
 loop-again : tie.Need-loop-again Inv-loop μ-loop
-loop-again c = (omega arith, simp length-set (omega arith), simp length-set (omega arith), mirrored-more _ _ _ _ _ _ (omega arith) (omega arith) (c .before .before .before .loop .inv .3))
+loop-again c = (
+  omega arith,
+  simp length-set (omega arith),
+  simp length-set (omega arith),
+  mirrored-more _ _ _ _ _ _ (omega arith) (omega arith) (c .before .before .before .loop .inv .3),
+)
 
 same-length : tie.Need-same-length Inv-loop μ-loop
 same-length c = search needs

@@ -27,27 +27,50 @@ shared-slice-read-lead-at c =
 lead-at-requires : tie.Need-lead-at-requires
 lead-at-requires c κs =
     let c12 = c .before .before .before .before .before .before .before .before .before .before .before .before in
-    let pre = c12 .pre in
-    ((omega (arith, pre .1 .0, pre .1 .1 .0, pre .1 .1 .1 .reach .few), omega (arith, pre .1 .0, pre .1 .1 .0, pre .1 .1 .1 .reach .few), omega (arith, pre .1 .0), omega (arith, pre .1 .0), omega (arith, pre .0 .starts), omega (arith, pre .0 .ends)), (live-below _ _ _ _ _ _ _ (pre .0) _ _ _ _ _ (omega (arith, pre .1 .1 .0)) (pre .1 .1 .1), (pre .1 .1 .1 .guard, pre .1 .1 .1 .empty)))
+    let pre = c12 .pre in (
+      (
+        omega (arith, pre .1 .0, pre .1 .1 .0, pre .1 .1 .1 .reach .few),
+        omega (arith, pre .1 .0, pre .1 .1 .0, pre .1 .1 .1 .reach .few),
+        omega (arith, pre .1 .0),
+        omega (arith, pre .1 .0),
+        omega (arith, pre .0 .starts),
+        omega (arith, pre .0 .ends),
+      ),
+      (
+        live-below _ _ _ _ _ _ _ (pre .0) _ _ _ _ _ (omega (arith, pre .1 .1 .0)) (pre .1 .1 .1),
+        (pre .1 .1 .1 .guard, pre .1 .1 .1 .empty),
+      ),
+    )
 
 extend-requires : tie.Need-extend-requires
 extend-requires c κs =
-    let c16 = c .before .before .before .before .before .before .before .before .before .before .before .before .before .before .before .before in
+    let c16 = c .before .before .before .before .before .before .before .before .before .before .before .before .before .before .before
+    .before in
     let pre = c16 .pre in
-    let y = led-next _ _ _ _ _ _ (pre .0) _ _ _ _ _ _ _ _ _ _ _ (pre .1 .1 .0 .0) (pre .1 .1 .1) (c .before .before .before .lead-at .ensures) in
+    let y = led-next _ _ _ _ _ _ (pre .0) _ _ _ _ _ _ _ _ _ _ _ (pre .1 .1 .0 .0) (pre .1 .1 .1)
+    (c .before .before .before .lead-at .ensures) in
     let l = pre .0 .sorted .bids (c16 .args .k) (pre .1 .1 .0 .0) in
-    let e = pre .1 .1 .1 .empty in
-    ((omega (arith, y .lead .within, pre .1 .0), omega (arith, l, pre .1 .0), lead-other _ _ _ _ _ _ _ _ _ _ _ _ e y _ l refl, omega (arith, l, pre .1 .0)), lead-lacks _ _ _ _ _ _ _ _ _ _ _ _ e y _ l refl)
+    let e = pre .1 .1 .1 .empty in (
+      (
+        omega (arith, y .lead .within, pre .1 .0),
+        omega (arith, l, pre .1 .0),
+        lead-other _ _ _ _ _ _ _ _ _ _ _ _ e y _ l refl,
+        omega (arith, l, pre .1 .0),
+      ),
+      lead-lacks _ _ _ _ _ _ _ _ _ _ _ _ e y _ l refl,
+    )
 
 mul-add-price : tie.Need-mul-add-price
 mul-add-price c =
-    let c19 = c .before .before .before .before .before .before .before .before .before .before .before .before .before .before .before .before .before .before .before in
+    let c19 = c .before .before .before .before .before .before .before .before .before .before .before .before .before .before .before
+    .before .before .before .before in
     let pre = c19 .pre in
     omega (arith, pre .0 .sorted .bids (c19 .args .k) (pre .1 .1 .0 .0))
 
 shared-slice-read-add-price : tie.Need-shared-slice-read-add-price
 shared-slice-read-add-price c =
-    let c20 = c .before .before .before .before .before .before .before .before .before .before .before .before .before .before .before .before .before .before .before .before in
+    let c20 = c .before .before .before .before .before .before .before .before .before .before .before .before .before .before .before
+    .before .before .before .before .before in
     let pre = c20 .pre in
     omega (arith, pre .0 .sorted .bids (c20 .args .k) (pre .1 .1 .0 .0))
 
@@ -57,17 +80,20 @@ add-price-requires c κs =
     let c20 = c7 .before .before .before .before .before .before .before .before .before .before .before .before .before in
     let pre = c20 .pre in
     let y = led-next _ _ _ _ _ _ (pre .0) _ _ _ _ _ _ _ _ _ _ _ (pre .1 .1 .0 .0) (pre .1 .1 .1) (c7 .lead-at .ensures) in
-    lead-fits _ _ _ _ _ _ _ _ _ _ _ _ (pre .1 .1 .1 .empty) y _ (pre .0 .sorted .bids (c20 .args .k) (pre .1 .1 .0 .0)) refl (pre .1 .1 .0 .1)
+    lead-fits _ _ _ _ _ _ _ _ _ _ _ _ (pre .1 .1 .1 .empty) y _ (pre .0 .sorted .bids (c20 .args .k) (pre .1 .1 .0 .0)) refl
+    (pre .1 .1 .0 .1)
 
 mul-costs : tie.Need-mul-costs
 mul-costs c =
-    let c21 = c .before .before .before .before .before .before .before .before .before .before .before .before .before .before .before .before .before .before .before .before .before in
+    let c21 = c .before .before .before .before .before .before .before .before .before .before .before .before .before .before .before
+    .before .before .before .before .before .before in
     let pre = c21 .pre in
     omega (arith, pre .1 .0, pre .0 .sorted .bids (c21 .args .k) (pre .1 .1 .0 .0))
 
 slice-write-costs : tie.Need-slice-write-costs
 slice-write-costs c =
-    let c21 = c .before .before .before .before .before .before .before .before .before .before .before .before .before .before .before .before .before .before .before .before .before in
+    let c21 = c .before .before .before .before .before .before .before .before .before .before .before .before .before .before .before
+    .before .before .before .before .before .before in
     let pre = c21 .pre in
     omega (arith, pre .1 .0, pre .0 .sorted .bids (c21 .args .k) (pre .1 .1 .0 .0))
 
@@ -76,21 +102,24 @@ mul-live c =
     let c8 = c .before .before .before .before .before .before .before .before in
     let c21 = c8 .before .before .before .before .before .before .before .before .before .before .before .before .before in
     let pre = c21 .pre in
-    let y = led-next _ _ _ _ _ _ (pre .0) _ _ _ _ _ _ _ _ _ _ _ (pre .1 .1 .0 .0) (pre .1 .1 .1) (c8 .lead-at .ensures) in omega (arith, y .reach .few, pre .1 .0, pre .1 .1 .0, c8 .lead-at .kept)
+    let y = led-next _ _ _ _ _ _ (pre .0) _ _ _ _ _ _ _ _ _ _ _ (pre .1 .1 .0 .0) (pre .1 .1 .1) (c8 .lead-at .ensures) in
+    omega (arith, y .reach .few, pre .1 .0, pre .1 .1 .0, c8 .lead-at .kept)
 
 slice-write-live : tie.Need-slice-write-live
 slice-write-live c =
     let c8 = c .before .before .before .before .before .before .before .before in
     let c21 = c8 .before .before .before .before .before .before .before .before .before .before .before .before .before in
     let pre = c21 .pre in
-    let y = led-next _ _ _ _ _ _ (pre .0) _ _ _ _ _ _ _ _ _ _ _ (pre .1 .1 .0 .0) (pre .1 .1 .1) (c8 .lead-at .ensures) in omega (arith, y .reach .few, pre .1 .0, pre .1 .1 .0, c8 .lead-at .kept)
+    let y = led-next _ _ _ _ _ _ (pre .0) _ _ _ _ _ _ _ _ _ _ _ (pre .1 .1 .0 .0) (pre .1 .1 .1) (c8 .lead-at .ensures) in
+    omega (arith, y .reach .few, pre .1 .0, pre .1 .1 .0, c8 .lead-at .kept)
 
 add-t15 : tie.Need-add-t15
 add-t15 c =
     let c8 = c .before .before .before .before .before .before .before .before in
     let c21 = c8 .before .before .before .before .before .before .before .before .before .before .before .before .before in
     let pre = c21 .pre in
-    let y = led-next _ _ _ _ _ _ (pre .0) _ _ _ _ _ _ _ _ _ _ _ (pre .1 .1 .0 .0) (pre .1 .1 .1) (c8 .lead-at .ensures) in omega (arith, y .reach .few, pre .1 .0, pre .1 .1 .0, c8 .lead-at .kept)
+    let y = led-next _ _ _ _ _ _ (pre .0) _ _ _ _ _ _ _ _ _ _ _ (pre .1 .1 .0 .0) (pre .1 .1 .1) (c8 .lead-at .ensures) in
+    omega (arith, y .reach .few, pre .1 .0, pre .1 .1 .0, c8 .lead-at .kept)
 
 same-length : tie.Need-same-length
 same-length c = search needs
@@ -109,7 +138,9 @@ returns c =
     let pre = c21 .pre in
     let y = led-next _ _ _ _ _ _ (pre .0) _ _ _ _ _ _ _ _ _ _ _ (pre .1 .1 .0 .0) (pre .1 .1 .1) (c8 .lead-at .ensures) in
     let g = pre .1 .1 .1 in
-    rw (c .add-price .ensures) (turn _ _ _ _ _ _ _ _ (pre .0) _ _ _ _ _ (pre .1 .1 .0 .0) (pre .1 .1 .0 .1) (omega (arith, pre .1 .0)) (omega (arith, y .reach .few, pre .1 .0, pre .1 .1 .0, c8 .lead-at .kept)) (g .guard) (g .empty) (g .done) y (c4 .extend .ensures))
+    rw (c .add-price .ensures) (turn _ _ _ _ _ _ _ _ (pre .0) _ _ _ _ _ (pre .1 .1 .0 .0) (pre .1 .1 .0 .1) (omega (arith, pre .1 .0))
+    (omega (arith, y .reach .few, pre .1 .0, pre .1 .1 .0, c8 .lead-at .kept)) (g .guard) (g .empty) (g .done) y
+    (c4 .extend .ensures))
 
 pub step-spec : {M : Type 1} → statement M
 step-spec =

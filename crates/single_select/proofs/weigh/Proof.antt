@@ -13,7 +13,9 @@ use Rattle.single_select.proofs.weigh.Statement.{statement}
 use Rattle.single_select.proofs.weigh.Tie as tie
 
 abbrev Inv-loop : tie.InvT-loop
-Inv-loop starts ends prices order cells live₀ costs₀ sets₀ n lead₀ k₀ live costs sets lead k = (k ≤ length prices) × (length live ≡ length live₀) × (length costs ≡ length costs₀) × (length sets ≡ length sets₀) × Running starts ends prices order costs sets live k (lead .live) (lead .row) (lead .cost) (lead .end)
+Inv-loop starts ends prices order cells live₀ costs₀ sets₀ n lead₀ k₀ live costs sets lead k = (k ≤ length prices)
+    × (length live ≡ length live₀) × (length costs ≡ length costs₀) × (length sets ≡ length sets₀)
+    × Running starts ends prices order costs sets live k (lead .live) (lead .row) (lead .cost) (lead .end)
 
 abbrev μ-loop : tie.MeasureT-loop
 μ-loop starts ends prices order cells live₀ costs₀ sets₀ n lead₀ k₀ live costs sets lead k = length prices - k
@@ -28,16 +30,33 @@ loop-holds : tie.Need-loop-holds Inv-loop μ-loop
 loop-holds c =
     let c7 = c .before .before .before .before .before .before .before in
     let args = c7 .args in
-    let pre = c7 .pre in
-    (omega arith, refl, simp length-set refl, refl, running-none _ _ _ _ _ _ _ (getD-set-same (args .costs .now) (length (args .prices .now)) 18446744073709551615 0 (omega (arith, pre .1 .0))) (pre .1 .1 .0 .1))
+    let pre = c7 .pre in (
+      omega arith,
+      refl,
+      simp length-set refl,
+      refl,
+      running-none _ _ _ _ _ _ _ (getD-set-same (args .costs .now) (length (args .prices .now)) 18446744073709551615 0
+          (omega (arith, pre .1 .0))) (pre .1 .1 .0 .1),
+    )
 
 step-requires : tie.Need-step-requires Inv-loop μ-loop
 step-requires c κs =
     let c4 = c .before .before .before .before in
     let c12 = c4 .before .before .before .before .before .before .before .before in
     let args = c12 .args in
-    let pre = c12 .pre in
-    (pre .0, ((omega arith, omega arith, omega (arith, c4 .loop .inv .1), omega (arith, c4 .loop .inv .2, length-set (args .costs .now) (length (args .prices .now)) 18446744073709551615), omega (arith, c4 .loop .inv .3)), ((c .before .before .before .loop-test .taken, pre .1 .1 .0 .0), c4 .loop .inv .4)))
+    let pre = c12 .pre in (
+      pre .0,
+      (
+        (
+          omega arith,
+          omega arith,
+          omega (arith, c4 .loop .inv .1),
+          omega (arith, c4 .loop .inv .2, length-set (args .costs .now) (length (args .prices .now)) 18446744073709551615),
+          omega (arith, c4 .loop .inv .3),
+        ),
+        ((c .before .before .before .loop-test .taken, pre .1 .1 .0 .0), c4 .loop .inv .4),
+      ),
+    )
 
 add-k : tie.Need-add-k Inv-loop μ-loop
 add-k c = search needs
@@ -48,16 +67,33 @@ loop-less c = search needs
 loop-again : tie.Need-loop-again Inv-loop μ-loop
 loop-again c =
     let c6 = c .before .before .before .before .before .before in
-    let c11 = c6 .before .before .before .before .before in
-    (omega arith, omega (arith, c11 .loop .inv .1, c6 .step .kept), omega (arith, c11 .loop .inv .2, c6 .step .kept), omega (arith, c11 .loop .inv .3, c6 .step .kept), c6 .step .ensures)
+    let c11 = c6 .before .before .before .before .before in (
+      omega arith,
+      omega (arith, c11 .loop .inv .1, c6 .step .kept),
+      omega (arith, c11 .loop .inv .2, c6 .step .kept),
+      omega (arith, c11 .loop .inv .3, c6 .step .kept),
+      c6 .step .ensures,
+    )
 
 lead-at-requires : tie.Need-lead-at-requires Inv-loop μ-loop
 lead-at-requires c κs =
     let c4 = c .before .before .before .before in
     let c12 = c4 .before .before .before .before .before .before .before .before in
     let args = c12 .args in
-    let pre = c12 .pre in
-    ((omega (arith, c4 .loop .inv .4 .reach .few, c4 .loop .inv, pre .1 .0), omega (arith, c4 .loop .inv .4 .reach .few, c4 .loop .inv, pre .1 .0), omega (arith, c4 .loop .inv .2, pre .1 .0, length-set (args .costs .now) (length (args .prices .now)) 18446744073709551615), omega (arith, c4 .loop .inv .3, pre .1 .0), omega (arith, pre .0 .starts), omega (arith, pre .0 .ends)), (live-below _ _ _ _ _ _ _ (pre .0) _ _ _ _ _ (c4 .loop .inv .0) (c4 .loop .inv .4), (c4 .loop .inv .4 .guard, c4 .loop .inv .4 .empty)))
+    let pre = c12 .pre in (
+      (
+        omega (arith, c4 .loop .inv .4 .reach .few, c4 .loop .inv, pre .1 .0),
+        omega (arith, c4 .loop .inv .4 .reach .few, c4 .loop .inv, pre .1 .0),
+        omega (arith, c4 .loop .inv .2, pre .1 .0, length-set (args .costs .now) (length (args .prices .now)) 18446744073709551615),
+        omega (arith, c4 .loop .inv .3, pre .1 .0),
+        omega (arith, pre .0 .starts),
+        omega (arith, pre .0 .ends),
+      ),
+      (
+        live-below _ _ _ _ _ _ _ (pre .0) _ _ _ _ _ (c4 .loop .inv .0) (c4 .loop .inv .4),
+        (c4 .loop .inv .4 .guard, c4 .loop .inv .4 .empty),
+      ),
+    )
 
 same-length : tie.Need-same-length Inv-loop μ-loop
 same-length c = search needs
@@ -78,7 +114,8 @@ returns c =
     let c7 = c6 .before in
     let c15 = c7 .before .before .before .before .before .before .before .before in
     let pre = c15 .pre in
-    weighed _ _ _ _ _ _ (pre .0) _ _ _ _ _ _ _ _ _ _ _ _ (le-antisymm (c7 .loop .inv .0) (c6 .loop-test .left)) (pre .1 .1 .1) (c7 .loop .inv .4) (c .before .before .lead-at .ensures)
+    weighed _ _ _ _ _ _ (pre .0) _ _ _ _ _ _ _ _ _ _ _ _ (le-antisymm (c7 .loop .inv .0) (c6 .loop-test .left)) (pre .1 .1 .1)
+    (c7 .loop .inv .4) (c .before .before .lead-at .ensures)
 
 pub weigh-spec : {M : Type 1} → statement M
 weigh-spec =

@@ -24,8 +24,19 @@ weigh-requires : tie.Need-weigh-requires
 weigh-requires c κs =
     let c4 = c .before .before .before .before in
     let c12 = c4 .before .before .before .before .before .before .before .before in
-    let pre = c12 .pre in
-    (pre .0, ((omega (arith, pre .1 .0), omega (arith, pre .1 .0), omega (arith, pre .1 .0), omega (arith, pre .1 .0), omega (arith, pre .1 .0, c4 .clear .kept)), ((omega (arith, pre .1 .0), c4 .clear .ensures), pre .1 .1)))
+    let pre = c12 .pre in (
+      pre .0,
+      (
+        (
+          omega (arith, pre .1 .0),
+          omega (arith, pre .1 .0),
+          omega (arith, pre .1 .0),
+          omega (arith, pre .1 .0),
+          omega (arith, pre .1 .0, c4 .clear .kept),
+        ),
+        ((omega (arith, pre .1 .0), c4 .clear .ensures), pre .1 .1),
+      ),
+    )
 
 slice-aggregate-mark : tie.Need-slice-aggregate-mark
 slice-aggregate-mark c = search needs
@@ -35,8 +46,11 @@ mark-requires c κs =
     let c6 = c .before .before .before .before .before .before in
     let c11 = c6 .before .before .before .before .before in
     let c19 = c11 .before .before .before .before .before .before .before .before in
-    let pre = c19 .pre in
-    (omega (arith, pre .1 .0, c6 .weigh .ensures .within, c6 .weigh .kept, c11 .clear .kept), omega (arith, pre .1 .0), omega (arith, pre .1 .0))
+    let pre = c19 .pre in (
+      omega (arith, pre .1 .0, c6 .weigh .ensures .within, c6 .weigh .kept, c11 .clear .kept),
+      omega (arith, pre .1 .0),
+      omega (arith, pre .1 .0),
+    )
 
 whole-requires : tie.Need-whole-requires
 whole-requires c κs = search needs
@@ -51,7 +65,12 @@ returns : tie.Need-returns
 returns c =
     let c10 = c .before .before .before .before .before .before .before .before .before .before in
     let c23 = c10 .before .before .before .before .before .before .before .before .before .before .before .before .before in
-    record { flags = listed-of _ _ _ _ (omega (arith, c23 .pre .1 .0)) (rw (c10 .weigh .ensures .wins) at (c .before .before .before .mark .ensures)); costs-are = c10 .weigh .ensures .costs-are; all-is = c .whole .ensures ∙ c10 .weigh .ensures .all }
+    record {
+      flags = listed-of _ _ _ _ (omega (arith, c23 .pre .1 .0))
+          (rw (c10 .weigh .ensures .wins) at (c .before .before .before .mark .ensures));
+      costs-are = c10 .weigh .ensures .costs-are;
+      all-is = c .whole .ensures ∙ c10 .weigh .ensures .all;
+    }
 
 pub winners-spec : {M : Type 1} → statement M
 winners-spec =

@@ -28,7 +28,12 @@ add-buf c = omega arith
 slice-write-buf : tie.Need-slice-write-buf Inv-loop μ-loop
 slice-write-buf c =
     let args = c .before .before .before .args in
-    omega (arith, copy-size (args .buf .now) (args .at) (args .s .now) (c .before .before .loop .buf) (c .before .before .loop .i) (c .before .before .loop .inv), c .before .before .loop .inv .fits)
+    omega (
+      arith,
+      copy-size (args .buf .now) (args .at) (args .s .now) (c .before .before .loop .buf) (c .before .before .loop .i)
+          (c .before .before .loop .inv),
+      c .before .before .loop .inv .fits,
+    )
 
 add-i : tie.Need-add-i Inv-loop μ-loop
 add-i c = omega arith
@@ -39,7 +44,8 @@ loop-less c = omega arith
 loop-again : tie.Need-loop-again Inv-loop μ-loop
 loop-again c =
     let args = c .before .before .before .args in
-    copy-goes (args .buf .now) (args .at) (args .s .now) (c .before .before .loop .buf) (c .before .before .loop .i) (omega arith) (c .before .before .loop .inv)
+    copy-goes (args .buf .now) (args .at) (args .s .now) (c .before .before .loop .buf) (c .before .before .loop .i) (omega arith)
+    (c .before .before .loop .inv)
 
 add-result : tie.Need-add-result Inv-loop μ-loop
 add-result c = omega arith

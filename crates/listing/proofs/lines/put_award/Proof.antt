@@ -25,7 +25,15 @@ put-numbers-requires : tie.Need-put-numbers-requires
 put-numbers-requires c κs =
     let c7 = c .before .before .before .before .before .before .before in
     let c11 = c7 .before .before .before .before in
-    omega (arith, kind-short (c11 .args .tender .kind), c11 .pre, c7 .put-all .ensures .next, c7 .put-all .ensures .size, c .before .before .before .put-kind .ensures .next, c .before .before .before .put-kind .ensures .size)
+    omega (
+      arith,
+      kind-short (c11 .args .tender .kind),
+      c11 .pre,
+      c7 .put-all .ensures .next,
+      c7 .put-all .ensures .size,
+      c .before .before .before .put-kind .ensures .next,
+      c .before .before .before .put-kind .ensures .size,
+    )
 
 same-length : tie.Need-same-length
 same-length c = search needs

@@ -27,7 +27,16 @@ put-all-requires c κs =
     let c8 = c4 .before .before .before .before in
     let c11 = c8 .before .before .before in
     let args = c11 .args in
-    omega (arith, decimal-short (args .a), decimal-short (args .b), c11 .pre, c8 .put-number .ensures .next, c8 .put-number .ensures .size, c4 .put-number2 .ensures .next, c4 .put-number2 .ensures .size)
+    omega (
+      arith,
+      decimal-short (args .a),
+      decimal-short (args .b),
+      c11 .pre,
+      c8 .put-number .ensures .next,
+      c8 .put-number .ensures .size,
+      c4 .put-number2 .ensures .next,
+      c4 .put-number2 .ensures .size,
+    )
 
 same-length : tie.Need-same-length
 same-length c = search needs

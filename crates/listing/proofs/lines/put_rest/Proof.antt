@@ -29,7 +29,8 @@ returns : tie.Need-returns
 returns c =
     let c7 = c .before .before .before .before .before .before .before in
     let args = c7 .args in
-    rw (take-all (length (args .s .now) - args .from) (drop (args .from) (args .s .now)) (simp length-drop (omega arith))) at (c .before .before .put-all .ensures)
+    rw (take-all (length (args .s .now) - args .from) (drop (args .from) (args .s .now)) (simp length-drop (omega arith)))
+    at (c .before .before .put-all .ensures)
 
 pub put-rest-spec : {M : Type 1} → statement M
 put-rest-spec =

@@ -57,8 +57,11 @@ loop-again : tie.Need-loop-again Inv-loop μ-loop
 loop-again c =
     let c8 = c .before .before .before .before .before .before .before .before in
     let c13 = c8 .before .before .before .before .before in
-    let args = c13 .args in
-    (wins-go (args .buf .now) (args .at) (args .bids .now) (args .won .now) (args .cents .now) (c8 .loop .i) (c8 .loop .inv .0) (c .before .before .put-win .ensures), omega arith)
+    let args = c13 .args in (
+      wins-go (args .buf .now) (args .at) (args .bids .now) (args .won .now) (args .cents .now) (c8 .loop .i) (c8 .loop .inv .0)
+          (c .before .before .put-win .ensures),
+      omega arith,
+    )
 
 same-length : tie.Need-same-length Inv-loop μ-loop
 same-length c = c .before .loop .inv .0 .written .size

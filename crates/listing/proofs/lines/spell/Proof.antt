@@ -34,7 +34,8 @@ loop-less : tie.Need-loop-less Inv-loop μ-loop
 loop-less c = omega arith
 
 loop-again : tie.Need-loop-again Inv-loop μ-loop
-loop-again c = spell-goes (c .before .before .args .n) (c .before .loop .digits) (c .before .loop .v) (c .before .loop .i) (omega arith) (c .before .loop .inv)
+loop-again c = spell-goes (c .before .before .args .n) (c .before .loop .digits) (c .before .loop .v) (c .before .loop .i) (omega arith)
+    (c .before .loop .inv)
 
 sub-i-2 : tie.Need-sub-i-2 Inv-loop μ-loop
 sub-i-2 c = omega arith
@@ -49,10 +50,15 @@ slice-write-digits-2 : tie.Need-slice-write-digits-2 Inv-loop μ-loop
 slice-write-digits-2 c = omega arith
 
 same-length : tie.Need-same-length Inv-loop μ-loop
-same-length c = length-set (c .before .loop .digits) (c .before .loop .i - 1) (48 + c .before .loop .v % 10) ∙ c .before .loop .inv .room ∙ sym (c .before .before .pre)
+same-length c = length-set (c .before .loop .digits) (c .before .loop .i - 1) (48 + c .before .loop .v % 10) ∙ c .before .loop .inv .room
+    ∙ sym (c .before .before .pre)
 
 returns : tie.Need-returns Inv-loop μ-loop
-returns c = (spell-ends (c .before .before .args .n) (c .before .loop .digits) (c .before .loop .v) (c .before .loop .i) (omega arith) (c .before .loop .inv), omega arith)
+returns c = (
+  spell-ends (c .before .before .args .n) (c .before .loop .digits) (c .before .loop .v) (c .before .loop .i) (omega arith)
+      (c .before .loop .inv),
+  omega arith,
+)
 
 pub spell-spec : {M : Type 1} → statement M
 spell-spec =

@@ -18,7 +18,9 @@ outside-requires : tie.Need-outside-requires
 outside-requires c κs = search needs
 
 returns-2 : tie.Need-returns-2
-returns-2 c = ap (faultAt _) (sym (beyond _ _ _ _ _ _ _ (sym (c .before .before .before .too-many .ensures) ∙ c .before .before .if1 .left) (sym (c .before .outside .ensures) ∙ c .if2 .taken)))
+returns-2 c = ap (faultAt _) (sym (beyond _ _ _ _ _ _ _
+    (sym (c .before .before .before .too-many .ensures) ∙ c .before .before .if1 .left)
+    (sym (c .before .outside .ensures) ∙ c .if2 .taken)))
 
 several-requires : tie.Need-several-requires
 several-requires c κs = search needs
@@ -27,14 +29,18 @@ returns-3 : tie.Need-returns-3
 returns-3 c =
     let c4 = c .before .before .before .before in
     let c5 = c4 .before in
-    ap (faultAt _) (sym (several-windows _ _ _ _ _ _ _ (sym (c5 .too-many .ensures) ∙ c4 .if1 .left) (sym (c .before .before .before .outside .ensures) ∙ c .before .before .if2 .left) (sym (c .before .several .ensures) ∙ c .if3 .taken)))
+    ap (faultAt _) (sym (several-windows _ _ _ _ _ _ _ (sym (c5 .too-many .ensures) ∙ c4 .if1 .left)
+    (sym (c .before .before .before .outside .ensures) ∙ c .before .before .if2 .left)
+    (sym (c .before .several .ensures) ∙ c .if3 .taken)))
 
 returns-4 : tie.Need-returns-4
 returns-4 c =
     let c4 = c .before .before .before .before in
     let c5 = c4 .before in
     let c6 = c5 .before in
-    ap (faultAt _) (sym (unlawful _ _ _ _ _ _ _ (sym (c6 .too-many .ensures) ∙ c5 .if1 .left) (sym (c4 .outside .ensures) ∙ c .before .before .before .if2 .left) (sym (c .before .before .several .ensures) ∙ c .before .if3 .left) (not-true _ (c .if4 .taken))))
+    ap (faultAt _) (sym (unlawful _ _ _ _ _ _ _ (sym (c6 .too-many .ensures) ∙ c5 .if1 .left)
+    (sym (c4 .outside .ensures) ∙ c .before .before .before .if2 .left)
+    (sym (c .before .before .several .ensures) ∙ c .before .if3 .left) (not-true _ (c .if4 .taken))))
 
 holds-requires : tie.Need-holds-requires
 holds-requires c κs =
@@ -50,7 +56,9 @@ returns-5 c =
     let c6 = c5 .before in
     let c7 = c6 .before in
     let c8 = c7 .before in
-    ap (faultAt _) (sym (repeated _ _ _ _ _ _ _ (sym (c8 .too-many .ensures) ∙ c7 .if1 .left) (sym (c6 .outside .ensures) ∙ c5 .if2 .left) (sym (c4 .several .ensures) ∙ c .before .before .before .if3 .left) (not-false _ (c .before .before .if4 .left)) (sym (c .before .holds .ensures) ∙ c .if5 .taken)))
+    ap (faultAt _) (sym (repeated _ _ _ _ _ _ _ (sym (c8 .too-many .ensures) ∙ c7 .if1 .left) (sym (c6 .outside .ensures) ∙ c5 .if2 .left)
+    (sym (c4 .several .ensures) ∙ c .before .before .before .if3 .left) (not-false _ (c .before .before .if4 .left))
+    (sym (c .before .holds .ensures) ∙ c .if5 .taken)))
 
 returns-6 : tie.Need-returns-6
 returns-6 c =
@@ -59,7 +67,9 @@ returns-6 c =
     let c6 = c5 .before in
     let c7 = c6 .before in
     let c8 = c7 .before in
-    ap (faultAt _) (sym (sound _ _ _ _ _ _ _ (sym (c8 .too-many .ensures) ∙ c7 .if1 .left) (sym (c6 .outside .ensures) ∙ c5 .if2 .left) (sym (c4 .several .ensures) ∙ c .before .before .before .if3 .left) (not-false _ (c .before .before .if4 .left)) (sym (c .before .holds .ensures) ∙ c .if5 .left)))
+    ap (faultAt _) (sym (sound _ _ _ _ _ _ _ (sym (c8 .too-many .ensures) ∙ c7 .if1 .left) (sym (c6 .outside .ensures) ∙ c5 .if2 .left)
+    (sym (c4 .several .ensures) ∙ c .before .before .before .if3 .left) (not-false _ (c .before .before .if4 .left))
+    (sym (c .before .holds .ensures) ∙ c .if5 .left)))
 
 pub judge-spec : {M : Type 1} → statement M
 judge-spec =

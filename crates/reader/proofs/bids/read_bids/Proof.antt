@@ -12,7 +12,10 @@ use Rattle.reader.proofs.bids.read_bids.Statement.{statement}
 use Rattle.reader.proofs.bids.read_bids.Tie as tie
 
 abbrev Inv-loop : tie.InvT-loop
-Inv-loop text at kind used₀ rows₀ windows₀ k₀ m₀ i₀ used rows windows k m i = Walk kind (linesOf (cut 10 (drop at text))) (linesOf (cut 10 (drop i text))) k m used rows windows × (i ≤ length text) × (length used ≡ length used₀) × (length rows ≡ length rows₀) × (length windows ≡ length windows₀) × (6 * m ≤ i) × (length text ≤ 65536)
+Inv-loop text at kind used₀ rows₀ windows₀ k₀ m₀ i₀ used rows windows k m i =
+    Walk kind (linesOf (cut 10 (drop at text))) (linesOf (cut 10 (drop i text))) k m used rows windows × (i ≤ length text)
+    × (length used ≡ length used₀) × (length rows ≡ length rows₀) × (length windows ≡ length windows₀) × (6 * m ≤ i)
+    × (length text ≤ 65536)
 
 abbrev μ-loop : tie.MeasureT-loop
 μ-loop text at kind used₀ rows₀ windows₀ k₀ m₀ i₀ used rows windows k m i = length text - i
@@ -33,31 +36,39 @@ sub-take-line : tie.Need-sub-take-line Inv-loop μ-loop
 sub-take-line c =
     let c5 = c .before .before .before .before .before in
     let c10 = c5 .before .before .before .before .before in
-    let b = ends-at (c10 .args .text .now) (c5 .loop .i) _ (c .before .before .before .line-end .ensures) _ (c .before .e .given .1) in omega (arith, b .0)
+    let b = ends-at (c10 .args .text .now) (c5 .loop .i) _ (c .before .before .before .line-end .ensures) _ (c .before .e .given .1) in
+    omega (arith, b .0)
 
 part-take-line-start : tie.Need-part-take-line-start Inv-loop μ-loop
 part-take-line-start c =
     let c5 = c .before .before .before .before .before in
     let c10 = c5 .before .before .before .before .before in
-    let b = ends-at (c10 .args .text .now) (c5 .loop .i) _ (c .before .before .before .line-end .ensures) _ (c .before .e .given .1) in omega (arith, b .0)
+    let b = ends-at (c10 .args .text .now) (c5 .loop .i) _ (c .before .before .before .line-end .ensures) _ (c .before .e .given .1) in
+    omega (arith, b .0)
 
 part-take-line-end : tie.Need-part-take-line-end Inv-loop μ-loop
 part-take-line-end c =
     let c5 = c .before .before .before .before .before in
     let c10 = c5 .before .before .before .before .before in
-    let b = ends-at (c10 .args .text .now) (c5 .loop .i) _ (c .before .before .before .line-end .ensures) _ (c .before .e .given .1) in omega (arith, b .1)
+    let b = ends-at (c10 .args .text .now) (c5 .loop .i) _ (c .before .before .before .line-end .ensures) _ (c .before .e .given .1) in
+    omega (arith, b .1)
 
 take-line-requires : tie.Need-take-line-requires Inv-loop μ-loop
 take-line-requires c κs =
-    let c9 = c .before .before .before .before .before .before .before .before .before in
-    (c9 .loop .inv .0 .few-bids, omega (arith, c9 .loop .inv .0 .few-windows, c9 .loop .inv .0 .few-bids), c9 .loop .inv .0 .used-long, c9 .loop .inv .0 .rows-long)
+    let c9 = c .before .before .before .before .before .before .before .before .before in (
+      c9 .loop .inv .0 .few-bids,
+      omega (arith, c9 .loop .inv .0 .few-windows, c9 .loop .inv .0 .few-bids),
+      c9 .loop .inv .0 .used-long,
+      c9 .loop .inv .0 .rows-long,
+    )
 
 enum-known-count : tie.Need-enum-known-count Inv-loop μ-loop
 enum-known-count c = search needs
 
 add-k : tie.Need-add-k Inv-loop μ-loop
 add-k c =
-    let c19 = c .before .before .before .before .before .before .before .before .before .before .before .before .before .before .before .before .before .before .before in
+    let c19 = c .before .before .before .before .before .before .before .before .before .before .before .before .before .before .before
+    .before .before .before .before in
     omega (arith, c19 .loop .inv .0 .few-bids)
 
 add-m : tie.Need-add-m Inv-loop μ-loop
@@ -69,8 +80,11 @@ add-m c =
     let c24 = c19 .before .before .before .before .before in
     let args = c24 .args in
     let b = ends-at (args .text .now) (c19 .loop .i) _ (c17 .line-end .ensures) _ (c15 .e .given .1) in
-    let w = goes _ _ _ _ _ _ _ _ _ _ _ _ (rw (lines-at (args .text .now) (c19 .loop .i) _ (b .0) (b .1)) at (c19 .loop .inv .0)) _ (c9 .take-line .ensures)
-    (c9 .take-line .kept .1 .1 .1 .1 .0) (c9 .take-line .kept .1 .1 .1 .1 .1 .0) (c9 .take-line .kept .1 .1 .1 .1 .1 .1 .0) _ (c .before .count .given .1) (λ b₁ q. let x = room-for (args .text .now) (c19 .loop .i) _ (c19 .loop .m) (c19 .loop .inv .5) (omega (arith, b .0)) (b .1) b₁ q in omega (arith, x, b .1, c19 .loop .inv .6)) in omega (arith, w .few-windows, w .few-bids)
+    let w = goes _ _ _ _ _ _ _ _ _ _ _ _ (rw (lines-at (args .text .now) (c19 .loop .i) _ (b .0) (b .1)) at (c19 .loop .inv .0)) _
+    (c9 .take-line .ensures)
+    (c9 .take-line .kept .1 .1 .1 .1 .0) (c9 .take-line .kept .1 .1 .1 .1 .1 .0) (c9 .take-line .kept .1 .1 .1 .1 .1 .1 .0) _
+    (c .before .count .given .1) (λ b₁ q. let x = room-for (args .text .now) (c19 .loop .i) _ (c19 .loop .m) (c19 .loop .inv .5)
+    (omega (arith, b .0)) (b .1) b₁ q in omega (arith, x, b .1, c19 .loop .inv .6)) in omega (arith, w .few-windows, w .few-bids)
 
 add-i : tie.Need-add-i Inv-loop μ-loop
 add-i c =
@@ -97,15 +111,19 @@ loop-again c =
     let c24 = c19 .before .before .before .before .before in
     let args = c24 .args in
     let b = ends-at (args .text .now) (c19 .loop .i) _ (c17 .line-end .ensures) _ (c15 .e .given .1) in (
-  goes _ _ _ _ _ _ _ _ _ _ _ _ (rw (lines-at (args .text .now) (c19 .loop .i) _ (b .0) (b .1)) at (c19 .loop .inv .0)) _ (c9 .take-line .ensures)
-      (c9 .take-line .kept .1 .1 .1 .1 .0) (c9 .take-line .kept .1 .1 .1 .1 .1 .0) (c9 .take-line .kept .1 .1 .1 .1 .1 .1 .0) _ (c .before .count .given .1) (λ b₁ q. let x = room-for (args .text .now) (c19 .loop .i) _ (c19 .loop .m) (c19 .loop .inv .5) (omega (arith, b .0)) (b .1) b₁ q in omega (arith, x, b .1, c19 .loop .inv .6)),
-  omega (arith, b .1),
-  c9 .take-line .kept .1 .1 .1 .1 .0 ∙ c19 .loop .inv .2,
-  c9 .take-line .kept .1 .1 .1 .1 .1 .0 ∙ c19 .loop .inv .3,
-  c9 .take-line .kept .1 .1 .1 .1 .1 .1 .0 ∙ c19 .loop .inv .4,
-  taken-room _ _ _ _ _ _ _ _ _ _ _ _ _ (c9 .take-line .ensures) (c .before .count .given .1) (λ b₁ q. room-for (args .text .now) (c19 .loop .i) _ (c19 .loop .m) (c19 .loop .inv .5) (omega (arith, b .0)) (b .1) b₁ q),
-  c19 .loop .inv .6,
-)
+      goes _ _ _ _ _ _ _ _ _ _ _ _ (rw (lines-at (args .text .now) (c19 .loop .i) _ (b .0) (b .1)) at (c19 .loop .inv .0)) _
+          (c9 .take-line .ensures)
+          (c9 .take-line .kept .1 .1 .1 .1 .0) (c9 .take-line .kept .1 .1 .1 .1 .1 .0) (c9 .take-line .kept .1 .1 .1 .1 .1 .1 .0) _
+          (c .before .count .given .1) (λ b₁ q. let x = room-for (args .text .now) (c19 .loop .i) _ (c19 .loop .m) (c19 .loop .inv .5)
+          (omega (arith, b .0)) (b .1) b₁ q in omega (arith, x, b .1, c19 .loop .inv .6)),
+      omega (arith, b .1),
+      c9 .take-line .kept .1 .1 .1 .1 .0 ∙ c19 .loop .inv .2,
+      c9 .take-line .kept .1 .1 .1 .1 .1 .0 ∙ c19 .loop .inv .3,
+      c9 .take-line .kept .1 .1 .1 .1 .1 .1 .0 ∙ c19 .loop .inv .4,
+      taken-room _ _ _ _ _ _ _ _ _ _ _ _ _ (c9 .take-line .ensures) (c .before .count .given .1)
+          (λ b₁ q. room-for (args .text .now) (c19 .loop .i) _ (c19 .loop .m) (c19 .loop .inv .5) (omega (arith, b .0)) (b .1) b₁ q),
+      c19 .loop .inv .6,
+    )
 
 enum-known-r : tie.Need-enum-known-r Inv-loop μ-loop
 enum-known-r c = search needs
@@ -137,7 +155,8 @@ returns c =
     let c24 = c19 .before .before .before .before .before in
     let args = c24 .args in
     let b = ends-at (args .text .now) (c19 .loop .i) _ (c17 .line-end .ensures) _ (c15 .e .given .1) in
-    stops _ _ _ _ _ _ _ _ _ _ _ _ (rw (lines-at (args .text .now) (c19 .loop .i) _ (b .0) (b .1)) at (c19 .loop .inv .0)) _ (c9 .take-line .ensures) _ (c .before .r .given .1)
+    stops _ _ _ _ _ _ _ _ _ _ _ _ (rw (lines-at (args .text .now) (c19 .loop .i) _ (b .0) (b .1)) at (c19 .loop .inv .0)) _
+    (c9 .take-line .ensures) _ (c .before .r .given .1)
 
 enum-told : tie.Need-enum-told Inv-loop μ-loop
 enum-told c = search needs
@@ -166,7 +185,8 @@ returns-2 : tie.Need-returns-2 Inv-loop μ-loop
 returns-2 c =
     let c4 = c .before .before .before .before in
     let c9 = c4 .before .before .before .before .before in
-    let b = ends-broken (c9 .args .text .now) (c4 .loop .i) _ (c .before .before .line-end .ensures) (c .enum-told .given .1) in breaks _ _ _ _ _ _ _ _ (rw (b .are) at (c4 .loop .inv .0))
+    let b = ends-broken (c9 .args .text .now) (c4 .loop .i) _ (c .before .before .line-end .ensures) (c .enum-told .given .1) in
+    breaks _ _ _ _ _ _ _ _ (rw (b .are) at (c4 .loop .inv .0))
 
 same-length-7 : tie.Need-same-length-7 Inv-loop μ-loop
 same-length-7 c = c .before .loop .inv .2
@@ -182,7 +202,8 @@ returns-3 c =
     let c6 = c .before .before .before .before .before .before in
     let args = c6 .args in
     let e : c .before .loop .i ≡ length (args .text .now) = omega arith in
-    ends _ _ _ _ _ _ _ (rw (e, lines-end (args .text .now)) at (c .before .loop .inv .0)) (omega (arith, c .before .loop .inv .5, c .before .loop .inv .1, c .before .loop .inv .6))
+    ends _ _ _ _ _ _ _ (rw (e, lines-end (args .text .now)) at (c .before .loop .inv .0))
+    (omega (arith, c .before .loop .inv .5, c .before .loop .inv .1, c .before .loop .inv .6))
 
 pub read-bids-spec : {M : Type 1} → statement M
 read-bids-spec =

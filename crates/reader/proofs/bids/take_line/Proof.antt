@@ -26,15 +26,18 @@ enum-told c = search needs
 
 put-row-requires : tie.Need-put-row-requires
 put-row-requires c κs =
-    let c16 = c .before .before .before .before .before .before .before .before .before .before .before .before .before .before .before .before in
-    let p = passed _ _ _ _ _ _ _ (is-sound _ _ (ap verdictOf (sym (c .before .enum-told .given .1)) ∙ c .before .before .before .judge .ensures)) in omega (arith, p .few-bids, c16 .pre)
+    let c16 = c .before .before .before .before .before .before .before .before .before .before .before .before .before .before .before
+    .before in
+    let p = passed _ _ _ _ _ _ _ (is-sound _ _ (ap verdictOf (sym (c .before .enum-told .given .1))
+    ∙ c .before .before .before .judge .ensures)) in omega (arith, p .few-bids, c16 .pre)
 
 add-requires : tie.Need-add-requires
 add-requires c κs =
     let c5 = c .before .before .before .before .before in
     let c7 = c5 .before .before in
     let c20 = c7 .before .before .before .before .before .before .before .before .before .before .before .before .before in
-    let p = passed _ _ _ _ _ _ _ (is-sound _ _ (ap verdictOf (sym (c5 .enum-told .given .1)) ∙ c7 .judge .ensures)) in omega (arith, p .bidder-high, c20 .pre)
+    let p = passed _ _ _ _ _ _ _ (is-sound _ _ (ap verdictOf (sym (c5 .enum-told .given .1)) ∙ c7 .judge .ensures)) in
+    omega (arith, p .bidder-high, c20 .pre)
 
 enum-known-r : tie.Need-enum-known-r
 enum-known-r c = search needs
@@ -63,7 +66,8 @@ returns c =
     let c17 = c13 .before .before .before .before in
     taken-sound _ _ _ _ _ _ _ _ _ _ _ _ _ _ _
     (ap (λ t. toldLine t (c17 .read-line .last .1 .0)) (sym (c13 .bidder .given .1)) ∙ c17 .read-line .ensures)
-    (is-sound _ _ (ap verdictOf (sym (c8 .enum-told .given .1)) ∙ c10 .judge .ensures)) refl (c6 .put-row .ensures) (c .before .before .add .ensures)
+    (is-sound _ _ (ap verdictOf (sym (c8 .enum-told .given .1)) ∙ c10 .judge .ensures)) refl (c6 .put-row .ensures)
+    (c .before .before .add .ensures)
 
 same-length-4 : tie.Need-same-length-4
 same-length-4 c = search needs
@@ -85,7 +89,8 @@ same-length-6 c = search needs
 returns-3 : tie.Need-returns-3
 returns-3 c =
     let c4 = c .before .before .before .before in
-    taken-tender _ _ _ _ _ _ _ _ _ _ _ _ (ap (λ t. toldLine t (c4 .read-line .last .1 .0)) (sym (c .enum-told2 .given .1)) ∙ c4 .read-line .ensures) refl
+    taken-tender _ _ _ _ _ _ _ _ _ _ _ _ (ap (λ t. toldLine t (c4 .read-line .last .1 .0)) (sym (c .enum-told2 .given .1))
+    ∙ c4 .read-line .ensures) refl
 
 same-length-7 : tie.Need-same-length-7
 same-length-7 c = search needs
@@ -93,7 +98,8 @@ same-length-7 c = search needs
 returns-4 : tie.Need-returns-4
 returns-4 c =
     let c4 = c .before .before .before .before in
-    taken-broken _ _ _ _ _ _ _ _ _ _ _ (ap (λ t. toldLine t (c4 .read-line .last .1 .0)) (sym (c .enum-told3 .given .1)) ∙ c4 .read-line .ensures) refl
+    taken-broken _ _ _ _ _ _ _ _ _ _ _ (ap (λ t. toldLine t (c4 .read-line .last .1 .0)) (sym (c .enum-told3 .given .1))
+    ∙ c4 .read-line .ensures) refl
 
 pub take-line-spec : {M : Type 1} → statement M
 take-line-spec =

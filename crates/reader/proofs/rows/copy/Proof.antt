@@ -30,7 +30,10 @@ mul-to-2 c = search needs
 slice-write-to : tie.Need-slice-write-to Inv-loop μ-loop
 slice-write-to c =
     let args = c .before .before .before .args in
-    rw (c .before .before .loop .inv .0) (omega (arith, copied-length (args .from .now) (args .to .now) (c .before .before .loop .i) (omega arith) (omega arith)))
+    rw (c .before .before .loop .inv .0) (omega (
+      arith,
+      copied-length (args .from .now) (args .to .now) (c .before .before .loop .i) (omega arith) (omega arith),
+    ))
 
 add-i : tie.Need-add-i Inv-loop μ-loop
 add-i c = search needs
@@ -40,13 +43,13 @@ loop-less c = search needs
 
 loop-again : tie.Need-loop-again Inv-loop μ-loop
 loop-again c =
-    let args = c .before .before .before .args in
-    (
-  ap (λ l. set l (c .before .before .loop .i) (getD (args .from .now) (c .before .before .loop .i) 0)) (c .before .before .loop .inv .0) ∙ copied (args .from .now) (args .to .now) (c .before .before .loop .i) (omega arith) (omega arith),
-  omega arith,
-  c .before .before .loop .inv .2,
-  c .before .before .loop .inv .3,
-)
+    let args = c .before .before .before .args in (
+      ap (λ l. set l (c .before .before .loop .i) (getD (args .from .now) (c .before .before .loop .i) 0)) (c .before .before .loop .inv .0)
+          ∙ copied (args .from .now) (args .to .now) (c .before .before .loop .i) (omega arith) (omega arith),
+      omega arith,
+      c .before .before .loop .inv .2,
+      c .before .before .loop .inv .3,
+    )
 
 same-length : tie.Need-same-length Inv-loop μ-loop
 same-length c =

@@ -27,13 +27,15 @@ returns-2 : tie.Need-returns-2
 unfolding singleWord multiWord
 returns-2 c =
     let c4 = c .before .before .before .before in
-    ap asKind (sym (kind-multi _ (sym (c4 .same .ensures) ∙ c .before .before .before .if1 .left) (sym (c .before .same2 .ensures) ∙ c .if2 .taken)))
+    ap asKind (sym (kind-multi _ (sym (c4 .same .ensures) ∙ c .before .before .before .if1 .left)
+    (sym (c .before .same2 .ensures) ∙ c .if2 .taken)))
 
 returns-3 : tie.Need-returns-3
 unfolding singleWord multiWord
 returns-3 c =
     let c4 = c .before .before .before .before in
-    ap asKind (sym (kind-none _ (sym (c4 .same .ensures) ∙ c .before .before .before .if1 .left) (sym (c .before .same2 .ensures) ∙ c .if2 .left)))
+    ap asKind (sym (kind-none _ (sym (c4 .same .ensures) ∙ c .before .before .before .if1 .left)
+    (sym (c .before .same2 .ensures) ∙ c .if2 .left)))
 
 pub read-kind-spec : {M : Type 1} → statement M
 read-kind-spec =

@@ -34,7 +34,8 @@ returns-2 c =
     let m = c .before .before in
     let s = m .before .before in
     let n = s .before .before in
-    ap asSpan (sym (span-second _ _ (s .a .given .0 .0) (is-value _ _ (sym (n .read-number .ensures) ∙ s .a .given .1)) (is-bad _ (sym (m .read-number2 .ensures) ∙ c .enum-told2 .given .1))))
+    ap asSpan (sym (span-second _ _ (s .a .given .0 .0) (is-value _ _ (sym (n .read-number .ensures) ∙ s .a .given .1))
+    (is-bad _ (sym (m .read-number2 .ensures) ∙ c .enum-told2 .given .1))))
 
 returns-3 : tie.Need-returns-3
 returns-3 c =
@@ -42,7 +43,8 @@ returns-3 c =
     let m = z .before .before in
     let s = m .before .before in
     let n = s .before .before in
-    ap asSpan (sym (span-both _ _ (s .a .given .0 .0) (z .z .given .0 .0) (is-value _ _ (sym (n .read-number .ensures) ∙ s .a .given .1)) (is-value _ _ (sym (m .read-number2 .ensures) ∙ z .z .given .1))))
+    ap asSpan (sym (span-both _ _ (s .a .given .0 .0) (z .z .given .0 .0) (is-value _ _ (sym (n .read-number .ensures) ∙ s .a .given .1))
+    (is-value _ _ (sym (m .read-number2 .ensures) ∙ z .z .given .1))))
 
 pub read-span-spec : {M : Type 1} → statement M
 read-span-spec =

@@ -7,7 +7,8 @@ use lib.ListN.{length, drop, length-drop}
 use Rattle.reader_line.proofs.Ends.{next-fits}
 use Rattle.reader_line.proofs.Spans.{closed-empty}
 use Rattle.reader_line.proofs.Walk.{is-of, is-wrong}
-use Rattle.reader_line.proofs.Lines.{is-kind, is-no-kind, tail-closed, tail-open, noted-none, noted-tender, tender-one, tender-two, tender-four, tender-open, tender-unkind, tender-unspan, tender-whole}
+use Rattle.reader_line.proofs.Lines.{is-kind, is-no-kind, tail-closed, tail-open, noted-none, noted-tender, tender-one, tender-two}
+use Rattle.reader_line.proofs.Lines.{tender-four, tender-open, tender-unkind, tender-unspan, tender-whole}
 use Rattle.reader_line.proofs.line.read_tender.Statement.{statement}
 use Rattle.reader_line.proofs.line.read_tender.Tie as tie
 
@@ -33,8 +34,10 @@ returns-2 c =
     let c5 = c .before .before .before .before .before in
     let args = c5 .args in
     let line = args .line .now in
-    let h : c .before .next2 .result ≡ length line = omega (arith, next-fits 32 line (c .before .before .before .next .result + 1) (omega arith)) in
-    noted-none _ (tender-two line (args .at) (c .before .before .before .next .result) (c .before .next2 .result) 0 (c5 .pre) (sym (c .before .before .before .next .ensures)) (c .before .before .if1 .left) (sym (c .before .next2 .ensures)) h)
+    let h : c .before .next2 .result ≡ length line =
+    omega (arith, next-fits 32 line (c .before .before .before .next .result + 1) (omega arith)) in
+    noted-none _ (tender-two line (args .at) (c .before .before .before .next .result) (c .before .next2 .result) 0 (c5 .pre)
+    (sym (c .before .before .before .next .ensures)) (c .before .before .if1 .left) (sym (c .before .next2 .ensures)) h)
 
 add-next-2 : tie.Need-add-next-2
 add-next-2 c = search needs
@@ -49,7 +52,9 @@ returns-3 c =
     let c7 = c5 .before .before in
     let args = c7 .args in
     let line = args .line .now in
-    noted-none _ (tender-four line (args .at) (c5 .next .result) (c .before .before .before .next2 .result) (c .before .next3 .result) (c7 .pre) (sym (c5 .next .ensures)) (c4 .if1 .left) (sym (c .before .before .before .next2 .ensures)) (c .before .before .if2 .left) (sym (c .before .next3 .ensures)) (c .if3 .taken))
+    noted-none _ (tender-four line (args .at) (c5 .next .result) (c .before .before .before .next2 .result) (c .before .next3 .result)
+    (c7 .pre) (sym (c5 .next .ensures)) (c4 .if1 .left) (sym (c .before .before .before .next2 .ensures))
+    (c .before .before .if2 .left) (sym (c .before .next3 .ensures)) (c .if3 .taken))
 
 add-if4 : tie.Need-add-if4
 add-if4 c = search needs
@@ -63,7 +68,9 @@ returns-4 c =
     let args = c8 .args in
     let line = args .line .now in
     let h : c .before .before .next3 .result ≡ length line = omega (arith, next-fits 32 line (c4 .next2 .result + 1) (omega arith)) in
-    noted-none _ (tender-open line (args .at) (c6 .next .result) (c4 .next2 .result) (c .before .before .next3 .result) (c8 .pre) (sym (c6 .next .ensures)) (c5 .if1 .left) (sym (c4 .next2 .ensures)) (c .before .before .before .if2 .left) (sym (c .before .before .next3 .ensures)) h
+    noted-none _ (tender-open line (args .at) (c6 .next .result) (c4 .next2 .result) (c .before .before .next3 .result) (c8 .pre)
+    (sym (c6 .next .ensures)) (c5 .if1 .left) (sym (c4 .next2 .ensures)) (c .before .before .before .if2 .left)
+    (sym (c .before .before .next3 .ensures)) h
     (closed-empty (drop (c4 .next2 .result + 1) line) (rw length-drop (omega arith))))
 
 sub-if5 : tie.Need-sub-if5
@@ -86,7 +93,8 @@ returns-5 c =
     let args = c10 .args in
     let line = args .line .now in
     let h : c4 .next3 .result ≡ length line = omega (arith, next-fits 32 line (c6 .next2 .result + 1) (omega arith)) in
-    noted-none _ (tender-open line (args .at) (c8 .next .result) (c6 .next2 .result) (c4 .next3 .result) (c10 .pre) (sym (c8 .next .ensures)) (c7 .if1 .left) (sym (c6 .next2 .ensures)) (c5 .if2 .left) (sym (c4 .next3 .ensures)) h
+    noted-none _ (tender-open line (args .at) (c8 .next .result) (c6 .next2 .result) (c4 .next3 .result) (c10 .pre)
+    (sym (c8 .next .ensures)) (c7 .if1 .left) (sym (c6 .next2 .ensures)) (c5 .if2 .left) (sym (c4 .next3 .ensures)) h
     (tail-open line (c6 .next2 .result + 1) (c4 .next3 .result) h (c .before .before .if4 .left) (c .if5 .taken)))
 
 sub-read-kind : tie.Need-sub-read-kind
@@ -118,7 +126,8 @@ returns-6 c =
     let args = c14 .args in
     let line = args .line .now in
     let h : c8 .next3 .result ≡ length line = omega (arith, next-fits 32 line (c10 .next2 .result + 1) (omega arith)) in
-    noted-none _ (tender-unkind line (args .at) (c12 .next .result) (c10 .next2 .result) (c8 .next3 .result) (c14 .pre) (sym (c12 .next .ensures)) (c11 .if1 .left) (sym (c10 .next2 .ensures)) (c9 .if2 .left) (sym (c8 .next3 .ensures)) h
+    noted-none _ (tender-unkind line (args .at) (c12 .next .result) (c10 .next2 .result) (c8 .next3 .result) (c14 .pre)
+    (sym (c12 .next .ensures)) (c11 .if1 .left) (sym (c10 .next2 .ensures)) (c9 .if2 .left) (sym (c8 .next3 .ensures)) h
     (is-no-kind _ (sym (c .before .before .read-kind .ensures) ∙ c .enum-told .given .1)))
 
 add-read-span : tie.Need-add-read-span
@@ -175,8 +184,11 @@ returns-7 c =
     let args = c20 .args in
     let line = args .line .now in
     let h : c14 .next3 .result ≡ length line = omega (arith, next-fits 32 line (c16 .next2 .result + 1) (omega arith)) in
-    noted-none _ (tender-unspan line (args .at) (c18 .next .result) (c16 .next2 .result) (c14 .next3 .result) (c20 .pre) (sym (c18 .next .ensures)) (c17 .if1 .left) (sym (c16 .next2 .ensures)) (c15 .if2 .left) (sym (c14 .next3 .ensures)) h
-    _ _ (is-kind _ _ (sym (c8 .read-kind .ensures) ∙ c6 .kind .given .1)) (tail-closed line (c16 .next2 .result + 1) (c14 .next3 .result) h (c12 .if4 .left) (c10 .if5 .left)) (is-wrong _ (sym (c .before .before .read-span .ensures) ∙ c .enum-told2 .given .1)))
+    noted-none _ (tender-unspan line (args .at) (c18 .next .result) (c16 .next2 .result) (c14 .next3 .result) (c20 .pre)
+    (sym (c18 .next .ensures)) (c17 .if1 .left) (sym (c16 .next2 .ensures)) (c15 .if2 .left) (sym (c14 .next3 .ensures)) h
+    _ _ (is-kind _ _ (sym (c8 .read-kind .ensures) ∙ c6 .kind .given .1))
+    (tail-closed line (c16 .next2 .result + 1) (c14 .next3 .result) h (c12 .if4 .left) (c10 .if5 .left))
+    (is-wrong _ (sym (c .before .before .read-span .ensures) ∙ c .enum-told2 .given .1)))
 
 returns-8 : tie.Need-returns-8
 returns-8 c =
@@ -193,8 +205,11 @@ returns-8 c =
     let args = c21 .args in
     let line = args .line .now in
     let h : c15 .next3 .result ≡ length line = omega (arith, next-fits 32 line (c17 .next2 .result + 1) (omega arith)) in
-    noted-tender _ _ (tender-whole line (args .at) (c19 .next .result) (c17 .next2 .result) (c15 .next3 .result) (c21 .pre) (sym (c19 .next .ensures)) (c18 .if1 .left) (sym (c17 .next2 .ensures)) (c16 .if2 .left) (sym (c15 .next3 .ensures)) h
-    _ _ (is-kind _ _ (sym (c9 .read-kind .ensures) ∙ c7 .kind .given .1)) (tail-closed line (c17 .next2 .result + 1) (c15 .next3 .result) h (c13 .if4 .left) (c11 .if5 .left)) _ (is-of _ _ _ (sym (c .before .before .before .read-span .ensures) ∙ c .before .start .given .1)))
+    noted-tender _ _ (tender-whole line (args .at) (c19 .next .result) (c17 .next2 .result) (c15 .next3 .result) (c21 .pre)
+    (sym (c19 .next .ensures)) (c18 .if1 .left) (sym (c17 .next2 .ensures)) (c16 .if2 .left) (sym (c15 .next3 .ensures)) h
+    _ _ (is-kind _ _ (sym (c9 .read-kind .ensures) ∙ c7 .kind .given .1))
+    (tail-closed line (c17 .next2 .result + 1) (c15 .next3 .result) h (c13 .if4 .left) (c11 .if5 .left)) _
+    (is-of _ _ _ (sym (c .before .before .before .read-span .ensures) ∙ c .before .start .given .1)))
 
 pub read-tender-spec : {M : Type 1} → statement M
 read-tender-spec =

@@ -2,7 +2,8 @@
 use mathlib.Core.Path.{sym, ap, _∙_}
 use borrow.Author.Needs.{needs}
 use Rattle.reader_line.specs.Answer.{asSpan}
-use Rattle.reader_line.proofs.Spans.{opened-is, opened-not, opened-empty, closed-is, closed-not, closed-empty, window-open, window-close, window-both}
+use Rattle.reader_line.proofs.Spans.{opened-is, opened-not, opened-empty, closed-is, closed-not, closed-empty, window-open}
+use Rattle.reader_line.proofs.Spans.{window-close, window-both}
 use Rattle.reader_line.proofs.line.read_window.Statement.{statement}
 use Rattle.reader_line.proofs.line.read_window.Tie as tie
 
@@ -30,7 +31,8 @@ returns-4 : tie.Need-returns-4
 returns-4 c =
     let k = c .before .before in
     let o = k .before in
-    ap asSpan (sym (window-close _ _ _ (opened-is _ (o .before .before .if1 .left) (o .if2 .left)) (closed-not _ (k .if3 .left) (c .if4 .taken))))
+    ap asSpan (sym (window-close _ _ _ (opened-is _ (o .before .before .if1 .left) (o .if2 .left))
+    (closed-not _ (k .if3 .left) (c .if4 .taken))))
 
 sub-read-span : tie.Need-sub-read-span
 sub-read-span c = search needs
@@ -61,7 +63,8 @@ returns-5 c =
     let f = c .before .before .before in
     let k = f .before .before in
     let o = k .before in
-    c .read-span .ensures ∙ ap asSpan (sym (window-both _ _ _ _ (opened-is _ (o .before .before .if1 .left) (o .if2 .left)) (closed-is _ (k .if3 .left) (f .if4 .left))))
+    c .read-span .ensures ∙ ap asSpan (sym (window-both _ _ _ _ (opened-is _ (o .before .before .if1 .left) (o .if2 .left))
+    (closed-is _ (k .if3 .left) (f .if4 .left))))
 
 pub read-window-spec : {M : Type 1} → statement M
 read-window-spec =

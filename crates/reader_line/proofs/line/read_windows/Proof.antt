@@ -16,7 +16,9 @@ use Rattle.reader_line.proofs.line.read_windows.Statement.{statement}
 use Rattle.reader_line.proofs.line.read_windows.Tie as tie
 
 abbrev Inv-loop : tie.InvT-loop
-Inv-loop line at windows₀ m n₀ ok₀ i₀ windows n ok i = (tallied m n ok windows (windowsIn (cut 32 (drop i line))) ≡ tallied m 0 true windows₀ (windowsIn (cut 32 (drop at line)))) × (n ≤ i) × (m ≤ 32000) × (length windows ≡ length windows₀)
+Inv-loop line at windows₀ m n₀ ok₀ i₀ windows n ok i =
+    (tallied m n ok windows (windowsIn (cut 32 (drop i line))) ≡ tallied m 0 true windows₀ (windowsIn (cut 32 (drop at line)))) × (n ≤ i)
+    × (m ≤ 32000) × (length windows ≡ length windows₀)
 
 abbrev μ-loop : tie.MeasureT-loop
 μ-loop line at windows₀ m n₀ ok₀ i₀ windows n ok i = length line - i
@@ -36,7 +38,9 @@ returns c =
     let args = c6 .args in
     let line = args .line .now in
     let h : c .before .next .result ≡ length line = omega (arith, next-fits 32 line (c .before .before .before .loop .i) (omega arith)) in
-    sym (tally-one line (c .before .before .before .loop .i) (c .before .next .result) 0 (args .m) (c .before .before .before .loop .n) (c .before .before .before .loop .ok) (c .before .before .before .loop .windows) (sym (c .before .next .ensures)) (omega arith) h) ∙ c .before .before .before .loop .inv .0
+    sym (tally-one line (c .before .before .before .loop .i) (c .before .next .result) 0 (args .m) (c .before .before .before .loop .n)
+    (c .before .before .before .loop .ok) (c .before .before .before .loop .windows) (sym (c .before .next .ensures)) (omega arith) h)
+    ∙ c .before .before .before .loop .inv .0
 
 add-next : tie.Need-add-next Inv-loop μ-loop
 add-next c = search needs
@@ -101,12 +105,15 @@ loop-again c =
     let c19 = c16 .before .before .before in
     let args = c19 .args in
     let line = args .line .now in (
-  rw (c .keeps .ensures, c .before .before .before .put-window .ensures) (sym (tally-more line (c16 .loop .i) (c14 .next .result) (c12 .next2 .result) (args .m) (c16 .loop .n) (c16 .loop .ok) (c16 .loop .windows) (sym (c14 .next .ensures)) (c13 .if1 .left)
-      (sym (c12 .next2 .ensures)) (c11 .if2 .taken) _ (is-of _ _ _ (sym (c8 .read-window .ensures) ∙ c6 .a .given .1))) ∙ c16 .loop .inv .0),
-  omega arith,
-  c16 .loop .inv .2,
-  c .before .before .before .put-window .kept .0 ∙ c16 .loop .inv .3,
-)
+      rw (c .keeps .ensures, c .before .before .before .put-window .ensures)
+          (sym (tally-more line (c16 .loop .i) (c14 .next .result) (c12 .next2 .result) (args .m) (c16 .loop .n) (c16 .loop .ok)
+          (c16 .loop .windows) (sym (c14 .next .ensures)) (c13 .if1 .left)
+          (sym (c12 .next2 .ensures)) (c11 .if2 .taken) _ (is-of _ _ _ (sym (c8 .read-window .ensures) ∙ c6 .a .given .1)))
+          ∙ c16 .loop .inv .0),
+      omega arith,
+      c16 .loop .inv .2,
+      c .before .before .before .put-window .kept .0 ∙ c16 .loop .inv .3,
+    )
 
 enum-told : tie.Need-enum-told Inv-loop μ-loop
 enum-told c = search needs
@@ -126,8 +133,10 @@ returns-2 c =
     let c13 = c10 .before .before .before in
     let args = c13 .args in
     let line = args .line .now in
-    sym (tally-wrong line (c10 .loop .i) (c8 .next .result) (c6 .next2 .result) (args .m) (c10 .loop .n) (c10 .loop .ok) (c10 .loop .windows) (sym (c8 .next .ensures)) (c7 .if1 .left)
-    (sym (c6 .next2 .ensures)) (c5 .if2 .taken) (is-wrong _ (sym (c .before .before .read-window .ensures) ∙ c .enum-told .given .1))) ∙ c10 .loop .inv .0
+    sym (tally-wrong line (c10 .loop .i) (c8 .next .result) (c6 .next2 .result) (args .m) (c10 .loop .n) (c10 .loop .ok)
+    (c10 .loop .windows) (sym (c8 .next .ensures)) (c7 .if1 .left)
+    (sym (c6 .next2 .ensures)) (c5 .if2 .taken) (is-wrong _ (sym (c .before .before .read-window .ensures) ∙ c .enum-told .given .1)))
+    ∙ c10 .loop .inv .0
 
 sub-read-last : tie.Need-sub-read-last Inv-loop μ-loop
 sub-read-last c = search needs
@@ -152,7 +161,8 @@ part-read-last-end-2 c =
     let c4 = c .before .before .before .before in
     let c9 = c4 .before .before .before .before .before in
     let args = c9 .args in
-    let k : c .before .before .next2 .result ≤ length (args .line .now) = omega (arith, next-fits 32 (args .line .now) (c4 .next .result + 1) (omega arith)) in search (needs, k)
+    let k : c .before .before .next2 .result ≤ length (args .line .now) =
+    omega (arith, next-fits 32 (args .line .now) (c4 .next .result + 1) (omega arith)) in search (needs, k)
 
 read-last-requires : tie.Need-read-last-requires Inv-loop μ-loop
 read-last-requires c κs = search needs
@@ -174,7 +184,8 @@ keeps-requires-2 c κs = search needs
 
 same-length-3 : tie.Need-same-length-3 Inv-loop μ-loop
 same-length-3 c =
-    let c16 = c .before .before .before .before .before .before .before .before .before .before .before .before .before .before .before .before in
+    let c16 = c .before .before .before .before .before .before .before .before .before .before .before .before .before .before .before
+    .before in
     c .before .before .before .put-window2 .kept .0 ∙ c16 .loop .inv .3
 
 returns-3 : tie.Need-returns-3 Inv-loop μ-loop
@@ -190,9 +201,14 @@ returns-3 c =
     let args = c19 .args in
     let line = args .line .now in
     let k : c12 .next2 .result ≡ length line = omega (arith, next-fits 32 line (c14 .next .result + 1) (omega arith)) in
-    let g = ap (λ v. lastOf (take (c14 .next .result - c16 .loop .i) (drop (c16 .loop .i) line)) v) (sym (rest-part line (c14 .next .result + 1) (c12 .next2 .result) k))
-    ∙ is-of (lastOf (take (c14 .next .result - c16 .loop .i) (drop (c16 .loop .i) line)) (take (c12 .next2 .result - (c14 .next .result + 1)) (drop (c14 .next .result + 1) line))) _ _ (sym (c8 .read-last .ensures) ∙ c6 .a2 .given .1) in
-    rw (c .keeps2 .ensures, c .before .before .before .put-window2 .ensures) (sym (tally-last line (c16 .loop .i) (c14 .next .result) (c12 .next2 .result) (args .m) (c16 .loop .n) (c16 .loop .ok) (c16 .loop .windows) (sym (c14 .next .ensures)) (c13 .if1 .left)
+    let g = ap (λ v. lastOf (take (c14 .next .result - c16 .loop .i) (drop (c16 .loop .i) line)) v)
+    (sym (rest-part line (c14 .next .result + 1) (c12 .next2 .result) k))
+    ∙ is-of (lastOf (take (c14 .next .result - c16 .loop .i) (drop (c16 .loop .i) line))
+    (take (c12 .next2 .result - (c14 .next .result + 1)) (drop (c14 .next .result + 1) line))) _ _
+    (sym (c8 .read-last .ensures) ∙ c6 .a2 .given .1) in
+    rw (c .keeps2 .ensures, c .before .before .before .put-window2 .ensures)
+    (sym (tally-last line (c16 .loop .i) (c14 .next .result) (c12 .next2 .result) (args .m) (c16 .loop .n) (c16 .loop .ok)
+    (c16 .loop .windows) (sym (c14 .next .ensures)) (c13 .if1 .left)
     (sym (c12 .next2 .ensures)) k _ g) ∙ c16 .loop .inv .0)
 
 enum-told-2 : tie.Need-enum-told-2 Inv-loop μ-loop
@@ -213,9 +229,13 @@ returns-4 c =
     let args = c13 .args in
     let line = args .line .now in
     let k : c6 .next2 .result ≡ length line = omega (arith, next-fits 32 line (c8 .next .result + 1) (omega arith)) in
-    let g = ap (λ v. lastOf (take (c8 .next .result - c10 .loop .i) (drop (c10 .loop .i) line)) v) (sym (rest-part line (c8 .next .result + 1) (c6 .next2 .result) k))
-    ∙ is-wrong (lastOf (take (c8 .next .result - c10 .loop .i) (drop (c10 .loop .i) line)) (take (c6 .next2 .result - (c8 .next .result + 1)) (drop (c8 .next .result + 1) line))) (sym (c .before .before .read-last .ensures) ∙ c .enum-told2 .given .1) in
-    sym (tally-last-wrong line (c10 .loop .i) (c8 .next .result) (c6 .next2 .result) (args .m) (c10 .loop .n) (c10 .loop .ok) (c10 .loop .windows) (sym (c8 .next .ensures)) (c7 .if1 .left)
+    let g = ap (λ v. lastOf (take (c8 .next .result - c10 .loop .i) (drop (c10 .loop .i) line)) v)
+    (sym (rest-part line (c8 .next .result + 1) (c6 .next2 .result) k))
+    ∙ is-wrong (lastOf (take (c8 .next .result - c10 .loop .i) (drop (c10 .loop .i) line))
+    (take (c6 .next2 .result - (c8 .next .result + 1)) (drop (c8 .next .result + 1) line)))
+    (sym (c .before .before .read-last .ensures) ∙ c .enum-told2 .given .1) in
+    sym (tally-last-wrong line (c10 .loop .i) (c8 .next .result) (c6 .next2 .result) (args .m) (c10 .loop .n) (c10 .loop .ok)
+    (c10 .loop .windows) (sym (c8 .next .ensures)) (c7 .if1 .left)
     (sym (c6 .next2 .ensures)) k g) ∙ c10 .loop .inv .0
 
 same-length-5 : tie.Need-same-length-5 Inv-loop μ-loop
@@ -225,7 +245,8 @@ returns-5 : tie.Need-returns-5 Inv-loop μ-loop
 returns-5 c =
     let c4 = c .before .before .before .before in
     let args = c4 .args in
-    sym (tally-end (args .line .now) (c .before .loop .i) (args .m) (c .before .loop .n) (c .before .loop .ok) (c .before .loop .windows) (c .loop-test .left)) ∙ c .before .loop .inv .0
+    sym (tally-end (args .line .now) (c .before .loop .i) (args .m) (c .before .loop .n) (c .before .loop .ok) (c .before .loop .windows)
+    (c .loop-test .left)) ∙ c .before .loop .inv .0
 
 pub read-windows-spec : {M : Type 1} → statement M
 read-windows-spec =

@@ -36,15 +36,21 @@ loop-less c = search needs
 loop-again : tie.Need-loop-again Inv-loop μ-loop
 loop-again c =
     let c4 = c .before .before .before .before in
-    let c6 = c4 .before .before in
-    (sym (next-other 10 (c6 .args .text .now) (c4 .loop .i) (c .before .before .before .loop-test .taken) (digit-not-end _ (sym (c .before .digit .ensures) ∙ c .if1 .taken))) ∙ c4 .loop .inv .0, omega arith, c4 .loop .inv .2)
+    let c6 = c4 .before .before in (
+      sym (next-other 10 (c6 .args .text .now) (c4 .loop .i) (c .before .before .before .loop-test .taken)
+          (digit-not-end _ (sym (c .before .digit .ensures) ∙ c .if1 .taken))) ∙ c4 .loop .inv .0,
+      omega arith,
+      c4 .loop .inv .2,
+    )
 
 returns : tie.Need-returns Inv-loop μ-loop
 returns c =
     let c4 = c .before .before .before .before in
     let c5 = c4 .before in
-    let c7 = c5 .before .before in
-    (omega (arith, c5 .loop .inv .0, next-here 10 (c7 .args .text .now) (c5 .loop .i) (c4 .loop-test .taken) (c .match .keys2)), c4 .loop-test .taken)
+    let c7 = c5 .before .before in (
+      omega (arith, c5 .loop .inv .0, next-here 10 (c7 .args .text .now) (c5 .loop .i) (c4 .loop-test .taken) (c .match .keys2)),
+      c4 .loop-test .taken,
+    )
 
 add-i-2 : tie.Need-add-i-2 Inv-loop μ-loop
 add-i-2 c = search needs
@@ -57,8 +63,11 @@ loop-again-2 c =
     let c4 = c .before .before .before .before in
     let c8 = c4 .before .before .before .before in
     let c9 = c8 .before in
-    let c11 = c9 .before .before in
-    (sym (next-other 10 (c11 .args .text .now) (c9 .loop .i) (c8 .loop-test .taken) (c4 .match .rest .1)) ∙ c9 .loop .inv .0, omega arith, c9 .loop .inv .2)
+    let c11 = c9 .before .before in (
+      sym (next-other 10 (c11 .args .text .now) (c9 .loop .i) (c8 .loop-test .taken) (c4 .match .rest .1)) ∙ c9 .loop .inv .0,
+      omega arith,
+      c9 .loop .inv .2,
+    )
 
 returns-2 : tie.Need-returns-2 Inv-loop μ-loop
 returns-2 c =
@@ -66,7 +75,8 @@ returns-2 c =
     let c6 = c5 .before in
     let c8 = c6 .before .before in
     let args = c8 .args in
-    odd-byte (args .text .now) (args .at) (c6 .loop .i) (c6 .loop .inv .0) (c6 .loop .inv .1) (c5 .loop-test .taken) (c .before .match .rest .1) (odd-low _ (omega arith) (c .before .match .rest .0 .1) (c .before .match .rest .1))
+    odd-byte (args .text .now) (args .at) (c6 .loop .i) (c6 .loop .inv .0) (c6 .loop .inv .1) (c5 .loop-test .taken)
+    (c .before .match .rest .1) (odd-low _ (omega arith) (c .before .match .rest .0 .1) (c .before .match .rest .1))
 
 returns-3 : tie.Need-returns-3 Inv-loop μ-loop
 returns-3 c =
@@ -76,7 +86,8 @@ returns-3 c =
     let c8 = c7 .before in
     let c10 = c8 .before .before in
     let args = c10 .args in
-    odd-byte (args .text .now) (args .at) (c8 .loop .i) (c8 .loop .inv .0) (c8 .loop .inv .1) (c7 .loop-test .taken) (c .before .before .before .match .rest .1) (odd-middle _ (sym (c5 .digit .ensures) ∙ c4 .if1 .left) (omega arith) (omega arith))
+    odd-byte (args .text .now) (args .at) (c8 .loop .i) (c8 .loop .inv .0) (c8 .loop .inv .1) (c7 .loop-test .taken)
+    (c .before .before .before .match .rest .1) (odd-middle _ (sym (c5 .digit .ensures) ∙ c4 .if1 .left) (omega arith) (omega arith))
 
 returns-4 : tie.Need-returns-4 Inv-loop μ-loop
 returns-4 c =
@@ -85,7 +96,8 @@ returns-4 c =
     let c9 = c8 .before in
     let c11 = c9 .before .before in
     let args = c11 .args in
-    odd-byte (args .text .now) (args .at) (c9 .loop .i) (c9 .loop .inv .0) (c9 .loop .inv .1) (c8 .loop-test .taken) (c4 .match .rest .1) (odd-high _ (omega arith))
+    odd-byte (args .text .now) (args .at) (c9 .loop .i) (c9 .loop .inv .0) (c9 .loop .inv .1) (c8 .loop-test .taken) (c4 .match .rest .1)
+    (odd-high _ (omega arith))
 
 add-i-3 : tie.Need-add-i-3 Inv-loop μ-loop
 add-i-3 c = search needs
@@ -97,13 +109,26 @@ loop-again-3 : tie.Need-loop-again-3 Inv-loop μ-loop
 loop-again-3 c =
     let c4 = c .before .before .before .before in
     let c5 = c4 .before in
-    let c7 = c5 .before .before in
-    (sym (next-other 10 (c7 .args .text .now) (c5 .loop .i) (c4 .loop-test .taken) (λ e. ⊎-elim (λ w. omega (arith, w .keys1)) (λ w. w .0 .rest .1 e) (c .match .came))) ∙ c5 .loop .inv .0, omega arith, c5 .loop .inv .2)
+    let c7 = c5 .before .before in (
+      sym (next-other 10 (c7 .args .text .now) (c5 .loop .i) (c4 .loop-test .taken)
+          (λ e. ⊎-elim (λ w. omega (arith, w .keys1)) (λ w. w .0 .rest .1 e) (c .match .came))) ∙ c5 .loop .inv .0,
+      omega arith,
+      c5 .loop .inv .2,
+    )
 
 returns-5 : tie.Need-returns-5 Inv-loop μ-loop
 returns-5 c =
     let args = c .before .before .before .args in
-    record { rest = []; are = lines-unended (args .text .now) (args .at) (c .before .loop .inv .2) (omega (arith, c .before .loop .inv .0, next-end 10 (args .text .now) (c .before .loop .i) (c .loop-test .left), next-fits 10 (args .text .now) (args .at) (omega arith))) }
+    record {
+      rest = [];
+      are = lines-unended (args .text .now) (args .at) (c .before .loop .inv .2)
+          (omega (
+            arith,
+            c .before .loop .inv .0,
+            next-end 10 (args .text .now) (c .before .loop .i) (c .loop-test .left),
+            next-fits 10 (args .text .now) (args .at) (omega arith),
+          ));
+    }
 
 pub line-end-spec : {M : Type 1} → statement M
 line-end-spec =

@@ -36,7 +36,8 @@ loop-less c = search needs
 loop-again : tie.Need-loop-again Inv-loop μ-loop
 loop-again c =
     let l = c .before .before .before in
-    sym (next-other (l .before .args .d) (l .before .args .s .now) (l .loop .i) (c .before .before .loop-test .taken) (c .if1 .left)) ∙ l .loop .inv
+    sym (next-other (l .before .args .d) (l .before .args .s .now) (l .loop .i) (c .before .before .loop-test .taken) (c .if1 .left))
+    ∙ l .loop .inv
 
 returns-2 : tie.Need-returns-2 Inv-loop μ-loop
 returns-2 c =

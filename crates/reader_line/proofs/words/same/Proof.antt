@@ -40,8 +40,10 @@ loop-less c = search needs
 
 loop-again : tie.Need-loop-again Inv-loop μ-loop
 loop-again c =
-    let c4 = c .before .before .before .before in
-    (sym (byte-same _ _ (c4 .loop .i) (c .before .before .before .loop-test .taken) (omega arith) (c .if2 .left)) ∙ c4 .loop .inv .0, c4 .loop .inv .1)
+    let c4 = c .before .before .before .before in (
+      sym (byte-same _ _ (c4 .loop .i) (c .before .before .before .loop-test .taken) (omega arith) (c .if2 .left)) ∙ c4 .loop .inv .0,
+      c4 .loop .inv .1,
+    )
 
 returns-3 : tie.Need-returns-3 Inv-loop μ-loop
 returns-3 c = sym (same-end _ _ (c .before .loop .i) (c .loop-test .left) (omega arith)) ∙ c .before .loop .inv .0

@@ -49,7 +49,8 @@ loop-again c =
     let l = t .before .before .before .before in
     let d : c .wide .result ≤ 9 = omega arith in (
       rw (c .wide .ensures)
-          (sym (digit _ (l .loop .v) (l .loop .i) (t .before .before .before .loop-test .taken) (inside _ (t .before .if1 .left) (t .if2 .taken))) ∙ l .loop .inv .0),
+          (sym (digit _ (l .loop .v) (l .loop .i) (t .before .before .before .loop-test .taken)
+          (inside _ (t .before .if1 .left) (t .if2 .taken))) ∙ l .loop .inv .0),
       ten-more (l .loop .v) (l .loop .i) _ (l .loop .inv .1) d,
       l .loop .inv .2,
     )
@@ -63,7 +64,8 @@ returns-2 : tie.Need-returns-2 Inv-loop μ-loop
 returns-2 c =
     let c4 = c .before .before .before .before in
     let l = c4 in
-    ap asNumber (sym (other _ (l .loop .v) (l .loop .i) (c .before .before .before .loop-test .taken) (above _ (c .if2 .left))) ∙ l .loop .inv .0)
+    ap asNumber (sym (other _ (l .loop .v) (l .loop .i) (c .before .before .before .loop-test .taken) (above _ (c .if2 .left)))
+    ∙ l .loop .inv .0)
 
 returns-3 : tie.Need-returns-3 Inv-loop μ-loop
 returns-3 c =

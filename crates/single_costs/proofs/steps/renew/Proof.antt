@@ -12,7 +12,8 @@ use Rattle.single_costs.proofs.steps.renew.Statement.{statement}
 use Rattle.single_costs.proofs.steps.renew.Tie as tie
 
 abbrev Inv-loop : tie.InvT-loop
-Inv-loop starts ends live₀ costs n m t x₀ r₀ j₀ live x r j = (j ≤ m) × (length live ≡ length live₀) × Thinned ends live₀ live t j x × Seen starts ends live₀ costs n t j r
+Inv-loop starts ends live₀ costs n m t x₀ r₀ j₀ live x r j = (j ≤ m) × (length live ≡ length live₀) × Thinned ends live₀ live t j x
+    × Seen starts ends live₀ costs n t j r
 
 abbrev μ-loop : tie.MeasureT-loop
 μ-loop starts ends live₀ costs n m t x₀ r₀ j₀ live x r j = m - j
@@ -37,12 +38,20 @@ slice-write-live c = omega (arith, c .before .before .loop .inv .2 .short)
 mul-e : tie.Need-mul-e Inv-loop μ-loop
 mul-e c =
     let c7 = c .before .before .before .before .before .before .before in
-    omega (arith, c7 .pre .1 .0 (c .before .before .loop .j) (c .before .loop-test .taken), c .before .before .loop .inv .2 .rest (c .before .before .loop .j) (omega arith))
+    omega (
+      arith,
+      c7 .pre .1 .0 (c .before .before .loop .j) (c .before .loop-test .taken),
+      c .before .before .loop .inv .2 .rest (c .before .before .loop .j) (omega arith),
+    )
 
 shared-slice-read-e : tie.Need-shared-slice-read-e Inv-loop μ-loop
 shared-slice-read-e c =
     let c8 = c .before .before .before .before .before .before .before .before in
-    omega (arith, c8 .pre .1 .0 (c .before .before .before .loop .j) (c .before .before .loop-test .taken), c .before .before .before .loop .inv .2 .rest (c .before .before .before .loop .j) (omega arith))
+    omega (
+      arith,
+      c8 .pre .1 .0 (c .before .before .before .loop .j) (c .before .before .loop-test .taken),
+      c .before .before .before .loop .inv .2 .rest (c .before .before .before .loop .j) (omega arith),
+    )
 
 count-requires : tie.Need-count-requires Inv-loop μ-loop
 count-requires c κs = omega (arith, c .before .before .before .loop .inv .2 .short)
@@ -51,7 +60,11 @@ mul-consider : tie.Need-mul-consider Inv-loop μ-loop
 mul-consider c =
     let c4 = c .before .before .before .before in
     let c9 = c4 .before .before .before .before .before in
-    omega (arith, c9 .pre .1 .0 (c4 .loop .j) (c .before .before .before .loop-test .taken), c4 .loop .inv .2 .rest (c4 .loop .j) (omega arith))
+    omega (
+      arith,
+      c9 .pre .1 .0 (c4 .loop .j) (c .before .before .before .loop-test .taken),
+      c4 .loop .inv .2 .rest (c4 .loop .j) (omega arith),
+    )
 
 shared-slice-read-consider : tie.Need-shared-slice-read-consider Inv-loop μ-loop
 shared-slice-read-consider c =
@@ -64,8 +77,10 @@ consider-requires : tie.Need-consider-requires Inv-loop μ-loop
 consider-requires c κs =
     let c4 = c .before .before .before .before in
     let c5 = c4 .before in
-    let c10 = c5 .before .before .before .before .before in
-    (omega (arith, c10 .pre .1 .0 (c5 .loop .j) (c4 .loop-test .taken), c5 .loop .inv .2 .rest (c5 .loop .j) (omega arith)), omega (arith, c5 .loop .inv .3 .within))
+    let c10 = c5 .before .before .before .before .before in (
+      omega (arith, c10 .pre .1 .0 (c5 .loop .j) (c4 .loop-test .taken), c5 .loop .inv .2 .rest (c5 .loop .j) (omega arith)),
+      omega (arith, c5 .loop .inv .3 .within),
+    )
 
 add-j : tie.Need-add-j Inv-loop μ-loop
 add-j c = search needs
@@ -78,8 +93,15 @@ loop-again c =
     let c5 = c .before .before .before .before .before in
     let c6 = c5 .before in
     let c7 = c6 .before in
-    let c11 = c7 .before .before .before .before in
-    (omega arith, simp length-set (omega arith), rw (c .before .before .count .ensures) (thinned-more _ _ _ _ _ _ (omega arith) (c6 .loop .inv .2)), rw (c .consider .ensures, c6 .loop .inv .2 .rest (c6 .loop .j) (omega arith)) (seen-more _ _ _ _ _ _ _ _ (λ q. omega (arith, c7 .shared-slice-known3 .given q)) (c11 .pre .1 .0 (c6 .loop .j) (c5 .loop-test .taken)) (c6 .loop .inv .3)))
+    let c11 = c7 .before .before .before .before in (
+      omega arith,
+      simp length-set (omega arith),
+      rw (c .before .before .count .ensures)
+          (thinned-more _ _ _ _ _ _ (omega arith) (c6 .loop .inv .2)),
+      rw (c .consider .ensures, c6 .loop .inv .2 .rest (c6 .loop .j) (omega arith))
+          (seen-more _ _ _ _ _ _ _ _ (λ q. omega (arith, c7 .shared-slice-known3 .given q))
+          (c11 .pre .1 .0 (c6 .loop .j) (c5 .loop-test .taken)) (c6 .loop .inv .3)),
+    )
 
 end-of-requires : tie.Need-end-of-requires Inv-loop μ-loop
 end-of-requires c κs = (c .before .loop .inv .3 .within, omega arith)
@@ -94,7 +116,14 @@ same-length : tie.Need-same-length Inv-loop μ-loop
 same-length c = search needs
 
 returns : tie.Need-returns Inv-loop μ-loop
-returns c = let e = le-antisymm (c .before .before .before .loop .inv .0) (c .before .before .loop-test .left) in record { bid = c .before .before .before .loop .r; thinned = rw e at (c .before .before .before .loop .inv .2); seen = rw e at (c .before .before .before .loop .inv .3); cost-is = refl; end-is = c .before .end-of .ensures }
+returns c = let e = le-antisymm (c .before .before .before .loop .inv .0) (c .before .before .loop-test .left) in
+    record {
+      bid = c .before .before .before .loop .r;
+      thinned = rw e at (c .before .before .before .loop .inv .2);
+      seen = rw e at (c .before .before .before .loop .inv .3);
+      cost-is = refl;
+      end-is = c .before .end-of .ensures;
+    }
 
 pub renew-spec : {M : Type 1} → statement M
 renew-spec =

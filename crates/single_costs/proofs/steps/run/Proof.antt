@@ -11,7 +11,9 @@ use Rattle.single_costs.proofs.steps.run.Statement.{statement}
 use Rattle.single_costs.proofs.steps.run.Tie as tie
 
 abbrev Inv-loop : tie.InvT-loop
-Inv-loop starts ends prices order live₀ costs₀ skip from len stop n lead₀ q₀ live costs lead q = (q ≤ length prices) × (length live ≡ length live₀) × (length costs ≡ length costs₀) × Running skip starts ends prices order costs live from q (lead .live) (lead .cost) (lead .end) stop
+Inv-loop starts ends prices order live₀ costs₀ skip from len stop n lead₀ q₀ live costs lead q = (q ≤ length prices)
+    × (length live ≡ length live₀) × (length costs ≡ length costs₀)
+    × Running skip starts ends prices order costs live from q (lead .live) (lead .cost) (lead .end) stop
 
 abbrev μ-loop : tie.MeasureT-loop
 μ-loop starts ends prices order live₀ costs₀ skip from len stop n lead₀ q₀ live costs lead q = length prices - q
@@ -57,8 +59,21 @@ step-requires c κs =
     let c5 = c .before .before .before .before .before in
     let c6 = c5 .before in
     let c13 = c6 .before .before .before .before .before .before .before in
-    let pre = c13 .pre in
-    (pre .0, ((omega (arith, pre .1 .0), omega (arith, pre .1 .0), omega (arith, pre .1 .0, c6 .loop .inv .1), omega (arith, pre .1 .0, c6 .loop .inv .2)), ((c5 .loop-test .taken, pre .1 .1 .0 .1, c .before .before .if1 .left), c6 .loop .inv .3)))
+    let pre = c13 .pre in (
+      pre .0,
+      (
+        (
+          omega (arith, pre .1 .0),
+          omega (arith, pre .1 .0),
+          omega (arith, pre .1 .0, c6 .loop .inv .1),
+          omega (arith, pre .1 .0, c6 .loop .inv .2),
+        ),
+        (
+          (c5 .loop-test .taken, pre .1 .1 .0 .1, c .before .before .if1 .left),
+          c6 .loop .inv .3,
+        ),
+      ),
+    )
 
 add-q : tie.Need-add-q Inv-loop μ-loop
 add-q c = search needs
@@ -70,8 +85,12 @@ loop-again : tie.Need-loop-again Inv-loop μ-loop
 loop-again c =
     let c4 = c .before .before .before .before in
     let c10 = c4 .before .before .before .before .before .before in
-    let c11 = c10 .before in
-    (omega (arith, c10 .loop-test .taken), omega (arith, c11 .loop .inv .1, c4 .step .kept), omega (arith, c11 .loop .inv .2, c4 .step .kept), c4 .step .ensures)
+    let c11 = c10 .before in (
+      omega (arith, c10 .loop-test .taken),
+      omega (arith, c11 .loop .inv .1, c4 .step .kept),
+      omega (arith, c11 .loop .inv .2, c4 .step .kept),
+      c4 .step .ensures,
+    )
 
 same-length-3 : tie.Need-same-length-3 Inv-loop μ-loop
 same-length-3 c = search needs

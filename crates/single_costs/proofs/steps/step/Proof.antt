@@ -26,8 +26,16 @@ shared-slice-read-lead-at c =
 lead-at-requires : tie.Need-lead-at-requires
 lead-at-requires c κs =
     let c10 = c .before .before .before .before .before .before .before .before .before .before in
-    let pre = c10 .pre in
-    ((omega (arith, pre .1 .0, pre .1 .1 .0, pre .1 .1 .1 .reach .few), omega (arith, pre .1 .0, pre .1 .1 .0, pre .1 .1 .1 .reach .few), omega (arith, pre .1 .0), omega (arith, pre .0 .starts), omega (arith, pre .0 .ends)), (live-below _ _ _ _ _ _ _ (pre .0) _ _ _ _ _ _ (omega (arith, pre .1 .1 .0)) (pre .1 .1 .1), pre .1 .1 .1 .guard))
+    let pre = c10 .pre in (
+      (
+        omega (arith, pre .1 .0, pre .1 .1 .0, pre .1 .1 .1 .reach .few),
+        omega (arith, pre .1 .0, pre .1 .1 .0, pre .1 .1 .1 .reach .few),
+        omega (arith, pre .1 .0),
+        omega (arith, pre .0 .starts),
+        omega (arith, pre .0 .ends),
+      ),
+      (live-below _ _ _ _ _ _ _ (pre .0) _ _ _ _ _ _ (omega (arith, pre .1 .1 .0)) (pre .1 .1 .1), pre .1 .1 .1 .guard),
+    )
 
 mul-entry : tie.Need-mul-entry
 mul-entry c =
@@ -45,7 +53,8 @@ entry-requires : tie.Need-entry-requires
 entry-requires c κs =
     let c14 = c .before .before .before .before .before .before .before .before .before .before .before .before .before .before in
     let pre = c14 .pre in
-    let y = led-ready _ _ _ _ _ _ _ _ (pre .0) _ _ _ _ _ _ _ _ _ (pre .1 .1 .0 .0) (pre .1 .1 .1) (c .before .before .before .lead-at .ensures) in
+    let y = led-ready _ _ _ _ _ _ _ _ (pre .0) _ _ _ _ _ _ _ _ _ (pre .1 .1 .0 .0) (pre .1 .1 .1)
+    (c .before .before .before .lead-at .ensures) in
     ready-fits _ _ _ _ _ _ _ (pre .0) _ _ _ _ (pre .1 .1 .0 .0) (pre .1 .1 .0 .1) y
 
 mul-costs : tie.Need-mul-costs
@@ -65,21 +74,24 @@ mul-live c =
     let c4 = c .before .before .before .before in
     let c15 = c4 .before .before .before .before .before .before .before .before .before .before .before in
     let pre = c15 .pre in
-    let y = led-ready _ _ _ _ _ _ _ _ (pre .0) _ _ _ _ _ _ _ _ _ (pre .1 .1 .0 .0) (pre .1 .1 .1) (c4 .lead-at .ensures) in omega (arith, y .reach .few, pre .1 .0, pre .1 .1 .0, c4 .lead-at .kept)
+    let y = led-ready _ _ _ _ _ _ _ _ (pre .0) _ _ _ _ _ _ _ _ _ (pre .1 .1 .0 .0) (pre .1 .1 .1) (c4 .lead-at .ensures) in
+    omega (arith, y .reach .few, pre .1 .0, pre .1 .1 .0, c4 .lead-at .kept)
 
 slice-write-live : tie.Need-slice-write-live
 slice-write-live c =
     let c4 = c .before .before .before .before in
     let c15 = c4 .before .before .before .before .before .before .before .before .before .before .before in
     let pre = c15 .pre in
-    let y = led-ready _ _ _ _ _ _ _ _ (pre .0) _ _ _ _ _ _ _ _ _ (pre .1 .1 .0 .0) (pre .1 .1 .1) (c4 .lead-at .ensures) in omega (arith, y .reach .few, pre .1 .0, pre .1 .1 .0, c4 .lead-at .kept)
+    let y = led-ready _ _ _ _ _ _ _ _ (pre .0) _ _ _ _ _ _ _ _ _ (pre .1 .1 .0 .0) (pre .1 .1 .1) (c4 .lead-at .ensures) in
+    omega (arith, y .reach .few, pre .1 .0, pre .1 .1 .0, c4 .lead-at .kept)
 
 add-t16 : tie.Need-add-t16
 add-t16 c =
     let c4 = c .before .before .before .before in
     let c15 = c4 .before .before .before .before .before .before .before .before .before .before .before in
     let pre = c15 .pre in
-    let y = led-ready _ _ _ _ _ _ _ _ (pre .0) _ _ _ _ _ _ _ _ _ (pre .1 .1 .0 .0) (pre .1 .1 .1) (c4 .lead-at .ensures) in omega (arith, y .reach .few, pre .1 .0, pre .1 .1 .0, c4 .lead-at .kept)
+    let y = led-ready _ _ _ _ _ _ _ _ (pre .0) _ _ _ _ _ _ _ _ _ (pre .1 .1 .0 .0) (pre .1 .1 .1) (c4 .lead-at .ensures) in
+    omega (arith, y .reach .few, pre .1 .0, pre .1 .1 .0, c4 .lead-at .kept)
 
 same-length : tie.Need-same-length
 same-length c = search needs
@@ -94,7 +106,8 @@ returns c =
     let pre = c15 .pre in
     let y = led-ready _ _ _ _ _ _ _ _ (pre .0) _ _ _ _ _ _ _ _ _ (pre .1 .1 .0 .0) (pre .1 .1 .1) (c4 .lead-at .ensures) in
     let g = pre .1 .1 .1 in
-    rw (c .entry .ensures) (turn _ _ _ _ _ _ _ (pre .0) _ _ _ _ _ _ (pre .1 .1 .0 .0) (pre .1 .1 .0 .1) (omega (arith, pre .1 .0)) (omega (arith, y .reach .few, pre .1 .0, pre .1 .1 .0, c4 .lead-at .kept)) (omega (arith, pre .1 .1 .0)) (g .guard) (g .done) y)
+    rw (c .entry .ensures) (turn _ _ _ _ _ _ _ (pre .0) _ _ _ _ _ _ (pre .1 .1 .0 .0) (pre .1 .1 .0 .1) (omega (arith, pre .1 .0))
+    (omega (arith, y .reach .few, pre .1 .0, pre .1 .1 .0, c4 .lead-at .kept)) (omega (arith, pre .1 .1 .0)) (g .guard) (g .done) y)
 
 pub step-spec : {M : Type 1} → statement M
 step-spec =

@@ -30,7 +30,12 @@ add-sets c =
     let c6 = c4 .before .before in
     let c7 = c6 .before in
     let args = c7 .args in
-    omega (arith, c .mask .ensures, c4 .copy-row .ensures .written (args .i / 64) (omega arith), word-room (args .sets .now) (args .from) (args .i) (λ j. omega (arith, c6 .slice-known .given j)) (omega arith) (c7 .pre .1))
+    omega (
+      arith,
+      c .mask .ensures,
+      c4 .copy-row .ensures .written (args .i / 64) (omega arith),
+      word-room (args .sets .now) (args .from) (args .i) (λ j. omega (arith, c6 .slice-known .given j)) (omega arith) (c7 .pre .1),
+    )
 
 mul-sets-2 : tie.Need-mul-sets-2
 mul-sets-2 c = search needs

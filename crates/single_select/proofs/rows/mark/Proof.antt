@@ -49,7 +49,12 @@ loop-less : tie.Need-loop-less Inv-loop μ-loop
 loop-less c = search needs
 
 loop-again : tie.Need-loop-again Inv-loop μ-loop
-loop-again c = (omega arith, simp length-set (omega arith), written-more _ _ _ _ _ (omega arith) (bit-row _ _ _ (λ j. omega (arith, c .shared-slice-known .given j)) (omega arith)) (c .before .before .loop .inv .2))
+loop-again c = (
+  omega arith,
+  simp length-set (omega arith),
+  written-more _ _ _ _ _ (omega arith) (bit-row _ _ _ (λ j. omega (arith, c .shared-slice-known .given j)) (omega arith))
+      (c .before .before .loop .inv .2),
+)
 
 same-length : tie.Need-same-length Inv-loop μ-loop
 same-length c = search needs

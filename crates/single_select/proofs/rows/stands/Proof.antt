@@ -51,14 +51,22 @@ returns c =
     let c4 = c .before .before .before .before in
     let c5 = c4 .before in
     let args = c5 .args in
-    let e : c4 .loop .j ≡ c4 .loop .j - 1 + 1 = omega arith in sym (lt-ltb _ _ (word-less (args .sets .now) (λ j. omega (arith, c .before .before .shared-slice-known .given j)) (args .q) (args .r) (c4 .loop .j - 1) (omega arith) (rw e at (c4 .loop .inv .1)) (c .if1 .taken)))
+    let e : c4 .loop .j ≡ c4 .loop .j - 1 + 1 = omega arith in
+    sym (lt-ltb _ _ (word-less (args .sets .now) (λ j. omega (arith, c .before .before .shared-slice-known .given j)) (args .q)
+    (args .r) (c4 .loop .j - 1) (omega arith) (rw e at (c4 .loop .inv .1)) (c .if1 .taken)))
 
 returns-2 : tie.Need-returns-2 Inv-loop μ-loop
 returns-2 c =
     let c5 = c .before .before .before .before .before in
     let c6 = c5 .before in
     let args = c6 .args in
-    let e : c5 .loop .j ≡ c5 .loop .j - 1 + 1 = omega arith in sym (le-ltb (row (args .sets .now) (args .q)) (row (args .sets .now) (args .r)) (omega (arith, word-less (args .sets .now) (λ j. omega (arith, c .before .before .before .shared-slice-known .given j)) (args .r) (args .q) (c5 .loop .j - 1) (omega arith) (rw e at (sym (c5 .loop .inv .1))) (c .if2 .taken))))
+    let e : c5 .loop .j ≡ c5 .loop .j - 1 + 1 = omega arith in
+    sym (le-ltb (row (args .sets .now) (args .q)) (row (args .sets .now) (args .r))
+    (omega (
+      arith,
+      word-less (args .sets .now) (λ j. omega (arith, c .before .before .before .shared-slice-known .given j)) (args .r)
+          (args .q) (c5 .loop .j - 1) (omega arith) (rw e at (sym (c5 .loop .inv .1))) (c .if2 .taken),
+    )))
 
 loop-less : tie.Need-loop-less Inv-loop μ-loop
 loop-less c = search needs
@@ -68,12 +76,17 @@ loop-again c =
     let c5 = c .before .before .before .before .before in
     let c6 = c5 .before in
     let args = c6 .args in
-    let e : c5 .loop .j ≡ c5 .loop .j - 1 + 1 = omega arith in (omega arith, word-same (args .sets .now) (λ j. omega (arith, c .before .before .before .shared-slice-known .given j)) (args .q) (args .r) (c5 .loop .j - 1) (omega arith) (rw e at (c5 .loop .inv .1)) (le-antisymm (c .if2 .left) (c .before .if1 .left)))
+    let e : c5 .loop .j ≡ c5 .loop .j - 1 + 1 = omega arith in (
+      omega arith,
+      word-same (args .sets .now) (λ j. omega (arith, c .before .before .before .shared-slice-known .given j)) (args .q)
+          (args .r) (c5 .loop .j - 1) (omega arith) (rw e at (c5 .loop .inv .1)) (le-antisymm (c .if2 .left) (c .before .if1 .left)),
+    )
 
 returns-3 : tie.Need-returns-3 Inv-loop μ-loop
 returns-3 c =
     let args = c .before .before .args in
-    sym (le-ltb (row (args .sets .now) (args .q)) (row (args .sets .now) (args .r)) (omega (arith, all-same (args .sets .now) (args .q) (args .r) (c .before .loop .j) (omega arith) (c .before .loop .inv .1))))
+    sym (le-ltb (row (args .sets .now) (args .q)) (row (args .sets .now) (args .r))
+    (omega (arith, all-same (args .sets .now) (args .q) (args .r) (c .before .loop .j) (omega arith) (c .before .loop .inv .1))))
 
 pub stands-spec : {M : Type 1} → statement M
 stands-spec =

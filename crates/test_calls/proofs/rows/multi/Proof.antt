@@ -1,4 +1,5 @@
--- `rows::multi` meets its contract: it lends its rows to `award::award_multi`, and returns them with the answer (`LendsRows`). Assumes nothing.
+-- `rows::multi` meets its contract: it lends its rows to `award::award_multi`, and returns them with the answer (`LendsRows`).
+-- Assumes nothing.
 use contract.Running.{givenOf, tables, tablesOf}
 use denote.Triple.Spec.{tripleOf}
 use denote.Triple.Table.{entered, cited}
@@ -18,4 +19,5 @@ multi-spec 𝓤 H 𝓜 𝓖 𝓡 =
     entered 𝓤 H (tripleOf 𝓤 H (𝓖 .A) f.signature (f.spec 𝓤 H (𝓖 .A) (𝓜 .mem) (𝓡 .run)))
     (tables 𝓤 H 𝓜 𝓡 code.env .C) (tables 𝓤 H 𝓜 𝓡 code.env .Λ) #test_calls·rows·multi code.function (code.unfolded 𝓤 H 𝓜 𝓡)
     (meets 𝓤 H (𝓖 .A) (givenOf 𝓤 H 𝓜 𝓖) Multi #award·award-multi (tablesOf 𝓤 H 𝓜 (tables 𝓤 H 𝓜 𝓡 code.env))
-    (cited 𝓤 H (Award 𝓤 H (𝓖 .A) Multi) 𝓜 𝓡 code.env #award·award-multi award-def.routine code.calls-award·award-multi (award-thm.met 𝓤 H 𝓜 𝓖 𝓡)))
+    (cited 𝓤 H (Award 𝓤 H (𝓖 .A) Multi) 𝓜 𝓡 code.env #award·award-multi award-def.routine code.calls-award·award-multi
+    (award-thm.met 𝓤 H 𝓜 𝓖 𝓡)))

@@ -9,7 +9,13 @@ use Rattle.test_trials.proofs.brute.times.Reads as reads
 use Rattle.test_trials.proofs.brute.times.Lts as lts
 
 mul-result : tie.Need-mul-result
-mul-result c = record { fits = omega (arith, mul-le-mul {n₁ = c .args .a % 65536} {m₁ = c .args .b % 128} {n₂ = 65535} {m₂ = 127} (omega arith) (omega arith)) }
+mul-result c = record {
+  fits = omega (
+    arith,
+    mul-le-mul {n₁ = c .args .a % 65536} {m₁ = c .args .b % 128} {n₂ = 65535} {m₂ = 127}
+        (omega arith) (omega arith),
+  );
+}
 
 returns : tie.Need-returns
 returns c = search needs

@@ -63,7 +63,8 @@ same-length c =
     let c13 = c9 .before .before .before .before in
     let c18 = c13 .before .before .before .before .before in
     let c22 = c18 .before .before .before .before in
-    c .before .before .put5 .kept .0 ∙ c6 .loop .inv .1 ∙ c9 .put3 .kept .0 ∙ c13 .put2 .kept .0 ∙ c18 .put-number .kept .0 ∙ c22 .put .kept .0
+    c .before .before .put5 .kept .0 ∙ c6 .loop .inv .1 ∙ c9 .put3 .kept .0 ∙ c13 .put2 .kept .0 ∙ c18 .put-number .kept .0
+    ∙ c22 .put .kept .0
 
 returns : tie.Need-returns Inv-loop μ-loop
 returns c = search needs
