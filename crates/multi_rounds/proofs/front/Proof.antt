@@ -150,9 +150,10 @@ same-length-9 c =
 
 returns-3 : tie.Need-returns-3 Inv-loop μ-loop
 returns-3 c =
-    let c11 = c .before .before .before .before .before .before .before .before .before .before .before in
+    let c9 = c .before .before .before .before .before .before .before .before .before in
+    let c11 = c9 .before .before in
     let c19 = c11 .before .before .before .before .before .before .before .before in
-    let z : 0 < at (c11 .loop .num) 1 = omega arith in (
+    let z : 0 < at (c11 .loop .num) 1 = omega (arith, c9 .if1 .left) in (
       c11 .loop .inv .0 .tree,
       (
         is-exact (c19 .pre .0) (c11 .loop .inv .0) z
@@ -174,9 +175,10 @@ loop-less c =
     let c4 = c .before .before .before .before in
     let c7 = c4 .before .before .before in
     let c10 = c7 .before .before .before in
-    let c18 = c10 .before .before .before .before .before .before .before .before in
+    let c16 = c10 .before .before .before .before .before .before in
+    let c18 = c16 .before .before in
     let c26 = c18 .before .before .before .before .before .before .before .before in
-    let z : 0 < at (c18 .loop .num) 1 = omega arith in
+    let z : 0 < at (c18 .loop .num) 1 = omega (arith, c16 .if1 .left) in
     fewer (c26 .pre .0) (c18 .loop .inv .0) z (c10 .overlap .ensures .0) (c7 .if3 .left) _ (c4 .update .ensures .1)
 
 loop-again : tie.Need-loop-again Inv-loop μ-loop
@@ -184,9 +186,10 @@ loop-again c =
     let c4 = c .before .before .before .before in
     let c7 = c4 .before .before .before in
     let c10 = c7 .before .before .before in
-    let c18 = c10 .before .before .before .before .before .before .before .before in
+    let c16 = c10 .before .before .before .before .before .before in
+    let c18 = c16 .before .before in
     let c26 = c18 .before .before .before .before .before .before .before .before in
-    let z : 0 < at (c18 .loop .num) 1 = omega arith in (
+    let z : 0 < at (c18 .loop .num) 1 = omega (arith, c16 .if1 .left) in (
       counted (c26 .pre .0) (c18 .loop .inv .0) z (c10 .overlap .ensures .0) (c7 .if3 .left) (c4 .update .ensures .0)
           (c4 .update .ensures .1),
       c10 .overlap .ensures .1,

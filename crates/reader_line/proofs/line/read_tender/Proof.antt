@@ -117,7 +117,8 @@ enum-told c = search needs
 
 returns-6 : tie.Need-returns-6
 returns-6 c =
-    let c8 = c .before .before .before .before .before .before .before .before in
+    let c7 = c .before .before .before .before .before .before .before in
+    let c8 = c7 .before in
     let c9 = c8 .before in
     let c10 = c9 .before in
     let c11 = c10 .before in
@@ -125,7 +126,12 @@ returns-6 c =
     let c14 = c12 .before .before in
     let args = c14 .args in
     let line = args .line .now in
-    let h : c8 .next3 .result ≡ length line = omega (arith, next-fits 32 line (c10 .next2 .result + 1) (omega arith)) in
+    let h : c8 .next3 .result ≡ length line = omega (
+      arith,
+      c7 .if3 .left,
+      c8 .next3 .ensures,
+      next-fits 32 line (c10 .next2 .result + 1) (omega (arith, c9 .if2 .left)),
+    ) in
     noted-none _ (tender-unkind line (args .at) (c12 .next .result) (c10 .next2 .result) (c8 .next3 .result) (c14 .pre)
     (sym (c12 .next .ensures)) (c11 .if1 .left) (sym (c10 .next2 .ensures)) (c9 .if2 .left) (sym (c8 .next3 .ensures)) h
     (is-no-kind _ (sym (c .before .before .read-kind .ensures) ∙ c .enum-told .given .1)))

@@ -221,14 +221,20 @@ same-length-4 c =
 
 returns-4 : tie.Need-returns-4 Inv-loop μ-loop
 returns-4 c =
-    let c6 = c .before .before .before .before .before .before in
+    let c5 = c .before .before .before .before .before in
+    let c6 = c5 .before in
     let c7 = c6 .before in
     let c8 = c7 .before in
     let c10 = c8 .before .before in
     let c13 = c10 .before .before .before in
     let args = c13 .args in
     let line = args .line .now in
-    let k : c6 .next2 .result ≡ length line = omega (arith, next-fits 32 line (c8 .next .result + 1) (omega arith)) in
+    let k : c6 .next2 .result ≡ length line = omega (
+      arith,
+      c5 .if2 .left,
+      c6 .next2 .ensures,
+      next-fits 32 line (c8 .next .result + 1) (omega (arith, c7 .if1 .left)),
+    ) in
     let g = ap (λ v. lastOf (take (c8 .next .result - c10 .loop .i) (drop (c10 .loop .i) line)) v)
     (sym (rest-part line (c8 .next .result + 1) (c6 .next2 .result) k))
     ∙ is-wrong (lastOf (take (c8 .next .result - c10 .loop .i) (drop (c10 .loop .i) line))
