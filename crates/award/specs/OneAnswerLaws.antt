@@ -23,8 +23,8 @@ use Rattle.award_check.specs.Cells.{cellsOf, hasOf, pricesOf}
 use Rattle.award_check.specs.AlikeLaws.{prices-count}
 use Rattle.tender.specs.declared.AwardRow.{AwardRow}
 use Rattle.tender.specs.declared.Answer.{Answer}
-use Rattle.award_plain.specs.Award.{Outcome, awarded, declined, filled, costOf, paidOf, thinned, settled}
-use Rattle.award.specs.Promise.{lentAfter, told, Promise}
+use Rattle.award_plain.specs.Award.{Outcome, awarded, declined, awardRows, costOf, paidOf, thinned, settled}
+use Rattle.award.specs.Promise.{lentAfter, toldAward, Promise}
 use Rattle.award.specs.Right.{Callable, Bidders, EarliestIn, IsAward, IsRefusal, OneAnswer, tables-break-a-rule, rows-too-few}
 use Rattle.award.specs.Right.{minute-uncovered, one-bidder, award}
 use Rattle.award_plain.specs.AwardLaws.{award-none, award-nine, award-settles}
@@ -32,7 +32,7 @@ use Rattle.award_plain.specs.AwardLaws.{award-none, award-nine, award-settles}
 module _ (k : Kind) (t : Tender) (n : ℕ) (bids windows : List ℕ) (old new : List AwardRow) (a : Answer)
     (p : Promise k t n bids windows old new a) where
   abbrev o : Outcome
-  o = told n new a
+  o = toldAward n new a
 
   abbrev has : ℕ → ℕ → Bool
   has = hasOf t (rowsOf n bids) windows
@@ -47,11 +47,11 @@ module _ (k : Kind) (t : Tender) (n : ℕ) (bids windows : List ℕ) (old new : 
   unfolding lentAfter
   refusal r e = record { outcome = e; lent = p .rows ∙ ap (lentAfter old) e }
 
-  is-award : o ≡ awarded (filled k has ps L) (costOf k has ps L) (paidOf k has ps L) → IsAward k t n bids windows old new o
-  unfolding lentAfter filled
+  is-award : o ≡ awarded (awardRows k has ps L) (costOf k has ps L) (paidOf k has ps L) → IsAward k t n bids windows old new o
+  unfolding lentAfter awardRows
   is-award e = record {
     outcome = e;
-    lent = p .rows ∙ ap (lentAfter old) e ∙ ap (λ (m : ℕ). filled k has ps L ++ drop m old)
+    lent = p .rows ∙ ap (lentAfter old) e ∙ ap (λ (m : ℕ). awardRows k has ps L ++ drop m old)
         (length-listed (length ps) _ ∙ prices-count n bids);
   }
 

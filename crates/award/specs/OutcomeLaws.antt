@@ -19,7 +19,7 @@ use Rattle.award_check.specs.Cells.{cellsOf, hasOf, pricesOf}
 use Rattle.award_check.specs.Alike.{named, Alike}
 use Rattle.award_check.specs.AlikeLaws.{prices-count, price-named}
 use Rattle.tender.specs.declared.AwardRow.{AwardRow}
-use Rattle.award_plain.specs.Award.{won, Outcome, awarded, refused, number, awardOf}
+use Rattle.award_plain.specs.Award.{won, Outcome, awarded, refused, outcomeNumber, awardOf}
 use Rattle.award.specs.Promise.{lentAfter}
 use Rattle.award.specs.Gain.{rowFor, gain, AtMost}
 use Rattle.award.specs.Right.{LeastCover, WinnerAt, PaidByEight}
@@ -32,7 +32,7 @@ use Rattle.award.specs.TableLaws.{award-honest, row-is, row-fair}
 -- where the first names the bidder's true cost, its gain in the second is no higher.
 pub honest-outcome : (k : Kind) (t : Tender) (n i : ℕ) (bids windows bids′ windows′ : List ℕ) (lent lent′ : ℕ) (a a′ : Outcome) → i < n →
     Alike n i bids windows bids′ windows′ → ltb lent n ≡ ltb lent′ n →
-    a ≡ awardOf k t n bids windows lent → a′ ≡ awardOf k t n bids′ windows′ lent′ → (number a ≡ 9 → ⊥) → (number a′ ≡ 9 → ⊥) →
+    a ≡ awardOf k t n bids windows lent → a′ ≡ awardOf k t n bids′ windows′ lent′ → (outcomeNumber a ≡ 9 → ⊥) → (outcomeNumber a′ ≡ 9 → ⊥) →
     AtMost (gain (named bids i) (rowFor a′ i)) (gain (named bids i) (rowFor a i))
 unfolding named
 honest-outcome k t n i bids windows bids′ windows′ lent lent′ a a′ l d e x x′ h h′ =

@@ -16,14 +16,14 @@ lentAfter old (awarded rows cost paid) = rows ++ drop (length rows) old
 lentAfter old (refused n at) = old
 
 -- what a call on n bids told: its answer, and the first n of the lent rows where it awards
-unfoldable pub told : ℕ → List AwardRow → Answer → Outcome
-told n rows (Awarded totals) = awarded (take n rows) (totals .cost) (totals .paid)
-told n rows (Refused r) = declined r
+unfoldable pub toldAward : ℕ → List AwardRow → Answer → Outcome
+toldAward n rows (Awarded totals) = awarded (take n rows) (totals .cost) (totals .paid)
+toldAward n rows (Refused r) = declined r
 
 -- the promise of a call: it leaves the lent rows `new` and answers a
 pub record Promise (k : Kind) (t : Tender) (n : ℕ) (bids windows : List ℕ) (old new : List AwardRow) (a : Answer) : Type 0 where
-  pub answers : told n new a ≡ awardOf k t n bids windows (length old)
-  pub rows : new ≡ lentAfter old (told n new a)
+  pub answers : toldAward n new a ≡ awardOf k t n bids windows (length old)
+  pub rows : new ≡ lentAfter old (toldAward n new a)
 
 -- the award rows that an answer on n bids fills: one for each bid where it awards, none where it declines
 unfoldable pub rowsFilled : Answer → ℕ → ℕ

@@ -16,7 +16,7 @@ use Rattle.award_check.specs.Faults.{faultOf}
 use Rattle.award_check.specs.Cells.{cellsOf, noRow, hasOf, pricesOf}
 use Rattle.award_check.specs.Alike.{named}
 use Rattle.tender.specs.declared.AwardRow.{AwardRow}
-use Rattle.award_plain.specs.Award.{Outcome, awarded, refused, filled, costOf, paidOf}
+use Rattle.award_plain.specs.Award.{Outcome, awarded, refused, awardRows, costOf, paidOf}
 use Rattle.award.specs.Gain.{rowFor, gain, AtMost}
 
 -- no rule is broken, and there is an award row for every bid
@@ -38,8 +38,8 @@ pub record EarliestIn (t : Tender) (n : ℕ) (bids windows : List ℕ) (minute b
 -- the outcome is the award of the definitions, and it alone changed the lent rows
 pub record IsAward (k : Kind) (t : Tender) (n : ℕ) (bids windows : List ℕ) (old new : List AwardRow) (o : Outcome) : Type 0 where
   pub outcome : let has = hasOf t (rowsOf n bids) windows in let ps = pricesOf (rowsOf n bids) in let L = cellsOf t in
-      o ≡ awarded (filled k has ps L) (costOf k has ps L) (paidOf k has ps L)
-  pub lent : new ≡ filled k (hasOf t (rowsOf n bids) windows) (pricesOf (rowsOf n bids)) (cellsOf t) ++ drop n old
+      o ≡ awarded (awardRows k has ps L) (costOf k has ps L) (paidOf k has ps L)
+  pub lent : new ≡ awardRows k (hasOf t (rowsOf n bids) windows) (pricesOf (rowsOf n bids)) (cellsOf t) ++ drop n old
 
 -- a refusal leaves the lent rows as they were
 pub record IsRefusal (number place : ℕ) (old new : List AwardRow) (o : Outcome) : Type 0 where

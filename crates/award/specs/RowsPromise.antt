@@ -13,7 +13,7 @@ use Rattle.tender.specs.declared.AwardRow.{AwardRow}
 use Rattle.tender.specs.declared.Answer.{Answer}
 use Rattle.tender.specs.declared.Answer.the-variants.{Awarded, Refused}
 use Rattle.award_plain.specs.Award.{awarded}
-use Rattle.award.specs.Promise.{lentAfter, told, Promise, rowsFilled}
+use Rattle.award.specs.Promise.{lentAfter, toldAward, Promise, rowsFilled}
 use Rattle.award_layout.specs.LayoutLaws.{orderly}
 use borrow.Author.Tests.{ltb-false}
 use Rattle.award_plain.specs.Plain.{rowsIn, toldIn, PlainPromise}
@@ -32,8 +32,8 @@ after-fill n won cents totals old = ap (λ (m : ℕ). rowsIn n won cents ++ drop
 
 -- the rows then told are the same as the cells told
 same-told : (n : ℕ) (won cents : List ℕ) (a : Answer) (old : List AwardRow)
-    → told n (lentAfter old (toldIn n won cents a)) a ≡ toldIn n won cents a
-unfolding told toldIn lentAfter
+    → toldAward n (lentAfter old (toldIn n won cents a)) a ≡ toldIn n won cents a
+unfolding toldAward toldIn lentAfter
 same-told n won cents (Awarded totals) old =
     ap (λ (rows : List AwardRow). awarded rows (totals .cost) (totals .paid))
     (take-at (rowsIn n won cents) (drop (length (rowsIn n won cents)) old) n (rows-count n won cents))

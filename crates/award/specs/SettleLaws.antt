@@ -20,7 +20,7 @@ use Rattle.cover.specs.VcgLaws as vcg
 use Rattle.cover.specs.CriticalLaws as greedy
 use Rattle.cover.specs.SpareLaws.{others, others-below, spare-set, spare-bids, least-covers, greedy-covers}
 use Rattle.cover.specs.SettledLaws.{getD-listed, cost-sum}
-use Rattle.award_plain.specs.Award.{won, cents, awarded, filled, costOf, paidOf, thinned, settled}
+use Rattle.award_plain.specs.Award.{won, cents, awarded, awardRows, costOf, paidOf, thinned, settled}
 use Rattle.award_plain.specs.AwardLaws.{won-single, cents-single, won-multi, cents-multi, settled-is}
 use Rattle.award.specs.Gain.{lost, rowFor, gain, AtMost}
 use Rattle.award.specs.GainLaws.{gain-most}
@@ -101,8 +101,8 @@ abbrev pub rowIn : Kind → (ℕ → ℕ → Bool) → List ℕ → ℕ → ℕ 
 rowIn k has ps L i = record { won = won k has ps L i; cents = cents k has ps L i }
 
 pub row-filled : (k : Kind) (has : ℕ → ℕ → Bool) (ps : List ℕ) (L i cost paid : ℕ) → i < length ps
-    → rowFor (awarded (filled k has ps L) cost paid) i ≡ rowIn k has ps L i
-unfolding rowFor filled
+    → rowFor (awarded (awardRows k has ps L) cost paid) i ≡ rowIn k has ps L i
+unfolding rowFor awardRows
 row-filled k has ps L i cost paid l = getD-listed (length ps) (λ i. rowIn k has ps L i) i lost l
 
 -- naming q is no better than naming the true cost, which is the price of bid i in ps

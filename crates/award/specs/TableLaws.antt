@@ -19,7 +19,7 @@ use Rattle.award_check.specs.Cells.{cellsOf, hasOf, pricesOf}
 use Rattle.award_check.specs.Alike.{Alike}
 use Rattle.award_check.specs.AlikeLaws.{faultless, prices-count, prices-alike, cells-alike, price-named}
 use Rattle.award_plain.specs.Award.{won, cents, awarded, declined, settled, awardOf}
-use Rattle.award_plain.specs.AwardLaws.{award-none, Awarded}
+use Rattle.award_plain.specs.AwardLaws.{award-none, AwardOn}
 use Rattle.award.specs.Gain.{rowFor, gain, AtMost}
 use Rattle.award.specs.SettleLaws.{settled-honest, row-filled, rowIn, fair}
 
@@ -50,7 +50,7 @@ module _ (k : Kind) (t : Tender) (n i : ℕ) (bids windows : List ℕ) (inside :
           (rw (prices-count n bids) inside))
 
 module _ (k : Kind) (t : Tender) (n : ℕ) (bids windows : List ℕ) (lent : ℕ) (rows : List AwardRow) (cost paid : ℕ)
-    (w : Awarded k t n bids windows lent rows cost paid) where
+    (w : AwardOn k t n bids windows lent rows cost paid) where
   pub row-is : (i : ℕ) → i < n → rowFor (awarded rows cost paid) i
       ≡ rowIn k (hasOf t (rowsOf n bids) windows) (pricesOf (rowsOf n bids)) (cellsOf t) i
   row-is i l = ap (λ rs. rowFor (awarded rs cost paid) i) (w .settles .rows-are)

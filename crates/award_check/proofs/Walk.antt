@@ -14,7 +14,7 @@ use Rattle.tender.specs.Limits.{within, lawful, allLawful}
 use Rattle.cover.specs.SetLaws.{and-split}
 use Rattle.tender.specs.Tables.{Row, rowsOf, windowsOf}
 use Rattle.reader.specs.Words.{among}
-use Rattle.cells.specs.Cells.{cell, Filled}
+use Rattle.cells.specs.Cells.{cell, RangeAdded}
 use Rattle.award_check.specs.Faults.{keeps, sound, rowFault}
 use Rattle.award_check.specs.AlikeLaws.{rows-step, windows-step, keeps-kept}
 
@@ -89,7 +89,7 @@ unfolding among
 among-last x b [] = or-false (eqb b x)
 among-last x b (m ∷ list) = rw (among-last x b list) (sym (or-assoc (eqb m x) (among x list) (eqb b x)))
 
-pub passed-more : (used used′ list : List ℕ) (b : ℕ) → Passed used list → Filled b (b + 1) used used′ → length used′ ≡ length used
+pub passed-more : (used used′ list : List ℕ) (b : ℕ) → Passed used list → RangeAdded b (b + 1) used used′ → length used′ ≡ length used
     → Passed used′ (list ++ b ∷ [])
 passed-more used used′ list b p f l = record { size = l ∙ p .size; tied = λ x. go x (eqb b x) refl }
   where
@@ -174,7 +174,7 @@ module _ (k : Kind) (n : ℕ) (bids windows used : List ℕ) (at j : ℕ) (g : G
 
   pub going-on : j < n → j < 1000 → keeps k windows at (rowAt bids j) ≡ true → eqb (cell used (rowAt bids j .bidder)) 1 ≡ false
       → (used′ : List ℕ) →
-      Filled (rowAt bids j .bidder) (rowAt bids j .bidder + 1) used used′ → length used′ ≡ length used
+      RangeAdded (rowAt bids j .bidder) (rowAt bids j .bidder + 1) used used′ → length used′ ≡ length used
       → Going k n bids windows used′ (at + rowAt bids j .count) (j + 1)
   going-on l h e f used′ fills s = record {
     list = g .list ++ rowAt bids j .bidder ∷ [];

@@ -10,11 +10,11 @@ unfoldable pub named : List ℕ → ℕ → ℕ
 named bids i = getD bids (4 * i + 1) 0
 
 -- how many windows the rows have
-unfoldable pub held : List Row → ℕ
-held [] = 0
-held (r ∷ rs) = r .count + held rs
+unfoldable pub windowCount : List Row → ℕ
+windowCount [] = 0
+windowCount (r ∷ rs) = r .count + windowCount rs
 
 -- the rows that hold the n bids and their windows are the same in all but the price of bid i
 pub record Alike (n i : ℕ) (bids windows bids′ windows′ : List ℕ) : Type 0 where
   pub rows : (j : ℕ) → j < 4 * n → (j ≡ 4 * i + 1 → ⊥) → getD bids j 0 ≡ getD bids′ j 0
-  pub windows-too : (j : ℕ) → j < 2 * held (rowsOf n bids) → getD windows j 0 ≡ getD windows′ j 0
+  pub windows-too : (j : ℕ) → j < 2 * windowCount (rowsOf n bids) → getD windows j 0 ≡ getD windows′ j 0

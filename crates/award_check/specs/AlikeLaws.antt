@@ -18,7 +18,7 @@ use Rattle.reader.specs.Differ.{withPrice}
 use Rattle.cover.specs.SetLaws.{and-split}
 use Rattle.award_check.specs.Faults.{keeps, sound, rowFault, sameKind, faultOf}
 use Rattle.award_check.specs.Cells.{holds, cellsOf, noRow, hasOf, pricesOf}
-use Rattle.award_check.specs.Alike.{held, Alike}
+use Rattle.award_check.specs.Alike.{windowCount, Alike}
 
 pub rows-length : (n : ℕ) (bs : List ℕ) → length (rowsOf n bs) ≡ n
 unfolding rowsOf
@@ -132,8 +132,8 @@ sound-first k windows place used at r e = keeps-kept k windows at r (sound-keeps
 -- the windows of each row stand among those held
 pub among-held : (k : Kind) (windows : List ℕ) (place : ℕ) (used : List ℕ) (at : ℕ) (rs : List Row) (j : ℕ)
     → rowFault k windows place used at rs ≡ none →
-    getD rs j noRow .first + getD rs j noRow .count ≤ at + held rs
-unfolding rowFault held noRow
+    getD rs j noRow .first + getD rs j noRow .count ≤ at + windowCount rs
+unfolding rowFault windowCount noRow
 among-held k windows place used at [] j e = omega arith
 among-held k windows place used at (r ∷ rs) j e =
     go (sound k windows place used at r) refl e j (λ j f. among-held k windows (place + 1) (used ++ r .bidder ∷ []) (at + r .count) rs j
@@ -142,8 +142,8 @@ among-held k windows place used at (r ∷ rs) j e =
     go : (b : Bool) → sound k windows place used at r ≡ b
         → cond b (rowFault k windows (place + 1) (used ++ r .bidder ∷ []) (at + r .count) rs) (some place) ≡ none → (j : ℕ) →
         ((j : ℕ) → rowFault k windows (place + 1) (used ++ r .bidder ∷ []) (at + r .count) rs ≡ none
-        → getD rs j noRow .first + getD rs j noRow .count ≤ at + r .count + held rs) →
-        getD (r ∷ rs) j noRow .first + getD (r ∷ rs) j noRow .count ≤ at + (r .count + held rs)
+        → getD rs j noRow .first + getD rs j noRow .count ≤ at + r .count + windowCount rs) →
+        getD (r ∷ rs) j noRow .first + getD (r ∷ rs) j noRow .count ≤ at + (r .count + windowCount rs)
     go false s e j ih = let z : _≡_ {A = ℕ} 0 1 = cc in absurd (omega arith)
     go true s e zero ih = omega (arith, sound-first k windows place used at r s)
     go true s e (suc j) ih = omega (arith, ih j e)
@@ -173,7 +173,7 @@ module _ (k : Kind) (t : Tender) (n i : ℕ) (bids windows bids′ windows′ : 
       ∙ own-set windows′ (rowsOf n bids) i (getD bids′ (4 * i + 1) 0) j
       ∙ sym (go (getD (rowsOf n bids) j noRow) (among-held k windows 1 [] 0 (rowsOf n bids) j f))
     where
-      go : (r : Row) → r .first + r .count ≤ 0 + held (rowsOf n bids) → own windows r ≡ own windows′ r
+      go : (r : Row) → r .first + r .count ≤ 0 + windowCount (rowsOf n bids) → own windows r ≡ own windows′ r
       go r l = windows-same (r .count) (drop (2 * r .first) windows) (drop (2 * r .first) windows′)
           (λ x m. getD-drop (2 * r .first) windows x 0 ∙ a .windows-too (2 * r .first + x) (omega arith)
           ∙ sym (getD-drop (2 * r .first) windows′ x 0))

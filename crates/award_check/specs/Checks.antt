@@ -4,6 +4,6 @@ use Prim.Native.Nat.{ℕ}
 use Rattle.award_check.specs.declared.Check.{Check}
 use Rattle.award_check.specs.declared.Check.the-variants.{Sound, Faulty}
 
-abbrev pub faultIn : Check → Option ℕ
-faultIn Sound = none
-faultIn (Faulty row) = some row
+abbrev pub checkedFault : Check → Option ℕ
+checkedFault Sound = none
+checkedFault (Faulty row) = some row

@@ -20,7 +20,7 @@ use Rattle.reader.specs.Rules.{WindowRules, RowRules, RowsRules, WindowsRules, 
 use Rattle.reader.specs.Differ.{withPrice, RowsDifferInPrice}
 use Rattle.award_check.specs.Faults.{keeps, sound, rowFault, sameKind, faultOf}
 use Rattle.award_check.specs.Cells.{noRow}
-use Rattle.award_check.specs.Alike.{held, Alike}
+use Rattle.award_check.specs.Alike.{windowCount, Alike}
 
 pub rows-flat : (R : List Row) (v : List ℕ) → rowsOf (length R) (flatRows R ++ v) ≡ R
 unfolding rowsOf flatRows
@@ -64,8 +64,8 @@ drop-flat (suc c) (w ∷ W) v l = ap (λ (m : ℕ). drop m (w .start ∷ w .end 
 both : {a b : Bool} → a ≡ true → b ≡ true → a && b ≡ true
 both e f = rw (e, f)
 
-pub rows-end : (k : Kind) (used : List ℕ) (at : ℕ) (rs : List Row) (end : ℕ) → RowsRules k used at rs end → at + held rs ≡ end
-unfolding held
+pub rows-end : (k : Kind) (used : List ℕ) (at : ℕ) (rs : List Row) (end : ℕ) → RowsRules k used at rs end → at + windowCount rs ≡ end
+unfolding windowCount
 rows-end k used at [] end h = omega (arith, h)
 rows-end k used at (r ∷ rs) end h = omega (arith, rows-end k (used ++ r .bidder ∷ []) (at + r .count) rs end (h .1))
 
@@ -177,5 +177,5 @@ tabled T R S W v w v′ w′ bidder p q h d = record {
   };
 }
   where
-    few : (j : ℕ) → j < 2 * held R → j < length (flatWindows W)
+    few : (j : ℕ) → j < 2 * windowCount R → j < length (flatWindows W)
     few j l = omega (arith, rows-end (T .kind) [] 0 R (length W) (h .rows), length-windows W)

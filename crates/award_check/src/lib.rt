@@ -11,7 +11,7 @@ ghost use lib.Dec.{leb, ltb, eqb};
 ghost use Rattle.tender.specs.Limits.{mostWindows, within, allLawful};
 ghost use Rattle.tender.specs.Tables.{rowsOf, windowsOf};
 ghost use Rattle.award_check.specs.Faults.{keeps, rowFault, faultOf, sameKind};
-ghost use Rattle.award_check.specs.Checks.{faultIn};
+ghost use Rattle.award_check.specs.Checks.{checkedFault};
 
 // What checking the tables answers.
 pub enum Check {
@@ -107,7 +107,7 @@ fn row_keeps(
 // The place of the first row that breaks a rule.
 fn row_fault(kind: Kind, count: usize, bids: &[u64], windows: &[u64]) -> Check
     requires { ⌜ count ≤ length (now bids) / 4 ⌝ }
-    ensures { λ r. ⌜ faultIn r ≡ rowFault kind (now (windows .entry)) 1 [] 0 (rowsOf count (now (bids .entry))) ⌝ }
+    ensures { λ r. ⌜ checkedFault r ≡ rowFault kind (now (windows .entry)) 1 [] 0 (rowsOf count (now (bids .entry))) ⌝ }
 {
     // The bidder numbers of the rows passed.
     let mut used = [0u64; 15625];
@@ -143,7 +143,7 @@ fn row_fault(kind: Kind, count: usize, bids: &[u64], windows: &[u64]) -> Check
 
 // The place of refusal 9 by the award of this kind, where `count` bids are stated.
 pub fn fault(kind: Kind, tender: Tender, count: usize, bids: &[u64], windows: &[u64]) -> Check
-    ensures { λ r. ⌜ faultIn r ≡ faultOf kind tender count (now (bids .entry)) (now (windows .entry)) ⌝ }
+    ensures { λ r. ⌜ checkedFault r ≡ faultOf kind tender count (now (bids .entry)) (now (windows .entry)) ⌝ }
 {
     let own_kind = tender.kind;
     let window = tender.window;

@@ -12,13 +12,13 @@ use Rattle.tender.specs.declared.Kind.{Kind}
 use Rattle.tender.specs.Limits.{within, mostWindows}
 use Rattle.cover.specs.SetLaws.{and-split}
 use Rattle.tender.specs.Tables.{rowsOf, windowsOf}
-use Rattle.cells.specs.Cells.{cell, Filled}
+use Rattle.cells.specs.Cells.{cell, RangeAdded}
 use Rattle.cells.proofs.Bit.{zero-bit}
 use Rattle.award_check.specs.Cells.{holds, pricesOf}
 use Rattle.award_check.specs.AlikeLaws.{rows-length, prices-length, price-named, windows-step}
 use Rattle.award_check.proofs.Walk.{ahead, ahead-more}
 use Rattle.award_layout.specs.LayoutLaws.{in-cell}
-use Rattle.award_layout.specs.Orderly.{rowAt, Orderly, clipped, Masked}
+use Rattle.award_layout.specs.Orderly.{bidRowAt, Orderly, clipped, Masked}
 
 -- a list filled from the front
 
@@ -64,7 +64,7 @@ masking-starts start L windows first count words z =
         ∙ ap (λ (m : ℕ). ltb x L && holds (windowsOf count (drop (2 * m) windows)) (start + x)) e
 
 -- a cell is set after a range is added where it was set or is in the range
-added : (s e : ℕ) (words words′ : List ℕ) → s ≤ e → Filled s e words words′ → (x : ℕ)
+added : (s e : ℕ) (words words′ : List ℕ) → s ≤ e → RangeAdded s e words words′ → (x : ℕ)
     → eqb (cell words′ x) 1 ≡ (eqb (cell words x) 1 || (leb s x && ltb x e))
 added s e words words′ l f x = go (leb s x) (ltb x e) refl refl
   where
@@ -81,7 +81,7 @@ regroup false false i h = refl
 pub masking-more : (start L : ℕ) (windows : List ℕ) (first count j : ℕ) (words words′ : List ℕ) (s e : ℕ)
     → Masking start L windows first count j words → j < count →
     s ≡ clipped start L (getD windows (2 * (first + j)) 0) → e ≡ clipped start L (getD windows (2 * (first + j) + 1) 0) → s ≤ e
-    → Filled s e words words′ → Masking start L windows first count (j + 1) words′
+    → RangeAdded s e words words′ → Masking start L windows first count (j + 1) words′
 unfolding holds
 masking-more start L windows first count j words words′ s e m l es ee o f = record {
   inside = omega arith;
@@ -124,15 +124,16 @@ masking-ends start L windows first count j words m l = record { sets = λ x. sym
 
 -- the windows of a row stand in the table
 module _ (k : Kind) (n : ℕ) (bids windows : List ℕ) (o : Orderly k n bids windows) (i : ℕ) (l : i < n) where
-  pub row-room : rowAt bids i .first + rowAt bids i .count ≤ length windows / 2
-  row-room = leb-true (rowAt bids i .first + rowAt bids i .count) (length windows / 2) (o .kept i l .room)
+  pub row-room : bidRowAt bids i .first + bidRowAt bids i .count ≤ length windows / 2
+  row-room = leb-true (bidRowAt bids i .first + bidRowAt bids i .count) (length windows / 2) (o .kept i l .room)
 
-  some-window : 1 ≤ rowAt bids i .count
+  some-window : 1 ≤ bidRowAt bids i .count
   unfolding within
-  some-window = leb-true 1 (rowAt bids i .count) (and-split (leb 1 (rowAt bids i .count)) (leb (rowAt bids i .count) (mostWindows k))
+  some-window = leb-true 1 (bidRowAt bids i .count)
+      (and-split (leb 1 (bidRowAt bids i .count)) (leb (bidRowAt bids i .count) (mostWindows k))
       (o .kept i l .count) .0)
 
-  pub first-room : rowAt bids i .first + 1 ≤ length windows / 2
+  pub first-room : bidRowAt bids i .first + 1 ≤ length windows / 2
   first-room = omega (arith, row-room, some-window)
 
 -- the window passed next is lawful, and so are those after it

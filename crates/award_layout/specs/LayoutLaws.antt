@@ -18,13 +18,13 @@ use Rattle.tender.specs.Tables.{Row, rowsOf, windowsOf, own}
 use Rattle.cover.specs.SetLaws.{and-split}
 use Rattle.cover.specs.Settled.{spans}
 use Rattle.cells.specs.Cells.{cell}
-use Rattle.multi_rounds.specs.Market.{row, has}
+use Rattle.multi_rounds.specs.Market.{wordRow, has}
 use Rattle.award_check.specs.Faults.{sound, rowFault, sameKind, faultOf}
 use Rattle.award_check.specs.Cells.{holds, cellsOf, noRow, hasOf}
 use Rattle.award_check.specs.AlikeLaws.{Kept, keeps-kept, sound-keeps, sound-first, faultless, rows-length, windows-step}
-use Rattle.award_layout.specs.Orderly.{rowAt, Orderly, clipped, Laid, AllMasked}
+use Rattle.award_layout.specs.Orderly.{bidRowAt, Orderly, clipped, SpansLaid, AllMasked}
 
-pub row-named : (n i : ℕ) (bids : List ℕ) → i < n → getD (rowsOf n bids) i noRow ≡ rowAt bids i
+pub row-named : (n i : ℕ) (bids : List ℕ) → i < n → getD (rowsOf n bids) i noRow ≡ bidRowAt bids i
 unfolding rowsOf
 row-named zero i bids l = absurd (omega arith)
 row-named (suc n) zero bids l = refl
@@ -118,8 +118,8 @@ no-cells t n bids windows i x l =
 
 -- words have the cells of the bids
 
-empty-row : (ms : List ℕ) (w n i x : ℕ) → length ms ≡ w * n → n ≤ i → eqb (cell (row ms w i) x) 1 ≡ false
-unfolding cell row
+empty-row : (ms : List ℕ) (w n i x : ℕ) → length ms ≡ w * n → n ≤ i → eqb (cell (wordRow ms w i) x) 1 ≡ false
+unfolding cell wordRow
 empty-row ms w n i x e l =
     ap (λ (v : ℕ). eqb (v / 2 ^ (x % 64) % 2) 1) (List·getD-eq-default (take w (drop (w * i) ms)) 0 {n = x / 64}
     (simp (length-take, length-drop) (omega (arith, mul-le-mul-left w l))))
@@ -130,7 +130,7 @@ pub masks-have : (t : Tender) (n w : ℕ) (bids windows ms : List ℕ) → lengt
 unfolding has hasOf
 masks-have t n w bids windows ms e m = fun-ext (λ i. fun-ext (λ x. go i x (ltb i n) refl))
   where
-    go : (i x : ℕ) (b : Bool) → ltb i n ≡ b → eqb (cell (row ms w i) x) 1
+    go : (i x : ℕ) (b : Bool) → ltb i n ≡ b → eqb (cell (wordRow ms w i) x) 1
         ≡ (ltb x (cellsOf t) && holds (own windows (getD (rowsOf n bids) i noRow)) (t .window .start + x))
     go i x true u = m .each i (ltb-true i n u) .sets x
         ∙ ap (λ (r : Row). ltb x (cellsOf t) && holds (own windows r) (t .window .start + x)) (sym (row-named n i bids (ltb-true i n u)))
@@ -174,18 +174,18 @@ clip-inside start L s = omega arith
 -- starts and ends have the cells of bids of one window each
 module _ (t : Tender) (n : ℕ) (bids windows starts ends : List ℕ) (o : Orderly Single n bids windows) (a : length starts ≡ n)
     (b : length ends ≡ n)
-    (p : Laid n (t .window .start) (cellsOf t) bids windows starts ends) where
-  one-count : (i : ℕ) → i < n → rowAt bids i .count ≡ 1
+    (p : SpansLaid n (t .window .start) (cellsOf t) bids windows starts ends) where
+  one-count : (i : ℕ) → i < n → bidRowAt bids i .count ≡ 1
   unfolding within mostWindows
   one-count i l =
-      let c = and-split (leb 1 (rowAt bids i .count)) (leb (rowAt bids i .count) 1) (o .kept i l .count) in
-      omega (arith, leb-true 1 (rowAt bids i .count) (c .0), leb-true (rowAt bids i .count) 1 (c .1))
+      let c = and-split (leb 1 (bidRowAt bids i .count)) (leb (bidRowAt bids i .count) 1) (o .kept i l .count) in
+      omega (arith, leb-true 1 (bidRowAt bids i .count) (c .0), leb-true (bidRowAt bids i .count) 1 (c .1))
 
-  own-one : (i : ℕ) → i < n → own windows (rowAt bids i)
-      ≡ record { start = getD windows (2 * rowAt bids i .first) 0; end = getD windows (2 * rowAt bids i .first + 1) 0 } ∷ []
+  own-one : (i : ℕ) → i < n → own windows (bidRowAt bids i)
+      ≡ record { start = getD windows (2 * bidRowAt bids i .first) 0; end = getD windows (2 * bidRowAt bids i .first + 1) 0 } ∷ []
   unfolding own windowsOf
-  own-one i l = ap (λ (c : ℕ). windowsOf c (drop (2 * rowAt bids i .first) windows)) (one-count i l)
-      ∙ windows-step 0 (rowAt bids i .first) windows
+  own-one i l = ap (λ (c : ℕ). windowsOf c (drop (2 * bidRowAt bids i .first) windows)) (one-count i l)
+      ∙ windows-step 0 (bidRowAt bids i .first) windows
 
   pub spans-ordered : (i : ℕ) → getD starts i 0 ≤ getD ends i 0
   unfolding allLawful lawful
@@ -194,18 +194,22 @@ module _ (t : Tender) (n : ℕ) (bids windows starts ends : List ℕ) (o : Order
       go : (c : Bool) → ltb i n ≡ c → getD starts i 0 ≤ getD ends i 0
       go true u =
           let l = ltb-true i n u in
-          let h : (ltb (getD windows (2 * rowAt bids i .first) 0) (getD windows (2 * rowAt bids i .first + 1) 0)
-          && leb (getD windows (2 * rowAt bids i .first + 1) 0) 10080) && true ≡ true =
+          let h : (ltb (getD windows (2 * bidRowAt bids i .first) 0) (getD windows (2 * bidRowAt bids i .first + 1) 0)
+          && leb (getD windows (2 * bidRowAt bids i .first + 1) 0) 10080) && true ≡ true =
           sym (ap allLawful (own-one i l)) ∙ o .kept i l .windows-too in
-          let c = and-split (ltb (getD windows (2 * rowAt bids i .first) 0) (getD windows (2 * rowAt bids i .first + 1) 0))
-          (leb (getD windows (2 * rowAt bids i .first + 1) 0) 10080) (and-split _ true h .0) in
+          let c = and-split (ltb (getD windows (2 * bidRowAt bids i .first) 0) (getD windows (2 * bidRowAt bids i .first + 1) 0))
+          (leb (getD windows (2 * bidRowAt bids i .first + 1) 0) 10080) (and-split _ true h .0) in
           omega (
             arith,
             p .starts-are i l,
             p .ends-are i l,
-            clip-order (t .window .start) (cellsOf t) (getD windows (2 * rowAt bids i .first) 0)
-                (getD windows (2 * rowAt bids i .first + 1) 0)
-                (omega (arith, ltb-true (getD windows (2 * rowAt bids i .first) 0) (getD windows (2 * rowAt bids i .first + 1) 0) (c .0))),
+            clip-order (t .window .start) (cellsOf t) (getD windows (2 * bidRowAt bids i .first) 0)
+                (getD windows (2 * bidRowAt bids i .first + 1) 0)
+                (omega (
+                  arith,
+                  ltb-true (getD windows (2 * bidRowAt bids i .first) 0) (getD windows (2 * bidRowAt bids i .first + 1) 0)
+                      (c .0),
+                )),
           )
       go false u = omega (arith, ltb-false i n u, List·getD-eq-default starts 0 {n = i} (omega (arith, ltb-false i n u)))
 
@@ -216,7 +220,7 @@ module _ (t : Tender) (n : ℕ) (bids windows starts ends : List ℕ) (o : Order
       go true u = omega (
         arith,
         p .ends-are i (ltb-true i n u),
-        clip-inside (t .window .start) (cellsOf t) (getD windows (2 * rowAt bids i .first + 1) 0),
+        clip-inside (t .window .start) (cellsOf t) (getD windows (2 * bidRowAt bids i .first + 1) 0),
       )
       go false u = omega (arith, List·getD-eq-default ends 0 {n = i} (omega (arith, ltb-false i n u)))
 
@@ -229,11 +233,11 @@ module _ (t : Tender) (n : ℕ) (bids windows starts ends : List ℕ) (o : Order
       go i x true u =
           let l = ltb-true i n u in
           rw (p .starts-are i l, p .ends-are i l, row-named n i bids l, own-one i l)
-          (in-cell (getD windows (2 * rowAt bids i .first) 0) (getD windows (2 * rowAt bids i .first + 1) 0) (t .window .start)
+          (in-cell (getD windows (2 * bidRowAt bids i .first) 0) (getD windows (2 * bidRowAt bids i .first + 1) 0) (t .window .start)
           (cellsOf t) x
           ∙ ap (λ b. ltb x (cellsOf t) && b) (sym (or-false
-          (leb (getD windows (2 * rowAt bids i .first) 0) (t .window .start + x)
-          && ltb (t .window .start + x) (getD windows (2 * rowAt bids i .first + 1) 0)))))
+          (leb (getD windows (2 * bidRowAt bids i .first) 0) (t .window .start + x)
+          && ltb (t .window .start + x) (getD windows (2 * bidRowAt bids i .first + 1) 0)))))
       go i x false u =
           ap (λ (v : ℕ). leb (getD starts i 0) x && ltb x v) (List·getD-eq-default ends 0 {n = i} (omega (arith, ltb-false i n u)))
           ∙ ap (λ c. leb (getD starts i 0) x && c) (le-ltb x 0 (omega arith)) ∙ and-false (leb (getD starts i 0) x)

@@ -9,13 +9,13 @@ use Rattle.tender.specs.declared.Kind.{Kind}
 use Rattle.tender.specs.declared.Window.{Window}
 use Rattle.tender.specs.Tables.{Row, own}
 use Rattle.cells.specs.Cells.{cell}
-use Rattle.multi_rounds.specs.Market.{row}
+use Rattle.multi_rounds.specs.Market.{wordRow}
 use Rattle.award_check.specs.Cells.{holds}
 use Rattle.award_check.specs.AlikeLaws.{Kept}
 
 -- row i of the bid table
-abbrev pub rowAt : List ℕ → ℕ → Row
-rowAt bids i = record {
+abbrev pub bidRowAt : List ℕ → ℕ → Row
+bidRowAt bids i = record {
   bidder = getD bids (4 * i) 0;
   price = getD bids (4 * i + 1) 0;
   first = getD bids (4 * i + 2) 0;
@@ -26,16 +26,16 @@ rowAt bids i = record {
 pub record Orderly (k : Kind) (n : ℕ) (bids windows : List ℕ) : Type 0 where
   pub few : n ≤ 1000
   pub lent : n ≤ length bids / 4
-  pub kept : (i : ℕ) → i < n → Kept k windows (rowAt bids i .first) (rowAt bids i)
+  pub kept : (i : ℕ) → i < n → Kept k windows (bidRowAt bids i .first) (bidRowAt bids i)
 
 -- the cell of a minute, within L cells from the minute `start` on
 abbrev pub clipped : ℕ → ℕ → ℕ → ℕ
 clipped start L minute = min (minute - start) L
 
 -- starts and ends of the one window of each bid, as cells
-pub record Laid (n start L : ℕ) (bids windows starts ends : List ℕ) : Type 0 where
-  pub starts-are : (i : ℕ) → i < n → getD starts i 0 ≡ clipped start L (getD windows (2 * rowAt bids i .first) 0)
-  pub ends-are : (i : ℕ) → i < n → getD ends i 0 ≡ clipped start L (getD windows (2 * rowAt bids i .first + 1) 0)
+pub record SpansLaid (n start L : ℕ) (bids windows starts ends : List ℕ) : Type 0 where
+  pub starts-are : (i : ℕ) → i < n → getD starts i 0 ≡ clipped start L (getD windows (2 * bidRowAt bids i .first) 0)
+  pub ends-are : (i : ℕ) → i < n → getD ends i 0 ≡ clipped start L (getD windows (2 * bidRowAt bids i .first + 1) 0)
 
 -- the words have the cells of the windows, and no other
 pub record Masked (start L : ℕ) (ws : List Window) (words : List ℕ) : Type 0 where
@@ -43,4 +43,4 @@ pub record Masked (start L : ℕ) (ws : List Window) (words : List ℕ) : Type 0
 
 -- the words of each of n bids, w words a bid
 pub record AllMasked (n start L w : ℕ) (bids windows ms : List ℕ) : Type 0 where
-  pub each : (i : ℕ) → i < n → Masked start L (own windows (rowAt bids i)) (row ms w i)
+  pub each : (i : ℕ) → i < n → Masked start L (own windows (bidRowAt bids i)) (wordRow ms w i)

@@ -8,7 +8,7 @@ ghost use Rattle.tender.specs.declared.Kind.the-variants.{Single, Multi};
 ghost use Rattle.tender.specs.Limits.{allLawful};
 ghost use Rattle.tender.specs.Tables.{rowsOf, windowsOf};
 ghost use Rattle.award_check.specs.Cells.{pricesOf};
-ghost use Rattle.award_layout.specs.Orderly.{rowAt, Orderly, clipped, Laid, Masked, AllMasked};
+ghost use Rattle.award_layout.specs.Orderly.{bidRowAt, Orderly, clipped, SpansLaid, Masked, AllMasked};
 
 // The prices of the bids.
 pub fn prices(bids: &[u64], out: &mut [u64])
@@ -46,7 +46,7 @@ pub fn spans(
     ends: &mut [u64],
 )
     requires { ⌜ Orderly Single (length (now starts)) (now bids) (now windows) × (length (now ends) ≡ length (now starts)) ⌝ }
-    ensures { λ _. ⌜ Laid (length (now (starts .entry))) start cells (now (bids .entry)) (now (windows .entry)) (now (starts .exit))
+    ensures { λ _. ⌜ SpansLaid (length (now (starts .entry))) start cells (now (bids .entry)) (now (windows .entry)) (now (starts .exit))
         (now (ends .exit)) ⌝ }
 {
     let mut i = 0;

@@ -18,7 +18,7 @@ use Rattle.award_thin.specs.Thin.{Says, Spans}
 use Rattle.award_check.specs.Faults.{faultOf}
 use Rattle.award_check.specs.Cells.{cellsOf, hasOf, pricesOf}
 use Rattle.award_check.specs.AlikeLaws.{prices-count}
-use Rattle.award_layout.specs.Orderly.{Orderly, Laid}
+use Rattle.award_layout.specs.Orderly.{Orderly, SpansLaid}
 use Rattle.award_layout.specs.LayoutLaws.{orderly, spans-have, spans-ordered, spans-inside}
 use Rattle.tender.specs.declared.Answer.the-variants.{Awarded, Refused}
 use Rattle.award_plain.specs.Plain.{PlainPromise}
@@ -27,7 +27,7 @@ use Rattle.award_plain.specs.PlainLaws.{eleven, twelve, awards, single-w
 
 module _ (t : Tender) (n : ℕ) (bids windows starts ends ps ow oc : List ℕ) (f : faultOf Single t n bids windows ≡ none)
     (a : length starts ≡ n) (b : length ends ≡ n)
-    (l : Laid n (t .window .start) (cellsOf t) bids windows starts ends) (p : ps ≡ pricesOf (rowsOf n bids)) where
+    (l : SpansLaid n (t .window .start) (cellsOf t) bids windows starts ends) (p : ps ≡ pricesOf (rowsOf n bids)) where
   o : Orderly Single n bids windows
   o = orderly Single t n bids windows f
 

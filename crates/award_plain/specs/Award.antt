@@ -45,9 +45,9 @@ abbrev pub declined : Refusal → Outcome
 declined r = refused (numberOf r) (placeOf r)
 
 -- one award row for each bid, in entry order
-unfoldable pub filled : Kind → (ℕ → ℕ → Bool) → List ℕ → ℕ → List AwardRow
+unfoldable pub awardRows : Kind → (ℕ → ℕ → Bool) → List ℕ → ℕ → List AwardRow
 unfolding won cents listed
-filled k has ps L = listed (length ps) (λ i. record { won = won k has ps L i; cents = cents k has ps L i })
+awardRows k has ps L = listed (length ps) (λ i. record { won = won k has ps L i; cents = cents k has ps L i })
 
 unfoldable pub costOf : Kind → (ℕ → ℕ → Bool) → List ℕ → ℕ → ℕ
 unfolding won listed sum
@@ -65,14 +65,14 @@ thinned start nothing nothing o = o
 
 -- 11 at the earliest cell in no bid, else 12 at the earliest in exactly one, else the award
 unfoldable pub settled : Kind → (ℕ → ℕ → Bool) → List ℕ → ℕ → ℕ → Outcome
-unfolding thinned cellWith filled costOf paidOf
+unfolding thinned cellWith awardRows costOf paidOf
 settled k has ps L start =
     thinned start (cellWith has (length ps) L 0) (cellWith has (length ps) L 1)
-    (awarded (filled k has ps L) (costOf k has ps L) (paidOf k has ps L))
+    (awarded (awardRows k has ps L) (costOf k has ps L) (paidOf k has ps L))
 
 unfoldable pub judged : Option ℕ → Outcome → Outcome
 judged none o = o
-judged (some place) o = declined (BadTables place)
+judged (some row) o = declined (BadTables row)
 
 -- the award of the kind k, where n bids are stated and `lent` award rows are lent: first 9, then 10, then the tender itself
 unfoldable pub awardOf : Kind → Tender → ℕ → List ℕ → List ℕ → ℕ → Outcome
@@ -82,10 +82,10 @@ awardOf k t n bids windows lent =
     (cond (ltb lent n) (declined RowsTooFew)
     (settled k (hasOf t (rowsOf n bids) windows) (pricesOf (rowsOf n bids)) (cellsOf t) (t .window .start)))
 
-unfoldable pub number : Outcome → ℕ
-number (awarded rows cost paid) = 0
-number (refused n at) = n
+unfoldable pub outcomeNumber : Outcome → ℕ
+outcomeNumber (awarded rows cost paid) = 0
+outcomeNumber (refused n at) = n
 
-unfoldable pub place : Outcome → ℕ
-place (awarded rows cost paid) = 0
-place (refused n at) = at
+unfoldable pub outcomePlace : Outcome → ℕ
+outcomePlace (awarded rows cost paid) = 0
+outcomePlace (refused n at) = at

@@ -24,8 +24,8 @@ use Rattle.cover.specs.SettledLaws.{length-listed}
 use Rattle.award_check.specs.Faults.{faultOf}
 use Rattle.award_check.specs.Cells.{cellsOf, hasOf, pricesOf}
 use Rattle.award_check.specs.AlikeLaws.{prices-count}
-use Rattle.award_plain.specs.Award.{won, cents, Outcome, awarded, declined, filled, costOf, paidOf, thinned, settled, judged}
-use Rattle.award_plain.specs.Award.{awardOf, number}
+use Rattle.award_plain.specs.Award.{won, cents, Outcome, awarded, declined, awardRows, costOf, paidOf, thinned, settled, judged}
+use Rattle.award_plain.specs.Award.{awardOf, outcomeNumber}
 
 pub won-single : (has : ℕ → ℕ → Bool) (ps : List ℕ) (L i n : ℕ) → length ps ≡ n
     → won Single has ps L i ≡ bit (winners (covers has n L) ps) i
@@ -48,23 +48,23 @@ cents-multi has ps L i = refl
 
 pub settled-is : (k : Kind) (has : ℕ → ℕ → Bool) (ps : List ℕ) (L start : ℕ) (x y : Found) → cellWith has (length ps) L 0 ≡ x
     → cellWith has (length ps) L 1 ≡ y →
-    settled k has ps L start ≡ thinned start x y (awarded (filled k has ps L) (costOf k has ps L) (paidOf k has ps L))
+    settled k has ps L start ≡ thinned start x y (awarded (awardRows k has ps L) (costOf k has ps L) (paidOf k has ps L))
 unfolding settled
 settled-is k has ps L start x y e f = rw (e, f)
 
 -- what an award that is not refused says
-pub record Settled (k : Kind) (has : ℕ → ℕ → Bool) (ps : List ℕ) (L : ℕ) (rows : List AwardRow) (cost paid : ℕ) : Type 0 where
+pub record AwardOver (k : Kind) (has : ℕ → ℕ → Bool) (ps : List ℕ) (L : ℕ) (rows : List AwardRow) (cost paid : ℕ) : Type 0 where
   pub two : each has (length ps) L 2 ≡ true
-  pub rows-are : rows ≡ filled k has ps L
+  pub rows-are : rows ≡ awardRows k has ps L
   pub cost-is : cost ≡ costOf k has ps L
   pub paid-is : paid ≡ paidOf k has ps L
 
 pub settled-awarded : (k : Kind) (has : ℕ → ℕ → Bool) (ps : List ℕ) (L start : ℕ) (rows : List AwardRow) (cost paid : ℕ)
-    → settled k has ps L start ≡ awarded rows cost paid → Settled k has ps L rows cost paid
+    → settled k has ps L start ≡ awarded rows cost paid → AwardOver k has ps L rows cost paid
 unfolding thinned
 settled-awarded k has ps L start rows cost paid h = go (cellWith has (length ps) L 0) (cellWith has (length ps) L 1) refl refl
   where
-    go : (x y : Found) → cellWith has (length ps) L 0 ≡ x → cellWith has (length ps) L 1 ≡ y → Settled k has ps L rows cost paid
+    go : (x y : Found) → cellWith has (length ps) L 0 ≡ x → cellWith has (length ps) L 1 ≡ y → AwardOver k has ps L rows cost paid
     go (found x) y e f = let z = sym (settled-is k has ps L start (found x) y e f) ∙ h in let z : _≡_ {A = ℕ} 0 1 = cc in
         absurd (omega arith)
     go nothing (found x) e f = let z = sym (settled-is k has ps L start nothing (found x) e f) ∙ h in let z : _≡_ {A = ℕ} 0 1 = cc in
@@ -105,13 +105,13 @@ pub award-nine : (k : Kind) (t : Tender) (n : ℕ) (bids windows : List ℕ) (le
     → awardOf k t n bids windows lent ≡ declined (BadTables p)
 award-nine k t n bids windows lent p e = award-is k t n bids windows lent ∙ judged-some (faultOf k t n bids windows) _ p e
 
-judged-nine : (o : Option ℕ) (r a : Outcome) → a ≡ judged o r → (number a ≡ 9 → ⊥) → o ≡ none
-unfolding judged number
+judged-nine : (o : Option ℕ) (r a : Outcome) → a ≡ judged o r → (outcomeNumber a ≡ 9 → ⊥) → o ≡ none
+unfolding judged outcomeNumber
 judged-nine none r a e h = refl
-judged-nine (some p) r a e h = absurd (h (ap number e))
+judged-nine (some p) r a e h = absurd (h (ap outcomeNumber e))
 
 pub no-fault : (k : Kind) (t : Tender) (n : ℕ) (bids windows : List ℕ) (lent : ℕ) (a : Outcome) → a ≡ awardOf k t n bids windows lent
-    → (number a ≡ 9 → ⊥) → faultOf k t n bids windows ≡ none
+    → (outcomeNumber a ≡ 9 → ⊥) → faultOf k t n bids windows ≡ none
 no-fault k t n bids windows lent a e h = judged-nine (faultOf k t n bids windows) _ a (e ∙ award-is k t n bids windows lent) h
 
 -- where no rule is broken and each bid has an award row, what settles is answered
@@ -120,7 +120,7 @@ pub award-settles : (k : Kind) (t : Tender) (n : ℕ) (bids windows : List ℕ) 
     cellWith (hasOf t (rowsOf n bids) windows) n (cellsOf t) 0 ≡ x → cellWith (hasOf t (rowsOf n bids) windows) n (cellsOf t) 1 ≡ y
     → awardOf k t n bids windows lent
     ≡ thinned (t .window .start) x y
-    (awarded (filled k (hasOf t (rowsOf n bids) windows) (pricesOf (rowsOf n bids)) (cellsOf t))
+    (awarded (awardRows k (hasOf t (rowsOf n bids) windows) (pricesOf (rowsOf n bids)) (cellsOf t))
     (costOf k (hasOf t (rowsOf n bids) windows) (pricesOf (rowsOf n bids)) (cellsOf t))
     (paidOf k (hasOf t (rowsOf n bids) windows) (pricesOf (rowsOf n bids)) (cellsOf t)))
 award-settles k t n bids windows lent f g x y d e =
@@ -131,21 +131,21 @@ award-settles k t n bids windows lent f g x y d e =
     (rw (prices-count n bids) d) (rw (prices-count n bids) e)
 
 -- what an answer that awards says
-pub record Awarded (k : Kind) (t : Tender) (n : ℕ) (bids windows : List ℕ) (lent : ℕ) (rows : List AwardRow) (cost paid : ℕ) : Type 0 where
+pub record AwardOn (k : Kind) (t : Tender) (n : ℕ) (bids windows : List ℕ) (lent : ℕ) (rows : List AwardRow) (cost paid : ℕ) : Type 0 where
   pub sound : faultOf k t n bids windows ≡ none
   pub enough : ltb lent n ≡ false
-  pub settles : Settled k (hasOf t (rowsOf n bids) windows) (pricesOf (rowsOf n bids)) (cellsOf t) rows cost paid
+  pub settles : AwardOver k (hasOf t (rowsOf n bids) windows) (pricesOf (rowsOf n bids)) (cellsOf t) rows cost paid
 
 pub award-awarded : (k : Kind) (t : Tender) (n : ℕ) (bids windows : List ℕ) (lent : ℕ) (rows : List AwardRow) (cost paid : ℕ)
-    → awarded rows cost paid ≡ awardOf k t n bids windows lent → Awarded k t n bids windows lent rows cost paid
-unfolding number
+    → awarded rows cost paid ≡ awardOf k t n bids windows lent → AwardOn k t n bids windows lent rows cost paid
+unfolding outcomeNumber
 award-awarded k t n bids windows lent rows cost paid e =
     let f = no-fault k t n bids windows lent (awarded rows cost paid) e (λ z. omega arith) in
     go f (ltb lent n) refl (sym (award-none k t n bids windows lent f) ∙ sym e)
   where
     go : faultOf k t n bids windows ≡ none → (b : Bool) → ltb lent n ≡ b
         → cond b (declined RowsTooFew) (settled k (hasOf t (rowsOf n bids) windows) (pricesOf (rowsOf n bids)) (cellsOf t)
-        (t .window .start)) ≡ awarded rows cost paid → Awarded k t n bids windows lent rows cost paid
+        (t .window .start)) ≡ awarded rows cost paid → AwardOn k t n bids windows lent rows cost paid
     go f true d h = let z : _≡_ {A = ℕ} 0 1 = cc in absurd (omega arith)
     go f false d h = record {
       sound = f;
@@ -155,7 +155,7 @@ award-awarded k t n bids windows lent rows cost paid e =
     }
 
 module _ (k : Kind) (t : Tender) (n : ℕ) (bids windows : List ℕ) (lent : ℕ) (rows : List AwardRow) (cost paid : ℕ)
-    (w : Awarded k t n bids windows lent rows cost paid) where
+    (w : AwardOn k t n bids windows lent rows cost paid) where
   pub rows-count : length rows ≡ n
-  unfolding filled
+  unfolding awardRows
   rows-count = ap length (w .settles .rows-are) ∙ length-listed (length (pricesOf (rowsOf n bids))) _ ∙ prices-count n bids

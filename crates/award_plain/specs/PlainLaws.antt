@@ -32,7 +32,7 @@ use Rattle.award_check.specs.Cells.{cellsOf, hasOf, pricesOf}
 use Rattle.award_check.specs.AlikeLaws.{prices-count}
 use Rattle.tender.specs.declared.Answer.{Answer}
 use Rattle.tender.specs.declared.Answer.the-variants.{Awarded, Refused}
-use Rattle.award_plain.specs.Award.{won, cents, awarded, declined, filled, costOf, paidOf, thinned, settled, awardOf}
+use Rattle.award_plain.specs.Award.{won, cents, awarded, declined, awardRows, costOf, paidOf, thinned, settled, awardOf}
 use Rattle.award_plain.specs.Plain.{rowsIn, toldIn, wonAfter, centsAfter, PlainPromise}
 use Rattle.award_plain.specs.AwardLaws.{won-single, cents-single, won-multi, cents-multi, award-none, award-lent, award-nine}
 use Rattle.award_plain.specs.AwardLaws.{award-settles}
@@ -77,8 +77,8 @@ module _ (k : Kind) (t : Tender) (n : ℕ) (bids windows : List ℕ) (lent : ℕ
       module _ (covered : cellWith has n L 0 ≡ nothing) (doubled : cellWith has n L 1 ≡ nothing) (w : ℕ → Bool) (c : ℕ → ℕ)
           (w-is : (i : ℕ) → i < n → w i ≡ won k has ps L i) (c-is : (i : ℕ) → i < n → c i ≡ cents k has ps L i)
           (nw nc : List ℕ) (totals : Totals) (s : core.Settled w c ps ow oc nw nc (totals .cost) (totals .paid)) where
-        rows-are : rowsIn n nw nc ≡ filled k has ps L
-        unfolding rowsIn filled
+        rows-are : rowsIn n nw nc ≡ awardRows k has ps L
+        unfolding rowsIn awardRows
         rows-are =
             listed-same n (λ i. record { won = eqb (getD nw i 0) 1; cents = getD nc i 0 })
             (λ i. record { won = won k has ps L i; cents = cents k has ps L i }) (λ i l. rw (flag-at i l, pay-at i l))
@@ -109,35 +109,35 @@ module _ (k : Kind) (t : Tender) (n : ℕ) (bids windows : List ℕ) (lent : ℕ
         unfolding paidOf
         paid-is = s .paid-is ∙ ap sum (listed-same (length ps) c (cents k has ps L) (λ i l. c-is i (omega (arith, prices-count n bids))))
 
-        outcome-is : toldIn n nw nc (Awarded totals) ≡ awarded (filled k has ps L) (costOf k has ps L) (paidOf k has ps L)
+        outcome-is : toldIn n nw nc (Awarded totals) ≡ awarded (awardRows k has ps L) (costOf k has ps L) (paidOf k has ps L)
         unfolding toldIn
         outcome-is = rw (rows-are, cost-is, paid-is)
 
-        rows-count : length (filled k has ps L) ≡ length ps
-        unfolding filled
+        rows-count : length (awardRows k has ps L) ≡ length ps
+        unfolding awardRows
         rows-count = length-listed (length ps) _
 
-        flags-are : map (λ r. when (r .won) 1) (filled k has ps L) ≡ listed (length ps) (λ i. when (w i) 1)
-        unfolding filled
+        flags-are : map (λ r. when (r .won) 1) (awardRows k has ps L) ≡ listed (length ps) (λ i. when (w i) 1)
+        unfolding awardRows
         flags-are =
             map-listed (length ps) (λ i. record { won = won k has ps L i; cents = cents k has ps L i }) (λ r. when (r .won) 1)
             ∙ listed-same (length ps) (λ i. when (won k has ps L i) 1) (λ i. when (w i) 1)
             (λ i l. ap (λ b. when b 1) (sym (w-is i (omega (arith, prices-count n bids)))))
 
-        pays-are : map (λ r. r .cents) (filled k has ps L) ≡ listed (length ps) c
-        unfolding filled
+        pays-are : map (λ r. r .cents) (awardRows k has ps L) ≡ listed (length ps) c
+        unfolding awardRows
         pays-are =
             map-listed (length ps) (λ i. record { won = won k has ps L i; cents = cents k has ps L i }) (λ r. r .cents)
             ∙ listed-same (length ps) (cents k has ps L) c (λ i l. sym (c-is i (omega (arith, prices-count n bids))))
 
-        won-after : nw ≡ wonAfter ow (awarded (filled k has ps L) (costOf k has ps L) (paidOf k has ps L))
+        won-after : nw ≡ wonAfter ow (awarded (awardRows k has ps L) (costOf k has ps L) (paidOf k has ps L))
         unfolding wonAfter
-        won-after = s .flags ∙ sym (ap (λ l. l ++ drop (length (filled k has ps L)) ow) flags-are
+        won-after = s .flags ∙ sym (ap (λ l. l ++ drop (length (awardRows k has ps L)) ow) flags-are
             ∙ ap (λ (m : ℕ). listed (length ps) (λ i. when (w i) 1) ++ drop m ow) rows-count)
 
-        cents-after : nc ≡ centsAfter oc (awarded (filled k has ps L) (costOf k has ps L) (paidOf k has ps L))
+        cents-after : nc ≡ centsAfter oc (awarded (awardRows k has ps L) (costOf k has ps L) (paidOf k has ps L))
         unfolding centsAfter
-        cents-after = s .payments ∙ sym (ap (λ l. l ++ drop (length (filled k has ps L)) oc) pays-are
+        cents-after = s .payments ∙ sym (ap (λ l. l ++ drop (length (awardRows k has ps L)) oc) pays-are
             ∙ ap (λ (m : ℕ). listed (length ps) c ++ drop m oc) rows-count)
 
         pub awards : PlainPromise k t n bids windows lent ow oc nw nc (Awarded totals)

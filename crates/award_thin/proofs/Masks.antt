@@ -16,7 +16,7 @@ use Rattle.cells.specs.Hops.{Next}
 use Rattle.cells.proofs.Bit.{bit-lt, zero-bit, and-bit, or-bit}
 use Rattle.cells.proofs.Store.{lt-or-le, cell-lt, set-same, set-other}
 use Rattle.cover.specs.Sets.{when, bidders}
-use Rattle.multi_rounds.specs.Market.{row, has, First}
+use Rattle.multi_rounds.specs.Market.{wordRow, has, First}
 use Rattle.award_thin.specs.Thin.{fewer, Reached, Gathered, FirstOf}
 
 -- the first w words of a row of ones
@@ -83,8 +83,8 @@ seeing-none ms w q = record { once = λ k l. zero-bit k; twice = λ k l. zero-bi
 
 module _ (ms : List ℕ) (w q : ℕ) (lq : q < w) where
   -- the cells of word q of bid i are the bits of one word of the masks
-  row-bit : (i k : ℕ) → k < 64 → cell (row ms w i) (64 * q + k) ≡ bitOf (getD ms (w * i + q) 0) k
-  unfolding cell row
+  row-bit : (i k : ℕ) → k < 64 → cell (wordRow ms w i) (64 * q + k) ≡ bitOf (getD ms (w * i + q) 0) k
+  unfolding cell wordRow
   row-bit i k l =
       let a : (64 * q + k) / 64 ≡ q = omega arith in
       let b : (64 * q + k) % 64 ≡ k = omega arith in
@@ -95,7 +95,7 @@ module _ (ms : List ℕ) (w q : ℕ) (lq : q < w) where
   more i k l =
       ap (λ (j : ℕ). bidders (has ms w) j (64 * q + k)) (add-one i)
       ∙ ap (λ (v : ℕ). v + bidders (has ms w) i (64 * q + k))
-      (flag (cell (row ms w i) (64 * q + k)) (cell-lt (row ms w i) (64 * q + k)) ∙ row-bit i k l)
+      (flag (cell (wordRow ms w i) (64 * q + k)) (cell-lt (wordRow ms w i) (64 * q + k)) ∙ row-bit i k l)
 
   pub seeing-more : (i one two : ℕ) → Seeing ms w q i one two
       → Seeing ms w q (i + 1) (bitOr one (getD ms (w * i + q) 0)) (bitOr two (bitAnd one (getD ms (w * i + q) 0)))

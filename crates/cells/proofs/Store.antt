@@ -7,7 +7,7 @@ use native.Mathlib.Omega.{arith}
 use lib.ListN.{length, getD, set, List·getD-eq-default}
 use lib.Seq.{getD-set-same, getD-set-other}
 use lib.Bits.{bitAnd, bitOr}
-use Rattle.cells.specs.Cells.{bitOf, cell, Closed, Span, Filled}
+use Rattle.cells.specs.Cells.{bitOf, cell, Closed, Span, RangeAdded}
 use Rattle.cells.proofs.Bit.{or-bit, clear-bit, zero-bit, ones-in, ones-out, power-in, power-out}
 use lib.Pow.{ones-lt, pow-mono, shl-exact}
 
@@ -85,10 +85,11 @@ swept-all w old mask new s e el =
     }
 
 -- ---- add_range: some bits of a word, whole words, and one range after another
-pub filled-none : (s : ℕ) (ws : List ℕ) → Filled s s ws ws
+pub filled-none : (s : ℕ) (ws : List ℕ) → RangeAdded s s ws ws
 filled-none s ws = record { inside = λ x a b. absurd (omega arith); below = λ x h. refl; above = λ x h. refl }
 
-pub filled-join : {s m e : ℕ} {old mid new : List ℕ} → s ≤ m → m ≤ e → Filled s m old mid → Filled m e mid new → Filled s e old new
+pub filled-join : {s m e : ℕ} {old mid new : List ℕ} → s ≤ m → m ≤ e → RangeAdded s m old mid → RangeAdded m e mid new
+    → RangeAdded s e old new
 filled-join {s} {m} {e} lo hi f g = record {
   inside = λ x a b. ⊎-elim (λ lt. g .below x lt ∙ f .inside x a lt) (λ le. g .inside x le b) (lt-or-le x m);
   below = λ x a. g .below x (omega arith) ∙ f .below x a;
@@ -96,17 +97,17 @@ filled-join {s} {m} {e} lo hi f g = record {
 }
 
 -- the same range, its ends written in another way
-pub filled-at : {p r s e : ℕ} {old new : List ℕ} → p ≡ s → r ≡ e → Filled p r old new → Filled s e old new
+pub filled-at : {p r s e : ℕ} {old new : List ℕ} → p ≡ s → r ≡ e → RangeAdded p r old new → RangeAdded s e old new
 filled-at a b f = rw (← a, ← b) f
 
 -- the rest of the first word and whole words
-pub filled-words : (s b : ℕ) {old mid new : List ℕ} → s / 64 < b → Filled (64 * (s / 64) + s % 64) (64 * (s / 64) + 64) old mid
-    → Filled (64 * (s / 64 + 1)) (64 * b) mid new → Filled s (64 * b) old new
+pub filled-words : (s b : ℕ) {old mid new : List ℕ} → s / 64 < b → RangeAdded (64 * (s / 64) + s % 64) (64 * (s / 64) + 64) old mid
+    → RangeAdded (64 * (s / 64 + 1)) (64 * b) mid new → RangeAdded s (64 * b) old new
 filled-words s b l f g = filled-join (omega arith) (omega arith) (filled-at (omega arith) (omega arith) f) g
 
 module _ (ws : List ℕ) (w : ℕ) (h : w < length ws) where
   pub bits-added : (lo hi m : ℕ) → lo < 64 → hi ≤ 64 → Span lo hi m
-      → Filled (64 * w + lo) (64 * w + hi) ws (set ws w (bitOr (getD ws w 0) m))
+      → RangeAdded (64 * w + lo) (64 * w + hi) ws (set ws w (bitOr (getD ws w 0) m))
   bits-added lo hi m hl hh p = record {
     inside = λ x a b. or-same ws w h x m (omega arith) ∙ ap (max (cell ws x)) (p .inside (x % 64) (omega arith) (omega arith))
         ∙ omega (arith, cell-lt ws x);
@@ -118,7 +119,7 @@ module _ (ws : List ℕ) (w : ℕ) (h : w < length ws) where
       same x z = ⊎-elim (λ n. set-other ws w h x (bitOr (getD ws w 0) m) n)
           (λ q. or-same ws w h x m q ∙ ap (max (cell ws x)) (z q) ∙ omega arith) (ne-or-eq (x / 64) w)
 
-  pub whole-added : Filled (64 * w) (64 * (w + 1)) ws (set ws w 18446744073709551615)
+  pub whole-added : RangeAdded (64 * w) (64 * (w + 1)) ws (set ws w 18446744073709551615)
   whole-added = record {
     inside = λ x a b. set-same ws w h x 18446744073709551615 (omega arith) ∙ ones-in 64 (x % 64) (omega arith);
     below = λ x a. set-other ws w h x 18446744073709551615 (λ e. omega arith);
@@ -147,7 +148,7 @@ shifted : (k : ℕ) → k < 64 → (1 * 2 ^ k) % 2 ^ 64 ≡ 2 ^ k
 shifted k h = shl-exact {a = 1} 1 k 64 (omega arith) (omega arith) ∙ omega arith
 
 pub one-added : (ws : List ℕ) (x : ℕ) → x / 64 < length ws
-    → Filled x (x + 1) ws (set ws (x / 64) (bitOr (getD ws (x / 64) 0) ((1 * 2 ^ (x % 64)) % 2 ^ 64)))
+    → RangeAdded x (x + 1) ws (set ws (x / 64) (bitOr (getD ws (x / 64) 0) ((1 * 2 ^ (x % 64)) % 2 ^ 64)))
 one-added ws x h =
     rw (shifted (x % 64) (omega arith)) (record {
       inside = λ y a b. let e : y ≡ x = omega arith in

@@ -38,7 +38,7 @@ pub record Span (lo hi m : ℕ) : Type 0 where
   pub above : (k : ℕ) → hi ≤ k → k < 64 → bitOf m k ≡ 0
 
 -- `new` is `old` with exactly the cells s up to e set besides
-pub record Filled (s e : ℕ) (old new : List ℕ) : Type 0 where
+pub record RangeAdded (s e : ℕ) (old new : List ℕ) : Type 0 where
   pub inside : (x : ℕ) → s ≤ x → x < e → cell new x ≡ 1
   pub below : (x : ℕ) → x < s → cell new x ≡ cell old x
   pub above : (x : ℕ) → e ≤ x → cell new x ≡ cell old x

@@ -8,7 +8,7 @@ ghost use Prim.Native.Nat.{ℕ, _+_, _*_, _-_, _^_, _<_, _≤_};
 ghost use lib.ListN.{length, getD};
 ghost use lib.Dec.{eqb};
 ghost use lib.Count.{ones};
-ghost use Rattle.cells.specs.Cells.{cell, common, Closed, Span, Filled};
+ghost use Rattle.cells.specs.Cells.{cell, common, Closed, Span, RangeAdded};
 ghost use Rattle.cells.specs.Hops.{whole, Hops, countedTo, Counted, Onward, Next};
 
 // Clears the cells of the mask.
@@ -45,7 +45,7 @@ fn span(lo: usize, hi: usize) -> u64
 // Sets the bits lo up to hi of word w.
 fn add_bits(words: &mut [u64], w: usize, lo: usize, hi: usize)
     requires { ⌜ (w < length (now words)) × ((lo < 64) × (hi ≤ 64)) ⌝ }
-    ensures { λ _. ⌜ Filled (64 * w + lo) (64 * w + hi) (now (words .entry)) (now (words .exit)) ⌝ }
+    ensures { λ _. ⌜ RangeAdded (64 * w + lo) (64 * w + hi) (now (words .entry)) (now (words .exit)) ⌝ }
 {
     let m = span(lo, hi);
     words[w] = words[w] | m;
@@ -54,7 +54,7 @@ fn add_bits(words: &mut [u64], w: usize, lo: usize, hi: usize)
 // Sets all cells of the words a up to b.
 fn add_words(words: &mut [u64], a: usize, b: usize)
     requires { ⌜ (a ≤ b) × (b ≤ length (now words)) ⌝ }
-    ensures { λ _. ⌜ Filled (64 * a) (64 * b) (now (words .entry)) (now (words .exit)) ⌝ }
+    ensures { λ _. ⌜ RangeAdded (64 * a) (64 * b) (now (words .entry)) (now (words .exit)) ⌝ }
 {
     let mut w = a;
     while w < b {
@@ -66,7 +66,7 @@ fn add_words(words: &mut [u64], a: usize, b: usize)
 // Sets the cells s up to e.
 pub fn add_range(words: &mut [u64], s: usize, e: usize)
     requires { ⌜ (s ≤ e) × ((e ≤ 64 * length (now words)) × (length (now words) ≤ 65536)) ⌝ }
-    ensures { λ _. ⌜ Filled s e (now (words .entry)) (now (words .exit)) ⌝ }
+    ensures { λ _. ⌜ RangeAdded s e (now (words .entry)) (now (words .exit)) ⌝ }
 {
     if e <= s {
         return;
@@ -96,7 +96,7 @@ pub fn holds(words: &[u64], x: usize) -> bool
 // Sets cell x.
 pub fn add(words: &mut [u64], x: usize)
     requires { ⌜ x < 64 * length (now words) ⌝ }
-    ensures { λ _. ⌜ Filled x (x + 1) (now (words .entry)) (now (words .exit)) ⌝ }
+    ensures { λ _. ⌜ RangeAdded x (x + 1) (now (words .entry)) (now (words .exit)) ⌝ }
 {
     let q = x / 64;
     words[q] = words[q] | 1 << (x % 64);

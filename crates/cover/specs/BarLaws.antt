@@ -9,11 +9,11 @@ use lib.ListN.{length}
 use lib.Dec.{leb, ltb}
 use borrow.Author.Tests.{ltb-true, ltb-false, lt-ltb, le-ltb, le-leb, lt-leb, leb-true, leb-false}
 use Rattle.cover.specs.Sets.{when}
-use Rattle.cover.specs.Greedy.{Bid, reach, Rounds, stop, round, run, taken, left}
+use Rattle.cover.specs.Greedy.{Entry, reach, Rounds, stop, round, run, taken, left}
 use Rattle.cover.specs.CriticalPrice.{late, withdrawn, bar}
 use Rattle.cover.specs.Chance.{chance}
 use Rattle.cover.specs.GreedyLaws.{rounds, follow}
-use Rattle.cover.specs.GreedyCover.{Each, Covered, closed}
+use Rattle.cover.specs.GreedyCover.{Each, Covered, covered-closes}
 
 both : (a b : Bool) → (a ≡ true → b ≡ true) → (b ≡ true → a ≡ true) → a ≡ b
 both true b f g = sym (f refl)
@@ -59,12 +59,12 @@ bar-right k p h (round i c O t) s e = rw (
 ) (ltb-max p _ _)
 
 -- where the bids withdrawn k cover all the cells, bid k is taken just where its price is below the bar
-pub under : (B : ℕ → Bid) (n k : ℕ) → k < n → (f : ℕ) (O : List ℕ) → length O ≤ f → Each (Covered (withdrawn k B) n) O
+pub under : (B : ℕ → Entry) (n k : ℕ) → k < n → (f : ℕ) (O : List ℕ) → length O ≤ f → Each (Covered (withdrawn k B) n) O
     → taken k (run B n f O) ≡ ltb (B k .price) (bar k (B k .has) (run (withdrawn k B) n f O))
 unfolding reach
 under B n k m f O l g = follow n k m B f O l ∙ bar-right k (B k .price) (B k .has) _
     (rounds (withdrawn k B) n (λ O t. Sound t) (λ O e. tt) (λ O i t b ih. (b .good, ih)) f O l)
-    (ap (reach (B k .has)) (closed (withdrawn k B) n f O l g))
+    (ap (reach (B k .has)) (covered-closes (withdrawn k B) n f O l g))
 
 -- fewer cells, a lower bar
 reach-fewer : (g h : ℕ → Bool) → ((x : ℕ) → g x ≡ true → h x ≡ true) → (O : List ℕ) → reach g O ≤ reach h O

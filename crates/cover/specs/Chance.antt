@@ -5,11 +5,11 @@ use mathlib.Core.Bool.{Bool, _&&_, _||_}
 use mathlib.Core.List.{List}
 use Prim.Native.Nat.{ℕ, _+_, _*_, _≤_, _<_}
 use lib.Dec.{leb, ltb}
-use Rattle.cover.specs.Greedy.{Bid, reach, Rounds, stop, round}
+use Rattle.cover.specs.Greedy.{Entry, reach, Rounds, stop, round}
 use Rattle.cover.specs.CriticalPrice.{late}
 
 -- bid k, at the price p and with the cells h, is taken before bid i, which is c, where the cells O are open
-unfoldable pub ahead : ℕ → ℕ → (ℕ → Bool) → ℕ → Bid → List ℕ → Bool
+unfoldable pub ahead : ℕ → ℕ → (ℕ → Bool) → ℕ → Entry → List ℕ → Bool
 unfolding reach late
 ahead k p h i c O = ltb 0 (reach h O) && leb (p * reach (c .has) O + late k i) (c .price * reach h O)
 

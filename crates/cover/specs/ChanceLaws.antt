@@ -9,7 +9,7 @@ use native.Mathlib.Omega.{arith}
 use lib.ListN.{length}
 use lib.Dec.{ltb}
 use borrow.Author.Tests.{ltb-true, ltb-false, lt-ltb, le-leb, leb-true}
-use Rattle.cover.specs.Greedy.{Bid, reach, Rounds, stop, round, left, run, taken}
+use Rattle.cover.specs.Greedy.{Entry, reach, Rounds, stop, round, left, run, taken}
 use Rattle.cover.specs.CriticalPrice.{late, withdrawn}
 use Rattle.cover.specs.Chance.{ahead, chance, Chance}
 use Rattle.cover.specs.SetLaws.{and-split, or-split}
@@ -45,7 +45,7 @@ chance-out k p h (round i c O t) (inl (l, d)) = rw
 chance-out k p h (round i c O t) (inr s) = rw (chance-out k p h t s) (or-true (ahead k p h i c O))
 
 -- bid k is taken just where the run withdrawn it leaves it a chance
-pub wins-iff : (n k : ℕ) → k < n → (B : ℕ → Bid) (f : ℕ) (O : List ℕ) → length O ≤ f
+pub wins-iff : (n k : ℕ) → k < n → (B : ℕ → Entry) (f : ℕ) (O : List ℕ) → length O ≤ f
     → (taken k (run B n f O) ≡ true) ↔ Chance k (B k .price) (B k .has) (run (withdrawn k B) n f O)
 wins-iff n k m B f O l = (
   λ e. chance-in k (B k .price) (B k .has) _ (sym (follow n k m B f O l) ∙ e),

@@ -11,7 +11,7 @@ use lib.Seq.{getD-set-same, getD-set-other, set-set}
 use lib.Dec.{ltb, leb, eqb}
 use borrow.Author.Tests.{ltb-true, ltb-false, le-ltb, le-leb, lt-leb, eqb-false}
 use Rattle.cover.specs.Sets.{when, found, valueOf}
-use Rattle.cover.specs.Greedy.{Bid, reach, run, left, bids, wins}
+use Rattle.cover.specs.Greedy.{Entry, reach, run, left, bids, wins}
 use Rattle.cover.specs.CriticalPrice.{largest, sum, ceiling, winsAt, critical, criticalPaid, late, mute, withdrawn, share, bar}
 use Rattle.cover.specs.CriticalPrice.{limit, roundsPaid}
 use Rattle.cover.specs.Threshold.{Threshold, honest, enough}
@@ -54,7 +54,7 @@ when-suc : (t : Bool) (x y : ℕ) → x ≤ y → when t (suc x) ≤ suc y
 when-suc true x y l = omega arith
 when-suc false x y l = omega arith
 
-bar-most : (B : ℕ → Bid) (n k : ℕ) (h : ℕ → Bool) (top cells : ℕ) → ((i : ℕ) → B i .price ≤ top) → (f : ℕ) (O : List ℕ) → length O ≤ f
+bar-most : (B : ℕ → Entry) (n k : ℕ) (h : ℕ → Bool) (top cells : ℕ) → ((i : ℕ) → B i .price ≤ top) → (f : ℕ) (O : List ℕ) → length O ≤ f
     → length O ≤ cells → bar k h (run B n f O) ≤ suc (top * cells)
 unfolding bar share
 bar-most B n k h top cells most = rounds B n (λ O t. length O ≤ cells → bar k h t ≤ suc (top * cells)) (λ O e l. omega arith)

@@ -6,7 +6,7 @@ use Prim.Native.Nat.{ℕ, zero, suc, _+_, _-_, _*_, _/_, max}
 use lib.ListN.{length, set}
 use lib.Dec.{leb, ltb, eqb}
 use Rattle.cover.specs.Sets.{when, Found, nothing, found, valueOf}
-use Rattle.cover.specs.Greedy.{Bid, reach, Rounds, stop, round, run, bids, wins}
+use Rattle.cover.specs.Greedy.{Entry, reach, Rounds, stop, round, run, bids, wins}
 
 -- the largest number below n that passes
 unfoldable pub largest : (ℕ → Bool) → ℕ → Found
@@ -41,18 +41,18 @@ criticalPaid has ps open-cells k = when (wins has ps open-cells k) (critical has
 unfoldable pub late : ℕ → ℕ → ℕ
 late i j = when (ltb j i) 1
 
-unfoldable pub mute : Bool → Bid → Bid
+unfoldable pub mute : Bool → Entry → Entry
 mute true b = record { price = 0; has = λ x. false }
 mute false b = b
 
 -- the bids without bid k: it stays in its place and has no cell
-unfoldable pub withdrawn : ℕ → (ℕ → Bid) → ℕ → Bid
+unfoldable pub withdrawn : ℕ → (ℕ → Entry) → ℕ → Entry
 unfolding mute
 withdrawn k B i = mute (eqb i k) (B i)
 
 -- one more than the largest price at which bid k, with the cells h, is taken before bid i, which is c, where the cells O are
 -- open; 0 where no price is
-unfoldable pub share : ℕ → (ℕ → Bool) → ℕ → Bid → List ℕ → ℕ
+unfoldable pub share : ℕ → (ℕ → Bool) → ℕ → Entry → List ℕ → ℕ
 unfolding reach late
 share k h i c O = let x = c .price * reach h O in when (ltb 0 (reach h O) && leb (late k i) x) (suc ((x - late k i) / reach (c .has) O))
 

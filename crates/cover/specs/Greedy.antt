@@ -8,7 +8,7 @@ use lib.Dec.{ltb, eqb}
 use Rattle.cover.specs.Sets.{when, Found, nothing, found}
 use Rattle.cover.specs.LeastCover.{choose}
 
-pub record Bid : Type 0 where
+pub record Entry : Type 0 where
   pub price : ℕ
   pub has : ℕ → Bool
 
@@ -38,24 +38,24 @@ unfolding choose cheaper
 pick p r zero = nothing
 pick p r (suc n) = let b = pick p r n in choose (ltb 0 (r n)) (cheaper p r n b) b n
 
-unfoldable pub best : (ℕ → Bid) → ℕ → List ℕ → Found
+unfoldable pub best : (ℕ → Entry) → ℕ → List ℕ → Found
 unfolding pick reach
 best B n O = pick (λ i. B i .price) (λ i. reach (B i .has) O) n
 
 -- the rounds, each with the bid taken, its number first, and the cells open before it; last the cells that stay open
 pub data Rounds : Type 0 where
   stop : List ℕ → Rounds
-  round : ℕ → Bid → List ℕ → Rounds → Rounds
+  round : ℕ → Entry → List ℕ → Rounds → Rounds
 
-unfoldable pub grow : (ℕ → Bid) → List ℕ → Found → (ℕ → Rounds) → Rounds
-grow B O nothing t = stop O
-grow B O (found i) t = round i (B i) O (t i)
+unfoldable pub growRun : (ℕ → Entry) → List ℕ → Found → (ℕ → Rounds) → Rounds
+growRun B O nothing t = stop O
+growRun B O (found i) t = round i (B i) O (t i)
 
 -- the first f rounds of the bids below n, from the open cells O
-unfoldable pub run : (ℕ → Bid) → ℕ → ℕ → List ℕ → Rounds
-unfolding best grow close
+unfoldable pub run : (ℕ → Entry) → ℕ → ℕ → List ℕ → Rounds
+unfolding best growRun close
 run B n zero O = stop O
-run B n (suc f) O = grow B O (best B n O) (λ i. run B n f (close (B i .has) O))
+run B n (suc f) O = growRun B O (best B n O) (λ i. run B n f (close (B i .has) O))
 
 unfoldable pub taken : ℕ → Rounds → Bool
 taken k (stop O) = false
@@ -66,7 +66,7 @@ unfoldable pub left : Rounds → List ℕ
 left (stop O) = O
 left (round i c O t) = left t
 
-unfoldable pub bids : (ℕ → ℕ → Bool) → List ℕ → ℕ → Bid
+unfoldable pub bids : (ℕ → ℕ → Bool) → List ℕ → ℕ → Entry
 bids has ps i = record { price = getD ps i 0; has = has i }
 
 -- bid k wins where the run over the open cells takes it: each round closes a cell, so as many rounds as cells are enough

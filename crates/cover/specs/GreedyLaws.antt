@@ -9,10 +9,10 @@ use lib.ListN.{length}
 use lib.Dec.{leb, ltb, eqb}
 use borrow.Author.Tests.{ltb-true, lt-ltb, le-leb, leb-true, eqb-true, eqb-false, ne-eqb, eq-eqb}
 use Rattle.cover.specs.Sets.{when, Found, nothing, found}
-use Rattle.cover.specs.Greedy.{Bid, reach, keep, close, best, Rounds, stop, round, grow, run, taken}
+use Rattle.cover.specs.Greedy.{Entry, reach, keep, close, best, Rounds, stop, round, growRun, run, taken}
 use Rattle.cover.specs.CriticalPrice.{late, mute, withdrawn}
 use Rattle.cover.specs.Chance.{ahead, chance}
-use Rattle.cover.specs.PickLaws.{Before, IsPick, pick-right, before-one}
+use Rattle.cover.specs.PickLaws.{TakenBefore, IsPick, pick-right, before-one}
 
 pub shrink : (h : ℕ → Bool) (O : List ℕ) → reach h O + length (close h O) ≡ length O
 unfolding reach close
@@ -39,11 +39,11 @@ unfolding reach
 reach-none [] = refl
 reach-none (x ∷ xs) = omega (arith, reach-none xs)
 
-pub withdrawn-other : (k : ℕ) (B : ℕ → Bid) (i : ℕ) → (i ≡ k → ⊥) → withdrawn k B i ≡ B i
+pub withdrawn-other : (k : ℕ) (B : ℕ → Entry) (i : ℕ) → (i ≡ k → ⊥) → withdrawn k B i ≡ B i
 unfolding withdrawn
 withdrawn-other k B i d = rw (ne-eqb i k d)
 
-pub withdrawn-same : (k : ℕ) (B B′ : ℕ → Bid) → ((i : ℕ) → (i ≡ k → ⊥) → B′ i ≡ B i) → withdrawn k B′ ≡ withdrawn k B
+pub withdrawn-same : (k : ℕ) (B B′ : ℕ → Entry) → ((i : ℕ) → (i ≡ k → ⊥) → B′ i ≡ B i) → withdrawn k B′ ≡ withdrawn k B
 unfolding withdrawn
 withdrawn-same k B B′ h = fun-ext (λ i. go i (eqb i k) refl)
   where
@@ -51,14 +51,14 @@ withdrawn-same k B B′ h = fun-ext (λ i. go i (eqb i k) refl)
     go i true e = refl
     go i false e = h i (eqb-false i k e)
 
-pub withdrawn-reach : (k : ℕ) (B : ℕ → Bid) (O : List ℕ) (i : ℕ) → 0 < reach (withdrawn k B i .has) O → i ≡ k → ⊥
+pub withdrawn-reach : (k : ℕ) (B : ℕ → Entry) (O : List ℕ) (i : ℕ) → 0 < reach (withdrawn k B i .has) O → i ≡ k → ⊥
 unfolding withdrawn
 withdrawn-reach k B O i l e = omega (arith, reach-none O, rw (eq-eqb i k e) at l)
 
-abbrev pub Rightly : (ℕ → Bid) → ℕ → List ℕ → Found → Type 0
+abbrev pub Rightly : (ℕ → Entry) → ℕ → List ℕ → Found → Type 0
 Rightly B n O u = IsPick (λ i. B i .price) (λ i. reach (B i .has) O) n u
 
-pub best-right : (B : ℕ → Bid) (n : ℕ) (O : List ℕ) → Rightly B n O (best B n O)
+pub best-right : (B : ℕ → Entry) (n : ℕ) (O : List ℕ) → Rightly B n O (best B n O)
 unfolding best
 best-right B n O = pick-right (λ i. B i .price) (λ i. reach (B i .has) O) n
 
@@ -73,7 +73,7 @@ close-other g h (x ∷ xs) = go (g x) (close-other g h xs)
 
 -- a fact of a run, by its rounds: of the end, where nothing reaches an open cell, and of a round before others. As many rounds as
 -- open cells are enough
-module _ (B : ℕ → Bid) (n : ℕ) (P : List ℕ → Rounds → Type 0)
+module _ (B : ℕ → Entry) (n : ℕ) (P : List ℕ → Rounds → Type 0)
     (end : (O : List ℕ) → ((i : ℕ) → i < n → reach (B i .has) O ≡ 0) → P O (stop O))
     (more : (O : List ℕ) (i : ℕ) (t : Rounds) → Rightly B n O (found i) → P (close (B i .has) O) t → P O (round i (B i) O t)) where
   pub rounds : (f : ℕ) (O : List ℕ) → length O ≤ f → P O (run B n f O)
@@ -83,16 +83,16 @@ module _ (B : ℕ → Bid) (n : ℕ) (P : List ℕ → Rounds → Type 0)
   rounds (suc f) O l = go (best B n O) (best-right B n O) (λ i h. rounds f (close (B i .has) O) (omega (arith, shrink (B i .has) O)))
     where
       go : (u : Found) → Rightly B n O u → ((i : ℕ) → 0 < reach (B i .has) O → P (close (B i .has) O) (run B n f (close (B i .has) O)))
-          → P O (grow B O u (λ i. run B n f (close (B i .has) O)))
+          → P O (growRun B O u (λ i. run B n f (close (B i .has) O)))
       go nothing x ih = end O (λ i m. omega (arith, x i m))
       go (found a) x ih = more O a _ x (ih a (x .good))
 
-pub once : (B : ℕ → Bid) (n k f : ℕ) (O : List ℕ) → length O ≤ f → reach (B k .has) O ≡ 0 → taken k (run B n f O) ≡ false
+pub once : (B : ℕ → Entry) (n k f : ℕ) (O : List ℕ) → length O ≤ f → reach (B k .has) O ≡ 0 → taken k (run B n f O) ≡ false
 unfolding taken
 once B n k = rounds B n (λ O t. reach (B k .has) O ≡ 0 → taken k t ≡ false) (λ O e z. refl)
     (λ O i t b ih z. rw (ne-eqb i k (λ j. omega (arith, z, rw j at (b .good))), ih (omega (arith, close-other (B i .has) (B k .has) O))))
 
-module _ (n k : ℕ) (inside : k < n) (B : ℕ → Bid) where
+module _ (n k : ℕ) (inside : k < n) (B : ℕ → Entry) where
   abbrev p : ℕ → ℕ
   p i = B i .price
 
@@ -124,7 +124,7 @@ module _ (n k : ℕ) (inside : k < n) (B : ℕ → Bid) where
       same-b : withdrawn k B b ≡ B b
       same-b = withdrawn-other k B b (withdrawn-reach k B O b (y .good))
 
-      a-first : Before p (r O) a b
+      a-first : TakenBefore p (r O) a b
       a-first = x .least b (y .inside) (rw same-b at (y .good))
 
       equal : withdrawn k B a ≡ B a → a ≡ b
@@ -166,7 +166,7 @@ module _ (n k : ℕ) (inside : k < n) (B : ℕ → Bid) where
 
       go : (u v : Found) → Rightly (withdrawn k B) n O v → ((u ≡ found k) × (here O v ≡ true)) ⊎ ((u ≡ v) × (here O v ≡ false))
           → ((i : ℕ) → 0 < r O i → taken k (s i) ≡ chance k (p k) (B k .has) (run (withdrawn k B) n f (close (B i .has) O)))
-          → taken k (grow B O u s) ≡ chance k (p k) (B k .has) (grow (withdrawn k B) O v t)
+          → taken k (growRun B O u s) ≡ chance k (p k) (B k .has) (growRun (withdrawn k B) O v t)
       go u nothing y (inl e) ih = rw (e .0, e .1, eq-eqb k k refl)
       go u (found b) y (inl e) ih = rw (e .0, e .1, eq-eqb k k refl)
       go u nothing y (inr e) ih = rw (e .0, e .1)
@@ -188,9 +188,9 @@ module _ (n k : ℕ) (inside : k < n) (B : ℕ → Bid) where
       t i = run (withdrawn k B) n f (close (withdrawn k B i .has) O)
 
       go : (u v : Found) → Rightly (withdrawn k B) n O v → ((u ≡ found k) × (here O v ≡ true)) ⊎ ((u ≡ v) × (here O v ≡ false))
-          → taken k (grow B O u s) ≡ false
+          → taken k (growRun B O u s) ≡ false
           → ((i : ℕ) → taken k (s i) ≡ false → s i ≡ run (withdrawn k B) n f (close (B i .has) O))
-          → grow B O u s ≡ grow (withdrawn k B) O v t
+          → growRun B O u s ≡ growRun (withdrawn k B) O v t
       go u v y (inl h) e ih = absurd (true≢false (rw (h .0, eq-eqb k k refl) at e))
       go u nothing y (inr h) e ih = rw (h .0)
       go u (found b) y (inr h) e ih = let ne = withdrawn-reach k B O b (y .good) in

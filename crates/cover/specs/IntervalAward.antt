@@ -10,7 +10,7 @@ use borrow.Author.Tests.{le-ltb}
 use Rattle.cover.specs.Sets.{Found, all, bit, cost, covers, found, hit, nothing, valueOf}
 use Rattle.cover.specs.LeastCover.{first, payment, vcgPaid, winners, without}
 use Rattle.cover.specs.SetMembers.{cost-none}
-use Rattle.cover.specs.Intervals.{Order, costOf, coversFrom, leastSet, plus, reaches, scan}
+use Rattle.cover.specs.Intervals.{Order, foundCost, coversFrom, leastSet, plus, reaches, scan}
 use Rattle.cover.specs.IntervalPrefix.{Prefixes, award}
 use Rattle.cover.specs.IntervalCover.{covers-prefixes, priced}
 
@@ -36,8 +36,8 @@ unfolding winners leastSet
 others-are L has n ps k = ap (λ ok. valueOf (first (λ s. without k ok s) (cost ps) (2 ^ length ps)))
     (fun-ext (λ s. sym (covers-is has n L s)))
 
-pub cost-value : (ps : List ℕ) (r : Found) → cost ps (valueOf r) ≡ valueOf (costOf (cost ps) r)
-unfolding valueOf costOf
+pub cost-value : (ps : List ℕ) (r : Found) → cost ps (valueOf r) ≡ valueOf (foundCost (cost ps) r)
+unfolding valueOf foundCost
 cost-value ps nothing = cost-none ps
 cost-value ps (found s) = refl
 
@@ -45,7 +45,7 @@ cost-value ps (found s) = refl
 pub paid-is : (L : ℕ) (has : ℕ → ℕ → Bool) (n : ℕ) (ps : List ℕ) (k : ℕ) →
     let m = winners (covers has n L) ps in
     vcgPaid (covers has n L) ps k ≡ payment (bit m k)
-    (valueOf (costOf (cost ps) (leastSet (λ t s. without k (coversFrom (λ x. x) 0 has n t) s) (cost ps) (length ps) L))) (cost ps m)
+    (valueOf (foundCost (cost ps) (leastSet (λ t s. without k (coversFrom (λ x. x) 0 has n t) s) (cost ps) (length ps) L))) (cost ps m)
     (getD ps k 0)
 unfolding vcgPaid
 paid-is L has n ps k = rw (

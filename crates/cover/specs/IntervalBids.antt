@@ -8,7 +8,7 @@ use lib.Dec.{eqb}
 use Rattle.cover.specs.Sets.{Found, nothing, cost}
 use Rattle.cover.specs.LeastCover.{without}
 use Rattle.cover.specs.Settled.{spans}
-use Rattle.cover.specs.Intervals.{costOf, raise, leastSet, coversFrom, Order}
+use Rattle.cover.specs.Intervals.{foundCost, raise, leastSet, coversFrom, Order}
 
 abbrev pub anyBid : ℕ → Bool
 anyBid i = true
@@ -30,8 +30,8 @@ unfolding leastSet coversBelow
 leastBelow a b ps t = leastSet (coversBelow a b (length ps)) (cost ps) (length ps) t
 
 unfoldable pub costBelow : List ℕ → List ℕ → List ℕ → ℕ → Found
-unfolding costOf leastBelow
-costBelow a b ps t = costOf (cost ps) (leastBelow a b ps t)
+unfolding foundCost leastBelow
+costBelow a b ps t = foundCost (cost ps) (leastBelow a b ps t)
 
 -- the same without bid k
 unfoldable pub othersBelow : ℕ → List ℕ → List ℕ → ℕ → ℕ → ℕ → Bool
@@ -39,8 +39,8 @@ unfolding without coversBelow
 othersBelow k a b n t s = without k (coversBelow a b n t) s
 
 unfoldable pub costWithout : ℕ → List ℕ → List ℕ → List ℕ → ℕ → Found
-unfolding costOf leastSet othersBelow
-costWithout k a b ps t = costOf (cost ps) (leastSet (othersBelow k a b (length ps)) (cost ps) (length ps) t)
+unfolding foundCost leastSet othersBelow
+costWithout k a b ps t = foundCost (cost ps) (leastSet (othersBelow k a b (length ps)) (cost ps) (length ps) t)
 
 -- bid i and the least cost without bid k before it; nothing for bid k itself
 unfoldable pub endCost : ℕ → List ℕ → List ℕ → List ℕ → ℕ → Found
@@ -49,5 +49,5 @@ endCost k a b ps i = cond (eqb i k) nothing (raise (getD ps i 0) (costWithout k 
 
 -- the least cost of the cells from the end of bid i up to L
 unfoldable pub costAfter : List ℕ → List ℕ → List ℕ → ℕ → ℕ → Found
-unfolding costOf leastSet coversFrom spans
-costAfter a b ps L i = costOf (cost ps) (leastSet (coversFrom (λ x. x) (getD b i 0) (spans a b) (length ps)) (cost ps) (length ps) L)
+unfolding foundCost leastSet coversFrom spans
+costAfter a b ps L i = foundCost (cost ps) (leastSet (coversFrom (λ x. x) (getD b i 0) (spans a b) (length ps)) (cost ps) (length ps) L)

@@ -14,10 +14,10 @@ use Rattle.cover.specs.LeastCover.{winners, without, payment, vcgPaid}
 use Rattle.cover.specs.LeastCoverLaws.{IsFirst}
 use Rattle.cover.specs.CriticalPrice.{sum}
 use Rattle.cover.specs.Settled.{spans}
-use Rattle.cover.specs.Intervals.{costOf, scanCost, lesserCost, raise, across, leastSet, reaches, At, coversFrom, others}
+use Rattle.cover.specs.Intervals.{foundCost, scanCost, lesserCost, raise, across, leastSet, reaches, At, coversFrom, mayBut}
 use Rattle.cover.specs.IntervalScan.{found-one, none-found, Family, least-same, right-least}
 use Rattle.cover.specs.IntervalPrefix.{Prefixes, leastSet-right, leastSet-is, upper-cost, start, scan-cost}
-use Rattle.cover.specs.IntervalCover.{covers-prefixes, without-prefixes, priced, split}
+use Rattle.cover.specs.IntervalCover.{covers-prefixes, without-prefixes, priced, and-not-split}
 use Rattle.cover.specs.IntervalSplit.{unneeded}
 use Rattle.cover.specs.IntervalPay.{cost-without}
 use Rattle.cover.specs.IntervalAward.{winners-are, paid-is, whole}
@@ -33,8 +33,8 @@ unfolding cost sum
 cost-most [] s = omega arith
 cost-most (p ∷ ps) s = omega (arith, when-most (bit s 0) p, cost-most ps (s / 2))
 
-value-most : (ps : List ℕ) (r : Found) → valueOf (costOf (cost ps) r) ≤ sum ps
-unfolding valueOf costOf
+value-most : (ps : List ℕ) (r : Found) → valueOf (foundCost (cost ps) r) ≤ sum ps
+unfolding valueOf foundCost
 value-most ps nothing = omega arith
 value-most ps (found s) = cost-most ps s
 
@@ -70,11 +70,11 @@ module _ (a b ps : List ℕ) where
 
   -- a bid and what comes before it cost no more than all the bids
   pub fits : (i c : ℕ) → i < length ps → costBelow a b ps (getD a i 0) ≡ found c → c + getD ps i 0 ≤ sum ps
-  unfolding costBelow leastBelow costOf
+  unfolding costBelow leastBelow foundCost
   fits i c l e = go (leastSet (coversBelow a b (length ps)) (cost ps) (length ps) (getD a i 0)) e
       (leastSet-right (coversBelow a b (length ps)) (cost ps) (length ps) (getD a i 0))
     where
-      go : (r : Found) → costOf (cost ps) r ≡ found c → IsFirst (coversBelow a b (length ps) (getD a i 0)) (cost ps) (2 ^ length ps) r
+      go : (r : Found) → foundCost (cost ps) r ≡ found c → IsFirst (coversBelow a b (length ps) (getD a i 0)) (cost ps) (2 ^ length ps) r
           → c + getD ps i 0 ≤ sum ps
       go nothing e w = absurd (none-found e)
       go (found m) e w = omega (
@@ -87,30 +87,30 @@ module _ (a b ps : List ℕ) where
 
 -- without bid k
 module _ (k : ℕ) (a b ps : List ℕ) where
-  pub prefixes-without : (L : ℕ) → Prefixes (length ps) 0 L (λ i. getD a i 0) (λ i. getD b i 0) (others k anyBid)
+  pub prefixes-without : (L : ℕ) → Prefixes (length ps) 0 L (λ i. getD a i 0) (λ i. getD b i 0) (mayBut k anyBid)
       (othersBelow k a b (length ps))
   unfolding othersBelow
   prefixes-without L = without-prefixes (length ps) 0 L (λ i. getD a i 0) (λ i. getD b i 0) anyBid (coversBelow a b (length ps)) k
       (prefixes a b ps L)
 
   pub without-none : costWithout k a b ps 0 ≡ found 0
-  unfolding costWithout costOf
-  without-none = ap (costOf (cost ps)) (start (length ps) 0 0 (λ i. getD a i 0) (λ i. getD b i 0) (λ i. getD ps i 0) (cost ps)
-      (others k anyBid) (othersBelow k a b (length ps)) (prefixes-without 0) (priced ps) 0 (omega arith)) ∙ ap found (priced ps .empty)
+  unfolding costWithout foundCost
+  without-none = ap (foundCost (cost ps)) (start (length ps) 0 0 (λ i. getD a i 0) (λ i. getD b i 0) (λ i. getD ps i 0) (cost ps)
+      (mayBut k anyBid) (othersBelow k a b (length ps)) (prefixes-without 0) (priced ps) 0 (omega arith)) ∙ ap found (priced ps .empty)
 
   pub fits-without : (i c : ℕ) → i < length ps → costWithout k a b ps (getD a i 0) ≡ found c → c + getD ps i 0 ≤ sum ps
-  unfolding costWithout costOf
+  unfolding costWithout foundCost
   fits-without i c l e = go (leastSet (othersBelow k a b (length ps)) (cost ps) (length ps) (getD a i 0)) e
       (leastSet-right (othersBelow k a b (length ps)) (cost ps) (length ps) (getD a i 0))
     where
-      go : (r : Found) → costOf (cost ps) r ≡ found c → IsFirst (othersBelow k a b (length ps) (getD a i 0)) (cost ps) (2 ^ length ps) r
+      go : (r : Found) → foundCost (cost ps) r ≡ found c → IsFirst (othersBelow k a b (length ps) (getD a i 0)) (cost ps) (2 ^ length ps) r
           → c + getD ps i 0 ≤ sum ps
       go nothing e w = absurd (none-found e)
       go (found m) e w = omega (
         arith,
         found-one e,
         cost-most ps (m + 2 ^ i),
-        upper-cost (length ps) 0 (getD a i 0) (λ i. getD a i 0) (λ i. getD b i 0) (λ i. getD ps i 0) (cost ps) (others k anyBid)
+        upper-cost (length ps) 0 (getD a i 0) (λ i. getD a i 0) (λ i. getD b i 0) (λ i. getD ps i 0) (cost ps) (mayBut k anyBid)
             (othersBelow k a b (length ps)) (prefixes-without (getD a i 0)) (priced ps) i m l (omega arith) w,
       )
 
@@ -131,11 +131,11 @@ module _ (k : ℕ) (a b ps : List ℕ) where
       → ((i : ℕ) → i < length ps → getD a i 0 < t → t ≤ getD b i 0 → At xs m i)
       → ((j : ℕ) → j < m → v j ≡ endCost k a b ps (xs j))
       → scanCost (reaches (λ i. getD a i 0) (λ i. getD b i 0) anyBid xs t) v m ≡ costWithout k a b ps t
-  unfolding costWithout endCost reaches others
+  unfolding costWithout endCost reaches mayBut
   scan-without xs v m t z bids every values =
       scan-same (reaches (λ i. getD a i 0) (λ i. getD b i 0) anyBid xs t)
-      (reaches (λ i. getD a i 0) (λ i. getD b i 0) (others k anyBid) xs t) v u m same
-      ∙ scan-cost (length ps) 0 t (λ i. getD a i 0) (λ i. getD b i 0) (λ i. getD ps i 0) (cost ps) (others k anyBid)
+      (reaches (λ i. getD a i 0) (λ i. getD b i 0) (mayBut k anyBid) xs t) v u m same
+      ∙ scan-cost (length ps) 0 t (λ i. getD a i 0) (λ i. getD b i 0) (λ i. getD ps i 0) (cost ps) (mayBut k anyBid)
       (othersBelow k a b (length ps)) (prefixes-without t) (priced ps)
       xs u m t z (omega arith) bids every (λ q d g. refl)
     where
@@ -144,19 +144,19 @@ module _ (k : ℕ) (a b ps : List ℕ) where
 
       same : (q : ℕ) → q < m → (r : Found)
           → cond (reaches (λ i. getD a i 0) (λ i. getD b i 0) anyBid xs t q) (lesserCost (v q) r) r
-          ≡ cond (reaches (λ i. getD a i 0) (λ i. getD b i 0) (others k anyBid) xs t q) (lesserCost (u q) r) r
+          ≡ cond (reaches (λ i. getD a i 0) (λ i. getD b i 0) (mayBut k anyBid) xs t q) (lesserCost (u q) r) r
       same q d r = rw (values q d) (drop-one (eqb (xs q) k) (ltb (getD a (xs q) 0) t && leb t (getD b (xs q) 0)) (u q) r)
 
   -- up to its start bid k is not needed
   pub near : (u : ℕ) → k < length ps → u ≤ getD a k 0 → costWithout k a b ps u ≡ costBelow a b ps u
   unfolding costWithout costBelow leastBelow othersBelow
-  near u l d = ap (costOf (cost ps)) (unneeded (length ps) 0 u (λ i. getD a i 0) (λ i. getD b i 0) (λ i. getD ps i 0) (cost ps) anyBid
+  near u l d = ap (foundCost (cost ps)) (unneeded (length ps) 0 u (λ i. getD a i 0) (λ i. getD b i 0) (λ i. getD ps i 0) (cost ps) anyBid
       (coversBelow a b (length ps)) (prefixes a b ps u) (priced ps) k u l (omega arith) (λ x z g y w. omega arith))
 
   -- a bid that ends before the first cell is not needed at all
   pub idle : (L : ℕ) → k < length ps → getD b k 0 ≡ 0 → costWithout k a b ps L ≡ costBelow a b ps L
   unfolding costWithout costBelow leastBelow othersBelow
-  idle L l d = ap (costOf (cost ps)) (unneeded (length ps) 0 L (λ i. getD a i 0) (λ i. getD b i 0) (λ i. getD ps i 0) (cost ps) anyBid
+  idle L l d = ap (foundCost (cost ps)) (unneeded (length ps) 0 L (λ i. getD a i 0) (λ i. getD b i 0) (λ i. getD ps i 0) (cost ps) anyBid
       (coversBelow a b (length ps)) (prefixes a b ps L) (priced ps) k L l (omega arith) (λ x z g y w. omega arith))
 
   -- the bids of a list that have the last cell of bid k: what comes before each, its price, and what comes after
@@ -166,10 +166,10 @@ module _ (k : ℕ) (a b ps : List ℕ) where
       → ((j : ℕ) → j < m → g j ≡ cond (eqb (xs j) k) nothing
       (across (getD ps (xs j) 0) (costWithout k a b ps (getD a (xs j) 0)) (costAfter a b ps L (xs j))))
       → scanCost (reaches (λ i. getD a i 0) (λ i. getD b i 0) anyBid xs (getD b k 0)) g m ≡ costWithout k a b ps L
-  unfolding costWithout othersBelow coversBelow costAfter reaches others spans
+  unfolding costWithout othersBelow coversBelow costAfter reaches mayBut spans
   scan-across L xs g m l z f bids every values =
       scan-same (reaches (λ i. getD a i 0) (λ i. getD b i 0) anyBid xs (getD b k 0))
-      (reaches (λ i. getD a i 0) (λ i. getD b i 0) (others k anyBid) xs (getD b k 0)) g v m same
+      (reaches (λ i. getD a i 0) (λ i. getD b i 0) (mayBut k anyBid) xs (getD b k 0)) g v m same
       ∙ cost-without (length ps) L (λ i. getD a i 0) (λ i. getD b i 0) (λ i. getD ps i 0) (cost ps) anyBid
       (λ o. coversFrom (λ x. x) o (spans a b) (length ps)) family (priced ps) k l
       xs v m 0 z f bids every (λ q d x y. refl)
@@ -182,7 +182,7 @@ module _ (k : ℕ) (a b ps : List ℕ) where
 
       same : (q : ℕ) → q < m → (r : Found)
           → cond (reaches (λ i. getD a i 0) (λ i. getD b i 0) anyBid xs (getD b k 0) q) (lesserCost (g q) r) r
-          ≡ cond (reaches (λ i. getD a i 0) (λ i. getD b i 0) (others k anyBid) xs (getD b k 0) q) (lesserCost (v q) r) r
+          ≡ cond (reaches (λ i. getD a i 0) (λ i. getD b i 0) (mayBut k anyBid) xs (getD b k 0) q) (lesserCost (v q) r) r
       same q d r = rw (values q d) (drop-one (eqb (xs q) k) (ltb (getD a (xs q) 0) (getD b k 0) && leb (getD b k 0) (getD b (xs q) 0))
           (v q) r)
 
@@ -194,12 +194,12 @@ bit-past (suc n) s l = bit-past n (s / 2) (omega (arith, pow-suc 2 n))
 -- there is no bid past the last
 pub without-past : (a b ps : List ℕ) (t : ℕ) → costWithout (length ps) a b ps t ≡ costBelow a b ps t
 unfolding costWithout costBelow leastBelow othersBelow without
-without-past a b ps t = ap (costOf (cost ps)) (sym
+without-past a b ps t = ap (foundCost (cost ps)) (sym
     (leastSet-is (λ t s. without (length ps) (coversBelow a b (length ps) t) s) (cost ps) (length ps) t r
     (least-same (Family (coversBelow a b (length ps) t) (2 ^ length ps))
     (Family (λ s. without (length ps) (coversBelow a b (length ps) t) s) (2 ^ length ps)) (cost ps)
     (λ s q. record { inside = q .inside; good = rw (q .good, bit-past (length ps) s (q .inside)) })
-    (λ s q. record { inside = q .inside; good = split (coversBelow a b (length ps) t s) (bit s (length ps)) (q .good) .0 })
+    (λ s q. record { inside = q .inside; good = and-not-split (coversBelow a b (length ps) t s) (bit s (length ps)) (q .good) .0 })
     r (right-least (coversBelow a b (length ps) t) (cost ps) (2 ^ length ps) r
     (leastSet-right (coversBelow a b (length ps)) (cost ps) (length ps) t)))))
   where

@@ -13,8 +13,8 @@ use Rattle.cover.specs.Sets.{bit, cost, hit}
 use Rattle.cover.specs.LeastCover.{without}
 use Rattle.cover.specs.SetLaws.{or-split, Member, all-at, all-of, and-split, hit-of, hit-some}
 use Rattle.cover.specs.SetMembers.{added, cost-add, cost-none}
-use Rattle.cover.specs.Intervals.{coversFrom, others}
-use Rattle.cover.specs.IntervalPrefix.{Last, Prefixes, Priced}
+use Rattle.cover.specs.Intervals.{coversFrom, mayBut}
+use Rattle.cover.specs.IntervalPrefix.{Last, Prefixes, AddsUp}
 
 -- up to L, bid i has the cells from a i to b i
 module _ (f : ℕ → ℕ) (o L : ℕ) (has : ℕ → ℕ → Bool) (n : ℕ) (a b : ℕ → ℕ)
@@ -93,7 +93,7 @@ module _ (f : ℕ → ℕ) (o L : ℕ) (has : ℕ → ℕ → Bool) (n : ℕ) (a
     add = λ t m i l j u k x y e. add t m i l j k y e;
   }
 
-pub priced : (ps : List ℕ) → Priced (length ps) (λ i. getD ps i 0) (cost ps)
+pub priced : (ps : List ℕ) → AddsUp (length ps) (λ i. getD ps i 0) (cost ps)
 priced ps = record { empty = cost-none ps; join = λ i m l e. cost-add ps i m l e }
 
 pub bit-none : (i : ℕ) → bit 0 i ≡ false
@@ -101,21 +101,21 @@ unfolding bit
 bit-none zero = refl
 bit-none (suc i) = bit-none i
 
-pub split : (a b : Bool) → a && not b ≡ true → (a ≡ true) × (b ≡ false)
-split true false e = (refl, refl)
-split true true e = absurd (false≢true e)
-split false b e = absurd (false≢true e)
+pub and-not-split : (a b : Bool) → a && not b ≡ true → (a ≡ true) × (b ≡ false)
+and-not-split true false e = (refl, refl)
+and-not-split true true e = absurd (false≢true e)
+and-not-split false b e = absurd (false≢true e)
 
 -- the sets without bid k: as though it might not be used
 module _ (n o L : ℕ) (a b : ℕ → ℕ) (may : ℕ → Bool) (ok : ℕ → ℕ → Bool) (k : ℕ) (h : Prefixes n o L a b may ok) where
-  without-last : (t s : ℕ) → o < t → t ≤ L → without k (ok t) s ≡ true → Last n a b (others k may) t s
-  unfolding without others
-  without-last t s z l e = go (split (ok t s) (bit s k) e)
+  without-last : (t s : ℕ) → o < t → t ≤ L → without k (ok t) s ≡ true → Last n a b (mayBut k may) t s
+  unfolding without mayBut
+  without-last t s z l e = go (and-not-split (ok t s) (bit s k) e)
     where
-      go : (ok t s ≡ true) × (bit s k ≡ false) → Last n a b (others k may) t s
+      go : (ok t s ≡ true) × (bit s k ≡ false) → Last n a b (mayBut k may) t s
       go q = by (h .last t s z l (q .0))
         where
-          by : Last n a b may t s → Last n a b (others k may) t s
+          by : Last n a b may t s → Last n a b (mayBut k may) t s
           by m = record {
             bid = m .bid;
             inside = m .inside;
@@ -128,7 +128,7 @@ module _ (n o L : ℕ) (a b : ℕ → ℕ) (may : ℕ → Bool) (ok : ℕ → �
   without-drop : (t m i : ℕ) → t ≤ L → ((x : ℕ) → o ≤ x → x < t → a i ≤ x → x < b i → ⊥) → bit m i ≡ false
       → without k (ok t) (m + 2 ^ i) ≡ true → without k (ok t) m ≡ true
   unfolding without
-  without-drop t m i l d x e = go (split (ok t (m + 2 ^ i)) (bit (m + 2 ^ i) k) e)
+  without-drop t m i l d x e = go (and-not-split (ok t (m + 2 ^ i)) (bit (m + 2 ^ i) k) e)
     where
       go : (ok t (m + 2 ^ i) ≡ true) × (bit (m + 2 ^ i) k ≡ false) → without k (ok t) m ≡ true
       go q = rw (h .drop t m i l d x (q .0), by (eqb k i) refl)
@@ -137,19 +137,19 @@ module _ (n o L : ℕ) (a b : ℕ → ℕ) (may : ℕ → Bool) (ok : ℕ → �
           by true g = ap (bit m) (eqb-true k i g) ∙ x
           by false g = sym (added i m x .keeps k (eqb-false k i g)) ∙ q .1
 
-  without-add : (t m i : ℕ) → t ≤ L → i < n → others k may i ≡ true → bit m i ≡ false → a i < t → t ≤ b i → without k (ok (a i)) m ≡ true
+  without-add : (t m i : ℕ) → t ≤ L → i < n → mayBut k may i ≡ true → bit m i ≡ false → a i < t → t ≤ b i → without k (ok (a i)) m ≡ true
       → without k (ok t) (m + 2 ^ i) ≡ true
-  unfolding without others
-  without-add t m i l j u x y z e = go (split (ok (a i) m) (bit m k) e) (split (may i) (eqb i k) u)
+  unfolding without mayBut
+  without-add t m i l j u x y z e = go (and-not-split (ok (a i) m) (bit m k) e) (and-not-split (may i) (eqb i k) u)
     where
       go : (ok (a i) m ≡ true) × (bit m k ≡ false) → (may i ≡ true) × (eqb i k ≡ false) → without k (ok t) (m + 2 ^ i) ≡ true
       go q w = rw (h .add t m i l j (w .0) x y z (q .0), added i m x .keeps k (λ g. eqb-false i k (w .1) (sym g)), q .1)
 
-  pub without-prefixes : Prefixes n o L a b (others k may) (λ t s. without k (ok t) s)
+  pub without-prefixes : Prefixes n o L a b (mayBut k may) (λ t s. without k (ok t) s)
   unfolding without
   without-prefixes = record {
     none = λ t l. rw (h .none t l, bit-none k);
-    less = λ t u s l e. let q = split (ok t s) (bit s k) e in rw (h .less t u s l (q .0), q .1);
+    less = λ t u s l e. let q = and-not-split (ok t s) (bit s k) e in rw (h .less t u s l (q .0), q .1);
     last = without-last;
     drop = without-drop;
     add = without-add;

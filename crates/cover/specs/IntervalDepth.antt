@@ -11,11 +11,11 @@ use Rattle.cover.specs.LeastCover.{Wins}
 use Rattle.cover.specs.SetLaws.{hit-of}
 use Rattle.cover.specs.SetMembers.{Removed, added, removed}
 use Rattle.cover.specs.Intervals.{coversFrom}
-use Rattle.cover.specs.IntervalPrefix.{Priced}
+use Rattle.cover.specs.IntervalPrefix.{AddsUp}
 use Rattle.cover.specs.IntervalCover.{spare}
 
 -- a winner with a bid that can go is none
-pub tight : (n : ℕ) (p cost : ℕ → ℕ) (ok : ℕ → Bool) → Priced n p cost → (m i : ℕ) → i < n → Wins ok cost (2 ^ n) m → (d : Removed m i)
+pub tight : (n : ℕ) (p cost : ℕ → ℕ) (ok : ℕ → Bool) → AddsUp n p cost → (m i : ℕ) → i < n → Wins ok cost (2 ^ n) m → (d : Removed m i)
     → ok (d .rest) ≡ true → ⊥
 tight n p cost ok c m i l w d g = omega (
   arith,
@@ -38,7 +38,7 @@ pub record Has (n : ℕ) (a b : ℕ → ℕ) (m x i : ℕ) : Type 0 where
 
 module _ (f : ℕ → ℕ) (o L : ℕ) (has : ℕ → ℕ → Bool) (n : ℕ) (a b p cost : ℕ → ℕ)
     (sees : (i x : ℕ) → i < n → x < L → has i (f x) ≡ leb (a i) x && ltb x (b i))
-    (c : Priced n p cost) (m : ℕ) (w : Wins (coversFrom f o has n L) cost (2 ^ n) m) (x : ℕ) where
+    (c : AddsUp n p cost) (m : ℕ) (w : Wins (coversFrom f o has n L) cost (2 ^ n) m) (x : ℕ) where
   -- the middle one of three
   middle : (lo i hi : ℕ) → Has n a b m x lo → Has n a b m x i → Has n a b m x hi → (lo ≡ i → ⊥) → (hi ≡ i → ⊥) → a lo ≤ a i → b i ≤ b hi → ⊥
   middle lo i hi u v y d e g k = go (removed i m (v .takes))

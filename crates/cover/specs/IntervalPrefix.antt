@@ -12,8 +12,8 @@ use Rattle.cover.specs.LeastCover.{Wins}
 use Rattle.cover.specs.LeastCoverLaws.{IsFirst, first-right}
 use Rattle.cover.specs.SetLaws.{and-split}
 use Rattle.cover.specs.SetMembers.{Removed, add-below, removed}
-use Rattle.cover.specs.Intervals.{At, Order, costOf, grow, growCost, leastSet, plus, raise, reaches, scan, scanCost}
-use Rattle.cover.specs.IntervalScan.{Before, Family, IsLeast, Picked, cost-scan, found-one, least-of, least-one, least-same}
+use Rattle.cover.specs.Intervals.{At, Order, foundCost, growSet, growCost, leastSet, plus, raise, reaches, scan, scanCost}
+use Rattle.cover.specs.IntervalScan.{SomeBefore, Family, IsLeast, Picked, cost-scan, found-one, least-of, least-one, least-same}
 use Rattle.cover.specs.IntervalScan.{none-found, right-least, scan-least}
 
 -- a bid of s that has the cell before t
@@ -34,7 +34,7 @@ pub record Prefixes (n o L : ℕ) (a b : ℕ → ℕ) (may : ℕ → Bool) (ok :
       → ok t m ≡ true
   pub add : (t m i : ℕ) → t ≤ L → i < n → may i ≡ true → bit m i ≡ false → a i < t → t ≤ b i → ok (a i) m ≡ true → ok t (m + 2 ^ i) ≡ true
 
-pub record Priced (n : ℕ) (p cost : ℕ → ℕ) : Type 0 where
+pub record AddsUp (n : ℕ) (p cost : ℕ → ℕ) : Type 0 where
   pub empty : cost 0 ≡ 0
   pub join : (i m : ℕ) → i < n → bit m i ≡ false → cost (m + 2 ^ i) ≡ cost m + p i
 
@@ -80,7 +80,7 @@ pub leastSet-is : (ok : ℕ → ℕ → Bool) (cost : ℕ → ℕ) (n t : ℕ) (
 leastSet-is ok cost n t r h = least-one (Family (ok t) (2 ^ n)) cost r (leastSet ok cost n t) h
     (right-least (ok t) cost (2 ^ n) (leastSet ok cost n t) (leastSet-right ok cost n t))
 
-module _ (n o L : ℕ) (a b p cost : ℕ → ℕ) (may : ℕ → Bool) (ok : ℕ → ℕ → Bool) (h : Prefixes n o L a b may ok) (c : Priced n p cost) where
+module _ (n o L : ℕ) (a b p cost : ℕ → ℕ) (may : ℕ → Bool) (ok : ℕ → ℕ → Bool) (h : Prefixes n o L a b may ok) (c : AddsUp n p cost) where
   -- a winner is without a bid that has none of the cells
   pub lacks : (u i m : ℕ) → i < n → ((x : ℕ) → o ≤ x → x < u → a i ≤ x → x < b i → ⊥) → u ≤ L → Wins (ok u) cost (2 ^ n) m → bit m i ≡ false
   lacks u i m l y f w = go (bit m i) refl
@@ -146,12 +146,12 @@ module _ (n o L : ℕ) (a b p cost : ℕ → ℕ) (may : ℕ → Bool) (ok : ℕ
       go nothing e w = absurd (none-found e)
       go (found m) e w = rw (← found-one e) (upper t (x .bid) m f (x .inside) (x .usable) (x .begins) (x .ends) w)
 
-  cand-before : (t s : ℕ) → t ≤ L → LastOf n a b p cost may ok t s → Before (Candidate n a b cost may ok t) cost s
+  cand-before : (t s : ℕ) → t ≤ L → LastOf n a b p cost may ok t s → SomeBefore (Candidate n a b cost may ok t) cost s
   unfolding plus
   cand-before t s f x = go (leastSet ok cost n (a (x .bid))) refl (leastSet-right ok cost n (a (x .bid)))
     where
       go : (r : Found) → leastSet ok cost n (a (x .bid)) ≡ r → IsFirst (ok (a (x .bid))) cost (2 ^ n) r
-          → Before (Candidate n a b cost may ok t) cost s
+          → SomeBefore (Candidate n a b cost may ok t) cost s
       go nothing e w = absurd (w (x .rest) (x .covers .inside) (x .covers .good))
       go (found m) e w = record {
         one = m + 2 ^ x .bid;
@@ -219,12 +219,12 @@ module _ (n o L : ℕ) (a b p cost : ℕ → ℕ) (may : ℕ → Bool) (ok : ℕ
     pub scan-leastSet : scan cost (reaches a b may at t) v k ≡ leastSet ok cost n t
     scan-leastSet = scanned (scan cost (reaches a b may at t) v k) (scan-least cost (reaches a b may at t) v k)
 
-  pub cost-plus : (i : ℕ) → i < n → a i ≤ L → costOf cost (plus i (leastSet ok cost n (a i)))
-      ≡ raise (p i) (costOf cost (leastSet ok cost n (a i)))
-  unfolding costOf plus raise
+  pub cost-plus : (i : ℕ) → i < n → a i ≤ L → foundCost cost (plus i (leastSet ok cost n (a i)))
+      ≡ raise (p i) (foundCost cost (leastSet ok cost n (a i)))
+  unfolding foundCost plus raise
   cost-plus i l f = go (leastSet ok cost n (a i)) (leastSet-right ok cost n (a i))
     where
-      go : (r : Found) → IsFirst (ok (a i)) cost (2 ^ n) r → costOf cost (plus i r) ≡ raise (p i) (costOf cost r)
+      go : (r : Found) → IsFirst (ok (a i)) cost (2 ^ n) r → foundCost cost (plus i r) ≡ raise (p i) (foundCost cost r)
       go nothing w = refl
       go (found m) w = ap found (upper-cost i m l f w)
 
@@ -232,16 +232,16 @@ module _ (n o L : ℕ) (a b p cost : ℕ → ℕ) (may : ℕ → Bool) (ok : ℕ
   pub scan-cost : (at : ℕ → ℕ) (w : ℕ → Found) (k t : ℕ) → o < t → t ≤ L
       → ((q : ℕ) → q < k → at q < n)
       → ((i : ℕ) → i < n → a i < t → t ≤ b i → At at k i)
-      → ((q : ℕ) → q < k → a (at q) < t → w q ≡ raise (p (at q)) (costOf cost (leastSet ok cost n (a (at q)))))
-      → scanCost (reaches a b may at t) w k ≡ costOf cost (leastSet ok cost n t)
+      → ((q : ℕ) → q < k → a (at q) < t → w q ≡ raise (p (at q)) (foundCost cost (leastSet ok cost n (a (at q)))))
+      → scanCost (reaches a b may at t) w k ≡ foundCost cost (leastSet ok cost n t)
   unfolding reaches
   scan-cost at w k t z f bids every values =
-      sym (cost-scan cost (reaches a b may at t) v w k same) ∙ ap (costOf cost) (scan-leastSet at v k t z f bids every (λ q l d. refl))
+      sym (cost-scan cost (reaches a b may at t) v w k same) ∙ ap (foundCost cost) (scan-leastSet at v k t z f bids every (λ q l d. refl))
     where
       v : ℕ → Found
       v q = plus (at q) (leastSet ok cost n (a (at q)))
 
-      same : (q : ℕ) → q < k → reaches a b may at t q ≡ true → w q ≡ costOf cost (v q)
+      same : (q : ℕ) → q < k → reaches a b may at t q ≡ true → w q ≡ foundCost cost (v q)
       same q l e = values q l before ∙ sym (cost-plus (at q) (bids q l) (omega (arith, before)))
         where
           before : a (at q) < t
@@ -251,8 +251,8 @@ module _ (n o L : ℕ) (a b p cost : ℕ → ℕ) (may : ℕ → Bool) (ok : ℕ
   module _ (at : ℕ → ℕ) (r : Order n a at) where
     pub grown : (v : ℕ → Found) (k : ℕ) → k < n → a (at k) ≤ L
         → ((q : ℕ) → q < k → a (at q) < L → v q ≡ plus (at q) (leastSet ok cost n (a (at q))))
-        → grow o a b cost may at v k ≡ plus (at k) (leastSet ok cost n (a (at k)))
-    unfolding grow
+        → growSet o a b cost may at v k ≡ plus (at k) (leastSet ok cost n (a (at k)))
+    unfolding growSet
     grown v k l f values = ap (plus (at k)) (go (leb (a (at k)) o) refl)
       where
         go : (t : Bool) → leb (a (at k)) o ≡ t → cond t (found 0) (scan cost (reaches a b may at (a (at k))) v k)
@@ -266,18 +266,18 @@ module _ (n o L : ℕ) (a b p cost : ℕ → ℕ) (may : ℕ → Bool) (ok : ℕ
     award v z values = scan-leastSet at v n L z (omega arith) (r .bids) (λ i d g u. r .every i d) values
 
     pub grown-cost : (w : ℕ → Found) (k : ℕ) → k < n → a (at k) ≤ L
-        → ((q : ℕ) → q < k → a (at q) < L → w q ≡ raise (p (at q)) (costOf cost (leastSet ok cost n (a (at q)))))
-        → growCost o a b p may at w k ≡ raise (p (at k)) (costOf cost (leastSet ok cost n (a (at k))))
-    unfolding growCost costOf
+        → ((q : ℕ) → q < k → a (at q) < L → w q ≡ raise (p (at q)) (foundCost cost (leastSet ok cost n (a (at q)))))
+        → growCost o a b p may at w k ≡ raise (p (at k)) (foundCost cost (leastSet ok cost n (a (at k))))
+    unfolding growCost foundCost
     grown-cost w k l f values = ap (raise (p (at k))) (go (leb (a (at k)) o) refl)
       where
         go : (t : Bool) → leb (a (at k)) o ≡ t → cond t (found 0) (scanCost (reaches a b may at (a (at k))) w k)
-            ≡ costOf cost (leastSet ok cost n (a (at k)))
-        go true e = sym (ap (costOf cost) (start (a (at k)) (leb-true (a (at k)) o e)) ∙ ap found (c .empty))
+            ≡ foundCost cost (leastSet ok cost n (a (at k)))
+        go true e = sym (ap (foundCost cost) (start (a (at k)) (leb-true (a (at k)) o e)) ∙ ap found (c .empty))
         go false e = scan-cost at w k (a (at k)) (leb-false (a (at k)) o e) f (λ q d. r .bids q (omega arith))
             (λ i d g u. ready n a at r k l i d (omega arith)) (λ q d g. values q d (omega arith))
 
     pub award-cost : (w : ℕ → Found) → o < L → ((q : ℕ) → q < n → a (at q) < L
-        → w q ≡ raise (p (at q)) (costOf cost (leastSet ok cost n (a (at q)))))
-        → scanCost (reaches a b may at L) w n ≡ costOf cost (leastSet ok cost n L)
+        → w q ≡ raise (p (at q)) (foundCost cost (leastSet ok cost n (a (at q)))))
+        → scanCost (reaches a b may at L) w n ≡ foundCost cost (leastSet ok cost n L)
     award-cost w z values = scan-cost at w n L z (omega arith) (r .bids) (λ i d g u. r .every i d) values

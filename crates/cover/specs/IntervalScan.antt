@@ -9,7 +9,7 @@ use lib.Dec.{ltb, eqb}
 use borrow.Author.Tests.{ltb-true, ltb-false, eqb-true, eqb-false}
 use Rattle.cover.specs.Sets.{Found, found, nothing}
 use Rattle.cover.specs.LeastCoverLaws.{IsFirst}
-use Rattle.cover.specs.Intervals.{costOf, earlier, lesser, lesserCost, scan, scanCost}
+use Rattle.cover.specs.Intervals.{foundCost, earlier, lesser, lesserCost, scan, scanCost}
 
 -- a is before b, or is b: by cost, and then by number
 pub record Precedes (cost : ℕ → ℕ) (a b : ℕ) : Type 0 where
@@ -34,7 +34,7 @@ IsLeast P cost nothing = (s : ℕ) → P s → ⊥
 IsLeast P cost (found b) = Least P cost b
 
 -- one of P is before s, or is s
-pub record Before (P : ℕ → Type 0) (cost : ℕ → ℕ) (s : ℕ) : Type 0 where
+pub record SomeBefore (P : ℕ → Type 0) (cost : ℕ → ℕ) (s : ℕ) : Type 0 where
   pub one : ℕ
   pub good : P one
   pub fore : Precedes cost one s
@@ -55,7 +55,7 @@ least-one P cost (found a) (found b) u v = ap found (le-antisymm (x .early same)
     same = le-antisymm (x .cheap) (y .cheap)
 
 -- candidates among which each set has one before it decide the least of the sets
-pub least-of : (P Q : ℕ → Type 0) (cost : ℕ → ℕ) → ((s : ℕ) → P s → Q s) → ((s : ℕ) → Q s → Before P cost s) → (r : Found)
+pub least-of : (P Q : ℕ → Type 0) (cost : ℕ → ℕ) → ((s : ℕ) → P s → Q s) → ((s : ℕ) → Q s → SomeBefore P cost s) → (r : Found)
     → IsLeast P cost r → IsLeast Q cost r
 least-of P Q cost f g nothing h = λ s q. h (g s q .one) (g s q .good)
 least-of P Q cost f g (found b) h = record {
@@ -195,33 +195,33 @@ module _ (cost : ℕ → ℕ) (test : ℕ → Bool) (v : ℕ → Found) where
   scan-least zero = λ s q. omega arith
   scan-least (suc k) = scan-step k (test k) (scan cost test v k) refl (scan-least k)
 
-cost-cond : (cost : ℕ → ℕ) (t : Bool) (x r : Found) → costOf cost (cond t x r) ≡ cond t (costOf cost x) (costOf cost r)
+cost-cond : (cost : ℕ → ℕ) (t : Bool) (x r : Found) → foundCost cost (cond t x r) ≡ cond t (foundCost cost x) (foundCost cost r)
 cost-cond cost true x r = refl
 cost-cond cost false x r = refl
 
-cost-lesser : (cost : ℕ → ℕ) (x r : Found) → costOf cost (lesser cost x r) ≡ lesserCost (costOf cost x) (costOf cost r)
-unfolding lesser lesserCost costOf
+cost-lesser : (cost : ℕ → ℕ) (x r : Found) → foundCost cost (lesser cost x r) ≡ lesserCost (foundCost cost x) (foundCost cost r)
+unfolding lesser lesserCost foundCost
 cost-lesser cost nothing r = refl
 cost-lesser cost (found a) nothing = refl
 cost-lesser cost (found a) (found b) = go (earlier cost a b) (ltb (cost a) (cost b)) refl refl
   where
     go : (t u : Bool) → earlier cost a b ≡ t → ltb (cost a) (cost b) ≡ u
-        → costOf cost (cond t (found a) (found b)) ≡ cond u (found (cost a)) (found (cost b))
+        → foundCost cost (cond t (found a) (found b)) ≡ cond u (found (cost a)) (found (cost b))
     go true true e d = refl
     go true false e d = ap found (omega (arith, earlier-true cost a b e .cheap, ltb-false (cost a) (cost b) d))
     go false true e d = ap found (omega (arith, earlier-false cost a b e .cheap, ltb-true (cost a) (cost b) d))
     go false false e d = refl
 
 -- the least cost is the cost of the least
-pub cost-scan : (cost : ℕ → ℕ) (test : ℕ → Bool) (v w : ℕ → Found) (k : ℕ) → ((q : ℕ) → q < k → test q ≡ true → w q ≡ costOf cost (v q))
-    → costOf cost (scan cost test v k) ≡ scanCost test w k
-unfolding scan scanCost costOf
+pub cost-scan : (cost : ℕ → ℕ) (test : ℕ → Bool) (v w : ℕ → Found) (k : ℕ) → ((q : ℕ) → q < k → test q ≡ true → w q ≡ foundCost cost (v q))
+    → foundCost cost (scan cost test v k) ≡ scanCost test w k
+unfolding scan scanCost foundCost
 cost-scan cost test v w zero f = refl
 cost-scan cost test v w (suc k) f = cost-cond cost (test k) (lesser cost (v k) (scan cost test v k)) (scan cost test v k)
     ∙ go (test k) refl (cost-scan cost test v w k (λ q l. f q (omega arith)))
   where
-    go : (t : Bool) → test k ≡ t → costOf cost (scan cost test v k) ≡ scanCost test w k
-        → cond t (costOf cost (lesser cost (v k) (scan cost test v k))) (costOf cost (scan cost test v k))
+    go : (t : Bool) → test k ≡ t → foundCost cost (scan cost test v k) ≡ scanCost test w k
+        → cond t (foundCost cost (lesser cost (v k) (scan cost test v k))) (foundCost cost (scan cost test v k))
         ≡ cond t (lesserCost (w k) (scanCost test w k)) (scanCost test w k)
     go true e d = rw (cost-lesser, d, f k (omega arith) e)
     go false e d = d
@@ -242,8 +242,8 @@ abbrev pub IsMin : (ℕ → Type 0) → Found → Type 0
 IsMin P nothing = (s : ℕ) → P s → ⊥
 IsMin P (found b) = P b × ((s : ℕ) → P s → b ≤ s)
 
-pub min-cost : (P : ℕ → Type 0) (cost : ℕ → ℕ) (r : Found) → IsLeast P cost r → IsMin (Costs P cost) (costOf cost r)
-unfolding costOf
+pub min-cost : (P : ℕ → Type 0) (cost : ℕ → ℕ) (r : Found) → IsLeast P cost r → IsMin (Costs P cost) (foundCost cost r)
+unfolding foundCost
 min-cost P cost nothing h = λ s q. h (q .set) (q .good)
 min-cost P cost (found b) h = (record { set = b; good = h .good; is = refl }, λ s q. omega (arith, h .fore (q .set) (q .good) .cheap))
 
@@ -265,8 +265,8 @@ least-min : (P : ℕ → Type 0) (r : Found) → IsLeast P (λ e. e) r → IsMin
 least-min P nothing h = h
 least-min P (found b) h = (h .good, λ s q. h .fore s q .cheap)
 
-cost-same : (r : Found) → costOf (λ e. e) r ≡ r
-unfolding costOf
+cost-same : (r : Found) → foundCost (λ e. e) r ≡ r
+unfolding foundCost
 cost-same nothing = refl
 cost-same (found b) = refl
 

@@ -12,11 +12,11 @@ use Rattle.cover.specs.LeastCover.{without}
 use Rattle.cover.specs.LeastCoverLaws.{IsFirst}
 use Rattle.cover.specs.SetLaws.{and-split}
 use Rattle.cover.specs.SetMembers.{Removed, add-below, removed}
-use Rattle.cover.specs.Intervals.{At, across, costOf, leastSet, reaches, scanCost}
+use Rattle.cover.specs.Intervals.{At, across, foundCost, leastSet, reaches, scanCost}
 use Rattle.cover.specs.IntervalScan.{Costs, Family, IsLeast, Picked, Under, found-one, min-cost, min-one, none-found, right-least}
 use Rattle.cover.specs.IntervalScan.{scan-min}
-use Rattle.cover.specs.IntervalCover.{split}
-use Rattle.cover.specs.IntervalPrefix.{LastOf, Prefixes, Priced, lacks, last-of, leastSet-is, leastSet-right}
+use Rattle.cover.specs.IntervalCover.{and-not-split}
+use Rattle.cover.specs.IntervalPrefix.{LastOf, Prefixes, AddsUp, lacks, last-of, leastSet-is, leastSet-right}
 
 -- a set of the family `ok` that costs no more than e
 pub record Cheap (n : ℕ) (cost : ℕ → ℕ) (ok : ℕ → Bool) (e : ℕ) : Type 0 where
@@ -24,7 +24,7 @@ pub record Cheap (n : ℕ) (cost : ℕ → ℕ) (ok : ℕ → Bool) (e : ℕ) : 
   pub good : Family ok (2 ^ n) set
   pub cheap : cost set ≤ e
 
-module _ (n o L : ℕ) (a b p cost : ℕ → ℕ) (may : ℕ → Bool) (ok : ℕ → ℕ → Bool) (h : Prefixes n o L a b may ok) (c : Priced n p cost) where
+module _ (n o L : ℕ) (a b p cost : ℕ → ℕ) (may : ℕ → Bool) (ok : ℕ → ℕ → Bool) (h : Prefixes n o L a b may ok) (c : AddsUp n p cost) where
   pub insert : (t i m : ℕ) → t ≤ L → i < n → may i ≡ true → a i < t → t ≤ b i → Family (ok (a i)) (2 ^ n) m
       → Cheap n cost (ok t) (cost m + p i)
   insert t i m f l u x y w = go (bit m i) refl
@@ -63,7 +63,7 @@ pub record Cross (n o : ℕ) (a b p cost : ℕ → ℕ) (may : ℕ → Bool) (ok
 
 -- `ok o t`: the sets that cover the cells from o to t
 module _ (n L : ℕ) (a b p cost : ℕ → ℕ) (may : ℕ → Bool) (ok : ℕ → ℕ → ℕ → Bool) (h : (o : ℕ) → Prefixes n o L a b may (ok o))
-    (c : Priced n p cost) where
+    (c : AddsUp n p cost) where
   pub cut : (fuel o t e s : ℕ) → e < fuel → o < t → t ≤ e → e ≤ L → Family (ok o e) (2 ^ n) s → Cross n o a b p cost may ok t e s
   cut zero o t e s u z l f q = absurd (omega arith)
   cut (suc fuel) o t e s u z l f q = go (last-of n o L a b p cost may (ok o) (h o) c e s (omega arith) f q) (cut fuel o t)
@@ -147,78 +147,79 @@ module _ (n L : ℕ) (a b p cost : ℕ → ℕ) (may : ℕ → Bool) (ok : ℕ �
       (bids : (q : ℕ) → q < k → at q < n)
       (every : (i : ℕ) → i < n → a i < t → t ≤ b i → At at k i)
       (values : (q : ℕ) → q < k → a (at q) < t → t ≤ b (at q)
-      → w q ≡ across (p (at q)) (costOf cost (leastSet (ok o) cost n (a (at q)))) (costOf cost (leastSet (ok (b (at q))) cost n L))) where
-    over : (x : ℕ) → Picked (reaches a b may at t) w k x → Under (Costs (Family (ok o L) (2 ^ n)) cost) x
-    unfolding reaches across costOf
-    over x q = go (and-split (may (at (q .at))) _ (q .passes))
-      where
-        go : (may (at (q .at)) ≡ true) × (ltb (a (at (q .at))) t && leb t (b (at (q .at))) ≡ true)
-            → Under (Costs (Family (ok o L) (2 ^ n)) cost) x
-        go u = by (and-split (ltb (a (at (q .at))) t) (leb t (b (at (q .at)))) (u .1))
-          where
-            by : (ltb (a (at (q .at))) t ≡ true) × (leb t (b (at (q .at))) ≡ true) → Under (Costs (Family (ok o L) (2 ^ n)) cost) x
-            by d = to (leastSet (ok o) cost n (a (at (q .at)))) (leastSet (ok (b (at (q .at)))) cost n L)
-                (leastSet-right (ok o) cost n (a (at (q .at)))) (leastSet-right (ok (b (at (q .at)))) cost n L)
-                (sym (values (q .at) (q .inside) begins ends) ∙ q .value)
-              where
-                begins : a (at (q .at)) < t
-                begins = ltb-true (a (at (q .at))) t (d .0)
+      → w q ≡ across (p (at q)) (foundCost cost (leastSet (ok o) cost n (a (at q)))) (foundCost cost (leastSet (ok (b (at q))) cost n L)))
+    where
+      over : (x : ℕ) → Picked (reaches a b may at t) w k x → Under (Costs (Family (ok o L) (2 ^ n)) cost) x
+      unfolding reaches across foundCost
+      over x q = go (and-split (may (at (q .at))) _ (q .passes))
+        where
+          go : (may (at (q .at)) ≡ true) × (ltb (a (at (q .at))) t && leb t (b (at (q .at))) ≡ true)
+              → Under (Costs (Family (ok o L) (2 ^ n)) cost) x
+          go u = by (and-split (ltb (a (at (q .at))) t) (leb t (b (at (q .at)))) (u .1))
+            where
+              by : (ltb (a (at (q .at))) t ≡ true) × (leb t (b (at (q .at))) ≡ true) → Under (Costs (Family (ok o L) (2 ^ n)) cost) x
+              by d = to (leastSet (ok o) cost n (a (at (q .at)))) (leastSet (ok (b (at (q .at)))) cost n L)
+                  (leastSet-right (ok o) cost n (a (at (q .at)))) (leastSet-right (ok (b (at (q .at)))) cost n L)
+                  (sym (values (q .at) (q .inside) begins ends) ∙ q .value)
+                where
+                  begins : a (at (q .at)) < t
+                  begins = ltb-true (a (at (q .at))) t (d .0)
 
-                ends : t ≤ b (at (q .at))
-                ends = leb-true t (b (at (q .at))) (d .1)
+                  ends : t ≤ b (at (q .at))
+                  ends = leb-true t (b (at (q .at))) (d .1)
 
-                to : (r s : Found) → IsFirst (ok o (a (at (q .at)))) cost (2 ^ n) r → IsFirst (ok (b (at (q .at))) L) cost (2 ^ n) s
-                    → across (p (at (q .at))) (costOf cost r) (costOf cost s) ≡ found x
-                    → Under (Costs (Family (ok o L) (2 ^ n)) cost) x
-                to nothing s g h e = absurd (none-found e)
-                to (found m) nothing g h e = absurd (none-found e)
-                to (found m) (found s) g h e =
-                    let y = between o (at (q .at)) m s (bids (q .at) (q .inside)) (u .0) (omega (arith, begins, ends))
-                    (omega (arith, begins)) (record { inside = g .inside; good = g .good })
-                    (record { inside = h .inside; good = h .good }) in
-                    record {
-                      one = cost (y .set);
-                      good = record { set = y .set; good = y .good; is = refl };
-                      under = omega (arith, found-one e);
-                    }
+                  to : (r s : Found) → IsFirst (ok o (a (at (q .at)))) cost (2 ^ n) r → IsFirst (ok (b (at (q .at))) L) cost (2 ^ n) s
+                      → across (p (at (q .at))) (foundCost cost r) (foundCost cost s) ≡ found x
+                      → Under (Costs (Family (ok o L) (2 ^ n)) cost) x
+                  to nothing s g h e = absurd (none-found e)
+                  to (found m) nothing g h e = absurd (none-found e)
+                  to (found m) (found s) g h e =
+                      let y = between o (at (q .at)) m s (bids (q .at) (q .inside)) (u .0) (omega (arith, begins, ends))
+                      (omega (arith, begins)) (record { inside = g .inside; good = g .good })
+                      (record { inside = h .inside; good = h .good }) in
+                      record {
+                        one = cost (y .set);
+                        good = record { set = y .set; good = y .good; is = refl };
+                        under = omega (arith, found-one e);
+                      }
 
-    under : (x : ℕ) → Costs (Family (ok o L) (2 ^ n)) cost x → Under (Picked (reaches a b may at t) w k) x
-    unfolding reaches across costOf
-    under x q = go (cut (suc L) o t L (q .set) (omega arith) z f (omega arith) (q .good))
-      where
-        go : Cross n o a b p cost may ok t L (q .set) → Under (Picked (reaches a b may at t) w k) x
-        go y = to (every (y .bid) (y .inside) (y .begins) (y .ends)) (leastSet (ok o) cost n (a (y .bid)))
-            (leastSet (ok (b (y .bid))) cost n L) refl refl (leastSet-right (ok o) cost n (a (y .bid)))
-            (leastSet-right (ok (b (y .bid))) cost n L)
-          where
-            to : At at k (y .bid) → (r s : Found) → leastSet (ok o) cost n (a (y .bid)) ≡ r → leastSet (ok (b (y .bid))) cost n L ≡ s
-                → IsFirst (ok o (a (y .bid))) cost (2 ^ n) r → IsFirst (ok (b (y .bid)) L) cost (2 ^ n) s
-                → Under (Picked (reaches a b may at t) w k) x
-            to v nothing s d e g h = absurd (g (y .before) (y .early .inside) (y .early .good))
-            to v (found m) nothing d e g h = absurd (h (y .after) (y .late .inside) (y .late .good))
-            to v (found m) (found s) d e g h = record {
-              one = cost m + p (y .bid) + cost s;
-              good = record {
-                at = v .place;
-                inside = v .inside;
-                passes = rw (v .is, y .usable, lt-ltb (a (y .bid)) t (y .begins), le-leb t (b (y .bid)) (y .ends));
-                value = values (v .place) (v .inside) (rw (v .is) (y .begins)) (rw (v .is) (y .ends)) ∙ rw (v .is, d, e);
-              };
-              under = omega (
-                arith,
-                g .least (y .before) (y .early .inside) (y .early .good),
-                h .least (y .after) (y .late .inside) (y .late .good),
-              );
-            }
+      under : (x : ℕ) → Costs (Family (ok o L) (2 ^ n)) cost x → Under (Picked (reaches a b may at t) w k) x
+      unfolding reaches across foundCost
+      under x q = go (cut (suc L) o t L (q .set) (omega arith) z f (omega arith) (q .good))
+        where
+          go : Cross n o a b p cost may ok t L (q .set) → Under (Picked (reaches a b may at t) w k) x
+          go y = to (every (y .bid) (y .inside) (y .begins) (y .ends)) (leastSet (ok o) cost n (a (y .bid)))
+              (leastSet (ok (b (y .bid))) cost n L) refl refl (leastSet-right (ok o) cost n (a (y .bid)))
+              (leastSet-right (ok (b (y .bid))) cost n L)
+            where
+              to : At at k (y .bid) → (r s : Found) → leastSet (ok o) cost n (a (y .bid)) ≡ r → leastSet (ok (b (y .bid))) cost n L ≡ s
+                  → IsFirst (ok o (a (y .bid))) cost (2 ^ n) r → IsFirst (ok (b (y .bid)) L) cost (2 ^ n) s
+                  → Under (Picked (reaches a b may at t) w k) x
+              to v nothing s d e g h = absurd (g (y .before) (y .early .inside) (y .early .good))
+              to v (found m) nothing d e g h = absurd (h (y .after) (y .late .inside) (y .late .good))
+              to v (found m) (found s) d e g h = record {
+                one = cost m + p (y .bid) + cost s;
+                good = record {
+                  at = v .place;
+                  inside = v .inside;
+                  passes = rw (v .is, y .usable, lt-ltb (a (y .bid)) t (y .begins), le-leb t (b (y .bid)) (y .ends));
+                  value = values (v .place) (v .inside) (rw (v .is) (y .begins)) (rw (v .is) (y .ends)) ∙ rw (v .is, d, e);
+                };
+                under = omega (
+                  arith,
+                  g .least (y .before) (y .early .inside) (y .early .good),
+                  h .least (y .after) (y .late .inside) (y .late .good),
+                );
+              }
 
-    pub split-cost : scanCost (reaches a b may at t) w k ≡ costOf cost (leastSet (ok o) cost n L)
-    split-cost = min-one (Picked (reaches a b may at t) w k) (Costs (Family (ok o L) (2 ^ n)) cost) over under
-        (scanCost (reaches a b may at t) w k) (costOf cost (leastSet (ok o) cost n L))
-        (scan-min (reaches a b may at t) w k) (min-cost (Family (ok o L) (2 ^ n)) cost (leastSet (ok o) cost n L)
-        (right-least (ok o L) cost (2 ^ n) (leastSet (ok o) cost n L) (leastSet-right (ok o) cost n L)))
+      pub split-cost : scanCost (reaches a b may at t) w k ≡ foundCost cost (leastSet (ok o) cost n L)
+      split-cost = min-one (Picked (reaches a b may at t) w k) (Costs (Family (ok o L) (2 ^ n)) cost) over under
+          (scanCost (reaches a b may at t) w k) (foundCost cost (leastSet (ok o) cost n L))
+          (scan-min (reaches a b may at t) w k) (min-cost (Family (ok o L) (2 ^ n)) cost (leastSet (ok o) cost n L)
+          (right-least (ok o L) cost (2 ^ n) (leastSet (ok o) cost n L) (leastSet-right (ok o) cost n L)))
 
 -- what bid k has no cell of is as well covered without it
-module _ (n o L : ℕ) (a b p cost : ℕ → ℕ) (may : ℕ → Bool) (ok : ℕ → ℕ → Bool) (h : Prefixes n o L a b may ok) (c : Priced n p cost) where
+module _ (n o L : ℕ) (a b p cost : ℕ → ℕ) (may : ℕ → Bool) (ok : ℕ → ℕ → Bool) (h : Prefixes n o L a b may ok) (c : AddsUp n p cost) where
   pub unneeded : (k u : ℕ) → k < n → u ≤ L → ((x : ℕ) → o ≤ x → x < u → a k ≤ x → x < b k → ⊥)
       → leastSet (λ t s. without k (ok t) s) cost n u ≡ leastSet ok cost n u
   unfolding without
@@ -226,9 +227,9 @@ module _ (n o L : ℕ) (a b p cost : ℕ → ℕ) (may : ℕ → Bool) (ok : ℕ
       (go (leastSet ok cost n u) (leastSet-right ok cost n u)))
     where
       go : (r : Found) → IsFirst (ok u) cost (2 ^ n) r → IsLeast (Family (λ s. without k (ok u) s) (2 ^ n)) cost r
-      go nothing w = λ s q. w s (q .inside) (split (ok u s) (bit s k) (q .good) .0)
+      go nothing w = λ s q. w s (q .inside) (and-not-split (ok u s) (bit s k) (q .good) .0)
       go (found m) w = record {
         good = record { inside = w .inside; good = rw (w .good, lacks n o L a b p cost may ok h c u k m l d f w) };
-        fore = λ s q. let g = split (ok u s) (bit s k) (q .good) .0 in
+        fore = λ s q. let g = and-not-split (ok u s) (bit s k) (q .good) .0 in
             record { cheap = w .least s (q .inside) g; early = λ e. w .earliest s (q .inside) g (sym e) };
       }

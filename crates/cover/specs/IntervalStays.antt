@@ -5,11 +5,11 @@ use Prim.Native.Nat.{ℕ, _+_, _^_, _≤_, _<_}
 use native.Mathlib.Omega.{arith}
 use Rattle.cover.specs.Sets.{Found, nothing, found}
 use Rattle.cover.specs.LeastCoverLaws.{IsFirst}
-use Rattle.cover.specs.Intervals.{costOf, leastSet, plus, raise}
+use Rattle.cover.specs.Intervals.{foundCost, leastSet, plus, raise}
 use Rattle.cover.specs.IntervalScan.{Family, IsLeast, found-one, none-found}
-use Rattle.cover.specs.IntervalPrefix.{Prefixes, Priced, leastSet-is, leastSet-right, upper, upper-cost}
+use Rattle.cover.specs.IntervalPrefix.{Prefixes, AddsUp, leastSet-is, leastSet-right, upper, upper-cost}
 
-module _ (n o L : ℕ) (a b p cost : ℕ → ℕ) (may : ℕ → Bool) (ok : ℕ → ℕ → Bool) (h : Prefixes n o L a b may ok) (c : Priced n p cost) where
+module _ (n o L : ℕ) (a b p cost : ℕ → ℕ) (may : ℕ → Bool) (ok : ℕ → ℕ → Bool) (h : Prefixes n o L a b may ok) (c : AddsUp n p cost) where
   pub stays : (i u t : ℕ) → i < n → may i ≡ true → a i < u → u ≤ t → t ≤ b i → t ≤ L
       → leastSet ok cost n u ≡ plus i (leastSet ok cost n (a i)) → leastSet ok cost n u ≡ leastSet ok cost n t
   unfolding plus
@@ -31,14 +31,15 @@ module _ (n o L : ℕ) (a b p cost : ℕ → ℕ) (may : ℕ → Bool) (ok : ℕ
 
   -- the same of the costs alone
   pub stays-cost : (i u t : ℕ) → i < n → may i ≡ true → a i < u → u ≤ t → t ≤ b i → t ≤ L
-      → costOf cost (leastSet ok cost n u) ≡ raise (p i) (costOf cost (leastSet ok cost n (a i)))
-      → costOf cost (leastSet ok cost n u) ≡ costOf cost (leastSet ok cost n t)
-  unfolding costOf raise
+      → foundCost cost (leastSet ok cost n u) ≡ raise (p i) (foundCost cost (leastSet ok cost n (a i)))
+      → foundCost cost (leastSet ok cost n u) ≡ foundCost cost (leastSet ok cost n t)
+  unfolding foundCost raise
   stays-cost i u t l y d g e f q = go (leastSet ok cost n (a i)) (leastSet-right ok cost n (a i)) (leastSet ok cost n u)
       (leastSet-right ok cost n u) q (leastSet ok cost n t) (leastSet-right ok cost n t)
     where
       go : (x : Found) → IsFirst (ok (a i)) cost (2 ^ n) x → (r : Found) → IsFirst (ok u) cost (2 ^ n) r
-          → costOf cost r ≡ raise (p i) (costOf cost x) → (z : Found) → IsFirst (ok t) cost (2 ^ n) z → costOf cost r ≡ costOf cost z
+          → foundCost cost r ≡ raise (p i) (foundCost cost x) → (z : Found) → IsFirst (ok t) cost (2 ^ n) z
+          → foundCost cost r ≡ foundCost cost z
       go x v nothing w q nothing k = refl
       go x v nothing w q (found z) k = absurd (w z (k .inside) (h .less t u z g (k .good)))
       go nothing v (found s) w q z k = absurd (none-found (sym q))

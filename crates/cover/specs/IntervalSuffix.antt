@@ -12,8 +12,8 @@ use Rattle.cover.specs.IntervalScan.{Family, least-same, right-least}
 use Rattle.cover.specs.IntervalPrefix.{Prefixes, leastSet-is, leastSet-right}
 use Rattle.cover.specs.IntervalCover.{covers-of, covers-prefixes, meets-at}
 
-unfoldable pub turn : ℕ → ℕ → ℕ
-turn L y = L - 1 - y
+unfoldable pub mirrored : ℕ → ℕ → ℕ
+mirrored L y = L - 1 - y
 
 module _ (L : ℕ) (has : ℕ → ℕ → Bool) (n : ℕ) (a b : ℕ → ℕ)
     (sees : (i x : ℕ) → i < n → x < L → has i x ≡ leb (a i) x && ltb x (b i)) where
@@ -37,32 +37,32 @@ module _ (L : ℕ) (has : ℕ → ℕ → Bool) (n : ℕ) (a b : ℕ → ℕ)
   swap false true = refl
   swap false false = refl
 
-  pub turned : (i y : ℕ) → i < n → y < L → has i (turn L y) ≡ leb (L - b i) y && ltb y (L - a i)
-  unfolding turn
+  pub turned : (i y : ℕ) → i < n → y < L → has i (mirrored L y) ≡ leb (L - b i) y && ltb y (L - a i)
+  unfolding mirrored
   turned i y j l = sees i (L - 1 - y) j (omega arith) ∙ rw (test (a i) y l, test-past (b i) y l) (swap (ltb y (L - a i)) (leb (L - b i) y))
 
-  pub suffix-prefixes : Prefixes n 0 L (λ i. L - b i) (λ i. L - a i) (λ i. true) (coversFrom (turn L) 0 has n)
-  suffix-prefixes = covers-prefixes (turn L) 0 L has n (λ i. L - b i) (λ i. L - a i) turned
+  pub suffix-prefixes : Prefixes n 0 L (λ i. L - b i) (λ i. L - a i) (λ i. true) (coversFrom (mirrored L) 0 has n)
+  suffix-prefixes = covers-prefixes (mirrored L) 0 L has n (λ i. L - b i) (λ i. L - a i) turned
 
-  there : (u s : ℕ) → coversFrom (λ x. x) u has n L s ≡ true → coversFrom (turn L) 0 has n (L - u) s ≡ true
-  unfolding turn
-  there u s e = covers-of (turn L) 0 L has n (λ i. L - b i) (λ i. L - a i) turned (L - u) s
+  there : (u s : ℕ) → coversFrom (λ x. x) u has n L s ≡ true → coversFrom (mirrored L) 0 has n (L - u) s ≡ true
+  unfolding mirrored
+  there u s e = covers-of (mirrored L) 0 L has n (λ i. L - b i) (λ i. L - a i) turned (L - u) s
       (λ y z g. let m = meets-at (λ x. x) u L has n a b sees L s (L - 1 - y) e (omega arith) (omega arith) in
       hit-of has n s (L - 1 - y) (m .who) (m .inside) (m .in-set) (m .covers-it))
 
-  back : (u s : ℕ) → coversFrom (turn L) 0 has n (L - u) s ≡ true → coversFrom (λ x. x) u has n L s ≡ true
-  unfolding turn
+  back : (u s : ℕ) → coversFrom (mirrored L) 0 has n (L - u) s ≡ true → coversFrom (λ x. x) u has n L s ≡ true
+  unfolding mirrored
   back u s e = covers-of (λ x. x) u L has n a b sees L s
-      (λ x z g. go x z g (meets-at (turn L) 0 L has n (λ i. L - b i) (λ i. L - a i) turned (L - u) s (L - 1 - x) e (omega arith)
+      (λ x z g. go x z g (meets-at (mirrored L) 0 L has n (λ i. L - b i) (λ i. L - a i) turned (L - u) s (L - 1 - x) e (omega arith)
       (omega arith)))
     where
       go : (x : ℕ) → u ≤ x → x < L → Member has n s (L - 1 - (L - 1 - x)) → hit has n s x ≡ true
       go x z g m = hit-of has n s x (m .who) (m .inside) (m .in-set) (ap (has (m .who)) (omega arith) ∙ m .covers-it)
 
   pub suffix : (cost : ℕ → ℕ) (m u : ℕ) → leastSet (coversFrom (λ x. x) u has n) cost m L
-      ≡ leastSet (coversFrom (turn L) 0 has n) cost m (L - u)
-  suffix cost m u = leastSet-is (coversFrom (turn L) 0 has n) cost m (L - u) r
-      (least-same (Family (coversFrom (λ x. x) u has n L) (2 ^ m)) (Family (coversFrom (turn L) 0 has n (L - u)) (2 ^ m)) cost
+      ≡ leastSet (coversFrom (mirrored L) 0 has n) cost m (L - u)
+  suffix cost m u = leastSet-is (coversFrom (mirrored L) 0 has n) cost m (L - u) r
+      (least-same (Family (coversFrom (λ x. x) u has n L) (2 ^ m)) (Family (coversFrom (mirrored L) 0 has n (L - u)) (2 ^ m)) cost
       (λ s q. record { inside = q .inside; good = there u s (q .good) }) (λ s q. record { inside = q .inside; good = back u s (q .good) })
       r (right-least (coversFrom (λ x. x) u has n L) cost (2 ^ m) r (leastSet-right (coversFrom (λ x. x) u has n) cost m L)))
     where

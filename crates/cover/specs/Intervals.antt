@@ -22,9 +22,9 @@ scan cost test v zero = nothing
 scan cost test v (suc k) = let r = scan cost test v k in cond (test k) (lesser cost (v k) r) r
 
 -- the costs alone
-unfoldable pub costOf : (ℕ → ℕ) → Found → Found
-costOf cost nothing = nothing
-costOf cost (found s) = found (cost s)
+unfoldable pub foundCost : (ℕ → ℕ) → Found → Found
+foundCost cost nothing = nothing
+foundCost cost (found s) = found (cost s)
 
 unfoldable pub lesserCost : Found → Found → Found
 lesserCost nothing r = r
@@ -75,9 +75,9 @@ unfoldable pub begin : ℕ → ℕ → Found → Found
 begin o t r = cond (leb t o) (found 0) r
 
 -- bid `at k` and the least set before it, from the values at the positions below k
-unfoldable pub grow : ℕ → (ℕ → ℕ) → (ℕ → ℕ) → (ℕ → ℕ) → (ℕ → Bool) → (ℕ → ℕ) → (ℕ → Found) → ℕ → Found
+unfoldable pub growSet : ℕ → (ℕ → ℕ) → (ℕ → ℕ) → (ℕ → ℕ) → (ℕ → Bool) → (ℕ → ℕ) → (ℕ → Found) → ℕ → Found
 unfolding plus begin scan reaches
-grow o a b cost may at v k = plus (at k) (begin o (a (at k)) (scan cost (reaches a b may at (a (at k))) v k))
+growSet o a b cost may at v k = plus (at k) (begin o (a (at k)) (scan cost (reaches a b may at (a (at k))) v k))
 
 unfoldable pub growCost : ℕ → (ℕ → ℕ) → (ℕ → ℕ) → (ℕ → ℕ) → (ℕ → Bool) → (ℕ → ℕ) → (ℕ → Found) → ℕ → Found
 unfolding raise begin scanCost reaches
@@ -88,5 +88,5 @@ unfoldable pub coversFrom : (ℕ → ℕ) → ℕ → (ℕ → ℕ → Bool) →
 unfolding all hit
 coversFrom f o has n t s = all t (λ x. ltb x o || hit has n s (f x))
 
-unfoldable pub others : ℕ → (ℕ → Bool) → ℕ → Bool
-others k may i = may i && not (eqb i k)
+unfoldable pub mayBut : ℕ → (ℕ → Bool) → ℕ → Bool
+mayBut k may i = may i && not (eqb i k)

@@ -13,13 +13,13 @@ use Rattle.cover.specs.Greedy.{cheaper, pick}
 use Rattle.cover.specs.CriticalPrice.{late}
 
 -- i is taken before j
-abbrev pub Before : (ℕ → ℕ) → (ℕ → ℕ) → ℕ → ℕ → Type 0
-Before p r i j = p i * r j + late i j ≤ p j * r i
+abbrev pub TakenBefore : (ℕ → ℕ) → (ℕ → ℕ) → ℕ → ℕ → Type 0
+TakenBefore p r i j = p i * r j + late i j ≤ p j * r i
 
 pub record Best (p r : ℕ → ℕ) (n b : ℕ) : Type 0 where
   pub inside : b < n
   pub good : 0 < r b
-  pub least : (s : ℕ) → s < n → 0 < r s → Before p r b s
+  pub least : (s : ℕ) → s < n → 0 < r s → TakenBefore p r b s
 
 abbrev pub IsPick : (ℕ → ℕ) → (ℕ → ℕ) → ℕ → Found → Type 0
 IsPick p r n nothing = (s : ℕ) → s < n → 0 < r s → ⊥
@@ -100,12 +100,12 @@ module _ (p r : ℕ → ℕ) where
   pick-right (suc n) = step n (ltb 0 (r n)) (cheaper p r n (pick p r n)) (pick p r n) refl refl (pick-right n)
 
 -- of two bids only one is taken before the other
-pub before-le : (p r : ℕ → ℕ) (i j : ℕ) → Before p r i j → Before p r j i → i ≤ j
+pub before-le : (p r : ℕ → ℕ) (i j : ℕ) → TakenBefore p r i j → TakenBefore p r j i → i ≤ j
 before-le p r i j u v = go (ltb j i) refl
   where
     go : (t : Bool) → ltb j i ≡ t → i ≤ j
     go true e = absurd (omega (arith, late-yes i j (ltb-true j i e)))
     go false e = ltb-false j i e
 
-pub before-one : (p r : ℕ → ℕ) (i j : ℕ) → Before p r i j → Before p r j i → i ≡ j
+pub before-one : (p r : ℕ → ℕ) (i j : ℕ) → TakenBefore p r i j → TakenBefore p r j i → i ≡ j
 before-one p r i j u v = le-antisymm (before-le p r i j u v) (before-le p r j i v u)

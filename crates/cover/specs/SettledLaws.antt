@@ -35,16 +35,16 @@ map-listed zero f g = refl
 map-listed (suc n) f g = ap (λ l. g (f 0) ∷ l) (map-listed n (λ i. f (suc i)) g)
 
 -- the cells below j have their values, and the others are as they were
-pub record Written (f : ℕ → ℕ) (old new : List ℕ) (j : ℕ) : Type 0 where
+pub record FilledTo (f : ℕ → ℕ) (old new : List ℕ) (j : ℕ) : Type 0 where
   pub sized : length new ≡ length old
   pub values : (i : ℕ) → i < j → getD new i 0 ≡ f i
   pub kept : (i : ℕ) → j ≤ i → getD new i 0 ≡ getD old i 0
 
-pub written-none : (f : ℕ → ℕ) (old : List ℕ) → Written f old old 0
+pub written-none : (f : ℕ → ℕ) (old : List ℕ) → FilledTo f old old 0
 written-none f old = record { sized = refl; values = λ i l. absurd (omega arith); kept = λ i l. refl }
 
-pub written-more : (f : ℕ → ℕ) (old new : List ℕ) (j v : ℕ) → j < length old → v ≡ f j → Written f old new j
-    → Written f old (set new j v) (j + 1)
+pub written-more : (f : ℕ → ℕ) (old new : List ℕ) (j v : ℕ) → j < length old → v ≡ f j → FilledTo f old new j
+    → FilledTo f old (set new j v) (j + 1)
 written-more f old new j v l e h = record {
   sized = length-set new j v ∙ h .sized;
   values = λ i d. go i d (eqb i j) refl;
@@ -55,7 +55,7 @@ written-more f old new j v l e h = record {
     go i d true g = rw (eqb-true i j g) (getD-set-same new j v 0 (omega (arith, h .sized)) ∙ e)
     go i d false g = getD-set-other new j i v 0 (eqb-false i j g) ∙ h .values i (omega (arith, eqb-false i j g))
 
-pub listed-of : (n : ℕ) (f : ℕ → ℕ) (old new : List ℕ) → n ≤ length old → Written f old new n → new ≡ listed n f ++ drop n old
+pub listed-of : (n : ℕ) (f : ℕ → ℕ) (old new : List ℕ) → n ≤ length old → FilledTo f old new n → new ≡ listed n f ++ drop n old
 unfolding listed
 listed-of zero f old new l h = ext-getD 0 new old (h .sized) (λ i d. h .kept i (omega arith))
 listed-of (suc n) f [] new l h = absurd (omega arith)

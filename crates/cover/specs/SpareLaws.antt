@@ -12,7 +12,7 @@ use lib.Dec.{leb, eqb}
 use borrow.Author.Tests.{leb-true, eq-eqb, ne-eqb, eqb-true, eqb-false}
 use Rattle.cover.specs.Sets.{when, bit, hit, covers, cost, cells, bidders, each}
 use Rattle.cover.specs.LeastCover.{Wins, winners, without}
-use Rattle.cover.specs.Greedy.{Bid, run, taken, bids, wins}
+use Rattle.cover.specs.Greedy.{Entry, run, taken, bids, wins}
 use Rattle.cover.specs.CriticalPrice.{withdrawn}
 use Rattle.cover.specs.SetLaws.{all-of, all-at, pack, pack-below, pack-bit, hit-of, Member, hit-some}
 use Rattle.cover.specs.LeastCoverLaws.{winners-right}
@@ -82,7 +82,7 @@ each-at P (suc L) e x l = go (eq-or-lt-of-le (le-of-suc-le-suc l)) (each-at P L 
     go (inl h) f = rw h (e .0)
     go (inr h) f = f h
 
-taken-below : (B : ℕ → Bid) (n k f : ℕ) (O : List ℕ) → length O ≤ f → taken k (run B n f O) ≡ true → k < n
+taken-below : (B : ℕ → Entry) (n k f : ℕ) (O : List ℕ) → length O ≤ f → taken k (run B n f O) ≡ true → k < n
 unfolding taken
 taken-below B n k = rounds B n (λ O t. taken k t ≡ true → k < n) (λ O e z. absurd (false≢true z))
     (λ O i t b ih z. go i (eqb i k) (taken k t) refl (b .inside) z ih)
@@ -114,7 +114,7 @@ module _ (has : ℕ → ℕ → Bool) (n L : ℕ) (two : each has n L 2 ≡ true
       record {
         who = a .who;
         inside = a .inside;
-        covers = ap (λ (b : Bid). b .has x) (withdrawn-other k (bids has ps) (a .who) (a .other))
+        covers = ap (λ (b : Entry). b .has x) (withdrawn-other k (bids has ps) (a .who) (a .other))
             ∙ a .covers-it;
       })
 

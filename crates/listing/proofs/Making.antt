@@ -18,7 +18,7 @@ use Rattle.reader.specs.declared.Reading.{Reading}
 use Rattle.reader.specs.declared.Reading.the-variants as answer
 use Rattle.reader.specs.Read.{accepted, readText, readInto}
 use Rattle.reader.specs.Read as reading
-use Rattle.reader.specs.Answer.{filled, declined, told, summary, bidsAfter, windowsAfter}
+use Rattle.reader.specs.Answer.{filled, declined, toldReading, summary, bidsAfter, windowsAfter}
 use Rattle.reader.specs.CountLaws.{counts-law}
 use Rattle.reader.specs.SizeLaw.{fits-law}
 use Rattle.reader.specs.RulesLaw.{rules-law}
@@ -87,14 +87,14 @@ module _ (text ob ow : List ℕ) (room-b : length ob ≡ 4000) (room-w : length 
   whole = rw (room-b, room-w) (fits-law text 1000 11000 (omega arith) (omega arith))
 
   pub accepted-read : {nb nw : List ℕ} {r : Reading} (t : Tender) (n m : ℕ)
-      → told r ≡ summary (readInto text (length ob / 4) (length ow / 2)) →
+      → toldReading r ≡ summary (readInto text (length ob / 4) (length ow / 2)) →
       nb ≡ bidsAfter ob (readInto text (length ob / 4) (length ow / 2))
       → nw ≡ windowsAfter ow (readInto text (length ob / 4) (length ow / 2)) → r ≡ answer.Accepted t n m → ReadIn text nb nw t n
   unfolding bidsAfter windowsAfter
-  accepted-read {nb} {nw} {r} t n m a b w e = go (readText text) refl (sym (ap told e) ∙ a ∙ ap summary whole)
+  accepted-read {nb} {nw} {r} t n m a b w e = go (readText text) refl (sym (ap toldReading e) ∙ a ∙ ap summary whole)
       (b ∙ ap (bidsAfter ob) whole) (w ∙ ap (windowsAfter ow) whole)
     where
-      go : (o : reading.Outcome) → readText text ≡ o → filled t n m ≡ summary o → nb ≡ bidsAfter ob o → nw ≡ windowsAfter ow o
+      go : (o : reading.ReadOutcome) → readText text ≡ o → filled t n m ≡ summary o → nb ≡ bidsAfter ob o → nw ≡ windowsAfter ow o
           → ReadIn text nb nw t n
       go (reading.refused k at) h x y z = let f : _≡_ {A = ℕ} 0 1 = cc in absurd (omega arith)
       go (accepted u R W) h x y z = record {
@@ -108,13 +108,14 @@ module _ (text ob ow : List ℕ) (room-b : length ob ≡ 4000) (room-w : length 
         windows-are = z;
       }
 
-  pub refused-read : {nb nw : List ℕ} {r : Reading} (q : Refusal) → told r ≡ summary (readInto text (length ob / 4) (length ow / 2)) →
+  pub refused-read : {nb nw : List ℕ} {r : Reading} (q : Refusal)
+      → toldReading r ≡ summary (readInto text (length ob / 4) (length ow / 2)) →
       nb ≡ bidsAfter ob (readInto text (length ob / 4) (length ow / 2))
       → nw ≡ windowsAfter ow (readInto text (length ob / 4) (length ow / 2)) → r ≡ answer.Refused q
       → readText text ≡ reading.refused (numberOf q) (placeOf q)
-  refused-read {nb} {nw} {r} q a b w e = go (readText text) (sym (ap told e) ∙ a ∙ ap summary whole)
+  refused-read {nb} {nw} {r} q a b w e = go (readText text) (sym (ap toldReading e) ∙ a ∙ ap summary whole)
     where
-      go : (o : reading.Outcome) → declined (numberOf q) (placeOf q) ≡ summary o → o ≡ reading.refused (numberOf q) (placeOf q)
+      go : (o : reading.ReadOutcome) → declined (numberOf q) (placeOf q) ≡ summary o → o ≡ reading.refused (numberOf q) (placeOf q)
       go (reading.refused k at) x = cc
       go (accepted u R W) x = let f : _≡_ {A = ℕ} 0 1 = cc in absurd (omega arith)
 

@@ -30,7 +30,7 @@ listLines t R (awarded rows cost paid) = awardLine t ++ winList R rows (length R
 listLines t R (refused n at) = pairLine refusedWord n at
 
 -- the list of a text, by what reading it answers: of the award on what was read, with an award row for every bid
-unfoldable pub listOf : reading.Outcome → List ℕ
+unfoldable pub listOf : reading.ReadOutcome → List ℕ
 unfolding listLines awardOf flatRows flatWindows
 listOf (reading.refused n at) = pairLine refusedWord n at
 listOf (accepted t R W) = listLines t R (awardOf (t .kind) t (length R) (flatRows R) (flatWindows W) (length R))

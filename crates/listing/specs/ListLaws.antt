@@ -28,7 +28,7 @@ use Rattle.award_check.specs.Cells.{noRow, hasOf, holds, pricesOf, cellsOf}
 use Rattle.award_check.specs.Faults.{faultOf}
 use Rattle.award_check.specs.AlikeLaws.{windows-same, among-held, faultless}
 use Rattle.award_check.specs.TextLaws.{rows-flat, length-windows, rows-end, never-nine}
-use Rattle.award_plain.specs.Award.{Outcome, thinned, settled, awardOf, number, place}
+use Rattle.award_plain.specs.Award.{Outcome, thinned, settled, awardOf, outcomeNumber, outcomePlace}
 use Rattle.award.specs.Gain.{lost}
 use Rattle.award_plain.specs.AwardLaws.{settled-is, award-none}
 use Rattle.tender.specs.declared.Answer.{Answer}
@@ -80,9 +80,9 @@ module _ (T : Tender) (R : List Row) (W : List Window) (rules : Rules T R W) whe
       ∙ rw (le-ltb (length R) (length R) (omega arith), rows-alone)))
 
   -- the award on what was read is made, or declined with 11 or 12: never with 9 or 10
-  pub award-number : let o = awardOf (T .kind) T (length R) (flatRows R) (flatWindows W) (length R) in (number o ≡ 0)
-      ⊎ ((number o ≡ numberOf (MinuteUncovered (place o))) ⊎ (number o ≡ numberOf (OneBidder (place o))))
-  unfolding number thinned
+  pub award-number : let o = awardOf (T .kind) T (length R) (flatRows R) (flatWindows W) (length R) in (outcomeNumber o ≡ 0)
+      ⊎ ((outcomeNumber o ≡ numberOf (MinuteUncovered (outcomePlace o))) ⊎ (outcomeNumber o ≡ numberOf (OneBidder (outcomePlace o))))
+  unfolding outcomeNumber thinned
   award-number = rw (
     award-none (T .kind) T (length R) (flatRows R) (flatWindows W) (length R) sound-alone,
     le-ltb (length R) (length R) (omega arith),
@@ -98,11 +98,12 @@ module _ (T : Tender) (R : List Row) (W : List Window) (rules : Rules T R W) whe
       o : Outcome
       o = settled (T .kind) has ps (cellsOf T) (T .window .start)
 
-      go : (x y : Found) → cellWith has (length ps) (cellsOf T) 0 ≡ x → cellWith has (length ps) (cellsOf T) 1 ≡ y → (number o ≡ 0)
-          ⊎ ((number o ≡ numberOf (MinuteUncovered (place o))) ⊎ (number o ≡ numberOf (OneBidder (place o))))
-      go (found x) y e f = inr (inl (ap number (settled-is (T .kind) has ps (cellsOf T) (T .window .start) (found x) y e f)))
-      go nothing (found x) e f = inr (inr (ap number (settled-is (T .kind) has ps (cellsOf T) (T .window .start) nothing (found x) e f)))
-      go nothing nothing e f = inl (ap number (settled-is (T .kind) has ps (cellsOf T) (T .window .start) nothing nothing e f))
+      go : (x y : Found) → cellWith has (length ps) (cellsOf T) 0 ≡ x → cellWith has (length ps) (cellsOf T) 1 ≡ y → (outcomeNumber o ≡ 0)
+          ⊎ ((outcomeNumber o ≡ numberOf (MinuteUncovered (outcomePlace o))) ⊎ (outcomeNumber o ≡ numberOf (OneBidder (outcomePlace o))))
+      go (found x) y e f = inr (inl (ap outcomeNumber (settled-is (T .kind) has ps (cellsOf T) (T .window .start) (found x) y e f)))
+      go nothing (found x) e f = inr (inr (ap outcomeNumber
+          (settled-is (T .kind) has ps (cellsOf T) (T .window .start) nothing (found x) e f)))
+      go nothing nothing e f = inl (ap outcomeNumber (settled-is (T .kind) has ps (cellsOf T) (T .window .start) nothing nothing e f))
 
 -- the lines that the code writes, from the cells of the tables, are the list's
 
@@ -152,7 +153,7 @@ pub list-short : (text : List ℕ) → (length (listOf (readText text)) ≤ 5120
 unfolding listOf
 list-short text = go (readText text) (λ T R W e. rules-law T R W text e)
   where
-    go : (o : reading.Outcome) → ((T : Tender) (R : List Row) (W : List Window) → o ≡ accepted T R W → Rules T R W)
+    go : (o : reading.ReadOutcome) → ((T : Tender) (R : List Row) (W : List Window) → o ≡ accepted T R W → Rules T R W)
         → (length (listOf o) ≤ 51200) × (0 < length (listOf o))
     go (reading.refused n at) f = (refusal-short n at, pair-some refusedWord n at)
     go (accepted T R W) f = let o = awardOf (T .kind) T (length R) (flatRows R) (flatWindows W) (length R) in

@@ -10,11 +10,11 @@ use lib.ListN.{length, set, length-set}
 use lib.Seq.{getD-set-same, getD-set-other, ext-getD}
 use lib.Dec.{eqb}
 use borrow.Author.Tests.{eqb-true, eqb-false}
-use Rattle.cells.specs.Cells.{cell, Filled}
+use Rattle.cells.specs.Cells.{cell, RangeAdded}
 use Rattle.cells.specs.Hops.{whole, Hops, Onward}
 use Rattle.cells.proofs.Store.{lt-or-le}
 use Rattle.multi_tournament.specs.Tournament.{at}
-use Rattle.multi_rounds.specs.Market.{row, Market, Hopping}
+use Rattle.multi_rounds.specs.Market.{wordRow, Market, Hopping}
 use Rattle.multi_rounds.proofs.Rows.{row-length, row-in}
 use Rattle.multi_marks.specs.Marks.{Indexed}
 use Rattle.multi_marks.proofs.Spreading.{row-at}
@@ -25,11 +25,13 @@ pub record Charting (ms : List ℕ) (w i : ℕ) (old new : List ℕ) (q gap : �
   pub same : length new ≡ length old
   pub gap-low : q ≤ gap
   pub gap-high : gap ≤ w
-  pub zeros : (p : ℕ) → q ≤ p → p < gap → at (row ms w i) p ≡ 0
+  pub zeros : (p : ℕ) → q ≤ p → p < gap → at (wordRow ms w i) p ≡ 0
   pub on : (p : ℕ) → q ≤ p → p < w → p < at new (w * i + p)
   pub within : (p : ℕ) → q ≤ p → p < w → at new (w * i + p) ≤ w
-  pub runs : (p : ℕ) → q ≤ p → p < w → at (row ms w i) p ≡ whole → (x : ℕ) → p ≤ x → x < at new (w * i + p) → at (row ms w i) x ≡ whole
-  pub gaps : (p : ℕ) → q ≤ p → p < w → (at (row ms w i) p ≡ whole → ⊥) → (x : ℕ) → p < x → x < at new (w * i + p) → at (row ms w i) x ≡ 0
+  pub runs : (p : ℕ) → q ≤ p → p < w → at (wordRow ms w i) p ≡ whole → (x : ℕ) → p ≤ x → x < at new (w * i + p)
+      → at (wordRow ms w i) x ≡ whole
+  pub gaps : (p : ℕ) → q ≤ p → p < w → (at (wordRow ms w i) p ≡ whole → ⊥) → (x : ℕ) → p < x → x < at new (w * i + p)
+      → at (wordRow ms w i) x ≡ 0
   pub others : (p : ℕ) → (p < w * i) ⊎ (w * i + w ≤ p) → at new p ≡ at old p
 
 pub charts-none : (ms : List ℕ) (w i : ℕ) (old : List ℕ) → Charting ms w i old old w w
@@ -53,7 +55,7 @@ record Set (w i : ℕ) (new new′ : List ℕ) (r q v : ℕ) : Type 0 where
 
 module _ {ms : List ℕ} {w i : ℕ} {old new : List ℕ} {q gap : ℕ} (s : Charting ms w i old new q gap) (m : q ≤ w) where
   abbrev M : ℕ → ℕ
-  M p = at (row ms w i) p
+  M p = at (wordRow ms w i) p
 
   more : {new′ : List ℕ} {r v gap′ : ℕ} → Set w i new new′ r q v → r ≤ q → q ≤ v → v ≤ w
       → ((p : ℕ) → r ≤ p → p < q → M p ≡ whole → (x : ℕ) → p ≤ x → x < v → M x ≡ whole)
@@ -147,7 +149,7 @@ charts-some {ms} {w} {i} {old} {new} {q} {gap} s m l f n =
       there = λ p o. getD-set-other new (w * i + (q - 1)) p gap 0 (λ e. ⊎-elim (λ z. omega arith) (λ z. omega arith) o);
     }
 
-    one : (p : ℕ) → q - 1 ≤ p → p < q → at (row ms w i) p ≡ whole → at ms (w * i + (q - 1)) ≡ whole
+    one : (p : ℕ) → q - 1 ≤ p → p < q → at (wordRow ms w i) p ≡ whole → at ms (w * i + (q - 1)) ≡ whole
     one p x y h = let e : p ≡ q - 1 = omega arith in rw (← e) (sym (row-at ms w i p (omega arith)) ∙ h)
 
 pub charts-all : {ms : List ℕ} {w i : ℕ} {old new : List ℕ} {q gap : ℕ} → Charting ms w i old new q gap → q ≡ 0 → w * i + w ≤ length ms
@@ -163,24 +165,24 @@ charts-all {ms} {w} {i} {old} {new} s e f g = record {
   others = s .others;
 }
   where
-    inside : (q : ℕ) → q < length (row ms w i) → q < w
+    inside : (q : ℕ) → q < length (wordRow ms w i) → q < w
     inside q l = omega (arith, row-length ms w i f)
 
 -- ---- the bids below i are charted
 pub record Charts (ps ms : List ℕ) (w : ℕ) (hop : List ℕ) (i : ℕ) : Type 0 where
   pub size : length hop ≡ length ms
-  pub done : (j : ℕ) → j < i → Hops (row ms w j) (row hop w j)
+  pub done : (j : ℕ) → j < i → Hops (wordRow ms w j) (wordRow hop w j)
 
 same-row : (w j : ℕ) (a b : List ℕ) → length a ≡ length b → ((q : ℕ) → q < w → at a (w * j + q) ≡ at b (w * j + q)) → w * j + w ≤ length b
-    → row a w j ≡ row b w j
-same-row w j a b e h l = ext-getD 0 (row a w j) (row b w j) (row-length a w j (omega arith) ∙ sym (row-length b w j l))
+    → wordRow a w j ≡ wordRow b w j
+same-row w j a b e h l = ext-getD 0 (wordRow a w j) (wordRow b w j) (row-length a w j (omega arith) ∙ sym (row-length b w j l))
     (λ q m. let z : q < w = omega (arith, row-length a w j (omega arith)) in row-at a w j q z ∙ h q z ∙ sym (row-at b w j q z))
 
 pub charts-on : {ps ms : List ℕ} {w : ℕ} {hop new : List ℕ} {i : ℕ} → Market ps ms w → Charts ps ms w hop i → i < length ps
     → length new ≡ length hop → Charted ms w i hop new → Charts ps ms w new (i + 1)
 charts-on {ps} {ms} {w} {hop} {new} {i} m s l e c = record { size = e ∙ s .size; done = λ j z. go j z (eqb j i) refl }
   where
-    go : (j : ℕ) → j < i + 1 → (t : Bool) → eqb j i ≡ t → Hops (row ms w j) (row new w j)
+    go : (j : ℕ) → j < i + 1 → (t : Bool) → eqb j i ≡ t → Hops (wordRow ms w j) (wordRow new w j)
     go j z true d = rw (eqb-true j i d) (c .own)
     go j z false d = let y : j < i = omega (arith, eqb-false j i d) in
         rw (same-row w j new hop e (λ q v. c .others (w * j + q) (inl (omega (arith, mul-le-mul-left w y, mul-suc w j))))
@@ -190,7 +192,7 @@ pub charts-end : {ps ms : List ℕ} {w : ℕ} {hop : List ℕ} {i : ℕ} → Cha
 charts-end s l = record { size = s .size; each = λ j z. s .done j (omega arith) }
 
 -- ---- the bids of each word
-cell-row : (index : List ℕ) (q i : ℕ) → i < 1024 → cell (row index 16 q) i ≡ cell index (1024 * q + i)
+cell-row : (index : List ℕ) (q i : ℕ) → i < 1024 → cell (wordRow index 16 q) i ≡ cell index (1024 * q + i)
 unfolding cell
 cell-row index q i l = let a : (1024 * q + i) / 64 ≡ 16 * q + i / 64 = omega arith in let b : (1024 * q + i) % 64 ≡ i % 64 =
     omega arith in rw (row-at index 16 q (i / 64) (omega arith), a, b)
@@ -199,20 +201,20 @@ cell-row index q i l = let a : (1024 * q + i) / 64 ≡ 16 * q + i / 64 = omega a
 pub record Enlisting (ms : List ℕ) (w i : ℕ) (old new : List ℕ) (q : ℕ) : Type 0 where
   pub same : length new ≡ length old
   pub kept : (x : ℕ) → cell old x ≡ 1 → cell new x ≡ 1
-  pub done : (p : ℕ) → p < q → (at (row ms w i) p ≡ 0 → ⊥) → cell new (1024 * p + i) ≡ 1
+  pub done : (p : ℕ) → p < q → (at (wordRow ms w i) p ≡ 0 → ⊥) → cell new (1024 * p + i) ≡ 1
 
 pub enlists-none : (ms : List ℕ) (w i : ℕ) (old : List ℕ) → Enlisting ms w i old old 0
 enlists-none ms w i old = record { same = refl; kept = λ x e. e; done = λ p l. absurd (omega arith) }
 
 module _ {ms : List ℕ} {w i : ℕ} {old new : List ℕ} {q : ℕ} (s : Enlisting ms w i old new q) where
-  pub enlists-bare : at (row ms w i) q ≡ 0 → Enlisting ms w i old new (q + 1)
+  pub enlists-bare : at (wordRow ms w i) q ≡ 0 → Enlisting ms w i old new (q + 1)
   enlists-bare e = record { same = s .same; kept = s .kept; done = λ p l n. go p l n (eqb p q) refl }
     where
-      go : (p : ℕ) → p < q + 1 → (at (row ms w i) p ≡ 0 → ⊥) → (t : Bool) → eqb p q ≡ t → cell new (1024 * p + i) ≡ 1
-      go p l n true d = absurd (n (ap (at (row ms w i)) (eqb-true p q d) ∙ e))
+      go : (p : ℕ) → p < q + 1 → (at (wordRow ms w i) p ≡ 0 → ⊥) → (t : Bool) → eqb p q ≡ t → cell new (1024 * p + i) ≡ 1
+      go p l n true d = absurd (n (ap (at (wordRow ms w i)) (eqb-true p q d) ∙ e))
       go p l n false d = s .done p (omega (arith, eqb-false p q d)) n
 
-  pub enlists-some : {next : List ℕ} → length next ≡ length new → Filled (1024 * q + i) (1024 * q + i + 1) new next
+  pub enlists-some : {next : List ℕ} → length next ≡ length new → RangeAdded (1024 * q + i) (1024 * q + i + 1) new next
       → Enlisting ms w i old next (q + 1)
   enlists-some {next} e f = record { same = e ∙ s .same; kept = λ x z. stays x (s .kept x z); done = λ p l n. go p l n (eqb p q) refl }
     where
@@ -220,12 +222,12 @@ module _ {ms : List ℕ} {w i : ℕ} {old new : List ℕ} {q : ℕ} (s : Enlisti
       stays x z = ⊎-elim (λ a. f .below x a ∙ z) (λ a. ⊎-elim (λ b. f .inside x a b) (λ b. f .above x b ∙ z)
           (lt-or-le x (1024 * q + i + 1))) (lt-or-le x (1024 * q + i))
 
-      go : (p : ℕ) → p < q + 1 → (at (row ms w i) p ≡ 0 → ⊥) → (t : Bool) → eqb p q ≡ t → cell next (1024 * p + i) ≡ 1
+      go : (p : ℕ) → p < q + 1 → (at (wordRow ms w i) p ≡ 0 → ⊥) → (t : Bool) → eqb p q ≡ t → cell next (1024 * p + i) ≡ 1
       go p l n true d = rw (eqb-true p q d) (f .inside (1024 * q + i) (omega arith) (omega arith))
       go p l n false d = stays (1024 * p + i) (s .done p (omega (arith, eqb-false p q d)) n)
 
   -- the words between q and r have no cell
-  pub enlists-past : {p r : ℕ} → q ≡ p + 1 → Onward (row ms w i) p r → Enlisting ms w i old new r
+  pub enlists-past : {p r : ℕ} → q ≡ p + 1 → Onward (wordRow ms w i) p r → Enlisting ms w i old new r
   enlists-past {p} {r} e o = record {
     same = s .same;
     kept = s .kept;
@@ -237,13 +239,13 @@ module _ {ms : List ℕ} {w i : ℕ} {old new : List ℕ} {q : ℕ} (s : Enlisti
 
 pub record Enlists (ps ms : List ℕ) (w : ℕ) (index : List ℕ) (i : ℕ) : Type 0 where
   pub size : length index ≡ 16 * w
-  pub done : (j p : ℕ) → j < i → p < w → (at (row ms w j) p ≡ 0 → ⊥) → cell index (1024 * p + j) ≡ 1
+  pub done : (j p : ℕ) → j < i → p < w → (at (wordRow ms w j) p ≡ 0 → ⊥) → cell index (1024 * p + j) ≡ 1
 
 pub enlists-on : {ps ms : List ℕ} {w : ℕ} {index new : List ℕ} {i : ℕ} → Enlists ps ms w index i → length new ≡ length index
     → Enlisted ms w i index new → Enlists ps ms w new (i + 1)
 enlists-on {ps} {ms} {w} {index} {new} {i} s e c = record { size = e ∙ s .size; done = λ j p z y n. go j p z y n (eqb j i) refl }
   where
-    go : (j p : ℕ) → j < i + 1 → p < w → (at (row ms w j) p ≡ 0 → ⊥) → (t : Bool) → eqb j i ≡ t → cell new (1024 * p + j) ≡ 1
+    go : (j p : ℕ) → j < i + 1 → p < w → (at (wordRow ms w j) p ≡ 0 → ⊥) → (t : Bool) → eqb j i ≡ t → cell new (1024 * p + j) ≡ 1
     go j p z y n true d = let f = eqb-true j i d in rw f (c .own p y (rw f at n))
     go j p z y n false d = c .kept (1024 * p + j) (s .done j p (omega (arith, eqb-false j i d)) y n)
 

@@ -4,7 +4,7 @@ ghost use mathlib.Core.Path.{_≡_};
 ghost use Prim.Native.Nat.{_+_, _*_, _<_, _≤_};
 ghost use lib.ListN.{length};
 ghost use Rattle.cells.specs.Hops.{Hops};
-ghost use Rattle.multi_rounds.specs.Market.{row, Market, Hopping};
+ghost use Rattle.multi_rounds.specs.Market.{wordRow, Market, Hopping};
 ghost use Rattle.multi_marks.specs.Marks.{Indexed};
 ghost use Rattle.multi_charts.specs.Charts.{Backed, Charted, Enlisted};
 
@@ -70,7 +70,7 @@ pub fn chart(prices: &[u64], masks: &[u64], w: usize, hop: &mut [u8])
 // Enters bid i in the set of each word where it has a cell.
 fn enlist_row(masks: &[u64], hop: &[u8], w: usize, i: usize, index: &mut [u64])
     requires { ⌜ (w ≤ 158) × ((w * i + w ≤ length (now masks))
-        × ((length (now hop) ≡ length (now masks)) × (Hops (row (now masks) w i) (row (now hop) w i)
+        × ((length (now hop) ≡ length (now masks)) × (Hops (wordRow (now masks) w i) (wordRow (now hop) w i)
         × ((i < 1000) × (length (now index) ≡ 16 * w))))) ⌝ }
     ensures { λ _. ⌜ Enlisted (now (masks .entry)) w i (now (index .entry)) (now (index .exit)) ⌝ }
 {

@@ -9,13 +9,13 @@ use native.Mathlib.Omega.{arith}
 use lib.ListN.{length}
 use lib.Dec.{eqb}
 use borrow.Author.Tests.{eqb-true, eqb-false}
-use Rattle.cells.specs.Cells.{cell, common, Closed, Filled}
+use Rattle.cells.specs.Cells.{cell, common, Closed, RangeAdded}
 use Rattle.cells.proofs.Store.{lt-or-le}
 use Rattle.cover.specs.CriticalPrice.{late, share, bar}
 use Rattle.cover.specs.Greedy.{reach, close, Rounds, bids}
 use Rattle.cover.specs.GreedyLaws.{shrink, withdrawn-other}
 use Rattle.multi_tournament.specs.Tournament.{at}
-use Rattle.multi_rounds.specs.Market.{row, has, Sized, Cleared, Fronted}
+use Rattle.multi_rounds.specs.Market.{wordRow, has, Sized, Cleared, Fronted}
 use Rattle.multi_rounds.specs.Trace.{opens, openOf, before, Trace}
 use Rattle.multi_rounds.proofs.Begin.{common-few}
 use Rattle.multi_rounds.proofs.Chosen.{rounds-of, rounds-stop, rounds-more}
@@ -23,7 +23,7 @@ use Rattle.multi_rounds.proofs.Opens.{opens-same, reach-alike, reach-open, clos
 use Rattle.multi_rounds.proofs.Tracing.{main-best}
 use Rattle.multi_rounds.proofs.Filling.{no-cell}
 use Rattle.multi_marks.specs.Marks.{Disturbed, Strayed}
-use Rattle.multi_follow.specs.Follow.{raised, Raised, bar-from, Standing, Course, Following, Takes, Followed}
+use Rattle.multi_follow.specs.Follow.{raisedTo, Raised, bar-from, Standing, Course, Following, Takes, Followed}
 use Rattle.multi_follow.proofs.Limiting.{others, bar-none}
 use Rattle.multi_follow.proofs.Strayed.{both-close, main-closes, other-closes, after-scan, scan-main, scan-other, scan-last}
 use Rattle.multi_follow.proofs.Strayed.{scan-none}
@@ -40,7 +40,7 @@ opened-of {ms} {w} {n} {order} {g} {held} st = rw (st .words)
 
 -- one round more of the main run
 after-round : (ms : List ℕ) (w n : ℕ) (order : List ℕ) (g b : ℕ) → b ≡ at order g → (x : ℕ)
-    → before ms w n order g x - cell (row ms w b) x ≡ before ms w n order (g + 1) x
+    → before ms w n order g x - cell (wordRow ms w b) x ≡ before ms w n order (g + 1) x
 unfolding before
 after-round ms w n order g b q x = rw (add-one, q)
 
@@ -114,7 +114,7 @@ module _ {ps ms hop index : List ℕ} {w n : ℕ} {order gains : List ℕ} {roun
         small = s .small;
       }
 
-    gone-after : (x : ℕ) → cell (row ms w k) x ≡ 1 → before ms w n order (g + 1) x ≡ 0
+    gone-after : (x : ℕ) → cell (wordRow ms w k) x ≡ 1 → before ms w n order (g + 1) x ≡ 0
     unfolding before
     gone-after x e = rw add-one (omega (arith, s .gone x e))
 
@@ -134,12 +134,12 @@ module _ {ps ms hop index : List ℕ} {w n : ℕ} {order gains : List ℕ} {roun
 
     -- the run without k takes bid b and closes its cells
     module _ {b p c : ℕ} (t : Takes ps ms w k alt b p c) {r more : ℕ} (a : Raised k b p c mine r) (x : more ≡ max top r) {rest : List ℕ}
-        (e : length rest ≡ length alt) (d : Closed alt (row ms w b) rest) where
+        (e : length rest ≡ length alt) (d : Closed alt (wordRow ms w b) rest) where
       plain : others k ps ms w b ≡ bids (has ms w) ps b
       plain = withdrawn-other k (bids (has ms w) ps) b (t .other)
 
-      shared : raised k b p c mine ≡ share k (has ms w k) b (others k ps ms w b) (openOf alt)
-      unfolding raised share bids
+      shared : raisedTo k b p c mine ≡ share k (has ms w k) b (others k ps ms w b) (openOf alt)
+      unfolding raisedTo share bids
       shared = let z : c ≡ reach (has ms w b) (openOf alt) = t .cells ∙ sym (reach-open alt ms w b) in rw (s .own, z, plain, t .price)
 
       closes : close (others k ps ms w b .has) (openOf alt) ≡ openOf rest
@@ -176,9 +176,10 @@ module _ {ps ms hop index : List ℕ} {w n : ℕ} {order gains : List ℕ} {roun
       own-kept : cell mark b ≡ 0 → reach (has ms w k) (openOf alt) ≡ reach (has ms w k) (openOf rest)
       unfolding openOf has
       own-kept z = rw e (reach-alike (has ms w k) (cell alt) (cell rest) (64 * length alt)
-          (λ x q. go x (eqb-true (cell (row ms w k) x) 1 q) (two-way (row ms w b) x)))
+          (λ x q. go x (eqb-true (cell (wordRow ms w k) x) 1 q) (two-way (wordRow ms w b) x)))
         where
-          go : (x : ℕ) → cell (row ms w k) x ≡ 1 → (cell (row ms w b) x ≡ 0) ⊎ (cell (row ms w b) x ≡ 1) → cell alt x ≡ cell rest x
+          go : (x : ℕ) → cell (wordRow ms w k) x ≡ 1 → (cell (wordRow ms w b) x ≡ 0) ⊎ (cell (wordRow ms w b) x ≡ 1)
+              → cell alt x ≡ cell rest x
           go x y (inl u) = omega (arith, d .clears x)
           go x y (inr u) = omega (arith, d .clears x, s .strayed .same b (t .inside) z x u, s .gone x y)
 
@@ -186,9 +187,9 @@ module _ {ps ms hop index : List ℕ} {w n : ℕ} {order gains : List ℕ} {roun
           → Following ps ms w n order gains rounds h k rest stale mark more mine (g + 1)
       main-step q l z = both-with q l (s .own ∙ own-kept z) (s .few)
 
-      module _ {next : ℕ} (y : next ≡ common rest (row ms w k)) where
+      module _ {next : ℕ} (y : next ≡ common rest (wordRow ms w k)) where
         next-few : next ≤ 10112
-        next-few = rw y (common-few rest (row ms w k) (omega (arith, s .strayed .words, co .market .words)))
+        next-few = rw y (common-few rest (wordRow ms w k) (omega (arith, s .strayed .words, co .market .words)))
 
         pub both-step : b ≡ at order g → g < rounds → Following ps ms w n order gains rounds h k rest stale mark more next (g + 1)
         both-step q l = both-with q l (y ∙ sym (reach-open rest ms w k)) next-few
@@ -207,7 +208,7 @@ module _ {ps ms hop index : List ℕ} {w n : ℕ} {order gains : List ℕ} {roun
 
   -- how it starts: the cells of the main run before round h, k alone marked, then the bids that share a cell with k
   pub starts : {held : List ℕ} → Standing ms w n order h held → {stale none mark : List ℕ} → ((i : ℕ) → at stale i ≡ 0) → Cleared none
-      → Filled k (k + 1) none mark → {stale′ mark′ : List ℕ} → Sized stale′
+      → RangeAdded k (k + 1) none mark → {stale′ mark′ : List ℕ} → Sized stale′
       → Disturbed ps ms w held k stale mark stale′ mark′
       → Following ps ms w n order gains rounds h k held stale′ mark′ 0 (at gains h) (h + 1)
   unfolding before bar-from

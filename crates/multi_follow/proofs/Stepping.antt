@@ -11,7 +11,7 @@ use lib.ListN.{length}
 use Rattle.cells.specs.Cells.{cell, common, Closed}
 use Rattle.cells.specs.Hops.{Counted}
 use Rattle.multi_tournament.specs.Tournament.{at, known, Tournament}
-use Rattle.multi_rounds.specs.Market.{row, Fronted}
+use Rattle.multi_rounds.specs.Market.{wordRow, Fronted}
 use Rattle.multi_rounds.specs.Trace.{openOf}
 use Rattle.multi_rounds.proofs.Rows.{row-in}
 use Rattle.multi_rounds.proofs.Begin.{sized-of}
@@ -42,7 +42,7 @@ module _ {ps ms hop index : List ℕ} {w n : ℕ} {order gains : List ℕ} {roun
 
     -- the run without k takes bid b
     module _ {b p c : ℕ} (t : Takes ps ms w k alt b p c) {more : ℕ} (r : Took k b p c mine top more) {rest counts′ : List ℕ}
-        (e : length rest ≡ length alt) (d : Closed alt (row ms w b) rest) (y : Counted rest counts′) where
+        (e : length rest ≡ length alt) (d : Closed alt (wordRow ms w b) rest) (y : Counted rest counts′) where
       less : length (openOf rest) < length (openOf alt)
       less = fewer-open co (s .follow) t (r .raised-by) (r .is) e d
 
@@ -60,7 +60,7 @@ module _ {ps ms hop index : List ℕ} {w n : ℕ} {order gains : List ℕ} {roun
         ends = λ a. absurd (false≢true a);
       }
 
-      module _ {next : ℕ} (x : next ≡ common rest (row ms w k)) where
+      module _ {next : ℕ} (x : next ≡ common rest (wordRow ms w k)) where
         pub both-goes : b ≡ at order g → g < rounds → Stepped ps ms w n order gains rounds h k alt rest counts′ who num mark g top (g + 1)
             next more false
         both-goes q l = record {

@@ -23,7 +23,7 @@ use Rattle.multi_rounds.proofs.Chosen.{right-ext}
 use Rattle.multi_rounds.proofs.Fronting.{right-one, turned}
 use Rattle.multi_rounds.proofs.Begin.{common-few}
 use Rattle.multi_rounds.proofs.Opens.{reach-open, close-open, reach-alike, two-way}
-use Rattle.multi_rounds.specs.Market.{row, has, live, Sized, Known, Fronted}
+use Rattle.multi_rounds.specs.Market.{wordRow, has, live, Sized, Known, Fronted}
 use Rattle.multi_tournament.specs.Tournament.{at}
 use Rattle.multi_tournament.proofs.Order.{zero-or}
 use Rattle.multi_rounds.specs.Trace.{opens, openOf}
@@ -44,7 +44,7 @@ module _ {ps ms : List ℕ} {w k : ℕ} {alt stale mark : List ℕ} {og : ℕ �
           go true e = refl
           go false e = absurd (eqb-false i i e refl)
 
-  pub other-is : (i : ℕ) → (i ≡ k → ⊥) → other i ≡ common alt (row ms w i)
+  pub other-is : (i : ℕ) → (i ≡ k → ⊥) → other i ≡ common alt (wordRow ms w i)
   unfolding bids
   other-is i d = rw (withdrawn-other k (bids (has ms w) ps) i d) (reach-open alt ms w i)
 
@@ -52,8 +52,8 @@ module _ {ps ms : List ℕ} {w k : ℕ} {alt stale mark : List ℕ} {og : ℕ �
   not-own i e d = omega (arith, s .own, rw d at e)
 
   -- both runs close bid m
-  pub both-close : (m : ℕ) {new : List ℕ} → length new ≡ length alt → Closed alt (row ms w m) new
-      → Strayed ps ms w k new stale mark (λ x. og x - cell (row ms w m) x)
+  pub both-close : (m : ℕ) {new : List ℕ} → length new ≡ length alt → Closed alt (wordRow ms w m) new
+      → Strayed ps ms w k new stale mark (λ x. og x - cell (wordRow ms w m) x)
   both-close m {new} e c = record {
     words = e ∙ s .words;
     sized = s .sized;
@@ -61,10 +61,10 @@ module _ {ps ms : List ℕ} {w k : ℕ} {alt stale mark : List ℕ} {og : ℕ �
     skip = s .skip;
     out = s .out;
     bound = λ i l g d. omega (arith, s .bound i l g d, falls i);
-    same = λ i l z x h. c .clears x ∙ ap (λ (v : ℕ). v - cell (row ms w m) x) (s .same i l z x h);
+    same = λ i l z x h. c .clears x ∙ ap (λ (v : ℕ). v - cell (wordRow ms w m) x) (s .same i l z x h);
   }
     where
-      falls : (i : ℕ) → common new (row ms w i) ≤ common alt (row ms w i)
+      falls : (i : ℕ) → common new (wordRow ms w i) ≤ common alt (wordRow ms w i)
       falls i = rw (← reach-open new ms w i, ← reach-open alt ms w i, ← close-open alt new ms w m e c)
           (close-other (has ms w m) (has ms w i) (openOf alt))
 
@@ -72,12 +72,12 @@ module _ {ps ms : List ℕ} {w k : ℕ} {alt stale mark : List ℕ} {og : ℕ �
     was-free : (i : ℕ) → i < length ps → cell mark′ i ≡ 0 → cell mark i ≡ 0
     was-free i l z = ⊎-elim (λ a. a) (λ a. absurd (omega (arith, d .kept i l a .0))) (zero-or (cell mark i))
 
-    bound-after : (i : ℕ) → i < length ps → 0 < cell mark′ i → (i ≡ k → ⊥) → common alt (row ms w i) ≤ at stale′ i
+    bound-after : (i : ℕ) → i < length ps → 0 < cell mark′ i → (i ≡ k → ⊥) → common alt (wordRow ms w i) ≤ at stale′ i
     bound-after i l g n = ⊎-elim (λ a. omega (arith, d .moved i l a g)) (λ a. omega (arith, d .kept i l a .1, s .bound i l a n))
         (zero-or (cell mark i))
 
     -- the main run alone closes bid j
-    pub main-closes : Strayed ps ms w k alt stale′ mark′ (λ x. og x - cell (row ms w j) x)
+    pub main-closes : Strayed ps ms w k alt stale′ mark′ (λ x. og x - cell (wordRow ms w j) x)
     main-closes = record {
       words = s .words;
       sized = z′;
@@ -86,11 +86,11 @@ module _ {ps ms : List ℕ} {w k : ℕ} {alt stale mark : List ℕ} {og : ℕ �
       out = λ i l z. d .still i l z .0 ∙ s .out i l (was-free i l z);
       bound = bound-after;
       same = λ i l z x h. ⊎-elim (λ a. omega (arith, s .same i l (was-free i l z) x h))
-          (λ a. omega (arith, s .same i l (was-free i l z) x h, d .still i l z .1 x h a)) (two-way (row ms w j) x);
+          (λ a. omega (arith, s .same i l (was-free i l z) x h, d .still i l z .1 x h a)) (two-way (wordRow ms w j) x);
     }
 
     -- this run alone closes bid j
-    pub other-closes : {new : List ℕ} → length new ≡ length alt → Closed alt (row ms w j) new → Strayed ps ms w k new stale′ mark′ og
+    pub other-closes : {new : List ℕ} → length new ≡ length alt → Closed alt (wordRow ms w j) new → Strayed ps ms w k new stale′ mark′ og
     other-closes {new} e c = record {
       words = e ∙ s .words;
       sized = z′;
@@ -99,10 +99,10 @@ module _ {ps ms : List ℕ} {w k : ℕ} {alt stale mark : List ℕ} {og : ℕ �
       out = λ i l z. d .still i l z .0 ∙ s .out i l (was-free i l z);
       bound = λ i l g n. omega (arith, bound-after i l g n, falls i);
       same = λ i l z x h. ⊎-elim (λ a. omega (arith, c .clears x, s .same i l (was-free i l z) x h))
-          (λ a. omega (arith, c .clears x, s .same i l (was-free i l z) x h, d .still i l z .1 x h a)) (two-way (row ms w j) x);
+          (λ a. omega (arith, c .clears x, s .same i l (was-free i l z) x h, d .still i l z .1 x h a)) (two-way (wordRow ms w j) x);
     }
       where
-        falls : (i : ℕ) → common new (row ms w i) ≤ common alt (row ms w i)
+        falls : (i : ℕ) → common new (wordRow ms w i) ≤ common alt (wordRow ms w i)
         falls i = rw (← reach-open new ms w i, ← reach-open alt ms w i, ← close-open alt new ms w j e c)
             (close-other (has ms w j) (has ms w i) (openOf alt))
 
@@ -118,7 +118,7 @@ module _ {ps ms : List ℕ} {w k : ℕ} {alt stale mark : List ℕ} {og : ℕ �
   unfolding live
   live-in i l g = go (eqb i k) refl
     where
-      go : (t : Bool) → eqb i k ≡ t → min (at stale i) (common alt (row ms w i)) ≡ other i
+      go : (t : Bool) → eqb i k ≡ t → min (at stale i) (common alt (wordRow ms w i)) ≡ other i
       go true e = rw (eqb-true i k e, other-own) (omega (arith, s .skip))
       go false e = rw (other-is i (eqb-false i k e)) (omega (arith, s .bound i l g (eqb-false i k e)))
 
@@ -133,7 +133,7 @@ module _ {ps ms : List ℕ} {w k : ℕ} {alt stale mark : List ℕ} {og : ℕ �
   pub alike : (i : ℕ) → i < length ps → cell mark i ≡ 0 → other i ≡ main i
   unfolding bids openOf has
   alike i l z = rw (withdrawn-other k (bids (has ms w) ps) i (not-own i z), s .words)
-      (reach-alike (has ms w i) (cell alt) og (64 * w) (λ x h. s .same i l z x (eqb-true (cell (row ms w i) x) 1 h)))
+      (reach-alike (has ms w i) (cell alt) og (64 * w) (λ x h. s .same i l z x (eqb-true (cell (wordRow ms w i) x) 1 h)))
 
   price : (i : ℕ) → i < length ps → 0 < other i → at ps i ≡ others k ps ms w i .price
   unfolding bids
@@ -188,7 +188,7 @@ module _ {ps ms : List ℕ} {w k : ℕ} {alt stale mark : List ℕ} {og : ℕ �
         arith,
         alike m (x .inside) e,
         other-is m (not-own m e),
-        common-few alt (row ms w m) (omega (arith, s .words, few-words)),
+        common-few alt (wordRow ms w m) (omega (arith, s .words, few-words)),
       );
     }
 

@@ -11,17 +11,17 @@ use Rattle.cover.specs.CriticalPrice.{late, withdrawn, bar}
 use Rattle.cells.specs.Cells.{cell, common}
 use Rattle.cells.specs.Hops.{Counted}
 use Rattle.multi_tournament.specs.Tournament.{at, known, Tournament}
-use Rattle.multi_rounds.specs.Market.{row, has, Market, Hopping}
+use Rattle.multi_rounds.specs.Market.{wordRow, has, Market, Hopping}
 use Rattle.multi_rounds.specs.Trace.{opens, openOf, before, Trace}
 use Rattle.multi_marks.specs.Marks.{Indexed, Strayed}
 
 -- one more than the highest price at which bid k, with m cells, is taken before bid i, which asks q for its c cells
-unfoldable pub raised : ℕ → ℕ → ℕ → ℕ → ℕ → ℕ
+unfoldable pub raisedTo : ℕ → ℕ → ℕ → ℕ → ℕ → ℕ
 unfolding late
-raised k i q c m = when (ltb 0 m && leb (late k i) (q * m)) (suc ((q * m - late k i) / c))
+raisedTo k i q c m = when (ltb 0 m && leb (late k i) (q * m)) (suc ((q * m - late k i) / c))
 
 pub record Raised (k i q c m r : ℕ) : Type 0 where
-  pub is : r ≡ raised k i q c m
+  pub is : r ≡ raisedTo k i q c m
   pub small : r ≤ 1011200000001
 
 -- one more than the highest price at which bid k is taken in the run without it from the open cells O
@@ -50,7 +50,7 @@ pub record Following (ps ms : List ℕ) (w n : ℕ) (order gains : List ℕ) (ro
   pub reached : g ≤ rounds
   pub own : mine ≡ reach (has ms w k) (openOf alt)
   pub few : mine ≤ 10112
-  pub gone : (x : ℕ) → cell (row ms w k) x ≡ 1 → before ms w n order g x ≡ 0
+  pub gone : (x : ℕ) → cell (wordRow ms w k) x ≡ 1 → before ms w n order g x ≡ 0
   pub highest : bar-from ps ms w k (opens (before ms w n order h) (64 * w)) ≡ max top (bar-from ps ms w k (openOf alt))
   pub small : top ≤ 1011200000001
 
@@ -68,7 +68,7 @@ pub record Takes (ps ms : List ℕ) (w k : ℕ) (alt : List ℕ) (b p c : ℕ) :
   pub other : b ≡ k → ⊥
   pub next : best (withdrawn k (bids (has ms w) ps)) (length ps) (openOf alt) ≡ found b
   pub price : p ≡ at ps b
-  pub cells : c ≡ common alt (row ms w b)
+  pub cells : c ≡ common alt (wordRow ms w b)
   pub some : 0 < c
   pub few : c ≤ 10112
 

@@ -9,7 +9,7 @@ ghost use Rattle.cover.specs.CriticalPrice.{late};
 ghost use Rattle.cells.specs.Cells.{Closed};
 ghost use Rattle.cells.specs.Hops.{Hops, Counted};
 ghost use Rattle.multi_tournament.specs.Tournament.{at};
-ghost use Rattle.multi_rounds.specs.Market.{row};
+ghost use Rattle.multi_rounds.specs.Market.{wordRow};
 ghost use Rattle.multi_follow.specs.Follow.{Raised, Took, Course, Walking, Takes, Stepped};
 
 fn higher(a: u64, b: u64) -> u64
@@ -49,8 +49,8 @@ pub fn take(
 ) -> u64
     requires { ⌜ ((p ≤ 100000000) × ((0 < c) × ((0 < mine) × (mine ≤ 10112))))
         × ((length (now alt) ≡ w) × ((w ≤ 158) × ((w * b + w ≤ length (now masks)) × ((length (now hop) ≡ length (now masks))
-        × (Counted (now alt) (now counts) × Hops (row (now masks) w b) (row (now hop) w b)))))) ⌝ }
-    ensures { λ r. ⌜ Took k b p c mine top r × (Closed (now (alt .entry)) (row (now (masks .entry)) w b) (now (alt .exit))
+        × (Counted (now alt) (now counts) × Hops (wordRow (now masks) w b) (wordRow (now hop) w b)))))) ⌝ }
+    ensures { λ r. ⌜ Took k b p c mine top r × (Closed (now (alt .entry)) (wordRow (now (masks .entry)) w b) (now (alt .exit))
         × Counted (now (alt .exit)) (now (counts .exit))) ⌝ }
 {
     let s = raise(k, b, p, c, mine);

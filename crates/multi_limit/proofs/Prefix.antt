@@ -22,7 +22,7 @@ use Rattle.multi_rounds.proofs.Chosen.{rounds-of, rounds-more}
 use Rattle.multi_rounds.proofs.Fronting.{right-one}
 use Rattle.multi_rounds.proofs.Opens.{close-step, opens-first, reach-alike, two-way}
 use Rattle.multi_rounds.proofs.Tracing.{main-best}
-use Rattle.multi_rounds.specs.Market.{row, has}
+use Rattle.multi_rounds.specs.Market.{wordRow, has}
 use Rattle.multi_tournament.specs.Tournament.{at}
 use Rattle.multi_rounds.specs.Trace.{opens, before, Trace}
 use Rattle.cover.specs.SetLaws.{when-one}
@@ -58,7 +58,7 @@ module _ {ps ms : List ℕ} {w n : ℕ} {order gains : List ℕ} {rounds : ℕ} 
 
   pub closes : (g : ℕ) → close (has ms w (at order g)) (og g) ≡ og (suc g)
   unfolding has before
-  closes g = close-fun (row ms w (at order g)) (before ms w n order g) (before ms w n order (suc g)) (before-bit g) (λ x. refl) (64 * w)
+  closes g = close-fun (wordRow ms w (at order g)) (before ms w n order g) (before ms w n order (suc g)) (before-bit g) (λ x. refl) (64 * w)
 
   module _ (k : ℕ) (inside : k < length ps) where
     abbrev r : ℕ → ℕ → ℕ
@@ -119,13 +119,13 @@ module _ {ps ms : List ℕ} {w n : ℕ} {order gains : List ℕ} {rounds : ℕ} 
   opened q = opens-first (before ms w n order 0) n (64 * w) q (λ x z. rw (lt-ltb x n z)) (λ x z. rw (le-ltb x n z))
 
   -- a bid once taken reaches nothing more
-  gone : (g j x : ℕ) → g < j → cell (row ms w (at order g)) x ≡ 1 → before ms w n order j x ≡ 0
+  gone : (g j x : ℕ) → g < j → cell (wordRow ms w (at order g)) x ≡ 1 → before ms w n order j x ≡ 0
   unfolding before
   gone g zero x q e = absurd (omega arith)
   gone g (suc j) x q e = go (eqb g j) refl (gone g j x)
     where
-      go : (t : Bool) → eqb g j ≡ t → (g < j → cell (row ms w (at order g)) x ≡ 1 → before ms w n order j x ≡ 0)
-          → before ms w n order j x - cell (row ms w (at order j)) x ≡ 0
+      go : (t : Bool) → eqb g j ≡ t → (g < j → cell (wordRow ms w (at order g)) x ≡ 1 → before ms w n order j x ≡ 0)
+          → before ms w n order j x - cell (wordRow ms w (at order j)) x ≡ 0
       go true d ih = omega (arith, before-bit j x, rw (eqb-true g j d) at e)
       go false d ih = omega (arith, ih (omega (arith, eqb-false g j d)) e)
 
@@ -141,7 +141,7 @@ module _ {ps ms : List ℕ} {w n : ℕ} {order gains : List ℕ} {rounds : ℕ} 
     arith,
     main-best tr h l .good,
     reach-alike (has ms w (at order h)) (before ms w n order h) (λ x. 0) (64 * w)
-        (λ x z. gone j h x q (rw e (eqb-true (cell (row ms w (at order h)) x) 1 z))),
+        (λ x z. gone j h x q (rw e (eqb-true (cell (wordRow ms w (at order h)) x) 1 z))),
     ap (reach (has ms w (at order h))) (opens-none (64 * w)),
   )
 

@@ -11,13 +11,13 @@ use lib.Seq.{getD-set-same, getD-set-other, getD-take, getD-drop}
 use lib.Bits.{bitAnd, and-zero-l, and-zero-r}
 use lib.Dec.{eqb}
 use borrow.Author.Tests.{eqb-true, eqb-false}
-use Rattle.cells.specs.Cells.{cell, bitOf, common, Filled}
+use Rattle.cells.specs.Cells.{cell, bitOf, common, RangeAdded}
 use Rattle.cells.specs.Hops.{Next, Onward}
 use Rattle.cells.proofs.Bit.{and-bit}
 use Rattle.cells.proofs.Store.{lt-or-le, cell-past}
 use Rattle.multi_tournament.specs.Tournament.{at}
 use Rattle.multi_tournament.proofs.Order.{zero-or}
-use Rattle.multi_rounds.specs.Market.{row}
+use Rattle.multi_rounds.specs.Market.{wordRow}
 use Rattle.multi_rounds.proofs.Rows.{row-length}
 use Rattle.cells.proofs.Walk.{bare-cells}
 use Rattle.multi_marks.specs.Marks.{Indexed, Spread, Disturbed}
@@ -26,8 +26,8 @@ use Rattle.multi_marks.specs.Marks.{Indexed, Spread, Disturbed}
 pub record Spreading (ps ms : List ℕ) (w : ℕ) (alt : List ℕ) (q m : ℕ) (stale mark stale′ mark′ : List ℕ) (i : ℕ) : Type 0 where
   pub kept : (b : ℕ) → b < length ps → 0 < cell mark b → (cell mark′ b ≡ cell mark b) × (at stale′ b ≡ at stale b)
   pub same : (b : ℕ) → b < length ps → cell mark′ b ≡ 0 → at stale′ b ≡ at stale b
-  pub still : (b : ℕ) → b < i → b < length ps → cell mark′ b ≡ 0 → bitAnd (at (row ms w b) q) m ≡ 0
-  pub moved : (b : ℕ) → b < length ps → cell mark b ≡ 0 → 0 < cell mark′ b → at stale′ b ≡ common alt (row ms w b)
+  pub still : (b : ℕ) → b < i → b < length ps → cell mark′ b ≡ 0 → bitAnd (at (wordRow ms w b) q) m ≡ 0
+  pub moved : (b : ℕ) → b < length ps → cell mark b ≡ 0 → 0 < cell mark′ b → at stale′ b ≡ common alt (wordRow ms w b)
 
 pub begins : (ps ms : List ℕ) (w : ℕ) (alt : List ℕ) (q m : ℕ) (stale mark : List ℕ) → Spreading ps ms w alt q m stale mark stale mark 0
 begins ps ms w alt q m stale mark = record {
@@ -40,19 +40,19 @@ begins ps ms w alt q m stale mark = record {
 module _ {ps ms : List ℕ} {w : ℕ} {alt : List ℕ} {q m : ℕ} {stale mark stale′ mark′ : List ℕ} {i : ℕ}
     (s : Spreading ps ms w alt q m stale mark stale′ mark′ i) where
   -- the bids passed over are marked or have no cell in the word
-  pub passes : {index : List ℕ} {r : ℕ} → Indexed ps ms index w → q < w → Next (row index 16 q) mark′ i r
+  pub passes : {index : List ℕ} {r : ℕ} → Indexed ps ms index w → q < w → Next (wordRow index 16 q) mark′ i r
       → Spreading ps ms w alt q m stale mark stale′ mark′ r
   passes {index} {r} x l n = record {
     kept = s .kept;
     same = s .same;
     still = λ b a c z. ⊎-elim (λ d. s .still b d c z)
         (λ d. ⊎-elim (λ e. rw e (and-zero-l m)) (λ e. absurd (omega (arith, n .none b d a (x .lists b q c l (λ y. omega arith)))))
-        (zero-or (at (row ms w b) q))) (lt-or-le b i);
+        (zero-or (at (wordRow ms w b) q))) (lt-or-le b i);
     moved = s .moved;
   }
 
   -- bid i shares no cell
-  pub leaves : bitAnd (at (row ms w i) q) m ≡ 0 → Spreading ps ms w alt q m stale mark stale′ mark′ (i + 1)
+  pub leaves : bitAnd (at (wordRow ms w i) q) m ≡ 0 → Spreading ps ms w alt q m stale mark stale′ mark′ (i + 1)
   leaves e = record {
     kept = s .kept;
     same = s .same;
@@ -60,13 +60,13 @@ module _ {ps ms : List ℕ} {w : ℕ} {alt : List ℕ} {q m : ℕ} {stale mark s
     moved = s .moved;
   }
     where
-      go : (b : ℕ) → b < i + 1 → b < length ps → cell mark′ b ≡ 0 → (t : Bool) → eqb b i ≡ t → bitAnd (at (row ms w b) q) m ≡ 0
+      go : (b : ℕ) → b < i + 1 → b < length ps → cell mark′ b ≡ 0 → (t : Bool) → eqb b i ≡ t → bitAnd (at (wordRow ms w b) q) m ≡ 0
       go b a c z true d = rw (eqb-true b i d) e
       go b a c z false d = s .still b (omega (arith, eqb-false b i d)) c z
 
   -- bid i is marked
-  pub adds : {v : ℕ} {new next : List ℕ} → i < length ps → i < length stale′ → cell mark′ i ≡ 0 → v ≡ common alt (row ms w i)
-      → new ≡ set stale′ i v → Filled i (i + 1) mark′ next
+  pub adds : {v : ℕ} {new next : List ℕ} → i < length ps → i < length stale′ → cell mark′ i ≡ 0 → v ≡ common alt (wordRow ms w i)
+      → new ≡ set stale′ i v → RangeAdded i (i + 1) mark′ next
       → Spreading ps ms w alt q m stale mark new next (i + 1)
   adds {v} {new} {next} l ls z e d f = record {
     kept = λ b a g. let n = free b a g in let k = s .kept b a g in (other-mark b n ∙ k .0, other-stale b n ∙ k .1);
@@ -89,7 +89,7 @@ module _ {ps ms : List ℕ} {w : ℕ} {alt : List ℕ} {q m : ℕ} {stale mark s
       free : (b : ℕ) → b < length ps → 0 < cell mark b → b ≡ i → ⊥
       free b a g j = omega (arith, s .kept b a g .0, rw (← j) at z)
 
-      go : (b : ℕ) → b < length ps → cell mark b ≡ 0 → 0 < cell next b → (t : Bool) → eqb b i ≡ t → at new b ≡ common alt (row ms w b)
+      go : (b : ℕ) → b < length ps → cell mark b ≡ 0 → 0 < cell next b → (t : Bool) → eqb b i ≡ t → at new b ≡ common alt (wordRow ms w b)
       go b a y g true j = rw (eqb-true b i j) (ap (λ (xs : List ℕ). at xs i) d ∙ getD-set-same stale′ i v 0 ls ∙ e)
       go b a y g false j = let n = eqb-false b i j in other-stale b n ∙ s .moved b a y (rw (other-mark b n) at g)
 
@@ -100,7 +100,7 @@ pub no-cells : (ps ms : List ℕ) (w : ℕ) (alt : List ℕ) (q m : ℕ) (stale 
     → Spread ps ms w alt q m stale mark stale mark
 no-cells ps ms w alt q m stale mark e = record {
   kept = λ b l g. (refl, refl);
-  still = λ b l z. (refl, rw e (and-zero-r (at (row ms w b) q)));
+  still = λ b l z. (refl, rw e (and-zero-r (at (wordRow ms w b) q)));
   moved = λ b l z g. absurd (omega arith);
 }
 
@@ -108,9 +108,9 @@ no-cells ps ms w alt q m stale mark e = record {
 pub record Disturbing (ps ms : List ℕ) (w : ℕ) (alt : List ℕ) (j : ℕ) (stale mark stale′ mark′ : List ℕ) (q : ℕ) : Type 0 where
   pub kept : (i : ℕ) → i < length ps → 0 < cell mark i → (cell mark′ i ≡ cell mark i) × (at stale′ i ≡ at stale i)
   pub same : (i : ℕ) → i < length ps → cell mark′ i ≡ 0 → at stale′ i ≡ at stale i
-  pub still : (i : ℕ) → i < length ps → cell mark′ i ≡ 0 → (x : ℕ) → x < 64 * q → cell (row ms w i) x ≡ 1 → cell (row ms w j) x ≡ 1
+  pub still : (i : ℕ) → i < length ps → cell mark′ i ≡ 0 → (x : ℕ) → x < 64 * q → cell (wordRow ms w i) x ≡ 1 → cell (wordRow ms w j) x ≡ 1
       → cell alt x ≡ 0
-  pub moved : (i : ℕ) → i < length ps → cell mark i ≡ 0 → 0 < cell mark′ i → at stale′ i ≡ common alt (row ms w i)
+  pub moved : (i : ℕ) → i < length ps → cell mark i ≡ 0 → 0 < cell mark′ i → at stale′ i ≡ common alt (wordRow ms w i)
 
 pub starts : (ps ms : List ℕ) (w : ℕ) (alt : List ℕ) (j : ℕ) (stale mark : List ℕ) → Disturbing ps ms w alt j stale mark stale mark 0
 starts ps ms w alt j stale mark = record {
@@ -138,7 +138,7 @@ apart alt a b q x e f u v = rw f (omega (
 
 pub goes : {ps ms : List ℕ} {w : ℕ} {alt : List ℕ} {j : ℕ} {stale mark stale′ mark′ new next : List ℕ} {q r m : ℕ}
     → Disturbing ps ms w alt j stale mark stale′ mark′ q
-    → m ≡ bitAnd (at alt q) (at (row ms w j) q) → Spread ps ms w alt q m stale′ mark′ new next → Onward (row ms w j) q r
+    → m ≡ bitAnd (at alt q) (at (wordRow ms w j) q) → Spread ps ms w alt q m stale′ mark′ new next → Onward (wordRow ms w j) q r
     → Disturbing ps ms w alt j stale mark new next r
 goes {ps} {ms} {w} {alt} {j} {stale} {mark} {stale′} {mark′} {new} {next} {q} {r} {m} s e d o = record {
   kept = λ i l g. let a = s .kept i l g in let b = d .kept i l (omega (arith, a .0)) in (b .0 ∙ a .0, b .1 ∙ a .1);
@@ -150,10 +150,11 @@ goes {ps} {ms} {w} {alt} {j} {stale} {mark} {stale′} {mark′} {new} {next} {q
     was : (i : ℕ) → i < length ps → cell next i ≡ 0 → cell mark′ i ≡ 0
     was i l z = ⊎-elim (λ a. a) (λ a. absurd (omega (arith, d .kept i l a .0))) (zero-or (cell mark′ i))
 
-    word : (i : ℕ) → i < length ps → cell next i ≡ 0 → (x : ℕ) → 64 * q ≤ x → x < 64 * r → cell (row ms w i) x ≡ 1
-        → cell (row ms w j) x ≡ 1 → cell alt x ≡ 0
-    word i l z x a y u v = ⊎-elim (λ b. apart alt (row ms w i) (row ms w j) q x (rw e at (d .still i l z .1)) (omega arith) u v)
-        (λ b. absurd (omega (arith, bare-cells (row ms w j) x (o .gap (x / 64) (omega arith) (omega arith))))) (lt-or-le x (64 * (q + 1)))
+    word : (i : ℕ) → i < length ps → cell next i ≡ 0 → (x : ℕ) → 64 * q ≤ x → x < 64 * r → cell (wordRow ms w i) x ≡ 1
+        → cell (wordRow ms w j) x ≡ 1 → cell alt x ≡ 0
+    word i l z x a y u v = ⊎-elim (λ b. apart alt (wordRow ms w i) (wordRow ms w j) q x (rw e at (d .still i l z .1)) (omega arith) u v)
+        (λ b. absurd (omega (arith, bare-cells (wordRow ms w j) x (o .gap (x / 64) (omega arith) (omega arith)))))
+        (lt-or-le x (64 * (q + 1)))
 
 pub ends-all : {ps ms : List ℕ} {w : ℕ} {alt : List ℕ} {j : ℕ} {stale mark stale′ mark′ : List ℕ} {q : ℕ}
     → Disturbing ps ms w alt j stale mark stale′ mark′ q → length alt ≤ q → Disturbed ps ms w alt j stale mark stale′ mark′
@@ -169,20 +170,20 @@ ends-all {alt = alt} {q = q} s l = record {
 
 -- ---- what the code's steps say
 
-pub row-at : (ms : List ℕ) (w i q : ℕ) → q < w → at (row ms w i) q ≡ at ms (w * i + q)
-unfolding row
+pub row-at : (ms : List ℕ) (w i q : ℕ) → q < w → at (wordRow ms w i) q ≡ at ms (w * i + q)
+unfolding wordRow
 row-at ms w i q l = rw (getD-take, getD-drop)
 
 pub set-in : {ps ms index : List ℕ} {w q : ℕ} → Indexed ps ms index w → q < w → 16 * q + 16 ≤ length index
 set-in x l = omega (arith, x .size)
 
-pub set-length : {ps ms index : List ℕ} {w q : ℕ} → Indexed ps ms index w → q < w → length (row index 16 q) ≡ 16
+pub set-length : {ps ms index : List ℕ} {w q : ℕ} → Indexed ps ms index w → q < w → length (wordRow index 16 q) ≡ 16
 set-length {index = index} {q = q} x l = row-length index 16 q (set-in x l)
 
 pub next-within : {ps ms index : List ℕ} {w q : ℕ} {mark : List ℕ} {i r : ℕ} → Indexed ps ms index w → q < w
-    → Next (row index 16 q) mark i r → r ≤ 1024
+    → Next (wordRow index 16 q) mark i r → r ≤ 1024
 next-within x l n = omega (arith, n .within, set-length x l)
 
 pub next-free : {ps ms index : List ℕ} {w q : ℕ} {mark : List ℕ} {i r : ℕ} → Indexed ps ms index w → q < w
-    → Next (row index 16 q) mark i r → r < 1024 → cell mark r ≡ 0
+    → Next (wordRow index 16 q) mark i r → r < 1024 → cell mark r ≡ 0
 next-free x l n y = n .outside (omega (arith, set-length x l))

@@ -7,25 +7,25 @@ use lib.ListN.{length}
 use lib.Bits.{bitAnd}
 use Rattle.cells.specs.Cells.{cell, common}
 use Rattle.multi_tournament.specs.Tournament.{at}
-use Rattle.multi_rounds.specs.Market.{row, Sized}
+use Rattle.multi_rounds.specs.Market.{wordRow, Sized}
 
 -- for each word q, the bids that have a cell there: 16 words a set
 pub record Indexed (ps ms index : List ℕ) (w : ℕ) : Type 0 where
   pub size : length index ≡ 16 * w
-  pub lists : (i q : ℕ) → i < length ps → q < w → (at (row ms w i) q ≡ 0 → ⊥) → cell (row index 16 q) i ≡ 1
+  pub lists : (i q : ℕ) → i < length ps → q < w → (at (wordRow ms w i) q ≡ 0 → ⊥) → cell (wordRow index 16 q) i ≡ 1
 
 -- the bids that have a cell of m in word q are marked, with the open cells that each has
 pub record Spread (ps ms : List ℕ) (w : ℕ) (alt : List ℕ) (q m : ℕ) (stale mark stale′ mark′ : List ℕ) : Type 0 where
   pub kept : (i : ℕ) → i < length ps → 0 < cell mark i → (cell mark′ i ≡ cell mark i) × (at stale′ i ≡ at stale i)
-  pub still : (i : ℕ) → i < length ps → cell mark′ i ≡ 0 → (at stale′ i ≡ at stale i) × (bitAnd (at (row ms w i) q) m ≡ 0)
-  pub moved : (i : ℕ) → i < length ps → cell mark i ≡ 0 → 0 < cell mark′ i → at stale′ i ≡ common alt (row ms w i)
+  pub still : (i : ℕ) → i < length ps → cell mark′ i ≡ 0 → (at stale′ i ≡ at stale i) × (bitAnd (at (wordRow ms w i) q) m ≡ 0)
+  pub moved : (i : ℕ) → i < length ps → cell mark i ≡ 0 → 0 < cell mark′ i → at stale′ i ≡ common alt (wordRow ms w i)
 
 -- the bids that share an open cell with bid j are marked
 pub record Disturbed (ps ms : List ℕ) (w : ℕ) (alt : List ℕ) (j : ℕ) (stale mark stale′ mark′ : List ℕ) : Type 0 where
   pub kept : (i : ℕ) → i < length ps → 0 < cell mark i → (cell mark′ i ≡ cell mark i) × (at stale′ i ≡ at stale i)
   pub still : (i : ℕ) → i < length ps → cell mark′ i ≡ 0 → (at stale′ i ≡ at stale i)
-      × ((x : ℕ) → cell (row ms w i) x ≡ 1 → cell (row ms w j) x ≡ 1 → cell alt x ≡ 0)
-  pub moved : (i : ℕ) → i < length ps → cell mark i ≡ 0 → 0 < cell mark′ i → at stale′ i ≡ common alt (row ms w i)
+      × ((x : ℕ) → cell (wordRow ms w i) x ≡ 1 → cell (wordRow ms w j) x ≡ 1 → cell alt x ≡ 0)
+  pub moved : (i : ℕ) → i < length ps → cell mark i ≡ 0 → 0 < cell mark′ i → at stale′ i ≡ common alt (wordRow ms w i)
 
 -- og x: whether cell x is open in the main run. A bid without mark has the same open cells in both runs, and nothing is known of it;
 -- what is known of a bid with a mark is no less than it reaches in the run without k, and k itself is out
@@ -35,5 +35,5 @@ pub record Strayed (ps ms : List ℕ) (w k : ℕ) (alt stale mark : List ℕ) (o
   pub own : 0 < cell mark k
   pub skip : at stale k ≡ 0
   pub out : (i : ℕ) → i < length ps → cell mark i ≡ 0 → at stale i ≡ 0
-  pub bound : (i : ℕ) → i < length ps → 0 < cell mark i → (i ≡ k → ⊥) → common alt (row ms w i) ≤ at stale i
-  pub same : (i : ℕ) → i < length ps → cell mark i ≡ 0 → (x : ℕ) → cell (row ms w i) x ≡ 1 → cell alt x ≡ og x
+  pub bound : (i : ℕ) → i < length ps → 0 < cell mark i → (i ≡ k → ⊥) → common alt (wordRow ms w i) ≤ at stale i
+  pub same : (i : ℕ) → i < length ps → cell mark i ≡ 0 → (x : ℕ) → cell (wordRow ms w i) x ≡ 1 → cell alt x ≡ og x

@@ -15,7 +15,7 @@ use Rattle.cover.specs.SettledLaws.{as-listed}
 use Rattle.cover.specs.SpareLaws.{spare-bids, each-at}
 use Rattle.cover.specs.GreedyCover.{Covered}
 use Rattle.cells.specs.Cells.{cell, Closed}
-use Rattle.multi_rounds.specs.Market.{row, has, First, Cleared}
+use Rattle.multi_rounds.specs.Market.{wordRow, has, First, Cleared}
 use Rattle.multi_tournament.specs.Tournament.{at}
 use Rattle.multi_rounds.specs.Trace.{before, Trace}
 use Rattle.multi_follow.specs.Follow.{Followed, Course}
@@ -67,13 +67,13 @@ module _ {ps ms : List ℕ} {w n : ℕ} {order gains : List ℕ} {rounds h : ℕ
       go false m = rw (getD-set-other xs (at order h) k v 0 (λ j. eqb-false (at order h) k m (sym j)), or-false (picked order h k)) (g k z)
 
   pub goes : {t p : ℕ} → Followed ps ms w n order h t → p ≡ t - 1 → {next : List ℕ} → length next ≡ length held
-      → Closed held (row ms w (at order h)) next
+      → Closed held (wordRow ms w (at order h)) next
       → Paying ps ms w n order (h + 1) next (set won (at order h) 1) (set cents (at order h) p)
   unfolding before
   goes {t} {p} r d {next} e c = record {
     standing = record {
       words = e ∙ s .standing .words;
-      stands = λ x. rw add-one (c .clears x ∙ ap (λ (v : ℕ). v - cell (row ms w (at order h)) x) (s .standing .stands x));
+      stands = λ x. rw add-one (c .clears x ∙ ap (λ (v : ℕ). v - cell (wordRow ms w (at order h)) x) (s .standing .stands x));
     };
     as-won = simp length-set (s .as-won);
     as-cents = simp length-set (s .as-cents);

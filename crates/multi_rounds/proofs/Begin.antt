@@ -12,7 +12,7 @@ use Rattle.cells.specs.Cells.{cell, common}
 use Rattle.cover.specs.Sets.{cells}
 use Rattle.cells.proofs.Sum.{total-both-le}
 use Rattle.multi_rounds.proofs.Opens.{opens-first}
-use Rattle.multi_rounds.specs.Market.{row, Sized, Market, First, Entered}
+use Rattle.multi_rounds.specs.Market.{wordRow, Sized, Market, First, Entered}
 use Rattle.multi_tournament.specs.Tournament.{at, known, Tournament}
 use Rattle.multi_tournament.proofs.Tree.{known-at, length-known}
 use Rattle.multi_rounds.specs.Trace.{openOf}
@@ -29,18 +29,18 @@ common-few a b l = omega (arith, total-both-le a b (64 * length a))
 pub record Entering (ps ms : List ℕ) (w : ℕ) (held who num : List ℕ) (i : ℕ) : Type 0 where
   pub tree : Tournament ps who num
   pub inside : i ≤ length ps
-  pub done : (j : ℕ) → j < i → at (known num) j ≡ common held (row ms w j)
+  pub done : (j : ℕ) → j < i → at (known num) j ≡ common held (wordRow ms w j)
 
 pub enters-none : {ps ms : List ℕ} {w : ℕ} {held who num : List ℕ} → Tournament ps who num → Entering ps ms w held who num 0
 enters-none t = record { tree = t; inside = omega arith; done = λ j l. absurd (omega arith) }
 
 pub enters-more : {ps ms : List ℕ} {w : ℕ} {held who num who′ num′ : List ℕ} {i r : ℕ} → Market ps ms w → Entering ps ms w held who num i
     → i < length ps → Tournament ps who′ num′ → known num′ ≡ set (known num) i r
-    → r ≡ common held (row ms w i) → Entering ps ms w held who′ num′ (i + 1)
+    → r ≡ common held (wordRow ms w i) → Entering ps ms w held who′ num′ (i + 1)
 enters-more {ps} {ms} {w} {held} {who} {num} {who′} {num′} {i} {r} m s l t q e =
     record { tree = t; inside = omega arith; done = λ j z. rw q (go j z (eqb j i) refl) }
   where
-    go : (j : ℕ) → j < i + 1 → (b : Bool) → eqb j i ≡ b → at (set (known num) i r) j ≡ common held (row ms w j)
+    go : (j : ℕ) → j < i + 1 → (b : Bool) → eqb j i ≡ b → at (set (known num) i r) j ≡ common held (wordRow ms w j)
     go j z true d = rw (
       eqb-true j i d,
       getD-set-same (known num) i r 0

@@ -9,7 +9,7 @@ use lib.ListN.{length, set, length-set, List·getD-eq-default}
 use lib.Seq.{getD-set-same, getD-set-other, ext-getD}
 use lib.Dec.{eqb, ltb}
 use borrow.Author.Tests.{eqb-true, eqb-false, ltb-true, ltb-false}
-use Rattle.cells.specs.Cells.{cell, Filled}
+use Rattle.cells.specs.Cells.{cell, RangeAdded}
 use Rattle.multi_rounds.specs.Market.{Cleared, First}
 use Rattle.multi_tournament.specs.Tournament.{at}
 
@@ -47,5 +47,5 @@ pub no-cell : (xs : List ℕ) → Cleared xs → (x : ℕ) → cell xs x ≡ 0
 unfolding cell
 no-cell xs c x = rw (c .none (x / 64), zero-div (2 ^ (x % 64)))
 
-pub first-of : (n : ℕ) (a b : List ℕ) → Cleared a → Filled 0 n a b → First n b
+pub first-of : (n : ℕ) (a b : List ℕ) → Cleared a → RangeAdded 0 n a b → First n b
 first-of n a b c f = record { inside = λ x l. f .inside x (omega arith) l; above = λ x l. f .above x l ∙ no-cell a c x }

@@ -15,7 +15,7 @@ use Rattle.cells.specs.Cells.{common}
 use Rattle.multi_tournament.specs.Tournament.{at, known, Tournament}
 use Rattle.multi_tournament.proofs.Order.{zero-or}
 use Rattle.multi_tournament.proofs.Tree.{set-at, first-leads, first-own, length-known}
-use Rattle.multi_rounds.specs.Market.{row, place, Market, live, Known, Turn, Fronted}
+use Rattle.multi_rounds.specs.Market.{wordRow, placeOr, Market, live, Known, Turn, Fronted}
 
 pub right-one : (p r : ℕ → ℕ) (n : ℕ) (u v : Found) → IsPick p r n u → IsPick p r n v → u ≡ v
 right-one p r n nothing nothing x y = refl
@@ -58,7 +58,7 @@ module _ {ps ms : List ℕ} {w : ℕ} {held old who num : List ℕ} (m : Market 
         × (at ps (at who 1) * at (known num) i + late (at who 1) i ≤ at ps i * at num 1)
     least-first i l g = ⊎-elim (λ z. absurd (omega arith)) (λ z. z) (first-leads (f .tree) i (omega (arith, m .priced .count)))
 
-    module _ {r : ℕ} (e : r ≡ common held (row ms w (at who 1))) where
+    module _ {r : ℕ} (e : r ≡ common held (wordRow ms w (at who 1))) where
       pub no-more : r ≤ at num 1
       no-more = omega (arith, known-first, f .knows .most (at who 1) first-in (omega (arith, known-first)))
 
@@ -72,12 +72,12 @@ module _ {ps ms : List ℕ} {w : ℕ} {held old who num : List ℕ} (m : Market 
             few = rw q (set-at (λ i x. x ≤ 10112) (known num) (at who 1) r within (omega (arith, no-more, first-small))
                 (f .knows .sized .few));
           };
-          most = rw q (set-at (λ i x. i < length ps → 0 < x → common held (row ms w i) ≤ x) (known num) (at who 1) r within
+          most = rw q (set-at (λ i x. i < length ps → 0 < x → common held (wordRow ms w i) ≤ x) (known num) (at who 1) r within
               (λ a b. omega arith) (f .knows .most));
         };
         high = rw q (set-at (λ i x. x ≤ at old i) (known num) (at who 1) r within
             (omega (arith, no-more, known-first, f .high (at who 1))) (f .high));
-        low = rw q (set-at (λ i x. i < length ps → min (at old i) (common held (row ms w i)) ≤ x) (known num) (at who 1) r within
+        low = rw q (set-at (λ i x. i < length ps → min (at old i) (common held (wordRow ms w i)) ≤ x) (known num) (at who 1) r within
             (λ a. omega arith) (f .low));
       }
         where
@@ -87,7 +87,7 @@ module _ {ps ms : List ℕ} {w : ℕ} {held old who num : List ℕ} (m : Market 
       pub fewer : (r ≡ at num 1 → ⊥) → (num′ : List ℕ) → known num′ ≡ set (known num) (at who 1) r → sum (known num′) < sum (known num)
       fewer n num′ q = rw q (sum-falls (known num) (at who 1) r (omega (arith, no-more, known-first)))
 
-    fronted : (rival ask gain : ℕ) (free clear : Bool) → (clear ≡ false → at num 1 ≡ common held (row ms w (at who 1)))
+    fronted : (rival ask gain : ℕ) (free clear : Bool) → (clear ≡ false → at num 1 ≡ common held (wordRow ms w (at who 1)))
         → (clear ≡ true → (free ≡ true) × (ask * at num 1 + late rival (at who 1) ≤ at ps (at who 1) * gain))
         → Fronted ps ms w held old (known num) rival ask gain free (at who 1) (at ps (at who 1)) (at num 1) clear
     fronted rival ask gain free clear a b = record {
@@ -106,7 +106,7 @@ module _ {ps ms : List ℕ} {w : ℕ} {held old who num : List ℕ} (m : Market 
         → Fronted ps ms w held old (known num) rival ask gain free (at who 1) (at ps (at who 1)) (at num 1) true
     is-clear {rival} {ask} {gain} {free} b = fronted rival ask gain free true (λ e. absurd (true≢false e)) (λ e. b)
 
-    pub is-exact : {rival ask gain : ℕ} {free : Bool} → at num 1 ≡ common held (row ms w (at who 1))
+    pub is-exact : {rival ask gain : ℕ} {free : Bool} → at num 1 ≡ common held (wordRow ms w (at who 1))
         → Fronted ps ms w held old (known num) rival ask gain free (at who 1) (at ps (at who 1)) (at num 1) false
     is-exact {rival} {ask} {gain} {free} a = fronted rival ask gain free false (λ e. a) (λ e. absurd (false≢true e))
 
@@ -130,12 +130,12 @@ module _ {ps ms : List ℕ} {w : ℕ} {held old who num : List ℕ} (m : Market 
 pub turned : {ps ms : List ℕ} {w : ℕ} {held old new : List ℕ} {rival ask gain : ℕ} {free : Bool} {b p s : ℕ} {clear : Bool}
     → Fronted ps ms w held old new rival ask gain free b p s clear → clear ≡ false
     → Turn ps ms w held old new b s
-unfolding live place
+unfolding live placeOr
 turned {ps} {ms} {w} {held} {old} {new} {b = b} {p = p} {s = s} f e = record {
-  choice = ⊎-elim (λ z. f .none z ∙ sym (ap (place (length ps))
+  choice = ⊎-elim (λ z. f .none z ∙ sym (ap (placeOr (length ps))
       (right-one (at ps) (live ms w held old) (length ps) (pick (at ps) (live ms w held old) (length ps)) nothing picks
       (λ i l g. omega (arith, f .low i l, none-left z i l)))))
-      (λ z. sym (ap (place (length ps)) (right-one (at ps) (live ms w held old) (length ps)
+      (λ z. sym (ap (placeOr (length ps)) (right-one (at ps) (live ms w held old) (length ps)
       (pick (at ps) (live ms w held old) (length ps)) (found b) picks (best z)))) (zero-or s);
   exact = λ l. sym (⊎-elim (λ z. absurd (omega (arith, f .none z))) live-is (zero-or s));
   small = f .small;

@@ -12,7 +12,7 @@ use Rattle.cells.specs.Cells.{cell, total, both, common, Closed}
 use Rattle.cover.specs.Greedy.{reach, keep, close}
 use Rattle.cover.specs.Sets.{cells}
 use Rattle.cells.proofs.Lowest.{two}
-use Rattle.multi_rounds.specs.Market.{row, has}
+use Rattle.multi_rounds.specs.Market.{wordRow, has}
 use Rattle.multi_rounds.specs.Trace.{opens, openOf}
 
 pub two-way : (ws : List ℕ) (x : ℕ) → (cell ws x ≡ 0) ⊎ (cell ws x ≡ 1)
@@ -66,14 +66,14 @@ unfolding cells
 length-cells zero = refl
 length-cells (suc n) = ap suc (length-cells n)
 
-pub reach-open : (held ms : List ℕ) (w i : ℕ) → reach (has ms w i) (openOf held) ≡ common held (row ms w i)
+pub reach-open : (held ms : List ℕ) (w i : ℕ) → reach (has ms w i) (openOf held) ≡ common held (wordRow ms w i)
 unfolding openOf has common
-reach-open held ms w i = reach-opens held (row ms w i) (64 * length held)
+reach-open held ms w i = reach-opens held (wordRow ms w i) (64 * length held)
 
-pub close-open : (held new ms : List ℕ) (w i : ℕ) → length new ≡ length held → Closed held (row ms w i) new
+pub close-open : (held new ms : List ℕ) (w i : ℕ) → length new ≡ length held → Closed held (wordRow ms w i) new
     → close (has ms w i) (openOf held) ≡ openOf new
 unfolding openOf has
-close-open held new ms w i e c = rw e (close-opens held (row ms w i) new c (64 * length held))
+close-open held new ms w i e c = rw e (close-opens held (wordRow ms w i) new c (64 * length held))
 
 pub opens-same : (f g : ℕ → ℕ) (n : ℕ) → ((x : ℕ) → f x ≡ g x) → opens f n ≡ opens g n
 unfolding opens

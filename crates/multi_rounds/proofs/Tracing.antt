@@ -10,18 +10,18 @@ use lib.Seq.{getD-set-same, getD-set-other}
 use lib.Dec.{eqb, ltb}
 use borrow.Author.Tests.{eqb-true, eqb-false, ltb-true, ltb-false}
 use Rattle.cells.specs.Cells.{cell, Closed}
-use Rattle.cover.specs.Greedy.{Bid, reach, best, bids}
+use Rattle.cover.specs.Greedy.{Entry, reach, best, bids}
 use Rattle.cover.specs.GreedyLaws.{best-right, shrink}
 use Rattle.cover.specs.PickLaws.{Best}
 use Rattle.cover.specs.Sets.{when, found}
 use Rattle.multi_rounds.proofs.Begin.{open-first}
 use Rattle.multi_rounds.proofs.Chosen.{Tied, takes, stops, gains, gains-some, shuts, tied}
 use Rattle.multi_rounds.proofs.Opens.{length-cells, opens-same, reach-open}
-use Rattle.multi_rounds.specs.Market.{row, has, Sized, Turn, First, Entered}
+use Rattle.multi_rounds.specs.Market.{wordRow, has, Sized, Turn, First, Entered}
 use Rattle.multi_tournament.specs.Tournament.{at}
 use Rattle.multi_rounds.specs.Trace.{opens, before, Trace, openOf}
 
-abbrev pub all : List ℕ → List ℕ → ℕ → ℕ → Bid
+abbrev pub all : List ℕ → List ℕ → ℕ → ℕ → Entry
 all ps ms w = bids (has ms w) ps
 
 before-set : (ms : List ℕ) (w n : ℕ) (order : List ℕ) (r b g : ℕ) → g ≤ r → (x : ℕ)
@@ -102,7 +102,7 @@ module _ {ps ms : List ℕ} {w n : ℕ} {held stale order got : List ℕ} {left 
       pub some : 0 < c
       some = gains-some (s .links) u l
 
-      pub goes : {rest : List ℕ} → length rest ≡ length held → Closed held (row ms w b) rest
+      pub goes : {rest : List ℕ} → length rest ≡ length held → Closed held (wordRow ms w b) rest
           → Tracing ps ms w n rest new (set order r b) (set got r c) (left - c) (r + 1)
       unfolding before bids
       goes {rest} e k = let o = shuts (s .links) u l e k in record {
@@ -112,7 +112,7 @@ module _ {ps ms : List ℕ} {w n : ℕ} {held stale order got : List ℕ} {left 
         orders = simp length-set (s .orders);
         space = simp length-set (s .space);
         standing = λ x. rw (add-one, before-set ms w n order r b r (omega arith) x, getD-set-same order r b 0 within)
-            (k .clears x ∙ ap (λ (v : ℕ). v - cell (row ms w b) x) (s .standing x));
+            (k .clears x ∙ ap (λ (v : ℕ). v - cell (wordRow ms w b) x) (s .standing x));
         past = λ g z. go g z (eqb g r) refl;
       }
         where

@@ -13,18 +13,18 @@ use Rattle.cells.specs.Hops.{Hops}
 use Rattle.multi_tournament.specs.Tournament.{at, Priced}
 
 -- the words of bid i, of w words a bid
-unfoldable pub row : List ℕ → ℕ → ℕ → List ℕ
-row ms w i = take w (drop (w * i) ms)
+unfoldable pub wordRow : List ℕ → ℕ → ℕ → List ℕ
+wordRow ms w i = take w (drop (w * i) ms)
 
 -- bid i has the cell x
 unfoldable pub has : List ℕ → ℕ → ℕ → ℕ → Bool
-unfolding row cell
-has ms w i x = eqb (cell (row ms w i) x) 1
+unfolding wordRow cell
+has ms w i x = eqb (cell (wordRow ms w i) x) 1
 
 -- the number of the bid found, n where there is none
-unfoldable pub place : ℕ → Found → ℕ
-place n nothing = n
-place n (found b) = b
+unfoldable pub placeOr : ℕ → Found → ℕ
+placeOr n nothing = n
+placeOr n (found b) = b
 
 -- numbers of cells
 pub record Sized (rs : List ℕ) : Type 0 where
@@ -38,21 +38,21 @@ pub record Market (ps ms : List ℕ) (w : ℕ) : Type 0 where
 -- the hops of each bid's words, one bid after the other
 pub record Hopping (ps ms hop : List ℕ) (w : ℕ) : Type 0 where
   pub size : length hop ≡ length ms
-  pub each : (i : ℕ) → i < length ps → Hops (row ms w i) (row hop w i)
+  pub each : (i : ℕ) → i < length ps → Hops (wordRow ms w i) (wordRow hop w i)
 
 -- the cells that bid i reaches, and no more than was known of it: a bid of which 0 is known is out
 unfoldable pub live : List ℕ → ℕ → List ℕ → List ℕ → ℕ → ℕ
-unfolding row common
-live ms w held old i = min (at old i) (common held (row ms w i))
+unfolding wordRow common
+live ms w held old i = min (at old i) (common held (wordRow ms w i))
 
 -- what is known of each bid that is not out is no less than it reaches
 pub record Known (ps ms : List ℕ) (w : ℕ) (held old : List ℕ) : Type 0 where
   pub sized : Sized old
-  pub most : (i : ℕ) → i < length ps → 0 < at old i → common held (row ms w i) ≤ at old i
+  pub most : (i : ℕ) → i < length ps → 0 < at old i → common held (wordRow ms w i) ≤ at old i
 
 -- the round takes bid b, which reaches c cells; what is known of the bids goes from `old` to `new`
 pub record Turn (ps ms : List ℕ) (w : ℕ) (held old new : List ℕ) (b c : ℕ) : Type 0 where
-  pub choice : b ≡ place (length ps) (pick (at ps) (live ms w held old) (length ps))
+  pub choice : b ≡ placeOr (length ps) (pick (at ps) (live ms w held old) (length ps))
   pub exact : b < length ps → c ≡ live ms w held old b
   pub small : c ≤ 10112
   pub high : (i : ℕ) → at new i ≤ at old i
@@ -68,7 +68,7 @@ pub record Cleared (xs : List ℕ) : Type 0 where
 
 -- what is known of each bid is what it has of the cells held
 pub record Entered (ps ms : List ℕ) (w : ℕ) (held new : List ℕ) : Type 0 where
-  pub each : (i : ℕ) → i < length ps → at new i ≡ common held (row ms w i)
+  pub each : (i : ℕ) → i < length ps → at new i ≡ common held (wordRow ms w i)
 
 -- bid b, which asks p, comes before all others by the s cells known of it, after some of the bids were counted anew; the cells
 -- known are those that
@@ -83,5 +83,5 @@ pub record Fronted (ps ms : List ℕ) (w : ℕ) (held old new : List ℕ) (rival
     pub small : s ≤ 10112
     pub inside : 0 < s → (b < length ps) × ((p ≡ at ps b) × (at new b ≡ s))
     pub none : s ≡ 0 → b ≡ length ps
-    pub exact : clear ≡ false → 0 < s → s ≡ common held (row ms w b)
+    pub exact : clear ≡ false → 0 < s → s ≡ common held (wordRow ms w b)
     pub clear-of : clear ≡ true → (free ≡ true) × (ask * s + late rival b ≤ p * gain)

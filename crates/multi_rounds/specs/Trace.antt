@@ -7,7 +7,7 @@ use lib.Dec.{eqb, ltb}
 use Rattle.cover.specs.Sets.{when, found}
 use Rattle.cover.specs.Greedy.{reach, keep, best, bids}
 use Rattle.cells.specs.Cells.{cell}
-use Rattle.multi_rounds.specs.Market.{row, has}
+use Rattle.multi_rounds.specs.Market.{wordRow, has}
 use Rattle.multi_tournament.specs.Tournament.{at}
 
 -- the numbers x below n with f x other than 0, the greatest first
@@ -24,7 +24,7 @@ openOf held = opens (cell held) (64 * length held)
 -- whether cell x is open before round g: 1 or 0
 unfoldable pub before : List ℕ → ℕ → ℕ → List ℕ → ℕ → ℕ → ℕ
 before ms w n order zero x = when (ltb x n) 1
-before ms w n order (suc g) x = before ms w n order g x - cell (row ms w (at order g)) x
+before ms w n order (suc g) x = before ms w n order g x - cell (wordRow ms w (at order g)) x
 
 -- the bids taken and the cells that each gained
 pub record Route (ps order gains : List ℕ) (rounds : ℕ) : Type 0 where

@@ -9,7 +9,7 @@ ghost use Rattle.cover.specs.CriticalPrice.{late};
 ghost use Rattle.cells.specs.Cells.{common, Closed};
 ghost use Rattle.cells.specs.Hops.{Hops, Counted};
 ghost use Rattle.multi_tournament.specs.Tournament.{known, Tournament};
-ghost use Rattle.multi_rounds.specs.Market.{row, Market, Hopping, Known, First, Cleared, Entered, Fronted};
+ghost use Rattle.multi_rounds.specs.Market.{wordRow, Market, Hopping, Known, First, Cleared, Entered, Fronted};
 ghost use Rattle.multi_rounds.specs.Trace.{Trace};
 
 // How many of the cells held bid i has.
@@ -22,8 +22,9 @@ pub fn overlap(
     i: usize,
 ) -> u64
     requires { ⌜ (length (now held) ≡ w) × ((w ≤ 158) × ((w * i + w ≤ length (now masks)) × ((length (now hop) ≡ length (now masks))
-        × (Counted (now held) (now counts) × Hops (row (now masks) w i) (row (now hop) w i))))) ⌝ }
-    ensures { λ r. ⌜ (r ≡ common (now (held .entry)) (row (now (masks .entry)) w i)) × Counted (now (held .entry)) (now (counts .exit)) ⌝ }
+        × (Counted (now held) (now counts) × Hops (wordRow (now masks) w i) (wordRow (now hop) w i))))) ⌝ }
+    ensures { λ r. ⌜ (r ≡ common (now (held .entry)) (wordRow (now (masks .entry)) w i))
+        × Counted (now (held .entry)) (now (counts .exit)) ⌝ }
 {
     let a = w * i;
     let e = a + w;
@@ -33,8 +34,8 @@ pub fn overlap(
 // Closes the cells of bid i.
 pub fn shut(held: &mut [u64], counts: &mut [u64], masks: &[u64], hop: &[u8], w: usize, i: usize)
     requires { ⌜ (length (now held) ≡ w) × ((w ≤ 158) × ((w * i + w ≤ length (now masks)) × ((length (now hop) ≡ length (now masks))
-        × (Counted (now held) (now counts) × Hops (row (now masks) w i) (row (now hop) w i))))) ⌝ }
-    ensures { λ _. ⌜ Closed (now (held .entry)) (row (now (masks .entry)) w i) (now (held .exit))
+        × (Counted (now held) (now counts) × Hops (wordRow (now masks) w i) (wordRow (now hop) w i))))) ⌝ }
+    ensures { λ _. ⌜ Closed (now (held .entry)) (wordRow (now (masks .entry)) w i) (now (held .exit))
         × Counted (now (held .exit)) (now (counts .exit)) ⌝ }
 {
     let a = w * i;

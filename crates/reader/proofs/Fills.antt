@@ -15,39 +15,39 @@ use Rattle.tender.specs.declared.Refusal.{Refusal}
 use Rattle.tender.specs.Limits.{allLawful}
 use Rattle.tender.specs.Refusals.{numberOf, placeOf}
 use Rattle.tender.specs.Tables.{flatRows, flatWindows}
-use Rattle.cells.specs.Cells.{cell, Filled}
+use Rattle.cells.specs.Cells.{cell, RangeAdded}
 use Rattle.reader_line.specs.Words.{among, cut}
-use Rattle.reader_line.specs.Line.{Bid, Line, tender, bid, lineOf, linesOf}
+use Rattle.reader_line.specs.Line.{BidLine, Line, tender, bid, lineOf, linesOf}
 use Rattle.reader_line.specs.Scan.{toNext}
 use Rattle.reader_line.specs.SizeLaws.{line-windows}
 use Rattle.reader_line.specs.Answer.{FirstBroken, EndsAt}
 use Rattle.reader_line.specs.declared.words.LineEnd.{LineEnd}
 use Rattle.reader_line.specs.declared.words.LineEnd.the-variants.{At, Broken}
-use Rattle.reader.specs.Read.{Outcome, refused, rowsFrom, allWindows, bidsOf, faultIn, faultOf, judged, checked}
+use Rattle.reader.specs.Read.{ReadOutcome, refused, rowsFrom, allWindows, bidsOf, bidFaultIn, bidFault, lineJudged, checked}
 use Rattle.reader.specs.RulesLaw.{passed}
-use Rattle.reader.specs.Steps.{Fault, Declines, Took, Judged, Taken, Held}
+use Rattle.reader.specs.Steps.{Fault, Declines, BidTaken, Judged, Taken, TablesHold}
 use Rattle.reader.specs.declared.bids.Step.{Step}
 use Rattle.reader.specs.declared.bids.Step.the-variants as step
 use Rattle.reader.proofs.Store.{front, windows-put, windows-more, flat-more, rows-more}
 
-pub numbers : List Bid → List ℕ
+pub numbers : List BidLine → List ℕ
 numbers [] = []
 numbers (b ∷ bs) = b .bidder ∷ numbers bs
 
-numbers-more : (bs : List Bid) (b : Bid) → numbers (bs ++ b ∷ []) ≡ numbers bs ++ b .bidder ∷ []
+numbers-more : (bs : List BidLine) (b : BidLine) → numbers (bs ++ b ∷ []) ≡ numbers bs ++ b .bidder ∷ []
 unfolding numbers
 numbers-more [] b = refl
 numbers-more (c ∷ bs) b = ap (λ l. c .bidder ∷ l) (numbers-more bs b)
 
-numbers-length : (bs : List Bid) → length (numbers bs) ≡ length bs
+numbers-length : (bs : List BidLine) → length (numbers bs) ≡ length bs
 unfolding numbers
 numbers-length [] = refl
 numbers-length (b ∷ bs) = ap suc (numbers-length bs)
 
 -- among the lines `whole`, all before `left` are bids without a fault, and the tables hold them
 pub record Walk (kind : Kind) (whole left : List (Option Line)) (k m : ℕ) (used rows windows : List ℕ) : Type 0 where
-  pub done : List Bid
-  pub checks : (out : Outcome) → checked kind 2 [] whole out ≡ checked kind (k + 2) (numbers done) left out
+  pub done : List BidLine
+  pub checks : (out : ReadOutcome) → checked kind 2 [] whole out ≡ checked kind (k + 2) (numbers done) left out
   pub bids : bidsOf whole ≡ done ++ bidsOf left
   pub count : length done ≡ k
   pub places : length (allWindows done) ≡ m
@@ -104,7 +104,7 @@ unfolding among
 among-more x [] b = or-false (eqb b x)
 among-more x (u ∷ us) b = rw (among-more x us b) (or-assoc (eqb u x) (among x us) (eqb b x))
 
-marked-more : (b : ℕ) (us used used′ : List ℕ) → ((x : ℕ) → eqb (cell used x) 1 ≡ among x us) → Filled b (b + 1) used used′ → (x : ℕ)
+marked-more : (b : ℕ) (us used used′ : List ℕ) → ((x : ℕ) → eqb (cell used x) 1 ≡ among x us) → RangeAdded b (b + 1) used used′ → (x : ℕ)
     → eqb (cell used′ x) 1 ≡ among x (us ++ b ∷ [])
 marked-more b us used used′ h f x = go (eqb b x) refl (ltb x b) refl ∙ sym (among-more x us b)
   where
@@ -123,30 +123,30 @@ bid-not-refused (step.Refused x) c n at e h = let z : _≡_ {A = ℕ} 0 1 = cc i
 -- what bounds the windows of a bid bounds those that a line adds
 pub taken-room : (kind : Kind) (k m : ℕ) (used rows windows used′ rows′ windows′ : List ℕ) (o : Option Line) (r : Step) (c n : ℕ)
     → Taken o kind k m used rows windows r used′ rows′ windows′ → r ≡ step.Bid c →
-    ((b : Bid) → o ≡ some (bid b) → 6 * (m + length (b .windows)) ≤ n) → 6 * (m + c) ≤ n
+    ((b : BidLine) → o ≡ some (bid b) → 6 * (m + length (b .windows)) ≤ n) → 6 * (m + c) ≤ n
 taken-room kind k m used rows windows used′ rows′ windows′ none r c n t e h = bid-not-refused r c 2 (k + 2) e t
 taken-room kind k m used rows windows used′ rows′ windows′ (some (tender x)) r c n t e h = bid-not-refused r c 2 (k + 2) e t
 taken-room kind k m used rows windows used′ rows′ windows′ (some (bid b)) r c n t e h =
-    go (faultIn kind k (b .bidder) (b .price) (length (b .windows)) (allLawful (b .windows)) (eqb (cell used (b .bidder)) 1)) t
+    go (bidFaultIn kind k (b .bidder) (b .price) (length (b .windows)) (allLawful (b .windows)) (eqb (cell used (b .bidder)) 1)) t
   where
-    go : (f : Option ℕ) → Judged f b k m used rows windows r used′ rows′ windows′ → 6 * (m + c) ≤ n
+    go : (f : Option (ℕ → Refusal)) → Judged f b k m used rows windows r used′ rows′ windows′ → 6 * (m + c) ≤ n
     go none j = let q : c ≡ length (b .windows) = cc (e, j .answer) in rw q (h b refl)
-    go (some x) j = bid-not-refused r c x (k + 2) e j
+    go (some f) j = bid-not-refused r c (numberOf (f (k + 2))) (placeOf (f (k + 2))) e j
 
 module _ (kind : Kind) (whole rest : List (Option Line)) (k m : ℕ) (used rows windows used′ rows′ windows′ : List ℕ) where
   -- the fault of the next bid
-  fault-is : (b : Bid) (w : Walk kind whole (some (bid b) ∷ rest) k m used rows windows) →
-      faultOf kind (numbers (w .done)) b ≡ faultIn kind k (b .bidder) (b .price) (length (b .windows)) (allLawful (b .windows))
+  fault-is : (b : BidLine) (w : Walk kind whole (some (bid b) ∷ rest) k m used rows windows) →
+      bidFault kind (numbers (w .done)) b ≡ bidFaultIn kind k (b .bidder) (b .price) (length (b .windows)) (allLawful (b .windows))
       (eqb (cell used (b .bidder)) 1)
-  unfolding faultOf
+  unfolding bidFault
   fault-is b w = rw (← (w .marked (b .bidder)), numbers-length (w .done), w .count)
 
-  more : (b : Bid) → Walk kind whole (some (bid b) ∷ rest) k m used rows windows → (r : Step) → m + length (b .windows) ≤ 11000 →
-      faultIn kind k (b .bidder) (b .price) (length (b .windows)) (allLawful (b .windows)) (eqb (cell used (b .bidder)) 1) ≡ none →
-      Took b k m used rows windows r used′ rows′ windows′ → length used′ ≡ length used → length rows′ ≡ length rows
+  more : (b : BidLine) → Walk kind whole (some (bid b) ∷ rest) k m used rows windows → (r : Step) → m + length (b .windows) ≤ 11000 →
+      bidFaultIn kind k (b .bidder) (b .price) (length (b .windows)) (allLawful (b .windows)) (eqb (cell used (b .bidder)) 1) ≡ none →
+      BidTaken b k m used rows windows r used′ rows′ windows′ → length used′ ≡ length used → length rows′ ≡ length rows
       → length windows′ ≡ length windows →
       Walk kind whole rest (k + 1) (m + length (b .windows)) used′ rows′ windows′
-  unfolding checked judged bidsOf
+  unfolding checked lineJudged bidsOf
   more b w r room g t lu lr lw =
       let p = passed kind k (b .bidder) (b .price) (length (b .windows)) (allLawful (b .windows)) (eqb (cell used (b .bidder)) 1) g in
       let f = fault-is b w ∙ g in
@@ -176,18 +176,18 @@ module _ (kind : Kind) (whole rest : List (Option Line)) (k m : ℕ) (used rows 
   pub goes : (o : Option Line) → Walk kind whole (o ∷ rest) k m used rows windows → (r : Step)
       → Taken o kind k m used rows windows r used′ rows′ windows′ →
       length used′ ≡ length used → length rows′ ≡ length rows → length windows′ ≡ length windows → (c : ℕ) → r ≡ step.Bid c
-      → ((b : Bid) → o ≡ some (bid b) → m + length (b .windows) ≤ 11000) →
+      → ((b : BidLine) → o ≡ some (bid b) → m + length (b .windows) ≤ 11000) →
       Walk kind whole rest (k + 1) (m + c) used′ rows′ windows′
   goes none w r t lu lr lw c e room = bid-not-refused r c 2 (k + 2) e t
   goes (some (tender x)) w r t lu lr lw c e room = bid-not-refused r c 2 (k + 2) e t
   goes (some (bid b)) w r t lu lr lw c e room = go
-      (faultIn kind k (b .bidder) (b .price) (length (b .windows)) (allLawful (b .windows)) (eqb (cell used (b .bidder)) 1)) refl t
+      (bidFaultIn kind k (b .bidder) (b .price) (length (b .windows)) (allLawful (b .windows)) (eqb (cell used (b .bidder)) 1)) refl t
     where
-      go : (f : Option ℕ) → faultIn kind k (b .bidder) (b .price) (length (b .windows)) (allLawful (b .windows))
+      go : (f : Option (ℕ → Refusal)) → bidFaultIn kind k (b .bidder) (b .price) (length (b .windows)) (allLawful (b .windows))
           (eqb (cell used (b .bidder)) 1) ≡ f →
           Judged f b k m used rows windows r used′ rows′ windows′ → Walk kind whole rest (k + 1) (m + c) used′ rows′ windows′
       go none g j = let q : c ≡ length (b .windows) = cc (e, j .answer) in rw q (more b w r (room b refl) g j lu lr lw)
-      go (some n) g j = bid-not-refused r c n (k + 2) e j
+      go (some f) g j = bid-not-refused r c (numberOf (f (k + 2))) (placeOf (f (k + 2))) e j
 
   refusal-is : (r : Step) (x : Refusal) (n at : ℕ) → r ≡ step.Refused x → Declines r n at → refused n at ≡ refused (numberOf x) (placeOf x)
   refusal-is (step.Bid d) x n at e h = absurd h
@@ -200,31 +200,31 @@ module _ (kind : Kind) (whole rest : List (Option Line)) (k m : ℕ) (used rows 
   -- the next line is faulty
   pub stops : (o : Option Line) → Walk kind whole (o ∷ rest) k m used rows windows → (r : Step)
       → Taken o kind k m used rows windows r used′ rows′ windows′ → (x : Refusal) → r ≡ step.Refused x →
-      (out : Outcome) → checked kind 2 [] whole out ≡ refused (numberOf x) (placeOf x)
-  unfolding checked judged
+      (out : ReadOutcome) → checked kind 2 [] whole out ≡ refused (numberOf x) (placeOf x)
+  unfolding checked lineJudged
   stops none w r t x e out = w .checks out ∙ refusal-is r x 2 (k + 2) e t
   stops (some (tender y)) w r t x e out = w .checks out ∙ refusal-is r x 2 (k + 2) e t
   stops (some (bid b)) w r t x e out = w .checks out
-      ∙ go (faultIn kind k (b .bidder) (b .price) (length (b .windows)) (allLawful (b .windows)) (eqb (cell used (b .bidder)) 1)) refl t
+      ∙ go (bidFaultIn kind k (b .bidder) (b .price) (length (b .windows)) (allLawful (b .windows)) (eqb (cell used (b .bidder)) 1)) refl t
     where
-      go : (f : Option ℕ) → faultIn kind k (b .bidder) (b .price) (length (b .windows)) (allLawful (b .windows))
+      go : (f : Option (ℕ → Refusal)) → bidFaultIn kind k (b .bidder) (b .price) (length (b .windows)) (allLawful (b .windows))
           (eqb (cell used (b .bidder)) 1) ≡ f →
           Judged f b k m used rows windows r used′ rows′ windows′ → checked kind (k + 2) (numbers (w .done)) (some (bid b) ∷ rest) out
           ≡ refused (numberOf x) (placeOf x)
       go none g j = let q : step.Bid (length (b .windows)) ≡ step.Refused x = sym (j .answer) ∙ e in let z : _≡_ {A = ℕ} 0 1 = cc in
           absurd (omega arith)
-      go (some n) g j = rw (fault-is b w ∙ g) (refusal-is r x n (k + 2) e j)
+      go (some f) g j = rw (fault-is b w ∙ g) (refusal-is r x (numberOf (f (k + 2))) (placeOf (f (k + 2))) e j)
 
 -- the next line is not of the form
 pub breaks : (kind : Kind) (whole rest : List (Option Line)) (k m : ℕ) (used rows windows : List ℕ)
     → Walk kind whole (none ∷ rest) k m used rows windows →
-    (out : Outcome) → checked kind 2 [] whole out ≡ refused 2 (k + 2)
+    (out : ReadOutcome) → checked kind 2 [] whole out ≡ refused 2 (k + 2)
 unfolding checked
 breaks kind whole rest k m used rows windows w out = w .checks out
 
 -- no line is left
 pub ends : (kind : Kind) (whole : List (Option Line)) (k m : ℕ) (used rows windows : List ℕ) → Walk kind whole [] k m used rows windows
-    → m ≤ 11000 → Held kind whole k m rows windows
+    → m ≤ 11000 → TablesHold kind whole k m rows windows
 unfolding checked bidsOf
 ends kind whole k m used rows windows w l =
     let e : bidsOf whole ≡ w .done = w .bids ∙ append-nil (w .done) in
@@ -250,7 +250,7 @@ ends-broken text i (At f) h q = let z : _≡_ {A = ℕ} 0 1 = cc in absurd (omeg
 ends-broken text i Broken h q = h
 
 -- the windows of the text up to the end of the next line
-pub room-for : (text : List ℕ) (i e m : ℕ) → 6 * m ≤ i → i ≤ e → e < length text → (b : Bid)
+pub room-for : (text : List ℕ) (i e m : ℕ) → 6 * m ≤ i → i ≤ e → e < length text → (b : BidLine)
     → lineOf (take (e - i) (drop i text)) ≡ some (bid b) → 6 * (m + length (b .windows)) ≤ e + 1
 room-for text i e m h l k b q =
     let n : length (take (e - i) (drop i text)) ≡ e - i = length-take-le (e - i) (drop i text) (rw length-drop (omega arith)) in

@@ -6,36 +6,38 @@ use mathlib.Core.Option.{none, some}
 use lib.Dec.{leb, ltb}
 use borrow.Author.Tests.{leb-true}
 use Rattle.tender.specs.declared.Kind.{Kind}
+use Rattle.tender.specs.declared.Refusal.the-variants.{OutsideLimits, TooMany, BadWindow, BidderRepeated, SeveralWindows}
 use Rattle.tender.specs.Limits.{within, isSingle}
-use Rattle.reader.specs.Read.{faultIn}
+use Rattle.reader.specs.Read.{bidFaultIn}
 
 module _ (k : Kind) (bids bidder price count : ℕ) (ok used : Bool) where
-  pub many : leb 1000 bids || ltb 32 count ≡ true → faultIn k bids bidder price count ok used ≡ some 4
-  unfolding faultIn
+  pub many : leb 1000 bids || ltb 32 count ≡ true → bidFaultIn k bids bidder price count ok used ≡ some TooMany
+  unfolding bidFaultIn
   many h = rw h
 
   module _ (a : leb 1000 bids || ltb 32 count ≡ false) where
-    pub beyond : not (within 1 999999 bidder) || ltb 100000000 price ≡ true → faultIn k bids bidder price count ok used ≡ some 3
-    unfolding faultIn
+    pub beyond : not (within 1 999999 bidder) || ltb 100000000 price ≡ true
+        → bidFaultIn k bids bidder price count ok used ≡ some OutsideLimits
+    unfolding bidFaultIn
     beyond h = rw (a, h)
 
     module _ (b : not (within 1 999999 bidder) || ltb 100000000 price ≡ false) where
-      pub several-windows : isSingle k && ltb 1 count ≡ true → faultIn k bids bidder price count ok used ≡ some 7
-      unfolding faultIn
+      pub several-windows : isSingle k && ltb 1 count ≡ true → bidFaultIn k bids bidder price count ok used ≡ some SeveralWindows
+      unfolding bidFaultIn
       several-windows h = rw (a, b, h)
 
       module _ (c : isSingle k && ltb 1 count ≡ false) where
-        pub unlawful : ok ≡ false → faultIn k bids bidder price count ok used ≡ some 5
-        unfolding faultIn
+        pub unlawful : ok ≡ false → bidFaultIn k bids bidder price count ok used ≡ some BadWindow
+        unfolding bidFaultIn
         unlawful h = rw (a, b, c, h)
 
         module _ (d : ok ≡ true) where
-          pub repeated : used ≡ true → faultIn k bids bidder price count ok used ≡ some 6
-          unfolding faultIn
+          pub repeated : used ≡ true → bidFaultIn k bids bidder price count ok used ≡ some BidderRepeated
+          unfolding bidFaultIn
           repeated h = rw (a, b, c, d, h)
 
-          pub sound : used ≡ false → faultIn k bids bidder price count ok used ≡ none
-          unfolding faultIn
+          pub sound : used ≡ false → bidFaultIn k bids bidder price count ok used ≡ none
+          unfolding bidFaultIn
           sound h = rw (a, b, c, d, h)
 
 -- a bidder within its limits is one of a million

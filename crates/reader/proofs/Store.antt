@@ -9,10 +9,10 @@ use lib.Seq.{sets-eq, length-take-le, take-at}
 use borrow.Author.Tests.{lt-ltb}
 use Rattle.tender.specs.declared.Window.{Window}
 use Rattle.tender.specs.Tables.{flatRows, flatWindows}
-use Rattle.reader_line.specs.Line.{Bid}
+use Rattle.reader_line.specs.Line.{BidLine}
 use Rattle.reader_line.specs.Scan.{putWindow, putWindows}
 use Rattle.reader.specs.Read.{rowsFrom, allWindows}
-use Rattle.reader.specs.Steps.{cellsOf}
+use Rattle.reader.specs.Steps.{rowNumbers}
 
 -- the first cells, where some follow the first n
 pub front : (l vs rest : List ℕ) (n t : ℕ) → n ≤ length l → n + length vs ≡ t → take t (take n l ++ vs ++ rest) ≡ take n l ++ vs
@@ -46,7 +46,7 @@ windows-put cells m (w ∷ ws) h =
 
 -- one bid more
 
-pub windows-more : (bs : List Bid) (b : Bid) → allWindows (bs ++ b ∷ []) ≡ allWindows bs ++ b .windows
+pub windows-more : (bs : List BidLine) (b : BidLine) → allWindows (bs ++ b ∷ []) ≡ allWindows bs ++ b .windows
 unfolding allWindows
 windows-more [] b = append-nil (b .windows)
 windows-more (c ∷ bs) b = rw (windows-more bs b) (sym (append-assoc (c .windows) (allWindows bs) (b .windows)))
@@ -56,9 +56,9 @@ unfolding flatWindows
 flat-more [] ys = refl
 flat-more (x ∷ xs) ys = ap (λ l. x .start ∷ x .end ∷ l) (flat-more xs ys)
 
-pub rows-more : (at : ℕ) (bs : List Bid) (b : Bid) →
+pub rows-more : (at : ℕ) (bs : List BidLine) (b : BidLine) →
     flatRows (rowsFrom at (bs ++ b ∷ [])) ≡ flatRows (rowsFrom at bs)
-    ++ cellsOf (record { bidder = b .bidder; price = b .price; first = at + length (allWindows bs); count = length (b .windows) })
+    ++ rowNumbers (record { bidder = b .bidder; price = b .price; first = at + length (allWindows bs); count = length (b .windows) })
 unfolding flatRows rowsFrom allWindows
 rows-more at [] b = rw add-zero
 rows-more at (c ∷ bs) b =

@@ -11,36 +11,38 @@ use lib.Dec.{eqb}
 use Rattle.tender.specs.declared.Kind.{Kind}
 use Rattle.tender.specs.declared.Tender.{Tender}
 use Rattle.tender.specs.Limits.{allLawful}
-use Rattle.cells.specs.Cells.{cell, Filled}
-use Rattle.reader_line.specs.Line.{Bid, Line, tender, bid}
+use Rattle.cells.specs.Cells.{cell, RangeAdded}
+use Rattle.reader_line.specs.Line.{BidLine, Line, tender, bid}
 use Rattle.reader_line.specs.Scan.{putWindows, Tally, tally, tenderNote, bidNote, noted}
-use Rattle.reader.specs.Read.{faultIn}
-use Rattle.reader.specs.Steps.{cellsOf, Fault, faultAt, Declines, Taken}
+use Rattle.tender.specs.declared.Refusal.{Refusal}
+use Rattle.tender.specs.Refusals.{numberOf, placeOf}
+use Rattle.reader.specs.Read.{bidFaultIn}
+use Rattle.reader.specs.Steps.{rowNumbers, Fault, faultAt, faultOfRefusal, Declines, Taken}
 use Rattle.reader.specs.declared.bids.Step.{Step}
 use Rattle.reader.specs.declared.bids.Step.the-variants as step
 
-pub is-sound : (line : ℕ) (o : Option ℕ) → none ≡ faultAt line o → o ≡ none
+pub is-sound : (line : ℕ) (o : Option (ℕ → Refusal)) → none ≡ faultAt line o → o ≡ none
 is-sound line none e = refl
 is-sound line (some f) e = let z : _≡_ {A = ℕ} 0 1 = cc in absurd (omega arith)
 
-pub record Faulted (line : ℕ) (o : Option ℕ) (x : Fault) : Type 0 where
-  pub f : ℕ
+pub record Faulted (line : ℕ) (o : Option (ℕ → Refusal)) (x : Fault) : Type 0 where
+  pub f : ℕ → Refusal
   pub number : o ≡ some f
-  pub fault : x ≡ record { number = f; place = line }
+  pub fault : x ≡ faultOfRefusal (f line)
 
-pub is-fault : (line : ℕ) (o : Option ℕ) (x : Fault) → some x ≡ faultAt line o → Faulted line o x
+pub is-fault : (line : ℕ) (o : Option (ℕ → Refusal)) (x : Fault) → some x ≡ faultAt line o → Faulted line o x
 is-fault line none x e = let z : _≡_ {A = ℕ} 0 1 = cc in absurd (omega arith)
 is-fault line (some f) x e = record { f = f; number = refl; fault = cc }
 
 -- a bid that was noted
-record Noted (n p c : ℕ) (ok : Bool) (m : ℕ) (old new : List ℕ) (b : Bid) : Type 0 where
+record Noted (n p c : ℕ) (ok : Bool) (m : ℕ) (old new : List ℕ) (b : BidLine) : Type 0 where
   bidder-is : n ≡ b .bidder
   price-is : p ≡ b .price
   count-is : c ≡ length (b .windows)
   sound-is : ok ≡ allLawful (b .windows)
   windows-are : new ≡ putWindows old m (b .windows)
 
-noted-bid : (n p c : ℕ) (ok : Bool) (m : ℕ) (old new : List ℕ) (b : Bid)
+noted-bid : (n p c : ℕ) (ok : Bool) (m : ℕ) (old new : List ℕ) (b : BidLine)
     → some (bidNote n p (record { count = c; sound = ok; cells = new })) ≡ noted m old (some (bid b)) → Noted n p c ok m old new b
 unfolding noted tally
 noted-bid n p c ok m old new b e =
@@ -70,28 +72,28 @@ module _ (kind : Kind) (k m : ℕ) (used rows windows : List ℕ) (r : Step) (us
 
   module _ (n p c : ℕ) (ok : Bool) where
     pub taken-fault : (o : Option Line) → some (bidNote n p (record { count = c; sound = ok; cells = windows′ })) ≡ noted m windows o
-        → (f : ℕ) → faultIn kind k n p c ok (eqb (cell used n) 1) ≡ some f →
-        Declines r f (k + 2) → Taken o kind k m used rows windows r used′ rows′ windows′
+        → (f : ℕ → Refusal) → bidFaultIn kind k n p c ok (eqb (cell used n) 1) ≡ some f →
+        Declines r (numberOf (f (k + 2))) (placeOf (f (k + 2))) → Taken o kind k m used rows windows r used′ rows′ windows′
     unfolding noted
     taken-fault none e f g h = let z : _≡_ {A = ℕ} 0 1 = cc in absurd (omega arith)
     taken-fault (some (tender u)) e f g h = let z : _≡_ {A = ℕ} 0 1 = cc in absurd (omega arith)
     taken-fault (some (bid b)) e f g h =
         let x = noted-bid n p c ok m windows windows′ b e in
-        let y : faultIn kind k (b .bidder) (b .price) (length (b .windows)) (allLawful (b .windows)) (eqb (cell used (b .bidder)) 1)
+        let y : bidFaultIn kind k (b .bidder) (b .price) (length (b .windows)) (allLawful (b .windows)) (eqb (cell used (b .bidder)) 1)
         ≡ some f = rw (x .bidder-is, x .price-is, x .count-is, x .sound-is) at g in
         rw y h
 
     pub taken-sound : (o : Option Line) → some (bidNote n p (record { count = c; sound = ok; cells = windows′ })) ≡ noted m windows o
-        → faultIn kind k n p c ok (eqb (cell used n) 1) ≡ none →
-        r ≡ step.Bid c → rows′ ≡ take (4 * k) rows ++ cellsOf (record { bidder = n; price = p; first = m; count = c })
-        ++ drop (4 * k + 4) rows → Filled n (n + 1) used used′ →
+        → bidFaultIn kind k n p c ok (eqb (cell used n) 1) ≡ none →
+        r ≡ step.Bid c → rows′ ≡ take (4 * k) rows ++ rowNumbers (record { bidder = n; price = p; first = m; count = c })
+        ++ drop (4 * k + 4) rows → RangeAdded n (n + 1) used used′ →
         Taken o kind k m used rows windows r used′ rows′ windows′
     unfolding noted
     taken-sound none e g q s t = let z : _≡_ {A = ℕ} 0 1 = cc in absurd (omega arith)
     taken-sound (some (tender u)) e g q s t = let z : _≡_ {A = ℕ} 0 1 = cc in absurd (omega arith)
     taken-sound (some (bid b)) e g q s t =
         let x = noted-bid n p c ok m windows windows′ b e in
-        let y : faultIn kind k (b .bidder) (b .price) (length (b .windows)) (allLawful (b .windows)) (eqb (cell used (b .bidder)) 1)
+        let y : bidFaultIn kind k (b .bidder) (b .price) (length (b .windows)) (allLawful (b .windows)) (eqb (cell used (b .bidder)) 1)
         ≡ none = rw (x .bidder-is, x .price-is, x .count-is, x .sound-is) at g in
         rw y (record {
           answer = q ∙ ap step.Bid (x .count-is);

@@ -18,11 +18,11 @@ use Rattle.reader_line.specs.Words.{cut}
 use Rattle.reader_line.specs.Line.{Line, tender, bid, linesOf}
 use Rattle.reader_line.specs.Scan.{Tally, tenderNote, bidNote, noted}
 use Rattle.reader_line.specs.Answer.{FirstBroken}
-use Rattle.reader.specs.Read.{Outcome, accepted, refused, rowsFrom, allWindows, bidsOf, checked, tables, readLines, readText}
+use Rattle.reader.specs.Read.{ReadOutcome, accepted, refused, rowsFrom, allWindows, bidsOf, checked, tables, readLines, readText}
 use Rattle.reader.specs.Read.{fitted, readInto}
-use Rattle.reader.specs.RulesLaw.{rows-length}
+use Rattle.reader.specs.RulesLaw.{rowsFrom-length}
 use Rattle.reader.specs.Answer.{filled, declined, summary, bidsAfter, windowsAfter}
-use Rattle.reader.specs.Steps.{Begins, Opened, Held, Filled}
+use Rattle.reader.specs.Steps.{Begins, Opened, TablesHold, LinesFilled}
 use Rattle.reader.specs.declared.First.{First}
 use Rattle.reader.specs.declared.First.the-variants as first
 use Rattle.reader.specs.declared.bids.Bids.{Bids}
@@ -80,11 +80,11 @@ opened-refused text (first.Tender u i) h x e = let z : _≡_ {A = ℕ} 0 1 = cc 
 opened-refused text (first.Refused r) h x e = let y : r ≡ x = cc in rw (← y) h
 
 module _ (kind : Kind) (ls : List (Option Line)) (rows spans : List ℕ) where
-  pub filled-held : (r : Bids) → Filled kind ls r rows spans → (k m : ℕ) → r ≡ bids.Filled k m → Held kind ls k m rows spans
+  pub filled-held : (r : Bids) → LinesFilled kind ls r rows spans → (k m : ℕ) → r ≡ bids.Filled k m → TablesHold kind ls k m rows spans
   filled-held (bids.Filled j n) h k m e = let x : j ≡ k = cc in let y : n ≡ m = cc in rw (← x, ← y) h
   filled-held (bids.Refused r) h k m e = let z : _≡_ {A = ℕ} 0 1 = cc in absurd (omega arith)
 
-  pub filled-refused : (r : Bids) → Filled kind ls r rows spans → (x : Refusal) → r ≡ bids.Refused x → (out : Outcome)
+  pub filled-refused : (r : Bids) → LinesFilled kind ls r rows spans → (x : Refusal) → r ≡ bids.Refused x → (out : ReadOutcome)
       → checked kind 2 [] ls out ≡ refused (numberOf x) (placeOf x)
   filled-refused (bids.Filled j n) h x e out = let z : _≡_ {A = ℕ} 0 1 = cc in absurd (omega arith)
   filled-refused (bids.Refused r) h x e out = let y : r ≡ x = cc in rw (← y) (h out)
@@ -121,11 +121,11 @@ module _ (text bids windows : List ℕ) where
       unfolding readLines
       begun = rw (g .lines) (rw (g .window))
 
-      pub bids-refused : (n p : ℕ) → ((out : Outcome) → checked (t .kind) 2 [] (linesOf (cut 10 (drop at text))) out ≡ refused n p)
+      pub bids-refused : (n p : ℕ) → ((out : ReadOutcome) → checked (t .kind) 2 [] (linesOf (cut 10 (drop at text))) out ≡ refused n p)
           → Refuses n p
       bids-refused n p h = lines-refused n p (begun ∙ h _)
 
-      module _ (k m : ℕ) (rows spans : List ℕ) (h : Held (t .kind) (linesOf (cut 10 (drop at text))) k m rows spans) where
+      module _ (k m : ℕ) (rows spans : List ℕ) (h : TablesHold (t .kind) (linesOf (cut 10 (drop at text))) k m rows spans) where
         R : List Row
         R = rowsFrom 0 (bidsOf (linesOf (cut 10 (drop at text))))
 
@@ -134,7 +134,7 @@ module _ (text bids windows : List ℕ) where
 
         rows-count : length R ≡ k
         unfolding R
-        rows-count = rows-length 0 (bidsOf (linesOf (cut 10 (drop at text)))) ∙ h .bids
+        rows-count = rowsFrom-length 0 (bidsOf (linesOf (cut 10 (drop at text)))) ∙ h .bids
 
         windows-count : length W ≡ m
         unfolding W

@@ -5,7 +5,7 @@ use lib.ListN.{length, drop}
 use Rattle.tender.specs.declared.Tender.{Tender}
 use Rattle.tender.specs.Refusals.{numberOf, placeOf}
 use Rattle.tender.specs.Tables.{flatRows, flatWindows}
-use Rattle.reader.specs.Read.{Outcome, accepted, refused}
+use Rattle.reader.specs.Read.{ReadOutcome, accepted, refused}
 use Rattle.reader.specs.declared.Reading.{Reading}
 use Rattle.reader.specs.declared.Reading.the-variants as answer
 
@@ -14,21 +14,21 @@ pub data Told : Type 0 where
   filled : Tender → ℕ → ℕ → Told
   declined : ℕ → ℕ → Told
 
-abbrev pub told : Reading → Told
-told (answer.Accepted t bids windows) = filled t bids windows
-told (answer.Refused r) = declined (numberOf r) (placeOf r)
+abbrev pub toldReading : Reading → Told
+toldReading (answer.Accepted t bids windows) = filled t bids windows
+toldReading (answer.Refused r) = declined (numberOf r) (placeOf r)
 
-abbrev pub summary : Outcome → Told
+abbrev pub summary : ReadOutcome → Told
 summary (accepted t rows windows) = filled t (length rows) (length windows)
 summary (refused n at) = declined n at
 
 -- a table after reading: its rows and the old cells past them, or as it was
-unfoldable pub bidsAfter : List ℕ → Outcome → List ℕ
+unfoldable pub bidsAfter : List ℕ → ReadOutcome → List ℕ
 unfolding flatRows
 bidsAfter old (accepted t rows windows) = flatRows rows ++ drop (4 * length rows) old
 bidsAfter old (refused n at) = old
 
-unfoldable pub windowsAfter : List ℕ → Outcome → List ℕ
+unfoldable pub windowsAfter : List ℕ → ReadOutcome → List ℕ
 unfolding flatWindows
 windowsAfter old (accepted t rows windows) = flatWindows windows ++ drop (2 * length windows) old
 windowsAfter old (refused n at) = old

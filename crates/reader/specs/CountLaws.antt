@@ -12,26 +12,27 @@ use Rattle.tender.specs.declared.Kind.{Kind}
 use Rattle.tender.specs.declared.Window.{Window}
 use Rattle.tender.specs.declared.Tender.{Tender}
 use Rattle.tender.specs.Tables.{Row}
-use Rattle.reader_line.specs.Words.{cut, grow}
-use Rattle.reader_line.specs.Line.{Bid, Line, bid, lineOf, linesOf}
-use Rattle.reader.specs.Read.{Outcome, accepted, refused, bidsOf, tables, readLines, readText, fitted, readInto}
+use Rattle.reader_line.specs.Words.{cut, growFirst}
+use Rattle.reader_line.specs.Line.{BidLine, Line, bid, lineOf, linesOf}
+use Rattle.reader.specs.Read.{ReadOutcome, accepted, refused, bidsOf, tables, readLines, readText, fitted, readInto}
 use Rattle.reader_line.specs.CutLaws.{Pieces, cut-some}
 use Rattle.reader.specs.ReadLaws.{never, read-lines, checked-bids, begun}
-use Rattle.reader.specs.Rules.{RowsRules, times}
-use Rattle.reader.specs.RulesLaw.{rows-length, rules-law}
+use Rattle.reader.specs.Rules.{RowsRules, bytesLike}
+use Rattle.reader.specs.RulesLaw.{rowsFrom-length, rules-law}
 
 -- the lines of an accepted text
 
-cut-count : (d : ℕ) (s : List ℕ) → length (cut d s) ≡ times d s + 1
-unfolding cut times
+cut-count : (d : ℕ) (s : List ℕ) → length (cut d s) ≡ bytesLike d s + 1
+unfolding cut bytesLike
 cut-count d [] = refl
 cut-count d (b ∷ s) = go (eqb b d) (cut-some d s) (cut-count d s)
   where
-    grown : (ps : List (List ℕ)) → Pieces ps → length (grow b ps) ≡ length ps
+    grown : (ps : List (List ℕ)) → Pieces ps → length (growFirst b ps) ≡ length ps
     grown ps c = rw (c .are)
 
-    go : (t : Bool) → Pieces (cut d s) → length (cut d s) ≡ times d s + 1 → length (cond t ([] ∷ cut d s) (grow b (cut d s))) ≡ cond t 1 0
-        + times d s + 1
+    go : (t : Bool) → Pieces (cut d s) → length (cut d s) ≡ bytesLike d s + 1 → length (cond t ([] ∷ cut d s) (growFirst b (cut d s)))
+        ≡ cond t 1 0
+        + bytesLike d s + 1
     go true c e = omega arith
     go false c e = omega (arith, grown (cut d s) c)
 
@@ -40,7 +41,7 @@ AllRead [] = Unit {0}
 AllRead (none ∷ ls) = ⊥
 AllRead (some x ∷ ls) = AllRead ls
 
-pub bids-read : (bs : List Bid) → AllRead (map (λ b. some (bid b)) bs)
+pub bids-read : (bs : List BidLine) → AllRead (map (λ b. some (bid b)) bs)
 bids-read [] = tt
 bids-read (b ∷ bs) = bids-read bs
 
@@ -58,12 +59,12 @@ lines-count p (q ∷ ps) a = go (lineOf p) a (lines-count q ps)
 
 -- an accepted text has a row for each line after the first; each line ends with byte 10
 pub lines-law : (T : Tender) (R : List Row) (W : List Window) (text : List ℕ) → readText text ≡ accepted T R W
-    → length R + 1 ≡ times 10 text
+    → length R + 1 ≡ bytesLike 10 text
 unfolding readLines
 lines-law T R W text e = go (linesOf (cut 10 text)) refl (cut-some 10 text) (read-lines T R W text e)
   where
     go : (ls : List (Option Line)) → linesOf (cut 10 text) ≡ ls → Pieces (cut 10 text) → readLines ls ≡ accepted T R W
-        → length R + 1 ≡ times 10 text
+        → length R + 1 ≡ bytesLike 10 text
     go [] q c x = never x
     go (l ∷ ls) q c x =
         let g = begun T R W l ls x in
@@ -78,7 +79,7 @@ lines-law T R W text e = go (linesOf (cut 10 text)) refl (cut-some 10 text) (rea
           ap length (c .are),
           cut-count 10 text,
           ap length (g .rows),
-          rows-length 0 (bidsOf ls),
+          rowsFrom-length 0 (bidsOf ls),
         )
 
 -- counts
@@ -103,7 +104,7 @@ pub room-law : (text : List ℕ) (bidRows windowRows : ℕ) → 1000 ≤ bidRows
 unfolding readInto fitted
 room-law text b w hb hw = go (readText text) refl
   where
-    go : (o : Outcome) → readText text ≡ o → fitted b w o ≡ o
+    go : (o : ReadOutcome) → readText text ≡ o → fitted b w o ≡ o
     go (refused n at) e = refl
     go (accepted T R W) e =
         let c = counts-law T R W text e in

@@ -8,7 +8,7 @@ use Rattle.tender.specs.declared.Kind.the-variants.{Single, Multi}
 use Rattle.tender.specs.declared.Window.{Window}
 use Rattle.tender.specs.Keywords.{bytes}
 use Rattle.tender.specs.Tables.{Row}
-use Rattle.reader.specs.Read.{Outcome, accepted, refused, readText}
+use Rattle.reader.specs.Read.{ReadOutcome, accepted, refused, readText}
 
 -- what reading answers, flat: the tender; bidder, price, first, count of each row; start and end of each window
 
@@ -18,7 +18,7 @@ win s e = record { start = s; end = e }
 row : ℕ → ℕ → ℕ → ℕ → Row
 row n p f c = record { bidder = n; price = p; first = f; count = c }
 
-read : String → Outcome
+read : String → ReadOutcome
 unfolding bytes readText
 read s = readText (bytes s)
 

@@ -14,51 +14,54 @@ use Rattle.tender.specs.declared.Tender.{Tender}
 use Rattle.tender.specs.Limits.{lawful}
 use Rattle.tender.specs.Tables.{Row}
 use Rattle.reader_line.specs.Words.{andThen, cut, numeralOf, priceOf}
-use Rattle.reader_line.specs.Line.{Bid, Line, tender, bid, windowsIn, bidOf, lineOf, linesOf}
-use Rattle.reader.specs.Read.{Outcome, accepted, rowsFrom, allWindows, bidsOf, faultIn, faultOf, checked, tables, readLines, readText}
+use Rattle.reader_line.specs.Line.{BidLine, Line, tender, bid, windowsIn, bidOf, lineOf, linesOf}
+use Rattle.reader.specs.Read.{ReadOutcome, accepted, rowsFrom, allWindows, bidsOf, bidFaultIn, bidFault, checked, tables, readLines}
+use Rattle.reader.specs.Read.{readText}
 use Rattle.reader_line.specs.CutLaws.{Pieces, cut-some}
 use Rattle.reader.specs.ReadLaws.{never, judged-out}
 use Rattle.reader.specs.Differ.{bidLine, Word, DifferInPrice, RowsDifferInPrice}
-use Rattle.reader.specs.PriceLaw.{line-of, parts, Found, text-lines, found, price-law}
-use Rattle.reader.specs.RulesLaw.{faultless}
+use Rattle.reader.specs.PriceLaw.{line-of, parts, BidFound, text-lines, found, price-law}
+use Rattle.reader.specs.RulesLaw.{faultless-bid}
 
-unfoldable pub atPrice : ℕ → Bid → Bid
+unfoldable pub atPrice : ℕ → BidLine → BidLine
 atPrice v b = record { bidder = b .bidder; price = v; windows = b .windows }
 
-fault-price : (k : Kind) (used : List ℕ) (b : Bid) (v : ℕ) → v ≤ 100000000 → faultOf k used b ≡ none → faultOf k used (atPrice v b) ≡ none
-unfolding faultOf faultIn atPrice
+fault-price : (k : Kind) (used : List ℕ) (b : BidLine) (v : ℕ) → v ≤ 100000000 → bidFault k used b ≡ none
+    → bidFault k used (atPrice v b) ≡ none
+unfolding bidFault bidFaultIn atPrice
 fault-price k used b v l e =
-    let p = (faultless k used b e) .price-high in
+    let p = (faultless-bid k used b e) .price-high in
     let m : ltb 100000000 (b .price) ≡ false = le-ltb 100000000 (b .price) p in
     let n : ltb 100000000 v ≡ false = le-ltb 100000000 v l in
     rw n (rw m at e)
 
 module _ (T : Tender) (R : List Row) (W : List Window) where
   -- the tables play no part in the checks
-  checked-any : (k : Kind) (at : ℕ) (used : List ℕ) (ls : List (Option Line)) (out o : Outcome)
+  checked-any : (k : Kind) (at : ℕ) (used : List ℕ) (ls : List (Option Line)) (out o : ReadOutcome)
       → checked k at used ls out ≡ accepted T R W → checked k at used ls o ≡ o
   unfolding checked
   checked-any k at used [] out o e = refl
   checked-any k at used (none ∷ ls) out o e = never e
   checked-any k at used (some (tender t) ∷ ls) out o e = never e
   checked-any k at used (some (bid b) ∷ ls) out o e =
-      let j = judged-out T R W (faultOf k used b) at (checked k (at + 1) (used ++ b .bidder ∷ []) ls out) e in
+      let j = judged-out T R W (bidFault k used b) at (checked k (at + 1) (used ++ b .bidder ∷ []) ls out) e in
       rw (j .0) (checked-any k (at + 1) (used ++ b .bidder ∷ []) ls out o (j .1))
 
-  checked-price : (k : Kind) (at : ℕ) (used : List ℕ) (xs : List (Option Line)) (b : Bid) (ys : List (Option Line)) (out o : Outcome)
+  checked-price : (k : Kind) (at : ℕ) (used : List ℕ) (xs : List (Option Line)) (b : BidLine) (ys : List (Option Line))
+      (out o : ReadOutcome)
       (v : ℕ) → v ≤ 100000000 →
       checked k at used (xs ++ some (bid b) ∷ ys) out ≡ accepted T R W → checked k at used (xs ++ some (bid (atPrice v b)) ∷ ys) o ≡ o
   unfolding checked atPrice
   checked-price k at used [] b ys out o v l e =
-      let j = judged-out T R W (faultOf k used b) at (checked k (at + 1) (used ++ b .bidder ∷ []) ys out) e in
+      let j = judged-out T R W (bidFault k used b) at (checked k (at + 1) (used ++ b .bidder ∷ []) ys out) e in
       rw (fault-price k used b v l (j .0)) (checked-any k (at + 1) (used ++ b .bidder ∷ []) ys out o (j .1))
   checked-price k at used (none ∷ xs) b ys out o v l e = never e
   checked-price k at used (some (tender t) ∷ xs) b ys out o v l e = never e
   checked-price k at used (some (bid c) ∷ xs) b ys out o v l e =
-      let j = judged-out T R W (faultOf k used c) at (checked k (at + 1) (used ++ c .bidder ∷ []) (xs ++ some (bid b) ∷ ys) out) e in
+      let j = judged-out T R W (bidFault k used c) at (checked k (at + 1) (used ++ c .bidder ∷ []) (xs ++ some (bid b) ∷ ys) out) e in
       rw (j .0) (checked-price k (at + 1) (used ++ c .bidder ∷ []) xs b ys out o v l (j .1))
 
-bid-of : (n q : List ℕ) (ws : List (List ℕ)) (b : Bid) (v : ℕ) → numeralOf n ≡ some (b .bidder) → priceOf q ≡ some v
+bid-of : (n q : List ℕ) (ws : List (List ℕ)) (b : BidLine) (v : ℕ) → numeralOf n ≡ some (b .bidder) → priceOf q ≡ some v
     → windowsIn ws ≡ some (b .windows) → bidOf (n ∷ q ∷ ws) ≡ some (bid (atPrice v b))
 unfolding bidOf andThen atPrice
 bid-of n q ws b v hn hq hw = rw (hn, hq, hw)
@@ -80,8 +83,8 @@ begins T x ls e l = rw e (rw l)
 -- the text with the price written q
 rewritten : (before n p q after f : List ℕ) (ps : List (List ℕ)) (v : ℕ) (T : Tender) (R : List Row) (W : List Window) → Word n → Word q
     → cut 10 after ≡ f ∷ ps →
-    Found before n p f ps T R W → priceOf q ≡ some v → v ≤ 100000000 → length (before ++ 10 ∷ bidLine n q after) ≤ 65536 →
-    (bs : List Bid) × (readText (before ++ 10 ∷ bidLine n q after) ≡ tables T bs)
+    BidFound before n p f ps T R W → priceOf q ≡ some v → v ≤ 100000000 → length (before ++ 10 ∷ bidLine n q after) ≤ 65536 →
+    (bs : List BidLine) × (readText (before ++ 10 ∷ bidLine n q after) ≡ tables T bs)
 rewritten before n p q after f ps v T R W wn wq e x hv lv lu =
     let m = parts n p (cut 32 f) (x .line .b) (x .line .is) in
     let c : bidOf (n ∷ q ∷ cut 32 f) ≡ some (bid (atPrice v (x .line .b))) =
@@ -89,11 +92,11 @@ rewritten before n p q after f ps v T R W wn wq e x hv lv lu =
     go (cut-some 10 before .first) (map lineOf (cut-some 10 before .rest)) (x .line .b) c (x .begin .first) (x .begin .window)
     (rw (x .line .is) at (x .begin .sound)) (text-lines before n q after f ps wn wq e T R W)
   where
-    go : (a : List ℕ) (xs : List (Option Line)) (b : Bid) → bidOf (n ∷ q ∷ cut 32 f) ≡ some (bid (atPrice v b))
+    go : (a : List ℕ) (xs : List (Option Line)) (b : BidLine) → bidOf (n ∷ q ∷ cut 32 f) ≡ some (bid (atPrice v b))
         → lineOf a ≡ some (tender T) → lawful (T .window) ≡ true →
         checked (T .kind) 2 [] (xs ++ some (bid b) ∷ linesOf ps) (tables T (bidsOf (xs ++ some (bid b) ∷ linesOf ps))) ≡ accepted T R W →
         linesOf (cut 10 (before ++ 10 ∷ bidLine n q after)) ≡ lineOf a ∷ (xs ++ linesOf (bidLine n q f ∷ ps)) →
-        (bs : List Bid) × (readText (before ++ 10 ∷ bidLine n q after) ≡ tables T bs)
+        (bs : List BidLine) × (readText (before ++ 10 ∷ bidLine n q after) ≡ tables T bs)
     go a xs b c hf hl hs ht =
         let ls = xs ++ some (bid (atPrice v b)) ∷ linesOf ps in
         let r : linesOf (bidLine n q f ∷ ps) ≡ some (bid (atPrice v b)) ∷ linesOf ps = line-lines n q f ps wn wq (x .ended)
@@ -118,7 +121,7 @@ price-change t u n p q v T R W d h hv lv lu =
     go (rewritten (d .before) n p q (d .after) (s .first) (s .rest) v T R W (d .bidder-word) (d .q-word) (s .are) x hv lv
     (rw (d .right) at lu))
   where
-    go : (bs : List Bid) × (readText (d .before ++ 10 ∷ bidLine n q (d .after)) ≡ tables T bs) → Changed T R W u n p q
+    go : (bs : List BidLine) × (readText (d .before ++ 10 ∷ bidLine n q (d .after)) ≡ tables T bs) → Changed T R W u n p q
     go (bs, e) =
         let k : readText u ≡ accepted T (rowsFrom 0 bs) (allWindows bs) = rw (d .right) e in
         let l = price-law t u n p q T T R (rowsFrom 0 bs) W (allWindows bs) d h k in

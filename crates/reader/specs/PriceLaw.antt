@@ -11,7 +11,7 @@ use Rattle.tender.specs.declared.Window.{Window}
 use Rattle.tender.specs.declared.Tender.{Tender}
 use Rattle.tender.specs.Tables.{Row}
 use Rattle.reader_line.specs.Words.{andThen, cut, among, numeralOf, priceOf}
-use Rattle.reader_line.specs.Line.{Bid, Line, tender, bid, windowsIn, bidOf, lineOfWords, lineOf, linesOf}
+use Rattle.reader_line.specs.Line.{BidLine, Line, tender, bid, windowsIn, bidOf, lineOfWords, lineOf, linesOf}
 use Rattle.reader.specs.Read.{accepted, rowsFrom, allWindows, bidsOf, tables, readText}
 use Rattle.reader_line.specs.CutLaws.{Pieces, cut-some, cut-end, cut-word, cut-append, lines-append}
 use Rattle.reader.specs.Differ.{bidLine, Word, DifferInPrice, withPrice, RowsDifferInPrice, DifferInOnePrice}
@@ -39,12 +39,12 @@ line-cut n p s f ps wn wp e =
     rw (cut-word 10 n (32 ∷ (p ++ 32 ∷ s)) (32 ∷ (p ++ 32 ∷ f)) ps (wn .no-end) b) in
     cut-word 10 (40 ∷ bidWord) (32 ∷ (n ++ 32 ∷ (p ++ 32 ∷ s))) (32 ∷ (n ++ 32 ∷ (p ++ 32 ∷ f))) ps refl c
 
-pub record Parts (n p : List ℕ) (ws : List (List ℕ)) (b : Bid) : Type 0 where
+pub record Parts (n p : List ℕ) (ws : List (List ℕ)) (b : BidLine) : Type 0 where
   pub bidder-is : numeralOf n ≡ some (b .bidder)
   pub price-is : priceOf p ≡ some (b .price)
   pub windows-are : windowsIn ws ≡ some (b .windows)
 
-pub parts : (n p : List ℕ) (ws : List (List ℕ)) (b : Bid) → bidOf (n ∷ p ∷ ws) ≡ some (bid b) → Parts n p ws b
+pub parts : (n p : List ℕ) (ws : List (List ℕ)) (b : BidLine) → bidOf (n ∷ p ∷ ws) ≡ some (bid b) → Parts n p ws b
 unfolding bidOf andThen
 parts n p ws b e = go (numeralOf n) (priceOf p) (windowsIn ws) refl refl refl e
   where
@@ -55,64 +55,67 @@ parts n p ws b e = go (numeralOf n) (priceOf p) (windowsIn ws) refl refl refl e
     go (some i) none z hx hy hz h = let c : _≡_ {A = ℕ} 0 1 = cc in absurd (omega arith)
     go (some i) (some v) none hx hy hz h = let c : _≡_ {A = ℕ} 0 1 = cc in absurd (omega arith)
     go (some i) (some v) (some l) hx hy hz h =
-        let q : _≡_ {A = Bid} (record { bidder = i; price = v; windows = l }) b = cc in
+        let q : _≡_ {A = BidLine} (record { bidder = i; price = v; windows = l }) b = cc in
         record {
-          bidder-is = hx ∙ ap (λ (k : Bid). some (k .bidder)) q;
-          price-is = hy ∙ ap (λ (k : Bid). some (k .price)) q;
-          windows-are = hz ∙ ap (λ (k : Bid). some (k .windows)) q;
+          bidder-is = hx ∙ ap (λ (k : BidLine). some (k .bidder)) q;
+          price-is = hy ∙ ap (λ (k : BidLine). some (k .price)) q;
+          windows-are = hz ∙ ap (λ (k : BidLine). some (k .windows)) q;
         }
 
-bids-append : (xs : List (Option Line)) (b : Bid) (ys : List (Option Line)) → bidsOf (xs ++ some (bid b) ∷ ys) ≡ bidsOf xs ++ b ∷ bidsOf ys
+bids-append : (xs : List (Option Line)) (b : BidLine) (ys : List (Option Line)) → bidsOf (xs ++ some (bid b) ∷ ys) ≡ bidsOf xs
+    ++ b ∷ bidsOf ys
 unfolding bidsOf
 bids-append [] b ys = refl
 bids-append (none ∷ xs) b ys = bids-append xs b ys
 bids-append (some (tender t) ∷ xs) b ys = bids-append xs b ys
-bids-append (some (bid c) ∷ xs) b ys = ap {B = List Bid} (λ l. c ∷ l) (bids-append xs b ys)
+bids-append (some (bid c) ∷ xs) b ys = ap {B = List BidLine} (λ l. c ∷ l) (bids-append xs b ys)
 
 -- where the windows of the bids end
-placeAfter : ℕ → List Bid → ℕ
+placeAfter : ℕ → List BidLine → ℕ
 placeAfter at [] = at
 placeAfter at (b ∷ bs) = placeAfter (at + length (b .windows)) bs
 
-rows-append : (at : ℕ) (bs cs : List Bid) → rowsFrom at (bs ++ cs) ≡ rowsFrom at bs ++ rowsFrom (placeAfter at bs) cs
+rows-append : (at : ℕ) (bs cs : List BidLine) → rowsFrom at (bs ++ cs) ≡ rowsFrom at bs ++ rowsFrom (placeAfter at bs) cs
 unfolding rowsFrom placeAfter
 rows-append at [] cs = refl
 rows-append at (b ∷ bs) cs = rw (rows-append (at + length (b .windows)) bs cs)
 
-windows-append : (bs cs : List Bid) → allWindows (bs ++ cs) ≡ allWindows bs ++ allWindows cs
+windows-append : (bs cs : List BidLine) → allWindows (bs ++ cs) ≡ allWindows bs ++ allWindows cs
 unfolding allWindows
 windows-append [] cs = refl
 windows-append (b ∷ bs) cs = rw (windows-append bs cs, append-assoc)
 
 -- a line among bids is a bid
-is-bid : (xs : List (Option Line)) (x : Option Line) (ys : List (Option Line)) (bs : List Bid) → xs ++ x ∷ ys ≡ map (λ b. some (bid b)) bs
-    → (b : Bid) × (x ≡ some (bid b))
+is-bid : (xs : List (Option Line)) (x : Option Line) (ys : List (Option Line)) (bs : List BidLine) → xs
+    ++ x ∷ ys ≡ map (λ b. some (bid b)) bs
+    → (b : BidLine) × (x ≡ some (bid b))
 is-bid [] x ys [] e = let c : _≡_ {A = ℕ} 0 1 = cc in absurd (omega arith)
 is-bid [] x ys (b ∷ bs) e = (b, cc)
 is-bid (z ∷ xs) x ys [] e = let c : _≡_ {A = ℕ} 0 1 = cc in absurd (omega arith)
 is-bid (z ∷ xs) x ys (b ∷ bs) e = is-bid xs x ys bs (cc)
 
 -- the tables of an accepted text, with the bid on one of its lines
-pub record Held (x : Option Line) (xs ys : List (Option Line)) (R : List Row) (W : List Window) : Type 0 where
-  pub b : Bid
+pub record LineHeld (x : Option Line) (xs ys : List (Option Line)) (R : List Row) (W : List Window) : Type 0 where
+  pub b : BidLine
   pub is : x ≡ some (bid b)
   pub rows : R ≡ rowsFrom 0 (bidsOf xs ++ b ∷ bidsOf ys)
   pub windows : W ≡ allWindows (bidsOf xs ++ b ∷ bidsOf ys)
 
-pub held : (T : Tender) (R : List Row) (W : List Window) (l x : Option Line) (xs ys : List (Option Line)) → Begun T R W l (xs ++ x ∷ ys)
-    → Held x xs ys R W
-held T R W l x xs ys c = go (is-bid xs x ys (bidsOf (xs ++ x ∷ ys))
+pub line-held : (T : Tender) (R : List Row) (W : List Window) (l x : Option Line) (xs ys : List (Option Line))
+    → Begun T R W l (xs ++ x ∷ ys)
+    → LineHeld x xs ys R W
+line-held T R W l x xs ys c = go (is-bid xs x ys (bidsOf (xs ++ x ∷ ys))
     (checked-bids T R W (T .kind) 2 [] (xs ++ x ∷ ys) (tables T (bidsOf (xs ++ x ∷ ys))) (c .sound)))
   where
-    go : (b : Bid) × (x ≡ some (bid b)) → Held x xs ys R W
+    go : (b : BidLine) × (x ≡ some (bid b)) → LineHeld x xs ys R W
     go (b, e) =
         let q : bidsOf (xs ++ x ∷ ys) ≡ bidsOf xs ++ b ∷ bidsOf ys = rw e (bids-append xs b ys) in
         record { b = b; is = e; rows = c .rows ∙ ap (rowsFrom 0) q; windows = c .windows ∙ ap allWindows q }
 
 -- the same of a text with a bid's line in it, whose bytes from there on have the pieces f and ps
-pub record Found (before n p f : List ℕ) (ps : List (List ℕ)) (T : Tender) (R : List Row) (W : List Window) : Type 0 where
+pub record BidFound (before n p f : List ℕ) (ps : List (List ℕ)) (T : Tender) (R : List Row) (W : List Window) : Type 0 where
   pub first : lineOf (cut-some 10 before .first) ≡ some (tender T)
-  pub line : Held (bidOf (n ∷ p ∷ cut 32 f)) (map lineOf (cut-some 10 before .rest)) (linesOf ps) R W
+  pub line : LineHeld (bidOf (n ∷ p ∷ cut 32 f)) (map lineOf (cut-some 10 before .rest)) (linesOf ps) R W
   pub begin : Begun T R W (lineOf (cut-some 10 before .first))
       (map lineOf (cut-some 10 before .rest) ++ bidOf (n ∷ p ∷ cut 32 f) ∷ linesOf ps)
   pub ended : Pieces ps
@@ -128,16 +131,16 @@ module _ (before n p after f : List ℕ) (ps : List (List ℕ)) (wn : Word n) (w
     cut-some 10 before .are,
   )
 
-  pub found : readText (before ++ 10 ∷ bidLine n p after) ≡ accepted T R W → Found before n p f ps T R W
+  pub found : readText (before ++ 10 ∷ bidLine n p after) ≡ accepted T R W → BidFound before n p f ps T R W
   unfolding linesOf bidLine
   found h = go ps (begun T R W (lineOf (cut-some 10 before .first))
       (map lineOf (cut-some 10 before .rest) ++ linesOf (bidLine n p f ∷ ps))
       (rw text-lines at (read-lines T R W (before ++ 10 ∷ bidLine n p after) h)))
     where
       go : (qs : List (List ℕ)) → Begun T R W (lineOf (cut-some 10 before .first))
-          (map lineOf (cut-some 10 before .rest) ++ linesOf (bidLine n p f ∷ qs)) → Found before n p f qs T R W
+          (map lineOf (cut-some 10 before .rest) ++ linesOf (bidLine n p f ∷ qs)) → BidFound before n p f qs T R W
       go [] c =
-          let s = held T R W (lineOf (cut-some 10 before .first)) none (map lineOf (cut-some 10 before .rest)) [] c in
+          let s = line-held T R W (lineOf (cut-some 10 before .first)) none (map lineOf (cut-some 10 before .rest)) [] c in
           let x : none ≡ some (bid (s .b)) = s .is in
           let z : _≡_ {A = ℕ} 0 1 = cc in absurd (omega arith)
       go (q ∷ qs) c =
@@ -145,7 +148,7 @@ module _ (before n p after f : List ℕ) (ps : List (List ℕ)) (wn : Word n) (w
           (map lineOf (cut-some 10 before .rest) ++ bidOf (n ∷ p ∷ cut 32 f) ∷ linesOf (q ∷ qs)) = rw (line-of n p f wn wp) at c in
           record {
             first = c .first;
-            line = held T R W (lineOf (cut-some 10 before .first)) (bidOf (n ∷ p ∷ cut 32 f))
+            line = line-held T R W (lineOf (cut-some 10 before .first)) (bidOf (n ∷ p ∷ cut 32 f))
                 (map lineOf (cut-some 10 before .rest)) (linesOf (q ∷ qs)) d;
             begin = d;
             ended = record { first = q; rest = qs; are = refl };
@@ -159,7 +162,7 @@ price-law t u n p q T U R S W X d h k =
     go (found (d .before) n p (d .after) (s .first) (s .rest) (d .bidder-word) (d .p-word) (s .are) T R W (rw (d .left) at h))
     (found (d .before) n q (d .after) (s .first) (s .rest) (d .bidder-word) (d .q-word) (s .are) U S X (rw (d .right) at k))
   where
-    go : {f : List ℕ} {ps : List (List ℕ)} → Found (d .before) n p f ps T R W → Found (d .before) n q f ps U S X
+    go : {f : List ℕ} {ps : List (List ℕ)} → BidFound (d .before) n p f ps T R W → BidFound (d .before) n q f ps U S X
         → DifferInOnePrice T U R S W X n p q
     go {f} {ps} x y =
         let b = x .line .b in

@@ -14,7 +14,10 @@ use Rattle.tender.specs.Limits.{lawful}
 use Rattle.tender.specs.Tables.{Row}
 use Rattle.reader_line.specs.Words.{cut}
 use Rattle.reader_line.specs.Line.{Line, tender, bid, linesOf}
-use Rattle.reader.specs.Read.{Outcome, accepted, refused, rowsFrom, allWindows, bidsOf, faultOf, judged, checked, tables, readLines}
+use Rattle.tender.specs.declared.Refusal.{Refusal}
+use Rattle.tender.specs.declared.Refusal.the-variants.{TextTooLong, BadWindow}
+use Rattle.reader.specs.Read.{ReadOutcome, accepted, refused, declinedBy, rowsFrom, allWindows, bidsOf, bidFault, lineJudged}
+use Rattle.reader.specs.Read.{checked, tables, readLines}
 use Rattle.reader.specs.Read.{readText}
 
 pub never : {A : Type 0} {n at : ℕ} {t : Tender} {R : List Row} {W : List Window} → refused n at ≡ accepted t R W → A
@@ -26,18 +29,19 @@ module _ (T : Tender) (R : List Row) (W : List Window) where
   unfolding readText
   read-lines text e = go (ltb 65536 (length text)) e
     where
-      go : (t : Bool) → cond t (refused 1 0) (readLines (linesOf (cut 10 text))) ≡ accepted T R W
+      go : (t : Bool) → cond t (declinedBy TextTooLong) (readLines (linesOf (cut 10 text))) ≡ accepted T R W
           → readLines (linesOf (cut 10 text)) ≡ accepted T R W
       go true x = never x
       go false x = x
 
-  pub judged-out : (f : Option ℕ) (at : ℕ) (out : Outcome) → judged f at out ≡ accepted T R W → (f ≡ none) × (out ≡ accepted T R W)
-  unfolding judged
+  pub judged-out : (f : Option (ℕ → Refusal)) (at : ℕ) (out : ReadOutcome) → lineJudged f at out ≡ accepted T R W → (f ≡ none)
+      × (out ≡ accepted T R W)
+  unfolding lineJudged
   judged-out none at out e = (refl, e)
   judged-out (some n) at out e = never e
 
   -- no line is faulty
-  pub checked-out : (k : Kind) (at : ℕ) (used : List ℕ) (ls : List (Option Line)) (out : Outcome)
+  pub checked-out : (k : Kind) (at : ℕ) (used : List ℕ) (ls : List (Option Line)) (out : ReadOutcome)
       → checked k at used ls out ≡ accepted T R W → out ≡ accepted T R W
   unfolding checked
   checked-out k at used [] out e = e
@@ -45,10 +49,10 @@ module _ (T : Tender) (R : List Row) (W : List Window) where
   checked-out k at used (some (tender t) ∷ ls) out e = never e
   checked-out k at used (some (bid b) ∷ ls) out e =
       checked-out k (at + 1) (used ++ b .bidder ∷ []) ls out
-      (judged-out (faultOf k used b) at (checked k (at + 1) (used ++ b .bidder ∷ []) ls out) e .1)
+      (judged-out (bidFault k used b) at (checked k (at + 1) (used ++ b .bidder ∷ []) ls out) e .1)
 
   -- every line after the first is a bid
-  pub checked-bids : (k : Kind) (at : ℕ) (used : List ℕ) (ls : List (Option Line)) (out : Outcome)
+  pub checked-bids : (k : Kind) (at : ℕ) (used : List ℕ) (ls : List (Option Line)) (out : ReadOutcome)
       → checked k at used ls out ≡ accepted T R W → ls ≡ map (λ b. some (bid b)) (bidsOf ls)
   unfolding checked bidsOf
   checked-bids k at used [] out e = refl
@@ -57,7 +61,7 @@ module _ (T : Tender) (R : List Row) (W : List Window) where
   checked-bids k at used (some (bid b) ∷ ls) out e =
       ap {B = List (Option Line)} (λ r. some (bid b) ∷ r)
       (checked-bids k (at + 1) (used ++ b .bidder ∷ []) ls out
-      (judged-out (faultOf k used b) at (checked k (at + 1) (used ++ b .bidder ∷ []) ls out) e .1))
+      (judged-out (bidFault k used b) at (checked k (at + 1) (used ++ b .bidder ∷ []) ls out) e .1))
 
   pub record Begun (x : Option Line) (ls : List (Option Line)) : Type 0 where
     pub first : x ≡ some (tender T)
@@ -73,7 +77,8 @@ module _ (T : Tender) (R : List Row) (W : List Window) where
   begun (some (bid b)) ls e = never e
   begun (some (tender t)) ls e = go (lawful (t .window)) refl e
     where
-      go : (v : Bool) → lawful (t .window) ≡ v → cond v (checked (t .kind) 2 [] ls (tables t (bidsOf ls))) (refused 5 1) ≡ accepted T R W
+      go : (v : Bool) → lawful (t .window) ≡ v → cond v (checked (t .kind) 2 [] ls (tables t (bidsOf ls))) (declinedBy (BadWindow 1))
+          ≡ accepted T R W
           → Begun (some (tender t)) ls
       go false l x = never x
       go true l x =

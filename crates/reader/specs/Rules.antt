@@ -43,6 +43,6 @@ pub record Rules (t : Tender) (R : List Row) (W : List Window) : Type 0 where
   pub windows : WindowsRules W
 
 -- how many of the bytes are d
-unfoldable pub times : ℕ → List ℕ → ℕ
-times d [] = 0
-times d (b ∷ s) = cond (eqb b d) 1 0 + times d s
+unfoldable pub bytesLike : ℕ → List ℕ → ℕ
+bytesLike d [] = 0
+bytesLike d (b ∷ s) = cond (eqb b d) 1 0 + bytesLike d s

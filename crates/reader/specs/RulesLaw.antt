@@ -16,12 +16,15 @@ use Rattle.tender.specs.declared.Window.{Window}
 use Rattle.tender.specs.declared.Tender.{Tender}
 use Rattle.tender.specs.Limits.{allLawful, isSingle, lawful, within}
 use Rattle.tender.specs.Tables.{Row}
-use Rattle.reader_line.specs.Words.{andThen, cut, among, same, closed, numeralOf, priceOf}
-use Rattle.reader_line.specs.Line.{Bid, Line, tender, bid, kindOf, spanOf, windowOf, windowsIn, tenderOf, bidOf, lineOfWords, lineOf}
+use Rattle.reader_line.specs.Words.{andThen, cut, among, sameBytes, closed, numeralOf, priceOf}
+use Rattle.reader_line.specs.Line.{BidLine, Line, tender, bid, kindOf, spanOf, windowOf, windowsIn, tenderOf, bidOf, lineOfWords, lineOf}
 use Rattle.reader_line.specs.Line.{linesOf}
-use Rattle.reader_line.specs.LinePlain.{split as and-split}
-use Rattle.reader.specs.Read.{Outcome, accepted, rowsFrom, allWindows, bidsOf, faultIn, faultOf, checked, tables, readLines, readText}
-use Rattle.reader_line.specs.CutLaws.{or-split}
+use Rattle.reader_line.specs.LinePlain.{both-true as and-split}
+use Rattle.tender.specs.declared.Refusal.{Refusal}
+use Rattle.tender.specs.declared.Refusal.the-variants.{OutsideLimits, TooMany, BadWindow, BidderRepeated, SeveralWindows}
+use Rattle.reader.specs.Read.{ReadOutcome, accepted, rowsFrom, allWindows, bidsOf, bidFaultIn, bidFault, checked, tables, readLines}
+use Rattle.reader.specs.Read.{readText}
+use Rattle.reader_line.specs.CutLaws.{neither}
 use Rattle.reader.specs.ReadLaws.{never, read-lines, judged-out, begun}
 use Rattle.reader.specs.Rules.{WindowRules, RowsRules, WindowsRules, Rules}
 
@@ -90,7 +93,7 @@ tender-filled (k ∷ s ∷ e ∷ x ∷ ws) = tt
 words-filled : (ws : List (List ℕ)) → Filled (lineOfWords ws)
 unfolding lineOfWords
 words-filled [] = tt
-words-filled (w ∷ ws) = go (same w (40 ∷ tenderWord)) (same w (40 ∷ bidWord))
+words-filled (w ∷ ws) = go (sameBytes w (40 ∷ tenderWord)) (sameBytes w (40 ∷ bidWord))
   where
     go : (a b : Bool) → Filled (cond a (tenderOf ws) (cond b (bidOf ws) none))
     go true b = tender-filled ws
@@ -110,7 +113,7 @@ lines-filled (p ∷ q ∷ ps) = (words-filled (cut 32 p), lines-filled (q ∷ ps
 
 -- a bid without a fault
 
-cond-none : (t : Bool) (n : ℕ) (x : Option ℕ) → cond t (some n) x ≡ none → (t ≡ false) × (x ≡ none)
+cond-none : (t : Bool) (n : ℕ → Refusal) (x : Option (ℕ → Refusal)) → cond t (some n) x ≡ none → (t ≡ false) × (x ≡ none)
 cond-none true n x e = let z : _≡_ {A = ℕ} 0 1 = cc in absurd (omega arith)
 cond-none false n x e = (refl, e)
 
@@ -124,17 +127,17 @@ pub record Passed (k : Kind) (bids bidder price count : ℕ) (sound used : Bool)
   pub lawful-windows : sound ≡ true
   pub bidder-new : used ≡ false
 
-pub passed : (k : Kind) (bids bidder price count : ℕ) (sound used : Bool) → faultIn k bids bidder price count sound used ≡ none
+pub passed : (k : Kind) (bids bidder price count : ℕ) (sound used : Bool) → bidFaultIn k bids bidder price count sound used ≡ none
     → Passed k bids bidder price count sound used
-unfolding faultIn within
+unfolding bidFaultIn within
 passed k bids bidder price count sound used e =
-    let c4 = cond-none (leb 1000 bids || ltb 32 count) 4 _ e in
-    let c3 = cond-none (not (within 1 999999 bidder) || ltb 100000000 price) 3 _ (c4 .1) in
-    let c7 = cond-none (isSingle k && ltb 1 count) 7 _ (c3 .1) in
-    let c5 = cond-none (not sound) 5 _ (c7 .1) in
-    let c6 = cond-none used 6 _ (c5 .1) in
-    let f4 = or-split (leb 1000 bids) (ltb 32 count) (c4 .0) in
-    let f3 = or-split (not (within 1 999999 bidder)) (ltb 100000000 price) (c3 .0) in
+    let c4 = cond-none (leb 1000 bids || ltb 32 count) TooMany _ e in
+    let c3 = cond-none (not (within 1 999999 bidder) || ltb 100000000 price) OutsideLimits _ (c4 .1) in
+    let c7 = cond-none (isSingle k && ltb 1 count) SeveralWindows _ (c3 .1) in
+    let c5 = cond-none (not sound) BadWindow _ (c7 .1) in
+    let c6 = cond-none used BidderRepeated _ (c5 .1) in
+    let f4 = neither (leb 1000 bids) (ltb 32 count) (c4 .0) in
+    let f3 = neither (not (within 1 999999 bidder)) (ltb 100000000 price) (c3 .0) in
     let w = and-split (leb 1 bidder) (leb bidder 999999) (not-false (within 1 999999 bidder) (f3 .0)) in
     record {
       few-bids = leb-false 1000 bids (f4 .0);
@@ -151,12 +154,13 @@ passed k bids bidder price count sound used e =
     one Single h q = ltb-false 1 count h
     one Multi h q = let z : _≡_ {A = ℕ} 0 1 = cc in absurd (omega arith)
 
-abbrev pub Faultless : Kind → List ℕ → Bid → Type 0
-Faultless k used b = Passed k (length used) (b .bidder) (b .price) (length (b .windows)) (allLawful (b .windows)) (among (b .bidder) used)
+abbrev pub FaultlessBid : Kind → List ℕ → BidLine → Type 0
+FaultlessBid k used b = Passed k (length used) (b .bidder) (b .price) (length (b .windows)) (allLawful (b .windows))
+    (among (b .bidder) used)
 
-pub faultless : (k : Kind) (used : List ℕ) (b : Bid) → faultOf k used b ≡ none → Faultless k used b
-unfolding faultOf
-faultless k used b e = passed k (length used) (b .bidder) (b .price) (length (b .windows)) (allLawful (b .windows))
+pub faultless-bid : (k : Kind) (used : List ℕ) (b : BidLine) → bidFault k used b ≡ none → FaultlessBid k used b
+unfolding bidFault
+faultless-bid k used b e = passed k (length used) (b .bidder) (b .price) (length (b .windows)) (allLawful (b .windows))
     (among (b .bidder) used) e
 
 lawful-rules : (w : Window) → lawful w ≡ true → WindowRules w
@@ -173,12 +177,12 @@ windows-rules (w ∷ ws) us e h =
     let s = and-split (lawful w) (allLawful ws) e in
     (lawful-rules w (s .0), windows-rules ws us (s .1) h)
 
-record Sound (k : Kind) (used : List ℕ) (at : ℕ) (bs : List Bid) : Type 0 where
+record Sound (k : Kind) (used : List ℕ) (at : ℕ) (bs : List BidLine) : Type 0 where
   few-bids : length used ≤ 1000 → length used + length bs ≤ 1000
   rows : RowsRules k used at (rowsFrom at bs) (at + length (allWindows bs))
   windows : WindowsRules (allWindows bs)
 
-more : (k : Kind) (used : List ℕ) (at : ℕ) (b : Bid) (bs : List Bid) → 1 ≤ length (b .windows) → Faultless k used b
+more : (k : Kind) (used : List ℕ) (at : ℕ) (b : BidLine) (bs : List BidLine) → 1 ≤ length (b .windows) → FaultlessBid k used b
     → Sound k (used ++ b .bidder ∷ []) (at + length (b .windows)) bs → Sound k used at (b ∷ bs)
 unfolding rowsFrom allWindows
 more k used at b bs l h s =
@@ -205,21 +209,21 @@ more k used at b bs l h s =
       windows = windows-rules (b .windows) (allWindows bs) (h .lawful-windows) (s .windows);
     }
 
-pub rows-length : (at : ℕ) (bs : List Bid) → length (rowsFrom at bs) ≡ length bs
+pub rowsFrom-length : (at : ℕ) (bs : List BidLine) → length (rowsFrom at bs) ≡ length bs
 unfolding rowsFrom
-rows-length at [] = refl
-rows-length at (b ∷ bs) = ap suc (rows-length (at + length (b .windows)) bs)
+rowsFrom-length at [] = refl
+rowsFrom-length at (b ∷ bs) = ap suc (rowsFrom-length (at + length (b .windows)) bs)
 
 module _ (T : Tender) (R : List Row) (W : List Window) where
-  sound : (k : Kind) (n : ℕ) (used : List ℕ) (at : ℕ) (ls : List (Option Line)) (out : Outcome) → AllFilled ls
+  sound : (k : Kind) (n : ℕ) (used : List ℕ) (at : ℕ) (ls : List (Option Line)) (out : ReadOutcome) → AllFilled ls
       → checked k n used ls out ≡ accepted T R W → Sound k used at (bidsOf ls)
   unfolding checked bidsOf rowsFrom allWindows
   sound k n used at [] out a e = record { few-bids = λ u. omega arith; rows = omega arith; windows = tt }
   sound k n used at (none ∷ ls) out a e = never e
   sound k n used at (some (tender t) ∷ ls) out a e = never e
   sound k n used at (some (bid b) ∷ ls) out a e =
-      let j = judged-out T R W (faultOf k used b) n (checked k (n + 1) (used ++ b .bidder ∷ []) ls out) e in
-      more k used at b (bidsOf ls) (a .0) (faultless k used b (j .0))
+      let j = judged-out T R W (bidFault k used b) n (checked k (n + 1) (used ++ b .bidder ∷ []) ls out) e in
+      more k used at b (bidsOf ls) (a .0) (faultless-bid k used b (j .0))
       (sound k (n + 1) (used ++ b .bidder ∷ []) (at + length (b .windows)) ls out (a .1) (j .1))
 
   -- every rule holds of what an accepted text gives
@@ -234,7 +238,7 @@ module _ (T : Tender) (R : List Row) (W : List Window) where
           let s = sound (T .kind) 2 [] 0 ls (tables T (bidsOf ls)) (a .1) (c .sound) in
           record {
             tender = lawful-rules (T .window) (c .window);
-            few-bids = rw (c .rows) (omega (arith, rows-length 0 (bidsOf ls), s .few-bids (omega arith)));
+            few-bids = rw (c .rows) (omega (arith, rowsFrom-length 0 (bidsOf ls), s .few-bids (omega arith)));
             rows = rw (c .rows, c .windows) (rw zero-add at (s .rows));
             windows = rw (c .windows) (s .windows);
           }

@@ -12,11 +12,12 @@ use borrow.Author.Tests.{le-leb, ltb-false}
 use Rattle.tender.specs.declared.Window.{Window}
 use Rattle.tender.specs.declared.Tender.{Tender}
 use Rattle.tender.specs.Tables.{Row}
-use Rattle.reader_line.specs.Words.{cut, grow}
-use Rattle.reader_line.specs.Line.{Bid, Line, tender, bid, lineOf, linesOf}
+use Rattle.reader_line.specs.Words.{cut, growFirst}
+use Rattle.reader_line.specs.Line.{BidLine, Line, tender, bid, lineOf, linesOf}
 use Rattle.reader_line.specs.CutLaws.{Pieces, cut-some}
 use Rattle.reader_line.specs.SizeLaws.{line-windows}
-use Rattle.reader.specs.Read.{Outcome, accepted, refused, bidsOf, allWindows, readLines, readText, fitted, readInto}
+use Rattle.tender.specs.declared.Refusal.the-variants.{TextTooLong}
+use Rattle.reader.specs.Read.{ReadOutcome, accepted, refused, declinedBy, bidsOf, allWindows, readLines, readText, fitted, readInto}
 use Rattle.reader.specs.ReadLaws.{never, read-lines, begun}
 use Rattle.reader.specs.CountLaws.{counts-law}
 
@@ -26,14 +27,15 @@ size [] = 0
 size (p ∷ ps) = length p + 1 + size ps
 
 cut-size : (d : ℕ) (s : List ℕ) → size (cut d s) ≡ length s + 1
-unfolding cut grow size
+unfolding cut growFirst size
 cut-size d [] = refl
 cut-size d (b ∷ s) = go (eqb b d) (cut-some d s) (cut-size d s)
   where
-    grown : (ps : List (List ℕ)) → Pieces ps → size (grow b ps) ≡ suc (size ps)
+    grown : (ps : List (List ℕ)) → Pieces ps → size (growFirst b ps) ≡ suc (size ps)
     grown ps c = rw (c .are) (omega arith)
 
-    go : (t : Bool) → Pieces (cut d s) → size (cut d s) ≡ length s + 1 → size (cond t ([] ∷ cut d s) (grow b (cut d s))) ≡ suc (length s)
+    go : (t : Bool) → Pieces (cut d s) → size (cut d s) ≡ length s + 1
+        → size (cond t ([] ∷ cut d s) (growFirst b (cut d s))) ≡ suc (length s)
         + 1
     go true c e = omega arith
     go false c e = omega (arith, grown (cut d s) c)
@@ -46,7 +48,7 @@ lines-size ([] ∷ []) = omega arith
 lines-size ((b ∷ p) ∷ []) = omega arith
 lines-size (p ∷ q ∷ ps) = go (lineOf p) (line-windows p) (lines-size (q ∷ ps))
   where
-    go : (x : Option Line) → ((b : Bid) → x ≡ some (bid b) → 6 * length (b .windows) ≤ length p + 1)
+    go : (x : Option Line) → ((b : BidLine) → x ≡ some (bid b) → 6 * length (b .windows) ≤ length p + 1)
         → 6 * length (allWindows (bidsOf (linesOf (q ∷ ps)))) ≤ size (q ∷ ps) →
         6 * length (allWindows (bidsOf (x ∷ linesOf (q ∷ ps)))) ≤ length p + 1 + size (q ∷ ps)
     go none f ih = omega arith
@@ -57,7 +59,7 @@ short-text : (T : Tender) (R : List Row) (W : List Window) (text : List ℕ) →
 unfolding readText
 short-text T R W text e = go (ltb 65536 (length text)) refl e
   where
-    go : (t : Bool) → ltb 65536 (length text) ≡ t → cond t (refused 1 0) (readLines (linesOf (cut 10 text))) ≡ accepted T R W
+    go : (t : Bool) → ltb 65536 (length text) ≡ t → cond t (declinedBy TextTooLong) (readLines (linesOf (cut 10 text))) ≡ accepted T R W
         → length text ≤ 65536
     go true f x = never x
     go false f x = ltb-false 65536 (length text) f
@@ -80,7 +82,7 @@ pub fits-law : (text : List ℕ) (bidRows windowRows : ℕ) → 1000 ≤ bidRows
 unfolding readInto fitted
 fits-law text b w hb hw = go (readText text) refl
   where
-    go : (o : Outcome) → readText text ≡ o → fitted b w o ≡ o
+    go : (o : ReadOutcome) → readText text ≡ o → fitted b w o ≡ o
     go (refused n at) e = refl
     go (accepted T R W) e = rw (
       le-leb (length R) b (omega (arith, counts-law T R W text e .0)),

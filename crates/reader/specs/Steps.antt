@@ -14,9 +14,9 @@ use Rattle.tender.specs.Refusals.{numberOf, placeOf}
 use Rattle.tender.specs.Tables.{Row, flatRows, flatWindows}
 use Rattle.cells.specs.Cells as cells
 use Rattle.reader_line.specs.Words.{cut}
-use Rattle.reader_line.specs.Line.{Bid, Line, tender, bid, linesOf}
+use Rattle.reader_line.specs.Line.{BidLine, Line, tender, bid, linesOf}
 use Rattle.reader_line.specs.Scan.{putWindows}
-use Rattle.reader.specs.Read.{Outcome, refused, rowsFrom, allWindows, bidsOf, faultIn, checked, readLines}
+use Rattle.reader.specs.Read.{ReadOutcome, refused, rowsFrom, allWindows, bidsOf, bidFaultIn, checked, readLines}
 use Rattle.reader.specs.declared.First.{First}
 use Rattle.reader.specs.declared.First.the-variants as first
 use Rattle.reader.specs.declared.bids.Verdict.{Verdict}
@@ -26,20 +26,20 @@ use Rattle.reader.specs.declared.bids.Step.the-variants as step
 use Rattle.reader.specs.declared.bids.Bids.{Bids}
 use Rattle.reader.specs.declared.bids.Bids.the-variants as bids
 
-abbrev pub cellsOf : Row → List ℕ
-cellsOf r = r .bidder ∷ r .price ∷ r .first ∷ r .count ∷ []
+abbrev pub rowNumbers : Row → List ℕ
+rowNumbers r = r .bidder ∷ r .price ∷ r .first ∷ r .count ∷ []
 
 -- a fault and the line that has it
 pub record Fault : Type 0 where
   pub number : ℕ
   pub place : ℕ
 
-abbrev pub faultAt : ℕ → Option ℕ → Option Fault
-faultAt line none = none
-faultAt line (some n) = some (record { number = n; place = line })
-
 abbrev pub faultOfRefusal : Refusal → Fault
 faultOfRefusal r = record { number = numberOf r; place = placeOf r }
+
+abbrev pub faultAt : ℕ → Option (ℕ → Refusal) → Option Fault
+faultAt line none = none
+faultAt line (some r) = some (faultOfRefusal (r line))
 
 abbrev pub verdictOf : Verdict → Option Fault
 verdictOf Sound = none
@@ -51,28 +51,29 @@ Declines (step.Bid count) n at = ⊥
 Declines (step.Refused r) n at = faultOfRefusal r ≡ record { number = n; place = at }
 
 -- a bid goes into the tables after k bids with m windows
-pub record Took (b : Bid) (k m : ℕ) (used rows windows : List ℕ) (r : Step) (used′ rows′ windows′ : List ℕ) : Type 0 where
+pub record BidTaken (b : BidLine) (k m : ℕ) (used rows windows : List ℕ) (r : Step) (used′ rows′ windows′ : List ℕ) : Type 0 where
   pub answer : r ≡ step.Bid (length (b .windows))
-  pub row : rows′ ≡ take (4 * k) rows ++ cellsOf (record { bidder = b .bidder; price = b .price; first = m; count = length (b .windows) })
+  pub row : rows′ ≡ take (4 * k) rows ++ rowNumbers
+      (record { bidder = b .bidder; price = b .price; first = m; count = length (b .windows) })
       ++ drop (4 * k + 4) rows
   pub own : windows′ ≡ putWindows windows m (b .windows)
-  pub mark : cells.Filled (b .bidder) (b .bidder + 1) used used′
+  pub mark : cells.RangeAdded (b .bidder) (b .bidder + 1) used used′
 
-abbrev pub Judged : Option ℕ → Bid → ℕ → ℕ → (used rows windows : List ℕ) → Step → (used′ rows′ windows′ : List ℕ) → Type 0
-Judged none b k m used rows windows r used′ rows′ windows′ = Took b k m used rows windows r used′ rows′ windows′
-Judged (some n) b k m used rows windows r used′ rows′ windows′ = Declines r n (k + 2)
+abbrev pub Judged : Option (ℕ → Refusal) → BidLine → ℕ → ℕ → (used rows windows : List ℕ) → Step → (used′ rows′ windows′ : List ℕ) → Type 0
+Judged none b k m used rows windows r used′ rows′ windows′ = BidTaken b k m used rows windows r used′ rows′ windows′
+Judged (some f) b k m used rows windows r used′ rows′ windows′ = Declines r (numberOf (f (k + 2))) (placeOf (f (k + 2)))
 
 -- what comes of a line
 abbrev pub Taken : Option Line → Kind → ℕ → ℕ → (used rows windows : List ℕ) → Step → (used′ rows′ windows′ : List ℕ) → Type 0
 Taken none kind k m used rows windows r used′ rows′ windows′ = Declines r 2 (k + 2)
 Taken (some (tender t)) kind k m used rows windows r used′ rows′ windows′ = Declines r 2 (k + 2)
 Taken (some (bid b)) kind k m used rows windows r used′ rows′ windows′ =
-    Judged (faultIn kind k (b .bidder) (b .price) (length (b .windows)) (allLawful (b .windows)) (eqb (cells.cell used (b .bidder)) 1)) b
+    Judged (bidFaultIn kind k (b .bidder) (b .price) (length (b .windows)) (allLawful (b .windows)) (eqb (cells.cell used (b .bidder)) 1)) b
     k m used rows windows r used′ rows′ windows′
 
 -- the tables hold the bids of these lines, none of which is faulty
-pub record Held (kind : Kind) (ls : List (Option Line)) (k m : ℕ) (rows windows : List ℕ) : Type 0 where
-  pub faultless : (out : Outcome) → checked kind 2 [] ls out ≡ out
+pub record TablesHold (kind : Kind) (ls : List (Option Line)) (k m : ℕ) (rows windows : List ℕ) : Type 0 where
+  pub faultless : (out : ReadOutcome) → checked kind 2 [] ls out ≡ out
   pub bids : length (bidsOf ls) ≡ k
   pub places : length (allWindows (bidsOf ls)) ≡ m
   pub few-bids : k ≤ 1000
@@ -81,9 +82,9 @@ pub record Held (kind : Kind) (ls : List (Option Line)) (k m : ℕ) (rows window
   pub windows-are : take (2 * m) windows ≡ flatWindows (allWindows (bidsOf ls))
 
 -- what comes of the lines after the first
-abbrev pub Filled : Kind → List (Option Line) → Bids → (rows windows : List ℕ) → Type 0
-Filled kind ls (bids.Filled k m) rows windows = Held kind ls k m rows windows
-Filled kind ls (bids.Refused r) rows windows = (out : Outcome) → checked kind 2 [] ls out ≡ refused (numberOf r) (placeOf r)
+abbrev pub LinesFilled : Kind → List (Option Line) → Bids → (rows windows : List ℕ) → Type 0
+LinesFilled kind ls (bids.Filled k m) rows windows = TablesHold kind ls k m rows windows
+LinesFilled kind ls (bids.Refused r) rows windows = (out : ReadOutcome) → checked kind 2 [] ls out ≡ refused (numberOf r) (placeOf r)
 
 -- what comes of the first line
 pub record Begins (text : List ℕ) (t : Tender) (at : ℕ) : Type 0 where

@@ -8,8 +8,8 @@ ghost use Rattle.tender.specs.Limits.{within, maxPrice, maxBidder, maxBids, max
 ghost use Rattle.cells.specs.Cells.{cell};
 ghost use Rattle.reader_line.specs.Words.{cut};
 ghost use Rattle.reader_line.specs.Line.{lineOf, linesOf};
-ghost use Rattle.reader.specs.Read.{faultIn};
-ghost use Rattle.reader.specs.Steps.{faultAt, verdictOf, Taken, Filled};
+ghost use Rattle.reader.specs.Read.{bidFaultIn};
+ghost use Rattle.reader.specs.Steps.{faultAt, verdictOf, Taken, LinesFilled};
 use crate::rows::put_row;
 use reader_line::line::Line;
 use reader_line::line::read_line;
@@ -69,7 +69,7 @@ fn judge(
     ok: bool,
 ) -> Verdict
     requires { ⌜ length (now used) ≡ 15625 ⌝ }
-    ensures { λ r. ⌜ verdictOf r ≡ faultAt line (faultIn kind bids bidder price windows ok (eqb (cell (now (used .entry)) bidder) 1)) ⌝ }
+    ensures { λ r. ⌜ verdictOf r ≡ faultAt line (bidFaultIn kind bids bidder price windows ok (eqb (cell (now (used .entry)) bidder) 1)) ⌝ }
 {
     if too_many(bids, windows) {
         return Verdict::Faulty(Refusal::TooMany { line });
@@ -148,7 +148,7 @@ pub(crate) fn read_bids(
 ) -> Bids
     requires { ⌜ (at ≤ length (now text)) × (length (now text) ≤ 65536) × (now used ≡ replicate 15625 0) × (length (now rows) ≡ 4000)
         × (length (now windows) ≡ 22000) ⌝ }
-    ensures { λ r. ⌜ Filled kind (linesOf (cut 10 (drop at (now (text .entry))))) r (now (rows .exit)) (now (windows .exit)) ⌝ }
+    ensures { λ r. ⌜ LinesFilled kind (linesOf (cut 10 (drop at (now (text .entry))))) r (now (rows .exit)) (now (windows .exit)) ⌝ }
 {
     let mut k: usize = 0;
     let mut m: usize = 0;

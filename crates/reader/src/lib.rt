@@ -4,7 +4,7 @@ ghost use mathlib.Core.Path.{_≡_};
 ghost use Prim.Native.Nat.{_/_};
 ghost use lib.ListN.{length, replicate};
 ghost use Rattle.reader.specs.Read.{readInto};
-ghost use Rattle.reader.specs.Answer.{told, summary, bidsAfter, windowsAfter};
+ghost use Rattle.reader.specs.Answer.{toldReading, summary, bidsAfter, windowsAfter};
 ghost use Rattle.reader.specs.Steps.{Opened};
 
 mod bids;
@@ -68,7 +68,7 @@ pub enum Reading {
 
 // Reads the text into the first rows of the two tables; cells past them stay.
 pub fn read(text: &[u8], bids: &mut [u64], windows: &mut [u64]) -> Reading
-    ensures answer { λ r. ⌜ told r ≡ summary (readInto (now (text .entry)) (length (now (bids .entry)) / 4)
+    ensures answer { λ r. ⌜ toldReading r ≡ summary (readInto (now (text .entry)) (length (now (bids .entry)) / 4)
         (length (now (windows .entry)) / 2)) ⌝ }
     ensures rows { λ r. ⌜ now (bids .exit) ≡ bidsAfter (now (bids .entry))
         (readInto (now (text .entry)) (length (now (bids .entry)) / 4) (length (now (windows .entry)) / 2)) ⌝ }

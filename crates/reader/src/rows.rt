@@ -4,13 +4,13 @@ ghost use mathlib.Core.List.{_++_};
 ghost use Prim.Native.Nat.{_≤_, _+_, _*_};
 ghost use lib.ListN.{length, take, drop};
 ghost use Rattle.tender.specs.Tables.{Row};
-ghost use Rattle.reader.specs.Steps.{cellsOf};
+ghost use Rattle.reader.specs.Steps.{rowNumbers};
 
 // The cells of row k: bidder, price, place of the first window, number of windows.
 pub(crate) fn put_row(out: &mut [u64], k: usize, bidder: u64, price: u64, first: u64, count: u64)
     requires { ⌜ 4 * k + 4 ≤ length (now out) ⌝ }
     ensures { λ r. ⌜ now (out .exit) ≡ take (4 * k) (now (out .entry))
-        ++ cellsOf (record { bidder = bidder; price = price; first = first; count = count }) ++ drop (4 * k + 4) (now (out .entry)) ⌝ }
+        ++ rowNumbers (record { bidder = bidder; price = price; first = first; count = count }) ++ drop (4 * k + 4) (now (out .entry)) ⌝ }
 {
     let at = 4 * k;
     out[at] = bidder;

@@ -14,7 +14,7 @@ use Rattle.reader_line.specs.Words.{cut}
 use Rattle.reader_line.specs.Line.{Line, lineOf, linesOf}
 use Rattle.reader_line.specs.Scan.{toNext}
 use Rattle.reader_line.specs.ScanLaws.{next-le, next-other, lines-at, lines-unended}
-use Rattle.reader_line.specs.LinePlain.{plain, allPlain, split, line-plain}
+use Rattle.reader_line.specs.LinePlain.{plain, allPlain, both-true, line-plain}
 use Rattle.reader_line.specs.Answer.{FirstBroken}
 
 pub next-fits : (d : ℕ) (s : List ℕ) (i : ℕ) → i ≤ length s → i + toNext d (drop i s) ≤ length s
@@ -52,8 +52,8 @@ digit-not-end b h e = false≢true (sym (below 48 57 b (omega arith)) ∙ h)
 plain-at : (p : List ℕ) (k : ℕ) → k < length p → allPlain p ≡ true → plain (getD p k 0) ≡ true
 unfolding allPlain
 plain-at [] k h e = absurd (omega arith)
-plain-at (b ∷ p) zero h e = split (plain b) (allPlain p) e .0
-plain-at (b ∷ p) (suc k) h e = plain-at p k (omega arith) (split (plain b) (allPlain p) e .1)
+plain-at (b ∷ p) zero h e = both-true (plain b) (allPlain p) e .0
+plain-at (b ∷ p) (suc k) h e = plain-at p k (omega arith) (both-true (plain b) (allPlain p) e .1)
 
 module _ (text : List ℕ) (at i : ℕ) (q : i + toNext 10 (drop i text) ≡ at + toNext 10 (drop at text)) (l : at ≤ i) (h : i < length text)
   where

@@ -13,7 +13,7 @@ use Rattle.tender.specs.declared.Kind.the-variants.{Single, Multi}
 use Rattle.tender.specs.declared.Window.{Window}
 use Rattle.tender.specs.declared.Tender.{Tender}
 use Rattle.tender.specs.Keywords.{tenderWord, bidWord, singleWord, multiWord}
-use Rattle.reader_line.specs.Words.{andThen, cut, same, closed, numeralOf, priceOf}
+use Rattle.reader_line.specs.Words.{andThen, cut, sameBytes, closed, numeralOf, priceOf}
 use Rattle.reader_line.specs.Line.{Line, tender, bid, kindOf, spanOf, windowsIn, tenderOf, bidOf, lineOfWords, lineOf}
 use Rattle.reader_line.specs.CutLaws.{cut-some}
 use Rattle.reader_line.specs.Scan.{toNext, part, Tally, tenderNote, bidNote, tallied, noted}
@@ -24,15 +24,15 @@ use Rattle.reader_line.proofs.Spans.{closed-last, closed-other}
 
 -- the kind's word
 
-pub kind-single : (w : List ℕ) → same w singleWord ≡ true → kindOf w ≡ some Single
+pub kind-single : (w : List ℕ) → sameBytes w singleWord ≡ true → kindOf w ≡ some Single
 unfolding kindOf
 kind-single w e = rw e
 
-pub kind-multi : (w : List ℕ) → same w singleWord ≡ false → same w multiWord ≡ true → kindOf w ≡ some Multi
+pub kind-multi : (w : List ℕ) → sameBytes w singleWord ≡ false → sameBytes w multiWord ≡ true → kindOf w ≡ some Multi
 unfolding kindOf
 kind-multi w e f = rw (e, f)
 
-pub kind-none : (w : List ℕ) → same w singleWord ≡ false → same w multiWord ≡ false → kindOf w ≡ none
+pub kind-none : (w : List ℕ) → sameBytes w singleWord ≡ false → sameBytes w multiWord ≡ false → kindOf w ≡ none
 unfolding kindOf
 kind-none w e f = rw (e, f)
 
@@ -176,7 +176,8 @@ first-word (b ∷ l) (suc n) h k = let a : suc n - 0 ≡ suc n = omega arith in 
 module _ (line : List ℕ) (e : ℕ) (q : 0 + toNext 32 (drop 0 line) ≡ e) where
   pub line-one : e ≡ length line → lineOf line ≡ none
   unfolding lineOf lineOfWords tenderOf bidOf
-  line-one h = ap lineOfWords (cut-at-end 32 line 0 (omega arith) (q ∙ h)) ∙ go (same line (40 ∷ tenderWord)) (same line (40 ∷ bidWord))
+  line-one h = ap lineOfWords (cut-at-end 32 line 0 (omega arith) (q ∙ h))
+      ∙ go (sameBytes line (40 ∷ tenderWord)) (sameBytes line (40 ∷ bidWord))
     where
       go : (a b : Bool) → cond a (tenderOf []) (cond b (bidOf []) none) ≡ none
       go true b = refl
@@ -188,7 +189,7 @@ module _ (line : List ℕ) (e : ℕ) (q : 0 + toNext 32 (drop 0 line) ≡ e) whe
     words-are = cut-at 32 line 0 e q h
 
     pub line-empty : e ≡ 0 → lineOf line ≡ none
-    unfolding lineOf lineOfWords same
+    unfolding lineOf lineOfWords sameBytes
     line-empty z = let p : part line 0 e ≡ [] = rw z in ap lineOfWords (words-are ∙ ap (λ w. w ∷ cut 32 (drop (e + 1) line)) p)
 
     module _ (k : (e ≡ 0 → ⊥)) where
@@ -196,19 +197,19 @@ module _ (line : List ℕ) (e : ℕ) (q : 0 + toNext 32 (drop 0 line) ≡ e) whe
       opened-words = words-are ∙ ap (λ w. w ∷ cut 32 (drop (e + 1) line)) (first-word line e (omega arith) (omega arith))
 
       pub line-unopened : (getD line 0 0 ≡ 40 → ⊥) → lineOf line ≡ none
-      unfolding lineOf lineOfWords same
+      unfolding lineOf lineOfWords sameBytes
       line-unopened g = ap lineOfWords opened-words ∙ rw (ne-eqb (getD line 0 0) 40 g)
 
       module _ (g : getD line 0 0 ≡ 40) where
-        pub line-tender : same (part line 1 e) tenderWord ≡ true → lineOf line ≡ tenderOf (cut 32 (drop (e + 1) line))
-        unfolding lineOf lineOfWords same
+        pub line-tender : sameBytes (part line 1 e) tenderWord ≡ true → lineOf line ≡ tenderOf (cut 32 (drop (e + 1) line))
+        unfolding lineOf lineOfWords sameBytes
         line-tender s = ap lineOfWords opened-words ∙ rw (eq-eqb (getD line 0 0) 40 g) (rw s)
 
-        pub line-bid : same (part line 1 e) tenderWord ≡ false → same (part line 1 e) bidWord ≡ true
+        pub line-bid : sameBytes (part line 1 e) tenderWord ≡ false → sameBytes (part line 1 e) bidWord ≡ true
             → lineOf line ≡ bidOf (cut 32 (drop (e + 1) line))
-        unfolding lineOf lineOfWords same
+        unfolding lineOf lineOfWords sameBytes
         line-bid s t = ap lineOfWords opened-words ∙ rw (eq-eqb (getD line 0 0) 40 g) (rw (s, t))
 
-        pub line-other : same (part line 1 e) tenderWord ≡ false → same (part line 1 e) bidWord ≡ false → lineOf line ≡ none
-        unfolding lineOf lineOfWords same
+        pub line-other : sameBytes (part line 1 e) tenderWord ≡ false → sameBytes (part line 1 e) bidWord ≡ false → lineOf line ≡ none
+        unfolding lineOf lineOfWords sameBytes
         line-other s t = ap lineOfWords opened-words ∙ rw (eq-eqb (getD line 0 0) 40 g) (rw (s, t))

@@ -7,30 +7,30 @@ use native.Mathlib.Omega.{arith}
 use lib.ListN.{length, drop, getD, drop-of-length-le}
 use lib.Dec.{eqb}
 use borrow.Author.Tests.{eq-eqb, ne-eqb}
-use Rattle.reader_line.specs.Words.{same}
+use Rattle.reader_line.specs.Words.{sameBytes}
 use Rattle.reader_line.specs.ScanLaws.{drop-next}
 
-pub lengths-differ : (a b : List ℕ) → (length a ≡ length b → ⊥) → same a b ≡ false
-unfolding same
+pub lengths-differ : (a b : List ℕ) → (length a ≡ length b → ⊥) → sameBytes a b ≡ false
+unfolding sameBytes
 lengths-differ [] [] h = absurd (h refl)
 lengths-differ [] (y ∷ b) h = refl
 lengths-differ (x ∷ a) [] h = refl
 lengths-differ (x ∷ a) (y ∷ b) h = go (eqb x y) (lengths-differ a b (λ e. h (omega (arith, e))))
   where
-    go : (t : Bool) → same a b ≡ false → cond t (same a b) false ≡ false
+    go : (t : Bool) → sameBytes a b ≡ false → cond t (sameBytes a b) false ≡ false
     go true e = e
     go false e = refl
 
 module _ (a b : List ℕ) (i : ℕ) where
-  pub same-end : length a ≤ i → length b ≤ i → same (drop i a) (drop i b) ≡ true
-  unfolding same
+  pub same-end : length a ≤ i → length b ≤ i → sameBytes (drop i a) (drop i b) ≡ true
+  unfolding sameBytes
   same-end h k = rw (drop-of-length-le a h, drop-of-length-le b k)
 
   module _ (h : i < length a) (k : i < length b) where
-    pub byte-same : getD a i 0 ≡ getD b i 0 → same (drop i a) (drop i b) ≡ same (drop (i + 1) a) (drop (i + 1) b)
-    unfolding same
+    pub byte-same : getD a i 0 ≡ getD b i 0 → sameBytes (drop i a) (drop i b) ≡ sameBytes (drop (i + 1) a) (drop (i + 1) b)
+    unfolding sameBytes
     byte-same e = rw (drop-next a i h, drop-next b i k) (rw (eq-eqb (getD a i 0) (getD b i 0) e))
 
-    pub byte-other : (getD a i 0 ≡ getD b i 0 → ⊥) → same (drop i a) (drop i b) ≡ false
-    unfolding same
+    pub byte-other : (getD a i 0 ≡ getD b i 0 → ⊥) → sameBytes (drop i a) (drop i b) ≡ false
+    unfolding sameBytes
     byte-other e = rw (drop-next a i h, drop-next b i k) (rw (ne-eqb (getD a i 0) (getD b i 0) e))

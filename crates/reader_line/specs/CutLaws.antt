@@ -6,12 +6,12 @@ use mathlib.Core.Option.{Option}
 use Prim.Native.Nat.{ℕ}
 use lib.Dec.{eqb}
 use borrow.Author.Tests.{eq-eqb}
-use Rattle.reader_line.specs.Words.{grow, cut, among}
+use Rattle.reader_line.specs.Words.{growFirst, cut, among}
 use Rattle.reader_line.specs.Line.{Line, lineOf, linesOf}
 
-pub or-split : (a b : Bool) → a || b ≡ false → (a ≡ false) × (b ≡ false)
-or-split true b e = absurd (true≢false e)
-or-split false b e = (refl, e)
+pub neither : (a b : Bool) → a || b ≡ false → (a ≡ false) × (b ≡ false)
+neither true b e = absurd (true≢false e)
+neither false b e = (refl, e)
 
 pub record Pieces (ps : List (List ℕ)) : Type 0 where
   pub first : List ℕ
@@ -24,24 +24,24 @@ unfolding cut
 cut-some d [] = record { first = []; rest = []; are = refl }
 cut-some d (b ∷ s) = go (eqb b d) (cut-some d s)
   where
-    go : (t : Bool) → Pieces (cut d s) → Pieces (cond t ([] ∷ cut d s) (grow b (cut d s)))
+    go : (t : Bool) → Pieces (cut d s) → Pieces (cond t ([] ∷ cut d s) (growFirst b (cut d s)))
     go true c = record { first = []; rest = cut d s; are = refl }
-    go false c = record { first = b ∷ c .first; rest = c .rest; are = ap (grow b) (c .are) }
+    go false c = record { first = b ∷ c .first; rest = c .rest; are = ap (growFirst b) (c .are) }
 
 -- a piece that a byte d ends
 pub cut-end : (d : ℕ) (w s : List ℕ) → among d w ≡ false → cut d (w ++ d ∷ s) ≡ w ∷ cut d s
 unfolding cut among
 cut-end d [] s n = rw (eq-eqb d d refl)
-cut-end d (b ∷ w) s n = rw (or-split (eqb b d) (among d w) n .0, cut-end d w s (or-split (eqb b d) (among d w) n .1))
+cut-end d (b ∷ w) s n = rw (neither (eqb b d) (among d w) n .0, cut-end d w s (neither (eqb b d) (among d w) n .1))
 
 -- bytes before the first piece
 pub cut-word : (d : ℕ) (w s f : List ℕ) (ps : List (List ℕ)) → among d w ≡ false → cut d s ≡ f ∷ ps → cut d (w ++ s) ≡ (w ++ f) ∷ ps
 unfolding cut among
 cut-word d [] s f ps n e = e
-cut-word d (b ∷ w) s f ps n e = rw (or-split (eqb b d) (among d w) n .0, cut-word d w s f ps (or-split (eqb b d) (among d w) n .1) e)
+cut-word d (b ∷ w) s f ps n e = rw (neither (eqb b d) (among d w) n .0, cut-word d w s f ps (neither (eqb b d) (among d w) n .1) e)
 
-grow-append : (b : ℕ) (ps qs : List (List ℕ)) → Pieces ps → grow b (ps ++ qs) ≡ grow b ps ++ qs
-unfolding grow
+grow-append : (b : ℕ) (ps qs : List (List ℕ)) → Pieces ps → growFirst b (ps ++ qs) ≡ growFirst b ps ++ qs
+unfolding growFirst
 grow-append b ps qs c = rw (c .are)
 
 -- a byte d parts the pieces before it from those after it
@@ -50,8 +50,8 @@ unfolding cut
 cut-append d [] y = rw (eq-eqb d d refl)
 cut-append d (b ∷ x) y = go (eqb b d) (cut-append d x y)
   where
-    go : (t : Bool) → cut d (x ++ d ∷ y) ≡ cut d x ++ cut d y → cond t ([] ∷ cut d (x ++ d ∷ y)) (grow b (cut d (x ++ d ∷ y)))
-        ≡ cond t ([] ∷ cut d x) (grow b (cut d x)) ++ cut d y
+    go : (t : Bool) → cut d (x ++ d ∷ y) ≡ cut d x ++ cut d y → cond t ([] ∷ cut d (x ++ d ∷ y)) (growFirst b (cut d (x ++ d ∷ y)))
+        ≡ cond t ([] ∷ cut d x) (growFirst b (cut d x)) ++ cut d y
     go true e = rw e
     go false e = rw e (grow-append b (cut d x) (cut d y) (cut-some d x))
 

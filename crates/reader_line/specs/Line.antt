@@ -8,20 +8,20 @@ use Rattle.tender.specs.declared.Kind.the-variants.{Single, Multi}
 use Rattle.tender.specs.declared.Window.{Window}
 use Rattle.tender.specs.declared.Tender.{Tender}
 use Rattle.tender.specs.Keywords.{bidWord, multiWord, singleWord, tenderWord}
-use Rattle.reader_line.specs.Words.{andThen, cut, same, opened, closed, numeralOf, priceOf}
+use Rattle.reader_line.specs.Words.{andThen, cut, sameBytes, opened, closed, numeralOf, priceOf}
 
-pub record Bid : Type 0 where
+pub record BidLine : Type 0 where
   pub bidder : ℕ
   pub price : ℕ
   pub windows : List Window
 
 pub data Line : Type 0 where
   tender : Tender → Line
-  bid : Bid → Line
+  bid : BidLine → Line
 
 unfoldable pub kindOf : List ℕ → Option Kind
-unfolding same singleWord multiWord
-kindOf w = cond (same w singleWord) (some Single) (cond (same w multiWord) (some Multi) none)
+unfolding sameBytes singleWord multiWord
+kindOf w = cond (sameBytes w singleWord) (some Single) (cond (sameBytes w multiWord) (some Multi) none)
 
 -- the words "S" and "E"
 unfoldable pub spanOf : List ℕ → List ℕ → Option Window
@@ -61,9 +61,9 @@ bidOf (n ∷ p ∷ ws) =
     (λ v. andThen (windowsIn ws) (λ l. some (bid (record { bidder = y; price = v; windows = l })))))
 
 unfoldable pub lineOfWords : List (List ℕ) → Option Line
-unfolding same tenderWord bidWord tenderOf bidOf
+unfolding sameBytes tenderWord bidWord tenderOf bidOf
 lineOfWords [] = none
-lineOfWords (w ∷ ws) = cond (same w (40 ∷ tenderWord)) (tenderOf ws) (cond (same w (40 ∷ bidWord)) (bidOf ws) none)
+lineOfWords (w ∷ ws) = cond (sameBytes w (40 ∷ tenderWord)) (tenderOf ws) (cond (sameBytes w (40 ∷ bidWord)) (bidOf ws) none)
 
 -- the line with these bytes, the byte 10 left out; one space stands between two words, and none elsewhere
 unfoldable pub lineOf : List ℕ → Option Line

@@ -13,7 +13,7 @@ use Rattle.tender.specs.declared.Kind.{Kind}
 use Rattle.tender.specs.declared.Kind.the-variants.{Single, Multi}
 use Rattle.tender.specs.declared.Window.{Window}
 use Rattle.tender.specs.Limits.{within}
-use Rattle.reader_line.specs.Words.{andThen, grow, cut, same, opened, closed, digits, leadingZero, numeralOf, priceOf}
+use Rattle.reader_line.specs.Words.{andThen, growFirst, cut, sameBytes, opened, closed, digits, leadingZero, numeralOf, priceOf}
 use Rattle.reader_line.specs.Line.{Line, kindOf, spanOf, windowOf, windowsIn, tenderOf, bidOf, lineOfWords, lineOf}
 use Rattle.reader_line.specs.CutLaws.{Pieces, cut-some}
 
@@ -30,9 +30,9 @@ abbrev pub PlainPieces : List (List ℕ) → Type 0
 PlainPieces [] = Unit {0}
 PlainPieces (p ∷ ps) = (allPlain p ≡ true) × PlainPieces ps
 
-pub split : (a b : Bool) → a && b ≡ true → (a ≡ true) × (b ≡ true)
-split true b e = (refl, e)
-split false b e = absurd (false≢true e)
+pub both-true : (a b : Bool) → a && b ≡ true → (a ≡ true) × (b ≡ true)
+both-true true b e = (refl, e)
+both-true false b e = absurd (false≢true e)
 
 both : (a b : Bool) → a ≡ true → b ≡ true → a && b ≡ true
 both a b h k = rw (h, k)
@@ -42,12 +42,12 @@ unfolding cut allPlain
 cut-plain d [] h a = refl
 cut-plain d (b ∷ s) h a = go (eqb b d) refl (cut d s) (cut-some d s) (cut-plain d s h) a
   where
-    more : (p : List ℕ) (ps : List (List ℕ)) → (PlainPieces (p ∷ ps) → allPlain s ≡ true) → PlainPieces (grow b (p ∷ ps)) → plain b
+    more : (p : List ℕ) (ps : List (List ℕ)) → (PlainPieces (p ∷ ps) → allPlain s ≡ true) → PlainPieces (growFirst b (p ∷ ps)) → plain b
         && allPlain s ≡ true
-    more p ps ih x = let y = split (plain b) (allPlain p) (x .0) in both (plain b) (allPlain s) (y .0) (ih (y .1, x .1))
+    more p ps ih x = let y = both-true (plain b) (allPlain p) (x .0) in both (plain b) (allPlain s) (y .0) (ih (y .1, x .1))
 
     go : (t : Bool) → eqb b d ≡ t → (ps : List (List ℕ)) → Pieces ps → (PlainPieces ps → allPlain s ≡ true)
-        → PlainPieces (cond t ([] ∷ ps) (grow b ps)) → plain b && allPlain s ≡ true
+        → PlainPieces (cond t ([] ∷ ps) (growFirst b ps)) → plain b && allPlain s ≡ true
     go true e ps c ih x = both (plain b) (allPlain s) (rw (eqb-true b d e) h) (ih (x .1))
     go false e [] c ih x = let q : [] ≡ c .first ∷ c .rest = c .are in let z : _≡_ {A = ℕ} 0 1 = cc in absurd (omega arith)
     go false e (p ∷ ps) c ih x = more p ps ih x
@@ -61,14 +61,14 @@ pub cond-some : {A : Type 0} (t : Bool) (o : Option A) (x : A) → cond t o none
 cond-some true o x e = (refl, e)
 cond-some false o x e = let z : _≡_ {A = ℕ} 0 1 = cc in absurd (omega arith)
 
-same-is : (v w : List ℕ) → same v w ≡ true → v ≡ w
-unfolding same
+same-is : (v w : List ℕ) → sameBytes v w ≡ true → v ≡ w
+unfolding sameBytes
 same-is [] [] e = refl
 same-is [] (b ∷ w) e = absurd (false≢true e)
 same-is (a ∷ v) [] e = absurd (false≢true e)
 same-is (a ∷ v) (b ∷ w) e = go (eqb a b) refl e (same-is v w)
   where
-    go : (t : Bool) → eqb a b ≡ t → cond t (same v w) false ≡ true → (same v w ≡ true → v ≡ w) → a ∷ v ≡ b ∷ w
+    go : (t : Bool) → eqb a b ≡ t → cond t (sameBytes v w) false ≡ true → (sameBytes v w ≡ true → v ≡ w) → a ∷ v ≡ b ∷ w
     go true q x ih = let p = eqb-true a b q in let r = ih x in cc
     go false q x ih = absurd (false≢true x)
 
@@ -107,7 +107,7 @@ closed-plain (b ∷ c ∷ w) r e h =
     let t = then-some (closed (c ∷ w)) (λ s. some (b ∷ s)) r e in
     let q : b ∷ t .0 ≡ r = cc (t .2) in
     let y : allPlain (b ∷ t .0) ≡ true = ap allPlain q ∙ h in
-    let z = split (plain b) (allPlain (t .0)) y in
+    let z = both-true (plain b) (allPlain (t .0)) y in
     both (plain b) (allPlain (c ∷ w)) (z .0) (closed-plain (c ∷ w) (t .0) (t .1) (z .1))
 
 span-plain : (s e : List ℕ) (w : Window) → spanOf s e ≡ some w → (allPlain s ≡ true) × (allPlain e ≡ true)
@@ -142,9 +142,10 @@ windows-plain (s ∷ e ∷ x ∷ ws) l h =
 
 kind-plain : (w : List ℕ) (k : Kind) → kindOf w ≡ some k → allPlain w ≡ true
 unfolding kindOf allPlain singleWord multiWord
-kind-plain w k e = go (same w singleWord) refl (same w multiWord) refl e
+kind-plain w k e = go (sameBytes w singleWord) refl (sameBytes w multiWord) refl e
   where
-    go : (a : Bool) → same w singleWord ≡ a → (b : Bool) → same w multiWord ≡ b → cond a (some Single) (cond b (some Multi) none) ≡ some k
+    go : (a : Bool) → sameBytes w singleWord ≡ a → (b : Bool) → sameBytes w multiWord ≡ b
+        → cond a (some Single) (cond b (some Multi) none) ≡ some k
         → allPlain w ≡ true
     go true h b j x = rw (same-is w singleWord h)
     go false h true j x = rw (same-is w multiWord j)
@@ -179,9 +180,9 @@ line-plain line x h = cut-plain 32 line refl (words (cut 32 line) h)
   where
     words : (ws : List (List ℕ)) → lineOfWords ws ≡ some x → PlainPieces ws
     words [] e = tt
-    words (w ∷ ws) e = go (same w (40 ∷ tenderWord)) refl (same w (40 ∷ bidWord)) refl e
+    words (w ∷ ws) e = go (sameBytes w (40 ∷ tenderWord)) refl (sameBytes w (40 ∷ bidWord)) refl e
       where
-        go : (a : Bool) → same w (40 ∷ tenderWord) ≡ a → (b : Bool) → same w (40 ∷ bidWord) ≡ b
+        go : (a : Bool) → sameBytes w (40 ∷ tenderWord) ≡ a → (b : Bool) → sameBytes w (40 ∷ bidWord) ≡ b
             → cond a (tenderOf ws) (cond b (bidOf ws) none) ≡ some x → PlainPieces (w ∷ ws)
         go true h b j y = (rw (same-is w (40 ∷ tenderWord) h), tender-plain ws x y)
         go false h true j y = (rw (same-is w (40 ∷ bidWord) j), bid-plain ws x y)

@@ -10,7 +10,7 @@ use lib.ListN.{length, take, drop, getD, length-drop, drop-of-length-le}
 use lib.Seq.{drop-cons, drop-drop}
 use lib.Dec.{eqb}
 use borrow.Author.Tests.{eq-eqb, ne-eqb}
-use Rattle.reader_line.specs.Words.{grow, cut}
+use Rattle.reader_line.specs.Words.{growFirst, cut}
 use Rattle.reader_line.specs.Line.{lineOf, linesOf}
 use Rattle.reader_line.specs.Scan.{toNext}
 use Rattle.reader_line.specs.CutLaws.{cut-some}
@@ -32,7 +32,7 @@ cut-next d (b ∷ s) h = go (eqb b d) h (cut-next d s)
   where
     go : (t : Bool) → cond t 0 (suc (toNext d s)) < suc (length s)
         → (toNext d s < length s → cut d s ≡ take (toNext d s) s ∷ cut d (drop (suc (toNext d s)) s)) →
-        cond t ([] ∷ cut d s) (grow b (cut d s)) ≡ take (cond t 0 (suc (toNext d s))) (b ∷ s)
+        cond t ([] ∷ cut d s) (growFirst b (cut d s)) ≡ take (cond t 0 (suc (toNext d s))) (b ∷ s)
         ∷ cut d (drop (suc (cond t 0 (suc (toNext d s)))) (b ∷ s))
     go true l ih = refl
     go false l ih = rw (ih (omega arith))
@@ -44,7 +44,7 @@ cut-last d [] h = refl
 cut-last d (b ∷ s) h = go (eqb b d) h (cut-last d s)
   where
     go : (t : Bool) → cond t 0 (suc (toNext d s)) ≡ suc (length s) → (toNext d s ≡ length s → cut d s ≡ s ∷ [])
-        → cond t ([] ∷ cut d s) (grow b (cut d s)) ≡ (b ∷ s) ∷ []
+        → cond t ([] ∷ cut d s) (growFirst b (cut d s)) ≡ (b ∷ s) ∷ []
     go true l ih = absurd (omega arith)
     go false l ih = rw (ih (omega arith))
 

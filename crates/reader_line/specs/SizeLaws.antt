@@ -11,10 +11,10 @@ use borrow.Author.Tests.{leb-true}
 use Rattle.tender.specs.declared.Window.{Window}
 use Rattle.tender.specs.Keywords.{tenderWord, bidWord}
 use Rattle.tender.specs.Limits.{within}
-use Rattle.reader_line.specs.Words.{grow, cut, same, opened, closed, digits, leadingZero, numeralOf, priceOf}
-use Rattle.reader_line.specs.Line.{Bid, bid, kindOf, spanOf, windowOf, windowsIn, tenderOf, bidOf, lineOfWords, lineOf}
+use Rattle.reader_line.specs.Words.{growFirst, cut, sameBytes, opened, closed, digits, leadingZero, numeralOf, priceOf}
+use Rattle.reader_line.specs.Line.{BidLine, bid, kindOf, spanOf, windowOf, windowsIn, tenderOf, bidOf, lineOfWords, lineOf}
 use Rattle.reader_line.specs.CutLaws.{Pieces, cut-some}
-use Rattle.reader_line.specs.LinePlain.{split, then-some, cond-some}
+use Rattle.reader_line.specs.LinePlain.{both-true, then-some, cond-some}
 
 -- the bytes of the pieces, with one after each
 bytesOf : List (List ℕ) → ℕ
@@ -26,11 +26,11 @@ unfolding cut bytesOf
 cut-bytes d [] = refl
 cut-bytes d (b ∷ s) = go (eqb b d) (cut-some d s) (cut-bytes d s)
   where
-    grown : (ps : List (List ℕ)) → Pieces ps → bytesOf (grow b ps) ≡ bytesOf ps + 1
+    grown : (ps : List (List ℕ)) → Pieces ps → bytesOf (growFirst b ps) ≡ bytesOf ps + 1
     grown ps c = rw (c .are) (omega arith)
 
     go : (t : Bool) → Pieces (cut d s) → bytesOf (cut d s) ≡ length s + 1
-        → bytesOf (cond t ([] ∷ cut d s) (grow b (cut d s))) ≡ length (b ∷ s) + 1
+        → bytesOf (cond t ([] ∷ cut d s) (growFirst b (cut d s))) ≡ length (b ∷ s) + 1
     go true c e = omega arith
     go false c e = grown (cut d s) c ∙ omega arith
 
@@ -38,7 +38,7 @@ numeral-long : (w : List ℕ) (v : ℕ) → numeralOf w ≡ some v → 1 ≤ len
 unfolding numeralOf within
 numeral-long w v e =
     let c = cond-some (within 1 9 (length w) && not (leadingZero w)) (digits 0 w) v e in
-    leb-true 1 (length w) (split _ _ (split (within 1 9 (length w)) (not (leadingZero w)) (c .0) .0) .0)
+    leb-true 1 (length w) (both-true _ _ (both-true (within 1 9 (length w)) (not (leadingZero w)) (c .0) .0) .0)
 
 opened-long : (w r : List ℕ) → opened w ≡ some r → length w ≡ length r + 1
 unfolding opened
@@ -82,7 +82,7 @@ windows-long (s ∷ e ∷ x ∷ ws) l h =
     let b = window-long s e (w .0) (w .1) in
     omega (arith, b .0, b .1, windows-long (x ∷ ws) (r .0) (r .1), ap length q)
 
-tender-no-bid : (ws : List (List ℕ)) (b : Bid) → tenderOf ws ≡ some (bid b) → ⊥
+tender-no-bid : (ws : List (List ℕ)) (b : BidLine) → tenderOf ws ≡ some (bid b) → ⊥
 unfolding tenderOf
 tender-no-bid [] b h = let z : _≡_ {A = ℕ} 0 1 = cc in omega arith
 tender-no-bid (k ∷ []) b h = let z : _≡_ {A = ℕ} 0 1 = cc in omega arith
@@ -95,7 +95,7 @@ tender-no-bid (k ∷ s ∷ e ∷ []) b h =
     let z : _≡_ {A = ℕ} 0 1 = cc in omega arith
 tender-no-bid (k ∷ s ∷ e ∷ x ∷ ws) b h = let z : _≡_ {A = ℕ} 0 1 = cc in omega arith
 
-bid-long : (ws : List (List ℕ)) (b : Bid) → bidOf ws ≡ some (bid b) → 6 * length (b .windows) ≤ bytesOf ws
+bid-long : (ws : List (List ℕ)) (b : BidLine) → bidOf ws ≡ some (bid b) → 6 * length (b .windows) ≤ bytesOf ws
 unfolding bidOf bytesOf
 bid-long [] b h = let z : _≡_ {A = ℕ} 0 1 = cc in absurd (omega arith)
 bid-long (n ∷ []) b h = let z : _≡_ {A = ℕ} 0 1 = cc in absurd (omega arith)
@@ -103,17 +103,17 @@ bid-long (n ∷ p ∷ ws) b h =
     let y = then-some (numeralOf n) _ (bid b) h in
     let v = then-some (priceOf p) _ (bid b) (y .2) in
     let l = then-some (windowsIn ws) _ (bid b) (v .2) in
-    let q : _≡_ {A = Bid} (record { bidder = y .0; price = v .0; windows = l .0 }) b = cc (l .2) in
-    omega (arith, windows-long ws (l .0) (l .1), ap (λ (c : Bid). length (c .windows)) q)
+    let q : _≡_ {A = BidLine} (record { bidder = y .0; price = v .0; windows = l .0 }) b = cc (l .2) in
+    omega (arith, windows-long ws (l .0) (l .1), ap (λ (c : BidLine). length (c .windows)) q)
 
 -- the windows of a bid's line
-pub line-windows : (line : List ℕ) (b : Bid) → lineOf line ≡ some (bid b) → 6 * length (b .windows) ≤ length line + 1
+pub line-windows : (line : List ℕ) (b : BidLine) → lineOf line ≡ some (bid b) → 6 * length (b .windows) ≤ length line + 1
 unfolding lineOf lineOfWords bytesOf
 line-windows line b h = omega (arith, go (cut 32 line) h, cut-bytes 32 line)
   where
     go : (ws : List (List ℕ)) → lineOfWords ws ≡ some (bid b) → 6 * length (b .windows) ≤ bytesOf ws
     go [] e = let z : _≡_ {A = ℕ} 0 1 = cc in absurd (omega arith)
-    go (w ∷ ws) e = first (same w (40 ∷ tenderWord)) (same w (40 ∷ bidWord)) e
+    go (w ∷ ws) e = first (sameBytes w (40 ∷ tenderWord)) (sameBytes w (40 ∷ bidWord)) e
       where
         first : (x y : Bool) → cond x (tenderOf ws) (cond y (bidOf ws) none) ≡ some (bid b) → 6 * length (b .windows) ≤ bytesOf (w ∷ ws)
         first true y q = absurd (tender-no-bid ws b q)

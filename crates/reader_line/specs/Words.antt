@@ -16,22 +16,22 @@ unfoldable pub among : ℕ → List ℕ → Bool
 among n [] = false
 among n (m ∷ ms) = eqb m n || among n ms
 
-unfoldable pub grow : ℕ → List (List ℕ) → List (List ℕ)
-grow b [] = (b ∷ []) ∷ []
-grow b (p ∷ ps) = (b ∷ p) ∷ ps
+unfoldable pub growFirst : ℕ → List (List ℕ) → List (List ℕ)
+growFirst b [] = (b ∷ []) ∷ []
+growFirst b (p ∷ ps) = (b ∷ p) ∷ ps
 
 -- the pieces of s before, between and after its bytes d
 unfoldable pub cut : ℕ → List ℕ → List (List ℕ)
-unfolding grow
+unfolding growFirst
 cut d [] = [] ∷ []
-cut d (b ∷ s) = let ps = cut d s in let new = [] ∷ ps in let more = grow b ps in cond (eqb b d) new more
+cut d (b ∷ s) = let ps = cut d s in let new = [] ∷ ps in let more = growFirst b ps in cond (eqb b d) new more
 
 -- the two words have the same bytes
-unfoldable pub same : List ℕ → List ℕ → Bool
-same [] [] = true
-same [] (b ∷ t) = false
-same (a ∷ s) [] = false
-same (a ∷ s) (b ∷ t) = let more = same s t in cond (eqb a b) more false
+unfoldable pub sameBytes : List ℕ → List ℕ → Bool
+sameBytes [] [] = true
+sameBytes [] (b ∷ t) = false
+sameBytes (a ∷ s) [] = false
+sameBytes (a ∷ s) (b ∷ t) = let more = sameBytes s t in cond (eqb a b) more false
 
 -- what stands after an opening bracket
 unfoldable pub opened : List ℕ → Option (List ℕ)

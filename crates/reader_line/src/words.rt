@@ -3,7 +3,7 @@ ghost use mathlib.Core.Path.{_≡_};
 ghost use Prim.Native.Nat.{_+_, _≤_, _<_};
 ghost use lib.ListN.{drop, length};
 ghost use Rattle.tender.specs.Limits.{within};
-ghost use Rattle.reader_line.specs.Words.{same as sameWords, digits, numeralOf, priceOf};
+ghost use Rattle.reader_line.specs.Words.{sameBytes as sameWords, digits, numeralOf, priceOf};
 ghost use Rattle.reader_line.specs.Scan.{toNext};
 ghost use Rattle.reader_line.specs.Answer.{asNumber, EndsAt};
 

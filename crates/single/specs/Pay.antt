@@ -12,7 +12,7 @@ use Rattle.cover.specs.Sets.{when, valueOf, bit, cost, covers}
 use Rattle.cover.specs.LeastCover.{winners, payment, vcgPaid}
 use Rattle.cover.specs.CriticalPrice.{sum}
 use Rattle.cover.specs.Settled.{spans, Settled}
-use Rattle.cover.specs.SettledLaws.{Written, listed-of, listed-at, cost-sum, sumTo, sum-listed, sum-same}
+use Rattle.cover.specs.SettledLaws.{FilledTo, listed-of, listed-at, cost-sum, sumTo, sum-listed, sum-same}
 use Rattle.cover.specs.IntervalBids.{Bids, costWithout}
 use Rattle.cover.specs.IntervalBidsLaws.{paid-of, without-most}
 use Rattle.single_select.specs.Turn.{Selected}
@@ -21,9 +21,9 @@ unfoldable pub winnersOf : List ℕ → List ℕ → List ℕ → ℕ → ℕ
 unfolding winners covers spans
 winnersOf a b ps L = winners (covers (spans a b) (length ps) L) ps
 
-unfoldable pub paidOf : List ℕ → List ℕ → List ℕ → ℕ → ℕ → ℕ
+unfoldable pub vcgPaidOf : List ℕ → List ℕ → List ℕ → ℕ → ℕ → ℕ
 unfolding vcgPaid covers spans
-paidOf a b ps L i = vcgPaid (covers (spans a b) (length ps) L) ps i
+vcgPaidOf a b ps L i = vcgPaid (covers (spans a b) (length ps) L) ps i
 
 -- the bids at the positions below q are paid
 pub record PaidTo (f : ℕ → ℕ) (order old new : List ℕ) (n q : ℕ) : Type 0 where
@@ -52,7 +52,7 @@ paid-more f order old new n q v l fit e h = record {
 
 -- all of them
 pub paid-all : (f : ℕ → ℕ) (a b ps order old new : List ℕ) → Bids a b ps order → length new ≡ length old → (q : ℕ) → q ≡ length ps
-    → PaidTo f order old new (length ps) q → Written f old new (length ps)
+    → PaidTo f order old new (length ps) q → FilledTo f old new (length ps)
 paid-all f a b ps order old new h e q z g = record {
   sized = e;
   values = λ i l. let y = h .sorted .every i l in rw (y .is) at (g .paid (y .place) (omega (arith, y .inside)));
@@ -60,8 +60,8 @@ paid-all f a b ps order old new h e q z g = record {
 }
 
 -- a loser is paid nothing
-pub pays-none : (a b ps : List ℕ) (L i on : ℕ) → on ≡ when (bit (winnersOf a b ps L) i) 1 → on ≡ 0 → 0 ≡ paidOf a b ps L i
-unfolding paidOf winnersOf payment
+pub pays-none : (a b ps : List ℕ) (L i on : ℕ) → on ≡ when (bit (winnersOf a b ps L) i) 1 → on ≡ 0 → 0 ≡ vcgPaidOf a b ps L i
+unfolding vcgPaidOf winnersOf payment
 pays-none a b ps L i on e z = go (bit (winners (covers (spans a b) (length ps) L) ps) i) refl ∙ sym (paid-of i a b ps L)
   where
     go : (t : Bool) → bit (winners (covers (spans a b) (length ps) L) ps) i ≡ t
@@ -83,12 +83,12 @@ wins-bit a b ps L i on e z = go (bit (winners (covers (spans a b) (length ps) L)
 -- a winner is paid the least cost without it, less what the others cost
 pub pays-some : (a b ps : List ℕ) (L i on rest all : ℕ) → on ≡ when (bit (winnersOf a b ps L) i) 1 → (on ≡ 0 → ⊥)
     → rest ≡ valueOf (costWithout i a b ps L) → all ≡ cost ps (winnersOf a b ps L)
-    → rest - (all - getD ps i 0) ≡ paidOf a b ps L i
-unfolding paidOf winnersOf payment
+    → rest - (all - getD ps i 0) ≡ vcgPaidOf a b ps L i
+unfolding vcgPaidOf winnersOf payment
 pays-some a b ps L i on rest all e z d q = sym (paid-of i a b ps L ∙ rw (wins-bit a b ps L i on e z, d, q))
 
-pub pays-most : (a b ps : List ℕ) (L i : ℕ) → paidOf a b ps L i ≤ sum ps
-unfolding paidOf payment
+pub pays-most : (a b ps : List ℕ) (L i : ℕ) → vcgPaidOf a b ps L i ≤ sum ps
+unfolding vcgPaidOf payment
 pays-most a b ps L i = rw (paid-of i a b ps L) (go (bit (winners (covers (spans a b) (length ps) L) ps) i))
   where
     go : (t : Bool) → payment t (valueOf (costWithout i a b ps L)) (cost ps (winners (covers (spans a b) (length ps) L) ps)) (getD ps i 0)
@@ -110,13 +110,13 @@ unfolding winnersOf
 selected-all a b ps costs old-won new-won L all s = s .all-is
 
 -- THE AWARD
-pub settled : (a b ps old-won new-won costs old-cents new-cents : List ℕ) (L all paid : ℕ) → length ps ≤ length old-cents
-    → Selected a b ps costs old-won new-won L all → Written (paidOf a b ps L) old-cents new-cents (length ps)
+pub award-settled : (a b ps old-won new-won costs old-cents new-cents : List ℕ) (L all paid : ℕ) → length ps ≤ length old-cents
+    → Selected a b ps costs old-won new-won L all → FilledTo (vcgPaidOf a b ps L) old-cents new-cents (length ps)
     → paid ≡ sumTo (λ i. getD new-cents i 0) (length ps)
     → Settled (λ i. bit (winners (covers (spans a b) (length ps) L) ps) i) (vcgPaid (covers (spans a b) (length ps) L) ps) ps old-won
     old-cents new-won new-cents all paid
-unfolding paidOf
-settled a b ps old-won new-won costs old-cents new-cents L all paid l s w e = record {
+unfolding vcgPaidOf
+award-settled a b ps old-won new-won costs old-cents new-cents L all paid l s w e = record {
   flags = s .flags;
   payments = listed-of (length ps) (vcgPaid (covers (spans a b) (length ps) L) ps) old-cents new-cents l w;
   cost-is = s .all-is ∙ cost-sum ps (winners (covers (spans a b) (length ps) L) ps);

@@ -8,10 +8,10 @@ ghost use Rattle.cover.specs.Sets.{when, bit, cost, covers};
 ghost use Rattle.cover.specs.LeastCover.{winners, vcgPaid};
 ghost use Rattle.cover.specs.CriticalPrice.{sum};
 ghost use Rattle.cover.specs.Settled.{spans, Settled};
-ghost use Rattle.cover.specs.SettledLaws.{Written, sumTo};
+ghost use Rattle.cover.specs.SettledLaws.{FilledTo, sumTo};
 ghost use Rattle.cover.specs.IntervalBids.{Bids};
 ghost use Rattle.single_costs.specs.Across.{Before, After, Waiting};
-ghost use Rattle.single.specs.Pay.{winnersOf, paidOf};
+ghost use Rattle.single.specs.Pay.{winnersOf, vcgPaidOf};
 
 // The difference, 0 where `y` is more.
 fn less(x: u64, y: u64) -> u64
@@ -56,7 +56,7 @@ fn pay(
     requires { ⌜ ((i : ℕ) → i < length (now prices) → (getD (now starts) i 0 ≤ getD (now ends) i 0) × (getD (now ends) i 0 ≤ cells)) ⌝ }
     requires { ⌜ Before (now starts) (now ends) (now prices) (now before) × After (now starts) (now ends) (now prices) cells (now after) ⌝ }
     requires { ⌜ Waiting (now starts) (now ends) (now prices) (now order) (now live) q m ⌝ }
-    ensures { λ z. ⌜ z .cents ≡ paidOf (now (starts .entry)) (now (ends .entry)) (now (prices .entry)) cells
+    ensures { λ z. ⌜ z .cents ≡ vcgPaidOf (now (starts .entry)) (now (ends .entry)) (now (prices .entry)) cells
         (getD (now (order .entry)) q 0) ⌝ }
     ensures { λ z. ⌜ Waiting (now (starts .entry)) (now (ends .entry)) (now (prices .entry)) (now (order .entry)) (now (live .exit)) q
         (z .live) ⌝ }
@@ -113,7 +113,7 @@ fn pay_each(
         → getD (now won) i 0 ≡ when (bit (winnersOf (now starts) (now ends) (now prices) cells) i) 1) ⌝ }
     requires { ⌜ ((i : ℕ) → i < length (now prices) → (getD (now starts) i 0 ≤ getD (now ends) i 0) × (getD (now ends) i 0 ≤ cells)) ⌝ }
     requires { ⌜ Before (now starts) (now ends) (now prices) (now before) × After (now starts) (now ends) (now prices) cells (now after) ⌝ }
-    ensures { λ z. ⌜ Written (paidOf (now (starts .entry)) (now (ends .entry)) (now (prices .entry)) cells) (now (cents .entry))
+    ensures { λ z. ⌜ FilledTo (vcgPaidOf (now (starts .entry)) (now (ends .entry)) (now (prices .entry)) cells) (now (cents .entry))
         (now (cents .exit)) (length (now (prices .entry))) ⌝ }
 {
     let n = prices.len();
@@ -181,7 +181,7 @@ fn payments(
         → getD (now won) i 0 ≡ when (bit (winnersOf (now starts) (now ends) (now prices) cells) i) 1) ⌝ }
     requires { ⌜ ((i : ℕ) → i < length (now prices) → (getD (now starts) i 0 ≤ getD (now ends) i 0) × (getD (now ends) i 0 ≤ cells)) ⌝ }
     requires { ⌜ Before (now starts) (now ends) (now prices) (now before) ⌝ }
-    ensures { λ z. ⌜ Written (paidOf (now (starts .entry)) (now (ends .entry)) (now (prices .entry)) cells) (now (cents .entry))
+    ensures { λ z. ⌜ FilledTo (vcgPaidOf (now (starts .entry)) (now (ends .entry)) (now (prices .entry)) cells) (now (cents .entry))
         (now (cents .exit)) (length (now (prices .entry))) ⌝ }
 {
     // ones, not zeros: the compiler writes these in wide stores

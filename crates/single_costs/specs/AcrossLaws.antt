@@ -13,7 +13,7 @@ use Rattle.cover.specs.LeastCover.{winners}
 use Rattle.cover.specs.LeastCoverLaws.{IsFirst}
 use Rattle.cover.specs.CriticalPrice.{sum}
 use Rattle.cover.specs.Settled.{spans}
-use Rattle.cover.specs.Intervals.{scanCost, lesserCost, reaches, raise, across, costOf, leastSet, At, coversFrom}
+use Rattle.cover.specs.Intervals.{scanCost, lesserCost, reaches, raise, across, foundCost, leastSet, At, coversFrom}
 use Rattle.cover.specs.IntervalScan.{none-found, found-one}
 use Rattle.cover.specs.IntervalPrefix.{lacks, leastSet-right}
 use Rattle.cover.specs.IntervalCover.{priced, bit-none}
@@ -230,11 +230,11 @@ before-small k a b ps v i l e n = go (eqb i k) (costWithout k a b ps (getD a i 0
 
 pub after-small : (a b ps : List ℕ) (L v i : ℕ) → costIn v ≡ raise (getD ps i 0) (costAfter a b ps L i) → (v ≡ noCost → ⊥)
     → (getD ps i 0 ≤ v) × (v ≤ sum ps + getD ps i 0)
-unfolding costAfter raise costOf
+unfolding costAfter raise foundCost
 after-small a b ps L v i e n = go (leastSet (coversFrom (λ x. x) (getD b i 0) (spans a b) (length ps)) (cost ps) (length ps) L)
     (sym e ∙ cost-found v n)
   where
-    go : (r : Found) → raise (getD ps i 0) (costOf (cost ps) r) ≡ found v → (getD ps i 0 ≤ v) × (v ≤ sum ps + getD ps i 0)
+    go : (r : Found) → raise (getD ps i 0) (foundCost (cost ps) r) ≡ found v → (getD ps i 0 ≤ v) × (v ≤ sum ps + getD ps i 0)
     go nothing d = absurd (none-found d)
     go (found s) d = (omega (arith, found-one d), omega (arith, found-one d, cost-most ps s))
 

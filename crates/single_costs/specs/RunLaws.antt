@@ -10,7 +10,7 @@ use lib.Seq.{getD-set-same, getD-set-other}
 use borrow.Author.Tests.{ltb-true, lt-ltb, le-ltb, eqb-true, eqb-false, eq-eqb, ne-eqb}
 use Rattle.cover.specs.Sets.{nothing, found, cost}
 use Rattle.cover.specs.CriticalPrice.{sum}
-use Rattle.cover.specs.Intervals.{scanCost, lesserCost, reaches, raise, others}
+use Rattle.cover.specs.Intervals.{scanCost, lesserCost, reaches, raise, mayBut}
 use Rattle.cover.specs.IntervalScan.{none-found}
 use Rattle.cover.specs.IntervalPrefix.{ready}
 use Rattle.cover.specs.IntervalCover.{priced}
@@ -100,13 +100,13 @@ module _ (k : ℕ) (a b ps order costs live : List ℕ) (h : Bids a b ps order) 
 
   least-lasts : (t r u : ℕ) → (r ≡ length ps → ⊥) → Seen a b live costs (length ps) t m r → t ≤ u → u ≤ getD b r 0
       → costIn (getD costs r 0) ≡ costWithout k a b ps t → costIn (getD costs r 0) ≡ costWithout k a b ps u
-  unfolding costWithout others
+  unfolding costWithout mayBut
   least-lasts t r u d s l e w =
       let p = s .found-at d in
       let o : r < length ps = rw (p .at .is) at (live-below (p .at .place) (p .at .inside)) in
       let v : costIn (getD costs r 0) ≡ endCost k a b ps r = g .values r (p .at) in
       let f = end-found k a b ps r (getD costs r 0) (sym v ∙ cost-found (getD costs r 0) (λ z. d (s .priced z))) in
-      w ∙ stays-cost (length ps) 0 u (λ i. getD a i 0) (λ i. getD b i 0) (λ i. getD ps i 0) (cost ps) (others k anyBid)
+      w ∙ stays-cost (length ps) 0 u (λ i. getD a i 0) (λ i. getD b i 0) (λ i. getD ps i 0) (cost ps) (mayBut k anyBid)
       (othersBelow k a b (length ps)) (prefixes-without k a b ps u) (priced ps)
       r t u o (rw (f .0)) (p .begins) l e (omega arith) (sym w ∙ v ∙ f .1)
 

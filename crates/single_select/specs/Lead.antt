@@ -6,7 +6,7 @@ use Prim.Native.Nat.{ℕ, _≤_, _<_}
 use lib.Dec.{eqb}
 use lib.ListN.{length, getD}
 use Rattle.cover.specs.Sets.{Found, cost}
-use Rattle.cover.specs.Intervals.{scan, reaches, plus, costOf}
+use Rattle.cover.specs.Intervals.{scan, reaches, plus, foundCost}
 use Rattle.cover.specs.IntervalBids.{anyBid, leastBelow}
 use Rattle.single_select.specs.Costs.{noCost, costIn}
 use Rattle.single_select.specs.Rows.{row, weigh, weight, Honest}
@@ -59,7 +59,7 @@ pub record Leads (a b ps sets : List ℕ) (at r c end : ℕ) : Type 0 where
   pub within : r ≤ length ps
   pub past : (r ≡ length ps → ⊥) → getD a r 0 < at
   pub none : c ≡ noCost → r ≡ length ps
-  pub honest : costIn c ≡ costOf (cost ps) (weigh c (row sets r))
+  pub honest : costIn c ≡ foundCost (cost ps) (weigh c (row sets r))
   pub lasts : (t : ℕ) → at ≤ t → t ≤ end → weigh c (row sets r) ≡ leastBelow a b ps t
 
 -- the bids at the positions below k are done, and the lead is known from `at` on

@@ -9,7 +9,7 @@ use lib.ListN.{length, getD}
 use borrow.Author.Tests.{ltb-true, leb-true, eqb-true, eqb-false, eq-eqb, ne-eqb}
 use Rattle.cover.specs.Sets.{found, cost}
 use Rattle.cover.specs.SetLaws.{and-split}
-use Rattle.cover.specs.Intervals.{scan, reaches, costOf, lesser}
+use Rattle.cover.specs.Intervals.{scan, reaches, foundCost, lesser}
 use Rattle.cover.specs.IntervalPrefix.{scan-leastSet}
 use Rattle.cover.specs.IntervalCover.{priced}
 use Rattle.cover.specs.IntervalStays.{stays}
@@ -27,7 +27,7 @@ below-none : (x y : ℕ) → ltb x y ≡ true → y ≡ 0 → ⊥
 below-none x y e z = omega (arith, ltb-true x y e)
 
 pub seen-none : (a b xs costs sets : List ℕ) (n t m : ℕ) → getD costs n 0 ≡ noCost → Seen a b xs costs sets n t m 0 n
-unfolding leastOf weight weigh scan costIn costOf
+unfolding leastOf weight weigh scan costIn foundCost
 seen-none a b xs costs sets n t m e = record {
   within = omega arith;
   found-at = λ d. absurd (d refl);
@@ -155,7 +155,7 @@ module _ (a b ps order costs sets : List ℕ) (h : Bids a b ps order) (k : ℕ) 
       (sym q ∙ done-on r y .is)
 
 pub leads-none : (a b ps sets : List ℕ) → row sets (length ps) ≡ 0 → Leads a b ps sets 0 (length ps) 0 0
-unfolding weigh costIn costOf
+unfolding weigh costIn foundCost
 leads-none a b ps sets e = record {
   within = omega arith;
   past = λ d. absurd (d refl);
@@ -210,9 +210,9 @@ led-ready a b ps order costs sets h old live k t m r c end r′ c′ end′ m′
     least : weight costs sets r′ ≡ leastBelow a b ps t
     least = seen-least a b ps order costs sets h k fit (g .done) old m (g .at) t r′ (omega arith) l (g .reach) all (v .seen)
 
-    honest : costIn (getD costs r′ 0) ≡ costOf (cost ps) (weigh (getD costs r′ 0) (row sets r′))
+    honest : costIn (getD costs r′ 0) ≡ foundCost (cost ps) (weigh (getD costs r′ 0) (row sets r′))
     honest = v .seen .honest (cost ps) (λ j x. done-on a b ps order costs sets h k fit (g .done) (getD old j 0)
-        (g .reach .inside j x) .honest) ∙ ap (costOf (cost ps)) (sym (weigh-weight costs sets r′ (getD costs r′ 0) refl))
+        (g .reach .inside j x) .honest) ∙ ap (foundCost (cost ps)) (sym (weigh-weight costs sets r′ (getD costs r′ 0) refl))
 
     go : (s : Bool) → eqb r′ (length ps) ≡ s → (u : ℕ) → t ≤ u → u ≤ end′ → weight costs sets r′ ≡ leastBelow a b ps u
     go true e u x y = absurd (omega (arith, v .end-is, end-none b (length ps) r′ (eqb-true r′ (length ps) e)))

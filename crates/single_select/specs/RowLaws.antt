@@ -11,7 +11,7 @@ use lib.Seq.{getD-set-same, getD-set-other}
 use borrow.Author.Tests.{eqb-true, eqb-false, lt-ltb, le-ltb, le-leb, lt-leb, eq-eqb, ne-eqb}
 use Rattle.cover.specs.Sets.{Found, nothing, found, bit, when}
 use Rattle.cover.specs.SetMembers.{add-below}
-use Rattle.cover.specs.Intervals.{costOf, lesser, earlier}
+use Rattle.cover.specs.Intervals.{foundCost, lesser, earlier}
 use Rattle.cover.specs.IntervalScan.{found-one}
 use Rattle.single_select.specs.Costs.{noCost, costIn}
 use Rattle.single_select.specs.Rows.{number, row, Off, weigh, weight, Honest, before?, prefer, reached, Extended}
@@ -263,10 +263,10 @@ upper-none xs q r = refl
 -- weights
 
 -- the test that the code makes: by cost, and then by the sets' order
-weigh-lesser : (cost : ℕ → ℕ) (c d s u : ℕ) → c ≤ noCost → d ≤ noCost → costIn c ≡ costOf cost (weigh c s)
-    → costIn d ≡ costOf cost (weigh d u)
+weigh-lesser : (cost : ℕ → ℕ) (c d s u : ℕ) → c ≤ noCost → d ≤ noCost → costIn c ≡ foundCost cost (weigh c s)
+    → costIn d ≡ foundCost cost (weigh d u)
     → lesser cost (weigh c s) (weigh d u) ≡ cond (ltb c d || (eqb c d && ltb s u)) (weigh c s) (weigh d u)
-unfolding weigh lesser costOf costIn earlier
+unfolding weigh lesser foundCost costIn earlier
 weigh-lesser cost c d s u f g e h = go (eqb c noCost) (eqb d noCost) refl refl e h
   where
     same : (t : Bool) (r : Found) → r ≡ cond t r r
@@ -274,8 +274,8 @@ weigh-lesser cost c d s u f g e h = go (eqb c noCost) (eqb d noCost) refl refl e
     same false r = refl
 
     go : (x y : Bool) → eqb c noCost ≡ x → eqb d noCost ≡ y
-        → cond x nothing (found c) ≡ costOf cost (cond x nothing (found s))
-        → cond y nothing (found d) ≡ costOf cost (cond y nothing (found u))
+        → cond x nothing (found c) ≡ foundCost cost (cond x nothing (found s))
+        → cond y nothing (found d) ≡ foundCost cost (cond y nothing (found u))
         → lesser cost (cond x nothing (found s)) (cond y nothing (found u))
         ≡ cond (ltb c d || (eqb c d && ltb s u)) (cond x nothing (found s)) (cond y nothing (found u))
     go true true x y e h = same (ltb c d || (eqb c d && ltb s u)) nothing

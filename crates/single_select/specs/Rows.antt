@@ -6,7 +6,7 @@ use Prim.Native.Nat.{ℕ, zero, suc, _+_, _*_, _≤_, _<_}
 use lib.Dec.{ltb, leb, eqb}
 use lib.ListN.{length, getD}
 use Rattle.cover.specs.Sets.{Found, nothing, found}
-use Rattle.cover.specs.Intervals.{costOf}
+use Rattle.cover.specs.Intervals.{foundCost}
 use Rattle.single_select.specs.Costs.{noCost, costIn}
 
 -- the number of m words, word j of which is f j
@@ -33,7 +33,7 @@ weight costs sets q = weigh (getD costs q 0) (row sets q)
 
 -- the cost is that of the row
 abbrev pub Honest : (ℕ → ℕ) → List ℕ → List ℕ → ℕ → Type 0
-Honest cost costs sets q = costIn (getD costs q 0) ≡ costOf cost (weight costs sets q)
+Honest cost costs sets q = costIn (getD costs q 0) ≡ foundCost cost (weight costs sets q)
 
 -- bid q is before bid r: it costs less, or as much and its set stands in a tie
 unfoldable pub before? : List ℕ → List ℕ → ℕ → ℕ → Bool

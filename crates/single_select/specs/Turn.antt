@@ -12,7 +12,7 @@ use Rattle.cover.specs.Sets.{nothing, found, valueOf, bit, cost, covers, when}
 use Rattle.cover.specs.LeastCover.{winners}
 use Rattle.cover.specs.CriticalPrice.{sum}
 use Rattle.cover.specs.Settled.{spans, listed}
-use Rattle.cover.specs.Intervals.{plus, costOf, raise}
+use Rattle.cover.specs.Intervals.{plus, foundCost, raise}
 use Rattle.cover.specs.IntervalPrefix.{leastSet-right, lacks, cost-plus, ready}
 use Rattle.cover.specs.IntervalCover.{priced, bit-none}
 use Rattle.cover.specs.IntervalBids.{anyBid, Bids, coversBelow, leastBelow, costBelow}
@@ -33,16 +33,16 @@ weigh-none : (c s : ℕ) → c ≡ noCost → weigh c s ≡ nothing
 unfolding weigh
 weigh-none c s e = rw (eq-eqb c noCost e)
 
-plus-costs : (a b ps : List ℕ) (i : ℕ) → i < length ps → costOf (cost ps) (plus i (leastBelow a b ps (getD a i 0)))
-    ≡ raise (getD ps i 0) (costOf (cost ps) (leastBelow a b ps (getD a i 0)))
+plus-costs : (a b ps : List ℕ) (i : ℕ) → i < length ps → foundCost (cost ps) (plus i (leastBelow a b ps (getD a i 0)))
+    ≡ raise (getD ps i 0) (foundCost (cost ps) (leastBelow a b ps (getD a i 0)))
 unfolding leastBelow
 plus-costs a b ps i l = cost-plus (length ps) 0 (getD a i 0) (λ i. getD a i 0) (λ i. getD b i 0) (λ i. getD ps i 0) (cost ps) anyBid
     (coversBelow a b (length ps)) (prefixes a b ps (getD a i 0)) (priced ps) i l (omega arith)
 
 module _ (a b ps order sets live : List ℕ) (k t m r c end : ℕ) (empty : row sets (length ps) ≡ 0)
     (g : Ready a b ps order sets live k t m r c end) where
-  cost-now : costIn c ≡ costOf (cost ps) (leastBelow a b ps t)
-  cost-now = g .lead .honest ∙ ap (costOf (cost ps)) (g .now)
+  cost-now : costIn c ≡ foundCost (cost ps) (leastBelow a b ps t)
+  cost-now = g .lead .honest ∙ ap (foundCost (cost ps)) (g .now)
 
   -- a bid that begins at t is not in the leading set, so its word has room
   pub lead-lacks : (i : ℕ) → i < length ps → getD a i 0 ≡ t → bit (row sets r) i ≡ false
@@ -63,7 +63,7 @@ module _ (a b ps order sets live : List ℕ) (k t m r c end : ℕ) (empty : row 
   lead-fits i l z rich n = omega (
     arith,
     fits a b ps i c l
-        (ap (λ u. costOf (cost ps) (leastBelow a b ps u)) z ∙ sym cost-now ∙ cost-found c n),
+        (ap (λ u. foundCost (cost ps) (leastBelow a b ps u)) z ∙ sym cost-now ∙ cost-found c n),
   )
 
   -- no bid that begins at t is in the leading row
@@ -90,14 +90,14 @@ module _ (a b ps order sets live : List ℕ) (k t m r c end : ℕ) (empty : row 
     done-here = record {
       is = is;
       honest = ap costIn (getD-set-same costs i v 0 (omega arith)) ∙ cost-raised c (getD ps i 0) (lead-fits i l z rich)
-          ∙ ap (raise (getD ps i 0)) cost-now ∙ sym plus-cost ∙ ap (costOf (cost ps)) (sym is);
+          ∙ ap (raise (getD ps i 0)) cost-now ∙ sym plus-cost ∙ ap (foundCost (cost ps)) (sym is);
     }
       where
         is : weigh (getD (set costs i v) i 0) (row new i) ≡ plus i (leastBelow a b ps (getD a i 0))
         is = rw (getD-set-same costs i v 0 (omega arith), x .is, z) heavy
 
-        plus-cost : costOf (cost ps) (plus i (leastBelow a b ps (getD a i 0)))
-            ≡ raise (getD ps i 0) (costOf (cost ps) (leastBelow a b ps t))
+        plus-cost : foundCost (cost ps) (plus i (leastBelow a b ps (getD a i 0)))
+            ≡ raise (getD ps i 0) (foundCost (cost ps) (leastBelow a b ps t))
         plus-cost = plus-costs a b ps i l ∙ rw z
 
     done-other : (q : ℕ) → (q ≡ i → ⊥) → Done a b ps costs sets q → Done a b ps (set costs i v) new q
@@ -162,7 +162,7 @@ pub record Selected (a b ps costs old-won new-won : List ℕ) (L all : ℕ) : Ty
 pub done-cost : (a b ps costs sets : List ℕ) (i : ℕ) → i < length ps → Done a b ps costs sets i
     → costIn (getD costs i 0) ≡ raise (getD ps i 0) (costBelow a b ps (getD a i 0))
 unfolding costBelow
-done-cost a b ps costs sets i l d = d .honest ∙ ap (costOf (cost ps)) (d .is) ∙ plus-costs a b ps i l
+done-cost a b ps costs sets i l d = d .honest ∙ ap (foundCost (cost ps)) (d .is) ∙ plus-costs a b ps i l
 
 -- the winners stand in the leading row at the end
 pub lead-wins : (a b ps order sets live : List ℕ) (k L m r c end : ℕ) → row sets (length ps) ≡ 0
@@ -177,7 +177,7 @@ lead-wins a b ps order sets live k L m r c end empty g = go (eqb c noCost) refl 
 
 pub lead-all : (a b ps order sets live : List ℕ) (k L m r c end : ℕ) → row sets (length ps) ≡ 0
     → Ready a b ps order sets live k L m r c end → valueOf (costIn c) ≡ cost ps (winners (covers (spans a b) (length ps) L) ps)
-lead-all a b ps order sets live k L m r c end empty g = ap valueOf (g .lead .honest ∙ ap (costOf (cost ps)) (g .now))
+lead-all a b ps order sets live k L m r c end empty g = ap valueOf (g .lead .honest ∙ ap (foundCost (cost ps)) (g .now))
     ∙ sym (cost-value ps (leastBelow a b ps L)) ∙ ap (cost ps) (sym (winners-of a b ps L))
 
 -- every bid has its weight, and the set in row r, of cost c, is the least of all

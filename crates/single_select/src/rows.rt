@@ -5,7 +5,7 @@ ghost use Prim.Native.Nat.{_+_, _*_, _-_, _/_, _%_, _^_, _<_, _≤_};
 ghost use lib.ListN.{length};
 ghost use lib.Dec.{ltb};
 ghost use Rattle.cover.specs.Sets.{bit, when};
-ghost use Rattle.cover.specs.SettledLaws.{Written};
+ghost use Rattle.cover.specs.SettledLaws.{FilledTo};
 ghost use Rattle.single_select.specs.Rows.{row, prefer, Extended};
 ghost use Rattle.single_select.specs.RowLaws.{Copied};
 
@@ -92,7 +92,7 @@ pub(crate) fn clear(sets: &mut [u64], r: usize)
 // A flag for each bid of the set in row `r`.
 pub(crate) fn mark(sets: &[u64], r: usize, n: usize, won: &mut [u64])
     requires { ⌜ (r * 16 + 16 ≤ length (now sets)) × (n ≤ 1024) × (n ≤ length (now won)) ⌝ }
-    ensures { λ z. ⌜ Written (λ i. when (bit (row (now (sets .entry)) r) i) 1) (now (won .entry)) (now (won .exit)) n ⌝ }
+    ensures { λ z. ⌜ FilledTo (λ i. when (bit (row (now (sets .entry)) r) i) 1) (now (won .entry)) (now (won .exit)) n ⌝ }
 {
     let mut i = 0;
     while i < n {

@@ -8,54 +8,55 @@ use lib.Dec.{eqb}
 use Rattle.tender.specs.declared.Kind.{Kind}
 use Rattle.tender.specs.declared.Kind.the-variants.{Single, Multi}
 use Rattle.award_check.specs.Faults.{faultOf}
-use Rattle.award_plain.specs.Award.{Outcome, awardOf, number, place}
+use Rattle.award_plain.specs.Award.{Outcome, awardOf, outcomeNumber, outcomePlace}
 
 unfoldable pub refuses : ℕ → ℕ → Outcome → Bool
-unfolding number place
-refuses m p a = eqb (number a) m && eqb (place a) p
+unfolding outcomeNumber outcomePlace
+refuses m p a = eqb (outcomeNumber a) m && eqb (outcomePlace a) p
 
 -- an award of the kind k to a tender of the kind l from s to e, n bids stated and n award rows lent
 unfoldable pub try : Kind → Kind → ℕ → ℕ → ℕ → List ℕ → List ℕ → Outcome
 unfolding awardOf
 try k l s e n bids windows = awardOf k (record { kind = l; window = record { start = s; end = e } }) n bids windows n
 
-unfoldable pub row : ℕ → ℕ → ℕ → ℕ → List ℕ
-row b p f c = b ∷ p ∷ f ∷ c ∷ []
+unfoldable pub bidRow : ℕ → ℕ → ℕ → ℕ → List ℕ
+bidRow b p f c = b ∷ p ∷ f ∷ c ∷ []
 
-unfoldable pub all : List Bool → Bool
-all [] = true
-all (b ∷ bs) = b && all bs
+unfoldable pub allTrue : List Bool → Bool
+allTrue [] = true
+allTrue (b ∷ bs) = b && allTrue bs
 
-pub nine : all (
+pub nine : allTrue (
     -- the tender, the kind, the stated count
     refuses 9 0 (try Single Multi 0 10 0 [] []) ∷ refuses 9 0 (try Multi Single 0 10 0 [] [])
     ∷ refuses 9 0 (try Single Single 10 10 0 [] []) ∷ refuses 9 0 (try Single Single 0 10081 0 [] [])
     ∷ refuses 9 0 (try Single Single 0 10 1 [] []) ∷ refuses 9 0
-    (try Single Single 0 10 2 (row 1 5 0 1 ++ 2 ∷ 5 ∷ 1 ∷ []) (0 ∷ 10 ∷ 0 ∷ 10 ∷ []))
+    (try Single Single 0 10 2 (bidRow 1 5 0 1 ++ 2 ∷ 5 ∷ 1 ∷ []) (0 ∷ 10 ∷ 0 ∷ 10 ∷ []))
     -- the tender stands before a row
-    ∷ refuses 9 0 (try Single Single 10 10 1 (row 0 5 0 1) (0 ∷ 10 ∷ []))
+    ∷ refuses 9 0 (try Single Single 10 10 1 (bidRow 0 5 0 1) (0 ∷ 10 ∷ []))
     -- limits
-    ∷ refuses 9 1 (try Single Single 0 10 1 (row 0 5 0 1) (0 ∷ 10 ∷ []))
-    ∷ refuses 9 1 (try Single Single 0 10 1 (row 1000000 5 0 1) (0 ∷ 10 ∷ []))
-    ∷ refuses 9 1 (try Single Single 0 10 1 (row 1 100000001 0 1) (0 ∷ 10 ∷ []))
-    ∷ refuses 9 1 (try Single Single 0 10 1 (row 1 5 0 1) (10 ∷ 10 ∷ []))
-    ∷ refuses 9 1 (try Single Single 0 10 1 (row 1 5 0 1) (0 ∷ 10081 ∷ []))
+    ∷ refuses 9 1 (try Single Single 0 10 1 (bidRow 0 5 0 1) (0 ∷ 10 ∷ []))
+    ∷ refuses 9 1 (try Single Single 0 10 1 (bidRow 1000000 5 0 1) (0 ∷ 10 ∷ []))
+    ∷ refuses 9 1 (try Single Single 0 10 1 (bidRow 1 100000001 0 1) (0 ∷ 10 ∷ []))
+    ∷ refuses 9 1 (try Single Single 0 10 1 (bidRow 1 5 0 1) (10 ∷ 10 ∷ []))
+    ∷ refuses 9 1 (try Single Single 0 10 1 (bidRow 1 5 0 1) (0 ∷ 10081 ∷ []))
     -- number of windows
-    ∷ refuses 9 1 (try Single Single 0 10 1 (row 1 5 0 0) []) ∷ refuses 9 1 (try Single Single 0 10 1 (row 1 5 0 2) (0 ∷ 5 ∷ 5 ∷ 10 ∷ []))
+    ∷ refuses 9 1 (try Single Single 0 10 1 (bidRow 1 5 0 0) [])
+    ∷ refuses 9 1 (try Single Single 0 10 1 (bidRow 1 5 0 2) (0 ∷ 5 ∷ 5 ∷ 10 ∷ []))
     -- bidder number new, windows where the row before ended, inside the lent rows
-    ∷ refuses 9 2 (try Multi Multi 0 10 2 (row 1 5 0 1 ++ row 1 6 1 1) (0 ∷ 10 ∷ 0 ∷ 10 ∷ []))
-    ∷ refuses 9 2 (try Multi Multi 0 10 2 (row 1 5 0 1 ++ row 2 6 0 1) (0 ∷ 10 ∷ 0 ∷ 10 ∷ []))
-    ∷ refuses 9 1 (try Multi Multi 0 10 1 (row 1 5 1 1) (0 ∷ 10 ∷ 0 ∷ 10 ∷ []))
-    ∷ refuses 9 2 (try Multi Multi 0 10 2 (row 1 5 0 1 ++ row 2 6 1 1) (0 ∷ 10 ∷ 0 ∷ []))
+    ∷ refuses 9 2 (try Multi Multi 0 10 2 (bidRow 1 5 0 1 ++ bidRow 1 6 1 1) (0 ∷ 10 ∷ 0 ∷ 10 ∷ []))
+    ∷ refuses 9 2 (try Multi Multi 0 10 2 (bidRow 1 5 0 1 ++ bidRow 2 6 0 1) (0 ∷ 10 ∷ 0 ∷ 10 ∷ []))
+    ∷ refuses 9 1 (try Multi Multi 0 10 1 (bidRow 1 5 1 1) (0 ∷ 10 ∷ 0 ∷ 10 ∷ []))
+    ∷ refuses 9 2 (try Multi Multi 0 10 2 (bidRow 1 5 0 1 ++ bidRow 2 6 1 1) (0 ∷ 10 ∷ 0 ∷ []))
     -- rows past the stated count, and cells past the last whole row, say nothing
-    ∷ refuses 12 0 (try Multi Multi 0 10 1 (row 1 5 0 1 ++ row 0 0 0 0 ++ 7 ∷ []) (0 ∷ 10 ∷ 5 ∷ 5 ∷ 3 ∷ []))
+    ∷ refuses 12 0 (try Multi Multi 0 10 1 (bidRow 1 5 0 1 ++ bidRow 0 0 0 0 ++ 7 ∷ []) (0 ∷ 10 ∷ 5 ∷ 5 ∷ 3 ∷ []))
     ∷ []) ≡ true
-unfolding all refuses try row
+unfolding allTrue refuses try bidRow
 nine = refl
 
 unfoldable pub shortRows : Outcome
-unfolding awardOf row
-shortRows = awardOf Single (record { kind = Single; window = record { start = 0; end = 10 } }) 1 (row 1 5 0 1) (0 ∷ 5 ∷ []) 0
+unfolding awardOf bidRow
+shortRows = awardOf Single (record { kind = Single; window = record { start = 0; end = 10 } }) 1 (bidRow 1 5 0 1) (0 ∷ 5 ∷ []) 0
 
 -- 10 after 9 and before 11
 pub ten : refuses 10 0 shortRows ≡ true
@@ -67,16 +68,18 @@ unfoldable pub many : ℕ → ℕ → List ℕ
 many zero b = []
 many (suc n) b = (b + 1) ∷ 1 ∷ b ∷ 1 ∷ many n (b + 1)
 
-unfoldable pub same : ℕ → List ℕ
-same zero = []
-same (suc n) = 0 ∷ 10 ∷ same n
+unfoldable pub sameWindows : ℕ → List ℕ
+sameWindows zero = []
+sameWindows (suc n) = 0 ∷ 10 ∷ sameWindows n
 
 -- too many bids; a faulty row before stands
-pub too-many : faultOf Multi (record { kind = Multi; window = record { start = 0; end = 10 } }) 1001 (many 1001 0) (same 1001) ≡ some 1001
-unfolding faultOf many same
+pub too-many : faultOf Multi (record { kind = Multi; window = record { start = 0; end = 10 } }) 1001 (many 1001 0) (sameWindows 1001)
+    ≡ some 1001
+unfolding faultOf many sameWindows
 too-many = refl
 
-pub row-first : faultOf Multi (record { kind = Multi; window = record { start = 0; end = 10 } }) 1001 (many 3 0 ++ many 998 5) (same 1001)
+pub row-first : faultOf Multi (record { kind = Multi; window = record { start = 0; end = 10 } }) 1001 (many 3 0 ++ many 998 5)
+    (sameWindows 1001)
     ≡ some 4
-unfolding faultOf many same
+unfolding faultOf many sameWindows
 row-first = refl

@@ -7,7 +7,7 @@ use borrow.Author.Tests.{eqb-true}
 use Rattle.cover.specs.SetLaws.{and-split}
 use Rattle.tender.specs.declared.AwardRow.{AwardRow}
 use Rattle.award_plain.specs.Award.{Outcome, awarded, refused, awardOf}
-use Rattle.test_cases.specs.WorkedCases.{Case, tenderOf, countOf, cases}
+use Rattle.test_cases.specs.WorkedCases.{Case, caseTender, countOf, cases}
 
 unfoldable pub sameBool : Bool → Bool → Bool
 sameBool true b = b
@@ -29,8 +29,8 @@ sameOutcome (refused n m) (refused o l) = eqb n o && eqb m l
 
 -- the answer is the one defined
 unfoldable pub right : Case → Bool
-unfolding sameOutcome awardOf tenderOf countOf
-right c = sameOutcome (awardOf (c .kind) (tenderOf c) (countOf c) (c .bids) (c .windows) (countOf c)) (c .outcome)
+unfolding sameOutcome awardOf caseTender countOf
+right c = sameOutcome (awardOf (c .kind) (caseTender c) (countOf c) (c .bids) (c .windows) (countOf c)) (c .outcome)
 
 unfoldable pub allRight : List Case → Bool
 unfolding right
@@ -69,7 +69,7 @@ same-answer (refused n m) (refused o l) e =
 
 abbrev pub AllOutcome : List Case → Type 0
 AllOutcome [] = Unit {0}
-AllOutcome (c ∷ cs) = (awardOf (c .kind) (tenderOf c) (countOf c) (c .bids) (c .windows) (countOf c) ≡ c .outcome) × AllOutcome cs
+AllOutcome (c ∷ cs) = (awardOf (c .kind) (caseTender c) (countOf c) (c .bids) (c .windows) (countOf c) ≡ c .outcome) × AllOutcome cs
 
 all-answer : (cs : List Case) → allRight cs ≡ true → AllOutcome cs
 unfolding allRight right

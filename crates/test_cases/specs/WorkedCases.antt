@@ -18,8 +18,8 @@ pub record Case : Type 0 where
   pub windows : List ℕ
   pub outcome : Outcome
 
-unfoldable pub tenderOf : Case → Tender
-tenderOf c = record { kind = c .kind; window = record { start = c .start; end = c .end } }
+unfoldable pub caseTender : Case → Tender
+caseTender c = record { kind = c .kind; window = record { start = c .start; end = c .end } }
 
 unfoldable pub countOf : Case → ℕ
 countOf c = length (c .bids) / 4

@@ -57,7 +57,7 @@ use denote.Triple.Clauses.{ensured, lasts}
 use denote.Triple.Table.{entered, cited}
 use denote.Triple.Walked.{says, needs, Stays, stay-slice, stay-none, stay-none-slice, walkOf, AllGo, Walks, ends-at, walked, goes-slice}
 use denote.Triple.Walked.{goes-none, goes-none-slice, walk-meets}
-use Rattle.award.specs.Rows.{rowAt, filled, filled-rows, length-filled}
+use Rattle.award.specs.Rows.{awardRowAt, rowsFilled, filled-rows, length-filled}
 use Rattle.tender.specs.declared.AwardRow.{AwardRow}
 use Rattle.tender.proofs.AwardRow as T
 use Rattle.tender.proofs.AwardRow.Laws as T′
@@ -129,7 +129,7 @@ module _ {M : Type 1} (𝓤 : URA M) (H : Heap 𝓤) (A : Atoms 𝓤) (W : Given
   at = (sliceVal (b, o) (length ys) ∷ [], (sliceVal (b1, o1) (length ws) ∷ [], (sliceVal (b2, o2) (length cs) ∷ [], (vint w64 n ∷ [], tt))))
 
   abbrev fl : ℕ → List AwardRow
-  fl i = filled i ws cs ys
+  fl i = rowsFilled i ws cs ys
 
   -- what `row_of` is passed for row i
   abbrev cellsAt : ℕ → ℕ × (ℕ × Unit {0})
@@ -254,8 +254,8 @@ module _ {M : Type 1} (𝓤 : URA M) (H : Heap 𝓤) (A : Atoms 𝓤) (W : Given
         use1 W (later (some (λ (r : AwardRow). (‵ ftrue ⊛ ‵ (T.the-row .own r (v ∷ []))) ⊛ raw
         (ensured 𝓤 H A one.ended (one.clauses 𝓤 H A at-mem run) tt (cellsAt (i .0)) tt r)))) (id⊢ 𝓤 _) $ await ! tt $ pick ! (λ r.
         split ! $ move ! (1 ∷ []) $ use1 W (some (λ (us : Unit {0} × (Unit {0} × Unit {0})). ‵ (lasts one.ended tt (cellsAt (i .0)) us) ⊛
-        raw (fact 𝓤 (r ≡ rowAt ws cs (i .0))))) (id⊢ 𝓤 _) $ pick ! (λ us.
-        split ! $ drop ! $ heard ! (r ≡ rowAt ws cs (i .0))
+        raw (fact 𝓤 (r ≡ awardRowAt ws cs (i .0))))) (id⊢ 𝓤 _) $ pick ! (λ us.
+        split ! $ drop ! $ heard ! (r ≡ awardRowAt ws cs (i .0))
         (λ er. split ! $ drop ! $ peeks ! T.the-row (Is T.the-row) (shows 𝓤 H A T.the-row) r (v ∷ []) (λ isr. drop ! $
         land ! (from ! (stop !)) (init ! 21 refl (LL.lawful T.the-type T′.the-laws 𝓤 H A W .typed r _ isr .0)) $
         assigns ! (bin ! (load ! (from ! (stop !)) (look ! 25 refl)) (lit ! tt) (record { fits = far })) (from ! (stop !))
@@ -267,9 +267,10 @@ module _ {M : Type 1} (𝓤 : URA M) (H : Heap 𝓤) (A : Atoms 𝓤) (W : Given
         (fl (i .0)) (i .0) none b o in0 (λ _.
         assigns ! (of-opd ! (load ! (from ! (stop !)) (look ! 23 refl))) (from ! (hop ! (look ! 7 refl) (stop !)))
         (store-raw ! 0 refl (LL.lawful T.the-type T′.the-laws 𝓤 H A W .typed r _ isr .0)) $
-        move ! (1 ∷ []) $ drop ! $ owned ! T.the-row (Is T.the-row) (LL.makes T.the-type T′.the-plain 𝓤 H A) (rowAt ws cs (i .0)) (v ∷ [])
+        move ! (1 ∷ []) $ drop ! $ owned ! T.the-row (Is T.the-row) (LL.makes T.the-type T′.the-plain 𝓤 H A) (awardRowAt ws cs (i .0))
+        (v ∷ [])
         (subst (λ (d : AwardRow). Is T.the-row d (v ∷ [])) er isr) $ move ! (1 ∷ 0 ∷ []) $
-        elem-put ! T.the-row fullShare (fl (i .0)) (i .0) (rowAt ws cs (i .0)) (v ∷ []) b o in0 $
+        elem-put ! T.the-row fullShare (fl (i .0)) (i .0) (awardRowAt ws cs (i .0)) (v ∷ []) b o in0 $
         assigns-last ! (bin ! (load ! (from ! (stop !)) (look ! 25 refl)) (lit ! tt) (record { fits = next-fits })) (from ! (stop !))
         (store ! 25 refl (tt, record { fits = next-fits })) $
         forget ! 5 refl $ forget ! 7 refl $ forget ! 9 refl $ forget ! 11 refl $ forget ! 13 refl $ forget ! 15 refl $ forget ! 17 refl $

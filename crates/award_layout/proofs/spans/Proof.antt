@@ -4,7 +4,7 @@ use Prim.Native.Nat.{_+_, _*_, _-_, _≤_}
 use native.Mathlib.Omega.{arith}
 use lib.ListN.{length, getD, length-set}
 use Rattle.tender.specs.declared.Kind.the-variants.{Single}
-use Rattle.award_layout.specs.Orderly.{rowAt, clipped, Laid}
+use Rattle.award_layout.specs.Orderly.{bidRowAt, clipped, SpansLaid}
 use Rattle.award_layout.proofs.Laws.{filled-more, first-room}
 use Rattle.award_layout.proofs.spans.Statement.{statement}
 use Rattle.award_layout.proofs.spans.Tie as tie
@@ -14,7 +14,7 @@ use Rattle.award_layout.proofs.clip.Reads as clip-reads
 
 abbrev Inv-loop : tie.InvT-loop
 Inv-loop start cells bids windows starts₀ ends₀ i₀ starts ends i = (i ≤ length starts₀)
-    × ((length starts ≡ length starts₀) × ((length ends ≡ length ends₀) × Laid i start cells bids windows starts ends))
+    × ((length starts ≡ length starts₀) × ((length ends ≡ length ends₀) × SpansLaid i start cells bids windows starts ends))
 
 abbrev μ-loop : tie.MeasureT-loop
 μ-loop start cells bids windows starts₀ ends₀ i₀ starts ends i = length starts₀ - i
@@ -158,10 +158,10 @@ loop-again c =
           simp length-set (c6 .loop .inv .1 .1 .0),
           record {
             starts-are = filled-more (λ j. clipped (args .start) (args .cells)
-                (getD (args .windows .now) (2 * rowAt (args .bids .now) j .first) 0)) (c6 .loop .starts) (c6 .loop .i) (omega arith)
+                (getD (args .windows .now) (2 * bidRowAt (args .bids .now) j .first) 0)) (c6 .loop .starts) (c6 .loop .i) (omega arith)
                 (c6 .loop .inv .1 .1 .1 .starts-are) _ (c .before .before .clip .ensures);
             ends-are = filled-more (λ j. clipped (args .start) (args .cells)
-                (getD (args .windows .now) (2 * rowAt (args .bids .now) j .first + 1) 0)) (c6 .loop .ends) (c6 .loop .i)
+                (getD (args .windows .now) (2 * bidRowAt (args .bids .now) j .first + 1) 0)) (c6 .loop .ends) (c6 .loop .i)
                 (omega (arith, c6 .loop .inv .1 .1 .0, c11 .pre .1)) (c6 .loop .inv .1 .1 .1 .ends-are) _ (c .clip2 .ensures);
           },
         ),

@@ -5,7 +5,7 @@ use native.Mathlib.Omega.{arith}
 use Rattle.tender.specs.declared.Kind.{Kind}
 use Rattle.tender.specs.declared.Kind.the-variants.{Single, Multi}
 use Rattle.award_check.specs.Faults.{faultOf}
-use Rattle.award_check.specs.Checks.{faultIn}
+use Rattle.award_check.specs.Checks.{checkedFault}
 use Rattle.award_layout.specs.LayoutLaws.{orderly}
 use Rattle.award_plain.specs.PlainLaws.{nine, ten, lent-more}
 use borrow.Author.Needs.{needs}
@@ -28,7 +28,7 @@ returns c =
     let c8 = c .before .before .before .before .before .before .before .before in
     let args = c8 .args in
     nine (args .kind) (args .tender) (args .count) (args .bids .now) (args .windows .now) (args .lent) (args .won .now) (args .cents .now)
-    _ (sym (c .before .before .before .fault .ensures) ∙ ap faultIn (c .before .check .given .1))
+    _ (sym (c .before .before .before .fault .ensures) ∙ ap checkedFault (c .before .check .given .1))
 
 enum-told : tie.Need-enum-told
 enum-told c = search needs
@@ -38,7 +38,7 @@ returns-2 c =
     let c8 = c .before .before .before .before .before .before .before .before in
     let args = c8 .args in
     ten (args .kind) (args .tender) (args .count) (args .bids .now) (args .windows .now) (args .lent) (args .won .now) (args .cents .now)
-    (sym (c .before .before .before .fault .ensures) ∙ ap faultIn (c .before .enum-told .given .1)) (c .if1 .taken)
+    (sym (c .before .before .before .fault .ensures) ∙ ap checkedFault (c .before .enum-told .given .1)) (c .if1 .taken)
 
 enum-told-2 : tie.Need-enum-told-2
 enum-told-2 c = search needs
@@ -51,7 +51,7 @@ settle-single-requires c κs =
     let c12 = c7 .before .before .before .before .before in
     let args = c12 .args in
     let pre = c12 .pre in
-    let f = (sym (c7 .fault .ensures) ∙ ap faultIn (c5 .enum-told .given .1)) in
+    let f = (sym (c7 .fault .ensures) ∙ ap checkedFault (c5 .enum-told .given .1)) in
     let o = orderly (args .kind) (args .tender) (args .count) (args .bids .now) (args .windows .now) f in (
       subst (λ (k : Kind). faultOf k (args .tender) (args .count) (args .bids .now) (args .windows .now) ≡ none)
           (c .before .before .enum-told2 .given .1) f,
@@ -72,7 +72,7 @@ settle-multi-requires c κs =
     let c12 = c7 .before .before .before .before .before in
     let args = c12 .args in
     let pre = c12 .pre in
-    let f = (sym (c7 .fault .ensures) ∙ ap faultIn (c5 .enum-told .given .1)) in
+    let f = (sym (c7 .fault .ensures) ∙ ap checkedFault (c5 .enum-told .given .1)) in
     let o = orderly (args .kind) (args .tender) (args .count) (args .bids .now) (args .windows .now) f in (
       subst (λ (k : Kind). faultOf k (args .tender) (args .count) (args .bids .now) (args .windows .now) ≡ none)
           (c .before .before .enum-told3 .given .1) f,

@@ -3,7 +3,7 @@ use native.Mathlib.Omega.{arith}
 use Prim.Native.Nat.{_-_, _*_, _≤_}
 use mathlib.Core.Path.{_≡_, refl}
 use lib.ListN.{length, length-set}
-use Rattle.cells.specs.Cells.{Filled}
+use Rattle.cells.specs.Cells.{RangeAdded}
 use Rattle.cells.proofs.Store.{filled-none, filled-join, whole-added}
 use Rattle.cells.proofs.add_words.Statement.{statement}
 use Rattle.cells.proofs.add_words.Tie as tie
@@ -11,7 +11,7 @@ use Rattle.cells.proofs.add_words.Reads as reads
 use Rattle.cells.proofs.add_words.Lts as lts
 
 abbrev Inv-loop : tie.InvT-loop
-Inv-loop words₀ a b w₀ words w = (a ≤ w) × ((w ≤ b) × ((length words ≡ length words₀) × Filled (64 * a) (64 * w) words₀ words))
+Inv-loop words₀ a b w₀ words w = (a ≤ w) × ((w ≤ b) × ((length words ≡ length words₀) × RangeAdded (64 * a) (64 * w) words₀ words))
 
 abbrev μ-loop : tie.MeasureT-loop
 μ-loop words₀ a b w₀ words w = b - w

@@ -1,6 +1,6 @@
 -- `single::award` meets its contract: the selection gives the winners, the payments the rest. Assumes nothing.
 use Rattle.cover.specs.IntervalBidsLaws.{sum-most}
-use Rattle.single.specs.Pay.{pays-most, selected-flags, selected-all, settled}
+use Rattle.single.specs.Pay.{pays-most, selected-flags, selected-all, award-settled}
 use native.Mathlib.Omega.{arith}
 use borrow.Author.Needs.{needs}
 use Rattle.single.proofs.award.Statement.{statement}
@@ -101,7 +101,7 @@ returns c =
     let c4 = c .before .before .before .before in
     let c12 = c4 .before .before .before .before .before .before .before .before in
     let c24 = c12 .before .before .before .before .before .before .before .before .before .before .before .before in
-    settled _ _ _ _ _ _ _ _ _ _ _ (omega (arith, c24 .pre .1 .0)) (c12 .winners .ensures) (c4 .payments .ensures) (c .total .ensures)
+    award-settled _ _ _ _ _ _ _ _ _ _ _ (omega (arith, c24 .pre .1 .0)) (c12 .winners .ensures) (c4 .payments .ensures) (c .total .ensures)
 
 pub award-spec : {M : Type 1} → statement M
 award-spec =

@@ -5,7 +5,7 @@ use lib.ListN.{length, length-set}
 use native.Mathlib.Nat.{le-antisymm}
 use Rattle.single_costs.specs.Across.{Waiting}
 use Rattle.single_costs.specs.AcrossLaws.{waiting-none, waiting-more}
-use Rattle.single.specs.Pay.{paidOf, PaidTo, paid-none, paid-more, paid-all}
+use Rattle.single.specs.Pay.{vcgPaidOf, PaidTo, paid-none, paid-more, paid-all}
 use native.Mathlib.Omega.{arith}
 use borrow.Author.Needs.{needs}
 use Rattle.single.proofs.pay_each.Statement.{statement}
@@ -14,7 +14,7 @@ use Rattle.single.proofs.pay_each.Tie as tie
 abbrev Inv-loop : tie.InvT-loop
 Inv-loop starts ends prices order before after live₀ xs₀ costs₀ won cents₀ cells all n m₀ q₀ live xs costs cents m q = (q ≤ length prices)
     × (length live ≡ length live₀) × (length xs ≡ length xs₀) × (length costs ≡ length costs₀) × (length cents ≡ length cents₀)
-    × Waiting starts ends prices order live q m × PaidTo (paidOf starts ends prices cells) order cents₀ cents (length prices) q
+    × Waiting starts ends prices order live q m × PaidTo (vcgPaidOf starts ends prices cells) order cents₀ cents (length prices) q
 
 abbrev μ-loop : tie.MeasureT-loop
 μ-loop starts ends prices order before after live₀ xs₀ costs₀ won cents₀ cells all n m₀ q₀ live xs costs cents m q = length prices - q

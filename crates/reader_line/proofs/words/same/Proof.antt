@@ -3,14 +3,14 @@ use Prim.Native.Nat.{_-_}
 use mathlib.Core.Path.{_≡_, refl, sym, _∙_}
 use native.Mathlib.Omega.{arith}
 use lib.ListN.{length, drop}
-use Rattle.reader_line.specs.Words.{same}
+use Rattle.reader_line.specs.Words.{sameBytes}
 use Rattle.reader_line.proofs.Same.{lengths-differ, same-end, byte-same, byte-other}
 use borrow.Author.Needs.{needs}
 use Rattle.reader_line.proofs.words.same.Statement.{statement}
 use Rattle.reader_line.proofs.words.same.Tie as tie
 
 abbrev Inv-loop : tie.InvT-loop
-Inv-loop a b i₀ i = (same (drop i a) (drop i b) ≡ same a b) × (length a ≡ length b)
+Inv-loop a b i₀ i = (sameBytes (drop i a) (drop i b) ≡ sameBytes a b) × (length a ≡ length b)
 
 abbrev μ-loop : tie.MeasureT-loop
 μ-loop a b i₀ i = length a - i

@@ -4,7 +4,7 @@ use Prim.Native.Nat.{_≤_, _-_}
 use lib.ListN.{length, length-set}
 use native.Mathlib.Nat.{le-antisymm}
 use Rattle.cover.specs.Sets.{bit, when}
-use Rattle.cover.specs.SettledLaws.{Written, written-none, written-more}
+use Rattle.cover.specs.SettledLaws.{FilledTo, written-none, written-more}
 use Rattle.single_select.specs.Rows.{row}
 use Rattle.single_select.specs.RowLaws.{bit-row}
 use native.Mathlib.Omega.{arith}
@@ -13,7 +13,7 @@ use Rattle.single_select.proofs.rows.mark.Statement.{statement}
 use Rattle.single_select.proofs.rows.mark.Tie as tie
 
 abbrev Inv-loop : tie.InvT-loop
-Inv-loop sets r n won₀ i₀ won i = (i ≤ n) × (length won ≡ length won₀) × Written (λ i. when (bit (row sets r) i) 1) won₀ won i
+Inv-loop sets r n won₀ i₀ won i = (i ≤ n) × (length won ≡ length won₀) × FilledTo (λ i. when (bit (row sets r) i) 1) won₀ won i
 
 abbrev μ-loop : tie.MeasureT-loop
 μ-loop sets r n won₀ i₀ won i = n - i
