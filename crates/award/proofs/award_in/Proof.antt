@@ -67,7 +67,7 @@ use Rattle.tender.proofs.Answer.Laws as Ans′
 use Rattle.tender.proofs.AwardRow as Row
 use Rattle.award_plain.proofs.settle_in as settle
 use Rattle.award_plain.proofs.settle_in.Symbol as settle-def
-use Rattle.award_plain.proofs.settle_in.Symbol.{name as #award_plain·settle-in}
+use Rattle.award_plain.proofs.settle_in.Symbol.{name as #award-plain·settle-in}
 use Rattle.award_plain.proofs.settle_in.Met as settle-thm
 use Rattle.award.proofs.rows_filled as count
 use Rattle.award.proofs.rows_filled.Symbol as count-def
@@ -275,7 +275,7 @@ module _ {M : Type 1} (𝓤 : URA M) (H : Heap 𝓤) (A : Atoms 𝓤) (W : Given
         says ! h $ frame ! $ nothing ! $ owned ! usize (Is usize) (uint-makes 𝓤 H A W w64) m (vint w64 m ∷ []) (refl, gm) $ fjoin ! $ move
         ! (3 ∷ 0 ∷ []) $ fjoin ! $ move ! (2 ∷ 0 ∷ []) $ fjoin ! $ move ! (1 ∷ 0 ∷ []) $ fjoin ! $ done !
 
-  walk : (𝓣 : Tables 𝓤 H) → FmC 𝓤 H (W .laws) (𝓣 .C) → Triple 𝓤 (𝓣 .C #award_plain·settle-in) (Settle 𝓤 H A at-mem run)
+  walk : (𝓣 : Tables 𝓤 H) → FmC 𝓤 H (W .laws) (𝓣 .C) → Triple 𝓤 (𝓣 .C #award-plain·settle-in) (Settle 𝓤 H A at-mem run)
       → Triple 𝓤 (𝓣 .C #award·rows-filled) (Filled 𝓤 H A at-mem run) → Triple 𝓤 (𝓣 .C #award·fill) (Fill 𝓤 H A at-mem run)
       → ent 𝓤 (onEntry 𝓤 H A f.signature (κ0, (κ1, (κ2, tt))) (q0, (q1, (q2, tt))) args at)
       (WpFn 𝓤 H (𝓣 .C) (𝓣 .Λ) code.function (vk ∷ vt ∷ vint w64 n ∷ s0 ∷ s1 ∷ s2 ∷ []) Post)
@@ -452,7 +452,7 @@ module _ {M : Type 1} (𝓤 : URA M) (H : Heap 𝓤) (A : Atoms 𝓤) (W : Given
       ef)))))))))))))))))))))))))))))))))))))))))))))))))))))))
 
 module _ {M : Type 1} (𝓤 : URA M) (H : Heap 𝓤) (A : Atoms 𝓤) (W : Given 𝓤 H A) (at-mem : Memory → SProp 𝓤) (run : Routine → Fun 𝓤) where
-  award-in-walks : (𝓣 : Tables 𝓤 H) → Triple 𝓤 (𝓣 .C #award_plain·settle-in) (Settle 𝓤 H A at-mem run)
+  award-in-walks : (𝓣 : Tables 𝓤 H) → Triple 𝓤 (𝓣 .C #award-plain·settle-in) (Settle 𝓤 H A at-mem run)
       → Triple 𝓤 (𝓣 .C #award·rows-filled) (Filled 𝓤 H A at-mem run) → Triple 𝓤 (𝓣 .C #award·fill) (Fill 𝓤 H A at-mem run)
       → Walks 𝓤 H A f.ended stayed (WpFn 𝓤 H (𝓣 .C) (𝓣 .Λ) code.function) (f.clauses 𝓤 H A at-mem run)
   award-in-walks 𝓣 known-settle known-filled known-fill =
@@ -506,7 +506,7 @@ module _ {M : Type 1} (𝓤 : URA M) (H : Heap 𝓤) (A : Atoms 𝓤) (W : Given
 
 award-in-meets : {M : Type 1} (𝓤 : URA M) (H : Heap 𝓤) (A : Atoms 𝓤) → Given 𝓤 H A
     → (at-mem : Memory → SProp 𝓤) (run : Routine → Fun 𝓤) (𝓣 : Tables 𝓤 H)
-    → Triple 𝓤 (𝓣 .C #award_plain·settle-in) (Settle 𝓤 H A at-mem run) → Triple 𝓤 (𝓣 .C #award·rows-filled) (Filled 𝓤 H A at-mem run)
+    → Triple 𝓤 (𝓣 .C #award-plain·settle-in) (Settle 𝓤 H A at-mem run) → Triple 𝓤 (𝓣 .C #award·rows-filled) (Filled 𝓤 H A at-mem run)
     → Triple 𝓤 (𝓣 .C #award·fill) (Fill 𝓤 H A at-mem run)
     → Meets 𝓤 H A f.signature (WpFn 𝓤 H (𝓣 .C) (𝓣 .Λ) code.function) (f.spec 𝓤 H A at-mem run)
 award-in-meets 𝓤 H A W at-mem run 𝓣 known-settle known-filled known-fill =
@@ -519,8 +519,8 @@ award-in-spec 𝓤 H 𝓜 𝓖 𝓡 =
     entered 𝓤 H (tripleOf 𝓤 H (𝓖 .A) f.signature (f.spec 𝓤 H (𝓖 .A) (𝓜 .mem) (𝓡 .run)))
     (tables 𝓤 H 𝓜 𝓡 code.env .C) (tables 𝓤 H 𝓜 𝓡 code.env .Λ) #award·award-in code.function (code.unfolded 𝓤 H 𝓜 𝓡)
     (award-in-meets 𝓤 H (𝓖 .A) (givenOf 𝓤 H 𝓜 𝓖) (𝓜 .mem) (𝓡 .run) (tablesOf 𝓤 H 𝓜 (tables 𝓤 H 𝓜 𝓡 code.env))
-    (cited 𝓤 H (Settle 𝓤 H (𝓖 .A) (𝓜 .mem) (𝓡 .run)) 𝓜 𝓡 code.env #award_plain·settle-in settle-def.routine
-    code.calls-award_plain·settle-in (settle-thm.met 𝓤 H 𝓜 𝓖 𝓡))
+    (cited 𝓤 H (Settle 𝓤 H (𝓖 .A) (𝓜 .mem) (𝓡 .run)) 𝓜 𝓡 code.env #award-plain·settle-in settle-def.routine
+    code.calls-award-plain·settle-in (settle-thm.met 𝓤 H 𝓜 𝓖 𝓡))
     (cited 𝓤 H (Filled 𝓤 H (𝓖 .A) (𝓜 .mem) (𝓡 .run)) 𝓜 𝓡 code.env #award·rows-filled count-def.routine code.calls-award·rows-filled
     (count-thm.met 𝓤 H 𝓜 𝓖 𝓡))
     (cited 𝓤 H (Fill 𝓤 H (𝓖 .A) (𝓜 .mem) (𝓡 .run)) 𝓜 𝓡 code.env #award·fill fill-def.routine code.calls-award·fill
