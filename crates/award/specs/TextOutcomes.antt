@@ -15,9 +15,9 @@ use Rattle.tender.specs.declared.Refusal.the-variants.{BadTables}
 use Rattle.tender.specs.Tables.{Row, flatRows, flatWindows}
 use Rattle.reader.specs.Read.{accepted, readText}
 use Rattle.reader.specs.Rules.{Rules}
-use Rattle.reader.specs.RulesLaw.{rules-law}
+use Rattle.reader.specs.RulesLaws.{rules-law}
 use Rattle.reader.specs.Differ.{DifferInPrice, RowsDifferInPrice}
-use Rattle.reader.specs.PriceLaw.{price-law}
+use Rattle.reader.specs.PriceLaws.{price-law}
 use Rattle.award_check.specs.Faults.{sameKind, faultOf}
 use Rattle.award_check.specs.Alike.{named}
 use Rattle.award_check.specs.TextLaws.{never-nine, Tabled, tabled}

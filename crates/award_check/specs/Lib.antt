@@ -4,3 +4,4 @@ pub mod Cells
 pub mod Alike
 pub mod AlikeLaws
 pub mod TextLaws
+pub mod WalkLaws

@@ -1,2 +1,4 @@
 pub mod Orderly
 pub mod LayoutLaws
+pub mod LaidLaws
+pub mod WordRowLaws

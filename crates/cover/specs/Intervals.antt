@@ -5,6 +5,18 @@ use Prim.Native.Nat.{ℕ, zero, suc, _+_, _^_, _≤_, _<_}
 use lib.Dec.{ltb, leb, eqb}
 use Rattle.cover.specs.Sets.{Found, all, found, hit, nothing}
 use Rattle.cover.specs.LeastCover.{first}
+pub mod ScanLaws
+pub mod PrefixLaws
+pub mod CoverLaws
+pub mod SplitLaws
+pub mod PayLaws
+pub mod DepthLaws
+pub mod SuffixLaws
+pub mod AwardLaws
+pub mod StaysLaws
+pub mod Bids
+pub mod BidsLaws
+pub mod MirrorLaws
 
 -- a is before b
 unfoldable pub earlier : (ℕ → ℕ) → ℕ → ℕ → Bool

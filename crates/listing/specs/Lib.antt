@@ -4,3 +4,7 @@ pub mod List
 pub mod LineLaws
 pub mod Made
 pub mod ListLaws
+pub mod MakingLaws
+pub mod SpellingLaws
+pub mod WinningLaws
+pub mod WritingLaws

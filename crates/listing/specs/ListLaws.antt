@@ -23,7 +23,7 @@ use Rattle.cover.specs.SettledLaws.{getD-listed}
 use Rattle.reader.specs.Read.{accepted, readText}
 use Rattle.reader.specs.Read as reading
 use Rattle.reader.specs.Rules.{Rules}
-use Rattle.reader.specs.RulesLaw.{rules-law}
+use Rattle.reader.specs.RulesLaws.{rules-law}
 use Rattle.award_check.specs.Cells.{noRow, hasOf, holds, pricesOf, cellsOf}
 use Rattle.award_check.specs.Faults.{faultOf}
 use Rattle.award_check.specs.AlikeLaws.{windows-same, among-held, faultless}

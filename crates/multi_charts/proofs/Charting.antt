@@ -12,10 +12,10 @@ use lib.Dec.{eqb}
 use borrow.Author.Tests.{eqb-true, eqb-false}
 use Rattle.cells.specs.Cells.{cell, RangeAdded}
 use Rattle.cells.specs.Hops.{whole, Hops, Onward}
-use Rattle.cells.proofs.Store.{lt-or-le}
+use Rattle.cells.specs.StoreLaws.{lt-or-le}
 use Rattle.multi_tournament.specs.Tournament.{at}
 use Rattle.multi_rounds.specs.Market.{wordRow, Market, Hopping}
-use Rattle.multi_rounds.proofs.Rows.{row-length, row-in}
+use Rattle.multi_rounds.specs.WordRowLaws.{row-length, row-in}
 use Rattle.multi_marks.specs.Marks.{Indexed}
 use Rattle.multi_marks.proofs.Spreading.{row-at}
 use Rattle.multi_charts.specs.Charts.{Backed, Charted, Enlisted}

@@ -5,7 +5,7 @@ use Prim.Native.Nat.{ℕ, _+_, _*_, _≤_, _<_}
 use native.Mathlib.Omega.{arith}
 use Rattle.cover.specs.CriticalPrice.{late}
 use Rattle.cover.specs.PickLaws.{Best}
-use Rattle.multi_tournament.proofs.Order.{zero-or, ahead}
+use Rattle.multi_tournament.specs.OrderLaws.{zero-or, ahead}
 
 -- no disturbed bid comes before bid b at t/c
 abbrev pub Bound : (ℕ → ℕ) → (ℕ → ℕ) → (ℕ → ℕ) → ℕ → ℕ → ℕ → ℕ → Type 0

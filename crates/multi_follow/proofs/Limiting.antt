@@ -12,7 +12,7 @@ use Rattle.cover.specs.Greedy.{Entry, reach, bids}
 use Rattle.cover.specs.GreedyLaws.{rounds, close-other}
 use Rattle.cover.specs.PickLaws.{late-no, late-yes}
 use Rattle.multi_follow.specs.Follow.{raisedTo, Raised}
-use Rattle.multi_rounds.proofs.Chosen.{rounds-of}
+use Rattle.multi_rounds.specs.ChosenLaws.{rounds-of}
 use Rattle.multi_rounds.specs.Market.{has}
 
 abbrev pub others : ℕ → List ℕ → List ℕ → ℕ → ℕ → Entry

@@ -13,10 +13,10 @@ use Rattle.cells.specs.Hops.{Counted}
 use Rattle.multi_tournament.specs.Tournament.{at, known, Tournament}
 use Rattle.multi_rounds.specs.Market.{wordRow, Fronted}
 use Rattle.multi_rounds.specs.Trace.{openOf}
-use Rattle.multi_rounds.proofs.Rows.{row-in}
-use Rattle.multi_rounds.proofs.Begin.{sized-of}
+use Rattle.multi_rounds.specs.WordRowLaws.{row-in}
+use Rattle.multi_rounds.specs.BeginLaws.{sized-of}
 use Rattle.multi_marks.specs.Marks.{Disturbed}
-use Rattle.multi_rounds.proofs.Opens.{two-way}
+use Rattle.multi_rounds.specs.OpensLaws.{two-way}
 use Rattle.multi_follow.specs.Follow.{Took, Course, Walking, Takes, Stepped}
 use Rattle.multi_follow.proofs.Following.{scanned, ends-none, skips, fewer-open, main-step, both-step, other-step}
 

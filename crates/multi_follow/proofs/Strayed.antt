@@ -19,13 +19,13 @@ use Rattle.multi_follow.proofs.Astray.{Bound, takes-main, takes-other, 
 use Rattle.multi_follow.proofs.Limiting.{others}
 use Rattle.multi_marks.specs.Marks.{Disturbed, Strayed}
 use Rattle.multi_follow.specs.Follow.{Takes}
-use Rattle.multi_rounds.proofs.Chosen.{right-ext}
-use Rattle.multi_rounds.proofs.Fronting.{right-one, turned}
-use Rattle.multi_rounds.proofs.Begin.{common-few}
-use Rattle.multi_rounds.proofs.Opens.{reach-open, close-open, reach-alike, two-way}
+use Rattle.multi_rounds.specs.ChosenLaws.{right-ext}
+use Rattle.multi_rounds.specs.FrontingLaws.{right-one, turned}
+use Rattle.multi_rounds.specs.BeginLaws.{common-few}
+use Rattle.multi_rounds.specs.OpensLaws.{reach-open, close-open, reach-alike, two-way}
 use Rattle.multi_rounds.specs.Market.{wordRow, has, live, Sized, Known, Fronted}
 use Rattle.multi_tournament.specs.Tournament.{at}
-use Rattle.multi_tournament.proofs.Order.{zero-or}
+use Rattle.multi_tournament.specs.OrderLaws.{zero-or}
 use Rattle.multi_rounds.specs.Trace.{opens, openOf}
 
 module _ {ps ms : List ℕ} {w k : ℕ} {alt stale mark : List ℕ} {og : ℕ → ℕ} (inside : k < length ps) (few-words : w ≤ 158)

@@ -18,15 +18,15 @@ use Rattle.cover.specs.PickLaws.{before-one}
 use Rattle.cover.specs.Sets.{when, found, cells}
 use Rattle.multi_follow.proofs.Limiting.{others}
 use Rattle.multi_follow.specs.Follow.{bar-from}
-use Rattle.multi_rounds.proofs.Chosen.{rounds-of, rounds-more}
-use Rattle.multi_rounds.proofs.Fronting.{right-one}
-use Rattle.multi_rounds.proofs.Opens.{close-step, opens-first, reach-alike, two-way}
-use Rattle.multi_rounds.proofs.Tracing.{main-best}
+use Rattle.multi_rounds.specs.ChosenLaws.{rounds-of, rounds-more}
+use Rattle.multi_rounds.specs.FrontingLaws.{right-one}
+use Rattle.multi_rounds.specs.OpensLaws.{close-step, opens-first, reach-alike, two-way}
+use Rattle.multi_rounds.specs.TracingLaws.{main-best}
 use Rattle.multi_rounds.specs.Market.{wordRow, has}
 use Rattle.multi_tournament.specs.Tournament.{at}
 use Rattle.multi_rounds.specs.Trace.{opens, before, Trace}
 use Rattle.cover.specs.SetLaws.{when-one}
-use Rattle.cells.proofs.Lowest.{two}
+use Rattle.cells.specs.LowestLaws.{two}
 
 close-fun : (m : List ℕ) (f g : ℕ → ℕ) → ((x : ℕ) → f x ≤ 1) → ((x : ℕ) → g x ≡ f x - cell m x) → (n : ℕ)
     → close (λ x. eqb (cell m x) 1) (opens f n) ≡ opens g n

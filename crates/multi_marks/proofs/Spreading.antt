@@ -13,13 +13,13 @@ use lib.Dec.{eqb}
 use borrow.Author.Tests.{eqb-true, eqb-false}
 use Rattle.cells.specs.Cells.{cell, bitOf, common, RangeAdded}
 use Rattle.cells.specs.Hops.{Next, Onward}
-use Rattle.cells.proofs.Bit.{and-bit}
-use Rattle.cells.proofs.Store.{lt-or-le, cell-past}
+use Rattle.cells.specs.BitLaws.{and-bit}
+use Rattle.cells.specs.StoreLaws.{lt-or-le, cell-past}
 use Rattle.multi_tournament.specs.Tournament.{at}
-use Rattle.multi_tournament.proofs.Order.{zero-or}
+use Rattle.multi_tournament.specs.OrderLaws.{zero-or}
 use Rattle.multi_rounds.specs.Market.{wordRow}
-use Rattle.multi_rounds.proofs.Rows.{row-length}
-use Rattle.cells.proofs.Walk.{bare-cells}
+use Rattle.multi_rounds.specs.WordRowLaws.{row-length}
+use Rattle.cells.specs.WalkLaws.{bare-cells}
 use Rattle.multi_marks.specs.Marks.{Indexed, Spread, Disturbed}
 
 -- the bids below i are done

@@ -1,1 +1,3 @@
 pub mod Paying
+pub mod AlongLaws
+pub mod WinnersLaws

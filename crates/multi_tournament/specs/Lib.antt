@@ -1,1 +1,3 @@
 pub mod Tournament
+pub mod OrderLaws
+pub mod TreeLaws

@@ -18,7 +18,7 @@ use Rattle.reader.specs.Read.{ReadOutcome, accepted, refused, bidsOf, ta
 use Rattle.reader_line.specs.CutLaws.{Pieces, cut-some}
 use Rattle.reader.specs.ReadLaws.{never, read-lines, checked-bids, begun}
 use Rattle.reader.specs.Rules.{RowsRules, bytesLike}
-use Rattle.reader.specs.RulesLaw.{rowsFrom-length, rules-law}
+use Rattle.reader.specs.RulesLaws.{rowsFrom-length, rules-law}
 
 -- the lines of an accepted text
 

@@ -20,8 +20,8 @@ use Rattle.reader.specs.Read.{readText}
 use Rattle.reader_line.specs.CutLaws.{Pieces, cut-some}
 use Rattle.reader.specs.ReadLaws.{never, judged-out}
 use Rattle.reader.specs.Differ.{bidLine, Word, DifferInPrice, RowsDifferInPrice}
-use Rattle.reader.specs.PriceLaw.{line-of, parts, BidFound, text-lines, found, price-law}
-use Rattle.reader.specs.RulesLaw.{faultless-bid}
+use Rattle.reader.specs.PriceLaws.{line-of, parts, BidFound, text-lines, found, price-law}
+use Rattle.reader.specs.RulesLaws.{faultless-bid}
 
 unfoldable pub atPrice : ℕ → BidLine → BidLine
 atPrice v b = record { bidder = b .bidder; price = v; windows = b .windows }

@@ -7,3 +7,9 @@ pub mod Scan
 pub mod ScanLaws
 pub mod TallyLaws
 pub mod Answer
+pub mod DigitsLaws
+pub mod EndsLaws
+pub mod LinesLaws
+pub mod SameLaws
+pub mod SpansLaws
+pub mod WalkLaws

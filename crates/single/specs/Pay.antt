@@ -13,8 +13,8 @@ use Rattle.cover.specs.LeastCover.{winners, payment, vcgPaid}
 use Rattle.cover.specs.CriticalPrice.{sum}
 use Rattle.cover.specs.Settled.{spans, Settled}
 use Rattle.cover.specs.SettledLaws.{FilledTo, listed-of, listed-at, cost-sum, sumTo, sum-listed, sum-same}
-use Rattle.cover.specs.IntervalBids.{Bids, costWithout}
-use Rattle.cover.specs.IntervalBidsLaws.{paid-of, without-most}
+use Rattle.cover.specs.Intervals.Bids.{Bids, costWithout}
+use Rattle.cover.specs.Intervals.BidsLaws.{paid-of, without-most}
 use Rattle.single_select.specs.Turn.{Selected}
 
 unfoldable pub winnersOf : List ℕ → List ℕ → List ℕ → ℕ → ℕ

@@ -9,7 +9,7 @@ ghost use Rattle.cover.specs.LeastCover.{winners, vcgPaid};
 ghost use Rattle.cover.specs.CriticalPrice.{sum};
 ghost use Rattle.cover.specs.Settled.{spans, Settled};
 ghost use Rattle.cover.specs.SettledLaws.{FilledTo, sumTo};
-ghost use Rattle.cover.specs.IntervalBids.{Bids};
+ghost use Rattle.cover.specs.Intervals.Bids.{Bids};
 ghost use Rattle.single_costs.specs.Across.{Before, After, Waiting};
 ghost use Rattle.single.specs.Pay.{winnersOf, vcgPaidOf};
 

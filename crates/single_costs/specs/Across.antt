@@ -7,7 +7,7 @@ use lib.Dec.{ltb, leb, eqb}
 use lib.ListN.{length, getD}
 use Rattle.cover.specs.Sets.{Found}
 use Rattle.cover.specs.Intervals.{scanCost, reaches, raise}
-use Rattle.cover.specs.IntervalBids.{anyBid, costBelow, costAfter}
+use Rattle.cover.specs.Intervals.Bids.{anyBid, costBelow, costAfter}
 use Rattle.single_select.specs.Costs.{noCost, costIn}
 use Rattle.single_select.specs.Live.{Thinned, Live}
 

@@ -14,12 +14,12 @@ use Rattle.cover.specs.LeastCoverLaws.{IsFirst}
 use Rattle.cover.specs.CriticalPrice.{sum}
 use Rattle.cover.specs.Settled.{spans}
 use Rattle.cover.specs.Intervals.{scanCost, lesserCost, reaches, raise, across, foundCost, leastSet, At, coversFrom}
-use Rattle.cover.specs.IntervalScan.{none-found, found-one}
-use Rattle.cover.specs.IntervalPrefix.{lacks, leastSet-right}
-use Rattle.cover.specs.IntervalCover.{priced, bit-none}
-use Rattle.cover.specs.IntervalBids.{anyBid, Bids, coversBelow, leastBelow, costWithout, endCost, costAfter}
-use Rattle.cover.specs.IntervalBidsLaws.{prefixes, winners-of, cost-most, without-past, without-none, fits-without, scan-across, near}
-use Rattle.cover.specs.IntervalMirror.{Mirrored, mirrored-cost}
+use Rattle.cover.specs.Intervals.ScanLaws.{none-found, found-one}
+use Rattle.cover.specs.Intervals.PrefixLaws.{lacks, leastSet-right}
+use Rattle.cover.specs.Intervals.CoverLaws.{priced, bit-none}
+use Rattle.cover.specs.Intervals.Bids.{anyBid, Bids, coversBelow, leastBelow, costWithout, endCost, costAfter}
+use Rattle.cover.specs.Intervals.BidsLaws.{prefixes, winners-of, cost-most, without-past, without-none, fits-without, scan-across, near}
+use Rattle.cover.specs.Intervals.MirrorLaws.{Mirrored, mirrored-cost}
 use Rattle.single_select.specs.Costs.{noCost, costIn, cost-found, cost-least}
 use Rattle.single_select.specs.Live.{On, Live, live-thinned, live-more, live-none, thinned-none, thinned-more, counted}
 use Rattle.single_costs.specs.Run.{Running, Ran}

@@ -8,7 +8,7 @@ use lib.Dec.{ltb, eqb}
 use lib.ListN.{length, getD}
 use Rattle.cover.specs.Sets.{Found}
 use Rattle.cover.specs.Intervals.{scanCost, reaches}
-use Rattle.cover.specs.IntervalBids.{anyBid, costWithout, endCost}
+use Rattle.cover.specs.Intervals.Bids.{anyBid, costWithout, endCost}
 use Rattle.single_select.specs.Costs.{noCost, costIn, raised}
 use Rattle.single_select.specs.Live.{On, Thinned, Live}
 use Rattle.single_select.specs.Lead.{Reaches, endOf}

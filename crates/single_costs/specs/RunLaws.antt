@@ -11,12 +11,12 @@ use borrow.Author.Tests.{ltb-true, lt-ltb, le-ltb, eqb-true, eqb-false, eq-eqb, 
 use Rattle.cover.specs.Sets.{nothing, found, cost}
 use Rattle.cover.specs.CriticalPrice.{sum}
 use Rattle.cover.specs.Intervals.{scanCost, lesserCost, reaches, raise, mayBut}
-use Rattle.cover.specs.IntervalScan.{none-found}
-use Rattle.cover.specs.IntervalPrefix.{ready}
-use Rattle.cover.specs.IntervalCover.{priced}
-use Rattle.cover.specs.IntervalStays.{stays-cost}
-use Rattle.cover.specs.IntervalBids.{anyBid, Bids, othersBelow, costWithout, endCost}
-use Rattle.cover.specs.IntervalBidsLaws.{prefixes-without, fits-without, scan-without}
+use Rattle.cover.specs.Intervals.ScanLaws.{none-found}
+use Rattle.cover.specs.Intervals.PrefixLaws.{ready}
+use Rattle.cover.specs.Intervals.CoverLaws.{priced}
+use Rattle.cover.specs.Intervals.StaysLaws.{stays-cost}
+use Rattle.cover.specs.Intervals.Bids.{anyBid, Bids, othersBelow, costWithout, endCost}
+use Rattle.cover.specs.Intervals.BidsLaws.{prefixes-without, fits-without, scan-without}
 use Rattle.single_select.specs.Costs.{noCost, costIn, raised, cost-least, cost-found, cost-raised}
 use Rattle.single_select.specs.Rows.{reached}
 use Rattle.single_select.specs.Live.{On, Live, live-thinned, live-more}

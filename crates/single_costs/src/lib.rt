@@ -7,8 +7,8 @@ ghost use Prim.Native.Nat.{ℕ, _+_, _-_, _<_, _≤_};
 ghost use lib.ListN.{getD, length};
 ghost use Rattle.cover.specs.Sets.{valueOf};
 ghost use Rattle.cover.specs.CriticalPrice.{sum};
-ghost use Rattle.cover.specs.IntervalBids.{Bids, costWithout};
-ghost use Rattle.cover.specs.IntervalMirror.{Mirrored};
+ghost use Rattle.cover.specs.Intervals.Bids.{Bids, costWithout};
+ghost use Rattle.cover.specs.Intervals.MirrorLaws.{Mirrored};
 ghost use Rattle.single_select.specs.Costs.{costIn};
 ghost use Rattle.single_costs.specs.Across.{joined, lessOf, leastAcross, Before, After, Waiting, Begun};
 

@@ -3,7 +3,7 @@ ghost use mathlib.Core.Path.{_≡_};
 ghost use Prim.Native.Nat.{ℕ, _+_, _-_, _<_, _≤_};
 ghost use lib.ListN.{getD, length};
 ghost use Rattle.cover.specs.CriticalPrice.{sum};
-ghost use Rattle.cover.specs.IntervalBids.{Bids};
+ghost use Rattle.cover.specs.Intervals.Bids.{Bids};
 ghost use Rattle.single_select.specs.Rows.{reached};
 ghost use Rattle.single_costs.specs.Run.{cheaper, Renewed, Led, entry, Running, Ran};
 

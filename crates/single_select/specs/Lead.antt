@@ -7,7 +7,7 @@ use lib.Dec.{eqb}
 use lib.ListN.{length, getD}
 use Rattle.cover.specs.Sets.{Found, cost}
 use Rattle.cover.specs.Intervals.{scan, reaches, plus, foundCost}
-use Rattle.cover.specs.IntervalBids.{anyBid, leastBelow}
+use Rattle.cover.specs.Intervals.Bids.{anyBid, leastBelow}
 use Rattle.single_select.specs.Costs.{noCost, costIn}
 use Rattle.single_select.specs.Rows.{row, weigh, weight, Honest}
 use Rattle.single_select.specs.Live.{On, Thinned, Live}

@@ -10,11 +10,11 @@ use borrow.Author.Tests.{ltb-true, leb-true, eqb-true, eqb-false, eq-eqb, ne-eqb
 use Rattle.cover.specs.Sets.{found, cost}
 use Rattle.cover.specs.SetLaws.{and-split}
 use Rattle.cover.specs.Intervals.{scan, reaches, foundCost, lesser}
-use Rattle.cover.specs.IntervalPrefix.{scan-leastSet}
-use Rattle.cover.specs.IntervalCover.{priced}
-use Rattle.cover.specs.IntervalStays.{stays}
-use Rattle.cover.specs.IntervalBids.{anyBid, Bids, coversBelow, leastBelow}
-use Rattle.cover.specs.IntervalBidsLaws.{prefixes, least-none}
+use Rattle.cover.specs.Intervals.PrefixLaws.{scan-leastSet}
+use Rattle.cover.specs.Intervals.CoverLaws.{priced}
+use Rattle.cover.specs.Intervals.StaysLaws.{stays}
+use Rattle.cover.specs.Intervals.Bids.{anyBid, Bids, coversBelow, leastBelow}
+use Rattle.cover.specs.Intervals.BidsLaws.{prefixes, least-none}
 use Rattle.single_select.specs.Costs.{noCost, costIn}
 use Rattle.single_select.specs.Rows.{row, weigh, weight, Honest, before?, prefer, reached}
 use Rattle.single_select.specs.RowLaws.{prefer-lesser, prefer-honest}

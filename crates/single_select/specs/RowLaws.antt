@@ -12,7 +12,7 @@ use borrow.Author.Tests.{eqb-true, eqb-false, lt-ltb, le-ltb, le-leb, lt-leb, eq
 use Rattle.cover.specs.Sets.{Found, nothing, found, bit, when}
 use Rattle.cover.specs.SetMembers.{add-below}
 use Rattle.cover.specs.Intervals.{foundCost, lesser, earlier}
-use Rattle.cover.specs.IntervalScan.{found-one}
+use Rattle.cover.specs.Intervals.ScanLaws.{found-one}
 use Rattle.single_select.specs.Costs.{noCost, costIn}
 use Rattle.single_select.specs.Rows.{number, row, Off, weigh, weight, Honest, before?, prefer, reached, Extended}
 

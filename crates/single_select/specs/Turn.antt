@@ -13,11 +13,11 @@ use Rattle.cover.specs.LeastCover.{winners}
 use Rattle.cover.specs.CriticalPrice.{sum}
 use Rattle.cover.specs.Settled.{spans, listed}
 use Rattle.cover.specs.Intervals.{plus, foundCost, raise}
-use Rattle.cover.specs.IntervalPrefix.{leastSet-right, lacks, cost-plus, ready}
-use Rattle.cover.specs.IntervalCover.{priced, bit-none}
-use Rattle.cover.specs.IntervalBids.{anyBid, Bids, coversBelow, leastBelow, costBelow}
-use Rattle.cover.specs.IntervalBidsLaws.{prefixes, fits, winners-of}
-use Rattle.cover.specs.IntervalAward.{cost-value}
+use Rattle.cover.specs.Intervals.PrefixLaws.{leastSet-right, lacks, cost-plus, ready}
+use Rattle.cover.specs.Intervals.CoverLaws.{priced, bit-none}
+use Rattle.cover.specs.Intervals.Bids.{anyBid, Bids, coversBelow, leastBelow, costBelow}
+use Rattle.cover.specs.Intervals.BidsLaws.{prefixes, fits, winners-of}
+use Rattle.cover.specs.Intervals.AwardLaws.{cost-value}
 use Rattle.single_select.specs.Costs.{noCost, costIn, raised, cost-found, cost-raised}
 use Rattle.single_select.specs.Rows.{row, weigh, weight, Extended}
 use Rattle.single_select.specs.RowLaws.{row-kept}

@@ -7,7 +7,7 @@ ghost use Prim.Native.Nat.{ℕ, _+_, _*_, _-_, _/_, _<_, _≤_};
 ghost use lib.ListN.{getD, length};
 ghost use Rattle.cover.specs.Sets.{valueOf};
 ghost use Rattle.cover.specs.CriticalPrice.{sum};
-ghost use Rattle.cover.specs.IntervalBids.{Bids};
+ghost use Rattle.cover.specs.Intervals.Bids.{Bids};
 ghost use Rattle.single_select.specs.Costs.{costIn, raised};
 ghost use Rattle.single_select.specs.Rows.{row, prefer, reached};
 ghost use Rattle.single_select.specs.Live.{counted};

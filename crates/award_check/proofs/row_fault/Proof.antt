@@ -4,7 +4,7 @@ use mathlib.Core.Path.{refl, sym, _∙_}
 use Prim.Native.Nat.{_-_}
 use native.Mathlib.Omega.{arith}
 use borrow.Author.Tests.{not-true, not-false}
-use Rattle.award_check.proofs.Walk.{Going, going-starts, going-ends, too-many, breaks, repeated, going-on, bidder-cell, room-here}
+use Rattle.award_check.specs.WalkLaws.{Going, going-starts, going-ends, too-many, breaks, repeated, going-on, bidder-cell, room-here}
 use Rattle.award_check.proofs.row_fault.Statement.{statement}
 use Rattle.award_check.proofs.row_fault.Tie as tie
 use Rattle.award_check.proofs.row_fault.Reads as reads

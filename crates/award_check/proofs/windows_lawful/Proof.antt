@@ -5,7 +5,7 @@ use native.Mathlib.Omega.{arith}
 use lib.ListN.{drop}
 use Rattle.tender.specs.Limits.{allLawful}
 use Rattle.tender.specs.Tables.{windowsOf}
-use Rattle.award_check.proofs.Walk.{ahead, ahead-start, ahead-goes, ahead-fails, ahead-all}
+use Rattle.award_check.specs.WalkLaws.{ahead, ahead-start, ahead-goes, ahead-fails, ahead-all}
 use Rattle.award_check.proofs.windows_lawful.Statement.{statement}
 use Rattle.award_check.proofs.windows_lawful.Tie as tie
 use Rattle.award_check.proofs.windows_lawful.Reads as reads

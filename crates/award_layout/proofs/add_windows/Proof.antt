@@ -4,8 +4,8 @@ use mathlib.Core.Bool.{true}
 use Prim.Native.Nat.{_+_, _*_, _-_}
 use native.Mathlib.Omega.{arith}
 use lib.ListN.{length, getD}
-use Rattle.award_check.proofs.Walk.{ahead, ahead-start}
-use Rattle.award_layout.proofs.Laws.{Masking, masking-starts, masking-more, masking-ends, here-lawful}
+use Rattle.award_check.specs.WalkLaws.{ahead, ahead-start}
+use Rattle.award_layout.specs.LaidLaws.{Masking, masking-starts, masking-more, masking-ends, here-lawful}
 use Rattle.award_layout.specs.LayoutLaws.{clip-order, clip-inside}
 use Rattle.award_layout.proofs.add_windows.Statement.{statement}
 use Rattle.award_layout.proofs.add_windows.Tie as tie

@@ -4,9 +4,9 @@ use Prim.Native.Nat.{_-_, _≤_}
 use native.Mathlib.Omega.{arith}
 use Rattle.tender.specs.declared.Kind.the-variants.{Multi}
 use Rattle.tender.specs.Tables.{own}
-use Rattle.multi_rounds.proofs.Rows.{part-row, row-within}
-use Rattle.award_layout.proofs.Laws.{row-room}
-use Rattle.award_layout.proofs.Rows.{Writing, writing-starts, writing-more, writing-ends, row-size}
+use Rattle.multi_rounds.specs.WordRowLaws.{part-row, row-within}
+use Rattle.award_layout.specs.LaidLaws.{row-room}
+use Rattle.award_layout.specs.WordRowLaws.{Writing, writing-starts, writing-more, writing-ends, row-size}
 use Rattle.award_layout.proofs.masks.Statement.{statement}
 use Rattle.award_layout.proofs.masks.Tie as tie
 use Rattle.award_layout.proofs.masks.Reads as reads

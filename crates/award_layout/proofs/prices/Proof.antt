@@ -3,7 +3,7 @@ use mathlib.Core.Path.{_≡_, refl}
 use Prim.Native.Nat.{ℕ, _+_, _*_, _-_, _≤_, _<_}
 use native.Mathlib.Omega.{arith}
 use lib.ListN.{length, getD, length-set}
-use Rattle.award_layout.proofs.Laws.{filled-more, prices-are}
+use Rattle.award_layout.specs.LaidLaws.{filled-more, prices-are}
 use Rattle.award_layout.proofs.prices.Statement.{statement}
 use Rattle.award_layout.proofs.prices.Tie as tie
 use Rattle.award_layout.proofs.prices.Reads as reads

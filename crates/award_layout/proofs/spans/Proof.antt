@@ -5,7 +5,7 @@ use native.Mathlib.Omega.{arith}
 use lib.ListN.{length, getD, length-set}
 use Rattle.tender.specs.declared.Kind.the-variants.{Single}
 use Rattle.award_layout.specs.Orderly.{bidRowAt, clipped, SpansLaid}
-use Rattle.award_layout.proofs.Laws.{filled-more, first-room}
+use Rattle.award_layout.specs.LaidLaws.{filled-more, first-room}
 use Rattle.award_layout.proofs.spans.Statement.{statement}
 use Rattle.award_layout.proofs.spans.Tie as tie
 use Rattle.award_layout.proofs.spans.Reads as reads

@@ -7,7 +7,7 @@ use Rattle.multi_rounds.specs.Market.{has}
 use Rattle.award_thin.specs.Thin.{Says}
 use Rattle.award_check.specs.Cells.{cellsOf}
 use Rattle.award_layout.specs.LayoutLaws.{orderly}
-use Rattle.award_plain.proofs.Multi.{words-of, uncovered, lone, market, two-bidders, settled}
+use Rattle.award_plain.specs.MultiLaws.{words-of, uncovered, lone, market, two-bidders, settled}
 use Rattle.cover.specs.EarliestLaws.{cell-found}
 use borrow.Author.Needs.{needs}
 use Rattle.award_plain.proofs.multi_in.Statement.{statement}

@@ -6,9 +6,9 @@ use lib.ListN.{length-replicate}
 use Rattle.tender.specs.declared.Kind.the-variants.{Multi}
 use Rattle.award_check.specs.Cells.{cellsOf}
 use Rattle.award_layout.specs.LayoutLaws.{orderly}
-use Rattle.multi_tournament.proofs.Order.{product}
-use Rattle.award_plain.proofs.Multi.{words-of}
-use Rattle.award_plain.proofs.Prefix.{prefix-length}
+use Rattle.multi_tournament.specs.OrderLaws.{product}
+use Rattle.award_plain.specs.MultiLaws.{words-of}
+use Rattle.award_plain.specs.PrefixLaws.{prefix-length}
 use Rattle.award_plain.proofs.settle_multi.Statement.{statement}
 use Rattle.award_plain.proofs.settle_multi.Tie as tie
 use Rattle.award_plain.proofs.settle_multi.Reads as reads

@@ -5,7 +5,7 @@ use native.Mathlib.Omega.{arith}
 use lib.ListN.{length-replicate}
 use Rattle.tender.specs.declared.Kind.the-variants.{Single}
 use Rattle.award_layout.specs.LayoutLaws.{orderly}
-use Rattle.award_plain.proofs.Prefix.{prefix-length}
+use Rattle.award_plain.specs.PrefixLaws.{prefix-length}
 use borrow.Author.Needs.{needs}
 use Rattle.award_plain.proofs.settle_single.Statement.{statement}
 use Rattle.award_plain.proofs.settle_single.Tie as tie

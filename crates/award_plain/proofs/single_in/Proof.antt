@@ -8,7 +8,7 @@ use Rattle.cover.specs.Settled.{spans}
 use Rattle.award_thin.specs.Thin.{Says}
 use Rattle.award_check.specs.Cells.{cellsOf}
 use Rattle.award_layout.specs.LayoutLaws.{orderly, timed}
-use Rattle.award_plain.proofs.Single.{uncovered, lone, ordered, prices-most, settled}
+use Rattle.award_plain.specs.SingleLaws.{uncovered, lone, ordered, prices-most, settled}
 use Rattle.cover.specs.EarliestLaws.{cell-found}
 use borrow.Author.Needs.{needs}
 use Rattle.award_plain.proofs.single_in.Statement.{statement}

@@ -1,10 +1,10 @@
 -- `award_thin::bare_mask` meets its contract: each cell passed has a bidder, and none of the bids asked has the cell. Assumes nothing.
 use Prim.Native.Nat.{_-_}
 use native.Mathlib.Omega.{arith}
-use Rattle.multi_rounds.proofs.Rows.{row-within}
+use Rattle.multi_rounds.specs.WordRowLaws.{row-within}
 use mathlib.Core.Path.{_≡_, refl, sym, _∙_}
 use Rattle.multi_rounds.specs.Market.{has}
-use Rattle.award_thin.proofs.Bare.{Looking, Asking, looks-none, asks-none, looks-on, asks-on, bare-found, bare-none}
+use Rattle.award_thin.specs.BareLaws.{Looking, Asking, looks-none, asks-none, looks-on, asks-on, bare-found, bare-none}
 use Rattle.award_thin.proofs.bare_mask.Statement.{statement}
 use Rattle.award_thin.proofs.bare_mask.Tie as tie
 use Rattle.award_thin.proofs.bare_mask.Reads as reads

@@ -4,7 +4,7 @@ use native.Mathlib.Omega.{arith}
 use lib.ListN.{length}
 use mathlib.Core.Path.{_≡_, refl, sym, _∙_}
 use Rattle.cover.specs.Settled.{spans}
-use Rattle.award_thin.proofs.Bare.{Looking, Asking, looks-none, asks-none, looks-on, asks-on, bare-found, bare-none}
+use Rattle.award_thin.specs.BareLaws.{Looking, Asking, looks-none, asks-none, looks-on, asks-on, bare-found, bare-none}
 use Rattle.award_thin.proofs.bare_span.Statement.{statement}
 use Rattle.award_thin.proofs.bare_span.Tie as tie
 use Rattle.award_thin.proofs.bare_span.Reads as reads

@@ -4,7 +4,7 @@ use Prim.Native.Nat.{ℕ, _-_, _≤_}
 use native.Mathlib.Omega.{arith}
 use lib.ListN.{length, getD, length-set}
 use Rattle.award_thin.specs.Thin.{times}
-use Rattle.award_thin.proofs.Counts.{times-none, times-most, counted}
+use Rattle.award_thin.specs.CountsLaws.{times-none, times-most, counted}
 use Rattle.award_thin.proofs.count_at.Statement.{statement}
 use Rattle.award_thin.proofs.count_at.Tie as tie
 use Rattle.award_thin.proofs.count_at.Reads as reads

@@ -1,6 +1,6 @@
 -- `award_thin::first_below` meets its contract: the first of the cells that is not among those with two bidders. Assumes nothing.
 use mathlib.Core.Path.{_∙_}
-use Rattle.award_thin.proofs.Masks.{first-found, first-none}
+use Rattle.award_thin.specs.MasksLaws.{first-found, first-none}
 use borrow.Author.Needs.{needs}
 use Rattle.award_thin.proofs.first_below.Statement.{statement}
 use Rattle.award_thin.proofs.first_below.Tie as tie

@@ -4,7 +4,7 @@ use Prim.Native.Nat.{_-_, _≤_}
 use native.Mathlib.Omega.{arith}
 use lib.ListN.{length, length-set}
 use Rattle.award_thin.specs.Thin.{Gathered}
-use Rattle.award_thin.proofs.Masks.{gathered-none, gathered-more}
+use Rattle.award_thin.specs.MasksLaws.{gathered-none, gathered-more}
 use borrow.Author.Needs.{needs}
 use Rattle.award_thin.proofs.gather.Statement.{statement}
 use Rattle.award_thin.proofs.gather.Tie as tie

@@ -3,7 +3,7 @@ use mathlib.Core.Path.{ap, _∙_}
 use lib.Dec.{eqb}
 use Rattle.cells.specs.Cells.{cell}
 use Rattle.multi_rounds.specs.Market.{has}
-use Rattle.multi_rounds.proofs.Rows.{part-row}
+use Rattle.multi_rounds.specs.WordRowLaws.{part-row}
 use borrow.Author.Needs.{needs}
 use Rattle.award_thin.proofs.mask_has.Statement.{statement}
 use Rattle.award_thin.proofs.mask_has.Tie as tie

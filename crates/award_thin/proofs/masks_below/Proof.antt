@@ -1,6 +1,6 @@
 -- `award_thin::masks_below` meets its contract: it lends two rows of w words. Assumes nothing.
 use mathlib.Core.Path.{sym}
-use Rattle.award_thin.proofs.Masks.{ones-length}
+use Rattle.award_thin.specs.MasksLaws.{ones-length}
 use borrow.Author.Needs.{needs}
 use Rattle.award_thin.proofs.masks_below.Statement.{statement}
 use Rattle.award_thin.proofs.masks_below.Tie as tie

@@ -4,8 +4,8 @@ use Prim.Native.Nat.{_+_, _*_, _-_, _≤_}
 use native.Mathlib.Omega.{arith}
 use lib.ListN.{getD}
 use lib.Bits.{bitAnd, bitOr}
-use Rattle.multi_rounds.proofs.Rows.{row-within}
-use Rattle.award_thin.proofs.Masks.{Seeing, seeing-none, seeing-more, reached-soon, reached-all}
+use Rattle.multi_rounds.specs.WordRowLaws.{row-within}
+use Rattle.award_thin.specs.MasksLaws.{Seeing, seeing-none, seeing-more, reached-soon, reached-all}
 use Rattle.award_thin.proofs.seen.Statement.{statement}
 use Rattle.award_thin.proofs.seen.Tie as tie
 use Rattle.award_thin.proofs.seen.Reads as reads

@@ -2,8 +2,8 @@
 use Prim.Native.Nat.{ℕ, _-_}
 use native.Mathlib.Omega.{arith}
 use lib.ListN.{length-replicate}
-use Rattle.award_thin.proofs.Counts.{zeros}
-use Rattle.award_thin.proofs.Sweep.{Sweep, sweep-starts, sweep-found, sweep-on, sweep-ends, small, here}
+use Rattle.award_thin.specs.CountsLaws.{zeros}
+use Rattle.award_thin.specs.SweepLaws.{Sweep, sweep-starts, sweep-found, sweep-on, sweep-ends, small, here}
 use Rattle.award_thin.proofs.spans_below.Statement.{statement}
 use Rattle.award_thin.proofs.spans_below.Tie as tie
 use Rattle.award_thin.proofs.spans_below.Reads as reads

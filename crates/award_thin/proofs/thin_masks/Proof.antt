@@ -1,7 +1,7 @@
 -- `award_thin::thin_masks` meets its contract. Assumes nothing.
 use native.Mathlib.Omega.{arith}
 use Rattle.multi_rounds.specs.Market.{has}
-use Rattle.award_thin.proofs.Firsts.{enough, bare, lone}
+use Rattle.award_thin.specs.FirstsLaws.{enough, bare, lone}
 use borrow.Author.Needs.{needs}
 use Rattle.award_thin.proofs.thin_masks.Statement.{statement}
 use Rattle.award_thin.proofs.thin_masks.Tie as tie

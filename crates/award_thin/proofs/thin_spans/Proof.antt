@@ -2,7 +2,7 @@
 use native.Mathlib.Omega.{arith}
 use lib.ListN.{length}
 use Rattle.cover.specs.Settled.{spans}
-use Rattle.award_thin.proofs.Firsts.{enough, bare, lone}
+use Rattle.award_thin.specs.FirstsLaws.{enough, bare, lone}
 use borrow.Author.Needs.{needs}
 use Rattle.award_thin.proofs.thin_spans.Statement.{statement}
 use Rattle.award_thin.proofs.thin_spans.Tie as tie

@@ -1,6 +1,6 @@
 -- `cells::add` meets its contract: the word that holds cell x gets one bit more. Assumes nothing.
 use native.Mathlib.Omega.{arith}
-use Rattle.cells.proofs.Store.{one-added}
+use Rattle.cells.specs.StoreLaws.{one-added}
 use borrow.Author.Needs.{needs}
 use Rattle.cells.proofs.add.Statement.{statement}
 use Rattle.cells.proofs.add.Tie as tie

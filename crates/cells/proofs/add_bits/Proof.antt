@@ -1,6 +1,6 @@
 -- `cells::add_bits` meets its contract: one word gets the bits of a span. Assumes nothing.
 use native.Mathlib.Omega.{arith}
-use Rattle.cells.proofs.Store.{bits-added}
+use Rattle.cells.specs.StoreLaws.{bits-added}
 use borrow.Author.Needs.{needs}
 use Rattle.cells.proofs.add_bits.Statement.{statement}
 use Rattle.cells.proofs.add_bits.Tie as tie

@@ -2,7 +2,7 @@
 -- Assumes nothing.
 use native.Mathlib.Omega.{arith}
 use Prim.Native.Nat.{_/_}
-use Rattle.cells.proofs.Store.{filled-join, filled-at, filled-words}
+use Rattle.cells.specs.StoreLaws.{filled-join, filled-at, filled-words}
 use borrow.Author.Needs.{needs}
 use Rattle.cells.proofs.add_range.Statement.{statement}
 use Rattle.cells.proofs.add_range.Tie as tie

@@ -4,7 +4,7 @@ use Prim.Native.Nat.{_-_, _*_, _≤_}
 use mathlib.Core.Path.{_≡_, refl}
 use lib.ListN.{length, length-set}
 use Rattle.cells.specs.Cells.{RangeAdded}
-use Rattle.cells.proofs.Store.{filled-none, filled-join, whole-added}
+use Rattle.cells.specs.StoreLaws.{filled-none, filled-join, whole-added}
 use Rattle.cells.proofs.add_words.Statement.{statement}
 use Rattle.cells.proofs.add_words.Tie as tie
 use Rattle.cells.proofs.add_words.Reads as reads

@@ -1,5 +1,5 @@
 -- `cells::close` meets its contract: before word w the cells below 64 w are cleared of the mask, and the others stand. Assumes nothing.
-use Rattle.cells.proofs.Store.{Swept, swept-none, swept-more, swept-all}
+use Rattle.cells.specs.StoreLaws.{Swept, swept-none, swept-more, swept-all}
 use mathlib.Core.Path.{_≡_, refl}
 use Prim.Native.Nat.{_-_, _≤_}
 use native.Mathlib.Omega.{arith}

@@ -5,9 +5,9 @@ use mathlib.Core.Path.{_≡_, refl}
 use native.Mathlib.Omega.{arith}
 use lib.ListN.{length, length-set}
 use Rattle.cells.specs.Hops.{Counted, countedTo}
-use Rattle.cells.proofs.Store.{Swept, swept-more, swept-all}
-use Rattle.cells.proofs.Walk.{swept-first, swept-on}
-use Rattle.cells.proofs.Counts.{counted-set}
+use Rattle.cells.specs.StoreLaws.{Swept, swept-more, swept-all}
+use Rattle.cells.specs.WalkLaws.{swept-first, swept-on}
+use Rattle.cells.specs.CountsLaws.{counted-set}
 use Rattle.cells.proofs.close_counted.Statement.{statement}
 use Rattle.cells.proofs.close_counted.Tie as tie
 use Rattle.cells.proofs.close_counted.Reads as reads

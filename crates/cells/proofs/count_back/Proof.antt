@@ -1,7 +1,7 @@
 -- `cells::count_back` meets its contract: the sums up to a word before the last counted are still right. Assumes nothing.
 use native.Mathlib.Omega.{arith}
 use borrow.Author.Needs.{needs}
-use Rattle.cells.proofs.Counts.{counted-back, counted-last}
+use Rattle.cells.specs.CountsLaws.{counted-back, counted-last}
 use Rattle.cells.proofs.count_back.Statement.{statement}
 use Rattle.cells.proofs.count_back.Tie as tie
 use Rattle.cells.proofs.count_back.Reads as reads

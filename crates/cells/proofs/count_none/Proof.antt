@@ -2,7 +2,7 @@
 use native.Mathlib.Omega.{arith}
 use lib.ListN.{length-set}
 use borrow.Author.Needs.{needs}
-use Rattle.cells.proofs.Counts.{counted-none}
+use Rattle.cells.specs.CountsLaws.{counted-none}
 use Rattle.cells.proofs.count_none.Statement.{statement}
 use Rattle.cells.proofs.count_none.Tie as tie
 use Rattle.cells.proofs.count_none.Reads as reads

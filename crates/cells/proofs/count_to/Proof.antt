@@ -4,7 +4,7 @@ use mathlib.Core.Path.{sym, _∙_}
 use native.Mathlib.Omega.{arith}
 use lib.ListN.{getD, length-set}
 use lib.Count.{ones-le}
-use Rattle.cells.proofs.Counts.{Counting, counting-from, counting-on, counting-done, counted-last, cells-few}
+use Rattle.cells.specs.CountsLaws.{Counting, counting-from, counting-on, counting-done, counted-last, cells-few}
 use Rattle.cells.proofs.count_to.Statement.{statement}
 use Rattle.cells.proofs.count_to.Tie as tie
 use Rattle.cells.proofs.count_to.Reads as reads

@@ -1,6 +1,6 @@
 -- `cells::first_bits` meets its contract: a word of ones shifted down by 64 - k. Assumes nothing.
 use native.Mathlib.Omega.{arith}
-use Rattle.cells.proofs.Bit.{ones-shifted}
+use Rattle.cells.specs.BitLaws.{ones-shifted}
 use borrow.Author.Needs.{needs}
 use Rattle.cells.proofs.first_bits.Statement.{statement}
 use Rattle.cells.proofs.first_bits.Tie as tie

@@ -1,7 +1,7 @@
 -- `cells::first_word` meets its contract: a word without a cell is followed by others without one. Assumes nothing.
 use native.Mathlib.Omega.{arith}
 use borrow.Author.Needs.{needs}
-use Rattle.cells.proofs.Walk.{first-gap}
+use Rattle.cells.specs.WalkLaws.{first-gap}
 use Rattle.cells.proofs.first_word.Statement.{statement}
 use Rattle.cells.proofs.first_word.Tie as tie
 use Rattle.cells.proofs.first_word.Reads as reads

@@ -1,6 +1,6 @@
 -- `cells::onward` meets its contract: one word on from a whole word, else the hop. Assumes nothing.
 use native.Mathlib.Omega.{arith}
-use Rattle.cells.proofs.Walk.{onward-gap}
+use Rattle.cells.specs.WalkLaws.{onward-gap}
 use borrow.Author.Needs.{needs}
 use Rattle.cells.proofs.onward.Statement.{statement}
 use Rattle.cells.proofs.onward.Tie as tie

@@ -6,8 +6,8 @@ use lib.ListN.{length}
 use Rattle.cells.specs.Cells.{total, both, common}
 use Rattle.cells.specs.Hops.{Counted}
 use lib.Count.{ones}
-use Rattle.cells.proofs.Sum.{total-both-le, none}
-use Rattle.cells.proofs.Walk.{none-counted, run-sum, reach-gap}
+use Rattle.cells.specs.SumLaws.{total-both-le, none}
+use Rattle.cells.specs.WalkLaws.{none-counted, run-sum, reach-gap}
 use Rattle.cells.proofs.reach.Statement.{statement}
 use Rattle.cells.proofs.reach.Tie as tie
 use Rattle.cells.proofs.reach.Reads as reads

@@ -1,5 +1,5 @@
 -- `cells::span` meets its contract: the first hi bits without the first lo. Assumes nothing.
-use Rattle.cells.proofs.Store.{span-of}
+use Rattle.cells.specs.StoreLaws.{span-of}
 use mathlib.Core.Path.{_≡_}
 use Prim.Native.Nat.{_-_, _^_}
 use native.Mathlib.Omega.{arith}

@@ -1,5 +1,5 @@
 -- The award's answer, as its list. Assumes nothing.
-use Rattle.listing.proofs.Making.{award-written, declined-written}
+use Rattle.listing.specs.MakingLaws.{award-written, declined-written}
 use borrow.Author.Needs.{needs}
 use Rattle.listing.proofs.put_award.Statement.{statement}
 use Rattle.listing.proofs.put_award.Tie as tie

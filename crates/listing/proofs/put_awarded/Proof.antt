@@ -3,7 +3,7 @@ use native.Mathlib.Omega.{arith}
 use Rattle.tender.specs.Keywords.{bytes}
 use Rattle.listing.specs.Lines.{totalWord}
 use Rattle.listing.specs.LineLaws.{award-short, win-lines-short}
-use Rattle.listing.proofs.Writing.{then}
+use Rattle.listing.specs.WritingLaws.{then}
 use borrow.Author.Needs.{needs}
 use Rattle.listing.proofs.put_awarded.Statement.{statement}
 use Rattle.listing.proofs.put_awarded.Tie as tie

@@ -1,6 +1,6 @@
 -- The refusal's number and place. Assumes nothing.
 use Rattle.tender.specs.Keywords.{bytes}
-use Rattle.listing.proofs.Making.{refusal-written}
+use Rattle.listing.specs.MakingLaws.{refusal-written}
 use borrow.Author.Needs.{needs}
 use Rattle.listing.proofs.put_refused.Statement.{statement}
 use Rattle.listing.proofs.put_refused.Tie as tie

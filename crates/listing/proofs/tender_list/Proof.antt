@@ -1,7 +1,7 @@
 -- The list is made in a buffer of its own, measured, and copied where there is room. Assumes nothing.
 use mathlib.Core.Path.{sym}
 use native.Mathlib.Omega.{arith}
-use Rattle.listing.proofs.Making.{made-few, listed-none, listed-all}
+use Rattle.listing.specs.MakingLaws.{made-few, listed-none, listed-all}
 use borrow.Author.Needs.{needs}
 use Rattle.listing.proofs.tender_list.Statement.{statement}
 use Rattle.listing.proofs.tender_list.Tie as tie

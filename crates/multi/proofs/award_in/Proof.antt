@@ -4,8 +4,8 @@ use mathlib.Core.Path.{_∙_, sym}
 use native.Mathlib.Omega.{arith}
 use lib.ListN.{length, length-append, length-drop}
 use lib.Seq.{length-take-le}
-use Rattle.multi_tournament.proofs.Order.{product}
-use Rattle.multi.proofs.Sums.{settles}
+use Rattle.multi_tournament.specs.OrderLaws.{product}
+use Rattle.multi.specs.SumsLaws.{settles}
 use borrow.Author.Needs.{needs}
 use Rattle.multi.proofs.award_in.Statement.{statement}
 use Rattle.multi.proofs.award_in.Tie as tie

@@ -3,7 +3,7 @@
 use Prim.Native.Nat.{ℕ, _+_}
 use mathlib.Core.Path.{_∙_, sym, ap}
 use native.Mathlib.Omega.{arith}
-use Rattle.multi_tournament.proofs.Tree.{opened}
+use Rattle.multi_tournament.specs.TreeLaws.{opened}
 use borrow.Author.Needs.{needs}
 use Rattle.multi.proofs.run.Statement.{statement}
 use Rattle.multi.proofs.run.Tie as tie

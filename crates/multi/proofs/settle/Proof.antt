@@ -1,8 +1,8 @@
 -- `multi::settle` meets its contract: the run is written down, its bids are marked and paid, and the totals summed. Assumes nothing.
 use mathlib.Core.Path.{_∙_}
 use native.Mathlib.Omega.{arith}
-use Rattle.multi_pay.proofs.Along.{starts}
-use Rattle.multi.proofs.Sums.{awarded, paid-lengths}
+use Rattle.multi_pay.specs.AlongLaws.{starts}
+use Rattle.multi.specs.SumsLaws.{awarded, paid-lengths}
 use borrow.Author.Needs.{needs}
 use Rattle.multi.proofs.settle.Statement.{statement}
 use Rattle.multi.proofs.settle.Tie as tie

@@ -2,7 +2,7 @@
 use Prim.Native.Nat.{_-_}
 use native.Mathlib.Omega.{arith}
 use lib.ListN.{length}
-use Rattle.multi.proofs.Sums.{Summing, sums-none, sums-more, sums-all}
+use Rattle.multi.specs.SumsLaws.{Summing, sums-none, sums-more, sums-all}
 use Rattle.multi.proofs.totals.Statement.{statement}
 use Rattle.multi.proofs.totals.Tie as tie
 use Rattle.multi.proofs.totals.Reads as reads

@@ -3,7 +3,7 @@ use Prim.Native.Nat.{_-_}
 use mathlib.Core.Path.{sym, _∙_}
 use native.Mathlib.Omega.{arith}
 use lib.ListN.{length}
-use Rattle.multi_rounds.proofs.Rows.{row-in}
+use Rattle.multi_rounds.specs.WordRowLaws.{row-in}
 use Rattle.multi_charts.proofs.Charting.{Enlists, enlists-on, enlists-end}
 use Rattle.multi_charts.proofs.enlist.Statement.{statement}
 use Rattle.multi_charts.proofs.enlist.Tie as tie

@@ -2,8 +2,8 @@
 use Prim.Native.Nat.{_-_, _≤_}
 use mathlib.Core.Path.{refl, _∙_}
 use native.Mathlib.Omega.{arith}
-use Rattle.multi_tournament.proofs.Order.{product}
-use Rattle.multi_rounds.proofs.Rows.{part-row, row-length}
+use Rattle.multi_tournament.specs.OrderLaws.{product}
+use Rattle.multi_rounds.specs.WordRowLaws.{part-row, row-length}
 use Rattle.multi_marks.proofs.Spreading.{row-at}
 use Rattle.multi_charts.proofs.Charting.{Enlisting, enlists-none, enlists-bare, enlists-some, enlists-past, enlists-all}
 use Rattle.multi_charts.proofs.enlist_row.Statement.{statement}

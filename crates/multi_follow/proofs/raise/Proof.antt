@@ -5,7 +5,7 @@ use native.Mathlib.Nat.{div-le-self}
 use native.Mathlib.Omega.{arith}
 use borrow.Author.Needs.{needs}
 use Rattle.multi_follow.proofs.Limiting.{raise-zero, raise-late, raise-early}
-use Rattle.multi_tournament.proofs.Order.{product}
+use Rattle.multi_tournament.specs.OrderLaws.{product}
 use Rattle.multi_follow.proofs.raise.Statement.{statement}
 use Rattle.multi_follow.proofs.raise.Tie as tie
 use Rattle.multi_follow.proofs.raise.Reads as reads

@@ -4,8 +4,8 @@ use Prim.Native.Nat.{ℕ, _+_}
 use mathlib.Core.Path.{sym, _∙_, ap}
 use native.Mathlib.Omega.{arith}
 use Rattle.multi_tournament.specs.Tournament.{at}
-use Rattle.multi_tournament.proofs.Tree.{emptied, known-at}
-use Rattle.multi_rounds.proofs.Begin.{sized-of}
+use Rattle.multi_tournament.specs.TreeLaws.{emptied, known-at}
+use Rattle.multi_rounds.specs.BeginLaws.{sized-of}
 use Rattle.multi_follow.proofs.Following.{inside, starts}
 use borrow.Author.Needs.{needs}
 use Rattle.multi_limit.proofs.begin.Statement.{statement}

@@ -6,8 +6,8 @@ use native.Mathlib.Omega.{arith}
 use lib.ListN.{length}
 use lib.Bits.{bitAnd}
 use Rattle.multi_tournament.specs.Tournament.{at, known, Tournament}
-use Rattle.multi_rounds.proofs.Rows.{part-row, row-in, row-length}
-use Rattle.multi_tournament.proofs.Order.{product}
+use Rattle.multi_rounds.specs.WordRowLaws.{part-row, row-in, row-length}
+use Rattle.multi_tournament.specs.OrderLaws.{product}
 use Rattle.multi_marks.proofs.Spreading.{Disturbing, starts, goes, ends-all, row-at}
 use Rattle.cells.specs.Hops.{Counted}
 use Rattle.multi_marks.proofs.disturb.Statement.{statement}

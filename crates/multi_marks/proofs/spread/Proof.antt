@@ -6,9 +6,9 @@ use lib.ListN.{length}
 use lib.Bits.{bitAnd}
 use Rattle.cells.specs.Cells.{cell}
 use Rattle.multi_tournament.specs.Tournament.{at, known, Tournament}
-use Rattle.multi_tournament.proofs.Tree.{length-known}
-use Rattle.multi_rounds.proofs.Rows.{part-row, row-in}
-use Rattle.multi_rounds.proofs.Begin.{common-few}
+use Rattle.multi_tournament.specs.TreeLaws.{length-known}
+use Rattle.multi_rounds.specs.WordRowLaws.{part-row, row-in}
+use Rattle.multi_rounds.specs.BeginLaws.{common-few}
 use Rattle.multi_marks.proofs.Spreading.{Spreading, begins, passes, leaves, adds, ends, no-cells, row-at, set-in, set-length}
 use Rattle.multi_marks.proofs.Spreading.{next-within, next-free}
 use Rattle.cells.specs.Hops.{Counted}

@@ -1,10 +1,10 @@
 -- `multi_pay::pay` meets its contract: the round's bid gets its flag and its critical price, and its cells close. Assumes nothing.
 use mathlib.Core.Path.{_∙_, sym}
 use native.Mathlib.Omega.{arith}
-use Rattle.multi_rounds.proofs.Rows.{row-in, part-row, row-length}
+use Rattle.multi_rounds.specs.WordRowLaws.{row-in, part-row, row-length}
 use Rattle.multi_tournament.specs.Tournament.{at}
-use Rattle.multi_tournament.proofs.Order.{product}
-use Rattle.multi_pay.proofs.Along.{goes, course}
+use Rattle.multi_tournament.specs.OrderLaws.{product}
+use Rattle.multi_pay.specs.AlongLaws.{goes, course}
 use borrow.Author.Needs.{needs}
 use Rattle.multi_pay.proofs.pay.Statement.{statement}
 use Rattle.multi_pay.proofs.pay.Tie as tie

@@ -5,7 +5,7 @@ use native.Mathlib.Omega.{arith}
 use lib.ListN.{length}
 use Rattle.multi_tournament.specs.Tournament.{Tournament}
 use Rattle.multi_pay.specs.Paying.{Paying}
-use Rattle.multi_pay.proofs.Along.{ends}
+use Rattle.multi_pay.specs.AlongLaws.{ends}
 use Rattle.multi_pay.proofs.pay_all.Statement.{statement}
 use Rattle.multi_pay.proofs.pay_all.Tie as tie
 use Rattle.multi_pay.proofs.pay_all.Reads as reads

@@ -2,7 +2,7 @@ use Prim.Native.Nat.{_-_}
 use mathlib.Core.Path.{refl}
 use native.Mathlib.Omega.{arith}
 use lib.ListN.{length}
-use Rattle.multi_rounds.proofs.Filling.{Filling, none, more, cleared}
+use Rattle.multi_rounds.specs.FillingLaws.{Filling, none, more, cleared}
 use Rattle.multi_rounds.proofs.clear.Statement.{statement}
 use Rattle.multi_rounds.proofs.clear.Tie as tie
 use Rattle.multi_rounds.proofs.clear.Reads as reads

@@ -3,7 +3,7 @@ use Prim.Native.Nat.{_*_}
 use native.Mathlib.Omega.{arith}
 use borrow.Author.Tests.{ltb-true, leb-true}
 use Rattle.cover.specs.PickLaws.{late-no, late-most}
-use Rattle.multi_tournament.proofs.Order.{product}
+use Rattle.multi_tournament.specs.OrderLaws.{product}
 use Rattle.multi_rounds.proofs.comes.Statement.{statement}
 use Rattle.multi_rounds.proofs.comes.Tie as tie
 use Rattle.multi_rounds.proofs.comes.Reads as reads

@@ -4,8 +4,8 @@ use mathlib.Core.Path.{sym, _∙_}
 use native.Mathlib.Omega.{arith}
 use lib.ListN.{length}
 use Rattle.cells.specs.Hops.{Counted}
-use Rattle.multi_rounds.proofs.Rows.{row-in}
-use Rattle.multi_rounds.proofs.Begin.{Entering, enters-none, enters-more, enters-all, common-few}
+use Rattle.multi_rounds.specs.WordRowLaws.{row-in}
+use Rattle.multi_rounds.specs.BeginLaws.{Entering, enters-none, enters-more, enters-all, common-few}
 use Rattle.multi_rounds.proofs.enter.Statement.{statement}
 use Rattle.multi_rounds.proofs.enter.Tie as tie
 use Rattle.multi_rounds.proofs.enter.Reads as reads

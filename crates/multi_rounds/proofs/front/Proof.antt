@@ -6,9 +6,9 @@ use native.Mathlib.Omega.{arith}
 use Rattle.cover.specs.CriticalPrice.{sum}
 use Rattle.cells.specs.Hops.{Counted}
 use Rattle.multi_tournament.specs.Tournament.{at, known}
-use Rattle.multi_rounds.proofs.Rows.{row-in}
-use Rattle.multi_rounds.proofs.Fronting.{Fronting, begins, first-small, first-in, no-more, counted, fewer, is-clear, is-exact}
-use Rattle.multi_rounds.proofs.Fronting.{is-none}
+use Rattle.multi_rounds.specs.WordRowLaws.{row-in}
+use Rattle.multi_rounds.specs.FrontingLaws.{Fronting, begins, first-small, first-in, no-more, counted, fewer, is-clear, is-exact}
+use Rattle.multi_rounds.specs.FrontingLaws.{is-none}
 use Rattle.multi_rounds.proofs.front.Statement.{statement}
 use Rattle.multi_rounds.proofs.front.Tie as tie
 use Rattle.multi_rounds.proofs.front.Reads as reads

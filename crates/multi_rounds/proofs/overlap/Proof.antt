@@ -2,7 +2,7 @@
 use mathlib.Core.Path.{sym, ap, _∙_}
 use native.Mathlib.Omega.{arith}
 use Rattle.cells.specs.Cells.{common}
-use Rattle.multi_rounds.proofs.Rows.{part-row, row-length}
+use Rattle.multi_rounds.specs.WordRowLaws.{part-row, row-length}
 use borrow.Author.Needs.{needs}
 use Rattle.multi_rounds.proofs.overlap.Statement.{statement}
 use Rattle.multi_rounds.proofs.overlap.Tie as tie

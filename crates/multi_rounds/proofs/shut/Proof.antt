@@ -1,7 +1,7 @@
 -- `multi_rounds::shut` meets its contract: the bid's words are a part of all the words. Assumes nothing.
 use mathlib.Core.Path.{sym, _∙_}
 use native.Mathlib.Omega.{arith}
-use Rattle.multi_rounds.proofs.Rows.{part-row, row-length}
+use Rattle.multi_rounds.specs.WordRowLaws.{part-row, row-length}
 use borrow.Author.Needs.{needs}
 use Rattle.multi_rounds.proofs.shut.Statement.{statement}
 use Rattle.multi_rounds.proofs.shut.Tie as tie

@@ -5,12 +5,12 @@ use native.Mathlib.Omega.{arith}
 use lib.ListN.{length, length-set}
 use Rattle.cells.specs.Hops.{Counted}
 use Rattle.multi_tournament.specs.Tournament.{known, Tournament}
-use Rattle.multi_rounds.proofs.Rows.{row-in}
+use Rattle.multi_rounds.specs.WordRowLaws.{row-in}
 use mathlib.Core.Bool.{false}
-use Rattle.multi_rounds.proofs.Fronting.{turned, not-clear}
-use Rattle.multi_rounds.proofs.Chosen.{knows}
-use Rattle.multi_rounds.proofs.Begin.{sized-of}
-use Rattle.multi_rounds.proofs.Tracing.{Tracing, starts, ends-full, ends-none, fits, some, goes}
+use Rattle.multi_rounds.specs.FrontingLaws.{turned, not-clear}
+use Rattle.multi_rounds.specs.ChosenLaws.{knows}
+use Rattle.multi_rounds.specs.BeginLaws.{sized-of}
+use Rattle.multi_rounds.specs.TracingLaws.{Tracing, starts, ends-full, ends-none, fits, some, goes}
 use Rattle.multi_rounds.proofs.trace.Statement.{statement}
 use Rattle.multi_rounds.proofs.trace.Tie as tie
 use Rattle.multi_rounds.proofs.trace.Reads as reads

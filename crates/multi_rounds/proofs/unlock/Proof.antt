@@ -1,4 +1,4 @@
-use Rattle.multi_rounds.proofs.Filling.{first-of}
+use Rattle.multi_rounds.specs.FillingLaws.{first-of}
 use borrow.Author.Needs.{needs}
 use Rattle.multi_rounds.proofs.unlock.Statement.{statement}
 use Rattle.multi_rounds.proofs.unlock.Tie as tie

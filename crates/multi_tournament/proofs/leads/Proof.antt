@@ -7,7 +7,7 @@ use mathlib.Core.Bool.{true≢false, false≢true}
 use borrow.Author.Tests.{ltb-true, ltb-false, leb-true, leb-false}
 use Rattle.cover.specs.PickLaws.{late-no, late-most}
 use Rattle.multi_tournament.specs.Tournament.{at}
-use Rattle.multi_tournament.proofs.Order.{product}
+use Rattle.multi_tournament.specs.OrderLaws.{product}
 use Rattle.multi_tournament.proofs.leads.Statement.{statement}
 use Rattle.multi_tournament.proofs.leads.Tie as tie
 use Rattle.multi_tournament.proofs.leads.Reads as reads

@@ -4,7 +4,7 @@ use mathlib.Core.Path.{refl}
 use mathlib.Core.Logic.{inl, inr}
 use native.Mathlib.Omega.{arith}
 use Rattle.multi_tournament.specs.Tournament.{at}
-use Rattle.multi_tournament.proofs.Order.{leads-itself}
+use Rattle.multi_tournament.specs.OrderLaws.{leads-itself}
 use borrow.Author.Needs.{needs}
 use Rattle.multi_tournament.proofs.play.Statement.{statement}
 use Rattle.multi_tournament.proofs.play.Tie as tie

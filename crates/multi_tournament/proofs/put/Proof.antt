@@ -1,7 +1,7 @@
 -- `multi_tournament::put` meets its contract: a store of what stands there already is left out. Assumes nothing.
 use mathlib.Core.Path.{refl}
 use mathlib.Core.Bool.{true≢false}
-use Rattle.multi_tournament.proofs.Tree.{put-same}
+use Rattle.multi_tournament.specs.TreeLaws.{put-same}
 use borrow.Author.Needs.{needs}
 use Rattle.multi_tournament.proofs.put.Statement.{statement}
 use Rattle.multi_tournament.proofs.put.Tie as tie

@@ -2,7 +2,7 @@
 use Prim.Native.Nat.{_≤_}
 use mathlib.Core.Path.{refl, sym, _∙_}
 use native.Mathlib.Omega.{arith}
-use Rattle.multi_tournament.proofs.Tree.{Seating, seats-none, seats-leaf, seats-node, seats-all}
+use Rattle.multi_tournament.specs.TreeLaws.{Seating, seats-none, seats-leaf, seats-node, seats-all}
 use Rattle.multi_tournament.proofs.seat.Statement.{statement}
 use Rattle.multi_tournament.proofs.seat.Tie as tie
 use Rattle.multi_tournament.proofs.seat.Reads as reads

@@ -4,7 +4,7 @@ use mathlib.Core.Path.{_≡_, refl, sym, _∙_}
 use native.Mathlib.Omega.{arith}
 use borrow.Author.Tests.{not-true}
 use Rattle.multi_tournament.specs.Tournament.{known}
-use Rattle.multi_tournament.proofs.Tree.{Except, starts, goes, stands, ends, known-set, played-known}
+use Rattle.multi_tournament.specs.TreeLaws.{Except, starts, goes, stands, ends, known-set, played-known}
 use Rattle.multi_tournament.proofs.update.Statement.{statement}
 use Rattle.multi_tournament.proofs.update.Tie as tie
 use Rattle.multi_tournament.proofs.update.Reads as reads

@@ -2,7 +2,7 @@
 use mathlib.Core.Path.{refl}
 use mathlib.Core.Bool.{false}
 use native.Mathlib.Omega.{arith}
-use Rattle.multi_rounds.proofs.Fronting.{not-clear}
+use Rattle.multi_rounds.specs.FrontingLaws.{not-clear}
 use Rattle.multi_follow.proofs.Strayed.{knows}
 use Rattle.multi_follow.proofs.Following.{inside, takes-last}
 use Rattle.multi_follow.proofs.Stepping.{words, fronted, over-goes}

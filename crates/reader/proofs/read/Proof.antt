@@ -5,8 +5,8 @@ use mathlib.Core.Path.{refl, _∙_}
 use native.Mathlib.Omega.{arith}
 use borrow.Author.Needs.{needs}
 use lib.ListN.{length-replicate}
-use Rattle.reader.proofs.Whole.{opened-tender, opened-refused, filled-held, filled-refused, answer-refused, too-long}
-use Rattle.reader.proofs.Whole.{lines-refused, bids-refused, bids-short, windows-short, answer-accepted}
+use Rattle.reader.specs.WholeLaws.{opened-tender, opened-refused, filled-held, filled-refused, answer-refused, too-long}
+use Rattle.reader.specs.WholeLaws.{lines-refused, bids-refused, bids-short, windows-short, answer-accepted}
 use Rattle.reader.proofs.read.Statement.{statement}
 use Rattle.reader.proofs.read.Tie as tie
 

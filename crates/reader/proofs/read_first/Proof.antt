@@ -9,8 +9,8 @@ use Rattle.reader_line.specs.Words.{cut}
 use Rattle.reader_line.specs.Line.{linesOf}
 use Rattle.reader_line.specs.ScanLaws.{lines-at}
 use Rattle.reader_line.specs.Answer.{toldLine}
-use Rattle.reader.proofs.Fills.{ends-at, ends-broken}
-use Rattle.reader.proofs.Whole.{first-empty, is-tender, first-bid, first-broken, first-unlawful, first-odd}
+use Rattle.reader.specs.FillsLaws.{ends-at, ends-broken}
+use Rattle.reader.specs.WholeLaws.{first-empty, is-tender, first-bid, first-broken, first-unlawful, first-odd}
 use Rattle.reader.proofs.read_first.Statement.{statement}
 use Rattle.reader.proofs.read_first.Tie as tie
 

@@ -1,5 +1,5 @@
 -- `single::award` meets its contract: the selection gives the winners, the payments the rest. Assumes nothing.
-use Rattle.cover.specs.IntervalBidsLaws.{sum-most}
+use Rattle.cover.specs.Intervals.BidsLaws.{sum-most}
 use Rattle.single.specs.Pay.{pays-most, selected-flags, selected-all, award-settled}
 use native.Mathlib.Omega.{arith}
 use borrow.Author.Needs.{needs}

@@ -3,7 +3,7 @@ use mathlib.Core.Path.{_≡_}
 use Prim.Native.Nat.{_≤_, _-_}
 use lib.ListN.{length, length-set}
 use native.Mathlib.Nat.{le-antisymm}
-use Rattle.cover.specs.IntervalMirror.{Mirrored, mirrored-none, mirrored-more}
+use Rattle.cover.specs.Intervals.MirrorLaws.{Mirrored, mirrored-none, mirrored-more}
 use native.Mathlib.Omega.{arith}
 use borrow.Author.Needs.{needs}
 use Rattle.single_costs.proofs.mirror.Statement.{statement}

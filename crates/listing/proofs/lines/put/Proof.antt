@@ -1,5 +1,5 @@
 -- The store puts one byte. Assumes nothing.
-use Rattle.listing.proofs.Writing.{one-byte}
+use Rattle.listing.specs.WritingLaws.{one-byte}
 use borrow.Author.Needs.{needs}
 use Rattle.listing.proofs.lines.put.Statement.{statement}
 use Rattle.listing.proofs.lines.put.Tie as tie

@@ -2,7 +2,7 @@
 use Prim.Native.Nat.{_-_}
 use native.Mathlib.Omega.{arith}
 use lib.ListN.{length}
-use Rattle.listing.proofs.Writing.{Copying, copy-begins, copy-goes, copy-size, copy-ends}
+use Rattle.listing.specs.WritingLaws.{Copying, copy-begins, copy-goes, copy-size, copy-ends}
 use Rattle.listing.proofs.lines.put_all.Statement.{statement}
 use Rattle.listing.proofs.lines.put_all.Tie as tie
 use Rattle.listing.proofs.lines.put_all.Reads as reads

@@ -2,7 +2,7 @@
 use native.Mathlib.Omega.{arith}
 use Rattle.tender.specs.Keywords.{bytes}
 use Rattle.listing.specs.LineLaws.{kind-short}
-use Rattle.listing.proofs.Spelling.{award-written}
+use Rattle.listing.specs.SpellingLaws.{award-written}
 use borrow.Author.Needs.{needs}
 use Rattle.listing.proofs.lines.put_award.Statement.{statement}
 use Rattle.listing.proofs.lines.put_award.Tie as tie

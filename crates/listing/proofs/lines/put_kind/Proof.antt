@@ -2,7 +2,7 @@
 use Rattle.tender.specs.declared.Kind.the-variants.{Single, Multi}
 use Rattle.tender.specs.Keywords.{bytes, singleWord, multiWord}
 use Rattle.listing.specs.Lines.{kindWord}
-use Rattle.listing.proofs.Spelling.{kind-written}
+use Rattle.listing.specs.SpellingLaws.{kind-written}
 use borrow.Author.Needs.{needs}
 use Rattle.listing.proofs.lines.put_kind.Statement.{statement}
 use Rattle.listing.proofs.lines.put_kind.Tie as tie

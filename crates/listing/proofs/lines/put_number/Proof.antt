@@ -1,5 +1,5 @@
 -- A space, and the digits that were spelt. Assumes nothing.
-use Rattle.listing.proofs.Spelling.{number-written}
+use Rattle.listing.specs.SpellingLaws.{number-written}
 use borrow.Author.Needs.{needs}
 use Rattle.listing.proofs.lines.put_number.Statement.{statement}
 use Rattle.listing.proofs.lines.put_number.Tie as tie

@@ -1,7 +1,7 @@
 -- Two numbers and the bytes that end a line. Assumes nothing.
 use native.Mathlib.Omega.{arith}
 use Rattle.listing.specs.LineLaws.{decimal-short}
-use Rattle.listing.proofs.Spelling.{numbers-written}
+use Rattle.listing.specs.SpellingLaws.{numbers-written}
 use borrow.Author.Needs.{needs}
 use Rattle.listing.proofs.lines.put_numbers.Statement.{statement}
 use Rattle.listing.proofs.lines.put_numbers.Tie as tie

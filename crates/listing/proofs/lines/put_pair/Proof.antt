@@ -1,5 +1,5 @@
 -- An opening bracket, the word, and the two numbers. Assumes nothing.
-use Rattle.listing.proofs.Spelling.{pair-written}
+use Rattle.listing.specs.SpellingLaws.{pair-written}
 use borrow.Author.Needs.{needs}
 use Rattle.listing.proofs.lines.put_pair.Statement.{statement}
 use Rattle.listing.proofs.lines.put_pair.Tie as tie

@@ -1,6 +1,6 @@
 -- A line for a winner, nothing for another bid. Assumes nothing.
 use Rattle.tender.specs.Keywords.{bytes}
-use Rattle.listing.proofs.Spelling.{win-written, no-win, nothing-written}
+use Rattle.listing.specs.SpellingLaws.{win-written, no-win, nothing-written}
 use borrow.Author.Needs.{needs}
 use Rattle.listing.proofs.lines.put_win.Statement.{statement}
 use Rattle.listing.proofs.lines.put_win.Tie as tie

@@ -1,7 +1,7 @@
 -- Each turn writes the line of one bid. Assumes nothing.
 use Prim.Native.Nat.{_-_, _≤_}
 use native.Mathlib.Omega.{arith}
-use Rattle.listing.proofs.Winning.{Winning, wins-begin, wins-go, wins-end}
+use Rattle.listing.specs.WinningLaws.{Winning, wins-begin, wins-go, wins-end}
 use Rattle.listing.proofs.lines.put_wins.Statement.{statement}
 use Rattle.listing.proofs.lines.put_wins.Tie as tie
 use Rattle.listing.proofs.lines.put_wins.Reads as reads

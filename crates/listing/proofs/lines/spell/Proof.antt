@@ -3,7 +3,7 @@ use native.Mathlib.Omega.{arith}
 use mathlib.Core.Path.{sym, _∙_}
 use Prim.Native.Nat.{_+_, _-_, _%_}
 use lib.ListN.{length-set}
-use Rattle.listing.proofs.Spelling.{Spelling, spell-begins, spell-goes, spell-ends}
+use Rattle.listing.specs.SpellingLaws.{Spelling, spell-begins, spell-goes, spell-ends}
 use Rattle.listing.proofs.lines.spell.Statement.{statement}
 use Rattle.listing.proofs.lines.spell.Tie as tie
 use Rattle.listing.proofs.lines.spell.Reads as reads

@@ -3,7 +3,7 @@ use mathlib.Core.Path.{sym, ap, _∙_}
 use native.Mathlib.Omega.{arith}
 use borrow.Author.Tests.{not-true, not-false}
 use Rattle.reader.specs.Steps.{faultAt}
-use Rattle.reader.proofs.Judge.{many, beyond, several-windows, unlawful, repeated, sound, bidder-in}
+use Rattle.reader.specs.JudgeLaws.{many, beyond, several-windows, unlawful, repeated, sound, bidder-in}
 use borrow.Author.Needs.{needs}
 use Rattle.reader.proofs.bids.judge.Statement.{statement}
 use Rattle.reader.proofs.bids.judge.Tie as tie

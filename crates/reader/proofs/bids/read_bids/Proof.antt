@@ -7,7 +7,7 @@ use lib.ListN.{length, drop}
 use Rattle.reader_line.specs.Words.{cut}
 use Rattle.reader_line.specs.Line.{linesOf}
 use Rattle.reader_line.specs.ScanLaws.{lines-at, lines-end}
-use Rattle.reader.proofs.Fills.{Walk, begins, goes, stops, breaks, ends, ends-at, ends-broken, room-for, taken-room}
+use Rattle.reader.specs.FillsLaws.{Walk, begins, goes, stops, breaks, ends, ends-at, ends-broken, room-for, taken-room}
 use Rattle.reader.proofs.bids.read_bids.Statement.{statement}
 use Rattle.reader.proofs.bids.read_bids.Tie as tie
 

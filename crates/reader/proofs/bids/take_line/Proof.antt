@@ -2,9 +2,9 @@
 use mathlib.Core.Path.{refl, sym, ap, _∙_}
 use native.Mathlib.Omega.{arith}
 use Rattle.reader_line.specs.Answer.{toldLine}
-use Rattle.reader.specs.RulesLaw.{passed}
+use Rattle.reader.specs.RulesLaws.{passed}
 use Rattle.reader.specs.Steps.{verdictOf}
-use Rattle.reader.proofs.Takes.{is-sound, is-fault, taken-broken, taken-tender, taken-fault, taken-sound}
+use Rattle.reader.specs.TakesLaws.{is-sound, is-fault, taken-broken, taken-tender, taken-fault, taken-sound}
 use borrow.Author.Needs.{needs}
 use Rattle.reader.proofs.bids.take_line.Statement.{statement}
 use Rattle.reader.proofs.bids.take_line.Tie as tie

@@ -4,7 +4,7 @@ use mathlib.Core.Path.{_≡_, refl, ap, _∙_}
 use mathlib.Core.List.{_++_}
 use native.Mathlib.Omega.{arith}
 use lib.ListN.{length, take, drop, set, getD}
-use Rattle.reader.proofs.Table.{copied, copied-length}
+use Rattle.reader.specs.TableLaws.{copied, copied-length}
 use borrow.Author.Needs.{needs}
 use Rattle.reader.proofs.rows.copy.Statement.{statement}
 use Rattle.reader.proofs.rows.copy.Tie as tie

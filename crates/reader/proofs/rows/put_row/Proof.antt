@@ -2,7 +2,7 @@
 use Prim.Native.Nat.{_*_}
 use native.Mathlib.Omega.{arith}
 use lib.ListN.{length-set}
-use Rattle.reader.proofs.Table.{stored}
+use Rattle.reader.specs.TableLaws.{stored}
 use borrow.Author.Needs.{needs}
 use Rattle.reader.proofs.rows.put_row.Statement.{statement}
 use Rattle.reader.proofs.rows.put_row.Tie as tie

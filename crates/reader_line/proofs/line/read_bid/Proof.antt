@@ -5,9 +5,9 @@ use native.Mathlib.Omega.{arith}
 use borrow.Author.Needs.{needs}
 use lib.ListN.{length}
 use Rattle.reader_line.specs.Answer.{toldTally}
-use Rattle.reader_line.proofs.Ends.{next-fits}
-use Rattle.reader_line.proofs.Spans.{is-value, is-bad}
-use Rattle.reader_line.proofs.Lines.{noted-none, bid-one, bid-two, bid-unnumbered, bid-unpriced, bid-unwindowed, bid-whole}
+use Rattle.reader_line.specs.EndsLaws.{next-fits}
+use Rattle.reader_line.specs.SpansLaws.{is-value, is-bad}
+use Rattle.reader_line.specs.LinesLaws.{noted-none, bid-one, bid-two, bid-unnumbered, bid-unpriced, bid-unwindowed, bid-whole}
 use Rattle.reader_line.proofs.line.read_bid.Statement.{statement}
 use Rattle.reader_line.proofs.line.read_bid.Tie as tie
 

@@ -2,7 +2,7 @@
 use mathlib.Core.Path.{sym, ap, _∙_}
 use Rattle.tender.specs.Keywords.{singleWord, multiWord}
 use Rattle.reader_line.specs.Answer.{asKind}
-use Rattle.reader_line.proofs.Lines.{kind-single, kind-multi, kind-none}
+use Rattle.reader_line.specs.LinesLaws.{kind-single, kind-multi, kind-none}
 use borrow.Author.Needs.{needs}
 use Rattle.reader_line.proofs.line.read_kind.Statement.{statement}
 use Rattle.reader_line.proofs.line.read_kind.Tie as tie

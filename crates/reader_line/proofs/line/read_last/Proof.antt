@@ -2,7 +2,7 @@
 use mathlib.Core.Path.{sym, ap, _∙_}
 use borrow.Author.Needs.{needs}
 use Rattle.reader_line.specs.Answer.{asSpan}
-use Rattle.reader_line.proofs.Spans.{closed-is, closed-not, closed-empty, last-open, last-is}
+use Rattle.reader_line.specs.SpansLaws.{closed-is, closed-not, closed-empty, last-open, last-is}
 use Rattle.reader_line.proofs.line.read_last.Statement.{statement}
 use Rattle.reader_line.proofs.line.read_last.Tie as tie
 

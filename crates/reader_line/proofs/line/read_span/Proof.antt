@@ -2,7 +2,7 @@
 use mathlib.Core.Path.{sym, ap, _∙_}
 use borrow.Author.Needs.{needs}
 use Rattle.reader_line.specs.Answer.{asSpan}
-use Rattle.reader_line.proofs.Spans.{is-value, is-bad, span-first, span-second, span-both}
+use Rattle.reader_line.specs.SpansLaws.{is-value, is-bad, span-first, span-second, span-both}
 use Rattle.reader_line.proofs.line.read_span.Statement.{statement}
 use Rattle.reader_line.proofs.line.read_span.Tie as tie
 

@@ -2,8 +2,8 @@
 use mathlib.Core.Path.{sym, ap, _∙_}
 use borrow.Author.Needs.{needs}
 use Rattle.reader_line.specs.Answer.{asSpan}
-use Rattle.reader_line.proofs.Spans.{opened-is, opened-not, opened-empty, closed-is, closed-not, closed-empty, window-open}
-use Rattle.reader_line.proofs.Spans.{window-close, window-both}
+use Rattle.reader_line.specs.SpansLaws.{opened-is, opened-not, opened-empty, closed-is, closed-not, closed-empty, window-open}
+use Rattle.reader_line.specs.SpansLaws.{window-close, window-both}
 use Rattle.reader_line.proofs.line.read_window.Statement.{statement}
 use Rattle.reader_line.proofs.line.read_window.Tie as tie
 

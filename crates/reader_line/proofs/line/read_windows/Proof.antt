@@ -10,8 +10,8 @@ use Rattle.reader_line.specs.Line.{windowsIn}
 use Rattle.reader_line.specs.Scan.{tallied}
 use Rattle.reader_line.specs.TallyLaws.{tally-one, tally-more, tally-wrong, tally-last}
 use Rattle.reader_line.specs.Answer.{lastOf}
-use Rattle.reader_line.proofs.Ends.{next-fits}
-use Rattle.reader_line.proofs.Walk.{tally-end, rest-part, is-of, is-wrong, tally-last-wrong}
+use Rattle.reader_line.specs.EndsLaws.{next-fits}
+use Rattle.reader_line.specs.WalkLaws.{tally-end, rest-part, is-of, is-wrong, tally-last-wrong}
 use Rattle.reader_line.proofs.line.read_windows.Statement.{statement}
 use Rattle.reader_line.proofs.line.read_windows.Tie as tie
 

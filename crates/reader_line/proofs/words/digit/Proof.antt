@@ -1,5 +1,5 @@
 -- `words::digit` meets its contract. Assumes nothing.
-use Rattle.reader_line.proofs.Digits.{inside, below, above}
+use Rattle.reader_line.specs.DigitsLaws.{inside, below, above}
 use mathlib.Core.Path.{sym}
 use Rattle.reader_line.proofs.words.digit.Statement.{statement}
 use Rattle.reader_line.proofs.words.digit.Tie as tie

@@ -7,7 +7,7 @@ use native.Mathlib.Omega.{arith}
 use lib.ListN.{length, drop}
 use Rattle.reader_line.specs.Scan.{toNext}
 use Rattle.reader_line.specs.ScanLaws.{next-here, next-other, next-end, lines-unended}
-use Rattle.reader_line.proofs.Ends.{odd-byte, odd-low, odd-middle, odd-high, digit-not-end, next-fits}
+use Rattle.reader_line.specs.EndsLaws.{odd-byte, odd-low, odd-middle, odd-high, digit-not-end, next-fits}
 use borrow.Author.Needs.{needs}
 use Rattle.reader_line.proofs.words.line_end.Statement.{statement}
 use Rattle.reader_line.proofs.words.line_end.Tie as tie

@@ -3,7 +3,7 @@ use mathlib.Core.Path.{sym, ap, _∙_}
 use mathlib.Core.Logic.{⊎-elim}
 use borrow.Author.Needs.{needs}
 use Rattle.reader_line.specs.Answer.{asNumber}
-use Rattle.reader_line.proofs.Digits.{leading-short, leading-other, number-empty, number-long, number-zero, number-digits}
+use Rattle.reader_line.specs.DigitsLaws.{leading-short, leading-other, number-empty, number-long, number-zero, number-digits}
 use Rattle.reader_line.proofs.words.read_number.Statement.{statement}
 use Rattle.reader_line.proofs.words.read_number.Tie as tie
 

@@ -4,7 +4,7 @@ use mathlib.Core.Path.{_≡_, refl, sym, _∙_}
 use native.Mathlib.Omega.{arith}
 use lib.ListN.{length, drop}
 use Rattle.reader_line.specs.Words.{sameBytes}
-use Rattle.reader_line.proofs.Same.{lengths-differ, same-end, byte-same, byte-other}
+use Rattle.reader_line.specs.SameLaws.{lengths-differ, same-end, byte-same, byte-other}
 use borrow.Author.Needs.{needs}
 use Rattle.reader_line.proofs.words.same.Statement.{statement}
 use Rattle.reader_line.proofs.words.same.Tie as tie

@@ -6,7 +6,7 @@ use borrow.Author.Needs.{needs}
 use lib.ListN.{length, drop}
 use Rattle.reader_line.specs.Words.{digits}
 use Rattle.reader_line.specs.Answer.{asNumber}
-use Rattle.reader_line.proofs.Digits.{inside, below, above, at-end, other, digit, ten-more, ten-below}
+use Rattle.reader_line.specs.DigitsLaws.{inside, below, above, at-end, other, digit, ten-more, ten-below}
 use Rattle.reader_line.proofs.words.value.Statement.{statement}
 use Rattle.reader_line.proofs.words.value.Tie as tie
 

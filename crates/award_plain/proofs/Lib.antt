@@ -1,3 +1,0 @@
-pub mod Multi
-pub mod Prefix
-pub mod Single

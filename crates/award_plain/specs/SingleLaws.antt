@@ -1,0 +1,69 @@
+-- A single tender laid out as starts and ends: what the search for thin cells and the core say is what the award answers. Assumes nothing.
+use mathlib.Core.Path.{_≡_, sym, ap, _∙_}
+use mathlib.Core.List.{List}
+use mathlib.Core.Option.{none}
+use Prim.Native.Nat.{ℕ, _+_, _≤_}
+use native.Mathlib.Omega.{arith}
+use lib.ListN.{length, getD}
+use Rattle.tender.specs.declared.Kind.the-variants.{Single}
+use Rattle.tender.specs.declared.Tender.{Tender}
+use Rattle.tender.specs.declared.Totals.{Totals}
+use Rattle.tender.specs.declared.Refusal.the-variants.{MinuteUncovered, OneBidder}
+use Rattle.tender.specs.Tables.{rowsOf}
+use Rattle.cover.specs.Sets.{bit, covers}
+use Rattle.cover.specs.LeastCover.{winners, vcgPaid}
+use Rattle.cover.specs.Settled.{spans, Settled}
+use Rattle.award_thin.specs.declared.Thin.the-variants.{Nobody, Alone, Enough}
+use Rattle.award_thin.specs.Thin.{Says, Spans}
+use Rattle.award_check.specs.Faults.{faultOf}
+use Rattle.award_check.specs.Cells.{cellsOf, hasOf, pricesOf}
+use Rattle.award_check.specs.AlikeLaws.{prices-count}
+use Rattle.award_layout.specs.Orderly.{Orderly, SpansLaid}
+use Rattle.award_layout.specs.LayoutLaws.{orderly, spans-have, spans-ordered, spans-inside}
+use Rattle.tender.specs.declared.Answer.the-variants.{Awarded, Refused}
+use Rattle.award_plain.specs.Plain.{PlainPromise}
+use Rattle.award_plain.specs.MultiLaws.{priced}
+use Rattle.award_plain.specs.PlainLaws.{eleven, twelve, awards, single-won, single-cents}
+
+module _ (t : Tender) (n : ℕ) (bids windows starts ends ps ow oc : List ℕ) (f : faultOf Single t n bids windows ≡ none)
+    (a : length starts ≡ n) (b : length ends ≡ n)
+    (l : SpansLaid n (t .window .start) (cellsOf t) bids windows starts ends) (p : ps ≡ pricesOf (rowsOf n bids)) where
+  o : Orderly Single n bids windows
+  o = orderly Single t n bids windows f
+
+  same : spans starts ends ≡ hasOf t (rowsOf n bids) windows
+  same = spans-have t n bids windows starts ends o a b l
+
+  pub count : length ps ≡ n
+  count = ap length p ∙ prices-count n bids
+
+  pub ordered : Spans starts ends (cellsOf t)
+  ordered = record {
+    same = b ∙ sym a;
+    few = omega (arith, o .few);
+    ordered = spans-ordered t n bids windows starts ends o a b l;
+    inside = spans-inside t n bids windows starts ends o a b l;
+  }
+
+  pub prices-most : (i : ℕ) → getD ps i 0 ≤ 100000000
+  prices-most i = rw p (priced Single n bids windows o .most i)
+
+  pub uncovered : (x : ℕ) → Says (spans starts ends) n (cellsOf t) (Nobody x)
+      → PlainPromise Single t n bids windows n ow oc ow oc (Refused (MinuteUncovered (t .window .start + x)))
+  uncovered x s = eleven Single t n bids windows n ow oc f (omega arith) x (rw same at s)
+
+  pub lone : (x : ℕ) → Says (spans starts ends) n (cellsOf t) (Alone x)
+      → PlainPromise Single t n bids windows n ow oc ow oc (Refused (OneBidder (t .window .start + x)))
+  lone x s = let h = rw same at s in twelve Single t n bids windows n ow oc f (omega arith) x (h .0) (h .1)
+
+  pub settled : Says (spans starts ends) n (cellsOf t) Enough → (nw nc : List ℕ) (totals : Totals) →
+      Settled (λ i. bit (winners (covers (spans starts ends) (length ps) (cellsOf t)) ps) i)
+      (vcgPaid (covers (spans starts ends) (length ps) (cellsOf t)) ps) ps ow oc nw nc (totals .cost) (totals .paid) →
+      PlainPromise Single t n bids windows n ow oc nw nc (Awarded totals)
+  settled s nw nc totals h =
+      let ps′ = pricesOf (rowsOf n bids) in
+      let g = hasOf t (rowsOf n bids) windows in
+      let h′ = rw same at s in
+      awards Single t n bids windows n ow oc f (omega arith) (h′ .0) (h′ .1)
+      (λ i. bit (winners (covers g (length ps′) (cellsOf t)) ps′) i) (vcgPaid (covers g (length ps′) (cellsOf t)) ps′)
+      (λ i d. single-won g ps′ (cellsOf t) i) (λ i d. single-cents g ps′ (cellsOf t) i) nw nc totals (rw (same, p) at h)

@@ -1,5 +1,0 @@
-pub mod Counts
-pub mod Firsts
-pub mod Bare
-pub mod Sweep
-pub mod Masks

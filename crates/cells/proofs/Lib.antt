@@ -1,6 +1,0 @@
-pub mod Bit
-pub mod Sum
-pub mod Store
-pub mod Counts
-pub mod Walk
-pub mod Lowest

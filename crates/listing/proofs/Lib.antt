@@ -1,4 +1,0 @@
-pub mod Writing
-pub mod Spelling
-pub mod Winning
-pub mod Making

@@ -1,0 +1,161 @@
+-- The list of the award to the tables that were read is the list of the text. Assumes nothing.
+use mathlib.Core.Path.{_≡_, refl, sym, ap, _∙_}
+use mathlib.Core.Bool.{true, false}
+use mathlib.Core.List.{List, _++_}
+use Prim.Native.Nat.{ℕ, _*_, _/_, _≤_, _<_}
+use native.Mathlib.Omega.{arith}
+use lib.ListN.{length, take, drop}
+use lib.Dec.{leb}
+use borrow.Author.Tests.{le-leb, lt-leb}
+use Rattle.tender.specs.declared.Tender.{Tender}
+use Rattle.tender.specs.declared.Totals.{Totals}
+use Rattle.tender.specs.declared.Refusal.{Refusal}
+use Rattle.tender.specs.Keywords.{bytes}
+use Rattle.tender.specs.Refusals.{numberOf, placeOf}
+use Rattle.tender.specs.declared.Window.{Window}
+use Rattle.tender.specs.Tables.{Row, flatRows, flatWindows}
+use Rattle.reader.specs.declared.Reading.{Reading}
+use Rattle.reader.specs.declared.Reading.the-variants as answer
+use Rattle.reader.specs.Read.{accepted, readText, readInto}
+use Rattle.reader.specs.Read as reading
+use Rattle.reader.specs.Answer.{filled, declined, toldReading, summary, bidsAfter, windowsAfter}
+use Rattle.reader.specs.CountLaws.{counts-law}
+use Rattle.reader.specs.SizeLaws.{fits-law}
+use Rattle.reader.specs.RulesLaws.{rules-law}
+use Rattle.tender.specs.declared.Answer.{Answer}
+use Rattle.tender.specs.declared.Answer.the-variants.{Awarded, Refused}
+use Rattle.award_plain.specs.Plain.{PlainPromise}
+use Rattle.listing.specs.Lines.{awardLine, winLines, pairLine, totalWord, refusedWord}
+use Rattle.listing.specs.Written.{Written}
+use Rattle.listing.specs.List.{listOf, Listed}
+use Rattle.listing.specs.ListLaws.{award-list, list-short}
+use Rattle.listing.specs.Made.{answerLines, Awarded·written, Made}
+use Rattle.listing.specs.WritingLaws.{from-start}
+
+-- a refusal's line
+pub refusal-written : {old new : List ℕ} {f a b : ℕ} (r : Refusal) → a ≡ numberOf r → b ≡ placeOf r
+    → Written old 0 (pairLine (bytes "refused") a b) new f → Written old 0 (pairLine refusedWord (numberOf r) (placeOf r)) new f
+unfolding refusedWord bytes
+refusal-written {old} {new} {f} {a} {b} r p q w = rw (← p, ← q) w
+
+module _ {t : Tender} {n lent : ℕ} {bids windows ow oc won cents old new : List ℕ} {a : Answer} {f : ℕ} where
+  pub award-written : (totals : Totals) → a ≡ Awarded totals → n ≤ lent → PlainPromise (t .kind) t n bids windows lent ow oc won cents a →
+      Written old 0 (awardLine t ++ winLines bids won cents n ++ pairLine totalWord (totals .cost) (totals .paid)) new f
+      → Awarded·written t n bids windows old new f
+  unfolding answerLines
+  award-written totals e l p w = record {
+    lent = lent;
+    enough = l;
+    old-won = ow;
+    old-cents = oc;
+    won = won;
+    cents = cents;
+    answer = a;
+    promise = p;
+    written = rw e w;
+  }
+
+  pub declined-written : (r : Refusal) → a ≡ Refused r → n ≤ lent → PlainPromise (t .kind) t n bids windows lent ow oc won cents a →
+      Written old 0 (pairLine refusedWord (numberOf r) (placeOf r)) new f → Awarded·written t n bids windows old new f
+  unfolding answerLines
+  declined-written r e l p w = record {
+    lent = lent;
+    enough = l;
+    old-won = ow;
+    old-cents = oc;
+    won = won;
+    cents = cents;
+    answer = a;
+    promise = p;
+    written = rw e w;
+  }
+
+-- what an accepted text left in the tables
+pub record ReadIn (text bids windows : List ℕ) (t : Tender) (n : ℕ) : Type 0 where
+  pub rows : List Row
+  pub spans : List Window
+  pub past-rows : List ℕ
+  pub past-spans : List ℕ
+  pub is : readText text ≡ accepted t rows spans
+  pub count : length rows ≡ n
+  pub bids-are : bids ≡ flatRows rows ++ past-rows
+  pub windows-are : windows ≡ flatWindows spans ++ past-spans
+
+-- a reading into tables of 1,000 and 11,000 rows
+module _ (text ob ow : List ℕ) (room-b : length ob ≡ 4000) (room-w : length ow ≡ 22000) where
+  whole : readInto text (length ob / 4) (length ow / 2) ≡ readText text
+  whole = rw (room-b, room-w) (fits-law text 1000 11000 (omega arith) (omega arith))
+
+  pub accepted-read : {nb nw : List ℕ} {r : Reading} (t : Tender) (n m : ℕ)
+      → toldReading r ≡ summary (readInto text (length ob / 4) (length ow / 2)) →
+      nb ≡ bidsAfter ob (readInto text (length ob / 4) (length ow / 2))
+      → nw ≡ windowsAfter ow (readInto text (length ob / 4) (length ow / 2)) → r ≡ answer.Accepted t n m → ReadIn text nb nw t n
+  unfolding bidsAfter windowsAfter
+  accepted-read {nb} {nw} {r} t n m a b w e = go (readText text) refl (sym (ap toldReading e) ∙ a ∙ ap summary whole)
+      (b ∙ ap (bidsAfter ob) whole) (w ∙ ap (windowsAfter ow) whole)
+    where
+      go : (o : reading.ReadOutcome) → readText text ≡ o → filled t n m ≡ summary o → nb ≡ bidsAfter ob o → nw ≡ windowsAfter ow o
+          → ReadIn text nb nw t n
+      go (reading.refused k at) h x y z = let f : _≡_ {A = ℕ} 0 1 = cc in absurd (omega arith)
+      go (accepted u R W) h x y z = record {
+        rows = R;
+        spans = W;
+        past-rows = drop (4 * length R) ob;
+        past-spans = drop (2 * length W) ow;
+        is = h ∙ ap (λ v. accepted v R W) (cc);
+        count = cc;
+        bids-are = y;
+        windows-are = z;
+      }
+
+  pub refused-read : {nb nw : List ℕ} {r : Reading} (q : Refusal)
+      → toldReading r ≡ summary (readInto text (length ob / 4) (length ow / 2)) →
+      nb ≡ bidsAfter ob (readInto text (length ob / 4) (length ow / 2))
+      → nw ≡ windowsAfter ow (readInto text (length ob / 4) (length ow / 2)) → r ≡ answer.Refused q
+      → readText text ≡ reading.refused (numberOf q) (placeOf q)
+  refused-read {nb} {nw} {r} q a b w e = go (readText text) (sym (ap toldReading e) ∙ a ∙ ap summary whole)
+    where
+      go : (o : reading.ReadOutcome) → declined (numberOf q) (placeOf q) ≡ summary o → o ≡ reading.refused (numberOf q) (placeOf q)
+      go (reading.refused k at) x = cc
+      go (accepted u R W) x = let f : _≡_ {A = ℕ} 0 1 = cc in absurd (omega arith)
+
+pub few-read : {text bids windows : List ℕ} {t : Tender} {n : ℕ} → ReadIn text bids windows t n → n ≤ 1000
+few-read {text} {bids} {windows} {t} {n} h = omega (arith, h .count, counts-law t (h .rows) (h .spans) text (h .is) .0)
+
+-- so the list is made
+pub made-award : {text bids windows old new : List ℕ} {t : Tender} {n f : ℕ} → ReadIn text bids windows t n
+    → Awarded·written t n bids windows old new f → Made text new f
+made-award {text} {bids} {windows} {old} {new} {t} {n} {f} h w =
+    let lines : List ℕ = answerLines t bids (w .won) (w .cents) n (w .answer) in
+    let g : take f new ≡ lines = w .written .text in
+    let l : lines ≡ listOf (accepted t (h .rows) (h .spans)) =
+    rw (h .bids-are, ← (h .count)) (award-list t (h .rows) (h .spans) (h .past-rows) (h .past-spans) (w .lent) (w .old-won) (w .old-cents)
+    (w .won) (w .cents) (w .answer) (rules-law t (h .rows) (h .spans) text (h .is))
+    (rw (h .count) (w .enough)) (rw (h .bids-are, h .windows-are, ← (h .count)) at (w .promise))) in
+    record { right = rw (h .is, g) l; size = omega (arith, ap length g, w .written .next) }
+
+pub made-refusal : {text old new : List ℕ} {f : ℕ} (q : Refusal) → readText text ≡ reading.refused (numberOf q) (placeOf q)
+    → Written old 0 (pairLine refusedWord (numberOf q) (placeOf q)) new f → Made text new f
+unfolding listOf
+made-refusal {text} {old} {new} {f} q e w =
+    let g : take f new ≡ pairLine refusedWord (numberOf q) (placeOf q) = w .text in
+    record { right = rw (e, g) refl; size = omega (arith, ap length g, w .next) }
+
+-- what is made fits the buffer that it is made in
+pub made-few : {text made : List ℕ} {n : ℕ} → Made text made n → n ≤ 51200
+made-few {text} {made} {n} m = omega (arith, m .size, ap length (m .right), list-short text .0)
+
+-- it is copied where there is room, and else nothing is
+pub listed-none : {text made old : List ℕ} {n : ℕ} → Made text made n → length old < n → Listed text old old 0
+listed-none {text} {made} {old} {n} m l =
+    let e : leb (length (listOf (readText text))) (length old) ≡ false =
+    lt-leb (length (listOf (readText text))) (length old) (omega (arith, m .size, ap length (m .right))) in
+    record { answer = rw e; bytes = rw e }
+
+pub listed-all : {text made old new : List ℕ} {n r : ℕ} → Made text made n → n ≤ length old → Written old 0 (take n made) new r
+    → Listed text old new r
+listed-all {text} {made} {old} {new} {n} {r} m l w =
+    let list = listOf (readText text) in
+    let e : leb (length list) (length old) ≡ true = le-leb (length list) (length old) (omega (arith, m .size, ap length (m .right))) in
+    let k : length list ≡ r = omega (arith, w .next, ap length (m .right)) in
+    record { answer = rw e (sym k); bytes = rw (e, k) (from-start old list new r (rw (m .right) at w)) }

@@ -1,6 +1,0 @@
-mod Table
-mod Judge
-mod Takes
-mod Store
-mod Fills
-mod Whole

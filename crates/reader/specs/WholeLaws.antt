@@ -1,0 +1,172 @@
+-- What reading answers, from the first line, the bids and the lent tables' lengths. Assumes nothing.
+use Prim.Native.Nat.{ℕ, _*_, _/_, _≤_, _<_}
+use mathlib.Core.Path.{_≡_, refl, _∙_}
+use mathlib.Core.List.{List, [], _∷_, _++_}
+use mathlib.Core.Bool.{false}
+use mathlib.Core.Option.{Option, none, some}
+use native.Mathlib.Omega.{arith}
+use lib.ListN.{length, take, drop}
+use borrow.Author.Tests.{lt-ltb, le-ltb, le-leb, lt-leb}
+use Rattle.tender.specs.declared.Kind.{Kind}
+use Rattle.tender.specs.declared.Window.{Window}
+use Rattle.tender.specs.declared.Tender.{Tender}
+use Rattle.tender.specs.declared.Refusal.{Refusal}
+use Rattle.tender.specs.Limits.{lawful}
+use Rattle.tender.specs.Refusals.{numberOf, placeOf}
+use Rattle.tender.specs.Tables.{Row, flatRows, flatWindows}
+use Rattle.reader_line.specs.Words.{cut}
+use Rattle.reader_line.specs.Line.{Line, tender, bid, linesOf}
+use Rattle.reader_line.specs.Scan.{Tally, tenderNote, bidNote, noted}
+use Rattle.reader_line.specs.Answer.{FirstBroken}
+use Rattle.reader.specs.Read.{ReadOutcome, accepted, refused, rowsFrom, allWindows, bidsOf, checked, tables, readLines, readText}
+use Rattle.reader.specs.Read.{fitted, readInto}
+use Rattle.reader.specs.RulesLaws.{rowsFrom-length}
+use Rattle.reader.specs.Answer.{filled, declined, summary, bidsAfter, windowsAfter}
+use Rattle.reader.specs.Steps.{Begins, Opened, TablesHold, LinesFilled}
+use Rattle.reader.specs.declared.First.{First}
+use Rattle.reader.specs.declared.First.the-variants as first
+use Rattle.reader.specs.declared.bids.Bids.{Bids}
+use Rattle.reader.specs.declared.bids.Bids.the-variants as bids
+
+-- the first line
+
+pub first-empty : (text : List ℕ) → length text ≡ 0 → readLines (linesOf (cut 10 text)) ≡ refused 2 1
+unfolding readLines linesOf cut
+first-empty [] h = refl
+first-empty (b ∷ text) h = absurd (omega arith)
+
+pub is-tender : (m : ℕ) (cells : List ℕ) (o : Option Line) (t : Tender) → some (tenderNote t) ≡ noted m cells o → o ≡ some (tender t)
+unfolding noted
+is-tender m cells none t e = let z : _≡_ {A = ℕ} 0 1 = cc in absurd (omega arith)
+is-tender m cells (some (tender u)) t e = cc
+is-tender m cells (some (bid b)) t e = let z : _≡_ {A = ℕ} 0 1 = cc in absurd (omega arith)
+
+module _ (ls rest : List (Option Line)) (o : Option Line) (q : ls ≡ o ∷ rest) where
+  pub first-bid : (m n p : ℕ) (cells : List ℕ) (t : Tally) → some (bidNote n p t) ≡ noted m cells o → readLines ls ≡ refused 2 1
+  unfolding readLines noted
+  first-bid m n p cells t e = rw q (go o e)
+    where
+      go : (x : Option Line) → some (bidNote n p t) ≡ noted m cells x → readLines (x ∷ rest) ≡ refused 2 1
+      go none h = let z : _≡_ {A = ℕ} 0 1 = cc in absurd (omega arith)
+      go (some (tender u)) h = let z : _≡_ {A = ℕ} 0 1 = cc in absurd (omega arith)
+      go (some (bid b)) h = refl
+
+  pub first-broken : (m : ℕ) (cells : List ℕ) → none ≡ noted m cells o → readLines ls ≡ refused 2 1
+  unfolding readLines noted
+  first-broken m cells e = rw q (go o e)
+    where
+      go : (x : Option Line) → none ≡ noted m cells x → readLines (x ∷ rest) ≡ refused 2 1
+      go none h = refl
+      go (some (tender u)) h = let z : _≡_ {A = ℕ} 0 1 = cc in absurd (omega arith)
+      go (some (bid b)) h = let z : _≡_ {A = ℕ} 0 1 = cc in absurd (omega arith)
+
+  pub first-unlawful : (t : Tender) → o ≡ some (tender t) → lawful (t .window) ≡ false → readLines ls ≡ refused 5 1
+  unfolding readLines
+  first-unlawful t e l = rw (q, e) (rw l)
+
+pub first-odd : (ls : List (Option Line)) → FirstBroken ls → readLines ls ≡ refused 2 1
+unfolding readLines
+first-odd ls b = rw (b .are)
+
+-- by the case of an answer
+
+pub opened-tender : (text : List ℕ) (r : First) → Opened text r → (t : Tender) (at : ℕ) → r ≡ first.Tender t at → Begins text t at
+opened-tender text (first.Tender u i) h t at e = let x : u ≡ t = cc in let y : i ≡ at = cc in rw (← x, ← y) h
+opened-tender text (first.Refused r) h t at e = let z : _≡_ {A = ℕ} 0 1 = cc in absurd (omega arith)
+
+pub opened-refused : (text : List ℕ) (r : First) → Opened text r → (x : Refusal) → r ≡ first.Refused x
+    → readLines (linesOf (cut 10 text)) ≡ refused (numberOf x) (placeOf x)
+opened-refused text (first.Tender u i) h x e = let z : _≡_ {A = ℕ} 0 1 = cc in absurd (omega arith)
+opened-refused text (first.Refused r) h x e = let y : r ≡ x = cc in rw (← y) h
+
+module _ (kind : Kind) (ls : List (Option Line)) (rows spans : List ℕ) where
+  pub filled-held : (r : Bids) → LinesFilled kind ls r rows spans → (k m : ℕ) → r ≡ bids.Filled k m → TablesHold kind ls k m rows spans
+  filled-held (bids.Filled j n) h k m e = let x : j ≡ k = cc in let y : n ≡ m = cc in rw (← x, ← y) h
+  filled-held (bids.Refused r) h k m e = let z : _≡_ {A = ℕ} 0 1 = cc in absurd (omega arith)
+
+  pub filled-refused : (r : Bids) → LinesFilled kind ls r rows spans → (x : Refusal) → r ≡ bids.Refused x → (out : ReadOutcome)
+      → checked kind 2 [] ls out ≡ refused (numberOf x) (placeOf x)
+  filled-refused (bids.Filled j n) h x e out = let z : _≡_ {A = ℕ} 0 1 = cc in absurd (omega arith)
+  filled-refused (bids.Refused r) h x e out = let y : r ≡ x = cc in rw (← y) (h out)
+
+-- the whole answer
+
+module _ (text bids windows : List ℕ) where
+  pub Refuses : ℕ → ℕ → Type 0
+  Refuses n at = readInto text (length bids / 4) (length windows / 2) ≡ refused n at
+
+  pub answer-refused : (n at : ℕ) → Refuses n at →
+      (declined n at ≡ summary (readInto text (length bids / 4) (length windows / 2)))
+      × (bids ≡ bidsAfter bids (readInto text (length bids / 4) (length windows / 2)))
+      × (windows ≡ windowsAfter windows (readInto text (length bids / 4) (length windows / 2)))
+  unfolding Refuses bidsAfter windowsAfter
+  answer-refused n at e = rw e (refl, refl, refl)
+
+  pub too-long : 65536 < length text → Refuses 1 0
+  unfolding Refuses readInto readText fitted
+  too-long h = rw (lt-ltb 65536 (length text) h)
+
+  module _ (l : length text ≤ 65536) where
+    short : readText text ≡ readLines (linesOf (cut 10 text))
+    unfolding readText
+    short = rw (le-ltb 65536 (length text) l)
+
+    pub lines-refused : (n at : ℕ) → readLines (linesOf (cut 10 text)) ≡ refused n at → Refuses n at
+    unfolding Refuses readInto fitted
+    lines-refused n at e = rw (short, e)
+
+    module _ (t : Tender) (at : ℕ) (g : Begins text t at) where
+      begun : readLines (linesOf (cut 10 text)) ≡ checked (t .kind) 2 [] (linesOf (cut 10 (drop at text)))
+          (tables t (bidsOf (linesOf (cut 10 (drop at text)))))
+      unfolding readLines
+      begun = rw (g .lines) (rw (g .window))
+
+      pub bids-refused : (n p : ℕ) → ((out : ReadOutcome) → checked (t .kind) 2 [] (linesOf (cut 10 (drop at text))) out ≡ refused n p)
+          → Refuses n p
+      bids-refused n p h = lines-refused n p (begun ∙ h _)
+
+      module _ (k m : ℕ) (rows spans : List ℕ) (h : TablesHold (t .kind) (linesOf (cut 10 (drop at text))) k m rows spans) where
+        R : List Row
+        R = rowsFrom 0 (bidsOf (linesOf (cut 10 (drop at text))))
+
+        W : List Window
+        W = allWindows (bidsOf (linesOf (cut 10 (drop at text))))
+
+        rows-count : length R ≡ k
+        unfolding R
+        rows-count = rowsFrom-length 0 (bidsOf (linesOf (cut 10 (drop at text)))) ∙ h .bids
+
+        windows-count : length W ≡ m
+        unfolding W
+        windows-count = h .places
+
+        read-is : readText text ≡ accepted t R W
+        unfolding tables R W
+        read-is = short ∙ begun ∙ h .faultless _
+
+        pub bids-short : length bids / 4 < k → Refuses 8 0
+        unfolding Refuses readInto fitted
+        bids-short j = rw (read-is, rows-count, lt-leb k (length bids / 4) j)
+
+        pub windows-short : k ≤ length bids / 4 → length windows / 2 < m → Refuses 8 0
+        unfolding Refuses readInto fitted
+        windows-short i j = rw (read-is, rows-count, windows-count, le-leb k (length bids / 4) i, lt-leb m (length windows / 2) j)
+
+        fits : k ≤ length bids / 4 → m ≤ length windows / 2 → readInto text (length bids / 4) (length windows / 2) ≡ accepted t R W
+        unfolding readInto fitted
+        fits i j = rw (read-is, rows-count, windows-count, le-leb k (length bids / 4) i, le-leb m (length windows / 2) j)
+
+        rows-same : take (4 * k) rows ≡ flatRows R
+        unfolding R
+        rows-same = h .rows-are
+
+        windows-same : take (2 * m) spans ≡ flatWindows W
+        unfolding W
+        windows-same = h .windows-are
+
+        pub answer-accepted : k ≤ length bids / 4 → m ≤ length windows / 2 →
+            (filled t k m ≡ summary (readInto text (length bids / 4) (length windows / 2)))
+            × (take (4 * k) rows ++ drop (4 * k) bids ≡ bidsAfter bids (readInto text (length bids / 4) (length windows / 2)))
+            × (take (2 * m) spans ++ drop (2 * m) windows ≡ windowsAfter windows (readInto text (length bids / 4) (length windows / 2)))
+        unfolding bidsAfter windowsAfter
+        answer-accepted i j = rw (fits i j) (rw (rows-count, windows-count), rw (rows-count, rows-same), rw (windows-count, windows-same))

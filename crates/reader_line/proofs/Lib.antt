@@ -1,6 +1,0 @@
-mod Digits
-mod Ends
-mod Same
-mod Spans
-mod Walk
-mod Lines
