@@ -6,8 +6,7 @@
 --     lends, comes-back                    the elements are lent as a `&κ mut [R]`, and come back at their last values once κ is over
 --     lends-shared, comes-back-shared      the elements are lent as a `&κ [R]`, and come back once κ is over
 -- repeated, repeated-elements of numbers: n times a number is a value of the array's type, and the cell that holds it is n
--- elements in memory
--- Assumes `Given`.
+-- elements in memory Assumes `Given`.
 use mathlib.Core.Path.{_≡_, refl}
 use Prim.Native.Nat.{ℕ, zero, suc, _<_, _^_}
 use mathlib.Core.List.{List, [], _∷_}

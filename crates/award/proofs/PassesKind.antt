@@ -1,6 +1,6 @@
 -- A function that passes its parameters on to `award_in` with one kind of tender keeps that kind's promise: a walk of its MIR, by
--- hand, for either kind. The rows are given
--- up to the callee. `award_single` and `award_multi` are such functions. Assumes `Given`, and that `award_in` meets its contract.
+-- hand, for either kind. The rows are given up to the callee. `award_single` and `award_multi` are such functions. Assumes
+-- `Given`, and that `award_in` meets its contract.
 use mathlib.Core.Path.{_≡_, refl}
 use Prim.Native.Nat.{ℕ, _<_, _^_}
 use mathlib.Core.List.{List, [], _∷_}

@@ -1,7 +1,6 @@
 -- The demands, each proved by citing. `Promise k ..` says of a call of the award of the kind k, made with n bids stated and the
--- award rows `old` lent, that it answers a and
--- leaves the rows `new`; `told n new a` is what it told. `award_single` and `award_multi` keep it, and so does `settle`, its
--- cells read as rows (`RowsPromise`). Assumes nothing.
+-- award rows `old` lent, that it answers a and leaves the rows `new`; `told n new a` is what it told. `award_single` and
+-- `award_multi` keep it, and so does `settle`, its lists read as rows (`RowsPromise`). Assumes nothing.
 use mathlib.Core.Path.{_≡_, sym, _∙_}
 use mathlib.Core.List.{List, _++_}
 use mathlib.Core.Bool.{true}
@@ -75,8 +74,8 @@ demand-2-multi t n i bids windows old new a rows cost paid p e l =
     outcome.largest-price t n i bids windows (length old) rows cost paid l (rw e at (p .answers))
 
 -- Demand 3, on tables. Two tenders alike in all but the price of bid i, neither answered with 9, the same award called on both,
--- each time with an award row for every bid
--- or each time with fewer: where the first names the true cost c, the gain in the second is no higher.
+-- each time with an award row for every bid or each time with fewer: where the first names the true cost c, the gain in the
+-- second is no higher.
 pub demand-3-tables : (k : Kind) (t : Tender) (n i c : ℕ) (bids windows bids′ windows′ : List ℕ) (old new old′ new′ : List AwardRow)
     (a a′ : Answer) →
     Promise k t n bids windows old new a → Promise k t n bids′ windows′ old′ new′ a′ → (outcomeNumber (toldAward n new a) ≡ 9 → ⊥)
@@ -89,9 +88,8 @@ demand-3-tables k t n i c bids windows bids′ windows′ old new old′ new′ 
     (p .answers) (p′ .answers) h h′)
 
 -- Demand 3, on texts. Two texts that differ in how the price of one bidder is written, p or q, and nowhere else, both accepted;
--- the same award called on what was read, whatever
--- v, w, v′, w′ stand past the rows in the lent tables, each time with an award row for every bid or each time with fewer: where p
--- is the true cost, q gains no more.
+-- the same award called on what was read, whatever v, w, v′, w′ stand past the rows in the lent tables, each time with an award
+-- row for every bid or each time with fewer: where p is the true cost, q gains no more.
 pub demand-3-texts : (text text′ bidder p q : List ℕ) (k : Kind) (T T′ : Tender) (R R′ : List Row) (W W′ : List Window)
     (v w v′ w′ : List ℕ) (old new old′ new′ : List AwardRow) (a a′ : Answer) →
     DifferInPrice text text′ bidder p q → readText text ≡ accepted T R W → readText text′ ≡ accepted T′ R′ W′

@@ -1,10 +1,10 @@
 -- What a right outcome says of gains, winners and payments. Assumes nothing.
 use mathlib.Core.Path.{_≡_, refl, sym, ap, _∙_}
 use mathlib.Core.List.{List, [], _∷_}
-use mathlib.Core.Bool.{true, false}
+use mathlib.Core.Bool.{true}
 use Prim.Native.Nat.{ℕ, zero, suc, _+_, _≤_, _<_}
 use native.Mathlib.Omega.{arith}
-use lib.ListN.{length, getD, set, drop, List·getD-append}
+use lib.ListN.{length, getD, set}
 use lib.Dec.{ltb, leb}
 use Rattle.tender.specs.declared.Kind.{Kind}
 use Rattle.tender.specs.declared.Kind.the-variants.{Single, Multi}
@@ -20,16 +20,14 @@ use Rattle.award_check.specs.Alike.{named, Alike}
 use Rattle.award_check.specs.AlikeLaws.{prices-count, price-named}
 use Rattle.tender.specs.declared.AwardRow.{AwardRow}
 use Rattle.award_plain.specs.Award.{won, Outcome, awarded, refused, outcomeNumber, awardOf}
-use Rattle.award.specs.Promise.{lentAfter}
 use Rattle.award.specs.Gain.{rowFor, gain, AtMost}
 use Rattle.award.specs.Right.{LeastCover, WinnerAt, PaidByEight}
-use Rattle.award_plain.specs.AwardLaws.{won-single, cents-single, no-fault, award-awarded, rows-count}
+use Rattle.award_plain.specs.AwardLaws.{won-single, cents-single, no-fault, award-awarded}
 use Rattle.award.specs.SettleLaws.{cost-single, largest, vcg-pays, winners-cover}
 use Rattle.award.specs.TableLaws.{award-honest, row-is, row-fair}
 
 -- Two tenders that neither answer refuses with 9, alike in all but the price of bid i, each with an award row for every bid or
--- each with fewer:
--- where the first names the bidder's true cost, its gain in the second is no higher.
+-- each with fewer: where the first names the bidder's true cost, its gain in the second is no higher.
 pub honest-outcome : (k : Kind) (t : Tender) (n i : ℕ) (bids windows bids′ windows′ : List ℕ) (lent lent′ : ℕ) (a a′ : Outcome) → i < n →
     Alike n i bids windows bids′ windows′ → ltb lent n ≡ ltb lent′ n →
     a ≡ awardOf k t n bids windows lent → a′ ≡ awardOf k t n bids′ windows′ lent′ → (outcomeNumber a ≡ 9 → ⊥) → (outcomeNumber a′ ≡ 9 → ⊥) →
@@ -122,13 +120,3 @@ any-default : (rs : List AwardRow) (i : ℕ) (d e : AwardRow) → i < length rs 
 any-default [] i d e l = absurd (omega arith)
 any-default (r ∷ rs) zero d e l = refl
 any-default (r ∷ rs) (suc i) d e l = any-default rs i d e (omega arith)
-
--- the award rows after the call: a filled row is the row that a gain is taken from, and rows past the last bid stay
-pub row-lent : (k : Kind) (t : Tender) (n i : ℕ) (bids windows : List ℕ) (old : List AwardRow) (d : AwardRow) (rows : List AwardRow)
-    (cost paid : ℕ) → i < n → awarded rows cost paid ≡ awardOf k t n bids windows (length old) →
-    getD (lentAfter old (awarded rows cost paid)) i d ≡ rowFor (awarded rows cost paid) i
-unfolding lentAfter rowFor
-row-lent k t n i bids windows old d rows cost paid l x =
-    let w = award-awarded k t n bids windows (length old) rows cost paid x in
-    let m = rows-count k t n bids windows (length old) rows cost paid w in
-    List·getD-append rows (drop (length rows) old) d i (rw m l) ∙ any-default rows i d (record { won = false; cents = 0 }) (rw m l)

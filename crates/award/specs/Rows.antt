@@ -1,4 +1,4 @@
--- The award rows that a fill writes, one store after the other; with the law that they are the rows that the cells say.
+-- The award rows that a fill writes, one store after the other; with the law that they are the rows that the lists say.
 use mathlib.Core.Path.{_≡_, refl, sym, ap, _∙_}
 use mathlib.Core.List.{List, _++_}
 use mathlib.Core.Bool.{Bool, true, false}

@@ -1,4 +1,4 @@
--- What a call over plain cells promises, read as award rows: with the rows that its cells say filled in, it keeps the promise
+-- What a call over plain lists promises, read as award rows: with the rows that its lists say filled in, it keeps the promise
 -- that the demands are stated of. Assumes nothing.
 use mathlib.Core.Path.{_≡_, refl, sym, ap, subst, _∙_}
 use mathlib.Core.List.{List, _++_}
@@ -30,7 +30,7 @@ pub after-fill : (n : ℕ) (won cents : List ℕ) (totals : Totals) (old : List 
 unfolding lentAfter toldIn
 after-fill n won cents totals old = ap (λ (m : ℕ). rowsIn n won cents ++ drop m old) (rows-count n won cents)
 
--- the rows then told are the same as the cells told
+-- the rows then told are the same as the lists told
 same-told : (n : ℕ) (won cents : List ℕ) (a : Answer) (old : List AwardRow)
     → toldAward n (lentAfter old (toldIn n won cents a)) a ≡ toldIn n won cents a
 unfolding toldAward toldIn lentAfter
@@ -39,7 +39,7 @@ same-told n won cents (Awarded totals) old =
     (take-at (rowsIn n won cents) (drop (length (rowsIn n won cents)) old) n (rows-count n won cents))
 same-told n won cents (Refused r) old = refl
 
--- with `old` award rows lent and filled from the cells, the call keeps the promise of an award on rows
+-- with `old` award rows lent and filled from the lists, the call keeps the promise of an award on rows
 pub rows-promise : (k : Kind) (t : Tender) (n : ℕ) (bids windows : List ℕ) (old : List AwardRow) (ow oc nw nc : List ℕ) (a : Answer)
     → PlainPromise k t n bids windows (length old) ow oc nw nc a →
     Promise k t n bids windows old (lentAfter old (toldIn n nw nc a)) a
@@ -65,7 +65,7 @@ unfolding lentAfter toldIn rowsFilled rowsIn
 after-filled n won cents (Awarded totals) old = after-fill n won cents totals old
 after-filled n won cents (Refused r) old = refl
 
--- with the rows filled from the cells, as many as the answer fills, the call keeps the promise of an award on rows
+-- with the rows filled from the lists, as many as the answer fills, the call keeps the promise of an award on rows
 pub filled-promise : (k : Kind) (t : Tender) (n : ℕ) (bids windows : List ℕ) (old new : List AwardRow) (ow oc nw nc : List ℕ) (a : Answer)
     (m : ℕ) → PlainPromise k t n bids windows (length old) ow oc nw nc a →
     m ≡ rowsFilled a n → new ≡ rowsIn m nw nc ++ drop m old → Promise k t n bids windows old new a

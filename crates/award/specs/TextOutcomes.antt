@@ -72,9 +72,8 @@ text-core k T R S W v w v′ w′ lent lent′ a a′ bidder p q h h′ d e y y�
     ) (nothing (getD (flatRows R ++ v) (4 * t .i + 1) 0) (t .i))
 
 -- Two texts that differ in how one price is written and nowhere else, both accepted; the same award is called on what was read,
--- where v, w, v′, w′ stand past the rows in the lent tables,
--- each time with an award row for every bid or each time with fewer: where the first text names the bidder's true cost, its gain
--- in the second is no higher.
+-- where v, w, v′, w′ stand past the rows in the lent tables, each time with an award row for every bid or each time with fewer:
+-- where the first text names the bidder's true cost, its gain in the second is no higher.
 pub honest-texts : (text text′ bidder p q : List ℕ) (k : Kind) (T T′ : Tender) (R R′ : List Row) (W W′ : List Window) (v w v′ w′ : List ℕ)
     (lent lent′ : ℕ) (a a′ : Outcome) →
     DifferInPrice text text′ bidder p q → readText text ≡ accepted T R W → readText text′ ≡ accepted T′ R′ W′

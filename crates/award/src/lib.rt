@@ -1,6 +1,6 @@
 // The awards on tables. `award_single` and `award_multi` answer every call over a lent slice of award rows, and `settle`
-// every call over plain cells: a flag and the cents paid for each bid. None of them requires anything.
-// `specs/` has what a call promises on rows (`Promise`), how the promise of plain cells gives it (`RowsPromise`), a bidder's gain,
+// every call over plain lists: a flag and the cents paid for each bid. None of them requires anything.
+// `specs/` has what a call promises on rows (`Promise`), how the promise of plain lists gives it (`RowsPromise`), a bidder's gain,
 // and the demands.
 use tender::Answer;
 use tender::AwardRow;
@@ -20,7 +20,7 @@ fn lesser(a: usize, b: usize) -> usize
     if a < b { a } else { b }
 }
 
-// The award of this kind over plain cells: for each bid a flag, 1 for a winner, and the cents paid. There are as many
+// The award of this kind over plain lists: for each bid a flag, 1 for a winner, and the cents paid. There are as many
 // award rows as both lists have places.
 pub fn settle(
     kind: Kind,
@@ -39,7 +39,7 @@ pub fn settle(
     award_plain::settle_in(kind, tender, count, bids, windows, lent, won, cents)
 }
 
-// The award row that a bid's cells say: won where its flag is 1, and the cents paid.
+// The award row that a bid's flag and cents say: won where its flag is 1, and the cents paid.
 fn row_of(flag: u64, paid: u64) -> AwardRow
     ensures { λ r. ⌜ r ≡ rowOf flag paid ⌝ }
 {
@@ -71,7 +71,7 @@ fn rows_filled(answer: Answer, count: usize) -> usize
     }
 }
 
-// The award of this kind over a lent slice of award rows: settled over cells of its own, and then filled in.
+// The award of this kind over a lent slice of award rows: settled over lists of its own, and then filled in.
 fn award_in(
     kind: Kind,
     tender: Tender,

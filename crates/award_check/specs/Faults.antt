@@ -13,8 +13,7 @@ use Rattle.tender.specs.Tables.{Row, rowsOf, own}
 use Rattle.reader.specs.Words.{among}
 
 -- the row rules: bidder and price within limits, one window at least and no more than the kind allows, windows that begin where
--- the row before
--- ended and stand inside the lent rows, each window lawful; the windows of the row before end at `at`
+-- the row before ended and stand inside the lent rows, each window lawful; the windows of the row before end at `at`
 unfoldable pub keeps : Kind → List ℕ → ℕ → Row → Bool
 unfolding within mostWindows own allLawful
 keeps k windows at r =

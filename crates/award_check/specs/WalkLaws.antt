@@ -8,7 +8,7 @@ use native.Mathlib.Nat.{zero-div}
 use native.Mathlib.Omega.{arith}
 use lib.ListN.{length, getD, drop, replicate, length-replicate}
 use lib.Dec.{leb, ltb, eqb}
-use borrow.Author.Tests.{not-true, not-false, ltb-true, ltb-false, leb-true, leb-false, le-leb, lt-leb, eqb-true, eqb-false, eq-eqb, ne-eqb}
+use borrow.Author.Tests.{not-true, not-false, ltb-true, ltb-false, leb-true, le-leb, lt-leb, eqb-true, eqb-false, eq-eqb, ne-eqb}
 use Rattle.tender.specs.declared.Kind.{Kind}
 use Rattle.tender.specs.Limits.{within, lawful, allLawful}
 use Rattle.cover.specs.SetLaws.{and-split}
@@ -58,13 +58,6 @@ module _ (windows : List ℕ) (first count j : ℕ) (r : Bool) (l : j < count)
   pub ahead-fails : (X : Bool) → not r ≡ true → ahead windows first count j ≡ X → false ≡ X
   ahead-fails X t e = sym (ahead-more windows first count j l ∙ ap (λ b. b && ahead windows first count (j + 1)) (sym is ∙ not-true r t))
       ∙ e
-
-pub room-left : (at count lent : ℕ) → at ≤ lent → leb count (lent - at) ≡ leb (at + count) lent
-room-left at count lent l = go (leb count (lent - at)) refl
-  where
-    go : (b : Bool) → leb count (lent - at) ≡ b → b ≡ leb (at + count) lent
-    go true e = sym (le-leb (at + count) lent (omega (arith, leb-true count (lent - at) e)))
-    go false e = sym (lt-leb (at + count) lent (omega (arith, leb-false count (lent - at) e)))
 
 -- the bidder numbers of the rows passed, as cells of the words `used`: an empty table has none, and one more is one cell more
 pub record Passed (used list : List ℕ) : Type 0 where

@@ -1,4 +1,4 @@
--- The award over plain cells: for each bid a flag, 1 for a winner and 0 for a loser, and the cents paid, in two lent lists.
+-- The award over two lists: for each bid a flag, 1 for a winner and 0 for a loser, and the cents paid, in two lent lists.
 use mathlib.Core.Path.{_≡_}
 use mathlib.Core.List.{List, _++_, map}
 use Prim.Native.Nat.{ℕ}
@@ -17,18 +17,18 @@ use Rattle.award_plain.specs.Award.{Outcome, awarded, refused, declined,
 abbrev pub rowOf : ℕ → ℕ → AwardRow
 rowOf flag paid = record { won = eqb flag 1; cents = paid }
 
--- the award rows that the cells of n bids say
+-- the award rows that the flags and cents of n bids say
 unfoldable pub rowsIn : ℕ → List ℕ → List ℕ → List AwardRow
 unfolding listed
 rowsIn n won cents = listed n (λ i. rowOf (getD won i 0) (getD cents i 0))
 
--- what a call on n bids told: its answer, and the cells of the n bids where it awards
+-- what a call on n bids told: its answer, and the flags and cents of the n bids where it awards
 unfoldable pub toldIn : ℕ → List ℕ → List ℕ → Answer → Outcome
 unfolding rowsIn
 toldIn n won cents (Awarded totals) = awarded (rowsIn n won cents) (totals .cost) (totals .paid)
 toldIn n won cents (Refused r) = declined r
 
--- the lent cells after the call: cells past the last bid stay, and all of them where the award declines
+-- the lent lists after the call: places past the last bid stay, and all of them where the award declines
 unfoldable pub wonAfter : List ℕ → Outcome → List ℕ
 wonAfter old (awarded rows cost paid) = map (λ r. when (r .won) 1) rows ++ drop (length rows) old
 wonAfter old (refused n at) = old
@@ -37,9 +37,9 @@ unfoldable pub centsAfter : List ℕ → Outcome → List ℕ
 centsAfter old (awarded rows cost paid) = map (λ r. r .cents) rows ++ drop (length rows) old
 centsAfter old (refused n at) = old
 
--- the promise of a call, with `lent` award rows: it leaves the cells won′ and cents′ and answers a
+-- the promise of a call, with `lent` award rows: it leaves the lists won′ and cents′ and answers a
 pub record PlainPromise (k : Kind) (t : Tender) (n : ℕ) (bids windows : List ℕ) (lent : ℕ) (won cents won′ cents′ : List ℕ)
     (a : Answer) : Type 0 where
   pub answers : toldIn n won′ cents′ a ≡ awardOf k t n bids windows lent
-  pub won-cells : won′ ≡ wonAfter won (toldIn n won′ cents′ a)
-  pub cents-cells : cents′ ≡ centsAfter cents (toldIn n won′ cents′ a)
+  pub won-are : won′ ≡ wonAfter won (toldIn n won′ cents′ a)
+  pub cents-are : cents′ ≡ centsAfter cents (toldIn n won′ cents′ a)

@@ -1,4 +1,4 @@
--- How the answer over plain cells comes about: from a fault, too few rows, a cell in no bid or in one, or what a core settles.
+-- How the answer over plain lists comes about: from a fault, too few rows, a cell in no bid or in one, or what a core settles.
 -- Assumes nothing.
 use mathlib.Core.Path.{_≡_, refl, sym, ap, _∙_}
 use mathlib.Core.List.{List, _++_, map}
@@ -47,10 +47,10 @@ module _ (k : Kind) (t : Tender) (n : ℕ) (bids windows : List ℕ) (lent : ℕ
   abbrev L : ℕ
   L = cellsOf t
 
-  -- a refusal leaves the cells
+  -- a refusal leaves the lists
   refuses : (r : Refusal) → awardOf k t n bids windows lent ≡ declined r → PlainPromise k t n bids windows lent ow oc ow oc (Refused r)
   unfolding toldIn wonAfter centsAfter
-  refuses r e = record { answers = sym e; won-cells = refl; cents-cells = refl }
+  refuses r e = record { answers = sym e; won-are = refl; cents-are = refl }
 
   pub nine : (p : ℕ) → faultOf k t n bids windows ≡ some p → PlainPromise k t n bids windows lent ow oc ow oc (Refused (BadTables p))
   nine p e = refuses (BadTables p) (award-nine k t n bids windows lent p e)
@@ -144,8 +144,8 @@ module _ (k : Kind) (t : Tender) (n : ℕ) (bids windows : List ℕ) (lent : ℕ
         unfolding thinned
         awards = record {
           answers = outcome-is ∙ sym (award-settles k t n bids windows lent f (le-ltb lent n enough) nothing nothing covered doubled);
-          won-cells = won-after ∙ sym (ap (wonAfter ow) outcome-is);
-          cents-cells = cents-after ∙ sym (ap (centsAfter oc) outcome-is);
+          won-are = won-after ∙ sym (ap (wonAfter ow) outcome-is);
+          cents-are = cents-after ∙ sym (ap (centsAfter oc) outcome-is);
         }
 
 -- what the two cores settle by is what the definitions say
@@ -168,6 +168,6 @@ pub lent-more : (k : Kind) (t : Tender) (n : ℕ) (bids windows : List ℕ) (len
     → PlainPromise k t n bids windows n ow oc nw nc a → PlainPromise k t n bids windows lent ow oc nw nc a
 lent-more k t n bids windows lent ow oc nw nc a l p = record {
   answers = p .answers ∙ award-lent k t n bids windows n lent (le-ltb n n (omega arith) ∙ sym (le-ltb lent n l));
-  won-cells = p .won-cells;
-  cents-cells = p .cents-cells;
+  won-are = p .won-are;
+  cents-are = p .cents-are;
 }

@@ -1,5 +1,5 @@
-// The outcome of a tender of either kind over plain cells: a refusal, 9 to 12, or a flag and the cents paid for each bid, and
-// the totals. `specs/` has what an award answers (`Award`) and what is promised of plain cells (`Plain`).
+// The outcome of a tender of either kind over plain lists: a refusal, 9 to 12, or a flag and the cents paid for each bid, and
+// the totals. `specs/` has what an award answers (`Award`) and what is promised of plain lists (`Plain`).
 use award_check::Check;
 use award_thin::Thin;
 use tender::Answer;

@@ -7,7 +7,7 @@ use native.Mathlib.Omega.{arith}
 use lib.ListN.{getD}
 use lib.Arith.{lt-one}
 use lib.Bits.{bitAnd, and-le-l}
-use lib.Count.{ones, ones-step, ones-le}
+use lib.Count.{ones, ones-step}
 use Rattle.cells.specs.Cells.{bitOf, cell, total, both}
 use Rattle.cells.specs.BitLaws.{bit-suc, and-bit}
 
@@ -67,7 +67,3 @@ total-both-le a b n = total-le (both a b) n (λ i hi. both-lt a b i)
 pub none : (a b : List ℕ) → total (both a b) 0 ≡ 0
 unfolding total
 none a b = refl
-
--- a word's cells in common are at most 64
-pub ones-and : (a b : List ℕ) (q : ℕ) → getD a q 0 < 2 ^ 64 → ones (bitAnd (getD a q 0) (getD b q 0)) ≤ 64
-ones-and a b q h = ones-le 64 (bitAnd (getD a q 0) (getD b q 0)) (lt-of-le-of-lt (and-le-l (getD a q 0) (getD b q 0)) h)

@@ -101,9 +101,6 @@ swept-first r old mask h = record {
   rest = λ x l. refl;
 }
 
-pub onward-run : (mask hop : List ℕ) (q : ℕ) → q < length mask → Onward mask q (q + 1)
-onward-run mask hop q l = record { on = omega arith; within = omega arith; gap = λ p a b. absurd (omega arith) }
-
 pub onward-gap : (mask hop : List ℕ) (q : ℕ) → Hops mask hop → q < length mask → (at mask q ≡ whole → ⊥) → Onward mask q (at hop q)
 onward-gap mask hop q h l n = record { on = h .on q l; within = h .within q l; gap = h .gap q l n }
 

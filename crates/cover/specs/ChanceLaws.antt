@@ -1,20 +1,17 @@
 -- Bid k wins just where the run without it leaves it a chance, in words. Assumes nothing.
-use mathlib.Core.Path.{_≡_, refl, sym, _∙_}
+use mathlib.Core.Path.{_≡_, refl, _∙_}
 use mathlib.Core.Logic.{_↔_, _⊎_, inl, inr}
 use mathlib.Core.Bool.{Bool, true, false, or-true}
-use mathlib.Core.List.{List}
 use Prim.Native.Nat.{ℕ, _+_, _*_, _≤_, _<_}
 use native.Mathlib.Nat.{eq-or-lt-of-le}
 use native.Mathlib.Omega.{arith}
-use lib.ListN.{length}
 use lib.Dec.{ltb}
 use borrow.Author.Tests.{ltb-true, ltb-false, lt-ltb, le-leb, leb-true}
-use Rattle.cover.specs.Greedy.{Entry, reach, Rounds, stop, round, left, run, taken}
-use Rattle.cover.specs.CriticalPrice.{late, withdrawn}
+use Rattle.cover.specs.Greedy.{reach, Rounds, stop, round, left}
+use Rattle.cover.specs.CriticalPrice.{late}
 use Rattle.cover.specs.Chance.{ahead, chance, Chance}
 use Rattle.cover.specs.SetLaws.{and-split, or-split}
 use Rattle.cover.specs.PickLaws.{late-no, late-yes, late-most}
-use Rattle.cover.specs.GreedyLaws.{follow}
 
 late-in : (k i x y : ℕ) → x + late k i ≤ y → (x < y) ⊎ ((x ≡ y) × (k ≤ i))
 late-in k i x y l = go (eq-or-lt-of-le {n = x} {m = y} (omega arith)) (ltb i k) refl
@@ -43,15 +40,6 @@ chance-out k p h (stop O) l = lt-ltb _ _ l
 chance-out k p h (round i c O t) (inl (l, d)) = rw
     (lt-ltb 0 (reach h O) l, le-leb (p * reach (c .has) O + late k i) (c .price * reach h O) (late-out k i _ _ d))
 chance-out k p h (round i c O t) (inr s) = rw (chance-out k p h t s) (or-true (ahead k p h i c O))
-
--- bid k is taken just where the run withdrawn it leaves it a chance
-pub wins-iff : (n k : ℕ) → k < n → (B : ℕ → Entry) (f : ℕ) (O : List ℕ) → length O ≤ f
-    → (taken k (run B n f O) ≡ true) ↔ Chance k (B k .price) (B k .has) (run (withdrawn k B) n f O)
-wins-iff n k m B f O l = (
-  λ e. chance-in k (B k .price) (B k .has) _ (sym (follow n k m B f O l) ∙ e),
-  λ c. follow n k m B f O l
-      ∙ chance-out k (B k .price) (B k .has) _ c,
-)
 
 -- a cell that stays open is a chance at every price
 pub chance-left : (k p : ℕ) (h : ℕ → Bool) (t : Rounds) → 0 < reach h (left t) → chance k p h t ≡ true

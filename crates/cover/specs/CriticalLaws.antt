@@ -9,14 +9,13 @@ use native.Mathlib.Omega.{arith}
 use lib.ListN.{length, getD, set, length-set}
 use lib.Seq.{getD-set-same, getD-set-other, set-set}
 use lib.Dec.{ltb, leb, eqb}
-use borrow.Author.Tests.{ltb-true, ltb-false, le-ltb, le-leb, lt-leb, eqb-false}
+use borrow.Author.Tests.{ltb-true, ltb-false, le-leb, lt-leb, eqb-false}
 use Rattle.cover.specs.Sets.{when, found, valueOf}
-use Rattle.cover.specs.Greedy.{Entry, reach, run, left, bids, wins}
+use Rattle.cover.specs.Greedy.{Entry, reach, run, bids, wins}
 use Rattle.cover.specs.CriticalPrice.{largest, sum, ceiling, winsAt, critical, criticalPaid, late, mute, withdrawn, share, bar}
 use Rattle.cover.specs.CriticalPrice.{limit, roundsPaid}
 use Rattle.cover.specs.Threshold.{Threshold, honest, enough}
-use Rattle.cover.specs.GreedyLaws.{shrink, rounds, follow, withdrawn-same}
-use Rattle.cover.specs.ChanceLaws.{chance-left}
+use Rattle.cover.specs.GreedyLaws.{shrink, rounds, withdrawn-same}
 use Rattle.cover.specs.GreedyCover.{Each, Covered}
 use Rattle.cover.specs.BarLaws.{under, bar-fewer}
 
@@ -101,16 +100,6 @@ module _ (has : ℕ → ℕ → Bool) (ps cells : List ℕ) (k : ℕ) where
   limit-fewer has′ f g p = rw (theirs has′ f p, length-set ps k p)
       (bar-fewer k (has′ k) (has k) g (run (withdrawn k (bids has ps)) (length ps) (length cells) cells))
 
-  -- where a cell of bid k stays open without it, it wins at every price
-  pub every-price : k < length ps → 0 < reach (has k) (left (run (withdrawn k (bids has ps)) (length ps) (length cells) cells)) → (p : ℕ)
-      → winsAt has ps cells k p ≡ true
-  unfolding winsAt wins bids
-  every-price inside open-cell p =
-      follow (length (set ps k p)) k (rw (length-set ps k p) inside) (bids has (set ps k p)) (length cells) cells (omega arith)
-      ∙ chance-left k (getD (set ps k p) k 0) (has k)
-      (run (withdrawn k (bids has (set ps k p))) (length (set ps k p)) (length cells) cells)
-      (rw (theirs has (λ i d. refl) p, length-set ps k p) open-cell)
-
   -- where the other bids cover all the cells
   module _ (inside : k < length ps) (spare : Each (Covered (withdrawn k (bids has ps)) (length ps)) cells) where
     -- bid k wins at the prices below the limit
@@ -124,10 +113,6 @@ module _ (has : ℕ → ℕ → Bool) (ps cells : List ℕ) (k : ℕ) where
     unfolding critical
     critical-is = largest-under (winsAt has ps cells k) (limit has ps cells k) (ceiling (set ps k 0) cells) wins-under
         (limit-most has ps cells k)
-
-    -- no price wins
-    pub no-price : limit has ps cells k ≡ 0 → (p : ℕ) → winsAt has ps cells k p ≡ false
-    no-price e p = wins-under p ∙ le-ltb p (limit has ps cells k) (omega arith)
 
     -- some price wins: then the critical price does, and the lower ones, and no higher
     pub some-price : (q : ℕ) → winsAt has ps cells k q ≡ true → (p : ℕ) → winsAt has ps cells k p ≡ leb p (critical has ps cells k)

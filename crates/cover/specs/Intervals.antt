@@ -10,7 +10,6 @@ pub mod PrefixLaws
 pub mod CoverLaws
 pub mod SplitLaws
 pub mod PayLaws
-pub mod DepthLaws
 pub mod SuffixLaws
 pub mod AwardLaws
 pub mod StaysLaws
@@ -90,10 +89,6 @@ begin o t r = cond (leb t o) (found 0) r
 unfoldable pub growSet : ℕ → (ℕ → ℕ) → (ℕ → ℕ) → (ℕ → ℕ) → (ℕ → Bool) → (ℕ → ℕ) → (ℕ → Found) → ℕ → Found
 unfolding plus begin scan reaches
 growSet o a b cost may at v k = plus (at k) (begin o (a (at k)) (scan cost (reaches a b may at (a (at k))) v k))
-
-unfoldable pub growCost : ℕ → (ℕ → ℕ) → (ℕ → ℕ) → (ℕ → ℕ) → (ℕ → Bool) → (ℕ → ℕ) → (ℕ → Found) → ℕ → Found
-unfolding raise begin scanCost reaches
-growCost o a b p may at w k = raise (p (at k)) (begin o (a (at k)) (scanCost (reaches a b may at (a (at k))) w k))
 
 -- the cells from o to t, cell x at place f x
 unfoldable pub coversFrom : (ℕ → ℕ) → ℕ → (ℕ → ℕ → Bool) → ℕ → ℕ → ℕ → Bool

@@ -1,6 +1,5 @@
 -- What an award over plain numbers leaves in the two lent lists and answers: a flag and the cents paid for each bid in entry
--- order, the cells past
--- the last bid as they were, the winners' cost and the sum paid.
+-- order, the cells past the last bid as they were, the winners' cost and the sum paid.
 use mathlib.Core.Path.{_≡_}
 use mathlib.Core.Bool.{Bool, _&&_}
 use mathlib.Core.List.{List, [], _∷_, _++_}

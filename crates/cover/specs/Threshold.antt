@@ -1,8 +1,6 @@
 -- A mechanism with a threshold (Myerson's lemma): all else held, there is a θ that does not turn on the bidder's own price, such
--- that a price
--- that wins is at most θ and a price that loses at least θ; a winner is paid θ. Then naming the true cost is best, and no winner
--- is paid less
--- than the price named. Assumes nothing.
+-- that a price that wins is at most θ and a price that loses at least θ; a winner is paid θ. Then naming the true cost is best,
+-- and no winner is paid less than the price named. Assumes nothing.
 use mathlib.Core.Path.{_≡_, refl}
 use mathlib.Core.Bool.{Bool, true, false}
 use Prim.Native.Nat.{ℕ, _+_, _≤_}

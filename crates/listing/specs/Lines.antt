@@ -67,7 +67,7 @@ unfoldable pub winLine : ℕ → ℕ → ℕ → List ℕ
 unfolding winWord pairLine
 winLine bidder flag cents = cond (eqb flag 1) (pairLine winWord bidder cents) []
 
--- the lines of the first n bids, in entry order: the bidder is the first of the four cells of a row of the table of bids
+-- the lines of the first n bids, in entry order: the bidder is the first of the four numbers of a row of the table of bids
 unfoldable pub winLines : List ℕ → List ℕ → List ℕ → ℕ → List ℕ
 unfolding winLine
 winLines bids won cents zero = []

@@ -36,8 +36,7 @@ listOf (reading.refused n at) = pairLine refusedWord n at
 listOf (accepted t R W) = listLines t R (awardOf (t .kind) t (length R) (flatRows R) (flatWindows W) (length R))
 
 -- The promise of a call with the text and a lent buffer of the bytes `old`: it answers r and leaves the bytes `new`. Where the
--- list is longer than the
--- buffer, refusal 13, the answer is 0 and the buffer unchanged
+-- list is longer than the buffer, refusal 13, the answer is 0 and the buffer unchanged
 pub record Listed (text old new : List ℕ) (r : ℕ) : Type 0 where
   pub answer : let list = listOf (readText text) in r ≡ when (leb (length list) (length old)) (length list)
   pub bytes : let list = listOf (readText text) in new ≡ cond (leb (length list) (length old)) (list ++ drop (length list) old) old

@@ -1,6 +1,5 @@
 -- The award on what was read does not turn on what stands past the rows in the tables, nor on more award rows than bids; no list
--- is empty and none is
--- longer than 51,200 bytes; neither 8 nor 10 is ever shown. Assumes nothing.
+-- is empty and none is longer than 51,200 bytes; neither 8 nor 10 is ever shown. Assumes nothing.
 use mathlib.Core.Path.{_≡_, refl, sym, ap, fun-ext, _∙_}
 use mathlib.Core.Logic.{_⊎_, inl, inr}
 use mathlib.Core.Bool.{Bool, true, false, cond, _&&_}
@@ -105,7 +104,7 @@ module _ (T : Tender) (R : List Row) (W : List Window) (rules : Rules T R W) whe
           (settled-is (T .kind) has ps (cellsOf T) (T .window .start) nothing (found x) e f)))
       go nothing nothing e f = inl (ap outcomeNumber (settled-is (T .kind) has ps (cellsOf T) (T .window .start) nothing nothing e f))
 
--- the lines that the code writes, from the cells of the tables, are the list's
+-- the lines that the code writes, from the numbers of the tables, are the list's
 
 bidder-cell : (R : List Row) (v : List ℕ) (i : ℕ) → i < length R → getD (flatRows R ++ v) (4 * i) 0 ≡ getD R i noRow .bidder
 unfolding flatRows
@@ -132,7 +131,7 @@ win-lines R v won cents n (suc m) l h = rw (
   win-lines R v won cents n m (omega arith) h,
 )
 
--- what the award over plain cells told is what the list shows
+-- what the award over plain lists told is what the list shows
 pub answer-lines : (T : Tender) (R : List Row) (v won cents : List ℕ) (a : Answer)
     → answerLines T (flatRows R ++ v) won cents (length R) a ≡ listLines T R (toldIn (length R) won cents a)
 unfolding answerLines listLines toldIn

@@ -13,14 +13,14 @@ use Rattle.listing.specs.Lines.{awardLine, winLines, pairLine, totalWord
 use Rattle.listing.specs.List.{listOf}
 use Rattle.listing.specs.Written.{Written}
 
--- the list of an award's answer, from the cells of the table of bids and of the award rows
+-- the list of an award's answer, from the numbers of the table of bids and the flags and cents
 unfoldable pub answerLines : Tender → List ℕ → List ℕ → List ℕ → ℕ → Answer → List ℕ
 unfolding awardLine winLines pairLine totalWord refusedWord
 answerLines t bids won cents n (Awarded totals) = awardLine t ++ winLines bids won cents n
     ++ pairLine totalWord (totals .cost) (totals .paid)
 answerLines t bids won cents n (Refused r) = pairLine refusedWord (numberOf r) (placeOf r)
 
--- the list of the award to these tables is written: the award left the cells `won` and `cents` and answered a
+-- the list of the award to these tables is written: the award left the lists `won` and `cents` and answered a
 pub record Awarded·written (t : Tender) (n : ℕ) (bids windows old new : List ℕ) (end : ℕ) : Type 0 where
   pub lent : ℕ
   pub enough : n ≤ lent

@@ -1,6 +1,5 @@
 // What a winner is paid: the highest price at which it is still taken, found by following the run without it along the main run
-// as written down.
-// `limit_in` gives one more than that price for the bid of one round.
+// as written down. `limit_in` gives one more than that price for the bid of one round.
 ghost use mathlib.Core.Path.{_≡_};
 ghost use Prim.Native.Nat.{_+_};
 ghost use lib.ListN.{length};

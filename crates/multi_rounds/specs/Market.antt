@@ -71,9 +71,8 @@ pub record Entered (ps ms : List ℕ) (w : ℕ) (held new : List ℕ) : Type 0 w
   pub each : (i : ℕ) → i < length ps → at new i ≡ common held (wordRow ms w i)
 
 -- bid b, which asks p, comes before all others by the s cells known of it, after some of the bids were counted anew; the cells
--- known are those that
--- it has, or else the rival, which asks `ask` for `gain` cells, comes before it and so before all. Where no bid has cells left it
--- is 1 for 0 cells.
+-- known are those that it has, or else the rival, which asks `ask` for `gain` cells, comes before it and so before all. Where no
+-- bid has cells left it is 1 for 0 cells.
 pub record Fronted (ps ms : List ℕ) (w : ℕ) (held old new : List ℕ) (rival ask gain : ℕ) (free : Bool) (b p s : ℕ) (clear : Bool) : Type 0
   where
     pub high : (i : ℕ) → at new i ≤ at old i

@@ -22,7 +22,7 @@ abbrev pub summary : ReadOutcome → Told
 summary (accepted t rows windows) = filled t (length rows) (length windows)
 summary (refused n at) = declined n at
 
--- a table after reading: its rows and the old cells past them, or as it was
+-- a table after reading: its rows and the old places past them, or as it was
 unfoldable pub bidsAfter : List ℕ → ReadOutcome → List ℕ
 unfolding flatRows
 bidsAfter old (accepted t rows windows) = flatRows rows ++ drop (4 * length rows) old

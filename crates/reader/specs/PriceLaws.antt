@@ -5,7 +5,7 @@ use mathlib.Core.List.{List, [], _∷_, _++_, map, append-assoc}
 use mathlib.Core.Option.{Option, none, some}
 use Prim.Native.Nat.{ℕ, _+_, _<_}
 use native.Mathlib.Omega.{arith}
-use lib.ListN.{length, set, length-append}
+use lib.ListN.{length, set}
 use Rattle.tender.specs.Keywords.{bidWord}
 use Rattle.tender.specs.declared.Window.{Window}
 use Rattle.tender.specs.declared.Tender.{Tender}
@@ -207,6 +207,3 @@ module _ (R S : List Row) (bidder p q : List ℕ) (d : RowsDifferInPrice R S bid
           ≡ set (map (λ r. r .price) (bs ++ d .row ∷ d .after)) (length bs) (d .w)
       go [] = refl
       go (b ∷ bs) = ap (λ l. b .price ∷ l) (go bs)
-
-  pub place-in : length (d .before) < length R
-  place-in = rw (d .left) (simp length-append (omega arith))

@@ -1,4 +1,4 @@
--- Rows and windows put into tables: what the first cells then are. Assumes nothing.
+-- Rows and windows put into tables: what the first places then are. Assumes nothing.
 use Prim.Native.Nat.{ℕ, suc, _+_, _*_, _/_, _≤_, _<_}
 use mathlib.Core.Path.{_≡_, refl, sym, ap, _∙_}
 use mathlib.Core.List.{List, [], _∷_, _++_, append-assoc, append-nil}
@@ -14,35 +14,35 @@ use Rattle.reader_line.specs.Scan.{putWindow, putWindows}
 use Rattle.reader.specs.Read.{rowsFrom, allWindows}
 use Rattle.reader.specs.Steps.{rowNumbers}
 
--- the first cells, where some follow the first n
+-- the first places, where some follow the first n
 pub front : (l vs rest : List ℕ) (n t : ℕ) → n ≤ length l → n + length vs ≡ t → take t (take n l ++ vs ++ rest) ≡ take n l ++ vs
 front l vs rest n t h e = take-at (take n l ++ vs) rest t (length-append (take n l) vs ∙ omega (arith, length-take-le n l h))
 
-put-is : (cells : List ℕ) (m : ℕ) (w : Window) → 2 * m + 2 ≤ length cells → putWindow cells m w ≡ take (2 * m) cells
-    ++ (w .start ∷ w .end ∷ []) ++ drop (2 * m + 2) cells
+put-is : (table : List ℕ) (m : ℕ) (w : Window) → 2 * m + 2 ≤ length table → putWindow table m w ≡ take (2 * m) table
+    ++ (w .start ∷ w .end ∷ []) ++ drop (2 * m + 2) table
 unfolding putWindow
-put-is cells m w h =
-    let l : m < length cells / 2 = omega arith in
+put-is table m w h =
+    let l : m < length table / 2 = omega arith in
     let e : 2 * m + 1 ≡ suc (2 * m) = omega arith in
-    rw (lt-ltb m (length cells / 2) l, e) (sets-eq (w .start ∷ w .end ∷ []) cells (2 * m) h)
+    rw (lt-ltb m (length table / 2) l, e) (sets-eq (w .start ∷ w .end ∷ []) table (2 * m) h)
 
-put-length : (cells : List ℕ) (m : ℕ) (w : Window) → 2 * m + 2 ≤ length cells → length (putWindow cells m w) ≡ length cells
+put-length : (table : List ℕ) (m : ℕ) (w : Window) → 2 * m + 2 ≤ length table → length (putWindow table m w) ≡ length table
 unfolding putWindow
-put-length cells m w h = let l : m < length cells / 2 = omega arith in rw (lt-ltb m (length cells / 2) l) (simp length-set)
+put-length table m w h = let l : m < length table / 2 = omega arith in rw (lt-ltb m (length table / 2) l) (simp length-set)
 
 -- the windows stand in the rows from m on
-pub windows-put : (cells : List ℕ) (m : ℕ) (ws : List Window) → 2 * (m + length ws) ≤ length cells
-    → take (2 * (m + length ws)) (putWindows cells m ws) ≡ take (2 * m) cells ++ flatWindows ws
+pub windows-put : (table : List ℕ) (m : ℕ) (ws : List Window) → 2 * (m + length ws) ≤ length table
+    → take (2 * (m + length ws)) (putWindows table m ws) ≡ take (2 * m) table ++ flatWindows ws
 unfolding putWindows flatWindows
-windows-put cells m [] h = rw add-zero (sym (append-nil (take (2 * m) cells)))
-windows-put cells m (w ∷ ws) h =
+windows-put table m [] h = rw add-zero (sym (append-nil (take (2 * m) table)))
+windows-put table m (w ∷ ws) h =
     let a : m + length (w ∷ ws) ≡ m + 1 + length ws = omega arith in
-    let l : 2 * m + 2 ≤ length cells = omega arith in
-    let b = windows-put (putWindow cells m w) (m + 1) ws (rw (put-length cells m w l) (omega arith)) in
-    let c : take (2 * (m + 1)) (putWindow cells m w) ≡ take (2 * m) cells ++ (w .start ∷ w .end ∷ []) =
-    ap (take (2 * (m + 1))) (put-is cells m w l) ∙ front cells (w .start ∷ w .end ∷ []) (drop (2 * m + 2) cells) (2 * m) (2 * (m + 1))
+    let l : 2 * m + 2 ≤ length table = omega arith in
+    let b = windows-put (putWindow table m w) (m + 1) ws (rw (put-length table m w l) (omega arith)) in
+    let c : take (2 * (m + 1)) (putWindow table m w) ≡ take (2 * m) table ++ (w .start ∷ w .end ∷ []) =
+    ap (take (2 * (m + 1))) (put-is table m w l) ∙ front table (w .start ∷ w .end ∷ []) (drop (2 * m + 2) table) (2 * m) (2 * (m + 1))
     (omega arith) (omega arith) in
-    rw a (b ∙ rw c (append-assoc (take (2 * m) cells) (w .start ∷ w .end ∷ []) (flatWindows ws)))
+    rw a (b ∙ rw c (append-assoc (take (2 * m) table) (w .start ∷ w .end ∷ []) (flatWindows ws)))
 
 -- one bid more
 

@@ -1,4 +1,4 @@
--- Cells stored in a table. Assumes nothing.
+-- Numbers stored in a table. Assumes nothing.
 use Prim.Native.Nat.{ℕ, suc, _+_, _≤_, _<_}
 use mathlib.Core.Path.{_≡_, sym, _∙_}
 use mathlib.Core.List.{List, [], _∷_, _++_}
@@ -7,7 +7,7 @@ use native.Mathlib.Numerals.{add-one}
 use lib.ListN.{length, take, drop, set, getD, length-append, length-drop}
 use lib.Seq.{sets-eq, set-at, take-suc, drop-cons, append-snoc, length-take-le}
 
--- four cells in a row
+-- four places in a row
 pub stored : (l : List ℕ) (i a b c d : ℕ) → i + 4 ≤ length l → set (set (set (set l i a) (i + 1) b) (i + 2) c) (i + 3) d ≡ take i l
     ++ (a ∷ b ∷ c ∷ d ∷ []) ++ drop (i + 4) l
 stored l i a b c d h =
@@ -16,7 +16,7 @@ stored l i a b c d h =
     let e3 : i + 3 ≡ suc (suc (suc i)) = omega arith in
     rw (e1, e2, e3) (sets-eq (a ∷ b ∷ c ∷ d ∷ []) l i h)
 
--- one more cell copied
+-- one more place copied
 pub copied : (from to : List ℕ) (i : ℕ) → i < length from → i < length to
     → set (take i from ++ drop i to) i (getD from i 0) ≡ take (i + 1) from ++ drop (i + 1) to
 copied from to i h k =

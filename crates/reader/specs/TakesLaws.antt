@@ -43,16 +43,16 @@ record Noted (n p c : ℕ) (ok : Bool) (m : ℕ) (old new : List ℕ) (b : BidLi
   windows-are : new ≡ putWindows old m (b .windows)
 
 noted-bid : (n p c : ℕ) (ok : Bool) (m : ℕ) (old new : List ℕ) (b : BidLine)
-    → some (bidNote n p (record { count = c; sound = ok; cells = new })) ≡ noted m old (some (bid b)) → Noted n p c ok m old new b
+    → some (bidNote n p (record { count = c; sound = ok; table = new })) ≡ noted m old (some (bid b)) → Noted n p c ok m old new b
 unfolding noted tally
 noted-bid n p c ok m old new b e =
-    let t : _≡_ {A = Tally} (record { count = c; sound = ok; cells = new }) (tally m 0 true old (b .windows)) = cc in
+    let t : _≡_ {A = Tally} (record { count = c; sound = ok; table = new }) (tally m 0 true old (b .windows)) = cc in
     record {
       bidder-is = cc;
       price-is = cc;
       count-is = ap (λ (x : Tally). x .count) t ∙ zero-add (length (b .windows));
       sound-is = ap (λ (x : Tally). x .sound) t;
-      windows-are = ap (λ (x : Tally). x .cells) t ∙ ap (λ i. putWindows old i (b .windows)) (add-zero m);
+      windows-are = ap (λ (x : Tally). x .table) t ∙ ap (λ i. putWindows old i (b .windows)) (add-zero m);
     }
 
 module _ (kind : Kind) (k m : ℕ) (used rows windows : List ℕ) (r : Step) (used′ rows′ windows′ : List ℕ) where
@@ -71,7 +71,7 @@ module _ (kind : Kind) (k m : ℕ) (used rows windows : List ℕ) (r : Step) (us
   taken-tender (some (bid b)) t e h = let z : _≡_ {A = ℕ} 0 1 = cc in absurd (omega arith)
 
   module _ (n p c : ℕ) (ok : Bool) where
-    pub taken-fault : (o : Option Line) → some (bidNote n p (record { count = c; sound = ok; cells = windows′ })) ≡ noted m windows o
+    pub taken-fault : (o : Option Line) → some (bidNote n p (record { count = c; sound = ok; table = windows′ })) ≡ noted m windows o
         → (f : ℕ → Refusal) → bidFaultIn kind k n p c ok (eqb (cell used n) 1) ≡ some f →
         Declines r (numberOf (f (k + 2))) (placeOf (f (k + 2))) → Taken o kind k m used rows windows r used′ rows′ windows′
     unfolding noted
@@ -83,7 +83,7 @@ module _ (kind : Kind) (k m : ℕ) (used rows windows : List ℕ) (r : Step) (us
         ≡ some f = rw (x .bidder-is, x .price-is, x .count-is, x .sound-is) at g in
         rw y h
 
-    pub taken-sound : (o : Option Line) → some (bidNote n p (record { count = c; sound = ok; cells = windows′ })) ≡ noted m windows o
+    pub taken-sound : (o : Option Line) → some (bidNote n p (record { count = c; sound = ok; table = windows′ })) ≡ noted m windows o
         → bidFaultIn kind k n p c ok (eqb (cell used n) 1) ≡ none →
         r ≡ step.Bid c → rows′ ≡ take (4 * k) rows ++ rowNumbers (record { bidder = n; price = p; first = m; count = c })
         ++ drop (4 * k + 4) rows → RangeAdded n (n + 1) used used′ →

@@ -35,27 +35,27 @@ unfolding readLines linesOf cut
 first-empty [] h = refl
 first-empty (b ∷ text) h = absurd (omega arith)
 
-pub is-tender : (m : ℕ) (cells : List ℕ) (o : Option Line) (t : Tender) → some (tenderNote t) ≡ noted m cells o → o ≡ some (tender t)
+pub is-tender : (m : ℕ) (table : List ℕ) (o : Option Line) (t : Tender) → some (tenderNote t) ≡ noted m table o → o ≡ some (tender t)
 unfolding noted
-is-tender m cells none t e = let z : _≡_ {A = ℕ} 0 1 = cc in absurd (omega arith)
-is-tender m cells (some (tender u)) t e = cc
-is-tender m cells (some (bid b)) t e = let z : _≡_ {A = ℕ} 0 1 = cc in absurd (omega arith)
+is-tender m table none t e = let z : _≡_ {A = ℕ} 0 1 = cc in absurd (omega arith)
+is-tender m table (some (tender u)) t e = cc
+is-tender m table (some (bid b)) t e = let z : _≡_ {A = ℕ} 0 1 = cc in absurd (omega arith)
 
 module _ (ls rest : List (Option Line)) (o : Option Line) (q : ls ≡ o ∷ rest) where
-  pub first-bid : (m n p : ℕ) (cells : List ℕ) (t : Tally) → some (bidNote n p t) ≡ noted m cells o → readLines ls ≡ refused 2 1
+  pub first-bid : (m n p : ℕ) (table : List ℕ) (t : Tally) → some (bidNote n p t) ≡ noted m table o → readLines ls ≡ refused 2 1
   unfolding readLines noted
-  first-bid m n p cells t e = rw q (go o e)
+  first-bid m n p table t e = rw q (go o e)
     where
-      go : (x : Option Line) → some (bidNote n p t) ≡ noted m cells x → readLines (x ∷ rest) ≡ refused 2 1
+      go : (x : Option Line) → some (bidNote n p t) ≡ noted m table x → readLines (x ∷ rest) ≡ refused 2 1
       go none h = let z : _≡_ {A = ℕ} 0 1 = cc in absurd (omega arith)
       go (some (tender u)) h = let z : _≡_ {A = ℕ} 0 1 = cc in absurd (omega arith)
       go (some (bid b)) h = refl
 
-  pub first-broken : (m : ℕ) (cells : List ℕ) → none ≡ noted m cells o → readLines ls ≡ refused 2 1
+  pub first-broken : (m : ℕ) (table : List ℕ) → none ≡ noted m table o → readLines ls ≡ refused 2 1
   unfolding readLines noted
-  first-broken m cells e = rw q (go o e)
+  first-broken m table e = rw q (go o e)
     where
-      go : (x : Option Line) → none ≡ noted m cells x → readLines (x ∷ rest) ≡ refused 2 1
+      go : (x : Option Line) → none ≡ noted m table x → readLines (x ∷ rest) ≡ refused 2 1
       go none h = refl
       go (some (tender u)) h = let z : _≡_ {A = ℕ} 0 1 = cc in absurd (omega arith)
       go (some (bid b)) h = let z : _≡_ {A = ℕ} 0 1 = cc in absurd (omega arith)

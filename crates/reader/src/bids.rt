@@ -57,7 +57,7 @@ pub(crate) enum Verdict {
     Faulty(Refusal),
 }
 
-// The first fault of the bid on this line, after so many bids: 4, 3, 7, 5, 6. A used bidder number is a set cell of `used`.
+// The first fault of the bid on this line, after so many bids: 4, 3, 7, 5, 6. A used bidder number is a set bit of `used`.
 fn judge(
     kind: Kind,
     line: u64,

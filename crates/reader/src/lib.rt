@@ -21,7 +21,7 @@ use rows::copy;
 use tender::Refusal;
 use tender::Tender;
 
-// The cells that the longest readable text needs: 1,000 bids, and fewer than 11,000 windows, since each has six bytes.
+// The places that the longest readable text needs: 1,000 bids, and fewer than 11,000 windows, since each has six bytes.
 const BID_TABLE: usize = 4000;
 
 const WINDOW_TABLE: usize = 22000;
@@ -66,7 +66,7 @@ pub enum Reading {
     Refused(Refusal),
 }
 
-// Reads the text into the first rows of the two tables; cells past them stay.
+// Reads the text into the first rows of the two tables; places past them stay.
 pub fn read(text: &[u8], bids: &mut [u64], windows: &mut [u64]) -> Reading
     ensures answer { λ r. ⌜ toldReading r ≡ summary (readInto (now (text .entry)) (length (now (bids .entry)) / 4)
         (length (now (windows .entry)) / 2)) ⌝ }
@@ -86,14 +86,14 @@ pub fn read(text: &[u8], bids: &mut [u64], windows: &mut [u64]) -> Reading
             let kind = t.kind;
             match read_bids(text, at, kind, &mut used, &mut rows, &mut spans) {
                 Bids::Filled(k, m) => {
-                    if bids.len() / tender::BID_CELLS < k {
+                    if bids.len() / tender::BID_WIDTH < k {
                         return Reading::Refused(Refusal::TableTooShort);
                     }
-                    if windows.len() / tender::WINDOW_CELLS < m {
+                    if windows.len() / tender::WINDOW_WIDTH < m {
                         return Reading::Refused(Refusal::TableTooShort);
                     }
-                    copy(&rows, tender::BID_CELLS * k, bids);
-                    copy(&spans, tender::WINDOW_CELLS * m, windows);
+                    copy(&rows, tender::BID_WIDTH * k, bids);
+                    copy(&spans, tender::WINDOW_WIDTH * m, windows);
                     Reading::Accepted {
                         tender: t,
                         bids: k,

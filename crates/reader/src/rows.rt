@@ -1,4 +1,4 @@
-// Rows put into a table of numbers, and a table's first cells copied.
+// Rows put into a table of numbers, and a table's first places copied.
 ghost use mathlib.Core.Path.{_≡_};
 ghost use mathlib.Core.List.{_++_};
 ghost use Prim.Native.Nat.{_≤_, _+_, _*_};
@@ -6,7 +6,7 @@ ghost use lib.ListN.{length, take, drop};
 ghost use Rattle.tender.specs.Tables.{Row};
 ghost use Rattle.reader.specs.Steps.{rowNumbers};
 
-// The cells of row k: bidder, price, place of the first window, number of windows.
+// The numbers of row k: bidder, price, place of the first window, number of windows.
 pub(crate) fn put_row(out: &mut [u64], k: usize, bidder: u64, price: u64, first: u64, count: u64)
     requires { ⌜ 4 * k + 4 ≤ length (now out) ⌝ }
     ensures { λ r. ⌜ now (out .exit) ≡ take (4 * k) (now (out .entry))
@@ -19,7 +19,7 @@ pub(crate) fn put_row(out: &mut [u64], k: usize, bidder: u64, price: u64, first:
     out[at + 3] = count;
 }
 
-// The first n cells of `from`; the cells past them stay.
+// The first n places of `from`; the places past them stay.
 pub(crate) fn copy(from: &[u64], n: usize, to: &mut [u64])
     requires { ⌜ (n ≤ length (now from)) × (n ≤ length (now to)) ⌝ }
     ensures { λ r. ⌜ now (to .exit) ≡ take n (now (from .entry)) ++ drop n (now (to .entry)) ⌝ }

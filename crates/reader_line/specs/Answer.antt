@@ -53,10 +53,10 @@ asKind (some k) = kindWord.Of k
 -- an answer with the table as it then is
 
 abbrev pub toldTally : Tally → List ℕ → Option scan.Tally
-toldTally tally.Broken cells = none
-toldTally (tally.Windows n ok) cells = some (record { count = n; sound = ok; cells = cells })
+toldTally tally.Broken table = none
+toldTally (tally.Windows n ok) table = some (record { count = n; sound = ok; table = table })
 
 abbrev pub toldLine : line.Line → List ℕ → Option Note
-toldLine lineIs.Broken cells = none
-toldLine (lineIs.Tender t) cells = some (tenderNote t)
-toldLine (lineIs.Bid n p c ok) cells = some (bidNote n p (record { count = c; sound = ok; cells = cells }))
+toldLine lineIs.Broken table = none
+toldLine (lineIs.Tender t) table = some (tenderNote t)
+toldLine (lineIs.Bid n p c ok) table = some (bidNote n p (record { count = c; sound = ok; table = table }))

@@ -60,13 +60,13 @@ module _ (line : List ℕ) (a e : ℕ) (l : e ≡ length line) (h : a < e) where
 
 -- what is noted of a line
 
-pub noted-none : (o : Option Line) → o ≡ none → (m : ℕ) (cells : List ℕ) → none ≡ noted m cells o
+pub noted-none : (o : Option Line) → o ≡ none → (m : ℕ) (table : List ℕ) → none ≡ noted m table o
 unfolding noted
-noted-none o e m cells = rw e
+noted-none o e m table = rw e
 
-pub noted-tender : (o : Option Line) (t : Tender) → o ≡ some (tender t) → (m : ℕ) (cells : List ℕ) → some (tenderNote t) ≡ noted m cells o
+pub noted-tender : (o : Option Line) (t : Tender) → o ≡ some (tender t) → (m : ℕ) (table : List ℕ) → some (tenderNote t) ≡ noted m table o
 unfolding noted
-noted-tender o t e m cells = rw e
+noted-tender o t e m table = rw e
 
 -- the tender's line from place `at` on: its words end at k, s and e
 
@@ -145,24 +145,24 @@ module _ (line : List ℕ) (at n p : ℕ) (l : at ≤ length line) (q : at + toN
         unfolding bidOf andThen
         bid-unpriced g = rw words (rw (gi, g))
 
-        module _ (v : ℕ) (gv : priceOf (part line (n + 1) p) ≡ some v) (m : ℕ) (cells : List ℕ) where
-          pub bid-unwindowed : tallied m 0 true cells (windowsIn (cut 32 (drop (p + 1) line))) ≡ none
-              → none ≡ noted m cells (bidOf (cut 32 (drop at line)))
+        module _ (v : ℕ) (gv : priceOf (part line (n + 1) p) ≡ some v) (m : ℕ) (table : List ℕ) where
+          pub bid-unwindowed : tallied m 0 true table (windowsIn (cut 32 (drop (p + 1) line))) ≡ none
+              → none ≡ noted m table (bidOf (cut 32 (drop at line)))
           unfolding bidOf andThen noted tallied
           bid-unwindowed g = rw words (rw (gi, gv) (go (windowsIn (cut 32 (drop (p + 1) line))) g))
             where
-              go : (o : Option (List Window)) → tallied m 0 true cells o ≡ none
-                  → none ≡ noted m cells (andThen o (λ ws. some (bid (record { bidder = i; price = v; windows = ws }))))
+              go : (o : Option (List Window)) → tallied m 0 true table o ≡ none
+                  → none ≡ noted m table (andThen o (λ ws. some (bid (record { bidder = i; price = v; windows = ws }))))
               go none e = refl
               go (some ws) e = let z : _≡_ {A = ℕ} 0 1 = cc in absurd (omega arith)
 
-          pub bid-whole : (t : Tally) → some t ≡ tallied m 0 true cells (windowsIn (cut 32 (drop (p + 1) line)))
-              → some (bidNote i v t) ≡ noted m cells (bidOf (cut 32 (drop at line)))
+          pub bid-whole : (t : Tally) → some t ≡ tallied m 0 true table (windowsIn (cut 32 (drop (p + 1) line)))
+              → some (bidNote i v t) ≡ noted m table (bidOf (cut 32 (drop at line)))
           unfolding bidOf andThen noted tallied
           bid-whole t g = rw words (rw (gi, gv) (go (windowsIn (cut 32 (drop (p + 1) line))) g))
             where
-              go : (o : Option (List Window)) → some t ≡ tallied m 0 true cells o
-                  → some (bidNote i v t) ≡ noted m cells (andThen o (λ ws. some (bid (record { bidder = i; price = v; windows = ws }))))
+              go : (o : Option (List Window)) → some t ≡ tallied m 0 true table o
+                  → some (bidNote i v t) ≡ noted m table (andThen o (λ ws. some (bid (record { bidder = i; price = v; windows = ws }))))
               go none e = let z : _≡_ {A = ℕ} 0 1 = cc in absurd (omega arith)
               go (some ws) e = cc
 

@@ -22,29 +22,29 @@ part line a e = take (e - a) (drop a line)
 
 -- the window in row m, where the table has that row
 unfoldable pub putWindow : List ℕ → ℕ → Window → List ℕ
-putWindow cells m w = cond (ltb m (length cells / 2)) (set (set cells (2 * m) (w .start)) (2 * m + 1) (w .end)) cells
+putWindow table m w = cond (ltb m (length table / 2)) (set (set table (2 * m) (w .start)) (2 * m + 1) (w .end)) table
 
 -- the windows in the rows from m on
 unfoldable pub putWindows : List ℕ → ℕ → List Window → List ℕ
 unfolding putWindow
-putWindows cells m [] = cells
-putWindows cells m (w ∷ ws) = putWindows (putWindow cells m w) (m + 1) ws
+putWindows table m [] = table
+putWindows table m (w ∷ ws) = putWindows (putWindow table m w) (m + 1) ws
 
 pub record Tally : Type 0 where
   pub count : ℕ
   pub sound : Bool
-  pub cells : List ℕ
+  pub table : List ℕ
 
 -- the windows ws after n others, all lawful or not, whose rows begin at m
 unfoldable pub tally : ℕ → ℕ → Bool → List ℕ → List Window → Tally
 unfolding allLawful putWindows
-tally m n ok cells ws = record { count = n + length ws; sound = ok && allLawful ws; cells = putWindows cells (m + n) ws }
+tally m n ok table ws = record { count = n + length ws; sound = ok && allLawful ws; table = putWindows table (m + n) ws }
 
 -- none where the form is broken
 unfoldable pub tallied : ℕ → ℕ → Bool → List ℕ → Option (List Window) → Option Tally
 unfolding tally
-tallied m n ok cells none = none
-tallied m n ok cells (some ws) = some (tally m n ok cells ws)
+tallied m n ok table none = none
+tallied m n ok table (some ws) = some (tally m n ok table ws)
 
 -- a line as it is noted: a bid's windows are in the table, from row m on
 pub data Note : Type 0 where
@@ -53,6 +53,6 @@ pub data Note : Type 0 where
 
 unfoldable pub noted : ℕ → List ℕ → Option Line → Option Note
 unfolding tally
-noted m cells none = none
-noted m cells (some (tender t)) = some (tenderNote t)
-noted m cells (some (bid b)) = some (bidNote (b .bidder) (b .price) (tally m 0 true cells (b .windows)))
+noted m table none = none
+noted m table (some (tender t)) = some (tenderNote t)
+noted m table (some (bid b)) = some (bidNote (b .bidder) (b .price) (tally m 0 true table (b .windows)))

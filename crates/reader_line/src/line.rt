@@ -86,8 +86,8 @@ pub fn keeps(ok: bool, a: u64, z: u64) -> bool
 fn put_window(windows: &mut [u64], m: usize, a: u64, z: u64)
     ensures { λ r. ⌜ now (windows .exit) ≡ putWindow (now (windows .entry)) m (record { start = a; end = z }) ⌝ }
 {
-    if m < windows.len() / tender::WINDOW_CELLS {
-        let at = tender::WINDOW_CELLS * m;
+    if m < windows.len() / tender::WINDOW_WIDTH {
+        let at = tender::WINDOW_WIDTH * m;
         windows[at] = a;
         windows[at + 1] = z;
     }
@@ -168,7 +168,7 @@ pub enum Line {
 // The tender's line from the word after "(tender" on: kind, start, end and a closing bracket.
 fn read_tender(line: &[u8], at: usize) -> Line
     requires { ⌜ at ≤ length (now line) ⌝ }
-    ensures { λ r. ⌜ ((m : ℕ) (cells : List ℕ) → toldLine r cells ≡ noted m cells (tenderOf (cut 32 (drop at (now (line .entry)))))) ⌝ }
+    ensures { λ r. ⌜ ((m : ℕ) (table : List ℕ) → toldLine r table ≡ noted m table (tenderOf (cut 32 (drop at (now (line .entry)))))) ⌝ }
 {
     let k = next(line, at, b' ');
     if line.len() <= k {

@@ -1,5 +1,5 @@
--- The layout of the two lent tables of numbers (paper 01, "The bid text"): four cells a row of the bid table (bidder, price,
--- place of its first window, number of windows), two cells a row of the window table (start, end).
+-- The layout of the two lent tables of numbers (paper 01, "The bid text"): four numbers a row of the bid table (bidder, price,
+-- place of its first window, number of windows), two numbers a row of the window table (start, end).
 use Prim.Native.Nat.{ℕ, zero, suc, _*_}
 use mathlib.Core.List.{List, [], _∷_}
 use lib.ListN.{getD, drop}
@@ -12,7 +12,7 @@ pub record Row : Type 0 where
   pub first : ℕ
   pub count : ℕ
 
--- the cells of the rows, one after the other
+-- the numbers of the rows, one after the other
 unfoldable pub flatRows : List Row → List ℕ
 flatRows [] = []
 flatRows (r ∷ rs) = r .bidder ∷ r .price ∷ r .first ∷ r .count ∷ flatRows rs
@@ -21,15 +21,15 @@ unfoldable pub flatWindows : List Window → List ℕ
 flatWindows [] = []
 flatWindows (w ∷ ws) = w .start ∷ w .end ∷ flatWindows ws
 
--- the first n rows that the cells hold
+-- the first n rows of a table
 unfoldable pub rowsOf : ℕ → List ℕ → List Row
-rowsOf zero cells = []
-rowsOf (suc n) cells = record { bidder = getD cells 0 0; price = getD cells 1 0; first = getD cells 2 0; count = getD cells 3 0 }
-    ∷ rowsOf n (drop 4 cells)
+rowsOf zero table = []
+rowsOf (suc n) table = record { bidder = getD table 0 0; price = getD table 1 0; first = getD table 2 0; count = getD table 3 0 }
+    ∷ rowsOf n (drop 4 table)
 
 unfoldable pub windowsOf : ℕ → List ℕ → List Window
-windowsOf zero cells = []
-windowsOf (suc n) cells = record { start = getD cells 0 0; end = getD cells 1 0 } ∷ windowsOf n (drop 2 cells)
+windowsOf zero table = []
+windowsOf (suc n) table = record { start = getD table 0 0; end = getD table 1 0 } ∷ windowsOf n (drop 2 table)
 
 -- the windows of a row
 unfoldable pub own : List ℕ → Row → List Window

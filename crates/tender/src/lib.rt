@@ -70,10 +70,10 @@ pub const MAX_WINDOWS: usize = 32;
 
 pub const MAX_TEXT: usize = 65536;
 
-// The cells of a row of the bid table: bidder, price, place of its first window, number of windows.
-pub const BID_CELLS: usize = 4;
-// The cells of a row of the window table: start, end.
-pub const WINDOW_CELLS: usize = 2;
+// The numbers of a row of the bid table: bidder, price, place of its first window, number of windows.
+pub const BID_WIDTH: usize = 4;
+// The numbers of a row of the window table: start, end.
+pub const WINDOW_WIDTH: usize = 2;
 
 // The keywords of the bid text and of the list.
 pub const TENDER: [u8; 6] = *b"tender";

@@ -1,6 +1,6 @@
 -- A function that lends its five rows to an award of one kind, and returns them with the answer, says what that kind promises: a
--- walk of its MIR, by hand, for either award.
--- `rows::single` and `rows::multi` are such functions. Assumes `Given`, and that the award meets its contract.
+-- walk of its MIR, by hand, for either award. `rows::single` and `rows::multi` are such functions. Assumes `Given`, and that the
+-- award meets its contract.
 use mathlib.Core.Path.{_≡_, refl, sym, subst, _∙_}
 use Prim.Native.Nat.{ℕ, _<_, _^_}
 use mathlib.Core.List.{List, [], _∷_, map}

@@ -1,7 +1,6 @@
 -- `award::award_in` meets its contract: a walk of its MIR, by hand. Two arrays are filled, lent to `settle_in` and taken back;
--- `rows_filled` says how many rows there are to fill; the arrays are
--- lent once more, and the rows are given up, to `fill`. That the rows then keep the promise is `RowsPromise`'s `filled-promise`.
--- Assumes nothing.
+-- `rows_filled` says how many rows there are to fill; the arrays are lent once more, and the rows are given up, to `fill`. That
+-- the rows then keep the promise is `RowsPromise`'s `filled-promise`. Assumes nothing.
 use mathlib.Core.Path.{_≡_, refl, sym, ap, subst, _∙_}
 use Prim.Native.Nat.{ℕ, _≤_, _<_, _^_}
 use native.Mathlib.Omega.{arith}

@@ -1,7 +1,6 @@
 -- `award::fill` meets its contract: a walk of its MIR, by hand. The borrow of the rows is opened once, before the loop, and
--- closed after it; a turn looks
--- into each of the other slices for one number, and calls `row_of` on the two. The loop's invariant: the rows are `filled i`.
--- Assumes nothing.
+-- closed after it; a turn looks into each of the other slices for one number, and calls `row_of` on the two. The loop's
+-- invariant: the rows are `filled i`. Assumes nothing.
 use mathlib.Core.Path.{_≡_, refl, sym, ap, subst, _∙_}
 use mathlib.Core.Bool.{Bool, false}
 use mathlib.Core.Logic.{_⊎_, inl, inr}

@@ -153,12 +153,6 @@ module _ (k : ℕ) (a b ps : List ℕ) where
   near u l d = ap (foundCost (cost ps)) (unneeded (length ps) 0 u (λ i. getD a i 0) (λ i. getD b i 0) (λ i. getD ps i 0) (cost ps) anyBid
       (coversBelow a b (length ps)) (prefixes a b ps u) (priced ps) k u l (omega arith) (λ x z g y w. omega arith))
 
-  -- a bid that ends before the first cell is not needed at all
-  pub idle : (L : ℕ) → k < length ps → getD b k 0 ≡ 0 → costWithout k a b ps L ≡ costBelow a b ps L
-  unfolding costWithout costBelow leastBelow othersBelow
-  idle L l d = ap (foundCost (cost ps)) (unneeded (length ps) 0 L (λ i. getD a i 0) (λ i. getD b i 0) (λ i. getD ps i 0) (cost ps) anyBid
-      (coversBelow a b (length ps)) (prefixes a b ps L) (priced ps) k L l (omega arith) (λ x z g y w. omega arith))
-
   -- the bids of a list that have the last cell of bid k: what comes before each, its price, and what comes after
   pub scan-across : (L : ℕ) (xs : ℕ → ℕ) (g : ℕ → Found) (m : ℕ) → k < length ps → 0 < getD b k 0 → getD b k 0 ≤ L
       → ((j : ℕ) → j < m → xs j < length ps)

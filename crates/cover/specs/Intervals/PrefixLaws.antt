@@ -12,7 +12,7 @@ use Rattle.cover.specs.LeastCover.{Wins}
 use Rattle.cover.specs.LeastCoverLaws.{IsFirst, first-right}
 use Rattle.cover.specs.SetLaws.{and-split}
 use Rattle.cover.specs.SetMembers.{Removed, add-below, removed}
-use Rattle.cover.specs.Intervals.{At, Order, foundCost, growSet, growCost, leastSet, plus, raise, reaches, scan, scanCost}
+use Rattle.cover.specs.Intervals.{At, Order, foundCost, growSet, leastSet, plus, raise, reaches, scan, scanCost}
 use Rattle.cover.specs.Intervals.ScanLaws.{SomeBefore, Family, IsLeast, Picked, cost-scan, found-one, least-of, least-one, least-same}
 use Rattle.cover.specs.Intervals.ScanLaws.{none-found, right-least, scan-least}
 
@@ -264,20 +264,3 @@ module _ (n o L : ℕ) (a b p cost : ℕ → ℕ) (may : ℕ → Bool) (ok : ℕ
     pub award : (v : ℕ → Found) → o < L → ((q : ℕ) → q < n → a (at q) < L → v q ≡ plus (at q) (leastSet ok cost n (a (at q))))
         → scan cost (reaches a b may at L) v n ≡ leastSet ok cost n L
     award v z values = scan-leastSet at v n L z (omega arith) (r .bids) (λ i d g u. r .every i d) values
-
-    pub grown-cost : (w : ℕ → Found) (k : ℕ) → k < n → a (at k) ≤ L
-        → ((q : ℕ) → q < k → a (at q) < L → w q ≡ raise (p (at q)) (foundCost cost (leastSet ok cost n (a (at q)))))
-        → growCost o a b p may at w k ≡ raise (p (at k)) (foundCost cost (leastSet ok cost n (a (at k))))
-    unfolding growCost foundCost
-    grown-cost w k l f values = ap (raise (p (at k))) (go (leb (a (at k)) o) refl)
-      where
-        go : (t : Bool) → leb (a (at k)) o ≡ t → cond t (found 0) (scanCost (reaches a b may at (a (at k))) w k)
-            ≡ foundCost cost (leastSet ok cost n (a (at k)))
-        go true e = sym (ap (foundCost cost) (start (a (at k)) (leb-true (a (at k)) o e)) ∙ ap found (c .empty))
-        go false e = scan-cost at w k (a (at k)) (leb-false (a (at k)) o e) f (λ q d. r .bids q (omega arith))
-            (λ i d g u. ready n a at r k l i d (omega arith)) (λ q d g. values q d (omega arith))
-
-    pub award-cost : (w : ℕ → Found) → o < L → ((q : ℕ) → q < n → a (at q) < L
-        → w q ≡ raise (p (at q)) (foundCost cost (leastSet ok cost n (a (at q)))))
-        → scanCost (reaches a b may at L) w n ≡ foundCost cost (leastSet ok cost n L)
-    award-cost w z values = scan-cost at w n L z (omega arith) (r .bids) (λ i d g u. r .every i d) values

@@ -79,15 +79,6 @@ right-least ok cost n (found b) h = record {
   fore = λ s q. record { cheap = h .least s (q .inside) (q .good); early = λ e. h .earliest s (q .inside) (q .good) (sym e) };
 }
 
-pub least-right : (ok : ℕ → Bool) (cost : ℕ → ℕ) (n : ℕ) (r : Found) → IsLeast (Family ok n) cost r → IsFirst ok cost n r
-least-right ok cost n nothing h = λ s l g. h s (record { inside = l; good = g })
-least-right ok cost n (found b) h = record {
-  inside = h .good .inside;
-  good = h .good .good;
-  least = λ s l g. h .fore s (record { inside = l; good = g }) .cheap;
-  earliest = λ s l g e. h .fore s (record { inside = l; good = g }) .early (sym e);
-}
-
 pub found-one : {a b : ℕ} → found a ≡ found b → a ≡ b
 found-one e = cc
 

@@ -9,8 +9,8 @@ use Rattle.cover.specs.Sets.{Found, hit}
 use Rattle.cover.specs.SetLaws.{Member, hit-of}
 use Rattle.cover.specs.Intervals.{coversFrom, leastSet}
 use Rattle.cover.specs.Intervals.ScanLaws.{Family, least-same, right-least}
-use Rattle.cover.specs.Intervals.PrefixLaws.{Prefixes, leastSet-is, leastSet-right}
-use Rattle.cover.specs.Intervals.CoverLaws.{covers-of, covers-prefixes, meets-at}
+use Rattle.cover.specs.Intervals.PrefixLaws.{leastSet-is, leastSet-right}
+use Rattle.cover.specs.Intervals.CoverLaws.{covers-of, meets-at}
 
 unfoldable pub mirrored : ℕ → ℕ → ℕ
 mirrored L y = L - 1 - y
@@ -40,9 +40,6 @@ module _ (L : ℕ) (has : ℕ → ℕ → Bool) (n : ℕ) (a b : ℕ → ℕ)
   pub turned : (i y : ℕ) → i < n → y < L → has i (mirrored L y) ≡ leb (L - b i) y && ltb y (L - a i)
   unfolding mirrored
   turned i y j l = sees i (L - 1 - y) j (omega arith) ∙ rw (test (a i) y l, test-past (b i) y l) (swap (ltb y (L - a i)) (leb (L - b i) y))
-
-  pub suffix-prefixes : Prefixes n 0 L (λ i. L - b i) (λ i. L - a i) (λ i. true) (coversFrom (mirrored L) 0 has n)
-  suffix-prefixes = covers-prefixes (mirrored L) 0 L has n (λ i. L - b i) (λ i. L - a i) turned
 
   there : (u s : ℕ) → coversFrom (λ x. x) u has n L s ≡ true → coversFrom (mirrored L) 0 has n (L - u) s ≡ true
   unfolding mirrored

@@ -1,7 +1,7 @@
 -- `words::line_end` meets its contract: the next byte 10 is as far from the start wherever the walk stands. Assumes nothing.
+use mathlib.Core.List.{[]}
 use Prim.Native.Nat.{_+_, _-_, _≤_, _<_}
 use mathlib.Core.Path.{_≡_, refl, sym, _∙_}
-use mathlib.Core.List.{[]}
 use mathlib.Core.Logic.{⊎-elim}
 use native.Mathlib.Omega.{arith}
 use lib.ListN.{length, drop}
