@@ -18,45 +18,45 @@ abbrev pub awardRowAt : List ℕ → List ℕ → ℕ → AwardRow
 awardRowAt won cents i = rowOf (getD won i 0) (getD cents i 0)
 
 -- the rows with those of the first n bids written
-abbrev pub rowsFilled : ℕ → List ℕ → List ℕ → List AwardRow → List AwardRow
-rowsFilled zero won cents rows = rows
-rowsFilled (suc i) won cents rows = set (rowsFilled i won cents rows) i (awardRowAt won cents i)
+abbrev pub rowsWritten : ℕ → List ℕ → List ℕ → List AwardRow → List AwardRow
+rowsWritten zero won cents rows = rows
+rowsWritten (suc i) won cents rows = set (rowsWritten i won cents rows) i (awardRowAt won cents i)
 
-pub length-filled : (n : ℕ) (won cents : List ℕ) (rows : List AwardRow) → length (rowsFilled n won cents rows) ≡ length rows
+pub length-filled : (n : ℕ) (won cents : List ℕ) (rows : List AwardRow) → length (rowsWritten n won cents rows) ≡ length rows
 length-filled zero won cents rows = refl
-length-filled (suc i) won cents rows = length-set (rowsFilled i won cents rows) i (awardRowAt won cents i) ∙ length-filled i won cents rows
+length-filled (suc i) won cents rows = length-set (rowsWritten i won cents rows) i (awardRowAt won cents i) ∙ length-filled i won cents rows
 
 written : (n : ℕ) (won cents : List ℕ) (rows : List AwardRow) (i : ℕ) → n ≤ length rows → i < n
-    → getD (rowsFilled n won cents rows) i lost ≡ awardRowAt won cents i
+    → getD (rowsWritten n won cents rows) i lost ≡ awardRowAt won cents i
 written zero won cents rows i h l = absurd (omega arith)
 written (suc n) won cents rows i h l = go (ltb i n) refl (written n won cents rows i)
   where
-    go : (b : Bool) → ltb i n ≡ b → (n ≤ length rows → i < n → getD (rowsFilled n won cents rows) i lost ≡ awardRowAt won cents i)
-        → getD (set (rowsFilled n won cents rows) n (awardRowAt won cents n)) i lost ≡ awardRowAt won cents i
-    go true t ih = getD-set-other (rowsFilled n won cents rows) n i (awardRowAt won cents n) lost (λ e. omega (arith, ltb-true i n t))
+    go : (b : Bool) → ltb i n ≡ b → (n ≤ length rows → i < n → getD (rowsWritten n won cents rows) i lost ≡ awardRowAt won cents i)
+        → getD (set (rowsWritten n won cents rows) n (awardRowAt won cents n)) i lost ≡ awardRowAt won cents i
+    go true t ih = getD-set-other (rowsWritten n won cents rows) n i (awardRowAt won cents n) lost (λ e. omega (arith, ltb-true i n t))
         ∙ ih (omega arith) (ltb-true i n t)
     go false t ih =
         let d : i ≡ n = omega (arith, ltb-false i n t) in
-        ap (λ (j : ℕ). getD (set (rowsFilled n won cents rows) n (awardRowAt won cents n)) j lost) d
-        ∙ getD-set-same (rowsFilled n won cents rows) n (awardRowAt won cents n) lost (omega (arith, length-filled n won cents rows))
+        ap (λ (j : ℕ). getD (set (rowsWritten n won cents rows) n (awardRowAt won cents n)) j lost) d
+        ∙ getD-set-same (rowsWritten n won cents rows) n (awardRowAt won cents n) lost (omega (arith, length-filled n won cents rows))
         ∙ ap (awardRowAt won cents) (sym d)
 
-kept : (n : ℕ) (won cents : List ℕ) (rows : List AwardRow) (i : ℕ) → n ≤ i → getD (rowsFilled n won cents rows) i lost ≡ getD rows i lost
+kept : (n : ℕ) (won cents : List ℕ) (rows : List AwardRow) (i : ℕ) → n ≤ i → getD (rowsWritten n won cents rows) i lost ≡ getD rows i lost
 kept zero won cents rows i l = refl
-kept (suc n) won cents rows i l = getD-set-other (rowsFilled n won cents rows) n i (awardRowAt won cents n) lost (λ e. omega arith)
+kept (suc n) won cents rows i l = getD-set-other (rowsWritten n won cents rows) n i (awardRowAt won cents n) lost (λ e. omega arith)
     ∙ kept n won cents rows i (omega arith)
 
-pub filled-rows : (n : ℕ) (won cents : List ℕ) (rows : List AwardRow) → n ≤ length rows → rowsFilled n won cents rows ≡ rowsIn n won cents
+pub filled-rows : (n : ℕ) (won cents : List ℕ) (rows : List AwardRow) → n ≤ length rows → rowsWritten n won cents rows ≡ rowsIn n won cents
     ++ drop n rows
 unfolding rowsIn
-filled-rows n won cents rows h = ext-getD lost (rowsFilled n won cents rows) (rowsIn n won cents ++ drop n rows)
+filled-rows n won cents rows h = ext-getD lost (rowsWritten n won cents rows) (rowsIn n won cents ++ drop n rows)
     (length-filled n won cents rows ∙ sym (length-append (rowsIn n won cents) (drop n rows) ∙ omega (arith, size, length-drop n rows)))
     (λ i l. go i (ltb i n) refl)
   where
     size : length (rowsIn n won cents) ≡ n
     size = length-listed n (awardRowAt won cents)
 
-    go : (i : ℕ) (b : Bool) → ltb i n ≡ b → getD (rowsFilled n won cents rows) i lost ≡ getD (rowsIn n won cents ++ drop n rows) i lost
+    go : (i : ℕ) (b : Bool) → ltb i n ≡ b → getD (rowsWritten n won cents rows) i lost ≡ getD (rowsIn n won cents ++ drop n rows) i lost
     go i true t =
         written n won cents rows i h (ltb-true i n t)
         ∙ sym (List·getD-append (rowsIn n won cents) (drop n rows) lost i (omega (arith, size, ltb-true i n t))

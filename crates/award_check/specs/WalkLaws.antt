@@ -19,12 +19,12 @@ use Rattle.award_check.specs.Faults.{keeps, sound, rowFault}
 use Rattle.award_check.specs.AlikeLaws.{rows-step, windows-step, keeps-kept}
 
 -- the windows from j on, of those from `first` on, where j are not yet passed
-abbrev pub ahead : List ℕ → ℕ → ℕ → ℕ → Bool
-ahead windows first count j = allLawful (windowsOf (count - j) (drop (2 * (first + j)) windows))
+abbrev pub rowsAhead : List ℕ → ℕ → ℕ → ℕ → Bool
+rowsAhead windows first count j = allLawful (windowsOf (count - j) (drop (2 * (first + j)) windows))
 
 pub ahead-more : (windows : List ℕ) (first count j : ℕ) → j < count →
-    ahead windows first count j ≡ (ltb (getD windows (2 * (first + j)) 0) (getD windows (2 * (first + j) + 1) 0)
-    && leb (getD windows (2 * (first + j) + 1) 0) 10080) && ahead windows first count (j + 1)
+    rowsAhead windows first count j ≡ (ltb (getD windows (2 * (first + j)) 0) (getD windows (2 * (first + j) + 1) 0)
+    && leb (getD windows (2 * (first + j) + 1) 0) 10080) && rowsAhead windows first count (j + 1)
 unfolding allLawful lawful
 ahead-more windows first count j l =
     let e : count - j ≡ suc (count - (j + 1)) = omega arith in
@@ -34,13 +34,13 @@ ahead-more windows first count j l =
     ∙ ap (λ (i : ℕ). (ltb (getD windows (2 * (first + j)) 0) (getD windows (2 * (first + j) + 1) 0)
     && leb (getD windows (2 * (first + j) + 1) 0) 10080) && allLawful (windowsOf (count - (j + 1)) (drop (2 * i) windows))) f
 
-pub ahead-all : (windows : List ℕ) (first count j : ℕ) → count ≤ j → ahead windows first count j ≡ true
+pub ahead-all : (windows : List ℕ) (first count j : ℕ) → count ≤ j → rowsAhead windows first count j ≡ true
 unfolding allLawful windowsOf
 ahead-all windows first count j l = let e : count - j ≡ 0 = omega arith in
     ap (λ (m : ℕ). allLawful (windowsOf m (drop (2 * (first + j)) windows))) e
 
 pub ahead-start : (windows : List ℕ) (first count : ℕ)
-    → ahead windows first count 0 ≡ allLawful (windowsOf count (drop (2 * first) windows))
+    → rowsAhead windows first count 0 ≡ allLawful (windowsOf count (drop (2 * first) windows))
 ahead-start windows first count =
     let d : count - 0 ≡ count = omega arith in
     let e : first + 0 ≡ first = omega arith in
@@ -51,20 +51,20 @@ ahead-start windows first count =
 module _ (windows : List ℕ) (first count j : ℕ) (r : Bool) (l : j < count)
     (is : r ≡ (ltb (getD windows (2 * (first + j)) 0) (getD windows (2 * (first + j) + 1) 0)
     && leb (getD windows (2 * (first + j) + 1) 0) 10080)) where
-  pub ahead-goes : (X : Bool) → not r ≡ false → ahead windows first count j ≡ X → ahead windows first count (j + 1) ≡ X
-  ahead-goes X t e = sym (ahead-more windows first count j l ∙ ap (λ b. b && ahead windows first count (j + 1)) (sym is ∙ not-false r t))
+  pub ahead-goes : (X : Bool) → not r ≡ false → rowsAhead windows first count j ≡ X → rowsAhead windows first count (j + 1) ≡ X
+  ahead-goes X t e = sym (ahead-more windows first count j l ∙ ap (λ b. b && rowsAhead windows first count (j + 1)) (sym is ∙ not-false r t))
       ∙ e
 
-  pub ahead-fails : (X : Bool) → not r ≡ true → ahead windows first count j ≡ X → false ≡ X
-  ahead-fails X t e = sym (ahead-more windows first count j l ∙ ap (λ b. b && ahead windows first count (j + 1)) (sym is ∙ not-true r t))
+  pub ahead-fails : (X : Bool) → not r ≡ true → rowsAhead windows first count j ≡ X → false ≡ X
+  ahead-fails X t e = sym (ahead-more windows first count j l ∙ ap (λ b. b && rowsAhead windows first count (j + 1)) (sym is ∙ not-true r t))
       ∙ e
 
 -- the bidder numbers of the rows passed, as cells of the words `used`: an empty table has none, and one more is one cell more
-pub record Passed (used list : List ℕ) : Type 0 where
+pub record RowsPassed (used list : List ℕ) : Type 0 where
   pub size : length used ≡ 15625
   pub tied : (x : ℕ) → eqb (cell used x) 1 ≡ among x list
 
-pub passed-none : (used : List ℕ) → used ≡ replicate {A = ℕ} 15625 0 → Passed used []
+pub passed-none : (used : List ℕ) → used ≡ replicate {A = ℕ} 15625 0 → RowsPassed used []
 unfolding cell among
 passed-none used e = rw e (record {
   size = length-replicate {A = ℕ} 15625 0;
@@ -82,8 +82,8 @@ unfolding among
 among-last x b [] = or-false (eqb b x)
 among-last x b (m ∷ list) = rw (among-last x b list) (sym (or-assoc (eqb m x) (among x list) (eqb b x)))
 
-pub passed-more : (used used′ list : List ℕ) (b : ℕ) → Passed used list → RangeAdded b (b + 1) used used′ → length used′ ≡ length used
-    → Passed used′ (list ++ b ∷ [])
+pub passed-more : (used used′ list : List ℕ) (b : ℕ) → RowsPassed used list → RangeAdded b (b + 1) used used′ → length used′ ≡ length used
+    → RowsPassed used′ (list ++ b ∷ [])
 passed-more used used′ list b p f l = record { size = l ∙ p .size; tied = λ x. go x (eqb b x) refl }
   where
     go : (x : ℕ) (t : Bool) → eqb b x ≡ t → eqb (cell used′ x) 1 ≡ among x (list ++ b ∷ [])
@@ -116,7 +116,7 @@ rowAt bids j = record {
 -- the rows from j on have the first fault of all of them
 pub record Going (k : Kind) (n : ℕ) (bids windows used : List ℕ) (at j : ℕ) : Type 0 where
   pub list : List ℕ
-  pub passed : Passed used list
+  pub passed : RowsPassed used list
   pub inside : j ≤ n
   pub room : at ≤ length windows / 2
   pub rest : rowFault k windows (j + 1) list at (rowsOf (n - j) (drop (4 * j) bids)) ≡ rowFault k windows 1 [] 0 (rowsOf n bids)

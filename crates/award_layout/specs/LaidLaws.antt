@@ -16,7 +16,7 @@ use Rattle.cells.specs.Cells.{cell, RangeAdded}
 use Rattle.cells.specs.BitLaws.{zero-bit}
 use Rattle.award_check.specs.Cells.{holds, pricesOf}
 use Rattle.award_check.specs.AlikeLaws.{rows-length, prices-length, price-named, windows-step}
-use Rattle.award_check.specs.WalkLaws.{ahead, ahead-more}
+use Rattle.award_check.specs.WalkLaws.{rowsAhead, ahead-more}
 use Rattle.award_layout.specs.LayoutLaws.{in-cell}
 use Rattle.award_layout.specs.Orderly.{bidRowAt, Orderly, clipped, Masked}
 
@@ -137,11 +137,11 @@ module _ (k : Kind) (n : ℕ) (bids windows : List ℕ) (o : Orderly k n bids wi
   first-room = omega (arith, row-room, some-window)
 
 -- the window passed next is lawful, and so are those after it
-pub here-lawful : (windows : List ℕ) (first count j : ℕ) → j < count → ahead windows first count j ≡ true →
-    (getD windows (2 * (first + j)) 0 ≤ getD windows (2 * (first + j) + 1) 0) × (ahead windows first count (j + 1) ≡ true)
+pub here-lawful : (windows : List ℕ) (first count j : ℕ) → j < count → rowsAhead windows first count j ≡ true →
+    (getD windows (2 * (first + j)) 0 ≤ getD windows (2 * (first + j) + 1) 0) × (rowsAhead windows first count (j + 1) ≡ true)
 here-lawful windows first count j l e =
     let a = and-split (ltb (getD windows (2 * (first + j)) 0) (getD windows (2 * (first + j) + 1) 0)
-    && leb (getD windows (2 * (first + j) + 1) 0) 10080) (ahead windows first count (j + 1))
+    && leb (getD windows (2 * (first + j) + 1) 0) 10080) (rowsAhead windows first count (j + 1))
     (sym (ahead-more windows first count j l) ∙ e) in
     let b = and-split (ltb (getD windows (2 * (first + j)) 0) (getD windows (2 * (first + j) + 1) 0))
     (leb (getD windows (2 * (first + j) + 1) 0) 10080) (a .0) in

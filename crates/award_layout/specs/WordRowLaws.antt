@@ -18,10 +18,10 @@ module _ (ms : List ℕ) (w n i : ℕ) (size : length ms ≡ w * n) (l : i < n) 
   pub row-size : length (wordRow ms w i) ≡ w
   row-size = row-length ms w i (omega (arith, row-within w n i l))
 
-pub row-same : (ms ms′ : List ℕ) (w j : ℕ) → length ms ≡ length ms′ → ((q : ℕ) → q < w * j + w → getD ms q 0 ≡ getD ms′ q 0)
+pub word-row-same : (ms ms′ : List ℕ) (w j : ℕ) → length ms ≡ length ms′ → ((q : ℕ) → q < w * j + w → getD ms q 0 ≡ getD ms′ q 0)
     → wordRow ms w j ≡ wordRow ms′ w j
 unfolding wordRow
-row-same ms ms′ w j e h = ext-getD 0 (take w (drop (w * j) ms)) (take w (drop (w * j) ms′))
+word-row-same ms ms′ w j e h = ext-getD 0 (take w (drop (w * j) ms)) (take w (drop (w * j) ms′))
     (simp (length-take, length-drop) (ap (λ (m : ℕ). min w (m - w * j)) e))
     (λ q l. let b : q < w = omega (arith, length-take w (drop (w * j) ms)) in
     getD-take w (drop (w * j) ms) q 0 b ∙ getD-drop (w * j) ms q 0 ∙ h (w * j + q) (omega arith) ∙ sym (getD-drop (w * j) ms′ q 0)
@@ -66,7 +66,7 @@ module _ (n start L w : ℕ) (bids windows : List ℕ) (i : ℕ) (ms ys : List �
       rows j h = go (ltb j i) refl
         where
           go : (b : Bool) → ltb j i ≡ b → Masked start L (own windows (bidRowAt bids j)) (wordRow new w j)
-          go true t = rw (row-same new ms w j same-size (λ q d. before q (omega (arith, row-within w i j (ltb-true j i t)))))
+          go true t = rw (word-row-same new ms w j same-size (λ q d. before q (omega (arith, row-within w i j (ltb-true j i t)))))
               (g .done .each j (ltb-true j i t))
           go false t = let d : j ≡ i = omega (arith, ltb-false j i t) in rw (d, here) m
 

@@ -33,8 +33,8 @@ use Rattle.award_plain.specs.Plain.{PlainPromise}
 use Rattle.award_plain.specs.PlainLaws.{eleven, twelve, awards, multi-won, multi-cents}
 
 -- the prices of orderly rows are within the limit
-pub priced : (k : Kind) (n : ℕ) (bids windows : List ℕ) → Orderly k n bids windows → Priced (pricesOf (rowsOf n bids))
-priced k n bids windows o = record { count = omega (arith, o .few, prices-count n bids); most = most }
+pub prices-lawful : (k : Kind) (n : ℕ) (bids windows : List ℕ) → Orderly k n bids windows → Priced (pricesOf (rowsOf n bids))
+prices-lawful k n bids windows o = record { count = omega (arith, o .few, prices-count n bids); most = most }
   where
     most : (i : ℕ) → getD (pricesOf (rowsOf n bids)) i 0 ≤ 100000000
     most i = go (ltb i n) refl
@@ -89,7 +89,7 @@ module _ (t : Tender) (n w : ℕ) (bids windows ms ps ow oc : List ℕ) (f : fau
 
   pub market : Words t w → Market ps ms w
   market d = record {
-    priced = rw p (priced Multi n bids windows (orderly Multi t n bids windows f));
+    priced = rw p (prices-lawful Multi n bids windows (orderly Multi t n bids windows f));
     size = size
         ∙ ap (λ (k : ℕ). w * k) (sym count);
     words = d .words;

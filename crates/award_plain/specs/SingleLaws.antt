@@ -22,7 +22,7 @@ use Rattle.award_layout.specs.Orderly.{Orderly, SpansLaid}
 use Rattle.award_layout.specs.LayoutLaws.{orderly, spans-have, spans-ordered, spans-inside}
 use Rattle.tender.specs.declared.Answer.the-variants.{Awarded, Refused}
 use Rattle.award_plain.specs.Plain.{PlainPromise}
-use Rattle.award_plain.specs.MultiLaws.{priced}
+use Rattle.award_plain.specs.MultiLaws.{prices-lawful}
 use Rattle.award_plain.specs.PlainLaws.{eleven, twelve, awards, single-won, single-cents}
 
 module _ (t : Tender) (n : ℕ) (bids windows starts ends ps ow oc : List ℕ) (f : faultOf Single t n bids windows ≡ none)
@@ -46,7 +46,7 @@ module _ (t : Tender) (n : ℕ) (bids windows starts ends ps ow oc : List ℕ) (
   }
 
   pub prices-most : (i : ℕ) → getD ps i 0 ≤ 100000000
-  prices-most i = rw p (priced Single n bids windows o .most i)
+  prices-most i = rw p (prices-lawful Single n bids windows o .most i)
 
   pub uncovered : (x : ℕ) → Says (spans starts ends) n (cellsOf t) (Nobody x)
       → PlainPromise Single t n bids windows n ow oc ow oc (Refused (MinuteUncovered (t .window .start + x)))

@@ -31,9 +31,9 @@ pub times-most : (xs : List ℕ) (n x : ℕ) → times xs n x ≤ n
 unfolding times
 times-most xs n x = bidders-fit (λ i y. eqb (getD xs i 0) y) n x
 
-pub counted : (xs table : List ℕ) (i : ℕ) → getD xs i 0 < length table → ((x : ℕ) → getD table x 0 ≡ times xs i x) →
+pub count-of : (xs table : List ℕ) (i : ℕ) → getD xs i 0 < length table → ((x : ℕ) → getD table x 0 ≡ times xs i x) →
     (x : ℕ) → getD (set table (getD xs i 0) (getD table (getD xs i 0) 0 + 1)) x 0 ≡ times xs (i + 1) x
-counted xs table i l f x = go (eqb (getD xs i 0) x) refl
+count-of xs table i l f x = go (eqb (getD xs i 0) x) refl
   where
     go : (b : Bool) → eqb (getD xs i 0) x ≡ b → getD (set table (getD xs i 0) (getD table (getD xs i 0) 0 + 1)) x 0 ≡ times xs (i + 1) x
     go true e =
@@ -46,17 +46,17 @@ counted xs table i l f x = go (eqb (getD xs i 0) x) refl
         ∙ omega (arith, f x, times-more xs i x, ap (λ b. when b 1) e)
 
 -- how many of the first n numbers are below x
-unfoldable pub below : List ℕ → ℕ → ℕ → ℕ
+unfoldable pub countBelow : List ℕ → ℕ → ℕ → ℕ
 unfolding bidders
-below xs n x = bidders (λ i y. ltb (getD xs i 0) y) n x
+countBelow xs n x = bidders (λ i y. ltb (getD xs i 0) y) n x
 
-pub below-none : (xs : List ℕ) (n : ℕ) → below xs n 0 ≡ 0
-unfolding below
+pub below-none : (xs : List ℕ) (n : ℕ) → countBelow xs n 0 ≡ 0
+unfolding countBelow
 below-none xs zero = refl
 below-none xs (suc n) = omega (arith, ap (λ b. when b 1) (le-ltb (getD xs n 0) 0 (omega arith)), below-none xs n)
 
-pub below-more : (xs : List ℕ) (n x : ℕ) → below xs n (x + 1) ≡ below xs n x + times xs n x
-unfolding below times bidders
+pub below-more : (xs : List ℕ) (n x : ℕ) → countBelow xs n (x + 1) ≡ countBelow xs n x + times xs n x
+unfolding countBelow times bidders
 below-more xs zero x = refl
 below-more xs (suc n) x = omega (arith, below-more xs n x, go (ltb (getD xs n 0) x) (eqb (getD xs n 0) x) refl refl)
   where
@@ -72,8 +72,8 @@ below-more xs (suc n) x = omega (arith, below-more xs n x, go (ltb (getD xs n 0)
 
 -- the bidders of a cell: the windows that start at it or before, less those that end at it or before
 pub bidders-below : (starts ends : List ℕ) (n x : ℕ) → ((i : ℕ) → getD starts i 0 ≤ getD ends i 0)
-    → bidders (spans starts ends) n x + below ends n (x + 1) ≡ below starts n (x + 1)
-unfolding below bidders spans
+    → bidders (spans starts ends) n x + countBelow ends n (x + 1) ≡ countBelow starts n (x + 1)
+unfolding countBelow bidders spans
 bidders-below starts ends zero x o = refl
 bidders-below starts ends (suc n) x o = omega (
   arith,
@@ -103,7 +103,7 @@ bidders-below starts ends (suc n) x o = omega (
         off : (b : Bool) → when (false && b) 1 ≡ 0
         off b = refl
 
-pub zeros : (n i : ℕ) → getD (replicate {A = ℕ} n 0) i 0 ≡ 0
-zeros zero i = refl
-zeros (suc n) zero = refl
-zeros (suc n) (suc i) = zeros n i
+pub no-counts : (n i : ℕ) → getD (replicate {A = ℕ} n 0) i 0 ≡ 0
+no-counts zero i = refl
+no-counts (suc n) zero = refl
+no-counts (suc n) (suc i) = no-counts n i

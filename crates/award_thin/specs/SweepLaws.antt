@@ -9,14 +9,14 @@ use borrow.Author.Tests.{lt-ltb, le-ltb}
 use Rattle.cover.specs.Sets.{bidders}
 use Rattle.cover.specs.Settled.{spans}
 use Rattle.award_thin.specs.Thin.{Spans, times, fewer, FirstOf}
-use Rattle.award_thin.specs.CountsLaws.{bidders-fit, times-most, below, below-none, below-more, bidders-below}
+use Rattle.award_thin.specs.CountsLaws.{bidders-fit, times-most, countBelow, below-none, below-more, bidders-below}
 use Rattle.award_thin.specs.FirstsLaws.{one-more-before}
 
 pub record Sweep (starts ends opened ended : List ℕ) (cells count x : ℕ) : Type 0 where
   pub inside : x ≤ cells
   pub opens : (y : ℕ) → getD opened y 0 ≡ times starts (length starts) y
   pub closes : (y : ℕ) → getD ended y 0 ≡ times ends (length starts) y
-  pub counts : count + below ends (length starts) x ≡ below starts (length starts) x
+  pub counts : count + countBelow ends (length starts) x ≡ countBelow starts (length starts) x
   pub before : (y : ℕ) → y < x → fewer (spans starts ends) (length starts) 2 y ≡ false
 
 pub sweep-starts : (starts ends opened ended : List ℕ) (cells : ℕ) → length ends ≡ length starts

@@ -5,7 +5,7 @@ use Prim.Native.Nat.{ℕ, _+_, _*_, _≤_, _<_}
 use native.Mathlib.Omega.{arith}
 use Rattle.cover.specs.CriticalPrice.{late}
 use Rattle.cover.specs.PickLaws.{Best}
-use Rattle.multi_tournament.specs.OrderLaws.{zero-or, ahead}
+use Rattle.multi_tournament.specs.OrderLaws.{zero-or, goes-ahead}
 
 -- no disturbed bid comes before bid b at t/c
 abbrev pub Bound : (ℕ → ℕ) → (ℕ → ℕ) → (ℕ → ℕ) → ℕ → ℕ → ℕ → ℕ → Type 0
@@ -19,7 +19,7 @@ module _ (p r s d : ℕ → ℕ) (n : ℕ) (same : (i : ℕ) → i < n → d i �
     inside = x .inside;
     good = omega (arith, same m (x .inside) e, x .good);
     least = λ i l g. rw (same m (x .inside) e) (⊎-elim (λ z. rw (same i l z) (x .least i l (omega (arith, same i l z))))
-        (λ z. let k = h i l z g in ahead m b i (p m) (r m) t c (p i) (s i) (x .good) (k .0) g a (k .1)) (zero-or (d i)));
+        (λ z. let k = h i l z g in goes-ahead m b i (p m) (r m) t c (p i) (s i) (x .good) (k .0) g a (k .1)) (zero-or (d i)));
   }
 
   -- bid j is the best of the disturbed, and comes before the main run's next
@@ -28,7 +28,7 @@ module _ (p r s d : ℕ → ℕ) (n : ℕ) (same : (i : ℕ) → i < n → d i �
   takes-other m j x l g h a = record {
     inside = l;
     good = g;
-    least = λ i q k. ⊎-elim (λ z. rw (same i q z) (ahead j m i (p j) (s j) (p m) (r m) (p i) (r i) g (x .good) (omega (arith, same i q z))
+    least = λ i q k. ⊎-elim (λ z. rw (same i q z) (goes-ahead j m i (p j) (s j) (p m) (r m) (p i) (r i) g (x .good) (omega (arith, same i q z))
         a (x .least i q (omega (arith, same i q z)))))
         (λ z. h i q z k .1) (zero-or (d i));
   }

@@ -21,8 +21,8 @@ use Rattle.multi_rounds.specs.Market.{wordRow, has, Sized, Turn, First, 
 use Rattle.multi_tournament.specs.Tournament.{at}
 use Rattle.multi_rounds.specs.Trace.{opens, before, Trace, openOf}
 
-abbrev pub all : List ℕ → List ℕ → ℕ → ℕ → Entry
-all ps ms w = bids (has ms w) ps
+abbrev pub allWritten : List ℕ → List ℕ → ℕ → ℕ → Entry
+allWritten ps ms w = bids (has ms w) ps
 
 before-set : (ms : List ℕ) (w n : ℕ) (order : List ℕ) (r b g : ℕ) → g ≤ r → (x : ℕ)
     → before ms w n (set order r b) g x ≡ before ms w n order g x
@@ -38,12 +38,12 @@ og ms w n order g = opens (before ms w n order g) (64 * w)
 
 record Past (ps ms : List ℕ) (w n : ℕ) (order got : List ℕ) (g : ℕ) : Type 0 where
   inside : at order g < length ps
-  takes′ : best (all ps ms w) (length ps) (og ms w n order g) ≡ found (at order g)
+  takes′ : best (allWritten ps ms w) (length ps) (og ms w n order g) ≡ found (at order g)
   gets : at got g ≡ reach (has ms w (at order g)) (og ms w n order g)
   few : at got g ≤ 10112
 
 pub record Tracing (ps ms : List ℕ) (w n : ℕ) (held stale order got : List ℕ) (left r : ℕ) : Type 0 where
-  pub links : Tied (all ps ms w) ps ms w held stale
+  pub links : Tied (allWritten ps ms w) ps ms w held stale
   pub count : left ≡ length (openOf held)
   pub room : r + left ≤ n
   pub orders : n ≤ length order
@@ -51,10 +51,10 @@ pub record Tracing (ps ms : List ℕ) (w n : ℕ) (held stale order got : List �
   pub standing : (x : ℕ) → cell held x ≡ before ms w n order r x
   past : (g : ℕ) → g < r → Past ps ms w n order got g
 
-pub starts : {ps ms : List ℕ} {w n : ℕ} {held stale order got : List ℕ} → length held ≡ w → n ≤ 64 * w → First n held → Sized stale
+pub trace-starts : {ps ms : List ℕ} {w n : ℕ} {held stale order got : List ℕ} → length held ≡ w → n ≤ 64 * w → First n held → Sized stale
     → Entered ps ms w held stale → n ≤ length order → n ≤ length got → Tracing ps ms w n held stale order got n 0
 unfolding bids before
-starts {ps} {ms} {w} {n} {held} {stale} e l f z g lo lg = let o = open-first f (omega arith) in record {
+trace-starts {ps} {ms} {w} {n} {held} {stale} e l f z g lo lg = let o = open-first f (omega arith) in record {
   links = record { sized = z; words = e; bound = λ i q. omega (arith, g .each i q, reach-open held ms w i); real = λ i q p. refl };
   count = rw o (sym (length-cells n));
   room = omega arith;
@@ -93,11 +93,11 @@ module _ {ps ms : List ℕ} {w n : ℕ} {held stale order got : List ℕ} {left 
   module _ {new : List ℕ} {b c : ℕ} (u : Turn ps ms w held stale new b c) where
     pub ends-none : n ≤ 10112 → length ps ≤ b → Trace ps ms w n order got r
     unfolding bids
-    ends-none m l = ends m (λ i q. omega (arith, rw (stops (s .links) u l) at (best-right (all ps ms w) (length ps) (openOf held)) i q))
+    ends-none m l = ends m (λ i q. omega (arith, rw (stops (s .links) u l) at (best-right (allWritten ps ms w) (length ps) (openOf held)) i q))
 
     module _ (l : b < length ps) where
       pub fits : c ≤ left
-      fits = omega (arith, s .count, gains (s .links) u l, shrink (all ps ms w b .has) (openOf held))
+      fits = omega (arith, s .count, gains (s .links) u l, shrink (allWritten ps ms w b .has) (openOf held))
 
       pub some : 0 < c
       some = gains-some (s .links) u l
@@ -107,7 +107,7 @@ module _ {ps ms : List ℕ} {w n : ℕ} {held stale order got : List ℕ} {left 
       unfolding before bids
       goes {rest} e k = let o = shuts (s .links) u l e k in record {
         links = tied (s .links) u l e k;
-        count = rw (← o) (omega (arith, s .count, gains (s .links) u l, shrink (all ps ms w b .has) (openOf held)));
+        count = rw (← o) (omega (arith, s .count, gains (s .links) u l, shrink (allWritten ps ms w b .has) (openOf held)));
         room = omega (arith, s .room, some, fits);
         orders = simp length-set (s .orders);
         space = simp length-set (s .space);

@@ -29,8 +29,8 @@ chain-le-lt a b c d e f l g h = go (ltb (a * f) (e * b)) refl
     go false q = absurd (omega (arith, chain e f a b c d l (ltb-false (a * f) (e * b) q) g))
 
 -- the bid i at a/b comes before j at c/d, and that before k at e/f
-pub ahead : (i j k a b c d e f : ℕ) → 0 < b → 0 < d → 0 < f → a * d + late i j ≤ c * b → c * f + late j k ≤ e * d → a * f + late i k ≤ e * b
-ahead i j k a b c d e f lb ld lf g h = go (ltb k i) (ltb j i) refl refl
+pub goes-ahead : (i j k a b c d e f : ℕ) → 0 < b → 0 < d → 0 < f → a * d + late i j ≤ c * b → c * f + late j k ≤ e * d → a * f + late i k ≤ e * b
+goes-ahead i j k a b c d e f lb ld lf g h = go (ltb k i) (ltb j i) refl refl
   where
     go : (s t : Bool) → ltb k i ≡ s → ltb j i ≡ t → a * f + late i k ≤ e * b
     go false t u v = omega (arith, late-no i k (ltb-false k i u), chain a b c d e f ld (omega arith) (omega arith))
@@ -53,4 +53,4 @@ pub leads-on : (ps : List ℕ) (i s j t k u : ℕ) → Leads ps i s j t → Lead
 leads-on ps i s j t k u a (inl z) = inl z
 leads-on ps i s j t k u (inl z) (inr b) = absurd (omega (arith, b .0))
 leads-on ps i s j t k u (inr a) (inr b) = ⊎-elim (λ z. inl z)
-    (λ z. inr (a .0, ahead i j k (at ps i) s (at ps j) t (at ps k) u (a .0) (b .0) z (a .1) (b .1))) (zero-or u)
+    (λ z. inr (a .0, goes-ahead i j k (at ps i) s (at ps j) t (at ps k) u (a .0) (b .0) z (a .1) (b .1))) (zero-or u)

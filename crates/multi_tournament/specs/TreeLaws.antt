@@ -216,8 +216,8 @@ module _ {ps who num : List ℕ} where
     };
   }
 
-pub opened : (ps : List ℕ) {who num : List ℕ} → Seated who → length num ≡ 2048 → ((v : ℕ) → at num v ≡ 0) → Tournament ps who num
-opened ps s e z = record {
+pub tree-opened : (ps : List ℕ) {who num : List ℕ} → Seated who → length num ≡ 2048 → ((v : ℕ) → at num v ≡ 0) → Tournament ps who num
+tree-opened ps s e z = record {
   seats = record {
     players = s .players;
     numbers = e;

@@ -30,24 +30,24 @@ use Rattle.reader.specs.declared.bids.Step.{Step}
 use Rattle.reader.specs.declared.bids.Step.the-variants as step
 use Rattle.reader.specs.StoreLaws.{front, windows-put, windows-more, flat-more, rows-more}
 
-pub numbers : List BidLine → List ℕ
-numbers [] = []
-numbers (b ∷ bs) = b .bidder ∷ numbers bs
+pub bidderNumbers : List BidLine → List ℕ
+bidderNumbers [] = []
+bidderNumbers (b ∷ bs) = b .bidder ∷ bidderNumbers bs
 
-numbers-more : (bs : List BidLine) (b : BidLine) → numbers (bs ++ b ∷ []) ≡ numbers bs ++ b .bidder ∷ []
-unfolding numbers
+numbers-more : (bs : List BidLine) (b : BidLine) → bidderNumbers (bs ++ b ∷ []) ≡ bidderNumbers bs ++ b .bidder ∷ []
+unfolding bidderNumbers
 numbers-more [] b = refl
 numbers-more (c ∷ bs) b = ap (λ l. c .bidder ∷ l) (numbers-more bs b)
 
-numbers-length : (bs : List BidLine) → length (numbers bs) ≡ length bs
-unfolding numbers
+numbers-length : (bs : List BidLine) → length (bidderNumbers bs) ≡ length bs
+unfolding bidderNumbers
 numbers-length [] = refl
 numbers-length (b ∷ bs) = ap suc (numbers-length bs)
 
 -- among the lines `whole`, all before `left` are bids without a fault, and the tables hold them
 pub record Walk (kind : Kind) (whole left : List (Option Line)) (k m : ℕ) (used rows windows : List ℕ) : Type 0 where
   pub done : List BidLine
-  pub checks : (out : ReadOutcome) → checked kind 2 [] whole out ≡ checked kind (k + 2) (numbers done) left out
+  pub checks : (out : ReadOutcome) → checked kind 2 [] whole out ≡ checked kind (k + 2) (bidderNumbers done) left out
   pub bids : bidsOf whole ≡ done ++ bidsOf left
   pub count : length done ≡ k
   pub places : length (allWindows done) ≡ m
@@ -55,7 +55,7 @@ pub record Walk (kind : Kind) (whole left : List (Option Line)) (k m : ℕ) (use
   pub few-windows : m ≤ 32 * k
   pub rows-are : take (4 * k) rows ≡ flatRows (rowsFrom 0 done)
   pub windows-are : take (2 * m) windows ≡ flatWindows (allWindows done)
-  pub marked : (x : ℕ) → eqb (cell used x) 1 ≡ among x (numbers done)
+  pub marked : (x : ℕ) → eqb (cell used x) 1 ≡ among x (bidderNumbers done)
   pub used-long : length used ≡ 15625
   pub rows-long : length rows ≡ 4000
   pub windows-long : length windows ≡ 22000
@@ -73,10 +73,10 @@ unset n x = let e : getD (zeros n) (x / 64) 0 ≡ 0 = zero-at (ltb (x / 64) n) r
     zero-at true h = getD-replicate n (x / 64) 0 0 (ltb-true (x / 64) n h)
     zero-at false h = List·getD-eq-default (zeros n) 0 (rw length-replicate (ltb-false (x / 64) n h))
 
-pub begins : (kind : Kind) (ls : List (Option Line)) (used rows windows : List ℕ) → used ≡ replicate 15625 0 → length rows ≡ 4000
+pub walk-begins : (kind : Kind) (ls : List (Option Line)) (used rows windows : List ℕ) → used ≡ replicate 15625 0 → length rows ≡ 4000
     → length windows ≡ 22000 → Walk kind ls ls 0 0 used rows windows
-unfolding numbers zeros allWindows rowsFrom flatRows flatWindows among
-begins kind ls used rows windows u r w =
+unfolding bidderNumbers zeros allWindows rowsFrom flatRows flatWindows among
+walk-begins kind ls used rows windows u r w =
     record {
       done = [];
       checks = λ out. refl;
@@ -136,7 +136,7 @@ taken-room kind k m used rows windows used′ rows′ windows′ (some (bid b)) 
 module _ (kind : Kind) (whole rest : List (Option Line)) (k m : ℕ) (used rows windows used′ rows′ windows′ : List ℕ) where
   -- the fault of the next bid
   fault-is : (b : BidLine) (w : Walk kind whole (some (bid b) ∷ rest) k m used rows windows) →
-      bidFault kind (numbers (w .done)) b ≡ bidFaultIn kind k (b .bidder) (b .price) (length (b .windows)) (allLawful (b .windows))
+      bidFault kind (bidderNumbers (w .done)) b ≡ bidFaultIn kind k (b .bidder) (b .price) (length (b .windows)) (allLawful (b .windows))
       (eqb (cell used (b .bidder)) 1)
   unfolding bidFault
   fault-is b w = rw (← (w .marked (b .bidder)), numbers-length (w .done), w .count)
@@ -166,7 +166,7 @@ module _ (kind : Kind) (whole rest : List (Option Line)) (k m : ℕ) (used rows 
             ∙ rw (w .rows-are, ← (w .places)) (sym (rw (zero-add (length (allWindows (w .done)))) at (rows-more 0 (w .done) b)));
         windows-are = ap (take (2 * (m + length (b .windows)))) (t .own) ∙ windows-put windows m (b .windows) j
             ∙ rw (w .windows-are, windows-more (w .done) b) (sym (flat-more (allWindows (w .done)) (b .windows)));
-        marked = λ x. rw (numbers-more (w .done) b) (marked-more (b .bidder) (numbers (w .done)) used used′ (w .marked) (t .mark) x);
+        marked = λ x. rw (numbers-more (w .done) b) (marked-more (b .bidder) (bidderNumbers (w .done)) used used′ (w .marked) (t .mark) x);
         used-long = lu ∙ w .used-long;
         rows-long = lr ∙ w .rows-long;
         windows-long = lw ∙ w .windows-long;
@@ -209,7 +209,7 @@ module _ (kind : Kind) (whole rest : List (Option Line)) (k m : ℕ) (used rows 
     where
       go : (f : Option (ℕ → Refusal)) → bidFaultIn kind k (b .bidder) (b .price) (length (b .windows)) (allLawful (b .windows))
           (eqb (cell used (b .bidder)) 1) ≡ f →
-          Judged f b k m used rows windows r used′ rows′ windows′ → checked kind (k + 2) (numbers (w .done)) (some (bid b) ∷ rest) out
+          Judged f b k m used rows windows r used′ rows′ windows′ → checked kind (k + 2) (bidderNumbers (w .done)) (some (bid b) ∷ rest) out
           ≡ refused (numberOf x) (placeOf x)
       go none g j = let q : step.Bid (length (b .windows)) ≡ step.Refused x = sym (j .answer) ∙ e in let z : _≡_ {A = ℕ} 0 1 = cc in
           absurd (omega arith)
@@ -223,10 +223,10 @@ unfolding checked
 breaks kind whole rest k m used rows windows w out = w .checks out
 
 -- no line is left
-pub ends : (kind : Kind) (whole : List (Option Line)) (k m : ℕ) (used rows windows : List ℕ) → Walk kind whole [] k m used rows windows
+pub walk-ends : (kind : Kind) (whole : List (Option Line)) (k m : ℕ) (used rows windows : List ℕ) → Walk kind whole [] k m used rows windows
     → m ≤ 11000 → TablesHold kind whole k m rows windows
 unfolding checked bidsOf
-ends kind whole k m used rows windows w l =
+walk-ends kind whole k m used rows windows w l =
     let e : bidsOf whole ≡ w .done = w .bids ∙ append-nil (w .done) in
     record {
       faultless = w .checks;

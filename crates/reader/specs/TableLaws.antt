@@ -17,9 +17,9 @@ stored l i a b c d h =
     rw (e1, e2, e3) (sets-eq (a ∷ b ∷ c ∷ d ∷ []) l i h)
 
 -- one more place copied
-pub copied : (from to : List ℕ) (i : ℕ) → i < length from → i < length to
+pub copied-place : (from to : List ℕ) (i : ℕ) → i < length from → i < length to
     → set (take i from ++ drop i to) i (getD from i 0) ≡ take (i + 1) from ++ drop (i + 1) to
-copied from to i h k =
+copied-place from to i h k =
     rw (drop-cons to i 0 k, add-one, take-suc from i 0 h)
     (set-at (take i from) (getD to i 0) (drop (suc i) to) (getD from i 0) i (length-take-le i from (omega arith))
     ∙ sym (append-snoc (take i from) (getD from i 0) (drop (suc i) to)))

@@ -18,9 +18,9 @@ pub inside : (b : ℕ) → 48 ≤ b → b < 58 → within 48 57 b ≡ true
 unfolding within
 inside b h k = simp (le-leb 48 b h, le-leb b 57 (omega arith))
 
-pub below : (b : ℕ) → b < 48 → within 48 57 b ≡ false
+pub digits-below : (b : ℕ) → b < 48 → within 48 57 b ≡ false
 unfolding within
-below b h = simp (lt-leb 48 b h)
+digits-below b h = simp (lt-leb 48 b h)
 
 pub above : (b : ℕ) → 58 ≤ b → within 48 57 b ≡ false
 unfolding within

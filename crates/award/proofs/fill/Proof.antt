@@ -56,7 +56,7 @@ use denote.Triple.Clauses.{ensured, lasts}
 use denote.Triple.Table.{entered, cited}
 use denote.Triple.Walked.{says, needs, Stays, stay-slice, stay-none, stay-none-slice, walkOf, AllGo, Walks, ends-at, walked, goes-slice}
 use denote.Triple.Walked.{goes-none, goes-none-slice, walk-meets}
-use Rattle.award.specs.Rows.{awardRowAt, rowsFilled, filled-rows, length-filled}
+use Rattle.award.specs.Rows.{awardRowAt, rowsWritten, filled-rows, length-filled}
 use Rattle.tender.specs.declared.AwardRow.{AwardRow}
 use Rattle.tender.proofs.AwardRow as T
 use Rattle.tender.proofs.AwardRow.Laws as T′
@@ -128,7 +128,7 @@ module _ {M : Type 1} (𝓤 : URA M) (H : Heap 𝓤) (A : Atoms 𝓤) (W : Given
   at = (sliceVal (b, o) (length ys) ∷ [], (sliceVal (b1, o1) (length ws) ∷ [], (sliceVal (b2, o2) (length cs) ∷ [], (vint w64 n ∷ [], tt))))
 
   abbrev fl : ℕ → List AwardRow
-  fl i = rowsFilled i ws cs ys
+  fl i = rowsWritten i ws cs ys
 
   -- what `row_of` is passed for row i
   abbrev cellsAt : ℕ → ℕ × (ℕ × Unit {0})

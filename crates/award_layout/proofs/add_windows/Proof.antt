@@ -4,7 +4,7 @@ use mathlib.Core.Bool.{true}
 use Prim.Native.Nat.{_+_, _*_, _-_}
 use native.Mathlib.Omega.{arith}
 use lib.ListN.{length, getD}
-use Rattle.award_check.specs.WalkLaws.{ahead, ahead-start}
+use Rattle.award_check.specs.WalkLaws.{rowsAhead, ahead-start}
 use Rattle.award_layout.specs.LaidLaws.{Masking, masking-starts, masking-more, masking-ends, here-lawful}
 use Rattle.award_layout.specs.LayoutLaws.{clip-order, clip-inside}
 use Rattle.award_layout.proofs.add_windows.Statement.{statement}
@@ -16,7 +16,7 @@ use Rattle.award_layout.proofs.clip.Reads as clip-reads
 
 abbrev Inv-loop : tie.InvT-loop
 Inv-loop start cells windows first count words₀ j₀ words j = (length words ≡ length words₀)
-    × ((ahead windows first count j ≡ true) × Masking start cells windows first count j words)
+    × ((rowsAhead windows first count j ≡ true) × Masking start cells windows first count j words)
 
 abbrev μ-loop : tie.MeasureT-loop
 μ-loop start cells windows first count words₀ j₀ words j = count - j

@@ -4,7 +4,7 @@ use Prim.Native.Nat.{ℕ, _-_, _≤_}
 use native.Mathlib.Omega.{arith}
 use lib.ListN.{length, getD, length-set}
 use Rattle.award_thin.specs.Thin.{times}
-use Rattle.award_thin.specs.CountsLaws.{times-none, times-most, counted}
+use Rattle.award_thin.specs.CountsLaws.{times-none, times-most, count-of}
 use Rattle.award_thin.proofs.count_at.Statement.{statement}
 use Rattle.award_thin.proofs.count_at.Tie as tie
 use Rattle.award_thin.proofs.count_at.Reads as reads
@@ -65,7 +65,7 @@ loop-again c =
       omega arith,
       (
         simp length-set (c .before .before .before .loop .inv .1 .0),
-        counted (c4 .args .at .now) (c .before .before .before .loop .table) (c .before .before .before .loop .i)
+        count-of (c4 .args .at .now) (c .before .before .before .loop .table) (c .before .before .before .loop .i)
             (omega (arith, c4 .pre .1 .0 (c .before .before .before .loop .i))) (c .before .before .before .loop .inv .1 .1),
       ),
     )

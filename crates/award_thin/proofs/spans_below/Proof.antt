@@ -2,7 +2,7 @@
 use Prim.Native.Nat.{ℕ, _-_}
 use native.Mathlib.Omega.{arith}
 use lib.ListN.{length-replicate}
-use Rattle.award_thin.specs.CountsLaws.{zeros}
+use Rattle.award_thin.specs.CountsLaws.{no-counts}
 use Rattle.award_thin.specs.SweepLaws.{Sweep, sweep-starts, sweep-found, sweep-on, sweep-ends, small, here}
 use Rattle.award_thin.proofs.spans_below.Statement.{statement}
 use Rattle.award_thin.proofs.spans_below.Tie as tie
@@ -22,7 +22,7 @@ slice-aggregate-count-at c = omega arith
 count-at-requires : tie.Need-count-at-requires Inv-loop μ-loop
 count-at-requires c κs =
     let pre = c .before .before .before .pre in
-    (pre .0 .few, (λ i. omega (arith, pre .0 .ordered i, pre .0 .inside i, length-replicate {A = ℕ} 10081 0), zeros 10081))
+    (pre .0 .few, (λ i. omega (arith, pre .0 .ordered i, pre .0 .inside i, length-replicate {A = ℕ} 10081 0), no-counts 10081))
 
 slice-aggregate-count-at-2 : tie.Need-slice-aggregate-count-at-2 Inv-loop μ-loop
 slice-aggregate-count-at-2 c = omega arith
@@ -31,7 +31,7 @@ count-at-requires-2 : tie.Need-count-at-requires-2 Inv-loop μ-loop
 count-at-requires-2 c κs =
     let c6 = c .before .before .before .before .before .before in
     let pre = c6 .pre in
-    (omega (arith, pre .0 .few, pre .0 .same), (λ i. omega (arith, pre .0 .inside i, length-replicate {A = ℕ} 10081 0), zeros 10081))
+    (omega (arith, pre .0 .few, pre .0 .same), (λ i. omega (arith, pre .0 .inside i, length-replicate {A = ℕ} 10081 0), no-counts 10081))
 
 loop-holds : tie.Need-loop-holds Inv-loop μ-loop
 loop-holds c =

@@ -3,7 +3,7 @@
 use Prim.Native.Nat.{ℕ, _+_}
 use mathlib.Core.Path.{_∙_, sym, ap}
 use native.Mathlib.Omega.{arith}
-use Rattle.multi_tournament.specs.TreeLaws.{opened}
+use Rattle.multi_tournament.specs.TreeLaws.{tree-opened}
 use borrow.Author.Needs.{needs}
 use Rattle.multi.proofs.run.Statement.{statement}
 use Rattle.multi.proofs.run.Tie as tie
@@ -52,7 +52,7 @@ enter-requires c κs =
           c19 .unlock .kept .0 ∙ P .1 .1 .1 .1 .1 .0,
           (
             c14 .count-none .ensures,
-            opened (c30 .args .prices .now) (c10 .seat .ensures) (c6 .clear .kept .0 ∙ P .1 .1 .1 .1 .1 .1 .1 .1)
+            tree-opened (c30 .args .prices .now) (c10 .seat .ensures) (c6 .clear .kept .0 ∙ P .1 .1 .1 .1 .1 .1 .1 .1)
                 (c6 .clear .ensures .none),
           ),
         ),

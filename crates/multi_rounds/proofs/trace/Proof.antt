@@ -10,7 +10,7 @@ use mathlib.Core.Bool.{false}
 use Rattle.multi_rounds.specs.FrontingLaws.{turned, not-clear}
 use Rattle.multi_rounds.specs.ChosenLaws.{knows}
 use Rattle.multi_rounds.specs.BeginLaws.{sized-of}
-use Rattle.multi_rounds.specs.TracingLaws.{Tracing, starts, ends-full, ends-none, fits, some, goes}
+use Rattle.multi_rounds.specs.TracingLaws.{Tracing, trace-starts, ends-full, ends-none, fits, some, goes}
 use Rattle.multi_rounds.proofs.trace.Statement.{statement}
 use Rattle.multi_rounds.proofs.trace.Tie as tie
 use Rattle.multi_rounds.proofs.trace.Reads as reads
@@ -34,7 +34,7 @@ loop-holds c =
       (
         refl,
         (
-          starts (P .1 .1 .0) (P .1 .1 .1 .1 .1 .1 .1 .0) (P .1 .1 .1 .1 .1 .0) (sized-of (P .1 .1 .1 .1 .0))
+          trace-starts (P .1 .1 .0) (P .1 .1 .1 .1 .1 .1 .1 .0) (P .1 .1 .1 .1 .1 .0) (sized-of (P .1 .1 .1 .1 .0))
               (P .1 .1 .1 .1 .1 .1 .0) (P .1 .1 .1 .1 .1 .1 .1 .1 .0) (P .1 .1 .1 .1 .1 .1 .1 .1 .1),
           (P .1 .1 .1 .1 .0, P .1 .1 .1 .0),
         ),

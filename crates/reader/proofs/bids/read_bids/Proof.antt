@@ -7,7 +7,7 @@ use lib.ListN.{length, drop}
 use Rattle.reader_line.specs.Words.{cut}
 use Rattle.reader_line.specs.Line.{linesOf}
 use Rattle.reader_line.specs.ScanLaws.{lines-at, lines-end}
-use Rattle.reader.specs.FillsLaws.{Walk, begins, goes, stops, breaks, ends, ends-at, ends-broken, room-for, taken-room}
+use Rattle.reader.specs.FillsLaws.{Walk, walk-begins, goes, stops, breaks, walk-ends, ends-at, ends-broken, room-for, taken-room}
 use Rattle.reader.proofs.bids.read_bids.Statement.{statement}
 use Rattle.reader.proofs.bids.read_bids.Tie as tie
 
@@ -24,7 +24,7 @@ loop-holds : tie.Need-loop-holds Inv-loop μ-loop
 loop-holds c =
     let c4 = c .before .before .before .before in
     let pre = c4 .pre in
-    (begins _ _ _ _ _ (pre .2) (pre .3) (pre .4), pre .0, refl, refl, refl, omega arith, pre .1)
+    (walk-begins _ _ _ _ _ (pre .2) (pre .3) (pre .4), pre .0, refl, refl, refl, omega arith, pre .1)
 
 line-end-requires : tie.Need-line-end-requires Inv-loop μ-loop
 line-end-requires c κs = search needs
@@ -202,7 +202,7 @@ returns-3 c =
     let c6 = c .before .before .before .before .before .before in
     let args = c6 .args in
     let e : c .before .loop .i ≡ length (args .text .now) = omega arith in
-    ends _ _ _ _ _ _ _ (rw (e, lines-end (args .text .now)) at (c .before .loop .inv .0))
+    walk-ends _ _ _ _ _ _ _ (rw (e, lines-end (args .text .now)) at (c .before .loop .inv .0))
     (omega (arith, c .before .loop .inv .5, c .before .loop .inv .1, c .before .loop .inv .6))
 
 pub read-bids-spec : {M : Type 1} → statement M

@@ -4,7 +4,7 @@ use mathlib.Core.Path.{_≡_, refl, ap, _∙_}
 use mathlib.Core.List.{_++_}
 use native.Mathlib.Omega.{arith}
 use lib.ListN.{length, take, drop, set, getD}
-use Rattle.reader.specs.TableLaws.{copied, copied-length}
+use Rattle.reader.specs.TableLaws.{copied-place, copied-length}
 use borrow.Author.Needs.{needs}
 use Rattle.reader.proofs.rows.copy.Statement.{statement}
 use Rattle.reader.proofs.rows.copy.Tie as tie
@@ -45,7 +45,7 @@ loop-again : tie.Need-loop-again Inv-loop μ-loop
 loop-again c =
     let args = c .before .before .before .args in (
       ap (λ l. set l (c .before .before .loop .i) (getD (args .from .now) (c .before .before .loop .i) 0)) (c .before .before .loop .inv .0)
-          ∙ copied (args .from .now) (args .to .now) (c .before .before .loop .i) (omega arith) (omega arith),
+          ∙ copied-place (args .from .now) (args .to .now) (c .before .before .loop .i) (omega arith) (omega arith),
       omega arith,
       c .before .before .loop .inv .2,
       c .before .before .loop .inv .3,

@@ -6,7 +6,7 @@ use borrow.Author.Needs.{needs}
 use lib.ListN.{length, drop}
 use Rattle.reader_line.specs.Words.{digits}
 use Rattle.reader_line.specs.Answer.{asNumber}
-use Rattle.reader_line.specs.DigitsLaws.{inside, below, above, at-end, other, digit, ten-more, ten-below}
+use Rattle.reader_line.specs.DigitsLaws.{inside, digits-below, above, at-end, other, digit, ten-more, ten-below}
 use Rattle.reader_line.proofs.words.value.Statement.{statement}
 use Rattle.reader_line.proofs.words.value.Tie as tie
 
@@ -58,7 +58,7 @@ loop-again c =
 returns : tie.Need-returns Inv-loop μ-loop
 returns c =
     let l = c .before .before .before in
-    ap asNumber (sym (other _ (l .loop .v) (l .loop .i) (c .before .before .loop-test .taken) (below _ (c .if1 .taken))) ∙ l .loop .inv .0)
+    ap asNumber (sym (other _ (l .loop .v) (l .loop .i) (c .before .before .loop-test .taken) (digits-below _ (c .if1 .taken))) ∙ l .loop .inv .0)
 
 returns-2 : tie.Need-returns-2 Inv-loop μ-loop
 returns-2 c =
