@@ -43,8 +43,10 @@ module _ (k : Kind) (t : Tender) (n : ℕ) (bids windows : List ℕ) (old new : 
 
 -- Two calls of the same award on the same tables, each time with an award row for every bid or each time with fewer, tell the same:
 -- of no answer is anything left to the program.
-pub demand-1-same : (k : Kind) (t : Tender) (n : ℕ) (bids windows : List ℕ) (old new old′ new′ : List AwardRow) (a a′ : Answer) →
-    Promise k t n bids windows old new a → Promise k t n bids windows old′ new′ a′ → ltb (length old) n ≡ ltb (length old′) n →
+pub demand-1-same : (k : Kind) (t : Tender) (n : ℕ) (bids windows : List ℕ) (old new old′ new′ : List AwardRow) (a a′ : Answer)
+    →
+    Promise k t n bids windows old new a → Promise k t n bids windows old′ new′ a′
+    → ltb (length old) n ≡ ltb (length old′) n →
     toldAward n new a ≡ toldAward n new′ a′
 demand-1-same k t n bids windows old new old′ new′ a a′ p p′ e =
     p .answers ∙ award-lent k t n bids windows (length old) (length old′) e ∙ sym (p′ .answers)
@@ -76,9 +78,11 @@ demand-2-multi t n i bids windows old new a rows cost paid p e l =
 -- Demand 3, on tables. Two tenders alike in all but the price of bid i, neither answered with 9, the same award called on both,
 -- each time with an award row for every bid or each time with fewer: where the first names the true cost c, the gain in the
 -- second is no higher.
-pub demand-3-tables : (k : Kind) (t : Tender) (n i c : ℕ) (bids windows bids′ windows′ : List ℕ) (old new old′ new′ : List AwardRow)
+pub demand-3-tables : (k : Kind) (t : Tender) (n i c : ℕ) (bids windows bids′ windows′ : List ℕ)
+    (old new old′ new′ : List AwardRow)
     (a a′ : Answer) →
-    Promise k t n bids windows old new a → Promise k t n bids′ windows′ old′ new′ a′ → (outcomeNumber (toldAward n new a) ≡ 9 → ⊥)
+    Promise k t n bids windows old new a → Promise k t n bids′ windows′ old′ new′ a′
+    → (outcomeNumber (toldAward n new a) ≡ 9 → ⊥)
     → (outcomeNumber (toldAward n new′ a′) ≡ 9 → ⊥) →
     i < n → Alike n i bids windows bids′ windows′ → ltb (length old) n ≡ ltb (length old′) n → named bids i ≡ c →
     AtMost (gain c (rowFor (toldAward n new′ a′) i)) (gain c (rowFor (toldAward n new a) i))
@@ -98,7 +102,8 @@ pub demand-3-texts : (text text′ bidder p q : List ℕ) (k : Kind) (T T′ : T
     → Promise k T′ (length R′) (flatRows R′ ++ v′) (flatWindows W′ ++ w′) old′ new′ a′ →
     NoGain R (flatRows R ++ v) (flatRows R′ ++ v′) (toldAward (length R) new a) (toldAward (length R′) new′ a′) bidder p q
 demand-3-texts text text′ bidder p q k T T′ R R′ W W′ v w v′ w′ old new old′ new′ a a′ d h h′ e y y′ =
-    texts.honest-texts text text′ bidder p q k T T′ R R′ W W′ v w v′ w′ (length old) (length old′) (toldAward (length R) new a)
+    texts.honest-texts text text′ bidder p q k T T′ R R′ W W′ v w v′ w′ (length old) (length old′)
+    (toldAward (length R) new a)
     (toldAward (length R′) new′ a′) d h h′ e (y .answers) (y′ .answers)
 
 -- Whatever is awarded, no winner is paid less than the price named.

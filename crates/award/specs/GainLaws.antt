@@ -26,7 +26,8 @@ pub gain-most : (c : ℕ) (r s : AwardRow) → (r .won ≡ false → r .cents �
 unfolding gain
 gain-most c r s f g l = go (r .won) (s .won) f g l
   where
-    go : (a b : Bool) → (a ≡ false → r .cents ≡ 0) → (b ≡ false → s .cents ≡ 0) → r .cents + when b c ≤ s .cents + when a c
+    go : (a b : Bool) → (a ≡ false → r .cents ≡ 0) → (b ≡ false → s .cents ≡ 0)
+        → r .cents + when b c ≤ s .cents + when a c
         → AtMost (cond a (subℕ (r .cents) c) (pos 0)) (cond b (subℕ (s .cents) c) (pos 0))
     go true true f g l = sub-most (r .cents) c (s .cents) c l
     go true false f g l = sub-most (r .cents) c 0 0 (omega (arith, g refl))

@@ -28,9 +28,11 @@ use Rattle.award.specs.TableLaws.{award-honest, row-is, row-fair}
 
 -- Two tenders that neither answer refuses with 9, alike in all but the price of bid i, each with an award row for every bid or
 -- each with fewer: where the first names the bidder's true cost, its gain in the second is no higher.
-pub honest-outcome : (k : Kind) (t : Tender) (n i : ℕ) (bids windows bids′ windows′ : List ℕ) (lent lent′ : ℕ) (a a′ : Outcome) → i < n →
+pub honest-outcome : (k : Kind) (t : Tender) (n i : ℕ) (bids windows bids′ windows′ : List ℕ) (lent lent′ : ℕ)
+    (a a′ : Outcome) → i < n →
     Alike n i bids windows bids′ windows′ → ltb lent n ≡ ltb lent′ n →
-    a ≡ awardOf k t n bids windows lent → a′ ≡ awardOf k t n bids′ windows′ lent′ → (outcomeNumber a ≡ 9 → ⊥) → (outcomeNumber a′ ≡ 9 → ⊥) →
+    a ≡ awardOf k t n bids windows lent → a′ ≡ awardOf k t n bids′ windows′ lent′ → (outcomeNumber a ≡ 9 → ⊥)
+    → (outcomeNumber a′ ≡ 9 → ⊥) →
     AtMost (gain (named bids i) (rowFor a′ i)) (gain (named bids i) (rowFor a i))
 unfolding named
 honest-outcome k t n i bids windows bids′ windows′ lent lent′ a a′ l d e x x′ h h′ =

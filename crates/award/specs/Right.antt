@@ -33,7 +33,8 @@ pub record EarliestIn (t : Tender) (n : ℕ) (bids windows : List ℕ) (minute b
   pub from : t .window .start ≤ minute
   pub to : minute < t .window .end
   pub bids-with-it : bidders (hasOf t (rowsOf n bids) windows) n (minute - t .window .start) ≡ b
-  pub earliest : (m : ℕ) → t .window .start ≤ m → m < minute → bidders (hasOf t (rowsOf n bids) windows) n (m - t .window .start) ≡ b → ⊥
+  pub earliest : (m : ℕ) → t .window .start ≤ m → m < minute
+      → bidders (hasOf t (rowsOf n bids) windows) n (m - t .window .start) ≡ b → ⊥
 
 -- the outcome is the award of the definitions, and it alone changed the lent rows
 pub record IsAward (k : Kind) (t : Tender) (n : ℕ) (bids windows : List ℕ) (old new : List AwardRow) (o : Outcome) : Type 0 where
@@ -48,9 +49,12 @@ pub record IsRefusal (number place : ℕ) (old new : List AwardRow) (o : Outcome
 
 -- one award or one refusal
 pub data OneAnswer (k : Kind) (t : Tender) (n : ℕ) (bids windows : List ℕ) (old new : List AwardRow) (o : Outcome) : Type 0 where
-  tables-break-a-rule : (p : ℕ) → faultOf k t n bids windows ≡ some p → IsRefusal 9 p old new o → OneAnswer k t n bids windows old new o
-  rows-too-few : faultOf k t n bids windows ≡ none → length old < n → IsRefusal 10 0 old new o → OneAnswer k t n bids windows old new o
-  minute-uncovered : (m : ℕ) → Callable k t n bids windows (length old) → EarliestIn t n bids windows m 0 → IsRefusal 11 m old new o →
+  tables-break-a-rule : (p : ℕ) → faultOf k t n bids windows ≡ some p → IsRefusal 9 p old new o
+      → OneAnswer k t n bids windows old new o
+  rows-too-few : faultOf k t n bids windows ≡ none → length old < n → IsRefusal 10 0 old new o
+      → OneAnswer k t n bids windows old new o
+  minute-uncovered : (m : ℕ) → Callable k t n bids windows (length old) → EarliestIn t n bids windows m 0
+      → IsRefusal 11 m old new o →
       OneAnswer k t n bids windows old new o
   one-bidder : (m : ℕ) → Callable k t n bids windows (length old) → Bidders t n bids windows 1 → EarliestIn t n bids windows m 1 →
       IsRefusal 12 m old new o → OneAnswer k t n bids windows old new o

@@ -24,14 +24,16 @@ rowsWritten (suc i) won cents rows = set (rowsWritten i won cents rows) i (award
 
 pub length-filled : (n : ℕ) (won cents : List ℕ) (rows : List AwardRow) → length (rowsWritten n won cents rows) ≡ length rows
 length-filled zero won cents rows = refl
-length-filled (suc i) won cents rows = length-set (rowsWritten i won cents rows) i (awardRowAt won cents i) ∙ length-filled i won cents rows
+length-filled (suc i) won cents rows = length-set (rowsWritten i won cents rows) i (awardRowAt won cents i)
+    ∙ length-filled i won cents rows
 
 written : (n : ℕ) (won cents : List ℕ) (rows : List AwardRow) (i : ℕ) → n ≤ length rows → i < n
     → getD (rowsWritten n won cents rows) i lost ≡ awardRowAt won cents i
 written zero won cents rows i h l = absurd (omega arith)
 written (suc n) won cents rows i h l = go (ltb i n) refl (written n won cents rows i)
   where
-    go : (b : Bool) → ltb i n ≡ b → (n ≤ length rows → i < n → getD (rowsWritten n won cents rows) i lost ≡ awardRowAt won cents i)
+    go : (b : Bool) → ltb i n ≡ b → (n ≤ length rows → i < n
+        → getD (rowsWritten n won cents rows) i lost ≡ awardRowAt won cents i)
         → getD (set (rowsWritten n won cents rows) n (awardRowAt won cents n)) i lost ≡ awardRowAt won cents i
     go true t ih = getD-set-other (rowsWritten n won cents rows) n i (awardRowAt won cents n) lost (λ e. omega (arith, ltb-true i n t))
         ∙ ih (omega arith) (ltb-true i n t)
@@ -41,12 +43,14 @@ written (suc n) won cents rows i h l = go (ltb i n) refl (written n won cents ro
         ∙ getD-set-same (rowsWritten n won cents rows) n (awardRowAt won cents n) lost (omega (arith, length-filled n won cents rows))
         ∙ ap (awardRowAt won cents) (sym d)
 
-kept : (n : ℕ) (won cents : List ℕ) (rows : List AwardRow) (i : ℕ) → n ≤ i → getD (rowsWritten n won cents rows) i lost ≡ getD rows i lost
+kept : (n : ℕ) (won cents : List ℕ) (rows : List AwardRow) (i : ℕ) → n ≤ i
+    → getD (rowsWritten n won cents rows) i lost ≡ getD rows i lost
 kept zero won cents rows i l = refl
 kept (suc n) won cents rows i l = getD-set-other (rowsWritten n won cents rows) n i (awardRowAt won cents n) lost (λ e. omega arith)
     ∙ kept n won cents rows i (omega arith)
 
-pub filled-rows : (n : ℕ) (won cents : List ℕ) (rows : List AwardRow) → n ≤ length rows → rowsWritten n won cents rows ≡ rowsIn n won cents
+pub filled-rows : (n : ℕ) (won cents : List ℕ) (rows : List AwardRow) → n ≤ length rows
+    → rowsWritten n won cents rows ≡ rowsIn n won cents
     ++ drop n rows
 unfolding rowsIn
 filled-rows n won cents rows h = ext-getD lost (rowsWritten n won cents rows) (rowsIn n won cents ++ drop n rows)
@@ -56,7 +60,8 @@ filled-rows n won cents rows h = ext-getD lost (rowsWritten n won cents rows) (r
     size : length (rowsIn n won cents) ≡ n
     size = length-listed n (awardRowAt won cents)
 
-    go : (i : ℕ) (b : Bool) → ltb i n ≡ b → getD (rowsWritten n won cents rows) i lost ≡ getD (rowsIn n won cents ++ drop n rows) i lost
+    go : (i : ℕ) (b : Bool) → ltb i n ≡ b → getD (rowsWritten n won cents rows) i lost
+        ≡ getD (rowsIn n won cents ++ drop n rows) i lost
     go i true t =
         written n won cents rows i h (ltb-true i n t)
         ∙ sym (List·getD-append (rowsIn n won cents) (drop n rows) lost i (omega (arith, size, ltb-true i n t))

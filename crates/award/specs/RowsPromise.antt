@@ -66,7 +66,8 @@ after-filled n won cents (Awarded totals) old = after-fill n won cents totals ol
 after-filled n won cents (Refused r) old = refl
 
 -- with the rows filled from the lists, as many as the answer fills, the call keeps the promise of an award on rows
-pub filled-promise : (k : Kind) (t : Tender) (n : ℕ) (bids windows : List ℕ) (old new : List AwardRow) (ow oc nw nc : List ℕ) (a : Answer)
+pub filled-promise : (k : Kind) (t : Tender) (n : ℕ) (bids windows : List ℕ) (old new : List AwardRow) (ow oc nw nc : List ℕ)
+    (a : Answer)
     (m : ℕ) → PlainPromise k t n bids windows (length old) ow oc nw nc a →
     m ≡ rowsFilled a n → new ≡ rowsIn m nw nc ++ drop m old → Promise k t n bids windows old new a
 filled-promise k t n bids windows old new ow oc nw nc a m p e f =

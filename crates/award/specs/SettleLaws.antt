@@ -26,7 +26,8 @@ use Rattle.award.specs.Gain.{lost, rowFor, gain, AtMost}
 use Rattle.award.specs.GainLaws.{gain-most}
 
 -- a loser's row says 0
-pub lost-nothing : (k : Kind) (has : ℕ → ℕ → Bool) (ps : List ℕ) (L i : ℕ) → won k has ps L i ≡ false → cents k has ps L i ≡ 0
+pub lost-nothing : (k : Kind) (has : ℕ → ℕ → Bool) (ps : List ℕ) (L i : ℕ) → won k has ps L i ≡ false
+    → cents k has ps L i ≡ 0
 unfolding won cents vcgPaid criticalPaid payment
 lost-nothing Single has ps L i e = rw e
 lost-nothing Multi has ps L i e = rw e
@@ -43,7 +44,8 @@ module _ (has : ℕ → ℕ → Bool) (ps : List ℕ) (L i : ℕ) (inside : i < 
   spare = spare-set has (length ps) L two i inside
 
   -- whoever's cost is c gains no more by naming q
-  pub honest : (k : Kind) (c q : ℕ) → cents k has (set ps i q) L i + when (won k has (set ps i c) L i) c ≤ cents k has (set ps i c) L i
+  pub honest : (k : Kind) (c q : ℕ) → cents k has (set ps i q) L i + when (won k has (set ps i c) L i) c
+      ≤ cents k has (set ps i c) L i
       + when (won k has (set ps i q) L i) c
   honest Single c q = rw (
     won-single has (set ps i q) L i (length ps) (length-set ps i q),
@@ -87,11 +89,17 @@ pub record Winner (k : Kind) (has : ℕ → ℕ → Bool) (ps : List ℕ) (L x :
   pub wins : won k has ps L who ≡ true
   pub covers-it : has who x ≡ true
 
-pub winners-cover : (k : Kind) (has : ℕ → ℕ → Bool) (ps : List ℕ) (L : ℕ) → each has (length ps) L 2 ≡ true → (x : ℕ) → x < L
+pub winners-cover : (k : Kind) (has : ℕ → ℕ → Bool) (ps : List ℕ) (L : ℕ) → each has (length ps) L 2 ≡ true → (x : ℕ)
+    → x < L
     → Winner k has ps L x
 winners-cover Single has ps L two x l =
     let m = least-covers has ps L two x l in
-    record { who = m .who; inside = m .inside; wins = won-single has ps L (m .who) (length ps) refl ∙ m .in-set; covers-it = m .covers-it }
+    record {
+      who = m .who;
+      inside = m .inside;
+      wins = won-single has ps L (m .who) (length ps) refl ∙ m .in-set;
+      covers-it = m .covers-it;
+    }
 winners-cover Multi has ps L two x l =
     let m = greedy-covers has ps L two x l in
     record { who = m .who; inside = m .inside; wins = won-multi has ps L (m .who) ∙ m .wins-it; covers-it = m .covers-it }

@@ -33,7 +33,8 @@ module _ (k : Kind) (t : Tender) (n i : ℕ) (bids windows : List ℕ) (inside :
       AtMost (gain (getD bids (4 * i + 1) 0) (rowFor (awardOf k t n bids′ windows′ lent′) i))
       (gain (getD bids (4 * i + 1) 0) (rowFor (awardOf k t n bids windows lent) i))
   unfolding ps rowFor gain
-  award-honest bids′ windows′ lent lent′ f′ a e = rw (award-none k t n bids windows lent f, award-none k t n bids′ windows′ lent′ f′, ← e)
+  award-honest bids′ windows′ lent lent′ f′ a e = rw
+      (award-none k t n bids windows lent f, award-none k t n bids′ windows′ lent′ f′, ← e)
       (go (ltb lent n))
     where
       go : (b : Bool) → AtMost (gain (getD bids (4 * i + 1) 0)

@@ -33,7 +33,8 @@ kinds Multi Multi e = refl
 kinds Single Multi e = let z : _≡_ {A = ℕ} 0 1 = cc in absurd (omega arith)
 kinds Multi Single e = let z : _≡_ {A = ℕ} 0 1 = cc in absurd (omega arith)
 
-wrong-kind : (k : Kind) (t : Tender) (n : ℕ) (bids windows : List ℕ) → sameKind k (t .kind) ≡ false → faultOf k t n bids windows ≡ some 0
+wrong-kind : (k : Kind) (t : Tender) (n : ℕ) (bids windows : List ℕ) → sameKind k (t .kind) ≡ false
+    → faultOf k t n bids windows ≡ some 0
 unfolding faultOf
 wrong-kind k t n bids windows e = rw e
 
@@ -63,7 +64,8 @@ text-core k T R S W v w v′ w′ lent lent′ a a′ bidder p q h h′ d e y y�
         → AtMost (gain (named (flatRows R ++ v) (t .i)) (rowFor a′ (t .i))) (gain (named (flatRows R ++ v) (t .i)) (rowFor a (t .i)))
     go t true s = rw (y, y′, kinds k (T .kind) s, t .count)
         (award-honest (T .kind) T (length R) (t .i) (flatRows R ++ v) (flatWindows W ++ w) (t .inside) (never-nine T R W v w h)
-        (flatRows S ++ v′) (flatWindows W ++ w′) lent lent′ (rw (t .count) at (never-nine T S W v′ w′ h′)) (t .alike) (rw (t .count) at e))
+        (flatRows S ++ v′) (flatWindows W ++ w′) lent lent′ (rw (t .count) at (never-nine T S W v′ w′ h′)) (t .alike)
+        (rw (t .count) at e))
     go t false s = rw (
       y ∙ award-nine k T (length R) (flatRows R ++ v) (flatWindows W ++ w) lent 0
           (wrong-kind k T (length R) (flatRows R ++ v) (flatWindows W ++ w) s),
@@ -74,7 +76,8 @@ text-core k T R S W v w v′ w′ lent lent′ a a′ bidder p q h h′ d e y y�
 -- Two texts that differ in how one price is written and nowhere else, both accepted; the same award is called on what was read,
 -- where v, w, v′, w′ stand past the rows in the lent tables, each time with an award row for every bid or each time with fewer:
 -- where the first text names the bidder's true cost, its gain in the second is no higher.
-pub honest-texts : (text text′ bidder p q : List ℕ) (k : Kind) (T T′ : Tender) (R R′ : List Row) (W W′ : List Window) (v w v′ w′ : List ℕ)
+pub honest-texts : (text text′ bidder p q : List ℕ) (k : Kind) (T T′ : Tender) (R R′ : List Row) (W W′ : List Window)
+    (v w v′ w′ : List ℕ)
     (lent lent′ : ℕ) (a a′ : Outcome) →
     DifferInPrice text text′ bidder p q → readText text ≡ accepted T R W → readText text′ ≡ accepted T′ R′ W′
     → ltb lent (length R) ≡ ltb lent′ (length R′) →

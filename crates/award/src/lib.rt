@@ -108,7 +108,8 @@ pub fn award_single(
     windows: &[u64],
     rows: &mut [AwardRow],
 ) -> Answer
-    ensures { λ r. ⌜ Promise Single tender count (now (bids .entry)) (now (windows .entry)) (now (rows .entry)) (now (rows .exit)) r ⌝ }
+    ensures { λ r. ⌜ Promise Single tender count (now (bids .entry)) (now (windows .entry)) (now (rows .entry)) (now (rows .exit)) r
+        ⌝ }
 {
     award_in(Kind::Single, tender, count, bids, windows, rows)
 }

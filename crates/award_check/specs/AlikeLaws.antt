@@ -48,7 +48,8 @@ rows-same (suc n) bs cs h = rw (
   rows-same n (drop 4 bs) (drop 4 cs) (λ j l. later 4 (4 * suc n) bs cs (λ k m o. h k o) j (omega arith)),
 )
 
-pub windows-same : (n : ℕ) (bs cs : List ℕ) → ((j : ℕ) → j < 2 * n → getD bs j 0 ≡ getD cs j 0) → windowsOf n bs ≡ windowsOf n cs
+pub windows-same : (n : ℕ) (bs cs : List ℕ) → ((j : ℕ) → j < 2 * n → getD bs j 0 ≡ getD cs j 0)
+    → windowsOf n bs ≡ windowsOf n cs
 unfolding windowsOf
 windows-same zero bs cs h = refl
 windows-same (suc n) bs cs h = rw (
@@ -57,7 +58,8 @@ windows-same (suc n) bs cs h = rw (
   windows-same n (drop 2 bs) (drop 2 cs) (λ j l. later 2 (2 * suc n) bs cs (λ k m o. h k o) j (omega arith)),
 )
 
-pub rows-set : (n i : ℕ) (bs cs : List ℕ) → i < n → ((j : ℕ) → j < 4 * n → (j ≡ 4 * i + 1 → ⊥) → getD bs j 0 ≡ getD cs j 0) →
+pub rows-set : (n i : ℕ) (bs cs : List ℕ) → i < n
+    → ((j : ℕ) → j < 4 * n → (j ≡ 4 * i + 1 → ⊥) → getD bs j 0 ≡ getD cs j 0) →
     rowsOf n cs ≡ set (rowsOf n bs) i (withPrice (getD cs (4 * i + 1) 0) (getD (rowsOf n bs) i noRow))
 unfolding rowsOf withPrice
 rows-set zero i bs cs l h = absurd (omega arith)
@@ -99,7 +101,8 @@ own-set windows (r ∷ rs) zero v (suc j) = refl
 own-set windows (r ∷ rs) (suc i) v zero = refl
 own-set windows (r ∷ rs) (suc i) v (suc j) = own-set windows rs i v j
 
-pub sound-keeps : (k : Kind) (windows : List ℕ) (place : ℕ) (used : List ℕ) (at : ℕ) (r : Row) → sound k windows place used at r ≡ true
+pub sound-keeps : (k : Kind) (windows : List ℕ) (place : ℕ) (used : List ℕ) (at : ℕ) (r : Row)
+    → sound k windows place used at r ≡ true
     → keeps k windows at r ≡ true
 unfolding sound
 sound-keeps k windows place used at r e =
@@ -125,7 +128,8 @@ keeps-kept k windows at r e =
     let f = and-split (leb (at + r .count) (length windows / 2)) _ (d .1) in
     record { bidder = a .0; price = b .0; count = c .0; first = eqb-true (r .first) at (d .0); room = f .0; windows-too = f .1 }
 
-pub sound-first : (k : Kind) (windows : List ℕ) (place : ℕ) (used : List ℕ) (at : ℕ) (r : Row) → sound k windows place used at r ≡ true
+pub sound-first : (k : Kind) (windows : List ℕ) (place : ℕ) (used : List ℕ) (at : ℕ) (r : Row)
+    → sound k windows place used at r ≡ true
     → r .first ≡ at
 sound-first k windows place used at r e = keeps-kept k windows at r (sound-keeps k windows place used at r e) .first
 
@@ -153,7 +157,8 @@ pub record Faultless (k : Kind) (t : Tender) (n : ℕ) (bids windows : List ℕ)
   pub tender : sameKind k (t .kind) && lawful (t .window) && leb n (length bids / 4) ≡ true
   pub rows : rowFault k windows 1 [] 0 (rowsOf n bids) ≡ none
 
-pub faultless : (k : Kind) (t : Tender) (n : ℕ) (bids windows : List ℕ) → faultOf k t n bids windows ≡ none → Faultless k t n bids windows
+pub faultless : (k : Kind) (t : Tender) (n : ℕ) (bids windows : List ℕ) → faultOf k t n bids windows ≡ none
+    → Faultless k t n bids windows
 unfolding faultOf
 faultless k t n bids windows e = go (sameKind k (t .kind) && lawful (t .window) && leb n (length bids / 4)) refl e
   where

@@ -41,7 +41,8 @@ lawful-of : (w : Window) → WindowRules w → lawful w ≡ true
 unfolding lawful
 lawful-of w r = rw (lt-ltb (w .start) (w .end) (r .some-minute), le-leb (w .end) 10080 (r .in-week))
 
-all-lawful : (c : ℕ) (W : List Window) (v : List ℕ) → c ≤ length W → WindowsRules W → allLawful (windowsOf c (flatWindows W ++ v)) ≡ true
+all-lawful : (c : ℕ) (W : List Window) (v : List ℕ) → c ≤ length W → WindowsRules W
+    → allLawful (windowsOf c (flatWindows W ++ v)) ≡ true
 unfolding allLawful windowsOf flatWindows
 all-lawful zero W v l r = refl
 all-lawful (suc c) [] v l r = absurd (omega arith)
@@ -52,11 +53,13 @@ drop-rules zero W r = r
 drop-rules (suc c) [] r = r
 drop-rules (suc c) (w ∷ W) r = drop-rules c W (r .1)
 
-drop-flat : (c : ℕ) (W : List Window) (v : List ℕ) → c ≤ length W → drop (2 * c) (flatWindows W ++ v) ≡ flatWindows (drop c W) ++ v
+drop-flat : (c : ℕ) (W : List Window) (v : List ℕ) → c ≤ length W → drop (2 * c) (flatWindows W ++ v) ≡ flatWindows (drop c W)
+    ++ v
 unfolding flatWindows
 drop-flat zero W v l = refl
 drop-flat (suc c) [] v l = absurd (omega arith)
-drop-flat (suc c) (w ∷ W) v l = ap (λ (m : ℕ). drop m (w .start ∷ w .end ∷ (flatWindows W ++ v))) (double c) ∙ drop-flat c W v (omega arith)
+drop-flat (suc c) (w ∷ W) v l = ap (λ (m : ℕ). drop m (w .start ∷ w .end ∷ (flatWindows W ++ v))) (double c)
+    ∙ drop-flat c W v (omega arith)
   where
     double : (c : ℕ) → 2 * suc c ≡ suc (suc (2 * c))
     double c = omega arith
@@ -64,7 +67,8 @@ drop-flat (suc c) (w ∷ W) v l = ap (λ (m : ℕ). drop m (w .start ∷ w .end 
 both : {a b : Bool} → a ≡ true → b ≡ true → a && b ≡ true
 both e f = rw (e, f)
 
-pub rows-end : (k : Kind) (used : List ℕ) (at : ℕ) (rs : List Row) (end : ℕ) → RowsRules k used at rs end → at + windowCount rs ≡ end
+pub rows-end : (k : Kind) (used : List ℕ) (at : ℕ) (rs : List Row) (end : ℕ) → RowsRules k used at rs end
+    → at + windowCount rs ≡ end
 unfolding windowCount
 rows-end k used at [] end h = omega (arith, h)
 rows-end k used at (r ∷ rs) end h = omega (arith, rows-end k (used ++ r .bidder ∷ []) (at + r .count) rs end (h .1))
@@ -143,7 +147,8 @@ rows-alike (b ∷ bs) r ls q v v′ (suc (suc zero)) l d = refl
 rows-alike (b ∷ bs) r ls q v v′ (suc (suc (suc zero))) l d = refl
 rows-alike (b ∷ bs) r ls q v v′ (suc (suc (suc (suc j)))) l d = rows-alike bs r ls q v v′ j (omega arith) (λ e. d (omega arith))
 
-named-flat : (bs : List Row) (r : Row) (ls : List Row) (v : List ℕ) → getD (flatRows (bs ++ r ∷ ls) ++ v) (4 * length bs + 1) 0 ≡ r .price
+named-flat : (bs : List Row) (r : Row) (ls : List Row) (v : List ℕ) → getD (flatRows (bs ++ r ∷ ls) ++ v) (4 * length bs + 1) 0
+    ≡ r .price
 unfolding flatRows
 named-flat [] r ls v = refl
 named-flat (b ∷ bs) r ls v =

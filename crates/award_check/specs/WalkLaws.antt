@@ -52,11 +52,13 @@ module _ (windows : List ℕ) (first count j : ℕ) (r : Bool) (l : j < count)
     (is : r ≡ (ltb (getD windows (2 * (first + j)) 0) (getD windows (2 * (first + j) + 1) 0)
     && leb (getD windows (2 * (first + j) + 1) 0) 10080)) where
   pub ahead-goes : (X : Bool) → not r ≡ false → rowsAhead windows first count j ≡ X → rowsAhead windows first count (j + 1) ≡ X
-  ahead-goes X t e = sym (ahead-more windows first count j l ∙ ap (λ b. b && rowsAhead windows first count (j + 1)) (sym is ∙ not-false r t))
+  ahead-goes X t e = sym (ahead-more windows first count j l
+      ∙ ap (λ b. b && rowsAhead windows first count (j + 1)) (sym is ∙ not-false r t))
       ∙ e
 
   pub ahead-fails : (X : Bool) → not r ≡ true → rowsAhead windows first count j ≡ X → false ≡ X
-  ahead-fails X t e = sym (ahead-more windows first count j l ∙ ap (λ b. b && rowsAhead windows first count (j + 1)) (sym is ∙ not-true r t))
+  ahead-fails X t e = sym (ahead-more windows first count j l
+      ∙ ap (λ b. b && rowsAhead windows first count (j + 1)) (sym is ∙ not-true r t))
       ∙ e
 
 -- the bidder numbers of the rows passed, as cells of the words `used`: an empty table has none, and one more is one cell more
@@ -82,7 +84,8 @@ unfolding among
 among-last x b [] = or-false (eqb b x)
 among-last x b (m ∷ list) = rw (among-last x b list) (sym (or-assoc (eqb m x) (among x list) (eqb b x)))
 
-pub passed-more : (used used′ list : List ℕ) (b : ℕ) → RowsPassed used list → RangeAdded b (b + 1) used used′ → length used′ ≡ length used
+pub passed-more : (used used′ list : List ℕ) (b : ℕ) → RowsPassed used list → RangeAdded b (b + 1) used used′
+    → length used′ ≡ length used
     → RowsPassed used′ (list ++ b ∷ [])
 passed-more used used′ list b p f l = record { size = l ∙ p .size; tied = λ x. go x (eqb b x) refl }
   where
@@ -121,7 +124,8 @@ pub record Going (k : Kind) (n : ℕ) (bids windows used : List ℕ) (at j : ℕ
   pub room : at ≤ length windows / 2
   pub rest : rowFault k windows (j + 1) list at (rowsOf (n - j) (drop (4 * j) bids)) ≡ rowFault k windows 1 [] 0 (rowsOf n bids)
 
-pub going-starts : (k : Kind) (n : ℕ) (bids windows used : List ℕ) → used ≡ replicate {A = ℕ} 15625 0 → Going k n bids windows used 0 0
+pub going-starts : (k : Kind) (n : ℕ) (bids windows used : List ℕ) → used ≡ replicate {A = ℕ} 15625 0
+    → Going k n bids windows used 0 0
 going-starts k n bids windows used e =
     let d : n - 0 ≡ n = omega arith in
     record {
@@ -148,7 +152,8 @@ module _ (k : Kind) (n : ℕ) (bids windows used : List ℕ) (at j : ℕ) (g : G
       sym (g .rest) ∙ ap (λ (m : ℕ). rowFault k windows (j + 1) (g .list) at (rowsOf m (drop (4 * j) bids))) d
       ∙ ap (rowFault k windows (j + 1) (g .list) at) (rows-step (n - (j + 1)) j bids)
 
-  unsound : j < n → sound k windows (j + 1) (g .list) at (rowAt bids j) ≡ false → some (j + 1) ≡ rowFault k windows 1 [] 0 (rowsOf n bids)
+  unsound : j < n → sound k windows (j + 1) (g .list) at (rowAt bids j) ≡ false
+      → some (j + 1) ≡ rowFault k windows 1 [] 0 (rowsOf n bids)
   unsound l e = sym (rw e at (step l))
 
   -- a 1,001st bid, a row that breaks a rule, a bidder number used before
@@ -156,7 +161,8 @@ module _ (k : Kind) (n : ℕ) (bids windows used : List ℕ) (at j : ℕ) (g : G
   unfolding sound
   too-many l h = unsound l (rw (lt-leb (j + 1) 1000 (omega arith)))
 
-  pub breaks : j < n → j < 1000 → keeps k windows at (rowAt bids j) ≡ false → some (j + 1) ≡ rowFault k windows 1 [] 0 (rowsOf n bids)
+  pub breaks : j < n → j < 1000 → keeps k windows at (rowAt bids j) ≡ false
+      → some (j + 1) ≡ rowFault k windows 1 [] 0 (rowsOf n bids)
   unfolding sound
   breaks l h e = unsound l (rw (le-leb (j + 1) 1000 (omega arith), e) (and-false (not (among (rowAt bids j .bidder) (g .list)))))
 
@@ -174,7 +180,8 @@ module _ (k : Kind) (n : ℕ) (bids windows used : List ℕ) (at j : ℕ) (g : G
     passed = passed-more used used′ (g .list) (rowAt bids j .bidder) (g .passed) fills s;
     inside = omega arith;
     room = leb-true (at + rowAt bids j .count) (length windows / 2) (keeps-kept k windows at (rowAt bids j) e .room);
-    rest = sym (step l ∙ ap (λ t. cond t (rowFault k windows (j + 1 + 1) (g .list ++ rowAt bids j .bidder ∷ []) (at + rowAt bids j .count)
+    rest = sym (step l ∙ ap (λ t. cond t (rowFault k windows (j + 1 + 1) (g .list ++ rowAt bids j .bidder ∷ [])
+        (at + rowAt bids j .count)
         (rowsOf (n - (j + 1)) (drop (4 * (j + 1)) bids))) (some (j + 1))) sound-here);
   }
     where

@@ -84,7 +84,8 @@ fn row_keeps(
     count: u64,
 ) -> bool
     requires { ⌜ at ≤ length (now windows) / 2 ⌝ }
-    ensures { λ r. ⌜ r ≡ keeps kind (now (windows .entry)) at (record { bidder = bidder; price = price; first = first; count = count }) ⌝ }
+    ensures { λ r. ⌜ r ≡ keeps kind (now (windows .entry))
+        at (record { bidder = bidder; price = price; first = first; count = count }) ⌝ }
 {
     if !between(1, 999999, bidder) {
         return false;

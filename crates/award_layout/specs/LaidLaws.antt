@@ -22,13 +22,15 @@ use Rattle.award_layout.specs.Orderly.{bidRowAt, Orderly, clipped, Maske
 
 -- a list filled from the front
 
-pub filled-more : (f : ℕ → ℕ) (out : List ℕ) (i : ℕ) → i < length out → ((j : ℕ) → j < i → getD out j 0 ≡ f j) → (v : ℕ) → v ≡ f i
+pub filled-more : (f : ℕ → ℕ) (out : List ℕ) (i : ℕ) → i < length out → ((j : ℕ) → j < i → getD out j 0 ≡ f j)
+    → (v : ℕ) → v ≡ f i
     → (j : ℕ) → j < i + 1 → getD (set out i v) j 0 ≡ f j
 filled-more f out i l h v e j m = go (ltb j i) refl
   where
     go : (b : Bool) → ltb j i ≡ b → getD (set out i v) j 0 ≡ f j
     go true t = getD-set-other out i j v 0 (λ d. omega (arith, ltb-true j i t)) ∙ h j (ltb-true j i t)
-    go false t = let d : j ≡ i = omega (arith, ltb-false j i t) in ap (λ (k : ℕ). getD (set out i v) k 0) d ∙ getD-set-same out i v 0 l
+    go false t = let d : j ≡ i = omega (arith, ltb-false j i t) in ap (λ (k : ℕ). getD (set out i v) k 0) d
+        ∙ getD-set-same out i v 0 l
         ∙ e ∙ ap f (sym d)
 
 pub prices-are : (bids out : List ℕ) (n : ℕ) → length out ≡ n → ((j : ℕ) → j < n → getD out j 0 ≡ getD bids (4 * j + 1) 0)
@@ -89,7 +91,8 @@ masking-more start L windows first count j words words′ s e m l es ee o f = re
       ap (λ b. b || (ltb x L && holds (windowsOf (count - (j + 1)) (drop (2 * (first + (j + 1))) windows)) (start + x)))
       (added s e words words′ o f x ∙ ap (λ (v : ℕ). eqb (cell words x) 1 || (leb v x && ltb x e)) es
       ∙ ap (λ (v : ℕ). eqb (cell words x) 1 || (leb (clipped start L (getD windows (2 * (first + j)) 0)) x && ltb x v)) ee
-      ∙ ap (λ b. eqb (cell words x) 1 || b) (in-cell (getD windows (2 * (first + j)) 0) (getD windows (2 * (first + j) + 1) 0) start L x))
+      ∙ ap (λ b. eqb (cell words x) 1 || b) (in-cell (getD windows (2 * (first + j)) 0) (getD windows (2 * (first + j) + 1) 0) start L
+      x))
       ∙ regroup (eqb (cell words x) 1) (ltb x L) (leb (getD windows (2 * (first + j)) 0) (start + x)
       && ltb (start + x) (getD windows (2 * (first + j) + 1) 0))
       (holds (windowsOf (count - (j + 1)) (drop (2 * (first + (j + 1))) windows)) (start + x))
@@ -106,7 +109,8 @@ masking-more start L windows first count j words words′ s e m l es ee o f = re
         ∙ ap (λ (i : ℕ). record { start = getD windows (2 * (first + j)) 0; end = getD windows (2 * (first + j) + 1) 0 }
         ∷ windowsOf (count - (j + 1)) (drop (2 * i) windows)) g
 
-pub masking-ends : (start L : ℕ) (windows : List ℕ) (first count j : ℕ) (words : List ℕ) → Masking start L windows first count j words
+pub masking-ends : (start L : ℕ) (windows : List ℕ) (first count j : ℕ) (words : List ℕ)
+    → Masking start L windows first count j words
     → count ≤ j → Masked start L (windowsOf count (drop (2 * first) windows)) words
 unfolding holds windowsOf
 masking-ends start L windows first count j words m l = record { sets = λ x. sym (none x) ∙ m .sets x }

@@ -51,7 +51,8 @@ module _ (k : Kind) (windows : List ℕ) where
   unfolding sound
   sound-place place used at r e = leb-true place 1000 (and-split (leb place 1000) _ e .0)
 
-  rows-kept : (place : ℕ) (used : List ℕ) (at : ℕ) (rs : List Row) → rowFault k windows place used at rs ≡ none → (i : ℕ) → i < length rs
+  rows-kept : (place : ℕ) (used : List ℕ) (at : ℕ) (rs : List Row) → rowFault k windows place used at rs ≡ none → (i : ℕ)
+      → i < length rs
       → Kept k windows (getD rs i noRow .first) (getD rs i noRow)
   unfolding rowFault
   rows-kept place used at [] e i l = absurd (omega arith)
@@ -83,7 +84,8 @@ module _ (k : Kind) (windows : List ℕ) where
       go false s e ih = let z : _≡_ {A = ℕ} 0 1 = cc in absurd (omega arith)
       go true s e ih = omega (arith, ih e (omega (arith, sound-place place used at r s)))
 
-pub orderly : (k : Kind) (t : Tender) (n : ℕ) (bids windows : List ℕ) → faultOf k t n bids windows ≡ none → Orderly k n bids windows
+pub orderly : (k : Kind) (t : Tender) (n : ℕ) (bids windows : List ℕ) → faultOf k t n bids windows ≡ none
+    → Orderly k n bids windows
 orderly k t n bids windows e =
     let f = faultless k t n bids windows e in
     let a = and-split (sameKind k (t .kind) && lawful (t .window)) (leb n (length bids / 4)) (f .tender) in

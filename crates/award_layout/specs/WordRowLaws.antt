@@ -18,7 +18,8 @@ module _ (ms : List ℕ) (w n i : ℕ) (size : length ms ≡ w * n) (l : i < n) 
   pub row-size : length (wordRow ms w i) ≡ w
   row-size = row-length ms w i (omega (arith, row-within w n i l))
 
-pub word-row-same : (ms ms′ : List ℕ) (w j : ℕ) → length ms ≡ length ms′ → ((q : ℕ) → q < w * j + w → getD ms q 0 ≡ getD ms′ q 0)
+pub word-row-same : (ms ms′ : List ℕ) (w j : ℕ) → length ms ≡ length ms′
+    → ((q : ℕ) → q < w * j + w → getD ms q 0 ≡ getD ms′ q 0)
     → wordRow ms w j ≡ wordRow ms′ w j
 unfolding wordRow
 word-row-same ms ms′ w j e h = ext-getD 0 (take w (drop (w * j) ms)) (take w (drop (w * j) ms′))
@@ -70,6 +71,7 @@ module _ (n start L w : ℕ) (bids windows : List ℕ) (i : ℕ) (ms ys : List �
               (g .done .each j (ltb-true j i t))
           go false t = let d : j ≡ i = omega (arith, ltb-false j i t) in rw (d, here) m
 
-pub writing-ends : (n start L w : ℕ) (bids windows : List ℕ) (i : ℕ) (ms : List ℕ) → Writing n start L w bids windows i ms → i ≡ n
+pub writing-ends : (n start L w : ℕ) (bids windows : List ℕ) (i : ℕ) (ms : List ℕ) → Writing n start L w bids windows i ms
+    → i ≡ n
     → AllMasked n start L w bids windows ms
 writing-ends n start L w bids windows i ms g e = rw e at (g .done)

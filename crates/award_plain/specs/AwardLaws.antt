@@ -32,7 +32,8 @@ pub won-single : (has : ℕ → ℕ → Bool) (ps : List ℕ) (L i n : ℕ) → 
 unfolding won
 won-single has ps L i n e = rw (← e)
 
-pub cents-single : (has : ℕ → ℕ → Bool) (ps : List ℕ) (L i n : ℕ) → length ps ≡ n → cents Single has ps L i ≡ vcgPaid (covers has n L) ps i
+pub cents-single : (has : ℕ → ℕ → Bool) (ps : List ℕ) (L i n : ℕ) → length ps ≡ n
+    → cents Single has ps L i ≡ vcgPaid (covers has n L) ps i
 unfolding cents
 cents-single has ps L i n e = rw (← e)
 
@@ -46,18 +47,20 @@ cents-multi has ps L i = refl
 
 -- over cells
 
-pub settled-is : (k : Kind) (has : ℕ → ℕ → Bool) (ps : List ℕ) (L start : ℕ) (x y : Found) → cellWith has (length ps) L 0 ≡ x
+pub settled-is : (k : Kind) (has : ℕ → ℕ → Bool) (ps : List ℕ) (L start : ℕ) (x y : Found)
+    → cellWith has (length ps) L 0 ≡ x
     → cellWith has (length ps) L 1 ≡ y →
     settled k has ps L start ≡ thinned start x y (awarded (awardRows k has ps L) (costOf k has ps L) (paidOf k has ps L))
 unfolding settled
 settled-is k has ps L start x y e f = rw (e, f)
 
 -- what an award that is not refused says
-pub record AwardOver (k : Kind) (has : ℕ → ℕ → Bool) (ps : List ℕ) (L : ℕ) (rows : List AwardRow) (cost paid : ℕ) : Type 0 where
-  pub two : each has (length ps) L 2 ≡ true
-  pub rows-are : rows ≡ awardRows k has ps L
-  pub cost-is : cost ≡ costOf k has ps L
-  pub paid-is : paid ≡ paidOf k has ps L
+pub record AwardOver (k : Kind) (has : ℕ → ℕ → Bool) (ps : List ℕ) (L : ℕ) (rows : List AwardRow) (cost paid : ℕ) : Type 0
+  where
+    pub two : each has (length ps) L 2 ≡ true
+    pub rows-are : rows ≡ awardRows k has ps L
+    pub cost-is : cost ≡ costOf k has ps L
+    pub paid-is : paid ≡ paidOf k has ps L
 
 pub settled-awarded : (k : Kind) (has : ℕ → ℕ → Bool) (ps : List ℕ) (L start : ℕ) (rows : List AwardRow) (cost paid : ℕ)
     → settled k has ps L start ≡ awarded rows cost paid → AwardOver k has ps L rows cost paid
@@ -110,7 +113,8 @@ unfolding judged outcomeNumber
 judged-nine none r a e h = refl
 judged-nine (some p) r a e h = absurd (h (ap outcomeNumber e))
 
-pub no-fault : (k : Kind) (t : Tender) (n : ℕ) (bids windows : List ℕ) (lent : ℕ) (a : Outcome) → a ≡ awardOf k t n bids windows lent
+pub no-fault : (k : Kind) (t : Tender) (n : ℕ) (bids windows : List ℕ) (lent : ℕ) (a : Outcome)
+    → a ≡ awardOf k t n bids windows lent
     → (outcomeNumber a ≡ 9 → ⊥) → faultOf k t n bids windows ≡ none
 no-fault k t n bids windows lent a e h = judged-nine (faultOf k t n bids windows) _ a (e ∙ award-is k t n bids windows lent) h
 
@@ -131,7 +135,8 @@ award-settles k t n bids windows lent f g x y d e =
     (rw (prices-count n bids) d) (rw (prices-count n bids) e)
 
 -- what an answer that awards says
-pub record AwardOn (k : Kind) (t : Tender) (n : ℕ) (bids windows : List ℕ) (lent : ℕ) (rows : List AwardRow) (cost paid : ℕ) : Type 0 where
+pub record AwardOn (k : Kind) (t : Tender) (n : ℕ) (bids windows : List ℕ) (lent : ℕ) (rows : List AwardRow)
+    (cost paid : ℕ) : Type 0 where
   pub sound : faultOf k t n bids windows ≡ none
   pub enough : ltb lent n ≡ false
   pub settles : AwardOver k (hasOf t (rowsOf n bids) windows) (pricesOf (rowsOf n bids)) (cellsOf t) rows cost paid

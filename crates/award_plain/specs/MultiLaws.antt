@@ -59,7 +59,8 @@ pub record Words (t : Tender) (w : ℕ) : Type 0 where
   pub words : w ≤ 158
   pub fits : cellsOf t ≤ 64 * w
 
-pub words-of : (k : Kind) (t : Tender) (n w : ℕ) (bids windows : List ℕ) → faultOf k t n bids windows ≡ none → w ≡ (cellsOf t + 63) / 64
+pub words-of : (k : Kind) (t : Tender) (n w : ℕ) (bids windows : List ℕ) → faultOf k t n bids windows ≡ none
+    → w ≡ (cellsOf t + 63) / 64
     → Words t w
 unfolding cellsOf
 words-of k t n w bids windows f e = let d = timed k t n bids windows f in
@@ -71,7 +72,8 @@ words-of k t n w bids windows f e = let d = timed k t n bids windows f in
       fits = omega arith;
     }
 
-module _ (t : Tender) (n w : ℕ) (bids windows ms ps ow oc : List ℕ) (f : faultOf Multi t n bids windows ≡ none) (size : length ms ≡ w * n)
+module _ (t : Tender) (n w : ℕ) (bids windows ms ps ow oc : List ℕ) (f : faultOf Multi t n bids windows ≡ none)
+    (size : length ms ≡ w * n)
     (m : AllMasked n (t .window .start) (cellsOf t) w bids windows ms) (p : ps ≡ pricesOf (rowsOf n bids)) where
   same : has ms w ≡ hasOf t (rowsOf n bids) windows
   same = masks-have t n w bids windows ms size m

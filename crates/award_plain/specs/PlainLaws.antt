@@ -48,11 +48,13 @@ module _ (k : Kind) (t : Tender) (n : ℕ) (bids windows : List ℕ) (lent : ℕ
   L = cellsOf t
 
   -- a refusal leaves the lists
-  refuses : (r : Refusal) → awardOf k t n bids windows lent ≡ declined r → PlainPromise k t n bids windows lent ow oc ow oc (Refused r)
+  refuses : (r : Refusal) → awardOf k t n bids windows lent ≡ declined r
+      → PlainPromise k t n bids windows lent ow oc ow oc (Refused r)
   unfolding toldIn wonAfter centsAfter
   refuses r e = record { answers = sym e; won-are = refl; cents-are = refl }
 
-  pub nine : (p : ℕ) → faultOf k t n bids windows ≡ some p → PlainPromise k t n bids windows lent ow oc ow oc (Refused (BadTables p))
+  pub nine : (p : ℕ) → faultOf k t n bids windows ≡ some p
+      → PlainPromise k t n bids windows lent ow oc ow oc (Refused (BadTables p))
   nine p e = refuses (BadTables p) (award-nine k t n bids windows lent p e)
 
   module _ (f : faultOf k t n bids windows ≡ none) where
@@ -82,7 +84,8 @@ module _ (k : Kind) (t : Tender) (n : ℕ) (bids windows : List ℕ) (lent : ℕ
         rows-are =
             listed-same n (λ i. record { won = eqb (getD nw i 0) 1; cents = getD nc i 0 })
             (λ i. record { won = won k has ps L i; cents = cents k has ps L i }) (λ i l. rw (flag-at i l, pay-at i l))
-            ∙ ap (λ (m : ℕ). listed m (λ i. record { won = won k has ps L i; cents = cents k has ps L i })) (sym (prices-count n bids))
+            ∙ ap (λ (m : ℕ). listed m (λ i. record { won = won k has ps L i; cents = cents k has ps L i }))
+            (sym (prices-count n bids))
           where
             flag-at : (i : ℕ) → i < n → eqb (getD nw i 0) 1 ≡ won k has ps L i
             flag-at i l =
@@ -150,10 +153,12 @@ module _ (k : Kind) (t : Tender) (n : ℕ) (bids windows : List ℕ) (lent : ℕ
 
 -- what the two cores settle by is what the definitions say
 
-pub single-won : (has : ℕ → ℕ → Bool) (ps : List ℕ) (L i : ℕ) → bit (winners (covers has (length ps) L) ps) i ≡ won Single has ps L i
+pub single-won : (has : ℕ → ℕ → Bool) (ps : List ℕ) (L i : ℕ)
+    → bit (winners (covers has (length ps) L) ps) i ≡ won Single has ps L i
 single-won has ps L i = sym (won-single has ps L i (length ps) refl)
 
-pub single-cents : (has : ℕ → ℕ → Bool) (ps : List ℕ) (L i : ℕ) → vcgPaid (covers has (length ps) L) ps i ≡ cents Single has ps L i
+pub single-cents : (has : ℕ → ℕ → Bool) (ps : List ℕ) (L i : ℕ)
+    → vcgPaid (covers has (length ps) L) ps i ≡ cents Single has ps L i
 single-cents has ps L i = sym (cents-single has ps L i (length ps) refl)
 
 pub multi-won : (has : ℕ → ℕ → Bool) (ps : List ℕ) (L i : ℕ) → wins has ps (cells L) i ≡ won Multi has ps L i
@@ -164,7 +169,8 @@ pub multi-cents : (has : ℕ → ℕ → Bool) (ps : List ℕ) (L i : ℕ) → i
 multi-cents has ps L i l two = sym (cents-multi has ps L i ∙ paid-by-rounds has ps (cells L) i l (spare-bids has (length ps) L two ps i))
 
 -- more award rows than bids change nothing
-pub lent-more : (k : Kind) (t : Tender) (n : ℕ) (bids windows : List ℕ) (lent : ℕ) (ow oc nw nc : List ℕ) (a : Answer) → n ≤ lent
+pub lent-more : (k : Kind) (t : Tender) (n : ℕ) (bids windows : List ℕ) (lent : ℕ) (ow oc nw nc : List ℕ) (a : Answer)
+    → n ≤ lent
     → PlainPromise k t n bids windows n ow oc nw nc a → PlainPromise k t n bids windows lent ow oc nw nc a
 lent-more k t n bids windows lent ow oc nw nc a l p = record {
   answers = p .answers ∙ award-lent k t n bids windows n lent (le-ltb n n (omega arith) ∙ sym (le-ltb lent n l));

@@ -27,7 +27,8 @@ unfolding bidders
 some-bidder has zero x i l e = absurd (omega arith)
 some-bidder has (suc n) x i l e = go (ltb i n) refl (some-bidder has n x i)
   where
-    go : (b : Bool) → ltb i n ≡ b → (i < n → has i x ≡ true → 1 ≤ bidders has n x) → 1 ≤ when (has n x) 1 + bidders has n x
+    go : (b : Bool) → ltb i n ≡ b → (i < n → has i x ≡ true → 1 ≤ bidders has n x)
+        → 1 ≤ when (has n x) 1 + bidders has n x
     go true t ih = omega (arith, ih (ltb-true i n t) e)
     go false t ih = let d : i ≡ n = omega (arith, ltb-false i n t) in omega (arith, ap (λ b. when b 1) (rw d at e))
 

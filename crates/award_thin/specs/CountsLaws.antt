@@ -35,7 +35,8 @@ pub count-of : (xs table : List ℕ) (i : ℕ) → getD xs i 0 < length table �
     (x : ℕ) → getD (set table (getD xs i 0) (getD table (getD xs i 0) 0 + 1)) x 0 ≡ times xs (i + 1) x
 count-of xs table i l f x = go (eqb (getD xs i 0) x) refl
   where
-    go : (b : Bool) → eqb (getD xs i 0) x ≡ b → getD (set table (getD xs i 0) (getD table (getD xs i 0) 0 + 1)) x 0 ≡ times xs (i + 1) x
+    go : (b : Bool) → eqb (getD xs i 0) x ≡ b → getD (set table (getD xs i 0) (getD table (getD xs i 0) 0 + 1)) x 0
+        ≡ times xs (i + 1) x
     go true e =
         let d : x ≡ getD xs i 0 = sym (eqb-true (getD xs i 0) x e) in
         ap (λ (y : ℕ). getD (set table (getD xs i 0) (getD table (getD xs i 0) 0 + 1)) y 0) d
@@ -60,7 +61,8 @@ unfolding countBelow times bidders
 below-more xs zero x = refl
 below-more xs (suc n) x = omega (arith, below-more xs n x, go (ltb (getD xs n 0) x) (eqb (getD xs n 0) x) refl refl)
   where
-    go : (a b : Bool) → ltb (getD xs n 0) x ≡ a → eqb (getD xs n 0) x ≡ b → when (ltb (getD xs n 0) (x + 1)) 1 ≡ when a 1 + when b 1
+    go : (a b : Bool) → ltb (getD xs n 0) x ≡ a → eqb (getD xs n 0) x ≡ b
+        → when (ltb (getD xs n 0) (x + 1)) 1 ≡ when a 1 + when b 1
     go true true e f = absurd (omega (arith, ltb-true (getD xs n 0) x e, eqb-true (getD xs n 0) x f))
     go true false e f = ap (λ b. when b 1) (lt-ltb (getD xs n 0) (x + 1) (omega (arith, ltb-true (getD xs n 0) x e)))
     go false true e f = ap (λ b. when b 1) (lt-ltb (getD xs n 0) (x + 1) (omega (arith, eqb-true (getD xs n 0) x f)))
@@ -81,7 +83,8 @@ bidders-below starts ends (suc n) x o = omega (
   go (leb (getD starts n 0) x) (ltb x (getD ends n 0)) refl refl,
 )
   where
-    go : (a b : Bool) → leb (getD starts n 0) x ≡ a → ltb x (getD ends n 0) ≡ b → when (a && b) 1 + when (ltb (getD ends n 0) (x + 1)) 1
+    go : (a b : Bool) → leb (getD starts n 0) x ≡ a → ltb x (getD ends n 0) ≡ b
+        → when (a && b) 1 + when (ltb (getD ends n 0) (x + 1)) 1
         ≡ when (ltb (getD starts n 0) (x + 1)) 1
     go true true e f = omega (
       arith,

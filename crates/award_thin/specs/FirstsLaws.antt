@@ -10,7 +10,8 @@ use Rattle.cover.specs.Earliest.{cellWith}
 use Rattle.cover.specs.EarliestLaws.{cell-is, cell-none}
 use Rattle.award_thin.specs.Thin.{fewer, FirstOf}
 
-pub one-more-before : (P : ℕ → Bool) (r : ℕ) → ((x : ℕ) → x < r → P x ≡ false) → P r ≡ false → (x : ℕ) → x < r + 1 → P x ≡ false
+pub one-more-before : (P : ℕ → Bool) (r : ℕ) → ((x : ℕ) → x < r → P x ≡ false) → P r ≡ false → (x : ℕ)
+    → x < r + 1 → P x ≡ false
 one-more-before P r f e x l = go (ltb x r) refl
   where
     go : (b : Bool) → ltb x r ≡ b → P x ≡ false
@@ -23,7 +24,8 @@ module _ (has : ℕ → ℕ → Bool) (n L : ℕ) where
   unfolding fewer
   none-with m r k f l h = cell-none has n L k (λ x q e. omega (arith, ltb-false (bidders has n x) m (f .before x (omega arith))))
 
-  pub enough : (r : ℕ) → FirstOf (fewer has n 2) L r → L ≤ r → (cellWith has n L 0 ≡ nothing) × (cellWith has n L 1 ≡ nothing)
+  pub enough : (r : ℕ) → FirstOf (fewer has n 2) L r → L ≤ r → (cellWith has n L 0 ≡ nothing)
+      × (cellWith has n L 1 ≡ nothing)
   enough r f l = (none-with 2 r 0 f l (omega arith), none-with 2 r 1 f l (omega arith))
 
   pub bare : (r : ℕ) → FirstOf (fewer has n 1) L r → r < L → cellWith has n L 0 ≡ found r
@@ -34,7 +36,8 @@ module _ (has : ℕ → ℕ → Bool) (n L : ℕ) where
     before = λ x q e. omega (arith, ltb-false (bidders has n x) 1 (f .before x q));
   })
 
-  pub lone : (r s : ℕ) → FirstOf (fewer has n 2) L r → (r ≡ L → ⊥) → FirstOf (fewer has n 1) L s → L ≤ s → (cellWith has n L 0 ≡ nothing)
+  pub lone : (r s : ℕ) → FirstOf (fewer has n 2) L r → (r ≡ L → ⊥) → FirstOf (fewer has n 1) L s → L ≤ s
+      → (cellWith has n L 0 ≡ nothing)
       × (cellWith has n L 1 ≡ found r)
   unfolding fewer
   lone r s f d g l = let h : r < L = omega (arith, f .inside) in (

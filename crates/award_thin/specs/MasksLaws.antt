@@ -90,7 +90,8 @@ module _ (ms : List ℕ) (w q : ℕ) (lq : q < w) where
       let b : (64 * q + k) % 64 ≡ k = omega arith in
       rw (a, b, getD-take w (drop (w * i) ms) q 0 lq, getD-drop (w * i) ms q 0)
 
-  more : (i k : ℕ) → k < 64 → bidders (has ms w) (i + 1) (64 * q + k) ≡ bitOf (getD ms (w * i + q) 0) k + bidders (has ms w) i (64 * q + k)
+  more : (i k : ℕ) → k < 64 → bidders (has ms w) (i + 1) (64 * q + k) ≡ bitOf (getD ms (w * i + q) 0) k
+      + bidders (has ms w) i (64 * q + k)
   unfolding bidders has
   more i k l =
       ap (λ (j : ℕ). bidders (has ms w) j (64 * q + k)) (add-one i)
@@ -131,7 +132,8 @@ word-bit ws q x e = ap (λ (j : ℕ). bitOf (getD ws j 0) (x % 64)) (sym e)
 pub gathered-none : (ms : List ℕ) (w n : ℕ) (wanted enough : List ℕ) → Gathered ms w n wanted enough 0
 gathered-none ms w n wanted enough = record { each = λ x l. absurd (omega arith) }
 
-pub gathered-more : (ms : List ℕ) (w n : ℕ) (wanted enough : List ℕ) (q r : ℕ) → q < length enough → Gathered ms w n wanted enough q
+pub gathered-more : (ms : List ℕ) (w n : ℕ) (wanted enough : List ℕ) (q r : ℕ) → q < length enough
+    → Gathered ms w n wanted enough q
     → Reached ms w n q (getD wanted q 0) r → Gathered ms w n wanted (set enough q r) (q + 1)
 gathered-more ms w n wanted enough q r h g s = record {
   each = λ x l on. ⊎-elim (λ lt. set-other enough q h x r (λ e. omega arith) ∙ g .each x lt on) (λ le. here x (omega arith) on)

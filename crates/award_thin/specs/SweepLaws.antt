@@ -20,7 +20,8 @@ pub record Sweep (starts ends opened ended : List ℕ) (cells count x : ℕ) : T
   pub before : (y : ℕ) → y < x → fewer (spans starts ends) (length starts) 2 y ≡ false
 
 pub sweep-starts : (starts ends opened ended : List ℕ) (cells : ℕ) → length ends ≡ length starts
-    → ((y : ℕ) → getD opened y 0 ≡ times starts (length starts) y) → ((y : ℕ) → getD ended y 0 ≡ times ends (length ends) y) →
+    → ((y : ℕ) → getD opened y 0 ≡ times starts (length starts) y)
+    → ((y : ℕ) → getD ended y 0 ≡ times ends (length ends) y) →
     Sweep starts ends opened ended cells 0 0
 sweep-starts starts ends opened ended cells e f g = record {
   inside = omega arith;
@@ -57,7 +58,8 @@ module _ (starts ends opened ended : List ℕ) (cells count x : ℕ) (s : Sweep 
   pub count-is : count + getD opened x 0 - getD ended x 0 ≡ bidders (spans starts ends) (length starts) x
   count-is = omega (arith, here)
 
-  pub sweep-found : x < cells → count + getD opened x 0 - getD ended x 0 < 2 → FirstOf (fewer (spans starts ends) (length starts) 2) cells x
+  pub sweep-found : x < cells → count + getD opened x 0 - getD ended x 0 < 2
+      → FirstOf (fewer (spans starts ends) (length starts) 2) cells x
   unfolding fewer
   sweep-found l h = record {
     inside = s .inside;

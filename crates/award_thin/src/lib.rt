@@ -15,7 +15,8 @@ pub enum Thin {
 
 // Adds to each cell of the table how many of the numbers name it.
 fn count_at(at: &[u64], table: &mut [u64])
-    requires { ⌜ (length (now at) ≤ 1000) × (((i : ℕ) → getD (now at) i 0 < length (now table)) × ((x : ℕ) → getD (now table) x 0 ≡ 0)) ⌝ }
+    requires { ⌜ (length (now at) ≤ 1000) × (((i : ℕ) → getD (now at) i 0 < length (now table))
+        × ((x : ℕ) → getD (now table) x 0 ≡ 0)) ⌝ }
     ensures { λ _. ⌜ ((x : ℕ) → getD (now (table .exit)) x 0 ≡ times (now (at .entry)) (length (now (at .entry))) x) ⌝ }
 {
     let mut i = 0;

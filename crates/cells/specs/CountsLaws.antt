@@ -56,7 +56,8 @@ counted-to words counts q n l h = let last = counted-last words counts q n in re
   each = λ p a. getD-set-other counts (length words + 1) p q 0 (λ e. omega (arith, last)) ∙ h p (omega (arith, last));
 }
 
-pub counted-none : (words counts : List ℕ) → length counts ≡ length words + 2 → Counted words (set (set counts 0 0) (length words + 1) 0)
+pub counted-none : (words counts : List ℕ) → length counts ≡ length words + 2
+    → Counted words (set (set counts 0 0) (length words + 1) 0)
 counted-none words counts n =
     counted-to words (set counts 0 0) 0 (simp length-set n) (omega arith)
     (λ p l. let e : p ≡ 0 = omega arith in rw e (getD-set-same counts 0 0 0 (omega (arith, n)) ∙ sym (cells-none words)))
@@ -66,7 +67,8 @@ pub counted-back : {words counts : List ℕ} (q : ℕ) → Counted words counts 
 counted-back {words} {counts} q k l = counted-to words counts q (k .size) (omega (arith, k .known)) (λ p a. k .each p (omega arith))
 
 -- a word past those counted changes
-pub counted-set : {words counts : List ℕ} (q v : ℕ) → Counted words counts → countedTo words counts ≤ q → Counted (set words q v) counts
+pub counted-set : {words counts : List ℕ} (q v : ℕ) → Counted words counts → countedTo words counts ≤ q
+    → Counted (set words q v) counts
 counted-set {words} {counts} q v k l = record {
   size = simp length-set (k .size);
   known = simp length-set (k .known);

@@ -15,8 +15,10 @@ pub record Hops (mask hop : List ℕ) : Type 0 where
   pub same : length hop ≡ length mask
   pub on : (q : ℕ) → q < length mask → q < getD hop q 0
   pub within : (q : ℕ) → q < length mask → getD hop q 0 ≤ length mask
-  pub run : (q : ℕ) → q < length mask → getD mask q 0 ≡ whole → (p : ℕ) → q ≤ p → p < getD hop q 0 → getD mask p 0 ≡ whole
-  pub gap : (q : ℕ) → q < length mask → (getD mask q 0 ≡ whole → ⊥) → (p : ℕ) → q < p → p < getD hop q 0 → getD mask p 0 ≡ 0
+  pub run : (q : ℕ) → q < length mask → getD mask q 0 ≡ whole → (p : ℕ) → q ≤ p → p < getD hop q 0
+      → getD mask p 0 ≡ whole
+  pub gap : (q : ℕ) → q < length mask → (getD mask q 0 ≡ whole → ⊥) → (p : ℕ) → q < p → p < getD hop q 0
+      → getD mask p 0 ≡ 0
 
 -- how many cells the words before word q have
 unfoldable pub cellsTo : List ℕ → ℕ → ℕ

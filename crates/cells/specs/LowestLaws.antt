@@ -101,7 +101,8 @@ module _ (a b : List ℕ) (q : ℕ) (fa : at a q < 2 ^ 64) (fb : at b q < 2 ^ 64
         found = free-found (64 * q + s + t) (omega (arith, inside)) (ap (λ (j : ℕ). bitOf free j) (omega (arith, inside)) ∙ is-set)
 
 -- a search that found nothing up to m goes on from there
-pub search-on : {a b : List ℕ} {from m r : ℕ} → from ≤ m → ((x : ℕ) → from ≤ x → x < m → cell a x ≡ 1 → cell b x ≡ 1) → Next a b m r
+pub search-on : {a b : List ℕ} {from m r : ℕ} → from ≤ m
+    → ((x : ℕ) → from ≤ x → x < m → cell a x ≡ 1 → cell b x ≡ 1) → Next a b m r
     → Next a b from r
 search-on {a} {b} {from} {m} {r} l h n = record {
   on = omega (arith, n .on);
@@ -149,6 +150,7 @@ module _ (a b : List ℕ) (from : ℕ) (fa : at a (from / 64) < 2 ^ 64) (fb : at
       carry : (y : ℕ) → y ≡ from → (t : ℕ) → Next a b y (y + t) → Next a b from (from + t)
       carry y e t x = rw (← e) x
 
-  pub none-at : bitAnd (at a (from / 64)) (whole - at b (from / 64)) / 2 ^ (from % 64) ≡ 0 → (x : ℕ) → from ≤ x → x < 64 * (from / 64 + 1)
+  pub none-at : bitAnd (at a (from / 64)) (whole - at b (from / 64)) / 2 ^ (from % 64) ≡ 0 → (x : ℕ) → from ≤ x
+      → x < 64 * (from / 64 + 1)
       → cell a x ≡ 1 → cell b x ≡ 1
   none-at z x l m = none-here a b (from / 64) fa fb (from % 64) (omega arith) z x (omega arith) m

@@ -75,7 +75,8 @@ swept-more w old mask new s h hm =
           ∙ s .rest x (omega arith);
     }
 
-pub swept-all : (w : ℕ) (old mask new : List ℕ) → Swept w old mask new → w ≡ length old → length old ≡ length mask → Closed old mask new
+pub swept-all : (w : ℕ) (old mask new : List ℕ) → Swept w old mask new → w ≡ length old → length old ≡ length mask
+    → Closed old mask new
 swept-all w old mask new s e el =
     record {
       clears = λ x.

@@ -38,11 +38,13 @@ module _ (held mask : List ℕ) (fits : (p : ℕ) → at held p < 2 ^ 64) where
       e = omega arith
 
   -- a whole word adds all its cells
-  whole-word : (q : ℕ) → at mask q ≡ whole → total (both held mask) (64 * (q + 1)) ≡ total (both held mask) (64 * q) + ones (at held q)
+  whole-word : (q : ℕ) → at mask q ≡ whole → total (both held mask) (64 * (q + 1)) ≡ total (both held mask) (64 * q)
+      + ones (at held q)
   whole-word q e = word-more held mask q (fits q) ∙ rw e
       (ap (λ (x : ℕ). total (both held mask) (64 * q) + ones x) (and-mask (at held q) 64 ∙ mod-eq-of-lt (fits q)))
 
-  pub run-more : (q d : ℕ) → ((p : ℕ) → q ≤ p → p < q + d → at mask p ≡ whole) → total (both held mask) (64 * (q + d)) + cellsTo held q
+  pub run-more : (q d : ℕ) → ((p : ℕ) → q ≤ p → p < q + d → at mask p ≡ whole)
+      → total (both held mask) (64 * (q + d)) + cellsTo held q
       ≡ total (both held mask) (64 * q) + cellsTo held (q + d)
   run-more q zero h = let e : q + 0 ≡ q = omega arith in rw e
   run-more q (suc d) h = let e : q + suc d ≡ q + d + 1 = omega arith in
@@ -66,7 +68,8 @@ module _ (held mask hop : List ℕ) (fits : (p : ℕ) → at held p < 2 ^ 64) (h
   run-grows = rw (between (at hop q) (h .on q l)) at (cells-grow held q (at hop q - q))
 
   -- a run of whole words adds the difference of two sums
-  pub run-sum : {counts : List ℕ} (e sum : ℕ) → e ≡ at hop q → Counted held counts → e ≤ countedTo held counts → at mask q ≡ whole
+  pub run-sum : {counts : List ℕ} (e sum : ℕ) → e ≡ at hop q → Counted held counts → e ≤ countedTo held counts
+      → at mask q ≡ whole
       → sum ≡ total (both held mask) (64 * q)
       → (at counts q ≤ at counts e) × (sum + (at counts e - at counts q) ≡ total (both held mask) (64 * e))
   run-sum {counts} e sum d k c w s = rw d (omega (arith, before, after, run-grows), omega (arith, before, after, run-grows, reach-run w, s))
@@ -101,7 +104,8 @@ swept-first r old mask h = record {
   rest = λ x l. refl;
 }
 
-pub onward-gap : (mask hop : List ℕ) (q : ℕ) → Hops mask hop → q < length mask → (at mask q ≡ whole → ⊥) → Onward mask q (at hop q)
+pub onward-gap : (mask hop : List ℕ) (q : ℕ) → Hops mask hop → q < length mask → (at mask q ≡ whole → ⊥)
+    → Onward mask q (at hop q)
 onward-gap mask hop q h l n = record { on = h .on q l; within = h .within q l; gap = h .gap q l n }
 
 -- a first word without a cell is followed by others without one

@@ -120,7 +120,8 @@ pub fn count_none(words: &[u64], counts: &mut [u64])
 // Counts on to word e.
 fn count_to(words: &[u64], counts: &mut [u64], e: usize)
     requires { ⌜ Counted (now words) (now counts) × ((e ≤ length (now words)) × (length (now words) ≤ 158)) ⌝ }
-    ensures { λ _. ⌜ Counted (now (words .entry)) (now (counts .exit)) × (e ≤ countedTo (now (words .entry)) (now (counts .exit))) ⌝ }
+    ensures { λ _. ⌜ Counted (now (words .entry)) (now (counts .exit))
+        × (e ≤ countedTo (now (words .entry)) (now (counts .exit))) ⌝ }
 {
     let last = words.len() + 1;
     let mut q = counts[last] as usize;
@@ -139,7 +140,8 @@ fn count_to(words: &[u64], counts: &mut [u64], e: usize)
 // Forgets the sums past word q.
 fn count_back(words: &[u64], counts: &mut [u64], q: usize)
     requires { ⌜ Counted (now words) (now counts) × ((q ≤ length (now words)) × (length (now words) ≤ 158)) ⌝ }
-    ensures { λ _. ⌜ Counted (now (words .entry)) (now (counts .exit)) × (countedTo (now (words .entry)) (now (counts .exit)) ≤ q) ⌝ }
+    ensures { λ _. ⌜ Counted (now (words .entry)) (now (counts .exit))
+        × (countedTo (now (words .entry)) (now (counts .exit)) ≤ q) ⌝ }
 {
     let last = words.len() + 1;
     if q < counts[last] as usize {
@@ -211,7 +213,8 @@ fn first_word(mask: &[u64], hop: &[u8]) -> usize
 pub fn close_counted(held: &mut [u64], counts: &mut [u64], mask: &[u64], hop: &[u8])
     requires { ⌜ (length (now held) ≡ length (now mask))
         × ((length (now held) ≤ 158) × (Counted (now held) (now counts) × Hops (now mask) (now hop))) ⌝ }
-    ensures { λ _. ⌜ Closed (now (held .entry)) (now (mask .entry)) (now (held .exit)) × Counted (now (held .exit)) (now (counts .exit)) ⌝ }
+    ensures { λ _. ⌜ Closed (now (held .entry)) (now (mask .entry)) (now (held .exit))
+        × Counted (now (held .exit)) (now (counts .exit)) ⌝ }
 {
     let n = held.len();
     let mut q = first_word(mask, hop);

@@ -96,7 +96,8 @@ share-fewer l m q r s h = go (ltb 0 r) (leb l (q * r)) refl refl
     go true false d e = omega arith
     go false b d e = omega arith
 
-pub bar-fewer : (k : ℕ) (g h : ℕ → Bool) → ((x : ℕ) → g x ≡ true → h x ≡ true) → (t : Rounds) → bar k g t ≤ bar k h t
+pub bar-fewer : (k : ℕ) (g h : ℕ → Bool) → ((x : ℕ) → g x ≡ true → h x ≡ true) → (t : Rounds)
+    → bar k g t ≤ bar k h t
 unfolding bar
 bar-fewer k g h f (stop O) = omega arith
 bar-fewer k g h f (round i c O t) = omega (

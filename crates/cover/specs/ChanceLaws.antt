@@ -30,7 +30,8 @@ unfolding chance ahead
 chance-in k p h (stop O) e = ltb-true _ _ e
 chance-in k p h (round i c O t) e = go (or-split (ahead k p h i c O) (chance k p h t) e) (chance-in k p h t)
   where
-    go : (ahead k p h i c O ≡ true) ⊎ (chance k p h t ≡ true) → (chance k p h t ≡ true → Chance k p h t) → Chance k p h (round i c O t)
+    go : (ahead k p h i c O ≡ true) ⊎ (chance k p h t ≡ true) → (chance k p h t ≡ true → Chance k p h t)
+        → Chance k p h (round i c O t)
     go (inl a) f = let s = and-split (ltb 0 (reach h O)) _ a in inl (ltb-true _ _ (s .0), late-in k i _ _ (leb-true _ _ (s .1)))
     go (inr b) f = inr (f b)
 

@@ -26,7 +26,8 @@ unfolding largest valueOf
 largest-under ok m zero f l = omega arith
 largest-under ok m (suc n) f l = go (ok n) (f n) (largest-under ok m n f)
   where
-    go : (t : Bool) → t ≡ ltb n m → (m ≤ n → valueOf (largest ok n) ≡ m - 1) → valueOf (cond t (found n) (largest ok n)) ≡ m - 1
+    go : (t : Bool) → t ≡ ltb n m → (m ≤ n → valueOf (largest ok n) ≡ m - 1)
+        → valueOf (cond t (found n) (largest ok n)) ≡ m - 1
     go true e ih = omega (arith, ltb-true n m (sym e))
     go false e ih = ih (ltb-false n m (sym e))
 
@@ -53,7 +54,8 @@ when-suc : (t : Bool) (x y : ℕ) → x ≤ y → when t (suc x) ≤ suc y
 when-suc true x y l = omega arith
 when-suc false x y l = omega arith
 
-bar-most : (B : ℕ → Entry) (n k : ℕ) (h : ℕ → Bool) (top cells : ℕ) → ((i : ℕ) → B i .price ≤ top) → (f : ℕ) (O : List ℕ) → length O ≤ f
+bar-most : (B : ℕ → Entry) (n k : ℕ) (h : ℕ → Bool) (top cells : ℕ) → ((i : ℕ) → B i .price ≤ top)
+    → (f : ℕ) (O : List ℕ) → length O ≤ f
     → length O ≤ cells → bar k h (run B n f O) ≤ suc (top * cells)
 unfolding bar share
 bar-most B n k h top cells most = rounds B n (λ O t. length O ≤ cells → bar k h t ≤ suc (top * cells)) (λ O e l. omega arith)
@@ -94,7 +96,8 @@ module _ (has : ℕ → ℕ → Bool) (ps cells : List ℕ) (k : ℕ) where
   limit-same p = rw (theirs has (λ i d. refl) p, length-set ps k p)
 
   -- fewer cells never raise it
-  pub limit-fewer : (has′ : ℕ → ℕ → Bool) → ((i : ℕ) → (i ≡ k → ⊥) → has′ i ≡ has i) → ((x : ℕ) → has′ k x ≡ true → has k x ≡ true)
+  pub limit-fewer : (has′ : ℕ → ℕ → Bool) → ((i : ℕ) → (i ≡ k → ⊥) → has′ i ≡ has i)
+      → ((x : ℕ) → has′ k x ≡ true → has k x ≡ true)
       → (p : ℕ) → limit has′ (set ps k p) cells k ≤ limit has ps cells k
   unfolding limit
   limit-fewer has′ f g p = rw (theirs has′ f p, length-set ps k p)
@@ -115,7 +118,8 @@ module _ (has : ℕ → ℕ → Bool) (ps cells : List ℕ) (k : ℕ) where
         (limit-most has ps cells k)
 
     -- some price wins: then the critical price does, and the lower ones, and no higher
-    pub some-price : (q : ℕ) → winsAt has ps cells k q ≡ true → (p : ℕ) → winsAt has ps cells k p ≡ leb p (critical has ps cells k)
+    pub some-price : (q : ℕ) → winsAt has ps cells k q ≡ true → (p : ℕ)
+        → winsAt has ps cells k p ≡ leb p (critical has ps cells k)
     some-price q e p = wins-under p ∙ rw critical-is
         (step (limit has ps cells k) (omega (arith, ltb-true q (limit has ps cells k) (sym (wins-under q) ∙ e))))
       where
@@ -141,7 +145,8 @@ module _ (has : ℕ → ℕ → Bool) (ps cells : List ℕ) (k : ℕ) where
 -- where the other bids cover all the cells, and bid k may offer fewer
 module _ (has : ℕ → ℕ → Bool) (ps cells : List ℕ) (k : ℕ) (inside : k < length ps)
     (spare : Each (Covered (withdrawn k (bids has ps)) (length ps)) cells)
-    (has′ : ℕ → ℕ → Bool) (others : (i : ℕ) → (i ≡ k → ⊥) → has′ i ≡ has i) (fewer : (x : ℕ) → has′ k x ≡ true → has k x ≡ true) where
+    (has′ : ℕ → ℕ → Bool) (others : (i : ℕ) → (i ≡ k → ⊥) → has′ i ≡ has i)
+    (fewer : (x : ℕ) → has′ k x ≡ true → has k x ≡ true) where
   fewer-is : (q : ℕ) → critical has′ (set ps k q) cells k ≡ limit has′ (set ps k q) cells k - 1
   fewer-is q = critical-is has′ (set ps k q) cells k (rw (length-set ps k q) inside)
       (rw (theirs has ps cells k has′ others q, length-set ps k q) spare)
@@ -155,7 +160,8 @@ unfolding winsAt
 prices-same has ps cells k q = fun-ext (λ p. ap (λ l. wins has l cells k) (set-set ps k q p))
 
 -- the critical price does not turn on the price named
-pub critical-same : (has : ℕ → ℕ → Bool) (ps cells : List ℕ) (k q : ℕ) → critical has (set ps k q) cells k ≡ critical has ps cells k
+pub critical-same : (has : ℕ → ℕ → Bool) (ps cells : List ℕ) (k q : ℕ)
+    → critical has (set ps k q) cells k ≡ critical has ps cells k
 unfolding critical
 critical-same has ps cells k q = ap (λ f. valueOf (largest f (ceiling (set (set ps k q) k 0) cells))) (prices-same has ps cells k q)
     ∙ ap (λ l. valueOf (largest (winsAt has ps cells k) (ceiling l cells))) (set-set ps k q 0)
@@ -167,7 +173,8 @@ module _ (has : ℕ → ℕ → Bool) (ps cells : List ℕ) (k : ℕ) (inside : 
   paid-is q = rw (critical-same has ps cells k q)
 
   -- whoever's cost is c gains no more by asking q and offering fewer cells
-  pub truthful : (has′ : ℕ → ℕ → Bool) → ((i : ℕ) → (i ≡ k → ⊥) → has′ i ≡ has i) → ((x : ℕ) → has′ k x ≡ true → has k x ≡ true) → (c q : ℕ)
+  pub truthful : (has′ : ℕ → ℕ → Bool) → ((i : ℕ) → (i ≡ k → ⊥) → has′ i ≡ has i)
+      → ((x : ℕ) → has′ k x ≡ true → has k x ≡ true) → (c q : ℕ)
       → criticalPaid has′ (set ps k q) cells k + when (wins has (set ps k c) cells k) c ≤ criticalPaid has (set ps k c) cells k
       + when (wins has′ (set ps k q) cells k) c
   unfolding criticalPaid winsAt

@@ -76,6 +76,7 @@ pub two-at : (has : ℕ → ℕ → Bool) (n L : ℕ) → cellWith has n L 0 ≡
     (x : ℕ) → x < L → 2 ≤ bidders has n x
 two-at has n L e f x l = omega (arith, none-found has n L 0 e x l, none-found has n L 1 f x l)
 
-pub two-each : (has : ℕ → ℕ → Bool) (n L : ℕ) → cellWith has n L 0 ≡ nothing → cellWith has n L 1 ≡ nothing → each has n L 2 ≡ true
+pub two-each : (has : ℕ → ℕ → Bool) (n L : ℕ) → cellWith has n L 0 ≡ nothing → cellWith has n L 1 ≡ nothing
+    → each has n L 2 ≡ true
 unfolding each
 two-each has n L e f = all-of (λ x. leb 2 (bidders has n x)) L (λ x l. le-leb 2 (bidders has n x) (two-at has n L e f x l))

@@ -30,7 +30,8 @@ pub record Covered (B : ℕ → Entry) (n x : ℕ) : Type 0 where
   pub covers : B who .has x ≡ true
 
 -- a run of bids that cover all the cells closes them all
-pub covered-closes : (B : ℕ → Entry) (n f : ℕ) (O : List ℕ) → length O ≤ f → Each (Covered B n) O → left (run B n f O) ≡ []
+pub covered-closes : (B : ℕ → Entry) (n f : ℕ) (O : List ℕ) → length O ≤ f → Each (Covered B n) O
+    → left (run B n f O) ≡ []
 unfolding reach left
 covered-closes B n = rounds B n (λ O t. Each (Covered B n) O → left t ≡ []) go
     (λ O i t b ih g. ih (each-close (Covered B n) (B i .has) O g))

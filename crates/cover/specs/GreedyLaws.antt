@@ -43,7 +43,8 @@ pub withdrawn-other : (k : ℕ) (B : ℕ → Entry) (i : ℕ) → (i ≡ k → �
 unfolding withdrawn
 withdrawn-other k B i d = rw (ne-eqb i k d)
 
-pub withdrawn-same : (k : ℕ) (B B′ : ℕ → Entry) → ((i : ℕ) → (i ≡ k → ⊥) → B′ i ≡ B i) → withdrawn k B′ ≡ withdrawn k B
+pub withdrawn-same : (k : ℕ) (B B′ : ℕ → Entry) → ((i : ℕ) → (i ≡ k → ⊥) → B′ i ≡ B i)
+    → withdrawn k B′ ≡ withdrawn k B
 unfolding withdrawn
 withdrawn-same k B B′ h = fun-ext (λ i. go i (eqb i k) refl)
   where
@@ -75,19 +76,22 @@ close-other g h (x ∷ xs) = go (g x) (close-other g h xs)
 -- open cells are enough
 module _ (B : ℕ → Entry) (n : ℕ) (P : List ℕ → Rounds → Type 0)
     (end : (O : List ℕ) → ((i : ℕ) → i < n → reach (B i .has) O ≡ 0) → P O (stop O))
-    (more : (O : List ℕ) (i : ℕ) (t : Rounds) → Rightly B n O (found i) → P (close (B i .has) O) t → P O (round i (B i) O t)) where
-  pub rounds : (f : ℕ) (O : List ℕ) → length O ≤ f → P O (run B n f O)
-  unfolding run reach
-  rounds zero [] l = end [] (λ i m. refl)
-  rounds zero (x ∷ O) l = absurd (omega arith)
-  rounds (suc f) O l = go (best B n O) (best-right B n O) (λ i h. rounds f (close (B i .has) O) (omega (arith, shrink (B i .has) O)))
-    where
-      go : (u : Found) → Rightly B n O u → ((i : ℕ) → 0 < reach (B i .has) O → P (close (B i .has) O) (run B n f (close (B i .has) O)))
-          → P O (growRun B O u (λ i. run B n f (close (B i .has) O)))
-      go nothing x ih = end O (λ i m. omega (arith, x i m))
-      go (found a) x ih = more O a _ x (ih a (x .good))
+    (more : (O : List ℕ) (i : ℕ) (t : Rounds) → Rightly B n O (found i) → P (close (B i .has) O) t → P O (round i (B i) O t))
+  where
+    pub rounds : (f : ℕ) (O : List ℕ) → length O ≤ f → P O (run B n f O)
+    unfolding run reach
+    rounds zero [] l = end [] (λ i m. refl)
+    rounds zero (x ∷ O) l = absurd (omega arith)
+    rounds (suc f) O l = go (best B n O) (best-right B n O) (λ i h. rounds f (close (B i .has) O) (omega (arith, shrink (B i .has) O)))
+      where
+        go : (u : Found) → Rightly B n O u → ((i : ℕ) → 0 < reach (B i .has) O
+            → P (close (B i .has) O) (run B n f (close (B i .has) O)))
+            → P O (growRun B O u (λ i. run B n f (close (B i .has) O)))
+        go nothing x ih = end O (λ i m. omega (arith, x i m))
+        go (found a) x ih = more O a _ x (ih a (x .good))
 
-pub once : (B : ℕ → Entry) (n k f : ℕ) (O : List ℕ) → length O ≤ f → reach (B k .has) O ≡ 0 → taken k (run B n f O) ≡ false
+pub once : (B : ℕ → Entry) (n k f : ℕ) (O : List ℕ) → length O ≤ f → reach (B k .has) O ≡ 0
+    → taken k (run B n f O) ≡ false
 unfolding taken
 once B n k = rounds B n (λ O t. reach (B k .has) O ≡ 0 → taken k t ≡ false) (λ O e z. refl)
     (λ O i t b ih z. rw (ne-eqb i k (λ j. omega (arith, z, rw j at (b .good))), ih (omega (arith, close-other (B i .has) (B k .has) O))))
@@ -116,7 +120,8 @@ module _ (n k : ℕ) (inside : k < n) (B : ℕ → Entry) where
   turn O nothing (found b) x y = absurd (x b (y .inside) (rw (withdrawn-other k B b (withdrawn-reach k B O b (y .good))) at (y .good)))
   turn O (found a) nothing x y = go (eqb a k) refl
     where
-      go : (q : Bool) → eqb a k ≡ q → ((found a ≡ found k) × (ltb 0 (r O k) ≡ true)) ⊎ ((found a ≡ nothing) × (ltb 0 (r O k) ≡ false))
+      go : (q : Bool) → eqb a k ≡ q → ((found a ≡ found k) × (ltb 0 (r O k) ≡ true))
+          ⊎ ((found a ≡ nothing) × (ltb 0 (r O k) ≡ false))
       go true e = inl (ap found (eqb-true a k e), lt-ltb _ _ (rw (eqb-true a k e) at (x .good)))
       go false e = absurd (y a (x .inside) (rw (withdrawn-other k B a (eqb-false a k e)) (x .good)))
   turn O (found a) (found b) x y = go (eqb a k) refl
@@ -130,7 +135,8 @@ module _ (n k : ℕ) (inside : k < n) (B : ℕ → Entry) where
       equal : withdrawn k B a ≡ B a → a ≡ b
       equal same-a = before-one p (r O) a b a-first (rw (same-a, same-b) at (y .least a (x .inside) (rw same-a (x .good))))
 
-      beaten : (a ≡ k → ⊥) → (c d : Bool) → ltb 0 (r O k) ≡ c → leb (p k * r O a + late k a) (p a * r O k) ≡ d → c && d ≡ false
+      beaten : (a ≡ k → ⊥) → (c d : Bool) → ltb 0 (r O k) ≡ c → leb (p k * r O a + late k a) (p a * r O k) ≡ d → c
+          && d ≡ false
       beaten ne true true e f = absurd (ne (before-one p (r O) a k (x .least k inside (ltb-true _ _ e)) (leb-true _ _ f)))
       beaten ne true false e f = refl
       beaten ne false d e f = refl
@@ -150,7 +156,8 @@ module _ (n k : ℕ) (inside : k < n) (B : ℕ → Entry) where
           inr (ap found m, rw (same-b, ← m) (beaten j _ _ refl refl))
 
   -- bid k is taken where the run withdrawn it leaves it a chance
-  pub follow : (f : ℕ) (O : List ℕ) → length O ≤ f → taken k (run B n f O) ≡ chance k (p k) (B k .has) (run (withdrawn k B) n f O)
+  pub follow : (f : ℕ) (O : List ℕ) → length O ≤ f
+      → taken k (run B n f O) ≡ chance k (p k) (B k .has) (run (withdrawn k B) n f O)
   unfolding run taken chance here
   follow zero [] l = refl
   follow zero (x ∷ O) l = absurd (omega arith)
@@ -164,7 +171,8 @@ module _ (n k : ℕ) (inside : k < n) (B : ℕ → Entry) where
       t : ℕ → Rounds
       t i = run (withdrawn k B) n f (close (withdrawn k B i .has) O)
 
-      go : (u v : Found) → Rightly (withdrawn k B) n O v → ((u ≡ found k) × (here O v ≡ true)) ⊎ ((u ≡ v) × (here O v ≡ false))
+      go : (u v : Found) → Rightly (withdrawn k B) n O v → ((u ≡ found k) × (here O v ≡ true))
+          ⊎ ((u ≡ v) × (here O v ≡ false))
           → ((i : ℕ) → 0 < r O i → taken k (s i) ≡ chance k (p k) (B k .has) (run (withdrawn k B) n f (close (B i .has) O)))
           → taken k (growRun B O u s) ≡ chance k (p k) (B k .has) (growRun (withdrawn k B) O v t)
       go u nothing y (inl e) ih = rw (e .0, e .1, eq-eqb k k refl)
@@ -187,7 +195,8 @@ module _ (n k : ℕ) (inside : k < n) (B : ℕ → Entry) where
       t : ℕ → Rounds
       t i = run (withdrawn k B) n f (close (withdrawn k B i .has) O)
 
-      go : (u v : Found) → Rightly (withdrawn k B) n O v → ((u ≡ found k) × (here O v ≡ true)) ⊎ ((u ≡ v) × (here O v ≡ false))
+      go : (u v : Found) → Rightly (withdrawn k B) n O v → ((u ≡ found k) × (here O v ≡ true))
+          ⊎ ((u ≡ v) × (here O v ≡ false))
           → taken k (growRun B O u s) ≡ false
           → ((i : ℕ) → taken k (s i) ≡ false → s i ≡ run (withdrawn k B) n f (close (B i .has) O))
           → growRun B O u s ≡ growRun (withdrawn k B) O v t

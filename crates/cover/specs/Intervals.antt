@@ -86,7 +86,8 @@ unfoldable pub begin : ℕ → ℕ → Found → Found
 begin o t r = cond (leb t o) (found 0) r
 
 -- bid `at k` and the least set before it, from the values at the positions below k
-unfoldable pub growSet : ℕ → (ℕ → ℕ) → (ℕ → ℕ) → (ℕ → ℕ) → (ℕ → Bool) → (ℕ → ℕ) → (ℕ → Found) → ℕ → Found
+unfoldable pub growSet : ℕ → (ℕ → ℕ) → (ℕ → ℕ) → (ℕ → ℕ) → (ℕ → Bool) → (ℕ → ℕ)
+    → (ℕ → Found) → ℕ → Found
 unfolding plus begin scan reaches
 growSet o a b cost may at v k = plus (at k) (begin o (a (at k)) (scan cost (reaches a b may at (a (at k))) v k))
 

@@ -18,7 +18,8 @@ IsFirst ok price n (found b) = Wins ok price n b
 
 module _ (ok : ℕ → Bool) (price : ℕ → ℕ) where
   -- a fact of each number below suc n: of those below n, and of n
-  last : {P : ℕ → Type 0} (n : ℕ) → ((s : ℕ) → s < n → ok s ≡ true → P s) → (ok n ≡ true → P n) → (s : ℕ) → s < suc n → ok s ≡ true → P s
+  last : {P : ℕ → Type 0} (n : ℕ) → ((s : ℕ) → s < n → ok s ≡ true → P s) → (ok n ≡ true → P n) → (s : ℕ)
+      → s < suc n → ok s ≡ true → P s
   last {P} n f h s l g = go (eq-or-lt-of-le (le-of-suc-le-suc l))
     where
       go : (s ≡ n) ⊎ (s < n) → P s
@@ -67,7 +68,8 @@ wins-one ok price n a b u v = le-antisymm (u .earliest b (v .inside) (v .good) (
     same : price a ≡ price b
     same = le-antisymm (u .least b (v .inside) (v .good)) (v .least a (u .inside) (u .good))
 
-pub wins-of : (ok : ℕ → Bool) (f g : ℕ → ℕ) (n b : ℕ) → ((s : ℕ) → ok s ≡ true → f s ≡ g s) → Wins ok f n b → Wins ok g n b
+pub wins-of : (ok : ℕ → Bool) (f g : ℕ → ℕ) (n b : ℕ) → ((s : ℕ) → ok s ≡ true → f s ≡ g s) → Wins ok f n b
+    → Wins ok g n b
 wins-of ok f g n b e w = record {
   inside = w .inside;
   good = w .good;

@@ -56,14 +56,16 @@ chain-lt a b c d e f l g h = go (ltb (a * f) (e * b)) refl
 
 module _ (p r : ℕ → ℕ) where
   -- a fact of each bid below suc n: of those below n, and of n
-  last : {P : ℕ → Type 0} (n : ℕ) → ((s : ℕ) → s < n → 0 < r s → P s) → (0 < r n → P n) → (s : ℕ) → s < suc n → 0 < r s → P s
+  last : {P : ℕ → Type 0} (n : ℕ) → ((s : ℕ) → s < n → 0 < r s → P s) → (0 < r n → P n) → (s : ℕ) → s < suc n
+      → 0 < r s → P s
   last {P} n f h s l g = go (eq-or-lt-of-le (le-of-suc-le-suc l))
     where
       go : (s ≡ n) ⊎ (s < n) → P s
       go (inl e) = rw e (h (rw e at g))
       go (inr k) = f s k g
 
-  step : (n : ℕ) (t u : Bool) (b : Found) → ltb 0 (r n) ≡ t → cheaper p r n b ≡ u → IsPick p r n b → IsPick p r (suc n) (choose t u b n)
+  step : (n : ℕ) (t u : Bool) (b : Found) → ltb 0 (r n) ≡ t → cheaper p r n b ≡ u → IsPick p r n b
+      → IsPick p r (suc n) (choose t u b n)
   unfolding choose cheaper
   step n false u nothing e d h = last n h (λ g. omega (arith, ltb-false 0 (r n) e))
   step n false u (found b) e d h = record {

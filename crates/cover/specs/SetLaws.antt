@@ -95,7 +95,8 @@ unfolding hit
 hit-of has zero s x j l b h = absurd (omega arith)
 hit-of has (suc n) s x j l b h = go (eq-or-lt-of-le (le-of-suc-le-suc l)) (hit-of has n s x j)
   where
-    go : (j ≡ n) ⊎ (j < n) → (j < n → bit s j ≡ true → has j x ≡ true → hit has n s x ≡ true) → bit s n && has n x || hit has n s x ≡ true
+    go : (j ≡ n) ⊎ (j < n) → (j < n → bit s j ≡ true → has j x ≡ true → hit has n s x ≡ true) → bit s n
+        && has n x || hit has n s x ≡ true
     go (inl e) f = rw (rw e at b, rw e at h)
     go (inr m) f = rw (f m b h) (or-true (bit s n && has n x))
 
@@ -114,7 +115,8 @@ hit-some has (suc n) s x e = go (bit s n) (has n x) refl refl e (hit-some has n 
     up : Member has n s x → Member has (suc n) s x
     up m = record { who = m .who; inside = omega (arith, m .inside); in-set = m .in-set; covers-it = m .covers-it }
 
-    go : (a b : Bool) → bit s n ≡ a → has n x ≡ b → a && b || hit has n s x ≡ true → (hit has n s x ≡ true → Member has n s x)
+    go : (a b : Bool) → bit s n ≡ a → has n x ≡ b → a && b || hit has n s x ≡ true
+        → (hit has n s x ≡ true → Member has n s x)
         → Member has (suc n) s x
     go true true f g e ih = record { who = n; inside = omega arith; in-set = f; covers-it = g }
     go true false f g e ih = up (ih e)

@@ -18,7 +18,8 @@ listed (suc n) f = f 0 ∷ listed n (λ i. f (suc i))
 unfoldable pub spans : List ℕ → List ℕ → ℕ → ℕ → Bool
 spans a b i x = leb (getD a i 0) x && ltb x (getD b i 0)
 
-pub record Settled (won : ℕ → Bool) (cents : ℕ → ℕ) (ps old-won old-cents new-won new-cents : List ℕ) (cost paid : ℕ) : Type 0 where
+pub record Settled (won : ℕ → Bool) (cents : ℕ → ℕ) (ps old-won old-cents new-won new-cents : List ℕ) (cost paid : ℕ) : Type
+    0 where
   pub flags : new-won ≡ listed (length ps) (λ i. when (won i) 1) ++ drop (length ps) old-won
   pub payments : new-cents ≡ listed (length ps) cents ++ drop (length ps) old-cents
   pub cost-is : cost ≡ sum (listed (length ps) (λ i. when (won i) (getD ps i 0)))

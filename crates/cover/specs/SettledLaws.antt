@@ -55,7 +55,8 @@ written-more f old new j v l e h = record {
     go i d true g = rw (eqb-true i j g) (getD-set-same new j v 0 (omega (arith, h .sized)) ∙ e)
     go i d false g = getD-set-other new j i v 0 (eqb-false i j g) ∙ h .values i (omega (arith, eqb-false i j g))
 
-pub listed-of : (n : ℕ) (f : ℕ → ℕ) (old new : List ℕ) → n ≤ length old → FilledTo f old new n → new ≡ listed n f ++ drop n old
+pub listed-of : (n : ℕ) (f : ℕ → ℕ) (old new : List ℕ) → n ≤ length old → FilledTo f old new n → new ≡ listed n f
+    ++ drop n old
 unfolding listed
 listed-of zero f old new l h = ext-getD 0 new old (h .sized) (λ i d. h .kept i (omega arith))
 listed-of (suc n) f [] new l h = absurd (omega arith)
@@ -77,7 +78,8 @@ listed-at zero f xs i l = absurd (omega arith)
 listed-at (suc n) f xs zero l = refl
 listed-at (suc n) f xs (suc i) l = listed-at n (λ i. f (suc i)) xs i (omega arith)
 
-pub as-listed : (xs : List ℕ) (n : ℕ) (f : ℕ → ℕ) → length xs ≡ n → ((i : ℕ) → i < n → getD xs i 0 ≡ f i) → xs ≡ listed n f
+pub as-listed : (xs : List ℕ) (n : ℕ) (f : ℕ → ℕ) → length xs ≡ n → ((i : ℕ) → i < n → getD xs i 0 ≡ f i)
+    → xs ≡ listed n f
 as-listed xs n f e h = ext-getD 0 xs (listed n f) (e ∙ sym (length-listed n f))
     (λ i l. h i (omega arith) ∙ sym (getD-listed n f i 0 (omega arith)))
 

@@ -47,7 +47,8 @@ module _ (has : ℕ → ℕ → Bool) (k x : ℕ) where
   another zero b = absurd (omega arith)
   another (suc n) b = go (has n x) (eqb n k) refl refl b (another n)
     where
-      go : (t u : Bool) → has n x ≡ t → eqb n k ≡ u → 2 ≤ when t 1 + bidders has n x → (2 ≤ bidders has n x → Another has n k x)
+      go : (t u : Bool) → has n x ≡ t → eqb n k ≡ u → 2 ≤ when t 1 + bidders has n x
+          → (2 ≤ bidders has n x → Another has n k x)
           → Another has (suc n) k x
       go true true e f b ih = up n (one-before n (omega (arith, eqb-true n k f)) (omega arith))
       go true false e f b ih = record { who = n; inside = omega arith; other = eqb-false n k f; covers-it = e }

@@ -126,7 +126,8 @@ module _ (ok : ℕ → Bool) (ps : List ℕ) (i : ℕ) (inside : i < length ps) 
       go false f = absurd (false≢true f)
 
 -- bid i may offer fewer cells: fewer sets with it are in the family ok′, and the same without it
-module _ (ok ok′ : ℕ → Bool) (ps : List ℕ) (i : ℕ) (fewer : (s : ℕ) → ok′ s ≡ true → ok s ≡ true) (same : without i ok′ ≡ without i ok)
+module _ (ok ok′ : ℕ → Bool) (ps : List ℕ) (i : ℕ) (fewer : (s : ℕ) → ok′ s ≡ true → ok s ≡ true)
+    (same : without i ok′ ≡ without i ok)
   where
     -- it never raises the threshold
     pub threshold-fewer : vcgThreshold ok′ ps i ≤ vcgThreshold ok ps i
@@ -149,7 +150,8 @@ module _ (ok ok′ : ℕ → Bool) (ps : List ℕ) (i : ℕ) (fewer : (s : ℕ) 
         more t e = let g = and-split (ok′ t) (bit t i) e in rw (fewer t (g .0), g .1)
 
         go : (f g : Found) → IsFirst with′ price n f → IsFirst with-i price n g
-            → margin (price (winners (without i ok) (set ps i 0))) price f ≤ margin (price (winners (without i ok) (set ps i 0))) price g
+            → margin (price (winners (without i ok) (set ps i 0))) price f
+            ≤ margin (price (winners (without i ok) (set ps i 0))) price g
         go nothing g x y = omega arith
         go (found v) nothing x y = absurd (y v (x .inside) (more v (x .good)))
         go (found v) (found u) x y = omega (arith, y .least v (x .inside) (more v (x .good)))

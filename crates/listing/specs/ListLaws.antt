@@ -80,7 +80,8 @@ module _ (T : Tender) (R : List Row) (W : List Window) (rules : Rules T R W) whe
 
   -- the award on what was read is made, or declined with 11 or 12: never with 9 or 10
   pub award-number : let o = awardOf (T .kind) T (length R) (flatRows R) (flatWindows W) (length R) in (outcomeNumber o ≡ 0)
-      ⊎ ((outcomeNumber o ≡ numberOf (MinuteUncovered (outcomePlace o))) ⊎ (outcomeNumber o ≡ numberOf (OneBidder (outcomePlace o))))
+      ⊎ ((outcomeNumber o ≡ numberOf (MinuteUncovered (outcomePlace o)))
+      ⊎ (outcomeNumber o ≡ numberOf (OneBidder (outcomePlace o))))
   unfolding outcomeNumber thinned
   award-number = rw (
     award-none (T .kind) T (length R) (flatRows R) (flatWindows W) (length R) sound-alone,
@@ -97,8 +98,10 @@ module _ (T : Tender) (R : List Row) (W : List Window) (rules : Rules T R W) whe
       o : Outcome
       o = settled (T .kind) has ps (cellsOf T) (T .window .start)
 
-      go : (x y : Found) → cellWith has (length ps) (cellsOf T) 0 ≡ x → cellWith has (length ps) (cellsOf T) 1 ≡ y → (outcomeNumber o ≡ 0)
-          ⊎ ((outcomeNumber o ≡ numberOf (MinuteUncovered (outcomePlace o))) ⊎ (outcomeNumber o ≡ numberOf (OneBidder (outcomePlace o))))
+      go : (x y : Found) → cellWith has (length ps) (cellsOf T) 0 ≡ x → cellWith has (length ps) (cellsOf T) 1 ≡ y
+          → (outcomeNumber o ≡ 0)
+          ⊎ ((outcomeNumber o ≡ numberOf (MinuteUncovered (outcomePlace o)))
+          ⊎ (outcomeNumber o ≡ numberOf (OneBidder (outcomePlace o))))
       go (found x) y e f = inr (inl (ap outcomeNumber (settled-is (T .kind) has ps (cellsOf T) (T .window .start) (found x) y e f)))
       go nothing (found x) e f = inr (inr (ap outcomeNumber
           (settled-is (T .kind) has ps (cellsOf T) (T .window .start) nothing (found x) e f)))
@@ -139,7 +142,8 @@ answer-lines T R v won cents (Awarded totals) = rw (win-lines R v won cents (len
 answer-lines T R v won cents (Refused r) = refl
 
 -- the award on what was read gives the list of the text
-pub award-list : (T : Tender) (R : List Row) (W : List Window) (v w : List ℕ) (lent : ℕ) (won cents won′ cents′ : List ℕ) (a : Answer)
+pub award-list : (T : Tender) (R : List Row) (W : List Window) (v w : List ℕ) (lent : ℕ) (won cents won′ cents′ : List ℕ)
+    (a : Answer)
     → Rules T R W → length R ≤ lent →
     PlainPromise (T .kind) T (length R) (flatRows R ++ v) (flatWindows W ++ w) lent won cents won′ cents′ a
     → answerLines T (flatRows R ++ v) won′ cents′ (length R) a ≡ listOf (accepted T R W)
@@ -180,6 +184,7 @@ listed-is {text} {old} {new} {r} h l = go (leb (length list) (length old)) (h .a
     go false a e = absurd (omega arith)
 
 -- two calls on the same text show the same list
-pub same-list : {text old new old′ new′ : List ℕ} {r r′ : ℕ} → Listed text old new r → Listed text old′ new′ r′ → 0 < r → 0 < r′
+pub same-list : {text old new old′ new′ : List ℕ} {r r′ : ℕ} → Listed text old new r → Listed text old′ new′ r′
+    → 0 < r → 0 < r′
     → take r new ≡ take r′ new′
 same-list h h′ l l′ = listed-is h l ∙ sym (listed-is h′ l′)

@@ -39,7 +39,8 @@ unfolding refusedWord bytes
 refusal-written {old} {new} {f} {a} {b} r p q w = rw (← p, ← q) w
 
 module _ {t : Tender} {n lent : ℕ} {bids windows ow oc won cents old new : List ℕ} {a : Answer} {f : ℕ} where
-  pub award-written : (totals : Totals) → a ≡ Awarded totals → n ≤ lent → PlainPromise (t .kind) t n bids windows lent ow oc won cents a →
+  pub award-written : (totals : Totals) → a ≡ Awarded totals → n ≤ lent
+      → PlainPromise (t .kind) t n bids windows lent ow oc won cents a →
       Written old 0 (awardLine t ++ winLines bids won cents n ++ pairLine totalWord (totals .cost) (totals .paid)) new f
       → Awarded·written t n bids windows old new f
   unfolding answerLines
@@ -55,7 +56,8 @@ module _ {t : Tender} {n lent : ℕ} {bids windows ow oc won cents old new : Lis
     written = rw e w;
   }
 
-  pub declined-written : (r : Refusal) → a ≡ Refused r → n ≤ lent → PlainPromise (t .kind) t n bids windows lent ow oc won cents a →
+  pub declined-written : (r : Refusal) → a ≡ Refused r → n ≤ lent
+      → PlainPromise (t .kind) t n bids windows lent ow oc won cents a →
       Written old 0 (pairLine refusedWord (numberOf r) (placeOf r)) new f → Awarded·written t n bids windows old new f
   unfolding answerLines
   declined-written r e l p w = record {
@@ -94,7 +96,8 @@ module _ (text ob ow : List ℕ) (room-b : length ob ≡ 4000) (room-w : length 
   accepted-read {nb} {nw} {r} t n m a b w e = go (readText text) refl (sym (ap toldReading e) ∙ a ∙ ap summary whole)
       (b ∙ ap (bidsAfter ob) whole) (w ∙ ap (windowsAfter ow) whole)
     where
-      go : (o : reading.ReadOutcome) → readText text ≡ o → filled t n m ≡ summary o → nb ≡ bidsAfter ob o → nw ≡ windowsAfter ow o
+      go : (o : reading.ReadOutcome) → readText text ≡ o → filled t n m ≡ summary o → nb ≡ bidsAfter ob o
+          → nw ≡ windowsAfter ow o
           → ReadIn text nb nw t n
       go (reading.refused k at) h x y z = let f : _≡_ {A = ℕ} 0 1 = cc in absurd (omega arith)
       go (accepted u R W) h x y z = record {

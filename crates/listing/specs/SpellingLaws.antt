@@ -42,7 +42,8 @@ drop-set [] i d l = absurd (omega arith)
 drop-set (x ∷ xs) zero d l = refl
 drop-set (x ∷ xs) (suc i) d l = drop-set xs i d (omega arith)
 
-goes : (n : ℕ) (digits : List ℕ) (v i : ℕ) → 9 < v → Spelling n digits v (suc i) → Spelling n (set digits i (48 + v % 10)) (v / 10) i
+goes : (n : ℕ) (digits : List ℕ) (v i : ℕ) → 9 < v → Spelling n digits v (suc i)
+    → Spelling n (set digits i (48 + v % 10)) (v / 10) i
 unfolding digitsBefore
 goes n digits v i l h = record {
   is = ap (digitsBefore i (v / 10)) (drop-set digits i (48 + v % 10) (omega (arith, h .within, h .room)))
@@ -55,7 +56,8 @@ goes n digits v i l h = record {
   room = length-set digits i (48 + v % 10) ∙ h .room;
 }
 
-ends : (n : ℕ) (digits : List ℕ) (v i : ℕ) → v ≤ 9 → Spelling n digits v (suc i) → drop i (set digits i (48 + v % 10)) ≡ decimal n
+ends : (n : ℕ) (digits : List ℕ) (v i : ℕ) → v ≤ 9 → Spelling n digits v (suc i)
+    → drop i (set digits i (48 + v % 10)) ≡ decimal n
 unfolding digitsBefore
 ends n digits v i l h = drop-set digits i (48 + v % 10) (omega (arith, h .within, h .room))
     ∙ sym (ap (λ t. cond t ((48 + v % 10) ∷ drop (suc i) digits) (digitsBefore i (v / 10) ((48 + v % 10) ∷ drop (suc i) digits)))
@@ -74,7 +76,8 @@ spell-ends n digits v i l h = let e : i ≡ suc (i - 1) = omega (arith, h .some-
     ends n digits v (i - 1) l (subst (λ k. Spelling n digits v k) e h)
 
 -- a space, then the digits that were spelt
-pub number-written : {old mid new part : List ℕ} {at e f : ℕ} (n : ℕ) → Written old at (32 ∷ []) mid e → Written mid e part new f
+pub number-written : {old mid new part : List ℕ} {at e f : ℕ} (n : ℕ) → Written old at (32 ∷ []) mid e
+    → Written mid e part new f
     → part ≡ decimal n → Written old at (32 ∷ decimal n) new f
 number-written {old} {mid} {new} {part} {at} {e} {f} n x y z = then x (subst (λ b. Written mid e b new f) z y)
 
@@ -86,7 +89,8 @@ pub numbers-written : {old m1 m2 new : List ℕ} {at e1 e2 f : ℕ} (a b : ℕ) 
 unfolding numbers closing bytes
 numbers-written {old} {m1} {m2} {new} {at} {e1} {e2} {f} a b x y z = then (then x y) z
 
-pub pair-written : {old m1 m2 new word : List ℕ} {at e1 e2 f : ℕ} (a b : ℕ) → Written old at (40 ∷ []) m1 e1 → Written m1 e1 word m2 e2
+pub pair-written : {old m1 m2 new word : List ℕ} {at e1 e2 f : ℕ} (a b : ℕ) → Written old at (40 ∷ []) m1 e1
+    → Written m1 e1 word m2 e2
     → Written m2 e2 (numbers a b) new f → Written old at (pairLine word a b) new f
 unfolding pairLine
 pair-written {old} {m1} {m2} {new} {word} {at} {e1} {e2} {f} a b x y z = then (then x y) z

@@ -22,7 +22,8 @@ module _ (old : List ℕ) (at : ℕ) (bids won cents : List ℕ) where
   wins-begin = record { written = nothing-written old at; few = omega arith }
 
   pub wins-go : {mid new : List ℕ} {e f : ℕ} (i : ℕ) → Winning old at bids won cents mid e i
-      → Written mid e (winLine (getD bids (4 * i) 0) (getD won i 0) (getD cents i 0)) new f → Winning old at bids won cents new f (i + 1)
+      → Written mid e (winLine (getD bids (4 * i) 0) (getD won i 0) (getD cents i 0)) new f
+      → Winning old at bids won cents new f (i + 1)
   unfolding winLines
   wins-go {mid} {new} {e} {f} i h w = record {
     written = rw (add-one i) (then (h .written) w);

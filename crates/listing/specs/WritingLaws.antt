@@ -19,9 +19,11 @@ one-byte old at b l = record {
 further : (old mid : List ℕ) (e f : ℕ) → e ≤ f → drop e mid ≡ drop e old → drop f mid ≡ drop f old
 further old mid e f l h =
     let g : f ≡ e + (f - e) = omega arith in
-    ap (λ k. drop k mid) g ∙ sym (drop-drop (f - e) e mid) ∙ ap (drop (f - e)) h ∙ drop-drop (f - e) e old ∙ ap (λ k. drop k old) (sym g)
+    ap (λ k. drop k mid) g ∙ sym (drop-drop (f - e) e mid) ∙ ap (drop (f - e)) h ∙ drop-drop (f - e) e old
+    ∙ ap (λ k. drop k old) (sym g)
 
-pub then : {old mid new b c : List ℕ} {at e f : ℕ} → Written old at b mid e → Written mid e c new f → Written old at (b ++ c) new f
+pub then : {old mid new b c : List ℕ} {at e f : ℕ} → Written old at b mid e → Written mid e c new f
+    → Written old at (b ++ c) new f
 then {old} {mid} {new} {b} {c} {at} {e} {f} x y = record {
   text = y .text ∙ ap (λ l. l ++ c) (x .text) ∙ append-assoc (take at old) b c;
   next = omega (arith, x .next, y .next, length-append b c);
@@ -39,7 +41,8 @@ module _ (old : List ℕ) (at : ℕ) (s : List ℕ) where
   pub copy-begins : at + length s ≤ length old → Copying old at s old 0
   copy-begins l = record { is = paste-zero old at s; fits = l; within = omega arith }
 
-  pub copy-goes : (new : List ℕ) (i : ℕ) → i < length s → Copying old at s new i → Copying old at s (set new (at + i) (getD s i 0)) (i + 1)
+  pub copy-goes : (new : List ℕ) (i : ℕ) → i < length s → Copying old at s new i
+      → Copying old at s (set new (at + i) (getD s i 0)) (i + 1)
   copy-goes new i l h = record {
     is = ap (λ l. set l (at + i) (getD s i 0)) (h .is) ∙ paste-suc old at s i 0 (omega (arith, h .fits)) l
         ∙ ap (λ k. paste old at s k) (sym (add-one i));

@@ -27,7 +27,8 @@ fn put_awarded(
     cents: &[u64],
     totals: Totals,
 ) -> usize
-    requires { ⌜ (4 * n ≤ length (now bids)) × ((n ≤ length (now won)) × ((n ≤ length (now cents)) × (48 * n + 107 ≤ length (now list))))
+    requires { ⌜ (4 * n ≤ length (now bids)) × ((n ≤ length (now won))
+        × ((n ≤ length (now cents)) × (48 * n + 107 ≤ length (now list))))
         ⌝ }
     ensures { λ r. ⌜ Written (now (list .entry)) 0 (awardLine tender
         ++ winLines (now (bids .entry)) (now (won .entry)) (now (cents .entry)) n ++ pairLine totalWord (totals .cost) (totals .paid))

@@ -129,7 +129,8 @@ pub(crate) fn put_wins(
     cents: &[u64],
     n: usize,
 ) -> usize
-    requires { ⌜ (4 * n ≤ length (now bids)) × ((n ≤ length (now won)) × ((n ≤ length (now cents)) × (at + 48 * n ≤ length (now buf)))) ⌝ }
+    requires { ⌜ (4 * n ≤ length (now bids)) × ((n ≤ length (now won))
+        × ((n ≤ length (now cents)) × (at + 48 * n ≤ length (now buf)))) ⌝ }
     ensures { λ r. ⌜ Written (now (buf .entry)) at (winLines (now (bids .entry)) (now (won .entry)) (now (cents .entry)) n)
         (now (buf .exit)) r ⌝ }
 {

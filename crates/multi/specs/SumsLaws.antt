@@ -36,7 +36,8 @@ sums-none ps won cents = record {
   paid-small = omega arith;
 }
 
-pub sums-more : {ps won cents : List ℕ} {cost paid k q : ℕ} → Summing ps won cents cost paid k → k < length ps → q ≡ asked ps won k
+pub sums-more : {ps won cents : List ℕ} {cost paid k q : ℕ} → Summing ps won cents cost paid k → k < length ps
+    → q ≡ asked ps won k
     → q ≤ 100000000 → at cents k ≤ 1011200000000
     → Summing ps won cents (cost + q) (paid + at cents k) (k + 1)
 sums-more {ps} {won} {cents} {cost} {paid} {k} {q} s l e m y = record {
@@ -47,11 +48,13 @@ sums-more {ps} {won} {cents} {cost} {paid} {k} {q} s l e m y = record {
   paid-small = omega (arith, s .paid-small);
 }
 
-pub sums-all : {ps won cents : List ℕ} {cost paid k : ℕ} → Summing ps won cents cost paid k → length ps ≤ k → Summed ps won cents cost paid
+pub sums-all : {ps won cents : List ℕ} {cost paid k : ℕ} → Summing ps won cents cost paid k → length ps ≤ k
+    → Summed ps won cents cost paid
 sums-all {ps} {won} {cents} {cost} {paid} {k} s l = let z : k ≡ length ps = omega (arith, s .inside) in
     record { cost-is = rw z at (s .cost-is ∙ sum-listed k (asked ps won)); paid-is = rw z at (s .paid-is ∙ sum-listed k (at cents)) }
 
-pub awarded : {ps ms : List ℕ} {w n : ℕ} {won cents : List ℕ} {cost paid : ℕ} → Paid ps ms w n won cents → Summed ps won cents cost paid
+pub awarded : {ps ms : List ℕ} {w n : ℕ} {won cents : List ℕ} {cost paid : ℕ} → Paid ps ms w n won cents
+    → Summed ps won cents cost paid
     → Awarded ps ms w n won cents cost paid
 awarded {ps} {ms} {w} {n} {won} {cents} p s = record {
   each = p;

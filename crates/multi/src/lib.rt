@@ -53,8 +53,10 @@ fn run(
     gains: &mut [u64],
 ) -> usize
     requires { ⌜ Market (now prices) (now masks) w ×
-        (Hopping (now prices) (now masks) (now hop) w × ((count ≤ 64 * w) × ((count ≤ length (now order)) × ((count ≤ length (now gains))
-        × ((length (now held) ≡ w) × ((length (now counts) ≡ w + 2) × ((length (now who) ≡ 2048) × (length (now num) ≡ 2048)))))))) ⌝ }
+        (Hopping (now prices) (now masks) (now hop) w ×
+        ((count ≤ 64 * w) × ((count ≤ length (now order)) × ((count ≤ length (now gains))
+        × ((length (now held) ≡ w) × ((length (now counts) ≡ w + 2)
+        × ((length (now who) ≡ 2048) × (length (now num) ≡ 2048)))))))) ⌝ }
     ensures { λ r. ⌜ Trace (now (prices .entry)) (now (masks .entry)) w count (now (order .exit)) (now (gains .exit)) r
         × Tournament (now (prices .entry)) (now (who .exit)) (now (num .exit)) ⌝ }
 {
@@ -97,9 +99,11 @@ fn settle(
     won: &mut [u64],
     cents: &mut [u64],
 ) -> tender::Totals
-    requires { ⌜ Market (now prices) (now masks) w × ((count ≤ 64 * w) × ((each (has (now masks) w) (length (now prices)) count 2 ≡ true)
+    requires { ⌜ Market (now prices) (now masks) w ×
+        ((count ≤ 64 * w) × ((each (has (now masks) w) (length (now prices)) count 2 ≡ true)
         × ((count ≤ length (now order)) × ((count ≤ length (now gains))
-        × ((length (now hop) ≡ length (now masks)) × ((length (now index) ≡ 16 * w) × ((length (now held) ≡ w) × ((length (now alt) ≡ w)
+        × ((length (now hop) ≡ length (now masks)) × ((length (now index) ≡ 16 * w)
+        × ((length (now held) ≡ w) × ((length (now alt) ≡ w)
         × ((length (now counts) ≡ w + 2) × ((length (now who) ≡ 2048)
         × ((length (now num) ≡ 2048) × ((length (now mark) ≡ 16)
         × ((length (now won) ≡ length (now prices)) × (length (now cents) ≡ length (now prices))))))))))))))) ⌝ }
@@ -165,7 +169,8 @@ fn award_in(
     won: &mut [u64],
     cents: &mut [u64],
 ) -> tender::Totals
-    requires { ⌜ Market (now prices) (now masks) w × ((count ≤ 64 * w) × ((each (has (now masks) w) (length (now prices)) count 2 ≡ true)
+    requires { ⌜ Market (now prices) (now masks) w ×
+        ((count ≤ 64 * w) × ((each (has (now masks) w) (length (now prices)) count 2 ≡ true)
         × ((count ≤ length (now order)) × ((count ≤ length (now gains))
         × ((158000 ≤ length (now hop)) × ((2528 ≤ length (now index)) × ((158 ≤ length (now held)) × ((158 ≤ length (now alt))
         × ((160 ≤ length (now counts)) × ((length (now who) ≡ 2048)

@@ -89,7 +89,8 @@ fn enlist_row(masks: &[u64], hop: &[u8], w: usize, i: usize, index: &mut [u64])
 
 // For each word, the bids that have a cell there.
 pub fn enlist(prices: &[u64], masks: &[u64], hop: &[u8], w: usize, index: &mut [u64])
-    requires { ⌜ Market (now prices) (now masks) w × (Hopping (now prices) (now masks) (now hop) w × (length (now index) ≡ 16 * w)) ⌝ }
+    requires { ⌜ Market (now prices) (now masks) w × (Hopping (now prices) (now masks) (now hop) w × (length (now index) ≡ 16 * w))
+        ⌝ }
     ensures { λ _. ⌜ Indexed (now (prices .entry)) (now (masks .entry)) (now (index .exit)) w ⌝ }
 {
     let mut i = 0;

@@ -44,7 +44,8 @@ pub record Course (ps ms hop index : List ℕ) (w n : ℕ) (order gains : List �
   pub own : k ≡ at order h
 
 -- the run without k has come as far as the main run before round g; k has `mine` open cells, and `top` is the maximum so far
-pub record Following (ps ms : List ℕ) (w n : ℕ) (order gains : List ℕ) (rounds h k : ℕ) (alt stale mark : List ℕ) (top mine g : ℕ) : Type
+pub record Following (ps ms : List ℕ) (w n : ℕ) (order gains : List ℕ) (rounds h k : ℕ) (alt stale mark : List ℕ)
+    (top mine g : ℕ) : Type
     0 where
   pub strayed : Strayed ps ms w k alt stale mark (before ms w n order g)
   pub reached : g ≤ rounds

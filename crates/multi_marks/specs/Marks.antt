@@ -17,7 +17,8 @@ pub record Indexed (ps ms index : List ℕ) (w : ℕ) : Type 0 where
 -- the bids that have a cell of m in word q are marked, with the open cells that each has
 pub record Spread (ps ms : List ℕ) (w : ℕ) (alt : List ℕ) (q m : ℕ) (stale mark stale′ mark′ : List ℕ) : Type 0 where
   pub kept : (i : ℕ) → i < length ps → 0 < cell mark i → (cell mark′ i ≡ cell mark i) × (at stale′ i ≡ at stale i)
-  pub still : (i : ℕ) → i < length ps → cell mark′ i ≡ 0 → (at stale′ i ≡ at stale i) × (bitAnd (at (wordRow ms w i) q) m ≡ 0)
+  pub still : (i : ℕ) → i < length ps → cell mark′ i ≡ 0 → (at stale′ i ≡ at stale i)
+      × (bitAnd (at (wordRow ms w i) q) m ≡ 0)
   pub moved : (i : ℕ) → i < length ps → cell mark i ≡ 0 → 0 < cell mark′ i → at stale′ i ≡ common alt (wordRow ms w i)
 
 -- the bids that share an open cell with bid j are marked

@@ -25,7 +25,8 @@ fn spread(
 )
     requires { ⌜ Market (now prices) (now masks) w ×
         (Hopping (now prices) (now masks) (now hop) w × (Indexed (now prices) (now masks) (now index) w × ((length (now alt) ≡ w)
-        × (Counted (now alt) (now counts) × ((q < w) × (Tournament (now prices) (now who) (now num) × (length (now mark) ≡ 16))))))) ⌝ }
+        × (Counted (now alt) (now counts) × ((q < w) × (Tournament (now prices) (now who) (now num) × (length (now mark) ≡ 16)))))))
+        ⌝ }
     ensures { λ _. ⌜ Tournament (now (prices .entry)) (now (who .exit)) (now (num .exit))
         × (Spread (now (prices .entry)) (now (masks .entry)) w (now (alt .entry)) q m (known (now (num .entry))) (now (mark .entry))
         (known (now (num .exit))) (now (mark .exit))

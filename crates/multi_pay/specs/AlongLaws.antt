@@ -78,12 +78,14 @@ module _ {ps ms : List ℕ} {w n : ℕ} {order gains : List ℕ} {rounds h : ℕ
     as-won = simp length-set (s .as-won);
     as-cents = simp length-set (s .as-cents);
     flags = stored won 1 (λ k. 1) (s .as-won) refl (s .flags);
-    payments = stored cents p (λ k. limit (has ms w) ps (cells n) k - 1) (s .as-cents) (d ∙ ap (λ (v : ℕ). v - 1) (paid r)) (s .payments);
+    payments = stored cents p (λ k. limit (has ms w) ps (cells n) k - 1) (s .as-cents) (d ∙ ap (λ (v : ℕ). v - 1) (paid r))
+        (s .payments);
     small = set-at (λ k x. x ≤ 1011200000000) cents (at order h) p (omega (arith, s .as-cents, inside)) (omega (arith, r .small))
         (s .small);
   }
 
-pub ends : {ps ms : List ℕ} {w n : ℕ} {order gains : List ℕ} {rounds h : ℕ} → Trace ps ms w n order gains rounds → n ≤ 64 * w → h ≡ rounds
+pub ends : {ps ms : List ℕ} {w n : ℕ} {order gains : List ℕ} {rounds h : ℕ} → Trace ps ms w n order gains rounds
+    → n ≤ 64 * w → h ≡ rounds
     → {held won cents : List ℕ} → Paying ps ms w n order h held won cents
     → Paid ps ms w n won cents
 unfolding roundsPaid
@@ -93,6 +95,7 @@ ends {ps} {ms} {w} {n} tr q e {held} {won} {cents} s = record {
   small = s .small;
 }
 
-pub course : {ps ms hop index : List ℕ} {w n : ℕ} {order gains : List ℕ} {rounds h : ℕ} → Ground ps ms hop index w n order gains rounds
+pub course : {ps ms hop index : List ℕ} {w n : ℕ} {order gains : List ℕ} {rounds h : ℕ}
+    → Ground ps ms hop index w n order gains rounds
     → h < rounds → Course ps ms hop index w n order gains rounds h (at order h)
 course g l = record { market = g .market; hopping = g .hopping; indexed = g .indexed; main = g .main; here = l; own = refl }

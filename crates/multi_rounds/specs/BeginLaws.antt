@@ -34,7 +34,8 @@ pub record Entering (ps ms : List ℕ) (w : ℕ) (held who num : List ℕ) (i : 
 pub enters-none : {ps ms : List ℕ} {w : ℕ} {held who num : List ℕ} → Tournament ps who num → Entering ps ms w held who num 0
 enters-none t = record { tree = t; inside = omega arith; done = λ j l. absurd (omega arith) }
 
-pub enters-more : {ps ms : List ℕ} {w : ℕ} {held who num who′ num′ : List ℕ} {i r : ℕ} → Market ps ms w → Entering ps ms w held who num i
+pub enters-more : {ps ms : List ℕ} {w : ℕ} {held who num who′ num′ : List ℕ} {i r : ℕ} → Market ps ms w
+    → Entering ps ms w held who num i
     → i < length ps → Tournament ps who′ num′ → known num′ ≡ set (known num) i r
     → r ≡ common held (wordRow ms w i) → Entering ps ms w held who′ num′ (i + 1)
 enters-more {ps} {ms} {w} {held} {who} {num} {who′} {num′} {i} {r} m s l t q e =

@@ -17,7 +17,8 @@ use Rattle.multi_rounds.specs.Market.{wordRow, has, placeOr, live, Sized
 use Rattle.multi_tournament.specs.Tournament.{at}
 
 -- the choice turns on what the bids reach, and on the prices of those that reach a cell
-pub right-ext : (p q r s : ℕ → ℕ) (n : ℕ) → ((i : ℕ) → i < n → r i ≡ s i) → ((i : ℕ) → i < n → 0 < s i → p i ≡ q i) → (u : Found)
+pub right-ext : (p q r s : ℕ → ℕ) (n : ℕ) → ((i : ℕ) → i < n → r i ≡ s i)
+    → ((i : ℕ) → i < n → 0 < s i → p i ≡ q i) → (u : Found)
     → IsPick p r n u → IsPick q s n u
 right-ext p q r s n f g nothing x = λ i l k. x i l (omega (arith, f i l))
 right-ext p q r s n f g (found b) x = let e = f b (x .inside) in let k : 0 < s b = omega (arith, x .good) in record {
@@ -101,7 +102,8 @@ module _ {B : ℕ → Entry} {ps ms : List ℕ} {w : ℕ} {held old : List ℕ} 
     unfolding bids
     shuts l {rest} e k = rw (real-bid l) (close-open held rest ms w b e k)
 
-    pub tied : b < length ps → {rest : List ℕ} → length rest ≡ length held → Closed held (wordRow ms w b) rest → Tied B ps ms w rest new
+    pub tied : b < length ps → {rest : List ℕ} → length rest ≡ length held → Closed held (wordRow ms w b) rest
+        → Tied B ps ms w rest new
     tied l {rest} e k = record {
       sized = record { few = λ i. omega (arith, u .high i, t .sized .few i) };
       words = e ∙ t .words;

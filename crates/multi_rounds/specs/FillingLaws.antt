@@ -23,7 +23,8 @@ module _ {f : ℕ → ℕ} where
   pub none : (old : List ℕ) → Filling f old old 0
   none old = record { inside = omega arith; same = refl; done = λ j l. omega arith }
 
-  pub more : {old new : List ℕ} {i : ℕ} (v : ℕ) → v ≡ f i → i < length old → Filling f old new i → Filling f old (set new i v) (i + 1)
+  pub more : {old new : List ℕ} {i : ℕ} (v : ℕ) → v ≡ f i → i < length old → Filling f old new i
+      → Filling f old (set new i v) (i + 1)
   more {old} {new} {i} v e l h = record { inside = omega arith; same = simp length-set (h .same); done = λ j q. go j q (eqb j i) refl }
     where
       go : (j : ℕ) → j < i + 1 → (t : Bool) → eqb j i ≡ t → at (set new i v) j ≡ f j
@@ -40,7 +41,8 @@ cleared {old} {new} {i} l h = record { none = λ j. go j (ltb j i) refl }
     go j true e = h .done j (ltb-true j i e)
     go j false e = past new j (omega (arith, ltb-false j i e))
 
-pub copied : {old new : List ℕ} (xs : List ℕ) {i : ℕ} → length new ≤ i → length xs ≡ length old → Filling (at xs) old new i → new ≡ xs
+pub copied : {old new : List ℕ} (xs : List ℕ) {i : ℕ} → length new ≤ i → length xs ≡ length old
+    → Filling (at xs) old new i → new ≡ xs
 copied {old} {new} xs {i} l e h = ext-getD 0 new xs (h .same ∙ sym e) (λ j q. h .done j (omega arith))
 
 pub no-cell : (xs : List ℕ) → Cleared xs → (x : ℕ) → cell xs x ≡ 0

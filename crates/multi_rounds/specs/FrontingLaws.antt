@@ -62,7 +62,8 @@ module _ {ps ms : List ℕ} {w : ℕ} {held old who num : List ℕ} (m : Market 
       pub no-more : r ≤ at num 1
       no-more = omega (arith, known-first, f .knows .most (at who 1) first-in (omega (arith, known-first)))
 
-      pub counted : (r ≡ at num 1 → ⊥) → {who′ num′ : List ℕ} → Tournament ps who′ num′ → known num′ ≡ set (known num) (at who 1) r
+      pub counted : (r ≡ at num 1 → ⊥) → {who′ num′ : List ℕ} → Tournament ps who′ num′
+          → known num′ ≡ set (known num) (at who 1) r
           → Fronting ps ms w held old who′ num′
       unfolding live
       counted n {who′} {num′} t q = record {
@@ -84,7 +85,8 @@ module _ {ps ms : List ℕ} {w : ℕ} {held old who num : List ℕ} (m : Market 
           within : at who 1 < length (known num)
           within = omega (arith, length-known num (f .tree .seats .numbers), first-in, m .priced .count)
 
-      pub fewer : (r ≡ at num 1 → ⊥) → (num′ : List ℕ) → known num′ ≡ set (known num) (at who 1) r → sum (known num′) < sum (known num)
+      pub fewer : (r ≡ at num 1 → ⊥) → (num′ : List ℕ) → known num′ ≡ set (known num) (at who 1) r
+          → sum (known num′) < sum (known num)
       fewer n num′ q = rw q (sum-falls (known num) (at who 1) r (omega (arith, no-more, known-first)))
 
     fronted : (rival ask gain : ℕ) (free clear : Bool) → (clear ≡ false → at num 1 ≡ common held (wordRow ms w (at who 1)))
@@ -102,7 +104,8 @@ module _ {ps ms : List ℕ} {w : ℕ} {held old who num : List ℕ} (m : Market 
       clear-of = b;
     }
 
-    pub is-clear : {rival ask gain : ℕ} {free : Bool} → (free ≡ true) × (ask * at num 1 + late rival (at who 1) ≤ at ps (at who 1) * gain)
+    pub is-clear : {rival ask gain : ℕ} {free : Bool} → (free ≡ true)
+        × (ask * at num 1 + late rival (at who 1) ≤ at ps (at who 1) * gain)
         → Fronted ps ms w held old (known num) rival ask gain free (at who 1) (at ps (at who 1)) (at num 1) true
     is-clear {rival} {ask} {gain} {free} b = fronted rival ask gain free true (λ e. absurd (true≢false e)) (λ e. b)
 

@@ -73,7 +73,8 @@ pub record Entered (ps ms : List ℕ) (w : ℕ) (held new : List ℕ) : Type 0 w
 -- bid b, which asks p, comes before all others by the s cells known of it, after some of the bids were counted anew; the cells
 -- known are those that it has, or else the rival, which asks `ask` for `gain` cells, comes before it and so before all. Where no
 -- bid has cells left it is 1 for 0 cells.
-pub record Fronted (ps ms : List ℕ) (w : ℕ) (held old new : List ℕ) (rival ask gain : ℕ) (free : Bool) (b p s : ℕ) (clear : Bool) : Type 0
+pub record Fronted (ps ms : List ℕ) (w : ℕ) (held old new : List ℕ) (rival ask gain : ℕ) (free : Bool) (b p s : ℕ)
+    (clear : Bool) : Type 0
   where
     pub high : (i : ℕ) → at new i ≤ at old i
     pub low : (i : ℕ) → i < length ps → live ms w held old i ≤ at new i

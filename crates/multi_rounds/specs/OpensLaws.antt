@@ -20,13 +20,15 @@ unfolding cell
 two-way ws x = two _ (omega arith)
 
 module _ (h : ℕ → Bool) (x u v : ℕ) (e : h x ≡ eqb v 1) where
-  reach-step : (xs : List ℕ) (t : ℕ) → reach h xs ≡ t → (u ≡ 0) ⊎ (u ≡ 1) → (v ≡ 0) ⊎ (v ≡ 1) → reach h (keep (eqb u 0) x xs) ≡ t + min u v
+  reach-step : (xs : List ℕ) (t : ℕ) → reach h xs ≡ t → (u ≡ 0) ⊎ (u ≡ 1) → (v ≡ 0) ⊎ (v ≡ 1)
+      → reach h (keep (eqb u 0) x xs) ≡ t + min u v
   unfolding keep reach
   reach-step xs t d (inl a) q = rw a (omega arith)
   reach-step xs t d (inr a) (inl b) = rw (a, e, b) (omega arith)
   reach-step xs t d (inr a) (inr b) = rw (a, e, b) (omega arith)
 
-  pub close-step : (y : ℕ) (xs ys : List ℕ) → y ≡ u - v → close h xs ≡ ys → (u ≡ 0) ⊎ (u ≡ 1) → (v ≡ 0) ⊎ (v ≡ 1)
+  pub close-step : (y : ℕ) (xs ys : List ℕ) → y ≡ u - v → close h xs ≡ ys → (u ≡ 0) ⊎ (u ≡ 1) → (v ≡ 0)
+      ⊎ (v ≡ 1)
       → close h (keep (eqb u 0) x xs) ≡ keep (eqb y 0) x ys
   unfolding keep close
   close-step y xs ys c d (inl a) q = let z : y ≡ 0 = omega arith in rw (a, z) d
@@ -39,7 +41,8 @@ reach-opens a m zero = refl
 reach-opens a m (suc n) = reach-step (λ x. eqb (cell m x) 1) n (cell a n) (cell m n) refl (opens (cell a) n) _ (reach-opens a m n)
     (two-way a n) (two-way m n)
 
-pub close-opens : (a m b : List ℕ) → Closed a m b → (n : ℕ) → close (λ x. eqb (cell m x) 1) (opens (cell a) n) ≡ opens (cell b) n
+pub close-opens : (a m b : List ℕ) → Closed a m b → (n : ℕ)
+    → close (λ x. eqb (cell m x) 1) (opens (cell a) n) ≡ opens (cell b) n
 unfolding opens close
 close-opens a m b c zero = refl
 close-opens a m b c (suc n) =
@@ -51,12 +54,14 @@ unfolding opens cells
 opens-ones f zero h = refl
 opens-ones f (suc n) h = rw (h n (omega arith), opens-ones f n (λ x l. h x (omega arith)))
 
-pub opens-first : (f : ℕ → ℕ) (k n : ℕ) → k ≤ n → ((x : ℕ) → x < k → f x ≡ 1) → ((x : ℕ) → k ≤ x → f x ≡ 0) → opens f n ≡ cells k
+pub opens-first : (f : ℕ → ℕ) (k n : ℕ) → k ≤ n → ((x : ℕ) → x < k → f x ≡ 1)
+    → ((x : ℕ) → k ≤ x → f x ≡ 0) → opens f n ≡ cells k
 unfolding opens cells
 opens-first f k zero l h g = let e : k ≡ 0 = omega arith in rw e
 opens-first f k (suc n) l h g = go (eq-or-lt-of-le l) (opens-first f k n)
   where
-    go : (k ≡ suc n) ⊎ (k < suc n) → (k ≤ n → ((x : ℕ) → x < k → f x ≡ 1) → ((x : ℕ) → k ≤ x → f x ≡ 0) → opens f n ≡ cells k)
+    go : (k ≡ suc n) ⊎ (k < suc n) → (k ≤ n → ((x : ℕ) → x < k → f x ≡ 1) → ((x : ℕ) → k ≤ x → f x ≡ 0)
+        → opens f n ≡ cells k)
         → opens f (suc n) ≡ cells k
     go (inl e) ih = rw e (opens-ones f (suc n) (λ x q. h x (omega arith)))
     go (inr q) ih = rw (g n (omega arith)) (ih (omega arith) h g)
@@ -81,7 +86,8 @@ opens-same f g zero h = refl
 opens-same f g (suc n) h = rw (h n, opens-same f g n h)
 
 -- the cells of h alike in both
-pub reach-alike : (h : ℕ → Bool) (f g : ℕ → ℕ) (n : ℕ) → ((x : ℕ) → h x ≡ true → f x ≡ g x) → reach h (opens f n) ≡ reach h (opens g n)
+pub reach-alike : (h : ℕ → Bool) (f g : ℕ → ℕ) (n : ℕ) → ((x : ℕ) → h x ≡ true → f x ≡ g x)
+    → reach h (opens f n) ≡ reach h (opens g n)
 unfolding opens reach
 reach-alike h f g zero e = refl
 reach-alike h f g (suc n) e = go (h n) refl (reach-alike h f g n e)

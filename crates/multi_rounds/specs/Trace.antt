@@ -37,6 +37,7 @@ pub record Route (ps order gains : List ℕ) (rounds : ℕ) : Type 0 where
 -- each round takes the theory's best bid of the cells then open, and after the last no bid reaches an open cell
 pub record Trace (ps ms : List ℕ) (w n : ℕ) (order gains : List ℕ) (rounds : ℕ) : Type 0 where
   pub route : Route ps order gains rounds
-  pub takes : (g : ℕ) → g < rounds → best (bids (has ms w) ps) (length ps) (opens (before ms w n order g) (64 * w)) ≡ found (at order g)
+  pub takes : (g : ℕ) → g < rounds → best (bids (has ms w) ps) (length ps) (opens (before ms w n order g) (64 * w))
+      ≡ found (at order g)
   pub gets : (g : ℕ) → g < rounds → at gains g ≡ reach (has ms w (at order g)) (opens (before ms w n order g) (64 * w))
   pub over : (i : ℕ) → i < length ps → reach (has ms w i) (opens (before ms w n order rounds) (64 * w)) ≡ 0

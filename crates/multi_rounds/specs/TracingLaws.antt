@@ -51,7 +51,8 @@ pub record Tracing (ps ms : List ℕ) (w n : ℕ) (held stale order got : List �
   pub standing : (x : ℕ) → cell held x ≡ before ms w n order r x
   past : (g : ℕ) → g < r → Past ps ms w n order got g
 
-pub trace-starts : {ps ms : List ℕ} {w n : ℕ} {held stale order got : List ℕ} → length held ≡ w → n ≤ 64 * w → First n held → Sized stale
+pub trace-starts : {ps ms : List ℕ} {w n : ℕ} {held stale order got : List ℕ} → length held ≡ w → n ≤ 64 * w
+    → First n held → Sized stale
     → Entered ps ms w held stale → n ≤ length order → n ≤ length got → Tracing ps ms w n held stale order got n 0
 unfolding bids before
 trace-starts {ps} {ms} {w} {n} {held} {stale} e l f z g lo lg = let o = open-first f (omega arith) in record {
@@ -68,7 +69,8 @@ trace-starts {ps} {ms} {w} {n} {held} {stale} e l f z g lo lg = let o = open-fir
     go x true d = f .inside x (ltb-true x n d)
     go x false d = f .above x (ltb-false x n d)
 
-module _ {ps ms : List ℕ} {w n : ℕ} {held stale order got : List ℕ} {left r : ℕ} (s : Tracing ps ms w n held stale order got left r) where
+module _ {ps ms : List ℕ} {w n : ℕ} {held stale order got : List ℕ} {left r : ℕ}
+    (s : Tracing ps ms w n held stale order got left r) where
   opened : og ms w n order r ≡ openOf held
   unfolding openOf
   opened = rw (s .links .words) (opens-same (before ms w n order r) (cell held) (64 * w) (λ x. sym (s .standing x)))
@@ -93,7 +95,11 @@ module _ {ps ms : List ℕ} {w n : ℕ} {held stale order got : List ℕ} {left 
   module _ {new : List ℕ} {b c : ℕ} (u : Turn ps ms w held stale new b c) where
     pub ends-none : n ≤ 10112 → length ps ≤ b → Trace ps ms w n order got r
     unfolding bids
-    ends-none m l = ends m (λ i q. omega (arith, rw (stops (s .links) u l) at (best-right (allWritten ps ms w) (length ps) (openOf held)) i q))
+    ends-none m l = ends m (λ i q. omega (
+      arith,
+      rw (stops (s .links) u l) at (best-right (allWritten ps ms w) (length ps) (openOf held))
+          i q,
+    ))
 
     module _ (l : b < length ps) where
       pub fits : c ≤ left
@@ -140,7 +146,8 @@ module _ {ps ms : List ℕ} {w n : ℕ} {held stale order got : List ℕ} {left 
             few = rw (getD-set-other got r g c 0 f) (a .few);
           }
 
-pub main-best : {ps ms : List ℕ} {w n : ℕ} {order gains : List ℕ} {rounds : ℕ} → Trace ps ms w n order gains rounds → (g : ℕ) → g < rounds
+pub main-best : {ps ms : List ℕ} {w n : ℕ} {order gains : List ℕ} {rounds : ℕ} → Trace ps ms w n order gains rounds
+    → (g : ℕ) → g < rounds
     → Best (at ps) (λ i. reach (has ms w i) (opens (before ms w n order g) (64 * w))) (length ps) (at order g)
 unfolding bids
 main-best {ps} {ms} {w} {n} {order} tr g l = rw (tr .takes g l)

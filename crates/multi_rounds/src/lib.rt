@@ -21,7 +21,8 @@ pub fn overlap(
     w: usize,
     i: usize,
 ) -> u64
-    requires { ⌜ (length (now held) ≡ w) × ((w ≤ 158) × ((w * i + w ≤ length (now masks)) × ((length (now hop) ≡ length (now masks))
+    requires { ⌜ (length (now held) ≡ w) × ((w ≤ 158)
+        × ((w * i + w ≤ length (now masks)) × ((length (now hop) ≡ length (now masks))
         × (Counted (now held) (now counts) × Hops (wordRow (now masks) w i) (wordRow (now hop) w i))))) ⌝ }
     ensures { λ r. ⌜ (r ≡ common (now (held .entry)) (wordRow (now (masks .entry)) w i))
         × Counted (now (held .entry)) (now (counts .exit)) ⌝ }
@@ -33,7 +34,8 @@ pub fn overlap(
 
 // Closes the cells of bid i.
 pub fn shut(held: &mut [u64], counts: &mut [u64], masks: &[u64], hop: &[u8], w: usize, i: usize)
-    requires { ⌜ (length (now held) ≡ w) × ((w ≤ 158) × ((w * i + w ≤ length (now masks)) × ((length (now hop) ≡ length (now masks))
+    requires { ⌜ (length (now held) ≡ w) × ((w ≤ 158)
+        × ((w * i + w ≤ length (now masks)) × ((length (now hop) ≡ length (now masks))
         × (Counted (now held) (now counts) × Hops (wordRow (now masks) w i) (wordRow (now hop) w i))))) ⌝ }
     ensures { λ _. ⌜ Closed (now (held .entry)) (wordRow (now (masks .entry)) w i) (now (held .exit))
         × Counted (now (held .exit)) (now (counts .exit)) ⌝ }

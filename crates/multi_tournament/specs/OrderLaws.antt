@@ -29,7 +29,8 @@ chain-le-lt a b c d e f l g h = go (ltb (a * f) (e * b)) refl
     go false q = absurd (omega (arith, chain e f a b c d l (ltb-false (a * f) (e * b) q) g))
 
 -- the bid i at a/b comes before j at c/d, and that before k at e/f
-pub goes-ahead : (i j k a b c d e f : ℕ) → 0 < b → 0 < d → 0 < f → a * d + late i j ≤ c * b → c * f + late j k ≤ e * d → a * f + late i k ≤ e * b
+pub goes-ahead : (i j k a b c d e f : ℕ) → 0 < b → 0 < d → 0 < f → a * d + late i j ≤ c * b → c * f + late j k ≤ e * d
+    → a * f + late i k ≤ e * b
 goes-ahead i j k a b c d e f lb ld lf g h = go (ltb k i) (ltb j i) refl refl
   where
     go : (s t : Bool) → ltb k i ≡ s → ltb j i ≡ t → a * f + late i k ≤ e * b

@@ -80,7 +80,8 @@ module _ {ps who num : List ℕ} (t : Tournament ps who num) where
 
 -- what a node says turns on three entries of each list
 node-same : {ps who num who′ num′ : List ℕ} (u : ℕ)
-    → ((x : ℕ) → (x ≡ u) ⊎ ((x ≡ 2 * u) ⊎ (x ≡ 2 * u + 1)) → (at who′ x ≡ at who x) × (at num′ x ≡ at num x)) → Node ps who num u
+    → ((x : ℕ) → (x ≡ u) ⊎ ((x ≡ 2 * u) ⊎ (x ≡ 2 * u + 1)) → (at who′ x ≡ at who x) × (at num′ x ≡ at num x))
+    → Node ps who num u
     → Node ps who′ num′ u
 node-same {ps} {who} {num} {who′} {num′} u h n =
     let a = h u (inl refl) in
@@ -98,7 +99,8 @@ pub record Except (ps who num : List ℕ) (v : ℕ) : Type 0 where
   node : (u : ℕ) → 0 < u → u < 1024 → (u ≡ v → ⊥) → Node ps who num u
 
 -- a fact of the list after one store
-pub set-at : (P : ℕ → ℕ → Type 0) (xs : List ℕ) (i v : ℕ) → i < length xs → P i v → ((j : ℕ) → P j (at xs j)) → (j : ℕ)
+pub set-at : (P : ℕ → ℕ → Type 0) (xs : List ℕ) (i v : ℕ) → i < length xs → P i v → ((j : ℕ) → P j (at xs j))
+    → (j : ℕ)
     → P j (at (set xs i v) j)
 set-at P xs i v l h f j = go (eqb j i) refl
   where
@@ -200,7 +202,8 @@ module _ {ps who num : List ℕ} where
         go u a b false d = rw (p .put .still e .0, p .put .still e .1) (t .node u a b (eqb-false u v d))
 
   -- without numbers any bids in their places are a tournament
-  pub emptied : {num′ : List ℕ} → Tournament ps who num → length num′ ≡ 2048 → ((v : ℕ) → at num′ v ≡ 0) → Tournament ps who num′
+  pub emptied : {num′ : List ℕ} → Tournament ps who num → length num′ ≡ 2048 → ((v : ℕ) → at num′ v ≡ 0)
+      → Tournament ps who num′
   emptied {num′} t e z = record {
     seats = record {
       players = t .seats .players;
@@ -216,7 +219,8 @@ module _ {ps who num : List ℕ} where
     };
   }
 
-pub tree-opened : (ps : List ℕ) {who num : List ℕ} → Seated who → length num ≡ 2048 → ((v : ℕ) → at num v ≡ 0) → Tournament ps who num
+pub tree-opened : (ps : List ℕ) {who num : List ℕ} → Seated who → length num ≡ 2048 → ((v : ℕ) → at num v ≡ 0)
+    → Tournament ps who num
 tree-opened ps s e z = record {
   seats = record {
     players = s .players;
@@ -261,7 +265,8 @@ known-set num i x e l = ext-getD 0 (known (set num (1024 + i) x)) (set (known nu
     go j false d = rw (getD-set-other (known num) i j x 0 (eqb-false j i d), known-at num j)
         (getD-set-other num (1024 + i) (1024 + j) x 0 (λ z. eqb-false j i d (omega arith)))
 
-pub played-known : {ps who num who′ num′ : List ℕ} {v : ℕ} {moved : Bool} → Played ps who num who′ num′ v moved → length num ≡ 2048
+pub played-known : {ps who num who′ num′ : List ℕ} {v : ℕ} {moved : Bool} → Played ps who num who′ num′ v moved
+    → length num ≡ 2048
     → v < 1024 → known num′ ≡ known num
 played-known {num = num} {v = v} p e l = ap known (p .put .cells) ∙ known-keep num v _ e l
 
@@ -282,13 +287,15 @@ seats-leaf {who} {v} {x} s l m h e = record {
   first = λ u a b c. absurd (omega arith);
 }
   where
-    go : (i : ℕ) → i < 1024 → v - 1 ≤ 1024 + i → (t : Bool) → eqb (1024 + i) (v - 1) ≡ t → at (set who (v - 1) x) (1024 + i) ≡ i
+    go : (i : ℕ) → i < 1024 → v - 1 ≤ 1024 + i → (t : Bool) → eqb (1024 + i) (v - 1) ≡ t
+        → at (set who (v - 1) x) (1024 + i) ≡ i
     go i a b true d = rw (eqb-true (1024 + i) (v - 1) d, getD-set-same who (v - 1) x 0 (omega (arith, s .players)))
         (omega (arith, eqb-true (1024 + i) (v - 1) d))
     go i a b false d = getD-set-other who (v - 1) (1024 + i) x 0 (eqb-false (1024 + i) (v - 1) d)
         ∙ s .leaf i a (omega (arith, eqb-false (1024 + i) (v - 1) d))
 
-pub seats-node : {who : List ℕ} {v : ℕ} → Seating who v → 0 < v → v - 1 < 1024 → Seating (set who (v - 1) (at who (2 * (v - 1)))) (v - 1)
+pub seats-node : {who : List ℕ} {v : ℕ} → Seating who v → 0 < v → v - 1 < 1024
+    → Seating (set who (v - 1) (at who (2 * (v - 1)))) (v - 1)
 seats-node {who} {v} s l m = record {
   players = simp length-set (s .players);
   leaf = λ i a b. getD-set-other who (v - 1) (1024 + i) _ 0 (λ e. omega arith) ∙ s .leaf i a (omega arith);

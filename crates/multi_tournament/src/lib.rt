@@ -60,7 +60,8 @@ fn play(prices: &[u64], who: &mut [u64], num: &mut [u64], v: usize) -> bool
 
 // Changes what is known of bid i to x cells. A node that stays as it was leaves those above as they were.
 pub fn update(prices: &[u64], who: &mut [u64], num: &mut [u64], i: usize, x: u64)
-    requires { ⌜ Priced (now prices) × (Tournament (now prices) (now who) (now num) × ((i < length (now prices)) × (x ≤ 10112))) ⌝ }
+    requires { ⌜ Priced (now prices) × (Tournament (now prices) (now who) (now num) × ((i < length (now prices)) × (x ≤ 10112)))
+        ⌝ }
     ensures { λ _. ⌜ Tournament (now (prices .entry)) (now (who .exit)) (now (num .exit))
         × (known (now (num .exit)) ≡ set (known (now (num .entry))) i x) ⌝ }
 {

@@ -30,7 +30,8 @@ cut-count d (b ∷ s) = go (eqb b d) (cut-some d s) (cut-count d s)
     grown : (ps : List (List ℕ)) → Pieces ps → length (growFirst b ps) ≡ length ps
     grown ps c = rw (c .are)
 
-    go : (t : Bool) → Pieces (cut d s) → length (cut d s) ≡ bytesLike d s + 1 → length (cond t ([] ∷ cut d s) (growFirst b (cut d s)))
+    go : (t : Bool) → Pieces (cut d s) → length (cut d s) ≡ bytesLike d s + 1
+        → length (cond t ([] ∷ cut d s) (growFirst b (cut d s)))
         ≡ cond t 1 0
         + bytesLike d s + 1
     go true c e = omega arith
@@ -45,7 +46,8 @@ pub bids-read : (bs : List BidLine) → AllRead (map (λ b. some (bid b)) bs)
 bids-read [] = tt
 bids-read (b ∷ bs) = bids-read bs
 
-lines-count : (p : List ℕ) (ps : List (List ℕ)) → AllRead (linesOf (p ∷ ps)) → length (linesOf (p ∷ ps)) + 1 ≡ length (p ∷ ps)
+lines-count : (p : List ℕ) (ps : List (List ℕ)) → AllRead (linesOf (p ∷ ps))
+    → length (linesOf (p ∷ ps)) + 1 ≡ length (p ∷ ps)
 unfolding linesOf
 lines-count [] [] a = refl
 lines-count (b ∷ p) [] a = absurd a
@@ -84,13 +86,15 @@ lines-law T R W text e = go (linesOf (cut 10 text)) refl (cut-some 10 text) (rea
 
 -- counts
 
-windows-few : (k : Kind) (used : List ℕ) (at : ℕ) (R : List Row) (end : ℕ) → RowsRules k used at R end → end ≤ at + 32 * length R
+windows-few : (k : Kind) (used : List ℕ) (at : ℕ) (R : List Row) (end : ℕ) → RowsRules k used at R end
+    → end ≤ at + 32 * length R
 windows-few k used at [] end h = omega (arith, h)
 windows-few k used at (r ∷ rs) end (h, hs) = let a = h .few-windows in
     let b = windows-few k (used ++ r .bidder ∷ []) (at + r .count) rs end hs in omega (arith, a, b)
 
 -- at most 1,000 rows and 32,000 windows
-pub counts-law : (T : Tender) (R : List Row) (W : List Window) (text : List ℕ) → readText text ≡ accepted T R W → (length R ≤ 1000)
+pub counts-law : (T : Tender) (R : List Row) (W : List Window) (text : List ℕ) → readText text ≡ accepted T R W
+    → (length R ≤ 1000)
     × (length W ≤ 32000)
 counts-law T R W text e =
     let r = rules-law T R W text e in

@@ -1,8 +1,8 @@
 -- Texts read by the definition. Assumes nothing.
 use mathlib.Core.Path.{_≡_, refl}
-use Prim.Native.Nat.{ℕ}
+use Prim.Native.Nat.{ℕ, zero, suc}
 use Prim.Native.String.{String}
-use mathlib.Core.List.{[], _∷_}
+use mathlib.Core.List.{List, [], _∷_, _++_}
 use lib.ListN.{replicate}
 use Rattle.tender.specs.declared.Kind.the-variants.{Single, Multi}
 use Rattle.tender.specs.declared.Window.{Window}
@@ -18,17 +18,15 @@ win s e = record { start = s; end = e }
 row : ℕ → ℕ → ℕ → ℕ → Row
 row n p f c = record { bidder = n; price = p; first = f; count = c }
 
+-- so many windows of one minute
+minutes : ℕ → List ℕ
+unfolding bytes
+minutes zero = []
+minutes (suc n) = bytes " (0 1)" ++ minutes n
+
 read : String → ReadOutcome
 unfolding bytes readText
 read s = readText (bytes s)
-
-the-list : read
-    "(tender single 0 100)\n(bid 11 30 (0 50))\n(bid 12 40 (40 100))\n(bid 13 90 (0 100))\n(bid 14 35 (0 60))\n(bid 15 50 (60 100))\n"
-    ≡ accepted (record { kind = Single; window = win 0 100 })
-    (row 11 30 0 1 ∷ row 12 40 1 1 ∷ row 13 90 2 1 ∷ row 14 35 3 1 ∷ row 15 50 4 1 ∷ [])
-    (win 0 50 ∷ win 40 100 ∷ win 0 100 ∷ win 0 60 ∷ win 60 100 ∷ [])
-unfolding read row win
-the-list = refl
 
 several-windows : read "(tender multi 0 10)\n(bid 21 12 (0 4) (6 8))\n(bid 22 15 (4 10))\n(bid 23 30 (0 10))\n(bid 24 9 (8 10) (4 5))\n"
     ≡ accepted (record { kind = Multi; window = win 0 10 }) (row 21 12 0 2 ∷ row 22 15 2 1 ∷ row 23 30 3 1 ∷ row 24 9 4 2 ∷ [])
@@ -122,19 +120,16 @@ tender-late : read "(tender single 0 10081)\n" ≡ refused 5 1
 unfolding read
 tender-late = refl
 
-window-33 : read
-    "(tender multi 0 10)\n(bid 0 30 (0 1) (0 1) (0 1) (0 1) (0 1) (0 1) (0 1) (0 1) (0 1) (0 1) (0 1) (0 1) (0 1) (0 1) (0 1) (0 1) (0 1) (0 1) (0 1) (0 1) (0 1) (0 1) (0 1) (0 1) (0 1) (0 1) (0 1) (0 1) (0 1) (0 1) (0 1) (0 1) (0 1))\n" ≡ refused 4 2
-unfolding read
+window-33 : readText (bytes "(tender multi 0 10)\n(bid 0 30" ++ minutes 33 ++ bytes ")\n") ≡ refused 4 2
+unfolding readText minutes
 window-33 = refl
 
-window-33-single : read
-    "(tender single 0 100)\n(bid 11 30 (0 1) (0 1) (0 1) (0 1) (0 1) (0 1) (0 1) (0 1) (0 1) (0 1) (0 1) (0 1) (0 1) (0 1) (0 1) (0 1) (0 1) (0 1) (0 1) (0 1) (0 1) (0 1) (0 1) (0 1) (0 1) (0 1) (0 1) (0 1) (0 1) (0 1) (0 1) (0 1) (0 1))\n" ≡ refused 4 2
-unfolding read
+window-33-single : readText (bytes "(tender single 0 100)\n(bid 11 30" ++ minutes 33 ++ bytes ")\n") ≡ refused 4 2
+unfolding readText minutes
 window-33-single = refl
 
-window-32-single : read
-    "(tender single 0 100)\n(bid 11 30 (0 1) (0 1) (0 1) (0 1) (0 1) (0 1) (0 1) (0 1) (0 1) (0 1) (0 1) (0 1) (0 1) (0 1) (0 1) (0 1) (0 1) (0 1) (0 1) (0 1) (0 1) (0 1) (0 1) (0 1) (0 1) (0 1) (0 1) (0 1) (0 1) (0 1) (0 1) (0 1))\n" ≡ refused 7 2
-unfolding read
+window-32-single : readText (bytes "(tender single 0 100)\n(bid 11 30" ++ minutes 32 ++ bytes ")\n") ≡ refused 7 2
+unfolding readText minutes
 window-32-single = refl
 
 bidder-0 : read "(tender single 0 100)\n(bid 0 30 (0 50) (5 5))\n" ≡ refused 3 2
@@ -177,9 +172,9 @@ first-fault : read "(tender single 0 100)\n(bid 11 30 (0 0))\n(bid 11 30 (0 50)\
 unfolding read
 first-fault = refl
 
-window-32 : read
-    "(tender multi 0 10)\n(bid 11 30 (0 1) (0 1) (0 1) (0 1) (0 1) (0 1) (0 1) (0 1) (0 1) (0 1) (0 1) (0 1) (0 1) (0 1) (0 1) (0 1) (0 1) (0 1) (0 1) (0 1) (0 1) (0 1) (0 1) (0 1) (0 1) (0 1) (0 1) (0 1) (0 1) (0 1) (0 1) (0 1))\n" ≡ accepted (record { kind = Multi; window = win 0 10 }) (row 11 30 0 32 ∷ []) (win 0 1 ∷ win 0 1 ∷ win 0 1 ∷ win 0 1 ∷ win 0 1 ∷ win 0 1 ∷ win 0 1 ∷ win 0 1 ∷ win 0 1 ∷ win 0 1 ∷ win 0 1 ∷ win 0 1 ∷ win 0 1 ∷ win 0 1 ∷ win 0 1 ∷ win 0 1 ∷ win 0 1 ∷ win 0 1 ∷ win 0 1 ∷ win 0 1 ∷ win 0 1 ∷ win 0 1 ∷ win 0 1 ∷ win 0 1 ∷ win 0 1 ∷ win 0 1 ∷ win 0 1 ∷ win 0 1 ∷ win 0 1 ∷ win 0 1 ∷ win 0 1 ∷ win 0 1 ∷ [])
-unfolding read row win
+window-32 : readText (bytes "(tender multi 0 10)\n(bid 11 30" ++ minutes 32 ++ bytes ")\n")
+    ≡ accepted (record { kind = Multi; window = win 0 10 }) (row 11 30 0 32 ∷ []) (replicate 32 (win 0 1))
+unfolding readText minutes row win
 window-32 = refl
 
 too-long : readText (replicate 65537 32) ≡ refused 1 0

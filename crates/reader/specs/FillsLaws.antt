@@ -73,7 +73,8 @@ unset n x = let e : getD (zeros n) (x / 64) 0 ≡ 0 = zero-at (ltb (x / 64) n) r
     zero-at true h = getD-replicate n (x / 64) 0 0 (ltb-true (x / 64) n h)
     zero-at false h = List·getD-eq-default (zeros n) 0 (rw length-replicate (ltb-false (x / 64) n h))
 
-pub walk-begins : (kind : Kind) (ls : List (Option Line)) (used rows windows : List ℕ) → used ≡ replicate 15625 0 → length rows ≡ 4000
+pub walk-begins : (kind : Kind) (ls : List (Option Line)) (used rows windows : List ℕ) → used ≡ replicate 15625 0
+    → length rows ≡ 4000
     → length windows ≡ 22000 → Walk kind ls ls 0 0 used rows windows
 unfolding bidderNumbers zeros allWindows rowsFrom flatRows flatWindows among
 walk-begins kind ls used rows windows u r w =
@@ -104,7 +105,8 @@ unfolding among
 among-more x [] b = or-false (eqb b x)
 among-more x (u ∷ us) b = rw (among-more x us b) (or-assoc (eqb u x) (among x us) (eqb b x))
 
-marked-more : (b : ℕ) (us used used′ : List ℕ) → ((x : ℕ) → eqb (cell used x) 1 ≡ among x us) → RangeAdded b (b + 1) used used′ → (x : ℕ)
+marked-more : (b : ℕ) (us used used′ : List ℕ) → ((x : ℕ) → eqb (cell used x) 1 ≡ among x us)
+    → RangeAdded b (b + 1) used used′ → (x : ℕ)
     → eqb (cell used′ x) 1 ≡ among x (us ++ b ∷ [])
 marked-more b us used used′ h f x = go (eqb b x) refl (ltb x b) refl ∙ sym (among-more x us b)
   where
@@ -121,7 +123,8 @@ bid-not-refused (step.Bid d) c n at e h = absurd h
 bid-not-refused (step.Refused x) c n at e h = let z : _≡_ {A = ℕ} 0 1 = cc in absurd (omega arith)
 
 -- what bounds the windows of a bid bounds those that a line adds
-pub taken-room : (kind : Kind) (k m : ℕ) (used rows windows used′ rows′ windows′ : List ℕ) (o : Option Line) (r : Step) (c n : ℕ)
+pub taken-room : (kind : Kind) (k m : ℕ) (used rows windows used′ rows′ windows′ : List ℕ) (o : Option Line) (r : Step)
+    (c n : ℕ)
     → Taken o kind k m used rows windows r used′ rows′ windows′ → r ≡ step.Bid c →
     ((b : BidLine) → o ≡ some (bid b) → 6 * (m + length (b .windows)) ≤ n) → 6 * (m + c) ≤ n
 taken-room kind k m used rows windows used′ rows′ windows′ none r c n t e h = bid-not-refused r c 2 (k + 2) e t
@@ -141,7 +144,8 @@ module _ (kind : Kind) (whole rest : List (Option Line)) (k m : ℕ) (used rows 
   unfolding bidFault
   fault-is b w = rw (← (w .marked (b .bidder)), numbers-length (w .done), w .count)
 
-  more : (b : BidLine) → Walk kind whole (some (bid b) ∷ rest) k m used rows windows → (r : Step) → m + length (b .windows) ≤ 11000 →
+  more : (b : BidLine) → Walk kind whole (some (bid b) ∷ rest) k m used rows windows → (r : Step)
+      → m + length (b .windows) ≤ 11000 →
       bidFaultIn kind k (b .bidder) (b .price) (length (b .windows)) (allLawful (b .windows)) (eqb (cell used (b .bidder)) 1) ≡ none →
       BidTaken b k m used rows windows r used′ rows′ windows′ → length used′ ≡ length used → length rows′ ≡ length rows
       → length windows′ ≡ length windows →
@@ -166,7 +170,8 @@ module _ (kind : Kind) (whole rest : List (Option Line)) (k m : ℕ) (used rows 
             ∙ rw (w .rows-are, ← (w .places)) (sym (rw (zero-add (length (allWindows (w .done)))) at (rows-more 0 (w .done) b)));
         windows-are = ap (take (2 * (m + length (b .windows)))) (t .own) ∙ windows-put windows m (b .windows) j
             ∙ rw (w .windows-are, windows-more (w .done) b) (sym (flat-more (allWindows (w .done)) (b .windows)));
-        marked = λ x. rw (numbers-more (w .done) b) (marked-more (b .bidder) (bidderNumbers (w .done)) used used′ (w .marked) (t .mark) x);
+        marked = λ x. rw (numbers-more (w .done) b) (marked-more (b .bidder) (bidderNumbers (w .done)) used used′ (w .marked) (t .mark)
+            x);
         used-long = lu ∙ w .used-long;
         rows-long = lr ∙ w .rows-long;
         windows-long = lw ∙ w .windows-long;
@@ -175,7 +180,8 @@ module _ (kind : Kind) (whole rest : List (Option Line)) (k m : ℕ) (used rows 
   -- the next line is a bid
   pub goes : (o : Option Line) → Walk kind whole (o ∷ rest) k m used rows windows → (r : Step)
       → Taken o kind k m used rows windows r used′ rows′ windows′ →
-      length used′ ≡ length used → length rows′ ≡ length rows → length windows′ ≡ length windows → (c : ℕ) → r ≡ step.Bid c
+      length used′ ≡ length used → length rows′ ≡ length rows → length windows′ ≡ length windows → (c : ℕ)
+      → r ≡ step.Bid c
       → ((b : BidLine) → o ≡ some (bid b) → m + length (b .windows) ≤ 11000) →
       Walk kind whole rest (k + 1) (m + c) used′ rows′ windows′
   goes none w r t lu lr lw c e room = bid-not-refused r c 2 (k + 2) e t
@@ -189,7 +195,8 @@ module _ (kind : Kind) (whole rest : List (Option Line)) (k m : ℕ) (used rows 
       go none g j = let q : c ≡ length (b .windows) = cc (e, j .answer) in rw q (more b w r (room b refl) g j lu lr lw)
       go (some f) g j = bid-not-refused r c (numberOf (f (k + 2))) (placeOf (f (k + 2))) e j
 
-  refusal-is : (r : Step) (x : Refusal) (n at : ℕ) → r ≡ step.Refused x → Declines r n at → refused n at ≡ refused (numberOf x) (placeOf x)
+  refusal-is : (r : Step) (x : Refusal) (n at : ℕ) → r ≡ step.Refused x → Declines r n at
+      → refused n at ≡ refused (numberOf x) (placeOf x)
   refusal-is (step.Bid d) x n at e h = absurd h
   refusal-is (step.Refused y) x n at e h =
       let q : y ≡ x = cc in
@@ -205,11 +212,13 @@ module _ (kind : Kind) (whole rest : List (Option Line)) (k m : ℕ) (used rows 
   stops none w r t x e out = w .checks out ∙ refusal-is r x 2 (k + 2) e t
   stops (some (tender y)) w r t x e out = w .checks out ∙ refusal-is r x 2 (k + 2) e t
   stops (some (bid b)) w r t x e out = w .checks out
-      ∙ go (bidFaultIn kind k (b .bidder) (b .price) (length (b .windows)) (allLawful (b .windows)) (eqb (cell used (b .bidder)) 1)) refl t
+      ∙ go (bidFaultIn kind k (b .bidder) (b .price) (length (b .windows)) (allLawful (b .windows)) (eqb (cell used (b .bidder)) 1))
+      refl t
     where
       go : (f : Option (ℕ → Refusal)) → bidFaultIn kind k (b .bidder) (b .price) (length (b .windows)) (allLawful (b .windows))
           (eqb (cell used (b .bidder)) 1) ≡ f →
-          Judged f b k m used rows windows r used′ rows′ windows′ → checked kind (k + 2) (bidderNumbers (w .done)) (some (bid b) ∷ rest) out
+          Judged f b k m used rows windows r used′ rows′ windows′
+          → checked kind (k + 2) (bidderNumbers (w .done)) (some (bid b) ∷ rest) out
           ≡ refused (numberOf x) (placeOf x)
       go none g j = let q : step.Bid (length (b .windows)) ≡ step.Refused x = sym (j .answer) ∙ e in let z : _≡_ {A = ℕ} 0 1 = cc in
           absurd (omega arith)
@@ -223,7 +232,8 @@ unfolding checked
 breaks kind whole rest k m used rows windows w out = w .checks out
 
 -- no line is left
-pub walk-ends : (kind : Kind) (whole : List (Option Line)) (k m : ℕ) (used rows windows : List ℕ) → Walk kind whole [] k m used rows windows
+pub walk-ends : (kind : Kind) (whole : List (Option Line)) (k m : ℕ) (used rows windows : List ℕ)
+    → Walk kind whole [] k m used rows windows
     → m ≤ 11000 → TablesHold kind whole k m rows windows
 unfolding checked bidsOf
 walk-ends kind whole k m used rows windows w l =
@@ -240,12 +250,14 @@ walk-ends kind whole k m used rows windows w l =
 
 -- where the next line ends
 
-pub ends-at : (text : List ℕ) (i : ℕ) (r : LineEnd) → EndsAt text i r → (e : ℕ) → r ≡ At e → (i + toNext 10 (drop i text) ≡ e)
+pub ends-at : (text : List ℕ) (i : ℕ) (r : LineEnd) → EndsAt text i r → (e : ℕ) → r ≡ At e
+    → (i + toNext 10 (drop i text) ≡ e)
     × (e < length text)
 ends-at text i (At f) h e q = let x : f ≡ e = cc in rw (← x) h
 ends-at text i Broken h e q = let z : _≡_ {A = ℕ} 0 1 = cc in absurd (omega arith)
 
-pub ends-broken : (text : List ℕ) (i : ℕ) (r : LineEnd) → EndsAt text i r → r ≡ Broken → FirstBroken (linesOf (cut 10 (drop i text)))
+pub ends-broken : (text : List ℕ) (i : ℕ) (r : LineEnd) → EndsAt text i r → r ≡ Broken
+    → FirstBroken (linesOf (cut 10 (drop i text)))
 ends-broken text i (At f) h q = let z : _≡_ {A = ℕ} 0 1 = cc in absurd (omega arith)
 ends-broken text i Broken h q = h
 

@@ -21,12 +21,14 @@ pieces-plain [] [] a = (refl, tt)
 pieces-plain (b ∷ p) [] a = absurd a
 pieces-plain p (q ∷ ps) a = go (lineOf p) refl a (pieces-plain q ps)
   where
-    go : (x : Option Line) → lineOf p ≡ x → AllRead (x ∷ linesOf (q ∷ ps)) → (AllRead (linesOf (q ∷ ps)) → PlainPieces (q ∷ ps))
+    go : (x : Option Line) → lineOf p ≡ x → AllRead (x ∷ linesOf (q ∷ ps))
+        → (AllRead (linesOf (q ∷ ps)) → PlainPieces (q ∷ ps))
         → PlainPieces (p ∷ q ∷ ps)
     go none e h ih = absurd h
     go (some l) e h ih = (line-plain p l e, ih h)
 
-pub plain-law : (T : Tender) (R : List Row) (W : List Window) (text : List ℕ) → readText text ≡ accepted T R W → allPlain text ≡ true
+pub plain-law : (T : Tender) (R : List Row) (W : List Window) (text : List ℕ) → readText text ≡ accepted T R W
+    → allPlain text ≡ true
 unfolding readLines plain
 plain-law T R W text e = go (linesOf (cut 10 text)) refl (cut-some 10 text) (read-lines T R W text e)
   where

@@ -50,7 +50,8 @@ module _ (T : Tender) (R : List Row) (W : List Window) where
   checked-price : (k : Kind) (at : ℕ) (used : List ℕ) (xs : List (Option Line)) (b : BidLine) (ys : List (Option Line))
       (out o : ReadOutcome)
       (v : ℕ) → v ≤ 100000000 →
-      checked k at used (xs ++ some (bid b) ∷ ys) out ≡ accepted T R W → checked k at used (xs ++ some (bid (atPrice v b)) ∷ ys) o ≡ o
+      checked k at used (xs ++ some (bid b) ∷ ys) out ≡ accepted T R W → checked k at used (xs ++ some (bid (atPrice v b)) ∷ ys) o
+      ≡ o
   unfolding checked atPrice
   checked-price k at used [] b ys out o v l e =
       let j = judged-out T R W (bidFault k used b) at (checked k (at + 1) (used ++ b .bidder ∷ []) ys out) e in
@@ -66,7 +67,8 @@ bid-of : (n q : List ℕ) (ws : List (List ℕ)) (b : BidLine) (v : ℕ) → num
 unfolding bidOf andThen atPrice
 bid-of n q ws b v hn hq hw = rw (hn, hq, hw)
 
-line-lines : (n q f : List ℕ) (ps : List (List ℕ)) → Word n → Word q → Pieces ps → linesOf (bidLine n q f ∷ ps) ≡ bidOf (n ∷ q ∷ cut 32 f)
+line-lines : (n q f : List ℕ) (ps : List (List ℕ)) → Word n → Word q → Pieces ps
+    → linesOf (bidLine n q f ∷ ps) ≡ bidOf (n ∷ q ∷ cut 32 f)
     ∷ linesOf ps
 unfolding linesOf
 line-lines n q f ps wn wq c = rw (c .are) (rw (line-of n q f wn wq))
@@ -81,9 +83,11 @@ unfolding readLines
 begins T x ls e l = rw e (rw l)
 
 -- the text with the price written q
-rewritten : (before n p q after f : List ℕ) (ps : List (List ℕ)) (v : ℕ) (T : Tender) (R : List Row) (W : List Window) → Word n → Word q
+rewritten : (before n p q after f : List ℕ) (ps : List (List ℕ)) (v : ℕ) (T : Tender) (R : List Row) (W : List Window) → Word n
+    → Word q
     → cut 10 after ≡ f ∷ ps →
-    BidFound before n p f ps T R W → priceOf q ≡ some v → v ≤ 100000000 → length (before ++ 10 ∷ bidLine n q after) ≤ 65536 →
+    BidFound before n p f ps T R W → priceOf q ≡ some v → v ≤ 100000000 → length (before ++ 10 ∷ bidLine n q after) ≤ 65536
+    →
     (bs : List BidLine) × (readText (before ++ 10 ∷ bidLine n q after) ≡ tables T bs)
 rewritten before n p q after f ps v T R W wn wq e x hv lv lu =
     let m = parts n p (cut 32 f) (x .line .b) (x .line .is) in
@@ -94,7 +98,8 @@ rewritten before n p q after f ps v T R W wn wq e x hv lv lu =
   where
     go : (a : List ℕ) (xs : List (Option Line)) (b : BidLine) → bidOf (n ∷ q ∷ cut 32 f) ≡ some (bid (atPrice v b))
         → lineOf a ≡ some (tender T) → lawful (T .window) ≡ true →
-        checked (T .kind) 2 [] (xs ++ some (bid b) ∷ linesOf ps) (tables T (bidsOf (xs ++ some (bid b) ∷ linesOf ps))) ≡ accepted T R W →
+        checked (T .kind) 2 [] (xs ++ some (bid b) ∷ linesOf ps) (tables T (bidsOf (xs ++ some (bid b) ∷ linesOf ps)))
+        ≡ accepted T R W →
         linesOf (cut 10 (before ++ 10 ∷ bidLine n q after)) ≡ lineOf a ∷ (xs ++ linesOf (bidLine n q f ∷ ps)) →
         (bs : List BidLine) × (readText (before ++ 10 ∷ bidLine n q after) ≡ tables T bs)
     go a xs b c hf hl hs ht =
@@ -102,7 +107,8 @@ rewritten before n p q after f ps v T R W wn wq e x hv lv lu =
         let r : linesOf (bidLine n q f ∷ ps) ≡ some (bid (atPrice v b)) ∷ linesOf ps = line-lines n q f ps wn wq (x .ended)
         ∙ ap (λ o. o ∷ linesOf ps) c in (
           bidsOf ls,
-          short (before ++ 10 ∷ bidLine n q after) lu ∙ ap readLines (ht ∙ ap (λ l. lineOf a ∷ (xs ++ l)) r) ∙ begins T (lineOf a) ls hf hl
+          short (before ++ 10 ∷ bidLine n q after) lu ∙ ap readLines (ht ∙ ap (λ l. lineOf a ∷ (xs ++ l)) r)
+              ∙ begins T (lineOf a) ls hf hl
               ∙ checked-price T R W (T .kind) 2 [] xs b (linesOf ps) (tables T (bidsOf (xs ++ some (bid b) ∷ linesOf ps)))
               (tables T (bidsOf ls)) v lv hs,
         )

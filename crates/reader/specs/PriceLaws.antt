@@ -18,13 +18,16 @@ use Rattle.reader.specs.Differ.{bidLine, Word, DifferInPrice, withPrice,
 use Rattle.reader.specs.ReadLaws.{read-lines, checked-bids, Begun, begun}
 
 -- the line's words
-line-words : (bidder p after : List ℕ) → Word bidder → Word p → cut 32 (bidLine bidder p after) ≡ (40 ∷ bidWord) ∷ bidder ∷ p ∷ cut 32 after
+line-words : (bidder p after : List ℕ) → Word bidder → Word p → cut 32 (bidLine bidder p after) ≡ (40 ∷ bidWord) ∷ bidder
+    ∷ p ∷ cut 32 after
 unfolding bidLine among
 line-words n p s wn wp =
     cut-end 32 (40 ∷ bidWord) (n ++ 32 ∷ (p ++ 32 ∷ s)) refl
-    ∙ ap (λ l. (40 ∷ bidWord) ∷ l) (cut-end 32 n (p ++ 32 ∷ s) (wn .no-space) ∙ ap (λ l. n ∷ l) (cut-end 32 p s (wp .no-space)))
+    ∙ ap (λ l. (40 ∷ bidWord) ∷ l) (cut-end 32 n (p ++ 32 ∷ s) (wn .no-space)
+    ∙ ap (λ l. n ∷ l) (cut-end 32 p s (wp .no-space)))
 
-pub line-of : (bidder p after : List ℕ) → Word bidder → Word p → lineOf (bidLine bidder p after) ≡ bidOf (bidder ∷ p ∷ cut 32 after)
+pub line-of : (bidder p after : List ℕ) → Word bidder → Word p
+    → lineOf (bidLine bidder p after) ≡ bidOf (bidder ∷ p ∷ cut 32 after)
 unfolding lineOf
 line-of n p s wn wp = ap lineOfWords (line-words n p s wn wp)
 
@@ -34,7 +37,8 @@ line-cut : (bidder p after f : List ℕ) (ps : List (List ℕ)) → Word bidder 
 unfolding bidLine bidWord among cut
 line-cut n p s f ps wn wp e =
     let a : cut 10 (32 ∷ s) ≡ (32 ∷ f) ∷ ps = rw e in
-    let b : cut 10 (32 ∷ (p ++ 32 ∷ s)) ≡ (32 ∷ (p ++ 32 ∷ f)) ∷ ps = rw (cut-word 10 p (32 ∷ s) (32 ∷ f) ps (wp .no-end) a) in
+    let b : cut 10 (32 ∷ (p ++ 32 ∷ s)) ≡ (32 ∷ (p ++ 32 ∷ f)) ∷ ps =
+    rw (cut-word 10 p (32 ∷ s) (32 ∷ f) ps (wp .no-end) a) in
     let c : cut 10 (32 ∷ (n ++ 32 ∷ (p ++ 32 ∷ s))) ≡ (32 ∷ (n ++ 32 ∷ (p ++ 32 ∷ f))) ∷ ps =
     rw (cut-word 10 n (32 ∷ (p ++ 32 ∷ s)) (32 ∷ (p ++ 32 ∷ f)) ps (wn .no-end) b) in
     cut-word 10 (40 ∷ bidWord) (32 ∷ (n ++ 32 ∷ (p ++ 32 ∷ s))) (32 ∷ (n ++ 32 ∷ (p ++ 32 ∷ f))) ps refl c
@@ -175,7 +179,8 @@ price-law t u n p q T U R S W X d h k =
         let hw : c .windows ≡ b .windows = cc (m .windows-are, o .windows-are) in
         record {
           tenders = cc (x .first, y .first);
-          windows = x .line .windows ∙ windows-append B (b ∷ C) ∙ rw (← hw) (sym (windows-append B (c ∷ C)) ∙ sym (y .line .windows));
+          windows = x .line .windows ∙ windows-append B (b ∷ C)
+              ∙ rw (← hw) (sym (windows-append B (c ∷ C)) ∙ sym (y .line .windows));
           rows = record {
             before = rowsFrom 0 B;
             row = record { bidder = b .bidder; price = b .price; first = placeAfter 0 B; count = length (b .windows) };

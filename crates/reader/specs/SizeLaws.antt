@@ -59,7 +59,8 @@ short-text : (T : Tender) (R : List Row) (W : List Window) (text : List ℕ) →
 unfolding readText
 short-text T R W text e = go (ltb 65536 (length text)) refl e
   where
-    go : (t : Bool) → ltb 65536 (length text) ≡ t → cond t (declinedBy TextTooLong) (readLines (linesOf (cut 10 text))) ≡ accepted T R W
+    go : (t : Bool) → ltb 65536 (length text) ≡ t → cond t (declinedBy TextTooLong) (readLines (linesOf (cut 10 text)))
+        ≡ accepted T R W
         → length text ≤ 65536
     go true f x = never x
     go false f x = ltb-false 65536 (length text) f

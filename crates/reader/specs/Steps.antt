@@ -51,20 +51,23 @@ Declines (step.Bid count) n at = ⊥
 Declines (step.Refused r) n at = faultOfRefusal r ≡ record { number = n; place = at }
 
 -- a bid goes into the tables after k bids with m windows
-pub record BidTaken (b : BidLine) (k m : ℕ) (used rows windows : List ℕ) (r : Step) (used′ rows′ windows′ : List ℕ) : Type 0 where
-  pub answer : r ≡ step.Bid (length (b .windows))
-  pub row : rows′ ≡ take (4 * k) rows ++ rowNumbers
-      (record { bidder = b .bidder; price = b .price; first = m; count = length (b .windows) })
-      ++ drop (4 * k + 4) rows
-  pub own : windows′ ≡ putWindows windows m (b .windows)
-  pub mark : cells.RangeAdded (b .bidder) (b .bidder + 1) used used′
+pub record BidTaken (b : BidLine) (k m : ℕ) (used rows windows : List ℕ) (r : Step) (used′ rows′ windows′ : List ℕ) : Type 0
+  where
+    pub answer : r ≡ step.Bid (length (b .windows))
+    pub row : rows′ ≡ take (4 * k) rows ++ rowNumbers
+        (record { bidder = b .bidder; price = b .price; first = m; count = length (b .windows) })
+        ++ drop (4 * k + 4) rows
+    pub own : windows′ ≡ putWindows windows m (b .windows)
+    pub mark : cells.RangeAdded (b .bidder) (b .bidder + 1) used used′
 
-abbrev pub Judged : Option (ℕ → Refusal) → BidLine → ℕ → ℕ → (used rows windows : List ℕ) → Step → (used′ rows′ windows′ : List ℕ) → Type 0
+abbrev pub Judged : Option (ℕ → Refusal) → BidLine → ℕ → ℕ → (used rows windows : List ℕ) → Step
+    → (used′ rows′ windows′ : List ℕ) → Type 0
 Judged none b k m used rows windows r used′ rows′ windows′ = BidTaken b k m used rows windows r used′ rows′ windows′
 Judged (some f) b k m used rows windows r used′ rows′ windows′ = Declines r (numberOf (f (k + 2))) (placeOf (f (k + 2)))
 
 -- what comes of a line
-abbrev pub Taken : Option Line → Kind → ℕ → ℕ → (used rows windows : List ℕ) → Step → (used′ rows′ windows′ : List ℕ) → Type 0
+abbrev pub Taken : Option Line → Kind → ℕ → ℕ → (used rows windows : List ℕ) → Step
+    → (used′ rows′ windows′ : List ℕ) → Type 0
 Taken none kind k m used rows windows r used′ rows′ windows′ = Declines r 2 (k + 2)
 Taken (some (tender t)) kind k m used rows windows r used′ rows′ windows′ = Declines r 2 (k + 2)
 Taken (some (bid b)) kind k m used rows windows r used′ rows′ windows′ =

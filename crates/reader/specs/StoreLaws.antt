@@ -15,7 +15,8 @@ use Rattle.reader.specs.Read.{rowsFrom, allWindows}
 use Rattle.reader.specs.Steps.{rowNumbers}
 
 -- the first places, where some follow the first n
-pub front : (l vs rest : List ℕ) (n t : ℕ) → n ≤ length l → n + length vs ≡ t → take t (take n l ++ vs ++ rest) ≡ take n l ++ vs
+pub front : (l vs rest : List ℕ) (n t : ℕ) → n ≤ length l → n + length vs ≡ t → take t (take n l ++ vs ++ rest) ≡ take n l
+    ++ vs
 front l vs rest n t h e = take-at (take n l ++ vs) rest t (length-append (take n l) vs ∙ omega (arith, length-take-le n l h))
 
 put-is : (table : List ℕ) (m : ℕ) (w : Window) → 2 * m + 2 ≤ length table → putWindow table m w ≡ take (2 * m) table

@@ -8,7 +8,8 @@ use lib.ListN.{length, take, drop, set, getD, length-append, length-drop}
 use lib.Seq.{sets-eq, set-at, take-suc, drop-cons, append-snoc, length-take-le}
 
 -- four places in a row
-pub stored : (l : List ℕ) (i a b c d : ℕ) → i + 4 ≤ length l → set (set (set (set l i a) (i + 1) b) (i + 2) c) (i + 3) d ≡ take i l
+pub stored : (l : List ℕ) (i a b c d : ℕ) → i + 4 ≤ length l → set (set (set (set l i a) (i + 1) b) (i + 2) c) (i + 3) d
+    ≡ take i l
     ++ (a ∷ b ∷ c ∷ d ∷ []) ++ drop (i + 4) l
 stored l i a b c d h =
     let e1 : i + 1 ≡ suc i = omega arith in
@@ -24,5 +25,6 @@ copied-place from to i h k =
     (set-at (take i from) (getD to i 0) (drop (suc i) to) (getD from i 0) i (length-take-le i from (omega arith))
     ∙ sym (append-snoc (take i from) (getD from i 0) (drop (suc i) to)))
 
-pub copied-length : (from to : List ℕ) (i : ℕ) → i ≤ length from → i ≤ length to → length (take i from ++ drop i to) ≡ length to
+pub copied-length : (from to : List ℕ) (i : ℕ) → i ≤ length from → i ≤ length to
+    → length (take i from ++ drop i to) ≡ length to
 copied-length from to i h k = omega (arith, length-append (take i from) (drop i to), length-take-le i from h, length-drop i to)

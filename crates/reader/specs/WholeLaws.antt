@@ -35,7 +35,8 @@ unfolding readLines linesOf cut
 first-empty [] h = refl
 first-empty (b ∷ text) h = absurd (omega arith)
 
-pub is-tender : (m : ℕ) (table : List ℕ) (o : Option Line) (t : Tender) → some (tenderNote t) ≡ noted m table o → o ≡ some (tender t)
+pub is-tender : (m : ℕ) (table : List ℕ) (o : Option Line) (t : Tender) → some (tenderNote t) ≡ noted m table o
+    → o ≡ some (tender t)
 unfolding noted
 is-tender m table none t e = let z : _≡_ {A = ℕ} 0 1 = cc in absurd (omega arith)
 is-tender m table (some (tender u)) t e = cc
@@ -70,7 +71,8 @@ first-odd ls b = rw (b .are)
 
 -- by the case of an answer
 
-pub opened-tender : (text : List ℕ) (r : First) → Opened text r → (t : Tender) (at : ℕ) → r ≡ first.Tender t at → Begins text t at
+pub opened-tender : (text : List ℕ) (r : First) → Opened text r → (t : Tender) (at : ℕ) → r ≡ first.Tender t at
+    → Begins text t at
 opened-tender text (first.Tender u i) h t at e = let x : u ≡ t = cc in let y : i ≡ at = cc in rw (← x, ← y) h
 opened-tender text (first.Refused r) h t at e = let z : _≡_ {A = ℕ} 0 1 = cc in absurd (omega arith)
 
@@ -80,7 +82,8 @@ opened-refused text (first.Tender u i) h x e = let z : _≡_ {A = ℕ} 0 1 = cc 
 opened-refused text (first.Refused r) h x e = let y : r ≡ x = cc in rw (← y) h
 
 module _ (kind : Kind) (ls : List (Option Line)) (rows spans : List ℕ) where
-  pub filled-held : (r : Bids) → LinesFilled kind ls r rows spans → (k m : ℕ) → r ≡ bids.Filled k m → TablesHold kind ls k m rows spans
+  pub filled-held : (r : Bids) → LinesFilled kind ls r rows spans → (k m : ℕ) → r ≡ bids.Filled k m
+      → TablesHold kind ls k m rows spans
   filled-held (bids.Filled j n) h k m e = let x : j ≡ k = cc in let y : n ≡ m = cc in rw (← x, ← y) h
   filled-held (bids.Refused r) h k m e = let z : _≡_ {A = ℕ} 0 1 = cc in absurd (omega arith)
 
@@ -121,7 +124,8 @@ module _ (text bids windows : List ℕ) where
       unfolding readLines
       begun = rw (g .lines) (rw (g .window))
 
-      pub bids-refused : (n p : ℕ) → ((out : ReadOutcome) → checked (t .kind) 2 [] (linesOf (cut 10 (drop at text))) out ≡ refused n p)
+      pub bids-refused : (n p : ℕ) → ((out : ReadOutcome) → checked (t .kind) 2 [] (linesOf (cut 10 (drop at text))) out
+          ≡ refused n p)
           → Refuses n p
       bids-refused n p h = lines-refused n p (begun ∙ h _)
 
@@ -152,7 +156,8 @@ module _ (text bids windows : List ℕ) where
         unfolding Refuses readInto fitted
         windows-short i j = rw (read-is, rows-count, windows-count, le-leb k (length bids / 4) i, lt-leb m (length windows / 2) j)
 
-        fits : k ≤ length bids / 4 → m ≤ length windows / 2 → readInto text (length bids / 4) (length windows / 2) ≡ accepted t R W
+        fits : k ≤ length bids / 4 → m ≤ length windows / 2
+            → readInto text (length bids / 4) (length windows / 2) ≡ accepted t R W
         unfolding readInto fitted
         fits i j = rw (read-is, rows-count, windows-count, le-leb k (length bids / 4) i, le-leb m (length windows / 2) j)
 

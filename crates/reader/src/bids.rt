@@ -69,7 +69,8 @@ fn judge(
     ok: bool,
 ) -> Verdict
     requires { ⌜ length (now used) ≡ 15625 ⌝ }
-    ensures { λ r. ⌜ verdictOf r ≡ faultAt line (bidFaultIn kind bids bidder price windows ok (eqb (cell (now (used .entry)) bidder) 1)) ⌝ }
+    ensures { λ r. ⌜ verdictOf r ≡ faultAt line (bidFaultIn kind bids bidder price windows ok
+        (eqb (cell (now (used .entry)) bidder) 1)) ⌝ }
 {
     if too_many(bids, windows) {
         return Verdict::Faulty(Refusal::TooMany { line });
@@ -146,7 +147,8 @@ pub(crate) fn read_bids(
     rows: &mut [u64],
     windows: &mut [u64],
 ) -> Bids
-    requires { ⌜ (at ≤ length (now text)) × (length (now text) ≤ 65536) × (now used ≡ replicate 15625 0) × (length (now rows) ≡ 4000)
+    requires { ⌜ (at ≤ length (now text)) × (length (now text) ≤ 65536) × (now used ≡ replicate 15625 0)
+        × (length (now rows) ≡ 4000)
         × (length (now windows) ≡ 22000) ⌝ }
     ensures { λ r. ⌜ LinesFilled kind (linesOf (cut 10 (drop at (now (text .entry))))) r (now (rows .exit)) (now (windows .exit)) ⌝ }
 {

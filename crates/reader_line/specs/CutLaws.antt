@@ -35,7 +35,8 @@ cut-end d [] s n = rw (eq-eqb d d refl)
 cut-end d (b ∷ w) s n = rw (neither (eqb b d) (among d w) n .0, cut-end d w s (neither (eqb b d) (among d w) n .1))
 
 -- bytes before the first piece
-pub cut-word : (d : ℕ) (w s f : List ℕ) (ps : List (List ℕ)) → among d w ≡ false → cut d s ≡ f ∷ ps → cut d (w ++ s) ≡ (w ++ f) ∷ ps
+pub cut-word : (d : ℕ) (w s f : List ℕ) (ps : List (List ℕ)) → among d w ≡ false → cut d s ≡ f ∷ ps
+    → cut d (w ++ s) ≡ (w ++ f) ∷ ps
 unfolding cut among
 cut-word d [] s f ps n e = e
 cut-word d (b ∷ w) s f ps n e = rw (neither (eqb b d) (among d w) n .0, cut-word d w s f ps (neither (eqb b d) (among d w) n .1) e)
@@ -50,13 +51,15 @@ unfolding cut
 cut-append d [] y = rw (eq-eqb d d refl)
 cut-append d (b ∷ x) y = go (eqb b d) (cut-append d x y)
   where
-    go : (t : Bool) → cut d (x ++ d ∷ y) ≡ cut d x ++ cut d y → cond t ([] ∷ cut d (x ++ d ∷ y)) (growFirst b (cut d (x ++ d ∷ y)))
+    go : (t : Bool) → cut d (x ++ d ∷ y) ≡ cut d x ++ cut d y
+        → cond t ([] ∷ cut d (x ++ d ∷ y)) (growFirst b (cut d (x ++ d ∷ y)))
         ≡ cond t ([] ∷ cut d x) (growFirst b (cut d x)) ++ cut d y
     go true e = rw e
     go false e = rw e (grow-append b (cut d x) (cut d y) (cut-some d x))
 
 -- the pieces before some other are lines
-pub lines-append : (xs : List (List ℕ)) (p : List ℕ) (ps : List (List ℕ)) → linesOf (xs ++ p ∷ ps) ≡ map lineOf xs ++ linesOf (p ∷ ps)
+pub lines-append : (xs : List (List ℕ)) (p : List ℕ) (ps : List (List ℕ)) → linesOf (xs ++ p ∷ ps) ≡ map lineOf xs
+    ++ linesOf (p ∷ ps)
 unfolding linesOf
 lines-append [] p ps = refl
 lines-append (x ∷ []) p ps = refl

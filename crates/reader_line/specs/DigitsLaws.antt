@@ -78,6 +78,7 @@ pub number-zero : (w : List ℕ) → 1 < length w → length w ≤ 9 → getD w 
 unfolding numeralOf
 number-zero w h k e = simp (le-leb 1 (length w) (omega arith), le-leb (length w) 9 k, leading-zero w h e)
 
-pub number-digits : (w : List ℕ) → (length w ≡ 0 → ⊥) → length w ≤ 9 → leadingZero w ≡ false → numeralOf w ≡ digits 0 w
+pub number-digits : (w : List ℕ) → (length w ≡ 0 → ⊥) → length w ≤ 9 → leadingZero w ≡ false
+    → numeralOf w ≡ digits 0 w
 unfolding numeralOf
 number-digits w h k e = let l : 1 ≤ length w = omega arith in simp (le-leb 1 (length w) l, le-leb (length w) 9 k, e)

@@ -28,7 +28,8 @@ above : (a z b : ℕ) → a ≤ b → z < b → within a z b ≡ false
 unfolding within
 above a z b l h = simp (le-leb a b l, lt-leb b z h)
 
-odd : (b : ℕ) → within 48 57 b ≡ false → within 97 122 b ≡ false → (b ≡ 40 → ⊥) → (b ≡ 41 → ⊥) → (b ≡ 32 → ⊥) → (b ≡ 10 → ⊥)
+odd : (b : ℕ) → within 48 57 b ≡ false → within 97 122 b ≡ false → (b ≡ 40 → ⊥) → (b ≡ 41 → ⊥)
+    → (b ≡ 32 → ⊥) → (b ≡ 10 → ⊥)
     → plain b ≡ false
 unfolding plain
 odd b d l o c s n = simp (d, l, ne-eqb b 40 o, ne-eqb b 41 c, ne-eqb b 32 s, ne-eqb b 10 n)
@@ -55,7 +56,8 @@ plain-at [] k h e = absurd (omega arith)
 plain-at (b ∷ p) zero h e = both-true (plain b) (allPlain p) e .0
 plain-at (b ∷ p) (suc k) h e = plain-at p k (omega arith) (both-true (plain b) (allPlain p) e .1)
 
-module _ (text : List ℕ) (at i : ℕ) (q : i + toNext 10 (drop i text) ≡ at + toNext 10 (drop at text)) (l : at ≤ i) (h : i < length text)
+module _ (text : List ℕ) (at i : ℕ) (q : i + toNext 10 (drop i text) ≡ at + toNext 10 (drop at text)) (l : at ≤ i)
+    (h : i < length text)
   where
     pub odd-byte : (getD text i 0 ≡ 10 → ⊥) → plain (getD text i 0) ≡ false → FirstBroken (linesOf (cut 10 (drop at text)))
     odd-byte n p = go (ltb (at + toNext 10 (drop at text)) (length text)) refl

@@ -42,7 +42,8 @@ unfolding cut allPlain
 cut-plain d [] h a = refl
 cut-plain d (b ∷ s) h a = go (eqb b d) refl (cut d s) (cut-some d s) (cut-plain d s h) a
   where
-    more : (p : List ℕ) (ps : List (List ℕ)) → (PlainPieces (p ∷ ps) → allPlain s ≡ true) → PlainPieces (growFirst b (p ∷ ps)) → plain b
+    more : (p : List ℕ) (ps : List (List ℕ)) → (PlainPieces (p ∷ ps) → allPlain s ≡ true)
+        → PlainPieces (growFirst b (p ∷ ps)) → plain b
         && allPlain s ≡ true
     more p ps ih x = let y = both-true (plain b) (allPlain p) (x .0) in both (plain b) (allPlain s) (y .0) (ih (y .1, x .1))
 
@@ -52,7 +53,8 @@ cut-plain d (b ∷ s) h a = go (eqb b d) refl (cut d s) (cut-some d s) (cut-plai
     go false e [] c ih x = let q : [] ≡ c .first ∷ c .rest = c .are in let z : _≡_ {A = ℕ} 0 1 = cc in absurd (omega arith)
     go false e (p ∷ ps) c ih x = more p ps ih x
 
-pub then-some : {A B : Type 0} (o : Option A) (f : A → Option B) (x : B) → andThen o f ≡ some x → (a : A) × (o ≡ some a) × (f a ≡ some x)
+pub then-some : {A B : Type 0} (o : Option A) (f : A → Option B) (x : B) → andThen o f ≡ some x → (a : A) × (o ≡ some a)
+    × (f a ≡ some x)
 unfolding andThen
 then-some none f x e = let z : _≡_ {A = ℕ} 0 1 = cc in absurd (omega arith)
 then-some (some a) f x e = (a, refl, e)
@@ -68,7 +70,8 @@ same-is [] (b ∷ w) e = absurd (false≢true e)
 same-is (a ∷ v) [] e = absurd (false≢true e)
 same-is (a ∷ v) (b ∷ w) e = go (eqb a b) refl e (same-is v w)
   where
-    go : (t : Bool) → eqb a b ≡ t → cond t (sameBytes v w) false ≡ true → (sameBytes v w ≡ true → v ≡ w) → a ∷ v ≡ b ∷ w
+    go : (t : Bool) → eqb a b ≡ t → cond t (sameBytes v w) false ≡ true → (sameBytes v w ≡ true → v ≡ w)
+        → a ∷ v ≡ b ∷ w
     go true q x ih = let p = eqb-true a b q in let r = ih x in cc
     go false q x ih = absurd (false≢true x)
 

@@ -50,7 +50,8 @@ module _ (line : List ℕ) (a e : ℕ) (l : e ≡ length line) (h : a < e) where
   pub tail-closed : getD line (e - 1) 0 ≡ 41 → closed (drop a line) ≡ some (part line a (e - 1))
   tail-closed g =
       let n : a + (e - 1 - a) ≡ e - 1 = omega arith in
-      closed-last (e - 1 - a) (drop a line) (rw length-drop (omega arith)) (getD-drop a line (e - 1 - a) 0 ∙ ap (λ k. getD line k 0) n ∙ g)
+      closed-last (e - 1 - a) (drop a line) (rw length-drop (omega arith))
+      (getD-drop a line (e - 1 - a) 0 ∙ ap (λ k. getD line k 0) n ∙ g)
 
   pub tail-open : (getD line (e - 1) 0 ≡ 41 → ⊥) → closed (drop a line) ≡ none
   tail-open g =
@@ -64,7 +65,8 @@ pub noted-none : (o : Option Line) → o ≡ none → (m : ℕ) (table : List �
 unfolding noted
 noted-none o e m table = rw e
 
-pub noted-tender : (o : Option Line) (t : Tender) → o ≡ some (tender t) → (m : ℕ) (table : List ℕ) → some (tenderNote t) ≡ noted m table o
+pub noted-tender : (o : Option Line) (t : Tender) → o ≡ some (tender t) → (m : ℕ) (table : List ℕ)
+    → some (tenderNote t) ≡ noted m table o
 unfolding noted
 noted-tender o t e m table = rw e
 
@@ -162,7 +164,8 @@ module _ (line : List ℕ) (at n p : ℕ) (l : at ≤ length line) (q : at + toN
           bid-whole t g = rw words (rw (gi, gv) (go (windowsIn (cut 32 (drop (p + 1) line))) g))
             where
               go : (o : Option (List Window)) → some t ≡ tallied m 0 true table o
-                  → some (bidNote i v t) ≡ noted m table (andThen o (λ ws. some (bid (record { bidder = i; price = v; windows = ws }))))
+                  → some (bidNote i v t) ≡ noted m table (andThen o
+                  (λ ws. some (bid (record { bidder = i; price = v; windows = ws }))))
               go none e = let z : _≡_ {A = ℕ} 0 1 = cc in absurd (omega arith)
               go (some ws) e = cc
 
@@ -210,6 +213,7 @@ module _ (line : List ℕ) (e : ℕ) (q : 0 + toNext 32 (drop 0 line) ≡ e) whe
         unfolding lineOf lineOfWords sameBytes
         line-bid s t = ap lineOfWords opened-words ∙ rw (eq-eqb (getD line 0 0) 40 g) (rw (s, t))
 
-        pub line-other : sameBytes (part line 1 e) tenderWord ≡ false → sameBytes (part line 1 e) bidWord ≡ false → lineOf line ≡ none
+        pub line-other : sameBytes (part line 1 e) tenderWord ≡ false → sameBytes (part line 1 e) bidWord ≡ false
+            → lineOf line ≡ none
         unfolding lineOf lineOfWords sameBytes
         line-other s t = ap lineOfWords opened-words ∙ rw (eq-eqb (getD line 0 0) 40 g) (rw (s, t))

@@ -76,7 +76,8 @@ cut-at d s i e q h =
     cut-next d (drop i s) l ∙ rw n (rw (drop-drop, m))
 
 -- or the end
-pub cut-at-end : (d : ℕ) (s : List ℕ) (i : ℕ) → i ≤ length s → i + toNext d (drop i s) ≡ length s → cut d (drop i s) ≡ drop i s ∷ []
+pub cut-at-end : (d : ℕ) (s : List ℕ) (i : ℕ) → i ≤ length s → i + toNext d (drop i s) ≡ length s
+    → cut d (drop i s) ≡ drop i s ∷ []
 cut-at-end d s i l q = cut-last d (drop i s) (rw length-drop (omega arith))
 
 -- lines from place i on
@@ -85,7 +86,8 @@ pub lines-at : (s : List ℕ) (i e : ℕ) → i + toNext 10 (drop i s) ≡ e →
 unfolding linesOf
 lines-at s i e q h = let c = cut-some 10 (drop (e + 1) s) in rw (cut-at 10 s i e q h, c .are)
 
-pub lines-unended : (s : List ℕ) (i : ℕ) → i < length s → i + toNext 10 (drop i s) ≡ length s → linesOf (cut 10 (drop i s)) ≡ none ∷ []
+pub lines-unended : (s : List ℕ) (i : ℕ) → i < length s → i + toNext 10 (drop i s) ≡ length s
+    → linesOf (cut 10 (drop i s)) ≡ none ∷ []
 unfolding linesOf
 lines-unended s i l q = rw (cut-at-end 10 s i (omega arith) q, drop-next s i l)
 

@@ -115,7 +115,8 @@ line-windows line b h = omega (arith, go (cut 32 line) h, cut-bytes 32 line)
     go [] e = let z : _≡_ {A = ℕ} 0 1 = cc in absurd (omega arith)
     go (w ∷ ws) e = first (sameBytes w (40 ∷ tenderWord)) (sameBytes w (40 ∷ bidWord)) e
       where
-        first : (x y : Bool) → cond x (tenderOf ws) (cond y (bidOf ws) none) ≡ some (bid b) → 6 * length (b .windows) ≤ bytesOf (w ∷ ws)
+        first : (x y : Bool) → cond x (tenderOf ws) (cond y (bidOf ws) none) ≡ some (bid b)
+            → 6 * length (b .windows) ≤ bytesOf (w ∷ ws)
         first true y q = absurd (tender-no-bid ws b q)
         first false true q = omega (arith, bid-long ws b q)
         first false false q = let z : _≡_ {A = ℕ} 0 1 = cc in absurd (omega arith)

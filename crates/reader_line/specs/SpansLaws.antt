@@ -28,7 +28,8 @@ pub span-second : (s e : List ℕ) (a : ℕ) → numeralOf s ≡ some a → nume
 unfolding spanOf andThen
 span-second s e a h k = rw (h, k)
 
-pub span-both : (s e : List ℕ) (a z : ℕ) → numeralOf s ≡ some a → numeralOf e ≡ some z → spanOf s e ≡ some (record { start = a; end = z })
+pub span-both : (s e : List ℕ) (a z : ℕ) → numeralOf s ≡ some a → numeralOf e ≡ some z
+    → spanOf s e ≡ some (record { start = a; end = z })
 unfolding spanOf andThen
 span-both s e a z h k = rw (h, k)
 
@@ -74,7 +75,8 @@ closed-other (suc n) (b ∷ []) h e = absurd (omega arith)
 closed-other zero (b ∷ c ∷ w) h e = absurd (omega arith)
 closed-other (suc n) (b ∷ c ∷ w) h e = rw (closed-other n (c ∷ w) (omega arith) e)
 
-pub closed-is : (w : List ℕ) → (length w ≡ 0 → ⊥) → getD w (length w - 1) 0 ≡ 41 → closed w ≡ some (take (length w - 1 - 0) (drop 0 w))
+pub closed-is : (w : List ℕ) → (length w ≡ 0 → ⊥) → getD w (length w - 1) 0 ≡ 41
+    → closed w ≡ some (take (length w - 1 - 0) (drop 0 w))
 closed-is w h e = let k : length w ≡ suc (length w - 1) = omega arith in rw sub-zero (closed-last (length w - 1) w k e)
 
 pub closed-not : (w : List ℕ) → (length w ≡ 0 → ⊥) → (getD w (length w - 1) 0 ≡ 41 → ⊥) → closed w ≡ none

@@ -55,11 +55,13 @@ module _ (line : List ℕ) (i e f : ℕ) (m n : ℕ) (ok : Bool) (table : List �
         rw (cut-at 32 line i e q h, cut-at 32 line (e + 1) f q′ k, c .are, g)
 
     -- the last window, with the line's own bracket after it
-    pub tally-last : f ≡ length line → (w : Window) → andThen (closed (drop (e + 1) line)) (λ z. windowOf (part line i e) z) ≡ some w →
+    pub tally-last : f ≡ length line → (w : Window) → andThen (closed (drop (e + 1) line)) (λ z. windowOf (part line i e) z)
+        ≡ some w →
         tallied m n ok table (windowsIn (cut 32 (drop i line)))
         ≡ some (record { count = n + 1; sound = ok && lawful w; table = putWindow table (m + n) w })
     unfolding tallied windowsIn andThen
-    tally-last k w g = rw (cut-at 32 line i e q h, cut-at-end 32 line (e + 1) (omega arith) (q′ ∙ k)) (go (closed (drop (e + 1) line)) g)
+    tally-last k w g = rw (cut-at 32 line i e q h, cut-at-end 32 line (e + 1) (omega arith) (q′ ∙ k))
+        (go (closed (drop (e + 1) line)) g)
       where
         go : (o : Option (List ℕ)) → andThen o (λ z. windowOf (part line i e) z) ≡ some w →
             tallied m n ok table (andThen o (λ z. andThen (windowOf (part line i e) z) (λ v. some (v ∷ []))))

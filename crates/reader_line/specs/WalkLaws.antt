@@ -34,7 +34,8 @@ pub is-wrong : (o : Option Window) → asSpan o ≡ Wrong → o ≡ none
 is-wrong none e = refl
 is-wrong (some w) e = let q : _≡_ {A = ℕ} 0 1 = cc in absurd (omega arith)
 
-pub tally-last-wrong : (line : List ℕ) (i e f m n : ℕ) (ok : Bool) (table : List ℕ) → i + toNext 32 (drop i line) ≡ e → e < length line
+pub tally-last-wrong : (line : List ℕ) (i e f m n : ℕ) (ok : Bool) (table : List ℕ) → i + toNext 32 (drop i line) ≡ e
+    → e < length line
     → e + 1 + toNext 32 (drop (e + 1) line) ≡ f → f ≡ length line →
     lastOf (take (e - i) (drop i line)) (drop (e + 1) line) ≡ none → tallied m n ok table (windowsIn (cut 32 (drop i line))) ≡ none
 unfolding tallied windowsIn andThen lastOf

@@ -168,7 +168,8 @@ pub enum Line {
 // The tender's line from the word after "(tender" on: kind, start, end and a closing bracket.
 fn read_tender(line: &[u8], at: usize) -> Line
     requires { ⌜ at ≤ length (now line) ⌝ }
-    ensures { λ r. ⌜ ((m : ℕ) (table : List ℕ) → toldLine r table ≡ noted m table (tenderOf (cut 32 (drop at (now (line .entry)))))) ⌝ }
+    ensures { λ r. ⌜ ((m : ℕ) (table : List ℕ) → toldLine r table
+        ≡ noted m table (tenderOf (cut 32 (drop at (now (line .entry)))))) ⌝ }
 {
     let k = next(line, at, b' ');
     if line.len() <= k {
@@ -203,7 +204,8 @@ fn read_tender(line: &[u8], at: usize) -> Line
 // A bid's line from the word after "(bid" on: bidder, price and the windows, which are put into the rows from m on.
 fn read_bid(line: &[u8], at: usize, windows: &mut [u64], m: usize) -> Line
     requires { ⌜ (at ≤ length (now line)) × (m ≤ 32000) ⌝ }
-    ensures { λ r. ⌜ toldLine r (now (windows .exit)) ≡ noted m (now (windows .entry)) (bidOf (cut 32 (drop at (now (line .entry))))) ⌝ }
+    ensures { λ r. ⌜ toldLine r (now (windows .exit))
+        ≡ noted m (now (windows .entry)) (bidOf (cut 32 (drop at (now (line .entry))))) ⌝ }
 {
     let n = next(line, at, b' ');
     if line.len() <= n {

@@ -89,7 +89,7 @@ fn single_cases(tender: Tender, bids: &[u64], windows: &[u64]) {
         bids,
         windows,
     );
-    let longer = tender_of(Kind::Single, 0, 101);
+    let longer = tender_of(Kind::Single, 0, 10);
     show_single(b"single, a minute in no bid", longer, 5, bids, windows);
     show_single(b"single, minutes in one bid", tender, 2, bids, windows);
     show_multi(b"single, put to the other award", tender, 5, bids, windows);
@@ -105,12 +105,12 @@ fn multi_cases(tender: Tender, bids: &[u64], windows: &[u64]) {
     show_single(b"multi, put to the other award", tender, 4, bids, windows);
 }
 
-// The first worked tender of paper 01, and a sixth bid.
+// Six bids of one window each, of which five have a row.
 fn singles() {
     let mut bids = [0u64; 24];
     let mut windows = [0u64; 12];
     let reading = reader::read(
-        b"(tender single 0 100)\n(bid 11 30 (0 50))\n(bid 12 40 (40 100))\n(bid 13 90 (0 100))\n(bid 14 35 (0 60))\n(bid 15 50 (60 100))\n(bid 16 60 (50 100))\n",
+        b"(tender single 0 9)\n(bid 1 3 (0 5))\n(bid 2 4 (4 9))\n(bid 3 10 (0 9))\n(bid 4 4 (0 6))\n(bid 5 5 (6 9))\n(bid 6 6 (5 9))\n",
         &mut bids,
         &mut windows,
     );
@@ -136,7 +136,8 @@ fn multis() {
     let mut bids = [0u64; 24];
     let mut windows = [0u64; 16];
     let reading = reader::read(
-        b"(tender multi 0 10)\n(bid 21 12 (0 4) (6 8))\n(bid 22 15 (4 10))\n(bid 23 30 (0 10))\n(bid 24 9 (8 10) (4 5))\n(bid 25 31 (0 10))\n(bid 26 32 (0 10))\n",
+        b"(tender multi 0 10)\n(bid 21 12 (0 4) (6 8))\n(bid 22 15 (4 10))\n(bid 23 30 (0 10))\n\
+        (bid 24 9 (8 10) (4 5))\n(bid 25 31 (0 10))\n(bid 26 32 (0 10))\n",
         &mut bids,
         &mut windows,
     );

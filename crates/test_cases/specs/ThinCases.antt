@@ -18,7 +18,8 @@ pub thin : allTrue (
     ∷ refuses 11 7 (try Multi Multi 0 9 2 (bidRow 1 1 0 1 ++ bidRow 2 1 1 3) (0 ∷ 7 ∷ 0 ∷ 3 ∷ 4 ∷ 7 ∷ 8 ∷ 9 ∷ []))
     -- the first minute of a word, and the last
     ∷ refuses 11 64 (try Multi Multi 0 128 4 fourOfOne (0 ∷ 64 ∷ 0 ∷ 64 ∷ 65 ∷ 128 ∷ 65 ∷ 128 ∷ []))
-    ∷ refuses 12 63 (try Multi Multi 0 128 3 (bidRow 1 1 0 1 ++ bidRow 2 1 1 1 ++ bidRow 3 1 2 1) (0 ∷ 63 ∷ 0 ∷ 128 ∷ 64 ∷ 128 ∷ []))
+    ∷ refuses 12 63 (try Multi Multi 0 128 3 (bidRow 1 1 0 1 ++ bidRow 2 1 1 1 ++ bidRow 3 1 2 1)
+    (0 ∷ 63 ∷ 0 ∷ 128 ∷ 64 ∷ 128 ∷ []))
     ∷ []) ≡ true
 unfolding allTrue refuses try bidRow fourOfOne
 thin = refl

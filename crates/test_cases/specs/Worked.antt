@@ -52,7 +52,8 @@ same-rows (r ∷ rs) (s ∷ ss) e =
     let a = and-split (sameBool (r .won) (s .won) && eqb (r .cents) (s .cents)) (sameRows rs ss) e in
     let b = and-split (sameBool (r .won) (s .won)) (eqb (r .cents) (s .cents)) (a .0) in
     ap (λ w. record { won = w; cents = r .cents } ∷ rs) (same-bool (r .won) (s .won) (b .0))
-    ∙ ap (λ c. record { won = s .won; cents = c } ∷ rs) (eqb-true (r .cents) (s .cents) (b .1)) ∙ ap (λ l. s ∷ l) (same-rows rs ss (a .1))
+    ∙ ap (λ c. record { won = s .won; cents = c } ∷ rs) (eqb-true (r .cents) (s .cents) (b .1))
+    ∙ ap (λ l. s ∷ l) (same-rows rs ss (a .1))
 
 same-answer : (a b : Outcome) → sameOutcome a b ≡ true → a ≡ b
 unfolding sameOutcome

@@ -65,7 +65,8 @@ module _ (a b ps : List ℕ) where
   -- none is needed before the first cell
   pub least-none : leastBelow a b ps 0 ≡ found 0
   unfolding leastBelow
-  least-none = start (length ps) 0 0 (λ i. getD a i 0) (λ i. getD b i 0) (λ i. getD ps i 0) (cost ps) anyBid (coversBelow a b (length ps))
+  least-none = start (length ps) 0 0 (λ i. getD a i 0) (λ i. getD b i 0) (λ i. getD ps i 0) (cost ps) anyBid
+      (coversBelow a b (length ps))
       (prefixes 0) (priced ps) 0 (omega arith)
 
   -- a bid and what comes before it cost no more than all the bids
@@ -74,7 +75,8 @@ module _ (a b ps : List ℕ) where
   fits i c l e = go (leastSet (coversBelow a b (length ps)) (cost ps) (length ps) (getD a i 0)) e
       (leastSet-right (coversBelow a b (length ps)) (cost ps) (length ps) (getD a i 0))
     where
-      go : (r : Found) → foundCost (cost ps) r ≡ found c → IsFirst (coversBelow a b (length ps) (getD a i 0)) (cost ps) (2 ^ length ps) r
+      go : (r : Found) → foundCost (cost ps) r ≡ found c
+          → IsFirst (coversBelow a b (length ps) (getD a i 0)) (cost ps) (2 ^ length ps) r
           → c + getD ps i 0 ≤ sum ps
       go nothing e w = absurd (none-found e)
       go (found m) e w = omega (
@@ -103,7 +105,8 @@ module _ (k : ℕ) (a b ps : List ℕ) where
   fits-without i c l e = go (leastSet (othersBelow k a b (length ps)) (cost ps) (length ps) (getD a i 0)) e
       (leastSet-right (othersBelow k a b (length ps)) (cost ps) (length ps) (getD a i 0))
     where
-      go : (r : Found) → foundCost (cost ps) r ≡ found c → IsFirst (othersBelow k a b (length ps) (getD a i 0)) (cost ps) (2 ^ length ps) r
+      go : (r : Found) → foundCost (cost ps) r ≡ found c
+          → IsFirst (othersBelow k a b (length ps) (getD a i 0)) (cost ps) (2 ^ length ps) r
           → c + getD ps i 0 ≤ sum ps
       go nothing e w = absurd (none-found e)
       go (found m) e w = omega (
@@ -168,7 +171,8 @@ module _ (k : ℕ) (a b ps : List ℕ) where
       (λ o. coversFrom (λ x. x) o (spans a b) (length ps)) family (priced ps) k l
       xs v m 0 z f bids every (λ q d x y. refl)
     where
-      family : (o : ℕ) → Prefixes (length ps) o L (λ i. getD a i 0) (λ i. getD b i 0) anyBid (coversFrom (λ x. x) o (spans a b) (length ps))
+      family : (o : ℕ) → Prefixes (length ps) o L (λ i. getD a i 0) (λ i. getD b i 0) anyBid
+          (coversFrom (λ x. x) o (spans a b) (length ps))
       family o = whole L (spans a b) ps (λ i. getD a i 0) (λ i. getD b i 0) (λ i x l d. refl) o
 
       v : ℕ → Found

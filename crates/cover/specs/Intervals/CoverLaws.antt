@@ -55,7 +55,8 @@ module _ (f : ℕ → ℕ) (o L : ℕ) (has : ℕ → ℕ → Bool) (n : ℕ) (a
       }
 
   -- a bid whose cells the rest has can go
-  pub spare : (t m i : ℕ) → t ≤ L → bit m i ≡ false → ((x : ℕ) → o ≤ x → x < t → a i ≤ x → x < b i → hit has n m (f x) ≡ true)
+  pub spare : (t m i : ℕ) → t ≤ L → bit m i ≡ false
+      → ((x : ℕ) → o ≤ x → x < t → a i ≤ x → x < b i → hit has n m (f x) ≡ true)
       → coversFrom f o has n t (m + 2 ^ i) ≡ true → coversFrom f o has n t m ≡ true
   spare t m i l k d e = covers-of t m (λ x z g. go x z g (meets-at t (m + 2 ^ i) x e z g))
     where
@@ -137,12 +138,14 @@ module _ (n o L : ℕ) (a b : ℕ → ℕ) (may : ℕ → Bool) (ok : ℕ → �
           by true g = ap (bit m) (eqb-true k i g) ∙ x
           by false g = sym (added i m x .keeps k (eqb-false k i g)) ∙ q .1
 
-  without-add : (t m i : ℕ) → t ≤ L → i < n → mayBut k may i ≡ true → bit m i ≡ false → a i < t → t ≤ b i → without k (ok (a i)) m ≡ true
+  without-add : (t m i : ℕ) → t ≤ L → i < n → mayBut k may i ≡ true → bit m i ≡ false → a i < t → t ≤ b i
+      → without k (ok (a i)) m ≡ true
       → without k (ok t) (m + 2 ^ i) ≡ true
   unfolding without mayBut
   without-add t m i l j u x y z e = go (and-not-split (ok (a i) m) (bit m k) e) (and-not-split (may i) (eqb i k) u)
     where
-      go : (ok (a i) m ≡ true) × (bit m k ≡ false) → (may i ≡ true) × (eqb i k ≡ false) → without k (ok t) (m + 2 ^ i) ≡ true
+      go : (ok (a i) m ≡ true) × (bit m k ≡ false) → (may i ≡ true) × (eqb i k ≡ false)
+          → without k (ok t) (m + 2 ^ i) ≡ true
       go q w = rw (h .add t m i l j (w .0) x y z (q .0), added i m x .keeps k (λ g. eqb-false i k (w .1) (sym g)), q .1)
 
   pub without-prefixes : Prefixes n o L a b (mayBut k may) (λ t s. without k (ok t) s)

@@ -33,7 +33,8 @@ mirrored-more a b x y L n l d h = record {
   ends = λ i u. one y (λ j. L - getD a j 0) d (h .ends) i u (eqb i n) refl;
 }
   where
-    one : (z : List ℕ) (f : ℕ → ℕ) → n < length z → ((i : ℕ) → i < n → getD z i 0 ≡ f i) → (i : ℕ) → i < n + 1 → (s : Bool) → eqb i n ≡ s
+    one : (z : List ℕ) (f : ℕ → ℕ) → n < length z → ((i : ℕ) → i < n → getD z i 0 ≡ f i) → (i : ℕ) → i < n + 1
+        → (s : Bool) → eqb i n ≡ s
         → getD (set z n (f n)) i 0 ≡ f i
     one z f l g i u true e = rw (eqb-true i n e) (getD-set-same z n (f n) 0 l)
     one z f l g i u false e = getD-set-other z n i (f n) 0 (eqb-false i n e) ∙ g i (omega (arith, eqb-false i n e))
@@ -50,13 +51,15 @@ module _ (a b x y : List ℕ) (L n : ℕ) (h : Mirrored a b x y L n) where
   same-cells : (i z : ℕ) → i < n → z < L → spans x y i z ≡ spans a b i (mirrored L z)
   same-cells i z l d = near-cells i z l d ∙ rw (h .starts i l, h .ends i l) (sym (far-cells i z l d))
 
-  to : (t s : ℕ) → t ≤ L → coversFrom (λ z. z) 0 (spans x y) n t s ≡ true → coversFrom (mirrored L) 0 (spans a b) n t s ≡ true
+  to : (t s : ℕ) → t ≤ L → coversFrom (λ z. z) 0 (spans x y) n t s ≡ true
+      → coversFrom (mirrored L) 0 (spans a b) n t s ≡ true
   to t s f e = covers-of (mirrored L) 0 L (spans a b) n (λ i. L - getD b i 0) (λ i. L - getD a i 0) far-cells t s
       (λ z u g. let m = meets-at (λ z. z) 0 L (spans x y) n (λ i. getD x i 0) (λ i. getD y i 0) near-cells t s z e u g in
       hit-of (spans a b) n s (mirrored L z) (m .who) (m .inside) (m .in-set)
       (sym (same-cells (m .who) z (m .inside) (omega arith)) ∙ m .covers-it))
 
-  fro : (t s : ℕ) → t ≤ L → coversFrom (mirrored L) 0 (spans a b) n t s ≡ true → coversFrom (λ z. z) 0 (spans x y) n t s ≡ true
+  fro : (t s : ℕ) → t ≤ L → coversFrom (mirrored L) 0 (spans a b) n t s ≡ true
+      → coversFrom (λ z. z) 0 (spans x y) n t s ≡ true
   fro t s f e = covers-of (λ z. z) 0 L (spans x y) n (λ i. getD x i 0) (λ i. getD y i 0) near-cells t s
       (λ z u g. let m = meets-at (mirrored L) 0 L (spans a b) n (λ i. L - getD b i 0) (λ i. L - getD a i 0) far-cells t s z e u g in
       hit-of (spans x y) n s z (m .who) (m .inside) (m .in-set) (same-cells (m .who) z (m .inside) (omega arith) ∙ m .covers-it))

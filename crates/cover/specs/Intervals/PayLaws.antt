@@ -10,7 +10,8 @@ use Rattle.cover.specs.Intervals.PrefixLaws.{Prefixes, AddsUp}
 use Rattle.cover.specs.Intervals.CoverLaws.{without-prefixes}
 use Rattle.cover.specs.Intervals.SplitLaws.{split-cost, unneeded}
 
-module _ (n L : ℕ) (a b p cost : ℕ → ℕ) (may : ℕ → Bool) (ok : ℕ → ℕ → ℕ → Bool) (h : (o : ℕ) → Prefixes n o L a b may (ok o))
+module _ (n L : ℕ) (a b p cost : ℕ → ℕ) (may : ℕ → Bool) (ok : ℕ → ℕ → ℕ → Bool)
+    (h : (o : ℕ) → Prefixes n o L a b may (ok o))
     (c : AddsUp n p cost) (k : ℕ) (l : k < n) where
   -- up to its start, as with it
   pub near : (o u : ℕ) → u ≤ a k → u ≤ L → leastSet (λ t s. without k (ok o t) s) cost n u ≡ leastSet (ok o) cost n u
@@ -31,5 +32,6 @@ module _ (n L : ℕ) (a b p cost : ℕ → ℕ) (may : ℕ → Bool) (ok : ℕ �
   cost-without at w m o z f bids every values = split-cost n L a b p cost (mayBut k may) (λ o t s. without k (ok o t) s)
       (λ o. without-prefixes n o L a b may (ok o) k (h o)) c
       at w m o (b k) z f bids every
-      (λ q d x y. values q d x y ∙ ap (λ r. across (p (at q)) (foundCost cost (leastSet (λ t s. without k (ok o t) s) cost n (a (at q))))
+      (λ q d x y. values q d x y ∙ ap (λ r. across (p (at q))
+      (foundCost cost (leastSet (λ t s. without k (ok o t) s) cost n (a (at q))))
       (foundCost cost r)) (sym (far (b (at q)) y)))

@@ -13,7 +13,8 @@ use Rattle.cover.specs.LeastCoverLaws.{IsFirst, first-right}
 use Rattle.cover.specs.SetLaws.{and-split}
 use Rattle.cover.specs.SetMembers.{Removed, add-below, removed}
 use Rattle.cover.specs.Intervals.{At, Order, foundCost, growSet, leastSet, plus, raise, reaches, scan, scanCost}
-use Rattle.cover.specs.Intervals.ScanLaws.{SomeBefore, Family, IsLeast, Picked, cost-scan, found-one, least-of, least-one, least-same}
+use Rattle.cover.specs.Intervals.ScanLaws.{SomeBefore, Family, IsLeast, Picked, cost-scan, found-one, least-of, least-one}
+use Rattle.cover.specs.Intervals.ScanLaws.{least-same}
 use Rattle.cover.specs.Intervals.ScanLaws.{none-found, right-least, scan-least}
 
 -- a bid of s that has the cell before t
@@ -30,9 +31,11 @@ pub record Prefixes (n o L : ℕ) (a b : ℕ → ℕ) (may : ℕ → Bool) (ok :
   pub none : (t : ℕ) → t ≤ o → ok t 0 ≡ true
   pub less : (t u s : ℕ) → u ≤ t → ok t s ≡ true → ok u s ≡ true
   pub last : (t s : ℕ) → o < t → t ≤ L → ok t s ≡ true → Last n a b may t s
-  pub drop : (t m i : ℕ) → t ≤ L → ((x : ℕ) → o ≤ x → x < t → a i ≤ x → x < b i → ⊥) → bit m i ≡ false → ok t (m + 2 ^ i) ≡ true
+  pub drop : (t m i : ℕ) → t ≤ L → ((x : ℕ) → o ≤ x → x < t → a i ≤ x → x < b i → ⊥) → bit m i ≡ false
+      → ok t (m + 2 ^ i) ≡ true
       → ok t m ≡ true
-  pub add : (t m i : ℕ) → t ≤ L → i < n → may i ≡ true → bit m i ≡ false → a i < t → t ≤ b i → ok (a i) m ≡ true → ok t (m + 2 ^ i) ≡ true
+  pub add : (t m i : ℕ) → t ≤ L → i < n → may i ≡ true → bit m i ≡ false → a i < t → t ≤ b i → ok (a i) m ≡ true
+      → ok t (m + 2 ^ i) ≡ true
 
 pub record AddsUp (n : ℕ) (p cost : ℕ → ℕ) : Type 0 where
   pub empty : cost 0 ≡ 0
@@ -80,9 +83,11 @@ pub leastSet-is : (ok : ℕ → ℕ → Bool) (cost : ℕ → ℕ) (n t : ℕ) (
 leastSet-is ok cost n t r h = least-one (Family (ok t) (2 ^ n)) cost r (leastSet ok cost n t) h
     (right-least (ok t) cost (2 ^ n) (leastSet ok cost n t) (leastSet-right ok cost n t))
 
-module _ (n o L : ℕ) (a b p cost : ℕ → ℕ) (may : ℕ → Bool) (ok : ℕ → ℕ → Bool) (h : Prefixes n o L a b may ok) (c : AddsUp n p cost) where
+module _ (n o L : ℕ) (a b p cost : ℕ → ℕ) (may : ℕ → Bool) (ok : ℕ → ℕ → Bool) (h : Prefixes n o L a b may ok)
+    (c : AddsUp n p cost) where
   -- a winner is without a bid that has none of the cells
-  pub lacks : (u i m : ℕ) → i < n → ((x : ℕ) → o ≤ x → x < u → a i ≤ x → x < b i → ⊥) → u ≤ L → Wins (ok u) cost (2 ^ n) m → bit m i ≡ false
+  pub lacks : (u i m : ℕ) → i < n → ((x : ℕ) → o ≤ x → x < u → a i ≤ x → x < b i → ⊥) → u ≤ L
+      → Wins (ok u) cost (2 ^ n) m → bit m i ≡ false
   lacks u i m l y f w = go (bit m i) refl
     where
       bad : Removed m i → ⊥
@@ -236,7 +241,8 @@ module _ (n o L : ℕ) (a b p cost : ℕ → ℕ) (may : ℕ → Bool) (ok : ℕ
       → scanCost (reaches a b may at t) w k ≡ foundCost cost (leastSet ok cost n t)
   unfolding reaches
   scan-cost at w k t z f bids every values =
-      sym (cost-scan cost (reaches a b may at t) v w k same) ∙ ap (foundCost cost) (scan-leastSet at v k t z f bids every (λ q l d. refl))
+      sym (cost-scan cost (reaches a b may at t) v w k same)
+      ∙ ap (foundCost cost) (scan-leastSet at v k t z f bids every (λ q l d. refl))
     where
       v : ℕ → Found
       v q = plus (at q) (leastSet ok cost n (a (at q)))
@@ -261,6 +267,7 @@ module _ (n o L : ℕ) (a b p cost : ℕ → ℕ) (may : ℕ → Bool) (ok : ℕ
         go false e = scan-leastSet at v k (a (at k)) (leb-false (a (at k)) o e) f (λ q d. r .bids q (omega arith))
             (λ i d g u. ready n a at r k l i d (omega arith)) (λ q d g. values q d (omega arith))
 
-    pub award : (v : ℕ → Found) → o < L → ((q : ℕ) → q < n → a (at q) < L → v q ≡ plus (at q) (leastSet ok cost n (a (at q))))
+    pub award : (v : ℕ → Found) → o < L → ((q : ℕ) → q < n → a (at q) < L
+        → v q ≡ plus (at q) (leastSet ok cost n (a (at q))))
         → scan cost (reaches a b may at L) v n ≡ leastSet ok cost n L
     award v z values = scan-leastSet at v n L z (omega arith) (r .bids) (λ i d g u. r .every i d) values

@@ -55,7 +55,8 @@ least-one P cost (found a) (found b) u v = ap found (le-antisymm (x .early same)
     same = le-antisymm (x .cheap) (y .cheap)
 
 -- candidates among which each set has one before it decide the least of the sets
-pub least-of : (P Q : ℕ → Type 0) (cost : ℕ → ℕ) → ((s : ℕ) → P s → Q s) → ((s : ℕ) → Q s → SomeBefore P cost s) → (r : Found)
+pub least-of : (P Q : ℕ → Type 0) (cost : ℕ → ℕ) → ((s : ℕ) → P s → Q s) → ((s : ℕ) → Q s → SomeBefore P cost s)
+    → (r : Found)
     → IsLeast P cost r → IsLeast Q cost r
 least-of P Q cost f g nothing h = λ s q. h (g s q .one) (g s q .good)
 least-of P Q cost f g (found b) h = record {
@@ -63,7 +64,8 @@ least-of P Q cost f g (found b) h = record {
   fore = λ s q. precedes-trans (h .fore (g s q .one) (g s q .good)) (g s q .fore);
 }
 
-pub least-same : (P Q : ℕ → Type 0) (cost : ℕ → ℕ) → ((s : ℕ) → P s → Q s) → ((s : ℕ) → Q s → P s) → (r : Found) → IsLeast P cost r
+pub least-same : (P Q : ℕ → Type 0) (cost : ℕ → ℕ) → ((s : ℕ) → P s → Q s) → ((s : ℕ) → Q s → P s)
+    → (r : Found) → IsLeast P cost r
     → IsLeast Q cost r
 least-same P Q cost f g = least-of P Q cost f (λ s q. record { one = s; good = g s q; fore = precedes-refl cost s })
 
@@ -118,7 +120,8 @@ unfolding earlier
 earlier-false cost a b = fore-not cost a b (ltb (cost a) (cost b)) (eqb (cost a) (cost b)) (ltb a b) refl refl refl
 
 -- of the candidates P and one more, x
-pub lesser-least : (P Q : ℕ → Type 0) (cost : ℕ → ℕ) (x r : Found) → ((s : ℕ) → P s → Q s) → ((s : ℕ) → x ≡ found s → Q s)
+pub lesser-least : (P Q : ℕ → Type 0) (cost : ℕ → ℕ) (x r : Found) → ((s : ℕ) → P s → Q s)
+    → ((s : ℕ) → x ≡ found s → Q s)
     → ((s : ℕ) → Q s → P s ⊎ (x ≡ found s)) → IsLeast P cost r → IsLeast Q cost (lesser cost x r)
 unfolding lesser
 lesser-least P Q cost nothing r f g d h = least-same P Q cost f (λ s q. go s (d s q)) r h
@@ -204,7 +207,8 @@ cost-lesser cost (found a) (found b) = go (earlier cost a b) (ltb (cost a) (cost
     go false false e d = refl
 
 -- the least cost is the cost of the least
-pub cost-scan : (cost : ℕ → ℕ) (test : ℕ → Bool) (v w : ℕ → Found) (k : ℕ) → ((q : ℕ) → q < k → test q ≡ true → w q ≡ foundCost cost (v q))
+pub cost-scan : (cost : ℕ → ℕ) (test : ℕ → Bool) (v w : ℕ → Found) (k : ℕ)
+    → ((q : ℕ) → q < k → test q ≡ true → w q ≡ foundCost cost (v q))
     → foundCost cost (scan cost test v k) ≡ scanCost test w k
 unfolding scan scanCost foundCost
 cost-scan cost test v w zero f = refl
@@ -239,7 +243,8 @@ min-cost P cost nothing h = λ s q. h (q .set) (q .good)
 min-cost P cost (found b) h = (record { set = b; good = h .good; is = refl }, λ s q. omega (arith, h .fore (q .set) (q .good) .cheap))
 
 -- where each of P has one of Q that is at most it, and each of Q one of P, the least are one
-pub min-one : (P Q : ℕ → Type 0) → ((s : ℕ) → P s → Under Q s) → ((s : ℕ) → Q s → Under P s) → (r t : Found) → IsMin P r → IsMin Q t → r ≡ t
+pub min-one : (P Q : ℕ → Type 0) → ((s : ℕ) → P s → Under Q s) → ((s : ℕ) → Q s → Under P s) → (r t : Found)
+    → IsMin P r → IsMin Q t → r ≡ t
 min-one P Q f g nothing nothing u v = refl
 min-one P Q f g nothing (found b) u v = absurd (u (g b (v .0) .one) (g b (v .0) .good))
 min-one P Q f g (found a) nothing u v = absurd (v (f a (u .0) .one) (f a (u .0) .good))

@@ -25,7 +25,8 @@ pub record Cheap (n : ℕ) (cost : ℕ → ℕ) (ok : ℕ → Bool) (e : ℕ) : 
   pub good : Family ok (2 ^ n) set
   pub cheap : cost set ≤ e
 
-module _ (n o L : ℕ) (a b p cost : ℕ → ℕ) (may : ℕ → Bool) (ok : ℕ → ℕ → Bool) (h : Prefixes n o L a b may ok) (c : AddsUp n p cost) where
+module _ (n o L : ℕ) (a b p cost : ℕ → ℕ) (may : ℕ → Bool) (ok : ℕ → ℕ → Bool) (h : Prefixes n o L a b may ok)
+    (c : AddsUp n p cost) where
   pub insert : (t i m : ℕ) → t ≤ L → i < n → may i ≡ true → a i < t → t ≤ b i → Family (ok (a i)) (2 ^ n) m
       → Cheap n cost (ok t) (cost m + p i)
   insert t i m f l u x y w = go (bit m i) refl
@@ -50,22 +51,25 @@ module _ (n o L : ℕ) (a b p cost : ℕ → ℕ) (may : ℕ → Bool) (ok : ℕ
       }
 
 -- a bid that has the cell before t, a set for the cells from o to it, and one for the cells from it to e
-pub record Cross (n o : ℕ) (a b p cost : ℕ → ℕ) (may : ℕ → Bool) (ok : ℕ → ℕ → ℕ → Bool) (t e s : ℕ) : Type 0 where
-  pub bid : ℕ
-  pub inside : bid < n
-  pub usable : may bid ≡ true
-  pub begins : a bid < t
-  pub ends : t ≤ b bid
-  pub before : ℕ
-  pub early : Family (ok o (a bid)) (2 ^ n) before
-  pub after : ℕ
-  pub late : Family (ok (b bid) e) (2 ^ n) after
-  pub cheap : cost before + p bid + cost after ≤ cost s
+pub record Cross (n o : ℕ) (a b p cost : ℕ → ℕ) (may : ℕ → Bool) (ok : ℕ → ℕ → ℕ → Bool) (t e s : ℕ) : Type 0
+  where
+    pub bid : ℕ
+    pub inside : bid < n
+    pub usable : may bid ≡ true
+    pub begins : a bid < t
+    pub ends : t ≤ b bid
+    pub before : ℕ
+    pub early : Family (ok o (a bid)) (2 ^ n) before
+    pub after : ℕ
+    pub late : Family (ok (b bid) e) (2 ^ n) after
+    pub cheap : cost before + p bid + cost after ≤ cost s
 
 -- `ok o t`: the sets that cover the cells from o to t
-module _ (n L : ℕ) (a b p cost : ℕ → ℕ) (may : ℕ → Bool) (ok : ℕ → ℕ → ℕ → Bool) (h : (o : ℕ) → Prefixes n o L a b may (ok o))
+module _ (n L : ℕ) (a b p cost : ℕ → ℕ) (may : ℕ → Bool) (ok : ℕ → ℕ → ℕ → Bool)
+    (h : (o : ℕ) → Prefixes n o L a b may (ok o))
     (c : AddsUp n p cost) where
-  pub cut : (fuel o t e s : ℕ) → e < fuel → o < t → t ≤ e → e ≤ L → Family (ok o e) (2 ^ n) s → Cross n o a b p cost may ok t e s
+  pub cut : (fuel o t e s : ℕ) → e < fuel → o < t → t ≤ e → e ≤ L → Family (ok o e) (2 ^ n) s
+      → Cross n o a b p cost may ok t e s
   cut zero o t e s u z l f q = absurd (omega arith)
   cut (suc fuel) o t e s u z l f q = go (last-of n o L a b p cost may (ok o) (h o) c e s (omega arith) f q) (cut fuel o t)
     where
@@ -112,7 +116,8 @@ module _ (n L : ℕ) (a b p cost : ℕ → ℕ) (may : ℕ → Bool) (ok : ℕ �
   glue zero o u e m s z f w q = absurd (omega arith)
   glue (suc fuel) o u e m s z f w q = by (leb e u) refl (glue fuel o u)
     where
-      go : LastOf n a b p cost may (ok u) e s → ((e m s : ℕ) → e < fuel → e ≤ L → Family (ok o u) (2 ^ n) m → Family (ok u e) (2 ^ n) s
+      go : LastOf n a b p cost may (ok u) e s → ((e m s : ℕ) → e < fuel → e ≤ L → Family (ok o u) (2 ^ n) m
+          → Family (ok u e) (2 ^ n) s
           → Cheap n cost (ok o e) (cost m + cost s)) → Cheap n cost (ok o e) (cost m + cost s)
       go x ih = to (ih (a (x .bid)) m (x .rest) (omega arith) (omega arith) w (x .covers))
         where
@@ -120,7 +125,8 @@ module _ (n L : ℕ) (a b p cost : ℕ → ℕ) (may : ℕ → Bool) (ok : ℕ �
           to y = let r = insert n o L a b p cost may (ok o) (h o) c e (x .bid) (y .set) f (x .inside) (x .usable) (x .begins) (x .ends)
               (y .good) in record { set = r .set; good = r .good; cheap = omega arith }
 
-      by : (d : Bool) → leb e u ≡ d → ((e m s : ℕ) → e < fuel → e ≤ L → Family (ok o u) (2 ^ n) m → Family (ok u e) (2 ^ n) s
+      by : (d : Bool) → leb e u ≡ d → ((e m s : ℕ) → e < fuel → e ≤ L → Family (ok o u) (2 ^ n) m
+          → Family (ok u e) (2 ^ n) s
           → Cheap n cost (ok o e) (cost m + cost s)) → Cheap n cost (ok o e) (cost m + cost s)
       by true d ih = record {
         set = m;
@@ -130,7 +136,8 @@ module _ (n L : ℕ) (a b p cost : ℕ → ℕ) (may : ℕ → Bool) (ok : ℕ �
       by false d ih = go (last-of n u L a b p cost may (ok u) (h u) c e s (leb-false e u d) f q) ih
 
   -- a bid between a set that comes before it and one that comes after it
-  pub between : (o i m s : ℕ) → i < n → may i ≡ true → a i < b i → a i < L → Family (ok o (a i)) (2 ^ n) m → Family (ok (b i) L) (2 ^ n) s
+  pub between : (o i m s : ℕ) → i < n → may i ≡ true → a i < b i → a i < L → Family (ok o (a i)) (2 ^ n) m
+      → Family (ok (b i) L) (2 ^ n) s
       → Cheap n cost (ok o L) (cost m + p i + cost s)
   between o i m s l u x y w q = by (leb L (b i)) refl
     where
@@ -148,7 +155,8 @@ module _ (n L : ℕ) (a b p cost : ℕ → ℕ) (may : ℕ → Bool) (ok : ℕ �
       (bids : (q : ℕ) → q < k → at q < n)
       (every : (i : ℕ) → i < n → a i < t → t ≤ b i → At at k i)
       (values : (q : ℕ) → q < k → a (at q) < t → t ≤ b (at q)
-      → w q ≡ across (p (at q)) (foundCost cost (leastSet (ok o) cost n (a (at q)))) (foundCost cost (leastSet (ok (b (at q))) cost n L)))
+      → w q ≡ across (p (at q)) (foundCost cost (leastSet (ok o) cost n (a (at q))))
+      (foundCost cost (leastSet (ok (b (at q))) cost n L)))
     where
       over : (x : ℕ) → Picked (reaches a b may at t) w k x → Under (Costs (Family (ok o L) (2 ^ n)) cost) x
       unfolding reaches across foundCost
@@ -193,7 +201,8 @@ module _ (n L : ℕ) (a b p cost : ℕ → ℕ) (may : ℕ → Bool) (ok : ℕ �
               (leastSet (ok (b (y .bid))) cost n L) refl refl (leastSet-right (ok o) cost n (a (y .bid)))
               (leastSet-right (ok (b (y .bid))) cost n L)
             where
-              to : At at k (y .bid) → (r s : Found) → leastSet (ok o) cost n (a (y .bid)) ≡ r → leastSet (ok (b (y .bid))) cost n L ≡ s
+              to : At at k (y .bid) → (r s : Found) → leastSet (ok o) cost n (a (y .bid)) ≡ r
+                  → leastSet (ok (b (y .bid))) cost n L ≡ s
                   → IsFirst (ok o (a (y .bid))) cost (2 ^ n) r → IsFirst (ok (b (y .bid)) L) cost (2 ^ n) s
                   → Under (Picked (reaches a b may at t) w k) x
               to v nothing s d e g h = absurd (g (y .before) (y .early .inside) (y .early .good))
@@ -220,7 +229,8 @@ module _ (n L : ℕ) (a b p cost : ℕ → ℕ) (may : ℕ → Bool) (ok : ℕ �
           (right-least (ok o L) cost (2 ^ n) (leastSet (ok o) cost n L) (leastSet-right (ok o) cost n L)))
 
 -- what bid k has no cell of is as well covered without it
-module _ (n o L : ℕ) (a b p cost : ℕ → ℕ) (may : ℕ → Bool) (ok : ℕ → ℕ → Bool) (h : Prefixes n o L a b may ok) (c : AddsUp n p cost) where
+module _ (n o L : ℕ) (a b p cost : ℕ → ℕ) (may : ℕ → Bool) (ok : ℕ → ℕ → Bool) (h : Prefixes n o L a b may ok)
+    (c : AddsUp n p cost) where
   pub unneeded : (k u : ℕ) → k < n → u ≤ L → ((x : ℕ) → o ≤ x → x < u → a k ≤ x → x < b k → ⊥)
       → leastSet (λ t s. without k (ok t) s) cost n u ≡ leastSet ok cost n u
   unfolding without

@@ -9,14 +9,16 @@ use Rattle.cover.specs.Intervals.{foundCost, leastSet, plus, raise}
 use Rattle.cover.specs.Intervals.ScanLaws.{Family, IsLeast, found-one, none-found}
 use Rattle.cover.specs.Intervals.PrefixLaws.{Prefixes, AddsUp, leastSet-is, leastSet-right, upper, upper-cost}
 
-module _ (n o L : ℕ) (a b p cost : ℕ → ℕ) (may : ℕ → Bool) (ok : ℕ → ℕ → Bool) (h : Prefixes n o L a b may ok) (c : AddsUp n p cost) where
+module _ (n o L : ℕ) (a b p cost : ℕ → ℕ) (may : ℕ → Bool) (ok : ℕ → ℕ → Bool) (h : Prefixes n o L a b may ok)
+    (c : AddsUp n p cost) where
   pub stays : (i u t : ℕ) → i < n → may i ≡ true → a i < u → u ≤ t → t ≤ b i → t ≤ L
       → leastSet ok cost n u ≡ plus i (leastSet ok cost n (a i)) → leastSet ok cost n u ≡ leastSet ok cost n t
   unfolding plus
   stays i u t l y d g e f q = leastSet-is ok cost n t (leastSet ok cost n u)
       (go (leastSet ok cost n (a i)) q (leastSet-right ok cost n (a i)) (leastSet ok cost n u) refl (leastSet-right ok cost n u))
     where
-      go : (x : Found) → leastSet ok cost n u ≡ plus i x → IsFirst (ok (a i)) cost (2 ^ n) x → (r : Found) → leastSet ok cost n u ≡ r
+      go : (x : Found) → leastSet ok cost n u ≡ plus i x → IsFirst (ok (a i)) cost (2 ^ n) x → (r : Found)
+          → leastSet ok cost n u ≡ r
           → IsFirst (ok u) cost (2 ^ n) r → IsLeast (Family (ok t) (2 ^ n)) cost r
       go x q v nothing z w = λ s m. w s (m .inside) (h .less t u s g (m .good))
       go nothing q v (found s) z w = let z : _≡_ {A = ℕ} 0 1 = cc in absurd (omega arith)

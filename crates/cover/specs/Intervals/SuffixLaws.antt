@@ -39,7 +39,8 @@ module _ (L : ℕ) (has : ℕ → ℕ → Bool) (n : ℕ) (a b : ℕ → ℕ)
 
   pub turned : (i y : ℕ) → i < n → y < L → has i (mirrored L y) ≡ leb (L - b i) y && ltb y (L - a i)
   unfolding mirrored
-  turned i y j l = sees i (L - 1 - y) j (omega arith) ∙ rw (test (a i) y l, test-past (b i) y l) (swap (ltb y (L - a i)) (leb (L - b i) y))
+  turned i y j l = sees i (L - 1 - y) j (omega arith)
+      ∙ rw (test (a i) y l, test-past (b i) y l) (swap (ltb y (L - a i)) (leb (L - b i) y))
 
   there : (u s : ℕ) → coversFrom (λ x. x) u has n L s ≡ true → coversFrom (mirrored L) 0 has n (L - u) s ≡ true
   unfolding mirrored
