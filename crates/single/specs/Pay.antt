@@ -15,7 +15,7 @@ use Rattle.cover.specs.Settled.{spans, Settled}
 use Rattle.cover.specs.SettledLaws.{FilledTo, listed-of, listed-at, cost-sum, sumTo, sum-listed, sum-same}
 use Rattle.cover.specs.Intervals.Bids.{Bids, costWithout}
 use Rattle.cover.specs.Intervals.BidsLaws.{paid-of, without-most}
-use Rattle.single_select.specs.Turn.{Selected}
+use Rattle.single_select.specs.Weighing.{Selected}
 
 unfoldable pub winnersOf : List ℕ → List ℕ → List ℕ → ℕ → ℕ
 unfolding winners covers spans

@@ -8,8 +8,8 @@ use lib.ListN.{length, getD}
 use Rattle.cover.specs.Sets.{Found}
 use Rattle.cover.specs.Intervals.{scanCost, reaches, raise}
 use Rattle.cover.specs.Intervals.Bids.{anyBid, costBelow, costAfter}
-use Rattle.single_select.specs.Costs.{noCost, costIn}
-use Rattle.single_select.specs.Live.{Thinned, Live}
+use Rattle.single_lead.specs.Costs.{noCost, costIn}
+use Rattle.single_lead.specs.Live.{Thinned, Live}
 
 -- x is a cost with what comes before, y one with what comes after: both have the price p
 unfoldable pub joined : ℕ → ℕ → ℕ → ℕ
@@ -43,7 +43,7 @@ pub record Waiting (a b ps order live : List ℕ) (q m : ℕ) : Type 0 where
   pub reach : Live order b live q m at
 
 -- the list thinned out for t and copied, with the costs of its bids
-pub record Begun (b old live before xs costs : List ℕ) (t m len : ℕ) : Type 0 where
+pub record BegunAt (b old live before xs costs : List ℕ) (t m len : ℕ) : Type 0 where
   pub thinned : Thinned b old live t m len
   pub copied : (j : ℕ) → j < len → getD xs j 0 ≡ getD live j 0
   pub priced : (j : ℕ) → j < m → getD costs (getD old j 0) 0 ≡ getD before (getD old j 0) 0

@@ -20,15 +20,17 @@ use Rattle.cover.specs.Intervals.CoverLaws.{priced, bit-none}
 use Rattle.cover.specs.Intervals.Bids.{anyBid, Bids, coversBelow, leastBelow, costWithout, endCost, costAfter}
 use Rattle.cover.specs.Intervals.BidsLaws.{prefixes, winners-of, cost-most, without-past, without-none, fits-without, scan-across, near}
 use Rattle.cover.specs.Intervals.MirrorLaws.{Mirrored, mirrored-cost}
-use Rattle.single_select.specs.Costs.{noCost, costIn, cost-found, cost-least}
-use Rattle.single_select.specs.Live.{On, Live, live-thinned, live-more, live-none, thinned-none, thinned-more, counted}
+use Rattle.single_lead.specs.Costs.{noCost, costIn}
+use Rattle.single_lead.specs.CostsLaws.{cost-found, cost-least}
+use Rattle.single_lead.specs.Live.{On, counted, Live}
+use Rattle.single_lead.specs.LiveLaws.{thinned-none, thinned-more, live-none, live-thinned, live-more, live-below, on-more}
+use Rattle.single_lead.specs.LeadLaws.{leading-none}
 use Rattle.single_costs.specs.Run.{Running, Ran}
-use Rattle.single_costs.specs.RunLaws.{on-more}
-use Rattle.single_costs.specs.Across.{joined, lessOf, joinAt, leastAcross, Before, After, Waiting, Begun}
+use Rattle.single_costs.specs.Across.{joined, lessOf, joinAt, leastAcross, Before, After, Waiting, BegunAt}
 
 -- the list thinned out and copied
 
-pub begun-none : (b old before xs costs : List ℕ) (t : ℕ) → Begun b old old before xs costs t 0 0
+pub begun-none : (b old before xs costs : List ℕ) (t : ℕ) → BegunAt b old old before xs costs t 0 0
 begun-none b old before xs costs t = record {
   thinned = thinned-none b old t;
   copied = λ j l. absurd (omega arith);
@@ -36,7 +38,7 @@ begun-none b old before xs costs t = record {
 }
 
 module _ (b old live before xs costs : List ℕ) (t j x : ℕ) (l : j < length old) (fit : x < length live) (room : x < length xs)
-    (i : getD live j 0 < length costs) (h : Begun b old live before xs costs t j x) where
+    (i : getD live j 0 < length costs) (h : BegunAt b old live before xs costs t j x) where
   abbrev v : ℕ
   v = getD live j 0
 
@@ -65,7 +67,7 @@ module _ (b old live before xs costs : List ℕ) (t j x : ℕ) (l : j < length o
       go false e = getD-set-other costs v (getD old y 0) (getD before v 0) 0 (eqb-false (getD old y 0) v e)
           ∙ h .priced y (less e (eqb y j) refl)
 
-  pub begun-more : Begun b old (set live x v) before (set xs x v) (set costs v (getD before v 0)) t (j + 1) (counted (getD b v 0) t x)
+  pub begun-more : BegunAt b old (set live x v) before (set xs x v) (set costs v (getD before v 0)) t (j + 1) (counted (getD b v 0) t x)
   unfolding counted
   begun-more = record {
     thinned = thinned-more b old live t j x l (h .thinned);
@@ -77,18 +79,18 @@ module _ (b old live before xs costs : List ℕ) (t j x : ℕ) (l : j < length o
 pub run-start : (a b ps order : List ℕ) (h : Bids a b ps order) (old live before xs costs : List ℕ) (q m len : ℕ) → q < length ps
     → length ps < length costs → len < length xs
     → getD a (getD order q 0) 0 ≤ getD b (getD order q 0) 0 → Before a b ps before → Waiting a b ps order old q m
-    → Begun b old live before xs costs (getD a (getD order q 0) 0) m len
+    → BegunAt b old live before xs costs (getD a (getD order q 0) 0) m len
     → Running (getD order q 0) a b ps order (set (set costs (getD order q 0) noCost) (length ps) noCost) (set xs len (getD order q 0))
-    (q + 1) (q + 1) (len + 1) 0 0 (getD b (getD order q 0) 0)
+    (q + 1) (q + 1) (len + 1) (length ps) 0 0 (getD b (getD order q 0) 0)
 unfolding costIn endCost
 run-start a b ps order h old live before xs costs q m len l fit room d f w g = record {
   at = getD a k 0;
   low = d;
-  early = λ j x y. h .sorted .sorted q j (omega arith) y;
-  reach = live-more order b xs q len (getD a k 0) room copied;
+  lead = leading-none (costWithout k a b ps) (found 0) a b ps order (set xs len k) (getD a k 0) (q + 1) (len + 1)
+      (λ j x y. h .sorted .sorted q j (omega arith) y) (live-more order b xs q len (getD a k 0) room copied)
+      (sym (without-none k a b ps));
   values = λ i y. value i y (eqb i k) refl;
   done = λ j x y. absurd (omega arith);
-  lasts = λ t x y. sym (let z : t ≡ 0 = omega arith in ap (costWithout k a b ps) z ∙ without-none k a b ps);
   guard = getD-set-same (set costs k noCost) (length ps) noCost 0 (rw length-set fit);
 }
   where
@@ -145,7 +147,7 @@ run-start a b ps order h old live before xs costs q m len l fit room d f w g = r
 
 -- the waiting list after it
 pub waiting-on : (a b ps order : List ℕ) (h : Bids a b ps order) (old live before xs costs : List ℕ) (q m len : ℕ) → q < length ps
-    → Waiting a b ps order old q m → Begun b old live before xs costs (getD a (getD order q 0) 0) m len → Waiting a b ps order live q len
+    → Waiting a b ps order old q m → BegunAt b old live before xs costs (getD a (getD order q 0) 0) m len → Waiting a b ps order live q len
 waiting-on a b ps order h old live before xs costs q m len l w g = record {
   at = getD a (getD order q 0) 0;
   early = λ j d e. h .sorted .sorted q j d e;
@@ -287,16 +289,15 @@ winner-ends a b ps L k l e = go (eqb (getD b k 0) 0) refl
 -- the costs after each bid, by the run over the bids seen from the other end
 
 pub run-all : (a b ps order costs live : List ℕ) (stop : ℕ) → getD costs (length ps) 0 ≡ noCost
-    → Running (length ps) a b ps order costs live 0 0 0 0 0 stop
+    → Running (length ps) a b ps order costs live 0 0 0 (length ps) 0 0 stop
 unfolding costIn
 run-all a b ps order costs live stop e = record {
   at = 0;
   low = omega arith;
-  early = λ j d l. omega arith;
-  reach = live-none order b live;
+  lead = leading-none (costWithout (length ps) a b ps) (found 0) a b ps order live 0 0 0 (λ j d l. omega arith) (live-none order b live)
+      (sym (without-none (length ps) a b ps));
   values = λ i y. absurd (omega (arith, y .inside));
   done = λ j d l. absurd (omega arith);
-  lasts = λ t x y. sym (let z : t ≡ 0 = omega arith in ap (costWithout (length ps) a b ps) z ∙ without-none (length ps) a b ps);
   guard = e;
 }
 
@@ -331,13 +332,11 @@ module _ (s e t x r : ℕ) where
 -- the bids of the lists are bids
 pub waiting-below : (a b ps order : List ℕ) (h : Bids a b ps order) (live : List ℕ) (q m : ℕ) → q ≤ length ps
     → Waiting a b ps order live q m → (j : ℕ) → j < m → getD live j 0 < length ps
-waiting-below a b ps order h live q m l w j d = let y = w .reach .inside j d in
-    rw (y .is) at (h .sorted .bids (y .place) (omega (arith, y .inside)))
+waiting-below a b ps order h live q m l w = live-below a b ps order h live q m (w .at) l (w .reach)
 
 pub ran-below : (k : ℕ) (a b ps order : List ℕ) (h : Bids a b ps order) (costs live : List ℕ) (from stop m : ℕ)
     → Ran k a b ps order costs live from stop m → (j : ℕ) → j < m → getD live j 0 < length ps
-ran-below k a b ps order h costs live from stop m g j d = let y = g .reach .inside j d in
-    rw (y .is) at (h .sorted .bids (y .place) (omega (arith, y .inside, g .fit)))
+ran-below k a b ps order h costs live from stop m g = live-below a b ps order h live (g .pos) m (g .at) (g .fit) (g .reach)
 
 pub ran-small : (k : ℕ) (a b ps order : List ℕ) (h : Bids a b ps order) (costs live : List ℕ) (from stop m : ℕ) → sum ps ≤ 100000000000
     → Ran k a b ps order costs live from stop m

@@ -1,7 +1,7 @@
 // Least costs of covering without a bid, for the payments of a single tender. A run over the bids in order of start gives each
 // bid the least cost of a set that ends with it; it serves for the costs from the end of each bid on, with the bids seen from the
-// other end, and for the bids that begin in a winner's window, once more and without that winner. The bid of the least cost leads
-// as long as it reaches the next start.
+// other end, and for the bids that begin in a winner's window, once more and without that winner. The least cost comes from the
+// bid that leads.
 ghost use mathlib.Core.Path.{_≡_};
 ghost use Prim.Native.Nat.{ℕ, _+_, _-_, _<_, _≤_};
 ghost use lib.ListN.{getD, length};
@@ -9,8 +9,8 @@ ghost use Rattle.cover.specs.Sets.{valueOf};
 ghost use Rattle.cover.specs.CriticalPrice.{sum};
 ghost use Rattle.cover.specs.Intervals.Bids.{Bids, costWithout};
 ghost use Rattle.cover.specs.Intervals.MirrorLaws.{Mirrored};
-ghost use Rattle.single_select.specs.Costs.{costIn};
-ghost use Rattle.single_costs.specs.Across.{joined, lessOf, leastAcross, Before, After, Waiting, Begun};
+ghost use Rattle.single_lead.specs.Costs.{costIn};
+ghost use Rattle.single_costs.specs.Across.{joined, lessOf, leastAcross, Before, After, Waiting, BegunAt};
 
 mod steps;
 
@@ -22,10 +22,10 @@ fn join(x: u64, y: u64, price: u64) -> u64
     requires { ⌜ ((y ≡ 18446744073709551615 → ⊥) → (price ≤ y) × (y ≤ 100000000000 + price)) ⌝ }
     ensures { λ r. ⌜ r ≡ joined x y price ⌝ }
 {
-    if x == single_select::NONE {
+    if x == single_lead::NONE {
         return x;
     }
-    if y == single_select::NONE {
+    if y == single_lead::NONE {
         return y;
     }
     x + (y - price)
@@ -66,7 +66,7 @@ fn least_across(
     ensures { λ r. ⌜ costIn r ≡ leastAcross (now (starts .entry)) (now (ends .entry)) (now (prices .entry)) (now (live .entry))
         (now (costs .entry)) (now (after .entry)) t m ⌝ }
 {
-    let mut r: u64 = single_select::NONE;
+    let mut r: u64 = single_lead::NONE;
     let mut j = 0;
     while j < m {
         let i = live[j];
@@ -90,7 +90,7 @@ fn begin(
     requires { ⌜ (m ≤ length (now live)) × (m ≤ length (now xs)) × (m < 1000000) ⌝ }
     requires { ⌜ ((j : ℕ) → j < m → (getD (now live) j 0 < length (now ends)) × (getD (now live) j 0 < length (now before))
         × (getD (now live) j 0 < length (now costs))) ⌝ }
-    ensures { λ x. ⌜ Begun (now (ends .entry)) (now (live .entry)) (now (live .exit)) (now (before .entry)) (now (xs .exit))
+    ensures { λ x. ⌜ BegunAt (now (ends .entry)) (now (live .entry)) (now (live .exit)) (now (before .entry)) (now (xs .exit))
         (now (costs .exit)) t m x ⌝ }
 {
     let mut x: usize = 0;
@@ -100,7 +100,7 @@ fn begin(
         live[x] = i;
         xs[x] = i;
         costs[i] = before[i];
-        x = single_select::count(ends[i], t, x);
+        x = single_lead::count(ends[i], t, x);
         j += 1;
     }
     x
@@ -143,13 +143,13 @@ pub fn without(
     let n = prices.len();
     let k = order[q];
     let len = begin(ends, live, before, xs, costs, m, starts[k]);
-    costs[k] = single_select::NONE;
-    costs[n] = single_select::NONE;
+    costs[k] = single_lead::NONE;
+    costs[n] = single_lead::NONE;
     xs[len] = k;
     let t = ends[k];
     let size = run(starts, ends, prices, order, xs, costs, k, q + 1, len + 1, t);
     let c = least_across(starts, ends, prices, xs, costs, after, size, t);
-    let cost = single_select::whole(c);
+    let cost = single_lead::whole(c);
     Rest {
         cost: cost,
         live: len,
@@ -186,6 +186,6 @@ pub fn after(starts: &[u64], ends: &[u64], prices: &[u64], cells: u64, costs: &m
     let n = prices.len();
     mirror(starts, ends, n, cells, &mut x, &mut y);
     single_order::by_start(&x, n, cells, &mut order);
-    costs[n] = single_select::NONE;
+    costs[n] = single_lead::NONE;
     run(&x, &y, prices, &order, &mut live, costs, n, 0, 0, cells + 1);
 }

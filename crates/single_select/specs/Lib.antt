@@ -1,7 +1,4 @@
-pub mod Costs
-pub mod Rows
-pub mod RowLaws
-pub mod Live
-pub mod Lead
-pub mod LeadLaws
-pub mod Turn
+pub mod Extend
+pub mod ExtendLaws
+pub mod Weighing
+pub mod WeighingLaws

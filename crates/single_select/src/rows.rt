@@ -1,52 +1,12 @@
-// Sets of bids in rows of sixteen 64-bit words: the order of two rows, a row with one bid more, a row's bids as flags.
+// Sets of bids in rows of sixteen 64-bit words: a row with one bid more, a row's bids as flags.
 ghost use mathlib.Core.Path.{_≡_};
-ghost use mathlib.Core.Bool.{true, false};
+ghost use mathlib.Core.Bool.{false};
 ghost use Prim.Native.Nat.{_+_, _*_, _-_, _/_, _%_, _^_, _<_, _≤_};
 ghost use lib.ListN.{length};
-ghost use lib.Dec.{ltb};
 ghost use Rattle.cover.specs.Sets.{bit, when};
 ghost use Rattle.cover.specs.SettledLaws.{FilledTo};
-ghost use Rattle.single_select.specs.Rows.{row, prefer, Extended};
-ghost use Rattle.single_select.specs.RowLaws.{Copied};
-
-// The set in row `q` stands in a tie with the set in row `r`: the highest word that tells them apart decides.
-fn stands(sets: &[u64], q: usize, r: usize) -> bool
-    requires { ⌜ (q * 16 + 16 ≤ length (now sets)) × (r * 16 + 16 ≤ length (now sets)) ⌝ }
-    ensures { λ z. ⌜ z ≡ ltb (row (now (sets .entry)) q) (row (now (sets .entry)) r) ⌝ }
-{
-    let mut j: usize = 16;
-    while j > 0 {
-        j -= 1;
-        let x = sets[q * 16 + j];
-        let y = sets[r * 16 + j];
-        if x < y {
-            return true;
-        }
-        if y < x {
-            return false;
-        }
-    }
-    false
-}
-
-// Of bids `q` and `r` the one of less weight.
-pub(crate) fn lighter(costs: &[u64], sets: &[u64], q: usize, r: usize) -> usize
-    requires { ⌜ (q < length (now costs)) × (r < length (now costs)) × (q * 16 + 16 ≤ length (now sets))
-        × (r * 16 + 16 ≤ length (now sets)) ⌝ }
-    ensures { λ z. ⌜ z ≡ prefer (now (costs .entry)) (now (sets .entry)) q r ⌝ }
-{
-    let x = costs[q];
-    let y = costs[r];
-    if x < y {
-        return q;
-    }
-    if x == y {
-        if stands(sets, q, r) {
-            return q;
-        }
-    }
-    r
-}
+ghost use Rattle.single_lead.specs.Rows.{setIn};
+ghost use Rattle.single_select.specs.Extend.{Copied, Extended};
 
 fn mask(i: usize) -> u64
     ensures { λ x. ⌜ x ≡ 2 ^ (i % 64) ⌝ }
@@ -69,7 +29,7 @@ fn copy_row(sets: &mut [u64], from: usize, to: usize)
 // Row `i`: row `from` with bid `i`.
 pub(crate) fn extend(sets: &mut [u64], from: usize, i: usize)
     requires { ⌜ (from * 16 + 16 ≤ length (now sets)) × (i * 16 + 16 ≤ length (now sets)) × (from ≡ i → ⊥) × (i < 1024) ⌝ }
-    requires { ⌜ bit (row (now sets) from) i ≡ false ⌝ }
+    requires { ⌜ bit (setIn (now sets) from) i ≡ false ⌝ }
     ensures { λ r. ⌜ Extended (now (sets .entry)) (now (sets .exit)) from i (2 ^ i) ⌝ }
 {
     copy_row(sets, from, i);
@@ -80,7 +40,7 @@ pub(crate) fn extend(sets: &mut [u64], from: usize, i: usize)
 // Row `r`: the set of no bids.
 pub(crate) fn clear(sets: &mut [u64], r: usize)
     requires { ⌜ r * 16 + 16 ≤ length (now sets) ⌝ }
-    ensures { λ z. ⌜ row (now (sets .exit)) r ≡ 0 ⌝ }
+    ensures { λ z. ⌜ setIn (now (sets .exit)) r ≡ 0 ⌝ }
 {
     let mut j: usize = 0;
     while j < 16 {
@@ -92,7 +52,7 @@ pub(crate) fn clear(sets: &mut [u64], r: usize)
 // A flag for each bid of the set in row `r`.
 pub(crate) fn mark(sets: &[u64], r: usize, n: usize, won: &mut [u64])
     requires { ⌜ (r * 16 + 16 ≤ length (now sets)) × (n ≤ 1024) × (n ≤ length (now won)) ⌝ }
-    ensures { λ z. ⌜ FilledTo (λ i. when (bit (row (now (sets .entry)) r) i) 1) (now (won .entry)) (now (won .exit)) n ⌝ }
+    ensures { λ z. ⌜ FilledTo (λ i. when (bit (setIn (now (sets .entry)) r) i) 1) (now (won .entry)) (now (won .exit)) n ⌝ }
 {
     let mut i = 0;
     while i < n {

@@ -3,7 +3,7 @@ use mathlib.Core.Path.{_≡_}
 use Prim.Native.Nat.{_≤_, _-_}
 use lib.ListN.{length, length-set}
 use native.Mathlib.Nat.{le-antisymm}
-use Rattle.single_costs.specs.Across.{Begun}
+use Rattle.single_costs.specs.Across.{BegunAt}
 use Rattle.single_costs.specs.AcrossLaws.{begun-none, begun-more}
 use native.Mathlib.Omega.{arith}
 use borrow.Author.Needs.{needs}
@@ -12,7 +12,7 @@ use Rattle.single_costs.proofs.begin.Tie as tie
 
 abbrev Inv-loop : tie.InvT-loop
 Inv-loop ends live₀ before xs₀ costs₀ m t x₀ j₀ live xs costs x j = (j ≤ m) × (length live ≡ length live₀) × (length xs ≡ length xs₀)
-    × (length costs ≡ length costs₀) × Begun ends live₀ live before xs costs t j x
+    × (length costs ≡ length costs₀) × BegunAt ends live₀ live before xs costs t j x
 
 abbrev μ-loop : tie.MeasureT-loop
 μ-loop ends live₀ before xs₀ costs₀ m t x₀ j₀ live xs costs x j = m - j

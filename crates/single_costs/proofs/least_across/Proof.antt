@@ -4,7 +4,7 @@ use Prim.Native.Nat.{_≤_, _-_}
 use lib.ListN.{getD}
 use native.Mathlib.Nat.{le-antisymm}
 use native.Mathlib.Numerals.{add-one}
-use Rattle.single_select.specs.Costs.{costIn}
+use Rattle.single_lead.specs.Costs.{costIn}
 use Rattle.single_costs.specs.Across.{leastAcross}
 use Rattle.single_costs.specs.AcrossLaws.{across-none, across-more}
 use native.Mathlib.Omega.{arith}

@@ -1,6 +1,7 @@
 -- `single_select::step` meets its contract: the leading set with the bid is the bid's weight. Assumes nothing.
 use mathlib.Core.Path.{refl}
-use Rattle.single_select.specs.Turn.{turn, led-next, live-below, lead-lacks, lead-fits, lead-other}
+use Rattle.single_lead.specs.LiveLaws.{live-below}
+use Rattle.single_select.specs.WeighingLaws.{weighing-more, next-row, lead-lacks, lead-fits, lead-other}
 use native.Mathlib.Omega.{arith}
 use borrow.Author.Needs.{needs}
 use Rattle.single_select.proofs.step.Statement.{statement}
@@ -29,15 +30,15 @@ lead-at-requires c κs =
     let c12 = c .before .before .before .before .before .before .before .before .before .before .before .before in
     let pre = c12 .pre in (
       (
-        omega (arith, pre .1 .0, pre .1 .1 .0, pre .1 .1 .1 .reach .few),
-        omega (arith, pre .1 .0, pre .1 .1 .0, pre .1 .1 .1 .reach .few),
-        omega (arith, pre .1 .0),
+        omega (arith, pre .1 .0, pre .1 .1 .0, pre .1 .1 .1 .lead .reach .few),
+        omega (arith, pre .1 .0, pre .1 .1 .0, pre .1 .1 .1 .lead .reach .few),
         omega (arith, pre .1 .0),
         omega (arith, pre .0 .starts),
         omega (arith, pre .0 .ends),
+        λ e. omega (arith, pre .1 .0),
       ),
       (
-        live-below _ _ _ _ _ _ _ (pre .0) _ _ _ _ _ (omega (arith, pre .1 .1 .0)) (pre .1 .1 .1),
+        live-below _ _ _ _ (pre .0) _ _ _ _ (omega (arith, pre .1 .1 .0)) (pre .1 .1 .1 .lead .reach),
         (pre .1 .1 .1 .guard, pre .1 .1 .1 .empty),
       ),
     )
@@ -47,12 +48,12 @@ extend-requires c κs =
     let c16 = c .before .before .before .before .before .before .before .before .before .before .before .before .before .before .before
     .before in
     let pre = c16 .pre in
-    let y = led-next _ _ _ _ _ _ (pre .0) _ _ _ _ _ _ _ _ _ _ _ (pre .1 .1 .0 .0) (pre .1 .1 .1)
+    let y = next-row _ _ _ _ _ _ (pre .0) _ _ _ _ _ _ _ _ _ _ _ (pre .1 .1 .0 .0) (pre .1 .1 .1)
     (c .before .before .before .lead-at .ensures) in
     let l = pre .0 .sorted .bids (c16 .args .k) (pre .1 .1 .0 .0) in
     let e = pre .1 .1 .1 .empty in (
       (
-        omega (arith, y .lead .within, pre .1 .0),
+        omega (arith, y .least .lead .within, pre .1 .0),
         omega (arith, l, pre .1 .0),
         lead-other _ _ _ _ _ _ _ _ _ _ _ _ e y _ l refl,
         omega (arith, l, pre .1 .0),
@@ -79,7 +80,7 @@ add-price-requires c κs =
     let c7 = c .before .before .before .before .before .before .before in
     let c20 = c7 .before .before .before .before .before .before .before .before .before .before .before .before .before in
     let pre = c20 .pre in
-    let y = led-next _ _ _ _ _ _ (pre .0) _ _ _ _ _ _ _ _ _ _ _ (pre .1 .1 .0 .0) (pre .1 .1 .1) (c7 .lead-at .ensures) in
+    let y = next-row _ _ _ _ _ _ (pre .0) _ _ _ _ _ _ _ _ _ _ _ (pre .1 .1 .0 .0) (pre .1 .1 .1) (c7 .lead-at .ensures) in
     lead-fits _ _ _ _ _ _ _ _ _ _ _ _ (pre .1 .1 .1 .empty) y _ (pre .0 .sorted .bids (c20 .args .k) (pre .1 .1 .0 .0)) refl
     (pre .1 .1 .0 .1)
 
@@ -102,24 +103,24 @@ mul-live c =
     let c8 = c .before .before .before .before .before .before .before .before in
     let c21 = c8 .before .before .before .before .before .before .before .before .before .before .before .before .before in
     let pre = c21 .pre in
-    let y = led-next _ _ _ _ _ _ (pre .0) _ _ _ _ _ _ _ _ _ _ _ (pre .1 .1 .0 .0) (pre .1 .1 .1) (c8 .lead-at .ensures) in
-    omega (arith, y .reach .few, pre .1 .0, pre .1 .1 .0, c8 .lead-at .kept)
+    let y = next-row _ _ _ _ _ _ (pre .0) _ _ _ _ _ _ _ _ _ _ _ (pre .1 .1 .0 .0) (pre .1 .1 .1) (c8 .lead-at .ensures) in
+    omega (arith, y .least .lead .reach .few, pre .1 .0, pre .1 .1 .0, c8 .lead-at .kept)
 
 slice-write-live : tie.Need-slice-write-live
 slice-write-live c =
     let c8 = c .before .before .before .before .before .before .before .before in
     let c21 = c8 .before .before .before .before .before .before .before .before .before .before .before .before .before in
     let pre = c21 .pre in
-    let y = led-next _ _ _ _ _ _ (pre .0) _ _ _ _ _ _ _ _ _ _ _ (pre .1 .1 .0 .0) (pre .1 .1 .1) (c8 .lead-at .ensures) in
-    omega (arith, y .reach .few, pre .1 .0, pre .1 .1 .0, c8 .lead-at .kept)
+    let y = next-row _ _ _ _ _ _ (pre .0) _ _ _ _ _ _ _ _ _ _ _ (pre .1 .1 .0 .0) (pre .1 .1 .1) (c8 .lead-at .ensures) in
+    omega (arith, y .least .lead .reach .few, pre .1 .0, pre .1 .1 .0, c8 .lead-at .kept)
 
 add-t15 : tie.Need-add-t15
 add-t15 c =
     let c8 = c .before .before .before .before .before .before .before .before in
     let c21 = c8 .before .before .before .before .before .before .before .before .before .before .before .before .before in
     let pre = c21 .pre in
-    let y = led-next _ _ _ _ _ _ (pre .0) _ _ _ _ _ _ _ _ _ _ _ (pre .1 .1 .0 .0) (pre .1 .1 .1) (c8 .lead-at .ensures) in
-    omega (arith, y .reach .few, pre .1 .0, pre .1 .1 .0, c8 .lead-at .kept)
+    let y = next-row _ _ _ _ _ _ (pre .0) _ _ _ _ _ _ _ _ _ _ _ (pre .1 .1 .0 .0) (pre .1 .1 .1) (c8 .lead-at .ensures) in
+    omega (arith, y .least .lead .reach .few, pre .1 .0, pre .1 .1 .0, c8 .lead-at .kept)
 
 same-length : tie.Need-same-length
 same-length c = search needs
@@ -136,11 +137,11 @@ returns c =
     let c8 = c4 .before .before .before .before in
     let c21 = c8 .before .before .before .before .before .before .before .before .before .before .before .before .before in
     let pre = c21 .pre in
-    let y = led-next _ _ _ _ _ _ (pre .0) _ _ _ _ _ _ _ _ _ _ _ (pre .1 .1 .0 .0) (pre .1 .1 .1) (c8 .lead-at .ensures) in
+    let y = next-row _ _ _ _ _ _ (pre .0) _ _ _ _ _ _ _ _ _ _ _ (pre .1 .1 .0 .0) (pre .1 .1 .1) (c8 .lead-at .ensures) in
     let g = pre .1 .1 .1 in
-    rw (c .add-price .ensures) (turn _ _ _ _ _ _ _ _ (pre .0) _ _ _ _ _ (pre .1 .1 .0 .0) (pre .1 .1 .0 .1) (omega (arith, pre .1 .0))
-    (omega (arith, y .reach .few, pre .1 .0, pre .1 .1 .0, c8 .lead-at .kept)) (g .guard) (g .empty) (g .done) y
-    (c4 .extend .ensures))
+    rw (c .add-price .ensures) (weighing-more _ _ _ _ _ _ _ _ (pre .0) _ _ _ _ _ (pre .1 .1 .0 .0) (pre .1 .1 .0 .1)
+    (omega (arith, pre .1 .0)) (omega (arith, y .least .lead .reach .few, pre .1 .0, pre .1 .1 .0, c8 .lead-at .kept)) (g .guard)
+    (g .empty) (g .done) y (c4 .extend .ensures))
 
 pub step-spec : {M : Type 1} → statement M
 step-spec =

@@ -4,9 +4,9 @@ use Prim.Native.Nat.{_≤_, _-_}
 use lib.ListN.{length, length-set}
 use lib.Seq.{getD-set-same}
 use native.Mathlib.Nat.{le-antisymm}
-use Rattle.single_select.specs.Lead.{Running}
-use Rattle.single_select.specs.LeadLaws.{running-none}
-use Rattle.single_select.specs.Turn.{weighed, live-below}
+use Rattle.single_lead.specs.LiveLaws.{live-below}
+use Rattle.single_select.specs.Weighing.{Weighing}
+use Rattle.single_select.specs.WeighingLaws.{weighing-none, weighed}
 use native.Mathlib.Omega.{arith}
 use borrow.Author.Needs.{needs}
 use Rattle.single_select.proofs.weigh.Statement.{statement}
@@ -15,7 +15,7 @@ use Rattle.single_select.proofs.weigh.Tie as tie
 abbrev Inv-loop : tie.InvT-loop
 Inv-loop starts ends prices order cells live₀ costs₀ sets₀ n lead₀ k₀ live costs sets lead k = (k ≤ length prices)
     × (length live ≡ length live₀) × (length costs ≡ length costs₀) × (length sets ≡ length sets₀)
-    × Running starts ends prices order costs sets live k (lead .live) (lead .row) (lead .cost) (lead .end)
+    × Weighing starts ends prices order costs sets live k (lead .live) (lead .row) (lead .cost) (lead .end)
 
 abbrev μ-loop : tie.MeasureT-loop
 μ-loop starts ends prices order cells live₀ costs₀ sets₀ n lead₀ k₀ live costs sets lead k = length prices - k
@@ -35,7 +35,7 @@ loop-holds c =
       refl,
       simp length-set refl,
       refl,
-      running-none _ _ _ _ _ _ _ (getD-set-same (args .costs .now) (length (args .prices .now)) 18446744073709551615 0
+      weighing-none _ _ _ _ _ _ _ (getD-set-same (args .costs .now) (length (args .prices .now)) 18446744073709551615 0
           (omega (arith, pre .1 .0))) (pre .1 .1 .0 .1),
     )
 
@@ -82,15 +82,15 @@ lead-at-requires c κs =
     let args = c12 .args in
     let pre = c12 .pre in (
       (
-        omega (arith, c4 .loop .inv .4 .reach .few, c4 .loop .inv, pre .1 .0),
-        omega (arith, c4 .loop .inv .4 .reach .few, c4 .loop .inv, pre .1 .0),
+        omega (arith, c4 .loop .inv .4 .lead .reach .few, c4 .loop .inv, pre .1 .0),
+        omega (arith, c4 .loop .inv .4 .lead .reach .few, c4 .loop .inv, pre .1 .0),
         omega (arith, c4 .loop .inv .2, pre .1 .0, length-set (args .costs .now) (length (args .prices .now)) 18446744073709551615),
-        omega (arith, c4 .loop .inv .3, pre .1 .0),
         omega (arith, pre .0 .starts),
         omega (arith, pre .0 .ends),
+        λ e. omega (arith, c4 .loop .inv .3, pre .1 .0),
       ),
       (
-        live-below _ _ _ _ _ _ _ (pre .0) _ _ _ _ _ (c4 .loop .inv .0) (c4 .loop .inv .4),
+        live-below _ _ _ _ (pre .0) _ _ _ _ (c4 .loop .inv .0) (c4 .loop .inv .4 .lead .reach),
         (c4 .loop .inv .4 .guard, c4 .loop .inv .4 .empty),
       ),
     )

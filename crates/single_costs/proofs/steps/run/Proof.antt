@@ -13,7 +13,7 @@ use Rattle.single_costs.proofs.steps.run.Tie as tie
 abbrev Inv-loop : tie.InvT-loop
 Inv-loop starts ends prices order live₀ costs₀ skip from len stop n lead₀ q₀ live costs lead q = (q ≤ length prices)
     × (length live ≡ length live₀) × (length costs ≡ length costs₀)
-    × Running skip starts ends prices order costs live from q (lead .live) (lead .cost) (lead .end) stop
+    × Running skip starts ends prices order costs live from q (lead .live) (lead .row) (lead .cost) (lead .end) stop
 
 abbrev μ-loop : tie.MeasureT-loop
 μ-loop starts ends prices order live₀ costs₀ skip from len stop n lead₀ q₀ live costs lead q = length prices - q
@@ -52,7 +52,7 @@ returns : tie.Need-returns Inv-loop μ-loop
 returns c =
     let c4 = c .before .before .before .before in
     let c11 = c4 .before .before .before .before .before .before .before in
-    ran-stop _ _ _ _ _ _ _ (c11 .pre .0) _ _ _ _ _ _ (c .before .before .before .loop-test .taken) (c .if1 .taken) (c4 .loop .inv .3)
+    ran-stop _ _ _ _ _ _ _ (c11 .pre .0) _ _ _ _ _ _ _ (c4 .loop .inv .3) (c .before .before .before .loop-test .taken) (c .if1 .taken)
 
 step-requires : tie.Need-step-requires Inv-loop μ-loop
 step-requires c κs =
@@ -101,7 +101,7 @@ same-length-4 c = search needs
 returns-2 : tie.Need-returns-2 Inv-loop μ-loop
 returns-2 c =
     let c8 = c .before .before .before .before .before .before .before .before in
-    ran-end _ _ _ _ _ _ _ (c8 .pre .0) _ _ _ _ _ _ (le-antisymm (c .before .loop .inv .0) (c .loop-test .left)) (c .before .loop .inv .3)
+    ran-end _ _ _ _ _ _ _ (c8 .pre .0) _ _ _ _ _ _ _ (c .before .loop .inv .3) (le-antisymm (c .before .loop .inv .0) (c .loop-test .left))
 
 pub run-spec : {M : Type 1} → statement M
 run-spec =

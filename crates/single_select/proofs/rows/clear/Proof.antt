@@ -2,7 +2,8 @@
 use mathlib.Core.Path.{_≡_}
 use Prim.Native.Nat.{ℕ, _≤_, _<_, _-_, _+_, _*_}
 use lib.ListN.{length, length-set, getD}
-use Rattle.single_select.specs.RowLaws.{row-none, cleared-more}
+use Rattle.single_lead.specs.RowsLaws.{row-none}
+use Rattle.single_select.specs.ExtendLaws.{cleared-more}
 use native.Mathlib.Omega.{arith}
 use borrow.Author.Needs.{needs}
 use Rattle.single_select.proofs.rows.clear.Statement.{statement}

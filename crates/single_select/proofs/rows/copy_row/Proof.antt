@@ -3,7 +3,8 @@ use mathlib.Core.Path.{_≡_}
 use Prim.Native.Nat.{_≤_, _-_}
 use lib.ListN.{length, length-set}
 use native.Mathlib.Nat.{le-antisymm}
-use Rattle.single_select.specs.RowLaws.{Copied, copied-none, copied-more}
+use Rattle.single_select.specs.Extend.{Copied}
+use Rattle.single_select.specs.ExtendLaws.{copied-none, copied-more}
 use native.Mathlib.Omega.{arith}
 use borrow.Author.Needs.{needs}
 use Rattle.single_select.proofs.rows.copy_row.Statement.{statement}

@@ -1,5 +1,5 @@
 -- `single_select::rows::extend` meets its contract: the copied row has no bit of the bid, so its word has room. Assumes nothing.
-use Rattle.single_select.specs.RowLaws.{word-room, extended}
+use Rattle.single_select.specs.ExtendLaws.{word-room, extended}
 use Prim.Native.Nat.{_/_}
 use native.Mathlib.Omega.{arith}
 use borrow.Author.Needs.{needs}

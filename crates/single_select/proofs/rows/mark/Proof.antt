@@ -5,15 +5,15 @@ use lib.ListN.{length, length-set}
 use native.Mathlib.Nat.{le-antisymm}
 use Rattle.cover.specs.Sets.{bit, when}
 use Rattle.cover.specs.SettledLaws.{FilledTo, written-none, written-more}
-use Rattle.single_select.specs.Rows.{row}
-use Rattle.single_select.specs.RowLaws.{bit-row}
+use Rattle.single_lead.specs.Rows.{setIn}
+use Rattle.single_select.specs.ExtendLaws.{bit-row}
 use native.Mathlib.Omega.{arith}
 use borrow.Author.Needs.{needs}
 use Rattle.single_select.proofs.rows.mark.Statement.{statement}
 use Rattle.single_select.proofs.rows.mark.Tie as tie
 
 abbrev Inv-loop : tie.InvT-loop
-Inv-loop sets r n won₀ i₀ won i = (i ≤ n) × (length won ≡ length won₀) × FilledTo (λ i. when (bit (row sets r) i) 1) won₀ won i
+Inv-loop sets r n won₀ i₀ won i = (i ≤ n) × (length won ≡ length won₀) × FilledTo (λ i. when (bit (setIn sets r) i) 1) won₀ won i
 
 abbrev μ-loop : tie.MeasureT-loop
 μ-loop sets r n won₀ i₀ won i = n - i

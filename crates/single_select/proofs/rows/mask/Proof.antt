@@ -1,6 +1,6 @@
 -- `single_select::rows::mask` meets its contract: a power of two. Assumes nothing.
 use Prim.Native.Nat.{_%_}
-use Rattle.single_select.specs.RowLaws.{one-shifted}
+use Rattle.single_select.specs.ExtendLaws.{one-shifted}
 use native.Mathlib.Omega.{arith}
 use borrow.Author.Needs.{needs}
 use Rattle.single_select.proofs.rows.mask.Statement.{statement}
