@@ -33,7 +33,8 @@ pub record PaidTo (f : ℕ → ℕ) (order old new : List ℕ) (n q : ℕ) : Typ
 pub paid-none : (f : ℕ → ℕ) (order old : List ℕ) (n : ℕ) → PaidTo f order old old n 0
 paid-none f order old n = record { paid = λ j l. absurd (omega arith); kept = λ i l. refl }
 
-pub paid-more : (f : ℕ → ℕ) (order old new : List ℕ) (n q v : ℕ) → getD order q 0 < n → n ≤ length new → v ≡ f (getD order q 0)
+pub paid-more : (f : ℕ → ℕ) (order old new : List ℕ) (n q v : ℕ) → getD order q 0 < n → n ≤ length new
+    → v ≡ f (getD order q 0)
     → PaidTo f order old new n q → PaidTo f order old (set new (getD order q 0) v) n (q + 1)
 paid-more f order old new n q v l fit e h = record {
   paid = λ j d. go j d (eqb (getD order j 0) (getD order q 0)) refl;
@@ -51,7 +52,8 @@ paid-more f order old new n q v l fit e h = record {
         ∙ h .paid j (by j d (eqb j q) refl (eqb-false (getD order j 0) (getD order q 0) z))
 
 -- all of them
-pub paid-all : (f : ℕ → ℕ) (a b ps order old new : List ℕ) → Bids a b ps order → length new ≡ length old → (q : ℕ) → q ≡ length ps
+pub paid-all : (f : ℕ → ℕ) (a b ps order old new : List ℕ) → Bids a b ps order → length new ≡ length old → (q : ℕ)
+    → q ≡ length ps
     → PaidTo f order old new (length ps) q → FilledTo f old new (length ps)
 paid-all f a b ps order old new h e q z g = record {
   sized = e;
@@ -60,7 +62,8 @@ paid-all f a b ps order old new h e q z g = record {
 }
 
 -- a loser is paid nothing
-pub pays-none : (a b ps : List ℕ) (L i on : ℕ) → on ≡ when (bit (winnersOf a b ps L) i) 1 → on ≡ 0 → 0 ≡ vcgPaidOf a b ps L i
+pub pays-none : (a b ps : List ℕ) (L i on : ℕ) → on ≡ when (bit (winnersOf a b ps L) i) 1 → on ≡ 0
+    → 0 ≡ vcgPaidOf a b ps L i
 unfolding vcgPaidOf winnersOf payment
 pays-none a b ps L i on e z = go (bit (winners (covers (spans a b) (length ps) L) ps) i) refl ∙ sym (paid-of i a b ps L)
   where
@@ -75,7 +78,8 @@ pub wins-bit : (a b ps : List ℕ) (L i on : ℕ) → on ≡ when (bit (winnersO
 unfolding winnersOf
 wins-bit a b ps L i on e z = go (bit (winners (covers (spans a b) (length ps) L) ps) i) refl
   where
-    go : (t : Bool) → bit (winners (covers (spans a b) (length ps) L) ps) i ≡ t → bit (winners (covers (spans a b) (length ps) L) ps) i
+    go : (t : Bool) → bit (winners (covers (spans a b) (length ps) L) ps) i ≡ t
+        → bit (winners (covers (spans a b) (length ps) L) ps) i
         ≡ true
     go true d = d
     go false d = absurd (z (e ∙ ap (λ s. when s 1) d))

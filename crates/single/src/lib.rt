@@ -47,14 +47,18 @@ fn pay(
     all: u64,
 ) -> Paid
     requires { ⌜ Bids (now starts) (now ends) (now prices) (now order) ⌝ }
-    requires { ⌜ (length (now prices) ≤ 1000) × (length (now prices) ≤ length (now order)) × (length (now prices) ≤ length (now before))
-        × (length (now prices) ≤ length (now after)) × (length (now prices) ≤ length (now live)) × (length (now prices) ≤ length (now xs))
+    requires { ⌜ (length (now prices) ≤ 1000) × (length (now prices) ≤ length (now order))
+        × (length (now prices) ≤ length (now before))
+        × (length (now prices) ≤ length (now after)) × (length (now prices) ≤ length (now live))
+        × (length (now prices) ≤ length (now xs))
         × (length (now prices) < length (now costs)) ⌝ }
     requires { ⌜ (q < length (now prices)) × (sum (now prices) ≤ 100000000000) ⌝ }
     requires { ⌜ (won ≡ when (bit (winnersOf (now starts) (now ends) (now prices) cells) (getD (now order) q 0)) 1)
         × (all ≡ cost (now prices) (winnersOf (now starts) (now ends) (now prices) cells)) ⌝ }
-    requires { ⌜ ((i : ℕ) → i < length (now prices) → (getD (now starts) i 0 ≤ getD (now ends) i 0) × (getD (now ends) i 0 ≤ cells)) ⌝ }
-    requires { ⌜ Before (now starts) (now ends) (now prices) (now before) × After (now starts) (now ends) (now prices) cells (now after) ⌝ }
+    requires { ⌜ ((i : ℕ) → i < length (now prices) → (getD (now starts) i 0 ≤ getD (now ends) i 0)
+        × (getD (now ends) i 0 ≤ cells)) ⌝ }
+    requires { ⌜ Before (now starts) (now ends) (now prices) (now before)
+        × After (now starts) (now ends) (now prices) cells (now after) ⌝ }
     requires { ⌜ Waiting (now starts) (now ends) (now prices) (now order) (now live) q m ⌝ }
     ensures { λ z. ⌜ z .cents ≡ vcgPaidOf (now (starts .entry)) (now (ends .entry)) (now (prices .entry)) cells
         (getD (now (order .entry)) q 0) ⌝ }
@@ -104,15 +108,20 @@ fn pay_each(
     all: u64,
 )
     requires { ⌜ Bids (now starts) (now ends) (now prices) (now order) ⌝ }
-    requires { ⌜ (length (now prices) ≤ 1000) × (length (now prices) ≤ length (now order)) × (length (now prices) ≤ length (now before))
-        × (length (now prices) ≤ length (now after)) × (length (now prices) ≤ length (now live)) × (length (now prices) ≤ length (now xs))
+    requires { ⌜ (length (now prices) ≤ 1000) × (length (now prices) ≤ length (now order))
+        × (length (now prices) ≤ length (now before))
+        × (length (now prices) ≤ length (now after)) × (length (now prices) ≤ length (now live))
+        × (length (now prices) ≤ length (now xs))
         × (length (now prices) < length (now costs)) ⌝ }
-    requires { ⌜ (length (now prices) ≤ length (now won)) × (length (now prices) ≤ length (now cents)) × (sum (now prices) ≤ 100000000000)
+    requires { ⌜ (length (now prices) ≤ length (now won)) × (length (now prices) ≤ length (now cents))
+        × (sum (now prices) ≤ 100000000000)
         × (all ≡ cost (now prices) (winnersOf (now starts) (now ends) (now prices) cells)) ⌝ }
     requires { ⌜ ((i : ℕ) → i < length (now prices)
         → getD (now won) i 0 ≡ when (bit (winnersOf (now starts) (now ends) (now prices) cells) i) 1) ⌝ }
-    requires { ⌜ ((i : ℕ) → i < length (now prices) → (getD (now starts) i 0 ≤ getD (now ends) i 0) × (getD (now ends) i 0 ≤ cells)) ⌝ }
-    requires { ⌜ Before (now starts) (now ends) (now prices) (now before) × After (now starts) (now ends) (now prices) cells (now after) ⌝ }
+    requires { ⌜ ((i : ℕ) → i < length (now prices) → (getD (now starts) i 0 ≤ getD (now ends) i 0)
+        × (getD (now ends) i 0 ≤ cells)) ⌝ }
+    requires { ⌜ Before (now starts) (now ends) (now prices) (now before)
+        × After (now starts) (now ends) (now prices) cells (now after) ⌝ }
     ensures { λ z. ⌜ FilledTo (vcgPaidOf (now (starts .entry)) (now (ends .entry)) (now (prices .entry)) cells) (now (cents .entry))
         (now (cents .exit)) (length (now (prices .entry))) ⌝ }
 {
@@ -173,13 +182,16 @@ fn payments(
     all: u64,
 )
     requires { ⌜ Bids (now starts) (now ends) (now prices) (now order) ⌝ }
-    requires { ⌜ (length (now prices) ≤ 1000) × (length (now prices) ≤ length (now order)) × (length (now prices) ≤ length (now before))
+    requires { ⌜ (length (now prices) ≤ 1000) × (length (now prices) ≤ length (now order))
+        × (length (now prices) ≤ length (now before))
         × (cells ≤ 10080) ⌝ }
-    requires { ⌜ (length (now prices) ≤ length (now won)) × (length (now prices) ≤ length (now cents)) × (sum (now prices) ≤ 100000000000)
+    requires { ⌜ (length (now prices) ≤ length (now won)) × (length (now prices) ≤ length (now cents))
+        × (sum (now prices) ≤ 100000000000)
         × (all ≡ cost (now prices) (winnersOf (now starts) (now ends) (now prices) cells)) ⌝ }
     requires { ⌜ ((i : ℕ) → i < length (now prices)
         → getD (now won) i 0 ≡ when (bit (winnersOf (now starts) (now ends) (now prices) cells) i) 1) ⌝ }
-    requires { ⌜ ((i : ℕ) → i < length (now prices) → (getD (now starts) i 0 ≤ getD (now ends) i 0) × (getD (now ends) i 0 ≤ cells)) ⌝ }
+    requires { ⌜ ((i : ℕ) → i < length (now prices) → (getD (now starts) i 0 ≤ getD (now ends) i 0)
+        × (getD (now ends) i 0 ≤ cells)) ⌝ }
     requires { ⌜ Before (now starts) (now ends) (now prices) (now before) ⌝ }
     ensures { λ z. ⌜ FilledTo (vcgPaidOf (now (starts .entry)) (now (ends .entry)) (now (prices .entry)) cells) (now (cents .entry))
         (now (cents .exit)) (length (now (prices .entry))) ⌝ }
@@ -216,10 +228,12 @@ pub fn award(
     won: &mut [u64],
     cents: &mut [u64],
 ) -> tender::Totals
-    requires { ⌜ (length (now prices) ≤ 1000) × (length (now starts) ≡ length (now prices)) × (length (now ends) ≡ length (now prices))
+    requires { ⌜ (length (now prices) ≤ 1000) × (length (now starts) ≡ length (now prices))
+        × (length (now ends) ≡ length (now prices))
         × (0 < cells) × (cells ≤ 10080) ⌝ }
     requires { ⌜ (length (now prices) ≤ length (now won)) × (length (now prices) ≤ length (now cents)) ⌝ }
-    requires { ⌜ ((i : ℕ) → i < length (now prices) → (getD (now starts) i 0 ≤ getD (now ends) i 0) × (getD (now ends) i 0 ≤ cells)) ⌝ }
+    requires { ⌜ ((i : ℕ) → i < length (now prices) → (getD (now starts) i 0 ≤ getD (now ends) i 0)
+        × (getD (now ends) i 0 ≤ cells)) ⌝ }
     requires { ⌜ ((i : ℕ) → i < length (now prices) → getD (now prices) i 0 ≤ 100000000) ⌝ }
     ensures { λ r. ⌜ Settled (λ i. bit (winners (covers (spans (now (starts .entry)) (now (ends .entry))) (length (now (prices .entry)))
         cells) (now (prices .entry))) i) (vcgPaid (covers (spans (now (starts .entry)) (now (ends .entry))) (length (now (prices .entry)))

@@ -62,7 +62,8 @@ module _ (b old live before xs costs : List ℕ) (t j x : ℕ) (l : j < length o
           (ap (λ x. getD old x 0) (eqb-true y j z) ∙ sym (h .thinned .rest j (omega arith))))
       less e false z = omega (arith, eqb-false y j z)
 
-      go : (s : Bool) → eqb (getD old y 0) v ≡ s → getD (set costs v (getD before v 0)) (getD old y 0) 0 ≡ getD before (getD old y 0) 0
+      go : (s : Bool) → eqb (getD old y 0) v ≡ s → getD (set costs v (getD before v 0)) (getD old y 0) 0
+          ≡ getD before (getD old y 0) 0
       go true e = rw (eqb-true (getD old y 0) v e) (getD-set-same costs v (getD before v 0) 0 i)
       go false e = getD-set-other costs v (getD old y 0) (getD before v 0) 0 (eqb-false (getD old y 0) v e)
           ∙ h .priced y (less e (eqb y j) refl)
@@ -147,7 +148,8 @@ run-start a b ps order h old live before xs costs q m len l fit room d f w g = r
 
 -- the waiting list after it
 pub waiting-on : (a b ps order : List ℕ) (h : Bids a b ps order) (old live before xs costs : List ℕ) (q m len : ℕ) → q < length ps
-    → Waiting a b ps order old q m → BegunAt b old live before xs costs (getD a (getD order q 0) 0) m len → Waiting a b ps order live q len
+    → Waiting a b ps order old q m → BegunAt b old live before xs costs (getD a (getD order q 0) 0) m len
+    → Waiting a b ps order live q len
 waiting-on a b ps order h old live before xs costs q m len l w g = record {
   at = getD a (getD order q 0) 0;
   early = λ j d e. h .sorted .sorted q j d e;
@@ -220,7 +222,8 @@ across-more a b ps xs costs after t j r u v e = go (ltb (getD a (getD xs j 0) 0)
 
 -- costs are small
 
-pub before-small : (k : ℕ) (a b ps : List ℕ) (v i : ℕ) → i < length ps → costIn v ≡ endCost k a b ps i → (v ≡ noCost → ⊥) → v ≤ sum ps
+pub before-small : (k : ℕ) (a b ps : List ℕ) (v i : ℕ) → i < length ps → costIn v ≡ endCost k a b ps i
+    → (v ≡ noCost → ⊥) → v ≤ sum ps
 unfolding endCost raise
 before-small k a b ps v i l e n = go (eqb i k) (costWithout k a b ps (getD a i 0)) refl (sym e ∙ cost-found v n)
   where
@@ -241,7 +244,8 @@ after-small a b ps L v i e n = go (leastSet (coversFrom (λ x. x) (getD b i 0) (
     go (found s) d = (omega (arith, found-one d), omega (arith, found-one d, cost-most ps s))
 
 -- THE COST WITHOUT k
-pub ran-cost : (k : ℕ) (a b ps order : List ℕ) (h : Bids a b ps order) (L : ℕ) (xs costs after : List ℕ) (from m r : ℕ) → k < length ps
+pub ran-cost : (k : ℕ) (a b ps order : List ℕ) (h : Bids a b ps order) (L : ℕ) (xs costs after : List ℕ) (from m r : ℕ)
+    → k < length ps
     → 0 < getD b k 0 → getD b k 0 ≤ L → sum ps ≤ 100000000000
     → After a b ps L after
     → Ran k a b ps order costs xs from (getD b k 0) m
@@ -275,7 +279,8 @@ pub winner-ends : (a b ps : List ℕ) (L k : ℕ) → k < length ps → bit (win
 unfolding leastBelow valueOf
 winner-ends a b ps L k l e = go (eqb (getD b k 0) 0) refl
   where
-    by : getD b k 0 ≡ 0 → (r : Found) → IsFirst (coversBelow a b (length ps) L) (cost ps) (2 ^ length ps) r → bit (valueOf r) k ≡ false
+    by : getD b k 0 ≡ 0 → (r : Found) → IsFirst (coversBelow a b (length ps) L) (cost ps) (2 ^ length ps) r
+        → bit (valueOf r) k ≡ false
     by z nothing w = bit-none k
     by z (found m) w = lacks (length ps) 0 L (λ i. getD a i 0) (λ i. getD b i 0) (λ i. getD ps i 0) (cost ps) anyBid
         (coversBelow a b (length ps)) (prefixes a b ps L) (priced ps) L k m l (λ x o g y w. omega arith) (omega arith) w
@@ -338,7 +343,8 @@ pub ran-below : (k : ℕ) (a b ps order : List ℕ) (h : Bids a b ps order) (cos
     → Ran k a b ps order costs live from stop m → (j : ℕ) → j < m → getD live j 0 < length ps
 ran-below k a b ps order h costs live from stop m g = live-below a b ps order h live (g .pos) m (g .at) (g .fit) (g .reach)
 
-pub ran-small : (k : ℕ) (a b ps order : List ℕ) (h : Bids a b ps order) (costs live : List ℕ) (from stop m : ℕ) → sum ps ≤ 100000000000
+pub ran-small : (k : ℕ) (a b ps order : List ℕ) (h : Bids a b ps order) (costs live : List ℕ) (from stop m : ℕ)
+    → sum ps ≤ 100000000000
     → Ran k a b ps order costs live from stop m
     → (j : ℕ) → j < m → (getD costs (getD live j 0) 0 ≡ noCost → ⊥) → getD costs (getD live j 0) 0 ≤ 100000000000
 ran-small k a b ps order h costs live from stop m t g j d n =

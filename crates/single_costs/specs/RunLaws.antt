@@ -52,12 +52,14 @@ module _ (k : ℕ) (a b ps order costs old : List ℕ) (h : Bids a b ps order) (
   cost-least : (sets : List ℕ) (r : ℕ) → 0 < t → Seen a b old costs sets (length ps) t m r
       → costIn (getD costs r 0) ≡ costWithout k a b ps t
   unfolding leastCost
-  cost-least sets r z s = s .cheapest ∙ scan-without k a b ps (λ j. getD old j 0) (λ j. costIn (getD costs (getD old j 0) 0)) m t z below
+  cost-least sets r z s = s .cheapest ∙ scan-without k a b ps (λ j. getD old j 0) (λ j. costIn (getD costs (getD old j 0) 0)) m t z
+      below
       (λ i d u e. let y = ready (length ps) (λ i. getD a i 0) (λ q. getD order q 0) (h .sorted) q l i d u in
       rw (y .is) at (g .lead .reach .every (y .place) (y .inside) (rw (y .is) (omega (arith, low)))))
       (λ j d. g .values (getD old j 0) (record { place = j; inside = d; is = refl }))
 
-  cost-stays : (sets : List ℕ) (r u : ℕ) → (r ≡ length ps → ⊥) → Seen a b old costs sets (length ps) t m r → t ≤ u → u ≤ getD b r 0
+  cost-stays : (sets : List ℕ) (r u : ℕ) → (r ≡ length ps → ⊥) → Seen a b old costs sets (length ps) t m r → t ≤ u
+      → u ≤ getD b r 0
       → costIn (getD costs r 0) ≡ costWithout k a b ps t → costIn (getD costs r 0) ≡ costWithout k a b ps u
   unfolding costWithout mayBut
   cost-stays sets r u d s x e w =
@@ -70,13 +72,15 @@ module _ (k : ℕ) (a b ps order costs old : List ℕ) (h : Bids a b ps order) (
       r t u o (rw (f .0)) (p .begins) x e (omega arith) (sym w ∙ v ∙ f .1)
 
   -- the list is thinned out or stays, so its bids have their costs
-  next-values : (sets live : List ℕ) (r′ c′ end′ m′ : ℕ) → Led a b old live costs sets (length ps) t r c end m r′ c′ end′ m′
+  next-values : (sets live : List ℕ) (r′ c′ end′ m′ : ℕ)
+      → Led a b old live costs sets (length ps) t r c end m r′ c′ end′ m′
       → (i : ℕ) → On live m′ i → costIn (getD costs i 0) ≡ endCost k a b ps i
   next-values sets live r′ c′ end′ m′ (same d e1 e2 e3 e4 e5) = rw (e4, e5) (g .values)
   next-values sets live r′ c′ end′ m′ (anew d v) = λ i y. let z = v .thinned .from (y .place) (y .inside) in
       g .values i (record { place = z .place; inside = z .inside; is = z .is ∙ y .is })
 
-  pub next-cost : (sets live : List ℕ) (r′ c′ end′ m′ : ℕ) → Led a b old live costs sets (length ps) t r c end m r′ c′ end′ m′
+  pub next-cost : (sets live : List ℕ) (r′ c′ end′ m′ : ℕ)
+      → Led a b old live costs sets (length ps) t r c end m r′ c′ end′ m′
       → ReadyCost k a b ps order costs live q t m′ r′ c′ end′
   next-cost sets live r′ c′ end′ m′ v = record {
     least = led-ready (costWithout k a b ps) (λ c r. costIn c) a b ps order costs sets old q t m (h .sorted .sorted q) (cost-least sets)
@@ -113,7 +117,8 @@ value-more k a b ps costs i v l e z f = go (eqb z i) refl
     go true d = rw (eqb-true z i d, getD-set-same costs i v 0 l) e
     go false d = rw (getD-set-other costs i z v 0 (eqb-false z i d)) (f (eqb-false z i d))
 
-module _ (k : ℕ) (a b ps order costs live : List ℕ) (h : Bids a b ps order) (q m r c end : ℕ) (l : q < length ps) (rich : sum ps < noCost)
+module _ (k : ℕ) (a b ps order costs live : List ℕ) (h : Bids a b ps order) (q m r c end : ℕ) (l : q < length ps)
+    (rich : sum ps < noCost)
     (g : ReadyCost k a b ps order costs live q (getD a (getD order q 0) 0) m r c end) where
   abbrev i : ℕ
   i = getD order q 0
@@ -150,7 +155,8 @@ module _ (k : ℕ) (a b ps order costs live : List ℕ) (h : Bids a b ps order) 
 -- where the run ends: at a bid that begins at `stop` or later, or after the last
 module _ (k : ℕ) (a b ps order costs live : List ℕ) (h : Bids a b ps order) (from q m r c end stop : ℕ)
     (g : Running k a b ps order costs live from q m r c end stop) where
-  ran : q ≤ length ps → ((i : ℕ) → i < length ps → getD a i 0 < stop → On order q i) → Ran k a b ps order costs live from stop m
+  ran : q ≤ length ps → ((i : ℕ) → i < length ps → getD a i 0 < stop → On order q i)
+      → Ran k a b ps order costs live from stop m
   ran l f = record {
     pos = q;
     fit = l;

@@ -128,12 +128,16 @@ pub fn without(
     cells: u64,
 ) -> Rest
     requires { ⌜ Bids (now starts) (now ends) (now prices) (now order) ⌝ }
-    requires { ⌜ (length (now prices) ≤ 1000) × (length (now prices) ≤ length (now order)) × (length (now prices) ≤ length (now before))
-        × (length (now prices) ≤ length (now after)) × (length (now prices) ≤ length (now live)) × (length (now prices) ≤ length (now xs))
+    requires { ⌜ (length (now prices) ≤ 1000) × (length (now prices) ≤ length (now order))
+        × (length (now prices) ≤ length (now before))
+        × (length (now prices) ≤ length (now after)) × (length (now prices) ≤ length (now live))
+        × (length (now prices) ≤ length (now xs))
         × (length (now prices) < length (now costs)) ⌝ }
     requires { ⌜ (q < length (now prices)) × (sum (now prices) ≤ 100000000000) × (0 < getD (now ends) (getD (now order) q 0) 0) ⌝ }
-    requires { ⌜ ((i : ℕ) → i < length (now prices) → (getD (now starts) i 0 ≤ getD (now ends) i 0) × (getD (now ends) i 0 ≤ cells)) ⌝ }
-    requires { ⌜ Before (now starts) (now ends) (now prices) (now before) × After (now starts) (now ends) (now prices) cells (now after) ⌝ }
+    requires { ⌜ ((i : ℕ) → i < length (now prices) → (getD (now starts) i 0 ≤ getD (now ends) i 0)
+        × (getD (now ends) i 0 ≤ cells)) ⌝ }
+    requires { ⌜ Before (now starts) (now ends) (now prices) (now before)
+        × After (now starts) (now ends) (now prices) cells (now after) ⌝ }
     requires { ⌜ Waiting (now starts) (now ends) (now prices) (now order) (now live) q m ⌝ }
     ensures { λ z. ⌜ z .cost ≡ valueOf (costWithout (getD (now (order .entry)) q 0) (now (starts .entry)) (now (ends .entry))
         (now (prices .entry)) cells) ⌝ }
@@ -172,10 +176,12 @@ fn mirror(starts: &[u64], ends: &[u64], n: usize, cells: u64, x: &mut [u64], y: 
 
 // The cost of each bid with what comes after it.
 pub fn after(starts: &[u64], ends: &[u64], prices: &[u64], cells: u64, costs: &mut [u64])
-    requires { ⌜ (length (now prices) ≤ 1000) × (length (now prices) ≤ length (now starts)) × (length (now prices) ≤ length (now ends))
+    requires { ⌜ (length (now prices) ≤ 1000) × (length (now prices) ≤ length (now starts))
+        × (length (now prices) ≤ length (now ends))
         × (length (now prices) < length (now costs)) ⌝ }
     requires { ⌜ (cells ≤ 10080) × (sum (now prices) < 18446744073709551615) ⌝ }
-    requires { ⌜ ((i : ℕ) → i < length (now prices) → (getD (now starts) i 0 ≤ getD (now ends) i 0) × (getD (now ends) i 0 ≤ cells)) ⌝ }
+    requires { ⌜ ((i : ℕ) → i < length (now prices) → (getD (now starts) i 0 ≤ getD (now ends) i 0)
+        × (getD (now ends) i 0 ≤ cells)) ⌝ }
     ensures { λ r. ⌜ After (now (starts .entry)) (now (ends .entry)) (now (prices .entry)) cells (now (costs .exit)) ⌝ }
 {
     // ones, not zeros: the compiler writes these in wide stores

@@ -39,13 +39,15 @@ fn step(
     lead: Lead,
 ) -> Lead
     requires { ⌜ Bids (now starts) (now ends) (now prices) (now order) ⌝ }
-    requires { ⌜ (length (now prices) ≤ 1000) × (length (now prices) ≤ length (now order)) × (length (now prices) ≤ length (now live))
+    requires { ⌜ (length (now prices) ≤ 1000) × (length (now prices) ≤ length (now order))
+        × (length (now prices) ≤ length (now live))
         × (length (now prices) < length (now costs)) ⌝ }
     requires { ⌜ (q < length (now prices)) × (sum (now prices) < 18446744073709551615)
         × (getD (now starts) (getD (now order) q 0) 0 < stop) ⌝ }
     requires { ⌜ Running skip (now starts) (now ends) (now prices) (now order) (now costs) (now live) from q (lead .live) (lead .row)
         (lead .cost) (lead .end) stop ⌝ }
-    ensures { λ z. ⌜ Running skip (now (starts .entry)) (now (ends .entry)) (now (prices .entry)) (now (order .entry)) (now (costs .exit))
+    ensures { λ z. ⌜ Running skip (now (starts .entry)) (now (ends .entry)) (now (prices .entry)) (now (order .entry))
+        (now (costs .exit))
         (now (live .exit)) from (q + 1) (z .live) (z .row) (z .cost) (z .end) stop ⌝ }
 {
     let n = prices.len();
@@ -76,7 +78,8 @@ pub(crate) fn run(
     stop: u64,
 ) -> usize
     requires { ⌜ Bids (now starts) (now ends) (now prices) (now order) ⌝ }
-    requires { ⌜ (length (now prices) ≤ 1000) × (length (now prices) ≤ length (now order)) × (length (now prices) ≤ length (now live))
+    requires { ⌜ (length (now prices) ≤ 1000) × (length (now prices) ≤ length (now order))
+        × (length (now prices) ≤ length (now live))
         × (length (now prices) < length (now costs)) ⌝ }
     requires { ⌜ (from ≤ length (now prices)) × (sum (now prices) < 18446744073709551615) ⌝ }
     requires { ⌜ Running skip (now starts) (now ends) (now prices) (now order) (now costs) (now live) from from len

@@ -54,8 +54,10 @@ pub record Renewed (a b old live costs sets : List ℕ) (n t m r c end len : ℕ
 
 -- the lead of before, where it lasts up to t, or a new one
 pub data Led (a b old live costs sets : List ℕ) (n t r c end m r′ c′ end′ m′ : ℕ) : Type 0 where
-  same : t ≤ end → r′ ≡ r → c′ ≡ c → end′ ≡ end → m′ ≡ m → live ≡ old → Led a b old live costs sets n t r c end m r′ c′ end′ m′
-  anew : end < t → Renewed a b old live costs sets n t m r′ c′ end′ m′ → Led a b old live costs sets n t r c end m r′ c′ end′ m′
+  same : t ≤ end → r′ ≡ r → c′ ≡ c → end′ ≡ end → m′ ≡ m → live ≡ old
+      → Led a b old live costs sets n t r c end m r′ c′ end′ m′
+  anew : end < t → Renewed a b old live costs sets n t m r′ c′ end′ m′
+      → Led a b old live costs sets n t r c end m r′ c′ end′ m′
 
 -- bid r, of cost c, is worth `mine`: the best for the cells below t, from t = at up to t = end. The list is known from `at` on
 pub record Leading (best : ℕ → Found) (mine : Found) (a b ps order live : List ℕ) (at k m r c end : ℕ) : Type 0 where

@@ -54,7 +54,8 @@ module _ (a b xs costs sets : List ℕ) (n t j r : ℕ) (f : (q : ℕ) → getD 
         ends = leb-true t (getD b q 0) (u .1);
       }
 
-  next-found : (c : Bool) → reach? ≡ c → (z : Bool) → (cond c (cond z q r) r ≡ n → ⊥) → Reaches a b xs (j + 1) t (cond c (cond z q r) r)
+  next-found : (c : Bool) → reach? ≡ c → (z : Bool) → (cond c (cond z q r) r ≡ n → ⊥)
+      → Reaches a b xs (j + 1) t (cond c (cond z q r) r)
   next-found false e z d = lift (h .found-at d)
   next-found true e true d = mine e
   next-found true e false d = lift (h .found-at d)
@@ -79,12 +80,14 @@ module _ (a b xs costs sets : List ℕ) (n t j r : ℕ) (f : (q : ℕ) → getD 
           (ap (setIn sets) (h .priced (sym (eqb-true (getD costs q 0) (getD costs r 0) v) ∙ d)) ∙ empty))
       go false false u v e = absurd (false≢true e)
 
-  next-priced : (c z : Bool) → before? costs sets q r ≡ z → getD costs (cond c (cond z q r) r) 0 ≡ noCost → cond c (cond z q r) r ≡ n
+  next-priced : (c z : Bool) → before? costs sets q r ≡ z → getD costs (cond c (cond z q r) r) 0 ≡ noCost
+      → cond c (cond z q r) r ≡ n
   next-priced false z e d = h .priced d
   next-priced true true e d = cheap e d
   next-priced true false e d = h .priced d
 
-  next-cheapest : (c : Bool) → reach? ≡ c → costIn (getD costs (cond c (prefer costs sets q r) r) 0) ≡ leastCost a b xs costs t (suc j)
+  next-cheapest : (c : Bool) → reach? ≡ c → costIn (getD costs (cond c (prefer costs sets q r) r) 0)
+      ≡ leastCost a b xs costs t (suc j)
   unfolding leastCost scanCost reaches
   next-cheapest true e = rw e (prefer-cost costs sets q r f ∙ ap (lesserCost (costIn (getD costs q 0))) (h .cheapest))
   next-cheapest false e = rw e (h .cheapest)
@@ -151,7 +154,8 @@ leading-more best mine a b ps order live at k m r c end l g = record {
 
 -- what holds of the lead of before and of whatever the scan finds holds of the lead
 pub led-keeps : (P : ℕ → ℕ → Type 0) (a b costs sets old live : List ℕ) (n t m r c end r′ c′ end′ m′ : ℕ) → P c r
-    → ((r : ℕ) → Seen a b old costs sets n t m r → P (getD costs r 0) r) → Led a b old live costs sets n t r c end m r′ c′ end′ m′ → P c′ r′
+    → ((r : ℕ) → Seen a b old costs sets n t m r → P (getD costs r 0) r)
+    → Led a b old live costs sets n t r c end m r′ c′ end′ m′ → P c′ r′
 led-keeps P a b costs sets old live n t m r c end r′ c′ end′ m′ p f (same d e1 e2 e3 e4 e5) = rw (e1, e2) p
 led-keeps P a b costs sets old live n t m r c end r′ c′ end′ m′ p f (anew d v) = rw (v .cost-is) (f r′ (v .seen))
 
@@ -162,7 +166,8 @@ module _ (best : ℕ → Found) (value : ℕ → ℕ → Found) (a b ps order co
     (best-found : (r : ℕ) → 0 < t → Seen a b old costs sets (length ps) t m r → value (getD costs r 0) r ≡ best t)
     (best-stays : (r u : ℕ) → (r ≡ length ps → ⊥) → Seen a b old costs sets (length ps) t m r → t ≤ u → u ≤ getD b r 0
     → value (getD costs r 0) r ≡ best t → value (getD costs r 0) r ≡ best u) where
-  pub led-ready : (live : List ℕ) (at r c end r′ c′ end′ m′ : ℕ) → at ≤ t → Leading best (value c r) a b ps order old at k m r c end
+  pub led-ready : (live : List ℕ) (at r c end r′ c′ end′ m′ : ℕ) → at ≤ t
+      → Leading best (value c r) a b ps order old at k m r c end
       → Led a b old live costs sets (length ps) t r c end m r′ c′ end′ m′
       → Ready best (value c′ r′) a b ps order live k t m′ r′ c′ end′
   led-ready live at r c end r′ c′ end′ m′ l g (same d e1 e2 e3 e4 e5) = rw (e1, e2, e3, e4, e5)
@@ -184,7 +189,8 @@ module _ (best : ℕ → Found) (value : ℕ → ℕ → Found) (a b ps order co
       found : value (getD costs r′ 0) r′ ≡ best t
       found = best-found r′ (omega arith) (v .seen)
 
-      stays : (s : Bool) → eqb r′ (length ps) ≡ s → (u : ℕ) → t ≤ u → u ≤ end′ → value (getD costs r′ 0) r′ ≡ best u
+      stays : (s : Bool) → eqb r′ (length ps) ≡ s → (u : ℕ) → t ≤ u → u ≤ end′
+          → value (getD costs r′ 0) r′ ≡ best u
       stays true e u x y = absurd (omega (arith, v .end-is, end-none b (length ps) r′ (eqb-true r′ (length ps) e)))
       stays false e u x y = let n = eqb-false r′ (length ps) e in
           best-stays r′ u n (v .seen) x (omega (arith, v .end-is, end-some b (length ps) r′ n)) found

@@ -69,7 +69,12 @@ module _ (b old act : List ℕ) (t j x : ℕ) (l : j < length old) (h : Thinned 
   }
     where
       one : (i : ℕ) → i < x + 1 → (s : Bool) → eqb i x ≡ s → On old (j + 1) (getD now i 0)
-      one i d true g = record { place = j; inside = omega arith; is = sym was ∙ sym here ∙ ap (λ z. getD now z 0) (sym (eqb-true i x g)) }
+      one i d true g = record {
+        place = j;
+        inside = omega arith;
+        is = sym was ∙ sym here
+            ∙ ap (λ z. getD now z 0) (sym (eqb-true i x g));
+      }
       one i d false g = rw (other i (eqb-false i x g)) (up (getD act i 0) (h .from i (omega (arith, eqb-false i x g))))
 
       two : (i : ℕ) → i < j + 1 → t ≤ getD b (getD old i 0) 0 → (s : Bool) → eqb i j ≡ s → On now (x + 1) (getD old i 0)
@@ -165,7 +170,8 @@ on-more act m i z l y n = record {
     less false e = omega (arith, y .inside, eqb-false (y .place) m e)
 
 -- they are bids
-pub live-below : (a b ps order : List ℕ) (h : Bids a b ps order) (act : List ℕ) (k m at : ℕ) → k ≤ length ps → Live order b act k m at
+pub live-below : (a b ps order : List ℕ) (h : Bids a b ps order) (act : List ℕ) (k m at : ℕ) → k ≤ length ps
+    → Live order b act k m at
     → (j : ℕ) → j < m → getD act j 0 < length ps
 live-below a b ps order h act k m at l g j d = let y = g .inside j d in
     rw (y .is) at (h .sorted .bids (y .place) (omega (arith, y .inside)))

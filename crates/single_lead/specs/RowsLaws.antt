@@ -46,7 +46,8 @@ unfolding topWords setIn
 top-row xs q = words-same 16 (λ j. getD xs (q * 16 + 0 + j) 0) (λ j. getD xs (q * 16 + j) 0)
     (λ j l. let e : q * 16 + 0 + j ≡ q * 16 + j = omega arith in ap (λ x. getD xs x 0) e)
 
-top-step : (xs : List ℕ) (q k : ℕ) → k < 16 → topWords xs q k ≡ getD xs (q * 16 + k) 0 + topWords xs q (k + 1) * 18446744073709551616
+top-step : (xs : List ℕ) (q k : ℕ) → k < 16 → topWords xs q k ≡ getD xs (q * 16 + k) 0
+    + topWords xs q (k + 1) * 18446744073709551616
 unfolding topWords ofWords
 top-step xs q k l = go (16 - k) (16 - (k + 1)) (omega arith)
   where
@@ -78,11 +79,13 @@ module _ (xs : List ℕ) (f : (j : ℕ) → getD xs j 0 < 18446744073709551616) 
       ))
 
   -- the first word from above that tells them apart decides
-  pub word-less : (k : ℕ) → k < 16 → topWords xs q (k + 1) ≡ topWords xs r (k + 1) → getD xs (q * 16 + k) 0 < getD xs (r * 16 + k) 0
+  pub word-less : (k : ℕ) → k < 16 → topWords xs q (k + 1) ≡ topWords xs r (k + 1)
+      → getD xs (q * 16 + k) 0 < getD xs (r * 16 + k) 0
       → setIn xs q < setIn xs r
   word-less k l e d = top-down k (omega arith) (omega (arith, top-step xs q k l, top-step xs r k l))
 
-  pub word-same : (k : ℕ) → k < 16 → topWords xs q (k + 1) ≡ topWords xs r (k + 1) → getD xs (q * 16 + k) 0 ≡ getD xs (r * 16 + k) 0
+  pub word-same : (k : ℕ) → k < 16 → topWords xs q (k + 1) ≡ topWords xs r (k + 1)
+      → getD xs (q * 16 + k) 0 ≡ getD xs (r * 16 + k) 0
       → topWords xs q k ≡ topWords xs r k
   word-same k l e d = omega (arith, top-step xs q k l, top-step xs r k l)
 
@@ -119,7 +122,8 @@ weigh-lesser cost c d s u f g e h = go (eqb c noCost) (eqb d noCost) refl refl e
     go false true x y e h = rw (lt-ltb c d (omega (arith, eqb-true d noCost y, eqb-false c noCost x)))
     go false false x y e h = rw (found-one e, found-one h)
 
-module _ (cost : ℕ → ℕ) (costs sets : List ℕ) (q r : ℕ) (f : (j : ℕ) → getD costs j 0 ≤ noCost) (hq : Honest cost costs sets q)
+module _ (cost : ℕ → ℕ) (costs sets : List ℕ) (q r : ℕ) (f : (j : ℕ) → getD costs j 0 ≤ noCost)
+    (hq : Honest cost costs sets q)
     (hr : Honest cost costs sets r) where
   pub prefer-lesser : weight costs sets (prefer costs sets q r) ≡ lesser cost (weight costs sets q) (weight costs sets r)
   unfolding prefer before? weight

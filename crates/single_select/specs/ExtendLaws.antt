@@ -75,7 +75,8 @@ bit-words (suc m) f h zero r k l =
 bit-words (suc m) f h (suc j) r k l = bit-high 64 (f 0) (ofWords (λ j. f (suc j)) m) (j * 64 + r) (suc j * 64 + r) (omega arith)
     (h 0 (omega arith)) ∙ bit-words m (λ j. f (suc j)) (λ j l. h (suc j) (omega arith)) j r (omega arith) l
 
-words-add : (m : ℕ) (f g : ℕ → ℕ) (i d : ℕ) → i < m → g i ≡ f i + d → ((j : ℕ) → j < m → (j ≡ i → ⊥) → g j ≡ f j)
+words-add : (m : ℕ) (f g : ℕ → ℕ) (i d : ℕ) → i < m → g i ≡ f i + d
+    → ((j : ℕ) → j < m → (j ≡ i → ⊥) → g j ≡ f j)
     → ofWords g m ≡ ofWords f m + d * 2 ^ (i * 64)
 unfolding ofWords
 words-add zero f g i d l e h = absurd (omega arith)
@@ -97,20 +98,24 @@ words-add (suc m) f g (suc i) d l e h = omega (
 
 -- rows
 
-row-same : (xs ys : List ℕ) (p q : ℕ) → ((j : ℕ) → j < 16 → getD xs (p * 16 + j) 0 ≡ getD ys (q * 16 + j) 0) → setIn xs p ≡ setIn ys q
+row-same : (xs ys : List ℕ) (p q : ℕ) → ((j : ℕ) → j < 16 → getD xs (p * 16 + j) 0 ≡ getD ys (q * 16 + j) 0)
+    → setIn xs p ≡ setIn ys q
 unfolding setIn
 row-same xs ys p q h = words-same 16 (λ j. getD xs (p * 16 + j) 0) (λ j. getD ys (q * 16 + j) 0) h
 
-pub cleared-more : (xs : List ℕ) (q j : ℕ) → q * 16 + j < length xs → ((i : ℕ) → i < j → getD xs (q * 16 + i) 0 ≡ 0) → (i : ℕ) → i < j + 1
+pub cleared-more : (xs : List ℕ) (q j : ℕ) → q * 16 + j < length xs → ((i : ℕ) → i < j → getD xs (q * 16 + i) 0 ≡ 0)
+    → (i : ℕ) → i < j + 1
     → getD (set xs (q * 16 + j) 0) (q * 16 + i) 0 ≡ 0
 cleared-more xs q j l h i d = go (eqb i j) refl
   where
     go : (t : Bool) → eqb i j ≡ t → getD (set xs (q * 16 + j) 0) (q * 16 + i) 0 ≡ 0
     go true e = rw (eqb-true i j e) (getD-set-same xs (q * 16 + j) 0 0 l)
-    go false e = getD-set-other xs (q * 16 + j) (q * 16 + i) 0 0 (λ z. eqb-false i j e (omega arith)) ∙ h i (omega (arith, eqb-false i j e))
+    go false e = getD-set-other xs (q * 16 + j) (q * 16 + i) 0 0 (λ z. eqb-false i j e (omega arith))
+        ∙ h i (omega (arith, eqb-false i j e))
 
 -- a setIn of which no place was written
-pub row-kept : (old new : List ℕ) (i q : ℕ) → (q ≡ i → ⊥) → ((x : ℕ) → Off i x → getD new x 0 ≡ getD old x 0) → setIn new q ≡ setIn old q
+pub row-kept : (old new : List ℕ) (i q : ℕ) → (q ≡ i → ⊥) → ((x : ℕ) → Off i x → getD new x 0 ≡ getD old x 0)
+    → setIn new q ≡ setIn old q
 row-kept old new i q d h = row-same new old q q (λ j l. h (q * 16 + j) (λ u v. d (omega arith)))
 
 pub bit-row : (sets : List ℕ) (q i : ℕ) → ((j : ℕ) → getD sets j 0 < 18446744073709551616) → i < 1024
@@ -123,7 +128,8 @@ bit-row sets q i f l =
     (omega arith)) ∙ ap (bit (setIn sets q)) e)
 
 -- a word of a set without bid i has room for it
-pub word-room : (sets : List ℕ) (q i : ℕ) → ((j : ℕ) → getD sets j 0 < 18446744073709551616) → i < 1024 → bit (setIn sets q) i ≡ false
+pub word-room : (sets : List ℕ) (q i : ℕ) → ((j : ℕ) → getD sets j 0 < 18446744073709551616) → i < 1024
+    → bit (setIn sets q) i ≡ false
     → getD sets (q * 16 + i / 64) 0 + 2 ^ (i % 64) < 18446744073709551616
 unfolding setIn
 word-room sets q i f l e =
@@ -137,7 +143,8 @@ word-room sets q i f l e =
 pub copied-none : (old : List ℕ) (from q : ℕ) → Copied old old from q 0
 copied-none old from q = record { sized = refl; kept = λ x l. refl; written = λ i l. absurd (omega arith) }
 
-pub copied-more : (old new : List ℕ) (from q j : ℕ) → (from ≡ q → ⊥) → j < 16 → q * 16 + 16 ≤ length old → Copied old new from q j
+pub copied-more : (old new : List ℕ) (from q j : ℕ) → (from ≡ q → ⊥) → j < 16 → q * 16 + 16 ≤ length old
+    → Copied old new from q j
     → Copied old (set new (q * 16 + j) (getD new (from * 16 + j) 0)) from q (j + 1)
 copied-more old new from q j n u l h = record {
   sized = length-set new (q * 16 + j) (getD new (from * 16 + j) 0) ∙ h .sized;
@@ -148,7 +155,8 @@ copied-more old new from q j n u l h = record {
     word : getD new (from * 16 + j) 0 ≡ getD old (from * 16 + j) 0
     word = h .kept (from * 16 + j) (λ d e. n (omega arith))
 
-    go : (i : ℕ) → i < j + 1 → (t : Bool) → eqb i j ≡ t → getD (set new (q * 16 + j) (getD new (from * 16 + j) 0)) (q * 16 + i) 0
+    go : (i : ℕ) → i < j + 1 → (t : Bool) → eqb i j ≡ t
+        → getD (set new (q * 16 + j) (getD new (from * 16 + j) 0)) (q * 16 + i) 0
         ≡ getD old (from * 16 + i) 0
     go i d true e = rw (eqb-true i j e) (getD-set-same new (q * 16 + j) (getD new (from * 16 + j) 0) 0 (omega (arith, h .sized)) ∙ word)
     go i d false e = getD-set-other new (q * 16 + j) (q * 16 + i) (getD new (from * 16 + j) 0) 0 (λ z. eqb-false i j e (omega arith))
@@ -173,7 +181,8 @@ extended old new from i l f h = record {
     here = getD-set-same new (i * 16 + i / 64) v 0 (omega (arith, h .sized))
         ∙ ap (λ x. x + 2 ^ (i % 64)) (h .written (i / 64) (omega arith))
 
-    there : (j : ℕ) → j < 16 → (j ≡ i / 64 → ⊥) → getD (set new (i * 16 + i / 64) v) (i * 16 + j) 0 ≡ getD old (from * 16 + j) 0
+    there : (j : ℕ) → j < 16 → (j ≡ i / 64 → ⊥) → getD (set new (i * 16 + i / 64) v) (i * 16 + j) 0
+        ≡ getD old (from * 16 + j) 0
     there j d e = getD-set-other new (i * 16 + i / 64) (i * 16 + j) v 0 (λ z. e (omega arith)) ∙ h .written j d
 
     power : 2 ^ (i % 64) * 2 ^ (i / 64 * 64) ≡ 2 ^ i

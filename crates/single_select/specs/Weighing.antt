@@ -41,6 +41,7 @@ pub record Weighed (a b ps costs sets : List ℕ) (L r c : ℕ) : Type 0 where
 
 -- what the selection leaves: a flag for each bid, the cost of each bid with what comes before it, and the winners' cost
 pub record Selected (a b ps costs old-won new-won : List ℕ) (L all : ℕ) : Type 0 where
-  pub flags : new-won ≡ listed (length ps) (λ i. when (bit (winners (covers (spans a b) (length ps) L) ps) i) 1) ++ drop (length ps) old-won
+  pub flags : new-won ≡ listed (length ps) (λ i. when (bit (winners (covers (spans a b) (length ps) L) ps) i) 1)
+      ++ drop (length ps) old-won
   pub costs-are : (i : ℕ) → i < length ps → costIn (getD costs i 0) ≡ raise (getD ps i 0) (costBelow a b ps (getD a i 0))
   pub all-is : all ≡ cost ps (winners (covers (spans a b) (length ps) L) ps)

@@ -126,7 +126,8 @@ module _ (a b ps order sets live : List ℕ) (k t m r c end : ℕ) (empty : setI
           at (leastSet-right (coversBelow a b (length ps)) (cost ps) (length ps) t))
 
   -- its cost is a word
-  pub lead-fits : (i : ℕ) → i < length ps → getD a i 0 ≡ t → sum ps < noCost → (c ≡ noCost → ⊥) → c + getD ps i 0 < noCost
+  pub lead-fits : (i : ℕ) → i < length ps → getD a i 0 ≡ t → sum ps < noCost → (c ≡ noCost → ⊥)
+      → c + getD ps i 0 < noCost
   unfolding costBelow
   lead-fits i l z rich n = omega (
     arith,
@@ -138,7 +139,8 @@ module _ (a b ps order sets live : List ℕ) (k t m r c end : ℕ) (empty : setI
   pub lead-other : (i : ℕ) → i < length ps → getD a i 0 ≡ t → r ≡ i → ⊥
   lead-other i l z e = omega (arith, g .least .lead .past (λ q. omega arith), g .least .low, ap (λ x. getD a x 0) e)
 
-  module _ (i : ℕ) (l : i < length ps) (z : getD a i 0 ≡ t) (rich : sum ps < noCost) (costs new : List ℕ) (fit : length ps ≤ length costs)
+  module _ (i : ℕ) (l : i < length ps) (z : getD a i 0 ≡ t) (rich : sum ps < noCost) (costs new : List ℕ)
+      (fit : length ps ≤ length costs)
       (x : Extended sets new r i (2 ^ i)) where
     abbrev v : ℕ
     v = plusPrice c (getD ps i 0)
@@ -147,7 +149,8 @@ module _ (a b ps order sets live : List ℕ) (k t m r c end : ℕ) (empty : setI
     unfolding plusPrice plus
     heavy = go (eqb c noCost) refl
       where
-        go : (s : Bool) → eqb c noCost ≡ s → weigh (cond s c (c + getD ps i 0)) (setIn sets r + 2 ^ i) ≡ plus i (leastBelow a b ps t)
+        go : (s : Bool) → eqb c noCost ≡ s → weigh (cond s c (c + getD ps i 0)) (setIn sets r + 2 ^ i)
+            ≡ plus i (leastBelow a b ps t)
         go true e = weigh-none c (setIn sets r + 2 ^ i) (eqb-true c noCost e)
             ∙ sym (ap (plus i) (sym (g .least .now) ∙ weigh-none c (setIn sets r) (eqb-true c noCost e)))
         go false e = weigh-some (c + getD ps i 0) (setIn sets r + 2 ^ i) (λ q. omega (arith, lead-fits i l z rich (eqb-false c noCost e)))
@@ -222,7 +225,8 @@ weighing-more a b ps order costs sets live new h k m r c end l rich fit u guard 
     kept : setIn new r ≡ setIn sets r
     kept = row-kept sets new i r (lead-other a b ps order sets live k (getD a i 0) m r c end empty g i mine refl) (x .kept)
 
-    by : (q : ℕ) → q < k + 1 → eqb (getD order q 0) i ≡ false → (s : Bool) → eqb q k ≡ s → Done a b ps costs sets (getD order q 0)
+    by : (q : ℕ) → q < k + 1 → eqb (getD order q 0) i ≡ false → (s : Bool) → eqb q k ≡ s
+        → Done a b ps costs sets (getD order q 0)
     by q d e true s = absurd (eqb-false (getD order q 0) i e (ap (λ z. getD order z 0) (eqb-true q k s)))
     by q d e false s = done q (omega (arith, eqb-false q k s))
 

@@ -33,7 +33,8 @@ fn step(
     lead: Lead,
 ) -> Lead
     requires { ⌜ Bids (now starts) (now ends) (now prices) (now order) ⌝ }
-    requires { ⌜ (length (now prices) ≤ 1000) × (length (now prices) ≤ length (now order)) × (length (now prices) ≤ length (now live))
+    requires { ⌜ (length (now prices) ≤ 1000) × (length (now prices) ≤ length (now order))
+        × (length (now prices) ≤ length (now live))
         × (length (now prices) < length (now costs)) × (length (now prices) * 16 + 16 ≤ length (now sets)) ⌝ }
     requires { ⌜ (k < length (now prices)) × (sum (now prices) < 18446744073709551615) ⌝ }
     requires { ⌜ Weighing (now starts) (now ends) (now prices) (now order) (now costs) (now sets) (now live) k (lead .live) (lead .row)
@@ -69,7 +70,8 @@ fn weigh(
     sets: &mut [u64],
 ) -> Lead
     requires { ⌜ Bids (now starts) (now ends) (now prices) (now order) ⌝ }
-    requires { ⌜ (length (now prices) ≤ 1000) × (length (now prices) ≤ length (now order)) × (length (now prices) ≤ length (now live))
+    requires { ⌜ (length (now prices) ≤ 1000) × (length (now prices) ≤ length (now order))
+        × (length (now prices) ≤ length (now live))
         × (length (now prices) < length (now costs)) × (length (now prices) * 16 + 16 ≤ length (now sets)) ⌝ }
     requires { ⌜ (sum (now prices) < 18446744073709551615) × (setIn (now sets) (length (now prices)) ≡ 0) ⌝ }
     requires { ⌜ ((i : ℕ) → i < length (now prices) → getD (now starts) i 0 ≤ cells) ⌝ }
@@ -103,7 +105,8 @@ pub fn winners(
     won: &mut [u64],
 ) -> u64
     requires { ⌜ Bids (now starts) (now ends) (now prices) (now order) ⌝ }
-    requires { ⌜ (length (now prices) ≤ 1000) × (length (now prices) ≤ length (now order)) × (length (now prices) < length (now costs))
+    requires { ⌜ (length (now prices) ≤ 1000) × (length (now prices) ≤ length (now order))
+        × (length (now prices) < length (now costs))
         × (length (now prices) ≤ length (now won)) × (sum (now prices) < 18446744073709551615) ⌝ }
     requires { ⌜ ((i : ℕ) → i < length (now prices) → getD (now starts) i 0 ≤ cells) ⌝ }
     ensures { λ z. ⌜ Selected (now (starts .entry)) (now (ends .entry)) (now (prices .entry)) (now (costs .exit)) (now (won .entry))
