@@ -100,9 +100,6 @@ module _ (b old act : List ℕ) (t j x : ℕ) (l : j < length old) (h : Thinned 
   unfolding counted
   thinned-more = thin (leb t (getD b v 0)) refl
 
-  pub thinned-place : getD act j 0 ≡ getD old j 0
-  thinned-place = was
-
 -- the bids that reach
 
 pub live-none : (order b act : List ℕ) → Live order b act 0 0 0
