@@ -2,9 +2,10 @@
 // price at which k would be taken before it; `both` is the step where the two runs take the bid, `other` the step where the run without k
 // alone does, and marks the bids that share an open cell with it. `ahead` says whether a bid is there and comes before another.
 ghost use mathlib.Core.Path.{_≡_};
-ghost use mathlib.Core.Bool.{true};
+ghost use mathlib.Core.Bool.{true, _&&_};
 ghost use Prim.Native.Nat.{_+_, _*_, _<_, _≤_, max};
 ghost use lib.ListN.{length};
+ghost use lib.Dec.{leb, ltb};
 ghost use Rattle.cover.specs.CriticalPrice.{late};
 ghost use Rattle.cells.specs.Cells.{Closed};
 ghost use Rattle.cells.specs.Hops.{Hops, Counted};
@@ -58,10 +59,10 @@ pub fn take(
     higher(top, s)
 }
 
-// Bid b at t/c is there and comes before bid m at p/v.
+// Whether bid b at t/c is there and comes before bid m at p/v.
 pub fn ahead(n: usize, t: u64, c: u64, b: usize, p: u64, v: u64, m: usize) -> bool
     requires { ⌜ ((t ≤ 100000000) × (c ≤ 10112)) × ((p ≤ 100000000) × (v ≤ 10112)) ⌝ }
-    ensures { λ r. ⌜ (r ≡ true → (b < n) × (t * v + late b m ≤ p * c)) ⌝ }
+    ensures { λ r. ⌜ r ≡ (ltb b n && leb (t * v + late b m) (p * c)) ⌝ }
 {
     if b < n {
         return multi_rounds::comes(t, c, b, p, v, m);

@@ -2,9 +2,10 @@
 // `front` gives the bid that comes before all others, `trace` the bids that the rounds take and the cells that each gains; `overlap`
 // and `shut` count and close a bid's cells among those held. What is known of a bid is no less than it reaches.
 ghost use mathlib.Core.Path.{_≡_};
-ghost use mathlib.Core.Bool.{true, false};
+ghost use mathlib.Core.Bool.{true, false, _&&_};
 ghost use Prim.Native.Nat.{_+_, _*_, _<_, _≤_};
 ghost use lib.ListN.{length};
+ghost use lib.Dec.{leb};
 ghost use Rattle.cover.specs.CriticalPrice.{late};
 ghost use Rattle.cells.specs.Cells.{common, Closed};
 ghost use Rattle.cells.specs.Hops.{Hops, Counted};
@@ -45,10 +46,10 @@ pub fn shut(held: &mut [u64], counts: &mut [u64], masks: &[u64], hop: &[u8], w: 
     cells::close_counted(held, counts, &masks[a..e], &hop[a..e]);
 }
 
-// Bid i at p/r comes before bid b at t/c.
+// Whether bid i at p/r comes before bid b at t/c.
 pub fn comes(p: u64, r: u64, i: usize, t: u64, c: u64, b: usize) -> bool
     requires { ⌜ ((p ≤ 100000000) × (r ≤ 10112)) × ((t ≤ 100000000) × (c ≤ 10112)) ⌝ }
-    ensures { λ s. ⌜ (s ≡ true → p * c + late i b ≤ t * r) ⌝ }
+    ensures { λ s. ⌜ s ≡ leb (p * c + late i b) (t * r) ⌝ }
 {
     let x = p * c;
     let y = t * r;
@@ -58,10 +59,10 @@ pub fn comes(p: u64, r: u64, i: usize, t: u64, c: u64, b: usize) -> bool
     x <= y
 }
 
-// The rival may come first, and does.
+// Whether the rival may come first, and does.
 fn clear_of(free: bool, p: u64, r: u64, i: usize, t: u64, c: u64, b: usize) -> bool
     requires { ⌜ ((p ≤ 100000000) × (r ≤ 10112)) × ((t ≤ 100000000) × (c ≤ 10112)) ⌝ }
-    ensures { λ s. ⌜ (s ≡ true → (free ≡ true) × (p * c + late i b ≤ t * r)) ⌝ }
+    ensures { λ s. ⌜ s ≡ (free && leb (p * c + late i b) (t * r)) ⌝ }
 {
     if free {
         return comes(p, r, i, t, c, b);

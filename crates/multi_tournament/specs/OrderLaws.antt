@@ -1,16 +1,40 @@
 -- Bids in order of price for each cell, on a tie in order of entry. Assumes nothing.
-use mathlib.Core.Path.{_≡_, refl}
+use mathlib.Core.Path.{_≡_, refl, sym}
 use mathlib.Core.Logic.{_⊎_, inl, inr, ⊎-elim}
-use mathlib.Core.Bool.{Bool, true, false}
+use mathlib.Core.Bool.{Bool, true, false, _&&_}
 use mathlib.Core.List.{List}
 use Prim.Native.Nat.{ℕ, zero, suc, _+_, _*_, _≤_, _<_}
 use native.Mathlib.Nat.{mul-le-mul}
 use native.Mathlib.Omega.{arith}
-use lib.Dec.{ltb}
-use borrow.Author.Tests.{ltb-true, ltb-false}
+use lib.Dec.{leb, ltb}
+use borrow.Author.Tests.{leb-true, leb-false, ltb-true, ltb-false, le-leb, lt-leb}
+use Rattle.cover.specs.SetLaws.{and-split}
 use Rattle.cover.specs.CriticalPrice.{late}
 use Rattle.cover.specs.PickLaws.{late-no, late-yes, late-most, chain, chain-lt}
 use Rattle.multi_tournament.specs.Tournament.{at, Leads}
+
+-- the test of a later entry, and of an earlier one, as one test
+pub later-test : (i j x y : ℕ) → j < i → ltb x y ≡ leb (x + late i j) y
+later-test i j x y l = go (ltb x y) refl
+  where
+    go : (t : Bool) → ltb x y ≡ t → t ≡ leb (x + late i j) y
+    go true e = sym (le-leb (x + late i j) y (omega (arith, late-yes i j l, ltb-true x y e)))
+    go false e = sym (lt-leb (x + late i j) y (omega (arith, late-yes i j l, ltb-false x y e)))
+
+pub earlier-test : (i j x y : ℕ) → i ≤ j → leb x y ≡ leb (x + late i j) y
+earlier-test i j x y l = go (leb x y) refl
+  where
+    go : (t : Bool) → leb x y ≡ t → t ≡ leb (x + late i j) y
+    go true e = sym (le-leb (x + late i j) y (omega (arith, late-no i j l, leb-true x y e)))
+    go false e = sym (lt-leb (x + late i j) y (omega (arith, late-no i j l, leb-false x y e)))
+
+-- both tests hold
+pub both-hold : (t : Bool) (x y : ℕ) → t && leb x y ≡ true → (t ≡ true) × (x ≤ y)
+both-hold t x y e = let s = and-split t (leb x y) e in (s .0, leb-true x y (s .1))
+
+-- bid b of n is there, and its test holds
+pub there : (b n x y : ℕ) → ltb b n && leb x y ≡ true → (b < n) × (x ≤ y)
+there b n x y e = let s = both-hold (ltb b n) x y e in (ltb-true b n (s .0), s .1)
 
 pub zero-or : (x : ℕ) → (x ≡ 0) ⊎ (0 < x)
 zero-or zero = inl refl

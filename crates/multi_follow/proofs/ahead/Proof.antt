@@ -1,5 +1,6 @@
 -- `multi_follow::ahead` meets its contract. Assumes nothing.
-use mathlib.Core.Bool.{false≢true}
+use native.Mathlib.Omega.{arith}
+use borrow.Author.Tests.{lt-ltb, le-ltb}
 use borrow.Author.Needs.{needs}
 use Rattle.multi_follow.proofs.ahead.Statement.{statement}
 use Rattle.multi_follow.proofs.ahead.Tie as tie
@@ -11,10 +12,10 @@ comes-requires : tie.Need-comes-requires
 comes-requires c κs = search needs
 
 returns : tie.Need-returns
-returns c = λ e. (c .before .if1 .taken, c .comes .ensures e)
+returns c = let n = c .before .before .args in rw (lt-ltb (n .b) (n .n) (c .before .if1 .taken)) (c .comes .ensures)
 
 returns-2 : tie.Need-returns-2
-returns-2 c = λ e. absurd (false≢true e)
+returns-2 c = rw (le-ltb (c .before .args .b) (c .before .args .n) (omega arith))
 
 pub ahead-spec : {M : Type 1} → statement M
 ahead-spec = tie.close (tie.spec comes-requires returns returns-2)

@@ -1,5 +1,5 @@
 -- `multi_rounds::clear_of` meets its contract. Assumes nothing.
-use mathlib.Core.Bool.{false≢true}
+use mathlib.Core.Path.{refl}
 use borrow.Author.Needs.{needs}
 use Rattle.multi_rounds.proofs.clear_of.Statement.{statement}
 use Rattle.multi_rounds.proofs.clear_of.Tie as tie
@@ -11,10 +11,10 @@ comes-requires : tie.Need-comes-requires
 comes-requires c κs = search needs
 
 returns : tie.Need-returns
-returns c = λ e. (c .before .if1 .taken, c .comes .ensures e)
+returns c = rw (c .before .if1 .taken) (c .comes .ensures)
 
 returns-2 : tie.Need-returns-2
-returns-2 c = λ e. absurd (false≢true e)
+returns-2 c = rw (c .if1 .left) refl
 
 pub clear-of-spec : {M : Type 1} → statement M
 clear-of-spec = tie.close (tie.spec comes-requires returns returns-2)

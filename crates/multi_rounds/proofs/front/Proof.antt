@@ -6,6 +6,7 @@ use native.Mathlib.Omega.{arith}
 use Rattle.cover.specs.CriticalPrice.{sum}
 use Rattle.cells.specs.Hops.{Counted}
 use Rattle.multi_tournament.specs.Tournament.{at, known}
+use Rattle.multi_tournament.specs.OrderLaws.{both-hold}
 use Rattle.multi_rounds.specs.WordRowLaws.{row-in}
 use Rattle.multi_rounds.specs.FrontingLaws.{Fronting, begins, first-small, first-in, no-more, counted, fewer, is-clear, is-exact}
 use Rattle.multi_rounds.specs.FrontingLaws.{is-none}
@@ -109,7 +110,7 @@ returns-2 c =
     let z : 0 < at (c6 .loop .num) 1 = omega arith in (
       c6 .loop .inv .0 .tree,
       (
-        is-clear (c14 .pre .0) (c6 .loop .inv .0) z (c .before .clear-of .ensures (c .if2 .taken)),
+        is-clear (c14 .pre .0) (c6 .loop .inv .0) z (both-hold _ _ _ (sym (c .before .clear-of .ensures) ∙ c .if2 .taken)),
         c6 .loop .inv .1,
       ),
     )

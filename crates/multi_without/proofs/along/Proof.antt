@@ -1,7 +1,8 @@
 -- `multi_without::along` meets its contract: the main run's next bid is taken by both runs, or a marked bid comes before it, or
 -- the main run alone takes it. Assumes nothing.
-use mathlib.Core.Path.{refl}
+use mathlib.Core.Path.{refl, sym, _∙_}
 use native.Mathlib.Omega.{arith}
+use Rattle.multi_tournament.specs.OrderLaws.{there}
 use Rattle.multi_follow.proofs.Strayed.{knows}
 use Rattle.multi_follow.proofs.Following.{inside, gains-some, takes-main, takes-other}
 use Rattle.multi_follow.proofs.Stepping.{bid-row, words, fronted, main-goes, skip-goes, unmarked}
@@ -150,7 +151,7 @@ both-requires c κs =
     let c36 = c15 .before .before .before .before .before .before .before .before .before .before .before .before .before .before .before
     .before .before .before .before .before .before in
     let P = c36 .pre in let co = P .0 in let s = P .1 .0 in let f = c15 .front .ensures .1 .0 in
-    let a = c7 .ahead .ensures (c6 .if2 .taken) in (
+    let a = there _ _ _ _ (sym (c7 .ahead .ensures) ∙ c6 .if2 .taken) in (
       co,
       (
         fronted co s (c15 .front .ensures .0) (c15 .front .ensures .1 .0) (c15 .front .ensures .1 .1),
@@ -185,7 +186,7 @@ other-requires c κs =
     let c36 = c15 .before .before .before .before .before .before .before .before .before .before .before .before .before .before .before
     .before .before .before .before .before .before in
     let P = c36 .pre in let co = P .0 in let s = P .1 .0 in let f = c15 .front .ensures .1 .0 in
-    let a = c7 .ahead .ensures (c6 .if2 .taken) in (
+    let a = there _ _ _ _ (sym (c7 .ahead .ensures) ∙ c6 .if2 .taken) in (
       co,
       (
         fronted co s (c15 .front .ensures .0) (c15 .front .ensures .1 .0) (c15 .front .ensures .1 .1),
