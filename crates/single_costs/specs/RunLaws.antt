@@ -49,43 +49,43 @@ module _ (k : ℕ) (a b ps order costs old : List ℕ) (h : Bids a b ps order) (
   below : (j : ℕ) → j < m → getD old j 0 < length ps
   below = live-below a b ps order h old q m (g .at) (omega arith) (g .lead .reach)
 
-  cost-least : (sets : List ℕ) (r : ℕ) → 0 < t → Seen a b old costs sets (length ps) t m r
+  cost-least : (w : ℕ) (sets : List ℕ) (r : ℕ) → 0 < t → Seen w a b old costs sets (length ps) t m r
       → costIn (getD costs r 0) ≡ costWithout k a b ps t
   unfolding leastCost
-  cost-least sets r z s = s .cheapest ∙ scan-without k a b ps (λ j. getD old j 0) (λ j. costIn (getD costs (getD old j 0) 0)) m t z
-      below
+  cost-least w sets r z s = s .cheapest
+      ∙ scan-without k a b ps (λ j. getD old j 0) (λ j. costIn (getD costs (getD old j 0) 0)) m t z below
       (λ i d u e. let y = ready (length ps) (λ i. getD a i 0) (λ q. getD order q 0) (h .sorted) q l i d u in
       rw (y .is) at (g .lead .reach .every (y .place) (y .inside) (rw (y .is) (omega (arith, low)))))
       (λ j d. g .values (getD old j 0) (record { place = j; inside = d; is = refl }))
 
-  cost-stays : (sets : List ℕ) (r u : ℕ) → (r ≡ length ps → ⊥) → Seen a b old costs sets (length ps) t m r → t ≤ u
-      → u ≤ getD b r 0
+  cost-stays : (w : ℕ) (sets : List ℕ) (r u : ℕ) → (r ≡ length ps → ⊥) → Seen w a b old costs sets (length ps) t m r
+      → t ≤ u → u ≤ getD b r 0
       → costIn (getD costs r 0) ≡ costWithout k a b ps t → costIn (getD costs r 0) ≡ costWithout k a b ps u
   unfolding costWithout mayBut
-  cost-stays sets r u d s x e w =
+  cost-stays w sets r u d s x e y =
       let p = s .found-at d in
       let o : r < length ps = rw (p .at .is) at (below (p .at .place) (p .at .inside)) in
       let v : costIn (getD costs r 0) ≡ endCost k a b ps r = g .values r (p .at) in
       let f = end-found k a b ps r (getD costs r 0) (sym v ∙ cost-found (getD costs r 0) (λ z. d (s .priced z))) in
-      w ∙ stays-cost (length ps) 0 u (λ i. getD a i 0) (λ i. getD b i 0) (λ i. getD ps i 0) (cost ps) (mayBut k anyBid)
+      y ∙ stays-cost (length ps) 0 u (λ i. getD a i 0) (λ i. getD b i 0) (λ i. getD ps i 0) (cost ps) (mayBut k anyBid)
       (othersBelow k a b (length ps)) (prefixes-without k a b ps u) (priced ps)
-      r t u o (rw (f .0)) (p .begins) x e (omega arith) (sym w ∙ v ∙ f .1)
+      r t u o (rw (f .0)) (p .begins) x e (omega arith) (sym y ∙ v ∙ f .1)
 
   -- the list is thinned out or stays, so its bids have their costs
-  next-values : (sets live : List ℕ) (r′ c′ end′ m′ : ℕ)
-      → Led a b old live costs sets (length ps) t r c end m r′ c′ end′ m′
+  next-values : (w : ℕ) (sets live : List ℕ) (r′ c′ end′ m′ : ℕ)
+      → Led w a b old live costs sets (length ps) t r c end m r′ c′ end′ m′
       → (i : ℕ) → On live m′ i → costIn (getD costs i 0) ≡ endCost k a b ps i
-  next-values sets live r′ c′ end′ m′ (same d e1 e2 e3 e4 e5) = rw (e4, e5) (g .values)
-  next-values sets live r′ c′ end′ m′ (anew d v) = λ i y. let z = v .thinned .from (y .place) (y .inside) in
+  next-values w sets live r′ c′ end′ m′ (same d e1 e2 e3 e4 e5) = rw (e4, e5) (g .values)
+  next-values w sets live r′ c′ end′ m′ (anew d v) = λ i y. let z = v .thinned .from (y .place) (y .inside) in
       g .values i (record { place = z .place; inside = z .inside; is = z .is ∙ y .is })
 
-  pub next-cost : (sets live : List ℕ) (r′ c′ end′ m′ : ℕ)
-      → Led a b old live costs sets (length ps) t r c end m r′ c′ end′ m′
+  pub next-cost : (w : ℕ) (sets live : List ℕ) (r′ c′ end′ m′ : ℕ)
+      → Led w a b old live costs sets (length ps) t r c end m r′ c′ end′ m′
       → ReadyCost k a b ps order costs live q t m′ r′ c′ end′
-  next-cost sets live r′ c′ end′ m′ v = record {
-    least = led-ready (costWithout k a b ps) (λ c r. costIn c) a b ps order costs sets old q t m (h .sorted .sorted q) (cost-least sets)
-        (cost-stays sets) live (g .at) r c end r′ c′ end′ m′ low (g .lead) v;
-    values = next-values sets live r′ c′ end′ m′ v;
+  next-cost w sets live r′ c′ end′ m′ v = record {
+    least = led-ready (costWithout k a b ps) (λ c r. costIn c) w a b ps order costs sets old q t m (h .sorted .sorted q)
+        (cost-least w sets) (cost-stays w sets) live (g .at) r c end r′ c′ end′ m′ low (g .lead) v;
+    values = next-values w sets live r′ c′ end′ m′ v;
   }
 
 -- the turn

@@ -10,7 +10,7 @@ use single_lead::NONE;
 use single_lead::add_price;
 use single_lead::lead_at;
 
-// Costs alone: no sets to compare in a tie.
+// No sets: costs alone count.
 const NO_SETS: [u64; 0] = [];
 
 // The cost of bid `i` where `cost` comes before it; none for the bid that is left out.
@@ -52,7 +52,7 @@ fn step(
 {
     let n = prices.len();
     let i = order[q];
-    let z = lead_at(starts, ends, live, costs, &NO_SETS, n, lead, starts[i]);
+    let z = lead_at(starts, ends, live, costs, &NO_SETS, 0, n, lead, starts[i]);
     let m = z.live;
     costs[i] = entry(i, skip, z.cost, prices[i]);
     live[m] = i;

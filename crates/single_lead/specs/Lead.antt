@@ -20,10 +20,11 @@ leastCost a b xs costs t j = scanCost (reaches (λ i. getD a i 0) (λ i. getD b 
     (λ q. costIn (getD costs (getD xs q 0) 0)) j
 
 -- and the least weight
-unfoldable pub leastWeight : (ℕ → ℕ) → List ℕ → List ℕ → List ℕ → List ℕ → List ℕ → ℕ → ℕ → Found
+unfoldable pub leastWeight : (ℕ → ℕ) → ℕ → List ℕ → List ℕ → List ℕ → List ℕ → List ℕ
+    → ℕ → ℕ → Found
 unfolding scan reaches weight
-leastWeight cost a b xs costs sets t j = scan cost (reaches (λ i. getD a i 0) (λ i. getD b i 0) anyBid (λ q. getD xs q 0) t)
-    (λ q. weight costs sets (getD xs q 0)) j
+leastWeight cost w a b xs costs sets t j = scan cost (reaches (λ i. getD a i 0) (λ i. getD b i 0) anyBid (λ q. getD xs q 0) t)
+    (λ q. weight w costs sets (getD xs q 0)) j
 
 -- a bid of the list that reaches t
 pub record Reaches (a b xs : List ℕ) (j t r : ℕ) : Type 0 where
@@ -33,31 +34,31 @@ pub record Reaches (a b xs : List ℕ) (j t r : ℕ) : Type 0 where
 
 -- what the scan of the places below j has found: bid r, or n for none. Its cost is the least, and its weight is where the
 -- weights of the list are honest
-pub record Seen (a b xs costs sets : List ℕ) (n t j r : ℕ) : Type 0 where
+pub record Seen (w : ℕ) (a b xs costs sets : List ℕ) (n t j r : ℕ) : Type 0 where
   pub within : r ≤ n
   pub found-at : (r ≡ n → ⊥) → Reaches a b xs j t r
   pub priced : getD costs r 0 ≡ noCost → r ≡ n
   pub cheapest : costIn (getD costs r 0) ≡ leastCost a b xs costs t j
-  pub lightest : (cost : ℕ → ℕ) → ((q : ℕ) → q < j → Honest cost costs sets (getD xs q 0))
-      → Honest cost costs sets r × (weight costs sets r ≡ leastWeight cost a b xs costs sets t j)
+  pub lightest : (cost : ℕ → ℕ) → ((q : ℕ) → q < j → Honest cost w costs sets (getD xs q 0))
+      → Honest cost w costs sets r × (weight w costs sets r ≡ leastWeight cost w a b xs costs sets t j)
 
 -- where the lead of bid r ends: nowhere for none
 unfoldable pub endOf : List ℕ → ℕ → ℕ → ℕ
 endOf b n r = cond (eqb r n) 0 (getD b r 0)
 
 -- a new lead at t: the list thinned out, and what the scan of it found
-pub record Renewed (a b old live costs sets : List ℕ) (n t m r c end len : ℕ) : Type 0 where
+pub record Renewed (w : ℕ) (a b old live costs sets : List ℕ) (n t m r c end len : ℕ) : Type 0 where
   pub thinned : Thinned b old live t m len
-  pub seen : Seen a b old costs sets n t m r
+  pub seen : Seen w a b old costs sets n t m r
   pub cost-is : c ≡ getD costs r 0
   pub end-is : end ≡ endOf b n r
 
 -- the lead of before, where it lasts up to t, or a new one
-pub data Led (a b old live costs sets : List ℕ) (n t r c end m r′ c′ end′ m′ : ℕ) : Type 0 where
+pub data Led (w : ℕ) (a b old live costs sets : List ℕ) (n t r c end m r′ c′ end′ m′ : ℕ) : Type 0 where
   same : t ≤ end → r′ ≡ r → c′ ≡ c → end′ ≡ end → m′ ≡ m → live ≡ old
-      → Led a b old live costs sets n t r c end m r′ c′ end′ m′
-  anew : end < t → Renewed a b old live costs sets n t m r′ c′ end′ m′
-      → Led a b old live costs sets n t r c end m r′ c′ end′ m′
+      → Led w a b old live costs sets n t r c end m r′ c′ end′ m′
+  anew : end < t → Renewed w a b old live costs sets n t m r′ c′ end′ m′
+      → Led w a b old live costs sets n t r c end m r′ c′ end′ m′
 
 -- bid r, of cost c, is worth `mine`: the best for the cells below t, from t = at up to t = end. The list is known from `at` on
 pub record Leading (best : ℕ → Found) (mine : Found) (a b ps order live : List ℕ) (at k m r c end : ℕ) : Type 0 where

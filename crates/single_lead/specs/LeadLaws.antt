@@ -19,9 +19,9 @@ use Rattle.single_lead.specs.Lead.{leastCost, leastWeight, Reaches, Seen
 
 -- the scan
 
-pub seen-none : (a b xs costs sets : List ℕ) (n t : ℕ) → getD costs n 0 ≡ noCost → Seen a b xs costs sets n t 0 n
+pub seen-none : (w : ℕ) (a b xs costs sets : List ℕ) (n t : ℕ) → getD costs n 0 ≡ noCost → Seen w a b xs costs sets n t 0 n
 unfolding leastCost leastWeight weight weigh scan scanCost costIn foundCost
-seen-none a b xs costs sets n t e = record {
+seen-none w a b xs costs sets n t e = record {
   within = omega arith;
   found-at = λ d. absurd (d refl);
   priced = λ d. refl;
@@ -30,8 +30,9 @@ seen-none a b xs costs sets n t e = record {
 }
 
 -- one bid more
-module _ (a b xs costs sets : List ℕ) (n t j r : ℕ) (f : (q : ℕ) → getD costs q 0 ≤ noCost) (empty : setIn sets n ≡ 0)
-    (i : getD xs j 0 < n) (h : Seen a b xs costs sets n t j r) where
+module _ (w : ℕ) (a b xs costs sets : List ℕ) (n t j r : ℕ) (f : (q : ℕ) → getD costs q 0 ≤ noCost)
+    (empty : setIn w sets n ≡ 0)
+    (i : getD xs j 0 < n) (h : Seen w a b xs costs sets n t j r) where
   abbrev q : ℕ
   q = getD xs j 0
 
@@ -66,7 +67,7 @@ module _ (a b xs costs sets : List ℕ) (n t j r : ℕ) (f : (q : ℕ) → getD 
   next-within true false = h .within
 
   -- a bid without a cost is never before one that was found
-  cheap : before? costs sets q r ≡ true → getD costs q 0 ≡ noCost → q ≡ n
+  cheap : before? w costs sets q r ≡ true → getD costs q 0 ≡ noCost → q ≡ n
   unfolding before?
   cheap e d = go (ltb (getD costs q 0) (getD costs r 0)) (eqb (getD costs q 0) (getD costs r 0)) refl refl e
     where
@@ -74,41 +75,41 @@ module _ (a b xs costs sets : List ℕ) (n t j r : ℕ) (f : (q : ℕ) → getD 
       below-none x y e z = omega (arith, ltb-true x y e)
 
       go : (x y : Bool) → ltb (getD costs q 0) (getD costs r 0) ≡ x → eqb (getD costs q 0) (getD costs r 0) ≡ y
-          → x || (y && ltb (setIn sets q) (setIn sets r)) ≡ true → q ≡ n
+          → x || (y && ltb (setIn w sets q) (setIn w sets r)) ≡ true → q ≡ n
       go true y u v e = absurd (omega (arith, ltb-true (getD costs q 0) (getD costs r 0) u, f r))
-      go false true u v e = absurd (below-none (setIn sets q) (setIn sets r) e
-          (ap (setIn sets) (h .priced (sym (eqb-true (getD costs q 0) (getD costs r 0) v) ∙ d)) ∙ empty))
+      go false true u v e = absurd (below-none (setIn w sets q) (setIn w sets r) e
+          (ap (setIn w sets) (h .priced (sym (eqb-true (getD costs q 0) (getD costs r 0) v) ∙ d)) ∙ empty))
       go false false u v e = absurd (false≢true e)
 
-  next-priced : (c z : Bool) → before? costs sets q r ≡ z → getD costs (cond c (cond z q r) r) 0 ≡ noCost
+  next-priced : (c z : Bool) → before? w costs sets q r ≡ z → getD costs (cond c (cond z q r) r) 0 ≡ noCost
       → cond c (cond z q r) r ≡ n
   next-priced false z e d = h .priced d
   next-priced true true e d = cheap e d
   next-priced true false e d = h .priced d
 
-  next-cheapest : (c : Bool) → reach? ≡ c → costIn (getD costs (cond c (prefer costs sets q r) r) 0)
+  next-cheapest : (c : Bool) → reach? ≡ c → costIn (getD costs (cond c (prefer w costs sets q r) r) 0)
       ≡ leastCost a b xs costs t (suc j)
   unfolding leastCost scanCost reaches
-  next-cheapest true e = rw e (prefer-cost costs sets q r f ∙ ap (lesserCost (costIn (getD costs q 0))) (h .cheapest))
+  next-cheapest true e = rw e (prefer-cost w costs sets q r f ∙ ap (lesserCost (costIn (getD costs q 0))) (h .cheapest))
   next-cheapest false e = rw e (h .cheapest)
 
-  next-lightest : (cost : ℕ → ℕ) → Honest cost costs sets q
-      → Honest cost costs sets r × (weight costs sets r ≡ leastWeight cost a b xs costs sets t j) → (c : Bool) → reach? ≡ c
-      → Honest cost costs sets (cond c (prefer costs sets q r) r)
-      × (weight costs sets (cond c (prefer costs sets q r) r) ≡ leastWeight cost a b xs costs sets t (suc j))
+  next-lightest : (cost : ℕ → ℕ) → Honest cost w costs sets q
+      → Honest cost w costs sets r × (weight w costs sets r ≡ leastWeight cost w a b xs costs sets t j) → (c : Bool) → reach? ≡ c
+      → Honest cost w costs sets (cond c (prefer w costs sets q r) r)
+      × (weight w costs sets (cond c (prefer w costs sets q r) r) ≡ leastWeight cost w a b xs costs sets t (suc j))
   unfolding leastWeight scan reaches
-  next-lightest cost g w true e = (
-    prefer-honest cost costs sets q r f g (w .0),
-    rw e (prefer-lesser cost costs sets q r f g (w .0) ∙ ap (lesser cost (weight costs sets q)) (w .1)),
+  next-lightest cost g p true e = (
+    prefer-honest cost w costs sets q r f g (p .0),
+    rw e (prefer-lesser cost w costs sets q r f g (p .0) ∙ ap (lesser cost (weight w costs sets q)) (p .1)),
   )
-  next-lightest cost g w false e = (w .0, rw e (w .1))
+  next-lightest cost g p false e = (p .0, rw e (p .1))
 
-  pub seen-more : Seen a b xs costs sets n t (j + 1) (reached (getD a q 0) (getD b q 0) t (prefer costs sets q r) r)
+  pub seen-more : Seen w a b xs costs sets n t (j + 1) (reached (getD a q 0) (getD b q 0) t (prefer w costs sets q r) r)
   unfolding reached prefer
   seen-more = record {
-    within = next-within reach? (before? costs sets q r);
-    found-at = next-found reach? refl (before? costs sets q r);
-    priced = next-priced reach? (before? costs sets q r) refl;
+    within = next-within reach? (before? w costs sets q r);
+    found-at = next-found reach? refl (before? w costs sets q r);
+    priced = next-priced reach? (before? w costs sets q r) refl;
     cheapest = let z : j + 1 ≡ suc j = omega arith in rw z (next-cheapest reach? refl);
     lightest = λ cost g. let z : j + 1 ≡ suc j = omega arith in
         rw z (next-lightest cost (g j (omega arith)) (h .lightest cost (λ y l. g y (omega arith))) reach? refl);
@@ -153,22 +154,22 @@ leading-more best mine a b ps order live at k m r c end l g = record {
 }
 
 -- what holds of the lead of before and of whatever the scan finds holds of the lead
-pub led-keeps : (P : ℕ → ℕ → Type 0) (a b costs sets old live : List ℕ) (n t m r c end r′ c′ end′ m′ : ℕ) → P c r
-    → ((r : ℕ) → Seen a b old costs sets n t m r → P (getD costs r 0) r)
-    → Led a b old live costs sets n t r c end m r′ c′ end′ m′ → P c′ r′
-led-keeps P a b costs sets old live n t m r c end r′ c′ end′ m′ p f (same d e1 e2 e3 e4 e5) = rw (e1, e2) p
-led-keeps P a b costs sets old live n t m r c end r′ c′ end′ m′ p f (anew d v) = rw (v .cost-is) (f r′ (v .seen))
+pub led-keeps : (P : ℕ → ℕ → Type 0) (w : ℕ) (a b costs sets old live : List ℕ) (n t m r c end r′ c′ end′ m′ : ℕ)
+    → P c r → ((r : ℕ) → Seen w a b old costs sets n t m r → P (getD costs r 0) r)
+    → Led w a b old live costs sets n t r c end m r′ c′ end′ m′ → P c′ r′
+led-keeps P w a b costs sets old live n t m r c end r′ c′ end′ m′ p f (same d e1 e2 e3 e4 e5) = rw (e1, e2) p
+led-keeps P w a b costs sets old live n t m r c end r′ c′ end′ m′ p f (anew d v) = rw (v .cost-is) (f r′ (v .seen))
 
 -- the lead for the cells below t: bid r of cost c is worth `value c r`, and a bid that the scan found is the best for t and stays so
 -- while it reaches
-module _ (best : ℕ → Found) (value : ℕ → ℕ → Found) (a b ps order costs sets old : List ℕ) (k t m : ℕ)
+module _ (best : ℕ → Found) (value : ℕ → ℕ → Found) (w : ℕ) (a b ps order costs sets old : List ℕ) (k t m : ℕ)
     (later : (q : ℕ) → k ≤ q → q < length ps → t ≤ getD a (getD order q 0) 0)
-    (best-found : (r : ℕ) → 0 < t → Seen a b old costs sets (length ps) t m r → value (getD costs r 0) r ≡ best t)
-    (best-stays : (r u : ℕ) → (r ≡ length ps → ⊥) → Seen a b old costs sets (length ps) t m r → t ≤ u → u ≤ getD b r 0
+    (best-found : (r : ℕ) → 0 < t → Seen w a b old costs sets (length ps) t m r → value (getD costs r 0) r ≡ best t)
+    (best-stays : (r u : ℕ) → (r ≡ length ps → ⊥) → Seen w a b old costs sets (length ps) t m r → t ≤ u → u ≤ getD b r 0
     → value (getD costs r 0) r ≡ best t → value (getD costs r 0) r ≡ best u) where
   pub led-ready : (live : List ℕ) (at r c end r′ c′ end′ m′ : ℕ) → at ≤ t
       → Leading best (value c r) a b ps order old at k m r c end
-      → Led a b old live costs sets (length ps) t r c end m r′ c′ end′ m′
+      → Led w a b old live costs sets (length ps) t r c end m r′ c′ end′ m′
       → Ready best (value c′ r′) a b ps order live k t m′ r′ c′ end′
   led-ready live at r c end r′ c′ end′ m′ l g (same d e1 e2 e3 e4 e5) = rw (e1, e2, e3, e4, e5)
       (record { at = at; low = l; lead = g; now = g .lasts t l d })

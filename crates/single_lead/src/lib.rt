@@ -1,14 +1,14 @@
 // The bid that leads. The bids of one window each are gone through in order of start; of those that reach the cells so far the
 // lightest ends the least set that covers them. It leads as long as it reaches the next start; when it no longer does, the bids
-// that still reach are looked through once. The lighter of two bids costs less, or as much and its set stands in the tie; where
-// the caller lends no sets, costs alone count and a tie changes nothing.
+// that still reach are looked through once. The lighter of two bids costs less, or as much and its set stands in the tie. A set
+// is a row of `w` words; where `w` is 0 there are no sets, costs alone count, and a tie changes nothing.
 ghost use mathlib.Core.Path.{_≡_};
-ghost use Prim.Native.Nat.{ℕ, _+_, _*_, _-_, _/_, _<_, _≤_};
+ghost use Prim.Native.Nat.{ℕ, _+_, _*_, _<_, _≤_};
 ghost use lib.ListN.{getD, length};
 ghost use lib.Dec.{ltb};
 ghost use Rattle.cover.specs.Sets.{valueOf};
 ghost use Rattle.single_lead.specs.Costs.{costIn, plusPrice};
-ghost use Rattle.single_lead.specs.Rows.{setIn, Room, prefer, reached};
+ghost use Rattle.single_lead.specs.Rows.{setIn, prefer, reached};
 ghost use Rattle.single_lead.specs.Live.{counted};
 ghost use Rattle.single_lead.specs.Lead.{endOf, Renewed, Led};
 
@@ -59,15 +59,15 @@ fn end_of(ends: &[u64], n: usize, r: usize) -> u64
 }
 
 // The set in row `q` stands in a tie with the set in row `r`: the highest word that tells them apart decides.
-fn stands(sets: &[u64], q: usize, r: usize) -> bool
-    requires { ⌜ (q * 16 + 16 ≤ length (now sets)) × (r * 16 + 16 ≤ length (now sets)) ⌝ }
-    ensures { λ z. ⌜ z ≡ ltb (setIn (now (sets .entry)) q) (setIn (now (sets .entry)) r) ⌝ }
+fn stands(sets: &[u64], w: usize, q: usize, r: usize) -> bool
+    requires { ⌜ (q * w + w ≤ length (now sets)) × (r * w + w ≤ length (now sets)) ⌝ }
+    ensures { λ z. ⌜ z ≡ ltb (setIn w (now (sets .entry)) q) (setIn w (now (sets .entry)) r) ⌝ }
 {
-    let mut j: usize = 16;
+    let mut j: usize = w;
     while j > 0 {
         j -= 1;
-        let x = sets[q * 16 + j];
-        let y = sets[r * 16 + j];
+        let x = sets[q * w + j];
+        let y = sets[r * w + j];
         if x < y {
             return true;
         }
@@ -79,9 +79,10 @@ fn stands(sets: &[u64], q: usize, r: usize) -> bool
 }
 
 // Of bids `q` and `r` the lighter.
-fn lighter(costs: &[u64], sets: &[u64], q: usize, r: usize) -> usize
-    requires { ⌜ (q < length (now costs)) × (r < length (now costs)) × Room (now sets) q × Room (now sets) r ⌝ }
-    ensures { λ z. ⌜ z ≡ prefer (now (costs .entry)) (now (sets .entry)) q r ⌝ }
+fn lighter(costs: &[u64], sets: &[u64], w: usize, q: usize, r: usize) -> usize
+    requires { ⌜ (q < length (now costs)) × (r < length (now costs)) × (q * w + w ≤ length (now sets))
+        × (r * w + w ≤ length (now sets)) ⌝ }
+    ensures { λ z. ⌜ z ≡ prefer w (now (costs .entry)) (now (sets .entry)) q r ⌝ }
 {
     let x = costs[q];
     let y = costs[r];
@@ -89,10 +90,7 @@ fn lighter(costs: &[u64], sets: &[u64], q: usize, r: usize) -> usize
         return q;
     }
     if x == y {
-        if sets.len() == 0 {
-            return r;
-        }
-        if stands(sets, q, r) {
+        if stands(sets, w, q, r) {
             return q;
         }
     }
@@ -100,13 +98,23 @@ fn lighter(costs: &[u64], sets: &[u64], q: usize, r: usize) -> usize
 }
 
 // The lighter where bid `q`, from `start` to `end`, reaches `t`.
-fn consider(start: u64, end: u64, t: u64, costs: &[u64], sets: &[u64], q: usize, r: usize) -> usize
-    requires { ⌜ (q < length (now costs)) × (r < length (now costs)) × Room (now sets) q × Room (now sets) r ⌝ }
-    ensures { λ z. ⌜ z ≡ reached start end t (prefer (now (costs .entry)) (now (sets .entry)) q r) r ⌝ }
+fn consider(
+    start: u64,
+    end: u64,
+    t: u64,
+    costs: &[u64],
+    sets: &[u64],
+    w: usize,
+    q: usize,
+    r: usize,
+) -> usize
+    requires { ⌜ (q < length (now costs)) × (r < length (now costs)) × (q * w + w ≤ length (now sets))
+        × (r * w + w ≤ length (now sets)) ⌝ }
+    ensures { λ z. ⌜ z ≡ reached start end t (prefer w (now (costs .entry)) (now (sets .entry)) q r) r ⌝ }
 {
     if start < t {
         if t <= end {
-            return lighter(costs, sets, q, r);
+            return lighter(costs, sets, w, q, r);
         }
     }
     r
@@ -127,15 +135,16 @@ fn renew(
     live: &mut [usize],
     costs: &[u64],
     sets: &[u64],
+    w: usize,
     n: usize,
     m: usize,
     t: u64,
 ) -> Lead
     requires { ⌜ (m ≤ length (now live)) × (m < 1000000) × (n < length (now costs)) × (n ≤ length (now starts))
-        × (n ≤ length (now ends)) × Room (now sets) n ⌝ }
+        × (n ≤ length (now ends)) × (n * w + w ≤ length (now sets)) ⌝ }
     requires { ⌜ ((j : ℕ) → j < m → getD (now live) j 0 < n) ⌝ }
-    requires { ⌜ (getD (now costs) n 0 ≡ 18446744073709551615) × (setIn (now sets) n ≡ 0) ⌝ }
-    ensures { λ z. ⌜ Renewed (now (starts .entry)) (now (ends .entry)) (now (live .entry)) (now (live .exit)) (now (costs .entry))
+    requires { ⌜ (getD (now costs) n 0 ≡ 18446744073709551615) × (setIn w (now sets) n ≡ 0) ⌝ }
+    ensures { λ z. ⌜ Renewed w (now (starts .entry)) (now (ends .entry)) (now (live .entry)) (now (live .exit)) (now (costs .entry))
         (now (sets .entry)) n t m (z .row) (z .cost) (z .end) (z .live) ⌝ }
 {
     let mut x: usize = 0;
@@ -146,13 +155,14 @@ fn renew(
         live[x] = i;
         let e = ends[i];
         x = count(e, t, x);
-        r = consider(starts[i], e, t, costs, sets, i, r);
+        r = consider(starts[i], e, t, costs, sets, w, i, r);
         j += 1;
     }
     let end = end_of(ends, n, r);
+    let cost = costs[r];
     Lead {
         row: r,
-        cost: costs[r],
+        cost: cost,
         end: end,
         live: x,
     }
@@ -165,19 +175,20 @@ pub fn lead_at(
     live: &mut [usize],
     costs: &[u64],
     sets: &[u64],
+    w: usize,
     n: usize,
     lead: Lead,
     t: u64,
 ) -> Lead
     requires { ⌜ (lead .live ≤ length (now live)) × (lead .live < 1000000) × (n < length (now costs)) × (n ≤ length (now starts))
-        × (n ≤ length (now ends)) × Room (now sets) n ⌝ }
+        × (n ≤ length (now ends)) × (n * w + w ≤ length (now sets)) ⌝ }
     requires { ⌜ ((j : ℕ) → j < lead .live → getD (now live) j 0 < n) ⌝ }
-    requires { ⌜ (getD (now costs) n 0 ≡ 18446744073709551615) × (setIn (now sets) n ≡ 0) ⌝ }
-    ensures { λ z. ⌜ Led (now (starts .entry)) (now (ends .entry)) (now (live .entry)) (now (live .exit)) (now (costs .entry))
+    requires { ⌜ (getD (now costs) n 0 ≡ 18446744073709551615) × (setIn w (now sets) n ≡ 0) ⌝ }
+    ensures { λ z. ⌜ Led w (now (starts .entry)) (now (ends .entry)) (now (live .entry)) (now (live .exit)) (now (costs .entry))
         (now (sets .entry)) n t (lead .row) (lead .cost) (lead .end) (lead .live) (z .row) (z .cost) (z .end) (z .live) ⌝ }
 {
     if t <= lead.end {
         return lead;
     }
-    renew(starts, ends, live, costs, sets, n, lead.live, t)
+    renew(starts, ends, live, costs, sets, w, n, lead.live, t)
 }

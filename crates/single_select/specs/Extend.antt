@@ -9,7 +9,7 @@ use Rattle.single_lead.specs.Rows.{setIn}
 abbrev pub Off : ℕ → ℕ → Type 0
 Off q x = q * 16 ≤ x → x < q * 16 + 16 → ⊥
 
--- the words below j of setIn q are those of setIn `from`
+-- the words below j of setIn 16 q are those of setIn `from`
 pub record Copied (old new : List ℕ) (from q j : ℕ) : Type 0 where
   pub sized : length new ≡ length old
   pub kept : (x : ℕ) → Off q x → getD new x 0 ≡ getD old x 0
@@ -19,4 +19,4 @@ pub record Copied (old new : List ℕ) (from q j : ℕ) : Type 0 where
 pub record Extended (old new : List ℕ) (from i s : ℕ) : Type 0 where
   pub sized : length new ≡ length old
   pub kept : (x : ℕ) → Off i x → getD new x 0 ≡ getD old x 0
-  pub is : setIn new i ≡ setIn old from + s
+  pub is : setIn 16 new i ≡ setIn 16 old from + s

@@ -99,7 +99,7 @@ words-add (suc m) f g (suc i) d l e h = omega (
 -- rows
 
 row-same : (xs ys : List ℕ) (p q : ℕ) → ((j : ℕ) → j < 16 → getD xs (p * 16 + j) 0 ≡ getD ys (q * 16 + j) 0)
-    → setIn xs p ≡ setIn ys q
+    → setIn 16 xs p ≡ setIn 16 ys q
 unfolding setIn
 row-same xs ys p q h = words-same 16 (λ j. getD xs (p * 16 + j) 0) (λ j. getD ys (q * 16 + j) 0) h
 
@@ -113,30 +113,30 @@ cleared-more xs q j l h i d = go (eqb i j) refl
     go false e = getD-set-other xs (q * 16 + j) (q * 16 + i) 0 0 (λ z. eqb-false i j e (omega arith))
         ∙ h i (omega (arith, eqb-false i j e))
 
--- a setIn of which no place was written
+-- a setIn 16 of which no place was written
 pub row-kept : (old new : List ℕ) (i q : ℕ) → (q ≡ i → ⊥) → ((x : ℕ) → Off i x → getD new x 0 ≡ getD old x 0)
-    → setIn new q ≡ setIn old q
+    → setIn 16 new q ≡ setIn 16 old q
 row-kept old new i q d h = row-same new old q q (λ j l. h (q * 16 + j) (λ u v. d (omega arith)))
 
 pub bit-row : (sets : List ℕ) (q i : ℕ) → ((j : ℕ) → getD sets j 0 < 18446744073709551616) → i < 1024
-    → getD sets (q * 16 + i / 64) 0 / 2 ^ (i % 64) % 2 ≡ when (bit (setIn sets q) i) 1
+    → getD sets (q * 16 + i / 64) 0 / 2 ^ (i % 64) % 2 ≡ when (bit (setIn 16 sets q) i) 1
 unfolding setIn
 bit-row sets q i f l =
     let e : i / 64 * 64 + i % 64 ≡ i = omega arith in
     bit-shift (i % 64) (getD sets (q * 16 + i / 64) 0)
     ∙ ap (λ s. when s 1) (sym (bit-words 16 (λ j. getD sets (q * 16 + j) 0) (λ j d. f (q * 16 + j)) (i / 64) (i % 64) (omega arith)
-    (omega arith)) ∙ ap (bit (setIn sets q)) e)
+    (omega arith)) ∙ ap (bit (setIn 16 sets q)) e)
 
 -- a word of a set without bid i has room for it
 pub word-room : (sets : List ℕ) (q i : ℕ) → ((j : ℕ) → getD sets j 0 < 18446744073709551616) → i < 1024
-    → bit (setIn sets q) i ≡ false
+    → bit (setIn 16 sets q) i ≡ false
     → getD sets (q * 16 + i / 64) 0 + 2 ^ (i % 64) < 18446744073709551616
 unfolding setIn
 word-room sets q i f l e =
     let z : i / 64 * 64 + i % 64 ≡ i = omega arith in
     add-below 64 (i % 64) (getD sets (q * 16 + i / 64) 0) (omega arith)
     (sym (bit-words 16 (λ j. getD sets (q * 16 + j) 0) (λ j d. f (q * 16 + j)) (i / 64) (i % 64) (omega arith) (omega arith))
-    ∙ ap (bit (setIn sets q)) z ∙ e) (f (q * 16 + i / 64))
+    ∙ ap (bit (setIn 16 sets q)) z ∙ e) (f (q * 16 + i / 64))
 
 -- a row copied
 

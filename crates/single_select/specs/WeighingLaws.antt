@@ -48,13 +48,13 @@ plus-costs a b ps i l = cost-plus (length ps) 0 (getD a i 0) (λ i. getD a i 0) 
 
 -- the beginning
 
-pub weighing-none : (a b ps order costs sets live : List ℕ) → getD costs (length ps) 0 ≡ noCost → setIn sets (length ps) ≡ 0
+pub weighing-none : (a b ps order costs sets live : List ℕ) → getD costs (length ps) 0 ≡ noCost → setIn 16 sets (length ps) ≡ 0
     → Weighing a b ps order costs sets live 0 0 (length ps) 0 0
 unfolding weigh costIn foundCost
 weighing-none a b ps order costs sets live e z = record {
   at = 0;
   low = λ t f. omega arith;
-  lead = leading-none (leastBelow a b ps) (found (setIn sets (length ps))) a b ps order live 0 0 0 (λ q l d. omega arith)
+  lead = leading-none (leastBelow a b ps) (found (setIn 16 sets (length ps))) a b ps order live 0 0 0 (λ q l d. omega arith)
       (live-none order b live) (ap found z ∙ sym (least-none a b ps));
   honest = ap found (sym (ap (cost ps) z ∙ priced ps .empty));
   done = λ q l. absurd (omega arith);
@@ -68,7 +68,7 @@ module _ (a b ps order costs sets : List ℕ) (h : Bids a b ps order) (old live 
     (fit : k ≤ length ps) (all : (i : ℕ) → i < length ps → getD a i 0 < t → On order k i)
     (later : (q : ℕ) → k ≤ q → q < length ps → t ≤ getD a (getD order q 0) 0)
     (g : Weighing a b ps order costs sets old k m r c end) (l : g .at ≤ t)
-    (v : Led a b old live costs sets (length ps) t r c end m r′ c′ end′ m′) where
+    (v : Led 16 a b old live costs sets (length ps) t r c end m r′ c′ end′ m′) where
   done-on : (i : ℕ) → On order k i → Done a b ps costs sets i
   done-on i y = rw (y .is) at (g .done (y .place) (y .inside))
 
@@ -78,17 +78,17 @@ module _ (a b ps order costs sets : List ℕ) (h : Bids a b ps order) (old live 
   old-below : (j : ℕ) → j < m → getD old j 0 < length ps
   old-below = live-below a b ps order h old k m (g .at) fit (g .lead .reach)
 
-  least-found : (r : ℕ) → 0 < t → Seen a b old costs sets (length ps) t m r → weight costs sets r ≡ leastBelow a b ps t
+  least-found : (r : ℕ) → 0 < t → Seen 16 a b old costs sets (length ps) t m r → weight 16 costs sets r ≡ leastBelow a b ps t
   unfolding leastBelow leastWeight
   least-found r z s = s .lightest (cost ps) (λ j d. done-at j d .honest) .1
       ∙ scan-leastSet (length ps) 0 t (λ i. getD a i 0) (λ i. getD b i 0) (λ i. getD ps i 0) (cost ps) anyBid
       (coversBelow a b (length ps)) (prefixes a b ps t) (priced ps)
-      (λ j. getD old j 0) (λ j. weight costs sets (getD old j 0)) m t z (omega arith) old-below
+      (λ j. getD old j 0) (λ j. weight 16 costs sets (getD old j 0)) m t z (omega arith) old-below
       (λ i d u e. let y = all i d u in rw (y .is) at (g .lead .reach .every (y .place) (y .inside) (rw (y .is) (omega arith))))
       (λ j d u. done-at j d .is)
 
-  least-stays : (r u : ℕ) → (r ≡ length ps → ⊥) → Seen a b old costs sets (length ps) t m r → t ≤ u → u ≤ getD b r 0
-      → weight costs sets r ≡ leastBelow a b ps t → weight costs sets r ≡ leastBelow a b ps u
+  least-stays : (r u : ℕ) → (r ≡ length ps → ⊥) → Seen 16 a b old costs sets (length ps) t m r → t ≤ u → u ≤ getD b r 0
+      → weight 16 costs sets r ≡ leastBelow a b ps t → weight 16 costs sets r ≡ leastBelow a b ps u
   unfolding leastBelow
   least-stays r u n s x y q =
       let p = s .found-at n in
@@ -99,30 +99,30 @@ module _ (a b ps order costs sets : List ℕ) (h : Bids a b ps order) (old live 
   pub led-row : ReadyRow a b ps order sets live k t m′ r′ c′ end′
   unfolding weight
   led-row = record {
-    least = led-ready (leastBelow a b ps) (λ c r. weigh c (setIn sets r)) a b ps order costs sets old k t m later least-found
+    least = led-ready (leastBelow a b ps) (λ c r. weigh c (setIn 16 sets r)) 16 a b ps order costs sets old k t m later least-found
         least-stays live (g .at) r c end r′ c′ end′ m′ l (g .lead) v;
-    honest = led-keeps (λ c r. costIn c ≡ foundCost (cost ps) (weigh c (setIn sets r))) a b costs sets old live (length ps) t m r c end
-        r′ c′ end′ m′ (g .honest) (λ r s. s .lightest (cost ps) (λ j d. done-at j d .honest) .0) v;
+    honest = led-keeps (λ c r. costIn c ≡ foundCost (cost ps) (weigh c (setIn 16 sets r))) 16 a b costs sets old live (length ps) t m r c
+        end r′ c′ end′ m′ (g .honest) (λ r s. s .lightest (cost ps) (λ j d. done-at j d .honest) .0) v;
   }
 
 -- a bid that begins at t
 
-module _ (a b ps order sets live : List ℕ) (k t m r c end : ℕ) (empty : setIn sets (length ps) ≡ 0)
+module _ (a b ps order sets live : List ℕ) (k t m r c end : ℕ) (empty : setIn 16 sets (length ps) ≡ 0)
     (g : ReadyRow a b ps order sets live k t m r c end) where
   cost-now : costIn c ≡ foundCost (cost ps) (leastBelow a b ps t)
   cost-now = g .honest ∙ ap (foundCost (cost ps)) (g .least .now)
 
   -- it is not in the leading set, so its word has room
-  pub lead-lacks : (i : ℕ) → i < length ps → getD a i 0 ≡ t → bit (setIn sets r) i ≡ false
+  pub lead-lacks : (i : ℕ) → i < length ps → getD a i 0 ≡ t → bit (setIn 16 sets r) i ≡ false
   unfolding leastBelow
   lead-lacks i l z = go (eqb c noCost) refl
     where
-      go : (s : Bool) → eqb c noCost ≡ s → bit (setIn sets r) i ≡ false
-      go true e = ap (λ s. bit s i) (ap (setIn sets) (g .least .lead .none (eqb-true c noCost e)) ∙ empty) ∙ bit-none i
+      go : (s : Bool) → eqb c noCost ≡ s → bit (setIn 16 sets r) i ≡ false
+      go true e = ap (λ s. bit s i) (ap (setIn 16 sets) (g .least .lead .none (eqb-true c noCost e)) ∙ empty) ∙ bit-none i
       go false e = lacks (length ps) 0 t (λ i. getD a i 0) (λ i. getD b i 0) (λ i. getD ps i 0) (cost ps) anyBid
           (coversBelow a b (length ps)) (prefixes a b ps t) (priced ps)
-          t i (setIn sets r) l (λ x o g y w. omega arith) (omega arith)
-          (rw (sym (g .least .now) ∙ weigh-some c (setIn sets r) (eqb-false c noCost e))
+          t i (setIn 16 sets r) l (λ x o g y w. omega arith) (omega arith)
+          (rw (sym (g .least .now) ∙ weigh-some c (setIn 16 sets r) (eqb-false c noCost e))
           at (leastSet-right (coversBelow a b (length ps)) (cost ps) (length ps) t))
 
   -- its cost is a word
@@ -145,16 +145,17 @@ module _ (a b ps order sets live : List ℕ) (k t m r c end : ℕ) (empty : setI
     abbrev v : ℕ
     v = plusPrice c (getD ps i 0)
 
-    heavy : weigh v (setIn sets r + 2 ^ i) ≡ plus i (leastBelow a b ps t)
+    heavy : weigh v (setIn 16 sets r + 2 ^ i) ≡ plus i (leastBelow a b ps t)
     unfolding plusPrice plus
     heavy = go (eqb c noCost) refl
       where
-        go : (s : Bool) → eqb c noCost ≡ s → weigh (cond s c (c + getD ps i 0)) (setIn sets r + 2 ^ i)
+        go : (s : Bool) → eqb c noCost ≡ s → weigh (cond s c (c + getD ps i 0)) (setIn 16 sets r + 2 ^ i)
             ≡ plus i (leastBelow a b ps t)
-        go true e = weigh-none c (setIn sets r + 2 ^ i) (eqb-true c noCost e)
-            ∙ sym (ap (plus i) (sym (g .least .now) ∙ weigh-none c (setIn sets r) (eqb-true c noCost e)))
-        go false e = weigh-some (c + getD ps i 0) (setIn sets r + 2 ^ i) (λ q. omega (arith, lead-fits i l z rich (eqb-false c noCost e)))
-            ∙ sym (ap (plus i) (sym (g .least .now) ∙ weigh-some c (setIn sets r) (eqb-false c noCost e)))
+        go true e = weigh-none c (setIn 16 sets r + 2 ^ i) (eqb-true c noCost e)
+            ∙ sym (ap (plus i) (sym (g .least .now) ∙ weigh-none c (setIn 16 sets r) (eqb-true c noCost e)))
+        go false e = weigh-some (c + getD ps i 0) (setIn 16 sets r + 2 ^ i)
+            (λ q. omega (arith, lead-fits i l z rich (eqb-false c noCost e)))
+            ∙ sym (ap (plus i) (sym (g .least .now) ∙ weigh-some c (setIn 16 sets r) (eqb-false c noCost e)))
 
     done-here : Done a b ps (set costs i v) new i
     unfolding weight
@@ -164,7 +165,7 @@ module _ (a b ps order sets live : List ℕ) (k t m r c end : ℕ) (empty : setI
           ∙ ap (raise (getD ps i 0)) cost-now ∙ sym plus-cost ∙ ap (foundCost (cost ps)) (sym is);
     }
       where
-        is : weigh (getD (set costs i v) i 0) (setIn new i) ≡ plus i (leastBelow a b ps (getD a i 0))
+        is : weigh (getD (set costs i v) i 0) (setIn 16 new i) ≡ plus i (leastBelow a b ps (getD a i 0))
         is = rw (getD-set-same costs i v 0 (omega arith), x .is, z) heavy
 
         plus-cost : foundCost (cost ps) (plus i (leastBelow a b ps (getD a i 0)))
@@ -188,7 +189,7 @@ module _ (a b ps order sets live : List ℕ) (k t m r c end : ℕ) (empty : setI
 -- the bids that begin before the bid at k stand before it
 pub next-row : (a b ps order costs sets : List ℕ) (h : Bids a b ps order) (old live : List ℕ) (k m r c end r′ c′ end′ m′ : ℕ)
     → k < length ps → Weighing a b ps order costs sets old k m r c end
-    → Led a b old live costs sets (length ps) (getD a (getD order k 0) 0) r c end m r′ c′ end′ m′
+    → Led 16 a b old live costs sets (length ps) (getD a (getD order k 0) 0) r c end m r′ c′ end′ m′
     → ReadyRow a b ps order sets live k (getD a (getD order k 0) 0) m′ r′ c′ end′
 next-row a b ps order costs sets h old live k m r c end r′ c′ end′ m′ l g v =
     led-row a b ps order costs sets h old live k (getD a (getD order k 0) 0) m r c end r′ c′ end′ m′ (omega arith)
@@ -198,7 +199,7 @@ next-row a b ps order costs sets h old live k m r c end r′ c′ end′ m′ l 
 -- THE TURN
 pub weighing-more : (a b ps order costs sets live new : List ℕ) (h : Bids a b ps order) (k m r c end : ℕ) → k < length ps
     → sum ps < noCost → length ps ≤ length costs → m < length live
-    → getD costs (length ps) 0 ≡ noCost → setIn sets (length ps) ≡ 0
+    → getD costs (length ps) 0 ≡ noCost → setIn 16 sets (length ps) ≡ 0
     → ((q : ℕ) → q < k → Done a b ps costs sets (getD order q 0))
     → ReadyRow a b ps order sets live k (getD a (getD order k 0) 0) m r c end
     → Extended sets new r (getD order k 0) (2 ^ getD order k 0)
@@ -207,7 +208,7 @@ pub weighing-more : (a b ps order costs sets live new : List ℕ) (h : Bids a b 
 weighing-more a b ps order costs sets live new h k m r c end l rich fit u guard empty done g x = record {
   at = g .least .at;
   low = λ t f. omega (arith, g .least .low, f i mine);
-  lead = rw kept (leading-more (leastBelow a b ps) (weigh c (setIn sets r)) a b ps order live (g .least .at) k m r c end u
+  lead = rw kept (leading-more (leastBelow a b ps) (weigh c (setIn 16 sets r)) a b ps order live (g .least .at) k m r c end u
       (g .least .lead));
   honest = rw kept (g .honest);
   done = λ q d. done-more a b ps order sets live k (getD a i 0) m r c end empty g i mine refl rich costs new
@@ -222,7 +223,7 @@ weighing-more a b ps order costs sets live new h k m r c end l rich fit u guard 
     mine : i < length ps
     mine = h .sorted .bids k l
 
-    kept : setIn new r ≡ setIn sets r
+    kept : setIn 16 new r ≡ setIn 16 sets r
     kept = row-kept sets new i r (lead-other a b ps order sets live k (getD a i 0) m r c end empty g i mine refl) (x .kept)
 
     by : (q : ℕ) → q < k + 1 → eqb (getD order q 0) i ≡ false → (s : Bool) → eqb q k ≡ s
@@ -238,19 +239,19 @@ unfolding costBelow
 done-cost a b ps costs sets i l d = d .honest ∙ ap (foundCost (cost ps)) (d .is) ∙ plus-costs a b ps i l
 
 -- the winners stand in the leading row at the end
-lead-wins : (a b ps order sets live : List ℕ) (k L m r c end : ℕ) → setIn sets (length ps) ≡ 0
-    → ReadyRow a b ps order sets live k L m r c end → setIn sets r ≡ winners (covers (spans a b) (length ps) L) ps
+lead-wins : (a b ps order sets live : List ℕ) (k L m r c end : ℕ) → setIn 16 sets (length ps) ≡ 0
+    → ReadyRow a b ps order sets live k L m r c end → setIn 16 sets r ≡ winners (covers (spans a b) (length ps) L) ps
 unfolding valueOf
 lead-wins a b ps order sets live k L m r c end empty g = go (eqb c noCost) refl ∙ sym (winners-of a b ps L)
   where
-    go : (s : Bool) → eqb c noCost ≡ s → setIn sets r ≡ valueOf (leastBelow a b ps L)
-    go true e = ap (setIn sets) (g .least .lead .none (eqb-true c noCost e)) ∙ empty
-        ∙ sym (ap valueOf (sym (g .least .now) ∙ weigh-none c (setIn sets r) (eqb-true c noCost e)))
-    go false e = sym (ap valueOf (sym (g .least .now) ∙ weigh-some c (setIn sets r) (eqb-false c noCost e)))
+    go : (s : Bool) → eqb c noCost ≡ s → setIn 16 sets r ≡ valueOf (leastBelow a b ps L)
+    go true e = ap (setIn 16 sets) (g .least .lead .none (eqb-true c noCost e)) ∙ empty
+        ∙ sym (ap valueOf (sym (g .least .now) ∙ weigh-none c (setIn 16 sets r) (eqb-true c noCost e)))
+    go false e = sym (ap valueOf (sym (g .least .now) ∙ weigh-some c (setIn 16 sets r) (eqb-false c noCost e)))
 
 pub weighed : (a b ps order costs sets : List ℕ) (h : Bids a b ps order) (old live : List ℕ) (L k m r c end r′ c′ end′ m′ : ℕ)
     → k ≡ length ps → ((i : ℕ) → i < length ps → getD a i 0 ≤ L)
-    → Weighing a b ps order costs sets old k m r c end → Led a b old live costs sets (length ps) L r c end m r′ c′ end′ m′
+    → Weighing a b ps order costs sets old k m r c end → Led 16 a b old live costs sets (length ps) L r c end m r′ c′ end′ m′
     → Weighed a b ps costs sets L r′ c′
 weighed a b ps order costs sets h old live L k m r c end r′ c′ end′ m′ e low g v = record {
   within = x .least .lead .within;

@@ -44,7 +44,7 @@ fn step(
 {
     let n = prices.len();
     let i = order[k];
-    let z = lead_at(starts, ends, live, costs, sets, n, lead, starts[i]);
+    let z = lead_at(starts, ends, live, costs, sets, 16, n, lead, starts[i]);
     let r = z.row;
     let m = z.live;
     extend(sets, r, i);
@@ -73,7 +73,7 @@ fn weigh(
     requires { ⌜ (length (now prices) ≤ 1000) × (length (now prices) ≤ length (now order))
         × (length (now prices) ≤ length (now live))
         × (length (now prices) < length (now costs)) × (length (now prices) * 16 + 16 ≤ length (now sets)) ⌝ }
-    requires { ⌜ (sum (now prices) < 18446744073709551615) × (setIn (now sets) (length (now prices)) ≡ 0) ⌝ }
+    requires { ⌜ (sum (now prices) < 18446744073709551615) × (setIn 16 (now sets) (length (now prices)) ≡ 0) ⌝ }
     requires { ⌜ ((i : ℕ) → i < length (now prices) → getD (now starts) i 0 ≤ cells) ⌝ }
     ensures { λ z. ⌜ Weighed (now (starts .entry)) (now (ends .entry)) (now (prices .entry)) (now (costs .exit)) (now (sets .exit)) cells
         (z .row) (z .cost) ⌝ }
@@ -91,7 +91,7 @@ fn weigh(
         lead = step(starts, ends, prices, order, live, costs, sets, k, lead);
         k += 1;
     }
-    lead_at(starts, ends, live, costs, sets, n, lead, cells)
+    lead_at(starts, ends, live, costs, sets, 16, n, lead, cells)
 }
 
 // The winners' flags, the cost of each bid with what comes before it, and the winners' cost.

@@ -29,7 +29,7 @@ fn copy_row(sets: &mut [u64], from: usize, to: usize)
 // Row `i`: row `from` with bid `i`.
 pub(crate) fn extend(sets: &mut [u64], from: usize, i: usize)
     requires { ⌜ (from * 16 + 16 ≤ length (now sets)) × (i * 16 + 16 ≤ length (now sets)) × (from ≡ i → ⊥) × (i < 1024) ⌝ }
-    requires { ⌜ bit (setIn (now sets) from) i ≡ false ⌝ }
+    requires { ⌜ bit (setIn 16 (now sets) from) i ≡ false ⌝ }
     ensures { λ r. ⌜ Extended (now (sets .entry)) (now (sets .exit)) from i (2 ^ i) ⌝ }
 {
     copy_row(sets, from, i);
@@ -40,7 +40,7 @@ pub(crate) fn extend(sets: &mut [u64], from: usize, i: usize)
 // Row `r`: the set of no bids.
 pub(crate) fn clear(sets: &mut [u64], r: usize)
     requires { ⌜ r * 16 + 16 ≤ length (now sets) ⌝ }
-    ensures { λ z. ⌜ setIn (now (sets .exit)) r ≡ 0 ⌝ }
+    ensures { λ z. ⌜ setIn 16 (now (sets .exit)) r ≡ 0 ⌝ }
 {
     let mut j: usize = 0;
     while j < 16 {
@@ -52,7 +52,7 @@ pub(crate) fn clear(sets: &mut [u64], r: usize)
 // A flag for each bid of the set in row `r`.
 pub(crate) fn mark(sets: &[u64], r: usize, n: usize, won: &mut [u64])
     requires { ⌜ (r * 16 + 16 ≤ length (now sets)) × (n ≤ 1024) × (n ≤ length (now won)) ⌝ }
-    ensures { λ z. ⌜ FilledTo (λ i. when (bit (setIn (now (sets .entry)) r) i) 1) (now (won .entry)) (now (won .exit)) n ⌝ }
+    ensures { λ z. ⌜ FilledTo (λ i. when (bit (setIn 16 (now (sets .entry)) r) i) 1) (now (won .entry)) (now (won .exit)) n ⌝ }
 {
     let mut i = 0;
     while i < n {

@@ -1,6 +1,6 @@
 -- `single_lead::lighter` meets its contract: by the ways through it. Assumes nothing.
 use mathlib.Core.Path.{sym, _∙_}
-use Rattle.single_lead.specs.RowsLaws.{prefer-less, prefer-more, prefer-first, prefer-last, prefer-stays}
+use Rattle.single_lead.specs.RowsLaws.{prefer-less, prefer-more, prefer-first, prefer-last}
 use borrow.Author.Needs.{needs}
 use Rattle.single_lead.proofs.lighter.Statement.{statement}
 use Rattle.single_lead.proofs.lighter.Tie as tie
@@ -18,26 +18,19 @@ shared-slice-read-y : tie.Need-shared-slice-read-y
 shared-slice-read-y c = search needs
 
 returns : tie.Need-returns
-returns c = prefer-less _ _ _ _ (c .if1 .taken)
-
-returns-2 : tie.Need-returns-2
-returns-2 c = prefer-stays _ _ _ _ (c .before .if2 .taken) (c .if3 .taken)
+returns c = prefer-less _ _ _ _ _ (c .if1 .taken)
 
 stands-requires : tie.Need-stands-requires
-stands-requires c κs =
-    let pre = c .before .before .before .before .before .before .before .pre in
-    let x = pre .2 (c .if3 .left) in
-    let y = pre .3 (c .if3 .left) in
-    search needs
+stands-requires c κs = search needs
+
+returns-2 : tie.Need-returns-2
+returns-2 c = prefer-first _ _ _ _ _ (c .before .before .if2 .taken) (sym (c .before .stands .ensures) ∙ c .if3 .taken)
 
 returns-3 : tie.Need-returns-3
-returns-3 c = prefer-first _ _ _ _ (c .before .before .before .if2 .taken) (sym (c .before .stands .ensures) ∙ c .if4 .taken)
+returns-3 c = prefer-last _ _ _ _ _ (c .before .before .if2 .taken) (sym (c .before .stands .ensures) ∙ c .if3 .left)
 
 returns-4 : tie.Need-returns-4
-returns-4 c = prefer-last _ _ _ _ (c .before .before .before .if2 .taken) (sym (c .before .stands .ensures) ∙ c .if4 .left)
-
-returns-5 : tie.Need-returns-5
-returns-5 c = prefer-more _ _ _ _ (c .before .if1 .left) (c .if2 .left)
+returns-4 c = prefer-more _ _ _ _ _ (c .before .if1 .left) (c .if2 .left)
 
 pub lighter-spec : {M : Type 1} → statement M
 lighter-spec =
@@ -48,8 +41,7 @@ lighter-spec =
     mul-y
     shared-slice-read-y
     returns
-    returns-2
     stands-requires
+    returns-2
     returns-3
-    returns-4
-    returns-5)
+    returns-4)

@@ -5,6 +5,7 @@ use lib.ListN.{length, length-set}
 use native.Mathlib.Nat.{le-antisymm}
 use Rattle.single_lead.specs.Live.{Thinned}
 use Rattle.single_lead.specs.LiveLaws.{thinned-none, thinned-more}
+use Rattle.single_lead.specs.RowsLaws.{row-room}
 use Rattle.single_lead.specs.Lead.{Seen}
 use Rattle.single_lead.specs.LeadLaws.{seen-none, seen-more}
 use native.Mathlib.Omega.{arith}
@@ -13,16 +14,16 @@ use Rattle.single_lead.proofs.renew.Statement.{statement}
 use Rattle.single_lead.proofs.renew.Tie as tie
 
 abbrev Inv-loop : tie.InvT-loop
-Inv-loop starts ends live₀ costs sets n m t x₀ r₀ j₀ live x r j = (j ≤ m) × (length live ≡ length live₀) × Thinned ends live₀ live t j x
-    × Seen starts ends live₀ costs sets n t j r
+Inv-loop starts ends live₀ costs sets w n m t x₀ r₀ j₀ live x r j = (j ≤ m) × (length live ≡ length live₀) × Thinned ends live₀ live t j x
+    × Seen w starts ends live₀ costs sets n t j r
 
 abbrev μ-loop : tie.MeasureT-loop
-μ-loop starts ends live₀ costs sets n m t x₀ r₀ j₀ live x r j = m - j
+μ-loop starts ends live₀ costs sets w n m t x₀ r₀ j₀ live x r j = m - j
 
 loop-holds : tie.Need-loop-holds Inv-loop μ-loop
 loop-holds c =
     let c5 = c .before .before .before .before .before in
-    (omega arith, omega arith, thinned-none _ _ _, seen-none _ _ _ _ _ _ _ (c5 .pre .1 .1 .0))
+    (omega arith, omega arith, thinned-none _ _ _, seen-none _ _ _ _ _ _ _ _ (c5 .pre .1 .1 .0))
 
 mul-i : tie.Need-mul-i Inv-loop μ-loop
 mul-i c = search needs
@@ -82,9 +83,9 @@ consider-requires c κs =
     let pre = c11 .pre in (
       omega (arith, pre .1 .0 (c5 .loop .j) (c4 .loop-test .taken), c5 .loop .inv .2 .rest (c5 .loop .j) (omega arith)),
       omega (arith, c5 .loop .inv .3 .within),
-      λ e. omega
-          (arith, pre .0 .5 e, pre .1 .0 (c5 .loop .j) (c4 .loop-test .taken), c5 .loop .inv .2 .rest (c5 .loop .j) (omega arith)),
-      λ e. omega (arith, pre .0 .5 e, c5 .loop .inv .3 .within),
+      row-room _ _ _ _ (omega (arith, pre .1 .0 (c5 .loop .j) (c4 .loop-test .taken), c5 .loop .inv .2 .rest (c5 .loop .j) (omega arith)))
+          (pre .0 .5),
+      row-room _ _ _ _ (omega (arith, c5 .loop .inv .3 .within)) (pre .0 .5),
     )
 
 add-j : tie.Need-add-j Inv-loop μ-loop
@@ -105,18 +106,18 @@ loop-again c =
       rw (c .before .before .count .ensures)
           (thinned-more _ _ _ _ _ _ (omega arith) (c6 .loop .inv .2)),
       rw (c .consider .ensures, c6 .loop .inv .2 .rest (c6 .loop .j) (omega arith))
-          (seen-more _ _ _ _ _ _ _ _ _ (λ q. omega (arith, c8 .shared-slice-known3 .given q)) (pre .1 .1 .1)
+          (seen-more _ _ _ _ _ _ _ _ _ _ (λ q. omega (arith, c8 .shared-slice-known3 .given q)) (pre .1 .1 .1)
           (pre .1 .0 (c6 .loop .j) (c5 .loop-test .taken)) (c6 .loop .inv .3)),
     )
 
 end-of-requires : tie.Need-end-of-requires Inv-loop μ-loop
 end-of-requires c κs = (c .before .loop .inv .3 .within, omega arith)
 
-mul-t23 : tie.Need-mul-t23 Inv-loop μ-loop
-mul-t23 c = search needs
+mul-cost : tie.Need-mul-cost Inv-loop μ-loop
+mul-cost c = search needs
 
-shared-slice-read-t25 : tie.Need-shared-slice-read-t25 Inv-loop μ-loop
-shared-slice-read-t25 c = search needs
+shared-slice-read-cost : tie.Need-shared-slice-read-cost Inv-loop μ-loop
+shared-slice-read-cost c = search needs
 
 same-length : tie.Need-same-length Inv-loop μ-loop
 same-length c = search needs
@@ -151,7 +152,7 @@ renew-spec =
     loop-less
     loop-again
     end-of-requires
-    mul-t23
-    shared-slice-read-t25
+    mul-cost
+    shared-slice-read-cost
     same-length
     returns)

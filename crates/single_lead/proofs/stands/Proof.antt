@@ -11,13 +11,13 @@ use Rattle.single_lead.proofs.stands.Statement.{statement}
 use Rattle.single_lead.proofs.stands.Tie as tie
 
 abbrev Inv-loop : tie.InvT-loop
-Inv-loop sets q r j₀ j = (j ≤ 16) × (topWords sets q j ≡ topWords sets r j)
+Inv-loop sets w q r j₀ j = (j ≤ w) × (topWords w sets q j ≡ topWords w sets r j)
 
 abbrev μ-loop : tie.MeasureT-loop
-μ-loop sets q r j₀ j = j
+μ-loop sets w q r j₀ j = j
 
 loop-holds : tie.Need-loop-holds Inv-loop μ-loop
-loop-holds c = (omega arith, top-none _ _ _)
+loop-holds c = (omega arith, top-none _ _ _ _)
 
 sub-j : tie.Need-sub-j Inv-loop μ-loop
 sub-j c = search needs
@@ -52,7 +52,7 @@ returns c =
     let c5 = c4 .before in
     let args = c5 .args in
     let e : c4 .loop .j ≡ c4 .loop .j - 1 + 1 = omega arith in
-    sym (lt-ltb _ _ (word-less (args .sets .now) (λ j. omega (arith, c .before .before .shared-slice-known .given j)) (args .q)
+    sym (lt-ltb _ _ (word-less (args .w) (args .sets .now) (λ j. omega (arith, c .before .before .shared-slice-known .given j)) (args .q)
     (args .r) (c4 .loop .j - 1) (omega arith) (rw e at (c4 .loop .inv .1)) (c .if1 .taken)))
 
 returns-2 : tie.Need-returns-2 Inv-loop μ-loop
@@ -61,10 +61,10 @@ returns-2 c =
     let c6 = c5 .before in
     let args = c6 .args in
     let e : c5 .loop .j ≡ c5 .loop .j - 1 + 1 = omega arith in
-    sym (le-ltb (setIn (args .sets .now) (args .q)) (setIn (args .sets .now) (args .r))
+    sym (le-ltb (setIn (args .w) (args .sets .now) (args .q)) (setIn (args .w) (args .sets .now) (args .r))
     (omega (
       arith,
-      word-less (args .sets .now) (λ j. omega (arith, c .before .before .before .shared-slice-known .given j)) (args .r)
+      word-less (args .w) (args .sets .now) (λ j. omega (arith, c .before .before .before .shared-slice-known .given j)) (args .r)
           (args .q) (c5 .loop .j - 1) (omega arith) (rw e at (sym (c5 .loop .inv .1))) (c .if2 .taken),
     )))
 
@@ -78,15 +78,15 @@ loop-again c =
     let args = c6 .args in
     let e : c5 .loop .j ≡ c5 .loop .j - 1 + 1 = omega arith in (
       omega arith,
-      word-same (args .sets .now) (λ j. omega (arith, c .before .before .before .shared-slice-known .given j)) (args .q)
+      word-same (args .w) (args .sets .now) (λ j. omega (arith, c .before .before .before .shared-slice-known .given j)) (args .q)
           (args .r) (c5 .loop .j - 1) (omega arith) (rw e at (c5 .loop .inv .1)) (le-antisymm (c .if2 .left) (c .before .if1 .left)),
     )
 
 returns-3 : tie.Need-returns-3 Inv-loop μ-loop
 returns-3 c =
     let args = c .before .before .args in
-    sym (le-ltb (setIn (args .sets .now) (args .q)) (setIn (args .sets .now) (args .r))
-    (omega (arith, all-same (args .sets .now) (args .q) (args .r) (c .before .loop .j) (omega arith) (c .before .loop .inv .1))))
+    sym (le-ltb (setIn (args .w) (args .sets .now) (args .q)) (setIn (args .w) (args .sets .now) (args .r))
+    (omega (arith, all-same (args .w) (args .sets .now) (args .q) (args .r) (c .before .loop .j) (omega arith) (c .before .loop .inv .1))))
 
 pub stands-spec : {M : Type 1} → statement M
 stands-spec =

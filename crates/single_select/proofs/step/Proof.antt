@@ -35,7 +35,7 @@ lead-at-requires c κs =
         omega (arith, pre .1 .0),
         omega (arith, pre .0 .starts),
         omega (arith, pre .0 .ends),
-        λ e. omega (arith, pre .1 .0),
+        omega (arith, pre .1 .0),
       ),
       (
         live-below _ _ _ _ (pre .0) _ _ _ _ (omega (arith, pre .1 .1 .0)) (pre .1 .1 .1 .lead .reach),

@@ -87,7 +87,7 @@ lead-at-requires c κs =
         omega (arith, c4 .loop .inv .2, pre .1 .0, length-set (args .costs .now) (length (args .prices .now)) 18446744073709551615),
         omega (arith, pre .0 .starts),
         omega (arith, pre .0 .ends),
-        λ e. omega (arith, c4 .loop .inv .3, pre .1 .0),
+        omega (arith, c4 .loop .inv .3, pre .1 .0),
       ),
       (
         live-below _ _ _ _ (pre .0) _ _ _ _ (c4 .loop .inv .0) (c4 .loop .inv .4 .lead .reach),

@@ -1,6 +1,5 @@
 -- `single_costs::steps::step` meets its contract: the least cost with the bid's price is the bid's cost. Assumes nothing.
-use mathlib.Core.Path.{refl}
-use Rattle.single_lead.specs.RowsLaws.{no-rows}
+use Rattle.single_lead.specs.RowsLaws.{no-words}
 use Rattle.single_lead.specs.LiveLaws.{live-below}
 use Rattle.single_costs.specs.RunLaws.{next-cost, cost-fits, running-more}
 use native.Mathlib.Omega.{arith}
@@ -40,9 +39,9 @@ lead-at-requires c κs =
         omega (arith, pre .1 .0),
         omega (arith, pre .0 .starts),
         omega (arith, pre .0 .ends),
-        λ e. absurd (e refl),
+        omega arith,
       ),
-      (live-below _ _ _ _ (pre .0) _ _ _ _ (omega (arith, pre .1 .1 .0)) (g .lead .reach), (g .guard, no-rows _ _ refl)),
+      (live-below _ _ _ _ (pre .0) _ _ _ _ (omega (arith, pre .1 .1 .0)) (g .lead .reach), (g .guard, no-words _ _)),
     )
 
 mul-entry : tie.Need-mul-entry
@@ -61,7 +60,7 @@ entry-requires : tie.Need-entry-requires
 entry-requires c κs =
     let c15 = c .before .before .before .before .before .before .before .before .before .before .before .before .before .before .before in
     let pre = c15 .pre in
-    let y = next-cost _ _ _ _ _ _ _ (pre .0) _ _ _ _ _ _ _ (pre .1 .1 .0 .0) (pre .1 .1 .1) _ _ _ _ _ _
+    let y = next-cost _ _ _ _ _ _ _ (pre .0) _ _ _ _ _ _ _ (pre .1 .1 .0 .0) (pre .1 .1 .1) _ _ _ _ _ _ _
     (c .before .before .before .lead-at .ensures) in
     cost-fits _ _ _ _ _ _ _ (pre .0) _ _ _ _ _ (pre .1 .1 .0 .0) (pre .1 .1 .0 .1) y
 
@@ -84,7 +83,7 @@ mul-live c =
     let c4 = c .before .before .before .before in
     let c16 = c4 .before .before .before .before .before .before .before .before .before .before .before .before in
     let pre = c16 .pre in
-    let y = next-cost _ _ _ _ _ _ _ (pre .0) _ _ _ _ _ _ _ (pre .1 .1 .0 .0) (pre .1 .1 .1) _ _ _ _ _ _ (c4 .lead-at .ensures) in
+    let y = next-cost _ _ _ _ _ _ _ (pre .0) _ _ _ _ _ _ _ (pre .1 .1 .0 .0) (pre .1 .1 .1) _ _ _ _ _ _ _ (c4 .lead-at .ensures) in
     omega (arith, y .least .lead .reach .few, pre .1 .0, pre .1 .1 .0, c4 .lead-at .kept)
 
 slice-write-live : tie.Need-slice-write-live
@@ -92,7 +91,7 @@ slice-write-live c =
     let c4 = c .before .before .before .before in
     let c16 = c4 .before .before .before .before .before .before .before .before .before .before .before .before in
     let pre = c16 .pre in
-    let y = next-cost _ _ _ _ _ _ _ (pre .0) _ _ _ _ _ _ _ (pre .1 .1 .0 .0) (pre .1 .1 .1) _ _ _ _ _ _ (c4 .lead-at .ensures) in
+    let y = next-cost _ _ _ _ _ _ _ (pre .0) _ _ _ _ _ _ _ (pre .1 .1 .0 .0) (pre .1 .1 .1) _ _ _ _ _ _ _ (c4 .lead-at .ensures) in
     omega (arith, y .least .lead .reach .few, pre .1 .0, pre .1 .1 .0, c4 .lead-at .kept)
 
 add-t17 : tie.Need-add-t17
@@ -100,7 +99,7 @@ add-t17 c =
     let c4 = c .before .before .before .before in
     let c16 = c4 .before .before .before .before .before .before .before .before .before .before .before .before in
     let pre = c16 .pre in
-    let y = next-cost _ _ _ _ _ _ _ (pre .0) _ _ _ _ _ _ _ (pre .1 .1 .0 .0) (pre .1 .1 .1) _ _ _ _ _ _ (c4 .lead-at .ensures) in
+    let y = next-cost _ _ _ _ _ _ _ (pre .0) _ _ _ _ _ _ _ (pre .1 .1 .0 .0) (pre .1 .1 .1) _ _ _ _ _ _ _ (c4 .lead-at .ensures) in
     omega (arith, y .least .lead .reach .few, pre .1 .0, pre .1 .1 .0, c4 .lead-at .kept)
 
 same-length : tie.Need-same-length
@@ -114,7 +113,7 @@ returns c =
     let c4 = c .before .before .before .before in
     let c16 = c4 .before .before .before .before .before .before .before .before .before .before .before .before in
     let pre = c16 .pre in
-    let y = next-cost _ _ _ _ _ _ _ (pre .0) _ _ _ _ _ _ _ (pre .1 .1 .0 .0) (pre .1 .1 .1) _ _ _ _ _ _ (c4 .lead-at .ensures) in
+    let y = next-cost _ _ _ _ _ _ _ (pre .0) _ _ _ _ _ _ _ (pre .1 .1 .0 .0) (pre .1 .1 .1) _ _ _ _ _ _ _ (c4 .lead-at .ensures) in
     let g = pre .1 .1 .1 in
     rw (c .entry .ensures) (running-more _ _ _ _ _ _ _ (pre .0) _ _ _ _ _ (pre .1 .1 .0 .0) (pre .1 .1 .0 .1) y _ _
     (omega (arith, pre .1 .0)) (omega (arith, y .least .lead .reach .few, pre .1 .0, pre .1 .1 .0, c4 .lead-at .kept))

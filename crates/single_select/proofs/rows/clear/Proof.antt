@@ -47,7 +47,7 @@ same-length : tie.Need-same-length Inv-loop μ-loop
 same-length c = search needs
 
 returns : tie.Need-returns Inv-loop μ-loop
-returns c = row-none (c .before .loop .sets) (c .before .before .args .r) (λ i l. c .before .loop .inv .2 i (omega arith))
+returns c = row-none 16 (c .before .loop .sets) (c .before .before .args .r) (λ i l. c .before .loop .inv .2 i (omega arith))
 
 pub clear-spec : {M : Type 1} → statement M
 clear-spec =

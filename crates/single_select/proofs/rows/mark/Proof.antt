@@ -13,7 +13,7 @@ use Rattle.single_select.proofs.rows.mark.Statement.{statement}
 use Rattle.single_select.proofs.rows.mark.Tie as tie
 
 abbrev Inv-loop : tie.InvT-loop
-Inv-loop sets r n won₀ i₀ won i = (i ≤ n) × (length won ≡ length won₀) × FilledTo (λ i. when (bit (setIn sets r) i) 1) won₀ won i
+Inv-loop sets r n won₀ i₀ won i = (i ≤ n) × (length won ≡ length won₀) × FilledTo (λ i. when (bit (setIn 16 sets r) i) 1) won₀ won i
 
 abbrev μ-loop : tie.MeasureT-loop
 μ-loop sets r n won₀ i₀ won i = n - i
