@@ -1,5 +1,5 @@
 // The list of a bid text: reads it, makes the award and writes its list. `tender_list` is the entry point for a host
-// program in C (include/tender_list.h). `specs/List.antt` says what the list of a text is.
+// program in C (include/tender.h). `specs/List.antt` says what the list of a text is.
 mod lines;
 
 ghost use mathlib.Core.Path.{_≡_};

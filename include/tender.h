@@ -1,0 +1,40 @@
+/*
+ * The calls of the sound register auction for a host program in C: bytes in, bytes out.
+ *
+ * Every call has one shape,
+ *
+ *     size_t tender_X(const uint8_t *text, size_t text_len, [number,] uint8_t *out, size_t out_len);
+ *
+ * It reads the bid text, writes what it makes of it to `out` and answers how many bytes that is; the bytes of `out`
+ * past them stay as they were. It answers 0 where `out_len` is too small; `out` is then unchanged, to the last byte.
+ * No call ever has 0 bytes to write. What is declined has the one line "(refused N P)", number and place.
+ *
+ * `text` is only read. Each pointer is to as many bytes as its length says; where a length is 0 its pointer may be
+ * anything and is not followed. `text` and `out` do not overlap. The calls keep nothing between calls, take no memory
+ * from the heap and make no system call: they may be made from several threads at once. Each needs TENDER_STACK
+ * bytes of stack.
+ */
+#ifndef TENDER_H
+#define TENDER_H
+
+#include <stddef.h>
+#include <stdint.h>
+
+#ifdef __cplusplus
+extern "C" {
+#endif
+
+#define TENDER_STACK (4u << 20)
+
+/* The longest text that can be read. A longer one is declined whatever it holds, so one byte more is enough to tell. */
+#define TENDER_TEXT_MAX 65536
+
+/* The list of the tender: who wins and what each is paid. A buffer of TENDER_LIST_MAX bytes holds every list. */
+#define TENDER_LIST_MAX 51200
+size_t tender_list(const uint8_t *text, size_t text_len, uint8_t *list, size_t list_len);
+
+#ifdef __cplusplus
+}
+#endif
+
+#endif
