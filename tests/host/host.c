@@ -3,7 +3,7 @@
  *   host PROGRAM [ROUNDS]     ROUNDS random texts of each sort (default 100000)
  */
 #define _GNU_SOURCE
-#include "../../include/tender_list.h"
+#include "../../include/tender.h"
 #include "second.h"
 
 #include <pthread.h>
@@ -225,7 +225,7 @@ static void threads(void)
     unsigned seed[4] = {1, 2, 3, 4};
     pthread_attr_t attr;
     pthread_attr_init(&attr);
-    pthread_attr_setstacksize(&attr, TENDER_LIST_STACK + (1 << 16));
+    pthread_attr_setstacksize(&attr, TENDER_STACK + (1 << 16));
     for (int i = 0; i < 4; i++) pthread_create(&id[i], &attr, thread, &seed[i]);
     for (int i = 0; i < 4; i++) pthread_join(id[i], NULL);
     for (int i = 0; i < 4; i++) expect(seed[i] < 1000000, "threads", NULL, 0);
