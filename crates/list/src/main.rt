@@ -1,4 +1,5 @@
-// The list program: reads a bid text from standard input to its end and writes its list to standard output.
+// The list program: reads a bid text from standard input and writes its list to standard output. A program has no exit
+// status, so what cannot be read or written is told on standard error.
 ghost use Rattle.list.specs.Input.{Within};
 ghost use lib.ListN.{length};
 use libc::STDERR_FILENO;
@@ -39,7 +40,9 @@ fn main() {
             let k = listing::tender_list(&text[..n], &mut list);
             // The list program's buffer always suffices: refusal 13 is ruled out here.
             check::expect(0 < k);
-            io::write_all(STDOUT_FILENO, &list[..k]);
+            if !io::write_all(STDOUT_FILENO, &list[..k]) {
+                io::write_all(STDERR_FILENO, b"list: standard output cannot be written\n");
+            }
         }
         Input::Failed => {
             io::write_all(STDERR_FILENO, b"list: standard input cannot be read\n");
