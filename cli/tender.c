@@ -1,0 +1,200 @@
+/*
+ * tender: the command over the calls of tender.h. `tender list [FILE]` writes the list of a bid text.
+ *
+ * All that is decided about a tender is decided by the proved calls. This file reads, writes, says in words what a
+ * refusal means, and tells by its exit status how it went: 0 awarded, 1 refused, 2 trouble.
+ */
+#define _POSIX_C_SOURCE 200809L
+#include "tender.h"
+
+#include <errno.h>
+#include <fcntl.h>
+#include <pthread.h>
+#include <signal.h>
+#include <stdarg.h>
+#include <stdbool.h>
+#include <stdio.h>
+#include <string.h>
+#include <unistd.h>
+
+enum { AWARDED, REFUSED, TROUBLE };
+
+static const char HELP[] =
+    "usage: tender list [-q] [FILE]\n"
+    "       tender --help | --version\n"
+    "\n"
+    "Reads a bid text from FILE, or from standard input where FILE is left out or -, and\n"
+    "writes its list: who wins and what each is paid, or (refused N P), number and place.\n"
+    "\n"
+    "  -q          say nothing on standard error about a refusal\n"
+    "  --          what follows is no option\n"
+    "  --help      write this text\n"
+    "  --version   write the version, and the kit that proved the calls\n"
+    "\n"
+    "Exit status: 0 awarded, 1 refused, 2 trouble (bad usage, cannot read, cannot write).\n";
+
+static const char ABOUT[] = "tender " VERSION "\nproved with " KIT "\n";
+
+/* One byte more than a text may have, so that a longer one is seen to be too long; and the byte 0 after the list. */
+static uint8_t text[TENDER_TEXT_MAX + 1], list[TENDER_LIST_MAX + 1];
+static size_t text_len, list_len;
+
+static int trouble(const char *format, ...)
+{
+    va_list rest;
+    va_start(rest, format);
+    fputs("tender: ", stderr);
+    vfprintf(stderr, format, rest);
+    fputc('\n', stderr);
+    va_end(rest);
+    return TROUBLE;
+}
+
+/* reading and writing */
+
+/* Reads until the input ends or the text is too long. */
+static bool read_text(int fd)
+{
+    while (text_len < sizeof text) {
+        ssize_t got = read(fd, text + text_len, sizeof text - text_len);
+        if (got < 0 && errno == EINTR) continue;
+        if (got < 0) return false;
+        if (got == 0) break;
+        text_len += (size_t)got;
+    }
+    return true;
+}
+
+static bool write_all(const char *bytes, size_t n)
+{
+    while (n > 0) {
+        ssize_t put = write(STDOUT_FILENO, bytes, n);
+        if (put < 0 && errno == EINTR) continue;
+        if (put <= 0) return false;
+        bytes += put;
+        n -= (size_t)put;
+    }
+    return true;
+}
+
+/* Writes all the bytes and closes standard output, as some systems tell a failed write only there. 0, or trouble. */
+static int write_out(const void *bytes, size_t n)
+{
+    bool done = write_all(bytes, n) && close(STDOUT_FILENO) == 0;
+    return done ? 0 : trouble("standard output cannot be written: %s", strerror(errno));
+}
+
+/* what a refusal means */
+
+enum place { NOWHERE, LINE, MINUTE };
+
+static const struct { enum place place; const char *what; } REFUSALS[] = {
+    [1] = {NOWHERE, "the text is longer than 65,536 bytes"},
+    [2] = {LINE, "not a bid or not spelt as one"},
+    [3] = {LINE, "a bidder outside 1 to 999,999 or a price above 100,000,000"},
+    [4] = {LINE, "a bid after 1,000 bids, or more than 32 windows in a bid"},
+    [5] = {LINE, "a window whose start is not below its end, or whose end is above 10,080"},
+    [6] = {LINE, "a bidder number used on an earlier line"},
+    [7] = {LINE, "more than one window in a single tender"},
+    [11] = {MINUTE, "in no bid"},
+    [12] = {MINUTE, "in one bid only, and each minute needs two"},
+};
+
+/* The line's first bytes, with \xNN for a byte that does not print. */
+static void quote(const uint8_t *line, size_t len)
+{
+    enum { SHOWN = 100 };
+    for (size_t i = 0; i < len && i < SHOWN; i++) fprintf(stderr, line[i] >= 32 && line[i] < 127 ? "%c" : "\\x%02x", line[i]);
+    fputs(len > SHOWN ? "...\n" : "\n", stderr);
+}
+
+static void tell_line(unsigned number, unsigned long place)
+{
+    const uint8_t *line = text, *end = text + text_len, *stop;
+    for (unsigned long k = 1; k < place && (stop = memchr(line, '\n', (size_t)(end - line))); k++) line = stop + 1;
+    stop = memchr(line, '\n', (size_t)(end - line));
+    size_t len = (size_t)((stop ? stop : end) - line);
+    const char *what = REFUSALS[number].what;
+    if (number == 2 && place == 1) what = "not a tender or not spelt as one";
+    if (number == 2 && !stop) what = "no newline at the end of the line";
+    if (number == 2 && len == 0) what = stop ? "the line is empty" : "the text is empty";
+    fprintf(stderr, "tender: line %lu: %s%s", place, what, len ? ": " : "");
+    quote(line, len);
+}
+
+static void tell_minute(unsigned number, unsigned long minute)
+{
+    fprintf(stderr, "tender: minute %lu (day %lu, %02lu:%02lu): %s\n",
+        minute, minute / 1440 + 1, minute / 60 % 24, minute % 60, REFUSALS[number].what);
+}
+
+static void tell(unsigned number, unsigned long place)
+{
+    bool known = number < sizeof REFUSALS / sizeof *REFUSALS && REFUSALS[number].what;
+    if (!known) fprintf(stderr, "tender: refused, number %u, place %lu\n", number, place);
+    else if (REFUSALS[number].place == LINE) tell_line(number, place);
+    else if (REFUSALS[number].place == MINUTE) tell_minute(number, place);
+    else fprintf(stderr, "tender: %s\n", REFUSALS[number].what);
+}
+
+/* the command */
+
+static void *make_list(void *unused)
+{
+    list_len = tender_list(text, text_len, list, TENDER_LIST_MAX);
+    return unused;
+}
+
+/* Runs a call on a thread with the stack that the calls ask for, whatever the limit of this process is. 0 or an error. */
+static int on_large_stack(void *(*call)(void *))
+{
+    pthread_t thread;
+    pthread_attr_t attr;
+    int error = pthread_attr_init(&attr);
+    if (!error) error = pthread_attr_setstacksize(&attr, TENDER_STACK + (1 << 16));
+    if (!error) error = pthread_create(&thread, &attr, call, NULL);
+    return error ? error : pthread_join(thread, NULL);
+}
+
+static int write_list(const char *file, bool quiet)
+{
+    bool from_file = file && strcmp(file, "-") != 0;
+    int fd = from_file ? open(file, O_RDONLY) : STDIN_FILENO;
+    if (fd < 0 || !read_text(fd)) return trouble("%s cannot be read: %s", from_file ? file : "standard input", strerror(errno));
+    if (from_file) close(fd);
+    int error = on_large_stack(make_list);
+    if (error) return trouble("no room for a stack of %u bytes: %s", TENDER_STACK, strerror(error));
+    if (list_len == 0) return trouble("the list is longer than %d bytes", TENDER_LIST_MAX);
+    if (write_out(list, list_len)) return TROUBLE;
+    unsigned number;
+    unsigned long place;
+    if (sscanf((const char *)list, "(refused %u %lu", &number, &place) != 2) return AWARDED;
+    if (!quiet) tell(number, place);
+    return REFUSED;
+}
+
+int main(int argc, char **argv)
+{
+    /* A closed pipe and a file that may not grow are failed writes, told as such, and no silent death. */
+    signal(SIGPIPE, SIG_IGN);
+    signal(SIGXFSZ, SIG_IGN);
+    setvbuf(stderr, NULL, _IOLBF, BUFSIZ); /* a message is written at once */
+    bool quiet = false, options = true;
+    const char *words[2] = {NULL, NULL};
+    int count = 0;
+    for (int i = 1; i < argc; i++) {
+        const char *word = argv[i];
+        if (!options || word[0] != '-' || !strcmp(word, "-")) {
+            if (count == 2) return trouble("too many words, from '%s' on; see tender --help", word);
+            words[count++] = word;
+        }
+        else if (!strcmp(word, "--")) options = false;
+        else if (!strcmp(word, "-q")) quiet = true;
+        else if (!strcmp(word, "--help")) return write_out(HELP, strlen(HELP));
+        else if (!strcmp(word, "--version")) return write_out(ABOUT, strlen(ABOUT));
+        else return trouble("no such option: %s; see tender --help", word);
+    }
+    if (!words[0]) return trouble("no command; see tender --help");
+    if (strcmp(words[0], "list")) return trouble("no such command: %s; see tender --help", words[0]);
+    return write_list(words[1], quiet);
+}
