@@ -4,6 +4,8 @@
 # make uninstall       takes them away again
 # make test            the whole gate: proofs, must-fail edits, programs, host tests, tests of the command
 # make bench           counts instructions beside the reference program (needs valgrind and g++)
+# make rules           writes docs/RULES.md, what has to be believed, from the sources
+# make times           writes docs/GATE.md, the gate's time, from the last run of the gate
 # make clean           removes target/, so that the next build proves everything anew
 VERSION = 0.2.0
 TEXT ?= examples/market-day.txt
@@ -17,7 +19,7 @@ CALLS = listing
 SHELL = bash
 .SHELLFLAGS = -e -o pipefail -c
 .DELETE_ON_ERROR:
-.PHONY: all run install uninstall test bench clean
+.PHONY: all run install uninstall test bench rules times clean
 
 all: target/tender
 	@:
@@ -61,6 +63,12 @@ test:
 
 bench:
 	@bash bench/run
+
+rules:
+	@tools/rules
+
+times:
+	@tools/times
 
 clean:
 	@rm -rf target
