@@ -1,0 +1,101 @@
+-- Two calls one after the other, and two calls compared (paper 01, "Time, price and place").
+use mathlib.Core.Path.{_≡_}
+use mathlib.Core.Logic.{_⊎_}
+use mathlib.Core.List.{List, _++_}
+use Prim.Native.Nat.{ℕ, _+_, _-_, _*_, _≤_, _<_, min}
+use mathlib.Core.Option.{some}
+use lib.ListN.{length, getD}
+use lib.Dec.{ltb}
+use Rattle.tender.specs.declared.Window.{Window}
+use Rattle.tender.specs.declared.Tender.{Tender}
+use Rattle.tender.specs.Tables.{Row, rowsOf, flatRows, flatWindows}
+use Rattle.cover.specs.Sets.{bidders}
+use Rattle.reader.specs.Words.{numeralOf, priceOf}
+use Rattle.reader.specs.Read.{accepted, readText}
+use Rattle.reader.specs.declared.Reading.the-variants as answer
+use Rattle.award_check.specs.Cells.{hasOf}
+use Rattle.award.specs.Right.{Callable}
+use Rattle.award.specs.Gain.{rowFor, gain, AtMost}
+use Rattle.listing.specs.Lines.{pairLine, refusedWord}
+use Rattle.theorems.specs.Calls.{ReadCall, AwardCall, toldBy, SettleCall, toldPlain, ListCall, shown}
+use Rattle.theorems.specs.ListRead.{rowShown}
+
+-- its tables break no rule, and each bid has an award row
+abbrev pub CallableWith : AwardCall → Type 0
+CallableWith c = Callable (c .kind) (c .tender) (c .count) (c .bids) (c .windows) (length (c .rows-before))
+
+-- some minute of the tender is in fewer than m bids
+pub record FewerThan (m : ℕ) (c : AwardCall) : Type 0 where
+  pub minute : ℕ
+  pub from : c .tender .window .start ≤ minute
+  pub to : minute < c .tender .window .end
+  pub few : bidders (hasOf (c .tender) (rowsOf (c .count) (c .bids)) (c .windows)) (c .count) (minute - c .tender .window .start) < m
+
+-- the bidder and the price of row i of its table of bids
+abbrev pub bidderAt : AwardCall → ℕ → ℕ
+bidderAt c i = getD (c .bids) (4 * i) 0
+
+abbrev pub priceAt : AwardCall → ℕ → ℕ
+priceAt c i = getD (c .bids) (4 * i + 1) 0
+
+-- what an accepted text left in the tables, whatever their size
+pub record ReadIn (text bids windows : List ℕ) (t : Tender) (n : ℕ) : Type 0 where
+  pub rows : List Row
+  pub spans : List Window
+  pub past-rows : List ℕ
+  pub past-spans : List ℕ
+  pub is : readText text ≡ accepted t rows spans
+  pub count : length rows ≡ n
+  pub bids-are : bids ≡ flatRows rows ++ past-rows
+  pub windows-are : windows ≡ flatWindows spans ++ past-spans
+
+-- the award is called on what the accepted text left
+pub record Follows (r : ReadCall) (c : AwardCall) : Type 0 where
+  pub window-rows : ℕ
+  pub accepts : r .run .answer ≡ answer.Accepted (c .tender) (c .count) window-rows
+  pub bids-are : c .bids ≡ r .run .bids-after
+  pub windows-are : c .windows ≡ r .run .windows-after
+
+-- the same award, each time with an award row for every bid or each time with fewer
+pub record SameAward (c c′ : AwardCall) : Type 0 where
+  pub kinds : c .kind ≡ c′ .kind
+  pub room : ltb (length (c .rows-before)) (c .count) ≡ ltb (length (c′ .rows-before)) (c′ .count)
+
+-- row i is in both calls this bidder's, with the price p in the first and q in the second: where p is the true cost, q gains no more
+pub record NoGainBetween (c c′ : AwardCall) (bidder p q : List ℕ) : Type 0 where
+  pub i : ℕ
+  pub inside : i < c .count
+  pub count-same : c′ .count ≡ c .count
+  pub bidder-is : numeralOf bidder ≡ some (bidderAt c i)
+  pub bidder-too : numeralOf bidder ≡ some (bidderAt c′ i)
+  pub true-cost : priceOf p ≡ some (priceAt c i)
+  pub other-price : priceOf q ≡ some (priceAt c′ i)
+  pub most : AtMost (gain (priceAt c i) (rowFor (toldBy c′) i)) (gain (priceAt c i) (rowFor (toldBy c) i))
+
+-- the list was written, and it shows no refusal of reading (1 to 7): the text is a readable list
+pub record ListGiven (l : ListCall) : Type 0 where
+  pub written : 0 < l .answer
+  pub read : (n at : ℕ) → n ≤ 7 → shown l ≡ pairLine refusedWord n at → ⊥
+
+-- of the bidder's lines in the two lists: where p is the true cost, the other list gains no more
+pub record NoGainShown (l l′ : ListCall) (bidder p : List ℕ) : Type 0 where
+  pub number : ℕ
+  pub cost : ℕ
+  pub bidder-is : numeralOf bidder ≡ some number
+  pub true-cost : priceOf p ≡ some cost
+  pub most : AtMost (gain cost (rowShown number (shown l′))) (gain cost (rowShown number (shown l)))
+
+-- the number of a refusal that a list may show
+abbrev pub Showable : ℕ → Type 0
+Showable n = ((1 ≤ n) × (n ≤ 7)) ⊎ ((n ≡ 11) ⊎ (n ≡ 12))
+
+-- the call of `settle` as one of the award of its kind, its lists read as award rows
+pub record AsRows (s : SettleCall) : Type 0 where
+  pub call : AwardCall
+  pub kind-is : call .kind ≡ s .kind
+  pub tender-is : call .tender ≡ s .tender
+  pub count-is : call .count ≡ s .count
+  pub bids-are : call .bids ≡ s .bids
+  pub windows-are : call .windows ≡ s .windows
+  pub rows : length (call .rows-before) ≡ min (length (s .won-before)) (length (s .cents-before))
+  pub told : toldBy call ≡ toldPlain s

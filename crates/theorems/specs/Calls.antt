@@ -1,0 +1,82 @@
+-- The public calls, each as one record: what it was lent, what it left, what it answered, and that it kept its contract.
+use mathlib.Core.Path.{_≡_}
+use mathlib.Core.List.{List}
+use Prim.Native.Nat.{ℕ, _/_, min}
+use lib.ListN.{length, take}
+use Rattle.tender.specs.declared.Kind.{Kind}
+use Rattle.tender.specs.declared.Tender.{Tender}
+use Rattle.tender.specs.declared.AwardRow.{AwardRow}
+use Rattle.tender.specs.declared.Answer.{Answer}
+use Rattle.reader.specs.Read.{readInto}
+use Rattle.reader.specs.Answer.{toldReading, summary, bidsAfter, windowsAfter}
+use Rattle.reader.specs.declared.Reading.{Reading}
+use Rattle.award_plain.specs.Award.{Outcome}
+use Rattle.award_plain.specs.Plain.{toldIn, PlainPromise}
+use Rattle.award.specs.Promise.{toldAward, Promise}
+use Rattle.listing.specs.List.{Listed}
+
+-- the text and the tables lent to `read`, the tables that it left and what it answered
+pub record ReadRun : Type 0 where
+  pub text : List ℕ
+  pub bids : List ℕ
+  pub windows : List ℕ
+  pub bids-after : List ℕ
+  pub windows-after : List ℕ
+  pub answer : Reading
+
+-- the contract of `read`, its three clauses
+pub record ReadKept (r : ReadRun) : Type 0 where
+  pub answers : toldReading (r .answer) ≡ summary (readInto (r .text) (length (r .bids) / 4) (length (r .windows) / 2))
+  pub rows : r .bids-after ≡ bidsAfter (r .bids) (readInto (r .text) (length (r .bids) / 4) (length (r .windows) / 2))
+  pub own : r .windows-after ≡ windowsAfter (r .windows) (readInto (r .text) (length (r .bids) / 4) (length (r .windows) / 2))
+
+-- `read`
+pub record ReadCall : Type 0 where
+  pub run : ReadRun
+  pub kept : ReadKept run
+
+-- `award_single`, `award_multi`
+pub record AwardCall : Type 0 where
+  pub kind : Kind
+  pub tender : Tender
+  pub count : ℕ
+  pub bids : List ℕ
+  pub windows : List ℕ
+  pub rows-before : List AwardRow
+  pub rows-after : List AwardRow
+  pub answer : Answer
+  pub promise : Promise kind tender count bids windows rows-before rows-after answer
+
+-- what an award told
+abbrev pub toldBy : AwardCall → Outcome
+toldBy c = toldAward (c .count) (c .rows-after) (c .answer)
+
+-- `settle`: flags and cents instead of award rows
+pub record SettleCall : Type 0 where
+  pub kind : Kind
+  pub tender : Tender
+  pub count : ℕ
+  pub bids : List ℕ
+  pub windows : List ℕ
+  pub won-before : List ℕ
+  pub cents-before : List ℕ
+  pub won-after : List ℕ
+  pub cents-after : List ℕ
+  pub answer : Answer
+  pub promise : PlainPromise kind tender count bids windows (min (length won-before) (length cents-before)) won-before cents-before
+      won-after cents-after answer
+
+abbrev pub toldPlain : SettleCall → Outcome
+toldPlain s = toldIn (s .count) (s .won-after) (s .cents-after) (s .answer)
+
+-- `tender_list`, from C too
+pub record ListCall : Type 0 where
+  pub text : List ℕ
+  pub buffer : List ℕ
+  pub buffer-after : List ℕ
+  pub answer : ℕ
+  pub promise : Listed text buffer buffer-after answer
+
+-- the bytes that it wrote
+abbrev pub shown : ListCall → List ℕ
+shown l = take (l .answer) (l .buffer-after)

@@ -1,0 +1,74 @@
+-- An award whose tables break no rule and which has a row for every bid declines just where some minute has fewer than two bidders. Assumes nothing.
+use mathlib.Core.Path.{_≡_, ap}
+use mathlib.Core.Logic.{_⊎_, inl, inr}
+use Prim.Native.Nat.{ℕ, _-_, _<_}
+use native.Mathlib.Omega.{arith}
+use Rattle.award_check.specs.Cells.{cellsOf}
+use Rattle.award_plain.specs.Award.{outcomeNumber}
+use Rattle.award.specs.Right.{Bidders, EarliestIn, OneAnswer, tables-break-a-rule, rows-too-few, minute-uncovered, one-bidder, award}
+use Rattle.award.specs.OneAnswerLaws.{one-answer}
+use Rattle.theorems.specs.Calls.{AwardCall, toldBy}
+use Rattle.theorems.specs.Between.{CallableWith, FewerThan}
+
+-- the three cases of such a call
+pub data ByCover (c : AwardCall) : Type 0 where
+  uncovered : outcomeNumber (toldBy c) ≡ 11 → FewerThan 1 c → ByCover c
+  one-alone : outcomeNumber (toldBy c) ≡ 12 → FewerThan 2 c → (FewerThan 1 c → ⊥) → ByCover c
+  two-each : outcomeNumber (toldBy c) ≡ 0 → (FewerThan 2 c → ⊥) → ByCover c
+
+at-minute : {c : AwardCall} (d m b : ℕ) → EarliestIn (c .tender) (c .count) (c .bids) (c .windows) m b → b < d → FewerThan d c
+at-minute d m b i l = record { minute = m; from = i .from; to = i .to; few = omega (arith, i .bids-with-it) }
+
+one-is-two : {c : AwardCall} → FewerThan 1 c → FewerThan 2 c
+one-is-two f = record { minute = f .minute; from = f .from; to = f .to; few = omega (arith, f .few) }
+
+module _ (c : AwardCall) (callable : CallableWith c) where
+  enough : (d : ℕ) → Bidders (c .tender) (c .count) (c .bids) (c .windows) d → FewerThan d c → ⊥
+  unfolding cellsOf
+  enough d h f = let t = c .tender .window in omega (arith, h (f .minute - t .start) (omega (arith, f .from, f .to)), f .few)
+
+  pub by-cover : ByCover c
+  unfolding outcomeNumber
+  by-cover = go (one-answer (c .kind) (c .tender) (c .count) (c .bids) (c .windows) (c .rows-before) (c .rows-after) (c .answer) (c .promise))
+    where
+      go : OneAnswer (c .kind) (c .tender) (c .count) (c .bids) (c .windows) (c .rows-before) (c .rows-after) (toldBy c) → ByCover c
+      go (tables-break-a-rule q e r) = let f = callable .sound in let z : _≡_ {A = ℕ} 0 1 = cc in absurd (omega arith)
+      go (rows-too-few f l r) = absurd (omega (arith, callable .rows))
+      go (minute-uncovered m s i r) = uncovered (ap outcomeNumber (r .outcome)) (at-minute 1 m 0 i (omega arith))
+      go (one-bidder m s b i r) = one-alone (ap outcomeNumber (r .outcome)) (at-minute 2 m 1 i (omega arith)) (enough 1 b)
+      go (award s b w) = two-each (ap outcomeNumber (w .outcome)) (enough 2 b)
+
+  -- 11 or 12 exactly where some minute has fewer than two bidders
+  pub refused-for-cover : (outcomeNumber (toldBy c) ≡ 11) ⊎ (outcomeNumber (toldBy c) ≡ 12) → FewerThan 2 c
+  refused-for-cover h = go h by-cover
+    where
+      go : (outcomeNumber (toldBy c) ≡ 11) ⊎ (outcomeNumber (toldBy c) ≡ 12) → ByCover c → FewerThan 2 c
+      go h (uncovered e f) = one-is-two f
+      go h (one-alone e f g) = f
+      go (inl h) (two-each e g) = absurd (omega (arith, e, h))
+      go (inr h) (two-each e g) = absurd (omega (arith, e, h))
+
+  pub uncovered-refused : FewerThan 2 c → (outcomeNumber (toldBy c) ≡ 11) ⊎ (outcomeNumber (toldBy c) ≡ 12)
+  uncovered-refused h = go by-cover
+    where
+      go : ByCover c → (outcomeNumber (toldBy c) ≡ 11) ⊎ (outcomeNumber (toldBy c) ≡ 12)
+      go (uncovered e f) = inl e
+      go (one-alone e f g) = inr e
+      go (two-each e g) = absurd (g h)
+
+  -- 11 exactly where some minute has none
+  pub eleven : outcomeNumber (toldBy c) ≡ 11 → FewerThan 1 c
+  eleven h = go by-cover
+    where
+      go : ByCover c → FewerThan 1 c
+      go (uncovered e f) = f
+      go (one-alone e f g) = absurd (omega (arith, e, h))
+      go (two-each e g) = absurd (omega (arith, e, h))
+
+  pub nobody-eleven : FewerThan 1 c → outcomeNumber (toldBy c) ≡ 11
+  nobody-eleven h = go by-cover
+    where
+      go : ByCover c → outcomeNumber (toldBy c) ≡ 11
+      go (uncovered e f) = e
+      go (one-alone e f g) = absurd (g h)
+      go (two-each e g) = absurd (g (one-is-two h))

@@ -1,0 +1,135 @@
+-- The lists of two texts that differ in one price: the bidder whose price it is gains no more by the bytes of the second. Assumes nothing.
+use mathlib.Core.Path.{_≡_, refl, sym, ap, _∙_}
+use mathlib.Core.Logic.{_⊎_, inl, inr}
+use mathlib.Core.Bool.{Bool, false}
+use mathlib.Core.List.{List, [], _∷_, _++_, append-nil}
+use mathlib.Core.Option.{some}
+use Prim.Native.Nat.{ℕ, zero, suc, _+_, _*_, _^_, _≤_, _<_}
+use native.Mathlib.Omega.{arith}
+use lib.ListN.{length, getD}
+use borrow.Author.Tests.{le-ltb}
+use Rattle.tender.specs.declared.Window.{Window}
+use Rattle.tender.specs.declared.Tender.{Tender}
+use Rattle.tender.specs.declared.AwardRow.{AwardRow}
+use Rattle.tender.specs.Tables.{Row, rowsOf, flatRows, flatWindows}
+use Rattle.reader.specs.Read.{accepted, readText}
+use Rattle.reader.specs.Read as reading
+use Rattle.reader.specs.Rules.{Rules}
+use Rattle.reader.specs.RulesLaws.{rules-law}
+use Rattle.reader.specs.Differ.{DifferInPrice, DifferInOnePrice}
+use Rattle.reader.specs.PriceLaws.{price-law}
+use Rattle.award_check.specs.Cells.{noRow, cellsOf, hasOf, pricesOf}
+use Rattle.award_check.specs.Alike.{named}
+use Rattle.award_check.specs.TextLaws.{rows-flat}
+use Rattle.award_plain.specs.Award.{Outcome, awarded, refused, won, cents, awardOf}
+use Rattle.award_plain.specs.AwardLaws.{award-awarded}
+use Rattle.award.specs.Gain.{lost, rowFor, gain, AtMost}
+use Rattle.award.specs.TableLaws.{row-is}
+use Rattle.award.specs.Right as right
+use Rattle.award.specs.TextOutcomes.{honest-texts}
+use Rattle.listing.specs.Lines.{pairLine, refusedWord}
+use Rattle.listing.specs.List.{listLines, listOf}
+use Rattle.listing.specs.ListLaws.{listed-is}
+use Rattle.theorems.specs.Calls.{ListCall, shown}
+use Rattle.theorems.specs.Between.{ListGiven, NoGainShown}
+use Rattle.theorems.specs.ReadingLaws.{refusal-number}
+use Rattle.theorems.specs.TextGain.{bidders-same, rows-same}
+use Rattle.theorems.specs.ListRead.{rowShown}
+use Rattle.theorems.specs.ListShows.{refused-row, row-shown}
+use Rattle.theorems.specs.PaidLaws.{cents-small, loser-none, bidder-once, bidder-small, prices-sum, minutes-few}
+
+-- of each bid of an accepted text the list shows the row that the award gave it
+module _ (T : Tender) (R : List Row) (W : List Window) (rules : Rules T R W) where
+  abbrev given : Outcome
+  given = awardOf (T .kind) T (length R) (flatRows R) (flatWindows W) (length R)
+
+  alone : rowsOf (length R) (flatRows R) ≡ R
+  alone = ap (rowsOf (length R)) (sym (append-nil (flatRows R))) ∙ rows-flat R []
+
+  awarded-shown : (rows : List AwardRow) (cost paid i : ℕ) → awarded rows cost paid ≡ given → i < length R →
+      rowShown (getD R i noRow .bidder) (listLines T R (awarded rows cost paid)) ≡ rowFor (awarded rows cost paid) i
+  unfolding rowFor
+  awarded-shown rows cost paid i e l = row-shown T R rows cost paid i l (λ j m. (bidder-small T R W rules j, small j m))
+      (λ j m d. bidder-once T R W rules i j l m d) none
+    where
+      has : ℕ → ℕ → Bool
+      has = hasOf T (rowsOf (length R) (flatRows R)) (flatWindows W)
+
+      ps : List ℕ
+      ps = pricesOf (rowsOf (length R) (flatRows R))
+
+      row : (j : ℕ) → j < length R → getD rows j lost
+          ≡ record { won = won (T .kind) has ps (cellsOf T) j; cents = cents (T .kind) has ps (cellsOf T) j }
+      row j m = row-is (T .kind) T (length R) (flatRows R) (flatWindows W) (length R) rows cost paid
+          (award-awarded (T .kind) T (length R) (flatRows R) (flatWindows W) (length R) rows cost paid e) j m
+
+      small : (j : ℕ) → j < length R → getD rows j lost .cents < 10 ^ 20
+      small j m = rw (row j m) (cents-small (T .kind) has ps (cellsOf T) j (rw alone (prices-sum T R W rules)) (minutes-few T R W rules))
+
+      none : getD rows i lost .won ≡ false → getD rows i lost .cents ≡ 0
+      none w = ap (λ r. r .cents) (row i l) ∙ loser-none (T .kind) has ps (cellsOf T) i (sym (ap (λ r. r .won) (row i l)) ∙ w)
+
+  refusal-shown : (i n at : ℕ) → rowShown (getD R i noRow .bidder) (listLines T R (refused n at)) ≡ rowFor (refused n at) i
+  unfolding listLines rowFor
+  refusal-shown i n at = refused-row (getD R i noRow .bidder) (bidder-small T R W rules i) n at
+
+  outcome-shown : (o : Outcome) (i : ℕ) → o ≡ given → i < length R → rowShown (getD R i noRow .bidder) (listLines T R o) ≡ rowFor o i
+  outcome-shown (awarded rows cost paid) i e l = awarded-shown rows cost paid i e l
+  outcome-shown (refused n at) i e l = refusal-shown i n at
+
+pub list-shows : (l : ListCall) (T : Tender) (R : List Row) (W : List Window) (i : ℕ) → 0 < l .answer → readText (l .text) ≡ accepted T R W → i < length R →
+    rowShown (getD R i noRow .bidder) (shown l) ≡ rowFor (awardOf (T .kind) T (length R) (flatRows R) (flatWindows W) (length R)) i
+unfolding listOf
+list-shows l T R W i a h k =
+    ap (rowShown (getD R i noRow .bidder)) (listed-is (l .promise) a ∙ ap listOf h)
+    ∙ outcome-shown T R W (rules-law T R W (l .text) h) (awardOf (T .kind) T (length R) (flatRows R) (flatWindows W) (length R)) i refl k
+
+-- a text whose list shows no refusal of reading was accepted
+data Accepted (text : List ℕ) : Type 0 where
+  accepts : (T : Tender) (R : List Row) (W : List Window) → readText text ≡ accepted T R W → Accepted text
+
+given-read : (l : ListCall) → ListGiven l → Accepted (l .text)
+unfolding listOf
+given-read l g = go (readText (l .text)) refl
+  where
+    go : (o : reading.ReadOutcome) → readText (l .text) ≡ o → Accepted (l .text)
+    go (accepted T R W) e = accepts T R W e
+    go (reading.refused n at) e = absurd (g .read n at (refusal-number (l .text) n at e .1) (listed-is (l .promise) (g .written) ∙ ap listOf e))
+
+price-cell : (R : List Row) (v : List ℕ) (i : ℕ) → i < length R → named (flatRows R ++ v) i ≡ getD R i noRow .price
+unfolding flatRows named
+price-cell [] v i l = absurd (omega arith)
+price-cell (r ∷ R) v zero l = refl
+price-cell (r ∷ R) v (suc i) l = ap (λ k. getD (r .bidder ∷ r .price ∷ r .first ∷ r .count ∷ (flatRows R ++ v)) k 0) (index i)
+    ∙ price-cell R v i (omega arith)
+  where
+    index : (i : ℕ) → 4 * suc i + 1 ≡ suc (suc (suc (suc (4 * i + 1))))
+    index i = omega arith
+
+-- Two calls of `tender_list`.
+pub no-gain-shown : (l l′ : ListCall) (bidder p q : List ℕ) → DifferInPrice (l .text) (l′ .text) bidder p q → ListGiven l → ListGiven l′
+    → NoGainShown l l′ bidder p
+no-gain-shown l l′ bidder p q d g g′ = go (given-read l g) (given-read l′ g′)
+  where
+    by : (T T′ : Tender) (R R′ : List Row) (W W′ : List Window) → readText (l .text) ≡ accepted T R W
+        → readText (l′ .text) ≡ accepted T′ R′ W′ → DifferInOnePrice T T′ R R′ W W′ bidder p q →
+        right.NoGain R (flatRows R ++ []) (flatRows R′ ++ []) (awardOf (T .kind) T (length R) (flatRows R) (flatWindows W) (length R))
+        (awardOf (T′ .kind) T′ (length R′) (flatRows R′) (flatWindows W′) (length R′)) bidder p q → NoGainShown l l′ bidder p
+    by T T′ R R′ W W′ h h′ m k =
+        let b = getD R (k .i) noRow .bidder in
+        let c = named (flatRows R ++ []) (k .i) in
+        let s = list-shows l T R W (k .i) (g .written) h (k .inside) in
+        let s′ = ap (λ n. rowShown n (shown l′)) (sym (bidders-same (m .rows) (k .i)))
+        ∙ list-shows l′ T′ R′ W′ (k .i) (g′ .written) h′ (omega (arith, k .inside, rows-same (m .rows))) in
+        record { number = b; cost = c; bidder-is = k .bidder-is; true-cost = k .true-cost; most = rw (s, s′) (k .most) }
+
+    go : Accepted (l .text) → Accepted (l′ .text) → NoGainShown l l′ bidder p
+    go (accepts T R W h) (accepts T′ R′ W′ h′) =
+        let m = price-law (l .text) (l′ .text) bidder p q T T′ R R′ W W′ d h h′ in
+        by T T′ R R′ W W′ h h′ m
+        (honest-texts (l .text) (l′ .text) bidder p q (T .kind) T T′ R R′ W W′ [] [] [] [] (length R) (length R′)
+        (awardOf (T .kind) T (length R) (flatRows R) (flatWindows W) (length R))
+        (awardOf (T′ .kind) T′ (length R′) (flatRows R′) (flatWindows W′) (length R′)) d h h′
+        (le-ltb (length R) (length R) (omega arith) ∙ sym (le-ltb (length R′) (length R′) (omega arith)))
+        (rw (append-nil (flatRows R), append-nil (flatWindows W)) refl)
+        (rw (append-nil (flatRows R′), append-nil (flatWindows W′), m .tenders) refl))

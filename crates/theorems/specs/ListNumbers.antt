@@ -1,0 +1,101 @@
+-- The refusals that a list shows have the numbers 1 to 7, 11 and 12 alone. Assumes nothing.
+use mathlib.Core.Path.{_≡_, refl, sym, ap, _∙_}
+use mathlib.Core.Logic.{_⊎_, inl, inr}
+use mathlib.Core.Bool.{Bool, false}
+use mathlib.Core.List.{List, [], _∷_, append-nil}
+use mathlib.Core.Option.{none, some}
+use Prim.Native.Nat.{ℕ, _^_, _≤_, _<_}
+use native.Mathlib.Omega.{arith}
+use lib.ListN.{length, getD}
+use borrow.Author.Tests.{le-ltb}
+use Rattle.tender.specs.declared.Window.{Window}
+use Rattle.tender.specs.declared.Tender.{Tender}
+use Rattle.tender.specs.declared.AwardRow.{AwardRow}
+use Rattle.tender.specs.Keywords.{bytes}
+use Rattle.tender.specs.Tables.{Row, rowsOf, flatRows, flatWindows}
+use Rattle.cover.specs.Sets.{Found, nothing, found}
+use Rattle.cover.specs.Earliest.{cellWith}
+use Rattle.reader_line.specs.Words.{among, digits}
+use Rattle.reader.specs.Read.{readText}
+use Rattle.reader.specs.Read as reading
+use Rattle.reader.specs.Rules.{Rules}
+use Rattle.reader.specs.RulesLaws.{rules-law}
+use Rattle.award_check.specs.Cells.{hasOf, cellsOf, pricesOf}
+use Rattle.award_check.specs.Faults.{faultOf}
+use Rattle.award_check.specs.TextLaws.{never-nine}
+use Rattle.award_plain.specs.Award.{Outcome, awarded, refused, awardRows, costOf, paidOf, thinned, awardOf}
+use Rattle.award_plain.specs.AwardLaws.{award-settles}
+use Rattle.listing.specs.Lines.{pairLine, awardWord, refusedWord, awardLine}
+use Rattle.listing.specs.List.{listLines, listOf}
+use Rattle.listing.specs.ListLaws.{listed-is}
+use Rattle.theorems.specs.ReadingLaws.{refusal-number}
+use Rattle.theorems.specs.ListShows.{first-number}
+use Rattle.theorems.specs.Calls.{ListCall, shown}
+use Rattle.theorems.specs.Between.{Showable}
+
+plain-refused : among 32 refusedWord ≡ false
+unfolding among refusedWord bytes
+plain-refused = refl
+
+-- two lines of a refusal show the same number only where it is the same
+same-number : (a b c d : ℕ) → a < 10 ^ 20 → c < 10 ^ 20 → pairLine refusedWord a b ≡ pairLine refusedWord c d → a ≡ c
+same-number a b c d l m e = first-number refusedWord a b c d plain-refused l m e
+
+-- an award's list begins with another word
+award-begins : (t : Tender) (R : List Row) (rows : List AwardRow) (cost paid : ℕ) → getD (listLines t R (awarded rows cost paid)) 1 0 ≡ 97
+unfolding listLines awardLine pairLine awardWord bytes
+award-begins t R rows cost paid = refl
+
+refusal-begins : (n at : ℕ) → getD (pairLine refusedWord n at) 1 0 ≡ 114
+unfolding pairLine refusedWord bytes
+refusal-begins n at = refl
+
+-- the award on what was read declines with 11 or 12 alone
+read-declined : (T : Tender) (R : List Row) (W : List Window) → Rules T R W → (n at : ℕ) →
+    awardOf (T .kind) T (length R) (flatRows R) (flatWindows W) (length R) ≡ refused n at → (n ≡ 11) ⊎ (n ≡ 12)
+unfolding thinned
+read-declined T R W rules n at e = go (cellWith has (length R) (cellsOf T) 0) (cellWith has (length R) (cellsOf T) 1) refl refl
+  where
+    has : ℕ → ℕ → Bool
+    has = hasOf T (rowsOf (length R) (flatRows R)) (flatWindows W)
+
+    ps : List ℕ
+    ps = pricesOf (rowsOf (length R) (flatRows R))
+
+    sound : faultOf (T .kind) T (length R) (flatRows R) (flatWindows W) ≡ none
+    sound = rw (append-nil (flatRows R), append-nil (flatWindows W)) at (never-nine T R W [] [] rules)
+
+    settles : (x y : Found) → cellWith has (length R) (cellsOf T) 0 ≡ x → cellWith has (length R) (cellsOf T) 1 ≡ y → refused n at ≡
+        thinned (T .window .start) x y (awarded (awardRows (T .kind) has ps (cellsOf T)) (costOf (T .kind) has ps (cellsOf T))
+        (paidOf (T .kind) has ps (cellsOf T)))
+    settles x y d f = sym e ∙ award-settles (T .kind) T (length R) (flatRows R) (flatWindows W) (length R) sound
+        (le-ltb (length R) (length R) (omega arith)) x y d f
+
+    go : (x y : Found) → cellWith has (length R) (cellsOf T) 0 ≡ x → cellWith has (length R) (cellsOf T) 1 ≡ y → (n ≡ 11) ⊎ (n ≡ 12)
+    go (found x) y d f = let h = settles (found x) y d f in inl (cc)
+    go nothing (found y) d f = let h = settles nothing (found y) d f in inr (cc)
+    go nothing nothing d f = let h = settles nothing nothing d f in let z : _≡_ {A = ℕ} 0 1 = cc in absurd (omega arith)
+
+-- No list shows 8, 9 or 10: a refusal that stands in the buffer has another number.
+pub shows-no-other : (l : ListCall) (n at : ℕ) → n < 10 ^ 20 → 0 < l .answer → shown l ≡ pairLine refusedWord n at → Showable n
+unfolding listOf listLines
+shows-no-other l n at small a e = go (readText (l .text)) refl (sym (listed-is (l .promise) a) ∙ e)
+  where
+    found-as : (m k : ℕ) → pairLine refusedWord m k ≡ pairLine refusedWord n at → (m ≡ 11) ⊎ (m ≡ 12) → (n ≡ 11) ⊎ (n ≡ 12)
+    found-as m k y (inl g) = inl (sym (same-number m k n at (omega arith) small y) ∙ g)
+    found-as m k y (inr g) = inr (sym (same-number m k n at (omega arith) small y) ∙ g)
+
+    of : (T : Tender) (R : List Row) (W : List Window) → Rules T R W → (o : Outcome)
+        → awardOf (T .kind) T (length R) (flatRows R) (flatWindows W) (length R) ≡ o → listLines T R o ≡ pairLine refusedWord n at → Showable n
+    of T R W rules (awarded rows cost paid) f x =
+        let z = sym (award-begins T R rows cost paid) ∙ ap (λ s. getD s 1 0) x ∙ refusal-begins n at in
+        absurd (omega (arith, z))
+    of T R W rules (refused m k) f x = inr (found-as m k x (read-declined T R W rules m k f))
+
+    go : (o : reading.ReadOutcome) → readText (l .text) ≡ o → listOf (readText (l .text)) ≡ pairLine refusedWord n at → Showable n
+    go (reading.refused m k) f x =
+        let r = refusal-number (l .text) m k f in
+        let q : m ≡ n = same-number m k n at (omega (arith, r .1)) small (sym (ap listOf f) ∙ x) in
+        inl (rw q at r)
+    go (reading.accepted T R W) f x = of T R W (rules-law T R W (l .text) f)
+        (awardOf (T .kind) T (length R) (flatRows R) (flatWindows W) (length R)) refl (sym (ap listOf f) ∙ x)

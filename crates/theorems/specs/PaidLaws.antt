@@ -1,0 +1,161 @@
+-- An award on what was read pays less than 10 ^ 20 cents a bid, and a loser nothing; each bidder has one row. Assumes nothing.
+use mathlib.Core.Path.{_≡_, refl, sym, ap, _∙_}
+use mathlib.Core.Bool.{Bool, true, false, cond, _||_}
+use mathlib.Core.List.{List, [], _∷_, _++_, append-nil}
+use Prim.Native.Nat.{ℕ, zero, suc, _+_, _-_, _*_, _^_, _≤_, _<_}
+use native.Mathlib.Nat.{mul-le-mul}
+use native.Mathlib.Omega.{arith}
+use lib.ListN.{length, getD, set, length-map}
+use lib.Dec.{eqb}
+use borrow.Author.Tests.{eq-eqb}
+use Rattle.tender.specs.declared.Kind.{Kind}
+use Rattle.tender.specs.declared.Kind.the-variants.{Single, Multi}
+use Rattle.tender.specs.declared.Window.{Window}
+use Rattle.tender.specs.declared.Tender.{Tender}
+use Rattle.tender.specs.Tables.{Row, rowsOf, flatRows}
+use Rattle.cover.specs.Sets.{when, Found, nothing, found, valueOf, bit, covers, cells, cost}
+use Rattle.cover.specs.LeastCover.{winners, without, payment, vcgPaid}
+use Rattle.cover.specs.Greedy.{wins}
+use Rattle.cover.specs.CriticalPrice.{largest, sum, ceiling, winsAt, critical, criticalPaid}
+use Rattle.cover.specs.Intervals.BidsLaws.{cost-most, sum-most}
+use Rattle.reader_line.specs.Words.{among}
+use Rattle.reader.specs.Rules.{RowsRules, Rules}
+use Rattle.award_check.specs.Cells.{noRow, cellsOf, pricesOf}
+use Rattle.award_plain.specs.Award.{won, cents}
+
+-- payments
+
+largest-below : (ok : ℕ → Bool) (n : ℕ) → valueOf (largest ok n) ≤ n
+unfolding largest valueOf
+largest-below ok zero = omega arith
+largest-below ok (suc n) = go (ok n) (largest-below ok n)
+  where
+    go : (t : Bool) → valueOf (largest ok n) ≤ n → valueOf (cond t (found n) (largest ok n)) ≤ suc n
+    go true l = omega arith
+    go false l = omega arith
+
+sum-set : (ps : List ℕ) (k : ℕ) → sum (set ps k 0) ≤ sum ps
+unfolding sum
+sum-set [] k = omega arith
+sum-set (p ∷ ps) zero = omega arith
+sum-set (p ∷ ps) (suc k) = omega (arith, sum-set ps k)
+
+cells-count : (L : ℕ) → length (cells L) ≡ L
+unfolding cells
+cells-count zero = refl
+cells-count (suc L) = omega (arith, cells-count L)
+
+paid-most : (t : Bool) (least all price : ℕ) → payment t least all price ≤ least
+unfolding payment
+paid-most true least all price = omega arith
+paid-most false least all price = omega arith
+
+when-most : (t : Bool) (n : ℕ) → when t n ≤ n
+when-most true n = omega arith
+when-most false n = omega arith
+
+pub cents-small : (k : Kind) (has : ℕ → ℕ → Bool) (ps : List ℕ) (L i : ℕ) → sum ps ≤ 100000000000 → L ≤ 10080
+    → cents k has ps L i < 10 ^ 20
+unfolding cents vcgPaid criticalPaid critical ceiling
+cents-small Single has ps L i s l =
+    let ok = covers has (length ps) L in
+    omega (
+      arith,
+      paid-most (bit (winners ok ps) i) (cost ps (winners (without i ok) ps)) (cost ps (winners ok ps)) (getD ps i 0),
+      cost-most ps (winners (without i ok) ps),
+    )
+cents-small Multi has ps L i s l =
+    omega (
+      arith,
+      when-most (wins has ps (cells L) i) (valueOf (largest (winsAt has ps (cells L) i) (suc (sum (set ps i 0) * length (cells L))))),
+      largest-below (winsAt has ps (cells L) i) (suc (sum (set ps i 0) * length (cells L))),
+      most,
+    )
+  where
+    few : sum (set ps i 0) ≤ 100000000000
+    few = omega (arith, sum-set ps i)
+
+    minutes : length (cells L) ≤ 10080
+    minutes = omega (arith, cells-count L)
+
+    most : sum (set ps i 0) * length (cells L) ≤ 100000000000 * 10080
+    most = mul-le-mul few minutes
+
+pub loser-none : (k : Kind) (has : ℕ → ℕ → Bool) (ps : List ℕ) (L i : ℕ) → won k has ps L i ≡ false → cents k has ps L i ≡ 0
+unfolding won cents vcgPaid payment criticalPaid
+loser-none Single has ps L i e = rw e
+loser-none Multi has ps L i e = rw e
+
+-- what was read
+
+prices-low : (k : Kind) (used : List ℕ) (at : ℕ) (R : List Row) (end : ℕ) → RowsRules k used at R end → (i : ℕ)
+    → getD (pricesOf R) i 0 ≤ 100000000
+unfolding pricesOf
+prices-low k used at [] end h i = omega arith
+prices-low k used at (r ∷ R) end (h, hs) zero = h .price-high
+prices-low k used at (r ∷ R) end (h, hs) (suc i) = prices-low k (used ++ r .bidder ∷ []) (at + r .count) R end hs i
+
+bidders-low : (k : Kind) (used : List ℕ) (at : ℕ) (R : List Row) (end : ℕ) → RowsRules k used at R end → (i : ℕ)
+    → getD R i noRow .bidder ≤ 999999
+unfolding noRow
+bidders-low k used at [] end h i = omega arith
+bidders-low k used at (r ∷ R) end (h, hs) zero = h .bidder-high
+bidders-low k used at (r ∷ R) end (h, hs) (suc i) = bidders-low k (used ++ r .bidder ∷ []) (at + r .count) R end hs i
+
+still-among : (used : List ℕ) (b c : ℕ) → among b used ≡ true → among b (used ++ c ∷ []) ≡ true
+unfolding among
+still-among [] b c v = let z : _≡_ {A = ℕ} 0 1 = cc in absurd (omega arith)
+still-among (m ∷ ms) b c v = go (eqb m b) v (still-among ms b c)
+  where
+    go : (t : Bool) → t || among b ms ≡ true → (among b ms ≡ true → among b (ms ++ c ∷ []) ≡ true) → t || among b (ms ++ c ∷ []) ≡ true
+    go true v f = refl
+    go false v f = f v
+
+-- a bidder used before has no later row
+fresh : (k : Kind) (used : List ℕ) (at : ℕ) (R : List Row) (end b : ℕ) → RowsRules k used at R end → among b used ≡ true → (i : ℕ)
+    → i < length R → getD R i noRow .bidder ≡ b → ⊥
+fresh k used at [] end b h u i l e = omega arith
+fresh k used at (r ∷ R) end b (h, hs) u zero l e = let n = h .bidder-new in let z : true ≡ false = sym u ∙ ap (λ c. among c used) (sym e) ∙ n in
+    let z : _≡_ {A = ℕ} 0 1 = cc in omega arith
+fresh k used at (r ∷ R) end b (h, hs) u (suc i) l e =
+    fresh k (used ++ r .bidder ∷ []) (at + r .count) R end b hs (still-among used b (r .bidder) u) i (omega arith) e
+
+last-among : (used : List ℕ) (b : ℕ) → among b (used ++ b ∷ []) ≡ true
+unfolding among
+last-among [] b = rw (eq-eqb b b refl)
+last-among (m ∷ ms) b = go (eqb m b) (last-among ms b)
+  where
+    go : (t : Bool) → among b (ms ++ b ∷ []) ≡ true → t || among b (ms ++ b ∷ []) ≡ true
+    go true e = refl
+    go false e = e
+
+one-row : (k : Kind) (used : List ℕ) (at : ℕ) (R : List Row) (end : ℕ) → RowsRules k used at R end → (i j : ℕ) → i < length R
+    → j < length R → (j ≡ i → ⊥) → getD R j noRow .bidder ≡ getD R i noRow .bidder → ⊥
+one-row k used at [] end h i j l m d e = omega arith
+one-row k used at (r ∷ R) end (h, hs) zero zero l m d e = d refl
+one-row k used at (r ∷ R) end (h, hs) zero (suc j) l m d e =
+    fresh k (used ++ r .bidder ∷ []) (at + r .count) R end (r .bidder) hs (last-among used (r .bidder)) j (omega arith) e
+one-row k used at (r ∷ R) end (h, hs) (suc i) zero l m d e =
+    fresh k (used ++ r .bidder ∷ []) (at + r .count) R end (r .bidder) hs (last-among used (r .bidder)) i (omega arith) (sym e)
+one-row k used at (r ∷ R) end (h, hs) (suc i) (suc j) l m d e =
+    one-row k (used ++ r .bidder ∷ []) (at + r .count) R end hs i j (omega arith) (omega arith) (λ q. d (ap suc q)) e
+
+module _ (T : Tender) (R : List Row) (W : List Window) (rules : Rules T R W) where
+  pub bidder-once : (i j : ℕ) → i < length R → j < length R → (j ≡ i → ⊥) → getD R j noRow .bidder ≡ getD R i noRow .bidder → ⊥
+  bidder-once = one-row (T .kind) [] 0 R (length W) (rules .rows)
+
+  pub bidder-small : (i : ℕ) → getD R i noRow .bidder < 10 ^ 20
+  bidder-small i = omega (arith, bidders-low (T .kind) [] 0 R (length W) (rules .rows) i)
+
+  pub prices-sum : sum (pricesOf R) ≤ 100000000000
+  unfolding pricesOf
+  prices-sum = omega (
+    arith,
+    sum-most (pricesOf R) (λ i l. prices-low (T .kind) [] 0 R (length W) (rules .rows) i),
+    rules .few-bids,
+    length-map R (λ r. r .price),
+  )
+
+  pub minutes-few : cellsOf T ≤ 10080
+  unfolding cellsOf
+  minutes-few = omega (arith, rules .tender .in-week)

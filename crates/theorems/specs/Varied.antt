@@ -1,0 +1,103 @@
+-- Each bid of an accepted text can be given another price as demand 3 says: a text that differs in that price alone. Assumes nothing.
+use mathlib.Core.Path.{_≡_, refl, sym, ap, _∙_}
+use mathlib.Core.List.{List, [], _∷_, _++_, map, append-assoc}
+use Prim.Native.Nat.{ℕ, zero, suc, _+_, _≤_, _<_}
+use native.Mathlib.Omega.{arith}
+use lib.ListN.{length, getD, take, drop, length-drop}
+use Rattle.tender.specs.declared.Kind.{Kind}
+use Rattle.tender.specs.declared.Window.{Window}
+use Rattle.tender.specs.declared.Tender.{Tender}
+use Rattle.tender.specs.Keywords.{bytes, bidWord}
+use Rattle.tender.specs.Tables.{Row}
+use Rattle.reader.specs.Read.{accepted, readText}
+use Rattle.reader.specs.Rules.{RowsRules}
+use Rattle.reader.specs.RulesLaws.{rules-law}
+use Rattle.reader.specs.Differ.{bidLine, Word, DifferInPrice}
+use Rattle.award_check.specs.Cells.{noRow}
+use Rattle.award_check.specs.TextLaws.{rows-end}
+use Rattle.listing.specs.Lines.{decimal}
+use Rattle.theorems.specs.Numerals.{decimal-plain}
+use Rattle.theorems.specs.TextOf.{spaced, ended, tenderWords, windowWords, bidWords, spansOf, rowLine, textOf}
+use Rattle.theorems.specs.TextOfLaws.{spelt-again}
+
+-- row i among the rows
+record At (R : List Row) (i : ℕ) : Type 0 where
+  before : List Row
+  after : List Row
+  are : R ≡ before ++ getD R i noRow ∷ after
+
+row-at : (R : List Row) (i : ℕ) → i < length R → At R i
+row-at [] i l = absurd (omega arith)
+row-at (r ∷ R) zero l = record { before = []; after = R; are = refl }
+row-at (r ∷ R) (suc i) l = let a = row-at R i (omega arith) in record { before = r ∷ a .before; after = a .after; are = ap (λ s. r ∷ s) (a .are) }
+
+-- its windows stand among the windows
+row-in : (k : Kind) (used : List ℕ) (at : ℕ) (xs : List Row) (r : Row) (ys : List Row) (end : ℕ) → RowsRules k used at (xs ++ r ∷ ys) end → (1 ≤ r .count) × (r .first + r .count ≤ end)
+row-in k used at [] r ys end (h, hs) = let b = h .begins in let s = h .some-window in (s, omega (arith, b, rows-end k (used ++ r .bidder ∷ []) (at + r .count) ys end hs))
+row-in k used at (x ∷ xs) r ys end (h, hs) = row-in k (used ++ x .bidder ∷ []) (at + x .count) xs r ys end hs
+
+-- so its line is a bid's, up to its price and from there on
+line-parts : (n p : ℕ) (ws : List Window) → 1 ≤ length ws → spaced (bidWords n p ws) ≡ bidLine (decimal n) (decimal p) (spaced (windowWords ws))
+unfolding spaced bidWords windowWords bidLine
+line-parts n p [] l = absurd (omega arith)
+line-parts n p (w ∷ []) l = refl
+line-parts n p (w ∷ x ∷ ws) l = refl
+
+some-taken : (n : ℕ) (l : List Window) → 1 ≤ n → 1 ≤ length l → 1 ≤ length (take n l)
+some-taken zero l h k = absurd (omega arith)
+some-taken (suc n) [] h k = absurd (omega arith)
+some-taken (suc n) (x ∷ l) h k = omega arith
+
+line-more : (n p a s : List ℕ) → bidLine n p a ++ s ≡ bidLine n p (a ++ s)
+unfolding bidLine bidWord bytes
+line-more n p a s = ap (λ r. 40 ∷ 98 ∷ 105 ∷ 100 ∷ 32 ∷ r) (append-assoc n (32 ∷ (p ++ 32 ∷ a)) s ∙ ap (λ r. n ++ 32 ∷ r) (append-assoc p (32 ∷ a) s))
+
+map-parts : (f : Row → List ℕ) (xs ys : List Row) → map f (xs ++ ys) ≡ map f xs ++ map f ys
+map-parts f [] ys = refl
+map-parts f (x ∷ xs) ys = ap (λ l. f x ∷ l) (map-parts f xs ys)
+
+ended-parts : (xs ys : List (List ℕ)) → ended (xs ++ ys) ≡ ended xs ++ ended ys
+unfolding ended
+ended-parts [] ys = refl
+ended-parts (x ∷ xs) ys = ap (λ l. x ++ 10 ∷ l) (ended-parts xs ys) ∙ sym (append-assoc x (10 ∷ ended xs) (ended ys))
+
+-- lines end with a byte 10
+record Ends (s : List ℕ) : Type 0 where
+  but-last : List ℕ
+  are : s ≡ but-last ++ 10 ∷ []
+
+ends : (l : List ℕ) (ls : List (List ℕ)) → Ends (ended (l ∷ ls))
+unfolding ended
+ends l [] = record { but-last = l; are = refl }
+ends l (m ∷ ls) = let e = ends m ls in record { but-last = l ++ 10 ∷ e .but-last; are = ap (λ r. l ++ 10 ∷ r) (e .are) ∙ sym (append-assoc l (10 ∷ e .but-last) (10 ∷ [])) }
+
+-- a text that differs in the price of row i alone, written q
+pub record Variant (text : List ℕ) (R : List Row) (i : ℕ) (q : List ℕ) : Type 0 where
+  pub other : List ℕ
+  pub differ : DifferInPrice text other (decimal (getD R i noRow .bidder)) (decimal (getD R i noRow .price)) q
+
+number-word : (n : ℕ) → Word (decimal n)
+number-word n = record { no-space = decimal-plain 32 n (omega arith); no-end = decimal-plain 10 n (omega arith) }
+
+pub varied : (text : List ℕ) (T : Tender) (R : List Row) (W : List Window) → readText text ≡ accepted T R W → (i : ℕ) → i < length R → (q : List ℕ) → Word q → Variant text R i q
+unfolding textOf rowLine ended
+varied text T R W h i l q wq = go (row-at R i l)
+  where
+    go : At R i → Variant text R i q
+    go a =
+        let r = getD R i noRow in
+        let b = row-in (T .kind) [] 0 (a .before) r (a .after) (length W) (rw (a .are) at (rules-law T R W text h .rows)) in
+        let s = some-taken (r .count) (drop (r .first) W) (b .0) (omega (arith, b .0, b .1, length-drop (r .first) W)) in
+        let e = ends (spaced (tenderWords T)) (map (rowLine W) (a .before)) in
+        let rest = ended (map (rowLine W) (a .after)) in
+        let tail = spaced (windowWords (spansOf W r)) ++ 10 ∷ rest in
+        let line : rowLine W r ++ 10 ∷ rest ≡ bidLine (decimal (r .bidder)) (decimal (r .price)) tail =
+        ap (λ x. x ++ 10 ∷ rest) (line-parts (r .bidder) (r .price) (spansOf W r) s) ∙ line-more (decimal (r .bidder)) (decimal (r .price)) (spaced (windowWords (spansOf W r))) (10 ∷ rest) in
+        let whole : text ≡ e .but-last ++ 10 ∷ bidLine (decimal (r .bidder)) (decimal (r .price)) tail =
+        spelt-again text T R W h ∙ ap (λ x. ended (spaced (tenderWords T) ∷ map (rowLine W) x)) (a .are) ∙ ap (λ x. ended (spaced (tenderWords T) ∷ x)) (map-parts (rowLine W) (a .before) (r ∷ a .after))
+        ∙ ended-parts (spaced (tenderWords T) ∷ map (rowLine W) (a .before)) (rowLine W r ∷ map (rowLine W) (a .after)) ∙ ap (λ x. x ++ (rowLine W r ++ 10 ∷ rest)) (e .are)
+        ∙ append-assoc (e .but-last) (10 ∷ []) (rowLine W r ++ 10 ∷ rest) ∙ ap (λ x. e .but-last ++ 10 ∷ x) line in
+        record {
+          other = e .but-last ++ 10 ∷ bidLine (decimal (r .bidder)) q tail;
+          differ = record { before = e .but-last; after = tail; left = whole; right = refl; bidder-word = number-word (r .bidder); p-word = number-word (r .price); q-word = wq };
+        }
