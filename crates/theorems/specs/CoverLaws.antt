@@ -1,4 +1,5 @@
--- An award whose tables break no rule and which has a row for every bid declines just where some minute has fewer than two bidders. Assumes nothing.
+-- An award whose tables break no rule and which has a row for every bid declines just where some minute has fewer than two
+-- bidders. Assumes nothing.
 use mathlib.Core.Path.{_≡_, ap}
 use mathlib.Core.Logic.{_⊎_, inl, inr}
 use Prim.Native.Nat.{ℕ, _-_, _<_}
@@ -29,7 +30,8 @@ module _ (c : AwardCall) (callable : CallableWith c) where
 
   pub by-cover : ByCover c
   unfolding outcomeNumber
-  by-cover = go (one-answer (c .kind) (c .tender) (c .count) (c .bids) (c .windows) (c .rows-before) (c .rows-after) (c .answer) (c .promise))
+  by-cover = go (one-answer (c .kind) (c .tender) (c .count) (c .bids) (c .windows) (c .rows-before) (c .rows-after) (c .answer)
+      (c .promise))
     where
       go : OneAnswer (c .kind) (c .tender) (c .count) (c .bids) (c .windows) (c .rows-before) (c .rows-after) (toldBy c) → ByCover c
       go (tables-break-a-rule q e r) = let f = callable .sound in let z : _≡_ {A = ℕ} 0 1 = cc in absurd (omega arith)

@@ -77,7 +77,8 @@ module _ (T : Tender) (R : List Row) (W : List Window) (rules : Rules T R W) whe
   outcome-shown (awarded rows cost paid) i e l = awarded-shown rows cost paid i e l
   outcome-shown (refused n at) i e l = refusal-shown i n at
 
-pub list-shows : (l : ListCall) (T : Tender) (R : List Row) (W : List Window) (i : ℕ) → 0 < l .answer → readText (l .text) ≡ accepted T R W → i < length R →
+pub list-shows : (l : ListCall) (T : Tender) (R : List Row) (W : List Window) (i : ℕ) → 0 < l .answer
+    → readText (l .text) ≡ accepted T R W → i < length R →
     rowShown (getD R i noRow .bidder) (shown l) ≡ rowFor (awardOf (T .kind) T (length R) (flatRows R) (flatWindows W) (length R)) i
 unfolding listOf
 list-shows l T R W i a h k =
@@ -94,7 +95,8 @@ given-read l g = go (readText (l .text)) refl
   where
     go : (o : reading.ReadOutcome) → readText (l .text) ≡ o → Accepted (l .text)
     go (accepted T R W) e = accepts T R W e
-    go (reading.refused n at) e = absurd (g .read n at (refusal-number (l .text) n at e .1) (listed-is (l .promise) (g .written) ∙ ap listOf e))
+    go (reading.refused n at) e = absurd (g .read n at (refusal-number (l .text) n at e .1)
+        (listed-is (l .promise) (g .written) ∙ ap listOf e))
 
 price-cell : (R : List Row) (v : List ℕ) (i : ℕ) → i < length R → named (flatRows R ++ v) i ≡ getD R i noRow .price
 unfolding flatRows named

@@ -86,7 +86,8 @@ shows-no-other l n at small a e = go (readText (l .text)) refl (sym (listed-is (
     found-as m k y (inr g) = inr (sym (same-number m k n at (omega arith) small y) ∙ g)
 
     of : (T : Tender) (R : List Row) (W : List Window) → Rules T R W → (o : Outcome)
-        → awardOf (T .kind) T (length R) (flatRows R) (flatWindows W) (length R) ≡ o → listLines T R o ≡ pairLine refusedWord n at → Showable n
+        → awardOf (T .kind) T (length R) (flatRows R) (flatWindows W) (length R) ≡ o → listLines T R o ≡ pairLine refusedWord n at
+        → Showable n
     of T R W rules (awarded rows cost paid) f x =
         let z = sym (award-begins T R rows cost paid) ∙ ap (λ s. getD s 1 0) x ∙ refusal-begins n at in
         absurd (omega (arith, z))

@@ -61,7 +61,8 @@ bare-plain word a b h =
     (plain-append 10 (decimal a) (32 ∷ (decimal b ++ 41 ∷ [])) (decimal-plain 10 a (omega arith))
     (plain-append 10 (decimal b) (41 ∷ []) (decimal-plain 10 b (omega arith)) refl))
 
-pair-cut : (word : List ℕ) (a b : ℕ) (rest : List ℕ) → among 10 word ≡ false → cut 10 (pairLine word a b ++ rest) ≡ bare word a b ∷ cut 10 rest
+pair-cut : (word : List ℕ) (a b : ℕ) (rest : List ℕ) → among 10 word ≡ false
+    → cut 10 (pairLine word a b ++ rest) ≡ bare word a b ∷ cut 10 rest
 pair-cut word a b rest h = ap (cut 10) (pair-bare word a b rest) ∙ cut-end 10 (bare word a b) rest (bare-plain word a b h)
 
 cut-plain : (s : List ℕ) → among 32 s ≡ false → cut 32 s ≡ s ∷ []
@@ -205,7 +206,8 @@ module _ (n : ℕ) (small : n < 10 ^ 20) (R : List Row) (rows : List AwardRow)
   unfolding line
   other-line j rest l d = go (getD rows j lost .won)
     where
-      go : (w : Bool) → rowShown n (cond w (pairLine winWord (getD R j noRow .bidder) (getD rows j lost .cents)) [] ++ rest) ≡ rowShown n rest
+      go : (w : Bool) → rowShown n (cond w (pairLine winWord (getD R j noRow .bidder) (getD rows j lost .cents)) [] ++ rest)
+          ≡ rowShown n rest
       go false = refl
       go true = win-row n small (getD R j noRow .bidder) (getD rows j lost .cents) rest (sizes j l .0) (sizes j l .1)
           ∙ rw (ne-eqb (getD R j noRow .bidder) n d)
@@ -228,7 +230,8 @@ module _ (n : ℕ) (small : n < 10 ^ 20) (R : List Row) (rows : List AwardRow)
   others (suc m) l d rest = ap (rowShown n) (append-assoc (winList R rows m) (line m) rest)
       ∙ others m (omega arith) (λ j k. d j (omega arith)) (line m ++ rest) ∙ other-line m rest (omega arith) (d m (omega arith))
 
-  own : (m i : ℕ) → m ≤ length R → i < m → getD R i noRow .bidder ≡ n → ((j : ℕ) → j < length R → (j ≡ i → ⊥) → getD R j noRow .bidder ≡ n → ⊥)
+  own : (m i : ℕ) → m ≤ length R → i < m → getD R i noRow .bidder ≡ n
+      → ((j : ℕ) → j < length R → (j ≡ i → ⊥) → getD R j noRow .bidder ≡ n → ⊥)
       → (rest : List ℕ) → rowShown n (winList R rows m ++ rest)
       ≡ cond (getD rows i lost .won) (record { won = true; cents = getD rows i lost .cents }) (rowShown n rest)
   unfolding winList line
@@ -278,10 +281,12 @@ row-shown t R rows cost paid i l sizes d h =
     ∙ kept-row (getD rows i lost) h
 
 -- two such lines are the same only where their first numbers are
-pub first-number : (word : List ℕ) (a b c d : ℕ) → among 32 word ≡ false → a < 10 ^ 20 → c < 10 ^ 20 → pairLine word a b ≡ pairLine word c d → a ≡ c
+pub first-number : (word : List ℕ) (a b c d : ℕ) → among 32 word ≡ false → a < 10 ^ 20 → c < 10 ^ 20
+    → pairLine word a b ≡ pairLine word c d → a ≡ c
 unfolding pairLine numbers among
 first-number word a b c d h l m e =
-    let f : some a ≡ some c = sym (decimal-back a l) ∙ sym (second a b) ∙ ap (λ s. digits 0 (getD (cut 32 s) 1 [])) e ∙ second c d ∙ decimal-back c m in
+    let f : some a ≡ some c = sym (decimal-back a l) ∙ sym (second a b) ∙ ap (λ s. digits 0 (getD (cut 32 s) 1 [])) e ∙ second c d
+    ∙ decimal-back c m in
     cc
   where
     second : (a b : ℕ) → digits 0 (getD (cut 32 (pairLine word a b)) 1 []) ≡ digits 0 (decimal a)

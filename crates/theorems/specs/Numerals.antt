@@ -49,7 +49,8 @@ plain d (suc f) n done l h = go (ltb n 10) (plain d f (n / 10) ((48 + n % 10) �
     next : among d ((48 + n % 10) ∷ done) ≡ false
     next = rw (ne-eqb (48 + n % 10) d (λ e. omega arith)) h
 
-    go : (t : Bool) → among d (digitsBefore f (n / 10) ((48 + n % 10) ∷ done)) ≡ false → among d (cond t ((48 + n % 10) ∷ done) (digitsBefore f (n / 10) ((48 + n % 10) ∷ done))) ≡ false
+    go : (t : Bool) → among d (digitsBefore f (n / 10) ((48 + n % 10) ∷ done)) ≡ false
+        → among d (cond t ((48 + n % 10) ∷ done) (digitsBefore f (n / 10) ((48 + n % 10) ∷ done))) ≡ false
     go true ih = next
     go false ih = ih
 
@@ -80,7 +81,8 @@ spelt-more g v b w l lo hi =
     let q : (v * 10 + (b - 48)) / 10 ≡ v = omega arith in
     rw (le-ltb (v * 10 + (b - 48)) 10 (omega arith), d, q)
 
-spelt : (w : List ℕ) (g v n : ℕ) (done : List ℕ) → 1 ≤ v → digits v w ≡ some n → digitsBefore (g + length w) n done ≡ digitsBefore g v (w ++ done)
+spelt : (w : List ℕ) (g v n : ℕ) (done : List ℕ) → 1 ≤ v → digits v w ≡ some n
+    → digitsBefore (g + length w) n done ≡ digitsBefore g v (w ++ done)
 unfolding digits
 spelt [] g v n done l e = let h : v ≡ n = cc in rw (← h) (ap (λ (m : ℕ). digitsBefore m v done) (omega arith))
 spelt (b ∷ w) g v n done l e =
@@ -107,7 +109,12 @@ numeral w n e = go (leb 1 (length w) && leb (length w) 9 && not (leadingZero w))
     go true h x =
         let s = and-split (leb 1 (length w) && leb (length w) 9) (not (leadingZero w)) h in
         let u = and-split (leb 1 (length w)) (leb (length w) 9) (s .0) in
-        record { some-digit = leb-true 1 (length w) (u .0); few-digits = leb-true (length w) 9 (u .1); no-zero = not-true (leadingZero w) (s .1); value = x }
+        record {
+          some-digit = leb-true 1 (length w) (u .0);
+          few-digits = leb-true (length w) 9 (u .1);
+          no-zero = not-true (leadingZero w) (s .1);
+          value = x;
+        }
 
 pub one-spelling : (w : List ℕ) (n : ℕ) → numeralOf w ≡ some n → w ≡ decimal n
 unfolding decimal leadingZero digits
@@ -129,4 +136,5 @@ one-spelling w n e = go w (numeral w n e)
         let e : 20 ≡ suc g + length (c ∷ w) = omega (arith, l) in
         let f : 48 + (b - 48) ≡ b = omega (arith, d .low) in
         sym (ap (λ (m : ℕ). digitsBefore m n []) e ∙ spelt (c ∷ w) (suc g) (b - 48) n [] p x
-        ∙ last-digit g (b - 48) (c ∷ w ++ []) (omega (arith, d .high)) ∙ ap (λ (m : ℕ). m ∷ (c ∷ w ++ [])) f ∙ ap (λ r. b ∷ c ∷ r) (append-nil w))
+        ∙ last-digit g (b - 48) (c ∷ w ++ []) (omega (arith, d .high)) ∙ ap (λ (m : ℕ). m ∷ (c ∷ w ++ [])) f
+        ∙ ap (λ r. b ∷ c ∷ r) (append-nil w))

@@ -115,7 +115,8 @@ still-among (m ∷ ms) b c v = go (eqb m b) v (still-among ms b c)
 fresh : (k : Kind) (used : List ℕ) (at : ℕ) (R : List Row) (end b : ℕ) → RowsRules k used at R end → among b used ≡ true → (i : ℕ)
     → i < length R → getD R i noRow .bidder ≡ b → ⊥
 fresh k used at [] end b h u i l e = omega arith
-fresh k used at (r ∷ R) end b (h, hs) u zero l e = let n = h .bidder-new in let z : true ≡ false = sym u ∙ ap (λ c. among c used) (sym e) ∙ n in
+fresh k used at (r ∷ R) end b (h, hs) u zero l e = let n = h .bidder-new in let z : true ≡ false = sym u ∙ ap (λ c. among c used) (sym e)
+    ∙ n in
     let z : _≡_ {A = ℕ} 0 1 = cc in omega arith
 fresh k used at (r ∷ R) end b (h, hs) u (suc i) l e =
     fresh k (used ++ r .bidder ∷ []) (at + r .count) R end b hs (still-among used b (r .bidder) u) i (omega arith) e

@@ -119,7 +119,8 @@ single Multi = λ e. let z : _≡_ {A = ℕ} 0 1 = cc in absurd (omega arith)
 used : (n : ℕ) (bs : List BidLine) → Says (among n (map (λ b. b .bidder) bs)) (UsedIn n bs)
 unfolding among
 used n [] = λ h. h
-used n (b ∷ bs) = says-or (b .bidder ≡ n) (UsedIn n bs) (eqb (b .bidder) n) (among n (map (λ b. b .bidder) bs)) (says-eqb (b .bidder) n) (used n bs)
+used n (b ∷ bs) = says-or (b .bidder ≡ n) (UsedIn n bs) (eqb (b .bidder) n) (among n (map (λ b. b .bidder) bs)) (says-eqb (b .bidder) n)
+    (used n bs)
 
 -- the refusal that a fault brings, on its line
 abbrev pub refusalOf : Fault → ℕ → Refusal

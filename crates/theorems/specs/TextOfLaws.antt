@@ -16,7 +16,8 @@ use Rattle.tender.specs.declared.Tender.{Tender}
 use Rattle.tender.specs.Keywords.{tenderWord, bidWord, singleWord, multiWord}
 use Rattle.tender.specs.Tables.{Row}
 use Rattle.reader_line.specs.Words.{andThen, growFirst, cut, sameBytes, opened, closed, numeralOf, priceOf}
-use Rattle.reader_line.specs.Line.{BidLine, Line, tender, bid, kindOf, spanOf, windowOf, windowsIn, tenderOf, bidOf, lineOfWords, lineOf, linesOf}
+use Rattle.reader_line.specs.Line.{BidLine, Line, tender, bid, kindOf, spanOf, windowOf, windowsIn, tenderOf, bidOf, lineOfWords, lineOf}
+use Rattle.reader_line.specs.Line.{linesOf}
 use Rattle.reader_line.specs.CutLaws.{Pieces, cut-some}
 use Rattle.reader.specs.Read.{accepted, rowsFrom, allWindows, bidsOf, tables, readLines, readText}
 use Rattle.reader.specs.ReadLaws.{never, read-lines, checked-bids, begun}
@@ -47,7 +48,8 @@ unfolding cut joined
 joined-cut d [] = refl
 joined-cut d (b ∷ s) = go (eqb b d) refl (cut-some d s) (joined-cut d s)
   where
-    go : (t : Bool) → eqb b d ≡ t → Pieces (cut d s) → joined d (cut d s) ≡ s → joined d (cond t ([] ∷ cut d s) (growFirst b (cut d s))) ≡ b ∷ s
+    go : (t : Bool) → eqb b d ≡ t → Pieces (cut d s) → joined d (cut d s) ≡ s → joined d (cond t ([] ∷ cut d s) (growFirst b (cut d s)))
+        ≡ b ∷ s
     go true e c h = joined-new d (cut d s) c ∙ rw (h, eqb-true b d e)
     go false e c h = joined-grow d b (cut d s) c ∙ ap (λ l. b ∷ l) h
 
@@ -89,7 +91,8 @@ closed-is (b ∷ []) a e = go (eqb b 41) refl e
     go false f x = let z : _≡_ {A = ℕ} 0 1 = cc in absurd (omega arith)
 closed-is (b ∷ c ∷ s) a e = go (closed (c ∷ s)) refl e (closed-is (c ∷ s))
   where
-    go : (o : Option (List ℕ)) → closed (c ∷ s) ≡ o → andThen o (λ r. some (b ∷ r)) ≡ some a → ((r : List ℕ) → closed (c ∷ s) ≡ some r → c ∷ s ≡ r ++ 41 ∷ []) → b ∷ c ∷ s ≡ a ++ 41 ∷ []
+    go : (o : Option (List ℕ)) → closed (c ∷ s) ≡ o → andThen o (λ r. some (b ∷ r)) ≡ some a
+        → ((r : List ℕ) → closed (c ∷ s) ≡ some r → c ∷ s ≡ r ++ 41 ∷ []) → b ∷ c ∷ s ≡ a ++ 41 ∷ []
     go none f x ih = let z : _≡_ {A = ℕ} 0 1 = cc in absurd (omega arith)
     go (some r) f x ih = let h : b ∷ r ≡ a = cc in rw (← h) (ap (λ l. b ∷ l) (ih r f))
 
@@ -101,12 +104,17 @@ span-is : (s e : List ℕ) (w : Window) → spanOf s e ≡ some w → Span s e w
 unfolding spanOf andThen
 span-is s e w h = go (numeralOf s) (numeralOf e) refl refl h
   where
-    go : (x y : Option ℕ) → numeralOf s ≡ x → numeralOf e ≡ y → andThen x (λ a. andThen y (λ z. some (record { start = a; end = z }))) ≡ some w → Span s e w
+    go : (x y : Option ℕ) → numeralOf s ≡ x → numeralOf e ≡ y → andThen x (λ a. andThen y (λ z. some (record { start = a; end = z })))
+        ≡ some w → Span s e w
     go none y f g q = let z : _≡_ {A = ℕ} 0 1 = cc in absurd (omega arith)
     go (some a) none f g q = let z : _≡_ {A = ℕ} 0 1 = cc in absurd (omega arith)
     go (some a) (some z) f g q =
         let k : _≡_ {A = Window} (record { start = a; end = z }) w = cc in
-        record { start-is = one-spelling s a f ∙ ap (λ (v : Window). decimal (v .start)) k; end-is = one-spelling e z g ∙ ap (λ (v : Window). decimal (v .end)) k }
+        record {
+          start-is = one-spelling s a f ∙ ap (λ (v : Window). decimal (v .start)) k;
+          end-is = one-spelling e z g
+              ∙ ap (λ (v : Window). decimal (v .end)) k;
+        }
 
 record Bracketed (s e : List ℕ) (w : Window) : Type 0 where
   start-is : s ≡ 40 ∷ decimal (w .start)
@@ -121,7 +129,11 @@ window-is s e w h = go (opened s) (closed e) refl refl h
     go (some a) none f g q = let z : _≡_ {A = ℕ} 0 1 = cc in absurd (omega arith)
     go (some a) (some z) f g q =
         let k = span-is a z w q in
-        record { start-is = opened-is s a f ∙ ap (λ l. 40 ∷ l) (k .start-is); end-is = closed-is e z g ∙ ap (λ l. l ++ 41 ∷ []) (k .end-is) }
+        record {
+          start-is = opened-is s a f ∙ ap (λ l. 40 ∷ l) (k .start-is);
+          end-is = closed-is e z g
+              ∙ ap (λ l. l ++ 41 ∷ []) (k .end-is);
+        }
 
 windows-are : (ws : List (List ℕ)) (l : List Window) → windowsIn ws ≡ some l → ws ≡ windowWords l
 unfolding windowsIn andThen windowWords
@@ -129,14 +141,16 @@ windows-are [] l h = let z : _≡_ {A = ℕ} 0 1 = cc in absurd (omega arith)
 windows-are (s ∷ []) l h = let z : _≡_ {A = ℕ} 0 1 = cc in absurd (omega arith)
 windows-are (s ∷ e ∷ []) l h = go (closed e) refl h
   where
-    last : (z : List ℕ) → e ≡ z ++ 41 ∷ [] → (o : Option Window) → windowOf s z ≡ o → andThen o (λ w. some (w ∷ [])) ≡ some l → s ∷ e ∷ [] ≡ windowWords l
+    last : (z : List ℕ) → e ≡ z ++ 41 ∷ [] → (o : Option Window) → windowOf s z ≡ o → andThen o (λ w. some (w ∷ [])) ≡ some l
+        → s ∷ e ∷ [] ≡ windowWords l
     last z f none g q = let n : _≡_ {A = ℕ} 0 1 = cc in absurd (omega arith)
     last z f (some w) g q =
         let k : w ∷ [] ≡ l = cc in
         let b = window-is s z w g in
         rw (← k) (rw (b .start-is, f, b .end-is))
 
-    go : (o : Option (List ℕ)) → closed e ≡ o → andThen o (λ z. andThen (windowOf s z) (λ w. some (w ∷ []))) ≡ some l → s ∷ e ∷ [] ≡ windowWords l
+    go : (o : Option (List ℕ)) → closed e ≡ o → andThen o (λ z. andThen (windowOf s z) (λ w. some (w ∷ []))) ≡ some l
+        → s ∷ e ∷ [] ≡ windowWords l
     go none f q = let n : _≡_ {A = ℕ} 0 1 = cc in absurd (omega arith)
     go (some z) f q = last z (closed-is e z f) (windowOf s z) refl q
 windows-are (s ∷ e ∷ x ∷ ws) l h = go (windowOf s e) (windowsIn (x ∷ ws)) refl refl h (windows-are (x ∷ ws))
@@ -145,7 +159,8 @@ windows-are (s ∷ e ∷ x ∷ ws) l h = go (windowOf s e) (windowsIn (x ∷ ws)
     longer w [] b f = let n = ap length f in absurd (omega (arith, n))
     longer w (v ∷ r) b f = rw (b .start-is, b .end-is) (ap (λ l. (40 ∷ decimal (w .start)) ∷ (decimal (w .end) ++ 41 ∷ []) ∷ l) f)
 
-    go : (o : Option Window) (p : Option (List Window)) → windowOf s e ≡ o → windowsIn (x ∷ ws) ≡ p → andThen o (λ w. andThen p (λ r. some (w ∷ r))) ≡ some l →
+    go : (o : Option Window) (p : Option (List Window)) → windowOf s e ≡ o → windowsIn (x ∷ ws) ≡ p
+        → andThen o (λ w. andThen p (λ r. some (w ∷ r))) ≡ some l →
         ((r : List Window) → windowsIn (x ∷ ws) ≡ some r → x ∷ ws ≡ windowWords r) → s ∷ e ∷ x ∷ ws ≡ windowWords l
     go none p f g q ih = let n : _≡_ {A = ℕ} 0 1 = cc in absurd (omega arith)
     go (some w) none f g q ih = let n : _≡_ {A = ℕ} 0 1 = cc in absurd (omega arith)
@@ -155,7 +170,8 @@ kind-is : (w : List ℕ) (k : Kind) → kindOf w ≡ some k → w ≡ kindWord k
 unfolding kindOf kindWord
 kind-is w k h = go (sameBytes w singleWord) (sameBytes w multiWord) refl refl h
   where
-    go : (a b : Bool) → sameBytes w singleWord ≡ a → sameBytes w multiWord ≡ b → cond a (some Single) (cond b (some Multi) none) ≡ some k → w ≡ kindWord k
+    go : (a b : Bool) → sameBytes w singleWord ≡ a → sameBytes w multiWord ≡ b → cond a (some Single) (cond b (some Multi) none) ≡ some k
+        → w ≡ kindWord k
     go true b f g q = let e : Single ≡ k = cc in same-is w singleWord f ∙ ap kindWord e
     go false true f g q = let e : Multi ≡ k = cc in same-is w multiWord g ∙ ap kindWord e
     go false false f g q = let n : _≡_ {A = ℕ} 0 1 = cc in absurd (omega arith)
@@ -174,7 +190,8 @@ tender-is (k ∷ []) x h = let z : _≡_ {A = ℕ} 0 1 = cc in absurd (omega ari
 tender-is (k ∷ s ∷ []) x h = let z : _≡_ {A = ℕ} 0 1 = cc in absurd (omega arith)
 tender-is (k ∷ s ∷ e ∷ []) x h = go (kindOf k) (closed e) refl refl h
   where
-    last : (y : Kind) (z : List ℕ) → k ≡ kindWord y → e ≡ z ++ 41 ∷ [] → (o : Option Window) → spanOf s z ≡ o → andThen o (λ w. some (tender (record { kind = y; window = w }))) ≡ some x →
+    last : (y : Kind) (z : List ℕ) → k ≡ kindWord y → e ≡ z ++ 41 ∷ [] → (o : Option Window) → spanOf s z ≡ o
+        → andThen o (λ w. some (tender (record { kind = y; window = w }))) ≡ some x →
         (40 ∷ tenderWord) ∷ k ∷ s ∷ e ∷ [] ≡ wordsOf x
     last y z f g none i q = let n : _≡_ {A = ℕ} 0 1 = cc in absurd (omega arith)
     last y z f g (some w) i q =
@@ -182,7 +199,8 @@ tender-is (k ∷ s ∷ e ∷ []) x h = go (kindOf k) (closed e) refl refl h
         let b = span-is s z w i in
         rw (f, g, b .start-is, b .end-is) (ap wordsOf u)
 
-    go : (o : Option Kind) (p : Option (List ℕ)) → kindOf k ≡ o → closed e ≡ p → andThen o (λ y. andThen p (λ z. andThen (spanOf s z) (λ w. some (tender (record { kind = y; window = w }))))) ≡ some x →
+    go : (o : Option Kind) (p : Option (List ℕ)) → kindOf k ≡ o → closed e ≡ p
+        → andThen o (λ y. andThen p (λ z. andThen (spanOf s z) (λ w. some (tender (record { kind = y; window = w }))))) ≡ some x →
         (40 ∷ tenderWord) ∷ k ∷ s ∷ e ∷ [] ≡ wordsOf x
     go none p f g q = let n : _≡_ {A = ℕ} 0 1 = cc in absurd (omega arith)
     go (some y) none f g q = let n : _≡_ {A = ℕ} 0 1 = cc in absurd (omega arith)
@@ -196,7 +214,8 @@ bid-is (n ∷ []) x h = let z : _≡_ {A = ℕ} 0 1 = cc in absurd (omega arith)
 bid-is (n ∷ p ∷ ws) x h = go (numeralOf n) (priceOf p) (windowsIn ws) refl refl refl h
   where
     go : (a b : Option ℕ) (c : Option (List Window)) → numeralOf n ≡ a → priceOf p ≡ b → windowsIn ws ≡ c →
-        andThen a (λ i. andThen b (λ v. andThen c (λ l. some (bid (record { bidder = i; price = v; windows = l }))))) ≡ some x → (40 ∷ bidWord) ∷ n ∷ p ∷ ws ≡ wordsOf x
+        andThen a (λ i. andThen b (λ v. andThen c (λ l. some (bid (record { bidder = i; price = v; windows = l }))))) ≡ some x
+        → (40 ∷ bidWord) ∷ n ∷ p ∷ ws ≡ wordsOf x
     go none b c f g i q = let z : _≡_ {A = ℕ} 0 1 = cc in absurd (omega arith)
     go (some y) none c f g i q = let z : _≡_ {A = ℕ} 0 1 = cc in absurd (omega arith)
     go (some y) (some v) none f g i q = let z : _≡_ {A = ℕ} 0 1 = cc in absurd (omega arith)
@@ -209,7 +228,8 @@ unfolding lineOfWords
 words-are [] x h = let z : _≡_ {A = ℕ} 0 1 = cc in absurd (omega arith)
 words-are (w ∷ ws) x h = go (sameBytes w (40 ∷ tenderWord)) (sameBytes w (40 ∷ bidWord)) refl refl h
   where
-    go : (a b : Bool) → sameBytes w (40 ∷ tenderWord) ≡ a → sameBytes w (40 ∷ bidWord) ≡ b → cond a (tenderOf ws) (cond b (bidOf ws) none) ≡ some x → w ∷ ws ≡ wordsOf x
+    go : (a b : Bool) → sameBytes w (40 ∷ tenderWord) ≡ a → sameBytes w (40 ∷ bidWord) ≡ b
+        → cond a (tenderOf ws) (cond b (bidOf ws) none) ≡ some x → w ∷ ws ≡ wordsOf x
     go true b f g q = ap (λ v. v ∷ ws) (same-is w (40 ∷ tenderWord) f) ∙ tender-is ws x q
     go false true f g q = ap (λ v. v ∷ ws) (same-is w (40 ∷ bidWord) g) ∙ bid-is ws x q
     go false false f g q = let z : _≡_ {A = ℕ} 0 1 = cc in absurd (omega arith)
@@ -220,7 +240,8 @@ unfolding lineOf
 line-is line x h = sym (joined-cut 32 line) ∙ ap (joined 32) (words-are (cut 32 line) x h) ∙ joined-spaced (wordsOf x)
 
 -- the pieces between bytes 10: the lines, and nothing after the last
-pieces-are : (p : List ℕ) (ps : List (List ℕ)) (xs : List Line) → linesOf (p ∷ ps) ≡ map (λ x. some x) xs → joined 10 (p ∷ ps) ≡ ended (map (λ x. spaced (wordsOf x)) xs)
+pieces-are : (p : List ℕ) (ps : List (List ℕ)) (xs : List Line) → linesOf (p ∷ ps) ≡ map (λ x. some x) xs
+    → joined 10 (p ∷ ps) ≡ ended (map (λ x. spaced (wordsOf x)) xs)
 unfolding linesOf joined ended
 pieces-are [] [] [] e = refl
 pieces-are [] [] (x ∷ xs) e = let n = ap length e in absurd (omega (arith, n))
@@ -232,7 +253,8 @@ pieces-are p (q ∷ ps) (x ∷ xs) e =
     let g : linesOf (q ∷ ps) ≡ map (λ x. some x) xs = cc in
     rw (line-is p x f) (ap (λ l. spaced (wordsOf x) ++ 10 ∷ l) (pieces-are q ps xs g))
 
-lines-of : (t : Tender) (bs : List BidLine) → some (tender t) ∷ map (λ b. some (bid b)) bs ≡ map (λ x. some x) (tender t ∷ map (λ b. bid b) bs)
+lines-of : (t : Tender) (bs : List BidLine) → some (tender t) ∷ map (λ b. some (bid b)) bs
+    ≡ map (λ x. some x) (tender t ∷ map (λ b. bid b) bs)
 lines-of t bs = ap {B = List (Option Line)} (λ l. some (tender t) ∷ l) (go bs)
   where
     go : (bs : List BidLine) → map (λ b. some (bid b)) bs ≡ map (λ x. some x) (map (λ b. bid b) bs)
@@ -240,11 +262,13 @@ lines-of t bs = ap {B = List (Option Line)} (λ l. some (tender t) ∷ l) (go bs
     go (b ∷ bs) = ap {B = List (Option Line)} (λ l. some (bid b) ∷ l) (go bs)
 
 -- the rows spell the bids' lines
-rows-spell : (at : ℕ) (bs : List BidLine) (W : List Window) → drop at W ≡ allWindows bs → map (rowLine W) (rowsFrom at bs) ≡ map (λ x. spaced (wordsOf x)) (map (λ b. bid b) bs)
+rows-spell : (at : ℕ) (bs : List BidLine) (W : List Window) → drop at W ≡ allWindows bs
+    → map (rowLine W) (rowsFrom at bs) ≡ map (λ x. spaced (wordsOf x)) (map (λ b. bid b) bs)
 unfolding rowsFrom allWindows rowLine
 rows-spell at [] W e = refl
 rows-spell at (b ∷ bs) W e =
-    let w : spansOf W (record { bidder = b .bidder; price = b .price; first = at; count = length (b .windows) }) ≡ b .windows = ap (take (length (b .windows))) e ∙ take-append-seam (b .windows) (allWindows bs) in
+    let w : spansOf W (record { bidder = b .bidder; price = b .price; first = at; count = length (b .windows) }) ≡ b .windows =
+    ap (take (length (b .windows))) e ∙ take-append-seam (b .windows) (allWindows bs) in
     let d : drop (at + length (b .windows)) W ≡ allWindows bs =
     sym (drop-drop (length (b .windows)) at W) ∙ ap (drop (length (b .windows))) e ∙ drop-append-seam (b .windows) (allWindows bs) in
     rw (w, rows-spell (at + length (b .windows)) bs W d)
@@ -260,6 +284,8 @@ spelt-again text T R W e = go (linesOf (cut 10 text)) refl (cut-some 10 text) (r
         let g = begun T R W l ls x in
         let h = checked-bids T R W (T .kind) 2 [] ls (tables T (bidsOf ls)) (g .sound) in
         let bs = bidsOf ls in
-        let m : linesOf (c .first ∷ c .rest) ≡ some (tender T) ∷ map (λ b. some (bid b)) bs = ap linesOf (sym (c .are)) ∙ q ∙ ap (λ o. o ∷ ls) (g .first) ∙ ap {B = List (Option Line)} (λ r. some (tender T) ∷ r) h in
-        sym (joined-cut 10 text) ∙ ap (joined 10) (c .are) ∙ pieces-are (c .first) (c .rest) (tender T ∷ map (λ b. bid b) bs) (m ∙ lines-of T bs)
+        let m : linesOf (c .first ∷ c .rest) ≡ some (tender T) ∷ map (λ b. some (bid b)) bs = ap linesOf (sym (c .are)) ∙ q
+        ∙ ap (λ o. o ∷ ls) (g .first) ∙ ap {B = List (Option Line)} (λ r. some (tender T) ∷ r) h in
+        sym (joined-cut 10 text) ∙ ap (joined 10) (c .are)
+        ∙ pieces-are (c .first) (c .rest) (tender T ∷ map (λ b. bid b) bs) (m ∙ lines-of T bs)
         ∙ ap (λ r. ended (spaced (tenderWords T) ∷ r)) (sym (rows-spell 0 bs W (g .windows)) ∙ ap (map (rowLine W)) (sym (g .rows)))

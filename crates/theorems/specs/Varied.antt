@@ -29,15 +29,19 @@ record At (R : List Row) (i : ℕ) : Type 0 where
 row-at : (R : List Row) (i : ℕ) → i < length R → At R i
 row-at [] i l = absurd (omega arith)
 row-at (r ∷ R) zero l = record { before = []; after = R; are = refl }
-row-at (r ∷ R) (suc i) l = let a = row-at R i (omega arith) in record { before = r ∷ a .before; after = a .after; are = ap (λ s. r ∷ s) (a .are) }
+row-at (r ∷ R) (suc i) l = let a = row-at R i (omega arith) in
+    record { before = r ∷ a .before; after = a .after; are = ap (λ s. r ∷ s) (a .are) }
 
 -- its windows stand among the windows
-row-in : (k : Kind) (used : List ℕ) (at : ℕ) (xs : List Row) (r : Row) (ys : List Row) (end : ℕ) → RowsRules k used at (xs ++ r ∷ ys) end → (1 ≤ r .count) × (r .first + r .count ≤ end)
-row-in k used at [] r ys end (h, hs) = let b = h .begins in let s = h .some-window in (s, omega (arith, b, rows-end k (used ++ r .bidder ∷ []) (at + r .count) ys end hs))
+row-in : (k : Kind) (used : List ℕ) (at : ℕ) (xs : List Row) (r : Row) (ys : List Row) (end : ℕ) → RowsRules k used at (xs ++ r ∷ ys) end
+    → (1 ≤ r .count) × (r .first + r .count ≤ end)
+row-in k used at [] r ys end (h, hs) = let b = h .begins in let s = h .some-window in
+    (s, omega (arith, b, rows-end k (used ++ r .bidder ∷ []) (at + r .count) ys end hs))
 row-in k used at (x ∷ xs) r ys end (h, hs) = row-in k (used ++ x .bidder ∷ []) (at + x .count) xs r ys end hs
 
 -- so its line is a bid's, up to its price and from there on
-line-parts : (n p : ℕ) (ws : List Window) → 1 ≤ length ws → spaced (bidWords n p ws) ≡ bidLine (decimal n) (decimal p) (spaced (windowWords ws))
+line-parts : (n p : ℕ) (ws : List Window) → 1 ≤ length ws
+    → spaced (bidWords n p ws) ≡ bidLine (decimal n) (decimal p) (spaced (windowWords ws))
 unfolding spaced bidWords windowWords bidLine
 line-parts n p [] l = absurd (omega arith)
 line-parts n p (w ∷ []) l = refl
@@ -50,7 +54,8 @@ some-taken (suc n) (x ∷ l) h k = omega arith
 
 line-more : (n p a s : List ℕ) → bidLine n p a ++ s ≡ bidLine n p (a ++ s)
 unfolding bidLine bidWord bytes
-line-more n p a s = ap (λ r. 40 ∷ 98 ∷ 105 ∷ 100 ∷ 32 ∷ r) (append-assoc n (32 ∷ (p ++ 32 ∷ a)) s ∙ ap (λ r. n ++ 32 ∷ r) (append-assoc p (32 ∷ a) s))
+line-more n p a s = ap (λ r. 40 ∷ 98 ∷ 105 ∷ 100 ∷ 32 ∷ r)
+    (append-assoc n (32 ∷ (p ++ 32 ∷ a)) s ∙ ap (λ r. n ++ 32 ∷ r) (append-assoc p (32 ∷ a) s))
 
 map-parts : (f : Row → List ℕ) (xs ys : List Row) → map f (xs ++ ys) ≡ map f xs ++ map f ys
 map-parts f [] ys = refl
@@ -69,7 +74,11 @@ record Ends (s : List ℕ) : Type 0 where
 ends : (l : List ℕ) (ls : List (List ℕ)) → Ends (ended (l ∷ ls))
 unfolding ended
 ends l [] = record { but-last = l; are = refl }
-ends l (m ∷ ls) = let e = ends m ls in record { but-last = l ++ 10 ∷ e .but-last; are = ap (λ r. l ++ 10 ∷ r) (e .are) ∙ sym (append-assoc l (10 ∷ e .but-last) (10 ∷ [])) }
+ends l (m ∷ ls) = let e = ends m ls in record {
+  but-last = l ++ 10 ∷ e .but-last;
+  are = ap (λ r. l ++ 10 ∷ r) (e .are)
+      ∙ sym (append-assoc l (10 ∷ e .but-last) (10 ∷ []));
+}
 
 -- a text that differs in the price of row i alone, written q
 pub record Variant (text : List ℕ) (R : List Row) (i : ℕ) (q : List ℕ) : Type 0 where
@@ -79,7 +88,8 @@ pub record Variant (text : List ℕ) (R : List Row) (i : ℕ) (q : List ℕ) : T
 number-word : (n : ℕ) → Word (decimal n)
 number-word n = record { no-space = decimal-plain 32 n (omega arith); no-end = decimal-plain 10 n (omega arith) }
 
-pub varied : (text : List ℕ) (T : Tender) (R : List Row) (W : List Window) → readText text ≡ accepted T R W → (i : ℕ) → i < length R → (q : List ℕ) → Word q → Variant text R i q
+pub varied : (text : List ℕ) (T : Tender) (R : List Row) (W : List Window) → readText text ≡ accepted T R W → (i : ℕ) → i < length R
+    → (q : List ℕ) → Word q → Variant text R i q
 unfolding textOf rowLine ended
 varied text T R W h i l q wq = go (row-at R i l)
   where
@@ -92,12 +102,23 @@ varied text T R W h i l q wq = go (row-at R i l)
         let rest = ended (map (rowLine W) (a .after)) in
         let tail = spaced (windowWords (spansOf W r)) ++ 10 ∷ rest in
         let line : rowLine W r ++ 10 ∷ rest ≡ bidLine (decimal (r .bidder)) (decimal (r .price)) tail =
-        ap (λ x. x ++ 10 ∷ rest) (line-parts (r .bidder) (r .price) (spansOf W r) s) ∙ line-more (decimal (r .bidder)) (decimal (r .price)) (spaced (windowWords (spansOf W r))) (10 ∷ rest) in
+        ap (λ x. x ++ 10 ∷ rest) (line-parts (r .bidder) (r .price) (spansOf W r) s)
+        ∙ line-more (decimal (r .bidder)) (decimal (r .price)) (spaced (windowWords (spansOf W r))) (10 ∷ rest) in
         let whole : text ≡ e .but-last ++ 10 ∷ bidLine (decimal (r .bidder)) (decimal (r .price)) tail =
-        spelt-again text T R W h ∙ ap (λ x. ended (spaced (tenderWords T) ∷ map (rowLine W) x)) (a .are) ∙ ap (λ x. ended (spaced (tenderWords T) ∷ x)) (map-parts (rowLine W) (a .before) (r ∷ a .after))
-        ∙ ended-parts (spaced (tenderWords T) ∷ map (rowLine W) (a .before)) (rowLine W r ∷ map (rowLine W) (a .after)) ∙ ap (λ x. x ++ (rowLine W r ++ 10 ∷ rest)) (e .are)
+        spelt-again text T R W h ∙ ap (λ x. ended (spaced (tenderWords T) ∷ map (rowLine W) x)) (a .are)
+        ∙ ap (λ x. ended (spaced (tenderWords T) ∷ x)) (map-parts (rowLine W) (a .before) (r ∷ a .after))
+        ∙ ended-parts (spaced (tenderWords T) ∷ map (rowLine W) (a .before)) (rowLine W r ∷ map (rowLine W) (a .after))
+        ∙ ap (λ x. x ++ (rowLine W r ++ 10 ∷ rest)) (e .are)
         ∙ append-assoc (e .but-last) (10 ∷ []) (rowLine W r ++ 10 ∷ rest) ∙ ap (λ x. e .but-last ++ 10 ∷ x) line in
         record {
           other = e .but-last ++ 10 ∷ bidLine (decimal (r .bidder)) q tail;
-          differ = record { before = e .but-last; after = tail; left = whole; right = refl; bidder-word = number-word (r .bidder); p-word = number-word (r .price); q-word = wq };
+          differ = record {
+            before = e .but-last;
+            after = tail;
+            left = whole;
+            right = refl;
+            bidder-word = number-word (r .bidder);
+            p-word = number-word (r .price);
+            q-word = wq;
+          };
         }

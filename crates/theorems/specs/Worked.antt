@@ -33,7 +33,8 @@ AllListed (c ∷ cs) = (listOf (readText (c .text)) ≡ c .list) × AllListed cs
 all-listed : (cs : List Case) → allRight cs ≡ true → AllListed cs
 unfolding allRight right
 all-listed [] e = tt
-all-listed (c ∷ cs) e = let s = and-split (right c) (allRight cs) e in (same-is (listOf (readText (c .text))) (c .list) (s .0), all-listed cs (s .1))
+all-listed (c ∷ cs) e = let s = and-split (right c) (allRight cs) e in
+    (same-is (listOf (readText (c .text))) (c .list) (s .0), all-listed cs (s .1))
 
 tested : allRight cases ≡ true
 unfolding allRight cases
