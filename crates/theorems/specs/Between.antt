@@ -1,23 +1,28 @@
--- Two calls one after the other, and two calls compared (paper 01, "Time, price and place").
+-- What the demands say of a call, of two calls one after the other, and of two calls compared (paper 01, "Time, price and place").
 use mathlib.Core.Path.{_≡_}
 use mathlib.Core.Logic.{_⊎_}
 use mathlib.Core.List.{List, _++_}
-use Prim.Native.Nat.{ℕ, _+_, _-_, _*_, _≤_, _<_, min}
+use Prim.Native.Nat.{ℕ, _+_, _-_, _*_, _≤_, _<_}
 use mathlib.Core.Option.{some}
-use lib.ListN.{length, getD}
+use lib.ListN.{length, getD, drop}
 use lib.Dec.{ltb}
 use Rattle.tender.specs.declared.Window.{Window}
 use Rattle.tender.specs.declared.Tender.{Tender}
-use Rattle.tender.specs.Tables.{Row, rowsOf, flatRows, flatWindows}
+use Rattle.tender.specs.Limits.{maxPrice, maxText}
+use Rattle.tender.specs.Tables.{Row, rowsOf}
 use Rattle.cover.specs.Sets.{bidders}
 use Rattle.reader.specs.Words.{numeralOf, priceOf}
 use Rattle.reader.specs.Read.{accepted, readText}
 use Rattle.reader.specs.declared.Reading.the-variants as answer
-use Rattle.award_check.specs.Cells.{hasOf}
+use Rattle.reader.specs.Differ.{DifferInPrice}
+use Rattle.award_check.specs.Cells.{noRow, hasOf}
 use Rattle.award.specs.Right.{Callable}
 use Rattle.award.specs.Gain.{rowFor, gain, AtMost}
-use Rattle.listing.specs.Lines.{pairLine, refusedWord}
-use Rattle.theorems.specs.Calls.{ReadCall, AwardCall, toldBy, SettleCall, toldPlain, ListCall, shown}
+use Rattle.listing.specs.Lines.{decimal, pairLine, refusedWord}
+use Rattle.listing.specs.List.{listOf}
+use Rattle.theorems.specs.Calls.{ReadRun, ReadCall, AwardCall, toldBy, ListCall, shown}
+use Rattle.theorems.specs.OneReading.{Fills}
+use Rattle.theorems.specs.TextOf.{textOf}
 use Rattle.theorems.specs.ListRead.{rowShown}
 
 -- its tables break no rule, and each bid has an award row
@@ -38,16 +43,20 @@ bidderAt c i = getD (c .bids) (4 * i) 0
 abbrev pub priceAt : AwardCall → ℕ → ℕ
 priceAt c i = getD (c .bids) (4 * i + 1) 0
 
--- what an accepted text left in the tables, whatever their size
-pub record ReadIn (text bids windows : List ℕ) (t : Tender) (n : ℕ) : Type 0 where
+-- what an accepted text left in the tables, whatever their size; it is spelt again from it
+pub record WasRead (r : ReadRun) (t : Tender) : Type 0 where
   pub rows : List Row
   pub spans : List Window
-  pub past-rows : List ℕ
-  pub past-spans : List ℕ
-  pub is : readText text ≡ accepted t rows spans
-  pub count : length rows ≡ n
-  pub bids-are : bids ≡ flatRows rows ++ past-rows
-  pub windows-are : windows ≡ flatWindows spans ++ past-spans
+  pub spelt : r .text ≡ textOf t rows spans
+  pub fills : Fills t rows spans r
+
+-- a text that differs from an accepted one in the price of row i alone, written q; with a price within the limits it is accepted too,
+-- if it is not too long
+pub record Variant (text : List ℕ) (t : Tender) (R : List Row) (W : List Window) (i : ℕ) (q : List ℕ) : Type 0 where
+  pub other : List ℕ
+  pub differ : DifferInPrice text other (decimal (getD R i noRow .bidder)) (decimal (getD R i noRow .price)) q
+  pub accepted-too : (v : ℕ) → priceOf q ≡ some v → v ≤ maxPrice → length other ≤ maxText
+      → (S : List Row) × (readText other ≡ accepted t S W)
 
 -- the award is called on what the accepted text left
 pub record Follows (r : ReadCall) (c : AwardCall) : Type 0 where
@@ -72,6 +81,16 @@ pub record NoGainBetween (c c′ : AwardCall) (bidder p q : List ℕ) : Type 0 w
   pub other-price : priceOf q ≡ some (priceAt c′ i)
   pub most : AtMost (gain (priceAt c i) (rowFor (toldBy c′) i)) (gain (priceAt c i) (rowFor (toldBy c) i))
 
+-- the list of the text that it was given
+abbrev pub listBy : ListCall → List ℕ
+listBy l = listOf (readText (l .text))
+
+-- one list: at the start of the buffer, with the bytes past it as they were; or 13, told by 0, where it is longer than the buffer
+pub data OneList (l : ListCall) : Type 0 where
+  list-written : length (listBy l) ≤ length (l .buffer) → l .answer ≡ length (listBy l)
+      → l .buffer-after ≡ listBy l ++ drop (length (listBy l)) (l .buffer) → OneList l
+  list-too-long : length (l .buffer) < length (listBy l) → l .answer ≡ 0 → l .buffer-after ≡ l .buffer → OneList l
+
 -- the list was written, and it shows no refusal of reading (1 to 7): the text is a readable list
 pub record ListGiven (l : ListCall) : Type 0 where
   pub written : 0 < l .answer
@@ -88,14 +107,3 @@ pub record NoGainShown (l l′ : ListCall) (bidder p : List ℕ) : Type 0 where
 -- the number of a refusal that a list may show
 abbrev pub Showable : ℕ → Type 0
 Showable n = ((1 ≤ n) × (n ≤ 7)) ⊎ ((n ≡ 11) ⊎ (n ≡ 12))
-
--- the call of `settle` as one of the award of its kind, its lists read as award rows
-pub record AsRows (s : SettleCall) : Type 0 where
-  pub call : AwardCall
-  pub kind-is : call .kind ≡ s .kind
-  pub tender-is : call .tender ≡ s .tender
-  pub count-is : call .count ≡ s .count
-  pub bids-are : call .bids ≡ s .bids
-  pub windows-are : call .windows ≡ s .windows
-  pub rows : length (call .rows-before) ≡ min (length (s .won-before)) (length (s .cents-before))
-  pub told : toldBy call ≡ toldPlain s

@@ -1,11 +1,11 @@
 -- The demands in one place, in their order and words: each is of a public call as one record (`Calls`) and is proved by citing.
 -- `docs/RULES.md` prints the definitions that they rest on. Assumes nothing.
-use mathlib.Core.Path.{_≡_, refl, sym, _∙_}
+use mathlib.Core.Path.{_≡_, sym, _∙_}
 use mathlib.Core.Logic.{_⊎_}
-use mathlib.Core.Bool.{true, false}
-use mathlib.Core.List.{List, [], _∷_}
+use mathlib.Core.Bool.{true}
+use mathlib.Core.List.{List}
 use mathlib.Core.Option.{some}
-use Prim.Native.Nat.{ℕ, _+_, _/_, _^_, _≤_, _<_}
+use Prim.Native.Nat.{ℕ, _+_, _^_, _≤_, _<_, min}
 use lib.ListN.{length, getD, set}
 use lib.Dec.{leb}
 use Rattle.tender.specs.declared.Kind.the-variants.{Single, Multi}
@@ -13,9 +13,8 @@ use Rattle.tender.specs.declared.Window.{Window}
 use Rattle.tender.specs.declared.Tender.{Tender}
 use Rattle.tender.specs.declared.AwardRow.{AwardRow}
 use Rattle.tender.specs.Tables.{Row, rowsOf, flatRows, flatWindows}
-use Rattle.reader_line.specs.Words.{among, digits}
+use Rattle.reader_line.specs.Words.{digits}
 use Rattle.reader_line.specs.LinePlain.{allPlain}
-use Rattle.reader.specs.Words.{priceOf}
 use Rattle.reader.specs.Read.{accepted, refused, readText, readInto}
 use Rattle.reader.specs.Rules.{bytesLike}
 use Rattle.reader.specs.RulesLaws.{rules-law}
@@ -23,36 +22,33 @@ use Rattle.reader.specs.CountLaws.{lines-law, room-law}
 use Rattle.reader.specs.PlainLaws.{plain-law}
 use Rattle.reader.specs.declared.Reading.the-variants as answer
 use Rattle.reader.specs.Differ.{Word, DifferInPrice}
-use Rattle.reader.specs.PriceChange.{Changed, price-change}
 use Rattle.award_check.specs.Cells.{noRow, cellsOf, hasOf, pricesOf}
 use Rattle.award_check.specs.Alike.{named, Alike}
 use Rattle.award_plain.specs.Award.{won, awarded, awardOf, outcomeNumber}
 use Rattle.award_plain.specs.AwardLaws.{award-lent}
 use Rattle.award.specs.Gain.{rowFor, gain, AtMost}
+use Rattle.award.specs.Promise.{lentAfter, Promise}
+use Rattle.award.specs.RowsPromise.{rows-promise}
 use Rattle.award.specs.Right.{Bidders, IsAward, OneAnswer, LeastCover, WinnerAt, PaidByEight}
 use Rattle.award.specs.OneAnswerLaws as one
 use Rattle.award.specs.OutcomeLaws as outcome
 use Rattle.listing.specs.Lines.{decimal, pairLine, refusedWord}
 use Rattle.listing.specs.ListLaws as list
 use Rattle.theorems.specs.Calls.{ReadRun, ReadCall, AwardCall, toldBy, SettleCall, toldPlain, ListCall, shown}
-use Rattle.theorems.specs.Between.{CallableWith, FewerThan, ReadIn, priceAt, Follows, SameAward, NoGainBetween, Showable, ListGiven}
-use Rattle.theorems.specs.Between.{NoGainShown, AsRows}
 use Rattle.theorems.specs.OneReading.{OneReading, SameReading}
-use Rattle.theorems.specs.ReadingLaws as reading
 use Rattle.theorems.specs.TextOf.{textOf}
-use Rattle.theorems.specs.TextOfLaws.{spelt-again}
-use Rattle.theorems.specs.TextGain as text
-use Rattle.theorems.specs.CoverLaws as cover
-use Rattle.theorems.specs.Numerals.{decimal-back}
 use Rattle.theorems.specs.ListRead.{rowShown}
-use Rattle.theorems.specs.ListShows.{ReadsBack, numbers-back}
-use Rattle.theorems.specs.ListNumbers.{shows-no-other}
+use Rattle.theorems.specs.Between.{CallableWith, FewerThan, priceAt, WasRead, Variant, Follows, SameAward, NoGainBetween, OneList}
+use Rattle.theorems.specs.Between.{ListGiven, NoGainShown, Showable}
+use Rattle.theorems.specs.ReadingLaws as reading
+use Rattle.theorems.specs.Numerals.{decimal-back}
+use Rattle.theorems.specs.TextOfLaws.{spelt-again}
+use Rattle.theorems.specs.ReadAgain.{read-again}
+use Rattle.theorems.specs.Varied.{varied}
+use Rattle.theorems.specs.TextGain.{no-gain-read}
+use Rattle.theorems.specs.CoverLaws as cover
+use Rattle.theorems.specs.ListNumbers.{one-list, shows-no-other}
 use Rattle.theorems.specs.ListGain.{list-shows, no-gain-shown}
-use Rattle.theorems.specs.SettleRows.{as-rows}
-use Rattle.theorems.specs.Varied.{Variant, varied}
-use Rattle.theorems.specs.WorkedCases.{third, cases}
-use Rattle.theorems.specs.Worked.{AllListed, inRounds, setCovers, setCost}
-use Rattle.theorems.specs.Worked as worked
 
 -- Demand 1. Every text and every table gets one complete award or one refusal, by number and place. No bid is dropped or shortened,
 -- and a refusal changes nothing that was lent.
@@ -79,11 +75,17 @@ same-tables-same-answer c c′ s t n b w =
     c .promise .answers ∙ rw (s .kinds, t, n, b, w) (award-lent (c′ .kind) (c′ .tender) (c′ .count) (c′ .bids) (c′ .windows)
     (length (c .rows-before)) (length (c′ .rows-before)) (rw n at (s .room))) ∙ sym (c′ .promise .answers)
 
--- A call of `settle` is one of the award of its kind, so that what follows holds of it too.
-pub settle-as-award : (s : SettleCall) → AsRows s
-settle-as-award = as-rows
+-- A call of `settle`, its lists read as award rows, is one of the award of its kind, so that what follows holds of it too.
+pub settle-as-award : (s : SettleCall) (old : List AwardRow) → length old ≡ min (length (s .won-before)) (length (s .cents-before))
+    → Promise (s .kind) (s .tender) (s .count) (s .bids) (s .windows) old (lentAfter old (toldPlain s)) (s .answer)
+settle-as-award s old e = rows-promise (s .kind) (s .tender) (s .count) (s .bids) (s .windows) old (s .won-before) (s .cents-before)
+    (s .won-after) (s .cents-after) (s .answer) (rw e (s .promise))
 
--- A text gives one list, whatever the buffer.
+-- A text gives one list, or 13.
+pub one-answer-of-the-list : (l : ListCall) → OneList l
+one-answer-of-the-list = one-list
+
+-- It is the same list, whatever the buffer.
 pub same-text-same-list : (l l′ : ListCall) → l .text ≡ l′ .text → 0 < l .answer → 0 < l′ .answer → shown l ≡ shown l′
 same-text-same-list l l′ e a a′ = list.same-list {old′ = l′ .buffer} (l .promise) (rw e (l′ .promise)) a a′
 
@@ -91,13 +93,12 @@ same-text-same-list l l′ e a a′ = list.same-list {old′ = l′ .buffer} (l 
 pub list-fits : (l : ListCall) → 51200 ≤ length (l .buffer) → 0 < l .answer
 list-fits l h = list.suffices (l .promise) h .0
 
--- No bid is dropped or shortened: an accepted text is spelt again from what was read, and that is what the tables hold.
-pub nothing-dropped : (text : List ℕ) (T : Tender) (R : List Row) (W : List Window) → readText text ≡ accepted T R W → text ≡ textOf T R W
-nothing-dropped = spelt-again
+-- No bid is dropped or shortened: an accepted text is spelt again from what was read, and the tables hold just that.
+pub nothing-dropped : (r : ReadCall) (t : Tender) (n m : ℕ) → r .run .answer ≡ answer.Accepted t n m → WasRead (r .run) t
+nothing-dropped = read-again
 
-pub what-was-read : (r : ReadCall) (t : Tender) (n m : ℕ) → r .run .answer ≡ answer.Accepted t n m
-    → ReadIn (r .run .text) (r .run .bids-after) (r .run .windows-after) t n
-what-was-read = text.accepted-read
+pub one-spelling : (text : List ℕ) (T : Tender) (R : List Row) (W : List Window) → readText text ≡ accepted T R W → text ≡ textOf T R W
+one-spelling = spelt-again
 
 -- There is a row for each line after the first, and each byte is a digit, a space, a bracket, a newline or a letter.
 pub row-for-each-line : (text : List ℕ) (T : Tender) (R : List Row) (W : List Window) → readText text ≡ accepted T R W
@@ -136,21 +137,21 @@ module _ (c : AwardCall) where
 
   -- Else it is refused for cover: exactly where some minute has fewer than two bidders, with 11 exactly where some minute has none.
   pub refused-for-cover : CallableWith c → (outcomeNumber (toldBy c) ≡ 11) ⊎ (outcomeNumber (toldBy c) ≡ 12) → FewerThan 2 c
-  refused-for-cover = cover.refused-for-cover c
+  refused-for-cover = cover.thin-if-refused c
 
   pub uncovered-refused : CallableWith c → FewerThan 2 c → (outcomeNumber (toldBy c) ≡ 11) ⊎ (outcomeNumber (toldBy c) ≡ 12)
-  uncovered-refused = cover.uncovered-refused c
+  uncovered-refused = cover.refused-if-thin c
 
   pub eleven : CallableWith c → outcomeNumber (toldBy c) ≡ 11 → FewerThan 1 c
-  eleven = cover.eleven c
+  eleven = cover.bare-if-eleven c
 
   pub nobody-eleven : CallableWith c → FewerThan 1 c → outcomeNumber (toldBy c) ≡ 11
-  nobody-eleven = cover.nobody-eleven c
+  nobody-eleven = cover.eleven-if-bare c
 
 module _ (c : AwardCall) (rows : List AwardRow) (cost paid : ℕ) (told : toldBy c ≡ awarded rows cost paid) where
   -- The winners cover: each minute of the tender, cell x, is in a winner's windows.
-  pub winners-cover : (x : ℕ) → x < cellsOf (c .tender) → WinnerAt (c .tender) (c .count) (c .bids) (c .windows) (awarded rows cost paid) x
-  winners-cover = outcome.all-served (c .kind) (c .tender) (c .count) (c .bids) (c .windows) (length (c .rows-before)) rows cost paid
+  pub winners-cover-all : (x : ℕ) → x < cellsOf (c .tender) → WinnerAt (c .tender) (c .count) (c .bids) (c .windows) (awarded rows cost paid) x
+  winners-cover-all = outcome.all-served (c .kind) (c .tender) (c .count) (c .bids) (c .windows) (length (c .rows-before)) rows cost paid
       (rw told at (c .promise .answers))
 
   -- In a single tender no covering set costs less, and ties fall as paper 01 says.
@@ -159,16 +160,16 @@ module _ (c : AwardCall) (rows : List AwardRow) (cost paid : ℕ) (told : toldBy
       (rw (told, k) at (c .promise .answers))
 
   -- A winner of a single tender is paid by document 000's formula 8.
-  pub paid-by-eight : (i : ℕ) → c .kind ≡ Single → i < c .count → rowFor (awarded rows cost paid) i .won ≡ true →
+  pub paid-by-formula-8 : (i : ℕ) → c .kind ≡ Single → i < c .count → rowFor (awarded rows cost paid) i .won ≡ true →
       PaidByEight (c .tender) (c .count) i (c .bids) (c .windows) (rowFor (awarded rows cost paid) i .cents) cost
-  paid-by-eight i k l = outcome.paid-by-eight (c .tender) (c .count) i (c .bids) (c .windows) (length (c .rows-before)) rows cost paid l
+  paid-by-formula-8 i k l = outcome.paid-by-eight (c .tender) (c .count) i (c .bids) (c .windows) (length (c .rows-before)) rows cost paid l
       (rw (told, k) at (c .promise .answers))
 
   -- A winner of a multi tender is paid the largest whole price with which it would still win if all else stood.
-  pub largest-price : (i : ℕ) → c .kind ≡ Multi → i < c .count → rowFor (awarded rows cost paid) i .won ≡ true → (q : ℕ) →
+  pub paid-the-largest-price : (i : ℕ) → c .kind ≡ Multi → i < c .count → rowFor (awarded rows cost paid) i .won ≡ true → (q : ℕ) →
       won Multi (hasOf (c .tender) (rowsOf (c .count) (c .bids)) (c .windows)) (set (pricesOf (rowsOf (c .count) (c .bids))) i q)
       (cellsOf (c .tender)) i ≡ leb q (rowFor (awarded rows cost paid) i .cents)
-  largest-price i k l = outcome.largest-price (c .tender) (c .count) i (c .bids) (c .windows) (length (c .rows-before)) rows cost paid l
+  paid-the-largest-price i k l = outcome.largest-price (c .tender) (c .count) i (c .bids) (c .windows) (length (c .rows-before)) rows cost paid l
       (rw (told, k) at (c .promise .answers))
 
 -- Of each bid of an accepted text a list shows the row that the award gave it: its bytes are read back.
@@ -177,19 +178,9 @@ pub a-list-shows-the-award : (l : ListCall) (T : Tender) (R : List Row) (W : Lis
     ≡ rowFor (awardOf (T .kind) T (length R) (flatRows R) (flatWindows W) (length R)) i
 a-list-shows-the-award = list-shows
 
--- Each number of a list's line reads back as that number.
-pub numbers-read-back : (word : List ℕ) (a b : ℕ) → among 32 word ≡ false → a < 10 ^ 20 → b < 10 ^ 20 → ReadsBack word a b
-numbers-read-back = numbers-back
-
--- The starred tenders of paper 01, from text to list; the third takes 21, 24 and 22, and the cheaper cover of 21 and 22 costs 27.
-pub worked-tenders : AllListed cases
-worked-tenders = worked.worked
-
-pub third-rounds : inRounds (readText (third .text)) ≡ 21 ∷ 24 ∷ 22 ∷ []
-third-rounds = worked.third-rounds
-
-pub third-not-least : (setCovers (readText (third .text)) 3 ≡ true) × (setCost (readText (third .text)) 3 ≡ 27)
-third-not-least = (worked.third-cover, worked.third-cost)
+-- Each number that it writes reads back as that number.
+pub number-reads-back : (n : ℕ) → n < 10 ^ 20 → digits 0 (decimal n) ≡ some n
+number-reads-back = decimal-back
 
 -- Demand 3. No owner can gain by naming a false price, and no winner is paid less than the price named.
 
@@ -197,7 +188,7 @@ third-not-least = (worked.third-cover, worked.third-cost)
 -- cost, the other gains no more.
 pub no-gain : (r r′ : ReadCall) (c c′ : AwardCall) (bidder p q : List ℕ) → DifferInPrice (r .run .text) (r′ .run .text) bidder p q
     → Follows r c → Follows r′ c′ → SameAward c c′ → NoGainBetween c c′ bidder p q
-no-gain = text.no-gain
+no-gain = no-gain-read
 
 -- The same of the lists that `tender_list` writes, by their bytes.
 pub no-gain-in-lists : (l l′ : ListCall) (bidder p q : List ℕ) → DifferInPrice (l .text) (l′ .text) bidder p q → ListGiven l → ListGiven l′
@@ -215,18 +206,13 @@ no-gain-on-tables c c′ i t n s h h′ l a =
     (length (c′ .rows-before)) (toldBy c) (toldBy c′) l a (rw (← n) at (s .room)) (c .promise .answers)
     (rw (s .kinds, t, n) (c′ .promise .answers)) h h′
 
--- Every bid of an accepted text can be varied so: in q, whatever word it is; and where q is a price within the limits and the text no
--- longer than allowed, the other text is accepted.
+-- Every bid of an accepted text can be varied so, and the other text is accepted where the price is within the limits.
 pub can-be-varied : (text : List ℕ) (T : Tender) (R : List Row) (W : List Window) → readText text ≡ accepted T R W → (i : ℕ) → i < length R
-    → (q : List ℕ) → Word q → Variant text R i q
+    → (q : List ℕ) → Word q → Variant text T R W i q
 can-be-varied = varied
 
-pub varied-accepted : (t u bidder p q : List ℕ) (v : ℕ) (T : Tender) (R : List Row) (W : List Window) → DifferInPrice t u bidder p q
-    → readText t ≡ accepted T R W → priceOf q ≡ some v → v ≤ 100000000 → length u ≤ 65536 → Changed T R W u bidder p q
-varied-accepted = price-change
-
 -- No winner is paid less than the price named.
-pub no-loss : (c : AwardCall) (i : ℕ) → i < c .count → rowFor (toldBy c) i .won ≡ true → priceAt c i ≤ rowFor (toldBy c) i .cents
+pub never-paid-less : (c : AwardCall) (i : ℕ) → i < c .count → rowFor (toldBy c) i .won ≡ true → priceAt c i ≤ rowFor (toldBy c) i .cents
 unfolding named
-no-loss c i l = outcome.no-loss (c .kind) (c .tender) (c .count) i (c .bids) (c .windows) (length (c .rows-before)) (toldBy c) l
+never-paid-less c i l = outcome.no-loss (c .kind) (c .tender) (c .count) i (c .bids) (c .windows) (length (c .rows-before)) (toldBy c) l
     (c .promise .answers)

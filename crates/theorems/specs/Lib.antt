@@ -7,10 +7,10 @@ pub mod WorkedCases
 pub mod ReadingLaws
 pub mod Numerals
 pub mod TextOfLaws
+pub mod ReadAgain
 pub mod Varied
 pub mod TextGain
 pub mod CoverLaws
-pub mod SettleRows
 pub mod PaidLaws
 pub mod ListShows
 pub mod ListNumbers

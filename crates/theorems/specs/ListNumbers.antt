@@ -1,19 +1,20 @@
--- The refusals that a list shows have the numbers 1 to 7, 11 and 12 alone. Assumes nothing.
+-- A text gives one list or 13, and the refusals that a list shows have the numbers 1 to 7, 11 and 12 alone. Assumes nothing.
 use mathlib.Core.Path.{_≡_, refl, sym, ap, _∙_}
 use mathlib.Core.Logic.{_⊎_, inl, inr}
-use mathlib.Core.Bool.{Bool, false}
-use mathlib.Core.List.{List, [], _∷_, append-nil}
+use mathlib.Core.Bool.{Bool, true, false, cond}
+use mathlib.Core.List.{List, [], _∷_, _++_, append-nil}
 use mathlib.Core.Option.{none, some}
 use Prim.Native.Nat.{ℕ, _^_, _≤_, _<_}
 use native.Mathlib.Omega.{arith}
-use lib.ListN.{length, getD}
-use borrow.Author.Tests.{le-ltb}
+use lib.ListN.{length, getD, drop}
+use lib.Dec.{leb}
+use borrow.Author.Tests.{leb-true, leb-false, le-ltb}
 use Rattle.tender.specs.declared.Window.{Window}
 use Rattle.tender.specs.declared.Tender.{Tender}
 use Rattle.tender.specs.declared.AwardRow.{AwardRow}
 use Rattle.tender.specs.Keywords.{bytes}
 use Rattle.tender.specs.Tables.{Row, rowsOf, flatRows, flatWindows}
-use Rattle.cover.specs.Sets.{Found, nothing, found}
+use Rattle.cover.specs.Sets.{when, Found, nothing, found}
 use Rattle.cover.specs.Earliest.{cellWith}
 use Rattle.reader_line.specs.Words.{among, digits}
 use Rattle.reader.specs.Read.{readText}
@@ -31,7 +32,18 @@ use Rattle.listing.specs.ListLaws.{listed-is}
 use Rattle.theorems.specs.ReadingLaws.{refusal-number}
 use Rattle.theorems.specs.ListShows.{first-number}
 use Rattle.theorems.specs.Calls.{ListCall, shown}
-use Rattle.theorems.specs.Between.{Showable}
+use Rattle.theorems.specs.Between.{Showable, OneList, list-written, list-too-long}
+
+pub one-list : (l : ListCall) → OneList l
+one-list l = go (leb (length list) (length (l .buffer))) refl (l .promise .answer) (l .promise .bytes)
+  where
+    list : List ℕ
+    list = listOf (readText (l .text))
+
+    go : (t : Bool) → leb (length list) (length (l .buffer)) ≡ t → l .answer ≡ when t (length list)
+        → l .buffer-after ≡ cond t (list ++ drop (length list) (l .buffer)) (l .buffer) → OneList l
+    go true e a b = list-written (leb-true (length list) (length (l .buffer)) e) a b
+    go false e a b = list-too-long (leb-false (length list) (length (l .buffer)) e) a b
 
 plain-refused : among 32 refusedWord ≡ false
 unfolding among refusedWord bytes

@@ -31,25 +31,25 @@ abbrev pub linesIn : List ℕ → List (Option Line)
 linesIn text = orBroken (linesOf (cut 10 text))
 
 -- what stands before a line: nothing, or the tender's line and those of bids
-pub data Before : Type 0 where
-  at-start : Before
-  after : Tender → List BidLine → Before
+pub data Above : Type 0 where
+  at-start : Above
+  after : Tender → List BidLine → Above
 
-abbrev pub linesBefore : Before → List (Option Line)
-linesBefore at-start = []
-linesBefore (after t bs) = some (tender t) ∷ map (λ b. some (bid b)) bs
+abbrev pub linesAbove : Above → List (Option Line)
+linesAbove at-start = []
+linesAbove (after t bs) = some (tender t) ∷ map (λ b. some (bid b)) bs
 
 -- the faults of a line
-pub data Fault : Type 0 where
-  of-form : Fault
-  of-count : Fault
-  of-limits : Fault
-  of-kind : Fault
-  of-window : Fault
-  of-bidder : Fault
+pub data LineFault : Type 0 where
+  of-form : LineFault
+  of-count : LineFault
+  of-limits : LineFault
+  of-kind : LineFault
+  of-window : LineFault
+  of-bidder : LineFault
 
 -- the order in which they are looked for: 2, 4, 3, 7, 5, 6
-abbrev pub pageOrder : List Fault
+abbrev pub pageOrder : List LineFault
 pageOrder = of-form ∷ of-count ∷ of-limits ∷ of-kind ∷ of-window ∷ of-bidder ∷ []
 
 -- start not below end, or end above 10,080
@@ -66,7 +66,7 @@ UsedIn n [] = ⊥
 UsedIn n (b ∷ bs) = (b .bidder ≡ n) ⊎ UsedIn n bs
 
 -- the fault stands on a bid's line, after the tender's and those of the bids `done`
-abbrev pub OnBid : Fault → Tender → List BidLine → BidLine → Type 0
+abbrev pub OnBid : LineFault → Tender → List BidLine → BidLine → Type 0
 OnBid of-form t done b = ⊥
 OnBid of-count t done b = (maxBids ≤ length done) ⊎ (maxWindows < length (b .windows))
 OnBid of-limits t done b = ((b .bidder < 1) ⊎ (maxBidder < b .bidder)) ⊎ (maxPrice < b .price)
@@ -75,7 +75,7 @@ OnBid of-window t done b = SomeUnlawful (b .windows)
 OnBid of-bidder t done b = UsedIn (b .bidder) done
 
 -- on any line: the first has to be a tender's, the others a bid's
-abbrev pub OnLine : Fault → Before → Option Line → Type 0
+abbrev pub OnLine : LineFault → Above → Option Line → Type 0
 OnLine f at-start none = f ≡ of-form
 OnLine f at-start (some (tender t)) = (f ≡ of-window) × Unlawful (t .window)
 OnLine f at-start (some (bid b)) = f ≡ of-form
@@ -84,52 +84,52 @@ OnLine f (after t done) (some (tender u)) = f ≡ of-form
 OnLine f (after t done) (some (bid b)) = OnBid f t done b
 
 -- it is the first of these faults to stand there
-abbrev pub FirstOf : List Fault → Fault → Before → Option Line → Type 0
-FirstOf [] f d x = ⊥
-FirstOf (g ∷ gs) f d x = ((f ≡ g) × OnLine g d x) ⊎ ((OnLine g d x → ⊥) × FirstOf gs f d x)
+abbrev pub FirstAmong : List LineFault → LineFault → Above → Option Line → Type 0
+FirstAmong [] f d x = ⊥
+FirstAmong (g ∷ gs) f d x = ((f ≡ g) × OnLine g d x) ⊎ ((OnLine g d x → ⊥) × FirstAmong gs f d x)
 
 -- no fault stands there
-abbrev pub Faultless : Before → Option Line → Type 0
-Faultless d x = (f : Fault) → OnLine f d x → ⊥
+abbrev pub NoFault : Above → Option Line → Type 0
+NoFault d x = (f : LineFault) → OnLine f d x → ⊥
 
 -- no fault stands on the lines of these bids, which follow the bids `done`
-abbrev pub FaultlessBids : Tender → List BidLine → List BidLine → Type 0
-FaultlessBids t done [] = Unit {0}
-FaultlessBids t done (b ∷ bs) = Faultless (after t done) (some (bid b)) × FaultlessBids t (done ++ b ∷ []) bs
+abbrev pub SoundBids : Tender → List BidLine → List BidLine → Type 0
+SoundBids t done [] = Unit {0}
+SoundBids t done (b ∷ bs) = NoFault (after t done) (some (bid b)) × SoundBids t (done ++ b ∷ []) bs
 
 -- nor on any of these lines
-abbrev pub FaultlessLines : Before → Type 0
-FaultlessLines at-start = Unit {0}
-FaultlessLines (after t bs) = Faultless at-start (some (tender t)) × FaultlessBids t [] bs
+abbrev pub SoundLines : Above → Type 0
+SoundLines at-start = Unit {0}
+SoundLines (after t bs) = NoFault at-start (some (tender t)) × SoundBids t [] bs
 
 -- a line of a text that is not too long, after faultless lines
 pub record LineOf (text : List ℕ) : Type 0 where
-  pub before : Before
+  pub above : Above
   pub line : Option Line
   pub rest : List (Option Line)
   pub short : length text ≤ maxText
-  pub lines : linesIn text ≡ linesBefore before ++ line ∷ rest
-  pub faultless : FaultlessLines before
+  pub lines : linesIn text ≡ linesAbove above ++ line ∷ rest
+  pub sound : SoundLines above
 
 -- lines are counted from 1
 abbrev pub placeIn : {text : List ℕ} → LineOf text → ℕ
-placeIn l = length (linesBefore (l .before)) + 1
+placeIn l = length (linesAbove (l .above)) + 1
 
 -- the line's first fault in the page's order
-abbrev pub FirstOn : {text : List ℕ} → Fault → LineOf text → Type 0
-FirstOn f l = FirstOf pageOrder f (l .before) (l .line)
+abbrev pub FirstOn : {text : List ℕ} → LineFault → LineOf text → Type 0
+FirstOn f l = FirstAmong pageOrder f (l .above) (l .line)
 
 -- a text that is not too long and whose lines are faultless: the tender's, and those of bids with these rows and windows
 pub record Readable (text : List ℕ) (t : Tender) (R : List Row) (W : List Window) : Type 0 where
   pub bids : List BidLine
   pub short : length text ≤ maxText
-  pub lines : linesIn text ≡ linesBefore (after t bids)
-  pub faultless : FaultlessLines (after t bids)
+  pub lines : linesIn text ≡ linesAbove (after t bids)
+  pub sound : SoundLines (after t bids)
   pub rows : R ≡ rowsFrom 0 bids
   pub windows : W ≡ allWindows bids
 
 -- a refusal leaves both tables as they were
-pub record Refuses (x : Refusal) (r : ReadRun) : Type 0 where
+pub record Declines (x : Refusal) (r : ReadRun) : Type 0 where
   pub answer : toldReading (r .answer) ≡ declined (numberOf x) (placeOf x)
   pub bids-stay : r .bids-after ≡ r .bids
   pub windows-stay : r .windows-after ≡ r .windows
@@ -142,15 +142,15 @@ pub record Fills (t : Tender) (R : List Row) (W : List Window) (r : ReadRun) : T
 
 -- one reading: 1; of the first line with a fault its first fault in the page's order; 8; or the tables
 pub data OneReading (r : ReadRun) : Type 0 where
-  text-too-long : maxText < length (r .text) → Refuses TextTooLong r → OneReading r
-  bad-form : (l : LineOf (r .text)) → FirstOn of-form l → Refuses (BadForm (placeIn l)) r → OneReading r
-  too-many : (l : LineOf (r .text)) → FirstOn of-count l → Refuses (TooMany (placeIn l)) r → OneReading r
-  outside-limits : (l : LineOf (r .text)) → FirstOn of-limits l → Refuses (OutsideLimits (placeIn l)) r → OneReading r
-  several-windows : (l : LineOf (r .text)) → FirstOn of-kind l → Refuses (SeveralWindows (placeIn l)) r → OneReading r
-  bad-window : (l : LineOf (r .text)) → FirstOn of-window l → Refuses (BadWindow (placeIn l)) r → OneReading r
-  bidder-repeated : (l : LineOf (r .text)) → FirstOn of-bidder l → Refuses (BidderRepeated (placeIn l)) r → OneReading r
+  text-too-long : maxText < length (r .text) → Declines TextTooLong r → OneReading r
+  bad-form : (l : LineOf (r .text)) → FirstOn of-form l → Declines (BadForm (placeIn l)) r → OneReading r
+  too-many : (l : LineOf (r .text)) → FirstOn of-count l → Declines (TooMany (placeIn l)) r → OneReading r
+  outside-limits : (l : LineOf (r .text)) → FirstOn of-limits l → Declines (OutsideLimits (placeIn l)) r → OneReading r
+  several-windows : (l : LineOf (r .text)) → FirstOn of-kind l → Declines (SeveralWindows (placeIn l)) r → OneReading r
+  bad-window : (l : LineOf (r .text)) → FirstOn of-window l → Declines (BadWindow (placeIn l)) r → OneReading r
+  bidder-repeated : (l : LineOf (r .text)) → FirstOn of-bidder l → Declines (BidderRepeated (placeIn l)) r → OneReading r
   table-too-short : (t : Tender) (R : List Row) (W : List Window) → Readable (r .text) t R W
-      → (length (r .bids) / 4 < length R) ⊎ (length (r .windows) / 2 < length W) → Refuses TableTooShort r → OneReading r
+      → (length (r .bids) / 4 < length R) ⊎ (length (r .windows) / 2 < length W) → Declines TableTooShort r → OneReading r
   tables-filled : (t : Tender) (R : List Row) (W : List Window) → Readable (r .text) t R W
       → (length R ≤ length (r .bids) / 4) × (length W ≤ length (r .windows) / 2) → Fills t R W r → OneReading r
 

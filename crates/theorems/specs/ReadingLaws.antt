@@ -26,19 +26,19 @@ use Rattle.reader.specs.Read.{ReadOutcome, accepted, refused, declinedBy, rowsF
 use Rattle.reader.specs.Read.{checked, tables, readLines, readText, fitted, readInto}
 use Rattle.reader.specs.Answer.{summary, toldReading, bidsAfter, windowsAfter}
 use Rattle.theorems.specs.Calls.{ReadRun, ReadKept}
-use Rattle.theorems.specs.OneReading.{orBroken, linesIn, Before, at-start, after, linesBefore, Fault, of-form, of-count, of-limits}
+use Rattle.theorems.specs.OneReading.{orBroken, linesIn, Above, at-start, after, linesAbove, LineFault, of-form, of-count, of-limits}
 use Rattle.theorems.specs.OneReading.{of-kind, of-window, of-bidder, pageOrder, Unlawful, SomeUnlawful, UsedIn, OnBid, OnLine}
-use Rattle.theorems.specs.OneReading.{FirstOf, Faultless, FaultlessBids, FaultlessLines, LineOf, placeIn, FirstOn, Readable}
-use Rattle.theorems.specs.OneReading.{Refuses, Fills, OneReading, text-too-long, bad-form, too-many, outside-limits}
+use Rattle.theorems.specs.OneReading.{FirstAmong, NoFault, SoundBids, SoundLines, LineOf, placeIn, FirstOn, Readable}
+use Rattle.theorems.specs.OneReading.{Declines, Fills, OneReading, text-too-long, bad-form, too-many, outside-limits}
 use Rattle.theorems.specs.OneReading.{several-windows, bad-window, bidder-repeated, table-too-short, tables-filled, SameReading}
 
 -- a test says whether a fact holds
 
-abbrev Says : Bool → Type 0 → Type 0
-Says true P = P
-Says false P = P → ⊥
+abbrev Decides : Bool → Type 0 → Type 0
+Decides true P = P
+Decides false P = P → ⊥
 
-says-or : (P Q : Type 0) (a b : Bool) → Says a P → Says b Q → Says (a || b) (P ⊎ Q)
+says-or : (P Q : Type 0) (a b : Bool) → Decides a P → Decides b Q → Decides (a || b) (P ⊎ Q)
 says-or P Q true b s u = inl s
 says-or P Q false true s u = inr u
 says-or P Q false false s u = go
@@ -47,35 +47,35 @@ says-or P Q false false s u = go
     go (inl p) = s p
     go (inr q) = u q
 
-says-and : (P Q : Type 0) (a b : Bool) → Says a P → Says b Q → Says (a && b) (P × Q)
+says-and : (P Q : Type 0) (a b : Bool) → Decides a P → Decides b Q → Decides (a && b) (P × Q)
 says-and P Q true true s u = (s, u)
 says-and P Q true false s u = λ h. u (h .1)
 says-and P Q false b s u = λ h. s (h .0)
 
-says-ltb : (a b : ℕ) → Says (ltb a b) (a < b)
+says-ltb : (a b : ℕ) → Decides (ltb a b) (a < b)
 says-ltb a b = go (ltb a b) refl
   where
-    go : (t : Bool) → ltb a b ≡ t → Says t (a < b)
+    go : (t : Bool) → ltb a b ≡ t → Decides t (a < b)
     go true e = ltb-true a b e
     go false e = λ h. omega (arith, ltb-false a b e)
 
-says-leb : (a b : ℕ) → Says (leb a b) (a ≤ b)
+says-leb : (a b : ℕ) → Decides (leb a b) (a ≤ b)
 says-leb a b = go (leb a b) refl
   where
-    go : (t : Bool) → leb a b ≡ t → Says t (a ≤ b)
+    go : (t : Bool) → leb a b ≡ t → Decides t (a ≤ b)
     go true e = leb-true a b e
     go false e = λ h. omega (arith, leb-false a b e)
 
-says-eqb : (a b : ℕ) → Says (eqb a b) (a ≡ b)
+says-eqb : (a b : ℕ) → Decides (eqb a b) (a ≡ b)
 says-eqb a b = go (eqb a b) refl
   where
-    go : (t : Bool) → eqb a b ≡ t → Says t (a ≡ b)
+    go : (t : Bool) → eqb a b ≡ t → Decides t (a ≡ b)
     go true e = eqb-true a b e
     go false e = eqb-false a b e
 
 -- each test of a bid says whether its fault stands
 
-outside : (a z n : ℕ) → Says (not (within a z n)) ((n < a) ⊎ (z < n))
+outside : (a z n : ℕ) → Decides (not (within a z n)) ((n < a) ⊎ (z < n))
 unfolding within
 outside a z n = go (leb a n) (leb n z) refl refl
   where
@@ -83,12 +83,12 @@ outside a z n = go (leb a n) (leb n z) refl refl
     neither s u (inl l) = omega arith
     neither s u (inr l) = omega arith
 
-    go : (s t : Bool) → leb a n ≡ s → leb n z ≡ t → Says (not (s && t)) ((n < a) ⊎ (z < n))
+    go : (s t : Bool) → leb a n ≡ s → leb n z ≡ t → Decides (not (s && t)) ((n < a) ⊎ (z < n))
     go false t s u = inl (leb-false a n s)
     go true false s u = inr (leb-false n z u)
     go true true s u = neither (leb-true a n s) (leb-true n z u)
 
-unlawful : (w : Window) → Says (not (lawful w)) (Unlawful w)
+unlawful : (w : Window) → Decides (not (lawful w)) (Unlawful w)
 unfolding lawful
 unlawful w = go (ltb (w .start) (w .end)) (leb (w .end) 10080) refl refl
   where
@@ -96,34 +96,34 @@ unlawful w = go (ltb (w .start) (w .end)) (leb (w .end) 10080) refl refl
     neither s u (inl l) = omega arith
     neither s u (inr l) = omega arith
 
-    go : (s t : Bool) → ltb (w .start) (w .end) ≡ s → leb (w .end) 10080 ≡ t → Says (not (s && t)) (Unlawful w)
+    go : (s t : Bool) → ltb (w .start) (w .end) ≡ s → leb (w .end) 10080 ≡ t → Decides (not (s && t)) (Unlawful w)
     go false t s u = inl (ltb-false (w .start) (w .end) s)
     go true false s u = inr (leb-false (w .end) 10080 u)
     go true true s u = neither (ltb-true (w .start) (w .end) s) (leb-true (w .end) 10080 u)
 
-some-unlawful : (ws : List Window) → Says (not (allLawful ws)) (SomeUnlawful ws)
+some-unlawful : (ws : List Window) → Decides (not (allLawful ws)) (SomeUnlawful ws)
 unfolding allLawful
 some-unlawful [] = λ h. h
 some-unlawful (w ∷ ws) = go (lawful w) (allLawful ws) (unlawful w) (some-unlawful ws)
   where
-    go : (a b : Bool) → Says (not a) (Unlawful w) → Says (not b) (SomeUnlawful ws) → Says (not (a && b)) (Unlawful w ⊎ SomeUnlawful ws)
+    go : (a b : Bool) → Decides (not a) (Unlawful w) → Decides (not b) (SomeUnlawful ws) → Decides (not (a && b)) (Unlawful w ⊎ SomeUnlawful ws)
     go false b s u = inl s
     go true false s u = inr u
     go true true s u = says-or (Unlawful w) (SomeUnlawful ws) false false s u
 
-single : (k : Kind) → Says (isSingle k) (k ≡ Single)
+single : (k : Kind) → Decides (isSingle k) (k ≡ Single)
 unfolding isSingle
 single Single = refl
 single Multi = λ e. let z : _≡_ {A = ℕ} 0 1 = cc in absurd (omega arith)
 
-used : (n : ℕ) (bs : List BidLine) → Says (among n (map (λ b. b .bidder) bs)) (UsedIn n bs)
+used : (n : ℕ) (bs : List BidLine) → Decides (among n (map (λ b. b .bidder) bs)) (UsedIn n bs)
 unfolding among
 used n [] = λ h. h
 used n (b ∷ bs) = says-or (b .bidder ≡ n) (UsedIn n bs) (eqb (b .bidder) n) (among n (map (λ b. b .bidder) bs)) (says-eqb (b .bidder) n)
     (used n bs)
 
 -- the refusal that a fault brings, on its line
-abbrev pub refusalOf : Fault → ℕ → Refusal
+abbrev pub refusalOf : LineFault → ℕ → Refusal
 refusalOf of-form = BadForm
 refusalOf of-count = TooMany
 refusalOf of-limits = OutsideLimits
@@ -133,12 +133,12 @@ refusalOf of-bidder = BidderRepeated
 
 -- the first fault stands, and there is one first
 
-first-stands : (gs : List Fault) (f : Fault) (d : Before) (x : Option Line) → FirstOf gs f d x → OnLine f d x
+first-stands : (gs : List LineFault) (f : LineFault) (d : Above) (x : Option Line) → FirstAmong gs f d x → OnLine f d x
 first-stands [] f d x h = absurd h
 first-stands (g ∷ gs) f d x (inl (e, s)) = subst (λ h. OnLine h d x) (sym e) s
 first-stands (g ∷ gs) f d x (inr (n, r)) = first-stands gs f d x r
 
-one-first : (gs : List Fault) (f g : Fault) (d : Before) (x : Option Line) → FirstOf gs f d x → FirstOf gs g d x → f ≡ g
+one-first : (gs : List LineFault) (f g : LineFault) (d : Above) (x : Option Line) → FirstAmong gs f d x → FirstAmong gs g d x → f ≡ g
 one-first [] f g d x h k = absurd h
 one-first (y ∷ gs) f g d x (inl (e, s)) (inl (u, v)) = e ∙ sym u
 one-first (y ∷ gs) f g d x (inl (e, s)) (inr (n, r)) = absurd (n s)
@@ -146,9 +146,9 @@ one-first (y ∷ gs) f g d x (inr (n, r)) (inl (u, v)) = absurd (n v)
 one-first (y ∷ gs) f g d x (inr (n, r)) (inr (m, q)) = one-first gs f g d x r q
 
 -- what the tests of a bid say of its line
-data Verdict (d : Before) (x : Option Line) (o : Option (ℕ → Refusal)) : Type 0 where
-  clean : Faultless d x → o ≡ none → Verdict d x o
-  first : (f : Fault) → FirstOf pageOrder f d x → o ≡ some (refusalOf f) → Verdict d x o
+data Verdict (d : Above) (x : Option Line) (o : Option (ℕ → Refusal)) : Type 0 where
+  clean : NoFault d x → o ≡ none → Verdict d x o
+  stopped-by : (f : LineFault) → FirstAmong pageOrder f d x → o ≡ some (refusalOf f) → Verdict d x o
 
 verdict : (t : Tender) (done : List BidLine) (b : BidLine) →
     Verdict (after t done) (some (bid b)) (bidFault (t .kind) (map (λ b. b .bidder) done) b)
@@ -164,19 +164,19 @@ verdict t done b = rw (length-map done (λ b. b .bidder))
     (says-ltb 1 (length (b .windows))))
     (some-unlawful (b .windows)) (used (b .bidder) done))
   where
-    go : (c4 c3 c7 c5 c6 : Bool) → Says c4 (OnBid of-count t done b) → Says c3 (OnBid of-limits t done b)
-        → Says c7 (OnBid of-kind t done b) → Says c5 (OnBid of-window t done b) → Says c6 (OnBid of-bidder t done b) →
+    go : (c4 c3 c7 c5 c6 : Bool) → Decides c4 (OnBid of-count t done b) → Decides c3 (OnBid of-limits t done b)
+        → Decides c7 (OnBid of-kind t done b) → Decides c5 (OnBid of-window t done b) → Decides c6 (OnBid of-bidder t done b) →
         Verdict (after t done) (some (bid b)) (cond c4 (some TooMany) (cond c3 (some OutsideLimits) (cond c7 (some SeveralWindows)
         (cond c5 (some BadWindow) (cond c6 (some BidderRepeated) none)))))
-    go true c3 c7 c5 c6 s4 s3 s7 s5 s6 = first of-count (inr (λ h. h, inl (refl, s4))) refl
-    go false true c7 c5 c6 s4 s3 s7 s5 s6 = first of-limits (inr (λ h. h, inr (s4, inl (refl, s3)))) refl
-    go false false true c5 c6 s4 s3 s7 s5 s6 = first of-kind (inr (λ h. h, inr (s4, inr (s3, inl (refl, s7))))) refl
-    go false false false true c6 s4 s3 s7 s5 s6 = first of-window (inr (λ h. h, inr (s4, inr (s3, inr (s7, inl (refl, s5)))))) refl
+    go true c3 c7 c5 c6 s4 s3 s7 s5 s6 = stopped-by of-count (inr (λ h. h, inl (refl, s4))) refl
+    go false true c7 c5 c6 s4 s3 s7 s5 s6 = stopped-by of-limits (inr (λ h. h, inr (s4, inl (refl, s3)))) refl
+    go false false true c5 c6 s4 s3 s7 s5 s6 = stopped-by of-kind (inr (λ h. h, inr (s4, inr (s3, inl (refl, s7))))) refl
+    go false false false true c6 s4 s3 s7 s5 s6 = stopped-by of-window (inr (λ h. h, inr (s4, inr (s3, inr (s7, inl (refl, s5)))))) refl
     go false false false false true s4 s3 s7 s5 s6 =
-        first of-bidder (inr (λ h. h, inr (s4, inr (s3, inr (s7, inr (s5, inl (refl, s6))))))) refl
+        stopped-by of-bidder (inr (λ h. h, inr (s4, inr (s3, inr (s7, inr (s5, inl (refl, s6))))))) refl
     go false false false false false s4 s3 s7 s5 s6 = clean none-stands refl
       where
-        none-stands : (f : Fault) → OnBid f t done b → ⊥
+        none-stands : (f : LineFault) → OnBid f t done b → ⊥
         none-stands of-form h = h
         none-stands of-count h = s4 h
         none-stands of-limits h = s3 h
@@ -186,9 +186,9 @@ verdict t done b = rw (length-map done (λ b. b .bidder))
 
 -- the lines after the tender's: all are faultless bids, or the first that is not has its first fault
 data Walked (t : Tender) (done : List BidLine) (ls : List (Option Line)) (out o : ReadOutcome) : Type 0 where
-  whole : (bs : List BidLine) → ls ≡ map (λ b. some (bid b)) bs → FaultlessBids t done bs → o ≡ out → Walked t done ls out o
-  stops : (bs : List BidLine) (x : Option Line) (rest : List (Option Line)) (f : Fault) → ls ≡ map (λ b. some (bid b)) bs ++ x ∷ rest
-      → FaultlessBids t done bs → FirstOf pageOrder f (after t (done ++ bs)) x →
+  all-sound : (bs : List BidLine) → ls ≡ map (λ b. some (bid b)) bs → SoundBids t done bs → o ≡ out → Walked t done ls out o
+  stops : (bs : List BidLine) (x : Option Line) (rest : List (Option Line)) (f : LineFault) → ls ≡ map (λ b. some (bid b)) bs ++ x ∷ rest
+      → SoundBids t done bs → FirstAmong pageOrder f (after t (done ++ bs)) x →
       o ≡ declinedBy (refusalOf f (length done + length bs + 2)) → Walked t done ls out o
 
 bidders-after : (done : List BidLine) (b : BidLine) → map (λ b. b .bidder) (done ++ b ∷ []) ≡ map (λ b. b .bidder) done ++ b .bidder ∷ []
@@ -198,7 +198,7 @@ bidders-after (c ∷ done) b = ap (λ l. c .bidder ∷ l) (bidders-after done b)
 walked : (t : Tender) (done : List BidLine) (ls : List (Option Line)) (out : ReadOutcome) (at : ℕ) → at ≡ length done + 2
     → Walked t done ls out (checked (t .kind) at (map (λ b. b .bidder) done) ls out)
 unfolding checked lineJudged
-walked t done [] out at e = whole [] refl tt refl
+walked t done [] out at e = all-sound [] refl tt refl
 walked t done (none ∷ ls) out at e =
     stops [] none ls of-form refl tt (inl (refl, refl)) (ap (λ n. declinedBy (BadForm n)) (omega arith))
 walked t done (some (tender u) ∷ ls) out at e =
@@ -207,9 +207,9 @@ walked t done (some (bid b) ∷ ls) out at e =
     go (bidFault (t .kind) (map (λ b. b .bidder) done) b) (verdict t done b)
     (rw (bidders-after done b) at (walked t (done ++ b ∷ []) ls out (at + 1) (omega (arith, length-append done (b ∷ [])))))
   where
-    more : (o : ReadOutcome) → Faultless (after t done) (some (bid b)) → Walked t (done ++ b ∷ []) ls out o
+    more : (o : ReadOutcome) → NoFault (after t done) (some (bid b)) → Walked t (done ++ b ∷ []) ls out o
         → Walked t done (some (bid b) ∷ ls) out o
-    more o v (whole bs l s q) = whole (b ∷ bs) (ap {B = List (Option Line)} (λ r. some (bid b) ∷ r) l) (v, s) q
+    more o v (all-sound bs l s q) = all-sound (b ∷ bs) (ap {B = List (Option Line)} (λ r. some (bid b) ∷ r) l) (v, s) q
     more o v (stops bs x rest f l s h q) =
         stops (b ∷ bs) x rest f (ap {B = List (Option Line)} (λ r. some (bid b) ∷ r) l) (v, s) (rw (append-assoc done (b ∷ []) bs) at h)
         (q ∙ ap (λ n. declinedBy (refusalOf f n)) (let m = length-append done (b ∷ []) in omega (arith, m)))
@@ -219,13 +219,13 @@ walked t done (some (bid b) ∷ ls) out at e =
         Walked t done (some (bid b) ∷ ls) out
         (lineJudged o at (checked (t .kind) (at + 1) (map (λ b. b .bidder) done ++ b .bidder ∷ []) ls out))
     go o (clean v q) w = rw q (more _ v w)
-    go o (first f h q) w =
+    go o (stopped-by f h q) w =
         rw q (stops [] (some (bid b)) ls f refl tt (rw (append-nil done) h) (ap (λ n. declinedBy (refusalOf f n)) (omega arith)))
 
 -- the whole text
 data TextRead (text : List ℕ) (o : ReadOutcome) : Type 0 where
   long : 65536 < length text → o ≡ declinedBy TextTooLong → TextRead text o
-  faulty : (l : LineOf text) (f : Fault) → FirstOn f l → o ≡ declinedBy (refusalOf f (placeIn l)) → TextRead text o
+  faulty : (l : LineOf text) (f : LineFault) → FirstOn f l → o ≡ declinedBy (refusalOf f (placeIn l)) → TextRead text o
   readable : (t : Tender) (R : List Row) (W : List Window) → Readable text t R W → o ≡ accepted t R W → TextRead text o
 
 bids-of : (bs : List BidLine) → bidsOf (map (λ b. some (bid b)) bs) ≡ bs
@@ -233,23 +233,23 @@ unfolding bidsOf
 bids-of [] = refl
 bids-of (b ∷ bs) = ap {B = List BidLine} (λ l. b ∷ l) (bids-of bs)
 
-tender-free : (t : Tender) (f : Fault) → (numberOf (refusalOf f 0) ≡ 5 → ⊥) → OnLine f at-start (some (tender t)) → ⊥
+tender-free : (t : Tender) (f : LineFault) → (numberOf (refusalOf f 0) ≡ 5 → ⊥) → OnLine f at-start (some (tender t)) → ⊥
 tender-free t f n (e, u) = n (ap (λ g. numberOf (refusalOf g 0)) e)
 
-lawful-tender : (t : Tender) → (Unlawful (t .window) → ⊥) → Faultless at-start (some (tender t))
+lawful-tender : (t : Tender) → (Unlawful (t .window) → ⊥) → NoFault at-start (some (tender t))
 lawful-tender t u f (e, s) = u s
 
 module _ (text : List ℕ) (short : length text ≤ 65536) where
   first-line : (x : Option Line) (ls : List (Option Line)) → linesIn text ≡ x ∷ ls → OnLine of-form at-start x
       → TextRead text (declinedBy (BadForm 1))
-  first-line x ls e f = faulty (record { before = at-start; line = x; rest = ls; short = short; lines = e; faultless = tt }) of-form
+  first-line x ls e f = faulty (record { above = at-start; line = x; rest = ls; short = short; lines = e; sound = tt }) of-form
       (inl (refl, f)) refl
 
-  after-tender : (t : Tender) (ls : List (Option Line)) → linesIn text ≡ some (tender t) ∷ ls → (v : Bool) → Says v (Unlawful (t .window)) →
+  after-tender : (t : Tender) (ls : List (Option Line)) → linesIn text ≡ some (tender t) ∷ ls → (v : Bool) → Decides v (Unlawful (t .window)) →
       TextRead text (cond (not v) (checked (t .kind) 2 [] ls (tables t (bidsOf ls))) (declinedBy (BadWindow 1)))
   unfolding tables
   after-tender t ls e true u =
-      faulty (record { before = at-start; line = some (tender t); rest = ls; short = short; lines = e; faultless = tt }) of-window
+      faulty (record { above = at-start; line = some (tender t); rest = ls; short = short; lines = e; sound = tt }) of-window
       (inr (
         tender-free t of-form (λ z. omega arith),
         inr (
@@ -260,24 +260,24 @@ module _ (text : List ℕ) (short : length text ≤ 65536) where
   after-tender t ls e false u = go (walked t [] ls (tables t (bidsOf ls)) 2 refl)
     where
       go : {o : ReadOutcome} → Walked t [] ls (tables t (bidsOf ls)) o → TextRead text o
-      go (whole bs l s q) = readable t (rowsFrom 0 bs) (allWindows bs)
+      go (all-sound bs l s q) = readable t (rowsFrom 0 bs) (allWindows bs)
           (record {
             bids = bs;
             short = short;
             lines = e ∙ ap {B = List (Option Line)} (λ r. some (tender t) ∷ r) l;
-            faultless = (lawful-tender t u, s);
+            sound = (lawful-tender t u, s);
             rows = refl;
             windows = refl;
           })
           (q ∙ ap (λ ls. tables t (bidsOf ls)) l ∙ ap (tables t) (bids-of bs))
       go (stops bs x rest f l s h q) =
           faulty (record {
-            before = after t bs;
+            above = after t bs;
             line = x;
             rest = rest;
             short = short;
             lines = e ∙ ap {B = List (Option Line)} (λ r. some (tender t) ∷ r) l;
-            faultless = (lawful-tender t u, s);
+            sound = (lawful-tender t u, s);
           }) f h
           (q ∙ ap (λ n. declinedBy (refusalOf f n)) (let m = length-map bs (λ b. some (bid b)) in omega (arith, m)))
 
@@ -288,7 +288,7 @@ module _ (text : List ℕ) (short : length text ≤ 65536) where
   lines-read (some (bid b) ∷ ls) e = first-line (some (bid b)) ls (ap orBroken e) refl
   lines-read (some (tender t) ∷ ls) e = go (lawful (t .window)) (unlawful (t .window))
     where
-      go : (v : Bool) → Says (not v) (Unlawful (t .window))
+      go : (v : Bool) → Decides (not v) (Unlawful (t .window))
           → TextRead text (cond v (checked (t .kind) 2 [] ls (tables t (bidsOf ls))) (declinedBy (BadWindow 1)))
       go true u = after-tender t ls (ap orBroken e) false u
       go false u = after-tender t ls (ap orBroken e) true u
@@ -308,7 +308,7 @@ refusal-number text n at e = go (text-read text)
     from : (m k : ℕ) → readText text ≡ refused m k → (1 ≤ m) × (m ≤ 7) → (1 ≤ n) × (n ≤ 7)
     from m k q b = let h : m ≡ n = cc (e, q) in rw h at b
 
-    number : (f : Fault) (k : ℕ) → (1 ≤ numberOf (refusalOf f k)) × (numberOf (refusalOf f k) ≤ 7)
+    number : (f : LineFault) (k : ℕ) → (1 ≤ numberOf (refusalOf f k)) × (numberOf (refusalOf f k) ≤ 7)
     number of-form k = (omega arith, omega arith)
     number of-count k = (omega arith, omega arith)
     number of-limits k = (omega arith, omega arith)
@@ -327,7 +327,7 @@ module _ (r : ReadRun) where
   Leaves o = (toldReading (r .answer) ≡ summary o) × ((r .bids-after ≡ bidsAfter (r .bids) o)
       × (r .windows-after ≡ windowsAfter (r .windows) o))
 
-  refuses : (x : Refusal) (o : ReadOutcome) → o ≡ declinedBy x → Leaves o → Refuses x r
+  refuses : (x : Refusal) (o : ReadOutcome) → o ≡ declinedBy x → Leaves o → Declines x r
   unfolding bidsAfter windowsAfter
   refuses x o e (a, (b, c)) = record {
     answer = a ∙ ap summary e;
@@ -343,7 +343,7 @@ module _ (r : ReadRun) where
     windows-are = c ∙ ap (windowsAfter (r .windows)) e;
   }
 
-  by-fault : (l : LineOf (r .text)) (f : Fault) → FirstOn f l → Refuses (refusalOf f (placeIn l)) r → OneReading r
+  by-fault : (l : LineOf (r .text)) (f : LineFault) → FirstOn f l → Declines (refusalOf f (placeIn l)) r → OneReading r
   by-fault l of-form h x = bad-form l h x
   by-fault l of-count h x = too-many l h x
   by-fault l of-limits h x = outside-limits l h x
@@ -375,7 +375,7 @@ module _ (r : ReadRun) where
 
 -- and back: what stands before and on a line says what the text is refused with, or that it is accepted
 
-skips : (t : Tender) (done bs : List BidLine) (ls : List (Option Line)) (out : ReadOutcome) (at : ℕ) → FaultlessBids t done bs →
+skips : (t : Tender) (done bs : List BidLine) (ls : List (Option Line)) (out : ReadOutcome) (at : ℕ) → SoundBids t done bs →
     checked (t .kind) at (map (λ b. b .bidder) done) (map (λ b. some (bid b)) bs ++ ls) out
     ≡ checked (t .kind) (at + length bs) (map (λ b. b .bidder) (done ++ bs)) ls out
 unfolding checked lineJudged
@@ -407,10 +407,10 @@ skips t done (b ∷ bs) ls out at (v, s) =
         → checked (t .kind) (at + 1) (map (λ b. b .bidder) (done ++ b ∷ [])) (map (λ b. some (bid b)) bs ++ ls) out ≡ mid
         → lineJudged o at rest ≡ end
     go o (clean w q) ih = rw q (step ih)
-    go o (first f h q) ih = absurd (v f (first-stands pageOrder f (after t done) (some (bid b)) h))
+    go o (stopped-by f h q) ih = absurd (v f (first-stands pageOrder f (after t done) (some (bid b)) h))
 
-at-fault : (t : Tender) (done : List BidLine) (x : Option Line) (ls : List (Option Line)) (out : ReadOutcome) (at : ℕ) (f : Fault)
-    → FirstOf pageOrder f (after t done) x
+at-fault : (t : Tender) (done : List BidLine) (x : Option Line) (ls : List (Option Line)) (out : ReadOutcome) (at : ℕ) (f : LineFault)
+    → FirstAmong pageOrder f (after t done) x
     → checked (t .kind) at (map (λ b. b .bidder) done) (x ∷ ls) out ≡ declinedBy (refusalOf f at)
 unfolding checked lineJudged
 at-fault t done none ls out at f h = let e = first-stands pageOrder f (after t done) none h in ap (λ g. declinedBy (refusalOf g at)) (sym e)
@@ -422,21 +422,21 @@ at-fault t done (some (bid b)) ls out at f h = go (bidFault (t .kind) (map (λ b
     go : (o : Option (ℕ → Refusal)) → Verdict (after t done) (some (bid b)) o → (rest : ReadOutcome)
         → lineJudged o at rest ≡ declinedBy (refusalOf f at)
     go o (clean w q) rest = absurd (w f (first-stands pageOrder f (after t done) (some (bid b)) h))
-    go o (first g k q) rest =
+    go o (stopped-by g k q) rest =
         let e = one-first pageOrder g f (after t done) (some (bid b)) k h in
         ap (λ p. lineJudged p at rest) q ∙ ap (λ g. declinedBy (refusalOf g at)) e
 
 says-lawful : (w : Window) → (Unlawful w → ⊥) → lawful w ≡ true
 says-lawful w n = go (lawful w) (unlawful w)
   where
-    go : (v : Bool) → Says (not v) (Unlawful w) → v ≡ true
+    go : (v : Bool) → Decides (not v) (Unlawful w) → v ≡ true
     go true u = refl
     go false u = absurd (n u)
 
 says-unlawful : (w : Window) → Unlawful w → lawful w ≡ false
 says-unlawful w h = go (lawful w) (unlawful w)
   where
-    go : (v : Bool) → Says (not v) (Unlawful w) → v ≡ false
+    go : (v : Bool) → Decides (not v) (Unlawful w) → v ≡ false
     go true u = absurd (u h)
     go false u = refl
 
@@ -453,7 +453,7 @@ tender-first : (t : Tender) (ls : List (Option Line)) → lawful (t .window) ≡
 unfolding readLines
 tender-first t ls e = rw e
 
-at-first : (f : Fault) (x : Option Line) (ls : List (Option Line)) → FirstOf pageOrder f at-start x
+at-first : (f : LineFault) (x : Option Line) (ls : List (Option Line)) → FirstAmong pageOrder f at-start x
     → readLines (x ∷ ls) ≡ declinedBy (refusalOf f 1)
 unfolding readLines
 at-first f none ls k = ap (λ g. declinedBy (refusalOf g 1)) (sym (first-stands pageOrder f at-start none k))
@@ -462,34 +462,34 @@ at-first f (some (tender t)) ls k =
     let s = first-stands pageOrder f at-start (some (tender t)) k in
     rw (says-unlawful (t .window) (s .1)) (ap (λ g. declinedBy (refusalOf g 1)) (sym (s .0)))
 
-line-refused : (text : List ℕ) (l : LineOf text) (f : Fault) → FirstOn f l → readText text ≡ declinedBy (refusalOf f (placeIn l))
-line-refused text l f h = short-text text (l .short) ∙ ap readLines (l .lines) ∙ go (l .before) (l .line) (l .faultless) h
+line-refused : (text : List ℕ) (l : LineOf text) (f : LineFault) → FirstOn f l → readText text ≡ declinedBy (refusalOf f (placeIn l))
+line-refused text l f h = short-text text (l .short) ∙ ap readLines (l .lines) ∙ go (l .above) (l .line) (l .sound) h
   where
-    go : (d : Before) (x : Option Line) → FaultlessLines d → FirstOf pageOrder f d x →
-        readLines (linesBefore d ++ x ∷ l .rest) ≡ declinedBy (refusalOf f (length (linesBefore d) + 1))
+    go : (d : Above) (x : Option Line) → SoundLines d → FirstAmong pageOrder f d x →
+        readLines (linesAbove d ++ x ∷ l .rest) ≡ declinedBy (refusalOf f (length (linesAbove d) + 1))
     go at-start x s k = at-first f x (l .rest) k
     go (after t bs) x (u, s) k =
         let ls = map (λ b. some (bid b)) bs ++ x ∷ l .rest in
-        let e : 2 + length bs ≡ length (linesBefore (after t bs)) + 1 = omega (arith, length-map bs (λ b. some (bid b))) in
+        let e : 2 + length bs ≡ length (linesAbove (after t bs)) + 1 = omega (arith, length-map bs (λ b. some (bid b))) in
         tender-first t ls (says-lawful (t .window) (λ v. u of-window (refl, v)))
         ∙ skips t [] bs (x ∷ l .rest) (tables t (bidsOf ls)) 2 s
         ∙ at-fault t bs x (l .rest) (tables t (bidsOf ls)) (2 + length bs) f k
         ∙ ap (λ n. declinedBy (refusalOf f n)) e
 
-through : (t : Tender) (bs : List BidLine) (out : ReadOutcome) → FaultlessBids t [] bs
+through : (t : Tender) (bs : List BidLine) (out : ReadOutcome) → SoundBids t [] bs
     → checked (t .kind) 2 [] (map (λ b. some (bid b)) bs ++ []) out ≡ out
 unfolding checked
 through t bs out s = skips t [] bs [] out 2 s
 
-text-accepted : (text : List ℕ) (t : Tender) (R : List Row) (W : List Window) → Readable text t R W → readText text ≡ accepted t R W
+pub text-accepted : (text : List ℕ) (t : Tender) (R : List Row) (W : List Window) → Readable text t R W → readText text ≡ accepted t R W
 unfolding tables
 text-accepted text t R W h =
     let bs = h .bids in
     let ls = map (λ b. some (bid b)) bs in
     short-text text (h .short) ∙ ap readLines (h .lines)
-    ∙ tender-first t ls (says-lawful (t .window) (λ v. h .faultless .0 of-window (refl, v)))
+    ∙ tender-first t ls (says-lawful (t .window) (λ v. h .sound .0 of-window (refl, v)))
     ∙ ap (λ l. checked (t .kind) 2 [] l (tables t (bidsOf ls))) (sym (append-nil ls))
-    ∙ through t bs (tables t (bidsOf ls)) (h .faultless .1)
+    ∙ through t bs (tables t (bidsOf ls)) (h .sound .1)
     ∙ ap (tables t) (bids-of bs) ∙ ap (λ x. accepted t x (allWindows bs)) (sym (h .rows)) ∙ ap (accepted t R) (sym (h .windows))
 
 long-refused : (text : List ℕ) → 65536 < length text → readText text ≡ declinedBy TextTooLong
@@ -516,16 +516,16 @@ module _ (r : ReadRun) where
     own = c ∙ ap (windowsAfter (r .windows)) (sym e);
   }
 
-  leaves : (x : Refusal) → Refuses x r → Leaves r (declinedBy x)
+  leaves : (x : Refusal) → Declines x r → Leaves r (declinedBy x)
   unfolding bidsAfter windowsAfter
   leaves x h = (h .answer, (h .bids-stay, h .windows-stay))
 
-  refused-kept : (x : Refusal) → readText (r .text) ≡ declinedBy x → Refuses x r → ReadKept r
+  refused-kept : (x : Refusal) → readText (r .text) ≡ declinedBy x → Declines x r → ReadKept r
   unfolding fitted
   refused-kept x e h = keeps (declinedBy x) (ap (fitted m n) e) (leaves x h)
 
   short-kept : (t : Tender) (R : List Row) (W : List Window) → readText (r .text) ≡ accepted t R W
-      → (m < length R) ⊎ (n < length W) → Refuses TableTooShort r → ReadKept r
+      → (m < length R) ⊎ (n < length W) → Declines TableTooShort r → ReadKept r
   unfolding fitted
   short-kept t R W e s h = keeps (declinedBy TableTooShort) (ap (fitted m n) e ∙ room s) (leaves TableTooShort h)
     where

@@ -28,10 +28,21 @@ use Rattle.award.specs.Promise.{toldAward, Promise}
 use Rattle.award.specs.Right as right
 use Rattle.award.specs.TextOutcomes.{honest-texts}
 use Rattle.theorems.specs.Calls.{ReadCall, AwardCall}
-use Rattle.theorems.specs.Between.{ReadIn, Follows, SameAward, NoGainBetween}
+use Rattle.theorems.specs.Between.{Follows, SameAward, NoGainBetween}
 
-pub accepted-read : (r : ReadCall) (t : Tender) (n m : ℕ) → r .run .answer ≡ answer.Accepted t n m
-    → ReadIn (r .run .text) (r .run .bids-after) (r .run .windows-after) t n
+-- what an accepted text left in the tables
+record ReadLeft (text bids windows : List ℕ) (t : Tender) (n : ℕ) : Type 0 where
+  rows : List Row
+  spans : List Window
+  past-rows : List ℕ
+  past-spans : List ℕ
+  is : readText text ≡ accepted t rows spans
+  count : length rows ≡ n
+  bids-are : bids ≡ flatRows rows ++ past-rows
+  windows-are : windows ≡ flatWindows spans ++ past-spans
+
+accepted-read : (r : ReadCall) (t : Tender) (n m : ℕ) → r .run .answer ≡ answer.Accepted t n m
+    → ReadLeft (r .run .text) (r .run .bids-after) (r .run .windows-after) t n
 unfolding readInto fitted bidsAfter windowsAfter
 accepted-read r t n m e = go (readText (r .run .text)) refl (sym (ap reader.toldReading e) ∙ r .kept .answers) (r .kept .rows)
     (r .kept .own)
@@ -40,7 +51,7 @@ accepted-read r t n m e = go (readText (r .run .text)) refl (sym (ap reader.told
         → filled t n m ≡ summary (cond b (accepted T R W) (reading.refused 8 0)) →
         r .run .bids-after ≡ bidsAfter (r .run .bids) (cond b (accepted T R W) (reading.refused 8 0))
         → r .run .windows-after ≡ windowsAfter (r .run .windows) (cond b (accepted T R W) (reading.refused 8 0)) →
-        ReadIn (r .run .text) (r .run .bids-after) (r .run .windows-after) t n
+        ReadLeft (r .run .text) (r .run .bids-after) (r .run .windows-after) t n
     room T R W false h x y z = let f : _≡_ {A = ℕ} 0 1 = cc in absurd (omega arith)
     room T R W true h x y z =
         record {
@@ -58,14 +69,14 @@ accepted-read r t n m e = go (readText (r .run .text)) refl (sym (ap reader.told
         → filled t n m ≡ summary (fitted (length (r .run .bids) / 4) (length (r .run .windows) / 2) o) →
         r .run .bids-after ≡ bidsAfter (r .run .bids) (fitted (length (r .run .bids) / 4) (length (r .run .windows) / 2) o)
         → r .run .windows-after ≡ windowsAfter (r .run .windows) (fitted (length (r .run .bids) / 4) (length (r .run .windows) / 2) o) →
-        ReadIn (r .run .text) (r .run .bids-after) (r .run .windows-after) t n
+        ReadLeft (r .run .text) (r .run .bids-after) (r .run .windows-after) t n
     go (reading.refused k at) h x y z = let f : _≡_ {A = ℕ} 0 1 = cc in absurd (omega arith)
     go (accepted T R W) h x y z = room T R W (leb (length R) (length (r .run .bids) / 4) && leb (length W) (length (r .run .windows) / 2))
         h x y z
 
 -- row i of two such texts is the same bidder's
 
-pub bidder-cell : (R : List Row) (v : List ℕ) (i : ℕ) → i < length R → getD (flatRows R ++ v) (4 * i) 0 ≡ getD R i noRow .bidder
+bidder-cell : (R : List Row) (v : List ℕ) (i : ℕ) → i < length R → getD (flatRows R ++ v) (4 * i) 0 ≡ getD R i noRow .bidder
 unfolding flatRows
 bidder-cell [] v i l = absurd (omega arith)
 bidder-cell (r ∷ R) v zero l = refl
@@ -119,7 +130,7 @@ module _ (bidder p q : List ℕ) (k k′ : Kind) (T T′ : Tender) (n n′ : ℕ
         promise = y′;
       }) bidder p q
 
-  of-calls : {text text′ : List ℕ} (h : ReadIn text bids windows T n) (h′ : ReadIn text′ bids′ windows′ T′ n′)
+  of-calls : {text text′ : List ℕ} (h : ReadLeft text bids windows T n) (h′ : ReadLeft text′ bids′ windows′ T′ n′)
       → RowsDifferInPrice (h .rows) (h′ .rows) bidder p q →
       right.NoGain (h .rows) (flatRows (h .rows) ++ h .past-rows) (flatRows (h′ .rows) ++ h′ .past-rows)
       (toldAward (length (h .rows)) new a) (toldAward (length (h′ .rows)) new′ a′) bidder p q → Between
@@ -140,8 +151,8 @@ module _ (bidder p q : List ℕ) (k k′ : Kind) (T T′ : Tender) (n n′ : ℕ
         most = rw (← (h .bids-are), h .count, h′ .count) at (g .most);
       }
 
-  pub between : (text text′ : List ℕ) → k ≡ k′ → DifferInPrice text text′ bidder p q → ReadIn text bids windows T n
-      → ReadIn text′ bids′ windows′ T′ n′ → ltb (length old) n ≡ ltb (length old′) n′ → Between
+  between : (text text′ : List ℕ) → k ≡ k′ → DifferInPrice text text′ bidder p q → ReadLeft text bids windows T n
+      → ReadLeft text′ bids′ windows′ T′ n′ → ltb (length old) n ≡ ltb (length old′) n′ → Between
   between text text′ s d h h′ e = of-calls h h′ (price-law text text′ bidder p q T T′ (h .rows) (h′ .rows) (h .spans) (h′ .spans) d
       (h .is) (h′ .is) .rows)
       (honest-texts text text′ bidder p q k T T′ (h .rows) (h′ .rows) (h .spans) (h′ .spans) (h .past-rows) (h .past-spans) (h′ .past-rows)
@@ -151,9 +162,9 @@ module _ (bidder p q : List ℕ) (k k′ : Kind) (T T′ : Tender) (n n′ : ℕ
       (rw (s, h′ .count, ← (h′ .bids-are), ← (h′ .windows-are)) (y′ .answers)))
 
 -- Two calls of `read`, two of the same award on what they left.
-pub no-gain : (r r′ : ReadCall) (c c′ : AwardCall) (bidder p q : List ℕ) → DifferInPrice (r .run .text) (r′ .run .text) bidder p q
+pub no-gain-read : (r r′ : ReadCall) (c c′ : AwardCall) (bidder p q : List ℕ) → DifferInPrice (r .run .text) (r′ .run .text) bidder p q
     → Follows r c → Follows r′ c′ → SameAward c c′ → NoGainBetween c c′ bidder p q
-no-gain r r′ c c′ bidder p q d f f′ s =
+no-gain-read r r′ c c′ bidder p q d f f′ s =
     let h = accepted-read r (c .tender) (c .count) (f .window-rows) (f .accepts) in
     let h′ = accepted-read r′ (c′ .tender) (c′ .count) (f′ .window-rows) (f′ .accepts) in
     between bidder p q (c .kind) (c′ .kind) (c .tender) (c′ .tender) (c .count) (c′ .count) (c .bids) (c .windows) (c′ .bids)

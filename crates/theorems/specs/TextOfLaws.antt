@@ -96,16 +96,16 @@ closed-is (b ∷ c ∷ s) a e = go (closed (c ∷ s)) refl e (closed-is (c ∷ s
     go none f x ih = let z : _≡_ {A = ℕ} 0 1 = cc in absurd (omega arith)
     go (some r) f x ih = let h : b ∷ r ≡ a = cc in rw (← h) (ap (λ l. b ∷ l) (ih r f))
 
-record Span (s e : List ℕ) (w : Window) : Type 0 where
+record SpeltSpan (s e : List ℕ) (w : Window) : Type 0 where
   start-is : s ≡ decimal (w .start)
   end-is : e ≡ decimal (w .end)
 
-span-is : (s e : List ℕ) (w : Window) → spanOf s e ≡ some w → Span s e w
+span-is : (s e : List ℕ) (w : Window) → spanOf s e ≡ some w → SpeltSpan s e w
 unfolding spanOf andThen
 span-is s e w h = go (numeralOf s) (numeralOf e) refl refl h
   where
     go : (x y : Option ℕ) → numeralOf s ≡ x → numeralOf e ≡ y → andThen x (λ a. andThen y (λ z. some (record { start = a; end = z })))
-        ≡ some w → Span s e w
+        ≡ some w → SpeltSpan s e w
     go none y f g q = let z : _≡_ {A = ℕ} 0 1 = cc in absurd (omega arith)
     go (some a) none f g q = let z : _≡_ {A = ℕ} 0 1 = cc in absurd (omega arith)
     go (some a) (some z) f g q =

@@ -12,6 +12,7 @@ use Rattle.tender.specs.Tables.{Row}
 use Rattle.reader.specs.Read.{accepted, readText}
 use Rattle.reader.specs.Rules.{RowsRules}
 use Rattle.reader.specs.RulesLaws.{rules-law}
+use Rattle.reader.specs.PriceChange.{Changed, price-change}
 use Rattle.reader.specs.Differ.{bidLine, Word, DifferInPrice}
 use Rattle.award_check.specs.Cells.{noRow}
 use Rattle.award_check.specs.TextLaws.{rows-end}
@@ -19,14 +20,15 @@ use Rattle.listing.specs.Lines.{decimal}
 use Rattle.theorems.specs.Numerals.{decimal-plain}
 use Rattle.theorems.specs.TextOf.{spaced, ended, tenderWords, windowWords, bidWords, spansOf, rowLine, textOf}
 use Rattle.theorems.specs.TextOfLaws.{spelt-again}
+use Rattle.theorems.specs.Between.{Variant}
 
 -- row i among the rows
-record At (R : List Row) (i : ℕ) : Type 0 where
+record Placed (R : List Row) (i : ℕ) : Type 0 where
   before : List Row
   after : List Row
   are : R ≡ before ++ getD R i noRow ∷ after
 
-row-at : (R : List Row) (i : ℕ) → i < length R → At R i
+row-at : (R : List Row) (i : ℕ) → i < length R → Placed R i
 row-at [] i l = absurd (omega arith)
 row-at (r ∷ R) zero l = record { before = []; after = R; are = refl }
 row-at (r ∷ R) (suc i) l = let a = row-at R i (omega arith) in
@@ -80,45 +82,70 @@ ends l (m ∷ ls) = let e = ends m ls in record {
       ∙ sym (append-assoc l (10 ∷ e .but-last) (10 ∷ []));
 }
 
--- a text that differs in the price of row i alone, written q
-pub record Variant (text : List ℕ) (R : List Row) (i : ℕ) (q : List ℕ) : Type 0 where
-  pub other : List ℕ
-  pub differ : DifferInPrice text other (decimal (getD R i noRow .bidder)) (decimal (getD R i noRow .price)) q
-
 number-word : (n : ℕ) → Word (decimal n)
 number-word n = record { no-space = decimal-plain 32 n (omega arith); no-end = decimal-plain 10 n (omega arith) }
 
+-- the lines before a row's, its line and those after it
+around : (T : Tender) (W : List Window) (xs : List Row) (r : Row) (ys : List Row) → textOf T (xs ++ r ∷ ys) W
+    ≡ ended (spaced (tenderWords T) ∷ map (rowLine W) xs) ++ (rowLine W r ++ 10 ∷ ended (map (rowLine W) ys))
+unfolding textOf ended
+around T W xs r ys =
+    ap (λ x. ended (spaced (tenderWords T) ∷ x)) (map-parts (rowLine W) xs (r ∷ ys))
+    ∙ ended-parts (spaced (tenderWords T) ∷ map (rowLine W) xs) (rowLine W r ∷ map (rowLine W) ys)
+
+line-at : (W : List Window) (r : Row) (rest : List ℕ) → 1 ≤ length (spansOf W r) → rowLine W r ++ 10 ∷ rest
+    ≡ bidLine (decimal (r .bidder)) (decimal (r .price)) (spaced (windowWords (spansOf W r)) ++ 10 ∷ rest)
+unfolding rowLine
+line-at W r rest s = ap (λ x. x ++ 10 ∷ rest) (line-parts (r .bidder) (r .price) (spansOf W r) s)
+    ∙ line-more (decimal (r .bidder)) (decimal (r .price)) (spaced (windowWords (spansOf W r))) (10 ∷ rest)
+
+-- the text up to a row's line, and from its price on
+record Parted (text : List ℕ) (r : Row) : Type 0 where
+  head : List ℕ
+  tail : List ℕ
+  is : text ≡ head ++ 10 ∷ bidLine (decimal (r .bidder)) (decimal (r .price)) tail
+
+parted : (text : List ℕ) (T : Tender) (xs : List Row) (r : Row) (ys : List Row) (W : List Window) → text ≡ textOf T (xs ++ r ∷ ys) W
+    → 1 ≤ length (spansOf W r) → Parted text r
+parted text T xs r ys W e s =
+    let b = ends (spaced (tenderWords T)) (map (rowLine W) xs) in
+    let rest = ended (map (rowLine W) ys) in
+    record {
+      head = b .but-last;
+      tail = spaced (windowWords (spansOf W r)) ++ 10 ∷ rest;
+      is = e ∙ around T W xs r ys ∙ ap (λ x. x ++ (rowLine W r ++ 10 ∷ rest)) (b .are)
+          ∙ append-assoc (b .but-last) (10 ∷ []) (rowLine W r ++ 10 ∷ rest) ∙ ap (λ x. b .but-last ++ 10 ∷ x) (line-at W r rest s);
+    }
+
 pub varied : (text : List ℕ) (T : Tender) (R : List Row) (W : List Window) → readText text ≡ accepted T R W → (i : ℕ) → i < length R
-    → (q : List ℕ) → Word q → Variant text R i q
-unfolding textOf rowLine ended
+    → (q : List ℕ) → Word q → Variant text T R W i q
 varied text T R W h i l q wq = go (row-at R i l)
   where
-    go : At R i → Variant text R i q
+    r : Row
+    r = getD R i noRow
+
+    made : Parted text r → Variant text T R W i q
+    made p = record { other = other; differ = differ; accepted-too = λ v e m k. also (price-change text other _ _ q v T R W differ h e m k) }
+      where
+        other : List ℕ
+        other = p .head ++ 10 ∷ bidLine (decimal (r .bidder)) q (p .tail)
+
+        differ : DifferInPrice text other (decimal (r .bidder)) (decimal (r .price)) q
+        differ = record {
+          before = p .head;
+          after = p .tail;
+          left = p .is;
+          right = refl;
+          bidder-word = number-word (r .bidder);
+          p-word = number-word (r .price);
+          q-word = wq;
+        }
+
+        also : Changed T R W other (decimal (r .bidder)) (decimal (r .price)) q → (S : List Row) × (readText other ≡ accepted T S W)
+        also c = (c .S, c .stays)
+
+    go : Placed R i → Variant text T R W i q
     go a =
-        let r = getD R i noRow in
         let b = row-in (T .kind) [] 0 (a .before) r (a .after) (length W) (rw (a .are) at (rules-law T R W text h .rows)) in
         let s = some-taken (r .count) (drop (r .first) W) (b .0) (omega (arith, b .0, b .1, length-drop (r .first) W)) in
-        let e = ends (spaced (tenderWords T)) (map (rowLine W) (a .before)) in
-        let rest = ended (map (rowLine W) (a .after)) in
-        let tail = spaced (windowWords (spansOf W r)) ++ 10 ∷ rest in
-        let line : rowLine W r ++ 10 ∷ rest ≡ bidLine (decimal (r .bidder)) (decimal (r .price)) tail =
-        ap (λ x. x ++ 10 ∷ rest) (line-parts (r .bidder) (r .price) (spansOf W r) s)
-        ∙ line-more (decimal (r .bidder)) (decimal (r .price)) (spaced (windowWords (spansOf W r))) (10 ∷ rest) in
-        let whole : text ≡ e .but-last ++ 10 ∷ bidLine (decimal (r .bidder)) (decimal (r .price)) tail =
-        spelt-again text T R W h ∙ ap (λ x. ended (spaced (tenderWords T) ∷ map (rowLine W) x)) (a .are)
-        ∙ ap (λ x. ended (spaced (tenderWords T) ∷ x)) (map-parts (rowLine W) (a .before) (r ∷ a .after))
-        ∙ ended-parts (spaced (tenderWords T) ∷ map (rowLine W) (a .before)) (rowLine W r ∷ map (rowLine W) (a .after))
-        ∙ ap (λ x. x ++ (rowLine W r ++ 10 ∷ rest)) (e .are)
-        ∙ append-assoc (e .but-last) (10 ∷ []) (rowLine W r ++ 10 ∷ rest) ∙ ap (λ x. e .but-last ++ 10 ∷ x) line in
-        record {
-          other = e .but-last ++ 10 ∷ bidLine (decimal (r .bidder)) q tail;
-          differ = record {
-            before = e .but-last;
-            after = tail;
-            left = whole;
-            right = refl;
-            bidder-word = number-word (r .bidder);
-            p-word = number-word (r .price);
-            q-word = wq;
-          };
-        }
+        made (parted text T (a .before) r (a .after) W (spelt-again text T R W h ∙ ap (λ x. textOf T x W) (a .are)) s)
