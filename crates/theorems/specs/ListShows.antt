@@ -49,11 +49,6 @@ plain-append d (b ∷ x) y h k = go (eqb b d) h (plain-append d x y)
     go true e f = let z : _≡_ {A = ℕ} 0 1 = cc in absurd (omega arith)
     go false e f = f e k
 
--- neither a space nor a byte 10
-record PlainWord (word : List ℕ) : Type 0 where
-  no-space : among 32 word ≡ false
-  no-end : among 10 word ≡ false
-
 bare-plain : (word : List ℕ) (a b : ℕ) → among 10 word ≡ false → among 10 (bare word a b) ≡ false
 unfolding bare among
 bare-plain word a b h =
@@ -91,27 +86,11 @@ closed-back [] = refl
 closed-back (b ∷ []) = refl
 closed-back (b ∷ c ∷ s) = rw (closed-back (c ∷ s))
 
--- both numbers of a line read back
-pub record ReadsBack (word : List ℕ) (a b : ℕ) : Type 0 where
-  pub line : List ℕ
-  pub is : pairLine word a b ≡ line ++ 10 ∷ []
-  pub first : digits 0 (getD (cut 32 line) 1 []) ≡ some a
-  pub last : lastNumber (cut 32 line) ≡ some b
-
+-- the last number of a line reads back
 last-back : (ws : List (List ℕ)) (word : List ℕ) (a b : ℕ) → ws ≡ (40 ∷ word) ∷ decimal a ∷ (decimal b ++ 41 ∷ []) ∷ [] → b < 10 ^ 20
     → lastNumber ws ≡ some b
 unfolding lastNumber andThen
-last-back ws word a b e l = rw (e, closed-back (decimal b)) (decimal-back b l)
-
-pub numbers-back : (word : List ℕ) (a b : ℕ) → among 32 word ≡ false → a < 10 ^ 20 → b < 10 ^ 20 → ReadsBack word a b
-numbers-back word a b h l m =
-    let e = bare-words word a b h in
-    record {
-      line = bare word a b;
-      is = sym (append-nil (pairLine word a b)) ∙ pair-bare word a b [];
-      first = ap (λ ws. digits 0 (getD ws 1 [])) e ∙ decimal-back a l;
-      last = last-back (cut 32 (bare word a b)) word a b e m;
-    }
+last-back ws word a b e l = ap lastNumber e ∙ ap (λ o. andThen o (digits 0)) (closed-back (decimal b)) ∙ decimal-back b l
 
 -- the row of a bidder, line by line
 
@@ -162,18 +141,25 @@ module _ (n : ℕ) (small : n < 10 ^ 20) where
   other-word ws h = rw h
 
   -- a winner's line
+  win-on : (a b : ℕ) (ws : List (List ℕ)) → ws ≡ (40 ∷ winWord) ∷ decimal a ∷ (decimal b ++ 41 ∷ []) ∷ [] → a < 10 ^ 20 → b < 10 ^ 20
+      → winOn n ws ≡ cond (eqb a n) (some b) none
+  unfolding winOn
+  win-on a b ws e l m =
+      let cents = lastNumber ws in
+      ap (λ vs. cond (sameBytes (getD vs 0 []) (40 ∷ winWord) && sameBytes (getD vs 1 []) (decimal n)) cents none) e
+      ∙ ap (λ s. cond (s && sameBytes (decimal a) (decimal n)) cents none) (same-self (40 ∷ winWord))
+      ∙ ap (λ s. cond s cents none) (number-same a n l small)
+      ∙ ap (λ o. cond (eqb a n) o none) (last-back ws winWord a b e m)
+
   win-row : (a b : ℕ) (rest : List ℕ) → a < 10 ^ 20 → b < 10 ^ 20 →
       rowShown n (pairLine winWord a b ++ rest) ≡ cond (eqb a n) (record { won = true; cents = b }) (rowShown n rest)
-  unfolding winOn rowOr winWord bytes among
-  win-row a b rest l m = line-row winWord a b rest refl ∙ go (cut 32 (bare winWord a b)) (bare-words winWord a b refl) (eqb a n) refl
+  unfolding rowOr winWord bytes among
+  win-row a b rest l m = line-row winWord a b rest refl
+      ∙ ap (λ o. rowOr o (rowShown n rest)) (win-on a b (cut 32 (bare winWord a b)) (bare-words winWord a b refl) l m) ∙ out (eqb a n)
     where
-      go : (ws : List (List ℕ)) → ws ≡ (40 ∷ winWord) ∷ decimal a ∷ (decimal b ++ 41 ∷ []) ∷ [] → (t : Bool) → eqb a n ≡ t →
-          rowOr (winOn n ws) (rowShown n rest) ≡ cond t (record { won = true; cents = b }) (rowShown n rest)
-      go ws e t f = rw (last-back ws winWord a b e m) (rw e (rw (number-same a n l small, f, same-self (40 ∷ winWord)) (out t)))
-        where
-          out : (t : Bool) → rowOr (cond t (some b) none) (rowShown n rest) ≡ cond t (record { won = true; cents = b }) (rowShown n rest)
-          out true = refl
-          out false = refl
+      out : (t : Bool) → rowOr (cond t (some b) none) (rowShown n rest) ≡ cond t (record { won = true; cents = b }) (rowShown n rest)
+      out true = refl
+      out false = refl
 
   begins : (word : List ℕ) (a b : ℕ) → among 32 word ≡ false → getD (cut 32 (bare word a b)) 0 [] ≡ 40 ∷ word
   begins word a b h = ap (λ ws. getD ws 0 []) (bare-words word a b h)

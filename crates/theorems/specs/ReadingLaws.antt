@@ -239,6 +239,9 @@ tender-free t f n (e, u) = n (ap (λ g. numberOf (refusalOf g 0)) e)
 lawful-tender : (t : Tender) → (Unlawful (t .window) → ⊥) → NoFault at-start (some (tender t))
 lawful-tender t u f (e, s) = u s
 
+sound-lines : (t : Tender) (bs : List BidLine) → (Unlawful (t .window) → ⊥) → SoundBids t [] bs → SoundLines (after t bs)
+sound-lines t bs u s = (lawful-tender t u, s)
+
 module _ (text : List ℕ) (short : length text ≤ 65536) where
   first-line : (x : Option Line) (ls : List (Option Line)) → linesIn text ≡ x ∷ ls → OnLine of-form at-start x
       → TextRead text (declinedBy (BadForm 1))
@@ -265,7 +268,7 @@ module _ (text : List ℕ) (short : length text ≤ 65536) where
             bids = bs;
             short = short;
             lines = e ∙ ap {B = List (Option Line)} (λ r. some (tender t) ∷ r) l;
-            sound = (lawful-tender t u, s);
+            sound = sound-lines t bs u s;
             rows = refl;
             windows = refl;
           })
@@ -277,7 +280,7 @@ module _ (text : List ℕ) (short : length text ≤ 65536) where
             rest = rest;
             short = short;
             lines = e ∙ ap {B = List (Option Line)} (λ r. some (tender t) ∷ r) l;
-            sound = (lawful-tender t u, s);
+            sound = sound-lines t bs u s;
           }) f h
           (q ∙ ap (λ n. declinedBy (refusalOf f n)) (let m = length-map bs (λ b. some (bid b)) in omega (arith, m)))
 
