@@ -1,7 +1,6 @@
 pub mod Promise
 pub mod Gain
 pub mod Right
-pub mod Demands
 pub mod GainLaws
 pub mod SettleLaws
 pub mod TableLaws

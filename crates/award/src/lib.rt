@@ -1,7 +1,7 @@
 // The awards on tables. `award_single` and `award_multi` answer every call over a lent slice of award rows, and `settle`
 // every call over plain lists: a flag and the cents paid for each bid. None of them requires anything.
 // `specs/` has what a call promises on rows (`Promise`), how the promise of plain lists gives it (`RowsPromise`), a bidder's gain,
-// and the demands.
+// and what the demands say of an outcome (`Right`); crate `theorems` states them.
 use tender::Answer;
 use tender::AwardRow;
 use tender::Kind;

@@ -73,10 +73,10 @@ sameWindows zero = []
 sameWindows (suc n) = 0 ∷ 10 ∷ sameWindows n
 
 -- too many bids; a faulty row before stands
-pub too-many : faultOf Multi (record { kind = Multi; window = record { start = 0; end = 10 } }) 1001 (many 1001 0) (sameWindows 1001)
+pub bids-too-many : faultOf Multi (record { kind = Multi; window = record { start = 0; end = 10 } }) 1001 (many 1001 0) (sameWindows 1001)
     ≡ some 1001
 unfolding faultOf many sameWindows
-too-many = refl
+bids-too-many = refl
 
 pub row-first : faultOf Multi (record { kind = Multi; window = record { start = 0; end = 10 } }) 1001 (many 3 0 ++ many 998 5)
     (sameWindows 1001)

@@ -1,4 +1,2 @@
 pub mod FaultCases
-pub mod Worked
-pub mod WorkedCases
 pub mod ThinCases

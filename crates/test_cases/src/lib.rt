@@ -1,1 +1,1 @@
-// The worked tenders of paper 01 and tables with each kind of fault, computed from the definitions that the awards' contracts cite.
+// Tables with each kind of fault and tenders refused for cover, computed from the definitions that the awards' contracts cite.
