@@ -69,7 +69,8 @@ one-answer-to-tables c =
     one.one-answer (c .kind) (c .tender) (c .count) (c .bids) (c .windows) (c .rows-before) (c .rows-after) (c .answer) (c .promise)
 
 -- Of no answer is anything left to the program: two calls of the same award on the same tables tell the same.
-pub same-tables-same-answer : (c c′ : AwardCall) → SameAward c c′ → c .tender ≡ c′ .tender → c .count ≡ c′ .count → c .bids ≡ c′ .bids
+pub same-tables-same-answer : (c c′ : AwardCall) → SameAward c c′ → c .tender ≡ c′ .tender → c .count ≡ c′ .count
+    → c .bids ≡ c′ .bids
     → c .windows ≡ c′ .windows → toldBy c ≡ toldBy c′
 same-tables-same-answer c c′ s t n b w =
     c .promise .answers ∙ rw (s .kinds, t, n, b, w) (award-lent (c′ .kind) (c′ .tender) (c′ .count) (c′ .bids) (c′ .windows)
@@ -97,7 +98,8 @@ list-fits l h = list.suffices (l .promise) h .0
 pub nothing-dropped : (r : ReadCall) (t : Tender) (n m : ℕ) → r .run .answer ≡ answer.Accepted t n m → WasRead (r .run) t
 nothing-dropped = read-again
 
-pub one-spelling : (text : List ℕ) (T : Tender) (R : List Row) (W : List Window) → readText text ≡ accepted T R W → text ≡ textOf T R W
+pub one-spelling : (text : List ℕ) (T : Tender) (R : List Row) (W : List Window) → readText text ≡ accepted T R W
+    → text ≡ textOf T R W
 one-spelling = spelt-again
 
 -- There is a row for each line after the first, and each byte is a digit, a space, a bracket, a newline or a letter.
@@ -105,7 +107,8 @@ pub row-for-each-line : (text : List ℕ) (T : Tender) (R : List Row) (W : List 
     → length R + 1 ≡ bytesLike 10 text
 row-for-each-line text T R W = lines-law T R W text
 
-pub plain-bytes : (text : List ℕ) (T : Tender) (R : List Row) (W : List Window) → readText text ≡ accepted T R W → allPlain text ≡ true
+pub plain-bytes : (text : List ℕ) (T : Tender) (R : List Row) (W : List Window) → readText text ≡ accepted T R W
+    → allPlain text ≡ true
 plain-bytes text T R W = plain-law T R W text
 
 -- The text alone is never refused with 8, nor is it with tables of 1,000 and 32,000 rows.
@@ -118,7 +121,8 @@ long-tables = room-law
 
 -- What was read is never refused with 9 or 10: the award is made, or declined with 11 or 12.
 pub never-nine-or-ten : (text : List ℕ) (T : Tender) (R : List Row) (W : List Window) → readText text ≡ accepted T R W →
-    let o = outcomeNumber (awardOf (T .kind) T (length R) (flatRows R) (flatWindows W) (length R)) in (o ≡ 0) ⊎ ((o ≡ 11) ⊎ (o ≡ 12))
+    let o = outcomeNumber (awardOf (T .kind) T (length R) (flatRows R) (flatWindows W) (length R)) in (o ≡ 0)
+    ⊎ ((o ≡ 11) ⊎ (o ≡ 12))
 never-nine-or-ten text T R W h = list.award-number T R W (rules-law T R W text h)
 
 -- A list shows no refusal but 1 to 7, 11 and 12.
@@ -150,7 +154,8 @@ module _ (c : AwardCall) where
 
 module _ (c : AwardCall) (rows : List AwardRow) (cost paid : ℕ) (told : toldBy c ≡ awarded rows cost paid) where
   -- The winners cover: each minute of the tender, cell x, is in a winner's windows.
-  pub winners-cover-all : (x : ℕ) → x < cellsOf (c .tender) → WinnerAt (c .tender) (c .count) (c .bids) (c .windows) (awarded rows cost paid) x
+  pub winners-cover-all : (x : ℕ) → x < cellsOf (c .tender)
+      → WinnerAt (c .tender) (c .count) (c .bids) (c .windows) (awarded rows cost paid) x
   winners-cover-all = outcome.all-served (c .kind) (c .tender) (c .count) (c .bids) (c .windows) (length (c .rows-before)) rows cost paid
       (rw told at (c .promise .answers))
 
@@ -166,10 +171,12 @@ module _ (c : AwardCall) (rows : List AwardRow) (cost paid : ℕ) (told : toldBy
       (rw (told, k) at (c .promise .answers))
 
   -- A winner of a multi tender is paid the largest whole price with which it would still win if all else stood.
-  pub paid-the-largest-price : (i : ℕ) → c .kind ≡ Multi → i < c .count → rowFor (awarded rows cost paid) i .won ≡ true → (q : ℕ) →
+  pub paid-the-largest-price : (i : ℕ) → c .kind ≡ Multi → i < c .count → rowFor (awarded rows cost paid) i .won ≡ true
+      → (q : ℕ) →
       won Multi (hasOf (c .tender) (rowsOf (c .count) (c .bids)) (c .windows)) (set (pricesOf (rowsOf (c .count) (c .bids))) i q)
       (cellsOf (c .tender)) i ≡ leb q (rowFor (awarded rows cost paid) i .cents)
-  paid-the-largest-price i k l = outcome.largest-price (c .tender) (c .count) i (c .bids) (c .windows) (length (c .rows-before)) rows cost paid l
+  paid-the-largest-price i k l = outcome.largest-price (c .tender) (c .count) i (c .bids) (c .windows) (length (c .rows-before)) rows cost
+      paid l
       (rw (told, k) at (c .promise .answers))
 
 -- Of each bid of an accepted text a list shows the row that the award gave it: its bytes are read back.
@@ -191,7 +198,8 @@ pub no-gain : (r r′ : ReadCall) (c c′ : AwardCall) (bidder p q : List ℕ) �
 no-gain = no-gain-read
 
 -- The same of the lists that `tender_list` writes, by their bytes.
-pub no-gain-in-lists : (l l′ : ListCall) (bidder p q : List ℕ) → DifferInPrice (l .text) (l′ .text) bidder p q → ListGiven l → ListGiven l′
+pub no-gain-in-lists : (l l′ : ListCall) (bidder p q : List ℕ) → DifferInPrice (l .text) (l′ .text) bidder p q → ListGiven l
+    → ListGiven l′
     → NoGainShown l l′ bidder p
 no-gain-in-lists = no-gain-shown
 
@@ -207,12 +215,14 @@ no-gain-on-tables c c′ i t n s h h′ l a =
     (rw (s .kinds, t, n) (c′ .promise .answers)) h h′
 
 -- Every bid of an accepted text can be varied so, and the other text is accepted where the price is within the limits.
-pub can-be-varied : (text : List ℕ) (T : Tender) (R : List Row) (W : List Window) → readText text ≡ accepted T R W → (i : ℕ) → i < length R
+pub can-be-varied : (text : List ℕ) (T : Tender) (R : List Row) (W : List Window) → readText text ≡ accepted T R W → (i : ℕ)
+    → i < length R
     → (q : List ℕ) → Word q → Variant text T R W i q
 can-be-varied = varied
 
 -- No winner is paid less than the price named.
-pub never-paid-less : (c : AwardCall) (i : ℕ) → i < c .count → rowFor (toldBy c) i .won ≡ true → priceAt c i ≤ rowFor (toldBy c) i .cents
+pub never-paid-less : (c : AwardCall) (i : ℕ) → i < c .count → rowFor (toldBy c) i .won ≡ true
+    → priceAt c i ≤ rowFor (toldBy c) i .cents
 unfolding named
 never-paid-less c i l = outcome.no-loss (c .kind) (c .tender) (c .count) i (c .bids) (c .windows) (length (c .rows-before)) (toldBy c) l
     (c .promise .answers)

@@ -73,7 +73,8 @@ module _ (T : Tender) (R : List Row) (W : List Window) (rules : Rules T R W) whe
   unfolding listLines rowFor
   refusal-shown i n at = refused-row (getD R i noRow .bidder) (bidder-small T R W rules i) n at
 
-  outcome-shown : (o : Outcome) (i : ℕ) → o ≡ given → i < length R → rowShown (getD R i noRow .bidder) (listLines T R o) ≡ rowFor o i
+  outcome-shown : (o : Outcome) (i : ℕ) → o ≡ given → i < length R
+      → rowShown (getD R i noRow .bidder) (listLines T R o) ≡ rowFor o i
   outcome-shown (awarded rows cost paid) i e l = awarded-shown rows cost paid i e l
   outcome-shown (refused n at) i e l = refusal-shown i n at
 
@@ -109,14 +110,16 @@ price-cell (r ∷ R) v (suc i) l = ap (λ k. getD (r .bidder ∷ r .price ∷ r 
     index i = omega arith
 
 -- Two calls of `tender_list`.
-pub no-gain-shown : (l l′ : ListCall) (bidder p q : List ℕ) → DifferInPrice (l .text) (l′ .text) bidder p q → ListGiven l → ListGiven l′
+pub no-gain-shown : (l l′ : ListCall) (bidder p q : List ℕ) → DifferInPrice (l .text) (l′ .text) bidder p q → ListGiven l
+    → ListGiven l′
     → NoGainShown l l′ bidder p
 no-gain-shown l l′ bidder p q d g g′ = go (given-read l g) (given-read l′ g′)
   where
     by : (T T′ : Tender) (R R′ : List Row) (W W′ : List Window) → readText (l .text) ≡ accepted T R W
         → readText (l′ .text) ≡ accepted T′ R′ W′ → DifferInOnePrice T T′ R R′ W W′ bidder p q →
         right.NoGain R (flatRows R ++ []) (flatRows R′ ++ []) (awardOf (T .kind) T (length R) (flatRows R) (flatWindows W) (length R))
-        (awardOf (T′ .kind) T′ (length R′) (flatRows R′) (flatWindows W′) (length R′)) bidder p q → NoGainShown l l′ bidder p
+        (awardOf (T′ .kind) T′ (length R′) (flatRows R′) (flatWindows W′) (length R′)) bidder p q
+        → NoGainShown l l′ bidder p
     by T T′ R R′ W W′ h h′ m k =
         let b = getD R (k .i) noRow .bidder in
         let c = named (flatRows R ++ []) (k .i) in

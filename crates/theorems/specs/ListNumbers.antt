@@ -54,7 +54,8 @@ same-number : (a b c d : ℕ) → a < 10 ^ 20 → c < 10 ^ 20 → pairLine refus
 same-number a b c d l m e = first-number refusedWord a b c d plain-refused l m e
 
 -- an award's list begins with another word
-award-begins : (t : Tender) (R : List Row) (rows : List AwardRow) (cost paid : ℕ) → getD (listLines t R (awarded rows cost paid)) 1 0 ≡ 97
+award-begins : (t : Tender) (R : List Row) (rows : List AwardRow) (cost paid : ℕ)
+    → getD (listLines t R (awarded rows cost paid)) 1 0 ≡ 97
 unfolding listLines awardLine pairLine awardWord bytes
 award-begins t R rows cost paid = refl
 
@@ -77,13 +78,15 @@ read-declined T R W rules n at e = go (cellWith has (length R) (cellsOf T) 0) (c
     sound : faultOf (T .kind) T (length R) (flatRows R) (flatWindows W) ≡ none
     sound = rw (append-nil (flatRows R), append-nil (flatWindows W)) at (never-nine T R W [] [] rules)
 
-    settles : (x y : Found) → cellWith has (length R) (cellsOf T) 0 ≡ x → cellWith has (length R) (cellsOf T) 1 ≡ y → refused n at ≡
+    settles : (x y : Found) → cellWith has (length R) (cellsOf T) 0 ≡ x → cellWith has (length R) (cellsOf T) 1 ≡ y
+        → refused n at ≡
         thinned (T .window .start) x y (awarded (awardRows (T .kind) has ps (cellsOf T)) (costOf (T .kind) has ps (cellsOf T))
         (paidOf (T .kind) has ps (cellsOf T)))
     settles x y d f = sym e ∙ award-settles (T .kind) T (length R) (flatRows R) (flatWindows W) (length R) sound
         (le-ltb (length R) (length R) (omega arith)) x y d f
 
-    go : (x y : Found) → cellWith has (length R) (cellsOf T) 0 ≡ x → cellWith has (length R) (cellsOf T) 1 ≡ y → (n ≡ 11) ⊎ (n ≡ 12)
+    go : (x y : Found) → cellWith has (length R) (cellsOf T) 0 ≡ x → cellWith has (length R) (cellsOf T) 1 ≡ y → (n ≡ 11)
+        ⊎ (n ≡ 12)
     go (found x) y d f = let h = settles (found x) y d f in inl (cc)
     go nothing (found y) d f = let h = settles nothing (found y) d f in inr (cc)
     go nothing nothing d f = let h = settles nothing nothing d f in let z : _≡_ {A = ℕ} 0 1 = cc in absurd (omega arith)
@@ -93,7 +96,8 @@ pub shows-no-other : (l : ListCall) (n at : ℕ) → n < 10 ^ 20 → 0 < l .answ
 unfolding listOf listLines
 shows-no-other l n at small a e = go (readText (l .text)) refl (sym (listed-is (l .promise) a) ∙ e)
   where
-    found-as : (m k : ℕ) → pairLine refusedWord m k ≡ pairLine refusedWord n at → (m ≡ 11) ⊎ (m ≡ 12) → (n ≡ 11) ⊎ (n ≡ 12)
+    found-as : (m k : ℕ) → pairLine refusedWord m k ≡ pairLine refusedWord n at → (m ≡ 11) ⊎ (m ≡ 12) → (n ≡ 11)
+        ⊎ (n ≡ 12)
     found-as m k y (inl g) = inl (sym (same-number m k n at (omega arith) small y) ∙ g)
     found-as m k y (inr g) = inr (sym (same-number m k n at (omega arith) small y) ∙ g)
 

@@ -87,7 +87,8 @@ closed-back (b ∷ []) = refl
 closed-back (b ∷ c ∷ s) = rw (closed-back (c ∷ s))
 
 -- the last number of a line reads back
-last-back : (ws : List (List ℕ)) (word : List ℕ) (a b : ℕ) → ws ≡ (40 ∷ word) ∷ decimal a ∷ (decimal b ++ 41 ∷ []) ∷ [] → b < 10 ^ 20
+last-back : (ws : List (List ℕ)) (word : List ℕ) (a b : ℕ) → ws ≡ (40 ∷ word) ∷ decimal a ∷ (decimal b ++ 41 ∷ [])
+    ∷ [] → b < 10 ^ 20
     → lastNumber ws ≡ some b
 unfolding lastNumber andThen
 last-back ws word a b e l = ap lastNumber e ∙ ap (λ o. andThen o (digits 0)) (closed-back (decimal b)) ∙ decimal-back b l
@@ -141,7 +142,8 @@ module _ (n : ℕ) (small : n < 10 ^ 20) where
   other-word ws h = rw h
 
   -- a winner's line
-  win-on : (a b : ℕ) (ws : List (List ℕ)) → ws ≡ (40 ∷ winWord) ∷ decimal a ∷ (decimal b ++ 41 ∷ []) ∷ [] → a < 10 ^ 20 → b < 10 ^ 20
+  win-on : (a b : ℕ) (ws : List (List ℕ)) → ws ≡ (40 ∷ winWord) ∷ decimal a ∷ (decimal b ++ 41 ∷ []) ∷ []
+      → a < 10 ^ 20 → b < 10 ^ 20
       → winOn n ws ≡ cond (eqb a n) (some b) none
   unfolding winOn
   win-on a b ws e l m =
@@ -188,7 +190,8 @@ module _ (n : ℕ) (small : n < 10 ^ 20) (R : List Row) (rows : List AwardRow)
   line : ℕ → List ℕ
   line j = cond (getD rows j lost .won) (pairLine winWord (getD R j noRow .bidder) (getD rows j lost .cents)) []
 
-  other-line : (j : ℕ) (rest : List ℕ) → j < length R → (getD R j noRow .bidder ≡ n → ⊥) → rowShown n (line j ++ rest) ≡ rowShown n rest
+  other-line : (j : ℕ) (rest : List ℕ) → j < length R → (getD R j noRow .bidder ≡ n → ⊥)
+      → rowShown n (line j ++ rest) ≡ rowShown n rest
   unfolding line
   other-line j rest l d = go (getD rows j lost .won)
     where
@@ -199,7 +202,8 @@ module _ (n : ℕ) (small : n < 10 ^ 20) (R : List Row) (rows : List AwardRow)
           ∙ rw (ne-eqb (getD R j noRow .bidder) n d)
 
   own-line : (j : ℕ) (rest : List ℕ) → j < length R → getD R j noRow .bidder ≡ n →
-      rowShown n (line j ++ rest) ≡ cond (getD rows j lost .won) (record { won = true; cents = getD rows j lost .cents }) (rowShown n rest)
+      rowShown n (line j ++ rest) ≡ cond (getD rows j lost .won) (record { won = true; cents = getD rows j lost .cents })
+      (rowShown n rest)
   unfolding line
   own-line j rest l e = go (getD rows j lost .won)
     where

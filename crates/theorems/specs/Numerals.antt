@@ -30,9 +30,11 @@ unfolding digitsBefore
 read-back zero n done l = ap (λ (m : ℕ). digits m done) (omega arith)
 read-back (suc f) n done l = go (ltb n 10) refl (read-back f (n / 10) ((48 + n % 10) ∷ done) (omega (arith, pow-suc 10 f)))
   where
-    go : (t : Bool) → ltb n 10 ≡ t → digits 0 (digitsBefore f (n / 10) ((48 + n % 10) ∷ done)) ≡ digits (n / 10) ((48 + n % 10) ∷ done) →
+    go : (t : Bool) → ltb n 10 ≡ t → digits 0 (digitsBefore f (n / 10) ((48 + n % 10) ∷ done))
+        ≡ digits (n / 10) ((48 + n % 10) ∷ done) →
         digits 0 (cond t ((48 + n % 10) ∷ done) (digitsBefore f (n / 10) ((48 + n % 10) ∷ done))) ≡ digits n done
-    go true e ih = read-digit 0 (n % 10) done (omega arith) ∙ ap (λ (m : ℕ). digits m done) (let h = ltb-true n 10 e in omega (arith, h))
+    go true e ih = read-digit 0 (n % 10) done (omega arith)
+        ∙ ap (λ (m : ℕ). digits m done) (let h = ltb-true n 10 e in omega (arith, h))
     go false e ih = ih ∙ read-digit (n / 10) (n % 10) done (omega arith) ∙ ap (λ (m : ℕ). digits m done) (omega arith)
 
 -- a number of at most 20 digits reads back as that number
@@ -69,12 +71,14 @@ a-digit : (v b : ℕ) (w : List ℕ) (n : ℕ) → digits v (b ∷ w) ≡ some n
 unfolding digits within
 a-digit v b w n e = go (leb 48 b) (leb b 57) refl refl e
   where
-    go : (s t : Bool) → leb 48 b ≡ s → leb b 57 ≡ t → cond (s && t) (digits (v * 10 + (b - 48)) w) none ≡ some n → Digit v b w n
+    go : (s t : Bool) → leb 48 b ≡ s → leb b 57 ≡ t → cond (s && t) (digits (v * 10 + (b - 48)) w) none ≡ some n
+        → Digit v b w n
     go true true s t x = record { low = leb-true 48 b s; high = leb-true b 57 t; rest = x }
     go true false s t x = let z : _≡_ {A = ℕ} 0 1 = cc in absurd (omega arith)
     go false u s t x = let z : _≡_ {A = ℕ} 0 1 = cc in absurd (omega arith)
 
-spelt-more : (g v b : ℕ) (w : List ℕ) → 1 ≤ v → 48 ≤ b → b ≤ 57 → digitsBefore (suc g) (v * 10 + (b - 48)) w ≡ digitsBefore g v (b ∷ w)
+spelt-more : (g v b : ℕ) (w : List ℕ) → 1 ≤ v → 48 ≤ b → b ≤ 57
+    → digitsBefore (suc g) (v * 10 + (b - 48)) w ≡ digitsBefore g v (b ∷ w)
 unfolding digitsBefore
 spelt-more g v b w l lo hi =
     let d : 48 + (v * 10 + (b - 48)) % 10 ≡ b = omega arith in
@@ -104,7 +108,8 @@ numeral : (w : List ℕ) (n : ℕ) → numeralOf w ≡ some n → Numeral w n
 unfolding numeralOf within
 numeral w n e = go (leb 1 (length w) && leb (length w) 9 && not (leadingZero w)) refl e
   where
-    go : (t : Bool) → leb 1 (length w) && leb (length w) 9 && not (leadingZero w) ≡ t → cond t (digits 0 w) none ≡ some n → Numeral w n
+    go : (t : Bool) → leb 1 (length w) && leb (length w) 9 && not (leadingZero w) ≡ t → cond t (digits 0 w) none ≡ some n
+        → Numeral w n
     go false h x = let z : _≡_ {A = ℕ} 0 1 = cc in absurd (omega arith)
     go true h x =
         let s = and-split (leb 1 (length w) && leb (length w) 9) (not (leadingZero w)) h in

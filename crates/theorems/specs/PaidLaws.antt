@@ -81,7 +81,8 @@ cents-small Multi has ps L i s l =
     most : sum (set ps i 0) * length (cells L) ≤ 100000000000 * 10080
     most = mul-le-mul few minutes
 
-pub loser-none : (k : Kind) (has : ℕ → ℕ → Bool) (ps : List ℕ) (L i : ℕ) → won k has ps L i ≡ false → cents k has ps L i ≡ 0
+pub loser-none : (k : Kind) (has : ℕ → ℕ → Bool) (ps : List ℕ) (L i : ℕ) → won k has ps L i ≡ false
+    → cents k has ps L i ≡ 0
 unfolding won cents vcgPaid payment criticalPaid
 loser-none Single has ps L i e = rw e
 loser-none Multi has ps L i e = rw e
@@ -107,15 +108,18 @@ unfolding among
 still-among [] b c v = let z : _≡_ {A = ℕ} 0 1 = cc in absurd (omega arith)
 still-among (m ∷ ms) b c v = go (eqb m b) v (still-among ms b c)
   where
-    go : (t : Bool) → t || among b ms ≡ true → (among b ms ≡ true → among b (ms ++ c ∷ []) ≡ true) → t || among b (ms ++ c ∷ []) ≡ true
+    go : (t : Bool) → t || among b ms ≡ true → (among b ms ≡ true → among b (ms ++ c ∷ []) ≡ true)
+        → t || among b (ms ++ c ∷ []) ≡ true
     go true v f = refl
     go false v f = f v
 
 -- a bidder used before has no later row
-fresh : (k : Kind) (used : List ℕ) (at : ℕ) (R : List Row) (end b : ℕ) → RowsRules k used at R end → among b used ≡ true → (i : ℕ)
+fresh : (k : Kind) (used : List ℕ) (at : ℕ) (R : List Row) (end b : ℕ) → RowsRules k used at R end → among b used ≡ true
+    → (i : ℕ)
     → i < length R → getD R i noRow .bidder ≡ b → ⊥
 fresh k used at [] end b h u i l e = omega arith
-fresh k used at (r ∷ R) end b (h, hs) u zero l e = let n = h .bidder-new in let z : true ≡ false = sym u ∙ ap (λ c. among c used) (sym e)
+fresh k used at (r ∷ R) end b (h, hs) u zero l e = let n = h .bidder-new in let z : true ≡ false = sym u
+    ∙ ap (λ c. among c used) (sym e)
     ∙ n in
     let z : _≡_ {A = ℕ} 0 1 = cc in omega arith
 fresh k used at (r ∷ R) end b (h, hs) u (suc i) l e =
@@ -142,7 +146,8 @@ one-row k used at (r ∷ R) end (h, hs) (suc i) (suc j) l m d e =
     one-row k (used ++ r .bidder ∷ []) (at + r .count) R end hs i j (omega arith) (omega arith) (λ q. d (ap suc q)) e
 
 module _ (T : Tender) (R : List Row) (W : List Window) (rules : Rules T R W) where
-  pub bidder-once : (i j : ℕ) → i < length R → j < length R → (j ≡ i → ⊥) → getD R j noRow .bidder ≡ getD R i noRow .bidder → ⊥
+  pub bidder-once : (i j : ℕ) → i < length R → j < length R → (j ≡ i → ⊥)
+      → getD R j noRow .bidder ≡ getD R i noRow .bidder → ⊥
   bidder-once = one-row (T .kind) [] 0 R (length W) (rules .rows)
 
   pub bidder-small : (i : ℕ) → getD R i noRow .bidder < 10 ^ 20

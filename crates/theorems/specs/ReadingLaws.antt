@@ -26,7 +26,8 @@ use Rattle.reader.specs.Read.{ReadOutcome, accepted, refused, declinedBy, rowsF
 use Rattle.reader.specs.Read.{checked, tables, readLines, readText, fitted, readInto}
 use Rattle.reader.specs.Answer.{summary, toldReading, bidsAfter, windowsAfter}
 use Rattle.theorems.specs.Calls.{ReadRun, ReadKept}
-use Rattle.theorems.specs.OneReading.{orBroken, linesIn, Above, at-start, after, linesAbove, LineFault, of-form, of-count, of-limits}
+use Rattle.theorems.specs.OneReading.{orBroken, linesIn, Above, at-start, after, linesAbove, LineFault, of-form, of-count}
+use Rattle.theorems.specs.OneReading.{of-limits}
 use Rattle.theorems.specs.OneReading.{of-kind, of-window, of-bidder, pageOrder, Unlawful, SomeUnlawful, UsedIn, OnBid, OnLine}
 use Rattle.theorems.specs.OneReading.{FirstAmong, NoFault, SoundBids, SoundLines, LineOf, placeIn, FirstOn, Readable}
 use Rattle.theorems.specs.OneReading.{Declines, Fills, OneReading, text-too-long, bad-form, too-many, outside-limits}
@@ -106,7 +107,8 @@ unfolding allLawful
 some-unlawful [] = λ h. h
 some-unlawful (w ∷ ws) = go (lawful w) (allLawful ws) (unlawful w) (some-unlawful ws)
   where
-    go : (a b : Bool) → Decides (not a) (Unlawful w) → Decides (not b) (SomeUnlawful ws) → Decides (not (a && b)) (Unlawful w ⊎ SomeUnlawful ws)
+    go : (a b : Bool) → Decides (not a) (Unlawful w) → Decides (not b) (SomeUnlawful ws)
+        → Decides (not (a && b)) (Unlawful w ⊎ SomeUnlawful ws)
     go false b s u = inl s
     go true false s u = inr u
     go true true s u = says-or (Unlawful w) (SomeUnlawful ws) false false s u
@@ -119,7 +121,8 @@ single Multi = λ e. let z : _≡_ {A = ℕ} 0 1 = cc in absurd (omega arith)
 used : (n : ℕ) (bs : List BidLine) → Decides (among n (map (λ b. b .bidder) bs)) (UsedIn n bs)
 unfolding among
 used n [] = λ h. h
-used n (b ∷ bs) = says-or (b .bidder ≡ n) (UsedIn n bs) (eqb (b .bidder) n) (among n (map (λ b. b .bidder) bs)) (says-eqb (b .bidder) n)
+used n (b ∷ bs) = says-or (b .bidder ≡ n) (UsedIn n bs) (eqb (b .bidder) n) (among n (map (λ b. b .bidder) bs))
+    (says-eqb (b .bidder) n)
     (used n bs)
 
 -- the refusal that a fault brings, on its line
@@ -138,7 +141,8 @@ first-stands [] f d x h = absurd h
 first-stands (g ∷ gs) f d x (inl (e, s)) = subst (λ h. OnLine h d x) (sym e) s
 first-stands (g ∷ gs) f d x (inr (n, r)) = first-stands gs f d x r
 
-one-first : (gs : List LineFault) (f g : LineFault) (d : Above) (x : Option Line) → FirstAmong gs f d x → FirstAmong gs g d x → f ≡ g
+one-first : (gs : List LineFault) (f g : LineFault) (d : Above) (x : Option Line) → FirstAmong gs f d x → FirstAmong gs g d x
+    → f ≡ g
 one-first [] f g d x h k = absurd h
 one-first (y ∷ gs) f g d x (inl (e, s)) (inl (u, v)) = e ∙ sym u
 one-first (y ∷ gs) f g d x (inl (e, s)) (inr (n, r)) = absurd (n s)
@@ -158,7 +162,8 @@ verdict t done b = rw (length-map done (λ b. b .bidder))
     (isSingle (t .kind) && ltb 1 (length (b .windows))) (not (allLawful (b .windows))) (among (b .bidder) (map (λ b. b .bidder) done))
     (says-or (1000 ≤ length done) (32 < length (b .windows)) (leb 1000 (length done)) (ltb 32 (length (b .windows)))
     (says-leb 1000 (length done)) (says-ltb 32 (length (b .windows))))
-    (says-or ((b .bidder < 1) ⊎ (999999 < b .bidder)) (100000000 < b .price) (not (within 1 999999 (b .bidder))) (ltb 100000000 (b .price))
+    (says-or ((b .bidder < 1) ⊎ (999999 < b .bidder)) (100000000 < b .price) (not (within 1 999999 (b .bidder)))
+    (ltb 100000000 (b .price))
     (outside 1 999999 (b .bidder)) (says-ltb 100000000 (b .price)))
     (says-and (t .kind ≡ Single) (1 < length (b .windows)) (isSingle (t .kind)) (ltb 1 (length (b .windows))) (single (t .kind))
     (says-ltb 1 (length (b .windows))))
@@ -187,11 +192,13 @@ verdict t done b = rw (length-map done (λ b. b .bidder))
 -- the lines after the tender's: all are faultless bids, or the first that is not has its first fault
 data Walked (t : Tender) (done : List BidLine) (ls : List (Option Line)) (out o : ReadOutcome) : Type 0 where
   all-sound : (bs : List BidLine) → ls ≡ map (λ b. some (bid b)) bs → SoundBids t done bs → o ≡ out → Walked t done ls out o
-  stops : (bs : List BidLine) (x : Option Line) (rest : List (Option Line)) (f : LineFault) → ls ≡ map (λ b. some (bid b)) bs ++ x ∷ rest
+  stops : (bs : List BidLine) (x : Option Line) (rest : List (Option Line)) (f : LineFault) → ls ≡ map (λ b. some (bid b)) bs
+      ++ x ∷ rest
       → SoundBids t done bs → FirstAmong pageOrder f (after t (done ++ bs)) x →
       o ≡ declinedBy (refusalOf f (length done + length bs + 2)) → Walked t done ls out o
 
-bidders-after : (done : List BidLine) (b : BidLine) → map (λ b. b .bidder) (done ++ b ∷ []) ≡ map (λ b. b .bidder) done ++ b .bidder ∷ []
+bidders-after : (done : List BidLine) (b : BidLine) → map (λ b. b .bidder) (done ++ b ∷ []) ≡ map (λ b. b .bidder) done
+    ++ b .bidder ∷ []
 bidders-after [] b = refl
 bidders-after (c ∷ done) b = ap (λ l. c .bidder ∷ l) (bidders-after done b)
 
@@ -211,7 +218,8 @@ walked t done (some (bid b) ∷ ls) out at e =
         → Walked t done (some (bid b) ∷ ls) out o
     more o v (all-sound bs l s q) = all-sound (b ∷ bs) (ap {B = List (Option Line)} (λ r. some (bid b) ∷ r) l) (v, s) q
     more o v (stops bs x rest f l s h q) =
-        stops (b ∷ bs) x rest f (ap {B = List (Option Line)} (λ r. some (bid b) ∷ r) l) (v, s) (rw (append-assoc done (b ∷ []) bs) at h)
+        stops (b ∷ bs) x rest f (ap {B = List (Option Line)} (λ r. some (bid b) ∷ r) l) (v, s)
+        (rw (append-assoc done (b ∷ []) bs) at h)
         (q ∙ ap (λ n. declinedBy (refusalOf f n)) (let m = length-append done (b ∷ []) in omega (arith, m)))
 
     go : (o : Option (ℕ → Refusal)) → Verdict (after t done) (some (bid b)) o
@@ -248,7 +256,8 @@ module _ (text : List ℕ) (short : length text ≤ 65536) where
   first-line x ls e f = faulty (record { above = at-start; line = x; rest = ls; short = short; lines = e; sound = tt }) of-form
       (inl (refl, f)) refl
 
-  after-tender : (t : Tender) (ls : List (Option Line)) → linesIn text ≡ some (tender t) ∷ ls → (v : Bool) → Decides v (Unlawful (t .window)) →
+  after-tender : (t : Tender) (ls : List (Option Line)) → linesIn text ≡ some (tender t) ∷ ls → (v : Bool)
+      → Decides v (Unlawful (t .window)) →
       TextRead text (cond (not v) (checked (t .kind) 2 [] ls (tables t (bidsOf ls))) (declinedBy (BadWindow 1)))
   unfolding tables
   after-tender t ls e true u =
@@ -300,7 +309,8 @@ text-read : (text : List ℕ) → TextRead text (readText text)
 unfolding readText
 text-read text = go (ltb 65536 (length text)) refl
   where
-    go : (b : Bool) → ltb 65536 (length text) ≡ b → TextRead text (cond b (declinedBy TextTooLong) (readLines (linesOf (cut 10 text))))
+    go : (b : Bool) → ltb 65536 (length text) ≡ b → TextRead text
+        (cond b (declinedBy TextTooLong) (readLines (linesOf (cut 10 text))))
     go true e = long (ltb-true 65536 (length text) e) refl
     go false e = lines-read text (ltb-false 65536 (length text) e) (linesOf (cut 10 text)) refl
 
@@ -398,7 +408,8 @@ skips t done (b ∷ bs) ls out at (v, s) =
     mid : ReadOutcome
     mid = checked (t .kind) (at + 1 + length bs) (map (λ b. b .bidder) ((done ++ b ∷ []) ++ bs)) ls out
 
-    step : checked (t .kind) (at + 1) (map (λ b. b .bidder) (done ++ b ∷ [])) (map (λ b. some (bid b)) bs ++ ls) out ≡ mid → rest ≡ end
+    step : checked (t .kind) (at + 1) (map (λ b. b .bidder) (done ++ b ∷ [])) (map (λ b. some (bid b)) bs ++ ls) out ≡ mid
+        → rest ≡ end
     step ih =
         let e : at + 1 + length bs ≡ at + length (b ∷ bs) = omega arith in
         ap (λ us. checked (t .kind) (at + 1) us (map (λ b. some (bid b)) bs ++ ls) out) (sym (bidders-after done b))
@@ -416,7 +427,8 @@ at-fault : (t : Tender) (done : List BidLine) (x : Option Line) (ls : List (Opti
     → FirstAmong pageOrder f (after t done) x
     → checked (t .kind) at (map (λ b. b .bidder) done) (x ∷ ls) out ≡ declinedBy (refusalOf f at)
 unfolding checked lineJudged
-at-fault t done none ls out at f h = let e = first-stands pageOrder f (after t done) none h in ap (λ g. declinedBy (refusalOf g at)) (sym e)
+at-fault t done none ls out at f h = let e = first-stands pageOrder f (after t done) none h in
+    ap (λ g. declinedBy (refusalOf g at)) (sym e)
 at-fault t done (some (tender u)) ls out at f h =
     let e = first-stands pageOrder f (after t done) (some (tender u)) h in
     ap (λ g. declinedBy (refusalOf g at)) (sym e)
@@ -465,7 +477,8 @@ at-first f (some (tender t)) ls k =
     let s = first-stands pageOrder f at-start (some (tender t)) k in
     rw (says-unlawful (t .window) (s .1)) (ap (λ g. declinedBy (refusalOf g 1)) (sym (s .0)))
 
-line-refused : (text : List ℕ) (l : LineOf text) (f : LineFault) → FirstOn f l → readText text ≡ declinedBy (refusalOf f (placeIn l))
+line-refused : (text : List ℕ) (l : LineOf text) (f : LineFault) → FirstOn f l
+    → readText text ≡ declinedBy (refusalOf f (placeIn l))
 line-refused text l f h = short-text text (l .short) ∙ ap readLines (l .lines) ∙ go (l .above) (l .line) (l .sound) h
   where
     go : (d : Above) (x : Option Line) → SoundLines d → FirstAmong pageOrder f d x →
@@ -484,7 +497,8 @@ through : (t : Tender) (bs : List BidLine) (out : ReadOutcome) → SoundBids t [
 unfolding checked
 through t bs out s = skips t [] bs [] out 2 s
 
-pub text-accepted : (text : List ℕ) (t : Tender) (R : List Row) (W : List Window) → Readable text t R W → readText text ≡ accepted t R W
+pub text-accepted : (text : List ℕ) (t : Tender) (R : List Row) (W : List Window) → Readable text t R W
+    → readText text ≡ accepted t R W
 unfolding tables
 text-accepted text t R W h =
     let bs = h .bids in
@@ -556,7 +570,8 @@ module _ (r : ReadRun) where
   reading-kept (tables-filled t R W d s x) = filled-kept t R W (text-accepted (r .text) t R W d) s x
 
 -- the contract leaves no choice
-pub one-case : (x y : ReadRun) → ReadKept x → ReadKept y → x .text ≡ y .text → x .bids ≡ y .bids → x .windows ≡ y .windows → SameReading x y
+pub one-case : (x y : ReadRun) → ReadKept x → ReadKept y → x .text ≡ y .text → x .bids ≡ y .bids → x .windows ≡ y .windows
+    → SameReading x y
 one-case x y h k e f g = record {
   answers = h .answers ∙ rw (e, f, g) (sym (k .answers));
   bids-same = h .rows ∙ rw (e, f, g) (sym (k .rows));

@@ -68,8 +68,8 @@ accepted-read r t n m e = go (readText (r .run .text)) refl (sym (ap reader.told
     go : (o : reading.ReadOutcome) → readText (r .run .text) ≡ o
         → filled t n m ≡ summary (fitted (length (r .run .bids) / 4) (length (r .run .windows) / 2) o) →
         r .run .bids-after ≡ bidsAfter (r .run .bids) (fitted (length (r .run .bids) / 4) (length (r .run .windows) / 2) o)
-        → r .run .windows-after ≡ windowsAfter (r .run .windows) (fitted (length (r .run .bids) / 4) (length (r .run .windows) / 2) o) →
-        ReadLeft (r .run .text) (r .run .bids-after) (r .run .windows-after) t n
+        → r .run .windows-after ≡ windowsAfter (r .run .windows) (fitted (length (r .run .bids) / 4) (length (r .run .windows) / 2) o)
+        → ReadLeft (r .run .text) (r .run .bids-after) (r .run .windows-after) t n
     go (reading.refused k at) h x y z = let f : _≡_ {A = ℕ} 0 1 = cc in absurd (omega arith)
     go (accepted T R W) h x y z = room T R W (leb (length R) (length (r .run .bids) / 4) && leb (length W) (length (r .run .windows) / 2))
         h x y z
@@ -153,21 +153,26 @@ module _ (bidder p q : List ℕ) (k k′ : Kind) (T T′ : Tender) (n n′ : ℕ
 
   between : (text text′ : List ℕ) → k ≡ k′ → DifferInPrice text text′ bidder p q → ReadLeft text bids windows T n
       → ReadLeft text′ bids′ windows′ T′ n′ → ltb (length old) n ≡ ltb (length old′) n′ → Between
-  between text text′ s d h h′ e = of-calls h h′ (price-law text text′ bidder p q T T′ (h .rows) (h′ .rows) (h .spans) (h′ .spans) d
+  between text text′ s d h h′ e = of-calls h h′ (price-law text text′ bidder p q T T′ (h .rows) (h′ .rows) (h .spans)
+      (h′ .spans) d
       (h .is) (h′ .is) .rows)
-      (honest-texts text text′ bidder p q k T T′ (h .rows) (h′ .rows) (h .spans) (h′ .spans) (h .past-rows) (h .past-spans) (h′ .past-rows)
-      (h′ .past-spans) (length old) (length old′) (toldAward (length (h .rows)) new a) (toldAward (length (h′ .rows)) new′ a′) d (h .is)
+      (honest-texts text text′ bidder p q k T T′ (h .rows) (h′ .rows) (h .spans) (h′ .spans) (h .past-rows) (h .past-spans)
+      (h′ .past-rows)
+      (h′ .past-spans) (length old) (length old′) (toldAward (length (h .rows)) new a) (toldAward (length (h′ .rows)) new′ a′) d
+      (h .is)
       (h′ .is) (rw (h .count, h′ .count) e)
       (rw (h .count, ← (h .bids-are), ← (h .windows-are)) (y .answers))
       (rw (s, h′ .count, ← (h′ .bids-are), ← (h′ .windows-are)) (y′ .answers)))
 
 -- Two calls of `read`, two of the same award on what they left.
-pub no-gain-read : (r r′ : ReadCall) (c c′ : AwardCall) (bidder p q : List ℕ) → DifferInPrice (r .run .text) (r′ .run .text) bidder p q
+pub no-gain-read : (r r′ : ReadCall) (c c′ : AwardCall) (bidder p q : List ℕ)
+    → DifferInPrice (r .run .text) (r′ .run .text) bidder p q
     → Follows r c → Follows r′ c′ → SameAward c c′ → NoGainBetween c c′ bidder p q
 no-gain-read r r′ c c′ bidder p q d f f′ s =
     let h = accepted-read r (c .tender) (c .count) (f .window-rows) (f .accepts) in
     let h′ = accepted-read r′ (c′ .tender) (c′ .count) (f′ .window-rows) (f′ .accepts) in
     between bidder p q (c .kind) (c′ .kind) (c .tender) (c′ .tender) (c .count) (c′ .count) (c .bids) (c .windows) (c′ .bids)
     (c′ .windows) (c .rows-before) (c .rows-after) (c′ .rows-before) (c′ .rows-after)
-    (c .answer) (c′ .answer) (c .promise) (c′ .promise) (r .run .text) (r′ .run .text) (s .kinds) d (rw (f .bids-are, f .windows-are) h)
+    (c .answer) (c′ .answer) (c .promise) (c′ .promise) (r .run .text) (r′ .run .text) (s .kinds) d
+    (rw (f .bids-are, f .windows-are) h)
     (rw (f′ .bids-are, f′ .windows-are) h′) (s .room)

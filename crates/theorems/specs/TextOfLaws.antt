@@ -48,7 +48,8 @@ unfolding cut joined
 joined-cut d [] = refl
 joined-cut d (b ∷ s) = go (eqb b d) refl (cut-some d s) (joined-cut d s)
   where
-    go : (t : Bool) → eqb b d ≡ t → Pieces (cut d s) → joined d (cut d s) ≡ s → joined d (cond t ([] ∷ cut d s) (growFirst b (cut d s)))
+    go : (t : Bool) → eqb b d ≡ t → Pieces (cut d s) → joined d (cut d s) ≡ s
+        → joined d (cond t ([] ∷ cut d s) (growFirst b (cut d s)))
         ≡ b ∷ s
     go true e c h = joined-new d (cut d s) c ∙ rw (h, eqb-true b d e)
     go false e c h = joined-grow d b (cut d s) c ∙ ap (λ l. b ∷ l) h
@@ -68,7 +69,8 @@ same-is [] (b ∷ t) e = let z : _≡_ {A = ℕ} 0 1 = cc in absurd (omega arith
 same-is (a ∷ s) [] e = let z : _≡_ {A = ℕ} 0 1 = cc in absurd (omega arith)
 same-is (a ∷ s) (b ∷ t) e = go (eqb a b) refl e (same-is s t)
   where
-    go : (v : Bool) → eqb a b ≡ v → cond v (sameBytes s t) false ≡ true → (sameBytes s t ≡ true → s ≡ t) → a ∷ s ≡ b ∷ t
+    go : (v : Bool) → eqb a b ≡ v → cond v (sameBytes s t) false ≡ true → (sameBytes s t ≡ true → s ≡ t)
+        → a ∷ s ≡ b ∷ t
     go true f x ih = rw (eqb-true a b f, ih x)
     go false f x ih = let z : _≡_ {A = ℕ} 0 1 = cc in absurd (omega arith)
 
@@ -104,7 +106,8 @@ span-is : (s e : List ℕ) (w : Window) → spanOf s e ≡ some w → SpeltSpan 
 unfolding spanOf andThen
 span-is s e w h = go (numeralOf s) (numeralOf e) refl refl h
   where
-    go : (x y : Option ℕ) → numeralOf s ≡ x → numeralOf e ≡ y → andThen x (λ a. andThen y (λ z. some (record { start = a; end = z })))
+    go : (x y : Option ℕ) → numeralOf s ≡ x → numeralOf e ≡ y
+        → andThen x (λ a. andThen y (λ z. some (record { start = a; end = z })))
         ≡ some w → SpeltSpan s e w
     go none y f g q = let z : _≡_ {A = ℕ} 0 1 = cc in absurd (omega arith)
     go (some a) none f g q = let z : _≡_ {A = ℕ} 0 1 = cc in absurd (omega arith)
@@ -124,7 +127,8 @@ window-is : (s e : List ℕ) (w : Window) → windowOf s e ≡ some w → Bracke
 unfolding windowOf andThen
 window-is s e w h = go (opened s) (closed e) refl refl h
   where
-    go : (x y : Option (List ℕ)) → opened s ≡ x → closed e ≡ y → andThen x (λ a. andThen y (λ z. spanOf a z)) ≡ some w → Bracketed s e w
+    go : (x y : Option (List ℕ)) → opened s ≡ x → closed e ≡ y → andThen x (λ a. andThen y (λ z. spanOf a z)) ≡ some w
+        → Bracketed s e w
     go none y f g q = let z : _≡_ {A = ℕ} 0 1 = cc in absurd (omega arith)
     go (some a) none f g q = let z : _≡_ {A = ℕ} 0 1 = cc in absurd (omega arith)
     go (some a) (some z) f g q =
@@ -141,7 +145,8 @@ windows-are [] l h = let z : _≡_ {A = ℕ} 0 1 = cc in absurd (omega arith)
 windows-are (s ∷ []) l h = let z : _≡_ {A = ℕ} 0 1 = cc in absurd (omega arith)
 windows-are (s ∷ e ∷ []) l h = go (closed e) refl h
   where
-    last : (z : List ℕ) → e ≡ z ++ 41 ∷ [] → (o : Option Window) → windowOf s z ≡ o → andThen o (λ w. some (w ∷ [])) ≡ some l
+    last : (z : List ℕ) → e ≡ z ++ 41 ∷ [] → (o : Option Window) → windowOf s z ≡ o
+        → andThen o (λ w. some (w ∷ [])) ≡ some l
         → s ∷ e ∷ [] ≡ windowWords l
     last z f none g q = let n : _≡_ {A = ℕ} 0 1 = cc in absurd (omega arith)
     last z f (some w) g q =
@@ -155,9 +160,11 @@ windows-are (s ∷ e ∷ []) l h = go (closed e) refl h
     go (some z) f q = last z (closed-is e z f) (windowOf s z) refl q
 windows-are (s ∷ e ∷ x ∷ ws) l h = go (windowOf s e) (windowsIn (x ∷ ws)) refl refl h (windows-are (x ∷ ws))
   where
-    longer : (w : Window) (r : List Window) → Bracketed s e w → x ∷ ws ≡ windowWords r → s ∷ e ∷ x ∷ ws ≡ windowWords (w ∷ r)
+    longer : (w : Window) (r : List Window) → Bracketed s e w → x ∷ ws ≡ windowWords r
+        → s ∷ e ∷ x ∷ ws ≡ windowWords (w ∷ r)
     longer w [] b f = let n = ap length f in absurd (omega (arith, n))
-    longer w (v ∷ r) b f = rw (b .start-is, b .end-is) (ap (λ l. (40 ∷ decimal (w .start)) ∷ (decimal (w .end) ++ 41 ∷ []) ∷ l) f)
+    longer w (v ∷ r) b f = rw (b .start-is, b .end-is)
+        (ap (λ l. (40 ∷ decimal (w .start)) ∷ (decimal (w .end) ++ 41 ∷ []) ∷ l) f)
 
     go : (o : Option Window) (p : Option (List Window)) → windowOf s e ≡ o → windowsIn (x ∷ ws) ≡ p
         → andThen o (λ w. andThen p (λ r. some (w ∷ r))) ≡ some l →
@@ -170,7 +177,8 @@ kind-is : (w : List ℕ) (k : Kind) → kindOf w ≡ some k → w ≡ kindWord k
 unfolding kindOf kindWord
 kind-is w k h = go (sameBytes w singleWord) (sameBytes w multiWord) refl refl h
   where
-    go : (a b : Bool) → sameBytes w singleWord ≡ a → sameBytes w multiWord ≡ b → cond a (some Single) (cond b (some Multi) none) ≡ some k
+    go : (a b : Bool) → sameBytes w singleWord ≡ a → sameBytes w multiWord ≡ b
+        → cond a (some Single) (cond b (some Multi) none) ≡ some k
         → w ≡ kindWord k
     go true b f g q = let e : Single ≡ k = cc in same-is w singleWord f ∙ ap kindWord e
     go false true f g q = let e : Multi ≡ k = cc in same-is w multiWord g ∙ ap kindWord e
@@ -274,11 +282,13 @@ rows-spell at (b ∷ bs) W e =
     rw (w, rows-spell (at + length (b .windows)) bs W d)
 
 -- No bid is dropped or shortened: an accepted text is the one spelt from its tender, rows and windows.
-pub spelt-again : (text : List ℕ) (T : Tender) (R : List Row) (W : List Window) → readText text ≡ accepted T R W → text ≡ textOf T R W
+pub spelt-again : (text : List ℕ) (T : Tender) (R : List Row) (W : List Window) → readText text ≡ accepted T R W
+    → text ≡ textOf T R W
 unfolding readLines textOf
 spelt-again text T R W e = go (linesOf (cut 10 text)) refl (cut-some 10 text) (read-lines T R W text e)
   where
-    go : (ls : List (Option Line)) → linesOf (cut 10 text) ≡ ls → Pieces (cut 10 text) → readLines ls ≡ accepted T R W → text ≡ textOf T R W
+    go : (ls : List (Option Line)) → linesOf (cut 10 text) ≡ ls → Pieces (cut 10 text) → readLines ls ≡ accepted T R W
+        → text ≡ textOf T R W
     go [] q c x = never x
     go (l ∷ ls) q c x =
         let g = begun T R W l ls x in

@@ -35,7 +35,8 @@ row-at (r ∷ R) (suc i) l = let a = row-at R i (omega arith) in
     record { before = r ∷ a .before; after = a .after; are = ap (λ s. r ∷ s) (a .are) }
 
 -- its windows stand among the windows
-row-in : (k : Kind) (used : List ℕ) (at : ℕ) (xs : List Row) (r : Row) (ys : List Row) (end : ℕ) → RowsRules k used at (xs ++ r ∷ ys) end
+row-in : (k : Kind) (used : List ℕ) (at : ℕ) (xs : List Row) (r : Row) (ys : List Row) (end : ℕ)
+    → RowsRules k used at (xs ++ r ∷ ys) end
     → (1 ≤ r .count) × (r .first + r .count ≤ end)
 row-in k used at [] r ys end (h, hs) = let b = h .begins in let s = h .some-window in
     (s, omega (arith, b, rows-end k (used ++ r .bidder ∷ []) (at + r .count) ys end hs))
@@ -114,10 +115,12 @@ parted text T xs r ys W e s =
       head = b .but-last;
       tail = spaced (windowWords (spansOf W r)) ++ 10 ∷ rest;
       is = e ∙ around T W xs r ys ∙ ap (λ x. x ++ (rowLine W r ++ 10 ∷ rest)) (b .are)
-          ∙ append-assoc (b .but-last) (10 ∷ []) (rowLine W r ++ 10 ∷ rest) ∙ ap (λ x. b .but-last ++ 10 ∷ x) (line-at W r rest s);
+          ∙ append-assoc (b .but-last) (10 ∷ []) (rowLine W r ++ 10 ∷ rest)
+          ∙ ap (λ x. b .but-last ++ 10 ∷ x) (line-at W r rest s);
     }
 
-pub varied : (text : List ℕ) (T : Tender) (R : List Row) (W : List Window) → readText text ≡ accepted T R W → (i : ℕ) → i < length R
+pub varied : (text : List ℕ) (T : Tender) (R : List Row) (W : List Window) → readText text ≡ accepted T R W → (i : ℕ)
+    → i < length R
     → (q : List ℕ) → Word q → Variant text T R W i q
 varied text T R W h i l q wq = go (row-at R i l)
   where
@@ -125,7 +128,11 @@ varied text T R W h i l q wq = go (row-at R i l)
     r = getD R i noRow
 
     made : Parted text r → Variant text T R W i q
-    made p = record { other = other; differ = differ; accepted-too = λ v e m k. also (price-change text other _ _ q v T R W differ h e m k) }
+    made p = record {
+      other = other;
+      differ = differ;
+      accepted-too = λ v e m k. also (price-change text other _ _ q v T R W differ h e m k);
+    }
       where
         other : List ℕ
         other = p .head ++ 10 ∷ bidLine (decimal (r .bidder)) q (p .tail)
