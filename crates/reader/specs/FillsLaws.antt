@@ -25,7 +25,7 @@ use Rattle.reader_line.specs.declared.words.LineEnd.{LineEnd}
 use Rattle.reader_line.specs.declared.words.LineEnd.the-variants.{At, Broken}
 use Rattle.reader.specs.Read.{ReadOutcome, refused, rowsFrom, allWindows, bidsOf, bidFaultIn, bidFault, lineJudged, checked}
 use Rattle.reader.specs.RulesLaws.{passed}
-use Rattle.reader.specs.Steps.{Fault, Declines, BidTaken, Judged, Taken, TablesHold}
+use Rattle.reader.specs.Steps.{Fault, StepDeclines, BidTaken, Judged, Taken, TablesHold}
 use Rattle.reader.specs.declared.bids.Step.{Step}
 use Rattle.reader.specs.declared.bids.Step.the-variants as step
 use Rattle.reader.specs.StoreLaws.{front, windows-put, windows-more, flat-more, rows-more}
@@ -118,7 +118,7 @@ marked-more b us used used′ h f x = go (eqb b x) refl (ltb x b) refl ∙ sym (
         let l : b + 1 ≤ x = omega (arith, ltb-false x b g) in
         rw (f .above x l, or-false (among x us)) (h x)
 
-bid-not-refused : {A : Type 0} (r : Step) (c n at : ℕ) → r ≡ step.Bid c → Declines r n at → A
+bid-not-refused : {A : Type 0} (r : Step) (c n at : ℕ) → r ≡ step.Bid c → StepDeclines r n at → A
 bid-not-refused (step.Bid d) c n at e h = absurd h
 bid-not-refused (step.Refused x) c n at e h = let z : _≡_ {A = ℕ} 0 1 = cc in absurd (omega arith)
 
@@ -195,7 +195,7 @@ module _ (kind : Kind) (whole rest : List (Option Line)) (k m : ℕ) (used rows 
       go none g j = let q : c ≡ length (b .windows) = cc (e, j .answer) in rw q (more b w r (room b refl) g j lu lr lw)
       go (some f) g j = bid-not-refused r c (numberOf (f (k + 2))) (placeOf (f (k + 2))) e j
 
-  refusal-is : (r : Step) (x : Refusal) (n at : ℕ) → r ≡ step.Refused x → Declines r n at
+  refusal-is : (r : Step) (x : Refusal) (n at : ℕ) → r ≡ step.Refused x → StepDeclines r n at
       → refused n at ≡ refused (numberOf x) (placeOf x)
   refusal-is (step.Bid d) x n at e h = absurd h
   refusal-is (step.Refused y) x n at e h =

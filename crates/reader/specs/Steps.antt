@@ -46,9 +46,9 @@ verdictOf Sound = none
 verdictOf (Faulty r) = some (faultOfRefusal r)
 
 -- the line declines
-abbrev pub Declines : Step → ℕ → ℕ → Type 0
-Declines (step.Bid count) n at = ⊥
-Declines (step.Refused r) n at = faultOfRefusal r ≡ record { number = n; place = at }
+abbrev pub StepDeclines : Step → ℕ → ℕ → Type 0
+StepDeclines (step.Bid count) n at = ⊥
+StepDeclines (step.Refused r) n at = faultOfRefusal r ≡ record { number = n; place = at }
 
 -- a bid goes into the tables after k bids with m windows
 pub record BidTaken (b : BidLine) (k m : ℕ) (used rows windows : List ℕ) (r : Step) (used′ rows′ windows′ : List ℕ) : Type 0
@@ -63,13 +63,13 @@ pub record BidTaken (b : BidLine) (k m : ℕ) (used rows windows : List ℕ) (r 
 abbrev pub Judged : Option (ℕ → Refusal) → BidLine → ℕ → ℕ → (used rows windows : List ℕ) → Step
     → (used′ rows′ windows′ : List ℕ) → Type 0
 Judged none b k m used rows windows r used′ rows′ windows′ = BidTaken b k m used rows windows r used′ rows′ windows′
-Judged (some f) b k m used rows windows r used′ rows′ windows′ = Declines r (numberOf (f (k + 2))) (placeOf (f (k + 2)))
+Judged (some f) b k m used rows windows r used′ rows′ windows′ = StepDeclines r (numberOf (f (k + 2))) (placeOf (f (k + 2)))
 
 -- what comes of a line
 abbrev pub Taken : Option Line → Kind → ℕ → ℕ → (used rows windows : List ℕ) → Step
     → (used′ rows′ windows′ : List ℕ) → Type 0
-Taken none kind k m used rows windows r used′ rows′ windows′ = Declines r 2 (k + 2)
-Taken (some (tender t)) kind k m used rows windows r used′ rows′ windows′ = Declines r 2 (k + 2)
+Taken none kind k m used rows windows r used′ rows′ windows′ = StepDeclines r 2 (k + 2)
+Taken (some (tender t)) kind k m used rows windows r used′ rows′ windows′ = StepDeclines r 2 (k + 2)
 Taken (some (bid b)) kind k m used rows windows r used′ rows′ windows′ =
     Judged (bidFaultIn kind k (b .bidder) (b .price) (length (b .windows)) (allLawful (b .windows)) (eqb (cells.cell used (b .bidder)) 1)) b
     k m used rows windows r used′ rows′ windows′

@@ -17,7 +17,7 @@ use Rattle.reader_line.specs.Scan.{putWindows, Tally, tally, tenderNote, bidNot
 use Rattle.tender.specs.declared.Refusal.{Refusal}
 use Rattle.tender.specs.Refusals.{numberOf, placeOf}
 use Rattle.reader.specs.Read.{bidFaultIn}
-use Rattle.reader.specs.Steps.{rowNumbers, Fault, faultAt, faultOfRefusal, Declines, Taken}
+use Rattle.reader.specs.Steps.{rowNumbers, Fault, faultAt, faultOfRefusal, StepDeclines, Taken}
 use Rattle.reader.specs.declared.bids.Step.{Step}
 use Rattle.reader.specs.declared.bids.Step.the-variants as step
 
@@ -56,14 +56,14 @@ noted-bid n p c ok m old new b e =
     }
 
 module _ (kind : Kind) (k m : ℕ) (used rows windows : List ℕ) (r : Step) (used′ rows′ windows′ : List ℕ) where
-  pub taken-broken : (o : Option Line) → none ≡ noted m windows o → Declines r 2 (k + 2)
+  pub taken-broken : (o : Option Line) → none ≡ noted m windows o → StepDeclines r 2 (k + 2)
       → Taken o kind k m used rows windows r used′ rows′ windows′
   unfolding noted
   taken-broken none e h = h
   taken-broken (some (tender t)) e h = let z : _≡_ {A = ℕ} 0 1 = cc in absurd (omega arith)
   taken-broken (some (bid b)) e h = let z : _≡_ {A = ℕ} 0 1 = cc in absurd (omega arith)
 
-  pub taken-tender : (o : Option Line) (t : Tender) → some (tenderNote t) ≡ noted m windows o → Declines r 2 (k + 2)
+  pub taken-tender : (o : Option Line) (t : Tender) → some (tenderNote t) ≡ noted m windows o → StepDeclines r 2 (k + 2)
       → Taken o kind k m used rows windows r used′ rows′ windows′
   unfolding noted
   taken-tender none t e h = let z : _≡_ {A = ℕ} 0 1 = cc in absurd (omega arith)
@@ -73,7 +73,7 @@ module _ (kind : Kind) (k m : ℕ) (used rows windows : List ℕ) (r : Step) (us
   module _ (n p c : ℕ) (ok : Bool) where
     pub taken-fault : (o : Option Line) → some (bidNote n p (record { count = c; sound = ok; table = windows′ })) ≡ noted m windows o
         → (f : ℕ → Refusal) → bidFaultIn kind k n p c ok (eqb (cell used n) 1) ≡ some f →
-        Declines r (numberOf (f (k + 2))) (placeOf (f (k + 2))) → Taken o kind k m used rows windows r used′ rows′ windows′
+        StepDeclines r (numberOf (f (k + 2))) (placeOf (f (k + 2))) → Taken o kind k m used rows windows r used′ rows′ windows′
     unfolding noted
     taken-fault none e f g h = let z : _≡_ {A = ℕ} 0 1 = cc in absurd (omega arith)
     taken-fault (some (tender u)) e f g h = let z : _≡_ {A = ℕ} 0 1 = cc in absurd (omega arith)

@@ -121,9 +121,9 @@ numeral w n e = go (leb 1 (length w) && leb (length w) 9 && not (leadingZero w))
           value = x;
         }
 
-pub one-spelling : (w : List ℕ) (n : ℕ) → numeralOf w ≡ some n → w ≡ decimal n
+pub numeral-spelling : (w : List ℕ) (n : ℕ) → numeralOf w ≡ some n → w ≡ decimal n
 unfolding decimal leadingZero digits
-one-spelling w n e = go w (numeral w n e)
+numeral-spelling w n e = go w (numeral w n e)
   where
     go : (w : List ℕ) → Numeral w n → w ≡ digitsBefore 20 n []
     go [] h = absurd (omega (arith, h .some-digit))

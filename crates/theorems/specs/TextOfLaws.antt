@@ -22,7 +22,7 @@ use Rattle.reader_line.specs.CutLaws.{Pieces, cut-some}
 use Rattle.reader.specs.Read.{accepted, rowsFrom, allWindows, bidsOf, tables, readLines, readText}
 use Rattle.reader.specs.ReadLaws.{never, read-lines, checked-bids, begun}
 use Rattle.listing.specs.Lines.{decimal, kindWord}
-use Rattle.theorems.specs.Numerals.{one-spelling}
+use Rattle.theorems.specs.Numerals.{numeral-spelling}
 use Rattle.theorems.specs.TextOf.{spaced, ended, tenderWords, windowWords, bidWords, spansOf, rowLine, textOf}
 
 -- pieces joined again
@@ -114,8 +114,8 @@ span-is s e w h = go (numeralOf s) (numeralOf e) refl refl h
     go (some a) (some z) f g q =
         let k : _≡_ {A = Window} (record { start = a; end = z }) w = cc in
         record {
-          start-is = one-spelling s a f ∙ ap (λ (v : Window). decimal (v .start)) k;
-          end-is = one-spelling e z g
+          start-is = numeral-spelling s a f ∙ ap (λ (v : Window). decimal (v .start)) k;
+          end-is = numeral-spelling e z g
               ∙ ap (λ (v : Window). decimal (v .end)) k;
         }
 
@@ -229,7 +229,7 @@ bid-is (n ∷ p ∷ ws) x h = go (numeralOf n) (priceOf p) (windowsIn ws) refl r
     go (some y) (some v) none f g i q = let z : _≡_ {A = ℕ} 0 1 = cc in absurd (omega arith)
     go (some y) (some v) (some l) f g i q =
         let u : bid (record { bidder = y; price = v; windows = l }) ≡ x = cc in
-        rw (one-spelling n y f, one-spelling p v g, windows-are ws l i) (ap wordsOf u)
+        rw (numeral-spelling n y f, numeral-spelling p v g, windows-are ws l i) (ap wordsOf u)
 
 words-are : (ws : List (List ℕ)) (x : Line) → lineOfWords ws ≡ some x → ws ≡ wordsOf x
 unfolding lineOfWords
