@@ -16,6 +16,7 @@ use Rattle.reader.specs.Read.{accepted, readText}
 use Rattle.reader.specs.declared.Reading.the-variants as answer
 use Rattle.reader.specs.Differ.{DifferInPrice}
 use Rattle.award_check.specs.Cells.{noRow, hasOf}
+use Rattle.award_plain.specs.Award.{outcomeNumber}
 use Rattle.award.specs.Right.{Callable}
 use Rattle.award.specs.Gain.{rowFor, gain, AtMost}
 use Rattle.listing.specs.Lines.{decimal, pairLine, refusedWord}
@@ -35,6 +36,13 @@ pub record FewerThan (m : ℕ) (c : AwardCall) : Type 0 where
   pub from : c .tender .window .start ≤ minute
   pub to : minute < c .tender .window .end
   pub few : bidders (hasOf (c .tender) (rowsOf (c .count) (c .bids)) (c .windows)) (c .count) (minute - c .tender .window .start) < m
+
+-- the award is refused for cover
+abbrev pub ForCover : AwardCall → Type 0
+ForCover c = (outcomeNumber (toldBy c) ≡ 11) ⊎ (outcomeNumber (toldBy c) ≡ 12)
+
+abbrev pub Exactly : Type 0 → Type 0 → Type 0
+Exactly A B = (A → B) × (B → A)
 
 -- the bidder and the price of row i of its table of bids
 abbrev pub bidderAt : AwardCall → ℕ → ℕ

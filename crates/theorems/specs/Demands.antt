@@ -38,7 +38,7 @@ use Rattle.theorems.specs.Calls.{ReadRun, ReadCall, AwardCall, toldBy, S
 use Rattle.theorems.specs.OneReading.{OneReading, SameReading}
 use Rattle.theorems.specs.TextOf.{textOf}
 use Rattle.theorems.specs.ListRead.{rowShown}
-use Rattle.theorems.specs.Between.{CallableWith, FewerThan, priceAt, WasRead, Variant, Follows, SameAward, NoGainBetween, OneList}
+use Rattle.theorems.specs.Between.{Exactly, CallableWith, FewerThan, ForCover, priceAt, WasRead, Variant, Follows, SameAward, NoGainBetween, OneList}
 use Rattle.theorems.specs.Between.{ListGiven, NoGainShown, Showable}
 use Rattle.theorems.specs.ReadingLaws as reading
 use Rattle.theorems.specs.Numerals.{decimal-back}
@@ -57,7 +57,8 @@ use Rattle.theorems.specs.ListGain.{list-shows, no-gain-shown}
 pub one-answer-to-a-text : (r : ReadCall) → OneReading (r .run)
 one-answer-to-a-text r = reading.one-reading (r .run) (r .kept)
 
--- No two cases of it hold together: whatever else a call on this text and these tables answers and leaves, it is no reading.
+-- It leaves nothing open: whatever answer and tables it holds of, for this text and the tables lent, are those of the call. So no two
+-- of its cases hold together.
 pub no-other-answer : (r : ReadCall) (x : ReadRun) → OneReading x → x .text ≡ r .run .text → x .bids ≡ r .run .bids
     → x .windows ≡ r .run .windows → SameReading x (r .run)
 no-other-answer r x h = reading.one-case x (r .run) (reading.reading-kept x h) (r .kept)
@@ -70,8 +71,7 @@ one-answer-to-tables c =
 
 -- Of no answer is anything left to the program: two calls of the same award on the same tables tell the same.
 pub same-tables-same-answer : (c c′ : AwardCall) → SameAward c c′ → c .tender ≡ c′ .tender → c .count ≡ c′ .count
-    → c .bids ≡ c′ .bids
-    → c .windows ≡ c′ .windows → toldBy c ≡ toldBy c′
+    → c .bids ≡ c′ .bids → c .windows ≡ c′ .windows → toldBy c ≡ toldBy c′
 same-tables-same-answer c c′ s t n b w =
     c .promise .answers ∙ rw (s .kinds, t, n, b, w) (award-lent (c′ .kind) (c′ .tender) (c′ .count) (c′ .bids) (c′ .windows)
     (length (c .rows-before)) (length (c′ .rows-before)) (rw n at (s .room))) ∙ sym (c′ .promise .answers)
@@ -90,7 +90,7 @@ one-answer-of-the-list = one-list
 pub same-text-same-list : (l l′ : ListCall) → l .text ≡ l′ .text → 0 < l .answer → 0 < l′ .answer → shown l ≡ shown l′
 same-text-same-list l l′ e a a′ = list.same-list {old′ = l′ .buffer} (l .promise) (rw e (l′ .promise)) a a′
 
--- The buffer of 51,200 bytes always suffices.
+-- A buffer of 51,200 bytes always suffices.
 pub list-fits : (l : ListCall) → 51200 ≤ length (l .buffer) → 0 < l .answer
 list-fits l h = list.suffices (l .promise) h .0
 
@@ -98,32 +98,31 @@ list-fits l h = list.suffices (l .promise) h .0
 pub nothing-dropped : (r : ReadCall) (t : Tender) (n m : ℕ) → r .run .answer ≡ answer.Accepted t n m → WasRead (r .run) t
 nothing-dropped = read-again
 
-pub one-spelling : (text : List ℕ) (T : Tender) (R : List Row) (W : List Window) → readText text ≡ accepted T R W
-    → text ≡ textOf T R W
-one-spelling = spelt-again
+-- an accepted text
+module _ (text : List ℕ) (T : Tender) (R : List Row) (W : List Window) (read : readText text ≡ accepted T R W) where
+  -- The same of the text alone.
+  pub one-spelling : text ≡ textOf T R W
+  one-spelling = spelt-again text T R W read
 
--- There is a row for each line after the first, and each byte is a digit, a space, a bracket, a newline or a letter.
-pub row-for-each-line : (text : List ℕ) (T : Tender) (R : List Row) (W : List Window) → readText text ≡ accepted T R W
-    → length R + 1 ≡ bytesLike 10 text
-row-for-each-line text T R W = lines-law T R W text
+  -- There is a row for each line after the first, and each byte is a digit, a space, a bracket, a newline or a letter.
+  pub row-for-each-line : length R + 1 ≡ bytesLike 10 text
+  row-for-each-line = lines-law T R W text read
 
-pub plain-bytes : (text : List ℕ) (T : Tender) (R : List Row) (W : List Window) → readText text ≡ accepted T R W
-    → allPlain text ≡ true
-plain-bytes text T R W = plain-law T R W text
+  pub plain-bytes : allPlain text ≡ true
+  plain-bytes = plain-law T R W text read
 
--- The text alone is never refused with 8, nor is it with tables of 1,000 and 32,000 rows.
+  -- What was read is never refused with 9 or 10: the award is made, or declined with 11 or 12.
+  pub never-nine-or-ten : let n = outcomeNumber (awardOf (T .kind) T (length R) (flatRows R) (flatWindows W) (length R)) in
+      (n ≡ 0) ⊎ ((n ≡ 11) ⊎ (n ≡ 12))
+  never-nine-or-ten = list.award-number T R W (rules-law T R W text read)
+
+-- A text alone is never refused with 8, nor is it with tables of 1,000 and 32,000 rows.
 pub never-eight : (text : List ℕ) (n at : ℕ) → readText text ≡ refused n at → (1 ≤ n) × (n ≤ 7)
 never-eight = reading.refusal-number
 
 pub long-tables : (text : List ℕ) (bidRows windowRows : ℕ) → 1000 ≤ bidRows → 32000 ≤ windowRows
     → readInto text bidRows windowRows ≡ readText text
 long-tables = room-law
-
--- What was read is never refused with 9 or 10: the award is made, or declined with 11 or 12.
-pub never-nine-or-ten : (text : List ℕ) (T : Tender) (R : List Row) (W : List Window) → readText text ≡ accepted T R W →
-    let o = outcomeNumber (awardOf (T .kind) T (length R) (flatRows R) (flatWindows W) (length R)) in (o ≡ 0)
-    ⊎ ((o ≡ 11) ⊎ (o ≡ 12))
-never-nine-or-ten text T R W h = list.award-number T R W (rules-law T R W text h)
 
 -- A list shows no refusal but 1 to 7, 11 and 12.
 pub a-list-shows : (l : ListCall) (n at : ℕ) → n < 10 ^ 20 → 0 < l .answer → shown l ≡ pairLine refusedWord n at → Showable n
@@ -139,18 +138,12 @@ module _ (c : AwardCall) where
   awarded-as-defined =
       one.awards (c .kind) (c .tender) (c .count) (c .bids) (c .windows) (c .rows-before) (c .rows-after) (c .answer) (c .promise)
 
-  -- Else it is refused for cover: exactly where some minute has fewer than two bidders, with 11 exactly where some minute has none.
-  pub refused-for-cover : CallableWith c → (outcomeNumber (toldBy c) ≡ 11) ⊎ (outcomeNumber (toldBy c) ≡ 12) → FewerThan 2 c
-  refused-for-cover = cover.thin-if-refused c
+  -- Else it is refused for cover: with 11 or 12 exactly where some minute has fewer than two bidders, with 11 where some has none.
+  pub refused-for-cover : CallableWith c → Exactly (ForCover c) (FewerThan 2 c)
+  refused-for-cover h = (cover.thin-if-refused c h, cover.refused-if-thin c h)
 
-  pub uncovered-refused : CallableWith c → FewerThan 2 c → (outcomeNumber (toldBy c) ≡ 11) ⊎ (outcomeNumber (toldBy c) ≡ 12)
-  uncovered-refused = cover.refused-if-thin c
-
-  pub eleven : CallableWith c → outcomeNumber (toldBy c) ≡ 11 → FewerThan 1 c
-  eleven = cover.bare-if-eleven c
-
-  pub nobody-eleven : CallableWith c → FewerThan 1 c → outcomeNumber (toldBy c) ≡ 11
-  nobody-eleven = cover.eleven-if-bare c
+  pub refused-with-eleven : CallableWith c → Exactly (outcomeNumber (toldBy c) ≡ 11) (FewerThan 1 c)
+  refused-with-eleven h = (cover.bare-if-eleven c h, cover.eleven-if-bare c h)
 
 module _ (c : AwardCall) (rows : List AwardRow) (cost paid : ℕ) (told : toldBy c ≡ awarded rows cost paid) where
   -- The winners cover: each minute of the tender, cell x, is in a winner's windows.
@@ -171,13 +164,11 @@ module _ (c : AwardCall) (rows : List AwardRow) (cost paid : ℕ) (told : toldBy
       (rw (told, k) at (c .promise .answers))
 
   -- A winner of a multi tender is paid the largest whole price with which it would still win if all else stood.
-  pub paid-the-largest-price : (i : ℕ) → c .kind ≡ Multi → i < c .count → rowFor (awarded rows cost paid) i .won ≡ true
-      → (q : ℕ) →
-      won Multi (hasOf (c .tender) (rowsOf (c .count) (c .bids)) (c .windows)) (set (pricesOf (rowsOf (c .count) (c .bids))) i q)
+  pub paid-the-largest-price : (i : ℕ) → c .kind ≡ Multi → i < c .count → rowFor (awarded rows cost paid) i .won ≡ true → (q : ℕ)
+      → won Multi (hasOf (c .tender) (rowsOf (c .count) (c .bids)) (c .windows)) (set (pricesOf (rowsOf (c .count) (c .bids))) i q)
       (cellsOf (c .tender)) i ≡ leb q (rowFor (awarded rows cost paid) i .cents)
   paid-the-largest-price i k l = outcome.largest-price (c .tender) (c .count) i (c .bids) (c .windows) (length (c .rows-before)) rows cost
-      paid l
-      (rw (told, k) at (c .promise .answers))
+      paid l (rw (told, k) at (c .promise .answers))
 
 -- Of each bid of an accepted text a list shows the row that the award gave it: its bytes are read back.
 pub a-list-shows-the-award : (l : ListCall) (T : Tender) (R : List Row) (W : List Window) (i : ℕ) → 0 < l .answer
@@ -199,8 +190,7 @@ no-gain = no-gain-read
 
 -- The same of the lists that `tender_list` writes, by their bytes.
 pub no-gain-in-lists : (l l′ : ListCall) (bidder p q : List ℕ) → DifferInPrice (l .text) (l′ .text) bidder p q → ListGiven l
-    → ListGiven l′
-    → NoGainShown l l′ bidder p
+    → ListGiven l′ → NoGainShown l l′ bidder p
 no-gain-in-lists = no-gain-shown
 
 -- On tables: two calls of the same award on tables alike in all but the price of bid i, neither answered with 9.
@@ -215,9 +205,8 @@ no-gain-on-tables c c′ i t n s h h′ l a =
     (rw (s .kinds, t, n) (c′ .promise .answers)) h h′
 
 -- Every bid of an accepted text can be varied so, and the other text is accepted where the price is within the limits.
-pub can-be-varied : (text : List ℕ) (T : Tender) (R : List Row) (W : List Window) → readText text ≡ accepted T R W → (i : ℕ)
-    → i < length R
-    → (q : List ℕ) → Word q → Variant text T R W i q
+pub can-be-varied : (text : List ℕ) (T : Tender) (R : List Row) (W : List Window) → readText text ≡ accepted T R W
+    → (i : ℕ) → i < length R → (q : List ℕ) → Word q → Variant text T R W i q
 can-be-varied = varied
 
 -- No winner is paid less than the price named.
