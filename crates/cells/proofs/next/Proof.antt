@@ -1,5 +1,6 @@
 -- `cells::next` meets its contract: the rest of the word where the search starts, then the words after it. Assumes nothing.
-use Prim.Native.Nat.{_-_, _/_, _%_, _^_}
+use Prim.Native.Nat.{ℕ, _-_, _/_, _%_, _^_}
+use mathlib.Core.List.{List}
 use native.Mathlib.Omega.{arith}
 use lib.ListN.{getD}
 use lib.Count.{trailing-le}
@@ -12,6 +13,10 @@ use Rattle.cells.proofs.next.Tie as tie
 use Rattle.cells.proofs.next.Reads as reads
 use Rattle.cells.proofs.next.Lts as lts
 use Rattle.cells.proofs.next_from.Reads as next-from-reads
+
+-- the rest of the word where the search starts
+abbrev rest : List ℕ → List ℕ → ℕ → ℕ
+rest a b x = bitAnd (getD a (x / 64) 0) (whole - getD b (x / 64) 0) / 2 ^ (x % 64)
 
 mul-m : tie.Need-mul-m
 mul-m c = search needs
@@ -32,15 +37,13 @@ cast-result : tie.Need-cast-result
 cast-result c =
     let c6 = c .before .before .before .before .before .before in
     let args = c6 .args in
-    let x = args .from in let m = bitAnd (getD (args .a .now) (x / 64) 0) (whole - getD (args .b .now) (x / 64) 0) / 2 ^ (x % 64) in
-    omega (arith, trailing-le 64 m)
+    omega (arith, trailing-le 64 (rest (args .a .now) (args .b .now) (args .from)))
 
 add-result : tie.Need-add-result
 add-result c =
     let c6 = c .before .before .before .before .before .before in
     let args = c6 .args in
-    let x = args .from in let m = bitAnd (getD (args .a .now) (x / 64) 0) (whole - getD (args .b .now) (x / 64) 0) / 2 ^ (x % 64) in
-    omega (arith, trailing-le 64 m)
+    omega (arith, trailing-le 64 (rest (args .a .now) (args .b .now) (args .from)))
 
 returns : tie.Need-returns
 returns c =

@@ -81,9 +81,9 @@ sub-sum c =
     let c16 = c15 .before in
     let args = c16 .args in
     let P = c16 .pre in let l : c11 .loop .q < length (args .mask .now) = omega arith in
-    run-sum (args .held .now) (args .mask .now) (args .hop .now) (λ p. c15 .shared-slice-known .given p .fits) (P .1 .1 .1)
+    let s = run-sum (args .held .now) (args .mask .now) (args .hop .now) (λ p. c15 .shared-slice-known .given p .fits) (P .1 .1 .1)
     (c11 .loop .q) l (c8 .wide .result) (c11 .loop .sum) (c8 .wide .ensures) (c4 .count-to .ensures .0) (c4 .count-to .ensures .1)
-    (c6 .if1 .taken) (c11 .loop .inv .1 .0) .0
+    (c6 .if1 .taken) (c11 .loop .inv .1 .0) in s .0
 
 add-sum : tie.Need-add-sum Inv-loop μ-loop
 add-sum c =
