@@ -126,8 +126,11 @@ add-requires c κs =
     let c12 = c5 .before .before .before .before .before .before .before in
     let c15 = c12 .before .before .before in
     let args = c15 .args in
-    bidder-cell (args .kind) (args .count) (args .bids .now) (args .windows .now) (c12 .loop .used) (c12 .loop .at) (c12 .loop .j)
-    (c12 .loop .inv) (sym (c5 .row-keeps .ensures) ∙ not-false (c5 .row-keeps .result) (c4 .if2 .left))
+    omega (
+      arith,
+      bidder-cell (args .kind) (args .count) (args .bids .now) (args .windows .now) (c12 .loop .used) (c12 .loop .at) (c12 .loop .j)
+          (c12 .loop .inv) (sym (c5 .row-keeps .ensures) ∙ not-false (c5 .row-keeps .result) (c4 .if2 .left)),
+    )
 
 add-at : tie.Need-add-at Inv-loop μ-loop
 add-at c =
