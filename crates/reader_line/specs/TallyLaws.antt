@@ -1,11 +1,13 @@
 -- For a reader that walks a bid's windows and holds only their number and whether all are lawful. Assumes nothing.
 use mathlib.Core.Path.{_≡_, refl, _∙_}
 use mathlib.Core.List.{List, [], _∷_}
-use mathlib.Core.Bool.{Bool, true, false, _&&_}
+use mathlib.Core.Bool.{Bool, true, false, cond, _&&_}
 use mathlib.Core.Option.{Option, none, some}
-use Prim.Native.Nat.{ℕ, _+_, _≤_, _<_}
+use Prim.Native.Nat.{ℕ, _+_, _*_, _/_, _≤_, _<_}
 use native.Mathlib.Omega.{arith}
-use lib.ListN.{length, drop}
+use lib.ListN.{length, take, drop, set}
+use lib.Dec.{ltb}
+use lib.Seq.{take-set-le}
 use Rattle.tender.specs.declared.Window.{Window}
 use Rattle.tender.specs.Limits.{allLawful, lawful}
 use Rattle.reader_line.specs.Words.{andThen, cut, closed}
@@ -30,6 +32,16 @@ step m n ok table w (some ws) =
     let e : n + length (w ∷ ws) ≡ n + 1 + length ws = omega arith in
     let f : m + n + 1 ≡ m + (n + 1) = omega arith in
     rw (e, f, and-assoc ok (lawful w) (allLawful ws))
+
+-- a window in row k or in none leaves the rows before m
+pub rows-before : (table : List ℕ) (m k : ℕ) (w : Window) → m ≤ k → take (2 * m) (putWindow table k w) ≡ take (2 * m) table
+unfolding putWindow
+rows-before table m k w l = go (ltb k (length table / 2))
+  where
+    go : (t : Bool) → take (2 * m) (cond t (set (set table (2 * k) (w .start)) (2 * k + 1) (w .end)) table) ≡ take (2 * m) table
+    go true = take-set-le (2 * m) (set table (2 * k) (w .start)) (2 * k + 1) (w .end) (omega arith)
+        ∙ take-set-le (2 * m) table (2 * k) (w .start) (omega arith)
+    go false = refl
 
 module _ (line : List ℕ) (i e f : ℕ) (m n : ℕ) (ok : Bool) (table : List ℕ) (q : i + toNext 32 (drop i line) ≡ e) where
   -- one word is no window

@@ -2,8 +2,8 @@
 ghost use mathlib.Core.Path.{_≡_};
 ghost use mathlib.Core.Bool.{true, _&&_};
 ghost use mathlib.Core.List.{List};
-ghost use Prim.Native.Nat.{ℕ, _≤_};
-ghost use lib.ListN.{drop, length};
+ghost use Prim.Native.Nat.{ℕ, _*_, _≤_};
+ghost use lib.ListN.{take, drop, length};
 ghost use Rattle.tender.specs.Limits.{lawful};
 ghost use Rattle.reader_line.specs.Words.{cut};
 ghost use Rattle.reader_line.specs.Line.{kindOf, spanOf, windowOf, windowsIn, tenderOf, bidOf, lineOf};
@@ -98,11 +98,13 @@ pub(crate) enum Tally {
     Broken,
 }
 
-// The windows from `at` to the line's end: how many, and whether all are lawful. They are put into the rows from m on.
+// The windows from `at` to the line's end: how many, and whether all are lawful. They are put into the rows from m on; the rows
+// before m stay, whatever the line is.
 fn read_windows(line: &[u8], at: usize, windows: &mut [u64], m: usize) -> Tally
     requires { ⌜ m ≤ 32000 ⌝ }
-    ensures { λ r. ⌜ toldTally r (now (windows .exit))
+    ensures answer { λ r. ⌜ toldTally r (now (windows .exit))
         ≡ tallied m 0 true (now (windows .entry)) (windowsIn (cut 32 (drop at (now (line .entry))))) ⌝ }
+    ensures rows { λ r. ⌜ take (2 * m) (now (windows .exit)) ≡ take (2 * m) (now (windows .entry)) ⌝ }
 {
     let mut n: usize = 0;
     let mut ok = true;
@@ -204,8 +206,9 @@ fn read_tender(line: &[u8], at: usize) -> Line
 // A bid's line from the word after "(bid" on: bidder, price and the windows, which are put into the rows from m on.
 fn read_bid(line: &[u8], at: usize, windows: &mut [u64], m: usize) -> Line
     requires { ⌜ (at ≤ length (now line)) × (m ≤ 32000) ⌝ }
-    ensures { λ r. ⌜ toldLine r (now (windows .exit))
+    ensures answer { λ r. ⌜ toldLine r (now (windows .exit))
         ≡ noted m (now (windows .entry)) (bidOf (cut 32 (drop at (now (line .entry))))) ⌝ }
+    ensures rows { λ r. ⌜ take (2 * m) (now (windows .exit)) ≡ take (2 * m) (now (windows .entry)) ⌝ }
 {
     let n = next(line, at, b' ');
     if line.len() <= n {
@@ -227,10 +230,12 @@ fn read_bid(line: &[u8], at: usize, windows: &mut [u64], m: usize) -> Line
     }
 }
 
-// The line with these bytes, the byte 10 left out. A bid's windows are put into the rows from m on.
+// The line with these bytes, the byte 10 left out. A bid's windows are put into the rows from m on; the rows before m stay, whatever
+// the line is.
 pub fn read_line(line: &[u8], windows: &mut [u64], m: usize) -> Line
     requires { ⌜ m ≤ 32000 ⌝ }
-    ensures { λ r. ⌜ toldLine r (now (windows .exit)) ≡ noted m (now (windows .entry)) (lineOf (now (line .entry))) ⌝ }
+    ensures answer { λ r. ⌜ toldLine r (now (windows .exit)) ≡ noted m (now (windows .entry)) (lineOf (now (line .entry))) ⌝ }
+    ensures rows { λ r. ⌜ take (2 * m) (now (windows .exit)) ≡ take (2 * m) (now (windows .entry)) ⌝ }
 {
     let e = next(line, 0, b' ');
     if line.len() <= e {

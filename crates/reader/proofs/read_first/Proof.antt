@@ -72,7 +72,7 @@ returns-2 c =
     let c18 = c14 .before .before .before .before in
     let args = c18 .args in
     let b = ends-at (args .text .now) 0 _ (c14 .line-end .ensures) _ (c12 .e .given .1) in
-    let o = is-tender 0 _ _ _ (ap (λ t. toldLine t (c8 .read-line .last .1 .0)) (sym (c4 .t .given .1)) ∙ c8 .read-line .ensures) in
+    let o = is-tender 0 _ _ _ (ap (λ t. toldLine t (c8 .read-line .last .1 .0)) (sym (c4 .t .given .1)) ∙ c8 .read-line .ensures .0) in
     record {
       inside = omega (arith, b .1);
       lines = lines-at (args .text .now) 0 _ (b .0) (b .1)
@@ -92,7 +92,7 @@ returns-3 c =
     let c18 = c14 .before .before .before .before in
     let args = c18 .args in
     let b = ends-at (args .text .now) 0 _ (c14 .line-end .ensures) _ (c12 .e .given .1) in
-    let o = is-tender 0 _ _ _ (ap (λ t. toldLine t (c8 .read-line .last .1 .0)) (sym (c4 .t .given .1)) ∙ c8 .read-line .ensures) in
+    let o = is-tender 0 _ _ _ (ap (λ t. toldLine t (c8 .read-line .last .1 .0)) (sym (c4 .t .given .1)) ∙ c8 .read-line .ensures .0) in
     first-unlawful _ _ _ (lines-at (args .text .now) 0 _ (b .0) (b .1)) _ o (sym (c .before .keeps .ensures) ∙ c .if2 .left)
 
 same-length-3 : tie.Need-same-length-3
@@ -107,7 +107,7 @@ returns-4 c =
     let args = c14 .args in
     let b = ends-at (args .text .now) 0 _ (c10 .line-end .ensures) _ (c8 .e .given .1) in
     first-bid _ _ _ (lines-at (args .text .now) 0 _ (b .0) (b .1)) 0 _ _ _ _
-    (ap (λ t. toldLine t (c4 .read-line .last .1 .0)) (sym (c .enum-told .given .1)) ∙ c4 .read-line .ensures)
+    (ap (λ t. toldLine t (c4 .read-line .last .1 .0)) (sym (c .enum-told .given .1)) ∙ c4 .read-line .ensures .0)
 
 same-length-4 : tie.Need-same-length-4
 same-length-4 c = search needs
@@ -121,7 +121,7 @@ returns-5 c =
     let args = c14 .args in
     let b = ends-at (args .text .now) 0 _ (c10 .line-end .ensures) _ (c8 .e .given .1) in
     first-broken _ _ _ (lines-at (args .text .now) 0 _ (b .0) (b .1)) 0 _
-    (ap (λ t. toldLine t (c4 .read-line .last .1 .0)) (sym (c .enum-told2 .given .1)) ∙ c4 .read-line .ensures)
+    (ap (λ t. toldLine t (c4 .read-line .last .1 .0)) (sym (c .enum-told2 .given .1)) ∙ c4 .read-line .ensures .0)
 
 returns-6 : tie.Need-returns-6
 returns-6 c =

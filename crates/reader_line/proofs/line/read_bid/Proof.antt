@@ -1,6 +1,6 @@
 -- `line::read_bid` meets its contract: it cuts the first words as the definition does, and reads each. Assumes nothing.
 use Prim.Native.Nat.{_+_}
-use mathlib.Core.Path.{_≡_, sym, ap, _∙_}
+use mathlib.Core.Path.{_≡_, refl, sym, ap, _∙_}
 use native.Mathlib.Omega.{arith}
 use borrow.Author.Needs.{needs}
 use lib.ListN.{length}
@@ -21,7 +21,7 @@ returns c =
     let pre = c4 .pre in
     let line = args .line .now in
     let h : c .before .next .result ≡ length line = omega (arith, next-fits 32 line (args .at) (pre .0)) in
-    noted-none _ (bid-one line (args .at) (c .before .next .result) 0 (pre .0) (sym (c .before .next .ensures)) h) _ _
+    (noted-none _ (bid-one line (args .at) (c .before .next .result) 0 (pre .0) (sym (c .before .next .ensures)) h) _ _, refl)
 
 add-next : tie.Need-add-next
 add-next c = search needs
@@ -35,9 +35,11 @@ returns-2 c =
     let args = c6 .args in
     let line = args .line .now in
     let h : c .before .next2 .result ≡ length line =
-    omega (arith, next-fits 32 line (c .before .before .before .next .result + 1) (omega arith)) in
-    noted-none _ (bid-two line (args .at) (c .before .before .before .next .result) (c .before .next2 .result) (c6 .pre .0)
-    (sym (c .before .before .before .next .ensures)) (c .before .before .if1 .left) (sym (c .before .next2 .ensures)) h) _ _
+    omega (arith, next-fits 32 line (c .before .before .before .next .result + 1) (omega arith)) in (
+      noted-none _ (bid-two line (args .at) (c .before .before .before .next .result) (c .before .next2 .result) (c6 .pre .0)
+          (sym (c .before .before .before .next .ensures)) (c .before .before .if1 .left) (sym (c .before .next2 .ensures)) h) _ _,
+      refl,
+    )
 
 sub-read-number : tie.Need-sub-read-number
 sub-read-number c = search needs
@@ -65,10 +67,12 @@ returns-3 c =
     let c7 = c6 .before in
     let c10 = c7 .before .before .before in
     let args = c10 .args in
-    let line = args .line .now in
-    noted-none _ (bid-unnumbered line (args .at) (c7 .next .result) (c5 .next2 .result) (c10 .pre .0) (sym (c7 .next .ensures))
-    (c6 .if1 .left) (sym (c5 .next2 .ensures)) (c4 .if2 .left)
-    (is-bad _ (sym (c .before .before .read-number .ensures) ∙ c .enum-told .given .1))) _ _
+    let line = args .line .now in (
+      noted-none _ (bid-unnumbered line (args .at) (c7 .next .result) (c5 .next2 .result) (c10 .pre .0) (sym (c7 .next .ensures))
+          (c6 .if1 .left) (sym (c5 .next2 .ensures)) (c4 .if2 .left)
+          (is-bad _ (sym (c .before .before .read-number .ensures) ∙ c .enum-told .given .1))) _ _,
+      refl,
+    )
 
 add-read-price : tie.Need-add-read-price
 add-read-price c = search needs
@@ -101,11 +105,13 @@ returns-4 c =
     let c12 = c11 .before in
     let c15 = c12 .before .before .before in
     let args = c15 .args in
-    let line = args .line .now in
-    noted-none _ (bid-unpriced line (args .at) (c12 .next .result) (c10 .next2 .result) (c15 .pre .0) (sym (c12 .next .ensures))
-    (c11 .if1 .left) (sym (c10 .next2 .ensures)) (c9 .if2 .left)
-    _ (is-value _ _ (sym (c7 .read-number .ensures) ∙ c5 .bidder .given .1))
-    (is-bad _ (sym (c .before .before .read-price .ensures) ∙ c .enum-told2 .given .1))) _ _
+    let line = args .line .now in (
+      noted-none _ (bid-unpriced line (args .at) (c12 .next .result) (c10 .next2 .result) (c15 .pre .0) (sym (c12 .next .ensures))
+          (c11 .if1 .left) (sym (c10 .next2 .ensures)) (c9 .if2 .left)
+          _ (is-value _ _ (sym (c7 .read-number .ensures) ∙ c5 .bidder .given .1))
+          (is-bad _ (sym (c .before .before .read-price .ensures) ∙ c .enum-told2 .given .1))) _ _,
+      refl,
+    )
 
 add-read-windows : tie.Need-add-read-windows
 add-read-windows c = search needs
@@ -135,12 +141,14 @@ returns-5 c =
     let c20 = c19 .before in
     let c23 = c20 .before .before .before in
     let args = c23 .args in
-    let line = args .line .now in
-    bid-whole line (args .at) (c20 .next .result) (c18 .next2 .result) (c23 .pre .0) (sym (c20 .next .ensures)) (c19 .if1 .left)
-    (sym (c18 .next2 .ensures)) (c17 .if2 .left)
-    _ (is-value _ _ (sym (c15 .read-number .ensures) ∙ c13 .bidder .given .1)) _
-    (is-value _ _ (sym (c10 .read-price .ensures) ∙ c8 .price .given .1)) _ _ _
-    (ap (λ t. toldTally t (c5 .read-windows .last .1 .1 .0)) (sym (c .before .count .given .1)) ∙ c5 .read-windows .ensures)
+    let line = args .line .now in (
+      bid-whole line (args .at) (c20 .next .result) (c18 .next2 .result) (c23 .pre .0) (sym (c20 .next .ensures)) (c19 .if1 .left)
+          (sym (c18 .next2 .ensures)) (c17 .if2 .left)
+          _ (is-value _ _ (sym (c15 .read-number .ensures) ∙ c13 .bidder .given .1)) _
+          (is-value _ _ (sym (c10 .read-price .ensures) ∙ c8 .price .given .1)) _ _ _
+          (ap (λ t. toldTally t (c5 .read-windows .last .1 .1 .0)) (sym (c .before .count .given .1)) ∙ c5 .read-windows .ensures .0),
+      c5 .read-windows .ensures .1,
+    )
 
 same-length-2 : tie.Need-same-length-2
 same-length-2 c = search needs
@@ -158,12 +166,14 @@ returns-6 c =
     let c19 = c18 .before in
     let c22 = c19 .before .before .before in
     let args = c22 .args in
-    let line = args .line .now in
-    bid-unwindowed line (args .at) (c19 .next .result) (c17 .next2 .result) (c22 .pre .0) (sym (c19 .next .ensures)) (c18 .if1 .left)
-    (sym (c17 .next2 .ensures)) (c16 .if2 .left)
-    _ (is-value _ _ (sym (c14 .read-number .ensures) ∙ c12 .bidder .given .1)) _
-    (is-value _ _ (sym (c9 .read-price .ensures) ∙ c7 .price .given .1)) _ _
-    (sym (c4 .read-windows .ensures) ∙ ap (λ t. toldTally t (c4 .read-windows .last .1 .1 .0)) (c .enum-told3 .given .1))
+    let line = args .line .now in (
+      bid-unwindowed line (args .at) (c19 .next .result) (c17 .next2 .result) (c22 .pre .0) (sym (c19 .next .ensures)) (c18 .if1 .left)
+          (sym (c17 .next2 .ensures)) (c16 .if2 .left)
+          _ (is-value _ _ (sym (c14 .read-number .ensures) ∙ c12 .bidder .given .1)) _
+          (is-value _ _ (sym (c9 .read-price .ensures) ∙ c7 .price .given .1)) _ _
+          (sym (c4 .read-windows .ensures .0) ∙ ap (λ t. toldTally t (c4 .read-windows .last .1 .1 .0)) (c .enum-told3 .given .1)),
+      c4 .read-windows .ensures .1,
+    )
 
 pub read-bid-spec : {M : Type 1} → statement M
 read-bid-spec =

@@ -1,5 +1,5 @@
 -- `line::read_line` meets its contract: the first word tells which line it is. Assumes nothing.
-use mathlib.Core.Path.{_≡_, sym, ap, _∙_}
+use mathlib.Core.Path.{_≡_, refl, sym, ap, _∙_}
 use native.Mathlib.Omega.{arith}
 use borrow.Author.Needs.{needs}
 use lib.ListN.{length}
@@ -18,13 +18,15 @@ returns c =
     let c4 = c .before .before .before .before in
     let line = c4 .args .line .now in
     let h : c .before .next .result ≡ length line = omega (arith, next-fits 32 line 0 (omega arith)) in
-    noted-none _ (line-one line (c .before .next .result) (sym (c .before .next .ensures)) h) _ _
+    (noted-none _ (line-one line (c .before .next .result) (sym (c .before .next .ensures)) h) _ _, refl)
 
 returns-2 : tie.Need-returns-2
 returns-2 c =
-    let c5 = c .before .before .before .before .before in
-    noted-none _ (line-empty (c5 .args .line .now) (c .before .before .next .result) (sym (c .before .before .next .ensures))
-    (c .before .if1 .left) (c .if2 .taken)) _ _
+    let c5 = c .before .before .before .before .before in (
+      noted-none _ (line-empty (c5 .args .line .now) (c .before .before .next .result) (sym (c .before .before .next .ensures))
+          (c .before .if1 .left) (c .if2 .taken)) _ _,
+      refl,
+    )
 
 shared-slice-read-if3 : tie.Need-shared-slice-read-if3
 shared-slice-read-if3 c = search needs
@@ -32,9 +34,11 @@ shared-slice-read-if3 c = search needs
 returns-3 : tie.Need-returns-3
 returns-3 c =
     let c4 = c .before .before .before .before in
-    let c7 = c4 .before .before .before in
-    noted-none _ (line-unopened (c7 .args .line .now) (c4 .next .result) (sym (c4 .next .ensures)) (c .before .before .before .if1 .left)
-    (c .before .before .if2 .left) (c .if3 .taken)) _ _
+    let c7 = c4 .before .before .before in (
+      noted-none _ (line-unopened (c7 .args .line .now) (c4 .next .result) (sym (c4 .next .ensures)) (c .before .before .before .if1 .left)
+          (c .before .before .if2 .left) (c .if3 .taken)) _ _,
+      refl,
+    )
 
 sub-same : tie.Need-sub-same
 sub-same c = search needs
@@ -64,10 +68,12 @@ returns-4 c =
     let c7 = c5 .before .before in
     let c8 = c7 .before in
     let c9 = c8 .before in
-    let c12 = c9 .before .before .before in
-    c .read-tender .ensures _ _ ∙ ap (noted _ _) (sym
-    (line-tender (c12 .args .line .now) (c9 .next .result) (sym (c9 .next .ensures)) (c8 .if1 .left) (c7 .if2 .left) (c5 .if3 .left)
-    (sym (c .before .before .same .ensures) ∙ c .before .if4 .taken)))
+    let c12 = c9 .before .before .before in (
+      c .read-tender .ensures _ _ ∙ ap (noted _ _) (sym
+          (line-tender (c12 .args .line .now) (c9 .next .result) (sym (c9 .next .ensures)) (c8 .if1 .left) (c7 .if2 .left) (c5 .if3 .left)
+          (sym (c .before .before .same .ensures) ∙ c .before .if4 .taken))),
+      refl,
+    )
 
 sub-same-2 : tie.Need-sub-same-2
 sub-same-2 c = search needs
@@ -104,10 +110,12 @@ returns-5 c =
     let c14 = c12 .before .before in
     let c15 = c14 .before in
     let c16 = c15 .before in
-    let c19 = c16 .before .before .before in
-    c .before .before .read-bid .ensures ∙ ap (noted _ _)
-    (sym (line-bid (c19 .args .line .now) (c16 .next .result) (sym (c16 .next .ensures)) (c15 .if1 .left) (c14 .if2 .left)
-    (c12 .if3 .left) (sym (c9 .same .ensures) ∙ c8 .if4 .left) (sym (c5 .same2 .ensures) ∙ c4 .if5 .taken)))
+    let c19 = c16 .before .before .before in (
+      c .before .before .read-bid .ensures .0 ∙ ap (noted _ _)
+          (sym (line-bid (c19 .args .line .now) (c16 .next .result) (sym (c16 .next .ensures)) (c15 .if1 .left) (c14 .if2 .left)
+          (c12 .if3 .left) (sym (c9 .same .ensures) ∙ c8 .if4 .left) (sym (c5 .same2 .ensures) ∙ c4 .if5 .taken))),
+      c .before .before .read-bid .ensures .1,
+    )
 
 returns-6 : tie.Need-returns-6
 unfolding tenderWord bidWord
@@ -118,9 +126,11 @@ returns-6 c =
     let c10 = c8 .before .before in
     let c11 = c10 .before in
     let c12 = c11 .before in
-    let c15 = c12 .before .before .before in
-    noted-none _ (line-other (c15 .args .line .now) (c12 .next .result) (sym (c12 .next .ensures)) (c11 .if1 .left) (c10 .if2 .left)
-    (c8 .if3 .left) (sym (c5 .same .ensures) ∙ c4 .if4 .left) (sym (c .before .same2 .ensures) ∙ c .if5 .left)) _ _
+    let c15 = c12 .before .before .before in (
+      noted-none _ (line-other (c15 .args .line .now) (c12 .next .result) (sym (c12 .next .ensures)) (c11 .if1 .left) (c10 .if2 .left)
+          (c8 .if3 .left) (sym (c5 .same .ensures) ∙ c4 .if4 .left) (sym (c .before .same2 .ensures) ∙ c .if5 .left)) _ _,
+      refl,
+    )
 
 pub read-line-spec : {M : Type 1} → statement M
 read-line-spec =

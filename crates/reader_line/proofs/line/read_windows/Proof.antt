@@ -1,5 +1,5 @@
 -- `line::read_windows` meets its contract: what is left of the line adds to what was read. Assumes nothing.
-use Prim.Native.Nat.{_+_, _-_, _≤_}
+use Prim.Native.Nat.{_+_, _-_, _*_, _≤_}
 use mathlib.Core.Path.{_≡_, refl, sym, ap, _∙_}
 use mathlib.Core.Bool.{true}
 use native.Mathlib.Omega.{arith}
@@ -8,7 +8,7 @@ use lib.ListN.{length, take, drop}
 use Rattle.reader_line.specs.Words.{cut}
 use Rattle.reader_line.specs.Line.{windowsIn}
 use Rattle.reader_line.specs.Scan.{tallied}
-use Rattle.reader_line.specs.TallyLaws.{tally-one, tally-more, tally-wrong, tally-last}
+use Rattle.reader_line.specs.TallyLaws.{rows-before, tally-one, tally-more, tally-wrong, tally-last}
 use Rattle.reader_line.specs.Answer.{lastOf}
 use Rattle.reader_line.specs.EndsLaws.{next-fits}
 use Rattle.reader_line.specs.WalkLaws.{tally-end, rest-part, is-of, is-wrong, tally-last-wrong}
@@ -18,13 +18,13 @@ use Rattle.reader_line.proofs.line.read_windows.Tie as tie
 abbrev Inv-loop : tie.InvT-loop
 Inv-loop line at windows₀ m n₀ ok₀ i₀ windows n ok i =
     (tallied m n ok windows (windowsIn (cut 32 (drop i line))) ≡ tallied m 0 true windows₀ (windowsIn (cut 32 (drop at line)))) × (n ≤ i)
-    × (m ≤ 32000) × (length windows ≡ length windows₀)
+    × (m ≤ 32000) × (length windows ≡ length windows₀) × (take (2 * m) windows ≡ take (2 * m) windows₀)
 
 abbrev μ-loop : tie.MeasureT-loop
 μ-loop line at windows₀ m n₀ ok₀ i₀ windows n ok i = length line - i
 
 loop-holds : tie.Need-loop-holds Inv-loop μ-loop
-loop-holds c = (refl, omega arith, c .before .before .pre, refl)
+loop-holds c = (refl, omega arith, c .before .before .pre, refl, refl)
 
 next-requires : tie.Need-next-requires Inv-loop μ-loop
 next-requires c κs = search needs
@@ -37,10 +37,12 @@ returns c =
     let c6 = c .before .before .before .before .before .before in
     let args = c6 .args in
     let line = args .line .now in
-    let h : c .before .next .result ≡ length line = omega (arith, next-fits 32 line (c .before .before .before .loop .i) (omega arith)) in
-    sym (tally-one line (c .before .before .before .loop .i) (c .before .next .result) 0 (args .m) (c .before .before .before .loop .n)
-    (c .before .before .before .loop .ok) (c .before .before .before .loop .windows) (sym (c .before .next .ensures)) (omega arith) h)
-    ∙ c .before .before .before .loop .inv .0
+    let h : c .before .next .result ≡ length line = omega (arith, next-fits 32 line (c .before .before .before .loop .i) (omega arith)) in (
+      sym (tally-one line (c .before .before .before .loop .i) (c .before .next .result) 0 (args .m) (c .before .before .before .loop .n)
+          (c .before .before .before .loop .ok) (c .before .before .before .loop .windows) (sym (c .before .next .ensures)) (omega arith) h)
+          ∙ c .before .before .before .loop .inv .0,
+      c .before .before .before .loop .inv .4,
+    )
 
 add-next : tie.Need-add-next Inv-loop μ-loop
 add-next c = search needs
@@ -113,6 +115,8 @@ loop-again c =
       omega arith,
       c16 .loop .inv .2,
       c .before .before .before .put-window .kept .0 ∙ c16 .loop .inv .3,
+      ap (take (2 * args .m)) (c .before .before .before .put-window .ensures)
+          ∙ rows-before (c16 .loop .windows) (args .m) (args .m + c16 .loop .n) _ (omega arith) ∙ c16 .loop .inv .4,
     )
 
 enum-told : tie.Need-enum-told Inv-loop μ-loop
@@ -132,11 +136,13 @@ returns-2 c =
     let c10 = c8 .before .before in
     let c13 = c10 .before .before .before in
     let args = c13 .args in
-    let line = args .line .now in
-    sym (tally-wrong line (c10 .loop .i) (c8 .next .result) (c6 .next2 .result) (args .m) (c10 .loop .n) (c10 .loop .ok)
-    (c10 .loop .windows) (sym (c8 .next .ensures)) (c7 .if1 .left)
-    (sym (c6 .next2 .ensures)) (c5 .if2 .taken) (is-wrong _ (sym (c .before .before .read-window .ensures) ∙ c .enum-told .given .1)))
-    ∙ c10 .loop .inv .0
+    let line = args .line .now in (
+      sym (tally-wrong line (c10 .loop .i) (c8 .next .result) (c6 .next2 .result) (args .m) (c10 .loop .n) (c10 .loop .ok)
+          (c10 .loop .windows) (sym (c8 .next .ensures)) (c7 .if1 .left)
+          (sym (c6 .next2 .ensures)) (c5 .if2 .taken) (is-wrong _ (sym (c .before .before .read-window .ensures) ∙ c .enum-told .given .1)))
+          ∙ c10 .loop .inv .0,
+      c10 .loop .inv .4,
+    )
 
 sub-read-last : tie.Need-sub-read-last Inv-loop μ-loop
 sub-read-last c = search needs
@@ -205,11 +211,14 @@ returns-3 c =
     (sym (rest-part line (c14 .next .result + 1) (c12 .next2 .result) k))
     ∙ is-of (lastOf (take (c14 .next .result - c16 .loop .i) (drop (c16 .loop .i) line))
     (take (c12 .next2 .result - (c14 .next .result + 1)) (drop (c14 .next .result + 1) line))) _ _
-    (sym (c8 .read-last .ensures) ∙ c6 .a2 .given .1) in
-    rw (c .keeps2 .ensures, c .before .before .before .put-window2 .ensures)
-    (sym (tally-last line (c16 .loop .i) (c14 .next .result) (c12 .next2 .result) (args .m) (c16 .loop .n) (c16 .loop .ok)
-    (c16 .loop .windows) (sym (c14 .next .ensures)) (c13 .if1 .left)
-    (sym (c12 .next2 .ensures)) k _ g) ∙ c16 .loop .inv .0)
+    (sym (c8 .read-last .ensures) ∙ c6 .a2 .given .1) in (
+      rw (c .keeps2 .ensures, c .before .before .before .put-window2 .ensures)
+          (sym (tally-last line (c16 .loop .i) (c14 .next .result) (c12 .next2 .result) (args .m) (c16 .loop .n) (c16 .loop .ok)
+          (c16 .loop .windows) (sym (c14 .next .ensures)) (c13 .if1 .left)
+          (sym (c12 .next2 .ensures)) k _ g) ∙ c16 .loop .inv .0),
+      ap (take (2 * args .m)) (c .before .before .before .put-window2 .ensures)
+          ∙ rows-before (c16 .loop .windows) (args .m) (args .m + c16 .loop .n) _ (omega arith) ∙ c16 .loop .inv .4,
+    )
 
 enum-told-2 : tie.Need-enum-told-2 Inv-loop μ-loop
 enum-told-2 c = search needs
@@ -239,10 +248,12 @@ returns-4 c =
     (sym (rest-part line (c8 .next .result + 1) (c6 .next2 .result) k))
     ∙ is-wrong (lastOf (take (c8 .next .result - c10 .loop .i) (drop (c10 .loop .i) line))
     (take (c6 .next2 .result - (c8 .next .result + 1)) (drop (c8 .next .result + 1) line)))
-    (sym (c .before .before .read-last .ensures) ∙ c .enum-told2 .given .1) in
-    sym (tally-last-wrong line (c10 .loop .i) (c8 .next .result) (c6 .next2 .result) (args .m) (c10 .loop .n) (c10 .loop .ok)
-    (c10 .loop .windows) (sym (c8 .next .ensures)) (c7 .if1 .left)
-    (sym (c6 .next2 .ensures)) k g) ∙ c10 .loop .inv .0
+    (sym (c .before .before .read-last .ensures) ∙ c .enum-told2 .given .1) in (
+      sym (tally-last-wrong line (c10 .loop .i) (c8 .next .result) (c6 .next2 .result) (args .m) (c10 .loop .n) (c10 .loop .ok)
+          (c10 .loop .windows) (sym (c8 .next .ensures)) (c7 .if1 .left)
+          (sym (c6 .next2 .ensures)) k g) ∙ c10 .loop .inv .0,
+      c10 .loop .inv .4,
+    )
 
 same-length-5 : tie.Need-same-length-5 Inv-loop μ-loop
 same-length-5 c = c .before .loop .inv .3
@@ -250,9 +261,11 @@ same-length-5 c = c .before .loop .inv .3
 returns-5 : tie.Need-returns-5 Inv-loop μ-loop
 returns-5 c =
     let c4 = c .before .before .before .before in
-    let args = c4 .args in
-    sym (tally-end (args .line .now) (c .before .loop .i) (args .m) (c .before .loop .n) (c .before .loop .ok) (c .before .loop .windows)
-    (c .loop-test .left)) ∙ c .before .loop .inv .0
+    let args = c4 .args in (
+      sym (tally-end (args .line .now) (c .before .loop .i) (args .m) (c .before .loop .n) (c .before .loop .ok) (c .before .loop .windows)
+          (c .loop-test .left)) ∙ c .before .loop .inv .0,
+      c .before .loop .inv .4,
+    )
 
 pub read-windows-spec : {M : Type 1} → statement M
 read-windows-spec =
