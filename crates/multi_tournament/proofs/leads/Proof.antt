@@ -28,12 +28,9 @@ shared-slice-read-x : tie.Need-shared-slice-read-x
 shared-slice-read-x c = c .before .before .before .pre .1 .1 .0 (omega arith)
 
 mul-x-2 : tie.Need-mul-x-2
-mul-x-2 c = let A = c .before .before .before .args in
-    omega (
-      arith,
-      product (at (A .prices .now) (A .i)) (A .t) 100000000 10112 (c .before .before .before .pre .0 .most (A .i))
-          (omega arith),
-    )
+mul-x-2 c =
+    let c3 = c .before .before .before in
+    let A = c3 .args in omega (arith, product (at (A .prices .now) (A .i)) (A .t) 100000000 10112 (c3 .pre .0 .most (A .i)) (omega arith))
 
 mul-y : tie.Need-mul-y
 mul-y c =
