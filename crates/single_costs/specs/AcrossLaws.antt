@@ -207,17 +207,17 @@ pub across-none : (a b ps xs costs after : List ℕ) (t : ℕ) → costIn noCost
 unfolding leastAcross costIn scanCost
 across-none a b ps xs costs after t = refl
 
-pub across-more : (a b ps xs costs after : List ℕ) (t j r : ℕ) → joinAt ps xs costs after j ≤ noCost → r ≤ noCost
+pub across-more : (a b ps xs costs after : List ℕ) (t j r x : ℕ) → x ≡ joinAt ps xs costs after j → x ≤ noCost → r ≤ noCost
     → costIn r ≡ leastAcross a b ps xs costs after t j
-    → costIn (lessOf (getD a (getD xs j 0) 0) (getD b (getD xs j 0) 0) t (joinAt ps xs costs after j) r)
-    ≡ leastAcross a b ps xs costs after t (suc j)
+    → costIn (lessOf (getD a (getD xs j 0) 0) (getD b (getD xs j 0) 0) t x r) ≡ leastAcross a b ps xs costs after t (suc j)
 unfolding leastAcross lessOf scanCost reaches
-across-more a b ps xs costs after t j r u v e = go (ltb (getD a (getD xs j 0) 0) t && leb t (getD b (getD xs j 0) 0))
+across-more a b ps xs costs after t j r x d u v e = go (ltb (getD a (getD xs j 0) 0) t && leb t (getD b (getD xs j 0) 0))
   where
-    go : (c : Bool) → costIn (cond c (cond (ltb (joinAt ps xs costs after j) r) (joinAt ps xs costs after j) r) r)
+    go : (c : Bool) → costIn (cond c (cond (ltb x r) x r) r)
         ≡ cond c (lesserCost (costIn (joinAt ps xs costs after j)) (leastAcross a b ps xs costs after t j))
         (leastAcross a b ps xs costs after t j)
-    go true = cost-least (joinAt ps xs costs after j) r u v ∙ ap (lesserCost (costIn (joinAt ps xs costs after j))) e
+    go true = cost-least x r u v ∙ ap (lesserCost (costIn x)) e
+        ∙ ap (λ (z : ℕ). lesserCost (costIn z) (leastAcross a b ps xs costs after t j)) d
     go false = e
 
 -- costs are small

@@ -126,13 +126,10 @@ loop-again c =
     let args = c16 .args in (
       omega arith,
       omega arith,
-      rw (c .lower .ensures, c .before .before .before .join .ensures, add-one)
+      rw (c .lower .ensures, add-one)
           (across-more (args .starts .now) (args .ends .now) (args .prices .now) (args .live .now) (args .costs .now) (args .after .now)
-          (args .t) (c9 .loop .j) (c9 .loop .r) (omega (
-            arith,
-            c .before .before .before .join .ensures,
-            c .before .before .before .join .ok,
-          )) (c9 .loop .inv .1) (c9 .loop .inv .2)),
+          (args .t) (c9 .loop .j) (c9 .loop .r) (c .before .before .before .join .result) (c .before .before .before .join .ensures)
+          (omega (arith, c .before .before .before .join .ok)) (c9 .loop .inv .1) (c9 .loop .inv .2)),
     )
 
 returns : tie.Need-returns Inv-loop μ-loop
