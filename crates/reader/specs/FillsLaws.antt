@@ -234,7 +234,7 @@ breaks kind whole rest k m used rows windows w out = w .checks out
 -- no line is left
 pub walk-ends : (kind : Kind) (whole : List (Option Line)) (k m : ℕ) (used rows windows : List ℕ)
     → Walk kind whole [] k m used rows windows
-    → m ≤ 11000 → TablesHold kind whole k m rows windows
+    → m < 11000 → TablesHold kind whole k m rows windows
 unfolding checked bidsOf
 walk-ends kind whole k m used rows windows w l =
     let e : bidsOf whole ≡ w .done = w .bids ∙ append-nil (w .done) in

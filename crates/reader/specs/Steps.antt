@@ -3,7 +3,7 @@ use mathlib.Core.Path.{_≡_}
 use mathlib.Core.List.{List, [], _∷_, _++_}
 use mathlib.Core.Bool.{true}
 use mathlib.Core.Option.{Option, none, some}
-use Prim.Native.Nat.{ℕ, _+_, _*_, _≤_}
+use Prim.Native.Nat.{ℕ, _+_, _*_, _≤_, _<_}
 use lib.ListN.{length, take, drop}
 use lib.Dec.{eqb}
 use Rattle.tender.specs.declared.Kind.{Kind}
@@ -80,7 +80,7 @@ pub record TablesHold (kind : Kind) (ls : List (Option Line)) (k m : ℕ) (rows 
   pub bids : length (bidsOf ls) ≡ k
   pub places : length (allWindows (bidsOf ls)) ≡ m
   pub few-bids : k ≤ 1000
-  pub few-windows : m ≤ 11000
+  pub few-windows : m < 11000
   pub rows-are : take (4 * k) rows ≡ flatRows (rowsFrom 0 (bidsOf ls))
   pub windows-are : take (2 * m) windows ≡ flatWindows (allWindows (bidsOf ls))
 
