@@ -1,21 +1,32 @@
 /*
  * A second implementation of the list, written for plainness and not for speed, to compare the proved one with.
- * Single: the least cover minute by minute, sets compared where costs tie, a whole selection again without each winner.
- * Multi: the greedy run replayed from the start; the critical price by bisection on that replay, not by document 000's maximum.
+ *
+ * The text is read into a Tender. After that all speak of cells, of which one question is asked, whether a bid has a cell (`has`); it is
+ * asked once of each bid and cell, and the answers are kept both ways: the bids that have a cell, and the cells that a bid has.
+ * Single: the least cover cell by cell, sets compared where costs tie, and the whole selection again without each winner.
+ * Multi: the greedy run, replayed from the start at each price tried; the critical price by bisection, not by document 000's maximum.
  */
 #include "second.h"
 
 #include <stdbool.h>
 #include <stdio.h>
-#include <stdlib.h>
 #include <string.h>
 
 enum { MAX_BIDS = 1000, MAX_WINDOWS = 32, WEEK = 10080, MAX_TEXT = 65536, WORDS = (MAX_BIDS + 63) / 64 };
 static const int64_t NONE = INT64_MAX;
 
 typedef struct { long bidder, price; int count; int start[MAX_WINDOWS + 1], end[MAX_WINDOWS + 1]; } Bid;
-typedef struct { bool single; long start, end; int n; Bid bid[MAX_BIDS]; } Tender;
-typedef struct { int64_t cost; uint64_t set[WORDS]; } Cover;
+typedef struct { int count; uint16_t bid[MAX_BIDS]; } Owners;   /* of a cell: the bids that have it, in entry order */
+typedef struct { int count; uint16_t cell[WEEK]; } Cells;       /* of a bid: the cells that it has, rising */
+typedef struct {
+    bool single;
+    long start, end;
+    int n;
+    Bid bid[MAX_BIDS];
+    int cells;
+    Owners owners[WEEK];
+    Cells held[MAX_BIDS];
+} Tender;
 
 /* reading */
 
@@ -93,23 +104,52 @@ static int read_text(const uint8_t *text, size_t len, Tender *t, long *place)
     return 0;
 }
 
-/* minutes */
+/* cells: cell 0 is the tender's first minute, and so on */
 
-static bool in_bid(const Bid *b, long minute)
+static long minute_of(const Tender *t, int cell)
 {
+    return t->start + cell;
+}
+
+static bool has(const Tender *t, int i, int cell)
+{
+    const Bid *b = &t->bid[i];
+    long minute = minute_of(t, cell);
     for (int j = 0; j < b->count; j++) if (b->start[j] <= minute && minute < b->end[j]) return true;
     return false;
 }
 
-static int bidders(const Tender *t, long minute)
+static void lay_out(Tender *t)
 {
-    int c = 0;
-    for (int i = 0; i < t->n; i++) c += in_bid(&t->bid[i], minute);
-    return c;
+    t->cells = (int)(t->end - t->start);
+    for (int i = 0; i < t->n; i++) t->held[i].count = 0;
+    for (int c = 0; c < t->cells; c++) {
+        t->owners[c].count = 0;
+        for (int i = 0; i < t->n; i++) {
+            if (!has(t, i, c)) continue;
+            t->owners[c].bid[t->owners[c].count++] = (uint16_t)i;
+            t->held[i].cell[t->held[i].count++] = (uint16_t)c;
+        }
+    }
+}
+
+/* the first cell that just so many bids have, or -1 */
+static int cell_with(const Tender *t, int bids)
+{
+    for (int c = 0; c < t->cells; c++) if (t->owners[c].count == bids) return c;
+    return -1;
 }
 
 /* single */
 
+typedef struct { int64_t cost; uint64_t set[WORDS]; } Cover;
+
+static bool in_set(const Cover *c, int i)
+{
+    return c->set[i / 64] >> (i % 64) & 1;
+}
+
+/* the set without the latest bid that only one of them has stands: as numbers, bid i being bit i, the lesser */
 static bool better(const Cover *a, const Cover *b)
 {
     if (a->cost != b->cost) return a->cost < b->cost;
@@ -117,62 +157,61 @@ static bool better(const Cover *a, const Cover *b)
     return false;
 }
 
-/* the best cover of the tender without bid `skip`: best[m] covers the minutes before start + m */
+/* The best cover of the tender without bid `skip`. best[c] covers the cells before c; its last bid has cell c - 1, and, having one window,
+   all from its first cell on, so the others cover the cells before that. */
 static Cover least_cover(const Tender *t, int skip)
 {
-    long L = t->end - t->start;
-    Cover *best = calloc((size_t)L + 1, sizeof *best);
-    for (long m = 1; m <= L; m++) {
-        best[m].cost = NONE;
-        for (int i = 0; i < t->n; i++) {
-            const Bid *b = &t->bid[i];
-            if (i == skip || !in_bid(b, t->start + m - 1)) continue;
-            long from = b->start[0] > t->start ? b->start[0] - t->start : 0;
-            if (best[from].cost == NONE) continue;
-            Cover c = best[from];
-            c.cost += b->price;
-            c.set[i / 64] |= (uint64_t)1 << (i % 64);
-            if (better(&c, &best[m])) best[m] = c;
+    static Cover best[WEEK + 1];
+    memset(&best[0], 0, sizeof best[0]);
+    for (int c = 1; c <= t->cells; c++) {
+        const Owners *last = &t->owners[c - 1];
+        best[c].cost = NONE;
+        for (int k = 0; k < last->count; k++) {
+            int i = last->bid[k];
+            const Cover *others = &best[t->held[i].cell[0]];
+            if (i == skip || others->cost == NONE || others->cost + t->bid[i].price > best[c].cost) continue;
+            Cover with = *others;
+            with.cost += t->bid[i].price;
+            with.set[i / 64] |= (uint64_t)1 << (i % 64);
+            if (better(&with, &best[c])) best[c] = with;
         }
     }
-    Cover last = best[L];
-    free(best);
-    return last;
+    return best[t->cells];
 }
 
 /* multi */
 
-static int reach(const Tender *t, const Bid *b, const bool *open)
-{
-    int r = 0;
-    for (long m = t->start; m < t->end; m++) r += open[m] && in_bid(b, m);
-    return r;
-}
-
-/* whether bid k is taken at this price, all else standing; k = -1 marks all winners */
+/* The greedy run with bid k at this price, all else standing, until it is known whether k is taken; with k = -1 the whole run, in `won`. */
 static bool greedy(const Tender *t, int k, int64_t price, bool *won)
 {
-    static _Thread_local bool open[WEEK];
-    for (long m = t->start; m < t->end; m++) open[m] = true;
-    memset(won, 0, (size_t)t->n * sizeof *won);
+    static bool open[WEEK];
+    static int reach[MAX_BIDS];
+    for (int c = 0; c < t->cells; c++) open[c] = true;
+    for (int i = 0; i < t->n; i++) { won[i] = false; reach[i] = t->held[i].count; }
     for (;;) {
-        int pick = -1, pick_reach = 0;
-        int64_t pick_price = 0;
+        int pick = -1;
+        int64_t least = 0;
         for (int i = 0; i < t->n; i++) {
-            int r = won[i] ? 0 : reach(t, &t->bid[i], open);
             int64_t p = i == k ? price : t->bid[i].price;
-            if (r && (pick < 0 || p * pick_reach < pick_price * r)) { pick = i; pick_reach = r; pick_price = p; }
+            if (reach[i] && (pick < 0 || p * reach[pick] < least * reach[i])) { pick = i; least = p; }
         }
-        if (pick < 0) break;
+        if (pick < 0) return false;
         won[pick] = true;
-        for (long m = t->start; m < t->end; m++) if (in_bid(&t->bid[pick], m)) open[m] = false;
+        if (pick == k) return true;
+        for (int j = 0; j < t->held[pick].count; j++) {
+            int c = t->held[pick].cell[j];
+            if (!open[c]) continue;
+            open[c] = false;
+            for (int o = 0; o < t->owners[c].count; o++) reach[t->owners[c].bid[o]]--;
+        }
+        if (k >= 0 && !reach[k]) return false;
     }
-    return k >= 0 && won[k];
 }
 
+/* the largest price at which bid k is taken, as it is at its own */
 static int64_t critical(const Tender *t, int k)
 {
-    static _Thread_local bool won[MAX_BIDS];
+    static bool won[MAX_BIDS];
     int64_t low = t->bid[k].price, high = low + 1;     /* low wins */
     while (greedy(t, k, high, won)) { low = high; high *= 2; }
     while (high - low > 1) {
@@ -194,22 +233,24 @@ static void award(const Tender *t, bool *won, int64_t *paid)
     }
     Cover all = least_cover(t, -1);
     for (int i = 0; i < t->n; i++) {
-        won[i] = all.set[i / 64] >> (i % 64) & 1;
+        won[i] = in_set(&all, i);
         paid[i] = won[i] ? least_cover(t, i).cost - all.cost + t->bid[i].price : 0;
     }
 }
 
 size_t second_list(const uint8_t *text, size_t len, char *list, size_t room)
 {
-    static _Thread_local Tender t;
-    static _Thread_local bool won[MAX_BIDS];
-    static _Thread_local int64_t paid[MAX_BIDS];
+    static Tender t;
+    static bool won[MAX_BIDS];
+    static int64_t paid[MAX_BIDS];
     long place;
     int no = read_text(text, len, &t, &place);
     if (no) return (size_t)snprintf(list, room, "(refused %d %ld)\n", no, place);
-    for (int few = 0; few < 2; few++)
-        for (long m = t.start; m < t.end; m++)
-            if (bidders(&t, m) == few) return (size_t)snprintf(list, room, "(refused %d %ld)\n", 11 + few, m);
+    lay_out(&t);
+    for (int few = 0; few < 2; few++) {
+        int c = cell_with(&t, few);
+        if (c >= 0) return (size_t)snprintf(list, room, "(refused %d %ld)\n", 11 + few, minute_of(&t, c));
+    }
     award(&t, won, paid);
     size_t at = (size_t)snprintf(list, room, "(award %s %ld %ld)\n", t.single ? "single" : "multi", t.start, t.end);
     int64_t cost = 0, sum = 0;
