@@ -1,10 +1,11 @@
 /*
  * Tests of the entry point for C: tender_list, linked from the proved archive, and the program beside it.
- *   host PROGRAM [ROUNDS]     ROUNDS random texts of each sort (default 100000)
+ *   host PROGRAM [ROUNDS]     ROUNDS random texts of each small sort (default 100000), and wide ones in proportion
  */
 #define _GNU_SOURCE
-#include "../../include/tender.h"
+#include "entry.h"
 #include "second.h"
+#include "texts.h"
 
 #include <pthread.h>
 #include <stdbool.h>
@@ -29,8 +30,8 @@ static void expect(bool ok, const char *what, const uint8_t *text, size_t len)
 
 /* buffers that end where memory ends: a byte read or written past them faults; `sealed` text faults on a write */
 
-enum { ROOM = 1 << 17 };
-static uint8_t *text_room, *list_room;
+enum { ROOM = 1 << 17, GUARD = 64, FILL = 0xA5 };
+static uint8_t *text_room, *list_room, filled[ROOM];
 
 static uint8_t *fenced(void)
 {
@@ -52,11 +53,9 @@ static size_t call(const void *bytes, size_t n, size_t room, uint8_t *out)
 {
     const uint8_t *text = sealed(bytes, n);
     uint8_t *list = list_room - room;
-    memset(list - 64, 0xA5, room + 64);
+    memset(list - GUARD, FILL, GUARD + room);
     size_t k = tender_list(text, n, list, room);
-    bool kept = k <= room;
-    for (size_t i = 0; i < 64; i++) kept &= list[-1 - (long)i] == 0xA5;
-    for (size_t i = k; i < room; i++) kept &= list[i] == 0xA5;
+    bool kept = k <= room && !memcmp(list + k, filled, room - k) && !memcmp(list - GUARD, filled, GUARD);
     expect(kept, "bytes past the list or before the buffer changed", bytes, n);
     expect(!memcmp(text, bytes, n), "the text changed", bytes, n);
     if (k <= room) memcpy(out, list, k);
@@ -66,7 +65,7 @@ static size_t call(const void *bytes, size_t n, size_t room, uint8_t *out)
 static void lists(const char *text, size_t n, const char *want)
 {
     static uint8_t out[ROOM];
-    size_t k = call(text, n, TENDER_LIST_MAX, out), w = strlen(want);
+    size_t k = call(text, n, LIST_MAX, out), w = strlen(want);
     expect(k == w && !memcmp(out, want, w), want, (const uint8_t *)text, n);
     expect(call(text, n, w, out) == w && !memcmp(out, want, w), "a buffer that just fits", (const uint8_t *)text, n);
     for (size_t room = 0; room < w; room += room + 8 < w ? 7 : 1)
@@ -93,7 +92,8 @@ static void earliest(void)
 {
     LISTS("(tender single 0 10)\n(bid 1 1 (0 5))\n(bid 2 1 (5 10))\n", "(refused 12 0)\n");
     LISTS("(tender multi 0 10)\n(bid 1 1 (0 5))\n(bid 2 1 (5 10))\n", "(refused 12 0)\n");
-    LISTS("(tender single 480 600)\n(bid 1 1 (480 500))\n(bid 2 1 (480 500))\n(bid 3 1 (510 600))\n(bid 4 1 (510 600))\n", "(refused 11 500)\n");
+    LISTS("(tender single 480 600)\n(bid 1 1 (480 500))\n(bid 2 1 (480 500))\n(bid 3 1 (510 600))\n(bid 4 1 (510 600))\n",
+          "(refused 11 500)\n");
     LISTS("(tender single 0 9)\n(bid 1 1 (0 7))\n(bid 2 1 (0 3))\n(bid 3 1 (4 7))\n(bid 4 1 (8 9))\n", "(refused 11 7)\n");
     LISTS("(tender multi 0 9)\n(bid 1 1 (0 7))\n(bid 2 1 (0 3) (4 7) (8 9))\n", "(refused 11 7)\n");
     LISTS("(tender multi 0 128)\n(bid 1 1 (0 64))\n(bid 2 1 (0 64))\n(bid 3 1 (65 128))\n(bid 4 1 (65 128))\n", "(refused 11 64)\n");
@@ -134,44 +134,6 @@ static void refusals(void)
 
 /* random texts */
 
-static uint64_t state = 20261115;
-
-static unsigned below(unsigned n)
-{
-    state = state * 6364136223846793005u + 1442695040888963407u;
-    return (unsigned)((state >> 33) % n);
-}
-
-static size_t random_text(char *s)
-{
-    unsigned start = below(30), cells = 1 + below(below(8) ? 40 : 200), n = below(9), single = below(2);
-    size_t at = (size_t)sprintf(s, "(tender %s %u %u)\n", single ? "single" : "multi", start, start + cells);
-    for (unsigned i = 0; i < n; i++) {
-        at += (size_t)sprintf(s + at, "(bid %u %u", 1 + i * 7 + below(7), below(4) ? below(50) : below(5));
-        for (unsigned k = single ? 1 : 1 + below(4); k; k--) {
-            unsigned a = below(start + cells + 3), e = a + 1 + below(cells + 10);
-            at += (size_t)sprintf(s + at, " (%u %u)", a, e);
-        }
-        at += (size_t)sprintf(s + at, ")\n");
-    }
-    return at;
-}
-
-static size_t mutated(char *s, size_t n)
-{
-    static const char odd[] = "0123456789() \nabdegilmnrstu\r.-\0\377";
-    for (unsigned k = 1 + below(2); k; k--) {
-        size_t at = n ? below((unsigned)n) : 0;
-        char c = odd[below(sizeof odd - 1)];
-        switch (below(3)) {
-        case 0: if (n) s[at] = c; break;
-        case 1: if (n) { memmove(s + at, s + at + 1, n - at - 1); n--; } break;
-        default: memmove(s + at + 1, s + at, n - at); s[at] = c; n++;
-        }
-    }
-    return n;
-}
-
 /* the list is the second implementation's, byte for byte */
 static bool agrees(const uint8_t *text, size_t n, const uint8_t *out, size_t k)
 {
@@ -179,56 +141,106 @@ static bool agrees(const uint8_t *text, size_t n, const uint8_t *out, size_t k)
     return k == second_list(text, n, other, sizeof other) && !memcmp(out, other, k);
 }
 
+static bool awarded(const uint8_t *out, size_t k)
+{
+    return k > 6 && !memcmp(out, "(award", 6);
+}
+
 static void random_texts(long rounds)
 {
-    static char s[1 << 14];
+    static char s[TEXT_ROOM];
     static uint8_t out[ROOM];
-    long awards = 0, declined = 0;
+    long awards = 0;
     for (long i = 0; i < 2 * rounds; i++) {
-        size_t n = random_text(s);
+        size_t n = small_text(s);
         if (i % 2) n = mutated(s, n);
-        size_t k = call(s, n, TENDER_LIST_MAX, out);
+        size_t k = call(s, n, LIST_MAX, out);
         expect(agrees((const uint8_t *)s, n, out, k), "differs from the second implementation", (const uint8_t *)s, n);
-        if (k > 6 && !memcmp(out, "(award", 6)) awards++;
-        else declined++;
+        awards += awarded(out, k);
     }
     for (long i = 0; i < rounds; i++) {
         size_t n = below(64);
         for (size_t j = 0; j < n; j++) s[j] = (char)below(256);
-        size_t k = call(s, n, TENDER_LIST_MAX, out);
+        size_t k = call(s, n, LIST_MAX, out);
         expect(agrees((const uint8_t *)s, n, out, k), "random bytes", (const uint8_t *)s, n);
     }
-    printf("random texts: %ld awarded, %ld declined, %ld of random bytes\n", awards, declined, rounds);
+    printf("small tenders: %ld awarded, %ld declined; %ld texts of random bytes\n", awards, 2 * rounds - awards, rounds);
 }
 
-/* several threads at once */
+/* tenders of several words; a buffer of one byte too few is declined */
+
+typedef struct { long awarded[2], declined[2]; } Wide;      /* multi, single */
+
+static void wide(Size size, Wide *count)
+{
+    static char s[TEXT_ROOM];
+    static uint8_t out[ROOM], none[1];
+    size_t n = wide_text(s, size), k = call(s, n, LIST_MAX, out);
+    expect(agrees((const uint8_t *)s, n, out, k), "a wide tender", (const uint8_t *)s, n);
+    if (awarded(out, k)) count->awarded[size.single]++;
+    else count->declined[size.single]++;
+    expect(k && call(s, n, k - 1, none) == 0, "a wide tender, a short buffer", (const uint8_t *)s, n);
+}
+
+static void say(const char *what, const Wide *w)
+{
+    printf("%s: single %ld awarded, %ld declined; multi %ld awarded, %ld declined\n", what, w->awarded[1], w->declined[1], w->awarded[0],
+           w->declined[0]);
+}
+
+static void wide_tenders(long rounds)
+{
+    static const Size week[] = {{true, 10080, 1000, 1}, {false, 10080, 1000, 32}, {true, 10080, 300, 1}, {false, 10080, 100, 32},
+                                {true, 10080, 40, 1}, {false, 10080, 300, 4}};
+    Wide some = {0}, weeks = {0};
+    for (long i = 0; i < rounds / 20; i++) wide(wide_size(), &some);
+    for (long i = 0; i < rounds / 5000; i++) wide(week[i % 6], &weeks);
+    say("60 to 600 minutes", &some);
+    say("10,080 minutes", &weeks);
+}
+
+/* several threads at once: each runs all the texts, of both kinds and all widths, beginning at another */
+
+enum { THREADS = 4, TEXTS = 60, PASSES = 5 };
+static struct { char text[TEXT_ROOM], list[1 << 16]; size_t n, k; } shared[TEXTS];
 
 static void *thread(void *arg)
 {
-    unsigned seed = *(unsigned *)arg;
-    char text[256];
-    uint8_t out[4096];
-    for (unsigned i = 0; i < 300; i++) {
-        unsigned p = (seed * 131 + i) % 31;             /* without 11 the cover costs 75, without 12 it costs 85 */
-        size_t n = (size_t)sprintf(text, "(tender single 0 100)\n(bid 11 %u (0 50))\n(bid 12 40 (40 100))\n(bid 14 35 (0 60))\n(bid 15 50 (60 100))\n", p);
-        char want[256];
-        size_t w = (size_t)sprintf(want, "(award single 0 100)\n(win 11 35)\n(win 12 %u)\n(total %u %u)\n", 85 - p, 40 + p, 120 - p);
-        size_t k = tender_list((const uint8_t *)text, n, out, sizeof out);
-        if (k != w || memcmp(out, want, w)) *(unsigned *)arg = 1000000;
+    int *wrong = arg, from = *wrong * TEXTS / THREADS;
+    uint8_t *out = malloc(LIST_MAX);
+    if (!out) exit(2);
+    *wrong = 0;
+    for (int i = 0; i < TEXTS * PASSES; i++) {
+        int at = (from + i) % TEXTS;
+        size_t k = tender_list((const uint8_t *)shared[at].text, shared[at].n, out, LIST_MAX);
+        *wrong += k != shared[at].k || memcmp(out, shared[at].list, k);
     }
+    free(out);
     return NULL;
 }
 
 static void threads(void)
 {
-    pthread_t id[4];
-    unsigned seed[4] = {1, 2, 3, 4};
+    pthread_t id[THREADS];
+    int wrong[THREADS];
+    long awards = 0;
     pthread_attr_t attr;
+    for (int i = 0; i < TEXTS; i++) {
+        shared[i].n = i % 3 ? wide_text(shared[i].text, wide_size()) : small_text(shared[i].text);
+        shared[i].k = second_list((const uint8_t *)shared[i].text, shared[i].n, shared[i].list, sizeof shared[i].list);
+        awards += awarded((const uint8_t *)shared[i].list, shared[i].k);
+    }
     pthread_attr_init(&attr);
-    pthread_attr_setstacksize(&attr, TENDER_STACK + (1 << 16));
-    for (int i = 0; i < 4; i++) pthread_create(&id[i], &attr, thread, &seed[i]);
-    for (int i = 0; i < 4; i++) pthread_join(id[i], NULL);
-    for (int i = 0; i < 4; i++) expect(seed[i] < 1000000, "threads", NULL, 0);
+    pthread_attr_setstacksize(&attr, STACK);
+    for (int i = 0; i < THREADS; i++) {
+        wrong[i] = i;
+        if (pthread_create(&id[i], &attr, thread, &wrong[i])) exit(2);
+    }
+    for (int i = 0; i < THREADS; i++) {
+        pthread_join(id[i], NULL);
+        expect(!wrong[i], "threads", NULL, 0);
+    }
+    printf("threads: %d with %d texts each, %ld of them awarded, %d times\n", THREADS, TEXTS, awards, PASSES);
 }
 
 /* the program writes the same list, however its input arrives */
@@ -262,13 +274,13 @@ static void program(const char *path, const char *text, size_t n, size_t chunk)
     close(out[0]);
     waitpid(writer, NULL, 0);
     waitpid(pid, NULL, 0);
-    size_t w = tender_list((const uint8_t *)text, n, want, TENDER_LIST_MAX);
+    size_t w = tender_list((const uint8_t *)text, n, want, LIST_MAX);
     expect(k == w && !memcmp(got, want, w), "the program's list", (const uint8_t *)text, n);
 }
 
 static void programs(const char *path)
 {
-    static char big[1 << 17];
+    static char big[TEXT_ROOM];
     program(path, EXAMPLE, sizeof EXAMPLE - 1, 1 << 16);
     program(path, EXAMPLE, sizeof EXAMPLE - 1, 1);
     program(path, "", 0, 1);
@@ -277,19 +289,24 @@ static void programs(const char *path)
     program(path, big, 65537, 65537);
     program(path, big, 65537, 1);
     program(path, big, 100000, 1000);
-    for (int i = 0; i < 40; i++) program(path, big, random_text(big), 1 + below(30));
+    for (int i = 0; i < 40; i++) program(path, big, small_text(big), 1 + below(30));
+    for (int i = 0; i < 20; i++) program(path, big, wide_text(big, wide_size()), 1 + below(3000));
 }
 
 int main(int argc, char **argv)
 {
     if (argc < 2) return 2;
+    long rounds = argc > 2 ? atol(argv[2]) : 100000;
+    setvbuf(stdout, NULL, _IOLBF, 0);
     text_room = fenced();
     list_room = fenced();
+    memset(filled, FILL, sizeof filled);
     worked();
     refusals();
     threads();
     programs(argv[1]);
-    random_texts(argc > 2 ? atol(argv[2]) : 100000);
+    random_texts(rounds);
+    wide_tenders(rounds);
     printf("host: %ld checks, %ld faults\n", checks, faults);
     return faults != 0;
 }

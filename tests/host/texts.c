@@ -1,0 +1,182 @@
+/* Random bid texts, the same in each run. */
+#include "texts.h"
+
+#include <stdint.h>
+#include <stdio.h>
+#include <string.h>
+
+enum { WEEK = 10080, TOP_PRICE = 100000000, MAX_BIDS = 1000, MAX_WINDOWS = 32 };
+enum { TEXT_BYTES = 65000, BID_BYTES = 27, WINDOW_BYTES = 14 };     /* of a text, and at most of a bid but its windows and of a window */
+
+static uint64_t state = 20261115;
+
+unsigned below(unsigned n)
+{
+    state = state * 6364136223846793005u + 1442695040888963407u;
+    return (unsigned)((state >> 33) % n);
+}
+
+size_t small_text(char *s)
+{
+    unsigned start = below(30), cells = 1 + below(below(8) ? 40 : 200), n = below(9), single = below(2);
+    size_t at = (size_t)sprintf(s, "(tender %s %u %u)\n", single ? "single" : "multi", start, start + cells);
+    for (unsigned i = 0; i < n; i++) {
+        at += (size_t)sprintf(s + at, "(bid %u %u", 1 + i * 7 + below(7), below(4) ? below(50) : below(5));
+        for (unsigned k = single ? 1 : 1 + below(4); k; k--) {
+            unsigned a = below(start + cells + 3), e = a + 1 + below(cells + 10);
+            at += (size_t)sprintf(s + at, " (%u %u)", a, e);
+        }
+        at += (size_t)sprintf(s + at, ")\n");
+    }
+    return at;
+}
+
+size_t mutated(char *s, size_t n)
+{
+    static const char odd[] = "0123456789() \nabdegilmnrstu\r.-\0\377";
+    for (unsigned k = 1 + below(2); k; k--) {
+        size_t at = n ? below((unsigned)n) : 0;
+        char c = odd[below(sizeof odd - 1)];
+        switch (below(3)) {
+        case 0: if (n) s[at] = c; break;
+        case 1: if (n) { memmove(s + at, s + at + 1, n - at - 1); n--; } break;
+        default: memmove(s + at + 1, s + at, n - at); s[at] = c; n++;
+        }
+    }
+    return n;
+}
+
+/* wide tenders */
+
+typedef struct { unsigned start, end; } Window;
+typedef struct { unsigned price, count; Window window[MAX_WINDOWS]; } Bid;
+
+static Bid bid[MAX_BIDS];
+static unsigned bids;
+
+static unsigned lesser(unsigned a, unsigned b)
+{
+    return a < b ? a : b;
+}
+
+/* the window made lawful: not empty, and not past the week's end */
+static void add_window(Bid *b, unsigned s, unsigned e)
+{
+    s = lesser(s, WEEK - 1);
+    e = lesser(e > s ? e : s + 1, WEEK);
+    b->window[b->count++] = (Window){s, e};
+}
+
+/* where piece j of q pieces of the minutes from `start` on begins: anywhere in its share, or at a word's edge and a minute beside it */
+static unsigned cut(unsigned start, unsigned minutes, unsigned j, unsigned q, bool words)
+{
+    if (j == 0 || j == q) return start + (j ? minutes : 0);
+    unsigned c = (j * minutes + below(minutes)) / q;
+    if (words) c = lesser((c + 32) / 64 * 64 + below(3), minutes + 1) - (c >= 32);
+    return start + c;
+}
+
+/* n bids of `windows` windows each that together have all the minutes: pieces that touch or overlap, dealt out in a random order */
+static void add_layer(unsigned start, unsigned minutes, unsigned n, unsigned windows)
+{
+    static unsigned order[MAX_BIDS * MAX_WINDOWS], edge[MAX_BIDS * MAX_WINDOWS + 1];
+    unsigned q = n * windows, overlap = below(3) ? 0 : 1 + below(1 + minutes / q);
+    bool words = !below(3);
+    for (unsigned j = 0; j <= q; j++) edge[j] = cut(start, minutes, j, q, words);
+    for (unsigned j = 0; j < q; j++) {
+        unsigned other = below(j + 1);
+        order[j] = order[other];
+        order[other] = j;
+    }
+    for (unsigned j = 0; j < q; j++) {
+        unsigned piece = order[j], before = lesser(edge[piece], overlap ? below(overlap) : 0);
+        add_window(&bid[bids + j % n], edge[piece] - before, edge[piece + 1] + (overlap ? below(overlap) : 0));
+    }
+    bids += n;
+}
+
+/* a bid with windows anywhere: inside, across an end, wholly outside */
+static void add_any(unsigned start, unsigned minutes, unsigned windows, unsigned longest)
+{
+    Bid *b = &bid[bids++];
+    for (unsigned k = 1 + below(windows); k; k--) {
+        unsigned s = below(12) ? start + below(minutes) : below(WEEK);
+        add_window(b, s - lesser(s, below(longest)), s + 1 + below(longest));
+    }
+}
+
+static unsigned time_of(const Bid *b)
+{
+    unsigned sum = 0;
+    for (unsigned k = 0; k < b->count; k++) sum += b->window[k].end - b->window[k].start;
+    return sum;
+}
+
+/* a price in one of several manners: by the minute, with ties, near ties and some way off; few values; zeros; near the limit; anything */
+static unsigned price_of(const Bid *b, unsigned manner, unsigned rate)
+{
+    if (!below(20)) manner = below(9);
+    switch (manner) {
+    case 0: return rate * time_of(b);
+    case 1: return rate * time_of(b) + below(3);
+    case 2: case 3: return rate * time_of(b) * (80 + below(41)) / 100;
+    case 4: return 1000 * time_of(b) + below(1000);
+    case 5: return below(8);
+    case 6: return below(2) ? 0 : below(100);
+    case 7: return TOP_PRICE - below(3);
+    default: return below(TOP_PRICE + 1);
+    }
+}
+
+static void shuffle(void)
+{
+    for (unsigned i = bids; i > 1; i--) {
+        unsigned j = below(i);
+        Bid b = bid[i - 1];
+        bid[i - 1] = bid[j];
+        bid[j] = b;
+    }
+}
+
+/* a minute to begin at: often beside a word's edge */
+static unsigned start_for(unsigned minutes)
+{
+    unsigned room = WEEK - minutes, near = 64 * below(4) + below(3);
+    switch (below(3)) {
+    case 0: return 0;
+    case 1: return lesser(room, near - (near > 0));
+    default: return below(room + 1);
+    }
+}
+
+size_t wide_text(char *s, Size size)
+{
+    unsigned start = start_for(size.minutes), manner = below(9), rate = 1 + below(9);
+    unsigned layers = 2 + below(2), share = size.bids / (layers + 1);
+    unsigned windows = size.single ? 1 : lesser(size.windows, (TEXT_BYTES / size.bids - BID_BYTES) / WINDOW_BYTES);
+    unsigned longest = 1 + below(4) * size.minutes / (1 + share);
+    bool thin = !below(8), some_long = below(2);
+    bids = 0;
+    memset(bid, 0, sizeof bid);
+    for (unsigned k = 0; k < layers; k++)
+        add_layer(start, size.minutes, 1 + (below(3) ? share / 2 : 0) + below(1 + share / 2), 1 + below(windows));
+    while (!thin && bids < size.bids) add_any(start, size.minutes, windows, some_long && !below(16) ? 1 + below(size.minutes) : longest);
+    shuffle();
+    if (thin) bids -= 1 + below(2);
+    for (unsigned i = 0; i < bids; i++) bid[i].price = lesser(price_of(&bid[i], manner, rate), TOP_PRICE);
+    size_t at = (size_t)sprintf(s, "(tender %s %u %u)\n", size.single ? "single" : "multi", start, start + size.minutes);
+    unsigned step = 1 + below(900), first = 1 + below(90000);
+    for (unsigned i = 0; i < bids; i++) {
+        at += (size_t)sprintf(s + at, "(bid %u %u", first + i * step, bid[i].price);
+        for (unsigned k = 0; k < bid[i].count; k++) at += (size_t)sprintf(s + at, " (%u %u)", bid[i].window[k].start, bid[i].window[k].end);
+        at += (size_t)sprintf(s + at, ")\n");
+    }
+    return at;
+}
+
+Size wide_size(void)
+{
+    unsigned words = 64 * (1 + below(9)) + below(3) - 1;
+    return (Size){.single = below(2), .minutes = below(2) ? 60 + below(541) : words, .bids = 3 + below(below(8) ? 58 : 298),
+                  .windows = 1 + below(below(4) ? 6 : MAX_WINDOWS)};
+}

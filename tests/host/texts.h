@@ -1,0 +1,26 @@
+/* Random bid texts, the same in each run. */
+#ifndef TEXTS_H
+#define TEXTS_H
+
+#include <stdbool.h>
+#include <stddef.h>
+
+enum { TEXT_ROOM = 1 << 17 };
+
+unsigned below(unsigned n);
+
+/* a tender of up to 40, at times 200 minutes with up to 8 bids; most are declined */
+size_t small_text(char *s);
+
+/* a text with one or two bytes changed, dropped or put in */
+size_t mutated(char *s, size_t n);
+
+/* A tender of so many minutes and so many bids, 3 to 1000, of up to so many windows: one in a single tender, and fewer where the text would
+   be longer than 65,536 bytes. Each minute has two bidders or more, but one text in eight has fewer bids and then lacks one or two more. */
+typedef struct { bool single; unsigned minutes, bids, windows; } Size;
+size_t wide_text(char *s, Size size);
+
+/* a size of 60 to 600 minutes, of up to 60 bids and at times 300 */
+Size wide_size(void);
+
+#endif
