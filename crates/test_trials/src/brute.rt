@@ -98,7 +98,7 @@ fn reach_of(held: u64, mask: u64) -> u64 {
 }
 
 // The product of two small numbers.
-fn times(a: u64, b: u64) -> u64 {
+pub(crate) fn times(a: u64, b: u64) -> u64 {
     (a % 65536) * (b % 128)
 }
 

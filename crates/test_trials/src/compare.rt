@@ -111,10 +111,15 @@ fn untouched(won: [u64; 9], cents: [u64; 9]) -> bool {
     true
 }
 
+// The first minute of the tender's cell x.
+fn minute_of(lot: Lot, x: u64) -> u64 {
+    random::minute(std::num::wrapping_add_u64(lot.start, x), lot.width)
+}
+
 fn tender_of(lot: Lot, several: bool) -> Tender {
     let window = Window {
-        start: lot.start,
-        end: std::num::wrapping_add_u64(lot.start, lot.length),
+        start: minute_of(lot, 0),
+        end: minute_of(lot, lot.length),
     };
     if several {
         Tender {
@@ -174,10 +179,10 @@ fn refusal_right(lot: Lot, refusal: Refusal, won: [u64; 9], cents: [u64; 9]) -> 
     }
     match refusal {
         Refusal::MinuteUncovered { minute } => {
-            uncovered < 16 && minute == std::num::wrapping_add_u64(lot.start, uncovered)
+            uncovered < 16 && minute == minute_of(lot, uncovered)
         }
         Refusal::OneBidder { minute } => {
-            uncovered == 16 && lone < 16 && minute == std::num::wrapping_add_u64(lot.start, lone)
+            uncovered == 16 && lone < 16 && minute == minute_of(lot, lone)
         }
         _ => false,
     }
@@ -250,9 +255,9 @@ pub(crate) fn awards(n: u64) -> Tried {
     let mut state: u64 = 20261115;
     let mut i: u64 = 0;
     while i < n {
-        let one = random::draw(state, false);
+        let one = random::draw(state, false, i);
         t = counted(t, false, try_award(one, false));
-        let several = random::draw(one.state, true);
+        let several = random::draw(one.state, true, i);
         t = counted(t, true, try_award(several, true));
         state = several.state;
         i += 1;
@@ -428,7 +433,7 @@ pub(crate) fn faults(n: u64) -> Checked {
     let mut i: u64 = 0;
     while i < n {
         let several = i % 2 == 0;
-        let drawn = random::draw(state, several);
+        let drawn = random::draw(state, several, 0);
         state = drawn.state;
         let lot = if i % 4 < 3 {
             broken(drawn, state)

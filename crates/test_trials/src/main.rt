@@ -1,6 +1,7 @@
-// Tries both awards on small random tenders under a fixed seed, against another implementation (`brute`) that tries every
-// set of bids and every price; and the check of the tables on tables with a fault in them, against another check (`rules`).
-// Writes what was tried by kind, and last how many answers disagree.
+// Tries both awards on random tenders of few bids under a fixed seed, against another implementation (`brute`) that tries every
+// set of bids and every price: over up to 11 cells, each a minute in every other tender, 6 to 60 minutes in most of the others, and
+// more, up to a whole week of ten cells, in a few. And the check of the tables on tables with a fault in them, against another
+// check (`rules`). Writes what was tried by kind, and last how many answers disagree.
 mod brute;
 mod compare;
 mod random;

@@ -1,4 +1,5 @@
 // Random numbers and random tenders.
+use crate::brute;
 ghost use Prim.Native.Nat.{_+_, _≤_};
 
 // The next state of a generator (xorshift).
@@ -18,9 +19,11 @@ pub(crate) fn below(state: u64, n: u64) -> u64
     (state >> 11) % n
 }
 
-// A tender of up to seven bids over up to 12 minutes, in the two tables, with the cells of each bid as bits.
+// A tender of up to seven bids over up to 11 cells of `width` minutes each, in the two tables, with the cells of each bid as
+// bits. The answer is that of cells of a minute: every reach is multiplied by the width.
 pub(crate) struct Lot {
     pub(crate) state: u64,
+    pub(crate) width: u64,
     pub(crate) start: u64,
     pub(crate) length: u64,
     pub(crate) count: usize,
@@ -31,13 +34,46 @@ pub(crate) struct Lot {
     pub(crate) masks: [u64; 7],
 }
 
-// The minutes from s up to e as bits, where the tender has the bits from 0 up to length.
+// The first minute of a cell; the end of the week from there on.
+pub(crate) fn minute(cell: u64, width: u64) -> u64 {
+    let m = brute::times(width, cell);
+    if m < 10080 { m } else { 10080 }
+}
+
+// The widths of cells with which 15 cells, and ten, are a week.
+const WIDE: u64 = 672;
+
+const WIDEST: u64 = 1008;
+
+// The width of the cells in tender i: a minute in every other, mostly 6 to 60 in the rest.
+fn width_of(i: u64, state: u64) -> u64 {
+    match i % 64 {
+        1 => WIDE,
+        3 => WIDEST,
+        k => if k % 2 == 0 { 1 } else { 6 + state % 55 },
+    }
+}
+
+// The first cell and the number of cells: of the widest, the whole week.
+fn start_of(width: u64, state: u64) -> u64 {
+    if width == WIDEST { 0 } else { below(state, 5) }
+}
+
+fn length_of(width: u64, state: u64) -> u64 {
+    if width == WIDEST {
+        10
+    } else {
+        1 + below(state, 11)
+    }
+}
+
+// The cells from s up to e as bits, where the tender has the bits from 0 up to length.
 fn bits(s: u64, e: u64, start: u64, length: u64) -> u64 {
     let mut m: u64 = 0;
     let mut x: u64 = 0;
     while x < 16 {
-        let minute = std::num::wrapping_add_u64(start, x);
-        if x < length && s <= minute && minute < e {
+        let cell = std::num::wrapping_add_u64(start, x);
+        if x < length && s <= cell && cell < e {
             m = m | (1 << x);
         }
         x += 1;
@@ -72,8 +108,8 @@ fn with_window(lot: Lot, i: usize) -> Lot {
     let s = below(s1, 8);
     let e = s + 1 + below(s2, 16);
     let m = l.masks[i];
-    l.windows[2 * row] = s;
-    l.windows[2 * row + 1] = e;
+    l.windows[2 * row] = minute(s, l.width);
+    l.windows[2 * row + 1] = minute(e, l.width);
     l.masks[i] = m | bits(s, e, l.start, l.length);
     l.rows = row + 1;
     l.state = s2;
@@ -108,15 +144,18 @@ fn with_bid(lot: Lot, i: usize, several: bool) -> Lot {
     with_window(two, i)
 }
 
-pub(crate) fn draw(seed: u64, several: bool) -> Lot {
+// Tender i of a series; tender 0 has cells of a minute.
+pub(crate) fn draw(seed: u64, several: bool, i: u64) -> Lot {
     let s1 = next(seed);
     let s2 = next(s1);
     let s3 = next(s2);
+    let width = width_of(i, s3);
     let count = (3 + below(s3, 5)) as usize;
     let mut lot = Lot {
         state: s3,
-        start: below(s1, 5),
-        length: 1 + below(s2, 11),
+        width,
+        start: start_of(width, s1),
+        length: length_of(width, s2),
         count,
         rows: 0,
         bids: [0; 28],
@@ -124,12 +163,12 @@ pub(crate) fn draw(seed: u64, several: bool) -> Lot {
         prices: [0; 7],
         masks: [0; 7],
     };
-    let mut i: usize = 0;
-    while i < 7 {
-        if i < count {
-            lot = with_bid(lot, i, several);
+    let mut j: usize = 0;
+    while j < 7 {
+        if j < count {
+            lot = with_bid(lot, j, several);
         }
-        i += 1;
+        j += 1;
     }
     lot
 }

@@ -7,13 +7,16 @@ use Rattle.test_trials.proofs.random.draw.Reads as reads
 use Rattle.test_trials.proofs.random.draw.Lts as lts
 use Rattle.test_trials.proofs.random.below.Reads as below-reads
 use Rattle.test_trials.proofs.random.next.Reads as next-reads
+use Rattle.test_trials.proofs.random.width_of.Reads as width-of-reads
+use Rattle.test_trials.proofs.random.start_of.Reads as start-of-reads
+use Rattle.test_trials.proofs.random.length_of.Reads as length-of-reads
 use Rattle.test_trials.proofs.random.with_bid.Reads as with-bid-reads
 
 abbrev Inv-loop : tie.InvT-loop
-Inv-loop seed several s1 s2 s3 count lot₀ i₀ lot i = (i ≤ 7)
+Inv-loop seed several i s1 s2 s3 width count lot₀ j₀ lot j = (j ≤ 7)
 
 abbrev μ-loop : tie.MeasureT-loop
-μ-loop seed several s1 s2 s3 count lot₀ i₀ lot i = 7 - i
+μ-loop seed several i s1 s2 s3 width count lot₀ j₀ lot j = 7 - j
 
 next-requires : tie.Need-next-requires Inv-loop μ-loop
 next-requires c κs = search needs
@@ -24,20 +27,20 @@ next-requires-2 c κs = search needs
 next-requires-3 : tie.Need-next-requires-3 Inv-loop μ-loop
 next-requires-3 c κs = search needs
 
+width-of-requires : tie.Need-width-of-requires Inv-loop μ-loop
+width-of-requires c κs = search needs
+
 below-requires : tie.Need-below-requires Inv-loop μ-loop
 below-requires c κs = search needs
 
 add-count : tie.Need-add-count Inv-loop μ-loop
 add-count c = search needs
 
-below-requires-2 : tie.Need-below-requires-2 Inv-loop μ-loop
-below-requires-2 c κs = search needs
+start-of-requires : tie.Need-start-of-requires Inv-loop μ-loop
+start-of-requires c κs = search needs
 
-below-requires-3 : tie.Need-below-requires-3 Inv-loop μ-loop
-below-requires-3 c κs = search needs
-
-add-t11 : tie.Need-add-t11 Inv-loop μ-loop
-add-t11 c = search needs
+length-of-requires : tie.Need-length-of-requires Inv-loop μ-loop
+length-of-requires c κs = search needs
 
 loop-holds : tie.Need-loop-holds Inv-loop μ-loop
 loop-holds c = search needs
@@ -45,8 +48,8 @@ loop-holds c = search needs
 with-bid-requires : tie.Need-with-bid-requires Inv-loop μ-loop
 with-bid-requires c κs = search needs
 
-add-i : tie.Need-add-i Inv-loop μ-loop
-add-i c = search needs
+add-j : tie.Need-add-j Inv-loop μ-loop
+add-j c = search needs
 
 loop-less : tie.Need-loop-less Inv-loop μ-loop
 loop-less c = search needs
@@ -66,14 +69,14 @@ draw-spec =
     next-requires
     next-requires-2
     next-requires-3
+    width-of-requires
     below-requires
     add-count
-    below-requires-2
-    below-requires-3
-    add-t11
+    start-of-requires
+    length-of-requires
     loop-holds
     with-bid-requires
-    add-i
+    add-j
     loop-less
     loop-again
     returns)
