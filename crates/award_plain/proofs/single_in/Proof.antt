@@ -132,8 +132,8 @@ award-requires c κs =
       ),
       (
         (
-          omega (arith, c19 .prices .kept .1 .0, pre .1 .1 .1 .0),
-          omega (arith, c19 .prices .kept .1 .0, pre .1 .1 .1 .1),
+          omega (arith, c19 .prices .kept .1 .0, pre .1 .1 .1),
+          omega (arith, c19 .prices .kept .1 .0, pre .1 .1 .1),
         ),
         (
           λ i m. (h .ordered i, h .inside i),
