@@ -38,7 +38,8 @@ use Rattle.theorems.specs.Calls.{ReadRun, ReadCall, AwardCall, toldBy, S
 use Rattle.theorems.specs.OneReading.{OneReading, SameReading}
 use Rattle.theorems.specs.TextOf.{textOf}
 use Rattle.theorems.specs.ListRead.{rowShown}
-use Rattle.theorems.specs.Between.{Exactly, CallableWith, FewerThan, ForCover, priceAt, WasRead, Variant, Follows, SameAward, NoGainBetween, OneList}
+use Rattle.theorems.specs.Between.{Exactly, CallableWith, FewerThan, ForCover, priceAt, WasRead, Variant, Follows, SameAward}
+use Rattle.theorems.specs.Between.{NoGainBetween, OneList}
 use Rattle.theorems.specs.Between.{ListGiven, NoGainShown, Showable}
 use Rattle.theorems.specs.ReadingLaws as reading
 use Rattle.theorems.specs.Numerals.{decimal-back}
@@ -164,7 +165,8 @@ module _ (c : AwardCall) (rows : List AwardRow) (cost paid : ℕ) (told : toldBy
       (rw (told, k) at (c .promise .answers))
 
   -- A winner of a multi tender is paid the largest whole price with which it would still win if all else stood.
-  pub paid-the-largest-price : (i : ℕ) → c .kind ≡ Multi → i < c .count → rowFor (awarded rows cost paid) i .won ≡ true → (q : ℕ)
+  pub paid-the-largest-price : (i : ℕ) → c .kind ≡ Multi → i < c .count → rowFor (awarded rows cost paid) i .won ≡ true
+      → (q : ℕ)
       → won Multi (hasOf (c .tender) (rowsOf (c .count) (c .bids)) (c .windows)) (set (pricesOf (rowsOf (c .count) (c .bids))) i q)
       (cellsOf (c .tender)) i ≡ leb q (rowFor (awarded rows cost paid) i .cents)
   paid-the-largest-price i k l = outcome.largest-price (c .tender) (c .count) i (c .bids) (c .windows) (length (c .rows-before)) rows cost
