@@ -4,12 +4,14 @@
 # make uninstall       takes them away again
 # make test            the whole gate: proofs, must-fail edits, programs, host tests, tests of the command
 # make bench           counts instructions beside the reference program (needs valgrind and g++)
+# make fuzz [TIME=..]  fuzzes the call for C against the second implementation for so many seconds (needs clang; not in the gate)
 # make rules           writes docs/RULES.md, what has to be believed, from the sources
 # make times           writes docs/GATE.md, the gate's time, from the last run of the gate
 # make clean           removes target/, so that the next build proves everything anew
 VERSION = 0.2.0
 TEXT ?= examples/market-day.txt
 PREFIX ?= /usr/local
+TIME ?= 600
 CC = gcc
 CFLAGS = -O2
 
@@ -19,7 +21,7 @@ CALLS = listing
 SHELL = bash
 .SHELLFLAGS = -e -o pipefail -c
 .DELETE_ON_ERROR:
-.PHONY: all run install uninstall test bench rules times clean
+.PHONY: all run install uninstall test bench fuzz rules times clean
 
 all: target/tender
 	@:
@@ -63,6 +65,9 @@ test:
 
 bench:
 	@bash bench/run
+
+fuzz:
+	@bash tests/fuzz/run $(TIME)
 
 rules:
 	@tools/rules
