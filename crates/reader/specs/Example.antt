@@ -28,12 +28,6 @@ read : String → ReadOutcome
 unfolding bytes readText
 read s = readText (bytes s)
 
-several-windows : read "(tender multi 0 10)\n(bid 21 12 (0 4) (6 8))\n(bid 22 15 (4 10))\n(bid 23 30 (0 10))\n(bid 24 9 (8 10) (4 5))\n"
-    ≡ accepted (record { kind = Multi; window = win 0 10 }) (row 21 12 0 2 ∷ row 22 15 2 1 ∷ row 23 30 3 1 ∷ row 24 9 4 2 ∷ [])
-    (win 0 4 ∷ win 6 8 ∷ win 4 10 ∷ win 0 10 ∷ win 8 10 ∷ win 4 5 ∷ [])
-unfolding read row win
-several-windows = refl
-
 no-bids : read "(tender single 0 100)\n" ≡ accepted (record { kind = Single; window = win 0 100 }) ([]) ([])
 unfolding read row win
 no-bids = refl

@@ -13,9 +13,9 @@ use Rattle.theorems.specs.Between.{CallableWith, FewerThan}
 
 -- the three cases of such a call
 pub data ByCover (c : AwardCall) : Type 0 where
-  bare : outcomeNumber (toldBy c) ≡ 11 → FewerThan 1 c → ByCover c
-  one-alone : outcomeNumber (toldBy c) ≡ 12 → FewerThan 2 c → (FewerThan 1 c → ⊥) → ByCover c
-  twice-each : outcomeNumber (toldBy c) ≡ 0 → (FewerThan 2 c → ⊥) → ByCover c
+  nobody-there : outcomeNumber (toldBy c) ≡ 11 → FewerThan 1 c → ByCover c
+  one-there : outcomeNumber (toldBy c) ≡ 12 → FewerThan 2 c → (FewerThan 1 c → ⊥) → ByCover c
+  two-there : outcomeNumber (toldBy c) ≡ 0 → (FewerThan 2 c → ⊥) → ByCover c
 
 at-minute : {c : AwardCall} (d m b : ℕ) → EarliestIn (c .tender) (c .count) (c .bids) (c .windows) m b → b < d → FewerThan d c
 at-minute d m b i l = record { minute = m; from = i .from; to = i .to; few = omega (arith, i .bids-with-it) }
@@ -36,41 +36,41 @@ module _ (c : AwardCall) (callable : CallableWith c) where
       go : OneAnswer (c .kind) (c .tender) (c .count) (c .bids) (c .windows) (c .rows-before) (c .rows-after) (toldBy c) → ByCover c
       go (tables-break-a-rule q e r) = let f = callable .sound in let z : _≡_ {A = ℕ} 0 1 = cc in absurd (omega arith)
       go (rows-too-few f l r) = absurd (omega (arith, callable .rows))
-      go (minute-uncovered m s i r) = bare (ap outcomeNumber (r .outcome)) (at-minute 1 m 0 i (omega arith))
-      go (one-bidder m s b i r) = one-alone (ap outcomeNumber (r .outcome)) (at-minute 2 m 1 i (omega arith)) (enough 1 b)
-      go (award s b w) = twice-each (ap outcomeNumber (w .outcome)) (enough 2 b)
+      go (minute-uncovered m s i r) = nobody-there (ap outcomeNumber (r .outcome)) (at-minute 1 m 0 i (omega arith))
+      go (one-bidder m s b i r) = one-there (ap outcomeNumber (r .outcome)) (at-minute 2 m 1 i (omega arith)) (enough 1 b)
+      go (award s b w) = two-there (ap outcomeNumber (w .outcome)) (enough 2 b)
 
   -- 11 or 12 exactly where some minute has fewer than two bidders
   pub thin-if-refused : (outcomeNumber (toldBy c) ≡ 11) ⊎ (outcomeNumber (toldBy c) ≡ 12) → FewerThan 2 c
   thin-if-refused h = go h by-cover
     where
       go : (outcomeNumber (toldBy c) ≡ 11) ⊎ (outcomeNumber (toldBy c) ≡ 12) → ByCover c → FewerThan 2 c
-      go h (bare e f) = one-is-two f
-      go h (one-alone e f g) = f
-      go (inl h) (twice-each e g) = absurd (omega (arith, e, h))
-      go (inr h) (twice-each e g) = absurd (omega (arith, e, h))
+      go h (nobody-there e f) = one-is-two f
+      go h (one-there e f g) = f
+      go (inl h) (two-there e g) = absurd (omega (arith, e, h))
+      go (inr h) (two-there e g) = absurd (omega (arith, e, h))
 
   pub refused-if-thin : FewerThan 2 c → (outcomeNumber (toldBy c) ≡ 11) ⊎ (outcomeNumber (toldBy c) ≡ 12)
   refused-if-thin h = go by-cover
     where
       go : ByCover c → (outcomeNumber (toldBy c) ≡ 11) ⊎ (outcomeNumber (toldBy c) ≡ 12)
-      go (bare e f) = inl e
-      go (one-alone e f g) = inr e
-      go (twice-each e g) = absurd (g h)
+      go (nobody-there e f) = inl e
+      go (one-there e f g) = inr e
+      go (two-there e g) = absurd (g h)
 
   -- 11 exactly where some minute has none
   pub bare-if-eleven : outcomeNumber (toldBy c) ≡ 11 → FewerThan 1 c
   bare-if-eleven h = go by-cover
     where
       go : ByCover c → FewerThan 1 c
-      go (bare e f) = f
-      go (one-alone e f g) = absurd (omega (arith, e, h))
-      go (twice-each e g) = absurd (omega (arith, e, h))
+      go (nobody-there e f) = f
+      go (one-there e f g) = absurd (omega (arith, e, h))
+      go (two-there e g) = absurd (omega (arith, e, h))
 
   pub eleven-if-bare : FewerThan 1 c → outcomeNumber (toldBy c) ≡ 11
   eleven-if-bare h = go by-cover
     where
       go : ByCover c → outcomeNumber (toldBy c) ≡ 11
-      go (bare e f) = e
-      go (one-alone e f g) = absurd (g h)
-      go (twice-each e g) = absurd (g (one-is-two h))
+      go (nobody-there e f) = e
+      go (one-there e f g) = absurd (g h)
+      go (two-there e g) = absurd (g (one-is-two h))

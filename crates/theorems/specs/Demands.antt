@@ -1,5 +1,5 @@
 -- The demands in one place, in their order and words: each is of a public call as one record (`Calls`) and is proved by citing.
--- `docs/RULES.md` prints the definitions that they rest on. Assumes nothing.
+-- `docs/RULES.md` prints the definitions that they rest on; `Worked` has the starred tenders of paper 01. Assumes nothing.
 use mathlib.Core.Path.{_≡_, sym, _∙_}
 use mathlib.Core.Logic.{_⊎_}
 use mathlib.Core.Bool.{true}

@@ -1,10 +1,8 @@
 -- The lists of two texts that differ in one price: the bidder whose price it is gains no more by the bytes of the second. Assumes nothing.
 use mathlib.Core.Path.{_≡_, refl, sym, ap, _∙_}
-use mathlib.Core.Logic.{_⊎_, inl, inr}
 use mathlib.Core.Bool.{Bool, false}
 use mathlib.Core.List.{List, [], _∷_, _++_, append-nil}
-use mathlib.Core.Option.{some}
-use Prim.Native.Nat.{ℕ, zero, suc, _+_, _*_, _^_, _≤_, _<_}
+use Prim.Native.Nat.{ℕ, zero, suc, _+_, _*_, _^_, _<_}
 use native.Mathlib.Omega.{arith}
 use lib.ListN.{length, getD}
 use borrow.Author.Tests.{le-ltb}
@@ -23,11 +21,10 @@ use Rattle.award_check.specs.Alike.{named}
 use Rattle.award_check.specs.TextLaws.{rows-flat}
 use Rattle.award_plain.specs.Award.{Outcome, awarded, refused, won, cents, awardOf}
 use Rattle.award_plain.specs.AwardLaws.{award-awarded}
-use Rattle.award.specs.Gain.{lost, rowFor, gain, AtMost}
+use Rattle.award.specs.Gain.{lost, rowFor}
 use Rattle.award.specs.TableLaws.{row-is}
 use Rattle.award.specs.Right as right
 use Rattle.award.specs.TextOutcomes.{honest-texts}
-use Rattle.listing.specs.Lines.{pairLine, refusedWord}
 use Rattle.listing.specs.List.{listLines, listOf}
 use Rattle.listing.specs.ListLaws.{listed-is}
 use Rattle.theorems.specs.Calls.{ListCall, shown}

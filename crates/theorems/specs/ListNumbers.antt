@@ -2,9 +2,9 @@
 use mathlib.Core.Path.{_≡_, refl, sym, ap, _∙_}
 use mathlib.Core.Logic.{_⊎_, inl, inr}
 use mathlib.Core.Bool.{Bool, true, false, cond}
-use mathlib.Core.List.{List, [], _∷_, _++_, append-nil}
-use mathlib.Core.Option.{none, some}
-use Prim.Native.Nat.{ℕ, _^_, _≤_, _<_}
+use mathlib.Core.List.{List, [], _++_, append-nil}
+use mathlib.Core.Option.{none}
+use Prim.Native.Nat.{ℕ, _^_, _<_}
 use native.Mathlib.Omega.{arith}
 use lib.ListN.{length, getD, drop}
 use lib.Dec.{leb}
@@ -16,7 +16,7 @@ use Rattle.tender.specs.Keywords.{bytes}
 use Rattle.tender.specs.Tables.{Row, rowsOf, flatRows, flatWindows}
 use Rattle.cover.specs.Sets.{when, Found, nothing, found}
 use Rattle.cover.specs.Earliest.{cellWith}
-use Rattle.reader_line.specs.Words.{among, digits}
+use Rattle.reader_line.specs.Words.{among}
 use Rattle.reader.specs.Read.{readText}
 use Rattle.reader.specs.Read as reading
 use Rattle.reader.specs.Rules.{Rules}

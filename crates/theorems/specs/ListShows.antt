@@ -2,7 +2,7 @@
 use mathlib.Core.Path.{_≡_, refl, sym, ap, _∙_}
 use mathlib.Core.Bool.{Bool, true, false, cond, _&&_, _||_}
 use mathlib.Core.List.{List, [], _∷_, _++_, append-nil, append-assoc}
-use mathlib.Core.Option.{Option, none, some}
+use mathlib.Core.Option.{none, some}
 use Prim.Native.Nat.{ℕ, zero, suc, _^_, _≤_, _<_}
 use native.Mathlib.Omega.{arith}
 use lib.ListN.{length, getD}
@@ -17,8 +17,8 @@ use Rattle.tender.specs.Tables.{Row}
 use Rattle.reader_line.specs.Words.{andThen, growFirst, cut, among, sameBytes, closed, digits}
 use Rattle.reader_line.specs.CutLaws.{cut-end}
 use Rattle.award_check.specs.Cells.{noRow}
-use Rattle.award_plain.specs.Award.{Outcome, awarded, refused}
-use Rattle.award.specs.Gain.{lost, rowFor}
+use Rattle.award_plain.specs.Award.{awarded}
+use Rattle.award.specs.Gain.{lost}
 use Rattle.listing.specs.Lines.{decimal, closing, numbers, pairLine, kindWord, awardWord, winWord, totalWord, refusedWord, awardLine}
 use Rattle.listing.specs.List.{winList, listLines}
 use Rattle.theorems.specs.Numerals.{decimal-back, decimal-plain}

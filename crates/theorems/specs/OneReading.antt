@@ -39,7 +39,8 @@ abbrev pub linesAbove : Above → List (Option Line)
 linesAbove at-start = []
 linesAbove (after t bs) = some (tender t) ∷ map (λ b. some (bid b)) bs
 
--- the faults of a line
+-- the faults of a line: its form (2), how many bids and windows there are (4), the limits of its numbers (3), several windows in a
+-- single tender (7), a window (5), its bidder number (6)
 pub data LineFault : Type 0 where
   of-form : LineFault
   of-count : LineFault
@@ -48,7 +49,7 @@ pub data LineFault : Type 0 where
   of-window : LineFault
   of-bidder : LineFault
 
--- the order in which they are looked for: 2, 4, 3, 7, 5, 6
+-- the order in which they are looked for
 abbrev pub pageOrder : List LineFault
 pageOrder = of-form ∷ of-count ∷ of-limits ∷ of-kind ∷ of-window ∷ of-bidder ∷ []
 

@@ -1,8 +1,8 @@
 -- An award on what was read pays less than 10 ^ 20 cents a bid, and a loser nothing; each bidder has one row. Assumes nothing.
 use mathlib.Core.Path.{_≡_, refl, sym, ap, _∙_}
 use mathlib.Core.Bool.{Bool, true, false, cond, _||_}
-use mathlib.Core.List.{List, [], _∷_, _++_, append-nil}
-use Prim.Native.Nat.{ℕ, zero, suc, _+_, _-_, _*_, _^_, _≤_, _<_}
+use mathlib.Core.List.{List, [], _∷_, _++_}
+use Prim.Native.Nat.{ℕ, zero, suc, _+_, _*_, _^_, _≤_, _<_}
 use native.Mathlib.Nat.{mul-le-mul}
 use native.Mathlib.Omega.{arith}
 use lib.ListN.{length, getD, set, length-map}
@@ -12,8 +12,8 @@ use Rattle.tender.specs.declared.Kind.{Kind}
 use Rattle.tender.specs.declared.Kind.the-variants.{Single, Multi}
 use Rattle.tender.specs.declared.Window.{Window}
 use Rattle.tender.specs.declared.Tender.{Tender}
-use Rattle.tender.specs.Tables.{Row, rowsOf, flatRows}
-use Rattle.cover.specs.Sets.{when, Found, nothing, found, valueOf, bit, covers, cells, cost}
+use Rattle.tender.specs.Tables.{Row}
+use Rattle.cover.specs.Sets.{when, found, valueOf, bit, covers, cells, cost}
 use Rattle.cover.specs.LeastCover.{winners, without, payment, vcgPaid}
 use Rattle.cover.specs.Greedy.{wins}
 use Rattle.cover.specs.CriticalPrice.{largest, sum, ceiling, winsAt, critical, criticalPaid}

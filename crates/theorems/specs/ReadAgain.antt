@@ -7,9 +7,9 @@ use Rattle.tender.specs.declared.Window.{Window}
 use Rattle.tender.specs.declared.Tender.{Tender}
 use Rattle.tender.specs.declared.Refusal.{Refusal}
 use Rattle.tender.specs.Tables.{Row}
-use Rattle.reader.specs.Answer.{toldReading, filled}
+use Rattle.reader.specs.Answer.{toldReading}
 use Rattle.reader.specs.declared.Reading.the-variants as answer
-use Rattle.theorems.specs.Calls.{ReadRun, ReadCall}
+use Rattle.theorems.specs.Calls.{ReadCall}
 use Rattle.theorems.specs.OneReading.{Readable, Declines, Fills, OneReading, text-too-long, bad-form, too-many, outside-limits}
 use Rattle.theorems.specs.OneReading.{several-windows, bad-window, bidder-repeated, table-too-short, tables-filled}
 use Rattle.theorems.specs.ReadingLaws.{one-reading, text-accepted}

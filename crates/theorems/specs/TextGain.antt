@@ -23,7 +23,6 @@ use Rattle.reader.specs.Differ.{DifferInPrice, withPrice, RowsDifferInPrice}
 use Rattle.reader.specs.PriceLaws.{price-law}
 use Rattle.award_check.specs.Cells.{noRow}
 use Rattle.award_check.specs.Alike.{named}
-use Rattle.award_plain.specs.Award.{Outcome}
 use Rattle.award.specs.Promise.{toldAward, Promise}
 use Rattle.award.specs.Right as right
 use Rattle.award.specs.TextOutcomes.{honest-texts}
