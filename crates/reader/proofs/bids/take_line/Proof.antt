@@ -81,7 +81,8 @@ returns-2 c =
     let c10 = c6 .before .before .before .before in
     let x = is-fault _ _ _ (ap verdictOf (sym (c .before .r .given .1)) ∙ c .before .before .before .judge .ensures) in
     taken-fault _ _ _ _ _ _ _ _ _ _ _ _ _ _ _
-    (ap (λ t. toldLine t (c10 .read-line .last .1 .0)) (sym (c6 .bidder .given .1)) ∙ c10 .read-line .ensures .0) (x .f) (x .number) (x .fault)
+    (ap (λ t. toldLine t (c10 .read-line .last .1 .0)) (sym (c6 .bidder .given .1)) ∙ c10 .read-line .ensures .0)
+    (x .f) (x .number) (x .fault)
 
 same-length-6 : tie.Need-same-length-6
 same-length-6 c = search needs
