@@ -1,5 +1,4 @@
 pub mod Lines
-pub mod Written
 pub mod List
 pub mod LineLaws
 pub mod Made
@@ -7,4 +6,3 @@ pub mod ListLaws
 pub mod MakingLaws
 pub mod SpellingLaws
 pub mod WinningLaws
-pub mod WritingLaws

@@ -1,55 +1,21 @@
 -- How long the lines of a list are. Assumes nothing.
 use mathlib.Core.Bool.{Bool, true, false, cond}
 use mathlib.Core.List.{List, [], _∷_, _++_}
-use Prim.Native.Nat.{ℕ, zero, suc, _+_, _*_, _/_, _%_, _≤_, _<_}
+use Prim.Native.Nat.{ℕ, zero, suc, _+_, _*_, _≤_, _<_}
 use native.Mathlib.Omega.{arith}
 use lib.ListN.{length, getD, length-append}
-use lib.Dec.{ltb, eqb}
-use Rattle.tender.specs.declared.Kind.{Kind}
-use Rattle.tender.specs.declared.Kind.the-variants.{Single, Multi}
+use lib.Dec.{eqb}
 use Rattle.tender.specs.declared.Tender.{Tender}
-use Rattle.tender.specs.Keywords.{bytes, singleWord, multiWord}
+use Rattle.tender.specs.Keywords.{bytes}
 use Rattle.tender.specs.Tables.{Row}
 use Rattle.award_check.specs.Cells.{noRow}
 use Rattle.tender.specs.declared.AwardRow.{AwardRow}
 use Rattle.award_plain.specs.Award.{Outcome, awarded, refused}
 use Rattle.award.specs.Gain.{lost}
-use Rattle.listing.specs.Lines.{digitsBefore, decimal, closing, numbers, pairLine, kindWord, awardWord, winWord, totalWord}
-use Rattle.listing.specs.Lines.{refusedWord, winLine, winLines, awardLine}
+use Rattle.spelling.specs.Lines.{pairLine, kindWord, refusedWord}
+use Rattle.spelling.specs.LineLaws.{kind-short, pair-short, pair-some}
+use Rattle.listing.specs.Lines.{awardWord, winWord, totalWord, winLine, winLines, awardLine}
 use Rattle.listing.specs.List.{winList, listLines}
-
-short : (f n : ℕ) (done : List ℕ) → length (digitsBefore f n done) ≤ f + length done
-unfolding digitsBefore
-short zero n done = omega arith
-short (suc f) n done = go (ltb n 10) (short f (n / 10) ((48 + n % 10) ∷ done))
-  where
-    go : (t : Bool) → length (digitsBefore f (n / 10) ((48 + n % 10) ∷ done)) ≤ f + suc (length done) →
-        length (cond t ((48 + n % 10) ∷ done) (digitsBefore f (n / 10) ((48 + n % 10) ∷ done))) ≤ suc f + length done
-    go true l = omega arith
-    go false l = omega arith
-
-pub decimal-short : (n : ℕ) → length (decimal n) ≤ 20
-unfolding decimal
-decimal-short n = omega (arith, short 20 n [])
-
-pub numbers-short : (a b : ℕ) → length (numbers a b) ≤ 44
-unfolding numbers closing bytes
-numbers-short a b = omega (
-  arith,
-  decimal-short a,
-  decimal-short b,
-  length-append (32 ∷ decimal a) (32 ∷ decimal b),
-  length-append ((32 ∷ decimal a) ++ (32 ∷ decimal b)) (41 ∷ 10 ∷ []),
-)
-
-pub kind-short : (k : Kind) → length (kindWord k) ≤ 6
-unfolding kindWord singleWord multiWord bytes
-kind-short Single = omega arith
-kind-short Multi = omega arith
-
-pub pair-short : (word : List ℕ) (a b : ℕ) → length (pairLine word a b) ≤ 45 + length word
-unfolding pairLine
-pair-short word a b = omega (arith, numbers-short a b, length-append (40 ∷ []) word, length-append ((40 ∷ []) ++ word) (numbers a b))
 
 pub win-short : (bidder flag cents : ℕ) → length (winLine bidder flag cents) ≤ 48
 unfolding winLine winWord bytes
@@ -58,10 +24,6 @@ win-short bidder flag cents = go (eqb flag 1)
     go : (t : Bool) → length (cond t (pairLine (119 ∷ 105 ∷ 110 ∷ []) bidder cents) []) ≤ 48
     go true = omega (arith, pair-short (119 ∷ 105 ∷ 110 ∷ []) bidder cents)
     go false = omega arith
-
-pub pair-some : (word : List ℕ) (a b : ℕ) → 0 < length (pairLine word a b)
-unfolding pairLine
-pair-some word a b = omega (arith, length-append (40 ∷ []) word, length-append ((40 ∷ []) ++ word) (numbers a b))
 
 pub award-short : (t : Tender) → length (awardLine t) ≤ 57
 unfolding awardLine awardWord bytes

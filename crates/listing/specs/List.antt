@@ -14,7 +14,8 @@ use Rattle.award_check.specs.Cells.{noRow}
 use Rattle.tender.specs.declared.AwardRow.{AwardRow}
 use Rattle.award_plain.specs.Award.{Outcome, awarded, refused, awardOf}
 use Rattle.award.specs.Gain.{lost}
-use Rattle.listing.specs.Lines.{pairLine, winWord, totalWord, refusedWord, awardLine}
+use Rattle.spelling.specs.Lines.{pairLine, refusedWord}
+use Rattle.listing.specs.Lines.{winWord, totalWord, awardLine}
 
 -- the lines of the winners among the first n bids, in entry order: bidder and cents paid
 unfoldable pub winList : List Row → List AwardRow → ℕ → List ℕ

@@ -33,10 +33,12 @@ use Rattle.award_plain.specs.AwardLaws.{settled-is, award-none}
 use Rattle.tender.specs.declared.Answer.{Answer}
 use Rattle.tender.specs.declared.Answer.the-variants.{Awarded, Refused}
 use Rattle.award_plain.specs.Plain.{rowsIn, toldIn, PlainPromise}
-use Rattle.listing.specs.Lines.{winLine, winLines, refusedWord}
+use Rattle.spelling.specs.Lines.{refusedWord}
+use Rattle.spelling.specs.LineLaws.{pair-some}
+use Rattle.listing.specs.Lines.{winLine, winLines}
 use Rattle.listing.specs.Made.{answerLines}
 use Rattle.listing.specs.List.{winList, listLines, listOf, Listed}
-use Rattle.listing.specs.LineLaws.{pair-some, refusal-short, lines-short, lines-some}
+use Rattle.listing.specs.LineLaws.{refusal-short, lines-short, lines-some}
 
 -- a row's windows stand in the rows that were read, whatever is past them
 module _ (T : Tender) (R : List Row) (W : List Window) (rules : Rules T R W) where

@@ -9,9 +9,10 @@ use Rattle.reader.specs.Read.{readText}
 use Rattle.tender.specs.declared.Answer.{Answer}
 use Rattle.tender.specs.declared.Answer.the-variants.{Awarded, Refused}
 use Rattle.award_plain.specs.Plain.{PlainPromise}
-use Rattle.listing.specs.Lines.{awardLine, winLines, pairLine, totalWord, refusedWord}
+use Rattle.spelling.specs.Lines.{pairLine, refusedWord}
+use Rattle.spelling.specs.Written.{Written}
+use Rattle.listing.specs.Lines.{awardLine, winLines, totalWord}
 use Rattle.listing.specs.List.{listOf}
-use Rattle.listing.specs.Written.{Written}
 
 -- the list of an award's answer, from the numbers of the table of bids and the flags and cents
 unfoldable pub answerLines : Tender → List ℕ → List ℕ → List ℕ → ℕ → Answer → List ℕ

@@ -25,18 +25,13 @@ use Rattle.reader.specs.RulesLaws.{rules-law}
 use Rattle.tender.specs.declared.Answer.{Answer}
 use Rattle.tender.specs.declared.Answer.the-variants.{Awarded, Refused}
 use Rattle.award_plain.specs.Plain.{PlainPromise}
-use Rattle.listing.specs.Lines.{awardLine, winLines, pairLine, totalWord, refusedWord}
-use Rattle.listing.specs.Written.{Written}
+use Rattle.spelling.specs.Lines.{pairLine, refusedWord}
+use Rattle.spelling.specs.Written.{Written}
+use Rattle.spelling.specs.WritingLaws.{from-start}
+use Rattle.listing.specs.Lines.{awardLine, winLines, totalWord}
 use Rattle.listing.specs.List.{listOf, Listed}
 use Rattle.listing.specs.ListLaws.{award-list, list-short}
 use Rattle.listing.specs.Made.{answerLines, Awarded·written, Made}
-use Rattle.listing.specs.WritingLaws.{from-start}
-
--- a refusal's line
-pub refusal-written : {old new : List ℕ} {f a b : ℕ} (r : Refusal) → a ≡ numberOf r → b ≡ placeOf r
-    → Written old 0 (pairLine (bytes "refused") a b) new f → Written old 0 (pairLine refusedWord (numberOf r) (placeOf r)) new f
-unfolding refusedWord bytes
-refusal-written {old} {new} {f} {a} {b} r p q w = rw (← p, ← q) w
 
 module _ {t : Tender} {n lent : ℕ} {bids windows ow oc won cents old new : List ℕ} {a : Answer} {f : ℕ} where
   pub award-written : (totals : Totals) → a ≡ Awarded totals → n ≤ lent

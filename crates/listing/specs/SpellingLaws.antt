@@ -1,112 +1,20 @@
--- A number spelt from its last digit to its first. Assumes nothing.
-use mathlib.Core.Path.{_≡_, refl, sym, ap, subst, _∙_}
-use mathlib.Core.Bool.{cond}
-use mathlib.Core.List.{List, [], _∷_, append-nil}
-use Prim.Native.Nat.{ℕ, zero, suc, _+_, _-_, _/_, _%_, _^_, _≤_, _<_}
-use native.Mathlib.Nat.{pow-suc}
-use native.Mathlib.Omega.{arith}
-use lib.ListN.{length, take, drop, set, length-set}
-use lib.Seq.{drop-length}
-use borrow.Author.Tests.{lt-ltb, le-ltb, eq-eqb, ne-eqb}
-use Rattle.tender.specs.declared.Kind.{Kind}
+-- The lines of a list put together from their parts. Assumes nothing.
+use mathlib.Core.Path.{_≡_}
+use mathlib.Core.List.{List, []}
+use Prim.Native.Nat.{ℕ}
+use borrow.Author.Tests.{eq-eqb, ne-eqb}
 use Rattle.tender.specs.declared.Tender.{Tender}
 use Rattle.tender.specs.Keywords.{bytes}
-use Rattle.listing.specs.Lines.{digitsBefore, decimal, closing, numbers, pairLine, kindWord, awardWord, awardLine, winWord, winLine}
-use Rattle.listing.specs.Written.{Written}
-use Rattle.listing.specs.WritingLaws.{then}
-
--- the digits from i on are written, and v is what is left of n
-pub record Spelling (n : ℕ) (digits : List ℕ) (v i : ℕ) : Type 0 where
-  pub is : digitsBefore i v (drop i digits) ≡ decimal n
-  pub few : v < 10 ^ i
-  pub some-left : 0 < i
-  pub within : i ≤ 20
-  pub room : length digits ≡ 20
-
-pub spell-begins : (n : ℕ) (digits : List ℕ) → n < 18446744073709551616 → length digits ≡ 20 → Spelling n digits n 20
-unfolding decimal
-spell-begins n digits l e = record {
-  is = ap (digitsBefore 20 n) (ap (λ k. drop k digits) (sym e) ∙ drop-length digits);
-  few = omega arith;
-  some-left = omega arith;
-  within = omega arith;
-  room = e;
-}
-
-some-place : (v i : ℕ) → v < 10 ^ i → 0 < v → 0 < i
-some-place v zero l p = absurd (omega arith)
-some-place v (suc i) l p = omega arith
-
-drop-set : (digits : List ℕ) (i d : ℕ) → i < length digits → drop i (set digits i d) ≡ d ∷ drop (suc i) digits
-drop-set [] i d l = absurd (omega arith)
-drop-set (x ∷ xs) zero d l = refl
-drop-set (x ∷ xs) (suc i) d l = drop-set xs i d (omega arith)
-
-goes : (n : ℕ) (digits : List ℕ) (v i : ℕ) → 9 < v → Spelling n digits v (suc i)
-    → Spelling n (set digits i (48 + v % 10)) (v / 10) i
-unfolding digitsBefore
-goes n digits v i l h = record {
-  is = ap (digitsBefore i (v / 10)) (drop-set digits i (48 + v % 10) (omega (arith, h .within, h .room)))
-      ∙ sym (ap (λ t. cond t ((48 + v % 10) ∷ drop (suc i) digits) (digitsBefore i (v / 10) ((48 + v % 10) ∷ drop (suc i) digits)))
-      (le-ltb v 10 (omega arith)))
-      ∙ h .is;
-  few = omega (arith, h .few, pow-suc 10 i);
-  some-left = some-place (v / 10) i (omega (arith, h .few, pow-suc 10 i)) (omega arith);
-  within = omega (arith, h .within);
-  room = length-set digits i (48 + v % 10) ∙ h .room;
-}
-
-ends : (n : ℕ) (digits : List ℕ) (v i : ℕ) → v ≤ 9 → Spelling n digits v (suc i)
-    → drop i (set digits i (48 + v % 10)) ≡ decimal n
-unfolding digitsBefore
-ends n digits v i l h = drop-set digits i (48 + v % 10) (omega (arith, h .within, h .room))
-    ∙ sym (ap (λ t. cond t ((48 + v % 10) ∷ drop (suc i) digits) (digitsBefore i (v / 10) ((48 + v % 10) ∷ drop (suc i) digits)))
-    (lt-ltb v 10 (omega arith)))
-    ∙ h .is
-
-pub spell-goes : (n : ℕ) (digits : List ℕ) (v i : ℕ) → 9 < v → Spelling n digits v i
-    → Spelling n (set digits (i - 1) (48 + v % 10)) (v / 10) (i - 1)
-spell-goes n digits v i l h =
-    let e : i ≡ suc (i - 1) = omega (arith, h .some-left) in
-    goes n digits v (i - 1) l (subst (λ k. Spelling n digits v k) e h)
-
-pub spell-ends : (n : ℕ) (digits : List ℕ) (v i : ℕ) → v ≤ 9 → Spelling n digits v i
-    → drop (i - 1) (set digits (i - 1) (48 + v % 10)) ≡ decimal n
-spell-ends n digits v i l h = let e : i ≡ suc (i - 1) = omega (arith, h .some-left) in
-    ends n digits v (i - 1) l (subst (λ k. Spelling n digits v k) e h)
-
--- a space, then the digits that were spelt
-pub number-written : {old mid new part : List ℕ} {at e f : ℕ} (n : ℕ) → Written old at (32 ∷ []) mid e
-    → Written mid e part new f
-    → part ≡ decimal n → Written old at (32 ∷ decimal n) new f
-number-written {old} {mid} {new} {part} {at} {e} {f} n x y z = then x (subst (λ b. Written mid e b new f) z y)
-
--- the parts of a line, one after the other
-
-pub numbers-written : {old m1 m2 new : List ℕ} {at e1 e2 f : ℕ} (a b : ℕ) → Written old at (32 ∷ decimal a) m1 e1
-    → Written m1 e1 (32 ∷ decimal b) m2 e2 → Written m2 e2 (41 ∷ 10 ∷ []) new f →
-    Written old at (numbers a b) new f
-unfolding numbers closing bytes
-numbers-written {old} {m1} {m2} {new} {at} {e1} {e2} {f} a b x y z = then (then x y) z
-
-pub pair-written : {old m1 m2 new word : List ℕ} {at e1 e2 f : ℕ} (a b : ℕ) → Written old at (40 ∷ []) m1 e1
-    → Written m1 e1 word m2 e2
-    → Written m2 e2 (numbers a b) new f → Written old at (pairLine word a b) new f
-unfolding pairLine
-pair-written {old} {m1} {m2} {new} {word} {at} {e1} {e2} {f} a b x y z = then (then x y) z
+use Rattle.spelling.specs.Lines.{numbers, pairLine, kindWord}
+use Rattle.spelling.specs.Written.{Written}
+use Rattle.spelling.specs.WritingLaws.{then}
+use Rattle.listing.specs.Lines.{awardWord, awardLine, winWord, winLine}
 
 pub award-written : {old m1 m2 new : List ℕ} {at e1 e2 f : ℕ} (t : Tender) → Written old at (bytes "(award ") m1 e1
     → Written m1 e1 (kindWord (t .kind)) m2 e2 → Written m2 e2 (numbers (t .window .start) (t .window .end)) new f →
     Written old at (awardLine t) new f
 unfolding awardLine pairLine awardWord bytes
 award-written {old} {m1} {m2} {new} {at} {e1} {e2} {f} t x y z = then (then x y) z
-
-pub kind-written : {old new : List ℕ} {at f : ℕ} (k l : Kind) → k ≡ l → Written old at (kindWord l) new f
-    → Written old at (kindWord k) new f
-kind-written {old} {new} {at} {f} k l e x = rw e x
-
-pub nothing-written : (old : List ℕ) (at : ℕ) → Written old at [] old at
-nothing-written old at = record { text = sym (append-nil (take at old)); next = omega arith; rest = refl; size = refl }
 
 pub win-written : {old new : List ℕ} {at f : ℕ} (bidder flag cents : ℕ) → flag ≡ 1
     → Written old at (pairLine (bytes "win") bidder cents) new f → Written old at (winLine bidder flag cents) new f

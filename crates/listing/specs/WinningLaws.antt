@@ -6,10 +6,10 @@ use native.Mathlib.Numerals.{add-one}
 use native.Mathlib.Omega.{arith}
 use lib.ListN.{getD}
 use Rattle.listing.specs.Lines.{winLine, winLines}
-use Rattle.listing.specs.Written.{Written}
-use Rattle.listing.specs.WritingLaws.{then}
+use Rattle.spelling.specs.Written.{Written}
+use Rattle.spelling.specs.WritingLaws.{then}
+use Rattle.spelling.specs.SpellingLaws.{nothing-written}
 use Rattle.listing.specs.LineLaws.{win-short}
-use Rattle.listing.specs.SpellingLaws.{nothing-written}
 
 -- the lines of the first i bids are written
 pub record Winning (old : List ℕ) (at : ℕ) (bids won cents new : List ℕ) (end i : ℕ) : Type 0 where

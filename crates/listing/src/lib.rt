@@ -6,14 +6,13 @@ ghost use mathlib.Core.Path.{_≡_};
 ghost use mathlib.Core.List.{_++_};
 ghost use Prim.Native.Nat.{_+_, _*_, _≤_};
 ghost use lib.ListN.{length};
-ghost use Rattle.listing.specs.Lines.{awardLine, winLines, pairLine, totalWord, refusedWord};
-ghost use Rattle.listing.specs.Written.{Written};
+ghost use Rattle.spelling.specs.Lines.{pairLine};
+ghost use Rattle.spelling.specs.Written.{Written};
+ghost use Rattle.listing.specs.Lines.{awardLine, winLines, totalWord};
 ghost use Rattle.listing.specs.List.{Listed};
 ghost use Rattle.listing.specs.Made.{Awarded·written, Made};
-ghost use Rattle.tender.specs.Refusals.{numberOf, placeOf};
 use reader::Reading;
 use tender::Answer;
-use tender::Refusal;
 use tender::Tender;
 use tender::Totals;
 
@@ -36,17 +35,7 @@ fn put_awarded(
 {
     let begun = lines::put_award(list, 0, tender);
     let named = lines::put_wins(list, begun, bids, won, cents, n);
-    lines::put_pair(list, named, b"total", totals.cost, totals.paid)
-}
-
-// The list of a refusal.
-fn put_refused(list: &mut [u8], refusal: Refusal) -> usize
-    requires { ⌜ 52 ≤ length (now list) ⌝ }
-    ensures { λ r. ⌜ Written (now (list .entry)) 0 (pairLine refusedWord (numberOf refusal) (placeOf refusal)) (now (list .exit)) r ⌝ }
-{
-    let n = tender::number(refusal);
-    let at = tender::place(refusal);
-    lines::put_pair(list, 0, b"refused", n, at)
+    spelling::put_pair(list, named, b"total", totals.cost, totals.paid)
 }
 
 // The list of the award to these tables.
@@ -59,7 +48,7 @@ fn put_award(list: &mut [u8], tender: Tender, n: usize, bids: &[u64], windows: &
     let kind = tender.kind;
     match award::settle(kind, tender, n, bids, windows, &mut won, &mut cents) {
         Answer::Awarded(totals) => put_awarded(list, tender, n, bids, &won, &cents, totals),
-        Answer::Refused(r) => put_refused(list, r),
+        Answer::Refused(r) => spelling::put_refused(list, r),
     }
 }
 
@@ -76,7 +65,7 @@ fn make(text: &[u8], list: &mut [u8]) -> usize
             bids: n,
             windows: _,
         } => put_award(list, tender, n, &bids, &windows),
-        Reading::Refused(r) => put_refused(list, r),
+        Reading::Refused(r) => spelling::put_refused(list, r),
     }
 }
 
@@ -91,5 +80,5 @@ pub extern "C" fn tender_list(text: &[u8], list: &mut [u8]) -> usize
     if list.len() < n {
         return 0;
     }
-    lines::put_all(list, 0, &made[..n])
+    spelling::put_all(list, 0, &made[..n])
 }

@@ -19,7 +19,8 @@ use Rattle.award_check.specs.Cells.{noRow, hasOf}
 use Rattle.award_plain.specs.Award.{outcomeNumber}
 use Rattle.award.specs.Right.{Callable}
 use Rattle.award.specs.Gain.{rowFor, gain, AtMost}
-use Rattle.listing.specs.Lines.{decimal, pairLine, refusedWord}
+use Rattle.spelling.specs.Decimal.{decimal}
+use Rattle.spelling.specs.Lines.{pairLine, refusedWord}
 use Rattle.listing.specs.List.{listOf}
 use Rattle.theorems.specs.Calls.{ReadRun, ReadCall, AwardCall, toldBy, ListCall, shown}
 use Rattle.theorems.specs.OneReading.{Fills}

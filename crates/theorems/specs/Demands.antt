@@ -32,7 +32,8 @@ use Rattle.award.specs.RowsPromise.{rows-promise}
 use Rattle.award.specs.Right.{Bidders, IsAward, OneAnswer, LeastCover, WinnerAt, PaidByEight}
 use Rattle.award.specs.OneAnswerLaws as one
 use Rattle.award.specs.OutcomeLaws as outcome
-use Rattle.listing.specs.Lines.{decimal, pairLine, refusedWord}
+use Rattle.spelling.specs.Decimal.{decimal}
+use Rattle.spelling.specs.Lines.{pairLine, refusedWord}
 use Rattle.listing.specs.ListLaws as list
 use Rattle.theorems.specs.Calls.{ReadRun, ReadCall, AwardCall, toldBy, SettleCall, toldPlain, ListCall, shown}
 use Rattle.theorems.specs.OneReading.{OneReading, SameReading}

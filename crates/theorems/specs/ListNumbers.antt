@@ -26,7 +26,8 @@ use Rattle.award_check.specs.Faults.{faultOf}
 use Rattle.award_check.specs.TextLaws.{never-nine}
 use Rattle.award_plain.specs.Award.{Outcome, awarded, refused, awardRows, costOf, paidOf, thinned, awardOf}
 use Rattle.award_plain.specs.AwardLaws.{award-settles}
-use Rattle.listing.specs.Lines.{pairLine, awardWord, refusedWord, awardLine}
+use Rattle.spelling.specs.Lines.{pairLine, refusedWord}
+use Rattle.listing.specs.Lines.{awardWord, awardLine}
 use Rattle.listing.specs.List.{listLines, listOf}
 use Rattle.listing.specs.ListLaws.{listed-is}
 use Rattle.theorems.specs.ReadingLaws.{refusal-number}

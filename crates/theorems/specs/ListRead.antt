@@ -7,7 +7,8 @@ use lib.ListN.{getD}
 use Rattle.tender.specs.declared.AwardRow.{AwardRow}
 use Rattle.reader_line.specs.Words.{andThen, cut, sameBytes, closed, digits}
 use Rattle.award.specs.Gain.{lost}
-use Rattle.listing.specs.Lines.{decimal, winWord}
+use Rattle.spelling.specs.Decimal.{decimal}
+use Rattle.listing.specs.Lines.{winWord}
 
 -- the number of a line's last word, which a bracket closes
 unfoldable pub lastNumber : List (List ℕ) → Option ℕ

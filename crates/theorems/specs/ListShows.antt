@@ -19,7 +19,9 @@ use Rattle.reader_line.specs.CutLaws.{cut-end}
 use Rattle.award_check.specs.Cells.{noRow}
 use Rattle.award_plain.specs.Award.{awarded}
 use Rattle.award.specs.Gain.{lost}
-use Rattle.listing.specs.Lines.{decimal, closing, numbers, pairLine, kindWord, awardWord, winWord, totalWord, refusedWord, awardLine}
+use Rattle.spelling.specs.Decimal.{decimal}
+use Rattle.spelling.specs.Lines.{closing, numbers, pairLine, kindWord, refusedWord}
+use Rattle.listing.specs.Lines.{awardWord, winWord, totalWord, awardLine}
 use Rattle.listing.specs.List.{winList, listLines}
 use Rattle.theorems.specs.Numerals.{decimal-back, decimal-plain}
 use Rattle.theorems.specs.TextOfLaws.{same-is}

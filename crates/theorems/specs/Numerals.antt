@@ -12,7 +12,7 @@ use borrow.Author.Tests.{ltb-true, le-leb, lt-ltb, le-ltb, leb-true, ne-eqb, eqb
 use Rattle.tender.specs.Limits.{within}
 use Rattle.reader_line.specs.Words.{among, digits, leadingZero, numeralOf}
 use Rattle.reader_line.specs.LinePlain.{both-true as and-split}
-use Rattle.listing.specs.Lines.{digitsBefore, decimal}
+use Rattle.spelling.specs.Decimal.{digitsBefore, decimal}
 
 -- a digit
 

@@ -21,7 +21,8 @@ use Rattle.reader_line.specs.Line.{linesOf}
 use Rattle.reader_line.specs.CutLaws.{Pieces, cut-some}
 use Rattle.reader.specs.Read.{accepted, rowsFrom, allWindows, bidsOf, tables, readLines, readText}
 use Rattle.reader.specs.ReadLaws.{never, read-lines, checked-bids, begun}
-use Rattle.listing.specs.Lines.{decimal, kindWord}
+use Rattle.spelling.specs.Decimal.{decimal}
+use Rattle.spelling.specs.Lines.{kindWord}
 use Rattle.theorems.specs.Numerals.{numeral-spelling}
 use Rattle.theorems.specs.TextOf.{spaced, ended, tenderWords, windowWords, bidWords, spansOf, rowLine, textOf}
 

@@ -16,7 +16,7 @@ use Rattle.reader.specs.PriceChange.{Changed, price-change}
 use Rattle.reader.specs.Differ.{bidLine, Word, DifferInPrice}
 use Rattle.award_check.specs.Cells.{noRow}
 use Rattle.award_check.specs.TextLaws.{rows-end}
-use Rattle.listing.specs.Lines.{decimal}
+use Rattle.spelling.specs.Decimal.{decimal}
 use Rattle.theorems.specs.Numerals.{decimal-plain}
 use Rattle.theorems.specs.TextOf.{spaced, ended, tenderWords, windowWords, bidWords, spansOf, rowLine, textOf}
 use Rattle.theorems.specs.TextOfLaws.{spelt-again}

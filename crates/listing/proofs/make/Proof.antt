@@ -7,7 +7,7 @@ use Rattle.listing.proofs.make.Tie as tie
 use Rattle.listing.proofs.make.Reads as reads
 use Rattle.listing.proofs.make.Lts as lts
 use Rattle.listing.proofs.put_award.Reads as put-award-reads
-use Rattle.listing.proofs.put_refused.Reads as put-refused-reads
+use Rattle.spelling.proofs.put_refused.Reads as put-refused-reads
 use Rattle.reader.proofs.read.Reads as read-reads
 
 slice-aggregate-read : tie.Need-slice-aggregate-read

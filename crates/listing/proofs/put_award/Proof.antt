@@ -7,7 +7,7 @@ use Rattle.listing.proofs.put_award.Reads as reads
 use Rattle.listing.proofs.put_award.Lts as lts
 use Rattle.award.proofs.settle.Reads as settle-reads
 use Rattle.listing.proofs.put_awarded.Reads as put-awarded-reads
-use Rattle.listing.proofs.put_refused.Reads as put-refused-reads
+use Rattle.spelling.proofs.put_refused.Reads as put-refused-reads
 
 slice-aggregate-settle : tie.Need-slice-aggregate-settle
 slice-aggregate-settle c = search needs

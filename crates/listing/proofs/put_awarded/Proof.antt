@@ -3,14 +3,14 @@ use native.Mathlib.Omega.{arith}
 use Rattle.tender.specs.Keywords.{bytes}
 use Rattle.listing.specs.Lines.{totalWord}
 use Rattle.listing.specs.LineLaws.{award-short, win-lines-short}
-use Rattle.listing.specs.WritingLaws.{then}
+use Rattle.spelling.specs.WritingLaws.{then}
 use borrow.Author.Needs.{needs}
 use Rattle.listing.proofs.put_awarded.Statement.{statement}
 use Rattle.listing.proofs.put_awarded.Tie as tie
 use Rattle.listing.proofs.put_awarded.Reads as reads
 use Rattle.listing.proofs.put_awarded.Lts as lts
 use Rattle.listing.proofs.lines.put_award.Reads as put-award-reads
-use Rattle.listing.proofs.lines.put_pair.Reads as put-pair-reads
+use Rattle.spelling.proofs.put_pair.Reads as put-pair-reads
 use Rattle.listing.proofs.lines.put_wins.Reads as put-wins-reads
 
 put-award-requires : tie.Need-put-award-requires

@@ -7,7 +7,7 @@ use Rattle.listing.proofs.tender_list.Statement.{statement}
 use Rattle.listing.proofs.tender_list.Tie as tie
 use Rattle.listing.proofs.tender_list.Reads as reads
 use Rattle.listing.proofs.tender_list.Lts as lts
-use Rattle.listing.proofs.lines.put_all.Reads as put-all-reads
+use Rattle.spelling.proofs.put_all.Reads as put-all-reads
 use Rattle.listing.proofs.make.Reads as make-reads
 
 slice-aggregate-make : tie.Need-slice-aggregate-make

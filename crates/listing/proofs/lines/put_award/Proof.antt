@@ -1,16 +1,16 @@
 -- The opening, the kind's keyword, and the tender's window. Assumes nothing.
 use native.Mathlib.Omega.{arith}
 use Rattle.tender.specs.Keywords.{bytes}
-use Rattle.listing.specs.LineLaws.{kind-short}
+use Rattle.spelling.specs.LineLaws.{kind-short}
 use Rattle.listing.specs.SpellingLaws.{award-written}
 use borrow.Author.Needs.{needs}
 use Rattle.listing.proofs.lines.put_award.Statement.{statement}
 use Rattle.listing.proofs.lines.put_award.Tie as tie
 use Rattle.listing.proofs.lines.put_award.Reads as reads
 use Rattle.listing.proofs.lines.put_award.Lts as lts
-use Rattle.listing.proofs.lines.put_all.Reads as put-all-reads
-use Rattle.listing.proofs.lines.put_kind.Reads as put-kind-reads
-use Rattle.listing.proofs.lines.put_numbers.Reads as put-numbers-reads
+use Rattle.spelling.proofs.put_all.Reads as put-all-reads
+use Rattle.spelling.proofs.put_kind.Reads as put-kind-reads
+use Rattle.spelling.proofs.put_numbers.Reads as put-numbers-reads
 
 slice-aggregate-put-all : tie.Need-slice-aggregate-put-all
 slice-aggregate-put-all c = search needs

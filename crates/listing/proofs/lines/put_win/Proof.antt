@@ -1,12 +1,13 @@
 -- A line for a winner, nothing for another bid. Assumes nothing.
 use Rattle.tender.specs.Keywords.{bytes}
-use Rattle.listing.specs.SpellingLaws.{win-written, no-win, nothing-written}
+use Rattle.spelling.specs.SpellingLaws.{nothing-written}
+use Rattle.listing.specs.SpellingLaws.{win-written, no-win}
 use borrow.Author.Needs.{needs}
 use Rattle.listing.proofs.lines.put_win.Statement.{statement}
 use Rattle.listing.proofs.lines.put_win.Tie as tie
 use Rattle.listing.proofs.lines.put_win.Reads as reads
 use Rattle.listing.proofs.lines.put_win.Lts as lts
-use Rattle.listing.proofs.lines.put_pair.Reads as put-pair-reads
+use Rattle.spelling.proofs.put_pair.Reads as put-pair-reads
 
 slice-aggregate-put-pair : tie.Need-slice-aggregate-put-pair
 slice-aggregate-put-pair c = search needs

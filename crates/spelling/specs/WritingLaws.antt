@@ -6,7 +6,7 @@ use native.Mathlib.Numerals.{add-one}
 use native.Mathlib.Omega.{arith}
 use lib.ListN.{length, take, drop, getD, set, length-set, length-append, take-append-drop}
 use lib.Seq.{take-suc-set, drop-set-lt, paste, paste-zero, paste-suc, length-paste, take-paste, drop-paste, take-length, drop-drop}
-use Rattle.listing.specs.Written.{Written}
+use Rattle.spelling.specs.Written.{Written}
 
 pub one-byte : (old : List ℕ) (at b : ℕ) → at < length old → Written old at (b ∷ []) (set old at b) (at + 1)
 one-byte old at b l = record {

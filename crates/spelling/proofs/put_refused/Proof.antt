@@ -1,12 +1,12 @@
 -- The refusal's number and place. Assumes nothing.
 use Rattle.tender.specs.Keywords.{bytes}
-use Rattle.listing.specs.MakingLaws.{refusal-written}
+use Rattle.spelling.specs.SpellingLaws.{refusal-written}
 use borrow.Author.Needs.{needs}
-use Rattle.listing.proofs.put_refused.Statement.{statement}
-use Rattle.listing.proofs.put_refused.Tie as tie
-use Rattle.listing.proofs.put_refused.Reads as reads
-use Rattle.listing.proofs.put_refused.Lts as lts
-use Rattle.listing.proofs.lines.put_pair.Reads as put-pair-reads
+use Rattle.spelling.proofs.put_refused.Statement.{statement}
+use Rattle.spelling.proofs.put_refused.Tie as tie
+use Rattle.spelling.proofs.put_refused.Reads as reads
+use Rattle.spelling.proofs.put_refused.Lts as lts
+use Rattle.spelling.proofs.put_pair.Reads as put-pair-reads
 use Rattle.tender.proofs.number.Reads as number-reads
 use Rattle.tender.proofs.place.Reads as place-reads
 

@@ -1,10 +1,10 @@
 -- The store puts one byte. Assumes nothing.
-use Rattle.listing.specs.WritingLaws.{one-byte}
+use Rattle.spelling.specs.WritingLaws.{one-byte}
 use borrow.Author.Needs.{needs}
-use Rattle.listing.proofs.lines.put.Statement.{statement}
-use Rattle.listing.proofs.lines.put.Tie as tie
-use Rattle.listing.proofs.lines.put.Reads as reads
-use Rattle.listing.proofs.lines.put.Lts as lts
+use Rattle.spelling.proofs.put.Statement.{statement}
+use Rattle.spelling.proofs.put.Tie as tie
+use Rattle.spelling.proofs.put.Reads as reads
+use Rattle.spelling.proofs.put.Lts as lts
 
 slice-write-buf : tie.Need-slice-write-buf
 slice-write-buf c = search needs

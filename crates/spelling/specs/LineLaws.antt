@@ -1,0 +1,49 @@
+-- How long numbers and the lines of two numbers are. Assumes nothing.
+use mathlib.Core.Bool.{Bool, true, false, cond}
+use mathlib.Core.List.{List, [], _∷_, _++_}
+use Prim.Native.Nat.{ℕ, zero, suc, _+_, _/_, _%_, _≤_, _<_}
+use native.Mathlib.Omega.{arith}
+use lib.ListN.{length, length-append}
+use lib.Dec.{ltb}
+use Rattle.tender.specs.declared.Kind.{Kind}
+use Rattle.tender.specs.declared.Kind.the-variants.{Single, Multi}
+use Rattle.tender.specs.Keywords.{bytes, singleWord, multiWord}
+use Rattle.spelling.specs.Decimal.{digitsBefore, decimal}
+use Rattle.spelling.specs.Lines.{closing, numbers, pairLine, kindWord}
+
+short : (f n : ℕ) (done : List ℕ) → length (digitsBefore f n done) ≤ f + length done
+unfolding digitsBefore
+short zero n done = omega arith
+short (suc f) n done = go (ltb n 10) (short f (n / 10) ((48 + n % 10) ∷ done))
+  where
+    go : (t : Bool) → length (digitsBefore f (n / 10) ((48 + n % 10) ∷ done)) ≤ f + suc (length done) →
+        length (cond t ((48 + n % 10) ∷ done) (digitsBefore f (n / 10) ((48 + n % 10) ∷ done))) ≤ suc f + length done
+    go true l = omega arith
+    go false l = omega arith
+
+pub decimal-short : (n : ℕ) → length (decimal n) ≤ 20
+unfolding decimal
+decimal-short n = omega (arith, short 20 n [])
+
+pub numbers-short : (a b : ℕ) → length (numbers a b) ≤ 44
+unfolding numbers closing bytes
+numbers-short a b = omega (
+  arith,
+  decimal-short a,
+  decimal-short b,
+  length-append (32 ∷ decimal a) (32 ∷ decimal b),
+  length-append ((32 ∷ decimal a) ++ (32 ∷ decimal b)) (41 ∷ 10 ∷ []),
+)
+
+pub kind-short : (k : Kind) → length (kindWord k) ≤ 6
+unfolding kindWord singleWord multiWord bytes
+kind-short Single = omega arith
+kind-short Multi = omega arith
+
+pub pair-short : (word : List ℕ) (a b : ℕ) → length (pairLine word a b) ≤ 45 + length word
+unfolding pairLine
+pair-short word a b = omega (arith, numbers-short a b, length-append (40 ∷ []) word, length-append ((40 ∷ []) ++ word) (numbers a b))
+
+pub pair-some : (word : List ℕ) (a b : ℕ) → 0 < length (pairLine word a b)
+unfolding pairLine
+pair-some word a b = omega (arith, length-append (40 ∷ []) word, length-append ((40 ∷ []) ++ word) (numbers a b))
