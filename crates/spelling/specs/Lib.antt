@@ -5,3 +5,6 @@ pub mod Written
 pub mod LineLaws
 pub mod WritingLaws
 pub mod SpellingLaws
+pub mod DecimalLaws
+pub mod WordLaws
+pub mod BackLaws

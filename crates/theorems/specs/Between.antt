@@ -1,7 +1,7 @@
 -- What the demands say of a call, of two calls one after the other, and of two calls compared (paper 01, "Time, price and place").
 use mathlib.Core.Path.{_≡_}
 use mathlib.Core.Logic.{_⊎_}
-use mathlib.Core.List.{List, _++_}
+use mathlib.Core.List.{List, _++_, map}
 use Prim.Native.Nat.{ℕ, _+_, _-_, _*_, _≤_, _<_}
 use mathlib.Core.Option.{some}
 use lib.ListN.{length, getD, drop}
@@ -9,7 +9,7 @@ use lib.Dec.{ltb}
 use Rattle.tender.specs.declared.Window.{Window}
 use Rattle.tender.specs.declared.Tender.{Tender}
 use Rattle.tender.specs.Limits.{maxPrice, maxText}
-use Rattle.tender.specs.Tables.{Row, rowsOf}
+use Rattle.tender.specs.Tables.{Row, rowsOf, flatWindows}
 use Rattle.cover.specs.Sets.{bidders}
 use Rattle.reader.specs.Words.{numeralOf, priceOf}
 use Rattle.reader.specs.Read.{accepted, readText}
@@ -21,10 +21,10 @@ use Rattle.award.specs.Right.{Callable}
 use Rattle.award.specs.Gain.{rowFor, gain, AtMost}
 use Rattle.spelling.specs.Decimal.{decimal}
 use Rattle.spelling.specs.Lines.{pairLine, refusedWord}
+use Rattle.spelling.specs.Text.{textOf, bidIn}
 use Rattle.listing.specs.List.{listOf}
 use Rattle.theorems.specs.Calls.{ReadRun, ReadCall, AwardCall, toldBy, ListCall, shown}
 use Rattle.theorems.specs.OneReading.{Fills}
-use Rattle.theorems.specs.TextOf.{textOf}
 use Rattle.theorems.specs.ListRead.{rowShown}
 
 -- its tables break no rule, and each bid has an award row
@@ -56,7 +56,7 @@ priceAt c i = getD (c .bids) (4 * i + 1) 0
 pub record WasRead (r : ReadRun) (t : Tender) : Type 0 where
   pub rows : List Row
   pub spans : List Window
-  pub spelt : r .text ≡ textOf t rows spans
+  pub spelt : r .text ≡ textOf t (map (bidIn (flatWindows spans)) rows)
   pub fills : Fills t rows spans r
 
 -- a text that differs from an accepted one in the price of row i alone, written q; with a price within the limits it is accepted too,

@@ -3,7 +3,7 @@
 use mathlib.Core.Path.{_≡_, sym, _∙_}
 use mathlib.Core.Logic.{_⊎_}
 use mathlib.Core.Bool.{true}
-use mathlib.Core.List.{List}
+use mathlib.Core.List.{List, map}
 use mathlib.Core.Option.{some}
 use Prim.Native.Nat.{ℕ, _+_, _^_, _≤_, _<_, min}
 use lib.ListN.{length, getD, set}
@@ -33,17 +33,17 @@ use Rattle.award.specs.Right.{Bidders, IsAward, OneAnswer, LeastCover, WinnerAt
 use Rattle.award.specs.OneAnswerLaws as one
 use Rattle.award.specs.OutcomeLaws as outcome
 use Rattle.spelling.specs.Decimal.{decimal}
+use Rattle.spelling.specs.Text.{textOf, bidIn}
 use Rattle.spelling.specs.Lines.{pairLine, refusedWord}
 use Rattle.listing.specs.ListLaws as list
 use Rattle.theorems.specs.Calls.{ReadRun, ReadCall, AwardCall, toldBy, SettleCall, toldPlain, ListCall, shown}
 use Rattle.theorems.specs.OneReading.{OneReading, SameReading}
-use Rattle.theorems.specs.TextOf.{textOf}
 use Rattle.theorems.specs.ListRead.{rowShown}
 use Rattle.theorems.specs.Between.{Exactly, CallableWith, FewerThan, ForCover, priceAt, WasRead, Variant, Follows, SameAward}
 use Rattle.theorems.specs.Between.{NoGainBetween, OneList}
 use Rattle.theorems.specs.Between.{ListGiven, NoGainShown, Showable}
 use Rattle.theorems.specs.ReadingLaws as reading
-use Rattle.theorems.specs.Numerals.{decimal-back}
+use Rattle.spelling.specs.DecimalLaws.{decimal-back}
 use Rattle.theorems.specs.TextOfLaws.{spelt-again}
 use Rattle.theorems.specs.ReadAgain.{read-again}
 use Rattle.theorems.specs.Varied.{varied}
@@ -103,7 +103,7 @@ nothing-dropped = read-again
 -- an accepted text
 module _ (text : List ℕ) (T : Tender) (R : List Row) (W : List Window) (read : readText text ≡ accepted T R W) where
   -- The same of the text alone.
-  pub one-spelling : text ≡ textOf T R W
+  pub one-spelling : text ≡ textOf T (map (bidIn (flatWindows W)) R)
   one-spelling = spelt-again text T R W read
 
   -- There is a row for each line after the first, and each byte is a digit, a space, a bracket, a newline or a letter.

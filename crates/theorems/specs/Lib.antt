@@ -2,10 +2,8 @@ pub mod Calls
 pub mod OneReading
 pub mod ListRead
 pub mod Between
-pub mod TextOf
 pub mod WorkedCases
 pub mod ReadingLaws
-pub mod Numerals
 pub mod TextOfLaws
 pub mod ReadAgain
 pub mod Varied

@@ -23,7 +23,7 @@ use Rattle.spelling.specs.Decimal.{decimal}
 use Rattle.spelling.specs.Lines.{closing, numbers, pairLine, kindWord, refusedWord}
 use Rattle.listing.specs.Lines.{awardWord, winWord, totalWord, awardLine}
 use Rattle.listing.specs.List.{winList, listLines}
-use Rattle.theorems.specs.Numerals.{decimal-back, decimal-plain}
+use Rattle.spelling.specs.DecimalLaws.{decimal-back, decimal-plain}
 use Rattle.theorems.specs.TextOfLaws.{same-is}
 use Rattle.theorems.specs.ListRead.{lastNumber, winOn, rowOr, rowAmong, rowShown}
 

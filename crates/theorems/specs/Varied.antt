@@ -17,9 +17,9 @@ use Rattle.reader.specs.Differ.{bidLine, Word, DifferInPrice}
 use Rattle.award_check.specs.Cells.{noRow}
 use Rattle.award_check.specs.TextLaws.{rows-end}
 use Rattle.spelling.specs.Decimal.{decimal}
-use Rattle.theorems.specs.Numerals.{decimal-plain}
-use Rattle.theorems.specs.TextOf.{spaced, ended, tenderWords, windowWords, bidWords, spansOf, rowLine, textOf}
-use Rattle.theorems.specs.TextOfLaws.{spelt-again}
+use Rattle.spelling.specs.DecimalLaws.{decimal-plain}
+use Rattle.spelling.specs.WordLaws.{spaced, ended, tenderWords, windowWords, bidWords}
+use Rattle.theorems.specs.TextOfLaws.{spansOf, rowLine, spacedText, spelt-words}
 use Rattle.theorems.specs.Between.{Variant}
 
 -- row i among the rows
@@ -87,9 +87,9 @@ number-word : (n : ℕ) → Word (decimal n)
 number-word n = record { no-space = decimal-plain 32 n (omega arith); no-end = decimal-plain 10 n (omega arith) }
 
 -- the lines before a row's, its line and those after it
-around : (T : Tender) (W : List Window) (xs : List Row) (r : Row) (ys : List Row) → textOf T (xs ++ r ∷ ys) W
+around : (T : Tender) (W : List Window) (xs : List Row) (r : Row) (ys : List Row) → spacedText T (xs ++ r ∷ ys) W
     ≡ ended (spaced (tenderWords T) ∷ map (rowLine W) xs) ++ (rowLine W r ++ 10 ∷ ended (map (rowLine W) ys))
-unfolding textOf ended
+unfolding spacedText ended
 around T W xs r ys =
     ap (λ x. ended (spaced (tenderWords T) ∷ x)) (map-parts (rowLine W) xs (r ∷ ys))
     ∙ ended-parts (spaced (tenderWords T) ∷ map (rowLine W) xs) (rowLine W r ∷ map (rowLine W) ys)
@@ -106,7 +106,8 @@ record Parted (text : List ℕ) (r : Row) : Type 0 where
   tail : List ℕ
   is : text ≡ head ++ 10 ∷ bidLine (decimal (r .bidder)) (decimal (r .price)) tail
 
-parted : (text : List ℕ) (T : Tender) (xs : List Row) (r : Row) (ys : List Row) (W : List Window) → text ≡ textOf T (xs ++ r ∷ ys) W
+parted : (text : List ℕ) (T : Tender) (xs : List Row) (r : Row) (ys : List Row) (W : List Window)
+    → text ≡ spacedText T (xs ++ r ∷ ys) W
     → 1 ≤ length (spansOf W r) → Parted text r
 parted text T xs r ys W e s =
     let b = ends (spaced (tenderWords T)) (map (rowLine W) xs) in
@@ -155,4 +156,4 @@ varied text T R W h i l q wq = go (row-at R i l)
     go a =
         let b = row-in (T .kind) [] 0 (a .before) r (a .after) (length W) (rw (a .are) at (rules-law T R W text h .rows)) in
         let s = some-taken (r .count) (drop (r .first) W) (b .0) (omega (arith, b .0, b .1, length-drop (r .first) W)) in
-        made (parted text T (a .before) r (a .after) W (spelt-again text T R W h ∙ ap (λ x. textOf T x W) (a .are)) s)
+        made (parted text T (a .before) r (a .after) W (spelt-words text T R W h ∙ ap (λ x. spacedText T x W) (a .are)) s)

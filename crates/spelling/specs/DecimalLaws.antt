@@ -1,4 +1,4 @@
--- Numbers in base ten read back, and a number has one spelling. Assumes nothing.
+-- Numbers in base ten: they read back, how many digits they have, and that a number has one spelling. Assumes nothing.
 use mathlib.Core.Path.{_≡_, refl, sym, ap, _∙_}
 use mathlib.Core.Bool.{Bool, true, false, cond, not, _&&_}
 use mathlib.Core.List.{List, [], _∷_, _++_, append-nil}
@@ -8,11 +8,11 @@ use native.Mathlib.Nat.{pow-suc}
 use native.Mathlib.Omega.{arith}
 use lib.ListN.{length}
 use lib.Dec.{leb, ltb}
-use borrow.Author.Tests.{ltb-true, le-leb, lt-ltb, le-ltb, leb-true, ne-eqb, eqb-false, not-true}
+use borrow.Author.Tests.{ltb-true, ltb-false, le-leb, lt-ltb, le-ltb, leb-true, ne-eqb, eqb-false, not-true}
 use Rattle.tender.specs.Limits.{within}
 use Rattle.reader_line.specs.Words.{among, digits, leadingZero, numeralOf}
 use Rattle.reader_line.specs.LinePlain.{both-true as and-split}
 use Rattle.spelling.specs.Decimal.{digitsBefore, decimal}
 
 -- a digit
 
@@ -59,6 +59,59 @@ plain d (suc f) n done l h = go (ltb n 10) (plain d f (n / 10) ((48 + n % 10) �
 pub decimal-plain : (d n : ℕ) → d < 48 → among d (decimal n) ≡ false
 unfolding decimal among
 decimal-plain d n l = plain d 20 n [] l refl
+
+-- how many digits are written
+digits-length : (f k n : ℕ) (done : List ℕ) → n < 10 ^ k → 0 < k → length (digitsBefore f n done) ≤ k + length done
+unfolding digitsBefore
+digits-length zero k n done l p = omega arith
+digits-length (suc f) zero n done l p = absurd (omega arith)
+digits-length (suc f) (suc k) n done l p = go (ltb n 10) refl (digits-length f k (n / 10) ((48 + n % 10) ∷ done))
+  where
+    some-left : (g m : ℕ) → m < 10 ^ g → 0 < m → 0 < g
+    some-left zero m a b = absurd (omega arith)
+    some-left (suc g) m a b = omega arith
+
+    go : (b : Bool) → ltb n 10 ≡ b → (n / 10 < 10 ^ k → 0 < k
+        → length (digitsBefore f (n / 10) ((48 + n % 10) ∷ done)) ≤ k + suc (length done)) →
+        length (cond b ((48 + n % 10) ∷ done) (digitsBefore f (n / 10) ((48 + n % 10) ∷ done))) ≤ suc k + length done
+    go true e ih = omega arith
+    go false e ih = let g : n / 10 < 10 ^ k =
+        omega (arith, pow-suc 10 k) in omega (arith, ih g (some-left k (n / 10) g (omega (arith, ltb-false n 10 e))))
+
+pub decimal-few : (k n : ℕ) → n < 10 ^ k → 0 < k → length (decimal n) ≤ k
+unfolding decimal
+decimal-few k n l p = omega (arith, digits-length 20 k n [] l p)
+
+-- the first byte is a digit above 0
+abbrev Leads : List ℕ → Type 0
+Leads [] = ⊥
+Leads (b ∷ w) = 48 < b
+
+digits-lead : (f n : ℕ) (done : List ℕ) → n < 10 ^ f → 0 < n → Leads (digitsBefore f n done)
+unfolding digitsBefore
+digits-lead zero n done l p = absurd (omega arith)
+digits-lead (suc f) n done l p = go (ltb n 10) refl (digits-lead f (n / 10) ((48 + n % 10) ∷ done))
+  where
+    go : (b : Bool) → ltb n 10 ≡ b → (n / 10 < 10 ^ f → 0 < n / 10 → Leads (digitsBefore f (n / 10) ((48 + n % 10) ∷ done))) →
+        Leads (cond b ((48 + n % 10) ∷ done) (digitsBefore f (n / 10) ((48 + n % 10) ∷ done)))
+    go true e ih = omega (arith, ltb-true n 10 e)
+    go false e ih = ih (omega (arith, pow-suc 10 f)) (omega (arith, ltb-false n 10 e))
+
+lead-some : (w : List ℕ) → Leads w → (leadingZero w ≡ false) × (1 ≤ length w)
+unfolding leadingZero
+lead-some [] h = absurd h
+lead-some (b ∷ []) h = (refl, omega arith)
+lead-some (b ∷ c ∷ w) h = (ne-eqb b 48 (λ q. omega arith), omega arith)
+
+-- a number that a text may name reads back
+pub numeral-decimal : (n : ℕ) → n < 1000000000 → numeralOf (decimal n) ≡ some n
+unfolding numeralOf decimal digits within leadingZero digitsBefore
+numeral-decimal zero l = refl
+numeral-decimal (suc n) l =
+    let a : suc n < 10 ^ 20 = omega arith in
+    let s = lead-some (decimal (suc n)) (digits-lead 20 (suc n) [] a (omega arith)) in
+    let few = decimal-few 9 (suc n) l (omega arith) in
+    rw (le-leb 1 (length (decimal (suc n))) (s .1), le-leb (length (decimal (suc n))) 9 few, s .0) (decimal-back (suc n) a)
 
 -- a number has one spelling
 

@@ -1,0 +1,139 @@
+-- The lines of a text as it is spelt read back. Assumes nothing.
+use mathlib.Core.Path.{_≡_, refl, ap, _∙_}
+use mathlib.Core.Bool.{false}
+use mathlib.Core.List.{List, [], _∷_, _++_, append-assoc}
+use mathlib.Core.Option.{Option, some}
+use Prim.Native.Nat.{ℕ, _<_}
+use native.Mathlib.Omega.{arith}
+use Rattle.tender.specs.declared.Kind.{Kind}
+use Rattle.tender.specs.declared.Kind.the-variants.{Single, Multi}
+use Rattle.tender.specs.declared.Window.{Window}
+use Rattle.tender.specs.declared.Tender.{Tender}
+use Rattle.tender.specs.Keywords.{bytes, tenderWord, bidWord, singleWord, multiWord}
+use Rattle.reader_line.specs.Words.{andThen, among, cut, sameBytes, priceOf}
+use Rattle.reader_line.specs.Line.{BidLine, Line, tender, bid, kindOf, tenderOf, bidOf, lineOfWords, lineOf, linesOf}
+use Rattle.reader_line.specs.CutLaws.{cut-some, cut-end}
+use Rattle.spelling.specs.Decimal.{decimal}
+use Rattle.spelling.specs.Lines.{kindWord}
+use Rattle.spelling.specs.Text.{bidText, tenderText, bidsText, textOf}
+use Rattle.spelling.specs.DecimalLaws.{decimal-plain, numeral-decimal}
+use Rattle.spelling.specs.WordLaws.{spaced, tenderWords, windowWords, bidWords, Without, among-append, cut-spaced, spaced-among}
+use Rattle.spelling.specs.WordLaws.{bid-line, tender-line, bid-without, closed-back, Named, AllNamed, span-back, windows-back}
+
+-- a line of words before more
+line-then : (w : List ℕ) (ws : List (List ℕ)) (rest : List ℕ) → Without 10 (w ∷ ws)
+    → cut 10 ((spaced (w ∷ ws) ++ 10 ∷ []) ++ rest) ≡ spaced (w ∷ ws) ∷ cut 10 rest
+line-then w ws rest h = ap (cut 10) (append-assoc (spaced (w ∷ ws)) (10 ∷ []) rest)
+    ∙ cut-end 10 (spaced (w ∷ ws)) rest (spaced-among 10 w ws refl h)
+
+-- a bid whose numbers a text may name, with some window
+abbrev pub Told : BidLine → Type 0
+Told b = (b .bidder < 1000000000) × ((b .price < 1000000000) ×
+    ((w : Window) × (ws : List Window) × (b .windows ≡ w ∷ ws) × AllNamed (w ∷ ws)))
+
+abbrev pub AllTold : List BidLine → Type 0
+AllTold [] = Unit {0}
+AllTold (b ∷ bs) = Told b × AllTold bs
+
+bid-words-back : (n p : ℕ) (w : Window) (ws : List Window) → n < 1000000000 → p < 1000000000 → AllNamed (w ∷ ws) →
+    lineOf (spaced (bidWords n p (w ∷ ws))) ≡ some (bid (record { bidder = n; price = p; windows = w ∷ ws }))
+unfolding lineOf lineOfWords sameBytes tenderWord bidWord bytes bidWords bidOf andThen priceOf among
+bid-words-back n p w ws a b h =
+    rw (cut-spaced (40 ∷ bidWord) (decimal n ∷ decimal p ∷ windowWords (w ∷ ws))
+    (bid-without 32 n p w ws (omega arith) refl refl refl))
+    (rw (numeral-decimal n a, numeral-decimal p b, windows-back w ws h))
+
+-- a bid's line before more lines
+pub record Read (line : List ℕ) (x : Line) : Type 0 where
+  pub words : List ℕ
+  pub cuts : (rest : List ℕ) → cut 10 (line ++ rest) ≡ words ∷ cut 10 rest
+  pub is : lineOf words ≡ some x
+
+pub bid-back : (b : BidLine) → Told b → Read (bidText b) (bid b)
+unfolding among bidWord bytes bidWords
+bid-back b h = go (h .1 .1 .0) (h .1 .1 .1) (h .1 .1 .2) (h .1 .1 .3)
+  where
+    go : (w : Window) (ws : List Window) → b .windows ≡ w ∷ ws → AllNamed (w ∷ ws) → Read (bidText b) (bid b)
+    go w ws e a =
+        let q : _≡_ {A = BidLine} b (record { bidder = b .bidder; price = b .price; windows = w ∷ ws }) =
+        ap (λ (l : List Window). record { bidder = b .bidder; price = b .price; windows = l }) e in
+        rw q record {
+          words = spaced (bidWords (b .bidder) (b .price) (w ∷ ws));
+          cuts = λ rest. ap (λ s. cut 10 (s ++ rest)) (bid-line (b .bidder) (b .price) w ws)
+              ∙ line-then (40 ∷ bidWord) (decimal (b .bidder) ∷ decimal (b .price) ∷ windowWords (w ∷ ws)) rest
+              (bid-without 10 (b .bidder) (b .price) w ws (omega arith) refl refl refl);
+          is = bid-words-back (b .bidder) (b .price) w ws (h .0) (h .1 .0) a;
+        }
+
+-- the tender's line
+
+kind-back : (k : Kind) → kindOf (kindWord k) ≡ some k
+unfolding kindOf kindWord sameBytes singleWord multiWord bytes
+kind-back Single = refl
+kind-back Multi = refl
+
+kind-space : (k : Kind) → among 32 (kindWord k) ≡ false
+unfolding kindWord singleWord multiWord bytes among
+kind-space Single = refl
+kind-space Multi = refl
+
+kind-end : (k : Kind) → among 10 (kindWord k) ≡ false
+unfolding kindWord singleWord multiWord bytes among
+kind-end Single = refl
+kind-end Multi = refl
+
+tender-without : (d : ℕ) (t : Tender) → d < 40 → among d (40 ∷ tenderWord) ≡ false → among d (kindWord (t .kind)) ≡ false
+    → among d (41 ∷ []) ≡ false → Without d (tenderWords t)
+unfolding tenderWords
+tender-without d t l a k b = (
+  a,
+  (
+    k,
+    (
+      decimal-plain d (t .window .start) (omega arith),
+      (among-append d (decimal (t .window .end)) (41 ∷ []) (decimal-plain d (t .window .end) (omega arith)) b, tt),
+    ),
+  ),
+)
+
+tender-words-back : (t : Tender) → Named (t .window) → lineOf (spaced (tenderWords t)) ≡ some (tender t)
+unfolding lineOf lineOfWords sameBytes tenderWord bytes tenderWords tenderOf andThen among
+tender-words-back t h =
+    rw (cut-spaced (40 ∷ tenderWord) (kindWord (t .kind) ∷ decimal (t .window .start) ∷ (decimal (t .window .end) ++ 41 ∷ [])
+    ∷ []) (tender-without 32 t (omega arith) refl (kind-space (t .kind)) refl))
+    (rw (kind-back (t .kind), closed-back (decimal (t .window .end)), span-back (t .window) h))
+
+pub tender-back : (t : Tender) → Named (t .window) → Read (tenderText t) (tender t)
+unfolding among tenderWord bytes tenderWords
+tender-back t h = record {
+  words = spaced (tenderWords t);
+  cuts = λ rest. ap (λ s. cut 10 (s ++ rest)) (tender-line t)
+      ∙ line-then (40 ∷ tenderWord) (kindWord (t .kind) ∷ decimal (t .window .start) ∷ (decimal (t .window .end) ++ 41 ∷ [])
+      ∷ []) rest (tender-without 10 t (omega arith) refl (kind-end (t .kind)) refl);
+  is = tender-words-back t h;
+}
+
+-- a line that reads back, before pieces of which there is a first
+first-line : (line rest : List ℕ) (x : Line) → Read line x → linesOf (cut 10 (line ++ rest)) ≡ some x ∷ linesOf (cut 10 rest)
+unfolding linesOf
+first-line line rest x r = rw (r .cuts rest, cut-some 10 rest .are, r .is)
+
+-- what is on the lines of some bids
+unfoldable pub asLines : List BidLine → List (Option Line)
+asLines [] = []
+asLines (b ∷ bs) = some (bid b) ∷ asLines bs
+
+pub bids-back : (bs : List BidLine) → AllTold bs → linesOf (cut 10 (bidsText bs)) ≡ asLines bs
+unfolding bidsText asLines linesOf cut
+bids-back [] h = refl
+bids-back (b ∷ bs) h =
+    first-line (bidText b) (bidsText bs) (bid b) (bid-back b (h .0))
+    ∙ ap {B = List (Option Line)} (λ l. some (bid b) ∷ l) (bids-back bs (h .1))
+
+-- the whole text's lines, whatever its length
+pub text-back : (t : Tender) (bs : List BidLine) → Named (t .window) → AllTold bs
+    → linesOf (cut 10 (textOf t bs)) ≡ some (tender t) ∷ asLines bs
+unfolding textOf
+text-back t bs n h =
+    first-line (tenderText t) (bidsText bs) (tender t) (tender-back t n)
+    ∙ ap {B = List (Option Line)} (λ l. some (tender t) ∷ l) (bids-back bs h)
