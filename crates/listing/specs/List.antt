@@ -1,13 +1,10 @@
 -- What the list of a text is (paper 01, "List" and "One list in full").
-use mathlib.Core.Path.{_≡_}
 use mathlib.Core.Bool.{cond}
 use mathlib.Core.List.{List, [], _++_}
 use Prim.Native.Nat.{ℕ, zero, suc}
-use lib.ListN.{length, getD, drop}
-use lib.Dec.{leb}
+use lib.ListN.{length, getD}
 use Rattle.tender.specs.declared.Tender.{Tender}
 use Rattle.tender.specs.Tables.{Row, flatRows, flatWindows}
-use Rattle.cover.specs.Sets.{when}
 use Rattle.reader.specs.Read.{accepted, readText}
 use Rattle.reader.specs.Read as reading
 use Rattle.award_check.specs.Cells.{noRow}
@@ -15,6 +12,7 @@ use Rattle.tender.specs.declared.AwardRow.{AwardRow}
 use Rattle.award_plain.specs.Award.{Outcome, awarded, refused, awardOf}
 use Rattle.award.specs.Gain.{lost}
 use Rattle.spelling.specs.Lines.{pairLine, refusedWord}
+use Rattle.spelling.specs.Delivered.{Delivered}
 use Rattle.listing.specs.Lines.{winWord, totalWord, awardLine}
 
 -- the lines of the winners among the first n bids, in entry order: bidder and cents paid
@@ -39,5 +37,4 @@ listOf (accepted t R W) = listLines t R (awardOf (t .kind) t (length R) (flatRow
 -- The promise of a call with the text and a lent buffer of the bytes `old`: it answers r and leaves the bytes `new`. Where the
 -- list is longer than the buffer, refusal 13, the answer is 0 and the buffer unchanged
 pub record Listed (text old new : List ℕ) (r : ℕ) : Type 0 where
-  pub answer : let list = listOf (readText text) in r ≡ when (leb (length list) (length old)) (length list)
-  pub bytes : let list = listOf (readText text) in new ≡ cond (leb (length list) (length old)) (list ++ drop (length list) old) old
+  pub delivers : Delivered (listOf (readText text)) old new r

@@ -2,13 +2,13 @@
 -- is empty and none is longer than 51,200 bytes; neither 8 nor 10 is ever shown. Assumes nothing.
 use mathlib.Core.Path.{_≡_, refl, sym, ap, fun-ext, _∙_}
 use mathlib.Core.Logic.{_⊎_, inl, inr}
-use mathlib.Core.Bool.{Bool, true, false, cond, _&&_}
+use mathlib.Core.Bool.{Bool, true, _&&_}
 use mathlib.Core.List.{List, [], _∷_, _++_, append-nil}
 use mathlib.Core.Option.{none}
 use Prim.Native.Nat.{ℕ, zero, suc, _+_, _*_, _≤_, _<_}
 use native.Mathlib.Omega.{arith}
 use lib.ListN.{length, getD, take, drop, length-append, List·getD-append}
-use lib.Seq.{getD-drop, take-append-seam}
+use lib.Seq.{getD-drop}
 use lib.Dec.{leb, ltb, eqb}
 use borrow.Author.Tests.{le-ltb, le-leb}
 use Rattle.tender.specs.declared.Window.{Window}
@@ -16,7 +16,7 @@ use Rattle.tender.specs.declared.Tender.{Tender}
 use Rattle.tender.specs.declared.Refusal.the-variants.{MinuteUncovered, OneBidder}
 use Rattle.tender.specs.Refusals.{numberOf}
 use Rattle.tender.specs.Tables.{Row, rowsOf, own, flatRows, flatWindows}
-use Rattle.cover.specs.Sets.{when, Found, nothing, found}
+use Rattle.cover.specs.Sets.{Found, nothing, found}
 use Rattle.cover.specs.Earliest.{cellWith}
 use Rattle.cover.specs.SettledLaws.{getD-listed}
 use Rattle.reader.specs.Read.{accepted, readText}
@@ -35,6 +35,7 @@ use Rattle.tender.specs.declared.Answer.the-variants.{Awarded, Refused}
 use Rattle.award_plain.specs.Plain.{rowsIn, toldIn, PlainPromise}
 use Rattle.spelling.specs.Lines.{refusedWord}
 use Rattle.spelling.specs.LineLaws.{pair-some}
+use Rattle.spelling.specs.DeliveredLaws.{delivered-is}
 use Rattle.listing.specs.Lines.{winLine, winLines}
 use Rattle.listing.specs.Made.{answerLines}
 use Rattle.listing.specs.List.{winList, listLines, listOf, Listed}
@@ -170,23 +171,10 @@ suffices {text} {old} {new} {r} h l =
     let s = list-short text in
     let list = listOf (readText text) in
     let e : leb (length list) (length old) ≡ true = le-leb (length list) (length old) (omega (arith, s .0)) in
-    let a : r ≡ length list = rw e at (h .answer) in
-    let b : new ≡ list ++ drop (length list) old = rw e at (h .bytes) in
+    let a : r ≡ length list = rw e at (h .delivers .answer) in
+    let b : new ≡ list ++ drop (length list) old = rw e at (h .delivers .bytes) in
     (omega (arith, s .1), omega (arith, ap length b, length-append list (drop (length list) old)))
 
 -- what a call shows is the list of the text
 pub listed-is : {text old new : List ℕ} {r : ℕ} → Listed text old new r → 0 < r → take r new ≡ listOf (readText text)
-listed-is {text} {old} {new} {r} h l = go (leb (length list) (length old)) (h .answer) (h .bytes)
-  where
-    list : List ℕ
-    list = listOf (readText text)
-
-    go : (b : Bool) → r ≡ when b (length list) → new ≡ cond b (list ++ drop (length list) old) old → take r new ≡ list
-    go true a e = rw (a, e) (take-append-seam list (drop (length list) old))
-    go false a e = absurd (omega arith)
-
--- two calls on the same text show the same list
-pub same-list : {text old new old′ new′ : List ℕ} {r r′ : ℕ} → Listed text old new r → Listed text old′ new′ r′
-    → 0 < r → 0 < r′
-    → take r new ≡ take r′ new′
-same-list h h′ l l′ = listed-is h l ∙ sym (listed-is h′ l′)
+listed-is h l = delivered-is (h .delivers) l

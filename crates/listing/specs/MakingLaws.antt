@@ -1,16 +1,12 @@
 -- The list of the award to the tables that were read is the list of the text. Assumes nothing.
 use mathlib.Core.Path.{_≡_, refl, sym, ap, _∙_}
-use mathlib.Core.Bool.{true, false}
 use mathlib.Core.List.{List, _++_}
 use Prim.Native.Nat.{ℕ, _*_, _/_, _≤_, _<_}
 use native.Mathlib.Omega.{arith}
 use lib.ListN.{length, take, drop}
-use lib.Dec.{leb}
-use borrow.Author.Tests.{le-leb, lt-leb}
 use Rattle.tender.specs.declared.Tender.{Tender}
 use Rattle.tender.specs.declared.Totals.{Totals}
 use Rattle.tender.specs.declared.Refusal.{Refusal}
-use Rattle.tender.specs.Keywords.{bytes}
 use Rattle.tender.specs.Refusals.{numberOf, placeOf}
 use Rattle.tender.specs.declared.Window.{Window}
 use Rattle.tender.specs.Tables.{Row, flatRows, flatWindows}
@@ -27,7 +23,7 @@ use Rattle.tender.specs.declared.Answer.the-variants.{Awarded, Refused}
 use Rattle.award_plain.specs.Plain.{PlainPromise}
 use Rattle.spelling.specs.Lines.{pairLine, refusedWord}
 use Rattle.spelling.specs.Written.{Written}
-use Rattle.spelling.specs.WritingLaws.{from-start}
+use Rattle.spelling.specs.DeliveredLaws.{delivered-none, delivered-all}
 use Rattle.listing.specs.Lines.{awardLine, winLines, totalWord}
 use Rattle.listing.specs.List.{listOf, Listed}
 use Rattle.listing.specs.ListLaws.{award-list, list-short}
@@ -146,14 +142,9 @@ made-few {text} {made} {n} m = omega (arith, m .size, ap length (m .right), list
 -- it is copied where there is room, and else nothing is
 pub listed-none : {text made old : List ℕ} {n : ℕ} → Made text made n → length old < n → Listed text old old 0
 listed-none {text} {made} {old} {n} m l =
-    let e : leb (length (listOf (readText text))) (length old) ≡ false =
-    lt-leb (length (listOf (readText text))) (length old) (omega (arith, m .size, ap length (m .right))) in
-    record { answer = rw e; bytes = rw e }
+    record { delivers = delivered-none (listOf (readText text)) old (omega (arith, m .size, ap length (m .right))) }
 
 pub listed-all : {text made old new : List ℕ} {n r : ℕ} → Made text made n → n ≤ length old → Written old 0 (take n made) new r
     → Listed text old new r
 listed-all {text} {made} {old} {new} {n} {r} m l w =
-    let list = listOf (readText text) in
-    let e : leb (length list) (length old) ≡ true = le-leb (length list) (length old) (omega (arith, m .size, ap length (m .right))) in
-    let k : length list ≡ r = omega (arith, w .next, ap length (m .right)) in
-    record { answer = rw e (sym k); bytes = rw (e, k) (from-start old list new r (rw (m .right) at w)) }
+    record { delivers = delivered-all (omega (arith, m .size, ap length (m .right))) (rw (m .right) at w) }

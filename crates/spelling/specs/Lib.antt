@@ -2,9 +2,11 @@ pub mod Decimal
 pub mod Lines
 pub mod Text
 pub mod Written
+pub mod Delivered
 pub mod LineLaws
 pub mod WritingLaws
 pub mod SpellingLaws
 pub mod DecimalLaws
 pub mod WordLaws
 pub mod BackLaws
+pub mod DeliveredLaws

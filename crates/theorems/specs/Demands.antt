@@ -34,6 +34,7 @@ use Rattle.award.specs.OneAnswerLaws as one
 use Rattle.award.specs.OutcomeLaws as outcome
 use Rattle.spelling.specs.Decimal.{decimal}
 use Rattle.spelling.specs.Text.{textOf, bidIn}
+use Rattle.spelling.specs.DeliveredLaws.{same-shown}
 use Rattle.spelling.specs.Lines.{pairLine, refusedWord}
 use Rattle.listing.specs.ListLaws as list
 use Rattle.theorems.specs.Calls.{ReadRun, ReadCall, AwardCall, toldBy, SettleCall, toldPlain, ListCall, shown}
@@ -90,7 +91,7 @@ one-answer-of-the-list = one-list
 
 -- It is the same list, whatever the buffer.
 pub same-text-same-list : (l l′ : ListCall) → l .text ≡ l′ .text → 0 < l .answer → 0 < l′ .answer → shown l ≡ shown l′
-same-text-same-list l l′ e a a′ = list.same-list {old′ = l′ .buffer} (l .promise) (rw e (l′ .promise)) a a′
+same-text-same-list l l′ e a a′ = same-shown {old′ = l′ .buffer} (l .promise .delivers) (rw e (l′ .promise .delivers)) a a′
 
 -- A buffer of 51,200 bytes always suffices.
 pub list-fits : (l : ListCall) → 51200 ≤ length (l .buffer) → 0 < l .answer

@@ -14,7 +14,7 @@ use Rattle.tender.specs.declared.Tender.{Tender}
 use Rattle.tender.specs.declared.AwardRow.{AwardRow}
 use Rattle.tender.specs.Keywords.{bytes}
 use Rattle.tender.specs.Tables.{Row, rowsOf, flatRows, flatWindows}
-use Rattle.cover.specs.Sets.{when, Found, nothing, found}
+use Rattle.cover.specs.Sets.{Found, nothing, found}
 use Rattle.cover.specs.Earliest.{cellWith}
 use Rattle.reader_line.specs.Words.{among}
 use Rattle.reader.specs.Read.{readText}
@@ -36,12 +36,12 @@ use Rattle.theorems.specs.Calls.{ListCall, shown}
 use Rattle.theorems.specs.Between.{Showable, OneList, list-written, list-too-long}
 
 pub one-list : (l : ListCall) → OneList l
-one-list l = go (leb (length list) (length (l .buffer))) refl (l .promise .answer) (l .promise .bytes)
+one-list l = go (leb (length list) (length (l .buffer))) refl (l .promise .delivers .answer) (l .promise .delivers .bytes)
   where
     list : List ℕ
     list = listOf (readText (l .text))
 
-    go : (t : Bool) → leb (length list) (length (l .buffer)) ≡ t → l .answer ≡ when t (length list)
+    go : (t : Bool) → leb (length list) (length (l .buffer)) ≡ t → l .answer ≡ cond t (length list) 0
         → l .buffer-after ≡ cond t (list ++ drop (length list) (l .buffer)) (l .buffer) → OneList l
     go true e a b = list-written (leb-true (length list) (length (l .buffer)) e) a b
     go false e a b = list-too-long (leb-false (length list) (length (l .buffer)) e) a b
