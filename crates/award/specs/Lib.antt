@@ -6,6 +6,7 @@ pub mod SettleLaws
 pub mod TableLaws
 pub mod OutcomeLaws
 pub mod OneAnswerLaws
-pub mod TextOutcomes
+pub mod TextOutcomeLaws
 pub mod Rows
-pub mod RowsPromise
+pub mod RowsLaws
+pub mod RowsPromiseLaws

@@ -13,7 +13,7 @@ use Rattle.cover.specs.Greedy.{Entry, reach, Rounds, stop, round, run, t
 use Rattle.cover.specs.CriticalPrice.{late, withdrawn, bar}
 use Rattle.cover.specs.Chance.{chance}
 use Rattle.cover.specs.GreedyLaws.{rounds, follow}
-use Rattle.cover.specs.GreedyCover.{Each, Covered, covered-closes}
+use Rattle.cover.specs.GreedyCoverLaws.{Each, Covered, covered-closes}
 
 both : (a b : Bool) → (a ≡ true → b ≡ true) → (b ≡ true → a ≡ true) → a ≡ b
 both true b f g = sym (f refl)

@@ -16,7 +16,7 @@ use Rattle.cover.specs.CriticalPrice.{largest, sum, ceiling, winsAt, cri
 use Rattle.cover.specs.CriticalPrice.{limit, roundsPaid}
 use Rattle.cover.specs.Threshold.{Threshold, honest, enough}
 use Rattle.cover.specs.GreedyLaws.{shrink, rounds, withdrawn-same}
-use Rattle.cover.specs.GreedyCover.{Each, Covered}
+use Rattle.cover.specs.GreedyCoverLaws.{Each, Covered}
 use Rattle.cover.specs.BarLaws.{under, bar-fewer}
 
 -- the largest number that passes, where those below m pass

@@ -13,10 +13,10 @@ pub mod PickLaws
 pub mod Chance
 pub mod GreedyLaws
 pub mod ChanceLaws
-pub mod GreedyCover
+pub mod GreedyCoverLaws
 pub mod BarLaws
 pub mod CriticalLaws
 pub mod SpareLaws
-pub mod SetMembers
+pub mod SetMemberLaws
 pub mod Intervals
 pub mod SettledLaws

@@ -18,7 +18,7 @@ use Rattle.cover.specs.SetLaws.{all-of, all-at, pack, pack-below, pack-b
 use Rattle.cover.specs.LeastCoverLaws.{winners-right}
 use Rattle.cover.specs.VcgLaws.{without-join}
 use Rattle.cover.specs.GreedyLaws.{rounds, withdrawn-other}
-use Rattle.cover.specs.GreedyCover.{Each, Covered, Served, served}
+use Rattle.cover.specs.GreedyCoverLaws.{Each, Covered, Served, served}
 
 -- a bid other than k has the cell x
 pub record Another (has : ℕ → ℕ → Bool) (n k x : ℕ) : Type 0 where

@@ -12,7 +12,7 @@ use Rattle.cells.specs.Cells.{cell}
 use Rattle.cover.specs.BarLaws.{share-right, under}
 use Rattle.cover.specs.CriticalPrice.{late, share, bar, limit}
 use Rattle.cover.specs.Greedy.{reach, keep, close, best, run, taken, bids}
-use Rattle.cover.specs.GreedyCover.{Each, Covered}
+use Rattle.cover.specs.GreedyCoverLaws.{Each, Covered}
 use Rattle.cover.specs.GreedyLaws.{best-right, withdrawn-other, withdrawn-reach}
 use Rattle.cover.specs.PickLaws.{before-one}
 use Rattle.cover.specs.Sets.{when, found, cells}

@@ -13,7 +13,7 @@ use Rattle.cover.specs.Sets.{when, cells, each}
 use Rattle.cover.specs.CriticalPrice.{limit, roundsPaid}
 use Rattle.cover.specs.SettledLaws.{as-listed}
 use Rattle.cover.specs.SpareLaws.{spare-bids, each-at}
-use Rattle.cover.specs.GreedyCover.{Covered}
+use Rattle.cover.specs.GreedyCoverLaws.{Covered}
 use Rattle.cells.specs.Cells.{cell, Closed}
 use Rattle.multi_rounds.specs.Market.{wordRow, has, First, Cleared}
 use Rattle.multi_tournament.specs.Tournament.{at}

@@ -6,7 +6,7 @@ pub mod Steps
 pub mod ReadLaws
 pub mod Differ
 pub mod PriceLaws
-pub mod PriceChange
+pub mod PriceChangeLaws
 pub mod Rules
 pub mod RulesLaws
 pub mod CountLaws

@@ -8,7 +8,8 @@ use Rattle.tender.specs.declared.Window.{Window}
 use Rattle.tender.specs.declared.Tender.{Tender}
 use Rattle.tender.specs.Tables.{Row}
 use Rattle.reader_line.specs.Words.{cut}
-use Rattle.reader_line.specs.LinePlain.{plain, allPlain, PlainPieces, cut-plain, line-plain}
+use Rattle.reader_line.specs.LinePlain.{plain, allPlain}
+use Rattle.reader_line.specs.LinePlainLaws.{PlainPieces, cut-plain, line-plain}
 use Rattle.reader_line.specs.Line.{Line, lineOf, linesOf}
 use Rattle.reader.specs.Read.{accepted, bidsOf, tables, readLines, readText}
 use Rattle.reader_line.specs.CutLaws.{Pieces, cut-some}

@@ -19,7 +19,7 @@ use Rattle.tender.specs.Tables.{Row}
 use Rattle.reader_line.specs.Words.{andThen, cut, among, sameBytes, closed, numeralOf, priceOf}
 use Rattle.reader_line.specs.Line.{BidLine, Line, tender, bid, kindOf, spanOf, windowOf, windowsIn, tenderOf, bidOf, lineOfWords, lineOf}
 use Rattle.reader_line.specs.Line.{linesOf}
-use Rattle.reader_line.specs.LinePlain.{both-true as and-split}
+use Rattle.reader_line.specs.LinePlainLaws.{both-true as and-split}
 use Rattle.tender.specs.declared.Refusal.{Refusal}
 use Rattle.tender.specs.declared.Refusal.the-variants.{OutsideLimits, TooMany, BadWindow, BidderRepeated, SeveralWindows}
 use Rattle.reader.specs.Read.{ReadOutcome, accepted, rowsFrom, allWindows, bidsOf, bidFaultIn, bidFault, checked, tables, readLines}

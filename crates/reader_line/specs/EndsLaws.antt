@@ -14,7 +14,8 @@ use Rattle.reader_line.specs.Words.{cut}
 use Rattle.reader_line.specs.Line.{Line, lineOf, linesOf}
 use Rattle.reader_line.specs.Scan.{toNext}
 use Rattle.reader_line.specs.ScanLaws.{next-le, next-other, lines-at, lines-unended}
-use Rattle.reader_line.specs.LinePlain.{plain, allPlain, both-true, line-plain}
+use Rattle.reader_line.specs.LinePlain.{plain, allPlain}
+use Rattle.reader_line.specs.LinePlainLaws.{both-true, line-plain}
 use Rattle.reader_line.specs.Answer.{FirstBroken}
 
 pub next-fits : (d : ℕ) (s : List ℕ) (i : ℕ) → i ≤ length s → i + toNext d (drop i s) ≤ length s

@@ -2,6 +2,7 @@ pub mod Words
 pub mod Line
 pub mod CutLaws
 pub mod LinePlain
+pub mod LinePlainLaws
 pub mod SizeLaws
 pub mod Scan
 pub mod ScanLaws

@@ -14,7 +14,7 @@ use Rattle.tender.specs.Limits.{within}
 use Rattle.reader_line.specs.Words.{growFirst, cut, sameBytes, opened, closed, digits, leadingZero, numeralOf, priceOf}
 use Rattle.reader_line.specs.Line.{BidLine, bid, kindOf, spanOf, windowOf, windowsIn, tenderOf, bidOf, lineOfWords, lineOf}
 use Rattle.reader_line.specs.CutLaws.{Pieces, cut-some}
-use Rattle.reader_line.specs.LinePlain.{both-true, then-some, cond-some}
+use Rattle.reader_line.specs.LinePlainLaws.{both-true, then-some, cond-some}
 
 -- the bytes of the pieces, with one after each
 bytesOf : List (List ℕ) → ℕ

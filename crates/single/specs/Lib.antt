@@ -1,1 +1,2 @@
 pub mod Pay
+pub mod PayLaws

@@ -10,7 +10,7 @@ use lib.ListN.{length, getD, set, length-set}
 use lib.Seq.{getD-set-same, getD-set-other}
 use borrow.Author.Tests.{eqb-true, eqb-false}
 use Rattle.cover.specs.Sets.{bit, when}
-use Rattle.cover.specs.SetMembers.{add-below}
+use Rattle.cover.specs.SetMemberLaws.{add-below}
 use Rattle.single_lead.specs.Rows.{ofWords, setIn}
 use Rattle.single_lead.specs.RowsLaws.{words-same}
 use Rattle.single_select.specs.Extend.{Off, Copied, Extended}

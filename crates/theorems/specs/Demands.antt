@@ -28,7 +28,7 @@ use Rattle.award_plain.specs.Award.{won, awarded, awardOf, outcomeNumber}
 use Rattle.award_plain.specs.AwardLaws.{award-lent}
 use Rattle.award.specs.Gain.{rowFor, gain, AtMost}
 use Rattle.award.specs.Promise.{lentAfter, Promise}
-use Rattle.award.specs.RowsPromise.{rows-promise}
+use Rattle.award.specs.RowsPromiseLaws.{rows-promise}
 use Rattle.award.specs.Right.{Bidders, IsAward, OneAnswer, LeastCover, WinnerAt, PaidByEight}
 use Rattle.award.specs.OneAnswerLaws as one
 use Rattle.award.specs.OutcomeLaws as outcome
@@ -46,12 +46,12 @@ use Rattle.theorems.specs.Between.{ListGiven, NoGainShown, Showable}
 use Rattle.theorems.specs.ReadingLaws as reading
 use Rattle.spelling.specs.DecimalLaws.{decimal-back}
 use Rattle.theorems.specs.TextOfLaws.{spelt-again}
-use Rattle.theorems.specs.ReadAgain.{read-again}
-use Rattle.theorems.specs.Varied.{varied}
-use Rattle.theorems.specs.TextGain.{no-gain-read}
+use Rattle.theorems.specs.ReadAgainLaws.{read-again}
+use Rattle.theorems.specs.VariedLaws.{varied}
+use Rattle.theorems.specs.TextGainLaws.{no-gain-read}
 use Rattle.theorems.specs.CoverLaws as cover
-use Rattle.theorems.specs.ListNumbers.{one-list, shows-no-other}
-use Rattle.theorems.specs.ListGain.{list-shows, no-gain-shown}
+use Rattle.theorems.specs.ListNumberLaws.{one-list, shows-no-other}
+use Rattle.theorems.specs.ListGainLaws.{list-shows, no-gain-shown}
 
 -- Demand 1. Every text and every table gets one complete award or one refusal, by number and place. No bid is dropped or shortened,
 -- and a refusal changes nothing that was lent.

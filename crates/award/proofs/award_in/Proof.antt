@@ -59,7 +59,7 @@ use Rattle.tender.specs.declared.Answer.{Answer}
 use Rattle.tender.specs.declared.AwardRow.{AwardRow}
 use Rattle.award.specs.Promise.{Promise, rowsFilled}
 use Rattle.award_plain.specs.Plain.{rowsIn, PlainPromise}
-use Rattle.award.specs.RowsPromise.{rows-fit, filled-promise}
+use Rattle.award.specs.RowsPromiseLaws.{rows-fit, filled-promise}
 use Rattle.award.proofs.LocalArray.{repeated, repeated-elements, as-room, lends, comes-back, lends-shared, comes-back-shared}
 use Rattle.tender.proofs.Answer as Ans
 use Rattle.tender.proofs.Answer.Laws as Ans′

@@ -56,7 +56,8 @@ use denote.Triple.Clauses.{ensured, lasts}
 use denote.Triple.Table.{entered, cited}
 use denote.Triple.Walked.{says, needs, Stays, stay-slice, stay-none, stay-none-slice, walkOf, AllGo, Walks, ends-at, walked, goes-slice}
 use denote.Triple.Walked.{goes-none, goes-none-slice, walk-meets}
-use Rattle.award.specs.Rows.{awardRowAt, rowsWritten, filled-rows, length-filled}
+use Rattle.award.specs.Rows.{awardRowAt, rowsWritten}
+use Rattle.award.specs.RowsLaws.{filled-rows, length-filled}
 use Rattle.tender.specs.declared.AwardRow.{AwardRow}
 use Rattle.tender.proofs.AwardRow as T
 use Rattle.tender.proofs.AwardRow.Laws as T′

@@ -9,7 +9,7 @@ use lib.ListN.{length, getD}
 use borrow.Author.Tests.{le-ltb}
 use Rattle.cover.specs.Sets.{Found, all, bit, cost, covers, found, hit, nothing, valueOf}
 use Rattle.cover.specs.LeastCover.{first, payment, vcgPaid, winners, without}
-use Rattle.cover.specs.SetMembers.{cost-none}
+use Rattle.cover.specs.SetMemberLaws.{cost-none}
 use Rattle.cover.specs.Intervals.{Order, foundCost, coversFrom, leastSet, plus, reaches, scan}
 use Rattle.cover.specs.Intervals.PrefixLaws.{Prefixes, award}
 use Rattle.cover.specs.Intervals.CoverLaws.{covers-prefixes, priced}

@@ -12,7 +12,7 @@ use borrow.Author.Tests.{ltb-true, ltb-false, leb-true, lt-ltb, le-leb, eqb-true
 use Rattle.cover.specs.Sets.{bit, cost, hit}
 use Rattle.cover.specs.LeastCover.{without}
 use Rattle.cover.specs.SetLaws.{or-split, Member, all-at, all-of, and-split, hit-of, hit-some}
-use Rattle.cover.specs.SetMembers.{added, cost-add, cost-none}
+use Rattle.cover.specs.SetMemberLaws.{added, cost-add, cost-none}
 use Rattle.cover.specs.Intervals.{coversFrom, mayBut}
 use Rattle.cover.specs.Intervals.PrefixLaws.{Last, Prefixes, AddsUp}
 

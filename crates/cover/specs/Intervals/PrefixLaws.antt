@@ -11,7 +11,7 @@ use Rattle.cover.specs.Sets.{Found, bit, found, nothing}
 use Rattle.cover.specs.LeastCover.{Wins}
 use Rattle.cover.specs.LeastCoverLaws.{IsFirst, first-right}
 use Rattle.cover.specs.SetLaws.{and-split}
-use Rattle.cover.specs.SetMembers.{Removed, add-below, removed}
+use Rattle.cover.specs.SetMemberLaws.{Removed, add-below, removed}
 use Rattle.cover.specs.Intervals.{At, Order, foundCost, growSet, leastSet, plus, raise, reaches, scan, scanCost}
 use Rattle.cover.specs.Intervals.ScanLaws.{SomeBefore, Family, IsLeast, Picked, cost-scan, found-one, least-of, least-one}
 use Rattle.cover.specs.Intervals.ScanLaws.{least-same}

@@ -11,7 +11,7 @@ use Rattle.cover.specs.Sets.{Found, bit, found, nothing}
 use Rattle.cover.specs.LeastCover.{without}
 use Rattle.cover.specs.LeastCoverLaws.{IsFirst}
 use Rattle.cover.specs.SetLaws.{and-split}
-use Rattle.cover.specs.SetMembers.{Removed, add-below, removed}
+use Rattle.cover.specs.SetMemberLaws.{Removed, add-below, removed}
 use Rattle.cover.specs.Intervals.{At, across, foundCost, leastSet, reaches, scanCost}
 use Rattle.cover.specs.Intervals.ScanLaws.{Costs, Family, IsLeast, Picked, Under, found-one, min-cost, min-one, none-found}
 use Rattle.cover.specs.Intervals.ScanLaws.{right-least}

@@ -1,7 +1,7 @@
 -- `single::pay` meets its contract: a loser is paid nothing, a winner by the least cost without it. Assumes nothing.
 use lib.ListN.{getD}
 use Rattle.single_costs.specs.AcrossLaws.{winner-ends}
-use Rattle.single.specs.Pay.{pays-none, wins-bit, pays-some}
+use Rattle.single.specs.PayLaws.{pays-none, wins-bit, pays-some}
 use native.Mathlib.Omega.{arith}
 use borrow.Author.Needs.{needs}
 use Rattle.single.proofs.pay.Statement.{statement}

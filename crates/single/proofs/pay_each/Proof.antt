@@ -5,7 +5,8 @@ use lib.ListN.{length, length-set}
 use native.Mathlib.Nat.{le-antisymm}
 use Rattle.single_costs.specs.Across.{Waiting}
 use Rattle.single_costs.specs.AcrossLaws.{waiting-none, waiting-more}
-use Rattle.single.specs.Pay.{vcgPaidOf, PaidTo, paid-none, paid-more, paid-all}
+use Rattle.single.specs.Pay.{vcgPaidOf}
+use Rattle.single.specs.PayLaws.{PaidTo, paid-none, paid-more, paid-all}
 use native.Mathlib.Omega.{arith}
 use borrow.Author.Needs.{needs}
 use Rattle.single.proofs.pay_each.Statement.{statement}

@@ -12,7 +12,7 @@ use Rattle.tender.specs.Tables.{Row}
 use Rattle.reader.specs.Read.{accepted, readText}
 use Rattle.reader.specs.Rules.{RowsRules}
 use Rattle.reader.specs.RulesLaws.{rules-law}
-use Rattle.reader.specs.PriceChange.{Changed, price-change}
+use Rattle.reader.specs.PriceChangeLaws.{Changed, price-change}
 use Rattle.reader.specs.Differ.{bidLine, Word, DifferInPrice}
 use Rattle.award_check.specs.Cells.{noRow}
 use Rattle.award_check.specs.TextLaws.{rows-end}

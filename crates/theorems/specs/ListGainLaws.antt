@@ -24,15 +24,15 @@ use Rattle.award_plain.specs.AwardLaws.{award-awarded}
 use Rattle.award.specs.Gain.{lost, rowFor}
 use Rattle.award.specs.TableLaws.{row-is}
 use Rattle.award.specs.Right as right
-use Rattle.award.specs.TextOutcomes.{honest-texts}
+use Rattle.award.specs.TextOutcomeLaws.{honest-texts}
 use Rattle.listing.specs.List.{listLines, listOf}
 use Rattle.listing.specs.ListLaws.{listed-is}
 use Rattle.theorems.specs.Calls.{ListCall, shown}
 use Rattle.theorems.specs.Between.{ListGiven, NoGainShown}
 use Rattle.theorems.specs.ReadingLaws.{refusal-number}
-use Rattle.theorems.specs.TextGain.{bidders-same, rows-same}
+use Rattle.theorems.specs.TextGainLaws.{bidders-same, rows-same}
 use Rattle.theorems.specs.ListRead.{rowShown}
-use Rattle.theorems.specs.ListShows.{refused-row, row-shown}
+use Rattle.theorems.specs.ShownLaws.{refused-row, row-shown}
 use Rattle.theorems.specs.PaidLaws.{cents-small, loser-none, bidder-once, bidder-small, prices-sum, minutes-few}
 
 -- of each bid of an accepted text the list shows the row that the award gave it

@@ -25,7 +25,7 @@ use Rattle.award_check.specs.Cells.{noRow}
 use Rattle.award_check.specs.Alike.{named}
 use Rattle.award.specs.Promise.{toldAward, Promise}
 use Rattle.award.specs.Right as right
-use Rattle.award.specs.TextOutcomes.{honest-texts}
+use Rattle.award.specs.TextOutcomeLaws.{honest-texts}
 use Rattle.theorems.specs.Calls.{ReadCall, AwardCall}
 use Rattle.theorems.specs.Between.{Follows, SameAward, NoGainBetween}
 

@@ -31,7 +31,7 @@ use Rattle.listing.specs.Lines.{awardWord, awardLine}
 use Rattle.listing.specs.List.{listLines, listOf}
 use Rattle.listing.specs.ListLaws.{listed-is}
 use Rattle.theorems.specs.ReadingLaws.{refusal-number}
-use Rattle.theorems.specs.ListShows.{first-number}
+use Rattle.theorems.specs.ShownLaws.{first-number}
 use Rattle.theorems.specs.Calls.{ListCall, shown}
 use Rattle.theorems.specs.Between.{Showable, OneList, list-written, list-too-long}
 
