@@ -13,7 +13,7 @@ use Rattle.tender.specs.declared.AwardRow.{AwardRow}
 use Rattle.award_plain.specs.Award.{Outcome, awarded, refused}
 use Rattle.award.specs.Gain.{lost}
 use Rattle.spelling.specs.Lines.{pairLine, kindWord, refusedWord}
-use Rattle.spelling.specs.LineLaws.{kind-short, pair-short, pair-some}
+use Rattle.spelling.specs.LineLaws.{kind-short, pair-short, pair-some, refusal-few}
 use Rattle.listing.specs.Lines.{awardWord, winWord, totalWord, winLine, winLines, awardLine}
 use Rattle.listing.specs.List.{winList, listLines}
 
@@ -83,5 +83,4 @@ win-lines-short bids won cents (suc n) = omega (
 )
 
 pub refusal-short : (n at : ℕ) → length (pairLine refusedWord n at) ≤ 51200
-unfolding refusedWord bytes
-refusal-short n at = omega (arith, pair-short (114 ∷ 101 ∷ 102 ∷ 117 ∷ 115 ∷ 101 ∷ 100 ∷ []) n at)
+refusal-short n at = omega (arith, refusal-few n at)

@@ -1,23 +1,17 @@
 -- The list of the award to the tables that were read is the list of the text. Assumes nothing.
-use mathlib.Core.Path.{_≡_, refl, sym, ap, _∙_}
+use mathlib.Core.Path.{_≡_, refl, ap}
 use mathlib.Core.List.{List, _++_}
-use Prim.Native.Nat.{ℕ, _*_, _/_, _≤_, _<_}
+use Prim.Native.Nat.{ℕ, _≤_, _<_}
 use native.Mathlib.Omega.{arith}
-use lib.ListN.{length, take, drop}
+use lib.ListN.{length, take}
 use Rattle.tender.specs.declared.Tender.{Tender}
 use Rattle.tender.specs.declared.Totals.{Totals}
 use Rattle.tender.specs.declared.Refusal.{Refusal}
 use Rattle.tender.specs.Refusals.{numberOf, placeOf}
-use Rattle.tender.specs.declared.Window.{Window}
-use Rattle.tender.specs.Tables.{Row, flatRows, flatWindows}
-use Rattle.reader.specs.declared.Reading.{Reading}
-use Rattle.reader.specs.declared.Reading.the-variants as answer
-use Rattle.reader.specs.Read.{accepted, readText, readInto}
+use Rattle.reader.specs.Read.{accepted, readText}
 use Rattle.reader.specs.Read as reading
-use Rattle.reader.specs.Answer.{filled, declined, toldReading, summary, bidsAfter, windowsAfter}
-use Rattle.reader.specs.CountLaws.{counts-law}
-use Rattle.reader.specs.SizeLaws.{fits-law}
 use Rattle.reader.specs.RulesLaws.{rules-law}
+use Rattle.reader.specs.ReadInLaws.{ReadIn}
 use Rattle.tender.specs.declared.Answer.{Answer}
 use Rattle.tender.specs.declared.Answer.the-variants.{Awarded, Refused}
 use Rattle.award_plain.specs.Plain.{PlainPromise}
@@ -62,59 +56,6 @@ module _ {t : Tender} {n lent : ℕ} {bids windows ow oc won cents old new : Lis
     promise = p;
     written = rw e w;
   }
-
--- what an accepted text left in the tables
-pub record ReadIn (text bids windows : List ℕ) (t : Tender) (n : ℕ) : Type 0 where
-  pub rows : List Row
-  pub spans : List Window
-  pub past-rows : List ℕ
-  pub past-spans : List ℕ
-  pub is : readText text ≡ accepted t rows spans
-  pub count : length rows ≡ n
-  pub bids-are : bids ≡ flatRows rows ++ past-rows
-  pub windows-are : windows ≡ flatWindows spans ++ past-spans
-
--- a reading into tables of 1,000 and 11,000 rows
-module _ (text ob ow : List ℕ) (room-b : length ob ≡ 4000) (room-w : length ow ≡ 22000) where
-  whole : readInto text (length ob / 4) (length ow / 2) ≡ readText text
-  whole = rw (room-b, room-w) (fits-law text 1000 11000 (omega arith) (omega arith))
-
-  pub accepted-read : {nb nw : List ℕ} {r : Reading} (t : Tender) (n m : ℕ)
-      → toldReading r ≡ summary (readInto text (length ob / 4) (length ow / 2)) →
-      nb ≡ bidsAfter ob (readInto text (length ob / 4) (length ow / 2))
-      → nw ≡ windowsAfter ow (readInto text (length ob / 4) (length ow / 2)) → r ≡ answer.Accepted t n m → ReadIn text nb nw t n
-  unfolding bidsAfter windowsAfter
-  accepted-read {nb} {nw} {r} t n m a b w e = go (readText text) refl (sym (ap toldReading e) ∙ a ∙ ap summary whole)
-      (b ∙ ap (bidsAfter ob) whole) (w ∙ ap (windowsAfter ow) whole)
-    where
-      go : (o : reading.ReadOutcome) → readText text ≡ o → filled t n m ≡ summary o → nb ≡ bidsAfter ob o
-          → nw ≡ windowsAfter ow o
-          → ReadIn text nb nw t n
-      go (reading.refused k at) h x y z = let f : _≡_ {A = ℕ} 0 1 = cc in absurd (omega arith)
-      go (accepted u R W) h x y z = record {
-        rows = R;
-        spans = W;
-        past-rows = drop (4 * length R) ob;
-        past-spans = drop (2 * length W) ow;
-        is = h ∙ ap (λ v. accepted v R W) (cc);
-        count = cc;
-        bids-are = y;
-        windows-are = z;
-      }
-
-  pub refused-read : {nb nw : List ℕ} {r : Reading} (q : Refusal)
-      → toldReading r ≡ summary (readInto text (length ob / 4) (length ow / 2)) →
-      nb ≡ bidsAfter ob (readInto text (length ob / 4) (length ow / 2))
-      → nw ≡ windowsAfter ow (readInto text (length ob / 4) (length ow / 2)) → r ≡ answer.Refused q
-      → readText text ≡ reading.refused (numberOf q) (placeOf q)
-  refused-read {nb} {nw} {r} q a b w e = go (readText text) (sym (ap toldReading e) ∙ a ∙ ap summary whole)
-    where
-      go : (o : reading.ReadOutcome) → declined (numberOf q) (placeOf q) ≡ summary o → o ≡ reading.refused (numberOf q) (placeOf q)
-      go (reading.refused k at) x = cc
-      go (accepted u R W) x = let f : _≡_ {A = ℕ} 0 1 = cc in absurd (omega arith)
-
-pub few-read : {text bids windows : List ℕ} {t : Tender} {n : ℕ} → ReadIn text bids windows t n → n ≤ 1000
-few-read {text} {bids} {windows} {t} {n} h = omega (arith, h .count, counts-law t (h .rows) (h .spans) text (h .is) .0)
 
 -- so the list is made
 pub made-award : {text bids windows old new : List ℕ} {t : Tender} {n f : ℕ} → ReadIn text bids windows t n

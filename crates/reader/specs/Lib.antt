@@ -18,3 +18,4 @@ pub mod StoreLaws
 pub mod TableLaws
 pub mod TakesLaws
 pub mod WholeLaws
+pub mod ReadInLaws

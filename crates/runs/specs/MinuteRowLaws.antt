@@ -133,16 +133,16 @@ module _ (windows : List ℕ) (first count j : ℕ) (row : List ℕ) (g : Adding
       ap (λ (c : ℕ). windowsOf c (drop (2 * (first + j)) windows)) d ∙ windows-step (count - (j + 1)) (first + j) windows
       ∙ ap (λ (i : ℕ). record { start = starts-at; end = ends-at } ∷ windowsOf (count - (j + 1)) (drop (2 * i) windows)) e
 
-  pub adding-goes : (new : List ℕ) → j < count → length new ≡ length row → RangeAdded starts-at ends-at row new
-      → Adding windows first count (j + 1) new
+  pub adding-goes : (new : List ℕ) {s e : ℕ} → j < count → length new ≡ length row → RangeAdded s e row new
+      → s ≡ starts-at → e ≡ ends-at → Adding windows first count (j + 1) new
   unfolding holds
-  adding-goes new l n f = record {
+  adding-goes new l n f a b = record {
     wide = n ∙ g .wide;
     inside = omega arith;
     lawful = tested l .1;
     sets = λ x.
         let later = holds (windowsOf (count - (j + 1)) (drop (2 * (first + (j + 1))) windows)) x in
-        ap (λ b. b || later) (added starts-at ends-at row new f x)
+        ap (λ b. b || later) (added starts-at ends-at row new (rw (← a, ← b) f) x)
         ∙ or-assoc (eqb (cell row x) 1) (leb starts-at x && ltb x ends-at) later
         ∙ ap (λ ws. eqb (cell row x) 1 || holds ws x) (sym (left l)) ∙ g .sets x;
   }

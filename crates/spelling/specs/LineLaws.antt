@@ -9,7 +9,7 @@ use Rattle.tender.specs.declared.Kind.{Kind}
 use Rattle.tender.specs.declared.Kind.the-variants.{Single, Multi}
 use Rattle.tender.specs.Keywords.{bytes, singleWord, multiWord}
 use Rattle.spelling.specs.Decimal.{digitsBefore, decimal}
-use Rattle.spelling.specs.Lines.{closing, numbers, pairLine, kindWord}
+use Rattle.spelling.specs.Lines.{closing, numbers, pairLine, kindWord, refusedWord}
 
 short : (f n : ℕ) (done : List ℕ) → length (digitsBefore f n done) ≤ f + length done
 unfolding digitsBefore
@@ -47,3 +47,7 @@ pair-short word a b = omega (arith, numbers-short a b, length-append (40 ∷ [])
 pub pair-some : (word : List ℕ) (a b : ℕ) → 0 < length (pairLine word a b)
 unfolding pairLine
 pair-some word a b = omega (arith, length-append (40 ∷ []) word, length-append ((40 ∷ []) ++ word) (numbers a b))
+
+pub refusal-few : (n at : ℕ) → length (pairLine refusedWord n at) ≤ 52
+unfolding refusedWord bytes
+refusal-few n at = omega (arith, pair-short (114 ∷ 101 ∷ 102 ∷ 117 ∷ 115 ∷ 101 ∷ 100 ∷ []) n at)

@@ -1,9 +1,9 @@
--- Each refusal's number and place (paper 01, "What each operation declines").
+-- Each refusal's number and place (paper 01, "What each operation declines"). 13, a list longer than the buffer, is told by a length of 0.
 use Prim.Native.Nat.{ℕ}
 use Rattle.tender.specs.declared.Refusal.{Refusal}
 use Rattle.tender.specs.declared.Refusal.the-variants.{TextTooLong, BadForm, OutsideLimits, TooMany, BadWindow, BidderRepeated}
 use Rattle.tender.specs.declared.Refusal.the-variants.{SeveralWindows, TableTooShort, BadTables, RowsTooFew, MinuteUncovered}
-use Rattle.tender.specs.declared.Refusal.the-variants.{OneBidder}
+use Rattle.tender.specs.declared.Refusal.the-variants.{OneBidder, NoRoom}
 
 abbrev pub numberOf : Refusal → ℕ
 -- Reading: a text above 65,536 bytes; a line that is not of the form; a bidder or price outside its limits; a 1,001st bid or
@@ -22,6 +22,8 @@ numberOf (BadTables row) = 9
 numberOf RowsTooFew = 10
 numberOf (MinuteUncovered minute) = 11
 numberOf (OneBidder minute) = 12
+-- Writing: a text above 65,536 bytes, or one that the lent buffer has no room for
+numberOf NoRoom = 14
 
 abbrev pub placeOf : Refusal → ℕ
 placeOf TextTooLong = 0
@@ -36,3 +38,4 @@ placeOf (BadTables row) = row
 placeOf RowsTooFew = 0
 placeOf (MinuteUncovered minute) = minute
 placeOf (OneBidder minute) = minute
+placeOf NoRoom = 0

@@ -49,6 +49,7 @@ pub enum Refusal {
     RowsTooFew,
     MinuteUncovered { minute: u64 },
     OneBidder { minute: u64 },
+    NoRoom,
 }
 
 // What an award answers: the totals, or why it declines.
@@ -101,6 +102,7 @@ pub fn number(r: Refusal) -> u64
         Refusal::RowsTooFew => 10,
         Refusal::MinuteUncovered { minute: _ } => 11,
         Refusal::OneBidder { minute: _ } => 12,
+        Refusal::NoRoom => 14,
     }
 }
 
@@ -121,5 +123,6 @@ pub fn place(r: Refusal) -> u64
         Refusal::RowsTooFew => 0,
         Refusal::MinuteUncovered { minute } => minute,
         Refusal::OneBidder { minute } => minute,
+        Refusal::NoRoom => 0,
     }
 }

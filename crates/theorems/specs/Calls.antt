@@ -14,6 +14,9 @@ use Rattle.award_plain.specs.Award.{Outcome}
 use Rattle.award_plain.specs.Plain.{toldIn, PlainPromise}
 use Rattle.award.specs.Promise.{toldAward, Promise}
 use Rattle.listing.specs.List.{Listed}
+use Rattle.writer.specs.declared.Writing.{Writing}
+use Rattle.writer.specs.Canonical.{Writes}
+use Rattle.rewrite.specs.Rewritten.{Rewritten}
 
 -- the text and the tables lent to `read`, the tables that it left and what it answered
 pub record ReadRun : Type 0 where
@@ -80,3 +83,26 @@ pub record ListCall : Type 0 where
 -- the bytes that it wrote
 abbrev pub shown : ListCall → List ℕ
 shown l = take (l .answer) (l .buffer-after)
+
+-- `write`
+pub record WriteCall : Type 0 where
+  pub tender : Tender
+  pub count : ℕ
+  pub bids : List ℕ
+  pub windows : List ℕ
+  pub buffer : List ℕ
+  pub buffer-after : List ℕ
+  pub answer : Writing
+  pub promise : Writes tender count bids windows buffer buffer-after answer
+
+-- `tender_rewrite`, from C too
+pub record RewriteCall : Type 0 where
+  pub text : List ℕ
+  pub buffer : List ℕ
+  pub buffer-after : List ℕ
+  pub answer : ℕ
+  pub promise : Rewritten text buffer buffer-after answer
+
+-- the bytes that it wrote
+abbrev pub rewritten : RewriteCall → List ℕ
+rewritten l = take (l .answer) (l .buffer-after)

@@ -45,7 +45,7 @@ use Rattle.theorems.specs.Between.{NoGainBetween, OneList}
 use Rattle.theorems.specs.Between.{ListGiven, NoGainShown, Showable}
 use Rattle.theorems.specs.ReadingLaws as reading
 use Rattle.spelling.specs.DecimalLaws.{decimal-back}
-use Rattle.theorems.specs.TextOfLaws.{spelt-again}
+use Rattle.writer.specs.SpeltLaws.{spelt-again}
 use Rattle.theorems.specs.ReadAgainLaws.{read-again}
 use Rattle.theorems.specs.VariedLaws.{varied}
 use Rattle.theorems.specs.TextGainLaws.{no-gain-read}

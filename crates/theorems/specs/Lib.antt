@@ -4,7 +4,6 @@ pub mod ListRead
 pub mod Between
 pub mod WorkedCases
 pub mod ReadingLaws
-pub mod TextOfLaws
 pub mod ReadAgainLaws
 pub mod VariedLaws
 pub mod TextGainLaws

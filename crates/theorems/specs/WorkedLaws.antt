@@ -13,7 +13,7 @@ use Rattle.reader_line.specs.Words.{sameBytes}
 use Rattle.reader.specs.Read.{ReadOutcome, accepted, refused, readText}
 use Rattle.award_check.specs.Cells.{noRow, cellsOf, hasOf, pricesOf}
 use Rattle.listing.specs.List.{listOf}
-use Rattle.theorems.specs.TextOfLaws.{same-is}
+use Rattle.writer.specs.SpeltLaws.{same-is}
 use Rattle.theorems.specs.WorkedCases.{Case, third, cases}
 
 -- the list is the one defined

@@ -1,6 +1,7 @@
 -- The tables suffice, so the text is read or refused as its definition says; then its award or its refusal is written. Assumes nothing.
 use native.Mathlib.Omega.{arith}
-use Rattle.listing.specs.MakingLaws.{accepted-read, refused-read, few-read, made-award, made-refusal}
+use Rattle.reader.specs.ReadInLaws.{accepted-read, refused-read, few-read}
+use Rattle.listing.specs.MakingLaws.{made-award, made-refusal}
 use borrow.Author.Needs.{needs}
 use Rattle.listing.proofs.make.Statement.{statement}
 use Rattle.listing.proofs.make.Tie as tie

@@ -1,6 +1,6 @@
 -- `runs::add_windows` meets its contract: the row has the minutes of the windows passed. Assumes nothing.
 use Prim.Native.Nat.{_-_}
-use mathlib.Core.Path.{sym, _∙_}
+use mathlib.Core.Path.{refl, sym, _∙_}
 use native.Mathlib.Omega.{arith}
 use Rattle.runs.specs.MinuteRowLaws.{Adding, adding-begins, adding-order, adding-week, adding-goes, adding-ends}
 use Rattle.runs.proofs.add_windows.Statement.{statement}
@@ -64,7 +64,7 @@ loop-again c =
     let c7 = c6 .before in
     let args = c7 .before .before .before .args in
     adding-goes (args .windows .now) (args .first) (args .count) (c7 .loop .j) (c7 .loop .row) (c7 .loop .inv) (c2 .add-range .last .0)
-    (c6 .loop-test .taken) (c2 .add-range .kept .0) (c2 .add-range .ensures)
+    (c6 .loop-test .taken) (c2 .add-range .kept .0) (c2 .add-range .ensures) refl refl
 
 same-length : tie.Need-same-length Inv-loop μ-loop
 same-length c = c .before .loop .inv .wide ∙ sym (c .before .before .before .before .pre .1 .1 .wide)

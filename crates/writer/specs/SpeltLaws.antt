@@ -1,20 +1,20 @@
 -- An accepted text is the text spelt again from what was read. Assumes nothing.
 use mathlib.Core.Path.{_≡_, refl, sym, ap, _∙_}
 use mathlib.Core.Bool.{Bool, true, false, cond}
-use mathlib.Core.List.{List, [], _∷_, _++_, map, append-assoc}
+use mathlib.Core.List.{List, [], _∷_, _++_, map, append-assoc, append-nil}
 use mathlib.Core.Option.{Option, none, some}
-use Prim.Native.Nat.{ℕ, zero, suc, _+_, _*_, _≤_}
+use Prim.Native.Nat.{ℕ, _+_, _≤_}
 use native.Mathlib.Omega.{arith}
-use lib.ListN.{length, take, drop, length-drop}
+use lib.ListN.{length, take, drop}
 use lib.Dec.{eqb}
 use borrow.Author.Tests.{eqb-true}
-use lib.Seq.{take-append-seam, drop-append-seam, drop-drop, length-take-le}
+use lib.Seq.{take-append-seam, drop-append-seam, drop-drop}
 use Rattle.tender.specs.declared.Kind.{Kind}
 use Rattle.tender.specs.declared.Kind.the-variants.{Single, Multi}
 use Rattle.tender.specs.declared.Window.{Window}
 use Rattle.tender.specs.declared.Tender.{Tender}
 use Rattle.tender.specs.Keywords.{tenderWord, bidWord, singleWord, multiWord}
-use Rattle.tender.specs.Tables.{Row, windowsOf, own, flatWindows}
+use Rattle.tender.specs.Tables.{Row, flatWindows}
 use Rattle.reader_line.specs.Words.{andThen, growFirst, cut, sameBytes, opened, closed, numeralOf, priceOf}
 use Rattle.reader_line.specs.Line.{BidLine, Line, tender, bid, kindOf, spanOf, windowOf, windowsIn, tenderOf, bidOf, lineOfWords, lineOf}
 use Rattle.reader_line.specs.Line.{linesOf}
@@ -23,12 +23,12 @@ use Rattle.reader.specs.Read.{accepted, rowsFrom, allWindows, bidsOf, tables, r
 use Rattle.reader.specs.Rules.{RowsRules}
 use Rattle.reader.specs.RulesLaws.{rules-law}
 use Rattle.reader.specs.ReadLaws.{never, read-lines, checked-bids, begun}
-use Rattle.award_check.specs.TextLaws.{rows-end}
 use Rattle.spelling.specs.Decimal.{decimal}
 use Rattle.spelling.specs.Lines.{kindWord}
 use Rattle.spelling.specs.Text.{bidText, tenderText, bidsText, textOf, bidIn}
 use Rattle.spelling.specs.DecimalLaws.{numeral-spelling}
 use Rattle.spelling.specs.WordLaws.{spaced, ended, tenderWords, windowWords, bidWords, bid-line, tender-line}
+use Rattle.writer.specs.OwnLaws.{bids-read}
 
 -- pieces joined again
 
@@ -192,7 +192,7 @@ kind-is w k h = go (sameBytes w singleWord) (sameBytes w multiWord) refl refl h
 -- lines
 
 -- the words of a line that was read
-abbrev wordsOf : Line → List (List ℕ)
+abbrev pub wordsOf : Line → List (List ℕ)
 wordsOf (tender t) = tenderWords t
 wordsOf (bid b) = bidWords (b .bidder) (b .price) (b .windows)
 
@@ -274,7 +274,73 @@ lines-of t bs = ap {B = List (Option Line)} (λ l. some (tender t) ∷ l) (go bs
     go [] = refl
     go (b ∷ bs) = ap {B = List (Option Line)} (λ l. some (bid b) ∷ l) (go bs)
 
--- the windows of a row
+-- the bids whose lines an accepted text has after its tender's, and whose rows and windows it fills into the tables
+pub record Spelt (text : List ℕ) (T : Tender) (R : List Row) (W : List Window) : Type 0 where
+  pub bids : List BidLine
+  pub rows : R ≡ rowsFrom 0 bids
+  pub windows : W ≡ allWindows bids
+  pub lines : text ≡ ended (spaced (tenderWords T) ∷ map (λ x. spaced (wordsOf x)) (map (λ b. bid b) bids))
+
+pub spelt-lines : (text : List ℕ) (T : Tender) (R : List Row) (W : List Window) → readText text ≡ accepted T R W → Spelt text T R W
+unfolding readLines
+spelt-lines text T R W e = go (linesOf (cut 10 text)) refl (cut-some 10 text) (read-lines T R W text e)
+  where
+    go : (ls : List (Option Line)) → linesOf (cut 10 text) ≡ ls → Pieces (cut 10 text) → readLines ls ≡ accepted T R W
+        → Spelt text T R W
+    go [] q c x = never x
+    go (l ∷ ls) q c x =
+        let g = begun T R W l ls x in
+        let h = checked-bids T R W (T .kind) 2 [] ls (tables T (bidsOf ls)) (g .sound) in
+        let bs = bidsOf ls in
+        let m : linesOf (c .first ∷ c .rest) ≡ some (tender T) ∷ map (λ b. some (bid b)) bs = ap linesOf (sym (c .are)) ∙ q
+        ∙ ap (λ o. o ∷ ls) (g .first) ∙ ap {B = List (Option Line)} (λ r. some (tender T) ∷ r) h in
+        record {
+          bids = bs;
+          rows = g .rows;
+          windows = g .windows;
+          lines = sym (joined-cut 10 text) ∙ ap (joined 10) (c .are)
+              ∙ pieces-are (c .first) (c .rest) (tender T ∷ map (λ b. bid b) bs) (m ∙ lines-of T bs);
+        }
+
+-- a bid's words are its bytes, where it has a window
+words-bytes : (n p : ℕ) (ws : List Window) → 1 ≤ length ws
+    → spaced (bidWords n p ws) ++ 10 ∷ [] ≡ bidText (record { bidder = n; price = p; windows = ws })
+words-bytes n p [] l = absurd (omega arith)
+words-bytes n p (w ∷ ws) l = sym (bid-line n p w ws)
+
+bids-bytes : (k : Kind) (used : List ℕ) (at : ℕ) (bs : List BidLine) (end : ℕ) → RowsRules k used at (rowsFrom at bs) end
+    → ended (map (λ x. spaced (wordsOf x)) (map (λ b. bid b) bs)) ≡ bidsText bs
+unfolding ended bidsText rowsFrom
+bids-bytes k used at [] end h = refl
+bids-bytes k used at (b ∷ bs) end (h, hs) =
+    let rest = ended (map (λ x. spaced (wordsOf x)) (map (λ b. bid b) bs)) in
+    sym (append-assoc (spaced (bidWords (b .bidder) (b .price) (b .windows))) (10 ∷ []) rest)
+    ∙ ap (λ l. l ++ rest) (words-bytes (b .bidder) (b .price) (b .windows) (h .some-window))
+    ∙ ap (λ l. bidText b ++ l) (bids-bytes k (used ++ b .bidder ∷ []) (at + length (b .windows)) bs end hs)
+
+-- the bids of the rows, whatever stands past the windows
+pub bids-of : (text : List ℕ) (T : Tender) (R : List Row) (W : List Window) (w : List ℕ) (s : Spelt text T R W)
+    → map (bidIn (flatWindows W ++ w)) R ≡ s .bids
+bids-of text T R W w s =
+    ap (λ (u : List Window). map (bidIn (flatWindows u ++ w)) R) (s .windows)
+    ∙ ap (map (bidIn (flatWindows (allWindows (s .bids)) ++ w))) (s .rows)
+    ∙ bids-read 0 (flatWindows (allWindows (s .bids)) ++ w) w (s .bids) refl
+
+-- No bid is dropped or shortened: an accepted text is the one spelt from its tender, rows and windows.
+pub spelt-again : (text : List ℕ) (T : Tender) (R : List Row) (W : List Window) → readText text ≡ accepted T R W
+    → text ≡ textOf T (map (bidIn (flatWindows W)) R)
+unfolding textOf ended
+spelt-again text T R W e =
+    let s = spelt-lines text T R W e in
+    let rest = ended (map (λ x. spaced (wordsOf x)) (map (λ b. bid b) (s .bids))) in
+    s .lines
+    ∙ sym (append-assoc (spaced (tenderWords T)) (10 ∷ []) rest)
+    ∙ ap (λ l. l ++ rest) (sym (tender-line T))
+    ∙ ap (λ l. tenderText T ++ l) (bids-bytes (T .kind) [] 0 (s .bids) (length W) (rw (s .rows) at (rules-law T R W text e .rows)))
+    ∙ ap (textOf T) (sym (bids-of text T R W [] s) ∙ ap (λ ws. map (bidIn ws) R) (append-nil (flatWindows W)))
+
+-- the same by the words of each row
+
 abbrev pub spansOf : List Window → Row → List Window
 spansOf W r = take (r .count) (drop (r .first) W)
 
@@ -282,12 +348,10 @@ unfoldable pub rowLine : List Window → Row → List ℕ
 unfolding spaced bidWords
 rowLine W r = spaced (bidWords (r .bidder) (r .price) (spansOf W r))
 
--- the words of the tender's line, and those of each row
 unfoldable pub spacedText : Tender → List Row → List Window → List ℕ
 unfolding spaced ended tenderWords rowLine
 spacedText T R W = ended (spaced (tenderWords T) ∷ map (rowLine W) R)
 
--- the rows spell the bids' lines
 rows-spell : (at : ℕ) (bs : List BidLine) (W : List Window) → drop at W ≡ allWindows bs
     → map (rowLine W) (rowsFrom at bs) ≡ map (λ x. spaced (wordsOf x)) (map (λ b. bid b) bs)
 unfolding rowsFrom allWindows rowLine
@@ -299,77 +363,10 @@ rows-spell at (b ∷ bs) W e =
     sym (drop-drop (length (b .windows)) at W) ∙ ap (drop (length (b .windows))) e ∙ drop-append-seam (b .windows) (allWindows bs) in
     rw (w, rows-spell (at + length (b .windows)) bs W d)
 
--- an accepted text has the words of its tender, rows and windows
 pub spelt-words : (text : List ℕ) (T : Tender) (R : List Row) (W : List Window) → readText text ≡ accepted T R W
     → text ≡ spacedText T R W
-unfolding readLines spacedText
-spelt-words text T R W e = go (linesOf (cut 10 text)) refl (cut-some 10 text) (read-lines T R W text e)
-  where
-    go : (ls : List (Option Line)) → linesOf (cut 10 text) ≡ ls → Pieces (cut 10 text) → readLines ls ≡ accepted T R W
-        → text ≡ spacedText T R W
-    go [] q c x = never x
-    go (l ∷ ls) q c x =
-        let g = begun T R W l ls x in
-        let h = checked-bids T R W (T .kind) 2 [] ls (tables T (bidsOf ls)) (g .sound) in
-        let bs = bidsOf ls in
-        let m : linesOf (c .first ∷ c .rest) ≡ some (tender T) ∷ map (λ b. some (bid b)) bs = ap linesOf (sym (c .are)) ∙ q
-        ∙ ap (λ o. o ∷ ls) (g .first) ∙ ap {B = List (Option Line)} (λ r. some (tender T) ∷ r) h in
-        sym (joined-cut 10 text) ∙ ap (joined 10) (c .are)
-        ∙ pieces-are (c .first) (c .rest) (tender T ∷ map (λ b. bid b) bs) (m ∙ lines-of T bs)
-        ∙ ap (λ r. ended (spaced (tenderWords T) ∷ r)) (sym (rows-spell 0 bs W (g .windows)) ∙ ap (map (rowLine W)) (sym (g .rows)))
-
--- the rows' own windows are those that stand in the table
-drop-flat : (n : ℕ) (W : List Window) → drop (2 * n) (flatWindows W) ≡ flatWindows (drop n W)
-unfolding flatWindows
-drop-flat zero W = refl
-drop-flat (suc n) [] = let e : 2 * suc n ≡ suc (suc (2 * n)) = omega arith in ap (λ (m : ℕ). drop {A = ℕ} m []) e
-drop-flat (suc n) (w ∷ W) =
-    let e : 2 * suc n ≡ suc (suc (2 * n)) = omega arith in
-    ap (λ (m : ℕ). drop m (w .start ∷ w .end ∷ flatWindows W)) e ∙ drop-flat n W
-
-windows-taken : (n : ℕ) (W : List Window) → n ≤ length W → windowsOf n (flatWindows W) ≡ take n W
-unfolding windowsOf flatWindows
-windows-taken zero W l = refl
-windows-taken (suc n) [] l = absurd (omega arith)
-windows-taken (suc n) (w ∷ W) l = ap (λ r. w ∷ r) (windows-taken n W (omega arith))
-
-own-taken : (W : List Window) (r : Row) → r .first + r .count ≤ length W → own (flatWindows W) r ≡ spansOf W r
-unfolding own
-own-taken W r l = ap (windowsOf (r .count)) (drop-flat (r .first) W)
-    ∙ windows-taken (r .count) (drop (r .first) W) (omega (arith, length-drop (r .first) W))
-
--- a row's words are its bid's bytes
-words-bytes : (n p : ℕ) (ws : List Window) → 1 ≤ length ws
-    → spaced (bidWords n p ws) ++ 10 ∷ [] ≡ bidText (record { bidder = n; price = p; windows = ws })
-words-bytes n p [] l = absurd (omega arith)
-words-bytes n p (w ∷ ws) l = sym (bid-line n p w ws)
-
-row-bytes : (W : List Window) (r : Row) → 1 ≤ r .count → r .first + r .count ≤ length W
-    → rowLine W r ++ 10 ∷ [] ≡ bidText (bidIn (flatWindows W) r)
-unfolding rowLine bidIn
-row-bytes W r c l =
-    let m : length (spansOf W r) ≡ r .count = length-take-le (r .count) (drop (r .first) W) (omega (arith, length-drop (r .first) W)) in
-    words-bytes (r .bidder) (r .price) (spansOf W r) (omega (arith, c, m))
-    ∙ ap (λ ws. bidText (record { bidder = r .bidder; price = r .price; windows = ws })) (sym (own-taken W r l))
-
-rows-bytes : (k : Kind) (used : List ℕ) (at : ℕ) (W : List Window) (R : List Row) → RowsRules k used at R (length W)
-    → ended (map (rowLine W) R) ≡ bidsText (map (bidIn (flatWindows W)) R)
-unfolding ended bidsText
-rows-bytes k used at W [] h = refl
-rows-bytes k used at W (r ∷ R) (h, hs) =
-    let b = h .begins in
-    let c = h .some-window in
-    let u = rows-end k (used ++ r .bidder ∷ []) (at + r .count) R (length W) hs in
-    sym (append-assoc (rowLine W r) (10 ∷ []) (ended (map (rowLine W) R)))
-    ∙ ap (λ l. l ++ ended (map (rowLine W) R)) (row-bytes W r c (omega (arith, b, u)))
-    ∙ ap (λ l. bidText (bidIn (flatWindows W) r) ++ l) (rows-bytes k (used ++ r .bidder ∷ []) (at + r .count) W R hs)
-
--- No bid is dropped or shortened: an accepted text is the one spelt from its tender, rows and windows.
-pub spelt-again : (text : List ℕ) (T : Tender) (R : List Row) (W : List Window) → readText text ≡ accepted T R W
-    → text ≡ textOf T (map (bidIn (flatWindows W)) R)
-unfolding textOf spacedText ended
-spelt-again text T R W e =
-    spelt-words text T R W e
-    ∙ sym (append-assoc (spaced (tenderWords T)) (10 ∷ []) (ended (map (rowLine W) R)))
-    ∙ ap (λ l. l ++ ended (map (rowLine W) R)) (sym (tender-line T))
-    ∙ ap (λ l. tenderText T ++ l) (rows-bytes (T .kind) [] 0 W R (rules-law T R W text e .rows))
+unfolding spacedText
+spelt-words text T R W e =
+    let s = spelt-lines text T R W e in
+    s .lines ∙ ap (λ r. ended (spaced (tenderWords T) ∷ r))
+    (sym (rows-spell 0 (s .bids) W (s .windows)) ∙ ap (map (rowLine W)) (sym (s .rows)))

@@ -1,0 +1,114 @@
+-- Rows without a fault, their windows joined, are bids without a fault whose numbers a text may name. Assumes nothing.
+use mathlib.Core.Path.{_≡_, refl, sym, ap, _∙_}
+use mathlib.Core.Bool.{Bool, true, false, _&&_}
+use mathlib.Core.List.{List, [], _∷_, _++_}
+use mathlib.Core.Option.{none}
+use Prim.Native.Nat.{ℕ, _+_, _≤_, _<_}
+use native.Mathlib.Omega.{arith}
+use lib.ListN.{length, length-append}
+use lib.Dec.{leb, ltb}
+use borrow.Author.Tests.{leb-true, ltb-true, le-leb, lt-leb, le-ltb}
+use Rattle.tender.specs.declared.Kind.{Kind}
+use Rattle.tender.specs.declared.Kind.the-variants.{Single, Multi}
+use Rattle.tender.specs.declared.Window.{Window}
+use Rattle.tender.specs.Limits.{within, mostWindows, isSingle, lawful, allLawful}
+use Rattle.tender.specs.Tables.{Row, own}
+use Rattle.reader_line.specs.Words.{among}
+use Rattle.spelling.specs.Text.{bidIn}
+use Rattle.spelling.specs.WordLaws.{Named, AllNamed}
+use Rattle.spelling.specs.BackLaws.{Told, AllTold, asLines}
+use Rattle.reader.specs.Read.{ReadOutcome, bidFaultIn, bidFault, checked, lineJudged}
+use Rattle.cover.specs.SetLaws.{and-split}
+use Rattle.award_check.specs.Faults.{rowFault}
+use Rattle.runs.specs.Runs.{joined}
+use Rattle.runs.specs.JoinedLaws.{joined-lawful, joined-some}
+use Rattle.writer.specs.Canonical.{respelt, respeltIn}
+use Rattle.writer.specs.Same.{AllLawful}
+use Rattle.writer.specs.RowLaws.{Says, own-length, joined-count, most-few, split-fault}
+
+-- a text may name the numbers of lawful windows
+
+pub lawful-named : (w : Window) → lawful w ≡ true → Named w
+unfolding lawful
+lawful-named w e =
+    let b = and-split (ltb (w .start) (w .end)) (leb (w .end) 10080) e in
+    let l = ltb-true (w .start) (w .end) (b .0) in
+    let u = leb-true (w .end) 10080 (b .1) in
+    (omega arith, omega arith)
+
+pub all-named : (ws : List Window) → allLawful ws ≡ true → AllNamed ws
+unfolding allLawful
+all-named [] e = tt
+all-named (w ∷ ws) e = let a = and-split (lawful w) (allLawful ws) e in (lawful-named w (a .0), all-named ws (a .1))
+
+row-told : (k : Kind) (windows : List ℕ) (place : ℕ) (used : List ℕ) (r : Row) → Says k windows place used r
+    → Told (respelt (bidIn windows r))
+unfolding respelt bidIn
+row-told k windows place used r s = go (joined-some (own windows r) (s .all-lawful) (omega (arith, own-length windows r, s .some-window)))
+  where
+    go : (w : Window) × (vs : List Window) × (joined (own windows r) ≡ w ∷ vs) → Told (respelt (bidIn windows r))
+    go (w, vs, q) = (
+      omega (arith, s .bidder-high),
+      (omega (arith, s .price-high), (w, vs, q, all-named (w ∷ vs) (ap allLawful (sym q) ∙ joined-lawful (own windows r)))),
+    )
+
+-- the reader finds no fault in the row's bid
+
+single-one : (k : Kind) (n : ℕ) → n ≤ mostWindows k → isSingle k && ltb 1 n ≡ false
+unfolding mostWindows isSingle
+single-one Single n l = le-ltb 1 n l
+single-one Multi n l = refl
+
+no-fault : (k : Kind) (bids bidder price count : ℕ) (ok used : Bool) → bids < 1000 → count ≤ mostWindows k → 1 ≤ bidder
+    → bidder ≤ 999999 → price ≤ 100000000 → ok ≡ true → used ≡ false →
+    bidFaultIn k bids bidder price count ok used ≡ none
+unfolding bidFaultIn within
+no-fault k bids bidder price count ok used a b c d e f g = rw (
+  lt-leb 1000 bids a,
+  le-ltb 32 count (omega (arith, most-few k)),
+  le-leb 1 bidder c,
+  le-leb bidder 999999 d,
+  le-ltb 100000000 price e,
+  single-one k count b,
+  f,
+  g,
+)
+
+row-read : (k : Kind) (windows : List ℕ) (place : ℕ) (used : List ℕ) (r : Row) → Says k windows place used r
+    → place ≡ length used + 1 → bidFault k used (respelt (bidIn windows r)) ≡ none
+unfolding bidFault respelt bidIn
+row-read k windows place used r s p =
+    no-fault k (length used) (r .bidder) (r .price) (length (joined (own windows r))) (allLawful (joined (own windows r)))
+    (among (r .bidder) used)
+    (omega (arith, s .place-low)) (joined-count k windows place used r s) (s .bidder-low) (s .bidder-high) (s .price-high)
+    (joined-lawful (own windows r)) (s .bidder-new)
+
+-- all rows
+
+pub rows-told : (k : Kind) (windows : List ℕ) (place : ℕ) (used : List ℕ) (at : ℕ) (rs : List Row)
+    → rowFault k windows place used at rs ≡ none → AllTold (respeltIn windows rs)
+unfolding respeltIn
+rows-told k windows place used at [] e = tt
+rows-told k windows place used at (r ∷ rs) e =
+    let s = split-fault k windows place used at r rs e in
+    (row-told k windows place used r (s .0), rows-told k windows (place + 1) (used ++ r .bidder ∷ []) (at + r .count) rs (s .1))
+
+-- no line of the rows' bids is faulty
+pub rows-checked : (k : Kind) (windows : List ℕ) (place : ℕ) (used : List ℕ) (at line : ℕ) (rs : List Row) (out : ReadOutcome)
+    → rowFault k windows place used at rs ≡ none → place ≡ length used + 1 →
+    checked k line used (asLines (respeltIn windows rs)) out ≡ out
+unfolding checked asLines lineJudged respeltIn respelt bidIn
+rows-checked k windows place used at line [] out e p = refl
+rows-checked k windows place used at line (r ∷ rs) out e p =
+    let s = split-fault k windows place used at r rs e in
+    let later = checked k (line + 1) (used ++ r .bidder ∷ []) (asLines (respeltIn windows rs)) out in
+    ap (λ f. lineJudged f line later) (row-read k windows place used r (s .0) p)
+    ∙ rows-checked k windows (place + 1) (used ++ r .bidder ∷ []) (at + r .count) (line + 1) rs out (s .1)
+    (omega (arith, length-append used (r .bidder ∷ [])))
+
+pub row-lawful : (k : Kind) (windows : List ℕ) (place : ℕ) (used : List ℕ) (at : ℕ) (rs : List Row)
+    → rowFault k windows place used at rs ≡ none → AllLawful windows rs
+row-lawful k windows place used at [] e = tt
+row-lawful k windows place used at (r ∷ rs) e =
+    let s = split-fault k windows place used at r rs e in
+    (s .0 .all-lawful, row-lawful k windows (place + 1) (used ++ r .bidder ∷ []) (at + r .count) rs (s .1))

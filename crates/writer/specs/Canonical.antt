@@ -1,0 +1,65 @@
+-- The text of tables in one spelling (paper 02, request 2): each bid's windows joined where they overlap or touch, in rising order.
+use mathlib.Core.Path.{_≡_}
+use mathlib.Core.Bool.{cond}
+use mathlib.Core.List.{List, _++_, map}
+use mathlib.Core.Option.{Option, none, some}
+use Prim.Native.Nat.{ℕ, min}
+use lib.ListN.{length, drop}
+use lib.Dec.{leb}
+use Rattle.tender.specs.declared.Tender.{Tender}
+use Rattle.tender.specs.declared.Refusal.{Refusal}
+use Rattle.tender.specs.declared.Refusal.the-variants.{BadTables, NoRoom}
+use Rattle.tender.specs.Limits.{maxText}
+use Rattle.tender.specs.Tables.{Row, rowsOf}
+use Rattle.reader_line.specs.Line.{BidLine}
+use Rattle.spelling.specs.Text.{textOf, bidIn}
+use Rattle.award_check.specs.Faults.{faultOf}
+use Rattle.runs.specs.Runs.{joined}
+use Rattle.writer.specs.declared.Writing.{Writing}
+use Rattle.writer.specs.declared.Writing.the-variants.{Written, Refused}
+
+-- a bid with its windows joined
+unfoldable pub respelt : BidLine → BidLine
+unfolding joined
+respelt b = record { bidder = b .bidder; price = b .price; windows = joined (b .windows) }
+
+-- the bids of the rows, each respelt
+unfoldable pub respeltIn : List ℕ → List Row → List BidLine
+unfolding respelt bidIn
+respeltIn windows rows = map (λ r. respelt (bidIn windows r)) rows
+
+-- the text of these rows in one spelling
+unfoldable pub canonical : Tender → List Row → List ℕ → List ℕ
+unfolding textOf respeltIn
+canonical t rows windows = textOf t (respeltIn windows rows)
+
+-- what writing comes to: the text, or why it is declined
+pub data WriteOutcome : Type 0 where
+  spelt : List ℕ → WriteOutcome
+  unspelt : Refusal → WriteOutcome
+
+unfoldable pub unlessFault : Option ℕ → WriteOutcome → WriteOutcome
+unlessFault none out = out
+unlessFault (some row) out = unspelt (BadTables row)
+
+-- 9 as the award of the tender's own kind, then 14 where the text would pass 65,536 bytes or the lent room, else the text
+unfoldable pub writeInto : Tender → ℕ → List ℕ → List ℕ → ℕ → WriteOutcome
+unfolding faultOf rowsOf canonical unlessFault
+writeInto t n bids windows room =
+    let text = canonical t (rowsOf n bids) windows in
+    unlessFault (faultOf (t .kind) t n bids windows) (cond (leb (length text) (min maxText room)) (spelt text) (unspelt NoRoom))
+
+-- what is answered: the length or the refusal
+unfoldable pub writeAnswer : WriteOutcome → Writing
+writeAnswer (spelt text) = Written (length text)
+writeAnswer (unspelt q) = Refused q
+
+-- what the lent buffer then holds: the text and what stood past it, or what stood in it
+unfoldable pub bufferAfter : List ℕ → WriteOutcome → List ℕ
+bufferAfter old (spelt text) = text ++ drop (length text) old
+bufferAfter old (unspelt q) = old
+
+-- The promise of a call that was lent a buffer of the bytes `old`, left the bytes `new` and answered r
+pub record Writes (t : Tender) (n : ℕ) (bids windows old new : List ℕ) (r : Writing) : Type 0 where
+  pub answer : r ≡ writeAnswer (writeInto t n bids windows (length old))
+  pub bytes : new ≡ bufferAfter old (writeInto t n bids windows (length old))

@@ -1,0 +1,198 @@
+-- The lines of the bids put one after the other, and what they come to: the text, or too long a one. Assumes nothing.
+use mathlib.Core.Path.{_≡_, refl, sym, ap, subst, _∙_}
+use mathlib.Core.Logic.{_⊎_, inl, inr}
+use mathlib.Core.Bool.{cond}
+use mathlib.Core.List.{List, [], _∷_, _++_, map, append-assoc, append-nil}
+use mathlib.Core.Option.{Option, none, some}
+use Prim.Native.Nat.{ℕ, zero, suc, _+_, _*_, _≤_, _<_, min}
+use native.Mathlib.Numerals.{add-one}
+use native.Mathlib.Omega.{arith}
+use lib.ListN.{length, getD, take, drop, length-append}
+use lib.Seq.{take-length}
+use lib.Dec.{leb}
+use borrow.Author.Tests.{le-leb, lt-leb}
+use Rattle.tender.specs.declared.Tender.{Tender}
+use Rattle.tender.specs.declared.Refusal.the-variants.{BadTables, NoRoom}
+use Rattle.tender.specs.Tables.{Row, rowsOf, windowsOf, own}
+use Rattle.reader_line.specs.Line.{BidLine}
+use Rattle.spelling.specs.Text.{bidText, bidsText, tenderText, textOf, bidIn}
+use Rattle.spelling.specs.Written.{Written}
+use Rattle.spelling.specs.WritingLaws.{then, from-start}
+use Rattle.spelling.specs.SpellingLaws.{nothing-written}
+use Rattle.award_check.specs.Faults.{faultOf}
+use Rattle.award_check.specs.Cells.{noRow}
+use Rattle.award_check.specs.AlikeLaws.{rows-length}
+use Rattle.writer.specs.declared.Writing.{Writing}
+use Rattle.writer.specs.declared.Writing.the-variants as answer
+use Rattle.writer.specs.Canonical.{respelt, respeltIn, canonical, WriteOutcome, spelt, unspelt, unlessFault, writeInto, writeAnswer}
+use Rattle.writer.specs.Canonical.{bufferAfter, Writes}
+use Rattle.writer.specs.Filling.{SomeBids, SomeText}
+use Rattle.writer.specs.TableLaws.{row-at}
+
+-- ---- the lines of the first rows
+
+-- one line more
+lines-step : (f : Row → BidLine) (rows : List Row) (j : ℕ) → j < length rows
+    → bidsText (map f (take (suc j) rows)) ≡ bidsText (map f (take j rows)) ++ bidText (f (getD rows j noRow))
+unfolding bidsText
+lines-step f [] j l = absurd (omega arith)
+lines-step f (r ∷ rs) zero l = append-nil (bidText (f r))
+lines-step f (r ∷ rs) (suc j) l = ap (λ s. bidText (f r) ++ s) (lines-step f rs j (omega arith))
+    ∙ sym (append-assoc (bidText (f r)) (bidsText (map f (take j rs))) (bidText (f (getD rs j noRow))))
+
+pub bids-step : (windows : List ℕ) (rows : List Row) (j : ℕ) → j < length rows
+    → bidsText (respeltIn windows (take (suc j) rows))
+    ≡ bidsText (respeltIn windows (take j rows)) ++ bidText (respelt (bidIn windows (getD rows j noRow)))
+unfolding respeltIn
+bids-step windows rows j l = lines-step (λ r. respelt (bidIn windows r)) rows j l
+
+-- the first lines are no longer than all of them
+lines-part : (f : Row → BidLine) (rows : List Row) (j : ℕ)
+    → length (bidsText (map f (take j rows))) ≤ length (bidsText (map f rows))
+unfolding bidsText
+lines-part f rows zero = omega arith
+lines-part f [] (suc j) = omega arith
+lines-part f (r ∷ rs) (suc j) = omega (
+  arith,
+  length-append (bidText (f r)) (bidsText (map f (take j rs))),
+  length-append (bidText (f r)) (bidsText (map f rs)),
+  lines-part f rs j,
+)
+
+text-length : (t : Tender) (bs : List BidLine) → length (textOf t bs) ≡ length (tenderText t) + length (bidsText bs)
+unfolding textOf
+text-length t bs = length-append (tenderText t) (bidsText bs)
+
+pub text-part : (t : Tender) (rows : List Row) (windows : List ℕ) (j : ℕ)
+    → length (canonical t (take j rows) windows) ≤ length (canonical t rows windows)
+unfolding canonical
+text-part t rows windows j =
+    let f : Row → BidLine = λ r. respelt (bidIn windows r) in
+    omega (arith, text-length t (map f (take j rows)), text-length t (map f rows), lines-part f rows j)
+
+-- ---- the lines put one after the other
+
+-- the lines of the first j of n rows stand from `at` on, and end before `end`
+pub record BidsPut (windows : List ℕ) (rows : List Row) (old : List ℕ) (at n j : ℕ) (buf : List ℕ) (end : ℕ) : Type 0 where
+  pub inside : j ≤ n
+  pub written : Written old at (bidsText (respeltIn windows (take j rows))) buf end
+
+pub bids-begin : (windows : List ℕ) (rows : List Row) (old : List ℕ) (at n : ℕ) → BidsPut windows rows old at n 0 old at
+unfolding bidsText respeltIn
+bids-begin windows rows old at n = record { inside = omega arith; written = nothing-written old at }
+
+-- the line of the table's row j
+row-line : (n : ℕ) (bids windows : List ℕ) (j : ℕ) → j < n → respelt (bidIn windows (getD (rowsOf n bids) j noRow))
+    ≡ respelt (record {
+      bidder = getD bids (4 * j) 0;
+      price = getD bids (4 * j + 1) 0;
+      windows = windowsOf (getD bids (4 * j + 3) 0) (drop (2 * getD bids (4 * j + 2) 0) windows);
+    })
+unfolding bidIn own
+row-line n bids windows j l = ap (λ r. respelt (bidIn windows r)) (row-at n j bids l)
+
+module _ (n : ℕ) (bids windows old : List ℕ) (at : ℕ) where
+  pub bids-go : {mid new : List ℕ} {e f j : ℕ} → BidsPut windows (rowsOf n bids) old at n j mid e → j < n
+      → Written mid e (bidText (respelt (record {
+        bidder = getD bids (4 * j) 0;
+        price = getD bids (4 * j + 1) 0;
+        windows = windowsOf (getD bids (4 * j + 3) 0) (drop (2 * getD bids (4 * j + 2) 0) windows);
+      }))) new f → BidsPut windows (rowsOf n bids) old at n (j + 1) new f
+  bids-go {mid} {new} {e} {f} {j} h l w =
+      let s = ap (λ b. bidsText (respeltIn windows (take j (rowsOf n bids))) ++ bidText b) (sym (row-line n bids windows j l))
+      ∙ sym (bids-step windows (rowsOf n bids) j (omega (arith, rows-length n bids)))
+      ∙ ap (λ (m : ℕ). bidsText (respeltIn windows (take m (rowsOf n bids)))) (sym (add-one j)) in
+      record { inside = omega arith; written = subst (λ s. Written old at s new f) s (then (h .written) w) }
+
+module _ {windows : List ℕ} {rows : List Row} {old : List ℕ} {at n j : ℕ} {new : List ℕ} {end : ℕ}
+    (h : BidsPut windows rows old at n j new end) where
+  -- all lines are put
+  pub bids-end : n ≤ j → SomeBids windows rows old at n new end
+  bids-end l = record { lines = j; few = h .inside; written = h .written; all = inr (omega (arith, h .inside)) }
+
+  -- the text is too long already
+  pub bids-long : 65536 < end → SomeBids windows rows old at n new end
+  bids-long l = record { lines = j; few = h .inside; written = h .written; all = inl l }
+
+-- the tender's line before them
+pub some-text : {t : Tender} {windows : List ℕ} {rows : List Row} {old mid : List ℕ} {n : ℕ} {new : List ℕ} {e end : ℕ}
+    → Written old 0 (tenderText t) mid e → SomeBids windows rows mid e n new end → SomeText t windows rows old n new end
+unfolding canonical textOf
+some-text w b = record { lines = b .lines; few = b .few; written = then w (b .written); all = b .all }
+
+-- as many bytes as it answers
+pub some-length : {t : Tender} {windows : List ℕ} {rows : List Row} {old : List ℕ} {n : ℕ} {new : List ℕ} {end : ℕ}
+    → SomeText t windows rows old n new end → length (take end new) ≡ end
+some-length h = omega (arith, ap length (h .written .text), h .written .next)
+
+-- ---- what writing comes to
+
+module _ (t : Tender) (n : ℕ) (bids windows : List ℕ) (room : ℕ) where
+  abbrev whole : List ℕ
+  whole = canonical t (rowsOf n bids) windows
+
+  abbrev judged : Option ℕ → WriteOutcome
+  judged f = unlessFault f (cond (leb (length whole) (min 65536 room)) (spelt whole) (unspelt NoRoom))
+
+  into-nine : (row : ℕ) → faultOf (t .kind) t n bids windows ≡ some row
+      → writeInto t n bids windows room ≡ unspelt (BadTables row)
+  unfolding writeInto
+  into-nine row e = ap judged e
+
+  into-fourteen : faultOf (t .kind) t n bids windows ≡ none → min 65536 room < length whole
+      → writeInto t n bids windows room ≡ unspelt NoRoom
+  unfolding writeInto
+  into-fourteen e l = ap judged e ∙ ap (λ b. cond b (spelt whole) (unspelt NoRoom)) (lt-leb (length whole) (min 65536 room) l)
+
+  into-text : faultOf (t .kind) t n bids windows ≡ none → length whole ≤ min 65536 room
+      → writeInto t n bids windows room ≡ spelt whole
+  unfolding writeInto
+  into-text e l = ap judged e ∙ ap (λ b. cond b (spelt whole) (unspelt NoRoom)) (le-leb (length whole) (min 65536 room) l)
+
+came-to : (t : Tender) (n : ℕ) (bids windows old : List ℕ) (new : List ℕ) (r : Writing) (out : WriteOutcome)
+    → writeInto t n bids windows (length old) ≡ out → r ≡ writeAnswer out → new ≡ bufferAfter old out
+    → Writes t n bids windows old new r
+came-to t n bids windows old new r out e a b = record { answer = a ∙ ap writeAnswer (sym e); bytes = b ∙ ap (bufferAfter old) (sym e) }
+
+-- tables with a fault
+pub writes-nine : (t : Tender) (n : ℕ) (bids windows old : List ℕ) (row : ℕ) → faultOf (t .kind) t n bids windows ≡ some row
+    → Writes t n bids windows old old (answer.Refused (BadTables row))
+unfolding writeAnswer bufferAfter
+writes-nine t n bids windows old row e = came-to t n bids windows old old (answer.Refused (BadTables row)) (unspelt (BadTables row))
+    (into-nine t n bids windows (length old) row e) refl refl
+
+module _ (t : Tender) (n : ℕ) (bids windows : List ℕ)
+    (e : faultOf (t .kind) t n bids windows ≡ none) {before made : List ℕ} {end : ℕ}
+    (h : SomeText t windows (rowsOf n bids) before n made end) (old : List ℕ) where
+  part-length : end ≤ length (canonical t (rowsOf n bids) windows)
+  part-length = omega (arith, h .written .next, text-part t (rowsOf n bids) windows (h .lines))
+
+  text-all : end ≤ 65536 → take end made ≡ canonical t (rowsOf n bids) windows
+  text-all l = h .written .text ∙ ap (λ rs. canonical t rs windows) (go (h .all))
+    where
+      go : (65536 < end) ⊎ (h .lines ≡ n) → take (h .lines) (rowsOf n bids) ≡ rowsOf n bids
+      go (inl x) = absurd (omega arith)
+      go (inr x) = ap (λ (m : ℕ). take m (rowsOf n bids)) (x ∙ sym (rows-length n bids)) ∙ take-length (rowsOf n bids)
+
+  -- too long a text, or too little room
+  pub writes-fourteen : (65536 < end) ⊎ (length old < end) → Writes t n bids windows old old (answer.Refused NoRoom)
+  unfolding writeAnswer bufferAfter
+  writes-fourteen l = came-to t n bids windows old old (answer.Refused NoRoom) (unspelt NoRoom)
+      (into-fourteen t n bids windows (length old) e (go l)) refl refl
+    where
+      go : (65536 < end) ⊎ (length old < end) → min 65536 (length old) < length (canonical t (rowsOf n bids) windows)
+      go (inl x) = omega (arith, part-length)
+      go (inr x) = omega (arith, part-length)
+
+  -- the text, copied
+  pub writes-text : {new : List ℕ} {r : ℕ} → end ≤ 65536 → end ≤ length old → Written old 0 (take end made) new r
+      → Writes t n bids windows old new (answer.Written r)
+  unfolding writeAnswer bufferAfter
+  writes-text {new} {r} l m w =
+      let s = text-all l in
+      let text = canonical t (rowsOf n bids) windows in
+      let c : length text ≡ r = omega (arith, ap length s, w .next) in
+      let d : length text ≡ end = ap length (sym s) ∙ some-length h in
+      came-to t n bids windows old new (answer.Written r) (spelt text) (into-text t n bids windows (length old) e (omega arith))
+      (ap answer.Written (sym c)) (from-start old text new r (subst (λ b. Written old 0 b new r) s w)
+      ∙ ap (λ (k : ℕ). text ++ drop k old) (sym c))

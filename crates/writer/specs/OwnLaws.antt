@@ -1,0 +1,73 @@
+-- The rows that a text fills have the bids of its lines, whatever stands past them. Assumes nothing.
+use mathlib.Core.Path.{_≡_, refl, sym, ap, _∙_}
+use mathlib.Core.List.{List, [], _∷_, _++_, map}
+use Prim.Native.Nat.{ℕ, zero, suc, _+_, _*_, _<_}
+use native.Mathlib.Omega.{arith}
+use lib.ListN.{length, getD, drop}
+use lib.Seq.{drop-drop}
+use Rattle.tender.specs.declared.Window.{Window}
+use Rattle.tender.specs.Tables.{Row, windowsOf, own, flatWindows}
+use Rattle.reader_line.specs.Line.{BidLine}
+use Rattle.reader.specs.Read.{rowsFrom, allWindows}
+use Rattle.spelling.specs.Text.{bidIn}
+use Rattle.award_check.specs.Cells.{noRow}
+use Rattle.writer.specs.Canonical.{respelt, respeltIn}
+
+windows-flat : (ws us : List Window) (v : List ℕ) → windowsOf (length ws) (flatWindows (ws ++ us) ++ v) ≡ ws
+unfolding windowsOf flatWindows
+windows-flat [] us v = refl
+windows-flat (w ∷ ws) us v = ap (λ l. w ∷ l) (windows-flat ws us v)
+
+drop-flat : (ws us : List Window) (v : List ℕ) → drop (2 * length ws) (flatWindows (ws ++ us) ++ v) ≡ flatWindows us ++ v
+unfolding flatWindows
+drop-flat [] us v = refl
+drop-flat (w ∷ ws) us v =
+    let e : 2 * suc (length ws) ≡ suc (suc (2 * length ws)) = omega arith in
+    ap (λ (m : ℕ). drop m (w .start ∷ w .end ∷ (flatWindows (ws ++ us) ++ v))) e ∙ drop-flat ws us v
+
+-- the cells after some windows
+cells-next : (at : ℕ) (cells v : List ℕ) (ws us : List Window) → drop (2 * at) cells ≡ flatWindows (ws ++ us) ++ v
+    → drop (2 * (at + length ws)) cells ≡ flatWindows us ++ v
+cells-next at cells v ws us e =
+    let d : 2 * (at + length ws) ≡ 2 * at + 2 * length ws = omega arith in
+    ap (λ (m : ℕ). drop m cells) d ∙ sym (drop-drop (2 * length ws) (2 * at) cells) ∙ ap (drop (2 * length ws)) e
+    ∙ drop-flat ws us v
+
+-- what stands past the last bid
+unfoldable pub noBid : BidLine
+noBid = record { bidder = 0; price = 0; windows = [] }
+
+-- bid i of the tables that some bids fill
+pub bid-read : (at : ℕ) (cells v : List ℕ) (bs : List BidLine) (i : ℕ) → drop (2 * at) cells ≡ flatWindows (allWindows bs) ++ v
+    → bidIn cells (getD (rowsFrom at bs) i noRow) ≡ getD bs i noBid
+unfolding bidIn own rowsFrom allWindows noRow noBid windowsOf
+bid-read at cells v [] i e = refl
+bid-read at cells v (b ∷ bs) zero e = ap {B = BidLine} (λ ws. record { bidder = b .bidder; price = b .price; windows = ws })
+    (ap (windowsOf (length (b .windows))) e ∙ windows-flat (b .windows) (allWindows bs) v)
+bid-read at cells v (b ∷ bs) (suc i) e =
+    bid-read (at + length (b .windows)) cells v bs i (cells-next at cells v (b .windows) (allWindows bs) e)
+
+-- all of them
+pub bids-read : (at : ℕ) (cells v : List ℕ) (bs : List BidLine) → drop (2 * at) cells ≡ flatWindows (allWindows bs) ++ v
+    → map (bidIn cells) (rowsFrom at bs) ≡ bs
+unfolding bidIn own rowsFrom allWindows
+bids-read at cells v [] e = refl
+bids-read at cells v (b ∷ bs) e =
+    ap {B = List BidLine} (λ ws. record { bidder = b .bidder; price = b .price; windows = ws }
+    ∷ map (bidIn cells) (rowsFrom (at + length (b .windows)) bs))
+    (ap (windowsOf (length (b .windows))) e ∙ windows-flat (b .windows) (allWindows bs) v)
+    ∙ ap (λ l. b ∷ l) (bids-read (at + length (b .windows)) cells v bs (cells-next at cells v (b .windows) (allWindows bs) e))
+
+-- the bids that are respelt are as many as the rows, and stand in their order
+
+pub respelt-length : (windows : List ℕ) (rows : List Row) → length (respeltIn windows rows) ≡ length rows
+unfolding respeltIn
+respelt-length windows [] = refl
+respelt-length windows (r ∷ rs) = ap suc (respelt-length windows rs)
+
+pub respelt-at : (windows : List ℕ) (rows : List Row) (i : ℕ) → i < length rows
+    → getD (respeltIn windows rows) i noBid ≡ respelt (bidIn windows (getD rows i noRow))
+unfolding respeltIn
+respelt-at windows [] i l = absurd (omega arith)
+respelt-at windows (r ∷ rs) zero l = refl
+respelt-at windows (r ∷ rs) (suc i) l = respelt-at windows rs i (omega arith)

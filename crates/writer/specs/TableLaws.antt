@@ -1,0 +1,92 @@
+-- Row j of faultless tables: the numbers it is made of, and what the row rules say of them. Assumes nothing.
+use mathlib.Core.Path.{_≡_, refl, _∙_}
+use mathlib.Core.Bool.{Bool, true, false, cond, _&&_}
+use mathlib.Core.List.{List, [], _∷_, _++_}
+use mathlib.Core.Option.{none, some}
+use Prim.Native.Nat.{ℕ, zero, suc, _+_, _*_, _/_, _≤_, _<_}
+use native.Mathlib.Omega.{arith}
+use lib.ListN.{length, getD, drop}
+use lib.Seq.{getD-drop}
+use lib.Dec.{leb}
+use borrow.Author.Tests.{leb-true}
+use Rattle.tender.specs.declared.Kind.{Kind}
+use Rattle.tender.specs.declared.Tender.{Tender}
+use Rattle.tender.specs.Limits.{lawful, allLawful}
+use Rattle.tender.specs.Tables.{Row, rowsOf, windowsOf, own}
+use Rattle.cover.specs.SetLaws.{and-split}
+use Rattle.award_check.specs.Faults.{sound, rowFault, sameKind, faultOf}
+use Rattle.award_check.specs.Cells.{noRow}
+use Rattle.award_check.specs.AlikeLaws.{sound-keeps, keeps-kept, faultless, rows-length}
+use Rattle.award_check.specs.WalkLaws.{rowAt}
+use Rattle.writer.specs.RowLaws.{says, most-few}
+
+-- row j has the four numbers from 4 * j on
+pub row-at : (n j : ℕ) (bids : List ℕ) → j < n → getD (rowsOf n bids) j noRow ≡ rowAt bids j
+unfolding rowsOf
+row-at zero j bids l = absurd (omega arith)
+row-at (suc n) zero bids l = refl
+row-at (suc n) (suc j) bids l = row-at n j (drop 4 bids) (omega arith) ∙ rw (
+  getD-drop 4 bids (4 * j) 0,
+  getD-drop 4 bids (4 * j + 1) 0,
+  getD-drop 4 bids (4 * j + 2) 0,
+  getD-drop 4 bids (4 * j + 3) 0,
+  base j,
+  index 1 j,
+  index 2 j,
+  index 3 j,
+)
+  where
+    base : (i : ℕ) → 4 + 4 * i ≡ 4 * suc i
+    base i = omega arith
+
+    index : (c i : ℕ) → 4 + (4 * i + c) ≡ 4 * suc i + c
+    index c i = omega arith
+
+-- what writing a row's line asks of the row
+pub record Plain (windows : List ℕ) (r : Row) : Type 0 where
+  pub bidder-high : r .bidder ≤ 999999
+  pub price-high : r .price ≤ 100000000
+  pub few-windows : r .count ≤ 32
+  pub room : r .first + r .count ≤ length windows / 2
+  pub all-lawful : allLawful (windowsOf (r .count) (drop (2 * r .first) windows)) ≡ true
+
+sound-plain : (k : Kind) (windows : List ℕ) (place : ℕ) (used : List ℕ) (at : ℕ) (r : Row)
+    → sound k windows place used at r ≡ true
+    → Plain windows r
+unfolding own
+sound-plain k windows place used at r e =
+    let s = says k windows place used at r e in
+    let h = keeps-kept k windows at r (sound-keeps k windows place used at r e) in
+    record {
+      bidder-high = s .bidder-high;
+      price-high = s .price-high;
+      few-windows = omega (arith, s .most-windows, most-few k);
+      room = omega (arith, h .first, leb-true (at + r .count) (length windows / 2) (h .room));
+      all-lawful = s .all-lawful;
+    }
+
+rows-plain : (k : Kind) (windows : List ℕ) (place : ℕ) (used : List ℕ) (at : ℕ) (rs : List Row)
+    → rowFault k windows place used at rs ≡ none → (j : ℕ) → j < length rs → Plain windows (getD rs j noRow)
+unfolding rowFault
+rows-plain k windows place used at [] e j l = absurd (omega arith)
+rows-plain k windows place used at (r ∷ rs) e j l = go (sound k windows place used at r) refl e j l
+    (rows-plain k windows (place + 1) (used ++ r .bidder ∷ []) (at + r .count) rs)
+  where
+    go : (b : Bool) → sound k windows place used at r ≡ b
+        → cond b (rowFault k windows (place + 1) (used ++ r .bidder ∷ []) (at + r .count) rs) (some place) ≡ none → (j : ℕ)
+        → j < suc (length rs)
+        → (rowFault k windows (place + 1) (used ++ r .bidder ∷ []) (at + r .count) rs ≡ none → (j : ℕ) → j < length rs
+        → Plain windows (getD rs j noRow)) → Plain windows (getD (r ∷ rs) j noRow)
+    go false s e j l ih = let z : _≡_ {A = ℕ} 0 1 = cc in absurd (omega arith)
+    go true s e zero l ih = sound-plain k windows place used at r s
+    go true s e (suc j) l ih = ih e j (omega arith)
+
+module _ (t : Tender) (n : ℕ) (bids windows : List ℕ) (e : faultOf (t .kind) t n bids windows ≡ none) where
+  pub row-plain : (j : ℕ) → j < n → Plain windows (rowAt bids j)
+  row-plain j l = rw (row-at n j bids l) at (rows-plain (t .kind) windows 1 [] 0 (rowsOf n bids)
+      (faultless (t .kind) t n bids windows e .rows) j (omega (arith, rows-length n bids)))
+
+  -- the rows stand in the lent table
+  pub rows-lent : n ≤ length bids / 4
+  rows-lent = leb-true n (length bids / 4) (and-split (sameKind (t .kind) (t .kind) && lawful (t .window)) (leb n (length bids / 4))
+      (faultless (t .kind) t n bids windows e .tender) .1)
