@@ -33,6 +33,15 @@ extern "C" {
 #define TENDER_LIST_MAX 51200
 size_t tender_list(const uint8_t *text, size_t text_len, uint8_t *list, size_t list_len);
 
+/*
+ * The text in one spelling: each bid's windows joined where they overlap or touch, in rising order, also those outside
+ * the tender; all else as it was. It reads back as the same tender with the same bidders, prices and minutes in the
+ * same entry order, and two texts that can be read have equal bytes here exactly when all of these agree. It is never
+ * longer than the text. A buffer as long as the text, but of 64 bytes at least, holds it or the refusal's line; so
+ * TENDER_TEXT_MAX bytes hold every one.
+ */
+size_t tender_rewrite(const uint8_t *text, size_t text_len, uint8_t *out, size_t out_len);
+
 #ifdef __cplusplus
 }
 #endif
