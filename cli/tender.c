@@ -1,8 +1,9 @@
 /*
- * tender: the command over the calls of tender.h. `tender list [FILE]` writes the list of a bid text.
+ * tender: the command over the calls of tender.h. `tender list [FILE]` writes the list of a bid text, `tender rewrite
+ * [FILE]` the text in one spelling.
  *
  * All that is decided about a tender is decided by the proved calls. This file reads, writes, says in words what a
- * refusal means, and tells by its exit status how it went: 0 awarded, 1 refused, 2 trouble.
+ * refusal means, and tells by its exit status how it went: 0 awarded or rewritten, 1 refused, 2 trouble.
  */
 #define _POSIX_C_SOURCE 200809L
 #include "tender.h"
@@ -17,27 +18,37 @@
 #include <string.h>
 #include <unistd.h>
 
-enum { AWARDED, REFUSED, TROUBLE };
+enum { DONE, REFUSED, TROUBLE };
 
 static const char HELP[] =
     "usage: tender list [-q] [FILE]\n"
+    "       tender rewrite [-q] [FILE]\n"
     "       tender --help | --version\n"
     "\n"
-    "Reads a bid text from FILE, or from standard input where FILE is left out or -, and\n"
-    "writes its list: who wins and what each is paid, or (refused N P), number and place.\n"
+    "Reads a bid text from FILE, or from standard input where FILE is left out or -.\n"
+    "\n"
+    "  list        write its list: who wins and what each is paid\n"
+    "  rewrite     write it in one spelling: each bid's windows joined where they overlap\n"
+    "              or touch, in rising order\n"
+    "\n"
+    "Where the text or the tender is declined, (refused N P) is written, number and place.\n"
     "\n"
     "  -q          say nothing on standard error about a refusal\n"
     "  --          what follows is no option\n"
     "  --help      write this text\n"
     "  --version   write the version, and the kit that proved the calls\n"
     "\n"
-    "Exit status: 0 awarded, 1 refused, 2 trouble (bad usage, cannot read, cannot write).\n";
+    "Exit status: 0 awarded or rewritten, 1 refused, 2 trouble (bad usage, cannot read,\n"
+    "cannot write).\n";
 
 static const char ABOUT[] = "tender " VERSION "\nproved with " KIT "\n";
 
-/* One byte more than a text may have, so that a longer one is seen to be too long; and the byte 0 after the list. */
-static uint8_t text[TENDER_TEXT_MAX + 1], list[TENDER_LIST_MAX + 1];
-static size_t text_len, list_len;
+/* Room for every list and every rewritten text. */
+enum { OUT_MAX = TENDER_TEXT_MAX < TENDER_LIST_MAX ? TENDER_LIST_MAX : TENDER_TEXT_MAX };
+
+/* One byte more than a text may have, so that a longer one is seen to be too long; and the byte 0 after what is written. */
+static uint8_t text[TENDER_TEXT_MAX + 1], out[OUT_MAX + 1];
+static size_t text_len, out_len;
 
 static int trouble(const char *format, ...)
 {
@@ -98,6 +109,8 @@ static const struct { enum place place; const char *what; } REFUSALS[] = {
     [7] = {LINE, "more than one window in a single tender"},
     [11] = {MINUTE, "in no bid"},
     [12] = {MINUTE, "in one bid only, and each minute needs two"},
+    [13] = {NOWHERE, "the list would be longer than the room lent"},
+    [14] = {NOWHERE, "the text would be longer than 65,536 bytes or the room lent"},
 };
 
 /* The line's first bytes, with \xNN for a byte that does not print. */
@@ -137,11 +150,29 @@ static void tell(unsigned number, unsigned long place)
     else fprintf(stderr, "tender: %s\n", REFUSALS[number].what);
 }
 
-/* the command */
+/* the commands */
 
-static void *make_list(void *unused)
+/* A call, and the refusal that it tells by the answer 0. */
+static const struct command {
+    const char *name;
+    size_t (*call)(const uint8_t *text, size_t text_len, uint8_t *out, size_t out_len);
+    unsigned no_room;
+} COMMANDS[] = {
+    {"list", tender_list, 13},
+    {"rewrite", tender_rewrite, 14},
+};
+
+static const struct command *command;
+
+static const struct command *named(const char *word)
 {
-    list_len = tender_list(text, text_len, list, TENDER_LIST_MAX);
+    for (size_t i = 0; i < sizeof COMMANDS / sizeof *COMMANDS; i++) if (!strcmp(word, COMMANDS[i].name)) return &COMMANDS[i];
+    return NULL;
+}
+
+static void *make_out(void *unused)
+{
+    out_len = command->call(text, text_len, out, OUT_MAX);
     return unused;
 }
 
@@ -156,19 +187,19 @@ static int on_large_stack(void *(*call)(void *))
     return error ? error : pthread_join(thread, NULL);
 }
 
-static int write_list(const char *file, bool quiet)
+static int run(const char *file, bool quiet)
 {
     bool from_file = file && strcmp(file, "-") != 0;
     int fd = from_file ? open(file, O_RDONLY) : STDIN_FILENO;
     if (fd < 0 || !read_text(fd)) return trouble("%s cannot be read: %s", from_file ? file : "standard input", strerror(errno));
     if (from_file) close(fd);
-    int error = on_large_stack(make_list);
+    int error = on_large_stack(make_out);
     if (error) return trouble("no room for a stack of %u bytes: %s", TENDER_STACK, strerror(error));
-    if (list_len == 0) return trouble("the list is longer than %d bytes", TENDER_LIST_MAX);
-    if (write_out(list, list_len)) return TROUBLE;
+    if (out_len == 0) return trouble("%s", REFUSALS[command->no_room].what);
+    if (write_out(out, out_len)) return TROUBLE;
     unsigned number;
     unsigned long place;
-    if (sscanf((const char *)list, "(refused %u %lu", &number, &place) != 2) return AWARDED;
+    if (sscanf((const char *)out, "(refused %u %lu", &number, &place) != 2) return DONE;
     if (!quiet) tell(number, place);
     return REFUSED;
 }
@@ -195,6 +226,7 @@ int main(int argc, char **argv)
         else return trouble("no such option: %s; see tender --help", word);
     }
     if (!words[0]) return trouble("no command; see tender --help");
-    if (strcmp(words[0], "list")) return trouble("no such command: %s; see tender --help", words[0]);
-    return write_list(words[1], quiet);
+    command = named(words[0]);
+    if (!command) return trouble("no such command: %s; see tender --help", words[0]);
+    return run(words[1], quiet);
 }
