@@ -1,7 +1,7 @@
 /*
- * A second implementation of the list, written for plainness and not for speed, to compare the proved one with.
+ * A second implementation of the list and of the one spelling, written for plainness and not for speed, to compare the proved one with.
  *
- * The text is read into a Tender. After that all speak of cells, of which one question is asked, whether a bid has a cell (`has`); it is
+ * The text is read into a Tender. A rewritten text is made from a flag for each minute of the week, bid by bid. For a list all speak of cells, of which one question is asked, whether a bid has a cell (`has`); it is
  * asked once of each bid and cell, and the answers are kept both ways: the bids that have a cell, and the cells that a bid has.
  * Single: the least cover cell by cell, sets compared where costs tie, and the whole selection again without each winner.
  * Multi: the greedy run, replayed from the start at each price tried; the critical price by bisection, not by document 000's maximum.
@@ -261,4 +261,59 @@ size_t second_list(const uint8_t *text, size_t len, char *list, size_t room)
         sum += paid[i];
     }
     return at + (size_t)snprintf(list + at, room - at, "(total %lld %lld)\n", (long long)cost, (long long)sum);
+}
+
+/* the one spelling */
+
+/* the minutes that a bid has, a flag each; one more, never set, ends the last run */
+static void mark_minutes(const Bid *b, uint8_t *minute)
+{
+    memset(minute, 0, WEEK + 1);
+    for (int j = 0; j < b->count; j++) for (int m = b->start[j]; m < b->end[j]; m++) minute[m] = 1;
+}
+
+static size_t put_runs(const uint8_t *minute, char *out, size_t room)
+{
+    size_t at = 0;
+    const uint8_t *start, *end = minute;
+    while ((start = memchr(end, 1, (size_t)(minute + WEEK - end)))) {
+        end = memchr(start, 0, (size_t)(minute + WEEK + 1 - start));
+        at += (size_t)snprintf(out + at, room - at, " (%d %d)", (int)(start - minute), (int)(end - minute));
+    }
+    return at;
+}
+
+size_t second_rewrite(const uint8_t *text, size_t len, char *out, size_t room)
+{
+    static Tender t;
+    static uint8_t minute[WEEK + 1];
+    long place;
+    int no = read_text(text, len, &t, &place);
+    if (no) return (size_t)snprintf(out, room, "(refused %d %ld)\n", no, place);
+    size_t at = (size_t)snprintf(out, room, "(tender %s %ld %ld)\n", t.single ? "single" : "multi", t.start, t.end);
+    for (int i = 0; i < t.n; i++) {
+        mark_minutes(&t.bid[i], minute);
+        at += (size_t)snprintf(out + at, room - at, "(bid %ld %ld", t.bid[i].bidder, t.bid[i].price);
+        at += put_runs(minute, out + at, room - at);
+        at += (size_t)snprintf(out + at, room - at, ")\n");
+    }
+    return at;
+}
+
+const char *second_difference(const uint8_t *text, size_t len, const uint8_t *other, size_t other_len)
+{
+    static Tender t, u;
+    static uint8_t minute[WEEK + 1], others[WEEK + 1];
+    long place;
+    if (read_text(text, len, &t, &place) || read_text(other, other_len, &u, &place)) return "one cannot be read";
+    if (t.single != u.single || t.start != u.start || t.end != u.end) return "another tender";
+    if (t.n != u.n) return "another number of bids";
+    for (int i = 0; i < t.n; i++) {
+        if (t.bid[i].bidder != u.bid[i].bidder) return "another bidder";
+        if (t.bid[i].price != u.bid[i].price) return "another price";
+        mark_minutes(&t.bid[i], minute);
+        mark_minutes(&u.bid[i], others);
+        if (memcmp(minute, others, WEEK)) return "another minute";
+    }
+    return NULL;
 }
