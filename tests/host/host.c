@@ -3,73 +3,21 @@
  *   host PROGRAM [ROUNDS]     ROUNDS small random tenders and as many with a byte changed (default 100000), the other sorts in proportion
  */
 #define _GNU_SOURCE
+#include "calls.h"
 #include "entry.h"
 #include "second.h"
 #include "texts.h"
 
 #include <pthread.h>
-#include <stdbool.h>
 #include <stdio.h>
 #include <stdlib.h>
 #include <string.h>
-#include <sys/mman.h>
 #include <sys/wait.h>
 #include <unistd.h>
 
-static long checks, faults;
-
-static void expect(bool ok, const char *what, const uint8_t *text, size_t len)
-{
-    checks++;
-    if (ok) return;
-    faults++;
-    if (faults > 5) return;
-    printf("FAULT %s\n", what);
-    if (text) { fwrite(text, 1, len, stdout); puts("--"); }
-}
-
-/* buffers that end where memory ends: a byte read or written past them faults; `sealed` text faults on a write */
-
-enum { ROOM = 1 << 17, GUARD = 64, FILL = 0xA5 };
-static uint8_t *text_room, *list_room, filled[ROOM];
-
-static uint8_t *fenced(void)
-{
-    uint8_t *m = mmap(NULL, ROOM + 4096, PROT_READ | PROT_WRITE, MAP_PRIVATE | MAP_ANONYMOUS, -1, 0);
-    if (m == MAP_FAILED || mprotect(m + ROOM, 4096, PROT_NONE)) exit(2);
-    return m + ROOM;
-}
-
-static const uint8_t *sealed(const void *bytes, size_t n)
-{
-    mprotect(text_room - ROOM, ROOM, PROT_READ | PROT_WRITE);
-    memcpy(text_room - n, bytes, n);
-    mprotect(text_room - ROOM, ROOM, PROT_READ);
-    return text_room - n;
-}
-
-/* one call with a buffer of `room` bytes: answer, bytes past the list, guard bytes before the buffer */
-static size_t call(const void *bytes, size_t n, size_t room, uint8_t *out)
-{
-    const uint8_t *text = sealed(bytes, n);
-    uint8_t *list = list_room - room;
-    memset(list - GUARD, FILL, GUARD + room);
-    size_t k = tender_list(text, n, list, room);
-    bool kept = k <= room && !memcmp(list + k, filled, room - k) && !memcmp(list - GUARD, filled, GUARD);
-    expect(kept, "bytes past the list or before the buffer changed", bytes, n);
-    expect(!memcmp(text, bytes, n), "the text changed", bytes, n);
-    if (k <= room) memcpy(out, list, k);
-    return k;
-}
-
 static void lists(const char *text, size_t n, const char *want)
 {
-    static uint8_t out[ROOM];
-    size_t k = call(text, n, LIST_MAX, out), w = strlen(want);
-    expect(k == w && !memcmp(out, want, w), want, (const uint8_t *)text, n);
-    expect(call(text, n, w, out) == w && !memcmp(out, want, w), "a buffer that just fits", (const uint8_t *)text, n);
-    for (size_t room = 0; room < w; room += room + 8 < w ? 7 : 1)
-        expect(call(text, n, room, out) == 0, "a buffer that is short", (const uint8_t *)text, n);
+    writes(tender_list, LIST_MAX, text, n, want);
 }
 
 #define LISTS(text, want) lists(text, sizeof text - 1, want)
@@ -154,15 +102,15 @@ static void random_texts(long rounds)
     for (long i = 0; i < 2 * rounds; i++) {
         size_t n = small_text(s);
         if (i % 2) n = mutated(s, n);
-        size_t k = call(s, n, LIST_MAX, out);
-        expect(agrees((const uint8_t *)s, n, out, k), "differs from the second implementation", (const uint8_t *)s, n);
+        size_t k = called(tender_list, s, n, LIST_MAX, out);
+        expect(agrees((const uint8_t *)s, n, out, k), "differs from the second implementation", s, n);
         awards += awarded(out, k);
     }
     for (long i = 0; i < rounds / 4; i++) {
         size_t n = below(64);
         for (size_t j = 0; j < n; j++) s[j] = (char)below(256);
-        size_t k = call(s, n, LIST_MAX, out);
-        expect(agrees((const uint8_t *)s, n, out, k), "random bytes", (const uint8_t *)s, n);
+        size_t k = called(tender_list, s, n, LIST_MAX, out);
+        expect(agrees((const uint8_t *)s, n, out, k), "random bytes", s, n);
     }
     printf("small tenders: %ld awarded, %ld declined; %ld texts of random bytes\n", awards, 2 * rounds - awards, rounds / 4);
 }
@@ -177,11 +125,11 @@ static void wide(Size size, Wide *count)
 {
     static char s[TEXT_ROOM];
     static uint8_t out[ROOM];
-    size_t n = wide_text(s, size), k = call(s, n, LIST_MAX, out);
-    expect(agrees((const uint8_t *)s, n, out, k), "a wide tender", (const uint8_t *)s, n);
+    size_t n = wide_text(s, size), k = called(tender_list, s, n, LIST_MAX, out);
+    expect(agrees((const uint8_t *)s, n, out, k), "a wide tender", s, n);
     if (awarded(out, k)) count->awarded[size.single]++;
     else count->declined[size.single]++;
-    expect(k && call(s, n, k - 1, out) == 0, "a wide tender, a short buffer", (const uint8_t *)s, n);
+    expect(k && called(tender_list, s, n, k - 1, out) == 0, "a wide tender, a short buffer", s, n);
 }
 
 static void say(const char *what, const Wide *w)
@@ -280,7 +228,7 @@ static void program(const char *path, const char *text, size_t n, size_t chunk)
     waitpid(writer, NULL, 0);
     waitpid(pid, NULL, 0);
     size_t w = tender_list((const uint8_t *)text, n, want, LIST_MAX);
-    expect(k == w && !memcmp(got, want, w), "the program's list", (const uint8_t *)text, n);
+    expect(k == w && !memcmp(got, want, w), "the program's list", text, n);
 }
 
 static void programs(const char *path)
@@ -303,9 +251,6 @@ int main(int argc, char **argv)
     if (argc < 2) return 2;
     long rounds = argc > 2 ? atol(argv[2]) : 100000;
     setvbuf(stdout, NULL, _IOLBF, 0);
-    text_room = fenced();
-    list_room = fenced();
-    memset(filled, FILL, sizeof filled);
     worked();
     refusals();
     threads();
