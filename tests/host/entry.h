@@ -1,9 +1,15 @@
-/* The entry point for C, as its header declares it: named here for all the tests in C. */
+/* The entry points for C, as their header declares them: named here for all the tests in C. */
 #ifndef ENTRY_H
 #define ENTRY_H
 
 #include "../../include/tender.h"
 
 enum { LIST_MAX = TENDER_LIST_MAX, STACK = TENDER_STACK };
+
+/* room enough for a rewritten text, or the line of a refusal */
+static inline size_t rewrite_room(size_t text_len)
+{
+    return text_len < 64 ? 64 : text_len;
+}
 
 #endif

@@ -1,10 +1,11 @@
 /*
- * Tests of the entry point for C: tender_list, linked from the proved archive, and the program beside it.
+ * Tests of the entry points for C, linked from the proved archive: here of tender_list, and of the program beside it.
  *   host PROGRAM [ROUNDS]     ROUNDS small random tenders and as many with a byte changed (default 100000), the other sorts in proportion
  */
 #define _GNU_SOURCE
 #include "calls.h"
 #include "entry.h"
+#include "rewrites.h"
 #include "second.h"
 #include "texts.h"
 
@@ -20,7 +21,15 @@ static void lists(const char *text, size_t n, const char *want)
     writes(tender_list, LIST_MAX, text, n, want);
 }
 
+/* a text that cannot be read: either call writes its refusal */
+static void refuses(const char *text, size_t n, const char *want)
+{
+    lists(text, n, want);
+    writes(tender_rewrite, rewrite_room(n), text, n, want);
+}
+
 #define LISTS(text, want) lists(text, sizeof text - 1, want)
+#define REFUSES(text, want) refuses(text, sizeof text - 1, want)
 
 static const char EXAMPLE[] =
     "(tender single 0 100)\n(bid 11 30 (0 50))\n(bid 12 40 (40 100))\n(bid 13 90 (0 100))\n(bid 14 35 (0 60))\n(bid 15 50 (60 100))\n";
@@ -54,30 +63,30 @@ static void refusals(void)
 {
     static char big[70000];
     memset(big, 'x', sizeof big);
-    lists(big, 65537, "(refused 1 0)\n");
-    lists(big, 65536, "(refused 2 1)\n");
-    LISTS("", "(refused 2 1)\n");
-    LISTS("(tender single 0 100)", "(refused 2 1)\n");
-    LISTS("(tender single 0 100)\r\n", "(refused 2 1)\n");
-    LISTS("(tender single 0 100)\n\n", "(refused 2 2)\n");
-    LISTS("(tender single 0 100)\n(bid 007 1 (0 1))\n", "(refused 2 2)\n");
-    LISTS("(tender single 0 100)\n(bid 1 1 (0 1))\0\n", "(refused 2 2)\n");
-    LISTS("(tender single 0 100)\n(bid 1 1 (0 1))\n(bid 0 1 (0 1))\n", "(refused 3 3)\n");
-    LISTS("(tender single 0 100)\n(bid 1 100000001 (0 1))\n", "(refused 3 2)\n");
-    LISTS("(tender single 0 100)\n(bid 1 1 (5 5))\n", "(refused 5 2)\n");
-    LISTS("(tender single 0 10081)\n", "(refused 5 1)\n");
-    LISTS("(tender single 0 100)\n(bid 1 1 (0 1))\n(bid 1 1 (0 1))\n", "(refused 6 3)\n");
-    LISTS("(tender single 0 100)\n(bid 1 1 (0 1) (2 3))\n", "(refused 7 2)\n");
+    refuses(big, 65537, "(refused 1 0)\n");
+    refuses(big, 65536, "(refused 2 1)\n");
+    REFUSES("", "(refused 2 1)\n");
+    REFUSES("(tender single 0 100)", "(refused 2 1)\n");
+    REFUSES("(tender single 0 100)\r\n", "(refused 2 1)\n");
+    REFUSES("(tender single 0 100)\n\n", "(refused 2 2)\n");
+    REFUSES("(tender single 0 100)\n(bid 007 1 (0 1))\n", "(refused 2 2)\n");
+    REFUSES("(tender single 0 100)\n(bid 1 1 (0 1))\0\n", "(refused 2 2)\n");
+    REFUSES("(tender single 0 100)\n(bid 1 1 (0 1))\n(bid 0 1 (0 1))\n", "(refused 3 3)\n");
+    REFUSES("(tender single 0 100)\n(bid 1 100000001 (0 1))\n", "(refused 3 2)\n");
+    REFUSES("(tender single 0 100)\n(bid 1 1 (5 5))\n", "(refused 5 2)\n");
+    REFUSES("(tender single 0 10081)\n", "(refused 5 1)\n");
+    REFUSES("(tender single 0 100)\n(bid 1 1 (0 1))\n(bid 1 1 (0 1))\n", "(refused 6 3)\n");
+    REFUSES("(tender single 0 100)\n(bid 1 1 (0 1) (2 3))\n", "(refused 7 2)\n");
     LISTS("(tender multi 0 1)\n", "(refused 11 0)\n");
     LISTS("(tender single 3 4)\n(bid 1 1 (0 10))\n", "(refused 12 3)\n");
     earliest();
     size_t n = (size_t)sprintf(big, "(tender multi 0 10)\n(bid 1 1");
     for (int i = 0; i < 33; i++) n += (size_t)sprintf(big + n, " (0 1)");
     n += (size_t)sprintf(big + n, ")\n");
-    lists(big, n, "(refused 4 2)\n");
+    refuses(big, n, "(refused 4 2)\n");
     n = (size_t)sprintf(big, "(tender multi 0 10)\n");
     for (int i = 1; i <= 1001; i++) n += (size_t)sprintf(big + n, "(bid %d 1 (0 10))\n", i);
-    lists(big, n, "(refused 4 1002)\n");
+    refuses(big, n, "(refused 4 1002)\n");
 }
 
 /* random texts */
@@ -154,18 +163,20 @@ static void wide_tenders(long rounds)
 /* several threads at once: each runs all the texts, of both kinds and all widths, beginning at another */
 
 enum { THREADS = 4, TEXTS = 60, PASSES = 5 };
-static struct { char text[TEXT_ROOM], list[1 << 16]; size_t n, k; } shared[TEXTS];
+static struct { char text[TEXT_ROOM], list[1 << 16], rewritten[TEXT_ROOM]; size_t n, k, m; } shared[TEXTS];
 
 static void *thread(void *arg)
 {
     int *wrong = arg, from = *wrong * TEXTS / THREADS;
-    uint8_t *out = malloc(LIST_MAX);
+    uint8_t *out = malloc(ROOM);
     if (!out) exit(2);
     *wrong = 0;
     for (int i = 0; i < TEXTS * PASSES; i++) {
         int at = (from + i) % TEXTS;
-        size_t k = tender_list((const uint8_t *)shared[at].text, shared[at].n, out, LIST_MAX);
+        size_t k = tender_list((const uint8_t *)shared[at].text, shared[at].n, out, ROOM);
         *wrong += k != shared[at].k || memcmp(out, shared[at].list, k);
+        size_t m = tender_rewrite((const uint8_t *)shared[at].text, shared[at].n, out, ROOM);
+        *wrong += m != shared[at].m || memcmp(out, shared[at].rewritten, m);
     }
     free(out);
     return NULL;
@@ -181,6 +192,7 @@ static void threads(void)
         Size size = i < 4 ? (Size){i % 2, WEEK, 40, 8} : wide_size();
         shared[i].n = i % 3 == 2 ? small_text(shared[i].text) : wide_text(shared[i].text, size);
         shared[i].k = second_list((const uint8_t *)shared[i].text, shared[i].n, shared[i].list, sizeof shared[i].list);
+        shared[i].m = second_rewrite((const uint8_t *)shared[i].text, shared[i].n, shared[i].rewritten, sizeof shared[i].rewritten);
         awards += awarded((const uint8_t *)shared[i].list, shared[i].k);
     }
     pthread_attr_init(&attr);
@@ -253,10 +265,12 @@ int main(int argc, char **argv)
     setvbuf(stdout, NULL, _IOLBF, 0);
     worked();
     refusals();
+    named_rewrites();
     threads();
     programs(argv[1]);
     random_texts(rounds);
     wide_tenders(rounds);
+    random_rewrites(rounds);
     printf("host: %ld checks, %ld faults\n", checks, faults);
     return faults != 0;
 }

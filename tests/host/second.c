@@ -1,8 +1,9 @@
 /*
  * A second implementation of the list and of the one spelling, written for plainness and not for speed, to compare the proved one with.
  *
- * The text is read into a Tender. A rewritten text is made from a flag for each minute of the week, bid by bid. For a list all speak of cells, of which one question is asked, whether a bid has a cell (`has`); it is
- * asked once of each bid and cell, and the answers are kept both ways: the bids that have a cell, and the cells that a bid has.
+ * The text is read into a Tender. A rewritten text is made from one flag for each minute of the week, bid by bid.
+ * For a list all speak of cells, of which one question is asked, whether a bid has a cell (`has`); it is asked once of each bid and cell,
+ * and the answers are kept both ways: the bids that have a cell, and the cells that a bid has.
  * Single: the least cover cell by cell, sets compared where costs tie, and the whole selection again without each winner.
  * Multi: the greedy run, replayed from the start at each price tried; the critical price by bisection, not by document 000's maximum.
  */
