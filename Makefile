@@ -4,7 +4,7 @@
 # make uninstall       takes them away again
 # make test            the whole gate: proofs, must-fail edits, programs, host tests, tests of the command
 # make bench           counts instructions beside the reference program (needs valgrind and g++)
-# make fuzz [TIME=..]  fuzzes the call for C against the second implementation for so many seconds (needs clang; not in the gate)
+# make fuzz [TIME=..]  fuzzes the calls for C against the second implementation for so many seconds (needs clang; not in the gate)
 # make rules           writes docs/RULES.md, what has to be believed, from the sources
 # make times           writes docs/GATE.md, the gate's time, from the last run of the gate
 # make clean           removes target/, so that the next build proves everything anew

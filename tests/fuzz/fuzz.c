@@ -1,6 +1,6 @@
 /*
- * Fuzzing of tender_list against the second implementation, in one process (libFuzzer). The second implementation is what is instrumented:
- * a text is kept when it takes the second implementation where no text before it did. A text on which the two differ ends the run.
+ * Fuzzing of the calls for C against the second implementation, in one process (libFuzzer). The second implementation is what is
+ * instrumented: a text is kept when it takes that where no text before it did. A text on which the two differ ends the run.
  */
 #include "../host/entry.h"
 #include "../host/second.h"
@@ -12,38 +12,49 @@
 
 enum { GUARD = 64, FILL = 0xA5 };
 
-static long texts, awards;
+static long texts, awards, rewritten;
 
 static void report(void)
 {
-    printf("fuzz: %ld texts, %ld of them awarded\n", texts, awards);
+    printf("fuzz: %ld texts, %ld of them awarded, %ld rewritten\n", texts, awards, rewritten);
 }
 
-static void must(bool ok, const char *what, const uint8_t *list, size_t k, const char *other, size_t m)
+static void must(bool ok, const char *what, const uint8_t *out, size_t k, const char *other, size_t m)
 {
     if (ok) return;
-    fprintf(stderr, "DISAGREE: %s\nproved:\n%.*s\nsecond:\n%.*s\n", what, (int)k, (const char *)list, (int)m, other);
+    fprintf(stderr, "DISAGREE: %s\nproved:\n%.*s\nsecond:\n%.*s\n", what, (int)k, (const char *)out, (int)m, other);
     abort();
 }
 
 /* the bytes of a buffer from k on, and the guard after it, are as they were: the first is, and each is as the one before */
-static bool kept(const uint8_t *list, size_t k)
+static bool kept(const uint8_t *out, size_t k, size_t room)
 {
-    return list[k] == FILL && !memcmp(list + k, list + k + 1, LIST_MAX + GUARD - k - 1);
+    return out[k] == FILL && !memcmp(out + k, out + k + 1, room + GUARD - k - 1);
+}
+
+typedef size_t Call(const uint8_t *text, size_t n, uint8_t *out, size_t room);
+typedef size_t Second(const uint8_t *text, size_t n, char *out, size_t room);
+
+/* one call and its second implementation; answers the second byte, which tells what was written */
+static char compared(const char *what, Call *call, Second *second, const uint8_t *text, size_t n, size_t room)
+{
+    static uint8_t out[TENDER_TEXT_MAX + GUARD];
+    static char other[1 << 17];
+    size_t m = second(text, n, other, sizeof other);
+    memset(out, FILL, room + GUARD);
+    size_t k = call(text, n, out, room);
+    must(k == m && !memcmp(out, other, m), what, out, k, other, m);
+    must(kept(out, k, room), "bytes past what is written", out, k, other, m);
+    memset(out, FILL, k);
+    must(call(text, n, out, m - 1) == 0 && kept(out, 0, room), "a buffer one byte short", out, 0, other, m);
+    return other[1];
 }
 
 int LLVMFuzzerTestOneInput(const uint8_t *text, size_t n)
 {
-    static uint8_t list[LIST_MAX + GUARD];
-    static char other[1 << 16];
-    size_t m = second_list(text, n, other, sizeof other);
+    size_t room = n < TENDER_TEXT_MAX ? rewrite_room(n) : TENDER_TEXT_MAX;
     if (!texts++) atexit(report);
-    awards += other[1] == 'a';
-    memset(list, FILL, sizeof list);
-    size_t k = tender_list(text, n, list, LIST_MAX);
-    must(k == m && !memcmp(list, other, m), "the lists", list, k, other, m);
-    must(kept(list, k), "bytes past the list", list, k, other, m);
-    memset(list, FILL, k);
-    must(tender_list(text, n, list, m - 1) == 0 && kept(list, 0), "a buffer one byte short", list, 0, other, m);
+    awards += compared("the lists", tender_list, second_list, text, n, LIST_MAX) == 'a';
+    rewritten += compared("the rewritten texts", tender_rewrite, second_rewrite, text, n, room) == 't';
     return 0;
 }

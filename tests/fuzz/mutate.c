@@ -129,6 +129,19 @@ static void move_part(Text *t, bool line)
     if (some(t, &to, &size)) replace(t, below(2) ? to : to + size, 0, part, len);
 }
 
+/* a window split in two that touch or overlap, the later one first */
+static void split_window(Text *t)
+{
+    char s[64] = {0};
+    size_t at, len;
+    unsigned start, end;
+    if (!some_window(t, &at, &len) || len >= sizeof s) return;
+    memcpy(s, t->s + at, len);
+    if (sscanf(s, " (%u %u)", &start, &end) != 2 || end > WEEK || start + 1 >= end) return;
+    unsigned cut = start + 1 + below(end - start - 1), over = below(2) * below(end - cut);
+    replace(t, at, len, s, (size_t)sprintf(s, " (%u %u) (%u %u)", cut, end, start, cut + over));
+}
+
 static void other_kind(Text *t)
 {
     if (t->n > 14 && !memcmp(t->s, "(tender single", 14)) replace(t, 8, 6, "multi", 5);
@@ -197,6 +210,7 @@ size_t LLVMFuzzerCustomMutator(uint8_t *data, size_t n, size_t most, unsigned fr
         case 1: case 2: add_bid(&t, below(2)); break;
         case 3: case 4: case 5: move_part(&t, true); break;
         case 6: case 7: move_part(&t, false); break;
+        case 8: split_window(&t); break;
         default: change_number(&t);
         }
     }
