@@ -1,10 +1,10 @@
 -- What is written of the tables that were read is what the text is rewritten to. Assumes nothing.
 use mathlib.Core.Path.{_≡_, refl, sym, ap, subst, _∙_}
 use mathlib.Core.Bool.{Bool, true, false, cond}
-use mathlib.Core.List.{List, _++_, map}
+use mathlib.Core.List.{List, _++_}
 use Prim.Native.Nat.{ℕ, min, _≤_, _<_}
 use native.Mathlib.Omega.{arith}
-use lib.ListN.{length, take, drop}
+use lib.ListN.{length, take}
 use lib.Dec.{leb}
 use borrow.Author.Tests.{le-leb, lt-leb, leb-true, leb-false}
 use Rattle.tender.specs.declared.Window.{Window}
@@ -39,13 +39,15 @@ none-told (spelt text) q e = let z : _≡_ {A = ℕ} 0 1 = cc in absurd (omega a
 none-told (unspelt p) q e = refl
 
 module _ {t : Tender} {count : ℕ} {bids windows old new : List ℕ} {a : Writing} where
-  pub delivers-text : (n : ℕ) → a ≡ writing.Written n → Writes t count bids windows old new a → Delivers t count bids windows old new n
+  pub delivers-text : (n : ℕ) → a ≡ writing.Written n → Writes t count bids windows old new a
+      → Delivers t count bids windows old new n
   delivers-text n e w = record {
     answer = length-told (writeInto t count bids windows (length old)) n (sym e ∙ w .answer);
     bytes = w .bytes;
   }
 
-  pub delivers-none : (q : Refusal) → a ≡ writing.Refused q → Writes t count bids windows old new a → Delivers t count bids windows old new 0
+  pub delivers-none : (q : Refusal) → a ≡ writing.Refused q → Writes t count bids windows old new a
+      → Delivers t count bids windows old new 0
   delivers-none q e w = record {
     answer = none-told (writeInto t count bids windows (length old)) q (sym e ∙ w .answer);
     bytes = w .bytes;
@@ -54,7 +56,8 @@ module _ {t : Tender} {count : ℕ} {bids windows old new : List ℕ} {a : Writi
 -- a text that is not too long is written where the buffer has room
 room-enough : (text old new : List ℕ) (r : ℕ) → length text ≤ 65536
     → r ≡ lengthWritten (cond (leb (length text) (min 65536 (length old))) (spelt text) (unspelt NoRoom))
-    → new ≡ bufferAfter old (cond (leb (length text) (min 65536 (length old))) (spelt text) (unspelt NoRoom)) → Delivered text old new r
+    → new ≡ bufferAfter old (cond (leb (length text) (min 65536 (length old))) (spelt text) (unspelt NoRoom))
+    → Delivered text old new r
 unfolding lengthWritten bufferAfter
 room-enough text old new r l a b = go (leb (length text) (length old)) refl
   where

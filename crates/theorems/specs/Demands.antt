@@ -5,13 +5,14 @@ use mathlib.Core.Logic.{_⊎_}
 use mathlib.Core.Bool.{true}
 use mathlib.Core.List.{List, map}
 use mathlib.Core.Option.{some}
-use Prim.Native.Nat.{ℕ, _+_, _^_, _≤_, _<_, min}
-use lib.ListN.{length, getD, set}
+use Prim.Native.Nat.{ℕ, _+_, _/_, _^_, _≤_, _<_, min}
+use lib.ListN.{length, getD, set, take}
 use lib.Dec.{leb}
 use Rattle.tender.specs.declared.Kind.the-variants.{Single, Multi}
 use Rattle.tender.specs.declared.Window.{Window}
 use Rattle.tender.specs.declared.Tender.{Tender}
 use Rattle.tender.specs.declared.AwardRow.{AwardRow}
+use Rattle.tender.specs.declared.Refusal.the-variants.{BadTables}
 use Rattle.tender.specs.Tables.{Row, rowsOf, flatRows, flatWindows}
 use Rattle.reader_line.specs.Words.{digits}
 use Rattle.reader_line.specs.LinePlain.{allPlain}
@@ -25,6 +26,7 @@ use Rattle.reader.specs.Differ.{Word, DifferInPrice}
 use Rattle.award_check.specs.Cells.{noRow, cellsOf, hasOf, pricesOf}
 use Rattle.award_check.specs.Alike.{named, Alike}
 use Rattle.award_plain.specs.Award.{won, awarded, awardOf, outcomeNumber}
+use Rattle.award_plain.specs.Award.{refused as refusal}
 use Rattle.award_plain.specs.AwardLaws.{award-lent}
 use Rattle.award.specs.Gain.{rowFor, gain, AtMost}
 use Rattle.award.specs.Promise.{lentAfter, Promise}
@@ -37,7 +39,10 @@ use Rattle.spelling.specs.Text.{textOf, bidIn}
 use Rattle.spelling.specs.DeliveredLaws.{same-shown}
 use Rattle.spelling.specs.Lines.{pairLine, refusedWord}
 use Rattle.listing.specs.ListLaws as list
+use Rattle.writer.specs.declared.Writing.the-variants.{Written, Refused}
+use Rattle.writer.specs.Same.{Same, ReadBack}
 use Rattle.theorems.specs.Calls.{ReadRun, ReadCall, AwardCall, toldBy, SettleCall, toldPlain, ListCall, shown}
+use Rattle.theorems.specs.Calls.{WriteCall, RewriteCall, rewritten}
 use Rattle.theorems.specs.OneReading.{OneReading, SameReading}
 use Rattle.theorems.specs.ListRead.{rowShown}
 use Rattle.theorems.specs.Between.{Exactly, CallableWith, FewerThan, ForCover, priceAt, WasRead, Variant, Follows, SameAward}
@@ -52,6 +57,9 @@ use Rattle.theorems.specs.TextGainLaws.{no-gain-read}
 use Rattle.theorems.specs.CoverLaws as cover
 use Rattle.theorems.specs.ListNumberLaws.{one-list, shows-no-other}
 use Rattle.theorems.specs.ListGainLaws.{list-shows, no-gain-shown}
+use Rattle.theorems.specs.Rewriting.{OneWriting, ReadAsWritten, SameTables}
+use Rattle.theorems.specs.RewritingLaws.{one-writing, nine-as-award, read-as-written, equal-written, equal-rewritten}
+use Rattle.theorems.specs.RewritingLaws.{always-fits, read-rewritten, rewritten-again, rewritten-fits}
 
 -- Demand 1. Every text and every table gets one complete award or one refusal, by number and place. No bid is dropped or shortened,
 -- and a refusal changes nothing that was lent.
@@ -219,3 +227,51 @@ pub never-paid-less : (c : AwardCall) (i : ℕ) → i < c .count → rowFor (tol
 unfolding named
 never-paid-less c i l = outcome.no-loss (c .kind) (c .tender) (c .count) i (c .bids) (c .windows) (length (c .rows-before)) (toldBy c) l
     (c .promise .answers)
+
+-- Paper 2 of 02. Bid lists in one spelling: each bid's windows joined where they overlap or touch, in rising order.
+
+-- Tables give one text or one refusal: 9, then 14, and on no other ground.
+pub one-answer-of-the-writer : (w : WriteCall) → OneWriting w
+one-answer-of-the-writer = one-writing
+
+-- 9 as the award of the tender's own kind gives it on these tables, at the same place.
+pub nine-as-the-award : (w : WriteCall) (c : AwardCall) → SameTables w c → (row : ℕ)
+    → Exactly (w .answer ≡ Refused (BadTables row)) (toldBy c ≡ refusal 9 row)
+nine-as-the-award = nine-as-award
+
+-- What is written reads back, by `read` into tables of 1,000 and 32,000 rows: as the same tender and, in the same entry order, the same
+-- bidders, prices and minutes.
+pub written-reads-back : (w : WriteCall) (r : ReadCall) (n : ℕ) → w .answer ≡ Written n → r .run .text ≡ take n (w .buffer-after)
+    → 1000 ≤ length (r .run .bids) / 4 → 32000 ≤ length (r .run .windows) / 2 → ReadAsWritten w r
+written-reads-back = read-as-written
+
+-- Equal bytes are written exactly where tender, bidders, prices, entry order and each bid's minutes agree: of tables,
+pub equal-bytes-of-tables : (w w′ : WriteCall) (n n′ : ℕ) → w .answer ≡ Written n → w′ .answer ≡ Written n′
+    → Exactly (take n (w .buffer-after) ≡ take n′ (w′ .buffer-after)) (Same (w .tender) (rowsOf (w .count) (w .bids)) (w .windows)
+    (w′ .tender) (rowsOf (w′ .count) (w′ .bids)) (w′ .windows))
+equal-bytes-of-tables = equal-written
+
+-- and of any two accepted texts.
+pub equal-bytes-of-texts : (l l′ : RewriteCall) (T T′ : Tender) (R R′ : List Row) (W W′ : List Window)
+    → readText (l .text) ≡ accepted T R W → readText (l′ .text) ≡ accepted T′ R′ W′ → 0 < l .answer → 0 < l′ .answer
+    → Exactly (rewritten l ≡ rewritten l′) (Same T R (flatWindows W) T′ R′ (flatWindows W′))
+equal-bytes-of-texts = equal-rewritten
+
+-- A buffer as long as the text, but of 52 bytes at least, always suffices.
+pub rewrite-fits : (l : RewriteCall) → length (l .text) ≤ length (l .buffer) → 52 ≤ length (l .buffer) → 0 < l .answer
+rewrite-fits = always-fits
+
+-- an accepted text
+module _ (l : RewriteCall) (T : Tender) (R : List Row) (W : List Window) (read : readText (l .text) ≡ accepted T R W) where
+  -- Rewritten, it reads as the same tender and bids,
+  pub rewritten-reads-back : 0 < l .answer → ReadBack (rewritten l) T R (flatWindows W)
+  rewritten-reads-back = read-rewritten l T R W read
+
+  -- is rewritten to itself,
+  pub rewritten-to-itself : (l′ : RewriteCall) → l′ .text ≡ rewritten l → 0 < l .answer → 0 < l′ .answer
+      → rewritten l′ ≡ rewritten l
+  rewritten-to-itself = rewritten-again l T R W read
+
+  -- and is no longer than it was: 14 is for a buffer that is shorter than the text.
+  pub rewritten-no-longer : length (l .text) ≤ length (l .buffer) → (0 < l .answer) × (l .answer ≤ length (l .text))
+  rewritten-no-longer = rewritten-fits l T R W read

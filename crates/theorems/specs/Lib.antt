@@ -2,6 +2,7 @@ pub mod Calls
 pub mod OneReading
 pub mod ListRead
 pub mod Between
+pub mod Rewriting
 pub mod WorkedCases
 pub mod ReadingLaws
 pub mod ReadAgainLaws
@@ -13,4 +14,5 @@ pub mod ShownLaws
 pub mod ListNumberLaws
 pub mod ListGainLaws
 pub mod WorkedLaws
+pub mod RewritingLaws
 pub mod Demands

@@ -12,7 +12,7 @@ use Rattle.award_check.specs.Faults.{faultOf}
 use Rattle.writer.specs.declared.Writing.the-variants.{Written, Refused}
 use Rattle.writer.specs.Canonical.{canonical}
 use Rattle.writer.specs.Same.{Same}
-use Rattle.theorems.specs.Calls.{ReadCall, WriteCall}
+use Rattle.theorems.specs.Calls.{ReadCall, AwardCall, WriteCall}
 
 -- the text of its tables in one spelling
 abbrev pub textBy : WriteCall → List ℕ
@@ -23,7 +23,8 @@ pub data OneWriting (w : WriteCall) : Type 0 where
   tables-faulty : (row : ℕ) → faultOf (w .tender .kind) (w .tender) (w .count) (w .bids) (w .windows) ≡ some row
       → w .answer ≡ Refused (BadTables row) → w .buffer-after ≡ w .buffer → OneWriting w
   no-room : faultOf (w .tender .kind) (w .tender) (w .count) (w .bids) (w .windows) ≡ none
-      → min maxText (length (w .buffer)) < length (textBy w) → w .answer ≡ Refused NoRoom → w .buffer-after ≡ w .buffer → OneWriting w
+      → min maxText (length (w .buffer)) < length (textBy w) → w .answer ≡ Refused NoRoom → w .buffer-after ≡ w .buffer
+      → OneWriting w
   text-written : faultOf (w .tender .kind) (w .tender) (w .count) (w .bids) (w .windows) ≡ none
       → length (textBy w) ≤ min maxText (length (w .buffer)) → w .answer ≡ Written (length (textBy w))
       → w .buffer-after ≡ textBy w ++ drop (length (textBy w)) (w .buffer) → OneWriting w
@@ -34,3 +35,11 @@ pub record ReadAsWritten (w : WriteCall) (r : ReadCall) : Type 0 where
   pub accepts : r .run .answer ≡ answer.Accepted (w .tender) (w .count) window-rows
   pub same : Same (w .tender) (rowsOf (w .count) (w .bids)) (w .windows)
       (w .tender) (rowsOf (w .count) (r .run .bids-after)) (r .run .windows-after)
+
+-- the award of the tender's own kind is called on the same tables
+pub record SameTables (w : WriteCall) (c : AwardCall) : Type 0 where
+  pub kinds : c .kind ≡ w .tender .kind
+  pub tenders : c .tender ≡ w .tender
+  pub counts : c .count ≡ w .count
+  pub bids : c .bids ≡ w .bids
+  pub windows : c .windows ≡ w .windows

@@ -22,14 +22,14 @@ returns c =
     let c7 = c .before .before .before .before .before .before .before in
     let args = c7 .args in
     writes-fourteen (args .tender) (args .count) (args .bids .now) (args .windows .now) (c7 .pre) (c .before .before .put-text .ensures)
-    (args .text .now) (inl (c .if1 .taken))
+    (args .text .now) (inl (omega arith))
 
 returns-2 : tie.Need-returns-2
 returns-2 c =
     let c8 = c .before .before .before .before .before .before .before .before in
     let args = c8 .args in
     writes-fourteen (args .tender) (args .count) (args .bids .now) (args .windows .now) (c8 .pre)
-    (c .before .before .before .put-text .ensures) (args .text .now) (inr (c .if2 .taken))
+    (c .before .before .before .put-text .ensures) (args .text .now) (inr (omega arith))
 
 array-share-prefix-made : tie.Need-array-share-prefix-made
 array-share-prefix-made c = search needs

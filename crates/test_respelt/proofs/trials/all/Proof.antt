@@ -1,0 +1,54 @@
+-- The loop counts up to n. Assumes nothing.
+use Prim.Native.Nat.{_≤_, _-_}
+use borrow.Author.Needs.{needs}
+use Rattle.test_respelt.proofs.trials.all.Statement.{statement}
+use Rattle.test_respelt.proofs.trials.all.Tie as tie
+
+abbrev Inv-loop : tie.InvT-loop
+Inv-loop n t₀ state₀ i₀ t state i = (i ≤ n)
+
+abbrev μ-loop : tie.MeasureT-loop
+μ-loop n t₀ state₀ i₀ t state i = n - i
+
+loop-holds : tie.Need-loop-holds Inv-loop μ-loop
+loop-holds c = search needs
+
+draw-requires : tie.Need-draw-requires Inv-loop μ-loop
+draw-requires c κs = search needs
+
+try-lot-requires : tie.Need-try-lot-requires Inv-loop μ-loop
+try-lot-requires c κs = search needs
+
+draw-requires-2 : tie.Need-draw-requires-2 Inv-loop μ-loop
+draw-requires-2 c κs = search needs
+
+try-lot-requires-2 : tie.Need-try-lot-requires-2 Inv-loop μ-loop
+try-lot-requires-2 c κs = search needs
+
+add-i : tie.Need-add-i Inv-loop μ-loop
+add-i c = search needs
+
+loop-less : tie.Need-loop-less Inv-loop μ-loop
+loop-less c = search needs
+
+loop-again : tie.Need-loop-again Inv-loop μ-loop
+loop-again c = search needs
+
+returns : tie.Need-returns Inv-loop μ-loop
+returns c = search needs
+
+pub all-spec : {M : Type 1} → statement M
+all-spec =
+    tie.close
+    (tie.spec
+    Inv-loop
+    μ-loop
+    loop-holds
+    draw-requires
+    try-lot-requires
+    draw-requires-2
+    try-lot-requires-2
+    add-i
+    loop-less
+    loop-again
+    returns)
