@@ -3,7 +3,7 @@ use mathlib.Core.Path.{_≡_}
 use mathlib.Core.List.{List, [], _∷_}
 use Prim.Native.Nat.{ℕ, _+_, _*_, _<_}
 use lib.ListN.{getD}
-use Rattle.tender.specs.Tables.{Row, rowsOf}
+use Rattle.tender.specs.Tables.{Row, rowsOf, windowWidth}
 
 -- the price that bid i names in the table of bids
 unfoldable pub named : List ℕ → ℕ → ℕ
@@ -17,4 +17,4 @@ windowCount (r ∷ rs) = r .count + windowCount rs
 -- the rows that hold the n bids and their windows are the same in all but the price of bid i
 pub record Alike (n i : ℕ) (bids windows bids′ windows′ : List ℕ) : Type 0 where
   pub rows : (j : ℕ) → j < 4 * n → (j ≡ 4 * i + 1 → ⊥) → getD bids j 0 ≡ getD bids′ j 0
-  pub windows-too : (j : ℕ) → j < 2 * windowCount (rowsOf n bids) → getD windows j 0 ≡ getD windows′ j 0
+  pub windows-too : (j : ℕ) → j < windowWidth * windowCount (rowsOf n bids) → getD windows j 0 ≡ getD windows′ j 0

@@ -12,7 +12,7 @@ use borrow.Author.Tests.{eqb-true}
 use Rattle.tender.specs.declared.Kind.{Kind}
 use Rattle.tender.specs.declared.Tender.{Tender}
 use Rattle.tender.specs.Limits.{within, maxPrice, maxBidder, maxBids, mostWindows, lawful, allLawful}
-use Rattle.tender.specs.Tables.{Row, rowsOf, windowsOf, own}
+use Rattle.tender.specs.Tables.{Row, rowsOf, windowsOf, own, windowWidth, windowAt}
 use Rattle.reader.specs.Words.{among}
 use Rattle.reader.specs.Differ.{withPrice}
 use Rattle.cover.specs.SetLaws.{and-split}
@@ -48,14 +48,15 @@ rows-same (suc n) bs cs h = rw (
   rows-same n (drop 4 bs) (drop 4 cs) (λ j l. later 4 (4 * suc n) bs cs (λ k m o. h k o) j (omega arith)),
 )
 
-pub windows-same : (n : ℕ) (bs cs : List ℕ) → ((j : ℕ) → j < 2 * n → getD bs j 0 ≡ getD cs j 0)
+pub windows-same : (n : ℕ) (bs cs : List ℕ) → ((j : ℕ) → j < windowWidth * n → getD bs j 0 ≡ getD cs j 0)
     → windowsOf n bs ≡ windowsOf n cs
 unfolding windowsOf
 windows-same zero bs cs h = refl
 windows-same (suc n) bs cs h = rw (
   h 0 (omega arith),
   h 1 (omega arith),
-  windows-same n (drop 2 bs) (drop 2 cs) (λ j l. later 2 (2 * suc n) bs cs (λ k m o. h k o) j (omega arith)),
+  windows-same n (drop windowWidth bs) (drop windowWidth cs)
+      (λ j l. later windowWidth (windowWidth * suc n) bs cs (λ k m o. h k o) j (omega arith)),
 )
 
 pub rows-set : (n i : ℕ) (bs cs : List ℕ) → i < n
@@ -115,7 +116,7 @@ pub record Kept (k : Kind) (windows : List ℕ) (at : ℕ) (r : Row) : Type 0 wh
   pub price : leb (r .price) maxPrice ≡ true
   pub count : within 1 (mostWindows k) (r .count) ≡ true
   pub first : r .first ≡ at
-  pub room : leb (at + r .count) (length windows / 2) ≡ true
+  pub room : leb (at + r .count) (length windows / windowWidth) ≡ true
   pub windows-too : allLawful (own windows r) ≡ true
 
 pub keeps-kept : (k : Kind) (windows : List ℕ) (at : ℕ) (r : Row) → keeps k windows at r ≡ true → Kept k windows at r
@@ -125,7 +126,7 @@ keeps-kept k windows at r e =
     let b = and-split (leb (r .price) maxPrice) _ (a .1) in
     let c = and-split (within 1 (mostWindows k) (r .count)) _ (b .1) in
     let d = and-split (eqb (r .first) at) _ (c .1) in
-    let f = and-split (leb (at + r .count) (length windows / 2)) _ (d .1) in
+    let f = and-split (leb (at + r .count) (length windows / windowWidth)) _ (d .1) in
     record { bidder = a .0; price = b .0; count = c .0; first = eqb-true (r .first) at (d .0); room = f .0; windows-too = f .1 }
 
 pub sound-first : (k : Kind) (windows : List ℕ) (place : ℕ) (used : List ℕ) (at : ℕ) (r : Row)
@@ -179,9 +180,9 @@ module _ (k : Kind) (t : Tender) (n i : ℕ) (bids windows bids′ windows′ : 
       ∙ sym (go (getD (rowsOf n bids) j noRow) (among-held k windows 1 [] 0 (rowsOf n bids) j f))
     where
       go : (r : Row) → r .first + r .count ≤ 0 + windowCount (rowsOf n bids) → own windows r ≡ own windows′ r
-      go r l = windows-same (r .count) (drop (2 * r .first) windows) (drop (2 * r .first) windows′)
-          (λ x m. getD-drop (2 * r .first) windows x 0 ∙ a .windows-too (2 * r .first + x) (omega arith)
-          ∙ sym (getD-drop (2 * r .first) windows′ x 0))
+      go r l = windows-same (r .count) (drop (windowWidth * r .first) windows) (drop (windowWidth * r .first) windows′)
+          (λ x m. getD-drop (windowWidth * r .first) windows x 0 ∙ a .windows-too (windowWidth * r .first + x) (omega arith)
+          ∙ sym (getD-drop (windowWidth * r .first) windows′ x 0))
 
   pub cells-alike : hasOf t (rowsOf n bids′) windows′ ≡ hasOf t (rowsOf n bids) windows
   unfolding hasOf
@@ -219,10 +220,16 @@ rows-step m j bids =
       e,
     )
 
-pub windows-step : (m j : ℕ) (windows : List ℕ) → windowsOf (suc m) (drop (2 * j) windows)
-    ≡ record { start = getD windows (2 * j) 0; end = getD windows (2 * j + 1) 0 } ∷ windowsOf m (drop (2 * (j + 1)) windows)
+pub windows-step : (m j : ℕ) (windows : List ℕ) → windowsOf (suc m) (drop (windowWidth * j) windows)
+    ≡ windowAt windows j ∷ windowsOf m (drop (windowWidth * (j + 1)) windows)
 unfolding windowsOf
 windows-step m j windows =
-    let z : 2 * j + 0 ≡ 2 * j = omega arith in
-    let e : 2 * j + 2 ≡ 2 * (j + 1) = omega arith in
-    rw (getD-drop (2 * j) windows 0 0, getD-drop (2 * j) windows 1 0, drop-drop 2 (2 * j) windows, z, e)
+    let z : windowWidth * j + 0 ≡ windowWidth * j = omega arith in
+    let e : windowWidth * j + windowWidth ≡ windowWidth * (j + 1) = omega arith in
+    rw (
+      getD-drop (windowWidth * j) windows 0 0,
+      getD-drop (windowWidth * j) windows 1 0,
+      drop-drop windowWidth (windowWidth * j) windows,
+      z,
+      e,
+    )

@@ -9,7 +9,7 @@ use Rattle.tender.specs.declared.Kind.{Kind}
 use Rattle.tender.specs.declared.Kind.the-variants.{Single, Multi}
 use Rattle.tender.specs.declared.Tender.{Tender}
 use Rattle.tender.specs.Limits.{within, maxPrice, maxBidder, maxBids, mostWindows, lawful, allLawful}
-use Rattle.tender.specs.Tables.{Row, rowsOf, own}
+use Rattle.tender.specs.Tables.{Row, rowsOf, own, windowWidth}
 use Rattle.reader.specs.Words.{among}
 
 -- the row rules: bidder and price within limits, one window at least and no more than the kind allows, windows that begin where
@@ -21,7 +21,7 @@ keeps k windows at r =
     && (leb (r .price) maxPrice
     && (within 1 (mostWindows k) (r .count)
     && (eqb (r .first) at
-    && (leb (at + r .count) (length windows / 2)
+    && (leb (at + r .count) (length windows / windowWidth)
     && allLawful (own windows r)))))
 
 -- besides, at most 1,000 bids, and a bidder number that is new: the row stands at `place`, after rows with the bidder numbers `used`

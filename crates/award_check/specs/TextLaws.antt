@@ -14,7 +14,7 @@ use Rattle.tender.specs.declared.Kind.the-variants.{Single, Multi}
 use Rattle.tender.specs.declared.Window.{Window}
 use Rattle.tender.specs.declared.Tender.{Tender}
 use Rattle.tender.specs.Limits.{within, maxPrice, maxBidder, maxBids, mostWindows, lawful, allLawful}
-use Rattle.tender.specs.Tables.{Row, rowsOf, windowsOf, own, flatRows, flatWindows}
+use Rattle.tender.specs.Tables.{Row, rowsOf, windowsOf, own, flatRows, flatWindows, windowWidth}
 use Rattle.reader.specs.Words.{numeralOf, priceOf}
 use Rattle.reader.specs.Rules.{WindowRules, RowRules, RowsRules, WindowsRules, Rules}
 use Rattle.reader.specs.Differ.{withPrice, RowsDifferInPrice}
@@ -32,7 +32,7 @@ unfolding flatRows
 length-rows [] = refl
 length-rows (r ∷ rs) = omega (arith, length-rows rs)
 
-pub length-windows : (W : List Window) → length (flatWindows W) ≡ 2 * length W
+pub length-windows : (W : List Window) → length (flatWindows W) ≡ windowWidth * length W
 unfolding flatWindows
 length-windows [] = refl
 length-windows (w ∷ ws) = omega (arith, length-windows ws)
@@ -53,7 +53,8 @@ drop-rules zero W r = r
 drop-rules (suc c) [] r = r
 drop-rules (suc c) (w ∷ W) r = drop-rules c W (r .1)
 
-drop-flat : (c : ℕ) (W : List Window) (v : List ℕ) → c ≤ length W → drop (2 * c) (flatWindows W ++ v) ≡ flatWindows (drop c W)
+drop-flat : (c : ℕ) (W : List Window) (v : List ℕ) → c ≤ length W
+    → drop (windowWidth * c) (flatWindows W ++ v) ≡ flatWindows (drop c W)
     ++ v
 unfolding flatWindows
 drop-flat zero W v l = refl
@@ -61,7 +62,7 @@ drop-flat (suc c) [] v l = absurd (omega arith)
 drop-flat (suc c) (w ∷ W) v l = ap (λ (m : ℕ). drop m (w .start ∷ w .end ∷ (flatWindows W ++ v))) (double c)
     ∙ drop-flat c W v (omega arith)
   where
-    double : (c : ℕ) → 2 * suc c ≡ suc (suc (2 * c))
+    double : (c : ℕ) → windowWidth * suc c ≡ suc (suc (windowWidth * c))
     double c = omega arith
 
 both : {a b : Bool} → a ≡ true → b ≡ true → a && b ≡ true
@@ -79,8 +80,8 @@ count-most Single r l f = omega (arith, f refl)
 count-most Multi r l f = l
 
 row-sound : (k : Kind) (windows v : List ℕ) (place : ℕ) (used : List ℕ) (at : ℕ) (r : Row) (W : List Window) → place ≤ 1000
-    → RowRules k used at r → drop (2 * at) windows ≡ flatWindows W ++ v →
-    r .count ≤ length W → at + r .count ≤ length windows / 2 → WindowsRules W → sound k windows place used at r ≡ true
+    → RowRules k used at r → drop (windowWidth * at) windows ≡ flatWindows W ++ v →
+    r .count ≤ length W → at + r .count ≤ length windows / windowWidth → WindowsRules W → sound k windows place used at r ≡ true
 unfolding sound keeps within own
 row-sound k windows v place used at r W l h d c e w =
     both (le-leb place maxBids l)
@@ -90,21 +91,23 @@ row-sound k windows v place used at r W l h d c e w =
     (both (both (le-leb 1 (r .count) (h .some-window))
     (le-leb (r .count) (mostWindows k) (count-most k r (h .few-windows) (h .one-window))))
     (both (eq-eqb (r .first) at (h .begins))
-    (both (le-leb (at + r .count) (length windows / 2) e)
-    (ap (λ (f : ℕ). allLawful (windowsOf (r .count) (drop (2 * f) windows))) (h .begins)
+    (both (le-leb (at + r .count) (length windows / windowWidth) e)
+    (ap (λ (f : ℕ). allLawful (windowsOf (r .count) (drop (windowWidth * f) windows))) (h .begins)
     ∙ ap (λ ws. allLawful (windowsOf (r .count) ws)) d ∙ all-lawful (r .count) W v c w)))))))
 
 rows-sound : (k : Kind) (windows v : List ℕ) (place : ℕ) (used : List ℕ) (at : ℕ) (rs : List Row) (W : List Window) (end : ℕ)
     → RowsRules k used at rs end → place + length rs ≤ 1001 →
-    drop (2 * at) windows ≡ flatWindows W ++ v → at + length W ≡ end → end ≤ length windows / 2 → WindowsRules W
+    drop (windowWidth * at) windows ≡ flatWindows W ++ v → at + length W ≡ end → end ≤ length windows / windowWidth
+    → WindowsRules W
     → rowFault k windows place used at rs ≡ none
 unfolding rowFault
 rows-sound k windows v place used at [] W end h l d e f w = refl
 rows-sound k windows v place used at (r ∷ rs) W end h l d e f w =
     let m = rows-end k (used ++ r .bidder ∷ []) (at + r .count) rs end (h .1) in
-    let i : 2 * (at + r .count) ≡ 2 * at + 2 * r .count = omega arith in
-    let n : drop (2 * (at + r .count)) windows ≡ flatWindows (drop (r .count) W) ++ v =
-    ap (λ (j : ℕ). drop j windows) i ∙ sym (drop-drop (2 * r .count) (2 * at) windows) ∙ ap (drop (2 * r .count)) d
+    let i : windowWidth * (at + r .count) ≡ windowWidth * at + windowWidth * r .count = omega arith in
+    let n : drop (windowWidth * (at + r .count)) windows ≡ flatWindows (drop (r .count) W) ++ v =
+    ap (λ (j : ℕ). drop j windows) i
+    ∙ sym (drop-drop (windowWidth * r .count) (windowWidth * at) windows) ∙ ap (drop (windowWidth * r .count)) d
     ∙ drop-flat (r .count) W v (omega arith) in
     rw (row-sound k windows v place used at r W (omega arith) (h .0) d (omega arith) (omega arith) w)
     (rows-sound k windows v (place + 1) (used ++ r .bidder ∷ []) (at + r .count) rs (drop (r .count) W) end (h .1) (omega arith) n
@@ -120,7 +123,7 @@ pub never-nine : (T : Tender) (R : List Row) (W : List Window) (v w : List ℕ) 
 unfolding faultOf
 never-nine T R W v w h =
     let l : length R ≤ length (flatRows R ++ v) / 4 = omega (arith, length-append (flatRows R) v, length-rows R) in
-    let m : length W ≤ length (flatWindows W ++ w) / 2 = omega (arith, length-append (flatWindows W) w, length-windows W) in
+    let m : length W ≤ length (flatWindows W ++ w) / windowWidth = omega (arith, length-append (flatWindows W) w, length-windows W) in
     rw (
       both (both (same-kind (T .kind)) (lawful-of (T .window) (h .tender))) (le-leb (length R) (length (flatRows R ++ v) / 4) l),
       rows-flat R v,
@@ -182,5 +185,5 @@ tabled T R S W v w v′ w′ bidder p q h d = record {
   };
 }
   where
-    few : (j : ℕ) → j < 2 * windowCount R → j < length (flatWindows W)
+    few : (j : ℕ) → j < windowWidth * windowCount R → j < length (flatWindows W)
     few j l = omega (arith, rows-end (T .kind) [] 0 R (length W) (h .rows), length-windows W)

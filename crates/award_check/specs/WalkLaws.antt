@@ -12,7 +12,7 @@ use borrow.Author.Tests.{not-true, not-false, ltb-true, ltb-false, leb-true, le-
 use Rattle.tender.specs.declared.Kind.{Kind}
 use Rattle.tender.specs.Limits.{within, lawful, allLawful}
 use Rattle.cover.specs.SetLaws.{and-split}
-use Rattle.tender.specs.Tables.{Row, rowsOf, windowsOf}
+use Rattle.tender.specs.Tables.{Row, rowsOf, windowsOf, windowWidth, windowAt}
 use Rattle.reader.specs.Words.{among}
 use Rattle.cells.specs.Cells.{cell, RangeAdded}
 use Rattle.award_check.specs.Faults.{keeps, sound, rowFault}
@@ -20,37 +20,37 @@ use Rattle.award_check.specs.AlikeLaws.{rows-step, windows-step, keeps-k
 
 -- the windows from j on, of those from `first` on, where j are not yet passed
 abbrev pub rowsAhead : List ℕ → ℕ → ℕ → ℕ → Bool
-rowsAhead windows first count j = allLawful (windowsOf (count - j) (drop (2 * (first + j)) windows))
+rowsAhead windows first count j = allLawful (windowsOf (count - j) (drop (windowWidth * (first + j)) windows))
 
 pub ahead-more : (windows : List ℕ) (first count j : ℕ) → j < count →
-    rowsAhead windows first count j ≡ (ltb (getD windows (2 * (first + j)) 0) (getD windows (2 * (first + j) + 1) 0)
-    && leb (getD windows (2 * (first + j) + 1) 0) 10080) && rowsAhead windows first count (j + 1)
+    rowsAhead windows first count j ≡ (ltb (windowAt windows (first + j) .start) (windowAt windows (first + j) .end)
+    && leb (windowAt windows (first + j) .end) 10080) && rowsAhead windows first count (j + 1)
 unfolding allLawful lawful
 ahead-more windows first count j l =
     let e : count - j ≡ suc (count - (j + 1)) = omega arith in
     let f : first + j + 1 ≡ first + (j + 1) = omega arith in
-    ap (λ (m : ℕ). allLawful (windowsOf m (drop (2 * (first + j)) windows))) e
+    ap (λ (m : ℕ). allLawful (windowsOf m (drop (windowWidth * (first + j)) windows))) e
     ∙ ap allLawful (windows-step (count - (j + 1)) (first + j) windows)
-    ∙ ap (λ (i : ℕ). (ltb (getD windows (2 * (first + j)) 0) (getD windows (2 * (first + j) + 1) 0)
-    && leb (getD windows (2 * (first + j) + 1) 0) 10080) && allLawful (windowsOf (count - (j + 1)) (drop (2 * i) windows))) f
+    ∙ ap (λ (i : ℕ). (ltb (windowAt windows (first + j) .start) (windowAt windows (first + j) .end)
+    && leb (windowAt windows (first + j) .end) 10080) && allLawful (windowsOf (count - (j + 1)) (drop (windowWidth * i) windows))) f
 
 pub ahead-all : (windows : List ℕ) (first count j : ℕ) → count ≤ j → rowsAhead windows first count j ≡ true
 unfolding allLawful windowsOf
 ahead-all windows first count j l = let e : count - j ≡ 0 = omega arith in
-    ap (λ (m : ℕ). allLawful (windowsOf m (drop (2 * (first + j)) windows))) e
+    ap (λ (m : ℕ). allLawful (windowsOf m (drop (windowWidth * (first + j)) windows))) e
 
 pub ahead-start : (windows : List ℕ) (first count : ℕ)
-    → rowsAhead windows first count 0 ≡ allLawful (windowsOf count (drop (2 * first) windows))
+    → rowsAhead windows first count 0 ≡ allLawful (windowsOf count (drop (windowWidth * first) windows))
 ahead-start windows first count =
     let d : count - 0 ≡ count = omega arith in
     let e : first + 0 ≡ first = omega arith in
-    ap (λ (m : ℕ). allLawful (windowsOf m (drop (2 * (first + 0)) windows))) d
-    ∙ ap (λ (i : ℕ). allLawful (windowsOf count (drop (2 * i) windows))) e
+    ap (λ (m : ℕ). allLawful (windowsOf m (drop (windowWidth * (first + 0)) windows))) d
+    ∙ ap (λ (i : ℕ). allLawful (windowsOf count (drop (windowWidth * i) windows))) e
 
 -- window j was found lawful, or not
 module _ (windows : List ℕ) (first count j : ℕ) (r : Bool) (l : j < count)
-    (is : r ≡ (ltb (getD windows (2 * (first + j)) 0) (getD windows (2 * (first + j) + 1) 0)
-    && leb (getD windows (2 * (first + j) + 1) 0) 10080)) where
+    (is : r ≡ (ltb (windowAt windows (first + j) .start) (windowAt windows (first + j) .end)
+    && leb (windowAt windows (first + j) .end) 10080)) where
   pub ahead-goes : (X : Bool) → not r ≡ false → rowsAhead windows first count j ≡ X → rowsAhead windows first count (j + 1) ≡ X
   ahead-goes X t e = sym (ahead-more windows first count j l
       ∙ ap (λ b. b && rowsAhead windows first count (j + 1)) (sym is ∙ not-false r t))
@@ -121,7 +121,7 @@ pub record Going (k : Kind) (n : ℕ) (bids windows used : List ℕ) (at j : ℕ
   pub list : List ℕ
   pub passed : RowsPassed used list
   pub inside : j ≤ n
-  pub room : at ≤ length windows / 2
+  pub room : at ≤ length windows / windowWidth
   pub rest : rowFault k windows (j + 1) list at (rowsOf (n - j) (drop (4 * j) bids)) ≡ rowFault k windows 1 [] 0 (rowsOf n bids)
 
 pub going-starts : (k : Kind) (n : ℕ) (bids windows used : List ℕ) → used ≡ replicate {A = ℕ} 15625 0
@@ -179,7 +179,7 @@ module _ (k : Kind) (n : ℕ) (bids windows used : List ℕ) (at j : ℕ) (g : G
     list = g .list ++ rowAt bids j .bidder ∷ [];
     passed = passed-more used used′ (g .list) (rowAt bids j .bidder) (g .passed) fills s;
     inside = omega arith;
-    room = leb-true (at + rowAt bids j .count) (length windows / 2) (keeps-kept k windows at (rowAt bids j) e .room);
+    room = leb-true (at + rowAt bids j .count) (length windows / windowWidth) (keeps-kept k windows at (rowAt bids j) e .room);
     rest = sym (step l ∙ ap (λ t. cond t (rowFault k windows (j + 1 + 1) (g .list ++ rowAt bids j .bidder ∷ [])
         (at + rowAt bids j .count)
         (rowsOf (n - (j + 1)) (drop (4 * (j + 1)) bids))) (some (j + 1))) sound-here);
@@ -197,5 +197,5 @@ module _ (k : Kind) (n : ℕ) (bids windows used : List ℕ) (at j : ℕ) (g : G
       (keeps-kept k windows at (rowAt bids j) e .bidder) in
       omega (arith, g .passed .size, leb-true (rowAt bids j .bidder) 999999 (b .1))
 
-  pub room-here : keeps k windows at (rowAt bids j) ≡ true → at + rowAt bids j .count ≤ length windows / 2
-  room-here e = leb-true (at + rowAt bids j .count) (length windows / 2) (keeps-kept k windows at (rowAt bids j) e .room)
+  pub room-here : keeps k windows at (rowAt bids j) ≡ true → at + rowAt bids j .count ≤ length windows / windowWidth
+  room-here e = leb-true (at + rowAt bids j .count) (length windows / windowWidth) (keeps-kept k windows at (rowAt bids j) e .room)

@@ -9,7 +9,7 @@ ghost use Prim.Native.Nat.{_+_, _*_, _/_, _≤_};
 ghost use lib.ListN.{length, drop};
 ghost use lib.Dec.{leb, ltb, eqb};
 ghost use Rattle.tender.specs.Limits.{mostWindows, within, allLawful};
-ghost use Rattle.tender.specs.Tables.{rowsOf, windowsOf};
+ghost use Rattle.tender.specs.Tables.{rowsOf, windowsOf, windowWidth};
 ghost use Rattle.award_check.specs.Faults.{keeps, rowFault, faultOf, sameKind};
 ghost use Rattle.award_check.specs.Checks.{checkedFault};
 
@@ -52,13 +52,13 @@ fn window_lawful(start: u64, end: u64) -> bool
 
 // Whether the windows from `first` on, `count` of them, are lawful.
 fn windows_lawful(windows: &[u64], first: usize, count: usize) -> bool
-    requires { ⌜ first + count ≤ length (now windows) / 2 ⌝ }
-    ensures { λ r. ⌜ r ≡ allLawful (windowsOf count (drop (2 * first) (now (windows .entry)))) ⌝ }
+    requires { ⌜ first + count ≤ length (now windows) / windowWidth ⌝ }
+    ensures { λ r. ⌜ r ≡ allLawful (windowsOf count (drop (windowWidth * first) (now (windows .entry)))) ⌝ }
 {
     let mut j = 0;
     while j < count {
-        let s = windows[2 * (first + j)];
-        let e = windows[2 * (first + j) + 1];
+        let s = windows[tender::WINDOW_WIDTH * (first + j)];
+        let e = windows[tender::WINDOW_WIDTH * (first + j) + 1];
         if !window_lawful(s, e) {
             return false;
         }
@@ -83,7 +83,7 @@ fn row_keeps(
     first: u64,
     count: u64,
 ) -> bool
-    requires { ⌜ at ≤ length (now windows) / 2 ⌝ }
+    requires { ⌜ at ≤ length (now windows) / windowWidth ⌝ }
     ensures { λ r. ⌜ r ≡ keeps kind (now (windows .entry))
         at (record { bidder = bidder; price = price; first = first; count = count }) ⌝ }
 {
@@ -99,7 +99,7 @@ fn row_keeps(
     if first != at as u64 {
         return false;
     }
-    if ((windows.len() / 2 - at) as u64) < count {
+    if ((windows.len() / tender::WINDOW_WIDTH - at) as u64) < count {
         return false;
     }
     windows_lawful(windows, at, count as usize)

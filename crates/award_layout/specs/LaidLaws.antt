@@ -11,7 +11,7 @@ use borrow.Author.Tests.{ltb-true, ltb-false, leb-true, leb-false, eq-eqb}
 use Rattle.tender.specs.declared.Kind.{Kind}
 use Rattle.tender.specs.Limits.{within, mostWindows}
 use Rattle.cover.specs.SetLaws.{and-split}
-use Rattle.tender.specs.Tables.{rowsOf, windowsOf}
+use Rattle.tender.specs.Tables.{rowsOf, windowsOf, windowWidth, windowAt}
 use Rattle.cells.specs.Cells.{cell, RangeAdded}
 use Rattle.cells.specs.BitLaws.{zero-bit}
 use Rattle.award_check.specs.Cells.{holds, pricesOf}
@@ -41,8 +41,9 @@ prices-are bids out n e h = ext-getD 0 out (pricesOf (rowsOf n bids)) (e ∙ sym
 -- the words have the cells of the windows passed, those from j on being left
 pub record Masking (start L : ℕ) (windows : List ℕ) (first count j : ℕ) (words : List ℕ) : Type 0 where
   pub inside : j ≤ count
-  pub sets : (x : ℕ) → (eqb (cell words x) 1 || (ltb x L && holds (windowsOf (count - j) (drop (2 * (first + j)) windows)) (start + x)))
-      ≡ (ltb x L && holds (windowsOf count (drop (2 * first) windows)) (start + x))
+  pub sets : (x : ℕ) → (eqb (cell words x) 1
+      || (ltb x L && holds (windowsOf (count - j) (drop (windowWidth * (first + j)) windows)) (start + x)))
+      ≡ (ltb x L && holds (windowsOf count (drop (windowWidth * first) windows)) (start + x))
 
 pub masking-starts : (start L : ℕ) (windows : List ℕ) (first count : ℕ) (words : List ℕ) → ((i : ℕ) → getD words i 0 ≡ 0)
     → Masking start L windows first count 0 words
@@ -51,19 +52,19 @@ masking-starts start L windows first count words z =
     record {
       inside = omega arith;
       sets = λ x. ap (λ b.
-          b || (ltb x L && holds (windowsOf (count - 0) (drop (2 * (first + 0)) windows)) (start + x))) (clear x) ∙ same x;
+          b || (ltb x L && holds (windowsOf (count - 0) (drop (windowWidth * (first + 0)) windows)) (start + x))) (clear x) ∙ same x;
     }
   where
     clear : (x : ℕ) → eqb (getD words (x / 64) 0 / 2 ^ (x % 64) % 2) 1 ≡ false
     clear x = ap (λ (v : ℕ). eqb (v / 2 ^ (x % 64) % 2) 1) (z (x / 64)) ∙ ap (λ (v : ℕ). eqb v 1) (zero-bit (x % 64))
 
-    same : (x : ℕ) → (ltb x L && holds (windowsOf (count - 0) (drop (2 * (first + 0)) windows)) (start + x))
-        ≡ (ltb x L && holds (windowsOf count (drop (2 * first) windows)) (start + x))
+    same : (x : ℕ) → (ltb x L && holds (windowsOf (count - 0) (drop (windowWidth * (first + 0)) windows)) (start + x))
+        ≡ (ltb x L && holds (windowsOf count (drop (windowWidth * first) windows)) (start + x))
     same x =
         let d : count - 0 ≡ count = omega arith in
         let e : first + 0 ≡ first = omega arith in
-        ap (λ (m : ℕ). ltb x L && holds (windowsOf m (drop (2 * (first + 0)) windows)) (start + x)) d
-        ∙ ap (λ (m : ℕ). ltb x L && holds (windowsOf count (drop (2 * m) windows)) (start + x)) e
+        ap (λ (m : ℕ). ltb x L && holds (windowsOf m (drop (windowWidth * (first + 0)) windows)) (start + x)) d
+        ∙ ap (λ (m : ℕ). ltb x L && holds (windowsOf count (drop (windowWidth * m) windows)) (start + x)) e
 
 -- a cell is set after a range is added where it was set or is in the range
 added : (s e : ℕ) (words words′ : List ℕ) → s ≤ e → RangeAdded s e words words′ → (x : ℕ)
@@ -82,36 +83,34 @@ regroup false false i h = refl
 
 pub masking-more : (start L : ℕ) (windows : List ℕ) (first count j : ℕ) (words words′ : List ℕ) (s e : ℕ)
     → Masking start L windows first count j words → j < count →
-    s ≡ clipped start L (getD windows (2 * (first + j)) 0) → e ≡ clipped start L (getD windows (2 * (first + j) + 1) 0) → s ≤ e
+    s ≡ clipped start L (windowAt windows (first + j) .start) → e ≡ clipped start L (windowAt windows (first + j) .end) → s ≤ e
     → RangeAdded s e words words′ → Masking start L windows first count (j + 1) words′
 unfolding holds
 masking-more start L windows first count j words words′ s e m l es ee o f = record {
   inside = omega arith;
   sets = λ x.
-      ap (λ b. b || (ltb x L && holds (windowsOf (count - (j + 1)) (drop (2 * (first + (j + 1))) windows)) (start + x)))
+      ap (λ b. b || (ltb x L && holds (windowsOf (count - (j + 1)) (drop (windowWidth * (first + (j + 1))) windows)) (start + x)))
       (added s e words words′ o f x ∙ ap (λ (v : ℕ). eqb (cell words x) 1 || (leb v x && ltb x e)) es
-      ∙ ap (λ (v : ℕ). eqb (cell words x) 1 || (leb (clipped start L (getD windows (2 * (first + j)) 0)) x && ltb x v)) ee
-      ∙ ap (λ b. eqb (cell words x) 1 || b) (in-cell (getD windows (2 * (first + j)) 0) (getD windows (2 * (first + j) + 1) 0) start L
+      ∙ ap (λ (v : ℕ). eqb (cell words x) 1 || (leb (clipped start L (windowAt windows (first + j) .start)) x && ltb x v)) ee
+      ∙ ap (λ b. eqb (cell words x) 1 || b) (in-cell (windowAt windows (first + j) .start) (windowAt windows (first + j) .end) start L
       x))
-      ∙ regroup (eqb (cell words x) 1) (ltb x L) (leb (getD windows (2 * (first + j)) 0) (start + x)
-      && ltb (start + x) (getD windows (2 * (first + j) + 1) 0))
-      (holds (windowsOf (count - (j + 1)) (drop (2 * (first + (j + 1))) windows)) (start + x))
+      ∙ regroup (eqb (cell words x) 1) (ltb x L) (leb (windowAt windows (first + j) .start) (start + x)
+      && ltb (start + x) (windowAt windows (first + j) .end))
+      (holds (windowsOf (count - (j + 1)) (drop (windowWidth * (first + (j + 1))) windows)) (start + x))
       ∙ ap (λ ws. eqb (cell words x) 1 || (ltb x L && holds ws (start + x))) (sym (next x)) ∙ m .sets x;
 }
   where
-    next : (x : ℕ) → windowsOf (count - j) (drop (2 * (first + j)) windows)
-        ≡ record { start = getD windows (2 * (first + j)) 0; end = getD windows (2 * (first + j) + 1) 0 }
-        ∷ windowsOf (count - (j + 1)) (drop (2 * (first + (j + 1))) windows)
+    next : (x : ℕ) → windowsOf (count - j) (drop (windowWidth * (first + j)) windows)
+        ≡ windowAt windows (first + j) ∷ windowsOf (count - (j + 1)) (drop (windowWidth * (first + (j + 1))) windows)
     next x =
         let d : count - j ≡ suc (count - (j + 1)) = omega arith in
         let g : first + j + 1 ≡ first + (j + 1) = omega arith in
-        ap (λ (c : ℕ). windowsOf c (drop (2 * (first + j)) windows)) d ∙ windows-step (count - (j + 1)) (first + j) windows
-        ∙ ap (λ (i : ℕ). record { start = getD windows (2 * (first + j)) 0; end = getD windows (2 * (first + j) + 1) 0 }
-        ∷ windowsOf (count - (j + 1)) (drop (2 * i) windows)) g
+        ap (λ (c : ℕ). windowsOf c (drop (windowWidth * (first + j)) windows)) d ∙ windows-step (count - (j + 1)) (first + j) windows
+        ∙ ap (λ (i : ℕ). windowAt windows (first + j) ∷ windowsOf (count - (j + 1)) (drop (windowWidth * i) windows)) g
 
 pub masking-ends : (start L : ℕ) (windows : List ℕ) (first count j : ℕ) (words : List ℕ)
     → Masking start L windows first count j words
-    → count ≤ j → Masked start L (windowsOf count (drop (2 * first) windows)) words
+    → count ≤ j → Masked start L (windowsOf count (drop (windowWidth * first) windows)) words
 unfolding holds windowsOf
 masking-ends start L windows first count j words m l = record { sets = λ x. sym (none x) ∙ m .sets x }
   where
@@ -120,16 +119,17 @@ masking-ends start L windows first count j words m l = record { sets = λ x. sym
     off false true = refl
     off false false = refl
 
-    none : (x : ℕ) → (eqb (cell words x) 1 || (ltb x L && holds (windowsOf (count - j) (drop (2 * (first + j)) windows)) (start + x)))
+    none : (x : ℕ) → (eqb (cell words x) 1
+        || (ltb x L && holds (windowsOf (count - j) (drop (windowWidth * (first + j)) windows)) (start + x)))
         ≡ eqb (cell words x) 1
     none x = let d : count - j ≡ 0 = omega arith in
-        ap (λ (c : ℕ). eqb (cell words x) 1 || (ltb x L && holds (windowsOf c (drop (2 * (first + j)) windows)) (start + x))) d
+        ap (λ (c : ℕ). eqb (cell words x) 1 || (ltb x L && holds (windowsOf c (drop (windowWidth * (first + j)) windows)) (start + x))) d
         ∙ off (eqb (cell words x) 1) (ltb x L)
 
 -- the windows of a row stand in the table
 module _ (k : Kind) (n : ℕ) (bids windows : List ℕ) (o : Orderly k n bids windows) (i : ℕ) (l : i < n) where
-  pub row-room : bidRowAt bids i .first + bidRowAt bids i .count ≤ length windows / 2
-  row-room = leb-true (bidRowAt bids i .first + bidRowAt bids i .count) (length windows / 2) (o .kept i l .room)
+  pub row-room : bidRowAt bids i .first + bidRowAt bids i .count ≤ length windows / windowWidth
+  row-room = leb-true (bidRowAt bids i .first + bidRowAt bids i .count) (length windows / windowWidth) (o .kept i l .room)
 
   some-window : 1 ≤ bidRowAt bids i .count
   unfolding within
@@ -137,16 +137,16 @@ module _ (k : Kind) (n : ℕ) (bids windows : List ℕ) (o : Orderly k n bids wi
       (and-split (leb 1 (bidRowAt bids i .count)) (leb (bidRowAt bids i .count) (mostWindows k))
       (o .kept i l .count) .0)
 
-  pub first-room : bidRowAt bids i .first + 1 ≤ length windows / 2
+  pub first-room : bidRowAt bids i .first + 1 ≤ length windows / windowWidth
   first-room = omega (arith, row-room, some-window)
 
 -- the window passed next is lawful, and so are those after it
 pub here-lawful : (windows : List ℕ) (first count j : ℕ) → j < count → rowsAhead windows first count j ≡ true →
-    (getD windows (2 * (first + j)) 0 ≤ getD windows (2 * (first + j) + 1) 0) × (rowsAhead windows first count (j + 1) ≡ true)
+    (windowAt windows (first + j) .start ≤ windowAt windows (first + j) .end) × (rowsAhead windows first count (j + 1) ≡ true)
 here-lawful windows first count j l e =
-    let a = and-split (ltb (getD windows (2 * (first + j)) 0) (getD windows (2 * (first + j) + 1) 0)
-    && leb (getD windows (2 * (first + j) + 1) 0) 10080) (rowsAhead windows first count (j + 1))
+    let a = and-split (ltb (windowAt windows (first + j) .start) (windowAt windows (first + j) .end)
+    && leb (windowAt windows (first + j) .end) 10080) (rowsAhead windows first count (j + 1))
     (sym (ahead-more windows first count j l) ∙ e) in
-    let b = and-split (ltb (getD windows (2 * (first + j)) 0) (getD windows (2 * (first + j) + 1) 0))
-    (leb (getD windows (2 * (first + j) + 1) 0) 10080) (a .0) in
-    (omega (arith, ltb-true (getD windows (2 * (first + j)) 0) (getD windows (2 * (first + j) + 1) 0) (b .0)), a .1)
+    let b = and-split (ltb (windowAt windows (first + j) .start) (windowAt windows (first + j) .end))
+    (leb (windowAt windows (first + j) .end) 10080) (a .0) in
+    (omega (arith, ltb-true (windowAt windows (first + j) .start) (windowAt windows (first + j) .end) (b .0)), a .1)

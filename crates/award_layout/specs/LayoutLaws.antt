@@ -14,7 +14,7 @@ use Rattle.tender.specs.declared.Kind.{Kind}
 use Rattle.tender.specs.declared.Kind.the-variants.{Single}
 use Rattle.tender.specs.declared.Tender.{Tender}
 use Rattle.tender.specs.Limits.{within, mostWindows, lawful, allLawful}
-use Rattle.tender.specs.Tables.{Row, rowsOf, windowsOf, own}
+use Rattle.tender.specs.Tables.{Row, rowsOf, windowsOf, own, windowWidth, windowAt}
 use Rattle.cover.specs.SetLaws.{and-split}
 use Rattle.cover.specs.Settled.{spans}
 use Rattle.cells.specs.Cells.{cell}
@@ -114,7 +114,7 @@ timed k t n bids windows e =
 no-cells : (t : Tender) (n : ℕ) (bids windows : List ℕ) (i x : ℕ) → n ≤ i → hasOf t (rowsOf n bids) windows i x ≡ false
 unfolding hasOf own noRow windowsOf holds
 no-cells t n bids windows i x l =
-    ap (λ (r : Row). ltb x (cellsOf t) && holds (windowsOf (r .count) (drop (2 * r .first) windows)) (t .window .start + x))
+    ap (λ (r : Row). ltb x (cellsOf t) && holds (windowsOf (r .count) (drop (windowWidth * r .first) windows)) (t .window .start + x))
     (List·getD-eq-default (rowsOf n bids) noRow {n = i} (omega (arith, rows-length n bids)))
     ∙ and-false (ltb x (cellsOf t))
 
@@ -184,9 +184,9 @@ module _ (t : Tender) (n : ℕ) (bids windows starts ends : List ℕ) (o : Order
       omega (arith, leb-true 1 (bidRowAt bids i .count) (c .0), leb-true (bidRowAt bids i .count) 1 (c .1))
 
   own-one : (i : ℕ) → i < n → own windows (bidRowAt bids i)
-      ≡ record { start = getD windows (2 * bidRowAt bids i .first) 0; end = getD windows (2 * bidRowAt bids i .first + 1) 0 } ∷ []
+      ≡ windowAt windows (bidRowAt bids i .first) ∷ []
   unfolding own windowsOf
-  own-one i l = ap (λ (c : ℕ). windowsOf c (drop (2 * bidRowAt bids i .first) windows)) (one-count i l)
+  own-one i l = ap (λ (c : ℕ). windowsOf c (drop (windowWidth * bidRowAt bids i .first) windows)) (one-count i l)
       ∙ windows-step 0 (bidRowAt bids i .first) windows
 
   pub spans-ordered : (i : ℕ) → getD starts i 0 ≤ getD ends i 0
@@ -196,20 +196,20 @@ module _ (t : Tender) (n : ℕ) (bids windows starts ends : List ℕ) (o : Order
       go : (c : Bool) → ltb i n ≡ c → getD starts i 0 ≤ getD ends i 0
       go true u =
           let l = ltb-true i n u in
-          let h : (ltb (getD windows (2 * bidRowAt bids i .first) 0) (getD windows (2 * bidRowAt bids i .first + 1) 0)
-          && leb (getD windows (2 * bidRowAt bids i .first + 1) 0) 10080) && true ≡ true =
+          let h : (ltb (windowAt windows (bidRowAt bids i .first) .start) (windowAt windows (bidRowAt bids i .first) .end)
+          && leb (windowAt windows (bidRowAt bids i .first) .end) 10080) && true ≡ true =
           sym (ap allLawful (own-one i l)) ∙ o .kept i l .windows-too in
-          let c = and-split (ltb (getD windows (2 * bidRowAt bids i .first) 0) (getD windows (2 * bidRowAt bids i .first + 1) 0))
-          (leb (getD windows (2 * bidRowAt bids i .first + 1) 0) 10080) (and-split _ true h .0) in
+          let c = and-split (ltb (windowAt windows (bidRowAt bids i .first) .start) (windowAt windows (bidRowAt bids i .first) .end))
+          (leb (windowAt windows (bidRowAt bids i .first) .end) 10080) (and-split _ true h .0) in
           omega (
             arith,
             p .starts-are i l,
             p .ends-are i l,
-            clip-order (t .window .start) (cellsOf t) (getD windows (2 * bidRowAt bids i .first) 0)
-                (getD windows (2 * bidRowAt bids i .first + 1) 0)
+            clip-order (t .window .start) (cellsOf t) (windowAt windows (bidRowAt bids i .first) .start)
+                (windowAt windows (bidRowAt bids i .first) .end)
                 (omega (
                   arith,
-                  ltb-true (getD windows (2 * bidRowAt bids i .first) 0) (getD windows (2 * bidRowAt bids i .first + 1) 0)
+                  ltb-true (windowAt windows (bidRowAt bids i .first) .start) (windowAt windows (bidRowAt bids i .first) .end)
                       (c .0),
                 )),
           )
@@ -222,7 +222,7 @@ module _ (t : Tender) (n : ℕ) (bids windows starts ends : List ℕ) (o : Order
       go true u = omega (
         arith,
         p .ends-are i (ltb-true i n u),
-        clip-inside (t .window .start) (cellsOf t) (getD windows (2 * bidRowAt bids i .first + 1) 0),
+        clip-inside (t .window .start) (cellsOf t) (windowAt windows (bidRowAt bids i .first) .end),
       )
       go false u = omega (arith, List·getD-eq-default ends 0 {n = i} (omega (arith, ltb-false i n u)))
 
@@ -235,11 +235,11 @@ module _ (t : Tender) (n : ℕ) (bids windows starts ends : List ℕ) (o : Order
       go i x true u =
           let l = ltb-true i n u in
           rw (p .starts-are i l, p .ends-are i l, row-named n i bids l, own-one i l)
-          (in-cell (getD windows (2 * bidRowAt bids i .first) 0) (getD windows (2 * bidRowAt bids i .first + 1) 0) (t .window .start)
+          (in-cell (windowAt windows (bidRowAt bids i .first) .start) (windowAt windows (bidRowAt bids i .first) .end) (t .window .start)
           (cellsOf t) x
           ∙ ap (λ b. ltb x (cellsOf t) && b) (sym (or-false
-          (leb (getD windows (2 * bidRowAt bids i .first) 0) (t .window .start + x)
-          && ltb (t .window .start + x) (getD windows (2 * bidRowAt bids i .first + 1) 0)))))
+          (leb (windowAt windows (bidRowAt bids i .first) .start) (t .window .start + x)
+          && ltb (t .window .start + x) (windowAt windows (bidRowAt bids i .first) .end)))))
       go i x false u =
           ap (λ (v : ℕ). leb (getD starts i 0) x && ltb x v) (List·getD-eq-default ends 0 {n = i} (omega (arith, ltb-false i n u)))
           ∙ ap (λ c. leb (getD starts i 0) x && c) (le-ltb x 0 (omega arith)) ∙ and-false (leb (getD starts i 0) x)

@@ -7,7 +7,7 @@ use lib.ListN.{length, getD}
 use lib.Dec.{ltb, eqb}
 use Rattle.tender.specs.declared.Kind.{Kind}
 use Rattle.tender.specs.declared.Window.{Window}
-use Rattle.tender.specs.Tables.{Row, own}
+use Rattle.tender.specs.Tables.{Row, own, windowAt}
 use Rattle.cells.specs.Cells.{cell}
 use Rattle.multi_rounds.specs.Market.{wordRow}
 use Rattle.award_check.specs.Cells.{holds}
@@ -34,8 +34,8 @@ clipped start L minute = min (minute - start) L
 
 -- starts and ends of the one window of each bid, as cells
 pub record SpansLaid (n start L : ℕ) (bids windows starts ends : List ℕ) : Type 0 where
-  pub starts-are : (i : ℕ) → i < n → getD starts i 0 ≡ clipped start L (getD windows (2 * bidRowAt bids i .first) 0)
-  pub ends-are : (i : ℕ) → i < n → getD ends i 0 ≡ clipped start L (getD windows (2 * bidRowAt bids i .first + 1) 0)
+  pub starts-are : (i : ℕ) → i < n → getD starts i 0 ≡ clipped start L (windowAt windows (bidRowAt bids i .first) .start)
+  pub ends-are : (i : ℕ) → i < n → getD ends i 0 ≡ clipped start L (windowAt windows (bidRowAt bids i .first) .end)
 
 -- the words have the cells of the windows, and no other
 pub record Masked (start L : ℕ) (ws : List Window) (words : List ℕ) : Type 0 where

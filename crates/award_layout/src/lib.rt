@@ -6,7 +6,7 @@ ghost use lib.ListN.{length, getD, drop};
 ghost use mathlib.Core.Bool.{true};
 ghost use Rattle.tender.specs.declared.Kind.the-variants.{Single, Multi};
 ghost use Rattle.tender.specs.Limits.{allLawful};
-ghost use Rattle.tender.specs.Tables.{rowsOf, windowsOf};
+ghost use Rattle.tender.specs.Tables.{rowsOf, windowsOf, windowWidth};
 ghost use Rattle.award_check.specs.Cells.{pricesOf};
 ghost use Rattle.award_layout.specs.Orderly.{bidRowAt, Orderly, clipped, SpansLaid, Masked, AllMasked};
 
@@ -52,8 +52,8 @@ pub fn spans(
     let mut i = 0;
     while i < starts.len() {
         let j = bids[4 * i + 2] as usize;
-        starts[i] = clip(start, cells, windows[2 * j]);
-        ends[i] = clip(start, cells, windows[2 * j + 1]);
+        starts[i] = clip(start, cells, windows[tender::WINDOW_WIDTH * j]);
+        ends[i] = clip(start, cells, windows[tender::WINDOW_WIDTH * j + 1]);
         i += 1;
     }
 }
@@ -67,14 +67,19 @@ fn add_windows(
     count: usize,
     words: &mut [u64],
 )
-    requires { ⌜ (first + count ≤ length (now windows) / 2) × ((allLawful (windowsOf count (drop (2 * first) (now windows))) ≡ true)
+    requires { ⌜ (first + count ≤ length (now windows) / windowWidth)
+        × ((allLawful (windowsOf count (drop (windowWidth * first) (now windows))) ≡ true)
         × ((cells ≤ 64 * length (now words)) × ((length (now words) ≤ 158) × ((i : ℕ) → getD (now words) i 0 ≡ 0)))) ⌝ }
-    ensures { λ _. ⌜ Masked start cells (windowsOf count (drop (2 * first) (now (windows .entry)))) (now (words .exit)) ⌝ }
+    ensures { λ _. ⌜ Masked start cells (windowsOf count (drop (windowWidth * first) (now (windows .entry)))) (now (words .exit)) ⌝ }
 {
     let mut j = 0;
     while j < count {
-        let s = clip(start, cells, windows[2 * (first + j)]);
-        let e = clip(start, cells, windows[2 * (first + j) + 1]);
+        let s = clip(start, cells, windows[tender::WINDOW_WIDTH * (first + j)]);
+        let e = clip(
+            start,
+            cells,
+            windows[tender::WINDOW_WIDTH * (first + j) + 1],
+        );
         cells::add_range(words, s as usize, e as usize);
         j += 1;
     }
@@ -82,9 +87,10 @@ fn add_windows(
 
 // The words of the windows from `first` on, `count` of them.
 fn mask_row(start: u64, cells: u64, windows: &[u64], first: usize, count: usize, words: &mut [u64])
-    requires { ⌜ (first + count ≤ length (now windows) / 2) × ((allLawful (windowsOf count (drop (2 * first) (now windows))) ≡ true)
+    requires { ⌜ (first + count ≤ length (now windows) / windowWidth)
+        × ((allLawful (windowsOf count (drop (windowWidth * first) (now windows))) ≡ true)
         × ((cells ≤ 64 * length (now words)) × (length (now words) ≤ 158))) ⌝ }
-    ensures { λ _. ⌜ Masked start cells (windowsOf count (drop (2 * first) (now (windows .entry)))) (now (words .exit)) ⌝ }
+    ensures { λ _. ⌜ Masked start cells (windowsOf count (drop (windowWidth * first) (now (windows .entry)))) (now (words .exit)) ⌝ }
 {
     multi_rounds::clear(words);
     add_windows(start, cells, windows, first, count, words);

@@ -15,7 +15,7 @@ use Rattle.tender.specs.declared.Window.{Window}
 use Rattle.tender.specs.declared.Tender.{Tender}
 use Rattle.tender.specs.declared.Refusal.the-variants.{MinuteUncovered, OneBidder}
 use Rattle.tender.specs.Refusals.{numberOf}
-use Rattle.tender.specs.Tables.{Row, rowsOf, own, flatRows, flatWindows}
+use Rattle.tender.specs.Tables.{Row, rowsOf, own, flatRows, flatWindows, windowWidth}
 use Rattle.cover.specs.Sets.{Found, nothing, found}
 use Rattle.cover.specs.Earliest.{cellWith}
 use Rattle.cover.specs.SettledLaws.{getD-listed}
@@ -57,10 +57,10 @@ module _ (T : Tender) (R : List Row) (W : List Window) (rules : Rules T R W) whe
   own-read w j = go (getD R j noRow) (within [] w j)
     where
       go : (r : Row) → r .first + r .count ≤ length W → own (flatWindows W ++ w) r ≡ own (flatWindows W) r
-      go r l = windows-same (r .count) (drop (2 * r .first) (flatWindows W ++ w)) (drop (2 * r .first) (flatWindows W))
-          (λ x m. getD-drop (2 * r .first) (flatWindows W ++ w) x 0
-          ∙ List·getD-append (flatWindows W) w 0 (2 * r .first + x) (omega (arith, length-windows W))
-          ∙ sym (getD-drop (2 * r .first) (flatWindows W) x 0))
+      go r l = windows-same (r .count) (drop (windowWidth * r .first) (flatWindows W ++ w)) (drop (windowWidth * r .first) (flatWindows W))
+          (λ x m. getD-drop (windowWidth * r .first) (flatWindows W ++ w) x 0
+          ∙ List·getD-append (flatWindows W) w 0 (windowWidth * r .first + x) (omega (arith, length-windows W))
+          ∙ sym (getD-drop (windowWidth * r .first) (flatWindows W) x 0))
 
   cells-read : (w : List ℕ) → hasOf T R (flatWindows W ++ w) ≡ hasOf T R (flatWindows W)
   unfolding hasOf

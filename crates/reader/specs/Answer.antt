@@ -4,7 +4,7 @@ use Prim.Native.Nat.{ℕ, _*_}
 use lib.ListN.{length, drop}
 use Rattle.tender.specs.declared.Tender.{Tender}
 use Rattle.tender.specs.Refusals.{numberOf, placeOf}
-use Rattle.tender.specs.Tables.{flatRows, flatWindows}
+use Rattle.tender.specs.Tables.{flatRows, flatWindows, windowWidth}
 use Rattle.reader.specs.Read.{ReadOutcome, accepted, refused}
 use Rattle.reader.specs.declared.Reading.{Reading}
 use Rattle.reader.specs.declared.Reading.the-variants as answer
@@ -30,5 +30,5 @@ bidsAfter old (refused n at) = old
 
 unfoldable pub windowsAfter : List ℕ → ReadOutcome → List ℕ
 unfolding flatWindows
-windowsAfter old (accepted t rows windows) = flatWindows windows ++ drop (2 * length windows) old
+windowsAfter old (accepted t rows windows) = flatWindows windows ++ drop (windowWidth * length windows) old
 windowsAfter old (refused n at) = old

@@ -11,7 +11,7 @@ use Rattle.tender.specs.declared.Refusal.{Refusal}
 use Rattle.tender.specs.declared.Tender.{Tender}
 use Rattle.tender.specs.Limits.{lawful, allLawful}
 use Rattle.tender.specs.Refusals.{numberOf, placeOf}
-use Rattle.tender.specs.Tables.{Row, flatRows, flatWindows}
+use Rattle.tender.specs.Tables.{Row, flatRows, flatWindows, windowWidth}
 use Rattle.cells.specs.Cells as cells
 use Rattle.reader_line.specs.Words.{cut}
 use Rattle.reader_line.specs.Line.{BidLine, Line, tender, bid, linesOf}
@@ -82,7 +82,7 @@ pub record TablesHold (kind : Kind) (ls : List (Option Line)) (k m : ℕ) (rows 
   pub few-bids : k ≤ 1000
   pub few-windows : m < 11000
   pub rows-are : take (4 * k) rows ≡ flatRows (rowsFrom 0 (bidsOf ls))
-  pub windows-are : take (2 * m) windows ≡ flatWindows (allWindows (bidsOf ls))
+  pub windows-are : take (windowWidth * m) windows ≡ flatWindows (allWindows (bidsOf ls))
 
 -- what comes of the lines after the first
 abbrev pub LinesFilled : Kind → List (Option Line) → Bids → (rows windows : List ℕ) → Type 0

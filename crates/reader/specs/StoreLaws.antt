@@ -8,7 +8,7 @@ use lib.ListN.{length, take, drop, length-append, length-set}
 use lib.Seq.{sets-eq, length-take-le, take-at}
 use borrow.Author.Tests.{lt-ltb}
 use Rattle.tender.specs.declared.Window.{Window}
-use Rattle.tender.specs.Tables.{flatRows, flatWindows}
+use Rattle.tender.specs.Tables.{flatRows, flatWindows, windowWidth}
 use Rattle.reader_line.specs.Line.{BidLine}
 use Rattle.reader_line.specs.Scan.{putWindow, putWindows}
 use Rattle.reader.specs.Read.{rowsFrom, allWindows}
@@ -19,31 +19,35 @@ pub front : (l vs rest : List ℕ) (n t : ℕ) → n ≤ length l → n + length
     ++ vs
 front l vs rest n t h e = take-at (take n l ++ vs) rest t (length-append (take n l) vs ∙ omega (arith, length-take-le n l h))
 
-put-is : (table : List ℕ) (m : ℕ) (w : Window) → 2 * m + 2 ≤ length table → putWindow table m w ≡ take (2 * m) table
-    ++ (w .start ∷ w .end ∷ []) ++ drop (2 * m + 2) table
+put-is : (table : List ℕ) (m : ℕ) (w : Window) → windowWidth * m + windowWidth ≤ length table
+    → putWindow table m w ≡ take (windowWidth * m) table ++ (w .start ∷ w .end ∷ []) ++ drop (windowWidth * m + windowWidth) table
 unfolding putWindow
 put-is table m w h =
-    let l : m < length table / 2 = omega arith in
-    let e : 2 * m + 1 ≡ suc (2 * m) = omega arith in
-    rw (lt-ltb m (length table / 2) l, e) (sets-eq (w .start ∷ w .end ∷ []) table (2 * m) h)
+    let l : m < length table / windowWidth = omega arith in
+    let e : windowWidth * m + 1 ≡ suc (windowWidth * m) = omega arith in
+    rw (lt-ltb m (length table / windowWidth) l, e) (sets-eq (w .start ∷ w .end ∷ []) table (windowWidth * m) h)
 
-put-length : (table : List ℕ) (m : ℕ) (w : Window) → 2 * m + 2 ≤ length table → length (putWindow table m w) ≡ length table
+put-length : (table : List ℕ) (m : ℕ) (w : Window) → windowWidth * m + windowWidth ≤ length table
+    → length (putWindow table m w) ≡ length table
 unfolding putWindow
-put-length table m w h = let l : m < length table / 2 = omega arith in rw (lt-ltb m (length table / 2) l) (simp length-set)
+put-length table m w h =
+    let l : m < length table / windowWidth = omega arith in
+    rw (lt-ltb m (length table / windowWidth) l) (simp length-set)
 
 -- the windows stand in the rows from m on
-pub windows-put : (table : List ℕ) (m : ℕ) (ws : List Window) → 2 * (m + length ws) ≤ length table
-    → take (2 * (m + length ws)) (putWindows table m ws) ≡ take (2 * m) table ++ flatWindows ws
+pub windows-put : (table : List ℕ) (m : ℕ) (ws : List Window) → windowWidth * (m + length ws) ≤ length table
+    → take (windowWidth * (m + length ws)) (putWindows table m ws) ≡ take (windowWidth * m) table ++ flatWindows ws
 unfolding putWindows flatWindows
-windows-put table m [] h = rw add-zero (sym (append-nil (take (2 * m) table)))
+windows-put table m [] h = rw add-zero (sym (append-nil (take (windowWidth * m) table)))
 windows-put table m (w ∷ ws) h =
     let a : m + length (w ∷ ws) ≡ m + 1 + length ws = omega arith in
-    let l : 2 * m + 2 ≤ length table = omega arith in
+    let l : windowWidth * m + windowWidth ≤ length table = omega arith in
     let b = windows-put (putWindow table m w) (m + 1) ws (rw (put-length table m w l) (omega arith)) in
-    let c : take (2 * (m + 1)) (putWindow table m w) ≡ take (2 * m) table ++ (w .start ∷ w .end ∷ []) =
-    ap (take (2 * (m + 1))) (put-is table m w l) ∙ front table (w .start ∷ w .end ∷ []) (drop (2 * m + 2) table) (2 * m) (2 * (m + 1))
+    let c : take (windowWidth * (m + 1)) (putWindow table m w) ≡ take (windowWidth * m) table ++ (w .start ∷ w .end ∷ []) =
+    ap (take (windowWidth * (m + 1))) (put-is table m w l)
+    ∙ front table (w .start ∷ w .end ∷ []) (drop (windowWidth * m + windowWidth) table) (windowWidth * m) (windowWidth * (m + 1))
     (omega arith) (omega arith) in
-    rw a (b ∙ rw c (append-assoc (take (2 * m) table) (w .start ∷ w .end ∷ []) (flatWindows ws)))
+    rw a (b ∙ rw c (append-assoc (take (windowWidth * m) table) (w .start ∷ w .end ∷ []) (flatWindows ws)))
 
 -- one bid more
 

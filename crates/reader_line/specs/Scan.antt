@@ -9,6 +9,7 @@ use lib.Dec.{ltb, eqb}
 use Rattle.tender.specs.declared.Window.{Window}
 use Rattle.tender.specs.declared.Tender.{Tender}
 use Rattle.tender.specs.Limits.{allLawful}
+use Rattle.tender.specs.Tables.{windowWidth}
 use Rattle.reader_line.specs.Line.{Line, tender, bid}
 
 -- how many bytes stand before the first d
@@ -22,7 +23,8 @@ part line a e = take (e - a) (drop a line)
 
 -- the window in row m, where the table has that row
 unfoldable pub putWindow : List ℕ → ℕ → Window → List ℕ
-putWindow table m w = cond (ltb m (length table / 2)) (set (set table (2 * m) (w .start)) (2 * m + 1) (w .end)) table
+putWindow table m w =
+    cond (ltb m (length table / windowWidth)) (set (set table (windowWidth * m) (w .start)) (windowWidth * m + 1) (w .end)) table
 
 -- the windows in the rows from m on
 unfoldable pub putWindows : List ℕ → ℕ → List Window → List ℕ

@@ -10,6 +10,7 @@ use lib.Dec.{ltb}
 use lib.Seq.{take-set-le}
 use Rattle.tender.specs.declared.Window.{Window}
 use Rattle.tender.specs.Limits.{allLawful, lawful}
+use Rattle.tender.specs.Tables.{windowWidth}
 use Rattle.reader_line.specs.Words.{andThen, cut, closed}
 use Rattle.reader_line.specs.Line.{windowOf, windowsIn}
 use Rattle.reader_line.specs.CutLaws.{cut-some}
@@ -34,13 +35,15 @@ step m n ok table w (some ws) =
     rw (e, f, and-assoc ok (lawful w) (allLawful ws))
 
 -- a window in row k or in none leaves the rows before m
-pub rows-before : (table : List ℕ) (m k : ℕ) (w : Window) → m ≤ k → take (2 * m) (putWindow table k w) ≡ take (2 * m) table
+pub rows-before : (table : List ℕ) (m k : ℕ) (w : Window) → m ≤ k
+    → take (windowWidth * m) (putWindow table k w) ≡ take (windowWidth * m) table
 unfolding putWindow
-rows-before table m k w l = go (ltb k (length table / 2))
+rows-before table m k w l = go (ltb k (length table / windowWidth))
   where
-    go : (t : Bool) → take (2 * m) (cond t (set (set table (2 * k) (w .start)) (2 * k + 1) (w .end)) table) ≡ take (2 * m) table
-    go true = take-set-le (2 * m) (set table (2 * k) (w .start)) (2 * k + 1) (w .end) (omega arith)
-        ∙ take-set-le (2 * m) table (2 * k) (w .start) (omega arith)
+    go : (t : Bool) → take (windowWidth * m) (cond t (set (set table (windowWidth * k) (w .start)) (windowWidth * k + 1) (w .end)) table)
+        ≡ take (windowWidth * m) table
+    go true = take-set-le (windowWidth * m) (set table (windowWidth * k) (w .start)) (windowWidth * k + 1) (w .end) (omega arith)
+        ∙ take-set-le (windowWidth * m) table (windowWidth * k) (w .start) (omega arith)
     go false = refl
 
 module _ (line : List ℕ) (i e f : ℕ) (m n : ℕ) (ok : Bool) (table : List ℕ) (q : i + toNext 32 (drop i line) ≡ e) where

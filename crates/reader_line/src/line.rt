@@ -5,6 +5,7 @@ ghost use mathlib.Core.List.{List};
 ghost use Prim.Native.Nat.{ℕ, _*_, _≤_};
 ghost use lib.ListN.{take, drop, length};
 ghost use Rattle.tender.specs.Limits.{lawful};
+ghost use Rattle.tender.specs.Tables.{windowWidth};
 ghost use Rattle.reader_line.specs.Words.{cut};
 ghost use Rattle.reader_line.specs.Line.{kindOf, spanOf, windowOf, windowsIn, tenderOf, bidOf, lineOf};
 ghost use Rattle.reader_line.specs.Scan.{putWindow, tallied, noted};
@@ -104,7 +105,7 @@ fn read_windows(line: &[u8], at: usize, windows: &mut [u64], m: usize) -> Tally
     requires { ⌜ m ≤ 32000 ⌝ }
     ensures answer { λ r. ⌜ toldTally r (now (windows .exit))
         ≡ tallied m 0 true (now (windows .entry)) (windowsIn (cut 32 (drop at (now (line .entry))))) ⌝ }
-    ensures rows { λ r. ⌜ take (2 * m) (now (windows .exit)) ≡ take (2 * m) (now (windows .entry)) ⌝ }
+    ensures rows { λ r. ⌜ take (windowWidth * m) (now (windows .exit)) ≡ take (windowWidth * m) (now (windows .entry)) ⌝ }
 {
     let mut n: usize = 0;
     let mut ok = true;
@@ -208,7 +209,7 @@ fn read_bid(line: &[u8], at: usize, windows: &mut [u64], m: usize) -> Line
     requires { ⌜ (at ≤ length (now line)) × (m ≤ 32000) ⌝ }
     ensures answer { λ r. ⌜ toldLine r (now (windows .exit))
         ≡ noted m (now (windows .entry)) (bidOf (cut 32 (drop at (now (line .entry))))) ⌝ }
-    ensures rows { λ r. ⌜ take (2 * m) (now (windows .exit)) ≡ take (2 * m) (now (windows .entry)) ⌝ }
+    ensures rows { λ r. ⌜ take (windowWidth * m) (now (windows .exit)) ≡ take (windowWidth * m) (now (windows .entry)) ⌝ }
 {
     let n = next(line, at, b' ');
     if line.len() <= n {
@@ -235,7 +236,7 @@ fn read_bid(line: &[u8], at: usize, windows: &mut [u64], m: usize) -> Line
 pub fn read_line(line: &[u8], windows: &mut [u64], m: usize) -> Line
     requires { ⌜ m ≤ 32000 ⌝ }
     ensures answer { λ r. ⌜ toldLine r (now (windows .exit)) ≡ noted m (now (windows .entry)) (lineOf (now (line .entry))) ⌝ }
-    ensures rows { λ r. ⌜ take (2 * m) (now (windows .exit)) ≡ take (2 * m) (now (windows .entry)) ⌝ }
+    ensures rows { λ r. ⌜ take (windowWidth * m) (now (windows .exit)) ≡ take (windowWidth * m) (now (windows .entry)) ⌝ }
 {
     let e = next(line, 0, b' ');
     if line.len() <= e {

@@ -12,7 +12,7 @@ use lib.Dec.{leb, ltb, eqb}
 use borrow.Author.Tests.{leb-true, leb-false, ltb-true, ltb-false, eq-eqb, eqb-true, eqb-false}
 use Rattle.tender.specs.declared.Window.{Window}
 use Rattle.tender.specs.Limits.{allLawful}
-use Rattle.tender.specs.Tables.{windowsOf}
+use Rattle.tender.specs.Tables.{windowsOf, windowWidth, windowAt}
 use Rattle.cover.specs.Sets.{when}
 use Rattle.cover.specs.SetLaws.{and-split}
 use Rattle.cells.specs.Cells.{cell, RangeAdded}
@@ -80,11 +80,11 @@ pub record Adding (windows : List ℕ) (first count j : ℕ) (row : List ℕ) : 
   pub wide : length row ≡ rowWords
   pub inside : j ≤ count
   pub lawful : rowsAhead windows first count j ≡ true
-  pub sets : (x : ℕ) → (eqb (cell row x) 1 || holds (windowsOf (count - j) (drop (2 * (first + j)) windows)) x)
-      ≡ holds (windowsOf count (drop (2 * first) windows)) x
+  pub sets : (x : ℕ) → (eqb (cell row x) 1 || holds (windowsOf (count - j) (drop (windowWidth * (first + j)) windows)) x)
+      ≡ holds (windowsOf count (drop (windowWidth * first) windows)) x
 
 pub adding-begins : (windows : List ℕ) (first count : ℕ) (row : List ℕ)
-    → allLawful (windowsOf count (drop (2 * first) windows)) ≡ true → Empty row → Adding windows first count 0 row
+    → allLawful (windowsOf count (drop (windowWidth * first) windows)) ≡ true → Empty row → Adding windows first count 0 row
 adding-begins windows first count row e m = record {
   wide = m .wide;
   inside = omega arith;
@@ -92,9 +92,9 @@ adding-begins windows first count row e m = record {
   sets = λ x.
       let d : count - 0 ≡ count = omega arith in
       let f : first + 0 ≡ first = omega arith in
-      ap (λ (v : ℕ). eqb v 1 || holds (windowsOf (count - 0) (drop (2 * (first + 0)) windows)) x) (m .clear x)
-      ∙ ap (λ (n : ℕ). holds (windowsOf n (drop (2 * (first + 0)) windows)) x) d
-      ∙ ap (λ (i : ℕ). holds (windowsOf count (drop (2 * i) windows)) x) f;
+      ap (λ (v : ℕ). eqb v 1 || holds (windowsOf (count - 0) (drop (windowWidth * (first + 0)) windows)) x) (m .clear x)
+      ∙ ap (λ (n : ℕ). holds (windowsOf n (drop (windowWidth * (first + 0)) windows)) x) d
+      ∙ ap (λ (i : ℕ). holds (windowsOf count (drop (windowWidth * i) windows)) x) f;
 }
 
 -- a cell is set after a range is added where it was set or is in the range
@@ -110,10 +110,10 @@ added s e old new f x = go (leb s x) (ltb x e) refl refl
 module _ (windows : List ℕ) (first count j : ℕ) (row : List ℕ) (g : Adding windows first count j row) where
   -- window j
   abbrev starts-at : ℕ
-  starts-at = getD windows (2 * (first + j)) 0
+  starts-at = windowAt windows (first + j) .start
 
   abbrev ends-at : ℕ
-  ends-at = getD windows (2 * (first + j) + 1) 0
+  ends-at = windowAt windows (first + j) .end
 
   tested : j < count → (ltb starts-at ends-at && leb ends-at 10080 ≡ true) × (rowsAhead windows first count (j + 1) ≡ true)
   tested l = and-split (ltb starts-at ends-at && leb ends-at 10080) (rowsAhead windows first count (j + 1))
@@ -125,13 +125,13 @@ module _ (windows : List ℕ) (first count j : ℕ) (row : List ℕ) (g : Adding
   pub adding-week : j < count → ends-at ≤ 10080
   adding-week l = leb-true ends-at 10080 (and-split (ltb starts-at ends-at) (leb ends-at 10080) (tested l .0) .1)
 
-  left : j < count → windowsOf (count - j) (drop (2 * (first + j)) windows)
-      ≡ record { start = starts-at; end = ends-at } ∷ windowsOf (count - (j + 1)) (drop (2 * (first + (j + 1))) windows)
+  left : j < count → windowsOf (count - j) (drop (windowWidth * (first + j)) windows)
+      ≡ windowAt windows (first + j) ∷ windowsOf (count - (j + 1)) (drop (windowWidth * (first + (j + 1))) windows)
   left l =
       let d : count - j ≡ suc (count - (j + 1)) = omega arith in
       let e : first + j + 1 ≡ first + (j + 1) = omega arith in
-      ap (λ (c : ℕ). windowsOf c (drop (2 * (first + j)) windows)) d ∙ windows-step (count - (j + 1)) (first + j) windows
-      ∙ ap (λ (i : ℕ). record { start = starts-at; end = ends-at } ∷ windowsOf (count - (j + 1)) (drop (2 * i) windows)) e
+      ap (λ (c : ℕ). windowsOf c (drop (windowWidth * (first + j)) windows)) d ∙ windows-step (count - (j + 1)) (first + j) windows
+      ∙ ap (λ (i : ℕ). windowAt windows (first + j) ∷ windowsOf (count - (j + 1)) (drop (windowWidth * i) windows)) e
 
   pub adding-goes : (new : List ℕ) {s e : ℕ} → j < count → length new ≡ length row → RangeAdded s e row new
       → s ≡ starts-at → e ≡ ends-at → Adding windows first count (j + 1) new
@@ -141,22 +141,23 @@ module _ (windows : List ℕ) (first count j : ℕ) (row : List ℕ) (g : Adding
     inside = omega arith;
     lawful = tested l .1;
     sets = λ x.
-        let later = holds (windowsOf (count - (j + 1)) (drop (2 * (first + (j + 1))) windows)) x in
+        let later = holds (windowsOf (count - (j + 1)) (drop (windowWidth * (first + (j + 1))) windows)) x in
         ap (λ b. b || later) (added starts-at ends-at row new (rw (← a, ← b) f) x)
         ∙ or-assoc (eqb (cell row x) 1) (leb starts-at x && ltb x ends-at) later
         ∙ ap (λ ws. eqb (cell row x) 1 || holds ws x) (sym (left l)) ∙ g .sets x;
   }
 
-  pub adding-ends : count ≤ j → Minutes (windowsOf count (drop (2 * first) windows)) row
+  pub adding-ends : count ≤ j → Minutes (windowsOf count (drop (windowWidth * first) windows)) row
   unfolding holds windowsOf
-  adding-ends l = record { wide = g .wide; is = λ x. go x (holds (windowsOf count (drop (2 * first) windows)) x) refl }
+  adding-ends l = record { wide = g .wide; is = λ x. go x (holds (windowsOf count (drop (windowWidth * first) windows)) x) refl }
     where
-      none : (x : ℕ) → (eqb (cell row x) 1 || holds (windowsOf (count - j) (drop (2 * (first + j)) windows)) x) ≡ eqb (cell row x) 1
+      none : (x : ℕ) → (eqb (cell row x) 1 || holds (windowsOf (count - j) (drop (windowWidth * (first + j)) windows)) x)
+          ≡ eqb (cell row x) 1
       none x = let d : count - j ≡ 0 = omega arith in
-          ap (λ (c : ℕ). eqb (cell row x) 1 || holds (windowsOf c (drop (2 * (first + j)) windows)) x) d
+          ap (λ (c : ℕ). eqb (cell row x) 1 || holds (windowsOf c (drop (windowWidth * (first + j)) windows)) x) d
           ∙ or-false (eqb (cell row x) 1)
 
-      go : (x : ℕ) (b : Bool) → holds (windowsOf count (drop (2 * first) windows)) x ≡ b → cell row x ≡ when b 1
+      go : (x : ℕ) (b : Bool) → holds (windowsOf count (drop (windowWidth * first) windows)) x ≡ b → cell row x ≡ when b 1
       go x true e = eqb-true (cell row x) 1 (sym (none x) ∙ g .sets x ∙ e)
       go x false e = let d = eqb-false (cell row x) 1 (sym (none x) ∙ g .sets x ∙ e) in bare (cell row x) (cell-lt row x) d
         where

@@ -5,7 +5,7 @@ ghost use mathlib.Core.Bool.{true};
 ghost use Prim.Native.Nat.{_+_, _*_, _/_, _≤_};
 ghost use lib.ListN.{length, drop};
 ghost use Rattle.tender.specs.Limits.{allLawful};
-ghost use Rattle.tender.specs.Tables.{windowsOf};
+ghost use Rattle.tender.specs.Tables.{windowsOf, windowWidth};
 ghost use Rattle.runs.specs.MinuteRows.{rowWords, rowCells, Empty, Full, Minutes, NextRun};
 
 // Clears the cells of a row.
@@ -22,9 +22,9 @@ fn clear(row: &mut [u64])
 
 // Sets the minutes of the windows from `first` on, `count` of them, in a row that has none.
 fn add_windows(windows: &[u64], first: usize, count: usize, row: &mut [u64])
-    requires { ⌜ (first + count ≤ length (now windows) / 2)
-        × ((allLawful (windowsOf count (drop (2 * first) (now windows))) ≡ true) × Empty (now row)) ⌝ }
-    ensures { λ _. ⌜ Minutes (windowsOf count (drop (2 * first) (now (windows .entry)))) (now (row .exit)) ⌝ }
+    requires { ⌜ (first + count ≤ length (now windows) / windowWidth)
+        × ((allLawful (windowsOf count (drop (windowWidth * first) (now windows))) ≡ true) × Empty (now row)) ⌝ }
+    ensures { λ _. ⌜ Minutes (windowsOf count (drop (windowWidth * first) (now (windows .entry)))) (now (row .exit)) ⌝ }
 {
     let mut j = 0;
     while j < count {
@@ -38,9 +38,9 @@ fn add_windows(windows: &[u64], first: usize, count: usize, row: &mut [u64])
 
 // The minutes of the windows from `first` on, `count` of them, as a row of words.
 pub fn minutes(windows: &[u64], first: usize, count: usize, row: &mut [u64])
-    requires { ⌜ (first + count ≤ length (now windows) / 2)
-        × ((allLawful (windowsOf count (drop (2 * first) (now windows))) ≡ true) × (length (now row) ≡ rowWords)) ⌝ }
-    ensures { λ _. ⌜ Minutes (windowsOf count (drop (2 * first) (now (windows .entry)))) (now (row .exit)) ⌝ }
+    requires { ⌜ (first + count ≤ length (now windows) / windowWidth)
+        × ((allLawful (windowsOf count (drop (windowWidth * first) (now windows))) ≡ true) × (length (now row) ≡ rowWords)) ⌝ }
+    ensures { λ _. ⌜ Minutes (windowsOf count (drop (windowWidth * first) (now (windows .entry)))) (now (row .exit)) ⌝ }
 {
     clear(row);
     add_windows(windows, first, count, row);

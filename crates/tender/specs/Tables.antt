@@ -1,9 +1,13 @@
 -- The layout of the two lent tables of numbers (paper 01, "The bid text"): four numbers a row of the bid table (bidder, price,
 -- place of its first window, number of windows), two numbers a row of the window table (start, end).
-use Prim.Native.Nat.{ℕ, zero, suc, _*_}
+use Prim.Native.Nat.{ℕ, zero, suc, _+_, _*_}
 use mathlib.Core.List.{List, [], _∷_}
 use lib.ListN.{getD, drop}
 use Rattle.tender.specs.declared.Window.{Window}
+
+-- the numbers of a row of the window table
+abbrev pub windowWidth : ℕ
+windowWidth = 2
 
 -- a row of the bid table
 pub record Row : Type 0 where
@@ -27,11 +31,15 @@ rowsOf zero table = []
 rowsOf (suc n) table = record { bidder = getD table 0 0; price = getD table 1 0; first = getD table 2 0; count = getD table 3 0 }
     ∷ rowsOf n (drop 4 table)
 
+-- row j of a window table
+abbrev pub windowAt : List ℕ → ℕ → Window
+windowAt table j = record { start = getD table (windowWidth * j) 0; end = getD table (windowWidth * j + 1) 0 }
+
 unfoldable pub windowsOf : ℕ → List ℕ → List Window
 windowsOf zero table = []
-windowsOf (suc n) table = record { start = getD table 0 0; end = getD table 1 0 } ∷ windowsOf n (drop 2 table)
+windowsOf (suc n) table = windowAt table 0 ∷ windowsOf n (drop windowWidth table)
 
 -- the windows of a row
 unfoldable pub own : List ℕ → Row → List Window
 unfolding windowsOf
-own windows r = windowsOf (r .count) (drop (2 * r .first) windows)
+own windows r = windowsOf (r .count) (drop (windowWidth * r .first) windows)

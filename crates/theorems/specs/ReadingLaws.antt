@@ -19,7 +19,7 @@ use Rattle.tender.specs.declared.Refusal.the-variants.{TextTooLong, BadForm, Ou
 use Rattle.tender.specs.declared.Refusal.the-variants.{SeveralWindows, TableTooShort}
 use Rattle.tender.specs.Limits.{within, isSingle, lawful, allLawful}
 use Rattle.tender.specs.Refusals.{numberOf, placeOf}
-use Rattle.tender.specs.Tables.{Row}
+use Rattle.tender.specs.Tables.{Row, windowWidth}
 use Rattle.reader_line.specs.Words.{cut, among}
 use Rattle.reader_line.specs.Line.{BidLine, Line, tender, bid, linesOf}
 use Rattle.reader.specs.Read.{ReadOutcome, accepted, refused, declinedBy, rowsFrom, allWindows, bidsOf, bidFaultIn, bidFault, lineJudged}
@@ -373,7 +373,7 @@ module _ (r : ReadRun) where
       m = length (r .bids) / 4
 
       n : ℕ
-      n = length (r .windows) / 2
+      n = length (r .windows) / windowWidth
 
       room : (t : Tender) (R : List Row) (W : List Window) → Readable (r .text) t R W → (p q : Bool) → leb (length R) m ≡ p
           → leb (length W) n ≡ q → Leaves (cond (p && q) (accepted t R W) (declinedBy TableTooShort)) → OneReading r
@@ -522,7 +522,7 @@ module _ (r : ReadRun) where
   m = length (r .bids) / 4
 
   abbrev n : ℕ
-  n = length (r .windows) / 2
+  n = length (r .windows) / windowWidth
 
   -- the contract, from what reading answers
   keeps : (o : ReadOutcome) → fitted m n (readText (r .text)) ≡ o → Leaves r o → ReadKept r

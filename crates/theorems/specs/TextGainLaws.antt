@@ -13,7 +13,7 @@ use Rattle.tender.specs.declared.Window.{Window}
 use Rattle.tender.specs.declared.Tender.{Tender}
 use Rattle.tender.specs.declared.AwardRow.{AwardRow}
 use Rattle.tender.specs.declared.Answer.{Answer}
-use Rattle.tender.specs.Tables.{Row, flatRows, flatWindows}
+use Rattle.tender.specs.Tables.{Row, flatRows, flatWindows, windowWidth}
 use Rattle.reader.specs.Read.{accepted, readText, fitted, readInto}
 use Rattle.reader.specs.Read as reading
 use Rattle.reader.specs.Answer.{filled, summary, bidsAfter, windowsAfter}
@@ -57,7 +57,7 @@ accepted-read r t n m e = go (readText (r .run .text)) refl (sym (ap reader.told
           rows = R;
           spans = W;
           past-rows = drop (4 * length R) (r .run .bids);
-          past-spans = drop (2 * length W) (r .run .windows);
+          past-spans = drop (windowWidth * length W) (r .run .windows);
           is = h ∙ ap (λ v. accepted v R W) (cc);
           count = cc;
           bids-are = y;
@@ -65,12 +65,14 @@ accepted-read r t n m e = go (readText (r .run .text)) refl (sym (ap reader.told
         }
 
     go : (o : reading.ReadOutcome) → readText (r .run .text) ≡ o
-        → filled t n m ≡ summary (fitted (length (r .run .bids) / 4) (length (r .run .windows) / 2) o) →
-        r .run .bids-after ≡ bidsAfter (r .run .bids) (fitted (length (r .run .bids) / 4) (length (r .run .windows) / 2) o)
-        → r .run .windows-after ≡ windowsAfter (r .run .windows) (fitted (length (r .run .bids) / 4) (length (r .run .windows) / 2) o)
+        → filled t n m ≡ summary (fitted (length (r .run .bids) / 4) (length (r .run .windows) / windowWidth) o) →
+        r .run .bids-after ≡ bidsAfter (r .run .bids) (fitted (length (r .run .bids) / 4) (length (r .run .windows) / windowWidth) o)
+        → r .run .windows-after ≡ windowsAfter (r .run .windows)
+        (fitted (length (r .run .bids) / 4) (length (r .run .windows) / windowWidth) o)
         → ReadLeft (r .run .text) (r .run .bids-after) (r .run .windows-after) t n
     go (reading.refused k at) h x y z = let f : _≡_ {A = ℕ} 0 1 = cc in absurd (omega arith)
-    go (accepted T R W) h x y z = room T R W (leb (length R) (length (r .run .bids) / 4) && leb (length W) (length (r .run .windows) / 2))
+    go (accepted T R W) h x y z =
+        room T R W (leb (length R) (length (r .run .bids) / 4) && leb (length W) (length (r .run .windows) / windowWidth))
         h x y z
 
 -- row i of two such texts is the same bidder's

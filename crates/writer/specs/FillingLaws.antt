@@ -13,7 +13,7 @@ use lib.Dec.{leb}
 use borrow.Author.Tests.{le-leb, lt-leb}
 use Rattle.tender.specs.declared.Tender.{Tender}
 use Rattle.tender.specs.declared.Refusal.the-variants.{BadTables, NoRoom}
-use Rattle.tender.specs.Tables.{Row, rowsOf, windowsOf, own}
+use Rattle.tender.specs.Tables.{Row, rowsOf, windowsOf, own, windowWidth}
 use Rattle.reader_line.specs.Line.{BidLine}
 use Rattle.spelling.specs.Text.{bidText, bidsText, tenderText, textOf, bidIn}
 use Rattle.spelling.specs.Written.{Written}
@@ -86,7 +86,7 @@ row-line : (n : ℕ) (bids windows : List ℕ) (j : ℕ) → j < n → respelt (
     ≡ respelt (record {
       bidder = getD bids (4 * j) 0;
       price = getD bids (4 * j + 1) 0;
-      windows = windowsOf (getD bids (4 * j + 3) 0) (drop (2 * getD bids (4 * j + 2) 0) windows);
+      windows = windowsOf (getD bids (4 * j + 3) 0) (drop (windowWidth * getD bids (4 * j + 2) 0) windows);
     })
 unfolding bidIn own
 row-line n bids windows j l = ap (λ r. respelt (bidIn windows r)) (row-at n j bids l)
@@ -96,7 +96,7 @@ module _ (n : ℕ) (bids windows old : List ℕ) (at : ℕ) where
       → Written mid e (bidText (respelt (record {
         bidder = getD bids (4 * j) 0;
         price = getD bids (4 * j + 1) 0;
-        windows = windowsOf (getD bids (4 * j + 3) 0) (drop (2 * getD bids (4 * j + 2) 0) windows);
+        windows = windowsOf (getD bids (4 * j + 3) 0) (drop (windowWidth * getD bids (4 * j + 2) 0) windows);
       }))) new f → BidsPut windows (rowsOf n bids) old at n (j + 1) new f
   bids-go {mid} {new} {e} {f} {j} h l w =
       let s = ap (λ b. bidsText (respeltIn windows (take j (rowsOf n bids))) ++ bidText b) (sym (row-line n bids windows j l))

@@ -11,7 +11,7 @@ use Rattle.tender.specs.declared.Window.{Window}
 use Rattle.tender.specs.declared.Tender.{Tender}
 use Rattle.tender.specs.Keywords.{bytes}
 use Rattle.tender.specs.Limits.{allLawful, lawful}
-use Rattle.tender.specs.Tables.{Row, windowsOf}
+use Rattle.tender.specs.Tables.{Row, windowsOf, windowWidth}
 use Rattle.cover.specs.SetLaws.{and-split}
 use Rattle.spelling.specs.Decimal.{decimal}
 use Rattle.spelling.specs.DecimalLaws.{decimal-few}
@@ -45,7 +45,7 @@ windows-few (w ∷ ws) e =
 windows-count : (n : ℕ) (table : List ℕ) → length (windowsOf n table) ≡ n
 unfolding windowsOf
 windows-count zero table = refl
-windows-count (suc n) table = ap suc (windows-count n (drop 2 table))
+windows-count (suc n) table = ap suc (windows-count n (drop windowWidth table))
 
 -- the windows of a row, 32 of them at the most, joined
 pub joined-text-few : (n : ℕ) (table : List ℕ) → n ≤ 32 → allLawful (windowsOf n table) ≡ true

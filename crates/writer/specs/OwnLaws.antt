@@ -6,7 +6,7 @@ use native.Mathlib.Omega.{arith}
 use lib.ListN.{length, getD, drop}
 use lib.Seq.{drop-drop}
 use Rattle.tender.specs.declared.Window.{Window}
-use Rattle.tender.specs.Tables.{Row, windowsOf, own, flatWindows}
+use Rattle.tender.specs.Tables.{Row, windowsOf, own, flatWindows, windowWidth}
 use Rattle.reader_line.specs.Line.{BidLine}
 use Rattle.reader.specs.Read.{rowsFrom, allWindows}
 use Rattle.spelling.specs.Text.{bidIn}
@@ -18,19 +18,20 @@ unfolding windowsOf flatWindows
 windows-flat [] us v = refl
 windows-flat (w ∷ ws) us v = ap (λ l. w ∷ l) (windows-flat ws us v)
 
-drop-flat : (ws us : List Window) (v : List ℕ) → drop (2 * length ws) (flatWindows (ws ++ us) ++ v) ≡ flatWindows us ++ v
+drop-flat : (ws us : List Window) (v : List ℕ) → drop (windowWidth * length ws) (flatWindows (ws ++ us) ++ v) ≡ flatWindows us ++ v
 unfolding flatWindows
 drop-flat [] us v = refl
 drop-flat (w ∷ ws) us v =
-    let e : 2 * suc (length ws) ≡ suc (suc (2 * length ws)) = omega arith in
+    let e : windowWidth * suc (length ws) ≡ suc (suc (windowWidth * length ws)) = omega arith in
     ap (λ (m : ℕ). drop m (w .start ∷ w .end ∷ (flatWindows (ws ++ us) ++ v))) e ∙ drop-flat ws us v
 
 -- the cells after some windows
-cells-next : (at : ℕ) (cells v : List ℕ) (ws us : List Window) → drop (2 * at) cells ≡ flatWindows (ws ++ us) ++ v
-    → drop (2 * (at + length ws)) cells ≡ flatWindows us ++ v
+cells-next : (at : ℕ) (cells v : List ℕ) (ws us : List Window) → drop (windowWidth * at) cells ≡ flatWindows (ws ++ us) ++ v
+    → drop (windowWidth * (at + length ws)) cells ≡ flatWindows us ++ v
 cells-next at cells v ws us e =
-    let d : 2 * (at + length ws) ≡ 2 * at + 2 * length ws = omega arith in
-    ap (λ (m : ℕ). drop m cells) d ∙ sym (drop-drop (2 * length ws) (2 * at) cells) ∙ ap (drop (2 * length ws)) e
+    let d : windowWidth * (at + length ws) ≡ windowWidth * at + windowWidth * length ws = omega arith in
+    ap (λ (m : ℕ). drop m cells) d
+    ∙ sym (drop-drop (windowWidth * length ws) (windowWidth * at) cells) ∙ ap (drop (windowWidth * length ws)) e
     ∙ drop-flat ws us v
 
 -- what stands past the last bid
@@ -38,7 +39,8 @@ unfoldable pub noBid : BidLine
 noBid = record { bidder = 0; price = 0; windows = [] }
 
 -- bid i of the tables that some bids fill
-pub bid-read : (at : ℕ) (cells v : List ℕ) (bs : List BidLine) (i : ℕ) → drop (2 * at) cells ≡ flatWindows (allWindows bs) ++ v
+pub bid-read : (at : ℕ) (cells v : List ℕ) (bs : List BidLine) (i : ℕ)
+    → drop (windowWidth * at) cells ≡ flatWindows (allWindows bs) ++ v
     → bidIn cells (getD (rowsFrom at bs) i noRow) ≡ getD bs i noBid
 unfolding bidIn own rowsFrom allWindows noRow noBid windowsOf
 bid-read at cells v [] i e = refl
@@ -48,7 +50,7 @@ bid-read at cells v (b ∷ bs) (suc i) e =
     bid-read (at + length (b .windows)) cells v bs i (cells-next at cells v (b .windows) (allWindows bs) e)
 
 -- all of them
-pub bids-read : (at : ℕ) (cells v : List ℕ) (bs : List BidLine) → drop (2 * at) cells ≡ flatWindows (allWindows bs) ++ v
+pub bids-read : (at : ℕ) (cells v : List ℕ) (bs : List BidLine) → drop (windowWidth * at) cells ≡ flatWindows (allWindows bs) ++ v
     → map (bidIn cells) (rowsFrom at bs) ≡ bs
 unfolding bidIn own rowsFrom allWindows
 bids-read at cells v [] e = refl

@@ -11,7 +11,7 @@ use borrow.Author.Tests.{leb-true, not-true}
 use Rattle.tender.specs.declared.Kind.{Kind}
 use Rattle.tender.specs.declared.Kind.the-variants.{Single, Multi}
 use Rattle.tender.specs.Limits.{within, mostWindows, allLawful}
-use Rattle.tender.specs.Tables.{Row, windowsOf, own}
+use Rattle.tender.specs.Tables.{Row, windowsOf, own, windowWidth}
 use Rattle.reader_line.specs.Words.{among}
 use Rattle.cover.specs.SetLaws.{and-split}
 use Rattle.award_check.specs.Faults.{sound, rowFault}
@@ -22,7 +22,7 @@ use Rattle.runs.specs.RunsFewLaws.{joined-few}
 windows-length : (n : ℕ) (cells : List ℕ) → length (windowsOf n cells) ≡ n
 unfolding windowsOf
 windows-length zero cells = refl
-windows-length (suc n) cells = ap suc (windows-length n (drop 2 cells))
+windows-length (suc n) cells = ap suc (windows-length n (drop windowWidth cells))
 
 pub own-length : (windows : List ℕ) (r : Row) → length (own windows r) ≡ r .count
 unfolding own

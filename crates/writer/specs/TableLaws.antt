@@ -12,7 +12,7 @@ use borrow.Author.Tests.{leb-true}
 use Rattle.tender.specs.declared.Kind.{Kind}
 use Rattle.tender.specs.declared.Tender.{Tender}
 use Rattle.tender.specs.Limits.{lawful, allLawful}
-use Rattle.tender.specs.Tables.{Row, rowsOf, windowsOf, own}
+use Rattle.tender.specs.Tables.{Row, rowsOf, windowsOf, own, windowWidth}
 use Rattle.cover.specs.SetLaws.{and-split}
 use Rattle.award_check.specs.Faults.{sound, rowFault, sameKind, faultOf}
 use Rattle.award_check.specs.Cells.{noRow}
@@ -47,8 +47,8 @@ pub record Plain (windows : List ℕ) (r : Row) : Type 0 where
   pub bidder-high : r .bidder ≤ 999999
   pub price-high : r .price ≤ 100000000
   pub few-windows : r .count ≤ 32
-  pub room : r .first + r .count ≤ length windows / 2
-  pub all-lawful : allLawful (windowsOf (r .count) (drop (2 * r .first) windows)) ≡ true
+  pub room : r .first + r .count ≤ length windows / windowWidth
+  pub all-lawful : allLawful (windowsOf (r .count) (drop (windowWidth * r .first) windows)) ≡ true
 
 sound-plain : (k : Kind) (windows : List ℕ) (place : ℕ) (used : List ℕ) (at : ℕ) (r : Row)
     → sound k windows place used at r ≡ true
@@ -61,7 +61,7 @@ sound-plain k windows place used at r e =
       bidder-high = s .bidder-high;
       price-high = s .price-high;
       few-windows = omega (arith, s .most-windows, most-few k);
-      room = omega (arith, h .first, leb-true (at + r .count) (length windows / 2) (h .room));
+      room = omega (arith, h .first, leb-true (at + r .count) (length windows / windowWidth) (h .room));
       all-lawful = s .all-lawful;
     }
 

@@ -6,7 +6,7 @@ ghost use mathlib.Core.Option.{none};
 ghost use Prim.Native.Nat.{_+_, _*_, _/_, _≤_};
 ghost use lib.ListN.{length, drop};
 ghost use Rattle.tender.specs.Limits.{allLawful};
-ghost use Rattle.tender.specs.Tables.{rowsOf, windowsOf};
+ghost use Rattle.tender.specs.Tables.{rowsOf, windowsOf, windowWidth};
 ghost use Rattle.spelling.specs.Text.{windowText, windowsText, bidText, tenderText};
 ghost use Rattle.spelling.specs.Written.{Written};
 ghost use Rattle.award_check.specs.Faults.{faultOf};
@@ -47,11 +47,12 @@ fn put_windows(
     blank: &[u64],
     full: &[u64],
 ) -> usize
-    requires { ⌜ (first + count ≤ length (now windows) / 2)
-        × ((allLawful (windowsOf count (drop (2 * first) (now windows))) ≡ true)
-        × ((at + length (windowsText (joined (windowsOf count (drop (2 * first) (now windows))))) + 44 ≤ length (now buf))
+    requires { ⌜ (first + count ≤ length (now windows) / windowWidth)
+        × ((allLawful (windowsOf count (drop (windowWidth * first) (now windows))) ≡ true)
+        × ((at + length (windowsText (joined (windowsOf count (drop (windowWidth * first) (now windows))))) + 44 ≤ length (now buf))
         × ((length (now row) ≡ rowWords) × (Empty (now blank) × Full (now full))))) ⌝ }
-    ensures { λ r. ⌜ Written (now (buf .entry)) at (windowsText (joined (windowsOf count (drop (2 * first) (now (windows .entry))))))
+    ensures { λ r. ⌜ Written (now (buf .entry)) at
+        (windowsText (joined (windowsOf count (drop (windowWidth * first) (now (windows .entry))))))
         (now (buf .exit)) r × (length (now (row .exit)) ≡ rowWords) ⌝ }
 {
     runs::minutes(windows, first, count, row);
@@ -81,12 +82,12 @@ fn put_bid(
     blank: &[u64],
     full: &[u64],
 ) -> usize
-    requires { ⌜ (first + count ≤ length (now windows) / 2)
-        × ((allLawful (windowsOf count (drop (2 * first) (now windows))) ≡ true)
+    requires { ⌜ (first + count ≤ length (now windows) / windowWidth)
+        × ((allLawful (windowsOf count (drop (windowWidth * first) (now windows))) ≡ true)
         × ((count ≤ 32) × ((bidder ≤ 999999) × ((price ≤ 100000000) × ((at + 576 ≤ length (now buf))
         × ((length (now row) ≡ rowWords) × (Empty (now blank) × Full (now full)))))))) ⌝ }
     ensures { λ r. ⌜ Written (now (buf .entry)) at (bidText (respelt
-        (record { bidder = bidder; price = price; windows = windowsOf count (drop (2 * first) (now (windows .entry))) })))
+        (record { bidder = bidder; price = price; windows = windowsOf count (drop (windowWidth * first) (now (windows .entry))) })))
         (now (buf .exit)) r × (length (now (row .exit)) ≡ rowWords) ⌝ }
 {
     let begun = spelling::put_all(buf, at, b"(bid ");

@@ -3,7 +3,7 @@ use native.Mathlib.Omega.{arith}
 use borrow.Author.Tests.{not-true, not-false, le-leb, lt-leb, eq-eqb, ne-eqb}
 use lib.ListN.{length}
 use Prim.Native.Nat.{_+_, _/_}
-use Rattle.tender.specs.Tables.{own}
+use Rattle.tender.specs.Tables.{own, windowWidth}
 use Rattle.award_check.specs.Faults.{keeps}
 use borrow.Author.Needs.{needs}
 use Rattle.award_check.proofs.row_keeps.Statement.{statement}
@@ -85,7 +85,7 @@ returns-5 c =
       ← c .before .before .before .between2 .ensures,
       not-false (c .before .before .before .between2 .result) (c .before .before .if3 .left),
       eq-eqb _ _ (c .before .if4 .left),
-      lt-leb (args .at + args .count) (length (args .windows .now) / 2) (omega arith),
+      lt-leb (args .at + args .count) (length (args .windows .now) / windowWidth) (omega arith),
     )
 
 windows-lawful-requires : tie.Need-windows-lawful-requires
@@ -109,7 +109,7 @@ returns-6 c =
       ← c4 .between2 .ensures,
       not-false (c4 .between2 .result) (c .before .before .before .if3 .left),
       eq-eqb _ _ (c .before .before .if4 .left),
-      le-leb (args .at + args .count) (length (args .windows .now) / 2) (omega arith),
+      le-leb (args .at + args .count) (length (args .windows .now) / windowWidth) (omega arith),
     )
     (rw (c .before .before .if4 .left) (c .windows-lawful .ensures))
 

@@ -4,6 +4,7 @@ use mathlib.Core.Bool.{true}
 use Prim.Native.Nat.{_+_, _*_, _-_}
 use native.Mathlib.Omega.{arith}
 use lib.ListN.{length, getD}
+use Rattle.tender.specs.Tables.{windowAt}
 use Rattle.award_check.specs.WalkLaws.{rowsAhead, ahead-start}
 use Rattle.award_layout.specs.LaidLaws.{Masking, masking-starts, masking-more, masking-ends, here-lawful}
 use Rattle.award_layout.specs.LayoutLaws.{clip-order, clip-inside}
@@ -84,7 +85,7 @@ add-range-requires c κs =
           arith,
           c .before .clip2 .ensures,
           clip-inside (args .start) (args .cells)
-              (getD (args .windows .now) (2 * (args .first + c6 .loop .j) + 1) 0),
+              (windowAt (args .windows .now) (args .first + c6 .loop .j) .end),
           pre .1 .1 .0,
           c6 .loop .inv .0,
         ),

@@ -4,6 +4,7 @@ use Prim.Native.Nat.{_+_, _*_, _-_, _≤_}
 use native.Mathlib.Omega.{arith}
 use lib.ListN.{length, getD, length-set}
 use Rattle.tender.specs.declared.Kind.the-variants.{Single}
+use Rattle.tender.specs.Tables.{windowAt}
 use Rattle.award_layout.specs.Orderly.{bidRowAt, clipped, SpansLaid}
 use Rattle.award_layout.specs.LaidLaws.{filled-more, first-room}
 use Rattle.award_layout.proofs.spans.Statement.{statement}
@@ -158,10 +159,10 @@ loop-again c =
           simp length-set (c6 .loop .inv .1 .1 .0),
           record {
             starts-are = filled-more (λ j. clipped (args .start) (args .cells)
-                (getD (args .windows .now) (2 * bidRowAt (args .bids .now) j .first) 0)) (c6 .loop .starts) (c6 .loop .i) (omega arith)
+                (windowAt (args .windows .now) (bidRowAt (args .bids .now) j .first) .start)) (c6 .loop .starts) (c6 .loop .i) (omega arith)
                 (c6 .loop .inv .1 .1 .1 .starts-are) _ (c .before .before .clip .ensures);
             ends-are = filled-more (λ j. clipped (args .start) (args .cells)
-                (getD (args .windows .now) (2 * bidRowAt (args .bids .now) j .first + 1) 0)) (c6 .loop .ends) (c6 .loop .i)
+                (windowAt (args .windows .now) (bidRowAt (args .bids .now) j .first) .end)) (c6 .loop .ends) (c6 .loop .i)
                 (omega (arith, c6 .loop .inv .1 .1 .0, c11 .pre .1)) (c6 .loop .inv .1 .1 .1 .ends-are) _ (c .clip2 .ensures);
           },
         ),

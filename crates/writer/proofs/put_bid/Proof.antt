@@ -3,7 +3,7 @@ use Prim.Native.Nat.{_*_}
 use native.Mathlib.Omega.{arith}
 use lib.ListN.{drop}
 use Rattle.tender.specs.Keywords.{bytes}
-use Rattle.tender.specs.Tables.{windowsOf}
+use Rattle.tender.specs.Tables.{windowsOf, windowWidth}
 use Rattle.spelling.specs.LineLaws.{decimal-short}
 use Rattle.writer.specs.LengthLaws.{joined-text-few}
 use Rattle.writer.specs.PutLaws.{bid-written}
@@ -48,7 +48,7 @@ put-windows-requires c κs =
     let c20 = c12 .before .before .before .before .before .before .before .before in
     let args = c20 .args in
     let pre = c20 .pre in
-    let few = joined-text-few (args .count) (drop (2 * args .first) (args .windows .now)) (pre .1 .1 .0) (pre .1 .0) in (
+    let few = joined-text-few (args .count) (drop (windowWidth * args .first) (args .windows .now)) (pre .1 .1 .0) (pre .1 .0) in (
       pre .0,
       (
         pre .1 .0,
@@ -83,7 +83,7 @@ put-all-requires-2 c κs =
     let c27 = c19 .before .before .before .before .before .before .before .before in
     let args = c27 .args in
     let pre = c27 .pre in
-    let few = joined-text-few (args .count) (drop (2 * args .first) (args .windows .now)) (pre .1 .1 .0) (pre .1 .0) in
+    let few = joined-text-few (args .count) (drop (windowWidth * args .first) (args .windows .now)) (pre .1 .1 .0) (pre .1 .0) in
     omega (
       arith,
       few,
@@ -114,7 +114,7 @@ returns c =
     let c18 = c14 .before .before .before .before in
     let c22 = c18 .before .before .before .before in
     let args = c22 .before .before .before .before .before .before .before .before .args in
-    let own = windowsOf (args .count) (drop (2 * args .first) (args .windows .now)) in (
+    let own = windowsOf (args .count) (drop (windowWidth * args .first) (args .windows .now)) in (
       bid-written (record { bidder = args .bidder; price = args .price; windows = own }) (c22 .put-all .ensures)
           (c18 .put-decimal .ensures) (c14 .put-number .ensures) (c9 .put-windows .ensures .0) (c .before .before .put-all2 .ensures),
       c9 .put-windows .ensures .1,

@@ -3,7 +3,7 @@ use Prim.Native.Nat.{_-_, _*_}
 use mathlib.Core.Path.{sym, _∙_}
 use native.Mathlib.Omega.{arith}
 use lib.ListN.{drop}
-use Rattle.tender.specs.Tables.{windowsOf}
+use Rattle.tender.specs.Tables.{windowsOf, windowWidth}
 use Rattle.writer.specs.PutLaws.{Putting, putting-begins, putting-room, putting-size, putting-late, putting-goes, putting-ends}
 use Rattle.writer.proofs.put_windows.Statement.{statement}
 use Rattle.writer.proofs.put_windows.Tie as tie
@@ -15,7 +15,7 @@ use Rattle.writer.proofs.put_window.Reads as put-window-reads
 
 abbrev Inv-loop : tie.InvT-loop
 Inv-loop buf₀ at windows first count row blank full end₀ from₀ buf end from =
-    Putting (windowsOf count (drop (2 * first) windows)) buf₀ at buf end from
+    Putting (windowsOf count (drop (windowWidth * first) windows)) buf₀ at buf end from
 
 abbrev μ-loop : tie.MeasureT-loop
 μ-loop buf₀ at windows first count row blank full end₀ from₀ buf end from = 10080 - from
@@ -28,7 +28,7 @@ minutes-requires c κs =
 loop-holds : tie.Need-loop-holds Inv-loop μ-loop
 loop-holds c =
     let args = c .before .before .before .before .before .before .before .before .before .args in
-    putting-begins (windowsOf (args .count) (drop (2 * args .first) (args .windows .now))) (args .buf .now) (args .at)
+    putting-begins (windowsOf (args .count) (drop (windowWidth * args .first) (args .windows .now))) (args .buf .now) (args .at)
 
 next-requires : tie.Need-next-requires Inv-loop μ-loop
 next-requires c κs =

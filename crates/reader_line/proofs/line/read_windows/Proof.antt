@@ -5,6 +5,7 @@ use mathlib.Core.Bool.{true}
 use native.Mathlib.Omega.{arith}
 use borrow.Author.Needs.{needs}
 use lib.ListN.{length, take, drop}
+use Rattle.tender.specs.Tables.{windowWidth}
 use Rattle.reader_line.specs.Words.{cut}
 use Rattle.reader_line.specs.Line.{windowsIn}
 use Rattle.reader_line.specs.Scan.{tallied}
@@ -18,7 +19,7 @@ use Rattle.reader_line.proofs.line.read_windows.Tie as tie
 abbrev Inv-loop : tie.InvT-loop
 Inv-loop line at windows₀ m n₀ ok₀ i₀ windows n ok i =
     (tallied m n ok windows (windowsIn (cut 32 (drop i line))) ≡ tallied m 0 true windows₀ (windowsIn (cut 32 (drop at line)))) × (n ≤ i)
-    × (m ≤ 32000) × (length windows ≡ length windows₀) × (take (2 * m) windows ≡ take (2 * m) windows₀)
+    × (m ≤ 32000) × (length windows ≡ length windows₀) × (take (windowWidth * m) windows ≡ take (windowWidth * m) windows₀)
 
 abbrev μ-loop : tie.MeasureT-loop
 μ-loop line at windows₀ m n₀ ok₀ i₀ windows n ok i = length line - i
@@ -115,7 +116,7 @@ loop-again c =
       omega arith,
       c16 .loop .inv .2,
       c .before .before .before .put-window .kept .0 ∙ c16 .loop .inv .3,
-      ap (take (2 * args .m)) (c .before .before .before .put-window .ensures)
+      ap (take (windowWidth * args .m)) (c .before .before .before .put-window .ensures)
           ∙ rows-before (c16 .loop .windows) (args .m) (args .m + c16 .loop .n) _ (omega arith) ∙ c16 .loop .inv .4,
     )
 
@@ -216,7 +217,7 @@ returns-3 c =
           (sym (tally-last line (c16 .loop .i) (c14 .next .result) (c12 .next2 .result) (args .m) (c16 .loop .n) (c16 .loop .ok)
           (c16 .loop .windows) (sym (c14 .next .ensures)) (c13 .if1 .left)
           (sym (c12 .next2 .ensures)) k _ g) ∙ c16 .loop .inv .0),
-      ap (take (2 * args .m)) (c .before .before .before .put-window2 .ensures)
+      ap (take (windowWidth * args .m)) (c .before .before .before .put-window2 .ensures)
           ∙ rows-before (c16 .loop .windows) (args .m) (args .m + c16 .loop .n) _ (omega arith) ∙ c16 .loop .inv .4,
     )
 
