@@ -12,7 +12,7 @@ use Rattle.tender.specs.declared.Kind.{Kind}
 use Rattle.tender.specs.declared.Tender.{Tender}
 use Rattle.tender.specs.declared.AwardRow.{AwardRow}
 use Rattle.tender.specs.declared.Refusal.the-variants.{RowsTooFew}
-use Rattle.tender.specs.Tables.{rowsOf}
+use Rattle.tender.specs.Tables.{rowsOf, bidWidth}
 use Rattle.cover.specs.Sets.{when}
 use Rattle.award_check.specs.Faults.{faultOf}
 use Rattle.award_check.specs.Cells.{cellsOf, hasOf, pricesOf}
@@ -30,24 +30,24 @@ module _ (k : Kind) (t : Tender) (n i : ℕ) (bids windows : List ℕ) (inside :
   -- naming another price is no better
   pub award-honest : (bids′ windows′ : List ℕ) (lent lent′ : ℕ) → faultOf k t n bids′ windows′ ≡ none
       → Alike n i bids windows bids′ windows′ → ltb lent n ≡ ltb lent′ n →
-      AtMost (gain (getD bids (4 * i + 1) 0) (rowFor (awardOf k t n bids′ windows′ lent′) i))
-      (gain (getD bids (4 * i + 1) 0) (rowFor (awardOf k t n bids windows lent) i))
+      AtMost (gain (getD bids (bidWidth * i + 1) 0) (rowFor (awardOf k t n bids′ windows′ lent′) i))
+      (gain (getD bids (bidWidth * i + 1) 0) (rowFor (awardOf k t n bids windows lent) i))
   unfolding ps rowFor gain
   award-honest bids′ windows′ lent lent′ f′ a e = rw
       (award-none k t n bids windows lent f, award-none k t n bids′ windows′ lent′ f′, ← e)
       (go (ltb lent n))
     where
-      go : (b : Bool) → AtMost (gain (getD bids (4 * i + 1) 0)
+      go : (b : Bool) → AtMost (gain (getD bids (bidWidth * i + 1) 0)
           (rowFor (cond b (declined RowsTooFew) (settled k (hasOf t (rowsOf n bids′) windows′) (pricesOf (rowsOf n bids′)) (cellsOf t)
           (t .window .start))) i))
-          (gain (getD bids (4 * i + 1) 0) (rowFor (cond b (declined RowsTooFew)
+          (gain (getD bids (bidWidth * i + 1) 0) (rowFor (cond b (declined RowsTooFew)
           (settled k (hasOf t (rowsOf n bids) windows) (pricesOf (rowsOf n bids)) (cellsOf t) (t .window .start))) i))
       go true = omega arith
       go false = rw (
         cells-alike k t n i bids windows bids′ windows′ inside (faultless k t n bids windows f .rows) a,
         prices-alike k t n i bids windows bids′ windows′ inside (faultless k t n bids windows f .rows) a,
         ← price-named n i bids inside,
-      ) (settled-honest k (hasOf t (rowsOf n bids) windows) ps (cellsOf t) i (getD bids′ (4 * i + 1) 0) (t .window .start)
+      ) (settled-honest k (hasOf t (rowsOf n bids) windows) ps (cellsOf t) i (getD bids′ (bidWidth * i + 1) 0) (t .window .start)
           (rw (prices-count n bids) inside))
 
 module _ (k : Kind) (t : Tender) (n : ℕ) (bids windows : List ℕ) (lent : ℕ) (rows : List AwardRow) (cost paid : ℕ)
@@ -58,7 +58,7 @@ module _ (k : Kind) (t : Tender) (n : ℕ) (bids windows : List ℕ) (lent : ℕ
       ∙ row-filled k (hasOf t (rowsOf n bids) windows) (pricesOf (rowsOf n bids)) (cellsOf t) i cost paid (rw (prices-count n bids) l)
 
   pub row-fair : (i : ℕ) → i < n → rowFor (awarded rows cost paid) i .won ≡ true
-      → getD bids (4 * i + 1) 0 ≤ rowFor (awarded rows cost paid) i .cents
+      → getD bids (bidWidth * i + 1) 0 ≤ rowFor (awarded rows cost paid) i .cents
   row-fair i l e =
       let h = fair (hasOf t (rowsOf n bids) windows) (pricesOf (rowsOf n bids)) (cellsOf t) i (rw (prices-count n bids) l)
       (w .settles .two) k (getD (pricesOf (rowsOf n bids)) i 0) in

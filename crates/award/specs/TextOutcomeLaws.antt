@@ -12,7 +12,7 @@ use Rattle.tender.specs.declared.Kind.the-variants.{Single, Multi}
 use Rattle.tender.specs.declared.Window.{Window}
 use Rattle.tender.specs.declared.Tender.{Tender}
 use Rattle.tender.specs.declared.Refusal.the-variants.{BadTables}
-use Rattle.tender.specs.Tables.{Row, flatRows, flatWindows}
+use Rattle.tender.specs.Tables.{Row, flatRows, flatWindows, bidWidth}
 use Rattle.reader.specs.Read.{accepted, readText}
 use Rattle.reader.specs.Rules.{Rules}
 use Rattle.reader.specs.RulesLaws.{rules-law}
@@ -71,7 +71,7 @@ text-core k T R S W v w v′ w′ lent lent′ a a′ bidder p q h h′ d e y y�
           (wrong-kind k T (length R) (flatRows R ++ v) (flatWindows W ++ w) s),
       y′ ∙ award-nine k T (length S) (flatRows S ++ v′) (flatWindows W ++ w′) lent′ 0
           (wrong-kind k T (length S) (flatRows S ++ v′) (flatWindows W ++ w′) s),
-    ) (nothing (getD (flatRows R ++ v) (4 * t .i + 1) 0) (t .i))
+    ) (nothing (getD (flatRows R ++ v) (bidWidth * t .i + 1) 0) (t .i))
 
 -- Two texts that differ in how one price is written and nowhere else, both accepted; the same award is called on what was read,
 -- where v, w, v′, w′ stand past the rows in the lent tables, each time with an award row for every bid or each time with fewer:

@@ -12,7 +12,7 @@ use borrow.Author.Tests.{eqb-true}
 use Rattle.tender.specs.declared.Kind.{Kind}
 use Rattle.tender.specs.declared.Tender.{Tender}
 use Rattle.tender.specs.Limits.{within, maxPrice, maxBidder, maxBids, mostWindows, lawful, allLawful}
-use Rattle.tender.specs.Tables.{Row, rowsOf, windowsOf, own, windowWidth, windowAt}
+use Rattle.tender.specs.Tables.{Row, rowsOf, windowsOf, own, bidWidth, windowWidth, windowAt}
 use Rattle.reader.specs.Words.{among}
 use Rattle.reader.specs.Differ.{withPrice}
 use Rattle.cover.specs.SetLaws.{and-split}
@@ -23,7 +23,7 @@ use Rattle.award_check.specs.Alike.{windowCount, Alike}
 pub rows-length : (n : ℕ) (bs : List ℕ) → length (rowsOf n bs) ≡ n
 unfolding rowsOf
 rows-length zero bs = refl
-rows-length (suc n) bs = ap suc (rows-length n (drop 4 bs))
+rows-length (suc n) bs = ap suc (rows-length n (drop bidWidth bs))
 
 pub prices-length : (rs : List Row) → length (pricesOf rs) ≡ length rs
 unfolding pricesOf
@@ -37,7 +37,8 @@ later : (d n : ℕ) (bs cs : List ℕ) → ((j : ℕ) → d ≤ j → j < n → 
     → getD (drop d bs) j 0 ≡ getD (drop d cs) j 0
 later d n bs cs h j l = getD-drop d bs j 0 ∙ h (d + j) (omega arith) l ∙ sym (getD-drop d cs j 0)
 
-rows-same : (n : ℕ) (bs cs : List ℕ) → ((j : ℕ) → j < 4 * n → getD bs j 0 ≡ getD cs j 0) → rowsOf n cs ≡ rowsOf n bs
+rows-same : (n : ℕ) (bs cs : List ℕ) → ((j : ℕ) → j < bidWidth * n → getD bs j 0 ≡ getD cs j 0)
+    → rowsOf n cs ≡ rowsOf n bs
 unfolding rowsOf
 rows-same zero bs cs h = refl
 rows-same (suc n) bs cs h = rw (
@@ -45,7 +46,7 @@ rows-same (suc n) bs cs h = rw (
   h 1 (omega arith),
   h 2 (omega arith),
   h 3 (omega arith),
-  rows-same n (drop 4 bs) (drop 4 cs) (λ j l. later 4 (4 * suc n) bs cs (λ k m o. h k o) j (omega arith)),
+  rows-same n (drop bidWidth bs) (drop bidWidth cs) (λ j l. later bidWidth (bidWidth * suc n) bs cs (λ k m o. h k o) j (omega arith)),
 )
 
 pub windows-same : (n : ℕ) (bs cs : List ℕ) → ((j : ℕ) → j < windowWidth * n → getD bs j 0 ≡ getD cs j 0)
@@ -60,21 +61,22 @@ windows-same (suc n) bs cs h = rw (
 )
 
 pub rows-set : (n i : ℕ) (bs cs : List ℕ) → i < n
-    → ((j : ℕ) → j < 4 * n → (j ≡ 4 * i + 1 → ⊥) → getD bs j 0 ≡ getD cs j 0) →
-    rowsOf n cs ≡ set (rowsOf n bs) i (withPrice (getD cs (4 * i + 1) 0) (getD (rowsOf n bs) i noRow))
+    → ((j : ℕ) → j < bidWidth * n → (j ≡ bidWidth * i + 1 → ⊥) → getD bs j 0 ≡ getD cs j 0) →
+    rowsOf n cs ≡ set (rowsOf n bs) i (withPrice (getD cs (bidWidth * i + 1) 0) (getD (rowsOf n bs) i noRow))
 unfolding rowsOf withPrice
 rows-set zero i bs cs l h = absurd (omega arith)
 rows-set (suc n) zero bs cs l h = rw (
   h 0 (omega arith) (λ e. omega arith),
   h 2 (omega arith) (λ e. omega arith),
   h 3 (omega arith) (λ e. omega arith),
-  rows-same n (drop 4 bs) (drop 4 cs) (λ j m. later 4 (4 * suc n) bs cs (λ k o p. h k p (λ e. omega arith)) j (omega arith)),
+  rows-same n (drop bidWidth bs) (drop bidWidth cs)
+      (λ j m. later bidWidth (bidWidth * suc n) bs cs (λ k o p. h k p (λ e. omega arith)) j (omega arith)),
 )
 rows-set (suc n) (suc i) bs cs l h =
-    let e : getD (drop 4 cs) (4 * i + 1) 0 ≡ getD cs (4 * suc i + 1) 0 = getD-drop 4 cs (4 * i + 1) 0
+    let e : getD (drop bidWidth cs) (bidWidth * i + 1) 0 ≡ getD cs (bidWidth * suc i + 1) 0 = getD-drop bidWidth cs (bidWidth * i + 1) 0
     ∙ ap (λ (j : ℕ). getD cs j 0) (index i) in
-    let f = rows-set n i (drop 4 bs) (drop 4 cs) (omega arith)
-    (λ j m d. getD-drop 4 bs j 0 ∙ h (4 + j) (omega arith) (λ p. d (omega arith)) ∙ sym (getD-drop 4 cs j 0)) in
+    let f = rows-set n i (drop bidWidth bs) (drop bidWidth cs) (omega arith)
+    (λ j m d. getD-drop bidWidth bs j 0 ∙ h (bidWidth + j) (omega arith) (λ p. d (omega arith)) ∙ sym (getD-drop bidWidth cs j 0)) in
     rw (
       h 0 (omega arith) (λ e. omega arith),
       h 1 (omega arith) (λ e. omega arith),
@@ -84,7 +86,7 @@ rows-set (suc n) (suc i) bs cs l h =
       f,
     )
   where
-    index : (i : ℕ) → 4 + (4 * i + 1) ≡ 4 * suc i + 1
+    index : (i : ℕ) → bidWidth + (bidWidth * i + 1) ≡ bidWidth * suc i + 1
     index i = omega arith
 
 pub prices-set : (rs : List Row) (i v : ℕ) → pricesOf (set rs i (withPrice v (getD rs i noRow))) ≡ set (pricesOf rs) i v
@@ -155,28 +157,29 @@ among-held k windows place used at (r ∷ rs) j e =
 
 -- what no refusal 9 says
 pub record Faultless (k : Kind) (t : Tender) (n : ℕ) (bids windows : List ℕ) : Type 0 where
-  pub tender : sameKind k (t .kind) && lawful (t .window) && leb n (length bids / 4) ≡ true
+  pub tender : sameKind k (t .kind) && lawful (t .window) && leb n (length bids / bidWidth) ≡ true
   pub rows : rowFault k windows 1 [] 0 (rowsOf n bids) ≡ none
 
 pub faultless : (k : Kind) (t : Tender) (n : ℕ) (bids windows : List ℕ) → faultOf k t n bids windows ≡ none
     → Faultless k t n bids windows
 unfolding faultOf
-faultless k t n bids windows e = go (sameKind k (t .kind) && lawful (t .window) && leb n (length bids / 4)) refl e
+faultless k t n bids windows e = go (sameKind k (t .kind) && lawful (t .window) && leb n (length bids / bidWidth)) refl e
   where
-    go : (b : Bool) → sameKind k (t .kind) && lawful (t .window) && leb n (length bids / 4) ≡ b
+    go : (b : Bool) → sameKind k (t .kind) && lawful (t .window) && leb n (length bids / bidWidth) ≡ b
         → cond b (rowFault k windows 1 [] 0 (rowsOf n bids)) (some 0) ≡ none → Faultless k t n bids windows
     go true f e = record { tender = f; rows = e }
     go false f e = let z : _≡_ {A = ℕ} 0 1 = cc in absurd (omega arith)
 
 module _ (k : Kind) (t : Tender) (n i : ℕ) (bids windows bids′ windows′ : List ℕ) (inside : i < n)
     (f : rowFault k windows 1 [] 0 (rowsOf n bids) ≡ none) (a : Alike n i bids windows bids′ windows′) where
-  pub prices-alike : pricesOf (rowsOf n bids′) ≡ set (pricesOf (rowsOf n bids)) i (getD bids′ (4 * i + 1) 0)
-  prices-alike = ap pricesOf (rows-set n i bids bids′ inside (a .rows)) ∙ prices-set (rowsOf n bids) i (getD bids′ (4 * i + 1) 0)
+  pub prices-alike : pricesOf (rowsOf n bids′) ≡ set (pricesOf (rowsOf n bids)) i (getD bids′ (bidWidth * i + 1) 0)
+  prices-alike =
+      ap pricesOf (rows-set n i bids bids′ inside (a .rows)) ∙ prices-set (rowsOf n bids) i (getD bids′ (bidWidth * i + 1) 0)
 
   own-alike : (j : ℕ) → own windows′ (getD (rowsOf n bids′) j noRow) ≡ own windows (getD (rowsOf n bids) j noRow)
   unfolding own
   own-alike j = ap (λ rs. own windows′ (getD rs j noRow)) (rows-set n i bids bids′ inside (a .rows))
-      ∙ own-set windows′ (rowsOf n bids) i (getD bids′ (4 * i + 1) 0) j
+      ∙ own-set windows′ (rowsOf n bids) i (getD bids′ (bidWidth * i + 1) 0) j
       ∙ sym (go (getD (rowsOf n bids) j noRow) (among-held k windows 1 [] 0 (rowsOf n bids) j f))
     where
       go : (r : Row) → r .first + r .count ≤ 0 + windowCount (rowsOf n bids) → own windows r ≡ own windows′ r
@@ -188,34 +191,34 @@ module _ (k : Kind) (t : Tender) (n i : ℕ) (bids windows bids′ windows′ : 
   unfolding hasOf
   cells-alike = fun-ext (λ j. fun-ext (λ x. ap (λ ws. ltb x (cellsOf t) && holds ws (t .window .start + x)) (own-alike j)))
 
-pub price-named : (n i : ℕ) (bids : List ℕ) → i < n → getD (pricesOf (rowsOf n bids)) i 0 ≡ getD bids (4 * i + 1) 0
+pub price-named : (n i : ℕ) (bids : List ℕ) → i < n → getD (pricesOf (rowsOf n bids)) i 0 ≡ getD bids (bidWidth * i + 1) 0
 unfolding pricesOf rowsOf
 price-named zero i bids l = absurd (omega arith)
 price-named (suc n) zero bids l = refl
-price-named (suc n) (suc i) bids l = price-named n i (drop 4 bids) (omega arith) ∙ getD-drop 4 bids (4 * i + 1) 0
+price-named (suc n) (suc i) bids l = price-named n i (drop bidWidth bids) (omega arith) ∙ getD-drop bidWidth bids (bidWidth * i + 1) 0
     ∙ ap (λ (j : ℕ). getD bids j 0) (index i)
   where
-    index : (i : ℕ) → 4 + (4 * i + 1) ≡ 4 * suc i + 1
+    index : (i : ℕ) → bidWidth + (bidWidth * i + 1) ≡ bidWidth * suc i + 1
     index i = omega arith
 
 -- for a loop over the rows: row j, and those after it
-pub rows-step : (m j : ℕ) (bids : List ℕ) → rowsOf (suc m) (drop (4 * j) bids)
+pub rows-step : (m j : ℕ) (bids : List ℕ) → rowsOf (suc m) (drop (bidWidth * j) bids)
     ≡ record {
-      bidder = getD bids (4 * j) 0;
-      price = getD bids (4 * j + 1) 0;
-      first = getD bids (4 * j + 2) 0;
-      count = getD bids (4 * j + 3) 0;
-    } ∷ rowsOf m (drop (4 * (j + 1)) bids)
+      bidder = getD bids (bidWidth * j) 0;
+      price = getD bids (bidWidth * j + 1) 0;
+      first = getD bids (bidWidth * j + 2) 0;
+      count = getD bids (bidWidth * j + 3) 0;
+    } ∷ rowsOf m (drop (bidWidth * (j + 1)) bids)
 unfolding rowsOf
 rows-step m j bids =
-    let z : 4 * j + 0 ≡ 4 * j = omega arith in
-    let e : 4 * j + 4 ≡ 4 * (j + 1) = omega arith in
+    let z : bidWidth * j + 0 ≡ bidWidth * j = omega arith in
+    let e : bidWidth * j + bidWidth ≡ bidWidth * (j + 1) = omega arith in
     rw (
-      getD-drop (4 * j) bids 0 0,
-      getD-drop (4 * j) bids 1 0,
-      getD-drop (4 * j) bids 2 0,
-      getD-drop (4 * j) bids 3 0,
-      drop-drop 4 (4 * j) bids,
+      getD-drop (bidWidth * j) bids 0 0,
+      getD-drop (bidWidth * j) bids 1 0,
+      getD-drop (bidWidth * j) bids 2 0,
+      getD-drop (bidWidth * j) bids 3 0,
+      drop-drop bidWidth (bidWidth * j) bids,
       z,
       e,
     )

@@ -9,7 +9,7 @@ use Rattle.tender.specs.declared.Kind.{Kind}
 use Rattle.tender.specs.declared.Kind.the-variants.{Single, Multi}
 use Rattle.tender.specs.declared.Tender.{Tender}
 use Rattle.tender.specs.Limits.{within, maxPrice, maxBidder, maxBids, mostWindows, lawful, allLawful}
-use Rattle.tender.specs.Tables.{Row, rowsOf, own, windowWidth}
+use Rattle.tender.specs.Tables.{Row, rowsOf, own, bidWidth, windowWidth}
 use Rattle.reader.specs.Words.{among}
 
 -- the row rules: bidder and price within limits, one window at least and no more than the kind allows, windows that begin where
@@ -48,6 +48,6 @@ sameKind Multi Multi = true
 unfoldable pub faultOf : Kind → Tender → ℕ → List ℕ → List ℕ → Option ℕ
 unfolding lawful rowsOf rowFault
 faultOf k t n bids windows =
-    cond (sameKind k (t .kind) && lawful (t .window) && leb n (length bids / 4))
+    cond (sameKind k (t .kind) && lawful (t .window) && leb n (length bids / bidWidth))
     (rowFault k windows 1 [] 0 (rowsOf n bids))
     (some 0)

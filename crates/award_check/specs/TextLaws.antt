@@ -14,7 +14,7 @@ use Rattle.tender.specs.declared.Kind.the-variants.{Single, Multi}
 use Rattle.tender.specs.declared.Window.{Window}
 use Rattle.tender.specs.declared.Tender.{Tender}
 use Rattle.tender.specs.Limits.{within, maxPrice, maxBidder, maxBids, mostWindows, lawful, allLawful}
-use Rattle.tender.specs.Tables.{Row, rowsOf, windowsOf, own, flatRows, flatWindows, windowWidth}
+use Rattle.tender.specs.Tables.{Row, rowsOf, windowsOf, own, flatRows, flatWindows, bidWidth, windowWidth}
 use Rattle.reader.specs.Words.{numeralOf, priceOf}
 use Rattle.reader.specs.Rules.{WindowRules, RowRules, RowsRules, WindowsRules, Rules}
 use Rattle.reader.specs.Differ.{withPrice, RowsDifferInPrice}
@@ -27,7 +27,7 @@ unfolding rowsOf flatRows
 rows-flat [] v = refl
 rows-flat (r ∷ rs) v = ap (λ l. r ∷ l) (rows-flat rs v)
 
-pub length-rows : (R : List Row) → length (flatRows R) ≡ 4 * length R
+pub length-rows : (R : List Row) → length (flatRows R) ≡ bidWidth * length R
 unfolding flatRows
 length-rows [] = refl
 length-rows (r ∷ rs) = omega (arith, length-rows rs)
@@ -122,10 +122,10 @@ pub never-nine : (T : Tender) (R : List Row) (W : List Window) (v w : List ℕ) 
     → faultOf (T .kind) T (length R) (flatRows R ++ v) (flatWindows W ++ w) ≡ none
 unfolding faultOf
 never-nine T R W v w h =
-    let l : length R ≤ length (flatRows R ++ v) / 4 = omega (arith, length-append (flatRows R) v, length-rows R) in
+    let l : length R ≤ length (flatRows R ++ v) / bidWidth = omega (arith, length-append (flatRows R) v, length-rows R) in
     let m : length W ≤ length (flatWindows W ++ w) / windowWidth = omega (arith, length-append (flatWindows W) w, length-windows W) in
     rw (
-      both (both (same-kind (T .kind)) (lawful-of (T .window) (h .tender))) (le-leb (length R) (length (flatRows R ++ v) / 4) l),
+      both (both (same-kind (T .kind)) (lawful-of (T .window) (h .tender))) (le-leb (length R) (length (flatRows R ++ v) / bidWidth) l),
       rows-flat R v,
     )
     (rows-sound (T .kind) (flatWindows W ++ w) w 1 [] 0 R W (length W) (h .rows) (omega (arith, h .few-bids)) refl (omega arith) m
@@ -135,8 +135,8 @@ before-end : (xs v v′ : List ℕ) (j : ℕ) → j < length xs → getD (xs ++ 
 before-end xs v v′ j l = List·getD-append xs v 0 j l ∙ sym (List·getD-append xs v′ 0 j l)
 
 -- cells of rows that differ in the price of the row after bs
-rows-alike : (bs : List Row) (r : Row) (ls : List Row) (q : ℕ) (v v′ : List ℕ) (j : ℕ) → j < 4 * length (bs ++ r ∷ ls)
-    → (j ≡ 4 * length bs + 1 → ⊥) →
+rows-alike : (bs : List Row) (r : Row) (ls : List Row) (q : ℕ) (v v′ : List ℕ) (j : ℕ) → j < bidWidth * length (bs ++ r ∷ ls)
+    → (j ≡ bidWidth * length bs + 1 → ⊥) →
     getD (flatRows (bs ++ r ∷ ls) ++ v) j 0 ≡ getD (flatRows (bs ++ withPrice q r ∷ ls) ++ v′) j 0
 unfolding flatRows withPrice
 rows-alike [] r ls q v v′ zero l d = refl
@@ -150,12 +150,12 @@ rows-alike (b ∷ bs) r ls q v v′ (suc (suc zero)) l d = refl
 rows-alike (b ∷ bs) r ls q v v′ (suc (suc (suc zero))) l d = refl
 rows-alike (b ∷ bs) r ls q v v′ (suc (suc (suc (suc j)))) l d = rows-alike bs r ls q v v′ j (omega arith) (λ e. d (omega arith))
 
-named-flat : (bs : List Row) (r : Row) (ls : List Row) (v : List ℕ) → getD (flatRows (bs ++ r ∷ ls) ++ v) (4 * length bs + 1) 0
+named-flat : (bs : List Row) (r : Row) (ls : List Row) (v : List ℕ) → getD (flatRows (bs ++ r ∷ ls) ++ v) (bidWidth * length bs + 1) 0
     ≡ r .price
 unfolding flatRows
 named-flat [] r ls v = refl
 named-flat (b ∷ bs) r ls v =
-    let i : 4 * suc (length bs) + 1 ≡ suc (suc (suc (suc (4 * length bs + 1)))) = omega arith in
+    let i : bidWidth * suc (length bs) + 1 ≡ suc (suc (suc (suc (bidWidth * length bs + 1)))) = omega arith in
     ap (λ (j : ℕ). getD (flatRows (b ∷ (bs ++ r ∷ ls)) ++ v) j 0) i ∙ named-flat bs r ls v
 
 -- the tables that two accepted texts fill, whatever stands past their rows
@@ -164,8 +164,8 @@ pub record Tabled (R S : List Row) (W : List Window) (v w v′ w′ bidder p q :
   pub inside : i < length R
   pub count : length S ≡ length R
   pub bidder-is : numeralOf bidder ≡ some (getD R i noRow .bidder)
-  pub named-p : priceOf p ≡ some (getD (flatRows R ++ v) (4 * i + 1) 0)
-  pub named-q : priceOf q ≡ some (getD (flatRows S ++ v′) (4 * i + 1) 0)
+  pub named-p : priceOf p ≡ some (getD (flatRows R ++ v) (bidWidth * i + 1) 0)
+  pub named-q : priceOf q ≡ some (getD (flatRows S ++ v′) (bidWidth * i + 1) 0)
   pub alike : Alike (length R) i (flatRows R ++ v) (flatWindows W ++ w) (flatRows S ++ v′) (flatWindows W ++ w′)
 
 pub tabled : (T : Tender) (R S : List Row) (W : List Window) (v w v′ w′ bidder p q : List ℕ) → Rules T R W

@@ -12,7 +12,7 @@ use borrow.Author.Tests.{not-true, not-false, ltb-true, ltb-false, leb-true, le-
 use Rattle.tender.specs.declared.Kind.{Kind}
 use Rattle.tender.specs.Limits.{within, lawful, allLawful}
 use Rattle.cover.specs.SetLaws.{and-split}
-use Rattle.tender.specs.Tables.{Row, rowsOf, windowsOf, windowWidth, windowAt}
+use Rattle.tender.specs.Tables.{Row, rowsOf, windowsOf, bidWidth, windowWidth, windowAt}
 use Rattle.reader.specs.Words.{among}
 use Rattle.cells.specs.Cells.{cell, RangeAdded}
 use Rattle.award_check.specs.Faults.{keeps, sound, rowFault}
@@ -110,10 +110,10 @@ is-sound k windows place used at r a b c = rw (a, b, c)
 -- row j of the bid table
 abbrev pub rowAt : List ℕ → ℕ → Row
 rowAt bids j = record {
-  bidder = getD bids (4 * j) 0;
-  price = getD bids (4 * j + 1) 0;
-  first = getD bids (4 * j + 2) 0;
-  count = getD bids (4 * j + 3) 0;
+  bidder = getD bids (bidWidth * j) 0;
+  price = getD bids (bidWidth * j + 1) 0;
+  first = getD bids (bidWidth * j + 2) 0;
+  count = getD bids (bidWidth * j + 3) 0;
 }
 
 -- the rows from j on have the first fault of all of them
@@ -122,7 +122,7 @@ pub record Going (k : Kind) (n : ℕ) (bids windows used : List ℕ) (at j : ℕ
   pub passed : RowsPassed used list
   pub inside : j ≤ n
   pub room : at ≤ length windows / windowWidth
-  pub rest : rowFault k windows (j + 1) list at (rowsOf (n - j) (drop (4 * j) bids)) ≡ rowFault k windows 1 [] 0 (rowsOf n bids)
+  pub rest : rowFault k windows (j + 1) list at (rowsOf (n - j) (drop (bidWidth * j) bids)) ≡ rowFault k windows 1 [] 0 (rowsOf n bids)
 
 pub going-starts : (k : Kind) (n : ℕ) (bids windows used : List ℕ) → used ≡ replicate {A = ℕ} 15625 0
     → Going k n bids windows used 0 0
@@ -140,16 +140,16 @@ module _ (k : Kind) (n : ℕ) (bids windows used : List ℕ) (at j : ℕ) (g : G
   pub going-ends : n ≤ j → none ≡ rowFault k windows 1 [] 0 (rowsOf n bids)
   unfolding rowFault rowsOf
   going-ends l = let d : n - j ≡ 0 = omega arith in
-      sym (ap (λ (m : ℕ). rowFault k windows (j + 1) (g .list) at (rowsOf m (drop (4 * j) bids))) d) ∙ g .rest
+      sym (ap (λ (m : ℕ). rowFault k windows (j + 1) (g .list) at (rowsOf m (drop (bidWidth * j) bids))) d) ∙ g .rest
 
   step : j < n → rowFault k windows 1 [] 0 (rowsOf n bids)
       ≡ cond (sound k windows (j + 1) (g .list) at (rowAt bids j))
       (rowFault k windows (j + 1 + 1) (g .list ++ rowAt bids j .bidder ∷ []) (at + rowAt bids j .count)
-      (rowsOf (n - (j + 1)) (drop (4 * (j + 1)) bids))) (some (j + 1))
+      (rowsOf (n - (j + 1)) (drop (bidWidth * (j + 1)) bids))) (some (j + 1))
   unfolding rowFault
   step l =
       let d : n - j ≡ suc (n - (j + 1)) = omega arith in
-      sym (g .rest) ∙ ap (λ (m : ℕ). rowFault k windows (j + 1) (g .list) at (rowsOf m (drop (4 * j) bids))) d
+      sym (g .rest) ∙ ap (λ (m : ℕ). rowFault k windows (j + 1) (g .list) at (rowsOf m (drop (bidWidth * j) bids))) d
       ∙ ap (rowFault k windows (j + 1) (g .list) at) (rows-step (n - (j + 1)) j bids)
 
   unsound : j < n → sound k windows (j + 1) (g .list) at (rowAt bids j) ≡ false
@@ -182,7 +182,7 @@ module _ (k : Kind) (n : ℕ) (bids windows used : List ℕ) (at j : ℕ) (g : G
     room = leb-true (at + rowAt bids j .count) (length windows / windowWidth) (keeps-kept k windows at (rowAt bids j) e .room);
     rest = sym (step l ∙ ap (λ t. cond t (rowFault k windows (j + 1 + 1) (g .list ++ rowAt bids j .bidder ∷ [])
         (at + rowAt bids j .count)
-        (rowsOf (n - (j + 1)) (drop (4 * (j + 1)) bids))) (some (j + 1))) sound-here);
+        (rowsOf (n - (j + 1)) (drop (bidWidth * (j + 1)) bids))) (some (j + 1))) sound-here);
   }
     where
       sound-here : sound k windows (j + 1) (g .list) at (rowAt bids j) ≡ true

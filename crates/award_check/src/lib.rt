@@ -9,7 +9,7 @@ ghost use Prim.Native.Nat.{_+_, _*_, _/_, _≤_};
 ghost use lib.ListN.{length, drop};
 ghost use lib.Dec.{leb, ltb, eqb};
 ghost use Rattle.tender.specs.Limits.{mostWindows, within, allLawful};
-ghost use Rattle.tender.specs.Tables.{rowsOf, windowsOf, windowWidth};
+ghost use Rattle.tender.specs.Tables.{rowsOf, windowsOf, bidWidth, windowWidth};
 ghost use Rattle.award_check.specs.Faults.{keeps, rowFault, faultOf, sameKind};
 ghost use Rattle.award_check.specs.Checks.{checkedFault};
 
@@ -107,7 +107,7 @@ fn row_keeps(
 
 // The place of the first row that breaks a rule.
 fn row_fault(kind: Kind, count: usize, bids: &[u64], windows: &[u64]) -> Check
-    requires { ⌜ count ≤ length (now bids) / 4 ⌝ }
+    requires { ⌜ count ≤ length (now bids) / bidWidth ⌝ }
     ensures { λ r. ⌜ checkedFault r ≡ rowFault kind (now (windows .entry)) 1 [] 0 (rowsOf count (now (bids .entry))) ⌝ }
 {
     // The bidder numbers of the rows passed.
@@ -119,15 +119,15 @@ fn row_fault(kind: Kind, count: usize, bids: &[u64], windows: &[u64]) -> Check
         if 1000 <= j {
             return Check::Faulty { row: place };
         }
-        let bidder = bids[4 * j];
-        let windows_here = bids[4 * j + 3];
+        let bidder = bids[tender::BID_WIDTH * j];
+        let windows_here = bids[tender::BID_WIDTH * j + 3];
         if !row_keeps(
             kind,
             windows,
             at,
             bidder,
-            bids[4 * j + 1],
-            bids[4 * j + 2],
+            bids[tender::BID_WIDTH * j + 1],
+            bids[tender::BID_WIDTH * j + 2],
             windows_here,
         ) {
             return Check::Faulty { row: place };
@@ -154,7 +154,7 @@ pub fn fault(kind: Kind, tender: Tender, count: usize, bids: &[u64], windows: &[
     if !window_lawful(window.start, window.end) {
         return Check::Faulty { row: 0 };
     }
-    if bids.len() / 4 < count {
+    if bids.len() / tender::BID_WIDTH < count {
         return Check::Faulty { row: 0 };
     }
     row_fault(kind, count, bids, windows)

@@ -11,7 +11,7 @@ use borrow.Author.Tests.{ltb-true, ltb-false, leb-true, leb-false, eq-eqb}
 use Rattle.tender.specs.declared.Kind.{Kind}
 use Rattle.tender.specs.Limits.{within, mostWindows}
 use Rattle.cover.specs.SetLaws.{and-split}
-use Rattle.tender.specs.Tables.{rowsOf, windowsOf, windowWidth, windowAt}
+use Rattle.tender.specs.Tables.{rowsOf, windowsOf, bidWidth, windowWidth, windowAt}
 use Rattle.cells.specs.Cells.{cell, RangeAdded}
 use Rattle.cells.specs.BitLaws.{zero-bit}
 use Rattle.award_check.specs.Cells.{holds, pricesOf}
@@ -33,7 +33,8 @@ filled-more f out i l h v e j m = go (ltb j i) refl
         ∙ getD-set-same out i v 0 l
         ∙ e ∙ ap f (sym d)
 
-pub prices-are : (bids out : List ℕ) (n : ℕ) → length out ≡ n → ((j : ℕ) → j < n → getD out j 0 ≡ getD bids (4 * j + 1) 0)
+pub prices-are : (bids out : List ℕ) (n : ℕ) → length out ≡ n
+    → ((j : ℕ) → j < n → getD out j 0 ≡ getD bids (bidWidth * j + 1) 0)
     → out ≡ pricesOf (rowsOf n bids)
 prices-are bids out n e h = ext-getD 0 out (pricesOf (rowsOf n bids)) (e ∙ sym (prices-length (rowsOf n bids) ∙ rows-length n bids))
     (λ j l. h j (omega arith) ∙ sym (price-named n j bids (omega arith)))

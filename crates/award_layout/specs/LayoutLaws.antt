@@ -14,7 +14,7 @@ use Rattle.tender.specs.declared.Kind.{Kind}
 use Rattle.tender.specs.declared.Kind.the-variants.{Single}
 use Rattle.tender.specs.declared.Tender.{Tender}
 use Rattle.tender.specs.Limits.{within, mostWindows, lawful, allLawful}
-use Rattle.tender.specs.Tables.{Row, rowsOf, windowsOf, own, windowWidth, windowAt}
+use Rattle.tender.specs.Tables.{Row, rowsOf, windowsOf, own, bidWidth, windowWidth, windowAt}
 use Rattle.cover.specs.SetLaws.{and-split}
 use Rattle.cover.specs.Settled.{spans}
 use Rattle.cells.specs.Cells.{cell}
@@ -28,21 +28,21 @@ pub row-named : (n i : ℕ) (bids : List ℕ) → i < n → getD (rowsOf n bids)
 unfolding rowsOf
 row-named zero i bids l = absurd (omega arith)
 row-named (suc n) zero bids l = refl
-row-named (suc n) (suc i) bids l = row-named n i (drop 4 bids) (omega arith) ∙ rw (
-  getD-drop 4 bids (4 * i) 0,
-  getD-drop 4 bids (4 * i + 1) 0,
-  getD-drop 4 bids (4 * i + 2) 0,
-  getD-drop 4 bids (4 * i + 3) 0,
+row-named (suc n) (suc i) bids l = row-named n i (drop bidWidth bids) (omega arith) ∙ rw (
+  getD-drop bidWidth bids (bidWidth * i) 0,
+  getD-drop bidWidth bids (bidWidth * i + 1) 0,
+  getD-drop bidWidth bids (bidWidth * i + 2) 0,
+  getD-drop bidWidth bids (bidWidth * i + 3) 0,
   base i,
   index 1 i,
   index 2 i,
   index 3 i,
 )
   where
-    base : (i : ℕ) → 4 + 4 * i ≡ 4 * suc i
+    base : (i : ℕ) → bidWidth + bidWidth * i ≡ bidWidth * suc i
     base i = omega arith
 
-    index : (c i : ℕ) → 4 + (4 * i + c) ≡ 4 * suc i + c
+    index : (c i : ℕ) → bidWidth + (bidWidth * i + c) ≡ bidWidth * suc i + c
     index c i = omega arith
 
 -- each row of faultless rows keeps the rules, and they are few
@@ -88,10 +88,10 @@ pub orderly : (k : Kind) (t : Tender) (n : ℕ) (bids windows : List ℕ) → fa
     → Orderly k n bids windows
 orderly k t n bids windows e =
     let f = faultless k t n bids windows e in
-    let a = and-split (sameKind k (t .kind) && lawful (t .window)) (leb n (length bids / 4)) (f .tender) in
+    let a = and-split (sameKind k (t .kind) && lawful (t .window)) (leb n (length bids / bidWidth)) (f .tender) in
     record {
       few = omega (arith, rows-few k windows 1 [] 0 (rowsOf n bids) (f .rows) (omega arith), rows-length n bids);
-      lent = leb-true n (length bids / 4) (a .1);
+      lent = leb-true n (length bids / bidWidth) (a .1);
       kept = λ i l. rw (row-named n i bids l) at (rows-kept k windows 1 [] 0 (rowsOf n bids) (f .rows) i
           (omega (arith, rows-length n bids)));
     }
@@ -105,7 +105,7 @@ pub timed : (k : Kind) (t : Tender) (n : ℕ) (bids windows : List ℕ) → faul
 unfolding lawful
 timed k t n bids windows e =
     let f = faultless k t n bids windows e in
-    let a = and-split (sameKind k (t .kind) && lawful (t .window)) (leb n (length bids / 4)) (f .tender) in
+    let a = and-split (sameKind k (t .kind) && lawful (t .window)) (leb n (length bids / bidWidth)) (f .tender) in
     let b = and-split (sameKind k (t .kind)) (lawful (t .window)) (a .0) in
     let c = and-split (ltb (t .window .start) (t .window .end)) (leb (t .window .end) 10080) (b .1) in
     record { some-minute = ltb-true (t .window .start) (t .window .end) (c .0); in-week = leb-true (t .window .end) 10080 (c .1) }

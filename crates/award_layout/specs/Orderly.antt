@@ -7,7 +7,7 @@ use lib.ListN.{length, getD}
 use lib.Dec.{ltb, eqb}
 use Rattle.tender.specs.declared.Kind.{Kind}
 use Rattle.tender.specs.declared.Window.{Window}
-use Rattle.tender.specs.Tables.{Row, own, windowAt}
+use Rattle.tender.specs.Tables.{Row, own, windowAt, bidWidth}
 use Rattle.cells.specs.Cells.{cell}
 use Rattle.multi_rounds.specs.Market.{wordRow}
 use Rattle.award_check.specs.Cells.{holds}
@@ -16,16 +16,16 @@ use Rattle.award_check.specs.AlikeLaws.{Kept}
 -- row i of the bid table
 abbrev pub bidRowAt : List ℕ → ℕ → Row
 bidRowAt bids i = record {
-  bidder = getD bids (4 * i) 0;
-  price = getD bids (4 * i + 1) 0;
-  first = getD bids (4 * i + 2) 0;
-  count = getD bids (4 * i + 3) 0;
+  bidder = getD bids (bidWidth * i) 0;
+  price = getD bids (bidWidth * i + 1) 0;
+  first = getD bids (bidWidth * i + 2) 0;
+  count = getD bids (bidWidth * i + 3) 0;
 }
 
 -- n rows that keep the row rules
 pub record Orderly (k : Kind) (n : ℕ) (bids windows : List ℕ) : Type 0 where
   pub few : n ≤ 1000
-  pub lent : n ≤ length bids / 4
+  pub lent : n ≤ length bids / bidWidth
   pub kept : (i : ℕ) → i < n → Kept k windows (bidRowAt bids i .first) (bidRowAt bids i)
 
 -- the cell of a minute, within L cells from the minute `start` on

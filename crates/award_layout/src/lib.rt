@@ -6,18 +6,18 @@ ghost use lib.ListN.{length, getD, drop};
 ghost use mathlib.Core.Bool.{true};
 ghost use Rattle.tender.specs.declared.Kind.the-variants.{Single, Multi};
 ghost use Rattle.tender.specs.Limits.{allLawful};
-ghost use Rattle.tender.specs.Tables.{rowsOf, windowsOf, windowWidth};
+ghost use Rattle.tender.specs.Tables.{rowsOf, windowsOf, bidWidth, windowWidth};
 ghost use Rattle.award_check.specs.Cells.{pricesOf};
 ghost use Rattle.award_layout.specs.Orderly.{bidRowAt, Orderly, clipped, SpansLaid, Masked, AllMasked};
 
 // The prices of the bids.
 pub fn prices(bids: &[u64], out: &mut [u64])
-    requires { ⌜ length (now out) ≤ length (now bids) / 4 ⌝ }
+    requires { ⌜ length (now out) ≤ length (now bids) / bidWidth ⌝ }
     ensures { λ _. ⌜ now (out .exit) ≡ pricesOf (rowsOf (length (now (out .entry))) (now (bids .entry))) ⌝ }
 {
     let mut i = 0;
     while i < out.len() {
-        out[i] = bids[4 * i + 1];
+        out[i] = bids[tender::BID_WIDTH * i + 1];
         i += 1;
     }
 }
@@ -51,7 +51,7 @@ pub fn spans(
 {
     let mut i = 0;
     while i < starts.len() {
-        let j = bids[4 * i + 2] as usize;
+        let j = bids[tender::BID_WIDTH * i + 2] as usize;
         starts[i] = clip(start, cells, windows[tender::WINDOW_WIDTH * j]);
         ends[i] = clip(start, cells, windows[tender::WINDOW_WIDTH * j + 1]);
         i += 1;
@@ -111,8 +111,8 @@ pub fn masks(
 {
     let mut i = 0;
     while i < n {
-        let first = bids[4 * i + 2] as usize;
-        let count = bids[4 * i + 3] as usize;
+        let first = bids[tender::BID_WIDTH * i + 2] as usize;
+        let count = bids[tender::BID_WIDTH * i + 3] as usize;
         let a = w * i;
         let e = a + w;
         mask_row(start, cells, windows, first, count, &mut out[a..e]);

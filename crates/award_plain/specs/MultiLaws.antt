@@ -13,7 +13,7 @@ use Rattle.tender.specs.declared.Kind.the-variants.{Multi}
 use Rattle.tender.specs.declared.Tender.{Tender}
 use Rattle.tender.specs.declared.Totals.{Totals}
 use Rattle.tender.specs.declared.Refusal.the-variants.{MinuteUncovered, OneBidder}
-use Rattle.tender.specs.Tables.{rowsOf}
+use Rattle.tender.specs.Tables.{rowsOf, bidWidth}
 use Rattle.cover.specs.Sets.{cells, each}
 use Rattle.cover.specs.EarliestLaws.{two-each}
 use Rattle.cover.specs.Greedy.{wins}
@@ -43,7 +43,7 @@ prices-lawful k n bids windows o = record { count = omega (arith, o .few, prices
         go true u = omega (
           arith,
           price-named n i bids (ltb-true i n u),
-          leb-true (getD bids (4 * i + 1) 0) 100000000 (o .kept i (ltb-true i n u) .price),
+          leb-true (getD bids (bidWidth * i + 1) 0) 100000000 (o .kept i (ltb-true i n u) .price),
         )
         go false u = omega (
           arith,

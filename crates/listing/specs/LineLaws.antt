@@ -7,7 +7,7 @@ use lib.ListN.{length, getD, length-append}
 use lib.Dec.{eqb}
 use Rattle.tender.specs.declared.Tender.{Tender}
 use Rattle.tender.specs.Keywords.{bytes}
-use Rattle.tender.specs.Tables.{Row}
+use Rattle.tender.specs.Tables.{Row, bidWidth}
 use Rattle.award_check.specs.Cells.{noRow}
 use Rattle.tender.specs.declared.AwardRow.{AwardRow}
 use Rattle.award_plain.specs.Award.{Outcome, awarded, refused}
@@ -77,9 +77,9 @@ unfolding winLines
 win-lines-short bids won cents zero = omega arith
 win-lines-short bids won cents (suc n) = omega (
   arith,
-  length-append (winLines bids won cents n) (winLine (getD bids (4 * n) 0) (getD won n 0) (getD cents n 0)),
+  length-append (winLines bids won cents n) (winLine (getD bids (bidWidth * n) 0) (getD won n 0) (getD cents n 0)),
   win-lines-short bids won cents n,
-  win-short (getD bids (4 * n) 0) (getD won n 0) (getD cents n 0),
+  win-short (getD bids (bidWidth * n) 0) (getD won n 0) (getD cents n 0),
 )
 
 pub refusal-short : (n at : ℕ) → length (pairLine refusedWord n at) ≤ 51200

@@ -6,6 +6,7 @@ use lib.ListN.{getD}
 use lib.Dec.{eqb}
 use Rattle.tender.specs.declared.Tender.{Tender}
 use Rattle.tender.specs.Keywords.{bytes}
+use Rattle.tender.specs.Tables.{bidWidth}
 use Rattle.spelling.specs.Lines.{pairLine, kindWord}
 
 unfoldable pub awardWord : List ℕ
@@ -34,4 +35,4 @@ winLine bidder flag cents = cond (eqb flag 1) (pairLine winWord bidder cents) []
 unfoldable pub winLines : List ℕ → List ℕ → List ℕ → ℕ → List ℕ
 unfolding winLine
 winLines bids won cents zero = []
-winLines bids won cents (suc n) = winLines bids won cents n ++ winLine (getD bids (4 * n) 0) (getD won n 0) (getD cents n 0)
+winLines bids won cents (suc n) = winLines bids won cents n ++ winLine (getD bids (bidWidth * n) 0) (getD won n 0) (getD cents n 0)

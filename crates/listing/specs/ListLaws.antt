@@ -15,7 +15,7 @@ use Rattle.tender.specs.declared.Window.{Window}
 use Rattle.tender.specs.declared.Tender.{Tender}
 use Rattle.tender.specs.declared.Refusal.the-variants.{MinuteUncovered, OneBidder}
 use Rattle.tender.specs.Refusals.{numberOf}
-use Rattle.tender.specs.Tables.{Row, rowsOf, own, flatRows, flatWindows, windowWidth}
+use Rattle.tender.specs.Tables.{Row, rowsOf, own, flatRows, flatWindows, bidWidth, windowWidth}
 use Rattle.cover.specs.Sets.{Found, nothing, found}
 use Rattle.cover.specs.Earliest.{cellWith}
 use Rattle.cover.specs.SettledLaws.{getD-listed}
@@ -112,14 +112,15 @@ module _ (T : Tender) (R : List Row) (W : List Window) (rules : Rules T R W) whe
 
 -- the lines that the code writes, from the numbers of the tables, are the list's
 
-bidder-cell : (R : List Row) (v : List ℕ) (i : ℕ) → i < length R → getD (flatRows R ++ v) (4 * i) 0 ≡ getD R i noRow .bidder
+bidder-cell : (R : List Row) (v : List ℕ) (i : ℕ) → i < length R
+    → getD (flatRows R ++ v) (bidWidth * i) 0 ≡ getD R i noRow .bidder
 unfolding flatRows
 bidder-cell [] v i l = absurd (omega arith)
 bidder-cell (r ∷ R) v zero l = refl
 bidder-cell (r ∷ R) v (suc i) l = ap (λ k. getD (r .bidder ∷ r .price ∷ r .first ∷ r .count ∷ (flatRows R ++ v)) k 0) (index i)
     ∙ bidder-cell R v i (omega arith)
   where
-    index : (i : ℕ) → 4 * suc i ≡ suc (suc (suc (suc (4 * i))))
+    index : (i : ℕ) → bidWidth * suc i ≡ suc (suc (suc (suc (bidWidth * i))))
     index i = omega arith
 
 row-cells : (n : ℕ) (won cents : List ℕ) (i : ℕ) → i < n

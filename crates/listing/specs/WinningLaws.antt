@@ -5,6 +5,7 @@ use Prim.Native.Nat.{ℕ, _+_, _*_, _≤_}
 use native.Mathlib.Numerals.{add-one}
 use native.Mathlib.Omega.{arith}
 use lib.ListN.{getD}
+use Rattle.tender.specs.Tables.{bidWidth}
 use Rattle.listing.specs.Lines.{winLine, winLines}
 use Rattle.spelling.specs.Written.{Written}
 use Rattle.spelling.specs.WritingLaws.{then}
@@ -22,12 +23,12 @@ module _ (old : List ℕ) (at : ℕ) (bids won cents : List ℕ) where
   wins-begin = record { written = nothing-written old at; few = omega arith }
 
   pub wins-go : {mid new : List ℕ} {e f : ℕ} (i : ℕ) → Winning old at bids won cents mid e i
-      → Written mid e (winLine (getD bids (4 * i) 0) (getD won i 0) (getD cents i 0)) new f
+      → Written mid e (winLine (getD bids (bidWidth * i) 0) (getD won i 0) (getD cents i 0)) new f
       → Winning old at bids won cents new f (i + 1)
   unfolding winLines
   wins-go {mid} {new} {e} {f} i h w = record {
     written = rw (add-one i) (then (h .written) w);
-    few = omega (arith, h .few, w .next, win-short (getD bids (4 * i) 0) (getD won i 0) (getD cents i 0));
+    few = omega (arith, h .few, w .next, win-short (getD bids (bidWidth * i) 0) (getD won i 0) (getD cents i 0));
   }
 
   pub wins-end : {new : List ℕ} {e i n : ℕ} → i ≡ n → Winning old at bids won cents new e i

@@ -6,6 +6,7 @@ ghost use mathlib.Core.Path.{_≡_};
 ghost use mathlib.Core.List.{_++_};
 ghost use Prim.Native.Nat.{_+_, _*_, _≤_};
 ghost use lib.ListN.{length};
+ghost use Rattle.tender.specs.Tables.{bidWidth};
 ghost use Rattle.spelling.specs.Lines.{pairLine};
 ghost use Rattle.spelling.specs.Written.{Written};
 ghost use Rattle.listing.specs.Lines.{awardLine, winLines, totalWord};
@@ -26,7 +27,7 @@ fn put_awarded(
     cents: &[u64],
     totals: Totals,
 ) -> usize
-    requires { ⌜ (4 * n ≤ length (now bids)) × ((n ≤ length (now won))
+    requires { ⌜ (bidWidth * n ≤ length (now bids)) × ((n ≤ length (now won))
         × ((n ≤ length (now cents)) × (48 * n + 107 ≤ length (now list))))
         ⌝ }
     ensures { λ r. ⌜ Written (now (list .entry)) 0 (awardLine tender
@@ -40,7 +41,7 @@ fn put_awarded(
 
 // The list of the award to these tables.
 fn put_award(list: &mut [u8], tender: Tender, n: usize, bids: &[u64], windows: &[u64]) -> usize
-    requires { ⌜ (n ≤ 1000) × ((4 * n ≤ length (now bids)) × (48 * n + 107 ≤ length (now list))) ⌝ }
+    requires { ⌜ (n ≤ 1000) × ((bidWidth * n ≤ length (now bids)) × (48 * n + 107 ≤ length (now list))) ⌝ }
     ensures { λ r. ⌜ Awarded·written tender n (now (bids .entry)) (now (windows .entry)) (now (list .entry)) (now (list .exit)) r ⌝ }
 {
     let mut won = [1u64; 1000];

@@ -1,6 +1,7 @@
 // Writes the lines of a list into a buffer: each function puts bytes from `at` on and answers the place past them.
 ghost use Prim.Native.Nat.{_+_, _*_, _≤_, _<_};
 ghost use lib.ListN.{length};
+ghost use Rattle.tender.specs.Tables.{bidWidth};
 ghost use Rattle.spelling.specs.Written.{Written};
 ghost use Rattle.listing.specs.Lines.{awardLine, winLine, winLines};
 use tender::Tender;
@@ -37,7 +38,7 @@ pub(crate) fn put_wins(
     cents: &[u64],
     n: usize,
 ) -> usize
-    requires { ⌜ (4 * n ≤ length (now bids)) × ((n ≤ length (now won))
+    requires { ⌜ (bidWidth * n ≤ length (now bids)) × ((n ≤ length (now won))
         × ((n ≤ length (now cents)) × (at + 48 * n ≤ length (now buf)))) ⌝ }
     ensures { λ r. ⌜ Written (now (buf .entry)) at (winLines (now (bids .entry)) (now (won .entry)) (now (cents .entry)) n)
         (now (buf .exit)) r ⌝ }
@@ -45,7 +46,7 @@ pub(crate) fn put_wins(
     let mut end = at;
     let mut i: usize = 0;
     while i < n {
-        end = put_win(buf, end, bids[4 * i], won[i], cents[i]);
+        end = put_win(buf, end, bids[tender::BID_WIDTH * i], won[i], cents[i]);
         i += 1;
     }
     end

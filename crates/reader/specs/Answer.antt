@@ -4,7 +4,7 @@ use Prim.Native.Nat.{ℕ, _*_}
 use lib.ListN.{length, drop}
 use Rattle.tender.specs.declared.Tender.{Tender}
 use Rattle.tender.specs.Refusals.{numberOf, placeOf}
-use Rattle.tender.specs.Tables.{flatRows, flatWindows, windowWidth}
+use Rattle.tender.specs.Tables.{flatRows, flatWindows, bidWidth, windowWidth}
 use Rattle.reader.specs.Read.{ReadOutcome, accepted, refused}
 use Rattle.reader.specs.declared.Reading.{Reading}
 use Rattle.reader.specs.declared.Reading.the-variants as answer
@@ -25,7 +25,7 @@ summary (refused n at) = declined n at
 -- a table after reading: its rows and the old places past them, or as it was
 unfoldable pub bidsAfter : List ℕ → ReadOutcome → List ℕ
 unfolding flatRows
-bidsAfter old (accepted t rows windows) = flatRows rows ++ drop (4 * length rows) old
+bidsAfter old (accepted t rows windows) = flatRows rows ++ drop (bidWidth * length rows) old
 bidsAfter old (refused n at) = old
 
 unfoldable pub windowsAfter : List ℕ → ReadOutcome → List ℕ

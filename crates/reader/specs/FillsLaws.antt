@@ -14,7 +14,7 @@ use Rattle.tender.specs.declared.Kind.{Kind}
 use Rattle.tender.specs.declared.Refusal.{Refusal}
 use Rattle.tender.specs.Limits.{allLawful}
 use Rattle.tender.specs.Refusals.{numberOf, placeOf}
-use Rattle.tender.specs.Tables.{flatRows, flatWindows, windowWidth}
+use Rattle.tender.specs.Tables.{flatRows, flatWindows, bidWidth, windowWidth}
 use Rattle.cells.specs.Cells.{cell, RangeAdded}
 use Rattle.reader_line.specs.Words.{among, cut}
 use Rattle.reader_line.specs.Line.{BidLine, Line, tender, bid, lineOf, linesOf}
@@ -53,7 +53,7 @@ pub record Walk (kind : Kind) (whole left : List (Option Line)) (k m : ℕ) (use
   pub places : length (allWindows done) ≡ m
   pub few-bids : k ≤ 1000
   pub few-windows : m ≤ 32 * k
-  pub rows-are : take (4 * k) rows ≡ flatRows (rowsFrom 0 done)
+  pub rows-are : take (bidWidth * k) rows ≡ flatRows (rowsFrom 0 done)
   pub windows-are : take (windowWidth * m) windows ≡ flatWindows (allWindows done)
   pub marked : (x : ℕ) → eqb (cell used x) 1 ≡ among x (bidderNumbers done)
   pub used-long : length used ≡ 15625
@@ -157,7 +157,7 @@ module _ (kind : Kind) (whole rest : List (Option Line)) (k m : ℕ) (used rows 
       let n : k + 2 + 1 ≡ k + 1 + 2 = omega arith in
       let i : m + length (b .windows) ≤ 32 * (k + 1) = omega (arith, w .few-windows, p .few-windows) in
       let j : windowWidth * (m + length (b .windows)) ≤ length windows = omega (arith, room, w .windows-long) in
-      let z : 4 * k ≤ length rows = omega (arith, w .few-bids, w .rows-long) in
+      let z : bidWidth * k ≤ length rows = omega (arith, w .few-bids, w .rows-long) in
       record {
         done = w .done ++ b ∷ [];
         checks = λ out. w .checks out ∙ rw f (rw (n, numbers-more (w .done) b));
@@ -166,7 +166,7 @@ module _ (kind : Kind) (whole rest : List (Option Line)) (k m : ℕ) (used rows 
         places = ap length (windows-more (w .done) b) ∙ length-append (allWindows (w .done)) (b .windows) ∙ omega (arith, w .places);
         few-bids = omega (arith, p .few-bids);
         few-windows = i;
-        rows-are = ap (take (4 * (k + 1))) (t .row) ∙ front rows _ _ (4 * k) (4 * (k + 1)) z (omega arith)
+        rows-are = ap (take (bidWidth * (k + 1))) (t .row) ∙ front rows _ _ (bidWidth * k) (bidWidth * (k + 1)) z (omega arith)
             ∙ rw (w .rows-are, ← (w .places)) (sym (rw (zero-add (length (allWindows (w .done)))) at (rows-more 0 (w .done) b)));
         windows-are = ap (take (windowWidth * (m + length (b .windows)))) (t .own) ∙ windows-put windows m (b .windows) j
             ∙ rw (w .windows-are, windows-more (w .done) b) (sym (flat-more (allWindows (w .done)) (b .windows)));

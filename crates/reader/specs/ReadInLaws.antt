@@ -8,7 +8,7 @@ use Rattle.tender.specs.declared.Tender.{Tender}
 use Rattle.tender.specs.declared.Refusal.{Refusal}
 use Rattle.tender.specs.declared.Window.{Window}
 use Rattle.tender.specs.Refusals.{numberOf, placeOf}
-use Rattle.tender.specs.Tables.{Row, flatRows, flatWindows, windowWidth}
+use Rattle.tender.specs.Tables.{Row, flatRows, flatWindows, bidWidth, windowWidth}
 use Rattle.reader.specs.declared.Reading.{Reading}
 use Rattle.reader.specs.declared.Reading.the-variants as answer
 use Rattle.reader.specs.Read.{accepted, readText, readInto}
@@ -30,13 +30,13 @@ pub record ReadIn (text bids windows : List ℕ) (t : Tender) (n : ℕ) : Type 0
 
 -- a reading into tables of 1,000 and 11,000 rows
 module _ (text ob ow : List ℕ) (room-b : length ob ≡ 4000) (room-w : length ow ≡ 22000) where
-  whole : readInto text (length ob / 4) (length ow / windowWidth) ≡ readText text
+  whole : readInto text (length ob / bidWidth) (length ow / windowWidth) ≡ readText text
   whole = rw (room-b, room-w) (fits-law text 1000 11000 (omega arith) (omega arith))
 
   pub accepted-read : {nb nw : List ℕ} {r : Reading} (t : Tender) (n m : ℕ)
-      → toldReading r ≡ summary (readInto text (length ob / 4) (length ow / windowWidth)) →
-      nb ≡ bidsAfter ob (readInto text (length ob / 4) (length ow / windowWidth))
-      → nw ≡ windowsAfter ow (readInto text (length ob / 4) (length ow / windowWidth)) → r ≡ answer.Accepted t n m
+      → toldReading r ≡ summary (readInto text (length ob / bidWidth) (length ow / windowWidth)) →
+      nb ≡ bidsAfter ob (readInto text (length ob / bidWidth) (length ow / windowWidth))
+      → nw ≡ windowsAfter ow (readInto text (length ob / bidWidth) (length ow / windowWidth)) → r ≡ answer.Accepted t n m
       → ReadIn text nb nw t n
   unfolding bidsAfter windowsAfter
   accepted-read {nb} {nw} {r} t n m a b w e = go (readText text) refl (sym (ap toldReading e) ∙ a ∙ ap summary whole)
@@ -49,7 +49,7 @@ module _ (text ob ow : List ℕ) (room-b : length ob ≡ 4000) (room-w : length 
       go (accepted u R W) h x y z = record {
         rows = R;
         spans = W;
-        past-rows = drop (4 * length R) ob;
+        past-rows = drop (bidWidth * length R) ob;
         past-spans = drop (windowWidth * length W) ow;
         is = h ∙ ap (λ v. accepted v R W) (cc);
         count = cc;
@@ -58,9 +58,9 @@ module _ (text ob ow : List ℕ) (room-b : length ob ≡ 4000) (room-w : length 
       }
 
   pub refused-read : {nb nw : List ℕ} {r : Reading} (q : Refusal)
-      → toldReading r ≡ summary (readInto text (length ob / 4) (length ow / windowWidth)) →
-      nb ≡ bidsAfter ob (readInto text (length ob / 4) (length ow / windowWidth))
-      → nw ≡ windowsAfter ow (readInto text (length ob / 4) (length ow / windowWidth)) → r ≡ answer.Refused q
+      → toldReading r ≡ summary (readInto text (length ob / bidWidth) (length ow / windowWidth)) →
+      nb ≡ bidsAfter ob (readInto text (length ob / bidWidth) (length ow / windowWidth))
+      → nw ≡ windowsAfter ow (readInto text (length ob / bidWidth) (length ow / windowWidth)) → r ≡ answer.Refused q
       → readText text ≡ reading.refused (numberOf q) (placeOf q)
   refused-read {nb} {nw} {r} q a b w e = go (readText text) (sym (ap toldReading e) ∙ a ∙ ap summary whole)
     where

@@ -11,7 +11,7 @@ use Rattle.tender.specs.declared.Refusal.{Refusal}
 use Rattle.tender.specs.declared.Tender.{Tender}
 use Rattle.tender.specs.Limits.{lawful, allLawful}
 use Rattle.tender.specs.Refusals.{numberOf, placeOf}
-use Rattle.tender.specs.Tables.{Row, flatRows, flatWindows, windowWidth}
+use Rattle.tender.specs.Tables.{Row, flatRows, flatWindows, bidWidth, windowWidth}
 use Rattle.cells.specs.Cells as cells
 use Rattle.reader_line.specs.Words.{cut}
 use Rattle.reader_line.specs.Line.{BidLine, Line, tender, bid, linesOf}
@@ -54,9 +54,9 @@ StepDeclines (step.Refused r) n at = faultOfRefusal r ≡ record { number = n; p
 pub record BidTaken (b : BidLine) (k m : ℕ) (used rows windows : List ℕ) (r : Step) (used′ rows′ windows′ : List ℕ) : Type 0
   where
     pub answer : r ≡ step.Bid (length (b .windows))
-    pub row : rows′ ≡ take (4 * k) rows ++ rowNumbers
+    pub row : rows′ ≡ take (bidWidth * k) rows ++ rowNumbers
         (record { bidder = b .bidder; price = b .price; first = m; count = length (b .windows) })
-        ++ drop (4 * k + 4) rows
+        ++ drop (bidWidth * k + bidWidth) rows
     pub own : windows′ ≡ putWindows windows m (b .windows)
     pub mark : cells.RangeAdded (b .bidder) (b .bidder + 1) used used′
 
@@ -81,7 +81,7 @@ pub record TablesHold (kind : Kind) (ls : List (Option Line)) (k m : ℕ) (rows 
   pub places : length (allWindows (bidsOf ls)) ≡ m
   pub few-bids : k ≤ 1000
   pub few-windows : m < 11000
-  pub rows-are : take (4 * k) rows ≡ flatRows (rowsFrom 0 (bidsOf ls))
+  pub rows-are : take (bidWidth * k) rows ≡ flatRows (rowsFrom 0 (bidsOf ls))
   pub windows-are : take (windowWidth * m) windows ≡ flatWindows (allWindows (bidsOf ls))
 
 -- what comes of the lines after the first

@@ -16,6 +16,7 @@ use Rattle.reader_line.specs.Line.{BidLine, Line, tender, bid}
 use Rattle.reader_line.specs.Scan.{putWindows, Tally, tally, tenderNote, bidNote, noted}
 use Rattle.tender.specs.declared.Refusal.{Refusal}
 use Rattle.tender.specs.Refusals.{numberOf, placeOf}
+use Rattle.tender.specs.Tables.{bidWidth}
 use Rattle.reader.specs.Read.{bidFaultIn}
 use Rattle.reader.specs.Steps.{rowNumbers, Fault, faultAt, faultOfRefusal, StepDeclines, Taken}
 use Rattle.reader.specs.declared.bids.Step.{Step}
@@ -85,8 +86,8 @@ module _ (kind : Kind) (k m : ℕ) (used rows windows : List ℕ) (r : Step) (us
 
     pub taken-sound : (o : Option Line) → some (bidNote n p (record { count = c; sound = ok; table = windows′ })) ≡ noted m windows o
         → bidFaultIn kind k n p c ok (eqb (cell used n) 1) ≡ none →
-        r ≡ step.Bid c → rows′ ≡ take (4 * k) rows ++ rowNumbers (record { bidder = n; price = p; first = m; count = c })
-        ++ drop (4 * k + 4) rows → RangeAdded n (n + 1) used used′ →
+        r ≡ step.Bid c → rows′ ≡ take (bidWidth * k) rows ++ rowNumbers (record { bidder = n; price = p; first = m; count = c })
+        ++ drop (bidWidth * k + bidWidth) rows → RangeAdded n (n + 1) used used′ →
         Taken o kind k m used rows windows r used′ rows′ windows′
     unfolding noted
     taken-sound none e g q s t = let z : _≡_ {A = ℕ} 0 1 = cc in absurd (omega arith)

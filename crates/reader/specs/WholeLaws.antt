@@ -13,7 +13,7 @@ use Rattle.tender.specs.declared.Tender.{Tender}
 use Rattle.tender.specs.declared.Refusal.{Refusal}
 use Rattle.tender.specs.Limits.{lawful}
 use Rattle.tender.specs.Refusals.{numberOf, placeOf}
-use Rattle.tender.specs.Tables.{Row, flatRows, flatWindows, windowWidth}
+use Rattle.tender.specs.Tables.{Row, flatRows, flatWindows, bidWidth, windowWidth}
 use Rattle.reader_line.specs.Words.{cut}
 use Rattle.reader_line.specs.Line.{Line, tender, bid, linesOf}
 use Rattle.reader_line.specs.Scan.{Tally, tenderNote, bidNote, noted}
@@ -96,12 +96,12 @@ module _ (kind : Kind) (ls : List (Option Line)) (rows spans : List ℕ) where
 
 module _ (text bids windows : List ℕ) where
   pub Refuses : ℕ → ℕ → Type 0
-  Refuses n at = readInto text (length bids / 4) (length windows / windowWidth) ≡ refused n at
+  Refuses n at = readInto text (length bids / bidWidth) (length windows / windowWidth) ≡ refused n at
 
   pub answer-refused : (n at : ℕ) → Refuses n at →
-      (declined n at ≡ summary (readInto text (length bids / 4) (length windows / windowWidth)))
-      × (bids ≡ bidsAfter bids (readInto text (length bids / 4) (length windows / windowWidth)))
-      × (windows ≡ windowsAfter windows (readInto text (length bids / 4) (length windows / windowWidth)))
+      (declined n at ≡ summary (readInto text (length bids / bidWidth) (length windows / windowWidth)))
+      × (bids ≡ bidsAfter bids (readInto text (length bids / bidWidth) (length windows / windowWidth)))
+      × (windows ≡ windowsAfter windows (readInto text (length bids / bidWidth) (length windows / windowWidth)))
   unfolding Refuses bidsAfter windowsAfter
   answer-refused n at e = rw e (refl, refl, refl)
 
@@ -148,20 +148,21 @@ module _ (text bids windows : List ℕ) where
         unfolding tables R W
         read-is = short ∙ begun ∙ h .faultless _
 
-        pub bids-short : length bids / 4 < k → Refuses 8 0
+        pub bids-short : length bids / bidWidth < k → Refuses 8 0
         unfolding Refuses readInto fitted
-        bids-short j = rw (read-is, rows-count, lt-leb k (length bids / 4) j)
+        bids-short j = rw (read-is, rows-count, lt-leb k (length bids / bidWidth) j)
 
-        pub windows-short : k ≤ length bids / 4 → length windows / windowWidth < m → Refuses 8 0
+        pub windows-short : k ≤ length bids / bidWidth → length windows / windowWidth < m → Refuses 8 0
         unfolding Refuses readInto fitted
-        windows-short i j = rw (read-is, rows-count, windows-count, le-leb k (length bids / 4) i, lt-leb m (length windows / windowWidth) j)
+        windows-short i j =
+            rw (read-is, rows-count, windows-count, le-leb k (length bids / bidWidth) i, lt-leb m (length windows / windowWidth) j)
 
-        fits : k ≤ length bids / 4 → m ≤ length windows / windowWidth
-            → readInto text (length bids / 4) (length windows / windowWidth) ≡ accepted t R W
+        fits : k ≤ length bids / bidWidth → m ≤ length windows / windowWidth
+            → readInto text (length bids / bidWidth) (length windows / windowWidth) ≡ accepted t R W
         unfolding readInto fitted
-        fits i j = rw (read-is, rows-count, windows-count, le-leb k (length bids / 4) i, le-leb m (length windows / windowWidth) j)
+        fits i j = rw (read-is, rows-count, windows-count, le-leb k (length bids / bidWidth) i, le-leb m (length windows / windowWidth) j)
 
-        rows-same : take (4 * k) rows ≡ flatRows R
+        rows-same : take (bidWidth * k) rows ≡ flatRows R
         unfolding R
         rows-same = h .rows-are
 
@@ -169,10 +170,11 @@ module _ (text bids windows : List ℕ) where
         unfolding W
         windows-same = h .windows-are
 
-        pub answer-accepted : k ≤ length bids / 4 → m ≤ length windows / windowWidth →
-            (filled t k m ≡ summary (readInto text (length bids / 4) (length windows / windowWidth)))
-            × (take (4 * k) rows ++ drop (4 * k) bids ≡ bidsAfter bids (readInto text (length bids / 4) (length windows / windowWidth)))
+        pub answer-accepted : k ≤ length bids / bidWidth → m ≤ length windows / windowWidth →
+            (filled t k m ≡ summary (readInto text (length bids / bidWidth) (length windows / windowWidth)))
+            × (take (bidWidth * k) rows ++ drop (bidWidth * k) bids
+            ≡ bidsAfter bids (readInto text (length bids / bidWidth) (length windows / windowWidth)))
             × (take (windowWidth * m) spans ++ drop (windowWidth * m) windows
-            ≡ windowsAfter windows (readInto text (length bids / 4) (length windows / windowWidth)))
+            ≡ windowsAfter windows (readInto text (length bids / bidWidth) (length windows / windowWidth)))
         unfolding bidsAfter windowsAfter
         answer-accepted i j = rw (fits i j) (rw (rows-count, windows-count), rw (rows-count, rows-same), rw (windows-count, windows-same))

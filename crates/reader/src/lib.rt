@@ -3,7 +3,7 @@
 ghost use mathlib.Core.Path.{_≡_};
 ghost use Prim.Native.Nat.{_/_};
 ghost use lib.ListN.{length, replicate};
-ghost use Rattle.tender.specs.Tables.{windowWidth};
+ghost use Rattle.tender.specs.Tables.{bidWidth, windowWidth};
 ghost use Rattle.reader.specs.Read.{readInto};
 ghost use Rattle.reader.specs.Answer.{toldReading, summary, bidsAfter, windowsAfter};
 ghost use Rattle.reader.specs.Steps.{Opened};
@@ -69,12 +69,12 @@ pub enum Reading {
 
 // Reads the text into the first rows of the two tables; places past them stay.
 pub fn read(text: &[u8], bids: &mut [u64], windows: &mut [u64]) -> Reading
-    ensures answer { λ r. ⌜ toldReading r ≡ summary (readInto (now (text .entry)) (length (now (bids .entry)) / 4)
+    ensures answer { λ r. ⌜ toldReading r ≡ summary (readInto (now (text .entry)) (length (now (bids .entry)) / bidWidth)
         (length (now (windows .entry)) / windowWidth)) ⌝ }
     ensures rows { λ r. ⌜ now (bids .exit) ≡ bidsAfter (now (bids .entry))
-        (readInto (now (text .entry)) (length (now (bids .entry)) / 4) (length (now (windows .entry)) / windowWidth)) ⌝ }
+        (readInto (now (text .entry)) (length (now (bids .entry)) / bidWidth) (length (now (windows .entry)) / windowWidth)) ⌝ }
     ensures own { λ r. ⌜ now (windows .exit) ≡ windowsAfter (now (windows .entry))
-        (readInto (now (text .entry)) (length (now (bids .entry)) / 4) (length (now (windows .entry)) / windowWidth)) ⌝ }
+        (readInto (now (text .entry)) (length (now (bids .entry)) / bidWidth) (length (now (windows .entry)) / windowWidth)) ⌝ }
 {
     if tender::MAX_TEXT < text.len() {
         return Reading::Refused(Refusal::TextTooLong);

@@ -5,6 +5,10 @@ use mathlib.Core.List.{List, [], _∷_}
 use lib.ListN.{getD, drop}
 use Rattle.tender.specs.declared.Window.{Window}
 
+-- the numbers of a row of the bid table
+abbrev pub bidWidth : ℕ
+bidWidth = 4
+
 -- the numbers of a row of the window table
 abbrev pub windowWidth : ℕ
 windowWidth = 2
@@ -29,7 +33,7 @@ flatWindows (w ∷ ws) = w .start ∷ w .end ∷ flatWindows ws
 unfoldable pub rowsOf : ℕ → List ℕ → List Row
 rowsOf zero table = []
 rowsOf (suc n) table = record { bidder = getD table 0 0; price = getD table 1 0; first = getD table 2 0; count = getD table 3 0 }
-    ∷ rowsOf n (drop 4 table)
+    ∷ rowsOf n (drop bidWidth table)
 
 -- row j of a window table
 abbrev pub windowAt : List ℕ → ℕ → Window

@@ -9,7 +9,7 @@ use lib.Dec.{ltb}
 use Rattle.tender.specs.declared.Window.{Window}
 use Rattle.tender.specs.declared.Tender.{Tender}
 use Rattle.tender.specs.Limits.{maxPrice, maxText}
-use Rattle.tender.specs.Tables.{Row, rowsOf, flatWindows}
+use Rattle.tender.specs.Tables.{Row, rowsOf, flatWindows, bidWidth}
 use Rattle.cover.specs.Sets.{bidders}
 use Rattle.reader.specs.Words.{numeralOf, priceOf}
 use Rattle.reader.specs.Read.{accepted, readText}
@@ -47,10 +47,10 @@ Exactly A B = (A → B) × (B → A)
 
 -- the bidder and the price of row i of its table of bids
 abbrev pub bidderAt : AwardCall → ℕ → ℕ
-bidderAt c i = getD (c .bids) (4 * i) 0
+bidderAt c i = getD (c .bids) (bidWidth * i) 0
 
 abbrev pub priceAt : AwardCall → ℕ → ℕ
-priceAt c i = getD (c .bids) (4 * i + 1) 0
+priceAt c i = getD (c .bids) (bidWidth * i + 1) 0
 
 -- what an accepted text left in the tables, whatever their size; it is spelt again from it
 pub record WasRead (r : ReadRun) (t : Tender) : Type 0 where

@@ -7,7 +7,7 @@ use Rattle.tender.specs.declared.Kind.{Kind}
 use Rattle.tender.specs.declared.Tender.{Tender}
 use Rattle.tender.specs.declared.AwardRow.{AwardRow}
 use Rattle.tender.specs.declared.Answer.{Answer}
-use Rattle.tender.specs.Tables.{windowWidth}
+use Rattle.tender.specs.Tables.{bidWidth, windowWidth}
 use Rattle.reader.specs.Read.{readInto}
 use Rattle.reader.specs.Answer.{toldReading, summary, bidsAfter, windowsAfter}
 use Rattle.reader.specs.declared.Reading.{Reading}
@@ -30,9 +30,10 @@ pub record ReadRun : Type 0 where
 
 -- the contract of `read`, its three clauses
 pub record ReadKept (r : ReadRun) : Type 0 where
-  pub answers : toldReading (r .answer) ≡ summary (readInto (r .text) (length (r .bids) / 4) (length (r .windows) / windowWidth))
-  pub rows : r .bids-after ≡ bidsAfter (r .bids) (readInto (r .text) (length (r .bids) / 4) (length (r .windows) / windowWidth))
-  pub own : r .windows-after ≡ windowsAfter (r .windows) (readInto (r .text) (length (r .bids) / 4) (length (r .windows) / windowWidth))
+  pub answers : toldReading (r .answer) ≡ summary (readInto (r .text) (length (r .bids) / bidWidth) (length (r .windows) / windowWidth))
+  pub rows : r .bids-after ≡ bidsAfter (r .bids) (readInto (r .text) (length (r .bids) / bidWidth) (length (r .windows) / windowWidth))
+  pub own : r .windows-after ≡ windowsAfter (r .windows)
+      (readInto (r .text) (length (r .bids) / bidWidth) (length (r .windows) / windowWidth))
 
 -- `read`
 pub record ReadCall : Type 0 where

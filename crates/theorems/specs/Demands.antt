@@ -13,7 +13,7 @@ use Rattle.tender.specs.declared.Window.{Window}
 use Rattle.tender.specs.declared.Tender.{Tender}
 use Rattle.tender.specs.declared.AwardRow.{AwardRow}
 use Rattle.tender.specs.declared.Refusal.the-variants.{BadTables}
-use Rattle.tender.specs.Tables.{Row, rowsOf, flatRows, flatWindows, windowWidth}
+use Rattle.tender.specs.Tables.{Row, rowsOf, flatRows, flatWindows, bidWidth, windowWidth}
 use Rattle.reader_line.specs.Words.{digits}
 use Rattle.reader_line.specs.LinePlain.{allPlain}
 use Rattle.reader.specs.Read.{accepted, refused, readText, readInto}
@@ -242,7 +242,7 @@ nine-as-the-award = nine-as-award
 -- What is written reads back, by `read` into tables of 1,000 and 32,000 rows: as the same tender and, in the same entry order, the same
 -- bidders, prices and minutes.
 pub written-reads-back : (w : WriteCall) (r : ReadCall) (n : ℕ) → w .answer ≡ Written n → r .run .text ≡ take n (w .buffer-after)
-    → 1000 ≤ length (r .run .bids) / 4 → 32000 ≤ length (r .run .windows) / windowWidth → ReadAsWritten w r
+    → 1000 ≤ length (r .run .bids) / bidWidth → 32000 ≤ length (r .run .windows) / windowWidth → ReadAsWritten w r
 written-reads-back = read-as-written
 
 -- Equal bytes are written exactly where tender, bidders, prices, entry order and each bid's minutes agree: of tables,

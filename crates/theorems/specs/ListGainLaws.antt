@@ -9,7 +9,7 @@ use borrow.Author.Tests.{le-ltb}
 use Rattle.tender.specs.declared.Window.{Window}
 use Rattle.tender.specs.declared.Tender.{Tender}
 use Rattle.tender.specs.declared.AwardRow.{AwardRow}
-use Rattle.tender.specs.Tables.{Row, rowsOf, flatRows, flatWindows}
+use Rattle.tender.specs.Tables.{Row, rowsOf, flatRows, flatWindows, bidWidth}
 use Rattle.reader.specs.Read.{accepted, readText}
 use Rattle.reader.specs.Read as reading
 use Rattle.reader.specs.Rules.{Rules}
@@ -103,7 +103,7 @@ price-cell (r ∷ R) v zero l = refl
 price-cell (r ∷ R) v (suc i) l = ap (λ k. getD (r .bidder ∷ r .price ∷ r .first ∷ r .count ∷ (flatRows R ++ v)) k 0) (index i)
     ∙ price-cell R v i (omega arith)
   where
-    index : (i : ℕ) → 4 * suc i + 1 ≡ suc (suc (suc (suc (4 * i + 1))))
+    index : (i : ℕ) → bidWidth * suc i + 1 ≡ suc (suc (suc (suc (bidWidth * i + 1))))
     index i = omega arith
 
 -- Two calls of `tender_list`.

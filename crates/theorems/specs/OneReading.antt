@@ -14,7 +14,7 @@ use Rattle.tender.specs.declared.Refusal.the-variants.{TextTooLong, BadForm, Ou
 use Rattle.tender.specs.declared.Refusal.the-variants.{SeveralWindows, TableTooShort}
 use Rattle.tender.specs.Limits.{week, maxPrice, maxBidder, maxBids, maxWindows, maxText}
 use Rattle.tender.specs.Refusals.{numberOf, placeOf}
-use Rattle.tender.specs.Tables.{Row, flatRows, flatWindows, windowWidth}
+use Rattle.tender.specs.Tables.{Row, flatRows, flatWindows, bidWidth, windowWidth}
 use Rattle.reader_line.specs.Words.{cut}
 use Rattle.reader_line.specs.Line.{BidLine, Line, tender, bid, linesOf}
 use Rattle.reader.specs.Read.{rowsFrom, allWindows}
@@ -138,7 +138,7 @@ pub record Declines (x : Refusal) (r : ReadRun) : Type 0 where
 -- an accepted text fills the first rows, and the places past them stay
 pub record Fills (t : Tender) (R : List Row) (W : List Window) (r : ReadRun) : Type 0 where
   pub answer : toldReading (r .answer) ≡ filled t (length R) (length W)
-  pub bids-are : r .bids-after ≡ flatRows R ++ drop (4 * length R) (r .bids)
+  pub bids-are : r .bids-after ≡ flatRows R ++ drop (bidWidth * length R) (r .bids)
   pub windows-are : r .windows-after ≡ flatWindows W ++ drop (windowWidth * length W) (r .windows)
 
 -- one reading: 1; of the first line with a fault its first fault in the page's order; 8; or the tables
@@ -151,9 +151,10 @@ pub data OneReading (r : ReadRun) : Type 0 where
   bad-window : (l : LineOf (r .text)) → FirstOn of-window l → Declines (BadWindow (placeIn l)) r → OneReading r
   bidder-repeated : (l : LineOf (r .text)) → FirstOn of-bidder l → Declines (BidderRepeated (placeIn l)) r → OneReading r
   table-too-short : (t : Tender) (R : List Row) (W : List Window) → Readable (r .text) t R W
-      → (length (r .bids) / 4 < length R) ⊎ (length (r .windows) / windowWidth < length W) → Declines TableTooShort r → OneReading r
+      → (length (r .bids) / bidWidth < length R) ⊎ (length (r .windows) / windowWidth < length W) → Declines TableTooShort r
+      → OneReading r
   tables-filled : (t : Tender) (R : List Row) (W : List Window) → Readable (r .text) t R W
-      → (length R ≤ length (r .bids) / 4) × (length W ≤ length (r .windows) / windowWidth) → Fills t R W r → OneReading r
+      → (length R ≤ length (r .bids) / bidWidth) × (length W ≤ length (r .windows) / windowWidth) → Fills t R W r → OneReading r
 
 -- two calls answered the same and left the same
 pub record SameReading (x y : ReadRun) : Type 0 where

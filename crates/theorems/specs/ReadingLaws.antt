@@ -19,7 +19,7 @@ use Rattle.tender.specs.declared.Refusal.the-variants.{TextTooLong, BadForm, Ou
 use Rattle.tender.specs.declared.Refusal.the-variants.{SeveralWindows, TableTooShort}
 use Rattle.tender.specs.Limits.{within, isSingle, lawful, allLawful}
 use Rattle.tender.specs.Refusals.{numberOf, placeOf}
-use Rattle.tender.specs.Tables.{Row, windowWidth}
+use Rattle.tender.specs.Tables.{Row, bidWidth, windowWidth}
 use Rattle.reader_line.specs.Words.{cut, among}
 use Rattle.reader_line.specs.Line.{BidLine, Line, tender, bid, linesOf}
 use Rattle.reader.specs.Read.{ReadOutcome, accepted, refused, declinedBy, rowsFrom, allWindows, bidsOf, bidFaultIn, bidFault, lineJudged}
@@ -370,7 +370,7 @@ module _ (r : ReadRun) where
   one-reading k = go (readText (r .text)) (text-read (r .text)) (k .answers, (k .rows, k .own))
     where
       m : ℕ
-      m = length (r .bids) / 4
+      m = length (r .bids) / bidWidth
 
       n : ℕ
       n = length (r .windows) / windowWidth
@@ -519,7 +519,7 @@ and-false false = refl
 
 module _ (r : ReadRun) where
   abbrev m : ℕ
-  m = length (r .bids) / 4
+  m = length (r .bids) / bidWidth
 
   abbrev n : ℕ
   n = length (r .windows) / windowWidth

@@ -12,7 +12,7 @@ use borrow.Author.Tests.{le-leb, leb-true, leb-false}
 use Rattle.tender.specs.declared.Window.{Window}
 use Rattle.tender.specs.declared.Tender.{Tender}
 use Rattle.tender.specs.declared.Refusal.the-variants.{BadTables, NoRoom}
-use Rattle.tender.specs.Tables.{Row, rowsOf, flatRows, flatWindows, windowWidth}
+use Rattle.tender.specs.Tables.{Row, rowsOf, flatRows, flatWindows, bidWidth, windowWidth}
 use Rattle.reader.specs.Read.{ReadOutcome, accepted, refused, readText, readInto}
 use Rattle.reader.specs.Answer.{filled, toldReading, summary, bidsAfter, windowsAfter}
 use Rattle.reader.specs.CountLaws.{room-law}
@@ -99,20 +99,22 @@ accepts-as (reading.Refused q) t n m e = let z : _≡_ {A = ℕ} 0 1 = cc in abs
 
 pub read-as-written : (w : WriteCall) (r : ReadCall) (n : ℕ) → w .answer ≡ writing.Written n
     → r .run .text ≡ take n (w .buffer-after)
-    → 1000 ≤ length (r .run .bids) / 4 → 32000 ≤ length (r .run .windows) / windowWidth → ReadAsWritten w r
+    → 1000 ≤ length (r .run .bids) / bidWidth → 32000 ≤ length (r .run .windows) / windowWidth → ReadAsWritten w r
 unfolding bidsAfter windowsAfter
 read-as-written w r n e x lb lw =
     let b = read-back w n e in
     let R = b .R in
     let W = b .W in
-    let o : readInto (r .run .text) (length (r .run .bids) / 4) (length (r .run .windows) / windowWidth) ≡ accepted (w .tender) R W =
-    room-law (r .run .text) (length (r .run .bids) / 4) (length (r .run .windows) / windowWidth) lb lw ∙ ap readText x ∙ b .reads in
+    let o : readInto (r .run .text) (length (r .run .bids) / bidWidth) (length (r .run .windows) / windowWidth)
+    ≡ accepted (w .tender) R W =
+    room-law (r .run .text) (length (r .run .bids) / bidWidth) (length (r .run .windows) / windowWidth) lb lw
+    ∙ ap readText x ∙ b .reads in
     let s = b .same (drop (windowWidth * length W) (r .run .windows)) in
     let c : length R ≡ w .count = sym (s .count) ∙ rows-length (w .count) (w .bids) in
     let p : rowsOf (w .count) (r .run .bids-after) ≡ R =
     ap (rowsOf (w .count)) (r .kept .rows ∙ ap (bidsAfter (r .run .bids)) o)
-    ∙ ap (λ (m : ℕ). rowsOf m (flatRows R ++ drop (4 * length R) (r .run .bids))) (sym c)
-    ∙ rows-flat R (drop (4 * length R) (r .run .bids)) in
+    ∙ ap (λ (m : ℕ). rowsOf m (flatRows R ++ drop (bidWidth * length R) (r .run .bids))) (sym c)
+    ∙ rows-flat R (drop (bidWidth * length R) (r .run .bids)) in
     let q : r .run .windows-after ≡ flatWindows W ++ drop (windowWidth * length W) (r .run .windows) =
     r .kept .own ∙ ap (windowsAfter (r .run .windows)) o in
     record {

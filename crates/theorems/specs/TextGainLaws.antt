@@ -13,7 +13,7 @@ use Rattle.tender.specs.declared.Window.{Window}
 use Rattle.tender.specs.declared.Tender.{Tender}
 use Rattle.tender.specs.declared.AwardRow.{AwardRow}
 use Rattle.tender.specs.declared.Answer.{Answer}
-use Rattle.tender.specs.Tables.{Row, flatRows, flatWindows, windowWidth}
+use Rattle.tender.specs.Tables.{Row, flatRows, flatWindows, bidWidth, windowWidth}
 use Rattle.reader.specs.Read.{accepted, readText, fitted, readInto}
 use Rattle.reader.specs.Read as reading
 use Rattle.reader.specs.Answer.{filled, summary, bidsAfter, windowsAfter}
@@ -56,7 +56,7 @@ accepted-read r t n m e = go (readText (r .run .text)) refl (sym (ap reader.told
         record {
           rows = R;
           spans = W;
-          past-rows = drop (4 * length R) (r .run .bids);
+          past-rows = drop (bidWidth * length R) (r .run .bids);
           past-spans = drop (windowWidth * length W) (r .run .windows);
           is = h ∙ ap (λ v. accepted v R W) (cc);
           count = cc;
@@ -65,26 +65,28 @@ accepted-read r t n m e = go (readText (r .run .text)) refl (sym (ap reader.told
         }
 
     go : (o : reading.ReadOutcome) → readText (r .run .text) ≡ o
-        → filled t n m ≡ summary (fitted (length (r .run .bids) / 4) (length (r .run .windows) / windowWidth) o) →
-        r .run .bids-after ≡ bidsAfter (r .run .bids) (fitted (length (r .run .bids) / 4) (length (r .run .windows) / windowWidth) o)
+        → filled t n m ≡ summary (fitted (length (r .run .bids) / bidWidth) (length (r .run .windows) / windowWidth) o) →
+        r .run .bids-after ≡ bidsAfter (r .run .bids)
+        (fitted (length (r .run .bids) / bidWidth) (length (r .run .windows) / windowWidth) o)
         → r .run .windows-after ≡ windowsAfter (r .run .windows)
-        (fitted (length (r .run .bids) / 4) (length (r .run .windows) / windowWidth) o)
+        (fitted (length (r .run .bids) / bidWidth) (length (r .run .windows) / windowWidth) o)
         → ReadLeft (r .run .text) (r .run .bids-after) (r .run .windows-after) t n
     go (reading.refused k at) h x y z = let f : _≡_ {A = ℕ} 0 1 = cc in absurd (omega arith)
     go (accepted T R W) h x y z =
-        room T R W (leb (length R) (length (r .run .bids) / 4) && leb (length W) (length (r .run .windows) / windowWidth))
+        room T R W (leb (length R) (length (r .run .bids) / bidWidth) && leb (length W) (length (r .run .windows) / windowWidth))
         h x y z
 
 -- row i of two such texts is the same bidder's
 
-bidder-cell : (R : List Row) (v : List ℕ) (i : ℕ) → i < length R → getD (flatRows R ++ v) (4 * i) 0 ≡ getD R i noRow .bidder
+bidder-cell : (R : List Row) (v : List ℕ) (i : ℕ) → i < length R
+    → getD (flatRows R ++ v) (bidWidth * i) 0 ≡ getD R i noRow .bidder
 unfolding flatRows
 bidder-cell [] v i l = absurd (omega arith)
 bidder-cell (r ∷ R) v zero l = refl
 bidder-cell (r ∷ R) v (suc i) l = ap (λ k. getD (r .bidder ∷ r .price ∷ r .first ∷ r .count ∷ (flatRows R ++ v)) k 0) (index i)
     ∙ bidder-cell R v i (omega arith)
   where
-    index : (i : ℕ) → 4 * suc i ≡ suc (suc (suc (suc (4 * i))))
+    index : (i : ℕ) → bidWidth * suc i ≡ suc (suc (suc (suc (bidWidth * i))))
     index i = omega arith
 
 same-bidder : (xs : List Row) (r : Row) (ys : List Row) (w i : ℕ)
@@ -143,12 +145,12 @@ module _ (bidder p q : List ℕ) (k k′ : Kind) (T T′ : Tender) (n n′ : ℕ
         inside = omega (arith, g .inside, h .count);
         count-same = omega (arith, c, h .count, h′ .count);
         bidder-is = g .bidder-is ∙ ap some (sym (bidder-cell (h .rows) (h .past-rows) (g .i) (g .inside))
-            ∙ ap (λ b. getD b (4 * g .i) 0) (sym (h .bids-are)));
+            ∙ ap (λ b. getD b (bidWidth * g .i) 0) (sym (h .bids-are)));
         bidder-too = g .bidder-is ∙ ap some (sym (bidders-same d (g .i))
             ∙ sym (bidder-cell (h′ .rows) (h′ .past-rows) (g .i) (omega (arith, c, g .inside)))
-            ∙ ap (λ b. getD b (4 * g .i) 0) (sym (h′ .bids-are)));
-        true-cost = g .true-cost ∙ ap (λ b. some (getD b (4 * g .i + 1) 0)) (sym (h .bids-are));
-        other-price = g .other-price ∙ ap (λ b. some (getD b (4 * g .i + 1) 0)) (sym (h′ .bids-are));
+            ∙ ap (λ b. getD b (bidWidth * g .i) 0) (sym (h′ .bids-are)));
+        true-cost = g .true-cost ∙ ap (λ b. some (getD b (bidWidth * g .i + 1) 0)) (sym (h .bids-are));
+        other-price = g .other-price ∙ ap (λ b. some (getD b (bidWidth * g .i + 1) 0)) (sym (h′ .bids-are));
         most = rw (← (h .bids-are), h .count, h′ .count) at (g .most);
       }
 

@@ -13,7 +13,7 @@ use lib.Dec.{leb}
 use borrow.Author.Tests.{le-leb, lt-leb}
 use Rattle.tender.specs.declared.Tender.{Tender}
 use Rattle.tender.specs.declared.Refusal.the-variants.{BadTables, NoRoom}
-use Rattle.tender.specs.Tables.{Row, rowsOf, windowsOf, own, windowWidth}
+use Rattle.tender.specs.Tables.{Row, rowsOf, windowsOf, own, bidWidth, windowWidth}
 use Rattle.reader_line.specs.Line.{BidLine}
 use Rattle.spelling.specs.Text.{bidText, bidsText, tenderText, textOf, bidIn}
 use Rattle.spelling.specs.Written.{Written}
@@ -84,9 +84,9 @@ bids-begin windows rows old at n = record { inside = omega arith; written = noth
 -- the line of the table's row j
 row-line : (n : ℕ) (bids windows : List ℕ) (j : ℕ) → j < n → respelt (bidIn windows (getD (rowsOf n bids) j noRow))
     ≡ respelt (record {
-      bidder = getD bids (4 * j) 0;
-      price = getD bids (4 * j + 1) 0;
-      windows = windowsOf (getD bids (4 * j + 3) 0) (drop (windowWidth * getD bids (4 * j + 2) 0) windows);
+      bidder = getD bids (bidWidth * j) 0;
+      price = getD bids (bidWidth * j + 1) 0;
+      windows = windowsOf (getD bids (bidWidth * j + 3) 0) (drop (windowWidth * getD bids (bidWidth * j + 2) 0) windows);
     })
 unfolding bidIn own
 row-line n bids windows j l = ap (λ r. respelt (bidIn windows r)) (row-at n j bids l)
@@ -94,9 +94,9 @@ row-line n bids windows j l = ap (λ r. respelt (bidIn windows r)) (row-at n j b
 module _ (n : ℕ) (bids windows old : List ℕ) (at : ℕ) where
   pub bids-go : {mid new : List ℕ} {e f j : ℕ} → BidsPut windows (rowsOf n bids) old at n j mid e → j < n
       → Written mid e (bidText (respelt (record {
-        bidder = getD bids (4 * j) 0;
-        price = getD bids (4 * j + 1) 0;
-        windows = windowsOf (getD bids (4 * j + 3) 0) (drop (windowWidth * getD bids (4 * j + 2) 0) windows);
+        bidder = getD bids (bidWidth * j) 0;
+        price = getD bids (bidWidth * j + 1) 0;
+        windows = windowsOf (getD bids (bidWidth * j + 3) 0) (drop (windowWidth * getD bids (bidWidth * j + 2) 0) windows);
       }))) new f → BidsPut windows (rowsOf n bids) old at n (j + 1) new f
   bids-go {mid} {new} {e} {f} {j} h l w =
       let s = ap (λ b. bidsText (respeltIn windows (take j (rowsOf n bids))) ++ bidText b) (sym (row-line n bids windows j l))

@@ -13,7 +13,7 @@ use Rattle.tender.specs.declared.Window.{Window}
 use Rattle.tender.specs.declared.Tender.{Tender}
 use Rattle.tender.specs.declared.Refusal.the-variants.{NoRoom}
 use Rattle.tender.specs.Limits.{lawful}
-use Rattle.tender.specs.Tables.{Row, rowsOf, own, flatRows, flatWindows}
+use Rattle.tender.specs.Tables.{Row, rowsOf, own, flatRows, flatWindows, bidWidth}
 use Rattle.cover.specs.SetLaws.{and-split}
 use Rattle.reader_line.specs.Words.{cut}
 use Rattle.reader_line.specs.Line.{BidLine, tender, linesOf}
@@ -41,7 +41,7 @@ pub lawful-tables : (t : Tender) (n : ℕ) (bids windows : List ℕ) → faultOf
     → Lawful t (rowsOf n bids) windows
 lawful-tables t n bids windows e =
     let f = faultless (t .kind) t n bids windows e in
-    let a = and-split (sameKind (t .kind) (t .kind) && lawful (t .window)) (leb n (length bids / 4)) (f .tender) in
+    let a = and-split (sameKind (t .kind) (t .kind) && lawful (t .window)) (leb n (length bids / bidWidth)) (f .tender) in
     record { window = and-split (sameKind (t .kind) (t .kind)) (lawful (t .window)) (a .0) .1; rows-too = f .rows }
 
 -- the text reads back

@@ -12,7 +12,7 @@ use borrow.Author.Tests.{leb-true}
 use Rattle.tender.specs.declared.Kind.{Kind}
 use Rattle.tender.specs.declared.Tender.{Tender}
 use Rattle.tender.specs.Limits.{lawful, allLawful}
-use Rattle.tender.specs.Tables.{Row, rowsOf, windowsOf, own, windowWidth}
+use Rattle.tender.specs.Tables.{Row, rowsOf, windowsOf, own, bidWidth, windowWidth}
 use Rattle.cover.specs.SetLaws.{and-split}
 use Rattle.award_check.specs.Faults.{sound, rowFault, sameKind, faultOf}
 use Rattle.award_check.specs.Cells.{noRow}
@@ -25,21 +25,21 @@ pub row-at : (n j : ℕ) (bids : List ℕ) → j < n → getD (rowsOf n bids) j 
 unfolding rowsOf
 row-at zero j bids l = absurd (omega arith)
 row-at (suc n) zero bids l = refl
-row-at (suc n) (suc j) bids l = row-at n j (drop 4 bids) (omega arith) ∙ rw (
-  getD-drop 4 bids (4 * j) 0,
-  getD-drop 4 bids (4 * j + 1) 0,
-  getD-drop 4 bids (4 * j + 2) 0,
-  getD-drop 4 bids (4 * j + 3) 0,
+row-at (suc n) (suc j) bids l = row-at n j (drop bidWidth bids) (omega arith) ∙ rw (
+  getD-drop bidWidth bids (bidWidth * j) 0,
+  getD-drop bidWidth bids (bidWidth * j + 1) 0,
+  getD-drop bidWidth bids (bidWidth * j + 2) 0,
+  getD-drop bidWidth bids (bidWidth * j + 3) 0,
   base j,
   index 1 j,
   index 2 j,
   index 3 j,
 )
   where
-    base : (i : ℕ) → 4 + 4 * i ≡ 4 * suc i
+    base : (i : ℕ) → bidWidth + bidWidth * i ≡ bidWidth * suc i
     base i = omega arith
 
-    index : (c i : ℕ) → 4 + (4 * i + c) ≡ 4 * suc i + c
+    index : (c i : ℕ) → bidWidth + (bidWidth * i + c) ≡ bidWidth * suc i + c
     index c i = omega arith
 
 -- what writing a row's line asks of the row
@@ -87,6 +87,7 @@ module _ (t : Tender) (n : ℕ) (bids windows : List ℕ) (e : faultOf (t .kind)
       (faultless (t .kind) t n bids windows e .rows) j (omega (arith, rows-length n bids)))
 
   -- the rows stand in the lent table
-  pub rows-lent : n ≤ length bids / 4
-  rows-lent = leb-true n (length bids / 4) (and-split (sameKind (t .kind) (t .kind) && lawful (t .window)) (leb n (length bids / 4))
+  pub rows-lent : n ≤ length bids / bidWidth
+  rows-lent =
+      leb-true n (length bids / bidWidth) (and-split (sameKind (t .kind) (t .kind) && lawful (t .window)) (leb n (length bids / bidWidth))
       (faultless (t .kind) t n bids windows e .tender) .1)

@@ -3,6 +3,7 @@ use mathlib.Core.Path.{_≡_, refl}
 use Prim.Native.Nat.{ℕ, _+_, _*_, _-_, _≤_, _<_}
 use native.Mathlib.Omega.{arith}
 use lib.ListN.{length, getD, length-set}
+use Rattle.tender.specs.Tables.{bidWidth}
 use Rattle.award_layout.specs.LaidLaws.{filled-more, prices-are}
 use Rattle.award_layout.proofs.prices.Statement.{statement}
 use Rattle.award_layout.proofs.prices.Tie as tie
@@ -10,7 +11,7 @@ use Rattle.award_layout.proofs.prices.Reads as reads
 use Rattle.award_layout.proofs.prices.Lts as lts
 
 abbrev Inv-loop : tie.InvT-loop
-Inv-loop bids out₀ i₀ out i = (i ≤ length out) × ((length out ≡ length out₀) × ((j : ℕ) → j < i → getD out j 0 ≡ getD bids (4 * j + 1) 0))
+Inv-loop bids out₀ i₀ out i = (i ≤ length out) × ((length out ≡ length out₀) × ((j : ℕ) → j < i → getD out j 0 ≡ getD bids (bidWidth * j + 1) 0))
 
 abbrev μ-loop : tie.MeasureT-loop
 μ-loop bids out₀ i₀ out i = length out - i
@@ -47,7 +48,7 @@ loop-again c = (
   simp length-set (omega arith),
   (
     simp length-set (c .before .before .loop .inv .1 .0),
-    filled-more (λ j. getD (c .before .before .before .args .bids .now) (4 * j + 1) 0) (c .before .before .loop .out)
+    filled-more (λ j. getD (c .before .before .before .args .bids .now) (bidWidth * j + 1) 0) (c .before .before .loop .out)
         (c .before .before .loop .i) (c .before .loop-test .taken) (c .before .before .loop .inv .1 .1) _ refl,
   ),
 )

@@ -3,7 +3,7 @@ use mathlib.Core.Path.{_≡_, _∙_, sym}
 use Prim.Native.Nat.{_-_, _/_, _≤_}
 use native.Mathlib.Omega.{arith}
 use lib.ListN.{length}
-use Rattle.tender.specs.Tables.{rowsOf}
+use Rattle.tender.specs.Tables.{rowsOf, bidWidth}
 use Rattle.runs.specs.MinuteRows.{rowWords}
 use Rattle.writer.specs.TableLaws.{row-plain, rows-lent}
 use Rattle.writer.specs.FillingLaws.{BidsPut, bids-begin, bids-go, bids-end, bids-long}
@@ -15,7 +15,7 @@ use Rattle.writer.proofs.put_bid.Reads as put-bid-reads
 
 abbrev Inv-loop : tie.InvT-loop
 Inv-loop buf₀ at count bids windows row₀ blank full end₀ j₀ buf row end j =
-    BidsPut windows (rowsOf count bids) buf₀ at count j buf end × ((length row ≡ rowWords) × (count ≤ length bids / 4))
+    BidsPut windows (rowsOf count bids) buf₀ at count j buf end × ((length row ≡ rowWords) × (count ≤ length bids / bidWidth))
 
 abbrev μ-loop : tie.MeasureT-loop
 μ-loop buf₀ at count bids windows row₀ blank full end₀ j₀ buf row end j = count - j

@@ -2,6 +2,7 @@
 use Prim.Native.Nat.{_*_}
 use native.Mathlib.Omega.{arith}
 use lib.ListN.{length-set}
+use Rattle.tender.specs.Tables.{bidWidth}
 use Rattle.reader.specs.TableLaws.{stored}
 use borrow.Author.Needs.{needs}
 use Rattle.reader.proofs.rows.put_row.Statement.{statement}
@@ -47,7 +48,7 @@ same-length : tie.Need-same-length
 same-length c = search needs
 
 returns : tie.Need-returns
-returns c = stored (c .args .out .now) (4 * c .args .k) _ _ _ _ (c .pre)
+returns c = stored (c .args .out .now) (bidWidth * c .args .k) _ _ _ _ (c .pre)
 
 pub put-row-spec : {M : Type 1} → statement M
 put-row-spec =
