@@ -55,7 +55,8 @@ lines-size (p ∷ q ∷ ps) = go (lineOf p) (line-windows p) (lines-size (q ∷ 
     go (some (tender t)) f ih = omega arith
     go (some (bid b)) f ih = omega (arith, f b refl, length-append (b .windows) (allWindows (bidsOf (linesOf (q ∷ ps)))))
 
-pub short-text : (T : Tender) (R : List Row) (W : List Window) (text : List ℕ) → readText text ≡ accepted T R W → length text ≤ 65536
+pub short-text : (T : Tender) (R : List Row) (W : List Window) (text : List ℕ) → readText text ≡ accepted T R W
+    → length text ≤ 65536
 unfolding readText
 short-text T R W text e = go (ltb 65536 (length text)) refl e
   where

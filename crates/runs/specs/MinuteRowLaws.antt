@@ -24,7 +24,7 @@ use Rattle.award_check.specs.AlikeLaws.{windows-step}
 use Rattle.award_check.specs.WalkLaws.{rowsAhead, ahead-more, ahead-start}
 use Rattle.runs.specs.Runs.{runs}
 use Rattle.runs.specs.MinuteRows.{rowWords, rowCells, Empty, Full, Minutes, NextRun}
-use Rattle.runs.specs.RunsFewLaws.{begins}
+use Rattle.runs.specs.RunsFewLaws.{beginsHere}
 use Rattle.runs.specs.NextLaws.{runs-skip, runs-none, runs-run}
 use Rattle.runs.specs.JoinedLaws.{holds-early}
 
@@ -217,13 +217,6 @@ module _ (ws : List Window) (row : List ℕ) (m : Minutes ws row) (from start en
   pub run-late : 10080 ≤ start → runs (holds ws) from (10080 - from) ≡ []
   run-late h = runs-none (holds ws) from (10080 - from) (λ x a b. out ws row m x (r .before x a (omega arith)))
 
-  -- no run is left
-  pub run-none : end ≤ start → runs (holds ws) from (10080 - from) ≡ []
-  run-none h = ⊎-elim (λ a. absurd (omega (arith, r .some a))) (λ a. run-late (omega arith)) (lt-or-le start rowCells)
-
-  pub run-on : start < end → from < end
-  run-on h = omega (arith, r .on)
-
   -- a run lies in the week
   pub run-inside : allLawful ws ≡ true → start < end → end ≤ 10080
   run-inside e h = omega (arith, holds-early ws (end - 1) e (held ws row m (end - 1) (r .inside (end - 1) (omega arith) (omega arith))))
@@ -242,10 +235,10 @@ module _ (ws : List Window) (row : List ℕ) (m : Minutes ws row) (from start en
       ∙ ap (λ (s : ℕ). runs (holds ws) s (10080 - start)) b
       ∙ ap (runs (holds ws) start) c
       ∙ runs-run (holds ws) start (end - start - 1) (10080 - end)
-      (λ x p q. held ws row m x (r .inside x p (omega arith))) (ap (λ (z : ℕ). begins (holds ws) z (10080 - end)) d
+      (λ x p q. held ws row m x (r .inside x p (omega arith))) (ap (λ (z : ℕ). beginsHere (holds ws) z (10080 - end)) d
       ∙ stops (10080 - end))
       ∙ ap (λ (z : ℕ). record { start = start; end = z } ∷ runs (holds ws) z (10080 - end)) d
     where
-      stops : (n : ℕ) → begins (holds ws) end n ≡ false
+      stops : (n : ℕ) → beginsHere (holds ws) end n ≡ false
       stops zero = refl
       stops (suc n) = out ws row m end (r .after (omega (arith, run-inside e h)))

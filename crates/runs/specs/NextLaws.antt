@@ -7,7 +7,7 @@ use native.Mathlib.Omega.{arith}
 use borrow.Author.Tests.{eq-eqb}
 use Rattle.tender.specs.declared.Window.{Window}
 use Rattle.runs.specs.Runs.{extended, runs}
-use Rattle.runs.specs.RunsFewLaws.{begins, starts, runs-start}
+use Rattle.runs.specs.RunsFewLaws.{beginsHere, startsHere, runs-start}
 
 -- k minutes that do not pass
 pub runs-skip : (P : ℕ → Bool) (at k n : ℕ) → ((m : ℕ) → at ≤ m → m < at + k → P m ≡ false)
@@ -26,7 +26,7 @@ pub runs-none : (P : ℕ → Bool) (at n : ℕ) → ((m : ℕ) → at ≤ m → 
 unfolding runs
 runs-none P at n h = let a : n ≡ n + 0 = omega arith in ap (runs P at) a ∙ runs-skip P at n 0 h
 
-extended-apart : (at : ℕ) (ws : List Window) → starts (at + 1) ws ≡ false
+extended-apart : (at : ℕ) (ws : List Window) → startsHere (at + 1) ws ≡ false
     → extended at ws ≡ record { start = at; end = at + 1 } ∷ ws
 unfolding extended
 extended-apart at [] e = refl
@@ -39,7 +39,8 @@ extended-next at z ws = rw (eq-eqb (at + 1) (at + 1) refl)
 
 -- k + 1 minutes that pass, up to the end or one that does not
 pub runs-run : (P : ℕ → Bool) (at k n : ℕ) → ((m : ℕ) → at ≤ m → m < at + suc k → P m ≡ true)
-    → begins P (at + suc k) n ≡ false → runs P at (suc k + n) ≡ record { start = at; end = at + suc k } ∷ runs P (at + suc k) n
+    → beginsHere P (at + suc k) n ≡ false → runs P at (suc k + n) ≡ record { start = at; end = at + suc k } ∷ runs P
+    (at + suc k) n
 unfolding runs
 runs-run P at zero n h e =
     let a : suc 0 + n ≡ suc n = omega arith in

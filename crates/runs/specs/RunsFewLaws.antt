@@ -17,34 +17,35 @@ use Rattle.runs.specs.Runs.{extended, runs, joined}
 use Rattle.runs.specs.RunsLaws.{Between, runs-between}
 
 -- the first of the n minutes from `at` on passes
-abbrev pub begins : (ℕ → Bool) → ℕ → ℕ → Bool
-begins P at zero = false
-begins P at (suc n) = P at
+abbrev pub beginsHere : (ℕ → Bool) → ℕ → ℕ → Bool
+beginsHere P at zero = false
+beginsHere P at (suc n) = P at
 
-abbrev pub starts : ℕ → List Window → Bool
-starts at [] = false
-starts at (w ∷ ws) = eqb (w .start) at
+abbrev pub startsHere : ℕ → List Window → Bool
+startsHere at [] = false
+startsHere at (w ∷ ws) = eqb (w .start) at
 
-starts-later : (at z : ℕ) (ws : List Window) → Between (at + 1) z ws → starts at ws ≡ false
+starts-later : (at z : ℕ) (ws : List Window) → Between (at + 1) z ws → startsHere at ws ≡ false
 starts-later at z [] h = refl
 starts-later at z (w ∷ ws) h = ne-eqb (w .start) at (λ e. omega (arith, h .0 .0))
 
-extended-starts : (at : ℕ) (ws : List Window) → starts at (extended at ws) ≡ true
+extended-starts : (at : ℕ) (ws : List Window) → startsHere at (extended at ws) ≡ true
 unfolding extended
 extended-starts at [] = eq-eqb at at refl
 extended-starts at (w ∷ ws) = go (eqb (w .start) (at + 1))
   where
-    go : (b : Bool) → starts at (cond b (record { start = at; end = w .end } ∷ ws) (record { start = at; end = at + 1 } ∷ w ∷ ws))
+    go : (b : Bool) → startsHere at (cond b (record { start = at; end = w .end } ∷ ws)
+        (record { start = at; end = at + 1 } ∷ w ∷ ws))
         ≡ true
     go true = eq-eqb at at refl
     go false = eq-eqb at at refl
 
-pub runs-start : (P : ℕ → Bool) (at n : ℕ) → starts at (runs P at n) ≡ begins P at n
+pub runs-start : (P : ℕ → Bool) (at n : ℕ) → startsHere at (runs P at n) ≡ beginsHere P at n
 unfolding runs
 runs-start P at zero = refl
 runs-start P at (suc n) = go (P at)
   where
-    go : (b : Bool) → starts at (cond b (extended at (runs P (at + 1) n)) (runs P (at + 1) n)) ≡ b
+    go : (b : Bool) → startsHere at (cond b (extended at (runs P (at + 1) n)) (runs P (at + 1) n)) ≡ b
     go true = extended-starts at (runs P (at + 1) n)
     go false = starts-later at (at + 1 + n) (runs P (at + 1) n) (runs-between P (at + 1) n)
 
@@ -69,10 +70,10 @@ opens g p P at (suc n) = when (P at && not p) (g at) + opens g (P at) P (at + 1)
 -- the minutes after those that pass and are the last to do so in a row
 closes : (ℕ → ℕ) → (ℕ → Bool) → ℕ → ℕ → ℕ
 closes g P at zero = 0
-closes g P at (suc n) = when (P at && not (begins P (at + 1) n)) (g (at + 1)) + closes g P (at + 1) n
+closes g P at (suc n) = when (P at && not (beginsHere P (at + 1) n)) (g (at + 1)) + closes g P (at + 1) n
 
 extended-ends : (g : ℕ → ℕ) (at : ℕ) (ws : List Window)
-    → endsSum g (extended at ws) ≡ when (not (starts (at + 1) ws)) (g (at + 1)) + endsSum g ws
+    → endsSum g (extended at ws) ≡ when (not (startsHere (at + 1) ws)) (g (at + 1)) + endsSum g ws
 unfolding extended endsSum
 extended-ends g at [] = refl
 extended-ends g at (w ∷ ws) = go (eqb (w .start) (at + 1))
@@ -88,14 +89,14 @@ runs-ends g P at zero = refl
 runs-ends g P at (suc n) = go (P at) (runs-ends g P (at + 1) n)
   where
     go : (b : Bool) → endsSum g (runs P (at + 1) n) ≡ closes g P (at + 1) n
-        → endsSum g (cond b (extended at (runs P (at + 1) n)) (runs P (at + 1) n)) ≡ when (b && not (begins P (at + 1) n))
+        → endsSum g (cond b (extended at (runs P (at + 1) n)) (runs P (at + 1) n)) ≡ when (b && not (beginsHere P (at + 1) n))
         (g (at + 1)) + closes g P (at + 1) n
     go true ih = extended-ends g at (runs P (at + 1) n)
         ∙ ap (λ b. when (not b) (g (at + 1)) + endsSum g (runs P (at + 1) n)) (runs-start P (at + 1) n) ∙ omega (arith, ih)
     go false ih = omega (arith, ih)
 
 extended-starts-sum : (g : ℕ → ℕ) (at : ℕ) (ws : List Window)
-    → startsSum g (extended at ws) + when (starts (at + 1) ws) (g (at + 1)) ≡ g at + startsSum g ws
+    → startsSum g (extended at ws) + when (startsHere (at + 1) ws) (g (at + 1)) ≡ g at + startsSum g ws
 unfolding extended startsSum
 extended-starts-sum g at [] = omega arith
 extended-starts-sum g at (w ∷ ws) = go (eqb (w .start) (at + 1)) refl
@@ -107,7 +108,7 @@ extended-starts-sum g at (w ∷ ws) = go (eqb (w .start) (at + 1)) refl
     go false e = omega arith
 
 opens-later : (g : ℕ → ℕ) (P : ℕ → Bool) (at n : ℕ)
-    → opens g false P at n ≡ opens g true P at n + when (begins P at n) (g at)
+    → opens g false P at n ≡ opens g true P at n + when (beginsHere P at n) (g at)
 unfolding opens
 opens-later g P at zero = refl
 opens-later g P at (suc n) = go (P at)
@@ -125,7 +126,7 @@ runs-starts g P at (suc n) = go (P at) (runs-starts g P (at + 1) n)
     go : (b : Bool) → startsSum g (runs P (at + 1) n) ≡ opens g false P (at + 1) n
         → startsSum g (cond b (extended at (runs P (at + 1) n)) (runs P (at + 1) n)) ≡ when (b && true) (g at) + opens g b P (at + 1) n
     go true ih =
-        let e : startsSum g (extended at (runs P (at + 1) n)) + when (begins P (at + 1) n) (g (at + 1)) ≡ g at + startsSum g
+        let e : startsSum g (extended at (runs P (at + 1) n)) + when (beginsHere P (at + 1) n) (g (at + 1)) ≡ g at + startsSum g
         (runs P (at + 1) n) = ap (λ b. startsSum g (extended at (runs P (at + 1) n)) + when b (g (at + 1)))
         (sym (runs-start P (at + 1) n)) ∙ extended-starts-sum g at (runs P (at + 1) n) in
         omega (arith, ih, e, opens-later g P (at + 1) n)
@@ -195,8 +196,8 @@ closes-more g w ws at (suc n) l = go (ltb at (w .end)) (ltb (at + 1) (w .end)) r
 
     -- inside the window its last minute is not here
     inner : (k : ℕ) → at + 1 < w .end → w .end ≤ at + suc k
-        → when ((in-w at || holds ws at) && not (begins (holds (w ∷ ws)) (at + 1) k)) (g (at + 1)) ≤ when
-        (holds ws at && not (begins (holds ws) (at + 1) k)) (g (at + 1))
+        → when ((in-w at || holds ws at) && not (beginsHere (holds (w ∷ ws)) (at + 1) k)) (g (at + 1)) ≤ when
+        (holds ws at && not (beginsHere (holds ws) (at + 1) k)) (g (at + 1))
     inner zero a b = absurd (omega arith)
     inner (suc k) a b = both (leb (w .start) at) refl (holds ws at) (holds ws (at + 1))
       where
@@ -211,19 +212,20 @@ closes-more g w ws at (suc n) l = go (ltb at (w .end)) (ltb (at + 1) (w .end)) r
         both false e p q = when-fewer p (in-w (at + 1)) q (g (at + 1))
 
     -- past the window nothing changes
-    outer : (k : ℕ) → w .end ≤ at → when ((in-w at || holds ws at) && not (begins (holds (w ∷ ws)) (at + 1) k)) (g (at + 1))
-        ≡ when (holds ws at && not (begins (holds ws) (at + 1) k)) (g (at + 1))
+    outer : (k : ℕ) → w .end ≤ at → when ((in-w at || holds ws at) && not (beginsHere (holds (w ∷ ws)) (at + 1) k)) (g (at + 1))
+        ≡ when (holds ws at && not (beginsHere (holds ws) (at + 1) k)) (g (at + 1))
     outer zero a = rw (past at a)
     outer (suc k) a = rw (past at a, past (at + 1) (omega arith))
 
     go : (a b : Bool) → ltb at (w .end) ≡ a → ltb (at + 1) (w .end) ≡ b
         → closes g (holds (w ∷ ws)) (at + 1) n ≤ closes g (holds ws) (at + 1) n + when b (g (w .end)) →
-        when ((in-w at || holds ws at) && not (begins (holds (w ∷ ws)) (at + 1) n)) (g (at + 1)) + closes g (holds (w ∷ ws)) (at + 1) n
-        ≤ when (holds ws at && not (begins (holds ws) (at + 1) n)) (g (at + 1)) + closes g (holds ws) (at + 1) n + when a (g (w .end))
+        when ((in-w at || holds ws at) && not (beginsHere (holds (w ∷ ws)) (at + 1) n)) (g (at + 1)) + closes g (holds (w ∷ ws))
+        (at + 1) n
+        ≤ when (holds ws at && not (beginsHere (holds ws) (at + 1) n)) (g (at + 1)) + closes g (holds ws) (at + 1) n + when a (g (w .end))
     go true true e f ih = omega (arith, ih, inner n (ltb-true (at + 1) (w .end) f) l)
     go true false e f ih =
         let d : at + 1 ≡ w .end = omega (arith, ltb-true at (w .end) e, ltb-false (at + 1) (w .end) f) in
-        omega (arith, ih, when-most ((in-w at || holds ws at) && not (begins (holds (w ∷ ws)) (at + 1) n)) (g (at + 1)), ap g d)
+        omega (arith, ih, when-most ((in-w at || holds ws at) && not (beginsHere (holds (w ∷ ws)) (at + 1) n)) (g (at + 1)), ap g d)
     go false true e f ih = absurd (omega (arith, ltb-false at (w .end) e, ltb-true (at + 1) (w .end) f))
     go false false e f ih = omega (arith, ih, outer n (ltb-false at (w .end) e))
 

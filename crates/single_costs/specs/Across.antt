@@ -12,8 +12,8 @@ use Rattle.single_lead.specs.Costs.{noCost, costIn}
 use Rattle.single_lead.specs.Live.{Thinned, Live}
 
 -- x is a cost with what comes before, y one with what comes after: both have the price p
-unfoldable pub joined : ℕ → ℕ → ℕ → ℕ
-joined x y p = cond (eqb x noCost) noCost (cond (eqb y noCost) noCost (x + (y - p)))
+unfoldable pub joinedCost : ℕ → ℕ → ℕ → ℕ
+joinedCost x y p = cond (eqb x noCost) noCost (cond (eqb y noCost) noCost (x + (y - p)))
 
 -- r, or x where the cells from s to e reach t and x is less
 unfoldable pub lessOf : ℕ → ℕ → ℕ → ℕ → ℕ → ℕ
@@ -21,7 +21,7 @@ lessOf s e t x r = cond (ltb s t && leb t e) (cond (ltb x r) x r) r
 
 -- the cost across the bid at place j of xs
 abbrev pub joinAt : List ℕ → List ℕ → List ℕ → List ℕ → ℕ → ℕ
-joinAt ps xs costs after j = joined (getD costs (getD xs j 0) 0) (getD after (getD xs j 0) 0) (getD ps (getD xs j 0) 0)
+joinAt ps xs costs after j = joinedCost (getD costs (getD xs j 0) 0) (getD after (getD xs j 0) 0) (getD ps (getD xs j 0) 0)
 
 -- the least of them at the places below j whose bids reach t
 unfoldable pub leastAcross : List ℕ → List ℕ → List ℕ → List ℕ → List ℕ → List ℕ → ℕ → ℕ → Found

@@ -26,7 +26,7 @@ use Rattle.single_lead.specs.Live.{On, counted, Live}
 use Rattle.single_lead.specs.LiveLaws.{thinned-none, thinned-more, live-none, live-thinned, live-more, live-below, on-more}
 use Rattle.single_lead.specs.LeadLaws.{leading-none}
 use Rattle.single_costs.specs.Run.{Running, Ran}
-use Rattle.single_costs.specs.Across.{joined, lessOf, joinAt, leastAcross, Before, After, Waiting, BegunAt}
+use Rattle.single_costs.specs.Across.{joinedCost, lessOf, joinAt, leastAcross, Before, After, Waiting, BegunAt}
 
 -- the list thinned out and copied
 
@@ -170,22 +170,22 @@ waiting-more a b ps order live q m l w = record {
 -- the scan across the end
 
 module _ (x y p : ℕ) where
-  pub joined-left : x ≡ noCost → noCost ≡ joined x y p
-  unfolding joined
+  pub joined-left : x ≡ noCost → noCost ≡ joinedCost x y p
+  unfolding joinedCost
   joined-left e = rw (eq-eqb x noCost e)
 
-  pub joined-right : (x ≡ noCost → ⊥) → y ≡ noCost → noCost ≡ joined x y p
-  unfolding joined
+  pub joined-right : (x ≡ noCost → ⊥) → y ≡ noCost → noCost ≡ joinedCost x y p
+  unfolding joinedCost
   joined-right d e = rw (ne-eqb x noCost d, eq-eqb y noCost e)
 
-  pub joined-both : (x ≡ noCost → ⊥) → (y ≡ noCost → ⊥) → x + (y - p) ≡ joined x y p
-  unfolding joined
+  pub joined-both : (x ≡ noCost → ⊥) → (y ≡ noCost → ⊥) → x + (y - p) ≡ joinedCost x y p
+  unfolding joinedCost
   joined-both d e = rw (ne-eqb x noCost d, ne-eqb y noCost e)
 
 cost-joined : (x y p : ℕ) (e : Bool) (F Y : Found) → costIn x ≡ cond e nothing (raise p F) → costIn y ≡ raise p Y
     → ((x ≡ noCost → ⊥) → (y ≡ noCost → ⊥) → x + (y - p) < noCost)
-    → costIn (joined x y p) ≡ cond e nothing (across p F Y)
-unfolding costIn joined raise across
+    → costIn (joinedCost x y p) ≡ cond e nothing (across p F Y)
+unfolding costIn joinedCost raise across
 cost-joined x y p e F Y d g f = go (eqb x noCost) refl (eqb y noCost) refl e F Y d g
   where
     go : (s : Bool) → eqb x noCost ≡ s → (t : Bool) → eqb y noCost ≡ t → (e : Bool) (F Y : Found)

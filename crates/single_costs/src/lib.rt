@@ -10,7 +10,7 @@ ghost use Rattle.cover.specs.CriticalPrice.{sum};
 ghost use Rattle.cover.specs.Intervals.Bids.{Bids, costWithout};
 ghost use Rattle.cover.specs.Intervals.MirrorLaws.{Mirrored};
 ghost use Rattle.single_lead.specs.Costs.{costIn};
-ghost use Rattle.single_costs.specs.Across.{joined, lessOf, leastAcross, Before, After, Waiting, BegunAt};
+ghost use Rattle.single_costs.specs.Across.{joinedCost, lessOf, leastAcross, Before, After, Waiting, BegunAt};
 
 mod steps;
 
@@ -20,7 +20,7 @@ use steps::run;
 fn join(x: u64, y: u64, price: u64) -> u64
     requires { ⌜ ((x ≡ 18446744073709551615 → ⊥) → x ≤ 100000000000) ⌝ }
     requires { ⌜ ((y ≡ 18446744073709551615 → ⊥) → (price ≤ y) × (y ≤ 100000000000 + price)) ⌝ }
-    ensures { λ r. ⌜ r ≡ joined x y price ⌝ }
+    ensures { λ r. ⌜ r ≡ joinedCost x y price ⌝ }
 {
     if x == single_lead::NONE {
         return x;

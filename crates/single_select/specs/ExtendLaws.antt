@@ -163,10 +163,10 @@ copied-more old new from q j n u l h = record {
         ∙ h .written i (omega (arith, eqb-false i j e))
 
 -- and with bid i put into its word
-pub extended : (old new : List ℕ) (from i : ℕ) → i < 1024 → i * 16 + 16 ≤ length old → Copied old new from i 16
+pub row-extended : (old new : List ℕ) (from i : ℕ) → i < 1024 → i * 16 + 16 ≤ length old → Copied old new from i 16
     → Extended old (set new (i * 16 + i / 64) (getD new (i * 16 + i / 64) 0 + 2 ^ (i % 64))) from i (2 ^ i)
 unfolding setIn
-extended old new from i l f h = record {
+row-extended old new from i l f h = record {
   sized = length-set new (i * 16 + i / 64) v ∙ h .sized;
   kept = λ x d. getD-set-other new (i * 16 + i / 64) x v 0 (λ e. d (omega arith) (omega arith)) ∙ h .kept x d;
   is = words-add 16 (λ j. getD old (from * 16 + j) 0) (λ j. getD (set new (i * 16 + i / 64) v) (i * 16 + j) 0) (i / 64) (2 ^ (i % 64))

@@ -27,13 +27,13 @@ line-then w ws rest h = ap (cut 10) (append-assoc (spaced (w ∷ ws)) (10 ∷ []
     ∙ cut-end 10 (spaced (w ∷ ws)) rest (spaced-among 10 w ws refl h)
 
 -- a bid whose numbers a text may name, with some window
-abbrev pub Told : BidLine → Type 0
-Told b = (b .bidder < 1000000000) × ((b .price < 1000000000) ×
+abbrev pub Nameable : BidLine → Type 0
+Nameable b = (b .bidder < 1000000000) × ((b .price < 1000000000) ×
     ((w : Window) × (ws : List Window) × (b .windows ≡ w ∷ ws) × AllNamed (w ∷ ws)))
 
-abbrev pub AllTold : List BidLine → Type 0
-AllTold [] = Unit {0}
-AllTold (b ∷ bs) = Told b × AllTold bs
+abbrev pub AllNameable : List BidLine → Type 0
+AllNameable [] = Unit {0}
+AllNameable (b ∷ bs) = Nameable b × AllNameable bs
 
 bid-words-back : (n p : ℕ) (w : Window) (ws : List Window) → n < 1000000000 → p < 1000000000 → AllNamed (w ∷ ws) →
     lineOf (spaced (bidWords n p (w ∷ ws))) ≡ some (bid (record { bidder = n; price = p; windows = w ∷ ws }))
@@ -49,7 +49,7 @@ pub record Read (line : List ℕ) (x : Line) : Type 0 where
   pub cuts : (rest : List ℕ) → cut 10 (line ++ rest) ≡ words ∷ cut 10 rest
   pub is : lineOf words ≡ some x
 
-pub bid-back : (b : BidLine) → Told b → Read (bidText b) (bid b)
+pub bid-back : (b : BidLine) → Nameable b → Read (bidText b) (bid b)
 unfolding among bidWord bytes bidWords
 bid-back b h = go (h .1 .1 .0) (h .1 .1 .1) (h .1 .1 .2) (h .1 .1 .3)
   where
@@ -123,7 +123,7 @@ unfoldable pub asLines : List BidLine → List (Option Line)
 asLines [] = []
 asLines (b ∷ bs) = some (bid b) ∷ asLines bs
 
-pub bids-back : (bs : List BidLine) → AllTold bs → linesOf (cut 10 (bidsText bs)) ≡ asLines bs
+pub bids-back : (bs : List BidLine) → AllNameable bs → linesOf (cut 10 (bidsText bs)) ≡ asLines bs
 unfolding bidsText asLines linesOf cut
 bids-back [] h = refl
 bids-back (b ∷ bs) h =
@@ -131,7 +131,7 @@ bids-back (b ∷ bs) h =
     ∙ ap {B = List (Option Line)} (λ l. some (bid b) ∷ l) (bids-back bs (h .1))
 
 -- the whole text's lines, whatever its length
-pub text-back : (t : Tender) (bs : List BidLine) → Named (t .window) → AllTold bs
+pub text-back : (t : Tender) (bs : List BidLine) → Named (t .window) → AllNameable bs
     → linesOf (cut 10 (textOf t bs)) ≡ some (tender t) ∷ asLines bs
 unfolding textOf
 text-back t bs n h =

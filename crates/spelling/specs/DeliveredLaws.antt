@@ -32,6 +32,7 @@ delivered-is {out} {old} {new} {r} h l = go (leb (length out) (length old)) (h .
     go false a e = absurd (omega arith)
 
 -- two calls that have the same bytes show the same
-pub same-shown : {out old new old′ new′ : List ℕ} {r r′ : ℕ} → Delivered out old new r → Delivered out old′ new′ r′ → 0 < r → 0 < r′
+pub same-shown : {out old new old′ new′ : List ℕ} {r r′ : ℕ} → Delivered out old new r → Delivered out old′ new′ r′
+    → 0 < r → 0 < r′
     → take r new ≡ take r′ new′
 same-shown h h′ l l′ = delivered-is h l ∙ sym (delivered-is h′ l′)

@@ -1,6 +1,8 @@
-// Bid texts read and written in one spelling, and what is told of it.
-use reader::Reading;
-use tender::Refusal;
+// Bid texts and tables written in one spelling, and what is told of it.
+use crate::lots;
+use crate::tables;
+use crate::tables::Table;
+use tender::Tender;
 use writer::Writing;
 
 // The first n bytes.
@@ -12,7 +14,7 @@ pub(crate) fn head(bytes: &[u8], n: usize) -> &[u8] {
 }
 
 // Whether every byte from `at` on is 7.
-pub(crate) fn sevens(bytes: &[u8], at: usize) -> bool {
+fn sevens(bytes: &[u8], at: usize) -> bool {
     let mut i = at;
     while i < bytes.len() {
         if bytes[i] != 7 {
@@ -23,28 +25,6 @@ pub(crate) fn sevens(bytes: &[u8], at: usize) -> bool {
     true
 }
 
-// Writes the refusal as its number and place.
-fn tell_refusal(r: Refusal) {
-    io::write_all(1, b"refused ");
-    io::print_decimal(1, tender::number(r));
-    io::write_all(1, b" ");
-    io::print_decimal(1, tender::place(r));
-}
-
-// The text in one spelling.
-fn respelt(text: &[u8], buf: &mut [u8]) -> Writing {
-    let mut bids = [0u64; 40];
-    let mut windows = [0u64; 80];
-    match reader::read(text, &mut bids, &mut windows) {
-        Reading::Accepted {
-            tender,
-            bids: count,
-            windows: _,
-        } => writer::write(tender, count, &bids, &windows, buf),
-        Reading::Refused(r) => Writing::Refused(r),
-    }
-}
-
 // How many bytes were written; 0 where the writing was refused.
 pub(crate) fn length_of(answer: Writing) -> usize {
     match answer {
@@ -53,56 +33,50 @@ pub(crate) fn length_of(answer: Writing) -> usize {
     }
 }
 
-// Writes the label, and the text in one spelling.
-pub(crate) fn text(label: &[u8], given: &[u8]) {
-    io::write_all(1, label);
-    io::write_all(1, b":\n");
-    let mut buf = [0u8; 400];
-    match respelt(given, &mut buf) {
-        Writing::Written(n) => {
-            io::write_all(1, head(&buf, n));
-        }
-        Writing::Refused(r) => {
-            tell_refusal(r);
-            io::write_all(1, b"\n");
-        }
-    }
-}
-
-// Writes the label, the lengths of the two texts in one spelling, and whether these are the same bytes.
-pub(crate) fn pair(label: &[u8], a: &[u8], b: &[u8]) {
-    let mut one = [0u8; 400];
-    let mut two = [0u8; 400];
-    let m = length_of(respelt(a, &mut one));
-    let n = length_of(respelt(b, &mut two));
-    io::write_all(1, label);
-    io::write_all(1, b": ");
-    io::print_decimal(1, m as u64);
-    io::write_all(1, b" and ");
-    io::print_decimal(1, n as u64);
-    if check::same(head(&one, m), head(&two, n)) {
-        io::write_all(1, b" bytes, equal\n");
-    } else {
-        io::write_all(1, b" bytes, not equal\n");
-    }
-}
-
-// Writes the label and the answer: written with the length, or refused with number and place.
-pub(crate) fn tell_answer(label: &[u8], answer: Writing) {
-    io::write_all(1, label);
-    io::write_all(1, b": ");
+// Writes the answer: written with the length, or refused with number and place.
+fn tell(answer: Writing) {
     match answer {
         Writing::Written(n) => {
             io::write_all(1, b"written ");
             io::print_decimal(1, n as u64);
         }
-        Writing::Refused(r) => tell_refusal(r),
+        Writing::Refused(r) => {
+            io::write_all(1, b"refused ");
+            io::print_decimal(1, tender::number(r));
+            io::write_all(1, b" ");
+            io::print_decimal(1, tender::place(r));
+        }
     }
 }
 
-// The same, and whether the bytes past those that were written are 7, as all bytes of the buffer were before.
-pub(crate) fn tell(label: &[u8], answer: Writing, buf: &[u8]) {
-    tell_answer(label, answer);
+// Writes the text as it is given and in one spelling, and answers the buffer, with zeros past the text.
+pub(crate) fn text(given: &[u8]) -> [u8; 400] {
+    let mut buf = [0u8; 400];
+    let answer = lots::written(lots::read(given), &mut buf);
+    io::write_all(1, b"given\n");
+    io::write_all(1, given);
+    tell(answer);
+    io::write_all(1, b"\n");
+    io::write_all(1, head(&buf, length_of(answer)));
+    buf
+}
+
+// Writes two texts so, and whether they have the same bytes in one spelling.
+pub(crate) fn pair(a: &[u8], b: &[u8]) {
+    let one = text(a);
+    let two = text(b);
+    if check::same(&one, &two) {
+        io::write_all(1, b"the same bytes\n");
+    } else {
+        io::write_all(1, b"not the same bytes\n");
+    }
+}
+
+// Writes the label, the answer, and whether the bytes past those that were written are 7, as all bytes of the buffer were before.
+fn tell_bytes(label: &[u8], answer: Writing, buf: &[u8]) {
+    io::write_all(1, label);
+    io::write_all(1, b": ");
+    tell(answer);
     if sevens(buf, length_of(answer)) {
         io::write_all(1, b", the other bytes stand\n");
     } else {
@@ -112,6 +86,38 @@ pub(crate) fn tell(label: &[u8], answer: Writing, buf: &[u8]) {
 
 // Writes a text of 38 bytes into this buffer, whose bytes are all 7, and tells it.
 pub(crate) fn lend(label: &[u8], buf: &mut [u8]) {
-    let answer = respelt(b"(tender multi 0 10)\n(bid 11 30 (5 9) (0 5))\n", buf);
-    tell(label, answer, buf);
+    let answer = lots::written(
+        lots::read(b"(tender multi 0 10)\n(bid 11 30 (5 9) (0 5))\n"),
+        buf,
+    );
+    tell_bytes(label, answer, buf);
+}
+
+// Writes a tender of 20 bytes and so many bids of 471 bytes each, but the last with this price and so many windows, into a buffer whose
+// bytes are 7.
+pub(crate) fn long(label: &[u8], count: usize, price: u64, windows: u64, buf: &mut [u8]) {
+    let mut bids = [0u64; 4000];
+    let mut rows = [0u64; 64000];
+    tables::fill(
+        &mut bids,
+        Table::LongBids {
+            count,
+            price,
+            windows,
+        },
+        0,
+    );
+    tables::fill(&mut rows, Table::FarWindows, 0);
+    let answer = writer::write(lots::tender_of(true, 0, 10), count, &bids, &rows, buf);
+    tell_bytes(label, answer, buf);
+}
+
+// Writes two bids, the second with this bidder and two windows, into a buffer of no byte, stating so many.
+pub(crate) fn nowhere(label: &[u8], tender: Tender, count: usize, bidder: u64) {
+    let bids = [3, 30, 0, 1, bidder, 7, 1, 2];
+    let windows = [0, 5, 5, 9, 0, 5];
+    io::write_all(1, label);
+    io::write_all(1, b": ");
+    tell(writer::write(tender, count, &bids, &windows, &mut [7u8; 0]));
+    io::write_all(1, b"\n");
 }

@@ -1,35 +1,45 @@
-// Random tables written, read again and compared minute by minute; and tables that differ in one thing or in how they are spelt.
+// Random tables written, read again and compared minute by minute; and tables that differ in one minute or in nothing.
 use crate::lots;
 use crate::lots::Lot;
 use crate::show;
-use reader::Reading;
+use crate::tables;
+use crate::tables::Table;
 use tender::Kind;
-use tender::Window;
-ghost use Prim.Native.Nat.{_≤_};
 
+// Sums wrap; they are small.
 fn plus(a: u64, b: u64) -> u64 {
     std::num::wrapping_add_u64(a, b)
 }
 
-// The number at place i, 0 past the end.
-fn at(cells: &[u64], i: usize) -> u64 {
-    if i < cells.len() { cells[i] } else { 0 }
+// Two numbers that stand side by side.
+struct Two {
+    first: u64,
+    second: u64,
 }
 
-fn window_at(windows: &[u64], row: u64) -> Window {
-    let i = (row % 65536) as usize;
-    Window {
-        start: at(windows, 2 * i),
-        end: at(windows, 2 * i + 1),
+// The numbers at place i and after it; zeros past the end.
+fn two_at(cells: &[u64], i: u64) -> Two {
+    let j = (i % 65536) as usize;
+    if j + 1 < cells.len() {
+        return Two {
+            first: cells[j],
+            second: cells[j + 1],
+        };
+    }
+    Two {
+        first: 0,
+        second: 0,
     }
 }
 
-// Whether one of the windows from row `first` on, `count` of them, holds the minute.
-fn holds(windows: &[u64], first: u64, count: u64, minute: u64) -> bool {
+// Whether a window of bid x / 10080 holds the minute x % 10080.
+fn holds(bids: &[u64], windows: &[u64], x: u64) -> bool {
+    let rows = two_at(bids, x / 10080 * 4 + 2);
+    let minute = x % 10080;
     let mut k: u64 = 0;
-    while k < count {
-        let w = window_at(windows, plus(first, k));
-        if w.start <= minute && minute < w.end {
+    while k < rows.second {
+        let w = two_at(windows, plus(rows.first, k) % 65536 * 2);
+        if w.first <= minute && minute < w.second {
             return true;
         }
         k += 1;
@@ -37,101 +47,86 @@ fn holds(windows: &[u64], first: u64, count: u64, minute: u64) -> bool {
     false
 }
 
-// Whether each of these windows ends before the next one starts, with a minute between them.
-fn rising(windows: &[u64], first: u64, count: u64) -> bool {
-    let mut k: u64 = 1;
-    while k < count {
-        let w = window_at(windows, plus(first, k));
-        if w.start <= window_at(windows, plus(first, k - 1)).end {
-            return false;
-        }
-        k += 1;
-    }
-    true
+// Whether bid j of two tables has the same bidder and price.
+fn same_bidder(bids: &[u64], others: &[u64], j: u64) -> bool {
+    let a = two_at(bids, j % 65536 * 4);
+    let b = two_at(others, j % 65536 * 4);
+    a.first == b.first && a.second == b.second
 }
 
-// Two tables compared: how many bids and minutes, and in how many things they differ.
+// Two tables compared: how many minutes in all; how many of them, and of the bidders with their prices, differ; how many runs of minutes
+// the first has.
 struct Comparison {
-    bids: u64,
     minutes: u64,
     apart: u64,
+    runs: u64,
 }
 
-// In how many of the week's minutes two bids differ.
-fn minutes_apart(a: &[u64], first: u64, count: u64, b: &[u64], other: u64, n: u64) -> u64 {
+// The first n / 10080 bids compared.
+fn compare(bids: &[u64], windows: &[u64], others: &[u64], spans: &[u64], n: u64) -> Comparison {
     let mut apart: u64 = 0;
-    let mut m: u64 = 0;
-    while m < 10080 {
-        if holds(a, first, count, m) != holds(b, other, n, m) {
+    let mut runs: u64 = 0;
+    let mut before = false;
+    let mut x: u64 = 0;
+    while x < n {
+        if x % 10080 == 0 {
+            before = false;
+            if !same_bidder(bids, others, x / 10080) {
+                apart = plus(apart, 1);
+            }
+        }
+        let held = holds(bids, windows, x);
+        if held != holds(others, spans, x) {
             apart = plus(apart, 1);
         }
-        m += 1;
-    }
-    apart
-}
-
-// Bid j of both tables compared.
-fn bid_compared(c: Comparison, a: Lot, b: Lot, j: usize) -> Comparison
-    requires { ⌜ j ≤ 11 ⌝ }
-{
-    let mut n = c;
-    let ours = a.windows;
-    let others = b.windows;
-    if a.bids[4 * j] != b.bids[4 * j] || a.bids[4 * j + 1] != b.bids[4 * j + 1] {
-        n.apart = plus(n.apart, 1);
-    }
-    let apart = minutes_apart(
-        &ours,
-        a.bids[4 * j + 2],
-        a.bids[4 * j + 3],
-        &others,
-        b.bids[4 * j + 2],
-        b.bids[4 * j + 3],
-    );
-    n.apart = plus(n.apart, apart);
-    n.bids = plus(n.bids, 1);
-    n.minutes = plus(n.minutes, tender::WEEK);
-    n
-}
-
-fn compared(a: Lot, b: Lot) -> Comparison {
-    let mut c = Comparison {
-        bids: 0,
-        minutes: 0,
-        apart: 0,
-    };
-    if a.several != b.several || a.start != b.start || a.end != b.end || a.count != b.count {
-        c.apart = 1;
-    }
-    let mut j: usize = 0;
-    while j < 12 {
-        if j < a.count {
-            c = bid_compared(c, a, b, j);
+        if held && !before {
+            runs = plus(runs, 1);
         }
-        j += 1;
+        before = held;
+        x += 1;
     }
-    c
+    Comparison {
+        minutes: x,
+        apart,
+        runs,
+    }
 }
 
-// Whether the windows of each bid are rising.
-fn all_rising(lot: Lot) -> bool {
-    let bids = lot.bids;
-    let windows = lot.windows;
-    let mut j: usize = 0;
-    while j < 12 {
-        if j < lot.count && !rising(&windows, bids[4 * j + 2], bids[4 * j + 3]) {
-            return false;
-        }
-        j += 1;
+// Random tables of up to 12 bids.
+fn draw(seed: u64, several: bool) -> Lot {
+    let mut bids = [0u64; 48];
+    let mut windows = [0u64; 192];
+    let doubled = if several { seed / 16 % 4 } else { 0 };
+    tables::fill(&mut bids, Table::SomeBids(doubled), seed);
+    tables::fill(&mut windows, Table::SomeWindows, tables::next(seed));
+    let start = seed / 256 % 5040;
+    let count = seed / 64 % 13;
+    Lot {
+        tender: lots::tender_of(several, start, start + 1 + seed / 65536 % 5040),
+        count: count as usize,
+        rows: count << (doubled % 4),
+        bids,
+        windows,
     }
-    true
 }
 
-// How many bytes the tables have in one spelling, which are put into the buffer; 0 where they are refused.
-fn written(lot: Lot, text: &mut [u8]) -> usize {
-    let bids = lot.bids;
-    let windows = lot.windows;
-    show::length_of(writer::write(lots::tender_of(lot), lot.count, &bids, &windows, text))
+// The tables with a minute of a window changed to the next or the one before; where that is no window they are refused.
+fn changed(lot: Lot, seed: u64) -> Lot {
+    let mut l = lot;
+    let any = seed / 1024 % 192;
+    let near = if any / 2 < l.rows { any } else { any % 8 };
+    let i = (near % 192) as usize;
+    l.windows[i] = l.windows[i] ^ 1;
+    l
+}
+
+fn lots_compared(a: Lot, b: Lot) -> Comparison {
+    let bids = a.bids;
+    let windows = a.windows;
+    let others = b.bids;
+    let spans = b.windows;
+    let n = 10080 * (a.count % 16) as u64;
+    compare(&bids, &windows, &others, &spans, n)
 }
 
 fn is_multi(kind: Kind) -> bool {
@@ -141,45 +136,18 @@ fn is_multi(kind: Kind) -> bool {
     }
 }
 
-// What is read from the text; more bids than there can be where it is refused.
-fn read(text: &[u8]) -> Lot {
-    let mut bids = [0u64; 48];
-    let mut windows = [0u64; 144];
-    match reader::read(text, &mut bids, &mut windows) {
-        Reading::Accepted {
-            tender,
-            bids: count,
-            windows: rows,
-        } => {
-            let kind = tender.kind;
-            Lot {
-                state: 0,
-                several: is_multi(kind),
-                start: tender.window.start,
-                end: tender.window.end,
-                count,
-                rows,
-                bids,
-                windows,
-            }
-        }
-        Reading::Refused(_) => Lot {
-            state: 0,
-            several: false,
-            start: 0,
-            end: 0,
-            count: 99,
-            rows: 0,
-            bids,
-            windows,
-        },
-    }
+fn same_tender(a: Lot, b: Lot) -> bool {
+    let tender = a.tender;
+    let other = b.tender;
+    let kind = tender.kind;
+    let other_kind = other.kind;
+    is_multi(kind) == is_multi(other_kind)
+        && tender.window.start == other.window.start
+        && tender.window.end == other.window.end
 }
 
 // What was tried, and how many answers disagree.
-pub(crate) struct Tried {
-    tables: u64,
-    bids: u64,
+struct Tried {
     minutes: u64,
     windows: u64,
     runs: u64,
@@ -188,55 +156,57 @@ pub(crate) struct Tried {
     wrong: u64,
 }
 
-// Whether the text, of these tables, reads back as the same and is written again as it is.
+// Whether the text of the tables reads back as the same, with a window for each run of minutes, and is written again as it is.
 fn reads_back(t: Tried, lot: Lot, text: &[u8]) -> Tried {
     let mut n = t;
-    let mut again = [0u8; 1500];
-    let back = read(text);
-    let m = written(back, &mut again);
-    let c = compared(lot, back);
-    n.tables = plus(n.tables, 1);
-    n.bids = plus(n.bids, c.bids);
+    let mut again = [0u8; 2000];
+    let back = lots::read(text);
+    let m = show::length_of(lots::written(back, &mut again));
+    let c = lots_compared(lot, back);
     n.minutes = plus(n.minutes, c.minutes);
-    n.windows = plus(n.windows, lot.rows as u64);
-    n.runs = plus(n.runs, back.rows as u64);
-    if c.apart != 0 || !all_rising(back) || !check::same(text, show::head(&again, m)) {
+    n.windows = plus(n.windows, lot.rows);
+    n.runs = plus(n.runs, back.rows);
+    let same = lot.count == back.count
+        && same_tender(lot, back)
+        && c.apart == 0
+        && c.runs == back.rows;
+    if !same || !check::same(text, show::head(&again, m)) {
         n.wrong = plus(n.wrong, 1);
     }
     n
 }
 
-// Whether tables that may differ from these in one thing have the same text just where they do not differ.
-fn beside(t: Tried, lot: Lot, text: &[u8]) -> Tried {
+// Whether tables with the same tender and count, where they are not refused, have the same text just where they agree.
+fn beside(t: Tried, lot: Lot, near: Lot, text: &[u8]) -> Tried {
     let mut n = t;
-    let mut other = [0u8; 1500];
-    let near = lots::changed(lot);
-    let m = written(near, &mut other);
+    let mut other = [0u8; 2000];
+    let m = show::length_of(lots::written(near, &mut other));
+    if m == 0 {
+        return n;
+    }
     let equal = check::same(text, show::head(&other, m));
-    let c = compared(lot, near);
     if equal {
         n.equal = plus(n.equal, 1);
     } else {
         n.unequal = plus(n.unequal, 1);
     }
-    if m == 0 || equal != (c.apart == 0) {
+    if equal != (lots_compared(lot, near).apart == 0) {
         n.wrong = plus(n.wrong, 1);
     }
     n
 }
 
-fn try_lot(t: Tried, lot: Lot) -> Tried {
-    let mut text = [0u8; 1500];
-    let n = written(lot, &mut text);
+fn trial(t: Tried, seed: u64, several: bool) -> Tried {
+    let mut text = [0u8; 2000];
+    let lot = draw(seed, several);
+    let n = show::length_of(lots::written(lot, &mut text));
     let once = reads_back(t, lot, show::head(&text, n));
-    beside(once, lot, show::head(&text, n))
+    beside(once, lot, changed(lot, seed), show::head(&text, n))
 }
 
-// So many random tables of each kind.
-pub(crate) fn all(n: u64) -> Tried {
+// So many random tables, of either kind by turns.
+fn all(n: u64) -> Tried {
     let mut t = Tried {
-        tables: 0,
-        bids: 0,
         minutes: 0,
         windows: 0,
         runs: 0,
@@ -247,11 +217,8 @@ pub(crate) fn all(n: u64) -> Tried {
     let mut state: u64 = 20261116;
     let mut i: u64 = 0;
     while i < n {
-        let one = lots::draw(state, false);
-        t = try_lot(t, one);
-        let several = lots::draw(one.state, true);
-        t = try_lot(t, several);
-        state = several.state;
+        state = tables::next(state);
+        t = trial(t, state, i % 2 == 0);
         i += 1;
     }
     t
@@ -263,9 +230,11 @@ fn say(word: &[u8], n: u64) {
     io::write_all(1, b"\n");
 }
 
-pub(crate) fn told(t: Tried) {
-    say(b"random tables written and read again ", t.tables);
-    say(b"bids ", t.bids);
+// Tries so many random tables, and tells it.
+pub(crate) fn told(n: u64) {
+    let t = all(n);
+    say(b"random tables written and read again ", n);
+    say(b"bids ", t.minutes / 10080);
     say(b"minutes compared ", t.minutes);
     say(b"windows drawn ", t.windows);
     say(b"windows written ", t.runs);

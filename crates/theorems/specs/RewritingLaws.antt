@@ -186,7 +186,8 @@ always-fits l a b = go (readText (l .text)) refl
         let c = pairLine refusedWord n at in
         let m : leb (length c) (length (l .buffer)) ≡ true = le-leb (length c) (length (l .buffer)) (omega (arith, refusal-few n at)) in
         let r : l .answer ≡ length c = l .promise .delivers .answer
-        ∙ ap (λ out. cond (leb (length out) (length (l .buffer))) (length out) 0) (ap rewriteOf e) ∙ ap (λ b. cond b (length c) 0) m in
+        ∙ ap (λ out. cond (leb (length out) (length (l .buffer))) (length out) 0) (ap rewriteOf e)
+        ∙ ap (λ b. cond b (length c) 0) m in
         omega (arith, r, pair-some refusedWord n at)
 
 pub equal-rewritten : (l l′ : RewriteCall) (T T′ : Tender) (R R′ : List Row) (W W′ : List Window)
@@ -217,7 +218,8 @@ equal-written w w′ n n′ e e′ =
       (λ q. text-same (w .tender) (rowsOf (w .count) (w .bids)) (w .windows) (w′ .tender) (rowsOf (w′ .count) (w′ .bids))
           (w′ .windows)
           (lawful-tables (w .tender) (w .count) (w .bids) (w .windows) (t .faultless))
-          (lawful-tables (w′ .tender) (w′ .count) (w′ .bids) (w′ .windows) (t′ .faultless)) (sym (t .bytes) ∙ q ∙ t′ .bytes)),
+          (lawful-tables (w′ .tender) (w′ .count) (w′ .bids) (w′ .windows) (t′ .faultless))
+          (sym (t .bytes) ∙ q ∙ t′ .bytes)),
       (λ q. t .bytes ∙ same-text (w .tender) (rowsOf (w .count) (w .bids)) (w .windows) (w′ .tender)
           (rowsOf (w′ .count) (w′ .bids))
           (w′ .windows) q ∙ sym (t′ .bytes)),

@@ -16,7 +16,7 @@ use Rattle.tender.specs.Tables.{Row, own}
 use Rattle.reader_line.specs.Words.{among}
 use Rattle.spelling.specs.Text.{bidIn}
 use Rattle.spelling.specs.WordLaws.{Named, AllNamed}
-use Rattle.spelling.specs.BackLaws.{Told, AllTold, asLines}
+use Rattle.spelling.specs.BackLaws.{Nameable, AllNameable, asLines}
 use Rattle.reader.specs.Read.{ReadOutcome, bidFaultIn, bidFault, checked, lineJudged}
 use Rattle.cover.specs.SetLaws.{and-split}
 use Rattle.award_check.specs.Faults.{rowFault}
@@ -24,7 +24,7 @@ use Rattle.runs.specs.Runs.{joined}
 use Rattle.runs.specs.JoinedLaws.{joined-lawful, joined-some}
 use Rattle.writer.specs.Canonical.{respelt, respeltIn}
 use Rattle.writer.specs.Same.{AllLawful}
-use Rattle.writer.specs.RowLaws.{Says, own-length, joined-count, most-few, split-fault}
+use Rattle.writer.specs.RowLaws.{RowSays, own-length, joined-count, most-few, split-fault}
 
 -- a text may name the numbers of lawful windows
 
@@ -41,12 +41,12 @@ unfolding allLawful
 all-named [] e = tt
 all-named (w ∷ ws) e = let a = and-split (lawful w) (allLawful ws) e in (lawful-named w (a .0), all-named ws (a .1))
 
-row-told : (k : Kind) (windows : List ℕ) (place : ℕ) (used : List ℕ) (r : Row) → Says k windows place used r
-    → Told (respelt (bidIn windows r))
+row-told : (k : Kind) (windows : List ℕ) (place : ℕ) (used : List ℕ) (r : Row) → RowSays k windows place used r
+    → Nameable (respelt (bidIn windows r))
 unfolding respelt bidIn
 row-told k windows place used r s = go (joined-some (own windows r) (s .all-lawful) (omega (arith, own-length windows r, s .some-window)))
   where
-    go : (w : Window) × (vs : List Window) × (joined (own windows r) ≡ w ∷ vs) → Told (respelt (bidIn windows r))
+    go : (w : Window) × (vs : List Window) × (joined (own windows r) ≡ w ∷ vs) → Nameable (respelt (bidIn windows r))
     go (w, vs, q) = (
       omega (arith, s .bidder-high),
       (omega (arith, s .price-high), (w, vs, q, all-named (w ∷ vs) (ap allLawful (sym q) ∙ joined-lawful (own windows r)))),
@@ -74,7 +74,7 @@ no-fault k bids bidder price count ok used a b c d e f g = rw (
   g,
 )
 
-row-read : (k : Kind) (windows : List ℕ) (place : ℕ) (used : List ℕ) (r : Row) → Says k windows place used r
+row-read : (k : Kind) (windows : List ℕ) (place : ℕ) (used : List ℕ) (r : Row) → RowSays k windows place used r
     → place ≡ length used + 1 → bidFault k used (respelt (bidIn windows r)) ≡ none
 unfolding bidFault respelt bidIn
 row-read k windows place used r s p =
@@ -86,7 +86,7 @@ row-read k windows place used r s p =
 -- all rows
 
 pub rows-told : (k : Kind) (windows : List ℕ) (place : ℕ) (used : List ℕ) (at : ℕ) (rs : List Row)
-    → rowFault k windows place used at rs ≡ none → AllTold (respeltIn windows rs)
+    → rowFault k windows place used at rs ≡ none → AllNameable (respeltIn windows rs)
 unfolding respeltIn
 rows-told k windows place used at [] e = tt
 rows-told k windows place used at (r ∷ rs) e =

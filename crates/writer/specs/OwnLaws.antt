@@ -39,26 +39,26 @@ unfoldable pub noBid : BidLine
 noBid = record { bidder = 0; price = 0; windows = [] }
 
 -- bid i of the tables that some bids fill
-pub bid-read : (at : ℕ) (cells v : List ℕ) (bs : List BidLine) (i : ℕ)
+pub bid-filled : (at : ℕ) (cells v : List ℕ) (bs : List BidLine) (i : ℕ)
     → drop (windowWidth * at) cells ≡ flatWindows (allWindows bs) ++ v
     → bidIn cells (getD (rowsFrom at bs) i noRow) ≡ getD bs i noBid
 unfolding bidIn own rowsFrom allWindows noRow noBid windowsOf
-bid-read at cells v [] i e = refl
-bid-read at cells v (b ∷ bs) zero e = ap {B = BidLine} (λ ws. record { bidder = b .bidder; price = b .price; windows = ws })
+bid-filled at cells v [] i e = refl
+bid-filled at cells v (b ∷ bs) zero e = ap {B = BidLine} (λ ws. record { bidder = b .bidder; price = b .price; windows = ws })
     (ap (windowsOf (length (b .windows))) e ∙ windows-flat (b .windows) (allWindows bs) v)
-bid-read at cells v (b ∷ bs) (suc i) e =
-    bid-read (at + length (b .windows)) cells v bs i (cells-next at cells v (b .windows) (allWindows bs) e)
+bid-filled at cells v (b ∷ bs) (suc i) e =
+    bid-filled (at + length (b .windows)) cells v bs i (cells-next at cells v (b .windows) (allWindows bs) e)
 
 -- all of them
-pub bids-read : (at : ℕ) (cells v : List ℕ) (bs : List BidLine) → drop (windowWidth * at) cells ≡ flatWindows (allWindows bs) ++ v
+pub bids-filled : (at : ℕ) (cells v : List ℕ) (bs : List BidLine) → drop (windowWidth * at) cells ≡ flatWindows (allWindows bs) ++ v
     → map (bidIn cells) (rowsFrom at bs) ≡ bs
 unfolding bidIn own rowsFrom allWindows
-bids-read at cells v [] e = refl
-bids-read at cells v (b ∷ bs) e =
+bids-filled at cells v [] e = refl
+bids-filled at cells v (b ∷ bs) e =
     ap {B = List BidLine} (λ ws. record { bidder = b .bidder; price = b .price; windows = ws }
     ∷ map (bidIn cells) (rowsFrom (at + length (b .windows)) bs))
     (ap (windowsOf (length (b .windows))) e ∙ windows-flat (b .windows) (allWindows bs) v)
-    ∙ ap (λ l. b ∷ l) (bids-read (at + length (b .windows)) cells v bs (cells-next at cells v (b .windows) (allWindows bs) e))
+    ∙ ap (λ l. b ∷ l) (bids-filled (at + length (b .windows)) cells v bs (cells-next at cells v (b .windows) (allWindows bs) e))
 
 -- the bids that are respelt are as many as the rows, and stand in their order
 

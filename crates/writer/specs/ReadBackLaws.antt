@@ -1,17 +1,16 @@
 -- What is written reads back as the same bids, and two accepted texts are written with equal bytes exactly when they have the same
 -- bids (paper 02, request 2). Assumes nothing.
 use mathlib.Core.Path.{_≡_, refl, sym, ap, _∙_}
-use mathlib.Core.Bool.{Bool, true, false, cond, _&&_}
+use mathlib.Core.Bool.{true, _&&_}
 use mathlib.Core.List.{List, [], _∷_, _++_}
-use mathlib.Core.Option.{Option, none, some}
-use Prim.Native.Nat.{ℕ, zero, suc, min, _+_, _/_, _≤_, _<_}
+use mathlib.Core.Option.{none, some}
+use Prim.Native.Nat.{ℕ, zero, suc, _+_, _/_, _≤_, _<_}
 use native.Mathlib.Omega.{arith}
 use lib.ListN.{length, getD}
 use lib.Dec.{leb}
-use borrow.Author.Tests.{le-ltb, leb-true}
+use borrow.Author.Tests.{le-ltb}
 use Rattle.tender.specs.declared.Window.{Window}
 use Rattle.tender.specs.declared.Tender.{Tender}
-use Rattle.tender.specs.declared.Refusal.the-variants.{NoRoom}
 use Rattle.tender.specs.Limits.{lawful}
 use Rattle.tender.specs.Tables.{Row, rowsOf, own, flatRows, flatWindows, bidWidth}
 use Rattle.cover.specs.SetLaws.{and-split}
@@ -27,10 +26,10 @@ use Rattle.award_check.specs.AlikeLaws.{faultless}
 use Rattle.award_check.specs.TextLaws.{rows-flat, never-nine}
 use Rattle.runs.specs.Runs.{joined}
 use Rattle.runs.specs.JoinedLaws.{joined-holds, joined-same}
-use Rattle.writer.specs.Canonical.{respelt, respeltIn, canonical, spelt, unspelt, unlessFault, writeInto}
+use Rattle.writer.specs.Canonical.{respelt, respeltIn, canonical}
 use Rattle.writer.specs.Same.{AllLawful, Same, ReadBack}
 use Rattle.writer.specs.BidLaws.{lawful-named, rows-told, rows-checked, row-lawful}
-use Rattle.writer.specs.OwnLaws.{noBid, bid-read, respelt-length, respelt-at}
+use Rattle.writer.specs.OwnLaws.{noBid, bid-filled, respelt-length, respelt-at}
 
 -- a tender and rows without a fault
 pub record Lawful (t : Tender) (rows : List Row) (windows : List ℕ) : Type 0 where
@@ -94,7 +93,7 @@ filled-same t rows windows v h = record {
 
     at : (i : ℕ) → i < length rows
         → bidIn (flatWindows (allWindows bs) ++ v) (getD (rowsFrom 0 bs) i noRow) ≡ respelt (bidIn windows (getD rows i noRow))
-    at i l = bid-read 0 (flatWindows (allWindows bs) ++ v) v bs i refl ∙ respelt-at windows rows i l
+    at i l = bid-filled 0 (flatWindows (allWindows bs) ++ v) v bs i refl ∙ respelt-at windows rows i l
 
 -- the text of tables without a fault, where it is not above 65,536 bytes, reads back as the same bids
 pub reads-back : (t : Tender) (n : ℕ) (bids windows : List ℕ) → faultOf (t .kind) t n bids windows ≡ none
@@ -212,37 +211,3 @@ same-bytes x x′ T T′ R R′ W W′ v v′ e e′ = (
 pub writes-the-same : (t : Tender) (rows : List Row) (windows text : List ℕ) (b : ReadBack text t rows windows) (v : List ℕ)
     → canonical t (b .R) (flatWindows (b .W) ++ v) ≡ canonical t rows windows
 writes-the-same t rows windows text b v = sym (same-text t rows windows t (b .R) (flatWindows (b .W) ++ v) (b .same v))
-
--- what writing comes to
-
-unless-wrote : (f : Option ℕ) (s : List ℕ) (room : ℕ) (text : List ℕ)
-    → unlessFault f (cond (leb (length s) (min 65536 room)) (spelt s) (unspelt NoRoom)) ≡ spelt text →
-    (f ≡ none) × ((text ≡ s) × (length s ≤ min 65536 room))
-unfolding unlessFault
-unless-wrote (some place) s room text e = let z : _≡_ {A = ℕ} 0 1 = cc in absurd (omega arith)
-unless-wrote none s room text e = go (leb (length s) (min 65536 room)) refl e
-  where
-    go : (b : Bool) → leb (length s) (min 65536 room) ≡ b → cond b (spelt s) (unspelt NoRoom) ≡ spelt text
-        → (_≡_ {A = Option ℕ} none none) × ((text ≡ s) × (length s ≤ min 65536 room))
-    go true l x = (refl, (cc, leb-true (length s) (min 65536 room) l))
-    go false l x = let z : _≡_ {A = ℕ} 0 1 = cc in absurd (omega arith)
-
-pub record Wrote (t : Tender) (n : ℕ) (bids windows : List ℕ) (room : ℕ) (text : List ℕ) : Type 0 where
-  pub sound : faultOf (t .kind) t n bids windows ≡ none
-  pub is : text ≡ canonical t (rowsOf n bids) windows
-  pub short : length (canonical t (rowsOf n bids) windows) ≤ 65536
-  pub fits : length (canonical t (rowsOf n bids) windows) ≤ room
-
-pub wrote : (t : Tender) (n : ℕ) (bids windows : List ℕ) (room : ℕ) (text : List ℕ)
-    → writeInto t n bids windows room ≡ spelt text → Wrote t n bids windows room text
-unfolding writeInto
-wrote t n bids windows room text e =
-    let j = unless-wrote (faultOf (t .kind) t n bids windows) (canonical t (rowsOf n bids) windows) room text e in
-    record { sound = j .0; is = j .1 .0; short = omega (arith, j .1 .1); fits = omega (arith, j .1 .1) }
-
--- what is written reads back as the same bids
-pub written-reads-back : (t : Tender) (n : ℕ) (bids windows : List ℕ) (room : ℕ) (text : List ℕ)
-    → writeInto t n bids windows room ≡ spelt text → ReadBack text t (rowsOf n bids) windows
-written-reads-back t n bids windows room text e =
-    let w = wrote t n bids windows room text e in
-    rw (w .is) (reads-back t n bids windows (w .sound) (w .short))

@@ -29,7 +29,7 @@ unfolding own
 own-length windows r = windows-length (r .count) _
 
 -- the rows' rules, as facts
-pub record Says (k : Kind) (windows : List ℕ) (place : ℕ) (used : List ℕ) (r : Row) : Type 0 where
+pub record RowSays (k : Kind) (windows : List ℕ) (place : ℕ) (used : List ℕ) (r : Row) : Type 0 where
   pub place-low : place ≤ 1000
   pub bidder-new : among (r .bidder) used ≡ false
   pub bidder-low : 1 ≤ r .bidder
@@ -39,10 +39,11 @@ pub record Says (k : Kind) (windows : List ℕ) (place : ℕ) (used : List ℕ) 
   pub most-windows : r .count ≤ mostWindows k
   pub all-lawful : allLawful (own windows r) ≡ true
 
-pub says : (k : Kind) (windows : List ℕ) (place : ℕ) (used : List ℕ) (at : ℕ) (r : Row) → sound k windows place used at r ≡ true
-    → Says k windows place used r
+pub row-says : (k : Kind) (windows : List ℕ) (place : ℕ) (used : List ℕ) (at : ℕ) (r : Row)
+    → sound k windows place used at r ≡ true
+    → RowSays k windows place used r
 unfolding sound within
-says k windows place used at r e =
+row-says k windows place used at r e =
     let a = and-split (leb place 1000) _ e in
     let u = and-split (not (among (r .bidder) used)) _ (a .1) in
     let s = keeps-kept k windows at r (u .1) in
@@ -59,7 +60,7 @@ says k windows place used at r e =
       all-lawful = s .windows-too;
     }
 
-pub joined-count : (k : Kind) (windows : List ℕ) (place : ℕ) (used : List ℕ) (r : Row) → Says k windows place used r
+pub joined-count : (k : Kind) (windows : List ℕ) (place : ℕ) (used : List ℕ) (r : Row) → RowSays k windows place used r
     → length (joined (own windows r)) ≤ mostWindows k
 joined-count k windows place used r s = omega (arith, joined-few (own windows r) (s .all-lawful), own-length windows r, s .most-windows)
 
@@ -71,12 +72,12 @@ most-few Multi = omega arith
 -- the first row is sound, and the later ones have no fault
 pub split-fault : (k : Kind) (windows : List ℕ) (place : ℕ) (used : List ℕ) (at : ℕ) (r : Row) (rs : List Row)
     → rowFault k windows place used at (r ∷ rs) ≡ none →
-    Says k windows place used r × (rowFault k windows (place + 1) (used ++ r .bidder ∷ []) (at + r .count) rs ≡ none)
+    RowSays k windows place used r × (rowFault k windows (place + 1) (used ++ r .bidder ∷ []) (at + r .count) rs ≡ none)
 unfolding rowFault
 split-fault k windows place used at r rs e = go (sound k windows place used at r) refl e
   where
     go : (b : Bool) → sound k windows place used at r ≡ b
         → cond b (rowFault k windows (place + 1) (used ++ r .bidder ∷ []) (at + r .count) rs) (some place) ≡ none →
-        Says k windows place used r × (rowFault k windows (place + 1) (used ++ r .bidder ∷ []) (at + r .count) rs ≡ none)
-    go true f x = (says k windows place used at r f, x)
+        RowSays k windows place used r × (rowFault k windows (place + 1) (used ++ r .bidder ∷ []) (at + r .count) rs ≡ none)
+    go true f x = (row-says k windows place used at r f, x)
     go false f x = let z : _≡_ {A = ℕ} 0 1 = cc in absurd (omega arith)

@@ -28,42 +28,42 @@ use Rattle.spelling.specs.Lines.{kindWord}
 use Rattle.spelling.specs.Text.{bidText, tenderText, bidsText, textOf, bidIn}
 use Rattle.spelling.specs.DecimalLaws.{numeral-spelling}
 use Rattle.spelling.specs.WordLaws.{spaced, ended, tenderWords, windowWords, bidWords, bid-line, tender-line}
-use Rattle.writer.specs.OwnLaws.{bids-read}
+use Rattle.writer.specs.OwnLaws.{bids-filled}
 
 -- pieces joined again
 
-joined : ℕ → List (List ℕ) → List ℕ
-joined d [] = []
-joined d (p ∷ []) = p
-joined d (p ∷ q ∷ ps) = p ++ d ∷ joined d (q ∷ ps)
+rejoined : ℕ → List (List ℕ) → List ℕ
+rejoined d [] = []
+rejoined d (p ∷ []) = p
+rejoined d (p ∷ q ∷ ps) = p ++ d ∷ rejoined d (q ∷ ps)
 
-joined-grow : (d b : ℕ) (ps : List (List ℕ)) → Pieces ps → joined d (growFirst b ps) ≡ b ∷ joined d ps
-unfolding growFirst joined
-joined-grow d b [] c = let e = ap length (c .are) in absurd (omega (arith, e))
-joined-grow d b (p ∷ []) c = refl
-joined-grow d b (p ∷ q ∷ ps) c = refl
+rejoined-grow : (d b : ℕ) (ps : List (List ℕ)) → Pieces ps → rejoined d (growFirst b ps) ≡ b ∷ rejoined d ps
+unfolding growFirst rejoined
+rejoined-grow d b [] c = let e = ap length (c .are) in absurd (omega (arith, e))
+rejoined-grow d b (p ∷ []) c = refl
+rejoined-grow d b (p ∷ q ∷ ps) c = refl
 
-joined-new : (d : ℕ) (ps : List (List ℕ)) → Pieces ps → joined d ([] ∷ ps) ≡ d ∷ joined d ps
-unfolding joined
-joined-new d [] c = let e = ap length (c .are) in absurd (omega (arith, e))
-joined-new d (p ∷ ps) c = refl
+rejoined-new : (d : ℕ) (ps : List (List ℕ)) → Pieces ps → rejoined d ([] ∷ ps) ≡ d ∷ rejoined d ps
+unfolding rejoined
+rejoined-new d [] c = let e = ap length (c .are) in absurd (omega (arith, e))
+rejoined-new d (p ∷ ps) c = refl
 
-joined-cut : (d : ℕ) (s : List ℕ) → joined d (cut d s) ≡ s
-unfolding cut joined
-joined-cut d [] = refl
-joined-cut d (b ∷ s) = go (eqb b d) refl (cut-some d s) (joined-cut d s)
+rejoined-cut : (d : ℕ) (s : List ℕ) → rejoined d (cut d s) ≡ s
+unfolding cut rejoined
+rejoined-cut d [] = refl
+rejoined-cut d (b ∷ s) = go (eqb b d) refl (cut-some d s) (rejoined-cut d s)
   where
-    go : (t : Bool) → eqb b d ≡ t → Pieces (cut d s) → joined d (cut d s) ≡ s
-        → joined d (cond t ([] ∷ cut d s) (growFirst b (cut d s)))
+    go : (t : Bool) → eqb b d ≡ t → Pieces (cut d s) → rejoined d (cut d s) ≡ s
+        → rejoined d (cond t ([] ∷ cut d s) (growFirst b (cut d s)))
         ≡ b ∷ s
-    go true e c h = joined-new d (cut d s) c ∙ rw (h, eqb-true b d e)
-    go false e c h = joined-grow d b (cut d s) c ∙ ap (λ l. b ∷ l) h
+    go true e c h = rejoined-new d (cut d s) c ∙ rw (h, eqb-true b d e)
+    go false e c h = rejoined-grow d b (cut d s) c ∙ ap (λ l. b ∷ l) h
 
-joined-spaced : (ws : List (List ℕ)) → joined 32 ws ≡ spaced ws
-unfolding joined spaced
-joined-spaced [] = refl
-joined-spaced (w ∷ []) = refl
-joined-spaced (w ∷ x ∷ ws) = ap (λ l. w ++ 32 ∷ l) (joined-spaced (x ∷ ws))
+rejoined-spaced : (ws : List (List ℕ)) → rejoined 32 ws ≡ spaced ws
+unfolding rejoined spaced
+rejoined-spaced [] = refl
+rejoined-spaced (w ∷ []) = refl
+rejoined-spaced (w ∷ x ∷ ws) = ap (λ l. w ++ 32 ∷ l) (rejoined-spaced (x ∷ ws))
 
 -- words
 
@@ -250,12 +250,12 @@ words-are (w ∷ ws) x h = go (sameBytes w (40 ∷ tenderWord)) (sameBytes w (40
 -- a line is read from one spelling
 pub line-is : (line : List ℕ) (x : Line) → lineOf line ≡ some x → line ≡ spaced (wordsOf x)
 unfolding lineOf
-line-is line x h = sym (joined-cut 32 line) ∙ ap (joined 32) (words-are (cut 32 line) x h) ∙ joined-spaced (wordsOf x)
+line-is line x h = sym (rejoined-cut 32 line) ∙ ap (rejoined 32) (words-are (cut 32 line) x h) ∙ rejoined-spaced (wordsOf x)
 
 -- the pieces between bytes 10: the lines, and nothing after the last
 pieces-are : (p : List ℕ) (ps : List (List ℕ)) (xs : List Line) → linesOf (p ∷ ps) ≡ map (λ x. some x) xs
-    → joined 10 (p ∷ ps) ≡ ended (map (λ x. spaced (wordsOf x)) xs)
-unfolding linesOf joined ended
+    → rejoined 10 (p ∷ ps) ≡ ended (map (λ x. spaced (wordsOf x)) xs)
+unfolding linesOf rejoined ended
 pieces-are [] [] [] e = refl
 pieces-are [] [] (x ∷ xs) e = let n = ap length e in absurd (omega (arith, n))
 pieces-are (b ∷ p) [] [] e = let n = ap length e in absurd (omega (arith, n))
@@ -298,7 +298,7 @@ spelt-lines text T R W e = go (linesOf (cut 10 text)) refl (cut-some 10 text) (r
           bids = bs;
           rows = g .rows;
           windows = g .windows;
-          lines = sym (joined-cut 10 text) ∙ ap (joined 10) (c .are)
+          lines = sym (rejoined-cut 10 text) ∙ ap (rejoined 10) (c .are)
               ∙ pieces-are (c .first) (c .rest) (tender T ∷ map (λ b. bid b) bs) (m ∙ lines-of T bs);
         }
 
@@ -324,7 +324,7 @@ pub bids-of : (text : List ℕ) (T : Tender) (R : List Row) (W : List Window) (w
 bids-of text T R W w s =
     ap (λ (u : List Window). map (bidIn (flatWindows u ++ w)) R) (s .windows)
     ∙ ap (map (bidIn (flatWindows (allWindows (s .bids)) ++ w))) (s .rows)
-    ∙ bids-read 0 (flatWindows (allWindows (s .bids)) ++ w) w (s .bids) refl
+    ∙ bids-filled 0 (flatWindows (allWindows (s .bids)) ++ w) w (s .bids) refl
 
 -- No bid is dropped or shortened: an accepted text is the one spelt from its tender, rows and windows.
 pub spelt-again : (text : List ℕ) (T : Tender) (R : List Row) (W : List Window) → readText text ≡ accepted T R W

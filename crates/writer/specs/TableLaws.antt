@@ -18,7 +18,7 @@ use Rattle.award_check.specs.Faults.{sound, rowFault, sameKind, faultOf}
 use Rattle.award_check.specs.Cells.{noRow}
 use Rattle.award_check.specs.AlikeLaws.{sound-keeps, keeps-kept, faultless, rows-length}
 use Rattle.award_check.specs.WalkLaws.{rowAt}
-use Rattle.writer.specs.RowLaws.{says, most-few}
+use Rattle.writer.specs.RowLaws.{row-says, most-few}
 
 -- row j has the four numbers from 4 * j on
 pub row-at : (n j : ℕ) (bids : List ℕ) → j < n → getD (rowsOf n bids) j noRow ≡ rowAt bids j
@@ -44,8 +44,6 @@ row-at (suc n) (suc j) bids l = row-at n j (drop bidWidth bids) (omega arith) �
 
 -- what writing a row's line asks of the row
 pub record Plain (windows : List ℕ) (r : Row) : Type 0 where
-  pub bidder-high : r .bidder ≤ 999999
-  pub price-high : r .price ≤ 100000000
   pub few-windows : r .count ≤ 32
   pub room : r .first + r .count ≤ length windows / windowWidth
   pub all-lawful : allLawful (windowsOf (r .count) (drop (windowWidth * r .first) windows)) ≡ true
@@ -55,11 +53,9 @@ sound-plain : (k : Kind) (windows : List ℕ) (place : ℕ) (used : List ℕ) (a
     → Plain windows r
 unfolding own
 sound-plain k windows place used at r e =
-    let s = says k windows place used at r e in
+    let s = row-says k windows place used at r e in
     let h = keeps-kept k windows at r (sound-keeps k windows place used at r e) in
     record {
-      bidder-high = s .bidder-high;
-      price-high = s .price-high;
       few-windows = omega (arith, s .most-windows, most-few k);
       room = omega (arith, h .first, leb-true (at + r .count) (length windows / windowWidth) (h .room));
       all-lawful = s .all-lawful;

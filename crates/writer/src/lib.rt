@@ -84,8 +84,8 @@ fn put_bid(
 ) -> usize
     requires { ⌜ (first + count ≤ length (now windows) / windowWidth)
         × ((allLawful (windowsOf count (drop (windowWidth * first) (now windows))) ≡ true)
-        × ((count ≤ 32) × ((bidder ≤ 999999) × ((price ≤ 100000000) × ((at + 576 ≤ length (now buf))
-        × ((length (now row) ≡ rowWords) × (Empty (now blank) × Full (now full)))))))) ⌝ }
+        × ((count ≤ 32) × ((at + 576 ≤ length (now buf))
+        × ((length (now row) ≡ rowWords) × (Empty (now blank) × Full (now full)))))) ⌝ }
     ensures { λ r. ⌜ Written (now (buf .entry)) at (bidText (respelt
         (record { bidder = bidder; price = price; windows = windowsOf count (drop (windowWidth * first) (now (windows .entry))) })))
         (now (buf .exit)) r × (length (now (row .exit)) ≡ rowWords) ⌝ }

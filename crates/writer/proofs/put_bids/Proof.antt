@@ -96,16 +96,7 @@ put-bid-requires c κs =
         p .all-lawful,
         (
           p .few-windows,
-          (
-            p .bidder-high,
-            (
-              p .price-high,
-              (
-                omega (arith, c8 .loop .inv .0 .written .size, pre .1 .0),
-                (c8 .loop .inv .1 .0, pre .1 .1 .1),
-              ),
-            ),
-          ),
+          (omega (arith, c8 .loop .inv .0 .written .size, pre .1 .0), (c8 .loop .inv .1 .0, pre .1 .1 .1)),
         ),
       ),
     )

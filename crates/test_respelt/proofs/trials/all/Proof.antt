@@ -13,17 +13,11 @@ abbrev μ-loop : tie.MeasureT-loop
 loop-holds : tie.Need-loop-holds Inv-loop μ-loop
 loop-holds c = search needs
 
-draw-requires : tie.Need-draw-requires Inv-loop μ-loop
-draw-requires c κs = search needs
+next-requires : tie.Need-next-requires Inv-loop μ-loop
+next-requires c κs = search needs
 
-try-lot-requires : tie.Need-try-lot-requires Inv-loop μ-loop
-try-lot-requires c κs = search needs
-
-draw-requires-2 : tie.Need-draw-requires-2 Inv-loop μ-loop
-draw-requires-2 c κs = search needs
-
-try-lot-requires-2 : tie.Need-try-lot-requires-2 Inv-loop μ-loop
-try-lot-requires-2 c κs = search needs
+trial-requires : tie.Need-trial-requires Inv-loop μ-loop
+trial-requires c κs = search needs
 
 add-i : tie.Need-add-i Inv-loop μ-loop
 add-i c = search needs
@@ -44,10 +38,8 @@ all-spec =
     Inv-loop
     μ-loop
     loop-holds
-    draw-requires
-    try-lot-requires
-    draw-requires-2
-    try-lot-requires-2
+    next-requires
+    trial-requires
     add-i
     loop-less
     loop-again

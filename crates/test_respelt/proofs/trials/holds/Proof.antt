@@ -5,10 +5,19 @@ use Rattle.test_respelt.proofs.trials.holds.Statement.{statement}
 use Rattle.test_respelt.proofs.trials.holds.Tie as tie
 
 abbrev Inv-loop : tie.InvT-loop
-Inv-loop windows first count minute k₀ k = (k ≤ count)
+Inv-loop bids windows x rows minute k₀ k = (k ≤ rows .second)
 
 abbrev μ-loop : tie.MeasureT-loop
-μ-loop windows first count minute k₀ k = count - k
+μ-loop bids windows x rows minute k₀ k = rows .second - k
+
+mul-two-at : tie.Need-mul-two-at Inv-loop μ-loop
+mul-two-at c = search needs
+
+add-two-at : tie.Need-add-two-at Inv-loop μ-loop
+add-two-at c = search needs
+
+two-at-requires : tie.Need-two-at-requires Inv-loop μ-loop
+two-at-requires c κs = search needs
 
 loop-holds : tie.Need-loop-holds Inv-loop μ-loop
 loop-holds c = search needs
@@ -16,8 +25,11 @@ loop-holds c = search needs
 plus-requires : tie.Need-plus-requires Inv-loop μ-loop
 plus-requires c κs = search needs
 
-window-at-requires : tie.Need-window-at-requires Inv-loop μ-loop
-window-at-requires c κs = search needs
+mul-two-at-2 : tie.Need-mul-two-at-2 Inv-loop μ-loop
+mul-two-at-2 c = search needs
+
+two-at-requires-2 : tie.Need-two-at-requires-2 Inv-loop μ-loop
+two-at-requires-2 c κs = search needs
 
 returns : tie.Need-returns Inv-loop μ-loop
 returns c = search needs
@@ -40,9 +52,13 @@ holds-spec =
     (tie.spec
     Inv-loop
     μ-loop
+    mul-two-at
+    add-two-at
+    two-at-requires
     loop-holds
     plus-requires
-    window-at-requires
+    mul-two-at-2
+    two-at-requires-2
     returns
     add-k
     loop-less

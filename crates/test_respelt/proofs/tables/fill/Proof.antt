@@ -4,17 +4,20 @@ use mathlib.Core.Path.{_≡_, refl}
 use native.Mathlib.Omega.{arith}
 use lib.ListN.{length, length-set}
 use borrow.Author.Needs.{needs}
-use Rattle.test_respelt.proofs.wide.fill.Statement.{statement}
-use Rattle.test_respelt.proofs.wide.fill.Tie as tie
+use Rattle.test_respelt.proofs.tables.fill.Statement.{statement}
+use Rattle.test_respelt.proofs.tables.fill.Tie as tie
 
 abbrev Inv-loop : tie.InvT-loop
-Inv-loop cells₀ of-bids i₀ cells i = (i ≤ length cells) × (length cells ≡ length cells₀)
+Inv-loop cells₀ table seed state₀ last₀ i₀ cells state last i = (i ≤ length cells) × (length cells ≡ length cells₀)
 
 abbrev μ-loop : tie.MeasureT-loop
-μ-loop cells₀ of-bids i₀ cells i = length cells₀ - i
+μ-loop cells₀ table seed state₀ last₀ i₀ cells state last i = length cells₀ - i
 
 loop-holds : tie.Need-loop-holds Inv-loop μ-loop
 loop-holds c = search needs
+
+next-requires : tie.Need-next-requires Inv-loop μ-loop
+next-requires c κs = search needs
 
 cell-requires : tie.Need-cell-requires Inv-loop μ-loop
 cell-requires c κs = search needs
@@ -47,6 +50,7 @@ fill-spec =
     Inv-loop
     μ-loop
     loop-holds
+    next-requires
     cell-requires
     mul-cells
     slice-write-cells
