@@ -104,13 +104,14 @@ static const struct { enum place place; const char *what; } REFUSALS[] = {
     [2] = {LINE, "not a bid or not spelt as one"},
     [3] = {LINE, "a bidder outside 1 to 999,999 or a price above 100,000,000"},
     [4] = {LINE, "a bid after 1,000 bids, or more than 32 windows in a bid"},
-    [5] = {LINE, "a window whose start is not below its end, or whose end is above 10,080"},
+    [5] = {LINE, "a window that ends before it starts, or where it starts"},
     [6] = {LINE, "a bidder number used on an earlier line"},
     [7] = {LINE, "more than one window in a single tender"},
     [11] = {MINUTE, "in no bid"},
     [12] = {MINUTE, "in one bid only, and each minute needs two"},
     [13] = {NOWHERE, "the list would be longer than the room lent"},
     [14] = {NOWHERE, "the text would be longer than 65,536 bytes or the room lent"},
+    [15] = {LINE, "a window that ends after the week, above 10,080"},
 };
 
 /* The line's first bytes, with \xNN for a byte that does not print. */

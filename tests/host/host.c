@@ -74,7 +74,17 @@ static void refusals(void)
     REFUSES("(tender single 0 100)\n(bid 1 1 (0 1))\n(bid 0 1 (0 1))\n", "(refused 3 3)\n");
     REFUSES("(tender single 0 100)\n(bid 1 100000001 (0 1))\n", "(refused 3 2)\n");
     REFUSES("(tender single 0 100)\n(bid 1 1 (5 5))\n", "(refused 5 2)\n");
-    REFUSES("(tender single 0 10081)\n", "(refused 5 1)\n");
+    REFUSES("(tender single 7 7)\n", "(refused 5 1)\n");
+    REFUSES("(tender single 10082 10081)\n", "(refused 5 1)\n");
+    REFUSES("(tender single 0 100)\n(bid 1 1 (9 3))\n", "(refused 5 2)\n");
+    REFUSES("(tender single 0 100)\n(bid 1 1 (10081 10081))\n", "(refused 5 2)\n");
+    REFUSES("(tender multi 0 100)\n(bid 1 1 (0 10081) (5 5))\n", "(refused 5 2)\n");
+    REFUSES("(tender multi 0 100)\n(bid 1 1 (5 5) (0 10081))\n", "(refused 5 2)\n");
+    REFUSES("(tender single 0 10081)\n", "(refused 15 1)\n");
+    REFUSES("(tender single 0 100)\n(bid 1 1 (0 10081))\n", "(refused 15 2)\n");
+    REFUSES("(tender multi 0 100)\n(bid 1 1 (0 10080) (0 10081) (1 2))\n", "(refused 15 2)\n");
+    REFUSES("(tender single 0 100)\n(bid 1 1 (0 1))\n(bid 1 1 (0 10081))\n", "(refused 15 3)\n");
+    REFUSES("(tender single 0 100)\n(bid 1 1 (0 10081) (0 10082))\n", "(refused 7 2)\n");
     REFUSES("(tender single 0 100)\n(bid 1 1 (0 1))\n(bid 1 1 (0 1))\n", "(refused 6 3)\n");
     REFUSES("(tender single 0 100)\n(bid 1 1 (0 1) (2 3))\n", "(refused 7 2)\n");
     LISTS("(tender multi 0 1)\n", "(refused 11 0)\n");
@@ -122,6 +132,25 @@ static void random_texts(long rounds)
         expect(agrees((const uint8_t *)s, n, out, k), "random bytes", s, n);
     }
     printf("small tenders: %ld awarded, %ld declined; %ld texts of random bytes\n", awards, 2 * rounds - awards, rounds / 4);
+}
+
+/* texts with several faults on a line: the order in which they are told */
+static void faulty_texts(long rounds)
+{
+    enum { NUMBERS = 16 };
+    static char s[TEXT_ROOM];
+    static uint8_t out[ROOM];
+    long told[NUMBERS] = {0};
+    for (long i = 0; i < rounds; i++) {
+        size_t n = faulty_text(s), k = called(tender_list, s, n, LIST_MAX, out);
+        unsigned number = 0;
+        expect(agrees((const uint8_t *)s, n, out, k), "the order of a line's faults", s, n);
+        sscanf((const char *)out, "(refused %u", &number);
+        told[number < NUMBERS ? number : 0]++;
+    }
+    printf("faulty lines: %ld texts;", rounds);
+    for (int i = 1; i < NUMBERS; i++) if (told[i]) printf(" %d told %ld times;", i, told[i]);
+    printf(" %ld awarded\n", told[0]);
 }
 
 /* tenders of several words; a buffer of one byte too few is declined */
@@ -271,6 +300,7 @@ int main(int argc, char **argv)
     random_texts(rounds);
     wide_tenders(rounds);
     random_rewrites(rounds);
+    faulty_texts(rounds);
     printf("host: %ld checks, %ld faults\n", checks, faults);
     return faults != 0;
 }

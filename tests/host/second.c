@@ -58,16 +58,16 @@ static bool form_of_tender(Line l, Tender *t)
     return number(&l, &t->start) && word(&l, " ") && number(&l, &t->end) && word(&l, ")") && l.at == l.end;
 }
 
-/* the form of the whole line; `windows` counts them all, of which the first 33 are kept, and `lawful` judges all */
-static bool form_of_bid(Line l, Bid *b, long *windows, bool *lawful)
+/* the form of the whole line; `windows` counts them all, of which the first 33 are kept, `empty` and `late` those of either fault */
+static bool form_of_bid(Line l, Bid *b, long *windows, long *empty, long *late)
 {
-    *windows = 0;
-    *lawful = true;
+    *windows = *empty = *late = 0;
     if (!word(&l, "(bid ") || !number(&l, &b->bidder) || !word(&l, " ") || !number(&l, &b->price)) return false;
     do {
         long s, e;
         if (!word(&l, " (") || !number(&l, &s) || !word(&l, " ") || !number(&l, &e) || !word(&l, ")")) return false;
-        if (s >= e || e > WEEK) *lawful = false;
+        *empty += s >= e;
+        *late += e > WEEK;
         if (*windows <= MAX_WINDOWS) { b->start[*windows] = (int)s; b->end[*windows] = (int)e; }
         ++*windows;
     } while (l.at < l.end && *l.at == ' ');
@@ -87,17 +87,18 @@ static int read_text(const uint8_t *text, size_t len, Tender *t, long *place)
         at = stop + 1;
         if (*place == 1) {
             if (!form_of_tender(l, t)) return 2;
-            if (t->start >= t->end || t->end > WEEK) return 5;
+            if (t->start >= t->end) return 5;
+            if (t->end > WEEK) return 15;
             continue;
         }
         Bid b;
-        long windows;
-        bool lawful;
-        if (!form_of_bid(l, &b, &windows, &lawful)) return 2;
+        long windows, empty, late;
+        if (!form_of_bid(l, &b, &windows, &empty, &late)) return 2;
         if (t->n == MAX_BIDS || windows > MAX_WINDOWS) return 4;
         if (b.bidder < 1 || b.bidder > 999999 || b.price > 100000000) return 3;
         if (t->single && windows > 1) return 7;
-        if (!lawful) return 5;
+        if (empty) return 5;
+        if (late) return 15;
         for (int i = 0; i < t->n; i++) if (t->bid[i].bidder == b.bidder) return 6;
         b.count = (int)windows;
         t->bid[t->n++] = b;

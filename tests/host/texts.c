@@ -31,6 +31,30 @@ size_t small_text(char *s)
     return at;
 }
 
+/* a window: mostly lawful, and at times empty, late or both */
+static size_t some_window(char *s)
+{
+    static const unsigned odd[] = {0, 5, 9, 10079, 10080, 10081, 10082, 999999999};
+    unsigned a = below(20), e = a + 1 + below(20);
+    if (!below(4)) a = odd[below(8)];
+    if (!below(4)) e = odd[below(8)];
+    return (size_t)sprintf(s, " (%u %u)", a, e);
+}
+
+size_t faulty_text(char *s)
+{
+    static const unsigned bidder[] = {0, 1, 2, 999999, 1000000}, price[] = {0, 100000000, 100000001};
+    bool single = below(2);
+    unsigned start = below(8) ? 0 : 10081, end = below(8) ? 20 : below(2) ? 10081 : 0;
+    size_t at = (size_t)sprintf(s, "(tender %s %u %u)\n", single ? "single" : "multi", start, end);
+    for (unsigned i = 0, n = below(6); i < n; i++) {
+        at += (size_t)sprintf(s + at, "(bid %u %u", below(6) ? 10 + i : bidder[below(5)], below(6) ? below(50) : price[below(3)]);
+        for (unsigned k = !below(8) ? 31 + below(3) : single && below(4) ? 1 : 1 + below(3); k; k--) at += some_window(s + at);
+        at += (size_t)sprintf(s + at, ")\n");
+    }
+    return at;
+}
+
 size_t mutated(char *s, size_t n)
 {
     static const char odd[] = "0123456789() \nabdegilmnrstu\r.-\0\377";

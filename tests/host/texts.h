@@ -12,6 +12,9 @@ unsigned below(unsigned n);
 /* a tender of up to 40, at times 200 minutes with up to 8 bids; most are declined */
 size_t small_text(char *s);
 
+/* a text whose lines have the form and often a fault or several: numbers at and past each limit, windows empty or late, too many of them */
+size_t faulty_text(char *s);
+
 /* a text with one or two bytes changed, dropped or put in */
 size_t mutated(char *s, size_t n);
 

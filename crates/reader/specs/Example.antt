@@ -110,9 +110,14 @@ tender-window : read "(tender single 100 100)\n" ≡ refused 5 1
 unfolding read
 tender-window = refl
 
-tender-late : read "(tender single 0 10081)\n" ≡ refused 5 1
+tender-late : read "(tender single 0 10081)\n" ≡ refused 15 1
 unfolding read
 tender-late = refl
+
+-- near miss: the end is past the week, and the start is past the end
+tender-late-empty : read "(tender single 10082 10081)\n" ≡ refused 5 1
+unfolding read
+tender-late-empty = refl
 
 window-33 : readText (bytes "(tender multi 0 10)\n(bid 0 30" ++ minutes 33 ++ bytes ")\n") ≡ refused 4 2
 unfolding readText minutes
@@ -146,7 +151,7 @@ empty-window : read "(tender single 0 100)\n(bid 11 30 (5 5))\n" ≡ refused 5 2
 unfolding read
 empty-window = refl
 
-late-window : read "(tender single 0 100)\n(bid 11 30 (0 10081))\n" ≡ refused 5 2
+late-window : read "(tender single 0 100)\n(bid 11 30 (0 10081))\n" ≡ refused 15 2
 unfolding read
 late-window = refl
 
@@ -158,9 +163,33 @@ used-twice : read "(tender single 0 100)\n(bid 11 30 (0 50))\n(bid 12 30 (0 50))
 unfolding read
 used-twice = refl
 
-used-late : read "(tender single 0 100)\n(bid 11 30 (0 50))\n(bid 11 30 (0 0))\n" ≡ refused 5 3
+used-empty : read "(tender single 0 100)\n(bid 11 30 (0 50))\n(bid 11 30 (0 0))\n" ≡ refused 5 3
+unfolding read
+used-empty = refl
+
+used-late : read "(tender single 0 100)\n(bid 11 30 (0 50))\n(bid 11 30 (0 10081))\n" ≡ refused 15 3
 unfolding read
 used-late = refl
+
+two-late : read "(tender single 0 100)\n(bid 11 30 (0 10081) (0 10082))\n" ≡ refused 7 2
+unfolding read
+two-late = refl
+
+late-then-empty : read "(tender multi 0 10)\n(bid 11 30 (0 10081) (5 5))\n" ≡ refused 5 2
+unfolding read
+late-then-empty = refl
+
+empty-then-late : read "(tender multi 0 10)\n(bid 11 30 (5 5) (0 10081))\n" ≡ refused 5 2
+unfolding read
+empty-then-late = refl
+
+sound-then-late : read "(tender multi 0 10)\n(bid 11 30 (0 10080) (0 10081) (1 2))\n" ≡ refused 15 2
+unfolding read
+sound-then-late = refl
+
+late-and-empty : read "(tender multi 0 10)\n(bid 11 30 (10081 10081))\n" ≡ refused 5 2
+unfolding read
+late-and-empty = refl
 
 first-fault : read "(tender single 0 100)\n(bid 11 30 (0 0))\n(bid 11 30 (0 50)\n" ≡ refused 5 2
 unfolding read

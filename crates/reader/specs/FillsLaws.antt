@@ -12,7 +12,6 @@ use lib.Dec.{eqb, ltb}
 use borrow.Author.Tests.{eqb-true, eqb-false, ltb-true, ltb-false}
 use Rattle.tender.specs.declared.Kind.{Kind}
 use Rattle.tender.specs.declared.Refusal.{Refusal}
-use Rattle.tender.specs.Limits.{allLawful}
 use Rattle.tender.specs.Refusals.{numberOf, placeOf}
 use Rattle.tender.specs.Tables.{flatRows, flatWindows, bidWidth, windowWidth}
 use Rattle.cells.specs.Cells.{cell, RangeAdded}
@@ -23,8 +22,8 @@ use Rattle.reader_line.specs.SizeLaws.{line-windows}
 use Rattle.reader_line.specs.Answer.{FirstBroken, EndsAt}
 use Rattle.reader_line.specs.declared.words.LineEnd.{LineEnd}
 use Rattle.reader_line.specs.declared.words.LineEnd.the-variants.{At, Broken}
-use Rattle.reader.specs.Read.{ReadOutcome, refused, rowsFrom, allWindows, bidsOf, bidFaultIn, bidFault, lineJudged, checked}
-use Rattle.reader.specs.RulesLaws.{passed}
+use Rattle.reader.specs.Read.{ReadOutcome, refused, rowsFrom, allWindows, bidsOf, bidFaultAfter, bidFault, lineJudged, checked}
+use Rattle.reader.specs.RulesLaws.{faultless-after}
 use Rattle.reader.specs.Steps.{Fault, StepDeclines, BidTaken, Judged, Taken, TablesHold}
 use Rattle.reader.specs.declared.bids.Step.{Step}
 use Rattle.reader.specs.declared.bids.Step.the-variants as step
@@ -130,7 +129,7 @@ pub taken-room : (kind : Kind) (k m : ℕ) (used rows windows used′ rows′ wi
 taken-room kind k m used rows windows used′ rows′ windows′ none r c n t e h = bid-not-refused r c 2 (k + 2) e t
 taken-room kind k m used rows windows used′ rows′ windows′ (some (tender x)) r c n t e h = bid-not-refused r c 2 (k + 2) e t
 taken-room kind k m used rows windows used′ rows′ windows′ (some (bid b)) r c n t e h =
-    go (bidFaultIn kind k (b .bidder) (b .price) (length (b .windows)) (allLawful (b .windows)) (eqb (cell used (b .bidder)) 1)) t
+    go (bidFaultAfter kind k b (eqb (cell used (b .bidder)) 1)) t
   where
     go : (f : Option (ℕ → Refusal)) → Judged f b k m used rows windows r used′ rows′ windows′ → 6 * (m + c) ≤ n
     go none j = let q : c ≡ length (b .windows) = cc (e, j .answer) in rw q (h b refl)
@@ -139,20 +138,19 @@ taken-room kind k m used rows windows used′ rows′ windows′ (some (bid b)) 
 module _ (kind : Kind) (whole rest : List (Option Line)) (k m : ℕ) (used rows windows used′ rows′ windows′ : List ℕ) where
   -- the fault of the next bid
   fault-is : (b : BidLine) (w : Walk kind whole (some (bid b) ∷ rest) k m used rows windows) →
-      bidFault kind (bidderNumbers (w .done)) b ≡ bidFaultIn kind k (b .bidder) (b .price) (length (b .windows)) (allLawful (b .windows))
-      (eqb (cell used (b .bidder)) 1)
+      bidFault kind (bidderNumbers (w .done)) b ≡ bidFaultAfter kind k b (eqb (cell used (b .bidder)) 1)
   unfolding bidFault
   fault-is b w = rw (← (w .marked (b .bidder)), numbers-length (w .done), w .count)
 
   more : (b : BidLine) → Walk kind whole (some (bid b) ∷ rest) k m used rows windows → (r : Step)
       → m + length (b .windows) ≤ 11000 →
-      bidFaultIn kind k (b .bidder) (b .price) (length (b .windows)) (allLawful (b .windows)) (eqb (cell used (b .bidder)) 1) ≡ none →
+      bidFaultAfter kind k b (eqb (cell used (b .bidder)) 1) ≡ none →
       BidTaken b k m used rows windows r used′ rows′ windows′ → length used′ ≡ length used → length rows′ ≡ length rows
       → length windows′ ≡ length windows →
       Walk kind whole rest (k + 1) (m + length (b .windows)) used′ rows′ windows′
   unfolding checked lineJudged bidsOf
   more b w r room g t lu lr lw =
-      let p = passed kind k (b .bidder) (b .price) (length (b .windows)) (allLawful (b .windows)) (eqb (cell used (b .bidder)) 1) g in
+      let p = faultless-after kind k b (eqb (cell used (b .bidder)) 1) g in
       let f = fault-is b w ∙ g in
       let n : k + 2 + 1 ≡ k + 1 + 2 = omega arith in
       let i : m + length (b .windows) ≤ 32 * (k + 1) = omega (arith, w .few-windows, p .few-windows) in
@@ -187,10 +185,9 @@ module _ (kind : Kind) (whole rest : List (Option Line)) (k m : ℕ) (used rows 
   goes none w r t lu lr lw c e room = bid-not-refused r c 2 (k + 2) e t
   goes (some (tender x)) w r t lu lr lw c e room = bid-not-refused r c 2 (k + 2) e t
   goes (some (bid b)) w r t lu lr lw c e room = go
-      (bidFaultIn kind k (b .bidder) (b .price) (length (b .windows)) (allLawful (b .windows)) (eqb (cell used (b .bidder)) 1)) refl t
+      (bidFaultAfter kind k b (eqb (cell used (b .bidder)) 1)) refl t
     where
-      go : (f : Option (ℕ → Refusal)) → bidFaultIn kind k (b .bidder) (b .price) (length (b .windows)) (allLawful (b .windows))
-          (eqb (cell used (b .bidder)) 1) ≡ f →
+      go : (f : Option (ℕ → Refusal)) → bidFaultAfter kind k b (eqb (cell used (b .bidder)) 1) ≡ f →
           Judged f b k m used rows windows r used′ rows′ windows′ → Walk kind whole rest (k + 1) (m + c) used′ rows′ windows′
       go none g j = let q : c ≡ length (b .windows) = cc (e, j .answer) in rw q (more b w r (room b refl) g j lu lr lw)
       go (some f) g j = bid-not-refused r c (numberOf (f (k + 2))) (placeOf (f (k + 2))) e j
@@ -212,11 +209,10 @@ module _ (kind : Kind) (whole rest : List (Option Line)) (k m : ℕ) (used rows 
   stops none w r t x e out = w .checks out ∙ refusal-is r x 2 (k + 2) e t
   stops (some (tender y)) w r t x e out = w .checks out ∙ refusal-is r x 2 (k + 2) e t
   stops (some (bid b)) w r t x e out = w .checks out
-      ∙ go (bidFaultIn kind k (b .bidder) (b .price) (length (b .windows)) (allLawful (b .windows)) (eqb (cell used (b .bidder)) 1))
+      ∙ go (bidFaultAfter kind k b (eqb (cell used (b .bidder)) 1))
       refl t
     where
-      go : (f : Option (ℕ → Refusal)) → bidFaultIn kind k (b .bidder) (b .price) (length (b .windows)) (allLawful (b .windows))
-          (eqb (cell used (b .bidder)) 1) ≡ f →
+      go : (f : Option (ℕ → Refusal)) → bidFaultAfter kind k b (eqb (cell used (b .bidder)) 1) ≡ f →
           Judged f b k m used rows windows r used′ rows′ windows′
           → checked kind (k + 2) (bidderNumbers (w .done)) (some (bid b) ∷ rest) out
           ≡ refused (numberOf x) (placeOf x)

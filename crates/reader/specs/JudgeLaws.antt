@@ -6,39 +6,45 @@ use mathlib.Core.Option.{none, some}
 use lib.Dec.{leb, ltb}
 use borrow.Author.Tests.{leb-true}
 use Rattle.tender.specs.declared.Kind.{Kind}
-use Rattle.tender.specs.declared.Refusal.the-variants.{OutsideLimits, TooMany, BadWindow, BidderRepeated, SeveralWindows}
+use Rattle.tender.specs.declared.Refusal.the-variants.{OutsideLimits, TooMany, EmptyWindow, BidderRepeated, SeveralWindows}
+use Rattle.tender.specs.declared.Refusal.the-variants.{LateWindow}
 use Rattle.tender.specs.Limits.{within, isSingle}
-use Rattle.reader.specs.Read.{bidFaultIn}
+use Rattle.reader.specs.Read.{lineFault, bidFaultIn}
 
-module _ (k : Kind) (bids bidder price count : ℕ) (ok used : Bool) where
-  pub many : leb 1000 bids || ltb 32 count ≡ true → bidFaultIn k bids bidder price count ok used ≡ some TooMany
-  unfolding bidFaultIn
+module _ (k : Kind) (bids bidder price count : ℕ) (empty late used : Bool) where
+  pub many : leb 1000 bids || ltb 32 count ≡ true → bidFaultIn k bids bidder price count empty late used ≡ some TooMany
+  unfolding bidFaultIn lineFault
   many h = rw h
 
   module _ (a : leb 1000 bids || ltb 32 count ≡ false) where
     pub beyond : not (within 1 999999 bidder) || ltb 100000000 price ≡ true
-        → bidFaultIn k bids bidder price count ok used ≡ some OutsideLimits
-    unfolding bidFaultIn
+        → bidFaultIn k bids bidder price count empty late used ≡ some OutsideLimits
+    unfolding bidFaultIn lineFault
     beyond h = rw (a, h)
 
     module _ (b : not (within 1 999999 bidder) || ltb 100000000 price ≡ false) where
-      pub several-windows : isSingle k && ltb 1 count ≡ true → bidFaultIn k bids bidder price count ok used ≡ some SeveralWindows
-      unfolding bidFaultIn
+      pub several-windows : isSingle k && ltb 1 count ≡ true → bidFaultIn k bids bidder price count empty late used ≡ some SeveralWindows
+      unfolding bidFaultIn lineFault
       several-windows h = rw (a, b, h)
 
       module _ (c : isSingle k && ltb 1 count ≡ false) where
-        pub unlawful : ok ≡ false → bidFaultIn k bids bidder price count ok used ≡ some BadWindow
-        unfolding bidFaultIn
-        unlawful h = rw (a, b, c, h)
+        pub window-empty : empty ≡ true → bidFaultIn k bids bidder price count empty late used ≡ some EmptyWindow
+        unfolding bidFaultIn lineFault
+        window-empty h = rw (a, b, c, h)
 
-        module _ (d : ok ≡ true) where
-          pub repeated : used ≡ true → bidFaultIn k bids bidder price count ok used ≡ some BidderRepeated
-          unfolding bidFaultIn
-          repeated h = rw (a, b, c, d, h)
+        module _ (d : empty ≡ false) where
+          pub window-late : late ≡ true → bidFaultIn k bids bidder price count empty late used ≡ some LateWindow
+          unfolding bidFaultIn lineFault
+          window-late h = rw (a, b, c, d, h)
 
-          pub sound : used ≡ false → bidFaultIn k bids bidder price count ok used ≡ none
-          unfolding bidFaultIn
-          sound h = rw (a, b, c, d, h)
+          module _ (e : late ≡ false) where
+            pub repeated : used ≡ true → bidFaultIn k bids bidder price count empty late used ≡ some BidderRepeated
+            unfolding bidFaultIn lineFault
+            repeated h = rw (a, b, c, d, e, h)
+
+            pub sound : used ≡ false → bidFaultIn k bids bidder price count empty late used ≡ none
+            unfolding bidFaultIn lineFault
+            sound h = rw (a, b, c, d, e, h)
 
 -- a bidder within its limits is one of a million
 pub bidder-in : (bidder price : ℕ) → not (within 1 999999 bidder) || ltb 100000000 price ≡ false → bidder ≤ 999999

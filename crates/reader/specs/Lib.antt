@@ -3,6 +3,7 @@ pub mod Read
 pub mod Example
 pub mod Answer
 pub mod Steps
+pub mod FaultLaws
 pub mod ReadLaws
 pub mod Differ
 pub mod PriceLaws

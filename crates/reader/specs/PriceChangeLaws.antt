@@ -15,8 +15,9 @@ use Rattle.tender.specs.Limits.{lawful}
 use Rattle.tender.specs.Tables.{Row}
 use Rattle.reader_line.specs.Words.{andThen, cut, numeralOf, priceOf}
 use Rattle.reader_line.specs.Line.{BidLine, Line, tender, bid, windowsIn, bidOf, lineOf, linesOf}
-use Rattle.reader.specs.Read.{ReadOutcome, accepted, rowsFrom, allWindows, bidsOf, bidFaultIn, bidFault, checked, tables, readLines}
-use Rattle.reader.specs.Read.{readText}
+use Rattle.reader.specs.Read.{ReadOutcome, accepted, rowsFrom, allWindows, bidsOf, lineFault, bidFaultIn, bidFaultAfter, bidFault}
+use Rattle.reader.specs.Read.{lineJudged, checked, tables, readLines, readText}
+use Rattle.reader.specs.FaultLaws.{lawful-tender}
 use Rattle.reader_line.specs.CutLaws.{Pieces, cut-some}
 use Rattle.reader.specs.ReadLaws.{never, judged-out}
 use Rattle.reader.specs.Differ.{bidLine, Word, DifferInPrice, RowsDifferInPrice}
@@ -28,7 +29,7 @@ atPrice v b = record { bidder = b .bidder; price = v; windows = b .windows }
 
 fault-price : (k : Kind) (used : List ℕ) (b : BidLine) (v : ℕ) → v ≤ 100000000 → bidFault k used b ≡ none
     → bidFault k used (atPrice v b) ≡ none
-unfolding bidFault bidFaultIn atPrice
+unfolding bidFault bidFaultAfter bidFaultIn lineFault atPrice
 fault-price k used b v l e =
     let p = (faultless-bid k used b e) .price-high in
     let m : ltb 100000000 (b .price) ≡ false = le-ltb 100000000 (b .price) p in
@@ -79,8 +80,8 @@ short text l = rw (le-ltb 65536 (length text) l)
 
 begins : (T : Tender) (x : Option Line) (ls : List (Option Line)) → x ≡ some (tender T) → lawful (T .window) ≡ true →
     readLines (x ∷ ls) ≡ checked (T .kind) 2 [] ls (tables T (bidsOf ls))
-unfolding readLines
-begins T x ls e l = rw e (rw l)
+unfolding readLines lineJudged
+begins T x ls e l = rw e (rw (lawful-tender T l))
 
 -- the text with the price written q
 rewritten : (before n p q after f : List ℕ) (ps : List (List ℕ)) (v : ℕ) (T : Tender) (R : List Row) (W : List Window) → Word n

@@ -1,7 +1,7 @@
 -- What reading a bid text answers (paper 01, "The bid text" and "What each operation declines").
 use Prim.Native.Nat.{ℕ, _+_}
 use mathlib.Core.List.{List, [], _∷_, _++_}
-use mathlib.Core.Bool.{Bool, cond, not, _&&_, _||_}
+use mathlib.Core.Bool.{Bool, false, cond, not, _&&_, _||_}
 use mathlib.Core.Option.{Option, none, some}
 use lib.ListN.{length}
 use lib.Dec.{leb, ltb}
@@ -9,10 +9,10 @@ use Rattle.tender.specs.declared.Kind.{Kind}
 use Rattle.tender.specs.declared.Window.{Window}
 use Rattle.tender.specs.declared.Tender.{Tender}
 use Rattle.tender.specs.declared.Refusal.{Refusal}
-use Rattle.tender.specs.declared.Refusal.the-variants.{TextTooLong, BadForm, OutsideLimits, TooMany, BadWindow, BidderRepeated}
-use Rattle.tender.specs.declared.Refusal.the-variants.{SeveralWindows, TableTooShort}
+use Rattle.tender.specs.declared.Refusal.the-variants.{TextTooLong, BadForm, OutsideLimits, TooMany, EmptyWindow, BidderRepeated}
+use Rattle.tender.specs.declared.Refusal.the-variants.{SeveralWindows, TableTooShort, LateWindow}
 use Rattle.tender.specs.Refusals.{numberOf, placeOf}
-use Rattle.tender.specs.Limits.{within, maxPrice, maxBidder, maxBids, maxWindows, maxText, isSingle, lawful, allLawful}
+use Rattle.tender.specs.Limits.{within, maxPrice, maxBidder, maxBids, maxWindows, maxText, isSingle, ordered, early, every}
 use Rattle.tender.specs.Tables.{Row}
 use Rattle.reader_line.specs.Words.{cut, among}
 use Rattle.reader_line.specs.Line.{BidLine, Line, tender, bid, linesOf}
@@ -41,22 +41,37 @@ bidsOf (none ∷ ls) = bidsOf ls
 bidsOf (some (tender t) ∷ ls) = bidsOf ls
 bidsOf (some (bid b) ∷ ls) = b ∷ bidsOf ls
 
--- the first fault of a bid in the page's order, after so many bids: its numbers, how many windows it has, whether all are
--- lawful, and whether its bidder number was used before. The refusal wants the number of the line
-unfoldable pub bidFaultIn : Kind → ℕ → ℕ → ℕ → ℕ → Bool → Bool → Option (ℕ → Refusal)
-unfolding within isSingle
-bidFaultIn k bids bidder price count sound used =
-    cond (leb maxBids bids || ltb maxWindows count) (some TooMany)
-    (cond (not (within 1 maxBidder bidder) || ltb maxPrice price) (some OutsideLimits)
-    (cond (isSingle k && ltb 1 count) (some SeveralWindows)
-    (cond (not sound) (some BadWindow)
-    (cond used (some BidderRepeated) none))))
+-- the page's order: of the faults of a line, the first that stands there. The refusal wants the number of the line
+unfoldable pub lineFault : (many outside several empty late used : Bool) → Option (ℕ → Refusal)
+lineFault many outside several empty late used =
+    cond many (some TooMany)
+    (cond outside (some OutsideLimits)
+    (cond several (some SeveralWindows)
+    (cond empty (some EmptyWindow)
+    (cond late (some LateWindow)
+    (cond used (some BidderRepeated) none)))))
 
--- the fault of a bid after bids with the bidder numbers `used`
+unfoldable pub tenderFault : Tender → Option (ℕ → Refusal)
+unfolding lineFault
+tenderFault t = lineFault false false false (not (ordered (t .window))) (not (early (t .window))) false
+
+-- the fault of a bid after so many others: its numbers, how many windows it has, whether one of them is empty, whether one is late,
+-- and whether its bidder number was used before
+unfoldable pub bidFaultIn : Kind → ℕ → ℕ → ℕ → ℕ → Bool → Bool → Bool → Option (ℕ → Refusal)
+unfolding lineFault within isSingle
+bidFaultIn k bids bidder price count empty late used =
+    lineFault (leb maxBids bids || ltb maxWindows count) (not (within 1 maxBidder bidder) || ltb maxPrice price)
+    (isSingle k && ltb 1 count) empty late used
+
+unfoldable pub bidFaultAfter : Kind → ℕ → BidLine → Bool → Option (ℕ → Refusal)
+unfolding bidFaultIn every
+bidFaultAfter k bids b used = bidFaultIn k bids (b .bidder) (b .price) (length (b .windows)) (not (every ordered (b .windows)))
+    (not (every early (b .windows))) used
+
+-- after bids with the bidder numbers `used`
 unfoldable pub bidFault : Kind → List ℕ → BidLine → Option (ℕ → Refusal)
-unfolding bidFaultIn allLawful among
-bidFault k used b = bidFaultIn k (length used) (b .bidder) (b .price) (length (b .windows)) (allLawful (b .windows))
-    (among (b .bidder) used)
+unfolding bidFaultAfter among
+bidFault k used b = bidFaultAfter k (length used) b (among (b .bidder) used)
 
 unfoldable pub lineJudged : Option (ℕ → Refusal) → ℕ → ReadOutcome → ReadOutcome
 lineJudged none at out = out
@@ -76,11 +91,11 @@ unfolding rowsFrom allWindows
 tables t bs = accepted t (rowsFrom 0 bs) (allWindows bs)
 
 unfoldable pub readLines : List (Option Line) → ReadOutcome
-unfolding bidsOf lawful checked tables
+unfolding bidsOf tenderFault lineJudged checked tables
 readLines [] = declinedBy (BadForm 1)
 readLines (none ∷ ls) = declinedBy (BadForm 1)
 readLines (some (bid b) ∷ ls) = declinedBy (BadForm 1)
-readLines (some (tender t) ∷ ls) = cond (lawful (t .window)) (checked (t .kind) 2 [] ls (tables t (bidsOf ls))) (declinedBy (BadWindow 1))
+readLines (some (tender t) ∷ ls) = lineJudged (tenderFault t) 1 (checked (t .kind) 2 [] ls (tables t (bidsOf ls)))
 
 unfoldable pub readText : List ℕ → ReadOutcome
 unfolding cut linesOf readLines

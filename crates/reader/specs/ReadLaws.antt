@@ -15,10 +15,10 @@ use Rattle.tender.specs.Tables.{Row}
 use Rattle.reader_line.specs.Words.{cut}
 use Rattle.reader_line.specs.Line.{Line, tender, bid, linesOf}
 use Rattle.tender.specs.declared.Refusal.{Refusal}
-use Rattle.tender.specs.declared.Refusal.the-variants.{TextTooLong, BadWindow}
-use Rattle.reader.specs.Read.{ReadOutcome, accepted, refused, declinedBy, rowsFrom, allWindows, bidsOf, bidFault, lineJudged}
-use Rattle.reader.specs.Read.{checked, tables, readLines}
-use Rattle.reader.specs.Read.{readText}
+use Rattle.tender.specs.declared.Refusal.the-variants.{TextTooLong}
+use Rattle.reader.specs.Read.{ReadOutcome, accepted, refused, declinedBy, rowsFrom, allWindows, bidsOf, tenderFault, bidFault}
+use Rattle.reader.specs.Read.{lineJudged, checked, tables, readLines, readText}
+use Rattle.reader.specs.FaultLaws.{tender-lawful}
 
 pub never : {A : Type 0} {n at : ℕ} {t : Tender} {R : List Row} {W : List Window} → refused n at ≡ accepted t R W → A
 never e = let z : _≡_ {A = ℕ} 0 1 = cc in absurd (omega arith)
@@ -75,13 +75,8 @@ module _ (T : Tender) (R : List Row) (W : List Window) where
   unfolding readLines tables
   begun none ls e = never e
   begun (some (bid b)) ls e = never e
-  begun (some (tender t)) ls e = go (lawful (t .window)) refl e
-    where
-      go : (v : Bool) → lawful (t .window) ≡ v → cond v (checked (t .kind) 2 [] ls (tables t (bidsOf ls))) (declinedBy (BadWindow 1))
-          ≡ accepted T R W
-          → Begun (some (tender t)) ls
-      go false l x = never x
-      go true l x =
-          let o : tables t (bidsOf ls) ≡ accepted T R W = checked-out (t .kind) 2 [] ls (tables t (bidsOf ls)) x in
-          let same : t ≡ T = cc in
-          record { first = cc; window = rw same at l; sound = rw same at x; rows = cc; windows = cc }
+  begun (some (tender t)) ls e =
+      let j = judged-out (tenderFault t) 1 (checked (t .kind) 2 [] ls (tables t (bidsOf ls))) e in
+      let o : tables t (bidsOf ls) ≡ accepted T R W = checked-out (t .kind) 2 [] ls (tables t (bidsOf ls)) (j .1) in
+      let same : t ≡ T = cc in
+      record { first = cc; window = rw same at (tender-lawful t (j .0)); sound = rw same at (j .1); rows = cc; windows = cc }

@@ -14,16 +14,18 @@ use Rattle.tender.specs.declared.Kind.{Kind}
 use Rattle.tender.specs.declared.Kind.the-variants.{Single, Multi}
 use Rattle.tender.specs.declared.Window.{Window}
 use Rattle.tender.specs.declared.Tender.{Tender}
-use Rattle.tender.specs.Limits.{allLawful, isSingle, lawful, within}
+use Rattle.tender.specs.Limits.{allLawful, isSingle, lawful, within, ordered, early, every}
 use Rattle.tender.specs.Tables.{Row}
 use Rattle.reader_line.specs.Words.{andThen, cut, among, sameBytes, closed, numeralOf, priceOf}
 use Rattle.reader_line.specs.Line.{BidLine, Line, tender, bid, kindOf, spanOf, windowOf, windowsIn, tenderOf, bidOf, lineOfWords, lineOf}
 use Rattle.reader_line.specs.Line.{linesOf}
 use Rattle.reader_line.specs.LinePlainLaws.{both-true as and-split}
 use Rattle.tender.specs.declared.Refusal.{Refusal}
-use Rattle.tender.specs.declared.Refusal.the-variants.{OutsideLimits, TooMany, BadWindow, BidderRepeated, SeveralWindows}
-use Rattle.reader.specs.Read.{ReadOutcome, accepted, rowsFrom, allWindows, bidsOf, bidFaultIn, bidFault, checked, tables, readLines}
-use Rattle.reader.specs.Read.{readText}
+use Rattle.tender.specs.declared.Refusal.the-variants.{OutsideLimits, TooMany, EmptyWindow, BidderRepeated, SeveralWindows}
+use Rattle.tender.specs.declared.Refusal.the-variants.{LateWindow}
+use Rattle.reader.specs.Read.{ReadOutcome, accepted, rowsFrom, allWindows, bidsOf, lineFault, bidFaultIn, bidFaultAfter, bidFault}
+use Rattle.reader.specs.Read.{checked, tables, readLines, readText}
+use Rattle.reader.specs.FaultLaws.{every-lawful}
 use Rattle.reader_line.specs.CutLaws.{neither}
 use Rattle.reader.specs.ReadLaws.{never, read-lines, judged-out, begun}
 use Rattle.reader.specs.Rules.{WindowRules, RowsRules, WindowsRules, Rules}
@@ -117,25 +119,27 @@ cond-none : (t : Bool) (n : ℕ → Refusal) (x : Option (ℕ → Refusal)) → 
 cond-none true n x e = let z : _≡_ {A = ℕ} 0 1 = cc in absurd (omega arith)
 cond-none false n x e = (refl, e)
 
-pub record Passed (k : Kind) (bids bidder price count : ℕ) (sound used : Bool) : Type 0 where
+pub record Passed (k : Kind) (bids bidder price count : ℕ) (empty late used : Bool) : Type 0 where
   pub few-bids : bids < 1000
   pub few-windows : count ≤ 32
   pub bidder-low : 1 ≤ bidder
   pub bidder-high : bidder ≤ 999999
   pub price-high : price ≤ 100000000
   pub one-window : k ≡ Single → count ≤ 1
-  pub lawful-windows : sound ≡ true
+  pub not-empty : empty ≡ false
+  pub not-late : late ≡ false
   pub bidder-new : used ≡ false
 
-pub passed : (k : Kind) (bids bidder price count : ℕ) (sound used : Bool) → bidFaultIn k bids bidder price count sound used ≡ none
-    → Passed k bids bidder price count sound used
-unfolding bidFaultIn within
-passed k bids bidder price count sound used e =
+pub passed : (k : Kind) (bids bidder price count : ℕ) (empty late used : Bool) → bidFaultIn k bids bidder price count empty late used ≡ none
+    → Passed k bids bidder price count empty late used
+unfolding bidFaultIn lineFault within
+passed k bids bidder price count empty late used e =
     let c4 = cond-none (leb 1000 bids || ltb 32 count) TooMany _ e in
     let c3 = cond-none (not (within 1 999999 bidder) || ltb 100000000 price) OutsideLimits _ (c4 .1) in
     let c7 = cond-none (isSingle k && ltb 1 count) SeveralWindows _ (c3 .1) in
-    let c5 = cond-none (not sound) BadWindow _ (c7 .1) in
-    let c6 = cond-none used BidderRepeated _ (c5 .1) in
+    let c5 = cond-none empty EmptyWindow _ (c7 .1) in
+    let c15 = cond-none late LateWindow _ (c5 .1) in
+    let c6 = cond-none used BidderRepeated _ (c15 .1) in
     let f4 = neither (leb 1000 bids) (ltb 32 count) (c4 .0) in
     let f3 = neither (not (within 1 999999 bidder)) (ltb 100000000 price) (c3 .0) in
     let w = and-split (leb 1 bidder) (leb bidder 999999) (not-false (within 1 999999 bidder) (f3 .0)) in
@@ -146,7 +150,8 @@ passed k bids bidder price count sound used e =
       bidder-high = leb-true bidder 999999 (w .1);
       price-high = ltb-false 100000000 price (f3 .1);
       one-window = one k (c7 .0);
-      lawful-windows = not-false sound (c5 .0);
+      not-empty = c5 .0;
+      not-late = c15 .0;
       bidder-new = c6 .0;
     }
   where
@@ -154,14 +159,22 @@ passed k bids bidder price count sound used e =
     one Single h q = ltb-false 1 count h
     one Multi h q = let z : _≡_ {A = ℕ} 0 1 = cc in absurd (omega arith)
 
+abbrev pub FaultlessAfter : Kind → ℕ → BidLine → Bool → Type 0
+FaultlessAfter k bids b used = Passed k bids (b .bidder) (b .price) (length (b .windows)) (not (every ordered (b .windows)))
+    (not (every early (b .windows))) used
+
+pub faultless-after : (k : Kind) (bids : ℕ) (b : BidLine) (used : Bool) → bidFaultAfter k bids b used ≡ none
+    → FaultlessAfter k bids b used
+unfolding bidFaultAfter
+faultless-after k bids b used e = passed k bids (b .bidder) (b .price) (length (b .windows)) (not (every ordered (b .windows)))
+    (not (every early (b .windows))) used e
+
 abbrev pub FaultlessBid : Kind → List ℕ → BidLine → Type 0
-FaultlessBid k used b = Passed k (length used) (b .bidder) (b .price) (length (b .windows)) (allLawful (b .windows))
-    (among (b .bidder) used)
+FaultlessBid k used b = FaultlessAfter k (length used) b (among (b .bidder) used)
 
 pub faultless-bid : (k : Kind) (used : List ℕ) (b : BidLine) → bidFault k used b ≡ none → FaultlessBid k used b
 unfolding bidFault
-faultless-bid k used b e = passed k (length used) (b .bidder) (b .price) (length (b .windows)) (allLawful (b .windows))
-    (among (b .bidder) used) e
+faultless-bid k used b e = faultless-after k (length used) b (among (b .bidder) used) e
 
 lawful-rules : (w : Window) → lawful w ≡ true → WindowRules w
 unfolding lawful
@@ -206,7 +219,7 @@ more k used at b bs l h s =
         },
         rw e (s .rows),
       );
-      windows = windows-rules (b .windows) (allWindows bs) (h .lawful-windows) (s .windows);
+      windows = windows-rules (b .windows) (allWindows bs) (every-lawful (b .windows) (not-false _ (h .not-empty)) (not-false _ (h .not-late))) (s .windows);
     }
 
 pub rowsFrom-length : (at : ℕ) (bs : List BidLine) → length (rowsFrom at bs) ≡ length bs

@@ -9,14 +9,14 @@ use lib.Dec.{eqb}
 use Rattle.tender.specs.declared.Kind.{Kind}
 use Rattle.tender.specs.declared.Refusal.{Refusal}
 use Rattle.tender.specs.declared.Tender.{Tender}
-use Rattle.tender.specs.Limits.{lawful, allLawful}
+use Rattle.tender.specs.Limits.{lawful}
 use Rattle.tender.specs.Refusals.{numberOf, placeOf}
 use Rattle.tender.specs.Tables.{Row, flatRows, flatWindows, bidWidth, windowWidth}
 use Rattle.cells.specs.Cells as cells
 use Rattle.reader_line.specs.Words.{cut}
 use Rattle.reader_line.specs.Line.{BidLine, Line, tender, bid, linesOf}
 use Rattle.reader_line.specs.Scan.{putWindows}
-use Rattle.reader.specs.Read.{ReadOutcome, refused, rowsFrom, allWindows, bidsOf, bidFaultIn, checked, readLines}
+use Rattle.reader.specs.Read.{ReadOutcome, refused, rowsFrom, allWindows, bidsOf, bidFaultAfter, checked, readLines}
 use Rattle.reader.specs.declared.First.{First}
 use Rattle.reader.specs.declared.First.the-variants as first
 use Rattle.reader.specs.declared.bids.Verdict.{Verdict}
@@ -71,8 +71,7 @@ abbrev pub Taken : Option Line → Kind → ℕ → ℕ → (used rows windows :
 Taken none kind k m used rows windows r used′ rows′ windows′ = StepDeclines r 2 (k + 2)
 Taken (some (tender t)) kind k m used rows windows r used′ rows′ windows′ = StepDeclines r 2 (k + 2)
 Taken (some (bid b)) kind k m used rows windows r used′ rows′ windows′ =
-    Judged (bidFaultIn kind k (b .bidder) (b .price) (length (b .windows)) (allLawful (b .windows)) (eqb (cells.cell used (b .bidder)) 1)) b
-    k m used rows windows r used′ rows′ windows′
+    Judged (bidFaultAfter kind k b (eqb (cells.cell used (b .bidder)) 1)) b k m used rows windows r used′ rows′ windows′
 
 -- the tables hold the bids of these lines, none of which is faulty
 pub record TablesHold (kind : Kind) (ls : List (Option Line)) (k m : ℕ) (rows windows : List ℕ) : Type 0 where

@@ -1,8 +1,7 @@
 -- What comes of a line, from what is noted of it. Assumes nothing.
 use Prim.Native.Nat.{ℕ, _+_, _*_}
-use mathlib.Core.Path.{_≡_, refl, ap, _∙_}
+use mathlib.Core.Path.{_≡_, refl, sym, ap, _∙_}
 use mathlib.Core.List.{List, _++_}
-use mathlib.Core.Bool.{Bool, true}
 use mathlib.Core.Option.{Option, none, some}
 use native.Mathlib.Omega.{arith}
 use native.Mathlib.Nat.{add-zero, zero-add}
@@ -10,14 +9,17 @@ use lib.ListN.{length, take, drop}
 use lib.Dec.{eqb}
 use Rattle.tender.specs.declared.Kind.{Kind}
 use Rattle.tender.specs.declared.Tender.{Tender}
-use Rattle.tender.specs.Limits.{allLawful}
 use Rattle.cells.specs.Cells.{cell, RangeAdded}
 use Rattle.reader_line.specs.Line.{BidLine, Line, tender, bid}
+use Rattle.reader_line.specs.declared.line.Flaw.{Flaw}
+use Rattle.reader_line.specs.declared.line.Flaw.the-variants.{Sound}
+use Rattle.reader_line.specs.Flaws.{flawOf, isEmpty, isLate}
 use Rattle.reader_line.specs.Scan.{putWindows, Tally, tally, tenderNote, bidNote, noted}
 use Rattle.tender.specs.declared.Refusal.{Refusal}
 use Rattle.tender.specs.Refusals.{numberOf, placeOf}
 use Rattle.tender.specs.Tables.{bidWidth}
-use Rattle.reader.specs.Read.{bidFaultIn}
+use Rattle.reader.specs.Read.{bidFaultIn, bidFaultAfter}
+use Rattle.reader.specs.FaultLaws.{flaw-told}
 use Rattle.reader.specs.Steps.{rowNumbers, Fault, faultAt, faultOfRefusal, StepDeclines, Taken}
 use Rattle.reader.specs.declared.bids.Step.{Step}
 use Rattle.reader.specs.declared.bids.Step.the-variants as step
@@ -36,23 +38,23 @@ is-fault line none x e = let z : _≡_ {A = ℕ} 0 1 = cc in absurd (omega arith
 is-fault line (some f) x e = record { f = f; number = refl; fault = cc }
 
 -- a bid that was noted
-record Noted (n p c : ℕ) (ok : Bool) (m : ℕ) (old new : List ℕ) (b : BidLine) : Type 0 where
+record Noted (n p c : ℕ) (flaw : Flaw) (m : ℕ) (old new : List ℕ) (b : BidLine) : Type 0 where
   bidder-is : n ≡ b .bidder
   price-is : p ≡ b .price
   count-is : c ≡ length (b .windows)
-  sound-is : ok ≡ allLawful (b .windows)
+  flaw-is : flaw ≡ flawOf (b .windows)
   windows-are : new ≡ putWindows old m (b .windows)
 
-noted-bid : (n p c : ℕ) (ok : Bool) (m : ℕ) (old new : List ℕ) (b : BidLine)
-    → some (bidNote n p (record { count = c; sound = ok; table = new })) ≡ noted m old (some (bid b)) → Noted n p c ok m old new b
+noted-bid : (n p c : ℕ) (flaw : Flaw) (m : ℕ) (old new : List ℕ) (b : BidLine)
+    → some (bidNote n p (record { count = c; flaw = flaw; table = new })) ≡ noted m old (some (bid b)) → Noted n p c flaw m old new b
 unfolding noted tally
-noted-bid n p c ok m old new b e =
-    let t : _≡_ {A = Tally} (record { count = c; sound = ok; table = new }) (tally m 0 true old (b .windows)) = cc in
+noted-bid n p c flaw m old new b e =
+    let t : _≡_ {A = Tally} (record { count = c; flaw = flaw; table = new }) (tally m 0 Sound old (b .windows)) = cc in
     record {
       bidder-is = cc;
       price-is = cc;
       count-is = ap (λ (x : Tally). x .count) t ∙ zero-add (length (b .windows));
-      sound-is = ap (λ (x : Tally). x .sound) t;
+      flaw-is = ap (λ (x : Tally). x .flaw) t;
       windows-are = ap (λ (x : Tally). x .table) t ∙ ap (λ i. putWindows old i (b .windows)) (add-zero m);
     }
 
@@ -71,21 +73,27 @@ module _ (kind : Kind) (k m : ℕ) (used rows windows : List ℕ) (r : Step) (us
   taken-tender (some (tender u)) t e h = h
   taken-tender (some (bid b)) t e h = let z : _≡_ {A = ℕ} 0 1 = cc in absurd (omega arith)
 
-  module _ (n p c : ℕ) (ok : Bool) where
-    pub taken-fault : (o : Option Line) → some (bidNote n p (record { count = c; sound = ok; table = windows′ })) ≡ noted m windows o
-        → (f : ℕ → Refusal) → bidFaultIn kind k n p c ok (eqb (cell used n) 1) ≡ some f →
+  module _ (n p c : ℕ) (flaw : Flaw) where
+    -- judged by what is noted
+    noted-fault : (b : BidLine) → Noted n p c flaw m windows windows′ b →
+        bidFaultIn kind k n p c (isEmpty flaw) (isLate flaw) (eqb (cell used n) 1) ≡ bidFaultAfter kind k b (eqb (cell used (b .bidder)) 1)
+    unfolding bidFaultAfter
+    noted-fault b x = rw (x .bidder-is, x .price-is, x .count-is, x .flaw-is)
+        (flaw-told kind k (b .bidder) (b .price) (length (b .windows)) (b .windows) (eqb (cell used (b .bidder)) 1))
+
+    pub taken-fault : (o : Option Line) → some (bidNote n p (record { count = c; flaw = flaw; table = windows′ })) ≡ noted m windows o
+        → (f : ℕ → Refusal) → bidFaultIn kind k n p c (isEmpty flaw) (isLate flaw) (eqb (cell used n) 1) ≡ some f →
         StepDeclines r (numberOf (f (k + 2))) (placeOf (f (k + 2))) → Taken o kind k m used rows windows r used′ rows′ windows′
     unfolding noted
     taken-fault none e f g h = let z : _≡_ {A = ℕ} 0 1 = cc in absurd (omega arith)
     taken-fault (some (tender u)) e f g h = let z : _≡_ {A = ℕ} 0 1 = cc in absurd (omega arith)
     taken-fault (some (bid b)) e f g h =
-        let x = noted-bid n p c ok m windows windows′ b e in
-        let y : bidFaultIn kind k (b .bidder) (b .price) (length (b .windows)) (allLawful (b .windows)) (eqb (cell used (b .bidder)) 1)
-        ≡ some f = rw (x .bidder-is, x .price-is, x .count-is, x .sound-is) at g in
+        let x = noted-bid n p c flaw m windows windows′ b e in
+        let y : bidFaultAfter kind k b (eqb (cell used (b .bidder)) 1) ≡ some f = sym (noted-fault b x) ∙ g in
         rw y h
 
-    pub taken-sound : (o : Option Line) → some (bidNote n p (record { count = c; sound = ok; table = windows′ })) ≡ noted m windows o
-        → bidFaultIn kind k n p c ok (eqb (cell used n) 1) ≡ none →
+    pub taken-sound : (o : Option Line) → some (bidNote n p (record { count = c; flaw = flaw; table = windows′ })) ≡ noted m windows o
+        → bidFaultIn kind k n p c (isEmpty flaw) (isLate flaw) (eqb (cell used n) 1) ≡ none →
         r ≡ step.Bid c → rows′ ≡ take (bidWidth * k) rows ++ rowNumbers (record { bidder = n; price = p; first = m; count = c })
         ++ drop (bidWidth * k + bidWidth) rows → RangeAdded n (n + 1) used used′ →
         Taken o kind k m used rows windows r used′ rows′ windows′
@@ -93,9 +101,8 @@ module _ (kind : Kind) (k m : ℕ) (used rows windows : List ℕ) (r : Step) (us
     taken-sound none e g q s t = let z : _≡_ {A = ℕ} 0 1 = cc in absurd (omega arith)
     taken-sound (some (tender u)) e g q s t = let z : _≡_ {A = ℕ} 0 1 = cc in absurd (omega arith)
     taken-sound (some (bid b)) e g q s t =
-        let x = noted-bid n p c ok m windows windows′ b e in
-        let y : bidFaultIn kind k (b .bidder) (b .price) (length (b .windows)) (allLawful (b .windows)) (eqb (cell used (b .bidder)) 1)
-        ≡ none = rw (x .bidder-is, x .price-is, x .count-is, x .sound-is) at g in
+        let x = noted-bid n p c flaw m windows windows′ b e in
+        let y : bidFaultAfter kind k b (eqb (cell used (b .bidder)) 1) ≡ none = sym (noted-fault b x) ∙ g in
         rw y (record {
           answer = q ∙ ap step.Bid (x .count-is);
           row = rw (x .bidder-is, x .price-is, x .count-is) at s;

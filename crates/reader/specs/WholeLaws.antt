@@ -2,7 +2,6 @@
 use Prim.Native.Nat.{ℕ, _*_, _/_, _≤_, _<_}
 use mathlib.Core.Path.{_≡_, refl, _∙_}
 use mathlib.Core.List.{List, [], _∷_, _++_}
-use mathlib.Core.Bool.{false}
 use mathlib.Core.Option.{Option, none, some}
 use native.Mathlib.Omega.{arith}
 use lib.ListN.{length, take, drop}
@@ -11,15 +10,15 @@ use Rattle.tender.specs.declared.Kind.{Kind}
 use Rattle.tender.specs.declared.Window.{Window}
 use Rattle.tender.specs.declared.Tender.{Tender}
 use Rattle.tender.specs.declared.Refusal.{Refusal}
-use Rattle.tender.specs.Limits.{lawful}
 use Rattle.tender.specs.Refusals.{numberOf, placeOf}
 use Rattle.tender.specs.Tables.{Row, flatRows, flatWindows, bidWidth, windowWidth}
 use Rattle.reader_line.specs.Words.{cut}
 use Rattle.reader_line.specs.Line.{Line, tender, bid, linesOf}
 use Rattle.reader_line.specs.Scan.{Tally, tenderNote, bidNote, noted}
 use Rattle.reader_line.specs.Answer.{FirstBroken}
-use Rattle.reader.specs.Read.{ReadOutcome, accepted, refused, rowsFrom, allWindows, bidsOf, checked, tables, readLines, readText}
-use Rattle.reader.specs.Read.{fitted, readInto}
+use Rattle.reader.specs.Read.{ReadOutcome, accepted, refused, declinedBy, rowsFrom, allWindows, bidsOf, tenderFault, lineJudged}
+use Rattle.reader.specs.Read.{checked, tables, readLines, readText, fitted, readInto}
+use Rattle.reader.specs.FaultLaws.{lawful-tender}
 use Rattle.reader.specs.RulesLaws.{rowsFrom-length}
 use Rattle.reader.specs.Answer.{filled, declined, summary, bidsAfter, windowsAfter}
 use Rattle.reader.specs.Steps.{Begins, Opened, TablesHold, LinesFilled}
@@ -61,9 +60,9 @@ module _ (ls rest : List (Option Line)) (o : Option Line) (q : ls ≡ o ∷ rest
       go (some (tender u)) h = let z : _≡_ {A = ℕ} 0 1 = cc in absurd (omega arith)
       go (some (bid b)) h = let z : _≡_ {A = ℕ} 0 1 = cc in absurd (omega arith)
 
-  pub first-unlawful : (t : Tender) → o ≡ some (tender t) → lawful (t .window) ≡ false → readLines ls ≡ refused 5 1
-  unfolding readLines
-  first-unlawful t e l = rw (q, e) (rw l)
+  pub first-faulty : (t : Tender) → o ≡ some (tender t) → (f : ℕ → Refusal) → tenderFault t ≡ some f → readLines ls ≡ declinedBy (f 1)
+  unfolding readLines lineJudged
+  first-faulty t e f l = rw (q, e) (rw l)
 
 pub first-odd : (ls : List (Option Line)) → FirstBroken ls → readLines ls ≡ refused 2 1
 unfolding readLines
@@ -121,8 +120,8 @@ module _ (text bids windows : List ℕ) where
     module _ (t : Tender) (at : ℕ) (g : Begins text t at) where
       begun : readLines (linesOf (cut 10 text)) ≡ checked (t .kind) 2 [] (linesOf (cut 10 (drop at text)))
           (tables t (bidsOf (linesOf (cut 10 (drop at text)))))
-      unfolding readLines
-      begun = rw (g .lines) (rw (g .window))
+      unfolding readLines lineJudged
+      begun = rw (g .lines) (rw (lawful-tender t (g .window)))
 
       pub bids-refused : (n p : ℕ) → ((out : ReadOutcome) → checked (t .kind) 2 [] (linesOf (cut 10 (drop at text))) out
           ≡ refused n p)

@@ -8,9 +8,11 @@ ghost use Rattle.tender.specs.Limits.{within, maxPrice, maxBidder, maxBids, max
 ghost use Rattle.cells.specs.Cells.{cell};
 ghost use Rattle.reader_line.specs.Words.{cut};
 ghost use Rattle.reader_line.specs.Line.{lineOf, linesOf};
+ghost use Rattle.reader_line.specs.Flaws.{isEmpty, isLate};
 ghost use Rattle.reader.specs.Read.{bidFaultIn};
 ghost use Rattle.reader.specs.Steps.{faultAt, verdictOf, Taken, LinesFilled};
 use crate::rows::put_row;
+use reader_line::line::Flaw;
 use reader_line::line::Line;
 use reader_line::line::read_line;
 use reader_line::words::LineEnd;
@@ -57,7 +59,7 @@ pub(crate) enum Verdict {
     Faulty(Refusal),
 }
 
-// The first fault of the bid on this line, after so many bids: 4, 3, 7, 5, 6. A used bidder number is a set bit of `used`.
+// The first fault of the bid on this line, after so many bids: 4, 3, 7, 5, 15, 6. A used bidder number is a set bit of `used`.
 fn judge(
     kind: Kind,
     line: u64,
@@ -66,10 +68,10 @@ fn judge(
     bidder: u64,
     price: u64,
     windows: usize,
-    ok: bool,
+    flaw: Flaw,
 ) -> Verdict
     requires { ⌜ length (now used) ≡ 15625 ⌝ }
-    ensures { λ r. ⌜ verdictOf r ≡ faultAt line (bidFaultIn kind bids bidder price windows ok
+    ensures { λ r. ⌜ verdictOf r ≡ faultAt line (bidFaultIn kind bids bidder price windows (isEmpty flaw) (isLate flaw)
         (eqb (cell (now (used .entry)) bidder) 1)) ⌝ }
 {
     if too_many(bids, windows) {
@@ -81,8 +83,14 @@ fn judge(
     if several(kind, windows) {
         return Verdict::Faulty(Refusal::SeveralWindows { line });
     }
-    if !ok {
-        return Verdict::Faulty(Refusal::BadWindow { line });
+    match flaw {
+        Flaw::Empty => {
+            return Verdict::Faulty(Refusal::EmptyWindow { line });
+        }
+        Flaw::Late => {
+            return Verdict::Faulty(Refusal::LateWindow { line });
+        }
+        Flaw::Sound => {}
     }
     if cells::holds(used, bidder as usize) {
         return Verdict::Faulty(Refusal::BidderRepeated { line });
@@ -111,7 +119,7 @@ fn take_line(
 {
     let place = k as u64 + 2;
     match read_line(line, windows, m) {
-        Line::Bid(bidder, price, count, ok) => match judge(
+        Line::Bid(bidder, price, count, flaw) => match judge(
             kind,
             place,
             k,
@@ -119,7 +127,7 @@ fn take_line(
             bidder,
             price,
             count,
-            ok,
+            flaw,
         ) {
             Verdict::Sound => {
                 put_row(rows, k, bidder, price, m as u64, count as u64);

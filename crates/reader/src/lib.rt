@@ -13,8 +13,9 @@ mod rows;
 
 use bids::Bids;
 use bids::read_bids;
+use reader_line::line::Flaw;
 use reader_line::line::Line;
-use reader_line::line::keeps;
+use reader_line::line::flaw_in;
 use reader_line::line::read_line;
 use reader_line::words::LineEnd;
 use reader_line::words::line_end;
@@ -45,10 +46,10 @@ fn read_first(text: &[u8], windows: &mut [u64]) -> First
         LineEnd::At(e) => match read_line(&text[0..e], windows, 0) {
             Line::Tender(t) => {
                 let w = t.window;
-                if keeps(true, w.start, w.end) {
-                    First::Tender(t, e + 1)
-                } else {
-                    First::Refused(Refusal::BadWindow { line: 1 })
+                match flaw_in(w.start, w.end) {
+                    Flaw::Empty => First::Refused(Refusal::EmptyWindow { line: 1 }),
+                    Flaw::Late => First::Refused(Refusal::LateWindow { line: 1 }),
+                    Flaw::Sound => First::Tender(t, e + 1),
                 }
             }
             Line::Bid(_, _, _, _) => First::Refused(Refusal::BadForm { line: 1 }),

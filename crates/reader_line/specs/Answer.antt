@@ -54,9 +54,9 @@ asKind (some k) = kindWord.Of k
 
 abbrev pub toldTally : Tally → List ℕ → Option scan.Tally
 toldTally tally.Broken table = none
-toldTally (tally.Windows n ok) table = some (record { count = n; sound = ok; table = table })
+toldTally (tally.Windows n flaw) table = some (record { count = n; flaw = flaw; table = table })
 
 abbrev pub toldLine : line.Line → List ℕ → Option Note
 toldLine lineIs.Broken table = none
 toldLine (lineIs.Tender t) table = some (tenderNote t)
-toldLine (lineIs.Bid n p c ok) table = some (bidNote n p (record { count = c; sound = ok; table = table }))
+toldLine (lineIs.Bid n p c flaw) table = some (bidNote n p (record { count = c; flaw = flaw; table = table }))

@@ -4,6 +4,8 @@ pub mod CutLaws
 pub mod LinePlain
 pub mod LinePlainLaws
 pub mod SizeLaws
+pub mod Flaws
+pub mod FlawLaws
 pub mod Scan
 pub mod ScanLaws
 pub mod TallyLaws

@@ -19,6 +19,7 @@ use Rattle.reader_line.specs.CutLaws.{cut-some}
 use Rattle.reader_line.specs.Scan.{toNext, part, Tally, tenderNote, bidNote, tallied, noted}
 use Rattle.reader_line.specs.ScanLaws.{cut-at, cut-at-end}
 use Rattle.reader_line.specs.Answer.{asKind}
+use Rattle.reader_line.specs.declared.line.Flaw.the-variants.{Sound}
 use Rattle.reader_line.specs.declared.line.KindWord.the-variants as kindWord
 use Rattle.reader_line.specs.SpansLaws.{closed-last, closed-other}
 
@@ -148,22 +149,22 @@ module _ (line : List ℕ) (at n p : ℕ) (l : at ≤ length line) (q : at + toN
         bid-unpriced g = rw words (rw (gi, g))
 
         module _ (v : ℕ) (gv : priceOf (part line (n + 1) p) ≡ some v) (m : ℕ) (table : List ℕ) where
-          pub bid-unwindowed : tallied m 0 true table (windowsIn (cut 32 (drop (p + 1) line))) ≡ none
+          pub bid-unwindowed : tallied m 0 Sound table (windowsIn (cut 32 (drop (p + 1) line))) ≡ none
               → none ≡ noted m table (bidOf (cut 32 (drop at line)))
           unfolding bidOf andThen noted tallied
           bid-unwindowed g = rw words (rw (gi, gv) (go (windowsIn (cut 32 (drop (p + 1) line))) g))
             where
-              go : (o : Option (List Window)) → tallied m 0 true table o ≡ none
+              go : (o : Option (List Window)) → tallied m 0 Sound table o ≡ none
                   → none ≡ noted m table (andThen o (λ ws. some (bid (record { bidder = i; price = v; windows = ws }))))
               go none e = refl
               go (some ws) e = let z : _≡_ {A = ℕ} 0 1 = cc in absurd (omega arith)
 
-          pub bid-whole : (t : Tally) → some t ≡ tallied m 0 true table (windowsIn (cut 32 (drop (p + 1) line)))
+          pub bid-whole : (t : Tally) → some t ≡ tallied m 0 Sound table (windowsIn (cut 32 (drop (p + 1) line)))
               → some (bidNote i v t) ≡ noted m table (bidOf (cut 32 (drop at line)))
           unfolding bidOf andThen noted tallied
           bid-whole t g = rw words (rw (gi, gv) (go (windowsIn (cut 32 (drop (p + 1) line))) g))
             where
-              go : (o : Option (List Window)) → some t ≡ tallied m 0 true table o
+              go : (o : Option (List Window)) → some t ≡ tallied m 0 Sound table o
                   → some (bidNote i v t) ≡ noted m table (andThen o
                   (λ ws. some (bid (record { bidder = i; price = v; windows = ws }))))
               go none e = let z : _≡_ {A = ℕ} 0 1 = cc in absurd (omega arith)

@@ -1,16 +1,18 @@
--- What a reader that walks the bytes of a line holds: places, and of a bid's windows their number, whether all are lawful,
--- and the table with each of them in its row.
+-- What a reader that walks the bytes of a line holds: places, and of a bid's windows their number, what is wrong with them, and the
+-- table with each of them in its row.
 use Prim.Native.Nat.{ℕ, suc, _+_, _-_, _*_, _/_}
 use mathlib.Core.List.{List, [], _∷_}
-use mathlib.Core.Bool.{Bool, true, cond, _&&_}
+use mathlib.Core.Bool.{cond}
 use mathlib.Core.Option.{Option, none, some}
 use lib.ListN.{length, take, drop, set}
 use lib.Dec.{ltb, eqb}
 use Rattle.tender.specs.declared.Window.{Window}
 use Rattle.tender.specs.declared.Tender.{Tender}
-use Rattle.tender.specs.Limits.{allLawful}
 use Rattle.tender.specs.Tables.{windowWidth}
 use Rattle.reader_line.specs.Line.{Line, tender, bid}
+use Rattle.reader_line.specs.Flaws.{flawOf, worst}
+use Rattle.reader_line.specs.declared.line.Flaw.{Flaw}
+use Rattle.reader_line.specs.declared.line.Flaw.the-variants.{Sound}
 
 -- how many bytes stand before the first d
 unfoldable pub toNext : ℕ → List ℕ → ℕ
@@ -34,19 +36,19 @@ putWindows table m (w ∷ ws) = putWindows (putWindow table m w) (m + 1) ws
 
 pub record Tally : Type 0 where
   pub count : ℕ
-  pub sound : Bool
+  pub flaw : Flaw
   pub table : List ℕ
 
--- the windows ws after n others, all lawful or not, whose rows begin at m
-unfoldable pub tally : ℕ → ℕ → Bool → List ℕ → List Window → Tally
-unfolding allLawful putWindows
-tally m n ok table ws = record { count = n + length ws; sound = ok && allLawful ws; table = putWindows table (m + n) ws }
+-- the windows ws after n others with this flaw, whose rows begin at m
+unfoldable pub tally : ℕ → ℕ → Flaw → List ℕ → List Window → Tally
+unfolding flawOf worst putWindows
+tally m n flaw table ws = record { count = n + length ws; flaw = worst flaw (flawOf ws); table = putWindows table (m + n) ws }
 
 -- none where the form is broken
-unfoldable pub tallied : ℕ → ℕ → Bool → List ℕ → Option (List Window) → Option Tally
+unfoldable pub tallied : ℕ → ℕ → Flaw → List ℕ → Option (List Window) → Option Tally
 unfolding tally
-tallied m n ok table none = none
-tallied m n ok table (some ws) = some (tally m n ok table ws)
+tallied m n flaw table none = none
+tallied m n flaw table (some ws) = some (tally m n flaw table ws)
 
 -- a line as it is noted: a bid's windows are in the table, from row m on
 pub data Note : Type 0 where
@@ -57,4 +59,4 @@ unfoldable pub noted : ℕ → List ℕ → Option Line → Option Note
 unfolding tally
 noted m table none = none
 noted m table (some (tender t)) = some (tenderNote t)
-noted m table (some (bid b)) = some (bidNote (b .bidder) (b .price) (tally m 0 true table (b .windows)))
+noted m table (some (bid b)) = some (bidNote (b .bidder) (b .price) (tally m 0 Sound table (b .windows)))

@@ -2,7 +2,6 @@
 use Prim.Native.Nat.{ℕ, _+_, _-_, _≤_, _<_}
 use mathlib.Core.Path.{_≡_, refl, ap, _∙_}
 use mathlib.Core.List.{List, [], _∷_}
-use mathlib.Core.Bool.{Bool}
 use mathlib.Core.Option.{Option, none, some}
 use native.Mathlib.Omega.{arith}
 use lib.ListN.{length, take, drop, drop-of-length-le, length-drop}
@@ -11,13 +10,14 @@ use Rattle.tender.specs.declared.Window.{Window}
 use Rattle.reader_line.specs.Line.{windowOf, windowsIn}
 use Rattle.reader_line.specs.ScanLaws.{cut-at, cut-at-end}
 use Rattle.reader_line.specs.Scan.{toNext, tallied}
+use Rattle.reader_line.specs.declared.line.Flaw.{Flaw}
 use Rattle.reader_line.specs.declared.line.Span.the-variants.{Of, Wrong}
 use Rattle.reader_line.specs.Answer.{asSpan, lastOf}
 
-pub tally-end : (line : List ℕ) (i m n : ℕ) (ok : Bool) (table : List ℕ) → length line ≤ i
-    → tallied m n ok table (windowsIn (cut 32 (drop i line))) ≡ none
+pub tally-end : (line : List ℕ) (i m n : ℕ) (flaw : Flaw) (table : List ℕ) → length line ≤ i
+    → tallied m n flaw table (windowsIn (cut 32 (drop i line))) ≡ none
 unfolding tallied windowsIn cut
-tally-end line i m n ok table h = rw (drop-of-length-le line h)
+tally-end line i m n flaw table h = rw (drop-of-length-le line h)
 
 pub rest-part : (line : List ℕ) (k f : ℕ) → f ≡ length line → take (f - k) (drop k line) ≡ drop k line
 rest-part line k f e = go (drop k line) (f - k) (rw (length-drop k line, e))
@@ -34,15 +34,15 @@ pub is-wrong : (o : Option Window) → asSpan o ≡ Wrong → o ≡ none
 is-wrong none e = refl
 is-wrong (some w) e = let q : _≡_ {A = ℕ} 0 1 = cc in absurd (omega arith)
 
-pub tally-last-wrong : (line : List ℕ) (i e f m n : ℕ) (ok : Bool) (table : List ℕ) → i + toNext 32 (drop i line) ≡ e
+pub tally-last-wrong : (line : List ℕ) (i e f m n : ℕ) (flaw : Flaw) (table : List ℕ) → i + toNext 32 (drop i line) ≡ e
     → e < length line
     → e + 1 + toNext 32 (drop (e + 1) line) ≡ f → f ≡ length line →
-    lastOf (take (e - i) (drop i line)) (drop (e + 1) line) ≡ none → tallied m n ok table (windowsIn (cut 32 (drop i line))) ≡ none
+    lastOf (take (e - i) (drop i line)) (drop (e + 1) line) ≡ none → tallied m n flaw table (windowsIn (cut 32 (drop i line))) ≡ none
 unfolding tallied windowsIn andThen lastOf
-tally-last-wrong line i e f m n ok table q h p k g =
+tally-last-wrong line i e f m n flaw table q h p k g =
     rw (cut-at 32 line i e q h, cut-at-end 32 line (e + 1) (omega arith) (p ∙ k)) (go (closed (drop (e + 1) line)) g)
   where
     go : (o : Option (List ℕ)) → andThen o (λ z. windowOf (take (e - i) (drop i line)) z) ≡ none →
-        tallied m n ok table (andThen o (λ z. andThen (windowOf (take (e - i) (drop i line)) z) (λ v. some (v ∷ [])))) ≡ none
+        tallied m n flaw table (andThen o (λ z. andThen (windowOf (take (e - i) (drop i line)) z) (λ v. some (v ∷ [])))) ≡ none
     go none x = refl
     go (some z) x = rw x

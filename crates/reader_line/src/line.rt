@@ -1,14 +1,14 @@
 // One line of a bid text, read into a value before it is judged.
 ghost use mathlib.Core.Path.{_≡_};
-ghost use mathlib.Core.Bool.{true, _&&_};
 ghost use mathlib.Core.List.{List};
 ghost use Prim.Native.Nat.{ℕ, _*_, _≤_};
 ghost use lib.ListN.{take, drop, length};
-ghost use Rattle.tender.specs.Limits.{lawful};
 ghost use Rattle.tender.specs.Tables.{windowWidth};
 ghost use Rattle.reader_line.specs.Words.{cut};
 ghost use Rattle.reader_line.specs.Line.{kindOf, spanOf, windowOf, windowsIn, tenderOf, bidOf, lineOf};
+ghost use Rattle.reader_line.specs.Flaws.{flawIn, worst};
 ghost use Rattle.reader_line.specs.Scan.{putWindow, tallied, noted};
+ghost use Rattle.reader_line.specs.declared.line.Flaw.the-variants.{Sound};
 ghost use Rattle.reader_line.specs.Answer.{asKind, asSpan, lastOf, toldTally, toldLine};
 use crate::words::Number;
 use crate::words::next;
@@ -72,14 +72,34 @@ fn read_last(s: &[u8], e: &[u8]) -> Span
     read_window(s, &e[0..m - 1])
 }
 
-// Whether all windows are lawful, with one more.
-pub fn keeps(ok: bool, a: u64, z: u64) -> bool
-    ensures { λ r. ⌜ r ≡ (ok && lawful (record { start = a; end = z })) ⌝ }
+// What is wrong with windows: some start is not below its end; or else some end is past the week; or nothing.
+pub enum Flaw {
+    Empty,
+    Late,
+    Sound,
+}
+
+// What is wrong with the window from a to z.
+pub fn flaw_in(a: u64, z: u64) -> Flaw
+    ensures { λ r. ⌜ r ≡ flawIn (record { start = a; end = z }) ⌝ }
 {
-    if ok {
-        if a < z { z <= tender::WEEK } else { false }
+    if a < z {
+        if z <= tender::WEEK { Flaw::Sound } else { Flaw::Late }
     } else {
-        false
+        Flaw::Empty
+    }
+}
+
+// What is wrong with windows, with one more.
+fn worse(flaw: Flaw, a: u64, z: u64) -> Flaw
+    ensures { λ r. ⌜ r ≡ worst flaw (flawIn (record { start = a; end = z })) ⌝ }
+{
+    match flaw {
+        Flaw::Empty => Flaw::Empty,
+        Flaw::Late => {
+            if z <= a { Flaw::Empty } else { Flaw::Late }
+        }
+        Flaw::Sound => flaw_in(a, z),
     }
 }
 
@@ -95,20 +115,20 @@ fn put_window(windows: &mut [u64], m: usize, a: u64, z: u64)
 }
 
 pub(crate) enum Tally {
-    Windows(usize, bool),
+    Windows(usize, Flaw),
     Broken,
 }
 
-// The windows from `at` to the line's end: how many, and whether all are lawful. They are put into the rows from m on; the rows
+// The windows from `at` to the line's end: how many, and what is wrong with them. They are put into the rows from m on; the rows
 // before m stay, whatever the line is.
 fn read_windows(line: &[u8], at: usize, windows: &mut [u64], m: usize) -> Tally
     requires { ⌜ m ≤ 32000 ⌝ }
     ensures answer { λ r. ⌜ toldTally r (now (windows .exit))
-        ≡ tallied m 0 true (now (windows .entry)) (windowsIn (cut 32 (drop at (now (line .entry))))) ⌝ }
+        ≡ tallied m 0 Sound (now (windows .entry)) (windowsIn (cut 32 (drop at (now (line .entry))))) ⌝ }
     ensures rows { λ r. ⌜ take (windowWidth * m) (now (windows .exit)) ≡ take (windowWidth * m) (now (windows .entry)) ⌝ }
 {
     let mut n: usize = 0;
-    let mut ok = true;
+    let mut flaw = Flaw::Sound;
     let mut i = at;
     while i < line.len() {
         let e = next(line, i, b' ');
@@ -120,7 +140,7 @@ fn read_windows(line: &[u8], at: usize, windows: &mut [u64], m: usize) -> Tally
             match read_window(&line[i..e], &line[e + 1..f]) {
                 Span::Of(a, z) => {
                     put_window(windows, m + n, a, z);
-                    ok = keeps(ok, a, z);
+                    flaw = worse(flaw, a, z);
                     n += 1;
                     i = f + 1;
                 }
@@ -132,7 +152,7 @@ fn read_windows(line: &[u8], at: usize, windows: &mut [u64], m: usize) -> Tally
             match read_last(&line[i..e], &line[e + 1..f]) {
                 Span::Of(a, z) => {
                     put_window(windows, m + n, a, z);
-                    return Tally::Windows(n + 1, keeps(ok, a, z));
+                    return Tally::Windows(n + 1, worse(flaw, a, z));
                 }
                 Span::Wrong => {
                     return Tally::Broken;
@@ -161,10 +181,10 @@ fn read_kind(w: &[u8]) -> KindWord
     KindWord::Wrong
 }
 
-// A line as it stands, with what is judged of a bid: bidder, price, how many windows, and whether all are lawful.
+// A line as it stands, with what is judged of a bid: bidder, price, how many windows, and what is wrong with them.
 pub enum Line {
     Tender(Tender),
-    Bid(u64, u64, usize, bool),
+    Bid(u64, u64, usize, Flaw),
     Broken,
 }
 
@@ -226,7 +246,7 @@ fn read_bid(line: &[u8], at: usize, windows: &mut [u64], m: usize) -> Line
         return Line::Broken;
     };
     match read_windows(line, p + 1, windows, m) {
-        Tally::Windows(count, ok) => Line::Bid(bidder, price, count, ok),
+        Tally::Windows(count, flaw) => Line::Bid(bidder, price, count, flaw),
         Tally::Broken => Line::Broken,
     }
 }

@@ -41,11 +41,23 @@ unfoldable pub isSingle : Kind → Bool
 isSingle Single = true
 isSingle Multi = false
 
--- a window (S E) has 0 ≤ S < E ≤ 10,080
+-- a window (S E) has 0 ≤ S < E
+abbrev pub ordered : Window → Bool
+ordered w = ltb (w .start) (w .end)
+
+-- and E ≤ 10,080
+abbrev pub early : Window → Bool
+early w = leb (w .end) week
+
 unfoldable pub lawful : Window → Bool
-lawful w = ltb (w .start) (w .end) && leb (w .end) week
+lawful w = ordered w && early w
 
 unfoldable pub allLawful : List Window → Bool
 unfolding lawful
 allLawful [] = true
 allLawful (w ∷ ws) = lawful w && allLawful ws
+
+-- each of the windows passes the test
+unfoldable pub every : (Window → Bool) → List Window → Bool
+every test [] = true
+every test (w ∷ ws) = test w && every test ws

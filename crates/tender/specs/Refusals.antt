@@ -1,22 +1,23 @@
 -- Each refusal's number and place (paper 01, "What each operation declines"). 13, a list longer than the buffer, is told by a length of 0.
 use Prim.Native.Nat.{ℕ}
 use Rattle.tender.specs.declared.Refusal.{Refusal}
-use Rattle.tender.specs.declared.Refusal.the-variants.{TextTooLong, BadForm, OutsideLimits, TooMany, BadWindow, BidderRepeated}
+use Rattle.tender.specs.declared.Refusal.the-variants.{TextTooLong, BadForm, OutsideLimits, TooMany, EmptyWindow, BidderRepeated}
 use Rattle.tender.specs.declared.Refusal.the-variants.{SeveralWindows, TableTooShort, BadTables, RowsTooFew, MinuteUncovered}
-use Rattle.tender.specs.declared.Refusal.the-variants.{OneBidder, NoRoom}
+use Rattle.tender.specs.declared.Refusal.the-variants.{OneBidder, NoRoom, LateWindow}
 
 abbrev pub numberOf : Refusal → ℕ
 -- Reading: a text above 65,536 bytes; a line that is not of the form; a bidder or price outside its limits; a 1,001st bid or
--- a 33rd window; a window with start not below end or end above 10,080; a bidder number used on an earlier line; more than
--- one window in a single tender; a lent table with fewer rows than the text needs
+-- a 33rd window; a window with start not below end; a bidder number used on an earlier line; more than one window in a
+-- single tender; a lent table with fewer rows than the text needs; at 15, a window that ends after 10,080
 numberOf TextTooLong = 1
 numberOf (BadForm line) = 2
 numberOf (OutsideLimits line) = 3
 numberOf (TooMany line) = 4
-numberOf (BadWindow line) = 5
+numberOf (EmptyWindow line) = 5
 numberOf (BidderRepeated line) = 6
 numberOf (SeveralWindows line) = 7
 numberOf TableTooShort = 8
+numberOf (LateWindow line) = 15
 -- Either award: tables that break a rule; fewer award rows than bids; a minute in no bid; a minute in exactly one bid
 numberOf (BadTables row) = 9
 numberOf RowsTooFew = 10
@@ -30,7 +31,7 @@ placeOf TextTooLong = 0
 placeOf (BadForm line) = line
 placeOf (OutsideLimits line) = line
 placeOf (TooMany line) = line
-placeOf (BadWindow line) = line
+placeOf (EmptyWindow line) = line
 placeOf (BidderRepeated line) = line
 placeOf (SeveralWindows line) = line
 placeOf TableTooShort = 0
@@ -39,3 +40,4 @@ placeOf RowsTooFew = 0
 placeOf (MinuteUncovered minute) = minute
 placeOf (OneBidder minute) = minute
 placeOf NoRoom = 0
+placeOf (LateWindow line) = line

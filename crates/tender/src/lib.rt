@@ -41,7 +41,7 @@ pub enum Refusal {
     BadForm { line: u64 },
     OutsideLimits { line: u64 },
     TooMany { line: u64 },
-    BadWindow { line: u64 },
+    EmptyWindow { line: u64 },
     BidderRepeated { line: u64 },
     SeveralWindows { line: u64 },
     TableTooShort,
@@ -50,6 +50,7 @@ pub enum Refusal {
     MinuteUncovered { minute: u64 },
     OneBidder { minute: u64 },
     NoRoom,
+    LateWindow { line: u64 },
 }
 
 // What an award answers: the totals, or why it declines.
@@ -94,7 +95,7 @@ pub fn number(r: Refusal) -> u64
         Refusal::BadForm { line: _ } => 2,
         Refusal::OutsideLimits { line: _ } => 3,
         Refusal::TooMany { line: _ } => 4,
-        Refusal::BadWindow { line: _ } => 5,
+        Refusal::EmptyWindow { line: _ } => 5,
         Refusal::BidderRepeated { line: _ } => 6,
         Refusal::SeveralWindows { line: _ } => 7,
         Refusal::TableTooShort => 8,
@@ -103,6 +104,7 @@ pub fn number(r: Refusal) -> u64
         Refusal::MinuteUncovered { minute: _ } => 11,
         Refusal::OneBidder { minute: _ } => 12,
         Refusal::NoRoom => 14,
+        Refusal::LateWindow { line: _ } => 15,
     }
 }
 
@@ -115,7 +117,7 @@ pub fn place(r: Refusal) -> u64
         Refusal::BadForm { line } => line,
         Refusal::OutsideLimits { line } => line,
         Refusal::TooMany { line } => line,
-        Refusal::BadWindow { line } => line,
+        Refusal::EmptyWindow { line } => line,
         Refusal::BidderRepeated { line } => line,
         Refusal::SeveralWindows { line } => line,
         Refusal::TableTooShort => 0,
@@ -124,5 +126,6 @@ pub fn place(r: Refusal) -> u64
         Refusal::MinuteUncovered { minute } => minute,
         Refusal::OneBidder { minute } => minute,
         Refusal::NoRoom => 0,
+        Refusal::LateWindow { line } => line,
     }
 }

@@ -122,7 +122,7 @@ fn worked_nine() {
     );
     show(
         b"swapped window",
-        b"(tender single 0 100)\n(bid 11 30 (9 5))\n",
+        b"(tender single 0 100)\n(bid 11 30 (9 3))\n",
     );
     show(
         b"price 007",
@@ -139,7 +139,48 @@ fn worked_nine() {
     );
 }
 
+// A late end beside an empty window: 15 and 5, on a bid's line and on the tender's.
+fn late_ends() {
+    show(
+        b"late and swapped",
+        b"(tender single 0 100)\n(bid 11 30 (10082 10081))\n",
+    );
+    show(
+        b"late and empty",
+        b"(tender single 0 100)\n(bid 11 30 (10081 10081))\n",
+    );
+    show(
+        b"a late window before an empty one",
+        b"(tender multi 0 100)\n(bid 11 30 (0 10081) (5 5))\n",
+    );
+    show(
+        b"an empty window before a late one",
+        b"(tender multi 0 100)\n(bid 11 30 (5 5) (0 10081))\n",
+    );
+    show(
+        b"a late window between two others",
+        b"(tender multi 0 100)\n(bid 11 30 (0 10080) (0 10081) (1 2))\n",
+    );
+    show(
+        b"two late windows in a single tender",
+        b"(tender single 0 100)\n(bid 11 30 (0 10081) (0 10082))\n",
+    );
+    show(
+        b"price above its limit with a late window",
+        b"(tender single 0 100)\n(bid 11 100000001 (0 10081))\n",
+    );
+    show(
+        b"bidder again with a late window",
+        b"(tender single 0 100)\n(bid 11 30 (0 50))\n(bid 11 30 (0 10081))\n",
+    );
+    show(b"tender end 10080", b"(tender single 0 10080)\n");
+    show(b"tender end 10081", b"(tender single 0 10081)\n");
+    show(b"tender (7 7)", b"(tender single 7 7)\n");
+    show(b"tender late and swapped", b"(tender single 10082 10081)\n");
+}
+
 fn near_misses() {
+    late_ends();
     show(b"empty text", b"");
     show(b"no bids", b"(tender single 0 100)\n");
     show(

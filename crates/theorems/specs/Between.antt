@@ -24,7 +24,7 @@ use Rattle.spelling.specs.Lines.{pairLine, refusedWord}
 use Rattle.spelling.specs.Text.{textOf, bidIn}
 use Rattle.listing.specs.List.{listOf}
 use Rattle.theorems.specs.Calls.{ReadRun, ReadCall, AwardCall, toldBy, ListCall, shown}
-use Rattle.theorems.specs.OneReading.{Fills}
+use Rattle.theorems.specs.OneReading.{Fills, OfText}
 use Rattle.theorems.specs.ListRead.{rowShown}
 
 -- its tables break no rule, and each bid has an award row
@@ -100,10 +100,10 @@ pub data OneList (l : ListCall) : Type 0 where
       → l .buffer-after ≡ listBy l ++ drop (length (listBy l)) (l .buffer) → OneList l
   list-too-long : length (l .buffer) < length (listBy l) → l .answer ≡ 0 → l .buffer-after ≡ l .buffer → OneList l
 
--- the list was written, and it shows no refusal of reading (1 to 7): the text is a readable list
+-- the list was written, and it shows no refusal of reading: the text is a readable list
 pub record ListGiven (l : ListCall) : Type 0 where
   pub written : 0 < l .answer
-  pub read : (n at : ℕ) → n ≤ 7 → shown l ≡ pairLine refusedWord n at → ⊥
+  pub read : (n at : ℕ) → OfText n → shown l ≡ pairLine refusedWord n at → ⊥
 
 -- of the bidder's lines in the two lists: where p is the true cost, the other list gains no more
 pub record NoGainShown (l l′ : ListCall) (bidder p : List ℕ) : Type 0 where
@@ -115,4 +115,4 @@ pub record NoGainShown (l l′ : ListCall) (bidder p : List ℕ) : Type 0 where
 
 -- the number of a refusal that a list may show
 abbrev pub Showable : ℕ → Type 0
-Showable n = ((1 ≤ n) × (n ≤ 7)) ⊎ ((n ≡ 11) ⊎ (n ≡ 12))
+Showable n = OfText n ⊎ ((n ≡ 11) ⊎ (n ≡ 12))

@@ -43,7 +43,7 @@ use Rattle.writer.specs.declared.Writing.the-variants.{Written, Refused}
 use Rattle.writer.specs.Same.{Same, ReadBack}
 use Rattle.theorems.specs.Calls.{ReadRun, ReadCall, AwardCall, toldBy, SettleCall, toldPlain, ListCall, shown}
 use Rattle.theorems.specs.Calls.{WriteCall, RewriteCall, rewritten}
-use Rattle.theorems.specs.OneReading.{OneReading, SameReading}
+use Rattle.theorems.specs.OneReading.{OneReading, OfText, SameReading}
 use Rattle.theorems.specs.ListRead.{rowShown}
 use Rattle.theorems.specs.Between.{Exactly, CallableWith, FewerThan, ForCover, priceAt, WasRead, Variant, Follows, SameAward}
 use Rattle.theorems.specs.Between.{NoGainBetween, OneList}
@@ -128,14 +128,14 @@ module _ (text : List ℕ) (T : Tender) (R : List Row) (W : List Window) (read :
   never-nine-or-ten = list.award-number T R W (rules-law T R W text read)
 
 -- A text alone is never refused with 8, nor is it with tables of 1,000 and 32,000 rows.
-pub never-eight : (text : List ℕ) (n at : ℕ) → readText text ≡ refused n at → (1 ≤ n) × (n ≤ 7)
+pub never-eight : (text : List ℕ) (n at : ℕ) → readText text ≡ refused n at → OfText n
 never-eight = reading.refusal-number
 
 pub long-tables : (text : List ℕ) (bidRows windowRows : ℕ) → 1000 ≤ bidRows → 32000 ≤ windowRows
     → readInto text bidRows windowRows ≡ readText text
 long-tables = room-law
 
--- A list shows no refusal but 1 to 7, 11 and 12.
+-- A list shows no refusal but 1 to 7, 11, 12 and 15.
 pub a-list-shows : (l : ListCall) (n at : ℕ) → n < 10 ^ 20 → 0 < l .answer → shown l ≡ pairLine refusedWord n at → Showable n
 a-list-shows = shows-no-other
 

@@ -93,7 +93,7 @@ given-read l g = go (readText (l .text)) refl
   where
     go : (o : reading.ReadOutcome) → readText (l .text) ≡ o → Accepted (l .text)
     go (accepted T R W) e = accepts T R W e
-    go (reading.refused n at) e = absurd (g .read n at (refusal-number (l .text) n at e .1)
+    go (reading.refused n at) e = absurd (g .read n at (refusal-number (l .text) n at e)
         (listed-is (l .promise) (g .written) ∙ ap listOf e))
 
 price-cell : (R : List Row) (v : List ℕ) (i : ℕ) → i < length R → named (flatRows R ++ v) i ≡ getD R i noRow .price

@@ -1,4 +1,4 @@
--- A text gives one list or 13, and the refusals that a list shows have the numbers 1 to 7, 11 and 12 alone. Assumes nothing.
+-- A text gives one list or 13, and the refusals that a list shows have the numbers 1 to 7, 11, 12 and 15 alone. Assumes nothing.
 use mathlib.Core.Path.{_≡_, refl, sym, ap, _∙_}
 use mathlib.Core.Logic.{_⊎_, inl, inr}
 use mathlib.Core.Bool.{Bool, true, false, cond}
@@ -30,6 +30,7 @@ use Rattle.spelling.specs.Lines.{pairLine, refusedWord}
 use Rattle.listing.specs.Lines.{awardWord, awardLine}
 use Rattle.listing.specs.List.{listLines, listOf}
 use Rattle.listing.specs.ListLaws.{listed-is}
+use Rattle.theorems.specs.OneReading.{OfText}
 use Rattle.theorems.specs.ReadingLaws.{refusal-number}
 use Rattle.theorems.specs.ShownLaws.{first-number}
 use Rattle.theorems.specs.Calls.{ListCall, shown}
@@ -102,6 +103,10 @@ shows-no-other l n at small a e = go (readText (l .text)) refl (sym (listed-is (
     found-as m k y (inl g) = inl (sym (same-number m k n at (omega arith) small y) ∙ g)
     found-as m k y (inr g) = inr (sym (same-number m k n at (omega arith) small y) ∙ g)
 
+    text-small : (m : ℕ) → OfText m → m < 10 ^ 20
+    text-small m (inl r) = omega (arith, r .1)
+    text-small m (inr r) = omega (arith, r)
+
     of : (T : Tender) (R : List Row) (W : List Window) → Rules T R W → (o : Outcome)
         → awardOf (T .kind) T (length R) (flatRows R) (flatWindows W) (length R) ≡ o → listLines T R o ≡ pairLine refusedWord n at
         → Showable n
@@ -113,7 +118,7 @@ shows-no-other l n at small a e = go (readText (l .text)) refl (sym (listed-is (
     go : (o : reading.ReadOutcome) → readText (l .text) ≡ o → listOf (readText (l .text)) ≡ pairLine refusedWord n at → Showable n
     go (reading.refused m k) f x =
         let r = refusal-number (l .text) m k f in
-        let q : m ≡ n = same-number m k n at (omega (arith, r .1)) small (sym (ap listOf f) ∙ x) in
+        let q : m ≡ n = same-number m k n at (text-small m r) small (sym (ap listOf f) ∙ x) in
         inl (rw q at r)
     go (reading.accepted T R W) f x = of T R W (rules-law T R W (l .text) f)
         (awardOf (T .kind) T (length R) (flatRows R) (flatWindows W) (length R)) refl (sym (ap listOf f) ∙ x)

@@ -10,8 +10,8 @@ use Rattle.tender.specs.declared.Kind.the-variants.{Single}
 use Rattle.tender.specs.declared.Window.{Window}
 use Rattle.tender.specs.declared.Tender.{Tender}
 use Rattle.tender.specs.declared.Refusal.{Refusal}
-use Rattle.tender.specs.declared.Refusal.the-variants.{TextTooLong, BadForm, OutsideLimits, TooMany, BadWindow, BidderRepeated}
-use Rattle.tender.specs.declared.Refusal.the-variants.{SeveralWindows, TableTooShort}
+use Rattle.tender.specs.declared.Refusal.the-variants.{TextTooLong, BadForm, OutsideLimits, TooMany, EmptyWindow, BidderRepeated}
+use Rattle.tender.specs.declared.Refusal.the-variants.{SeveralWindows, TableTooShort, LateWindow}
 use Rattle.tender.specs.Limits.{week, maxPrice, maxBidder, maxBids, maxWindows, maxText}
 use Rattle.tender.specs.Refusals.{numberOf, placeOf}
 use Rattle.tender.specs.Tables.{Row, flatRows, flatWindows, bidWidth, windowWidth}
@@ -40,26 +40,32 @@ linesAbove at-start = []
 linesAbove (after t bs) = some (tender t) ∷ map (λ b. some (bid b)) bs
 
 -- the faults of a line: its form (2), how many bids and windows there are (4), the limits of its numbers (3), several windows in a
--- single tender (7), a window (5), its bidder number (6)
+-- single tender (7), a window without a minute (5), a window past the week (15), its bidder number (6)
 pub data LineFault : Type 0 where
   of-form : LineFault
   of-count : LineFault
   of-limits : LineFault
   of-kind : LineFault
-  of-window : LineFault
+  of-minutes : LineFault
+  of-week : LineFault
   of-bidder : LineFault
 
 -- the order in which they are looked for
 abbrev pub pageOrder : List LineFault
-pageOrder = of-form ∷ of-count ∷ of-limits ∷ of-kind ∷ of-window ∷ of-bidder ∷ []
+pageOrder = of-form ∷ of-count ∷ of-limits ∷ of-kind ∷ of-minutes ∷ of-week ∷ of-bidder ∷ []
 
--- start not below end, or end above 10,080
-abbrev pub Unlawful : Window → Type 0
-Unlawful w = (w .end ≤ w .start) ⊎ (week < w .end)
+-- the start is not below the end
+abbrev pub NoMinute : Window → Type 0
+NoMinute w = w .end ≤ w .start
 
-abbrev pub SomeUnlawful : List Window → Type 0
-SomeUnlawful [] = ⊥
-SomeUnlawful (w ∷ ws) = Unlawful w ⊎ SomeUnlawful ws
+-- the end is above 10,080
+abbrev pub PastWeek : Window → Type 0
+PastWeek w = week < w .end
+
+-- one of the windows is so
+abbrev pub SomeWindow : (Window → Type 0) → List Window → Type 0
+SomeWindow P [] = ⊥
+SomeWindow P (w ∷ ws) = P w ⊎ SomeWindow P ws
 
 -- one of the bids has this bidder number
 abbrev pub UsedIn : ℕ → List BidLine → Type 0
@@ -72,13 +78,24 @@ OnBid of-form t done b = ⊥
 OnBid of-count t done b = (maxBids ≤ length done) ⊎ (maxWindows < length (b .windows))
 OnBid of-limits t done b = ((b .bidder < 1) ⊎ (maxBidder < b .bidder)) ⊎ (maxPrice < b .price)
 OnBid of-kind t done b = (t .kind ≡ Single) × (1 < length (b .windows))
-OnBid of-window t done b = SomeUnlawful (b .windows)
+OnBid of-minutes t done b = SomeWindow NoMinute (b .windows)
+OnBid of-week t done b = SomeWindow PastWeek (b .windows)
 OnBid of-bidder t done b = UsedIn (b .bidder) done
+
+-- on the tender's line
+abbrev pub OnTender : LineFault → Tender → Type 0
+OnTender of-form t = ⊥
+OnTender of-count t = ⊥
+OnTender of-limits t = ⊥
+OnTender of-kind t = ⊥
+OnTender of-minutes t = NoMinute (t .window)
+OnTender of-week t = PastWeek (t .window)
+OnTender of-bidder t = ⊥
 
 -- on any line: the first has to be a tender's, the others a bid's
 abbrev pub OnLine : LineFault → Above → Option Line → Type 0
 OnLine f at-start none = f ≡ of-form
-OnLine f at-start (some (tender t)) = (f ≡ of-window) × Unlawful (t .window)
+OnLine f at-start (some (tender t)) = OnTender f t
 OnLine f at-start (some (bid b)) = f ≡ of-form
 OnLine f (after t done) none = f ≡ of-form
 OnLine f (after t done) (some (tender u)) = f ≡ of-form
@@ -148,13 +165,18 @@ pub data OneReading (r : ReadRun) : Type 0 where
   too-many : (l : LineOf (r .text)) → FirstOn of-count l → Declines (TooMany (placeIn l)) r → OneReading r
   outside-limits : (l : LineOf (r .text)) → FirstOn of-limits l → Declines (OutsideLimits (placeIn l)) r → OneReading r
   several-windows : (l : LineOf (r .text)) → FirstOn of-kind l → Declines (SeveralWindows (placeIn l)) r → OneReading r
-  bad-window : (l : LineOf (r .text)) → FirstOn of-window l → Declines (BadWindow (placeIn l)) r → OneReading r
+  empty-window : (l : LineOf (r .text)) → FirstOn of-minutes l → Declines (EmptyWindow (placeIn l)) r → OneReading r
+  late-window : (l : LineOf (r .text)) → FirstOn of-week l → Declines (LateWindow (placeIn l)) r → OneReading r
   bidder-repeated : (l : LineOf (r .text)) → FirstOn of-bidder l → Declines (BidderRepeated (placeIn l)) r → OneReading r
   table-too-short : (t : Tender) (R : List Row) (W : List Window) → Readable (r .text) t R W
       → (length (r .bids) / bidWidth < length R) ⊎ (length (r .windows) / windowWidth < length W) → Declines TableTooShort r
       → OneReading r
   tables-filled : (t : Tender) (R : List Row) (W : List Window) → Readable (r .text) t R W
       → (length R ≤ length (r .bids) / bidWidth) × (length W ≤ length (r .windows) / windowWidth) → Fills t R W r → OneReading r
+
+-- the numbers that reading a text may be declined with, whatever the lent tables
+abbrev pub OfText : ℕ → Type 0
+OfText n = ((1 ≤ n) × (n ≤ 7)) ⊎ (n ≡ 15)
 
 -- two calls answered the same and left the same
 pub record SameReading (x y : ReadRun) : Type 0 where

@@ -11,7 +11,7 @@ use Rattle.reader.specs.Answer.{toldReading}
 use Rattle.reader.specs.declared.Reading.the-variants as answer
 use Rattle.theorems.specs.Calls.{ReadCall}
 use Rattle.theorems.specs.OneReading.{Readable, Declines, Fills, OneReading, text-too-long, bad-form, too-many, outside-limits}
-use Rattle.theorems.specs.OneReading.{several-windows, bad-window, bidder-repeated, table-too-short, tables-filled}
+use Rattle.theorems.specs.OneReading.{several-windows, empty-window, late-window, bidder-repeated, table-too-short, tables-filled}
 use Rattle.theorems.specs.ReadingLaws.{one-reading, text-accepted}
 use Rattle.writer.specs.SpeltLaws.{spelt-again}
 use Rattle.theorems.specs.Between.{WasRead}
@@ -35,7 +35,8 @@ read-again r t n m e = go (one-reading (r .run) (r .kept))
     go (too-many l h x) = never x
     go (outside-limits l h x) = never x
     go (several-windows l h x) = never x
-    go (bad-window l h x) = never x
+    go (empty-window l h x) = never x
+    go (late-window l h x) = never x
     go (bidder-repeated l h x) = never x
     go (table-too-short u R W d s x) = never x
     go (tables-filled u R W d s f) = read u R W d f

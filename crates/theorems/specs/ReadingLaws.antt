@@ -15,23 +15,23 @@ use Rattle.tender.specs.declared.Kind.the-variants.{Single, Multi}
 use Rattle.tender.specs.declared.Window.{Window}
 use Rattle.tender.specs.declared.Tender.{Tender}
 use Rattle.tender.specs.declared.Refusal.{Refusal}
-use Rattle.tender.specs.declared.Refusal.the-variants.{TextTooLong, BadForm, OutsideLimits, TooMany, BadWindow, BidderRepeated}
-use Rattle.tender.specs.declared.Refusal.the-variants.{SeveralWindows, TableTooShort}
-use Rattle.tender.specs.Limits.{within, isSingle, lawful, allLawful}
+use Rattle.tender.specs.declared.Refusal.the-variants.{TextTooLong, BadForm, OutsideLimits, TooMany, EmptyWindow, BidderRepeated}
+use Rattle.tender.specs.declared.Refusal.the-variants.{SeveralWindows, TableTooShort, LateWindow}
+use Rattle.tender.specs.Limits.{within, isSingle, ordered, early, every}
 use Rattle.tender.specs.Refusals.{numberOf, placeOf}
 use Rattle.tender.specs.Tables.{Row, bidWidth, windowWidth}
 use Rattle.reader_line.specs.Words.{cut, among}
 use Rattle.reader_line.specs.Line.{BidLine, Line, tender, bid, linesOf}
-use Rattle.reader.specs.Read.{ReadOutcome, accepted, refused, declinedBy, rowsFrom, allWindows, bidsOf, bidFaultIn, bidFault, lineJudged}
-use Rattle.reader.specs.Read.{checked, tables, readLines, readText, fitted, readInto}
+use Rattle.reader.specs.Read.{ReadOutcome, accepted, refused, declinedBy, rowsFrom, allWindows, bidsOf, lineFault, tenderFault, bidFaultIn}
+use Rattle.reader.specs.Read.{bidFaultAfter, bidFault, lineJudged, checked, tables, readLines, readText, fitted, readInto}
 use Rattle.reader.specs.Answer.{summary, toldReading, bidsAfter, windowsAfter}
 use Rattle.theorems.specs.Calls.{ReadRun, ReadKept}
 use Rattle.theorems.specs.OneReading.{orBroken, linesIn, Above, at-start, after, linesAbove, LineFault, of-form, of-count}
-use Rattle.theorems.specs.OneReading.{of-limits}
-use Rattle.theorems.specs.OneReading.{of-kind, of-window, of-bidder, pageOrder, Unlawful, SomeUnlawful, UsedIn, OnBid, OnLine}
+use Rattle.theorems.specs.OneReading.{of-limits, of-kind, of-minutes, of-week, of-bidder, pageOrder, NoMinute, PastWeek, SomeWindow}
+use Rattle.theorems.specs.OneReading.{UsedIn, OnLine, OfText}
 use Rattle.theorems.specs.OneReading.{FirstAmong, NoFault, SoundBids, SoundLines, LineOf, placeIn, FirstOn, Readable}
 use Rattle.theorems.specs.OneReading.{Declines, Fills, OneReading, text-too-long, bad-form, too-many, outside-limits}
-use Rattle.theorems.specs.OneReading.{several-windows, bad-window, bidder-repeated, table-too-short, tables-filled, SameReading}
+use Rattle.theorems.specs.OneReading.{several-windows, empty-window, late-window, bidder-repeated, table-too-short, tables-filled, SameReading}
 
 -- a test says whether a fact holds
 
@@ -89,29 +89,30 @@ outside a z n = go (leb a n) (leb n z) refl refl
     go true false s u = inr (leb-false n z u)
     go true true s u = neither (leb-true a n s) (leb-true n z u)
 
-unlawful : (w : Window) → Decides (not (lawful w)) (Unlawful w)
-unfolding lawful
-unlawful w = go (ltb (w .start) (w .end)) (leb (w .end) 10080) refl refl
+no-minute : (w : Window) → Decides (not (ordered w)) (NoMinute w)
+no-minute w = go (ordered w) refl
   where
-    neither : w .start < w .end → w .end ≤ 10080 → Unlawful w → ⊥
-    neither s u (inl l) = omega arith
-    neither s u (inr l) = omega arith
+    go : (t : Bool) → ordered w ≡ t → Decides (not t) (NoMinute w)
+    go true e = λ h. omega (arith, ltb-true (w .start) (w .end) e)
+    go false e = ltb-false (w .start) (w .end) e
 
-    go : (s t : Bool) → ltb (w .start) (w .end) ≡ s → leb (w .end) 10080 ≡ t → Decides (not (s && t)) (Unlawful w)
-    go false t s u = inl (ltb-false (w .start) (w .end) s)
-    go true false s u = inr (leb-false (w .end) 10080 u)
-    go true true s u = neither (ltb-true (w .start) (w .end) s) (leb-true (w .end) 10080 u)
-
-some-unlawful : (ws : List Window) → Decides (not (allLawful ws)) (SomeUnlawful ws)
-unfolding allLawful
-some-unlawful [] = λ h. h
-some-unlawful (w ∷ ws) = go (lawful w) (allLawful ws) (unlawful w) (some-unlawful ws)
+past-week : (w : Window) → Decides (not (early w)) (PastWeek w)
+past-week w = go (early w) refl
   where
-    go : (a b : Bool) → Decides (not a) (Unlawful w) → Decides (not b) (SomeUnlawful ws)
-        → Decides (not (a && b)) (Unlawful w ⊎ SomeUnlawful ws)
+    go : (t : Bool) → early w ≡ t → Decides (not t) (PastWeek w)
+    go true e = λ h. omega (arith, leb-true (w .end) 10080 e)
+    go false e = leb-false (w .end) 10080 e
+
+some-window : (test : Window → Bool) (P : Window → Type 0) → ((w : Window) → Decides (not (test w)) (P w)) → (ws : List Window)
+    → Decides (not (every test ws)) (SomeWindow P ws)
+unfolding every
+some-window test P says [] = λ h. h
+some-window test P says (w ∷ ws) = go (test w) (every test ws) (says w) (some-window test P says ws)
+  where
+    go : (a b : Bool) → Decides (not a) (P w) → Decides (not b) (SomeWindow P ws) → Decides (not (a && b)) (P w ⊎ SomeWindow P ws)
     go false b s u = inl s
     go true false s u = inr u
-    go true true s u = says-or (Unlawful w) (SomeUnlawful ws) false false s u
+    go true true s u = says-or (P w) (SomeWindow P ws) false false s u
 
 single : (k : Kind) → Decides (isSingle k) (k ≡ Single)
 unfolding isSingle
@@ -131,7 +132,8 @@ refusalOf of-form = BadForm
 refusalOf of-count = TooMany
 refusalOf of-limits = OutsideLimits
 refusalOf of-kind = SeveralWindows
-refusalOf of-window = BadWindow
+refusalOf of-minutes = EmptyWindow
+refusalOf of-week = LateWindow
 refusalOf of-bidder = BidderRepeated
 
 -- the first fault stands, and there is one first
@@ -149,17 +151,48 @@ one-first (y ∷ gs) f g d x (inl (e, s)) (inr (n, r)) = absurd (n s)
 one-first (y ∷ gs) f g d x (inr (n, r)) (inl (u, v)) = absurd (n v)
 one-first (y ∷ gs) f g d x (inr (n, r)) (inr (m, q)) = one-first gs f g d x r q
 
--- what the tests of a bid say of its line
+-- what the tests of a line say
 data Verdict (d : Above) (x : Option Line) (o : Option (ℕ → Refusal)) : Type 0 where
   clean : NoFault d x → o ≡ none → Verdict d x o
   stopped-by : (f : LineFault) → FirstAmong pageOrder f d x → o ≡ some (refusalOf f) → Verdict d x o
 
-verdict : (t : Tender) (done : List BidLine) (b : BidLine) →
+verdict : (d : Above) (x : Option Line) (c4 c3 c7 c5 c15 c6 : Bool) → (OnLine of-form d x → ⊥) → Decides c4 (OnLine of-count d x)
+    → Decides c3 (OnLine of-limits d x) → Decides c7 (OnLine of-kind d x) → Decides c5 (OnLine of-minutes d x)
+    → Decides c15 (OnLine of-week d x) → Decides c6 (OnLine of-bidder d x) → Verdict d x (lineFault c4 c3 c7 c5 c15 c6)
+unfolding lineFault
+verdict d x true c3 c7 c5 c15 c6 s2 s4 s3 s7 s5 s15 s6 = stopped-by of-count (inr (s2, inl (refl, s4))) refl
+verdict d x false true c7 c5 c15 c6 s2 s4 s3 s7 s5 s15 s6 = stopped-by of-limits (inr (s2, inr (s4, inl (refl, s3)))) refl
+verdict d x false false true c5 c15 c6 s2 s4 s3 s7 s5 s15 s6 = stopped-by of-kind (inr (s2, inr (s4, inr (s3, inl (refl, s7))))) refl
+verdict d x false false false true c15 c6 s2 s4 s3 s7 s5 s15 s6 =
+    stopped-by of-minutes (inr (s2, inr (s4, inr (s3, inr (s7, inl (refl, s5)))))) refl
+verdict d x false false false false true c6 s2 s4 s3 s7 s5 s15 s6 =
+    stopped-by of-week (inr (s2, inr (s4, inr (s3, inr (s7, inr (s5, inl (refl, s15))))))) refl
+verdict d x false false false false false true s2 s4 s3 s7 s5 s15 s6 =
+    stopped-by of-bidder (inr (s2, inr (s4, inr (s3, inr (s7, inr (s5, inr (s15, inl (refl, s6)))))))) refl
+verdict d x false false false false false false s2 s4 s3 s7 s5 s15 s6 = clean none-stands refl
+  where
+    none-stands : (f : LineFault) → OnLine f d x → ⊥
+    none-stands of-form = s2
+    none-stands of-count = s4
+    none-stands of-limits = s3
+    none-stands of-kind = s7
+    none-stands of-minutes = s5
+    none-stands of-week = s15
+    none-stands of-bidder = s6
+
+tender-verdict : (t : Tender) → Verdict at-start (some (tender t)) (tenderFault t)
+unfolding tenderFault
+tender-verdict t = verdict at-start (some (tender t)) false false false (not (ordered (t .window))) (not (early (t .window))) false
+    (λ h. h) (λ h. h) (λ h. h) (λ h. h) (no-minute (t .window)) (past-week (t .window)) (λ h. h)
+
+bid-verdict : (t : Tender) (done : List BidLine) (b : BidLine) →
     Verdict (after t done) (some (bid b)) (bidFault (t .kind) (map (λ b. b .bidder) done) b)
-unfolding bidFault bidFaultIn
-verdict t done b = rw (length-map done (λ b. b .bidder))
-    (go (leb 1000 (length done) || ltb 32 (length (b .windows))) (not (within 1 999999 (b .bidder)) || ltb 100000000 (b .price))
-    (isSingle (t .kind) && ltb 1 (length (b .windows))) (not (allLawful (b .windows))) (among (b .bidder) (map (λ b. b .bidder) done))
+unfolding bidFault bidFaultAfter bidFaultIn
+bid-verdict t done b = rw (length-map done (λ b. b .bidder))
+    (verdict (after t done) (some (bid b)) (leb 1000 (length done) || ltb 32 (length (b .windows)))
+    (not (within 1 999999 (b .bidder)) || ltb 100000000 (b .price)) (isSingle (t .kind) && ltb 1 (length (b .windows)))
+    (not (every ordered (b .windows))) (not (every early (b .windows))) (among (b .bidder) (map (λ b. b .bidder) done))
+    (λ h. h)
     (says-or (1000 ≤ length done) (32 < length (b .windows)) (leb 1000 (length done)) (ltb 32 (length (b .windows)))
     (says-leb 1000 (length done)) (says-ltb 32 (length (b .windows))))
     (says-or ((b .bidder < 1) ⊎ (999999 < b .bidder)) (100000000 < b .price) (not (within 1 999999 (b .bidder)))
@@ -167,27 +200,19 @@ verdict t done b = rw (length-map done (λ b. b .bidder))
     (outside 1 999999 (b .bidder)) (says-ltb 100000000 (b .price)))
     (says-and (t .kind ≡ Single) (1 < length (b .windows)) (isSingle (t .kind)) (ltb 1 (length (b .windows))) (single (t .kind))
     (says-ltb 1 (length (b .windows))))
-    (some-unlawful (b .windows)) (used (b .bidder) done))
-  where
-    go : (c4 c3 c7 c5 c6 : Bool) → Decides c4 (OnBid of-count t done b) → Decides c3 (OnBid of-limits t done b)
-        → Decides c7 (OnBid of-kind t done b) → Decides c5 (OnBid of-window t done b) → Decides c6 (OnBid of-bidder t done b) →
-        Verdict (after t done) (some (bid b)) (cond c4 (some TooMany) (cond c3 (some OutsideLimits) (cond c7 (some SeveralWindows)
-        (cond c5 (some BadWindow) (cond c6 (some BidderRepeated) none)))))
-    go true c3 c7 c5 c6 s4 s3 s7 s5 s6 = stopped-by of-count (inr (λ h. h, inl (refl, s4))) refl
-    go false true c7 c5 c6 s4 s3 s7 s5 s6 = stopped-by of-limits (inr (λ h. h, inr (s4, inl (refl, s3)))) refl
-    go false false true c5 c6 s4 s3 s7 s5 s6 = stopped-by of-kind (inr (λ h. h, inr (s4, inr (s3, inl (refl, s7))))) refl
-    go false false false true c6 s4 s3 s7 s5 s6 = stopped-by of-window (inr (λ h. h, inr (s4, inr (s3, inr (s7, inl (refl, s5)))))) refl
-    go false false false false true s4 s3 s7 s5 s6 =
-        stopped-by of-bidder (inr (λ h. h, inr (s4, inr (s3, inr (s7, inr (s5, inl (refl, s6))))))) refl
-    go false false false false false s4 s3 s7 s5 s6 = clean none-stands refl
-      where
-        none-stands : (f : LineFault) → OnBid f t done b → ⊥
-        none-stands of-form h = h
-        none-stands of-count h = s4 h
-        none-stands of-limits h = s3 h
-        none-stands of-kind h = s7 h
-        none-stands of-window h = s5 h
-        none-stands of-bidder h = s6 h
+    (some-window ordered NoMinute no-minute (b .windows)) (some-window early PastWeek past-week (b .windows)) (used (b .bidder) done))
+
+-- what a verdict makes of the line
+module _ (d : Above) (x : Option Line) (o : Option (ℕ → Refusal)) (at : ℕ) (rest : ReadOutcome) where
+  passes : NoFault d x → Verdict d x o → lineJudged o at rest ≡ rest
+  unfolding lineJudged
+  passes v (clean w q) = rw q
+  passes v (stopped-by f h q) = absurd (v f (first-stands pageOrder f d x h))
+
+  tells : (f : LineFault) → FirstAmong pageOrder f d x → Verdict d x o → lineJudged o at rest ≡ declinedBy (refusalOf f at)
+  unfolding lineJudged
+  tells f h (clean w q) = absurd (w f (first-stands pageOrder f d x h))
+  tells f h (stopped-by g k q) = rw q (ap (λ g. declinedBy (refusalOf g at)) (one-first pageOrder g f d x k h))
 
 -- the lines after the tender's: all are faultless bids, or the first that is not has its first fault
 data Walked (t : Tender) (done : List BidLine) (ls : List (Option Line)) (out o : ReadOutcome) : Type 0 where
@@ -211,7 +236,7 @@ walked t done (none ∷ ls) out at e =
 walked t done (some (tender u) ∷ ls) out at e =
     stops [] (some (tender u)) ls of-form refl tt (inl (refl, refl)) (ap (λ n. declinedBy (BadForm n)) (omega arith))
 walked t done (some (bid b) ∷ ls) out at e =
-    go (bidFault (t .kind) (map (λ b. b .bidder) done) b) (verdict t done b)
+    go (bidFault (t .kind) (map (λ b. b .bidder) done) b) (bid-verdict t done b)
     (rw (bidders-after done b) at (walked t (done ++ b ∷ []) ls out (at + 1) (omega (arith, length-append done (b ∷ [])))))
   where
     more : (o : ReadOutcome) → NoFault (after t done) (some (bid b)) → Walked t (done ++ b ∷ []) ls out o
@@ -241,14 +266,8 @@ unfolding bidsOf
 bids-of [] = refl
 bids-of (b ∷ bs) = ap {B = List BidLine} (λ l. b ∷ l) (bids-of bs)
 
-tender-free : (t : Tender) (f : LineFault) → (numberOf (refusalOf f 0) ≡ 5 → ⊥) → OnLine f at-start (some (tender t)) → ⊥
-tender-free t f n (e, u) = n (ap (λ g. numberOf (refusalOf g 0)) e)
-
-lawful-tender : (t : Tender) → (Unlawful (t .window) → ⊥) → NoFault at-start (some (tender t))
-lawful-tender t u f (e, s) = u s
-
-sound-lines : (t : Tender) (bs : List BidLine) → (Unlawful (t .window) → ⊥) → SoundBids t [] bs → SoundLines (after t bs)
-sound-lines t bs u s = (lawful-tender t u, s)
+sound-lines : (t : Tender) (bs : List BidLine) → NoFault at-start (some (tender t)) → SoundBids t [] bs → SoundLines (after t bs)
+sound-lines t bs u s = (u, s)
 
 module _ (text : List ℕ) (short : length text ≤ 65536) where
   first-line : (x : Option Line) (ls : List (Option Line)) → linesIn text ≡ x ∷ ls → OnLine of-form at-start x
@@ -256,20 +275,12 @@ module _ (text : List ℕ) (short : length text ≤ 65536) where
   first-line x ls e f = faulty (record { above = at-start; line = x; rest = ls; short = short; lines = e; sound = tt }) of-form
       (inl (refl, f)) refl
 
-  after-tender : (t : Tender) (ls : List (Option Line)) → linesIn text ≡ some (tender t) ∷ ls → (v : Bool)
-      → Decides v (Unlawful (t .window)) →
-      TextRead text (cond (not v) (checked (t .kind) 2 [] ls (tables t (bidsOf ls))) (declinedBy (BadWindow 1)))
-  unfolding tables
-  after-tender t ls e true u =
-      faulty (record { above = at-start; line = some (tender t); rest = ls; short = short; lines = e; sound = tt }) of-window
-      (inr (
-        tender-free t of-form (λ z. omega arith),
-        inr (
-          tender-free t of-count (λ z. omega arith),
-          inr (tender-free t of-limits (λ z. omega arith), inr (tender-free t of-kind (λ z. omega arith), inl (refl, (refl, u)))),
-        ),
-      )) refl
-  after-tender t ls e false u = go (walked t [] ls (tables t (bidsOf ls)) 2 refl)
+  after-tender : (t : Tender) (ls : List (Option Line)) → linesIn text ≡ some (tender t) ∷ ls → (o : Option (ℕ → Refusal))
+      → Verdict at-start (some (tender t)) o → TextRead text (lineJudged o 1 (checked (t .kind) 2 [] ls (tables t (bidsOf ls))))
+  unfolding tables lineJudged
+  after-tender t ls e o (stopped-by f h q) =
+      rw q (faulty (record { above = at-start; line = some (tender t); rest = ls; short = short; lines = e; sound = tt }) f h refl)
+  after-tender t ls e o (clean u q) = rw q (go (walked t [] ls (tables t (bidsOf ls)) 2 refl))
     where
       go : {o : ReadOutcome} → Walked t [] ls (tables t (bidsOf ls)) o → TextRead text o
       go (all-sound bs l s q) = readable t (rowsFrom 0 bs) (allWindows bs)
@@ -298,12 +309,7 @@ module _ (text : List ℕ) (short : length text ≤ 65536) where
   lines-read [] e = first-line none [] (ap orBroken e) refl
   lines-read (none ∷ ls) e = first-line none ls (ap orBroken e) refl
   lines-read (some (bid b) ∷ ls) e = first-line (some (bid b)) ls (ap orBroken e) refl
-  lines-read (some (tender t) ∷ ls) e = go (lawful (t .window)) (unlawful (t .window))
-    where
-      go : (v : Bool) → Decides (not v) (Unlawful (t .window))
-          → TextRead text (cond v (checked (t .kind) 2 [] ls (tables t (bidsOf ls))) (declinedBy (BadWindow 1)))
-      go true u = after-tender t ls (ap orBroken e) false u
-      go false u = after-tender t ls (ap orBroken e) true u
+  lines-read (some (tender t) ∷ ls) e = after-tender t ls (ap orBroken e) (tenderFault t) (tender-verdict t)
 
 text-read : (text : List ℕ) → TextRead text (readText text)
 unfolding readText
@@ -315,22 +321,23 @@ text-read text = go (ltb 65536 (length text)) refl
     go false e = lines-read text (ltb-false 65536 (length text) e) (linesOf (cut 10 text)) refl
 
 -- what a text is refused with, whatever the tables: never 8
-pub refusal-number : (text : List ℕ) (n at : ℕ) → readText text ≡ refused n at → (1 ≤ n) × (n ≤ 7)
+pub refusal-number : (text : List ℕ) (n at : ℕ) → readText text ≡ refused n at → OfText n
 refusal-number text n at e = go (text-read text)
   where
-    from : (m k : ℕ) → readText text ≡ refused m k → (1 ≤ m) × (m ≤ 7) → (1 ≤ n) × (n ≤ 7)
+    from : (m k : ℕ) → readText text ≡ refused m k → OfText m → OfText n
     from m k q b = let h : m ≡ n = cc (e, q) in rw h at b
 
-    number : (f : LineFault) (k : ℕ) → (1 ≤ numberOf (refusalOf f k)) × (numberOf (refusalOf f k) ≤ 7)
-    number of-form k = (omega arith, omega arith)
-    number of-count k = (omega arith, omega arith)
-    number of-limits k = (omega arith, omega arith)
-    number of-kind k = (omega arith, omega arith)
-    number of-window k = (omega arith, omega arith)
-    number of-bidder k = (omega arith, omega arith)
+    number : (f : LineFault) (k : ℕ) → OfText (numberOf (refusalOf f k))
+    number of-form k = inl (omega arith, omega arith)
+    number of-count k = inl (omega arith, omega arith)
+    number of-limits k = inl (omega arith, omega arith)
+    number of-kind k = inl (omega arith, omega arith)
+    number of-minutes k = inl (omega arith, omega arith)
+    number of-week k = inr refl
+    number of-bidder k = inl (omega arith, omega arith)
 
-    go : TextRead text (readText text) → (1 ≤ n) × (n ≤ 7)
-    go (long l q) = from 1 0 q (omega arith, omega arith)
+    go : TextRead text (readText text) → OfText n
+    go (long l q) = from 1 0 q (inl (omega arith, omega arith))
     go (faulty l f h q) = from (numberOf (refusalOf f (placeIn l))) (placeOf (refusalOf f (placeIn l))) q (number f (placeIn l))
     go (readable t R W d q) = let z : _≡_ {A = ℕ} 0 1 = cc (e, q) in absurd (omega arith)
 
@@ -361,7 +368,8 @@ module _ (r : ReadRun) where
   by-fault l of-count h x = too-many l h x
   by-fault l of-limits h x = outside-limits l h x
   by-fault l of-kind h x = several-windows l h x
-  by-fault l of-window h x = bad-window l h x
+  by-fault l of-minutes h x = empty-window l h x
+  by-fault l of-week h x = late-window l h x
   by-fault l of-bidder h x = bidder-repeated l h x
 
   -- Demand 1 of a text, with tables of any size.
@@ -397,7 +405,8 @@ skips t done [] ls out at s =
     ap (λ n. checked (t .kind) n (map (λ b. b .bidder) done) ls out) e
     ∙ ap (λ ds. checked (t .kind) (at + 0) (map (λ b. b .bidder) ds) ls out) (sym (append-nil done))
 skips t done (b ∷ bs) ls out at (v, s) =
-    go (bidFault (t .kind) (map (λ b. b .bidder) done) b) (verdict t done b) (skips t (done ++ b ∷ []) bs ls out (at + 1) s)
+    passes (after t done) (some (bid b)) (bidFault (t .kind) (map (λ b. b .bidder) done) b) at rest v (bid-verdict t done b)
+    ∙ step (skips t (done ++ b ∷ []) bs ls out (at + 1) s)
   where
     rest : ReadOutcome
     rest = checked (t .kind) (at + 1) (map (λ b. b .bidder) done ++ b .bidder ∷ []) (map (λ b. some (bid b)) bs ++ ls) out
@@ -417,12 +426,6 @@ skips t done (b ∷ bs) ls out at (v, s) =
         ∙ ap (λ n. checked (t .kind) n (map (λ b. b .bidder) ((done ++ b ∷ []) ++ bs)) ls out) e
         ∙ ap (λ ds. checked (t .kind) (at + length (b ∷ bs)) (map (λ b. b .bidder) ds) ls out) (append-assoc done (b ∷ []) bs)
 
-    go : (o : Option (ℕ → Refusal)) → Verdict (after t done) (some (bid b)) o
-        → checked (t .kind) (at + 1) (map (λ b. b .bidder) (done ++ b ∷ [])) (map (λ b. some (bid b)) bs ++ ls) out ≡ mid
-        → lineJudged o at rest ≡ end
-    go o (clean w q) ih = rw q (step ih)
-    go o (stopped-by f h q) ih = absurd (v f (first-stands pageOrder f (after t done) (some (bid b)) h))
-
 at-fault : (t : Tender) (done : List BidLine) (x : Option Line) (ls : List (Option Line)) (out : ReadOutcome) (at : ℕ) (f : LineFault)
     → FirstAmong pageOrder f (after t done) x
     → checked (t .kind) at (map (λ b. b .bidder) done) (x ∷ ls) out ≡ declinedBy (refusalOf f at)
@@ -432,28 +435,8 @@ at-fault t done none ls out at f h = let e = first-stands pageOrder f (after t d
 at-fault t done (some (tender u)) ls out at f h =
     let e = first-stands pageOrder f (after t done) (some (tender u)) h in
     ap (λ g. declinedBy (refusalOf g at)) (sym e)
-at-fault t done (some (bid b)) ls out at f h = go (bidFault (t .kind) (map (λ b. b .bidder) done) b) (verdict t done b) _
-  where
-    go : (o : Option (ℕ → Refusal)) → Verdict (after t done) (some (bid b)) o → (rest : ReadOutcome)
-        → lineJudged o at rest ≡ declinedBy (refusalOf f at)
-    go o (clean w q) rest = absurd (w f (first-stands pageOrder f (after t done) (some (bid b)) h))
-    go o (stopped-by g k q) rest =
-        let e = one-first pageOrder g f (after t done) (some (bid b)) k h in
-        ap (λ p. lineJudged p at rest) q ∙ ap (λ g. declinedBy (refusalOf g at)) e
-
-says-lawful : (w : Window) → (Unlawful w → ⊥) → lawful w ≡ true
-says-lawful w n = go (lawful w) (unlawful w)
-  where
-    go : (v : Bool) → Decides (not v) (Unlawful w) → v ≡ true
-    go true u = refl
-    go false u = absurd (n u)
-
-says-unlawful : (w : Window) → Unlawful w → lawful w ≡ false
-says-unlawful w h = go (lawful w) (unlawful w)
-  where
-    go : (v : Bool) → Decides (not v) (Unlawful w) → v ≡ false
-    go true u = absurd (u h)
-    go false u = refl
+at-fault t done (some (bid b)) ls out at f h =
+    tells (after t done) (some (bid b)) (bidFault (t .kind) (map (λ b. b .bidder) done) b) at _ f h (bid-verdict t done b)
 
 short-text : (text : List ℕ) → length text ≤ 65536 → readText text ≡ readLines (linesIn text)
 unfolding readText readLines
@@ -463,19 +446,17 @@ short-text text l = rw (le-ltb 65536 (length text) l) (go (linesOf (cut 10 text)
     go [] = refl
     go (x ∷ ls) = refl
 
-tender-first : (t : Tender) (ls : List (Option Line)) → lawful (t .window) ≡ true
+tender-first : (t : Tender) (ls : List (Option Line)) → NoFault at-start (some (tender t))
     → readLines (some (tender t) ∷ ls) ≡ checked (t .kind) 2 [] ls (tables t (bidsOf ls))
 unfolding readLines
-tender-first t ls e = rw e
+tender-first t ls u = passes at-start (some (tender t)) (tenderFault t) 1 _ u (tender-verdict t)
 
 at-first : (f : LineFault) (x : Option Line) (ls : List (Option Line)) → FirstAmong pageOrder f at-start x
     → readLines (x ∷ ls) ≡ declinedBy (refusalOf f 1)
 unfolding readLines
 at-first f none ls k = ap (λ g. declinedBy (refusalOf g 1)) (sym (first-stands pageOrder f at-start none k))
 at-first f (some (bid b)) ls k = ap (λ g. declinedBy (refusalOf g 1)) (sym (first-stands pageOrder f at-start (some (bid b)) k))
-at-first f (some (tender t)) ls k =
-    let s = first-stands pageOrder f at-start (some (tender t)) k in
-    rw (says-unlawful (t .window) (s .1)) (ap (λ g. declinedBy (refusalOf g 1)) (sym (s .0)))
+at-first f (some (tender t)) ls k = tells at-start (some (tender t)) (tenderFault t) 1 _ f k (tender-verdict t)
 
 line-refused : (text : List ℕ) (l : LineOf text) (f : LineFault) → FirstOn f l
     → readText text ≡ declinedBy (refusalOf f (placeIn l))
@@ -487,7 +468,7 @@ line-refused text l f h = short-text text (l .short) ∙ ap readLines (l .lines)
     go (after t bs) x (u, s) k =
         let ls = map (λ b. some (bid b)) bs ++ x ∷ l .rest in
         let e : 2 + length bs ≡ length (linesAbove (after t bs)) + 1 = omega (arith, length-map bs (λ b. some (bid b))) in
-        tender-first t ls (says-lawful (t .window) (λ v. u of-window (refl, v)))
+        tender-first t ls u
         ∙ skips t [] bs (x ∷ l .rest) (tables t (bidsOf ls)) 2 s
         ∙ at-fault t bs x (l .rest) (tables t (bidsOf ls)) (2 + length bs) f k
         ∙ ap (λ n. declinedBy (refusalOf f n)) e
@@ -504,7 +485,7 @@ text-accepted text t R W h =
     let bs = h .bids in
     let ls = map (λ b. some (bid b)) bs in
     short-text text (h .short) ∙ ap readLines (h .lines)
-    ∙ tender-first t ls (says-lawful (t .window) (λ v. h .sound .0 of-window (refl, v)))
+    ∙ tender-first t ls (h .sound .0)
     ∙ ap (λ l. checked (t .kind) 2 [] l (tables t (bidsOf ls))) (sym (append-nil ls))
     ∙ through t bs (tables t (bidsOf ls)) (h .sound .1)
     ∙ ap (tables t) (bids-of bs) ∙ ap (λ x. accepted t x (allWindows bs)) (sym (h .rows)) ∙ ap (accepted t R) (sym (h .windows))
@@ -564,7 +545,8 @@ module _ (r : ReadRun) where
   reading-kept (too-many l h x) = refused-kept (TooMany (placeIn l)) (line-refused (r .text) l of-count h) x
   reading-kept (outside-limits l h x) = refused-kept (OutsideLimits (placeIn l)) (line-refused (r .text) l of-limits h) x
   reading-kept (several-windows l h x) = refused-kept (SeveralWindows (placeIn l)) (line-refused (r .text) l of-kind h) x
-  reading-kept (bad-window l h x) = refused-kept (BadWindow (placeIn l)) (line-refused (r .text) l of-window h) x
+  reading-kept (empty-window l h x) = refused-kept (EmptyWindow (placeIn l)) (line-refused (r .text) l of-minutes h) x
+  reading-kept (late-window l h x) = refused-kept (LateWindow (placeIn l)) (line-refused (r .text) l of-week h) x
   reading-kept (bidder-repeated l h x) = refused-kept (BidderRepeated (placeIn l)) (line-refused (r .text) l of-bidder h) x
   reading-kept (table-too-short t R W d s x) = short-kept t R W (text-accepted (r .text) t R W d) s x
   reading-kept (tables-filled t R W d s x) = filled-kept t R W (text-accepted (r .text) t R W d) s x

@@ -1,6 +1,6 @@
 -- Rows without a fault, their windows joined, are bids without a fault whose numbers a text may name. Assumes nothing.
 use mathlib.Core.Path.{_≡_, refl, sym, ap, _∙_}
-use mathlib.Core.Bool.{Bool, true, false, _&&_}
+use mathlib.Core.Bool.{Bool, true, false, not, _&&_}
 use mathlib.Core.List.{List, [], _∷_, _++_}
 use mathlib.Core.Option.{none}
 use Prim.Native.Nat.{ℕ, _+_, _≤_, _<_}
@@ -11,13 +11,14 @@ use borrow.Author.Tests.{leb-true, ltb-true, le-leb, lt-leb, le-ltb}
 use Rattle.tender.specs.declared.Kind.{Kind}
 use Rattle.tender.specs.declared.Kind.the-variants.{Single, Multi}
 use Rattle.tender.specs.declared.Window.{Window}
-use Rattle.tender.specs.Limits.{within, mostWindows, isSingle, lawful, allLawful}
+use Rattle.tender.specs.Limits.{within, mostWindows, isSingle, lawful, allLawful, ordered, early, every}
 use Rattle.tender.specs.Tables.{Row, own}
 use Rattle.reader_line.specs.Words.{among}
 use Rattle.spelling.specs.Text.{bidIn}
 use Rattle.spelling.specs.WordLaws.{Named, AllNamed}
 use Rattle.spelling.specs.BackLaws.{Nameable, AllNameable, asLines}
-use Rattle.reader.specs.Read.{ReadOutcome, bidFaultIn, bidFault, checked, lineJudged}
+use Rattle.reader.specs.Read.{ReadOutcome, lineFault, bidFaultIn, bidFaultAfter, bidFault, checked, lineJudged}
+use Rattle.reader.specs.FaultLaws.{lawful-every}
 use Rattle.cover.specs.SetLaws.{and-split}
 use Rattle.award_check.specs.Faults.{rowFault}
 use Rattle.runs.specs.Runs.{joined}
@@ -59,11 +60,11 @@ unfolding mostWindows isSingle
 single-one Single n l = le-ltb 1 n l
 single-one Multi n l = refl
 
-no-fault : (k : Kind) (bids bidder price count : ℕ) (ok used : Bool) → bids < 1000 → count ≤ mostWindows k → 1 ≤ bidder
-    → bidder ≤ 999999 → price ≤ 100000000 → ok ≡ true → used ≡ false →
-    bidFaultIn k bids bidder price count ok used ≡ none
-unfolding bidFaultIn within
-no-fault k bids bidder price count ok used a b c d e f g = rw (
+no-fault : (k : Kind) (bids bidder price count : ℕ) (empty late used : Bool) → bids < 1000 → count ≤ mostWindows k → 1 ≤ bidder
+    → bidder ≤ 999999 → price ≤ 100000000 → empty ≡ false → late ≡ false → used ≡ false →
+    bidFaultIn k bids bidder price count empty late used ≡ none
+unfolding bidFaultIn lineFault within
+no-fault k bids bidder price count empty late used a b c d e f g h = rw (
   lt-leb 1000 bids a,
   le-ltb 32 count (omega (arith, most-few k)),
   le-leb 1 bidder c,
@@ -72,16 +73,18 @@ no-fault k bids bidder price count ok used a b c d e f g = rw (
   single-one k count b,
   f,
   g,
+  h,
 )
 
 row-read : (k : Kind) (windows : List ℕ) (place : ℕ) (used : List ℕ) (r : Row) → RowSays k windows place used r
     → place ≡ length used + 1 → bidFault k used (respelt (bidIn windows r)) ≡ none
-unfolding bidFault respelt bidIn
+unfolding bidFault bidFaultAfter respelt bidIn
 row-read k windows place used r s p =
-    no-fault k (length used) (r .bidder) (r .price) (length (joined (own windows r))) (allLawful (joined (own windows r)))
-    (among (r .bidder) used)
+    let ws = joined (own windows r) in
+    let h = lawful-every ws (joined-lawful (own windows r)) in
+    no-fault k (length used) (r .bidder) (r .price) (length ws) (not (every ordered ws)) (not (every early ws)) (among (r .bidder) used)
     (omega (arith, s .place-low)) (joined-count k windows place used r s) (s .bidder-low) (s .bidder-high) (s .price-high)
-    (joined-lawful (own windows r)) (s .bidder-new)
+    (ap not (h .0)) (ap not (h .1)) (s .bidder-new)
 
 -- all rows
 

@@ -16,7 +16,8 @@ use Rattle.tender.specs.Tables.{Row, rowsOf, own, flatRows, flatWindows, bidWid
 use Rattle.cover.specs.SetLaws.{and-split}
 use Rattle.reader_line.specs.Words.{cut}
 use Rattle.reader_line.specs.Line.{BidLine, tender, linesOf}
-use Rattle.reader.specs.Read.{accepted, rowsFrom, allWindows, bidsOf, tables, readLines, readText}
+use Rattle.reader.specs.Read.{accepted, rowsFrom, allWindows, bidsOf, lineJudged, tables, readLines, readText}
+use Rattle.reader.specs.FaultLaws.{lawful-tender}
 use Rattle.reader.specs.RulesLaws.{rules-law, rowsFrom-length}
 use Rattle.spelling.specs.Text.{bidIn, textOf}
 use Rattle.spelling.specs.BackLaws.{asLines, text-back}
@@ -59,9 +60,9 @@ bids-as (b ∷ bs) = ap (λ l. b ∷ l) (bids-as bs)
 lines-read : (t : Tender) (rows : List Row) (windows : List ℕ) → Lawful t rows windows →
     readLines (some (tender t) ∷ asLines (respeltIn windows rows))
     ≡ accepted t (rowsFrom 0 (respeltIn windows rows)) (allWindows (respeltIn windows rows))
-unfolding readLines tables
+unfolding readLines lineJudged tables
 lines-read t rows windows h =
-    rw (h .window)
+    rw (lawful-tender t (h .window))
     (rows-checked (t .kind) windows 1 [] 0 2 rows (tables t (bidsOf (asLines (respeltIn windows rows)))) (h .rows-too) refl
     ∙ ap (tables t) (bids-as (respeltIn windows rows)))
 

@@ -2,15 +2,16 @@
 use Prim.Native.Nat.{_+_}
 use mathlib.Core.Path.{sym, ap, _∙_}
 use native.Mathlib.Omega.{arith}
-use borrow.Author.Needs.{needs}
 use mathlib.Core.List.{_∷_}
 use lib.ListN.{drop}
 use Rattle.reader_line.specs.Words.{cut}
 use Rattle.reader_line.specs.Line.{linesOf}
 use Rattle.reader_line.specs.ScanLaws.{lines-at}
 use Rattle.reader_line.specs.Answer.{toldLine}
+use Rattle.reader.specs.FaultLaws.{flaw-sound, tender-empty, tender-late}
 use Rattle.reader.specs.FillsLaws.{ends-at, ends-broken}
-use Rattle.reader.specs.WholeLaws.{first-empty, is-tender, first-bid, first-broken, first-unlawful, first-odd}
+use Rattle.reader.specs.WholeLaws.{first-empty, is-tender, first-bid, first-broken, first-faulty, first-odd}
+use borrow.Author.Needs.{needs}
 use Rattle.reader.proofs.read_first.Statement.{statement}
 use Rattle.reader.proofs.read_first.Tie as tie
 
@@ -41,15 +42,8 @@ read-line-requires c κs = search needs
 enum-known-t : tie.Need-enum-known-t
 enum-known-t c = search needs
 
-keeps-requires : tie.Need-keeps-requires
-keeps-requires c κs = search needs
-
-add-t21 : tie.Need-add-t21
-add-t21 c =
-    let c12 = c .before .before .before .before .before .before .before .before .before .before .before .before in
-    let c14 = c12 .before .before in
-    let c18 = c14 .before .before .before .before in
-    let b = ends-at (c18 .args .text .now) 0 _ (c14 .line-end .ensures) _ (c12 .e .given .1) in omega (arith, b .1)
+flaw-in-requires : tie.Need-flaw-in-requires
+flaw-in-requires c κs = search needs
 
 enum-told : tie.Need-enum-told
 enum-told c = search needs
@@ -60,54 +54,70 @@ enum-told-2 c = search needs
 enum-told-3 : tie.Need-enum-told-3
 enum-told-3 c = search needs
 
+add-t23 : tie.Need-add-t23
+add-t23 c =
+    let c13 = c .before .before .before .before .before .before .before .before .before .before .before .before .before in
+    let c15 = c13 .before .before in
+    let c19 = c15 .before .before .before .before in
+    let b = ends-at (c19 .args .text .now) 0 _ (c15 .line-end .ensures) _ (c13 .e .given .1) in omega (arith, b .1)
+
+enum-told-4 : tie.Need-enum-told-4
+enum-told-4 c = search needs
+
+enum-told-5 : tie.Need-enum-told-5
+enum-told-5 c = search needs
+
+enum-told-6 : tie.Need-enum-told-6
+enum-told-6 c = search needs
+
 same-length : tie.Need-same-length
 same-length c = search needs
 
 returns-2 : tie.Need-returns-2
 returns-2 c =
-    let c4 = c .before .before .before .before in
-    let c8 = c4 .before .before .before .before in
-    let c12 = c8 .before .before .before .before in
-    let c14 = c12 .before .before in
-    let c18 = c14 .before .before .before .before in
-    let args = c18 .args in
-    let b = ends-at (args .text .now) 0 _ (c14 .line-end .ensures) _ (c12 .e .given .1) in
-    let o = is-tender 0 _ _ _ (ap (λ t. toldLine t (c8 .read-line .last .1 .0)) (sym (c4 .t .given .1)) ∙ c8 .read-line .ensures .0) in
-    record {
-      inside = omega (arith, b .1);
-      lines = lines-at (args .text .now) 0 _ (b .0) (b .1)
-          ∙ ap (λ x. x ∷ linesOf (cut 10 (drop (c12 .e .given .0 .0 + 1) (args .text .now)))) o;
-      window = sym (c .before .keeps .ensures) ∙ c .if2 .taken;
-    }
+    let c5 = c .before .before .before .before .before in
+    let c9 = c5 .before .before .before .before in
+    let c13 = c9 .before .before .before .before in
+    let c15 = c13 .before .before in
+    let c19 = c15 .before .before .before .before in
+    let b = ends-at (c19 .args .text .now) 0 _ (c15 .line-end .ensures) _ (c13 .e .given .1) in
+    let o = is-tender 0 _ _ _ (ap (λ t. toldLine t (c9 .read-line .last .1 .0)) (sym (c5 .t .given .1)) ∙ c9 .read-line .ensures .0) in
+    first-faulty _ _ _ (lines-at (c19 .args .text .now) 0 _ (b .0) (b .1)) _ o _
+    (tender-empty _ (sym (c .before .before .flaw-in .ensures) ∙ c .enum-told .given .1))
 
 same-length-2 : tie.Need-same-length-2
 same-length-2 c = search needs
 
 returns-3 : tie.Need-returns-3
 returns-3 c =
-    let c4 = c .before .before .before .before in
-    let c8 = c4 .before .before .before .before in
-    let c12 = c8 .before .before .before .before in
-    let c14 = c12 .before .before in
-    let c18 = c14 .before .before .before .before in
-    let args = c18 .args in
-    let b = ends-at (args .text .now) 0 _ (c14 .line-end .ensures) _ (c12 .e .given .1) in
-    let o = is-tender 0 _ _ _ (ap (λ t. toldLine t (c8 .read-line .last .1 .0)) (sym (c4 .t .given .1)) ∙ c8 .read-line .ensures .0) in
-    first-unlawful _ _ _ (lines-at (args .text .now) 0 _ (b .0) (b .1)) _ o (sym (c .before .keeps .ensures) ∙ c .if2 .left)
+    let c5 = c .before .before .before .before .before in
+    let c9 = c5 .before .before .before .before in
+    let c13 = c9 .before .before .before .before in
+    let c15 = c13 .before .before in
+    let c19 = c15 .before .before .before .before in
+    let b = ends-at (c19 .args .text .now) 0 _ (c15 .line-end .ensures) _ (c13 .e .given .1) in
+    let o = is-tender 0 _ _ _ (ap (λ t. toldLine t (c9 .read-line .last .1 .0)) (sym (c5 .t .given .1)) ∙ c9 .read-line .ensures .0) in
+    first-faulty _ _ _ (lines-at (c19 .args .text .now) 0 _ (b .0) (b .1)) _ o _
+    (tender-late _ (sym (c .before .before .flaw-in .ensures) ∙ c .enum-told2 .given .1))
 
 same-length-3 : tie.Need-same-length-3
 same-length-3 c = search needs
 
 returns-4 : tie.Need-returns-4
 returns-4 c =
-    let c4 = c .before .before .before .before in
-    let c8 = c4 .before .before .before .before in
-    let c10 = c8 .before .before in
-    let c14 = c10 .before .before .before .before in
-    let args = c14 .args in
-    let b = ends-at (args .text .now) 0 _ (c10 .line-end .ensures) _ (c8 .e .given .1) in
-    first-bid _ _ _ (lines-at (args .text .now) 0 _ (b .0) (b .1)) 0 _ _ _ _
-    (ap (λ t. toldLine t (c4 .read-line .last .1 .0)) (sym (c .enum-told .given .1)) ∙ c4 .read-line .ensures .0)
+    let c5 = c .before .before .before .before .before in
+    let c9 = c5 .before .before .before .before in
+    let c13 = c9 .before .before .before .before in
+    let c15 = c13 .before .before in
+    let c19 = c15 .before .before .before .before in
+    let b = ends-at (c19 .args .text .now) 0 _ (c15 .line-end .ensures) _ (c13 .e .given .1) in
+    let o = is-tender 0 _ _ _ (ap (λ t. toldLine t (c9 .read-line .last .1 .0)) (sym (c5 .t .given .1)) ∙ c9 .read-line .ensures .0) in
+    record {
+      inside = omega (arith, b .1);
+      lines = lines-at (c19 .args .text .now) 0 _ (b .0) (b .1)
+          ∙ ap (λ x. x ∷ linesOf (cut 10 (drop (c13 .e .given .0 .0 + 1) (c19 .args .text .now)))) o;
+      window = flaw-sound _ (sym (c .before .before .flaw-in .ensures) ∙ c .enum-told3 .given .1);
+    }
 
 same-length-4 : tie.Need-same-length-4
 same-length-4 c = search needs
@@ -118,15 +128,27 @@ returns-5 c =
     let c8 = c4 .before .before .before .before in
     let c10 = c8 .before .before in
     let c14 = c10 .before .before .before .before in
-    let args = c14 .args in
-    let b = ends-at (args .text .now) 0 _ (c10 .line-end .ensures) _ (c8 .e .given .1) in
-    first-broken _ _ _ (lines-at (args .text .now) 0 _ (b .0) (b .1)) 0 _
-    (ap (λ t. toldLine t (c4 .read-line .last .1 .0)) (sym (c .enum-told2 .given .1)) ∙ c4 .read-line .ensures .0)
+    let b = ends-at (c14 .args .text .now) 0 _ (c10 .line-end .ensures) _ (c8 .e .given .1) in
+    first-bid _ _ _ (lines-at (c14 .args .text .now) 0 _ (b .0) (b .1)) 0 _ _ _ _
+    (ap (λ t. toldLine t (c4 .read-line .last .1 .0)) (sym (c .enum-told4 .given .1)) ∙ c4 .read-line .ensures .0)
+
+same-length-5 : tie.Need-same-length-5
+same-length-5 c = search needs
 
 returns-6 : tie.Need-returns-6
 returns-6 c =
+    let c4 = c .before .before .before .before in
+    let c8 = c4 .before .before .before .before in
+    let c10 = c8 .before .before in
+    let c14 = c10 .before .before .before .before in
+    let b = ends-at (c14 .args .text .now) 0 _ (c10 .line-end .ensures) _ (c8 .e .given .1) in
+    first-broken _ _ _ (lines-at (c14 .args .text .now) 0 _ (b .0) (b .1)) 0 _
+    (ap (λ t. toldLine t (c4 .read-line .last .1 .0)) (sym (c .enum-told5 .given .1)) ∙ c4 .read-line .ensures .0)
+
+returns-7 : tie.Need-returns-7
+returns-7 c =
     let c6 = c .before .before .before .before .before .before in
-    first-odd _ (ends-broken (c6 .args .text .now) 0 _ (c .before .before .line-end .ensures) (c .enum-told3 .given .1))
+    first-odd _ (ends-broken (c6 .args .text .now) 0 _ (c .before .before .line-end .ensures) (c .enum-told6 .given .1))
 
 pub read-first-spec : {M : Type 1} → statement M
 read-first-spec =
@@ -140,11 +162,14 @@ read-first-spec =
     part-read-line-end
     read-line-requires
     enum-known-t
-    keeps-requires
-    add-t21
+    flaw-in-requires
     enum-told
     enum-told-2
     enum-told-3
+    add-t23
+    enum-told-4
+    enum-told-5
+    enum-told-6
     same-length
     returns-2
     same-length-2
@@ -153,4 +178,6 @@ read-first-spec =
     returns-4
     same-length-4
     returns-5
-    returns-6)
+    same-length-5
+    returns-6
+    returns-7)

@@ -1,9 +1,9 @@
 -- `bids::judge` meets its contract: its tests are those of the definition, in their order. Assumes nothing.
 use mathlib.Core.Path.{sym, ap, _∙_}
 use native.Mathlib.Omega.{arith}
-use borrow.Author.Tests.{not-true, not-false}
+use Rattle.reader_line.specs.Flaws.{isEmpty, isLate}
 use Rattle.reader.specs.Steps.{faultAt}
-use Rattle.reader.specs.JudgeLaws.{many, beyond, several-windows, unlawful, repeated, sound, bidder-in}
+use Rattle.reader.specs.JudgeLaws.{many, beyond, several-windows, window-empty, window-late, repeated, sound, bidder-in}
 use borrow.Author.Needs.{needs}
 use Rattle.reader.proofs.bids.judge.Statement.{statement}
 use Rattle.reader.proofs.bids.judge.Tie as tie
@@ -12,14 +12,14 @@ too-many-requires : tie.Need-too-many-requires
 too-many-requires c κs = search needs
 
 returns : tie.Need-returns
-returns c = ap (faultAt _) (sym (many _ _ _ _ _ _ _ (sym (c .before .too-many .ensures) ∙ c .if1 .taken)))
+returns c = ap (faultAt _) (sym (many _ _ _ _ _ _ _ _ (sym (c .before .too-many .ensures) ∙ c .if1 .taken)))
 
 outside-requires : tie.Need-outside-requires
 outside-requires c κs = search needs
 
 returns-2 : tie.Need-returns-2
-returns-2 c = ap (faultAt _) (sym (beyond _ _ _ _ _ _ _
-    (sym (c .before .before .before .too-many .ensures) ∙ c .before .before .if1 .left)
+returns-2 c = ap (faultAt _)
+    (sym (beyond _ _ _ _ _ _ _ _ (sym (c .before .before .before .too-many .ensures) ∙ c .before .before .if1 .left)
     (sym (c .before .outside .ensures) ∙ c .if2 .taken)))
 
 several-requires : tie.Need-several-requires
@@ -29,25 +29,25 @@ returns-3 : tie.Need-returns-3
 returns-3 c =
     let c4 = c .before .before .before .before in
     let c5 = c4 .before in
-    ap (faultAt _) (sym (several-windows _ _ _ _ _ _ _ (sym (c5 .too-many .ensures) ∙ c4 .if1 .left)
+    ap (faultAt _) (sym (several-windows _ _ _ _ _ _ _ _ (sym (c5 .too-many .ensures) ∙ c4 .if1 .left)
     (sym (c .before .before .before .outside .ensures) ∙ c .before .before .if2 .left)
     (sym (c .before .several .ensures) ∙ c .if3 .taken)))
+
+enum-told : tie.Need-enum-told
+enum-told c = search needs
 
 returns-4 : tie.Need-returns-4
 returns-4 c =
     let c4 = c .before .before .before .before in
     let c5 = c4 .before in
     let c6 = c5 .before in
-    ap (faultAt _) (sym (unlawful _ _ _ _ _ _ _ (sym (c6 .too-many .ensures) ∙ c5 .if1 .left)
-    (sym (c4 .outside .ensures) ∙ c .before .before .before .if2 .left)
-    (sym (c .before .before .several .ensures) ∙ c .before .if3 .left) (not-true _ (c .if4 .taken))))
+    let c7 = c6 .before in
+    ap (faultAt _) (sym (window-empty _ _ _ _ _ _ _ _ (sym (c7 .too-many .ensures) ∙ c6 .if1 .left)
+    (sym (c5 .outside .ensures) ∙ c4 .if2 .left) (sym (c .before .before .before .several .ensures) ∙ c .before .before .if3 .left)
+    (ap isEmpty (c .enum-told .given .1))))
 
-holds-requires : tie.Need-holds-requires
-holds-requires c κs =
-    let c4 = c .before .before .before .before in
-    let c8 = c4 .before .before .before .before in
-    let args = c8 .args in
-    omega (arith, bidder-in (args .bidder) (args .price) (sym (c4 .outside .ensures) ∙ c .before .before .before .if2 .left), c8 .pre)
+enum-told-2 : tie.Need-enum-told-2
+enum-told-2 c = search needs
 
 returns-5 : tie.Need-returns-5
 returns-5 c =
@@ -55,10 +55,20 @@ returns-5 c =
     let c5 = c4 .before in
     let c6 = c5 .before in
     let c7 = c6 .before in
-    let c8 = c7 .before in
-    ap (faultAt _) (sym (repeated _ _ _ _ _ _ _ (sym (c8 .too-many .ensures) ∙ c7 .if1 .left) (sym (c6 .outside .ensures) ∙ c5 .if2 .left)
-    (sym (c4 .several .ensures) ∙ c .before .before .before .if3 .left) (not-false _ (c .before .before .if4 .left))
-    (sym (c .before .holds .ensures) ∙ c .if5 .taken)))
+    ap (faultAt _) (sym (window-late _ _ _ _ _ _ _ _ (sym (c7 .too-many .ensures) ∙ c6 .if1 .left)
+    (sym (c5 .outside .ensures) ∙ c4 .if2 .left) (sym (c .before .before .before .several .ensures) ∙ c .before .before .if3 .left)
+    (ap isEmpty (c .enum-told2 .given .1))
+    (ap isLate (c .enum-told2 .given .1))))
+
+enum-told-3 : tie.Need-enum-told-3
+enum-told-3 c = search needs
+
+holds-requires : tie.Need-holds-requires
+holds-requires c κs =
+    let c4 = c .before .before .before .before in
+    let c5 = c4 .before in
+    let c9 = c5 .before .before .before .before in
+    omega (arith, bidder-in (c9 .args .bidder) (c9 .args .price) (sym (c5 .outside .ensures) ∙ c4 .if2 .left), c9 .pre)
 
 returns-6 : tie.Need-returns-6
 returns-6 c =
@@ -67,9 +77,24 @@ returns-6 c =
     let c6 = c5 .before in
     let c7 = c6 .before in
     let c8 = c7 .before in
-    ap (faultAt _) (sym (sound _ _ _ _ _ _ _ (sym (c8 .too-many .ensures) ∙ c7 .if1 .left) (sym (c6 .outside .ensures) ∙ c5 .if2 .left)
-    (sym (c4 .several .ensures) ∙ c .before .before .before .if3 .left) (not-false _ (c .before .before .if4 .left))
-    (sym (c .before .holds .ensures) ∙ c .if5 .left)))
+    let c9 = c8 .before in
+    ap (faultAt _) (sym (repeated _ _ _ _ _ _ _ _ (sym (c9 .too-many .ensures) ∙ c8 .if1 .left)
+    (sym (c7 .outside .ensures) ∙ c6 .if2 .left) (sym (c5 .several .ensures) ∙ c4 .if3 .left)
+    (ap isEmpty (c .before .before .enum-told3 .given .1))
+    (ap isLate (c .before .before .enum-told3 .given .1)) (sym (c .before .holds .ensures) ∙ c .if4 .taken)))
+
+returns-7 : tie.Need-returns-7
+returns-7 c =
+    let c4 = c .before .before .before .before in
+    let c5 = c4 .before in
+    let c6 = c5 .before in
+    let c7 = c6 .before in
+    let c8 = c7 .before in
+    let c9 = c8 .before in
+    ap (faultAt _) (sym (sound _ _ _ _ _ _ _ _ (sym (c9 .too-many .ensures) ∙ c8 .if1 .left)
+    (sym (c7 .outside .ensures) ∙ c6 .if2 .left) (sym (c5 .several .ensures) ∙ c4 .if3 .left)
+    (ap isEmpty (c .before .before .enum-told3 .given .1))
+    (ap isLate (c .before .before .enum-told3 .given .1)) (sym (c .before .holds .ensures) ∙ c .if4 .left)))
 
 pub judge-spec : {M : Type 1} → statement M
 judge-spec =
@@ -81,7 +106,11 @@ judge-spec =
     returns-2
     several-requires
     returns-3
+    enum-told
     returns-4
-    holds-requires
+    enum-told-2
     returns-5
-    returns-6)
+    enum-told-3
+    holds-requires
+    returns-6
+    returns-7)

@@ -28,7 +28,7 @@ put-row-requires : tie.Need-put-row-requires
 put-row-requires c κs =
     let c16 = c .before .before .before .before .before .before .before .before .before .before .before .before .before .before .before
     .before in
-    let p = passed _ _ _ _ _ _ _ (is-sound _ _ (ap verdictOf (sym (c .before .enum-told .given .1))
+    let p = passed _ _ _ _ _ _ _ _ (is-sound _ _ (ap verdictOf (sym (c .before .enum-told .given .1))
     ∙ c .before .before .before .judge .ensures)) in omega (arith, p .few-bids, c16 .pre)
 
 add-requires : tie.Need-add-requires
@@ -36,7 +36,7 @@ add-requires c κs =
     let c5 = c .before .before .before .before .before in
     let c7 = c5 .before .before in
     let c20 = c7 .before .before .before .before .before .before .before .before .before .before .before .before .before in
-    let p = passed _ _ _ _ _ _ _ (is-sound _ _ (ap verdictOf (sym (c5 .enum-told .given .1)) ∙ c7 .judge .ensures)) in
+    let p = passed _ _ _ _ _ _ _ _ (is-sound _ _ (ap verdictOf (sym (c5 .enum-told .given .1)) ∙ c7 .judge .ensures)) in
     omega (arith, p .bidder-high, c20 .pre)
 
 enum-known-r : tie.Need-enum-known-r

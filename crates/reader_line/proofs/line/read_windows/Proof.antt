@@ -1,7 +1,6 @@
 -- `line::read_windows` meets its contract: what is left of the line adds to what was read. Assumes nothing.
 use Prim.Native.Nat.{_+_, _-_, _*_, _≤_}
 use mathlib.Core.Path.{_≡_, refl, sym, ap, _∙_}
-use mathlib.Core.Bool.{true}
 use native.Mathlib.Omega.{arith}
 use borrow.Author.Needs.{needs}
 use lib.ListN.{length, take, drop}
@@ -9,6 +8,7 @@ use Rattle.tender.specs.Tables.{windowWidth}
 use Rattle.reader_line.specs.Words.{cut}
 use Rattle.reader_line.specs.Line.{windowsIn}
 use Rattle.reader_line.specs.Scan.{tallied}
+use Rattle.reader_line.specs.declared.line.Flaw.the-variants.{Sound}
 use Rattle.reader_line.specs.TallyLaws.{rows-before, tally-one, tally-more, tally-wrong, tally-last}
 use Rattle.reader_line.specs.Answer.{lastOf}
 use Rattle.reader_line.specs.EndsLaws.{next-fits}
@@ -17,12 +17,12 @@ use Rattle.reader_line.proofs.line.read_windows.Statement.{statement}
 use Rattle.reader_line.proofs.line.read_windows.Tie as tie
 
 abbrev Inv-loop : tie.InvT-loop
-Inv-loop line at windows₀ m n₀ ok₀ i₀ windows n ok i =
-    (tallied m n ok windows (windowsIn (cut 32 (drop i line))) ≡ tallied m 0 true windows₀ (windowsIn (cut 32 (drop at line)))) × (n ≤ i)
+Inv-loop line at windows₀ m n₀ flaw₀ i₀ windows n flaw i =
+    (tallied m n flaw windows (windowsIn (cut 32 (drop i line))) ≡ tallied m 0 Sound windows₀ (windowsIn (cut 32 (drop at line)))) × (n ≤ i)
     × (m ≤ 32000) × (length windows ≡ length windows₀) × (take (windowWidth * m) windows ≡ take (windowWidth * m) windows₀)
 
 abbrev μ-loop : tie.MeasureT-loop
-μ-loop line at windows₀ m n₀ ok₀ i₀ windows n ok i = length line - i
+μ-loop line at windows₀ m n₀ flaw₀ i₀ windows n flaw i = length line - i
 
 loop-holds : tie.Need-loop-holds Inv-loop μ-loop
 loop-holds c = (refl, omega arith, c .before .before .pre, refl, refl)
@@ -40,7 +40,7 @@ returns c =
     let line = args .line .now in
     let h : c .before .next .result ≡ length line = omega (arith, next-fits 32 line (c .before .before .before .loop .i) (omega arith)) in (
       sym (tally-one line (c .before .before .before .loop .i) (c .before .next .result) 0 (args .m) (c .before .before .before .loop .n)
-          (c .before .before .before .loop .ok) (c .before .before .before .loop .windows) (sym (c .before .next .ensures)) (omega arith) h)
+          (c .before .before .before .loop .flaw) (c .before .before .before .loop .windows) (sym (c .before .next .ensures)) (omega arith) h)
           ∙ c .before .before .before .loop .inv .0,
       c .before .before .before .loop .inv .4,
     )
@@ -84,8 +84,8 @@ add-put-window c = search needs
 put-window-requires : tie.Need-put-window-requires Inv-loop μ-loop
 put-window-requires c κs = search needs
 
-keeps-requires : tie.Need-keeps-requires Inv-loop μ-loop
-keeps-requires c κs = search needs
+worse-requires : tie.Need-worse-requires Inv-loop μ-loop
+worse-requires c κs = search needs
 
 add-n : tie.Need-add-n Inv-loop μ-loop
 add-n c = search needs
@@ -108,8 +108,8 @@ loop-again c =
     let c19 = c16 .before .before .before in
     let args = c19 .args in
     let line = args .line .now in (
-      rw (c .keeps .ensures, c .before .before .before .put-window .ensures)
-          (sym (tally-more line (c16 .loop .i) (c14 .next .result) (c12 .next2 .result) (args .m) (c16 .loop .n) (c16 .loop .ok)
+      rw (c .worse .ensures, c .before .before .before .put-window .ensures)
+          (sym (tally-more line (c16 .loop .i) (c14 .next .result) (c12 .next2 .result) (args .m) (c16 .loop .n) (c16 .loop .flaw)
           (c16 .loop .windows) (sym (c14 .next .ensures)) (c13 .if1 .left)
           (sym (c12 .next2 .ensures)) (c11 .if2 .taken) _ (is-of _ _ _ (sym (c8 .read-window .ensures) ∙ c6 .a .given .1)))
           ∙ c16 .loop .inv .0),
@@ -138,7 +138,7 @@ returns-2 c =
     let c13 = c10 .before .before .before in
     let args = c13 .args in
     let line = args .line .now in (
-      sym (tally-wrong line (c10 .loop .i) (c8 .next .result) (c6 .next2 .result) (args .m) (c10 .loop .n) (c10 .loop .ok)
+      sym (tally-wrong line (c10 .loop .i) (c8 .next .result) (c6 .next2 .result) (args .m) (c10 .loop .n) (c10 .loop .flaw)
           (c10 .loop .windows) (sym (c8 .next .ensures)) (c7 .if1 .left)
           (sym (c6 .next2 .ensures)) (c5 .if2 .taken) (is-wrong _ (sym (c .before .before .read-window .ensures) ∙ c .enum-told .given .1)))
           ∙ c10 .loop .inv .0,
@@ -186,8 +186,8 @@ put-window-requires-2 c κs = search needs
 add-t43 : tie.Need-add-t43 Inv-loop μ-loop
 add-t43 c = search needs
 
-keeps-requires-2 : tie.Need-keeps-requires-2 Inv-loop μ-loop
-keeps-requires-2 c κs = search needs
+worse-requires-2 : tie.Need-worse-requires-2 Inv-loop μ-loop
+worse-requires-2 c κs = search needs
 
 same-length-3 : tie.Need-same-length-3 Inv-loop μ-loop
 same-length-3 c =
@@ -213,8 +213,8 @@ returns-3 c =
     ∙ is-of (lastOf (take (c14 .next .result - c16 .loop .i) (drop (c16 .loop .i) line))
     (take (c12 .next2 .result - (c14 .next .result + 1)) (drop (c14 .next .result + 1) line))) _ _
     (sym (c8 .read-last .ensures) ∙ c6 .a2 .given .1) in (
-      rw (c .keeps2 .ensures, c .before .before .before .put-window2 .ensures)
-          (sym (tally-last line (c16 .loop .i) (c14 .next .result) (c12 .next2 .result) (args .m) (c16 .loop .n) (c16 .loop .ok)
+      rw (c .worse2 .ensures, c .before .before .before .put-window2 .ensures)
+          (sym (tally-last line (c16 .loop .i) (c14 .next .result) (c12 .next2 .result) (args .m) (c16 .loop .n) (c16 .loop .flaw)
           (c16 .loop .windows) (sym (c14 .next .ensures)) (c13 .if1 .left)
           (sym (c12 .next2 .ensures)) k _ g) ∙ c16 .loop .inv .0),
       ap (take (windowWidth * args .m)) (c .before .before .before .put-window2 .ensures)
@@ -250,7 +250,7 @@ returns-4 c =
     ∙ is-wrong (lastOf (take (c8 .next .result - c10 .loop .i) (drop (c10 .loop .i) line))
     (take (c6 .next2 .result - (c8 .next .result + 1)) (drop (c8 .next .result + 1) line)))
     (sym (c .before .before .read-last .ensures) ∙ c .enum-told2 .given .1) in (
-      sym (tally-last-wrong line (c10 .loop .i) (c8 .next .result) (c6 .next2 .result) (args .m) (c10 .loop .n) (c10 .loop .ok)
+      sym (tally-last-wrong line (c10 .loop .i) (c8 .next .result) (c6 .next2 .result) (args .m) (c10 .loop .n) (c10 .loop .flaw)
           (c10 .loop .windows) (sym (c8 .next .ensures)) (c7 .if1 .left)
           (sym (c6 .next2 .ensures)) k g) ∙ c10 .loop .inv .0,
       c10 .loop .inv .4,
@@ -263,7 +263,7 @@ returns-5 : tie.Need-returns-5 Inv-loop μ-loop
 returns-5 c =
     let c4 = c .before .before .before .before in
     let args = c4 .args in (
-      sym (tally-end (args .line .now) (c .before .loop .i) (args .m) (c .before .loop .n) (c .before .loop .ok) (c .before .loop .windows)
+      sym (tally-end (args .line .now) (c .before .loop .i) (args .m) (c .before .loop .n) (c .before .loop .flaw) (c .before .loop .windows)
           (c .loop-test .left)) ∙ c .before .loop .inv .0,
       c .before .loop .inv .4,
     )
@@ -291,7 +291,7 @@ read-windows-spec =
     enum-known-a
     add-put-window
     put-window-requires
-    keeps-requires
+    worse-requires
     add-n
     add-i
     loop-less
@@ -311,7 +311,7 @@ read-windows-spec =
     add-put-window-2
     put-window-requires-2
     add-t43
-    keeps-requires-2
+    worse-requires-2
     same-length-3
     returns-3
     enum-told-2
