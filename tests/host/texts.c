@@ -48,7 +48,8 @@ size_t faulty_text(char *s)
     unsigned start = below(8) ? 0 : 10081, end = below(8) ? 20 : below(2) ? 10081 : 0;
     size_t at = (size_t)sprintf(s, "(tender %s %u %u)\n", single ? "single" : "multi", start, end);
     for (unsigned i = 0, n = below(6); i < n; i++) {
-        at += (size_t)sprintf(s + at, "(bid %u %u", below(6) ? 10 + i : bidder[below(5)], below(6) ? below(50) : price[below(3)]);
+        unsigned who = below(3) ? 10 + i : below(2) ? 10 + below(4) : bidder[below(5)];
+        at += (size_t)sprintf(s + at, "(bid %u %u", who, below(6) ? below(50) : price[below(3)]);
         for (unsigned k = !below(8) ? 31 + below(3) : single && below(4) ? 1 : 1 + below(3); k; k--) at += some_window(s + at);
         at += (size_t)sprintf(s + at, ")\n");
     }
