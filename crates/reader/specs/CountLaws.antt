@@ -1,6 +1,6 @@
 -- How much an accepted text fills: a row for each line after the first, at most 1,000 rows and 32,000 windows. Assumes nothing.
 use mathlib.Core.Path.{_≡_, refl, ap, _∙_}
-use mathlib.Core.List.{List, [], _∷_, _++_, map}
+use mathlib.Core.List.{List, [], _∷_, _++_}
 use mathlib.Core.Bool.{Bool, true, false, cond}
 use mathlib.Core.Option.{Option, none, some}
 use Prim.Native.Nat.{ℕ, _+_, _*_, _≤_}
@@ -13,10 +13,11 @@ use Rattle.tender.specs.declared.Window.{Window}
 use Rattle.tender.specs.declared.Tender.{Tender}
 use Rattle.tender.specs.Tables.{Row}
 use Rattle.reader_line.specs.Words.{cut, growFirst}
-use Rattle.reader_line.specs.Line.{BidLine, Line, bid, lineOf, linesOf}
-use Rattle.reader.specs.Read.{ReadOutcome, accepted, refused, bidsOf, tables, readLines, readText, fitted, readInto}
+use Rattle.reader_line.specs.Line.{Line, lineOf, linesOf}
+use Rattle.reader.specs.Read.{ReadOutcome, accepted, refused, bidsOf, readLines, readText, fitted, readInto}
 use Rattle.reader_line.specs.CutLaws.{Pieces, cut-some}
-use Rattle.reader.specs.ReadLaws.{never, read-lines, checked-bids, begun}
+use Rattle.reader.specs.ReadLaws.{read-lines}
+use Rattle.reader.specs.HeadLaws.{headLines, head-is, AllRead, accepted-head, accepted-read}
 use Rattle.reader.specs.Rules.{RowsRules, bytesLike}
 use Rattle.reader.specs.RulesLaws.{rowsFrom-length, rules-law}
 
@@ -37,15 +38,6 @@ cut-count d (b ∷ s) = go (eqb b d) (cut-some d s) (cut-count d s)
     go true c e = omega arith
     go false c e = omega (arith, grown (cut d s) c)
 
-abbrev pub AllRead : List (Option Line) → Type 0
-AllRead [] = Unit {0}
-AllRead (none ∷ ls) = ⊥
-AllRead (some x ∷ ls) = AllRead ls
-
-pub bids-read : (bs : List BidLine) → AllRead (map (λ b. some (bid b)) bs)
-bids-read [] = tt
-bids-read (b ∷ bs) = bids-read bs
-
 lines-count : (p : List ℕ) (ps : List (List ℕ)) → AllRead (linesOf (p ∷ ps))
     → length (linesOf (p ∷ ps)) + 1 ≡ length (p ∷ ps)
 unfolding linesOf
@@ -62,18 +54,18 @@ lines-count p (q ∷ ps) a = go (lineOf p) a (lines-count q ps)
 -- an accepted text has a row for each line after the first; each line ends with byte 10
 pub lines-law : (T : Tender) (R : List Row) (W : List Window) (text : List ℕ) → readText text ≡ accepted T R W
     → length R + 1 ≡ bytesLike 10 text
-unfolding readLines
+unfolding headLines
 lines-law T R W text e = go (linesOf (cut 10 text)) refl (cut-some 10 text) (read-lines T R W text e)
   where
     go : (ls : List (Option Line)) → linesOf (cut 10 text) ≡ ls → Pieces (cut 10 text) → readLines ls ≡ accepted T R W
         → length R + 1 ≡ bytesLike 10 text
-    go [] q c x = never x
-    go (l ∷ ls) q c x =
-        let g = begun T R W l ls x in
-        let h = checked-bids T R W (T .kind) 2 [] ls (tables T (bidsOf ls)) (g .sound) in
-        let m : linesOf (c .first ∷ c .rest) ≡ l ∷ ls = rw (← (c .are)) q in
-        let r : AllRead (linesOf (c .first ∷ c .rest)) = rw (m, g .first, h) (bids-read (bidsOf ls)) in
-        let o : length ls ≡ length (bidsOf ls) = ap length h ∙ simp length-map in
+    go ls q c x =
+        let g = accepted-head T R W ls x in
+        let i = head-is ls T (g .from) (g .rest) (g .head) in
+        let m : linesOf (c .first ∷ c .rest) ≡ ls = rw (← (c .are)) q in
+        let r : AllRead (linesOf (c .first ∷ c .rest)) = rw m (accepted-read T R W ls g) in
+        let o : length (g .rest) ≡ length (bidsOf (g .rest)) = ap length (g .bids) ∙ simp length-map in
+        let n : length ls ≡ length (headLines T) + length (g .rest) = ap length (i .lines) ∙ omega arith in
         omega (
           arith,
           lines-count (c .first) (c .rest) r,
@@ -81,7 +73,7 @@ lines-law T R W text e = go (linesOf (cut 10 text)) refl (cut-some 10 text) (rea
           ap length (c .are),
           cut-count 10 text,
           ap length (g .rows),
-          rowsFrom-length 0 (bidsOf ls),
+          rowsFrom-length 0 (bidsOf (g .rest)),
         )
 
 -- counts

@@ -43,10 +43,12 @@ unfolding bidderNumbers
 numbers-length [] = refl
 numbers-length (b ∷ bs) = ap suc (numbers-length bs)
 
--- among the lines `whole`, all before `left` are bids without a fault, and the tables hold them
-pub record Walk (kind : Kind) (whole left : List (Option Line)) (k m : ℕ) (used rows windows : List ℕ) : Type 0 where
+-- among the lines `whole`, from line `from` on, all before `left`, which begins on line `line`, are bids without a fault, and the
+-- tables hold them
+pub record Walk (kind : Kind) (from : ℕ) (whole left : List (Option Line)) (line k m : ℕ) (used rows windows : List ℕ) : Type 0 where
   pub done : List BidLine
-  pub checks : (out : ReadOutcome) → checked kind 2 [] whole out ≡ checked kind (k + 2) (bidderNumbers done) left out
+  pub checks : (out : ReadOutcome) → checked kind from [] whole out ≡ checked kind line (bidderNumbers done) left out
+  pub number : line ≡ from + k
   pub bids : bidsOf whole ≡ done ++ bidsOf left
   pub count : length done ≡ k
   pub places : length (allWindows done) ≡ m
@@ -72,14 +74,15 @@ unset n x = let e : getD (zeros n) (x / 64) 0 ≡ 0 = zero-at (ltb (x / 64) n) r
     zero-at true h = getD-replicate n (x / 64) 0 0 (ltb-true (x / 64) n h)
     zero-at false h = List·getD-eq-default (zeros n) 0 (rw length-replicate (ltb-false (x / 64) n h))
 
-pub walk-begins : (kind : Kind) (ls : List (Option Line)) (used rows windows : List ℕ) → used ≡ replicate 15625 0
+pub walk-begins : (kind : Kind) (from : ℕ) (ls : List (Option Line)) (used rows windows : List ℕ) → used ≡ replicate 15625 0
     → length rows ≡ 4000
-    → length windows ≡ 22000 → Walk kind ls ls 0 0 used rows windows
+    → length windows ≡ 22000 → Walk kind from ls ls from 0 0 used rows windows
 unfolding bidderNumbers zeros allWindows rowsFrom flatRows flatWindows among
-walk-begins kind ls used rows windows u r w =
+walk-begins kind from ls used rows windows u r w =
     record {
       done = [];
       checks = λ out. refl;
+      number = omega arith;
       bids = refl;
       count = refl;
       places = refl;
@@ -122,43 +125,44 @@ bid-not-refused (step.Bid d) c n at e h = absurd h
 bid-not-refused (step.Refused x) c n at e h = let z : _≡_ {A = ℕ} 0 1 = cc in absurd (omega arith)
 
 -- what bounds the windows of a bid bounds those that a line adds
-pub taken-room : (kind : Kind) (k m : ℕ) (used rows windows used′ rows′ windows′ : List ℕ) (o : Option Line) (r : Step)
+pub taken-room : (kind : Kind) (line k m : ℕ) (used rows windows used′ rows′ windows′ : List ℕ) (o : Option Line) (r : Step)
     (c n : ℕ)
-    → Taken o kind k m used rows windows r used′ rows′ windows′ → r ≡ step.Bid c →
+    → Taken o kind line k m used rows windows r used′ rows′ windows′ → r ≡ step.Bid c →
     ((b : BidLine) → o ≡ some (bid b) → 6 * (m + length (b .windows)) ≤ n) → 6 * (m + c) ≤ n
-taken-room kind k m used rows windows used′ rows′ windows′ none r c n t e h = bid-not-refused r c 2 (k + 2) e t
-taken-room kind k m used rows windows used′ rows′ windows′ (some (tender x)) r c n t e h = bid-not-refused r c 2 (k + 2) e t
-taken-room kind k m used rows windows used′ rows′ windows′ (some (bid b)) r c n t e h =
+taken-room kind line k m used rows windows used′ rows′ windows′ none r c n t e h = bid-not-refused r c 2 line e t
+taken-room kind line k m used rows windows used′ rows′ windows′ (some (tender x)) r c n t e h = bid-not-refused r c 2 line e t
+taken-room kind line k m used rows windows used′ rows′ windows′ (some (bid b)) r c n t e h =
     go (bidFaultAfter kind k b (eqb (cell used (b .bidder)) 1)) t
   where
-    go : (f : Option (ℕ → Refusal)) → Judged f b k m used rows windows r used′ rows′ windows′ → 6 * (m + c) ≤ n
+    go : (f : Option (ℕ → Refusal)) → Judged f b line k m used rows windows r used′ rows′ windows′ → 6 * (m + c) ≤ n
     go none j = let q : c ≡ length (b .windows) = cc (e, j .answer) in rw q (h b refl)
-    go (some f) j = bid-not-refused r c (numberOf (f (k + 2))) (placeOf (f (k + 2))) e j
+    go (some f) j = bid-not-refused r c (numberOf (f line)) (placeOf (f line)) e j
 
-module _ (kind : Kind) (whole rest : List (Option Line)) (k m : ℕ) (used rows windows used′ rows′ windows′ : List ℕ) where
+module _ (kind : Kind) (from : ℕ) (whole rest : List (Option Line)) (line k m : ℕ)
+    (used rows windows used′ rows′ windows′ : List ℕ) where
   -- the fault of the next bid
-  fault-is : (b : BidLine) (w : Walk kind whole (some (bid b) ∷ rest) k m used rows windows) →
+  fault-is : (b : BidLine) (w : Walk kind from whole (some (bid b) ∷ rest) line k m used rows windows) →
       bidFault kind (bidderNumbers (w .done)) b ≡ bidFaultAfter kind k b (eqb (cell used (b .bidder)) 1)
   unfolding bidFault
   fault-is b w = rw (← (w .marked (b .bidder)), numbers-length (w .done), w .count)
 
-  more : (b : BidLine) → Walk kind whole (some (bid b) ∷ rest) k m used rows windows → (r : Step)
+  more : (b : BidLine) → Walk kind from whole (some (bid b) ∷ rest) line k m used rows windows → (r : Step)
       → m + length (b .windows) ≤ 11000 →
       bidFaultAfter kind k b (eqb (cell used (b .bidder)) 1) ≡ none →
       BidTaken b k m used rows windows r used′ rows′ windows′ → length used′ ≡ length used → length rows′ ≡ length rows
       → length windows′ ≡ length windows →
-      Walk kind whole rest (k + 1) (m + length (b .windows)) used′ rows′ windows′
+      Walk kind from whole rest (line + 1) (k + 1) (m + length (b .windows)) used′ rows′ windows′
   unfolding checked lineJudged bidsOf
   more b w r room g t lu lr lw =
       let p = faultless-after kind k b (eqb (cell used (b .bidder)) 1) g in
       let f = fault-is b w ∙ g in
-      let n : k + 2 + 1 ≡ k + 1 + 2 = omega arith in
       let i : m + length (b .windows) ≤ 32 * (k + 1) = omega (arith, w .few-windows, p .few-windows) in
       let j : windowWidth * (m + length (b .windows)) ≤ length windows = omega (arith, room, w .windows-long) in
       let z : bidWidth * k ≤ length rows = omega (arith, w .few-bids, w .rows-long) in
       record {
         done = w .done ++ b ∷ [];
-        checks = λ out. w .checks out ∙ rw f (rw (n, numbers-more (w .done) b));
+        checks = λ out. w .checks out ∙ rw f (rw (numbers-more (w .done) b));
+        number = omega (arith, w .number);
         bids = w .bids ∙ sym (append-assoc (w .done) (b ∷ []) (bidsOf rest));
         count = length-append (w .done) (b ∷ []) ∙ omega (arith, w .count);
         places = ap length (windows-more (w .done) b) ∙ length-append (allWindows (w .done)) (b .windows) ∙ omega (arith, w .places);
@@ -176,21 +180,22 @@ module _ (kind : Kind) (whole rest : List (Option Line)) (k m : ℕ) (used rows 
       }
 
   -- the next line is a bid
-  pub goes : (o : Option Line) → Walk kind whole (o ∷ rest) k m used rows windows → (r : Step)
-      → Taken o kind k m used rows windows r used′ rows′ windows′ →
+  pub goes : (o : Option Line) → Walk kind from whole (o ∷ rest) line k m used rows windows → (r : Step)
+      → Taken o kind line k m used rows windows r used′ rows′ windows′ →
       length used′ ≡ length used → length rows′ ≡ length rows → length windows′ ≡ length windows → (c : ℕ)
       → r ≡ step.Bid c
       → ((b : BidLine) → o ≡ some (bid b) → m + length (b .windows) ≤ 11000) →
-      Walk kind whole rest (k + 1) (m + c) used′ rows′ windows′
-  goes none w r t lu lr lw c e room = bid-not-refused r c 2 (k + 2) e t
-  goes (some (tender x)) w r t lu lr lw c e room = bid-not-refused r c 2 (k + 2) e t
+      Walk kind from whole rest (line + 1) (k + 1) (m + c) used′ rows′ windows′
+  goes none w r t lu lr lw c e room = bid-not-refused r c 2 line e t
+  goes (some (tender x)) w r t lu lr lw c e room = bid-not-refused r c 2 line e t
   goes (some (bid b)) w r t lu lr lw c e room = go
       (bidFaultAfter kind k b (eqb (cell used (b .bidder)) 1)) refl t
     where
       go : (f : Option (ℕ → Refusal)) → bidFaultAfter kind k b (eqb (cell used (b .bidder)) 1) ≡ f →
-          Judged f b k m used rows windows r used′ rows′ windows′ → Walk kind whole rest (k + 1) (m + c) used′ rows′ windows′
+          Judged f b line k m used rows windows r used′ rows′ windows′
+          → Walk kind from whole rest (line + 1) (k + 1) (m + c) used′ rows′ windows′
       go none g j = let q : c ≡ length (b .windows) = cc (e, j .answer) in rw q (more b w r (room b refl) g j lu lr lw)
-      go (some f) g j = bid-not-refused r c (numberOf (f (k + 2))) (placeOf (f (k + 2))) e j
+      go (some f) g j = bid-not-refused r c (numberOf (f line)) (placeOf (f line)) e j
 
   refusal-is : (r : Step) (x : Refusal) (n at : ℕ) → r ≡ step.Refused x → StepDeclines r n at
       → refused n at ≡ refused (numberOf x) (placeOf x)
@@ -202,37 +207,37 @@ module _ (kind : Kind) (whole rest : List (Option Line)) (k m : ℕ) (used rows 
       rw (← q, a, b)
 
   -- the next line is faulty
-  pub stops : (o : Option Line) → Walk kind whole (o ∷ rest) k m used rows windows → (r : Step)
-      → Taken o kind k m used rows windows r used′ rows′ windows′ → (x : Refusal) → r ≡ step.Refused x →
-      (out : ReadOutcome) → checked kind 2 [] whole out ≡ refused (numberOf x) (placeOf x)
+  pub stops : (o : Option Line) → Walk kind from whole (o ∷ rest) line k m used rows windows → (r : Step)
+      → Taken o kind line k m used rows windows r used′ rows′ windows′ → (x : Refusal) → r ≡ step.Refused x →
+      (out : ReadOutcome) → checked kind from [] whole out ≡ refused (numberOf x) (placeOf x)
   unfolding checked lineJudged
-  stops none w r t x e out = w .checks out ∙ refusal-is r x 2 (k + 2) e t
-  stops (some (tender y)) w r t x e out = w .checks out ∙ refusal-is r x 2 (k + 2) e t
+  stops none w r t x e out = w .checks out ∙ refusal-is r x 2 line e t
+  stops (some (tender y)) w r t x e out = w .checks out ∙ refusal-is r x 2 line e t
   stops (some (bid b)) w r t x e out = w .checks out
       ∙ go (bidFaultAfter kind k b (eqb (cell used (b .bidder)) 1))
       refl t
     where
       go : (f : Option (ℕ → Refusal)) → bidFaultAfter kind k b (eqb (cell used (b .bidder)) 1) ≡ f →
-          Judged f b k m used rows windows r used′ rows′ windows′
-          → checked kind (k + 2) (bidderNumbers (w .done)) (some (bid b) ∷ rest) out
+          Judged f b line k m used rows windows r used′ rows′ windows′
+          → checked kind line (bidderNumbers (w .done)) (some (bid b) ∷ rest) out
           ≡ refused (numberOf x) (placeOf x)
       go none g j = let q : step.Bid (length (b .windows)) ≡ step.Refused x = sym (j .answer) ∙ e in let z : _≡_ {A = ℕ} 0 1 = cc in
           absurd (omega arith)
-      go (some f) g j = rw (fault-is b w ∙ g) (refusal-is r x (numberOf (f (k + 2))) (placeOf (f (k + 2))) e j)
+      go (some f) g j = rw (fault-is b w ∙ g) (refusal-is r x (numberOf (f line)) (placeOf (f line)) e j)
 
 -- the next line is not of the form
-pub breaks : (kind : Kind) (whole rest : List (Option Line)) (k m : ℕ) (used rows windows : List ℕ)
-    → Walk kind whole (none ∷ rest) k m used rows windows →
-    (out : ReadOutcome) → checked kind 2 [] whole out ≡ refused 2 (k + 2)
+pub breaks : (kind : Kind) (from : ℕ) (whole rest : List (Option Line)) (line k m : ℕ) (used rows windows : List ℕ)
+    → Walk kind from whole (none ∷ rest) line k m used rows windows →
+    (out : ReadOutcome) → checked kind from [] whole out ≡ refused 2 line
 unfolding checked
-breaks kind whole rest k m used rows windows w out = w .checks out
+breaks kind from whole rest line k m used rows windows w out = w .checks out
 
 -- no line is left
-pub walk-ends : (kind : Kind) (whole : List (Option Line)) (k m : ℕ) (used rows windows : List ℕ)
-    → Walk kind whole [] k m used rows windows
-    → m < 11000 → TablesHold kind whole k m rows windows
+pub walk-ends : (kind : Kind) (from : ℕ) (whole : List (Option Line)) (line k m : ℕ) (used rows windows : List ℕ)
+    → Walk kind from whole [] line k m used rows windows
+    → m < 11000 → TablesHold kind from whole k m rows windows
 unfolding checked bidsOf
-walk-ends kind whole k m used rows windows w l =
+walk-ends kind from whole line k m used rows windows w l =
     let e : bidsOf whole ≡ w .done = w .bids ∙ append-nil (w .done) in
     record {
       faultless = w .checks;

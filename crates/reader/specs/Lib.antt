@@ -5,6 +5,7 @@ pub mod Answer
 pub mod Steps
 pub mod FaultLaws
 pub mod ReadLaws
+pub mod HeadLaws
 pub mod Differ
 pub mod PriceLaws
 pub mod PriceChangeLaws

@@ -11,10 +11,10 @@ use Rattle.reader_line.specs.Words.{cut}
 use Rattle.reader_line.specs.LinePlain.{plain, allPlain}
 use Rattle.reader_line.specs.LinePlainLaws.{PlainPieces, cut-plain, line-plain}
 use Rattle.reader_line.specs.Line.{Line, lineOf, linesOf}
-use Rattle.reader.specs.Read.{accepted, bidsOf, tables, readLines, readText}
+use Rattle.reader.specs.Read.{accepted, readLines, readText}
 use Rattle.reader_line.specs.CutLaws.{Pieces, cut-some}
-use Rattle.reader.specs.ReadLaws.{never, read-lines, checked-bids, begun}
-use Rattle.reader.specs.CountLaws.{AllRead, bids-read}
+use Rattle.reader.specs.ReadLaws.{read-lines}
+use Rattle.reader.specs.HeadLaws.{AllRead, accepted-head, accepted-read}
 
 pieces-plain : (p : List ℕ) (ps : List (List ℕ)) → AllRead (linesOf (p ∷ ps)) → PlainPieces (p ∷ ps)
 unfolding linesOf allPlain
@@ -30,15 +30,12 @@ pieces-plain p (q ∷ ps) a = go (lineOf p) refl a (pieces-plain q ps)
 
 pub plain-law : (T : Tender) (R : List Row) (W : List Window) (text : List ℕ) → readText text ≡ accepted T R W
     → allPlain text ≡ true
-unfolding readLines plain
+unfolding plain
 plain-law T R W text e = go (linesOf (cut 10 text)) refl (cut-some 10 text) (read-lines T R W text e)
   where
     go : (ls : List (Option Line)) → linesOf (cut 10 text) ≡ ls → Pieces (cut 10 text) → readLines ls ≡ accepted T R W
         → allPlain text ≡ true
-    go [] q c x = never x
-    go (l ∷ ls) q c x =
-        let g = begun T R W l ls x in
-        let h = checked-bids T R W (T .kind) 2 [] ls (tables T (bidsOf ls)) (g .sound) in
-        let m : linesOf (c .first ∷ c .rest) ≡ l ∷ ls = rw (← (c .are)) q in
-        let r : AllRead (linesOf (c .first ∷ c .rest)) = rw (m, g .first, h) (bids-read (bidsOf ls)) in
+    go ls q c x =
+        let m : linesOf (c .first ∷ c .rest) ≡ ls = rw (← (c .are)) q in
+        let r : AllRead (linesOf (c .first ∷ c .rest)) = rw m (accepted-read T R W ls (accepted-head T R W ls x)) in
         cut-plain 10 text refl (rw (c .are) (pieces-plain (c .first) (c .rest) r))

@@ -11,14 +11,13 @@ use borrow.Author.Tests.{le-ltb}
 use Rattle.tender.specs.declared.Kind.{Kind}
 use Rattle.tender.specs.declared.Window.{Window}
 use Rattle.tender.specs.declared.Tender.{Tender}
-use Rattle.tender.specs.Limits.{lawful}
 use Rattle.tender.specs.Tables.{Row}
 use Rattle.reader_line.specs.Words.{andThen, cut, numeralOf, priceOf}
 use Rattle.reader_line.specs.Line.{BidLine, Line, tender, bid, windowsIn, bidOf, lineOf, linesOf}
 use Rattle.reader.specs.Read.{ReadOutcome, accepted, rowsFrom, allWindows, bidsOf, lineFault, bidFaultIn, bidFaultAfter, bidFault}
-use Rattle.reader.specs.Read.{lineJudged, checked, tables, readLines, readText}
-use Rattle.reader.specs.FaultLaws.{lawful-tender}
+use Rattle.reader.specs.Read.{checked, tables, readLines, readText}
 use Rattle.reader_line.specs.CutLaws.{Pieces, cut-some}
+use Rattle.reader.specs.HeadLaws.{lines-begun}
 use Rattle.reader.specs.ReadLaws.{never, judged-out}
 use Rattle.reader.specs.Differ.{bidLine, Word, DifferInPrice, RowsDifferInPrice}
 use Rattle.reader.specs.PriceLaws.{line-of, parts, BidFound, text-lines, found, price-law}
@@ -78,11 +77,6 @@ short : (text : List ℕ) → length text ≤ 65536 → readText text ≡ readLi
 unfolding readText
 short text l = rw (le-ltb 65536 (length text) l)
 
-begins : (T : Tender) (x : Option Line) (ls : List (Option Line)) → x ≡ some (tender T) → lawful (T .window) ≡ true →
-    readLines (x ∷ ls) ≡ checked (T .kind) 2 [] ls (tables T (bidsOf ls))
-unfolding readLines lineJudged
-begins T x ls e l = rw e (rw (lawful-tender T l))
-
 -- the text with the price written q
 rewritten : (before n p q after f : List ℕ) (ps : List (List ℕ)) (v : ℕ) (T : Tender) (R : List Row) (W : List Window) → Word n
     → Word q
@@ -91,28 +85,19 @@ rewritten : (before n p q after f : List ℕ) (ps : List (List ℕ)) (v : ℕ) (
     →
     (bs : List BidLine) × (readText (before ++ 10 ∷ bidLine n q after) ≡ tables T bs)
 rewritten before n p q after f ps v T R W wn wq e x hv lv lu =
-    let m = parts n p (cut 32 f) (x .line .b) (x .line .is) in
-    let c : bidOf (n ∷ q ∷ cut 32 f) ≡ some (bid (atPrice v (x .line .b))) =
-    bid-of n q (cut 32 f) (x .line .b) v (m .bidder-is) hv (m .windows-are) in
-    go (cut-some 10 before .first) (map lineOf (cut-some 10 before .rest)) (x .line .b) c (x .begin .first) (x .begin .window)
-    (rw (x .line .is) at (x .begin .sound)) (text-lines before n q after f ps wn wq e T R W)
-  where
-    go : (a : List ℕ) (xs : List (Option Line)) (b : BidLine) → bidOf (n ∷ q ∷ cut 32 f) ≡ some (bid (atPrice v b))
-        → lineOf a ≡ some (tender T) → lawful (T .window) ≡ true →
-        checked (T .kind) 2 [] (xs ++ some (bid b) ∷ linesOf ps) (tables T (bidsOf (xs ++ some (bid b) ∷ linesOf ps)))
-        ≡ accepted T R W →
-        linesOf (cut 10 (before ++ 10 ∷ bidLine n q after)) ≡ lineOf a ∷ (xs ++ linesOf (bidLine n q f ∷ ps)) →
-        (bs : List BidLine) × (readText (before ++ 10 ∷ bidLine n q after) ≡ tables T bs)
-    go a xs b c hf hl hs ht =
-        let ls = xs ++ some (bid (atPrice v b)) ∷ linesOf ps in
-        let r : linesOf (bidLine n q f ∷ ps) ≡ some (bid (atPrice v b)) ∷ linesOf ps = line-lines n q f ps wn wq (x .ended)
-        ∙ ap (λ o. o ∷ linesOf ps) c in (
-          bidsOf ls,
-          short (before ++ 10 ∷ bidLine n q after) lu ∙ ap readLines (ht ∙ ap (λ l. lineOf a ∷ (xs ++ l)) r)
-              ∙ begins T (lineOf a) ls hf hl
-              ∙ checked-price T R W (T .kind) 2 [] xs b (linesOf ps) (tables T (bidsOf (xs ++ some (bid b) ∷ linesOf ps)))
-              (tables T (bidsOf ls)) v lv hs,
-        )
+    let m = parts n p (cut 32 f) (x .b) (x .is) in
+    let c = bid-of n q (cut 32 f) (x .b) v (m .bidder-is) hv (m .windows-are) in
+    let xs = map lineOf (cut 10 before) in
+    let ls = x .line .between ++ some (bid (atPrice v (x .b))) ∷ linesOf ps in
+    let r : linesOf (bidLine n q f ∷ ps) ≡ some (bid (atPrice v (x .b))) ∷ linesOf ps = line-lines n q f ps wn wq (x .ended)
+    ∙ ap (λ o. o ∷ linesOf ps) c in (
+      bidsOf ls,
+      short (before ++ 10 ∷ bidLine n q after) lu
+          ∙ ap readLines (text-lines before n q after f ps wn wq e T R W ∙ ap (λ l. xs ++ l) r)
+          ∙ lines-begun (xs ++ some (bid (atPrice v (x .b))) ∷ linesOf ps) T (x .line .from) ls (x .line .head (atPrice v (x .b)))
+          ∙ checked-price T R W (T .kind) (x .line .from) [] (x .line .between) (x .b) (linesOf ps)
+          (tables T (bidsOf (x .line .between ++ some (bid (x .b)) ∷ linesOf ps))) (tables T (bidsOf ls)) v lv (x .line .sound),
+    )
 
 pub record Changed (T : Tender) (R : List Row) (W : List Window) (u bidder p q : List ℕ) : Type 0 where
   pub S : List Row

@@ -12,10 +12,11 @@ use Rattle.tender.specs.declared.Tender.{Tender}
 use Rattle.tender.specs.Tables.{Row}
 use Rattle.reader_line.specs.Words.{andThen, cut, among, numeralOf, priceOf}
 use Rattle.reader_line.specs.Line.{BidLine, Line, tender, bid, windowsIn, bidOf, lineOfWords, lineOf, linesOf}
-use Rattle.reader.specs.Read.{accepted, rowsFrom, allWindows, bidsOf, tables, readText}
+use Rattle.reader.specs.Read.{accepted, rowsFrom, allWindows, bidsOf, checked, tables, begun, headOf, readLines, readText}
 use Rattle.reader_line.specs.CutLaws.{Pieces, cut-some, cut-end, cut-word, cut-append, lines-append}
 use Rattle.reader.specs.Differ.{bidLine, Word, DifferInPrice, withPrice, RowsDifferInPrice, DifferInOnePrice}
-use Rattle.reader.specs.ReadLaws.{read-lines, checked-bids, Begun, begun}
+use Rattle.reader.specs.ReadLaws.{read-lines}
+use Rattle.reader.specs.HeadLaws.{head-before, read-at, Begun, accepted-head, accepted-read}
 
 -- the line's words
 line-words : (bidder p after : List ℕ) → Word bidder → Word p → cut 32 (bidLine bidder p after) ≡ (40 ∷ bidWord) ∷ bidder
@@ -89,74 +90,88 @@ unfolding allWindows
 windows-append [] cs = refl
 windows-append (b ∷ bs) cs = rw (windows-append bs cs, append-assoc)
 
--- a line among bids is a bid
-is-bid : (xs : List (Option Line)) (x : Option Line) (ys : List (Option Line)) (bs : List BidLine) → xs
-    ++ x ∷ ys ≡ map (λ b. some (bid b)) bs
-    → (b : BidLine) × (x ≡ some (bid b))
-is-bid [] x ys [] e = let c : _≡_ {A = ℕ} 0 1 = cc in absurd (omega arith)
-is-bid [] x ys (b ∷ bs) e = (b, cc)
-is-bid (z ∷ xs) x ys [] e = let c : _≡_ {A = ℕ} 0 1 = cc in absurd (omega arith)
-is-bid (z ∷ xs) x ys (b ∷ bs) e = is-bid xs x ys bs (cc)
-
--- the tables of an accepted text, with the bid on one of its lines
-pub record LineHeld (x : Option Line) (xs ys : List (Option Line)) (R : List Row) (W : List Window) : Type 0 where
-  pub b : BidLine
-  pub is : x ≡ some (bid b)
-  pub rows : R ≡ rowsFrom 0 (bidsOf xs ++ b ∷ bidsOf ys)
-  pub windows : W ≡ allWindows (bidsOf xs ++ b ∷ bidsOf ys)
-
-pub line-held : (T : Tender) (R : List Row) (W : List Window) (l x : Option Line) (xs ys : List (Option Line))
-    → Begun T R W l (xs ++ x ∷ ys)
-    → LineHeld x xs ys R W
-line-held T R W l x xs ys c = go (is-bid xs x ys (bidsOf (xs ++ x ∷ ys))
-    (checked-bids T R W (T .kind) 2 [] (xs ++ x ∷ ys) (tables T (bidsOf (xs ++ x ∷ ys))) (c .sound)))
+-- what is read of a bid's words is a bid
+is-bid : (n p : List ℕ) (ws : List (List ℕ)) (l : Line) → bidOf (n ∷ p ∷ ws) ≡ some l
+    → (b : BidLine) × (bidOf (n ∷ p ∷ ws) ≡ some (bid b))
+unfolding bidOf andThen
+is-bid n p ws l e = go (numeralOf n) (priceOf p) (windowsIn ws) e
   where
-    go : (b : BidLine) × (x ≡ some (bid b)) → LineHeld x xs ys R W
-    go (b, e) =
-        let q : bidsOf (xs ++ x ∷ ys) ≡ bidsOf xs ++ b ∷ bidsOf ys = rw e (bids-append xs b ys) in
-        record { b = b; is = e; rows = c .rows ∙ ap (rowsFrom 0) q; windows = c .windows ∙ ap allWindows q }
+    go : (x y : Option ℕ) (z : Option (List Window)) →
+        andThen x (λ i. andThen y (λ v. andThen z (λ l. some (bid (record { bidder = i; price = v; windows = l }))))) ≡ some l →
+        (b : BidLine) × (andThen x (λ i. andThen y (λ v. andThen z (λ l. some (bid (record { bidder = i; price = v; windows = l })))))
+        ≡ some (bid b))
+    go none y z h = let c : _≡_ {A = ℕ} 0 1 = cc in absurd (omega arith)
+    go (some i) none z h = let c : _≡_ {A = ℕ} 0 1 = cc in absurd (omega arith)
+    go (some i) (some v) none h = let c : _≡_ {A = ℕ} 0 1 = cc in absurd (omega arith)
+    go (some i) (some v) (some w) h = (record { bidder = i; price = v; windows = w }, refl)
+
+-- the tables of accepted lines, with the bid on one of them; whatever the bid there, the head is the same
+pub record LineHeld (b : BidLine) (xs ys : List (Option Line)) (T : Tender) (R : List Row) (W : List Window) : Type 0 where
+  pub from : ℕ
+  pub between : List (Option Line)
+  pub head : (c : BidLine) → headOf (xs ++ some (bid c) ∷ ys) ≡ begun T from (between ++ some (bid c) ∷ ys)
+  pub sound : checked (T .kind) from [] (between ++ some (bid b) ∷ ys) (tables T (bidsOf (between ++ some (bid b) ∷ ys)))
+      ≡ accepted T R W
+  pub rows : R ≡ rowsFrom 0 (bidsOf (between ++ some (bid b) ∷ ys))
+  pub windows : W ≡ allWindows (bidsOf (between ++ some (bid b) ∷ ys))
+
+pub line-held : (T : Tender) (R : List Row) (W : List Window) (b : BidLine) (xs ys : List (Option Line))
+    → Begun T R W (xs ++ some (bid b) ∷ ys) → LineHeld b xs ys T R W
+line-held T R W b xs ys g =
+    let h = head-before xs ys T (g .from) (g .rest) b (g .head) in
+    record {
+      from = g .from;
+      between = h .between;
+      head = h .any;
+      sound = sym (ap (λ r. checked (T .kind) (g .from) [] r (tables T (bidsOf r))) (h .rest-is)) ∙ g .sound;
+      rows = g .rows ∙ ap (λ r. rowsFrom 0 (bidsOf r)) (h .rest-is);
+      windows = g .windows ∙ ap (λ r. allWindows (bidsOf r)) (h .rest-is);
+    }
 
 -- the same of a text with a bid's line in it, whose bytes from there on have the pieces f and ps
 pub record BidFound (before n p f : List ℕ) (ps : List (List ℕ)) (T : Tender) (R : List Row) (W : List Window) : Type 0 where
-  pub first : lineOf (cut-some 10 before .first) ≡ some (tender T)
-  pub line : LineHeld (bidOf (n ∷ p ∷ cut 32 f)) (map lineOf (cut-some 10 before .rest)) (linesOf ps) R W
-  pub begin : Begun T R W (lineOf (cut-some 10 before .first))
-      (map lineOf (cut-some 10 before .rest) ++ bidOf (n ∷ p ∷ cut 32 f) ∷ linesOf ps)
+  pub b : BidLine
+  pub is : bidOf (n ∷ p ∷ cut 32 f) ≡ some (bid b)
+  pub line : LineHeld b (map lineOf (cut 10 before)) (linesOf ps) T R W
   pub ended : Pieces ps
 
 module _ (before n p after f : List ℕ) (ps : List (List ℕ)) (wn : Word n) (wp : Word p) (e : cut 10 after ≡ f ∷ ps) (T : Tender)
     (R : List Row) (W : List Window) where
-  pub text-lines : linesOf (cut 10 (before ++ 10 ∷ bidLine n p after)) ≡ lineOf (cut-some 10 before .first)
-      ∷ (map lineOf (cut-some 10 before .rest) ++ linesOf (bidLine n p f ∷ ps))
+  pub text-lines : linesOf (cut 10 (before ++ 10 ∷ bidLine n p after))
+      ≡ map lineOf (cut 10 before) ++ linesOf (bidLine n p f ∷ ps)
   text-lines = rw (
     cut-append 10 before (bidLine n p after),
     line-cut n p after f ps wn wp e,
     lines-append (cut 10 before) (bidLine n p f) ps,
-    cut-some 10 before .are,
   )
 
   pub found : readText (before ++ 10 ∷ bidLine n p after) ≡ accepted T R W → BidFound before n p f ps T R W
   unfolding linesOf bidLine
-  found h = go ps (begun T R W (lineOf (cut-some 10 before .first))
-      (map lineOf (cut-some 10 before .rest) ++ linesOf (bidLine n p f ∷ ps))
-      (rw text-lines at (read-lines T R W (before ++ 10 ∷ bidLine n p after) h)))
+  found h = go ps (rw text-lines at (read-lines T R W (before ++ 10 ∷ bidLine n p after) h))
     where
-      go : (qs : List (List ℕ)) → Begun T R W (lineOf (cut-some 10 before .first))
-          (map lineOf (cut-some 10 before .rest) ++ linesOf (bidLine n p f ∷ qs)) → BidFound before n p f qs T R W
-      go [] c =
-          let s = line-held T R W (lineOf (cut-some 10 before .first)) none (map lineOf (cut-some 10 before .rest)) [] c in
-          let x : none ≡ some (bid (s .b)) = s .is in
-          let z : _≡_ {A = ℕ} 0 1 = cc in absurd (omega arith)
-      go (q ∷ qs) c =
-          let d : Begun T R W (lineOf (cut-some 10 before .first))
-          (map lineOf (cut-some 10 before .rest) ++ bidOf (n ∷ p ∷ cut 32 f) ∷ linesOf (q ∷ qs)) = rw (line-of n p f wn wp) at c in
-          record {
-            first = c .first;
-            line = line-held T R W (lineOf (cut-some 10 before .first)) (bidOf (n ∷ p ∷ cut 32 f))
-                (map lineOf (cut-some 10 before .rest)) (linesOf (q ∷ qs)) d;
-            begin = d;
-            ended = record { first = q; rest = qs; are = refl };
-          }
+      xs : List (Option Line)
+      xs = map lineOf (cut 10 before)
+
+      held : (qs : List (List ℕ)) (x : Option Line) → Begun T R W (xs ++ x ∷ linesOf qs) → Pieces qs
+          → (b : BidLine) × (bidOf (n ∷ p ∷ cut 32 f) ≡ some (bid b)) → x ≡ bidOf (n ∷ p ∷ cut 32 f)
+          → BidFound before n p f qs T R W
+      held qs x g c (b, q) w = record {
+        b = b;
+        is = q;
+        line = line-held T R W b xs (linesOf qs) (rw (w ∙ q) at g);
+        ended = c;
+      }
+
+      go : (qs : List (List ℕ)) → readLines (xs ++ linesOf (bidLine n p f ∷ qs)) ≡ accepted T R W → BidFound before n p f qs T R W
+      go [] x =
+          let g = accepted-head T R W (xs ++ none ∷ []) x in
+          let l = read-at xs none [] (accepted-read T R W (xs ++ none ∷ []) g) in
+          let z : _≡_ {A = ℕ} 0 1 = cc (l .1) in absurd (omega arith)
+      go (q ∷ qs) x =
+          let g = accepted-head T R W (xs ++ lineOf (bidLine n p f) ∷ linesOf (q ∷ qs)) x in
+          let l = read-at xs (lineOf (bidLine n p f)) (linesOf (q ∷ qs)) (accepted-read T R W _ g) in
+          held (q ∷ qs) (lineOf (bidLine n p f)) g (record { first = q; rest = qs; are = refl })
+          (is-bid n p (cut 32 f) (l .0) (sym (line-of n p f wn wp) ∙ l .1)) (line-of n p f wn wp)
 
 pub price-law : (t u bidder p q : List ℕ) (T U : Tender) (R S : List Row) (W X : List Window) → DifferInPrice t u bidder p q →
     readText t ≡ accepted T R W → readText u ≡ accepted U S X → DifferInOnePrice T U R S W X bidder p q
@@ -169,18 +184,25 @@ price-law t u n p q T U R S W X d h k =
     go : {f : List ℕ} {ps : List (List ℕ)} → BidFound (d .before) n p f ps T R W → BidFound (d .before) n q f ps U S X
         → DifferInOnePrice T U R S W X n p q
     go {f} {ps} x y =
-        let b = x .line .b in
-        let c = y .line .b in
-        let B = bidsOf (map lineOf (cut-some 10 (d .before) .rest)) in
+        let b = x .b in
+        let c = y .b in
+        let zs = x .line .between in
+        let B = bidsOf zs in
         let C = bidsOf (linesOf ps) in
-        let m = parts n p (cut 32 f) b (x .line .is) in
-        let o = parts n q (cut 32 f) c (y .line .is) in
+        let m = parts n p (cut 32 f) b (x .is) in
+        let o = parts n q (cut 32 f) c (y .is) in
         let hb : c .bidder ≡ b .bidder = cc (m .bidder-is, o .bidder-is) in
         let hw : c .windows ≡ b .windows = cc (m .windows-are, o .windows-are) in
+        let same : begun U (y .line .from) (y .line .between ++ some (bid c) ∷ linesOf ps)
+        ≡ begun T (x .line .from) (zs ++ some (bid c) ∷ linesOf ps) = sym (y .line .head c) ∙ x .line .head c in
+        let lines : y .line .between ++ some (bid c) ∷ linesOf ps ≡ zs ++ some (bid c) ∷ linesOf ps = cc (same) in
+        let hx : bidsOf (zs ++ some (bid b) ∷ linesOf ps) ≡ B ++ b ∷ C = bids-append zs b (linesOf ps) in
+        let hy : bidsOf (y .line .between ++ some (bid c) ∷ linesOf ps) ≡ B ++ c ∷ C = ap bidsOf lines
+        ∙ bids-append zs c (linesOf ps) in
         record {
-          tenders = cc (x .first, y .first);
-          windows = x .line .windows ∙ windows-append B (b ∷ C)
-              ∙ rw (← hw) (sym (windows-append B (c ∷ C)) ∙ sym (y .line .windows));
+          tenders = cc (same);
+          windows = x .line .windows ∙ ap allWindows hx ∙ windows-append B (b ∷ C)
+              ∙ rw (← hw) (sym (windows-append B (c ∷ C)) ∙ sym (y .line .windows ∙ ap allWindows hy));
           rows = record {
             before = rowsFrom 0 B;
             row = record { bidder = b .bidder; price = b .price; first = placeAfter 0 B; count = length (b .windows) };
@@ -189,8 +211,8 @@ price-law t u n p q T U R S W X d h k =
             bidder-is = m .bidder-is;
             p-is = m .price-is;
             q-is = o .price-is;
-            left = x .line .rows ∙ rows-append 0 B (b ∷ C);
-            right = rw (← hb, ← hw) (y .line .rows ∙ rows-append 0 B (c ∷ C));
+            left = x .line .rows ∙ ap (rowsFrom 0) hx ∙ rows-append 0 B (b ∷ C);
+            right = rw (← hb, ← hw) (y .line .rows ∙ ap (rowsFrom 0) hy ∙ rows-append 0 B (c ∷ C));
           };
         }
 

@@ -90,12 +90,33 @@ unfoldable pub tables : Tender → List BidLine → ReadOutcome
 unfolding rowsFrom allWindows
 tables t bs = accepted t (rowsFrom 0 bs) (allWindows bs)
 
+-- the lines before the bids
+pub data Head : Type 0 where
+  -- the tender, the number of the first line after the head, the lines from there on
+  begun : Tender → ℕ → List (Option Line) → Head
+  halted : Refusal → Head
+
+unfoldable pub headJudged : Option (ℕ → Refusal) → ℕ → Head → Head
+headJudged none at head = head
+headJudged (some r) at head = halted (r at)
+
+-- the first line is the tender's
+unfoldable pub headOf : List (Option Line) → Head
+unfolding tenderFault headJudged
+headOf [] = halted (BadForm 1)
+headOf (none ∷ ls) = halted (BadForm 1)
+headOf (some (bid b) ∷ ls) = halted (BadForm 1)
+headOf (some (tender t) ∷ ls) = headJudged (tenderFault t) 1 (begun t 2 ls)
+
+-- the lines after the head are the bids'
+unfoldable pub afterHead : Head → ReadOutcome
+unfolding bidsOf checked tables
+afterHead (halted r) = declinedBy r
+afterHead (begun t from rest) = checked (t .kind) from [] rest (tables t (bidsOf rest))
+
 unfoldable pub readLines : List (Option Line) → ReadOutcome
-unfolding bidsOf tenderFault lineJudged checked tables
-readLines [] = declinedBy (BadForm 1)
-readLines (none ∷ ls) = declinedBy (BadForm 1)
-readLines (some (bid b) ∷ ls) = declinedBy (BadForm 1)
-readLines (some (tender t) ∷ ls) = lineJudged (tenderFault t) 1 (checked (t .kind) 2 [] ls (tables t (bidsOf ls)))
+unfolding headOf afterHead
+readLines ls = afterHead (headOf ls)
 
 unfoldable pub readText : List ℕ → ReadOutcome
 unfolding cut linesOf readLines

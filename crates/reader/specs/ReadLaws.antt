@@ -10,15 +10,13 @@ use lib.Dec.{ltb}
 use Rattle.tender.specs.declared.Kind.{Kind}
 use Rattle.tender.specs.declared.Window.{Window}
 use Rattle.tender.specs.declared.Tender.{Tender}
-use Rattle.tender.specs.Limits.{lawful}
 use Rattle.tender.specs.Tables.{Row}
 use Rattle.reader_line.specs.Words.{cut}
 use Rattle.reader_line.specs.Line.{Line, tender, bid, linesOf}
 use Rattle.tender.specs.declared.Refusal.{Refusal}
 use Rattle.tender.specs.declared.Refusal.the-variants.{TextTooLong}
-use Rattle.reader.specs.Read.{ReadOutcome, accepted, refused, declinedBy, rowsFrom, allWindows, bidsOf, tenderFault, bidFault}
-use Rattle.reader.specs.Read.{lineJudged, checked, tables, readLines, readText}
-use Rattle.reader.specs.FaultLaws.{tender-lawful}
+use Rattle.reader.specs.Read.{ReadOutcome, accepted, refused, declinedBy, bidsOf, bidFault, lineJudged, checked}
+use Rattle.reader.specs.Read.{readLines, readText}
 
 pub never : {A : Type 0} {n at : ℕ} {t : Tender} {R : List Row} {W : List Window} → refused n at ≡ accepted t R W → A
 never e = let z : _≡_ {A = ℕ} 0 1 = cc in absurd (omega arith)
@@ -51,7 +49,7 @@ module _ (T : Tender) (R : List Row) (W : List Window) where
       checked-out k (at + 1) (used ++ b .bidder ∷ []) ls out
       (judged-out (bidFault k used b) at (checked k (at + 1) (used ++ b .bidder ∷ []) ls out) e .1)
 
-  -- every line after the first is a bid
+  -- every line is a bid
   pub checked-bids : (k : Kind) (at : ℕ) (used : List ℕ) (ls : List (Option Line)) (out : ReadOutcome)
       → checked k at used ls out ≡ accepted T R W → ls ≡ map (λ b. some (bid b)) (bidsOf ls)
   unfolding checked bidsOf
@@ -62,21 +60,3 @@ module _ (T : Tender) (R : List Row) (W : List Window) where
       ap {B = List (Option Line)} (λ r. some (bid b) ∷ r)
       (checked-bids k (at + 1) (used ++ b .bidder ∷ []) ls out
       (judged-out (bidFault k used b) at (checked k (at + 1) (used ++ b .bidder ∷ []) ls out) e .1))
-
-  pub record Begun (x : Option Line) (ls : List (Option Line)) : Type 0 where
-    pub first : x ≡ some (tender T)
-    pub window : lawful (T .window) ≡ true
-    pub sound : checked (T .kind) 2 [] ls (tables T (bidsOf ls)) ≡ accepted T R W
-    pub rows : R ≡ rowsFrom 0 (bidsOf ls)
-    pub windows : W ≡ allWindows (bidsOf ls)
-
-  -- the first line is the tender's, and the tables hold the bids of the others
-  pub begun : (x : Option Line) (ls : List (Option Line)) → readLines (x ∷ ls) ≡ accepted T R W → Begun x ls
-  unfolding readLines tables
-  begun none ls e = never e
-  begun (some (bid b)) ls e = never e
-  begun (some (tender t)) ls e =
-      let j = judged-out (tenderFault t) 1 (checked (t .kind) 2 [] ls (tables t (bidsOf ls))) e in
-      let o : tables t (bidsOf ls) ≡ accepted T R W = checked-out (t .kind) 2 [] ls (tables t (bidsOf ls)) (j .1) in
-      let same : t ≡ T = cc in
-      record { first = cc; window = rw same at (tender-lawful t (j .0)); sound = rw same at (j .1); rows = cc; windows = cc }

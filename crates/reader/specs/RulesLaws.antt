@@ -1,6 +1,6 @@
 -- An accepted text keeps every rule. Assumes nothing.
 use mathlib.Core.Path.{_≡_, refl, ap}
-use mathlib.Core.List.{List, [], _∷_, _++_}
+use mathlib.Core.List.{List, [], _∷_, _++_, map}
 use mathlib.Core.Bool.{Bool, true, false, cond, not, _&&_, _||_}
 use mathlib.Core.Option.{Option, none, some}
 use Prim.Native.Nat.{ℕ, suc, _+_, _≤_, _<_}
@@ -24,10 +24,11 @@ use Rattle.tender.specs.declared.Refusal.{Refusal}
 use Rattle.tender.specs.declared.Refusal.the-variants.{OutsideLimits, TooMany, EmptyWindow, BidderRepeated, SeveralWindows}
 use Rattle.tender.specs.declared.Refusal.the-variants.{LateWindow}
 use Rattle.reader.specs.Read.{ReadOutcome, accepted, rowsFrom, allWindows, bidsOf, lineFault, bidFaultIn, bidFaultAfter, bidFault}
-use Rattle.reader.specs.Read.{checked, tables, readLines, readText}
+use Rattle.reader.specs.Read.{checked, tables, readText}
 use Rattle.reader.specs.FaultLaws.{every-lawful}
 use Rattle.reader_line.specs.CutLaws.{neither}
-use Rattle.reader.specs.ReadLaws.{never, read-lines, judged-out, begun}
+use Rattle.reader.specs.ReadLaws.{never, read-lines, judged-out}
+use Rattle.reader.specs.HeadLaws.{headLines, head-is, accepted-head}
 use Rattle.reader.specs.Rules.{WindowRules, RowsRules, WindowsRules, Rules}
 
 -- a bid that was read has a window
@@ -112,6 +113,10 @@ lines-filled [] = tt
 lines-filled ([] ∷ []) = tt
 lines-filled ((b ∷ p) ∷ []) = (tt, tt)
 lines-filled (p ∷ q ∷ ps) = (words-filled (cut 32 p), lines-filled (q ∷ ps))
+
+filled-after : (xs ys : List (Option Line)) → AllFilled (xs ++ ys) → AllFilled ys
+filled-after [] ys a = a
+filled-after (x ∷ xs) ys a = filled-after xs ys (a .1)
 
 -- a bid without a fault
 
@@ -239,19 +244,22 @@ module _ (T : Tender) (R : List Row) (W : List Window) where
       more k used at b (bidsOf ls) (a .0) (faultless-bid k used b (j .0))
       (sound k (n + 1) (used ++ b .bidder ∷ []) (at + length (b .windows)) ls out (a .1) (j .1))
 
+  by-bids : (bs : List BidLine) → lawful (T .window) ≡ true → Sound (T .kind) [] 0 bs → R ≡ rowsFrom 0 bs → W ≡ allWindows bs
+      → Rules T R W
+  by-bids bs l s r w = record {
+    tender = lawful-rules (T .window) l;
+    few-bids = rw r (omega (arith, rowsFrom-length 0 bs, s .few-bids (omega arith)));
+    rows = rw (r, w) (rw zero-add at (s .rows));
+    windows = rw w (s .windows);
+  }
+
   -- every rule holds of what an accepted text gives
   pub rules-law : (text : List ℕ) → readText text ≡ accepted T R W → Rules T R W
-  unfolding readLines
-  rules-law text e = go (linesOf (cut 10 text)) (lines-filled (cut 10 text)) (read-lines T R W text e)
-    where
-      go : (ls : List (Option Line)) → AllFilled ls → readLines ls ≡ accepted T R W → Rules T R W
-      go [] a x = never x
-      go (l ∷ ls) a x =
-          let c = begun T R W l ls x in
-          let s = sound (T .kind) 2 [] 0 ls (tables T (bidsOf ls)) (a .1) (c .sound) in
-          record {
-            tender = lawful-rules (T .window) (c .window);
-            few-bids = rw (c .rows) (omega (arith, rowsFrom-length 0 (bidsOf ls), s .few-bids (omega arith)));
-            rows = rw (c .rows, c .windows) (rw zero-add at (s .rows));
-            windows = rw (c .windows) (s .windows);
-          }
+  rules-law text e =
+      let ls = linesOf (cut 10 text) in
+      let g = accepted-head T R W ls (read-lines T R W text e) in
+      let i = head-is ls T (g .from) (g .rest) (g .head) in
+      let a : AllFilled (map (λ l. some l) (headLines T) ++ g .rest) = rw (i .lines) at (lines-filled (cut 10 text)) in
+      let f = filled-after (map (λ l. some l) (headLines T)) (g .rest) a in
+      by-bids (bidsOf (g .rest)) (i .window) (sound (T .kind) (g .from) [] 0 (g .rest) (tables T (bidsOf (g .rest))) f (g .sound))
+      (g .rows) (g .windows)

@@ -18,7 +18,8 @@ use Rattle.reader_line.specs.CutLaws.{Pieces, cut-some}
 use Rattle.reader_line.specs.SizeLaws.{line-windows}
 use Rattle.tender.specs.declared.Refusal.the-variants.{TextTooLong}
 use Rattle.reader.specs.Read.{ReadOutcome, accepted, refused, declinedBy, bidsOf, allWindows, readLines, readText, fitted, readInto}
-use Rattle.reader.specs.ReadLaws.{never, read-lines, begun}
+use Rattle.reader.specs.ReadLaws.{never, read-lines}
+use Rattle.reader.specs.HeadLaws.{head-is, accepted-head}
 use Rattle.reader.specs.CountLaws.{counts-law}
 
 -- the bytes of the pieces, with one for what stands after each
@@ -67,15 +68,14 @@ short-text T R W text e = go (ltb 65536 (length text)) refl e
     go false f x = ltb-false 65536 (length text) f
 
 pub size-law : (T : Tender) (R : List Row) (W : List Window) (text : List ℕ) → readText text ≡ accepted T R W → length W ≤ 10922
-unfolding readLines bidsOf
 size-law T R W text e = go (linesOf (cut 10 text)) (lines-size (cut 10 text)) (read-lines T R W text e)
   where
     go : (ls : List (Option Line)) → 6 * length (allWindows (bidsOf ls)) ≤ size (cut 10 text) → readLines ls ≡ accepted T R W
         → length W ≤ 10922
-    go [] h x = never x
-    go (l ∷ ls) h x =
-        let g = begun T R W l ls x in
-        let k : 6 * length (allWindows (bidsOf ls)) ≤ size (cut 10 text) = rw (g .first) at h in
+    go ls h x =
+        let g = accepted-head T R W ls x in
+        let k : 6 * length (allWindows (bidsOf (g .rest))) ≤ size (cut 10 text) =
+        rw (head-is ls T (g .from) (g .rest) (g .head) .bids) at h in
         omega (arith, k, cut-size 10 text, ap length (g .windows), short-text T R W text e)
 
 -- tables of that size never answer 8

@@ -9,16 +9,15 @@ use lib.Dec.{eqb}
 use Rattle.tender.specs.declared.Kind.{Kind}
 use Rattle.tender.specs.declared.Refusal.{Refusal}
 use Rattle.tender.specs.declared.Tender.{Tender}
-use Rattle.tender.specs.Limits.{lawful}
 use Rattle.tender.specs.Refusals.{numberOf, placeOf}
 use Rattle.tender.specs.Tables.{Row, flatRows, flatWindows, bidWidth, windowWidth}
 use Rattle.cells.specs.Cells as cells
 use Rattle.reader_line.specs.Words.{cut}
 use Rattle.reader_line.specs.Line.{BidLine, Line, tender, bid, linesOf}
 use Rattle.reader_line.specs.Scan.{putWindows}
-use Rattle.reader.specs.Read.{ReadOutcome, refused, rowsFrom, allWindows, bidsOf, bidFaultAfter, checked, readLines}
-use Rattle.reader.specs.declared.First.{First}
-use Rattle.reader.specs.declared.First.the-variants as first
+use Rattle.reader.specs.Read.{ReadOutcome, refused, rowsFrom, allWindows, bidsOf, bidFaultAfter, checked, begun, halted, headOf}
+use Rattle.reader.specs.declared.Head.{Head}
+use Rattle.reader.specs.declared.Head.the-variants as head
 use Rattle.reader.specs.declared.bids.Verdict.{Verdict}
 use Rattle.reader.specs.declared.bids.Verdict.the-variants.{Sound, Faulty}
 use Rattle.reader.specs.declared.bids.Step.{Step}
@@ -60,22 +59,22 @@ pub record BidTaken (b : BidLine) (k m : ℕ) (used rows windows : List ℕ) (r 
     pub own : windows′ ≡ putWindows windows m (b .windows)
     pub mark : cells.RangeAdded (b .bidder) (b .bidder + 1) used used′
 
-abbrev pub Judged : Option (ℕ → Refusal) → BidLine → ℕ → ℕ → (used rows windows : List ℕ) → Step
+abbrev pub Judged : Option (ℕ → Refusal) → BidLine → (line k m : ℕ) → (used rows windows : List ℕ) → Step
     → (used′ rows′ windows′ : List ℕ) → Type 0
-Judged none b k m used rows windows r used′ rows′ windows′ = BidTaken b k m used rows windows r used′ rows′ windows′
-Judged (some f) b k m used rows windows r used′ rows′ windows′ = StepDeclines r (numberOf (f (k + 2))) (placeOf (f (k + 2)))
+Judged none b line k m used rows windows r used′ rows′ windows′ = BidTaken b k m used rows windows r used′ rows′ windows′
+Judged (some f) b line k m used rows windows r used′ rows′ windows′ = StepDeclines r (numberOf (f line)) (placeOf (f line))
 
--- what comes of a line
-abbrev pub Taken : Option Line → Kind → ℕ → ℕ → (used rows windows : List ℕ) → Step
+-- what comes of a line, which has the number `line` in its text
+abbrev pub Taken : Option Line → Kind → (line k m : ℕ) → (used rows windows : List ℕ) → Step
     → (used′ rows′ windows′ : List ℕ) → Type 0
-Taken none kind k m used rows windows r used′ rows′ windows′ = StepDeclines r 2 (k + 2)
-Taken (some (tender t)) kind k m used rows windows r used′ rows′ windows′ = StepDeclines r 2 (k + 2)
-Taken (some (bid b)) kind k m used rows windows r used′ rows′ windows′ =
-    Judged (bidFaultAfter kind k b (eqb (cells.cell used (b .bidder)) 1)) b k m used rows windows r used′ rows′ windows′
+Taken none kind line k m used rows windows r used′ rows′ windows′ = StepDeclines r 2 line
+Taken (some (tender t)) kind line k m used rows windows r used′ rows′ windows′ = StepDeclines r 2 line
+Taken (some (bid b)) kind line k m used rows windows r used′ rows′ windows′ =
+    Judged (bidFaultAfter kind k b (eqb (cells.cell used (b .bidder)) 1)) b line k m used rows windows r used′ rows′ windows′
 
--- the tables hold the bids of these lines, none of which is faulty
-pub record TablesHold (kind : Kind) (ls : List (Option Line)) (k m : ℕ) (rows windows : List ℕ) : Type 0 where
-  pub faultless : (out : ReadOutcome) → checked kind 2 [] ls out ≡ out
+-- the tables hold the bids of these lines, from line `from` on, none of which is faulty
+pub record TablesHold (kind : Kind) (from : ℕ) (ls : List (Option Line)) (k m : ℕ) (rows windows : List ℕ) : Type 0 where
+  pub faultless : (out : ReadOutcome) → checked kind from [] ls out ≡ out
   pub bids : length (bidsOf ls) ≡ k
   pub places : length (allWindows (bidsOf ls)) ≡ m
   pub few-bids : k ≤ 1000
@@ -83,17 +82,17 @@ pub record TablesHold (kind : Kind) (ls : List (Option Line)) (k m : ℕ) (rows 
   pub rows-are : take (bidWidth * k) rows ≡ flatRows (rowsFrom 0 (bidsOf ls))
   pub windows-are : take (windowWidth * m) windows ≡ flatWindows (allWindows (bidsOf ls))
 
--- what comes of the lines after the first
-abbrev pub LinesFilled : Kind → List (Option Line) → Bids → (rows windows : List ℕ) → Type 0
-LinesFilled kind ls (bids.Filled k m) rows windows = TablesHold kind ls k m rows windows
-LinesFilled kind ls (bids.Refused r) rows windows = (out : ReadOutcome) → checked kind 2 [] ls out ≡ refused (numberOf r) (placeOf r)
+-- what comes of the lines after the head, from line `from` on
+abbrev pub LinesFilled : Kind → ℕ → List (Option Line) → Bids → (rows windows : List ℕ) → Type 0
+LinesFilled kind from ls (bids.Filled k m) rows windows = TablesHold kind from ls k m rows windows
+LinesFilled kind from ls (bids.Refused r) rows windows =
+    (out : ReadOutcome) → checked kind from [] ls out ≡ refused (numberOf r) (placeOf r)
 
--- what comes of the first line
-pub record Begins (text : List ℕ) (t : Tender) (at : ℕ) : Type 0 where
+-- what comes of the head: the bids begin at byte `at`, on line `from`
+pub record Begins (text : List ℕ) (t : Tender) (at from : ℕ) : Type 0 where
   pub inside : at ≤ length text
-  pub lines : linesOf (cut 10 text) ≡ some (tender t) ∷ linesOf (cut 10 (drop at text))
-  pub window : lawful (t .window) ≡ true
+  pub lines : headOf (linesOf (cut 10 text)) ≡ begun t from (linesOf (cut 10 (drop at text)))
 
-abbrev pub Opened : List ℕ → First → Type 0
-Opened text (first.Tender t at) = Begins text t at
-Opened text (first.Refused r) = readLines (linesOf (cut 10 text)) ≡ refused (numberOf r) (placeOf r)
+abbrev pub Opened : List ℕ → Head → Type 0
+Opened text (head.Tender t at from) = Begins text t at from
+Opened text (head.Refused r) = headOf (linesOf (cut 10 text)) ≡ halted r

@@ -58,16 +58,16 @@ noted-bid n p c flaw m old new b e =
       windows-are = ap (λ (x : Tally). x .table) t ∙ ap (λ i. putWindows old i (b .windows)) (add-zero m);
     }
 
-module _ (kind : Kind) (k m : ℕ) (used rows windows : List ℕ) (r : Step) (used′ rows′ windows′ : List ℕ) where
-  pub taken-broken : (o : Option Line) → none ≡ noted m windows o → StepDeclines r 2 (k + 2)
-      → Taken o kind k m used rows windows r used′ rows′ windows′
+module _ (kind : Kind) (line k m : ℕ) (used rows windows : List ℕ) (r : Step) (used′ rows′ windows′ : List ℕ) where
+  pub taken-broken : (o : Option Line) → none ≡ noted m windows o → StepDeclines r 2 line
+      → Taken o kind line k m used rows windows r used′ rows′ windows′
   unfolding noted
   taken-broken none e h = h
   taken-broken (some (tender t)) e h = let z : _≡_ {A = ℕ} 0 1 = cc in absurd (omega arith)
   taken-broken (some (bid b)) e h = let z : _≡_ {A = ℕ} 0 1 = cc in absurd (omega arith)
 
-  pub taken-tender : (o : Option Line) (t : Tender) → some (tenderNote t) ≡ noted m windows o → StepDeclines r 2 (k + 2)
-      → Taken o kind k m used rows windows r used′ rows′ windows′
+  pub taken-tender : (o : Option Line) (t : Tender) → some (tenderNote t) ≡ noted m windows o → StepDeclines r 2 line
+      → Taken o kind line k m used rows windows r used′ rows′ windows′
   unfolding noted
   taken-tender none t e h = let z : _≡_ {A = ℕ} 0 1 = cc in absurd (omega arith)
   taken-tender (some (tender u)) t e h = h
@@ -83,7 +83,8 @@ module _ (kind : Kind) (k m : ℕ) (used rows windows : List ℕ) (r : Step) (us
 
     pub taken-fault : (o : Option Line) → some (bidNote n p (record { count = c; flaw = flaw; table = windows′ })) ≡ noted m windows o
         → (f : ℕ → Refusal) → bidFaultIn kind k n p c (isEmpty flaw) (isLate flaw) (eqb (cell used n) 1) ≡ some f →
-        StepDeclines r (numberOf (f (k + 2))) (placeOf (f (k + 2))) → Taken o kind k m used rows windows r used′ rows′ windows′
+        StepDeclines r (numberOf (f line)) (placeOf (f line))
+        → Taken o kind line k m used rows windows r used′ rows′ windows′
     unfolding noted
     taken-fault none e f g h = let z : _≡_ {A = ℕ} 0 1 = cc in absurd (omega arith)
     taken-fault (some (tender u)) e f g h = let z : _≡_ {A = ℕ} 0 1 = cc in absurd (omega arith)
@@ -96,7 +97,7 @@ module _ (kind : Kind) (k m : ℕ) (used rows windows : List ℕ) (r : Step) (us
         → bidFaultIn kind k n p c (isEmpty flaw) (isLate flaw) (eqb (cell used n) 1) ≡ none →
         r ≡ step.Bid c → rows′ ≡ take (bidWidth * k) rows ++ rowNumbers (record { bidder = n; price = p; first = m; count = c })
         ++ drop (bidWidth * k + bidWidth) rows → RangeAdded n (n + 1) used used′ →
-        Taken o kind k m used rows windows r used′ rows′ windows′
+        Taken o kind line k m used rows windows r used′ rows′ windows′
     unfolding noted
     taken-sound none e g q s t = let z : _≡_ {A = ℕ} 0 1 = cc in absurd (omega arith)
     taken-sound (some (tender u)) e g q s t = let z : _≡_ {A = ℕ} 0 1 = cc in absurd (omega arith)

@@ -1,7 +1,8 @@
--- What reading answers, from the first line, the bids and the lent tables' lengths. Assumes nothing.
+-- What reading answers, from the head, the bids and the lent tables' lengths. Assumes nothing.
 use Prim.Native.Nat.{ℕ, _*_, _/_, _≤_, _<_}
 use mathlib.Core.Path.{_≡_, refl, _∙_}
 use mathlib.Core.List.{List, [], _∷_, _++_}
+use mathlib.Core.Bool.{true}
 use mathlib.Core.Option.{Option, none, some}
 use native.Mathlib.Omega.{arith}
 use lib.ListN.{length, take, drop}
@@ -10,28 +11,30 @@ use Rattle.tender.specs.declared.Kind.{Kind}
 use Rattle.tender.specs.declared.Window.{Window}
 use Rattle.tender.specs.declared.Tender.{Tender}
 use Rattle.tender.specs.declared.Refusal.{Refusal}
+use Rattle.tender.specs.declared.Refusal.the-variants.{BadForm}
+use Rattle.tender.specs.Limits.{lawful}
 use Rattle.tender.specs.Refusals.{numberOf, placeOf}
 use Rattle.tender.specs.Tables.{Row, flatRows, flatWindows, bidWidth, windowWidth}
 use Rattle.reader_line.specs.Words.{cut}
 use Rattle.reader_line.specs.Line.{Line, tender, bid, linesOf}
 use Rattle.reader_line.specs.Scan.{Tally, tenderNote, bidNote, noted}
 use Rattle.reader_line.specs.Answer.{FirstBroken}
-use Rattle.reader.specs.Read.{ReadOutcome, accepted, refused, declinedBy, rowsFrom, allWindows, bidsOf, tenderFault, lineJudged}
-use Rattle.reader.specs.Read.{checked, tables, readLines, readText, fitted, readInto}
-use Rattle.reader.specs.FaultLaws.{lawful-tender}
+use Rattle.reader.specs.Read.{ReadOutcome, accepted, refused, rowsFrom, allWindows, bidsOf, tenderFault, checked, tables}
+use Rattle.reader.specs.Read.{begun, halted, headOf, readLines, readText, fitted, readInto}
+use Rattle.reader.specs.HeadLaws.{lines-halted, lines-begun, no-line, broken-first, bid-first, tender-faulty, tender-sound}
 use Rattle.reader.specs.RulesLaws.{rowsFrom-length}
 use Rattle.reader.specs.Answer.{filled, declined, summary, bidsAfter, windowsAfter}
 use Rattle.reader.specs.Steps.{Begins, Opened, TablesHold, LinesFilled}
-use Rattle.reader.specs.declared.First.{First}
-use Rattle.reader.specs.declared.First.the-variants as first
+use Rattle.reader.specs.declared.Head.{Head}
+use Rattle.reader.specs.declared.Head.the-variants as head
 use Rattle.reader.specs.declared.bids.Bids.{Bids}
 use Rattle.reader.specs.declared.bids.Bids.the-variants as bids
 
--- the first line
+-- the head
 
-pub first-empty : (text : List ℕ) → length text ≡ 0 → readLines (linesOf (cut 10 text)) ≡ refused 2 1
-unfolding readLines linesOf cut
-first-empty [] h = refl
+pub first-empty : (text : List ℕ) → length text ≡ 0 → headOf (linesOf (cut 10 text)) ≡ halted (BadForm 1)
+unfolding linesOf cut
+first-empty [] h = no-line
 first-empty (b ∷ text) h = absurd (omega arith)
 
 pub is-tender : (m : ℕ) (table : List ℕ) (o : Option Line) (t : Tender) → some (tenderNote t) ≡ noted m table o
@@ -42,52 +45,56 @@ is-tender m table (some (tender u)) t e = cc
 is-tender m table (some (bid b)) t e = let z : _≡_ {A = ℕ} 0 1 = cc in absurd (omega arith)
 
 module _ (ls rest : List (Option Line)) (o : Option Line) (q : ls ≡ o ∷ rest) where
-  pub first-bid : (m n p : ℕ) (table : List ℕ) (t : Tally) → some (bidNote n p t) ≡ noted m table o → readLines ls ≡ refused 2 1
-  unfolding readLines noted
+  pub first-bid : (m n p : ℕ) (table : List ℕ) (t : Tally) → some (bidNote n p t) ≡ noted m table o
+      → headOf ls ≡ halted (BadForm 1)
+  unfolding noted
   first-bid m n p table t e = rw q (go o e)
     where
-      go : (x : Option Line) → some (bidNote n p t) ≡ noted m table x → readLines (x ∷ rest) ≡ refused 2 1
+      go : (x : Option Line) → some (bidNote n p t) ≡ noted m table x → headOf (x ∷ rest) ≡ halted (BadForm 1)
       go none h = let z : _≡_ {A = ℕ} 0 1 = cc in absurd (omega arith)
       go (some (tender u)) h = let z : _≡_ {A = ℕ} 0 1 = cc in absurd (omega arith)
-      go (some (bid b)) h = refl
+      go (some (bid b)) h = bid-first b rest
 
-  pub first-broken : (m : ℕ) (table : List ℕ) → none ≡ noted m table o → readLines ls ≡ refused 2 1
-  unfolding readLines noted
+  pub first-broken : (m : ℕ) (table : List ℕ) → none ≡ noted m table o → headOf ls ≡ halted (BadForm 1)
+  unfolding noted
   first-broken m table e = rw q (go o e)
     where
-      go : (x : Option Line) → none ≡ noted m table x → readLines (x ∷ rest) ≡ refused 2 1
-      go none h = refl
+      go : (x : Option Line) → none ≡ noted m table x → headOf (x ∷ rest) ≡ halted (BadForm 1)
+      go none h = broken-first rest
       go (some (tender u)) h = let z : _≡_ {A = ℕ} 0 1 = cc in absurd (omega arith)
       go (some (bid b)) h = let z : _≡_ {A = ℕ} 0 1 = cc in absurd (omega arith)
 
-  pub first-faulty : (t : Tender) → o ≡ some (tender t) → (f : ℕ → Refusal) → tenderFault t ≡ some f → readLines ls ≡ declinedBy (f 1)
-  unfolding readLines lineJudged
-  first-faulty t e f l = rw (q, e) (rw l)
+  pub first-faulty : (t : Tender) → o ≡ some (tender t) → (f : ℕ → Refusal) → tenderFault t ≡ some f
+      → headOf ls ≡ halted (f 1)
+  first-faulty t e f l = rw (q, e) (tender-faulty t f rest l)
 
-pub first-odd : (ls : List (Option Line)) → FirstBroken ls → readLines ls ≡ refused 2 1
-unfolding readLines
-first-odd ls b = rw (b .are)
+  pub first-sound : (t : Tender) → o ≡ some (tender t) → lawful (t .window) ≡ true → headOf ls ≡ begun t 2 rest
+  first-sound t e l = rw (q, e) (tender-sound t rest l)
+
+pub first-odd : (ls : List (Option Line)) → FirstBroken ls → headOf ls ≡ halted (BadForm 1)
+first-odd ls b = rw (b .are) (broken-first (b .rest))
 
 -- by the case of an answer
 
-pub opened-tender : (text : List ℕ) (r : First) → Opened text r → (t : Tender) (at : ℕ) → r ≡ first.Tender t at
-    → Begins text t at
-opened-tender text (first.Tender u i) h t at e = let x : u ≡ t = cc in let y : i ≡ at = cc in rw (← x, ← y) h
-opened-tender text (first.Refused r) h t at e = let z : _≡_ {A = ℕ} 0 1 = cc in absurd (omega arith)
+pub opened-tender : (text : List ℕ) (r : Head) → Opened text r → (t : Tender) (at from : ℕ) → r ≡ head.Tender t at from
+    → Begins text t at from
+opened-tender text (head.Tender u i n) h t at from e =
+    let x : u ≡ t = cc in let y : i ≡ at = cc in let z : n ≡ from = cc in rw (← x, ← y, ← z) h
+opened-tender text (head.Refused r) h t at from e = let z : _≡_ {A = ℕ} 0 1 = cc in absurd (omega arith)
 
-pub opened-refused : (text : List ℕ) (r : First) → Opened text r → (x : Refusal) → r ≡ first.Refused x
+pub opened-refused : (text : List ℕ) (r : Head) → Opened text r → (x : Refusal) → r ≡ head.Refused x
     → readLines (linesOf (cut 10 text)) ≡ refused (numberOf x) (placeOf x)
-opened-refused text (first.Tender u i) h x e = let z : _≡_ {A = ℕ} 0 1 = cc in absurd (omega arith)
-opened-refused text (first.Refused r) h x e = let y : r ≡ x = cc in rw (← y) h
+opened-refused text (head.Tender u i n) h x e = let z : _≡_ {A = ℕ} 0 1 = cc in absurd (omega arith)
+opened-refused text (head.Refused r) h x e = let y : r ≡ x = cc in rw (← y) (lines-halted (linesOf (cut 10 text)) r h)
 
-module _ (kind : Kind) (ls : List (Option Line)) (rows spans : List ℕ) where
-  pub filled-held : (r : Bids) → LinesFilled kind ls r rows spans → (k m : ℕ) → r ≡ bids.Filled k m
-      → TablesHold kind ls k m rows spans
+module _ (kind : Kind) (from : ℕ) (ls : List (Option Line)) (rows spans : List ℕ) where
+  pub filled-held : (r : Bids) → LinesFilled kind from ls r rows spans → (k m : ℕ) → r ≡ bids.Filled k m
+      → TablesHold kind from ls k m rows spans
   filled-held (bids.Filled j n) h k m e = let x : j ≡ k = cc in let y : n ≡ m = cc in rw (← x, ← y) h
   filled-held (bids.Refused r) h k m e = let z : _≡_ {A = ℕ} 0 1 = cc in absurd (omega arith)
 
-  pub filled-refused : (r : Bids) → LinesFilled kind ls r rows spans → (x : Refusal) → r ≡ bids.Refused x → (out : ReadOutcome)
-      → checked kind 2 [] ls out ≡ refused (numberOf x) (placeOf x)
+  pub filled-refused : (r : Bids) → LinesFilled kind from ls r rows spans → (x : Refusal) → r ≡ bids.Refused x
+      → (out : ReadOutcome) → checked kind from [] ls out ≡ refused (numberOf x) (placeOf x)
   filled-refused (bids.Filled j n) h x e out = let z : _≡_ {A = ℕ} 0 1 = cc in absurd (omega arith)
   filled-refused (bids.Refused r) h x e out = let y : r ≡ x = cc in rw (← y) (h out)
 
@@ -117,18 +124,17 @@ module _ (text bids windows : List ℕ) where
     unfolding Refuses readInto fitted
     lines-refused n at e = rw (short, e)
 
-    module _ (t : Tender) (at : ℕ) (g : Begins text t at) where
-      begun : readLines (linesOf (cut 10 text)) ≡ checked (t .kind) 2 [] (linesOf (cut 10 (drop at text)))
+    module _ (t : Tender) (at from : ℕ) (g : Begins text t at from) where
+      read-on : readLines (linesOf (cut 10 text)) ≡ checked (t .kind) from [] (linesOf (cut 10 (drop at text)))
           (tables t (bidsOf (linesOf (cut 10 (drop at text)))))
-      unfolding readLines lineJudged
-      begun = rw (g .lines) (rw (lawful-tender t (g .window)))
+      read-on = lines-begun (linesOf (cut 10 text)) t from (linesOf (cut 10 (drop at text))) (g .lines)
 
-      pub bids-refused : (n p : ℕ) → ((out : ReadOutcome) → checked (t .kind) 2 [] (linesOf (cut 10 (drop at text))) out
+      pub bids-refused : (n p : ℕ) → ((out : ReadOutcome) → checked (t .kind) from [] (linesOf (cut 10 (drop at text))) out
           ≡ refused n p)
           → Refuses n p
-      bids-refused n p h = lines-refused n p (begun ∙ h _)
+      bids-refused n p h = lines-refused n p (read-on ∙ h _)
 
-      module _ (k m : ℕ) (rows spans : List ℕ) (h : TablesHold (t .kind) (linesOf (cut 10 (drop at text))) k m rows spans) where
+      module _ (k m : ℕ) (rows spans : List ℕ) (h : TablesHold (t .kind) from (linesOf (cut 10 (drop at text))) k m rows spans) where
         R : List Row
         R = rowsFrom 0 (bidsOf (linesOf (cut 10 (drop at text))))
 
@@ -145,7 +151,7 @@ module _ (text bids windows : List ℕ) where
 
         read-is : readText text ≡ accepted t R W
         unfolding tables R W
-        read-is = short ∙ begun ∙ h .faultless _
+        read-is = short ∙ read-on ∙ h .faultless _
 
         pub bids-short : length bids / bidWidth < k → Refuses 8 0
         unfolding Refuses readInto fitted

@@ -103,9 +103,11 @@ pub(crate) enum Step {
     Refused(Refusal),
 }
 
-// The line after k bids with m windows: a bid, which goes into the tables and whose number is used from then on, or the line's fault.
+// The line of this number, after k bids with m windows: a bid, which goes into the tables and whose bidder is used from then on, or
+// the line's fault.
 fn take_line(
-    line: &[u8],
+    bytes: &[u8],
+    line: u64,
     kind: Kind,
     k: usize,
     m: usize,
@@ -114,14 +116,13 @@ fn take_line(
     windows: &mut [u64],
 ) -> Step
     requires { ⌜ (k ≤ 1000) × (m ≤ 32000) × (length (now used) ≡ 15625) × (length (now rows) ≡ 4000) ⌝ }
-    ensures { λ r. ⌜ Taken (lineOf (now (line .entry))) kind k m (now (used .entry)) (now (rows .entry)) (now (windows .entry)) r
-        (now (used .exit)) (now (rows .exit)) (now (windows .exit)) ⌝ }
+    ensures { λ r. ⌜ Taken (lineOf (now (bytes .entry))) kind line k m (now (used .entry)) (now (rows .entry)) (now (windows .entry))
+        r (now (used .exit)) (now (rows .exit)) (now (windows .exit)) ⌝ }
 {
-    let place = k as u64 + 2;
-    match read_line(line, windows, m) {
+    match read_line(bytes, windows, m) {
         Line::Bid(bidder, price, count, flaw) => match judge(
             kind,
-            place,
+            line,
             k,
             used,
             bidder,
@@ -136,8 +137,8 @@ fn take_line(
             }
             Verdict::Faulty(r) => Step::Refused(r),
         },
-        Line::Tender(_) => Step::Refused(Refusal::BadForm { line: place }),
-        Line::Broken => Step::Refused(Refusal::BadForm { line: place }),
+        Line::Tender(_) => Step::Refused(Refusal::BadForm { line }),
+        Line::Broken => Step::Refused(Refusal::BadForm { line }),
     }
 }
 
@@ -146,37 +147,42 @@ pub(crate) enum Bids {
     Refused(Refusal),
 }
 
-// The bids from `at` on, in the first rows of the two tables: how many bids and windows, or the first faulty line.
+// The bids from `at` on, where line `from` begins, in the first rows of the two tables: how many bids and windows, or the first faulty
+// line.
 pub(crate) fn read_bids(
     text: &[u8],
     at: usize,
+    from: u64,
     kind: Kind,
     used: &mut [u64],
     rows: &mut [u64],
     windows: &mut [u64],
 ) -> Bids
-    requires { ⌜ (at ≤ length (now text)) × (length (now text) ≤ 65536) × (now used ≡ replicate 15625 0)
+    requires { ⌜ (at ≤ length (now text)) × (from ≤ 65536) × (length (now text) ≤ 65536) × (now used ≡ replicate 15625 0)
         × (length (now rows) ≡ 4000)
         × (length (now windows) ≡ 22000) ⌝ }
-    ensures { λ r. ⌜ LinesFilled kind (linesOf (cut 10 (drop at (now (text .entry))))) r (now (rows .exit)) (now (windows .exit)) ⌝ }
+    ensures { λ r. ⌜ LinesFilled kind from (linesOf (cut 10 (drop at (now (text .entry))))) r (now (rows .exit))
+        (now (windows .exit)) ⌝ }
 {
     let mut k: usize = 0;
     let mut m: usize = 0;
     let mut i = at;
+    let mut line = from;
     while i < text.len() {
         match line_end(text, i) {
-            LineEnd::At(e) => match take_line(&text[i..e], kind, k, m, used, rows, windows) {
+            LineEnd::At(e) => match take_line(&text[i..e], line, kind, k, m, used, rows, windows) {
                 Step::Bid(count) => {
                     k += 1;
                     m += count;
                     i = e + 1;
+                    line += 1;
                 }
                 Step::Refused(r) => {
                     return Bids::Refused(r);
                 }
             },
             LineEnd::Broken => {
-                return Bids::Refused(Refusal::BadForm { line: k as u64 + 2 });
+                return Bids::Refused(Refusal::BadForm { line });
             }
         }
     }

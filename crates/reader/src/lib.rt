@@ -30,32 +30,33 @@ const WINDOW_TABLE: usize = 22000;
 // The words of a set of a million bidder numbers.
 const NUMBER_WORDS: usize = 15625;
 
-pub(crate) enum First {
-    Tender(Tender, usize),
+pub(crate) enum Head {
+    Tender(Tender, usize, u64),
     Refused(Refusal),
 }
 
-// The first line: the tender and where the second line begins. The table serves the line's reader and is not looked at.
-fn read_first(text: &[u8], windows: &mut [u64]) -> First
+// The lines before the bids: the tender, where the bids begin, and the number of their first line. The table serves the line's reader
+// and is not looked at.
+fn read_head(text: &[u8], windows: &mut [u64]) -> Head
     ensures { λ r. ⌜ Opened (now (text .entry)) r ⌝ }
 {
     if text.len() == 0 {
-        return First::Refused(Refusal::BadForm { line: 1 });
+        return Head::Refused(Refusal::BadForm { line: 1 });
     }
     match line_end(text, 0) {
         LineEnd::At(e) => match read_line(&text[0..e], windows, 0) {
             Line::Tender(t) => {
                 let w = t.window;
                 match flaw_in(w.start, w.end) {
-                    Flaw::Empty => First::Refused(Refusal::EmptyWindow { line: 1 }),
-                    Flaw::Late => First::Refused(Refusal::LateWindow { line: 1 }),
-                    Flaw::Sound => First::Tender(t, e + 1),
+                    Flaw::Empty => Head::Refused(Refusal::EmptyWindow { line: 1 }),
+                    Flaw::Late => Head::Refused(Refusal::LateWindow { line: 1 }),
+                    Flaw::Sound => Head::Tender(t, e + 1, 2),
                 }
             }
-            Line::Bid(_, _, _, _) => First::Refused(Refusal::BadForm { line: 1 }),
-            Line::Broken => First::Refused(Refusal::BadForm { line: 1 }),
+            Line::Bid(_, _, _, _) => Head::Refused(Refusal::BadForm { line: 1 }),
+            Line::Broken => Head::Refused(Refusal::BadForm { line: 1 }),
         },
-        LineEnd::Broken => First::Refused(Refusal::BadForm { line: 1 }),
+        LineEnd::Broken => Head::Refused(Refusal::BadForm { line: 1 }),
     }
 }
 
@@ -83,10 +84,10 @@ pub fn read(text: &[u8], bids: &mut [u64], windows: &mut [u64]) -> Reading
     let mut rows = [1u64; BID_TABLE];
     let mut spans = [1u64; WINDOW_TABLE];
     let mut used = [0u64; NUMBER_WORDS];
-    match read_first(text, &mut spans) {
-        First::Tender(t, at) => {
+    match read_head(text, &mut spans) {
+        Head::Tender(t, at, from) => {
             let kind = t.kind;
-            match read_bids(text, at, kind, &mut used, &mut rows, &mut spans) {
+            match read_bids(text, at, from, kind, &mut used, &mut rows, &mut spans) {
                 Bids::Filled(k, m) => {
                     if bids.len() / tender::BID_WIDTH < k {
                         return Reading::Refused(Refusal::TableTooShort);
@@ -105,6 +106,6 @@ pub fn read(text: &[u8], bids: &mut [u64], windows: &mut [u64]) -> Reading
                 Bids::Refused(r) => Reading::Refused(r),
             }
         }
-        First::Refused(r) => Reading::Refused(r),
+        Head::Refused(r) => Reading::Refused(r),
     }
 }

@@ -1,10 +1,11 @@
--- `read` meets its contract: the first line, the bids and the lent tables' lengths settle the answer, and the rows are copied.
+-- `read` meets its contract: the head, the bids and the lent tables' lengths settle the answer, and the rows are copied.
 -- Assumes nothing.
 use Prim.Native.Nat.{ℕ}
 use mathlib.Core.Path.{refl, _∙_}
 use native.Mathlib.Omega.{arith}
 use borrow.Author.Needs.{needs}
 use lib.ListN.{length-replicate}
+use Rattle.reader.specs.HeadLaws.{head-short}
 use Rattle.reader.specs.WholeLaws.{opened-tender, opened-refused, filled-held, filled-refused, answer-refused, too-long}
 use Rattle.reader.specs.WholeLaws.{lines-refused, bids-refused, bids-short, windows-short, answer-accepted}
 use Rattle.reader.proofs.read.Statement.{statement}
@@ -17,11 +18,11 @@ returns c =
     let x = answer-refused (args .text .now) (args .bids .now) (args .windows .now) 1 0
     (too-long (args .text .now) (args .bids .now) (args .windows .now) (c .if1 .taken)) in (x .0, (x .1, x .2))
 
-slice-aggregate-read-first : tie.Need-slice-aggregate-read-first
-slice-aggregate-read-first c = search needs
+slice-aggregate-read-head : tie.Need-slice-aggregate-read-head
+slice-aggregate-read-head c = search needs
 
-read-first-requires : tie.Need-read-first-requires
-read-first-requires c κs = search needs
+read-head-requires : tie.Need-read-head-requires
+read-head-requires c κs = search needs
 
 enum-known-t : tie.Need-enum-known-t
 enum-known-t c = search needs
@@ -41,8 +42,8 @@ read-bids-requires c κs =
     let c7 = c4 .before .before .before in
     let c9 = c7 .before .before in
     let c13 = c9 .before .before .before .before in
-    let b = opened-tender (c13 .args .text .now) _ (c7 .read-first .ensures) _ _ (c4 .t .given .1) in
-    (b .inside, c9 .if1 .left, refl, length-replicate {A = ℕ} 4000 1, c7 .read-first .kept .1 .0 ∙ length-replicate {A = ℕ} 22000 1)
+    let b = opened-tender (c13 .args .text .now) _ (c7 .read-head .ensures) _ _ _ (c4 .t .given .1) in
+    (b .inside, head-short _ _ _ _ (b .lines), c9 .if1 .left, refl, length-replicate {A = ℕ} 4000 1, c7 .read-head .kept .1 .0 ∙ length-replicate {A = ℕ} 22000 1)
 
 enum-known-k : tie.Need-enum-known-k
 enum-known-k c = search needs
@@ -55,10 +56,10 @@ returns-2 c =
     let c17 = c15 .before .before in
     let c21 = c17 .before .before .before .before in
     let args = c21 .args in
-    let b = opened-tender (args .text .now) _ (c15 .read-first .ensures) _ _ (c12 .t .given .1) in
-    let h = filled-held _ _ _ _ _ (c7 .read-bids .ensures) _ _ (c .before .before .k .given .1) in
+    let b = opened-tender (args .text .now) _ (c15 .read-head .ensures) _ _ _ (c12 .t .given .1) in
+    let h = filled-held _ _ _ _ _ _ (c7 .read-bids .ensures) _ _ (c .before .before .k .given .1) in
     let x = answer-refused (args .text .now) (args .bids .now) (args .windows .now) 8 0
-    (bids-short (args .text .now) (args .bids .now) (args .windows .now) (c17 .if1 .left) _ _ b _ _ _ _ h (c .if2 .taken)) in
+    (bids-short (args .text .now) (args .bids .now) (args .windows .now) (c17 .if1 .left) _ _ _ b _ _ _ _ h (c .if2 .taken)) in
     (x .0, (x .1, x .2))
 
 returns-3 : tie.Need-returns-3
@@ -69,10 +70,10 @@ returns-3 c =
     let c18 = c16 .before .before in
     let c22 = c18 .before .before .before .before in
     let args = c22 .args in
-    let b = opened-tender (args .text .now) _ (c16 .read-first .ensures) _ _ (c13 .t .given .1) in
-    let h = filled-held _ _ _ _ _ (c8 .read-bids .ensures) _ _ (c .before .before .before .k .given .1) in
+    let b = opened-tender (args .text .now) _ (c16 .read-head .ensures) _ _ _ (c13 .t .given .1) in
+    let h = filled-held _ _ _ _ _ _ (c8 .read-bids .ensures) _ _ (c .before .before .before .k .given .1) in
     let x = answer-refused (args .text .now) (args .bids .now) (args .windows .now) 8 0
-    (windows-short (args .text .now) (args .bids .now) (args .windows .now) (c18 .if1 .left) _ _ b _ _ _ _ h (c .before .if2 .left)
+    (windows-short (args .text .now) (args .bids .now) (args .windows .now) (c18 .if1 .left) _ _ _ b _ _ _ _ h (c .before .if2 .left)
     (c .if3 .taken)) in (x .0, (x .1, x .2))
 
 slice-aggregate-copy : tie.Need-slice-aggregate-copy
@@ -85,8 +86,8 @@ copy-requires : tie.Need-copy-requires
 copy-requires c κs =
     let c5 = c .before .before .before .before .before in
     let c10 = c5 .before .before .before .before .before in
-    let h = filled-held _ _ _ _ _ (c10 .read-bids .ensures) _ _ (c5 .k .given .1) in (
-      omega (arith, h .few-bids, c10 .read-bids .kept .1 .1 .1 .1 .0, length-replicate {A = ℕ} 4000 1),
+    let h = filled-held _ _ _ _ _ _ (c10 .read-bids .ensures) _ _ (c5 .k .given .1) in (
+      omega (arith, h .few-bids, c10 .read-bids .kept .1 .1 .1 .1 .1 .0, length-replicate {A = ℕ} 4000 1),
       omega (arith, c .before .before .before .if2 .left),
     )
 
@@ -97,7 +98,7 @@ mul-copy-2 : tie.Need-mul-copy-2
 mul-copy-2 c =
     let c9 = c .before .before .before .before .before .before .before .before .before in
     let c14 = c9 .before .before .before .before .before in
-    let h = filled-held _ _ _ _ _ (c14 .read-bids .ensures) _ _ (c9 .k .given .1) in omega (arith, h .few-windows)
+    let h = filled-held _ _ _ _ _ _ (c14 .read-bids .ensures) _ _ (c9 .k .given .1) in omega (arith, h .few-windows)
 
 copy-requires-2 : tie.Need-copy-requires-2
 copy-requires-2 c κs =
@@ -105,8 +106,8 @@ copy-requires-2 c κs =
     let c10 = c7 .before .before .before in
     let c15 = c10 .before .before .before .before .before in
     let c23 = c15 .before .before .before .before .before .before .before .before in
-    let h = filled-held _ _ _ _ _ (c15 .read-bids .ensures) _ _ (c10 .k .given .1) in (
-      omega (arith, h .few-windows, c15 .read-bids .kept .1 .1 .1 .1 .1 .0, c23 .read-first .kept .1 .0, length-replicate {A = ℕ} 22000 1),
+    let h = filled-held _ _ _ _ _ _ (c15 .read-bids .ensures) _ _ (c10 .k .given .1) in (
+      omega (arith, h .few-windows, c15 .read-bids .kept .1 .1 .1 .1 .1 .1 .0, c23 .read-head .kept .1 .0, length-replicate {A = ℕ} 22000 1),
       omega (arith, c7 .if3 .left),
     )
 
@@ -134,9 +135,9 @@ returns-4 c =
     let c28 = c26 .before .before in
     let c32 = c28 .before .before .before .before in
     let args = c32 .args in
-    let b = opened-tender (args .text .now) _ (c26 .read-first .ensures) _ _ (c23 .t .given .1) in
-    let h = filled-held _ _ _ _ _ (c18 .read-bids .ensures) _ _ (c13 .k .given .1) in
-    let y = answer-accepted (args .text .now) (args .bids .now) (args .windows .now) (c28 .if1 .left) _ _ b _ _ _ _ h (c11 .if2 .left)
+    let b = opened-tender (args .text .now) _ (c26 .read-head .ensures) _ _ _ (c23 .t .given .1) in
+    let h = filled-held _ _ _ _ _ _ (c18 .read-bids .ensures) _ _ (c13 .k .given .1) in
+    let y = answer-accepted (args .text .now) (args .bids .now) (args .windows .now) (c28 .if1 .left) _ _ _ b _ _ _ _ h (c11 .if2 .left)
     (c10 .if3 .left) in (y .0, (c7 .copy .ensures ∙ y .1, c .before .before .copy2 .ensures ∙ y .2))
 
 returns-5 : tie.Need-returns-5
@@ -147,10 +148,10 @@ returns-5 c =
     let c16 = c14 .before .before in
     let c20 = c16 .before .before .before .before in
     let args = c20 .args in
-    let b = opened-tender (args .text .now) _ (c14 .read-first .ensures) _ _ (c11 .t .given .1) in
+    let b = opened-tender (args .text .now) _ (c14 .read-head .ensures) _ _ _ (c11 .t .given .1) in
     let x = answer-refused (args .text .now) (args .bids .now) (args .windows .now) _ _
-    (bids-refused (args .text .now) (args .bids .now) (args .windows .now) (c16 .if1 .left) _ _ b _ _
-    (filled-refused _ _ _ _ _ (c6 .read-bids .ensures) _ (c .before .r .given .1))) in (x .0, (x .1, x .2))
+    (bids-refused (args .text .now) (args .bids .now) (args .windows .now) (c16 .if1 .left) _ _ _ b _ _
+    (filled-refused _ _ _ _ _ _ (c6 .read-bids .ensures) _ (c .before .r .given .1))) in (x .0, (x .1, x .2))
 
 returns-6 : tie.Need-returns-6
 returns-6 c =
@@ -160,15 +161,15 @@ returns-6 c =
     let args = c10 .args in
     let x = answer-refused (args .text .now) (args .bids .now) (args .windows .now) _ _
     (lines-refused (args .text .now) (args .bids .now) (args .windows .now) (c6 .if1 .left) _ _
-    (opened-refused (args .text .now) _ (c4 .read-first .ensures) _ (c .before .r2 .given .1))) in (x .0, (x .1, x .2))
+    (opened-refused (args .text .now) _ (c4 .read-head .ensures) _ (c .before .r2 .given .1))) in (x .0, (x .1, x .2))
 
 pub read-spec : {M : Type 1} → statement M
 read-spec =
     tie.close
     (tie.spec
     returns
-    slice-aggregate-read-first
-    read-first-requires
+    slice-aggregate-read-head
+    read-head-requires
     enum-known-t
     slice-aggregate-read-bids
     slice-aggregate-read-bids-2

@@ -9,9 +9,6 @@ use borrow.Author.Needs.{needs}
 use Rattle.reader.proofs.bids.take_line.Statement.{statement}
 use Rattle.reader.proofs.bids.take_line.Tie as tie
 
-add-place : tie.Need-add-place
-add-place c = search needs
-
 read-line-requires : tie.Need-read-line-requires
 read-line-requires c κs = search needs
 
@@ -64,7 +61,7 @@ returns c =
     let c10 = c8 .before .before in
     let c13 = c10 .before .before .before in
     let c17 = c13 .before .before .before .before in
-    taken-sound _ _ _ _ _ _ _ _ _ _ _ _ _ _ _
+    taken-sound _ _ _ _ _ _ _ _ _ _ _ _ _ _ _ _
     (ap (λ t. toldLine t (c17 .read-line .last .1 .0)) (sym (c13 .bidder .given .1)) ∙ c17 .read-line .ensures .0)
     (is-sound _ _ (ap verdictOf (sym (c8 .enum-told .given .1)) ∙ c10 .judge .ensures)) refl (c6 .put-row .ensures)
     (c .before .before .add .ensures)
@@ -80,7 +77,7 @@ returns-2 c =
     let c6 = c .before .before .before .before .before .before in
     let c10 = c6 .before .before .before .before in
     let x = is-fault _ _ _ (ap verdictOf (sym (c .before .r .given .1)) ∙ c .before .before .before .judge .ensures) in
-    taken-fault _ _ _ _ _ _ _ _ _ _ _ _ _ _ _
+    taken-fault _ _ _ _ _ _ _ _ _ _ _ _ _ _ _ _
     (ap (λ t. toldLine t (c10 .read-line .last .1 .0)) (sym (c6 .bidder .given .1)) ∙ c10 .read-line .ensures .0)
     (x .f) (x .number) (x .fault)
 
@@ -90,7 +87,7 @@ same-length-6 c = search needs
 returns-3 : tie.Need-returns-3
 returns-3 c =
     let c4 = c .before .before .before .before in
-    taken-tender _ _ _ _ _ _ _ _ _ _ _ _ (ap (λ t. toldLine t (c4 .read-line .last .1 .0)) (sym (c .enum-told2 .given .1))
+    taken-tender _ _ _ _ _ _ _ _ _ _ _ _ _ (ap (λ t. toldLine t (c4 .read-line .last .1 .0)) (sym (c .enum-told2 .given .1))
     ∙ c4 .read-line .ensures .0) refl
 
 same-length-7 : tie.Need-same-length-7
@@ -99,14 +96,13 @@ same-length-7 c = search needs
 returns-4 : tie.Need-returns-4
 returns-4 c =
     let c4 = c .before .before .before .before in
-    taken-broken _ _ _ _ _ _ _ _ _ _ _ (ap (λ t. toldLine t (c4 .read-line .last .1 .0)) (sym (c .enum-told3 .given .1))
+    taken-broken _ _ _ _ _ _ _ _ _ _ _ _ (ap (λ t. toldLine t (c4 .read-line .last .1 .0)) (sym (c .enum-told3 .given .1))
     ∙ c4 .read-line .ensures .0) refl
 
 pub take-line-spec : {M : Type 1} → statement M
 take-line-spec =
     tie.close
     (tie.spec
-    add-place
     read-line-requires
     enum-known-bidder
     judge-requires

@@ -1,19 +1,14 @@
--- `read_first` meets its contract: the first line is cut, read and judged as the definition does. Assumes nothing.
-use Prim.Native.Nat.{_+_}
+-- `read_head` meets its contract: the first line is cut, read and judged as the definition does. Assumes nothing.
 use mathlib.Core.Path.{sym, ap, _∙_}
 use native.Mathlib.Omega.{arith}
-use mathlib.Core.List.{_∷_}
-use lib.ListN.{drop}
-use Rattle.reader_line.specs.Words.{cut}
-use Rattle.reader_line.specs.Line.{linesOf}
 use Rattle.reader_line.specs.ScanLaws.{lines-at}
 use Rattle.reader_line.specs.Answer.{toldLine}
 use Rattle.reader.specs.FaultLaws.{flaw-sound, tender-empty, tender-late}
 use Rattle.reader.specs.FillsLaws.{ends-at, ends-broken}
-use Rattle.reader.specs.WholeLaws.{first-empty, is-tender, first-bid, first-broken, first-faulty, first-odd}
+use Rattle.reader.specs.WholeLaws.{first-empty, is-tender, first-bid, first-broken, first-faulty, first-sound, first-odd}
 use borrow.Author.Needs.{needs}
-use Rattle.reader.proofs.read_first.Statement.{statement}
-use Rattle.reader.proofs.read_first.Tie as tie
+use Rattle.reader.proofs.read_head.Statement.{statement}
+use Rattle.reader.proofs.read_head.Tie as tie
 
 returns : tie.Need-returns
 returns c = first-empty _ (c .if1 .taken)
@@ -114,9 +109,8 @@ returns-4 c =
     let o = is-tender 0 _ _ _ (ap (λ t. toldLine t (c9 .read-line .last .1 .0)) (sym (c5 .t .given .1)) ∙ c9 .read-line .ensures .0) in
     record {
       inside = omega (arith, b .1);
-      lines = lines-at (c19 .args .text .now) 0 _ (b .0) (b .1)
-          ∙ ap (λ x. x ∷ linesOf (cut 10 (drop (c13 .e .given .0 .0 + 1) (c19 .args .text .now)))) o;
-      window = flaw-sound _ (sym (c .before .before .flaw-in .ensures) ∙ c .enum-told3 .given .1);
+      lines = first-sound _ _ _ (lines-at (c19 .args .text .now) 0 _ (b .0) (b .1)) _ o
+          (flaw-sound _ (sym (c .before .before .flaw-in .ensures) ∙ c .enum-told3 .given .1));
     }
 
 same-length-4 : tie.Need-same-length-4
@@ -150,8 +144,8 @@ returns-7 c =
     let c6 = c .before .before .before .before .before .before in
     first-odd _ (ends-broken (c6 .args .text .now) 0 _ (c .before .before .line-end .ensures) (c .enum-told6 .given .1))
 
-pub read-first-spec : {M : Type 1} → statement M
-read-first-spec =
+pub read-head-spec : {M : Type 1} → statement M
+read-head-spec =
     tie.close
     (tie.spec
     returns
