@@ -13,7 +13,7 @@ use Rattle.tender.specs.declared.Refusal.the-variants.{BadForm}
 use Rattle.tender.specs.Limits.{lawful}
 use Rattle.tender.specs.Tables.{Row}
 use Rattle.reader_line.specs.Line.{BidLine, Line, tender, bid}
-use Rattle.reader.specs.Read.{accepted, declinedBy, rowsFrom, allWindows, bidsOf, tenderFault, checked, tables}
+use Rattle.reader.specs.Read.{accepted, declinedBy, rowsFrom, allWindows, bidsOf, tenderFault, lineJudged, checked, tables}
 use Rattle.reader.specs.Read.{Head, begun, halted, headJudged, headOf, afterHead, readLines}
 use Rattle.reader.specs.FaultLaws.{lawful-tender, tender-lawful}
 use Rattle.reader.specs.ReadLaws.{never, checked-out, checked-bids}
@@ -57,6 +57,16 @@ pub tender-sound : (t : Tender) (ls : List (Option Line)) → lawful (t .window)
     → headOf (some (tender t) ∷ ls) ≡ begun t 2 ls
 unfolding headJudged
 tender-sound t ls e = tender-first t ls ∙ ap (λ o. headJudged o 1 (begun t 2 ls)) (lawful-tender t e)
+
+pub tender-read : (t : Tender) (ls : List (Option Line))
+    → readLines (some (tender t) ∷ ls) ≡ lineJudged (tenderFault t) 1 (checked (t .kind) 2 [] ls (tables t (bidsOf ls)))
+unfolding readLines headOf headJudged afterHead lineJudged
+tender-read t ls = go (tenderFault t)
+  where
+    go : (f : Option (ℕ → Refusal)) → afterHead (headJudged f 1 (begun t 2 ls))
+        ≡ lineJudged f 1 (checked (t .kind) 2 [] ls (tables t (bidsOf ls)))
+    go none = refl
+    go (some f) = refl
 
 -- the lines of a head, as its tender says them
 unfoldable pub headLines : Tender → List Line

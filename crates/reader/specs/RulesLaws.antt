@@ -135,8 +135,8 @@ pub record Passed (k : Kind) (bids bidder price count : ℕ) (empty late used : 
   pub not-late : late ≡ false
   pub bidder-new : used ≡ false
 
-pub passed : (k : Kind) (bids bidder price count : ℕ) (empty late used : Bool) → bidFaultIn k bids bidder price count empty late used ≡ none
-    → Passed k bids bidder price count empty late used
+pub passed : (k : Kind) (bids bidder price count : ℕ) (empty late used : Bool)
+    → bidFaultIn k bids bidder price count empty late used ≡ none → Passed k bids bidder price count empty late used
 unfolding bidFaultIn lineFault within
 passed k bids bidder price count empty late used e =
     let c4 = cond-none (leb 1000 bids || ltb 32 count) TooMany _ e in
@@ -224,7 +224,8 @@ more k used at b bs l h s =
         },
         rw e (s .rows),
       );
-      windows = windows-rules (b .windows) (allWindows bs) (every-lawful (b .windows) (not-false _ (h .not-empty)) (not-false _ (h .not-late))) (s .windows);
+      windows = windows-rules (b .windows) (allWindows bs)
+          (every-lawful (b .windows) (not-false _ (h .not-empty)) (not-false _ (h .not-late))) (s .windows);
     }
 
 pub rowsFrom-length : (at : ℕ) (bs : List BidLine) → length (rowsFrom at bs) ≡ length bs

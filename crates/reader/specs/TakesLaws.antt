@@ -76,7 +76,8 @@ module _ (kind : Kind) (line k m : ℕ) (used rows windows : List ℕ) (r : Step
   module _ (n p c : ℕ) (flaw : Flaw) where
     -- judged by what is noted
     noted-fault : (b : BidLine) → Noted n p c flaw m windows windows′ b →
-        bidFaultIn kind k n p c (isEmpty flaw) (isLate flaw) (eqb (cell used n) 1) ≡ bidFaultAfter kind k b (eqb (cell used (b .bidder)) 1)
+        bidFaultIn kind k n p c (isEmpty flaw) (isLate flaw) (eqb (cell used n) 1)
+        ≡ bidFaultAfter kind k b (eqb (cell used (b .bidder)) 1)
     unfolding bidFaultAfter
     noted-fault b x = rw (x .bidder-is, x .price-is, x .count-is, x .flaw-is)
         (flaw-told kind k (b .bidder) (b .price) (length (b .windows)) (b .windows) (eqb (cell used (b .bidder)) 1))

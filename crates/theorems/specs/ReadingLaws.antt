@@ -24,6 +24,7 @@ use Rattle.reader_line.specs.Words.{cut, among}
 use Rattle.reader_line.specs.Line.{BidLine, Line, tender, bid, linesOf}
 use Rattle.reader.specs.Read.{ReadOutcome, accepted, refused, declinedBy, rowsFrom, allWindows, bidsOf, lineFault, tenderFault, bidFaultIn}
 use Rattle.reader.specs.Read.{bidFaultAfter, bidFault, lineJudged, checked, tables, readLines, readText, fitted, readInto}
+use Rattle.reader.specs.HeadLaws.{lines-halted, no-line, broken-first, bid-first, tender-read}
 use Rattle.reader.specs.Answer.{summary, toldReading, bidsAfter, windowsAfter}
 use Rattle.theorems.specs.Calls.{ReadRun, ReadKept}
 use Rattle.theorems.specs.OneReading.{orBroken, linesIn, Above, at-start, after, linesAbove, LineFault, of-form, of-count}
@@ -31,7 +32,8 @@ use Rattle.theorems.specs.OneReading.{of-limits, of-kind, of-minutes, of
 use Rattle.theorems.specs.OneReading.{UsedIn, OnLine, OfText}
 use Rattle.theorems.specs.OneReading.{FirstAmong, NoFault, SoundBids, SoundLines, LineOf, placeIn, FirstOn, Readable}
 use Rattle.theorems.specs.OneReading.{Declines, Fills, OneReading, text-too-long, bad-form, too-many, outside-limits}
-use Rattle.theorems.specs.OneReading.{several-windows, empty-window, late-window, bidder-repeated, table-too-short, tables-filled, SameReading}
+use Rattle.theorems.specs.OneReading.{several-windows, empty-window, late-window, bidder-repeated, table-too-short}
+use Rattle.theorems.specs.OneReading.{tables-filled, SameReading}
 
 -- a test says whether a fact holds
 
@@ -214,33 +216,34 @@ module _ (d : Above) (x : Option Line) (o : Option (ℕ → Refusal)) (at : ℕ)
   tells f h (clean w q) = absurd (w f (first-stands pageOrder f d x h))
   tells f h (stopped-by g k q) = rw q (ap (λ g. declinedBy (refusalOf g at)) (one-first pageOrder g f d x k h))
 
--- the lines after the tender's: all are faultless bids, or the first that is not has its first fault
-data Walked (t : Tender) (done : List BidLine) (ls : List (Option Line)) (out o : ReadOutcome) : Type 0 where
-  all-sound : (bs : List BidLine) → ls ≡ map (λ b. some (bid b)) bs → SoundBids t done bs → o ≡ out → Walked t done ls out o
+-- the lines after the head, from line `from` on: all are faultless bids, or the first that is not has its first fault
+data Walked (t : Tender) (from : ℕ) (done : List BidLine) (ls : List (Option Line)) (out o : ReadOutcome) : Type 0 where
+  all-sound : (bs : List BidLine) → ls ≡ map (λ b. some (bid b)) bs → SoundBids t done bs → o ≡ out
+      → Walked t from done ls out o
   stops : (bs : List BidLine) (x : Option Line) (rest : List (Option Line)) (f : LineFault) → ls ≡ map (λ b. some (bid b)) bs
       ++ x ∷ rest
       → SoundBids t done bs → FirstAmong pageOrder f (after t (done ++ bs)) x →
-      o ≡ declinedBy (refusalOf f (length done + length bs + 2)) → Walked t done ls out o
+      o ≡ declinedBy (refusalOf f (from + length done + length bs)) → Walked t from done ls out o
 
 bidders-after : (done : List BidLine) (b : BidLine) → map (λ b. b .bidder) (done ++ b ∷ []) ≡ map (λ b. b .bidder) done
     ++ b .bidder ∷ []
 bidders-after [] b = refl
 bidders-after (c ∷ done) b = ap (λ l. c .bidder ∷ l) (bidders-after done b)
 
-walked : (t : Tender) (done : List BidLine) (ls : List (Option Line)) (out : ReadOutcome) (at : ℕ) → at ≡ length done + 2
-    → Walked t done ls out (checked (t .kind) at (map (λ b. b .bidder) done) ls out)
+walked : (t : Tender) (from : ℕ) (done : List BidLine) (ls : List (Option Line)) (out : ReadOutcome) (at : ℕ)
+    → at ≡ from + length done → Walked t from done ls out (checked (t .kind) at (map (λ b. b .bidder) done) ls out)
 unfolding checked lineJudged
-walked t done [] out at e = all-sound [] refl tt refl
-walked t done (none ∷ ls) out at e =
+walked t from done [] out at e = all-sound [] refl tt refl
+walked t from done (none ∷ ls) out at e =
     stops [] none ls of-form refl tt (inl (refl, refl)) (ap (λ n. declinedBy (BadForm n)) (omega arith))
-walked t done (some (tender u) ∷ ls) out at e =
+walked t from done (some (tender u) ∷ ls) out at e =
     stops [] (some (tender u)) ls of-form refl tt (inl (refl, refl)) (ap (λ n. declinedBy (BadForm n)) (omega arith))
-walked t done (some (bid b) ∷ ls) out at e =
+walked t from done (some (bid b) ∷ ls) out at e =
     go (bidFault (t .kind) (map (λ b. b .bidder) done) b) (bid-verdict t done b)
-    (rw (bidders-after done b) at (walked t (done ++ b ∷ []) ls out (at + 1) (omega (arith, length-append done (b ∷ [])))))
+    (rw (bidders-after done b) at (walked t from (done ++ b ∷ []) ls out (at + 1) (omega (arith, length-append done (b ∷ [])))))
   where
-    more : (o : ReadOutcome) → NoFault (after t done) (some (bid b)) → Walked t (done ++ b ∷ []) ls out o
-        → Walked t done (some (bid b) ∷ ls) out o
+    more : (o : ReadOutcome) → NoFault (after t done) (some (bid b)) → Walked t from (done ++ b ∷ []) ls out o
+        → Walked t from done (some (bid b) ∷ ls) out o
     more o v (all-sound bs l s q) = all-sound (b ∷ bs) (ap {B = List (Option Line)} (λ r. some (bid b) ∷ r) l) (v, s) q
     more o v (stops bs x rest f l s h q) =
         stops (b ∷ bs) x rest f (ap {B = List (Option Line)} (λ r. some (bid b) ∷ r) l) (v, s)
@@ -248,8 +251,8 @@ walked t done (some (bid b) ∷ ls) out at e =
         (q ∙ ap (λ n. declinedBy (refusalOf f n)) (let m = length-append done (b ∷ []) in omega (arith, m)))
 
     go : (o : Option (ℕ → Refusal)) → Verdict (after t done) (some (bid b)) o
-        → Walked t (done ++ b ∷ []) ls out (checked (t .kind) (at + 1) (map (λ b. b .bidder) done ++ b .bidder ∷ []) ls out) →
-        Walked t done (some (bid b) ∷ ls) out
+        → Walked t from (done ++ b ∷ []) ls out (checked (t .kind) (at + 1) (map (λ b. b .bidder) done ++ b .bidder ∷ []) ls out) →
+        Walked t from done (some (bid b) ∷ ls) out
         (lineJudged o at (checked (t .kind) (at + 1) (map (λ b. b .bidder) done ++ b .bidder ∷ []) ls out))
     go o (clean v q) w = rw q (more _ v w)
     go o (stopped-by f h q) w =
@@ -280,9 +283,9 @@ module _ (text : List ℕ) (short : length text ≤ 65536) where
   unfolding tables lineJudged
   after-tender t ls e o (stopped-by f h q) =
       rw q (faulty (record { above = at-start; line = some (tender t); rest = ls; short = short; lines = e; sound = tt }) f h refl)
-  after-tender t ls e o (clean u q) = rw q (go (walked t [] ls (tables t (bidsOf ls)) 2 refl))
+  after-tender t ls e o (clean u q) = rw q (go (walked t 2 [] ls (tables t (bidsOf ls)) 2 refl))
     where
-      go : {o : ReadOutcome} → Walked t [] ls (tables t (bidsOf ls)) o → TextRead text o
+      go : {o : ReadOutcome} → Walked t 2 [] ls (tables t (bidsOf ls)) o → TextRead text o
       go (all-sound bs l s q) = readable t (rowsFrom 0 bs) (allWindows bs)
           (record {
             bids = bs;
@@ -305,11 +308,12 @@ module _ (text : List ℕ) (short : length text ≤ 65536) where
           (q ∙ ap (λ n. declinedBy (refusalOf f n)) (let m = length-map bs (λ b. some (bid b)) in omega (arith, m)))
 
   lines-read : (ls : List (Option Line)) → linesOf (cut 10 text) ≡ ls → TextRead text (readLines ls)
-  unfolding readLines
-  lines-read [] e = first-line none [] (ap orBroken e) refl
-  lines-read (none ∷ ls) e = first-line none ls (ap orBroken e) refl
-  lines-read (some (bid b) ∷ ls) e = first-line (some (bid b)) ls (ap orBroken e) refl
-  lines-read (some (tender t) ∷ ls) e = after-tender t ls (ap orBroken e) (tenderFault t) (tender-verdict t)
+  lines-read [] e = rw (lines-halted [] (BadForm 1) no-line) (first-line none [] (ap orBroken e) refl)
+  lines-read (none ∷ ls) e = rw (lines-halted (none ∷ ls) (BadForm 1) (broken-first ls)) (first-line none ls (ap orBroken e) refl)
+  lines-read (some (bid b) ∷ ls) e =
+      rw (lines-halted (some (bid b) ∷ ls) (BadForm 1) (bid-first b ls)) (first-line (some (bid b)) ls (ap orBroken e) refl)
+  lines-read (some (tender t) ∷ ls) e =
+      rw (tender-read t ls) (after-tender t ls (ap orBroken e) (tenderFault t) (tender-verdict t))
 
 text-read : (text : List ℕ) → TextRead text (readText text)
 unfolding readText
@@ -439,24 +443,24 @@ at-fault t done (some (bid b)) ls out at f h =
     tells (after t done) (some (bid b)) (bidFault (t .kind) (map (λ b. b .bidder) done) b) at _ f h (bid-verdict t done b)
 
 short-text : (text : List ℕ) → length text ≤ 65536 → readText text ≡ readLines (linesIn text)
-unfolding readText readLines
+unfolding readText
 short-text text l = rw (le-ltb 65536 (length text) l) (go (linesOf (cut 10 text)))
   where
     go : (ls : List (Option Line)) → readLines ls ≡ readLines (orBroken ls)
-    go [] = refl
+    go [] = lines-halted [] (BadForm 1) no-line ∙ sym (lines-halted (none ∷ []) (BadForm 1) (broken-first []))
     go (x ∷ ls) = refl
 
 tender-first : (t : Tender) (ls : List (Option Line)) → NoFault at-start (some (tender t))
     → readLines (some (tender t) ∷ ls) ≡ checked (t .kind) 2 [] ls (tables t (bidsOf ls))
-unfolding readLines
-tender-first t ls u = passes at-start (some (tender t)) (tenderFault t) 1 _ u (tender-verdict t)
+tender-first t ls u = tender-read t ls ∙ passes at-start (some (tender t)) (tenderFault t) 1 _ u (tender-verdict t)
 
 at-first : (f : LineFault) (x : Option Line) (ls : List (Option Line)) → FirstAmong pageOrder f at-start x
     → readLines (x ∷ ls) ≡ declinedBy (refusalOf f 1)
-unfolding readLines
-at-first f none ls k = ap (λ g. declinedBy (refusalOf g 1)) (sym (first-stands pageOrder f at-start none k))
-at-first f (some (bid b)) ls k = ap (λ g. declinedBy (refusalOf g 1)) (sym (first-stands pageOrder f at-start (some (bid b)) k))
-at-first f (some (tender t)) ls k = tells at-start (some (tender t)) (tenderFault t) 1 _ f k (tender-verdict t)
+at-first f none ls k = lines-halted (none ∷ ls) (BadForm 1) (broken-first ls)
+    ∙ ap (λ g. declinedBy (refusalOf g 1)) (sym (first-stands pageOrder f at-start none k))
+at-first f (some (bid b)) ls k = lines-halted (some (bid b) ∷ ls) (BadForm 1) (bid-first b ls)
+    ∙ ap (λ g. declinedBy (refusalOf g 1)) (sym (first-stands pageOrder f at-start (some (bid b)) k))
+at-first f (some (tender t)) ls k = tender-read t ls ∙ tells at-start (some (tender t)) (tenderFault t) 1 _ f k (tender-verdict t)
 
 line-refused : (text : List ℕ) (l : LineOf text) (f : LineFault) → FirstOn f l
     → readText text ≡ declinedBy (refusalOf f (placeIn l))

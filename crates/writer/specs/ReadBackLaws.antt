@@ -16,8 +16,8 @@ use Rattle.tender.specs.Tables.{Row, rowsOf, own, flatRows, flatWindows, bidWid
 use Rattle.cover.specs.SetLaws.{and-split}
 use Rattle.reader_line.specs.Words.{cut}
 use Rattle.reader_line.specs.Line.{BidLine, tender, linesOf}
-use Rattle.reader.specs.Read.{accepted, rowsFrom, allWindows, bidsOf, lineJudged, tables, readLines, readText}
-use Rattle.reader.specs.FaultLaws.{lawful-tender}
+use Rattle.reader.specs.Read.{accepted, rowsFrom, allWindows, bidsOf, tables, readLines, readText}
+use Rattle.reader.specs.HeadLaws.{lines-begun, tender-sound}
 use Rattle.reader.specs.RulesLaws.{rules-law, rowsFrom-length}
 use Rattle.spelling.specs.Text.{bidIn, textOf}
 use Rattle.spelling.specs.BackLaws.{asLines, text-back}
@@ -60,11 +60,12 @@ bids-as (b ∷ bs) = ap (λ l. b ∷ l) (bids-as bs)
 lines-read : (t : Tender) (rows : List Row) (windows : List ℕ) → Lawful t rows windows →
     readLines (some (tender t) ∷ asLines (respeltIn windows rows))
     ≡ accepted t (rowsFrom 0 (respeltIn windows rows)) (allWindows (respeltIn windows rows))
-unfolding readLines lineJudged tables
+unfolding tables
 lines-read t rows windows h =
-    rw (lawful-tender t (h .window))
-    (rows-checked (t .kind) windows 1 [] 0 2 rows (tables t (bidsOf (asLines (respeltIn windows rows)))) (h .rows-too) refl
-    ∙ ap (tables t) (bids-as (respeltIn windows rows)))
+    let ls = asLines (respeltIn windows rows) in
+    lines-begun (some (tender t) ∷ ls) t _ ls (tender-sound t ls (h .window))
+    ∙ rows-checked (t .kind) windows 1 [] 0 _ rows (tables t (bidsOf ls)) (h .rows-too) refl
+    ∙ ap (tables t) (bids-as (respeltIn windows rows))
 
 text-read : (text : List ℕ) → length text ≤ 65536 → readText text ≡ readLines (linesOf (cut 10 text))
 unfolding readText

@@ -19,10 +19,11 @@ use Rattle.reader_line.specs.Words.{andThen, growFirst, cut, sameBytes, opened,
 use Rattle.reader_line.specs.Line.{BidLine, Line, tender, bid, kindOf, spanOf, windowOf, windowsIn, tenderOf, bidOf, lineOfWords, lineOf}
 use Rattle.reader_line.specs.Line.{linesOf}
 use Rattle.reader_line.specs.CutLaws.{Pieces, cut-some}
-use Rattle.reader.specs.Read.{accepted, rowsFrom, allWindows, bidsOf, tables, readLines, readText}
+use Rattle.reader.specs.Read.{accepted, rowsFrom, allWindows, bidsOf, readText}
 use Rattle.reader.specs.Rules.{RowsRules}
 use Rattle.reader.specs.RulesLaws.{rules-law}
-use Rattle.reader.specs.ReadLaws.{never, read-lines, checked-bids, begun}
+use Rattle.reader.specs.ReadLaws.{read-lines}
+use Rattle.reader.specs.HeadLaws.{headLines, head-is, accepted-head}
 use Rattle.spelling.specs.Decimal.{decimal}
 use Rattle.spelling.specs.Lines.{kindWord}
 use Rattle.spelling.specs.Text.{bidText, tenderText, bidsText, textOf, bidIn}
@@ -266,13 +267,11 @@ pieces-are p (q ∷ ps) (x ∷ xs) e =
     let g : linesOf (q ∷ ps) ≡ map (λ x. some x) xs = cc in
     rw (line-is p x f) (ap (λ l. spaced (wordsOf x) ++ 10 ∷ l) (pieces-are q ps xs g))
 
-lines-of : (t : Tender) (bs : List BidLine) → some (tender t) ∷ map (λ b. some (bid b)) bs
-    ≡ map (λ x. some x) (tender t ∷ map (λ b. bid b) bs)
-lines-of t bs = ap {B = List (Option Line)} (λ l. some (tender t) ∷ l) (go bs)
-  where
-    go : (bs : List BidLine) → map (λ b. some (bid b)) bs ≡ map (λ x. some x) (map (λ b. bid b) bs)
-    go [] = refl
-    go (b ∷ bs) = ap {B = List (Option Line)} (λ l. some (bid b) ∷ l) (go bs)
+lines-of : (above : List Line) (bs : List BidLine) → map (λ x. some x) above ++ map (λ b. some (bid b)) bs
+    ≡ map (λ x. some x) (above ++ map (λ b. bid b) bs)
+lines-of [] [] = refl
+lines-of [] (b ∷ bs) = ap {B = List (Option Line)} (λ l. some (bid b) ∷ l) (lines-of [] bs)
+lines-of (x ∷ above) bs = ap {B = List (Option Line)} (λ l. some x ∷ l) (lines-of above bs)
 
 -- the bids whose lines an accepted text has after its tender's, and whose rows and windows it fills into the tables
 pub record Spelt (text : List ℕ) (T : Tender) (R : List Row) (W : List Window) : Type 0 where
@@ -282,25 +281,22 @@ pub record Spelt (text : List ℕ) (T : Tender) (R : List Row) (W : List Window)
   pub lines : text ≡ ended (spaced (tenderWords T) ∷ map (λ x. spaced (wordsOf x)) (map (λ b. bid b) bids))
 
 pub spelt-lines : (text : List ℕ) (T : Tender) (R : List Row) (W : List Window) → readText text ≡ accepted T R W → Spelt text T R W
-unfolding readLines
-spelt-lines text T R W e = go (linesOf (cut 10 text)) refl (cut-some 10 text) (read-lines T R W text e)
-  where
-    go : (ls : List (Option Line)) → linesOf (cut 10 text) ≡ ls → Pieces (cut 10 text) → readLines ls ≡ accepted T R W
-        → Spelt text T R W
-    go [] q c x = never x
-    go (l ∷ ls) q c x =
-        let g = begun T R W l ls x in
-        let h = checked-bids T R W (T .kind) 2 [] ls (tables T (bidsOf ls)) (g .sound) in
-        let bs = bidsOf ls in
-        let m : linesOf (c .first ∷ c .rest) ≡ some (tender T) ∷ map (λ b. some (bid b)) bs = ap linesOf (sym (c .are)) ∙ q
-        ∙ ap (λ o. o ∷ ls) (g .first) ∙ ap {B = List (Option Line)} (λ r. some (tender T) ∷ r) h in
-        record {
-          bids = bs;
-          rows = g .rows;
-          windows = g .windows;
-          lines = sym (rejoined-cut 10 text) ∙ ap (rejoined 10) (c .are)
-              ∙ pieces-are (c .first) (c .rest) (tender T ∷ map (λ b. bid b) bs) (m ∙ lines-of T bs);
-        }
+unfolding headLines
+spelt-lines text T R W e =
+    let c = cut-some 10 text in
+    let ls = linesOf (cut 10 text) in
+    let g = accepted-head T R W ls (read-lines T R W text e) in
+    let i = head-is ls T (g .from) (g .rest) (g .head) in
+    let bs = bidsOf (g .rest) in
+    let m : linesOf (c .first ∷ c .rest) ≡ map (λ x. some x) (headLines T) ++ map (λ b. some (bid b)) bs = ap linesOf (sym (c .are))
+    ∙ i .lines ∙ ap (λ r. map (λ x. some x) (headLines T) ++ r) (g .bids) in
+    record {
+      bids = bs;
+      rows = g .rows;
+      windows = g .windows;
+      lines = sym (rejoined-cut 10 text) ∙ ap (rejoined 10) (c .are)
+          ∙ pieces-are (c .first) (c .rest) (headLines T ++ map (λ b. bid b) bs) (m ∙ lines-of (headLines T) bs);
+    }
 
 -- a bid's words are its bytes, where it has a window
 words-bytes : (n p : ℕ) (ws : List Window) → 1 ≤ length ws
