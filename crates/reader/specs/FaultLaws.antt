@@ -3,14 +3,16 @@ use Prim.Native.Nat.{ℕ}
 use mathlib.Core.Path.{_≡_, refl}
 use mathlib.Core.List.{List, [], _∷_}
 use mathlib.Core.Bool.{Bool, true, false, not, _&&_}
-use mathlib.Core.Option.{none, some}
+use mathlib.Core.Option.{Option, none, some}
 use native.Mathlib.Omega.{arith}
 use Rattle.tender.specs.declared.Kind.{Kind}
 use Rattle.tender.specs.declared.Window.{Window}
 use Rattle.tender.specs.declared.Tender.{Tender}
+use Rattle.tender.specs.declared.Refusal.{Refusal}
 use Rattle.tender.specs.declared.Refusal.the-variants.{EmptyWindow, LateWindow}
 use Rattle.tender.specs.Limits.{ordered, early, lawful, allLawful, every}
 use Rattle.reader_line.specs.LinePlainLaws.{both-true as and-split}
+use Rattle.reader_line.specs.declared.line.Flaw.{Flaw}
 use Rattle.reader_line.specs.declared.line.Flaw.the-variants.{Empty, Late, Sound}
 use Rattle.reader_line.specs.Flaws.{flawBy, flawIn, flawOf, isEmpty, isLate}
 use Rattle.reader.specs.Read.{lineFault, tenderFault, bidFaultIn}
@@ -51,33 +53,19 @@ module _ (t : Tender) where
       go false b x = let z : _≡_ {A = ℕ} 0 1 = cc in absurd (omega arith)
 
 -- by what is wrong with it
+abbrev pub flawFault : Flaw → Option (ℕ → Refusal)
+flawFault Empty = some EmptyWindow
+flawFault Late = some LateWindow
+flawFault Sound = none
 
-pub flaw-sound : (w : Window) → flawIn w ≡ Sound → lawful w ≡ true
-unfolding flawIn lawful
-flaw-sound w e = go (ordered w) (early w) e
-  where
-    go : (a b : Bool) → flawBy a b ≡ Sound → a && b ≡ true
-    go true true x = refl
-    go true false x = let z : _≡_ {A = ℕ} 0 1 = cc in absurd (omega arith)
-    go false b x = let z : _≡_ {A = ℕ} 0 1 = cc in absurd (omega arith)
-
-pub tender-empty : (t : Tender) → flawIn (t .window) ≡ Empty → tenderFault t ≡ some EmptyWindow
+pub tender-told : (t : Tender) → tenderFault t ≡ flawFault (flawIn (t .window))
 unfolding flawIn tenderFault lineFault
-tender-empty t e = go (ordered (t .window)) (early (t .window)) e
+tender-told t = go (ordered (t .window)) (early (t .window))
   where
-    go : (a b : Bool) → flawBy a b ≡ Empty → lineFault false false false (not a) (not b) false ≡ some EmptyWindow
-    go true true x = let z : _≡_ {A = ℕ} 0 1 = cc in absurd (omega arith)
-    go true false x = let z : _≡_ {A = ℕ} 0 1 = cc in absurd (omega arith)
-    go false b x = refl
-
-pub tender-late : (t : Tender) → flawIn (t .window) ≡ Late → tenderFault t ≡ some LateWindow
-unfolding flawIn tenderFault lineFault
-tender-late t e = go (ordered (t .window)) (early (t .window)) e
-  where
-    go : (a b : Bool) → flawBy a b ≡ Late → lineFault false false false (not a) (not b) false ≡ some LateWindow
-    go true true x = let z : _≡_ {A = ℕ} 0 1 = cc in absurd (omega arith)
-    go true false x = refl
-    go false b x = let z : _≡_ {A = ℕ} 0 1 = cc in absurd (omega arith)
+    go : (a b : Bool) → lineFault false false false (not a) (not b) false ≡ flawFault (flawBy a b)
+    go true true = refl
+    go true false = refl
+    go false b = refl
 
 -- the windows of a bid, by what is wrong with them
 pub flaw-told : (k : Kind) (bids bidder price count : ℕ) (ws : List Window) (used : Bool) →

@@ -23,7 +23,8 @@ module _ (k : Kind) (bids bidder price count : ℕ) (empty late used : Bool) whe
     beyond h = rw (a, h)
 
     module _ (b : not (within 1 999999 bidder) || ltb 100000000 price ≡ false) where
-      pub several-windows : isSingle k && ltb 1 count ≡ true → bidFaultIn k bids bidder price count empty late used ≡ some SeveralWindows
+      pub several-windows : isSingle k && ltb 1 count ≡ true
+          → bidFaultIn k bids bidder price count empty late used ≡ some SeveralWindows
       unfolding bidFaultIn lineFault
       several-windows h = rw (a, b, h)
 

@@ -3,7 +3,7 @@ use mathlib.Core.Path.{sym, ap, _∙_}
 use native.Mathlib.Omega.{arith}
 use Rattle.reader_line.specs.ScanLaws.{lines-at}
 use Rattle.reader_line.specs.Answer.{toldLine}
-use Rattle.reader.specs.FaultLaws.{flaw-sound, tender-empty, tender-late}
+use Rattle.reader.specs.FaultLaws.{flawFault, tender-lawful, tender-told}
 use Rattle.reader.specs.FillsLaws.{ends-at, ends-broken}
 use Rattle.reader.specs.WholeLaws.{first-empty, is-tender, first-bid, first-broken, first-faulty, first-sound, first-odd}
 use borrow.Author.Needs.{needs}
@@ -78,7 +78,7 @@ returns-2 c =
     let b = ends-at (c19 .args .text .now) 0 _ (c15 .line-end .ensures) _ (c13 .e .given .1) in
     let o = is-tender 0 _ _ _ (ap (λ t. toldLine t (c9 .read-line .last .1 .0)) (sym (c5 .t .given .1)) ∙ c9 .read-line .ensures .0) in
     first-faulty _ _ _ (lines-at (c19 .args .text .now) 0 _ (b .0) (b .1)) _ o _
-    (tender-empty _ (sym (c .before .before .flaw-in .ensures) ∙ c .enum-told .given .1))
+    (tender-told _ ∙ ap flawFault (sym (c .before .before .flaw-in .ensures) ∙ c .enum-told .given .1))
 
 same-length-2 : tie.Need-same-length-2
 same-length-2 c = search needs
@@ -93,7 +93,7 @@ returns-3 c =
     let b = ends-at (c19 .args .text .now) 0 _ (c15 .line-end .ensures) _ (c13 .e .given .1) in
     let o = is-tender 0 _ _ _ (ap (λ t. toldLine t (c9 .read-line .last .1 .0)) (sym (c5 .t .given .1)) ∙ c9 .read-line .ensures .0) in
     first-faulty _ _ _ (lines-at (c19 .args .text .now) 0 _ (b .0) (b .1)) _ o _
-    (tender-late _ (sym (c .before .before .flaw-in .ensures) ∙ c .enum-told2 .given .1))
+    (tender-told _ ∙ ap flawFault (sym (c .before .before .flaw-in .ensures) ∙ c .enum-told2 .given .1))
 
 same-length-3 : tie.Need-same-length-3
 same-length-3 c = search needs
@@ -110,7 +110,8 @@ returns-4 c =
     record {
       inside = omega (arith, b .1);
       lines = first-sound _ _ _ (lines-at (c19 .args .text .now) 0 _ (b .0) (b .1)) _ o
-          (flaw-sound _ (sym (c .before .before .flaw-in .ensures) ∙ c .enum-told3 .given .1));
+          (tender-lawful _
+          (tender-told (c5 .t .given .0 .0) ∙ ap flawFault (sym (c .before .before .flaw-in .ensures) ∙ c .enum-told3 .given .1)));
     }
 
 same-length-4 : tie.Need-same-length-4
