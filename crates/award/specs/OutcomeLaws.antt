@@ -57,7 +57,7 @@ least-cover t n bids windows lent rows cost paid x =
     let ps = pricesOf (rowsOf n bids) in
     let L = cellsOf t in
     let e = prices-count n bids in
-    let v = rw e at (least-wins has ps L (w .settles .two)) in
+    let v = rw e at (least-wins has ps L (w .settles .spare (length ps))) in
     let c = w .settles .cost-is ∙ cost-single has ps L n e in
     record {
       set = winners (covers has n L) ps;
@@ -74,9 +74,9 @@ pub all-served : (k : Kind) (t : Tender) (n : ℕ) (bids windows : List ℕ) (le
     (x : ℕ) → x < cellsOf t → WinnerAt t n bids windows (awarded rows cost paid) x
 all-served k t n bids windows lent rows cost paid y x l =
     let w = award-awarded k t n bids windows lent rows cost paid y in
-    let m = winners-cover k (hasOf t (rowsOf n bids) windows) (pricesOf (rowsOf n bids)) (cellsOf t) (w .settles .two) x l in
-    let e = prices-count n bids in
-    let i = rw e at (m .inside) in
+    let m = winners-cover k (hasOf t (rowsOf n bids) windows) (pricesOf (rowsOf n bids)) (cellsOf t)
+    (w .settles .spare (length (pricesOf (rowsOf n bids)))) x l in
+    let i : m .who < n = omega (arith, prices-count n bids, m .inside) in
     record {
       who = m .who;
       inside = i;
@@ -93,7 +93,7 @@ pub largest-price : (t : Tender) (n i : ℕ) (bids windows : List ℕ) (lent : �
 largest-price t n i bids windows lent rows cost paid l y f p =
     let w = award-awarded Multi t n bids windows lent rows cost paid y in
     let r = row-is Multi t n bids windows lent rows cost paid w i l in
-    largest (hasOf t (rowsOf n bids) windows) (pricesOf (rowsOf n bids)) (cellsOf t) i (rw (prices-count n bids) l) (w .settles .two)
+    largest (hasOf t (rowsOf n bids) windows) (pricesOf (rowsOf n bids)) (cellsOf t) i (rw (prices-count n bids) l) (w .settles .spare i)
     (sym (ap (λ r. r .won) r) ∙ f) p
     ∙ ap (λ r. leb p (r .cents)) (sym r)
 
@@ -108,7 +108,7 @@ paid-by-eight t n i bids windows lent rows cost paid l x f =
     let L = cellsOf t in
     let e = prices-count n bids in
     let r = row-is Single t n bids windows lent rows cost paid w i l in
-    let v = rw e at (vcg-pays has ps L i (rw e l) (w .settles .two)
+    let v = rw e at (vcg-pays has ps L i (rw e l) (w .settles .spare i)
     (sym (won-single has ps L i (length ps) refl) ∙ sym (ap (λ r. r .won) r) ∙ f)) in
     let c = ap (λ r. r .cents) r ∙ cents-single has ps L i n e in
     record {

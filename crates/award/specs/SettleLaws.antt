@@ -1,5 +1,5 @@
--- Over cells, in either kind: a loser is paid nothing; where each cell has two bidders the winners cover, naming the true cost is
--- best and no winner is paid less than it named. Assumes nothing.
+-- Over cells, in either kind: a loser is paid nothing; where the other bids have every cell naming the true cost is best and no winner
+-- is paid less than it named; where all bids do the winners cover. Assumes nothing.
 use mathlib.Core.Path.{_≡_, refl, sym, _∙_}
 use mathlib.Core.List.{List}
 use mathlib.Core.Bool.{Bool, true, false}
@@ -11,14 +11,13 @@ use lib.Dec.{leb}
 use Rattle.tender.specs.declared.Kind.{Kind}
 use Rattle.tender.specs.declared.Kind.the-variants.{Single, Multi}
 use Rattle.tender.specs.declared.AwardRow.{AwardRow}
-use Rattle.cover.specs.Sets.{when, Found, nothing, found, bit, cost, covers, cells, each}
+use Rattle.cover.specs.Sets.{when, Found, nothing, found, bit, cost, covers, cells}
 use Rattle.cover.specs.Earliest.{cellWith}
 use Rattle.cover.specs.LeastCover.{Wins, winners, without, payment, vcgPaid}
 use Rattle.cover.specs.CriticalPrice.{criticalPaid, winsAt}
-use Rattle.cover.specs.EarliestLaws.{two-each}
 use Rattle.cover.specs.VcgLaws as vcg
 use Rattle.cover.specs.CriticalLaws as greedy
-use Rattle.cover.specs.SpareLaws.{others, others-below, spare-set, spare-bids, least-covers, greedy-covers}
+use Rattle.cover.specs.SpareLaws.{Spare, enough-spare, others, others-below, spare-set, spare-bids, least-covers, greedy-covers}
 use Rattle.cover.specs.SettledLaws.{getD-listed, cost-sum}
 use Rattle.award_plain.specs.Award.{won, cents, awarded, awardRows, costOf, paidOf, thinned, settled}
 use Rattle.award_plain.specs.AwardLaws.{won-single, cents-single, won-multi, cents-multi, settled-is}
@@ -32,8 +31,8 @@ unfolding won cents vcgPaid criticalPaid payment
 lost-nothing Single has ps L i e = rw e
 lost-nothing Multi has ps L i e = rw e
 
--- where each cell has two bidders
-module _ (has : ℕ → ℕ → Bool) (ps : List ℕ) (L i : ℕ) (inside : i < length ps) (two : each has (length ps) L 2 ≡ true) where
+-- where the other bids have every cell
+module _ (has : ℕ → ℕ → Bool) (ps : List ℕ) (L i : ℕ) (inside : i < length ps) (y : Spare has (length ps) L i) where
   abbrev ok : ℕ → Bool
   ok = covers has (length ps) L
 
@@ -41,7 +40,7 @@ module _ (has : ℕ → ℕ → Bool) (ps : List ℕ) (L i : ℕ) (inside : i < 
   rest = others (length ps) i
 
   spare : without i ok rest ≡ true
-  spare = spare-set has (length ps) L two i inside
+  spare = spare-set has (length ps) L i y inside
 
   -- whoever's cost is c gains no more by naming q
   pub honest : (k : Kind) (c q : ℕ) → cents k has (set ps i q) L i + when (won k has (set ps i c) L i) c
@@ -59,7 +58,7 @@ module _ (has : ℕ → ℕ → Bool) (ps : List ℕ) (L i : ℕ) (inside : i < 
     cents-multi has (set ps i q) L i,
     cents-multi has (set ps i c) L i,
   )
-      (greedy.truthful has ps (cells L) i inside (spare-bids has (length ps) L two ps i) has (λ j d. refl) (λ x e. e) c q)
+      (greedy.truthful has ps (cells L) i inside (spare-bids has (length ps) L i y ps) has (λ j d. refl) (λ x e. e) c q)
 
   -- a winner is paid no less than it named
   pub fair : (k : Kind) (q : ℕ) → when (won k has (set ps i q) L i) q ≤ cents k has (set ps i q) L i
@@ -69,7 +68,7 @@ module _ (has : ℕ → ℕ → Bool) (ps : List ℕ) (L i : ℕ) (inside : i < 
   )
       (vcg.fair ok ps i inside rest (others-below (length ps) i) spare q)
   fair Multi q = rw (won-multi has (set ps i q) L i, cents-multi has (set ps i q) L i)
-      (greedy.fair has ps (cells L) i inside (spare-bids has (length ps) L two ps i) q)
+      (greedy.fair has ps (cells L) i inside (spare-bids has (length ps) L i y ps) q)
 
   -- document 000, formula 8
   pub vcg-pays : bit (winners ok ps) i ≡ true → (Wins (without i ok) (cost ps) (2 ^ length ps) (winners (without i ok) ps))
@@ -79,7 +78,7 @@ module _ (has : ℕ → ℕ → Bool) (ps : List ℕ) (L i : ℕ) (inside : i < 
   -- a winner of a multi tender is paid the largest whole price with which it would still win if all else stood
   pub largest : won Multi has ps L i ≡ true → (p : ℕ) → won Multi has (set ps i p) L i ≡ leb p (cents Multi has ps L i)
   unfolding won cents criticalPaid winsAt
-  largest e p = rw e (greedy.some-price has ps (cells L) i inside (spare-bids has (length ps) L two ps i) (getD ps i 0)
+  largest e p = rw e (greedy.some-price has ps (cells L) i inside (spare-bids has (length ps) L i y ps) (getD ps i 0)
       (rw (set-getD ps i 0) e) p)
 
 -- the winners cover
@@ -89,19 +88,18 @@ pub record Winner (k : Kind) (has : ℕ → ℕ → Bool) (ps : List ℕ) (L x :
   pub wins : won k has ps L who ≡ true
   pub covers-it : has who x ≡ true
 
-pub winners-cover : (k : Kind) (has : ℕ → ℕ → Bool) (ps : List ℕ) (L : ℕ) → each has (length ps) L 2 ≡ true → (x : ℕ)
-    → x < L
-    → Winner k has ps L x
-winners-cover Single has ps L two x l =
-    let m = least-covers has ps L two x l in
+pub winners-cover : (k : Kind) (has : ℕ → ℕ → Bool) (ps : List ℕ) (L : ℕ) → Spare has (length ps) L (length ps)
+    → (x : ℕ) → x < L → Winner k has ps L x
+winners-cover Single has ps L all x l =
+    let m = least-covers has ps L all x l in
     record {
       who = m .who;
       inside = m .inside;
       wins = won-single has ps L (m .who) (length ps) refl ∙ m .in-set;
       covers-it = m .covers-it;
     }
-winners-cover Multi has ps L two x l =
-    let m = greedy-covers has ps L two x l in
+winners-cover Multi has ps L all x l =
+    let m = greedy-covers has ps L all x l in
     record { who = m .who; inside = m .inside; wins = won-multi has ps L (m .who) ∙ m .wins-it; covers-it = m .covers-it }
 
 -- the row that is filled for bid i
@@ -140,7 +138,7 @@ settled-honest k has ps L i q start l = go (cellWith has (length ps) L 0) (cellW
         )
         (gain-most (getD ps i 0) (rowIn k has (set ps i q) L i) (rowIn k has ps L i) (lost-nothing k has (set ps i q) L i)
         (lost-nothing k has ps L i)
-        (ap-set (honest has ps L i l (two-each has (length ps) L e f) k (getD ps i 0) q))))
+        (ap-set (honest has ps L i l (enough-spare has (length ps) L e f i) k (getD ps i 0) q))))
       where
         ap-set : cents k has (set ps i q) L i + when (won k has (set ps i (getD ps i 0)) L i) (getD ps i 0)
             ≤ cents k has (set ps i (getD ps i 0)) L i + when (won k has (set ps i q) L i) (getD ps i 0) →

@@ -61,7 +61,7 @@ module _ (k : Kind) (t : Tender) (n : ℕ) (bids windows : List ℕ) (lent : ℕ
       → getD bids (bidWidth * i + 1) 0 ≤ rowFor (awarded rows cost paid) i .cents
   row-fair i l e =
       let h = fair (hasOf t (rowsOf n bids) windows) (pricesOf (rowsOf n bids)) (cellsOf t) i (rw (prices-count n bids) l)
-      (w .settles .two) k (getD (pricesOf (rowsOf n bids)) i 0) in
+      (w .settles .spare i) k (getD (pricesOf (rowsOf n bids)) i 0) in
       rw (row-is i l, ← price-named n i bids l) (go (rw (row-is i l) at e) (rw (set-getD (pricesOf (rowsOf n bids)) i 0) at h))
     where
       go : won k (hasOf t (rowsOf n bids) windows) (pricesOf (rowsOf n bids)) (cellsOf t) i ≡ true →

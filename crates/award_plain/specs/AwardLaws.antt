@@ -14,12 +14,12 @@ use Rattle.tender.specs.declared.Tender.{Tender}
 use Rattle.tender.specs.declared.AwardRow.{AwardRow}
 use Rattle.tender.specs.declared.Refusal.the-variants.{BadTables, RowsTooFew}
 use Rattle.tender.specs.Tables.{rowsOf}
-use Rattle.cover.specs.Sets.{Found, nothing, found, bit, covers, cells, each}
+use Rattle.cover.specs.Sets.{Found, nothing, found, bit, covers, cells}
 use Rattle.cover.specs.Earliest.{cellWith}
 use Rattle.cover.specs.LeastCover.{winners, vcgPaid}
 use Rattle.cover.specs.Greedy.{wins}
 use Rattle.cover.specs.CriticalPrice.{criticalPaid}
-use Rattle.cover.specs.EarliestLaws.{two-each}
+use Rattle.cover.specs.SpareLaws.{Spare, enough-spare}
 use Rattle.cover.specs.SettledLaws.{length-listed}
 use Rattle.award_check.specs.Faults.{faultOf}
 use Rattle.award_check.specs.Cells.{cellsOf, hasOf, pricesOf}
@@ -57,7 +57,7 @@ settled-is k has ps L start x y e f = rw (e, f)
 -- what an award that is not refused says
 pub record AwardOver (k : Kind) (has : ℕ → ℕ → Bool) (ps : List ℕ) (L : ℕ) (rows : List AwardRow) (cost paid : ℕ) : Type 0
   where
-    pub two : each has (length ps) L 2 ≡ true
+    pub spare : (k : ℕ) → Spare has (length ps) L k
     pub rows-are : rows ≡ awardRows k has ps L
     pub cost-is : cost ≡ costOf k has ps L
     pub paid-is : paid ≡ paidOf k has ps L
@@ -73,7 +73,7 @@ settled-awarded k has ps L start rows cost paid h = go (cellWith has (length ps)
     go nothing (found x) e f = let z = sym (settled-is k has ps L start nothing (found x) e f) ∙ h in let z : _≡_ {A = ℕ} 0 1 = cc in
         absurd (omega arith)
     go nothing nothing e f = let z = sym (settled-is k has ps L start nothing nothing e f) ∙ h in
-        record { two = two-each has (length ps) L e f; rows-are = cc; cost-is = cc; paid-is = cc }
+        record { spare = enough-spare has (length ps) L e f; rows-are = cc; cost-is = cc; paid-is = cc }
 
 -- over tables
 

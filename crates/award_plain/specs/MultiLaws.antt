@@ -14,8 +14,8 @@ use Rattle.tender.specs.declared.Tender.{Tender}
 use Rattle.tender.specs.declared.Totals.{Totals}
 use Rattle.tender.specs.declared.Refusal.the-variants.{MinuteUncovered, OneBidder}
 use Rattle.tender.specs.Tables.{rowsOf, bidWidth}
-use Rattle.cover.specs.Sets.{cells, each}
-use Rattle.cover.specs.EarliestLaws.{two-each}
+use Rattle.cover.specs.Sets.{cells}
+use Rattle.cover.specs.SpareLaws.{Spare, enough-spare}
 use Rattle.cover.specs.Greedy.{wins}
 use Rattle.cover.specs.CriticalPrice.{roundsPaid}
 use Rattle.cover.specs.Settled.{Settled}
@@ -97,8 +97,8 @@ module _ (t : Tender) (n w : ℕ) (bids windows ms ps ow oc : List ℕ) (f : fau
     words = d .words;
   }
 
-  pub two-bidders : Says (has ms w) n (cellsOf t) Enough → each (has ms w) (length ps) (cellsOf t) 2 ≡ true
-  two-bidders s = rw count (two-each (has ms w) n (cellsOf t) (s .0) (s .1))
+  pub spared : Says (has ms w) n (cellsOf t) Enough → (k : ℕ) → Spare (has ms w) (length ps) (cellsOf t) k
+  spared s = rw count (enough-spare (has ms w) n (cellsOf t) (s .0) (s .1))
 
   pub settled : Says (has ms w) n (cellsOf t) Enough → (nw nc : List ℕ) (totals : Totals) →
       Settled (wins (has ms w) ps (cells (cellsOf t))) (roundsPaid (has ms w) ps (cells (cellsOf t))) ps ow oc nw nc (totals .cost)
@@ -113,4 +113,4 @@ module _ (t : Tender) (n w : ℕ) (bids windows ms ps ow oc : List ℕ) (f : fau
       (roundsPaid (hasOf t (rowsOf n bids) windows) ps′ (cells (cellsOf t)))
       (λ i l. multi-won (hasOf t (rowsOf n bids) windows) ps′ (cellsOf t) i)
       (λ i l. multi-cents (hasOf t (rowsOf n bids) windows) ps′ (cellsOf t) i (omega arith)
-      (rw c (two-each (hasOf t (rowsOf n bids) windows) n (cellsOf t) (h′ .0) (h′ .1)))) nw nc totals (rw (same, p) at h)
+      (rw c (enough-spare (hasOf t (rowsOf n bids) windows) n (cellsOf t) (h′ .0) (h′ .1) i))) nw nc totals (rw (same, p) at h)

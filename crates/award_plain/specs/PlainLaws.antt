@@ -16,14 +16,14 @@ use Rattle.tender.specs.declared.Totals.{Totals}
 use Rattle.tender.specs.declared.Refusal.{Refusal}
 use Rattle.tender.specs.declared.Refusal.the-variants.{BadTables, RowsTooFew, MinuteUncovered, OneBidder}
 use Rattle.tender.specs.Tables.{rowsOf}
-use Rattle.cover.specs.Sets.{when, nothing, found, each, covers, cells, bit}
+use Rattle.cover.specs.Sets.{when, nothing, found, covers, cells, bit}
 use Rattle.cover.specs.Earliest.{cellWith}
 use Rattle.cover.specs.SetLaws.{when-is}
 use Rattle.cover.specs.LeastCover.{winners, vcgPaid}
 use Rattle.cover.specs.Greedy.{wins}
 use Rattle.cover.specs.CriticalPrice.{sum, roundsPaid}
 use Rattle.cover.specs.CriticalLaws.{paid-by-rounds}
-use Rattle.cover.specs.SpareLaws.{spare-bids}
+use Rattle.cover.specs.SpareLaws.{Spare, spare-bids}
 use Rattle.cover.specs.Settled.{listed}
 use Rattle.cover.specs.Settled as core
 use Rattle.cover.specs.SettledLaws.{length-listed, getD-listed, listed-same, map-listed}
@@ -164,9 +164,9 @@ single-cents has ps L i = sym (cents-single has ps L i (length ps) refl)
 pub multi-won : (has : ℕ → ℕ → Bool) (ps : List ℕ) (L i : ℕ) → wins has ps (cells L) i ≡ won Multi has ps L i
 multi-won has ps L i = sym (won-multi has ps L i)
 
-pub multi-cents : (has : ℕ → ℕ → Bool) (ps : List ℕ) (L i : ℕ) → i < length ps → each has (length ps) L 2 ≡ true
+pub multi-cents : (has : ℕ → ℕ → Bool) (ps : List ℕ) (L i : ℕ) → i < length ps → Spare has (length ps) L i
     → roundsPaid has ps (cells L) i ≡ cents Multi has ps L i
-multi-cents has ps L i l two = sym (cents-multi has ps L i ∙ paid-by-rounds has ps (cells L) i l (spare-bids has (length ps) L two ps i))
+multi-cents has ps L i l y = sym (cents-multi has ps L i ∙ paid-by-rounds has ps (cells L) i l (spare-bids has (length ps) L i y ps))
 
 -- more award rows than bids change nothing
 pub lent-more : (k : Kind) (t : Tender) (n : ℕ) (bids windows : List ℕ) (lent : ℕ) (ow oc nw nc : List ℕ) (a : Answer)

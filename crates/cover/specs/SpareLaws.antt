@@ -1,5 +1,5 @@
--- Where each cell has two bidders the others cover without any one bid, for both mechanisms; and the winners of both cover.
--- Assumes nothing.
+-- Where the bids but one have every cell they cover without it, for both mechanisms; where all bids do, the winners of both cover.
+-- Two bidders of each cell give the first for any bid, one bidder the second. Assumes nothing.
 use mathlib.Core.Path.{_≡_, refl, ap, _∙_}
 use mathlib.Core.Logic.{_⊎_, inl, inr}
 use mathlib.Core.List.{List}
@@ -10,11 +10,13 @@ use native.Mathlib.Omega.{arith}
 use lib.ListN.{length}
 use lib.Dec.{leb, eqb}
 use borrow.Author.Tests.{leb-true, eq-eqb, ne-eqb, eqb-true, eqb-false}
-use Rattle.cover.specs.Sets.{when, bit, hit, covers, cost, cells, bidders, each}
+use Rattle.cover.specs.Sets.{when, nothing, bit, hit, covers, cost, cells, bidders, each}
+use Rattle.cover.specs.Earliest.{cellWith}
 use Rattle.cover.specs.LeastCover.{Wins, winners, without}
 use Rattle.cover.specs.Greedy.{Entry, run, taken, bids, wins}
 use Rattle.cover.specs.CriticalPrice.{withdrawn}
 use Rattle.cover.specs.SetLaws.{all-of, all-at, pack, pack-below, pack-bit, hit-of, Member, hit-some}
+use Rattle.cover.specs.EarliestLaws.{two-each}
 use Rattle.cover.specs.LeastCoverLaws.{winners-right}
 use Rattle.cover.specs.VcgLaws.{without-join}
 use Rattle.cover.specs.GreedyLaws.{rounds, withdrawn-other}
@@ -92,43 +94,62 @@ taken-below B n k = rounds B n (λ O t. taken k t ≡ true → k < n) (λ O e z.
     go i true c e l z ih = omega (arith, eqb-true i k e)
     go i false c e l z ih = ih z
 
--- each cell has two bidders
-module _ (has : ℕ → ℕ → Bool) (n L : ℕ) (two : each has n L 2 ≡ true) where
-  at-least-two : (x : ℕ) → x < L → 2 ≤ bidders has n x
-  unfolding each
-  at-least-two x l = leb-true 2 (bidders has n x) (all-at (λ x. leb 2 (bidders has n x)) L two x l)
+-- the bids but k have every cell; all of them where k is no bid's number
+abbrev pub Spare : (ℕ → ℕ → Bool) → ℕ → ℕ → ℕ → Type 0
+Spare has n L k = (x : ℕ) → x < L → Another has n k x
 
-  -- the set of the others covers
-  pub others-cover : (i : ℕ) → covers has n L (others n i) ≡ true
+-- a bidder of each cell: all bids have every cell
+pub one-spare : (has : ℕ → ℕ → Bool) (n L : ℕ) → each has n L 1 ≡ true → Spare has n L n
+unfolding each
+one-spare has n L one x l = one-before has n x n (omega arith)
+    (leb-true 1 (bidders has n x) (all-at (λ x. leb 1 (bidders has n x)) L one x l))
+
+-- two bidders of each cell spare any one bid
+pub two-spare : (has : ℕ → ℕ → Bool) (n L : ℕ) → each has n L 2 ≡ true → (k : ℕ) → Spare has n L k
+unfolding each
+two-spare has n L two k x l = another has k x n (leb-true 2 (bidders has n x) (all-at (λ x. leb 2 (bidders has n x)) L two x l))
+
+-- where no cell is in no bid, and none in one alone, any one bid is spared
+pub enough-spare : (has : ℕ → ℕ → Bool) (n L : ℕ) → cellWith has n L 0 ≡ nothing → cellWith has n L 1 ≡ nothing
+    → (k : ℕ) → Spare has n L k
+enough-spare has n L e f = two-spare has n L (two-each has n L e f)
+
+-- a bid that has every cell spares any other
+pub whole-spare : (has : ℕ → ℕ → Bool) (n L h : ℕ) → h < n → ((x : ℕ) → x < L → has h x ≡ true)
+    → (k : ℕ) → (h ≡ k → ⊥) → Spare has n L k
+whole-spare has n L h inside whole k d x l = record { who = h; inside = inside; other = d; covers-it = whole x l }
+
+-- the bids but i cover
+module _ (has : ℕ → ℕ → Bool) (n L i : ℕ) (spare : Spare has n L i) where
+  pub others-cover : covers has n L (others n i) ≡ true
   unfolding covers others
-  others-cover i = all-of (hit has n (others n i)) L (λ x l. let a = another has i x n (at-least-two x l) in
+  others-cover = all-of (hit has n (others n i)) L (λ x l. let a = spare x l in
       hit-of has n (others n i) x (a .who) (a .inside)
       (pack-bit (λ j. not (eqb j i)) n (a .who) (a .inside) ∙ ap not (ne-eqb (a .who) i (a .other))) (a .covers-it))
 
-  pub spare-set : (i : ℕ) → i < n → without i (covers has n L) (others n i) ≡ true
-  spare-set i l = without-join (covers has n L) i (others n i) (others-cover i) (others-without n i l)
+  pub spare-set : i < n → without i (covers has n L) (others n i) ≡ true
+  spare-set l = without-join (covers has n L) i (others n i) others-cover (others-without n i l)
 
-  -- the bids but k cover
-  pub spare-bids : (ps : List ℕ) (k : ℕ) → Each (Covered (withdrawn k (bids has ps)) n) (cells L)
+  pub spare-bids : (ps : List ℕ) → Each (Covered (withdrawn i (bids has ps)) n) (cells L)
   unfolding bids
-  spare-bids ps k = each-of (Covered (withdrawn k (bids has ps)) n) L (λ x l. let a = another has k x n (at-least-two x l) in
+  spare-bids ps = each-of (Covered (withdrawn i (bids has ps)) n) L (λ x l. let a = spare x l in
       record {
         who = a .who;
         inside = a .inside;
-        covers = ap (λ (b : Entry). b .has x) (withdrawn-other k (bids has ps) (a .who) (a .other))
+        covers = ap (λ (b : Entry). b .has x) (withdrawn-other i (bids has ps) (a .who) (a .other))
             ∙ a .covers-it;
       })
 
-  covered : (ps : List ℕ) → Each (Covered (bids has ps) n) (cells L)
+-- the winners of both mechanisms cover, where all bids do
+module _ (has : ℕ → ℕ → Bool) (ps : List ℕ) (L : ℕ) (all : Spare has (length ps) L (length ps)) where
+  covered : Each (Covered (bids has ps) (length ps)) (cells L)
   unfolding bids
-  covered ps = each-of (Covered (bids has ps) n) L
-      (λ x l. let a = another has n x n (at-least-two x l) in record { who = a .who; inside = a .inside; covers = a .covers-it })
+  covered = each-of (Covered (bids has ps) (length ps)) L
+      (λ x l. let a = all x l in record { who = a .who; inside = a .inside; covers = a .covers-it })
 
--- the winners of both mechanisms cover
-module _ (has : ℕ → ℕ → Bool) (ps : List ℕ) (L : ℕ) (two : each has (length ps) L 2 ≡ true) where
   pub least-wins : Wins (covers has (length ps) L) (cost ps) (2 ^ length ps) (winners (covers has (length ps) L) ps)
-  least-wins = winners-right (covers has (length ps) L) ps (others (length ps) 0) (others-below (length ps) 0)
-      (others-cover has (length ps) L two 0)
+  least-wins = winners-right (covers has (length ps) L) ps (others (length ps) (length ps)) (others-below (length ps) (length ps))
+      (others-cover has (length ps) L (length ps) all)
 
   pub least-covers : (x : ℕ) → x < L → Member has (length ps) (winners (covers has (length ps) L) ps) x
   unfolding covers
@@ -145,7 +166,7 @@ module _ (has : ℕ → ℕ → Bool) (ps : List ℕ) (L : ℕ) (two : each has 
   pub greedy-covers : (x : ℕ) → x < L → Taken x
   unfolding wins bids
   greedy-covers x l = go (each-at (Served (bids has ps) (run (bids has ps) (length ps) (length (cells L)) (cells L))) L
-      (served (bids has ps) (length ps) (length (cells L)) (cells L) (omega arith) (covered has (length ps) L two ps)) x l)
+      (served (bids has ps) (length ps) (length (cells L)) (cells L) (omega arith) covered) x l)
     where
       go : Served (bids has ps) (run (bids has ps) (length ps) (length (cells L)) (cells L)) x → Taken x
       go s = record {

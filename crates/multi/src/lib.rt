@@ -1,14 +1,14 @@
 // The greedy award over plain numbers (paper 01, "Multi"): a flag and the cents paid for each bid, the winners' cost and the sum paid.
-// `award` takes a price and w words of cells a bid; each of the `count` cells has two bidders at least.
+// `award` takes a price and w words of cells a bid; whichever bid is left out, the others have each of the `count` cells.
 ghost use mathlib.Core.Path.{_≡_};
-ghost use mathlib.Core.Bool.{true};
 ghost use Prim.Native.Nat.{ℕ, _+_, _*_, _≤_};
 ghost use lib.ListN.{length};
 ghost use lib.Dec.{eqb};
-ghost use Rattle.cover.specs.Sets.{when, cells, each};
+ghost use Rattle.cover.specs.Sets.{when, cells};
 ghost use Rattle.cover.specs.Greedy.{wins};
 ghost use Rattle.cover.specs.CriticalPrice.{roundsPaid};
 ghost use Rattle.cover.specs.Settled.{Settled};
+ghost use Rattle.cover.specs.SpareLaws.{Spare};
 ghost use Rattle.multi_tournament.specs.Tournament.{at, Priced, Tournament};
 ghost use Rattle.multi_rounds.specs.Market.{has, Market, Hopping};
 ghost use Rattle.multi_rounds.specs.Trace.{Trace};
@@ -100,7 +100,7 @@ fn settle(
     cents: &mut [u64],
 ) -> tender::Totals
     requires { ⌜ Market (now prices) (now masks) w ×
-        ((count ≤ 64 * w) × ((each (has (now masks) w) (length (now prices)) count 2 ≡ true)
+        ((count ≤ 64 * w) × (((k : ℕ) → Spare (has (now masks) w) (length (now prices)) count k)
         × ((count ≤ length (now order)) × ((count ≤ length (now gains))
         × ((length (now hop) ≡ length (now masks)) × ((length (now index) ≡ 16 * w)
         × ((length (now held) ≡ w) × ((length (now alt) ≡ w)
@@ -170,7 +170,7 @@ fn award_in(
     cents: &mut [u64],
 ) -> tender::Totals
     requires { ⌜ Market (now prices) (now masks) w ×
-        ((count ≤ 64 * w) × ((each (has (now masks) w) (length (now prices)) count 2 ≡ true)
+        ((count ≤ 64 * w) × (((k : ℕ) → Spare (has (now masks) w) (length (now prices)) count k)
         × ((count ≤ length (now order)) × ((count ≤ length (now gains))
         × ((158000 ≤ length (now hop)) × ((2528 ≤ length (now index)) × ((158 ≤ length (now held)) × ((158 ≤ length (now alt))
         × ((160 ≤ length (now counts)) × ((length (now who) ≡ 2048)
@@ -214,7 +214,7 @@ pub fn award(
     cents: &mut [u64],
 ) -> tender::Totals
     requires { ⌜ Market (now prices) (now masks) w ×
-        ((count ≤ 10080) × ((count ≤ 64 * w) × ((each (has (now masks) w) (length (now prices)) count 2 ≡ true)
+        ((count ≤ 10080) × ((count ≤ 64 * w) × (((k : ℕ) → Spare (has (now masks) w) (length (now prices)) count k)
         × ((length (now prices) ≤ length (now won)) × (length (now prices) ≤ length (now cents)))))) ⌝ }
     ensures { λ r. ⌜ Settled (wins (has (now (masks .entry)) w) (now (prices .entry)) (cells count))
         (roundsPaid (has (now (masks .entry)) w) (now (prices .entry)) (cells count))

@@ -7,7 +7,7 @@ use Rattle.multi_rounds.specs.Market.{has}
 use Rattle.award_thin.specs.Thin.{Says}
 use Rattle.award_check.specs.Cells.{cellsOf}
 use Rattle.award_layout.specs.LayoutLaws.{orderly}
-use Rattle.award_plain.specs.MultiLaws.{words-of, uncovered, lone, market, two-bidders, settled}
+use Rattle.award_plain.specs.MultiLaws.{words-of, uncovered, lone, market, spared, settled}
 use Rattle.cover.specs.EarliestLaws.{cell-found}
 use borrow.Author.Needs.{needs}
 use Rattle.award_plain.proofs.multi_in.Statement.{statement}
@@ -127,7 +127,7 @@ award-requires c κs =
         (
           d .fits,
           (
-            two-bidders (args .tender) (length (args .prices .now)) (args .w) (args .bids .now) (args .windows .now)
+            spared (args .tender) (length (args .prices .now)) (args .w) (args .bids .now) (args .windows .now)
                 (c10 .masks .last .1 .1 .1 .1 .1 .1 .0) (c14 .prices .last .1 .0) (args .won .now) (args .cents .now) (pre .0)
                 (c10 .masks .kept .1 .1 .1 .1 .1 .1 .0 ∙ pre .1 .1 .0) (c10 .masks .ensures) (c14 .prices .ensures) s,
             (omega (arith, c14 .prices .kept .1 .0, pre .1 .1 .1 .0), omega (arith, c14 .prices .kept .1 .0, pre .1 .1 .1 .1)),

@@ -84,7 +84,6 @@ pay-all-requires c κs =
         indexed = c46 .enlist .ensures;
         main = c36 .run .ensures .0;
         cells-in = P .1 .0;
-        two = P .1 .1 .0;
       },
       (
         starts (c22 .unlock .kept .0 ∙ c36 .run .kept .1 .1 .1 .1 .1 .0 ∙ P .1 .1 .1 .1 .1 .1 .1 .0) (c22 .unlock .ensures)
@@ -212,7 +211,12 @@ returns : tie.Need-returns
 returns c =
     let c19 = c .before .before .before .before .before .before .before .before .before .before .before .before .before .before .before
     .before .before .before .before in
-    awarded (c19 .pay-all .ensures) (c .totals .ensures)
+    let c87 = c19 .before .before .before .before .before .before .before .before .before .before .before .before .before .before .before
+    .before .before .before .before .before .before .before .before .before .before .before .before .before .before .before .before
+    .before .before .before .before .before .before .before .before .before .before .before .before .before .before .before .before
+    .before .before .before .before .before .before .before .before .before .before .before .before .before .before .before .before
+    .before .before .before .before .before in
+    awarded (c87 .pre .1 .1 .0) (c19 .pay-all .ensures) (c .totals .ensures)
 
 pub settle-spec : {M : Type 1} → statement M
 settle-spec =

@@ -151,7 +151,7 @@ returns c =
     let c38 = c16 .before .before .before .before .before .before .before .before .before .before .before .before .before .before .before
     .before .before .before .before .before .before .before in
     let P = c38 .pre in let A = c38 .args in (
-      goes (P .0 .main) (P .1 .0) (P .0 .cells-in) (P .0 .two) (P .1 .1 .0)
+      goes (P .0 .main) (P .1 .0) (P .0 .cells-in) (P .1 .1 .0)
           (c16 .limit-in .ensures .0) (c5 .less-one .ensures) (c .before .before .close .kept .0)
           (rw (part-row (A .masks .now) (A .w)) at (c .before .before .close .ensures)),
       c16 .limit-in .ensures .1,
