@@ -13,6 +13,7 @@ use Rattle.tender.specs.declared.Kind.the-variants.{Multi}
 use Rattle.tender.specs.declared.Tender.{Tender}
 use Rattle.tender.specs.declared.Totals.{Totals}
 use Rattle.tender.specs.declared.Refusal.the-variants.{MinuteUncovered, OneBidder}
+use Rattle.tender.specs.Limits.{maxEntries}
 use Rattle.tender.specs.Tables.{rowsOf, bidWidth}
 use Rattle.cover.specs.Sets.{cells}
 use Rattle.cover.specs.SpareLaws.{Spare, enough-spare}
@@ -31,6 +32,10 @@ use Rattle.award_layout.specs.LayoutLaws.{orderly, timed, masks-have}
 use Rattle.tender.specs.declared.Answer.the-variants.{Awarded, Refused}
 use Rattle.award_plain.specs.Plain.{PlainPromise}
 use Rattle.award_plain.specs.PlainLaws.{eleven, twelve, awards, multi-won, multi-cents}
+
+-- faultless tables have no more bids than an award can weigh
+pub entries-few : (k : Kind) (t : Tender) (n : ℕ) (bids windows : List ℕ) → faultOf k t n bids windows ≡ none → n ≤ maxEntries
+entries-few k t n bids windows f = omega (arith, orderly k t n bids windows f .few)
 
 -- the prices of orderly rows are within the limit
 pub prices-lawful : (k : Kind) (n : ℕ) (bids windows : List ℕ) → Orderly k n bids windows → Priced (pricesOf (rowsOf n bids))

@@ -12,7 +12,10 @@ use Rattle.tender.specs.declared.Refusal.the-variants.{MinuteUncovered, OneBidd
 use Rattle.tender.specs.Tables.{rowsOf}
 use Rattle.cover.specs.Sets.{bit, covers}
 use Rattle.cover.specs.LeastCover.{winners, vcgPaid}
+use Rattle.cover.specs.CriticalPrice.{sum}
 use Rattle.cover.specs.Settled.{spans, Settled}
+use Rattle.cover.specs.Intervals.BidsLaws.{sum-most}
+use Rattle.single_costs.specs.Across.{mostSum}
 use Rattle.award_thin.specs.declared.Thin.the-variants.{Nobody, Alone, Enough}
 use Rattle.award_thin.specs.Thin.{Says, Spans}
 use Rattle.award_check.specs.Faults.{faultOf}
@@ -45,8 +48,8 @@ module _ (t : Tender) (n : ℕ) (bids windows starts ends ps ow oc : List ℕ) (
     inside = spans-inside t n bids windows starts ends o a b l;
   }
 
-  pub prices-most : (i : ℕ) → getD ps i 0 ≤ 100000000
-  prices-most i = rw p (prices-lawful Single n bids windows o .most i)
+  pub prices-sum : sum ps ≤ mostSum
+  prices-sum = omega (arith, o .few, count, sum-most ps (λ i d. rw p (prices-lawful Single n bids windows o .most i)))
 
   pub uncovered : (x : ℕ) → Says (spans starts ends) n (cellsOf t) (Nobody x)
       → PlainPromise Single t n bids windows n ow oc ow oc (Refused (MinuteUncovered (t .window .start + x)))

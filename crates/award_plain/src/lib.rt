@@ -70,8 +70,8 @@ fn settle_multi(
     let window = tender.window;
     let w = ((window.end - window.start) as usize + 63) / 64;
     let all = w * count;
-    let mut prices = [1u64; 1000];
-    let mut masks = [1u64; 158000];
+    let mut prices = [1u64; tender::MAX_ENTRIES];
+    let mut masks = [1u64; 158 * tender::MAX_ENTRIES];
     multi_in(
         tender,
         w,
@@ -135,9 +135,9 @@ fn settle_single(
     ensures { λ r. ⌜ PlainPromise Single tender count (now (bids .entry)) (now (windows .entry)) count (now (won .entry))
         (now (cents .entry)) (now (won .exit)) (now (cents .exit)) r ⌝ }
 {
-    let mut prices = [1u64; 1000];
-    let mut starts = [1u64; 1000];
-    let mut ends = [1u64; 1000];
+    let mut prices = [1u64; tender::MAX_ENTRIES];
+    let mut starts = [1u64; tender::MAX_ENTRIES];
+    let mut ends = [1u64; tender::MAX_ENTRIES];
     single_in(
         tender,
         bids,

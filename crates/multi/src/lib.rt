@@ -4,6 +4,7 @@ ghost use mathlib.Core.Path.{_≡_};
 ghost use Prim.Native.Nat.{ℕ, _+_, _*_, _≤_};
 ghost use lib.ListN.{length};
 ghost use lib.Dec.{eqb};
+ghost use Rattle.tender.specs.Limits.{maxEntries};
 ghost use Rattle.cover.specs.Sets.{when, cells};
 ghost use Rattle.cover.specs.Greedy.{wins};
 ghost use Rattle.cover.specs.CriticalPrice.{roundsPaid};
@@ -150,7 +151,7 @@ fn settle(
     totals(prices, won, cents)
 }
 
-// The award, with room lent for 1,000 bids of 158 words.
+// The award, with room lent for 1,001 bids of 158 words.
 fn award_in(
     prices: &[u64],
     masks: &[u64],
@@ -172,7 +173,8 @@ fn award_in(
     requires { ⌜ Market (now prices) (now masks) w ×
         ((count ≤ 64 * w) × (((k : ℕ) → Spare (has (now masks) w) (length (now prices)) count k)
         × ((count ≤ length (now order)) × ((count ≤ length (now gains))
-        × ((158000 ≤ length (now hop)) × ((2528 ≤ length (now index)) × ((158 ≤ length (now held)) × ((158 ≤ length (now alt))
+        × ((158 * maxEntries ≤ length (now hop)) × ((2528 ≤ length (now index))
+        × ((158 ≤ length (now held)) × ((158 ≤ length (now alt))
         × ((160 ≤ length (now counts)) × ((length (now who) ≡ 2048)
         × ((length (now num) ≡ 2048) × ((length (now mark) ≡ 16)
         × ((length (now prices) ≤ length (now won)) × (length (now prices) ≤ length (now cents))))))))))))))) ⌝ }
@@ -223,7 +225,7 @@ pub fn award(
     // Written before they are read: ones are stored in place, zeros by a call of the library.
     let mut order = [1u64; 10080];
     let mut gains = [1u64; 10080];
-    let mut hop = [0u8; 158000];
+    let mut hop = [0u8; 158 * tender::MAX_ENTRIES];
     let mut index = [0u64; 2528];
     let mut held = [0u64; 158];
     let mut alt = [0u64; 158];

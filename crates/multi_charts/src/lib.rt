@@ -3,6 +3,7 @@
 ghost use mathlib.Core.Path.{_≡_};
 ghost use Prim.Native.Nat.{_+_, _*_, _<_, _≤_};
 ghost use lib.ListN.{length};
+ghost use Rattle.tender.specs.Limits.{maxEntries};
 ghost use Rattle.cells.specs.Hops.{Hops};
 ghost use Rattle.multi_rounds.specs.Market.{wordRow, Market, Hopping};
 ghost use Rattle.multi_marks.specs.Marks.{Indexed};
@@ -71,7 +72,7 @@ pub fn chart(prices: &[u64], masks: &[u64], w: usize, hop: &mut [u8])
 fn enlist_row(masks: &[u64], hop: &[u8], w: usize, i: usize, index: &mut [u64])
     requires { ⌜ (w ≤ 158) × ((w * i + w ≤ length (now masks))
         × ((length (now hop) ≡ length (now masks)) × (Hops (wordRow (now masks) w i) (wordRow (now hop) w i)
-        × ((i < 1000) × (length (now index) ≡ 16 * w))))) ⌝ }
+        × ((i < maxEntries) × (length (now index) ≡ 16 * w))))) ⌝ }
     ensures { λ _. ⌜ Enlisted (now (masks .entry)) w i (now (index .entry)) (now (index .exit)) ⌝ }
 {
     let a = w * i;

@@ -6,14 +6,15 @@ use mathlib.Core.Bool.{Bool, false}
 use mathlib.Core.List.{List}
 use Prim.Native.Nat.{ℕ, _+_, _*_, _≤_, _<_}
 use lib.ListN.{length, getD, set, drop}
+use Rattle.tender.specs.Limits.{maxEntries}
 use Rattle.cover.specs.CriticalPrice.{late}
 
 abbrev pub at : List ℕ → ℕ → ℕ
 at xs i = getD xs i 0
 
--- at most 1,000 bids at prices up to 100,000,000
+-- at most 1,001 bids at prices up to 100,000,000
 pub record Priced (ps : List ℕ) : Type 0 where
-  pub count : length ps ≤ 1000
+  pub count : length ps ≤ maxEntries
   pub most : (i : ℕ) → at ps i ≤ 100000000
 
 -- what is known of each bid

@@ -9,6 +9,7 @@ use lib.ListN.{length, set, length-set, length-drop}
 use lib.Seq.{getD-set-same, getD-set-other, getD-drop, ext-getD}
 use lib.Dec.{eqb, ltb}
 use borrow.Author.Tests.{eqb-true, eqb-false, ltb-true, ltb-false}
+use Rattle.tender.specs.Limits.{maxEntries}
 use Rattle.multi_tournament.specs.Tournament.{at, known, Leads, Node, Seats, Tournament, Seated, Put, Played}
 use Rattle.multi_tournament.specs.OrderLaws.{leads-itself, leads-on}
 
@@ -109,7 +110,7 @@ set-at P xs i v l h f j = go (eqb j i) refl
     go false e = rw (getD-set-other xs i j v 0 (eqb-false j i e)) (f j)
 
 module _ {ps who num : List ℕ} where
-  pub starts : Tournament ps who num → (i x : ℕ) → i < length ps → length ps ≤ 1000 → x ≤ 10112
+  pub starts : Tournament ps who num → (i x : ℕ) → i < length ps → length ps ≤ maxEntries → x ≤ 10112
       → Except ps who (set num (1024 + i) x) ((1024 + i) / 2)
   starts t i x l m f = record {
     seats = record {

@@ -4,13 +4,14 @@
 ghost use mathlib.Core.Path.{_≡_};
 ghost use Prim.Native.Nat.{ℕ, _+_, _*_, _-_, _<_, _≤_};
 ghost use lib.ListN.{getD, length};
+ghost use Rattle.tender.specs.Limits.{maxEntries};
 ghost use Rattle.cover.specs.Sets.{when, bit, cost, covers};
 ghost use Rattle.cover.specs.LeastCover.{winners, vcgPaid};
 ghost use Rattle.cover.specs.CriticalPrice.{sum};
 ghost use Rattle.cover.specs.Settled.{spans, Settled};
 ghost use Rattle.cover.specs.SettledLaws.{FilledTo, sumTo};
 ghost use Rattle.cover.specs.Intervals.Bids.{Bids};
-ghost use Rattle.single_costs.specs.Across.{Before, After, Waiting};
+ghost use Rattle.single_costs.specs.Across.{mostSum, Before, After, Waiting};
 ghost use Rattle.single.specs.Pay.{winnersOf, vcgPaidOf};
 
 // The difference, 0 where `y` is more.
@@ -47,12 +48,12 @@ fn pay(
     all: u64,
 ) -> Paid
     requires { ⌜ Bids (now starts) (now ends) (now prices) (now order) ⌝ }
-    requires { ⌜ (length (now prices) ≤ 1000) × (length (now prices) ≤ length (now order))
+    requires { ⌜ (length (now prices) ≤ maxEntries) × (length (now prices) ≤ length (now order))
         × (length (now prices) ≤ length (now before))
         × (length (now prices) ≤ length (now after)) × (length (now prices) ≤ length (now live))
         × (length (now prices) ≤ length (now xs))
         × (length (now prices) < length (now costs)) ⌝ }
-    requires { ⌜ (q < length (now prices)) × (sum (now prices) ≤ 100000000000) ⌝ }
+    requires { ⌜ (q < length (now prices)) × (sum (now prices) ≤ mostSum) ⌝ }
     requires { ⌜ (won ≡ when (bit (winnersOf (now starts) (now ends) (now prices) cells) (getD (now order) q 0)) 1)
         × (all ≡ cost (now prices) (winnersOf (now starts) (now ends) (now prices) cells)) ⌝ }
     requires { ⌜ ((i : ℕ) → i < length (now prices) → (getD (now starts) i 0 ≤ getD (now ends) i 0)
@@ -108,13 +109,13 @@ fn pay_each(
     all: u64,
 )
     requires { ⌜ Bids (now starts) (now ends) (now prices) (now order) ⌝ }
-    requires { ⌜ (length (now prices) ≤ 1000) × (length (now prices) ≤ length (now order))
+    requires { ⌜ (length (now prices) ≤ maxEntries) × (length (now prices) ≤ length (now order))
         × (length (now prices) ≤ length (now before))
         × (length (now prices) ≤ length (now after)) × (length (now prices) ≤ length (now live))
         × (length (now prices) ≤ length (now xs))
         × (length (now prices) < length (now costs)) ⌝ }
     requires { ⌜ (length (now prices) ≤ length (now won)) × (length (now prices) ≤ length (now cents))
-        × (sum (now prices) ≤ 100000000000)
+        × (sum (now prices) ≤ mostSum)
         × (all ≡ cost (now prices) (winnersOf (now starts) (now ends) (now prices) cells)) ⌝ }
     requires { ⌜ ((i : ℕ) → i < length (now prices)
         → getD (now won) i 0 ≡ when (bit (winnersOf (now starts) (now ends) (now prices) cells) i) 1) ⌝ }
@@ -156,8 +157,8 @@ fn pay_each(
 
 // The sum of the first `n` payments.
 fn total(cents: &[u64], n: usize) -> u64
-    requires { ⌜ (n ≤ length (now cents)) × (n ≤ 1000) ⌝ }
-    requires { ⌜ ((i : ℕ) → i < n → getD (now cents) i 0 ≤ 100000000000) ⌝ }
+    requires { ⌜ (n ≤ length (now cents)) × (n ≤ maxEntries) ⌝ }
+    requires { ⌜ ((i : ℕ) → i < n → getD (now cents) i 0 ≤ mostSum) ⌝ }
     ensures { λ z. ⌜ z ≡ sumTo (λ i. getD (now (cents .entry)) i 0) n ⌝ }
 {
     let mut s: u64 = 0;
@@ -182,11 +183,11 @@ fn payments(
     all: u64,
 )
     requires { ⌜ Bids (now starts) (now ends) (now prices) (now order) ⌝ }
-    requires { ⌜ (length (now prices) ≤ 1000) × (length (now prices) ≤ length (now order))
+    requires { ⌜ (length (now prices) ≤ maxEntries) × (length (now prices) ≤ length (now order))
         × (length (now prices) ≤ length (now before))
         × (cells ≤ 10080) ⌝ }
     requires { ⌜ (length (now prices) ≤ length (now won)) × (length (now prices) ≤ length (now cents))
-        × (sum (now prices) ≤ 100000000000)
+        × (sum (now prices) ≤ mostSum)
         × (all ≡ cost (now prices) (winnersOf (now starts) (now ends) (now prices) cells)) ⌝ }
     requires { ⌜ ((i : ℕ) → i < length (now prices)
         → getD (now won) i 0 ≡ when (bit (winnersOf (now starts) (now ends) (now prices) cells) i) 1) ⌝ }
@@ -197,10 +198,10 @@ fn payments(
         (now (cents .exit)) (length (now (prices .entry))) ⌝ }
 {
     // ones, not zeros: the compiler writes these in wide stores
-    let mut later = [1u64; 1001];
-    let mut costs = [1u64; 1001];
-    let mut live = [1usize; 1000];
-    let mut xs = [1usize; 1000];
+    let mut later = [1u64; tender::MAX_ENTRIES + 1];
+    let mut costs = [1u64; tender::MAX_ENTRIES + 1];
+    let mut live = [1usize; tender::MAX_ENTRIES];
+    let mut xs = [1usize; tender::MAX_ENTRIES];
     single_costs::after(starts, ends, prices, cells, &mut later);
     pay_each(
         starts,
@@ -228,13 +229,13 @@ pub fn award(
     won: &mut [u64],
     cents: &mut [u64],
 ) -> tender::Totals
-    requires { ⌜ (length (now prices) ≤ 1000) × (length (now starts) ≡ length (now prices))
+    requires { ⌜ (length (now prices) ≤ maxEntries) × (length (now starts) ≡ length (now prices))
         × (length (now ends) ≡ length (now prices))
         × (0 < cells) × (cells ≤ 10080) ⌝ }
     requires { ⌜ (length (now prices) ≤ length (now won)) × (length (now prices) ≤ length (now cents)) ⌝ }
     requires { ⌜ ((i : ℕ) → i < length (now prices) → (getD (now starts) i 0 ≤ getD (now ends) i 0)
         × (getD (now ends) i 0 ≤ cells)) ⌝ }
-    requires { ⌜ ((i : ℕ) → i < length (now prices) → getD (now prices) i 0 ≤ 100000000) ⌝ }
+    requires { ⌜ sum (now prices) ≤ mostSum ⌝ }
     ensures { λ r. ⌜ Settled (λ i. bit (winners (covers (spans (now (starts .entry)) (now (ends .entry))) (length (now (prices .entry)))
         cells) (now (prices .entry))) i) (vcgPaid (covers (spans (now (starts .entry)) (now (ends .entry))) (length (now (prices .entry)))
         cells) (now (prices .entry))) (now (prices .entry)) (now (won .entry)) (now (cents .entry)) (now (won .exit)) (now (cents .exit))
@@ -242,8 +243,8 @@ pub fn award(
 {
     let n = prices.len();
     // ones, not zeros: the compiler writes these in wide stores
-    let mut order = [1usize; 1000];
-    let mut early = [1u64; 1001];
+    let mut order = [1usize; tender::MAX_ENTRIES];
+    let mut early = [1u64; tender::MAX_ENTRIES + 1];
     single_order::by_start(starts, n, cells, &mut order);
     let all = single_select::winners(starts, ends, prices, &order, cells, &mut early, won);
     payments(starts, ends, prices, &order, &early, won, cents, cells, all);

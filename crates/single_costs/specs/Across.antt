@@ -11,6 +11,10 @@ use Rattle.cover.specs.Intervals.Bids.{anyBid, costBelow, costAfter}
 use Rattle.single_lead.specs.Costs.{noCost, costIn}
 use Rattle.single_lead.specs.Live.{Thinned, Live}
 
+-- the prices sum to no more
+abbrev pub mostSum : ℕ
+mostSum = 1000000000000
+
 -- x is a cost with what comes before, y one with what comes after: both have the price p
 unfoldable pub joinedCost : ℕ → ℕ → ℕ → ℕ
 joinedCost x y p = cond (eqb x noCost) noCost (cond (eqb y noCost) noCost (x + (y - p)))

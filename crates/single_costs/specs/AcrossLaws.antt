@@ -26,7 +26,7 @@ use Rattle.single_lead.specs.Live.{On, counted, Live}
 use Rattle.single_lead.specs.LiveLaws.{thinned-none, thinned-more, live-none, live-thinned, live-more, live-below, on-more}
 use Rattle.single_lead.specs.LeadLaws.{leading-none}
 use Rattle.single_costs.specs.Run.{Running, Ran}
-use Rattle.single_costs.specs.Across.{joinedCost, lessOf, joinAt, leastAcross, Before, After, Waiting, BegunAt}
+use Rattle.single_costs.specs.Across.{mostSum, joinedCost, lessOf, joinAt, leastAcross, Before, After, Waiting, BegunAt}
 
 -- the list thinned out and copied
 
@@ -246,7 +246,7 @@ after-small a b ps L v i e n = go (leastSet (coversFrom (λ x. x) (getD b i 0) (
 -- THE COST WITHOUT k
 pub ran-cost : (k : ℕ) (a b ps order : List ℕ) (h : Bids a b ps order) (L : ℕ) (xs costs after : List ℕ) (from m r : ℕ)
     → k < length ps
-    → 0 < getD b k 0 → getD b k 0 ≤ L → sum ps ≤ 100000000000
+    → 0 < getD b k 0 → getD b k 0 ≤ L → sum ps ≤ mostSum
     → After a b ps L after
     → Ran k a b ps order costs xs from (getD b k 0) m
     → costIn r ≡ leastAcross a b ps xs costs after (getD b k 0) m → costIn r ≡ costWithout k a b ps L
@@ -344,9 +344,9 @@ pub ran-below : (k : ℕ) (a b ps order : List ℕ) (h : Bids a b ps order) (cos
 ran-below k a b ps order h costs live from stop m g = live-below a b ps order h live (g .pos) m (g .at) (g .fit) (g .reach)
 
 pub ran-small : (k : ℕ) (a b ps order : List ℕ) (h : Bids a b ps order) (costs live : List ℕ) (from stop m : ℕ)
-    → sum ps ≤ 100000000000
+    → sum ps ≤ mostSum
     → Ran k a b ps order costs live from stop m
-    → (j : ℕ) → j < m → (getD costs (getD live j 0) 0 ≡ noCost → ⊥) → getD costs (getD live j 0) 0 ≤ 100000000000
+    → (j : ℕ) → j < m → (getD costs (getD live j 0) 0 ≡ noCost → ⊥) → getD costs (getD live j 0) 0 ≤ mostSum
 ran-small k a b ps order h costs live from stop m t g j d n =
     omega (
       arith,
@@ -355,6 +355,6 @@ ran-small k a b ps order h costs live from stop m t g j d n =
           (g .values (getD live j 0) (record { place = j; inside = d; is = refl })) n,
     )
 
-pub after-bounds : (a b ps after : List ℕ) (L : ℕ) → sum ps ≤ 100000000000 → After a b ps L after → (i : ℕ) → i < length ps
-    → (getD after i 0 ≡ noCost → ⊥) → (getD ps i 0 ≤ getD after i 0) × (getD after i 0 ≤ 100000000000 + getD ps i 0)
+pub after-bounds : (a b ps after : List ℕ) (L : ℕ) → sum ps ≤ mostSum → After a b ps L after → (i : ℕ) → i < length ps
+    → (getD after i 0 ≡ noCost → ⊥) → (getD ps i 0 ≤ getD after i 0) × (getD after i 0 ≤ mostSum + getD ps i 0)
 after-bounds a b ps after L t f i l n = let y = after-small a b ps L (getD after i 0) i (f i l) n in (y .0, omega (arith, y .1))

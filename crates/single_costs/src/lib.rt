@@ -5,12 +5,13 @@
 ghost use mathlib.Core.Path.{_≡_};
 ghost use Prim.Native.Nat.{ℕ, _+_, _-_, _<_, _≤_};
 ghost use lib.ListN.{getD, length};
+ghost use Rattle.tender.specs.Limits.{maxEntries};
 ghost use Rattle.cover.specs.Sets.{valueOf};
 ghost use Rattle.cover.specs.CriticalPrice.{sum};
 ghost use Rattle.cover.specs.Intervals.Bids.{Bids, costWithout};
 ghost use Rattle.cover.specs.Intervals.MirrorLaws.{Mirrored};
 ghost use Rattle.single_lead.specs.Costs.{costIn};
-ghost use Rattle.single_costs.specs.Across.{joinedCost, lessOf, leastAcross, Before, After, Waiting, BegunAt};
+ghost use Rattle.single_costs.specs.Across.{mostSum, joinedCost, lessOf, leastAcross, Before, After, Waiting, BegunAt};
 
 mod steps;
 
@@ -18,8 +19,8 @@ use steps::run;
 
 // The cost across a bid of price `price`: `x` is its cost with what comes before it, `y` with what comes after it.
 fn join(x: u64, y: u64, price: u64) -> u64
-    requires { ⌜ ((x ≡ 18446744073709551615 → ⊥) → x ≤ 100000000000) ⌝ }
-    requires { ⌜ ((y ≡ 18446744073709551615 → ⊥) → (price ≤ y) × (y ≤ 100000000000 + price)) ⌝ }
+    requires { ⌜ ((x ≡ 18446744073709551615 → ⊥) → x ≤ mostSum) ⌝ }
+    requires { ⌜ ((y ≡ 18446744073709551615 → ⊥) → (price ≤ y) × (y ≤ mostSum + price)) ⌝ }
     ensures { λ r. ⌜ r ≡ joinedCost x y price ⌝ }
 {
     if x == single_lead::NONE {
@@ -60,9 +61,9 @@ fn least_across(
         × (length (now prices) ≤ length (now costs)) × (length (now prices) ≤ length (now after)) ⌝ }
     requires { ⌜ ((j : ℕ) → j < m → getD (now live) j 0 < length (now prices)) ⌝ }
     requires { ⌜ ((j : ℕ) → j < m → (getD (now costs) (getD (now live) j 0) 0 ≡ 18446744073709551615 → ⊥)
-        → getD (now costs) (getD (now live) j 0) 0 ≤ 100000000000) ⌝ }
+        → getD (now costs) (getD (now live) j 0) 0 ≤ mostSum) ⌝ }
     requires { ⌜ ((i : ℕ) → i < length (now prices) → (getD (now after) i 0 ≡ 18446744073709551615 → ⊥)
-        → (getD (now prices) i 0 ≤ getD (now after) i 0) × (getD (now after) i 0 ≤ 100000000000 + getD (now prices) i 0)) ⌝ }
+        → (getD (now prices) i 0 ≤ getD (now after) i 0) × (getD (now after) i 0 ≤ mostSum + getD (now prices) i 0)) ⌝ }
     ensures { λ r. ⌜ costIn r ≡ leastAcross (now (starts .entry)) (now (ends .entry)) (now (prices .entry)) (now (live .entry))
         (now (costs .entry)) (now (after .entry)) t m ⌝ }
 {
@@ -128,12 +129,12 @@ pub fn without(
     cells: u64,
 ) -> Rest
     requires { ⌜ Bids (now starts) (now ends) (now prices) (now order) ⌝ }
-    requires { ⌜ (length (now prices) ≤ 1000) × (length (now prices) ≤ length (now order))
+    requires { ⌜ (length (now prices) ≤ maxEntries) × (length (now prices) ≤ length (now order))
         × (length (now prices) ≤ length (now before))
         × (length (now prices) ≤ length (now after)) × (length (now prices) ≤ length (now live))
         × (length (now prices) ≤ length (now xs))
         × (length (now prices) < length (now costs)) ⌝ }
-    requires { ⌜ (q < length (now prices)) × (sum (now prices) ≤ 100000000000) × (0 < getD (now ends) (getD (now order) q 0) 0) ⌝ }
+    requires { ⌜ (q < length (now prices)) × (sum (now prices) ≤ mostSum) × (0 < getD (now ends) (getD (now order) q 0) 0) ⌝ }
     requires { ⌜ ((i : ℕ) → i < length (now prices) → (getD (now starts) i 0 ≤ getD (now ends) i 0)
         × (getD (now ends) i 0 ≤ cells)) ⌝ }
     requires { ⌜ Before (now starts) (now ends) (now prices) (now before)
@@ -176,7 +177,7 @@ fn mirror(starts: &[u64], ends: &[u64], n: usize, cells: u64, x: &mut [u64], y: 
 
 // The cost of each bid with what comes after it.
 pub fn after(starts: &[u64], ends: &[u64], prices: &[u64], cells: u64, costs: &mut [u64])
-    requires { ⌜ (length (now prices) ≤ 1000) × (length (now prices) ≤ length (now starts))
+    requires { ⌜ (length (now prices) ≤ maxEntries) × (length (now prices) ≤ length (now starts))
         × (length (now prices) ≤ length (now ends))
         × (length (now prices) < length (now costs)) ⌝ }
     requires { ⌜ (cells ≤ 10080) × (sum (now prices) < 18446744073709551615) ⌝ }
@@ -185,10 +186,10 @@ pub fn after(starts: &[u64], ends: &[u64], prices: &[u64], cells: u64, costs: &m
     ensures { λ r. ⌜ After (now (starts .entry)) (now (ends .entry)) (now (prices .entry)) cells (now (costs .exit)) ⌝ }
 {
     // ones, not zeros: the compiler writes these in wide stores
-    let mut x = [1u64; 1000];
-    let mut y = [1u64; 1000];
-    let mut order = [1usize; 1000];
-    let mut live = [1usize; 1000];
+    let mut x = [1u64; tender::MAX_ENTRIES];
+    let mut y = [1u64; tender::MAX_ENTRIES];
+    let mut order = [1usize; tender::MAX_ENTRIES];
+    let mut live = [1usize; tender::MAX_ENTRIES];
     let n = prices.len();
     mirror(starts, ends, n, cells, &mut x, &mut y);
     single_order::by_start(&x, n, cells, &mut order);

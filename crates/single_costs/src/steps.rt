@@ -2,6 +2,7 @@
 ghost use mathlib.Core.Path.{_≡_};
 ghost use Prim.Native.Nat.{_+_, _-_, _<_, _≤_};
 ghost use lib.ListN.{getD, length};
+ghost use Rattle.tender.specs.Limits.{maxEntries};
 ghost use Rattle.cover.specs.CriticalPrice.{sum};
 ghost use Rattle.cover.specs.Intervals.Bids.{Bids};
 ghost use Rattle.single_costs.specs.Run.{entry, Running, Ran};
@@ -39,7 +40,7 @@ fn step(
     lead: Lead,
 ) -> Lead
     requires { ⌜ Bids (now starts) (now ends) (now prices) (now order) ⌝ }
-    requires { ⌜ (length (now prices) ≤ 1000) × (length (now prices) ≤ length (now order))
+    requires { ⌜ (length (now prices) ≤ maxEntries) × (length (now prices) ≤ length (now order))
         × (length (now prices) ≤ length (now live))
         × (length (now prices) < length (now costs)) ⌝ }
     requires { ⌜ (q < length (now prices)) × (sum (now prices) < 18446744073709551615)
@@ -78,7 +79,7 @@ pub(crate) fn run(
     stop: u64,
 ) -> usize
     requires { ⌜ Bids (now starts) (now ends) (now prices) (now order) ⌝ }
-    requires { ⌜ (length (now prices) ≤ 1000) × (length (now prices) ≤ length (now order))
+    requires { ⌜ (length (now prices) ≤ maxEntries) × (length (now prices) ≤ length (now order))
         × (length (now prices) ≤ length (now live))
         × (length (now prices) < length (now costs)) ⌝ }
     requires { ⌜ (from ≤ length (now prices)) × (sum (now prices) < 18446744073709551615) ⌝ }

@@ -4,6 +4,7 @@
 ghost use mathlib.Core.Path.{_≡_};
 ghost use Prim.Native.Nat.{ℕ, _+_, _*_, _-_, _/_, _<_, _≤_};
 ghost use lib.ListN.{getD, length};
+ghost use Rattle.tender.specs.Limits.{maxEntries};
 ghost use Rattle.cover.specs.CriticalPrice.{sum};
 ghost use Rattle.cover.specs.Intervals.Bids.{Bids};
 ghost use Rattle.single_lead.specs.Rows.{setIn};
@@ -33,7 +34,7 @@ fn step(
     lead: Lead,
 ) -> Lead
     requires { ⌜ Bids (now starts) (now ends) (now prices) (now order) ⌝ }
-    requires { ⌜ (length (now prices) ≤ 1000) × (length (now prices) ≤ length (now order))
+    requires { ⌜ (length (now prices) ≤ maxEntries) × (length (now prices) ≤ length (now order))
         × (length (now prices) ≤ length (now live))
         × (length (now prices) < length (now costs)) × (length (now prices) * 16 + 16 ≤ length (now sets)) ⌝ }
     requires { ⌜ (k < length (now prices)) × (sum (now prices) < 18446744073709551615) ⌝ }
@@ -70,7 +71,7 @@ fn weigh(
     sets: &mut [u64],
 ) -> Lead
     requires { ⌜ Bids (now starts) (now ends) (now prices) (now order) ⌝ }
-    requires { ⌜ (length (now prices) ≤ 1000) × (length (now prices) ≤ length (now order))
+    requires { ⌜ (length (now prices) ≤ maxEntries) × (length (now prices) ≤ length (now order))
         × (length (now prices) ≤ length (now live))
         × (length (now prices) < length (now costs)) × (length (now prices) * 16 + 16 ≤ length (now sets)) ⌝ }
     requires { ⌜ (sum (now prices) < 18446744073709551615) × (setIn 16 (now sets) (length (now prices)) ≡ 0) ⌝ }
@@ -105,7 +106,7 @@ pub fn winners(
     won: &mut [u64],
 ) -> u64
     requires { ⌜ Bids (now starts) (now ends) (now prices) (now order) ⌝ }
-    requires { ⌜ (length (now prices) ≤ 1000) × (length (now prices) ≤ length (now order))
+    requires { ⌜ (length (now prices) ≤ maxEntries) × (length (now prices) ≤ length (now order))
         × (length (now prices) < length (now costs))
         × (length (now prices) ≤ length (now won)) × (sum (now prices) < 18446744073709551615) ⌝ }
     requires { ⌜ ((i : ℕ) → i < length (now prices) → getD (now starts) i 0 ≤ cells) ⌝ }
@@ -113,8 +114,8 @@ pub fn winners(
         (now (won .exit)) cells z ⌝ }
 {
     // ones, not zeros: the compiler writes these in wide stores
-    let mut live = [1usize; 1000];
-    let mut sets = [1u64; 16016];
+    let mut live = [1usize; tender::MAX_ENTRIES];
+    let mut sets = [1u64; 16 * (tender::MAX_ENTRIES + 1)];
     let n = prices.len();
     clear(&mut sets, n);
     let lead = weigh(

@@ -26,6 +26,10 @@ maxBidder = 999999
 abbrev pub maxBids : ℕ
 maxBids = 1000
 
+-- an award can weigh the bids and one entry more
+abbrev pub maxEntries : ℕ
+maxEntries = 1001
+
 abbrev pub maxWindows : ℕ
 maxWindows = 32
 

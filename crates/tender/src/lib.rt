@@ -67,6 +67,8 @@ pub const MAX_PRICE: u64 = 100000000;
 pub const MAX_BIDDER: u64 = 999999;
 
 pub const MAX_BIDS: usize = 1000;
+// How many entries an award can weigh: the bids and one more.
+pub const MAX_ENTRIES: usize = 1001;
 // How many windows a bid of a multi tender may have.
 pub const MAX_WINDOWS: usize = 32;
 

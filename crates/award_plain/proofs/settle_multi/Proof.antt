@@ -4,10 +4,10 @@ use Prim.Native.Nat.{ℕ, _+_, _-_, _*_, _/_}
 use native.Mathlib.Omega.{arith}
 use lib.ListN.{length-replicate}
 use Rattle.tender.specs.declared.Kind.the-variants.{Multi}
+use Rattle.tender.specs.Limits.{maxEntries}
 use Rattle.award_check.specs.Cells.{cellsOf}
-use Rattle.award_layout.specs.LayoutLaws.{orderly}
 use Rattle.multi_tournament.specs.OrderLaws.{product}
-use Rattle.award_plain.specs.MultiLaws.{words-of}
+use Rattle.award_plain.specs.MultiLaws.{entries-few, words-of}
 use Rattle.award_plain.specs.PrefixLaws.{prefix-length}
 use Rattle.award_plain.proofs.settle_multi.Statement.{statement}
 use Rattle.award_plain.proofs.settle_multi.Tie as tie
@@ -45,10 +45,10 @@ mul-all c =
     let pre = c6 .pre in
     omega (
       arith,
-      product (((args .tender) .window .end - (args .tender) .window .start + 63) / 64) (args .count) 158 1000
+      product (((args .tender) .window .end - (args .tender) .window .start + 63) / 64) (args .count) 158 maxEntries
           (words-of Multi (args .tender) (args .count) (((args .tender) .window .end - (args .tender) .window .start + 63) / 64)
           (args .bids .now) (args .windows .now) (pre .0) refl .words)
-          (orderly Multi (args .tender) (args .count) (args .bids .now) (args .windows .now) (pre .0) .few),
+          (entries-few Multi (args .tender) (args .count) (args .bids .now) (args .windows .now) (pre .0)),
     )
 
 array-borrow-prefix-prices : tie.Need-array-borrow-prefix-prices
@@ -58,8 +58,8 @@ array-borrow-prefix-prices c =
     let args = c6 .args in
     omega (
       arith,
-      orderly Multi (args .tender) (args .count) (args .bids .now) (args .windows .now) (c6 .pre .0) .few,
-      length-replicate {A = ℕ} 1000 1,
+      entries-few Multi (args .tender) (args .count) (args .bids .now) (args .windows .now) (c6 .pre .0),
+      length-replicate {A = ℕ} maxEntries 1,
     )
 
 slice-aggregate-multi-in : tie.Need-slice-aggregate-multi-in
@@ -67,8 +67,8 @@ unfolding cellsOf
 slice-aggregate-multi-in c =
     let c7 = c .before .before .before .before .before .before .before in
     let args = c7 .args in
-    sym (prefix-length (args .count) 1000 (orderly Multi (args .tender) (args .count) (args .bids .now) (args .windows .now)
-    (c7 .pre .0) .few))
+    sym (prefix-length (args .count) maxEntries (entries-few Multi (args .tender) (args .count) (args .bids .now) (args .windows .now)
+    (c7 .pre .0)))
 
 array-borrow-prefix-masks : tie.Need-array-borrow-prefix-masks
 unfolding cellsOf
@@ -78,11 +78,11 @@ array-borrow-prefix-masks c =
     let pre = c7 .pre in
     omega (
       arith,
-      product (((args .tender) .window .end - (args .tender) .window .start + 63) / 64) (args .count) 158 1000
+      product (((args .tender) .window .end - (args .tender) .window .start + 63) / 64) (args .count) 158 maxEntries
           (words-of Multi (args .tender) (args .count) (((args .tender) .window .end - (args .tender) .window .start + 63) / 64)
           (args .bids .now) (args .windows .now) (pre .0) refl .words)
-          (orderly Multi (args .tender) (args .count) (args .bids .now) (args .windows .now) (pre .0) .few),
-      length-replicate {A = ℕ} 158000 1,
+          (entries-few Multi (args .tender) (args .count) (args .bids .now) (args .windows .now) (pre .0)),
+      length-replicate {A = ℕ} (158 * maxEntries) 1,
     )
 
 slice-aggregate-multi-in-2 : tie.Need-slice-aggregate-multi-in-2
@@ -91,13 +91,13 @@ slice-aggregate-multi-in-2 c =
     let c8 = c .before .before .before .before .before .before .before .before in
     let args = c8 .args in
     let pre = c8 .pre in
-    sym (prefix-length ((((args .tender) .window .end - (args .tender) .window .start + 63) / 64) * (args .count)) 158000
+    sym (prefix-length ((((args .tender) .window .end - (args .tender) .window .start + 63) / 64) * (args .count)) (158 * maxEntries)
     (omega (
       arith,
-      product (((args .tender) .window .end - (args .tender) .window .start + 63) / 64) (args .count) 158 1000
+      product (((args .tender) .window .end - (args .tender) .window .start + 63) / 64) (args .count) 158 maxEntries
           (words-of Multi (args .tender) (args .count) (((args .tender) .window .end - (args .tender) .window .start + 63) / 64)
           (args .bids .now) (args .windows .now) (pre .0) refl .words)
-          (orderly Multi (args .tender) (args .count) (args .bids .now) (args .windows .now) (pre .0) .few),
+          (entries-few Multi (args .tender) (args .count) (args .bids .now) (args .windows .now) (pre .0)),
     )))
 
 multi-in-requires : tie.Need-multi-in-requires
@@ -106,20 +106,20 @@ multi-in-requires c κs =
     let c10 = c .before .before .before .before .before .before .before .before .before .before in
     let args = c10 .args in
     let pre = c10 .pre in
-    rw (prefix-length (args .count) 1000 (orderly Multi (args .tender) (args .count) (args .bids .now) (args .windows .now)
-    (pre .0) .few)) (
+    rw (prefix-length (args .count) maxEntries (entries-few Multi (args .tender) (args .count) (args .bids .now) (args .windows .now)
+    (pre .0))) (
       pre .0,
       (
         refl,
         (
           prefix-length
-              ((((args .tender) .window .end - (args .tender) .window .start + 63) / 64) * (args .count)) 158000
+              ((((args .tender) .window .end - (args .tender) .window .start + 63) / 64) * (args .count)) (158 * maxEntries)
               (omega (
                 arith,
-                product (((args .tender) .window .end - (args .tender) .window .start + 63) / 64) (args .count) 158 1000
+                product (((args .tender) .window .end - (args .tender) .window .start + 63) / 64) (args .count) 158 maxEntries
                     (words-of Multi (args .tender) (args .count) (((args .tender) .window .end - (args .tender) .window .start + 63) / 64)
                     (args .bids .now) (args .windows .now) (pre .0) refl .words)
-                    (orderly Multi (args .tender) (args .count) (args .bids .now) (args .windows .now) (pre .0) .few),
+                    (entries-few Multi (args .tender) (args .count) (args .bids .now) (args .windows .now) (pre .0)),
               )),
           (pre .1 .0, pre .1 .1),
         ),
@@ -144,8 +144,8 @@ returns c =
     let c6 = c .before .before .before .before .before .before in
     let c17 = c6 .before .before .before .before .before .before .before .before .before .before .before in
     let args = c17 .args in
-    rw (prefix-length (args .count) 1000 (orderly Multi (args .tender) (args .count) (args .bids .now) (args .windows .now)
-    (c17 .pre .0) .few)) at (c6 .multi-in .ensures)
+    rw (prefix-length (args .count) maxEntries (entries-few Multi (args .tender) (args .count) (args .bids .now) (args .windows .now)
+    (c17 .pre .0))) at (c6 .multi-in .ensures)
 
 pub settle-multi-spec : {M : Type 1} → statement M
 settle-multi-spec =

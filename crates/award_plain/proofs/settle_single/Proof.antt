@@ -4,7 +4,8 @@ use Prim.Native.Nat.{ℕ}
 use native.Mathlib.Omega.{arith}
 use lib.ListN.{length-replicate}
 use Rattle.tender.specs.declared.Kind.the-variants.{Single}
-use Rattle.award_layout.specs.LayoutLaws.{orderly}
+use Rattle.tender.specs.Limits.{maxEntries}
+use Rattle.award_plain.specs.MultiLaws.{entries-few}
 use Rattle.award_plain.specs.PrefixLaws.{prefix-length}
 use borrow.Author.Needs.{needs}
 use Rattle.award_plain.proofs.settle_single.Statement.{statement}
@@ -19,16 +20,16 @@ array-borrow-prefix-prices c =
     let args = c4 .args in
     omega (
       arith,
-      orderly Single (args .tender) (args .count) (args .bids .now) (args .windows .now) (c4 .pre .0) .few,
-      length-replicate {A = ℕ} 1000 1,
+      entries-few Single (args .tender) (args .count) (args .bids .now) (args .windows .now) (c4 .pre .0),
+      length-replicate {A = ℕ} maxEntries 1,
     )
 
 slice-aggregate-single-in : tie.Need-slice-aggregate-single-in
 slice-aggregate-single-in c =
     let c5 = c .before .before .before .before .before in
     let args = c5 .args in
-    sym (prefix-length (args .count) 1000 (orderly Single (args .tender) (args .count) (args .bids .now) (args .windows .now)
-    (c5 .pre .0) .few))
+    sym (prefix-length (args .count) maxEntries (entries-few Single (args .tender) (args .count) (args .bids .now) (args .windows .now)
+    (c5 .pre .0)))
 
 array-borrow-prefix-starts : tie.Need-array-borrow-prefix-starts
 array-borrow-prefix-starts c =
@@ -36,16 +37,16 @@ array-borrow-prefix-starts c =
     let args = c5 .args in
     omega (
       arith,
-      orderly Single (args .tender) (args .count) (args .bids .now) (args .windows .now) (c5 .pre .0) .few,
-      length-replicate {A = ℕ} 1000 1,
+      entries-few Single (args .tender) (args .count) (args .bids .now) (args .windows .now) (c5 .pre .0),
+      length-replicate {A = ℕ} maxEntries 1,
     )
 
 slice-aggregate-single-in-2 : tie.Need-slice-aggregate-single-in-2
 slice-aggregate-single-in-2 c =
     let c6 = c .before .before .before .before .before .before in
     let args = c6 .args in
-    sym (prefix-length (args .count) 1000 (orderly Single (args .tender) (args .count) (args .bids .now) (args .windows .now)
-    (c6 .pre .0) .few))
+    sym (prefix-length (args .count) maxEntries (entries-few Single (args .tender) (args .count) (args .bids .now) (args .windows .now)
+    (c6 .pre .0)))
 
 array-borrow-prefix-ends : tie.Need-array-borrow-prefix-ends
 array-borrow-prefix-ends c =
@@ -53,24 +54,24 @@ array-borrow-prefix-ends c =
     let args = c6 .args in
     omega (
       arith,
-      orderly Single (args .tender) (args .count) (args .bids .now) (args .windows .now) (c6 .pre .0) .few,
-      length-replicate {A = ℕ} 1000 1,
+      entries-few Single (args .tender) (args .count) (args .bids .now) (args .windows .now) (c6 .pre .0),
+      length-replicate {A = ℕ} maxEntries 1,
     )
 
 slice-aggregate-single-in-3 : tie.Need-slice-aggregate-single-in-3
 slice-aggregate-single-in-3 c =
     let c7 = c .before .before .before .before .before .before .before in
     let args = c7 .args in
-    sym (prefix-length (args .count) 1000 (orderly Single (args .tender) (args .count) (args .bids .now) (args .windows .now)
-    (c7 .pre .0) .few))
+    sym (prefix-length (args .count) maxEntries (entries-few Single (args .tender) (args .count) (args .bids .now) (args .windows .now)
+    (c7 .pre .0)))
 
 single-in-requires : tie.Need-single-in-requires
 single-in-requires c κs =
     let c9 = c .before .before .before .before .before .before .before .before .before in
     let args = c9 .args in
     let pre = c9 .pre in
-    rw (prefix-length (args .count) 1000 (orderly Single (args .tender) (args .count) (args .bids .now) (args .windows .now)
-    (pre .0) .few)) (pre .0, (refl, (refl, (pre .1 .0, pre .1 .1))))
+    rw (prefix-length (args .count) maxEntries (entries-few Single (args .tender) (args .count) (args .bids .now) (args .windows .now)
+    (pre .0))) (pre .0, (refl, (refl, (pre .1 .0, pre .1 .1))))
 
 same-length : tie.Need-same-length
 same-length c = search needs
@@ -83,8 +84,8 @@ returns c =
     let c7 = c .before .before .before .before .before .before .before in
     let c17 = c7 .before .before .before .before .before .before .before .before .before .before in
     let args = c17 .args in
-    rw (prefix-length (args .count) 1000 (orderly Single (args .tender) (args .count) (args .bids .now) (args .windows .now)
-    (c17 .pre .0) .few)) at (c7 .single-in .ensures)
+    rw (prefix-length (args .count) maxEntries (entries-few Single (args .tender) (args .count) (args .bids .now) (args .windows .now)
+    (c17 .pre .0))) at (c7 .single-in .ensures)
 
 pub settle-single-spec : {M : Type 1} → statement M
 settle-single-spec =

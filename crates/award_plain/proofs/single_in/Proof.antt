@@ -8,7 +8,7 @@ use Rattle.cover.specs.Settled.{spans}
 use Rattle.award_thin.specs.Thin.{Says}
 use Rattle.award_check.specs.Cells.{cellsOf}
 use Rattle.award_layout.specs.LayoutLaws.{orderly, timed}
-use Rattle.award_plain.specs.SingleLaws.{uncovered, lone, ordered, prices-most, settled}
+use Rattle.award_plain.specs.SingleLaws.{uncovered, lone, ordered, prices-sum, settled}
 use Rattle.cover.specs.EarliestLaws.{cell-found}
 use borrow.Author.Needs.{needs}
 use Rattle.award_plain.proofs.single_in.Statement.{statement}
@@ -137,10 +137,10 @@ award-requires c κs =
         ),
         (
           λ i m. (h .ordered i, h .inside i),
-          λ i m. prices-most (args .tender) (length (args .prices .now)) (args .bids .now)
+          prices-sum (args .tender) (length (args .prices .now)) (args .bids .now)
               (args .windows .now) (c14 .spans .last .1 .1 .1 .1 .0) (c14 .spans .last .1 .1 .1 .1 .1 .0) (c19 .prices .last .1 .0)
               (args .won .now) (args .cents .now) (pre .0) (c14 .spans .kept .1 .1 .1 .1 .0 ∙ pre .1 .0)
-              (c14 .spans .kept .1 .1 .1 .1 .1 .0 ∙ pre .1 .1 .0) (rw (pre .1 .0) at (c14 .spans .ensures)) (c19 .prices .ensures) i,
+              (c14 .spans .kept .1 .1 .1 .1 .1 .0 ∙ pre .1 .1 .0) (rw (pre .1 .0) at (c14 .spans .ensures)) (c19 .prices .ensures),
         ),
       ),
     )

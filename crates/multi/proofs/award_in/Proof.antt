@@ -4,6 +4,7 @@ use mathlib.Core.Path.{_∙_, sym}
 use native.Mathlib.Omega.{arith}
 use lib.ListN.{length, length-append, length-drop}
 use lib.Seq.{length-take-le}
+use Rattle.tender.specs.Limits.{maxEntries}
 use Rattle.multi_tournament.specs.OrderLaws.{product}
 use Rattle.multi.specs.SumsLaws.{settles}
 use borrow.Author.Needs.{needs}
@@ -27,7 +28,7 @@ slice-relend-prefix-settle c =
     .before in
     let P = c16 .pre in let A = c16 .args in omega (
       arith,
-      product (A .w) (length (A .prices .now)) 158 1000 (P .0 .words) (P .0 .priced .count),
+      product (A .w) (length (A .prices .now)) 158 maxEntries (P .0 .words) (P .0 .priced .count),
       P .0 .size,
       P .1 .1 .1 .1 .1 .0,
     )
@@ -39,7 +40,7 @@ slice-aggregate-settle c =
     let P = c17 .pre in let A = c17 .args in sym (length-take-le (length (A .masks .now)) (A .hop .now)
     (omega (
       arith,
-      product (A .w) (length (A .prices .now)) 158 1000 (P .0 .words) (P .0 .priced .count),
+      product (A .w) (length (A .prices .now)) 158 maxEntries (P .0 .words) (P .0 .priced .count),
       P .0 .size,
       P .1 .1 .1 .1 .1 .0,
     )))
@@ -128,7 +129,7 @@ settle-requires c κs =
                 length-take-le (length (A .masks .now)) (A .hop .now)
                     (omega (
                       arith,
-                      product (A .w) (length (A .prices .now)) 158 1000 (P .0 .words) (P .0 .priced .count),
+                      product (A .w) (length (A .prices .now)) 158 maxEntries (P .0 .words) (P .0 .priced .count),
                       P .0 .size,
                       P .1 .1 .1 .1 .1 .0,
                     )),
@@ -180,7 +181,7 @@ same-length-3 c =
     let P = c51 .pre in let A = c51 .args in let i : length (A .masks .now) ≤ length (A .hop .now) =
     omega (
       arith,
-      product (A .w) (length (A .prices .now)) 158 1000 (P .0 .words) (P .0 .priced .count),
+      product (A .w) (length (A .prices .now)) 158 maxEntries (P .0 .words) (P .0 .priced .count),
       P .0 .size,
       P .1 .1 .1 .1 .1 .0,
     ) in simp (length-append, length-drop)

@@ -2,6 +2,7 @@
 use Prim.Native.Nat.{_-_, _≤_}
 use mathlib.Core.Path.{refl, _∙_}
 use native.Mathlib.Omega.{arith}
+use Rattle.tender.specs.Limits.{maxEntries}
 use Rattle.multi_tournament.specs.OrderLaws.{product}
 use Rattle.multi_rounds.specs.WordRowLaws.{part-row, row-length}
 use Rattle.multi_marks.proofs.Spreading.{row-at}
@@ -69,7 +70,7 @@ add-requires c κs =
 mul-onward : tie.Need-mul-onward Inv-loop μ-loop
 mul-onward c =
     let c11 = c .before .before .before .before .before .before .before .before .before .before .before in
-    let P = c11 .pre in let A = c11 .args in omega (arith, product (A .w) (A .i) 158 1000 (P .0) (omega (arith, P .1 .1 .1 .1 .0)))
+    let P = c11 .pre in let A = c11 .args in omega (arith, product (A .w) (A .i) 158 maxEntries (P .0) (omega (arith, P .1 .1 .1 .1 .0)))
 
 sub-onward : tie.Need-sub-onward Inv-loop μ-loop
 sub-onward c = omega arith
@@ -122,7 +123,7 @@ loop-again c =
 mul-onward-2 : tie.Need-mul-onward-2 Inv-loop μ-loop
 mul-onward-2 c =
     let c7 = c .before .before .before .before .before .before .before in
-    let P = c7 .pre in let A = c7 .args in omega (arith, product (A .w) (A .i) 158 1000 (P .0) (omega (arith, P .1 .1 .1 .1 .0)))
+    let P = c7 .pre in let A = c7 .args in omega (arith, product (A .w) (A .i) 158 maxEntries (P .0) (omega (arith, P .1 .1 .1 .1 .0)))
 
 sub-onward-3 : tie.Need-sub-onward-3 Inv-loop μ-loop
 sub-onward-3 c = omega arith

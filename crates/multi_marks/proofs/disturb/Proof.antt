@@ -5,6 +5,7 @@ use mathlib.Core.Path.{_≡_, sym, ap, _∙_}
 use native.Mathlib.Omega.{arith}
 use lib.ListN.{length}
 use lib.Bits.{bitAnd}
+use Rattle.tender.specs.Limits.{maxEntries}
 use Rattle.multi_tournament.specs.Tournament.{at, known, Tournament}
 use Rattle.multi_rounds.specs.WordRowLaws.{part-row, row-in, row-length}
 use Rattle.multi_tournament.specs.OrderLaws.{product}
@@ -98,7 +99,7 @@ mul-onward c =
     .before .before .before .before .before .before .before .before .before .before .before in
     let P = c26 .pre in let A = c26 .args in omega (
       arith,
-      product (A .w) (A .j) 158 1000 (P .0 .words) (omega (arith, P .1 .1 .1 .1 .1 .0, P .0 .priced .count)),
+      product (A .w) (A .j) 158 maxEntries (P .0 .words) (omega (arith, P .1 .1 .1 .1 .1 .0, P .0 .priced .count)),
     )
 
 sub-onward : tie.Need-sub-onward Inv-loop μ-loop

@@ -1,6 +1,7 @@
 -- `multi_pay::pay` meets its contract: the round's bid gets its flag and its critical price, and its cells close. Assumes nothing.
 use mathlib.Core.Path.{_∙_, sym}
 use native.Mathlib.Omega.{arith}
+use Rattle.tender.specs.Limits.{maxEntries}
 use Rattle.multi_rounds.specs.WordRowLaws.{row-in, part-row, row-length}
 use Rattle.multi_tournament.specs.Tournament.{at}
 use Rattle.multi_tournament.specs.OrderLaws.{product}
@@ -68,7 +69,7 @@ mul-a c =
     .before .before in
     let P = c33 .pre in let A = c33 .args in omega (
       arith,
-      product (A .w) (at (A .order .now) (A .h)) 158 1000 (P .0 .market .words)
+      product (A .w) (at (A .order .now) (A .h)) 158 maxEntries (P .0 .market .words)
           (omega (arith, P .0 .main .route .inside (A .h) (P .1 .0), P .0 .market .priced .count)),
       P .0 .market .words,
     )
@@ -80,7 +81,7 @@ add-e c =
     .before .before in
     let P = c33 .pre in let A = c33 .args in omega (
       arith,
-      product (A .w) (at (A .order .now) (A .h)) 158 1000 (P .0 .market .words)
+      product (A .w) (at (A .order .now) (A .h)) 158 maxEntries (P .0 .market .words)
           (omega (arith, P .0 .main .route .inside (A .h) (P .1 .0), P .0 .market .priced .count)),
       P .0 .market .words,
     )
@@ -92,7 +93,7 @@ mul-close c =
     .before .before .before in
     let P = c34 .pre in let A = c34 .args in omega (
       arith,
-      product (A .w) (at (A .order .now) (A .h)) 158 1000 (P .0 .market .words)
+      product (A .w) (at (A .order .now) (A .h)) 158 maxEntries (P .0 .market .words)
           (omega (arith, P .0 .main .route .inside (A .h) (P .1 .0), P .0 .market .priced .count)),
       P .0 .market .words,
     )

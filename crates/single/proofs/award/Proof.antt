@@ -1,5 +1,4 @@
 -- `single::award` meets its contract: the selection gives the winners, the payments the rest. Assumes nothing.
-use Rattle.cover.specs.Intervals.BidsLaws.{sum-most}
 use Rattle.single.specs.PayLaws.{pays-most, selected-flags, selected-all, award-settled}
 use native.Mathlib.Omega.{arith}
 use borrow.Author.Needs.{needs}
@@ -25,8 +24,7 @@ winners-requires : tie.Need-winners-requires
 winners-requires c κs =
     let c4 = c .before .before .before .before in
     let c11 = c4 .before .before .before .before .before .before .before in
-    let pre = c11 .pre in
-    let b = sum-most (c11 .args .prices .now) (pre .1 .1 .1) in (
+    let pre = c11 .pre in (
       record { starts = omega (arith, pre .0); ends = omega (arith, pre .0); sorted = c4 .by-start .ensures },
       (
         (
@@ -34,7 +32,7 @@ winners-requires c κs =
           omega (arith, pre .0, c4 .by-start .kept),
           omega (arith, pre .0),
           omega (arith, pre .1 .0),
-          omega (arith, b, pre .0),
+          omega (arith, pre .1 .1 .1),
         ),
         λ i l. omega (arith, pre .1 .1 .0 i l),
       ),
@@ -51,8 +49,7 @@ payments-requires c κs =
     let c7 = c .before .before .before .before .before .before .before in
     let c12 = c7 .before .before .before .before .before in
     let c19 = c12 .before .before .before .before .before .before .before in
-    let pre = c19 .pre in
-    let b = sum-most (c19 .args .prices .now) (pre .1 .1 .1) in (
+    let pre = c19 .pre in (
       record { starts = omega (arith, pre .0); ends = omega (arith, pre .0); sorted = c12 .by-start .ensures },
       (
         (
@@ -65,7 +62,7 @@ payments-requires c κs =
           (
             omega (arith, pre .1 .0, c7 .winners .kept),
             omega (arith, pre .1 .0),
-            omega (arith, b, pre .0),
+            omega (arith, pre .1 .1 .1),
             selected-all _ _ _ _ _ _ _ _ (c7 .winners .ensures),
           ),
           (selected-flags _ _ _ _ _ _ _ _ (c7 .winners .ensures), (pre .1 .1 .0, c7 .winners .ensures .costs-are)),
@@ -78,15 +75,13 @@ total-requires c κs =
     let c23 = c .before .before .before .before .before .before .before .before .before .before .before .before .before .before .before
     .before .before .before .before .before .before .before .before in
     let args = c23 .args in
-    let pre = c23 .pre in
-    let b = sum-most (args .prices .now) (pre .1 .1 .1) in (
+    let pre = c23 .pre in (
       (omega (arith, pre .1 .0, c .before .before .before .payments .kept), omega (arith, pre .0)),
       λ i l. omega (
         arith,
         c .before .before .before .payments .ensures .values i l,
         pays-most (args .starts .now) (args .ends .now) (args .prices .now) (args .cells) i,
-        b,
-        pre .0,
+        pre .1 .1 .1,
       ),
     )
 

@@ -4,13 +4,14 @@ use Prim.Native.Nat.{_≤_, _-_, _*_}
 use lib.ListN.{getD}
 use native.Mathlib.Nat.{le-antisymm}
 use Rattle.cover.specs.SettledLaws.{sumTo, sum-none, sum-more}
+use Rattle.single_costs.specs.Across.{mostSum}
 use native.Mathlib.Omega.{arith}
 use borrow.Author.Needs.{needs}
 use Rattle.single.proofs.total.Statement.{statement}
 use Rattle.single.proofs.total.Tie as tie
 
 abbrev Inv-loop : tie.InvT-loop
-Inv-loop cents n s₀ i₀ s i = (i ≤ n) × (s ≤ i * 100000000000) × (s ≡ sumTo (λ j. getD cents j 0) i)
+Inv-loop cents n s₀ i₀ s i = (i ≤ n) × (s ≤ i * mostSum) × (s ≡ sumTo (λ j. getD cents j 0) i)
 
 abbrev μ-loop : tie.MeasureT-loop
 μ-loop cents n s₀ i₀ s i = n - i
