@@ -84,7 +84,11 @@ pub fn flaw_in(a: u64, z: u64) -> Flaw
     ensures { λ r. ⌜ r ≡ flawIn (record { start = a; end = z }) ⌝ }
 {
     if a < z {
-        if z <= tender::WEEK { Flaw::Sound } else { Flaw::Late }
+        if z <= tender::WEEK {
+            Flaw::Sound
+        } else {
+            Flaw::Late
+        }
     } else {
         Flaw::Empty
     }
@@ -96,9 +100,7 @@ fn worse(flaw: Flaw, a: u64, z: u64) -> Flaw
 {
     match flaw {
         Flaw::Empty => Flaw::Empty,
-        Flaw::Late => {
-            if z <= a { Flaw::Empty } else { Flaw::Late }
-        }
+        Flaw::Late => { if z <= a { Flaw::Empty } else { Flaw::Late } }
         Flaw::Sound => flaw_in(a, z),
     }
 }
