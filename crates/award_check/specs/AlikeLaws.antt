@@ -176,7 +176,7 @@ module _ (k : Kind) (t : Tender) (n i : ℕ) (bids windows bids′ windows′ : 
   prices-alike =
       ap pricesOf (rows-set n i bids bids′ inside (a .rows)) ∙ prices-set (rowsOf n bids) i (getD bids′ (bidWidth * i + 1) 0)
 
-  own-alike : (j : ℕ) → own windows′ (getD (rowsOf n bids′) j noRow) ≡ own windows (getD (rowsOf n bids) j noRow)
+  pub own-alike : (j : ℕ) → own windows′ (getD (rowsOf n bids′) j noRow) ≡ own windows (getD (rowsOf n bids) j noRow)
   unfolding own
   own-alike j = ap (λ rs. own windows′ (getD rs j noRow)) (rows-set n i bids bids′ inside (a .rows))
       ∙ own-set windows′ (rowsOf n bids) i (getD bids′ (bidWidth * i + 1) 0) j

@@ -1,0 +1,49 @@
+-- The auction of a tender: its cells, and what each entry offers, in entry order (paper 01, "Time, price and place").
+use mathlib.Core.List.{List, [], map}
+use mathlib.Core.Bool.{Bool, _&&_}
+use Prim.Native.Nat.{ℕ, _+_}
+use lib.ListN.{getD, set}
+use lib.Dec.{ltb}
+use Rattle.tender.specs.declared.Window.{Window}
+use Rattle.tender.specs.declared.Tender.{Tender}
+use Rattle.tender.specs.Tables.{Row, rowsOf, own}
+use Rattle.award_check.specs.Cells.{holds, cellsOf}
+
+-- what an entry offers: its price, and the windows that it holds
+pub record Offer : Type 0 where
+  pub price : ℕ
+  pub windows : List Window
+
+-- what stands past the last offer
+unfoldable pub noOffer : Offer
+noOffer = record { price = 0; windows = [] }
+
+unfoldable pub offered : List ℕ → Row → Offer
+unfolding own
+offered windows r = record { price = r .price; windows = own windows r }
+
+-- the n bids of the tables, in entry order
+unfoldable pub offersOf : ℕ → List ℕ → List ℕ → List Offer
+unfolding rowsOf offered
+offersOf n bids windows = map (offered windows) (rowsOf n bids)
+
+-- how many cells, who has which, the prices in entry order, and how many of the entries are owners' bids
+pub record Auction : Type 0 where
+  pub cells : ℕ
+  pub has : ℕ → ℕ → Bool
+  pub prices : List ℕ
+  pub owners : ℕ
+
+-- entry i has the cell x; its minutes outside the tender count for nothing
+unfoldable pub hasOf : Tender → List Offer → ℕ → ℕ → Bool
+unfolding cellsOf holds noOffer
+hasOf t os i x = ltb x (cellsOf t) && holds (getD os i noOffer .windows) (t .window .start + x)
+
+unfoldable pub auctionOf : Tender → ℕ → List ℕ → List ℕ → Auction
+unfolding offersOf hasOf cellsOf
+auctionOf t n bids windows = let os = offersOf n bids windows in
+    record { cells = cellsOf t; has = hasOf t os; prices = map (λ o. o .price) os; owners = n }
+
+-- the auction with the price of entry i set to q
+unfoldable pub atPrice : ℕ → ℕ → Auction → Auction
+atPrice i q A = record { cells = A .cells; has = A .has; prices = set (A .prices) i q; owners = A .owners }
