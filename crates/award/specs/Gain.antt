@@ -13,7 +13,7 @@ lost = record { won = false; cents = 0 }
 -- the row of bid i; in a refused tender nobody wins
 unfoldable pub rowFor : Outcome → ℕ → AwardRow
 unfolding lost
-rowFor (awarded rows cost paid) i = getD rows i lost
+rowFor (awarded rows totals) i = getD rows i lost
 rowFor (refused n at) i = lost
 
 -- the payment less the true cost for a winner, and 0 for a loser or in a refused tender

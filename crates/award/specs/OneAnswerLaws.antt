@@ -13,17 +13,16 @@ use Rattle.tender.specs.declared.Tender.{Tender}
 use Rattle.tender.specs.declared.Refusal.{Refusal}
 use Rattle.tender.specs.declared.Refusal.the-variants.{BadTables, RowsTooFew, MinuteUncovered, OneBidder}
 use Rattle.tender.specs.Refusals.{numberOf, placeOf}
-use Rattle.tender.specs.Tables.{rowsOf}
 use Rattle.cover.specs.Sets.{Found, nothing, found, bidders}
 use Rattle.cover.specs.Earliest.{cellWith}
 use Rattle.cover.specs.EarliestLaws.{cell-found, one-at, two-at}
 use Rattle.cover.specs.SettledLaws.{length-listed}
 use Rattle.award_check.specs.Faults.{faultOf}
-use Rattle.award_check.specs.Cells.{cellsOf, hasOf, pricesOf}
-use Rattle.award_check.specs.AlikeLaws.{prices-count}
+use Rattle.award_check.specs.Auction.{Auction, auctionOf}
+use Rattle.award_check.specs.AuctionLaws.{minutes, owners-are}
 use Rattle.tender.specs.declared.AwardRow.{AwardRow}
 use Rattle.tender.specs.declared.Answer.{Answer}
-use Rattle.award_plain.specs.Award.{Outcome, awarded, declined, awardRows, costOf, paidOf, thinned, settled}
+use Rattle.award_plain.specs.Award.{Outcome, awarded, declined, awardRows, totalsOf, thinned, settled}
 use Rattle.award.specs.Promise.{lentAfter, toldAward, Promise}
 use Rattle.award.specs.Right.{Callable, Bidders, EarliestIn, IsAward, IsRefusal, OneAnswer, tables-break-a-rule, rows-too-few}
 use Rattle.award.specs.Right.{minute-uncovered, one-bidder, award}
@@ -34,52 +33,47 @@ module _ (k : Kind) (t : Tender) (n : ℕ) (bids windows : List ℕ) (old new : 
   abbrev o : Outcome
   o = toldAward n new a
 
-  abbrev has : ℕ → ℕ → Bool
-  has = hasOf t (rowsOf n bids) windows
-
-  abbrev ps : List ℕ
-  ps = pricesOf (rowsOf n bids)
-
-  abbrev L : ℕ
-  L = cellsOf t
+  abbrev A : Auction
+  A = auctionOf t n bids windows
 
   refusal : (r : Refusal) → o ≡ declined r → IsRefusal (numberOf r) (placeOf r) old new o
   unfolding lentAfter
   refusal r e = record { outcome = e; lent = p .rows ∙ ap (lentAfter old) e }
 
-  is-award : o ≡ awarded (awardRows k has ps L) (costOf k has ps L) (paidOf k has ps L) → IsAward k t n bids windows old new o
+  is-award : o ≡ awarded (awardRows k A) (totalsOf k A) → IsAward k A old new o
   unfolding lentAfter awardRows
   is-award e = record {
     outcome = e;
-    lent = p .rows ∙ ap (lentAfter old) e ∙ ap (λ (m : ℕ). awardRows k has ps L ++ drop m old)
-        (length-listed (length ps) _ ∙ prices-count n bids);
+    lent = p .rows ∙ ap (lentAfter old) e ∙ ap (λ (m : ℕ). awardRows k A ++ drop m old) (length-listed (A .owners) _);
   }
 
   -- a cell found is the earliest minute
-  at-cell : (b x : ℕ) → cellWith has n L b ≡ found x → EarliestIn t n bids windows (t .window .start + x) b
-  unfolding cellsOf
+  at-cell : (b x : ℕ) → cellWith (A .has) n (A .cells) b ≡ found x → EarliestIn t A (t .window .start + x) b
   at-cell b x e =
-      let h = cell-found has n L b x e in
+      let h = cell-found (A .has) n (A .cells) b x e in
       let s : t .window .start + x - t .window .start ≡ x = omega arith in
+      let c = minutes t n bids windows in
       record {
         from = omega arith;
         to = omega (arith, h .inside);
-        bids-with-it = ap (bidders has n) s ∙ h .here;
-        earliest = λ m l k. h .before (m - t .window .start) (omega arith);
+        bids-with-it = rw (owners-are t n bids windows) (ap (bidders (A .has) n) s ∙ h .here);
+        earliest = rw (owners-are t n bids windows) (λ m l k. h .before (m - t .window .start) (omega arith));
       }
 
   cover : Callable k t n bids windows (length old) → ltb (length old) n ≡ false → OneAnswer k t n bids windows old new o
   unfolding thinned
-  cover s g = go (cellWith has n L 0) (cellWith has n L 1) refl refl
+  cover s g = go (cellWith (A .has) n (A .cells) 0) (cellWith (A .has) n (A .cells) 1) refl refl
     where
-      go : (x y : Found) → cellWith has n L 0 ≡ x → cellWith has n L 1 ≡ y → OneAnswer k t n bids windows old new o
+      go : (x y : Found) → cellWith (A .has) n (A .cells) 0 ≡ x → cellWith (A .has) n (A .cells) 1 ≡ y
+          → OneAnswer k t n bids windows old new o
       go (found x) y d e = minute-uncovered (t .window .start + x) s (at-cell 0 x d)
           (refusal (MinuteUncovered (t .window .start + x))
           (p .answers ∙ award-settles k t n bids windows (length old) (s .sound) g (found x) y d e))
-      go nothing (found x) d e = one-bidder (t .window .start + x) s (one-at has n L d) (at-cell 1 x e)
+      go nothing (found x) d e = one-bidder (t .window .start + x) s
+          (rw (owners-are t n bids windows) (one-at (A .has) n (A .cells) d)) (at-cell 1 x e)
           (refusal (OneBidder (t .window .start + x)) (p .answers
           ∙ award-settles k t n bids windows (length old) (s .sound) g nothing (found x) d e))
-      go nothing nothing d e = award s (two-at has n L d e)
+      go nothing nothing d e = award s (rw (owners-are t n bids windows) (two-at (A .has) n (A .cells) d e))
           (is-award (p .answers ∙ award-settles k t n bids windows (length old) (s .sound) g nothing nothing d e))
 
   pub one-answer : OneAnswer k t n bids windows old new o
@@ -88,22 +82,25 @@ module _ (k : Kind) (t : Tender) (n : ℕ) (bids windows : List ℕ) (old new : 
       rows : faultOf k t n bids windows ≡ none → (b : Bool) → ltb (length old) n ≡ b → OneAnswer k t n bids windows old new o
       rows f true g = rows-too-few f (ltb-true (length old) n g)
           (refusal RowsTooFew (p .answers ∙ award-none k t n bids windows (length old) f
-          ∙ ap (λ z. cond z (declined RowsTooFew) (settled k has ps L (t .window .start))) g))
+          ∙ ap (λ z. cond z (declined RowsTooFew) (settled k A (t .window .start))) g))
       rows f false g = cover (record { sound = f; rows = ltb-false (length old) n g }) g
 
       fault : (m : Option ℕ) → faultOf k t n bids windows ≡ m → OneAnswer k t n bids windows old new o
       fault none e = rows e (ltb (length old) n) refl
       fault (some q) e = tables-break-a-rule q e (refusal (BadTables q) (p .answers ∙ award-nine k t n bids windows (length old) q e))
 
-  few : (m b : ℕ) → Bidders t n bids windows 2 → EarliestIn t n bids windows m b → 2 ≤ b
-  unfolding cellsOf
-  few m b two i = omega (arith, i .bids-with-it, two (m - t .window .start) (omega (arith, i .from, i .to)))
+  few : (m b : ℕ) → Bidders A 2 → EarliestIn t A m b → 2 ≤ b
+  few m b two i = omega (
+    arith,
+    i .bids-with-it,
+    two (m - t .window .start) (omega (arith, i .from, i .to, minutes t n bids windows)),
+  )
 
   -- nothing else is declined: where no rule is broken, each bid has a row and each minute two bidders, it awards
-  pub awards : Callable k t n bids windows (length old) → Bidders t n bids windows 2 → IsAward k t n bids windows old new o
+  pub awards : Callable k t n bids windows (length old) → Bidders A 2 → IsAward k A old new o
   awards s two = go one-answer
     where
-      go : OneAnswer k t n bids windows old new o → IsAward k t n bids windows old new o
+      go : OneAnswer k t n bids windows old new o → IsAward k A old new o
       go (tables-break-a-rule q e r) = let f = s .sound in let z : _≡_ {A = ℕ} 0 1 = cc in absurd (omega arith)
       go (rows-too-few f l r) = absurd (omega (arith, s .rows))
       go (minute-uncovered m c i r) = absurd (omega (arith, few m 0 two i))

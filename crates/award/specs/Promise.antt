@@ -12,12 +12,12 @@ use Rattle.award_plain.specs.Award.{Outcome, awarded, refused, declined, awardO
 
 -- the lent award rows after the call: rows past the last bid stay, and all of them where the award declines
 unfoldable pub lentAfter : List AwardRow → Outcome → List AwardRow
-lentAfter old (awarded rows cost paid) = rows ++ drop (length rows) old
+lentAfter old (awarded rows totals) = rows ++ drop (length rows) old
 lentAfter old (refused n at) = old
 
 -- what a call on n bids told: its answer, and the first n of the lent rows where it awards
 unfoldable pub toldAward : ℕ → List AwardRow → Answer → Outcome
-toldAward n rows (Awarded totals) = awarded (take n rows) (totals .cost) (totals .paid)
+toldAward n rows (Awarded totals) = awarded (take n rows) totals
 toldAward n rows (Refused r) = declined r
 
 -- the promise of a call: it leaves the lent rows `new` and answers a

@@ -35,7 +35,7 @@ same-told : (n : ℕ) (won cents : List ℕ) (a : Answer) (old : List AwardRow)
     → toldAward n (lentAfter old (toldIn n won cents a)) a ≡ toldIn n won cents a
 unfolding toldAward toldIn lentAfter
 same-told n won cents (Awarded totals) old =
-    ap (λ (rows : List AwardRow). awarded rows (totals .cost) (totals .paid))
+    ap (λ (rows : List AwardRow). awarded rows totals)
     (take-at (rowsIn n won cents) (drop (length (rowsIn n won cents)) old) n (rows-count n won cents))
 same-told n won cents (Refused r) old = refl
 
@@ -54,7 +54,7 @@ pub rows-fit : (k : Kind) (t : Tender) (n : ℕ) (bids windows : List ℕ) (lent
     (rowsFilled a n ≤ lent) × (rowsFilled a n ≤ 1000)
 unfolding rowsFilled toldIn
 rows-fit k t n bids windows lent ow oc nw nc (Awarded totals) p =
-    let w = award-awarded k t n bids windows lent (rowsIn n nw nc) (totals .cost) (totals .paid) (p .answers) in
+    let w = award-awarded k t n bids windows lent (rowsIn n nw nc) totals (p .answers) in
     (ltb-false lent n (w .enough), orderly k t n bids windows (w .sound) .few)
 rows-fit k t n bids windows lent ow oc nw nc (Refused r) p = (omega arith, omega arith)
 

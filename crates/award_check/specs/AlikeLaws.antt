@@ -1,5 +1,5 @@
--- Tables that are alike in all but one price: the prices differ in that one, and each bid has the same cells. Assumes nothing.
-use mathlib.Core.Path.{_≡_, refl, sym, ap, _∙_, fun-ext}
+-- Tables that are alike in all but one price: the rows differ in that one, and each has the same windows. Assumes nothing.
+use mathlib.Core.Path.{_≡_, refl, sym, ap, _∙_}
 use mathlib.Core.List.{List, [], _∷_, _++_}
 use mathlib.Core.Bool.{Bool, true, false, cond, not, _&&_}
 use mathlib.Core.Option.{none, some}
@@ -7,7 +7,7 @@ use Prim.Native.Nat.{ℕ, zero, suc, _+_, _*_, _/_, _≤_, _<_}
 use native.Mathlib.Omega.{arith}
 use lib.ListN.{length, getD, set, drop}
 use lib.Seq.{getD-drop, drop-drop}
-use lib.Dec.{leb, ltb, eqb}
+use lib.Dec.{leb, eqb}
 use borrow.Author.Tests.{eqb-true}
 use Rattle.tender.specs.declared.Kind.{Kind}
 use Rattle.tender.specs.declared.Tender.{Tender}
@@ -17,21 +17,13 @@ use Rattle.reader.specs.Words.{among}
 use Rattle.reader.specs.Differ.{withPrice}
 use Rattle.cover.specs.SetLaws.{and-split}
 use Rattle.award_check.specs.Faults.{keeps, sound, rowFault, sameKind, faultOf}
-use Rattle.award_check.specs.Cells.{holds, cellsOf, noRow, hasOf, pricesOf}
+use Rattle.award_check.specs.Cells.{noRow}
 use Rattle.award_check.specs.Alike.{windowCount, Alike}
 
 pub rows-length : (n : ℕ) (bs : List ℕ) → length (rowsOf n bs) ≡ n
 unfolding rowsOf
 rows-length zero bs = refl
 rows-length (suc n) bs = ap suc (rows-length n (drop bidWidth bs))
-
-pub prices-length : (rs : List Row) → length (pricesOf rs) ≡ length rs
-unfolding pricesOf
-prices-length [] = refl
-prices-length (r ∷ rs) = ap suc (prices-length rs)
-
-pub prices-count : (n : ℕ) (bids : List ℕ) → length (pricesOf (rowsOf n bids)) ≡ n
-prices-count n bids = prices-length (rowsOf n bids) ∙ rows-length n bids
 
 later : (d n : ℕ) (bs cs : List ℕ) → ((j : ℕ) → d ≤ j → j < n → getD bs j 0 ≡ getD cs j 0) → (j : ℕ) → d + j < n
     → getD (drop d bs) j 0 ≡ getD (drop d cs) j 0
@@ -88,12 +80,6 @@ rows-set (suc n) (suc i) bs cs l h =
   where
     index : (i : ℕ) → bidWidth + (bidWidth * i + 1) ≡ bidWidth * suc i + 1
     index i = omega arith
-
-pub prices-set : (rs : List Row) (i v : ℕ) → pricesOf (set rs i (withPrice v (getD rs i noRow))) ≡ set (pricesOf rs) i v
-unfolding pricesOf withPrice
-prices-set [] i v = refl
-prices-set (r ∷ rs) zero v = refl
-prices-set (r ∷ rs) (suc i) v = ap (λ ps. r .price ∷ ps) (prices-set rs i v)
 
 own-set : (windows : List ℕ) (rs : List Row) (i v j : ℕ) → own windows (getD (set rs i (withPrice v (getD rs i noRow))) j noRow)
     ≡ own windows (getD rs j noRow)
@@ -172,10 +158,6 @@ faultless k t n bids windows e = go (sameKind k (t .kind) && lawful (t .window) 
 
 module _ (k : Kind) (t : Tender) (n i : ℕ) (bids windows bids′ windows′ : List ℕ) (inside : i < n)
     (f : rowFault k windows 1 [] 0 (rowsOf n bids) ≡ none) (a : Alike n i bids windows bids′ windows′) where
-  pub prices-alike : pricesOf (rowsOf n bids′) ≡ set (pricesOf (rowsOf n bids)) i (getD bids′ (bidWidth * i + 1) 0)
-  prices-alike =
-      ap pricesOf (rows-set n i bids bids′ inside (a .rows)) ∙ prices-set (rowsOf n bids) i (getD bids′ (bidWidth * i + 1) 0)
-
   pub own-alike : (j : ℕ) → own windows′ (getD (rowsOf n bids′) j noRow) ≡ own windows (getD (rowsOf n bids) j noRow)
   unfolding own
   own-alike j = ap (λ rs. own windows′ (getD rs j noRow)) (rows-set n i bids bids′ inside (a .rows))
@@ -186,20 +168,6 @@ module _ (k : Kind) (t : Tender) (n i : ℕ) (bids windows bids′ windows′ : 
       go r l = windows-same (r .count) (drop (windowWidth * r .first) windows) (drop (windowWidth * r .first) windows′)
           (λ x m. getD-drop (windowWidth * r .first) windows x 0 ∙ a .windows-too (windowWidth * r .first + x) (omega arith)
           ∙ sym (getD-drop (windowWidth * r .first) windows′ x 0))
-
-  pub cells-alike : hasOf t (rowsOf n bids′) windows′ ≡ hasOf t (rowsOf n bids) windows
-  unfolding hasOf
-  cells-alike = fun-ext (λ j. fun-ext (λ x. ap (λ ws. ltb x (cellsOf t) && holds ws (t .window .start + x)) (own-alike j)))
-
-pub price-named : (n i : ℕ) (bids : List ℕ) → i < n → getD (pricesOf (rowsOf n bids)) i 0 ≡ getD bids (bidWidth * i + 1) 0
-unfolding pricesOf rowsOf
-price-named zero i bids l = absurd (omega arith)
-price-named (suc n) zero bids l = refl
-price-named (suc n) (suc i) bids l = price-named n i (drop bidWidth bids) (omega arith) ∙ getD-drop bidWidth bids (bidWidth * i + 1) 0
-    ∙ ap (λ (j : ℕ). getD bids j 0) (index i)
-  where
-    index : (i : ℕ) → bidWidth + (bidWidth * i + 1) ≡ bidWidth * suc i + 1
-    index i = omega arith
 
 -- for a loop over the rows: row j, and those after it
 pub rows-step : (m j : ℕ) (bids : List ℕ) → rowsOf (suc m) (drop (bidWidth * j) bids)

@@ -2,12 +2,12 @@
 -- price, or in what was read. Assumes nothing.
 use mathlib.Core.Path.{_≡_, refl, sym, ap, _∙_, fun-ext}
 use mathlib.Core.List.{List, [], _∷_, _++_, map, append-nil}
-use mathlib.Core.Bool.{Bool, false, _&&_, and-false}
+use mathlib.Core.Bool.{false, _&&_, and-false}
 use mathlib.Core.Option.{none}
 use Prim.Native.Nat.{ℕ, zero, suc, _+_, _-_, _*_, _≤_, _<_}
 use native.Mathlib.Omega.{arith}
 use lib.ListN.{length, getD, set, drop, length-map, List·getD-append, List·getD-eq-default}
-use lib.Seq.{getD-drop, ext-getD}
+use lib.Seq.{getD-drop, ext-getD, set-getD}
 use lib.Dec.{ltb}
 use Rattle.tender.specs.declared.Kind.{Kind}
 use Rattle.tender.specs.declared.Window.{Window}
@@ -17,14 +17,15 @@ use Rattle.reader.specs.Rules.{Rules}
 use Rattle.reader.specs.Differ.{withPrice}
 use Rattle.award_check.specs.Faults.{faultOf}
 use Rattle.award_check.specs.Cells.{holds, cellsOf, noRow}
-use Rattle.award_check.specs.Auction.{Offer, noOffer, offered, offersOf, Auction, hasOf, auctionOf, atPrice}
+use Rattle.award_check.specs.Auction.{noOffer, offered, offersOf, Auction, hasOf, auctionOf, atPrice}
 use Rattle.award_check.specs.Alike.{Alike}
 use Rattle.award_check.specs.AlikeLaws.{rows-length, rows-set, windows-same, among-held, faultless, own-alike}
 use Rattle.award_check.specs.TextLaws.{rows-flat, length-windows, rows-end, never-nine}
 
 -- offers
 
-offer-at : (windows : List ℕ) (rs : List Row) (i : ℕ) → getD (map (offered windows) rs) i noOffer ≡ offered windows (getD rs i noRow)
+offer-at : (windows : List ℕ) (rs : List Row) (i : ℕ) → getD (map (offered windows) rs) i noOffer
+    ≡ offered windows (getD rs i noRow)
 unfolding offered own windowsOf noRow noOffer
 offer-at windows [] i = refl
 offer-at windows (r ∷ rs) zero = refl
@@ -80,13 +81,19 @@ module _ (t : Tender) (n : ℕ) (bids windows : List ℕ) where
   pub no-cells : (i x : ℕ) → n ≤ i → auctionOf t n bids windows .has i x ≡ false
   unfolding own noRow windowsOf holds
   no-cells i x l = has-cell i x
-      ∙ ap (λ (r : Row). ltb x (cellsOf t) && holds (windowsOf (r .count) (drop (windowWidth * r .first) windows)) (t .window .start + x))
+      ∙ ap (λ (r : Row). ltb x (cellsOf t)
+      && holds (windowsOf (r .count) (drop (windowWidth * r .first) windows)) (t .window .start + x))
       (List·getD-eq-default (rowsOf n bids) noRow {n = i} (omega (arith, rows-length n bids)))
       ∙ and-false (ltb x (cellsOf t))
 
+-- an entry's own price changes nothing
+pub at-own-price : (i : ℕ) (A : Auction) → atPrice i (getD (A .prices) i 0) A ≡ A
+unfolding atPrice
+at-own-price i A = ap (λ ps. record { cells = A .cells; has = A .has; prices = ps; owners = A .owners }) (set-getD (A .prices) i 0)
+
 -- tables alike in all but the price of row i: the same auction but for that price
-module _ (k : Kind) (t : Tender) (n i : ℕ) (bids windows bids′ windows′ : List ℕ) (l : i < n) (f : faultOf k t n bids windows ≡ none)
-    (a : Alike n i bids windows bids′ windows′) where
+module _ (k : Kind) (t : Tender) (n i : ℕ) (bids windows bids′ windows′ : List ℕ) (l : i < n)
+    (f : faultOf k t n bids windows ≡ none) (a : Alike n i bids windows bids′ windows′) where
   has-alike : auctionOf t n bids′ windows′ .has ≡ auctionOf t n bids windows .has
   has-alike = fun-ext (λ j. fun-ext (λ x. has-cell t n bids′ windows′ j x
       ∙ ap (λ ws. ltb x (cellsOf t) && holds ws (t .window .start + x))

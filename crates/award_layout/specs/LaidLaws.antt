@@ -1,21 +1,21 @@
--- Laws of laying tables out: prices one by one, a window's cells, windows added one by one. Assumes nothing.
+-- Laws of laying tables out: a list filled from the front, a window's cells, windows added one by one. Assumes nothing.
 use mathlib.Core.Path.{_≡_, refl, sym, ap, _∙_}
 use mathlib.Core.List.{List, _∷_}
 use mathlib.Core.Bool.{Bool, true, false, _&&_, _||_, or-true, or-false}
 use Prim.Native.Nat.{ℕ, suc, _+_, _-_, _*_, _/_, _%_, _^_, _≤_, _<_}
 use native.Mathlib.Omega.{arith}
 use lib.ListN.{length, getD, set, drop}
-use lib.Seq.{ext-getD, getD-set-same, getD-set-other}
+use lib.Seq.{getD-set-same, getD-set-other}
 use lib.Dec.{leb, ltb, eqb}
 use borrow.Author.Tests.{ltb-true, ltb-false, leb-true, leb-false, eq-eqb}
 use Rattle.tender.specs.declared.Kind.{Kind}
 use Rattle.tender.specs.Limits.{within, mostWindows}
 use Rattle.cover.specs.SetLaws.{and-split}
-use Rattle.tender.specs.Tables.{rowsOf, windowsOf, bidWidth, windowWidth, windowAt}
+use Rattle.tender.specs.Tables.{windowsOf, windowWidth, windowAt}
 use Rattle.cells.specs.Cells.{cell, RangeAdded}
 use Rattle.cells.specs.BitLaws.{zero-bit}
-use Rattle.award_check.specs.Cells.{holds, pricesOf}
-use Rattle.award_check.specs.AlikeLaws.{rows-length, prices-length, price-named, windows-step}
+use Rattle.award_check.specs.Cells.{holds}
+use Rattle.award_check.specs.AlikeLaws.{windows-step}
 use Rattle.award_check.specs.WalkLaws.{rowsAhead, ahead-more}
 use Rattle.award_layout.specs.LayoutLaws.{in-cell}
 use Rattle.award_layout.specs.Orderly.{bidRowAt, Orderly, clipped, Masked}
@@ -32,12 +32,6 @@ filled-more f out i l h v e j m = go (ltb j i) refl
     go false t = let d : j ≡ i = omega (arith, ltb-false j i t) in ap (λ (k : ℕ). getD (set out i v) k 0) d
         ∙ getD-set-same out i v 0 l
         ∙ e ∙ ap f (sym d)
-
-pub prices-are : (bids out : List ℕ) (n : ℕ) → length out ≡ n
-    → ((j : ℕ) → j < n → getD out j 0 ≡ getD bids (bidWidth * j + 1) 0)
-    → out ≡ pricesOf (rowsOf n bids)
-prices-are bids out n e h = ext-getD 0 out (pricesOf (rowsOf n bids)) (e ∙ sym (prices-length (rowsOf n bids) ∙ rows-length n bids))
-    (λ j l. h j (omega arith) ∙ sym (price-named n j bids (omega arith)))
 
 -- the words have the cells of the windows passed, those from j on being left
 pub record Masking (start L : ℕ) (windows : List ℕ) (first count j : ℕ) (words : List ℕ) : Type 0 where

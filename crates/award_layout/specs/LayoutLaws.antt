@@ -7,7 +7,7 @@ use Prim.Native.Nat.{ℕ, zero, suc, _+_, _*_, _/_, _%_, _^_, _≤_, _<_}
 use native.Mathlib.Nat.{mul-le-mul-left, zero-div}
 use native.Mathlib.Omega.{arith}
 use lib.ListN.{length, getD, take, drop, length-take, length-drop, List·getD-eq-default}
-use lib.Seq.{getD-drop}
+use lib.Seq.{getD-drop, ext-getD}
 use lib.Dec.{leb, ltb, eqb}
 use borrow.Author.Tests.{ltb-true, ltb-false, leb-true, leb-false, lt-ltb, le-ltb, le-leb, lt-leb}
 use Rattle.tender.specs.declared.Kind.{Kind}
@@ -20,9 +20,11 @@ use Rattle.cover.specs.Settled.{spans}
 use Rattle.cells.specs.Cells.{cell}
 use Rattle.multi_rounds.specs.Market.{wordRow, has}
 use Rattle.award_check.specs.Faults.{sound, rowFault, sameKind, faultOf}
-use Rattle.award_check.specs.Cells.{holds, cellsOf, noRow, hasOf}
+use Rattle.award_check.specs.Cells.{holds, cellsOf, noRow}
+use Rattle.award_check.specs.Auction.{auctionOf}
+use Rattle.award_check.specs.AuctionLaws.{entries, price-named, has-cell, no-cells}
 use Rattle.award_check.specs.AlikeLaws.{Kept, keeps-kept, sound-keeps, sound-first, faultless, rows-length, windows-step}
-use Rattle.award_layout.specs.Orderly.{bidRowAt, Orderly, clipped, SpansLaid, AllMasked}
+use Rattle.award_layout.specs.Orderly.{bidRowAt, Orderly, clipped, PricesLaid, SpansLaid, AllMasked}
 
 pub row-named : (n i : ℕ) (bids : List ℕ) → i < n → getD (rowsOf n bids) i noRow ≡ bidRowAt bids i
 unfolding rowsOf
@@ -110,15 +112,18 @@ timed k t n bids windows e =
     let c = and-split (ltb (t .window .start) (t .window .end)) (leb (t .window .end) 10080) (b .1) in
     record { some-minute = ltb-true (t .window .start) (t .window .end) (c .0); in-week = leb-true (t .window .end) 10080 (c .1) }
 
--- past the last bid there are no cells
-no-cells : (t : Tender) (n : ℕ) (bids windows : List ℕ) (i x : ℕ) → n ≤ i → hasOf t (rowsOf n bids) windows i x ≡ false
-unfolding hasOf own noRow windowsOf holds
-no-cells t n bids windows i x l =
-    ap (λ (r : Row). ltb x (cellsOf t) && holds (windowsOf (r .count) (drop (windowWidth * r .first) windows)) (t .window .start + x))
-    (List·getD-eq-default (rowsOf n bids) noRow {n = i} (omega (arith, rows-length n bids)))
-    ∙ and-false (ltb x (cellsOf t))
+-- a bid has the cells of its row's windows
+row-cell : (t : Tender) (n : ℕ) (bids windows : List ℕ) (i x : ℕ) → i < n → auctionOf t n bids windows .has i x
+    ≡ (ltb x (cellsOf t) && holds (own windows (bidRowAt bids i)) (t .window .start + x))
+row-cell t n bids windows i x l = has-cell t n bids windows i x
+    ∙ ap (λ (r : Row). ltb x (cellsOf t) && holds (own windows r) (t .window .start + x)) (row-named n i bids l)
 
--- words have the cells of the bids
+-- prices are those of the auction
+pub prices-laid : (t : Tender) (n : ℕ) (bids windows ps : List ℕ) → PricesLaid n bids ps → ps ≡ auctionOf t n bids windows .prices
+prices-laid t n bids windows ps p = ext-getD 0 ps (auctionOf t n bids windows .prices) (p .count ∙ sym (entries t n bids windows))
+    (λ i l. let m : i < n = omega (arith, p .count) in p .prices-are i m ∙ sym (price-named t n bids windows i m))
+
+-- words have the cells of the auction
 
 empty-row : (ms : List ℕ) (w n i x : ℕ) → length ms ≡ w * n → n ≤ i → eqb (cell (wordRow ms w i) x) 1 ≡ false
 unfolding cell wordRow
@@ -128,14 +133,12 @@ empty-row ms w n i x e l =
     ∙ ap (λ (v : ℕ). eqb (v % 2) 1) (zero-div (2 ^ (x % 64)))
 
 pub masks-have : (t : Tender) (n w : ℕ) (bids windows ms : List ℕ) → length ms ≡ w * n
-    → AllMasked n (t .window .start) (cellsOf t) w bids windows ms → has ms w ≡ hasOf t (rowsOf n bids) windows
-unfolding has hasOf
+    → AllMasked n (t .window .start) (cellsOf t) w bids windows ms → has ms w ≡ auctionOf t n bids windows .has
+unfolding has
 masks-have t n w bids windows ms e m = fun-ext (λ i. fun-ext (λ x. go i x (ltb i n) refl))
   where
-    go : (i x : ℕ) (b : Bool) → ltb i n ≡ b → eqb (cell (wordRow ms w i) x) 1
-        ≡ (ltb x (cellsOf t) && holds (own windows (getD (rowsOf n bids) i noRow)) (t .window .start + x))
-    go i x true u = m .each i (ltb-true i n u) .sets x
-        ∙ ap (λ (r : Row). ltb x (cellsOf t) && holds (own windows r) (t .window .start + x)) (sym (row-named n i bids (ltb-true i n u)))
+    go : (i x : ℕ) (b : Bool) → ltb i n ≡ b → eqb (cell (wordRow ms w i) x) 1 ≡ auctionOf t n bids windows .has i x
+    go i x true u = m .each i (ltb-true i n u) .sets x ∙ sym (row-cell t n bids windows i x (ltb-true i n u))
     go i x false u = empty-row ms w n i x e (ltb-false i n u) ∙ sym (no-cells t n bids windows i x (ltb-false i n u))
 
 -- a window's cells
@@ -173,7 +176,7 @@ clip-order start L s e l = omega arith
 pub clip-inside : (start L s : ℕ) → clipped start L s ≤ L
 clip-inside start L s = omega arith
 
--- starts and ends have the cells of bids of one window each
+-- starts and ends of bids of one window each have the cells of the auction
 module _ (t : Tender) (n : ℕ) (bids windows starts ends : List ℕ) (o : Orderly Single n bids windows) (a : length starts ≡ n)
     (b : length ends ≡ n)
     (p : SpansLaid n (t .window .start) (cellsOf t) bids windows starts ends) where
@@ -226,15 +229,15 @@ module _ (t : Tender) (n : ℕ) (bids windows starts ends : List ℕ) (o : Order
       )
       go false u = omega (arith, List·getD-eq-default ends 0 {n = i} (omega (arith, ltb-false i n u)))
 
-  pub spans-have : spans starts ends ≡ hasOf t (rowsOf n bids) windows
-  unfolding spans hasOf holds
+  pub spans-have : spans starts ends ≡ auctionOf t n bids windows .has
+  unfolding spans holds
   spans-have = fun-ext (λ i. fun-ext (λ x. go i x (ltb i n) refl))
     where
       go : (i x : ℕ) (c : Bool) → ltb i n ≡ c → (leb (getD starts i 0) x && ltb x (getD ends i 0))
-          ≡ (ltb x (cellsOf t) && holds (own windows (getD (rowsOf n bids) i noRow)) (t .window .start + x))
+          ≡ auctionOf t n bids windows .has i x
       go i x true u =
           let l = ltb-true i n u in
-          rw (p .starts-are i l, p .ends-are i l, row-named n i bids l, own-one i l)
+          rw (p .starts-are i l, p .ends-are i l, row-cell t n bids windows i x l, own-one i l)
           (in-cell (windowAt windows (bidRowAt bids i .first) .start) (windowAt windows (bidRowAt bids i .first) .end) (t .window .start)
           (cellsOf t) x
           ∙ ap (λ b. ltb x (cellsOf t) && b) (sym (or-false

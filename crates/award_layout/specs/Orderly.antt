@@ -32,6 +32,11 @@ pub record Orderly (k : Kind) (n : ℕ) (bids windows : List ℕ) : Type 0 where
 abbrev pub clipped : ℕ → ℕ → ℕ → ℕ
 clipped start L minute = min (minute - start) L
 
+-- the prices of n bids
+pub record PricesLaid (n : ℕ) (bids prices : List ℕ) : Type 0 where
+  pub count : length prices ≡ n
+  pub prices-are : (i : ℕ) → i < n → getD prices i 0 ≡ bidRowAt bids i .price
+
 -- starts and ends of the one window of each bid, as cells
 pub record SpansLaid (n start L : ℕ) (bids windows starts ends : List ℕ) : Type 0 where
   pub starts-are : (i : ℕ) → i < n → getD starts i 0 ≡ clipped start L (windowAt windows (bidRowAt bids i .first) .start)

@@ -6,14 +6,13 @@ ghost use lib.ListN.{length, getD, drop};
 ghost use mathlib.Core.Bool.{true};
 ghost use Rattle.tender.specs.declared.Kind.the-variants.{Single, Multi};
 ghost use Rattle.tender.specs.Limits.{allLawful};
-ghost use Rattle.tender.specs.Tables.{rowsOf, windowsOf, bidWidth, windowWidth};
-ghost use Rattle.award_check.specs.Cells.{pricesOf};
-ghost use Rattle.award_layout.specs.Orderly.{bidRowAt, Orderly, clipped, SpansLaid, Masked, AllMasked};
+ghost use Rattle.tender.specs.Tables.{windowsOf, bidWidth, windowWidth};
+ghost use Rattle.award_layout.specs.Orderly.{bidRowAt, Orderly, clipped, PricesLaid, SpansLaid, Masked, AllMasked};
 
 // The prices of the bids.
 pub fn prices(bids: &[u64], out: &mut [u64])
     requires { ⌜ length (now out) ≤ length (now bids) / bidWidth ⌝ }
-    ensures { λ _. ⌜ now (out .exit) ≡ pricesOf (rowsOf (length (now (out .entry))) (now (bids .entry))) ⌝ }
+    ensures { λ _. ⌜ PricesLaid (length (now (out .entry))) (now (bids .entry)) (now (out .exit)) ⌝ }
 {
     let mut i = 0;
     while i < out.len() {

@@ -11,9 +11,9 @@ use lib.Dec.{ltb}
 use Rattle.tender.specs.declared.Kind.{Kind}
 use Rattle.tender.specs.declared.Kind.the-variants.{Single, Multi}
 use Rattle.tender.specs.declared.Tender.{Tender}
+use Rattle.tender.specs.declared.Totals.{Totals}
 use Rattle.tender.specs.declared.AwardRow.{AwardRow}
 use Rattle.tender.specs.declared.Refusal.the-variants.{BadTables, RowsTooFew}
-use Rattle.tender.specs.Tables.{rowsOf}
 use Rattle.cover.specs.Sets.{Found, nothing, found, bit, covers, cells}
 use Rattle.cover.specs.Earliest.{cellWith}
 use Rattle.cover.specs.LeastCover.{winners, vcgPaid}
@@ -22,64 +22,63 @@ use Rattle.cover.specs.CriticalPrice.{criticalPaid}
 use Rattle.cover.specs.SpareLaws.{Spare, enough-spare}
 use Rattle.cover.specs.SettledLaws.{length-listed}
 use Rattle.award_check.specs.Faults.{faultOf}
-use Rattle.award_check.specs.Cells.{cellsOf, hasOf, pricesOf}
-use Rattle.award_check.specs.AlikeLaws.{prices-count}
-use Rattle.award_plain.specs.Award.{won, cents, Outcome, awarded, declined, awardRows, costOf, paidOf, thinned, settled, judged}
-use Rattle.award_plain.specs.Award.{awardOf, outcomeNumber}
+use Rattle.award_check.specs.Auction.{Auction, auctionOf}
+use Rattle.award_check.specs.AuctionLaws.{owners-are, entries}
+use Rattle.award_plain.specs.Award.{won, cents, Outcome, awarded, declined, awardRows, totalsOf, thinned, settled, judged, awardOf}
+use Rattle.award_plain.specs.Award.{outcomeNumber}
 
-pub won-single : (has : ℕ → ℕ → Bool) (ps : List ℕ) (L i n : ℕ) → length ps ≡ n
-    → won Single has ps L i ≡ bit (winners (covers has n L) ps) i
+pub won-single : (A : Auction) (i n : ℕ) → length (A .prices) ≡ n
+    → won Single A i ≡ bit (winners (covers (A .has) n (A .cells)) (A .prices)) i
 unfolding won
-won-single has ps L i n e = rw (← e)
+won-single A i n e = rw (← e)
 
-pub cents-single : (has : ℕ → ℕ → Bool) (ps : List ℕ) (L i n : ℕ) → length ps ≡ n
-    → cents Single has ps L i ≡ vcgPaid (covers has n L) ps i
+pub cents-single : (A : Auction) (i n : ℕ) → length (A .prices) ≡ n
+    → cents Single A i ≡ vcgPaid (covers (A .has) n (A .cells)) (A .prices) i
 unfolding cents
-cents-single has ps L i n e = rw (← e)
+cents-single A i n e = rw (← e)
 
-pub won-multi : (has : ℕ → ℕ → Bool) (ps : List ℕ) (L i : ℕ) → won Multi has ps L i ≡ wins has ps (cells L) i
+pub won-multi : (A : Auction) (i : ℕ) → won Multi A i ≡ wins (A .has) (A .prices) (cells (A .cells)) i
 unfolding won
-won-multi has ps L i = refl
+won-multi A i = refl
 
-pub cents-multi : (has : ℕ → ℕ → Bool) (ps : List ℕ) (L i : ℕ) → cents Multi has ps L i ≡ criticalPaid has ps (cells L) i
+pub cents-multi : (A : Auction) (i : ℕ) → cents Multi A i ≡ criticalPaid (A .has) (A .prices) (cells (A .cells)) i
 unfolding cents
-cents-multi has ps L i = refl
+cents-multi A i = refl
 
 -- over cells
 
-pub settled-is : (k : Kind) (has : ℕ → ℕ → Bool) (ps : List ℕ) (L start : ℕ) (x y : Found)
-    → cellWith has (length ps) L 0 ≡ x
-    → cellWith has (length ps) L 1 ≡ y →
-    settled k has ps L start ≡ thinned start x y (awarded (awardRows k has ps L) (costOf k has ps L) (paidOf k has ps L))
+pub settled-is : (k : Kind) (A : Auction) (start : ℕ) (x y : Found) → cellWith (A .has) (A .owners) (A .cells) 0 ≡ x
+    → cellWith (A .has) (A .owners) (A .cells) 1 ≡ y
+    → settled k A start ≡ thinned start x y (awarded (awardRows k A) (totalsOf k A))
 unfolding settled
-settled-is k has ps L start x y e f = rw (e, f)
+settled-is k A start x y e f = rw (e, f)
 
 -- what an award that is not refused says
-pub record AwardOver (k : Kind) (has : ℕ → ℕ → Bool) (ps : List ℕ) (L : ℕ) (rows : List AwardRow) (cost paid : ℕ) : Type 0
-  where
-    pub spare : (k : ℕ) → Spare has (length ps) L k
-    pub rows-are : rows ≡ awardRows k has ps L
-    pub cost-is : cost ≡ costOf k has ps L
-    pub paid-is : paid ≡ paidOf k has ps L
+pub record AwardOver (k : Kind) (A : Auction) (rows : List AwardRow) (totals : Totals) : Type 0 where
+  pub spare : (i : ℕ) → Spare (A .has) (A .owners) (A .cells) i
+  pub rows-are : rows ≡ awardRows k A
+  pub totals-are : totals ≡ totalsOf k A
 
-pub settled-awarded : (k : Kind) (has : ℕ → ℕ → Bool) (ps : List ℕ) (L start : ℕ) (rows : List AwardRow) (cost paid : ℕ)
-    → settled k has ps L start ≡ awarded rows cost paid → AwardOver k has ps L rows cost paid
+pub settled-awarded : (k : Kind) (A : Auction) (start : ℕ) (rows : List AwardRow) (totals : Totals)
+    → settled k A start ≡ awarded rows totals → AwardOver k A rows totals
 unfolding thinned
-settled-awarded k has ps L start rows cost paid h = go (cellWith has (length ps) L 0) (cellWith has (length ps) L 1) refl refl
+settled-awarded k A start rows totals h =
+    go (cellWith (A .has) (A .owners) (A .cells) 0) (cellWith (A .has) (A .owners) (A .cells) 1) refl refl
   where
-    go : (x y : Found) → cellWith has (length ps) L 0 ≡ x → cellWith has (length ps) L 1 ≡ y → AwardOver k has ps L rows cost paid
-    go (found x) y e f = let z = sym (settled-is k has ps L start (found x) y e f) ∙ h in let z : _≡_ {A = ℕ} 0 1 = cc in
+    go : (x y : Found) → cellWith (A .has) (A .owners) (A .cells) 0 ≡ x → cellWith (A .has) (A .owners) (A .cells) 1 ≡ y
+        → AwardOver k A rows totals
+    go (found x) y e f = let z = sym (settled-is k A start (found x) y e f) ∙ h in let z : _≡_ {A = ℕ} 0 1 = cc in
         absurd (omega arith)
-    go nothing (found x) e f = let z = sym (settled-is k has ps L start nothing (found x) e f) ∙ h in let z : _≡_ {A = ℕ} 0 1 = cc in
+    go nothing (found x) e f = let z = sym (settled-is k A start nothing (found x) e f) ∙ h in let z : _≡_ {A = ℕ} 0 1 = cc in
         absurd (omega arith)
-    go nothing nothing e f = let z = sym (settled-is k has ps L start nothing nothing e f) ∙ h in
-        record { spare = enough-spare has (length ps) L e f; rows-are = cc; cost-is = cc; paid-is = cc }
+    go nothing nothing e f = let z = sym (settled-is k A start nothing nothing e f) ∙ h in
+        record { spare = enough-spare (A .has) (A .owners) (A .cells) e f; rows-are = cc; totals-are = cc }
 
 -- over tables
 
 award-is : (k : Kind) (t : Tender) (n : ℕ) (bids windows : List ℕ) (lent : ℕ) → awardOf k t n bids windows lent
     ≡ judged (faultOf k t n bids windows) (cond (ltb lent n) (declined RowsTooFew)
-    (settled k (hasOf t (rowsOf n bids) windows) (pricesOf (rowsOf n bids)) (cellsOf t) (t .window .start)))
+    (settled k (auctionOf t n bids windows) (t .window .start)))
 unfolding awardOf
 award-is k t n bids windows lent = refl
 
@@ -90,8 +89,7 @@ judged-none (some p) a e = let z : _≡_ {A = ℕ} 0 1 = cc in absurd (omega ari
 
 pub award-none : (k : Kind) (t : Tender) (n : ℕ) (bids windows : List ℕ) (lent : ℕ) → faultOf k t n bids windows ≡ none
     → awardOf k t n bids windows lent
-    ≡ cond (ltb lent n) (declined RowsTooFew) (settled k (hasOf t (rowsOf n bids) windows) (pricesOf (rowsOf n bids)) (cellsOf t)
-    (t .window .start))
+    ≡ cond (ltb lent n) (declined RowsTooFew) (settled k (auctionOf t n bids windows) (t .window .start))
 award-none k t n bids windows lent e = award-is k t n bids windows lent ∙ judged-none (faultOf k t n bids windows) _ e
 
 -- of the award rows lent it matters only whether there is one for every bid
@@ -120,47 +118,46 @@ no-fault k t n bids windows lent a e h = judged-nine (faultOf k t n bids windows
 
 -- where no rule is broken and each bid has an award row, what settles is answered
 pub award-settles : (k : Kind) (t : Tender) (n : ℕ) (bids windows : List ℕ) (lent : ℕ) → faultOf k t n bids windows ≡ none
-    → ltb lent n ≡ false → (x y : Found) →
-    cellWith (hasOf t (rowsOf n bids) windows) n (cellsOf t) 0 ≡ x → cellWith (hasOf t (rowsOf n bids) windows) n (cellsOf t) 1 ≡ y
-    → awardOf k t n bids windows lent
-    ≡ thinned (t .window .start) x y
-    (awarded (awardRows k (hasOf t (rowsOf n bids) windows) (pricesOf (rowsOf n bids)) (cellsOf t))
-    (costOf k (hasOf t (rowsOf n bids) windows) (pricesOf (rowsOf n bids)) (cellsOf t))
-    (paidOf k (hasOf t (rowsOf n bids) windows) (pricesOf (rowsOf n bids)) (cellsOf t)))
+    → ltb lent n ≡ false → (x y : Found) → cellWith (auctionOf t n bids windows .has) n (auctionOf t n bids windows .cells) 0 ≡ x
+    → cellWith (auctionOf t n bids windows .has) n (auctionOf t n bids windows .cells) 1 ≡ y → awardOf k t n bids windows lent
+    ≡ thinned (t .window .start) x y (awarded (awardRows k (auctionOf t n bids windows)) (totalsOf k (auctionOf t n bids windows)))
 award-settles k t n bids windows lent f g x y d e =
     award-none k t n bids windows lent f
-    ∙ ap (λ z. cond z (declined RowsTooFew) (settled k (hasOf t (rowsOf n bids) windows) (pricesOf (rowsOf n bids)) (cellsOf t)
-    (t .window .start))) g
-    ∙ settled-is k (hasOf t (rowsOf n bids) windows) (pricesOf (rowsOf n bids)) (cellsOf t) (t .window .start) x y
-    (rw (prices-count n bids) d) (rw (prices-count n bids) e)
+    ∙ ap (λ z. cond z (declined RowsTooFew) (settled k (auctionOf t n bids windows) (t .window .start))) g
+    ∙ settled-is k (auctionOf t n bids windows) (t .window .start) x y (rw (owners-are t n bids windows) d)
+    (rw (owners-are t n bids windows) e)
 
 -- what an answer that awards says
 pub record AwardOn (k : Kind) (t : Tender) (n : ℕ) (bids windows : List ℕ) (lent : ℕ) (rows : List AwardRow)
-    (cost paid : ℕ) : Type 0 where
+    (totals : Totals) : Type 0 where
   pub sound : faultOf k t n bids windows ≡ none
   pub enough : ltb lent n ≡ false
-  pub settles : AwardOver k (hasOf t (rowsOf n bids) windows) (pricesOf (rowsOf n bids)) (cellsOf t) rows cost paid
+  pub settles : AwardOver k (auctionOf t n bids windows) rows totals
 
-pub award-awarded : (k : Kind) (t : Tender) (n : ℕ) (bids windows : List ℕ) (lent : ℕ) (rows : List AwardRow) (cost paid : ℕ)
-    → awarded rows cost paid ≡ awardOf k t n bids windows lent → AwardOn k t n bids windows lent rows cost paid
+pub award-awarded : (k : Kind) (t : Tender) (n : ℕ) (bids windows : List ℕ) (lent : ℕ) (rows : List AwardRow) (totals : Totals)
+    → awarded rows totals ≡ awardOf k t n bids windows lent → AwardOn k t n bids windows lent rows totals
 unfolding outcomeNumber
-award-awarded k t n bids windows lent rows cost paid e =
-    let f = no-fault k t n bids windows lent (awarded rows cost paid) e (λ z. omega arith) in
+award-awarded k t n bids windows lent rows totals e =
+    let f = no-fault k t n bids windows lent (awarded rows totals) e (λ z. omega arith) in
     go f (ltb lent n) refl (sym (award-none k t n bids windows lent f) ∙ sym e)
   where
     go : faultOf k t n bids windows ≡ none → (b : Bool) → ltb lent n ≡ b
-        → cond b (declined RowsTooFew) (settled k (hasOf t (rowsOf n bids) windows) (pricesOf (rowsOf n bids)) (cellsOf t)
-        (t .window .start)) ≡ awarded rows cost paid → AwardOn k t n bids windows lent rows cost paid
+        → cond b (declined RowsTooFew) (settled k (auctionOf t n bids windows) (t .window .start)) ≡ awarded rows totals
+        → AwardOn k t n bids windows lent rows totals
     go f true d h = let z : _≡_ {A = ℕ} 0 1 = cc in absurd (omega arith)
     go f false d h = record {
       sound = f;
       enough = d;
-      settles = settled-awarded k (hasOf t (rowsOf n bids) windows) (pricesOf (rowsOf n bids)) (cellsOf t) (t .window .start) rows cost
-          paid h;
+      settles = settled-awarded k (auctionOf t n bids windows) (t .window .start) rows totals h;
     }
 
-module _ (k : Kind) (t : Tender) (n : ℕ) (bids windows : List ℕ) (lent : ℕ) (rows : List AwardRow) (cost paid : ℕ)
-    (w : AwardOn k t n bids windows lent rows cost paid) where
+module _ (k : Kind) (t : Tender) (n : ℕ) (bids windows : List ℕ) (lent : ℕ) (rows : List AwardRow) (totals : Totals)
+    (w : AwardOn k t n bids windows lent rows totals) where
   pub rows-count : length rows ≡ n
   unfolding awardRows
-  rows-count = ap length (w .settles .rows-are) ∙ length-listed (length (pricesOf (rowsOf n bids))) _ ∙ prices-count n bids
+  rows-count = ap length (w .settles .rows-are) ∙ length-listed (auctionOf t n bids windows .owners) _ ∙ owners-are t n bids windows
+
+  -- the entries but any one have every cell
+  pub spared : (i : ℕ) → Spare (auctionOf t n bids windows .has) (length (auctionOf t n bids windows .prices))
+      (auctionOf t n bids windows .cells) i
+  spared i = rw (entries t n bids windows) (rw (owners-are t n bids windows) at (w .settles .spare i))

@@ -14,7 +14,7 @@ use Rattle.tender.specs.declared.Tender.{Tender}
 use Rattle.tender.specs.declared.Totals.{Totals}
 use Rattle.tender.specs.declared.Refusal.the-variants.{MinuteUncovered, OneBidder}
 use Rattle.tender.specs.Limits.{maxEntries}
-use Rattle.tender.specs.Tables.{rowsOf, bidWidth}
+use Rattle.tender.specs.Tables.{bidWidth}
 use Rattle.cover.specs.Sets.{cells}
 use Rattle.cover.specs.SpareLaws.{Spare, enough-spare}
 use Rattle.cover.specs.Greedy.{wins}
@@ -25,10 +25,11 @@ use Rattle.multi_rounds.specs.Market.{has, Market}
 use Rattle.award_thin.specs.declared.Thin.the-variants.{Nobody, Alone, Enough}
 use Rattle.award_thin.specs.Thin.{Says}
 use Rattle.award_check.specs.Faults.{faultOf}
-use Rattle.award_check.specs.Cells.{cellsOf, hasOf, pricesOf}
-use Rattle.award_check.specs.AlikeLaws.{prices-count, price-named}
-use Rattle.award_layout.specs.Orderly.{Orderly, AllMasked}
-use Rattle.award_layout.specs.LayoutLaws.{orderly, timed, masks-have}
+use Rattle.award_check.specs.Cells.{cellsOf}
+use Rattle.award_check.specs.Auction.{Auction, auctionOf}
+use Rattle.award_check.specs.AuctionLaws.{entries, price-named}
+use Rattle.award_layout.specs.Orderly.{Orderly, PricesLaid, AllMasked}
+use Rattle.award_layout.specs.LayoutLaws.{orderly, timed, prices-laid, masks-have}
 use Rattle.tender.specs.declared.Answer.the-variants.{Awarded, Refused}
 use Rattle.award_plain.specs.Plain.{PlainPromise}
 use Rattle.award_plain.specs.PlainLaws.{eleven, twelve, awards, multi-won, multi-cents}
@@ -38,22 +39,23 @@ pub entries-few : (k : Kind) (t : Tender) (n : ℕ) (bids windows : List ℕ) �
 entries-few k t n bids windows f = omega (arith, orderly k t n bids windows f .few)
 
 -- the prices of orderly rows are within the limit
-pub prices-lawful : (k : Kind) (n : ℕ) (bids windows : List ℕ) → Orderly k n bids windows → Priced (pricesOf (rowsOf n bids))
-prices-lawful k n bids windows o = record { count = omega (arith, o .few, prices-count n bids); most = most }
+pub prices-lawful : (k : Kind) (t : Tender) (n : ℕ) (bids windows : List ℕ) → Orderly k n bids windows
+    → Priced (auctionOf t n bids windows .prices)
+prices-lawful k t n bids windows o = record { count = omega (arith, o .few, entries t n bids windows); most = most }
   where
-    most : (i : ℕ) → getD (pricesOf (rowsOf n bids)) i 0 ≤ 100000000
+    most : (i : ℕ) → getD (auctionOf t n bids windows .prices) i 0 ≤ 100000000
     most i = go (ltb i n) refl
       where
-        go : (b : Bool) → ltb i n ≡ b → getD (pricesOf (rowsOf n bids)) i 0 ≤ 100000000
+        go : (b : Bool) → ltb i n ≡ b → getD (auctionOf t n bids windows .prices) i 0 ≤ 100000000
         go true u = omega (
           arith,
-          price-named n i bids (ltb-true i n u),
+          price-named t n bids windows i (ltb-true i n u),
           leb-true (getD bids (bidWidth * i + 1) 0) 100000000 (o .kept i (ltb-true i n u) .price),
         )
         go false u = omega (
           arith,
-          List·getD-eq-default (pricesOf (rowsOf n bids)) 0 {n = i}
-              (omega (arith, ltb-false i n u, prices-count n bids)),
+          List·getD-eq-default (auctionOf t n bids windows .prices) 0 {n = i}
+              (omega (arith, ltb-false i n u, entries t n bids windows)),
         )
 
 -- the words of a tender's cells
@@ -79,43 +81,43 @@ words-of k t n w bids windows f e = let d = timed k t n bids windows f in
 
 module _ (t : Tender) (n w : ℕ) (bids windows ms ps ow oc : List ℕ) (f : faultOf Multi t n bids windows ≡ none)
     (size : length ms ≡ w * n)
-    (m : AllMasked n (t .window .start) (cellsOf t) w bids windows ms) (p : ps ≡ pricesOf (rowsOf n bids)) where
-  same : has ms w ≡ hasOf t (rowsOf n bids) windows
+    (m : AllMasked n (t .window .start) (cellsOf t) w bids windows ms) (p : PricesLaid n bids ps) where
+  abbrev A : Auction
+  A = auctionOf t n bids windows
+
+  same : has ms w ≡ A .has
   same = masks-have t n w bids windows ms size m
 
-  count : length ps ≡ n
-  count = ap length p ∙ prices-count n bids
+  priced : ps ≡ A .prices
+  priced = prices-laid t n bids windows ps p
 
-  pub uncovered : (x : ℕ) → Says (has ms w) n (cellsOf t) (Nobody x)
+  pub uncovered : (x : ℕ) → Says (has ms w) n (A .cells) (Nobody x)
       → PlainPromise Multi t n bids windows n ow oc ow oc (Refused (MinuteUncovered (t .window .start + x)))
   uncovered x s = eleven Multi t n bids windows n ow oc f (omega arith) x (rw same at s)
 
-  pub lone : (x : ℕ) → Says (has ms w) n (cellsOf t) (Alone x)
+  pub lone : (x : ℕ) → Says (has ms w) n (A .cells) (Alone x)
       → PlainPromise Multi t n bids windows n ow oc ow oc (Refused (OneBidder (t .window .start + x)))
   lone x s = let h = rw same at s in twelve Multi t n bids windows n ow oc f (omega arith) x (h .0) (h .1)
 
   pub market : Words t w → Market ps ms w
   market d = record {
-    priced = rw p (prices-lawful Multi n bids windows (orderly Multi t n bids windows f));
+    priced = rw priced (prices-lawful Multi t n bids windows (orderly Multi t n bids windows f));
     size = size
-        ∙ ap (λ (k : ℕ). w * k) (sym count);
+        ∙ ap (λ (k : ℕ). w * k) (sym (p .count));
     words = d .words;
   }
 
-  pub spared : Says (has ms w) n (cellsOf t) Enough → (k : ℕ) → Spare (has ms w) (length ps) (cellsOf t) k
-  spared s = rw count (enough-spare (has ms w) n (cellsOf t) (s .0) (s .1))
+  pub spared : Says (has ms w) n (A .cells) Enough → (k : ℕ) → Spare (has ms w) (length ps) (A .cells) k
+  spared s = rw (p .count) (enough-spare (has ms w) n (A .cells) (s .0) (s .1))
 
-  pub settled : Says (has ms w) n (cellsOf t) Enough → (nw nc : List ℕ) (totals : Totals) →
-      Settled (wins (has ms w) ps (cells (cellsOf t))) (roundsPaid (has ms w) ps (cells (cellsOf t))) ps ow oc nw nc (totals .cost)
+  pub settled : Says (has ms w) n (A .cells) Enough → (nw nc : List ℕ) (totals : Totals) →
+      Settled (wins (has ms w) ps (cells (A .cells))) (roundsPaid (has ms w) ps (cells (A .cells))) ps ow oc nw nc (totals .cost)
       (totals .paid) →
       PlainPromise Multi t n bids windows n ow oc nw nc (Awarded totals)
   settled s nw nc totals h =
       let h′ = rw same at s in
-      let ps′ = pricesOf (rowsOf n bids) in
-      let c : length ps′ ≡ n = prices-count n bids in
-      awards Multi t n bids windows n ow oc f (omega arith) (h′ .0) (h′ .1)
-      (wins (hasOf t (rowsOf n bids) windows) ps′ (cells (cellsOf t)))
-      (roundsPaid (hasOf t (rowsOf n bids) windows) ps′ (cells (cellsOf t)))
-      (λ i l. multi-won (hasOf t (rowsOf n bids) windows) ps′ (cellsOf t) i)
-      (λ i l. multi-cents (hasOf t (rowsOf n bids) windows) ps′ (cellsOf t) i (omega arith)
-      (rw c (enough-spare (hasOf t (rowsOf n bids) windows) n (cellsOf t) (h′ .0) (h′ .1) i))) nw nc totals (rw (same, p) at h)
+      let c : length (A .prices) ≡ n = entries t n bids windows in
+      awards Multi t n bids windows n ow oc f (omega arith) (h′ .0) (h′ .1) (wins (A .has) (A .prices) (cells (A .cells)))
+      (roundsPaid (A .has) (A .prices) (cells (A .cells))) (λ i l. multi-won A i)
+      (λ i l. multi-cents A i (omega arith) (rw c (enough-spare (A .has) n (A .cells) (h′ .0) (h′ .1) i))) nw nc totals
+      (rw (same, priced) at h)

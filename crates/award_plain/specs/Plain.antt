@@ -25,16 +25,16 @@ rowsIn n won cents = listed n (λ i. rowOf (getD won i 0) (getD cents i 0))
 -- what a call on n bids told: its answer, and the flags and cents of the n bids where it awards
 unfoldable pub toldIn : ℕ → List ℕ → List ℕ → Answer → Outcome
 unfolding rowsIn
-toldIn n won cents (Awarded totals) = awarded (rowsIn n won cents) (totals .cost) (totals .paid)
+toldIn n won cents (Awarded totals) = awarded (rowsIn n won cents) totals
 toldIn n won cents (Refused r) = declined r
 
 -- the lent lists after the call: places past the last bid stay, and all of them where the award declines
 unfoldable pub wonAfter : List ℕ → Outcome → List ℕ
-wonAfter old (awarded rows cost paid) = map (λ r. when (r .won) 1) rows ++ drop (length rows) old
+wonAfter old (awarded rows totals) = map (λ r. when (r .won) 1) rows ++ drop (length rows) old
 wonAfter old (refused n at) = old
 
 unfoldable pub centsAfter : List ℕ → Outcome → List ℕ
-centsAfter old (awarded rows cost paid) = map (λ r. r .cents) rows ++ drop (length rows) old
+centsAfter old (awarded rows totals) = map (λ r. r .cents) rows ++ drop (length rows) old
 centsAfter old (refused n at) = old
 
 -- the promise of a call, with `lent` award rows: it leaves the lists won′ and cents′ and answers a

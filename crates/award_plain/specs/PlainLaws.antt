@@ -2,7 +2,7 @@
 -- Assumes nothing.
 use mathlib.Core.Path.{_≡_, refl, sym, ap, _∙_}
 use mathlib.Core.List.{List, _++_, map}
-use mathlib.Core.Bool.{Bool, true, cond}
+use mathlib.Core.Bool.{Bool, cond}
 use mathlib.Core.Option.{none, some}
 use Prim.Native.Nat.{ℕ, _+_, _≤_, _<_}
 use native.Mathlib.Omega.{arith}
@@ -15,8 +15,7 @@ use Rattle.tender.specs.declared.Tender.{Tender}
 use Rattle.tender.specs.declared.Totals.{Totals}
 use Rattle.tender.specs.declared.Refusal.{Refusal}
 use Rattle.tender.specs.declared.Refusal.the-variants.{BadTables, RowsTooFew, MinuteUncovered, OneBidder}
-use Rattle.tender.specs.Tables.{rowsOf}
-use Rattle.cover.specs.Sets.{when, nothing, found, covers, cells, bit}
+use Rattle.cover.specs.Sets.{when, nothing, found, cells, bit}
 use Rattle.cover.specs.Earliest.{cellWith}
 use Rattle.cover.specs.SetLaws.{when-is}
 use Rattle.cover.specs.LeastCover.{winners, vcgPaid}
@@ -28,24 +27,27 @@ use Rattle.cover.specs.Settled.{listed}
 use Rattle.cover.specs.Settled as core
 use Rattle.cover.specs.SettledLaws.{length-listed, getD-listed, listed-same, map-listed}
 use Rattle.award_check.specs.Faults.{faultOf}
-use Rattle.award_check.specs.Cells.{cellsOf, hasOf, pricesOf}
-use Rattle.award_check.specs.AlikeLaws.{prices-count}
+use Rattle.award_check.specs.Auction.{Auction, auctionOf}
+use Rattle.award_check.specs.AuctionLaws.{owners-are, entries}
 use Rattle.tender.specs.declared.Answer.{Answer}
 use Rattle.tender.specs.declared.Answer.the-variants.{Awarded, Refused}
-use Rattle.award_plain.specs.Award.{won, cents, awarded, declined, awardRows, costOf, paidOf, thinned, settled, awardOf}
+use Rattle.award_plain.specs.Award.{coversIn, won, cents, awarded, declined, awardRows, totalsOf, thinned, settled, awardOf}
 use Rattle.award_plain.specs.Plain.{rowsIn, toldIn, wonAfter, centsAfter, PlainPromise}
 use Rattle.award_plain.specs.AwardLaws.{won-single, cents-single, won-multi, cents-multi, award-none, award-lent, award-nine}
 use Rattle.award_plain.specs.AwardLaws.{award-settles}
 
+same-totals : (a b : Totals) → a .cost ≡ b .cost → a .paid ≡ b .paid → a ≡ b
+same-totals a b e f = ap (λ (v : ℕ). record { cost = v; paid = a .paid }) e ∙ ap (λ (v : ℕ). record { cost = b .cost; paid = v }) f
+
 module _ (k : Kind) (t : Tender) (n : ℕ) (bids windows : List ℕ) (lent : ℕ) (ow oc : List ℕ) where
-  abbrev has : ℕ → ℕ → Bool
-  has = hasOf t (rowsOf n bids) windows
+  abbrev A : Auction
+  A = auctionOf t n bids windows
 
   abbrev ps : List ℕ
-  ps = pricesOf (rowsOf n bids)
+  ps = A .prices
 
-  abbrev L : ℕ
-  L = cellsOf t
+  size : length ps ≡ n
+  size = entries t n bids windows
 
   -- a refusal leaves the lists
   refuses : (r : Refusal) → awardOf k t n bids windows lent ≡ declined r
@@ -60,87 +62,93 @@ module _ (k : Kind) (t : Tender) (n : ℕ) (bids windows : List ℕ) (lent : ℕ
   module _ (f : faultOf k t n bids windows ≡ none) where
     pub ten : lent < n → PlainPromise k t n bids windows lent ow oc ow oc (Refused RowsTooFew)
     ten l = refuses RowsTooFew (award-none k t n bids windows lent f
-        ∙ ap (λ b. cond b (declined RowsTooFew) (settled k has ps L (t .window .start))) (lt-ltb lent n l))
+        ∙ ap (λ b. cond b (declined RowsTooFew) (settled k A (t .window .start))) (lt-ltb lent n l))
 
     module _ (enough : n ≤ lent) where
-      pub eleven : (x : ℕ) → cellWith has n L 0 ≡ found x
+      pub eleven : (x : ℕ) → cellWith (A .has) n (A .cells) 0 ≡ found x
           → PlainPromise k t n bids windows lent ow oc ow oc (Refused (MinuteUncovered (t .window .start + x)))
       unfolding thinned
       eleven x e = refuses (MinuteUncovered (t .window .start + x))
-          (award-settles k t n bids windows lent f (le-ltb lent n enough) (found x) (cellWith has n L 1) e refl)
+          (award-settles k t n bids windows lent f (le-ltb lent n enough) (found x) (cellWith (A .has) n (A .cells) 1) e refl)
 
-      pub twelve : (x : ℕ) → cellWith has n L 0 ≡ nothing → cellWith has n L 1 ≡ found x
+      pub twelve : (x : ℕ) → cellWith (A .has) n (A .cells) 0 ≡ nothing → cellWith (A .has) n (A .cells) 1 ≡ found x
           → PlainPromise k t n bids windows lent ow oc ow oc (Refused (OneBidder (t .window .start + x)))
       unfolding thinned
       twelve x d e = refuses (OneBidder (t .window .start + x))
           (award-settles k t n bids windows lent f (le-ltb lent n enough) nothing (found x) d e)
 
       -- a core settles by the flags w and the payments c, which are those of the definitions
-      module _ (covered : cellWith has n L 0 ≡ nothing) (doubled : cellWith has n L 1 ≡ nothing) (w : ℕ → Bool) (c : ℕ → ℕ)
-          (w-is : (i : ℕ) → i < n → w i ≡ won k has ps L i) (c-is : (i : ℕ) → i < n → c i ≡ cents k has ps L i)
+      module _ (covered : cellWith (A .has) n (A .cells) 0 ≡ nothing) (doubled : cellWith (A .has) n (A .cells) 1 ≡ nothing)
+          (w : ℕ → Bool) (c : ℕ → ℕ)
+          (w-is : (i : ℕ) → i < n → w i ≡ won k A i) (c-is : (i : ℕ) → i < n → c i ≡ cents k A i)
           (nw nc : List ℕ) (totals : Totals) (s : core.Settled w c ps ow oc nw nc (totals .cost) (totals .paid)) where
-        rows-are : rowsIn n nw nc ≡ awardRows k has ps L
+        owned : length ps ≡ A .owners
+        owned = size ∙ sym (owners-are t n bids windows)
+
+        rows-are : rowsIn n nw nc ≡ awardRows k A
         unfolding rowsIn awardRows
         rows-are =
             listed-same n (λ i. record { won = eqb (getD nw i 0) 1; cents = getD nc i 0 })
-            (λ i. record { won = won k has ps L i; cents = cents k has ps L i }) (λ i l. rw (flag-at i l, pay-at i l))
-            ∙ ap (λ (m : ℕ). listed m (λ i. record { won = won k has ps L i; cents = cents k has ps L i }))
-            (sym (prices-count n bids))
+            (λ i. record { won = won k A i; cents = cents k A i }) (λ i l. rw (flag-at i l, pay-at i l))
+            ∙ ap (λ (m : ℕ). listed m (λ i. record { won = won k A i; cents = cents k A i })) (sym (owners-are t n bids windows))
           where
-            flag-at : (i : ℕ) → i < n → eqb (getD nw i 0) 1 ≡ won k has ps L i
+            flag-at : (i : ℕ) → i < n → eqb (getD nw i 0) 1 ≡ won k A i
             flag-at i l =
                 ap (λ (v : ℕ). eqb v 1) (ap (λ (zs : List ℕ). getD zs i 0) (s .flags)
                 ∙ List·getD-append (listed (length ps) (λ i. when (w i) 1)) (drop (length ps) ow) 0 i
-                (omega (arith, length-listed (length ps) (λ i. when (w i) 1), prices-count n bids))
-                ∙ getD-listed (length ps) (λ i. when (w i) 1) i 0 (omega (arith, prices-count n bids)))
+                (omega (arith, length-listed (length ps) (λ i. when (w i) 1), size))
+                ∙ getD-listed (length ps) (λ i. when (w i) 1) i 0 (omega (arith, size)))
                 ∙ when-is (w i) ∙ w-is i l
 
-            pay-at : (i : ℕ) → i < n → getD nc i 0 ≡ cents k has ps L i
+            pay-at : (i : ℕ) → i < n → getD nc i 0 ≡ cents k A i
             pay-at i l =
                 ap (λ (zs : List ℕ). getD zs i 0) (s .payments)
                 ∙ List·getD-append (listed (length ps) c) (drop (length ps) oc) 0 i
-                (omega (arith, length-listed (length ps) c, prices-count n bids))
-                ∙ getD-listed (length ps) c i 0 (omega (arith, prices-count n bids)) ∙ c-is i l
+                (omega (arith, length-listed (length ps) c, size))
+                ∙ getD-listed (length ps) c i 0 (omega (arith, size)) ∙ c-is i l
 
-        cost-is : totals .cost ≡ costOf k has ps L
-        unfolding costOf
-        cost-is = s .cost-is ∙ ap sum (listed-same (length ps) (λ i. when (w i) (getD ps i 0))
-            (λ i. when (won k has ps L i) (getD ps i 0)) (λ i l. ap (λ b. when b (getD ps i 0))
-            (w-is i (omega (arith, prices-count n bids)))))
+        cost-is : totals .cost ≡ totalsOf k A .cost
+        unfolding totalsOf
+        cost-is = s .cost-is ∙ ap sum (listed-same (length ps) (λ i. when (w i) (getD ps i 0)) (λ i. when (won k A i) (getD ps i 0))
+            (λ i l. ap (λ b. when b (getD ps i 0)) (w-is i (omega (arith, size)))))
 
-        paid-is : totals .paid ≡ paidOf k has ps L
-        unfolding paidOf
-        paid-is = s .paid-is ∙ ap sum (listed-same (length ps) c (cents k has ps L) (λ i l. c-is i (omega (arith, prices-count n bids))))
+        paid-is : totals .paid ≡ totalsOf k A .paid
+        unfolding totalsOf
+        paid-is = s .paid-is ∙ ap sum (listed-same (length ps) c (cents k A) (λ i l. c-is i (omega (arith, size)))
+            ∙ ap (λ (m : ℕ). listed m (cents k A)) owned)
 
-        outcome-is : toldIn n nw nc (Awarded totals) ≡ awarded (awardRows k has ps L) (costOf k has ps L) (paidOf k has ps L)
+        outcome-is : toldIn n nw nc (Awarded totals) ≡ awarded (awardRows k A) (totalsOf k A)
         unfolding toldIn
-        outcome-is = rw (rows-are, cost-is, paid-is)
+        outcome-is = ap (λ rows. awarded rows totals) rows-are
+            ∙ ap (awarded (awardRows k A)) (same-totals totals (totalsOf k A) cost-is paid-is)
 
-        rows-count : length (awardRows k has ps L) ≡ length ps
+        rows-count : length (awardRows k A) ≡ length ps
         unfolding awardRows
-        rows-count = length-listed (length ps) _
+        rows-count = length-listed (A .owners) _ ∙ sym owned
 
-        flags-are : map (λ r. when (r .won) 1) (awardRows k has ps L) ≡ listed (length ps) (λ i. when (w i) 1)
+        flags-are : map (λ r. when (r .won) 1) (awardRows k A) ≡ listed (length ps) (λ i. when (w i) 1)
         unfolding awardRows
         flags-are =
-            map-listed (length ps) (λ i. record { won = won k has ps L i; cents = cents k has ps L i }) (λ r. when (r .won) 1)
-            ∙ listed-same (length ps) (λ i. when (won k has ps L i) 1) (λ i. when (w i) 1)
-            (λ i l. ap (λ b. when b 1) (sym (w-is i (omega (arith, prices-count n bids)))))
+            map-listed (A .owners) (λ i. record { won = won k A i; cents = cents k A i }) (λ r. when (r .won) 1)
+            ∙ ap (λ (m : ℕ). listed m (λ i. when (won k A i) 1)) (sym owned)
+            ∙ listed-same (length ps) (λ i. when (won k A i) 1) (λ i. when (w i) 1)
+            (λ i l. ap (λ b. when b 1) (sym (w-is i (omega (arith, size)))))
 
-        pays-are : map (λ r. r .cents) (awardRows k has ps L) ≡ listed (length ps) c
+        pays-are : map (λ r. r .cents) (awardRows k A) ≡ listed (length ps) c
         unfolding awardRows
         pays-are =
-            map-listed (length ps) (λ i. record { won = won k has ps L i; cents = cents k has ps L i }) (λ r. r .cents)
-            ∙ listed-same (length ps) (cents k has ps L) c (λ i l. sym (c-is i (omega (arith, prices-count n bids))))
+            map-listed (A .owners) (λ i. record { won = won k A i; cents = cents k A i }) (λ r. r .cents)
+            ∙ ap (λ (m : ℕ). listed m (cents k A)) (sym owned)
+            ∙ listed-same (length ps) (cents k A) c (λ i l. sym (c-is i (omega (arith, size))))
 
-        won-after : nw ≡ wonAfter ow (awarded (awardRows k has ps L) (costOf k has ps L) (paidOf k has ps L))
+        won-after : nw ≡ wonAfter ow (awarded (awardRows k A) (totalsOf k A))
         unfolding wonAfter
-        won-after = s .flags ∙ sym (ap (λ l. l ++ drop (length (awardRows k has ps L)) ow) flags-are
+        won-after = s .flags ∙ sym (ap (λ l. l ++ drop (length (awardRows k A)) ow) flags-are
             ∙ ap (λ (m : ℕ). listed (length ps) (λ i. when (w i) 1) ++ drop m ow) rows-count)
 
-        cents-after : nc ≡ centsAfter oc (awarded (awardRows k has ps L) (costOf k has ps L) (paidOf k has ps L))
+        cents-after : nc ≡ centsAfter oc (awarded (awardRows k A) (totalsOf k A))
         unfolding centsAfter
-        cents-after = s .payments ∙ sym (ap (λ l. l ++ drop (length (awardRows k has ps L)) oc) pays-are
+        cents-after = s .payments ∙ sym (ap (λ l. l ++ drop (length (awardRows k A)) oc) pays-are
             ∙ ap (λ (m : ℕ). listed (length ps) c ++ drop m oc) rows-count)
 
         pub awards : PlainPromise k t n bids windows lent ow oc nw nc (Awarded totals)
@@ -153,20 +161,19 @@ module _ (k : Kind) (t : Tender) (n : ℕ) (bids windows : List ℕ) (lent : ℕ
 
 -- what the two cores settle by is what the definitions say
 
-pub single-won : (has : ℕ → ℕ → Bool) (ps : List ℕ) (L i : ℕ)
-    → bit (winners (covers has (length ps) L) ps) i ≡ won Single has ps L i
-single-won has ps L i = sym (won-single has ps L i (length ps) refl)
+pub single-won : (A : Auction) (i : ℕ) → bit (winners (coversIn A) (A .prices)) i ≡ won Single A i
+single-won A i = sym (won-single A i (length (A .prices)) refl)
 
-pub single-cents : (has : ℕ → ℕ → Bool) (ps : List ℕ) (L i : ℕ)
-    → vcgPaid (covers has (length ps) L) ps i ≡ cents Single has ps L i
-single-cents has ps L i = sym (cents-single has ps L i (length ps) refl)
+pub single-cents : (A : Auction) (i : ℕ) → vcgPaid (coversIn A) (A .prices) i ≡ cents Single A i
+single-cents A i = sym (cents-single A i (length (A .prices)) refl)
 
-pub multi-won : (has : ℕ → ℕ → Bool) (ps : List ℕ) (L i : ℕ) → wins has ps (cells L) i ≡ won Multi has ps L i
-multi-won has ps L i = sym (won-multi has ps L i)
+pub multi-won : (A : Auction) (i : ℕ) → wins (A .has) (A .prices) (cells (A .cells)) i ≡ won Multi A i
+multi-won A i = sym (won-multi A i)
 
-pub multi-cents : (has : ℕ → ℕ → Bool) (ps : List ℕ) (L i : ℕ) → i < length ps → Spare has (length ps) L i
-    → roundsPaid has ps (cells L) i ≡ cents Multi has ps L i
-multi-cents has ps L i l y = sym (cents-multi has ps L i ∙ paid-by-rounds has ps (cells L) i l (spare-bids has (length ps) L i y ps))
+pub multi-cents : (A : Auction) (i : ℕ) → i < length (A .prices) → Spare (A .has) (length (A .prices)) (A .cells) i
+    → roundsPaid (A .has) (A .prices) (cells (A .cells)) i ≡ cents Multi A i
+multi-cents A i l y = sym (cents-multi A i
+    ∙ paid-by-rounds (A .has) (A .prices) (cells (A .cells)) i l (spare-bids (A .has) (length (A .prices)) (A .cells) i y (A .prices)))
 
 -- more award rows than bids change nothing
 pub lent-more : (k : Kind) (t : Tender) (n : ℕ) (bids windows : List ℕ) (lent : ℕ) (ow oc nw nc : List ℕ) (a : Answer)

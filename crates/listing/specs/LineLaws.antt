@@ -53,22 +53,23 @@ wins-short R rows (suc n) = go (getD rows n lost .won) (wins-short R rows n)
 -- with at most 1,000 bids no list is empty and none is longer than 51,200 bytes
 pub lines-short : (t : Tender) (R : List Row) (o : Outcome) → length R ≤ 1000 → length (listLines t R o) ≤ 51200
 unfolding listLines totalWord refusedWord bytes
-lines-short t R (awarded rows cost paid) l = omega (
+lines-short t R (awarded rows totals) l = omega (
   arith,
-  length-append (awardLine t ++ winList R rows (length R)) (pairLine (116 ∷ 111 ∷ 116 ∷ 97 ∷ 108 ∷ []) cost paid),
+  length-append (awardLine t ++ winList R rows (length R))
+      (pairLine (116 ∷ 111 ∷ 116 ∷ 97 ∷ 108 ∷ []) (totals .cost) (totals .paid)),
   length-append (awardLine t) (winList R rows (length R)),
   award-short t,
   wins-short R rows (length R),
-  pair-short (116 ∷ 111 ∷ 116 ∷ 97 ∷ 108 ∷ []) cost paid,
+  pair-short (116 ∷ 111 ∷ 116 ∷ 97 ∷ 108 ∷ []) (totals .cost) (totals .paid),
 )
 lines-short t R (refused n at) l = omega (arith, pair-short (114 ∷ 101 ∷ 102 ∷ 117 ∷ 115 ∷ 101 ∷ 100 ∷ []) n at)
 
 pub lines-some : (t : Tender) (R : List Row) (o : Outcome) → 0 < length (listLines t R o)
 unfolding listLines
-lines-some t R (awarded rows cost paid) = omega (
+lines-some t R (awarded rows totals) = omega (
   arith,
-  length-append (awardLine t ++ winList R rows (length R)) (pairLine totalWord cost paid),
-  pair-some totalWord cost paid,
+  length-append (awardLine t ++ winList R rows (length R)) (pairLine totalWord (totals .cost) (totals .paid)),
+  pair-some totalWord (totals .cost) (totals .paid),
 )
 lines-some t R (refused n at) = pair-some refusedWord n at
 

@@ -25,7 +25,7 @@ winList R rows (suc n) = winList R rows n ++ cond (getD rows n lost .won)
 -- the list of an award's outcome: kind, start and end; the winners; cost and sum paid. A refusal is the whole list
 unfoldable pub listLines : Tender → List Row → Outcome → List ℕ
 unfolding awardLine winList pairLine totalWord refusedWord
-listLines t R (awarded rows cost paid) = awardLine t ++ winList R rows (length R) ++ pairLine totalWord cost paid
+listLines t R (awarded rows totals) = awardLine t ++ winList R rows (length R) ++ pairLine totalWord (totals .cost) (totals .paid)
 listLines t R (refused n at) = pairLine refusedWord n at
 
 -- the list of a text, by what reading it answers: of the award on what was read, with an award row for every bid

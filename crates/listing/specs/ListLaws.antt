@@ -1,21 +1,20 @@
 -- The award on what was read does not turn on what stands past the rows in the tables, nor on more award rows than bids; no list
 -- is empty and none is longer than 51,200 bytes; neither 8 nor 10 is ever shown. Assumes nothing.
-use mathlib.Core.Path.{_≡_, refl, sym, ap, fun-ext, _∙_}
+use mathlib.Core.Path.{_≡_, refl, sym, ap, _∙_}
 use mathlib.Core.Logic.{_⊎_, inl, inr}
-use mathlib.Core.Bool.{Bool, true, _&&_}
+use mathlib.Core.Bool.{true}
 use mathlib.Core.List.{List, [], _∷_, _++_, append-nil}
 use mathlib.Core.Option.{none}
 use Prim.Native.Nat.{ℕ, zero, suc, _+_, _*_, _≤_, _<_}
 use native.Mathlib.Omega.{arith}
-use lib.ListN.{length, getD, take, drop, length-append, List·getD-append}
-use lib.Seq.{getD-drop}
-use lib.Dec.{leb, ltb, eqb}
+use lib.ListN.{length, getD, take, drop, length-append}
+use lib.Dec.{leb, eqb}
 use borrow.Author.Tests.{le-ltb, le-leb}
 use Rattle.tender.specs.declared.Window.{Window}
 use Rattle.tender.specs.declared.Tender.{Tender}
 use Rattle.tender.specs.declared.Refusal.the-variants.{MinuteUncovered, OneBidder}
 use Rattle.tender.specs.Refusals.{numberOf}
-use Rattle.tender.specs.Tables.{Row, rowsOf, own, flatRows, flatWindows, bidWidth, windowWidth}
+use Rattle.tender.specs.Tables.{Row, flatRows, flatWindows, bidWidth}
 use Rattle.cover.specs.Sets.{Found, nothing, found}
 use Rattle.cover.specs.Earliest.{cellWith}
 use Rattle.cover.specs.SettledLaws.{getD-listed}
@@ -23,10 +22,11 @@ use Rattle.reader.specs.Read.{accepted, readText}
 use Rattle.reader.specs.Read as reading
 use Rattle.reader.specs.Rules.{Rules}
 use Rattle.reader.specs.RulesLaws.{rules-law}
-use Rattle.award_check.specs.Cells.{noRow, hasOf, holds, pricesOf, cellsOf}
+use Rattle.award_check.specs.Cells.{noRow}
+use Rattle.award_check.specs.Auction.{Auction, auctionOf}
+use Rattle.award_check.specs.AuctionLaws.{auction-read}
 use Rattle.award_check.specs.Faults.{faultOf}
-use Rattle.award_check.specs.AlikeLaws.{windows-same, among-held, faultless}
-use Rattle.award_check.specs.TextLaws.{rows-flat, length-windows, rows-end, never-nine}
+use Rattle.award_check.specs.TextLaws.{never-nine}
 use Rattle.award_plain.specs.Award.{Outcome, thinned, settled, awardOf, outcomeNumber, outcomePlace}
 use Rattle.award.specs.Gain.{lost}
 use Rattle.award_plain.specs.AwardLaws.{settled-is, award-none}
@@ -41,34 +41,8 @@ use Rattle.listing.specs.Made.{answerLines}
 use Rattle.listing.specs.List.{winList, listLines, listOf, Listed}
 use Rattle.listing.specs.LineLaws.{refusal-short, lines-short, lines-some}
 
--- a row's windows stand in the rows that were read, whatever is past them
+-- the award on what was read
 module _ (T : Tender) (R : List Row) (W : List Window) (rules : Rules T R W) where
-  within : (v w : List ℕ) (j : ℕ) → getD R j noRow .first + getD R j noRow .count ≤ length W
-  within v w j = omega (
-    arith,
-    among-held (T .kind) (flatWindows W ++ w) 1 [] 0 R j
-        (rw (rows-flat R v) at (faultless (T .kind) T (length R) (flatRows R ++ v) (flatWindows W ++ w)
-        (never-nine T R W v w rules) .rows)),
-    rows-end (T .kind) [] 0 R (length W) (rules .rows),
-  )
-
-  own-read : (w : List ℕ) (j : ℕ) → own (flatWindows W ++ w) (getD R j noRow) ≡ own (flatWindows W) (getD R j noRow)
-  unfolding own
-  own-read w j = go (getD R j noRow) (within [] w j)
-    where
-      go : (r : Row) → r .first + r .count ≤ length W → own (flatWindows W ++ w) r ≡ own (flatWindows W) r
-      go r l = windows-same (r .count) (drop (windowWidth * r .first) (flatWindows W ++ w)) (drop (windowWidth * r .first) (flatWindows W))
-          (λ x m. getD-drop (windowWidth * r .first) (flatWindows W ++ w) x 0
-          ∙ List·getD-append (flatWindows W) w 0 (windowWidth * r .first + x) (omega (arith, length-windows W))
-          ∙ sym (getD-drop (windowWidth * r .first) (flatWindows W) x 0))
-
-  cells-read : (w : List ℕ) → hasOf T R (flatWindows W ++ w) ≡ hasOf T R (flatWindows W)
-  unfolding hasOf
-  cells-read w = fun-ext (λ j. fun-ext (λ x. ap (λ ws. ltb x (cellsOf T) && holds ws (T .window .start + x)) (own-read w j)))
-
-  rows-alone : rowsOf (length R) (flatRows R) ≡ R
-  rows-alone = ap (rowsOf (length R)) (sym (append-nil (flatRows R))) ∙ rows-flat R []
-
   sound-alone : faultOf (T .kind) T (length R) (flatRows R) (flatWindows W) ≡ none
   sound-alone = rw (append-nil (flatRows R), append-nil (flatWindows W)) at (never-nine T R W [] [] rules)
 
@@ -77,9 +51,9 @@ module _ (T : Tender) (R : List Row) (W : List Window) (rules : Rules T R W) whe
       ≡ awardOf (T .kind) T (length R) (flatRows R) (flatWindows W) (length R)
   award-read v w lent l =
       award-none (T .kind) T (length R) (flatRows R ++ v) (flatWindows W ++ w) lent (never-nine T R W v w rules)
-      ∙ rw (le-ltb lent (length R) l, rows-flat R v, cells-read w)
+      ∙ rw (le-ltb lent (length R) l, auction-read T R W rules v w)
       (sym (award-none (T .kind) T (length R) (flatRows R) (flatWindows W) (length R) sound-alone
-      ∙ rw (le-ltb (length R) (length R) (omega arith), rows-alone)))
+      ∙ rw (le-ltb (length R) (length R) (omega arith))))
 
   -- the award on what was read is made, or declined with 11 or 12: never with 9 or 10
   pub award-number : let o = awardOf (T .kind) T (length R) (flatRows R) (flatWindows W) (length R) in (outcomeNumber o ≡ 0)
@@ -90,25 +64,22 @@ module _ (T : Tender) (R : List Row) (W : List Window) (rules : Rules T R W) whe
     award-none (T .kind) T (length R) (flatRows R) (flatWindows W) (length R) sound-alone,
     le-ltb (length R) (length R) (omega arith),
   )
-      (go (cellWith has (length ps) (cellsOf T) 0) (cellWith has (length ps) (cellsOf T) 1) refl refl)
+      (go (cellWith (A .has) (A .owners) (A .cells) 0) (cellWith (A .has) (A .owners) (A .cells) 1) refl refl)
     where
-      has : ℕ → ℕ → Bool
-      has = hasOf T (rowsOf (length R) (flatRows R)) (flatWindows W)
-
-      ps : List ℕ
-      ps = pricesOf (rowsOf (length R) (flatRows R))
+      A : Auction
+      A = auctionOf T (length R) (flatRows R) (flatWindows W)
 
       o : Outcome
-      o = settled (T .kind) has ps (cellsOf T) (T .window .start)
+      o = settled (T .kind) A (T .window .start)
 
-      go : (x y : Found) → cellWith has (length ps) (cellsOf T) 0 ≡ x → cellWith has (length ps) (cellsOf T) 1 ≡ y
+      go : (x y : Found) → cellWith (A .has) (A .owners) (A .cells) 0 ≡ x → cellWith (A .has) (A .owners) (A .cells) 1 ≡ y
           → (outcomeNumber o ≡ 0)
           ⊎ ((outcomeNumber o ≡ numberOf (MinuteUncovered (outcomePlace o)))
           ⊎ (outcomeNumber o ≡ numberOf (OneBidder (outcomePlace o))))
-      go (found x) y e f = inr (inl (ap outcomeNumber (settled-is (T .kind) has ps (cellsOf T) (T .window .start) (found x) y e f)))
+      go (found x) y e f = inr (inl (ap outcomeNumber (settled-is (T .kind) A (T .window .start) (found x) y e f)))
       go nothing (found x) e f = inr (inr (ap outcomeNumber
-          (settled-is (T .kind) has ps (cellsOf T) (T .window .start) nothing (found x) e f)))
-      go nothing nothing e f = inl (ap outcomeNumber (settled-is (T .kind) has ps (cellsOf T) (T .window .start) nothing nothing e f))
+          (settled-is (T .kind) A (T .window .start) nothing (found x) e f)))
+      go nothing nothing e f = inl (ap outcomeNumber (settled-is (T .kind) A (T .window .start) nothing nothing e f))
 
 -- the lines that the code writes, from the numbers of the tables, are the list's
 

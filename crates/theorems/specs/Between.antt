@@ -9,13 +9,13 @@ use lib.Dec.{ltb}
 use Rattle.tender.specs.declared.Window.{Window}
 use Rattle.tender.specs.declared.Tender.{Tender}
 use Rattle.tender.specs.Limits.{maxPrice, maxText}
-use Rattle.tender.specs.Tables.{Row, rowsOf, flatWindows, bidWidth}
+use Rattle.tender.specs.Tables.{Row, flatWindows, bidWidth}
 use Rattle.cover.specs.Sets.{bidders}
 use Rattle.reader.specs.Words.{numeralOf, priceOf}
 use Rattle.reader.specs.Read.{accepted, readText}
 use Rattle.reader.specs.declared.Reading.the-variants as answer
 use Rattle.reader.specs.Differ.{DifferInPrice}
-use Rattle.award_check.specs.Cells.{noRow, hasOf}
+use Rattle.award_check.specs.Cells.{noRow}
 use Rattle.award_plain.specs.Award.{outcomeNumber}
 use Rattle.award.specs.Right.{Callable}
 use Rattle.award.specs.Gain.{rowFor, gain, AtMost}
@@ -23,7 +23,7 @@ use Rattle.spelling.specs.Decimal.{decimal}
 use Rattle.spelling.specs.Lines.{pairLine, refusedWord}
 use Rattle.spelling.specs.Text.{textOf, bidIn}
 use Rattle.listing.specs.List.{listOf}
-use Rattle.theorems.specs.Calls.{ReadRun, ReadCall, AwardCall, toldBy, ListCall, shown}
+use Rattle.theorems.specs.Calls.{ReadRun, ReadCall, AwardCall, auctionBy, toldBy, ListCall, shown}
 use Rattle.theorems.specs.OneReading.{Fills, OfText}
 use Rattle.theorems.specs.ListRead.{rowShown}
 
@@ -36,7 +36,7 @@ pub record FewerThan (m : ℕ) (c : AwardCall) : Type 0 where
   pub minute : ℕ
   pub from : c .tender .window .start ≤ minute
   pub to : minute < c .tender .window .end
-  pub few : bidders (hasOf (c .tender) (rowsOf (c .count) (c .bids)) (c .windows)) (c .count) (minute - c .tender .window .start) < m
+  pub few : bidders (auctionBy c .has) (auctionBy c .owners) (minute - c .tender .window .start) < m
 
 -- the award is refused for cover
 abbrev pub ForCover : AwardCall → Type 0

@@ -11,6 +11,7 @@ use Rattle.tender.specs.Tables.{bidWidth, windowWidth}
 use Rattle.reader.specs.Read.{readInto}
 use Rattle.reader.specs.Answer.{toldReading, summary, bidsAfter, windowsAfter}
 use Rattle.reader.specs.declared.Reading.{Reading}
+use Rattle.award_check.specs.Auction.{Auction, auctionOf}
 use Rattle.award_plain.specs.Award.{Outcome}
 use Rattle.award_plain.specs.Plain.{toldIn, PlainPromise}
 use Rattle.award.specs.Promise.{toldAward, Promise}
@@ -51,6 +52,10 @@ pub record AwardCall : Type 0 where
   pub rows-after : List AwardRow
   pub answer : Answer
   pub promise : Promise kind tender count bids windows rows-before rows-after answer
+
+-- the auction that its tables say
+abbrev pub auctionBy : AwardCall → Auction
+auctionBy c = auctionOf (c .tender) (c .count) (c .bids) (c .windows)
 
 -- what an award told
 abbrev pub toldBy : AwardCall → Outcome

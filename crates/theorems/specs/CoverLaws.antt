@@ -4,11 +4,11 @@ use mathlib.Core.Path.{_≡_, ap}
 use mathlib.Core.Logic.{_⊎_, inl, inr}
 use Prim.Native.Nat.{ℕ, _-_, _<_}
 use native.Mathlib.Omega.{arith}
-use Rattle.award_check.specs.Cells.{cellsOf}
+use Rattle.award_check.specs.AuctionLaws.{minutes}
 use Rattle.award_plain.specs.Award.{outcomeNumber}
 use Rattle.award.specs.Right.{Bidders, EarliestIn, OneAnswer, tables-break-a-rule, rows-too-few, minute-uncovered, one-bidder, award}
 use Rattle.award.specs.OneAnswerLaws.{one-answer}
-use Rattle.theorems.specs.Calls.{AwardCall, toldBy}
+use Rattle.theorems.specs.Calls.{AwardCall, auctionBy, toldBy}
 use Rattle.theorems.specs.Between.{CallableWith, FewerThan}
 
 -- the three cases of such a call
@@ -17,16 +17,18 @@ pub data ByCover (c : AwardCall) : Type 0 where
   one-there : outcomeNumber (toldBy c) ≡ 12 → FewerThan 2 c → (FewerThan 1 c → ⊥) → ByCover c
   two-there : outcomeNumber (toldBy c) ≡ 0 → (FewerThan 2 c → ⊥) → ByCover c
 
-at-minute : {c : AwardCall} (d m b : ℕ) → EarliestIn (c .tender) (c .count) (c .bids) (c .windows) m b → b < d → FewerThan d c
+at-minute : {c : AwardCall} (d m b : ℕ) → EarliestIn (c .tender) (auctionBy c) m b → b < d → FewerThan d c
 at-minute d m b i l = record { minute = m; from = i .from; to = i .to; few = omega (arith, i .bids-with-it) }
 
 one-is-two : {c : AwardCall} → FewerThan 1 c → FewerThan 2 c
 one-is-two f = record { minute = f .minute; from = f .from; to = f .to; few = omega (arith, f .few) }
 
 module _ (c : AwardCall) (callable : CallableWith c) where
-  enough : (d : ℕ) → Bidders (c .tender) (c .count) (c .bids) (c .windows) d → FewerThan d c → ⊥
-  unfolding cellsOf
-  enough d h f = let t = c .tender .window in omega (arith, h (f .minute - t .start) (omega (arith, f .from, f .to)), f .few)
+  enough : (d : ℕ) → Bidders (auctionBy c) d → FewerThan d c → ⊥
+  enough d h f =
+      let t = c .tender .window in
+      let m = minutes (c .tender) (c .count) (c .bids) (c .windows) in
+      omega (arith, h (f .minute - t .start) (omega (arith, f .from, f .to)), f .few)
 
   pub by-cover : ByCover c
   unfolding outcomeNumber

@@ -6,12 +6,13 @@ use mathlib.Core.Bool.{true}
 use mathlib.Core.List.{List, map}
 use mathlib.Core.Option.{some}
 use Prim.Native.Nat.{ℕ, _+_, _/_, _^_, _≤_, _<_, min}
-use lib.ListN.{length, getD, set, take}
+use lib.ListN.{length, getD, take}
 use lib.Dec.{leb}
 use Rattle.tender.specs.declared.Kind.the-variants.{Single, Multi}
 use Rattle.tender.specs.declared.Window.{Window}
 use Rattle.tender.specs.declared.Tender.{Tender}
 use Rattle.tender.specs.declared.AwardRow.{AwardRow}
+use Rattle.tender.specs.declared.Totals.{Totals}
 use Rattle.tender.specs.declared.Refusal.the-variants.{BadTables}
 use Rattle.tender.specs.Tables.{Row, rowsOf, flatRows, flatWindows, bidWidth, windowWidth}
 use Rattle.reader_line.specs.Words.{digits}
@@ -23,7 +24,8 @@ use Rattle.reader.specs.CountLaws.{lines-law, room-law}
 use Rattle.reader.specs.PlainLaws.{plain-law}
 use Rattle.reader.specs.declared.Reading.the-variants as answer
 use Rattle.reader.specs.Differ.{Word, DifferInPrice}
-use Rattle.award_check.specs.Cells.{noRow, cellsOf, hasOf, pricesOf}
+use Rattle.award_check.specs.Cells.{noRow}
+use Rattle.award_check.specs.Auction.{atPrice}
 use Rattle.award_check.specs.Alike.{named, Alike}
 use Rattle.award_plain.specs.Award.{won, awarded, awardOf, outcomeNumber}
 use Rattle.award_plain.specs.Award.{refused as refusal}
@@ -41,7 +43,7 @@ use Rattle.spelling.specs.Lines.{pairLine, refusedWord}
 use Rattle.listing.specs.ListLaws as list
 use Rattle.writer.specs.declared.Writing.the-variants.{Written, Refused}
 use Rattle.writer.specs.Same.{Same, ReadBack}
-use Rattle.theorems.specs.Calls.{ReadRun, ReadCall, AwardCall, toldBy, SettleCall, toldPlain, ListCall, shown}
+use Rattle.theorems.specs.Calls.{ReadRun, ReadCall, AwardCall, auctionBy, toldBy, SettleCall, toldPlain, ListCall, shown}
 use Rattle.theorems.specs.Calls.{WriteCall, RewriteCall, rewritten}
 use Rattle.theorems.specs.OneReading.{OneReading, OfText, SameReading}
 use Rattle.theorems.specs.ListRead.{rowShown}
@@ -144,8 +146,8 @@ a-list-shows = shows-no-other
 
 module _ (c : AwardCall) where
   -- Where no rule is broken, each bid has an award row and each minute two bidders, the tender is awarded as defined.
-  pub awarded-as-defined : CallableWith c → Bidders (c .tender) (c .count) (c .bids) (c .windows) 2
-      → IsAward (c .kind) (c .tender) (c .count) (c .bids) (c .windows) (c .rows-before) (c .rows-after) (toldBy c)
+  pub awarded-as-defined : CallableWith c → Bidders (auctionBy c) 2
+      → IsAward (c .kind) (auctionBy c) (c .rows-before) (c .rows-after) (toldBy c)
   awarded-as-defined =
       one.awards (c .kind) (c .tender) (c .count) (c .bids) (c .windows) (c .rows-before) (c .rows-after) (c .answer) (c .promise)
 
@@ -156,31 +158,28 @@ module _ (c : AwardCall) where
   pub refused-with-eleven : CallableWith c → Exactly (outcomeNumber (toldBy c) ≡ 11) (FewerThan 1 c)
   refused-with-eleven h = (cover.bare-if-eleven c h, cover.eleven-if-bare c h)
 
-module _ (c : AwardCall) (rows : List AwardRow) (cost paid : ℕ) (told : toldBy c ≡ awarded rows cost paid) where
+module _ (c : AwardCall) (rows : List AwardRow) (totals : Totals) (told : toldBy c ≡ awarded rows totals) where
   -- The winners cover: each minute of the tender, cell x, is in a winner's windows.
-  pub winners-cover-all : (x : ℕ) → x < cellsOf (c .tender)
-      → WinnerAt (c .tender) (c .count) (c .bids) (c .windows) (awarded rows cost paid) x
-  winners-cover-all = outcome.all-served (c .kind) (c .tender) (c .count) (c .bids) (c .windows) (length (c .rows-before)) rows cost paid
+  pub winners-cover-all : (x : ℕ) → x < auctionBy c .cells → WinnerAt (auctionBy c) (awarded rows totals) x
+  winners-cover-all = outcome.all-served (c .kind) (c .tender) (c .count) (c .bids) (c .windows) (length (c .rows-before)) rows totals
       (rw told at (c .promise .answers))
 
   -- In a single tender no covering set costs less, and ties fall as paper 01 says.
-  pub least-cost : c .kind ≡ Single → LeastCover (c .tender) (c .count) (c .bids) (c .windows) rows cost paid
-  least-cost k = outcome.least-cover (c .tender) (c .count) (c .bids) (c .windows) (length (c .rows-before)) rows cost paid
+  pub least-cost : c .kind ≡ Single → LeastCover (auctionBy c) rows totals
+  least-cost k = outcome.least-cover (c .tender) (c .count) (c .bids) (c .windows) (length (c .rows-before)) rows totals
       (rw (told, k) at (c .promise .answers))
 
   -- A winner of a single tender is paid by document 000's formula 8.
-  pub paid-by-formula-8 : (i : ℕ) → c .kind ≡ Single → i < c .count → rowFor (awarded rows cost paid) i .won ≡ true →
-      PaidByEight (c .tender) (c .count) i (c .bids) (c .windows) (rowFor (awarded rows cost paid) i .cents) cost
-  paid-by-formula-8 i k l = outcome.paid-by-eight (c .tender) (c .count) i (c .bids) (c .windows) (length (c .rows-before)) rows cost paid l
+  pub paid-by-formula-8 : (i : ℕ) → c .kind ≡ Single → i < c .count → rowFor (awarded rows totals) i .won ≡ true →
+      PaidByEight (auctionBy c) i (rowFor (awarded rows totals) i .cents) (totals .cost)
+  paid-by-formula-8 i k l = outcome.paid-by-eight (c .tender) (c .count) i (c .bids) (c .windows) (length (c .rows-before)) rows totals l
       (rw (told, k) at (c .promise .answers))
 
   -- A winner of a multi tender is paid the largest whole price with which it would still win if all else stood.
-  pub paid-the-largest-price : (i : ℕ) → c .kind ≡ Multi → i < c .count → rowFor (awarded rows cost paid) i .won ≡ true
-      → (q : ℕ)
-      → won Multi (hasOf (c .tender) (rowsOf (c .count) (c .bids)) (c .windows)) (set (pricesOf (rowsOf (c .count) (c .bids))) i q)
-      (cellsOf (c .tender)) i ≡ leb q (rowFor (awarded rows cost paid) i .cents)
-  paid-the-largest-price i k l = outcome.largest-price (c .tender) (c .count) i (c .bids) (c .windows) (length (c .rows-before)) rows cost
-      paid l (rw (told, k) at (c .promise .answers))
+  pub paid-the-largest-price : (i : ℕ) → c .kind ≡ Multi → i < c .count → rowFor (awarded rows totals) i .won ≡ true
+      → (q : ℕ) → won Multi (atPrice i q (auctionBy c)) i ≡ leb q (rowFor (awarded rows totals) i .cents)
+  paid-the-largest-price i k l = outcome.largest-price (c .tender) (c .count) i (c .bids) (c .windows) (length (c .rows-before)) rows
+      totals l (rw (told, k) at (c .promise .answers))
 
 -- Of each bid of an accepted text a list shows the row that the award gave it: its bytes are read back.
 pub a-list-shows-the-award : (l : ListCall) (T : Tender) (R : List Row) (W : List Window) (i : ℕ) → 0 < l .answer

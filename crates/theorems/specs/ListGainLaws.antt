@@ -1,27 +1,29 @@
 -- The lists of two texts that differ in one price: the bidder whose price it is gains no more by the bytes of the second. Assumes nothing.
 use mathlib.Core.Path.{_≡_, refl, sym, ap, _∙_}
-use mathlib.Core.Bool.{Bool, false}
-use mathlib.Core.List.{List, [], _∷_, _++_, append-nil}
-use Prim.Native.Nat.{ℕ, zero, suc, _+_, _*_, _^_, _<_}
+use mathlib.Core.Bool.{false}
+use mathlib.Core.List.{List, [], _++_, append-nil}
+use Prim.Native.Nat.{ℕ, _+_, _^_, _<_}
 use native.Mathlib.Omega.{arith}
 use lib.ListN.{length, getD}
 use borrow.Author.Tests.{le-ltb}
 use Rattle.tender.specs.declared.Window.{Window}
 use Rattle.tender.specs.declared.Tender.{Tender}
 use Rattle.tender.specs.declared.AwardRow.{AwardRow}
-use Rattle.tender.specs.Tables.{Row, rowsOf, flatRows, flatWindows, bidWidth}
+use Rattle.tender.specs.declared.Totals.{Totals}
+use Rattle.tender.specs.Tables.{Row, flatRows, flatWindows}
 use Rattle.reader.specs.Read.{accepted, readText}
 use Rattle.reader.specs.Read as reading
 use Rattle.reader.specs.Rules.{Rules}
 use Rattle.reader.specs.RulesLaws.{rules-law}
 use Rattle.reader.specs.Differ.{DifferInPrice, DifferInOnePrice}
 use Rattle.reader.specs.PriceLaws.{price-law}
-use Rattle.award_check.specs.Cells.{noRow, cellsOf, hasOf, pricesOf}
+use Rattle.award_check.specs.Cells.{noRow}
+use Rattle.award_check.specs.Auction.{Auction, auctionOf}
 use Rattle.award_check.specs.Alike.{named}
-use Rattle.award_check.specs.TextLaws.{rows-flat}
-use Rattle.award_plain.specs.Award.{Outcome, awarded, refused, won, cents, awardOf}
+use Rattle.award_plain.specs.Award.{Outcome, awarded, refused, awardOf}
 use Rattle.award_plain.specs.AwardLaws.{award-awarded}
 use Rattle.award.specs.Gain.{lost, rowFor}
+use Rattle.award.specs.SettleLaws.{lost-nothing, rowIn}
 use Rattle.award.specs.TableLaws.{row-is}
 use Rattle.award.specs.Right as right
 use Rattle.award.specs.TextOutcomeLaws.{honest-texts}
@@ -33,38 +35,31 @@ use Rattle.theorems.specs.ReadingLaws.{refusal-number}
 use Rattle.theorems.specs.TextGainLaws.{bidders-same, rows-same}
 use Rattle.theorems.specs.ListRead.{rowShown}
 use Rattle.theorems.specs.ShownLaws.{refused-row, row-shown}
-use Rattle.theorems.specs.PaidLaws.{cents-small, loser-none, bidder-once, bidder-small, prices-sum, minutes-few}
+use Rattle.theorems.specs.PaidLaws.{cents-small, bidder-once, bidder-small, prices-sum, minutes-few}
 
 -- of each bid of an accepted text the list shows the row that the award gave it
 module _ (T : Tender) (R : List Row) (W : List Window) (rules : Rules T R W) where
   abbrev given : Outcome
   given = awardOf (T .kind) T (length R) (flatRows R) (flatWindows W) (length R)
 
-  alone : rowsOf (length R) (flatRows R) ≡ R
-  alone = ap (rowsOf (length R)) (sym (append-nil (flatRows R))) ∙ rows-flat R []
-
-  awarded-shown : (rows : List AwardRow) (cost paid i : ℕ) → awarded rows cost paid ≡ given → i < length R →
-      rowShown (getD R i noRow .bidder) (listLines T R (awarded rows cost paid)) ≡ rowFor (awarded rows cost paid) i
+  awarded-shown : (rows : List AwardRow) (totals : Totals) (i : ℕ) → awarded rows totals ≡ given → i < length R →
+      rowShown (getD R i noRow .bidder) (listLines T R (awarded rows totals)) ≡ rowFor (awarded rows totals) i
   unfolding rowFor
-  awarded-shown rows cost paid i e l = row-shown T R rows cost paid i l (λ j m. (bidder-small T R W rules j, small j m))
+  awarded-shown rows totals i e l = row-shown T R rows totals i l (λ j m. (bidder-small T R W rules j, small j m))
       (λ j m d. bidder-once T R W rules i j l m d) none
     where
-      has : ℕ → ℕ → Bool
-      has = hasOf T (rowsOf (length R) (flatRows R)) (flatWindows W)
+      A : Auction
+      A = auctionOf T (length R) (flatRows R) (flatWindows W)
 
-      ps : List ℕ
-      ps = pricesOf (rowsOf (length R) (flatRows R))
-
-      row : (j : ℕ) → j < length R → getD rows j lost
-          ≡ record { won = won (T .kind) has ps (cellsOf T) j; cents = cents (T .kind) has ps (cellsOf T) j }
-      row j m = row-is (T .kind) T (length R) (flatRows R) (flatWindows W) (length R) rows cost paid
-          (award-awarded (T .kind) T (length R) (flatRows R) (flatWindows W) (length R) rows cost paid e) j m
+      row : (j : ℕ) → j < length R → getD rows j lost ≡ rowIn (T .kind) A j
+      row j m = row-is (T .kind) T (length R) (flatRows R) (flatWindows W) (length R) rows totals
+          (award-awarded (T .kind) T (length R) (flatRows R) (flatWindows W) (length R) rows totals e) j m
 
       small : (j : ℕ) → j < length R → getD rows j lost .cents < 10 ^ 20
-      small j m = rw (row j m) (cents-small (T .kind) has ps (cellsOf T) j (rw alone (prices-sum T R W rules)) (minutes-few T R W rules))
+      small j m = rw (row j m) (cents-small (T .kind) A j (prices-sum T R W rules) (minutes-few T R W rules))
 
       none : getD rows i lost .won ≡ false → getD rows i lost .cents ≡ 0
-      none w = ap (λ r. r .cents) (row i l) ∙ loser-none (T .kind) has ps (cellsOf T) i (sym (ap (λ r. r .won) (row i l)) ∙ w)
+      none w = ap (λ r. r .cents) (row i l) ∙ lost-nothing (T .kind) A i (sym (ap (λ r. r .won) (row i l)) ∙ w)
 
   refusal-shown : (i n at : ℕ) → rowShown (getD R i noRow .bidder) (listLines T R (refused n at)) ≡ rowFor (refused n at) i
   unfolding listLines rowFor
@@ -72,7 +67,7 @@ module _ (T : Tender) (R : List Row) (W : List Window) (rules : Rules T R W) whe
 
   outcome-shown : (o : Outcome) (i : ℕ) → o ≡ given → i < length R
       → rowShown (getD R i noRow .bidder) (listLines T R o) ≡ rowFor o i
-  outcome-shown (awarded rows cost paid) i e l = awarded-shown rows cost paid i e l
+  outcome-shown (awarded rows totals) i e l = awarded-shown rows totals i e l
   outcome-shown (refused n at) i e l = refusal-shown i n at
 
 pub list-shows : (l : ListCall) (T : Tender) (R : List Row) (W : List Window) (i : ℕ) → 0 < l .answer
@@ -95,16 +90,6 @@ given-read l g = go (readText (l .text)) refl
     go (accepted T R W) e = accepts T R W e
     go (reading.refused n at) e = absurd (g .read n at (refusal-number (l .text) n at e)
         (listed-is (l .promise) (g .written) ∙ ap listOf e))
-
-price-cell : (R : List Row) (v : List ℕ) (i : ℕ) → i < length R → named (flatRows R ++ v) i ≡ getD R i noRow .price
-unfolding flatRows named
-price-cell [] v i l = absurd (omega arith)
-price-cell (r ∷ R) v zero l = refl
-price-cell (r ∷ R) v (suc i) l = ap (λ k. getD (r .bidder ∷ r .price ∷ r .first ∷ r .count ∷ (flatRows R ++ v)) k 0) (index i)
-    ∙ price-cell R v i (omega arith)
-  where
-    index : (i : ℕ) → bidWidth * suc i + 1 ≡ suc (suc (suc (suc (bidWidth * i + 1))))
-    index i = omega arith
 
 -- Two calls of `tender_list`.
 pub no-gain-shown : (l l′ : ListCall) (bidder p q : List ℕ) → DifferInPrice (l .text) (l′ .text) bidder p q → ListGiven l

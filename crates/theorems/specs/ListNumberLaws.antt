@@ -12,8 +12,9 @@ use borrow.Author.Tests.{leb-true, leb-false, le-ltb}
 use Rattle.tender.specs.declared.Window.{Window}
 use Rattle.tender.specs.declared.Tender.{Tender}
 use Rattle.tender.specs.declared.AwardRow.{AwardRow}
+use Rattle.tender.specs.declared.Totals.{Totals}
 use Rattle.tender.specs.Keywords.{bytes}
-use Rattle.tender.specs.Tables.{Row, rowsOf, flatRows, flatWindows}
+use Rattle.tender.specs.Tables.{Row, flatRows, flatWindows}
 use Rattle.cover.specs.Sets.{Found, nothing, found}
 use Rattle.cover.specs.Earliest.{cellWith}
 use Rattle.reader_line.specs.Words.{among}
@@ -21,10 +22,10 @@ use Rattle.reader.specs.Read.{readText}
 use Rattle.reader.specs.Read as reading
 use Rattle.reader.specs.Rules.{Rules}
 use Rattle.reader.specs.RulesLaws.{rules-law}
-use Rattle.award_check.specs.Cells.{hasOf, cellsOf, pricesOf}
+use Rattle.award_check.specs.Auction.{Auction, auctionOf}
 use Rattle.award_check.specs.Faults.{faultOf}
 use Rattle.award_check.specs.TextLaws.{never-nine}
-use Rattle.award_plain.specs.Award.{Outcome, awarded, refused, awardRows, costOf, paidOf, thinned, awardOf}
+use Rattle.award_plain.specs.Award.{Outcome, awarded, refused, awardRows, totalsOf, thinned, awardOf}
 use Rattle.award_plain.specs.AwardLaws.{award-settles}
 use Rattle.spelling.specs.Lines.{pairLine, refusedWord}
 use Rattle.listing.specs.Lines.{awardWord, awardLine}
@@ -56,10 +57,10 @@ same-number : (a b c d : ℕ) → a < 10 ^ 20 → c < 10 ^ 20 → pairLine refus
 same-number a b c d l m e = first-number refusedWord a b c d plain-refused l m e
 
 -- an award's list begins with another word
-award-begins : (t : Tender) (R : List Row) (rows : List AwardRow) (cost paid : ℕ)
-    → getD (listLines t R (awarded rows cost paid)) 1 0 ≡ 97
+award-begins : (t : Tender) (R : List Row) (rows : List AwardRow) (totals : Totals)
+    → getD (listLines t R (awarded rows totals)) 1 0 ≡ 97
 unfolding listLines awardLine pairLine awardWord bytes
-award-begins t R rows cost paid = refl
+award-begins t R rows totals = refl
 
 refusal-begins : (n at : ℕ) → getD (pairLine refusedWord n at) 1 0 ≡ 114
 unfolding pairLine refusedWord bytes
@@ -69,26 +70,22 @@ refusal-begins n at = refl
 read-declined : (T : Tender) (R : List Row) (W : List Window) → Rules T R W → (n at : ℕ) →
     awardOf (T .kind) T (length R) (flatRows R) (flatWindows W) (length R) ≡ refused n at → (n ≡ 11) ⊎ (n ≡ 12)
 unfolding thinned
-read-declined T R W rules n at e = go (cellWith has (length R) (cellsOf T) 0) (cellWith has (length R) (cellsOf T) 1) refl refl
+read-declined T R W rules n at e =
+    go (cellWith (A .has) (length R) (A .cells) 0) (cellWith (A .has) (length R) (A .cells) 1) refl refl
   where
-    has : ℕ → ℕ → Bool
-    has = hasOf T (rowsOf (length R) (flatRows R)) (flatWindows W)
-
-    ps : List ℕ
-    ps = pricesOf (rowsOf (length R) (flatRows R))
+    A : Auction
+    A = auctionOf T (length R) (flatRows R) (flatWindows W)
 
     sound : faultOf (T .kind) T (length R) (flatRows R) (flatWindows W) ≡ none
     sound = rw (append-nil (flatRows R), append-nil (flatWindows W)) at (never-nine T R W [] [] rules)
 
-    settles : (x y : Found) → cellWith has (length R) (cellsOf T) 0 ≡ x → cellWith has (length R) (cellsOf T) 1 ≡ y
-        → refused n at ≡
-        thinned (T .window .start) x y (awarded (awardRows (T .kind) has ps (cellsOf T)) (costOf (T .kind) has ps (cellsOf T))
-        (paidOf (T .kind) has ps (cellsOf T)))
+    settles : (x y : Found) → cellWith (A .has) (length R) (A .cells) 0 ≡ x → cellWith (A .has) (length R) (A .cells) 1 ≡ y
+        → refused n at ≡ thinned (T .window .start) x y (awarded (awardRows (T .kind) A) (totalsOf (T .kind) A))
     settles x y d f = sym e ∙ award-settles (T .kind) T (length R) (flatRows R) (flatWindows W) (length R) sound
         (le-ltb (length R) (length R) (omega arith)) x y d f
 
-    go : (x y : Found) → cellWith has (length R) (cellsOf T) 0 ≡ x → cellWith has (length R) (cellsOf T) 1 ≡ y → (n ≡ 11)
-        ⊎ (n ≡ 12)
+    go : (x y : Found) → cellWith (A .has) (length R) (A .cells) 0 ≡ x → cellWith (A .has) (length R) (A .cells) 1 ≡ y
+        → (n ≡ 11) ⊎ (n ≡ 12)
     go (found x) y d f = let h = settles (found x) y d f in inl (cc)
     go nothing (found y) d f = let h = settles nothing (found y) d f in inr (cc)
     go nothing nothing d f = let h = settles nothing nothing d f in let z : _≡_ {A = ℕ} 0 1 = cc in absurd (omega arith)
@@ -110,8 +107,8 @@ shows-no-other l n at small a e = go (readText (l .text)) refl (sym (listed-is (
     of : (T : Tender) (R : List Row) (W : List Window) → Rules T R W → (o : Outcome)
         → awardOf (T .kind) T (length R) (flatRows R) (flatWindows W) (length R) ≡ o → listLines T R o ≡ pairLine refusedWord n at
         → Showable n
-    of T R W rules (awarded rows cost paid) f x =
-        let z = sym (award-begins T R rows cost paid) ∙ ap (λ s. getD s 1 0) x ∙ refusal-begins n at in
+    of T R W rules (awarded rows totals) f x =
+        let z = sym (award-begins T R rows totals) ∙ ap (λ s. getD s 1 0) x ∙ refusal-begins n at in
         absurd (omega (arith, z))
     of T R W rules (refused m k) f x = inr (found-as m k x (read-declined T R W rules m k f))
 

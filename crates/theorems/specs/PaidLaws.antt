@@ -5,23 +5,25 @@ use mathlib.Core.List.{List, [], _∷_, _++_}
 use Prim.Native.Nat.{ℕ, zero, suc, _+_, _*_, _^_, _≤_, _<_}
 use native.Mathlib.Nat.{mul-le-mul}
 use native.Mathlib.Omega.{arith}
-use lib.ListN.{length, getD, set, length-map}
+use lib.ListN.{length, getD, set}
 use lib.Dec.{eqb}
 use borrow.Author.Tests.{eq-eqb}
 use Rattle.tender.specs.declared.Kind.{Kind}
 use Rattle.tender.specs.declared.Kind.the-variants.{Single, Multi}
 use Rattle.tender.specs.declared.Window.{Window}
 use Rattle.tender.specs.declared.Tender.{Tender}
-use Rattle.tender.specs.Tables.{Row}
-use Rattle.cover.specs.Sets.{when, found, valueOf, bit, covers, cells, cost}
+use Rattle.tender.specs.Tables.{Row, flatRows, flatWindows, bidWidth}
+use Rattle.cover.specs.Sets.{when, found, valueOf, bit, cells, cost}
 use Rattle.cover.specs.LeastCover.{winners, without, payment, vcgPaid}
 use Rattle.cover.specs.Greedy.{wins}
 use Rattle.cover.specs.CriticalPrice.{largest, sum, ceiling, winsAt, critical, criticalPaid}
 use Rattle.cover.specs.Intervals.BidsLaws.{cost-most, sum-most}
 use Rattle.reader_line.specs.Words.{among}
 use Rattle.reader.specs.Rules.{RowsRules, Rules}
-use Rattle.award_check.specs.Cells.{noRow, cellsOf, pricesOf}
-use Rattle.award_plain.specs.Award.{won, cents}
+use Rattle.award_check.specs.Cells.{noRow}
+use Rattle.award_check.specs.Auction.{Auction, auctionOf}
+use Rattle.award_check.specs.AuctionLaws.{minutes, entries, price-named}
+use Rattle.award_plain.specs.Award.{coversIn, cents}
 
 -- payments
 
@@ -54,44 +56,40 @@ when-most : (t : Bool) (n : ℕ) → when t n ≤ n
 when-most true n = omega arith
 when-most false n = omega arith
 
-pub cents-small : (k : Kind) (has : ℕ → ℕ → Bool) (ps : List ℕ) (L i : ℕ) → sum ps ≤ 100000000000 → L ≤ 10080
-    → cents k has ps L i < 10 ^ 20
+pub cents-small : (k : Kind) (A : Auction) (i : ℕ) → sum (A .prices) ≤ 100000000000 → A .cells ≤ 10080 → cents k A i < 10 ^ 20
 unfolding cents vcgPaid criticalPaid critical ceiling
-cents-small Single has ps L i s l =
-    let ok = covers has (length ps) L in
+cents-small Single A i s l =
+    let ps = A .prices in
+    let ok = coversIn A in
     omega (
       arith,
       paid-most (bit (winners ok ps) i) (cost ps (winners (without i ok) ps)) (cost ps (winners ok ps)) (getD ps i 0),
       cost-most ps (winners (without i ok) ps),
     )
-cents-small Multi has ps L i s l =
+cents-small Multi A i s l =
+    let ps = A .prices in
+    let cs = cells (A .cells) in
     omega (
       arith,
-      when-most (wins has ps (cells L) i) (valueOf (largest (winsAt has ps (cells L) i) (suc (sum (set ps i 0) * length (cells L))))),
-      largest-below (winsAt has ps (cells L) i) (suc (sum (set ps i 0) * length (cells L))),
+      when-most (wins (A .has) ps cs i) (valueOf (largest (winsAt (A .has) ps cs i) (suc (sum (set ps i 0) * length cs)))),
+      largest-below (winsAt (A .has) ps cs i) (suc (sum (set ps i 0) * length cs)),
       most,
     )
   where
-    few : sum (set ps i 0) ≤ 100000000000
-    few = omega (arith, sum-set ps i)
+    few : sum (set (A .prices) i 0) ≤ 100000000000
+    few = omega (arith, sum-set (A .prices) i)
 
-    minutes : length (cells L) ≤ 10080
-    minutes = omega (arith, cells-count L)
+    short : length (cells (A .cells)) ≤ 10080
+    short = omega (arith, cells-count (A .cells))
 
-    most : sum (set ps i 0) * length (cells L) ≤ 100000000000 * 10080
-    most = mul-le-mul few minutes
-
-pub loser-none : (k : Kind) (has : ℕ → ℕ → Bool) (ps : List ℕ) (L i : ℕ) → won k has ps L i ≡ false
-    → cents k has ps L i ≡ 0
-unfolding won cents vcgPaid payment criticalPaid
-loser-none Single has ps L i e = rw e
-loser-none Multi has ps L i e = rw e
+    most : sum (set (A .prices) i 0) * length (cells (A .cells)) ≤ 100000000000 * 10080
+    most = mul-le-mul few short
 
 -- what was read
 
 prices-low : (k : Kind) (used : List ℕ) (at : ℕ) (R : List Row) (end : ℕ) → RowsRules k used at R end → (i : ℕ)
-    → getD (pricesOf R) i 0 ≤ 100000000
-unfolding pricesOf
+    → getD R i noRow .price ≤ 100000000
+unfolding noRow
 prices-low k used at [] end h i = omega arith
 prices-low k used at (r ∷ R) end (h, hs) zero = h .price-high
 prices-low k used at (r ∷ R) end (h, hs) (suc i) = prices-low k (used ++ r .bidder ∷ []) (at + r .count) R end hs i
@@ -145,6 +143,16 @@ one-row k used at (r ∷ R) end (h, hs) (suc i) zero l m d e =
 one-row k used at (r ∷ R) end (h, hs) (suc i) (suc j) l m d e =
     one-row k (used ++ r .bidder ∷ []) (at + r .count) R end hs i j (omega arith) (omega arith) (λ q. d (ap suc q)) e
 
+price-cell : (R : List Row) (i : ℕ) → i < length R → getD (flatRows R) (bidWidth * i + 1) 0 ≡ getD R i noRow .price
+unfolding flatRows
+price-cell [] i l = absurd (omega arith)
+price-cell (r ∷ R) zero l = refl
+price-cell (r ∷ R) (suc i) l = ap (λ k. getD (r .bidder ∷ r .price ∷ r .first ∷ r .count ∷ flatRows R) k 0) (index i)
+    ∙ price-cell R i (omega arith)
+  where
+    index : (i : ℕ) → bidWidth * suc i + 1 ≡ suc (suc (suc (suc (bidWidth * i + 1))))
+    index i = omega arith
+
 module _ (T : Tender) (R : List Row) (W : List Window) (rules : Rules T R W) where
   pub bidder-once : (i j : ℕ) → i < length R → j < length R → (j ≡ i → ⊥)
       → getD R j noRow .bidder ≡ getD R i noRow .bidder → ⊥
@@ -153,15 +161,22 @@ module _ (T : Tender) (R : List Row) (W : List Window) (rules : Rules T R W) whe
   pub bidder-small : (i : ℕ) → getD R i noRow .bidder < 10 ^ 20
   bidder-small i = omega (arith, bidders-low (T .kind) [] 0 R (length W) (rules .rows) i)
 
-  pub prices-sum : sum (pricesOf R) ≤ 100000000000
-  unfolding pricesOf
-  prices-sum = omega (
+  price-low : (i : ℕ) → i < length R → getD (auctionOf T (length R) (flatRows R) (flatWindows W) .prices) i 0 ≤ 100000000
+  price-low i l = omega (
     arith,
-    sum-most (pricesOf R) (λ i l. prices-low (T .kind) [] 0 R (length W) (rules .rows) i),
-    rules .few-bids,
-    length-map R (λ r. r .price),
+    price-named T (length R) (flatRows R) (flatWindows W) i l,
+    price-cell R i l,
+    prices-low (T .kind) [] 0 R (length W) (rules .rows) i,
   )
 
-  pub minutes-few : cellsOf T ≤ 10080
-  unfolding cellsOf
-  minutes-few = omega (arith, rules .tender .in-week)
+  pub prices-sum : sum (auctionOf T (length R) (flatRows R) (flatWindows W) .prices) ≤ 100000000000
+  prices-sum =
+      let n = entries T (length R) (flatRows R) (flatWindows W) in
+      omega (
+        arith,
+        sum-most (auctionOf T (length R) (flatRows R) (flatWindows W) .prices) (λ i l. price-low i (omega arith)),
+        rules .few-bids,
+      )
+
+  pub minutes-few : auctionOf T (length R) (flatRows R) (flatWindows W) .cells ≤ 10080
+  minutes-few = omega (arith, minutes T (length R) (flatRows R) (flatWindows W), rules .tender .in-week)

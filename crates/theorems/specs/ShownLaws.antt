@@ -12,6 +12,7 @@ use Rattle.tender.specs.declared.Kind.{Kind}
 use Rattle.tender.specs.declared.Kind.the-variants.{Single, Multi}
 use Rattle.tender.specs.declared.Tender.{Tender}
 use Rattle.tender.specs.declared.AwardRow.{AwardRow}
+use Rattle.tender.specs.declared.Totals.{Totals}
 use Rattle.tender.specs.Keywords.{bytes, singleWord, multiWord}
 use Rattle.tender.specs.Tables.{Row}
 use Rattle.reader_line.specs.Words.{andThen, growFirst, cut, among, sameBytes, closed, digits}
@@ -255,21 +256,21 @@ kept-row r h = go (r .won) refl
     go false e = ap (λ c. record { won = false; cents = c }) (sym (h e)) ∙ ap (λ v. record { won = v; cents = r .cents }) (sym e)
 
 -- of each bid the list shows the row that it was awarded
-pub row-shown : (t : Tender) (R : List Row) (rows : List AwardRow) (cost paid i : ℕ) → i < length R →
+pub row-shown : (t : Tender) (R : List Row) (rows : List AwardRow) (totals : Totals) (i : ℕ) → i < length R →
     ((j : ℕ) → j < length R → (getD R j noRow .bidder < 10 ^ 20) × (getD rows j lost .cents < 10 ^ 20)) →
     ((j : ℕ) → j < length R → (j ≡ i → ⊥) → getD R j noRow .bidder ≡ getD R i noRow .bidder → ⊥) →
     (getD rows i lost .won ≡ false → getD rows i lost .cents ≡ 0) →
-    rowShown (getD R i noRow .bidder) (listLines t R (awarded rows cost paid)) ≡ getD rows i lost
+    rowShown (getD R i noRow .bidder) (listLines t R (awarded rows totals)) ≡ getD rows i lost
 unfolding listLines rowShown rowAmong cut winOn sameBytes rowOr
-row-shown t R rows cost paid i l sizes d h =
+row-shown t R rows totals i l sizes d h =
     let n = getD R i noRow .bidder in
     let s = sizes i l .0 in
-    let total = pairLine totalWord cost paid in
+    let total = pairLine totalWord (totals .cost) (totals .paid) in
     ap (rowShown n) (append-assoc (awardLine t) (winList R rows (length R)) total)
     ∙ award-row n s t (winList R rows (length R) ++ total)
     ∙ own n s R rows sizes (length R) i (omega arith) l refl d total
     ∙ ap (λ r. cond (getD rows i lost .won) (record { won = true; cents = getD rows i lost .cents }) r)
-    (ap (rowShown n) (sym (append-nil total)) ∙ total-row n s cost paid [])
+    (ap (rowShown n) (sym (append-nil total)) ∙ total-row n s (totals .cost) (totals .paid) [])
     ∙ kept-row (getD rows i lost) h
 
 -- two such lines are the same only where their first numbers are

@@ -4,14 +4,15 @@ use mathlib.Core.Bool.{Bool, true, false, _&&_}
 use mathlib.Core.List.{List, [], _∷_, map}
 use Prim.Native.Nat.{ℕ}
 use lib.ListN.{length, getD}
-use Rattle.tender.specs.Tables.{flatWindows}
+use Rattle.tender.specs.Tables.{flatRows, flatWindows}
 use Rattle.cover.specs.Sets.{covers, cells}
 use Rattle.cover.specs.Sets as sets
 use Rattle.cover.specs.SetLaws.{and-split}
 use Rattle.cover.specs.Greedy.{Rounds, stop, round, run, bids}
 use Rattle.reader_line.specs.Words.{sameBytes}
 use Rattle.reader.specs.Read.{ReadOutcome, accepted, refused, readText}
-use Rattle.award_check.specs.Cells.{noRow, cellsOf, hasOf, pricesOf}
+use Rattle.award_check.specs.Cells.{noRow}
+use Rattle.award_check.specs.Auction.{auctionOf}
 use Rattle.listing.specs.List.{listOf}
 use Rattle.writer.specs.SpeltLaws.{same-is}
 use Rattle.theorems.specs.WorkedCases.{Case, third, cases}
@@ -52,21 +53,21 @@ takenIn (round i c O t) = i ∷ takenIn t
 
 -- the bidders in the order in which the rounds take them
 unfoldable pub inRounds : ReadOutcome → List ℕ
-unfolding takenIn run bids hasOf pricesOf cellsOf cells noRow flatWindows
+unfolding takenIn run bids auctionOf cells noRow flatRows flatWindows
 inRounds (refused n at) = []
-inRounds (accepted t R W) = map (λ i. getD R i noRow .bidder)
-    (takenIn (run (bids (hasOf t R (flatWindows W)) (pricesOf R)) (length R) (cellsOf t) (cells (cellsOf t))))
+inRounds (accepted t R W) = let A = auctionOf t (length R) (flatRows R) (flatWindows W) in
+    map (λ i. getD R i noRow .bidder) (takenIn (run (bids (A .has) (A .prices)) (length R) (A .cells) (cells (A .cells))))
 
 -- whether a set of bids covers, and what it costs: bid i is bit i of the set
 unfoldable pub setCovers : ReadOutcome → ℕ → Bool
-unfolding covers hasOf cellsOf flatWindows
+unfolding covers auctionOf flatRows flatWindows
 setCovers (refused n at) s = false
-setCovers (accepted t R W) s = covers (hasOf t R (flatWindows W)) (length R) (cellsOf t) s
+setCovers (accepted t R W) s = let A = auctionOf t (length R) (flatRows R) (flatWindows W) in covers (A .has) (length R) (A .cells) s
 
 unfoldable pub setCost : ReadOutcome → ℕ → ℕ
-unfolding sets.cost pricesOf
+unfolding sets.cost auctionOf flatRows flatWindows
 setCost (refused n at) s = 0
-setCost (accepted t R W) s = sets.cost (pricesOf R) s
+setCost (accepted t R W) s = sets.cost (auctionOf t (length R) (flatRows R) (flatWindows W) .prices) s
 
 -- taken: 21, 24, 22
 pub third-rounds : inRounds (readText (third .text)) ≡ 21 ∷ 24 ∷ 22 ∷ []

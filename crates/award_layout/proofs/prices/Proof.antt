@@ -4,7 +4,7 @@ use Prim.Native.Nat.{ℕ, _+_, _*_, _-_, _≤_, _<_}
 use native.Mathlib.Omega.{arith}
 use lib.ListN.{length, getD, length-set}
 use Rattle.tender.specs.Tables.{bidWidth}
-use Rattle.award_layout.specs.LaidLaws.{filled-more, prices-are}
+use Rattle.award_layout.specs.LaidLaws.{filled-more}
 use Rattle.award_layout.proofs.prices.Statement.{statement}
 use Rattle.award_layout.proofs.prices.Tie as tie
 use Rattle.award_layout.proofs.prices.Reads as reads
@@ -57,10 +57,7 @@ same-length : tie.Need-same-length Inv-loop μ-loop
 same-length c = c .before .loop .inv .1 .0
 
 returns : tie.Need-returns Inv-loop μ-loop
-returns c =
-    let args = c .before .before .args in
-    prices-are (args .bids .now) (c .before .loop .out) (length (args .out .now)) (c .before .loop .inv .1 .0)
-    (λ j l. c .before .loop .inv .1 .1 j (omega arith))
+returns c = record { count = c .before .loop .inv .1 .0; prices-are = λ j l. c .before .loop .inv .1 .1 j (omega arith) }
 
 pub prices-spec : {M : Type 1} → statement M
 prices-spec =

@@ -6,6 +6,7 @@ use Rattle.tender.specs.declared.Kind.the-variants.{Multi}
 use Rattle.multi_rounds.specs.Market.{has}
 use Rattle.award_thin.specs.Thin.{Says}
 use Rattle.award_check.specs.Cells.{cellsOf}
+use Rattle.award_check.specs.Auction.{auctionOf}
 use Rattle.award_layout.specs.LayoutLaws.{orderly}
 use Rattle.award_plain.specs.MultiLaws.{words-of, uncovered, lone, market, spared, settled}
 use Rattle.cover.specs.EarliestLaws.{cell-found}
@@ -106,7 +107,7 @@ enum-told : tie.Need-enum-told
 enum-told c = search needs
 
 award-requires : tie.Need-award-requires
-unfolding cellsOf
+unfolding cellsOf auctionOf
 award-requires c κs =
     let c4 = c .before .before .before .before in
     let c6 = c4 .before .before in
@@ -143,7 +144,7 @@ same-length-2 : tie.Need-same-length-2
 same-length-2 c = search needs
 
 returns : tie.Need-returns
-unfolding cellsOf
+unfolding cellsOf auctionOf
 returns c =
     let c7 = c .before .before .before .before .before .before .before in
     let c11 = c7 .before .before .before .before in
@@ -163,7 +164,7 @@ same-length-4 : tie.Need-same-length-4
 same-length-4 c = search needs
 
 returns-2 : tie.Need-returns-2
-unfolding cellsOf
+unfolding cellsOf auctionOf
 returns-2 c =
     let c7 = c .before .before .before .before .before .before .before in
     let c11 = c7 .before .before .before .before in
@@ -189,7 +190,7 @@ same-length-8 : tie.Need-same-length-8
 same-length-8 c = search needs
 
 returns-3 : tie.Need-returns-3
-unfolding cellsOf
+unfolding cellsOf auctionOf
 returns-3 c =
     let c4 = c .before .before .before .before in
     let c9 = c4 .before .before .before .before .before in

@@ -7,6 +7,7 @@ use Rattle.tender.specs.declared.Kind.the-variants.{Single}
 use Rattle.cover.specs.Settled.{spans}
 use Rattle.award_thin.specs.Thin.{Says}
 use Rattle.award_check.specs.Cells.{cellsOf}
+use Rattle.award_check.specs.Auction.{auctionOf}
 use Rattle.award_layout.specs.LayoutLaws.{orderly, timed}
 use Rattle.award_plain.specs.SingleLaws.{uncovered, lone, ordered, prices-sum, settled}
 use Rattle.cover.specs.EarliestLaws.{cell-found}
@@ -155,7 +156,7 @@ same-length-3 : tie.Need-same-length-3
 same-length-3 c = search needs
 
 returns : tie.Need-returns
-unfolding cellsOf
+unfolding cellsOf auctionOf
 returns c =
     let c10 = c .before .before .before .before .before .before .before .before .before .before in
     let c15 = c10 .before .before .before .before .before in
@@ -181,7 +182,7 @@ same-length-6 : tie.Need-same-length-6
 same-length-6 c = search needs
 
 returns-2 : tie.Need-returns-2
-unfolding cellsOf
+unfolding cellsOf auctionOf
 returns-2 c =
     let c10 = c .before .before .before .before .before .before .before .before .before .before in
     let c15 = c10 .before .before .before .before .before in
@@ -213,7 +214,7 @@ same-length-11 : tie.Need-same-length-11
 same-length-11 c = search needs
 
 returns-3 : tie.Need-returns-3
-unfolding cellsOf
+unfolding cellsOf auctionOf
 returns-3 c =
     let c4 = c .before .before .before .before in
     let c10 = c4 .before .before .before .before .before .before in
