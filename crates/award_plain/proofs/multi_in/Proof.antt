@@ -21,7 +21,6 @@ use Rattle.award_layout.proofs.prices.Reads as prices-reads
 use Rattle.multi.proofs.award.Reads as award-reads
 
 sub-cells : tie.Need-sub-cells
-unfolding cellsOf
 sub-cells c =
     let c8 = c .before .before .before .before .before .before .before .before in
     let args = c8 .args in
@@ -33,7 +32,6 @@ sub-cells c =
     )
 
 prices-requires : tie.Need-prices-requires
-unfolding cellsOf
 prices-requires c κs =
     let c9 = c .before .before .before .before .before .before .before .before .before in
     let args = c9 .args in

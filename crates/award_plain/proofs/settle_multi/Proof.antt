@@ -52,7 +52,6 @@ mul-all c =
     )
 
 array-borrow-prefix-prices : tie.Need-array-borrow-prefix-prices
-unfolding cellsOf
 array-borrow-prefix-prices c =
     let c6 = c .before .before .before .before .before .before in
     let args = c6 .args in
@@ -63,7 +62,6 @@ array-borrow-prefix-prices c =
     )
 
 slice-aggregate-multi-in : tie.Need-slice-aggregate-multi-in
-unfolding cellsOf
 slice-aggregate-multi-in c =
     let c7 = c .before .before .before .before .before .before .before in
     let args = c7 .args in
@@ -127,19 +125,16 @@ multi-in-requires c κs =
     )
 
 same-length : tie.Need-same-length
-unfolding cellsOf
 same-length c =
     let c6 = c .before .before .before .before .before .before in
     c6 .multi-in .kept .1 .1 .1 .1 .1 .1 .0
 
 same-length-2 : tie.Need-same-length-2
-unfolding cellsOf
 same-length-2 c =
     let c6 = c .before .before .before .before .before .before in
     c6 .multi-in .kept .1 .1 .1 .1 .1 .1 .1 .0
 
 returns : tie.Need-returns
-unfolding cellsOf
 returns c =
     let c6 = c .before .before .before .before .before .before in
     let c17 = c6 .before .before .before .before .before .before .before .before .before .before .before in

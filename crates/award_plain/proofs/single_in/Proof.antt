@@ -22,21 +22,18 @@ use Rattle.award_layout.proofs.spans.Reads as spans-reads
 use Rattle.single.proofs.award.Reads as award-reads
 
 sub-cells : tie.Need-sub-cells
-unfolding cellsOf
 sub-cells c =
     let c9 = c .before .before .before .before .before .before .before .before .before in
     let args = c9 .args in
     omega (arith, timed Single (args .tender) (length (args .prices .now)) (args .bids .now) (args .windows .now) (c9 .pre .0) .some-minute)
 
 prices-requires : tie.Need-prices-requires
-unfolding cellsOf
 prices-requires c κs =
     let c10 = c .before .before .before .before .before .before .before .before .before .before in
     let args = c10 .args in
     orderly Single (args .tender) (length (args .prices .now)) (args .bids .now) (args .windows .now) (c10 .pre .0) .lent
 
 spans-requires : tie.Need-spans-requires
-unfolding cellsOf
 spans-requires c κs =
     let c15 = c .before .before .before .before .before .before .before .before .before .before .before .before .before .before .before in
     let args = c15 .args in
