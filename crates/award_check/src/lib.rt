@@ -1,4 +1,4 @@
-// The tables lent to an award: `fault` finds the place of refusal 9. `specs/` has the rules, the cells of each bid, and
+// The tables lent to an award: `fault` finds the place of refusal 9. `specs/` has the rules, the auction that tables say, and
 // the laws of tables that are alike in all but one price and of the tables of a text.
 use tender::Kind;
 use tender::Tender;

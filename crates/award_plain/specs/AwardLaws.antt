@@ -45,7 +45,7 @@ pub cents-multi : (A : Auction) (i : ℕ) → cents Multi A i ≡ criticalPaid (
 unfolding cents
 cents-multi A i = refl
 
--- over cells
+-- of an auction
 
 pub settled-is : (k : Kind) (A : Auction) (start : ℕ) (x y : Found) → cellWith (A .has) (A .owners) (A .cells) 0 ≡ x
     → cellWith (A .has) (A .owners) (A .cells) 1 ≡ y
