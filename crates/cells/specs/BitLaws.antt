@@ -4,7 +4,7 @@ use Prim.Native.Nat.{ℕ, zero, suc, _+_, _-_, _/_, _%_, _^_, _≤_, _<_, min, m
 use native.Mathlib.Nat.{add-comm, pow-suc, not-suc-le-zero, le-of-suc-le-suc, zero-div}
 use native.Mathlib.Numerals.{add-one}
 use native.Mathlib.Omega.{arith}
-use lib.Pow.{pow-pos, shr-shr, ones-split, ones-lt, high}
+use lib.Pow.{pow-pos, shr-shr}
 use lib.Bits.{bitAnd, bitOr, and-step, or-step, and-shr, or-shr}
 use Rattle.cells.specs.Cells.{bitOf}
 
@@ -60,15 +60,6 @@ ones-out (suc k) (suc j) h = bit-suc (2 ^ suc k - 1) j ∙ ap (λ (x : ℕ). bit
 pub clear-bit : (a m k : ℕ) → m < 2 ^ 64 → k < 64 → bitOf (bitAnd a (18446744073709551615 - m)) k ≡ bitOf a k - bitOf m k
 clear-bit a m k h hk =
     and-bit a (18446744073709551615 - m) k ∙ ap (min (bitOf a k)) (not-bit 64 m k h hk) ∙ omega arith
-
--- the top k bits of a word of ones, shifted down
-pub ones-shifted : (k : ℕ) → k ≤ 64 → 18446744073709551615 / 2 ^ (64 - k) ≡ 2 ^ k - 1
-ones-shifted k h =
-    ap (λ (x : ℕ). x / 2 ^ (64 - k)) (ap (λ (j : ℕ). 2 ^ j - 1) whole ∙ ones-split k (64 - k))
-    ∙ high (2 ^ k - 1) (64 - k) (ones-lt (64 - k))
-  where
-    whole : 64 ≡ k + (64 - k)
-    whole = omega arith
 
 power-half : (k : ℕ) → 2 ^ suc k / 2 ≡ 2 ^ k
 power-half k = omega (arith, pow-suc 2 k)

@@ -120,11 +120,11 @@ module _ (ws : List ℕ) (w : ℕ) (h : w < length ws) where
       same x z = ⊎-elim (λ n. set-other ws w h x (bitOr (getD ws w 0) m) n)
           (λ q. or-same ws w h x m q ∙ ap (max (cell ws x)) (z q) ∙ omega arith) (ne-or-eq (x / 64) w)
 
-  pub whole-added : RangeAdded (64 * w) (64 * (w + 1)) ws (set ws w 18446744073709551615)
-  whole-added = record {
-    inside = λ x a b. set-same ws w h x 18446744073709551615 (omega arith) ∙ ones-in 64 (x % 64) (omega arith);
-    below = λ x a. set-other ws w h x 18446744073709551615 (λ e. omega arith);
-    above = λ x a. set-other ws w h x 18446744073709551615 (λ e. omega arith);
+  pub whole-added : (m : ℕ) → Span 0 64 m → RangeAdded (64 * w) (64 * (w + 1)) ws (set ws w m)
+  whole-added m full = record {
+    inside = λ x a b. set-same ws w h x m (omega arith) ∙ full .inside (x % 64) (omega arith) (omega arith);
+    below = λ x a. set-other ws w h x m (λ e. omega arith);
+    above = λ x a. set-other ws w h x m (λ e. omega arith);
   }
 
 -- ---- the bits lo up to hi, of two masks

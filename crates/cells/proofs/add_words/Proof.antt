@@ -5,6 +5,7 @@ use mathlib.Core.Path.{_≡_, refl}
 use lib.ListN.{length, length-set}
 use Rattle.cells.specs.Cells.{RangeAdded}
 use Rattle.cells.specs.StoreLaws.{filled-none, filled-join, whole-added}
+use borrow.Author.Needs.{needs}
 use Rattle.cells.proofs.add_words.Statement.{statement}
 use Rattle.cells.proofs.add_words.Tie as tie
 use Rattle.cells.proofs.add_words.Reads as reads
@@ -17,7 +18,10 @@ abbrev μ-loop : tie.MeasureT-loop
 μ-loop words₀ a b w₀ words w = b - w
 
 loop-holds : tie.Need-loop-holds Inv-loop μ-loop
-loop-holds c = (omega arith, (omega arith, (refl, filled-none (64 * c .args .a) (c .args .words .now))))
+loop-holds c = (omega arith, (omega arith, (refl, filled-none (64 * c .before .args .a) (c .before .args .words .now))))
+
+first-bits-requires : tie.Need-first-bits-requires Inv-loop μ-loop
+first-bits-requires c κs = search needs
 
 mul-words : tie.Need-mul-words Inv-loop μ-loop
 mul-words c = omega arith
@@ -32,23 +36,24 @@ loop-less : tie.Need-loop-less Inv-loop μ-loop
 loop-less c = omega arith
 
 loop-again : tie.Need-loop-again Inv-loop μ-loop
-loop-again c = (
-  omega arith,
-  (
-    omega arith,
-    (
-      simp length-set (c .before .loop .inv .1 .1 .0),
-      filled-join (omega arith) (omega arith) (c .before .loop .inv .1 .1 .1)
-          (whole-added (c .before .loop .words) (c .before .loop .w) (omega arith)),
-    ),
-  ),
-)
+loop-again c =
+    let loop = c .before .before .loop in (
+      omega arith,
+      (
+        omega arith,
+        (
+          simp length-set (loop .inv .1 .1 .0),
+          filled-join (omega arith) (omega arith) (loop .inv .1 .1 .1)
+              (whole-added (loop .words) (loop .w) (omega arith) (c .first-bits .result) (c .first-bits .ensures .1)),
+        ),
+      ),
+    )
 
 same-length : tie.Need-same-length Inv-loop μ-loop
 same-length c = c .before .loop .inv .1 .1 .0
 
 returns : tie.Need-returns Inv-loop μ-loop
-returns c = let e : c .before .loop .w ≡ c .before .before .args .b = omega arith in rw (← e) (c .before .loop .inv .1 .1 .1)
+returns c = let e : c .before .loop .w ≡ c .before .before .before .args .b = omega arith in rw (← e) (c .before .loop .inv .1 .1 .1)
 
 pub add-words-spec : {M : Type 1} → statement M
 add-words-spec =
@@ -57,6 +62,7 @@ add-words-spec =
     Inv-loop
     μ-loop
     loop-holds
+    first-bits-requires
     mul-words
     slice-write-words
     add-w
