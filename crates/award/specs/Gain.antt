@@ -14,7 +14,7 @@ lost = record { won = false; cents = 0 }
 unfoldable pub rowFor : Outcome → ℕ → AwardRow
 unfolding lost
 rowFor (awarded rows totals) i = getD rows i lost
-rowFor (refused n at) i = lost
+rowFor (refused r) i = lost
 
 -- the payment less the true cost for a winner, and 0 for a loser or in a refused tender
 unfoldable pub gain : ℕ → AwardRow → ℤ

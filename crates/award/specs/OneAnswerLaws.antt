@@ -12,7 +12,6 @@ use Rattle.tender.specs.declared.Kind.{Kind}
 use Rattle.tender.specs.declared.Tender.{Tender}
 use Rattle.tender.specs.declared.Refusal.{Refusal}
 use Rattle.tender.specs.declared.Refusal.the-variants.{BadTables, RowsTooFew, MinuteUncovered, OneBidder}
-use Rattle.tender.specs.Refusals.{numberOf, placeOf}
 use Rattle.cover.specs.Sets.{Found, nothing, found, bidders}
 use Rattle.cover.specs.Earliest.{cellWith}
 use Rattle.cover.specs.EarliestLaws.{cell-found, one-at, two-at}
@@ -22,7 +21,7 @@ use Rattle.award_check.specs.Auction.{Auction, auctionOf}
 use Rattle.award_check.specs.AuctionLaws.{minutes, owners-are}
 use Rattle.tender.specs.declared.AwardRow.{AwardRow}
 use Rattle.tender.specs.declared.Answer.{Answer}
-use Rattle.award_plain.specs.Award.{Outcome, awarded, declined, awardRows, totalsOf, thinned, settled}
+use Rattle.award_plain.specs.Award.{Outcome, awarded, refused, awardRows, totalsOf, thinned, settled}
 use Rattle.award.specs.Promise.{lentAfter, toldAward, Promise}
 use Rattle.award.specs.Right.{Callable, Bidders, EarliestIn, IsAward, IsRefusal, OneAnswer, tables-break-a-rule, rows-too-few}
 use Rattle.award.specs.Right.{minute-uncovered, one-bidder, award}
@@ -36,7 +35,7 @@ module _ (k : Kind) (t : Tender) (n : ℕ) (bids windows : List ℕ) (old new : 
   abbrev A : Auction
   A = auctionOf t n bids windows
 
-  refusal : (r : Refusal) → o ≡ declined r → IsRefusal (numberOf r) (placeOf r) old new o
+  refusal : (r : Refusal) → o ≡ refused r → IsRefusal r old new o
   unfolding lentAfter
   refusal r e = record { outcome = e; lent = p .rows ∙ ap (lentAfter old) e }
 
@@ -82,7 +81,7 @@ module _ (k : Kind) (t : Tender) (n : ℕ) (bids windows : List ℕ) (old new : 
       rows : faultOf k t n bids windows ≡ none → (b : Bool) → ltb (length old) n ≡ b → OneAnswer k t n bids windows old new o
       rows f true g = rows-too-few f (ltb-true (length old) n g)
           (refusal RowsTooFew (p .answers ∙ award-none k t n bids windows (length old) f
-          ∙ ap (λ z. cond z (declined RowsTooFew) (settled k A (t .window .start))) g))
+          ∙ ap (λ z. cond z (refused RowsTooFew) (settled k A (t .window .start))) g))
       rows f false g = cover (record { sound = f; rows = ltb-false (length old) n g }) g
 
       fault : (m : Option ℕ) → faultOf k t n bids windows ≡ m → OneAnswer k t n bids windows old new o

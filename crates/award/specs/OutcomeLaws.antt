@@ -46,7 +46,7 @@ pub no-loss : (k : Kind) (t : Tender) (n i : ℕ) (bids windows : List ℕ) (len
 unfolding named rowFor
 no-loss k t n i bids windows lent (awarded rows totals) l x e =
     row-fair k t n bids windows lent rows totals (award-awarded k t n bids windows lent rows totals x) i l e
-no-loss k t n i bids windows lent (refused m at) l x e = let z : _≡_ {A = ℕ} 0 1 = cc in absurd (omega arith)
+no-loss k t n i bids windows lent (refused r) l x e = let z : _≡_ {A = ℕ} 0 1 = cc in absurd (omega arith)
 
 pub least-cover : (t : Tender) (n : ℕ) (bids windows : List ℕ) (lent : ℕ) (rows : List AwardRow) (totals : Totals)
     → awarded rows totals ≡ awardOf Single t n bids windows lent → LeastCover (auctionOf t n bids windows) rows totals

@@ -8,6 +8,8 @@ use lib.ListN.{length, getD, drop}
 use Rattle.tender.specs.declared.Kind.{Kind}
 use Rattle.tender.specs.declared.Tender.{Tender}
 use Rattle.tender.specs.declared.Totals.{Totals}
+use Rattle.tender.specs.declared.Refusal.{Refusal}
+use Rattle.tender.specs.declared.Refusal.the-variants.{BadTables, RowsTooFew, MinuteUncovered, OneBidder}
 use Rattle.tender.specs.Tables.{Row}
 use Rattle.cover.specs.Sets.{bit, bidders}
 use Rattle.cover.specs.Sets as sets
@@ -43,20 +45,20 @@ pub record IsAward (k : Kind) (A : Auction) (old new : List AwardRow) (o : Outco
   pub lent : new ≡ awardRows k A ++ drop (A .owners) old
 
 -- a refusal leaves the lent rows as they were
-pub record IsRefusal (number place : ℕ) (old new : List AwardRow) (o : Outcome) : Type 0 where
-  pub outcome : o ≡ refused number place
+pub record IsRefusal (r : Refusal) (old new : List AwardRow) (o : Outcome) : Type 0 where
+  pub outcome : o ≡ refused r
   pub lent : new ≡ old
 
--- one award or one refusal
+-- one award or one refusal: 9, else 10, else 11, else 12
 pub data OneAnswer (k : Kind) (t : Tender) (n : ℕ) (bids windows : List ℕ) (old new : List AwardRow) (o : Outcome) : Type 0 where
-  tables-break-a-rule : (p : ℕ) → faultOf k t n bids windows ≡ some p → IsRefusal 9 p old new o
+  tables-break-a-rule : (p : ℕ) → faultOf k t n bids windows ≡ some p → IsRefusal (BadTables p) old new o
       → OneAnswer k t n bids windows old new o
-  rows-too-few : faultOf k t n bids windows ≡ none → length old < n → IsRefusal 10 0 old new o
+  rows-too-few : faultOf k t n bids windows ≡ none → length old < n → IsRefusal RowsTooFew old new o
       → OneAnswer k t n bids windows old new o
   minute-uncovered : (m : ℕ) → Callable k t n bids windows (length old) → EarliestIn t (auctionOf t n bids windows) m 0
-      → IsRefusal 11 m old new o → OneAnswer k t n bids windows old new o
+      → IsRefusal (MinuteUncovered m) old new o → OneAnswer k t n bids windows old new o
   one-bidder : (m : ℕ) → Callable k t n bids windows (length old) → Bidders (auctionOf t n bids windows) 1
-      → EarliestIn t (auctionOf t n bids windows) m 1 → IsRefusal 12 m old new o → OneAnswer k t n bids windows old new o
+      → EarliestIn t (auctionOf t n bids windows) m 1 → IsRefusal (OneBidder m) old new o → OneAnswer k t n bids windows old new o
   award : Callable k t n bids windows (length old) → Bidders (auctionOf t n bids windows) 2
       → IsAward k (auctionOf t n bids windows) old new o → OneAnswer k t n bids windows old new o
 

@@ -21,7 +21,7 @@ use Rattle.reader.specs.PriceLaws.{price-law}
 use Rattle.award_check.specs.Faults.{sameKind, faultOf}
 use Rattle.award_check.specs.Alike.{named}
 use Rattle.award_check.specs.TextLaws.{never-nine, Tabled, tabled}
-use Rattle.award_plain.specs.Award.{Outcome, declined, awardOf}
+use Rattle.award_plain.specs.Award.{Outcome, refused, awardOf}
 use Rattle.award_plain.specs.AwardLaws.{award-nine}
 use Rattle.award.specs.Gain.{rowFor, gain, AtMost}
 use Rattle.award.specs.Right.{NoGain}
@@ -38,7 +38,7 @@ wrong-kind : (k : Kind) (t : Tender) (n : ℕ) (bids windows : List ℕ) → sam
 unfolding faultOf
 wrong-kind k t n bids windows e = rw e
 
-nothing : (c i : ℕ) → AtMost (gain c (rowFor (declined (BadTables 0)) i)) (gain c (rowFor (declined (BadTables 0)) i))
+nothing : (c i : ℕ) → AtMost (gain c (rowFor (refused (BadTables 0)) i)) (gain c (rowFor (refused (BadTables 0)) i))
 unfolding gain rowFor
 nothing c i = omega arith
 

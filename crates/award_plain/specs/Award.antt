@@ -41,11 +41,7 @@ cents Multi A i = criticalPaid (A .has) (A .prices) (cells (A .cells)) i
 pub data Outcome : Type 0 where
   -- the rows filled, and the totals
   awarded : List AwardRow → Totals → Outcome
-  -- the refusal's number and place
-  refused : ℕ → ℕ → Outcome
-
-abbrev pub declined : Refusal → Outcome
-declined r = refused (numberOf r) (placeOf r)
+  refused : Refusal → Outcome
 
 -- one award row for each owner's bid, in entry order
 unfoldable pub awardRows : Kind → Auction → List AwardRow
@@ -62,8 +58,8 @@ totalsOf k A = record {
 
 -- 11 at the cell found in no bid, else 12 at the cell found in one alone, else the outcome; cell x is the minute start + x
 unfoldable pub thinned : ℕ → Found → Found → Outcome → Outcome
-thinned start (found x) lone o = declined (MinuteUncovered (start + x))
-thinned start nothing (found x) o = declined (OneBidder (start + x))
+thinned start (found x) lone o = refused (MinuteUncovered (start + x))
+thinned start nothing (found x) o = refused (OneBidder (start + x))
 thinned start nothing nothing o = o
 
 -- 11 at the earliest cell in no bid, else 12 at the earliest in exactly one, else the award
@@ -74,18 +70,19 @@ settled k A start = thinned start (cellWith (A .has) (A .owners) (A .cells) 0) (
 
 unfoldable pub judged : Option ℕ → Outcome → Outcome
 judged none o = o
-judged (some row) o = declined (BadTables row)
+judged (some row) o = refused (BadTables row)
 
 -- the award of the kind k, where n bids are stated and `lent` award rows are lent: first 9, then 10, then the tender itself
 unfoldable pub awardOf : Kind → Tender → ℕ → List ℕ → List ℕ → ℕ → Outcome
 unfolding judged faultOf settled auctionOf
 awardOf k t n bids windows lent = judged (faultOf k t n bids windows)
-    (cond (ltb lent n) (declined RowsTooFew) (settled k (auctionOf t n bids windows) (t .window .start)))
+    (cond (ltb lent n) (refused RowsTooFew) (settled k (auctionOf t n bids windows) (t .window .start)))
 
+-- the refusal's number and place; 0 of an award
 unfoldable pub outcomeNumber : Outcome → ℕ
 outcomeNumber (awarded rows totals) = 0
-outcomeNumber (refused n at) = n
+outcomeNumber (refused r) = numberOf r
 
 unfoldable pub outcomePlace : Outcome → ℕ
 outcomePlace (awarded rows totals) = 0
-outcomePlace (refused n at) = at
+outcomePlace (refused r) = placeOf r

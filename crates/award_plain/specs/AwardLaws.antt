@@ -24,7 +24,7 @@ use Rattle.cover.specs.SettledLaws.{length-listed}
 use Rattle.award_check.specs.Faults.{faultOf}
 use Rattle.award_check.specs.Auction.{Auction, auctionOf}
 use Rattle.award_check.specs.AuctionLaws.{owners-are, entries}
-use Rattle.award_plain.specs.Award.{won, cents, Outcome, awarded, declined, awardRows, totalsOf, thinned, settled, judged, awardOf}
+use Rattle.award_plain.specs.Award.{won, cents, Outcome, awarded, refused, awardRows, totalsOf, thinned, settled, judged, awardOf}
 use Rattle.award_plain.specs.Award.{outcomeNumber}
 
 pub won-single : (A : Auction) (i n : ℕ) → length (A .prices) ≡ n
@@ -77,7 +77,7 @@ settled-awarded k A start rows totals h =
 -- over tables
 
 award-is : (k : Kind) (t : Tender) (n : ℕ) (bids windows : List ℕ) (lent : ℕ) → awardOf k t n bids windows lent
-    ≡ judged (faultOf k t n bids windows) (cond (ltb lent n) (declined RowsTooFew)
+    ≡ judged (faultOf k t n bids windows) (cond (ltb lent n) (refused RowsTooFew)
     (settled k (auctionOf t n bids windows) (t .window .start)))
 unfolding awardOf
 award-is k t n bids windows lent = refl
@@ -89,7 +89,7 @@ judged-none (some p) a e = let z : _≡_ {A = ℕ} 0 1 = cc in absurd (omega ari
 
 pub award-none : (k : Kind) (t : Tender) (n : ℕ) (bids windows : List ℕ) (lent : ℕ) → faultOf k t n bids windows ≡ none
     → awardOf k t n bids windows lent
-    ≡ cond (ltb lent n) (declined RowsTooFew) (settled k (auctionOf t n bids windows) (t .window .start))
+    ≡ cond (ltb lent n) (refused RowsTooFew) (settled k (auctionOf t n bids windows) (t .window .start))
 award-none k t n bids windows lent e = award-is k t n bids windows lent ∙ judged-none (faultOf k t n bids windows) _ e
 
 -- of the award rows lent it matters only whether there is one for every bid
@@ -98,12 +98,12 @@ pub award-lent : (k : Kind) (t : Tender) (n : ℕ) (bids windows : List ℕ) (le
 unfolding awardOf
 award-lent k t n bids windows lent lent′ e = rw e
 
-judged-some : (o : Option ℕ) (a : Outcome) (p : ℕ) → o ≡ some p → judged o a ≡ declined (BadTables p)
+judged-some : (o : Option ℕ) (a : Outcome) (p : ℕ) → o ≡ some p → judged o a ≡ refused (BadTables p)
 unfolding judged
 judged-some o a p e = rw e
 
 pub award-nine : (k : Kind) (t : Tender) (n : ℕ) (bids windows : List ℕ) (lent p : ℕ) → faultOf k t n bids windows ≡ some p
-    → awardOf k t n bids windows lent ≡ declined (BadTables p)
+    → awardOf k t n bids windows lent ≡ refused (BadTables p)
 award-nine k t n bids windows lent p e = award-is k t n bids windows lent ∙ judged-some (faultOf k t n bids windows) _ p e
 
 judged-nine : (o : Option ℕ) (r a : Outcome) → a ≡ judged o r → (outcomeNumber a ≡ 9 → ⊥) → o ≡ none
@@ -123,7 +123,7 @@ pub award-settles : (k : Kind) (t : Tender) (n : ℕ) (bids windows : List ℕ) 
     ≡ thinned (t .window .start) x y (awarded (awardRows k (auctionOf t n bids windows)) (totalsOf k (auctionOf t n bids windows)))
 award-settles k t n bids windows lent f g x y d e =
     award-none k t n bids windows lent f
-    ∙ ap (λ z. cond z (declined RowsTooFew) (settled k (auctionOf t n bids windows) (t .window .start))) g
+    ∙ ap (λ z. cond z (refused RowsTooFew) (settled k (auctionOf t n bids windows) (t .window .start))) g
     ∙ settled-is k (auctionOf t n bids windows) (t .window .start) x y (rw (owners-are t n bids windows) d)
     (rw (owners-are t n bids windows) e)
 
@@ -142,7 +142,7 @@ award-awarded k t n bids windows lent rows totals e =
     go f (ltb lent n) refl (sym (award-none k t n bids windows lent f) ∙ sym e)
   where
     go : faultOf k t n bids windows ≡ none → (b : Bool) → ltb lent n ≡ b
-        → cond b (declined RowsTooFew) (settled k (auctionOf t n bids windows) (t .window .start)) ≡ awarded rows totals
+        → cond b (refused RowsTooFew) (settled k (auctionOf t n bids windows) (t .window .start)) ≡ awarded rows totals
         → AwardOn k t n bids windows lent rows totals
     go f true d h = let z : _≡_ {A = ℕ} 0 1 = cc in absurd (omega arith)
     go f false d h = record {

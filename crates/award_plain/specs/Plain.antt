@@ -11,7 +11,7 @@ use Rattle.cover.specs.Settled.{listed}
 use Rattle.tender.specs.declared.AwardRow.{AwardRow}
 use Rattle.tender.specs.declared.Answer.{Answer}
 use Rattle.tender.specs.declared.Answer.the-variants.{Awarded, Refused}
-use Rattle.award_plain.specs.Award.{Outcome, awarded, refused, declined, awardOf}
+use Rattle.award_plain.specs.Award.{Outcome, awarded, refused, awardOf}
 
 -- the award row that a bid's flag and cents say
 abbrev pub rowOf : ℕ → ℕ → AwardRow
@@ -26,16 +26,16 @@ rowsIn n won cents = listed n (λ i. rowOf (getD won i 0) (getD cents i 0))
 unfoldable pub toldIn : ℕ → List ℕ → List ℕ → Answer → Outcome
 unfolding rowsIn
 toldIn n won cents (Awarded totals) = awarded (rowsIn n won cents) totals
-toldIn n won cents (Refused r) = declined r
+toldIn n won cents (Refused r) = refused r
 
 -- the lent lists after the call: places past the last bid stay, and all of them where the award declines
 unfoldable pub wonAfter : List ℕ → Outcome → List ℕ
 wonAfter old (awarded rows totals) = map (λ r. when (r .won) 1) rows ++ drop (length rows) old
-wonAfter old (refused n at) = old
+wonAfter old (refused r) = old
 
 unfoldable pub centsAfter : List ℕ → Outcome → List ℕ
 centsAfter old (awarded rows totals) = map (λ r. r .cents) rows ++ drop (length rows) old
-centsAfter old (refused n at) = old
+centsAfter old (refused r) = old
 
 -- the promise of a call, with `lent` award rows: it leaves the lists won′ and cents′ and answers a
 pub record PlainPromise (k : Kind) (t : Tender) (n : ℕ) (bids windows : List ℕ) (lent : ℕ) (won cents won′ cents′ : List ℕ)

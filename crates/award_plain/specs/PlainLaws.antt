@@ -31,7 +31,7 @@ use Rattle.award_check.specs.Auction.{Auction, auctionOf}
 use Rattle.award_check.specs.AuctionLaws.{owners-are, entries}
 use Rattle.tender.specs.declared.Answer.{Answer}
 use Rattle.tender.specs.declared.Answer.the-variants.{Awarded, Refused}
-use Rattle.award_plain.specs.Award.{coversIn, won, cents, awarded, declined, awardRows, totalsOf, thinned, settled, awardOf}
+use Rattle.award_plain.specs.Award.{coversIn, won, cents, awarded, refused, awardRows, totalsOf, thinned, settled, awardOf}
 use Rattle.award_plain.specs.Plain.{rowsIn, toldIn, wonAfter, centsAfter, PlainPromise}
 use Rattle.award_plain.specs.AwardLaws.{won-single, cents-single, won-multi, cents-multi, award-none, award-lent, award-nine}
 use Rattle.award_plain.specs.AwardLaws.{award-settles}
@@ -50,7 +50,7 @@ module _ (k : Kind) (t : Tender) (n : ℕ) (bids windows : List ℕ) (lent : ℕ
   size = entries t n bids windows
 
   -- a refusal leaves the lists
-  refuses : (r : Refusal) → awardOf k t n bids windows lent ≡ declined r
+  refuses : (r : Refusal) → awardOf k t n bids windows lent ≡ refused r
       → PlainPromise k t n bids windows lent ow oc ow oc (Refused r)
   unfolding toldIn wonAfter centsAfter
   refuses r e = record { answers = sym e; won-are = refl; cents-are = refl }
@@ -62,7 +62,7 @@ module _ (k : Kind) (t : Tender) (n : ℕ) (bids windows : List ℕ) (lent : ℕ
   module _ (f : faultOf k t n bids windows ≡ none) where
     pub ten : lent < n → PlainPromise k t n bids windows lent ow oc ow oc (Refused RowsTooFew)
     ten l = refuses RowsTooFew (award-none k t n bids windows lent f
-        ∙ ap (λ b. cond b (declined RowsTooFew) (settled k A (t .window .start))) (lt-ltb lent n l))
+        ∙ ap (λ b. cond b (refused RowsTooFew) (settled k A (t .window .start))) (lt-ltb lent n l))
 
     module _ (enough : n ≤ lent) where
       pub eleven : (x : ℕ) → cellWith (A .has) n (A .cells) 0 ≡ found x

@@ -4,6 +4,7 @@ use mathlib.Core.List.{List, [], _++_}
 use Prim.Native.Nat.{ℕ, zero, suc}
 use lib.ListN.{length, getD}
 use Rattle.tender.specs.declared.Tender.{Tender}
+use Rattle.tender.specs.Refusals.{numberOf, placeOf}
 use Rattle.tender.specs.Tables.{Row, flatRows, flatWindows}
 use Rattle.reader.specs.Read.{accepted, readText}
 use Rattle.reader.specs.Read as reading
@@ -26,7 +27,7 @@ winList R rows (suc n) = winList R rows n ++ cond (getD rows n lost .won)
 unfoldable pub listLines : Tender → List Row → Outcome → List ℕ
 unfolding awardLine winList pairLine totalWord refusedWord
 listLines t R (awarded rows totals) = awardLine t ++ winList R rows (length R) ++ pairLine totalWord (totals .cost) (totals .paid)
-listLines t R (refused n at) = pairLine refusedWord n at
+listLines t R (refused r) = pairLine refusedWord (numberOf r) (placeOf r)
 
 -- the list of a text, by what reading it answers: of the award on what was read, with an award row for every bid
 unfoldable pub listOf : reading.ReadOutcome → List ℕ

@@ -235,7 +235,7 @@ one-answer-of-the-writer = one-writing
 
 -- 9 as the award of the tender's own kind gives it on these tables, at the same place.
 pub nine-as-the-award : (w : WriteCall) (c : AwardCall) → SameTables w c → (row : ℕ)
-    → Exactly (w .answer ≡ Refused (BadTables row)) (toldBy c ≡ refusal 9 row)
+    → Exactly (w .answer ≡ Refused (BadTables row)) (toldBy c ≡ refusal (BadTables row))
 nine-as-the-award = nine-as-award
 
 -- What is written reads back, by `read` into tables of 1,000 and 32,000 rows: as the same tender and, in the same entry order, the same

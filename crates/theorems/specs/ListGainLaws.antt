@@ -10,6 +10,8 @@ use Rattle.tender.specs.declared.Window.{Window}
 use Rattle.tender.specs.declared.Tender.{Tender}
 use Rattle.tender.specs.declared.AwardRow.{AwardRow}
 use Rattle.tender.specs.declared.Totals.{Totals}
+use Rattle.tender.specs.declared.Refusal.{Refusal}
+use Rattle.tender.specs.Refusals.{numberOf, placeOf}
 use Rattle.tender.specs.Tables.{Row, flatRows, flatWindows}
 use Rattle.reader.specs.Read.{accepted, readText}
 use Rattle.reader.specs.Read as reading
@@ -61,14 +63,14 @@ module _ (T : Tender) (R : List Row) (W : List Window) (rules : Rules T R W) whe
       none : getD rows i lost .won ≡ false → getD rows i lost .cents ≡ 0
       none w = ap (λ r. r .cents) (row i l) ∙ lost-nothing (T .kind) A i (sym (ap (λ r. r .won) (row i l)) ∙ w)
 
-  refusal-shown : (i n at : ℕ) → rowShown (getD R i noRow .bidder) (listLines T R (refused n at)) ≡ rowFor (refused n at) i
+  refusal-shown : (i : ℕ) (r : Refusal) → rowShown (getD R i noRow .bidder) (listLines T R (refused r)) ≡ rowFor (refused r) i
   unfolding listLines rowFor
-  refusal-shown i n at = refused-row (getD R i noRow .bidder) (bidder-small T R W rules i) n at
+  refusal-shown i r = refused-row (getD R i noRow .bidder) (bidder-small T R W rules i) (numberOf r) (placeOf r)
 
   outcome-shown : (o : Outcome) (i : ℕ) → o ≡ given → i < length R
       → rowShown (getD R i noRow .bidder) (listLines T R o) ≡ rowFor o i
   outcome-shown (awarded rows totals) i e l = awarded-shown rows totals i e l
-  outcome-shown (refused n at) i e l = refusal-shown i n at
+  outcome-shown (refused r) i e l = refusal-shown i r
 
 pub list-shows : (l : ListCall) (T : Tender) (R : List Row) (W : List Window) (i : ℕ) → 0 < l .answer
     → readText (l .text) ≡ accepted T R W → i < length R →

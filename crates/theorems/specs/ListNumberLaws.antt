@@ -13,6 +13,8 @@ use Rattle.tender.specs.declared.Window.{Window}
 use Rattle.tender.specs.declared.Tender.{Tender}
 use Rattle.tender.specs.declared.AwardRow.{AwardRow}
 use Rattle.tender.specs.declared.Totals.{Totals}
+use Rattle.tender.specs.declared.Refusal.{Refusal}
+use Rattle.tender.specs.Refusals.{numberOf, placeOf}
 use Rattle.tender.specs.Keywords.{bytes}
 use Rattle.tender.specs.Tables.{Row, flatRows, flatWindows}
 use Rattle.cover.specs.Sets.{Found, nothing, found}
@@ -67,10 +69,10 @@ unfolding pairLine refusedWord bytes
 refusal-begins n at = refl
 
 -- the award on what was read declines with 11 or 12 alone
-read-declined : (T : Tender) (R : List Row) (W : List Window) → Rules T R W → (n at : ℕ) →
-    awardOf (T .kind) T (length R) (flatRows R) (flatWindows W) (length R) ≡ refused n at → (n ≡ 11) ⊎ (n ≡ 12)
+read-declined : (T : Tender) (R : List Row) (W : List Window) → Rules T R W → (r : Refusal) →
+    awardOf (T .kind) T (length R) (flatRows R) (flatWindows W) (length R) ≡ refused r → (numberOf r ≡ 11) ⊎ (numberOf r ≡ 12)
 unfolding thinned
-read-declined T R W rules n at e =
+read-declined T R W rules r e =
     go (cellWith (A .has) (length R) (A .cells) 0) (cellWith (A .has) (length R) (A .cells) 1) refl refl
   where
     A : Auction
@@ -80,12 +82,12 @@ read-declined T R W rules n at e =
     sound = rw (append-nil (flatRows R), append-nil (flatWindows W)) at (never-nine T R W [] [] rules)
 
     settles : (x y : Found) → cellWith (A .has) (length R) (A .cells) 0 ≡ x → cellWith (A .has) (length R) (A .cells) 1 ≡ y
-        → refused n at ≡ thinned (T .window .start) x y (awarded (awardRows (T .kind) A) (totalsOf (T .kind) A))
+        → refused r ≡ thinned (T .window .start) x y (awarded (awardRows (T .kind) A) (totalsOf (T .kind) A))
     settles x y d f = sym e ∙ award-settles (T .kind) T (length R) (flatRows R) (flatWindows W) (length R) sound
         (le-ltb (length R) (length R) (omega arith)) x y d f
 
     go : (x y : Found) → cellWith (A .has) (length R) (A .cells) 0 ≡ x → cellWith (A .has) (length R) (A .cells) 1 ≡ y
-        → (n ≡ 11) ⊎ (n ≡ 12)
+        → (numberOf r ≡ 11) ⊎ (numberOf r ≡ 12)
     go (found x) y d f = let h = settles (found x) y d f in inl (cc)
     go nothing (found y) d f = let h = settles nothing (found y) d f in inr (cc)
     go nothing nothing d f = let h = settles nothing nothing d f in let z : _≡_ {A = ℕ} 0 1 = cc in absurd (omega arith)
@@ -110,7 +112,7 @@ shows-no-other l n at small a e = go (readText (l .text)) refl (sym (listed-is (
     of T R W rules (awarded rows totals) f x =
         let z = sym (award-begins T R rows totals) ∙ ap (λ s. getD s 1 0) x ∙ refusal-begins n at in
         absurd (omega (arith, z))
-    of T R W rules (refused m k) f x = inr (found-as m k x (read-declined T R W rules m k f))
+    of T R W rules (refused r) f x = inr (found-as (numberOf r) (placeOf r) x (read-declined T R W rules r f))
 
     go : (o : reading.ReadOutcome) → readText (l .text) ≡ o → listOf (readText (l .text)) ≡ pairLine refusedWord n at → Showable n
     go (reading.refused m k) f x =

@@ -232,16 +232,16 @@ module _ (w : WriteCall) (c : AwardCall) (s : SameTables w c) (row : ℕ) where
       ≡ faultOf (w .tender .kind) (w .tender) (w .count) (w .bids) (w .windows)
   same-fault = rw (s .kinds, s .tenders, s .counts, s .bids, s .windows)
 
-  told-nine : w .answer ≡ writing.Refused (BadTables row) → toldBy c ≡ outcome.refused 9 row
+  told-nine : w .answer ≡ writing.Refused (BadTables row) → toldBy c ≡ outcome.refused (BadTables row)
   told-nine e = go (one-writing w)
     where
-      go : OneWriting w → toldBy c ≡ outcome.refused 9 row
+      go : OneWriting w → toldBy c ≡ outcome.refused (BadTables row)
       go (tables-faulty p f a b) =
           let h = sym a ∙ e in
           let q : p ≡ row = cc in
           c .promise .answers ∙ award-nine (c .kind) (c .tender) (c .count) (c .bids) (c .windows) (length (c .rows-before)) p
           (same-fault ∙ f)
-          ∙ ap (outcome.refused 9) q
+          ∙ ap (λ (m : ℕ). outcome.refused (BadTables m)) q
       go (no-room f l a b) = let h = sym a ∙ e in let z : _≡_ {A = ℕ} 0 1 = cc in absurd (omega arith)
       go (text-written f l a b) = let h = sym a ∙ e in let z : _≡_ {A = ℕ} 0 1 = cc in absurd (omega arith)
 
@@ -254,7 +254,7 @@ module _ (w : WriteCall) (c : AwardCall) (s : SameTables w c) (row : ℕ) where
       go (no-room f l a b) = let h = sym f ∙ e in let z : _≡_ {A = ℕ} 0 1 = cc in absurd (omega arith)
       go (text-written f l a b) = let h = sym f ∙ e in let z : _≡_ {A = ℕ} 0 1 = cc in absurd (omega arith)
 
-  write-nine : toldBy c ≡ outcome.refused 9 row → w .answer ≡ writing.Refused (BadTables row)
+  write-nine : toldBy c ≡ outcome.refused (BadTables row) → w .answer ≡ writing.Refused (BadTables row)
   write-nine e = go (one-answer (c .kind) (c .tender) (c .count) (c .bids) (c .windows) (c .rows-before) (c .rows-after) (c .answer)
       (c .promise))
     where
@@ -264,10 +264,10 @@ module _ (w : WriteCall) (c : AwardCall) (s : SameTables w c) (row : ℕ) where
           let h = sym (r .outcome) ∙ e in
           let q : p ≡ row = cc in
           faulty (sym same-fault ∙ f ∙ ap (λ (m : ℕ). some m) q)
-      go (rows-too-few f l r) = let h = sym (r .outcome) ∙ e in let z : _≡_ {A = ℕ} 10 9 = cc in absurd (omega arith)
-      go (minute-uncovered m f l r) = let h = sym (r .outcome) ∙ e in let z : _≡_ {A = ℕ} 11 9 = cc in absurd (omega arith)
-      go (one-bidder m f b l r) = let h = sym (r .outcome) ∙ e in let z : _≡_ {A = ℕ} 12 9 = cc in absurd (omega arith)
+      go (rows-too-few f l r) = let h = sym (r .outcome) ∙ e in let z : _≡_ {A = ℕ} 0 1 = cc in absurd (omega arith)
+      go (minute-uncovered m f l r) = let h = sym (r .outcome) ∙ e in let z : _≡_ {A = ℕ} 0 1 = cc in absurd (omega arith)
+      go (one-bidder m f b l r) = let h = sym (r .outcome) ∙ e in let z : _≡_ {A = ℕ} 0 1 = cc in absurd (omega arith)
       go (award f b r) = let h = sym (r .outcome) ∙ e in let z : _≡_ {A = ℕ} 0 1 = cc in absurd (omega arith)
 
-  pub nine-as-award : Exactly (w .answer ≡ writing.Refused (BadTables row)) (toldBy c ≡ outcome.refused 9 row)
+  pub nine-as-award : Exactly (w .answer ≡ writing.Refused (BadTables row)) (toldBy c ≡ outcome.refused (BadTables row))
   nine-as-award = (told-nine, write-nine)
