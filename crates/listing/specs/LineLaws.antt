@@ -7,14 +7,13 @@ use lib.ListN.{length, getD, length-append}
 use lib.Dec.{eqb}
 use Rattle.tender.specs.declared.Tender.{Tender}
 use Rattle.tender.specs.Keywords.{bytes}
-use Rattle.tender.specs.Refusals.{numberOf, placeOf}
 use Rattle.tender.specs.Tables.{Row, bidWidth}
 use Rattle.award_check.specs.Cells.{noRow}
 use Rattle.tender.specs.declared.AwardRow.{AwardRow}
 use Rattle.award_plain.specs.Award.{Outcome, awarded, refused}
 use Rattle.award.specs.Gain.{lost}
 use Rattle.spelling.specs.Lines.{pairLine, kindWord, refusedWord}
-use Rattle.spelling.specs.LineLaws.{kind-short, pair-short, pair-some, refusal-few}
+use Rattle.spelling.specs.LineLaws.{kind-short, pair-short, pair-some, refusal-few, refused-short, refused-some}
 use Rattle.listing.specs.Lines.{awardWord, winWord, totalWord, winLine, winLines, awardLine}
 use Rattle.listing.specs.List.{winList, listLines}
 
@@ -51,9 +50,6 @@ wins-short R rows (suc n) = go (getD rows n lost .won) (wins-short R rows n)
     )
     go false l = omega (arith, length-append (winList R rows n) [])
 
-pub refusal-short : (n at : ℕ) → length (pairLine refusedWord n at) ≤ 51200
-refusal-short n at = omega (arith, refusal-few n at)
-
 -- with at most 1,000 bids no list is empty and none is longer than 51,200 bytes
 pub lines-short : (t : Tender) (R : List Row) (o : Outcome) → length R ≤ 1000 → length (listLines t R o) ≤ 51200
 unfolding listLines totalWord bytes
@@ -66,7 +62,7 @@ lines-short t R (awarded rows totals) l = omega (
   wins-short R rows (length R),
   pair-short (116 ∷ 111 ∷ 116 ∷ 97 ∷ 108 ∷ []) (totals .cost) (totals .paid),
 )
-lines-short t R (refused r) l = refusal-short (numberOf r) (placeOf r)
+lines-short t R (refused r) l = omega (arith, refused-short r)
 
 pub lines-some : (t : Tender) (R : List Row) (o : Outcome) → 0 < length (listLines t R o)
 unfolding listLines
@@ -75,7 +71,7 @@ lines-some t R (awarded rows totals) = omega (
   length-append (awardLine t ++ winList R rows (length R)) (pairLine totalWord (totals .cost) (totals .paid)),
   pair-some totalWord (totals .cost) (totals .paid),
 )
-lines-some t R (refused r) = pair-some refusedWord (numberOf r) (placeOf r)
+lines-some t R (refused r) = refused-some r
 
 pub win-lines-short : (bids won cents : List ℕ) (n : ℕ) → length (winLines bids won cents n) ≤ 48 * n
 unfolding winLines
@@ -86,3 +82,6 @@ win-lines-short bids won cents (suc n) = omega (
   win-lines-short bids won cents n,
   win-short (getD bids (bidWidth * n) 0) (getD won n 0) (getD cents n 0),
 )
+
+pub refusal-short : (n at : ℕ) → length (pairLine refusedWord n at) ≤ 51200
+refusal-short n at = omega (arith, refusal-few n at)

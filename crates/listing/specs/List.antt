@@ -4,7 +4,6 @@ use mathlib.Core.List.{List, [], _++_}
 use Prim.Native.Nat.{ℕ, zero, suc}
 use lib.ListN.{length, getD}
 use Rattle.tender.specs.declared.Tender.{Tender}
-use Rattle.tender.specs.Refusals.{numberOf, placeOf}
 use Rattle.tender.specs.Tables.{Row, flatRows, flatWindows}
 use Rattle.reader.specs.Read.{accepted, readText}
 use Rattle.reader.specs.Read as reading
@@ -12,7 +11,7 @@ use Rattle.award_check.specs.Cells.{noRow}
 use Rattle.tender.specs.declared.AwardRow.{AwardRow}
 use Rattle.award_plain.specs.Award.{Outcome, awarded, refused, awardOf}
 use Rattle.award.specs.Gain.{lost}
-use Rattle.spelling.specs.Lines.{pairLine, refusedWord}
+use Rattle.spelling.specs.Lines.{pairLine, refusedWord, refusedLine}
 use Rattle.spelling.specs.Delivered.{Delivered}
 use Rattle.listing.specs.Lines.{winWord, totalWord, awardLine}
 
@@ -25,13 +24,13 @@ winList R rows (suc n) = winList R rows n ++ cond (getD rows n lost .won)
 
 -- the list of an award's outcome: kind, start and end; the winners; cost and sum paid. A refusal is the whole list
 unfoldable pub listLines : Tender → List Row → Outcome → List ℕ
-unfolding awardLine winList pairLine totalWord refusedWord
+unfolding awardLine winList pairLine totalWord refusedLine
 listLines t R (awarded rows totals) = awardLine t ++ winList R rows (length R) ++ pairLine totalWord (totals .cost) (totals .paid)
-listLines t R (refused r) = pairLine refusedWord (numberOf r) (placeOf r)
+listLines t R (refused r) = refusedLine r
 
 -- the list of a text, by what reading it answers: of the award on what was read, with an award row for every bid
 unfoldable pub listOf : reading.ReadOutcome → List ℕ
-unfolding listLines awardOf flatRows flatWindows
+unfolding listLines awardOf flatRows flatWindows pairLine refusedWord
 listOf (reading.refused n at) = pairLine refusedWord n at
 listOf (accepted t R W) = listLines t R (awardOf (t .kind) t (length R) (flatRows R) (flatWindows W) (length R))
 

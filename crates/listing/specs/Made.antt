@@ -4,22 +4,21 @@ use mathlib.Core.List.{List, _++_}
 use Prim.Native.Nat.{ℕ, _≤_}
 use lib.ListN.{length, take}
 use Rattle.tender.specs.declared.Tender.{Tender}
-use Rattle.tender.specs.Refusals.{numberOf, placeOf}
 use Rattle.reader.specs.Read.{readText}
 use Rattle.tender.specs.declared.Answer.{Answer}
 use Rattle.tender.specs.declared.Answer.the-variants.{Awarded, Refused}
 use Rattle.award_plain.specs.Plain.{PlainPromise}
-use Rattle.spelling.specs.Lines.{pairLine, refusedWord}
+use Rattle.spelling.specs.Lines.{pairLine, refusedLine}
 use Rattle.spelling.specs.Written.{Written}
 use Rattle.listing.specs.Lines.{awardLine, winLines, totalWord}
 use Rattle.listing.specs.List.{listOf}
 
 -- the list of an award's answer, from the numbers of the table of bids and the flags and cents
 unfoldable pub answerLines : Tender → List ℕ → List ℕ → List ℕ → ℕ → Answer → List ℕ
-unfolding awardLine winLines pairLine totalWord refusedWord
+unfolding awardLine winLines pairLine totalWord refusedLine
 answerLines t bids won cents n (Awarded totals) = awardLine t ++ winLines bids won cents n
     ++ pairLine totalWord (totals .cost) (totals .paid)
-answerLines t bids won cents n (Refused r) = pairLine refusedWord (numberOf r) (placeOf r)
+answerLines t bids won cents n (Refused r) = refusedLine r
 
 -- the list of the award to these tables is written: the award left the lists `won` and `cents` and answered a
 pub record Awarded·written (t : Tender) (n : ℕ) (bids windows old new : List ℕ) (end : ℕ) : Type 0 where

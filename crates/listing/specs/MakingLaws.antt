@@ -1,5 +1,5 @@
 -- The list of the award to the tables that were read is the list of the text. Assumes nothing.
-use mathlib.Core.Path.{_≡_, refl, ap}
+use mathlib.Core.Path.{_≡_, refl, ap, _∙_}
 use mathlib.Core.List.{List, _++_}
 use Prim.Native.Nat.{ℕ, _≤_, _<_}
 use native.Mathlib.Omega.{arith}
@@ -15,7 +15,8 @@ use Rattle.reader.specs.ReadInLaws.{ReadIn}
 use Rattle.tender.specs.declared.Answer.{Answer}
 use Rattle.tender.specs.declared.Answer.the-variants.{Awarded, Refused}
 use Rattle.award_plain.specs.Plain.{PlainPromise}
-use Rattle.spelling.specs.Lines.{pairLine, refusedWord}
+use Rattle.spelling.specs.Lines.{pairLine, refusedWord, refusedLine}
+use Rattle.spelling.specs.LineLaws.{refused-line}
 use Rattle.spelling.specs.Written.{Written}
 use Rattle.spelling.specs.DeliveredLaws.{delivered-none, delivered-all}
 use Rattle.listing.specs.Lines.{awardLine, winLines, totalWord}
@@ -43,7 +44,7 @@ module _ {t : Tender} {n lent : ℕ} {bids windows ow oc won cents old new : Lis
 
   pub declined-written : (r : Refusal) → a ≡ Refused r → n ≤ lent
       → PlainPromise (t .kind) t n bids windows lent ow oc won cents a →
-      Written old 0 (pairLine refusedWord (numberOf r) (placeOf r)) new f → Awarded·written t n bids windows old new f
+      Written old 0 (refusedLine r) new f → Awarded·written t n bids windows old new f
   unfolding answerLines
   declined-written r e l p w = record {
     lent = lent;
@@ -70,10 +71,10 @@ made-award {text} {bids} {windows} {old} {new} {t} {n} {f} h w =
     record { right = rw (h .is, g) l; size = omega (arith, ap length g, w .written .next) }
 
 pub made-refusal : {text old new : List ℕ} {f : ℕ} (q : Refusal) → readText text ≡ reading.refused (numberOf q) (placeOf q)
-    → Written old 0 (pairLine refusedWord (numberOf q) (placeOf q)) new f → Made text new f
+    → Written old 0 (refusedLine q) new f → Made text new f
 unfolding listOf
 made-refusal {text} {old} {new} {f} q e w =
-    let g : take f new ≡ pairLine refusedWord (numberOf q) (placeOf q) = w .text in
+    let g : take f new ≡ pairLine refusedWord (numberOf q) (placeOf q) = w .text ∙ refused-line q in
     record { right = rw (e, g) refl; size = omega (arith, ap length g, w .next) }
 
 -- what is made fits the buffer that it is made in

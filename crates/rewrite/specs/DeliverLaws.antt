@@ -13,7 +13,8 @@ use Rattle.tender.specs.declared.Refusal.{Refusal}
 use Rattle.tender.specs.declared.Refusal.the-variants.{NoRoom}
 use Rattle.tender.specs.Refusals.{numberOf, placeOf}
 use Rattle.tender.specs.Tables.{Row, flatRows, flatWindows}
-use Rattle.spelling.specs.Lines.{pairLine, refusedWord}
+use Rattle.spelling.specs.Lines.{refusedLine}
+use Rattle.spelling.specs.LineLaws.{refused-line}
 use Rattle.spelling.specs.Written.{Written}
 use Rattle.spelling.specs.Delivered.{Delivered}
 use Rattle.spelling.specs.DeliveredLaws.{delivered-none, delivered-all}
@@ -109,6 +110,7 @@ module _ {made mid line : List ℕ} {n : ℕ} (w : Written made 0 line mid n) wh
   line-all l v = delivered-all (omega (arith, w .next)) (rw line-is at v)
 
 pub rewritten-refusal : {text old new : List ℕ} {r : ℕ} (q : Refusal) → readText text ≡ refused (numberOf q) (placeOf q)
-    → Delivered (pairLine refusedWord (numberOf q) (placeOf q)) old new r → Rewritten text old new r
+    → Delivered (refusedLine q) old new r → Rewritten text old new r
 unfolding rewriteOf
-rewritten-refusal {text} {old} {new} {r} q e d = record { delivers = subst (λ out. Delivered out old new r) (sym (ap rewriteOf e)) d }
+rewritten-refusal {text} {old} {new} {r} q e d =
+    record { delivers = subst (λ out. Delivered out old new r) (refused-line q ∙ sym (ap rewriteOf e)) d }

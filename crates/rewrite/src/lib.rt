@@ -1,7 +1,6 @@
 // A bid text rewritten in one spelling: reads it and writes what was read. `tender_rewrite` is the entry point for a host program in
 // C (include/tender.h). `specs/Rewritten.antt` says what a text is rewritten to.
-ghost use Rattle.tender.specs.Refusals.{numberOf, placeOf};
-ghost use Rattle.spelling.specs.Lines.{pairLine, refusedWord};
+ghost use Rattle.spelling.specs.Lines.{refusedLine};
 ghost use Rattle.spelling.specs.Delivered.{Delivered};
 ghost use Rattle.rewrite.specs.Rewritten.{Delivers, Rewritten};
 use reader::Reading;
@@ -11,7 +10,7 @@ use writer::Writing;
 
 // The line of a refusal, where there is room.
 fn deliver_refusal(refusal: Refusal, out: &mut [u8]) -> usize
-    ensures { λ r. ⌜ Delivered (pairLine refusedWord (numberOf refusal) (placeOf refusal)) (now (out .entry)) (now (out .exit)) r ⌝ }
+    ensures { λ r. ⌜ Delivered (refusedLine refusal) (now (out .entry)) (now (out .exit)) r ⌝ }
 {
     let mut line = [1u8; 52];
     let n = spelling::put_refused(&mut line, refusal);

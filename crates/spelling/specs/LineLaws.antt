@@ -1,4 +1,5 @@
 -- How long numbers and the lines of two numbers are. Assumes nothing.
+use mathlib.Core.Path.{_≡_, refl}
 use mathlib.Core.Bool.{Bool, true, false, cond}
 use mathlib.Core.List.{List, [], _∷_, _++_}
 use Prim.Native.Nat.{ℕ, zero, suc, _+_, _/_, _%_, _≤_, _<_}
@@ -7,9 +8,11 @@ use lib.ListN.{length, length-append}
 use lib.Dec.{ltb}
 use Rattle.tender.specs.declared.Kind.{Kind}
 use Rattle.tender.specs.declared.Kind.the-variants.{Single, Multi}
+use Rattle.tender.specs.declared.Refusal.{Refusal}
+use Rattle.tender.specs.Refusals.{numberOf, placeOf}
 use Rattle.tender.specs.Keywords.{bytes, singleWord, multiWord}
 use Rattle.spelling.specs.Decimal.{digitsBefore, decimal}
-use Rattle.spelling.specs.Lines.{closing, numbers, pairLine, kindWord, refusedWord}
+use Rattle.spelling.specs.Lines.{closing, numbers, pairLine, kindWord, refusedWord, refusedLine}
 
 short : (f n : ℕ) (done : List ℕ) → length (digitsBefore f n done) ≤ f + length done
 unfolding digitsBefore
@@ -51,3 +54,15 @@ pair-some word a b = omega (arith, length-append (40 ∷ []) word, length-append
 pub refusal-few : (n at : ℕ) → length (pairLine refusedWord n at) ≤ 52
 unfolding refusedWord bytes
 refusal-few n at = omega (arith, pair-short (114 ∷ 101 ∷ 102 ∷ 117 ∷ 115 ∷ 101 ∷ 100 ∷ []) n at)
+
+-- the line of a refusal
+
+pub refused-line : (r : Refusal) → refusedLine r ≡ pairLine refusedWord (numberOf r) (placeOf r)
+unfolding refusedLine
+refused-line r = refl
+
+pub refused-short : (r : Refusal) → length (refusedLine r) ≤ 52
+refused-short r = rw (refused-line r) (refusal-few (numberOf r) (placeOf r))
+
+pub refused-some : (r : Refusal) → 0 < length (refusedLine r)
+refused-some r = rw (refused-line r) (pair-some refusedWord (numberOf r) (placeOf r))

@@ -3,6 +3,8 @@ use mathlib.Core.List.{List, [], _∷_, _++_}
 use Prim.Native.Nat.{ℕ}
 use Rattle.tender.specs.declared.Kind.{Kind}
 use Rattle.tender.specs.declared.Kind.the-variants.{Single, Multi}
+use Rattle.tender.specs.declared.Refusal.{Refusal}
+use Rattle.tender.specs.Refusals.{numberOf, placeOf}
 use Rattle.tender.specs.Keywords.{bytes, singleWord, multiWord}
 use Rattle.spelling.specs.Decimal.{decimal}
 
@@ -29,3 +31,8 @@ kindWord Multi = multiWord
 unfoldable pub refusedWord : List ℕ
 unfolding bytes
 refusedWord = bytes "refused"
+
+-- the line of a refusal: its number and place
+unfoldable pub refusedLine : Refusal → List ℕ
+unfolding pairLine refusedWord
+refusedLine r = pairLine refusedWord (numberOf r) (placeOf r)

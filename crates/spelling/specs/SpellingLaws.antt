@@ -13,7 +13,7 @@ use Rattle.tender.specs.declared.Refusal.{Refusal}
 use Rattle.tender.specs.Refusals.{numberOf, placeOf}
 use Rattle.tender.specs.Keywords.{bytes}
 use Rattle.spelling.specs.Decimal.{digitsBefore, decimal}
-use Rattle.spelling.specs.Lines.{closing, numbers, pairLine, kindWord, refusedWord}
+use Rattle.spelling.specs.Lines.{closing, numbers, pairLine, kindWord, refusedWord, refusedLine}
 use Rattle.spelling.specs.Written.{Written}
 use Rattle.spelling.specs.WritingLaws.{then}
 
@@ -105,6 +105,6 @@ nothing-written old at = record { text = sym (append-nil (take at old)); next = 
 
 -- a refusal's line
 pub refusal-written : {old new : List ℕ} {f a b : ℕ} (r : Refusal) → a ≡ numberOf r → b ≡ placeOf r
-    → Written old 0 (pairLine (bytes "refused") a b) new f → Written old 0 (pairLine refusedWord (numberOf r) (placeOf r)) new f
-unfolding refusedWord bytes
+    → Written old 0 (pairLine (bytes "refused") a b) new f → Written old 0 (refusedLine r) new f
+unfolding refusedLine refusedWord bytes
 refusal-written {old} {new} {f} {a} {b} r p q w = rw (← p, ← q) w

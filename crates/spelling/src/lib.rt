@@ -3,9 +3,8 @@ ghost use mathlib.Core.Path.{_≡_};
 ghost use mathlib.Core.List.{[], _∷_};
 ghost use Prim.Native.Nat.{_+_, _≤_, _<_};
 ghost use lib.ListN.{length, drop};
-ghost use Rattle.tender.specs.Refusals.{numberOf, placeOf};
 ghost use Rattle.spelling.specs.Decimal.{decimal};
-ghost use Rattle.spelling.specs.Lines.{numbers, pairLine, kindWord, refusedWord};
+ghost use Rattle.spelling.specs.Lines.{numbers, pairLine, kindWord, refusedLine};
 ghost use Rattle.spelling.specs.Written.{Written};
 use tender::Kind;
 use tender::Refusal;
@@ -110,7 +109,7 @@ pub fn put_kind(buf: &mut [u8], at: usize, kind: Kind) -> usize
 // The line of a refusal, which is all that its text has for a list.
 pub fn put_refused(buf: &mut [u8], refusal: Refusal) -> usize
     requires { ⌜ 52 ≤ length (now buf) ⌝ }
-    ensures { λ r. ⌜ Written (now (buf .entry)) 0 (pairLine refusedWord (numberOf refusal) (placeOf refusal)) (now (buf .exit)) r ⌝ }
+    ensures { λ r. ⌜ Written (now (buf .entry)) 0 (refusedLine refusal) (now (buf .exit)) r ⌝ }
 {
     let n = tender::number(refusal);
     let at = tender::place(refusal);

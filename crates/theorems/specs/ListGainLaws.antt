@@ -11,7 +11,6 @@ use Rattle.tender.specs.declared.Tender.{Tender}
 use Rattle.tender.specs.declared.AwardRow.{AwardRow}
 use Rattle.tender.specs.declared.Totals.{Totals}
 use Rattle.tender.specs.declared.Refusal.{Refusal}
-use Rattle.tender.specs.Refusals.{numberOf, placeOf}
 use Rattle.tender.specs.Tables.{Row, flatRows, flatWindows}
 use Rattle.reader.specs.Read.{accepted, readText}
 use Rattle.reader.specs.Read as reading
@@ -65,7 +64,7 @@ module _ (T : Tender) (R : List Row) (W : List Window) (rules : Rules T R W) whe
 
   refusal-shown : (i : ℕ) (r : Refusal) → rowShown (getD R i noRow .bidder) (listLines T R (refused r)) ≡ rowFor (refused r) i
   unfolding listLines rowFor
-  refusal-shown i r = refused-row (getD R i noRow .bidder) (bidder-small T R W rules i) (numberOf r) (placeOf r)
+  refusal-shown i r = refused-row (getD R i noRow .bidder) (bidder-small T R W rules i) r
 
   outcome-shown : (o : Outcome) (i : ℕ) → o ≡ given → i < length R
       → rowShown (getD R i noRow .bidder) (listLines T R o) ≡ rowFor o i

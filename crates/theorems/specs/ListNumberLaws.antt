@@ -30,6 +30,7 @@ use Rattle.award_check.specs.TextLaws.{never-nine}
 use Rattle.award_plain.specs.Award.{Outcome, awarded, refused, awardRows, totalsOf, thinned, awardOf}
 use Rattle.award_plain.specs.AwardLaws.{award-settles}
 use Rattle.spelling.specs.Lines.{pairLine, refusedWord}
+use Rattle.spelling.specs.LineLaws.{refused-line}
 use Rattle.listing.specs.Lines.{awardWord, awardLine}
 use Rattle.listing.specs.List.{listLines, listOf}
 use Rattle.listing.specs.ListLaws.{listed-is}
@@ -112,7 +113,7 @@ shows-no-other l n at small a e = go (readText (l .text)) refl (sym (listed-is (
     of T R W rules (awarded rows totals) f x =
         let z = sym (award-begins T R rows totals) ∙ ap (λ s. getD s 1 0) x ∙ refusal-begins n at in
         absurd (omega (arith, z))
-    of T R W rules (refused r) f x = inr (found-as (numberOf r) (placeOf r) x (read-declined T R W rules r f))
+    of T R W rules (refused r) f x = inr (found-as (numberOf r) (placeOf r) (sym (refused-line r) ∙ x) (read-declined T R W rules r f))
 
     go : (o : reading.ReadOutcome) → readText (l .text) ≡ o → listOf (readText (l .text)) ≡ pairLine refusedWord n at → Showable n
     go (reading.refused m k) f x =

@@ -13,6 +13,8 @@ use Rattle.tender.specs.declared.Kind.the-variants.{Single, Multi}
 use Rattle.tender.specs.declared.Tender.{Tender}
 use Rattle.tender.specs.declared.AwardRow.{AwardRow}
 use Rattle.tender.specs.declared.Totals.{Totals}
+use Rattle.tender.specs.declared.Refusal.{Refusal}
+use Rattle.tender.specs.Refusals.{numberOf, placeOf}
 use Rattle.tender.specs.Keywords.{bytes, singleWord, multiWord}
 use Rattle.tender.specs.Tables.{Row}
 use Rattle.reader_line.specs.Words.{andThen, growFirst, cut, among, sameBytes, closed, digits}
@@ -21,7 +23,8 @@ use Rattle.award_check.specs.Cells.{noRow}
 use Rattle.award_plain.specs.Award.{awarded}
 use Rattle.award.specs.Gain.{lost}
 use Rattle.spelling.specs.Decimal.{decimal}
-use Rattle.spelling.specs.Lines.{closing, numbers, pairLine, kindWord, refusedWord}
+use Rattle.spelling.specs.Lines.{closing, numbers, pairLine, kindWord, refusedWord, refusedLine}
+use Rattle.spelling.specs.LineLaws.{refused-line}
 use Rattle.listing.specs.Lines.{awardWord, winWord, totalWord, awardLine}
 use Rattle.listing.specs.List.{winList, listLines}
 use Rattle.spelling.specs.DecimalLaws.{decimal-back, decimal-plain}
@@ -175,10 +178,13 @@ module _ (n : ℕ) (small : n < 10 ^ 20) where
   total-row a b rest = line-row totalWord a b rest refl
       ∙ ap (λ o. rowOr o (rowShown n rest)) (other-word (cut 32 (bare totalWord a b)) (rw (begins totalWord a b refl) refl))
 
-  pub refused-row : (a b : ℕ) → rowShown n (pairLine refusedWord a b) ≡ lost
+  refusal-row : (a b : ℕ) → rowShown n (pairLine refusedWord a b) ≡ lost
   unfolding rowOr refusedWord winWord bytes among sameBytes rowShown rowAmong cut winOn
-  refused-row a b = ap (rowShown n) (sym (append-nil (pairLine refusedWord a b))) ∙ line-row refusedWord a b [] refl
+  refusal-row a b = ap (rowShown n) (sym (append-nil (pairLine refusedWord a b))) ∙ line-row refusedWord a b [] refl
       ∙ ap (λ o. rowOr o (rowShown n [])) (other-word (cut 32 (bare refusedWord a b)) (rw (begins refusedWord a b refl) refl))
+
+  pub refused-row : (r : Refusal) → rowShown n (refusedLine r) ≡ lost
+  refused-row r = ap (rowShown n) (refused-line r) ∙ refusal-row (numberOf r) (placeOf r)
 
   -- the first line
   award-row : (t : Tender) (rest : List ℕ) → rowShown n (awardLine t ++ rest) ≡ rowShown n rest

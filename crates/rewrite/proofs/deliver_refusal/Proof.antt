@@ -1,8 +1,7 @@
 -- The line is made in a buffer of its own, measured, and copied where there is room. Assumes nothing.
 use mathlib.Core.Path.{sym}
 use native.Mathlib.Omega.{arith}
-use Rattle.tender.specs.Refusals.{numberOf, placeOf}
-use Rattle.spelling.specs.LineLaws.{refusal-few}
+use Rattle.spelling.specs.LineLaws.{refused-short}
 use Rattle.rewrite.specs.DeliverLaws.{line-size, line-none, line-all}
 use borrow.Author.Needs.{needs}
 use Rattle.rewrite.proofs.deliver_refusal.Statement.{statement}
@@ -26,7 +25,7 @@ returns c = line-none (c .before .before .put-refused .ensures) (c .if1 .taken)
 
 -- src/lib.rt:21:31
 array-share-prefix-line : tie.Need-array-share-prefix-line
-array-share-prefix-line c = let q = c .before .before .before .before .before .before .args .refusal in omega (arith, c .before .before .before .put-refused .ensures .next, refusal-few (numberOf q) (placeOf q))
+array-share-prefix-line c = let q = c .before .before .before .before .before .before .args .refusal in omega (arith, c .before .before .before .put-refused .ensures .next, refused-short q)
 
 -- src/lib.rt:21:31
 slice-aggregate-put-all : tie.Need-slice-aggregate-put-all
