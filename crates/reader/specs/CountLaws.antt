@@ -12,10 +12,10 @@ use Rattle.tender.specs.declared.Kind.{Kind}
 use Rattle.tender.specs.declared.Window.{Window}
 use Rattle.tender.specs.declared.Tender.{Tender}
 use Rattle.tender.specs.Tables.{Row}
-use Rattle.reader_line.specs.Words.{cut, growFirst}
+use Rattle.reader_word.specs.Words.{cut, growFirst}
 use Rattle.reader_line.specs.Line.{Line, lineOf, linesOf}
 use Rattle.reader.specs.Read.{ReadOutcome, accepted, refused, bidsOf, readLines, readText, fitted, readInto}
-use Rattle.reader_line.specs.CutLaws.{Pieces, cut-some}
+use Rattle.reader_word.specs.CutLaws.{Pieces, cut-some}
 use Rattle.reader.specs.ReadLaws.{read-lines}
 use Rattle.reader.specs.HeadLaws.{headLines, head-is, AllRead, accepted-head, accepted-read}
 use Rattle.reader.specs.Rules.{RowsRules, bytesLike}

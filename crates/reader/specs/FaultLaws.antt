@@ -12,9 +12,9 @@ use Rattle.tender.specs.declared.Refusal.{Refusal}
 use Rattle.tender.specs.declared.Refusal.the-variants.{EmptyWindow, LateWindow}
 use Rattle.tender.specs.Limits.{ordered, early, lawful, allLawful, every}
 use Rattle.reader_line.specs.LinePlainLaws.{both-true as and-split}
-use Rattle.reader_line.specs.declared.line.Flaw.{Flaw}
-use Rattle.reader_line.specs.declared.line.Flaw.the-variants.{Empty, Late, Sound}
-use Rattle.reader_line.specs.Flaws.{flawBy, flawIn, flawOf, isEmpty, isLate}
+use Rattle.reader_word.specs.declared.windows.Flaw.{Flaw}
+use Rattle.reader_word.specs.declared.windows.Flaw.the-variants.{Empty, Late, Sound}
+use Rattle.reader_word.specs.Flaws.{flawBy, flawIn, flawOf, isEmpty, isLate}
 use Rattle.reader.specs.Read.{lineFault, tenderFault, bidFaultIn}
 
 -- windows are lawful where none is empty and none is late

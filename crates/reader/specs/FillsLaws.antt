@@ -15,13 +15,13 @@ use Rattle.tender.specs.declared.Refusal.{Refusal}
 use Rattle.tender.specs.Refusals.{numberOf, placeOf}
 use Rattle.tender.specs.Tables.{flatRows, flatWindows, bidWidth, windowWidth}
 use Rattle.cells.specs.Cells.{cell, RangeAdded}
-use Rattle.reader_line.specs.Words.{among, cut}
+use Rattle.reader_word.specs.Words.{among, cut}
 use Rattle.reader_line.specs.Line.{BidLine, Line, tender, bid, lineOf, linesOf}
-use Rattle.reader_line.specs.Scan.{toNext}
+use Rattle.reader_word.specs.Scan.{toNext}
 use Rattle.reader_line.specs.SizeLaws.{line-windows}
 use Rattle.reader_line.specs.Answer.{FirstBroken, EndsAt}
-use Rattle.reader_line.specs.declared.words.LineEnd.{LineEnd}
-use Rattle.reader_line.specs.declared.words.LineEnd.the-variants.{At, Broken}
+use Rattle.reader_line.specs.declared.ends.LineEnd.{LineEnd}
+use Rattle.reader_line.specs.declared.ends.LineEnd.the-variants.{At, Broken}
 use Rattle.reader.specs.Read.{ReadOutcome, refused, rowsFrom, allWindows, bidsOf, bidFaultAfter, bidFault, lineJudged, checked}
 use Rattle.reader.specs.RulesLaws.{faultless-after}
 use Rattle.reader.specs.Steps.{Fault, StepDeclines, BidTaken, Judged, Taken, TablesHold}

@@ -12,11 +12,11 @@ use Rattle.tender.specs.declared.Kind.{Kind}
 use Rattle.tender.specs.declared.Window.{Window}
 use Rattle.tender.specs.declared.Tender.{Tender}
 use Rattle.tender.specs.Tables.{Row}
-use Rattle.reader_line.specs.Words.{andThen, cut, numeralOf, priceOf}
+use Rattle.reader_word.specs.Words.{andThen, cut, numeralOf, priceOf}
 use Rattle.reader_line.specs.Line.{BidLine, Line, tender, bid, windowsIn, bidOf, lineOf, linesOf}
 use Rattle.reader.specs.Read.{ReadOutcome, accepted, rowsFrom, allWindows, bidsOf, lineFault, bidFaultIn, bidFaultAfter, bidFault}
 use Rattle.reader.specs.Read.{checked, tables, readLines, readText}
-use Rattle.reader_line.specs.CutLaws.{Pieces, cut-some}
+use Rattle.reader_word.specs.CutLaws.{Pieces, cut-some}
 use Rattle.reader.specs.HeadLaws.{lines-begun}
 use Rattle.reader.specs.ReadLaws.{never, judged-out}
 use Rattle.reader.specs.Differ.{bidLine, Word, DifferInPrice, RowsDifferInPrice}

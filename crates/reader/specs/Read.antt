@@ -14,7 +14,7 @@ use Rattle.tender.specs.declared.Refusal.the-variants.{SeveralWindows, TableToo
 use Rattle.tender.specs.Refusals.{numberOf, placeOf}
 use Rattle.tender.specs.Limits.{within, maxPrice, maxBidder, maxBids, maxWindows, maxText, isSingle, ordered, early, every}
 use Rattle.tender.specs.Tables.{Row}
-use Rattle.reader_line.specs.Words.{cut, among}
+use Rattle.reader_word.specs.Words.{cut, among}
 use Rattle.reader_line.specs.Line.{BidLine, Line, tender, bid, linesOf}
 
 pub data ReadOutcome : Type 0 where

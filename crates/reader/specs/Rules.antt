@@ -10,7 +10,7 @@ use Rattle.tender.specs.declared.Kind.the-variants.{Single}
 use Rattle.tender.specs.declared.Window.{Window}
 use Rattle.tender.specs.declared.Tender.{Tender}
 use Rattle.tender.specs.Tables.{Row}
-use Rattle.reader_line.specs.Words.{among}
+use Rattle.reader_word.specs.Words.{among}
 
 pub record WindowRules (w : Window) : Type 0 where
   pub some-minute : w .start < w .end

@@ -16,8 +16,9 @@ use Rattle.tender.specs.declared.Window.{Window}
 use Rattle.tender.specs.declared.Tender.{Tender}
 use Rattle.tender.specs.Limits.{allLawful, isSingle, lawful, within, ordered, early, every}
 use Rattle.tender.specs.Tables.{Row}
-use Rattle.reader_line.specs.Words.{andThen, cut, among, sameBytes, closed, numeralOf, priceOf}
-use Rattle.reader_line.specs.Line.{BidLine, Line, tender, bid, kindOf, spanOf, windowOf, windowsIn, tenderOf, bidOf, lineOfWords, lineOf}
+use Rattle.reader_word.specs.Words.{andThen, cut, among, sameBytes, closed, numeralOf, priceOf}
+use Rattle.reader_line.specs.Line.{BidLine, Line, tender, bid, kindOf, windowsIn, tenderOf, bidOf, lineOfWords, lineOf}
+use Rattle.reader_word.specs.Windows.{spanOf, windowOf}
 use Rattle.reader_line.specs.Line.{linesOf}
 use Rattle.reader_line.specs.LinePlainLaws.{both-true as and-split}
 use Rattle.tender.specs.declared.Refusal.{Refusal}
@@ -26,7 +27,7 @@ use Rattle.tender.specs.declared.Refusal.the-variants.{LateWindow}
 use Rattle.reader.specs.Read.{ReadOutcome, accepted, rowsFrom, allWindows, bidsOf, lineFault, bidFaultIn, bidFaultAfter, bidFault}
 use Rattle.reader.specs.Read.{checked, tables, readText}
 use Rattle.reader.specs.FaultLaws.{every-lawful}
-use Rattle.reader_line.specs.CutLaws.{neither}
+use Rattle.reader_word.specs.CutLaws.{neither}
 use Rattle.reader.specs.ReadLaws.{never, read-lines, judged-out}
 use Rattle.reader.specs.HeadLaws.{headLines, head-is, accepted-head}
 use Rattle.reader.specs.Rules.{WindowRules, RowsRules, WindowsRules, Rules}

@@ -12,9 +12,9 @@ use borrow.Author.Tests.{le-leb, ltb-false}
 use Rattle.tender.specs.declared.Window.{Window}
 use Rattle.tender.specs.declared.Tender.{Tender}
 use Rattle.tender.specs.Tables.{Row}
-use Rattle.reader_line.specs.Words.{cut, growFirst}
+use Rattle.reader_word.specs.Words.{cut, growFirst}
 use Rattle.reader_line.specs.Line.{BidLine, Line, tender, bid, lineOf, linesOf}
-use Rattle.reader_line.specs.CutLaws.{Pieces, cut-some}
+use Rattle.reader_word.specs.CutLaws.{Pieces, cut-some}
 use Rattle.reader_line.specs.SizeLaws.{line-windows}
 use Rattle.tender.specs.declared.Refusal.the-variants.{TextTooLong}
 use Rattle.reader.specs.Read.{ReadOutcome, accepted, refused, declinedBy, bidsOf, allWindows, readLines, readText, fitted, readInto}

@@ -11,9 +11,9 @@ use Rattle.tender.specs.declared.Tender.{Tender}
 use Rattle.tender.specs.Refusals.{numberOf, placeOf}
 use Rattle.tender.specs.Tables.{Row, flatRows, flatWindows, bidWidth, windowWidth}
 use Rattle.cells.specs.Cells as cells
-use Rattle.reader_line.specs.Words.{cut}
+use Rattle.reader_word.specs.Words.{cut}
 use Rattle.reader_line.specs.Line.{BidLine, Line, tender, bid, linesOf}
-use Rattle.reader_line.specs.Scan.{putWindows}
+use Rattle.reader_line.specs.Tally.{putWindows}
 use Rattle.reader.specs.Read.{ReadOutcome, refused, rowsFrom, allWindows, bidsOf, bidFaultAfter, checked, begun, halted, headOf}
 use Rattle.reader.specs.declared.Head.{Head}
 use Rattle.reader.specs.declared.Head.the-variants as head

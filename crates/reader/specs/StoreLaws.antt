@@ -10,7 +10,7 @@ use borrow.Author.Tests.{lt-ltb}
 use Rattle.tender.specs.declared.Window.{Window}
 use Rattle.tender.specs.Tables.{flatRows, flatWindows, windowWidth}
 use Rattle.reader_line.specs.Line.{BidLine}
-use Rattle.reader_line.specs.Scan.{putWindow, putWindows}
+use Rattle.reader_line.specs.Tally.{putWindow, putWindows}
 use Rattle.reader.specs.Read.{rowsFrom, allWindows}
 use Rattle.reader.specs.Steps.{rowNumbers}
 

@@ -11,10 +11,10 @@ use Rattle.tender.specs.declared.Kind.{Kind}
 use Rattle.tender.specs.declared.Tender.{Tender}
 use Rattle.cells.specs.Cells.{cell, RangeAdded}
 use Rattle.reader_line.specs.Line.{BidLine, Line, tender, bid}
-use Rattle.reader_line.specs.declared.line.Flaw.{Flaw}
-use Rattle.reader_line.specs.declared.line.Flaw.the-variants.{Sound}
-use Rattle.reader_line.specs.Flaws.{flawOf, isEmpty, isLate}
-use Rattle.reader_line.specs.Scan.{putWindows, Tally, tally, tenderNote, bidNote, noted}
+use Rattle.reader_word.specs.declared.windows.Flaw.{Flaw}
+use Rattle.reader_word.specs.declared.windows.Flaw.the-variants.{Sound}
+use Rattle.reader_word.specs.Flaws.{flawOf, isEmpty, isLate}
+use Rattle.reader_line.specs.Tally.{putWindows, Tally, tally, tenderNote, bidNote, noted}
 use Rattle.tender.specs.declared.Refusal.{Refusal}
 use Rattle.tender.specs.Refusals.{numberOf, placeOf}
 use Rattle.tender.specs.Tables.{bidWidth}

@@ -15,9 +15,9 @@ use Rattle.tender.specs.declared.Refusal.the-variants.{BadForm}
 use Rattle.tender.specs.Limits.{lawful}
 use Rattle.tender.specs.Refusals.{numberOf, placeOf}
 use Rattle.tender.specs.Tables.{Row, flatRows, flatWindows, bidWidth, windowWidth}
-use Rattle.reader_line.specs.Words.{cut}
+use Rattle.reader_word.specs.Words.{cut}
 use Rattle.reader_line.specs.Line.{Line, tender, bid, linesOf}
-use Rattle.reader_line.specs.Scan.{Tally, tenderNote, bidNote, noted}
+use Rattle.reader_line.specs.Tally.{Tally, tenderNote, bidNote, noted}
 use Rattle.reader_line.specs.Answer.{FirstBroken}
 use Rattle.reader.specs.Read.{ReadOutcome, accepted, refused, rowsFrom, allWindows, bidsOf, tenderFault, checked, tables}
 use Rattle.reader.specs.Read.{begun, halted, headOf, readLines, readText, fitted, readInto}

@@ -13,12 +13,12 @@ mod rows;
 
 use bids::Bids;
 use bids::read_bids;
-use reader_line::line::Flaw;
+use reader_line::ends::LineEnd;
+use reader_line::ends::line_end;
 use reader_line::line::Line;
-use reader_line::line::flaw_in;
 use reader_line::line::read_line;
-use reader_line::words::LineEnd;
-use reader_line::words::line_end;
+use reader_word::windows::Flaw;
+use reader_word::windows::flaw_in;
 use rows::copy;
 use tender::Refusal;
 use tender::Tender;

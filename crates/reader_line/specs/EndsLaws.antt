@@ -10,16 +10,14 @@ use lib.Seq.{getD-take, getD-drop, length-take-le}
 use lib.Dec.{ltb}
 use borrow.Author.Tests.{ltb-true, ltb-false, le-leb, lt-leb, ne-eqb}
 use Rattle.tender.specs.Limits.{within}
-use Rattle.reader_line.specs.Words.{cut}
+use Rattle.reader_word.specs.Words.{cut}
 use Rattle.reader_line.specs.Line.{Line, lineOf, linesOf}
-use Rattle.reader_line.specs.Scan.{toNext}
-use Rattle.reader_line.specs.ScanLaws.{next-le, next-other, lines-at, lines-unended}
+use Rattle.reader_word.specs.Scan.{toNext}
+use Rattle.reader_word.specs.ScanLaws.{next-fits, next-other}
+use Rattle.reader_line.specs.PiecesLaws.{lines-at, lines-unended}
 use Rattle.reader_line.specs.LinePlain.{plain, allPlain}
 use Rattle.reader_line.specs.LinePlainLaws.{both-true, line-plain}
 use Rattle.reader_line.specs.Answer.{FirstBroken}
-
-pub next-fits : (d : ℕ) (s : List ℕ) (i : ℕ) → i ≤ length s → i + toNext d (drop i s) ≤ length s
-next-fits d s i h = omega (arith, next-le d (drop i s), length-drop i s)
 
 below : (a z b : ℕ) → b < a → within a z b ≡ false
 unfolding within

@@ -8,7 +8,8 @@ use Rattle.tender.specs.declared.Kind.the-variants.{Single, Multi}
 use Rattle.tender.specs.declared.Window.{Window}
 use Rattle.tender.specs.declared.Tender.{Tender}
 use Rattle.tender.specs.Keywords.{bidWord, multiWord, singleWord, tenderWord}
-use Rattle.reader_line.specs.Words.{andThen, cut, sameBytes, opened, closed, numeralOf, priceOf}
+use Rattle.reader_word.specs.Words.{andThen, cut, sameBytes, closed, numeralOf, priceOf}
+use Rattle.reader_word.specs.Windows.{spanOf, windowOf}
 
 pub record BidLine : Type 0 where
   pub bidder : ℕ
@@ -22,16 +23,6 @@ pub data Line : Type 0 where
 unfoldable pub kindOf : List ℕ → Option Kind
 unfolding sameBytes singleWord multiWord
 kindOf w = cond (sameBytes w singleWord) (some Single) (cond (sameBytes w multiWord) (some Multi) none)
-
--- the words "S" and "E"
-unfoldable pub spanOf : List ℕ → List ℕ → Option Window
-unfolding andThen numeralOf
-spanOf s e = andThen (numeralOf s) (λ a. andThen (numeralOf e) (λ z. some (record { start = a; end = z })))
-
--- the words "(S" and "E)"
-unfoldable pub windowOf : List ℕ → List ℕ → Option Window
-unfolding andThen opened closed spanOf
-windowOf s e = andThen (opened s) (λ a. andThen (closed e) (λ z. spanOf a z))
 
 -- one or more windows; the bracket that closes the line stands after the last
 unfoldable pub windowsIn : List (List ℕ) → Option (List Window)

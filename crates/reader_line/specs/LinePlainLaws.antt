@@ -13,9 +13,10 @@ use Rattle.tender.specs.declared.Kind.{Kind}
 use Rattle.tender.specs.declared.Kind.the-variants.{Single, Multi}
 use Rattle.tender.specs.declared.Window.{Window}
 use Rattle.tender.specs.Limits.{within}
-use Rattle.reader_line.specs.Words.{andThen, growFirst, cut, sameBytes, opened, closed, digits, leadingZero, numeralOf, priceOf}
-use Rattle.reader_line.specs.Line.{Line, kindOf, spanOf, windowOf, windowsIn, tenderOf, bidOf, lineOfWords, lineOf}
-use Rattle.reader_line.specs.CutLaws.{Pieces, cut-some}
+use Rattle.reader_word.specs.Words.{andThen, growFirst, cut, sameBytes, opened, closed, digits, leadingZero, numeralOf, priceOf}
+use Rattle.reader_line.specs.Line.{Line, kindOf, windowsIn, tenderOf, bidOf, lineOfWords, lineOf}
+use Rattle.reader_word.specs.Windows.{spanOf, windowOf}
+use Rattle.reader_word.specs.CutLaws.{Pieces, cut-some}
 use Rattle.reader_line.specs.LinePlain.{plain, allPlain}
 
 abbrev pub PlainPieces : List (List ℕ) → Type 0

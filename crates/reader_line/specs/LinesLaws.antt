@@ -13,15 +13,17 @@ use Rattle.tender.specs.declared.Kind.the-variants.{Single, Multi}
 use Rattle.tender.specs.declared.Window.{Window}
 use Rattle.tender.specs.declared.Tender.{Tender}
 use Rattle.tender.specs.Keywords.{tenderWord, bidWord, singleWord, multiWord}
-use Rattle.reader_line.specs.Words.{andThen, cut, sameBytes, closed, numeralOf, priceOf}
-use Rattle.reader_line.specs.Line.{Line, tender, bid, kindOf, spanOf, windowsIn, tenderOf, bidOf, lineOfWords, lineOf}
-use Rattle.reader_line.specs.CutLaws.{cut-some}
-use Rattle.reader_line.specs.Scan.{toNext, part, Tally, tenderNote, bidNote, tallied, noted}
-use Rattle.reader_line.specs.ScanLaws.{cut-at, cut-at-end}
+use Rattle.reader_word.specs.Words.{andThen, cut, sameBytes, closed, numeralOf, priceOf}
+use Rattle.reader_line.specs.Line.{Line, tender, bid, kindOf, windowsIn, tenderOf, bidOf, lineOfWords, lineOf}
+use Rattle.reader_word.specs.Windows.{spanOf}
+use Rattle.reader_word.specs.CutLaws.{cut-some}
+use Rattle.reader_word.specs.Scan.{toNext, part}
+use Rattle.reader_line.specs.Tally.{Tally, tenderNote, bidNote, tallied, noted}
+use Rattle.reader_word.specs.ScanLaws.{cut-at, cut-at-end}
 use Rattle.reader_line.specs.Answer.{asKind}
-use Rattle.reader_line.specs.declared.line.Flaw.the-variants.{Sound}
+use Rattle.reader_word.specs.declared.windows.Flaw.the-variants.{Sound}
 use Rattle.reader_line.specs.declared.line.KindWord.the-variants as kindWord
-use Rattle.reader_line.specs.SpansLaws.{closed-last, closed-other}
+use Rattle.reader_word.specs.SpansLaws.{closed-last, closed-other}
 
 -- the kind's word
 

@@ -11,9 +11,10 @@ use borrow.Author.Tests.{leb-true}
 use Rattle.tender.specs.declared.Window.{Window}
 use Rattle.tender.specs.Keywords.{tenderWord, bidWord}
 use Rattle.tender.specs.Limits.{within}
-use Rattle.reader_line.specs.Words.{growFirst, cut, sameBytes, opened, closed, digits, leadingZero, numeralOf, priceOf}
-use Rattle.reader_line.specs.Line.{BidLine, bid, kindOf, spanOf, windowOf, windowsIn, tenderOf, bidOf, lineOfWords, lineOf}
-use Rattle.reader_line.specs.CutLaws.{Pieces, cut-some}
+use Rattle.reader_word.specs.Words.{growFirst, cut, sameBytes, opened, closed, digits, leadingZero, numeralOf, priceOf}
+use Rattle.reader_line.specs.Line.{BidLine, bid, kindOf, windowsIn, tenderOf, bidOf, lineOfWords, lineOf}
+use Rattle.reader_word.specs.Windows.{spanOf, windowOf}
+use Rattle.reader_word.specs.CutLaws.{Pieces, cut-some}
 use Rattle.reader_line.specs.LinePlainLaws.{both-true, then-some, cond-some}
 
 -- the bytes of the pieces, with one after each

@@ -10,14 +10,16 @@ use lib.Dec.{ltb}
 use lib.Seq.{take-set-le}
 use Rattle.tender.specs.declared.Window.{Window}
 use Rattle.tender.specs.Tables.{windowWidth}
-use Rattle.reader_line.specs.Words.{andThen, cut, closed}
-use Rattle.reader_line.specs.Line.{windowOf, windowsIn}
-use Rattle.reader_line.specs.CutLaws.{cut-some}
-use Rattle.reader_line.specs.Flaws.{flawIn, worst}
-use Rattle.reader_line.specs.FlawLaws.{worst-more, worst-last}
-use Rattle.reader_line.specs.declared.line.Flaw.{Flaw}
-use Rattle.reader_line.specs.Scan.{toNext, part, putWindow, tallied}
-use Rattle.reader_line.specs.ScanLaws.{cut-at, cut-at-end}
+use Rattle.reader_word.specs.Words.{andThen, cut, closed}
+use Rattle.reader_word.specs.Windows.{windowOf}
+use Rattle.reader_line.specs.Line.{windowsIn}
+use Rattle.reader_word.specs.CutLaws.{cut-some}
+use Rattle.reader_word.specs.Flaws.{flawIn, worst}
+use Rattle.reader_word.specs.FlawLaws.{worst-more, worst-last}
+use Rattle.reader_word.specs.declared.windows.Flaw.{Flaw}
+use Rattle.reader_word.specs.Scan.{toNext, part}
+use Rattle.reader_line.specs.Tally.{putWindow, tallied}
+use Rattle.reader_word.specs.ScanLaws.{cut-at, cut-at-end}
 
 step : (m n : ℕ) (flaw : Flaw) (table : List ℕ) (w : Window) (o : Option (List Window)) →
     tallied m n flaw table (andThen o (λ r. some (w ∷ r))) ≡ tallied m (n + 1) (worst flaw (flawIn w)) (putWindow table (m + n) w) o

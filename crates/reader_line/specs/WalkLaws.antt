@@ -5,14 +5,16 @@ use mathlib.Core.List.{List, [], _∷_}
 use mathlib.Core.Option.{Option, none, some}
 use native.Mathlib.Omega.{arith}
 use lib.ListN.{length, take, drop, drop-of-length-le, length-drop}
-use Rattle.reader_line.specs.Words.{andThen, cut, closed}
+use Rattle.reader_word.specs.Words.{andThen, cut, closed}
 use Rattle.tender.specs.declared.Window.{Window}
-use Rattle.reader_line.specs.Line.{windowOf, windowsIn}
-use Rattle.reader_line.specs.ScanLaws.{cut-at, cut-at-end}
-use Rattle.reader_line.specs.Scan.{toNext, tallied}
-use Rattle.reader_line.specs.declared.line.Flaw.{Flaw}
-use Rattle.reader_line.specs.declared.line.Span.the-variants.{Of, Wrong}
-use Rattle.reader_line.specs.Answer.{asSpan, lastOf}
+use Rattle.reader_word.specs.Windows.{windowOf}
+use Rattle.reader_line.specs.Line.{windowsIn}
+use Rattle.reader_word.specs.ScanLaws.{cut-at, cut-at-end}
+use Rattle.reader_word.specs.Scan.{toNext}
+use Rattle.reader_line.specs.Tally.{tallied}
+use Rattle.reader_word.specs.declared.windows.Flaw.{Flaw}
+use Rattle.reader_word.specs.declared.windows.Span.the-variants.{Of, Wrong}
+use Rattle.reader_word.specs.Answer.{asSpan, lastOf}
 
 pub tally-end : (line : List ℕ) (i m n : ℕ) (flaw : Flaw) (table : List ℕ) → length line ≤ i
     → tallied m n flaw table (windowsIn (cut 32 (drop i line))) ≡ none

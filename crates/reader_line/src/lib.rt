@@ -1,3 +1,3 @@
-// One line of a bid text: its words, numbers and windows, and the line read into a value before it is judged.
+// One line of a bid text: where it ends, and the line read into a value before it is judged.
+pub mod ends;
 pub mod line;
-pub mod words;

@@ -4,106 +4,26 @@ ghost use mathlib.Core.List.{List};
 ghost use Prim.Native.Nat.{ℕ, _*_, _≤_};
 ghost use lib.ListN.{take, drop, length};
 ghost use Rattle.tender.specs.Tables.{windowWidth};
-ghost use Rattle.reader_line.specs.Words.{cut};
-ghost use Rattle.reader_line.specs.Line.{kindOf, spanOf, windowOf, windowsIn, tenderOf, bidOf, lineOf};
-ghost use Rattle.reader_line.specs.Flaws.{flawIn, worst};
-ghost use Rattle.reader_line.specs.Scan.{putWindow, tallied, noted};
-ghost use Rattle.reader_line.specs.declared.line.Flaw.the-variants.{Sound};
-ghost use Rattle.reader_line.specs.Answer.{asKind, asSpan, lastOf, toldTally, toldLine};
-use crate::words::Number;
-use crate::words::next;
-use crate::words::read_number;
-use crate::words::read_price;
-use crate::words::same;
+ghost use Rattle.reader_word.specs.Words.{cut};
+ghost use Rattle.reader_line.specs.Line.{kindOf, windowsIn, tenderOf, bidOf, lineOf};
+ghost use Rattle.reader_word.specs.Flaws.{flawIn, worst};
+ghost use Rattle.reader_line.specs.Tally.{putWindow, tallied, noted};
+ghost use Rattle.reader_word.specs.declared.windows.Flaw.the-variants.{Sound};
+ghost use Rattle.reader_line.specs.Answer.{asKind, toldTally, toldLine};
+use reader_word::windows::Flaw;
+use reader_word::windows::Span;
+use reader_word::windows::read_last;
+use reader_word::windows::read_span;
+use reader_word::windows::read_window;
+use reader_word::windows::worse;
+use reader_word::words::Number;
+use reader_word::words::next;
+use reader_word::words::read_number;
+use reader_word::words::read_price;
+use reader_word::words::same;
 use tender::Kind;
 use tender::Tender;
 use tender::Window;
-
-pub(crate) enum Span {
-    Of(u64, u64),
-    Wrong,
-}
-
-// The numbers that the words s and e spell.
-fn read_span(s: &[u8], e: &[u8]) -> Span
-    ensures { λ r. ⌜ r ≡ asSpan (spanOf (now (s .entry)) (now (e .entry))) ⌝ }
-{
-    let Number::Value(a) = read_number(s) else {
-        return Span::Wrong;
-    };
-    let Number::Value(z) = read_number(e) else {
-        return Span::Wrong;
-    };
-    Span::Of(a, z)
-}
-
-// The window that the words "(S" and "E)" spell.
-fn read_window(s: &[u8], e: &[u8]) -> Span
-    ensures { λ r. ⌜ r ≡ asSpan (windowOf (now (s .entry)) (now (e .entry))) ⌝ }
-{
-    let n = s.len();
-    if n == 0 {
-        return Span::Wrong;
-    }
-    if s[0] != b'(' {
-        return Span::Wrong;
-    }
-    let m = e.len();
-    if m == 0 {
-        return Span::Wrong;
-    }
-    if e[m - 1] != b')' {
-        return Span::Wrong;
-    }
-    read_span(&s[1..n], &e[0..m - 1])
-}
-
-// The window that the words "(S" and "E))" spell.
-fn read_last(s: &[u8], e: &[u8]) -> Span
-    ensures { λ r. ⌜ r ≡ asSpan (lastOf (now (s .entry)) (now (e .entry))) ⌝ }
-{
-    let m = e.len();
-    if m == 0 {
-        return Span::Wrong;
-    }
-    if e[m - 1] != b')' {
-        return Span::Wrong;
-    }
-    read_window(s, &e[0..m - 1])
-}
-
-// What is wrong with windows: some start is not below its end; or else some end is past the week; or nothing.
-pub enum Flaw {
-    Empty,
-    Late,
-    Sound,
-}
-
-// What is wrong with the window from a to z.
-pub fn flaw_in(a: u64, z: u64) -> Flaw
-    ensures { λ r. ⌜ r ≡ flawIn (record { start = a; end = z }) ⌝ }
-{
-    if a < z {
-        if z <= tender::WEEK {
-            Flaw::Sound
-        } else {
-            Flaw::Late
-        }
-    } else {
-        Flaw::Empty
-    }
-}
-
-// What is wrong with windows, with one more.
-fn worse(flaw: Flaw, a: u64, z: u64) -> Flaw
-    ensures { λ r. ⌜ r ≡ worst flaw (flawIn (record { start = a; end = z })) ⌝ }
-{
-    match flaw {
-        Flaw::Empty => Flaw::Empty,
-        Flaw::Late => { if z <= a { Flaw::Empty } else { Flaw::Late } }
-        Flaw::Sound => flaw_in(a, z),
-    }
-}
 
 // The window in row m, where the table has that row.
 fn put_window(windows: &mut [u64], m: usize, a: u64, z: u64)

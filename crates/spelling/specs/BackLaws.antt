@@ -10,9 +10,9 @@ use Rattle.tender.specs.declared.Kind.the-variants.{Single, Multi}
 use Rattle.tender.specs.declared.Window.{Window}
 use Rattle.tender.specs.declared.Tender.{Tender}
 use Rattle.tender.specs.Keywords.{bytes, tenderWord, bidWord, singleWord, multiWord}
-use Rattle.reader_line.specs.Words.{andThen, among, cut, sameBytes, priceOf}
+use Rattle.reader_word.specs.Words.{andThen, among, cut, sameBytes, priceOf}
 use Rattle.reader_line.specs.Line.{BidLine, Line, tender, bid, kindOf, tenderOf, bidOf, lineOfWords, lineOf, linesOf}
-use Rattle.reader_line.specs.CutLaws.{cut-some, cut-end}
+use Rattle.reader_word.specs.CutLaws.{cut-some, cut-end}
 use Rattle.spelling.specs.Decimal.{decimal}
 use Rattle.spelling.specs.Lines.{kindWord}
 use Rattle.spelling.specs.Text.{bidText, tenderText, bidsText, textOf}

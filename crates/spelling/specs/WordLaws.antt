@@ -9,9 +9,10 @@ use lib.Dec.{eqb}
 use Rattle.tender.specs.declared.Window.{Window}
 use Rattle.tender.specs.declared.Tender.{Tender}
 use Rattle.tender.specs.Keywords.{bytes, tenderWord, bidWord}
-use Rattle.reader_line.specs.Words.{andThen, among, cut, opened, closed}
-use Rattle.reader_line.specs.Line.{spanOf, windowOf, windowsIn}
-use Rattle.reader_line.specs.CutLaws.{neither, cut-end, cut-word}
+use Rattle.reader_word.specs.Words.{andThen, among, cut, opened, closed}
+use Rattle.reader_word.specs.Windows.{spanOf, windowOf}
+use Rattle.reader_line.specs.Line.{windowsIn}
+use Rattle.reader_word.specs.CutLaws.{neither, cut-end, cut-word}
 use Rattle.spelling.specs.Decimal.{decimal}
 use Rattle.spelling.specs.Lines.{closing, numbers, kindWord}
 use Rattle.spelling.specs.Text.{windowText, windowsText, bidText, tenderText}

@@ -15,7 +15,7 @@ use Rattle.tender.specs.declared.AwardRow.{AwardRow}
 use Rattle.tender.specs.declared.Totals.{Totals}
 use Rattle.tender.specs.declared.Refusal.the-variants.{BadTables}
 use Rattle.tender.specs.Tables.{Row, rowsOf, flatRows, flatWindows, bidWidth, windowWidth}
-use Rattle.reader_line.specs.Words.{digits}
+use Rattle.reader_word.specs.Words.{digits}
 use Rattle.reader_line.specs.LinePlain.{allPlain}
 use Rattle.reader.specs.Read.{accepted, refused, readText, readInto}
 use Rattle.reader.specs.Rules.{bytesLike}

@@ -19,7 +19,7 @@ use Rattle.tender.specs.Keywords.{bytes}
 use Rattle.tender.specs.Tables.{Row, flatRows, flatWindows}
 use Rattle.cover.specs.Sets.{Found, nothing, found}
 use Rattle.cover.specs.Earliest.{cellWith}
-use Rattle.reader_line.specs.Words.{among}
+use Rattle.reader_word.specs.Words.{among}
 use Rattle.reader.specs.Read.{readText}
 use Rattle.reader.specs.Read as reading
 use Rattle.reader.specs.Rules.{Rules}

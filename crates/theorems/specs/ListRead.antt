@@ -5,7 +5,7 @@ use mathlib.Core.Option.{Option, none, some}
 use Prim.Native.Nat.{ℕ}
 use lib.ListN.{getD}
 use Rattle.tender.specs.declared.AwardRow.{AwardRow}
-use Rattle.reader_line.specs.Words.{andThen, cut, sameBytes, closed, digits}
+use Rattle.reader_word.specs.Words.{andThen, cut, sameBytes, closed, digits}
 use Rattle.award.specs.Gain.{lost}
 use Rattle.spelling.specs.Decimal.{decimal}
 use Rattle.listing.specs.Lines.{winWord}

@@ -20,7 +20,7 @@ use Rattle.tender.specs.declared.Refusal.the-variants.{SeveralWindows, TableToo
 use Rattle.tender.specs.Limits.{within, isSingle, ordered, early, every}
 use Rattle.tender.specs.Refusals.{numberOf, placeOf}
 use Rattle.tender.specs.Tables.{Row, bidWidth, windowWidth}
-use Rattle.reader_line.specs.Words.{cut, among}
+use Rattle.reader_word.specs.Words.{cut, among}
 use Rattle.reader_line.specs.Line.{BidLine, Line, tender, bid, linesOf}
 use Rattle.reader.specs.Read.{ReadOutcome, accepted, refused, declinedBy, rowsFrom, allWindows, bidsOf, lineFault, tenderFault, bidFaultIn}
 use Rattle.reader.specs.Read.{bidFaultAfter, bidFault, lineJudged, checked, tables, readLines, readText, fitted, readInto}

@@ -17,8 +17,8 @@ use Rattle.tender.specs.declared.Refusal.{Refusal}
 use Rattle.tender.specs.Refusals.{numberOf, placeOf}
 use Rattle.tender.specs.Keywords.{bytes, singleWord, multiWord}
 use Rattle.tender.specs.Tables.{Row}
-use Rattle.reader_line.specs.Words.{andThen, growFirst, cut, among, sameBytes, closed, digits}
-use Rattle.reader_line.specs.CutLaws.{cut-end}
+use Rattle.reader_word.specs.Words.{andThen, growFirst, cut, among, sameBytes, closed, digits}
+use Rattle.reader_word.specs.CutLaws.{cut-end}
 use Rattle.award_check.specs.Cells.{noRow}
 use Rattle.award_plain.specs.Award.{awarded}
 use Rattle.award.specs.Gain.{lost}

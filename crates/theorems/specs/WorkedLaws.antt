@@ -9,7 +9,7 @@ use Rattle.cover.specs.Sets.{covers, cells}
 use Rattle.cover.specs.Sets as sets
 use Rattle.cover.specs.SetLaws.{and-split}
 use Rattle.cover.specs.Greedy.{Rounds, stop, round, run, bids}
-use Rattle.reader_line.specs.Words.{sameBytes}
+use Rattle.reader_word.specs.Words.{sameBytes}
 use Rattle.reader.specs.Read.{ReadOutcome, accepted, refused, readText}
 use Rattle.award_check.specs.Cells.{noRow}
 use Rattle.award_check.specs.Auction.{auctionOf}

@@ -13,7 +13,7 @@ use Rattle.tender.specs.declared.Kind.the-variants.{Single, Multi}
 use Rattle.tender.specs.declared.Window.{Window}
 use Rattle.tender.specs.Limits.{within, mostWindows, isSingle, lawful, allLawful, ordered, early, every}
 use Rattle.tender.specs.Tables.{Row, own}
-use Rattle.reader_line.specs.Words.{among}
+use Rattle.reader_word.specs.Words.{among}
 use Rattle.spelling.specs.Text.{bidIn}
 use Rattle.spelling.specs.WordLaws.{Named, AllNamed}
 use Rattle.spelling.specs.BackLaws.{Nameable, AllNameable, asLines}

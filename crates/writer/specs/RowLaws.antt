@@ -12,7 +12,7 @@ use Rattle.tender.specs.declared.Kind.{Kind}
 use Rattle.tender.specs.declared.Kind.the-variants.{Single, Multi}
 use Rattle.tender.specs.Limits.{within, mostWindows, allLawful}
 use Rattle.tender.specs.Tables.{Row, windowsOf, own, windowWidth}
-use Rattle.reader_line.specs.Words.{among}
+use Rattle.reader_word.specs.Words.{among}
 use Rattle.cover.specs.SetLaws.{and-split}
 use Rattle.award_check.specs.Faults.{sound, rowFault}
 use Rattle.award_check.specs.AlikeLaws.{keeps-kept}

@@ -15,10 +15,11 @@ use Rattle.tender.specs.declared.Window.{Window}
 use Rattle.tender.specs.declared.Tender.{Tender}
 use Rattle.tender.specs.Keywords.{tenderWord, bidWord, singleWord, multiWord}
 use Rattle.tender.specs.Tables.{Row, flatWindows}
-use Rattle.reader_line.specs.Words.{andThen, growFirst, cut, sameBytes, opened, closed, numeralOf, priceOf}
-use Rattle.reader_line.specs.Line.{BidLine, Line, tender, bid, kindOf, spanOf, windowOf, windowsIn, tenderOf, bidOf, lineOfWords, lineOf}
+use Rattle.reader_word.specs.Words.{andThen, growFirst, cut, sameBytes, opened, closed, numeralOf, priceOf}
+use Rattle.reader_line.specs.Line.{BidLine, Line, tender, bid, kindOf, windowsIn, tenderOf, bidOf, lineOfWords, lineOf}
+use Rattle.reader_word.specs.Windows.{spanOf, windowOf}
 use Rattle.reader_line.specs.Line.{linesOf}
-use Rattle.reader_line.specs.CutLaws.{Pieces, cut-some}
+use Rattle.reader_word.specs.CutLaws.{Pieces, cut-some}
 use Rattle.reader.specs.Read.{accepted, rowsFrom, allWindows, bidsOf, readText}
 use Rattle.reader.specs.Rules.{RowsRules}
 use Rattle.reader.specs.RulesLaws.{rules-law}

@@ -1,7 +1,7 @@
 -- `read_head` meets its contract: the first line is cut, read and judged as the definition does. Assumes nothing.
 use mathlib.Core.Path.{sym, ap, _∙_}
 use native.Mathlib.Omega.{arith}
-use Rattle.reader_line.specs.ScanLaws.{lines-at}
+use Rattle.reader_line.specs.PiecesLaws.{lines-at}
 use Rattle.reader_line.specs.Answer.{toldLine}
 use Rattle.reader.specs.FaultLaws.{flawFault, tender-lawful, tender-told}
 use Rattle.reader.specs.FillsLaws.{ends-at, ends-broken}

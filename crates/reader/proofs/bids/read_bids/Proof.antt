@@ -4,9 +4,9 @@ use mathlib.Core.Path.{_≡_, refl, _∙_}
 use native.Mathlib.Omega.{arith}
 use borrow.Author.Needs.{needs}
 use lib.ListN.{length, drop}
-use Rattle.reader_line.specs.Words.{cut}
+use Rattle.reader_word.specs.Words.{cut}
 use Rattle.reader_line.specs.Line.{linesOf}
-use Rattle.reader_line.specs.ScanLaws.{lines-at, lines-end}
+use Rattle.reader_line.specs.PiecesLaws.{lines-at, lines-end}
 use Rattle.reader.specs.FillsLaws.{Walk, walk-begins, goes, stops, breaks, walk-ends, ends-at, ends-broken, room-for, taken-room}
 use Rattle.reader.proofs.bids.read_bids.Statement.{statement}
 use Rattle.reader.proofs.bids.read_bids.Tie as tie

@@ -2,7 +2,7 @@
 use native.Mathlib.Omega.{arith}
 use lib.ListN.{length-set}
 use borrow.Author.Tests.{lt-ltb, le-ltb}
-use Rattle.reader_line.specs.Scan.{putWindow}
+use Rattle.reader_line.specs.Tally.{putWindow}
 use borrow.Author.Needs.{needs}
 use Rattle.reader_line.proofs.line.put_window.Statement.{statement}
 use Rattle.reader_line.proofs.line.put_window.Tie as tie

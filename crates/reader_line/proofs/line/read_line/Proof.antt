@@ -4,8 +4,8 @@ use native.Mathlib.Omega.{arith}
 use borrow.Author.Needs.{needs}
 use lib.ListN.{length}
 use Rattle.tender.specs.Keywords.{tenderWord, bidWord}
-use Rattle.reader_line.specs.Scan.{noted}
-use Rattle.reader_line.specs.EndsLaws.{next-fits}
+use Rattle.reader_line.specs.Tally.{noted}
+use Rattle.reader_word.specs.ScanLaws.{next-fits}
 use Rattle.reader_line.specs.LinesLaws.{noted-none, line-one, line-empty, line-unopened, line-tender, line-bid, line-other}
 use Rattle.reader_line.proofs.line.read_line.Statement.{statement}
 use Rattle.reader_line.proofs.line.read_line.Tie as tie

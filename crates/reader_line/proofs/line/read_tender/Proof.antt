@@ -4,8 +4,8 @@ use mathlib.Core.Path.{_≡_, sym, _∙_}
 use native.Mathlib.Omega.{arith}
 use borrow.Author.Needs.{needs}
 use lib.ListN.{length, drop, length-drop}
-use Rattle.reader_line.specs.EndsLaws.{next-fits}
-use Rattle.reader_line.specs.SpansLaws.{closed-empty}
+use Rattle.reader_word.specs.ScanLaws.{next-fits}
+use Rattle.reader_word.specs.SpansLaws.{closed-empty}
 use Rattle.reader_line.specs.WalkLaws.{is-of, is-wrong}
 use Rattle.reader_line.specs.LinesLaws.{is-kind, is-no-kind, tail-closed, tail-open, noted-none, noted-tender, tender-one, tender-two}
 use Rattle.reader_line.specs.LinesLaws.{tender-four, tender-open, tender-unkind, tender-unspan, tender-whole}

@@ -5,13 +5,13 @@ use native.Mathlib.Omega.{arith}
 use borrow.Author.Needs.{needs}
 use lib.ListN.{length, take, drop}
 use Rattle.tender.specs.Tables.{windowWidth}
-use Rattle.reader_line.specs.Words.{cut}
+use Rattle.reader_word.specs.Words.{cut}
 use Rattle.reader_line.specs.Line.{windowsIn}
-use Rattle.reader_line.specs.Scan.{tallied}
-use Rattle.reader_line.specs.declared.line.Flaw.the-variants.{Sound}
+use Rattle.reader_line.specs.Tally.{tallied}
+use Rattle.reader_word.specs.declared.windows.Flaw.the-variants.{Sound}
 use Rattle.reader_line.specs.TallyLaws.{rows-before, tally-one, tally-more, tally-wrong, tally-last}
-use Rattle.reader_line.specs.Answer.{lastOf}
-use Rattle.reader_line.specs.EndsLaws.{next-fits}
+use Rattle.reader_word.specs.Answer.{lastOf}
+use Rattle.reader_word.specs.ScanLaws.{next-fits}
 use Rattle.reader_line.specs.WalkLaws.{tally-end, rest-part, is-of, is-wrong, tally-last-wrong}
 use Rattle.reader_line.proofs.line.read_windows.Statement.{statement}
 use Rattle.reader_line.proofs.line.read_windows.Tie as tie

@@ -1,0 +1,11 @@
+pub mod Words
+pub mod Windows
+pub mod Flaws
+pub mod Scan
+pub mod Answer
+pub mod CutLaws
+pub mod ScanLaws
+pub mod DigitsLaws
+pub mod SameLaws
+pub mod SpansLaws
+pub mod FlawLaws

@@ -1,0 +1,16 @@
+-- A window of a bid text, as its words spell it (paper 01, "The bid text").
+use Prim.Native.Nat.{ℕ}
+use mathlib.Core.List.{List}
+use mathlib.Core.Option.{Option, some}
+use Rattle.tender.specs.declared.Window.{Window}
+use Rattle.reader_word.specs.Words.{andThen, opened, closed, numeralOf}
+
+-- the words "S" and "E"
+unfoldable pub spanOf : List ℕ → List ℕ → Option Window
+unfolding andThen numeralOf
+spanOf s e = andThen (numeralOf s) (λ a. andThen (numeralOf e) (λ z. some (record { start = a; end = z })))
+
+-- the words "(S" and "E)"
+unfoldable pub windowOf : List ℕ → List ℕ → Option Window
+unfolding andThen opened closed spanOf
+windowOf s e = andThen (opened s) (λ a. andThen (closed e) (λ z. spanOf a z))
