@@ -14,7 +14,7 @@ use Rattle.tender.specs.Tables.{Row}
 use Rattle.cover.specs.Sets.{bit, bidders}
 use Rattle.cover.specs.Sets as sets
 use Rattle.cover.specs.LeastCover.{Wins, Stands, without}
-use Rattle.reader.specs.Words.{numeralOf, priceOf}
+use Rattle.reader_text.specs.Words.{numeralOf, priceOf}
 use Rattle.award_check.specs.Faults.{faultOf}
 use Rattle.award_check.specs.Cells.{noRow}
 use Rattle.award_check.specs.Auction.{Auction, auctionOf}

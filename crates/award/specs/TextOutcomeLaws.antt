@@ -13,11 +13,11 @@ use Rattle.tender.specs.declared.Window.{Window}
 use Rattle.tender.specs.declared.Tender.{Tender}
 use Rattle.tender.specs.declared.Refusal.the-variants.{BadTables}
 use Rattle.tender.specs.Tables.{Row, flatRows, flatWindows, bidWidth}
-use Rattle.reader.specs.Read.{accepted, readText}
-use Rattle.reader.specs.Rules.{Rules}
-use Rattle.reader.specs.RulesLaws.{rules-law}
-use Rattle.reader.specs.Differ.{DifferInPrice, RowsDifferInPrice}
-use Rattle.reader.specs.PriceLaws.{price-law}
+use Rattle.reader_text.specs.Read.{accepted, readText}
+use Rattle.reader_text.specs.Rules.{Rules}
+use Rattle.reader_text.specs.RulesLaws.{rules-law}
+use Rattle.reader_text.specs.Differ.{DifferInPrice, RowsDifferInPrice}
+use Rattle.reader_text.specs.PriceLaws.{price-law}
 use Rattle.award_check.specs.Faults.{sameKind, faultOf}
 use Rattle.award_check.specs.Alike.{named}
 use Rattle.award_check.specs.TextLaws.{never-nine, Tabled, tabled}

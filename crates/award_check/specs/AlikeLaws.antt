@@ -13,8 +13,8 @@ use Rattle.tender.specs.declared.Kind.{Kind}
 use Rattle.tender.specs.declared.Tender.{Tender}
 use Rattle.tender.specs.Limits.{within, maxPrice, maxBidder, maxBids, mostWindows, lawful, allLawful}
 use Rattle.tender.specs.Tables.{Row, rowsOf, windowsOf, own, bidWidth, windowWidth, windowAt}
-use Rattle.reader.specs.Words.{among}
-use Rattle.reader.specs.Differ.{withPrice}
+use Rattle.reader_text.specs.Words.{among}
+use Rattle.reader_text.specs.Differ.{withPrice}
 use Rattle.cover.specs.SetLaws.{and-split}
 use Rattle.award_check.specs.Faults.{keeps, sound, rowFault, sameKind, faultOf}
 use Rattle.award_check.specs.Cells.{noRow}

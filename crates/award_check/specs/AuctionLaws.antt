@@ -13,8 +13,8 @@ use Rattle.tender.specs.declared.Kind.{Kind}
 use Rattle.tender.specs.declared.Window.{Window}
 use Rattle.tender.specs.declared.Tender.{Tender}
 use Rattle.tender.specs.Tables.{Row, rowsOf, windowsOf, own, flatRows, flatWindows, bidWidth, windowWidth}
-use Rattle.reader.specs.Rules.{Rules}
-use Rattle.reader.specs.Differ.{withPrice}
+use Rattle.reader_text.specs.Rules.{Rules}
+use Rattle.reader_text.specs.Differ.{withPrice}
 use Rattle.award_check.specs.Faults.{faultOf}
 use Rattle.award_check.specs.Cells.{holds, cellsOf, noRow}
 use Rattle.award_check.specs.Auction.{noOffer, offered, offersOf, Auction, hasOf, auctionOf, atPrice}

@@ -10,7 +10,7 @@ use Rattle.tender.specs.declared.Kind.the-variants.{Single, Multi}
 use Rattle.tender.specs.declared.Tender.{Tender}
 use Rattle.tender.specs.Limits.{within, maxPrice, maxBidder, maxBids, mostWindows, lawful, allLawful}
 use Rattle.tender.specs.Tables.{Row, rowsOf, own, bidWidth, windowWidth}
-use Rattle.reader.specs.Words.{among}
+use Rattle.reader_text.specs.Words.{among}
 
 -- the row rules: bidder and price within limits, one window at least and no more than the kind allows, windows that begin where
 -- the row before ended and stand inside the lent rows, each window lawful; the windows of the row before end at `at`

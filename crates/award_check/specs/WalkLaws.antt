@@ -13,7 +13,7 @@ use Rattle.tender.specs.declared.Kind.{Kind}
 use Rattle.tender.specs.Limits.{within, lawful, allLawful}
 use Rattle.cover.specs.SetLaws.{and-split}
 use Rattle.tender.specs.Tables.{Row, rowsOf, windowsOf, bidWidth, windowWidth, windowAt}
-use Rattle.reader.specs.Words.{among}
+use Rattle.reader_text.specs.Words.{among}
 use Rattle.cells.specs.Cells.{cell, RangeAdded}
 use Rattle.award_check.specs.Faults.{keeps, sound, rowFault}
 use Rattle.award_check.specs.AlikeLaws.{rows-step, windows-step, keeps-kept}

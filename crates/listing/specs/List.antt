@@ -5,8 +5,8 @@ use Prim.Native.Nat.{ℕ, zero, suc}
 use lib.ListN.{length, getD}
 use Rattle.tender.specs.declared.Tender.{Tender}
 use Rattle.tender.specs.Tables.{Row, flatRows, flatWindows}
-use Rattle.reader.specs.Read.{accepted, readText}
-use Rattle.reader.specs.Read as reading
+use Rattle.reader_text.specs.Read.{accepted, readText}
+use Rattle.reader_text.specs.Read as reading
 use Rattle.award_check.specs.Cells.{noRow}
 use Rattle.tender.specs.declared.AwardRow.{AwardRow}
 use Rattle.award_plain.specs.Award.{Outcome, awarded, refused, awardOf}

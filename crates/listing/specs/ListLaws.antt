@@ -18,10 +18,10 @@ use Rattle.tender.specs.Tables.{Row, flatRows, flatWindows, bidWidth}
 use Rattle.cover.specs.Sets.{Found, nothing, found}
 use Rattle.cover.specs.Earliest.{cellWith}
 use Rattle.cover.specs.SettledLaws.{getD-listed}
-use Rattle.reader.specs.Read.{accepted, readText}
-use Rattle.reader.specs.Read as reading
-use Rattle.reader.specs.Rules.{Rules}
-use Rattle.reader.specs.RulesLaws.{rules-law}
+use Rattle.reader_text.specs.Read.{accepted, readText}
+use Rattle.reader_text.specs.Read as reading
+use Rattle.reader_text.specs.Rules.{Rules}
+use Rattle.reader_text.specs.RulesLaws.{rules-law}
 use Rattle.award_check.specs.Cells.{noRow}
 use Rattle.award_check.specs.Auction.{Auction, auctionOf}
 use Rattle.award_check.specs.AuctionLaws.{auction-read}

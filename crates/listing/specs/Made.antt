@@ -4,7 +4,7 @@ use mathlib.Core.List.{List, _++_}
 use Prim.Native.Nat.{ℕ, _≤_}
 use lib.ListN.{length, take}
 use Rattle.tender.specs.declared.Tender.{Tender}
-use Rattle.reader.specs.Read.{readText}
+use Rattle.reader_text.specs.Read.{readText}
 use Rattle.tender.specs.declared.Answer.{Answer}
 use Rattle.tender.specs.declared.Answer.the-variants.{Awarded, Refused}
 use Rattle.award_plain.specs.Plain.{PlainPromise}

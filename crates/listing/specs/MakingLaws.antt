@@ -8,9 +8,9 @@ use Rattle.tender.specs.declared.Tender.{Tender}
 use Rattle.tender.specs.declared.Totals.{Totals}
 use Rattle.tender.specs.declared.Refusal.{Refusal}
 use Rattle.tender.specs.Refusals.{numberOf, placeOf}
-use Rattle.reader.specs.Read.{accepted, readText}
-use Rattle.reader.specs.Read as reading
-use Rattle.reader.specs.RulesLaws.{rules-law}
+use Rattle.reader_text.specs.Read.{accepted, readText}
+use Rattle.reader_text.specs.Read as reading
+use Rattle.reader_text.specs.RulesLaws.{rules-law}
 use Rattle.reader.specs.ReadInLaws.{ReadIn}
 use Rattle.tender.specs.declared.Answer.{Answer}
 use Rattle.tender.specs.declared.Answer.the-variants.{Awarded, Refused}

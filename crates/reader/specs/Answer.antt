@@ -5,7 +5,7 @@ use lib.ListN.{length, drop}
 use Rattle.tender.specs.declared.Tender.{Tender}
 use Rattle.tender.specs.Refusals.{numberOf, placeOf}
 use Rattle.tender.specs.Tables.{flatRows, flatWindows, bidWidth, windowWidth}
-use Rattle.reader.specs.Read.{ReadOutcome, accepted, refused}
+use Rattle.reader_text.specs.Read.{ReadOutcome, accepted, refused}
 use Rattle.reader.specs.declared.Reading.{Reading}
 use Rattle.reader.specs.declared.Reading.the-variants as answer
 

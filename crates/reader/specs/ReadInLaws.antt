@@ -11,11 +11,11 @@ use Rattle.tender.specs.Refusals.{numberOf, placeOf}
 use Rattle.tender.specs.Tables.{Row, flatRows, flatWindows, bidWidth, windowWidth}
 use Rattle.reader.specs.declared.Reading.{Reading}
 use Rattle.reader.specs.declared.Reading.the-variants as answer
-use Rattle.reader.specs.Read.{accepted, readText, readInto}
-use Rattle.reader.specs.Read as reading
+use Rattle.reader_text.specs.Read.{accepted, readText, readInto}
+use Rattle.reader_text.specs.Read as reading
 use Rattle.reader.specs.Answer.{filled, declined, toldReading, summary, bidsAfter, windowsAfter}
-use Rattle.reader.specs.CountLaws.{counts-law}
-use Rattle.reader.specs.SizeLaws.{fits-law}
+use Rattle.reader_text.specs.CountLaws.{counts-law}
+use Rattle.reader_text.specs.SizeLaws.{fits-law}
 
 -- what an accepted text left in the tables
 pub record ReadIn (text bids windows : List ℕ) (t : Tender) (n : ℕ) : Type 0 where

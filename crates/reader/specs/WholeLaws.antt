@@ -19,16 +19,17 @@ use Rattle.reader_word.specs.Words.{cut}
 use Rattle.reader_line.specs.Line.{Line, tender, bid, linesOf}
 use Rattle.reader_line.specs.Tally.{Tally, tenderNote, bidNote, noted}
 use Rattle.reader_line.specs.Answer.{FirstBroken}
-use Rattle.reader.specs.Read.{ReadOutcome, accepted, refused, rowsFrom, allWindows, bidsOf, tenderFault, checked, tables}
-use Rattle.reader.specs.Read.{begun, halted, headOf, readLines, readText, fitted, readInto}
-use Rattle.reader.specs.HeadLaws.{lines-halted, lines-begun, no-line, broken-first, bid-first, tender-faulty, tender-sound}
-use Rattle.reader.specs.RulesLaws.{rowsFrom-length}
+use Rattle.reader_text.specs.Read.{ReadOutcome, accepted, refused, rowsFrom, allWindows, bidsOf, tenderFault, checked, tables}
+use Rattle.reader_text.specs.Read.{begun, halted, headOf, readLines, readText, fitted, readInto}
+use Rattle.reader_text.specs.HeadLaws.{lines-halted, lines-begun, no-line, broken-first, bid-first, tender-faulty, tender-sound}
+use Rattle.reader_text.specs.RulesLaws.{rowsFrom-length}
 use Rattle.reader.specs.Answer.{filled, declined, summary, bidsAfter, windowsAfter}
-use Rattle.reader.specs.Steps.{Begins, Opened, TablesHold, LinesFilled}
+use Rattle.reader.specs.Opened.{Begins, Opened}
+use Rattle.reader_bids.specs.Steps.{TablesHold, LinesFilled}
 use Rattle.reader.specs.declared.Head.{Head}
 use Rattle.reader.specs.declared.Head.the-variants as head
-use Rattle.reader.specs.declared.bids.Bids.{Bids}
-use Rattle.reader.specs.declared.bids.Bids.the-variants as bids
+use Rattle.reader_bids.specs.declared.Bids.{Bids}
+use Rattle.reader_bids.specs.declared.Bids.the-variants as bids
 
 -- the head
 

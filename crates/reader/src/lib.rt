@@ -1,18 +1,17 @@
-// The bid reader: bid text to a tender, a table of bids and a table of windows. `specs/Read.antt` says what a text gives;
+// The bid reader: bid text to a tender, a table of bids and a table of windows. `reader_text` Read says what a text gives;
 // a text is read whole or refused, and a refused text leaves both tables as they were.
 ghost use mathlib.Core.Path.{_≡_};
 ghost use Prim.Native.Nat.{_/_};
 ghost use lib.ListN.{length, replicate};
 ghost use Rattle.tender.specs.Tables.{bidWidth, windowWidth};
-ghost use Rattle.reader.specs.Read.{readInto};
+ghost use Rattle.reader_text.specs.Read.{readInto};
 ghost use Rattle.reader.specs.Answer.{toldReading, summary, bidsAfter, windowsAfter};
-ghost use Rattle.reader.specs.Steps.{Opened};
+ghost use Rattle.reader.specs.Opened.{Opened};
 
-mod bids;
 mod rows;
 
-use bids::Bids;
-use bids::read_bids;
+use reader_bids::Bids;
+use reader_bids::read_bids;
 use reader_line::ends::LineEnd;
 use reader_line::ends::line_end;
 use reader_line::line::Line;

@@ -17,7 +17,9 @@ use Rattle.reader_word.specs.ScanLaws.{next-fits, next-other}
 use Rattle.reader_line.specs.PiecesLaws.{lines-at, lines-unended}
 use Rattle.reader_line.specs.LinePlain.{plain, allPlain}
 use Rattle.reader_line.specs.LinePlainLaws.{both-true, line-plain}
-use Rattle.reader_line.specs.Answer.{FirstBroken}
+use Rattle.reader_line.specs.Answer.{FirstBroken, EndsAt}
+use Rattle.reader_line.specs.declared.ends.LineEnd.{LineEnd}
+use Rattle.reader_line.specs.declared.ends.LineEnd.the-variants.{At, Broken}
 
 below : (a z b : ℕ) → b < a → within a z b ≡ false
 unfolding within
@@ -89,3 +91,16 @@ module _ (text : List ℕ) (at i : ℕ) (q : i + toNext 10 (drop i text) ≡ at 
             let k = ltb-false (at + toNext 10 (drop at text)) (length text) x in
             let e : at + toNext 10 (drop at text) ≡ length text = omega (arith, next-fits 10 text at (omega arith)) in
             record { rest = []; are = lines-unended text at (omega arith) e }
+
+-- where the next line ends
+
+pub ends-at : (text : List ℕ) (i : ℕ) (r : LineEnd) → EndsAt text i r → (e : ℕ) → r ≡ At e
+    → (i + toNext 10 (drop i text) ≡ e)
+    × (e < length text)
+ends-at text i (At f) h e q = let x : f ≡ e = cc in rw (← x) h
+ends-at text i Broken h e q = let z : _≡_ {A = ℕ} 0 1 = cc in absurd (omega arith)
+
+pub ends-broken : (text : List ℕ) (i : ℕ) (r : LineEnd) → EndsAt text i r → r ≡ Broken
+    → FirstBroken (linesOf (cut 10 (drop i text)))
+ends-broken text i (At f) h q = let z : _≡_ {A = ℕ} 0 1 = cc in absurd (omega arith)
+ends-broken text i Broken h q = h

@@ -6,7 +6,6 @@ ghost use lib.ListN.{take, drop, length};
 ghost use Rattle.tender.specs.Tables.{windowWidth};
 ghost use Rattle.reader_word.specs.Words.{cut};
 ghost use Rattle.reader_line.specs.Line.{kindOf, windowsIn, tenderOf, bidOf, lineOf};
-ghost use Rattle.reader_word.specs.Flaws.{flawIn, worst};
 ghost use Rattle.reader_line.specs.Tally.{putWindow, tallied, noted};
 ghost use Rattle.reader_word.specs.declared.windows.Flaw.the-variants.{Sound};
 ghost use Rattle.reader_line.specs.Answer.{asKind, toldTally, toldLine};

@@ -2,7 +2,6 @@
 use mathlib.Core.Path.{_≡_, refl, _∙_}
 use mathlib.Core.List.{List, [], _∷_}
 use mathlib.Core.Bool.{Bool, true, false, cond}
-use mathlib.Core.Option.{none}
 use Prim.Native.Nat.{ℕ, suc, _+_, _-_, _≤_, _<_}
 use native.Mathlib.Omega.{arith}
 use native.Mathlib.Numerals.{add-one}
@@ -12,7 +11,6 @@ use lib.Dec.{eqb}
 use borrow.Author.Tests.{eq-eqb, ne-eqb}
 use Rattle.reader_word.specs.Words.{growFirst, cut}
 use Rattle.reader_word.specs.Scan.{toNext}
-use Rattle.reader_word.specs.CutLaws.{cut-some}
 
 pub next-le : (d : ℕ) (s : List ℕ) → toNext d s ≤ length s
 unfolding toNext

@@ -18,8 +18,8 @@ use Rattle.spelling.specs.LineLaws.{refused-line}
 use Rattle.spelling.specs.Written.{Written}
 use Rattle.spelling.specs.Delivered.{Delivered}
 use Rattle.spelling.specs.DeliveredLaws.{delivered-none, delivered-all}
-use Rattle.reader.specs.Read.{accepted, refused, readText}
-use Rattle.reader.specs.SizeLaws.{short-text}
+use Rattle.reader_text.specs.Read.{accepted, refused, readText}
+use Rattle.reader_text.specs.SizeLaws.{short-text}
 use Rattle.reader.specs.ReadInLaws.{ReadIn}
 use Rattle.writer.specs.declared.Writing.{Writing}
 use Rattle.writer.specs.declared.Writing.the-variants as writing

@@ -7,7 +7,7 @@ use Rattle.tender.specs.declared.Tender.{Tender}
 use Rattle.tender.specs.Tables.{flatWindows}
 use Rattle.spelling.specs.Lines.{pairLine, refusedWord}
 use Rattle.spelling.specs.Delivered.{Delivered}
-use Rattle.reader.specs.Read.{ReadOutcome, accepted, refused, readText}
+use Rattle.reader_text.specs.Read.{ReadOutcome, accepted, refused, readText}
 use Rattle.writer.specs.Canonical.{canonical, WriteOutcome, spelt, unspelt, writeInto, bufferAfter}
 
 -- by what reading it answers: what was read in one spelling; a refusal's line

@@ -11,10 +11,10 @@ use Rattle.tender.specs.declared.Tender.{Tender}
 use Rattle.tender.specs.Limits.{maxPrice, maxText}
 use Rattle.tender.specs.Tables.{Row, flatWindows, bidWidth}
 use Rattle.cover.specs.Sets.{bidders}
-use Rattle.reader.specs.Words.{numeralOf, priceOf}
-use Rattle.reader.specs.Read.{accepted, readText}
+use Rattle.reader_text.specs.Words.{numeralOf, priceOf}
+use Rattle.reader_text.specs.Read.{accepted, readText}
 use Rattle.reader.specs.declared.Reading.the-variants as answer
-use Rattle.reader.specs.Differ.{DifferInPrice}
+use Rattle.reader_text.specs.Differ.{DifferInPrice}
 use Rattle.award_check.specs.Cells.{noRow}
 use Rattle.award_plain.specs.Award.{outcomeNumber}
 use Rattle.award.specs.Right.{Callable}

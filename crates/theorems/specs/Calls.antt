@@ -8,7 +8,7 @@ use Rattle.tender.specs.declared.Tender.{Tender}
 use Rattle.tender.specs.declared.AwardRow.{AwardRow}
 use Rattle.tender.specs.declared.Answer.{Answer}
 use Rattle.tender.specs.Tables.{bidWidth, windowWidth}
-use Rattle.reader.specs.Read.{readInto}
+use Rattle.reader_text.specs.Read.{readInto}
 use Rattle.reader.specs.Answer.{toldReading, summary, bidsAfter, windowsAfter}
 use Rattle.reader.specs.declared.Reading.{Reading}
 use Rattle.award_check.specs.Auction.{Auction, auctionOf}

@@ -17,13 +17,13 @@ use Rattle.tender.specs.declared.Refusal.the-variants.{BadTables}
 use Rattle.tender.specs.Tables.{Row, rowsOf, flatRows, flatWindows, bidWidth, windowWidth}
 use Rattle.reader_word.specs.Words.{digits}
 use Rattle.reader_line.specs.LinePlain.{allPlain}
-use Rattle.reader.specs.Read.{accepted, refused, readText, readInto}
-use Rattle.reader.specs.Rules.{bytesLike}
-use Rattle.reader.specs.RulesLaws.{rules-law}
-use Rattle.reader.specs.CountLaws.{lines-law, room-law}
-use Rattle.reader.specs.PlainLaws.{plain-law}
+use Rattle.reader_text.specs.Read.{accepted, refused, readText, readInto}
+use Rattle.reader_text.specs.Rules.{bytesLike}
+use Rattle.reader_text.specs.RulesLaws.{rules-law}
+use Rattle.reader_text.specs.CountLaws.{lines-law, room-law}
+use Rattle.reader_text.specs.PlainLaws.{plain-law}
 use Rattle.reader.specs.declared.Reading.the-variants as answer
-use Rattle.reader.specs.Differ.{Word, DifferInPrice}
+use Rattle.reader_text.specs.Differ.{Word, DifferInPrice}
 use Rattle.award_check.specs.Cells.{noRow}
 use Rattle.award_check.specs.Auction.{atPrice}
 use Rattle.award_check.specs.Alike.{named, Alike}

@@ -12,12 +12,12 @@ use Rattle.tender.specs.declared.AwardRow.{AwardRow}
 use Rattle.tender.specs.declared.Totals.{Totals}
 use Rattle.tender.specs.declared.Refusal.{Refusal}
 use Rattle.tender.specs.Tables.{Row, flatRows, flatWindows}
-use Rattle.reader.specs.Read.{accepted, readText}
-use Rattle.reader.specs.Read as reading
-use Rattle.reader.specs.Rules.{Rules}
-use Rattle.reader.specs.RulesLaws.{rules-law}
-use Rattle.reader.specs.Differ.{DifferInPrice, DifferInOnePrice}
-use Rattle.reader.specs.PriceLaws.{price-law}
+use Rattle.reader_text.specs.Read.{accepted, readText}
+use Rattle.reader_text.specs.Read as reading
+use Rattle.reader_text.specs.Rules.{Rules}
+use Rattle.reader_text.specs.RulesLaws.{rules-law}
+use Rattle.reader_text.specs.Differ.{DifferInPrice, DifferInOnePrice}
+use Rattle.reader_text.specs.PriceLaws.{price-law}
 use Rattle.award_check.specs.Cells.{noRow}
 use Rattle.award_check.specs.Auction.{Auction, auctionOf}
 use Rattle.award_check.specs.Alike.{named}

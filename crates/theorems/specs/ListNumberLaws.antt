@@ -20,10 +20,10 @@ use Rattle.tender.specs.Tables.{Row, flatRows, flatWindows}
 use Rattle.cover.specs.Sets.{Found, nothing, found}
 use Rattle.cover.specs.Earliest.{cellWith}
 use Rattle.reader_word.specs.Words.{among}
-use Rattle.reader.specs.Read.{readText}
-use Rattle.reader.specs.Read as reading
-use Rattle.reader.specs.Rules.{Rules}
-use Rattle.reader.specs.RulesLaws.{rules-law}
+use Rattle.reader_text.specs.Read.{readText}
+use Rattle.reader_text.specs.Read as reading
+use Rattle.reader_text.specs.Rules.{Rules}
+use Rattle.reader_text.specs.RulesLaws.{rules-law}
 use Rattle.award_check.specs.Auction.{Auction, auctionOf}
 use Rattle.award_check.specs.Faults.{faultOf}
 use Rattle.award_check.specs.TextLaws.{never-nine}

@@ -17,7 +17,7 @@ use Rattle.tender.specs.Refusals.{numberOf, placeOf}
 use Rattle.tender.specs.Tables.{Row, flatRows, flatWindows, bidWidth, windowWidth}
 use Rattle.reader_word.specs.Words.{cut}
 use Rattle.reader_line.specs.Line.{BidLine, Line, tender, bid, linesOf}
-use Rattle.reader.specs.Read.{rowsFrom, allWindows}
+use Rattle.reader_text.specs.Read.{rowsFrom, allWindows}
 use Rattle.reader.specs.Answer.{toldReading, filled, declined}
 use Rattle.theorems.specs.Calls.{ReadRun}
 

@@ -19,7 +19,7 @@ use Rattle.cover.specs.Greedy.{wins}
 use Rattle.cover.specs.CriticalPrice.{largest, sum, ceiling, winsAt, critical, criticalPaid}
 use Rattle.cover.specs.Intervals.BidsLaws.{cost-most, sum-most}
 use Rattle.reader_word.specs.Words.{among}
-use Rattle.reader.specs.Rules.{RowsRules, Rules}
+use Rattle.reader_text.specs.Rules.{RowsRules, Rules}
 use Rattle.award_check.specs.Cells.{noRow}
 use Rattle.award_check.specs.Auction.{Auction, auctionOf}
 use Rattle.award_check.specs.AuctionLaws.{minutes, entries, price-named}

@@ -22,9 +22,9 @@ use Rattle.tender.specs.Refusals.{numberOf, placeOf}
 use Rattle.tender.specs.Tables.{Row, bidWidth, windowWidth}
 use Rattle.reader_word.specs.Words.{cut, among}
 use Rattle.reader_line.specs.Line.{BidLine, Line, tender, bid, linesOf}
-use Rattle.reader.specs.Read.{ReadOutcome, accepted, refused, declinedBy, rowsFrom, allWindows, bidsOf, lineFault, tenderFault, bidFaultIn}
-use Rattle.reader.specs.Read.{bidFaultAfter, bidFault, lineJudged, checked, tables, readLines, readText, fitted, readInto}
-use Rattle.reader.specs.HeadLaws.{lines-halted, no-line, broken-first, bid-first, tender-read}
+use Rattle.reader_text.specs.Read.{ReadOutcome, accepted, refused, declinedBy, rowsFrom, allWindows, bidsOf, lineFault, tenderFault, bidFaultIn}
+use Rattle.reader_text.specs.Read.{bidFaultAfter, bidFault, lineJudged, checked, tables, readLines, readText, fitted, readInto}
+use Rattle.reader_text.specs.HeadLaws.{lines-halted, no-line, broken-first, bid-first, tender-read}
 use Rattle.reader.specs.Answer.{summary, toldReading, bidsAfter, windowsAfter}
 use Rattle.theorems.specs.Calls.{ReadRun, ReadKept}
 use Rattle.theorems.specs.OneReading.{orBroken, linesIn, Above, at-start, after, linesAbove, LineFault, of-form, of-count}

@@ -13,10 +13,10 @@ use Rattle.tender.specs.declared.Window.{Window}
 use Rattle.tender.specs.declared.Tender.{Tender}
 use Rattle.tender.specs.declared.Refusal.the-variants.{BadTables, NoRoom}
 use Rattle.tender.specs.Tables.{Row, rowsOf, flatRows, flatWindows, bidWidth, windowWidth}
-use Rattle.reader.specs.Read.{ReadOutcome, accepted, refused, readText, readInto}
+use Rattle.reader_text.specs.Read.{ReadOutcome, accepted, refused, readText, readInto}
 use Rattle.reader.specs.Answer.{filled, toldReading, summary, bidsAfter, windowsAfter}
-use Rattle.reader.specs.CountLaws.{room-law}
-use Rattle.reader.specs.SizeLaws.{short-text}
+use Rattle.reader_text.specs.CountLaws.{room-law}
+use Rattle.reader_text.specs.SizeLaws.{short-text}
 use Rattle.reader.specs.declared.Reading.{Reading}
 use Rattle.reader.specs.declared.Reading.the-variants as reading
 use Rattle.spelling.specs.Lines.{pairLine, refusedWord}

@@ -14,13 +14,13 @@ use Rattle.tender.specs.declared.Tender.{Tender}
 use Rattle.tender.specs.declared.AwardRow.{AwardRow}
 use Rattle.tender.specs.declared.Answer.{Answer}
 use Rattle.tender.specs.Tables.{Row, flatRows, flatWindows, bidWidth, windowWidth}
-use Rattle.reader.specs.Read.{accepted, readText, fitted, readInto}
-use Rattle.reader.specs.Read as reading
+use Rattle.reader_text.specs.Read.{accepted, readText, fitted, readInto}
+use Rattle.reader_text.specs.Read as reading
 use Rattle.reader.specs.Answer.{filled, summary, bidsAfter, windowsAfter}
 use Rattle.reader.specs.Answer as reader
 use Rattle.reader.specs.declared.Reading.the-variants as answer
-use Rattle.reader.specs.Differ.{DifferInPrice, withPrice, RowsDifferInPrice}
-use Rattle.reader.specs.PriceLaws.{price-law}
+use Rattle.reader_text.specs.Differ.{DifferInPrice, withPrice, RowsDifferInPrice}
+use Rattle.reader_text.specs.PriceLaws.{price-law}
 use Rattle.award_check.specs.Cells.{noRow}
 use Rattle.award_check.specs.Alike.{named}
 use Rattle.award.specs.Promise.{toldAward, Promise}

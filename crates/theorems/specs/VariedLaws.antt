@@ -9,11 +9,11 @@ use Rattle.tender.specs.declared.Window.{Window}
 use Rattle.tender.specs.declared.Tender.{Tender}
 use Rattle.tender.specs.Keywords.{bytes, bidWord}
 use Rattle.tender.specs.Tables.{Row}
-use Rattle.reader.specs.Read.{accepted, readText}
-use Rattle.reader.specs.Rules.{RowsRules}
-use Rattle.reader.specs.RulesLaws.{rules-law}
-use Rattle.reader.specs.PriceChangeLaws.{Changed, price-change}
-use Rattle.reader.specs.Differ.{bidLine, Word, DifferInPrice}
+use Rattle.reader_text.specs.Read.{accepted, readText}
+use Rattle.reader_text.specs.Rules.{RowsRules}
+use Rattle.reader_text.specs.RulesLaws.{rules-law}
+use Rattle.reader_text.specs.PriceChangeLaws.{Changed, price-change}
+use Rattle.reader_text.specs.Differ.{bidLine, Word, DifferInPrice}
 use Rattle.award_check.specs.Cells.{noRow}
 use Rattle.award_check.specs.TextLaws.{rows-end}
 use Rattle.spelling.specs.Decimal.{decimal}

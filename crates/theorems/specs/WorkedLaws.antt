@@ -10,7 +10,7 @@ use Rattle.cover.specs.Sets as sets
 use Rattle.cover.specs.SetLaws.{and-split}
 use Rattle.cover.specs.Greedy.{Rounds, stop, round, run, bids}
 use Rattle.reader_word.specs.Words.{sameBytes}
-use Rattle.reader.specs.Read.{ReadOutcome, accepted, refused, readText}
+use Rattle.reader_text.specs.Read.{ReadOutcome, accepted, refused, readText}
 use Rattle.award_check.specs.Cells.{noRow}
 use Rattle.award_check.specs.Auction.{auctionOf}
 use Rattle.listing.specs.List.{listOf}

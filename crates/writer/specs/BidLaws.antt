@@ -17,8 +17,8 @@ use Rattle.reader_word.specs.Words.{among}
 use Rattle.spelling.specs.Text.{bidIn}
 use Rattle.spelling.specs.WordLaws.{Named, AllNamed}
 use Rattle.spelling.specs.BackLaws.{Nameable, AllNameable, asLines}
-use Rattle.reader.specs.Read.{ReadOutcome, lineFault, bidFaultIn, bidFaultAfter, bidFault, checked, lineJudged}
-use Rattle.reader.specs.FaultLaws.{lawful-every}
+use Rattle.reader_text.specs.Read.{ReadOutcome, lineFault, bidFaultIn, bidFaultAfter, bidFault, checked, lineJudged}
+use Rattle.reader_text.specs.FaultLaws.{lawful-every}
 use Rattle.cover.specs.SetLaws.{and-split}
 use Rattle.award_check.specs.Faults.{rowFault}
 use Rattle.runs.specs.Runs.{joined}

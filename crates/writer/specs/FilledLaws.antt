@@ -13,8 +13,8 @@ use Rattle.tender.specs.declared.Tender.{Tender}
 use Rattle.tender.specs.declared.Refusal.the-variants.{NoRoom}
 use Rattle.tender.specs.Limits.{maxText}
 use Rattle.tender.specs.Tables.{Row, rowsOf, flatRows, flatWindows}
-use Rattle.reader.specs.Read.{accepted, readText}
-use Rattle.reader.specs.RulesLaws.{rules-law}
+use Rattle.reader_text.specs.Read.{accepted, readText}
+use Rattle.reader_text.specs.RulesLaws.{rules-law}
 use Rattle.spelling.specs.Text.{bidIn, textOf}
 use Rattle.award_check.specs.Faults.{faultOf}
 use Rattle.award_check.specs.TextLaws.{rows-flat, never-nine}

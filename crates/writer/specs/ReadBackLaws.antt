@@ -16,9 +16,9 @@ use Rattle.tender.specs.Tables.{Row, rowsOf, own, flatRows, flatWindows, bidWid
 use Rattle.cover.specs.SetLaws.{and-split}
 use Rattle.reader_word.specs.Words.{cut}
 use Rattle.reader_line.specs.Line.{BidLine, tender, linesOf}
-use Rattle.reader.specs.Read.{accepted, rowsFrom, allWindows, bidsOf, tables, readLines, readText}
-use Rattle.reader.specs.HeadLaws.{lines-begun, tender-sound}
-use Rattle.reader.specs.RulesLaws.{rules-law, rowsFrom-length}
+use Rattle.reader_text.specs.Read.{accepted, rowsFrom, allWindows, bidsOf, tables, readLines, readText}
+use Rattle.reader_text.specs.HeadLaws.{lines-begun, tender-sound}
+use Rattle.reader_text.specs.RulesLaws.{rules-law, rowsFrom-length}
 use Rattle.spelling.specs.Text.{bidIn, textOf}
 use Rattle.spelling.specs.BackLaws.{asLines, text-back}
 use Rattle.award_check.specs.Cells.{holds, noRow}

@@ -8,7 +8,7 @@ use Rattle.tender.specs.declared.Window.{Window}
 use Rattle.tender.specs.declared.Tender.{Tender}
 use Rattle.tender.specs.Limits.{allLawful}
 use Rattle.tender.specs.Tables.{Row, own, flatWindows}
-use Rattle.reader.specs.Read.{accepted, readText}
+use Rattle.reader_text.specs.Read.{accepted, readText}
 use Rattle.award_check.specs.Cells.{holds, noRow}
 
 -- the windows of each row are lawful

@@ -20,11 +20,11 @@ use Rattle.reader_line.specs.Line.{BidLine, Line, tender, bid, kindOf, windowsI
 use Rattle.reader_word.specs.Windows.{spanOf, windowOf}
 use Rattle.reader_line.specs.Line.{linesOf}
 use Rattle.reader_word.specs.CutLaws.{Pieces, cut-some}
-use Rattle.reader.specs.Read.{accepted, rowsFrom, allWindows, bidsOf, readText}
-use Rattle.reader.specs.Rules.{RowsRules}
-use Rattle.reader.specs.RulesLaws.{rules-law}
-use Rattle.reader.specs.ReadLaws.{read-lines}
-use Rattle.reader.specs.HeadLaws.{headLines, head-is, accepted-head}
+use Rattle.reader_text.specs.Read.{accepted, rowsFrom, allWindows, bidsOf, readText}
+use Rattle.reader_text.specs.Rules.{RowsRules}
+use Rattle.reader_text.specs.RulesLaws.{rules-law}
+use Rattle.reader_text.specs.ReadLaws.{read-lines}
+use Rattle.reader_text.specs.HeadLaws.{headLines, head-is, accepted-head}
 use Rattle.spelling.specs.Decimal.{decimal}
 use Rattle.spelling.specs.Lines.{kindWord}
 use Rattle.spelling.specs.Text.{bidText, tenderText, bidsText, textOf, bidIn}

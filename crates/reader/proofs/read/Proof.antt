@@ -5,7 +5,7 @@ use mathlib.Core.Path.{refl, _∙_}
 use native.Mathlib.Omega.{arith}
 use borrow.Author.Needs.{needs}
 use lib.ListN.{length-replicate}
-use Rattle.reader.specs.HeadLaws.{head-short}
+use Rattle.reader_text.specs.HeadLaws.{head-short}
 use Rattle.reader.specs.WholeLaws.{opened-tender, opened-refused, filled-held, filled-refused, answer-refused, too-long}
 use Rattle.reader.specs.WholeLaws.{lines-refused, bids-refused, bids-short, windows-short, answer-accepted}
 use Rattle.reader.proofs.read.Statement.{statement}

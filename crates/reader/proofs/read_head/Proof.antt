@@ -3,8 +3,8 @@ use mathlib.Core.Path.{sym, ap, _∙_}
 use native.Mathlib.Omega.{arith}
 use Rattle.reader_line.specs.PiecesLaws.{lines-at}
 use Rattle.reader_line.specs.Answer.{toldLine}
-use Rattle.reader.specs.FaultLaws.{flawFault, tender-lawful, tender-told}
-use Rattle.reader.specs.FillsLaws.{ends-at, ends-broken}
+use Rattle.reader_text.specs.FaultLaws.{flawFault, tender-lawful, tender-told}
+use Rattle.reader_line.specs.EndsLaws.{ends-at, ends-broken}
 use Rattle.reader.specs.WholeLaws.{first-empty, is-tender, first-bid, first-broken, first-faulty, first-sound, first-odd}
 use borrow.Author.Needs.{needs}
 use Rattle.reader.proofs.read_head.Statement.{statement}

@@ -1,0 +1,5 @@
+pub mod Steps
+pub mod JudgeLaws
+pub mod StoreLaws
+pub mod TakesLaws
+pub mod FillsLaws

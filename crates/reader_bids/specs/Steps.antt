@@ -1,0 +1,84 @@
+-- What this crate's functions answer, as the definitions' values.
+use mathlib.Core.Path.{_≡_}
+use mathlib.Core.List.{List, [], _∷_, _++_}
+use mathlib.Core.Option.{Option, none, some}
+use Prim.Native.Nat.{ℕ, _+_, _*_, _≤_, _<_}
+use lib.ListN.{length, take, drop}
+use lib.Dec.{eqb}
+use Rattle.tender.specs.declared.Kind.{Kind}
+use Rattle.tender.specs.declared.Refusal.{Refusal}
+use Rattle.tender.specs.Refusals.{numberOf, placeOf}
+use Rattle.tender.specs.Tables.{Row, flatRows, flatWindows, bidWidth, windowWidth}
+use Rattle.cells.specs.Cells as cells
+use Rattle.reader_line.specs.Line.{BidLine, Line, tender, bid}
+use Rattle.reader_line.specs.Tally.{putWindows}
+use Rattle.reader_text.specs.Read.{ReadOutcome, refused, rowsFrom, allWindows, bidsOf, bidFaultAfter, checked}
+use Rattle.reader_bids.specs.declared.Verdict.{Verdict}
+use Rattle.reader_bids.specs.declared.Verdict.the-variants.{Sound, Faulty}
+use Rattle.reader_bids.specs.declared.Step.{Step}
+use Rattle.reader_bids.specs.declared.Step.the-variants as step
+use Rattle.reader_bids.specs.declared.Bids.{Bids}
+use Rattle.reader_bids.specs.declared.Bids.the-variants as bids
+
+abbrev pub rowNumbers : Row → List ℕ
+rowNumbers r = r .bidder ∷ r .price ∷ r .first ∷ r .count ∷ []
+
+-- a fault and the line that has it
+pub record Fault : Type 0 where
+  pub number : ℕ
+  pub place : ℕ
+
+abbrev pub faultOfRefusal : Refusal → Fault
+faultOfRefusal r = record { number = numberOf r; place = placeOf r }
+
+abbrev pub faultAt : ℕ → Option (ℕ → Refusal) → Option Fault
+faultAt line none = none
+faultAt line (some r) = some (faultOfRefusal (r line))
+
+abbrev pub verdictOf : Verdict → Option Fault
+verdictOf Sound = none
+verdictOf (Faulty r) = some (faultOfRefusal r)
+
+-- the line declines
+abbrev pub StepDeclines : Step → ℕ → ℕ → Type 0
+StepDeclines (step.Bid count) n at = ⊥
+StepDeclines (step.Refused r) n at = faultOfRefusal r ≡ record { number = n; place = at }
+
+-- a bid goes into the tables after k bids with m windows
+pub record BidTaken (b : BidLine) (k m : ℕ) (used rows windows : List ℕ) (r : Step) (used′ rows′ windows′ : List ℕ) : Type 0
+  where
+    pub answer : r ≡ step.Bid (length (b .windows))
+    pub row : rows′ ≡ take (bidWidth * k) rows ++ rowNumbers
+        (record { bidder = b .bidder; price = b .price; first = m; count = length (b .windows) })
+        ++ drop (bidWidth * k + bidWidth) rows
+    pub own : windows′ ≡ putWindows windows m (b .windows)
+    pub mark : cells.RangeAdded (b .bidder) (b .bidder + 1) used used′
+
+abbrev pub Judged : Option (ℕ → Refusal) → BidLine → (line k m : ℕ) → (used rows windows : List ℕ) → Step
+    → (used′ rows′ windows′ : List ℕ) → Type 0
+Judged none b line k m used rows windows r used′ rows′ windows′ = BidTaken b k m used rows windows r used′ rows′ windows′
+Judged (some f) b line k m used rows windows r used′ rows′ windows′ = StepDeclines r (numberOf (f line)) (placeOf (f line))
+
+-- what comes of a line, which has the number `line` in its text
+abbrev pub Taken : Option Line → Kind → (line k m : ℕ) → (used rows windows : List ℕ) → Step
+    → (used′ rows′ windows′ : List ℕ) → Type 0
+Taken none kind line k m used rows windows r used′ rows′ windows′ = StepDeclines r 2 line
+Taken (some (tender t)) kind line k m used rows windows r used′ rows′ windows′ = StepDeclines r 2 line
+Taken (some (bid b)) kind line k m used rows windows r used′ rows′ windows′ =
+    Judged (bidFaultAfter kind k b (eqb (cells.cell used (b .bidder)) 1)) b line k m used rows windows r used′ rows′ windows′
+
+-- the tables hold the bids of these lines, from line `from` on, none of which is faulty
+pub record TablesHold (kind : Kind) (from : ℕ) (ls : List (Option Line)) (k m : ℕ) (rows windows : List ℕ) : Type 0 where
+  pub faultless : (out : ReadOutcome) → checked kind from [] ls out ≡ out
+  pub bids : length (bidsOf ls) ≡ k
+  pub places : length (allWindows (bidsOf ls)) ≡ m
+  pub few-bids : k ≤ 1000
+  pub few-windows : m < 11000
+  pub rows-are : take (bidWidth * k) rows ≡ flatRows (rowsFrom 0 (bidsOf ls))
+  pub windows-are : take (windowWidth * m) windows ≡ flatWindows (allWindows (bidsOf ls))
+
+-- what comes of the lines after the head, from line `from` on
+abbrev pub LinesFilled : Kind → ℕ → List (Option Line) → Bids → (rows windows : List ℕ) → Type 0
+LinesFilled kind from ls (bids.Filled k m) rows windows = TablesHold kind from ls k m rows windows
+LinesFilled kind from ls (bids.Refused r) rows windows =
+    (out : ReadOutcome) → checked kind from [] ls out ≡ refused (numberOf r) (placeOf r)

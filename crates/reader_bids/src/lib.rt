@@ -1,0 +1,193 @@
+// The bids of a text: each line judged in the paper's order, and put into tables.
+ghost use mathlib.Core.Path.{_≡_};
+ghost use mathlib.Core.Bool.{not, _&&_, _||_};
+ghost use Prim.Native.Nat.{_≤_};
+ghost use lib.ListN.{length, drop, replicate};
+ghost use lib.Dec.{leb, ltb, eqb};
+ghost use Rattle.tender.specs.Limits.{within, maxPrice, maxBidder, maxBids, maxWindows, isSingle};
+ghost use Rattle.cells.specs.Cells.{cell};
+ghost use Rattle.reader_word.specs.Words.{cut};
+ghost use Rattle.reader_line.specs.Line.{lineOf, linesOf};
+ghost use Rattle.reader_word.specs.Flaws.{isEmpty, isLate};
+ghost use Rattle.reader_text.specs.Read.{bidFaultIn};
+ghost use Rattle.reader_bids.specs.Steps.{faultAt, verdictOf, Taken, LinesFilled};
+
+mod rows;
+
+use reader_line::ends::LineEnd;
+use reader_line::ends::line_end;
+use reader_line::line::Line;
+use reader_line::line::read_line;
+use reader_word::windows::Flaw;
+use rows::put_row;
+use tender::Kind;
+use tender::Refusal;
+
+// Whether this is a 1,001st bid or has a 33rd window.
+fn too_many(bids: usize, windows: usize) -> bool
+    ensures { λ r. ⌜ r ≡ (leb maxBids bids || ltb maxWindows windows) ⌝ }
+{
+    if tender::MAX_BIDS <= bids {
+        true
+    } else {
+        tender::MAX_WINDOWS < windows
+    }
+}
+
+// Whether the bidder or the price is outside its limits.
+fn outside(bidder: u64, price: u64) -> bool
+    ensures { λ r. ⌜ r ≡ (not (within 1 maxBidder bidder) || ltb maxPrice price) ⌝ }
+{
+    if bidder < 1 {
+        true
+    } else if tender::MAX_BIDDER < bidder {
+        true
+    } else {
+        tender::MAX_PRICE < price
+    }
+}
+
+// Whether the tender takes one window a bid and there are more.
+fn several(kind: Kind, windows: usize) -> bool
+    ensures { λ r. ⌜ r ≡ (isSingle kind && ltb 1 windows) ⌝ }
+{
+    match kind {
+        Kind::Single => 1 < windows,
+        Kind::Multi => false,
+    }
+}
+
+pub(crate) enum Verdict {
+    Sound,
+    Faulty(Refusal),
+}
+
+// The first fault of the bid on this line, after so many bids: 4, 3, 7, 5, 15, 6. A used bidder number is a set bit of `used`.
+fn judge(
+    kind: Kind,
+    line: u64,
+    bids: usize,
+    used: &[u64],
+    bidder: u64,
+    price: u64,
+    windows: usize,
+    flaw: Flaw,
+) -> Verdict
+    requires { ⌜ length (now used) ≡ 15625 ⌝ }
+    ensures { λ r. ⌜ verdictOf r ≡ faultAt line (bidFaultIn kind bids bidder price windows (isEmpty flaw) (isLate flaw)
+        (eqb (cell (now (used .entry)) bidder) 1)) ⌝ }
+{
+    if too_many(bids, windows) {
+        return Verdict::Faulty(Refusal::TooMany { line });
+    }
+    if outside(bidder, price) {
+        return Verdict::Faulty(Refusal::OutsideLimits { line });
+    }
+    if several(kind, windows) {
+        return Verdict::Faulty(Refusal::SeveralWindows { line });
+    }
+    match flaw {
+        Flaw::Empty => {
+            return Verdict::Faulty(Refusal::EmptyWindow { line });
+        }
+        Flaw::Late => {
+            return Verdict::Faulty(Refusal::LateWindow { line });
+        }
+        Flaw::Sound => {}
+    }
+    if cells::holds(used, bidder as usize) {
+        return Verdict::Faulty(Refusal::BidderRepeated { line });
+    }
+    Verdict::Sound
+}
+
+pub(crate) enum Step {
+    Bid(usize),
+    Refused(Refusal),
+}
+
+// The line of this number, after k bids with m windows: a bid, which goes into the tables and whose bidder is used from then on, or
+// the line's fault.
+fn take_line(
+    bytes: &[u8],
+    line: u64,
+    kind: Kind,
+    k: usize,
+    m: usize,
+    used: &mut [u64],
+    rows: &mut [u64],
+    windows: &mut [u64],
+) -> Step
+    requires { ⌜ (k ≤ 1000) × (m ≤ 32000) × (length (now used) ≡ 15625) × (length (now rows) ≡ 4000) ⌝ }
+    ensures { λ r. ⌜ Taken (lineOf (now (bytes .entry))) kind line k m (now (used .entry)) (now (rows .entry)) (now (windows .entry))
+        r (now (used .exit)) (now (rows .exit)) (now (windows .exit)) ⌝ }
+{
+    match read_line(bytes, windows, m) {
+        Line::Bid(bidder, price, count, flaw) => match judge(
+            kind,
+            line,
+            k,
+            used,
+            bidder,
+            price,
+            count,
+            flaw,
+        ) {
+            Verdict::Sound => {
+                put_row(rows, k, bidder, price, m as u64, count as u64);
+                cells::add(used, bidder as usize);
+                Step::Bid(count)
+            }
+            Verdict::Faulty(r) => Step::Refused(r),
+        },
+        Line::Tender(_) => Step::Refused(Refusal::BadForm { line }),
+        Line::Broken => Step::Refused(Refusal::BadForm { line }),
+    }
+}
+
+pub enum Bids {
+    Filled(usize, usize),
+    Refused(Refusal),
+}
+
+// The bids from `at` on, where line `from` begins, in the first rows of the two tables: how many bids and windows, or the first faulty
+// line.
+pub fn read_bids(
+    text: &[u8],
+    at: usize,
+    from: u64,
+    kind: Kind,
+    used: &mut [u64],
+    rows: &mut [u64],
+    windows: &mut [u64],
+) -> Bids
+    requires { ⌜ (at ≤ length (now text)) × (from ≤ 65536) × (length (now text) ≤ 65536) × (now used ≡ replicate 15625 0)
+        × (length (now rows) ≡ 4000)
+        × (length (now windows) ≡ 22000) ⌝ }
+    ensures { λ r. ⌜ LinesFilled kind from (linesOf (cut 10 (drop at (now (text .entry))))) r (now (rows .exit))
+        (now (windows .exit)) ⌝ }
+{
+    let mut k: usize = 0;
+    let mut m: usize = 0;
+    let mut i = at;
+    let mut line = from;
+    while i < text.len() {
+        match line_end(text, i) {
+            LineEnd::At(e) => match take_line(&text[i..e], line, kind, k, m, used, rows, windows) {
+                Step::Bid(count) => {
+                    k += 1;
+                    m += count;
+                    i = e + 1;
+                    line += 1;
+                }
+                Step::Refused(r) => {
+                    return Bids::Refused(r);
+                }
+            },
+            LineEnd::Broken => {
+                return Bids::Refused(Refusal::BadForm { line });
+            }
+        }
+    }
+    Bids::Filled(k, m)
+}

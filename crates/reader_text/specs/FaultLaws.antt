@@ -1,0 +1,81 @@
+-- What the tests of a line's windows say: of the tender's window, and of a bid's. Assumes nothing.
+use Prim.Native.Nat.{ℕ}
+use mathlib.Core.Path.{_≡_, refl}
+use mathlib.Core.List.{List, [], _∷_}
+use mathlib.Core.Bool.{Bool, true, false, not, _&&_}
+use mathlib.Core.Option.{Option, none, some}
+use native.Mathlib.Omega.{arith}
+use Rattle.tender.specs.declared.Kind.{Kind}
+use Rattle.tender.specs.declared.Window.{Window}
+use Rattle.tender.specs.declared.Tender.{Tender}
+use Rattle.tender.specs.declared.Refusal.{Refusal}
+use Rattle.tender.specs.declared.Refusal.the-variants.{EmptyWindow, LateWindow}
+use Rattle.tender.specs.Limits.{ordered, early, lawful, allLawful, every}
+use Rattle.reader_line.specs.LinePlainLaws.{both-true as and-split}
+use Rattle.reader_word.specs.declared.windows.Flaw.{Flaw}
+use Rattle.reader_word.specs.declared.windows.Flaw.the-variants.{Empty, Late, Sound}
+use Rattle.reader_word.specs.Flaws.{flawBy, flawIn, flawOf, isEmpty, isLate}
+use Rattle.reader_text.specs.Read.{lineFault, tenderFault, bidFaultIn}
+
+-- windows are lawful where none is empty and none is late
+
+pub every-lawful : (ws : List Window) → every ordered ws ≡ true → every early ws ≡ true → allLawful ws ≡ true
+unfolding every allLawful lawful
+every-lawful [] a b = refl
+every-lawful (w ∷ ws) a b =
+    let s = and-split (ordered w) (every ordered ws) a in
+    let u = and-split (early w) (every early ws) b in
+    rw (s .0, u .0) (every-lawful ws (s .1) (u .1))
+
+pub lawful-every : (ws : List Window) → allLawful ws ≡ true → (every ordered ws ≡ true) × (every early ws ≡ true)
+unfolding every allLawful lawful
+lawful-every [] e = (refl, refl)
+lawful-every (w ∷ ws) e =
+    let s = and-split (lawful w) (allLawful ws) e in
+    let u = and-split (ordered w) (early w) (s .0) in
+    let h = lawful-every ws (s .1) in
+    (rw (u .0) (h .0), rw (u .1) (h .1))
+
+-- the tender's window
+
+module _ (t : Tender) where
+  pub lawful-tender : lawful (t .window) ≡ true → tenderFault t ≡ none
+  unfolding lawful tenderFault lineFault
+  lawful-tender e = let u = and-split (ordered (t .window)) (early (t .window)) e in rw (u .0, u .1)
+
+  pub tender-lawful : tenderFault t ≡ none → lawful (t .window) ≡ true
+  unfolding lawful tenderFault lineFault
+  tender-lawful e = go (ordered (t .window)) (early (t .window)) e
+    where
+      go : (a b : Bool) → lineFault false false false (not a) (not b) false ≡ none → a && b ≡ true
+      go true true x = refl
+      go true false x = let z : _≡_ {A = ℕ} 0 1 = cc in absurd (omega arith)
+      go false b x = let z : _≡_ {A = ℕ} 0 1 = cc in absurd (omega arith)
+
+-- by what is wrong with it
+abbrev pub flawFault : Flaw → Option (ℕ → Refusal)
+flawFault Empty = some EmptyWindow
+flawFault Late = some LateWindow
+flawFault Sound = none
+
+pub tender-told : (t : Tender) → tenderFault t ≡ flawFault (flawIn (t .window))
+unfolding flawIn tenderFault lineFault
+tender-told t = go (ordered (t .window)) (early (t .window))
+  where
+    go : (a b : Bool) → lineFault false false false (not a) (not b) false ≡ flawFault (flawBy a b)
+    go true true = refl
+    go true false = refl
+    go false b = refl
+
+-- the windows of a bid, by what is wrong with them
+pub flaw-told : (k : Kind) (bids bidder price count : ℕ) (ws : List Window) (used : Bool) →
+    bidFaultIn k bids bidder price count (isEmpty (flawOf ws)) (isLate (flawOf ws)) used
+    ≡ bidFaultIn k bids bidder price count (not (every ordered ws)) (not (every early ws)) used
+unfolding flawOf bidFaultIn lineFault
+flaw-told k bids bidder price count ws used = go (every ordered ws) (every early ws)
+  where
+    go : (a b : Bool) → bidFaultIn k bids bidder price count (isEmpty (flawBy a b)) (isLate (flawBy a b)) used
+        ≡ bidFaultIn k bids bidder price count (not a) (not b) used
+    go true true = refl
+    go true false = refl
+    go false b = refl

@@ -1,0 +1,14 @@
+pub mod Words
+pub mod Read
+pub mod Example
+pub mod FaultLaws
+pub mod ReadLaws
+pub mod HeadLaws
+pub mod Differ
+pub mod PriceLaws
+pub mod PriceChangeLaws
+pub mod Rules
+pub mod RulesLaws
+pub mod CountLaws
+pub mod PlainLaws
+pub mod SizeLaws
