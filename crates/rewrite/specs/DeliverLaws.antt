@@ -24,7 +24,7 @@ use Rattle.reader.specs.ReadInLaws.{ReadIn}
 use Rattle.writer.specs.declared.Writing.{Writing}
 use Rattle.writer.specs.declared.Writing.the-variants as writing
 use Rattle.writer.specs.Canonical.{canonical, WriteOutcome, spelt, unspelt, writeInto, writeAnswer, bufferAfter, Writes}
-use Rattle.writer.specs.FilledLaws.{write-read, no-longer}
+use Rattle.writer_back.specs.FilledLaws.{write-read, no-longer}
 use Rattle.rewrite.specs.Rewritten.{rewriteOf, Rewritten, lengthWritten, Delivers}
 
 -- the writer's answer as a length

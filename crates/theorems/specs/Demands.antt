@@ -42,7 +42,7 @@ use Rattle.spelling.specs.DeliveredLaws.{same-shown}
 use Rattle.spelling.specs.Lines.{pairLine, refusedWord}
 use Rattle.listing.specs.ListLaws as list
 use Rattle.writer.specs.declared.Writing.the-variants.{Written, Refused}
-use Rattle.writer.specs.Same.{Same, ReadBack}
+use Rattle.writer_back.specs.Same.{Same, ReadBack}
 use Rattle.theorems.specs.Calls.{ReadRun, ReadCall, AwardCall, auctionBy, toldBy, SettleCall, toldPlain, ListCall, shown}
 use Rattle.theorems.specs.Calls.{WriteCall, RewriteCall, rewritten}
 use Rattle.theorems.specs.OneReading.{OneReading, OfText, SameReading}
@@ -52,7 +52,7 @@ use Rattle.theorems.specs.Between.{NoGainBetween, OneList}
 use Rattle.theorems.specs.Between.{ListGiven, NoGainShown, Showable}
 use Rattle.theorems.specs.ReadingLaws as reading
 use Rattle.spelling.specs.DecimalLaws.{decimal-back}
-use Rattle.writer.specs.SpeltLaws.{spelt-again}
+use Rattle.writer_back.specs.SpeltLaws.{spelt-again}
 use Rattle.theorems.specs.ReadAgainLaws.{read-again}
 use Rattle.theorems.specs.VariedLaws.{varied}
 use Rattle.theorems.specs.TextGainLaws.{no-gain-read}

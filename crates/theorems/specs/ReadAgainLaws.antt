@@ -13,7 +13,7 @@ use Rattle.theorems.specs.Calls.{ReadCall}
 use Rattle.theorems.specs.OneReading.{Readable, Declines, Fills, OneReading, text-too-long, bad-form, too-many, outside-limits}
 use Rattle.theorems.specs.OneReading.{several-windows, empty-window, late-window, bidder-repeated, table-too-short, tables-filled}
 use Rattle.theorems.specs.ReadingLaws.{one-reading, text-accepted}
-use Rattle.writer.specs.SpeltLaws.{spelt-again}
+use Rattle.writer_back.specs.SpeltLaws.{spelt-again}
 use Rattle.theorems.specs.Between.{WasRead}
 
 pub read-again : (r : ReadCall) (t : Tender) (n m : ℕ) → r .run .answer ≡ answer.Accepted t n m → WasRead (r .run) t

@@ -11,7 +11,7 @@ use Rattle.reader.specs.declared.Reading.the-variants as answer
 use Rattle.award_check.specs.Faults.{faultOf}
 use Rattle.writer.specs.declared.Writing.the-variants.{Written, Refused}
 use Rattle.writer.specs.Canonical.{canonical}
-use Rattle.writer.specs.Same.{Same}
+use Rattle.writer_back.specs.Same.{Same}
 use Rattle.theorems.specs.Calls.{ReadCall, AwardCall, WriteCall}
 
 -- the text of its tables in one spelling

@@ -32,10 +32,10 @@ use Rattle.award.specs.OneAnswerLaws.{one-answer}
 use Rattle.writer.specs.declared.Writing.{Writing}
 use Rattle.writer.specs.declared.Writing.the-variants as writing
 use Rattle.writer.specs.Canonical.{canonical, spelt, unspelt, unlessFault, writeInto, writeAnswer, bufferAfter}
-use Rattle.writer.specs.Same.{Same, ReadBack}
-use Rattle.writer.specs.LengthLaws.{canonical-some}
-use Rattle.writer.specs.ReadBackLaws.{lawful-tables, reads-back, text-same, same-text, same-bytes, writes-the-same}
-use Rattle.writer.specs.FilledLaws.{canonical-alone, read-sound, no-longer}
+use Rattle.writer_back.specs.Same.{Same, ReadBack}
+use Rattle.writer_back.specs.ShortLaws.{canonical-some}
+use Rattle.writer_back.specs.ReadBackLaws.{lawful-tables, reads-back, text-same, same-text, same-bytes, writes-the-same}
+use Rattle.writer_back.specs.FilledLaws.{canonical-alone, read-sound, no-longer}
 use Rattle.rewrite.specs.Rewritten.{rewriteOf}
 use Rattle.theorems.specs.Calls.{ReadCall, AwardCall, toldBy, WriteCall, RewriteCall, rewritten}
 use Rattle.theorems.specs.Between.{Exactly}

@@ -19,7 +19,7 @@ use Rattle.award_check.specs.TextLaws.{rows-end}
 use Rattle.spelling.specs.Decimal.{decimal}
 use Rattle.spelling.specs.DecimalLaws.{decimal-plain}
 use Rattle.spelling.specs.WordLaws.{spaced, ended, tenderWords, windowWords, bidWords}
-use Rattle.writer.specs.SpeltLaws.{spansOf, rowLine, spacedText, spelt-words}
+use Rattle.writer_back.specs.SpeltLaws.{spansOf, rowLine, spacedText, spelt-words}
 use Rattle.theorems.specs.Between.{Variant}
 
 -- row i among the rows

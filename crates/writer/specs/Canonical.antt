@@ -14,14 +14,9 @@ use Rattle.tender.specs.Tables.{Row, rowsOf}
 use Rattle.reader_line.specs.Line.{BidLine}
 use Rattle.spelling.specs.Text.{textOf, bidIn}
 use Rattle.award_check.specs.Faults.{faultOf}
-use Rattle.runs.specs.Runs.{joined}
+use Rattle.writer_line.specs.Respelt.{respelt}
 use Rattle.writer.specs.declared.Writing.{Writing}
 use Rattle.writer.specs.declared.Writing.the-variants.{Written, Refused}
-
--- a bid with its windows joined
-unfoldable pub respelt : BidLine → BidLine
-unfolding joined
-respelt b = record { bidder = b .bidder; price = b .price; windows = joined (b .windows) }
 
 -- the bids of the rows, each respelt
 unfoldable pub respeltIn : List ℕ → List Row → List BidLine

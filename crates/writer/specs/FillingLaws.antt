@@ -24,7 +24,8 @@ use Rattle.award_check.specs.Cells.{noRow}
 use Rattle.award_check.specs.AlikeLaws.{rows-length}
 use Rattle.writer.specs.declared.Writing.{Writing}
 use Rattle.writer.specs.declared.Writing.the-variants as answer
-use Rattle.writer.specs.Canonical.{respelt, respeltIn, canonical, WriteOutcome, spelt, unspelt, unlessFault, writeInto, writeAnswer}
+use Rattle.writer_line.specs.Respelt.{respelt}
+use Rattle.writer.specs.Canonical.{respeltIn, canonical, WriteOutcome, spelt, unspelt, unlessFault, writeInto, writeAnswer}
 use Rattle.writer.specs.Canonical.{bufferAfter, Writes}
 use Rattle.writer.specs.Filling.{SomeBids, SomeText}
 use Rattle.writer.specs.TableLaws.{row-at}

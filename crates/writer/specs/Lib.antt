@@ -1,15 +1,6 @@
 pub mod Canonical
 pub mod Filling
-pub mod Same
-pub mod LengthLaws
-pub mod PutLaws
 pub mod RowLaws
 pub mod TableLaws
 pub mod FillingLaws
-pub mod BidLaws
-pub mod OwnLaws
-pub mod ReadBackLaws
-pub mod ShortLaws
-pub mod SpeltLaws
-pub mod FilledLaws
 pub mod Cases

@@ -1,28 +1,24 @@
 -- What holds of a row without a fault. Assumes nothing.
-use mathlib.Core.Path.{_≡_, refl, ap}
+use mathlib.Core.Path.{_≡_, refl}
 use mathlib.Core.Bool.{Bool, true, false, cond, not}
 use mathlib.Core.List.{List, [], _∷_, _++_}
 use mathlib.Core.Option.{none, some}
-use Prim.Native.Nat.{ℕ, zero, suc, _+_, _≤_}
+use Prim.Native.Nat.{ℕ, _+_, _≤_}
 use native.Mathlib.Omega.{arith}
-use lib.ListN.{length, drop}
+use lib.ListN.{length}
 use lib.Dec.{leb}
 use borrow.Author.Tests.{leb-true, not-true}
 use Rattle.tender.specs.declared.Kind.{Kind}
 use Rattle.tender.specs.declared.Kind.the-variants.{Single, Multi}
 use Rattle.tender.specs.Limits.{within, mostWindows, allLawful}
-use Rattle.tender.specs.Tables.{Row, windowsOf, own, windowWidth}
+use Rattle.tender.specs.Tables.{Row, own}
 use Rattle.reader_word.specs.Words.{among}
 use Rattle.cover.specs.SetLaws.{and-split}
 use Rattle.award_check.specs.Faults.{sound, rowFault}
 use Rattle.award_check.specs.AlikeLaws.{keeps-kept}
 use Rattle.runs.specs.Runs.{joined}
 use Rattle.runs.specs.RunsFewLaws.{joined-few}
-
-windows-length : (n : ℕ) (cells : List ℕ) → length (windowsOf n cells) ≡ n
-unfolding windowsOf
-windows-length zero cells = refl
-windows-length (suc n) cells = ap suc (windows-length n (drop windowWidth cells))
+use Rattle.writer_line.specs.LengthLaws.{windows-length}
 
 pub own-length : (windows : List ℕ) (r : Row) → length (own windows r) ≡ r .count
 unfolding own

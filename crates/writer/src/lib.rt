@@ -1,18 +1,13 @@
 // The text of a tender's tables in one spelling, into a lent buffer: each bid's windows joined where they overlap or touch, in
 // rising order. `specs/Canonical.antt` says what that text is, and when it is declined.
 ghost use mathlib.Core.Path.{_≡_};
-ghost use mathlib.Core.Bool.{true};
 ghost use mathlib.Core.Option.{none};
-ghost use Prim.Native.Nat.{_+_, _*_, _/_, _≤_};
-ghost use lib.ListN.{length, drop};
-ghost use Rattle.tender.specs.Limits.{allLawful};
-ghost use Rattle.tender.specs.Tables.{rowsOf, windowsOf, windowWidth};
-ghost use Rattle.spelling.specs.Text.{windowText, windowsText, bidText, tenderText};
-ghost use Rattle.spelling.specs.Written.{Written};
+ghost use Prim.Native.Nat.{_≤_};
+ghost use lib.ListN.{length};
+ghost use Rattle.tender.specs.Tables.{rowsOf};
 ghost use Rattle.award_check.specs.Faults.{faultOf};
-ghost use Rattle.runs.specs.Runs.{joined};
 ghost use Rattle.runs.specs.MinuteRows.{rowWords, Empty, Full};
-ghost use Rattle.writer.specs.Canonical.{respelt, Writes};
+ghost use Rattle.writer.specs.Canonical.{Writes};
 ghost use Rattle.writer.specs.Filling.{SomeBids, SomeText};
 use award_check::Check;
 use tender::Refusal;
@@ -22,90 +17,6 @@ use tender::Tender;
 pub enum Writing {
     Written(usize),
     Refused(Refusal),
-}
-
-// " (START END)"
-fn put_window(buf: &mut [u8], at: usize, start: u64, end: u64) -> usize
-    requires { ⌜ at + 44 ≤ length (now buf) ⌝ }
-    ensures { λ r. ⌜ Written (now (buf .entry)) at (windowText (record { start = start; end = end })) (now (buf .exit)) r ⌝ }
-{
-    let begun = spelling::put_all(buf, at, b" (");
-    let said = spelling::put_decimal(buf, begun, start);
-    let ended = spelling::put_number(buf, said, end);
-    spelling::put(buf, ended, b')')
-}
-
-// The windows from `first` on, `count` of them, joined. Lent beside the buffer: a row for their minutes, one without a cell and
-// one with every cell.
-fn put_windows(
-    buf: &mut [u8],
-    at: usize,
-    windows: &[u64],
-    first: usize,
-    count: usize,
-    row: &mut [u64],
-    blank: &[u64],
-    full: &[u64],
-) -> usize
-    requires { ⌜ (first + count ≤ length (now windows) / windowWidth)
-        × ((allLawful (windowsOf count (drop (windowWidth * first) (now windows))) ≡ true)
-        × ((at + length (windowsText (joined (windowsOf count (drop (windowWidth * first) (now windows))))) + 44 ≤ length (now buf))
-        × ((length (now row) ≡ rowWords) × (Empty (now blank) × Full (now full))))) ⌝ }
-    ensures { λ r. ⌜ Written (now (buf .entry)) at
-        (windowsText (joined (windowsOf count (drop (windowWidth * first) (now (windows .entry))))))
-        (now (buf .exit)) r × (length (now (row .exit)) ≡ rowWords) ⌝ }
-{
-    runs::minutes(windows, first, count, row);
-    let mut end = at;
-    let mut from = 0;
-    while from < 10080 {
-        let run = runs::next(row, blank, full, from);
-        if 10080 <= run.start {
-            return end;
-        }
-        end = put_window(buf, end, run.start as u64, run.end as u64);
-        from = run.end;
-    }
-    end
-}
-
-// "(bid BIDDER PRICE (START END) ..)" and byte 10.
-fn put_bid(
-    buf: &mut [u8],
-    at: usize,
-    windows: &[u64],
-    bidder: u64,
-    price: u64,
-    first: usize,
-    count: usize,
-    row: &mut [u64],
-    blank: &[u64],
-    full: &[u64],
-) -> usize
-    requires { ⌜ (first + count ≤ length (now windows) / windowWidth)
-        × ((allLawful (windowsOf count (drop (windowWidth * first) (now windows))) ≡ true)
-        × ((count ≤ 32) × ((at + 576 ≤ length (now buf))
-        × ((length (now row) ≡ rowWords) × (Empty (now blank) × Full (now full)))))) ⌝ }
-    ensures { λ r. ⌜ Written (now (buf .entry)) at (bidText (respelt
-        (record { bidder = bidder; price = price; windows = windowsOf count (drop (windowWidth * first) (now (windows .entry))) })))
-        (now (buf .exit)) r × (length (now (row .exit)) ≡ rowWords) ⌝ }
-{
-    let begun = spelling::put_all(buf, at, b"(bid ");
-    let named = spelling::put_decimal(buf, begun, bidder);
-    let priced = spelling::put_number(buf, named, price);
-    let ended = put_windows(buf, priced, windows, first, count, row, blank, full);
-    spelling::put_all(buf, ended, b")\n")
-}
-
-// "(tender KIND START END)" and byte 10.
-fn put_tender(buf: &mut [u8], tender: Tender) -> usize
-    requires { ⌜ 58 ≤ length (now buf) ⌝ }
-    ensures { λ r. ⌜ Written (now (buf .entry)) 0 (tenderText tender) (now (buf .exit)) r ⌝ }
-{
-    let kind = tender.kind;
-    let begun = spelling::put_all(buf, 0, b"(tender ");
-    let said = spelling::put_kind(buf, begun, kind);
-    spelling::put_numbers(buf, said, tender.window.start, tender.window.end)
 }
 
 // The lines of the bids, as far as a text may go: past 65,536 bytes none is begun.
@@ -131,7 +42,7 @@ fn put_bids(
         if 65536 < end {
             return end;
         }
-        end = put_bid(
+        end = writer_line::put_bid(
             buf,
             end,
             windows,
@@ -157,7 +68,7 @@ fn put_text(buf: &mut [u8], tender: Tender, count: usize, bids: &[u64], windows:
     let mut row = [1u64; 158];
     let blank = [0u64; 158];
     let full = [!0u64; 158];
-    let begun = put_tender(buf, tender);
+    let begun = writer_line::put_tender(buf, tender);
     put_bids(
         buf,
         begun,

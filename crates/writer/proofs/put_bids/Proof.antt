@@ -11,7 +11,7 @@ use Rattle.writer.proofs.put_bids.Statement.{statement}
 use Rattle.writer.proofs.put_bids.Tie as tie
 use Rattle.writer.proofs.put_bids.Reads as reads
 use Rattle.writer.proofs.put_bids.Lts as lts
-use Rattle.writer.proofs.put_bid.Reads as put-bid-reads
+use Rattle.writer_line.proofs.put_bid.Reads as put-bid-reads
 
 abbrev Inv-loop : tie.InvT-loop
 Inv-loop buf₀ at count bids windows row₀ blank full end₀ j₀ buf row end j =

@@ -9,7 +9,7 @@ use Rattle.writer.proofs.put_text.Tie as tie
 use Rattle.writer.proofs.put_text.Reads as reads
 use Rattle.writer.proofs.put_text.Lts as lts
 use Rattle.writer.proofs.put_bids.Reads as put-bids-reads
-use Rattle.writer.proofs.put_tender.Reads as put-tender-reads
+use Rattle.writer_line.proofs.put_tender.Reads as put-tender-reads
 
 put-tender-requires : tie.Need-put-tender-requires
 put-tender-requires c κs = search needs

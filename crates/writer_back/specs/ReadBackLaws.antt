@@ -27,10 +27,11 @@ use Rattle.award_check.specs.AlikeLaws.{faultless}
 use Rattle.award_check.specs.TextLaws.{rows-flat, never-nine}
 use Rattle.runs.specs.Runs.{joined}
 use Rattle.runs.specs.JoinedLaws.{joined-holds, joined-same}
-use Rattle.writer.specs.Canonical.{respelt, respeltIn, canonical}
-use Rattle.writer.specs.Same.{AllLawful, Same, ReadBack}
-use Rattle.writer.specs.BidLaws.{lawful-named, rows-told, rows-checked, row-lawful}
-use Rattle.writer.specs.OwnLaws.{noBid, bid-filled, respelt-length, respelt-at}
+use Rattle.writer_line.specs.Respelt.{respelt}
+use Rattle.writer.specs.Canonical.{respeltIn, canonical}
+use Rattle.writer_back.specs.Same.{AllLawful, Same, ReadBack}
+use Rattle.writer_back.specs.BidLaws.{lawful-named, rows-told, rows-checked, row-lawful}
+use Rattle.writer_back.specs.OwnLaws.{noBid, bid-filled, respelt-length, respelt-at}
 
 -- a tender and rows without a fault
 pub record Lawful (t : Tender) (rows : List Row) (windows : List ℕ) : Type 0 where

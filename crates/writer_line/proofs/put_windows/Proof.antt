@@ -4,14 +4,14 @@ use mathlib.Core.Path.{sym, _∙_}
 use native.Mathlib.Omega.{arith}
 use lib.ListN.{drop}
 use Rattle.tender.specs.Tables.{windowsOf, windowWidth}
-use Rattle.writer.specs.PutLaws.{Putting, putting-begins, putting-room, putting-size, putting-late, putting-goes, putting-ends}
-use Rattle.writer.proofs.put_windows.Statement.{statement}
-use Rattle.writer.proofs.put_windows.Tie as tie
-use Rattle.writer.proofs.put_windows.Reads as reads
-use Rattle.writer.proofs.put_windows.Lts as lts
+use Rattle.writer_line.specs.PutLaws.{Putting, putting-begins, putting-room, putting-size, putting-late, putting-goes, putting-ends}
+use Rattle.writer_line.proofs.put_windows.Statement.{statement}
+use Rattle.writer_line.proofs.put_windows.Tie as tie
+use Rattle.writer_line.proofs.put_windows.Reads as reads
+use Rattle.writer_line.proofs.put_windows.Lts as lts
 use Rattle.runs.proofs.minutes.Reads as minutes-reads
 use Rattle.runs.proofs.next.Reads as next-reads
-use Rattle.writer.proofs.put_window.Reads as put-window-reads
+use Rattle.writer_line.proofs.put_window.Reads as put-window-reads
 
 abbrev Inv-loop : tie.InvT-loop
 Inv-loop buf₀ at windows first count row blank full end₀ from₀ buf end from =

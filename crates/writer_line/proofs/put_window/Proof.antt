@@ -2,12 +2,12 @@
 use native.Mathlib.Omega.{arith}
 use Rattle.tender.specs.Keywords.{bytes}
 use Rattle.spelling.specs.LineLaws.{decimal-short}
-use Rattle.writer.specs.PutLaws.{window-written}
+use Rattle.writer_line.specs.PutLaws.{window-written}
 use borrow.Author.Needs.{needs}
-use Rattle.writer.proofs.put_window.Statement.{statement}
-use Rattle.writer.proofs.put_window.Tie as tie
-use Rattle.writer.proofs.put_window.Reads as reads
-use Rattle.writer.proofs.put_window.Lts as lts
+use Rattle.writer_line.proofs.put_window.Statement.{statement}
+use Rattle.writer_line.proofs.put_window.Tie as tie
+use Rattle.writer_line.proofs.put_window.Reads as reads
+use Rattle.writer_line.proofs.put_window.Lts as lts
 use Rattle.spelling.proofs.put.Reads as put-reads
 use Rattle.spelling.proofs.put_all.Reads as put-all-reads
 use Rattle.spelling.proofs.put_decimal.Reads as put-decimal-reads

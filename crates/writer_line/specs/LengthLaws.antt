@@ -2,24 +2,22 @@
 use mathlib.Core.Path.{_≡_, refl, ap}
 use mathlib.Core.Bool.{true}
 use mathlib.Core.List.{List, [], _∷_, _++_}
-use Prim.Native.Nat.{ℕ, zero, suc, _*_, _≤_, _<_}
+use Prim.Native.Nat.{ℕ, zero, suc, _*_, _≤_}
 use native.Mathlib.Omega.{arith}
 use lib.ListN.{length, drop, length-append}
 use lib.Dec.{leb, ltb}
 use borrow.Author.Tests.{leb-true, ltb-true}
 use Rattle.tender.specs.declared.Window.{Window}
-use Rattle.tender.specs.declared.Tender.{Tender}
 use Rattle.tender.specs.Keywords.{bytes}
 use Rattle.tender.specs.Limits.{allLawful, lawful}
-use Rattle.tender.specs.Tables.{Row, windowsOf, windowWidth}
+use Rattle.tender.specs.Tables.{windowsOf, windowWidth}
 use Rattle.cover.specs.SetLaws.{and-split}
 use Rattle.spelling.specs.Decimal.{decimal}
 use Rattle.spelling.specs.DecimalLaws.{decimal-few}
-use Rattle.spelling.specs.Text.{windowText, windowsText, tenderText, bidsText, textOf}
+use Rattle.spelling.specs.Text.{windowText, windowsText}
 use Rattle.runs.specs.Runs.{joined}
 use Rattle.runs.specs.RunsFewLaws.{joined-few}
 use Rattle.runs.specs.JoinedLaws.{joined-lawful}
-use Rattle.writer.specs.Canonical.{respeltIn, canonical}
 
 pub window-few : (w : Window) → lawful w ≡ true → length (windowText w) ≤ 14
 unfolding lawful windowText bytes
@@ -42,24 +40,15 @@ windows-few (w ∷ ws) e =
     let a = and-split (lawful w) (allLawful ws) e in
     omega (arith, length-append (windowText w) (windowsText ws), window-few w (a .0), windows-few ws (a .1))
 
-windows-count : (n : ℕ) (table : List ℕ) → length (windowsOf n table) ≡ n
+-- n windows are read of a table, whatever it holds
+pub windows-length : (n : ℕ) (cells : List ℕ) → length (windowsOf n cells) ≡ n
 unfolding windowsOf
-windows-count zero table = refl
-windows-count (suc n) table = ap suc (windows-count n (drop windowWidth table))
+windows-length zero cells = refl
+windows-length (suc n) cells = ap suc (windows-length n (drop windowWidth cells))
 
 -- the windows of a row, 32 of them at the most, joined
 pub joined-text-few : (n : ℕ) (table : List ℕ) → n ≤ 32 → allLawful (windowsOf n table) ≡ true
     → length (windowsText (joined (windowsOf n table))) ≤ 448
 joined-text-few n table l e =
     let ws = windowsOf n table in
-    omega (arith, windows-few (joined ws) (joined-lawful ws), joined-few ws e, windows-count n table)
-
--- no text is empty
-tender-some : (t : Tender) → 0 < length (tenderText t)
-unfolding tenderText bytes
-tender-some t = omega arith
-
-pub canonical-some : (t : Tender) (rows : List Row) (windows : List ℕ) → 0 < length (canonical t rows windows)
-unfolding canonical textOf
-canonical-some t rows windows =
-    omega (arith, length-append (tenderText t) (bidsText (respeltIn windows rows)), tender-some t)
+    omega (arith, windows-few (joined ws) (joined-lawful ws), joined-few ws e, windows-length n table)

@@ -18,12 +18,13 @@ use Rattle.reader_text.specs.RulesLaws.{rules-law}
 use Rattle.spelling.specs.Text.{bidIn, textOf}
 use Rattle.award_check.specs.Faults.{faultOf}
 use Rattle.award_check.specs.TextLaws.{rows-flat, never-nine}
-use Rattle.writer.specs.Canonical.{respelt, respeltIn, canonical, WriteOutcome, spelt, unspelt, unlessFault, writeInto}
-use Rattle.writer.specs.Same.{AllLawful}
-use Rattle.writer.specs.BidLaws.{row-lawful}
-use Rattle.writer.specs.SpeltLaws.{spelt-lines, bids-of, spelt-again}
-use Rattle.writer.specs.ShortLaws.{canonical-short}
-use Rattle.writer.specs.ReadBackLaws.{read-lawful}
+use Rattle.writer_line.specs.Respelt.{respelt}
+use Rattle.writer.specs.Canonical.{respeltIn, canonical, WriteOutcome, spelt, unspelt, unlessFault, writeInto}
+use Rattle.writer_back.specs.Same.{AllLawful}
+use Rattle.writer_back.specs.BidLaws.{row-lawful}
+use Rattle.writer_back.specs.SpeltLaws.{spelt-lines, bids-of, spelt-again}
+use Rattle.writer_back.specs.ShortLaws.{canonical-short}
+use Rattle.writer_back.specs.ReadBackLaws.{read-lawful}
 
 respelt-map : (windows : List ℕ) (rows : List Row) → respeltIn windows rows ≡ map respelt (map (bidIn windows) rows)
 unfolding respeltIn

@@ -2,12 +2,12 @@
 use native.Mathlib.Omega.{arith}
 use Rattle.tender.specs.Keywords.{bytes}
 use Rattle.spelling.specs.LineLaws.{kind-short}
-use Rattle.writer.specs.PutLaws.{tender-written}
+use Rattle.writer_line.specs.PutLaws.{tender-written}
 use borrow.Author.Needs.{needs}
-use Rattle.writer.proofs.put_tender.Statement.{statement}
-use Rattle.writer.proofs.put_tender.Tie as tie
-use Rattle.writer.proofs.put_tender.Reads as reads
-use Rattle.writer.proofs.put_tender.Lts as lts
+use Rattle.writer_line.proofs.put_tender.Statement.{statement}
+use Rattle.writer_line.proofs.put_tender.Tie as tie
+use Rattle.writer_line.proofs.put_tender.Reads as reads
+use Rattle.writer_line.proofs.put_tender.Lts as lts
 use Rattle.spelling.proofs.put_all.Reads as put-all-reads
 use Rattle.spelling.proofs.put_kind.Reads as put-kind-reads
 use Rattle.spelling.proofs.put_numbers.Reads as put-numbers-reads

@@ -5,17 +5,17 @@ use lib.ListN.{drop}
 use Rattle.tender.specs.Keywords.{bytes}
 use Rattle.tender.specs.Tables.{windowsOf, windowWidth}
 use Rattle.spelling.specs.LineLaws.{decimal-short}
-use Rattle.writer.specs.LengthLaws.{joined-text-few}
-use Rattle.writer.specs.PutLaws.{bid-written}
+use Rattle.writer_line.specs.LengthLaws.{joined-text-few}
+use Rattle.writer_line.specs.PutLaws.{bid-written}
 use borrow.Author.Needs.{needs}
-use Rattle.writer.proofs.put_bid.Statement.{statement}
-use Rattle.writer.proofs.put_bid.Tie as tie
-use Rattle.writer.proofs.put_bid.Reads as reads
-use Rattle.writer.proofs.put_bid.Lts as lts
+use Rattle.writer_line.proofs.put_bid.Statement.{statement}
+use Rattle.writer_line.proofs.put_bid.Tie as tie
+use Rattle.writer_line.proofs.put_bid.Reads as reads
+use Rattle.writer_line.proofs.put_bid.Lts as lts
 use Rattle.spelling.proofs.put_all.Reads as put-all-reads
 use Rattle.spelling.proofs.put_decimal.Reads as put-decimal-reads
 use Rattle.spelling.proofs.put_number.Reads as put-number-reads
-use Rattle.writer.proofs.put_windows.Reads as put-windows-reads
+use Rattle.writer_line.proofs.put_windows.Reads as put-windows-reads
 
 slice-aggregate-put-all : tie.Need-slice-aggregate-put-all
 slice-aggregate-put-all c = search needs

@@ -30,7 +30,7 @@ use Rattle.spelling.specs.Lines.{kindWord}
 use Rattle.spelling.specs.Text.{bidText, tenderText, bidsText, textOf, bidIn}
 use Rattle.spelling.specs.DecimalLaws.{numeral-spelling}
 use Rattle.spelling.specs.WordLaws.{spaced, ended, tenderWords, windowWords, bidWords, bid-line, tender-line}
-use Rattle.writer.specs.OwnLaws.{bids-filled}
+use Rattle.writer_back.specs.OwnLaws.{bids-filled}
 
 -- pieces joined again
 

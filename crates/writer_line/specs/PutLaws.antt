@@ -21,7 +21,7 @@ use Rattle.runs.specs.Runs.{runs, joined}
 use Rattle.runs.specs.MinuteRows.{Minutes, NextRun}
 use Rattle.runs.specs.MinuteRowLaws.{run-late, run-inside, run-next}
 use Rattle.runs.specs.JoinedLaws.{joined-runs}
-use Rattle.writer.specs.Canonical.{respelt}
+use Rattle.writer_line.specs.Respelt.{respelt}
 
 -- ---- the parts of a line
 

@@ -23,9 +23,10 @@ use Rattle.cover.specs.SetLaws.{and-split}
 use Rattle.award_check.specs.Faults.{rowFault}
 use Rattle.runs.specs.Runs.{joined}
 use Rattle.runs.specs.JoinedLaws.{joined-lawful, joined-some}
-use Rattle.writer.specs.Canonical.{respelt, respeltIn}
-use Rattle.writer.specs.Same.{AllLawful}
+use Rattle.writer_line.specs.Respelt.{respelt}
+use Rattle.writer.specs.Canonical.{respeltIn}
+use Rattle.writer_back.specs.Same.{AllLawful}
 use Rattle.writer.specs.RowLaws.{RowSays, own-length, joined-count, most-few, split-fault}
 
 -- a text may name the numbers of lawful windows
 

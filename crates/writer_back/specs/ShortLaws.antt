@@ -1,8 +1,8 @@
--- Bids with their windows joined are written with no more bytes. Assumes nothing.
+-- Bids with their windows joined are written with no more bytes, and no text is empty. Assumes nothing.
 use mathlib.Core.Path.{_≡_, refl}
 use mathlib.Core.Bool.{true}
 use mathlib.Core.List.{List, [], _∷_, _++_, map}
-use Prim.Native.Nat.{ℕ, _+_, _≤_}
+use Prim.Native.Nat.{ℕ, _+_, _≤_, _<_}
 use native.Mathlib.Omega.{arith}
 use lib.ListN.{length, length-append}
 use Rattle.tender.specs.declared.Window.{Window}
@@ -15,8 +15,9 @@ use Rattle.spelling.specs.Lines.{closing}
 use Rattle.spelling.specs.Text.{windowText, windowsText, bidText, bidsText, tenderText, textOf, bidIn}
 use Rattle.runs.specs.Runs.{joined}
 use Rattle.runs.specs.RunsFewLaws.{startsSum, endsSum, joined-starts, joined-ends}
-use Rattle.writer.specs.Canonical.{respelt, respeltIn, canonical}
-use Rattle.writer.specs.Same.{AllLawful}
+use Rattle.writer_line.specs.Respelt.{respelt}
+use Rattle.writer.specs.Canonical.{respeltIn, canonical}
+use Rattle.writer_back.specs.Same.{AllLawful}
 
 -- the bytes of windows, by starts and ends
 windows-bytes : (ws : List Window)
@@ -84,3 +85,13 @@ canonical-short t rows windows h = omega (
   length-append (tenderText t) (bidsText (respeltIn windows rows)),
   length-append (tenderText t) (bidsText (map (bidIn windows) rows)),
 )
+
+-- no text is empty
+tender-some : (t : Tender) → 0 < length (tenderText t)
+unfolding tenderText bytes
+tender-some t = omega arith
+
+pub canonical-some : (t : Tender) (rows : List Row) (windows : List ℕ) → 0 < length (canonical t rows windows)
+unfolding canonical textOf
+canonical-some t rows windows =
+    omega (arith, length-append (tenderText t) (bidsText (respeltIn windows rows)), tender-some t)

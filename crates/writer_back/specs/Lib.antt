@@ -1,0 +1,7 @@
+pub mod Same
+pub mod OwnLaws
+pub mod BidLaws
+pub mod ReadBackLaws
+pub mod ShortLaws
+pub mod SpeltLaws
+pub mod FilledLaws

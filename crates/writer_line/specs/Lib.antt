@@ -1,0 +1,3 @@
+pub mod Respelt
+pub mod LengthLaws
+pub mod PutLaws
