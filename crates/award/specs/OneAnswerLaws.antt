@@ -11,17 +11,18 @@ use borrow.Author.Tests.{ltb-true, ltb-false}
 use Rattle.tender.specs.declared.Kind.{Kind}
 use Rattle.tender.specs.declared.Tender.{Tender}
 use Rattle.tender.specs.declared.Refusal.{Refusal}
-use Rattle.tender.specs.declared.Refusal.the-variants.{BadTables, RowsTooFew, MinuteUncovered, OneBidder}
+use Rattle.tender.specs.declared.Refusal.the-variants.{BadTables, RowsTooFew}
 use Rattle.cover.specs.Sets.{Found, nothing, found, bidders}
 use Rattle.cover.specs.Earliest.{cellWith}
 use Rattle.cover.specs.EarliestLaws.{cell-found, one-at, two-at}
 use Rattle.cover.specs.SettledLaws.{length-listed}
 use Rattle.award_check.specs.Faults.{faultOf}
+use Rattle.award_check.specs.Cells.{minuteOf}
 use Rattle.award_check.specs.Auction.{Auction, auctionOf}
 use Rattle.award_check.specs.AuctionLaws.{minutes, owners-are}
 use Rattle.tender.specs.declared.AwardRow.{AwardRow}
 use Rattle.tender.specs.declared.Answer.{Answer}
-use Rattle.award_plain.specs.Award.{Outcome, awarded, refused, awardRows, totalsOf, thinned, settled}
+use Rattle.award_plain.specs.Award.{Outcome, awarded, refused, awardRows, totalsOf, uncovered, lone, thinned, settled}
 use Rattle.award.specs.Promise.{lentAfter, toldAward, Promise}
 use Rattle.award.specs.Right.{Callable, Bidders, EarliestIn, IsAward, IsRefusal, OneAnswer, tables-break-a-rule, rows-too-few}
 use Rattle.award.specs.Right.{minute-uncovered, one-bidder, award}
@@ -60,17 +61,17 @@ module _ (k : Kind) (t : Tender) (n : ℕ) (bids windows : List ℕ) (old new : 
       }
 
   cover : Callable k t n bids windows (length old) → ltb (length old) n ≡ false → OneAnswer k t n bids windows old new o
-  unfolding thinned
+  unfolding thinned uncovered lone minuteOf
   cover s g = go (cellWith (A .has) n (A .cells) 0) (cellWith (A .has) n (A .cells) 1) refl refl
     where
       go : (x y : Found) → cellWith (A .has) n (A .cells) 0 ≡ x → cellWith (A .has) n (A .cells) 1 ≡ y
           → OneAnswer k t n bids windows old new o
       go (found x) y d e = minute-uncovered (t .window .start + x) s (at-cell 0 x d)
-          (refusal (MinuteUncovered (t .window .start + x))
+          (refusal (uncovered t x)
           (p .answers ∙ award-settles k t n bids windows (length old) (s .sound) g (found x) y d e))
       go nothing (found x) d e = one-bidder (t .window .start + x) s
           (rw (owners-are t n bids windows) (one-at (A .has) n (A .cells) d)) (at-cell 1 x e)
-          (refusal (OneBidder (t .window .start + x)) (p .answers
+          (refusal (lone t x) (p .answers
           ∙ award-settles k t n bids windows (length old) (s .sound) g nothing (found x) d e))
       go nothing nothing d e = award s (rw (owners-are t n bids windows) (two-at (A .has) n (A .cells) d e))
           (is-award (p .answers ∙ award-settles k t n bids windows (length old) (s .sound) g nothing nothing d e))
@@ -81,7 +82,7 @@ module _ (k : Kind) (t : Tender) (n : ℕ) (bids windows : List ℕ) (old new : 
       rows : faultOf k t n bids windows ≡ none → (b : Bool) → ltb (length old) n ≡ b → OneAnswer k t n bids windows old new o
       rows f true g = rows-too-few f (ltb-true (length old) n g)
           (refusal RowsTooFew (p .answers ∙ award-none k t n bids windows (length old) f
-          ∙ ap (λ z. cond z (refused RowsTooFew) (settled k A (t .window .start))) g))
+          ∙ ap (λ z. cond z (refused RowsTooFew) (settled k A (uncovered t) (lone t))) g))
       rows f false g = cover (record { sound = f; rows = ltb-false (length old) n g }) g
 
       fault : (m : Option ℕ) → faultOf k t n bids windows ≡ m → OneAnswer k t n bids windows old new o

@@ -11,6 +11,7 @@ use Rattle.tender.specs.declared.Kind.{Kind}
 use Rattle.tender.specs.declared.Kind.the-variants.{Single, Multi}
 use Rattle.tender.specs.declared.AwardRow.{AwardRow}
 use Rattle.tender.specs.declared.Totals.{Totals}
+use Rattle.tender.specs.declared.Refusal.{Refusal}
 use Rattle.cover.specs.Sets.{when, Found, nothing, found, bit, cost, cells}
 use Rattle.cover.specs.Earliest.{cellWith}
 use Rattle.cover.specs.LeastCover.{Wins, winners, without, payment, vcgPaid}
@@ -51,11 +52,12 @@ module _ (A : Auction) (i q : ℕ) where
   unfolding atPrice
   cents-multi-at = cents-multi (atPrice i q A) i
 
-  settled-at : (k : Kind) (start : ℕ) (x y : Found) → cellWith (A .has) (A .owners) (A .cells) 0 ≡ x
+  settled-at : (k : Kind) (bare alone : ℕ → Refusal) (x y : Found) → cellWith (A .has) (A .owners) (A .cells) 0 ≡ x
       → cellWith (A .has) (A .owners) (A .cells) 1 ≡ y
-      → settled k (atPrice i q A) start ≡ thinned start x y (awarded (awardRows k (atPrice i q A)) (totalsOf k (atPrice i q A)))
+      → settled k (atPrice i q A) bare alone
+      ≡ thinned bare alone x y (awarded (awardRows k (atPrice i q A)) (totalsOf k (atPrice i q A)))
   unfolding atPrice
-  settled-at k start x y e f = settled-is k (atPrice i q A) start x y e f
+  settled-at k bare alone x y e f = settled-is k (atPrice i q A) bare alone x y e f
 
 -- where the other entries have every cell
 module _ (A : Auction) (i : ℕ) (inside : i < length (A .prices)) (y : Spare (A .has) (length (A .prices)) (A .cells) i) where
@@ -135,19 +137,21 @@ unfolding atPrice
 row-filled-at k A i q totals l = row-filled k (atPrice i q A) i totals l
 
 -- naming q is no better than naming the true cost, which is the price of bid i in A
-pub settled-honest : (k : Kind) (A : Auction) (i q start : ℕ) → i < A .owners → length (A .prices) ≡ A .owners →
-    AtMost (gain (getD (A .prices) i 0) (rowFor (settled k (atPrice i q A) start) i))
-    (gain (getD (A .prices) i 0) (rowFor (settled k A start) i))
+pub settled-honest : (k : Kind) (A : Auction) (i q : ℕ) (bare alone : ℕ → Refusal) → i < A .owners
+    → length (A .prices) ≡ A .owners →
+    AtMost (gain (getD (A .prices) i 0) (rowFor (settled k (atPrice i q A) bare alone) i))
+    (gain (getD (A .prices) i 0) (rowFor (settled k A bare alone) i))
 unfolding rowFor gain thinned
-settled-honest k A i q start l n = go (cellWith (A .has) (A .owners) (A .cells) 0) (cellWith (A .has) (A .owners) (A .cells) 1) refl refl
+settled-honest k A i q bare alone l n =
+    go (cellWith (A .has) (A .owners) (A .cells) 0) (cellWith (A .has) (A .owners) (A .cells) 1) refl refl
   where
     go : (x y : Found) → cellWith (A .has) (A .owners) (A .cells) 0 ≡ x → cellWith (A .has) (A .owners) (A .cells) 1 ≡ y →
-        AtMost (gain (getD (A .prices) i 0) (rowFor (settled k (atPrice i q A) start) i))
-        (gain (getD (A .prices) i 0) (rowFor (settled k A start) i))
-    go (found x) y e f = rw (settled-is k A start (found x) y e f, settled-at A i q k start (found x) y e f) (omega arith)
-    go nothing (found x) e f = rw (settled-is k A start nothing (found x) e f, settled-at A i q k start nothing (found x) e f)
+        AtMost (gain (getD (A .prices) i 0) (rowFor (settled k (atPrice i q A) bare alone) i))
+        (gain (getD (A .prices) i 0) (rowFor (settled k A bare alone) i))
+    go (found x) y e f = rw (settled-is k A bare alone (found x) y e f, settled-at A i q k bare alone (found x) y e f) (omega arith)
+    go nothing (found x) e f = rw (settled-is k A bare alone nothing (found x) e f, settled-at A i q k bare alone nothing (found x) e f)
         (omega arith)
-    go nothing nothing e f = rw (settled-is k A start nothing nothing e f, settled-at A i q k start nothing nothing e f)
+    go nothing nothing e f = rw (settled-is k A bare alone nothing nothing e f, settled-at A i q k bare alone nothing nothing e f)
         (rw (row-filled k A i (totalsOf k A) l, row-filled-at k A i q (totalsOf k (atPrice i q A)) l)
         (gain-most (getD (A .prices) i 0) (rowIn k (atPrice i q A) i) (rowIn k A i) (lost-nothing k (atPrice i q A) i)
         (lost-nothing k A i)

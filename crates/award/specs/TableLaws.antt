@@ -18,7 +18,7 @@ use Rattle.award_check.specs.Faults.{faultOf}
 use Rattle.award_check.specs.Auction.{Auction, auctionOf}
 use Rattle.award_check.specs.AuctionLaws.{owners-are, entries, price-named, at-own-price, auction-alike}
 use Rattle.award_check.specs.Alike.{Alike}
-use Rattle.award_plain.specs.Award.{won, cents, awarded, refused, settled, awardOf}
+use Rattle.award_plain.specs.Award.{won, cents, awarded, refused, uncovered, lone, settled, awardOf}
 use Rattle.award_plain.specs.AwardLaws.{award-none, AwardOn, spared}
 use Rattle.award.specs.Gain.{rowFor, gain, AtMost}
 use Rattle.award.specs.SettleLaws.{settled-honest, row-filled, rowIn, fair}
@@ -38,11 +38,11 @@ module _ (k : Kind) (t : Tender) (n i : ℕ) (bids windows : List ℕ) (inside :
       (go (ltb lent n))
     where
       go : (b : Bool) → AtMost (gain (getD bids (bidWidth * i + 1) 0)
-          (rowFor (cond b (refused RowsTooFew) (settled k (auctionOf t n bids′ windows′) (t .window .start))) i))
-          (gain (getD bids (bidWidth * i + 1) 0) (rowFor (cond b (refused RowsTooFew) (settled k A (t .window .start))) i))
+          (rowFor (cond b (refused RowsTooFew) (settled k (auctionOf t n bids′ windows′) (uncovered t) (lone t))) i))
+          (gain (getD bids (bidWidth * i + 1) 0) (rowFor (cond b (refused RowsTooFew) (settled k A (uncovered t) (lone t))) i))
       go true = omega arith
       go false = rw (auction-alike k t n i bids windows bids′ windows′ inside f a, ← price-named t n bids windows i inside)
-          (settled-honest k A i (getD bids′ (bidWidth * i + 1) 0) (t .window .start) (rw (owners-are t n bids windows) inside)
+          (settled-honest k A i (getD bids′ (bidWidth * i + 1) 0) (uncovered t) (lone t) (rw (owners-are t n bids windows) inside)
           (entries t n bids windows ∙ sym (owners-are t n bids windows)))
 
 module _ (k : Kind) (t : Tender) (n : ℕ) (bids windows : List ℕ) (lent : ℕ) (rows : List AwardRow) (totals : Totals)

@@ -1,13 +1,13 @@
 -- The auction of a tender: its cells, and what each entry offers, in entry order (paper 01, "Time, price and place").
 use mathlib.Core.List.{List, [], map}
 use mathlib.Core.Bool.{Bool, _&&_}
-use Prim.Native.Nat.{ℕ, _+_}
+use Prim.Native.Nat.{ℕ}
 use lib.ListN.{getD, set}
 use lib.Dec.{ltb}
 use Rattle.tender.specs.declared.Window.{Window}
 use Rattle.tender.specs.declared.Tender.{Tender}
 use Rattle.tender.specs.Tables.{Row, rowsOf, own}
-use Rattle.award_check.specs.Cells.{holds, cellsOf}
+use Rattle.award_check.specs.Cells.{holds, cellsOf, minuteOf}
 
 -- what an entry offers: its price, and the windows that it holds
 pub record Offer : Type 0 where
@@ -36,8 +36,8 @@ pub record Auction : Type 0 where
 
 -- entry i has the cell x; its minutes outside the tender count for nothing
 unfoldable pub hasOf : Tender → List Offer → ℕ → ℕ → Bool
-unfolding cellsOf holds noOffer
-hasOf t os i x = ltb x (cellsOf t) && holds (getD os i noOffer .windows) (t .window .start + x)
+unfolding cellsOf minuteOf holds noOffer
+hasOf t os i x = ltb x (cellsOf t) && holds (getD os i noOffer .windows) (minuteOf t x)
 
 unfoldable pub auctionOf : Tender → ℕ → List ℕ → List ℕ → Auction
 unfolding offersOf hasOf cellsOf

@@ -16,7 +16,7 @@ use Rattle.tender.specs.Tables.{Row, rowsOf, windowsOf, own, flatRows, flatWind
 use Rattle.reader_text.specs.Rules.{Rules}
 use Rattle.reader_text.specs.Differ.{withPrice}
 use Rattle.award_check.specs.Faults.{faultOf}
-use Rattle.award_check.specs.Cells.{holds, cellsOf, noRow}
+use Rattle.award_check.specs.Cells.{holds, cellsOf, minuteOf, noRow}
 use Rattle.award_check.specs.Auction.{noOffer, offered, offersOf, Auction, hasOf, auctionOf, atPrice}
 use Rattle.award_check.specs.Alike.{Alike}
 use Rattle.award_check.specs.AlikeLaws.{rows-length, rows-set, windows-same, among-held, faultless, own-alike}
@@ -74,7 +74,7 @@ module _ (t : Tender) (n : ℕ) (bids windows : List ℕ) where
 
   pub has-cell : (i x : ℕ) → auctionOf t n bids windows .has i x
       ≡ (ltb x (cellsOf t) && holds (own windows (getD (rowsOf n bids) i noRow)) (t .window .start + x))
-  unfolding auctionOf offersOf hasOf offered
+  unfolding auctionOf offersOf hasOf minuteOf offered
   has-cell i x = ap (λ o. ltb x (cellsOf t) && holds (o .windows) (t .window .start + x)) (offer-at windows (rowsOf n bids) i)
 
   -- past the last bid there are no cells

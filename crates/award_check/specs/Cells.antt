@@ -1,7 +1,7 @@
 -- From tables to cells: the cells of a tender are its minutes, and windows hold some of them (paper 01, "Time, price and place").
 use mathlib.Core.List.{List, [], _∷_}
 use mathlib.Core.Bool.{Bool, false, _&&_, _||_}
-use Prim.Native.Nat.{ℕ, _-_}
+use Prim.Native.Nat.{ℕ, _+_, _-_}
 use lib.Dec.{leb, ltb}
 use Rattle.tender.specs.declared.Window.{Window}
 use Rattle.tender.specs.declared.Tender.{Tender}
@@ -12,9 +12,13 @@ unfoldable pub holds : List Window → ℕ → Bool
 holds [] minute = false
 holds (w ∷ ws) minute = leb (w .start) minute && ltb minute (w .end) || holds ws minute
 
--- how many cells a tender has: cell x is the minute start + x
+-- how many cells a tender has
 unfoldable pub cellsOf : Tender → ℕ
 cellsOf t = t .window .end - t .window .start
+
+-- the minute of a cell
+unfoldable pub minuteOf : Tender → ℕ → ℕ
+minuteOf t x = t .window .start + x
 
 -- what stands past the last row: it has no window
 unfoldable pub noRow : Row

@@ -2,7 +2,7 @@
 use mathlib.Core.List.{List}
 use mathlib.Core.Bool.{Bool, cond}
 use mathlib.Core.Option.{Option, none, some}
-use Prim.Native.Nat.{ℕ, _+_}
+use Prim.Native.Nat.{ℕ}
 use lib.ListN.{length, getD}
 use lib.Dec.{ltb}
 use Rattle.tender.specs.declared.Kind.{Kind}
@@ -19,6 +19,7 @@ use Rattle.cover.specs.Greedy.{wins}
 use Rattle.cover.specs.CriticalPrice.{criticalPaid, sum}
 use Rattle.cover.specs.Settled.{listed}
 use Rattle.award_check.specs.Faults.{faultOf}
+use Rattle.award_check.specs.Cells.{minuteOf}
 use Rattle.award_check.specs.Auction.{Auction, auctionOf}
 use Rattle.tender.specs.declared.AwardRow.{AwardRow}
 
@@ -56,16 +57,26 @@ totalsOf k A = record {
   paid = sum (listed (A .owners) (cents k A));
 }
 
--- 11 at the cell found in no bid, else 12 at the cell found in one alone, else the outcome; cell x is the minute start + x
-unfoldable pub thinned : ℕ → Found → Found → Outcome → Outcome
-thinned start (found x) lone o = refused (MinuteUncovered (start + x))
-thinned start nothing (found x) o = refused (OneBidder (start + x))
-thinned start nothing nothing o = o
+-- 11 of a cell: it is named by its minute
+unfoldable pub uncovered : Tender → ℕ → Refusal
+unfolding minuteOf
+uncovered t x = MinuteUncovered (minuteOf t x)
 
--- 11 at the earliest cell in no bid, else 12 at the earliest in exactly one, else the award
-unfoldable pub settled : Kind → Auction → ℕ → Outcome
+-- and 12
+unfoldable pub lone : Tender → ℕ → Refusal
+unfolding minuteOf
+lone t x = OneBidder (minuteOf t x)
+
+-- one refusal at the cell found in no bid, else the other at the cell found in one alone, else the outcome
+unfoldable pub thinned : (ℕ → Refusal) → (ℕ → Refusal) → Found → Found → Outcome → Outcome
+thinned bare alone (found x) y o = refused (bare x)
+thinned bare alone nothing (found x) o = refused (alone x)
+thinned bare alone nothing nothing o = o
+
+-- refused at the earliest cell in no bid, else at the earliest in exactly one, else the award
+unfoldable pub settled : Kind → Auction → (ℕ → Refusal) → (ℕ → Refusal) → Outcome
 unfolding thinned cellWith awardRows totalsOf
-settled k A start = thinned start (cellWith (A .has) (A .owners) (A .cells) 0) (cellWith (A .has) (A .owners) (A .cells) 1)
+settled k A bare alone = thinned bare alone (cellWith (A .has) (A .owners) (A .cells) 0) (cellWith (A .has) (A .owners) (A .cells) 1)
     (awarded (awardRows k A) (totalsOf k A))
 
 unfoldable pub judged : Option ℕ → Outcome → Outcome
@@ -74,9 +85,9 @@ judged (some row) o = refused (BadTables row)
 
 -- the award of the kind k, where n bids are stated and `lent` award rows are lent: first 9, then 10, then the tender itself
 unfoldable pub awardOf : Kind → Tender → ℕ → List ℕ → List ℕ → ℕ → Outcome
-unfolding judged faultOf settled auctionOf
+unfolding judged faultOf settled auctionOf uncovered lone
 awardOf k t n bids windows lent = judged (faultOf k t n bids windows)
-    (cond (ltb lent n) (refused RowsTooFew) (settled k (auctionOf t n bids windows) (t .window .start)))
+    (cond (ltb lent n) (refused RowsTooFew) (settled k (auctionOf t n bids windows) (uncovered t) (lone t)))
 
 -- the refusal's number and place; 0 of an award
 unfoldable pub outcomeNumber : Outcome → ℕ

@@ -27,11 +27,13 @@ use Rattle.cover.specs.Settled.{listed}
 use Rattle.cover.specs.Settled as core
 use Rattle.cover.specs.SettledLaws.{length-listed, getD-listed, listed-same, map-listed}
 use Rattle.award_check.specs.Faults.{faultOf}
+use Rattle.award_check.specs.Cells.{minuteOf}
 use Rattle.award_check.specs.Auction.{Auction, auctionOf}
 use Rattle.award_check.specs.AuctionLaws.{owners-are, entries}
 use Rattle.tender.specs.declared.Answer.{Answer}
 use Rattle.tender.specs.declared.Answer.the-variants.{Awarded, Refused}
 use Rattle.award_plain.specs.Award.{coversIn, won, cents, awarded, refused, awardRows, totalsOf, thinned, settled, awardOf}
+use Rattle.award_plain.specs.Award.{uncovered, lone}
 use Rattle.award_plain.specs.Plain.{rowsIn, toldIn, wonAfter, centsAfter, PlainPromise}
 use Rattle.award_plain.specs.AwardLaws.{won-single, cents-single, won-multi, cents-multi, award-none, award-lent, award-nine}
 use Rattle.award_plain.specs.AwardLaws.{award-settles}
@@ -62,19 +64,19 @@ module _ (k : Kind) (t : Tender) (n : ℕ) (bids windows : List ℕ) (lent : ℕ
   module _ (f : faultOf k t n bids windows ≡ none) where
     pub ten : lent < n → PlainPromise k t n bids windows lent ow oc ow oc (Refused RowsTooFew)
     ten l = refuses RowsTooFew (award-none k t n bids windows lent f
-        ∙ ap (λ b. cond b (refused RowsTooFew) (settled k A (t .window .start))) (lt-ltb lent n l))
+        ∙ ap (λ b. cond b (refused RowsTooFew) (settled k A (uncovered t) (lone t))) (lt-ltb lent n l))
 
     module _ (enough : n ≤ lent) where
       pub eleven : (x : ℕ) → cellWith (A .has) n (A .cells) 0 ≡ found x
           → PlainPromise k t n bids windows lent ow oc ow oc (Refused (MinuteUncovered (t .window .start + x)))
-      unfolding thinned
-      eleven x e = refuses (MinuteUncovered (t .window .start + x))
+      unfolding thinned uncovered minuteOf
+      eleven x e = refuses (uncovered t x)
           (award-settles k t n bids windows lent f (le-ltb lent n enough) (found x) (cellWith (A .has) n (A .cells) 1) e refl)
 
       pub twelve : (x : ℕ) → cellWith (A .has) n (A .cells) 0 ≡ nothing → cellWith (A .has) n (A .cells) 1 ≡ found x
           → PlainPromise k t n bids windows lent ow oc ow oc (Refused (OneBidder (t .window .start + x)))
-      unfolding thinned
-      twelve x d e = refuses (OneBidder (t .window .start + x))
+      unfolding thinned lone minuteOf
+      twelve x d e = refuses (lone t x)
           (award-settles k t n bids windows lent f (le-ltb lent n enough) nothing (found x) d e)
 
       -- a core settles by the flags w and the payments c, which are those of the definitions
