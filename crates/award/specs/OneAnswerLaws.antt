@@ -22,7 +22,7 @@ use Rattle.award_check.specs.Auction.{Auction, auctionOf}
 use Rattle.award_check.specs.AuctionLaws.{minutes, owners-are}
 use Rattle.tender.specs.declared.AwardRow.{AwardRow}
 use Rattle.tender.specs.declared.Answer.{Answer}
-use Rattle.award_plain.specs.Award.{Outcome, awarded, refused, awardRows, totalsOf, uncovered, lone, thinned, settled}
+use Rattle.award_plain.specs.Award.{rule, Outcome, awarded, refused, awardRows, totalsOf, uncovered, lone, thinned, settled}
 use Rattle.award.specs.Promise.{lentAfter, toldAward, Promise}
 use Rattle.award.specs.Right.{Callable, Bidders, EarliestIn, IsAward, IsRefusal, OneAnswer, tables-break-a-rule, rows-too-few}
 use Rattle.award.specs.Right.{minute-uncovered, one-bidder, award}
@@ -40,11 +40,11 @@ module _ (k : Kind) (t : Tender) (n : ℕ) (bids windows : List ℕ) (old new : 
   unfolding lentAfter
   refusal r e = record { outcome = e; lent = p .rows ∙ ap (lentAfter old) e }
 
-  is-award : o ≡ awarded (awardRows k A) (totalsOf k A) → IsAward k A old new o
+  is-award : o ≡ awarded (awardRows (rule k) A) (totalsOf (rule k) A) → IsAward (rule k) A old new o
   unfolding lentAfter awardRows
   is-award e = record {
     outcome = e;
-    lent = p .rows ∙ ap (lentAfter old) e ∙ ap (λ (m : ℕ). awardRows k A ++ drop m old) (length-listed (A .owners) _);
+    lent = p .rows ∙ ap (lentAfter old) e ∙ ap (λ (m : ℕ). awardRows (rule k) A ++ drop m old) (length-listed (A .owners) _);
   }
 
   -- a cell found is the earliest minute
@@ -82,7 +82,7 @@ module _ (k : Kind) (t : Tender) (n : ℕ) (bids windows : List ℕ) (old new : 
       rows : faultOf k t n bids windows ≡ none → (b : Bool) → ltb (length old) n ≡ b → OneAnswer k t n bids windows old new o
       rows f true g = rows-too-few f (ltb-true (length old) n g)
           (refusal RowsTooFew (p .answers ∙ award-none k t n bids windows (length old) f
-          ∙ ap (λ z. cond z (refused RowsTooFew) (settled k A (uncovered t) (lone t))) g))
+          ∙ ap (λ z. cond z (refused RowsTooFew) (settled (rule k) A (uncovered t) (lone t))) g))
       rows f false g = cover (record { sound = f; rows = ltb-false (length old) n g }) g
 
       fault : (m : Option ℕ) → faultOf k t n bids windows ≡ m → OneAnswer k t n bids windows old new o
@@ -97,10 +97,10 @@ module _ (k : Kind) (t : Tender) (n : ℕ) (bids windows : List ℕ) (old new : 
   )
 
   -- nothing else is declined: where no rule is broken, each bid has a row and each minute two bidders, it awards
-  pub awards : Callable k t n bids windows (length old) → Bidders A 2 → IsAward k A old new o
+  pub awards : Callable k t n bids windows (length old) → Bidders A 2 → IsAward (rule k) A old new o
   awards s two = go one-answer
     where
-      go : OneAnswer k t n bids windows old new o → IsAward k A old new o
+      go : OneAnswer k t n bids windows old new o → IsAward (rule k) A old new o
       go (tables-break-a-rule q e r) = let f = s .sound in let z : _≡_ {A = ℕ} 0 1 = cc in absurd (omega arith)
       go (rows-too-few f l r) = absurd (omega (arith, s .rows))
       go (minute-uncovered m c i r) = absurd (omega (arith, few m 0 two i))

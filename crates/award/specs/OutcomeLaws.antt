@@ -7,7 +7,6 @@ use native.Mathlib.Omega.{arith}
 use lib.ListN.{length, getD, set}
 use lib.Dec.{ltb, leb}
 use Rattle.tender.specs.declared.Kind.{Kind}
-use Rattle.tender.specs.declared.Kind.the-variants.{Single, Multi}
 use Rattle.tender.specs.declared.Tender.{Tender}
 use Rattle.tender.specs.declared.Totals.{Totals}
 use Rattle.cover.specs.Sets as sets
@@ -18,11 +17,11 @@ use Rattle.award_check.specs.Auction.{auctionOf, atPrice}
 use Rattle.award_check.specs.AuctionLaws.{owners-are, entries}
 use Rattle.award_check.specs.Alike.{named, Alike}
 use Rattle.tender.specs.declared.AwardRow.{AwardRow}
-use Rattle.award_plain.specs.Award.{coversIn, won, Outcome, awarded, refused, outcomeNumber, awardOf}
+use Rattle.award_plain.specs.Award.{leastCost, greedy, rule, coversIn, won, totalsOf, Outcome, awarded, refused, outcomeNumber, awardOf}
 use Rattle.award.specs.Gain.{rowFor, gain, AtMost}
 use Rattle.award.specs.Right.{LeastCover, WinnerAt, PaidByEight}
-use Rattle.award_plain.specs.AwardLaws.{won-single, cents-single, no-fault, award-awarded, spared}
-use Rattle.award.specs.SettleLaws.{cost-single, largest, vcg-pays, winners-cover}
+use Rattle.award_plain.specs.AwardLaws.{won-least, cents-least, no-fault, award-awarded, spared}
+use Rattle.award.specs.SettleLaws.{rowIn, cost-least, largest, vcg-pays, winners-cover}
 use Rattle.award.specs.TableLaws.{award-honest, row-is, row-fair}
 
 -- Two tenders that neither answer refuses with 9, alike in all but the price of bid i, each with an award row for every bid or
@@ -48,19 +47,20 @@ no-loss k t n i bids windows lent (awarded rows totals) l x e =
     row-fair k t n bids windows lent rows totals (award-awarded k t n bids windows lent rows totals x) i l e
 no-loss k t n i bids windows lent (refused r) l x e = let z : _≡_ {A = ℕ} 0 1 = cc in absurd (omega arith)
 
-pub least-cover : (t : Tender) (n : ℕ) (bids windows : List ℕ) (lent : ℕ) (rows : List AwardRow) (totals : Totals)
-    → awarded rows totals ≡ awardOf Single t n bids windows lent → LeastCover (auctionOf t n bids windows) rows totals
-least-cover t n bids windows lent rows totals x =
-    let w = award-awarded Single t n bids windows lent rows totals x in
+pub least-cover : (k : Kind) (t : Tender) (n : ℕ) (bids windows : List ℕ) (lent : ℕ) (rows : List AwardRow) (totals : Totals)
+    → rule k ≡ leastCost → awarded rows totals ≡ awardOf k t n bids windows lent
+    → LeastCover (auctionOf t n bids windows) rows totals
+least-cover k t n bids windows lent rows totals e x =
+    let w = award-awarded k t n bids windows lent rows totals x in
     let A = auctionOf t n bids windows in
     let ok = coversIn A in
-    let v = least-wins (A .has) (A .prices) (A .cells) (spared Single t n bids windows lent rows totals w (length (A .prices))) in
-    let c = ap (λ z. z .cost) (w .settles .totals-are) ∙ cost-single A in
+    let v = least-wins (A .has) (A .prices) (A .cells) (spared k t n bids windows lent rows totals w (length (A .prices))) in
+    let c = ap (λ z. z .cost) (w .settles .totals-are ∙ ap (λ r. totalsOf r A) e) ∙ cost-least A in
     record {
       set = winners ok (A .prices);
       below = v .inside;
-      members = λ i l. ap (λ r. r .won) (row-is Single t n bids windows lent rows totals w i (rw (owners-are t n bids windows) at l))
-          ∙ won-single A i (length (A .prices)) refl;
+      members = λ i l. ap (λ r. r .won) (row-is k t n bids windows lent rows totals w i (rw (owners-are t n bids windows) at l))
+          ∙ ap (λ r. won r A i) e ∙ won-least A i (length (A .prices)) refl;
       all-covered = v .good;
       cost-is = c;
       least = λ s l g. rw c (v .least s l g);
@@ -72,7 +72,7 @@ pub all-served : (k : Kind) (t : Tender) (n : ℕ) (bids windows : List ℕ) (le
     → WinnerAt (auctionOf t n bids windows) (awarded rows totals) x
 all-served k t n bids windows lent rows totals y x l =
     let w = award-awarded k t n bids windows lent rows totals y in
-    let m = winners-cover k (auctionOf t n bids windows)
+    let m = winners-cover (rule k) (auctionOf t n bids windows)
     (spared k t n bids windows lent rows totals w (length (auctionOf t n bids windows .prices))) x l in
     let i : m .who < n = omega (arith, m .inside, entries t n bids windows) in
     record {
@@ -82,31 +82,33 @@ all-served k t n bids windows lent rows totals y x l =
       covers-it = m .covers-it;
     }
 
--- a winner of a multi tender is paid the largest whole price with which it would still win if all else stood
-pub largest-price : (t : Tender) (n i : ℕ) (bids windows : List ℕ) (lent : ℕ) (rows : List AwardRow) (totals : Totals) → i < n
-    → awarded rows totals ≡ awardOf Multi t n bids windows lent → rowFor (awarded rows totals) i .won ≡ true
-    → (p : ℕ) → won Multi (atPrice i p (auctionOf t n bids windows)) i ≡ leb p (rowFor (awarded rows totals) i .cents)
-largest-price t n i bids windows lent rows totals l y f p =
-    let w = award-awarded Multi t n bids windows lent rows totals y in
-    let r = row-is Multi t n bids windows lent rows totals w i l in
-    largest (auctionOf t n bids windows) i (rw (entries t n bids windows) l) (spared Multi t n bids windows lent rows totals w i)
+-- by the greedy rule a winner is paid the largest whole price with which it would still win if all else stood
+pub largest-price : (k : Kind) (t : Tender) (n i : ℕ) (bids windows : List ℕ) (lent : ℕ) (rows : List AwardRow) (totals : Totals)
+    → i < n → rule k ≡ greedy → awarded rows totals ≡ awardOf k t n bids windows lent
+    → rowFor (awarded rows totals) i .won ≡ true
+    → (p : ℕ) → won greedy (atPrice i p (auctionOf t n bids windows)) i ≡ leb p (rowFor (awarded rows totals) i .cents)
+largest-price k t n i bids windows lent rows totals l e y f p =
+    let w = award-awarded k t n bids windows lent rows totals y in
+    let r = row-is k t n bids windows lent rows totals w i l ∙ ap (λ r. rowIn r (auctionOf t n bids windows) i) e in
+    largest (auctionOf t n bids windows) i (rw (entries t n bids windows) l) (spared k t n bids windows lent rows totals w i)
     (sym (ap (λ r. r .won) r) ∙ f) p
     ∙ ap (λ r. leb p (r .cents)) (sym r)
 
-pub paid-by-eight : (t : Tender) (n i : ℕ) (bids windows : List ℕ) (lent : ℕ) (rows : List AwardRow) (totals : Totals) → i < n
-    → awarded rows totals ≡ awardOf Single t n bids windows lent → rowFor (awarded rows totals) i .won ≡ true
+pub paid-by-eight : (k : Kind) (t : Tender) (n i : ℕ) (bids windows : List ℕ) (lent : ℕ) (rows : List AwardRow) (totals : Totals)
+    → i < n → rule k ≡ leastCost → awarded rows totals ≡ awardOf k t n bids windows lent
+    → rowFor (awarded rows totals) i .won ≡ true
     → PaidByEight (auctionOf t n bids windows) i (rowFor (awarded rows totals) i .cents) (totals .cost)
-paid-by-eight t n i bids windows lent rows totals l x f =
-    let w = award-awarded Single t n bids windows lent rows totals x in
+paid-by-eight k t n i bids windows lent rows totals l e x f =
+    let w = award-awarded k t n bids windows lent rows totals x in
     let A = auctionOf t n bids windows in
-    let r = row-is Single t n bids windows lent rows totals w i l in
-    let v = vcg-pays A i (rw (entries t n bids windows) l) (spared Single t n bids windows lent rows totals w i)
-    (sym (won-single A i (length (A .prices)) refl) ∙ sym (ap (λ r. r .won) r) ∙ f) in
-    let c = ap (λ r. r .cents) r ∙ cents-single A i (length (A .prices)) refl in
+    let r = row-is k t n bids windows lent rows totals w i l ∙ ap (λ r. rowIn r A i) e in
+    let v = vcg-pays A i (rw (entries t n bids windows) l) (spared k t n bids windows lent rows totals w i)
+    (sym (won-least A i (length (A .prices)) refl) ∙ sym (ap (λ r. r .won) r) ∙ f) in
+    let c = ap (λ r. r .cents) r ∙ cents-least A i (length (A .prices)) refl in
     record {
       other = winners (without i (coversIn A)) (A .prices);
       least-without = v .0;
-      formula = rw (c, ap (λ z. z .cost) (w .settles .totals-are) ∙ cost-single A) (v .1);
+      formula = rw (c, ap (λ z. z .cost) (w .settles .totals-are ∙ ap (λ r. totalsOf r A) e) ∙ cost-least A) (v .1);
     }
 
 any-default : (rs : List AwardRow) (i : ℕ) (d e : AwardRow) → i < length rs → getD rs i d ≡ getD rs i e

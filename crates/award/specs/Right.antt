@@ -20,7 +20,7 @@ use Rattle.award_check.specs.Cells.{noRow}
 use Rattle.award_check.specs.Auction.{Auction, auctionOf}
 use Rattle.award_check.specs.Alike.{named}
 use Rattle.tender.specs.declared.AwardRow.{AwardRow}
-use Rattle.award_plain.specs.Award.{coversIn, Outcome, awarded, refused, awardRows, totalsOf}
+use Rattle.award_plain.specs.Award.{Rule, rule, coversIn, Outcome, awarded, refused, awardRows, totalsOf}
 use Rattle.award.specs.Gain.{rowFor, gain, AtMost}
 
 -- no rule is broken, and there is an award row for every bid
@@ -40,9 +40,9 @@ pub record EarliestIn (t : Tender) (A : Auction) (minute b : ℕ) : Type 0 where
   pub earliest : (m : ℕ) → t .window .start ≤ m → m < minute → bidders (A .has) (A .owners) (m - t .window .start) ≡ b → ⊥
 
 -- the outcome is the award of the definitions, and it alone changed the lent rows
-pub record IsAward (k : Kind) (A : Auction) (old new : List AwardRow) (o : Outcome) : Type 0 where
-  pub outcome : o ≡ awarded (awardRows k A) (totalsOf k A)
-  pub lent : new ≡ awardRows k A ++ drop (A .owners) old
+pub record IsAward (r : Rule) (A : Auction) (old new : List AwardRow) (o : Outcome) : Type 0 where
+  pub outcome : o ≡ awarded (awardRows r A) (totalsOf r A)
+  pub lent : new ≡ awardRows r A ++ drop (A .owners) old
 
 -- a refusal leaves the lent rows as they were
 pub record IsRefusal (r : Refusal) (old new : List AwardRow) (o : Outcome) : Type 0 where
@@ -60,9 +60,9 @@ pub data OneAnswer (k : Kind) (t : Tender) (n : ℕ) (bids windows : List ℕ) (
   one-bidder : (m : ℕ) → Callable k t n bids windows (length old) → Bidders (auctionOf t n bids windows) 1
       → EarliestIn t (auctionOf t n bids windows) m 1 → IsRefusal (OneBidder m) old new o → OneAnswer k t n bids windows old new o
   award : Callable k t n bids windows (length old) → Bidders (auctionOf t n bids windows) 2
-      → IsAward k (auctionOf t n bids windows) old new o → OneAnswer k t n bids windows old new o
+      → IsAward (rule k) (auctionOf t n bids windows) old new o → OneAnswer k t n bids windows old new o
 
--- the winners of a single tender: bid i is bit i of the set
+-- the winners by least cost: bid i is bit i of the set
 pub record LeastCover (A : Auction) (rows : List AwardRow) (totals : Totals) : Type 0 where
   pub set : ℕ
   pub below : set < 2 ^ length (A .prices)
@@ -73,7 +73,7 @@ pub record LeastCover (A : Auction) (rows : List AwardRow) (totals : Totals) : T
   pub ties : (s : ℕ) → s < 2 ^ length (A .prices) → coversIn A s ≡ true → sets.cost (A .prices) s ≡ totals .cost
       → (s ≡ set → ⊥) → Stands set s
 
--- the winners of either kind cover: each minute of the tender, cell x, is in a winner's windows
+-- the winners by either rule cover: each minute of the tender, cell x, is in a winner's windows
 pub record WinnerAt (A : Auction) (o : Outcome) (x : ℕ) : Type 0 where
   pub who : ℕ
   pub inside : who < A .owners

@@ -18,7 +18,7 @@ use Rattle.award_check.specs.Faults.{faultOf}
 use Rattle.award_check.specs.Auction.{Auction, auctionOf}
 use Rattle.award_check.specs.AuctionLaws.{owners-are, entries, price-named, at-own-price, auction-alike}
 use Rattle.award_check.specs.Alike.{Alike}
-use Rattle.award_plain.specs.Award.{won, cents, awarded, refused, uncovered, lone, settled, awardOf}
+use Rattle.award_plain.specs.Award.{rule, won, cents, awarded, refused, uncovered, lone, settled, awardOf}
 use Rattle.award_plain.specs.AwardLaws.{award-none, AwardOn, spared}
 use Rattle.award.specs.Gain.{rowFor, gain, AtMost}
 use Rattle.award.specs.SettleLaws.{settled-honest, row-filled, rowIn, fair}
@@ -38,28 +38,28 @@ module _ (k : Kind) (t : Tender) (n i : ℕ) (bids windows : List ℕ) (inside :
       (go (ltb lent n))
     where
       go : (b : Bool) → AtMost (gain (getD bids (bidWidth * i + 1) 0)
-          (rowFor (cond b (refused RowsTooFew) (settled k (auctionOf t n bids′ windows′) (uncovered t) (lone t))) i))
-          (gain (getD bids (bidWidth * i + 1) 0) (rowFor (cond b (refused RowsTooFew) (settled k A (uncovered t) (lone t))) i))
+          (rowFor (cond b (refused RowsTooFew) (settled (rule k) (auctionOf t n bids′ windows′) (uncovered t) (lone t))) i))
+          (gain (getD bids (bidWidth * i + 1) 0) (rowFor (cond b (refused RowsTooFew) (settled (rule k) A (uncovered t) (lone t))) i))
       go true = omega arith
       go false = rw (auction-alike k t n i bids windows bids′ windows′ inside f a, ← price-named t n bids windows i inside)
-          (settled-honest k A i (getD bids′ (bidWidth * i + 1) 0) (uncovered t) (lone t) (rw (owners-are t n bids windows) inside)
+          (settled-honest (rule k) A i (getD bids′ (bidWidth * i + 1) 0) (uncovered t) (lone t) (rw (owners-are t n bids windows) inside)
           (entries t n bids windows ∙ sym (owners-are t n bids windows)))
 
 module _ (k : Kind) (t : Tender) (n : ℕ) (bids windows : List ℕ) (lent : ℕ) (rows : List AwardRow) (totals : Totals)
     (w : AwardOn k t n bids windows lent rows totals) where
-  pub row-is : (i : ℕ) → i < n → rowFor (awarded rows totals) i ≡ rowIn k (auctionOf t n bids windows) i
+  pub row-is : (i : ℕ) → i < n → rowFor (awarded rows totals) i ≡ rowIn (rule k) (auctionOf t n bids windows) i
   row-is i l = ap (λ rs. rowFor (awarded rs totals) i) (w .settles .rows-are)
-      ∙ row-filled k (auctionOf t n bids windows) i totals (rw (owners-are t n bids windows) l)
+      ∙ row-filled (rule k) (auctionOf t n bids windows) i totals (rw (owners-are t n bids windows) l)
 
   pub row-fair : (i : ℕ) → i < n → rowFor (awarded rows totals) i .won ≡ true
       → getD bids (bidWidth * i + 1) 0 ≤ rowFor (awarded rows totals) i .cents
   row-fair i l e =
       let h = fair (auctionOf t n bids windows) i (rw (entries t n bids windows) l)
-      (spared k t n bids windows lent rows totals w i) k (getD (auctionOf t n bids windows .prices) i 0) in
+      (spared k t n bids windows lent rows totals w i) (rule k) (getD (auctionOf t n bids windows .prices) i 0) in
       rw (row-is i l, ← price-named t n bids windows i l)
       (go (rw (row-is i l) at e) (rw (at-own-price i (auctionOf t n bids windows)) at h))
     where
-      go : won k (auctionOf t n bids windows) i ≡ true → when (won k (auctionOf t n bids windows) i)
-          (getD (auctionOf t n bids windows .prices) i 0) ≤ cents k (auctionOf t n bids windows) i →
-          getD (auctionOf t n bids windows .prices) i 0 ≤ cents k (auctionOf t n bids windows) i
+      go : won (rule k) (auctionOf t n bids windows) i ≡ true → when (won (rule k) (auctionOf t n bids windows) i)
+          (getD (auctionOf t n bids windows .prices) i 0) ≤ cents (rule k) (auctionOf t n bids windows) i →
+          getD (auctionOf t n bids windows .prices) i 0 ≤ cents (rule k) (auctionOf t n bids windows) i
       go f h = rw f at h

@@ -23,21 +23,31 @@ use Rattle.award_check.specs.Cells.{minuteOf}
 use Rattle.award_check.specs.Auction.{Auction, auctionOf}
 use Rattle.tender.specs.declared.AwardRow.{AwardRow}
 
+-- the rules by which tenders are awarded
+pub data Rule : Type 0 where
+  leastCost : Rule
+  greedy : Rule
+
+-- the rule of a kind
+abbrev pub rule : Kind → Rule
+rule Single = leastCost
+rule Multi = greedy
+
 -- whether a set of entries, entry i its bit i, covers the tender
 abbrev pub coversIn : Auction → ℕ → Bool
 coversIn A = covers (A .has) (length (A .prices)) (A .cells)
 
--- entry i wins in a single tender if it is in the least cover, in a multi tender if the greedy run takes it
-unfoldable pub won : Kind → Auction → ℕ → Bool
+-- by least cost entry i wins if it is in the least cover, by the greedy rule if the greedy run takes it
+unfoldable pub won : Rule → Auction → ℕ → Bool
 unfolding bit covers winners cells wins
-won Single A i = bit (winners (coversIn A) (A .prices)) i
-won Multi A i = wins (A .has) (A .prices) (cells (A .cells)) i
+won leastCost A i = bit (winners (coversIn A) (A .prices)) i
+won greedy A i = wins (A .has) (A .prices) (cells (A .cells)) i
 
 -- and is paid by document 000's formula 8, or the largest whole price with which it would still win
-unfoldable pub cents : Kind → Auction → ℕ → ℕ
+unfoldable pub cents : Rule → Auction → ℕ → ℕ
 unfolding covers vcgPaid cells criticalPaid
-cents Single A i = vcgPaid (coversIn A) (A .prices) i
-cents Multi A i = criticalPaid (A .has) (A .prices) (cells (A .cells)) i
+cents leastCost A i = vcgPaid (coversIn A) (A .prices) i
+cents greedy A i = criticalPaid (A .has) (A .prices) (cells (A .cells)) i
 
 pub data Outcome : Type 0 where
   -- the rows filled, and the totals
@@ -45,16 +55,16 @@ pub data Outcome : Type 0 where
   refused : Refusal → Outcome
 
 -- one award row for each owner's bid, in entry order
-unfoldable pub awardRows : Kind → Auction → List AwardRow
+unfoldable pub awardRows : Rule → Auction → List AwardRow
 unfolding won cents listed
-awardRows k A = listed (A .owners) (λ i. record { won = won k A i; cents = cents k A i })
+awardRows r A = listed (A .owners) (λ i. record { won = won r A i; cents = cents r A i })
 
 -- the winners' cost, and the sum paid to owners
-unfoldable pub totalsOf : Kind → Auction → Totals
+unfoldable pub totalsOf : Rule → Auction → Totals
 unfolding won cents listed sum
-totalsOf k A = record {
-  cost = sum (listed (length (A .prices)) (λ i. when (won k A i) (getD (A .prices) i 0)));
-  paid = sum (listed (A .owners) (cents k A));
+totalsOf r A = record {
+  cost = sum (listed (length (A .prices)) (λ i. when (won r A i) (getD (A .prices) i 0)));
+  paid = sum (listed (A .owners) (cents r A));
 }
 
 -- 11 of a cell: it is named by its minute
@@ -74,10 +84,10 @@ thinned bare alone nothing (found x) o = refused (alone x)
 thinned bare alone nothing nothing o = o
 
 -- refused at the earliest cell in no bid, else at the earliest in exactly one, else the award
-unfoldable pub settled : Kind → Auction → (ℕ → Refusal) → (ℕ → Refusal) → Outcome
+unfoldable pub settled : Rule → Auction → (ℕ → Refusal) → (ℕ → Refusal) → Outcome
 unfolding thinned cellWith awardRows totalsOf
-settled k A bare alone = thinned bare alone (cellWith (A .has) (A .owners) (A .cells) 0) (cellWith (A .has) (A .owners) (A .cells) 1)
-    (awarded (awardRows k A) (totalsOf k A))
+settled r A bare alone = thinned bare alone (cellWith (A .has) (A .owners) (A .cells) 0) (cellWith (A .has) (A .owners) (A .cells) 1)
+    (awarded (awardRows r A) (totalsOf r A))
 
 unfoldable pub judged : Option ℕ → Outcome → Outcome
 judged none o = o
@@ -87,7 +97,7 @@ judged (some row) o = refused (BadTables row)
 unfoldable pub awardOf : Kind → Tender → ℕ → List ℕ → List ℕ → ℕ → Outcome
 unfolding judged faultOf settled auctionOf uncovered lone
 awardOf k t n bids windows lent = judged (faultOf k t n bids windows)
-    (cond (ltb lent n) (refused RowsTooFew) (settled k (auctionOf t n bids windows) (uncovered t) (lone t)))
+    (cond (ltb lent n) (refused RowsTooFew) (settled (rule k) (auctionOf t n bids windows) (uncovered t) (lone t)))
 
 -- the refusal's number and place; 0 of an award
 unfoldable pub outcomeNumber : Outcome → ℕ

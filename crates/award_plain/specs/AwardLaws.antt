@@ -9,7 +9,6 @@ use native.Mathlib.Omega.{arith}
 use lib.ListN.{length}
 use lib.Dec.{ltb}
 use Rattle.tender.specs.declared.Kind.{Kind}
-use Rattle.tender.specs.declared.Kind.the-variants.{Single, Multi}
 use Rattle.tender.specs.declared.Tender.{Tender}
 use Rattle.tender.specs.declared.Totals.{Totals}
 use Rattle.tender.specs.declared.AwardRow.{AwardRow}
@@ -26,60 +25,60 @@ use Rattle.award_check.specs.Faults.{faultOf}
 use Rattle.award_check.specs.Auction.{Auction, auctionOf}
 use Rattle.award_check.specs.AuctionLaws.{owners-are, entries}
 use Rattle.award_plain.specs.Award.{won, cents, Outcome, awarded, refused, awardRows, totalsOf, thinned, settled, judged, awardOf}
-use Rattle.award_plain.specs.Award.{uncovered, lone, outcomeNumber}
+use Rattle.award_plain.specs.Award.{Rule, leastCost, greedy, rule, uncovered, lone, outcomeNumber}
 
-pub won-single : (A : Auction) (i n : ℕ) → length (A .prices) ≡ n
-    → won Single A i ≡ bit (winners (covers (A .has) n (A .cells)) (A .prices)) i
+pub won-least : (A : Auction) (i n : ℕ) → length (A .prices) ≡ n
+    → won leastCost A i ≡ bit (winners (covers (A .has) n (A .cells)) (A .prices)) i
 unfolding won
-won-single A i n e = rw (← e)
+won-least A i n e = rw (← e)
 
-pub cents-single : (A : Auction) (i n : ℕ) → length (A .prices) ≡ n
-    → cents Single A i ≡ vcgPaid (covers (A .has) n (A .cells)) (A .prices) i
+pub cents-least : (A : Auction) (i n : ℕ) → length (A .prices) ≡ n
+    → cents leastCost A i ≡ vcgPaid (covers (A .has) n (A .cells)) (A .prices) i
 unfolding cents
-cents-single A i n e = rw (← e)
+cents-least A i n e = rw (← e)
 
-pub won-multi : (A : Auction) (i : ℕ) → won Multi A i ≡ wins (A .has) (A .prices) (cells (A .cells)) i
+pub won-greedy : (A : Auction) (i : ℕ) → won greedy A i ≡ wins (A .has) (A .prices) (cells (A .cells)) i
 unfolding won
-won-multi A i = refl
+won-greedy A i = refl
 
-pub cents-multi : (A : Auction) (i : ℕ) → cents Multi A i ≡ criticalPaid (A .has) (A .prices) (cells (A .cells)) i
+pub cents-greedy : (A : Auction) (i : ℕ) → cents greedy A i ≡ criticalPaid (A .has) (A .prices) (cells (A .cells)) i
 unfolding cents
-cents-multi A i = refl
+cents-greedy A i = refl
 
 -- of an auction
 
-pub settled-is : (k : Kind) (A : Auction) (bare alone : ℕ → Refusal) (x y : Found) → cellWith (A .has) (A .owners) (A .cells) 0 ≡ x
+pub settled-is : (r : Rule) (A : Auction) (bare alone : ℕ → Refusal) (x y : Found) → cellWith (A .has) (A .owners) (A .cells) 0 ≡ x
     → cellWith (A .has) (A .owners) (A .cells) 1 ≡ y
-    → settled k A bare alone ≡ thinned bare alone x y (awarded (awardRows k A) (totalsOf k A))
+    → settled r A bare alone ≡ thinned bare alone x y (awarded (awardRows r A) (totalsOf r A))
 unfolding settled
-settled-is k A bare alone x y e f = rw (e, f)
+settled-is r A bare alone x y e f = rw (e, f)
 
 -- what an award that is not refused says
-pub record AwardOver (k : Kind) (A : Auction) (rows : List AwardRow) (totals : Totals) : Type 0 where
+pub record AwardOver (r : Rule) (A : Auction) (rows : List AwardRow) (totals : Totals) : Type 0 where
   pub spare : (i : ℕ) → Spare (A .has) (A .owners) (A .cells) i
-  pub rows-are : rows ≡ awardRows k A
-  pub totals-are : totals ≡ totalsOf k A
+  pub rows-are : rows ≡ awardRows r A
+  pub totals-are : totals ≡ totalsOf r A
 
-pub settled-awarded : (k : Kind) (A : Auction) (bare alone : ℕ → Refusal) (rows : List AwardRow) (totals : Totals)
-    → settled k A bare alone ≡ awarded rows totals → AwardOver k A rows totals
+pub settled-awarded : (r : Rule) (A : Auction) (bare alone : ℕ → Refusal) (rows : List AwardRow) (totals : Totals)
+    → settled r A bare alone ≡ awarded rows totals → AwardOver r A rows totals
 unfolding thinned
-settled-awarded k A bare alone rows totals h =
+settled-awarded r A bare alone rows totals h =
     go (cellWith (A .has) (A .owners) (A .cells) 0) (cellWith (A .has) (A .owners) (A .cells) 1) refl refl
   where
     go : (x y : Found) → cellWith (A .has) (A .owners) (A .cells) 0 ≡ x → cellWith (A .has) (A .owners) (A .cells) 1 ≡ y
-        → AwardOver k A rows totals
-    go (found x) y e f = let z = sym (settled-is k A bare alone (found x) y e f) ∙ h in let z : _≡_ {A = ℕ} 0 1 = cc in
+        → AwardOver r A rows totals
+    go (found x) y e f = let z = sym (settled-is r A bare alone (found x) y e f) ∙ h in let z : _≡_ {A = ℕ} 0 1 = cc in
         absurd (omega arith)
-    go nothing (found x) e f = let z = sym (settled-is k A bare alone nothing (found x) e f) ∙ h in let z : _≡_ {A = ℕ} 0 1 = cc in
+    go nothing (found x) e f = let z = sym (settled-is r A bare alone nothing (found x) e f) ∙ h in let z : _≡_ {A = ℕ} 0 1 = cc in
         absurd (omega arith)
-    go nothing nothing e f = let z = sym (settled-is k A bare alone nothing nothing e f) ∙ h in
+    go nothing nothing e f = let z = sym (settled-is r A bare alone nothing nothing e f) ∙ h in
         record { spare = enough-spare (A .has) (A .owners) (A .cells) e f; rows-are = cc; totals-are = cc }
 
 -- over tables
 
 award-is : (k : Kind) (t : Tender) (n : ℕ) (bids windows : List ℕ) (lent : ℕ) → awardOf k t n bids windows lent
     ≡ judged (faultOf k t n bids windows) (cond (ltb lent n) (refused RowsTooFew)
-    (settled k (auctionOf t n bids windows) (uncovered t) (lone t)))
+    (settled (rule k) (auctionOf t n bids windows) (uncovered t) (lone t)))
 unfolding awardOf
 award-is k t n bids windows lent = refl
 
@@ -90,7 +89,7 @@ judged-none (some p) a e = let z : _≡_ {A = ℕ} 0 1 = cc in absurd (omega ari
 
 pub award-none : (k : Kind) (t : Tender) (n : ℕ) (bids windows : List ℕ) (lent : ℕ) → faultOf k t n bids windows ≡ none
     → awardOf k t n bids windows lent
-    ≡ cond (ltb lent n) (refused RowsTooFew) (settled k (auctionOf t n bids windows) (uncovered t) (lone t))
+    ≡ cond (ltb lent n) (refused RowsTooFew) (settled (rule k) (auctionOf t n bids windows) (uncovered t) (lone t))
 award-none k t n bids windows lent e = award-is k t n bids windows lent ∙ judged-none (faultOf k t n bids windows) _ e
 
 -- of the award rows lent it matters only whether there is one for every bid
@@ -121,11 +120,12 @@ no-fault k t n bids windows lent a e h = judged-nine (faultOf k t n bids windows
 pub award-settles : (k : Kind) (t : Tender) (n : ℕ) (bids windows : List ℕ) (lent : ℕ) → faultOf k t n bids windows ≡ none
     → ltb lent n ≡ false → (x y : Found) → cellWith (auctionOf t n bids windows .has) n (auctionOf t n bids windows .cells) 0 ≡ x
     → cellWith (auctionOf t n bids windows .has) n (auctionOf t n bids windows .cells) 1 ≡ y → awardOf k t n bids windows lent
-    ≡ thinned (uncovered t) (lone t) x y (awarded (awardRows k (auctionOf t n bids windows)) (totalsOf k (auctionOf t n bids windows)))
+    ≡ thinned (uncovered t) (lone t) x y
+    (awarded (awardRows (rule k) (auctionOf t n bids windows)) (totalsOf (rule k) (auctionOf t n bids windows)))
 award-settles k t n bids windows lent f g x y d e =
     award-none k t n bids windows lent f
-    ∙ ap (λ z. cond z (refused RowsTooFew) (settled k (auctionOf t n bids windows) (uncovered t) (lone t))) g
-    ∙ settled-is k (auctionOf t n bids windows) (uncovered t) (lone t) x y (rw (owners-are t n bids windows) d)
+    ∙ ap (λ z. cond z (refused RowsTooFew) (settled (rule k) (auctionOf t n bids windows) (uncovered t) (lone t))) g
+    ∙ settled-is (rule k) (auctionOf t n bids windows) (uncovered t) (lone t) x y (rw (owners-are t n bids windows) d)
     (rw (owners-are t n bids windows) e)
 
 -- what an answer that awards says
@@ -133,7 +133,7 @@ pub record AwardOn (k : Kind) (t : Tender) (n : ℕ) (bids windows : List ℕ) (
     (totals : Totals) : Type 0 where
   pub sound : faultOf k t n bids windows ≡ none
   pub enough : ltb lent n ≡ false
-  pub settles : AwardOver k (auctionOf t n bids windows) rows totals
+  pub settles : AwardOver (rule k) (auctionOf t n bids windows) rows totals
 
 pub award-awarded : (k : Kind) (t : Tender) (n : ℕ) (bids windows : List ℕ) (lent : ℕ) (rows : List AwardRow) (totals : Totals)
     → awarded rows totals ≡ awardOf k t n bids windows lent → AwardOn k t n bids windows lent rows totals
@@ -143,13 +143,13 @@ award-awarded k t n bids windows lent rows totals e =
     go f (ltb lent n) refl (sym (award-none k t n bids windows lent f) ∙ sym e)
   where
     go : faultOf k t n bids windows ≡ none → (b : Bool) → ltb lent n ≡ b
-        → cond b (refused RowsTooFew) (settled k (auctionOf t n bids windows) (uncovered t) (lone t)) ≡ awarded rows totals
+        → cond b (refused RowsTooFew) (settled (rule k) (auctionOf t n bids windows) (uncovered t) (lone t)) ≡ awarded rows totals
         → AwardOn k t n bids windows lent rows totals
     go f true d h = let z : _≡_ {A = ℕ} 0 1 = cc in absurd (omega arith)
     go f false d h = record {
       sound = f;
       enough = d;
-      settles = settled-awarded k (auctionOf t n bids windows) (uncovered t) (lone t) rows totals h;
+      settles = settled-awarded (rule k) (auctionOf t n bids windows) (uncovered t) (lone t) rows totals h;
     }
 
 module _ (k : Kind) (t : Tender) (n : ℕ) (bids windows : List ℕ) (lent : ℕ) (rows : List AwardRow) (totals : Totals)

@@ -10,7 +10,6 @@ use lib.ListN.{length, getD, drop, List·getD-append}
 use lib.Dec.{eqb}
 use borrow.Author.Tests.{lt-ltb, le-ltb}
 use Rattle.tender.specs.declared.Kind.{Kind}
-use Rattle.tender.specs.declared.Kind.the-variants.{Single, Multi}
 use Rattle.tender.specs.declared.Tender.{Tender}
 use Rattle.tender.specs.declared.Totals.{Totals}
 use Rattle.tender.specs.declared.Refusal.{Refusal}
@@ -33,9 +32,9 @@ use Rattle.award_check.specs.AuctionLaws.{owners-are, entries}
 use Rattle.tender.specs.declared.Answer.{Answer}
 use Rattle.tender.specs.declared.Answer.the-variants.{Awarded, Refused}
 use Rattle.award_plain.specs.Award.{coversIn, won, cents, awarded, refused, awardRows, totalsOf, thinned, settled, awardOf}
-use Rattle.award_plain.specs.Award.{uncovered, lone}
+use Rattle.award_plain.specs.Award.{leastCost, greedy, rule, uncovered, lone}
 use Rattle.award_plain.specs.Plain.{rowsIn, toldIn, wonAfter, centsAfter, PlainPromise}
-use Rattle.award_plain.specs.AwardLaws.{won-single, cents-single, won-multi, cents-multi, award-none, award-lent, award-nine}
+use Rattle.award_plain.specs.AwardLaws.{won-least, cents-least, won-greedy, cents-greedy, award-none, award-lent, award-nine}
 use Rattle.award_plain.specs.AwardLaws.{award-settles}
 
 same-totals : (a b : Totals) → a .cost ≡ b .cost → a .paid ≡ b .paid → a ≡ b
@@ -64,7 +63,7 @@ module _ (k : Kind) (t : Tender) (n : ℕ) (bids windows : List ℕ) (lent : ℕ
   module _ (f : faultOf k t n bids windows ≡ none) where
     pub ten : lent < n → PlainPromise k t n bids windows lent ow oc ow oc (Refused RowsTooFew)
     ten l = refuses RowsTooFew (award-none k t n bids windows lent f
-        ∙ ap (λ b. cond b (refused RowsTooFew) (settled k A (uncovered t) (lone t))) (lt-ltb lent n l))
+        ∙ ap (λ b. cond b (refused RowsTooFew) (settled (rule k) A (uncovered t) (lone t))) (lt-ltb lent n l))
 
     module _ (enough : n ≤ lent) where
       pub eleven : (x : ℕ) → cellWith (A .has) n (A .cells) 0 ≡ found x
@@ -82,19 +81,20 @@ module _ (k : Kind) (t : Tender) (n : ℕ) (bids windows : List ℕ) (lent : ℕ
       -- a core settles by the flags w and the payments c, which are those of the definitions
       module _ (covered : cellWith (A .has) n (A .cells) 0 ≡ nothing) (doubled : cellWith (A .has) n (A .cells) 1 ≡ nothing)
           (w : ℕ → Bool) (c : ℕ → ℕ)
-          (w-is : (i : ℕ) → i < n → w i ≡ won k A i) (c-is : (i : ℕ) → i < n → c i ≡ cents k A i)
+          (w-is : (i : ℕ) → i < n → w i ≡ won (rule k) A i) (c-is : (i : ℕ) → i < n → c i ≡ cents (rule k) A i)
           (nw nc : List ℕ) (totals : Totals) (s : core.Settled w c ps ow oc nw nc (totals .cost) (totals .paid)) where
         owned : length ps ≡ A .owners
         owned = size ∙ sym (owners-are t n bids windows)
 
-        rows-are : rowsIn n nw nc ≡ awardRows k A
+        rows-are : rowsIn n nw nc ≡ awardRows (rule k) A
         unfolding rowsIn awardRows
         rows-are =
             listed-same n (λ i. record { won = eqb (getD nw i 0) 1; cents = getD nc i 0 })
-            (λ i. record { won = won k A i; cents = cents k A i }) (λ i l. rw (flag-at i l, pay-at i l))
-            ∙ ap (λ (m : ℕ). listed m (λ i. record { won = won k A i; cents = cents k A i })) (sym (owners-are t n bids windows))
+            (λ i. record { won = won (rule k) A i; cents = cents (rule k) A i }) (λ i l. rw (flag-at i l, pay-at i l))
+            ∙ ap (λ (m : ℕ). listed m (λ i. record { won = won (rule k) A i; cents = cents (rule k) A i }))
+            (sym (owners-are t n bids windows))
           where
-            flag-at : (i : ℕ) → i < n → eqb (getD nw i 0) 1 ≡ won k A i
+            flag-at : (i : ℕ) → i < n → eqb (getD nw i 0) 1 ≡ won (rule k) A i
             flag-at i l =
                 ap (λ (v : ℕ). eqb v 1) (ap (λ (zs : List ℕ). getD zs i 0) (s .flags)
                 ∙ List·getD-append (listed (length ps) (λ i. when (w i) 1)) (drop (length ps) ow) 0 i
@@ -102,55 +102,56 @@ module _ (k : Kind) (t : Tender) (n : ℕ) (bids windows : List ℕ) (lent : ℕ
                 ∙ getD-listed (length ps) (λ i. when (w i) 1) i 0 (omega (arith, size)))
                 ∙ when-is (w i) ∙ w-is i l
 
-            pay-at : (i : ℕ) → i < n → getD nc i 0 ≡ cents k A i
+            pay-at : (i : ℕ) → i < n → getD nc i 0 ≡ cents (rule k) A i
             pay-at i l =
                 ap (λ (zs : List ℕ). getD zs i 0) (s .payments)
                 ∙ List·getD-append (listed (length ps) c) (drop (length ps) oc) 0 i
                 (omega (arith, length-listed (length ps) c, size))
                 ∙ getD-listed (length ps) c i 0 (omega (arith, size)) ∙ c-is i l
 
-        cost-is : totals .cost ≡ totalsOf k A .cost
+        cost-is : totals .cost ≡ totalsOf (rule k) A .cost
         unfolding totalsOf
-        cost-is = s .cost-is ∙ ap sum (listed-same (length ps) (λ i. when (w i) (getD ps i 0)) (λ i. when (won k A i) (getD ps i 0))
+        cost-is = s .cost-is
+            ∙ ap sum (listed-same (length ps) (λ i. when (w i) (getD ps i 0)) (λ i. when (won (rule k) A i) (getD ps i 0))
             (λ i l. ap (λ b. when b (getD ps i 0)) (w-is i (omega (arith, size)))))
 
-        paid-is : totals .paid ≡ totalsOf k A .paid
+        paid-is : totals .paid ≡ totalsOf (rule k) A .paid
         unfolding totalsOf
-        paid-is = s .paid-is ∙ ap sum (listed-same (length ps) c (cents k A) (λ i l. c-is i (omega (arith, size)))
-            ∙ ap (λ (m : ℕ). listed m (cents k A)) owned)
+        paid-is = s .paid-is ∙ ap sum (listed-same (length ps) c (cents (rule k) A) (λ i l. c-is i (omega (arith, size)))
+            ∙ ap (λ (m : ℕ). listed m (cents (rule k) A)) owned)
 
-        outcome-is : toldIn n nw nc (Awarded totals) ≡ awarded (awardRows k A) (totalsOf k A)
+        outcome-is : toldIn n nw nc (Awarded totals) ≡ awarded (awardRows (rule k) A) (totalsOf (rule k) A)
         unfolding toldIn
         outcome-is = ap (λ rows. awarded rows totals) rows-are
-            ∙ ap (awarded (awardRows k A)) (same-totals totals (totalsOf k A) cost-is paid-is)
+            ∙ ap (awarded (awardRows (rule k) A)) (same-totals totals (totalsOf (rule k) A) cost-is paid-is)
 
-        rows-count : length (awardRows k A) ≡ length ps
+        rows-count : length (awardRows (rule k) A) ≡ length ps
         unfolding awardRows
         rows-count = length-listed (A .owners) _ ∙ sym owned
 
-        flags-are : map (λ r. when (r .won) 1) (awardRows k A) ≡ listed (length ps) (λ i. when (w i) 1)
+        flags-are : map (λ r. when (r .won) 1) (awardRows (rule k) A) ≡ listed (length ps) (λ i. when (w i) 1)
         unfolding awardRows
         flags-are =
-            map-listed (A .owners) (λ i. record { won = won k A i; cents = cents k A i }) (λ r. when (r .won) 1)
-            ∙ ap (λ (m : ℕ). listed m (λ i. when (won k A i) 1)) (sym owned)
-            ∙ listed-same (length ps) (λ i. when (won k A i) 1) (λ i. when (w i) 1)
+            map-listed (A .owners) (λ i. record { won = won (rule k) A i; cents = cents (rule k) A i }) (λ r. when (r .won) 1)
+            ∙ ap (λ (m : ℕ). listed m (λ i. when (won (rule k) A i) 1)) (sym owned)
+            ∙ listed-same (length ps) (λ i. when (won (rule k) A i) 1) (λ i. when (w i) 1)
             (λ i l. ap (λ b. when b 1) (sym (w-is i (omega (arith, size)))))
 
-        pays-are : map (λ r. r .cents) (awardRows k A) ≡ listed (length ps) c
+        pays-are : map (λ r. r .cents) (awardRows (rule k) A) ≡ listed (length ps) c
         unfolding awardRows
         pays-are =
-            map-listed (A .owners) (λ i. record { won = won k A i; cents = cents k A i }) (λ r. r .cents)
-            ∙ ap (λ (m : ℕ). listed m (cents k A)) (sym owned)
-            ∙ listed-same (length ps) (cents k A) c (λ i l. sym (c-is i (omega (arith, size))))
+            map-listed (A .owners) (λ i. record { won = won (rule k) A i; cents = cents (rule k) A i }) (λ r. r .cents)
+            ∙ ap (λ (m : ℕ). listed m (cents (rule k) A)) (sym owned)
+            ∙ listed-same (length ps) (cents (rule k) A) c (λ i l. sym (c-is i (omega (arith, size))))
 
-        won-after : nw ≡ wonAfter ow (awarded (awardRows k A) (totalsOf k A))
+        won-after : nw ≡ wonAfter ow (awarded (awardRows (rule k) A) (totalsOf (rule k) A))
         unfolding wonAfter
-        won-after = s .flags ∙ sym (ap (λ l. l ++ drop (length (awardRows k A)) ow) flags-are
+        won-after = s .flags ∙ sym (ap (λ l. l ++ drop (length (awardRows (rule k) A)) ow) flags-are
             ∙ ap (λ (m : ℕ). listed (length ps) (λ i. when (w i) 1) ++ drop m ow) rows-count)
 
-        cents-after : nc ≡ centsAfter oc (awarded (awardRows k A) (totalsOf k A))
+        cents-after : nc ≡ centsAfter oc (awarded (awardRows (rule k) A) (totalsOf (rule k) A))
         unfolding centsAfter
-        cents-after = s .payments ∙ sym (ap (λ l. l ++ drop (length (awardRows k A)) oc) pays-are
+        cents-after = s .payments ∙ sym (ap (λ l. l ++ drop (length (awardRows (rule k) A)) oc) pays-are
             ∙ ap (λ (m : ℕ). listed (length ps) c ++ drop m oc) rows-count)
 
         pub awards : PlainPromise k t n bids windows lent ow oc nw nc (Awarded totals)
@@ -163,18 +164,18 @@ module _ (k : Kind) (t : Tender) (n : ℕ) (bids windows : List ℕ) (lent : ℕ
 
 -- what the two cores settle by is what the definitions say
 
-pub single-won : (A : Auction) (i : ℕ) → bit (winners (coversIn A) (A .prices)) i ≡ won Single A i
-single-won A i = sym (won-single A i (length (A .prices)) refl)
+pub single-won : (A : Auction) (i : ℕ) → bit (winners (coversIn A) (A .prices)) i ≡ won leastCost A i
+single-won A i = sym (won-least A i (length (A .prices)) refl)
 
-pub single-cents : (A : Auction) (i : ℕ) → vcgPaid (coversIn A) (A .prices) i ≡ cents Single A i
-single-cents A i = sym (cents-single A i (length (A .prices)) refl)
+pub single-cents : (A : Auction) (i : ℕ) → vcgPaid (coversIn A) (A .prices) i ≡ cents leastCost A i
+single-cents A i = sym (cents-least A i (length (A .prices)) refl)
 
-pub multi-won : (A : Auction) (i : ℕ) → wins (A .has) (A .prices) (cells (A .cells)) i ≡ won Multi A i
-multi-won A i = sym (won-multi A i)
+pub multi-won : (A : Auction) (i : ℕ) → wins (A .has) (A .prices) (cells (A .cells)) i ≡ won greedy A i
+multi-won A i = sym (won-greedy A i)
 
 pub multi-cents : (A : Auction) (i : ℕ) → i < length (A .prices) → Spare (A .has) (length (A .prices)) (A .cells) i
-    → roundsPaid (A .has) (A .prices) (cells (A .cells)) i ≡ cents Multi A i
-multi-cents A i l y = sym (cents-multi A i
+    → roundsPaid (A .has) (A .prices) (cells (A .cells)) i ≡ cents greedy A i
+multi-cents A i l y = sym (cents-greedy A i
     ∙ paid-by-rounds (A .has) (A .prices) (cells (A .cells)) i l (spare-bids (A .has) (length (A .prices)) (A .cells) i y (A .prices)))
 
 -- more award rows than bids change nothing

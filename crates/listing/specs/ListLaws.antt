@@ -27,7 +27,7 @@ use Rattle.award_check.specs.Auction.{Auction, auctionOf}
 use Rattle.award_check.specs.AuctionLaws.{auction-read}
 use Rattle.award_check.specs.Faults.{faultOf}
 use Rattle.award_check.specs.TextLaws.{never-nine}
-use Rattle.award_plain.specs.Award.{Outcome, uncovered, lone, thinned, settled, awardOf, outcomeNumber, outcomePlace}
+use Rattle.award_plain.specs.Award.{rule, Outcome, uncovered, lone, thinned, settled, awardOf, outcomeNumber, outcomePlace}
 use Rattle.award.specs.Gain.{lost}
 use Rattle.award_plain.specs.AwardLaws.{settled-is, award-none}
 use Rattle.tender.specs.declared.Answer.{Answer}
@@ -70,16 +70,16 @@ module _ (T : Tender) (R : List Row) (W : List Window) (rules : Rules T R W) whe
       A = auctionOf T (length R) (flatRows R) (flatWindows W)
 
       o : Outcome
-      o = settled (T .kind) A (uncovered T) (lone T)
+      o = settled (rule (T .kind)) A (uncovered T) (lone T)
 
       go : (x y : Found) → cellWith (A .has) (A .owners) (A .cells) 0 ≡ x → cellWith (A .has) (A .owners) (A .cells) 1 ≡ y
           → (outcomeNumber o ≡ 0)
           ⊎ ((outcomeNumber o ≡ numberOf (MinuteUncovered (outcomePlace o)))
           ⊎ (outcomeNumber o ≡ numberOf (OneBidder (outcomePlace o))))
-      go (found x) y e f = inr (inl (ap outcomeNumber (settled-is (T .kind) A (uncovered T) (lone T) (found x) y e f)))
+      go (found x) y e f = inr (inl (ap outcomeNumber (settled-is (rule (T .kind)) A (uncovered T) (lone T) (found x) y e f)))
       go nothing (found x) e f = inr (inr (ap outcomeNumber
-          (settled-is (T .kind) A (uncovered T) (lone T) nothing (found x) e f)))
-      go nothing nothing e f = inl (ap outcomeNumber (settled-is (T .kind) A (uncovered T) (lone T) nothing nothing e f))
+          (settled-is (rule (T .kind)) A (uncovered T) (lone T) nothing (found x) e f)))
+      go nothing nothing e f = inl (ap outcomeNumber (settled-is (rule (T .kind)) A (uncovered T) (lone T) nothing nothing e f))
 
 -- the lines that the code writes, from the numbers of the tables, are the list's
 

@@ -8,7 +8,6 @@ use mathlib.Core.Option.{some}
 use Prim.Native.Nat.{ℕ, _+_, _/_, _^_, _≤_, _<_, min}
 use lib.ListN.{length, getD, take}
 use lib.Dec.{leb}
-use Rattle.tender.specs.declared.Kind.the-variants.{Single, Multi}
 use Rattle.tender.specs.declared.Window.{Window}
 use Rattle.tender.specs.declared.Tender.{Tender}
 use Rattle.tender.specs.declared.AwardRow.{AwardRow}
@@ -27,7 +26,7 @@ use Rattle.reader_text.specs.Differ.{Word, DifferInPrice}
 use Rattle.award_check.specs.Cells.{noRow}
 use Rattle.award_check.specs.Auction.{atPrice}
 use Rattle.award_check.specs.Alike.{named, Alike}
-use Rattle.award_plain.specs.Award.{won, awarded, awardOf, outcomeNumber}
+use Rattle.award_plain.specs.Award.{leastCost, greedy, rule, won, awarded, awardOf, outcomeNumber}
 use Rattle.award_plain.specs.Award.{refused as refusal}
 use Rattle.award_plain.specs.AwardLaws.{award-lent}
 use Rattle.award.specs.Gain.{rowFor, gain, AtMost}
@@ -147,7 +146,7 @@ a-list-shows = shows-no-other
 module _ (c : AwardCall) where
   -- Where no rule is broken, each bid has an award row and each minute two bidders, the tender is awarded as defined.
   pub awarded-as-defined : CallableWith c → Bidders (auctionBy c) 2
-      → IsAward (c .kind) (auctionBy c) (c .rows-before) (c .rows-after) (toldBy c)
+      → IsAward (rule (c .kind)) (auctionBy c) (c .rows-before) (c .rows-after) (toldBy c)
   awarded-as-defined =
       one.awards (c .kind) (c .tender) (c .count) (c .bids) (c .windows) (c .rows-before) (c .rows-after) (c .answer) (c .promise)
 
@@ -164,22 +163,23 @@ module _ (c : AwardCall) (rows : List AwardRow) (totals : Totals) (told : toldBy
   winners-cover-all = outcome.all-served (c .kind) (c .tender) (c .count) (c .bids) (c .windows) (length (c .rows-before)) rows totals
       (rw told at (c .promise .answers))
 
-  -- In a single tender no covering set costs less, and ties fall as paper 01 says.
-  pub least-cost : c .kind ≡ Single → LeastCover (auctionBy c) rows totals
-  least-cost k = outcome.least-cover (c .tender) (c .count) (c .bids) (c .windows) (length (c .rows-before)) rows totals
-      (rw (told, k) at (c .promise .answers))
+  -- In a tender by least cost, as a single tender is, no covering set costs less, and ties fall as paper 01 says.
+  pub least-cost : rule (c .kind) ≡ leastCost → LeastCover (auctionBy c) rows totals
+  least-cost k = outcome.least-cover (c .kind) (c .tender) (c .count) (c .bids) (c .windows) (length (c .rows-before)) rows totals k
+      (rw told at (c .promise .answers))
 
-  -- A winner of a single tender is paid by document 000's formula 8.
-  pub paid-by-formula-8 : (i : ℕ) → c .kind ≡ Single → i < c .count → rowFor (awarded rows totals) i .won ≡ true →
+  -- A winner of such a tender is paid by document 000's formula 8.
+  pub paid-by-formula-8 : (i : ℕ) → rule (c .kind) ≡ leastCost → i < c .count → rowFor (awarded rows totals) i .won ≡ true →
       PaidByEight (auctionBy c) i (rowFor (awarded rows totals) i .cents) (totals .cost)
-  paid-by-formula-8 i k l = outcome.paid-by-eight (c .tender) (c .count) i (c .bids) (c .windows) (length (c .rows-before)) rows totals l
-      (rw (told, k) at (c .promise .answers))
+  paid-by-formula-8 i k l = outcome.paid-by-eight (c .kind) (c .tender) (c .count) i (c .bids) (c .windows) (length (c .rows-before))
+      rows totals l k (rw told at (c .promise .answers))
 
-  -- A winner of a multi tender is paid the largest whole price with which it would still win if all else stood.
-  pub paid-the-largest-price : (i : ℕ) → c .kind ≡ Multi → i < c .count → rowFor (awarded rows totals) i .won ≡ true
-      → (q : ℕ) → won Multi (atPrice i q (auctionBy c)) i ≡ leb q (rowFor (awarded rows totals) i .cents)
-  paid-the-largest-price i k l = outcome.largest-price (c .tender) (c .count) i (c .bids) (c .windows) (length (c .rows-before)) rows
-      totals l (rw (told, k) at (c .promise .answers))
+  -- In a tender by the greedy rule, as a multi tender is, a winner is paid the largest whole price with which it would still win if
+  -- all else stood.
+  pub paid-the-largest-price : (i : ℕ) → rule (c .kind) ≡ greedy → i < c .count → rowFor (awarded rows totals) i .won ≡ true
+      → (q : ℕ) → won greedy (atPrice i q (auctionBy c)) i ≡ leb q (rowFor (awarded rows totals) i .cents)
+  paid-the-largest-price i k l = outcome.largest-price (c .kind) (c .tender) (c .count) i (c .bids) (c .windows) (length (c .rows-before))
+      rows totals l k (rw told at (c .promise .answers))
 
 -- Of each bid of an accepted text a list shows the row that the award gave it: its bytes are read back.
 pub a-list-shows-the-award : (l : ListCall) (T : Tender) (R : List Row) (W : List Window) (i : ℕ) → 0 < l .answer

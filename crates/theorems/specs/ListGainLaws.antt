@@ -21,7 +21,7 @@ use Rattle.reader_text.specs.PriceLaws.{price-law}
 use Rattle.award_check.specs.Cells.{noRow}
 use Rattle.award_check.specs.Auction.{Auction, auctionOf}
 use Rattle.award_check.specs.Alike.{named}
-use Rattle.award_plain.specs.Award.{Outcome, awarded, refused, awardOf}
+use Rattle.award_plain.specs.Award.{rule, Outcome, awarded, refused, awardOf}
 use Rattle.award_plain.specs.AwardLaws.{award-awarded}
 use Rattle.award.specs.Gain.{lost, rowFor}
 use Rattle.award.specs.SettleLaws.{lost-nothing, rowIn}
@@ -52,15 +52,15 @@ module _ (T : Tender) (R : List Row) (W : List Window) (rules : Rules T R W) whe
       A : Auction
       A = auctionOf T (length R) (flatRows R) (flatWindows W)
 
-      row : (j : ℕ) → j < length R → getD rows j lost ≡ rowIn (T .kind) A j
+      row : (j : ℕ) → j < length R → getD rows j lost ≡ rowIn (rule (T .kind)) A j
       row j m = row-is (T .kind) T (length R) (flatRows R) (flatWindows W) (length R) rows totals
           (award-awarded (T .kind) T (length R) (flatRows R) (flatWindows W) (length R) rows totals e) j m
 
       small : (j : ℕ) → j < length R → getD rows j lost .cents < 10 ^ 20
-      small j m = rw (row j m) (cents-small (T .kind) A j (prices-sum T R W rules) (minutes-few T R W rules))
+      small j m = rw (row j m) (cents-small (rule (T .kind)) A j (prices-sum T R W rules) (minutes-few T R W rules))
 
       none : getD rows i lost .won ≡ false → getD rows i lost .cents ≡ 0
-      none w = ap (λ r. r .cents) (row i l) ∙ lost-nothing (T .kind) A i (sym (ap (λ r. r .won) (row i l)) ∙ w)
+      none w = ap (λ r. r .cents) (row i l) ∙ lost-nothing (rule (T .kind)) A i (sym (ap (λ r. r .won) (row i l)) ∙ w)
 
   refusal-shown : (i : ℕ) (r : Refusal) → rowShown (getD R i noRow .bidder) (listLines T R (refused r)) ≡ rowFor (refused r) i
   unfolding listLines rowFor

@@ -27,7 +27,7 @@ use Rattle.reader_text.specs.RulesLaws.{rules-law}
 use Rattle.award_check.specs.Auction.{Auction, auctionOf}
 use Rattle.award_check.specs.Faults.{faultOf}
 use Rattle.award_check.specs.TextLaws.{never-nine}
-use Rattle.award_plain.specs.Award.{Outcome, awarded, refused, awardRows, totalsOf, uncovered, lone, thinned, awardOf}
+use Rattle.award_plain.specs.Award.{rule, Outcome, awarded, refused, awardRows, totalsOf, uncovered, lone, thinned, awardOf}
 use Rattle.award_plain.specs.AwardLaws.{award-settles}
 use Rattle.spelling.specs.Lines.{pairLine, refusedWord}
 use Rattle.spelling.specs.LineLaws.{refused-line}
@@ -83,7 +83,7 @@ read-declined T R W rules r e =
     sound = rw (append-nil (flatRows R), append-nil (flatWindows W)) at (never-nine T R W [] [] rules)
 
     settles : (x y : Found) → cellWith (A .has) (length R) (A .cells) 0 ≡ x → cellWith (A .has) (length R) (A .cells) 1 ≡ y
-        → refused r ≡ thinned (uncovered T) (lone T) x y (awarded (awardRows (T .kind) A) (totalsOf (T .kind) A))
+        → refused r ≡ thinned (uncovered T) (lone T) x y (awarded (awardRows (rule (T .kind)) A) (totalsOf (rule (T .kind)) A))
     settles x y d f = sym e ∙ award-settles (T .kind) T (length R) (flatRows R) (flatWindows W) (length R) sound
         (le-ltb (length R) (length R) (omega arith)) x y d f
 

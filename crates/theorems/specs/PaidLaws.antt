@@ -9,7 +9,6 @@ use lib.ListN.{length, getD, set}
 use lib.Dec.{eqb}
 use borrow.Author.Tests.{eq-eqb}
 use Rattle.tender.specs.declared.Kind.{Kind}
-use Rattle.tender.specs.declared.Kind.the-variants.{Single, Multi}
 use Rattle.tender.specs.declared.Window.{Window}
 use Rattle.tender.specs.declared.Tender.{Tender}
 use Rattle.tender.specs.Tables.{Row, flatRows, flatWindows, bidWidth}
@@ -23,7 +22,7 @@ use Rattle.reader_text.specs.Rules.{RowsRules, Rules}
 use Rattle.award_check.specs.Cells.{noRow}
 use Rattle.award_check.specs.Auction.{Auction, auctionOf}
 use Rattle.award_check.specs.AuctionLaws.{minutes, entries, price-named}
-use Rattle.award_plain.specs.Award.{coversIn, cents}
+use Rattle.award_plain.specs.Award.{Rule, leastCost, greedy, coversIn, cents}
 
 -- payments
 
@@ -56,9 +55,9 @@ when-most : (t : Bool) (n : ℕ) → when t n ≤ n
 when-most true n = omega arith
 when-most false n = omega arith
 
-pub cents-small : (k : Kind) (A : Auction) (i : ℕ) → sum (A .prices) ≤ 100000000000 → A .cells ≤ 10080 → cents k A i < 10 ^ 20
+pub cents-small : (r : Rule) (A : Auction) (i : ℕ) → sum (A .prices) ≤ 100000000000 → A .cells ≤ 10080 → cents r A i < 10 ^ 20
 unfolding cents vcgPaid criticalPaid critical ceiling
-cents-small Single A i s l =
+cents-small leastCost A i s l =
     let ps = A .prices in
     let ok = coversIn A in
     omega (
@@ -66,7 +65,7 @@ cents-small Single A i s l =
       paid-most (bit (winners ok ps) i) (cost ps (winners (without i ok) ps)) (cost ps (winners ok ps)) (getD ps i 0),
       cost-most ps (winners (without i ok) ps),
     )
-cents-small Multi A i s l =
+cents-small greedy A i s l =
     let ps = A .prices in
     let cs = cells (A .cells) in
     omega (
