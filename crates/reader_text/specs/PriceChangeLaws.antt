@@ -14,7 +14,8 @@ use Rattle.tender.specs.declared.Tender.{Tender}
 use Rattle.tender.specs.Tables.{Row}
 use Rattle.reader_word.specs.Words.{andThen, cut, numeralOf, priceOf}
 use Rattle.reader_line.specs.Line.{BidLine, Line, tender, bid, windowsIn, bidOf, lineOf, linesOf}
-use Rattle.reader_text.specs.Read.{ReadOutcome, accepted, rowsFrom, allWindows, bidsOf, lineFault, bidFaultIn, bidFaultAfter, bidFault}
+use Rattle.reader_text.specs.Read.{ReadOutcome, accepted, rowsFrom, allWindows, bidsOf, lineFault, bidFaultIn, bidFaultAfter}
+use Rattle.reader_text.specs.Read.{bidFault}
 use Rattle.reader_text.specs.Read.{checked, tables, readLines, readText}
 use Rattle.reader_word.specs.CutLaws.{Pieces, cut-some}
 use Rattle.reader_text.specs.HeadLaws.{lines-begun}

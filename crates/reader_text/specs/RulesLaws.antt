@@ -24,7 +24,8 @@ use Rattle.reader_line.specs.LinePlainLaws.{both-true as and-split}
 use Rattle.tender.specs.declared.Refusal.{Refusal}
 use Rattle.tender.specs.declared.Refusal.the-variants.{OutsideLimits, TooMany, EmptyWindow, BidderRepeated, SeveralWindows}
 use Rattle.tender.specs.declared.Refusal.the-variants.{LateWindow}
-use Rattle.reader_text.specs.Read.{ReadOutcome, accepted, rowsFrom, allWindows, bidsOf, lineFault, bidFaultIn, bidFaultAfter, bidFault}
+use Rattle.reader_text.specs.Read.{ReadOutcome, accepted, rowsFrom, allWindows, bidsOf, lineFault, bidFaultIn, bidFaultAfter}
+use Rattle.reader_text.specs.Read.{bidFault}
 use Rattle.reader_text.specs.Read.{checked, tables, readText}
 use Rattle.reader_text.specs.FaultLaws.{every-lawful}
 use Rattle.reader_word.specs.CutLaws.{neither}

@@ -17,7 +17,8 @@ use Rattle.reader_line.specs.Line.{BidLine, Line, tender, bid, lineOf, linesOf}
 use Rattle.reader_word.specs.CutLaws.{Pieces, cut-some}
 use Rattle.reader_line.specs.SizeLaws.{line-windows}
 use Rattle.tender.specs.declared.Refusal.the-variants.{TextTooLong}
-use Rattle.reader_text.specs.Read.{ReadOutcome, accepted, refused, declinedBy, bidsOf, allWindows, readLines, readText, fitted, readInto}
+use Rattle.reader_text.specs.Read.{ReadOutcome, accepted, refused, declinedBy, bidsOf, allWindows, readLines, readText, fitted}
+use Rattle.reader_text.specs.Read.{readInto}
 use Rattle.reader_text.specs.ReadLaws.{never, read-lines}
 use Rattle.reader_text.specs.HeadLaws.{head-is, accepted-head}
 use Rattle.reader_text.specs.CountLaws.{counts-law}
