@@ -1,6 +1,8 @@
 pub mod Award
 pub mod Plain
+pub mod Sums
 pub mod AwardLaws
+pub mod SumsLaws
 pub mod PlainLaws
 pub mod MultiLaws
 pub mod PrefixLaws

@@ -31,6 +31,7 @@ use Rattle.award_check.specs.AuctionLaws.{entries, price-named}
 use Rattle.award_layout.specs.Orderly.{Orderly, PricesLaid, AllMasked}
 use Rattle.award_layout.specs.LayoutLaws.{orderly, timed, prices-laid, masks-have}
 use Rattle.tender.specs.declared.Answer.the-variants.{Awarded, Refused}
+use Rattle.award_plain.specs.Sums.{totalsIn}
 use Rattle.award_plain.specs.Plain.{PlainPromise}
 use Rattle.award_plain.specs.PlainLaws.{eleven, twelve, awards, multi-won, multi-cents}
 
@@ -107,17 +108,16 @@ module _ (t : Tender) (n w : ℕ) (bids windows ms ps ow oc : List ℕ) (f : fau
     words = d .words;
   }
 
-  pub spared : Says (has ms w) n (A .cells) Enough → (k : ℕ) → Spare (has ms w) (length ps) (A .cells) k
-  spared s = rw (p .count) (enough-spare (has ms w) n (A .cells) (s .0) (s .1))
-
-  pub settled : Says (has ms w) n (A .cells) Enough → (nw nc : List ℕ) (totals : Totals) →
-      Settled (wins (has ms w) ps (cells (A .cells))) (roundsPaid (has ms w) ps (cells (A .cells))) ps ow oc nw nc (totals .cost)
-      (totals .paid) →
+  pub settled : Says (has ms w) n (A .cells) Enough → (nw nc : List ℕ) (totals : Totals) → length ps ≤ length oc →
+      Settled (Spare (has ms w) (length ps) (A .cells)) (wins (has ms w) ps (cells (A .cells)))
+      (roundsPaid (has ms w) ps (cells (A .cells))) ps ow oc nw nc → totals ≡ totalsIn ps nw nc n →
       PlainPromise Multi t n bids windows n ow oc nw nc (Awarded totals)
-  settled s nw nc totals h =
+  settled s nw nc totals room h e =
       let h′ = rw same at s in
       let c : length (A .prices) ≡ n = entries t n bids windows in
-      awards Multi t n bids windows n ow oc f (omega arith) (h′ .0) (h′ .1) (wins (A .has) (A .prices) (cells (A .cells)))
-      (roundsPaid (A .has) (A .prices) (cells (A .cells))) (λ i l. multi-won A i)
-      (λ i l. multi-cents A i (omega arith) (rw c (enough-spare (A .has) n (A .cells) (h′ .0) (h′ .1) i))) nw nc totals
-      (rw (same, priced) at h)
+      let y : (i : ℕ) → Spare (A .has) (length (A .prices)) (A .cells) i =
+      rw c (enough-spare (A .has) n (A .cells) (h′ .0) (h′ .1)) in
+      awards Multi t n bids windows n ow oc f (omega arith) (h′ .0) (h′ .1) (Spare (A .has) (length (A .prices)) (A .cells))
+      (wins (A .has) (A .prices) (cells (A .cells))) (roundsPaid (A .has) (A .prices) (cells (A .cells))) (λ i l. y i)
+      (λ i l. multi-won A i) (λ i l. multi-cents A i (omega arith) (y i)) nw nc totals (rw priced at room)
+      (rw (same, priced) at h) (rw priced at e)

@@ -19,12 +19,12 @@ use Rattle.cover.specs.Earliest.{cellWith}
 use Rattle.cover.specs.SetLaws.{when-is}
 use Rattle.cover.specs.LeastCover.{winners, vcgPaid}
 use Rattle.cover.specs.Greedy.{wins}
-use Rattle.cover.specs.CriticalPrice.{sum, roundsPaid}
+use Rattle.cover.specs.CriticalPrice.{roundsPaid}
 use Rattle.cover.specs.CriticalLaws.{paid-by-rounds}
 use Rattle.cover.specs.SpareLaws.{Spare, spare-bids}
 use Rattle.cover.specs.Settled.{listed}
 use Rattle.cover.specs.Settled as core
-use Rattle.cover.specs.SettledLaws.{length-listed, getD-listed, listed-same, map-listed}
+use Rattle.cover.specs.SettledLaws.{length-listed, getD-listed, listed-same, map-listed, listed-of}
 use Rattle.award_check.specs.Faults.{faultOf}
 use Rattle.award_check.specs.Cells.{minuteOf}
 use Rattle.award_check.specs.Auction.{Auction, auctionOf}
@@ -33,12 +33,11 @@ use Rattle.tender.specs.declared.Answer.{Answer}
 use Rattle.tender.specs.declared.Answer.the-variants.{Awarded, Refused}
 use Rattle.award_plain.specs.Award.{coversIn, won, cents, awarded, refused, awardRows, totalsOf, thinned, settled, awardOf}
 use Rattle.award_plain.specs.Award.{leastCost, greedy, rule, uncovered, lone}
+use Rattle.award_plain.specs.Sums.{totalsIn}
+use Rattle.award_plain.specs.SumsLaws.{totals-are}
 use Rattle.award_plain.specs.Plain.{rowsIn, toldIn, wonAfter, centsAfter, PlainPromise}
 use Rattle.award_plain.specs.AwardLaws.{won-least, cents-least, won-greedy, cents-greedy, award-none, award-lent, award-nine}
 use Rattle.award_plain.specs.AwardLaws.{award-settles}
-
-same-totals : (a b : Totals) → a .cost ≡ b .cost → a .paid ≡ b .paid → a ≡ b
-same-totals a b e f = ap (λ (v : ℕ). record { cost = v; paid = a .paid }) e ∙ ap (λ (v : ℕ). record { cost = b .cost; paid = v }) f
 
 module _ (k : Kind) (t : Tender) (n : ℕ) (bids windows : List ℕ) (lent : ℕ) (ow oc : List ℕ) where
   abbrev A : Auction
@@ -78,52 +77,41 @@ module _ (k : Kind) (t : Tender) (n : ℕ) (bids windows : List ℕ) (lent : ℕ
       twelve x d e = refuses (lone t x)
           (award-settles k t n bids windows lent f (le-ltb lent n enough) nothing (found x) d e)
 
-      -- a core settles by the flags w and the payments c, which are those of the definitions
+      -- a core settles by the flags w and the payments c, which are those of the definitions and are due to each bid
       module _ (covered : cellWith (A .has) n (A .cells) 0 ≡ nothing) (doubled : cellWith (A .has) n (A .cells) 1 ≡ nothing)
-          (w : ℕ → Bool) (c : ℕ → ℕ)
+          (due : ℕ → Type 0) (w : ℕ → Bool) (c : ℕ → ℕ) (dues : (i : ℕ) → i < n → due i)
           (w-is : (i : ℕ) → i < n → w i ≡ won (rule k) A i) (c-is : (i : ℕ) → i < n → c i ≡ cents (rule k) A i)
-          (nw nc : List ℕ) (totals : Totals) (s : core.Settled w c ps ow oc nw nc (totals .cost) (totals .paid)) where
+          (nw nc : List ℕ) (totals : Totals) (room : length ps ≤ length oc) (s : core.Settled due w c ps ow oc nw nc)
+          (summed : totals ≡ totalsIn ps nw nc n) where
         owned : length ps ≡ A .owners
         owned = size ∙ sym (owners-are t n bids windows)
+
+        flag-at : (i : ℕ) → i < n → eqb (getD nw i 0) 1 ≡ won (rule k) A i
+        flag-at i l =
+            ap (λ (v : ℕ). eqb v 1) (ap (λ (zs : List ℕ). getD zs i 0) (s .flags)
+            ∙ List·getD-append (listed (length ps) (λ i. when (w i) 1)) (drop (length ps) ow) 0 i
+            (omega (arith, length-listed (length ps) (λ i. when (w i) 1), size))
+            ∙ getD-listed (length ps) (λ i. when (w i) 1) i 0 (omega (arith, size)))
+            ∙ when-is (w i) ∙ w-is i l
+
+        pay-at : (i : ℕ) → i < n → getD nc i 0 ≡ cents (rule k) A i
+        pay-at i l = s .payments i (omega (arith, size)) (dues i l) ∙ c-is i l
 
         rows-are : rowsIn n nw nc ≡ awardRows (rule k) A
         unfolding rowsIn awardRows
         rows-are =
             listed-same n (λ i. record { won = eqb (getD nw i 0) 1; cents = getD nc i 0 })
             (λ i. record { won = won (rule k) A i; cents = cents (rule k) A i }) (λ i l. rw (flag-at i l, pay-at i l))
-            ∙ ap (λ (m : ℕ). listed m (λ i. record { won = won (rule k) A i; cents = cents (rule k) A i }))
-            (sym (owners-are t n bids windows))
-          where
-            flag-at : (i : ℕ) → i < n → eqb (getD nw i 0) 1 ≡ won (rule k) A i
-            flag-at i l =
-                ap (λ (v : ℕ). eqb v 1) (ap (λ (zs : List ℕ). getD zs i 0) (s .flags)
-                ∙ List·getD-append (listed (length ps) (λ i. when (w i) 1)) (drop (length ps) ow) 0 i
-                (omega (arith, length-listed (length ps) (λ i. when (w i) 1), size))
-                ∙ getD-listed (length ps) (λ i. when (w i) 1) i 0 (omega (arith, size)))
-                ∙ when-is (w i) ∙ w-is i l
+            ∙ ap (λ (m : ℕ). listed m (λ i. record { won = won (rule k) A i; cents = cents (rule k) A i })) (sym (owners-are t n bids windows))
 
-            pay-at : (i : ℕ) → i < n → getD nc i 0 ≡ cents (rule k) A i
-            pay-at i l =
-                ap (λ (zs : List ℕ). getD zs i 0) (s .payments)
-                ∙ List·getD-append (listed (length ps) c) (drop (length ps) oc) 0 i
-                (omega (arith, length-listed (length ps) c, size))
-                ∙ getD-listed (length ps) c i 0 (omega (arith, size)) ∙ c-is i l
-
-        cost-is : totals .cost ≡ totalsOf (rule k) A .cost
-        unfolding totalsOf
-        cost-is = s .cost-is
-            ∙ ap sum (listed-same (length ps) (λ i. when (w i) (getD ps i 0)) (λ i. when (won (rule k) A i) (getD ps i 0))
-            (λ i l. ap (λ b. when b (getD ps i 0)) (w-is i (omega (arith, size)))))
-
-        paid-is : totals .paid ≡ totalsOf (rule k) A .paid
-        unfolding totalsOf
-        paid-is = s .paid-is ∙ ap sum (listed-same (length ps) c (cents (rule k) A) (λ i l. c-is i (omega (arith, size)))
-            ∙ ap (λ (m : ℕ). listed m (cents (rule k) A)) owned)
+        totals-is : totals ≡ totalsOf (rule k) A
+        totals-is = summed ∙ ap (totalsIn ps nw nc) (sym (owners-are t n bids windows))
+            ∙ totals-are (rule k) A nw nc (λ i l. flag-at i (omega (arith, size))) (λ i l. pay-at i (omega (arith, owned, size)))
 
         outcome-is : toldIn n nw nc (Awarded totals) ≡ awarded (awardRows (rule k) A) (totalsOf (rule k) A)
         unfolding toldIn
         outcome-is = ap (λ rows. awarded rows totals) rows-are
-            ∙ ap (awarded (awardRows (rule k) A)) (same-totals totals (totalsOf (rule k) A) cost-is paid-is)
+            ∙ ap (awarded (awardRows (rule k) A)) totals-is
 
         rows-count : length (awardRows (rule k) A) ≡ length ps
         unfolding awardRows
@@ -151,7 +139,9 @@ module _ (k : Kind) (t : Tender) (n : ℕ) (bids windows : List ℕ) (lent : ℕ
 
         cents-after : nc ≡ centsAfter oc (awarded (awardRows (rule k) A) (totalsOf (rule k) A))
         unfolding centsAfter
-        cents-after = s .payments ∙ sym (ap (λ l. l ++ drop (length (awardRows (rule k) A)) oc) pays-are
+        cents-after = listed-of (length ps) c oc nc room
+            (record { sized = s .sized; values = λ i l. s .payments i l (dues i (omega (arith, size))); kept = s .kept })
+            ∙ sym (ap (λ l. l ++ drop (length (awardRows (rule k) A)) oc) pays-are
             ∙ ap (λ (m : ℕ). listed (length ps) c ++ drop m oc) rows-count)
 
         pub awards : PlainPromise k t n bids windows lent ow oc nw nc (Awarded totals)

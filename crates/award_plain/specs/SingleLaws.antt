@@ -2,9 +2,9 @@
 use mathlib.Core.Path.{_≡_, sym, _∙_}
 use mathlib.Core.List.{List}
 use mathlib.Core.Option.{none}
-use Prim.Native.Nat.{ℕ, _+_, _≤_}
+use Prim.Native.Nat.{ℕ, _+_, _≤_, _<_}
 use native.Mathlib.Omega.{arith}
-use lib.ListN.{length}
+use lib.ListN.{length, getD}
 use Rattle.tender.specs.declared.Kind.the-variants.{Single}
 use Rattle.tender.specs.declared.Tender.{Tender}
 use Rattle.tender.specs.declared.Totals.{Totals}
@@ -12,7 +12,7 @@ use Rattle.tender.specs.declared.Refusal.the-variants.{MinuteUncovered, OneBidd
 use Rattle.cover.specs.Sets.{bit, covers}
 use Rattle.cover.specs.LeastCover.{winners, vcgPaid}
 use Rattle.cover.specs.CriticalPrice.{sum}
-use Rattle.cover.specs.Settled.{spans, Settled}
+use Rattle.cover.specs.Settled.{spans, Settled, mostCents}
 use Rattle.cover.specs.Intervals.BidsLaws.{sum-most}
 use Rattle.single_costs.specs.Across.{mostSum}
 use Rattle.award_thin.specs.declared.Thin.the-variants.{Nobody, Alone, Enough}
@@ -24,6 +24,7 @@ use Rattle.award_layout.specs.Orderly.{Orderly, PricesLaid, SpansLaid}
 use Rattle.award_layout.specs.LayoutLaws.{orderly, prices-laid, spans-have, spans-ordered, spans-inside}
 use Rattle.tender.specs.declared.Answer.the-variants.{Awarded, Refused}
 use Rattle.award_plain.specs.Award.{coversIn}
+use Rattle.award_plain.specs.Sums.{totalsIn}
 use Rattle.award_plain.specs.Plain.{PlainPromise}
 use Rattle.award_plain.specs.MultiLaws.{prices-lawful}
 use Rattle.award_plain.specs.PlainLaws.{eleven, twelve, awards, single-won, single-cents}
@@ -62,13 +63,16 @@ module _ (t : Tender) (n : ℕ) (bids windows starts ends ps ow oc : List ℕ) (
       → PlainPromise Single t n bids windows n ow oc ow oc (Refused (OneBidder (t .window .start + x)))
   lone x s = let h = rw same at s in twelve Single t n bids windows n ow oc f (omega arith) x (h .0) (h .1)
 
-  pub settled : Says (spans starts ends) n (A .cells) Enough → (nw nc : List ℕ) (totals : Totals) →
-      Settled (λ i. bit (winners (covers (spans starts ends) (length ps) (A .cells)) ps) i)
-      (vcgPaid (covers (spans starts ends) (length ps) (A .cells)) ps) ps ow oc nw nc (totals .cost) (totals .paid) →
+  pub small-prices : (i : ℕ) → i < length ps → getD ps i 0 ≤ mostCents
+  small-prices i d = let e : getD ps i 0 ≤ 100000000 = rw priced (prices-lawful Single t n bids windows o .most i) in omega arith
+
+  pub settled : Says (spans starts ends) n (A .cells) Enough → (nw nc : List ℕ) (totals : Totals) → length ps ≤ length oc →
+      Settled (λ _. Unit {0}) (λ i. bit (winners (covers (spans starts ends) (length ps) (A .cells)) ps) i)
+      (vcgPaid (covers (spans starts ends) (length ps) (A .cells)) ps) ps ow oc nw nc → totals ≡ totalsIn ps nw nc n →
       PlainPromise Single t n bids windows n ow oc nw nc (Awarded totals)
-  settled s nw nc totals h =
+  settled s nw nc totals room h e =
       let h′ = rw same at s in
-      awards Single t n bids windows n ow oc f (omega arith) (h′ .0) (h′ .1)
+      awards Single t n bids windows n ow oc f (omega arith) (h′ .0) (h′ .1) (λ _. Unit {0})
       (λ i. bit (winners (coversIn A) (A .prices)) i)
-      (vcgPaid (coversIn A) (A .prices)) (λ i d. single-won A i) (λ i d. single-cents A i) nw nc
-      totals (rw (same, priced) at h)
+      (vcgPaid (coversIn A) (A .prices)) (λ i d. tt) (λ i d. single-won A i) (λ i d. single-cents A i) nw nc
+      totals (rw priced at room) (rw (same, priced) at h) (rw priced at e)

@@ -6,14 +6,73 @@ use tender::Answer;
 use tender::Kind;
 use tender::Refusal;
 use tender::Tender;
+use tender::Totals;
 ghost use mathlib.Core.Path.{_≡_};
 ghost use mathlib.Core.Option.{none};
-ghost use Prim.Native.Nat.{ℕ, _+_, _*_, _/_, _≤_, min};
-ghost use lib.ListN.{length};
+ghost use Prim.Native.Nat.{ℕ, _+_, _*_, _/_, _≤_, _<_, min};
+ghost use lib.ListN.{length, getD};
+ghost use lib.Dec.{eqb};
 ghost use Rattle.tender.specs.declared.Kind.the-variants.{Single, Multi};
+ghost use Rattle.tender.specs.Limits.{maxEntries};
+ghost use Rattle.cover.specs.Sets.{when};
+ghost use Rattle.cover.specs.Settled.{mostCents};
 ghost use Rattle.award_check.specs.Faults.{faultOf};
 ghost use Rattle.award_check.specs.Cells.{cellsOf};
+ghost use Rattle.award_plain.specs.Sums.{costIn, paidIn, totalsIn};
 ghost use Rattle.award_plain.specs.Plain.{PlainPromise};
+
+// The price where the flag is 1.
+fn only(flag: u64, price: u64) -> u64
+    ensures { λ r. ⌜ (r ≡ when (eqb flag 1) price) × (r ≤ price) ⌝ }
+{
+    if flag == 1 { price } else { 0 }
+}
+
+// What the entries whose flag is 1 ask in all.
+fn cost(prices: &[u64], won: &[u64]) -> u64
+    requires { ⌜ (length (now prices) ≤ maxEntries) × ((length (now prices) ≤ length (now won))
+        × ((i : ℕ) → i < length (now prices) → getD (now prices) i 0 ≤ mostCents)) ⌝ }
+    ensures { λ r. ⌜ r ≡ costIn (now (prices .entry)) (now (won .entry)) ⌝ }
+{
+    let mut s: u64 = 0;
+    let mut i: usize = 0;
+    while i < prices.len() {
+        s += only(won[i], prices[i]);
+        i += 1;
+    }
+    s
+}
+
+// What the first `owners` entries are paid in all.
+fn paid(cents: &[u64], owners: usize) -> u64
+    requires { ⌜ (owners ≤ maxEntries) × ((owners ≤ length (now cents))
+        × ((i : ℕ) → i < owners → getD (now cents) i 0 ≤ mostCents)) ⌝ }
+    ensures { λ r. ⌜ r ≡ paidIn (now (cents .entry)) owners ⌝ }
+{
+    let mut s: u64 = 0;
+    let mut i: usize = 0;
+    while i < owners {
+        s += cents[i];
+        i += 1;
+    }
+    s
+}
+
+// The winners' cost over all entries, and the sum paid to the first `owners` of them.
+fn totals(prices: &[u64], won: &[u64], cents: &[u64], owners: usize) -> Totals
+    requires { ⌜ (length (now prices) ≤ maxEntries) × ((length (now prices) ≤ length (now won))
+        × ((length (now prices) ≤ length (now cents)) × (owners ≤ length (now prices)))) ⌝ }
+    requires { ⌜ ((i : ℕ) → i < length (now prices)
+        → (getD (now prices) i 0 ≤ mostCents) × (getD (now cents) i 0 ≤ mostCents)) ⌝ }
+    ensures { λ r. ⌜ r ≡ totalsIn (now (prices .entry)) (now (won .entry)) (now (cents .entry)) owners ⌝ }
+{
+    let cost = cost(prices, won);
+    let paid = paid(cents, owners);
+    Totals {
+        cost: cost,
+        paid: paid,
+    }
+}
 
 // A faultless multi tender of as many bids as `prices` has places, with room lent for prices and words.
 fn multi_in(
@@ -49,7 +108,10 @@ fn multi_in(
         Thin::Alone { cell } => Answer::Refused(Refusal::OneBidder {
             minute: start + cell,
         }),
-        Thin::Enough => Answer::Awarded(multi::award(prices, masks, w, cells as usize, won, cents)),
+        Thin::Enough => {
+            multi::award(prices, masks, w, cells as usize, won, cents);
+            Answer::Awarded(totals(prices, won, cents, n))
+        }
     }
 }
 
@@ -117,7 +179,10 @@ fn single_in(
         Thin::Alone { cell } => Answer::Refused(Refusal::OneBidder {
             minute: start + cell,
         }),
-        Thin::Enough => Answer::Awarded(single::award(starts, ends, prices, cells, won, cents)),
+        Thin::Enough => {
+            single::award(starts, ends, prices, cells, won, cents);
+            Answer::Awarded(totals(prices, won, cents, starts.len()))
+        }
     }
 }
 

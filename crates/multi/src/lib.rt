@@ -1,43 +1,18 @@
-// The greedy award over plain numbers (paper 01, "Multi"): a flag and the cents paid for each bid, the winners' cost and the sum paid.
-// `award` takes a price and w words of cells a bid; whichever bid is left out, the others have each of the `count` cells.
+// The greedy award over plain numbers (paper 01, "Multi"): a flag and the cents paid for each bid.
+// `award` takes a price and w words of cells a bid; what a bid is paid is said where the others have each of the `count` cells.
 ghost use mathlib.Core.Path.{_≡_};
 ghost use Prim.Native.Nat.{ℕ, _+_, _*_, _≤_};
 ghost use lib.ListN.{length};
-ghost use lib.Dec.{eqb};
 ghost use Rattle.tender.specs.Limits.{maxEntries};
-ghost use Rattle.cover.specs.Sets.{when, cells};
+ghost use Rattle.cover.specs.Sets.{cells};
 ghost use Rattle.cover.specs.Greedy.{wins};
 ghost use Rattle.cover.specs.CriticalPrice.{roundsPaid};
 ghost use Rattle.cover.specs.Settled.{Settled};
 ghost use Rattle.cover.specs.SpareLaws.{Spare};
-ghost use Rattle.multi_tournament.specs.Tournament.{at, Priced, Tournament};
+ghost use Rattle.multi_tournament.specs.Tournament.{Tournament};
 ghost use Rattle.multi_rounds.specs.Market.{has, Market, Hopping};
 ghost use Rattle.multi_rounds.specs.Trace.{Trace};
-ghost use Rattle.multi.specs.Totals.{Summed, Awarded};
-
-// The price where the flag is 1.
-fn only(flag: u64, price: u64) -> u64
-    ensures { λ r. ⌜ (r ≡ when (eqb flag 1) price) × (r ≤ price) ⌝ }
-{
-    if flag == 1 { price } else { 0 }
-}
-
-// The winners' cost and the sum paid.
-fn totals(prices: &[u64], won: &[u64], cents: &[u64]) -> tender::Totals
-    requires { ⌜ Priced (now prices) × ((length (now won) ≡ length (now prices))
-        × ((length (now cents) ≡ length (now prices)) × ((k : ℕ) → at (now cents) k ≤ 1011200000000))) ⌝ }
-    ensures { λ r. ⌜ Summed (now (prices .entry)) (now (won .entry)) (now (cents .entry)) (r .cost) (r .paid) ⌝ }
-{
-    let mut cost: u64 = 0;
-    let mut paid: u64 = 0;
-    let mut k = 0;
-    while k < prices.len() {
-        cost += only(won[k], prices[k]);
-        paid += cents[k];
-        k += 1;
-    }
-    tender::Totals { cost, paid }
-}
+ghost use Rattle.multi_pay.specs.Paying.{Paid};
 
 // The run from all cells open, written down. Answers the number of rounds.
 fn run(
@@ -99,17 +74,15 @@ fn settle(
     mark: &mut [u64],
     won: &mut [u64],
     cents: &mut [u64],
-) -> tender::Totals
+)
     requires { ⌜ Market (now prices) (now masks) w ×
-        ((count ≤ 64 * w) × (((k : ℕ) → Spare (has (now masks) w) (length (now prices)) count k)
-        × ((count ≤ length (now order)) × ((count ≤ length (now gains))
+        ((count ≤ 64 * w) × ((count ≤ length (now order)) × ((count ≤ length (now gains))
         × ((length (now hop) ≡ length (now masks)) × ((length (now index) ≡ 16 * w)
         × ((length (now held) ≡ w) × ((length (now alt) ≡ w)
         × ((length (now counts) ≡ w + 2) × ((length (now who) ≡ 2048)
         × ((length (now num) ≡ 2048) × ((length (now mark) ≡ 16)
-        × ((length (now won) ≡ length (now prices)) × (length (now cents) ≡ length (now prices))))))))))))))) ⌝ }
-    ensures { λ r. ⌜ Awarded (now (prices .entry)) (now (masks .entry)) w count (now (won .exit)) (now (cents .exit)) (r .cost) (r .paid)
-        ⌝ }
+        × ((length (now won) ≡ length (now prices)) × (length (now cents) ≡ length (now prices)))))))))))))) ⌝ }
+    ensures { λ _. ⌜ Paid (now (prices .entry)) (now (masks .entry)) w count (now (won .exit)) (now (cents .exit)) ⌝ }
 {
     multi_charts::chart(prices, masks, w, hop);
     multi_charts::enlist(prices, masks, hop, w, index);
@@ -148,7 +121,6 @@ fn settle(
         won,
         cents,
     );
-    totals(prices, won, cents)
 }
 
 // The award, with room lent for 1,001 bids of 158 words.
@@ -169,18 +141,18 @@ fn award_in(
     mark: &mut [u64],
     won: &mut [u64],
     cents: &mut [u64],
-) -> tender::Totals
+)
     requires { ⌜ Market (now prices) (now masks) w ×
-        ((count ≤ 64 * w) × (((k : ℕ) → Spare (has (now masks) w) (length (now prices)) count k)
-        × ((count ≤ length (now order)) × ((count ≤ length (now gains))
+        ((count ≤ 64 * w) × ((count ≤ length (now order)) × ((count ≤ length (now gains))
         × ((158 * maxEntries ≤ length (now hop)) × ((2528 ≤ length (now index))
         × ((158 ≤ length (now held)) × ((158 ≤ length (now alt))
         × ((160 ≤ length (now counts)) × ((length (now who) ≡ 2048)
         × ((length (now num) ≡ 2048) × ((length (now mark) ≡ 16)
-        × ((length (now prices) ≤ length (now won)) × (length (now prices) ≤ length (now cents))))))))))))))) ⌝ }
-    ensures { λ r. ⌜ Settled (wins (has (now (masks .entry)) w) (now (prices .entry)) (cells count))
+        × ((length (now prices) ≤ length (now won)) × (length (now prices) ≤ length (now cents)))))))))))))) ⌝ }
+    ensures { λ _. ⌜ Settled (Spare (has (now (masks .entry)) w) (length (now (prices .entry))) count)
+        (wins (has (now (masks .entry)) w) (now (prices .entry)) (cells count))
         (roundsPaid (has (now (masks .entry)) w) (now (prices .entry)) (cells count))
-        (now (prices .entry)) (now (won .entry)) (now (cents .entry)) (now (won .exit)) (now (cents .exit)) (r .cost) (r .paid) ⌝ }
+        (now (prices .entry)) (now (won .entry)) (now (cents .entry)) (now (won .exit)) (now (cents .exit)) ⌝ }
 {
     let n = prices.len();
     let z = masks.len();
@@ -203,7 +175,7 @@ fn award_in(
         mark,
         &mut won[..n],
         &mut cents[..n],
-    )
+    );
 }
 
 // The award. Places of `won` and `cents` past the last bid stay.
@@ -214,13 +186,14 @@ pub fn award(
     count: usize,
     won: &mut [u64],
     cents: &mut [u64],
-) -> tender::Totals
+)
     requires { ⌜ Market (now prices) (now masks) w ×
-        ((count ≤ 10080) × ((count ≤ 64 * w) × (((k : ℕ) → Spare (has (now masks) w) (length (now prices)) count k)
-        × ((length (now prices) ≤ length (now won)) × (length (now prices) ≤ length (now cents)))))) ⌝ }
-    ensures { λ r. ⌜ Settled (wins (has (now (masks .entry)) w) (now (prices .entry)) (cells count))
+        ((count ≤ 10080) × ((count ≤ 64 * w) × ((length (now prices) ≤ length (now won))
+        × (length (now prices) ≤ length (now cents))))) ⌝ }
+    ensures { λ _. ⌜ Settled (Spare (has (now (masks .entry)) w) (length (now (prices .entry))) count)
+        (wins (has (now (masks .entry)) w) (now (prices .entry)) (cells count))
         (roundsPaid (has (now (masks .entry)) w) (now (prices .entry)) (cells count))
-        (now (prices .entry)) (now (won .entry)) (now (cents .entry)) (now (won .exit)) (now (cents .exit)) (r .cost) (r .paid) ⌝ }
+        (now (prices .entry)) (now (won .entry)) (now (cents .entry)) (now (won .exit)) (now (cents .exit)) ⌝ }
 {
     // Written before they are read: ones are stored in place, zeros by a call of the library.
     let mut order = [1u64; 10080];
@@ -250,5 +223,5 @@ pub fn award(
         &mut mark,
         won,
         cents,
-    )
+    );
 }

@@ -8,7 +8,7 @@ use lib.Dec.{eqb}
 use Rattle.cover.specs.Sets.{when, cells}
 use Rattle.cover.specs.Greedy.{wins}
 use Rattle.cover.specs.CriticalPrice.{limit, roundsPaid}
-use Rattle.cover.specs.Settled.{listed}
+use Rattle.cover.specs.Settled.{listed, mostCents}
 use Rattle.cover.specs.SpareLaws.{Spare}
 use Rattle.multi_rounds.specs.Market.{has, Market, Hopping}
 use Rattle.multi_rounds.specs.Trace.{Trace}
@@ -37,11 +37,11 @@ pub record Paying (ps ms : List ℕ) (w n : ℕ) (order : List ℕ) (h : ℕ) (h
   pub flags : (k : ℕ) → k < length ps → at won k ≡ when (picked order h k) 1
   pub payments : (k : ℕ) → k < length ps → Spare (has ms w) (length ps) n k
       → at cents k ≡ when (picked order h k) (limit (has ms w) ps (cells n) k - 1)
-  pub small : (k : ℕ) → at cents k ≤ 1011200000000
+  pub small : (k : ℕ) → at cents k ≤ mostCents
 
 -- who wins, and what each is paid that the others spare
 pub record Paid (ps ms : List ℕ) (w n : ℕ) (won cents : List ℕ) : Type 0 where
   pub flags : won ≡ listed (length ps) (λ k. when (wins (has ms w) ps (cells n) k) 1)
   pub as-cents : length cents ≡ length ps
   pub payments : (k : ℕ) → k < length ps → Spare (has ms w) (length ps) n k → at cents k ≡ roundsPaid (has ms w) ps (cells n) k
-  pub small : (k : ℕ) → at cents k ≤ 1011200000000
+  pub small : (k : ℕ) → at cents k ≤ mostCents

@@ -12,10 +12,11 @@ use Rattle.cover.specs.Sets.{when, valueOf, bit, cost, covers}
 use Rattle.cover.specs.LeastCover.{winners, payment, vcgPaid}
 use Rattle.cover.specs.CriticalPrice.{sum}
 use Rattle.cover.specs.Settled.{spans, Settled}
-use Rattle.cover.specs.SettledLaws.{FilledTo, listed-of, listed-at, cost-sum, sumTo, sum-listed, sum-same}
+use Rattle.cover.specs.SettledLaws.{FilledTo, listed-at}
 use Rattle.cover.specs.Intervals.Bids.{Bids, costWithout}
 use Rattle.cover.specs.Intervals.BidsLaws.{paid-of, without-most}
 use Rattle.single_select.specs.Weighing.{Selected}
+use Rattle.single_costs.specs.Across.{mostSum}
 use Rattle.single.specs.Pay.{winnersOf, vcgPaidOf}
 
 -- the bids at the positions below q are paid
@@ -107,16 +108,15 @@ unfolding winnersOf
 selected-all a b ps costs old-won new-won L all s = s .all-is
 
 -- THE AWARD
-pub award-settled : (a b ps old-won new-won costs old-cents new-cents : List ℕ) (L all paid : ℕ) → length ps ≤ length old-cents
+pub award-settled : (a b ps old-won new-won costs old-cents new-cents : List ℕ) (L all : ℕ) → sum ps ≤ mostSum
     → Selected a b ps costs old-won new-won L all → FilledTo (vcgPaidOf a b ps L) old-cents new-cents (length ps)
-    → paid ≡ sumTo (λ i. getD new-cents i 0) (length ps)
-    → Settled (λ i. bit (winners (covers (spans a b) (length ps) L) ps) i) (vcgPaid (covers (spans a b) (length ps) L) ps) ps old-won
-    old-cents new-won new-cents all paid
+    → Settled (λ _. Unit {0}) (λ i. bit (winners (covers (spans a b) (length ps) L) ps) i)
+    (vcgPaid (covers (spans a b) (length ps) L) ps) ps old-won old-cents new-won new-cents
 unfolding vcgPaidOf
-award-settled a b ps old-won new-won costs old-cents new-cents L all paid l s w e = record {
+award-settled a b ps old-won new-won costs old-cents new-cents L all l s w = record {
   flags = s .flags;
-  payments = listed-of (length ps) (vcgPaid (covers (spans a b) (length ps) L) ps) old-cents new-cents l w;
-  cost-is = s .all-is ∙ cost-sum ps (winners (covers (spans a b) (length ps) L) ps);
-  paid-is = e ∙ sum-same (length ps) (λ i. getD new-cents i 0) (vcgPaid (covers (spans a b) (length ps) L) ps) (w .values)
-      ∙ sum-listed (length ps) (vcgPaid (covers (spans a b) (length ps) L) ps);
+  payments = λ i d u. w .values i d;
+  small = λ i d. omega (arith, w .values i d, pays-most a b ps L i);
+  sized = w .sized;
+  kept = w .kept;
 }

@@ -9,7 +9,7 @@ ghost use Rattle.cover.specs.Sets.{when, bit, cost, covers};
 ghost use Rattle.cover.specs.LeastCover.{winners, vcgPaid};
 ghost use Rattle.cover.specs.CriticalPrice.{sum};
 ghost use Rattle.cover.specs.Settled.{spans, Settled};
-ghost use Rattle.cover.specs.SettledLaws.{FilledTo, sumTo};
+ghost use Rattle.cover.specs.SettledLaws.{FilledTo};
 ghost use Rattle.cover.specs.Intervals.Bids.{Bids};
 ghost use Rattle.single_costs.specs.Across.{mostSum, Before, After, Waiting};
 ghost use Rattle.single.specs.Pay.{winnersOf, vcgPaidOf};
@@ -155,21 +155,6 @@ fn pay_each(
     }
 }
 
-// The sum of the first `n` payments.
-fn total(cents: &[u64], n: usize) -> u64
-    requires { ⌜ (n ≤ length (now cents)) × (n ≤ maxEntries) ⌝ }
-    requires { ⌜ ((i : ℕ) → i < n → getD (now cents) i 0 ≤ mostSum) ⌝ }
-    ensures { λ z. ⌜ z ≡ sumTo (λ i. getD (now (cents .entry)) i 0) n ⌝ }
-{
-    let mut s: u64 = 0;
-    let mut i: usize = 0;
-    while i < n {
-        s += cents[i];
-        i += 1;
-    }
-    s
-}
-
 // The payments, with lists of their own to work in.
 fn payments(
     starts: &[u64],
@@ -220,7 +205,7 @@ fn payments(
     );
 }
 
-// The award: a flag and the cents paid for each bid, what the winners ask and what they are paid in all.
+// The award: a flag and the cents paid for each bid. Places of `won` and `cents` past the last bid stay.
 pub fn award(
     starts: &[u64],
     ends: &[u64],
@@ -228,7 +213,7 @@ pub fn award(
     cells: u64,
     won: &mut [u64],
     cents: &mut [u64],
-) -> tender::Totals
+)
     requires { ⌜ (length (now prices) ≤ maxEntries) × (length (now starts) ≡ length (now prices))
         × (length (now ends) ≡ length (now prices))
         × (0 < cells) × (cells ≤ 10080) ⌝ }
@@ -236,10 +221,10 @@ pub fn award(
     requires { ⌜ ((i : ℕ) → i < length (now prices) → (getD (now starts) i 0 ≤ getD (now ends) i 0)
         × (getD (now ends) i 0 ≤ cells)) ⌝ }
     requires { ⌜ sum (now prices) ≤ mostSum ⌝ }
-    ensures { λ r. ⌜ Settled (λ i. bit (winners (covers (spans (now (starts .entry)) (now (ends .entry))) (length (now (prices .entry)))
-        cells) (now (prices .entry))) i) (vcgPaid (covers (spans (now (starts .entry)) (now (ends .entry))) (length (now (prices .entry)))
-        cells) (now (prices .entry))) (now (prices .entry)) (now (won .entry)) (now (cents .entry)) (now (won .exit)) (now (cents .exit))
-        (r .cost) (r .paid) ⌝ }
+    ensures { λ _. ⌜ Settled (λ _. Unit {0}) (λ i. bit (winners (covers (spans (now (starts .entry)) (now (ends .entry)))
+        (length (now (prices .entry))) cells) (now (prices .entry))) i) (vcgPaid (covers (spans (now (starts .entry)) (now (ends .entry)))
+        (length (now (prices .entry))) cells) (now (prices .entry))) (now (prices .entry)) (now (won .entry)) (now (cents .entry))
+        (now (won .exit)) (now (cents .exit)) ⌝ }
 {
     let n = prices.len();
     // ones, not zeros: the compiler writes these in wide stores
@@ -248,9 +233,4 @@ pub fn award(
     single_order::by_start(starts, n, cells, &mut order);
     let all = single_select::winners(starts, ends, prices, &order, cells, &mut early, won);
     payments(starts, ends, prices, &order, &early, won, cents, cells, all);
-    let paid = total(cents, n);
-    tender::Totals {
-        cost: all,
-        paid: paid,
-    }
 }

@@ -8,7 +8,7 @@ use Rattle.award_thin.specs.Thin.{Says}
 use Rattle.award_check.specs.Cells.{cellsOf}
 use Rattle.award_check.specs.Auction.{auctionOf}
 use Rattle.award_layout.specs.LayoutLaws.{orderly}
-use Rattle.award_plain.specs.MultiLaws.{words-of, uncovered, lone, market, spared, settled}
+use Rattle.award_plain.specs.MultiLaws.{words-of, uncovered, lone, market, settled}
 use Rattle.cover.specs.EarliestLaws.{cell-found}
 use borrow.Author.Needs.{needs}
 use Rattle.award_plain.proofs.multi_in.Statement.{statement}
@@ -18,6 +18,7 @@ use Rattle.award_plain.proofs.multi_in.Lts as lts
 use Rattle.award_thin.proofs.thin_masks.Reads as thin-masks-reads
 use Rattle.award_layout.proofs.masks.Reads as masks-reads
 use Rattle.award_layout.proofs.prices.Reads as prices-reads
+use Rattle.award_plain.proofs.totals.Reads as totals-reads
 use Rattle.multi.proofs.award.Reads as award-reads
 
 sub-cells : tie.Need-sub-cells
@@ -107,15 +108,11 @@ enum-told c = search needs
 award-requires : tie.Need-award-requires
 unfolding cellsOf auctionOf
 award-requires c κs =
-    let c4 = c .before .before .before .before in
-    let c6 = c4 .before .before in
-    let c10 = c6 .before .before .before .before in
+    let c10 = c .before .before .before .before .before .before .before .before .before .before in
     let c14 = c10 .before .before .before .before in
     let c24 = c14 .before .before .before .before .before .before .before .before .before .before in
     let args = c24 .args in
     let pre = c24 .pre in
-    let s = subst (Says (has (c10 .masks .last .1 .1 .1 .1 .1 .1 .0) (args .w)) (length (args .prices .now)) (cellsOf (args .tender)))
-    (c4 .enum-told .given .1) (c6 .thin-masks .ensures) in
     let d = words-of Multi (args .tender) (length (args .prices .now)) (args .w) (args .bids .now) (args .windows .now) (pre .0)
     (pre .1 .0) in (
       market (args .tender) (length (args .prices .now)) (args .w) (args .bids .now) (args .windows .now)
@@ -125,14 +122,36 @@ award-requires c κs =
         d .few,
         (
           d .fits,
+          (omega (arith, c14 .prices .kept .1 .0, pre .1 .1 .1 .0), omega (arith, c14 .prices .kept .1 .0, pre .1 .1 .1 .1)),
+        ),
+      ),
+    )
+
+totals-requires : tie.Need-totals-requires
+unfolding cellsOf
+totals-requires c κs =
+    let c7 = c .before .before .before .before .before .before .before in
+    let c18 = c7 .before .before .before .before .before .before .before .before .before .before .before in
+    let c22 = c18 .before .before .before .before in
+    let c32 = c22 .before .before .before .before .before .before .before .before .before .before in
+    let args = c32 .args in
+    let pre = c32 .pre in
+    let d = words-of Multi (args .tender) (length (args .prices .now)) (args .w) (args .bids .now) (args .windows .now) (pre .0)
+    (pre .1 .0) in
+    let m = market (args .tender) (length (args .prices .now)) (args .w) (args .bids .now) (args .windows .now)
+    (c18 .masks .last .1 .1 .1 .1 .1 .1 .0) (c22 .prices .last .1 .0) (args .won .now) (args .cents .now) (pre .0)
+    (c18 .masks .kept .1 .1 .1 .1 .1 .1 .0 ∙ pre .1 .1 .0) (c18 .masks .ensures) (c22 .prices .ensures) d in (
+      (
+        m .priced .count,
+        (
+          omega (arith, c22 .prices .kept .1 .0, c7 .award .kept .1 .1 .1 .1 .0, pre .1 .1 .1 .0),
           (
-            spared (args .tender) (length (args .prices .now)) (args .w) (args .bids .now) (args .windows .now)
-                (c10 .masks .last .1 .1 .1 .1 .1 .1 .0) (c14 .prices .last .1 .0) (args .won .now) (args .cents .now) (pre .0)
-                (c10 .masks .kept .1 .1 .1 .1 .1 .1 .0 ∙ pre .1 .1 .0) (c10 .masks .ensures) (c14 .prices .ensures) s,
-            (omega (arith, c14 .prices .kept .1 .0, pre .1 .1 .1 .0), omega (arith, c14 .prices .kept .1 .0, pre .1 .1 .1 .1)),
+            omega (arith, c22 .prices .kept .1 .0, c7 .award .kept .1 .1 .1 .1 .1 .0, pre .1 .1 .1 .1),
+            omega (arith, c22 .prices .kept .1 .0),
           ),
         ),
       ),
+      λ i l. (omega (arith, m .priced .most i), c7 .award .ensures .small i l),
     )
 
 same-length : tie.Need-same-length
@@ -190,20 +209,21 @@ same-length-8 c = search needs
 returns-3 : tie.Need-returns-3
 unfolding cellsOf auctionOf
 returns-3 c =
-    let c4 = c .before .before .before .before in
-    let c9 = c4 .before .before .before .before .before in
-    let c11 = c9 .before .before in
-    let c15 = c11 .before .before .before .before in
+    let c8 = c .before .before .before .before .before .before .before .before in
+    let c13 = c8 .before .before .before .before .before in
+    let c15 = c13 .before .before in
     let c19 = c15 .before .before .before .before in
-    let c29 = c19 .before .before .before .before .before .before .before .before .before .before in
-    let args = c29 .args in
-    let pre = c29 .pre in
-    let s = subst (Says (has (c15 .masks .last .1 .1 .1 .1 .1 .1 .0) (args .w)) (length (args .prices .now)) (cellsOf (args .tender)))
-    (c9 .enum-told .given .1) (c11 .thin-masks .ensures) in
+    let c23 = c19 .before .before .before .before in
+    let c33 = c23 .before .before .before .before .before .before .before .before .before .before in
+    let args = c33 .args in
+    let pre = c33 .pre in
+    let s = subst (Says (has (c19 .masks .last .1 .1 .1 .1 .1 .1 .0) (args .w)) (length (args .prices .now)) (cellsOf (args .tender)))
+    (c13 .enum-told .given .1) (c15 .thin-masks .ensures) in
     settled (args .tender) (length (args .prices .now)) (args .w) (args .bids .now) (args .windows .now)
-    (c15 .masks .last .1 .1 .1 .1 .1 .1 .0) (c19 .prices .last .1 .0) (args .won .now) (args .cents .now) (pre .0)
-    (c15 .masks .kept .1 .1 .1 .1 .1 .1 .0 ∙ pre .1 .1 .0) (c15 .masks .ensures) (c19 .prices .ensures) s
-    (c4 .award .last .1 .1 .1 .1 .0) (c4 .award .last .1 .1 .1 .1 .1 .0) (c4 .award .result) (c4 .award .ensures)
+    (c19 .masks .last .1 .1 .1 .1 .1 .1 .0) (c23 .prices .last .1 .0) (args .won .now) (args .cents .now) (pre .0)
+    (c19 .masks .kept .1 .1 .1 .1 .1 .1 .0 ∙ pre .1 .1 .0) (c19 .masks .ensures) (c23 .prices .ensures) s
+    (c8 .award .last .1 .1 .1 .1 .0) (c8 .award .last .1 .1 .1 .1 .1 .0) (c .totals .result)
+    (omega (arith, c23 .prices .kept .1 .0, pre .1 .1 .1 .1)) (c8 .award .ensures) (c .totals .ensures)
 
 pub multi-in-spec : {M : Type 1} → statement M
 multi-in-spec =
@@ -219,6 +239,7 @@ multi-in-spec =
     add-t27
     enum-told
     award-requires
+    totals-requires
     same-length
     same-length-2
     returns

@@ -9,7 +9,8 @@ use Rattle.award_thin.specs.Thin.{Says}
 use Rattle.award_check.specs.Cells.{cellsOf}
 use Rattle.award_check.specs.Auction.{auctionOf}
 use Rattle.award_layout.specs.LayoutLaws.{orderly, timed}
-use Rattle.award_plain.specs.SingleLaws.{uncovered, lone, ordered, prices-sum, settled}
+use Rattle.award_plain.specs.SingleLaws.{uncovered, lone, ordered, prices-sum, small-prices, settled}
+use Rattle.award_plain.specs.MultiLaws.{entries-few}
 use Rattle.cover.specs.EarliestLaws.{cell-found}
 use borrow.Author.Needs.{needs}
 use Rattle.award_plain.proofs.single_in.Statement.{statement}
@@ -19,6 +20,7 @@ use Rattle.award_plain.proofs.single_in.Lts as lts
 use Rattle.award_thin.proofs.thin_spans.Reads as thin-spans-reads
 use Rattle.award_layout.proofs.prices.Reads as prices-reads
 use Rattle.award_layout.proofs.spans.Reads as spans-reads
+use Rattle.award_plain.proofs.totals.Reads as totals-reads
 use Rattle.single.proofs.award.Reads as award-reads
 
 sub-cells : tie.Need-sub-cells
@@ -143,6 +145,38 @@ award-requires c κs =
       ),
     )
 
+totals-requires : tie.Need-totals-requires
+unfolding cellsOf
+totals-requires c κs =
+    let c7 = c .before .before .before .before .before .before .before in
+    let c22 = c7 .before .before .before .before .before .before .before .before .before .before .before .before .before .before .before in
+    let c27 = c22 .before .before .before .before .before in
+    let c38 = c27 .before .before .before .before .before .before .before .before .before .before .before in
+    let args = c38 .args in
+    let pre = c38 .pre in (
+      (
+        omega (
+          arith,
+          c27 .prices .kept .1 .0,
+          entries-few Single (args .tender) (length (args .prices .now)) (args .bids .now) (args .windows .now) (pre .0),
+        ),
+        (
+          omega (arith, c27 .prices .kept .1 .0, c7 .award .kept .1 .1 .1 .1 .0, pre .1 .1 .1),
+          (
+            omega (arith, c27 .prices .kept .1 .0, c7 .award .kept .1 .1 .1 .1 .1 .0, pre .1 .1 .1),
+            omega (arith, c22 .spans .kept .1 .1 .1 .1 .0, pre .1 .0, c27 .prices .kept .1 .0),
+          ),
+        ),
+      ),
+      λ i l. (
+        small-prices (args .tender) (length (args .prices .now)) (args .bids .now)
+            (args .windows .now) (c22 .spans .last .1 .1 .1 .1 .0) (c22 .spans .last .1 .1 .1 .1 .1 .0) (c27 .prices .last .1 .0)
+            (args .won .now) (args .cents .now) (pre .0) (c22 .spans .kept .1 .1 .1 .1 .0 ∙ pre .1 .0)
+            (c22 .spans .kept .1 .1 .1 .1 .1 .0 ∙ pre .1 .1 .0) (rw (pre .1 .0) at (c22 .spans .ensures)) (c27 .prices .ensures) i l,
+        c7 .award .ensures .small i l,
+      ),
+    )
+
 same-length : tie.Need-same-length
 same-length c = search needs
 
@@ -213,22 +247,24 @@ same-length-11 c = search needs
 returns-3 : tie.Need-returns-3
 unfolding cellsOf auctionOf
 returns-3 c =
-    let c4 = c .before .before .before .before in
-    let c10 = c4 .before .before .before .before .before .before in
-    let c12 = c10 .before .before in
-    let c19 = c12 .before .before .before .before .before .before .before in
-    let c24 = c19 .before .before .before .before .before in
-    let c35 = c24 .before .before .before .before .before .before .before .before .before .before .before in
-    let args = c35 .args in
-    let pre = c35 .pre in
-    settled (args .tender) (length (args .prices .now)) (args .bids .now) (args .windows .now) (c19 .spans .last .1 .1 .1 .1 .0)
-    (c19 .spans .last .1 .1 .1 .1 .1 .0) (c24 .prices .last .1 .0) (args .won .now) (args .cents .now) (pre .0)
-    (c19 .spans .kept .1 .1 .1 .1 .0 ∙ pre .1 .0) (c19 .spans .kept .1 .1 .1 .1 .1 .0 ∙ pre .1 .1 .0)
-    (rw (pre .1 .0) at (c19 .spans .ensures)) (c24 .prices .ensures)
-    (rw (c19 .spans .kept .1 .1 .1 .1 .0 ∙ pre .1 .0)
-    at (subst (Says (spans (c19 .spans .last .1 .1 .1 .1 .0) (c19 .spans .last .1 .1 .1 .1 .1 .0))
-    (length (c19 .spans .last .1 .1 .1 .1 .0)) (cellsOf (args .tender))) (c10 .enum-told .given .1) (c12 .thin-spans .ensures)))
-    (c4 .award .last .1 .1 .1 .1 .0) (c4 .award .last .1 .1 .1 .1 .1 .0) (c4 .award .result) (c4 .award .ensures)
+    let c8 = c .before .before .before .before .before .before .before .before in
+    let c14 = c8 .before .before .before .before .before .before in
+    let c16 = c14 .before .before in
+    let c23 = c16 .before .before .before .before .before .before .before in
+    let c28 = c23 .before .before .before .before .before in
+    let c39 = c28 .before .before .before .before .before .before .before .before .before .before .before in
+    let args = c39 .args in
+    let pre = c39 .pre in
+    settled (args .tender) (length (args .prices .now)) (args .bids .now) (args .windows .now) (c23 .spans .last .1 .1 .1 .1 .0)
+    (c23 .spans .last .1 .1 .1 .1 .1 .0) (c28 .prices .last .1 .0) (args .won .now) (args .cents .now) (pre .0)
+    (c23 .spans .kept .1 .1 .1 .1 .0 ∙ pre .1 .0) (c23 .spans .kept .1 .1 .1 .1 .1 .0 ∙ pre .1 .1 .0)
+    (rw (pre .1 .0) at (c23 .spans .ensures)) (c28 .prices .ensures)
+    (rw (c23 .spans .kept .1 .1 .1 .1 .0 ∙ pre .1 .0)
+    at (subst (Says (spans (c23 .spans .last .1 .1 .1 .1 .0) (c23 .spans .last .1 .1 .1 .1 .1 .0))
+    (length (c23 .spans .last .1 .1 .1 .1 .0)) (cellsOf (args .tender))) (c14 .enum-told .given .1) (c16 .thin-spans .ensures)))
+    (c8 .award .last .1 .1 .1 .1 .0) (c8 .award .last .1 .1 .1 .1 .1 .0) (c .totals .result)
+    (omega (arith, c28 .prices .kept .1 .0, pre .1 .1 .1)) (c8 .award .ensures)
+    (rw (c23 .spans .kept .1 .1 .1 .1 .0 ∙ pre .1 .0) at (c .totals .ensures))
 
 pub single-in-spec : {M : Type 1} → statement M
 single-in-spec =
@@ -244,6 +280,7 @@ single-in-spec =
     add-t30
     enum-told
     award-requires
+    totals-requires
     same-length
     same-length-2
     same-length-3

@@ -47,17 +47,14 @@ award-in-requires c κs =
       (
         P .1 .1 .0,
         (
-          P .1 .1 .1 .0,
+          P .1 .0,
           (
             P .1 .0,
             (
-              P .1 .0,
+              omega arith,
               (
                 omega arith,
-                (
-                  omega arith,
-                  (omega arith, (omega arith, (omega arith, (refl, (refl, (refl, P .1 .1 .1 .1)))))),
-                ),
+                (omega arith, (omega arith, (omega arith, (refl, (refl, (refl, P .1 .1 .1)))))),
               ),
             ),
           ),

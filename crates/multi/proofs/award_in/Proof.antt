@@ -6,7 +6,7 @@ use lib.ListN.{length, length-append, length-drop}
 use lib.Seq.{length-take-le}
 use Rattle.tender.specs.Limits.{maxEntries}
 use Rattle.multi_tournament.specs.OrderLaws.{product}
-use Rattle.multi.specs.SumsLaws.{settles}
+use Rattle.multi.specs.LentLaws.{settles}
 use borrow.Author.Needs.{needs}
 use Rattle.multi.proofs.award_in.Statement.{statement}
 use Rattle.multi.proofs.award_in.Tie as tie
@@ -30,7 +30,7 @@ slice-relend-prefix-settle c =
       arith,
       product (A .w) (length (A .prices .now)) 158 maxEntries (P .0 .words) (P .0 .priced .count),
       P .0 .size,
-      P .1 .1 .1 .1 .1 .0,
+      P .1 .1 .1 .1 .0,
     )
 
 slice-aggregate-settle : tie.Need-slice-aggregate-settle
@@ -42,7 +42,7 @@ slice-aggregate-settle c =
       arith,
       product (A .w) (length (A .prices .now)) 158 maxEntries (P .0 .words) (P .0 .priced .count),
       P .0 .size,
-      P .1 .1 .1 .1 .1 .0,
+      P .1 .1 .1 .1 .0,
     )))
 
 slice-relend-prefix-settle-2 : tie.Need-slice-relend-prefix-settle-2
@@ -53,7 +53,7 @@ slice-aggregate-settle-2 c =
     let c18 = c .before .before .before .before .before .before .before .before .before .before .before .before .before .before .before
     .before .before .before in
     let P = c18 .pre in let A = c18 .args in sym (length-take-le (16 * A .w) (A .index .now)
-    (omega (arith, P .0 .words, P .1 .1 .1 .1 .1 .1 .0)))
+    (omega (arith, P .0 .words, P .1 .1 .1 .1 .1 .0)))
 
 slice-relend-prefix-settle-3 : tie.Need-slice-relend-prefix-settle-3
 slice-relend-prefix-settle-3 c = search needs
@@ -63,7 +63,7 @@ slice-aggregate-settle-3 c =
     let c19 = c .before .before .before .before .before .before .before .before .before .before .before .before .before .before .before
     .before .before .before .before in
     let P = c19 .pre in let A = c19 .args in sym (length-take-le (A .w) (A .held .now)
-    (omega (arith, P .0 .words, P .1 .1 .1 .1 .1 .1 .1 .0)))
+    (omega (arith, P .0 .words, P .1 .1 .1 .1 .1 .1 .0)))
 
 slice-relend-prefix-settle-4 : tie.Need-slice-relend-prefix-settle-4
 slice-relend-prefix-settle-4 c = search needs
@@ -73,7 +73,7 @@ slice-aggregate-settle-4 c =
     let c20 = c .before .before .before .before .before .before .before .before .before .before .before .before .before .before .before
     .before .before .before .before .before in
     let P = c20 .pre in let A = c20 .args in sym (length-take-le (A .w) (A .alt .now)
-    (omega (arith, P .0 .words, P .1 .1 .1 .1 .1 .1 .1 .1 .0)))
+    (omega (arith, P .0 .words, P .1 .1 .1 .1 .1 .1 .1 .0)))
 
 slice-relend-prefix-settle-5 : tie.Need-slice-relend-prefix-settle-5
 slice-relend-prefix-settle-5 c = search needs
@@ -83,33 +83,33 @@ slice-aggregate-settle-5 c =
     let c21 = c .before .before .before .before .before .before .before .before .before .before .before .before .before .before .before
     .before .before .before .before .before .before in
     let P = c21 .pre in let A = c21 .args in sym (length-take-le (A .w + 2) (A .counts .now)
-    (omega (arith, P .0 .words, P .1 .1 .1 .1 .1 .1 .1 .1 .1 .0)))
+    (omega (arith, P .0 .words, P .1 .1 .1 .1 .1 .1 .1 .1 .0)))
 
 slice-relend-prefix-settle-6 : tie.Need-slice-relend-prefix-settle-6
 slice-relend-prefix-settle-6 c =
     let c24 = c .before .before .before .before .before .before .before .before .before .before .before .before .before .before .before
     .before .before .before .before .before .before .before .before .before in
-    let P = c24 .pre in let A = c24 .args in P .1 .1 .1 .1 .1 .1 .1 .1 .1 .1 .1 .1 .1 .0
+    let P = c24 .pre in let A = c24 .args in P .1 .1 .1 .1 .1 .1 .1 .1 .1 .1 .1 .1 .0
 
 slice-aggregate-settle-6 : tie.Need-slice-aggregate-settle-6
 slice-aggregate-settle-6 c =
     let c25 = c .before .before .before .before .before .before .before .before .before .before .before .before .before .before .before
     .before .before .before .before .before .before .before .before .before .before in
     let P = c25 .pre in let A = c25 .args in sym (length-take-le (length (A .prices .now)) (A .won .now)
-    (P .1 .1 .1 .1 .1 .1 .1 .1 .1 .1 .1 .1 .1 .0))
+    (P .1 .1 .1 .1 .1 .1 .1 .1 .1 .1 .1 .1 .0))
 
 slice-relend-prefix-settle-7 : tie.Need-slice-relend-prefix-settle-7
 slice-relend-prefix-settle-7 c =
     let c25 = c .before .before .before .before .before .before .before .before .before .before .before .before .before .before .before
     .before .before .before .before .before .before .before .before .before .before in
-    let P = c25 .pre in let A = c25 .args in P .1 .1 .1 .1 .1 .1 .1 .1 .1 .1 .1 .1 .1 .1
+    let P = c25 .pre in let A = c25 .args in P .1 .1 .1 .1 .1 .1 .1 .1 .1 .1 .1 .1 .1
 
 slice-aggregate-settle-7 : tie.Need-slice-aggregate-settle-7
 slice-aggregate-settle-7 c =
     let c26 = c .before .before .before .before .before .before .before .before .before .before .before .before .before .before .before
     .before .before .before .before .before .before .before .before .before .before .before in
     let P = c26 .pre in let A = c26 .args in sym (length-take-le (length (A .prices .now)) (A .cents .now)
-    (P .1 .1 .1 .1 .1 .1 .1 .1 .1 .1 .1 .1 .1 .1))
+    (P .1 .1 .1 .1 .1 .1 .1 .1 .1 .1 .1 .1 .1))
 
 settle-requires : tie.Need-settle-requires
 settle-requires c κs =
@@ -124,34 +124,31 @@ settle-requires c κs =
           (
             P .1 .1 .1 .0,
             (
-              P .1 .1 .1 .1 .0,
+              length-take-le (length (A .masks .now)) (A .hop .now)
+                  (omega (
+                    arith,
+                    product (A .w) (length (A .prices .now)) 158 maxEntries (P .0 .words) (P .0 .priced .count),
+                    P .0 .size,
+                    P .1 .1 .1 .1 .0,
+                  )),
               (
-                length-take-le (length (A .masks .now)) (A .hop .now)
-                    (omega (
-                      arith,
-                      product (A .w) (length (A .prices .now)) 158 maxEntries (P .0 .words) (P .0 .priced .count),
-                      P .0 .size,
-                      P .1 .1 .1 .1 .1 .0,
-                    )),
+                length-take-le (16 * A .w) (A .index .now) (omega (arith, P .0 .words, P .1 .1 .1 .1 .1 .0)),
                 (
-                  length-take-le (16 * A .w) (A .index .now) (omega (arith, P .0 .words, P .1 .1 .1 .1 .1 .1 .0)),
+                  length-take-le (A .w) (A .held .now) (omega (arith, P .0 .words, P .1 .1 .1 .1 .1 .1 .0)),
                   (
-                    length-take-le (A .w) (A .held .now) (omega (arith, P .0 .words, P .1 .1 .1 .1 .1 .1 .1 .0)),
+                    length-take-le (A .w) (A .alt .now) (omega (arith, P .0 .words, P .1 .1 .1 .1 .1 .1 .1 .0)),
                     (
-                      length-take-le (A .w) (A .alt .now) (omega (arith, P .0 .words, P .1 .1 .1 .1 .1 .1 .1 .1 .0)),
+                      length-take-le (A .w + 2) (A .counts .now) (omega (arith, P .0 .words, P .1 .1 .1 .1 .1 .1 .1 .1 .0)),
                       (
-                        length-take-le (A .w + 2) (A .counts .now) (omega (arith, P .0 .words, P .1 .1 .1 .1 .1 .1 .1 .1 .1 .0)),
+                        P .1 .1 .1 .1 .1 .1 .1 .1 .1 .0,
                         (
                           P .1 .1 .1 .1 .1 .1 .1 .1 .1 .1 .0,
                           (
                             P .1 .1 .1 .1 .1 .1 .1 .1 .1 .1 .1 .0,
                             (
-                              P .1 .1 .1 .1 .1 .1 .1 .1 .1 .1 .1 .1 .0,
-                              (
-                                length-take-le (length (A .prices .now)) (A .won .now)
-                                    (P .1 .1 .1 .1 .1 .1 .1 .1 .1 .1 .1 .1 .1 .0),
-                                length-take-le (length (A .prices .now)) (A .cents .now) (P .1 .1 .1 .1 .1 .1 .1 .1 .1 .1 .1 .1 .1 .1),
-                              ),
+                              length-take-le (length (A .prices .now)) (A .won .now)
+                                  (P .1 .1 .1 .1 .1 .1 .1 .1 .1 .1 .1 .1 .0),
+                              length-take-le (length (A .prices .now)) (A .cents .now) (P .1 .1 .1 .1 .1 .1 .1 .1 .1 .1 .1 .1 .1),
                             ),
                           ),
                         ),
@@ -167,10 +164,16 @@ settle-requires c κs =
     )
 
 same-length : tie.Need-same-length
-same-length c = search needs
+same-length c =
+    let c24 = c .before .before .before .before .before .before .before .before .before .before .before .before .before .before .before
+    .before .before .before .before .before .before .before .before .before in
+    c24 .settle .kept .1 .1 .1 .1 .0
 
 same-length-2 : tie.Need-same-length-2
-same-length-2 c = search needs
+same-length-2 c =
+    let c24 = c .before .before .before .before .before .before .before .before .before .before .before .before .before .before .before
+    .before .before .before .before .before .before .before .before .before in
+    c24 .settle .kept .1 .1 .1 .1 .1 .0
 
 same-length-3 : tie.Need-same-length-3
 same-length-3 c =
@@ -183,7 +186,7 @@ same-length-3 c =
       arith,
       product (A .w) (length (A .prices .now)) 158 maxEntries (P .0 .words) (P .0 .priced .count),
       P .0 .size,
-      P .1 .1 .1 .1 .1 .0,
+      P .1 .1 .1 .1 .0,
     ) in simp (length-append, length-drop)
     (omega (arith, c24 .settle .kept .1 .1 .1 .1 .1 .1 .0 ∙ length-take-le (length (A .masks .now)) (A .hop .now) i))
 
@@ -194,7 +197,7 @@ same-length-4 c =
     let c51 = c24 .before .before .before .before .before .before .before .before .before .before .before .before .before .before .before
     .before .before .before .before .before .before .before .before .before .before .before .before in
     let P = c51 .pre in let A = c51 .args in let i : 16 * A .w ≤ length (A .index .now) =
-    omega (arith, P .0 .words, P .1 .1 .1 .1 .1 .1 .0) in
+    omega (arith, P .0 .words, P .1 .1 .1 .1 .1 .0) in
     simp (length-append, length-drop) (omega (
       arith,
       c24 .settle .kept .1 .1 .1 .1 .1 .1 .1 .0
@@ -202,7 +205,18 @@ same-length-4 c =
     ))
 
 same-length-5 : tie.Need-same-length-5
-same-length-5 c = search needs
+same-length-5 c =
+    let c24 = c .before .before .before .before .before .before .before .before .before .before .before .before .before .before .before
+    .before .before .before .before .before .before .before .before .before in
+    let c51 = c24 .before .before .before .before .before .before .before .before .before .before .before .before .before .before .before
+    .before .before .before .before .before .before .before .before .before .before .before .before in
+    let P = c51 .pre in let A = c51 .args in let i : A .w ≤ length (A .held .now) =
+    omega (arith, P .0 .words, P .1 .1 .1 .1 .1 .1 .0) in
+    simp (length-append, length-drop) (omega (
+      arith,
+      c24 .settle .kept .1 .1 .1 .1 .1 .1 .1 .1 .0
+          ∙ length-take-le (A .w) (A .held .now) i,
+    ))
 
 same-length-6 : tie.Need-same-length-6
 same-length-6 c = search needs
@@ -232,7 +246,7 @@ returns c =
     let c51 = c24 .before .before .before .before .before .before .before .before .before .before .before .before .before .before .before
     .before .before .before .before .before .before .before .before .before .before .before .before in
     let args = c51 .args in
-    settles (args .won .now) (args .cents .now) (c24 .settle .ensures)
+    settles (args .won .now) (args .cents .now) (c51 .pre .1 .1 .1 .1 .1 .1 .1 .1 .1 .1 .1 .1 .1) (c24 .settle .ensures)
 
 pub award-in-spec : {M : Type 1} → statement M
 award-in-spec =

@@ -2,7 +2,6 @@
 use mathlib.Core.Path.{_∙_}
 use native.Mathlib.Omega.{arith}
 use Rattle.multi_pay.specs.AlongLaws.{starts}
-use Rattle.multi.specs.SumsLaws.{awarded, paid-lengths}
 use borrow.Author.Needs.{needs}
 use Rattle.multi.proofs.settle.Statement.{statement}
 use Rattle.multi.proofs.settle.Tie as tie
@@ -11,7 +10,6 @@ use Rattle.multi.proofs.settle.Lts as lts
 use Rattle.multi_charts.proofs.chart.Reads as chart-reads
 use Rattle.multi_charts.proofs.enlist.Reads as enlist-reads
 use Rattle.multi.proofs.run.Reads as run-reads
-use Rattle.multi.proofs.totals.Reads as totals-reads
 use Rattle.multi_pay.proofs.pay_all.Reads as pay-all-reads
 use Rattle.multi_rounds.proofs.clear.Reads as clear-reads
 use Rattle.multi_rounds.proofs.unlock.Reads as unlock-reads
@@ -19,14 +17,14 @@ use Rattle.multi_rounds.proofs.unlock.Reads as unlock-reads
 chart-requires : tie.Need-chart-requires
 chart-requires c κs =
     let c15 = c .before .before .before .before .before .before .before .before .before .before .before .before .before .before .before in
-    let P = c15 .pre in (P .0, P .1 .1 .1 .1 .1 .0)
+    let P = c15 .pre in (P .0, P .1 .1 .1 .1 .0)
 
 enlist-requires : tie.Need-enlist-requires
 enlist-requires c κs =
     let c4 = c .before .before .before .before in
     let c20 = c4 .before .before .before .before .before .before .before .before .before .before .before .before .before .before .before
     .before in
-    let P = c20 .pre in (P .0, (c4 .chart .ensures, P .1 .1 .1 .1 .1 .1 .0))
+    let P = c20 .pre in (P .0, (c4 .chart .ensures, P .1 .1 .1 .1 .1 .0))
 
 run-requires : tie.Need-run-requires
 run-requires c κs =
@@ -40,12 +38,12 @@ run-requires c κs =
         (
           P .1 .0,
           (
-            P .1 .1 .1 .0,
+            P .1 .1 .0,
             (
-              P .1 .1 .1 .1 .0,
+              P .1 .1 .1 .0,
               (
-                P .1 .1 .1 .1 .1 .1 .1 .0,
-                (P .1 .1 .1 .1 .1 .1 .1 .1 .1 .0, (P .1 .1 .1 .1 .1 .1 .1 .1 .1 .1 .0, P .1 .1 .1 .1 .1 .1 .1 .1 .1 .1 .1 .0)),
+                P .1 .1 .1 .1 .1 .1 .0,
+                (P .1 .1 .1 .1 .1 .1 .1 .1 .0, (P .1 .1 .1 .1 .1 .1 .1 .1 .1 .0, P .1 .1 .1 .1 .1 .1 .1 .1 .1 .1 .0)),
               ),
             ),
           ),
@@ -58,7 +56,7 @@ unlock-requires c κs =
     let c13 = c .before .before .before .before .before .before .before .before .before .before .before .before .before in
     let c44 = c13 .before .before .before .before .before .before .before .before .before .before .before .before .before .before .before
     .before .before .before .before .before .before .before .before .before .before .before .before .before .before .before .before in
-    let P = c44 .pre in let e = c13 .run .kept .1 .1 .1 .1 .1 .0 ∙ P .1 .1 .1 .1 .1 .1 .1 .0 in
+    let P = c44 .pre in let e = c13 .run .kept .1 .1 .1 .1 .1 .0 ∙ P .1 .1 .1 .1 .1 .1 .0 in
     (omega (arith, P .1 .0), omega (arith, P .0 .words))
 
 clear-requires : tie.Need-clear-requires
@@ -86,137 +84,96 @@ pay-all-requires c κs =
         cells-in = P .1 .0;
       },
       (
-        starts (c22 .unlock .kept .0 ∙ c36 .run .kept .1 .1 .1 .1 .1 .0 ∙ P .1 .1 .1 .1 .1 .1 .1 .0) (c22 .unlock .ensures)
-            (c18 .clear .ensures) (c18 .clear .kept .0 ∙ P .1 .1 .1 .1 .1 .1 .1 .1 .1 .1 .1 .1 .1 .0) (c14 .clear2 .ensures)
-            (c14 .clear2 .kept .0 ∙ P .1 .1 .1 .1 .1 .1 .1 .1 .1 .1 .1 .1 .1 .1),
+        starts (c22 .unlock .kept .0 ∙ c36 .run .kept .1 .1 .1 .1 .1 .0 ∙ P .1 .1 .1 .1 .1 .1 .0) (c22 .unlock .ensures)
+            (c18 .clear .ensures) (c18 .clear .kept .0 ∙ P .1 .1 .1 .1 .1 .1 .1 .1 .1 .1 .1 .1 .0) (c14 .clear2 .ensures)
+            (c14 .clear2 .kept .0 ∙ P .1 .1 .1 .1 .1 .1 .1 .1 .1 .1 .1 .1 .1),
         (
-          P .1 .1 .1 .1 .1 .1 .1 .1 .0,
+          P .1 .1 .1 .1 .1 .1 .1 .0,
           (
-            c36 .run .kept .1 .1 .1 .1 .1 .1 .0 ∙ P .1 .1 .1 .1 .1 .1 .1 .1 .1 .0,
-            (c36 .run .ensures .1, P .1 .1 .1 .1 .1 .1 .1 .1 .1 .1 .1 .1 .0),
+            c36 .run .kept .1 .1 .1 .1 .1 .1 .0 ∙ P .1 .1 .1 .1 .1 .1 .1 .1 .0,
+            (c36 .run .ensures .1, P .1 .1 .1 .1 .1 .1 .1 .1 .1 .1 .1 .0),
           ),
         ),
       ),
     )
 
-totals-requires : tie.Need-totals-requires
-totals-requires c κs =
-    let c18 = c .before .before .before .before .before .before .before .before .before .before .before .before .before .before .before
-    .before .before .before in
-    let c86 = c18 .before .before .before .before .before .before .before .before .before .before .before .before .before .before .before
-    .before .before .before .before .before .before .before .before .before .before .before .before .before .before .before .before
-    .before .before .before .before .before .before .before .before .before .before .before .before .before .before .before .before
-    .before .before .before .before .before .before .before .before .before .before .before .before .before .before .before .before
-    .before .before .before .before .before in
-    let p = paid-lengths (c18 .pay-all .ensures) in (c86 .pre .0 .priced, (p .0, (p .1, c18 .pay-all .ensures .small)))
-
 same-length : tie.Need-same-length
 same-length c =
-    let c56 = c .before .before .before .before .before .before .before .before .before .before .before .before .before .before .before
-    .before .before .before .before .before .before .before .before .before .before .before .before .before .before .before .before
-    .before .before .before .before .before .before .before .before .before .before .before .before .before .before .before .before
-    .before .before .before .before .before .before .before .before .before in
-    c56 .run .kept .1 .1 .1 .1 .1 .1 .1 .1 .1 .0
+    let c53 = c .before .before .before .before .before .before .before .before .before .before .before .before .before .before .before .before .before .before .before .before .before .before .before .before .before .before .before .before .before .before .before .before .before .before .before .before .before .before .before .before .before .before .before .before .before .before .before .before .before .before .before .before .before in
+    c53 .run .kept .1 .1 .1 .1 .1 .1 .1 .1 .1 .0
 
 same-length-2 : tie.Need-same-length-2
 same-length-2 c =
-    let c56 = c .before .before .before .before .before .before .before .before .before .before .before .before .before .before .before
-    .before .before .before .before .before .before .before .before .before .before .before .before .before .before .before .before
-    .before .before .before .before .before .before .before .before .before .before .before .before .before .before .before .before
-    .before .before .before .before .before .before .before .before .before in
-    c56 .run .kept .1 .1 .1 .1 .1 .1 .1 .1 .1 .1 .0
+    let c53 = c .before .before .before .before .before .before .before .before .before .before .before .before .before .before .before .before .before .before .before .before .before .before .before .before .before .before .before .before .before .before .before .before .before .before .before .before .before .before .before .before .before .before .before .before .before .before .before .before .before .before .before .before .before in
+    c53 .run .kept .1 .1 .1 .1 .1 .1 .1 .1 .1 .1 .0
 
 same-length-3 : tie.Need-same-length-3
 same-length-3 c =
-    let c71 = c .before .before .before .before .before .before .before .before .before .before .before .before .before .before .before
-    .before .before .before .before .before .before .before .before .before .before .before .before .before .before .before .before
-    .before .before .before .before .before .before .before .before .before .before .before .before .before .before .before .before
-    .before .before .before .before .before .before .before .before .before .before .before .before .before .before .before .before
-    .before .before .before .before .before .before .before .before in
-    c71 .chart .kept .1 .1 .1 .0
+    let c68 = c .before .before .before .before .before .before .before .before .before .before .before .before .before .before .before .before .before .before .before .before .before .before .before .before .before .before .before .before .before .before .before .before .before .before .before .before .before .before .before .before .before .before .before .before .before .before .before .before .before .before .before .before .before .before .before .before .before .before .before .before .before .before .before .before .before .before .before .before in
+    c68 .chart .kept .1 .1 .1 .0
 
 same-length-4 : tie.Need-same-length-4
 same-length-4 c =
-    let c66 = c .before .before .before .before .before .before .before .before .before .before .before .before .before .before .before
-    .before .before .before .before .before .before .before .before .before .before .before .before .before .before .before .before
-    .before .before .before .before .before .before .before .before .before .before .before .before .before .before .before .before
-    .before .before .before .before .before .before .before .before .before .before .before .before .before .before .before .before
-    .before .before .before in
-    c66 .enlist .kept .1 .1 .1 .1 .0
+    let c63 = c .before .before .before .before .before .before .before .before .before .before .before .before .before .before .before .before .before .before .before .before .before .before .before .before .before .before .before .before .before .before .before .before .before .before .before .before .before .before .before .before .before .before .before .before .before .before .before .before .before .before .before .before .before .before .before .before .before .before .before .before .before .before .before in
+    c63 .enlist .kept .1 .1 .1 .1 .0
 
 same-length-5 : tie.Need-same-length-5
 same-length-5 c =
-    let c19 = c .before .before .before .before .before .before .before .before .before .before .before .before .before .before .before
-    .before .before .before .before in
-    let c42 = c19 .before .before .before .before .before .before .before .before .before .before .before .before .before .before .before
+    let c16 = c .before .before .before .before .before .before .before .before .before .before .before .before .before .before .before .before in
+    let c39 = c16 .before .before .before .before .before .before .before .before .before .before .before .before .before .before .before
     .before .before .before .before .before .before .before .before in
-    let c56 = c42 .before .before .before .before .before .before .before .before .before .before .before .before .before .before in
-    c19 .pay-all .kept .1 .1 .1 .1 .1 .1 .1 .1 .1 .0 ∙ c42 .unlock .kept .0 ∙ c56 .run .kept .1 .1 .1 .1 .1 .0
+    let c53 = c39 .before .before .before .before .before .before .before .before .before .before .before .before .before .before in
+    c16 .pay-all .kept .1 .1 .1 .1 .1 .1 .1 .1 .1 .0 ∙ c39 .unlock .kept .0 ∙ c53 .run .kept .1 .1 .1 .1 .1 .0
 
 same-length-6 : tie.Need-same-length-6
 same-length-6 c =
-    let c19 = c .before .before .before .before .before .before .before .before .before .before .before .before .before .before .before
-    .before .before .before .before in
-    c19 .pay-all .kept .1 .1 .1 .1 .1 .1 .1 .1 .1 .1 .0
+    let c16 = c .before .before .before .before .before .before .before .before .before .before .before .before .before .before .before .before in
+    c16 .pay-all .kept .1 .1 .1 .1 .1 .1 .1 .1 .1 .1 .0
 
 same-length-7 : tie.Need-same-length-7
 same-length-7 c =
-    let c19 = c .before .before .before .before .before .before .before .before .before .before .before .before .before .before .before
-    .before .before .before .before in
-    let c56 = c19 .before .before .before .before .before .before .before .before .before .before .before .before .before .before .before
+    let c16 = c .before .before .before .before .before .before .before .before .before .before .before .before .before .before .before .before in
+    let c53 = c16 .before .before .before .before .before .before .before .before .before .before .before .before .before .before .before
     .before .before .before .before .before .before .before .before .before .before .before .before .before .before .before .before
     .before .before .before .before .before .before in
-    c19 .pay-all .kept .1 .1 .1 .1 .1 .1 .1 .1 .1 .1 .1 .0 ∙ c56 .run .kept .1 .1 .1 .1 .1 .1 .0
+    c16 .pay-all .kept .1 .1 .1 .1 .1 .1 .1 .1 .1 .1 .1 .0 ∙ c53 .run .kept .1 .1 .1 .1 .1 .1 .0
 
 same-length-8 : tie.Need-same-length-8
 same-length-8 c =
-    let c19 = c .before .before .before .before .before .before .before .before .before .before .before .before .before .before .before
-    .before .before .before .before in
-    let c56 = c19 .before .before .before .before .before .before .before .before .before .before .before .before .before .before .before
+    let c16 = c .before .before .before .before .before .before .before .before .before .before .before .before .before .before .before .before in
+    let c53 = c16 .before .before .before .before .before .before .before .before .before .before .before .before .before .before .before
     .before .before .before .before .before .before .before .before .before .before .before .before .before .before .before .before
     .before .before .before .before .before .before in
-    c19 .pay-all .kept .1 .1 .1 .1 .1 .1 .1 .1 .1 .1 .1 .1 .0 ∙ c56 .run .kept .1 .1 .1 .1 .1 .1 .1 .0
+    c16 .pay-all .kept .1 .1 .1 .1 .1 .1 .1 .1 .1 .1 .1 .1 .0 ∙ c53 .run .kept .1 .1 .1 .1 .1 .1 .1 .0
 
 same-length-9 : tie.Need-same-length-9
 same-length-9 c =
-    let c19 = c .before .before .before .before .before .before .before .before .before .before .before .before .before .before .before
-    .before .before .before .before in
-    let c56 = c19 .before .before .before .before .before .before .before .before .before .before .before .before .before .before .before
+    let c16 = c .before .before .before .before .before .before .before .before .before .before .before .before .before .before .before .before in
+    let c53 = c16 .before .before .before .before .before .before .before .before .before .before .before .before .before .before .before
     .before .before .before .before .before .before .before .before .before .before .before .before .before .before .before .before
     .before .before .before .before .before .before in
-    c19 .pay-all .kept .1 .1 .1 .1 .1 .1 .1 .1 .1 .1 .1 .1 .1 .0 ∙ c56 .run .kept .1 .1 .1 .1 .1 .1 .1 .1 .0
+    c16 .pay-all .kept .1 .1 .1 .1 .1 .1 .1 .1 .1 .1 .1 .1 .1 .0 ∙ c53 .run .kept .1 .1 .1 .1 .1 .1 .1 .1 .0
 
 same-length-10 : tie.Need-same-length-10
 same-length-10 c =
-    let c19 = c .before .before .before .before .before .before .before .before .before .before .before .before .before .before .before
-    .before .before .before .before in
-    c19 .pay-all .kept .1 .1 .1 .1 .1 .1 .1 .1 .1 .1 .1 .1 .1 .1 .0
+    let c16 = c .before .before .before .before .before .before .before .before .before .before .before .before .before .before .before .before in
+    c16 .pay-all .kept .1 .1 .1 .1 .1 .1 .1 .1 .1 .1 .1 .1 .1 .1 .0
 
 same-length-11 : tie.Need-same-length-11
 same-length-11 c =
-    let c19 = c .before .before .before .before .before .before .before .before .before .before .before .before .before .before .before
+    let c16 = c .before .before .before .before .before .before .before .before .before .before .before .before .before .before .before .before in
+    let c35 = c16 .before .before .before .before .before .before .before .before .before .before .before .before .before .before .before
     .before .before .before .before in
-    let c38 = c19 .before .before .before .before .before .before .before .before .before .before .before .before .before .before .before
-    .before .before .before .before in
-    c19 .pay-all .kept .1 .1 .1 .1 .1 .1 .1 .1 .1 .1 .1 .1 .1 .1 .1 .0 ∙ c38 .clear .kept .0
+    c16 .pay-all .kept .1 .1 .1 .1 .1 .1 .1 .1 .1 .1 .1 .1 .1 .1 .1 .0 ∙ c35 .clear .kept .0
 
 same-length-12 : tie.Need-same-length-12
 same-length-12 c =
-    let c19 = c .before .before .before .before .before .before .before .before .before .before .before .before .before .before .before
-    .before .before .before .before in
-    let c34 = c19 .before .before .before .before .before .before .before .before .before .before .before .before .before .before .before in
-    c19 .pay-all .kept .1 .1 .1 .1 .1 .1 .1 .1 .1 .1 .1 .1 .1 .1 .1 .1 .0 ∙ c34 .clear2 .kept .0
+    let c16 = c .before .before .before .before .before .before .before .before .before .before .before .before .before .before .before .before in
+    let c31 = c16 .before .before .before .before .before .before .before .before .before .before .before .before .before .before .before in
+    c16 .pay-all .kept .1 .1 .1 .1 .1 .1 .1 .1 .1 .1 .1 .1 .1 .1 .1 .1 .0 ∙ c31 .clear2 .kept .0
 
 returns : tie.Need-returns
-returns c =
-    let c19 = c .before .before .before .before .before .before .before .before .before .before .before .before .before .before .before
-    .before .before .before .before in
-    let c87 = c19 .before .before .before .before .before .before .before .before .before .before .before .before .before .before .before
-    .before .before .before .before .before .before .before .before .before .before .before .before .before .before .before .before
-    .before .before .before .before .before .before .before .before .before .before .before .before .before .before .before .before
-    .before .before .before .before .before .before .before .before .before .before .before .before .before .before .before .before
-    .before .before .before .before .before in
-    awarded (c87 .pre .1 .1 .0) (c19 .pay-all .ensures) (c .totals .ensures)
+returns c = let c16 = c .before .before .before .before .before .before .before .before .before .before .before .before .before .before .before .before in c16 .pay-all .ensures
 
 pub settle-spec : {M : Type 1} → statement M
 settle-spec =
@@ -229,7 +186,6 @@ settle-spec =
     clear-requires
     clear-requires-2
     pay-all-requires
-    totals-requires
     same-length
     same-length-2
     same-length-3

@@ -1,5 +1,5 @@
 -- `single::award` meets its contract: the selection gives the winners, the payments the rest. Assumes nothing.
-use Rattle.single.specs.PayLaws.{pays-most, selected-flags, selected-all, award-settled}
+use Rattle.single.specs.PayLaws.{selected-flags, selected-all, award-settled}
 use native.Mathlib.Omega.{arith}
 use borrow.Author.Needs.{needs}
 use Rattle.single.proofs.award.Statement.{statement}
@@ -70,21 +70,6 @@ payments-requires c κs =
       ),
     )
 
-total-requires : tie.Need-total-requires
-total-requires c κs =
-    let c23 = c .before .before .before .before .before .before .before .before .before .before .before .before .before .before .before
-    .before .before .before .before .before .before .before .before in
-    let args = c23 .args in
-    let pre = c23 .pre in (
-      (omega (arith, pre .1 .0, c .before .before .before .payments .kept), omega (arith, pre .0)),
-      λ i l. omega (
-        arith,
-        c .before .before .before .payments .ensures .values i l,
-        pays-most (args .starts .now) (args .ends .now) (args .prices .now) (args .cells) i,
-        pre .1 .1 .1,
-      ),
-    )
-
 same-length : tie.Need-same-length
 same-length c = search needs
 
@@ -93,10 +78,9 @@ same-length-2 c = search needs
 
 returns : tie.Need-returns
 returns c =
-    let c4 = c .before .before .before .before in
-    let c12 = c4 .before .before .before .before .before .before .before .before in
-    let c24 = c12 .before .before .before .before .before .before .before .before .before .before .before .before in
-    award-settled _ _ _ _ _ _ _ _ _ _ _ (omega (arith, c24 .pre .1 .0)) (c12 .winners .ensures) (c4 .payments .ensures) (c .total .ensures)
+    let c10 = c .before .before .before .before .before .before .before .before .before .before in
+    let c22 = c10 .before .before .before .before .before .before .before .before .before .before .before .before in
+    award-settled _ _ _ _ _ _ _ _ _ _ (c22 .pre .1 .1 .1) (c10 .winners .ensures) (c .before .before .payments .ensures)
 
 pub award-spec : {M : Type 1} → statement M
 award-spec =
@@ -110,7 +94,6 @@ award-spec =
     slice-aggregate-payments
     slice-aggregate-payments-2
     payments-requires
-    total-requires
     same-length
     same-length-2
     returns)

@@ -1,10 +1,10 @@
--- `multi::only` meets its contract. Assumes nothing.
+-- `award_plain::only` meets its contract. Assumes nothing.
 use borrow.Author.Tests.{eq-eqb, ne-eqb}
 use native.Mathlib.Omega.{arith}
-use Rattle.multi.proofs.only.Statement.{statement}
-use Rattle.multi.proofs.only.Tie as tie
-use Rattle.multi.proofs.only.Reads as reads
-use Rattle.multi.proofs.only.Lts as lts
+use Rattle.award_plain.proofs.only.Statement.{statement}
+use Rattle.award_plain.proofs.only.Tie as tie
+use Rattle.award_plain.proofs.only.Reads as reads
+use Rattle.award_plain.proofs.only.Lts as lts
 
 returns : tie.Need-returns
 returns c = (rw (eq-eqb (c .before .args .flag) 1 (c .if1 .taken)), omega arith)
