@@ -11,8 +11,7 @@ use lib.Seq.{length-take-le, getD-take, getD-drop}
 use lib.Bits.{bitAnd, bitOr}
 use lib.Dec.{leb, ltb, eqb}
 use borrow.Author.Tests.{leb-true, leb-false, le-leb, lt-ltb, le-ltb, ltb-true, ltb-false, eqb-true, eqb-false}
-use Rattle.cells.specs.Cells.{bitOf, cell}
-use Rattle.cells.specs.Hops.{Next}
+use Rattle.cells.specs.Cells.{bitOf, cell, Next}
 use Rattle.cells.specs.BitLaws.{bit-lt, zero-bit, and-bit, or-bit}
 use Rattle.cells.specs.StoreLaws.{lt-or-le, cell-lt, set-same, set-other}
 use Rattle.cover.specs.Sets.{when, bidders}

@@ -12,6 +12,10 @@ bitOf w k = w / 2 ^ k % 2
 unfoldable pub cell : List ℕ → ℕ → ℕ
 cell ws x = bitOf (getD ws (x / 64) 0) (x % 64)
 
+-- a word with all its cells
+abbrev pub whole : ℕ
+whole = 18446744073709551615
+
 -- f 0 + .. + f (n - 1)
 unfoldable pub total : (ℕ → ℕ) → ℕ → ℕ
 total f zero = zero
@@ -42,3 +46,11 @@ pub record RangeAdded (s e : ℕ) (old new : List ℕ) : Type 0 where
   pub inside : (x : ℕ) → s ≤ x → x < e → cell new x ≡ 1
   pub below : (x : ℕ) → x < s → cell new x ≡ cell old x
   pub above : (x : ℕ) → e ≤ x → cell new x ≡ cell old x
+
+-- the first x from `from` on that is a cell of a and not of b; past the last cell where there is none
+pub record Next (a b : List ℕ) (from r : ℕ) : Type 0 where
+  pub on : from ≤ r
+  pub within : r ≤ 64 * length a
+  pub none : (x : ℕ) → from ≤ x → x < r → cell a x ≡ 1 → cell b x ≡ 1
+  pub inside : r < 64 * length a → cell a r ≡ 1
+  pub outside : r < 64 * length a → cell b r ≡ 0

@@ -9,8 +9,7 @@ use lib.ListN.{length, getD}
 use lib.Pow.{shr-shr, shr-le, pow-mono}
 use lib.Bits.{bitAnd, and-le-l}
 use lib.Count.{trailingZeros, under}
-use Rattle.cells.specs.Cells.{cell, bitOf}
-use Rattle.cells.specs.Hops.{whole, Next}
+use Rattle.cells.specs.Cells.{cell, bitOf, whole, Next}
 use Rattle.cells.specs.BitLaws.{bit-suc, clear-bit, zero-bit}
 use Rattle.cells.specs.StoreLaws.{lt-or-le}
 

@@ -37,7 +37,7 @@ fn run(
         × Tournament (now (prices .entry)) (now (who .exit)) (now (num .exit)) ⌝ }
 {
     multi_rounds::unlock(held, count);
-    cells::count_none(held, counts);
+    cells_count::count_none(held, counts);
     multi_tournament::seat(who);
     multi_rounds::clear(num);
     multi_rounds::enter(prices, masks, hop, w, held, counts, who, num);

@@ -10,8 +10,8 @@ use lib.ListN.{length, set, length-set}
 use lib.Seq.{getD-set-same, getD-set-other, ext-getD}
 use lib.Dec.{eqb}
 use borrow.Author.Tests.{eqb-true, eqb-false}
-use Rattle.cells.specs.Cells.{cell, RangeAdded}
-use Rattle.cells.specs.Hops.{whole, Hops, Onward}
+use Rattle.cells.specs.Cells.{cell, RangeAdded, whole}
+use Rattle.cells_count.specs.Hops.{Hops, Onward}
 use Rattle.cells.specs.StoreLaws.{lt-or-le}
 use Rattle.multi_tournament.specs.Tournament.{at}
 use Rattle.multi_rounds.specs.Market.{wordRow, Market, Hopping}

@@ -4,7 +4,7 @@ use mathlib.Core.Logic.{_⊎_}
 use mathlib.Core.List.{List}
 use Prim.Native.Nat.{ℕ, _+_, _-_, _*_, _≤_, _<_}
 use Rattle.cells.specs.Cells.{cell}
-use Rattle.cells.specs.Hops.{Hops}
+use Rattle.cells_count.specs.Hops.{Hops}
 use Rattle.multi_tournament.specs.Tournament.{at}
 use Rattle.multi_rounds.specs.Market.{wordRow}
 

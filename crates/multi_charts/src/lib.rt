@@ -4,7 +4,7 @@ ghost use mathlib.Core.Path.{_≡_};
 ghost use Prim.Native.Nat.{_+_, _*_, _<_, _≤_};
 ghost use lib.ListN.{length};
 ghost use Rattle.tender.specs.Limits.{maxEntries};
-ghost use Rattle.cells.specs.Hops.{Hops};
+ghost use Rattle.cells_count.specs.Hops.{Hops};
 ghost use Rattle.multi_rounds.specs.Market.{wordRow, Market, Hopping};
 ghost use Rattle.multi_marks.specs.Marks.{Indexed};
 ghost use Rattle.multi_charts.specs.Charts.{Backed, Charted, Enlisted};
@@ -81,9 +81,9 @@ fn enlist_row(masks: &[u64], hop: &[u8], w: usize, i: usize, index: &mut [u64])
     while q < w {
         if masks[a + q] != 0 {
             cells::add(index, 1024 * q + i);
-            q = cells::onward(&masks[a..e], &hop[a..e], q);
+            q = cells_count::onward(&masks[a..e], &hop[a..e], q);
         } else {
-            q = cells::onward(&masks[a..e], &hop[a..e], q);
+            q = cells_count::onward(&masks[a..e], &hop[a..e], q);
         }
     }
 }

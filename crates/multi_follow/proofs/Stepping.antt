@@ -9,7 +9,7 @@ use Prim.Native.Nat.{ℕ, _+_, _*_, _≤_, _<_}
 use native.Mathlib.Omega.{arith}
 use lib.ListN.{length}
 use Rattle.cells.specs.Cells.{cell, common, Closed}
-use Rattle.cells.specs.Hops.{Counted}
+use Rattle.cells_count.specs.Hops.{Counted}
 use Rattle.multi_tournament.specs.Tournament.{at, known, Tournament}
 use Rattle.multi_rounds.specs.Market.{wordRow, Fronted}
 use Rattle.multi_rounds.specs.Trace.{openOf}

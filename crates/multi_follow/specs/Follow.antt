@@ -9,7 +9,7 @@ use Rattle.cover.specs.Sets.{when, found}
 use Rattle.cover.specs.Greedy.{run, reach, best, bids}
 use Rattle.cover.specs.CriticalPrice.{late, withdrawn, bar}
 use Rattle.cells.specs.Cells.{cell, common}
-use Rattle.cells.specs.Hops.{Counted}
+use Rattle.cells_count.specs.Hops.{Counted}
 use Rattle.multi_tournament.specs.Tournament.{at, known, Tournament}
 use Rattle.multi_rounds.specs.Market.{wordRow, has, Market, Hopping}
 use Rattle.multi_rounds.specs.Trace.{opens, openOf, before, Trace}

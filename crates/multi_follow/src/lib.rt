@@ -8,7 +8,7 @@ ghost use lib.ListN.{length};
 ghost use lib.Dec.{leb, ltb};
 ghost use Rattle.cover.specs.CriticalPrice.{late};
 ghost use Rattle.cells.specs.Cells.{Closed};
-ghost use Rattle.cells.specs.Hops.{Hops, Counted};
+ghost use Rattle.cells_count.specs.Hops.{Hops, Counted};
 ghost use Rattle.multi_tournament.specs.Tournament.{at};
 ghost use Rattle.multi_rounds.specs.Market.{wordRow};
 ghost use Rattle.multi_follow.specs.Follow.{Raised, Took, Course, Walking, Takes, Stepped};

@@ -35,7 +35,7 @@ fn begin(
         (h + 1) ⌝ }
 {
     multi_rounds::copy(held, alt);
-    cells::count_none(alt, counts);
+    cells_count::count_none(alt, counts);
     multi_rounds::clear(num);
     multi_rounds::clear(mark);
     cells::add(mark, k);

@@ -11,15 +11,15 @@ use lib.Seq.{getD-set-same, getD-set-other, getD-take, getD-drop}
 use lib.Bits.{bitAnd, and-zero-l, and-zero-r}
 use lib.Dec.{eqb}
 use borrow.Author.Tests.{eqb-true, eqb-false}
-use Rattle.cells.specs.Cells.{cell, bitOf, common, RangeAdded}
-use Rattle.cells.specs.Hops.{Next, Onward}
+use Rattle.cells.specs.Cells.{cell, bitOf, common, RangeAdded, Next}
+use Rattle.cells_count.specs.Hops.{Onward}
 use Rattle.cells.specs.BitLaws.{and-bit}
 use Rattle.cells.specs.StoreLaws.{lt-or-le, cell-past}
 use Rattle.multi_tournament.specs.Tournament.{at}
 use Rattle.multi_tournament.specs.OrderLaws.{zero-or}
 use Rattle.multi_rounds.specs.Market.{wordRow}
 use Rattle.multi_rounds.specs.WordRowLaws.{row-length}
-use Rattle.cells.specs.WalkLaws.{bare-cells}
+use Rattle.cells_count.specs.WalkLaws.{bare-cells}
 use Rattle.multi_marks.specs.Marks.{Indexed, Spread, Disturbed}
 
 -- the bids below i are done

@@ -3,7 +3,7 @@
 ghost use mathlib.Core.Path.{_≡_};
 ghost use Prim.Native.Nat.{_<_};
 ghost use lib.ListN.{length};
-ghost use Rattle.cells.specs.Hops.{Counted};
+ghost use Rattle.cells_count.specs.Hops.{Counted};
 ghost use Rattle.multi_tournament.specs.Tournament.{known, Tournament};
 ghost use Rattle.multi_rounds.specs.Market.{Market, Hopping};
 ghost use Rattle.multi_marks.specs.Marks.{Indexed, Spread, Disturbed};
@@ -92,6 +92,6 @@ pub fn disturb(
             num,
             mark,
         );
-        q = cells::onward(&masks[a..e], &hop[a..e], q);
+        q = cells_count::onward(&masks[a..e], &hop[a..e], q);
     }
 }

@@ -10,7 +10,7 @@ use lib.Dec.{eqb}
 use borrow.Author.Tests.{eqb-true, eqb-false}
 use Rattle.cells.specs.Cells.{cell, common}
 use Rattle.cover.specs.Sets.{cells}
-use Rattle.cells.specs.SumLaws.{total-both-le}
+use Rattle.cells_count.specs.SumLaws.{total-both-le}
 use Rattle.multi_rounds.specs.OpensLaws.{opens-first}
 use Rattle.multi_rounds.specs.Market.{wordRow, Sized, Market, First, Entered}
 use Rattle.multi_tournament.specs.Tournament.{at, known, Tournament}

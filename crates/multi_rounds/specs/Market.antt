@@ -9,7 +9,7 @@ use Rattle.cover.specs.Sets.{Found, nothing, found}
 use Rattle.cover.specs.Greedy.{pick}
 use Rattle.cover.specs.CriticalPrice.{late}
 use Rattle.cells.specs.Cells.{cell, common}
-use Rattle.cells.specs.Hops.{Hops}
+use Rattle.cells_count.specs.Hops.{Hops}
 use Rattle.multi_tournament.specs.Tournament.{at, Priced}
 
 -- the words of bid i, of w words a bid

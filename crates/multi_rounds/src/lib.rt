@@ -8,7 +8,7 @@ ghost use lib.ListN.{length};
 ghost use lib.Dec.{leb};
 ghost use Rattle.cover.specs.CriticalPrice.{late};
 ghost use Rattle.cells.specs.Cells.{common, Closed};
-ghost use Rattle.cells.specs.Hops.{Hops, Counted};
+ghost use Rattle.cells_count.specs.Hops.{Hops, Counted};
 ghost use Rattle.multi_tournament.specs.Tournament.{known, Tournament};
 ghost use Rattle.multi_rounds.specs.Market.{wordRow, Market, Hopping, Known, First, Cleared, Entered, Fronted};
 ghost use Rattle.multi_rounds.specs.Trace.{Trace};
@@ -30,7 +30,7 @@ pub fn overlap(
 {
     let a = w * i;
     let e = a + w;
-    cells::reach(held, counts, &masks[a..e], &hop[a..e])
+    cells_count::reach(held, counts, &masks[a..e], &hop[a..e])
 }
 
 // Closes the cells of bid i.
@@ -43,7 +43,7 @@ pub fn shut(held: &mut [u64], counts: &mut [u64], masks: &[u64], hop: &[u8], w: 
 {
     let a = w * i;
     let e = a + w;
-    cells::close_counted(held, counts, &masks[a..e], &hop[a..e]);
+    cells_count::close_counted(held, counts, &masks[a..e], &hop[a..e]);
 }
 
 // Whether bid i at p/r comes before bid b at t/c.

@@ -15,8 +15,7 @@ use Rattle.tender.specs.Limits.{allLawful}
 use Rattle.tender.specs.Tables.{windowsOf, windowWidth, windowAt}
 use Rattle.cover.specs.Sets.{when}
 use Rattle.cover.specs.SetLaws.{and-split}
-use Rattle.cells.specs.Cells.{cell, RangeAdded}
-use Rattle.cells.specs.Hops.{whole, Next}
+use Rattle.cells.specs.Cells.{cell, RangeAdded, whole, Next}
 use Rattle.cells.specs.BitLaws.{zero-bit, ones-in}
 use Rattle.cells.specs.StoreLaws.{cell-lt, cell-past, lt-or-le}
 use Rattle.award_check.specs.Cells.{holds}

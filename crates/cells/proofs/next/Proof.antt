@@ -5,7 +5,7 @@ use native.Mathlib.Omega.{arith}
 use lib.ListN.{getD}
 use lib.Count.{trailing-le}
 use lib.Bits.{bitAnd}
-use Rattle.cells.specs.Hops.{whole}
+use Rattle.cells.specs.Cells.{whole}
 use Rattle.cells.specs.LowestLaws.{first-at, none-at, search-on, search-over}
 use borrow.Author.Needs.{needs}
 use Rattle.cells.proofs.next.Statement.{statement}

@@ -5,8 +5,7 @@ use native.Mathlib.Omega.{arith}
 use lib.ListN.{length, getD}
 use lib.Count.{trailing-le}
 use lib.Bits.{bitAnd}
-use Rattle.cells.specs.Cells.{cell}
-use Rattle.cells.specs.Hops.{whole}
+use Rattle.cells.specs.Cells.{cell, whole}
 use Rattle.cells.specs.LowestLaws.{first-in-word, none-in-word, search-on, search-over}
 use Rattle.cells.proofs.next_from.Statement.{statement}
 use Rattle.cells.proofs.next_from.Tie as tie

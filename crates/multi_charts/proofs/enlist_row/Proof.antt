@@ -12,7 +12,7 @@ use Rattle.multi_charts.proofs.enlist_row.Tie as tie
 use Rattle.multi_charts.proofs.enlist_row.Reads as reads
 use Rattle.multi_charts.proofs.enlist_row.Lts as lts
 use Rattle.cells.proofs.add.Reads as add-reads
-use Rattle.cells.proofs.onward.Reads as onward-reads
+use Rattle.cells_count.proofs.onward.Reads as onward-reads
 
 abbrev Inv-loop : tie.InvT-loop
 Inv-loop masks hop w i index₀ a e q₀ index q = Enlisting masks w i index₀ index q × (q ≤ w)

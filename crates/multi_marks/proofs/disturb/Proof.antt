@@ -10,12 +10,12 @@ use Rattle.multi_tournament.specs.Tournament.{at, known, Tournament}
 use Rattle.multi_rounds.specs.WordRowLaws.{part-row, row-in, row-length}
 use Rattle.multi_tournament.specs.OrderLaws.{product}
 use Rattle.multi_marks.proofs.Spreading.{Disturbing, starts, goes, ends-all, row-at}
-use Rattle.cells.specs.Hops.{Counted}
+use Rattle.cells_count.specs.Hops.{Counted}
 use Rattle.multi_marks.proofs.disturb.Statement.{statement}
 use Rattle.multi_marks.proofs.disturb.Tie as tie
 use Rattle.multi_marks.proofs.disturb.Reads as reads
 use Rattle.multi_marks.proofs.disturb.Lts as lts
-use Rattle.cells.proofs.onward.Reads as onward-reads
+use Rattle.cells_count.proofs.onward.Reads as onward-reads
 use Rattle.multi_marks.proofs.spread.Reads as spread-reads
 
 abbrev Inv-loop : tie.InvT-loop

@@ -11,7 +11,7 @@ use Rattle.multi_rounds.specs.WordRowLaws.{part-row, row-in}
 use Rattle.multi_rounds.specs.BeginLaws.{common-few}
 use Rattle.multi_marks.proofs.Spreading.{Spreading, begins, passes, leaves, adds, ends, no-cells, row-at, set-in, set-length}
 use Rattle.multi_marks.proofs.Spreading.{next-within, next-free}
-use Rattle.cells.specs.Hops.{Counted}
+use Rattle.cells_count.specs.Hops.{Counted}
 use Rattle.multi_marks.proofs.spread.Statement.{statement}
 use Rattle.multi_marks.proofs.spread.Tie as tie
 use Rattle.multi_marks.proofs.spread.Reads as reads

@@ -3,7 +3,7 @@ use Prim.Native.Nat.{_-_}
 use mathlib.Core.Path.{sym, _∙_}
 use native.Mathlib.Omega.{arith}
 use lib.ListN.{length}
-use Rattle.cells.specs.Hops.{Counted}
+use Rattle.cells_count.specs.Hops.{Counted}
 use Rattle.multi_rounds.specs.WordRowLaws.{row-in}
 use Rattle.multi_rounds.specs.BeginLaws.{Entering, enters-none, enters-more, enters-all, common-few}
 use Rattle.multi_rounds.proofs.enter.Statement.{statement}

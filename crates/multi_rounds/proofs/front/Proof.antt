@@ -4,7 +4,7 @@ use Prim.Native.Nat.{_<_}
 use mathlib.Core.Path.{sym, _∙_}
 use native.Mathlib.Omega.{arith}
 use Rattle.cover.specs.CriticalPrice.{sum}
-use Rattle.cells.specs.Hops.{Counted}
+use Rattle.cells_count.specs.Hops.{Counted}
 use Rattle.multi_tournament.specs.Tournament.{at, known}
 use Rattle.multi_tournament.specs.OrderLaws.{both-hold}
 use Rattle.multi_rounds.specs.WordRowLaws.{row-in}

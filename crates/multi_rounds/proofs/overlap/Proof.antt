@@ -8,7 +8,7 @@ use Rattle.multi_rounds.proofs.overlap.Statement.{statement}
 use Rattle.multi_rounds.proofs.overlap.Tie as tie
 use Rattle.multi_rounds.proofs.overlap.Reads as reads
 use Rattle.multi_rounds.proofs.overlap.Lts as lts
-use Rattle.cells.proofs.reach.Reads as reach-reads
+use Rattle.cells_count.proofs.reach.Reads as reach-reads
 
 mul-a : tie.Need-mul-a
 mul-a c = search needs

@@ -7,7 +7,7 @@ use Rattle.multi_rounds.proofs.shut.Statement.{statement}
 use Rattle.multi_rounds.proofs.shut.Tie as tie
 use Rattle.multi_rounds.proofs.shut.Reads as reads
 use Rattle.multi_rounds.proofs.shut.Lts as lts
-use Rattle.cells.proofs.close_counted.Reads as close-counted-reads
+use Rattle.cells_count.proofs.close_counted.Reads as close-counted-reads
 
 mul-a : tie.Need-mul-a
 mul-a c = search needs

@@ -3,18 +3,18 @@ use Prim.Native.Nat.{ℕ, _-_, _*_, _≤_, _<_}
 use mathlib.Core.Path.{_≡_, sym, ap, _∙_}
 use native.Mathlib.Omega.{arith}
 use lib.ListN.{length}
 use Rattle.cells.specs.Cells.{total, both, common}
-use Rattle.cells.specs.Hops.{Counted}
+use Rattle.cells_count.specs.Hops.{Counted}
 use lib.Count.{ones}
-use Rattle.cells.specs.SumLaws.{total-both-le, none}
-use Rattle.cells.specs.WalkLaws.{none-counted, run-sum, reach-gap}
-use Rattle.cells.proofs.reach.Statement.{statement}
-use Rattle.cells.proofs.reach.Tie as tie
-use Rattle.cells.proofs.reach.Reads as reads
-use Rattle.cells.proofs.reach.Lts as lts
-use Rattle.cells.proofs.count_to.Reads as count-to-reads
-use Rattle.cells.proofs.ones_of.Reads as ones-of-reads
-use Rattle.cells.proofs.wide.Reads as wide-reads
+use Rattle.cells_count.specs.SumLaws.{total-both-le, none}
+use Rattle.cells_count.specs.WalkLaws.{none-counted, run-sum, reach-gap}
+use Rattle.cells_count.proofs.reach.Statement.{statement}
+use Rattle.cells_count.proofs.reach.Tie as tie
+use Rattle.cells_count.proofs.reach.Reads as reads
+use Rattle.cells_count.proofs.reach.Lts as lts
+use Rattle.cells_count.proofs.count_to.Reads as count-to-reads
+use Rattle.cells_count.proofs.ones_of.Reads as ones-of-reads
+use Rattle.cells_count.proofs.wide.Reads as wide-reads
 
 abbrev Inv-loop : tie.InvT-loop
 Inv-loop held counts₀ mask hop sum₀ q₀ counts sum q = (q ≤ length held) × ((sum ≡ total (both held mask) (64 * q)) × Counted held counts)

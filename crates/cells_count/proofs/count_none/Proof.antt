@@ -2,11 +2,11 @@
 use native.Mathlib.Omega.{arith}
 use lib.ListN.{length-set}
 use borrow.Author.Needs.{needs}
-use Rattle.cells.specs.CountsLaws.{counted-none}
-use Rattle.cells.proofs.count_none.Statement.{statement}
-use Rattle.cells.proofs.count_none.Tie as tie
-use Rattle.cells.proofs.count_none.Reads as reads
-use Rattle.cells.proofs.count_none.Lts as lts
+use Rattle.cells_count.specs.CountsLaws.{counted-none}
+use Rattle.cells_count.proofs.count_none.Statement.{statement}
+use Rattle.cells_count.proofs.count_none.Tie as tie
+use Rattle.cells_count.proofs.count_none.Reads as reads
+use Rattle.cells_count.proofs.count_none.Lts as lts
 
 slice-write-counts : tie.Need-slice-write-counts
 slice-write-counts c = search needs

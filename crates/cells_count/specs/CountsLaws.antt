@@ -8,10 +8,10 @@ use native.Mathlib.Omega.{arith}
 use lib.ListN.{length, getD, set, length-set}
 use lib.Seq.{getD-set-same, getD-set-other}
 use lib.Count.{ones, ones-le}
 use Rattle.cells.specs.Cells.{total}
-use Rattle.cells.specs.Hops.{cellsTo, countedTo, Counted}
-use Rattle.cells.specs.SumLaws.{total-ext}
+use Rattle.cells_count.specs.Hops.{cellsTo, countedTo, Counted}
+use Rattle.cells_count.specs.SumLaws.{total-ext}
 use Rattle.cells.specs.StoreLaws.{ne-or-eq}
 
 abbrev at : List ℕ → ℕ → ℕ
 at xs q = getD xs q 0

@@ -1,12 +1,12 @@
 -- `cells::first_word` meets its contract: a word without a cell is followed by others without one. Assumes nothing.
 use native.Mathlib.Omega.{arith}
 use borrow.Author.Needs.{needs}
-use Rattle.cells.specs.WalkLaws.{first-gap}
-use Rattle.cells.proofs.first_word.Statement.{statement}
-use Rattle.cells.proofs.first_word.Tie as tie
-use Rattle.cells.proofs.first_word.Reads as reads
-use Rattle.cells.proofs.first_word.Lts as lts
-use Rattle.cells.proofs.wide.Reads as wide-reads
+use Rattle.cells_count.specs.WalkLaws.{first-gap}
+use Rattle.cells_count.proofs.first_word.Statement.{statement}
+use Rattle.cells_count.proofs.first_word.Tie as tie
+use Rattle.cells_count.proofs.first_word.Reads as reads
+use Rattle.cells_count.proofs.first_word.Lts as lts
+use Rattle.cells_count.proofs.wide.Reads as wide-reads
 
 returns : tie.Need-returns
 returns c = search needs

@@ -8,12 +8,12 @@ use native.Mathlib.Omega.{arith}
 use lib.ListN.{length, getD}
 use lib.Bits.{bitAnd, and-mask, and-zero-r}
 use lib.Count.{ones}
-use Rattle.cells.specs.Cells.{cell, total, both}
-use Rattle.cells.specs.Hops.{whole, Hops, cellsTo, countedTo, Counted, Onward}
+use Rattle.cells.specs.Cells.{cell, total, both, whole}
+use Rattle.cells_count.specs.Hops.{Hops, cellsTo, countedTo, Counted, Onward}
 use Rattle.cells.specs.BitLaws.{zero-bit}
-use Rattle.cells.specs.SumLaws.{word-more}
-use Rattle.cells.specs.CountsLaws.{cells-next, cells-grow}
+use Rattle.cells_count.specs.SumLaws.{word-more}
+use Rattle.cells_count.specs.CountsLaws.{cells-next, cells-grow}
 use Rattle.cells.specs.StoreLaws.{lt-or-le, Swept}
 
 abbrev at : List ℕ → ℕ → ℕ
 at xs q = getD xs q 0

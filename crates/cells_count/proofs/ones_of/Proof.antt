@@ -2,10 +2,10 @@
 use mathlib.Core.Path.{refl}
 use native.Mathlib.Omega.{arith}
 use lib.Count.{ones-le}
-use Rattle.cells.proofs.ones_of.Statement.{statement}
-use Rattle.cells.proofs.ones_of.Tie as tie
-use Rattle.cells.proofs.ones_of.Reads as reads
-use Rattle.cells.proofs.ones_of.Lts as lts
+use Rattle.cells_count.proofs.ones_of.Statement.{statement}
+use Rattle.cells_count.proofs.ones_of.Tie as tie
+use Rattle.cells_count.proofs.ones_of.Reads as reads
+use Rattle.cells_count.proofs.ones_of.Lts as lts
 
 cast-result : tie.Need-cast-result
 cast-result c = omega (arith, ones-le 64 (c .args .x) (omega arith))

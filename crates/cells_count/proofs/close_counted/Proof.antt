@@ -4,17 +4,17 @@ use Prim.Native.Nat.{_-_, _≤_}
 use mathlib.Core.Path.{_≡_, refl}
 use native.Mathlib.Omega.{arith}
 use lib.ListN.{length, length-set}
-use Rattle.cells.specs.Hops.{Counted, countedTo}
+use Rattle.cells_count.specs.Hops.{Counted, countedTo}
 use Rattle.cells.specs.StoreLaws.{Swept, swept-more, swept-all}
-use Rattle.cells.specs.WalkLaws.{swept-first, swept-on}
-use Rattle.cells.specs.CountsLaws.{counted-set}
-use Rattle.cells.proofs.close_counted.Statement.{statement}
-use Rattle.cells.proofs.close_counted.Tie as tie
-use Rattle.cells.proofs.close_counted.Reads as reads
-use Rattle.cells.proofs.close_counted.Lts as lts
-use Rattle.cells.proofs.count_back.Reads as count-back-reads
-use Rattle.cells.proofs.first_word.Reads as first-word-reads
-use Rattle.cells.proofs.onward.Reads as onward-reads
+use Rattle.cells_count.specs.WalkLaws.{swept-first, swept-on}
+use Rattle.cells_count.specs.CountsLaws.{counted-set}
+use Rattle.cells_count.proofs.close_counted.Statement.{statement}
+use Rattle.cells_count.proofs.close_counted.Tie as tie
+use Rattle.cells_count.proofs.close_counted.Reads as reads
+use Rattle.cells_count.proofs.close_counted.Lts as lts
+use Rattle.cells_count.proofs.count_back.Reads as count-back-reads
+use Rattle.cells_count.proofs.first_word.Reads as first-word-reads
+use Rattle.cells_count.proofs.onward.Reads as onward-reads
 
 abbrev Inv-loop : tie.InvT-loop
 Inv-loop held₀ counts mask hop n q₀ held q = (q ≤ length held)

@@ -1,11 +1,11 @@
 -- `cells::count_back` meets its contract: the sums up to a word before the last counted are still right. Assumes nothing.
 use native.Mathlib.Omega.{arith}
 use borrow.Author.Needs.{needs}
-use Rattle.cells.specs.CountsLaws.{counted-back, counted-last}
-use Rattle.cells.proofs.count_back.Statement.{statement}
-use Rattle.cells.proofs.count_back.Tie as tie
-use Rattle.cells.proofs.count_back.Reads as reads
-use Rattle.cells.proofs.count_back.Lts as lts
+use Rattle.cells_count.specs.CountsLaws.{counted-back, counted-last}
+use Rattle.cells_count.proofs.count_back.Statement.{statement}
+use Rattle.cells_count.proofs.count_back.Tie as tie
+use Rattle.cells_count.proofs.count_back.Reads as reads
+use Rattle.cells_count.proofs.count_back.Lts as lts
 
 add-last : tie.Need-add-last
 add-last c = search needs

@@ -4,11 +4,11 @@ use mathlib.Core.Path.{sym, _∙_}
 use native.Mathlib.Omega.{arith}
 use lib.ListN.{getD, length-set}
 use lib.Count.{ones-le}
-use Rattle.cells.specs.CountsLaws.{Counting, counting-from, counting-on, counting-done, counted-last, cells-few}
-use Rattle.cells.proofs.count_to.Statement.{statement}
-use Rattle.cells.proofs.count_to.Tie as tie
-use Rattle.cells.proofs.count_to.Reads as reads
-use Rattle.cells.proofs.count_to.Lts as lts
+use Rattle.cells_count.specs.CountsLaws.{Counting, counting-from, counting-on, counting-done, counted-last, cells-few}
+use Rattle.cells_count.proofs.count_to.Statement.{statement}
+use Rattle.cells_count.proofs.count_to.Tie as tie
+use Rattle.cells_count.proofs.count_to.Reads as reads
+use Rattle.cells_count.proofs.count_to.Lts as lts
 
 abbrev Inv-loop : tie.InvT-loop
 Inv-loop words counts₀ e last q₀ sum₀ counts q sum = (q ≤ e) × Counting words counts q sum

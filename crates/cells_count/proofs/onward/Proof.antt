@@ -1,12 +1,12 @@
 -- `cells::onward` meets its contract: one word on from a whole word, else the hop. Assumes nothing.
 use native.Mathlib.Omega.{arith}
-use Rattle.cells.specs.WalkLaws.{onward-gap}
+use Rattle.cells_count.specs.WalkLaws.{onward-gap}
 use borrow.Author.Needs.{needs}
-use Rattle.cells.proofs.onward.Statement.{statement}
-use Rattle.cells.proofs.onward.Tie as tie
-use Rattle.cells.proofs.onward.Reads as reads
-use Rattle.cells.proofs.onward.Lts as lts
-use Rattle.cells.proofs.wide.Reads as wide-reads
+use Rattle.cells_count.proofs.onward.Statement.{statement}
+use Rattle.cells_count.proofs.onward.Tie as tie
+use Rattle.cells_count.proofs.onward.Reads as reads
+use Rattle.cells_count.proofs.onward.Lts as lts
+use Rattle.cells_count.proofs.wide.Reads as wide-reads
 
 mul-if1 : tie.Need-mul-if1
 mul-if1 c = search needs

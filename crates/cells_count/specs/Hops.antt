@@ -1,14 +1,10 @@
 -- A row of words walked by hops: a hop skips words without a cell, or runs over words that have all 64.
-use Prim.Native.Nat.{ℕ, _+_, _*_, _≤_, _<_}
+use Prim.Native.Nat.{ℕ, _+_, _≤_, _<_}
 use mathlib.Core.Path.{_≡_}
 use mathlib.Core.List.{List}
 use lib.ListN.{length, getD}
 use lib.Count.{ones}
-use Rattle.cells.specs.Cells.{cell, total}
-
--- a word with all its cells
-abbrev pub whole : ℕ
-whole = 18446744073709551615
+use Rattle.cells.specs.Cells.{whole, total}
 
 -- from each word of the mask the hop goes on: from a whole word over whole words, from another word over words without a cell
 pub record Hops (mask hop : List ℕ) : Type 0 where
@@ -40,11 +36,3 @@ pub record Onward (mask : List ℕ) (q r : ℕ) : Type 0 where
   pub on : q < r
   pub within : r ≤ length mask
   pub gap : (p : ℕ) → q < p → p < r → getD mask p 0 ≡ 0
-
--- the first x from `from` on that is a cell of a and not of b; past the last cell where there is none
-pub record Next (a b : List ℕ) (from r : ℕ) : Type 0 where
-  pub on : from ≤ r
-  pub within : r ≤ 64 * length a
-  pub none : (x : ℕ) → from ≤ x → x < r → cell a x ≡ 1 → cell b x ≡ 1
-  pub inside : r < 64 * length a → cell a r ≡ 1
-  pub outside : r < 64 * length a → cell b r ≡ 0

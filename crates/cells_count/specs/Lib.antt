@@ -1,0 +1,4 @@
+pub mod Hops
+pub mod SumLaws
+pub mod CountsLaws
+pub mod WalkLaws
