@@ -45,6 +45,7 @@ use denote.Triple.Walked.{goes-none-slice, goes-gave-slice, walk-meets}
 use Rattle.tender.specs.declared.Kind.{Kind}
 use Rattle.tender.specs.declared.Kind.the-variants.{Single, Multi}
 use Rattle.tender.specs.declared.Tender.{Tender}
+use Rattle.award_check.specs.Faults.{kindNumber}
 use Rattle.tender.proofs.Kind as Kin
 use Rattle.tender.proofs.Kind.Laws as Kin′
 use Rattle.tender.proofs.Tender as Ten
@@ -66,19 +67,14 @@ word = tyInt w64
 abbrev rowsTy : Ty
 rowsTy = tyRef erased mut (pointee (Row.the-row .written))
 
--- the kind's number
-abbrev number : Kind → ℕ
-number Single = 0
-number Multi = 1
-
 abbrev kindVal : Kind → Val
-kindVal k = vstruct (vcons (vint w8 (number k)) vnil)
+kindVal k = vstruct (vcons (vint w8 (kindNumber k)) vnil)
 
 is-kind : (k : Kind) → Is Kin.the-row k (kindVal k ∷ [])
 is-kind Single = EL.owes Kin.the-type Kin′.the-laws Single tt
 is-kind Multi = EL.owes Kin.the-type Kin′.the-laws Multi tt
 
-small : (k : Kind) → Holds (ltb (number k) (2 ^ 8))
+small : (k : Kind) → Holds (ltb (kindNumber k) (2 ^ 8))
 small Single = tt
 small Multi = tt
 
@@ -92,7 +88,7 @@ function k = record {
       ∷ local (sliceTy (tyRef (named 0) imm word)) valueLocal ∷ local (sliceTy (tyRef (named 1) imm word)) valueLocal
       ∷ local (sliceTy (tyRef (named 2) mut (pointee (Row.the-row .written)))) valueLocal ∷ local Kin′.mir valueLocal
       ∷ local rowsTy valueLocal ∷ local (sliceTy rowsTy) valueLocal ∷ [];
-  body = seq (assign (place 6 []) (aggregate (int w8 (number k) ∷ [])))
+  body = seq (assign (place 6 []) (aggregate (int w8 (kindNumber k) ∷ [])))
       (seq (assign (place 7 []) (addrOf (place 5 (field 0 ∷ deref Row′.mir ∷ []))))
       (seq (assign (place 8 []) (aggregate (copy (place 7 []) ∷ copy (place 5 (field 1 ∷ [])) ∷ [])))
       (seq (call #award·award-in (copy (place 6 []) ∷ copy (place 1 []) ∷ copy (place 2 []) ∷ copy (place 3 []) ∷ copy (place 4 [])

@@ -1,12 +1,13 @@
 -- Outcomes of an award called on what two texts give that differ in how one price is written. Assumes nothing.
-use mathlib.Core.Path.{_≡_, refl, _∙_}
+use mathlib.Core.Path.{_≡_, refl, sym, ap, _∙_}
 use mathlib.Core.List.{List, _++_}
 use mathlib.Core.Bool.{Bool, true, false}
 use mathlib.Core.Option.{some}
-use Prim.Native.Nat.{ℕ, _+_, _*_}
+use Prim.Native.Nat.{ℕ, zero, suc, _+_, _*_}
 use native.Mathlib.Omega.{arith}
 use lib.ListN.{length, getD}
 use lib.Dec.{ltb}
+use borrow.Author.Tests.{eqb-true}
 use Rattle.tender.specs.declared.Kind.{Kind}
 use Rattle.tender.specs.declared.Kind.the-variants.{Single, Multi}
 use Rattle.tender.specs.declared.Window.{Window}
@@ -18,7 +19,7 @@ use Rattle.reader_text.specs.Rules.{Rules}
 use Rattle.reader_text.specs.RulesLaws.{rules-law}
 use Rattle.reader_text.specs.Differ.{DifferInPrice, RowsDifferInPrice}
 use Rattle.reader_text.specs.PriceLaws.{price-law}
-use Rattle.award_check.specs.Faults.{sameKind, faultOf}
+use Rattle.award_check.specs.Faults.{kindNumber, sameKind, faultOf}
 use Rattle.award_check.specs.Alike.{named}
 use Rattle.award_check.specs.TextLaws.{never-nine, Tabled, tabled}
 use Rattle.award_plain.specs.Award.{Outcome, refused, awardOf}
@@ -27,11 +28,18 @@ use Rattle.award.specs.Gain.{rowFor, gain, AtMost}
 use Rattle.award.specs.Right.{NoGain}
 use Rattle.award.specs.TableLaws.{award-honest}
 
+-- the kind of a number
+kindAt : ℕ → Kind
+kindAt zero = Single
+kindAt (suc n) = Multi
+
+kind-at : (k : Kind) → kindAt (kindNumber k) ≡ k
+unfolding kindAt
+kind-at Single = refl
+kind-at Multi = refl
+
 kinds : (k l : Kind) → sameKind k l ≡ true → k ≡ l
-kinds Single Single e = refl
-kinds Multi Multi e = refl
-kinds Single Multi e = let z : _≡_ {A = ℕ} 0 1 = cc in absurd (omega arith)
-kinds Multi Single e = let z : _≡_ {A = ℕ} 0 1 = cc in absurd (omega arith)
+kinds k l e = sym (kind-at k) ∙ ap kindAt (eqb-true (kindNumber k) (kindNumber l) e) ∙ kind-at l
 
 wrong-kind : (k : Kind) (t : Tender) (n : ℕ) (bids windows : List ℕ) → sameKind k (t .kind) ≡ false
     → faultOf k t n bids windows ≡ some 0

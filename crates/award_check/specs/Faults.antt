@@ -1,6 +1,6 @@
 -- The faults of the tables lent to an award (paper 01, refusal 9).
 use mathlib.Core.List.{List, [], _∷_, _++_}
-use mathlib.Core.Bool.{Bool, true, false, cond, not, _&&_}
+use mathlib.Core.Bool.{Bool, cond, not, _&&_}
 use mathlib.Core.Option.{Option, none, some}
 use Prim.Native.Nat.{ℕ, _+_, _/_}
 use lib.ListN.{length}
@@ -37,11 +37,13 @@ rowFault k windows place used at (r ∷ rs) =
     let later = rowFault k windows (place + 1) (used ++ r .bidder ∷ []) (at + r .count) rs in
     cond (sound k windows place used at r) later (some place)
 
+-- each kind has a number of its own
+abbrev pub kindNumber : Kind → ℕ
+kindNumber Single = 0
+kindNumber Multi = 1
+
 abbrev pub sameKind : Kind → Kind → Bool
-sameKind Single Single = true
-sameKind Single Multi = false
-sameKind Multi Single = false
-sameKind Multi Multi = true
+sameKind a b = eqb (kindNumber a) (kindNumber b)
 
 -- the place of refusal 9 by the award of the kind k, where n bids are stated: 0 for the tender, the kind and the count, else the
 -- row, counted from 1

@@ -15,10 +15,10 @@ use Rattle.tender.specs.declared.Window.{Window}
 use Rattle.tender.specs.declared.Tender.{Tender}
 use Rattle.tender.specs.Limits.{within, maxPrice, maxBidder, maxBids, mostWindows, lawful, allLawful}
 use Rattle.tender.specs.Tables.{Row, rowsOf, windowsOf, own, flatRows, flatWindows, bidWidth, windowWidth}
-use Rattle.reader_text.specs.Words.{numeralOf, priceOf}
+use Rattle.reader.specs.Words.{numeralOf, priceOf}
 use Rattle.reader_text.specs.Rules.{WindowRules, RowRules, RowsRules, WindowsRules, Rules}
 use Rattle.reader_text.specs.Differ.{withPrice, RowsDifferInPrice}
-use Rattle.award_check.specs.Faults.{keeps, sound, rowFault, sameKind, faultOf}
+use Rattle.award_check.specs.Faults.{keeps, sound, rowFault, kindNumber, sameKind, faultOf}
 use Rattle.award_check.specs.Cells.{noRow}
 use Rattle.award_check.specs.Alike.{windowCount, Alike}
 
@@ -114,8 +114,7 @@ rows-sound k windows v place used at (r ∷ rs) W end h l d e f w =
     (omega (arith, length-drop (r .count) W)) f (drop-rules (r .count) W w))
 
 same-kind : (k : Kind) → sameKind k k ≡ true
-same-kind Single = refl
-same-kind Multi = refl
+same-kind k = eq-eqb (kindNumber k) (kindNumber k) refl
 
 -- what was read is never refused with 9 by the award of its kind
 pub never-nine : (T : Tender) (R : List Row) (W : List Window) (v w : List ℕ) → Rules T R W

@@ -10,7 +10,7 @@ ghost use lib.ListN.{length, drop};
 ghost use lib.Dec.{leb, ltb, eqb};
 ghost use Rattle.tender.specs.Limits.{mostWindows, within, allLawful};
 ghost use Rattle.tender.specs.Tables.{rowsOf, windowsOf, bidWidth, windowWidth};
-ghost use Rattle.award_check.specs.Faults.{keeps, rowFault, faultOf, sameKind};
+ghost use Rattle.award_check.specs.Faults.{keeps, rowFault, faultOf, kindNumber, sameKind};
 ghost use Rattle.award_check.specs.Checks.{checkedFault};
 
 // What checking the tables answers.
@@ -20,19 +20,19 @@ pub enum Check {
     Faulty { row: u64 },
 }
 
+fn kind_number(kind: Kind) -> u64
+    ensures { λ r. ⌜ r ≡ kindNumber kind ⌝ }
+{
+    match kind {
+        Kind::Single => 0,
+        Kind::Multi => 1,
+    }
+}
+
 fn same_kind(a: Kind, b: Kind) -> bool
     ensures { λ r. ⌜ r ≡ sameKind a b ⌝ }
 {
-    match a {
-        Kind::Single => match b {
-            Kind::Single => true,
-            Kind::Multi => false,
-        },
-        Kind::Multi => match b {
-            Kind::Single => false,
-            Kind::Multi => true,
-        },
-    }
+    kind_number(a) == kind_number(b)
 }
 
 fn most_windows(kind: Kind) -> u64
