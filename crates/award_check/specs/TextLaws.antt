@@ -15,7 +15,7 @@ use Rattle.tender.specs.declared.Window.{Window}
 use Rattle.tender.specs.declared.Tender.{Tender}
 use Rattle.tender.specs.Limits.{within, maxPrice, maxBidder, maxBids, mostWindows, lawful, allLawful}
 use Rattle.tender.specs.Tables.{Row, rowsOf, windowsOf, own, flatRows, flatWindows, bidWidth, windowWidth}
-use Rattle.reader.specs.Words.{numeralOf, priceOf}
+use Rattle.reader_text.specs.Words.{numeralOf, priceOf}
 use Rattle.reader_text.specs.Rules.{WindowRules, RowRules, RowsRules, WindowsRules, Rules}
 use Rattle.reader_text.specs.Differ.{withPrice, RowsDifferInPrice}
 use Rattle.award_check.specs.Faults.{keeps, sound, rowFault, kindNumber, sameKind, faultOf}

@@ -16,11 +16,11 @@ use Rattle.tender.specs.Limits.{lawful}
 use Rattle.tender.specs.Refusals.{numberOf, placeOf}
 use Rattle.tender.specs.Tables.{Row, flatRows, flatWindows, bidWidth, windowWidth}
 use Rattle.reader_word.specs.Words.{cut}
-use Rattle.reader_line.specs.Line.{Line, tender, bid, linesOf}
+use Rattle.reader_line.specs.Line.{TenderLine, Line, tender, bid, linesOf}
 use Rattle.reader_line.specs.Tally.{Tally, tenderNote, bidNote, noted}
 use Rattle.reader_line.specs.Answer.{FirstBroken}
 use Rattle.reader_text.specs.Read.{ReadOutcome, accepted, refused, rowsFrom, allWindows, bidsOf, tenderFault, checked, tables}
-use Rattle.reader_text.specs.Read.{begun, halted, headOf, readLines, readText, fitted, readInto}
+use Rattle.reader_text.specs.Read.{begun, halted, tenderWith, headOf, readLines, readText, fitted, readInto}
 use Rattle.reader_text.specs.HeadLaws.{lines-halted, lines-begun, no-line, broken-first, bid-first, tender-faulty, tender-sound}
 use Rattle.reader_text.specs.RulesLaws.{rowsFrom-length}
 use Rattle.reader.specs.Answer.{filled, declined, summary, bidsAfter, windowsAfter}
@@ -38,7 +38,7 @@ unfolding linesOf cut
 first-empty [] h = no-line
 first-empty (b ∷ text) h = absurd (omega arith)
 
-pub is-tender : (m : ℕ) (table : List ℕ) (o : Option Line) (t : Tender) → some (tenderNote t) ≡ noted m table o
+pub is-tender : (m : ℕ) (table : List ℕ) (o : Option Line) (t : TenderLine) → some (tenderNote t) ≡ noted m table o
     → o ≡ some (tender t)
 unfolding noted
 is-tender m table none t e = let z : _≡_ {A = ℕ} 0 1 = cc in absurd (omega arith)
@@ -65,12 +65,13 @@ module _ (ls rest : List (Option Line)) (o : Option Line) (q : ls ≡ o ∷ rest
       go (some (tender u)) h = let z : _≡_ {A = ℕ} 0 1 = cc in absurd (omega arith)
       go (some (bid b)) h = let z : _≡_ {A = ℕ} 0 1 = cc in absurd (omega arith)
 
-  pub first-faulty : (t : Tender) → o ≡ some (tender t) → (f : ℕ → Refusal) → tenderFault t ≡ some f
+  pub first-faulty : (t : TenderLine) → o ≡ some (tender t) → (f : ℕ → Refusal) → tenderFault t ≡ some f
       → headOf ls ≡ halted (f 1)
   first-faulty t e f l = rw (q, e) (tender-faulty t f rest l)
 
-  pub first-sound : (t : Tender) → o ≡ some (tender t) → lawful (t .window) ≡ true → headOf ls ≡ begun t 2 rest
-  first-sound t e l = rw (q, e) (tender-sound t rest l)
+  pub first-sound : (t : TenderLine) → o ≡ some (tender t) → lawful (t .window) ≡ true → (T : Tender) → T ≡ tenderWith t
+      → headOf ls ≡ begun T 2 rest
+  first-sound t e l T w = rw (q, e, w) (tender-sound t rest l)
 
 pub first-odd : (ls : List (Option Line)) → FirstBroken ls → headOf ls ≡ halted (BadForm 1)
 first-odd ls b = rw (b .are) (broken-first (b .rest))

@@ -4,7 +4,7 @@ ghost use mathlib.Core.Path.{_≡_};
 ghost use Prim.Native.Nat.{_/_};
 ghost use lib.ListN.{length, replicate};
 ghost use Rattle.tender.specs.Tables.{bidWidth, windowWidth};
-ghost use Rattle.reader_text.specs.Read.{readInto};
+ghost use Rattle.reader_text.specs.Read.{readInto, tenderWith};
 ghost use Rattle.reader.specs.Answer.{toldReading, summary, bidsAfter, windowsAfter};
 ghost use Rattle.reader.specs.Opened.{Opened};
 
@@ -19,8 +19,10 @@ use reader_line::line::read_line;
 use reader_word::windows::Flaw;
 use reader_word::windows::flaw_in;
 use rows::copy;
+use tender::Kind;
 use tender::Refusal;
 use tender::Tender;
+use tender::Window;
 
 // The places that the longest readable text needs: 1,000 bids, and fewer than 11,000 windows, since each has six bytes.
 const BID_TABLE: usize = 4000;
@@ -34,6 +36,13 @@ pub(crate) enum Head {
     Refused(Refusal),
 }
 
+// The tender that the lines of a head give.
+fn tender_with(kind: Kind, window: Window) -> Tender
+    ensures { λ r. ⌜ r ≡ tenderWith (record { kind = kind; window = window }) ⌝ }
+{
+    Tender { kind, window }
+}
+
 // The lines before the bids: the tender, where the bids begin, and the number of their first line. The table serves the line's reader
 // and is not looked at.
 fn read_head(text: &[u8], windows: &mut [u64]) -> Head
@@ -44,14 +53,11 @@ fn read_head(text: &[u8], windows: &mut [u64]) -> Head
     }
     match line_end(text, 0) {
         LineEnd::At(e) => match read_line(&text[0..e], windows, 0) {
-            Line::Tender(t) => {
-                let w = t.window;
-                match flaw_in(w.start, w.end) {
-                    Flaw::Empty => Head::Refused(Refusal::EmptyWindow { line: 1 }),
-                    Flaw::Late => Head::Refused(Refusal::LateWindow { line: 1 }),
-                    Flaw::Sound => Head::Tender(t, e + 1, 2),
-                }
-            }
+            Line::Tender(kind, w) => match flaw_in(w.start, w.end) {
+                Flaw::Empty => Head::Refused(Refusal::EmptyWindow { line: 1 }),
+                Flaw::Late => Head::Refused(Refusal::LateWindow { line: 1 }),
+                Flaw::Sound => Head::Tender(tender_with(kind, w), e + 1, 2),
+            },
             Line::Bid(_, _, _, _) => Head::Refused(Refusal::BadForm { line: 1 }),
             Line::Broken => Head::Refused(Refusal::BadForm { line: 1 }),
         },

@@ -8,9 +8,8 @@ use native.Mathlib.Nat.{add-zero, zero-add}
 use lib.ListN.{length, take, drop}
 use lib.Dec.{eqb}
 use Rattle.tender.specs.declared.Kind.{Kind}
-use Rattle.tender.specs.declared.Tender.{Tender}
 use Rattle.cells.specs.Cells.{cell, RangeAdded}
-use Rattle.reader_line.specs.Line.{BidLine, Line, tender, bid}
+use Rattle.reader_line.specs.Line.{TenderLine, BidLine, Line, tender, bid}
 use Rattle.reader_word.specs.declared.windows.Flaw.{Flaw}
 use Rattle.reader_word.specs.declared.windows.Flaw.the-variants.{Sound}
 use Rattle.reader_word.specs.Flaws.{flawOf, isEmpty, isLate}
@@ -66,7 +65,7 @@ module _ (kind : Kind) (line k m : ℕ) (used rows windows : List ℕ) (r : Step
   taken-broken (some (tender t)) e h = let z : _≡_ {A = ℕ} 0 1 = cc in absurd (omega arith)
   taken-broken (some (bid b)) e h = let z : _≡_ {A = ℕ} 0 1 = cc in absurd (omega arith)
 
-  pub taken-tender : (o : Option Line) (t : Tender) → some (tenderNote t) ≡ noted m windows o → StepDeclines r 2 line
+  pub taken-tender : (o : Option Line) (t : TenderLine) → some (tenderNote t) ≡ noted m windows o → StepDeclines r 2 line
       → Taken o kind line k m used rows windows r used′ rows′ windows′
   unfolding noted
   taken-tender none t e h = let z : _≡_ {A = ℕ} 0 1 = cc in absurd (omega arith)

@@ -140,7 +140,7 @@ fn take_line(
             }
             Verdict::Faulty(r) => Step::Refused(r),
         },
-        Line::Tender(_) => Step::Refused(Refusal::BadForm { line }),
+        Line::Tender(_, _) => Step::Refused(Refusal::BadForm { line }),
         Line::Broken => Step::Refused(Refusal::BadForm { line }),
     }
 }

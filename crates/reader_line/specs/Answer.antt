@@ -41,5 +41,5 @@ toldTally (tally.Windows n flaw) table = some (record { count = n; flaw = flaw; 
 
 abbrev pub toldLine : line.Line → List ℕ → Option Note
 toldLine lineIs.Broken table = none
-toldLine (lineIs.Tender t) table = some (tenderNote t)
+toldLine (lineIs.Tender k w) table = some (tenderNote (record { kind = k; window = w }))
 toldLine (lineIs.Bid n p c flaw) table = some (bidNote n p (record { count = c; flaw = flaw; table = table }))

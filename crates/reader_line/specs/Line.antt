@@ -11,14 +11,22 @@ use Rattle.tender.specs.Keywords.{bidWord, multiWord, singleWord, tenderWord}
 use Rattle.reader_word.specs.Words.{andThen, cut, sameBytes, closed, numeralOf, priceOf}
 use Rattle.reader_word.specs.Windows.{spanOf, windowOf}
 
+pub record TenderLine : Type 0 where
+  pub kind : Kind
+  pub window : Window
+
 pub record BidLine : Type 0 where
   pub bidder : ℕ
   pub price : ℕ
   pub windows : List Window
 
 pub data Line : Type 0 where
-  tender : Tender → Line
+  tender : TenderLine → Line
   bid : BidLine → Line
+
+-- the line of a tender
+abbrev pub tenderLine : Tender → TenderLine
+tenderLine t = record { kind = t .kind; window = t .window }
 
 unfoldable pub kindOf : List ℕ → Option Kind
 unfolding sameBytes singleWord multiWord

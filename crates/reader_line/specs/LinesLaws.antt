@@ -11,10 +11,9 @@ use borrow.Author.Tests.{eq-eqb, ne-eqb}
 use Rattle.tender.specs.declared.Kind.{Kind}
 use Rattle.tender.specs.declared.Kind.the-variants.{Single, Multi}
 use Rattle.tender.specs.declared.Window.{Window}
-use Rattle.tender.specs.declared.Tender.{Tender}
 use Rattle.tender.specs.Keywords.{tenderWord, bidWord, singleWord, multiWord}
 use Rattle.reader_word.specs.Words.{andThen, cut, sameBytes, closed, numeralOf, priceOf}
-use Rattle.reader_line.specs.Line.{Line, tender, bid, kindOf, windowsIn, tenderOf, bidOf, lineOfWords, lineOf}
+use Rattle.reader_line.specs.Line.{TenderLine, Line, tender, bid, kindOf, windowsIn, tenderOf, bidOf, lineOfWords, lineOf}
 use Rattle.reader_word.specs.Windows.{spanOf}
 use Rattle.reader_word.specs.CutLaws.{cut-some}
 use Rattle.reader_word.specs.Scan.{toNext, part}
@@ -68,7 +67,7 @@ pub noted-none : (o : Option Line) → o ≡ none → (m : ℕ) (table : List �
 unfolding noted
 noted-none o e m table = rw e
 
-pub noted-tender : (o : Option Line) (t : Tender) → o ≡ some (tender t) → (m : ℕ) (table : List ℕ)
+pub noted-tender : (o : Option Line) (t : TenderLine) → o ≡ some (tender t) → (m : ℕ) (table : List ℕ)
     → some (tenderNote t) ≡ noted m table o
 unfolding noted
 noted-tender o t e m table = rw e

@@ -7,9 +7,8 @@ use mathlib.Core.Option.{Option, none, some}
 use lib.ListN.{length, set}
 use lib.Dec.{ltb}
 use Rattle.tender.specs.declared.Window.{Window}
-use Rattle.tender.specs.declared.Tender.{Tender}
 use Rattle.tender.specs.Tables.{windowWidth}
-use Rattle.reader_line.specs.Line.{Line, tender, bid}
+use Rattle.reader_line.specs.Line.{TenderLine, Line, tender, bid}
 use Rattle.reader_word.specs.Flaws.{flawOf, worst}
 use Rattle.reader_word.specs.declared.windows.Flaw.{Flaw}
 use Rattle.reader_word.specs.declared.windows.Flaw.the-variants.{Sound}
@@ -43,7 +42,7 @@ tallied m n flaw table (some ws) = some (tally m n flaw table ws)
 
 -- a line as it is noted: a bid's windows are in the table, from row m on
 pub data Note : Type 0 where
-  tenderNote : Tender → Note
+  tenderNote : TenderLine → Note
   bidNote : ℕ → ℕ → Tally → Note
 
 unfoldable pub noted : ℕ → List ℕ → Option Line → Option Note

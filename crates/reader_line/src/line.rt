@@ -21,7 +21,6 @@ use reader_word::words::read_number;
 use reader_word::words::read_price;
 use reader_word::words::same;
 use tender::Kind;
-use tender::Tender;
 use tender::Window;
 
 // The window in row m, where the table has that row.
@@ -104,7 +103,7 @@ fn read_kind(w: &[u8]) -> KindWord
 
 // A line as it stands, with what is judged of a bid: bidder, price, how many windows, and what is wrong with them.
 pub enum Line {
-    Tender(Tender),
+    Tender(Kind, Window),
     Bid(u64, u64, usize, Flaw),
     Broken,
 }
@@ -139,10 +138,7 @@ fn read_tender(line: &[u8], at: usize) -> Line
     let Span::Of(start, end) = read_span(&line[k + 1..s], &line[s + 1..e - 1]) else {
         return Line::Broken;
     };
-    Line::Tender(Tender {
-        kind,
-        window: Window { start, end },
-    })
+    Line::Tender(kind, Window { start, end })
 }
 
 // A bid's line from the word after "(bid" on: bidder, price and the windows, which are put into the rows from m on.

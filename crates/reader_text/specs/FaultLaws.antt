@@ -7,7 +7,7 @@ use mathlib.Core.Option.{Option, none, some}
 use native.Mathlib.Omega.{arith}
 use Rattle.tender.specs.declared.Kind.{Kind}
 use Rattle.tender.specs.declared.Window.{Window}
-use Rattle.tender.specs.declared.Tender.{Tender}
+use Rattle.reader_line.specs.Line.{TenderLine}
 use Rattle.tender.specs.declared.Refusal.{Refusal}
 use Rattle.tender.specs.declared.Refusal.the-variants.{EmptyWindow, LateWindow}
 use Rattle.tender.specs.Limits.{ordered, early, lawful, allLawful, every}
@@ -38,7 +38,7 @@ lawful-every (w ∷ ws) e =
 
 -- the tender's window
 
-module _ (t : Tender) where
+module _ (t : TenderLine) where
   pub lawful-tender : lawful (t .window) ≡ true → tenderFault t ≡ none
   unfolding lawful tenderFault lineFault
   lawful-tender e = let u = and-split (ordered (t .window)) (early (t .window)) e in rw (u .0, u .1)
@@ -58,7 +58,7 @@ flawFault Empty = some EmptyWindow
 flawFault Late = some LateWindow
 flawFault Sound = none
 
-pub tender-told : (t : Tender) → tenderFault t ≡ flawFault (flawIn (t .window))
+pub tender-told : (t : TenderLine) → tenderFault t ≡ flawFault (flawIn (t .window))
 unfolding flawIn tenderFault lineFault
 tender-told t = go (ordered (t .window)) (early (t .window))
   where

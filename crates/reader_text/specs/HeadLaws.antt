@@ -12,9 +12,9 @@ use Rattle.tender.specs.declared.Refusal.{Refusal}
 use Rattle.tender.specs.declared.Refusal.the-variants.{BadForm}
 use Rattle.tender.specs.Limits.{lawful}
 use Rattle.tender.specs.Tables.{Row}
-use Rattle.reader_line.specs.Line.{BidLine, Line, tender, bid}
+use Rattle.reader_line.specs.Line.{TenderLine, BidLine, Line, tender, bid, tenderLine}
 use Rattle.reader_text.specs.Read.{accepted, declinedBy, rowsFrom, allWindows, bidsOf, tenderFault, lineJudged, checked, tables}
-use Rattle.reader_text.specs.Read.{Head, begun, halted, headJudged, headOf, afterHead, readLines}
+use Rattle.reader_text.specs.Read.{Head, begun, halted, headJudged, tenderWith, headOf, afterHead, readLines}
 use Rattle.reader_text.specs.FaultLaws.{lawful-tender, tender-lawful}
 use Rattle.reader_text.specs.ReadLaws.{never, checked-out, checked-bids}
 
@@ -43,34 +43,34 @@ pub bid-first : (b : BidLine) (ls : List (Option Line)) → headOf (some (bid b)
 unfolding headOf
 bid-first b ls = refl
 
-pub tender-first : (t : Tender) (ls : List (Option Line))
-    → headOf (some (tender t) ∷ ls) ≡ headJudged (tenderFault t) 1 (begun t 2 ls)
+pub tender-first : (t : TenderLine) (ls : List (Option Line))
+    → headOf (some (tender t) ∷ ls) ≡ headJudged (tenderFault t) 1 (begun (tenderWith t) 2 ls)
 unfolding headOf
 tender-first t ls = refl
 
-pub tender-faulty : (t : Tender) (f : ℕ → Refusal) (ls : List (Option Line)) → tenderFault t ≡ some f
+pub tender-faulty : (t : TenderLine) (f : ℕ → Refusal) (ls : List (Option Line)) → tenderFault t ≡ some f
     → headOf (some (tender t) ∷ ls) ≡ halted (f 1)
 unfolding headJudged
-tender-faulty t f ls e = tender-first t ls ∙ ap (λ o. headJudged o 1 (begun t 2 ls)) e
+tender-faulty t f ls e = tender-first t ls ∙ ap (λ o. headJudged o 1 (begun (tenderWith t) 2 ls)) e
 
-pub tender-sound : (t : Tender) (ls : List (Option Line)) → lawful (t .window) ≡ true
-    → headOf (some (tender t) ∷ ls) ≡ begun t 2 ls
+pub tender-sound : (t : TenderLine) (ls : List (Option Line)) → lawful (t .window) ≡ true
+    → headOf (some (tender t) ∷ ls) ≡ begun (tenderWith t) 2 ls
 unfolding headJudged
-tender-sound t ls e = tender-first t ls ∙ ap (λ o. headJudged o 1 (begun t 2 ls)) (lawful-tender t e)
+tender-sound t ls e = tender-first t ls ∙ ap (λ o. headJudged o 1 (begun (tenderWith t) 2 ls)) (lawful-tender t e)
 
-pub tender-read : (t : Tender) (ls : List (Option Line))
-    → readLines (some (tender t) ∷ ls) ≡ lineJudged (tenderFault t) 1 (checked (t .kind) 2 [] ls (tables t (bidsOf ls)))
+pub tender-read : (t : TenderLine) (ls : List (Option Line))
+    → readLines (some (tender t) ∷ ls) ≡ lineJudged (tenderFault t) 1 (checked (t .kind) 2 [] ls (tables (tenderWith t) (bidsOf ls)))
 unfolding readLines headOf headJudged afterHead lineJudged
 tender-read t ls = go (tenderFault t)
   where
-    go : (f : Option (ℕ → Refusal)) → afterHead (headJudged f 1 (begun t 2 ls))
-        ≡ lineJudged f 1 (checked (t .kind) 2 [] ls (tables t (bidsOf ls)))
+    go : (f : Option (ℕ → Refusal)) → afterHead (headJudged f 1 (begun (tenderWith t) 2 ls))
+        ≡ lineJudged f 1 (checked (t .kind) 2 [] ls (tables (tenderWith t) (bidsOf ls)))
     go none = refl
     go (some f) = refl
 
 -- the lines of a head, as its tender says them
 unfoldable pub headLines : Tender → List Line
-headLines t = tender t ∷ []
+headLines t = tender (tenderLine t) ∷ []
 
 pub record HeadIs (ls : List (Option Line)) (T : Tender) (from : ℕ) (rest : List (Option Line)) : Type 0 where
   pub lines : ls ≡ map (λ l. some l) (headLines T) ++ rest
@@ -86,13 +86,18 @@ head-is (none ∷ ls) T from rest e = let z : _≡_ {A = ℕ} 0 1 = cc in absurd
 head-is (some (bid b) ∷ ls) T from rest e = let z : _≡_ {A = ℕ} 0 1 = cc in absurd (omega arith)
 head-is (some (tender t) ∷ ls) T from rest e = go (tenderFault t) refl e
   where
-    go : (f : Option (ℕ → Refusal)) → tenderFault t ≡ f → headJudged f 1 (begun t 2 ls) ≡ begun T from rest
+    go : (f : Option (ℕ → Refusal)) → tenderFault t ≡ f → headJudged f 1 (begun (tenderWith t) 2 ls) ≡ begun T from rest
         → HeadIs (some (tender t) ∷ ls) T from rest
     go none q h =
-        let same : t ≡ T = cc in
+        let same : tenderWith t ≡ T = cc in
         let l : ls ≡ rest = cc in
         let n : 2 ≡ from = cc in
-        record { lines = cc; number = sym n; bids = ap bidsOf l; window = rw same at (tender-lawful t q) }
+        record {
+          lines = ap (λ (u : Tender). some (tender (tenderLine u)) ∷ ls) same ∙ ap (λ r. some (tender (tenderLine T)) ∷ r) l;
+          number = sym n;
+          bids = ap bidsOf l;
+          window = ap (λ (u : Tender). lawful (u .window)) (sym same) ∙ tender-lawful t q;
+        }
     go (some f) q h = let z : _≡_ {A = ℕ} 0 1 = cc in absurd (omega arith)
 
 -- it has few lines
@@ -116,15 +121,15 @@ head-before (some (bid d) ∷ xs) ys T from rest b e = let z : _≡_ {A = ℕ} 0
 head-before (some (tender t) ∷ xs) ys T from rest b e = go (tenderFault t) refl e
   where
     go : (f : Option (ℕ → Refusal)) → tenderFault t ≡ f
-        → headJudged f 1 (begun t 2 (xs ++ some (bid b) ∷ ys)) ≡ begun T from rest
+        → headJudged f 1 (begun (tenderWith t) 2 (xs ++ some (bid b) ∷ ys)) ≡ begun T from rest
         → BidAfter (some (tender t) ∷ xs) ys T from rest b
     go none q h =
-        let same : t ≡ T = cc in
+        let same : tenderWith t ≡ T = cc in
         let n : 2 ≡ from = cc in
         record {
           between = xs;
           rest-is = cc;
-          any = λ c. ap (λ f. headJudged f 1 (begun t 2 (xs ++ some (bid c) ∷ ys))) q
+          any = λ c. ap (λ f. headJudged f 1 (begun (tenderWith t) 2 (xs ++ some (bid c) ∷ ys))) q
               ∙ ap (λ u. begun u 2 (xs ++ some (bid c) ∷ ys)) same ∙ ap (λ i. begun T i (xs ++ some (bid c) ∷ ys)) n;
         }
     go (some f) q h = let z : _≡_ {A = ℕ} 0 1 = cc in absurd (omega arith)

@@ -15,7 +15,7 @@ use Rattle.tender.specs.Refusals.{numberOf, placeOf}
 use Rattle.tender.specs.Limits.{within, maxPrice, maxBidder, maxBids, maxWindows, maxText, isSingle, ordered, early, every}
 use Rattle.tender.specs.Tables.{Row}
 use Rattle.reader_word.specs.Words.{cut, among}
-use Rattle.reader_line.specs.Line.{BidLine, Line, tender, bid, linesOf}
+use Rattle.reader_line.specs.Line.{TenderLine, BidLine, Line, tender, bid, linesOf}
 
 pub data ReadOutcome : Type 0 where
   accepted : Tender → List Row → List Window → ReadOutcome
@@ -51,7 +51,7 @@ lineFault many outside several empty late used =
     (cond late (some LateWindow)
     (cond used (some BidderRepeated) none)))))
 
-unfoldable pub tenderFault : Tender → Option (ℕ → Refusal)
+unfoldable pub tenderFault : TenderLine → Option (ℕ → Refusal)
 unfolding lineFault
 tenderFault t = lineFault false false false (not (ordered (t .window))) (not (early (t .window))) false
 
@@ -100,13 +100,17 @@ unfoldable pub headJudged : Option (ℕ → Refusal) → ℕ → Head → Head
 headJudged none at head = head
 headJudged (some r) at head = halted (r at)
 
+-- the tender that the lines of a head give
+abbrev pub tenderWith : TenderLine → Tender
+tenderWith t = record { kind = t .kind; window = t .window }
+
 -- the first line is the tender's
 unfoldable pub headOf : List (Option Line) → Head
 unfolding tenderFault headJudged
 headOf [] = halted (BadForm 1)
 headOf (none ∷ ls) = halted (BadForm 1)
 headOf (some (bid b) ∷ ls) = halted (BadForm 1)
-headOf (some (tender t) ∷ ls) = headJudged (tenderFault t) 1 (begun t 2 ls)
+headOf (some (tender t) ∷ ls) = headJudged (tenderFault t) 1 (begun (tenderWith t) 2 ls)
 
 -- the lines after the head are the bids'
 unfoldable pub afterHead : Head → ReadOutcome

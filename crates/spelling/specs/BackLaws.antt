@@ -11,7 +11,7 @@ use Rattle.tender.specs.declared.Window.{Window}
 use Rattle.tender.specs.declared.Tender.{Tender}
 use Rattle.tender.specs.Keywords.{bytes, tenderWord, bidWord, singleWord, multiWord}
 use Rattle.reader_word.specs.Words.{andThen, among, cut, sameBytes, priceOf}
-use Rattle.reader_line.specs.Line.{BidLine, Line, tender, bid, kindOf, tenderOf, bidOf, lineOfWords, lineOf, linesOf}
+use Rattle.reader_line.specs.Line.{BidLine, Line, tender, bid, tenderLine, kindOf, tenderOf, bidOf, lineOfWords, lineOf, linesOf}
 use Rattle.reader_word.specs.CutLaws.{cut-some, cut-end}
 use Rattle.spelling.specs.Decimal.{decimal}
 use Rattle.spelling.specs.Lines.{kindWord}
@@ -96,14 +96,14 @@ tender-without d t l a k b = (
   ),
 )
 
-tender-words-back : (t : Tender) → Named (t .window) → lineOf (spaced (tenderWords t)) ≡ some (tender t)
+tender-words-back : (t : Tender) → Named (t .window) → lineOf (spaced (tenderWords t)) ≡ some (tender (tenderLine t))
 unfolding lineOf lineOfWords sameBytes tenderWord bytes tenderWords tenderOf andThen among
 tender-words-back t h =
     rw (cut-spaced (40 ∷ tenderWord) (kindWord (t .kind) ∷ decimal (t .window .start) ∷ (decimal (t .window .end) ++ 41 ∷ [])
     ∷ []) (tender-without 32 t (omega arith) refl (kind-space (t .kind)) refl))
     (rw (kind-back (t .kind), closed-back (decimal (t .window .end)), span-back (t .window) h))
 
-pub tender-back : (t : Tender) → Named (t .window) → Read (tenderText t) (tender t)
+pub tender-back : (t : Tender) → Named (t .window) → Read (tenderText t) (tender (tenderLine t))
 unfolding among tenderWord bytes tenderWords
 tender-back t h = record {
   words = spaced (tenderWords t);
@@ -132,8 +132,8 @@ bids-back (b ∷ bs) h =
 
 -- the whole text's lines, whatever its length
 pub text-back : (t : Tender) (bs : List BidLine) → Named (t .window) → AllNameable bs
-    → linesOf (cut 10 (textOf t bs)) ≡ some (tender t) ∷ asLines bs
+    → linesOf (cut 10 (textOf t bs)) ≡ some (tender (tenderLine t)) ∷ asLines bs
 unfolding textOf
 text-back t bs n h =
-    first-line (tenderText t) (bidsText bs) (tender t) (tender-back t n)
-    ∙ ap {B = List (Option Line)} (λ l. some (tender t) ∷ l) (bids-back bs h)
+    first-line (tenderText t) (bidsText bs) (tender (tenderLine t)) (tender-back t n)
+    ∙ ap {B = List (Option Line)} (λ l. some (tender (tenderLine t)) ∷ l) (bids-back bs h)

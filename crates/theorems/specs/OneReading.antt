@@ -16,7 +16,7 @@ use Rattle.tender.specs.Limits.{week, maxPrice, maxBidder, maxBids, maxWindows,
 use Rattle.tender.specs.Refusals.{numberOf, placeOf}
 use Rattle.tender.specs.Tables.{Row, flatRows, flatWindows, bidWidth, windowWidth}
 use Rattle.reader_word.specs.Words.{cut}
-use Rattle.reader_line.specs.Line.{BidLine, Line, tender, bid, linesOf}
+use Rattle.reader_line.specs.Line.{TenderLine, BidLine, Line, tender, bid, tenderLine, linesOf}
 use Rattle.reader_text.specs.Read.{rowsFrom, allWindows}
 use Rattle.reader.specs.Answer.{toldReading, filled, declined}
 use Rattle.theorems.specs.Calls.{ReadRun}
@@ -37,7 +37,7 @@ pub data Above : Type 0 where
 
 abbrev pub linesAbove : Above → List (Option Line)
 linesAbove at-start = []
-linesAbove (after t bs) = some (tender t) ∷ map (λ b. some (bid b)) bs
+linesAbove (after t bs) = some (tender (tenderLine t)) ∷ map (λ b. some (bid b)) bs
 
 -- the faults of a line: its form (2), how many bids and windows there are (4), the limits of its numbers (3), several windows in a
 -- single tender (7), a window without a minute (5), a window past the week (15), its bidder number (6)
@@ -83,7 +83,7 @@ OnBid of-week t done b = SomeWindow PastWeek (b .windows)
 OnBid of-bidder t done b = UsedIn (b .bidder) done
 
 -- on the tender's line
-abbrev pub OnTender : LineFault → Tender → Type 0
+abbrev pub OnTender : LineFault → TenderLine → Type 0
 OnTender of-form t = ⊥
 OnTender of-count t = ⊥
 OnTender of-limits t = ⊥
@@ -118,7 +118,7 @@ SoundBids t done (b ∷ bs) = NoFault (after t done) (some (bid b)) × SoundBids
 -- nor on any of these lines
 abbrev pub SoundLines : Above → Type 0
 SoundLines at-start = Unit {0}
-SoundLines (after t bs) = NoFault at-start (some (tender t)) × SoundBids t [] bs
+SoundLines (after t bs) = NoFault at-start (some (tender (tenderLine t))) × SoundBids t [] bs
 
 -- a line of a text that is not too long, after faultless lines
 pub record LineOf (text : List ℕ) : Type 0 where

@@ -21,9 +21,10 @@ use Rattle.tender.specs.Limits.{within, isSingle, ordered, early, every}
 use Rattle.tender.specs.Refusals.{numberOf, placeOf}
 use Rattle.tender.specs.Tables.{Row, bidWidth, windowWidth}
 use Rattle.reader_word.specs.Words.{cut, among}
-use Rattle.reader_line.specs.Line.{BidLine, Line, tender, bid, linesOf}
-use Rattle.reader_text.specs.Read.{ReadOutcome, accepted, refused, declinedBy, rowsFrom, allWindows, bidsOf, lineFault, tenderFault, bidFaultIn}
-use Rattle.reader_text.specs.Read.{bidFaultAfter, bidFault, lineJudged, checked, tables, readLines, readText, fitted, readInto}
+use Rattle.reader_line.specs.Line.{TenderLine, BidLine, Line, tender, bid, tenderLine, linesOf}
+use Rattle.reader_text.specs.Read.{ReadOutcome, accepted, refused, declinedBy, rowsFrom, allWindows, bidsOf, lineFault, tenderFault}
+use Rattle.reader_text.specs.Read.{bidFaultIn}
+use Rattle.reader_text.specs.Read.{bidFaultAfter, bidFault, lineJudged, checked, tables, tenderWith, readLines, readText, fitted, readInto}
 use Rattle.reader_text.specs.HeadLaws.{lines-halted, no-line, broken-first, bid-first, tender-read}
 use Rattle.reader.specs.Answer.{summary, toldReading, bidsAfter, windowsAfter}
 use Rattle.theorems.specs.Calls.{ReadRun, ReadKept}
@@ -182,7 +183,7 @@ verdict d x false false false false false false s2 s4 s3 s7 s5 s15 s6 = clean no
     none-stands of-week = s15
     none-stands of-bidder = s6
 
-tender-verdict : (t : Tender) → Verdict at-start (some (tender t)) (tenderFault t)
+tender-verdict : (t : TenderLine) → Verdict at-start (some (tender t)) (tenderFault t)
 unfolding tenderFault
 tender-verdict t = verdict at-start (some (tender t)) false false false (not (ordered (t .window))) (not (early (t .window))) false
     (λ h. h) (λ h. h) (λ h. h) (λ h. h) (no-minute (t .window)) (past-week (t .window)) (λ h. h)
@@ -269,7 +270,8 @@ unfolding bidsOf
 bids-of [] = refl
 bids-of (b ∷ bs) = ap {B = List BidLine} (λ l. b ∷ l) (bids-of bs)
 
-sound-lines : (t : Tender) (bs : List BidLine) → NoFault at-start (some (tender t)) → SoundBids t [] bs → SoundLines (after t bs)
+sound-lines : (t : Tender) (bs : List BidLine) → NoFault at-start (some (tender (tenderLine t))) → SoundBids t [] bs
+    → SoundLines (after t bs)
 sound-lines t bs u s = (u, s)
 
 module _ (text : List ℕ) (short : length text ≤ 65536) where
@@ -278,32 +280,33 @@ module _ (text : List ℕ) (short : length text ≤ 65536) where
   first-line x ls e f = faulty (record { above = at-start; line = x; rest = ls; short = short; lines = e; sound = tt }) of-form
       (inl (refl, f)) refl
 
-  after-tender : (t : Tender) (ls : List (Option Line)) → linesIn text ≡ some (tender t) ∷ ls → (o : Option (ℕ → Refusal))
-      → Verdict at-start (some (tender t)) o → TextRead text (lineJudged o 1 (checked (t .kind) 2 [] ls (tables t (bidsOf ls))))
+  after-tender : (t : TenderLine) (ls : List (Option Line)) → linesIn text ≡ some (tender t) ∷ ls → (o : Option (ℕ → Refusal))
+      → Verdict at-start (some (tender t)) o
+      → TextRead text (lineJudged o 1 (checked (t .kind) 2 [] ls (tables (tenderWith t) (bidsOf ls))))
   unfolding tables lineJudged
   after-tender t ls e o (stopped-by f h q) =
       rw q (faulty (record { above = at-start; line = some (tender t); rest = ls; short = short; lines = e; sound = tt }) f h refl)
-  after-tender t ls e o (clean u q) = rw q (go (walked t 2 [] ls (tables t (bidsOf ls)) 2 refl))
+  after-tender t ls e o (clean u q) = rw q (go (walked (tenderWith t) 2 [] ls (tables (tenderWith t) (bidsOf ls)) 2 refl))
     where
-      go : {o : ReadOutcome} → Walked t 2 [] ls (tables t (bidsOf ls)) o → TextRead text o
-      go (all-sound bs l s q) = readable t (rowsFrom 0 bs) (allWindows bs)
+      go : {o : ReadOutcome} → Walked (tenderWith t) 2 [] ls (tables (tenderWith t) (bidsOf ls)) o → TextRead text o
+      go (all-sound bs l s q) = readable (tenderWith t) (rowsFrom 0 bs) (allWindows bs)
           (record {
             bids = bs;
             short = short;
             lines = e ∙ ap {B = List (Option Line)} (λ r. some (tender t) ∷ r) l;
-            sound = sound-lines t bs u s;
+            sound = sound-lines (tenderWith t) bs u s;
             rows = refl;
             windows = refl;
           })
-          (q ∙ ap (λ ls. tables t (bidsOf ls)) l ∙ ap (tables t) (bids-of bs))
+          (q ∙ ap (λ ls. tables (tenderWith t) (bidsOf ls)) l ∙ ap (tables (tenderWith t)) (bids-of bs))
       go (stops bs x rest f l s h q) =
           faulty (record {
-            above = after t bs;
+            above = after (tenderWith t) bs;
             line = x;
             rest = rest;
             short = short;
             lines = e ∙ ap {B = List (Option Line)} (λ r. some (tender t) ∷ r) l;
-            sound = sound-lines t bs u s;
+            sound = sound-lines (tenderWith t) bs u s;
           }) f h
           (q ∙ ap (λ n. declinedBy (refusalOf f n)) (let m = length-map bs (λ b. some (bid b)) in omega (arith, m)))
 
@@ -450,9 +453,10 @@ short-text text l = rw (le-ltb 65536 (length text) l) (go (linesOf (cut 10 text)
     go [] = lines-halted [] (BadForm 1) no-line ∙ sym (lines-halted (none ∷ []) (BadForm 1) (broken-first []))
     go (x ∷ ls) = refl
 
-tender-first : (t : Tender) (ls : List (Option Line)) → NoFault at-start (some (tender t))
-    → readLines (some (tender t) ∷ ls) ≡ checked (t .kind) 2 [] ls (tables t (bidsOf ls))
-tender-first t ls u = tender-read t ls ∙ passes at-start (some (tender t)) (tenderFault t) 1 _ u (tender-verdict t)
+tender-first : (t : Tender) (ls : List (Option Line)) → NoFault at-start (some (tender (tenderLine t)))
+    → readLines (some (tender (tenderLine t)) ∷ ls) ≡ checked (t .kind) 2 [] ls (tables t (bidsOf ls))
+tender-first t ls u = tender-read (tenderLine t) ls
+    ∙ passes at-start (some (tender (tenderLine t))) (tenderFault (tenderLine t)) 1 _ u (tender-verdict (tenderLine t))
 
 at-first : (f : LineFault) (x : Option Line) (ls : List (Option Line)) → FirstAmong pageOrder f at-start x
     → readLines (x ∷ ls) ≡ declinedBy (refusalOf f 1)

@@ -15,8 +15,8 @@ use Rattle.tender.specs.Limits.{lawful}
 use Rattle.tender.specs.Tables.{Row, rowsOf, own, flatRows, flatWindows, bidWidth}
 use Rattle.cover.specs.SetLaws.{and-split}
 use Rattle.reader_word.specs.Words.{cut}
-use Rattle.reader_line.specs.Line.{BidLine, tender, linesOf}
-use Rattle.reader_text.specs.Read.{accepted, rowsFrom, allWindows, bidsOf, tables, readLines, readText}
+use Rattle.reader_line.specs.Line.{BidLine, tender, tenderLine, linesOf}
+use Rattle.reader_text.specs.Read.{accepted, rowsFrom, allWindows, bidsOf, tables, tenderWith, readLines, readText}
 use Rattle.reader_text.specs.HeadLaws.{lines-begun, tender-sound}
 use Rattle.reader_text.specs.RulesLaws.{rules-law, rowsFrom-length}
 use Rattle.spelling.specs.Text.{bidIn, textOf}
@@ -48,7 +48,7 @@ lawful-tables t n bids windows e =
 -- the text reads back
 
 lines-are : (t : Tender) (rows : List Row) (windows : List ℕ) → Lawful t rows windows
-    → linesOf (cut 10 (canonical t rows windows)) ≡ some (tender t) ∷ asLines (respeltIn windows rows)
+    → linesOf (cut 10 (canonical t rows windows)) ≡ some (tender (tenderLine t)) ∷ asLines (respeltIn windows rows)
 unfolding canonical
 lines-are t rows windows h = text-back t (respeltIn windows rows) (lawful-named (t .window) (h .window))
     (rows-told (t .kind) windows 1 [] 0 rows (h .rows-too))
@@ -59,12 +59,12 @@ bids-as [] = refl
 bids-as (b ∷ bs) = ap (λ l. b ∷ l) (bids-as bs)
 
 lines-read : (t : Tender) (rows : List Row) (windows : List ℕ) → Lawful t rows windows →
-    readLines (some (tender t) ∷ asLines (respeltIn windows rows))
+    readLines (some (tender (tenderLine t)) ∷ asLines (respeltIn windows rows))
     ≡ accepted t (rowsFrom 0 (respeltIn windows rows)) (allWindows (respeltIn windows rows))
 unfolding tables
 lines-read t rows windows h =
     let ls = asLines (respeltIn windows rows) in
-    lines-begun (some (tender t) ∷ ls) t _ ls (tender-sound t ls (h .window))
+    lines-begun (some (tender (tenderLine t)) ∷ ls) t _ ls (tender-sound (tenderLine t) ls (h .window))
     ∙ rows-checked (t .kind) windows 1 [] 0 _ rows (tables t (bidsOf ls)) (h .rows-too) refl
     ∙ ap (tables t) (bids-as (respeltIn windows rows))
 
@@ -115,10 +115,11 @@ reads-back t n bids windows e l =
 -- equal bytes have equal lines, and so the same bids
 
 lines-same : (t : Tender) (bs : List BidLine) (t′ : Tender) (bs′ : List BidLine)
-    → some (tender t) ∷ asLines bs ≡ some (tender t′) ∷ asLines bs′ → (t ≡ t′) × (bs ≡ bs′)
+    → some (tender (tenderLine t)) ∷ asLines bs ≡ some (tender (tenderLine t′)) ∷ asLines bs′ → (t ≡ t′) × (bs ≡ bs′)
 unfolding bidsOf
 lines-same t bs t′ bs′ e =
-    let p : t ≡ t′ = cc in
+    let l : tenderLine t ≡ tenderLine t′ = cc in
+    let p : t ≡ t′ = ap tenderWith l in
     let q : asLines bs ≡ asLines bs′ = cc in
     (p, sym (bids-as bs) ∙ ap bidsOf q ∙ bids-as bs′)
 

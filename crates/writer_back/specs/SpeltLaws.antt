@@ -20,7 +20,7 @@ use Rattle.reader_line.specs.Line.{BidLine, Line, tender, bid, kindOf, windowsI
 use Rattle.reader_word.specs.Windows.{spanOf, windowOf}
 use Rattle.reader_line.specs.Line.{linesOf}
 use Rattle.reader_word.specs.CutLaws.{Pieces, cut-some}
-use Rattle.reader_text.specs.Read.{accepted, rowsFrom, allWindows, bidsOf, readText}
+use Rattle.reader_text.specs.Read.{accepted, rowsFrom, allWindows, bidsOf, tenderWith, readText}
 use Rattle.reader_text.specs.Rules.{RowsRules}
 use Rattle.reader_text.specs.RulesLaws.{rules-law}
 use Rattle.reader_text.specs.ReadLaws.{read-lines}
@@ -195,7 +195,7 @@ kind-is w k h = go (sameBytes w singleWord) (sameBytes w multiWord) refl refl h
 
 -- the words of a line that was read
 abbrev pub wordsOf : Line → List (List ℕ)
-wordsOf (tender t) = tenderWords t
+wordsOf (tender t) = tenderWords (tenderWith t)
 wordsOf (bid b) = bidWords (b .bidder) (b .price) (b .windows)
 
 tender-is : (ws : List (List ℕ)) (x : Line) → tenderOf ws ≡ some x → (40 ∷ tenderWord) ∷ ws ≡ wordsOf x

@@ -34,8 +34,8 @@ part-read-line-end c =
 read-line-requires : tie.Need-read-line-requires
 read-line-requires c κs = search needs
 
-enum-known-t : tie.Need-enum-known-t
-enum-known-t c = search needs
+enum-known-kind : tie.Need-enum-known-kind
+enum-known-kind c = search needs
 
 flaw-in-requires : tie.Need-flaw-in-requires
 flaw-in-requires c κs = search needs
@@ -49,8 +49,11 @@ enum-told-2 c = search needs
 enum-told-3 : tie.Need-enum-told-3
 enum-told-3 c = search needs
 
-add-t23 : tie.Need-add-t23
-add-t23 c =
+tender-with-requires : tie.Need-tender-with-requires
+tender-with-requires c κs = search needs
+
+add-t24 : tie.Need-add-t24
+add-t24 c =
     let c13 = c .before .before .before .before .before .before .before .before .before .before .before .before .before in
     let c15 = c13 .before .before in
     let c19 = c15 .before .before .before .before in
@@ -70,14 +73,14 @@ same-length c = search needs
 
 returns-2 : tie.Need-returns-2
 returns-2 c =
-    let c5 = c .before .before .before .before .before in
-    let c9 = c5 .before .before .before .before in
-    let c13 = c9 .before .before .before .before in
-    let c15 = c13 .before .before in
-    let c19 = c15 .before .before .before .before in
-    let b = ends-at (c19 .args .text .now) 0 _ (c15 .line-end .ensures) _ (c13 .e .given .1) in
-    let o = is-tender 0 _ _ _ (ap (λ t. toldLine t (c9 .read-line .last .1 .0)) (sym (c5 .t .given .1)) ∙ c9 .read-line .ensures .0) in
-    first-faulty _ _ _ (lines-at (c19 .args .text .now) 0 _ (b .0) (b .1)) _ o _
+    let c4 = c .before .before .before .before in
+    let c8 = c4 .before .before .before .before in
+    let c12 = c8 .before .before .before .before in
+    let c14 = c12 .before .before in
+    let c18 = c14 .before .before .before .before in
+    let b = ends-at (c18 .args .text .now) 0 _ (c14 .line-end .ensures) _ (c12 .e .given .1) in
+    let o = is-tender 0 _ _ _ (ap (λ t. toldLine t (c8 .read-line .last .1 .0)) (sym (c4 .kind .given .1)) ∙ c8 .read-line .ensures .0) in
+    first-faulty _ _ _ (lines-at (c18 .args .text .now) 0 _ (b .0) (b .1)) _ o _
     (tender-told _ ∙ ap flawFault (sym (c .before .before .flaw-in .ensures) ∙ c .enum-told .given .1))
 
 same-length-2 : tie.Need-same-length-2
@@ -85,14 +88,14 @@ same-length-2 c = search needs
 
 returns-3 : tie.Need-returns-3
 returns-3 c =
-    let c5 = c .before .before .before .before .before in
-    let c9 = c5 .before .before .before .before in
-    let c13 = c9 .before .before .before .before in
-    let c15 = c13 .before .before in
-    let c19 = c15 .before .before .before .before in
-    let b = ends-at (c19 .args .text .now) 0 _ (c15 .line-end .ensures) _ (c13 .e .given .1) in
-    let o = is-tender 0 _ _ _ (ap (λ t. toldLine t (c9 .read-line .last .1 .0)) (sym (c5 .t .given .1)) ∙ c9 .read-line .ensures .0) in
-    first-faulty _ _ _ (lines-at (c19 .args .text .now) 0 _ (b .0) (b .1)) _ o _
+    let c4 = c .before .before .before .before in
+    let c8 = c4 .before .before .before .before in
+    let c12 = c8 .before .before .before .before in
+    let c14 = c12 .before .before in
+    let c18 = c14 .before .before .before .before in
+    let b = ends-at (c18 .args .text .now) 0 _ (c14 .line-end .ensures) _ (c12 .e .given .1) in
+    let o = is-tender 0 _ _ _ (ap (λ t. toldLine t (c8 .read-line .last .1 .0)) (sym (c4 .kind .given .1)) ∙ c8 .read-line .ensures .0) in
+    first-faulty _ _ _ (lines-at (c18 .args .text .now) 0 _ (b .0) (b .1)) _ o _
     (tender-told _ ∙ ap flawFault (sym (c .before .before .flaw-in .ensures) ∙ c .enum-told2 .given .1))
 
 same-length-3 : tie.Need-same-length-3
@@ -106,12 +109,14 @@ returns-4 c =
     let c15 = c13 .before .before in
     let c19 = c15 .before .before .before .before in
     let b = ends-at (c19 .args .text .now) 0 _ (c15 .line-end .ensures) _ (c13 .e .given .1) in
-    let o = is-tender 0 _ _ _ (ap (λ t. toldLine t (c9 .read-line .last .1 .0)) (sym (c5 .t .given .1)) ∙ c9 .read-line .ensures .0) in
+    let o = is-tender 0 _ _ _ (ap (λ t. toldLine t (c9 .read-line .last .1 .0)) (sym (c5 .kind .given .1)) ∙ c9 .read-line .ensures .0) in
     record {
       inside = omega (arith, b .1);
       lines = first-sound _ _ _ (lines-at (c19 .args .text .now) 0 _ (b .0) (b .1)) _ o
           (tender-lawful _
-          (tender-told (c5 .t .given .0 .0) ∙ ap flawFault (sym (c .before .before .flaw-in .ensures) ∙ c .enum-told3 .given .1)));
+          (tender-told (record { kind = c5 .kind .given .0 .0; window = c5 .kind .given .0 .1 .0 })
+          ∙ ap flawFault (sym (c .before .before .before .flaw-in .ensures) ∙ c .before .enum-told3 .given .1)))
+          _ (c .tender-with .ensures);
     }
 
 same-length-4 : tie.Need-same-length-4
@@ -156,12 +161,13 @@ read-head-spec =
     part-read-line-start
     part-read-line-end
     read-line-requires
-    enum-known-t
+    enum-known-kind
     flaw-in-requires
     enum-told
     enum-told-2
     enum-told-3
-    add-t23
+    tender-with-requires
+    add-t24
     enum-told-4
     enum-told-5
     enum-told-6
