@@ -59,6 +59,10 @@ module _ (t : Tender) (n : ℕ) (bids windows : List ℕ) where
   unfolding auctionOf cellsOf
   minutes = refl
 
+  pub cells-are : auctionOf t n bids windows .cells ≡ cellsOf t
+  unfolding auctionOf
+  cells-are = refl
+
   pub owners-are : auctionOf t n bids windows .owners ≡ n
   unfolding auctionOf
   owners-are = refl

@@ -98,19 +98,18 @@ orderly k t n bids windows e =
           (omega (arith, rows-length n bids)));
     }
 
--- the tender's own window
-pub record Timed (t : Tender) : Type 0 where
-  pub some-minute : t .window .start < t .window .end
-  pub in-week : t .window .end ≤ 10080
-
-pub timed : (k : Kind) (t : Tender) (n : ℕ) (bids windows : List ℕ) → faultOf k t n bids windows ≡ none → Timed t
-unfolding lawful
-timed k t n bids windows e =
+-- a faultless tender has a cell, and no more than a week has minutes
+pub cells-within : (k : Kind) (t : Tender) (n : ℕ) (bids windows : List ℕ) → faultOf k t n bids windows ≡ none
+    → (0 < cellsOf t) × (cellsOf t ≤ 10080)
+unfolding lawful cellsOf
+cells-within k t n bids windows e =
     let f = faultless k t n bids windows e in
     let a = and-split (sameKind k (t .kind) && lawful (t .window)) (leb n (length bids / bidWidth)) (f .tender) in
     let b = and-split (sameKind k (t .kind)) (lawful (t .window)) (a .0) in
-    let c = and-split (ltb (t .window .start) (t .window .end)) (leb (t .window .end) 10080) (b .1) in
-    record { some-minute = ltb-true (t .window .start) (t .window .end) (c .0); in-week = leb-true (t .window .end) 10080 (c .1) }
+    let c = and-split (ltb (t .window .start) (t .window .end)) (leb (t .window .end) 10080) (b .1) in (
+      omega (arith, ltb-true (t .window .start) (t .window .end) (c .0)),
+      omega (arith, leb-true (t .window .end) 10080 (c .1)),
+    )
 
 -- a bid has the cells of its row's windows
 row-cell : (t : Tender) (n : ℕ) (bids windows : List ℕ) (i x : ℕ) → i < n → auctionOf t n bids windows .has i x

@@ -1,5 +1,6 @@
 // Faultless tables laid out as bids over cells, in plain numbers: the prices, the starts and ends of bids of one window,
 // and the words of bids of several windows. Minutes outside the tender are clipped.
+use tender::Tender;
 ghost use mathlib.Core.Path.{_≡_};
 ghost use Prim.Native.Nat.{ℕ, _+_, _*_, _/_, _≤_, _<_};
 ghost use lib.ListN.{length, getD, drop};
@@ -7,7 +8,26 @@ ghost use mathlib.Core.Bool.{true};
 ghost use Rattle.tender.specs.declared.Kind.the-variants.{Single, Multi};
 ghost use Rattle.tender.specs.Limits.{allLawful};
 ghost use Rattle.tender.specs.Tables.{windowsOf, bidWidth, windowWidth};
+ghost use Rattle.award_check.specs.Cells.{cellsOf, minuteOf};
 ghost use Rattle.award_layout.specs.Orderly.{bidRowAt, Orderly, clipped, PricesLaid, SpansLaid, Masked, AllMasked};
+
+// How many cells a tender has.
+pub fn cells(tender: Tender) -> u64
+    requires { ⌜ 0 < cellsOf tender ⌝ }
+    ensures { λ r. ⌜ r ≡ cellsOf tender ⌝ }
+{
+    let window = tender.window;
+    window.end - window.start
+}
+
+// The minute of a cell.
+pub fn minute(tender: Tender, cell: u64) -> u64
+    requires { ⌜ cell < cellsOf tender ⌝ }
+    ensures { λ r. ⌜ r ≡ minuteOf tender cell ⌝ }
+{
+    let window = tender.window;
+    window.start + cell
+}
 
 // The prices of the bids.
 pub fn prices(bids: &[u64], out: &mut [u64])

@@ -4,7 +4,7 @@ use mathlib.Core.Path.{_≡_, refl, sym, ap, _∙_}
 use mathlib.Core.List.{List, _++_, map}
 use mathlib.Core.Bool.{Bool, cond}
 use mathlib.Core.Option.{none, some}
-use Prim.Native.Nat.{ℕ, _+_, _≤_, _<_}
+use Prim.Native.Nat.{ℕ, _≤_, _<_}
 use native.Mathlib.Omega.{arith}
 use lib.ListN.{length, getD, drop, List·getD-append}
 use lib.Dec.{eqb}
@@ -66,14 +66,14 @@ module _ (k : Kind) (t : Tender) (n : ℕ) (bids windows : List ℕ) (lent : ℕ
 
     module _ (enough : n ≤ lent) where
       pub eleven : (x : ℕ) → cellWith (A .has) n (A .cells) 0 ≡ found x
-          → PlainPromise k t n bids windows lent ow oc ow oc (Refused (MinuteUncovered (t .window .start + x)))
-      unfolding thinned uncovered minuteOf
+          → PlainPromise k t n bids windows lent ow oc ow oc (Refused (MinuteUncovered (minuteOf t x)))
+      unfolding thinned uncovered
       eleven x e = refuses (uncovered t x)
           (award-settles k t n bids windows lent f (le-ltb lent n enough) (found x) (cellWith (A .has) n (A .cells) 1) e refl)
 
       pub twelve : (x : ℕ) → cellWith (A .has) n (A .cells) 0 ≡ nothing → cellWith (A .has) n (A .cells) 1 ≡ found x
-          → PlainPromise k t n bids windows lent ow oc ow oc (Refused (OneBidder (t .window .start + x)))
-      unfolding thinned lone minuteOf
+          → PlainPromise k t n bids windows lent ow oc ow oc (Refused (OneBidder (minuteOf t x)))
+      unfolding thinned lone
       twelve x d e = refuses (lone t x)
           (award-settles k t n bids windows lent f (le-ltb lent n enough) nothing (found x) d e)
 

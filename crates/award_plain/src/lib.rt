@@ -92,25 +92,20 @@ fn multi_in(
         (length (now (prices .entry)))
         (now (won .entry)) (now (cents .entry)) (now (won .exit)) (now (cents .exit)) r ⌝ }
 {
-    let n = prices.len();
-    let window = tender.window;
-    let start = window.start;
-    let cells = window.end - window.start;
-    award_layout::prices(bids, prices);
-    award_layout::masks(start, cells, w, n, bids, windows, masks);
-    let thin = award_thin::thin_masks(masks, w, n, cells as usize);
+    let thin = award_lay::lay_masks(tender, w, bids, windows, prices, masks);
     match thin {
         // 11: a minute in no bid.
         Thin::Nobody { cell } => Answer::Refused(Refusal::MinuteUncovered {
-            minute: start + cell,
+            minute: award_layout::minute(tender, cell),
         }),
         // 12: a minute in one bid.
         Thin::Alone { cell } => Answer::Refused(Refusal::OneBidder {
-            minute: start + cell,
+            minute: award_layout::minute(tender, cell),
         }),
         Thin::Enough => {
+            let cells = award_layout::cells(tender);
             multi::award(prices, masks, w, cells as usize, won, cents);
-            Answer::Awarded(totals(prices, won, cents, n))
+            Answer::Awarded(totals(prices, won, cents, prices.len()))
         }
     }
 }
@@ -129,8 +124,7 @@ fn settle_multi(
     ensures { λ r. ⌜ PlainPromise Multi tender count (now (bids .entry)) (now (windows .entry)) count (now (won .entry))
         (now (cents .entry)) (now (won .exit)) (now (cents .exit)) r ⌝ }
 {
-    let window = tender.window;
-    let w = ((window.end - window.start) as usize + 63) / 64;
+    let w = (award_layout::cells(tender) as usize + 63) / 64;
     let all = w * count;
     let mut prices = [1u64; tender::MAX_ENTRIES];
     let mut masks = [1u64; 158 * tender::MAX_ENTRIES];
@@ -164,24 +158,20 @@ fn single_in(
         (length (now (prices .entry)))
         (now (won .entry)) (now (cents .entry)) (now (won .exit)) (now (cents .exit)) r ⌝ }
 {
-    let window = tender.window;
-    let start = window.start;
-    let cells = window.end - window.start;
-    award_layout::prices(bids, prices);
-    award_layout::spans(start, cells, bids, windows, starts, ends);
-    let thin = award_thin::thin_spans(starts, ends, cells as usize);
+    let thin = award_lay::lay_spans(tender, bids, windows, prices, starts, ends);
     match thin {
         // 11: a minute in no bid.
         Thin::Nobody { cell } => Answer::Refused(Refusal::MinuteUncovered {
-            minute: start + cell,
+            minute: award_layout::minute(tender, cell),
         }),
         // 12: a minute in one bid.
         Thin::Alone { cell } => Answer::Refused(Refusal::OneBidder {
-            minute: start + cell,
+            minute: award_layout::minute(tender, cell),
         }),
         Thin::Enough => {
+            let cells = award_layout::cells(tender);
             single::award(starts, ends, prices, cells, won, cents);
-            Answer::Awarded(totals(prices, won, cents, starts.len()))
+            Answer::Awarded(totals(prices, won, cents, prices.len()))
         }
     }
 }

@@ -40,7 +40,14 @@ add-s : tie.Need-add-s Inv-loop μ-loop
 add-s c =
     let c4 = c .before .before .before .before in
     let c7 = c4 .before .before .before in
-    let pre = c7 .pre in omega (arith, c4 .loop .inv .small, c .only .ensures .1, pre .0, pre .1 .1 (c4 .loop .i) (c .before .before .before .loop-test .taken))
+    let pre = c7 .pre in omega (
+      arith,
+      c4 .loop .inv .small,
+      c .only .ensures .1,
+      pre .0,
+      pre .1 .1 (c4 .loop .i)
+          (c .before .before .before .loop-test .taken),
+    )
 
 add-i : tie.Need-add-i Inv-loop μ-loop
 add-i c = omega (arith, c .before .before .before .loop-test .taken)
@@ -52,7 +59,8 @@ loop-again : tie.Need-loop-again Inv-loop μ-loop
 loop-again c =
     let c4 = c .before .before .before .before in
     let c7 = c4 .before .before .before in
-    added-more _ (c4 .loop .inv) (c .before .before .before .loop-test .taken) (c .only .ensures .0) (omega (arith, c .only .ensures .1, c7 .pre .1 .1 (c4 .loop .i) (c .before .before .before .loop-test .taken)))
+    added-more _ (c4 .loop .inv) (c .before .before .before .loop-test .taken) (c .only .ensures .0) (omega
+    (arith, c .only .ensures .1, c7 .pre .1 .1 (c4 .loop .i) (c .before .before .before .loop-test .taken)))
 
 returns : tie.Need-returns Inv-loop μ-loop
 returns c = cost-all _ _ (c .before .loop .inv) (c .loop-test .left)

@@ -1,154 +1,90 @@
--- `award_plain::multi_in` meets its contract: the tables are laid out as words, and each way out is one of the laws. Assumes nothing.
-use mathlib.Core.Path.{subst, _∙_}
+-- `award_plain::multi_in` meets its contract: the tender is laid out as words, and each way out is one of the laws. Assumes nothing.
+use mathlib.Core.Path.{_∙_}
 use native.Mathlib.Omega.{arith}
 use lib.ListN.{length}
 use Rattle.tender.specs.declared.Kind.the-variants.{Multi}
-use Rattle.multi_rounds.specs.Market.{has}
-use Rattle.award_thin.specs.Thin.{Says}
-use Rattle.award_check.specs.Cells.{cellsOf}
-use Rattle.award_check.specs.Auction.{auctionOf}
-use Rattle.award_layout.specs.LayoutLaws.{orderly}
-use Rattle.award_plain.specs.MultiLaws.{words-of, uncovered, lone, market, settled}
-use Rattle.cover.specs.EarliestLaws.{cell-found}
+use Rattle.award_layout.specs.LayoutLaws.{cells-within}
+use Rattle.award_lay.specs.LayLaws.{words-of}
+use Rattle.award_plain.specs.ThinLaws.{bare-inside, lone-inside, uncovered, lone}
+use Rattle.award_plain.specs.MultiLaws.{market, settled}
 use borrow.Author.Needs.{needs}
 use Rattle.award_plain.proofs.multi_in.Statement.{statement}
 use Rattle.award_plain.proofs.multi_in.Tie as tie
 use Rattle.award_plain.proofs.multi_in.Reads as reads
 use Rattle.award_plain.proofs.multi_in.Lts as lts
-use Rattle.award_thin.proofs.thin_masks.Reads as thin-masks-reads
-use Rattle.award_layout.proofs.masks.Reads as masks-reads
-use Rattle.award_layout.proofs.prices.Reads as prices-reads
+use Rattle.award_lay.proofs.lay_masks.Reads as lay-masks-reads
+use Rattle.award_layout.proofs.cells.Reads as cells-reads
+use Rattle.award_layout.proofs.minute.Reads as minute-reads
 use Rattle.award_plain.proofs.totals.Reads as totals-reads
 use Rattle.multi.proofs.award.Reads as award-reads
 
-sub-cells : tie.Need-sub-cells
-sub-cells c =
+lay-masks-requires : tie.Need-lay-masks-requires
+lay-masks-requires c κs =
     let c8 = c .before .before .before .before .before .before .before .before in
-    let args = c8 .args in
-    let pre = c8 .pre in
-    omega (
-      arith,
-      words-of Multi (args .tender) (length (args .prices .now)) (args .w) (args .bids .now) (args .windows .now) (pre .0)
-          (pre .1 .0) .forwards,
-    )
-
-prices-requires : tie.Need-prices-requires
-prices-requires c κs =
-    let c9 = c .before .before .before .before .before .before .before .before .before in
-    let args = c9 .args in
-    orderly Multi (args .tender) (length (args .prices .now)) (args .bids .now) (args .windows .now) (c9 .pre .0) .lent
-
-masks-requires : tie.Need-masks-requires
-unfolding cellsOf
-masks-requires c κs =
-    let c13 = c .before .before .before .before .before .before .before .before .before .before .before .before .before in
-    let args = c13 .args in
-    let pre = c13 .pre in (
-      orderly Multi (args .tender) (length (args .prices .now)) (args .bids .now) (args .windows .now) (pre .0),
-      (
-        pre .1 .1 .0,
-        (
-          words-of Multi (args .tender) (length (args .prices .now)) (args .w) (args .bids .now) (args .windows .now)
-              (pre .0) (pre .1 .0) .fits,
-          words-of Multi (args .tender) (length (args .prices .now)) (args .w) (args .bids .now)
-              (args .windows .now) (pre .0) (pre .1 .0) .words,
-        ),
-      ),
-    )
-
-thin-masks-requires : tie.Need-thin-masks-requires
-unfolding cellsOf
-thin-masks-requires c κs =
-    let c17 = c .before .before .before .before .before .before .before .before .before .before .before .before .before .before .before
-    .before .before in
-    let args = c17 .args in
-    let pre = c17 .pre in (
-      c .before .before .before .masks .kept .1 .1 .1 .1 .1 .1 .0 ∙ pre .1 .1 .0,
-      (
-        words-of Multi (args .tender) (length (args .prices .now)) (args .w) (args .bids .now) (args .windows .now) (pre .0)
-            (pre .1 .0) .words,
-        words-of Multi (args .tender) (length (args .prices .now)) (args .w) (args .bids .now) (args .windows .now)
-            (pre .0) (pre .1 .0) .fits,
-      ),
-    )
+    let P = c8 .pre in (P .0, (P .1 .0, P .1 .1 .0))
 
 enum-known-thin : tie.Need-enum-known-thin
 enum-known-thin c = search needs
 
-add-t25 : tie.Need-add-t25
-unfolding cellsOf
-add-t25 c =
+minute-requires : tie.Need-minute-requires
+minute-requires c κs =
     let c7 = c .before .before .before .before .before .before .before in
-    let c21 = c7 .before .before .before .before .before .before .before .before .before .before .before .before .before .before in
-    let args = c21 .args in
-    let pre = c21 .pre in
-    let s = subst (Says (has (c7 .masks .last .1 .1 .1 .1 .1 .1 .0) (args .w)) (length (args .prices .now)) (cellsOf (args .tender)))
-    (c .before .thin .given .1) (c .before .before .before .thin-masks .ensures) in
-    let d = words-of Multi (args .tender) (length (args .prices .now)) (args .w) (args .bids .now) (args .windows .now) (pre .0)
-    (pre .1 .0) in omega (arith, cell-found _ _ _ _ _ s .inside, d .few, d .early)
+    let c16 = c7 .before .before .before .before .before .before .before .before .before in
+    let A = c16 .args in bare-inside Multi (A .tender) (length (A .prices .now)) (A .bids .now) (A .windows .now) _
+    (c7 .lay-masks .ensures .thin-is) _ (c .before .thin .given .1)
 
 enum-known-thin-2 : tie.Need-enum-known-thin-2
 enum-known-thin-2 c = search needs
 
-add-t27 : tie.Need-add-t27
-unfolding cellsOf
-add-t27 c =
+minute-requires-2 : tie.Need-minute-requires-2
+minute-requires-2 c κs =
     let c7 = c .before .before .before .before .before .before .before in
-    let c21 = c7 .before .before .before .before .before .before .before .before .before .before .before .before .before .before in
-    let args = c21 .args in
-    let pre = c21 .pre in
-    let s = subst (Says (has (c7 .masks .last .1 .1 .1 .1 .1 .1 .0) (args .w)) (length (args .prices .now)) (cellsOf (args .tender)))
-    (c .before .thin2 .given .1) (c .before .before .before .thin-masks .ensures) in
-    let d = words-of Multi (args .tender) (length (args .prices .now)) (args .w) (args .bids .now) (args .windows .now) (pre .0)
-    (pre .1 .0) in omega (arith, cell-found _ _ _ _ _ (s .1) .inside, d .few, d .early)
+    let c16 = c7 .before .before .before .before .before .before .before .before .before in
+    let A = c16 .args in lone-inside Multi (A .tender) (length (A .prices .now)) (A .bids .now) (A .windows .now) _
+    (c7 .lay-masks .ensures .thin-is) _ (c .before .thin2 .given .1)
 
 enum-told : tie.Need-enum-told
 enum-told c = search needs
 
+cells-requires : tie.Need-cells-requires
+cells-requires c κs =
+    let c15 = c .before .before .before .before .before .before .before .before .before .before .before .before .before .before .before
+    in
+    let A = c15 .args in cells-within Multi (A .tender) (length (A .prices .now)) (A .bids .now) (A .windows .now) (c15 .pre .0) .0
+
 award-requires : tie.Need-award-requires
-unfolding cellsOf auctionOf
 award-requires c κs =
-    let c10 = c .before .before .before .before .before .before .before .before .before .before in
-    let c14 = c10 .before .before .before .before in
-    let c24 = c14 .before .before .before .before .before .before .before .before .before .before in
-    let args = c24 .args in
-    let pre = c24 .pre in
-    let d = words-of Multi (args .tender) (length (args .prices .now)) (args .w) (args .bids .now) (args .windows .now) (pre .0)
-    (pre .1 .0) in (
-      market (args .tender) (length (args .prices .now)) (args .w) (args .bids .now) (args .windows .now)
-          (c10 .masks .last .1 .1 .1 .1 .1 .1 .0) (c14 .prices .last .1 .0) (args .won .now) (args .cents .now) (pre .0)
-          (c10 .masks .kept .1 .1 .1 .1 .1 .1 .0 ∙ pre .1 .1 .0) (c10 .masks .ensures) (c14 .prices .ensures) d,
+    let c4 = c .before .before .before .before in
+    let c11 = c4 .before .before .before .before .before .before .before in
+    let c20 = c11 .before .before .before .before .before .before .before .before .before in
+    let A = c20 .args in let P = c20 .pre in let L = c11 .lay-masks in
+    let w = cells-within Multi (A .tender) (length (A .prices .now)) (A .bids .now) (A .windows .now) (P .0) in
+    let d = words-of Multi (A .tender) (length (A .prices .now)) (A .w) (A .bids .now) (A .windows .now) (P .0) (P .1 .0) in (
+      market (A .tender) (length (A .prices .now)) (A .w) (A .bids .now) (A .windows .now) _ _ _ (P .0) (L .ensures) d
+          (L .kept .1 .1 .1 .1 .1 .0 ∙ P .1 .1 .0),
       (
-        d .few,
+        omega (arith, w, c4 .cells .ensures),
         (
-          d .fits,
-          (omega (arith, c14 .prices .kept .1 .0, pre .1 .1 .1 .0), omega (arith, c14 .prices .kept .1 .0, pre .1 .1 .1 .1)),
+          omega (arith, d .fits, c4 .cells .ensures),
+          (omega (arith, L .kept .1 .1 .1 .1 .0, P .1 .1 .1 .0), omega (arith, L .kept .1 .1 .1 .1 .0, P .1 .1 .1 .1)),
         ),
       ),
     )
 
 totals-requires : tie.Need-totals-requires
-unfolding cellsOf
 totals-requires c κs =
     let c7 = c .before .before .before .before .before .before .before in
-    let c18 = c7 .before .before .before .before .before .before .before .before .before .before .before in
-    let c22 = c18 .before .before .before .before in
-    let c32 = c22 .before .before .before .before .before .before .before .before .before .before in
-    let args = c32 .args in
-    let pre = c32 .pre in
-    let d = words-of Multi (args .tender) (length (args .prices .now)) (args .w) (args .bids .now) (args .windows .now) (pre .0)
-    (pre .1 .0) in
-    let m = market (args .tender) (length (args .prices .now)) (args .w) (args .bids .now) (args .windows .now)
-    (c18 .masks .last .1 .1 .1 .1 .1 .1 .0) (c22 .prices .last .1 .0) (args .won .now) (args .cents .now) (pre .0)
-    (c18 .masks .kept .1 .1 .1 .1 .1 .1 .0 ∙ pre .1 .1 .0) (c18 .masks .ensures) (c22 .prices .ensures) d in (
+    let c19 = c7 .before .before .before .before .before .before .before .before .before .before .before .before in
+    let c28 = c19 .before .before .before .before .before .before .before .before .before in
+    let A = c28 .args in let P = c28 .pre in let L = c19 .lay-masks in
+    let d = words-of Multi (A .tender) (length (A .prices .now)) (A .w) (A .bids .now) (A .windows .now) (P .0) (P .1 .0) in
+    let m = market (A .tender) (length (A .prices .now)) (A .w) (A .bids .now) (A .windows .now) _ _ _ (P .0) (L .ensures) d
+    (L .kept .1 .1 .1 .1 .1 .0 ∙ P .1 .1 .0) in (
       (
         m .priced .count,
         (
-          omega (arith, c22 .prices .kept .1 .0, c7 .award .kept .1 .1 .1 .1 .0, pre .1 .1 .1 .0),
-          (
-            omega (arith, c22 .prices .kept .1 .0, c7 .award .kept .1 .1 .1 .1 .1 .0, pre .1 .1 .1 .1),
-            omega (arith, c22 .prices .kept .1 .0),
-          ),
+          omega (arith, L .kept .1 .1 .1 .1 .0, c7 .award .kept .1 .1 .1 .1 .0, P .1 .1 .1 .0),
+          (omega (arith, L .kept .1 .1 .1 .1 .0, c7 .award .kept .1 .1 .1 .1 .1 .0, P .1 .1 .1 .1), omega arith),
         ),
       ),
       λ i l. (omega (arith, m .priced .most i), c7 .award .ensures .small i l),
@@ -161,18 +97,12 @@ same-length-2 : tie.Need-same-length-2
 same-length-2 c = search needs
 
 returns : tie.Need-returns
-unfolding cellsOf auctionOf
 returns c =
-    let c7 = c .before .before .before .before .before .before .before in
-    let c11 = c7 .before .before .before .before in
-    let c21 = c11 .before .before .before .before .before .before .before .before .before .before in
-    let args = c21 .args in
-    let pre = c21 .pre in
-    uncovered (args .tender) (length (args .prices .now)) (args .w) (args .bids .now) (args .windows .now)
-    (c7 .masks .last .1 .1 .1 .1 .1 .1 .0) (c11 .prices .last .1 .0) (args .won .now) (args .cents .now) (pre .0)
-    (c7 .masks .kept .1 .1 .1 .1 .1 .1 .0 ∙ pre .1 .1 .0) (c7 .masks .ensures) (c11 .prices .ensures) _
-    (subst (Says (has (c7 .masks .last .1 .1 .1 .1 .1 .1 .0) (args .w)) (length (args .prices .now)) (cellsOf (args .tender)))
-    (c .before .thin .given .1) (c .before .before .before .thin-masks .ensures))
+    let c8 = c .before .before .before .before .before .before .before .before in
+    let c17 = c8 .before .before .before .before .before .before .before .before .before in
+    let A = c17 .args in rw (c .minute .ensures) (uncovered Multi (A .tender) (length (A .prices .now)) (A .bids .now)
+    (A .windows .now) _ (c8 .lay-masks .ensures .thin-is) (c17 .pre .0) (A .won .now) (A .cents .now) _
+    (c .before .before .thin .given .1))
 
 same-length-3 : tie.Need-same-length-3
 same-length-3 c = search needs
@@ -181,18 +111,11 @@ same-length-4 : tie.Need-same-length-4
 same-length-4 c = search needs
 
 returns-2 : tie.Need-returns-2
-unfolding cellsOf auctionOf
 returns-2 c =
-    let c7 = c .before .before .before .before .before .before .before in
-    let c11 = c7 .before .before .before .before in
-    let c21 = c11 .before .before .before .before .before .before .before .before .before .before in
-    let args = c21 .args in
-    let pre = c21 .pre in
-    lone (args .tender) (length (args .prices .now)) (args .w) (args .bids .now) (args .windows .now)
-    (c7 .masks .last .1 .1 .1 .1 .1 .1 .0) (c11 .prices .last .1 .0) (args .won .now) (args .cents .now) (pre .0)
-    (c7 .masks .kept .1 .1 .1 .1 .1 .1 .0 ∙ pre .1 .1 .0) (c7 .masks .ensures) (c11 .prices .ensures) _
-    (subst (Says (has (c7 .masks .last .1 .1 .1 .1 .1 .1 .0) (args .w)) (length (args .prices .now)) (cellsOf (args .tender)))
-    (c .before .thin2 .given .1) (c .before .before .before .thin-masks .ensures))
+    let c8 = c .before .before .before .before .before .before .before .before in
+    let c17 = c8 .before .before .before .before .before .before .before .before .before in
+    let A = c17 .args in rw (c .minute2 .ensures) (lone Multi (A .tender) (length (A .prices .now)) (A .bids .now) (A .windows .now) _
+    (c8 .lay-masks .ensures .thin-is) (c17 .pre .0) (A .won .now) (A .cents .now) _ (c .before .before .thin2 .given .1))
 
 same-length-5 : tie.Need-same-length-5
 same-length-5 c = search needs
@@ -207,37 +130,31 @@ same-length-8 : tie.Need-same-length-8
 same-length-8 c = search needs
 
 returns-3 : tie.Need-returns-3
-unfolding cellsOf auctionOf
 returns-3 c =
     let c8 = c .before .before .before .before .before .before .before .before in
     let c13 = c8 .before .before .before .before .before in
-    let c15 = c13 .before .before in
-    let c19 = c15 .before .before .before .before in
-    let c23 = c19 .before .before .before .before in
-    let c33 = c23 .before .before .before .before .before .before .before .before .before .before in
-    let args = c33 .args in
-    let pre = c33 .pre in
-    let s = subst (Says (has (c19 .masks .last .1 .1 .1 .1 .1 .1 .0) (args .w)) (length (args .prices .now)) (cellsOf (args .tender)))
-    (c13 .enum-told .given .1) (c15 .thin-masks .ensures) in
-    settled (args .tender) (length (args .prices .now)) (args .w) (args .bids .now) (args .windows .now)
-    (c19 .masks .last .1 .1 .1 .1 .1 .1 .0) (c23 .prices .last .1 .0) (args .won .now) (args .cents .now) (pre .0)
-    (c19 .masks .kept .1 .1 .1 .1 .1 .1 .0 ∙ pre .1 .1 .0) (c19 .masks .ensures) (c23 .prices .ensures) s
+    let c14 = c13 .before in
+    let c20 = c14 .before .before .before .before .before .before in
+    let c29 = c20 .before .before .before .before .before .before .before .before .before in
+    let A = c29 .args in let P = c29 .pre in let L = c20 .lay-masks in
+    settled (A .tender) (length (A .prices .now)) (A .w) (A .bids .now) (A .windows .now) (L .last .1 .1 .1 .1 .0)
+    (L .last .1 .1 .1 .1 .1 .0)
+    (L .result) (P .0) (L .ensures) (c14 .enum-told .given .1) (A .won .now) (A .cents .now)
     (c8 .award .last .1 .1 .1 .1 .0) (c8 .award .last .1 .1 .1 .1 .1 .0) (c .totals .result)
-    (omega (arith, c23 .prices .kept .1 .0, pre .1 .1 .1 .1)) (c8 .award .ensures) (c .totals .ensures)
+    (omega (arith, L .kept .1 .1 .1 .1 .0, P .1 .1 .1 .1)) (rw (c13 .cells .ensures) at (c8 .award .ensures))
+    (rw (L .kept .1 .1 .1 .1 .0) at (c .totals .ensures))
 
 pub multi-in-spec : {M : Type 1} → statement M
 multi-in-spec =
     tie.close
     (tie.spec
-    sub-cells
-    prices-requires
-    masks-requires
-    thin-masks-requires
+    lay-masks-requires
     enum-known-thin
-    add-t25
+    minute-requires
     enum-known-thin-2
-    add-t27
+    minute-requires-2
     enum-told
+    cells-requires
     award-requires
     totals-requires
     same-length

@@ -25,7 +25,13 @@ shared-slice-read-s : tie.Need-shared-slice-read-s Inv-loop μ-loop
 shared-slice-read-s c = omega (arith, c .before .loop-test .taken, c .before .before .before .pre .1 .0)
 
 add-s : tie.Need-add-s Inv-loop μ-loop
-add-s c = let pre = c .before .before .before .pre in omega (arith, c .before .before .loop .inv .small, pre .0, pre .1 .1 (c .before .before .loop .i) (c .before .loop-test .taken))
+add-s c = let pre = c .before .before .before .pre in omega (
+  arith,
+  c .before .before .loop .inv .small,
+  pre .0,
+  pre .1 .1
+      (c .before .before .loop .i) (c .before .loop-test .taken),
+)
 
 add-i : tie.Need-add-i Inv-loop μ-loop
 add-i c = omega (arith, c .before .loop-test .taken, c .before .before .before .pre .0)
@@ -34,7 +40,8 @@ loop-less : tie.Need-loop-less Inv-loop μ-loop
 loop-less c = omega (arith, c .before .loop-test .taken)
 
 loop-again : tie.Need-loop-again Inv-loop μ-loop
-loop-again c = added-more _ (c .before .before .loop .inv) (c .before .loop-test .taken) refl (c .before .before .before .pre .1 .1 (c .before .before .loop .i) (c .before .loop-test .taken))
+loop-again c = added-more _ (c .before .before .loop .inv) (c .before .loop-test .taken) refl (c .before .before .before .pre .1 .1
+    (c .before .before .loop .i) (c .before .loop-test .taken))
 
 returns : tie.Need-returns Inv-loop μ-loop
 returns c = paid-all _ (c .before .loop .inv) (c .loop-test .left)

@@ -1,180 +1,96 @@
--- `award_plain::single_in` meets its contract: the tables are laid out as starts and ends, and each way out is one of the laws.
+-- `award_plain::single_in` meets its contract: the tender is laid out as starts and ends, and each way out is one of the laws.
 -- Assumes nothing.
-use mathlib.Core.Path.{sym, subst, _∙_}
+use mathlib.Core.Path.{sym, _∙_}
 use native.Mathlib.Omega.{arith}
 use lib.ListN.{length}
 use Rattle.tender.specs.declared.Kind.the-variants.{Single}
-use Rattle.cover.specs.Settled.{spans}
-use Rattle.award_thin.specs.Thin.{Says}
-use Rattle.award_check.specs.Cells.{cellsOf}
-use Rattle.award_check.specs.Auction.{auctionOf}
-use Rattle.award_layout.specs.LayoutLaws.{orderly, timed}
-use Rattle.award_plain.specs.SingleLaws.{uncovered, lone, ordered, prices-sum, small-prices, settled}
-use Rattle.award_plain.specs.MultiLaws.{entries-few}
-use Rattle.cover.specs.EarliestLaws.{cell-found}
+use Rattle.award_layout.specs.LayoutLaws.{cells-within}
+use Rattle.award_plain.specs.ThinLaws.{bare-inside, lone-inside, uncovered, lone}
+use Rattle.award_plain.specs.SingleLaws.{lawful-prices, prices-sum, settled}
 use borrow.Author.Needs.{needs}
 use Rattle.award_plain.proofs.single_in.Statement.{statement}
 use Rattle.award_plain.proofs.single_in.Tie as tie
 use Rattle.award_plain.proofs.single_in.Reads as reads
 use Rattle.award_plain.proofs.single_in.Lts as lts
-use Rattle.award_thin.proofs.thin_spans.Reads as thin-spans-reads
-use Rattle.award_layout.proofs.prices.Reads as prices-reads
-use Rattle.award_layout.proofs.spans.Reads as spans-reads
+use Rattle.award_lay.proofs.lay_spans.Reads as lay-spans-reads
+use Rattle.award_layout.proofs.cells.Reads as cells-reads
+use Rattle.award_layout.proofs.minute.Reads as minute-reads
 use Rattle.award_plain.proofs.totals.Reads as totals-reads
 use Rattle.single.proofs.award.Reads as award-reads
 
-sub-cells : tie.Need-sub-cells
-sub-cells c =
-    let c9 = c .before .before .before .before .before .before .before .before .before in
-    let args = c9 .args in
-    omega (arith, timed Single (args .tender) (length (args .prices .now)) (args .bids .now) (args .windows .now) (c9 .pre .0) .some-minute)
-
-prices-requires : tie.Need-prices-requires
-prices-requires c κs =
+lay-spans-requires : tie.Need-lay-spans-requires
+lay-spans-requires c κs =
     let c10 = c .before .before .before .before .before .before .before .before .before .before in
-    let args = c10 .args in
-    orderly Single (args .tender) (length (args .prices .now)) (args .bids .now) (args .windows .now) (c10 .pre .0) .lent
-
-spans-requires : tie.Need-spans-requires
-spans-requires c κs =
-    let c15 = c .before .before .before .before .before .before .before .before .before .before .before .before .before .before .before in
-    let args = c15 .args in
-    let pre = c15 .pre in (
-      rw (pre .1 .0) (orderly Single (args .tender) (length (args .prices .now)) (args .bids .now) (args .windows .now) (pre .0)),
-      pre .1 .1 .0 ∙ sym (pre .1 .0),
-    )
-
-thin-spans-requires : tie.Need-thin-spans-requires
-unfolding cellsOf
-thin-spans-requires c κs =
-    let c6 = c .before .before .before .before .before .before in
-    let c11 = c6 .before .before .before .before .before in
-    let c22 = c11 .before .before .before .before .before .before .before .before .before .before .before in
-    let args = c22 .args in
-    let pre = c22 .pre in (
-      ordered (args .tender) (length (args .prices .now)) (args .bids .now) (args .windows .now) (c6 .spans .last .1 .1 .1 .1 .0)
-          (c6 .spans .last .1 .1 .1 .1 .1 .0) (c11 .prices .last .1 .0) (args .won .now) (args .cents .now) (pre .0)
-          (c6 .spans .kept .1 .1 .1 .1 .0 ∙ pre .1 .0) (c6 .spans .kept .1 .1 .1 .1 .1 .0 ∙ pre .1 .1 .0)
-          (rw (pre .1 .0) at (c6 .spans .ensures)) (c11 .prices .ensures),
-      omega (arith, timed Single (args .tender) (length (args .prices .now)) (args .bids .now) (args .windows .now) (pre .0) .in-week),
-    )
+    let P = c10 .pre in (P .0, (P .1 .0, P .1 .1 .0))
 
 enum-known-thin : tie.Need-enum-known-thin
 enum-known-thin c = search needs
 
-add-t28 : tie.Need-add-t28
-unfolding cellsOf
-add-t28 c =
-    let c10 = c .before .before .before .before .before .before .before .before .before .before in
-    let c26 = c10 .before .before .before .before .before .before .before .before .before .before .before .before .before .before .before
-    .before in
-    let args = c26 .args in
-    let pre = c26 .pre in
-    let s = rw (c10 .spans .kept .1 .1 .1 .1 .0 ∙ pre .1 .0)
-    at (subst (Says (spans (c10 .spans .last .1 .1 .1 .1 .0) (c10 .spans .last .1 .1 .1 .1 .1 .0))
-    (length (c10 .spans .last .1 .1 .1 .1 .0)) (cellsOf (args .tender))) (c .before .thin .given .1)
-    (c .before .before .before .thin-spans .ensures)) in
-    let d = timed Single (args .tender) (length (args .prices .now)) (args .bids .now) (args .windows .now) (pre .0) in
-    omega (arith, cell-found _ _ _ _ _ s .inside, d .some-minute, d .in-week)
+minute-requires : tie.Need-minute-requires
+minute-requires c κs =
+    let c9 = c .before .before .before .before .before .before .before .before .before in
+    let c20 = c9 .before .before .before .before .before .before .before .before .before .before .before in
+    let A = c20 .args in bare-inside Single (A .tender) (length (A .prices .now)) (A .bids .now) (A .windows .now) _
+    (c9 .lay-spans .ensures .thin-is) _ (c .before .thin .given .1)
 
 enum-known-thin-2 : tie.Need-enum-known-thin-2
 enum-known-thin-2 c = search needs
 
-add-t30 : tie.Need-add-t30
-unfolding cellsOf
-add-t30 c =
-    let c10 = c .before .before .before .before .before .before .before .before .before .before in
-    let c26 = c10 .before .before .before .before .before .before .before .before .before .before .before .before .before .before .before
-    .before in
-    let args = c26 .args in
-    let pre = c26 .pre in
-    let s = rw (c10 .spans .kept .1 .1 .1 .1 .0 ∙ pre .1 .0)
-    at (subst (Says (spans (c10 .spans .last .1 .1 .1 .1 .0) (c10 .spans .last .1 .1 .1 .1 .1 .0))
-    (length (c10 .spans .last .1 .1 .1 .1 .0)) (cellsOf (args .tender))) (c .before .thin2 .given .1)
-    (c .before .before .before .thin-spans .ensures)) in
-    let d = timed Single (args .tender) (length (args .prices .now)) (args .bids .now) (args .windows .now) (pre .0) in
-    omega (arith, cell-found _ _ _ _ _ (s .1) .inside, d .some-minute, d .in-week)
+minute-requires-2 : tie.Need-minute-requires-2
+minute-requires-2 c κs =
+    let c9 = c .before .before .before .before .before .before .before .before .before in
+    let c20 = c9 .before .before .before .before .before .before .before .before .before .before .before in
+    let A = c20 .args in lone-inside Single (A .tender) (length (A .prices .now)) (A .bids .now) (A .windows .now) _
+    (c9 .lay-spans .ensures .thin-is) _ (c .before .thin2 .given .1)
 
 enum-told : tie.Need-enum-told
 enum-told c = search needs
 
+cells-requires : tie.Need-cells-requires
+cells-requires c κs =
+    let c19 = c .before .before .before .before .before .before .before .before .before .before .before .before .before .before .before
+    .before .before .before .before in
+    let A = c19 .args in cells-within Single (A .tender) (length (A .prices .now)) (A .bids .now) (A .windows .now) (c19 .pre .0) .0
+
 award-requires : tie.Need-award-requires
-unfolding cellsOf
 award-requires c κs =
-    let c14 = c .before .before .before .before .before .before .before .before .before .before .before .before .before .before in
-    let c19 = c14 .before .before .before .before .before in
-    let c30 = c19 .before .before .before .before .before .before .before .before .before .before .before in
-    let args = c30 .args in
-    let pre = c30 .pre in
-    let h = ordered (args .tender) (length (args .prices .now)) (args .bids .now) (args .windows .now) (c14 .spans .last .1 .1 .1 .1 .0)
-    (c14 .spans .last .1 .1 .1 .1 .1 .0) (c19 .prices .last .1 .0) (args .won .now) (args .cents .now) (pre .0)
-    (c14 .spans .kept .1 .1 .1 .1 .0 ∙ pre .1 .0) (c14 .spans .kept .1 .1 .1 .1 .1 .0 ∙ pre .1 .1 .0)
-    (rw (pre .1 .0) at (c14 .spans .ensures)) (c19 .prices .ensures) in (
+    let c5 = c .before .before .before .before .before in
+    let c14 = c5 .before .before .before .before .before .before .before .before .before in
+    let c25 = c14 .before .before .before .before .before .before .before .before .before .before .before in
+    let A = c25 .args in let P = c25 .pre in let L = c14 .lay-spans in
+    let w = cells-within Single (A .tender) (length (A .prices .now)) (A .bids .now) (A .windows .now) (P .0) in (
       (
-        omega (
-          arith,
-          c19 .prices .kept .1 .0,
-          orderly Single (args .tender) (length (args .prices .now)) (args .bids .now)
-              (args .windows .now) (pre .0) .few,
-        ),
-        (c14 .spans .kept .1 .1 .1 .1 .0 ∙ pre .1 .0) ∙ sym (c19 .prices .kept .1 .0),
-        (c14 .spans .kept .1 .1 .1 .1 .1 .0 ∙ pre .1 .1 .0) ∙ sym (c19 .prices .kept .1 .0),
-        omega (
-          arith,
-          timed Single (args .tender) (length (args .prices .now)) (args .bids .now) (args .windows .now)
-              (pre .0) .some-minute,
-        ),
-        omega (
-          arith,
-          timed Single (args .tender) (length (args .prices .now)) (args .bids .now)
-              (args .windows .now) (pre .0) .in-week,
-        ),
+        lawful-prices (A .tender) (length (A .prices .now)) (A .bids .now) (A .windows .now) _ _ _ _ (P .0) (L .ensures) .count,
+        L .kept .1 .1 .1 .1 .0 ∙ P .1 .0 ∙ sym (L .kept .1 .1 .1 .0),
+        L .kept .1 .1 .1 .1 .1 .0 ∙ P .1 .1 .0 ∙ sym (L .kept .1 .1 .1 .0),
+        omega (arith, w, c5 .cells .ensures),
+        omega (arith, w, c5 .cells .ensures),
       ),
       (
+        (omega (arith, L .kept .1 .1 .1 .0, P .1 .1 .1), omega (arith, L .kept .1 .1 .1 .0, P .1 .1 .1)),
         (
-          omega (arith, c19 .prices .kept .1 .0, pre .1 .1 .1),
-          omega (arith, c19 .prices .kept .1 .0, pre .1 .1 .1),
-        ),
-        (
-          λ i m. (h .ordered i, h .inside i),
-          prices-sum (args .tender) (length (args .prices .now)) (args .bids .now)
-              (args .windows .now) (c14 .spans .last .1 .1 .1 .1 .0) (c14 .spans .last .1 .1 .1 .1 .1 .0) (c19 .prices .last .1 .0)
-              (args .won .now) (args .cents .now) (pre .0) (c14 .spans .kept .1 .1 .1 .1 .0 ∙ pre .1 .0)
-              (c14 .spans .kept .1 .1 .1 .1 .1 .0 ∙ pre .1 .1 .0) (rw (pre .1 .0) at (c14 .spans .ensures)) (c19 .prices .ensures),
+          λ i m. rw (c5 .cells .ensures) (L .ensures .spans-are .ordered i, L .ensures .spans-are .inside i),
+          prices-sum (A .tender) (length (A .prices .now)) (A .bids .now) (A .windows .now) _ _ _ _ (P .0) (L .ensures),
         ),
       ),
     )
 
 totals-requires : tie.Need-totals-requires
-unfolding cellsOf
 totals-requires c κs =
     let c7 = c .before .before .before .before .before .before .before in
-    let c22 = c7 .before .before .before .before .before .before .before .before .before .before .before .before .before .before .before in
-    let c27 = c22 .before .before .before .before .before in
-    let c38 = c27 .before .before .before .before .before .before .before .before .before .before .before in
-    let args = c38 .args in
-    let pre = c38 .pre in (
+    let c22 = c7 .before .before .before .before .before .before .before .before .before .before .before .before .before .before
+    .before in
+    let c33 = c22 .before .before .before .before .before .before .before .before .before .before .before in
+    let A = c33 .args in let P = c33 .pre in let L = c22 .lay-spans in
+    let p = lawful-prices (A .tender) (length (A .prices .now)) (A .bids .now) (A .windows .now) _ _ _ _ (P .0) (L .ensures) in (
       (
-        omega (
-          arith,
-          c27 .prices .kept .1 .0,
-          entries-few Single (args .tender) (length (args .prices .now)) (args .bids .now) (args .windows .now) (pre .0),
-        ),
+        p .count,
         (
-          omega (arith, c27 .prices .kept .1 .0, c7 .award .kept .1 .1 .1 .1 .0, pre .1 .1 .1),
-          (
-            omega (arith, c27 .prices .kept .1 .0, c7 .award .kept .1 .1 .1 .1 .1 .0, pre .1 .1 .1),
-            omega (arith, c22 .spans .kept .1 .1 .1 .1 .0, pre .1 .0, c27 .prices .kept .1 .0),
-          ),
+          omega (arith, L .kept .1 .1 .1 .0, c7 .award .kept .1 .1 .1 .1 .0, P .1 .1 .1),
+          (omega (arith, L .kept .1 .1 .1 .0, c7 .award .kept .1 .1 .1 .1 .1 .0, P .1 .1 .1), omega arith),
         ),
       ),
-      λ i l. (
-        small-prices (args .tender) (length (args .prices .now)) (args .bids .now)
-            (args .windows .now) (c22 .spans .last .1 .1 .1 .1 .0) (c22 .spans .last .1 .1 .1 .1 .1 .0) (c27 .prices .last .1 .0)
-            (args .won .now) (args .cents .now) (pre .0) (c22 .spans .kept .1 .1 .1 .1 .0 ∙ pre .1 .0)
-            (c22 .spans .kept .1 .1 .1 .1 .1 .0 ∙ pre .1 .1 .0) (rw (pre .1 .0) at (c22 .spans .ensures)) (c27 .prices .ensures) i l,
-        c7 .award .ensures .small i l,
-      ),
+      λ i l. (omega (arith, p .most i), c7 .award .ensures .small i l),
     )
 
 same-length : tie.Need-same-length
@@ -187,21 +103,12 @@ same-length-3 : tie.Need-same-length-3
 same-length-3 c = search needs
 
 returns : tie.Need-returns
-unfolding cellsOf auctionOf
 returns c =
     let c10 = c .before .before .before .before .before .before .before .before .before .before in
-    let c15 = c10 .before .before .before .before .before in
-    let c26 = c15 .before .before .before .before .before .before .before .before .before .before .before in
-    let args = c26 .args in
-    let pre = c26 .pre in
-    uncovered (args .tender) (length (args .prices .now)) (args .bids .now) (args .windows .now) (c10 .spans .last .1 .1 .1 .1 .0)
-    (c10 .spans .last .1 .1 .1 .1 .1 .0) (c15 .prices .last .1 .0) (args .won .now) (args .cents .now) (pre .0)
-    (c10 .spans .kept .1 .1 .1 .1 .0 ∙ pre .1 .0) (c10 .spans .kept .1 .1 .1 .1 .1 .0 ∙ pre .1 .1 .0)
-    (rw (pre .1 .0) at (c10 .spans .ensures)) (c15 .prices .ensures) _
-    (rw (c10 .spans .kept .1 .1 .1 .1 .0 ∙ pre .1 .0)
-    at (subst (Says (spans (c10 .spans .last .1 .1 .1 .1 .0) (c10 .spans .last .1 .1 .1 .1 .1 .0))
-    (length (c10 .spans .last .1 .1 .1 .1 .0)) (cellsOf (args .tender))) (c .before .thin .given .1)
-    (c .before .before .before .thin-spans .ensures)))
+    let c21 = c10 .before .before .before .before .before .before .before .before .before .before .before in
+    let A = c21 .args in rw (c .minute .ensures) (uncovered Single (A .tender) (length (A .prices .now)) (A .bids .now)
+    (A .windows .now) _ (c10 .lay-spans .ensures .thin-is) (c21 .pre .0) (A .won .now) (A .cents .now) _
+    (c .before .before .thin .given .1))
 
 same-length-4 : tie.Need-same-length-4
 same-length-4 c = search needs
@@ -213,21 +120,12 @@ same-length-6 : tie.Need-same-length-6
 same-length-6 c = search needs
 
 returns-2 : tie.Need-returns-2
-unfolding cellsOf auctionOf
 returns-2 c =
     let c10 = c .before .before .before .before .before .before .before .before .before .before in
-    let c15 = c10 .before .before .before .before .before in
-    let c26 = c15 .before .before .before .before .before .before .before .before .before .before .before in
-    let args = c26 .args in
-    let pre = c26 .pre in
-    lone (args .tender) (length (args .prices .now)) (args .bids .now) (args .windows .now) (c10 .spans .last .1 .1 .1 .1 .0)
-    (c10 .spans .last .1 .1 .1 .1 .1 .0) (c15 .prices .last .1 .0) (args .won .now) (args .cents .now) (pre .0)
-    (c10 .spans .kept .1 .1 .1 .1 .0 ∙ pre .1 .0) (c10 .spans .kept .1 .1 .1 .1 .1 .0 ∙ pre .1 .1 .0)
-    (rw (pre .1 .0) at (c10 .spans .ensures)) (c15 .prices .ensures) _
-    (rw (c10 .spans .kept .1 .1 .1 .1 .0 ∙ pre .1 .0)
-    at (subst (Says (spans (c10 .spans .last .1 .1 .1 .1 .0) (c10 .spans .last .1 .1 .1 .1 .1 .0))
-    (length (c10 .spans .last .1 .1 .1 .1 .0)) (cellsOf (args .tender))) (c .before .thin2 .given .1)
-    (c .before .before .before .thin-spans .ensures)))
+    let c21 = c10 .before .before .before .before .before .before .before .before .before .before .before in
+    let A = c21 .args in rw (c .minute2 .ensures) (lone Single (A .tender) (length (A .prices .now)) (A .bids .now)
+    (A .windows .now) _ (c10 .lay-spans .ensures .thin-is) (c21 .pre .0) (A .won .now) (A .cents .now) _
+    (c .before .before .thin2 .given .1))
 
 same-length-7 : tie.Need-same-length-7
 same-length-7 c = search needs
@@ -245,40 +143,30 @@ same-length-11 : tie.Need-same-length-11
 same-length-11 c = search needs
 
 returns-3 : tie.Need-returns-3
-unfolding cellsOf auctionOf
 returns-3 c =
     let c8 = c .before .before .before .before .before .before .before .before in
     let c14 = c8 .before .before .before .before .before .before in
-    let c16 = c14 .before .before in
-    let c23 = c16 .before .before .before .before .before .before .before in
-    let c28 = c23 .before .before .before .before .before in
-    let c39 = c28 .before .before .before .before .before .before .before .before .before .before .before in
-    let args = c39 .args in
-    let pre = c39 .pre in
-    settled (args .tender) (length (args .prices .now)) (args .bids .now) (args .windows .now) (c23 .spans .last .1 .1 .1 .1 .0)
-    (c23 .spans .last .1 .1 .1 .1 .1 .0) (c28 .prices .last .1 .0) (args .won .now) (args .cents .now) (pre .0)
-    (c23 .spans .kept .1 .1 .1 .1 .0 ∙ pre .1 .0) (c23 .spans .kept .1 .1 .1 .1 .1 .0 ∙ pre .1 .1 .0)
-    (rw (pre .1 .0) at (c23 .spans .ensures)) (c28 .prices .ensures)
-    (rw (c23 .spans .kept .1 .1 .1 .1 .0 ∙ pre .1 .0)
-    at (subst (Says (spans (c23 .spans .last .1 .1 .1 .1 .0) (c23 .spans .last .1 .1 .1 .1 .1 .0))
-    (length (c23 .spans .last .1 .1 .1 .1 .0)) (cellsOf (args .tender))) (c14 .enum-told .given .1) (c16 .thin-spans .ensures)))
+    let c15 = c14 .before in
+    let c23 = c15 .before .before .before .before .before .before .before .before in
+    let c34 = c23 .before .before .before .before .before .before .before .before .before .before .before in
+    let A = c34 .args in let P = c34 .pre in let L = c23 .lay-spans in
+    settled (A .tender) (length (A .prices .now)) (A .bids .now) (A .windows .now) (L .last .1 .1 .1 .0) (L .last .1 .1 .1 .1 .0)
+    (L .last .1 .1 .1 .1 .1 .0) (L .result) (P .0) (L .ensures) (c15 .enum-told .given .1) (A .won .now) (A .cents .now)
     (c8 .award .last .1 .1 .1 .1 .0) (c8 .award .last .1 .1 .1 .1 .1 .0) (c .totals .result)
-    (omega (arith, c28 .prices .kept .1 .0, pre .1 .1 .1)) (c8 .award .ensures)
-    (rw (c23 .spans .kept .1 .1 .1 .1 .0 ∙ pre .1 .0) at (c .totals .ensures))
+    (omega (arith, L .kept .1 .1 .1 .0, P .1 .1 .1)) (rw (c14 .cells .ensures) at (c8 .award .ensures))
+    (rw (L .kept .1 .1 .1 .0) at (c .totals .ensures))
 
 pub single-in-spec : {M : Type 1} → statement M
 single-in-spec =
     tie.close
     (tie.spec
-    sub-cells
-    prices-requires
-    spans-requires
-    thin-spans-requires
+    lay-spans-requires
     enum-known-thin
-    add-t28
+    minute-requires
     enum-known-thin-2
-    add-t30
+    minute-requires-2
     enum-told
+    cells-requires
     award-requires
     totals-requires
     same-length
