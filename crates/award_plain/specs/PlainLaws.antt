@@ -102,7 +102,8 @@ module _ (k : Kind) (t : Tender) (n : ℕ) (bids windows : List ℕ) (lent : ℕ
         rows-are =
             listed-same n (λ i. record { won = eqb (getD nw i 0) 1; cents = getD nc i 0 })
             (λ i. record { won = won (rule k) A i; cents = cents (rule k) A i }) (λ i l. rw (flag-at i l, pay-at i l))
-            ∙ ap (λ (m : ℕ). listed m (λ i. record { won = won (rule k) A i; cents = cents (rule k) A i })) (sym (owners-are t n bids windows))
+            ∙ ap (λ (m : ℕ). listed m (λ i. record { won = won (rule k) A i; cents = cents (rule k) A i }))
+            (sym (owners-are t n bids windows))
 
         totals-is : totals ≡ totalsOf (rule k) A
         totals-is = summed ∙ ap (totalsIn ps nw nc) (sym (owners-are t n bids windows))
