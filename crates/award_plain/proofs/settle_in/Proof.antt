@@ -56,8 +56,8 @@ settle-single-requires c κs =
       subst (λ (k : Kind). faultOf k (args .tender) (args .count) (args .bids .now) (args .windows .now) ≡ none)
           (c .before .before .enum-told2 .given .1) f,
       (
-        omega (arith, o .few, pre .0, c4 .if1 .left),
-        omega (arith, o .few, pre .1, c4 .if1 .left),
+        omega (arith, o .few, pre, c4 .if1 .left),
+        omega (arith, o .few, pre, c4 .if1 .left),
       ),
     )
 
@@ -77,8 +77,8 @@ settle-multi-requires c κs =
       subst (λ (k : Kind). faultOf k (args .tender) (args .count) (args .bids .now) (args .windows .now) ≡ none)
           (c .before .before .enum-told3 .given .1) f,
       (
-        omega (arith, o .few, pre .0, c4 .if1 .left),
-        omega (arith, o .few, pre .1, c4 .if1 .left),
+        omega (arith, o .few, pre, c4 .if1 .left),
+        omega (arith, o .few, pre, c4 .if1 .left),
       ),
     )
 
