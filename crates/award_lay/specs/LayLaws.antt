@@ -33,7 +33,7 @@ words-of k t n w bids windows f e = record {
 
 module _ (t : Tender) (n : ℕ) (bids windows starts ends : List ℕ) (f : faultOf Single t n bids windows ≡ none)
     (a : length starts ≡ n) (b : length ends ≡ n)
-    (l : SpansLaid n (t .window .start) (cellsOf t) bids windows starts ends) where
+    (l : SpansLaid n t bids windows starts ends) where
   o : Orderly Single n bids windows
   o = orderly Single t n bids windows f
 
@@ -55,7 +55,7 @@ module _ (t : Tender) (n : ℕ) (bids windows starts ends : List ℕ) (f : fault
   }
 
 pub lays-masks : (t : Tender) (n w : ℕ) (bids windows ps ms : List ℕ) (thin : Thin) → length ms ≡ w * n
-    → AllMasked n (t .window .start) (cellsOf t) w bids windows ms → PricesLaid n bids ps → Says (has ms w) n (cellsOf t) thin
+    → AllMasked n t w bids windows ms → PricesLaid n bids ps → Says (has ms w) n (cellsOf t) thin
     → LaidMasks t n w bids windows ps ms thin
 lays-masks t n w bids windows ps ms thin e m p s = record {
   prices-are = prices-laid t n bids windows ps p;

@@ -26,9 +26,8 @@ pub fn lay_spans(
         (now (starts .exit)) (now (ends .exit)) r ⌝ }
 {
     let cells = award_layout::cells(tender);
-    let window = tender.window;
     award_layout::prices(bids, prices);
-    award_layout::spans(window.start, cells, bids, windows, starts, ends);
+    award_layout::spans(tender, bids, windows, starts, ends);
     award_thin::thin_spans(starts, ends, cells as usize)
 }
 
@@ -48,8 +47,7 @@ pub fn lay_masks(
 {
     let n = prices.len();
     let cells = award_layout::cells(tender);
-    let window = tender.window;
     award_layout::prices(bids, prices);
-    award_layout::masks(window.start, cells, w, n, bids, windows, masks);
+    award_layout::masks(tender, w, n, bids, windows, masks);
     award_thin::thin_masks(masks, w, n, cells as usize)
 }

@@ -9,12 +9,13 @@ use lib.Seq.{getD-set-same, getD-set-other}
 use lib.Dec.{leb, ltb, eqb}
 use borrow.Author.Tests.{ltb-true, ltb-false, leb-true, leb-false, eq-eqb}
 use Rattle.tender.specs.declared.Kind.{Kind}
+use Rattle.tender.specs.declared.Tender.{Tender}
 use Rattle.tender.specs.Limits.{within, mostWindows}
 use Rattle.cover.specs.SetLaws.{and-split}
 use Rattle.tender.specs.Tables.{windowsOf, windowWidth, windowAt}
 use Rattle.cells.specs.Cells.{cell, RangeAdded}
 use Rattle.cells.specs.BitLaws.{zero-bit}
-use Rattle.award_check.specs.Cells.{holds}
+use Rattle.award_check.specs.Cells.{holds, cellsOf, minuteOf}
 use Rattle.award_check.specs.AlikeLaws.{windows-step}
 use Rattle.award_check.specs.WalkLaws.{rowsAhead, ahead-more}
 use Rattle.award_layout.specs.LayoutLaws.{in-cell}
@@ -34,32 +35,33 @@ filled-more f out i l h v e j m = go (ltb j i) refl
         ∙ e ∙ ap f (sym d)
 
 -- the words have the cells of the windows passed, those from j on being left
-pub record Masking (start L : ℕ) (windows : List ℕ) (first count j : ℕ) (words : List ℕ) : Type 0 where
+pub record Masking (t : Tender) (windows : List ℕ) (first count j : ℕ) (words : List ℕ) : Type 0 where
   pub inside : j ≤ count
   pub sets : (x : ℕ) → (eqb (cell words x) 1
-      || (ltb x L && holds (windowsOf (count - j) (drop (windowWidth * (first + j)) windows)) (start + x)))
-      ≡ (ltb x L && holds (windowsOf count (drop (windowWidth * first) windows)) (start + x))
+      || (ltb x (cellsOf t) && holds (windowsOf (count - j) (drop (windowWidth * (first + j)) windows)) (minuteOf t x)))
+      ≡ (ltb x (cellsOf t) && holds (windowsOf count (drop (windowWidth * first) windows)) (minuteOf t x))
 
-pub masking-starts : (start L : ℕ) (windows : List ℕ) (first count : ℕ) (words : List ℕ) → ((i : ℕ) → getD words i 0 ≡ 0)
-    → Masking start L windows first count 0 words
+pub masking-starts : (t : Tender) (windows : List ℕ) (first count : ℕ) (words : List ℕ) → ((i : ℕ) → getD words i 0 ≡ 0)
+    → Masking t windows first count 0 words
 unfolding cell
-masking-starts start L windows first count words z =
+masking-starts t windows first count words z =
     record {
       inside = omega arith;
       sets = λ x. ap (λ b.
-          b || (ltb x L && holds (windowsOf (count - 0) (drop (windowWidth * (first + 0)) windows)) (start + x))) (clear x) ∙ same x;
+          b || (ltb x (cellsOf t) && holds (windowsOf (count - 0) (drop (windowWidth * (first + 0)) windows)) (minuteOf t x))) (clear x)
+          ∙ same x;
     }
   where
     clear : (x : ℕ) → eqb (getD words (x / 64) 0 / 2 ^ (x % 64) % 2) 1 ≡ false
     clear x = ap (λ (v : ℕ). eqb (v / 2 ^ (x % 64) % 2) 1) (z (x / 64)) ∙ ap (λ (v : ℕ). eqb v 1) (zero-bit (x % 64))
 
-    same : (x : ℕ) → (ltb x L && holds (windowsOf (count - 0) (drop (windowWidth * (first + 0)) windows)) (start + x))
-        ≡ (ltb x L && holds (windowsOf count (drop (windowWidth * first) windows)) (start + x))
+    same : (x : ℕ) → (ltb x (cellsOf t) && holds (windowsOf (count - 0) (drop (windowWidth * (first + 0)) windows)) (minuteOf t x))
+        ≡ (ltb x (cellsOf t) && holds (windowsOf count (drop (windowWidth * first) windows)) (minuteOf t x))
     same x =
         let d : count - 0 ≡ count = omega arith in
         let e : first + 0 ≡ first = omega arith in
-        ap (λ (m : ℕ). ltb x L && holds (windowsOf m (drop (windowWidth * (first + 0)) windows)) (start + x)) d
-        ∙ ap (λ (m : ℕ). ltb x L && holds (windowsOf count (drop (windowWidth * m) windows)) (start + x)) e
+        ap (λ (m : ℕ). ltb x (cellsOf t) && holds (windowsOf m (drop (windowWidth * (first + 0)) windows)) (minuteOf t x)) d
+        ∙ ap (λ (m : ℕ). ltb x (cellsOf t) && holds (windowsOf count (drop (windowWidth * m) windows)) (minuteOf t x)) e
 
 -- a cell is set after a range is added where it was set or is in the range
 added : (s e : ℕ) (words words′ : List ℕ) → s ≤ e → RangeAdded s e words words′ → (x : ℕ)
@@ -76,23 +78,23 @@ regroup true l i h = refl
 regroup false true i h = refl
 regroup false false i h = refl
 
-pub masking-more : (start L : ℕ) (windows : List ℕ) (first count j : ℕ) (words words′ : List ℕ) (s e : ℕ)
-    → Masking start L windows first count j words → j < count →
-    s ≡ clipped start L (windowAt windows (first + j) .start) → e ≡ clipped start L (windowAt windows (first + j) .end) → s ≤ e
-    → RangeAdded s e words words′ → Masking start L windows first count (j + 1) words′
+pub masking-more : (t : Tender) (windows : List ℕ) (first count j : ℕ) (words words′ : List ℕ) (s e : ℕ)
+    → Masking t windows first count j words → j < count →
+    s ≡ clipped t (windowAt windows (first + j) .start) → e ≡ clipped t (windowAt windows (first + j) .end) → s ≤ e
+    → RangeAdded s e words words′ → Masking t windows first count (j + 1) words′
 unfolding holds
-masking-more start L windows first count j words words′ s e m l es ee o f = record {
+masking-more t windows first count j words words′ s e m l es ee o f = record {
   inside = omega arith;
   sets = λ x.
-      ap (λ b. b || (ltb x L && holds (windowsOf (count - (j + 1)) (drop (windowWidth * (first + (j + 1))) windows)) (start + x)))
+      ap (λ b. b
+      || (ltb x (cellsOf t) && holds (windowsOf (count - (j + 1)) (drop (windowWidth * (first + (j + 1))) windows)) (minuteOf t x)))
       (added s e words words′ o f x ∙ ap (λ (v : ℕ). eqb (cell words x) 1 || (leb v x && ltb x e)) es
-      ∙ ap (λ (v : ℕ). eqb (cell words x) 1 || (leb (clipped start L (windowAt windows (first + j) .start)) x && ltb x v)) ee
-      ∙ ap (λ b. eqb (cell words x) 1 || b) (in-cell (windowAt windows (first + j) .start) (windowAt windows (first + j) .end) start L
-      x))
-      ∙ regroup (eqb (cell words x) 1) (ltb x L) (leb (windowAt windows (first + j) .start) (start + x)
-      && ltb (start + x) (windowAt windows (first + j) .end))
-      (holds (windowsOf (count - (j + 1)) (drop (windowWidth * (first + (j + 1))) windows)) (start + x))
-      ∙ ap (λ ws. eqb (cell words x) 1 || (ltb x L && holds ws (start + x))) (sym (next x)) ∙ m .sets x;
+      ∙ ap (λ (v : ℕ). eqb (cell words x) 1 || (leb (clipped t (windowAt windows (first + j) .start)) x && ltb x v)) ee
+      ∙ ap (λ b. eqb (cell words x) 1 || b) (in-cell t (windowAt windows (first + j) .start) (windowAt windows (first + j) .end) x))
+      ∙ regroup (eqb (cell words x) 1) (ltb x (cellsOf t)) (leb (windowAt windows (first + j) .start) (minuteOf t x)
+      && ltb (minuteOf t x) (windowAt windows (first + j) .end))
+      (holds (windowsOf (count - (j + 1)) (drop (windowWidth * (first + (j + 1))) windows)) (minuteOf t x))
+      ∙ ap (λ ws. eqb (cell words x) 1 || (ltb x (cellsOf t) && holds ws (minuteOf t x))) (sym (next x)) ∙ m .sets x;
 }
   where
     next : (x : ℕ) → windowsOf (count - j) (drop (windowWidth * (first + j)) windows)
@@ -103,11 +105,11 @@ masking-more start L windows first count j words words′ s e m l es ee o f = re
         ap (λ (c : ℕ). windowsOf c (drop (windowWidth * (first + j)) windows)) d ∙ windows-step (count - (j + 1)) (first + j) windows
         ∙ ap (λ (i : ℕ). windowAt windows (first + j) ∷ windowsOf (count - (j + 1)) (drop (windowWidth * i) windows)) g
 
-pub masking-ends : (start L : ℕ) (windows : List ℕ) (first count j : ℕ) (words : List ℕ)
-    → Masking start L windows first count j words
-    → count ≤ j → Masked start L (windowsOf count (drop (windowWidth * first) windows)) words
+pub masking-ends : (t : Tender) (windows : List ℕ) (first count j : ℕ) (words : List ℕ)
+    → Masking t windows first count j words
+    → count ≤ j → Masked t (windowsOf count (drop (windowWidth * first) windows)) words
 unfolding holds windowsOf
-masking-ends start L windows first count j words m l = record { sets = λ x. sym (none x) ∙ m .sets x }
+masking-ends t windows first count j words m l = record { sets = λ x. sym (none x) ∙ m .sets x }
   where
     off : (a b : Bool) → (a || (b && false)) ≡ a
     off true b = refl
@@ -115,11 +117,12 @@ masking-ends start L windows first count j words m l = record { sets = λ x. sym
     off false false = refl
 
     none : (x : ℕ) → (eqb (cell words x) 1
-        || (ltb x L && holds (windowsOf (count - j) (drop (windowWidth * (first + j)) windows)) (start + x)))
+        || (ltb x (cellsOf t) && holds (windowsOf (count - j) (drop (windowWidth * (first + j)) windows)) (minuteOf t x)))
         ≡ eqb (cell words x) 1
     none x = let d : count - j ≡ 0 = omega arith in
-        ap (λ (c : ℕ). eqb (cell words x) 1 || (ltb x L && holds (windowsOf c (drop (windowWidth * (first + j)) windows)) (start + x))) d
-        ∙ off (eqb (cell words x) 1) (ltb x L)
+        ap (λ (c : ℕ). eqb (cell words x) 1
+        || (ltb x (cellsOf t) && holds (windowsOf c (drop (windowWidth * (first + j)) windows)) (minuteOf t x))) d
+        ∙ off (eqb (cell words x) 1) (ltb x (cellsOf t))
 
 -- the windows of a row stand in the table
 module _ (k : Kind) (n : ℕ) (bids windows : List ℕ) (o : Orderly k n bids windows) (i : ℕ) (l : i < n) where

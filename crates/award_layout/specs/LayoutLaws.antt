@@ -3,7 +3,7 @@ use mathlib.Core.Path.{_≡_, refl, sym, ap, subst, _∙_, fun-ext}
 use mathlib.Core.List.{List, [], _∷_, _++_}
 use mathlib.Core.Bool.{Bool, true, false, cond, _&&_, and-false, or-false}
 use mathlib.Core.Option.{none, some}
-use Prim.Native.Nat.{ℕ, zero, suc, _+_, _*_, _/_, _%_, _^_, _≤_, _<_}
+use Prim.Native.Nat.{ℕ, zero, suc, _+_, _-_, _*_, _/_, _%_, _^_, _≤_, _<_, min}
 use native.Mathlib.Nat.{mul-le-mul-left, zero-div}
 use native.Mathlib.Omega.{arith}
 use lib.ListN.{length, getD, take, drop, length-take, length-drop, List·getD-eq-default}
@@ -20,7 +20,7 @@ use Rattle.cover.specs.Settled.{spans}
 use Rattle.cells.specs.Cells.{cell}
 use Rattle.multi_rounds.specs.Market.{wordRow, has}
 use Rattle.award_check.specs.Faults.{sound, rowFault, sameKind, faultOf}
-use Rattle.award_check.specs.Cells.{holds, cellsOf, noRow}
+use Rattle.award_check.specs.Cells.{holds, cellsOf, minuteOf, noRow}
 use Rattle.award_check.specs.Auction.{auctionOf}
 use Rattle.award_check.specs.AuctionLaws.{entries, price-named, has-cell, no-cells}
 use Rattle.award_check.specs.AlikeLaws.{Kept, keeps-kept, sound-keeps, sound-first, faultless, rows-length, windows-step}
@@ -113,7 +113,8 @@ cells-within k t n bids windows e =
 
 -- a bid has the cells of its row's windows
 row-cell : (t : Tender) (n : ℕ) (bids windows : List ℕ) (i x : ℕ) → i < n → auctionOf t n bids windows .has i x
-    ≡ (ltb x (cellsOf t) && holds (own windows (bidRowAt bids i)) (t .window .start + x))
+    ≡ (ltb x (cellsOf t) && holds (own windows (bidRowAt bids i)) (minuteOf t x))
+unfolding minuteOf
 row-cell t n bids windows i x l = has-cell t n bids windows i x
     ∙ ap (λ (r : Row). ltb x (cellsOf t) && holds (own windows r) (t .window .start + x)) (row-named n i bids l)
 
@@ -132,7 +133,7 @@ empty-row ms w n i x e l =
     ∙ ap (λ (v : ℕ). eqb (v % 2) 1) (zero-div (2 ^ (x % 64)))
 
 pub masks-have : (t : Tender) (n w : ℕ) (bids windows ms : List ℕ) → length ms ≡ w * n
-    → AllMasked n (t .window .start) (cellsOf t) w bids windows ms → has ms w ≡ auctionOf t n bids windows .has
+    → AllMasked n t w bids windows ms → has ms w ≡ auctionOf t n bids windows .has
 unfolding has
 masks-have t n w bids windows ms e m = fun-ext (λ i. fun-ext (λ x. go i x (ltb i n) refl))
   where
@@ -142,43 +143,48 @@ masks-have t n w bids windows ms e m = fun-ext (λ i. fun-ext (λ x. go i x (ltb
 
 -- a window's cells
 
-pub in-cell : (s e start L x : ℕ) → (leb (clipped start L s) x && ltb x (clipped start L e))
+in-range : (s e start L x : ℕ) → (leb (min (s - start) L) x && ltb x (min (e - start) L))
     ≡ (ltb x L && (leb s (start + x) && ltb (start + x) e))
-in-cell s e start L x = go (ltb x L) refl
+in-range s e start L x = go (ltb x L) refl
   where
-    low : x < L → leb (clipped start L s) x ≡ leb s (start + x)
+    low : x < L → leb (min (s - start) L) x ≡ leb s (start + x)
     low l = side (leb s (start + x)) refl
       where
-        side : (b : Bool) → leb s (start + x) ≡ b → leb (clipped start L s) x ≡ b
-        side true t = le-leb (clipped start L s) x (omega (arith, leb-true s (start + x) t))
-        side false t = lt-leb (clipped start L s) x (omega (arith, leb-false s (start + x) t))
+        side : (b : Bool) → leb s (start + x) ≡ b → leb (min (s - start) L) x ≡ b
+        side true t = le-leb (min (s - start) L) x (omega (arith, leb-true s (start + x) t))
+        side false t = lt-leb (min (s - start) L) x (omega (arith, leb-false s (start + x) t))
 
-    high : x < L → ltb x (clipped start L e) ≡ ltb (start + x) e
+    high : x < L → ltb x (min (e - start) L) ≡ ltb (start + x) e
     high l = side (ltb (start + x) e) refl
       where
-        side : (b : Bool) → ltb (start + x) e ≡ b → ltb x (clipped start L e) ≡ b
-        side true t = lt-ltb x (clipped start L e) (omega (arith, ltb-true (start + x) e t))
-        side false t = le-ltb x (clipped start L e) (omega (arith, ltb-false (start + x) e t))
+        side : (b : Bool) → ltb (start + x) e ≡ b → ltb x (min (e - start) L) ≡ b
+        side true t = lt-ltb x (min (e - start) L) (omega (arith, ltb-true (start + x) e t))
+        side false t = le-ltb x (min (e - start) L) (omega (arith, ltb-false (start + x) e t))
 
     off : (a b : Bool) → b ≡ false → (a && b) ≡ false
     off true b e = e
     off false b e = refl
 
-    go : (b : Bool) → ltb x L ≡ b → (leb (clipped start L s) x && ltb x (clipped start L e))
+    go : (b : Bool) → ltb x L ≡ b → (leb (min (s - start) L) x && ltb x (min (e - start) L))
         ≡ (b && (leb s (start + x) && ltb (start + x) e))
     go true t = rw (low (ltb-true x L t), high (ltb-true x L t))
-    go false t = off (leb (clipped start L s) x) (ltb x (clipped start L e)) (le-ltb x (clipped start L e) (omega (arith, ltb-false x L t)))
+    go false t = off (leb (min (s - start) L) x) (ltb x (min (e - start) L)) (le-ltb x (min (e - start) L) (omega (arith, ltb-false x L t)))
 
-pub clip-order : (start L s e : ℕ) → s ≤ e → clipped start L s ≤ clipped start L e
-clip-order start L s e l = omega arith
+pub in-cell : (t : Tender) (s e x : ℕ) → (leb (clipped t s) x && ltb x (clipped t e))
+    ≡ (ltb x (cellsOf t) && (leb s (minuteOf t x) && ltb (minuteOf t x) e))
+unfolding minuteOf
+in-cell t s e x = in-range s e (t .window .start) (cellsOf t) x
 
-pub clip-inside : (start L s : ℕ) → clipped start L s ≤ L
-clip-inside start L s = omega arith
+pub clip-order : (t : Tender) (s e : ℕ) → s ≤ e → clipped t s ≤ clipped t e
+clip-order t s e l = omega arith
+
+pub clip-inside : (t : Tender) (s : ℕ) → clipped t s ≤ cellsOf t
+clip-inside t s = omega arith
 
 -- starts and ends of bids of one window each have the cells of the auction
 module _ (t : Tender) (n : ℕ) (bids windows starts ends : List ℕ) (o : Orderly Single n bids windows) (a : length starts ≡ n)
     (b : length ends ≡ n)
-    (p : SpansLaid n (t .window .start) (cellsOf t) bids windows starts ends) where
+    (p : SpansLaid n t bids windows starts ends) where
   one-count : (i : ℕ) → i < n → bidRowAt bids i .count ≡ 1
   unfolding within mostWindows
   one-count i l =
@@ -207,7 +213,7 @@ module _ (t : Tender) (n : ℕ) (bids windows starts ends : List ℕ) (o : Order
             arith,
             p .starts-are i l,
             p .ends-are i l,
-            clip-order (t .window .start) (cellsOf t) (windowAt windows (bidRowAt bids i .first) .start)
+            clip-order t (windowAt windows (bidRowAt bids i .first) .start)
                 (windowAt windows (bidRowAt bids i .first) .end)
                 (omega (
                   arith,
@@ -224,7 +230,7 @@ module _ (t : Tender) (n : ℕ) (bids windows starts ends : List ℕ) (o : Order
       go true u = omega (
         arith,
         p .ends-are i (ltb-true i n u),
-        clip-inside (t .window .start) (cellsOf t) (windowAt windows (bidRowAt bids i .first) .end),
+        clip-inside t (windowAt windows (bidRowAt bids i .first) .end),
       )
       go false u = omega (arith, List·getD-eq-default ends 0 {n = i} (omega (arith, ltb-false i n u)))
 
@@ -237,11 +243,10 @@ module _ (t : Tender) (n : ℕ) (bids windows starts ends : List ℕ) (o : Order
       go i x true u =
           let l = ltb-true i n u in
           rw (p .starts-are i l, p .ends-are i l, row-cell t n bids windows i x l, own-one i l)
-          (in-cell (windowAt windows (bidRowAt bids i .first) .start) (windowAt windows (bidRowAt bids i .first) .end) (t .window .start)
-          (cellsOf t) x
+          (in-cell t (windowAt windows (bidRowAt bids i .first) .start) (windowAt windows (bidRowAt bids i .first) .end) x
           ∙ ap (λ b. ltb x (cellsOf t) && b) (sym (or-false
-          (leb (windowAt windows (bidRowAt bids i .first) .start) (t .window .start + x)
-          && ltb (t .window .start + x) (windowAt windows (bidRowAt bids i .first) .end)))))
+          (leb (windowAt windows (bidRowAt bids i .first) .start) (minuteOf t x)
+          && ltb (minuteOf t x) (windowAt windows (bidRowAt bids i .first) .end)))))
       go i x false u =
           ap (λ (v : ℕ). leb (getD starts i 0) x && ltb x v) (List·getD-eq-default ends 0 {n = i} (omega (arith, ltb-false i n u)))
           ∙ ap (λ c. leb (getD starts i 0) x && c) (le-ltb x 0 (omega arith)) ∙ and-false (leb (getD starts i 0) x)

@@ -7,10 +7,11 @@ use lib.ListN.{length, getD}
 use lib.Dec.{ltb, eqb}
 use Rattle.tender.specs.declared.Kind.{Kind}
 use Rattle.tender.specs.declared.Window.{Window}
+use Rattle.tender.specs.declared.Tender.{Tender}
 use Rattle.tender.specs.Tables.{Row, own, windowAt, bidWidth}
 use Rattle.cells.specs.Cells.{cell}
 use Rattle.multi_rounds.specs.Market.{wordRow}
-use Rattle.award_check.specs.Cells.{holds}
+use Rattle.award_check.specs.Cells.{holds, cellsOf, minuteOf}
 use Rattle.award_check.specs.AlikeLaws.{Kept}
 
 -- row i of the bid table
@@ -28,9 +29,9 @@ pub record Orderly (k : Kind) (n : ℕ) (bids windows : List ℕ) : Type 0 where
   pub lent : n ≤ length bids / bidWidth
   pub kept : (i : ℕ) → i < n → Kept k windows (bidRowAt bids i .first) (bidRowAt bids i)
 
--- the cell of a minute, within L cells from the minute `start` on
-abbrev pub clipped : ℕ → ℕ → ℕ → ℕ
-clipped start L minute = min (minute - start) L
+-- the cell of a minute, within the tender
+abbrev pub clipped : Tender → ℕ → ℕ
+clipped t minute = min (minute - t .window .start) (cellsOf t)
 
 -- the prices of n bids
 pub record PricesLaid (n : ℕ) (bids prices : List ℕ) : Type 0 where
@@ -38,14 +39,14 @@ pub record PricesLaid (n : ℕ) (bids prices : List ℕ) : Type 0 where
   pub prices-are : (i : ℕ) → i < n → getD prices i 0 ≡ bidRowAt bids i .price
 
 -- starts and ends of the one window of each bid, as cells
-pub record SpansLaid (n start L : ℕ) (bids windows starts ends : List ℕ) : Type 0 where
-  pub starts-are : (i : ℕ) → i < n → getD starts i 0 ≡ clipped start L (windowAt windows (bidRowAt bids i .first) .start)
-  pub ends-are : (i : ℕ) → i < n → getD ends i 0 ≡ clipped start L (windowAt windows (bidRowAt bids i .first) .end)
+pub record SpansLaid (n : ℕ) (t : Tender) (bids windows starts ends : List ℕ) : Type 0 where
+  pub starts-are : (i : ℕ) → i < n → getD starts i 0 ≡ clipped t (windowAt windows (bidRowAt bids i .first) .start)
+  pub ends-are : (i : ℕ) → i < n → getD ends i 0 ≡ clipped t (windowAt windows (bidRowAt bids i .first) .end)
 
 -- the words have the cells of the windows, and no other
-pub record Masked (start L : ℕ) (ws : List Window) (words : List ℕ) : Type 0 where
-  pub sets : (x : ℕ) → eqb (cell words x) 1 ≡ (ltb x L && holds ws (start + x))
+pub record Masked (t : Tender) (ws : List Window) (words : List ℕ) : Type 0 where
+  pub sets : (x : ℕ) → eqb (cell words x) 1 ≡ (ltb x (cellsOf t) && holds ws (minuteOf t x))
 
 -- the words of each of n bids, w words a bid
-pub record AllMasked (n start L w : ℕ) (bids windows ms : List ℕ) : Type 0 where
-  pub each : (i : ℕ) → i < n → Masked start L (own windows (bidRowAt bids i)) (wordRow ms w i)
+pub record AllMasked (n : ℕ) (t : Tender) (w : ℕ) (bids windows ms : List ℕ) : Type 0 where
+  pub each : (i : ℕ) → i < n → Masked t (own windows (bidRowAt bids i)) (wordRow ms w i)

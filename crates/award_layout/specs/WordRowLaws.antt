@@ -9,6 +9,7 @@ use lib.Seq.{ext-getD, getD-take, getD-drop, take-at, drop-at, length-take-le}
 use lib.Dec.{ltb}
 use borrow.Author.Tests.{ltb-true, ltb-false}
 use borrow.Rule.Slice.PartMut.{midOf, putMid, same-len-mid}
+use Rattle.tender.specs.declared.Tender.{Tender}
 use Rattle.tender.specs.Tables.{own}
 use Rattle.multi_rounds.specs.Market.{wordRow}
 use Rattle.multi_rounds.specs.WordRowLaws.{part-row, row-within, row-length}
@@ -29,15 +30,17 @@ word-row-same ms ms′ w j e h = ext-getD 0 (take w (drop (w * j) ms)) (take w (
     ∙ sym (getD-take w (drop (w * j) ms′) q 0 b))
 
 -- rows before i are written
-pub record Writing (n start L w : ℕ) (bids windows : List ℕ) (i : ℕ) (ms : List ℕ) : Type 0 where
+pub record Writing (n : ℕ) (t : Tender) (w : ℕ) (bids windows : List ℕ) (i : ℕ) (ms : List ℕ) : Type 0 where
   pub size : length ms ≡ w * n
-  pub done : AllMasked i start L w bids windows ms
+  pub done : AllMasked i t w bids windows ms
 
-pub writing-starts : (n start L w : ℕ) (bids windows ms : List ℕ) → length ms ≡ w * n → Writing n start L w bids windows 0 ms
-writing-starts n start L w bids windows ms e = record { size = e; done = record { each = λ j l. absurd (omega arith) } }
+pub writing-starts : (n : ℕ) (t : Tender) (w : ℕ) (bids windows ms : List ℕ) → length ms ≡ w * n
+    → Writing n t w bids windows 0 ms
+writing-starts n t w bids windows ms e = record { size = e; done = record { each = λ j l. absurd (omega arith) } }
 
-module _ (n start L w : ℕ) (bids windows : List ℕ) (i : ℕ) (ms ys : List ℕ) (g : Writing n start L w bids windows i ms) (l : i < n)
-    (m : Masked start L (own windows (bidRowAt bids i)) ys) (e : length ys ≡ length (midOf (w * i) (w * i + w - w * i) ms)) where
+module _ (n : ℕ) (t : Tender) (w : ℕ) (bids windows : List ℕ) (i : ℕ) (ms ys : List ℕ)
+    (g : Writing n t w bids windows i ms) (l : i < n)
+    (m : Masked t (own windows (bidRowAt bids i)) ys) (e : length ys ≡ length (midOf (w * i) (w * i + w - w * i) ms)) where
   abbrev new : List ℕ
   new = putMid (w * i) (w * i + w - w * i) ms ys
 
@@ -60,18 +63,18 @@ module _ (n start L w : ℕ) (bids windows : List ℕ) (i : ℕ) (ms ys : List �
   unfolding wordRow
   here = ap (take w) (drop-at (take (w * i) ms) _ (w * i) front) ∙ take-at ys _ w wide
 
-  pub writing-more : Writing n start L w bids windows (i + 1) new
+  pub writing-more : Writing n t w bids windows (i + 1) new
   writing-more = record { size = same-size ∙ g .size; done = record { each = rows } }
     where
-      rows : (j : ℕ) → j < i + 1 → Masked start L (own windows (bidRowAt bids j)) (wordRow new w j)
+      rows : (j : ℕ) → j < i + 1 → Masked t (own windows (bidRowAt bids j)) (wordRow new w j)
       rows j h = go (ltb j i) refl
         where
-          go : (b : Bool) → ltb j i ≡ b → Masked start L (own windows (bidRowAt bids j)) (wordRow new w j)
+          go : (b : Bool) → ltb j i ≡ b → Masked t (own windows (bidRowAt bids j)) (wordRow new w j)
           go true t = rw (word-row-same new ms w j same-size (λ q d. before q (omega (arith, row-within w i j (ltb-true j i t)))))
               (g .done .each j (ltb-true j i t))
           go false t = let d : j ≡ i = omega (arith, ltb-false j i t) in rw (d, here) m
 
-pub writing-ends : (n start L w : ℕ) (bids windows : List ℕ) (i : ℕ) (ms : List ℕ) → Writing n start L w bids windows i ms
+pub writing-ends : (n : ℕ) (t : Tender) (w : ℕ) (bids windows : List ℕ) (i : ℕ) (ms : List ℕ) → Writing n t w bids windows i ms
     → i ≡ n
-    → AllMasked n start L w bids windows ms
-writing-ends n start L w bids windows i ms g e = rw e at (g .done)
+    → AllMasked n t w bids windows ms
+writing-ends n t w bids windows i ms g e = rw e at (g .done)

@@ -42,91 +42,72 @@ pub fn prices(bids: &[u64], out: &mut [u64])
 }
 
 // The cell of a minute.
-fn clip(start: u64, cells: u64, minute: u64) -> u64
-    ensures { λ r. ⌜ r ≡ clipped start cells minute ⌝ }
+fn clip(tender: Tender, minute: u64) -> u64
+    requires { ⌜ 0 < cellsOf tender ⌝ }
+    ensures { λ r. ⌜ r ≡ clipped tender minute ⌝ }
 {
+    let window = tender.window;
+    let start = window.start;
+    let most = cells(tender);
     if minute <= start {
         return 0;
     }
-    if minute - start < cells {
+    if minute - start < most {
         minute - start
     } else {
-        cells
+        most
     }
 }
 
 // The starts and ends of bids of one window each.
-pub fn spans(
-    start: u64,
-    cells: u64,
-    bids: &[u64],
-    windows: &[u64],
-    starts: &mut [u64],
-    ends: &mut [u64],
-)
-    requires { ⌜ Orderly Single (length (now starts)) (now bids) (now windows) × (length (now ends) ≡ length (now starts)) ⌝ }
-    ensures { λ _. ⌜ SpansLaid (length (now (starts .entry))) start cells (now (bids .entry)) (now (windows .entry)) (now (starts .exit))
+pub fn spans(tender: Tender, bids: &[u64], windows: &[u64], starts: &mut [u64], ends: &mut [u64])
+    requires { ⌜ Orderly Single (length (now starts)) (now bids) (now windows)
+        × ((length (now ends) ≡ length (now starts)) × (0 < cellsOf tender)) ⌝ }
+    ensures { λ _. ⌜ SpansLaid (length (now (starts .entry))) tender (now (bids .entry)) (now (windows .entry)) (now (starts .exit))
         (now (ends .exit)) ⌝ }
 {
     let mut i = 0;
     while i < starts.len() {
         let j = bids[tender::BID_WIDTH * i + 2] as usize;
-        starts[i] = clip(start, cells, windows[tender::WINDOW_WIDTH * j]);
-        ends[i] = clip(start, cells, windows[tender::WINDOW_WIDTH * j + 1]);
+        starts[i] = clip(tender, windows[tender::WINDOW_WIDTH * j]);
+        ends[i] = clip(tender, windows[tender::WINDOW_WIDTH * j + 1]);
         i += 1;
     }
 }
 
 // Sets the cells of the windows from `first` on, `count` of them, in words that have none.
-fn add_windows(
-    start: u64,
-    cells: u64,
-    windows: &[u64],
-    first: usize,
-    count: usize,
-    words: &mut [u64],
-)
+fn add_windows(tender: Tender, windows: &[u64], first: usize, count: usize, words: &mut [u64])
     requires { ⌜ (first + count ≤ length (now windows) / windowWidth)
         × ((allLawful (windowsOf count (drop (windowWidth * first) (now windows))) ≡ true)
-        × ((cells ≤ 64 * length (now words)) × ((length (now words) ≤ 158) × ((i : ℕ) → getD (now words) i 0 ≡ 0)))) ⌝ }
-    ensures { λ _. ⌜ Masked start cells (windowsOf count (drop (windowWidth * first) (now (windows .entry)))) (now (words .exit)) ⌝ }
+        × (((0 < cellsOf tender) × (cellsOf tender ≤ 64 * length (now words)))
+        × ((length (now words) ≤ 158) × ((i : ℕ) → getD (now words) i 0 ≡ 0)))) ⌝ }
+    ensures { λ _. ⌜ Masked tender (windowsOf count (drop (windowWidth * first) (now (windows .entry)))) (now (words .exit)) ⌝ }
 {
     let mut j = 0;
     while j < count {
-        let s = clip(start, cells, windows[tender::WINDOW_WIDTH * (first + j)]);
-        let e = clip(
-            start,
-            cells,
-            windows[tender::WINDOW_WIDTH * (first + j) + 1],
-        );
+        let s = clip(tender, windows[tender::WINDOW_WIDTH * (first + j)]);
+        let e = clip(tender, windows[tender::WINDOW_WIDTH * (first + j) + 1]);
         cells::add_range(words, s as usize, e as usize);
         j += 1;
     }
 }
 
 // The words of the windows from `first` on, `count` of them.
-fn mask_row(start: u64, cells: u64, windows: &[u64], first: usize, count: usize, words: &mut [u64])
+fn mask_row(tender: Tender, windows: &[u64], first: usize, count: usize, words: &mut [u64])
     requires { ⌜ (first + count ≤ length (now windows) / windowWidth)
         × ((allLawful (windowsOf count (drop (windowWidth * first) (now windows))) ≡ true)
-        × ((cells ≤ 64 * length (now words)) × (length (now words) ≤ 158))) ⌝ }
-    ensures { λ _. ⌜ Masked start cells (windowsOf count (drop (windowWidth * first) (now (windows .entry)))) (now (words .exit)) ⌝ }
+        × (((0 < cellsOf tender) × (cellsOf tender ≤ 64 * length (now words))) × (length (now words) ≤ 158))) ⌝ }
+    ensures { λ _. ⌜ Masked tender (windowsOf count (drop (windowWidth * first) (now (windows .entry)))) (now (words .exit)) ⌝ }
 {
     multi_rounds::clear(words);
-    add_windows(start, cells, windows, first, count, words);
+    add_windows(tender, windows, first, count, words);
 }
 
 // The words of each bid, w words a bid.
-pub fn masks(
-    start: u64,
-    cells: u64,
-    w: usize,
-    n: usize,
-    bids: &[u64],
-    windows: &[u64],
-    out: &mut [u64],
-)
-    requires { ⌜ Orderly Multi n (now bids) (now windows) × ((length (now out) ≡ w * n) × ((cells ≤ 64 * w) × (w ≤ 158))) ⌝ }
-    ensures { λ _. ⌜ AllMasked n start cells w (now (bids .entry)) (now (windows .entry)) (now (out .exit)) ⌝ }
+pub fn masks(tender: Tender, w: usize, n: usize, bids: &[u64], windows: &[u64], out: &mut [u64])
+    requires { ⌜ Orderly Multi n (now bids) (now windows) × ((length (now out) ≡ w * n)
+        × (((0 < cellsOf tender) × (cellsOf tender ≤ 64 * w)) × (w ≤ 158))) ⌝ }
+    ensures { λ _. ⌜ AllMasked n tender w (now (bids .entry)) (now (windows .entry)) (now (out .exit)) ⌝ }
 {
     let mut i = 0;
     while i < n {
@@ -134,7 +115,7 @@ pub fn masks(
         let count = bids[tender::BID_WIDTH * i + 3] as usize;
         let a = w * i;
         let e = a + w;
-        mask_row(start, cells, windows, first, count, &mut out[a..e]);
+        mask_row(tender, windows, first, count, &mut out[a..e]);
         i += 1;
     }
 }

@@ -22,21 +22,23 @@ cells-requires c κs =
 
 prices-requires : tie.Need-prices-requires
 prices-requires c κs =
-    let c7 = c .before .before .before .before .before .before .before in
-    let A = c7 .args in orderly Multi (A .tender) (length (A .prices .now)) (A .bids .now) (A .windows .now) (c7 .pre .0) .lent
+    let c6 = c .before .before .before .before .before .before in
+    let A = c6 .args in orderly Multi (A .tender) (length (A .prices .now)) (A .bids .now) (A .windows .now) (c6 .pre .0) .lent
 
 masks-requires : tie.Need-masks-requires
 masks-requires c κs =
-    let c6 = c .before .before .before .before .before .before in
-    let c11 = c6 .before .before .before .before .before in
-    let A = c11 .args in let P = c11 .pre in
+    let c10 = c .before .before .before .before .before .before .before .before .before .before in
+    let A = c10 .args in let P = c10 .pre in
     let d = words-of Multi (A .tender) (length (A .prices .now)) (A .w) (A .bids .now) (A .windows .now) (P .0) (P .1 .0) in (
       orderly Multi (A .tender) (length (A .prices .now)) (A .bids .now) (A .windows .now) (P .0),
       (
         P .1 .1,
         (
-          omega
-              (arith, c6 .cells .ensures, d .fits),
+          (
+            cells-within Multi
+                (A .tender) (length (A .prices .now)) (A .bids .now) (A .windows .now) (P .0) .0,
+            d .fits,
+          ),
           d .words,
         ),
       ),
@@ -44,11 +46,11 @@ masks-requires c κs =
 
 thin-masks-requires : tie.Need-thin-masks-requires
 thin-masks-requires c κs =
-    let c10 = c .before .before .before .before .before .before .before .before .before .before in
-    let c15 = c10 .before .before .before .before .before in
-    let A = c15 .args in let P = c15 .pre in
+    let c9 = c .before .before .before .before .before .before .before .before .before in
+    let c14 = c9 .before .before .before .before .before in
+    let A = c14 .args in let P = c14 .pre in
     let d = words-of Multi (A .tender) (length (A .prices .now)) (A .w) (A .bids .now) (A .windows .now) (P .0) (P .1 .0) in
-    (c .before .before .before .masks .kept .1 .1 .1 .1 .1 .1 .0 ∙ P .1 .1, (d .words, omega (arith, c10 .cells .ensures, d .fits)))
+    (c .before .before .before .masks .kept .1 .1 .1 .1 .1 .0 ∙ P .1 .1, (d .words, omega (arith, c9 .cells .ensures, d .fits)))
 
 same-length : tie.Need-same-length
 same-length c = search needs
@@ -60,12 +62,12 @@ returns : tie.Need-returns
 returns c =
     let c4 = c .before .before .before .before in
     let c8 = c4 .before .before .before .before in
-    let c11 = c8 .before .before .before in
-    let c16 = c11 .before .before .before .before .before in
-    let A = c16 .args in let P = c16 .pre in
+    let c10 = c8 .before .before in
+    let c15 = c10 .before .before .before .before .before in
+    let A = c15 .args in let P = c15 .pre in
     lays-masks (A .tender) (length (A .prices .now)) (A .w) (A .bids .now) (A .windows .now) (c8 .prices .last .1 .0)
-    (c4 .masks .last .1 .1 .1 .1 .1 .1 .0) (c .thin-masks .result) (c4 .masks .kept .1 .1 .1 .1 .1 .1 .0 ∙ P .1 .1)
-    (rw (c11 .cells .ensures) at (c4 .masks .ensures)) (c8 .prices .ensures) (rw (c11 .cells .ensures) at (c .thin-masks .ensures))
+    (c4 .masks .last .1 .1 .1 .1 .1 .0) (c .thin-masks .result) (c4 .masks .kept .1 .1 .1 .1 .1 .0 ∙ P .1 .1)
+    (c4 .masks .ensures) (c8 .prices .ensures) (rw (c10 .cells .ensures) at (c .thin-masks .ensures))
 
 pub lay-masks-spec : {M : Type 1} → statement M
 lay-masks-spec =

@@ -22,28 +22,26 @@ cells-requires c κs =
 
 prices-requires : tie.Need-prices-requires
 prices-requires c κs =
-    let c8 = c .before .before .before .before .before .before .before .before in
-    let A = c8 .args in orderly Single (A .tender) (length (A .prices .now)) (A .bids .now) (A .windows .now) (c8 .pre .0) .lent
+    let c7 = c .before .before .before .before .before .before .before in
+    let A = c7 .args in orderly Single (A .tender) (length (A .prices .now)) (A .bids .now) (A .windows .now) (c7 .pre .0) .lent
 
 spans-requires : tie.Need-spans-requires
 spans-requires c κs =
-    let c13 = c .before .before .before .before .before .before .before .before .before .before .before .before .before in
-    let A = c13 .args in let P = c13 .pre in (
+    let c12 = c .before .before .before .before .before .before .before .before .before .before .before .before in
+    let A = c12 .args in let P = c12 .pre in (
       rw (P .1 .0) (orderly Single (A .tender) (length (A .prices .now)) (A .bids .now) (A .windows .now) (P .0)),
-      P .1 .1 ∙ sym
-          (P .1 .0),
+      (P .1 .1 ∙ sym (P .1 .0), cells-within Single (A .tender) (length (A .prices .now)) (A .bids .now) (A .windows .now) (P .0) .0),
     )
 
 thin-spans-requires : tie.Need-thin-spans-requires
 thin-spans-requires c κs =
     let c6 = c .before .before .before .before .before .before in
-    let c14 = c6 .before .before .before .before .before .before .before .before in
-    let c20 = c14 .before .before .before .before .before .before in
-    let A = c20 .args in let P = c20 .pre in rw (c14 .cells .ensures) (
-      ordered (A .tender) (length (A .prices .now)) (A .bids .now) (A .windows .now) (c6 .spans .last .1 .1 .1 .1 .0)
-          (c6 .spans .last .1 .1 .1 .1 .1 .0) (P .0) (c6 .spans .kept .1 .1 .1 .1 .0 ∙ P .1 .0)
-          (c6 .spans .kept .1 .1 .1 .1 .1 .0 ∙ P .1 .1)
-          (rw (P .1 .0, c14 .cells .ensures) at (c6 .spans .ensures)),
+    let c13 = c6 .before .before .before .before .before .before .before in
+    let c19 = c13 .before .before .before .before .before .before in
+    let A = c19 .args in let P = c19 .pre in rw (c13 .cells .ensures) (
+      ordered (A .tender) (length (A .prices .now)) (A .bids .now) (A .windows .now) (c6 .spans .last .1 .1 .1 .0)
+          (c6 .spans .last .1 .1 .1 .1 .0) (P .0) (c6 .spans .kept .1 .1 .1 .0 ∙ P .1 .0) (c6 .spans .kept .1 .1 .1 .1 .0 ∙ P .1 .1)
+          (rw (P .1 .0) at (c6 .spans .ensures)),
       cells-within Single (A .tender) (length (A .prices .now)) (A .bids .now) (A .windows .now) (P .0) .1,
     )
 
@@ -60,13 +58,13 @@ returns : tie.Need-returns
 returns c =
     let c7 = c .before .before .before .before .before .before .before in
     let c12 = c7 .before .before .before .before .before in
-    let c15 = c12 .before .before .before in
-    let c21 = c15 .before .before .before .before .before .before in
-    let A = c21 .args in let P = c21 .pre in
-    lays-spans (A .tender) (length (A .prices .now)) (A .bids .now) (A .windows .now) (c7 .spans .last .1 .1 .1 .1 .0)
-    (c7 .spans .last .1 .1 .1 .1 .1 .0) (P .0) (c7 .spans .kept .1 .1 .1 .1 .0 ∙ P .1 .0) (c7 .spans .kept .1 .1 .1 .1 .1 .0 ∙ P .1 .1)
-    (rw (P .1 .0, c15 .cells .ensures) at (c7 .spans .ensures)) (c12 .prices .last .1 .0) (c .thin-spans .result) (c12 .prices .ensures)
-    (rw (c15 .cells .ensures) at (c .thin-spans .ensures))
+    let c14 = c12 .before .before in
+    let c20 = c14 .before .before .before .before .before .before in
+    let A = c20 .args in let P = c20 .pre in
+    lays-spans (A .tender) (length (A .prices .now)) (A .bids .now) (A .windows .now) (c7 .spans .last .1 .1 .1 .0)
+    (c7 .spans .last .1 .1 .1 .1 .0) (P .0) (c7 .spans .kept .1 .1 .1 .0 ∙ P .1 .0) (c7 .spans .kept .1 .1 .1 .1 .0 ∙ P .1 .1)
+    (rw (P .1 .0) at (c7 .spans .ensures)) (c12 .prices .last .1 .0) (c .thin-spans .result) (c12 .prices .ensures)
+    (rw (c14 .cells .ensures) at (c .thin-spans .ensures))
 
 pub lay-spans-spec : {M : Type 1} → statement M
 lay-spans-spec =

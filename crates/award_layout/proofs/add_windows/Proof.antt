@@ -16,11 +16,11 @@ use Rattle.cells.proofs.add_range.Reads as add-range-reads
 use Rattle.award_layout.proofs.clip.Reads as clip-reads
 
 abbrev Inv-loop : tie.InvT-loop
-Inv-loop start cells windows first count words₀ j₀ words j = (length words ≡ length words₀)
-    × ((rowsAhead windows first count j ≡ true) × Masking start cells windows first count j words)
+Inv-loop tender windows first count words₀ j₀ words j = (length words ≡ length words₀)
+    × ((rowsAhead windows first count j ≡ true) × Masking tender windows first count j words)
 
 abbrev μ-loop : tie.MeasureT-loop
-μ-loop start cells windows first count words₀ j₀ words j = count - j
+μ-loop tender windows first count words₀ j₀ words j = count - j
 
 loop-holds : tie.Need-loop-holds Inv-loop μ-loop
 loop-holds c =
@@ -29,7 +29,7 @@ loop-holds c =
       refl,
       (
         ahead-start (args .windows .now) (args .first) (args .count) ∙ pre .1 .0,
-        masking-starts (args .start) (args .cells) (args .windows .now) (args .first) (args .count) (args .words .now) (pre .1 .1 .1 .1),
+        masking-starts (args .tender) (args .windows .now) (args .first) (args .count) (args .words .now) (pre .1 .1 .1 .1),
       ),
     )
 
@@ -78,13 +78,13 @@ add-range-requires c κs =
         arith,
         c .before .before .before .clip .ensures,
         c .before .clip2 .ensures,
-        clip-order (args .start) (args .cells) _ _ (h .0),
+        clip-order (args .tender) _ _ (h .0),
       ),
       (
         omega (
           arith,
           c .before .clip2 .ensures,
-          clip-inside (args .start) (args .cells)
+          clip-inside (args .tender)
               (windowAt (args .windows .now) (args .first + c6 .loop .j) .end),
           pre .1 .1 .0,
           c6 .loop .inv .0,
@@ -111,10 +111,10 @@ loop-again c =
       c .before .before .add-range .kept .0 ∙ c9 .loop .inv .0,
       (
         h .1,
-        masking-more (args .start) (args .cells) (args .windows .now) (args .first) (args .count) (c9 .loop .j) (c9 .loop .words)
+        masking-more (args .tender) (args .windows .now) (args .first) (args .count) (c9 .loop .j) (c9 .loop .words)
             (c .before .before .add-range .last .0) (c6 .clip .result) (c4 .clip2 .result) (c9 .loop .inv .1 .1) (c8 .loop-test .taken)
             (c6 .clip .ensures) (c4 .clip2 .ensures) (omega
-            (arith, c6 .clip .ensures, c4 .clip2 .ensures, clip-order (args .start) (args .cells) _ _ (h .0)))
+            (arith, c6 .clip .ensures, c4 .clip2 .ensures, clip-order (args .tender) _ _ (h .0)))
             (c .before .before .add-range .ensures),
       ),
     )
@@ -126,7 +126,7 @@ returns : tie.Need-returns Inv-loop μ-loop
 returns c =
     let c4 = c .before .before .before .before in
     let args = c4 .args in
-    masking-ends (args .start) (args .cells) (args .windows .now) (args .first) (args .count) (c .before .loop .j)
+    masking-ends (args .tender) (args .windows .now) (args .first) (args .count) (c .before .loop .j)
     (c .before .loop .words) (c .before .loop .inv .1 .1) (c .loop-test .left)
 
 pub add-windows-spec : {M : Type 1} → statement M

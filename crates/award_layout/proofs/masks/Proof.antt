@@ -14,16 +14,16 @@ use Rattle.award_layout.proofs.masks.Lts as lts
 use Rattle.award_layout.proofs.mask_row.Reads as mask-row-reads
 
 abbrev Inv-loop : tie.InvT-loop
-Inv-loop start cells w n bids windows out₀ i₀ out i = (i ≤ n) × Writing n start cells w bids windows i out
+Inv-loop tender w n bids windows out₀ i₀ out i = (i ≤ n) × Writing n tender w bids windows i out
 
 abbrev μ-loop : tie.MeasureT-loop
-μ-loop start cells w n bids windows out₀ i₀ out i = n - i
+μ-loop tender w n bids windows out₀ i₀ out i = n - i
 
 loop-holds : tie.Need-loop-holds Inv-loop μ-loop
 loop-holds c =
     let args = c .before .before .before .args in (
       omega arith,
-      writing-starts (args .n) (args .start) (args .cells) (args .w) (args .bids .now) (args .windows .now) (args .out .now)
+      writing-starts (args .n) (args .tender) (args .w) (args .bids .now) (args .windows .now) (args .out .now)
           (c .before .before .before .pre .1 .0),
     )
 
@@ -142,9 +142,9 @@ loop-again c =
     let c11 = c7 .before .before .before .before in
     let args = c11 .args in (
       omega arith,
-      writing-more (args .n) (args .start) (args .cells) (args .w) (args .bids .now) (args .windows .now) (c7 .loop .i)
-          (c7 .loop .out) (c .before .before .mask-row .last .1 .1 .1 .1 .1 .0) (c7 .loop .inv .1) (c6 .loop-test .taken)
-          (c .before .before .mask-row .ensures) (c .before .before .mask-row .kept .1 .1 .1 .1 .1 .0),
+      writing-more (args .n) (args .tender) (args .w) (args .bids .now) (args .windows .now) (c7 .loop .i)
+          (c7 .loop .out) (c .before .before .mask-row .last .1 .1 .1 .1 .0) (c7 .loop .inv .1) (c6 .loop-test .taken)
+          (c .before .before .mask-row .ensures) (c .before .before .mask-row .kept .1 .1 .1 .1 .0),
     )
 
 same-length : tie.Need-same-length Inv-loop μ-loop
@@ -156,7 +156,7 @@ returns : tie.Need-returns Inv-loop μ-loop
 returns c =
     let c5 = c .before .before .before .before .before in
     let args = c5 .args in
-    writing-ends (args .n) (args .start) (args .cells) (args .w) (args .bids .now) (args .windows .now) (c .before .loop .i)
+    writing-ends (args .n) (args .tender) (args .w) (args .bids .now) (args .windows .now) (c .before .loop .i)
     (c .before .loop .out) (c .before .loop .inv .1) (omega arith)
 
 pub masks-spec : {M : Type 1} → statement M

@@ -14,11 +14,11 @@ use Rattle.award_layout.proofs.spans.Lts as lts
 use Rattle.award_layout.proofs.clip.Reads as clip-reads
 
 abbrev Inv-loop : tie.InvT-loop
-Inv-loop start cells bids windows starts₀ ends₀ i₀ starts ends i = (i ≤ length starts₀)
-    × ((length starts ≡ length starts₀) × ((length ends ≡ length ends₀) × SpansLaid i start cells bids windows starts ends))
+Inv-loop tender bids windows starts₀ ends₀ i₀ starts ends i = (i ≤ length starts₀)
+    × ((length starts ≡ length starts₀) × ((length ends ≡ length ends₀) × SpansLaid i tender bids windows starts ends))
 
 abbrev μ-loop : tie.MeasureT-loop
-μ-loop start cells bids windows starts₀ ends₀ i₀ starts ends i = length starts₀ - i
+μ-loop tender bids windows starts₀ ends₀ i₀ starts ends i = length starts₀ - i
 
 loop-holds : tie.Need-loop-holds Inv-loop μ-loop
 loop-holds c = (omega arith, (refl, (refl, record { starts-are = λ j l. absurd (omega arith); ends-are = λ j l. absurd (omega arith) })))
@@ -133,13 +133,13 @@ mul-ends : tie.Need-mul-ends Inv-loop μ-loop
 mul-ends c =
     let c6 = c .before .before .before .before .before .before in
     let c11 = c6 .before .before .before .before .before in
-    omega (arith, c6 .loop .inv .1 .1 .0, c11 .pre .1)
+    omega (arith, c6 .loop .inv .1 .1 .0, c11 .pre .1 .0)
 
 slice-write-ends : tie.Need-slice-write-ends Inv-loop μ-loop
 slice-write-ends c =
     let c6 = c .before .before .before .before .before .before in
     let c11 = c6 .before .before .before .before .before in
-    omega (arith, c6 .loop .inv .1 .1 .0, c11 .pre .1)
+    omega (arith, c6 .loop .inv .1 .1 .0, c11 .pre .1 .0)
 
 add-i : tie.Need-add-i Inv-loop μ-loop
 add-i c = omega arith
@@ -158,12 +158,12 @@ loop-again c =
         (
           simp length-set (c6 .loop .inv .1 .1 .0),
           record {
-            starts-are = filled-more (λ j. clipped (args .start) (args .cells)
+            starts-are = filled-more (λ j. clipped (args .tender)
                 (windowAt (args .windows .now) (bidRowAt (args .bids .now) j .first) .start)) (c6 .loop .starts) (c6 .loop .i) (omega arith)
                 (c6 .loop .inv .1 .1 .1 .starts-are) _ (c .before .before .clip .ensures);
-            ends-are = filled-more (λ j. clipped (args .start) (args .cells)
+            ends-are = filled-more (λ j. clipped (args .tender)
                 (windowAt (args .windows .now) (bidRowAt (args .bids .now) j .first) .end)) (c6 .loop .ends) (c6 .loop .i)
-                (omega (arith, c6 .loop .inv .1 .1 .0, c11 .pre .1)) (c6 .loop .inv .1 .1 .1 .ends-are) _ (c .clip2 .ensures);
+                (omega (arith, c6 .loop .inv .1 .1 .0, c11 .pre .1 .0)) (c6 .loop .inv .1 .1 .1 .ends-are) _ (c .clip2 .ensures);
           },
         ),
       ),
