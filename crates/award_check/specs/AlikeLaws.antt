@@ -11,7 +11,7 @@ use lib.Dec.{leb, eqb}
 use borrow.Author.Tests.{eqb-true}
 use Rattle.tender.specs.declared.Kind.{Kind}
 use Rattle.tender.specs.declared.Tender.{Tender}
-use Rattle.tender.specs.Limits.{within, maxPrice, maxBidder, maxBids, mostWindows, lawful, allLawful}
+use Rattle.tender.specs.Limits.{within, maxPrice, maxBidder, maxBids, mostWindows, soundTender, allLawful}
 use Rattle.tender.specs.Tables.{Row, rowsOf, windowsOf, own, bidWidth, windowWidth, windowAt}
 use Rattle.reader_text.specs.Words.{among}
 use Rattle.reader_text.specs.Differ.{withPrice}
@@ -143,15 +143,15 @@ among-held k windows place used at (r ∷ rs) j e =
 
 -- what no refusal 9 says
 pub record Faultless (k : Kind) (t : Tender) (n : ℕ) (bids windows : List ℕ) : Type 0 where
-  pub tender : sameKind k (t .kind) && lawful (t .window) && leb n (length bids / bidWidth) ≡ true
+  pub tender : sameKind k (t .kind) && soundTender t && leb n (length bids / bidWidth) ≡ true
   pub rows : rowFault k windows 1 [] 0 (rowsOf n bids) ≡ none
 
 pub faultless : (k : Kind) (t : Tender) (n : ℕ) (bids windows : List ℕ) → faultOf k t n bids windows ≡ none
     → Faultless k t n bids windows
 unfolding faultOf
-faultless k t n bids windows e = go (sameKind k (t .kind) && lawful (t .window) && leb n (length bids / bidWidth)) refl e
+faultless k t n bids windows e = go (sameKind k (t .kind) && soundTender t && leb n (length bids / bidWidth)) refl e
   where
-    go : (b : Bool) → sameKind k (t .kind) && lawful (t .window) && leb n (length bids / bidWidth) ≡ b
+    go : (b : Bool) → sameKind k (t .kind) && soundTender t && leb n (length bids / bidWidth) ≡ b
         → cond b (rowFault k windows 1 [] 0 (rowsOf n bids)) (some 0) ≡ none → Faultless k t n bids windows
     go true f e = record { tender = f; rows = e }
     go false f e = let z : _≡_ {A = ℕ} 0 1 = cc in absurd (omega arith)

@@ -8,7 +8,7 @@ use lib.Dec.{leb, eqb}
 use Rattle.tender.specs.declared.Kind.{Kind}
 use Rattle.tender.specs.declared.Kind.the-variants.{Single, Multi}
 use Rattle.tender.specs.declared.Tender.{Tender}
-use Rattle.tender.specs.Limits.{within, maxPrice, maxBidder, maxBids, mostWindows, lawful, allLawful}
+use Rattle.tender.specs.Limits.{within, maxPrice, maxBidder, maxBids, mostWindows, soundTender, allLawful}
 use Rattle.tender.specs.Tables.{Row, rowsOf, own, bidWidth, windowWidth}
 use Rattle.reader_text.specs.Words.{among}
 
@@ -48,8 +48,8 @@ sameKind a b = eqb (kindNumber a) (kindNumber b)
 -- the place of refusal 9 by the award of the kind k, where n bids are stated: 0 for the tender, the kind and the count, else the
 -- row, counted from 1
 unfoldable pub faultOf : Kind → Tender → ℕ → List ℕ → List ℕ → Option ℕ
-unfolding lawful rowsOf rowFault
+unfolding soundTender rowsOf rowFault
 faultOf k t n bids windows =
-    cond (sameKind k (t .kind) && lawful (t .window) && leb n (length bids / bidWidth))
+    cond (sameKind k (t .kind) && soundTender t && leb n (length bids / bidWidth))
     (rowFault k windows 1 [] 0 (rowsOf n bids))
     (some 0)

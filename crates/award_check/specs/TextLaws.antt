@@ -8,15 +8,16 @@ use Prim.Native.Nat.{ℕ, zero, suc, _+_, _*_, _/_, _≤_, _<_}
 use native.Mathlib.Omega.{arith}
 use lib.ListN.{length, getD, drop, length-append, length-drop, List·getD-append}
 use lib.Seq.{drop-drop, getD-append-seam}
-use borrow.Author.Tests.{eq-eqb, le-leb, lt-ltb}
+use borrow.Author.Tests.{eq-eqb, le-leb}
 use Rattle.tender.specs.declared.Kind.{Kind}
 use Rattle.tender.specs.declared.Kind.the-variants.{Single, Multi}
 use Rattle.tender.specs.declared.Window.{Window}
 use Rattle.tender.specs.declared.Tender.{Tender}
-use Rattle.tender.specs.Limits.{within, maxPrice, maxBidder, maxBids, mostWindows, lawful, allLawful}
+use Rattle.tender.specs.Limits.{within, maxPrice, maxBidder, maxBids, mostWindows, allLawful}
 use Rattle.tender.specs.Tables.{Row, rowsOf, windowsOf, own, flatRows, flatWindows, bidWidth, windowWidth}
 use Rattle.reader_text.specs.Words.{numeralOf, priceOf}
-use Rattle.reader_text.specs.Rules.{WindowRules, RowRules, RowsRules, WindowsRules, Rules}
+use Rattle.tender.specs.RulesLaws.{rules-lawful, rules-sound}
+use Rattle.reader_text.specs.Rules.{RowRules, RowsRules, WindowsRules, Rules}
 use Rattle.reader_text.specs.Differ.{withPrice, RowsDifferInPrice}
 use Rattle.award_check.specs.Faults.{keeps, sound, rowFault, kindNumber, sameKind, faultOf}
 use Rattle.award_check.specs.Cells.{noRow}
@@ -37,16 +38,12 @@ unfolding flatWindows
 length-windows [] = refl
 length-windows (w ∷ ws) = omega (arith, length-windows ws)
 
-lawful-of : (w : Window) → WindowRules w → lawful w ≡ true
-unfolding lawful
-lawful-of w r = rw (lt-ltb (w .start) (w .end) (r .some-minute), le-leb (w .end) 10080 (r .in-week))
-
 all-lawful : (c : ℕ) (W : List Window) (v : List ℕ) → c ≤ length W → WindowsRules W
     → allLawful (windowsOf c (flatWindows W ++ v)) ≡ true
 unfolding allLawful windowsOf flatWindows
 all-lawful zero W v l r = refl
 all-lawful (suc c) [] v l r = absurd (omega arith)
-all-lawful (suc c) (w ∷ W) v l r = rw (lawful-of w (r .0), all-lawful c W v (omega arith) (r .1))
+all-lawful (suc c) (w ∷ W) v l r = rw (rules-lawful w (r .0), all-lawful c W v (omega arith) (r .1))
 
 drop-rules : (c : ℕ) (W : List Window) → WindowsRules W → WindowsRules (drop c W)
 drop-rules zero W r = r
@@ -124,7 +121,7 @@ never-nine T R W v w h =
     let l : length R ≤ length (flatRows R ++ v) / bidWidth = omega (arith, length-append (flatRows R) v, length-rows R) in
     let m : length W ≤ length (flatWindows W ++ w) / windowWidth = omega (arith, length-append (flatWindows W) w, length-windows W) in
     rw (
-      both (both (same-kind (T .kind)) (lawful-of (T .window) (h .tender))) (le-leb (length R) (length (flatRows R ++ v) / bidWidth) l),
+      both (both (same-kind (T .kind)) (rules-sound T (h .tender))) (le-leb (length R) (length (flatRows R ++ v) / bidWidth) l),
       rows-flat R v,
     )
     (rows-sound (T .kind) (flatWindows W ++ w) w 1 [] 0 R W (length W) (h .rows) (omega (arith, h .few-bids)) refl (omega arith) m

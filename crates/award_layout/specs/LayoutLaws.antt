@@ -13,7 +13,9 @@ use borrow.Author.Tests.{ltb-true, ltb-false, leb-true, leb-false, lt-ltb, le-lt
 use Rattle.tender.specs.declared.Kind.{Kind}
 use Rattle.tender.specs.declared.Kind.the-variants.{Single}
 use Rattle.tender.specs.declared.Tender.{Tender}
-use Rattle.tender.specs.Limits.{within, mostWindows, lawful, allLawful}
+use Rattle.tender.specs.Limits.{within, mostWindows, lawful, soundTender, allLawful}
+use Rattle.tender.specs.Rules.{WindowRules}
+use Rattle.tender.specs.RulesLaws.{sound-rules}
 use Rattle.tender.specs.Tables.{Row, rowsOf, windowsOf, own, bidWidth, windowWidth, windowAt}
 use Rattle.cover.specs.SetLaws.{and-split}
 use Rattle.cover.specs.Settled.{spans}
@@ -90,7 +92,7 @@ pub orderly : (k : Kind) (t : Tender) (n : ℕ) (bids windows : List ℕ) → fa
     → Orderly k n bids windows
 orderly k t n bids windows e =
     let f = faultless k t n bids windows e in
-    let a = and-split (sameKind k (t .kind) && lawful (t .window)) (leb n (length bids / bidWidth)) (f .tender) in
+    let a = and-split (sameKind k (t .kind) && soundTender t) (leb n (length bids / bidWidth)) (f .tender) in
     record {
       few = omega (arith, rows-few k windows 1 [] 0 (rowsOf n bids) (f .rows) (omega arith), rows-length n bids);
       lent = leb-true n (length bids / bidWidth) (a .1);
@@ -101,15 +103,12 @@ orderly k t n bids windows e =
 -- a faultless tender has a cell, and no more than a week has minutes
 pub cells-within : (k : Kind) (t : Tender) (n : ℕ) (bids windows : List ℕ) → faultOf k t n bids windows ≡ none
     → (0 < cellsOf t) × (cellsOf t ≤ 10080)
-unfolding lawful cellsOf
+unfolding cellsOf
 cells-within k t n bids windows e =
     let f = faultless k t n bids windows e in
-    let a = and-split (sameKind k (t .kind) && lawful (t .window)) (leb n (length bids / bidWidth)) (f .tender) in
-    let b = and-split (sameKind k (t .kind)) (lawful (t .window)) (a .0) in
-    let c = and-split (ltb (t .window .start) (t .window .end)) (leb (t .window .end) 10080) (b .1) in (
-      omega (arith, ltb-true (t .window .start) (t .window .end) (c .0)),
-      omega (arith, leb-true (t .window .end) 10080 (c .1)),
-    )
+    let a = and-split (sameKind k (t .kind) && soundTender t) (leb n (length bids / bidWidth)) (f .tender) in
+    let rules = sound-rules t (and-split (sameKind k (t .kind)) (soundTender t) (a .0) .1) .window in
+    (omega (arith, rules .some-minute), omega (arith, rules .in-week))
 
 -- a bid has the cells of its row's windows
 row-cell : (t : Tender) (n : ℕ) (bids windows : List ℕ) (i x : ℕ) → i < n → auctionOf t n bids windows .has i x

@@ -12,7 +12,7 @@ use Rattle.tender.specs.declared.Window.{Window}
 use Rattle.tender.specs.declared.Tender.{Tender}
 use Rattle.tender.specs.declared.Refusal.{Refusal}
 use Rattle.tender.specs.declared.Refusal.the-variants.{BadForm}
-use Rattle.tender.specs.Limits.{lawful}
+use Rattle.tender.specs.Limits.{soundTender}
 use Rattle.tender.specs.Refusals.{numberOf, placeOf}
 use Rattle.tender.specs.Tables.{Row, flatRows, flatWindows, bidWidth, windowWidth}
 use Rattle.reader_word.specs.Words.{cut}
@@ -69,8 +69,8 @@ module _ (ls rest : List (Option Line)) (o : Option Line) (q : ls ≡ o ∷ rest
       → headOf ls ≡ halted (f 1)
   first-faulty t e f l = rw (q, e) (tender-faulty t f rest l)
 
-  pub first-sound : (t : TenderLine) → o ≡ some (tender t) → lawful (t .window) ≡ true → (T : Tender) → T ≡ tenderWith t
-      → headOf ls ≡ begun T 2 rest
+  pub first-sound : (t : TenderLine) → o ≡ some (tender t) → soundTender (tenderWith t) ≡ true → (T : Tender)
+      → T ≡ tenderWith t → headOf ls ≡ begun T 2 rest
   first-sound t e l T w = rw (q, e, w) (tender-sound t rest l)
 
 pub first-odd : (ls : List (Option Line)) → FirstBroken ls → headOf ls ≡ halted (BadForm 1)

@@ -10,12 +10,12 @@ use Rattle.tender.specs.declared.Window.{Window}
 use Rattle.reader_line.specs.Line.{TenderLine}
 use Rattle.tender.specs.declared.Refusal.{Refusal}
 use Rattle.tender.specs.declared.Refusal.the-variants.{EmptyWindow, LateWindow}
-use Rattle.tender.specs.Limits.{ordered, early, lawful, allLawful, every}
+use Rattle.tender.specs.Limits.{ordered, early, lawful, soundTender, allLawful, every}
 use Rattle.reader_line.specs.LinePlainLaws.{both-true as and-split}
 use Rattle.reader_word.specs.declared.windows.Flaw.{Flaw}
 use Rattle.reader_word.specs.declared.windows.Flaw.the-variants.{Empty, Late, Sound}
 use Rattle.reader_word.specs.Flaws.{flawBy, flawIn, flawOf, isEmpty, isLate}
-use Rattle.reader_text.specs.Read.{lineFault, tenderFault, bidFaultIn}
+use Rattle.reader_text.specs.Read.{lineFault, tenderFault, bidFaultIn, tenderWith}
 
 -- windows are lawful where none is empty and none is late
 
@@ -36,16 +36,16 @@ lawful-every (w ∷ ws) e =
     let h = lawful-every ws (s .1) in
     (rw (u .0) (h .0), rw (u .1) (h .1))
 
--- the tender's window
+-- the tender's line has no fault where its tender is sound
 
 module _ (t : TenderLine) where
-  pub lawful-tender : lawful (t .window) ≡ true → tenderFault t ≡ none
-  unfolding lawful tenderFault lineFault
-  lawful-tender e = let u = and-split (ordered (t .window)) (early (t .window)) e in rw (u .0, u .1)
+  pub sound-faultless : soundTender (tenderWith t) ≡ true → tenderFault t ≡ none
+  unfolding soundTender lawful tenderFault lineFault
+  sound-faultless e = let u = and-split (ordered (t .window)) (early (t .window)) e in rw (u .0, u .1)
 
-  pub tender-lawful : tenderFault t ≡ none → lawful (t .window) ≡ true
-  unfolding lawful tenderFault lineFault
-  tender-lawful e = go (ordered (t .window)) (early (t .window)) e
+  pub faultless-sound : tenderFault t ≡ none → soundTender (tenderWith t) ≡ true
+  unfolding soundTender lawful tenderFault lineFault
+  faultless-sound e = go (ordered (t .window)) (early (t .window)) e
     where
       go : (a b : Bool) → lineFault false false false (not a) (not b) false ≡ none → a && b ≡ true
       go true true x = refl

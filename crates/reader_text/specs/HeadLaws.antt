@@ -10,12 +10,12 @@ use Rattle.tender.specs.declared.Window.{Window}
 use Rattle.tender.specs.declared.Tender.{Tender}
 use Rattle.tender.specs.declared.Refusal.{Refusal}
 use Rattle.tender.specs.declared.Refusal.the-variants.{BadForm}
-use Rattle.tender.specs.Limits.{lawful}
+use Rattle.tender.specs.Limits.{soundTender}
 use Rattle.tender.specs.Tables.{Row}
 use Rattle.reader_line.specs.Line.{TenderLine, BidLine, Line, tender, bid, tenderLine}
 use Rattle.reader_text.specs.Read.{accepted, declinedBy, rowsFrom, allWindows, bidsOf, tenderFault, lineJudged, checked, tables}
 use Rattle.reader_text.specs.Read.{Head, begun, halted, headJudged, tenderWith, headOf, afterHead, readLines}
-use Rattle.reader_text.specs.FaultLaws.{lawful-tender, tender-lawful}
+use Rattle.reader_text.specs.FaultLaws.{sound-faultless, faultless-sound}
 use Rattle.reader_text.specs.ReadLaws.{never, checked-out, checked-bids}
 
 -- what reading answers, by the head
@@ -53,10 +53,10 @@ pub tender-faulty : (t : TenderLine) (f : ℕ → Refusal) (ls : List (Option Li
 unfolding headJudged
 tender-faulty t f ls e = tender-first t ls ∙ ap (λ o. headJudged o 1 (begun (tenderWith t) 2 ls)) e
 
-pub tender-sound : (t : TenderLine) (ls : List (Option Line)) → lawful (t .window) ≡ true
+pub tender-sound : (t : TenderLine) (ls : List (Option Line)) → soundTender (tenderWith t) ≡ true
     → headOf (some (tender t) ∷ ls) ≡ begun (tenderWith t) 2 ls
 unfolding headJudged
-tender-sound t ls e = tender-first t ls ∙ ap (λ o. headJudged o 1 (begun (tenderWith t) 2 ls)) (lawful-tender t e)
+tender-sound t ls e = tender-first t ls ∙ ap (λ o. headJudged o 1 (begun (tenderWith t) 2 ls)) (sound-faultless t e)
 
 pub tender-read : (t : TenderLine) (ls : List (Option Line))
     → readLines (some (tender t) ∷ ls) ≡ lineJudged (tenderFault t) 1 (checked (t .kind) 2 [] ls (tables (tenderWith t) (bidsOf ls)))
@@ -76,7 +76,7 @@ pub record HeadIs (ls : List (Option Line)) (T : Tender) (from : ℕ) (rest : Li
   pub lines : ls ≡ map (λ l. some l) (headLines T) ++ rest
   pub number : from ≡ length (headLines T) + 1
   pub bids : bidsOf ls ≡ bidsOf rest
-  pub window : lawful (T .window) ≡ true
+  pub sound : soundTender T ≡ true
 
 pub head-is : (ls : List (Option Line)) (T : Tender) (from : ℕ) (rest : List (Option Line)) → headOf ls ≡ begun T from rest
     → HeadIs ls T from rest
@@ -96,7 +96,7 @@ head-is (some (tender t) ∷ ls) T from rest e = go (tenderFault t) refl e
           lines = ap (λ (u : Tender). some (tender (tenderLine u)) ∷ ls) same ∙ ap (λ r. some (tender (tenderLine T)) ∷ r) l;
           number = sym n;
           bids = ap bidsOf l;
-          window = ap (λ (u : Tender). lawful (u .window)) (sym same) ∙ tender-lawful t q;
+          sound = ap soundTender (sym same) ∙ faultless-sound t q;
         }
     go (some f) q h = let z : _≡_ {A = ℕ} 0 1 = cc in absurd (omega arith)
 

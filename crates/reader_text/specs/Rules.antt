@@ -2,7 +2,7 @@
 use mathlib.Core.Path.{_≡_}
 use mathlib.Core.List.{List, [], _∷_, _++_}
 use mathlib.Core.Bool.{false, cond}
-use Prim.Native.Nat.{ℕ, _+_, _≤_, _<_}
+use Prim.Native.Nat.{ℕ, _+_, _≤_}
 use lib.ListN.{length}
 use lib.Dec.{eqb}
 use Rattle.tender.specs.declared.Kind.{Kind}
@@ -10,11 +10,8 @@ use Rattle.tender.specs.declared.Kind.the-variants.{Single}
 use Rattle.tender.specs.declared.Window.{Window}
 use Rattle.tender.specs.declared.Tender.{Tender}
 use Rattle.tender.specs.Tables.{Row}
+use Rattle.tender.specs.Rules.{WindowRules, TenderRules}
 use Rattle.reader_word.specs.Words.{among}
-
-pub record WindowRules (w : Window) : Type 0 where
-  pub some-minute : w .start < w .end
-  pub in-week : w .end ≤ 10080
 
 -- a row after rows with the bidder numbers `used`, whose windows end at `at`
 pub record RowRules (k : Kind) (used : List ℕ) (at : ℕ) (r : Row) : Type 0 where
@@ -37,7 +34,7 @@ WindowsRules [] = Unit {0}
 WindowsRules (w ∷ ws) = WindowRules w × WindowsRules ws
 
 pub record Rules (t : Tender) (R : List Row) (W : List Window) : Type 0 where
-  pub tender : WindowRules (t .window)
+  pub tender : TenderRules t
   pub few-bids : length R ≤ 1000
   pub rows : RowsRules (t .kind) [] 0 R (length W)
   pub windows : WindowsRules W

@@ -8,13 +8,14 @@ use native.Mathlib.Omega.{arith}
 use native.Mathlib.Nat.{zero-add}
 use lib.ListN.{length, length-append}
 use lib.Dec.{leb, ltb}
-use borrow.Author.Tests.{ltb-true, ltb-false, leb-true, leb-false, not-false}
+use borrow.Author.Tests.{ltb-false, leb-true, leb-false, not-false}
 use Rattle.tender.specs.Keywords.{bidWord, tenderWord}
 use Rattle.tender.specs.declared.Kind.{Kind}
 use Rattle.tender.specs.declared.Kind.the-variants.{Single, Multi}
 use Rattle.tender.specs.declared.Window.{Window}
 use Rattle.tender.specs.declared.Tender.{Tender}
-use Rattle.tender.specs.Limits.{allLawful, isSingle, lawful, within, ordered, early, every}
+use Rattle.tender.specs.Limits.{allLawful, isSingle, lawful, soundTender, within, ordered, early, every}
+use Rattle.tender.specs.RulesLaws.{lawful-rules, sound-rules}
 use Rattle.tender.specs.Tables.{Row}
 use Rattle.reader_word.specs.Words.{andThen, cut, among, sameBytes, closed, numeralOf, priceOf}
 use Rattle.reader_line.specs.Line.{BidLine, Line, tender, bid, kindOf, windowsIn, tenderOf, bidOf, lineOfWords, lineOf}
@@ -31,7 +32,7 @@ use Rattle.reader_text.specs.FaultLaws.{every-lawful}
 use Rattle.reader_word.specs.CutLaws.{neither}
 use Rattle.reader_text.specs.ReadLaws.{never, read-lines, judged-out}
 use Rattle.reader_text.specs.HeadLaws.{headLines, head-is, accepted-head}
-use Rattle.reader_text.specs.Rules.{WindowRules, RowsRules, WindowsRules, Rules}
+use Rattle.reader_text.specs.Rules.{RowsRules, WindowsRules, Rules}
 
 -- a bid that was read has a window
 
@@ -183,12 +184,6 @@ pub faultless-bid : (k : Kind) (used : List ℕ) (b : BidLine) → bidFault k us
 unfolding bidFault
 faultless-bid k used b e = faultless-after k (length used) b (among (b .bidder) used) e
 
-lawful-rules : (w : Window) → lawful w ≡ true → WindowRules w
-unfolding lawful
-lawful-rules w e =
-    let h = and-split (ltb (w .start) (w .end)) (leb (w .end) 10080) e in
-    record { some-minute = ltb-true (w .start) (w .end) (h .0); in-week = leb-true (w .end) 10080 (h .1) }
-
 -- the windows of a bid before those of others
 windows-rules : (ws us : List Window) → allLawful ws ≡ true → WindowsRules us → WindowsRules (ws ++ us)
 unfolding allLawful
@@ -247,10 +242,10 @@ module _ (T : Tender) (R : List Row) (W : List Window) where
       more k used at b (bidsOf ls) (a .0) (faultless-bid k used b (j .0))
       (sound k (n + 1) (used ++ b .bidder ∷ []) (at + length (b .windows)) ls out (a .1) (j .1))
 
-  by-bids : (bs : List BidLine) → lawful (T .window) ≡ true → Sound (T .kind) [] 0 bs → R ≡ rowsFrom 0 bs → W ≡ allWindows bs
+  by-bids : (bs : List BidLine) → soundTender T ≡ true → Sound (T .kind) [] 0 bs → R ≡ rowsFrom 0 bs → W ≡ allWindows bs
       → Rules T R W
   by-bids bs l s r w = record {
-    tender = lawful-rules (T .window) l;
+    tender = sound-rules T l;
     few-bids = rw r (omega (arith, rowsFrom-length 0 bs, s .few-bids (omega arith)));
     rows = rw (r, w) (rw zero-add at (s .rows));
     windows = rw w (s .windows);
@@ -264,5 +259,5 @@ module _ (T : Tender) (R : List Row) (W : List Window) where
       let i = head-is ls T (g .from) (g .rest) (g .head) in
       let a : AllFilled (map (λ l. some l) (headLines T) ++ g .rest) = rw (i .lines) at (lines-filled (cut 10 text)) in
       let f = filled-after (map (λ l. some l) (headLines T)) (g .rest) a in
-      by-bids (bidsOf (g .rest)) (i .window) (sound (T .kind) (g .from) [] 0 (g .rest) (tables T (bidsOf (g .rest))) f (g .sound))
+      by-bids (bidsOf (g .rest)) (i .sound) (sound (T .kind) (g .from) [] 0 (g .rest) (tables T (bidsOf (g .rest))) f (g .sound))
       (g .rows) (g .windows)

@@ -2,3 +2,5 @@ pub mod Limits
 pub mod Tables
 pub mod Keywords
 pub mod Refusals
+pub mod Rules
+pub mod RulesLaws

@@ -1,4 +1,4 @@
--- The limits of paper 01, "Time, price and place", and the rule of a window.
+-- The limits of paper 01, "Time, price and place", and the rules of a window and of a tender.
 use Prim.Native.Nat.{ℕ}
 use mathlib.Core.Bool.{Bool, true, false, _&&_}
 use mathlib.Core.List.{List, [], _∷_}
@@ -6,6 +6,7 @@ use lib.Dec.{leb, ltb}
 use Rattle.tender.specs.declared.Kind.{Kind}
 use Rattle.tender.specs.declared.Kind.the-variants.{Single, Multi}
 use Rattle.tender.specs.declared.Window.{Window}
+use Rattle.tender.specs.declared.Tender.{Tender}
 
 -- a ≤ n ≤ z
 unfoldable pub within : ℕ → ℕ → ℕ → Bool
@@ -55,6 +56,11 @@ early w = leb (w .end) week
 
 unfoldable pub lawful : Window → Bool
 lawful w = ordered w && early w
+
+-- the rules of a tender: its own window is lawful
+unfoldable pub soundTender : Tender → Bool
+unfolding lawful
+soundTender t = lawful (t .window)
 
 unfoldable pub allLawful : List Window → Bool
 unfolding lawful

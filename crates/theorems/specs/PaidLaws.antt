@@ -178,4 +178,4 @@ module _ (T : Tender) (R : List Row) (W : List Window) (rules : Rules T R W) whe
       )
 
   pub minutes-few : auctionOf T (length R) (flatRows R) (flatWindows W) .cells ≤ 10080
-  minutes-few = omega (arith, minutes T (length R) (flatRows R) (flatWindows W), rules .tender .in-week)
+  minutes-few = omega (arith, minutes T (length R) (flatRows R) (flatWindows W), rules .tender .window .in-week)

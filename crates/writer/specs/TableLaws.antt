@@ -11,7 +11,7 @@ use lib.Dec.{leb}
 use borrow.Author.Tests.{leb-true}
 use Rattle.tender.specs.declared.Kind.{Kind}
 use Rattle.tender.specs.declared.Tender.{Tender}
-use Rattle.tender.specs.Limits.{lawful, allLawful}
+use Rattle.tender.specs.Limits.{soundTender, allLawful}
 use Rattle.tender.specs.Tables.{Row, rowsOf, windowsOf, own, bidWidth, windowWidth}
 use Rattle.cover.specs.SetLaws.{and-split}
 use Rattle.award_check.specs.Faults.{sound, rowFault, sameKind, faultOf}
@@ -85,5 +85,5 @@ module _ (t : Tender) (n : ℕ) (bids windows : List ℕ) (e : faultOf (t .kind)
   -- the rows stand in the lent table
   pub rows-lent : n ≤ length bids / bidWidth
   rows-lent =
-      leb-true n (length bids / bidWidth) (and-split (sameKind (t .kind) (t .kind) && lawful (t .window)) (leb n (length bids / bidWidth))
+      leb-true n (length bids / bidWidth) (and-split (sameKind (t .kind) (t .kind) && soundTender t) (leb n (length bids / bidWidth))
       (faultless (t .kind) t n bids windows e .tender) .1)

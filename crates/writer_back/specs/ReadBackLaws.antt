@@ -11,7 +11,8 @@ use lib.Dec.{leb}
 use borrow.Author.Tests.{le-ltb}
 use Rattle.tender.specs.declared.Window.{Window}
 use Rattle.tender.specs.declared.Tender.{Tender}
-use Rattle.tender.specs.Limits.{lawful}
+use Rattle.tender.specs.Limits.{soundTender}
+use Rattle.tender.specs.RulesLaws.{rules-lawful, sound-rules}
 use Rattle.tender.specs.Tables.{Row, rowsOf, own, flatRows, flatWindows, bidWidth}
 use Rattle.cover.specs.SetLaws.{and-split}
 use Rattle.reader_word.specs.Words.{cut}
@@ -35,22 +36,23 @@ use Rattle.writer_back.specs.OwnLaws.{noBid, bid-filled, respelt-length,
 
 -- a tender and rows without a fault
 pub record Lawful (t : Tender) (rows : List Row) (windows : List ℕ) : Type 0 where
-  pub window : lawful (t .window) ≡ true
+  pub sound : soundTender t ≡ true
   pub rows-too : rowFault (t .kind) windows 1 [] 0 rows ≡ none
 
 pub lawful-tables : (t : Tender) (n : ℕ) (bids windows : List ℕ) → faultOf (t .kind) t n bids windows ≡ none
     → Lawful t (rowsOf n bids) windows
 lawful-tables t n bids windows e =
     let f = faultless (t .kind) t n bids windows e in
-    let a = and-split (sameKind (t .kind) (t .kind) && lawful (t .window)) (leb n (length bids / bidWidth)) (f .tender) in
-    record { window = and-split (sameKind (t .kind) (t .kind)) (lawful (t .window)) (a .0) .1; rows-too = f .rows }
+    let a = and-split (sameKind (t .kind) (t .kind) && soundTender t) (leb n (length bids / bidWidth)) (f .tender) in
+    record { sound = and-split (sameKind (t .kind) (t .kind)) (soundTender t) (a .0) .1; rows-too = f .rows }
 
 -- the text reads back
 
 lines-are : (t : Tender) (rows : List Row) (windows : List ℕ) → Lawful t rows windows
     → linesOf (cut 10 (canonical t rows windows)) ≡ some (tender (tenderLine t)) ∷ asLines (respeltIn windows rows)
 unfolding canonical
-lines-are t rows windows h = text-back t (respeltIn windows rows) (lawful-named (t .window) (h .window))
+lines-are t rows windows h =
+    text-back t (respeltIn windows rows) (lawful-named (t .window) (rules-lawful (t .window) (sound-rules t (h .sound) .window)))
     (rows-told (t .kind) windows 1 [] 0 rows (h .rows-too))
 
 bids-as : (bs : List BidLine) → bidsOf (asLines bs) ≡ bs
@@ -64,7 +66,7 @@ lines-read : (t : Tender) (rows : List Row) (windows : List ℕ) → Lawful t ro
 unfolding tables
 lines-read t rows windows h =
     let ls = asLines (respeltIn windows rows) in
-    lines-begun (some (tender (tenderLine t)) ∷ ls) t _ ls (tender-sound (tenderLine t) ls (h .window))
+    lines-begun (some (tender (tenderLine t)) ∷ ls) t _ ls (tender-sound (tenderLine t) ls (h .sound))
     ∙ rows-checked (t .kind) windows 1 [] 0 _ rows (tables t (bidsOf ls)) (h .rows-too) refl
     ∙ ap (tables t) (bids-as (respeltIn windows rows))
 

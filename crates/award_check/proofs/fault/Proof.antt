@@ -1,6 +1,6 @@
 -- `award_check::fault` meets its contract: each way out rewrites with the tests that led there. Assumes nothing.
 use borrow.Author.Tests.{not-true, not-false, le-leb, lt-leb}
-use Rattle.tender.specs.Limits.{lawful}
+use Rattle.tender.specs.Limits.{lawful, soundTender}
 use Rattle.award_check.specs.Faults.{faultOf}
 use borrow.Author.Needs.{needs}
 use Rattle.award_check.proofs.fault.Statement.{statement}
@@ -15,14 +15,14 @@ same-kind-requires : tie.Need-same-kind-requires
 same-kind-requires c κs = search needs
 
 returns : tie.Need-returns
-unfolding faultOf lawful
+unfolding faultOf soundTender lawful
 returns c = rw (← c .before .same-kind .ensures, not-true (c .before .same-kind .result) (c .if1 .taken))
 
 window-lawful-requires : tie.Need-window-lawful-requires
 window-lawful-requires c κs = search needs
 
 returns-2 : tie.Need-returns-2
-unfolding faultOf lawful
+unfolding faultOf soundTender lawful
 returns-2 c = rw (
   ← c .before .before .before .same-kind .ensures,
   not-false (c .before .before .before .same-kind .result) (c .before .before .if1 .left),
@@ -31,7 +31,7 @@ returns-2 c = rw (
 )
 
 returns-3 : tie.Need-returns-3
-unfolding faultOf lawful
+unfolding faultOf soundTender lawful
 returns-3 c =
     let c4 = c .before .before .before .before in
     rw (
@@ -46,7 +46,7 @@ row-fault-requires : tie.Need-row-fault-requires
 row-fault-requires c κs = search needs
 
 returns-4 : tie.Need-returns-4
-unfolding faultOf lawful
+unfolding faultOf soundTender lawful
 returns-4 c =
     let c4 = c .before .before .before .before in
     let c5 = c4 .before in

@@ -3,7 +3,7 @@ use mathlib.Core.Path.{sym, ap, _∙_}
 use native.Mathlib.Omega.{arith}
 use Rattle.reader_line.specs.PiecesLaws.{lines-at}
 use Rattle.reader_line.specs.Answer.{toldLine}
-use Rattle.reader_text.specs.FaultLaws.{flawFault, tender-lawful, tender-told}
+use Rattle.reader_text.specs.FaultLaws.{flawFault, faultless-sound, tender-told}
 use Rattle.reader_line.specs.EndsLaws.{ends-at, ends-broken}
 use Rattle.reader.specs.WholeLaws.{first-empty, is-tender, first-bid, first-broken, first-faulty, first-sound, first-odd}
 use borrow.Author.Needs.{needs}
@@ -113,7 +113,7 @@ returns-4 c =
     record {
       inside = omega (arith, b .1);
       lines = first-sound _ _ _ (lines-at (c19 .args .text .now) 0 _ (b .0) (b .1)) _ o
-          (tender-lawful _
+          (faultless-sound _
           (tender-told (record { kind = c5 .kind .given .0 .0; window = c5 .kind .given .0 .1 .0 })
           ∙ ap flawFault (sym (c .before .before .before .flaw-in .ensures) ∙ c .before .enum-told3 .given .1)))
           _ (c .tender-with .ensures);

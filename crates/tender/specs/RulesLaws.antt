@@ -1,0 +1,31 @@
+-- A window is lawful, and a tender sound, just where each rule is kept. Assumes nothing.
+use mathlib.Core.Path.{_≡_, refl}
+use mathlib.Core.Bool.{Bool, true, false, _&&_, false≢true}
+use lib.Dec.{leb, ltb}
+use borrow.Author.Tests.{ltb-true, leb-true, lt-ltb, le-leb}
+use Rattle.tender.specs.declared.Window.{Window}
+use Rattle.tender.specs.declared.Tender.{Tender}
+use Rattle.tender.specs.Limits.{lawful, soundTender}
+use Rattle.tender.specs.Rules.{WindowRules, TenderRules}
+
+both-true : (a b : Bool) → a && b ≡ true → (a ≡ true) × (b ≡ true)
+both-true true b e = (refl, e)
+both-true false b e = absurd (false≢true e)
+
+pub lawful-rules : (w : Window) → lawful w ≡ true → WindowRules w
+unfolding lawful
+lawful-rules w e =
+    let h = both-true (ltb (w .start) (w .end)) (leb (w .end) 10080) e in
+    record { some-minute = ltb-true (w .start) (w .end) (h .0); in-week = leb-true (w .end) 10080 (h .1) }
+
+pub rules-lawful : (w : Window) → WindowRules w → lawful w ≡ true
+unfolding lawful
+rules-lawful w r = rw (lt-ltb (w .start) (w .end) (r .some-minute), le-leb (w .end) 10080 (r .in-week))
+
+pub sound-rules : (t : Tender) → soundTender t ≡ true → TenderRules t
+unfolding soundTender
+sound-rules t e = record { window = lawful-rules (t .window) e }
+
+pub rules-sound : (t : Tender) → TenderRules t → soundTender t ≡ true
+unfolding soundTender
+rules-sound t r = rules-lawful (t .window) (r .window)
