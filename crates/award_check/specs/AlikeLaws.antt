@@ -17,13 +17,35 @@ use Rattle.reader_text.specs.Words.{among}
 use Rattle.reader_text.specs.Differ.{withPrice}
 use Rattle.cover.specs.SetLaws.{and-split}
 use Rattle.award_check.specs.Faults.{keeps, sound, rowFault, sameKind, faultOf}
-use Rattle.award_check.specs.Cells.{noRow}
+use Rattle.award_check.specs.Cells.{noRow, bidRowAt}
 use Rattle.award_check.specs.Alike.{windowCount, Alike}
 
 pub rows-length : (n : ℕ) (bs : List ℕ) → length (rowsOf n bs) ≡ n
 unfolding rowsOf
 rows-length zero bs = refl
 rows-length (suc n) bs = ap suc (rows-length n (drop bidWidth bs))
+
+-- row i has the four numbers from 4 * i on
+pub row-named : (n i : ℕ) (bids : List ℕ) → i < n → getD (rowsOf n bids) i noRow ≡ bidRowAt bids i
+unfolding rowsOf
+row-named zero i bids l = absurd (omega arith)
+row-named (suc n) zero bids l = refl
+row-named (suc n) (suc i) bids l = row-named n i (drop bidWidth bids) (omega arith) ∙ rw (
+  getD-drop bidWidth bids (bidWidth * i) 0,
+  getD-drop bidWidth bids (bidWidth * i + 1) 0,
+  getD-drop bidWidth bids (bidWidth * i + 2) 0,
+  getD-drop bidWidth bids (bidWidth * i + 3) 0,
+  base i,
+  index 1 i,
+  index 2 i,
+  index 3 i,
+)
+  where
+    base : (i : ℕ) → bidWidth + bidWidth * i ≡ bidWidth * suc i
+    base i = omega arith
+
+    index : (c i : ℕ) → bidWidth + (bidWidth * i + c) ≡ bidWidth * suc i + c
+    index c i = omega arith
 
 later : (d n : ℕ) (bs cs : List ℕ) → ((j : ℕ) → d ≤ j → j < n → getD bs j 0 ≡ getD cs j 0) → (j : ℕ) → d + j < n
     → getD (drop d bs) j 0 ≡ getD (drop d cs) j 0
@@ -171,12 +193,7 @@ module _ (k : Kind) (t : Tender) (n i : ℕ) (bids windows bids′ windows′ : 
 
 -- for a loop over the rows: row j, and those after it
 pub rows-step : (m j : ℕ) (bids : List ℕ) → rowsOf (suc m) (drop (bidWidth * j) bids)
-    ≡ record {
-      bidder = getD bids (bidWidth * j) 0;
-      price = getD bids (bidWidth * j + 1) 0;
-      first = getD bids (bidWidth * j + 2) 0;
-      count = getD bids (bidWidth * j + 3) 0;
-    } ∷ rowsOf m (drop (bidWidth * (j + 1)) bids)
+    ≡ bidRowAt bids j ∷ rowsOf m (drop (bidWidth * (j + 1)) bids)
 unfolding rowsOf
 rows-step m j bids =
     let z : bidWidth * j + 0 ≡ bidWidth * j = omega arith in

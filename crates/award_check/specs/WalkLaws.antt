@@ -16,6 +16,7 @@ use Rattle.tender.specs.Tables.{Row, rowsOf, windowsOf, bidWidth, windowWidth, 
 use Rattle.reader_text.specs.Words.{among}
 use Rattle.cells.specs.Cells.{cell, RangeAdded}
 use Rattle.award_check.specs.Faults.{keeps, sound, rowFault}
+use Rattle.award_check.specs.Cells.{bidRowAt}
 use Rattle.award_check.specs.AlikeLaws.{rows-step, windows-step, keeps-kept}
 
 -- the windows from j on, of those from `first` on, where j are not yet passed
@@ -107,15 +108,6 @@ is-sound : (k : Kind) (windows : List ℕ) (place : ℕ) (used : List ℕ) (at :
 unfolding sound
 is-sound k windows place used at r a b c = rw (a, b, c)
 
--- row j of the bid table
-abbrev pub rowAt : List ℕ → ℕ → Row
-rowAt bids j = record {
-  bidder = getD bids (bidWidth * j) 0;
-  price = getD bids (bidWidth * j + 1) 0;
-  first = getD bids (bidWidth * j + 2) 0;
-  count = getD bids (bidWidth * j + 3) 0;
-}
-
 -- the rows from j on have the first fault of all of them
 pub record Going (k : Kind) (n : ℕ) (bids windows used : List ℕ) (at j : ℕ) : Type 0 where
   pub list : List ℕ
@@ -143,8 +135,8 @@ module _ (k : Kind) (n : ℕ) (bids windows used : List ℕ) (at j : ℕ) (g : G
       sym (ap (λ (m : ℕ). rowFault k windows (j + 1) (g .list) at (rowsOf m (drop (bidWidth * j) bids))) d) ∙ g .rest
 
   step : j < n → rowFault k windows 1 [] 0 (rowsOf n bids)
-      ≡ cond (sound k windows (j + 1) (g .list) at (rowAt bids j))
-      (rowFault k windows (j + 1 + 1) (g .list ++ rowAt bids j .bidder ∷ []) (at + rowAt bids j .count)
+      ≡ cond (sound k windows (j + 1) (g .list) at (bidRowAt bids j))
+      (rowFault k windows (j + 1 + 1) (g .list ++ bidRowAt bids j .bidder ∷ []) (at + bidRowAt bids j .count)
       (rowsOf (n - (j + 1)) (drop (bidWidth * (j + 1)) bids))) (some (j + 1))
   unfolding rowFault
   step l =
@@ -152,7 +144,7 @@ module _ (k : Kind) (n : ℕ) (bids windows used : List ℕ) (at j : ℕ) (g : G
       sym (g .rest) ∙ ap (λ (m : ℕ). rowFault k windows (j + 1) (g .list) at (rowsOf m (drop (bidWidth * j) bids))) d
       ∙ ap (rowFault k windows (j + 1) (g .list) at) (rows-step (n - (j + 1)) j bids)
 
-  unsound : j < n → sound k windows (j + 1) (g .list) at (rowAt bids j) ≡ false
+  unsound : j < n → sound k windows (j + 1) (g .list) at (bidRowAt bids j) ≡ false
       → some (j + 1) ≡ rowFault k windows 1 [] 0 (rowsOf n bids)
   unsound l e = sym (rw e at (step l))
 
@@ -161,41 +153,41 @@ module _ (k : Kind) (n : ℕ) (bids windows used : List ℕ) (at j : ℕ) (g : G
   unfolding sound
   too-many l h = unsound l (rw (lt-leb (j + 1) 1000 (omega arith)))
 
-  pub breaks : j < n → j < 1000 → keeps k windows at (rowAt bids j) ≡ false
+  pub breaks : j < n → j < 1000 → keeps k windows at (bidRowAt bids j) ≡ false
       → some (j + 1) ≡ rowFault k windows 1 [] 0 (rowsOf n bids)
   unfolding sound
-  breaks l h e = unsound l (rw (le-leb (j + 1) 1000 (omega arith), e) (and-false (not (among (rowAt bids j .bidder) (g .list)))))
+  breaks l h e = unsound l (rw (le-leb (j + 1) 1000 (omega arith), e) (and-false (not (among (bidRowAt bids j .bidder) (g .list)))))
 
-  pub repeated : j < n → j < 1000 → eqb (cell used (rowAt bids j .bidder)) 1 ≡ true
+  pub repeated : j < n → j < 1000 → eqb (cell used (bidRowAt bids j .bidder)) 1 ≡ true
       → some (j + 1) ≡ rowFault k windows 1 [] 0 (rowsOf n bids)
   unfolding sound
-  repeated l h e = unsound l (rw (le-leb (j + 1) 1000 (omega arith), ← g .passed .tied (rowAt bids j .bidder), e))
+  repeated l h e = unsound l (rw (le-leb (j + 1) 1000 (omega arith), ← g .passed .tied (bidRowAt bids j .bidder), e))
 
-  pub going-on : j < n → j < 1000 → keeps k windows at (rowAt bids j) ≡ true → eqb (cell used (rowAt bids j .bidder)) 1 ≡ false
-      → (used′ : List ℕ) →
-      RangeAdded (rowAt bids j .bidder) (rowAt bids j .bidder + 1) used used′ → length used′ ≡ length used
-      → Going k n bids windows used′ (at + rowAt bids j .count) (j + 1)
+  pub going-on : j < n → j < 1000 → keeps k windows at (bidRowAt bids j) ≡ true
+      → eqb (cell used (bidRowAt bids j .bidder)) 1 ≡ false → (used′ : List ℕ) →
+      RangeAdded (bidRowAt bids j .bidder) (bidRowAt bids j .bidder + 1) used used′ → length used′ ≡ length used
+      → Going k n bids windows used′ (at + bidRowAt bids j .count) (j + 1)
   going-on l h e f used′ fills s = record {
-    list = g .list ++ rowAt bids j .bidder ∷ [];
-    passed = passed-more used used′ (g .list) (rowAt bids j .bidder) (g .passed) fills s;
+    list = g .list ++ bidRowAt bids j .bidder ∷ [];
+    passed = passed-more used used′ (g .list) (bidRowAt bids j .bidder) (g .passed) fills s;
     inside = omega arith;
-    room = leb-true (at + rowAt bids j .count) (length windows / windowWidth) (keeps-kept k windows at (rowAt bids j) e .room);
-    rest = sym (step l ∙ ap (λ t. cond t (rowFault k windows (j + 1 + 1) (g .list ++ rowAt bids j .bidder ∷ [])
-        (at + rowAt bids j .count)
+    room = leb-true (at + bidRowAt bids j .count) (length windows / windowWidth) (keeps-kept k windows at (bidRowAt bids j) e .room);
+    rest = sym (step l ∙ ap (λ t. cond t (rowFault k windows (j + 1 + 1) (g .list ++ bidRowAt bids j .bidder ∷ [])
+        (at + bidRowAt bids j .count)
         (rowsOf (n - (j + 1)) (drop (bidWidth * (j + 1)) bids))) (some (j + 1))) sound-here);
   }
     where
-      sound-here : sound k windows (j + 1) (g .list) at (rowAt bids j) ≡ true
-      sound-here = is-sound k windows (j + 1) (g .list) at (rowAt bids j) (le-leb (j + 1) 1000 (omega arith))
-          (sym (g .passed .tied (rowAt bids j .bidder)) ∙ f) e
+      sound-here : sound k windows (j + 1) (g .list) at (bidRowAt bids j) ≡ true
+      sound-here = is-sound k windows (j + 1) (g .list) at (bidRowAt bids j) (le-leb (j + 1) 1000 (omega arith))
+          (sym (g .passed .tied (bidRowAt bids j .bidder)) ∙ f) e
 
   -- the bidder number of a row that keeps its rules is a cell of the words
-  pub bidder-cell : keeps k windows at (rowAt bids j) ≡ true → rowAt bids j .bidder < 64 * length used
+  pub bidder-cell : keeps k windows at (bidRowAt bids j) ≡ true → bidRowAt bids j .bidder < 64 * length used
   unfolding within
   bidder-cell e =
-      let b = and-split (leb 1 (rowAt bids j .bidder)) (leb (rowAt bids j .bidder) 999999)
-      (keeps-kept k windows at (rowAt bids j) e .bidder) in
-      omega (arith, g .passed .size, leb-true (rowAt bids j .bidder) 999999 (b .1))
+      let b = and-split (leb 1 (bidRowAt bids j .bidder)) (leb (bidRowAt bids j .bidder) 999999)
+      (keeps-kept k windows at (bidRowAt bids j) e .bidder) in
+      omega (arith, g .passed .size, leb-true (bidRowAt bids j .bidder) 999999 (b .1))
 
-  pub room-here : keeps k windows at (rowAt bids j) ≡ true → at + rowAt bids j .count ≤ length windows / windowWidth
-  room-here e = leb-true (at + rowAt bids j .count) (length windows / windowWidth) (keeps-kept k windows at (rowAt bids j) e .room)
+  pub room-here : keeps k windows at (bidRowAt bids j) ≡ true → at + bidRowAt bids j .count ≤ length windows / windowWidth
+  room-here e = leb-true (at + bidRowAt bids j .count) (length windows / windowWidth) (keeps-kept k windows at (bidRowAt bids j) e .room)

@@ -1,13 +1,13 @@
 -- Laws of laying tables out: a list filled from the front, a window's cells, windows added one by one. Assumes nothing.
 use mathlib.Core.Path.{_≡_, refl, sym, ap, _∙_}
 use mathlib.Core.List.{List, _∷_}
-use mathlib.Core.Bool.{Bool, true, false, _&&_, _||_, or-true, or-false}
+use mathlib.Core.Bool.{Bool, true, false, _&&_, _||_}
 use Prim.Native.Nat.{ℕ, suc, _+_, _-_, _*_, _/_, _%_, _^_, _≤_, _<_}
 use native.Mathlib.Omega.{arith}
 use lib.ListN.{length, getD, set, drop}
 use lib.Seq.{getD-set-same, getD-set-other}
 use lib.Dec.{leb, ltb, eqb}
-use borrow.Author.Tests.{ltb-true, ltb-false, leb-true, leb-false, eq-eqb}
+use borrow.Author.Tests.{ltb-true, ltb-false, leb-true}
 use Rattle.tender.specs.declared.Kind.{Kind}
 use Rattle.tender.specs.declared.Tender.{Tender}
 use Rattle.tender.specs.Limits.{within, mostWindows}
@@ -15,11 +15,12 @@ use Rattle.cover.specs.SetLaws.{and-split}
 use Rattle.tender.specs.Tables.{windowsOf, windowWidth, windowAt}
 use Rattle.cells.specs.Cells.{cell, RangeAdded}
 use Rattle.cells.specs.BitLaws.{zero-bit}
-use Rattle.award_check.specs.Cells.{holds, cellsOf, minuteOf}
+use Rattle.cells.specs.StoreLaws.{added}
+use Rattle.award_check.specs.Cells.{holds, cellsOf, minuteOf, bidRowAt}
 use Rattle.award_check.specs.AlikeLaws.{windows-step}
 use Rattle.award_check.specs.WalkLaws.{rowsAhead, ahead-more}
 use Rattle.award_layout.specs.LayoutLaws.{in-cell}
-use Rattle.award_layout.specs.Orderly.{bidRowAt, Orderly, clipped, Masked}
+use Rattle.award_layout.specs.Orderly.{Orderly, clipped, Masked}
 
 -- a list filled from the front
 
@@ -63,16 +64,6 @@ masking-starts t windows first count words z =
         ap (λ (m : ℕ). ltb x (cellsOf t) && holds (windowsOf m (drop (windowWidth * (first + 0)) windows)) (minuteOf t x)) d
         ∙ ap (λ (m : ℕ). ltb x (cellsOf t) && holds (windowsOf count (drop (windowWidth * m) windows)) (minuteOf t x)) e
 
--- a cell is set after a range is added where it was set or is in the range
-added : (s e : ℕ) (words words′ : List ℕ) → s ≤ e → RangeAdded s e words words′ → (x : ℕ)
-    → eqb (cell words′ x) 1 ≡ (eqb (cell words x) 1 || (leb s x && ltb x e))
-added s e words words′ l f x = go (leb s x) (ltb x e) refl refl
-  where
-    go : (a b : Bool) → leb s x ≡ a → ltb x e ≡ b → eqb (cell words′ x) 1 ≡ (eqb (cell words x) 1 || (a && b))
-    go true true t u = eq-eqb (cell words′ x) 1 (f .inside x (leb-true s x t) (ltb-true x e u)) ∙ sym (or-true (eqb (cell words x) 1))
-    go true false t u = ap (λ (v : ℕ). eqb v 1) (f .above x (ltb-false x e u)) ∙ sym (or-false (eqb (cell words x) 1))
-    go false b t u = ap (λ (v : ℕ). eqb v 1) (f .below x (leb-false s x t)) ∙ sym (or-false (eqb (cell words x) 1))
-
 regroup : (o l i h : Bool) → ((o || (l && i)) || (l && h)) ≡ (o || (l && (i || h)))
 regroup true l i h = refl
 regroup false true i h = refl
@@ -88,7 +79,7 @@ masking-more t windows first count j words words′ s e m l es ee o f = record {
   sets = λ x.
       ap (λ b. b
       || (ltb x (cellsOf t) && holds (windowsOf (count - (j + 1)) (drop (windowWidth * (first + (j + 1))) windows)) (minuteOf t x)))
-      (added s e words words′ o f x ∙ ap (λ (v : ℕ). eqb (cell words x) 1 || (leb v x && ltb x e)) es
+      (added s e words words′ f x ∙ ap (λ (v : ℕ). eqb (cell words x) 1 || (leb v x && ltb x e)) es
       ∙ ap (λ (v : ℕ). eqb (cell words x) 1 || (leb (clipped t (windowAt windows (first + j) .start)) x && ltb x v)) ee
       ∙ ap (λ b. eqb (cell words x) 1 || b) (in-cell t (windowAt windows (first + j) .start) (windowAt windows (first + j) .end) x))
       ∙ regroup (eqb (cell words x) 1) (ltb x (cellsOf t)) (leb (windowAt windows (first + j) .start) (minuteOf t x)

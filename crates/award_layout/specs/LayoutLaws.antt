@@ -7,14 +7,13 @@ use Prim.Native.Nat.{ℕ, zero, suc, _+_, _-_, _*_, _/_, _%_, _^_, _≤_, _<_, m
 use native.Mathlib.Nat.{mul-le-mul-left, zero-div}
 use native.Mathlib.Omega.{arith}
 use lib.ListN.{length, getD, take, drop, length-take, length-drop, List·getD-eq-default}
-use lib.Seq.{getD-drop, ext-getD}
+use lib.Seq.{ext-getD}
 use lib.Dec.{leb, ltb, eqb}
 use borrow.Author.Tests.{ltb-true, ltb-false, leb-true, leb-false, lt-ltb, le-ltb, le-leb, lt-leb}
 use Rattle.tender.specs.declared.Kind.{Kind}
 use Rattle.tender.specs.declared.Kind.the-variants.{Single}
 use Rattle.tender.specs.declared.Tender.{Tender}
 use Rattle.tender.specs.Limits.{within, mostWindows, lawful, soundTender, allLawful}
-use Rattle.tender.specs.Rules.{WindowRules}
 use Rattle.tender.specs.RulesLaws.{sound-rules}
 use Rattle.tender.specs.Tables.{Row, rowsOf, windowsOf, own, bidWidth, windowWidth, windowAt}
 use Rattle.cover.specs.SetLaws.{and-split}
@@ -22,32 +21,11 @@ use Rattle.cover.specs.Settled.{spans}
 use Rattle.cells.specs.Cells.{cell}
 use Rattle.multi_rounds.specs.Market.{wordRow, has}
 use Rattle.award_check.specs.Faults.{sound, rowFault, sameKind, faultOf}
-use Rattle.award_check.specs.Cells.{holds, cellsOf, minuteOf, noRow}
+use Rattle.award_check.specs.Cells.{holds, cellsOf, minuteOf, noRow, bidRowAt}
 use Rattle.award_check.specs.Auction.{auctionOf}
 use Rattle.award_check.specs.AuctionLaws.{entries, price-named, has-cell, no-cells}
-use Rattle.award_check.specs.AlikeLaws.{Kept, keeps-kept, sound-keeps, sound-first, faultless, rows-length, windows-step}
-use Rattle.award_layout.specs.Orderly.{bidRowAt, Orderly, clipped, PricesLaid, SpansLaid, AllMasked}
-
-pub row-named : (n i : ℕ) (bids : List ℕ) → i < n → getD (rowsOf n bids) i noRow ≡ bidRowAt bids i
-unfolding rowsOf
-row-named zero i bids l = absurd (omega arith)
-row-named (suc n) zero bids l = refl
-row-named (suc n) (suc i) bids l = row-named n i (drop bidWidth bids) (omega arith) ∙ rw (
-  getD-drop bidWidth bids (bidWidth * i) 0,
-  getD-drop bidWidth bids (bidWidth * i + 1) 0,
-  getD-drop bidWidth bids (bidWidth * i + 2) 0,
-  getD-drop bidWidth bids (bidWidth * i + 3) 0,
-  base i,
-  index 1 i,
-  index 2 i,
-  index 3 i,
-)
-  where
-    base : (i : ℕ) → bidWidth + bidWidth * i ≡ bidWidth * suc i
-    base i = omega arith
-
-    index : (c i : ℕ) → bidWidth + (bidWidth * i + c) ≡ bidWidth * suc i + c
-    index c i = omega arith
+use Rattle.award_check.specs.AlikeLaws.{Kept, keeps-kept, sound-keeps, sound-first, faultless, rows-length, row-named, windows-step}
+use Rattle.award_layout.specs.Orderly.{Orderly, clipped, PricesLaid, SpansLaid, AllMasked}
 
 -- each row of faultless rows keeps the rules, and they are few
 module _ (k : Kind) (windows : List ℕ) where

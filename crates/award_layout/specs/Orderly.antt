@@ -2,26 +2,17 @@
 use mathlib.Core.Path.{_≡_}
 use mathlib.Core.List.{List}
 use mathlib.Core.Bool.{_&&_}
-use Prim.Native.Nat.{ℕ, _+_, _-_, _*_, _/_, _≤_, _<_, min}
+use Prim.Native.Nat.{ℕ, _+_, _-_, _/_, _≤_, _<_, min}
 use lib.ListN.{length, getD}
 use lib.Dec.{ltb, eqb}
 use Rattle.tender.specs.declared.Kind.{Kind}
 use Rattle.tender.specs.declared.Window.{Window}
 use Rattle.tender.specs.declared.Tender.{Tender}
-use Rattle.tender.specs.Tables.{Row, own, windowAt, bidWidth}
+use Rattle.tender.specs.Tables.{own, windowAt, bidWidth}
 use Rattle.cells.specs.Cells.{cell}
 use Rattle.multi_rounds.specs.Market.{wordRow}
-use Rattle.award_check.specs.Cells.{holds, cellsOf, minuteOf}
+use Rattle.award_check.specs.Cells.{holds, cellsOf, minuteOf, bidRowAt}
 use Rattle.award_check.specs.AlikeLaws.{Kept}
-
--- row i of the bid table
-abbrev pub bidRowAt : List ℕ → ℕ → Row
-bidRowAt bids i = record {
-  bidder = getD bids (bidWidth * i) 0;
-  price = getD bids (bidWidth * i + 1) 0;
-  first = getD bids (bidWidth * i + 2) 0;
-  count = getD bids (bidWidth * i + 3) 0;
-}
 
 -- n rows that keep the row rules
 pub record Orderly (k : Kind) (n : ℕ) (bids windows : List ℕ) : Type 0 where

@@ -13,7 +13,8 @@ use Rattle.tender.specs.declared.Tender.{Tender}
 use Rattle.tender.specs.Tables.{own}
 use Rattle.multi_rounds.specs.Market.{wordRow}
 use Rattle.multi_rounds.specs.WordRowLaws.{part-row, row-within, row-length}
-use Rattle.award_layout.specs.Orderly.{bidRowAt, Masked, AllMasked}
+use Rattle.award_check.specs.Cells.{bidRowAt}
+use Rattle.award_layout.specs.Orderly.{Masked, AllMasked}
 
 module _ (ms : List ℕ) (w n i : ℕ) (size : length ms ≡ w * n) (l : i < n) where
   pub row-size : length (wordRow ms w i) ≡ w

@@ -8,8 +8,8 @@ ghost use mathlib.Core.Bool.{true};
 ghost use Rattle.tender.specs.declared.Kind.the-variants.{Single, Multi};
 ghost use Rattle.tender.specs.Limits.{allLawful};
 ghost use Rattle.tender.specs.Tables.{windowsOf, bidWidth, windowWidth};
-ghost use Rattle.award_check.specs.Cells.{cellsOf, minuteOf};
-ghost use Rattle.award_layout.specs.Orderly.{bidRowAt, Orderly, clipped, PricesLaid, SpansLaid, Masked, AllMasked};
+ghost use Rattle.award_check.specs.Cells.{cellsOf, minuteOf, bidRowAt};
+ghost use Rattle.award_layout.specs.Orderly.{Orderly, clipped, PricesLaid, SpansLaid, Masked, AllMasked};
 
 // How many cells a tender has.
 pub fn cells(tender: Tender) -> u64
@@ -99,7 +99,7 @@ fn mask_row(tender: Tender, windows: &[u64], first: usize, count: usize, words: 
         × (((0 < cellsOf tender) × (cellsOf tender ≤ 64 * length (now words))) × (length (now words) ≤ 158))) ⌝ }
     ensures { λ _. ⌜ Masked tender (windowsOf count (drop (windowWidth * first) (now (windows .entry)))) (now (words .exit)) ⌝ }
 {
-    multi_rounds::clear(words);
+    cells::clear(words);
     add_windows(tender, windows, first, count, words);
 }
 

@@ -35,6 +35,10 @@ common a b = total (both a b) (64 * length a)
 pub record Closed (old mask new : List ℕ) : Type 0 where
   pub clears : (x : ℕ) → cell new x ≡ cell old x - cell mask x
 
+-- no word has a cell
+pub record Cleared (xs : List ℕ) : Type 0 where
+  pub none : (i : ℕ) → getD xs i 0 ≡ 0
+
 -- the number m has exactly the bits lo up to hi of its first 64
 pub record Span (lo hi m : ℕ) : Type 0 where
   pub inside : (k : ℕ) → lo ≤ k → k < hi → bitOf m k ≡ 1

@@ -1,12 +1,15 @@
 -- Laws of a store to one word, cell by cell, and the steps of the two loops that store. Assumes nothing.
 use mathlib.Core.Path.{_≡_, refl, sym, ap, ap₂, _∙_}
 use mathlib.Core.Logic.{_⊎_, inl, inr, ⊎-elim}
+use mathlib.Core.Bool.{Bool, true, false, _&&_, _||_, or-true, or-false}
 use mathlib.Core.List.{List}
 use Prim.Native.Nat.{ℕ, zero, suc, _+_, _-_, _*_, _/_, _%_, _^_, _≤_, _<_, zero-le, suc-le-suc, max}
 use native.Mathlib.Omega.{arith}
 use lib.ListN.{length, getD, set, List·getD-eq-default}
 use lib.Seq.{getD-set-same, getD-set-other}
 use lib.Bits.{bitAnd, bitOr}
+use lib.Dec.{leb, ltb, eqb}
+use borrow.Author.Tests.{leb-true, leb-false, ltb-true, ltb-false, eq-eqb}
 use Rattle.cells.specs.Cells.{bitOf, cell, Closed, Span, RangeAdded}
 use Rattle.cells.specs.BitLaws.{or-bit, clear-bit, zero-bit, ones-in, ones-out, power-in, power-out}
 use lib.Pow.{ones-lt, pow-mono, shl-exact}
@@ -164,3 +167,13 @@ one-added ws x h =
         (λ q. or-same ws (x / 64) h y (2 ^ (x % 64)) q ∙ ap (max (cell ws y)) (power-out (x % 64) (y % 64) (λ e. n (omega arith)))
         ∙ omega arith)
         (ne-or-eq (y / 64) (x / 64))
+
+-- a cell is set after a range is added where it was set or is in the range
+pub added : (s e : ℕ) (old new : List ℕ) → RangeAdded s e old new → (x : ℕ)
+    → eqb (cell new x) 1 ≡ (eqb (cell old x) 1 || (leb s x && ltb x e))
+added s e old new f x = go (leb s x) (ltb x e) refl refl
+  where
+    go : (a b : Bool) → leb s x ≡ a → ltb x e ≡ b → eqb (cell new x) 1 ≡ (eqb (cell old x) 1 || (a && b))
+    go true true t u = eq-eqb (cell new x) 1 (f .inside x (leb-true s x t) (ltb-true x e u)) ∙ sym (or-true (eqb (cell old x) 1))
+    go true false t u = ap (λ (v : ℕ). eqb v 1) (f .above x (ltb-false x e u)) ∙ sym (or-false (eqb (cell old x) 1))
+    go false b t u = ap (λ (v : ℕ). eqb v 1) (f .below x (leb-false s x t)) ∙ sym (or-false (eqb (cell old x) 1))

@@ -1,11 +1,11 @@
 // Sets of cells as rows of 64-bit words: cell x is bit x % 64 of word x / 64.
-// Each function says what every cell is before and after: `close` clears the cells of a mask, `add_range` and `add` set cells, `holds`
-// reads one, `next` finds the first of one row that is not in another.
+// Each function says what every cell is before and after: `close` clears the cells of a mask, `clear` all of them, `add_range` and
+// `add` set cells, `holds` reads one, `next` finds the first of one row that is not in another.
 ghost use mathlib.Core.Path.{_≡_};
 ghost use Prim.Native.Nat.{_+_, _*_, _-_, _^_, _<_, _≤_};
 ghost use lib.ListN.{length};
 ghost use lib.Dec.{eqb};
-ghost use Rattle.cells.specs.Cells.{cell, Closed, Span, RangeAdded, Next};
+ghost use Rattle.cells.specs.Cells.{cell, Closed, Cleared, Span, RangeAdded, Next};
 
 // Clears the cells of the mask.
 pub fn close(held: &mut [u64], mask: &[u64])
@@ -16,6 +16,17 @@ pub fn close(held: &mut [u64], mask: &[u64])
     while w < held.len() {
         held[w] = held[w] & !mask[w];
         w += 1;
+    }
+}
+
+// Clears all cells.
+pub fn clear(xs: &mut [u64])
+    ensures { λ _. ⌜ Cleared (now (xs .exit)) ⌝ }
+{
+    let mut i = 0;
+    while i < xs.len() {
+        xs[i] = 0;
+        i += 1;
     }
 }
 

@@ -39,7 +39,7 @@ fn run(
     multi_rounds::unlock(held, count);
     cells_count::count_none(held, counts);
     multi_tournament::seat(who);
-    multi_rounds::clear(num);
+    cells::clear(num);
     multi_rounds::enter(prices, masks, hop, w, held, counts, who, num);
     multi_rounds::trace(
         prices,
@@ -100,8 +100,8 @@ fn settle(
         gains,
     );
     multi_rounds::unlock(held, count);
-    multi_rounds::clear(won);
-    multi_rounds::clear(cents);
+    cells::clear(won);
+    cells::clear(cents);
     multi_pay::pay_all(
         prices,
         masks,

@@ -9,19 +9,19 @@ use native.Mathlib.Omega.{arith}
 use lib.ListN.{length}
 use lib.Dec.{eqb}
 use borrow.Author.Tests.{eqb-true, eqb-false}
-use Rattle.cells.specs.Cells.{cell, common, Closed, RangeAdded}
+use Rattle.cells.specs.Cells.{cell, common, Closed, Cleared, RangeAdded}
 use Rattle.cells.specs.StoreLaws.{lt-or-le}
 use Rattle.cover.specs.CriticalPrice.{late, share, bar}
 use Rattle.cover.specs.Greedy.{reach, close, Rounds, bids}
 use Rattle.cover.specs.GreedyLaws.{shrink, withdrawn-other}
 use Rattle.multi_tournament.specs.Tournament.{at}
-use Rattle.multi_rounds.specs.Market.{wordRow, has, Sized, Cleared, Fronted}
+use Rattle.multi_rounds.specs.Market.{wordRow, has, Sized, Fronted}
 use Rattle.multi_rounds.specs.Trace.{opens, openOf, before, Trace}
 use Rattle.multi_rounds.specs.BeginLaws.{common-few}
 use Rattle.multi_rounds.specs.ChosenLaws.{rounds-of, rounds-stop, rounds-more}
 use Rattle.multi_rounds.specs.OpensLaws.{opens-same, reach-alike, reach-open, close-open, two-way}
 use Rattle.multi_rounds.specs.TracingLaws.{main-best}
-use Rattle.multi_rounds.specs.FillingLaws.{no-cell}
+use Rattle.cells.specs.FillingLaws.{no-cell}
 use Rattle.multi_marks.specs.Marks.{Disturbed, Strayed}
 use Rattle.multi_follow.specs.Follow.{raisedTo, Raised, bar-from, Standing, Course, Following, Takes, Followed}
 use Rattle.multi_follow.proofs.Limiting.{others, bar-none}

@@ -36,8 +36,8 @@ fn begin(
 {
     multi_rounds::copy(held, alt);
     cells_count::count_none(alt, counts);
-    multi_rounds::clear(num);
-    multi_rounds::clear(mark);
+    cells::clear(num);
+    cells::clear(mark);
     cells::add(mark, k);
     multi_marks::disturb(prices, masks, hop, index, w, alt, counts, k, who, num, mark);
 }

@@ -14,8 +14,8 @@ use Rattle.cover.specs.CriticalPrice.{limit, roundsPaid}
 use Rattle.cover.specs.SettledLaws.{as-listed}
 use Rattle.cover.specs.SpareLaws.{Spare, spare-bids, each-at}
 use Rattle.cover.specs.GreedyCoverLaws.{Covered}
-use Rattle.cells.specs.Cells.{cell, Closed}
-use Rattle.multi_rounds.specs.Market.{wordRow, has, First, Cleared}
+use Rattle.cells.specs.Cells.{cell, Closed, Cleared}
+use Rattle.multi_rounds.specs.Market.{wordRow, has, First}
 use Rattle.multi_tournament.specs.Tournament.{at}
 use Rattle.multi_rounds.specs.Trace.{before, Trace}
 use Rattle.multi_follow.specs.Follow.{Followed, Course}

@@ -8,7 +8,8 @@ use lib.ListN.{length, set}
 use lib.Seq.{getD-set-same, getD-set-other}
 use lib.Dec.{eqb}
 use borrow.Author.Tests.{eqb-true, eqb-false}
-use Rattle.cells.specs.Cells.{cell, common}
+use Rattle.cells.specs.Cells.{cell, common, Cleared, RangeAdded}
+use Rattle.cells.specs.FillingLaws.{no-cell}
 use Rattle.cover.specs.Sets.{cells}
 use Rattle.cells_count.specs.SumLaws.{total-both-le}
 use Rattle.multi_rounds.specs.OpensLaws.{opens-first}
@@ -16,6 +17,10 @@ use Rattle.multi_rounds.specs.Market.{wordRow, Sized, Market, First, Ent
 use Rattle.multi_tournament.specs.Tournament.{at, known, Tournament}
 use Rattle.multi_tournament.specs.TreeLaws.{known-at, length-known}
 use Rattle.multi_rounds.specs.Trace.{openOf}
+
+-- the first cells set where there was none
+pub first-of : (n : ℕ) (a b : List ℕ) → Cleared a → RangeAdded 0 n a b → First n b
+first-of n a b c f = record { inside = λ x l. f .inside x (omega arith) l; above = λ x l. f .above x l ∙ no-cell a c x }
 
 pub open-first : {n : ℕ} {held : List ℕ} → First n held → n ≤ 64 * length held → openOf held ≡ cells n
 unfolding openOf

@@ -63,9 +63,6 @@ pub record First (n : ℕ) (held : List ℕ) : Type 0 where
   pub inside : (x : ℕ) → x < n → cell held x ≡ 1
   pub above : (x : ℕ) → n ≤ x → cell held x ≡ 0
 
-pub record Cleared (xs : List ℕ) : Type 0 where
-  pub none : (i : ℕ) → at xs i ≡ 0
-
 -- what is known of each bid is what it has of the cells held
 pub record Entered (ps ms : List ℕ) (w : ℕ) (held new : List ℕ) : Type 0 where
   pub each : (i : ℕ) → i < length ps → at new i ≡ common held (wordRow ms w i)

@@ -10,7 +10,7 @@ ghost use Rattle.cover.specs.CriticalPrice.{late};
 ghost use Rattle.cells.specs.Cells.{common, Closed};
 ghost use Rattle.cells_count.specs.Hops.{Hops, Counted};
 ghost use Rattle.multi_tournament.specs.Tournament.{known, Tournament};
-ghost use Rattle.multi_rounds.specs.Market.{wordRow, Market, Hopping, Known, First, Cleared, Entered, Fronted};
+ghost use Rattle.multi_rounds.specs.Market.{wordRow, Market, Hopping, Known, First, Entered, Fronted};
 ghost use Rattle.multi_rounds.specs.Trace.{Trace};
 
 // How many of the cells held bid i has.
@@ -135,16 +135,6 @@ pub fn front(
     }
 }
 
-pub fn clear(xs: &mut [u64])
-    ensures { λ _. ⌜ Cleared (now (xs .exit)) ⌝ }
-{
-    let mut i = 0;
-    while i < xs.len() {
-        xs[i] = 0;
-        i += 1;
-    }
-}
-
 pub fn copy(from: &[u64], to: &mut [u64])
     requires { ⌜ length (now from) ≡ length (now to) ⌝ }
     ensures { λ _. ⌜ now (to .exit) ≡ now (from .entry) ⌝ }
@@ -161,7 +151,7 @@ pub fn unlock(held: &mut [u64], count: usize)
     requires { ⌜ (count ≤ 64 * length (now held)) × (length (now held) ≤ 158) ⌝ }
     ensures { λ _. ⌜ First count (now (held .exit)) ⌝ }
 {
-    clear(held);
+    cells::clear(held);
     cells::add_range(held, 0, count);
 }
 

@@ -1,23 +1,23 @@
 -- Rows of minutes: an empty and a full row, windows added one by one, and the runs found one after the other. Assumes nothing.
 use mathlib.Core.Path.{_≡_, refl, sym, ap, _∙_}
 use mathlib.Core.Logic.{_⊎_, inl, inr, ⊎-elim}
-use mathlib.Core.Bool.{Bool, true, false, _&&_, _||_, or-true, or-false, or-assoc}
+use mathlib.Core.Bool.{Bool, true, false, _&&_, _||_, or-false, or-assoc}
 use mathlib.Core.List.{List, [], _∷_}
 use Prim.Native.Nat.{ℕ, zero, suc, _+_, _-_, _*_, _/_, _%_, _^_, _≤_, _<_}
 use native.Mathlib.Nat.{eq-or-lt-of-le}
 use native.Mathlib.Omega.{arith}
-use lib.ListN.{length, getD, set, drop, replicate, length-set, length-replicate, getD-replicate}
-use lib.Seq.{getD-set-same, getD-set-other}
+use lib.ListN.{length, getD, drop, replicate, length-replicate, getD-replicate}
 use lib.Dec.{leb, ltb, eqb}
-use borrow.Author.Tests.{leb-true, leb-false, ltb-true, ltb-false, eq-eqb, eqb-true, eqb-false}
+use borrow.Author.Tests.{leb-true, ltb-true, eqb-true, eqb-false}
 use Rattle.tender.specs.declared.Window.{Window}
 use Rattle.tender.specs.Limits.{allLawful}
 use Rattle.tender.specs.Tables.{windowsOf, windowWidth, windowAt}
 use Rattle.cover.specs.Sets.{when}
 use Rattle.cover.specs.SetLaws.{and-split}
-use Rattle.cells.specs.Cells.{cell, RangeAdded, whole, Next}
+use Rattle.cells.specs.Cells.{cell, Cleared, RangeAdded, whole, Next}
 use Rattle.cells.specs.BitLaws.{zero-bit, ones-in}
-use Rattle.cells.specs.StoreLaws.{cell-lt, cell-past, lt-or-le}
+use Rattle.cells.specs.StoreLaws.{cell-lt, cell-past, lt-or-le, added}
+use Rattle.cells.specs.FillingLaws.{no-cell}
 use Rattle.award_check.specs.Cells.{holds}
 use Rattle.award_check.specs.AlikeLaws.{windows-step}
 use Rattle.award_check.specs.WalkLaws.{rowsAhead, ahead-more, ahead-start}
@@ -35,7 +35,10 @@ cells-of : (row : List ℕ) (v b : ℕ) → ((k : ℕ) → k < 64 → v / 2 ^ k 
 unfolding cell
 cells-of row v b h w x l = ap (λ (u : ℕ). u / 2 ^ (x % 64) % 2) (w (x / 64) (omega arith)) ∙ h (x % 64) (omega arith)
 
-pub empty-of : (row : List ℕ) → length row ≡ rowWords → ((q : ℕ) → q < rowWords → getD row q 0 ≡ 0) → Empty row
+pub cleared-empty : (row : List ℕ) → length row ≡ rowWords → Cleared row → Empty row
+cleared-empty row l c = record { wide = l; clear = no-cell row c }
+
+empty-of : (row : List ℕ) → length row ≡ rowWords → ((q : ℕ) → q < rowWords → getD row q 0 ≡ 0) → Empty row
 empty-of row l h = record {
   wide = l;
   clear = λ x. ⊎-elim (λ a. cells-of row 0 0 (λ k b. zero-bit k) h x a) (λ a. cell-past row x (omega arith)) (lt-or-le x rowCells);
@@ -51,26 +54,6 @@ full-row row e = record {
   filled = cells-of row whole 1 (λ k l. ones-in 64 k l)
       (λ q l. ap (λ (r : List ℕ). getD r q 0) e ∙ getD-replicate {A = ℕ} rowWords q whole 0 l);
 }
-
--- ---- words cleared one by one
-
--- the words before q are clear
-pub record Clearing (q : ℕ) (row : List ℕ) : Type 0 where
-  pub wide : length row ≡ rowWords
-  pub done : (p : ℕ) → p < q → getD row p 0 ≡ 0
-
-pub clearing-begins : (row : List ℕ) → length row ≡ rowWords → Clearing 0 row
-clearing-begins row l = record { wide = l; done = λ p h. absurd (omega arith) }
-
-pub clearing-goes : (q : ℕ) (row : List ℕ) → Clearing q row → q < length row → Clearing (q + 1) (set row q 0)
-clearing-goes q row g l = record {
-  wide = length-set row q 0 ∙ g .wide;
-  done = λ p h. ⊎-elim (λ a. getD-set-other row q p 0 0 (λ e. omega arith) ∙ g .done p a)
-      (λ a. let e : p ≡ q = omega arith in rw e (getD-set-same row q 0 0 l)) (lt-or-le p q);
-}
-
-pub clearing-ends : (q : ℕ) (row : List ℕ) → Clearing q row → length row ≤ q → Empty row
-clearing-ends q row g l = empty-of row (g .wide) (λ p h. g .done p (omega (arith, g .wide)))
 
 -- ---- windows added one by one
 
@@ -95,16 +78,6 @@ adding-begins windows first count row e m = record {
       ∙ ap (λ (n : ℕ). holds (windowsOf n (drop (windowWidth * (first + 0)) windows)) x) d
       ∙ ap (λ (i : ℕ). holds (windowsOf count (drop (windowWidth * i) windows)) x) f;
 }
-
--- a cell is set after a range is added where it was set or is in the range
-added : (s e : ℕ) (old new : List ℕ) → RangeAdded s e old new → (x : ℕ)
-    → eqb (cell new x) 1 ≡ (eqb (cell old x) 1 || (leb s x && ltb x e))
-added s e old new f x = go (leb s x) (ltb x e) refl refl
-  where
-    go : (a b : Bool) → leb s x ≡ a → ltb x e ≡ b → eqb (cell new x) 1 ≡ (eqb (cell old x) 1 || (a && b))
-    go true true t u = eq-eqb (cell new x) 1 (f .inside x (leb-true s x t) (ltb-true x e u)) ∙ sym (or-true (eqb (cell old x) 1))
-    go true false t u = ap (λ (v : ℕ). eqb v 1) (f .above x (ltb-false x e u)) ∙ sym (or-false (eqb (cell old x) 1))
-    go false b t u = ap (λ (v : ℕ). eqb v 1) (f .below x (leb-false s x t)) ∙ sym (or-false (eqb (cell old x) 1))
 
 module _ (windows : List ℕ) (first count j : ℕ) (row : List ℕ) (g : Adding windows first count j row) where
   -- window j

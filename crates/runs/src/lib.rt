@@ -8,18 +8,6 @@ ghost use Rattle.tender.specs.Limits.{allLawful};
 ghost use Rattle.tender.specs.Tables.{windowsOf, windowWidth};
 ghost use Rattle.runs.specs.MinuteRows.{rowWords, rowCells, Empty, Full, Minutes, NextRun};
 
-// Clears the cells of a row.
-fn clear(row: &mut [u64])
-    requires { ⌜ length (now row) ≡ rowWords ⌝ }
-    ensures { λ _. ⌜ Empty (now (row .exit)) ⌝ }
-{
-    let mut q = 0;
-    while q < row.len() {
-        row[q] = 0;
-        q += 1;
-    }
-}
-
 // Sets the minutes of the windows from `first` on, `count` of them, in a row that has none.
 fn add_windows(windows: &[u64], first: usize, count: usize, row: &mut [u64])
     requires { ⌜ (first + count ≤ length (now windows) / windowWidth)
@@ -42,7 +30,7 @@ pub fn minutes(windows: &[u64], first: usize, count: usize, row: &mut [u64])
         × ((allLawful (windowsOf count (drop (windowWidth * first) (now windows))) ≡ true) × (length (now row) ≡ rowWords)) ⌝ }
     ensures { λ _. ⌜ Minutes (windowsOf count (drop (windowWidth * first) (now (windows .entry)))) (now (row .exit)) ⌝ }
 {
-    clear(row);
+    cells::clear(row);
     add_windows(windows, first, count, row);
 }
 

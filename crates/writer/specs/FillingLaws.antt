@@ -21,14 +21,13 @@ use Rattle.spelling.specs.WritingLaws.{then, from-start}
 use Rattle.spelling.specs.SpellingLaws.{nothing-written}
 use Rattle.award_check.specs.Faults.{faultOf}
 use Rattle.award_check.specs.Cells.{noRow}
-use Rattle.award_check.specs.AlikeLaws.{rows-length}
+use Rattle.award_check.specs.AlikeLaws.{rows-length, row-named}
 use Rattle.writer.specs.declared.Writing.{Writing}
 use Rattle.writer.specs.declared.Writing.the-variants as answer
 use Rattle.writer_line.specs.Respelt.{respelt}
 use Rattle.writer.specs.Canonical.{respeltIn, canonical, WriteOutcome, spelt, unspelt, unlessFault, writeInto, writeAnswer}
 use Rattle.writer.specs.Canonical.{bufferAfter, Writes}
 use Rattle.writer.specs.Filling.{SomeBids, SomeText}
-use Rattle.writer.specs.TableLaws.{row-at}
 
 -- ---- the lines of the first rows
 
@@ -90,7 +89,7 @@ row-line : (n : ℕ) (bids windows : List ℕ) (j : ℕ) → j < n → respelt (
       windows = windowsOf (getD bids (bidWidth * j + 3) 0) (drop (windowWidth * getD bids (bidWidth * j + 2) 0) windows);
     })
 unfolding bidIn own
-row-line n bids windows j l = ap (λ r. respelt (bidIn windows r)) (row-at n j bids l)
+row-line n bids windows j l = ap (λ r. respelt (bidIn windows r)) (row-named n j bids l)
 
 module _ (n : ℕ) (bids windows old : List ℕ) (at : ℕ) where
   pub bids-go : {mid new : List ℕ} {e f j : ℕ} → BidsPut windows (rowsOf n bids) old at n j mid e → j < n

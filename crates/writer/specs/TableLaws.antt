@@ -1,12 +1,11 @@
--- Row j of faultless tables: the numbers it is made of, and what the row rules say of them. Assumes nothing.
-use mathlib.Core.Path.{_≡_, refl, _∙_}
+-- Row j of faultless tables: what the row rules say of it. Assumes nothing.
+use mathlib.Core.Path.{_≡_, refl}
 use mathlib.Core.Bool.{Bool, true, false, cond, _&&_}
 use mathlib.Core.List.{List, [], _∷_, _++_}
 use mathlib.Core.Option.{none, some}
 use Prim.Native.Nat.{ℕ, zero, suc, _+_, _*_, _/_, _≤_, _<_}
 use native.Mathlib.Omega.{arith}
 use lib.ListN.{length, getD, drop}
-use lib.Seq.{getD-drop}
 use lib.Dec.{leb}
 use borrow.Author.Tests.{leb-true}
 use Rattle.tender.specs.declared.Kind.{Kind}
@@ -15,32 +14,9 @@ use Rattle.tender.specs.Limits.{soundTender, allLawful}
 use Rattle.tender.specs.Tables.{Row, rowsOf, windowsOf, own, bidWidth, windowWidth}
 use Rattle.cover.specs.SetLaws.{and-split}
 use Rattle.award_check.specs.Faults.{sound, rowFault, sameKind, faultOf}
-use Rattle.award_check.specs.Cells.{noRow}
-use Rattle.award_check.specs.AlikeLaws.{sound-keeps, keeps-kept, faultless, rows-length}
-use Rattle.award_check.specs.WalkLaws.{rowAt}
+use Rattle.award_check.specs.Cells.{noRow, bidRowAt}
+use Rattle.award_check.specs.AlikeLaws.{sound-keeps, keeps-kept, faultless, rows-length, row-named}
 use Rattle.writer.specs.RowLaws.{row-says, most-few}
-
--- row j has the four numbers from 4 * j on
-pub row-at : (n j : ℕ) (bids : List ℕ) → j < n → getD (rowsOf n bids) j noRow ≡ rowAt bids j
-unfolding rowsOf
-row-at zero j bids l = absurd (omega arith)
-row-at (suc n) zero bids l = refl
-row-at (suc n) (suc j) bids l = row-at n j (drop bidWidth bids) (omega arith) ∙ rw (
-  getD-drop bidWidth bids (bidWidth * j) 0,
-  getD-drop bidWidth bids (bidWidth * j + 1) 0,
-  getD-drop bidWidth bids (bidWidth * j + 2) 0,
-  getD-drop bidWidth bids (bidWidth * j + 3) 0,
-  base j,
-  index 1 j,
-  index 2 j,
-  index 3 j,
-)
-  where
-    base : (i : ℕ) → bidWidth + bidWidth * i ≡ bidWidth * suc i
-    base i = omega arith
-
-    index : (c i : ℕ) → bidWidth + (bidWidth * i + c) ≡ bidWidth * suc i + c
-    index c i = omega arith
 
 -- what writing a row's line asks of the row
 pub record Plain (windows : List ℕ) (r : Row) : Type 0 where
@@ -78,8 +54,8 @@ rows-plain k windows place used at (r ∷ rs) e j l = go (sound k windows place 
     go true s e (suc j) l ih = ih e j (omega arith)
 
 module _ (t : Tender) (n : ℕ) (bids windows : List ℕ) (e : faultOf (t .kind) t n bids windows ≡ none) where
-  pub row-plain : (j : ℕ) → j < n → Plain windows (rowAt bids j)
-  row-plain j l = rw (row-at n j bids l) at (rows-plain (t .kind) windows 1 [] 0 (rowsOf n bids)
+  pub row-plain : (j : ℕ) → j < n → Plain windows (bidRowAt bids j)
+  row-plain j l = rw (row-named n j bids l) at (rows-plain (t .kind) windows 1 [] 0 (rowsOf n bids)
       (faultless (t .kind) t n bids windows e .rows) j (omega (arith, rows-length n bids)))
 
   -- the rows stand in the lent table

@@ -25,7 +25,6 @@ use Rattle.runs.specs.Runs.{joined}
 use Rattle.runs.specs.JoinedLaws.{joined-lawful, joined-some}
 use Rattle.writer_line.specs.Respelt.{respelt}
 use Rattle.writer.specs.Canonical.{respeltIn}
-use Rattle.writer_back.specs.Same.{AllLawful}
 use Rattle.writer.specs.RowLaws.{RowSays, own-length, joined-count, most-few, split-fault}
 
 -- a text may name the numbers of lawful windows
@@ -109,6 +108,11 @@ rows-checked k windows place used at line (r ∷ rs) out e p =
     ap (λ f. lineJudged f line later) (row-read k windows place used r (s .0) p)
     ∙ rows-checked k windows (place + 1) (used ++ r .bidder ∷ []) (at + r .count) (line + 1) rs out (s .1)
     (omega (arith, length-append used (r .bidder ∷ [])))
+
+-- the windows of each row are lawful
+abbrev pub AllLawful : List ℕ → List Row → Type 0
+AllLawful windows [] = Unit {0}
+AllLawful windows (r ∷ rs) = (allLawful (own windows r) ≡ true) × AllLawful windows rs
 
 pub row-lawful : (k : Kind) (windows : List ℕ) (place : ℕ) (used : List ℕ) (at : ℕ) (rs : List Row)
     → rowFault k windows place used at rs ≡ none → AllLawful windows rs

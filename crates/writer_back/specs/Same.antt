@@ -1,20 +1,13 @@
 -- When two tables have the same bids, and what reading a text back gives (paper 02, request 2).
 use mathlib.Core.Path.{_≡_}
-use mathlib.Core.Bool.{true}
-use mathlib.Core.List.{List, [], _∷_, _++_}
+use mathlib.Core.List.{List, _++_}
 use Prim.Native.Nat.{ℕ, _<_}
 use lib.ListN.{length, getD}
 use Rattle.tender.specs.declared.Window.{Window}
 use Rattle.tender.specs.declared.Tender.{Tender}
-use Rattle.tender.specs.Limits.{allLawful}
 use Rattle.tender.specs.Tables.{Row, own, flatWindows}
 use Rattle.reader_text.specs.Read.{accepted, readText}
 use Rattle.award_check.specs.Cells.{holds, noRow}
-
--- the windows of each row are lawful
-abbrev pub AllLawful : List ℕ → List Row → Type 0
-AllLawful windows [] = Unit {0}
-AllLawful windows (r ∷ rs) = (allLawful (own windows r) ≡ true) × AllLawful windows rs
 
 -- the same tender, and in the same entry order the same bidders, prices and minutes, also those outside the tender
 pub record Same (t : Tender) (rows : List Row) (windows : List ℕ) (t′ : Tender) (rows′ : List Row)

@@ -1,6 +1,10 @@
 -- `award_check::fault` meets its contract: each way out rewrites with the tests that led there. Assumes nothing.
+use Prim.Native.Nat.{_/_}
+use native.Mathlib.Omega.{arith}
+use lib.ListN.{length}
 use borrow.Author.Tests.{not-true, not-false, le-leb, lt-leb}
 use Rattle.tender.specs.Limits.{lawful, soundTender}
+use Rattle.tender.specs.Tables.{bidWidth}
 use Rattle.award_check.specs.Faults.{faultOf}
 use borrow.Author.Needs.{needs}
 use Rattle.award_check.proofs.fault.Statement.{statement}
@@ -34,12 +38,13 @@ returns-3 : tie.Need-returns-3
 unfolding faultOf soundTender lawful
 returns-3 c =
     let c4 = c .before .before .before .before in
+    let args = c4 .before .before .before .before .args in
     rw (
       ← c4 .same-kind .ensures,
       not-false (c4 .same-kind .result) (c .before .before .before .if1 .left),
       ← c .before .before .window-lawful .ensures,
       not-false (c .before .before .window-lawful .result) (c .before .if2 .left),
-      lt-leb _ _ (c .if3 .taken),
+      lt-leb (args .count) (length (args .bids .now) / bidWidth) (omega arith),
     )
 
 row-fault-requires : tie.Need-row-fault-requires
@@ -50,12 +55,13 @@ unfolding faultOf soundTender lawful
 returns-4 c =
     let c4 = c .before .before .before .before in
     let c5 = c4 .before in
+    let args = c5 .before .before .before .before .args in
     rw (
       ← c5 .same-kind .ensures,
       not-false (c5 .same-kind .result) (c4 .if1 .left),
       ← c .before .before .before .window-lawful .ensures,
       not-false (c .before .before .before .window-lawful .result) (c .before .before .if2 .left),
-      le-leb _ _ (c .before .if3 .left),
+      le-leb (args .count) (length (args .bids .now) / bidWidth) (omega arith),
     )
     (c .row-fault .ensures)
 

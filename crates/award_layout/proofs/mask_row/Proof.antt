@@ -6,7 +6,7 @@ use Rattle.award_layout.proofs.mask_row.Tie as tie
 use Rattle.award_layout.proofs.mask_row.Reads as reads
 use Rattle.award_layout.proofs.mask_row.Lts as lts
 use Rattle.award_layout.proofs.add_windows.Reads as add-windows-reads
-use Rattle.multi_rounds.proofs.clear.Reads as clear-reads
+use Rattle.cells.proofs.clear.Reads as clear-reads
 
 clear-requires : tie.Need-clear-requires
 clear-requires c κs = search needs

@@ -5,7 +5,8 @@ use native.Mathlib.Omega.{arith}
 use lib.ListN.{length, getD, length-set}
 use Rattle.tender.specs.declared.Kind.the-variants.{Single}
 use Rattle.tender.specs.Tables.{windowAt}
-use Rattle.award_layout.specs.Orderly.{bidRowAt, clipped, SpansLaid}
+use Rattle.award_check.specs.Cells.{bidRowAt}
+use Rattle.award_layout.specs.Orderly.{clipped, SpansLaid}
 use Rattle.award_layout.specs.LaidLaws.{filled-more, first-room}
 use Rattle.award_layout.proofs.spans.Statement.{statement}
 use Rattle.award_layout.proofs.spans.Tie as tie

@@ -10,7 +10,7 @@ use Rattle.multi.proofs.run.Tie as tie
 use Rattle.multi.proofs.run.Reads as reads
 use Rattle.multi.proofs.run.Lts as lts
 use Rattle.cells_count.proofs.count_none.Reads as count-none-reads
-use Rattle.multi_rounds.proofs.clear.Reads as clear-reads
+use Rattle.cells.proofs.clear.Reads as clear-reads
 use Rattle.multi_rounds.proofs.enter.Reads as enter-reads
 use Rattle.multi_rounds.proofs.trace.Reads as trace-reads
 use Rattle.multi_rounds.proofs.unlock.Reads as unlock-reads

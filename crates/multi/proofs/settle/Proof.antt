@@ -11,7 +11,7 @@ use Rattle.multi_charts.proofs.chart.Reads as chart-reads
 use Rattle.multi_charts.proofs.enlist.Reads as enlist-reads
 use Rattle.multi.proofs.run.Reads as run-reads
 use Rattle.multi_pay.proofs.pay_all.Reads as pay-all-reads
-use Rattle.multi_rounds.proofs.clear.Reads as clear-reads
+use Rattle.cells.proofs.clear.Reads as clear-reads
 use Rattle.multi_rounds.proofs.unlock.Reads as unlock-reads
 
 chart-requires : tie.Need-chart-requires

@@ -15,7 +15,7 @@ use Rattle.multi_limit.proofs.begin.Lts as lts
 use Rattle.cells.proofs.add.Reads as add-reads
 use Rattle.cells_count.proofs.count_none.Reads as count-none-reads
 use Rattle.multi_marks.proofs.disturb.Reads as disturb-reads
-use Rattle.multi_rounds.proofs.clear.Reads as clear-reads
+use Rattle.cells.proofs.clear.Reads as clear-reads
 use Rattle.multi_rounds.proofs.copy.Reads as copy-reads
 
 copy-requires : tie.Need-copy-requires

@@ -2,7 +2,7 @@ use Prim.Native.Nat.{_-_}
 use mathlib.Core.Path.{refl}
 use native.Mathlib.Omega.{arith}
 use lib.ListN.{length}
-use Rattle.multi_rounds.specs.FillingLaws.{Filling, none, more, copied}
+use Rattle.cells.specs.FillingLaws.{Filling, none, more, copied}
 use Rattle.multi_tournament.specs.Tournament.{at}
 use Rattle.multi_rounds.proofs.copy.Statement.{statement}
 use Rattle.multi_rounds.proofs.copy.Tie as tie

@@ -1,11 +1,11 @@
-use Rattle.multi_rounds.specs.FillingLaws.{first-of}
+use Rattle.multi_rounds.specs.BeginLaws.{first-of}
 use borrow.Author.Needs.{needs}
 use Rattle.multi_rounds.proofs.unlock.Statement.{statement}
 use Rattle.multi_rounds.proofs.unlock.Tie as tie
 use Rattle.multi_rounds.proofs.unlock.Reads as reads
 use Rattle.multi_rounds.proofs.unlock.Lts as lts
 use Rattle.cells.proofs.add_range.Reads as add-range-reads
-use Rattle.multi_rounds.proofs.clear.Reads as clear-reads
+use Rattle.cells.proofs.clear.Reads as clear-reads
 
 clear-requires : tie.Need-clear-requires
 clear-requires c κs = search needs

@@ -1,12 +1,13 @@
+-- `cells::clear` meets its contract: the words passed have no cell. Assumes nothing.
 use Prim.Native.Nat.{_-_}
 use mathlib.Core.Path.{refl}
 use native.Mathlib.Omega.{arith}
 use lib.ListN.{length}
-use Rattle.multi_rounds.specs.FillingLaws.{Filling, none, more, cleared}
-use Rattle.multi_rounds.proofs.clear.Statement.{statement}
-use Rattle.multi_rounds.proofs.clear.Tie as tie
-use Rattle.multi_rounds.proofs.clear.Reads as reads
-use Rattle.multi_rounds.proofs.clear.Lts as lts
+use Rattle.cells.specs.FillingLaws.{Filling, none, more, cleared}
+use Rattle.cells.proofs.clear.Statement.{statement}
+use Rattle.cells.proofs.clear.Tie as tie
+use Rattle.cells.proofs.clear.Reads as reads
+use Rattle.cells.proofs.clear.Lts as lts
 
 abbrev Inv-loop : tie.InvT-loop
 Inv-loop xs₀ i₀ xs i = Filling (λ j. 0) xs₀ xs i
