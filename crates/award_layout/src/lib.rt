@@ -8,7 +8,7 @@ ghost use mathlib.Core.Bool.{true};
 ghost use Rattle.tender.specs.declared.Kind.the-variants.{Single, Multi};
 ghost use Rattle.tender.specs.Limits.{allLawful};
 ghost use Rattle.tender.specs.Tables.{windowsOf, bidWidth, windowWidth};
-ghost use Rattle.award_check.specs.Cells.{cellsOf, minuteOf, bidRowAt};
+ghost use Rattle.award_check.specs.Cells.{cellsOf, minuteOf};
 ghost use Rattle.award_layout.specs.Orderly.{Orderly, clipped, PricesLaid, SpansLaid, Masked, AllMasked};
 
 // How many cells a tender has.

@@ -58,8 +58,8 @@ fn make(text: &[u8], list: &mut [u8]) -> usize
     requires { ⌜ length (now list) ≡ 51200 ⌝ }
     ensures { λ r. ⌜ Made (now (text .entry)) (now (list .exit)) r ⌝ }
 {
-    let mut bids = [1u64; 4000];
-    let mut windows = [1u64; 22000];
+    let mut bids = [1u64; tender::BID_TABLE];
+    let mut windows = [1u64; tender::WINDOW_TABLE];
     match reader::read(text, &mut bids, &mut windows) {
         Reading::Accepted {
             tender,

@@ -8,7 +8,7 @@ use Rattle.tender.specs.declared.Tender.{Tender}
 use Rattle.tender.specs.declared.Refusal.{Refusal}
 use Rattle.tender.specs.declared.Window.{Window}
 use Rattle.tender.specs.Refusals.{numberOf, placeOf}
-use Rattle.tender.specs.Tables.{Row, flatRows, flatWindows, bidWidth, windowWidth}
+use Rattle.tender.specs.Tables.{Row, flatRows, flatWindows, bidWidth, windowWidth, bidTable, windowTable}
 use Rattle.reader.specs.declared.Reading.{Reading}
 use Rattle.reader.specs.declared.Reading.the-variants as answer
 use Rattle.reader_text.specs.Read.{accepted, readText, readInto}
@@ -29,7 +29,7 @@ pub record ReadIn (text bids windows : List ℕ) (t : Tender) (n : ℕ) : Type 0
   pub windows-are : windows ≡ flatWindows spans ++ past-spans
 
 -- a reading into tables of 1,000 and 11,000 rows
-module _ (text ob ow : List ℕ) (room-b : length ob ≡ 4000) (room-w : length ow ≡ 22000) where
+module _ (text ob ow : List ℕ) (room-b : length ob ≡ bidTable) (room-w : length ow ≡ windowTable) where
   whole : readInto text (length ob / bidWidth) (length ow / windowWidth) ≡ readText text
   whole = rw (room-b, room-w) (fits-law text 1000 11000 (omega arith) (omega arith))
 

@@ -24,10 +24,6 @@ use tender::Refusal;
 use tender::Tender;
 use tender::Window;
 
-// The places that the longest readable text needs: 1,000 bids, and fewer than 11,000 windows, since each has six bytes.
-const BID_TABLE: usize = 4000;
-
-const WINDOW_TABLE: usize = 22000;
 // The words of a set of a million bidder numbers.
 const NUMBER_WORDS: usize = 15625;
 
@@ -86,8 +82,8 @@ pub fn read(text: &[u8], bids: &mut [u64], windows: &mut [u64]) -> Reading
     if tender::MAX_TEXT < text.len() {
         return Reading::Refused(Refusal::TextTooLong);
     }
-    let mut rows = [1u64; BID_TABLE];
-    let mut spans = [1u64; WINDOW_TABLE];
+    let mut rows = [1u64; tender::BID_TABLE];
+    let mut spans = [1u64; tender::WINDOW_TABLE];
     let mut used = [0u64; NUMBER_WORDS];
     match read_head(text, &mut spans) {
         Head::Tender(t, at, from) => {

@@ -13,7 +13,7 @@ use borrow.Author.Tests.{eqb-true, eqb-false, ltb-true, ltb-false}
 use Rattle.tender.specs.declared.Kind.{Kind}
 use Rattle.tender.specs.declared.Refusal.{Refusal}
 use Rattle.tender.specs.Refusals.{numberOf, placeOf}
-use Rattle.tender.specs.Tables.{flatRows, flatWindows, bidWidth, windowWidth}
+use Rattle.tender.specs.Tables.{flatRows, flatWindows, bidWidth, windowWidth, bidTable, windowTable}
 use Rattle.cells.specs.Cells.{cell, RangeAdded}
 use Rattle.reader_word.specs.Words.{among}
 use Rattle.reader_line.specs.Line.{BidLine, Line, tender, bid, lineOf}
@@ -54,8 +54,8 @@ pub record Walk (kind : Kind) (from : ℕ) (whole left : List (Option Line)) (li
   pub windows-are : take (windowWidth * m) windows ≡ flatWindows (allWindows done)
   pub marked : (x : ℕ) → eqb (cell used x) 1 ≡ among x (bidderNumbers done)
   pub used-long : length used ≡ 15625
-  pub rows-long : length rows ≡ 4000
-  pub windows-long : length windows ≡ 22000
+  pub rows-long : length rows ≡ bidTable
+  pub windows-long : length windows ≡ windowTable
 
 -- it begins with nothing used
 
@@ -71,8 +71,8 @@ unset n x = let e : getD (zeros n) (x / 64) 0 ≡ 0 = zero-at (ltb (x / 64) n) r
     zero-at false h = List·getD-eq-default (zeros n) 0 (rw length-replicate (ltb-false (x / 64) n h))
 
 pub walk-begins : (kind : Kind) (from : ℕ) (ls : List (Option Line)) (used rows windows : List ℕ) → used ≡ replicate 15625 0
-    → length rows ≡ 4000
-    → length windows ≡ 22000 → Walk kind from ls ls from 0 0 used rows windows
+    → length rows ≡ bidTable
+    → length windows ≡ windowTable → Walk kind from ls ls from 0 0 used rows windows
 unfolding bidderNumbers zeros allWindows rowsFrom flatRows flatWindows among
 walk-begins kind from ls used rows windows u r w =
     record {

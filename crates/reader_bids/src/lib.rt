@@ -5,6 +5,7 @@ ghost use Prim.Native.Nat.{_≤_};
 ghost use lib.ListN.{length, drop, replicate};
 ghost use lib.Dec.{leb, ltb, eqb};
 ghost use Rattle.tender.specs.Limits.{within, maxPrice, maxBidder, maxBids, maxWindows, isSingle};
+ghost use Rattle.tender.specs.Tables.{bidTable, windowTable};
 ghost use Rattle.cells.specs.Cells.{cell};
 ghost use Rattle.reader_word.specs.Words.{cut};
 ghost use Rattle.reader_line.specs.Line.{lineOf, linesOf};
@@ -118,7 +119,7 @@ fn take_line(
     rows: &mut [u64],
     windows: &mut [u64],
 ) -> Step
-    requires { ⌜ (k ≤ 1000) × (m ≤ 32000) × (length (now used) ≡ 15625) × (length (now rows) ≡ 4000) ⌝ }
+    requires { ⌜ (k ≤ 1000) × (m ≤ 32000) × (length (now used) ≡ 15625) × (length (now rows) ≡ bidTable) ⌝ }
     ensures { λ r. ⌜ Taken (lineOf (now (bytes .entry))) kind line k m (now (used .entry)) (now (rows .entry)) (now (windows .entry))
         r (now (used .exit)) (now (rows .exit)) (now (windows .exit)) ⌝ }
 {
@@ -162,8 +163,8 @@ pub fn read_bids(
     windows: &mut [u64],
 ) -> Bids
     requires { ⌜ (at ≤ length (now text)) × (from ≤ 65536) × (length (now text) ≤ 65536) × (now used ≡ replicate 15625 0)
-        × (length (now rows) ≡ 4000)
-        × (length (now windows) ≡ 22000) ⌝ }
+        × (length (now rows) ≡ bidTable)
+        × (length (now windows) ≡ windowTable) ⌝ }
     ensures { λ r. ⌜ LinesFilled kind from (linesOf (cut 10 (drop at (now (text .entry))))) r (now (rows .exit))
         (now (windows .exit)) ⌝ }
 {

@@ -7,6 +7,7 @@ use lib.ListN.{replicate}
 use Rattle.tender.specs.declared.Kind.the-variants.{Single, Multi}
 use Rattle.tender.specs.declared.Window.{Window}
 use Rattle.tender.specs.Keywords.{bytes}
+use Rattle.tender.specs.Plain.{plainTender}
 use Rattle.tender.specs.Tables.{Row}
 use Rattle.reader_text.specs.Read.{ReadOutcome, accepted, refused, readText}
 
@@ -28,12 +29,12 @@ read : String → ReadOutcome
 unfolding bytes readText
 read s = readText (bytes s)
 
-no-bids : read "(tender single 0 100)\n" ≡ accepted (record { kind = Single; window = win 0 100 }) ([]) ([])
+no-bids : read "(tender single 0 100)\n" ≡ accepted (plainTender Single 0 100) ([]) ([])
 unfolding read row win
 no-bids = refl
 
 at-the-limits : read "(tender single 0 10080)\n(bid 999999 100000000 (10079 10080))\n(bid 1 0 (0 1))\n"
-    ≡ accepted (record { kind = Single; window = win 0 10080 }) (row 999999 100000000 0 1 ∷ row 1 0 1 1 ∷ [])
+    ≡ accepted (plainTender Single 0 10080) (row 999999 100000000 0 1 ∷ row 1 0 1 1 ∷ [])
     (win 10079 10080 ∷ win 0 1 ∷ [])
 unfolding read row win
 at-the-limits = refl
@@ -196,7 +197,7 @@ unfolding read
 first-fault = refl
 
 window-32 : readText (bytes "(tender multi 0 10)\n(bid 11 30" ++ minutes 32 ++ bytes ")\n")
-    ≡ accepted (record { kind = Multi; window = win 0 10 }) (row 11 30 0 32 ∷ []) (replicate 32 (win 0 1))
+    ≡ accepted (plainTender Multi 0 10) (row 11 30 0 32 ∷ []) (replicate 32 (win 0 1))
 unfolding readText minutes row win
 window-32 = refl
 

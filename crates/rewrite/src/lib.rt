@@ -42,8 +42,8 @@ fn deliver_text(
 pub extern "C" fn tender_rewrite(text: &[u8], out: &mut [u8]) -> usize
     ensures { λ r. ⌜ Rewritten (now (text .entry)) (now (out .entry)) (now (out .exit)) r ⌝ }
 {
-    let mut bids = [1u64; 4000];
-    let mut windows = [1u64; 22000];
+    let mut bids = [1u64; tender::BID_TABLE];
+    let mut windows = [1u64; tender::WINDOW_TABLE];
     match reader::read(text, &mut bids, &mut windows) {
         Reading::Accepted {
             tender,

@@ -1,5 +1,6 @@
 pub mod Limits
 pub mod Tables
+pub mod Plain
 pub mod Keywords
 pub mod Refusals
 pub mod Rules

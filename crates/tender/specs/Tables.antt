@@ -13,6 +13,13 @@ bidWidth = 4
 abbrev pub windowWidth : ℕ
 windowWidth = 2
 
+-- the numbers of a bid table and of a window table that have room for every readable text
+abbrev pub bidTable : ℕ
+bidTable = 4000
+
+abbrev pub windowTable : ℕ
+windowTable = 22000
+
 -- a row of the bid table
 pub record Row : Type 0 where
   pub bidder : ℕ

@@ -2,6 +2,7 @@
 // No algorithm stands here. `specs/` has what the crates above cite of it: the limits and the rule of a
 // window, the layout of the two tables, the keywords, and each refusal's number and place.
 ghost use mathlib.Core.Path.{_≡_};
+ghost use Rattle.tender.specs.Plain.{plainTender};
 ghost use Rattle.tender.specs.Refusals.{numberOf, placeOf};
 
 // A single tender takes bids of one window each, a multi tender bids of several.
@@ -79,6 +80,11 @@ pub const BID_WIDTH: usize = 4;
 // The numbers of a row of the window table: start, end.
 pub const WINDOW_WIDTH: usize = 2;
 
+// The numbers of the tables that the longest readable text needs: 1,000 bids, and fewer than 11,000 windows, since each has six bytes.
+pub const BID_TABLE: usize = 4000;
+
+pub const WINDOW_TABLE: usize = 22000;
+
 // The keywords of the bid text and of the list.
 pub const TENDER: [u8; 6] = *b"tender";
 
@@ -87,6 +93,14 @@ pub const BID: [u8; 3] = *b"bid";
 pub const SINGLE: [u8; 6] = *b"single";
 
 pub const MULTI: [u8; 5] = *b"multi";
+
+// A tender of this kind and window.
+pub fn plain(kind: Kind, start: u64, end: u64) -> Tender
+    ensures { λ r. ⌜ r ≡ plainTender kind start end ⌝ }
+{
+    let window = Window { start, end };
+    Tender { kind, window }
+}
 
 // The refusal's number.
 pub fn number(r: Refusal) -> u64

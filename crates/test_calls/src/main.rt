@@ -8,7 +8,6 @@ use tender::Answer;
 use tender::AwardRow;
 use tender::Kind;
 use tender::Tender;
-use tender::Window;
 
 // Writes the answer: awarded with cost and sum paid, or refused with number and place.
 fn tell_answer(answer: Answer) {
@@ -72,11 +71,6 @@ fn show_multi(label: &[u8], tender: Tender, count: usize, bids: &[u64], windows:
     tell(label, rows::multi(tender, count, bids, windows, sevens));
 }
 
-fn tender_of(kind: Kind, start: u64, end: u64) -> Tender {
-    let window = Window { start, end };
-    Tender { kind, window }
-}
-
 // The tables hold six bids, of which the first `count` are put.
 fn single_cases(tender: Tender, bids: &[u64], windows: &[u64]) {
     show_single(b"single, five bids", tender, 5, bids, windows);
@@ -89,7 +83,7 @@ fn single_cases(tender: Tender, bids: &[u64], windows: &[u64]) {
         bids,
         windows,
     );
-    let longer = tender_of(Kind::Single, 0, 10);
+    let longer = tender::plain(Kind::Single, 0, 10);
     show_single(b"single, a minute in no bid", longer, 5, bids, windows);
     show_single(b"single, minutes in one bid", tender, 2, bids, windows);
     show_multi(b"single, put to the other award", tender, 5, bids, windows);
@@ -99,7 +93,7 @@ fn multi_cases(tender: Tender, bids: &[u64], windows: &[u64]) {
     show_multi(b"multi, four bids", tender, 4, bids, windows);
     show_multi(b"multi, five bids", tender, 5, bids, windows);
     show_multi(b"multi, a row short", tender, 6, bids, windows);
-    let longer = tender_of(Kind::Multi, 0, 11);
+    let longer = tender::plain(Kind::Multi, 0, 11);
     show_multi(b"multi, a minute in no bid", longer, 4, bids, windows);
     show_multi(b"multi, minutes in one bid", tender, 2, bids, windows);
     show_single(b"multi, put to the other award", tender, 4, bids, windows);

@@ -7,6 +7,7 @@ use mathlib.Core.Option.{some}
 use lib.Dec.{eqb}
 use Rattle.tender.specs.declared.Kind.{Kind}
 use Rattle.tender.specs.declared.Kind.the-variants.{Single, Multi}
+use Rattle.tender.specs.Plain.{plainTender}
 use Rattle.award_check.specs.Faults.{faultOf}
 use Rattle.award_plain.specs.Award.{Outcome, awardOf, outcomeNumber, outcomePlace}
 
@@ -17,7 +18,7 @@ refuses m p a = eqb (outcomeNumber a) m && eqb (outcomePlace a) p
 -- an award of the kind k to a tender of the kind l from s to e, n bids stated and n award rows lent
 unfoldable pub try : Kind → Kind → ℕ → ℕ → ℕ → List ℕ → List ℕ → Outcome
 unfolding awardOf
-try k l s e n bids windows = awardOf k (record { kind = l; window = record { start = s; end = e } }) n bids windows n
+try k l s e n bids windows = awardOf k (plainTender l s e) n bids windows n
 
 unfoldable pub bidRow : ℕ → ℕ → ℕ → ℕ → List ℕ
 bidRow b p f c = b ∷ p ∷ f ∷ c ∷ []
@@ -56,7 +57,7 @@ nine = refl
 
 unfoldable pub shortRows : Outcome
 unfolding awardOf bidRow
-shortRows = awardOf Single (record { kind = Single; window = record { start = 0; end = 10 } }) 1 (bidRow 1 5 0 1) (0 ∷ 5 ∷ []) 0
+shortRows = awardOf Single (plainTender Single 0 10) 1 (bidRow 1 5 0 1) (0 ∷ 5 ∷ []) 0
 
 -- 10 after 9 and before 11
 pub ten : refuses 10 0 shortRows ≡ true
@@ -73,12 +74,12 @@ sameWindows zero = []
 sameWindows (suc n) = 0 ∷ 10 ∷ sameWindows n
 
 -- too many bids; a faulty row before stands
-pub bids-too-many : faultOf Multi (record { kind = Multi; window = record { start = 0; end = 10 } }) 1001 (many 1001 0) (sameWindows 1001)
+pub bids-too-many : faultOf Multi (plainTender Multi 0 10) 1001 (many 1001 0) (sameWindows 1001)
     ≡ some 1001
 unfolding faultOf many sameWindows
 bids-too-many = refl
 
-pub row-first : faultOf Multi (record { kind = Multi; window = record { start = 0; end = 10 } }) 1001 (many 3 0 ++ many 998 5)
+pub row-first : faultOf Multi (plainTender Multi 0 10) 1001 (many 3 0 ++ many 998 5)
     (sameWindows 1001)
     ≡ some 4
 unfolding faultOf many sameWindows

@@ -2,7 +2,6 @@
 use reader::Reading;
 use tender::Kind;
 use tender::Tender;
-use tender::Window;
 use writer::Writing;
 
 // A tender, and up to 12 bids and 96 windows.
@@ -15,17 +14,10 @@ pub(crate) struct Lot {
 }
 
 pub(crate) fn tender_of(several: bool, start: u64, end: u64) -> Tender {
-    let window = Window { start, end };
     if several {
-        return Tender {
-            kind: Kind::Multi,
-            window,
-        };
+        return tender::plain(Kind::Multi, start, end);
     }
-    Tender {
-        kind: Kind::Single,
-        window,
-    }
+    tender::plain(Kind::Single, start, end)
 }
 
 // The tables that are read from the text; where it is refused, of a tender that no call takes.

@@ -96,7 +96,7 @@ pub(crate) fn lend(label: &[u8], buf: &mut [u8]) {
 // Writes a tender of 20 bytes and so many bids of 471 bytes each, but the last with this price and so many windows, into a buffer whose
 // bytes are 7.
 pub(crate) fn long(label: &[u8], count: usize, price: u64, windows: u64, buf: &mut [u8]) {
-    let mut bids = [0u64; 4000];
+    let mut bids = [0u64; tender::BID_TABLE];
     let mut rows = [0u64; 64000];
     tables::fill(
         &mut bids,

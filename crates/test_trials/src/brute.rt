@@ -25,13 +25,37 @@ pub(crate) fn cell_with(masks: [u64; 7], length: u64, bidders: u64) -> u64 {
     16
 }
 
+// Whether bid i has the cell x.
+fn has(masks: [u64; 7], i: usize, x: u64) -> bool {
+    if 6 < i {
+        return false;
+    }
+    if 15 < x {
+        return false;
+    }
+    (masks[i] >> x) % 2 == 1
+}
+
+// The bits of the cells that bid i has.
+fn cells_in(masks: [u64; 7], i: usize) -> u64 {
+    let mut m: u64 = 0;
+    let mut x: u64 = 0;
+    while x < 16 {
+        if has(masks, i, x) {
+            m = m | (1 << x);
+        }
+        x += 1;
+    }
+    m
+}
+
 // How many of the bids have the cell.
 fn bidders_of(masks: [u64; 7], x: u64) -> u64 {
     let mut n: u64 = 0;
     let mut i: usize = 0;
     while i < 7 {
-        if x < 16 {
-            n = std::num::wrapping_add_u64(n, (masks[i] >> x) % 2);
+        if has(masks, i, x) {
+            n = std::num::wrapping_add_u64(n, 1);
         }
         i += 1;
     }
@@ -60,7 +84,7 @@ fn cells_of(masks: [u64; 7], set: u64) -> u64 {
     let mut i: usize = 0;
     while i < 7 {
         if within(set, i) {
-            m = m | masks[i];
+            m = m | cells_in(masks, i);
         }
         i += 1;
     }
@@ -109,7 +133,7 @@ fn pick(masks: [u64; 7], prices: [u64; 7], held: u64, taken: u64) -> usize {
     let mut reach: u64 = 0;
     let mut i: usize = 0;
     while i < 7 {
-        let r = reach_of(held, masks[i]);
+        let r = reach_of(held, cells_in(masks, i));
         let p = prices[i];
         if 0 < r && !within(taken, i) {
             if best == 7 || times(p, reach) < times(top, r) {
@@ -131,7 +155,7 @@ pub(crate) fn greedy(masks: [u64; 7], prices: [u64; 7], cells: u64) -> u64 {
     while round < 7 {
         let i = pick(masks, prices, held, taken);
         if i < 7 {
-            held = held & !masks[i];
+            held = held & !cells_in(masks, i);
             taken = taken | (1 << i);
         }
         round += 1;

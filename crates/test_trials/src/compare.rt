@@ -8,7 +8,6 @@ use tender::Kind;
 use tender::Refusal;
 use tender::Tender;
 use tender::Totals;
-use tender::Window;
 
 // What was tried, and how many answers disagree.
 pub(crate) struct Tried {
@@ -117,21 +116,9 @@ fn minute_of(lot: Lot, x: u64) -> u64 {
 }
 
 fn tender_of(lot: Lot, several: bool) -> Tender {
-    let window = Window {
-        start: minute_of(lot, 0),
-        end: minute_of(lot, lot.length),
-    };
-    if several {
-        Tender {
-            kind: Kind::Multi,
-            window,
-        }
-    } else {
-        Tender {
-            kind: Kind::Single,
-            window,
-        }
-    }
+    let start = minute_of(lot, 0);
+    let end = minute_of(lot, lot.length);
+    tender::plain(kind_of(several), start, end)
 }
 
 fn kind_of(several: bool) -> Kind {

@@ -35,8 +35,8 @@ fn tell(label: &[u8], answer: Reading) {
 
 // Reads the text into tables that are long enough.
 fn show(label: &[u8], text: &[u8]) {
-    let mut bids = [0u64; 4000];
-    let mut windows = [0u64; 22000];
+    let mut bids = [0u64; tender::BID_TABLE];
+    let mut windows = [0u64; tender::WINDOW_TABLE];
     tell(label, reader::read(text, &mut bids, &mut windows));
 }
 

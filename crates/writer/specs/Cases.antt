@@ -7,10 +7,11 @@ use Rattle.tender.specs.declared.Kind.the-variants.{Multi}
 use Rattle.tender.specs.declared.Tender.{Tender}
 use Rattle.tender.specs.declared.Refusal.the-variants.{BadTables, NoRoom}
 use Rattle.tender.specs.Keywords.{bytes}
+use Rattle.tender.specs.Plain.{plainTender}
 use Rattle.writer.specs.Canonical.{spelt, unspelt, writeInto}
 
 multi : Tender
-multi = record { kind = Multi; window = record { start = 0; end = 10 } }
+multi = plainTender Multi 0 10
 
 rows : List ℕ
 rows = 21 ∷ 12 ∷ 0 ∷ 2 ∷ 24 ∷ 9 ∷ 2 ∷ 2 ∷ []

@@ -5,6 +5,7 @@ use mathlib.Core.Path.{refl, _∙_}
 use native.Mathlib.Omega.{arith}
 use borrow.Author.Needs.{needs}
 use lib.ListN.{length-replicate}
+use Rattle.tender.specs.Tables.{bidTable, windowTable}
 use Rattle.reader_text.specs.HeadLaws.{head-short}
 use Rattle.reader.specs.WholeLaws.{opened-tender, opened-refused, filled-held, filled-refused, answer-refused, too-long}
 use Rattle.reader.specs.WholeLaws.{lines-refused, bids-refused, bids-short, windows-short, answer-accepted}
@@ -43,7 +44,7 @@ read-bids-requires c κs =
     let c9 = c7 .before .before in
     let c13 = c9 .before .before .before .before in
     let b = opened-tender (c13 .args .text .now) _ (c7 .read-head .ensures) _ _ _ (c4 .t .given .1) in
-    (b .inside, head-short _ _ _ _ (b .lines), c9 .if1 .left, refl, length-replicate {A = ℕ} 4000 1, c7 .read-head .kept .1 .0 ∙ length-replicate {A = ℕ} 22000 1)
+    (b .inside, head-short _ _ _ _ (b .lines), c9 .if1 .left, refl, length-replicate {A = ℕ} bidTable 1, c7 .read-head .kept .1 .0 ∙ length-replicate {A = ℕ} windowTable 1)
 
 enum-known-k : tie.Need-enum-known-k
 enum-known-k c = search needs
@@ -87,7 +88,7 @@ copy-requires c κs =
     let c5 = c .before .before .before .before .before in
     let c10 = c5 .before .before .before .before .before in
     let h = filled-held _ _ _ _ _ _ (c10 .read-bids .ensures) _ _ (c5 .k .given .1) in (
-      omega (arith, h .few-bids, c10 .read-bids .kept .1 .1 .1 .1 .1 .0, length-replicate {A = ℕ} 4000 1),
+      omega (arith, h .few-bids, c10 .read-bids .kept .1 .1 .1 .1 .1 .0, length-replicate {A = ℕ} bidTable 1),
       omega (arith, c .before .before .before .if2 .left),
     )
 
@@ -107,7 +108,7 @@ copy-requires-2 c κs =
     let c15 = c10 .before .before .before .before .before in
     let c23 = c15 .before .before .before .before .before .before .before .before in
     let h = filled-held _ _ _ _ _ _ (c15 .read-bids .ensures) _ _ (c10 .k .given .1) in (
-      omega (arith, h .few-windows, c15 .read-bids .kept .1 .1 .1 .1 .1 .1 .0, c23 .read-head .kept .1 .0, length-replicate {A = ℕ} 22000 1),
+      omega (arith, h .few-windows, c15 .read-bids .kept .1 .1 .1 .1 .1 .1 .0, c23 .read-head .kept .1 .0, length-replicate {A = ℕ} windowTable 1),
       omega (arith, c7 .if3 .left),
     )
 

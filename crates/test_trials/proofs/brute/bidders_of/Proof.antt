@@ -5,6 +5,7 @@ use Rattle.test_trials.proofs.brute.bidders_of.Statement.{statement}
 use Rattle.test_trials.proofs.brute.bidders_of.Tie as tie
 use Rattle.test_trials.proofs.brute.bidders_of.Reads as reads
 use Rattle.test_trials.proofs.brute.bidders_of.Lts as lts
+use Rattle.test_trials.proofs.brute.has.Reads as has-reads
 use Rattle.std.proofs.num.wrapping_add_u64.Reads as wrapping-add-u64-reads
 
 abbrev Inv-loop : tie.InvT-loop
@@ -16,14 +17,8 @@ abbrev μ-loop : tie.MeasureT-loop
 loop-holds : tie.Need-loop-holds Inv-loop μ-loop
 loop-holds c = search needs
 
-mul-wrapping-add-u64 : tie.Need-mul-wrapping-add-u64 Inv-loop μ-loop
-mul-wrapping-add-u64 c = search needs
-
-array-read-wrapping-add-u64 : tie.Need-array-read-wrapping-add-u64 Inv-loop μ-loop
-array-read-wrapping-add-u64 c = search needs
-
-shr-wrapping-add-u64 : tie.Need-shr-wrapping-add-u64 Inv-loop μ-loop
-shr-wrapping-add-u64 c = search needs
+has-requires : tie.Need-has-requires Inv-loop μ-loop
+has-requires c κs = search needs
 
 wrapping-add-u64-requires : tie.Need-wrapping-add-u64-requires Inv-loop μ-loop
 wrapping-add-u64-requires c κs = search needs
@@ -47,9 +42,7 @@ bidders-of-spec =
     Inv-loop
     μ-loop
     loop-holds
-    mul-wrapping-add-u64
-    array-read-wrapping-add-u64
-    shr-wrapping-add-u64
+    has-requires
     wrapping-add-u64-requires
     add-i
     loop-less

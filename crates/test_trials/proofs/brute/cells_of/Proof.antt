@@ -5,6 +5,7 @@ use Rattle.test_trials.proofs.brute.cells_of.Statement.{statement}
 use Rattle.test_trials.proofs.brute.cells_of.Tie as tie
 use Rattle.test_trials.proofs.brute.cells_of.Reads as reads
 use Rattle.test_trials.proofs.brute.cells_of.Lts as lts
+use Rattle.test_trials.proofs.brute.cells_in.Reads as cells-in-reads
 use Rattle.test_trials.proofs.brute.within.Reads as within-reads
 
 abbrev Inv-loop : tie.InvT-loop
@@ -19,11 +20,8 @@ loop-holds c = search needs
 within-requires : tie.Need-within-requires Inv-loop μ-loop
 within-requires c κs = search needs
 
-mul-m : tie.Need-mul-m Inv-loop μ-loop
-mul-m c = search needs
-
-array-read-m : tie.Need-array-read-m Inv-loop μ-loop
-array-read-m c = search needs
+cells-in-requires : tie.Need-cells-in-requires Inv-loop μ-loop
+cells-in-requires c κs = search needs
 
 add-i : tie.Need-add-i Inv-loop μ-loop
 add-i c = search needs
@@ -45,8 +43,7 @@ cells-of-spec =
     μ-loop
     loop-holds
     within-requires
-    mul-m
-    array-read-m
+    cells-in-requires
     add-i
     loop-less
     loop-again

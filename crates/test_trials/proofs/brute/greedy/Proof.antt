@@ -5,6 +5,7 @@ use Rattle.test_trials.proofs.brute.greedy.Statement.{statement}
 use Rattle.test_trials.proofs.brute.greedy.Tie as tie
 use Rattle.test_trials.proofs.brute.greedy.Reads as reads
 use Rattle.test_trials.proofs.brute.greedy.Lts as lts
+use Rattle.test_trials.proofs.brute.cells_in.Reads as cells-in-reads
 use Rattle.test_trials.proofs.brute.pick.Reads as pick-reads
 
 abbrev Inv-loop : tie.InvT-loop
@@ -19,11 +20,8 @@ loop-holds c = search needs
 pick-requires : tie.Need-pick-requires Inv-loop μ-loop
 pick-requires c κs = search needs
 
-mul-held : tie.Need-mul-held Inv-loop μ-loop
-mul-held c = search needs
-
-array-read-held : tie.Need-array-read-held Inv-loop μ-loop
-array-read-held c = search needs
+cells-in-requires : tie.Need-cells-in-requires Inv-loop μ-loop
+cells-in-requires c κs = search needs
 
 shl-taken : tie.Need-shl-taken Inv-loop μ-loop
 shl-taken c = search needs
@@ -48,8 +46,7 @@ greedy-spec =
     μ-loop
     loop-holds
     pick-requires
-    mul-held
-    array-read-held
+    cells-in-requires
     shl-taken
     add-round
     loop-less

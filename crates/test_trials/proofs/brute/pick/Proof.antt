@@ -5,6 +5,7 @@ use Rattle.test_trials.proofs.brute.pick.Statement.{statement}
 use Rattle.test_trials.proofs.brute.pick.Tie as tie
 use Rattle.test_trials.proofs.brute.pick.Reads as reads
 use Rattle.test_trials.proofs.brute.pick.Lts as lts
+use Rattle.test_trials.proofs.brute.cells_in.Reads as cells-in-reads
 use Rattle.test_trials.proofs.brute.reach_of.Reads as reach-of-reads
 use Rattle.test_trials.proofs.brute.times.Reads as times-reads
 use Rattle.test_trials.proofs.brute.within.Reads as within-reads
@@ -18,11 +19,8 @@ abbrev μ-loop : tie.MeasureT-loop
 loop-holds : tie.Need-loop-holds Inv-loop μ-loop
 loop-holds c = search needs
 
-mul-reach-of : tie.Need-mul-reach-of Inv-loop μ-loop
-mul-reach-of c = search needs
-
-array-read-reach-of : tie.Need-array-read-reach-of Inv-loop μ-loop
-array-read-reach-of c = search needs
+cells-in-requires : tie.Need-cells-in-requires Inv-loop μ-loop
+cells-in-requires c κs = search needs
 
 reach-of-requires : tie.Need-reach-of-requires Inv-loop μ-loop
 reach-of-requires c κs = search needs
@@ -61,8 +59,7 @@ pick-spec =
     Inv-loop
     μ-loop
     loop-holds
-    mul-reach-of
-    array-read-reach-of
+    cells-in-requires
     reach-of-requires
     mul-p
     array-read-p
