@@ -8,6 +8,7 @@ ghost use mathlib.Core.Bool.{true};
 ghost use Rattle.tender.specs.declared.Kind.the-variants.{Single, Multi};
 ghost use Rattle.tender.specs.Limits.{allLawful};
 ghost use Rattle.tender.specs.Tables.{windowsOf, bidWidth, windowWidth};
+ghost use Rattle.cells.specs.Masks.{masks};
 ghost use Rattle.award_check.specs.Cells.{cellsOf, minuteOf};
 ghost use Rattle.award_layout.specs.Orderly.{Orderly, clipped, PricesLaid, SpansLaid, Masked, AllMasked};
 
@@ -75,38 +76,63 @@ pub fn spans(tender: Tender, bids: &[u64], windows: &[u64], starts: &mut [u64], 
     }
 }
 
-// Sets the cells of the windows from `first` on, `count` of them, in words that have none.
-fn add_windows(tender: Tender, windows: &[u64], first: usize, count: usize, words: &mut [u64])
+// Sets the cells of the windows from `first` on, `count` of them, in words that have none, by the table of masks.
+fn add_windows(
+    tender: Tender,
+    table: &[u64],
+    windows: &[u64],
+    first: usize,
+    count: usize,
+    words: &mut [u64],
+)
     requires { ⌜ (first + count ≤ length (now windows) / windowWidth)
         × ((allLawful (windowsOf count (drop (windowWidth * first) (now windows))) ≡ true)
         × (((0 < cellsOf tender) × (cellsOf tender ≤ 64 * length (now words)))
         × ((length (now words) ≤ 158) × ((i : ℕ) → getD (now words) i 0 ≡ 0)))) ⌝ }
+    requires { ⌜ now table ≡ masks ⌝ }
     ensures { λ _. ⌜ Masked tender (windowsOf count (drop (windowWidth * first) (now (windows .entry)))) (now (words .exit)) ⌝ }
 {
     let mut j = 0;
     while j < count {
         let s = clip(tender, windows[tender::WINDOW_WIDTH * (first + j)]);
         let e = clip(tender, windows[tender::WINDOW_WIDTH * (first + j) + 1]);
-        cells::add_range(words, s as usize, e as usize);
+        cells::add_range_by(table, words, s as usize, e as usize);
         j += 1;
     }
 }
 
 // The words of the windows from `first` on, `count` of them.
-fn mask_row(tender: Tender, windows: &[u64], first: usize, count: usize, words: &mut [u64])
+fn mask_row(
+    tender: Tender,
+    table: &[u64],
+    windows: &[u64],
+    first: usize,
+    count: usize,
+    words: &mut [u64],
+)
     requires { ⌜ (first + count ≤ length (now windows) / windowWidth)
         × ((allLawful (windowsOf count (drop (windowWidth * first) (now windows))) ≡ true)
         × (((0 < cellsOf tender) × (cellsOf tender ≤ 64 * length (now words))) × (length (now words) ≤ 158))) ⌝ }
+    requires { ⌜ now table ≡ masks ⌝ }
     ensures { λ _. ⌜ Masked tender (windowsOf count (drop (windowWidth * first) (now (windows .entry)))) (now (words .exit)) ⌝ }
 {
     cells::clear(words);
-    add_windows(tender, windows, first, count, words);
+    add_windows(tender, table, windows, first, count, words);
 }
 
-// The words of each bid, w words a bid.
-pub fn masks(tender: Tender, w: usize, n: usize, bids: &[u64], windows: &[u64], out: &mut [u64])
+// The words of each bid, w words a bid, by the table of masks that is lent.
+fn masks_by(
+    tender: Tender,
+    table: &[u64],
+    w: usize,
+    n: usize,
+    bids: &[u64],
+    windows: &[u64],
+    out: &mut [u64],
+)
     requires { ⌜ Orderly Multi n (now bids) (now windows) × ((length (now out) ≡ w * n)
         × (((0 < cellsOf tender) × (cellsOf tender ≤ 64 * w)) × (w ≤ 158))) ⌝ }
+    requires { ⌜ now table ≡ masks ⌝ }
     ensures { λ _. ⌜ AllMasked n tender w (now (bids .entry)) (now (windows .entry)) (now (out .exit)) ⌝ }
 {
     let mut i = 0;
@@ -115,7 +141,17 @@ pub fn masks(tender: Tender, w: usize, n: usize, bids: &[u64], windows: &[u64], 
         let count = bids[tender::BID_WIDTH * i + 3] as usize;
         let a = w * i;
         let e = a + w;
-        mask_row(tender, windows, first, count, &mut out[a..e]);
+        mask_row(tender, table, windows, first, count, &mut out[a..e]);
         i += 1;
     }
+}
+
+// The words of each bid, w words a bid.
+pub fn masks(tender: Tender, w: usize, n: usize, bids: &[u64], windows: &[u64], out: &mut [u64])
+    requires { ⌜ Orderly Multi n (now bids) (now windows) × ((length (now out) ≡ w * n)
+        × (((0 < cellsOf tender) × (cellsOf tender ≤ 64 * w)) × (w ≤ 158))) ⌝ }
+    ensures { λ _. ⌜ AllMasked n tender w (now (bids .entry)) (now (windows .entry)) (now (out .exit)) ⌝ }
+{
+    let table = cells::MASKS;
+    masks_by(tender, &table, w, n, bids, windows, out);
 }

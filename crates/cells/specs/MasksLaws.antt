@@ -29,6 +29,10 @@ value-at j (m ∷ ms) t (suc k) h =
 first-span : (k : ℕ) → Span 0 k (2 ^ k - 1)
 first-span k = record { inside = λ j lo hi. ones-in k j hi; below = λ j l. absurd (omega arith); above = λ j l hi. ones-out k j l }
 
+pub masks-length : length masks ≡ 65
+unfolding masks
+masks-length = refl
+
 -- the test, computed once over the whole table
 masks-pass : masksFrom 0 masks ≡ true
 unfolding masks masksFrom

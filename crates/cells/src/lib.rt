@@ -5,6 +5,7 @@ ghost use mathlib.Core.Path.{_≡_};
 ghost use Prim.Native.Nat.{_+_, _*_, _-_, _^_, _<_, _≤_};
 ghost use lib.ListN.{length};
 ghost use lib.Dec.{eqb};
+ghost use Rattle.cells.specs.Masks.{masks};
 ghost use Rattle.cells.specs.Cells.{cell, Closed, Cleared, Span, RangeAdded, Next};
 
 // Clears the cells of the mask.
@@ -30,8 +31,9 @@ pub fn clear(xs: &mut [u64])
     }
 }
 
-// The masks of a word's first k cells, k from 0 to 64. The one place where such a mask is made.
-const MASKS: [u64; 65] = [
+// The masks of a word's first k cells, k from 0 to 64. The one place where such a mask is made. A function that names it lays it out
+// on its stack; whoever sets many ranges does so once and lends it.
+pub const MASKS: [u64; 65] = [
     0x0,
     0x1,
     0x3,
@@ -100,46 +102,47 @@ const MASKS: [u64; 65] = [
 ];
 
 // The mask of a word's first k cells.
-fn first_bits(k: usize) -> u64
-    requires { ⌜ k ≤ 64 ⌝ }
+fn first_bits(table: &[u64], k: usize) -> u64
+    requires { ⌜ (now table ≡ masks) × (k ≤ 64) ⌝ }
     ensures { λ r. ⌜ r ≡ 2 ^ k - 1 ⌝ }
     ensures { λ r. ⌜ Span 0 k r ⌝ }
 {
-    MASKS[k]
+    table[k]
 }
 
 // The bits lo up to hi.
-fn span(lo: usize, hi: usize) -> u64
-    requires { ⌜ (lo ≤ 64) × (hi ≤ 64) ⌝ }
+fn span(table: &[u64], lo: usize, hi: usize) -> u64
+    requires { ⌜ (now table ≡ masks) × ((lo ≤ 64) × (hi ≤ 64)) ⌝ }
     ensures { λ r. ⌜ Span lo hi r ⌝ }
 {
-    first_bits(hi) & !first_bits(lo)
+    first_bits(table, hi) & !first_bits(table, lo)
 }
 
 // Sets the bits lo up to hi of word w.
-fn add_bits(words: &mut [u64], w: usize, lo: usize, hi: usize)
-    requires { ⌜ (w < length (now words)) × ((lo < 64) × (hi ≤ 64)) ⌝ }
+fn add_bits(table: &[u64], words: &mut [u64], w: usize, lo: usize, hi: usize)
+    requires { ⌜ (now table ≡ masks) × ((w < length (now words)) × ((lo < 64) × (hi ≤ 64))) ⌝ }
     ensures { λ _. ⌜ RangeAdded (64 * w + lo) (64 * w + hi) (now (words .entry)) (now (words .exit)) ⌝ }
 {
-    let m = span(lo, hi);
+    let m = span(table, lo, hi);
     words[w] = words[w] | m;
 }
 
 // Sets all cells of the words a up to b.
-fn add_words(words: &mut [u64], a: usize, b: usize)
-    requires { ⌜ (a ≤ b) × (b ≤ length (now words)) ⌝ }
+fn add_words(table: &[u64], words: &mut [u64], a: usize, b: usize)
+    requires { ⌜ (now table ≡ masks) × ((a ≤ b) × (b ≤ length (now words))) ⌝ }
     ensures { λ _. ⌜ RangeAdded (64 * a) (64 * b) (now (words .entry)) (now (words .exit)) ⌝ }
 {
+    let full = first_bits(table, 64);
     let mut w = a;
     while w < b {
-        words[w] = first_bits(64);
+        words[w] = full;
         w += 1;
     }
 }
 
-// Sets the cells s up to e.
-pub fn add_range(words: &mut [u64], s: usize, e: usize)
-    requires { ⌜ (s ≤ e) × ((e ≤ 64 * length (now words)) × (length (now words) ≤ 65536)) ⌝ }
+// Sets the cells s up to e, by the table of masks that is lent.
+pub fn add_range_by(table: &[u64], words: &mut [u64], s: usize, e: usize)
+    requires { ⌜ (now table ≡ masks) × ((s ≤ e) × ((e ≤ 64 * length (now words)) × (length (now words) ≤ 65536))) ⌝ }
     ensures { λ _. ⌜ RangeAdded s e (now (words .entry)) (now (words .exit)) ⌝ }
 {
     if e <= s {
@@ -148,14 +151,23 @@ pub fn add_range(words: &mut [u64], s: usize, e: usize)
     let a = s / 64;
     let b = e / 64;
     if a == b {
-        add_bits(words, a, s % 64, e % 64);
+        add_bits(table, words, a, s % 64, e % 64);
         return;
     }
-    add_bits(words, a, s % 64, 64);
-    add_words(words, a + 1, b);
+    add_bits(table, words, a, s % 64, 64);
+    add_words(table, words, a + 1, b);
     if e % 64 != 0 {
-        add_bits(words, b, 0, e % 64);
+        add_bits(table, words, b, 0, e % 64);
     }
+}
+
+// Sets the cells s up to e.
+pub fn add_range(words: &mut [u64], s: usize, e: usize)
+    requires { ⌜ (s ≤ e) × ((e ≤ 64 * length (now words)) × (length (now words) ≤ 65536)) ⌝ }
+    ensures { λ _. ⌜ RangeAdded s e (now (words .entry)) (now (words .exit)) ⌝ }
+{
+    let table = MASKS;
+    add_range_by(&table, words, s, e);
 }
 
 // Whether cell x is set.

@@ -6,12 +6,14 @@ ghost use Prim.Native.Nat.{_+_, _*_, _/_, _≤_};
 ghost use lib.ListN.{length, drop};
 ghost use Rattle.tender.specs.Limits.{allLawful};
 ghost use Rattle.tender.specs.Tables.{windowsOf, windowWidth};
+ghost use Rattle.cells.specs.Masks.{masks};
 ghost use Rattle.runs.specs.MinuteRows.{rowWords, rowCells, Empty, Full, Minutes, NextRun};
 
-// Sets the minutes of the windows from `first` on, `count` of them, in a row that has none.
-fn add_windows(windows: &[u64], first: usize, count: usize, row: &mut [u64])
+// Sets the minutes of the windows from `first` on, `count` of them, in a row that has none, by the table of masks.
+fn add_windows(table: &[u64], windows: &[u64], first: usize, count: usize, row: &mut [u64])
     requires { ⌜ (first + count ≤ length (now windows) / windowWidth)
         × ((allLawful (windowsOf count (drop (windowWidth * first) (now windows))) ≡ true) × Empty (now row)) ⌝ }
+    requires { ⌜ now table ≡ masks ⌝ }
     ensures { λ _. ⌜ Minutes (windowsOf count (drop (windowWidth * first) (now (windows .entry)))) (now (row .exit)) ⌝ }
 {
     let mut j = 0;
@@ -19,7 +21,7 @@ fn add_windows(windows: &[u64], first: usize, count: usize, row: &mut [u64])
         let at = tender::WINDOW_WIDTH * (first + j);
         let start = windows[at] as usize;
         let end = windows[at + 1] as usize;
-        cells::add_range(row, start, end);
+        cells::add_range_by(table, row, start, end);
         j += 1;
     }
 }
@@ -30,8 +32,9 @@ pub fn minutes(windows: &[u64], first: usize, count: usize, row: &mut [u64])
         × ((allLawful (windowsOf count (drop (windowWidth * first) (now windows))) ≡ true) × (length (now row) ≡ rowWords)) ⌝ }
     ensures { λ _. ⌜ Minutes (windowsOf count (drop (windowWidth * first) (now (windows .entry)))) (now (row .exit)) ⌝ }
 {
+    let table = cells::MASKS;
     cells::clear(row);
-    add_windows(windows, first, count, row);
+    add_windows(&table, windows, first, count, row);
 }
 
 // The minutes from `start` to `end` - 1; none where the two are equal.

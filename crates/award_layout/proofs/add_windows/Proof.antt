@@ -12,20 +12,20 @@ use Rattle.award_layout.proofs.add_windows.Statement.{statement}
 use Rattle.award_layout.proofs.add_windows.Tie as tie
 use Rattle.award_layout.proofs.add_windows.Reads as reads
 use Rattle.award_layout.proofs.add_windows.Lts as lts
-use Rattle.cells.proofs.add_range.Reads as add-range-reads
+use Rattle.cells.proofs.add_range_by.Reads as add-range-by-reads
 use Rattle.award_layout.proofs.clip.Reads as clip-reads
 
 abbrev Inv-loop : tie.InvT-loop
-Inv-loop tender windows first count words₀ j₀ words j = (length words ≡ length words₀)
+Inv-loop tender table windows first count words₀ j₀ words j = (length words ≡ length words₀)
     × ((rowsAhead windows first count j ≡ true) × Masking tender windows first count j words)
 
 abbrev μ-loop : tie.MeasureT-loop
-μ-loop tender windows first count words₀ j₀ words j = count - j
+μ-loop tender table windows first count words₀ j₀ words j = count - j
 
 loop-holds : tie.Need-loop-holds Inv-loop μ-loop
 loop-holds c =
-    let args = c .before .before .args in
-    let pre = c .before .before .pre in (
+    let args = c .before .before .before .args in
+    let pre = c .before .before .before .pre .0 in (
       refl,
       (
         ahead-start (args .windows .now) (args .first) (args .count) ∙ pre .1 .0,
@@ -66,30 +66,33 @@ shared-slice-read-clip-2 c = omega arith
 clip-requires-2 : tie.Need-clip-requires-2 Inv-loop μ-loop
 clip-requires-2 c κs = omega arith
 
-add-range-requires : tie.Need-add-range-requires Inv-loop μ-loop
-add-range-requires c κs =
+add-range-by-requires : tie.Need-add-range-by-requires Inv-loop μ-loop
+add-range-by-requires c κs =
     let c5 = c .before .before .before .before .before in
     let c6 = c5 .before in
-    let c9 = c6 .before .before .before in
+    let c9 = c6 .before .before .before .before in
     let args = c9 .args in
-    let pre = c9 .pre in
+    let pre = c9 .pre .0 in
     let h = here-lawful (args .windows .now) (args .first) (args .count) (c6 .loop .j) (c5 .loop-test .taken) (c6 .loop .inv .1 .0) in (
-      omega (
-        arith,
-        c .before .before .before .clip .ensures,
-        c .before .clip2 .ensures,
-        clip-order (args .tender) _ _ (h .0),
-      ),
+      c9 .pre .1,
       (
         omega (
           arith,
+          c .before .before .before .clip .ensures,
           c .before .clip2 .ensures,
-          clip-inside (args .tender)
-              (windowAt (args .windows .now) (args .first + c6 .loop .j) .end),
-          pre .1 .1 .0,
-          c6 .loop .inv .0,
+          clip-order (args .tender) _ _ (h .0),
         ),
-        omega (arith, pre .1 .1 .1 .0, c6 .loop .inv .0),
+        (
+          omega (
+            arith,
+            c .before .clip2 .ensures,
+            clip-inside (args .tender)
+                (windowAt (args .windows .now) (args .first + c6 .loop .j) .end),
+            pre .1 .1 .0,
+            c6 .loop .inv .0,
+          ),
+          omega (arith, pre .1 .1 .1 .0, c6 .loop .inv .0),
+        ),
       ),
     )
 
@@ -105,17 +108,17 @@ loop-again c =
     let c6 = c4 .before .before in
     let c8 = c6 .before .before in
     let c9 = c8 .before in
-    let c12 = c9 .before .before .before in
+    let c12 = c9 .before .before .before .before in
     let args = c12 .args in
     let h = here-lawful (args .windows .now) (args .first) (args .count) (c9 .loop .j) (c8 .loop-test .taken) (c9 .loop .inv .1 .0) in (
-      c .before .before .add-range .kept .0 ∙ c9 .loop .inv .0,
+      c .before .before .add-range-by .kept .1 .0 ∙ c9 .loop .inv .0,
       (
         h .1,
         masking-more (args .tender) (args .windows .now) (args .first) (args .count) (c9 .loop .j) (c9 .loop .words)
-            (c .before .before .add-range .last .0) (c6 .clip .result) (c4 .clip2 .result) (c9 .loop .inv .1 .1) (c8 .loop-test .taken)
+            (c .before .before .add-range-by .last .1 .0) (c6 .clip .result) (c4 .clip2 .result) (c9 .loop .inv .1 .1) (c8 .loop-test .taken)
             (c6 .clip .ensures) (c4 .clip2 .ensures) (omega
             (arith, c6 .clip .ensures, c4 .clip2 .ensures, clip-order (args .tender) _ _ (h .0)))
-            (c .before .before .add-range .ensures),
+            (c .before .before .add-range-by .ensures),
       ),
     )
 
@@ -124,8 +127,8 @@ same-length c = c .before .loop .inv .0
 
 returns : tie.Need-returns Inv-loop μ-loop
 returns c =
-    let c4 = c .before .before .before .before in
-    let args = c4 .args in
+    let c5 = c .before .before .before .before .before in
+    let args = c5 .args in
     masking-ends (args .tender) (args .windows .now) (args .first) (args .count) (c .before .loop .j)
     (c .before .loop .words) (c .before .loop .inv .1 .1) (c .loop-test .left)
 
@@ -147,7 +150,7 @@ add-windows-spec =
     mul-clip-4
     shared-slice-read-clip-2
     clip-requires-2
-    add-range-requires
+    add-range-by-requires
     add-j
     loop-less
     loop-again

@@ -13,16 +13,14 @@ clear-requires c κs = search needs
 
 add-windows-requires : tie.Need-add-windows-requires
 add-windows-requires c κs =
-    let c7 = c .before .before .before .before .before .before .before in
-    let pre = c7 .pre in (
-      pre .0,
+    let cleared = c .before .before .before .clear in
+    let c8 = c .before .before .before .before .before .before .before .before in
+    let pre = c8 .pre .0 in (
       (
-        pre .1 .0,
-        (
-          omega (arith, c .before .before .before .clear .kept .0),
-          (omega (arith, c .before .before .before .clear .kept .0), c .before .before .before .clear .ensures .none),
-        ),
+        pre .0,
+        (pre .1 .0, (omega (arith, cleared .kept .0), (omega (arith, cleared .kept .0), cleared .ensures .none))),
       ),
+      c8 .pre .1,
     )
 
 same-length : tie.Need-same-length

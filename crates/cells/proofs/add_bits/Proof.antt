@@ -28,7 +28,7 @@ same-length c = search needs
 
 returns : tie.Need-returns
 returns c =
-    let args = c .before .before .before .args in
+    let args = c .before .before .before .before .args in
     bits-added (args .words .now) (args .w) (omega arith) (args .lo) (args .hi) (c .before .span .result) (omega arith) (omega arith)
     (c .before .span .ensures)
 

@@ -12,16 +12,19 @@ use Rattle.cells.proofs.add_words.Reads as reads
 use Rattle.cells.proofs.add_words.Lts as lts
 
 abbrev Inv-loop : tie.InvT-loop
-Inv-loop words₀ a b w₀ words w = (a ≤ w) × ((w ≤ b) × ((length words ≡ length words₀) × RangeAdded (64 * a) (64 * w) words₀ words))
+Inv-loop table words₀ a b full w₀ words w =
+    (a ≤ w) × ((w ≤ b) × ((length words ≡ length words₀) × RangeAdded (64 * a) (64 * w) words₀ words))
 
 abbrev μ-loop : tie.MeasureT-loop
-μ-loop words₀ a b w₀ words w = b - w
-
-loop-holds : tie.Need-loop-holds Inv-loop μ-loop
-loop-holds c = (omega arith, (omega arith, (refl, filled-none (64 * c .before .args .a) (c .before .args .words .now))))
+μ-loop table words₀ a b full w₀ words w = b - w
 
 first-bits-requires : tie.Need-first-bits-requires Inv-loop μ-loop
 first-bits-requires c κs = search needs
+
+loop-holds : tie.Need-loop-holds Inv-loop μ-loop
+loop-holds c =
+    let args = c .before .before .before .args in
+    (omega arith, (omega arith, (refl, filled-none (64 * args .a) (args .words .now))))
 
 mul-words : tie.Need-mul-words Inv-loop μ-loop
 mul-words c = omega arith
@@ -37,14 +40,15 @@ loop-less c = omega arith
 
 loop-again : tie.Need-loop-again Inv-loop μ-loop
 loop-again c =
-    let loop = c .before .before .loop in (
+    let loop = c .before .loop in
+    let full = c .before .before .first-bits in (
       omega arith,
       (
         omega arith,
         (
           simp length-set (loop .inv .1 .1 .0),
           filled-join (omega arith) (omega arith) (loop .inv .1 .1 .1)
-              (whole-added (loop .words) (loop .w) (omega arith) (c .first-bits .result) (c .first-bits .ensures .1)),
+              (whole-added (loop .words) (loop .w) (omega arith) (full .result) (full .ensures .1)),
         ),
       ),
     )
@@ -53,7 +57,8 @@ same-length : tie.Need-same-length Inv-loop μ-loop
 same-length c = c .before .loop .inv .1 .1 .0
 
 returns : tie.Need-returns Inv-loop μ-loop
-returns c = let e : c .before .loop .w ≡ c .before .before .before .args .b = omega arith in rw (← e) (c .before .loop .inv .1 .1 .1)
+returns c =
+    let e : c .before .loop .w ≡ c .before .before .before .before .before .args .b = omega arith in rw (← e) (c .before .loop .inv .1 .1 .1)
 
 pub add-words-spec : {M : Type 1} → statement M
 add-words-spec =
@@ -61,8 +66,8 @@ add-words-spec =
     (tie.spec
     Inv-loop
     μ-loop
-    loop-holds
     first-bits-requires
+    loop-holds
     mul-words
     slice-write-words
     add-w

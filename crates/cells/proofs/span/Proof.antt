@@ -18,7 +18,7 @@ first-bits-requires-2 c κs = search needs
 
 returns : tie.Need-returns
 returns c =
-    let args = c .before .before .args in
+    let args = c .before .before .before .args in
     let e1 : c .before .first-bits .result ≡ 2 ^ args .hi - 1 = c .before .first-bits .ensures .0 in
     let e2 : c .first-bits2 .result ≡ 2 ^ args .lo - 1 = c .first-bits2 .ensures .0 in
     rw (e1, e2) (span-of (args .lo) (args .hi) (omega arith) (omega arith))
