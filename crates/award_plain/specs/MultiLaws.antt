@@ -30,8 +30,8 @@ use Rattle.award_check.specs.Auction.{Auction, auctionOf}
 use Rattle.award_check.specs.AuctionLaws.{entries, price-named, cells-are}
 use Rattle.award_layout.specs.Orderly.{Orderly}
 use Rattle.award_layout.specs.LayoutLaws.{orderly}
-use Rattle.award_lay.specs.Lay.{LaidMasks}
-use Rattle.award_lay.specs.LayLaws.{Words, words-of}
+use Rattle.award_laid.specs.Lay.{LaidMasks}
+use Rattle.award_laid.specs.LayLaws.{Words, words-of}
 use Rattle.tender.specs.declared.Answer.the-variants.{Awarded}
 use Rattle.award_plain.specs.Sums.{totalsIn}
 use Rattle.award_plain.specs.Plain.{PlainPromise}

@@ -23,7 +23,7 @@ use Rattle.award_check.specs.Cells.{cellsOf}
 use Rattle.award_check.specs.Auction.{Auction, auctionOf}
 use Rattle.award_check.specs.AuctionLaws.{entries, cells-are}
 use Rattle.award_layout.specs.LayoutLaws.{orderly}
-use Rattle.award_lay.specs.Lay.{LaidSpans}
+use Rattle.award_laid.specs.Lay.{LaidSpans}
 use Rattle.award_plain.specs.Award.{coversIn}
 use Rattle.award_plain.specs.Sums.{totalsIn}
 use Rattle.award_plain.specs.Plain.{PlainPromise}

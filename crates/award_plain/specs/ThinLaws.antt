@@ -44,10 +44,10 @@ module _ (k : Kind) (t : Tender) (n : ℕ) (bids windows : List ℕ) (thin : Thi
   enough e = rw (cells-are t n bids windows) (subst (Says (A .has) n (cellsOf t)) e s)
 
   module _ (f : faultOf k t n bids windows ≡ none) (ow oc : List ℕ) where
-    pub uncovered : (x : ℕ) → thin ≡ Nobody x
+    pub tells-eleven : (x : ℕ) → thin ≡ Nobody x
         → PlainPromise k t n bids windows n ow oc ow oc (Refused (MinuteUncovered (minuteOf t x)))
-    uncovered x e = eleven k t n bids windows n ow oc f (omega arith) x (rw (cells-are t n bids windows) (at-bare x e))
+    tells-eleven x e = eleven k t n bids windows n ow oc f (omega arith) x (rw (cells-are t n bids windows) (at-bare x e))
 
-    pub lone : (x : ℕ) → thin ≡ Alone x → PlainPromise k t n bids windows n ow oc ow oc (Refused (OneBidder (minuteOf t x)))
-    lone x e = let h = at-lone x e in twelve k t n bids windows n ow oc f (omega arith) x (rw (cells-are t n bids windows) (h .0))
+    pub tells-twelve : (x : ℕ) → thin ≡ Alone x → PlainPromise k t n bids windows n ow oc ow oc (Refused (OneBidder (minuteOf t x)))
+    tells-twelve x e = let h = at-lone x e in twelve k t n bids windows n ow oc f (omega arith) x (rw (cells-are t n bids windows) (h .0))
         (rw (cells-are t n bids windows) (h .1))

@@ -92,7 +92,7 @@ fn multi_in(
         (length (now (prices .entry)))
         (now (won .entry)) (now (cents .entry)) (now (won .exit)) (now (cents .exit)) r ⌝ }
 {
-    let thin = award_lay::lay_masks(tender, w, bids, windows, prices, masks);
+    let thin = award_laid::lay_masks(tender, w, bids, windows, prices, masks);
     match thin {
         // 11: a minute in no bid.
         Thin::Nobody { cell } => Answer::Refused(Refusal::MinuteUncovered {
@@ -158,7 +158,7 @@ fn single_in(
         (length (now (prices .entry)))
         (now (won .entry)) (now (cents .entry)) (now (won .exit)) (now (cents .exit)) r ⌝ }
 {
-    let thin = award_lay::lay_spans(tender, bids, windows, prices, starts, ends);
+    let thin = award_laid::lay_spans(tender, bids, windows, prices, starts, ends);
     match thin {
         // 11: a minute in no bid.
         Thin::Nobody { cell } => Answer::Refused(Refusal::MinuteUncovered {

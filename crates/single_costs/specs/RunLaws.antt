@@ -21,7 +21,7 @@ use Rattle.single_lead.specs.Costs.{noCost, costIn, plusPrice}
 use Rattle.single_lead.specs.CostsLaws.{cost-found, cost-more}
 use Rattle.single_lead.specs.Live.{On}
 use Rattle.single_lead.specs.LiveLaws.{live-below, on-more}
-use Rattle.single_lead.specs.Lead.{leastCost, Seen, Led, same, anew}
+use Rattle.single_lead.specs.Lead.{leadCost, Seen, Led, same, anew}
 use Rattle.single_lead.specs.LeadLaws.{leading-more, led-ready}
 use Rattle.single_costs.specs.Run.{entry, Running, ReadyCost, Ran}
 
@@ -51,7 +51,7 @@ module _ (k : ℕ) (a b ps order costs old : List ℕ) (h : Bids a b ps order) (
 
   cost-least : (w : ℕ) (sets : List ℕ) (r : ℕ) → 0 < t → Seen w a b old costs sets (length ps) t m r
       → costIn (getD costs r 0) ≡ costWithout k a b ps t
-  unfolding leastCost
+  unfolding leadCost
   cost-least w sets r z s = s .cheapest
       ∙ scan-without k a b ps (λ j. getD old j 0) (λ j. costIn (getD costs (getD old j 0) 0)) m t z below
       (λ i d u e. let y = ready (length ps) (λ i. getD a i 0) (λ q. getD order q 0) (h .sorted) q l i d u in

@@ -14,9 +14,9 @@ use Rattle.single_lead.specs.Rows.{weight, Honest}
 use Rattle.single_lead.specs.Live.{On, Thinned, Live}
 
 -- the least cost at the places below j of xs whose bids reach t
-unfoldable pub leastCost : List ℕ → List ℕ → List ℕ → List ℕ → ℕ → ℕ → Found
+unfoldable pub leadCost : List ℕ → List ℕ → List ℕ → List ℕ → ℕ → ℕ → Found
 unfolding scanCost reaches costIn
-leastCost a b xs costs t j = scanCost (reaches (λ i. getD a i 0) (λ i. getD b i 0) anyBid (λ q. getD xs q 0) t)
+leadCost a b xs costs t j = scanCost (reaches (λ i. getD a i 0) (λ i. getD b i 0) anyBid (λ q. getD xs q 0) t)
     (λ q. costIn (getD costs (getD xs q 0) 0)) j
 
 -- and the least weight
@@ -38,7 +38,7 @@ pub record Seen (w : ℕ) (a b xs costs sets : List ℕ) (n t j r : ℕ) : Type 
   pub within : r ≤ n
   pub found-at : (r ≡ n → ⊥) → Reaches a b xs j t r
   pub priced : getD costs r 0 ≡ noCost → r ≡ n
-  pub cheapest : costIn (getD costs r 0) ≡ leastCost a b xs costs t j
+  pub cheapest : costIn (getD costs r 0) ≡ leadCost a b xs costs t j
   pub lightest : (cost : ℕ → ℕ) → ((q : ℕ) → q < j → Honest cost w costs sets (getD xs q 0))
       → Honest cost w costs sets r × (weight w costs sets r ≡ leastWeight cost w a b xs costs sets t j)
 

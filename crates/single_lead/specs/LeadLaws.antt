@@ -15,12 +15,12 @@ use Rattle.single_lead.specs.Rows.{setIn, weigh, weight, Honest, before?
 use Rattle.single_lead.specs.RowsLaws.{prefer-cost, prefer-lesser, prefer-honest}
 use Rattle.single_lead.specs.Live.{Live}
 use Rattle.single_lead.specs.LiveLaws.{live-more, live-thinned}
-use Rattle.single_lead.specs.Lead.{leastCost, leastWeight, Reaches, Seen, endOf, Led, same, anew, Leading, Ready}
+use Rattle.single_lead.specs.Lead.{leadCost, leastWeight, Reaches, Seen, endOf, Led, same, anew, Leading, Ready}
 
 -- the scan
 
 pub seen-none : (w : ℕ) (a b xs costs sets : List ℕ) (n t : ℕ) → getD costs n 0 ≡ noCost → Seen w a b xs costs sets n t 0 n
-unfolding leastCost leastWeight weight weigh scan scanCost costIn foundCost
+unfolding leadCost leastWeight weight weigh scan scanCost costIn foundCost
 seen-none w a b xs costs sets n t e = record {
   within = omega arith;
   found-at = λ d. absurd (d refl);
@@ -88,8 +88,8 @@ module _ (w : ℕ) (a b xs costs sets : List ℕ) (n t j r : ℕ) (f : (q : ℕ)
   next-priced true false e d = h .priced d
 
   next-cheapest : (c : Bool) → reach? ≡ c → costIn (getD costs (cond c (prefer w costs sets q r) r) 0)
-      ≡ leastCost a b xs costs t (suc j)
-  unfolding leastCost scanCost reaches
+      ≡ leadCost a b xs costs t (suc j)
+  unfolding leadCost scanCost reaches
   next-cheapest true e = rw e (prefer-cost w costs sets q r f ∙ ap (lesserCost (costIn (getD costs q 0))) (h .cheapest))
   next-cheapest false e = rw e (h .cheapest)
 

@@ -4,15 +4,15 @@ use native.Mathlib.Omega.{arith}
 use lib.ListN.{length}
 use Rattle.tender.specs.declared.Kind.the-variants.{Multi}
 use Rattle.award_layout.specs.LayoutLaws.{cells-within}
-use Rattle.award_lay.specs.LayLaws.{words-of}
-use Rattle.award_plain.specs.ThinLaws.{bare-inside, lone-inside, uncovered, lone}
+use Rattle.award_laid.specs.LayLaws.{words-of}
+use Rattle.award_plain.specs.ThinLaws.{bare-inside, lone-inside, tells-eleven, tells-twelve}
 use Rattle.award_plain.specs.MultiLaws.{market, settled}
 use borrow.Author.Needs.{needs}
 use Rattle.award_plain.proofs.multi_in.Statement.{statement}
 use Rattle.award_plain.proofs.multi_in.Tie as tie
 use Rattle.award_plain.proofs.multi_in.Reads as reads
 use Rattle.award_plain.proofs.multi_in.Lts as lts
-use Rattle.award_lay.proofs.lay_masks.Reads as lay-masks-reads
+use Rattle.award_laid.proofs.lay_masks.Reads as lay-masks-reads
 use Rattle.award_layout.proofs.cells.Reads as cells-reads
 use Rattle.award_layout.proofs.minute.Reads as minute-reads
 use Rattle.award_plain.proofs.totals.Reads as totals-reads
@@ -100,7 +100,7 @@ returns : tie.Need-returns
 returns c =
     let c8 = c .before .before .before .before .before .before .before .before in
     let c17 = c8 .before .before .before .before .before .before .before .before .before in
-    let A = c17 .args in rw (c .minute .ensures) (uncovered Multi (A .tender) (length (A .prices .now)) (A .bids .now)
+    let A = c17 .args in rw (c .minute .ensures) (tells-eleven Multi (A .tender) (length (A .prices .now)) (A .bids .now)
     (A .windows .now) _ (c8 .lay-masks .ensures .thin-is) (c17 .pre .0) (A .won .now) (A .cents .now) _
     (c .before .before .thin .given .1))
 
@@ -114,7 +114,7 @@ returns-2 : tie.Need-returns-2
 returns-2 c =
     let c8 = c .before .before .before .before .before .before .before .before in
     let c17 = c8 .before .before .before .before .before .before .before .before .before in
-    let A = c17 .args in rw (c .minute2 .ensures) (lone Multi (A .tender) (length (A .prices .now)) (A .bids .now) (A .windows .now) _
+    let A = c17 .args in rw (c .minute2 .ensures) (tells-twelve Multi (A .tender) (length (A .prices .now)) (A .bids .now) (A .windows .now) _
     (c8 .lay-masks .ensures .thin-is) (c17 .pre .0) (A .won .now) (A .cents .now) _ (c .before .before .thin2 .given .1))
 
 same-length-5 : tie.Need-same-length-5

@@ -5,14 +5,14 @@ use native.Mathlib.Omega.{arith}
 use lib.ListN.{length}
 use Rattle.tender.specs.declared.Kind.the-variants.{Single}
 use Rattle.award_layout.specs.LayoutLaws.{cells-within}
-use Rattle.award_plain.specs.ThinLaws.{bare-inside, lone-inside, uncovered, lone}
+use Rattle.award_plain.specs.ThinLaws.{bare-inside, lone-inside, tells-eleven, tells-twelve}
 use Rattle.award_plain.specs.SingleLaws.{lawful-prices, prices-sum, settled}
 use borrow.Author.Needs.{needs}
 use Rattle.award_plain.proofs.single_in.Statement.{statement}
 use Rattle.award_plain.proofs.single_in.Tie as tie
 use Rattle.award_plain.proofs.single_in.Reads as reads
 use Rattle.award_plain.proofs.single_in.Lts as lts
-use Rattle.award_lay.proofs.lay_spans.Reads as lay-spans-reads
+use Rattle.award_laid.proofs.lay_spans.Reads as lay-spans-reads
 use Rattle.award_layout.proofs.cells.Reads as cells-reads
 use Rattle.award_layout.proofs.minute.Reads as minute-reads
 use Rattle.award_plain.proofs.totals.Reads as totals-reads
@@ -106,7 +106,7 @@ returns : tie.Need-returns
 returns c =
     let c10 = c .before .before .before .before .before .before .before .before .before .before in
     let c21 = c10 .before .before .before .before .before .before .before .before .before .before .before in
-    let A = c21 .args in rw (c .minute .ensures) (uncovered Single (A .tender) (length (A .prices .now)) (A .bids .now)
+    let A = c21 .args in rw (c .minute .ensures) (tells-eleven Single (A .tender) (length (A .prices .now)) (A .bids .now)
     (A .windows .now) _ (c10 .lay-spans .ensures .thin-is) (c21 .pre .0) (A .won .now) (A .cents .now) _
     (c .before .before .thin .given .1))
 
@@ -123,7 +123,7 @@ returns-2 : tie.Need-returns-2
 returns-2 c =
     let c10 = c .before .before .before .before .before .before .before .before .before .before in
     let c21 = c10 .before .before .before .before .before .before .before .before .before .before .before in
-    let A = c21 .args in rw (c .minute2 .ensures) (lone Single (A .tender) (length (A .prices .now)) (A .bids .now)
+    let A = c21 .args in rw (c .minute2 .ensures) (tells-twelve Single (A .tender) (length (A .prices .now)) (A .bids .now)
     (A .windows .now) _ (c10 .lay-spans .ensures .thin-is) (c21 .pre .0) (A .won .now) (A .cents .now) _
     (c .before .before .thin2 .given .1))
 

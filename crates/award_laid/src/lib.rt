@@ -9,7 +9,7 @@ ghost use lib.ListN.{length};
 ghost use Rattle.tender.specs.declared.Kind.the-variants.{Single, Multi};
 ghost use Rattle.award_check.specs.Faults.{faultOf};
 ghost use Rattle.award_check.specs.Cells.{cellsOf};
-ghost use Rattle.award_lay.specs.Lay.{LaidSpans, LaidMasks};
+ghost use Rattle.award_laid.specs.Lay.{LaidSpans, LaidMasks};
 
 // A single tender as prices, starts and ends.
 pub fn lay_spans(

@@ -1,15 +1,15 @@
--- `award_lay::lay_masks` meets its contract: prices and words are laid out, and the cells are asked. Assumes nothing.
+-- `award_laid::lay_masks` meets its contract: prices and words are laid out, and the cells are asked. Assumes nothing.
 use mathlib.Core.Path.{_∙_}
 use native.Mathlib.Omega.{arith}
 use lib.ListN.{length}
 use Rattle.tender.specs.declared.Kind.the-variants.{Multi}
 use Rattle.award_layout.specs.LayoutLaws.{orderly, cells-within}
-use Rattle.award_lay.specs.LayLaws.{words-of, lays-masks}
+use Rattle.award_laid.specs.LayLaws.{words-of, lays-masks}
 use borrow.Author.Needs.{needs}
-use Rattle.award_lay.proofs.lay_masks.Statement.{statement}
-use Rattle.award_lay.proofs.lay_masks.Tie as tie
-use Rattle.award_lay.proofs.lay_masks.Reads as reads
-use Rattle.award_lay.proofs.lay_masks.Lts as lts
+use Rattle.award_laid.proofs.lay_masks.Statement.{statement}
+use Rattle.award_laid.proofs.lay_masks.Tie as tie
+use Rattle.award_laid.proofs.lay_masks.Reads as reads
+use Rattle.award_laid.proofs.lay_masks.Lts as lts
 use Rattle.award_layout.proofs.cells.Reads as cells-reads
 use Rattle.award_layout.proofs.masks.Reads as masks-reads
 use Rattle.award_layout.proofs.prices.Reads as prices-reads

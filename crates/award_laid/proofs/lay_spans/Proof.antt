@@ -1,15 +1,15 @@
--- `award_lay::lay_spans` meets its contract: prices, starts and ends are laid out, and the cells are asked. Assumes nothing.
+-- `award_laid::lay_spans` meets its contract: prices, starts and ends are laid out, and the cells are asked. Assumes nothing.
 use mathlib.Core.Path.{sym, _∙_}
 use native.Mathlib.Omega.{arith}
 use lib.ListN.{length}
 use Rattle.tender.specs.declared.Kind.the-variants.{Single}
 use Rattle.award_layout.specs.LayoutLaws.{orderly, cells-within}
-use Rattle.award_lay.specs.LayLaws.{ordered, lays-spans}
+use Rattle.award_laid.specs.LayLaws.{ordered, lays-spans}
 use borrow.Author.Needs.{needs}
-use Rattle.award_lay.proofs.lay_spans.Statement.{statement}
-use Rattle.award_lay.proofs.lay_spans.Tie as tie
-use Rattle.award_lay.proofs.lay_spans.Reads as reads
-use Rattle.award_lay.proofs.lay_spans.Lts as lts
+use Rattle.award_laid.proofs.lay_spans.Statement.{statement}
+use Rattle.award_laid.proofs.lay_spans.Tie as tie
+use Rattle.award_laid.proofs.lay_spans.Reads as reads
+use Rattle.award_laid.proofs.lay_spans.Lts as lts
 use Rattle.award_layout.proofs.cells.Reads as cells-reads
 use Rattle.award_layout.proofs.prices.Reads as prices-reads
 use Rattle.award_layout.proofs.spans.Reads as spans-reads

@@ -16,7 +16,7 @@ use Rattle.award_check.specs.Faults.{faultOf}
 use Rattle.award_check.specs.Cells.{cellsOf}
 use Rattle.award_layout.specs.Orderly.{Orderly, PricesLaid, SpansLaid, AllMasked}
 use Rattle.award_layout.specs.LayoutLaws.{orderly, cells-within, prices-laid, spans-have, spans-ordered, spans-inside, masks-have}
-use Rattle.award_lay.specs.Lay.{LaidSpans, LaidMasks}
+use Rattle.award_laid.specs.Lay.{LaidSpans, LaidMasks}
 
 -- the words that a tender's cells need
 pub record Words (t : Tender) (w : ℕ) : Type 0 where
