@@ -1,2 +1,3 @@
 pub mod LocalArray
 pub mod PassesKind
+pub mod WalkSteps

@@ -71,6 +71,35 @@ fn rows_filled(answer: Answer, count: usize) -> usize
     }
 }
 
+// What an award settles: its answer, and how many award rows it fills.
+struct Settled {
+    answer: Answer,
+    rows: usize,
+}
+
+// The award of this kind over plain lists, where `lent` award rows are lent, and how many of them it fills.
+fn settle_rows(
+    kind: Kind,
+    tender: Tender,
+    count: usize,
+    bids: &[u64],
+    windows: &[u64],
+    lent: usize,
+    won: &mut [u64],
+    cents: &mut [u64],
+) -> Settled
+    requires { ⌜ (min lent 1000 ≤ length (now won)) × (min lent 1000 ≤ length (now cents)) ⌝ }
+    ensures { λ r. ⌜ PlainPromise kind tender count (now (bids .entry)) (now (windows .entry)) lent (now (won .entry))
+        (now (cents .entry)) (now (won .exit)) (now (cents .exit)) (r .answer)
+        × (r .rows ≡ rowsFilled (r .answer) count) ⌝ }
+{
+    let answer = award_plain::settle_in(kind, tender, count, bids, windows, lent, won, cents);
+    Settled {
+        answer: answer,
+        rows: rows_filled(answer, count),
+    }
+}
+
 // The award of this kind over a lent slice of award rows: settled over lists of its own, and then filled in.
 fn award_in(
     kind: Kind,
@@ -85,7 +114,7 @@ fn award_in(
     let mut won = [1u64; 1000];
     let mut cents = [1u64; 1000];
     let lent = rows.len();
-    let answer = award_plain::settle_in(
+    let settled = settle_rows(
         kind,
         tender,
         count,
@@ -95,9 +124,8 @@ fn award_in(
         &mut won,
         &mut cents,
     );
-    let n = rows_filled(answer, count);
-    fill(rows, &won, &cents, n);
-    answer
+    fill(rows, &won, &cents, settled.rows);
+    settled.answer
 }
 
 // The award of a single tender: one award row filled for each bid, or a refusal, which leaves every row as it was.
