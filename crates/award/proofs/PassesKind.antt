@@ -18,30 +18,30 @@ use prog.Wp.{Heap, WpFn, Tables}
 use ghost.Atoms.{Atoms}
 use contract.Monad.{Fun, fact}
 use sound.WpLaws.{FmC, fmOf, WpFn-mono}
-use types.Kit.{Given, Item, ‵, raw, some, later, _⊛_, ⋆, _$_, _∵_, !, qed, by, move, keep, drop, use1, split, join, pick, fsplit, fjoin}
-use types.Kit.{feqL, suffices, frame, await, done}
+use types.Kit.{Given, Item, ‵, raw, _⊛_, ⋆, _$_, _∵_, !, qed, by, move, keep, drop, use1, join, group, fsplit, fjoin, feqL, suffices}
+use types.Kit.{frame, done}
 use types.Part.{whole, sub, look-in, agg}
-use types.Run.{look, init, forget, stop, hop, fld, from, load, addr, lit, and-then, no-more, assigns, land, returns, enter, alloc1}
-use types.Run.{alloc0, params1, pass1, pass0, free1, free0}
+use types.Run.{look, init, stop, hop, fld, from, load, addr, lit, and-then, no-more, assigns, land, returns, enter, alloc1, alloc0}
+use types.Run.{params1, pass1, pass0, free0}
 use denote.Exit.{yes}
 use denote.RattleType.{owns}
-use denote.Laws.{Is, shows}
+use denote.Laws.{Is}
 use denote.Memory.{pointee}
 use denote.Plain.{uint-vals, uint-tells, uint-makes}
 use denote.Ref.{RefT, now}
-use denote.Slice.{sliceTy, sliceVal, MutSlice, ShrSlice, Room, finally, slice-vals, mut-slice-tells, shr-slice-tells, shr-slice-copy}
-use denote.Signature.{plain}
+use denote.Slice.{sliceTy, sliceVal, MutSlice, ShrSlice, Room, finally, slice-vals, mut-slice-tells, shr-slice-tells}
+use denote.Signature.{plain, shrSliceOf}
 use denote.Builtin.{u64, usize}
 use denote.Enum.Laws as EL
 use denote.Struct.Laws as LL
 use denote.Triple.Entry.{Vals, onEntry}
-use denote.Steps.{nothing, owned, peeks, heard}
+use denote.Steps.{nothing, owned}
 use denote.Triple.Spec.{Meets, tripleOf}
 use denote.Triple.Statement.{Contract, Triple}
 use denote.Triple.Call.{calls-at}
-use denote.Triple.Clauses.{Clauses, closing, ensured, lasts}
-use denote.Triple.Walked.{says, Stays, stay-none, stay-none-slice, gave-slice, walkOf, AllGo, Walks, ends-at, walked, goes-none}
-use denote.Triple.Walked.{goes-none-slice, goes-gave-slice, walk-meets}
+use denote.Triple.Clauses.{Clauses, closing}
+use denote.Triple.Walked.{says, Stays, stay-dropped, gave-slice, walkOf, AllGo, Walks, ends-at, walked, goes-dropped, goes-gave-slice}
+use denote.Triple.Walked.{walk-meets}
 use Rattle.tender.specs.declared.Kind.{Kind}
 use Rattle.tender.specs.declared.Kind.the-variants.{Single, Multi}
 use Rattle.tender.specs.declared.Tender.{Tender}
@@ -57,6 +57,7 @@ use Rattle.tender.proofs.Answer as Ans
 use Rattle.tender.proofs.Answer.Laws as Ans′
 use Rattle.tender.proofs.AwardRow as Row
 use Rattle.tender.proofs.AwardRow.Laws as Row′
+use Rattle.award.proofs.WalkSteps.{spent, answered}
 use Rattle.award.proofs.award_in as award
 use Rattle.award.proofs.award_in.Symbol.{name as #award·award-in}
 use Rattle.award.proofs.award_single as f
@@ -95,14 +96,15 @@ function k = record {
       ∷ copy (place 8 []) ∷ []) (place 0 [])) return)));
 }
 
+-- of the parameters only the rows are still had
 abbrev stayed : Stays (f.ended .signature .params) (f.ended .kept)
 stayed = (
-  stay-none (λ _. Ten.the-row) yes,
+  stay-dropped (plain (λ _. Ten.the-row)) yes,
   (
-    stay-none (λ _. usize) yes,
+    stay-dropped (plain (λ _. usize)) yes,
     (
-      stay-none-slice (0 ∷ []) tt (plain (λ _. u64)) yes,
-      (stay-none-slice (1 ∷ []) tt (plain (λ _. u64)) yes, (gave-slice (2 ∷ []) tt (plain (λ _. Row.the-row)), tt)),
+      stay-dropped (shrSliceOf (0 ∷ []) tt (plain (λ _. u64))) yes,
+      (stay-dropped (shrSliceOf (1 ∷ []) tt (plain (λ _. u64))) yes, (gave-slice (2 ∷ []) tt (plain (λ _. Row.the-row)), tt)),
     ),
   ),
 )
@@ -178,15 +180,13 @@ module _ {M : Type 1} (𝓤 : URA M) (H : Heap 𝓤) (A : Atoms 𝓤) (W : Given
 
     exits : (a : Answer) (va : Val) → Is Ans.the-row a (va ∷ []) → (zr : List AwardRow) → length zr ≡ length ys
         → Promise k t n bs ws ys zr a
-        → ent 𝓤 (⋆ 𝓤 H A (Tokens ∷ Bids ∷ Wins ∷ ‵ (finally Row.the-row γ2 zr) ∷ [])) (Post va)
+        → ent 𝓤 (⋆ 𝓤 H A (Tokens ∷ ‵ (finally Row.the-row γ2 zr) ∷ [])) (Post va)
     exits a va isa zr kr promise =
-        qed W (Tokens ∷ Bids ∷ Wins ∷ ‵ (finally Row.the-row γ2 zr) ∷ []) ∵
+        qed W (Tokens ∷ ‵ (finally Row.the-row γ2 zr) ∷ []) ∵
         suffices ! _ (ends-at 𝓤 H A f.ended stayed (clauses 𝓤 k) W (((κ0, (κ1, (κ2, tt))), (q0, (q1, (q2, tt))), tt, args, at), tt) va a
         (tt, (tt, (tt, (tt, (zr, tt))))) (tt, (tt, (tt, (tt, (kr, tt)))))) $
-        says ! promise $ frame ! $
-        nothing ! $ move ! (3 ∷ 0 ∷ []) $ fjoin ! $ move ! (2 ∷ 0 ∷ []) $ fjoin ! $ move ! (1 ∷ 0 ∷ []) $ fjoin ! $ owned ! usize
-        (Is usize) (uint-makes 𝓤 H A W w64) n (vint w64 n ∷ []) (refl, gn) $ fjoin ! $
-        owned ! Ten.the-row (Is Ten.the-row) (LL.makes Ten.the-type Ten′.the-plain 𝓤 H A) t (vt ∷ []) ist $ fjoin ! $ frame ! $
+        says ! promise $ frame ! $ nothing ! $ move ! (1 ∷ 0 ∷ []) $ fjoin ! $ nothing ! $ fjoin ! $ nothing ! $ fjoin ! $ nothing ! $
+        fjoin ! $ nothing ! $ fjoin ! $ frame ! $
         owned ! Ans.the-row (Is Ans.the-row) (EL.makes Ans.the-type Ans′.the-plain 𝓤 H A) a (va ∷ []) isa $ done !
 
     -- what `award_in` is passed
@@ -222,35 +222,25 @@ module _ {M : Type 1} (𝓤 : URA M) (H : Heap 𝓤) (A : Atoms 𝓤) (W : Given
         assigns ! (agg ! (and-then ! (load ! (from ! (stop !)) (look ! 2 refl))
         (and-then ! (load ! (from ! (fld ! refl (stop !))) (look-in ! 6 (sub ! 1 refl (whole !)))) (no-more !)))) (from ! (stop !))
         (init ! 0 refl (tt, (tt, (record { fits = g2 .0 }, tt)))) $
-        -- what is owned is taken apart; the two tables are had twice
+        -- what is owned is taken apart, and all of it is passed on
         move ! (19 ∷ []) $ fsplit ! $ drop ! $ fsplit ! $ drop ! $ fsplit ! $ move ! (1 ∷ []) $ fsplit ! $ move ! (1 ∷ []) $ fsplit ! $
-        move ! (1 ∷ []) $ drop ! $ move ! (2 ∷ []) $ use1 W (Bids ⊛ Bids) (shr-slice-copy 𝓤 H A W (named 0) κ0 u64 .twice x0 (s0 ∷ []))
-        $ split ! $ move ! (3 ∷ []) $ use1 W (Wins ⊛ Wins) (shr-slice-copy 𝓤 H A W (named 1) κ1 u64 .twice x1 (s1 ∷ [])) $ split ! $
-        move ! (1 ∷ 4 ∷ []) $ join ! $ move ! (3 ∷ 0 ∷ []) $ join ! $ move ! (21 ∷ 0 ∷ []) $ join ! $ use1 W
-        (raw (AwardIn 𝓤 H A at-mem run .pre to-award)) (goes-award) $ calls-at ! fm (AwardIn 𝓤 H A at-mem run) known to-award
-        (and-then ! (load ! (from ! (stop !)) (look ! 7 refl))
-        (and-then ! (load ! (from ! (stop !)) (look ! 17 refl))
+        move ! (1 ∷ []) $ drop ! $ move ! (21 ∷ 2 ∷ 1 ∷ 0 ∷ []) $ group ! 4 $ use1 W (raw (AwardIn 𝓤 H A at-mem run .pre to-award))
+        (goes-award) $ calls-at ! fm (AwardIn 𝓤 H A at-mem run) known to-award
+        (and-then ! (load ! (from ! (stop !)) (look ! 5 refl))
         (and-then ! (load ! (from ! (stop !)) (look ! 15 refl))
         (and-then ! (load ! (from ! (stop !)) (look ! 13 refl))
-        (and-then ! (load ! (from ! (stop !)) (look ! 11 refl)) (and-then ! (load ! (from ! (stop !)) (look ! 3 refl)) (no-more !)))))))
+        (and-then ! (load ! (from ! (stop !)) (look ! 11 refl))
+        (and-then ! (load ! (from ! (stop !)) (look ! 9 refl)) (and-then ! (load ! (from ! (stop !)) (look ! 1 refl)) (no-more !)))))))
         (λ va.
-        use1 W (later (some (λ (r : Answer). (Tokens ⊛ ‵ (Ans.the-row .own r (va ∷ []))) ⊛ raw
-        (ensured 𝓤 H A award.ended (award.clauses 𝓤 H A at-mem run) (κ0, (κ1, (κ2, tt))) (k, args) tt r)))) (id⊢ 𝓤 _) $ await ! tt $
-        pick ! (λ a.
-        split ! $ move ! (1 ∷ []) $ use1 W (some (λ (zs : Left). ‵ (lasts award.ended (κ0, (κ1, (κ2, tt))) (k, args) zs) ⊛ raw
-        (fact 𝓤 (Promise k t n bs ws ys (zs-rows zs) a)))) (id⊢ 𝓤 _) $ pick ! (λ zs.
-        split ! $ move ! (1 ∷ []) $ heard ! (Promise k t n bs ws ys (zs-rows zs) a) (λ e.
+        answered W ! tt award.ended (award.clauses 𝓤 H A at-mem run) to-award va Tokens (id⊢ 𝓤 _)
+        (λ a zs. Promise k t n bs ws ys (zs-rows zs) a) (λ a zs. id⊢ 𝓤 _) (λ a zs e isa.
         fsplit ! $ drop ! $ fsplit ! $ drop ! $ fsplit ! $ drop ! $ fsplit ! $ drop ! $ fsplit ! $ drop ! $ fsplit ! $ fsplit ! $ move !
         (1 ∷ []) $ feqL ! (λ kr.
-        move ! (1 ∷ []) $ drop ! $ move ! (1 ∷ []) $ split ! $ move ! (1 ∷ []) $ peeks ! Ans.the-row (Is Ans.the-row)
-        (shows 𝓤 H A Ans.the-row) a (va ∷ []) (λ isa.
-        drop ! $ land ! (from ! (stop !)) (init ! 20 refl (EL.lawful Ans.the-type Ans′.the-laws 𝓤 H A W tt .typed a _ isa .0)) $
-        returns ! (look ! 20 refl) $ forget ! 20 refl $ forget ! 18 refl $ forget ! 16 refl $ forget ! 14 refl $ forget ! 12 refl $ forget
-        ! 10 refl $ forget ! 8 refl $ forget ! 6 refl $ forget ! 4 refl $
-        move ! (20 ∷ 21 ∷ []) $ free1 ! $ move ! (18 ∷ 19 ∷ []) $ free1 ! $ move ! (16 ∷ 17 ∷ []) $ free1 ! $ move ! (14 ∷ 15 ∷ []) $
-        free1 ! $ move ! (12 ∷ 13 ∷ []) $ free1 ! $ move ! (10 ∷ 11 ∷ []) $ free1 ! $ move ! (8 ∷ 9 ∷ []) $ free1 ! $ move !
-        (6 ∷ 7 ∷ []) $ free1 ! $ move ! (4 ∷ 5 ∷ []) $ free1 ! $ free0 ! $ keep ! (0 ∷ 3 ∷ 2 ∷ 1 ∷ []) $ by !
-        (exits a va isa (zs-rows zs) kr e))))))))))))))))
+        move ! (1 ∷ []) $ drop ! $ land ! (from ! (stop !))
+        (init ! 18 refl (EL.lawful Ans.the-type Ans′.the-laws 𝓤 H A W tt .typed a _ isa .0)) $ returns ! (look ! 18 refl) $
+        spent ! 18 refl refl $ spent ! 16 refl refl $ spent ! 14 refl refl $ spent ! 12 refl refl $ spent ! 10 refl refl $
+        spent ! 8 refl refl $ spent ! 6 refl refl $ spent ! 4 refl refl $ spent ! 2 refl refl $ free0 ! $ keep ! (1 ∷ 0 ∷ []) $ by !
+        (exits a va isa (zs-rows zs) kr e)))))))))))))
 
   passes : (𝓣 : Tables 𝓤 H) → Triple 𝓤 (𝓣 .C #award·award-in) (AwardIn 𝓤 H A at-mem run)
       → Walks 𝓤 H A f.ended stayed (WpFn 𝓤 H (𝓣 .C) (𝓣 .Λ) (function k)) (clauses 𝓤 k)
@@ -278,13 +268,13 @@ module _ {M : Type 1} (𝓤 : URA M) (H : Heap 𝓤) (A : Atoms 𝓤) (W : Given
 
   goes : AllGo 𝓤 H A W 3 (f.signature .params) (f.ended .kept) stayed
   goes = (
-    goes-none 𝓤 H A W 3 (λ _. Ten.the-row) yes (λ κs x f. refl),
+    goes-dropped 𝓤 H A W 3 (plain (λ _. Ten.the-row)) yes (λ κs x f. refl),
     (
-      goes-none 𝓤 H A W 3 (λ _. usize) yes (λ κs x f. refl),
+      goes-dropped 𝓤 H A W 3 (plain (λ _. usize)) yes (λ κs x f. refl),
       (
-        goes-none-slice 𝓤 H A W 3 (0 ∷ []) tt (plain (λ _. u64)) yes,
+        goes-dropped 𝓤 H A W 3 (shrSliceOf (0 ∷ []) tt (plain (λ _. u64))) yes (λ κs x f. refl),
         (
-          goes-none-slice 𝓤 H A W 3 (1 ∷ []) tt (plain (λ _. u64)) yes,
+          goes-dropped 𝓤 H A W 3 (shrSliceOf (1 ∷ []) tt (plain (λ _. u64))) yes (λ κs x f. refl),
           (goes-gave-slice 𝓤 H A W 3 2 tt (plain (λ _. Row.the-row)), tt),
         ),
       ),
