@@ -99,14 +99,8 @@ function k = record {
 -- of the parameters only the rows are still had
 abbrev stayed : Stays (f.ended .signature .params) (f.ended .kept)
 stayed = (
-  stay-dropped (plain (λ _. Ten.the-row)) yes,
-  (
-    stay-dropped (plain (λ _. usize)) yes,
-    (
-      stay-dropped (shrSliceOf (0 ∷ []) tt (plain (λ _. u64))) yes,
-      (stay-dropped (shrSliceOf (1 ∷ []) tt (plain (λ _. u64))) yes, (gave-slice (2 ∷ []) tt (plain (λ _. Row.the-row)), tt)),
-    ),
-  ),
+  stay-dropped _ yes,
+  (stay-dropped _ yes, (stay-dropped _ yes, (stay-dropped _ yes, (gave-slice (2 ∷ []) tt (plain (λ _. Row.the-row)), tt)))),
 )
 
 -- what each promises, of the kind k

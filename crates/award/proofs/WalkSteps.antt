@@ -1,7 +1,7 @@
 -- Steps that walks by hand share.
 --     spent        a local that holds a value is freed
---     answered     a call has returned the machine value v: it is the value of some r, `Says r ws` holds of r and of the last values
---                  ws of what was lent, and its tokens are had again
+--     answered     a call has returned the machine value v: it is that of some r, `Says r ws` holds of r and of the last values ws
+--                  of what was lent, and the tokens are had again
 -- Assumes `Given`.
 use mathlib.Core.Path.{_≡_, refl, sym, subst}
 use Prim.Native.Nat.{ℕ, zero}
@@ -15,8 +15,8 @@ use base.Fml.{fat, fdies}
 use prog.Wp.{Heap, Env}
 use ghost.Atoms.{Atoms}
 use contract.Monad.{fact}
-use types.Kit.{Given, Item, ‵, raw, some, later, _⊛_, ⋆, mean, nth, del, pull, push, Goal, frees, aim, Soaks, Seq, Step, step, _$_, move, use1, split}
-use types.Kit.{pick, await}
+use types.Kit.{Given, Item, ‵, raw, some, later, _⊛_, ⋆, mean, nth, del, pull, push, Goal, frees, aim, Soaks, Seq, Step, step}
+use types.Kit.{_$_, move, use1, split, pick, await}
 use types.Run.{forget, free1}
 use denote.RattleType.{RattleType}
 use denote.Laws.{Is, shows}
@@ -56,8 +56,8 @@ module _ {M : Type 1} {𝓤 : URA M} {H : Heap 𝓤} {A : Atoms 𝓤} {K : Type 
       → Seq K W (‵ (lasts T (y .0 .0) (y .0 .3) ws) ∷ Tokens ∷ Γ) G)
       → Seq K W (raw (tripleOf 𝓤 H A (T .signature) (closing 𝓤 H A T c) .post y v) ∷ Γ) G
   answered t z T c y v Tokens tokens Says says k =
-      use1 W (later (some (λ (r : Res (T .signature) (y .0 .0)). (raw (alive 𝓤 H A (T .signature) (y .0 .0) (y .0 .1)) ⊛ ‵ (R .own r (v ∷ [])))
-      ⊛ raw (ensured 𝓤 H A T c (y .0 .0) (y .0 .3) (y .1) r)))) (id⊢ 𝓤 _) $ await t z $ pick t (λ r.
+      use1 W (later (some (λ (r : Res (T .signature) (y .0 .0)). (raw (alive 𝓤 H A (T .signature) (y .0 .0) (y .0 .1))
+      ⊛ ‵ (R .own r (v ∷ []))) ⊛ raw (ensured 𝓤 H A T c (y .0 .0) (y .0 .3) (y .1) r)))) (id⊢ 𝓤 _) $ await t z $ pick t (λ r.
       split t $ split t $ use1 W Tokens tokens $ move t (1 ∷ []) $ facts t R (Is R) (shows 𝓤 H A R) r (v ∷ []) (λ is.
       move t (1 ∷ []) $ use1 W (some (λ (ws : Lasts T (y .0 .0) (y .0 .3)). ‵ (lasts T (y .0 .0) (y .0 .3) ws)
       ⊛ raw (c (y .0 .0) (y .0 .3) .ensures (y .1) r (atExit T (y .0 .0) (y .0 .3) ws)))) (id⊢ 𝓤 _) $ pick t (λ ws.
