@@ -223,9 +223,9 @@ module _ {M : Type 1} (𝓤 : URA M) (H : Heap 𝓤) (A : Atoms 𝓤) (W : Given
   abbrev Told : List ℕ → List ℕ → List ℕ → List ℕ → Settled → Type 0
   Told ow oc nw nc s = PlainPromise k t n bs ws (length ys) ow oc nw nc (s .answer) × (s .rows ≡ rowsFilled (s .answer) n)
 
-  fits-fill : {ow oc nw nc : List ℕ} {s : Settled} → Told ow oc nw nc s → length nw ≡ 1000 → length nc ≡ 1000
+  fits-fill : (s : Settled) {ow oc nw nc : List ℕ} → Told ow oc nw nc s → length nw ≡ 1000 → length nc ≡ 1000
       → (s .rows ≤ length ys) × ((s .rows ≤ length nw) × (s .rows ≤ length nc))
-  fits-fill {ow} {oc} {nw} {nc} {s} p e7 e8 = let h = rows-fit k t n bs ws (length ys) ow oc nw nc (s .answer) (p .0) in
+  fits-fill s {ow} {oc} {nw} {nc} p e7 e8 = let h = rows-fit k t n bs ws (length ys) ow oc nw nc (s .answer) (p .0) in
       (omega (arith, p .1, h .0), (omega (arith, p .1, h .1), omega (arith, p .1, h .1)))
 
   -- what `fill` is passed: the rows, at their own lifetime, share and name, the arrays, lent for ν and μ, and m rows to fill
@@ -345,7 +345,7 @@ module _ {M : Type 1} (𝓤 : URA M) (H : Heap 𝓤) (A : Atoms 𝓤) (W : Given
       move ! (3 ∷ []) $ lend-shared W ! tt u64 (named 2) (zs-cents zs) l8 (room (zs-cents zs) (k8 ∙ e8)) (λ μ′ ε′.
       nothing ! $ move ! (9 ∷ 6 ∷ 3 ∷ 0 ∷ 10 ∷ 4 ∷ 1 ∷ []) $ group ! 4 $ group ! 4 $ use1 W
       (raw (Fill 𝓤 H A at-mem run .pre (to-fill l7 l8 (zs-won zs) (zs-cents zs) ν′ μ′ δ′ ε′ (s .rows))))
-      (goes-fill l7 l8 (zs-won zs) (zs-cents zs) ν′ μ′ δ′ ε′ (s .rows) (fit s v is) (fits-fill e (k7 ∙ e7) (k8 ∙ e8))) $ calls-at ! fm
+      (goes-fill l7 l8 (zs-won zs) (zs-cents zs) ν′ μ′ δ′ ε′ (s .rows) (fit s v is) (fits-fill s e (k7 ∙ e7) (k8 ∙ e8))) $ calls-at ! fm
       (Fill 𝓤 H A at-mem run) known-fill (to-fill l7 l8 (zs-won zs) (zs-cents zs) ν′ μ′ δ′ ε′ (s .rows))
       (and-then ! (load ! (from ! (stop !)) (look ! 13 refl))
       (and-then ! (load ! (from ! (stop !)) (look ! 9 refl))
