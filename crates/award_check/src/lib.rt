@@ -1,6 +1,7 @@
 // The tables lent to an award: `fault` finds the place of refusal 9. `specs/` has the rules, the auction that tables say, and
 // the laws of tables that are alike in all but one price and of the tables of a text.
 use tender::Kind;
+use tender::Reserve;
 use tender::Tender;
 ghost use mathlib.Core.Path.{_≡_};
 ghost use mathlib.Core.Bool.{_&&_};
@@ -8,7 +9,7 @@ ghost use mathlib.Core.List.{[]};
 ghost use Prim.Native.Nat.{_+_, _*_, _/_, _≤_};
 ghost use lib.ListN.{length, drop};
 ghost use lib.Dec.{leb, ltb, eqb};
-ghost use Rattle.tender.specs.Limits.{mostWindows, within, allLawful};
+ghost use Rattle.tender.specs.Limits.{mostWindows, within, lawfulReserve, soundTender, allLawful};
 ghost use Rattle.tender.specs.Tables.{rowsOf, windowsOf, bidWidth, windowWidth};
 ghost use Rattle.award_check.specs.Faults.{keeps, rowFault, faultOf, kindNumber, sameKind};
 ghost use Rattle.award_check.specs.Checks.{checkedFault};
@@ -142,16 +143,33 @@ fn row_fault(kind: Kind, count: usize, bids: &[u64], windows: &[u64]) -> Check
     Check::Sound
 }
 
+fn reserve_lawful(reserve: Reserve) -> bool
+    ensures { λ r. ⌜ r ≡ lawfulReserve reserve ⌝ }
+{
+    match reserve {
+        Reserve::Absent => true,
+        Reserve::Price(p) => p <= tender::MAX_PRICE,
+    }
+}
+
+// Whether the tender's own window and its reserve are lawful.
+fn tender_sound(tender: Tender) -> bool
+    ensures { λ r. ⌜ r ≡ soundTender tender ⌝ }
+{
+    let window = tender.window;
+    let reserve = tender.reserve;
+    window_lawful(window.start, window.end) && reserve_lawful(reserve)
+}
+
 // The place of refusal 9 by the award of this kind, where `count` bids are stated.
 pub fn fault(kind: Kind, tender: Tender, count: usize, bids: &[u64], windows: &[u64]) -> Check
     ensures { λ r. ⌜ checkedFault r ≡ faultOf kind tender count (now (bids .entry)) (now (windows .entry)) ⌝ }
 {
     let own_kind = tender.kind;
-    let window = tender.window;
     if !same_kind(kind, own_kind) {
         return Check::Faulty { row: 0 };
     }
-    if !window_lawful(window.start, window.end) {
+    if !tender_sound(tender) {
         return Check::Faulty { row: 0 };
     }
     if bids.len() / tender::BID_WIDTH < count {

@@ -1,6 +1,6 @@
 -- The whole answer of either award to its tables (paper 01, "Who wins and what is paid" and "What each operation declines").
 use mathlib.Core.List.{List}
-use mathlib.Core.Bool.{Bool, cond}
+use mathlib.Core.Bool.{Bool, false, cond}
 use mathlib.Core.Option.{Option, none, some}
 use Prim.Native.Nat.{ℕ}
 use lib.ListN.{length, getD}
@@ -65,6 +65,7 @@ unfolding won cents listed sum
 totalsOf r A = record {
   cost = sum (listed (length (A .prices)) (λ i. when (won r A i) (getD (A .prices) i 0)));
   paid = sum (listed (A .owners) (cents r A));
+  house = false;
 }
 
 -- 11 of a cell: it is named by its minute

@@ -1,4 +1,5 @@
 -- The totals that flags and cents say: what the winners ask, over all entries, and what the first of them, the owners, are paid.
+use mathlib.Core.Bool.{false}
 use mathlib.Core.List.{List}
 use Prim.Native.Nat.{ℕ}
 use lib.ListN.{length, getD}
@@ -24,4 +25,4 @@ paidIn cents owners = sum (listed owners (λ i. getD cents i 0))
 
 unfoldable pub totalsIn : List ℕ → List ℕ → List ℕ → ℕ → Totals
 unfolding costIn paidIn
-totalsIn ps won cents owners = record { cost = costIn ps won; paid = paidIn cents owners }
+totalsIn ps won cents owners = record { cost = costIn ps won; paid = paidIn cents owners; house = false }

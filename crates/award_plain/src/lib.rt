@@ -71,6 +71,7 @@ fn totals(prices: &[u64], won: &[u64], cents: &[u64], owners: usize) -> Totals
     Totals {
         cost: cost,
         paid: paid,
+        house: false,
     }
 }
 

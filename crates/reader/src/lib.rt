@@ -21,6 +21,7 @@ use reader_word::windows::flaw_in;
 use rows::copy;
 use tender::Kind;
 use tender::Refusal;
+use tender::Reserve;
 use tender::Tender;
 use tender::Window;
 
@@ -36,7 +37,12 @@ pub(crate) enum Head {
 fn tender_with(kind: Kind, window: Window) -> Tender
     ensures { λ r. ⌜ r ≡ tenderWith (record { kind = kind; window = window }) ⌝ }
 {
-    Tender { kind, window }
+    let reserve = Reserve::Absent;
+    Tender {
+        kind,
+        window,
+        reserve,
+    }
 }
 
 // The lines before the bids: the tender, where the bids begin, and the number of their first line. The table serves the line's reader

@@ -10,7 +10,7 @@ use Rattle.tender.specs.declared.Window.{Window}
 use Rattle.reader_line.specs.Line.{TenderLine}
 use Rattle.tender.specs.declared.Refusal.{Refusal}
 use Rattle.tender.specs.declared.Refusal.the-variants.{EmptyWindow, LateWindow}
-use Rattle.tender.specs.Limits.{ordered, early, lawful, soundTender, allLawful, every}
+use Rattle.tender.specs.Limits.{ordered, early, lawful, lawfulReserve, soundTender, allLawful, every}
 use Rattle.reader_line.specs.LinePlainLaws.{both-true as and-split}
 use Rattle.reader_word.specs.declared.windows.Flaw.{Flaw}
 use Rattle.reader_word.specs.declared.windows.Flaw.the-variants.{Empty, Late, Sound}
@@ -40,14 +40,15 @@ lawful-every (w ∷ ws) e =
 
 module _ (t : TenderLine) where
   pub sound-faultless : soundTender (tenderWith t) ≡ true → tenderFault t ≡ none
-  unfolding soundTender lawful tenderFault lineFault
-  sound-faultless e = let u = and-split (ordered (t .window)) (early (t .window)) e in rw (u .0, u .1)
+  unfolding soundTender lawful lawfulReserve tenderFault lineFault
+  sound-faultless e =
+      let u = and-split (ordered (t .window)) (early (t .window)) (and-split (lawful (t .window)) true e .0) in rw (u .0, u .1)
 
   pub faultless-sound : tenderFault t ≡ none → soundTender (tenderWith t) ≡ true
-  unfolding soundTender lawful tenderFault lineFault
+  unfolding soundTender lawful lawfulReserve tenderFault lineFault
   faultless-sound e = go (ordered (t .window)) (early (t .window)) e
     where
-      go : (a b : Bool) → lineFault false false false (not a) (not b) false ≡ none → a && b ≡ true
+      go : (a b : Bool) → lineFault false false false (not a) (not b) false ≡ none → (a && b) && true ≡ true
       go true true x = refl
       go true false x = let z : _≡_ {A = ℕ} 0 1 = cc in absurd (omega arith)
       go false b x = let z : _≡_ {A = ℕ} 0 1 = cc in absurd (omega arith)

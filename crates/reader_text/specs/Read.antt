@@ -7,6 +7,7 @@ use lib.ListN.{length}
 use lib.Dec.{leb, ltb}
 use Rattle.tender.specs.declared.Kind.{Kind}
 use Rattle.tender.specs.declared.Window.{Window}
+use Rattle.tender.specs.declared.Reserve.the-variants.{Absent}
 use Rattle.tender.specs.declared.Tender.{Tender}
 use Rattle.tender.specs.declared.Refusal.{Refusal}
 use Rattle.tender.specs.declared.Refusal.the-variants.{TextTooLong, BadForm, OutsideLimits, TooMany, EmptyWindow, BidderRepeated}
@@ -102,7 +103,7 @@ headJudged (some r) at head = halted (r at)
 
 -- the tender that the lines of a head give
 abbrev pub tenderWith : TenderLine → Tender
-tenderWith t = record { kind = t .kind; window = t .window }
+tenderWith t = record { kind = t .kind; window = t .window; reserve = Absent }
 
 -- the first line is the tender's
 unfoldable pub headOf : List (Option Line) → Head

@@ -14,6 +14,10 @@ unfoldable pub tenderWord : List ℕ
 unfolding bytes
 tenderWord = bytes "tender"
 
+unfoldable pub reserveWord : List ℕ
+unfolding bytes
+reserveWord = bytes "reserve"
+
 unfoldable pub bidWord : List ℕ
 unfolding bytes
 bidWord = bytes "bid"

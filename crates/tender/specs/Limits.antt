@@ -6,6 +6,8 @@ use lib.Dec.{leb, ltb}
 use Rattle.tender.specs.declared.Kind.{Kind}
 use Rattle.tender.specs.declared.Kind.the-variants.{Single, Multi}
 use Rattle.tender.specs.declared.Window.{Window}
+use Rattle.tender.specs.declared.Reserve.{Reserve}
+use Rattle.tender.specs.declared.Reserve.the-variants.{Absent, Price}
 use Rattle.tender.specs.declared.Tender.{Tender}
 
 -- a ≤ n ≤ z
@@ -57,10 +59,15 @@ early w = leb (w .end) week
 unfoldable pub lawful : Window → Bool
 lawful w = ordered w && early w
 
--- the rules of a tender: its own window is lawful
+-- a reserve is a price within its limits
+unfoldable pub lawfulReserve : Reserve → Bool
+lawfulReserve Absent = true
+lawfulReserve (Price p) = leb p maxPrice
+
+-- the rules of a tender: its own window and its reserve are lawful
 unfoldable pub soundTender : Tender → Bool
-unfolding lawful
-soundTender t = lawful (t .window)
+unfolding lawful lawfulReserve
+soundTender t = lawful (t .window) && lawfulReserve (t .reserve)
 
 unfoldable pub allLawful : List Window → Bool
 unfolding lawful

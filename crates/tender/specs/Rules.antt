@@ -1,6 +1,8 @@
 -- The rules of a window and of a tender, said one by one (paper 01, "Time, price and place").
-use Prim.Native.Nat.{_≤_, _<_}
+use mathlib.Core.Path.{_≡_}
+use Prim.Native.Nat.{ℕ, _≤_, _<_}
 use Rattle.tender.specs.declared.Window.{Window}
+use Rattle.tender.specs.declared.Reserve.the-variants.{Price}
 use Rattle.tender.specs.declared.Tender.{Tender}
 
 pub record WindowRules (w : Window) : Type 0 where
@@ -9,3 +11,4 @@ pub record WindowRules (w : Window) : Type 0 where
 
 pub record TenderRules (t : Tender) : Type 0 where
   pub window : WindowRules (t .window)
+  pub reserve : (p : ℕ) → t .reserve ≡ Price p → p ≤ 100000000

@@ -1,11 +1,14 @@
 -- A window is lawful, and a tender sound, just where each rule is kept. Assumes nothing.
-use mathlib.Core.Path.{_≡_, refl}
+use mathlib.Core.Path.{_≡_, refl, sym, ap, _∙_}
+use Prim.Native.Nat.{ℕ, _≤_}
 use mathlib.Core.Bool.{Bool, true, false, _&&_, false≢true}
 use lib.Dec.{leb, ltb}
 use borrow.Author.Tests.{ltb-true, leb-true, lt-ltb, le-leb}
 use Rattle.tender.specs.declared.Window.{Window}
+use Rattle.tender.specs.declared.Reserve.{Reserve}
+use Rattle.tender.specs.declared.Reserve.the-variants.{Absent, Price}
 use Rattle.tender.specs.declared.Tender.{Tender}
-use Rattle.tender.specs.Limits.{lawful, soundTender}
+use Rattle.tender.specs.Limits.{lawful, lawfulReserve, soundTender}
 use Rattle.tender.specs.Rules.{WindowRules, TenderRules}
 
 both-true : (a b : Bool) → a && b ≡ true → (a ≡ true) × (b ≡ true)
@@ -22,10 +25,21 @@ pub rules-lawful : (w : Window) → WindowRules w → lawful w ≡ true
 unfolding lawful
 rules-lawful w r = rw (lt-ltb (w .start) (w .end) (r .some-minute), le-leb (w .end) 10080 (r .in-week))
 
+reserve-within : (r : Reserve) → lawfulReserve r ≡ true → (p : ℕ) → r ≡ Price p → p ≤ 100000000
+unfolding lawfulReserve
+reserve-within r e p q = leb-true p 100000000 (sym (ap lawfulReserve q) ∙ e)
+
+within-reserve : (r : Reserve) → ((p : ℕ) → r ≡ Price p → p ≤ 100000000) → lawfulReserve r ≡ true
+unfolding lawfulReserve
+within-reserve Absent h = refl
+within-reserve (Price p) h = le-leb p 100000000 (h p refl)
+
 pub sound-rules : (t : Tender) → soundTender t ≡ true → TenderRules t
 unfolding soundTender
-sound-rules t e = record { window = lawful-rules (t .window) e }
+sound-rules t e =
+    let h = both-true (lawful (t .window)) (lawfulReserve (t .reserve)) e in
+    record { window = lawful-rules (t .window) (h .0); reserve = reserve-within (t .reserve) (h .1) }
 
 pub rules-sound : (t : Tender) → TenderRules t → soundTender t ≡ true
 unfolding soundTender
-rules-sound t r = rules-lawful (t .window) (r .window)
+rules-sound t r = rw (rules-lawful (t .window) (r .window), within-reserve (t .reserve) (r .reserve))

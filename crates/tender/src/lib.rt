@@ -1,4 +1,4 @@
-// The data that every crate here speaks of: kinds, windows, tenders, limits, keywords, award rows, answers and refusals.
+// The data that every crate here speaks of: kinds, windows, reserves, tenders, limits, keywords, award rows, answers and refusals.
 // No algorithm stands here. `specs/` has what the crates above cite of it: the limits and the rule of a
 // window, the layout of the two tables, the keywords, and each refusal's number and place.
 ghost use mathlib.Core.Path.{_≡_};
@@ -17,10 +17,17 @@ pub struct Window {
     pub end: u64,
 }
 
+// What the house asks for covering the whole tender itself, where it offers to.
+pub enum Reserve {
+    Absent,
+    Price(u64),
+}
+
 // What is bought: every minute of the tender's own window.
 pub struct Tender {
     pub kind: Kind,
     pub window: Window,
+    pub reserve: Reserve,
 }
 
 // The row that an award fills for a bid: won or lost, and the cents paid.
@@ -29,10 +36,11 @@ pub struct AwardRow {
     pub cents: u64,
 }
 
-// The winners' cost and the sum paid, in cents.
+// The winners' cost and the sum paid to owners, in cents, and whether the house is among the winners.
 pub struct Totals {
     pub cost: u64,
     pub paid: u64,
+    pub house: bool,
 }
 
 // Why a call declines. `line` counts the text's lines from 1; `row` counts the rows of the bid table from 1 and
@@ -52,6 +60,7 @@ pub enum Refusal {
     OneBidder { minute: u64 },
     NoRoom,
     LateWindow { line: u64 },
+    ReserveMisplaced { line: u64 },
 }
 
 // What an award answers: the totals, or why it declines.
@@ -88,18 +97,25 @@ pub const WINDOW_TABLE: usize = 22000;
 // The keywords of the bid text and of the list.
 pub const TENDER: [u8; 6] = *b"tender";
 
+pub const RESERVE: [u8; 7] = *b"reserve";
+
 pub const BID: [u8; 3] = *b"bid";
 
 pub const SINGLE: [u8; 6] = *b"single";
 
 pub const MULTI: [u8; 5] = *b"multi";
 
-// A tender of this kind and window.
+// A tender of this kind and window, without a reserve.
 pub fn plain(kind: Kind, start: u64, end: u64) -> Tender
     ensures { λ r. ⌜ r ≡ plainTender kind start end ⌝ }
 {
     let window = Window { start, end };
-    Tender { kind, window }
+    let reserve = Reserve::Absent;
+    Tender {
+        kind,
+        window,
+        reserve,
+    }
 }
 
 // The refusal's number.
@@ -121,6 +137,7 @@ pub fn number(r: Refusal) -> u64
         Refusal::OneBidder { minute: _ } => 12,
         Refusal::NoRoom => 14,
         Refusal::LateWindow { line: _ } => 15,
+        Refusal::ReserveMisplaced { line: _ } => 16,
     }
 }
 
@@ -143,5 +160,6 @@ pub fn place(r: Refusal) -> u64
         Refusal::OneBidder { minute } => minute,
         Refusal::NoRoom => 0,
         Refusal::LateWindow { line } => line,
+        Refusal::ReserveMisplaced { line } => line,
     }
 }

@@ -3,7 +3,6 @@ use Prim.Native.Nat.{_/_}
 use native.Mathlib.Omega.{arith}
 use lib.ListN.{length}
 use borrow.Author.Tests.{not-true, not-false, le-leb, lt-leb}
-use Rattle.tender.specs.Limits.{lawful, soundTender}
 use Rattle.tender.specs.Tables.{bidWidth}
 use Rattle.award_check.specs.Faults.{faultOf}
 use borrow.Author.Needs.{needs}
@@ -13,37 +12,37 @@ use Rattle.award_check.proofs.fault.Reads as reads
 use Rattle.award_check.proofs.fault.Lts as lts
 use Rattle.award_check.proofs.row_fault.Reads as row-fault-reads
 use Rattle.award_check.proofs.same_kind.Reads as same-kind-reads
-use Rattle.award_check.proofs.window_lawful.Reads as window-lawful-reads
+use Rattle.award_check.proofs.tender_sound.Reads as tender-sound-reads
 
 same-kind-requires : tie.Need-same-kind-requires
 same-kind-requires c κs = search needs
 
 returns : tie.Need-returns
-unfolding faultOf soundTender lawful
+unfolding faultOf
 returns c = rw (← c .before .same-kind .ensures, not-true (c .before .same-kind .result) (c .if1 .taken))
 
-window-lawful-requires : tie.Need-window-lawful-requires
-window-lawful-requires c κs = search needs
+tender-sound-requires : tie.Need-tender-sound-requires
+tender-sound-requires c κs = search needs
 
 returns-2 : tie.Need-returns-2
-unfolding faultOf soundTender lawful
+unfolding faultOf
 returns-2 c = rw (
   ← c .before .before .before .same-kind .ensures,
   not-false (c .before .before .before .same-kind .result) (c .before .before .if1 .left),
-  ← c .before .window-lawful .ensures,
-  not-true (c .before .window-lawful .result) (c .if2 .taken),
+  ← c .before .tender-sound .ensures,
+  not-true (c .before .tender-sound .result) (c .if2 .taken),
 )
 
 returns-3 : tie.Need-returns-3
-unfolding faultOf soundTender lawful
+unfolding faultOf
 returns-3 c =
     let c4 = c .before .before .before .before in
     let args = c4 .before .before .before .before .args in
     rw (
       ← c4 .same-kind .ensures,
       not-false (c4 .same-kind .result) (c .before .before .before .if1 .left),
-      ← c .before .before .window-lawful .ensures,
-      not-false (c .before .before .window-lawful .result) (c .before .if2 .left),
+      ← c .before .before .tender-sound .ensures,
+      not-false (c .before .before .tender-sound .result) (c .before .if2 .left),
       lt-leb (args .count) (length (args .bids .now) / bidWidth) (omega arith),
     )
 
@@ -51,7 +50,7 @@ row-fault-requires : tie.Need-row-fault-requires
 row-fault-requires c κs = search needs
 
 returns-4 : tie.Need-returns-4
-unfolding faultOf soundTender lawful
+unfolding faultOf
 returns-4 c =
     let c4 = c .before .before .before .before in
     let c5 = c4 .before in
@@ -59,8 +58,8 @@ returns-4 c =
     rw (
       ← c5 .same-kind .ensures,
       not-false (c5 .same-kind .result) (c4 .if1 .left),
-      ← c .before .before .before .window-lawful .ensures,
-      not-false (c .before .before .before .window-lawful .result) (c .before .before .if2 .left),
+      ← c .before .before .before .tender-sound .ensures,
+      not-false (c .before .before .before .tender-sound .result) (c .before .before .if2 .left),
       le-leb (args .count) (length (args .bids .now) / bidWidth) (omega arith),
     )
     (c .row-fault .ensures)
@@ -71,7 +70,7 @@ fault-spec =
     (tie.spec
     same-kind-requires
     returns
-    window-lawful-requires
+    tender-sound-requires
     returns-2
     returns-3
     row-fault-requires
