@@ -37,7 +37,7 @@ returns-3 : tie.Need-returns-3
 unfolding faultOf
 returns-3 c =
     let c4 = c .before .before .before .before in
-    let args = c4 .before .before .before .before .args in
+    let args = c4 .before .before .before .args in
     rw (
       ← c4 .same-kind .ensures,
       not-false (c4 .same-kind .result) (c .before .before .before .if1 .left),
@@ -54,7 +54,7 @@ unfolding faultOf
 returns-4 c =
     let c4 = c .before .before .before .before in
     let c5 = c4 .before in
-    let args = c5 .before .before .before .before .args in
+    let args = c5 .before .before .before .args in
     rw (
       ← c5 .same-kind .ensures,
       not-false (c5 .same-kind .result) (c4 .if1 .left),
