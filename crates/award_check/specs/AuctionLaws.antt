@@ -2,34 +2,57 @@
 -- price, or in what was read. Assumes nothing.
 use mathlib.Core.Path.{_≡_, refl, sym, ap, _∙_, fun-ext}
 use mathlib.Core.List.{List, [], _∷_, _++_, map, append-nil}
-use mathlib.Core.Bool.{false, _&&_, and-false}
+use mathlib.Core.Bool.{Bool, true, false, _&&_, and-false}
 use mathlib.Core.Option.{none}
 use Prim.Native.Nat.{ℕ, zero, suc, _+_, _-_, _*_, _≤_, _<_}
 use native.Mathlib.Omega.{arith}
-use lib.ListN.{length, getD, set, drop, length-map, List·getD-append, List·getD-eq-default}
-use lib.Seq.{getD-drop, ext-getD, set-getD}
-use lib.Dec.{ltb}
+use lib.ListN.{length, getD, set, drop, length-map, length-append, List·getD-map, List·getD-append, List·getD-eq-default}
+use lib.Seq.{getD-drop, getD-append-seam, ext-getD, set-getD, set-append-left}
+use lib.Dec.{ltb, eqb}
+use borrow.Author.Tests.{ltb-true, ltb-false, lt-ltb, le-ltb, le-leb, eqb-true, eqb-false}
 use Rattle.tender.specs.declared.Kind.{Kind}
 use Rattle.tender.specs.declared.Window.{Window}
+use Rattle.tender.specs.declared.Reserve.{Reserve}
+use Rattle.tender.specs.declared.Reserve.the-variants.{Absent, Price}
 use Rattle.tender.specs.declared.Tender.{Tender}
 use Rattle.tender.specs.Tables.{Row, rowsOf, windowsOf, own, flatRows, flatWindows, bidWidth, windowWidth}
+use Rattle.cover.specs.Sets.{nothing}
+use Rattle.cover.specs.Earliest.{cellWith}
+use Rattle.cover.specs.SpareLaws.{Spare, enough-spare, whole-spare}
 use Rattle.reader_text.specs.Rules.{Rules}
 use Rattle.reader_text.specs.Differ.{withPrice}
 use Rattle.award_check.specs.Faults.{faultOf}
 use Rattle.award_check.specs.Cells.{holds, cellsOf, minuteOf, noRow}
-use Rattle.award_check.specs.Auction.{noOffer, offered, offersOf, Auction, hasOf, auctionOf, atPrice}
+use Rattle.award_check.specs.Auction.{Offer, noOffer, offered, houseOf, offersOf, Auction, hasOf, auctionOf, atPrice, reserved, thinCell}
 use Rattle.award_check.specs.Alike.{Alike}
 use Rattle.award_check.specs.AlikeLaws.{rows-length, rows-set, windows-same, among-held, faultless, own-alike}
 use Rattle.award_check.specs.TextLaws.{rows-flat, length-windows, rows-end, never-nine}
 
+map-append : {A B : Type 0} (f : A → B) (xs ys : List A) → map f (xs ++ ys) ≡ map f xs ++ map f ys
+map-append f [] ys = refl
+map-append f (x ∷ xs) ys = ap (λ zs. f x ∷ zs) (map-append f xs ys)
+
 -- offers
 
-offer-at : (windows : List ℕ) (rs : List Row) (i : ℕ) → getD (map (offered windows) rs) i noOffer
-    ≡ offered windows (getD rs i noRow)
-unfolding offered own windowsOf noRow noOffer
-offer-at windows [] i = refl
-offer-at windows (r ∷ rs) zero = refl
-offer-at windows (r ∷ rs) (suc i) = offer-at windows rs i
+own-at : (windows : List ℕ) (rs : List Row) (i : ℕ) → getD (map (own windows) rs) i [] ≡ own windows (getD rs i noRow)
+unfolding own windowsOf noRow
+own-at windows rs i = List·getD-map (own windows) rs i noRow
+
+offer-windows : (windows : List ℕ) (rs : List Row) → map (λ o. o .windows) (map (offered windows) rs) ≡ map (own windows) rs
+unfolding offered
+offer-windows windows [] = refl
+offer-windows windows (r ∷ rs) = ap (λ ws. own windows r ∷ ws) (offer-windows windows rs)
+
+same-offers : (windows windows′ : List ℕ) (rs : List Row)
+    → ((j : ℕ) → own windows (getD rs j noRow) ≡ own windows′ (getD rs j noRow)) → map (offered windows) rs ≡ map (offered windows′) rs
+unfolding offered
+same-offers windows windows′ [] h = refl
+same-offers windows windows′ (r ∷ rs) h = rw (h 0) (ap (λ os. record { price = r .price; windows = own windows′ r } ∷ os)
+    (same-offers windows windows′ rs (λ j. h (suc j))))
+
+windows-at : (os : List Offer) (i : ℕ) → getD os i noOffer .windows ≡ getD (map (λ o. o .windows) os) i []
+unfolding noOffer
+windows-at os i = sym (List·getD-map (λ o. o .windows) os i noOffer)
 
 offer-prices : (windows : List ℕ) (rs : List Row) → map (λ o. o .price) (map (offered windows) rs) ≡ map (λ r. r .price) rs
 unfolding offered
@@ -53,6 +76,20 @@ price-at (suc n) (suc i) bids l = price-at n i (drop bidWidth bids) (omega arith
     index : (i : ℕ) → bidWidth + (bidWidth * i + 1) ≡ bidWidth * suc i + 1
     index i = omega arith
 
+-- how many entries a reserve adds
+abbrev pub houses : Reserve → ℕ
+houses Absent = 0
+houses (Price p) = 1
+
+house-count : (t : Tender) (r : Reserve) → length (houseOf t r) ≡ houses r
+unfolding houseOf
+house-count t Absent = refl
+house-count t (Price p) = refl
+
+-- the windows of the house
+abbrev house-windows : Tender → List (List Window)
+house-windows t = map (λ o. o .windows) (houseOf t (t .reserve))
+
 -- the auction of tables
 module _ (t : Tender) (n : ℕ) (bids windows : List ℕ) where
   pub minutes : auctionOf t n bids windows .cells ≡ t .window .end - t .window .start
@@ -67,28 +104,142 @@ module _ (t : Tender) (n : ℕ) (bids windows : List ℕ) where
   unfolding auctionOf
   owners-are = refl
 
-  pub entries : length (auctionOf t n bids windows .prices) ≡ n
+  -- as many entries as bids, and the house
+  pub entries : length (auctionOf t n bids windows .prices) ≡ n + houses (t .reserve)
   unfolding auctionOf offersOf
-  entries = length-map (map (offered windows) (rowsOf n bids)) (λ o. o .price) ∙ length-map (rowsOf n bids) (offered windows)
-      ∙ rows-length n bids
+  entries = length-map (map (offered windows) (rowsOf n bids) ++ houseOf t (t .reserve)) (λ o. o .price)
+      ∙ length-append (map (offered windows) (rowsOf n bids)) (houseOf t (t .reserve))
+      ∙ omega (arith, length-map (rowsOf n bids) (offered windows), rows-length n bids, house-count t (t .reserve))
+
+  owner-count : length (map (own windows) (rowsOf n bids)) ≡ n
+  owner-count = length-map (rowsOf n bids) (own windows) ∙ rows-length n bids
+
+  prices-by : auctionOf t n bids windows .prices ≡ map (λ r. r .price) (rowsOf n bids) ++ map (λ o. o .price) (houseOf t (t .reserve))
+  unfolding auctionOf offersOf
+  prices-by = map-append (λ o. o .price) (map (offered windows) (rowsOf n bids)) (houseOf t (t .reserve))
+      ∙ ap (λ ps. ps ++ map (λ o. o .price) (houseOf t (t .reserve))) (offer-prices windows (rowsOf n bids))
+
+  price-count : length (map (λ r. r .price) (rowsOf n bids)) ≡ n
+  price-count = length-map (rowsOf n bids) (λ r. r .price) ∙ rows-length n bids
 
   pub price-named : (i : ℕ) → i < n → getD (auctionOf t n bids windows .prices) i 0 ≡ getD bids (bidWidth * i + 1) 0
-  unfolding auctionOf offersOf
-  price-named i l = ap (λ ps. getD ps i 0) (offer-prices windows (rowsOf n bids)) ∙ price-at n i bids l
+  price-named i l = ap (λ ps. getD ps i 0) prices-by
+      ∙ List·getD-append (map (λ r. r .price) (rowsOf n bids)) (map (λ o. o .price) (houseOf t (t .reserve))) 0 i
+      (omega (arith, price-count))
+      ∙ price-at n i bids l
 
-  pub has-cell : (i x : ℕ) → auctionOf t n bids windows .has i x
-      ≡ (ltb x (cellsOf t) && holds (own windows (getD (rowsOf n bids) i noRow)) (t .window .start + x))
-  unfolding auctionOf offersOf hasOf minuteOf offered
-  has-cell i x = ap (λ o. ltb x (cellsOf t) && holds (o .windows) (t .window .start + x)) (offer-at windows (rowsOf n bids) i)
+  -- the house's price is the reserve
+  pub house-price : (p : ℕ) → t .reserve ≡ Price p → getD (auctionOf t n bids windows .prices) n 0 ≡ p
+  unfolding houseOf
+  house-price p e = ap (λ ps. getD ps n 0) (prices-by
+      ∙ ap (λ r. map (λ r. r .price) (rowsOf n bids) ++ map (λ o. o .price) (houseOf t r)) e)
+      ∙ ap (λ (j : ℕ). getD (map (λ r. r .price) (rowsOf n bids) ++ p ∷ []) j 0) (sym price-count)
+      ∙ getD-append-seam (map (λ r. r .price) (rowsOf n bids)) p [] 0
 
-  -- past the last bid there are no cells
-  pub no-cells : (i x : ℕ) → n ≤ i → auctionOf t n bids windows .has i x ≡ false
-  unfolding own noRow windowsOf holds
-  no-cells i x l = has-cell i x
-      ∙ ap (λ (r : Row). ltb x (cellsOf t)
-      && holds (windowsOf (r .count) (drop (windowWidth * r .first) windows)) (t .window .start + x))
-      (List·getD-eq-default (rowsOf n bids) noRow {n = i} (omega (arith, rows-length n bids)))
+  has-by : (i x : ℕ) → auctionOf t n bids windows .has i x
+      ≡ (ltb x (cellsOf t) && holds (getD (map (own windows) (rowsOf n bids) ++ house-windows t) i []) (minuteOf t x))
+  unfolding auctionOf offersOf hasOf
+  has-by i x = ap (λ ws. ltb x (cellsOf t) && holds ws (minuteOf t x))
+      (windows-at (map (offered windows) (rowsOf n bids) ++ houseOf t (t .reserve)) i
+      ∙ ap (λ wss. getD wss i []) (map-append (λ o. o .windows) (map (offered windows) (rowsOf n bids)) (houseOf t (t .reserve))
+      ∙ ap (λ wss. wss ++ house-windows t) (offer-windows windows (rowsOf n bids))))
+
+  pub has-cell : (i x : ℕ) → i < n → auctionOf t n bids windows .has i x
+      ≡ (ltb x (cellsOf t) && holds (own windows (getD (rowsOf n bids) i noRow)) (minuteOf t x))
+  has-cell i x l = has-by i x
+      ∙ ap (λ ws. ltb x (cellsOf t) && holds ws (minuteOf t x))
+      (List·getD-append (map (own windows) (rowsOf n bids)) (house-windows t) [] i (omega (arith, owner-count))
+      ∙ own-at windows (rowsOf n bids) i)
+
+  -- the house has every cell
+  pub house-has : (p x : ℕ) → t .reserve ≡ Price p → auctionOf t n bids windows .has n x ≡ ltb x (cellsOf t)
+  unfolding houseOf cellsOf minuteOf holds
+  house-has p x e = has-by n x
+      ∙ ap (λ ws. ltb x (cellsOf t) && holds ws (minuteOf t x))
+      (ap (λ r. getD (map (own windows) (rowsOf n bids) ++ map (λ o. o .windows) (houseOf t r)) n []) e
+      ∙ ap (λ (j : ℕ). getD (map (own windows) (rowsOf n bids) ++ (t .window ∷ []) ∷ []) j []) (sym owner-count)
+      ∙ getD-append-seam (map (own windows) (rowsOf n bids)) (t .window ∷ []) [] [])
+      ∙ whole (ltb x (cellsOf t)) refl
+    where
+      whole : (b : Bool) → ltb x (cellsOf t) ≡ b → (b && holds (t .window ∷ []) (minuteOf t x)) ≡ b
+      whole true u = rw (le-leb (t .window .start) (t .window .start + x) (omega arith),
+          lt-ltb (t .window .start + x) (t .window .end) (omega (arith, ltb-true x (t .window .end - t .window .start) u)))
+      whole false u = refl
+
+  -- past the last entry there are no cells
+  pub no-cells : (i x : ℕ) → n + houses (t .reserve) ≤ i → auctionOf t n bids windows .has i x ≡ false
+  unfolding holds
+  no-cells i x l = has-by i x
+      ∙ ap (λ ws. ltb x (cellsOf t) && holds ws (minuteOf t x))
+      (List·getD-eq-default (map (own windows) (rowsOf n bids) ++ house-windows t) [] {n = i} (omega (
+        arith,
+        length-append (map (own windows) (rowsOf n bids)) (house-windows t),
+        owner-count,
+        length-map (houseOf t (t .reserve)) (λ o. o .windows),
+        house-count t (t .reserve),
+      )))
       ∙ and-false (ltb x (cellsOf t))
+
+  -- without a reserve the entries are the bids, and each thin cell is told
+  pub without-reserve : t .reserve ≡ Absent → reserved (auctionOf t n bids windows) ≡ false
+  unfolding reserved
+  without-reserve e = le-ltb (auctionOf t n bids windows .owners) (length (auctionOf t n bids windows .prices))
+      (omega (arith, entries, owners-are, ap houses e))
+
+  pub with-reserve : (p : ℕ) → t .reserve ≡ Price p → reserved (auctionOf t n bids windows) ≡ true
+  unfolding reserved
+  with-reserve p e = lt-ltb (auctionOf t n bids windows .owners) (length (auctionOf t n bids windows .prices))
+      (omega (arith, entries, owners-are, ap houses e))
+
+  pub thin-told : t .reserve ≡ Absent → (m : ℕ) → thinCell (auctionOf t n bids windows) m
+      ≡ cellWith (auctionOf t n bids windows .has) n (cellsOf t) m
+  unfolding thinCell
+  thin-told e m = rw (without-reserve e, owners-are, cells-are)
+
+  pub none-thin : (p : ℕ) → t .reserve ≡ Price p → (m : ℕ) → thinCell (auctionOf t n bids windows) m ≡ nothing
+  unfolding thinCell
+  none-thin p e m = rw (with-reserve p e)
+
+  -- the house has every cell
+  house-whole : (p : ℕ) → t .reserve ≡ Price p → (x : ℕ) → x < auctionOf t n bids windows .cells
+      → auctionOf t n bids windows .has n x ≡ true
+  house-whole p e x l = house-has p x e ∙ lt-ltb x (cellsOf t) (omega (arith, cells-are))
+
+  -- where no cell is thin, the entries but an owner's have every cell, and so have all of them
+  module _ (d : thinCell (auctionOf t n bids windows) 0 ≡ nothing) (e : thinCell (auctionOf t n bids windows) 1 ≡ nothing) where
+    abbrev A : Auction
+    A = auctionOf t n bids windows
+
+    spare-but : (r : Reserve) → t .reserve ≡ r → (i : ℕ) → (i ≡ n → t .reserve ≡ Absent) → Spare (A .has) (length (A .prices)) (A .cells) i
+    spare-but Absent u i z = let c : length (A .prices) ≡ n = omega (arith, entries, ap houses u) in rw c
+        (enough-spare (A .has) n (A .cells) (rw cells-are (sym (thin-told u 0) ∙ d)) (rw cells-are (sym (thin-told u 1) ∙ e)) i)
+    spare-but (Price p) u i z = whole-spare (A .has) (length (A .prices)) (A .cells) n (omega (arith, entries, ap houses u))
+        (house-whole p u) i (λ q. let y : _≡_ {A = ℕ} 0 1 = ap houses (sym (z (sym q)) ∙ u) in omega arith)
+
+    pub owner-spared : (i : ℕ) → i < n → Spare (A .has) (length (A .prices)) (A .cells) i
+    owner-spared i l = spare-but (t .reserve) refl i (λ z. absurd (omega arith))
+
+    pub all-have : Spare (A .has) (length (A .prices)) (A .cells) (length (A .prices))
+    all-have = spare-but (t .reserve) refl (length (A .prices)) (λ z. absent (t .reserve) (omega (arith, entries)))
+      where
+        absent : (r : Reserve) → houses r ≡ 0 → r ≡ Absent
+        absent Absent q = refl
+        absent (Price p) q = absurd (omega arith)
+
+-- what stands at place i of the entries
+pub data EntryAt (t : Tender) (n i : ℕ) : Type 0 where
+  owner : i < n → EntryAt t n i
+  house : (p : ℕ) → t .reserve ≡ Price p → i ≡ n → EntryAt t n i
+  past : n + houses (t .reserve) ≤ i → EntryAt t n i
+
+pub entry-at : (t : Tender) (n i : ℕ) → EntryAt t n i
+entry-at t n i = go (ltb i n) refl (t .reserve) refl (eqb i n) refl
+  where
+    go : (b : Bool) → ltb i n ≡ b → (r : Reserve) → t .reserve ≡ r → (c : Bool) → eqb i n ≡ c → EntryAt t n i
+    go true u r q c v = owner (ltb-true i n u)
+    go false u Absent q c v = past (omega (arith, ltb-false i n u, ap houses q))
+    go false u (Price p) q true v = house p q (eqb-true i n v)
+    go false u (Price p) q false v = past (omega (arith, ltb-false i n u, eqb-false i n v, ap houses q))
 
 -- an entry's own price changes nothing
 pub at-own-price : (i : ℕ) (A : Auction) → atPrice i (getD (A .prices) i 0) A ≡ A
@@ -98,18 +249,27 @@ at-own-price i A = ap (λ ps. record { cells = A .cells; has = A .has; prices = 
 -- tables alike in all but the price of row i: the same auction but for that price
 module _ (k : Kind) (t : Tender) (n i : ℕ) (bids windows bids′ windows′ : List ℕ) (l : i < n)
     (f : faultOf k t n bids windows ≡ none) (a : Alike n i bids windows bids′ windows′) where
+  owns-alike : map (own windows′) (rowsOf n bids′) ≡ map (own windows) (rowsOf n bids)
+  owns-alike = ext-getD [] (map (own windows′) (rowsOf n bids′)) (map (own windows) (rowsOf n bids))
+      (owner-count t n bids′ windows′ ∙ sym (owner-count t n bids windows))
+      (λ j m. own-at windows′ (rowsOf n bids′) j
+      ∙ own-alike k t n i bids windows bids′ windows′ l (faultless k t n bids windows f .rows) a j
+      ∙ sym (own-at windows (rowsOf n bids) j))
+
   has-alike : auctionOf t n bids′ windows′ .has ≡ auctionOf t n bids windows .has
-  has-alike = fun-ext (λ j. fun-ext (λ x. has-cell t n bids′ windows′ j x
-      ∙ ap (λ ws. ltb x (cellsOf t) && holds ws (t .window .start + x))
-      (own-alike k t n i bids windows bids′ windows′ l (faultless k t n bids windows f .rows) a j)
-      ∙ sym (has-cell t n bids windows j x)))
+  has-alike = fun-ext (λ j. fun-ext (λ x. has-by t n bids′ windows′ j x
+      ∙ ap (λ wss. ltb x (cellsOf t) && holds (getD (wss ++ house-windows t) j []) (minuteOf t x)) owns-alike
+      ∙ sym (has-by t n bids windows j x)))
 
   prices-alike : auctionOf t n bids′ windows′ .prices ≡ set (auctionOf t n bids windows .prices) i (getD bids′ (bidWidth * i + 1) 0)
-  unfolding auctionOf offersOf
   prices-alike =
-      offer-prices windows′ (rowsOf n bids′) ∙ ap (map (λ r. r .price)) (rows-set n i bids bids′ l (a .rows))
-      ∙ prices-set (rowsOf n bids) i (getD bids′ (bidWidth * i + 1) 0)
-      ∙ ap (λ ps. set ps i (getD bids′ (bidWidth * i + 1) 0)) (sym (offer-prices windows (rowsOf n bids)))
+      prices-by t n bids′ windows′
+      ∙ ap (λ rs. map (λ r. r .price) rs ++ map (λ o. o .price) (houseOf t (t .reserve))) (rows-set n i bids bids′ l (a .rows))
+      ∙ ap (λ ps. ps ++ map (λ o. o .price) (houseOf t (t .reserve)))
+      (prices-set (rowsOf n bids) i (getD bids′ (bidWidth * i + 1) 0))
+      ∙ sym (set-append-left (map (λ r. r .price) (rowsOf n bids)) (map (λ o. o .price) (houseOf t (t .reserve))) i
+      (getD bids′ (bidWidth * i + 1) 0) (omega (arith, price-count t n bids windows)))
+      ∙ ap (λ ps. set ps i (getD bids′ (bidWidth * i + 1) 0)) (sym (prices-by t n bids windows))
 
   pub auction-alike : auctionOf t n bids′ windows′ ≡ atPrice i (getD bids′ (bidWidth * i + 1) 0) (auctionOf t n bids windows)
   unfolding auctionOf atPrice
@@ -139,11 +299,7 @@ module _ (T : Tender) (R : List Row) (W : List Window) (rules : Rules T R W) whe
           ∙ sym (getD-drop (windowWidth * r .first) (flatWindows W) x 0))
 
   offers-read : (w : List ℕ) → map (offered (flatWindows W ++ w)) R ≡ map (offered (flatWindows W)) R
-  unfolding offered
-  offers-read w = ext-getD noOffer (map (offered (flatWindows W ++ w)) R) (map (offered (flatWindows W)) R)
-      (length-map R (offered (flatWindows W ++ w)) ∙ sym (length-map R (offered (flatWindows W))))
-      (λ j l. offer-at (flatWindows W ++ w) R j
-      ∙ ap (λ ws. record { price = getD R j noRow .price; windows = ws }) (own-read w j) ∙ sym (offer-at (flatWindows W) R j))
+  offers-read w = same-offers (flatWindows W ++ w) (flatWindows W) R (own-read w)
 
   rows-alone : rowsOf (length R) (flatRows R) ≡ R
   rows-alone = ap (rowsOf (length R)) (sym (append-nil (flatRows R))) ∙ rows-flat R []
