@@ -27,6 +27,11 @@ unfoldable pub offered : List ℕ → Row → Offer
 unfolding own
 offered windows r = record { price = r .price; windows = own windows r }
 
+-- how many entries a reserve adds
+abbrev pub houses : Reserve → ℕ
+houses Absent = 0
+houses (Price p) = 1
+
 -- the house covers the whole tender for its price
 unfoldable pub houseOf : Tender → Reserve → List Offer
 houseOf t Absent = []

@@ -23,7 +23,7 @@ use Rattle.reader_text.specs.Rules.{Rules}
 use Rattle.reader_text.specs.Differ.{withPrice}
 use Rattle.award_check.specs.Faults.{faultOf}
 use Rattle.award_check.specs.Cells.{holds, cellsOf, minuteOf, noRow}
-use Rattle.award_check.specs.Auction.{Offer, noOffer, offered, houseOf, offersOf, Auction, hasOf, auctionOf, atPrice, reserved, thinCell}
+use Rattle.award_check.specs.Auction.{Offer, noOffer, offered, houses, houseOf, offersOf, Auction, hasOf, auctionOf, atPrice, reserved, thinCell}
 use Rattle.award_check.specs.Alike.{Alike}
 use Rattle.award_check.specs.AlikeLaws.{rows-length, rows-set, windows-same, among-held, faultless, own-alike}
 use Rattle.award_check.specs.TextLaws.{rows-flat, length-windows, rows-end, never-nine}
@@ -75,11 +75,6 @@ price-at (suc n) (suc i) bids l = price-at n i (drop bidWidth bids) (omega arith
   where
     index : (i : ℕ) → bidWidth + (bidWidth * i + 1) ≡ bidWidth * suc i + 1
     index i = omega arith
-
--- how many entries a reserve adds
-abbrev pub houses : Reserve → ℕ
-houses Absent = 0
-houses (Price p) = 1
 
 house-count : (t : Tender) (r : Reserve) → length (houseOf t r) ≡ houses r
 unfolding houseOf

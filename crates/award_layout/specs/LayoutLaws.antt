@@ -12,6 +12,7 @@ use lib.Dec.{leb, ltb, eqb}
 use borrow.Author.Tests.{ltb-true, ltb-false, leb-true, leb-false, lt-ltb, le-ltb, le-leb, lt-leb}
 use Rattle.tender.specs.declared.Kind.{Kind}
 use Rattle.tender.specs.declared.Kind.the-variants.{Single}
+use Rattle.tender.specs.declared.Reserve.the-variants.{Price}
 use Rattle.tender.specs.declared.Tender.{Tender}
 use Rattle.tender.specs.Limits.{within, mostWindows, lawful, soundTender, allLawful}
 use Rattle.tender.specs.RulesLaws.{sound-rules}
@@ -22,10 +23,11 @@ use Rattle.cells.specs.Cells.{cell}
 use Rattle.multi_rounds.specs.Market.{wordRow, has}
 use Rattle.award_check.specs.Faults.{sound, rowFault, sameKind, faultOf}
 use Rattle.award_check.specs.Cells.{holds, cellsOf, minuteOf, noRow, bidRowAt}
-use Rattle.award_check.specs.Auction.{auctionOf}
-use Rattle.award_check.specs.AuctionLaws.{entries, price-named, has-cell, no-cells}
+use Rattle.award_check.specs.Auction.{houses, auctionOf}
+use Rattle.award_check.specs.AuctionLaws.{entries, price-named, house-price, has-cell, house-has, no-cells}
+use Rattle.award_check.specs.AuctionLaws.{EntryAt, owner, house, past, entry-at}
 use Rattle.award_check.specs.AlikeLaws.{Kept, keeps-kept, sound-keeps, sound-first, faultless, rows-length, row-named, windows-step}
-use Rattle.award_layout.specs.Orderly.{Orderly, clipped, PricesLaid, SpansLaid, AllMasked}
+use Rattle.award_layout.specs.Orderly.{Orderly, clipped, SpansLaid, AllMasked}
 
 -- each row of faultless rows keeps the rules, and they are few
 module _ (k : Kind) (windows : List ℕ) where
@@ -91,14 +93,20 @@ cells-within k t n bids windows e =
 -- a bid has the cells of its row's windows
 row-cell : (t : Tender) (n : ℕ) (bids windows : List ℕ) (i x : ℕ) → i < n → auctionOf t n bids windows .has i x
     ≡ (ltb x (cellsOf t) && holds (own windows (bidRowAt bids i)) (minuteOf t x))
-unfolding minuteOf
-row-cell t n bids windows i x l = has-cell t n bids windows i x
-    ∙ ap (λ (r : Row). ltb x (cellsOf t) && holds (own windows r) (t .window .start + x)) (row-named n i bids l)
+row-cell t n bids windows i x l = has-cell t n bids windows i x l
+    ∙ ap (λ (r : Row). ltb x (cellsOf t) && holds (own windows r) (minuteOf t x)) (row-named n i bids l)
 
--- prices are those of the auction
-pub prices-laid : (t : Tender) (n : ℕ) (bids windows ps : List ℕ) → PricesLaid n bids ps → ps ≡ auctionOf t n bids windows .prices
-prices-laid t n bids windows ps p = ext-getD 0 ps (auctionOf t n bids windows .prices) (p .count ∙ sym (entries t n bids windows))
-    (λ i l. let m : i < n = omega (arith, p .count) in p .prices-are i m ∙ sym (price-named t n bids windows i m))
+-- prices of the bids, and after them the reserve, are those of the auction
+pub prices-laid : (t : Tender) (n : ℕ) (bids windows ps : List ℕ) → length ps ≡ n + houses (t .reserve)
+    → ((i : ℕ) → i < n → getD ps i 0 ≡ bidRowAt bids i .price) → ((p : ℕ) → t .reserve ≡ Price p → getD ps n 0 ≡ p)
+    → ps ≡ auctionOf t n bids windows .prices
+prices-laid t n bids windows ps a b h =
+    ext-getD 0 ps (auctionOf t n bids windows .prices) (a ∙ sym (entries t n bids windows)) (λ i l. go i l (entry-at t n i))
+  where
+    go : (i : ℕ) → i < length ps → EntryAt t n i → getD ps i 0 ≡ getD (auctionOf t n bids windows .prices) i 0
+    go i l (owner m) = b i m ∙ sym (price-named t n bids windows i m)
+    go i l (house p e q) = rw q (h p e ∙ sym (house-price t n bids windows p e))
+    go i l (past m) = absurd (omega (arith, a))
 
 -- words have the cells of the auction
 
@@ -109,14 +117,17 @@ empty-row ms w n i x e l =
     (simp (length-take, length-drop) (omega (arith, mul-le-mul-left w l))))
     ∙ ap (λ (v : ℕ). eqb (v % 2) 1) (zero-div (2 ^ (x % 64)))
 
-pub masks-have : (t : Tender) (n w : ℕ) (bids windows ms : List ℕ) → length ms ≡ w * n
-    → AllMasked n t w bids windows ms → has ms w ≡ auctionOf t n bids windows .has
+pub masks-have : (t : Tender) (n w : ℕ) (bids windows ms : List ℕ) → length ms ≡ w * (n + houses (t .reserve))
+    → AllMasked n t w bids windows ms
+    → ((p : ℕ) → t .reserve ≡ Price p → (x : ℕ) → eqb (cell (wordRow ms w n) x) 1 ≡ ltb x (cellsOf t))
+    → has ms w ≡ auctionOf t n bids windows .has
 unfolding has
-masks-have t n w bids windows ms e m = fun-ext (λ i. fun-ext (λ x. go i x (ltb i n) refl))
+masks-have t n w bids windows ms e m h = fun-ext (λ i. fun-ext (λ x. go i x (entry-at t n i)))
   where
-    go : (i x : ℕ) (b : Bool) → ltb i n ≡ b → eqb (cell (wordRow ms w i) x) 1 ≡ auctionOf t n bids windows .has i x
-    go i x true u = m .each i (ltb-true i n u) .sets x ∙ sym (row-cell t n bids windows i x (ltb-true i n u))
-    go i x false u = empty-row ms w n i x e (ltb-false i n u) ∙ sym (no-cells t n bids windows i x (ltb-false i n u))
+    go : (i x : ℕ) → EntryAt t n i → eqb (cell (wordRow ms w i) x) 1 ≡ auctionOf t n bids windows .has i x
+    go i x (owner l) = m .each i l .sets x ∙ sym (row-cell t n bids windows i x l)
+    go i x (house p u q) = rw q (h p u x ∙ sym (house-has t n bids windows p x u))
+    go i x (past l) = empty-row ms w (n + houses (t .reserve)) i x e l ∙ sym (no-cells t n bids windows i x l)
 
 -- a window's cells
 
@@ -158,10 +169,11 @@ clip-order t s e l = omega arith
 pub clip-inside : (t : Tender) (s : ℕ) → clipped t s ≤ cellsOf t
 clip-inside t s = omega arith
 
--- starts and ends of bids of one window each have the cells of the auction
-module _ (t : Tender) (n : ℕ) (bids windows starts ends : List ℕ) (o : Orderly Single n bids windows) (a : length starts ≡ n)
-    (b : length ends ≡ n)
-    (p : SpansLaid n t bids windows starts ends) where
+-- starts and ends of bids of one window each, and after them of the house, have the cells of the auction
+module _ (t : Tender) (n : ℕ) (bids windows starts ends : List ℕ) (o : Orderly Single n bids windows)
+    (a : length starts ≡ n + houses (t .reserve)) (b : length ends ≡ n + houses (t .reserve))
+    (p : SpansLaid n t bids windows starts ends)
+    (h : (q : ℕ) → t .reserve ≡ Price q → (getD starts n 0 ≡ 0) × (getD ends n 0 ≡ cellsOf t)) where
   one-count : (i : ℕ) → i < n → bidRowAt bids i .count ≡ 1
   unfolding within mostWindows
   one-count i l =
@@ -176,11 +188,10 @@ module _ (t : Tender) (n : ℕ) (bids windows starts ends : List ℕ) (o : Order
 
   pub spans-ordered : (i : ℕ) → getD starts i 0 ≤ getD ends i 0
   unfolding allLawful lawful
-  spans-ordered i = go (ltb i n) refl
+  spans-ordered i = go (entry-at t n i)
     where
-      go : (c : Bool) → ltb i n ≡ c → getD starts i 0 ≤ getD ends i 0
-      go true u =
-          let l = ltb-true i n u in
+      go : EntryAt t n i → getD starts i 0 ≤ getD ends i 0
+      go (owner l) =
           let h : (ltb (windowAt windows (bidRowAt bids i .first) .start) (windowAt windows (bidRowAt bids i .first) .end)
           && leb (windowAt windows (bidRowAt bids i .first) .end) 10080) && true ≡ true =
           sym (ap allLawful (own-one i l)) ∙ o .kept i l .windows-too in
@@ -198,33 +209,31 @@ module _ (t : Tender) (n : ℕ) (bids windows starts ends : List ℕ) (o : Order
                       (c .0),
                 )),
           )
-      go false u = omega (arith, ltb-false i n u, List·getD-eq-default starts 0 {n = i} (omega (arith, ltb-false i n u)))
+      go (house q e r) = rw r (omega (arith, h q e))
+      go (past l) = omega (arith, List·getD-eq-default starts 0 {n = i} (omega (arith, a)))
 
   pub spans-inside : (i : ℕ) → getD ends i 0 ≤ cellsOf t
-  spans-inside i = go (ltb i n) refl
+  spans-inside i = go (entry-at t n i)
     where
-      go : (c : Bool) → ltb i n ≡ c → getD ends i 0 ≤ cellsOf t
-      go true u = omega (
-        arith,
-        p .ends-are i (ltb-true i n u),
-        clip-inside t (windowAt windows (bidRowAt bids i .first) .end),
-      )
-      go false u = omega (arith, List·getD-eq-default ends 0 {n = i} (omega (arith, ltb-false i n u)))
+      go : EntryAt t n i → getD ends i 0 ≤ cellsOf t
+      go (owner l) = omega (arith, p .ends-are i l, clip-inside t (windowAt windows (bidRowAt bids i .first) .end))
+      go (house q e r) = rw r (omega (arith, h q e))
+      go (past l) = omega (arith, List·getD-eq-default ends 0 {n = i} (omega (arith, b)))
 
   pub spans-have : spans starts ends ≡ auctionOf t n bids windows .has
   unfolding spans holds
-  spans-have = fun-ext (λ i. fun-ext (λ x. go i x (ltb i n) refl))
+  spans-have = fun-ext (λ i. fun-ext (λ x. go i x (entry-at t n i)))
     where
-      go : (i x : ℕ) (c : Bool) → ltb i n ≡ c → (leb (getD starts i 0) x && ltb x (getD ends i 0))
+      go : (i x : ℕ) → EntryAt t n i → (leb (getD starts i 0) x && ltb x (getD ends i 0))
           ≡ auctionOf t n bids windows .has i x
-      go i x true u =
-          let l = ltb-true i n u in
+      go i x (owner l) =
           rw (p .starts-are i l, p .ends-are i l, row-cell t n bids windows i x l, own-one i l)
           (in-cell t (windowAt windows (bidRowAt bids i .first) .start) (windowAt windows (bidRowAt bids i .first) .end) x
           ∙ ap (λ b. ltb x (cellsOf t) && b) (sym (or-false
           (leb (windowAt windows (bidRowAt bids i .first) .start) (minuteOf t x)
           && ltb (minuteOf t x) (windowAt windows (bidRowAt bids i .first) .end)))))
-      go i x false u =
-          ap (λ (v : ℕ). leb (getD starts i 0) x && ltb x v) (List·getD-eq-default ends 0 {n = i} (omega (arith, ltb-false i n u)))
+      go i x (house q e r) = rw (r, h q e .0, h q e .1, house-has t n bids windows q x e, le-leb 0 x (omega arith))
+      go i x (past l) =
+          ap (λ (v : ℕ). leb (getD starts i 0) x && ltb x v) (List·getD-eq-default ends 0 {n = i} (omega (arith, b)))
           ∙ ap (λ c. leb (getD starts i 0) x && c) (le-ltb x 0 (omega arith)) ∙ and-false (leb (getD starts i 0) x)
-          ∙ sym (no-cells t n bids windows i x (ltb-false i n u))
+          ∙ sym (no-cells t n bids windows i x l)

@@ -1,15 +1,17 @@
 // Faultless tables laid out as bids over cells, in plain numbers: the prices, the starts and ends of bids of one window,
 // and the words of bids of several windows. Minutes outside the tender are clipped.
+use tender::Reserve;
 use tender::Tender;
 ghost use mathlib.Core.Path.{_≡_};
 ghost use Prim.Native.Nat.{ℕ, _+_, _*_, _/_, _≤_, _<_};
 ghost use lib.ListN.{length, getD, drop};
 ghost use mathlib.Core.Bool.{true};
 ghost use Rattle.tender.specs.declared.Kind.the-variants.{Single, Multi};
-ghost use Rattle.tender.specs.Limits.{allLawful};
+ghost use Rattle.tender.specs.Limits.{maxBids, allLawful};
 ghost use Rattle.tender.specs.Tables.{windowsOf, bidWidth, windowWidth};
 ghost use Rattle.cells.specs.Masks.{masks};
 ghost use Rattle.award_check.specs.Cells.{cellsOf, minuteOf};
+ghost use Rattle.award_check.specs.Auction.{houses};
 ghost use Rattle.award_layout.specs.Orderly.{Orderly, clipped, PricesLaid, SpansLaid, Masked, AllMasked};
 
 // How many cells a tender has.
@@ -28,6 +30,18 @@ pub fn minute(tender: Tender, cell: u64) -> u64
 {
     let window = tender.window;
     window.start + cell
+}
+
+// How many entries there are: the bids and, where there is a reserve, the house.
+pub fn entries(tender: Tender, count: usize) -> usize
+    requires { ⌜ count ≤ maxBids ⌝ }
+    ensures { λ r. ⌜ r ≡ count + houses (tender .reserve) ⌝ }
+{
+    let reserve = tender.reserve;
+    match reserve {
+        Reserve::Absent => count,
+        Reserve::Price(_) => count + 1,
+    }
 }
 
 // The prices of the bids.
