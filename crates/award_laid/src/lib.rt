@@ -1,53 +1,93 @@
-// A faultless tender laid out for the award of its kind: the prices, and the starts and ends or the words of the bids, with whether
-// each cell has two bidders. There are as many bids as `prices` has places.
+// A faultless tender laid out for the award of its kind: the prices, and the starts and ends or the words of the bids and, where there
+// is a reserve, of the house after them; with whether a cell is thin. There are as many entries as `prices` has places.
 use award_thin::Thin;
+use tender::Reserve;
 use tender::Tender;
 ghost use mathlib.Core.Path.{_≡_};
 ghost use mathlib.Core.Option.{none};
-ghost use Prim.Native.Nat.{_+_, _*_, _/_};
-ghost use lib.ListN.{length};
+ghost use Prim.Native.Nat.{_+_, _*_, _/_, _≤_, _<_};
+ghost use lib.ListN.{length, set};
 ghost use Rattle.tender.specs.declared.Kind.the-variants.{Single, Multi};
+ghost use Rattle.multi_rounds.specs.Market.{First};
 ghost use Rattle.award_check.specs.Faults.{faultOf};
 ghost use Rattle.award_check.specs.Cells.{cellsOf};
+ghost use Rattle.award_check.specs.Auction.{houses};
 ghost use Rattle.award_laid.specs.Lay.{LaidSpans, LaidMasks};
+
+// The house at this place, with every cell from the first to the last.
+fn put_house(
+    at: usize,
+    price: u64,
+    cells: u64,
+    prices: &mut [u64],
+    starts: &mut [u64],
+    ends: &mut [u64],
+)
+    requires { ⌜ (at < length (now prices)) × ((at < length (now starts)) × (at < length (now ends))) ⌝ }
+    ensures { λ _. ⌜ (now (prices .exit) ≡ set (now (prices .entry)) at price) × ((now (starts .exit) ≡ set (now (starts .entry)) at 0)
+        × (now (ends .exit) ≡ set (now (ends .entry)) at cells)) ⌝ }
+{
+    prices[at] = price;
+    starts[at] = 0;
+    ends[at] = cells;
+}
 
 // A single tender as prices, starts and ends.
 pub fn lay_spans(
     tender: Tender,
+    count: usize,
     bids: &[u64],
     windows: &[u64],
     prices: &mut [u64],
     starts: &mut [u64],
     ends: &mut [u64],
 ) -> Thin
-    requires { ⌜ (faultOf Single tender (length (now prices)) (now bids) (now windows) ≡ none)
-        × ((length (now starts) ≡ length (now prices)) × (length (now ends) ≡ length (now prices))) ⌝ }
-    ensures { λ r. ⌜ LaidSpans tender (length (now (prices .entry))) (now (bids .entry)) (now (windows .entry)) (now (prices .exit))
+    requires { ⌜ (faultOf Single tender count (now bids) (now windows) ≡ none)
+        × ((length (now prices) ≡ count + houses (tender .reserve)) × ((length (now starts) ≡ count + houses (tender .reserve))
+        × (length (now ends) ≡ count + houses (tender .reserve)))) ⌝ }
+    ensures { λ r. ⌜ LaidSpans tender count (now (bids .entry)) (now (windows .entry)) (now (prices .exit))
         (now (starts .exit)) (now (ends .exit)) r ⌝ }
 {
     let cells = award_layout::cells(tender);
-    award_layout::prices(bids, prices);
-    award_layout::spans(tender, bids, windows, starts, ends);
-    award_thin::thin_spans(starts, ends, cells as usize)
+    let reserve = tender.reserve;
+    award_layout::prices(bids, &mut prices[..count]);
+    award_layout::spans(tender, bids, windows, &mut starts[..count], &mut ends[..count]);
+    match reserve {
+        Reserve::Absent => award_thin::thin_spans(starts, ends, cells as usize),
+        Reserve::Price(price) => {
+            put_house(count, price, cells, prices, starts, ends);
+            Thin::Enough
+        }
+    }
 }
 
-// A multi tender as prices and words, w words a bid.
+// A multi tender as prices and words, w words an entry.
 pub fn lay_masks(
     tender: Tender,
     w: usize,
+    count: usize,
     bids: &[u64],
     windows: &[u64],
     prices: &mut [u64],
     masks: &mut [u64],
 ) -> Thin
-    requires { ⌜ (faultOf Multi tender (length (now prices)) (now bids) (now windows) ≡ none)
-        × ((w ≡ (cellsOf tender + 63) / 64) × (length (now masks) ≡ w * length (now prices))) ⌝ }
-    ensures { λ r. ⌜ LaidMasks tender (length (now (prices .entry))) w (now (bids .entry)) (now (windows .entry)) (now (prices .exit))
+    requires { ⌜ (faultOf Multi tender count (now bids) (now windows) ≡ none)
+        × ((w ≡ (cellsOf tender + 63) / 64) × ((length (now prices) ≡ count + houses (tender .reserve))
+        × (length (now masks) ≡ w * (count + houses (tender .reserve))))) ⌝ }
+    ensures { λ r. ⌜ LaidMasks tender count w (now (bids .entry)) (now (windows .entry)) (now (prices .exit))
         (now (masks .exit)) r ⌝ }
 {
-    let n = prices.len();
     let cells = award_layout::cells(tender);
-    award_layout::prices(bids, prices);
-    award_layout::masks(tender, w, n, bids, windows, masks);
-    award_thin::thin_masks(masks, w, n, cells as usize)
+    let reserve = tender.reserve;
+    let own = w * count;
+    award_layout::prices(bids, &mut prices[..count]);
+    award_layout::masks(tender, w, count, bids, windows, &mut masks[..own]);
+    match reserve {
+        Reserve::Absent => award_thin::thin_masks(masks, w, count, cells as usize),
+        Reserve::Price(price) => {
+            prices[count] = price;
+            multi_rounds::unlock(&mut masks[own..], cells as usize);
+            Thin::Enough
+        }
+    }
 }
