@@ -90,6 +90,14 @@ cells-within k t n bids windows e =
     let rules = sound-rules t (and-split (sameKind k (t .kind)) (soundTender t) (a .0) .1) .window in
     (omega (arith, rules .some-minute), omega (arith, rules .in-week))
 
+-- and its reserve is within the limit
+pub reserve-within : (k : Kind) (t : Tender) (n : ℕ) (bids windows : List ℕ) → faultOf k t n bids windows ≡ none
+    → (p : ℕ) → t .reserve ≡ Price p → p ≤ 100000000
+reserve-within k t n bids windows e =
+    let f = faultless k t n bids windows e in
+    let a = and-split (sameKind k (t .kind) && soundTender t) (leb n (length bids / bidWidth)) (f .tender) in
+    sound-rules t (and-split (sameKind k (t .kind)) (soundTender t) (a .0) .1) .reserve
+
 -- a bid has the cells of its row's windows
 row-cell : (t : Tender) (n : ℕ) (bids windows : List ℕ) (i x : ℕ) → i < n → auctionOf t n bids windows .has i x
     ≡ (ltb x (cellsOf t) && holds (own windows (bidRowAt bids i)) (minuteOf t x))

@@ -1,6 +1,6 @@
 -- The whole answer of either award to its tables (paper 01, "Who wins and what is paid" and "What each operation declines").
 use mathlib.Core.List.{List}
-use mathlib.Core.Bool.{Bool, false, cond}
+use mathlib.Core.Bool.{Bool, cond, _&&_}
 use mathlib.Core.Option.{Option, none, some}
 use Prim.Native.Nat.{ℕ}
 use lib.ListN.{length, getD}
@@ -13,14 +13,13 @@ use Rattle.tender.specs.declared.Refusal.{Refusal}
 use Rattle.tender.specs.declared.Refusal.the-variants.{BadTables, RowsTooFew, MinuteUncovered, OneBidder}
 use Rattle.tender.specs.Refusals.{numberOf, placeOf}
 use Rattle.cover.specs.Sets.{when, Found, nothing, found, bit, covers, cells}
-use Rattle.cover.specs.Earliest.{cellWith}
 use Rattle.cover.specs.LeastCover.{winners, vcgPaid}
 use Rattle.cover.specs.Greedy.{wins}
 use Rattle.cover.specs.CriticalPrice.{criticalPaid, sum}
 use Rattle.cover.specs.Settled.{listed}
 use Rattle.award_check.specs.Faults.{faultOf}
 use Rattle.award_check.specs.Cells.{minuteOf}
-use Rattle.award_check.specs.Auction.{Auction, auctionOf}
+use Rattle.award_check.specs.Auction.{Auction, auctionOf, reserved, thinCell}
 use Rattle.tender.specs.declared.AwardRow.{AwardRow}
 
 -- the rules by which tenders are awarded
@@ -59,13 +58,13 @@ unfoldable pub awardRows : Rule → Auction → List AwardRow
 unfolding won cents listed
 awardRows r A = listed (A .owners) (λ i. record { won = won r A i; cents = cents r A i })
 
--- the winners' cost, and the sum paid to owners
+-- the winners' cost, the house's price among it where it wins, the sum paid to owners, and whether the house wins
 unfoldable pub totalsOf : Rule → Auction → Totals
-unfolding won cents listed sum
+unfolding won cents listed sum reserved
 totalsOf r A = record {
   cost = sum (listed (length (A .prices)) (λ i. when (won r A i) (getD (A .prices) i 0)));
   paid = sum (listed (A .owners) (cents r A));
-  house = false;
+  house = reserved A && won r A (A .owners);
 }
 
 -- 11 of a cell: it is named by its minute
@@ -84,11 +83,10 @@ thinned bare alone (found x) y o = refused (bare x)
 thinned bare alone nothing (found x) o = refused (alone x)
 thinned bare alone nothing nothing o = o
 
--- refused at the earliest cell in no bid, else at the earliest in exactly one, else the award
+-- refused at the earliest cell in no bid, else at the earliest in exactly one, else the award; with a reserve the award
 unfoldable pub settled : Rule → Auction → (ℕ → Refusal) → (ℕ → Refusal) → Outcome
-unfolding thinned cellWith awardRows totalsOf
-settled r A bare alone = thinned bare alone (cellWith (A .has) (A .owners) (A .cells) 0) (cellWith (A .has) (A .owners) (A .cells) 1)
-    (awarded (awardRows r A) (totalsOf r A))
+unfolding thinned thinCell awardRows totalsOf
+settled r A bare alone = thinned bare alone (thinCell A 0) (thinCell A 1) (awarded (awardRows r A) (totalsOf r A))
 
 unfoldable pub judged : Option ℕ → Outcome → Outcome
 judged none o = o

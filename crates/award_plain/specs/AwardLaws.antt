@@ -4,7 +4,7 @@ use mathlib.Core.Path.{_≡_, refl, sym, ap, _∙_}
 use mathlib.Core.List.{List}
 use mathlib.Core.Bool.{Bool, true, false, cond}
 use mathlib.Core.Option.{Option, none, some}
-use Prim.Native.Nat.{ℕ}
+use Prim.Native.Nat.{ℕ, _<_}
 use native.Mathlib.Omega.{arith}
 use lib.ListN.{length}
 use lib.Dec.{ltb}
@@ -15,15 +15,14 @@ use Rattle.tender.specs.declared.AwardRow.{AwardRow}
 use Rattle.tender.specs.declared.Refusal.{Refusal}
 use Rattle.tender.specs.declared.Refusal.the-variants.{BadTables, RowsTooFew}
 use Rattle.cover.specs.Sets.{Found, nothing, found, bit, covers, cells}
-use Rattle.cover.specs.Earliest.{cellWith}
 use Rattle.cover.specs.LeastCover.{winners, vcgPaid}
 use Rattle.cover.specs.Greedy.{wins}
 use Rattle.cover.specs.CriticalPrice.{criticalPaid}
-use Rattle.cover.specs.SpareLaws.{Spare, enough-spare}
+use Rattle.cover.specs.SpareLaws.{Spare}
 use Rattle.cover.specs.SettledLaws.{length-listed}
 use Rattle.award_check.specs.Faults.{faultOf}
-use Rattle.award_check.specs.Auction.{Auction, auctionOf}
-use Rattle.award_check.specs.AuctionLaws.{owners-are, entries}
+use Rattle.award_check.specs.Auction.{Auction, auctionOf, thinCell}
+use Rattle.award_check.specs.AuctionLaws.{owners-are, owner-spared, all-have}
 use Rattle.award_plain.specs.Award.{won, cents, Outcome, awarded, refused, awardRows, totalsOf, thinned, settled, judged, awardOf}
 use Rattle.award_plain.specs.Award.{Rule, leastCost, greedy, rule, uncovered, lone, outcomeNumber}
 
@@ -47,32 +46,30 @@ cents-greedy A i = refl
 
 -- of an auction
 
-pub settled-is : (r : Rule) (A : Auction) (bare alone : ℕ → Refusal) (x y : Found) → cellWith (A .has) (A .owners) (A .cells) 0 ≡ x
-    → cellWith (A .has) (A .owners) (A .cells) 1 ≡ y
+pub settled-is : (r : Rule) (A : Auction) (bare alone : ℕ → Refusal) (x y : Found) → thinCell A 0 ≡ x → thinCell A 1 ≡ y
     → settled r A bare alone ≡ thinned bare alone x y (awarded (awardRows r A) (totalsOf r A))
 unfolding settled
 settled-is r A bare alone x y e f = rw (e, f)
 
 -- what an award that is not refused says
 pub record AwardOver (r : Rule) (A : Auction) (rows : List AwardRow) (totals : Totals) : Type 0 where
-  pub spare : (i : ℕ) → Spare (A .has) (A .owners) (A .cells) i
+  pub none-bare : thinCell A 0 ≡ nothing
+  pub none-lone : thinCell A 1 ≡ nothing
   pub rows-are : rows ≡ awardRows r A
   pub totals-are : totals ≡ totalsOf r A
 
 pub settled-awarded : (r : Rule) (A : Auction) (bare alone : ℕ → Refusal) (rows : List AwardRow) (totals : Totals)
     → settled r A bare alone ≡ awarded rows totals → AwardOver r A rows totals
 unfolding thinned
-settled-awarded r A bare alone rows totals h =
-    go (cellWith (A .has) (A .owners) (A .cells) 0) (cellWith (A .has) (A .owners) (A .cells) 1) refl refl
+settled-awarded r A bare alone rows totals h = go (thinCell A 0) (thinCell A 1) refl refl
   where
-    go : (x y : Found) → cellWith (A .has) (A .owners) (A .cells) 0 ≡ x → cellWith (A .has) (A .owners) (A .cells) 1 ≡ y
-        → AwardOver r A rows totals
+    go : (x y : Found) → thinCell A 0 ≡ x → thinCell A 1 ≡ y → AwardOver r A rows totals
     go (found x) y e f = let z = sym (settled-is r A bare alone (found x) y e f) ∙ h in let z : _≡_ {A = ℕ} 0 1 = cc in
         absurd (omega arith)
     go nothing (found x) e f = let z = sym (settled-is r A bare alone nothing (found x) e f) ∙ h in let z : _≡_ {A = ℕ} 0 1 = cc in
         absurd (omega arith)
     go nothing nothing e f = let z = sym (settled-is r A bare alone nothing nothing e f) ∙ h in
-        record { spare = enough-spare (A .has) (A .owners) (A .cells) e f; rows-are = cc; totals-are = cc }
+        record { none-bare = e; none-lone = f; rows-are = cc; totals-are = cc }
 
 -- over tables
 
@@ -118,15 +115,14 @@ no-fault k t n bids windows lent a e h = judged-nine (faultOf k t n bids windows
 
 -- where no rule is broken and each bid has an award row, what settles is answered
 pub award-settles : (k : Kind) (t : Tender) (n : ℕ) (bids windows : List ℕ) (lent : ℕ) → faultOf k t n bids windows ≡ none
-    → ltb lent n ≡ false → (x y : Found) → cellWith (auctionOf t n bids windows .has) n (auctionOf t n bids windows .cells) 0 ≡ x
-    → cellWith (auctionOf t n bids windows .has) n (auctionOf t n bids windows .cells) 1 ≡ y → awardOf k t n bids windows lent
+    → ltb lent n ≡ false → (x y : Found) → thinCell (auctionOf t n bids windows) 0 ≡ x → thinCell (auctionOf t n bids windows) 1 ≡ y
+    → awardOf k t n bids windows lent
     ≡ thinned (uncovered t) (lone t) x y
     (awarded (awardRows (rule k) (auctionOf t n bids windows)) (totalsOf (rule k) (auctionOf t n bids windows)))
 award-settles k t n bids windows lent f g x y d e =
     award-none k t n bids windows lent f
     ∙ ap (λ z. cond z (refused RowsTooFew) (settled (rule k) (auctionOf t n bids windows) (uncovered t) (lone t))) g
-    ∙ settled-is (rule k) (auctionOf t n bids windows) (uncovered t) (lone t) x y (rw (owners-are t n bids windows) d)
-    (rw (owners-are t n bids windows) e)
+    ∙ settled-is (rule k) (auctionOf t n bids windows) (uncovered t) (lone t) x y d e
 
 -- what an answer that awards says
 pub record AwardOn (k : Kind) (t : Tender) (n : ℕ) (bids windows : List ℕ) (lent : ℕ) (rows : List AwardRow)
@@ -158,7 +154,12 @@ module _ (k : Kind) (t : Tender) (n : ℕ) (bids windows : List ℕ) (lent : ℕ
   unfolding awardRows
   rows-count = ap length (w .settles .rows-are) ∙ length-listed (auctionOf t n bids windows .owners) _ ∙ owners-are t n bids windows
 
-  -- the entries but any one have every cell
-  pub spared : (i : ℕ) → Spare (auctionOf t n bids windows .has) (length (auctionOf t n bids windows .prices))
+  -- the entries but any owner's have every cell
+  pub spared : (i : ℕ) → i < n → Spare (auctionOf t n bids windows .has) (length (auctionOf t n bids windows .prices))
       (auctionOf t n bids windows .cells) i
-  spared i = rw (entries t n bids windows) (rw (owners-are t n bids windows) at (w .settles .spare i))
+  spared = owner-spared t n bids windows (w .settles .none-bare) (w .settles .none-lone)
+
+  -- and so have all entries
+  pub all-spared : Spare (auctionOf t n bids windows .has) (length (auctionOf t n bids windows .prices))
+      (auctionOf t n bids windows .cells) (length (auctionOf t n bids windows .prices))
+  all-spared = all-have t n bids windows (w .settles .none-bare) (w .settles .none-lone)

@@ -4,7 +4,4 @@ pub mod Sums
 pub mod AwardLaws
 pub mod SumsLaws
 pub mod PlainLaws
-pub mod ThinLaws
-pub mod MultiLaws
-pub mod PrefixLaws
-pub mod SingleLaws
+pub mod ReportLaws

@@ -1,7 +1,7 @@
 -- How the answer over plain lists comes about: from a fault, too few rows, a cell in no bid or in one, or what a core settles.
 -- Assumes nothing.
 use mathlib.Core.Path.{_≡_, refl, sym, ap, _∙_}
-use mathlib.Core.List.{List, _++_, map}
+use mathlib.Core.List.{List}
 use mathlib.Core.Bool.{Bool, cond}
 use mathlib.Core.Option.{none, some}
 use Prim.Native.Nat.{ℕ, _≤_, _<_}
@@ -14,8 +14,7 @@ use Rattle.tender.specs.declared.Tender.{Tender}
 use Rattle.tender.specs.declared.Totals.{Totals}
 use Rattle.tender.specs.declared.Refusal.{Refusal}
 use Rattle.tender.specs.declared.Refusal.the-variants.{BadTables, RowsTooFew, MinuteUncovered, OneBidder}
-use Rattle.cover.specs.Sets.{when, nothing, found, cells, bit}
-use Rattle.cover.specs.Earliest.{cellWith}
+use Rattle.cover.specs.Sets.{when, Found, nothing, found, cells, bit}
 use Rattle.cover.specs.SetLaws.{when-is}
 use Rattle.cover.specs.LeastCover.{winners, vcgPaid}
 use Rattle.cover.specs.Greedy.{wins}
@@ -24,10 +23,10 @@ use Rattle.cover.specs.CriticalLaws.{paid-by-rounds}
 use Rattle.cover.specs.SpareLaws.{Spare, spare-bids}
 use Rattle.cover.specs.Settled.{listed}
 use Rattle.cover.specs.Settled as core
-use Rattle.cover.specs.SettledLaws.{length-listed, getD-listed, listed-same, map-listed, listed-of}
+use Rattle.cover.specs.SettledLaws.{length-listed, getD-listed, listed-same}
 use Rattle.award_check.specs.Faults.{faultOf}
 use Rattle.award_check.specs.Cells.{minuteOf}
-use Rattle.award_check.specs.Auction.{Auction, auctionOf}
+use Rattle.award_check.specs.Auction.{Auction, auctionOf, thinCell}
 use Rattle.award_check.specs.AuctionLaws.{owners-are, entries}
 use Rattle.tender.specs.declared.Answer.{Answer}
 use Rattle.tender.specs.declared.Answer.the-variants.{Awarded, Refused}
@@ -39,119 +38,80 @@ use Rattle.award_plain.specs.Plain.{rowsIn, toldIn, wonAfter, centsAfter
 use Rattle.award_plain.specs.AwardLaws.{won-least, cents-least, won-greedy, cents-greedy, award-none, award-lent, award-nine}
 use Rattle.award_plain.specs.AwardLaws.{award-settles}
 
-module _ (k : Kind) (t : Tender) (n : ℕ) (bids windows : List ℕ) (lent : ℕ) (ow oc : List ℕ) where
+module _ (k : Kind) (t : Tender) (n : ℕ) (bids windows : List ℕ) where
   abbrev A : Auction
   A = auctionOf t n bids windows
 
   abbrev ps : List ℕ
   ps = A .prices
 
-  size : length ps ≡ n
-  size = entries t n bids windows
+  module _ (lent : ℕ) (ow oc : List ℕ) where
+    -- a refusal leaves the lists
+    refuses : (r : Refusal) → awardOf k t n bids windows lent ≡ refused r
+        → PlainPromise k t n bids windows lent ow oc ow oc (Refused r)
+    unfolding toldIn wonAfter centsAfter
+    refuses r e = record { answers = sym e; won-are = refl; cents-are = refl }
 
-  -- a refusal leaves the lists
-  refuses : (r : Refusal) → awardOf k t n bids windows lent ≡ refused r
-      → PlainPromise k t n bids windows lent ow oc ow oc (Refused r)
-  unfolding toldIn wonAfter centsAfter
-  refuses r e = record { answers = sym e; won-are = refl; cents-are = refl }
+    pub nine : (p : ℕ) → faultOf k t n bids windows ≡ some p
+        → PlainPromise k t n bids windows lent ow oc ow oc (Refused (BadTables p))
+    nine p e = refuses (BadTables p) (award-nine k t n bids windows lent p e)
 
-  pub nine : (p : ℕ) → faultOf k t n bids windows ≡ some p
-      → PlainPromise k t n bids windows lent ow oc ow oc (Refused (BadTables p))
-  nine p e = refuses (BadTables p) (award-nine k t n bids windows lent p e)
-
-  module _ (f : faultOf k t n bids windows ≡ none) where
-    pub ten : lent < n → PlainPromise k t n bids windows lent ow oc ow oc (Refused RowsTooFew)
-    ten l = refuses RowsTooFew (award-none k t n bids windows lent f
+    pub ten : faultOf k t n bids windows ≡ none → lent < n → PlainPromise k t n bids windows lent ow oc ow oc (Refused RowsTooFew)
+    ten f l = refuses RowsTooFew (award-none k t n bids windows lent f
         ∙ ap (λ b. cond b (refused RowsTooFew) (settled (rule k) A (uncovered t) (lone t))) (lt-ltb lent n l))
 
-    module _ (enough : n ≤ lent) where
-      pub eleven : (x : ℕ) → cellWith (A .has) n (A .cells) 0 ≡ found x
-          → PlainPromise k t n bids windows lent ow oc ow oc (Refused (MinuteUncovered (minuteOf t x)))
-      unfolding thinned uncovered
-      eleven x e = refuses (uncovered t x)
-          (award-settles k t n bids windows lent f (le-ltb lent n enough) (found x) (cellWith (A .has) n (A .cells) 1) e refl)
+  -- what the flags and cents of all entries tell is right
+  module _ (f : faultOf k t n bids windows ≡ none) (nw nc : List ℕ) where
+    settles : (x y : Found) → thinCell A 0 ≡ x → thinCell A 1 ≡ y
+        → awardOf k t n bids windows n ≡ thinned (uncovered t) (lone t) x y (awarded (awardRows (rule k) A) (totalsOf (rule k) A))
+    settles = award-settles k t n bids windows n f (le-ltb n n (omega arith))
 
-      pub twelve : (x : ℕ) → cellWith (A .has) n (A .cells) 0 ≡ nothing → cellWith (A .has) n (A .cells) 1 ≡ found x
-          → PlainPromise k t n bids windows lent ow oc ow oc (Refused (OneBidder (minuteOf t x)))
-      unfolding thinned lone
-      twelve x d e = refuses (lone t x)
-          (award-settles k t n bids windows lent f (le-ltb lent n enough) nothing (found x) d e)
+    pub eleven : (x : ℕ) → thinCell A 0 ≡ found x
+        → toldIn n nw nc (Refused (MinuteUncovered (minuteOf t x))) ≡ awardOf k t n bids windows n
+    unfolding thinned uncovered toldIn
+    eleven x e = sym (settles (found x) (thinCell A 1) e refl)
 
-      -- a core settles by the flags w and the payments c, which are those of the definitions and are due to each bid
-      module _ (covered : cellWith (A .has) n (A .cells) 0 ≡ nothing) (doubled : cellWith (A .has) n (A .cells) 1 ≡ nothing)
-          (due : ℕ → Type 0) (w : ℕ → Bool) (c : ℕ → ℕ) (dues : (i : ℕ) → i < n → due i)
-          (w-is : (i : ℕ) → i < n → w i ≡ won (rule k) A i) (c-is : (i : ℕ) → i < n → c i ≡ cents (rule k) A i)
-          (nw nc : List ℕ) (totals : Totals) (room : length ps ≤ length oc) (s : core.Settled due w c ps ow oc nw nc)
-          (summed : totals ≡ totalsIn ps nw nc n) where
-        owned : length ps ≡ A .owners
-        owned = size ∙ sym (owners-are t n bids windows)
+    pub twelve : (x : ℕ) → thinCell A 0 ≡ nothing → thinCell A 1 ≡ found x
+        → toldIn n nw nc (Refused (OneBidder (minuteOf t x))) ≡ awardOf k t n bids windows n
+    unfolding thinned lone toldIn
+    twelve x d e = sym (settles nothing (found x) d e)
 
-        flag-at : (i : ℕ) → i < n → eqb (getD nw i 0) 1 ≡ won (rule k) A i
-        flag-at i l =
-            ap (λ (v : ℕ). eqb v 1) (ap (λ (zs : List ℕ). getD zs i 0) (s .flags)
-            ∙ List·getD-append (listed (length ps) (λ i. when (w i) 1)) (drop (length ps) ow) 0 i
-            (omega (arith, length-listed (length ps) (λ i. when (w i) 1), size))
-            ∙ getD-listed (length ps) (λ i. when (w i) 1) i 0 (omega (arith, size)))
-            ∙ when-is (w i) ∙ w-is i l
+    -- a core settles by the flags w and the payments c, which are those of the definitions and are due to each owner
+    module _ (covered : thinCell A 0 ≡ nothing) (doubled : thinCell A 1 ≡ nothing)
+        (ow oc : List ℕ) (due : ℕ → Type 0) (w : ℕ → Bool) (c : ℕ → ℕ) (dues : (i : ℕ) → i < n → due i)
+        (w-is : (i : ℕ) → w i ≡ won (rule k) A i) (c-is : (i : ℕ) → i < n → c i ≡ cents (rule k) A i)
+        (totals : Totals) (s : core.Settled due w c ps ow oc nw nc) (summed : totals ≡ totalsIn ps nw nc n) where
+      owners-inside : n ≤ length ps
+      owners-inside = omega (arith, entries t n bids windows)
 
-        pay-at : (i : ℕ) → i < n → getD nc i 0 ≡ cents (rule k) A i
-        pay-at i l = s .payments i (omega (arith, size)) (dues i l) ∙ c-is i l
+      flag-at : (i : ℕ) → i < length ps → eqb (getD nw i 0) 1 ≡ won (rule k) A i
+      flag-at i l =
+          ap (λ (v : ℕ). eqb v 1) (ap (λ (zs : List ℕ). getD zs i 0) (s .flags)
+          ∙ List·getD-append (listed (length ps) (λ i. when (w i) 1)) (drop (length ps) ow) 0 i
+          (omega (arith, length-listed (length ps) (λ i. when (w i) 1)))
+          ∙ getD-listed (length ps) (λ i. when (w i) 1) i 0 l)
+          ∙ when-is (w i) ∙ w-is i
 
-        rows-are : rowsIn n nw nc ≡ awardRows (rule k) A
-        unfolding rowsIn awardRows
-        rows-are =
-            listed-same n (λ i. record { won = eqb (getD nw i 0) 1; cents = getD nc i 0 })
-            (λ i. record { won = won (rule k) A i; cents = cents (rule k) A i }) (λ i l. rw (flag-at i l, pay-at i l))
-            ∙ ap (λ (m : ℕ). listed m (λ i. record { won = won (rule k) A i; cents = cents (rule k) A i }))
-            (sym (owners-are t n bids windows))
+      pay-at : (i : ℕ) → i < n → getD nc i 0 ≡ cents (rule k) A i
+      pay-at i l = s .payments i (omega (arith, owners-inside)) (dues i l) ∙ c-is i l
 
-        totals-is : totals ≡ totalsOf (rule k) A
-        totals-is = summed ∙ ap (totalsIn ps nw nc) (sym (owners-are t n bids windows))
-            ∙ totals-are (rule k) A nw nc (λ i l. flag-at i (omega (arith, size))) (λ i l. pay-at i (omega (arith, owned, size)))
+      rows-are : rowsIn n nw nc ≡ awardRows (rule k) A
+      unfolding rowsIn awardRows
+      rows-are =
+          listed-same n (λ i. record { won = eqb (getD nw i 0) 1; cents = getD nc i 0 })
+          (λ i. record { won = won (rule k) A i; cents = cents (rule k) A i })
+          (λ i l. rw (flag-at i (omega (arith, owners-inside)), pay-at i l))
+          ∙ ap (λ (m : ℕ). listed m (λ i. record { won = won (rule k) A i; cents = cents (rule k) A i }))
+          (sym (owners-are t n bids windows))
 
-        outcome-is : toldIn n nw nc (Awarded totals) ≡ awarded (awardRows (rule k) A) (totalsOf (rule k) A)
-        unfolding toldIn
-        outcome-is = ap (λ rows. awarded rows totals) rows-are
-            ∙ ap (awarded (awardRows (rule k) A)) totals-is
+      totals-is : totals ≡ totalsOf (rule k) A
+      totals-is = summed ∙ ap (totalsIn ps nw nc) (sym (owners-are t n bids windows))
+          ∙ totals-are (rule k) A nw nc flag-at (λ i l. pay-at i (omega (arith, owners-are t n bids windows)))
 
-        rows-count : length (awardRows (rule k) A) ≡ length ps
-        unfolding awardRows
-        rows-count = length-listed (A .owners) _ ∙ sym owned
-
-        flags-are : map (λ r. when (r .won) 1) (awardRows (rule k) A) ≡ listed (length ps) (λ i. when (w i) 1)
-        unfolding awardRows
-        flags-are =
-            map-listed (A .owners) (λ i. record { won = won (rule k) A i; cents = cents (rule k) A i }) (λ r. when (r .won) 1)
-            ∙ ap (λ (m : ℕ). listed m (λ i. when (won (rule k) A i) 1)) (sym owned)
-            ∙ listed-same (length ps) (λ i. when (won (rule k) A i) 1) (λ i. when (w i) 1)
-            (λ i l. ap (λ b. when b 1) (sym (w-is i (omega (arith, size)))))
-
-        pays-are : map (λ r. r .cents) (awardRows (rule k) A) ≡ listed (length ps) c
-        unfolding awardRows
-        pays-are =
-            map-listed (A .owners) (λ i. record { won = won (rule k) A i; cents = cents (rule k) A i }) (λ r. r .cents)
-            ∙ ap (λ (m : ℕ). listed m (cents (rule k) A)) (sym owned)
-            ∙ listed-same (length ps) (cents (rule k) A) c (λ i l. sym (c-is i (omega (arith, size))))
-
-        won-after : nw ≡ wonAfter ow (awarded (awardRows (rule k) A) (totalsOf (rule k) A))
-        unfolding wonAfter
-        won-after = s .flags ∙ sym (ap (λ l. l ++ drop (length (awardRows (rule k) A)) ow) flags-are
-            ∙ ap (λ (m : ℕ). listed (length ps) (λ i. when (w i) 1) ++ drop m ow) rows-count)
-
-        cents-after : nc ≡ centsAfter oc (awarded (awardRows (rule k) A) (totalsOf (rule k) A))
-        unfolding centsAfter
-        cents-after = listed-of (length ps) c oc nc room
-            (record { sized = s .sized; values = λ i l. s .payments i l (dues i (omega (arith, size))); kept = s .kept })
-            ∙ sym (ap (λ l. l ++ drop (length (awardRows (rule k) A)) oc) pays-are
-            ∙ ap (λ (m : ℕ). listed (length ps) c ++ drop m oc) rows-count)
-
-        pub awards : PlainPromise k t n bids windows lent ow oc nw nc (Awarded totals)
-        unfolding thinned
-        awards = record {
-          answers = outcome-is ∙ sym (award-settles k t n bids windows lent f (le-ltb lent n enough) nothing nothing covered doubled);
-          won-are = won-after ∙ sym (ap (wonAfter ow) outcome-is);
-          cents-are = cents-after ∙ sym (ap (centsAfter oc) outcome-is);
-        }
+      pub awards : toldIn n nw nc (Awarded totals) ≡ awardOf k t n bids windows n
+      unfolding toldIn thinned
+      awards = ap (λ rows. awarded rows totals) rows-are ∙ ap (awarded (awardRows (rule k) A)) totals-is
+          ∙ sym (settles nothing nothing covered doubled)
 
 -- what the two cores settle by is what the definitions say
 

@@ -21,15 +21,14 @@ use Rattle.award_thin.specs.declared.Thin.the-variants.{Enough}
 use Rattle.award_check.specs.Faults.{faultOf}
 use Rattle.award_check.specs.Cells.{cellsOf}
 use Rattle.award_check.specs.Auction.{Auction, auctionOf}
-use Rattle.award_check.specs.AuctionLaws.{entries, cells-are}
-use Rattle.award_layout.specs.LayoutLaws.{orderly}
+use Rattle.award_check.specs.AuctionLaws.{cells-are}
 use Rattle.award_laid.specs.Lay.{LaidSpans}
-use Rattle.award_plain.specs.Award.{coversIn}
+use Rattle.award_plain.specs.Award.{coversIn, awardOf}
 use Rattle.award_plain.specs.Sums.{totalsIn}
-use Rattle.award_plain.specs.Plain.{PlainPromise}
-use Rattle.award_plain.specs.ThinLaws.{enough}
-use Rattle.award_plain.specs.MultiLaws.{prices-lawful}
+use Rattle.award_plain.specs.Plain.{toldIn}
+use Rattle.award_settle.specs.ThinLaws.{enough}
+use Rattle.award_settle.specs.MultiLaws.{prices-lawful}
 use Rattle.award_plain.specs.PlainLaws.{awards, single-won, single-cents}
 
 module _ (t : Tender) (n : ℕ) (bids windows ps starts ends : List ℕ) (thin : Thin) (f : faultOf Single t n bids windows ≡ none)
     (l : LaidSpans t n bids windows ps starts ends thin) where
@@ -37,21 +36,18 @@ module _ (t : Tender) (n : ℕ) (bids windows ps starts ends : List ℕ) (thin :
   A = auctionOf t n bids windows
 
   pub lawful-prices : Priced ps
-  lawful-prices = rw (l .prices-are) (prices-lawful Single t n bids windows (orderly Single t n bids windows f))
-
-  size : length ps ≡ n
-  size = rw (l .prices-are) (entries t n bids windows)
+  lawful-prices = rw (l .prices-are) (prices-lawful Single t n bids windows f)
 
   pub prices-sum : sum ps ≤ mostSum
-  prices-sum = omega (arith, orderly Single t n bids windows f .few, size, sum-most ps (λ i d. lawful-prices .most i))
+  prices-sum = omega (arith, lawful-prices .count, sum-most ps (λ i d. lawful-prices .most i))
 
-  pub settled : thin ≡ Enough → (ow oc nw nc : List ℕ) (totals : Totals) → length ps ≤ length oc →
+  pub settled : thin ≡ Enough → (ow oc nw nc : List ℕ) (totals : Totals) →
       Settled (λ _. Unit {0}) (λ i. bit (winners (covers (spans starts ends) (length ps) (cellsOf t)) ps) i)
       (vcgPaid (covers (spans starts ends) (length ps) (cellsOf t)) ps) ps ow oc nw nc → totals ≡ totalsIn ps nw nc n →
-      PlainPromise Single t n bids windows n ow oc nw nc (Awarded totals)
-  settled e ow oc nw nc totals room h u =
-      let h′ = enough Single t n bids windows thin (l .thin-is) e in
-      awards Single t n bids windows n ow oc f (omega arith) (h′ .0) (h′ .1) (λ _. Unit {0})
+      toldIn n nw nc (Awarded totals) ≡ awardOf Single t n bids windows n
+  settled e ow oc nw nc totals h u =
+      let d = enough t n bids windows thin (l .thin-is) e in
+      awards Single t n bids windows f nw nc (d .0) (d .1) ow oc (λ _. Unit {0})
       (λ i. bit (winners (coversIn A) (A .prices)) i)
-      (vcgPaid (coversIn A) (A .prices)) (λ i d. tt) (λ i d. single-won A i) (λ i d. single-cents A i) nw nc
-      totals (rw (l .prices-are) at room) (rw (l .has-is, l .prices-are, ← cells-are t n bids windows) at h) (rw (l .prices-are) at u)
+      (vcgPaid (coversIn A) (A .prices)) (λ i d. tt) (λ i. single-won A i) (λ i d. single-cents A i)
+      totals (rw (l .has-is, l .prices-are, ← cells-are t n bids windows) at h) (rw (l .prices-are) at u)

@@ -1,0 +1,4 @@
+pub mod ThinLaws
+pub mod MultiLaws
+pub mod PrefixLaws
+pub mod SingleLaws
