@@ -1,5 +1,5 @@
 -- A right outcome is one award or one refusal, in the order of paper 01. Assumes nothing.
-use mathlib.Core.Path.{_≡_, refl, ap, _∙_}
+use mathlib.Core.Path.{_≡_, refl, sym, ap, _∙_}
 use mathlib.Core.List.{List, _++_}
 use mathlib.Core.Bool.{Bool, true, false, cond}
 use mathlib.Core.Option.{Option, none, some}
@@ -9,6 +9,8 @@ use lib.ListN.{length, drop}
 use lib.Dec.{ltb}
 use borrow.Author.Tests.{ltb-true, ltb-false}
 use Rattle.tender.specs.declared.Kind.{Kind}
+use Rattle.tender.specs.declared.Reserve.{Reserve}
+use Rattle.tender.specs.declared.Reserve.the-variants.{Absent, Price}
 use Rattle.tender.specs.declared.Tender.{Tender}
 use Rattle.tender.specs.declared.Refusal.{Refusal}
 use Rattle.tender.specs.declared.Refusal.the-variants.{BadTables, RowsTooFew}
@@ -18,11 +20,11 @@ use Rattle.cover.specs.EarliestLaws.{cell-found, one-at, two-at}
 use Rattle.cover.specs.SettledLaws.{length-listed}
 use Rattle.award_check.specs.Faults.{faultOf}
 use Rattle.award_check.specs.Cells.{minuteOf}
-use Rattle.award_check.specs.Auction.{Auction, auctionOf}
-use Rattle.award_check.specs.AuctionLaws.{minutes, owners-are}
+use Rattle.award_check.specs.Auction.{houses, Auction, auctionOf, thinCell}
+use Rattle.award_check.specs.AuctionLaws.{minutes, cells-are, owners-are, thin-told, none-thin}
 use Rattle.tender.specs.declared.AwardRow.{AwardRow}
 use Rattle.tender.specs.declared.Answer.{Answer}
-use Rattle.award_plain.specs.Award.{rule, Outcome, awarded, refused, awardRows, totalsOf, uncovered, lone, thinned, settled}
+use Rattle.award_plain.specs.Award.{rule, Outcome, awarded, refused, awardRows, totalsOf, uncovered, lone, thinned, settled, outcomeNumber}
 use Rattle.award.specs.Promise.{lentAfter, toldAward, Promise}
 use Rattle.award.specs.Right.{Callable, Bidders, EarliestIn, IsAward, IsRefusal, OneAnswer, tables-break-a-rule, rows-too-few}
 use Rattle.award.specs.Right.{minute-uncovered, one-bidder, award}
@@ -60,21 +62,37 @@ module _ (k : Kind) (t : Tender) (n : ℕ) (bids windows : List ℕ) (old new : 
         earliest = rw (owners-are t n bids windows) (λ m l k. h .before (m - t .window .start) (omega arith));
       }
 
-  cover : Callable k t n bids windows (length old) → ltb (length old) n ≡ false → OneAnswer k t n bids windows old new o
-  unfolding thinned uncovered lone minuteOf
-  cover s g = go (cellWith (A .has) n (A .cells) 0) (cellWith (A .has) n (A .cells) 1) refl refl
-    where
-      go : (x y : Found) → cellWith (A .has) n (A .cells) 0 ≡ x → cellWith (A .has) n (A .cells) 1 ≡ y
-          → OneAnswer k t n bids windows old new o
-      go (found x) y d e = minute-uncovered (t .window .start + x) s (at-cell 0 x d)
-          (refusal (uncovered t x)
-          (p .answers ∙ award-settles k t n bids windows (length old) (s .sound) g (found x) y d e))
-      go nothing (found x) d e = one-bidder (t .window .start + x) s
-          (rw (owners-are t n bids windows) (one-at (A .has) n (A .cells) d)) (at-cell 1 x e)
-          (refusal (lone t x) (p .answers
-          ∙ award-settles k t n bids windows (length old) (s .sound) g nothing (found x) d e))
-      go nothing nothing d e = award s (rw (owners-are t n bids windows) (two-at (A .has) n (A .cells) d e))
-          (is-award (p .answers ∙ award-settles k t n bids windows (length old) (s .sound) g nothing nothing d e))
+  module _ (s : Callable k t n bids windows (length old)) (g : ltb (length old) n ≡ false) where
+    settles : (x y : Found) → thinCell A 0 ≡ x → thinCell A 1 ≡ y
+        → o ≡ thinned (uncovered t) (lone t) x y (awarded (awardRows (rule k) A) (totalsOf (rule k) A))
+    settles x y d e = p .answers ∙ award-settles k t n bids windows (length old) (s .sound) g x y d e
+
+    -- with a reserve no cell is thin
+    reserved-award : (q : ℕ) → t .reserve ≡ Price q → OneAnswer k t n bids windows old new o
+    unfolding thinned
+    reserved-award q u = award s (λ v. let z : _≡_ {A = ℕ} 0 1 = ap houses (sym v ∙ u) in absurd (omega arith))
+        (is-award (settles nothing nothing (none-thin t n bids windows q u 0) (none-thin t n bids windows q u 1)))
+
+    owners-award : t .reserve ≡ Absent → OneAnswer k t n bids windows old new o
+    unfolding thinned uncovered lone minuteOf
+    owners-award u = go (cellWith (A .has) n (A .cells) 0) (cellWith (A .has) n (A .cells) 1) refl refl
+      where
+        told : (m : ℕ) (x : Found) → cellWith (A .has) n (A .cells) m ≡ x → thinCell A m ≡ x
+        told m x e = thin-told t n bids windows u m ∙ rw (← cells-are t n bids windows) e
+
+        go : (x y : Found) → cellWith (A .has) n (A .cells) 0 ≡ x → cellWith (A .has) n (A .cells) 1 ≡ y
+            → OneAnswer k t n bids windows old new o
+        go (found x) y d e = minute-uncovered (t .window .start + x) s u (at-cell 0 x d)
+            (refusal (uncovered t x) (settles (found x) y (told 0 (found x) d) (told 1 y e)))
+        go nothing (found x) d e = one-bidder (t .window .start + x) s u
+            (rw (owners-are t n bids windows) (one-at (A .has) n (A .cells) d)) (at-cell 1 x e)
+            (refusal (lone t x) (settles nothing (found x) (told 0 nothing d) (told 1 (found x) e)))
+        go nothing nothing d e = award s (λ _. rw (owners-are t n bids windows) (two-at (A .has) n (A .cells) d e))
+            (is-award (settles nothing nothing (told 0 nothing d) (told 1 nothing e)))
+
+    cover : (r : Reserve) → t .reserve ≡ r → OneAnswer k t n bids windows old new o
+    cover Absent u = owners-award u
+    cover (Price q) u = reserved-award q u
 
   pub one-answer : OneAnswer k t n bids windows old new o
   one-answer = fault (faultOf k t n bids windows) refl
@@ -83,7 +101,7 @@ module _ (k : Kind) (t : Tender) (n : ℕ) (bids windows : List ℕ) (old new : 
       rows f true g = rows-too-few f (ltb-true (length old) n g)
           (refusal RowsTooFew (p .answers ∙ award-none k t n bids windows (length old) f
           ∙ ap (λ z. cond z (refused RowsTooFew) (settled (rule k) A (uncovered t) (lone t))) g))
-      rows f false g = cover (record { sound = f; rows = ltb-false (length old) n g }) g
+      rows f false g = cover (record { sound = f; rows = ltb-false (length old) n g }) g (t .reserve) refl
 
       fault : (m : Option ℕ) → faultOf k t n bids windows ≡ m → OneAnswer k t n bids windows old new o
       fault none e = rows e (ltb (length old) n) refl
@@ -96,13 +114,28 @@ module _ (k : Kind) (t : Tender) (n : ℕ) (bids windows : List ℕ) (old new : 
     two (m - t .window .start) (omega (arith, i .from, i .to, minutes t n bids windows)),
   )
 
-  -- nothing else is declined: where no rule is broken, each bid has a row and each minute two bidders, it awards
-  pub awards : Callable k t n bids windows (length old) → Bidders A 2 → IsAward (rule k) A old new o
+  -- nothing else is declined: where no rule is broken, each bid has a row and, without a reserve, each minute two bidders, it awards
+  pub awards : Callable k t n bids windows (length old) → (t .reserve ≡ Absent → Bidders A 2) → IsAward (rule k) A old new o
   awards s two = go one-answer
     where
       go : OneAnswer k t n bids windows old new o → IsAward (rule k) A old new o
       go (tables-break-a-rule q e r) = let f = s .sound in let z : _≡_ {A = ℕ} 0 1 = cc in absurd (omega arith)
       go (rows-too-few f l r) = absurd (omega (arith, s .rows))
-      go (minute-uncovered m c i r) = absurd (omega (arith, few m 0 two i))
-      go (one-bidder m c b i r) = absurd (omega (arith, few m 1 two i))
+      go (minute-uncovered m c u i r) = absurd (omega (arith, few m 0 (two u) i))
+      go (one-bidder m c u b i r) = absurd (omega (arith, few m 1 (two u) i))
       go (award c b w) = w
+
+  -- with a reserve neither 11 nor 12 is told
+  pub reserve-serves : (q : ℕ) → t .reserve ≡ Price q → (outcomeNumber o ≡ 11 → ⊥) × (outcomeNumber o ≡ 12 → ⊥)
+  unfolding outcomeNumber
+  reserve-serves q u = go one-answer
+    where
+      absent : t .reserve ≡ Absent → ⊥
+      absent v = let z : _≡_ {A = ℕ} 0 1 = ap houses (sym v ∙ u) in omega arith
+
+      go : OneAnswer k t n bids windows old new o → (outcomeNumber o ≡ 11 → ⊥) × (outcomeNumber o ≡ 12 → ⊥)
+      go (tables-break-a-rule r e x) = rw (x .outcome) (λ z. omega arith, λ z. omega arith)
+      go (rows-too-few f l x) = rw (x .outcome) (λ z. omega arith, λ z. omega arith)
+      go (minute-uncovered m c v i x) = absurd (absent v)
+      go (one-bidder m c v b i x) = absurd (absent v)
+      go (award c b w) = rw (w .outcome) (λ z. omega arith, λ z. omega arith)

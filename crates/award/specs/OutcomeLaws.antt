@@ -14,14 +14,14 @@ use Rattle.cover.specs.LeastCover.{winners, without}
 use Rattle.cover.specs.LeastCoverLaws.{tie}
 use Rattle.cover.specs.SpareLaws.{least-wins}
 use Rattle.award_check.specs.Auction.{auctionOf, atPrice}
-use Rattle.award_check.specs.AuctionLaws.{owners-are, entries}
+use Rattle.award_check.specs.AuctionLaws.{owners-are, entries, with-reserve, EntryAt, owner, house, past, entry-at}
 use Rattle.award_check.specs.Alike.{named, Alike}
 use Rattle.tender.specs.declared.AwardRow.{AwardRow}
 use Rattle.award_plain.specs.Award.{leastCost, greedy, rule, coversIn, won, totalsOf, Outcome, awarded, refused, outcomeNumber, awardOf}
 use Rattle.award.specs.Gain.{rowFor, gain, AtMost}
-use Rattle.award.specs.Right.{LeastCover, WinnerAt, PaidByEight}
-use Rattle.award_plain.specs.AwardLaws.{won-least, cents-least, no-fault, award-awarded, spared}
-use Rattle.award.specs.SettleLaws.{rowIn, cost-least, largest, vcg-pays, winners-cover}
+use Rattle.award.specs.Right.{LeastCover, WinnerAt, by-owner, by-house, PaidByEight}
+use Rattle.award_plain.specs.AwardLaws.{won-least, cents-least, no-fault, AwardOn, award-awarded, spared, all-spared}
+use Rattle.award.specs.SettleLaws.{rowIn, cost-least, house-least, house-wins, largest, vcg-pays, Winner, winners-cover}
 use Rattle.award.specs.TableLaws.{award-honest, row-is, row-fair}
 
 -- Two tenders that neither answer refuses with 9, alike in all but the price of bid i, each with an award row for every bid or
@@ -54,13 +54,14 @@ least-cover k t n bids windows lent rows totals e x =
     let w = award-awarded k t n bids windows lent rows totals x in
     let A = auctionOf t n bids windows in
     let ok = coversIn A in
-    let v = least-wins (A .has) (A .prices) (A .cells) (spared k t n bids windows lent rows totals w (length (A .prices))) in
+    let v = least-wins (A .has) (A .prices) (A .cells) (all-spared k t n bids windows lent rows totals w) in
     let c = ap (λ z. z .cost) (w .settles .totals-are ∙ ap (λ r. totalsOf r A) e) ∙ cost-least A in
     record {
       set = winners ok (A .prices);
       below = v .inside;
       members = λ i l. ap (λ r. r .won) (row-is k t n bids windows lent rows totals w i (rw (owners-are t n bids windows) at l))
           ∙ ap (λ r. won r A i) e ∙ won-least A i (length (A .prices)) refl;
+      house-is = ap (λ z. z .house) (w .settles .totals-are ∙ ap (λ r. totalsOf r A) e) ∙ house-least A;
       all-covered = v .good;
       cost-is = c;
       least = λ s l g. rw c (v .least s l g);
@@ -69,18 +70,25 @@ least-cover k t n bids windows lent rows totals e x =
 
 pub all-served : (k : Kind) (t : Tender) (n : ℕ) (bids windows : List ℕ) (lent : ℕ) (rows : List AwardRow) (totals : Totals)
     → awarded rows totals ≡ awardOf k t n bids windows lent → (x : ℕ) → x < auctionOf t n bids windows .cells
-    → WinnerAt (auctionOf t n bids windows) (awarded rows totals) x
+    → WinnerAt (auctionOf t n bids windows) rows totals x
 all-served k t n bids windows lent rows totals y x l =
     let w = award-awarded k t n bids windows lent rows totals y in
-    let m = winners-cover (rule k) (auctionOf t n bids windows)
-    (spared k t n bids windows lent rows totals w (length (auctionOf t n bids windows .prices))) x l in
-    let i : m .who < n = omega (arith, m .inside, entries t n bids windows) in
-    record {
-      who = m .who;
-      inside = omega (arith, i, owners-are t n bids windows);
-      wins = ap (λ r. r .won) (row-is k t n bids windows lent rows totals w (m .who) i) ∙ m .wins;
-      covers-it = m .covers-it;
-    }
+    go w (winners-cover (rule k) (auctionOf t n bids windows) (all-spared k t n bids windows lent rows totals w) x l)
+  where
+    go : AwardOn k t n bids windows lent rows totals → Winner (rule k) (auctionOf t n bids windows) x
+        → WinnerAt (auctionOf t n bids windows) rows totals x
+    go w m = at (entry-at t n (m .who))
+      where
+        at : EntryAt t n (m .who) → WinnerAt (auctionOf t n bids windows) rows totals x
+        at (owner i) = by-owner (m .who) (omega (arith, i, owners-are t n bids windows))
+            (ap (λ r. r .won) (row-is k t n bids windows lent rows totals w (m .who) i) ∙ m .wins) (m .covers-it)
+        at (house p e q) =
+            let z = sym (q ∙ sym (owners-are t n bids windows)) in
+            by-house
+            (ap (λ z. z .house) (w .settles .totals-are) ∙ house-wins (rule k) (auctionOf t n bids windows) (with-reserve t n bids windows p e)
+            (ap (won (rule k) (auctionOf t n bids windows)) z ∙ m .wins))
+            (ap (λ (i : ℕ). auctionOf t n bids windows .has i x) z ∙ m .covers-it)
+        at (past d) = absurd (omega (arith, m .inside, entries t n bids windows))
 
 -- by the greedy rule a winner is paid the largest whole price with which it would still win if all else stood
 pub largest-price : (k : Kind) (t : Tender) (n i : ℕ) (bids windows : List ℕ) (lent : ℕ) (rows : List AwardRow) (totals : Totals)
@@ -90,7 +98,7 @@ pub largest-price : (k : Kind) (t : Tender) (n i : ℕ) (bids windows : List ℕ
 largest-price k t n i bids windows lent rows totals l e y f p =
     let w = award-awarded k t n bids windows lent rows totals y in
     let r = row-is k t n bids windows lent rows totals w i l ∙ ap (λ r. rowIn r (auctionOf t n bids windows) i) e in
-    largest (auctionOf t n bids windows) i (rw (entries t n bids windows) l) (spared k t n bids windows lent rows totals w i)
+    largest (auctionOf t n bids windows) i (omega (arith, entries t n bids windows)) (spared k t n bids windows lent rows totals w i l)
     (sym (ap (λ r. r .won) r) ∙ f) p
     ∙ ap (λ r. leb p (r .cents)) (sym r)
 
@@ -102,7 +110,7 @@ paid-by-eight k t n i bids windows lent rows totals l e x f =
     let w = award-awarded k t n bids windows lent rows totals x in
     let A = auctionOf t n bids windows in
     let r = row-is k t n bids windows lent rows totals w i l ∙ ap (λ r. rowIn r A i) e in
-    let v = vcg-pays A i (rw (entries t n bids windows) l) (spared k t n bids windows lent rows totals w i)
+    let v = vcg-pays A i (omega (arith, entries t n bids windows)) (spared k t n bids windows lent rows totals w i l)
     (sym (won-least A i (length (A .prices)) refl) ∙ sym (ap (λ r. r .won) r) ∙ f) in
     let c = ap (λ r. r .cents) r ∙ cents-least A i (length (A .prices)) refl in
     record {

@@ -1,11 +1,12 @@
 -- What the demands say of an outcome: one answer, least cover, formula 8, no gain by a false price.
 use mathlib.Core.Path.{_≡_}
 use mathlib.Core.List.{List, _++_}
-use mathlib.Core.Bool.{true}
+use mathlib.Core.Bool.{true, _&&_}
 use mathlib.Core.Option.{none, some}
 use Prim.Native.Nat.{ℕ, _+_, _-_, _^_, _≤_, _<_}
 use lib.ListN.{length, getD, drop}
 use Rattle.tender.specs.declared.Kind.{Kind}
+use Rattle.tender.specs.declared.Reserve.the-variants.{Absent}
 use Rattle.tender.specs.declared.Tender.{Tender}
 use Rattle.tender.specs.declared.Totals.{Totals}
 use Rattle.tender.specs.declared.Refusal.{Refusal}
@@ -17,7 +18,7 @@ use Rattle.cover.specs.LeastCover.{Wins, Stands, without}
 use Rattle.reader_text.specs.Words.{numeralOf, priceOf}
 use Rattle.award_check.specs.Faults.{faultOf}
 use Rattle.award_check.specs.Cells.{noRow}
-use Rattle.award_check.specs.Auction.{Auction, auctionOf}
+use Rattle.award_check.specs.Auction.{Auction, auctionOf, reserved}
 use Rattle.award_check.specs.Alike.{named}
 use Rattle.tender.specs.declared.AwardRow.{AwardRow}
 use Rattle.award_plain.specs.Award.{Rule, rule, coversIn, Outcome, awarded, refused, awardRows, totalsOf}
@@ -49,36 +50,36 @@ pub record IsRefusal (r : Refusal) (old new : List AwardRow) (o : Outcome) : Typ
   pub outcome : o ≡ refused r
   pub lent : new ≡ old
 
--- one award or one refusal: 9, else 10, else 11, else 12
+-- one award or one refusal: 9, else 10, else, without a reserve, 11, else 12
 pub data OneAnswer (k : Kind) (t : Tender) (n : ℕ) (bids windows : List ℕ) (old new : List AwardRow) (o : Outcome) : Type 0 where
   tables-break-a-rule : (p : ℕ) → faultOf k t n bids windows ≡ some p → IsRefusal (BadTables p) old new o
       → OneAnswer k t n bids windows old new o
   rows-too-few : faultOf k t n bids windows ≡ none → length old < n → IsRefusal RowsTooFew old new o
       → OneAnswer k t n bids windows old new o
-  minute-uncovered : (m : ℕ) → Callable k t n bids windows (length old) → EarliestIn t (auctionOf t n bids windows) m 0
+  minute-uncovered : (m : ℕ) → Callable k t n bids windows (length old) → t .reserve ≡ Absent → EarliestIn t (auctionOf t n bids windows) m 0
       → IsRefusal (MinuteUncovered m) old new o → OneAnswer k t n bids windows old new o
-  one-bidder : (m : ℕ) → Callable k t n bids windows (length old) → Bidders (auctionOf t n bids windows) 1
+  one-bidder : (m : ℕ) → Callable k t n bids windows (length old) → t .reserve ≡ Absent → Bidders (auctionOf t n bids windows) 1
       → EarliestIn t (auctionOf t n bids windows) m 1 → IsRefusal (OneBidder m) old new o → OneAnswer k t n bids windows old new o
-  award : Callable k t n bids windows (length old) → Bidders (auctionOf t n bids windows) 2
+  award : Callable k t n bids windows (length old) → (t .reserve ≡ Absent → Bidders (auctionOf t n bids windows) 2)
       → IsAward (rule k) (auctionOf t n bids windows) old new o → OneAnswer k t n bids windows old new o
 
--- the winners by least cost: bid i is bit i of the set
+-- the winners by least cost: bid i is bit i of the set, and the house the bit after the bids'
 pub record LeastCover (A : Auction) (rows : List AwardRow) (totals : Totals) : Type 0 where
   pub set : ℕ
   pub below : set < 2 ^ length (A .prices)
   pub members : (i : ℕ) → i < A .owners → rowFor (awarded rows totals) i .won ≡ bit set i
+  pub house-is : totals .house ≡ (reserved A && bit set (A .owners))
   pub all-covered : coversIn A set ≡ true
   pub cost-is : totals .cost ≡ sets.cost (A .prices) set
   pub least : (s : ℕ) → s < 2 ^ length (A .prices) → coversIn A s ≡ true → totals .cost ≤ sets.cost (A .prices) s
   pub ties : (s : ℕ) → s < 2 ^ length (A .prices) → coversIn A s ≡ true → sets.cost (A .prices) s ≡ totals .cost
       → (s ≡ set → ⊥) → Stands set s
 
--- the winners by either rule cover: each minute of the tender, cell x, is in a winner's windows
-pub record WinnerAt (A : Auction) (o : Outcome) (x : ℕ) : Type 0 where
-  pub who : ℕ
-  pub inside : who < A .owners
-  pub wins : rowFor o who .won ≡ true
-  pub covers-it : A .has who x ≡ true
+-- the winners by either rule cover: each minute of the tender, cell x, is in a winner's windows, or the house is a winner and has it
+pub data WinnerAt (A : Auction) (rows : List AwardRow) (totals : Totals) (x : ℕ) : Type 0 where
+  by-owner : (who : ℕ) → who < A .owners → rowFor (awarded rows totals) who .won ≡ true → A .has who x ≡ true
+      → WinnerAt A rows totals x
+  by-house : totals .house ≡ true → A .has (A .owners) x ≡ true → WinnerAt A rows totals x
 
 -- document 000, formula 8: a winner's payment is the least cost without this bid, less the winners' cost, plus the winner's own price
 pub record PaidByEight (A : Auction) (i cents cost : ℕ) : Type 0 where

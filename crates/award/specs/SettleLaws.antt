@@ -1,7 +1,7 @@
 -- Of an auction, by either rule: a loser is paid nothing; where the other entries have every cell naming the true cost is best and no
 -- winner is paid less than it named; where all entries do the winners cover. Assumes nothing.
 use mathlib.Core.Path.{_≡_, refl, sym, _∙_}
-use mathlib.Core.Bool.{Bool, true, false}
+use mathlib.Core.Bool.{Bool, true, false, _&&_}
 use Prim.Native.Nat.{ℕ, _+_, _^_, _≤_, _<_}
 use native.Mathlib.Omega.{arith}
 use lib.ListN.{length, getD, set, length-set}
@@ -11,15 +11,14 @@ use Rattle.tender.specs.declared.AwardRow.{AwardRow}
 use Rattle.tender.specs.declared.Totals.{Totals}
 use Rattle.tender.specs.declared.Refusal.{Refusal}
 use Rattle.cover.specs.Sets.{when, Found, nothing, found, bit, cost, cells}
-use Rattle.cover.specs.Earliest.{cellWith}
 use Rattle.cover.specs.LeastCover.{Wins, winners, without, payment, vcgPaid}
 use Rattle.cover.specs.Greedy.{wins}
 use Rattle.cover.specs.CriticalPrice.{criticalPaid, winsAt}
 use Rattle.cover.specs.VcgLaws as vcg
 use Rattle.cover.specs.CriticalLaws as critical
-use Rattle.cover.specs.SpareLaws.{Spare, enough-spare, others, others-below, spare-set, spare-bids, least-covers, greedy-covers}
+use Rattle.cover.specs.SpareLaws.{Spare, others, others-below, spare-set, spare-bids, least-covers, greedy-covers}
 use Rattle.cover.specs.SettledLaws.{getD-listed, cost-sum}
-use Rattle.award_check.specs.Auction.{Auction, atPrice}
+use Rattle.award_check.specs.Auction.{Auction, atPrice, reserved, thinCell}
 use Rattle.award_check.specs.AuctionLaws.{at-own-price}
 use Rattle.award_plain.specs.Award.{Rule, leastCost, greedy, coversIn, won, cents, awarded, awardRows, totalsOf, thinned, settled}
 use Rattle.award_plain.specs.AwardLaws.{won-least, cents-least, won-greedy, cents-greedy, settled-is}
@@ -50,12 +49,14 @@ module _ (A : Auction) (i q : ℕ) where
   unfolding atPrice
   cents-greedy-at = cents-greedy (atPrice i q A) i
 
-  settled-at : (r : Rule) (bare alone : ℕ → Refusal) (x y : Found) → cellWith (A .has) (A .owners) (A .cells) 0 ≡ x
-      → cellWith (A .has) (A .owners) (A .cells) 1 ≡ y
+  thin-at : (m : ℕ) → thinCell (atPrice i q A) m ≡ thinCell A m
+  unfolding thinCell reserved atPrice
+  thin-at m = rw (length-set (A .prices) i q)
+
+  settled-at : (r : Rule) (bare alone : ℕ → Refusal) (x y : Found) → thinCell A 0 ≡ x → thinCell A 1 ≡ y
       → settled r (atPrice i q A) bare alone
       ≡ thinned bare alone x y (awarded (awardRows r (atPrice i q A)) (totalsOf r (atPrice i q A)))
-  unfolding atPrice
-  settled-at r bare alone x y e f = settled-is r (atPrice i q A) bare alone x y e f
+  settled-at r bare alone x y e f = settled-is r (atPrice i q A) bare alone x y (thin-at 0 ∙ e) (thin-at 1 ∙ f)
 
 -- where the other entries have every cell
 module _ (A : Auction) (i : ℕ) (inside : i < length (A .prices)) (y : Spare (A .has) (length (A .prices)) (A .cells) i) where
@@ -134,16 +135,15 @@ row-filled-at : (r : Rule) (A : Auction) (i q : ℕ) (totals : Totals) → i < A
 unfolding atPrice
 row-filled-at r A i q totals l = row-filled r (atPrice i q A) i totals l
 
--- naming q is no better than naming the true cost, which is the price of bid i in A
-pub settled-honest : (r : Rule) (A : Auction) (i q : ℕ) (bare alone : ℕ → Refusal) → i < A .owners
-    → length (A .prices) ≡ A .owners →
+-- naming q is no better than naming the true cost, which is the price of bid i in A, where no thin cell means that bid i is spared
+pub settled-honest : (r : Rule) (A : Auction) (i q : ℕ) (bare alone : ℕ → Refusal) → i < A .owners → i < length (A .prices)
+    → (thinCell A 0 ≡ nothing → thinCell A 1 ≡ nothing → Spare (A .has) (length (A .prices)) (A .cells) i) →
     AtMost (gain (getD (A .prices) i 0) (rowFor (settled r (atPrice i q A) bare alone) i))
     (gain (getD (A .prices) i 0) (rowFor (settled r A bare alone) i))
 unfolding rowFor gain thinned
-settled-honest r A i q bare alone l n =
-    go (cellWith (A .has) (A .owners) (A .cells) 0) (cellWith (A .has) (A .owners) (A .cells) 1) refl refl
+settled-honest r A i q bare alone l n spare = go (thinCell A 0) (thinCell A 1) refl refl
   where
-    go : (x y : Found) → cellWith (A .has) (A .owners) (A .cells) 0 ≡ x → cellWith (A .has) (A .owners) (A .cells) 1 ≡ y →
+    go : (x y : Found) → thinCell A 0 ≡ x → thinCell A 1 ≡ y →
         AtMost (gain (getD (A .prices) i 0) (rowFor (settled r (atPrice i q A) bare alone) i))
         (gain (getD (A .prices) i 0) (rowFor (settled r A bare alone) i))
     go (found x) y e f = rw (settled-is r A bare alone (found x) y e f, settled-at A i q r bare alone (found x) y e f) (omega arith)
@@ -153,11 +153,20 @@ settled-honest r A i q bare alone l n =
         (rw (row-filled r A i (totalsOf r A) l, row-filled-at r A i q (totalsOf r (atPrice i q A)) l)
         (gain-most (getD (A .prices) i 0) (rowIn r (atPrice i q A) i) (rowIn r A i) (lost-nothing r (atPrice i q A) i)
         (lost-nothing r A i)
-        (rw (at-own-price i A) at (honest A i (omega arith) (rw n (enough-spare (A .has) (A .owners) (A .cells) e f i)) r
-        (getD (A .prices) i 0) q))))
+        (rw (at-own-price i A) at (honest A i n (spare e f) r (getD (A .prices) i 0) q))))
 
 -- the sum of the winners' prices is the cost of the set
 pub cost-least : (A : Auction) → totalsOf leastCost A .cost
     ≡ cost (A .prices) (winners (coversIn A) (A .prices))
 unfolding totalsOf won
 cost-least A = sym (cost-sum (A .prices) (winners (coversIn A) (A .prices)))
+
+-- the house wins where it is in the set
+pub house-least : (A : Auction) → totalsOf leastCost A .house
+    ≡ (reserved A && bit (winners (coversIn A) (A .prices)) (A .owners))
+unfolding totalsOf won
+house-least A = refl
+
+pub house-wins : (r : Rule) (A : Auction) → reserved A ≡ true → won r A (A .owners) ≡ true → totalsOf r A .house ≡ true
+unfolding totalsOf
+house-wins r A e f = rw (e, f)

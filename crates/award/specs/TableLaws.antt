@@ -16,7 +16,7 @@ use Rattle.tender.specs.Tables.{bidWidth}
 use Rattle.cover.specs.Sets.{when}
 use Rattle.award_check.specs.Faults.{faultOf}
 use Rattle.award_check.specs.Auction.{Auction, auctionOf}
-use Rattle.award_check.specs.AuctionLaws.{owners-are, entries, price-named, at-own-price, auction-alike}
+use Rattle.award_check.specs.AuctionLaws.{owners-are, entries, owner-spared, price-named, at-own-price, auction-alike}
 use Rattle.award_check.specs.Alike.{Alike}
 use Rattle.award_plain.specs.Award.{rule, won, cents, awarded, refused, uncovered, lone, settled, awardOf}
 use Rattle.award_plain.specs.AwardLaws.{award-none, AwardOn, spared}
@@ -43,7 +43,7 @@ module _ (k : Kind) (t : Tender) (n i : ℕ) (bids windows : List ℕ) (inside :
       go true = omega arith
       go false = rw (auction-alike k t n i bids windows bids′ windows′ inside f a, ← price-named t n bids windows i inside)
           (settled-honest (rule k) A i (getD bids′ (bidWidth * i + 1) 0) (uncovered t) (lone t) (rw (owners-are t n bids windows) inside)
-          (entries t n bids windows ∙ sym (owners-are t n bids windows)))
+          (omega (arith, entries t n bids windows)) (λ d e. owner-spared t n bids windows d e i inside))
 
 module _ (k : Kind) (t : Tender) (n : ℕ) (bids windows : List ℕ) (lent : ℕ) (rows : List AwardRow) (totals : Totals)
     (w : AwardOn k t n bids windows lent rows totals) where
@@ -54,8 +54,8 @@ module _ (k : Kind) (t : Tender) (n : ℕ) (bids windows : List ℕ) (lent : ℕ
   pub row-fair : (i : ℕ) → i < n → rowFor (awarded rows totals) i .won ≡ true
       → getD bids (bidWidth * i + 1) 0 ≤ rowFor (awarded rows totals) i .cents
   row-fair i l e =
-      let h = fair (auctionOf t n bids windows) i (rw (entries t n bids windows) l)
-      (spared k t n bids windows lent rows totals w i) (rule k) (getD (auctionOf t n bids windows .prices) i 0) in
+      let h = fair (auctionOf t n bids windows) i (omega (arith, entries t n bids windows))
+      (spared k t n bids windows lent rows totals w i l) (rule k) (getD (auctionOf t n bids windows .prices) i 0) in
       rw (row-is i l, ← price-named t n bids windows i l)
       (go (rw (row-is i l) at e) (rw (at-own-price i (auctionOf t n bids windows)) at h))
     where

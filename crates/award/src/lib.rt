@@ -36,7 +36,7 @@ pub fn settle(
         (now (won .entry)) (now (cents .entry)) (now (won .exit)) (now (cents .exit)) r ⌝ }
 {
     let lent = lesser(won.len(), cents.len());
-    award_plain::settle_in(kind, tender, count, bids, windows, lent, won, cents)
+    award_settle::settle_in(kind, tender, count, bids, windows, lent, won, cents)
 }
 
 // The award row that a bid's flag and cents say: won where its flag is 1, and the cents paid.
@@ -93,7 +93,7 @@ fn settle_rows(
         (now (cents .entry)) (now (won .exit)) (now (cents .exit)) (r .answer)
         × (r .rows ≡ rowsFilled (r .answer) count) ⌝ }
 {
-    let answer = award_plain::settle_in(kind, tender, count, bids, windows, lent, won, cents);
+    let answer = award_settle::settle_in(kind, tender, count, bids, windows, lent, won, cents);
     Settled {
         answer: answer,
         rows: rows_filled(answer, count),

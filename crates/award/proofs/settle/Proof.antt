@@ -5,7 +5,7 @@ use Rattle.award.proofs.settle.Tie as tie
 use Rattle.award.proofs.settle.Reads as reads
 use Rattle.award.proofs.settle.Lts as lts
 use Rattle.award.proofs.lesser.Reads as lesser-reads
-use Rattle.award_plain.proofs.settle_in.Reads as settle-in-reads
+use Rattle.award_settle.proofs.settle_in.Reads as settle-in-reads
 
 lesser-requires : tie.Need-lesser-requires
 lesser-requires c κs = search needs
