@@ -1,4 +1,4 @@
--- One line of a bid text, read by itself: the tender's line, a bid's line, or no line of the form.
+-- One line of a bid text, read by itself: the tender's line, the reserve's, a bid's, or no line of the form.
 use Prim.Native.Nat.{ℕ}
 use mathlib.Core.List.{List, [], _∷_}
 use mathlib.Core.Bool.{cond}
@@ -7,7 +7,7 @@ use Rattle.tender.specs.declared.Kind.{Kind}
 use Rattle.tender.specs.declared.Kind.the-variants.{Single, Multi}
 use Rattle.tender.specs.declared.Window.{Window}
 use Rattle.tender.specs.declared.Tender.{Tender}
-use Rattle.tender.specs.Keywords.{bidWord, multiWord, singleWord, tenderWord}
+use Rattle.tender.specs.Keywords.{bidWord, multiWord, reserveWord, singleWord, tenderWord}
 use Rattle.reader_word.specs.Words.{andThen, cut, sameBytes, closed, numeralOf, priceOf}
 use Rattle.reader_word.specs.Windows.{spanOf, windowOf}
 
@@ -23,6 +23,7 @@ pub record BidLine : Type 0 where
 pub data Line : Type 0 where
   tender : TenderLine → Line
   bid : BidLine → Line
+  reserve : ℕ → Line
 
 -- the line of a tender
 abbrev pub tenderLine : Tender → TenderLine
@@ -59,10 +60,20 @@ bidOf (n ∷ p ∷ ws) =
     andThen (numeralOf n) (λ y. andThen (priceOf p)
     (λ v. andThen (windowsIn ws) (λ l. some (bid (record { bidder = y; price = v; windows = l })))))
 
+-- after "(reserve": a price and a closing bracket
+unfoldable pub reserveOf : List (List ℕ) → Option Line
+unfolding andThen closed priceOf
+reserveOf [] = none
+reserveOf (p ∷ []) = andThen (closed p) (λ z. andThen (priceOf z) (λ v. some (reserve v)))
+reserveOf (p ∷ x ∷ ws) = none
+
 unfoldable pub lineOfWords : List (List ℕ) → Option Line
-unfolding sameBytes tenderWord bidWord tenderOf bidOf
+unfolding sameBytes tenderWord bidWord reserveWord tenderOf bidOf reserveOf
 lineOfWords [] = none
-lineOfWords (w ∷ ws) = cond (sameBytes w (40 ∷ tenderWord)) (tenderOf ws) (cond (sameBytes w (40 ∷ bidWord)) (bidOf ws) none)
+lineOfWords (w ∷ ws) =
+    cond (sameBytes w (40 ∷ tenderWord)) (tenderOf ws)
+    (cond (sameBytes w (40 ∷ bidWord)) (bidOf ws)
+    (cond (sameBytes w (40 ∷ reserveWord)) (reserveOf ws) none))
 
 -- the line with these bytes, the byte 10 left out; one space stands between two words, and none elsewhere
 unfoldable pub lineOf : List ℕ → Option Line

@@ -7,16 +7,17 @@ use lib.ListN.{length}
 use lib.Dec.{leb, ltb}
 use Rattle.tender.specs.declared.Kind.{Kind}
 use Rattle.tender.specs.declared.Window.{Window}
-use Rattle.tender.specs.declared.Reserve.the-variants.{Absent}
+use Rattle.tender.specs.declared.Reserve.{Reserve}
+use Rattle.tender.specs.declared.Reserve.the-variants.{Absent, Price}
 use Rattle.tender.specs.declared.Tender.{Tender}
 use Rattle.tender.specs.declared.Refusal.{Refusal}
 use Rattle.tender.specs.declared.Refusal.the-variants.{TextTooLong, BadForm, OutsideLimits, TooMany, EmptyWindow, BidderRepeated}
-use Rattle.tender.specs.declared.Refusal.the-variants.{SeveralWindows, TableTooShort, LateWindow}
+use Rattle.tender.specs.declared.Refusal.the-variants.{SeveralWindows, TableTooShort, LateWindow, ReserveMisplaced}
 use Rattle.tender.specs.Refusals.{numberOf, placeOf}
 use Rattle.tender.specs.Limits.{within, maxPrice, maxBidder, maxBids, maxWindows, maxText, isSingle, ordered, early, every}
 use Rattle.tender.specs.Tables.{Row}
 use Rattle.reader_word.specs.Words.{cut, among}
-use Rattle.reader_line.specs.Line.{TenderLine, BidLine, Line, tender, bid, linesOf}
+use Rattle.reader_line.specs.Line.{TenderLine, BidLine, Line, tender, bid, reserve, linesOf}
 
 pub data ReadOutcome : Type 0 where
   accepted : Tender → List Row → List Window → ReadOutcome
@@ -41,6 +42,7 @@ bidsOf [] = []
 bidsOf (none ∷ ls) = bidsOf ls
 bidsOf (some (tender t) ∷ ls) = bidsOf ls
 bidsOf (some (bid b) ∷ ls) = b ∷ bidsOf ls
+bidsOf (some (reserve p) ∷ ls) = bidsOf ls
 
 -- the page's order: of the faults of a line, the first that stands there. The refusal wants the number of the line
 unfoldable pub lineFault : (many outside several empty late used : Bool) → Option (ℕ → Refusal)
@@ -84,6 +86,7 @@ unfolding bidFault lineJudged
 checked k at used [] out = out
 checked k at used (none ∷ ls) out = declinedBy (BadForm at)
 checked k at used (some (tender t) ∷ ls) out = declinedBy (BadForm at)
+checked k at used (some (reserve p) ∷ ls) out = declinedBy (ReserveMisplaced at)
 checked k at used (some (bid b) ∷ ls) out = let rest = checked k (at + 1) (used ++ b .bidder ∷ []) ls out in
     lineJudged (bidFault k used b) at rest
 
@@ -102,16 +105,26 @@ headJudged none at head = head
 headJudged (some r) at head = halted (r at)
 
 -- the tender that the lines of a head give
-abbrev pub tenderWith : TenderLine → Tender
-tenderWith t = record { kind = t .kind; window = t .window; reserve = Absent }
+abbrev pub tenderWith : TenderLine → Reserve → Tender
+tenderWith t r = record { kind = t .kind; window = t .window; reserve = r }
+
+-- the reserve's line may stand next, which is line `at`
+unfoldable pub reserveIn : TenderLine → ℕ → List (Option Line) → Head
+reserveIn t at (some (reserve p) ∷ ls) =
+    cond (leb p maxPrice) (begun (tenderWith t (Price p)) (at + 1) ls) (halted (OutsideLimits at))
+reserveIn t at [] = begun (tenderWith t Absent) at []
+reserveIn t at (none ∷ ls) = begun (tenderWith t Absent) at (none ∷ ls)
+reserveIn t at (some (tender u) ∷ ls) = begun (tenderWith t Absent) at (some (tender u) ∷ ls)
+reserveIn t at (some (bid b) ∷ ls) = begun (tenderWith t Absent) at (some (bid b) ∷ ls)
 
 -- the first line is the tender's
 unfoldable pub headOf : List (Option Line) → Head
-unfolding tenderFault headJudged
+unfolding tenderFault headJudged reserveIn
 headOf [] = halted (BadForm 1)
 headOf (none ∷ ls) = halted (BadForm 1)
 headOf (some (bid b) ∷ ls) = halted (BadForm 1)
-headOf (some (tender t) ∷ ls) = headJudged (tenderFault t) 1 (begun (tenderWith t) 2 ls)
+headOf (some (reserve p) ∷ ls) = halted (BadForm 1)
+headOf (some (tender t) ∷ ls) = headJudged (tenderFault t) 1 (reserveIn t 2 ls)
 
 -- the lines after the head are the bids'
 unfoldable pub afterHead : Head → ReadOutcome
