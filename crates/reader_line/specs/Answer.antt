@@ -8,7 +8,7 @@ use Rattle.tender.specs.declared.Kind.{Kind}
 use Rattle.reader_word.specs.Words.{cut}
 use Rattle.reader_line.specs.Line.{Line, linesOf}
 use Rattle.reader_word.specs.Scan.{toNext}
-use Rattle.reader_line.specs.Tally.{Note, tenderNote, bidNote}
+use Rattle.reader_line.specs.Tally.{Note, tenderNote, bidNote, reserveNote}
 use Rattle.reader_line.specs.Tally as held
 use Rattle.reader_line.specs.declared.ends.LineEnd.{LineEnd}
 use Rattle.reader_line.specs.declared.ends.LineEnd.the-variants.{At, Broken}
@@ -43,3 +43,4 @@ abbrev pub toldLine : line.Line → List ℕ → Option Note
 toldLine lineIs.Broken table = none
 toldLine (lineIs.Tender k w) table = some (tenderNote (record { kind = k; window = w }))
 toldLine (lineIs.Bid n p c flaw) table = some (bidNote n p (record { count = c; flaw = flaw; table = table }))
+toldLine (lineIs.Reserve p) table = some (reserveNote p)

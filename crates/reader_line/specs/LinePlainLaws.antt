@@ -8,13 +8,13 @@ use native.Mathlib.Omega.{arith}
 use lib.ListN.{length}
 use lib.Dec.{eqb}
 use borrow.Author.Tests.{eqb-true}
-use Rattle.tender.specs.Keywords.{bidWord, multiWord, singleWord, tenderWord}
+use Rattle.tender.specs.Keywords.{bidWord, multiWord, reserveWord, singleWord, tenderWord}
 use Rattle.tender.specs.declared.Kind.{Kind}
 use Rattle.tender.specs.declared.Kind.the-variants.{Single, Multi}
 use Rattle.tender.specs.declared.Window.{Window}
 use Rattle.tender.specs.Limits.{within}
 use Rattle.reader_word.specs.Words.{andThen, growFirst, cut, sameBytes, opened, closed, digits, leadingZero, numeralOf, priceOf}
-use Rattle.reader_line.specs.Line.{Line, kindOf, windowsIn, tenderOf, bidOf, lineOfWords, lineOf}
+use Rattle.reader_line.specs.Line.{Line, kindOf, windowsIn, tenderOf, bidOf, reserveOf, lineOfWords, lineOf}
 use Rattle.reader_word.specs.Windows.{spanOf, windowOf}
 use Rattle.reader_word.specs.CutLaws.{Pieces, cut-some}
 use Rattle.reader_line.specs.LinePlain.{plain, allPlain}
@@ -170,16 +170,28 @@ bid-plain (n ∷ p ∷ ws) x h =
     let l = then-some (windowsIn ws) _ x (v .2) in
     (number-plain n (y .0) (y .1), (price-plain p (v .0) (v .1), windows-plain ws (l .0) (l .1)))
 
+reserve-plain : (ws : List (List ℕ)) (x : Line) → reserveOf ws ≡ some x → PlainPieces ws
+unfolding reserveOf
+reserve-plain [] x h = tt
+reserve-plain (p ∷ []) x h =
+    let z = then-some (closed p) _ x h in
+    let v = then-some (priceOf (z .0)) _ x (z .2) in
+    (closed-plain p (z .0) (z .1) (price-plain (z .0) (v .0) (v .1)), tt)
+reserve-plain (p ∷ u ∷ ws) x h = let z : _≡_ {A = ℕ} 0 1 = cc in absurd (omega arith)
+
 pub line-plain : (line : List ℕ) (x : Line) → lineOf line ≡ some x → allPlain line ≡ true
 unfolding lineOf allPlain
 line-plain line x h = cut-plain 32 line refl (words (cut 32 line) h)
   where
     words : (ws : List (List ℕ)) → lineOfWords ws ≡ some x → PlainPieces ws
     words [] e = tt
-    words (w ∷ ws) e = go (sameBytes w (40 ∷ tenderWord)) refl (sameBytes w (40 ∷ bidWord)) refl e
+    words (w ∷ ws) e =
+        go (sameBytes w (40 ∷ tenderWord)) refl (sameBytes w (40 ∷ bidWord)) refl (sameBytes w (40 ∷ reserveWord)) refl e
       where
         go : (a : Bool) → sameBytes w (40 ∷ tenderWord) ≡ a → (b : Bool) → sameBytes w (40 ∷ bidWord) ≡ b
-            → cond a (tenderOf ws) (cond b (bidOf ws) none) ≡ some x → PlainPieces (w ∷ ws)
-        go true h b j y = (rw (same-is w (40 ∷ tenderWord) h), tender-plain ws x y)
-        go false h true j y = (rw (same-is w (40 ∷ bidWord) j), bid-plain ws x y)
-        go false h false j y = let z : _≡_ {A = ℕ} 0 1 = cc in absurd (omega arith)
+            → (c : Bool) → sameBytes w (40 ∷ reserveWord) ≡ c
+            → cond a (tenderOf ws) (cond b (bidOf ws) (cond c (reserveOf ws) none)) ≡ some x → PlainPieces (w ∷ ws)
+        go true h b j c k y = (rw (same-is w (40 ∷ tenderWord) h), tender-plain ws x y)
+        go false h true j c k y = (rw (same-is w (40 ∷ bidWord) j), bid-plain ws x y)
+        go false h false j true k y = (rw (same-is w (40 ∷ reserveWord) k), reserve-plain ws x y)
+        go false h false j false k y = let z : _≡_ {A = ℕ} 0 1 = cc in absurd (omega arith)

@@ -11,13 +11,14 @@ use borrow.Author.Tests.{eq-eqb, ne-eqb}
 use Rattle.tender.specs.declared.Kind.{Kind}
 use Rattle.tender.specs.declared.Kind.the-variants.{Single, Multi}
 use Rattle.tender.specs.declared.Window.{Window}
-use Rattle.tender.specs.Keywords.{tenderWord, bidWord, singleWord, multiWord}
+use Rattle.tender.specs.Keywords.{tenderWord, bidWord, reserveWord, singleWord, multiWord}
 use Rattle.reader_word.specs.Words.{andThen, cut, sameBytes, closed, numeralOf, priceOf}
-use Rattle.reader_line.specs.Line.{TenderLine, Line, tender, bid, kindOf, windowsIn, tenderOf, bidOf, lineOfWords, lineOf}
+use Rattle.reader_line.specs.Line.{TenderLine, Line, tender, bid, reserve, kindOf, windowsIn, tenderOf, bidOf, reserveOf}
+use Rattle.reader_line.specs.Line.{lineOfWords, lineOf}
 use Rattle.reader_word.specs.Windows.{spanOf}
 use Rattle.reader_word.specs.CutLaws.{cut-some}
 use Rattle.reader_word.specs.Scan.{toNext, part}
-use Rattle.reader_line.specs.Tally.{Tally, tenderNote, bidNote, tallied, noted}
+use Rattle.reader_line.specs.Tally.{Tally, tenderNote, bidNote, reserveNote, tallied, noted}
 use Rattle.reader_word.specs.ScanLaws.{cut-at, cut-at-end}
 use Rattle.reader_line.specs.Answer.{asKind}
 use Rattle.reader_word.specs.declared.windows.Flaw.the-variants.{Sound}
@@ -71,6 +72,11 @@ pub noted-tender : (o : Option Line) (t : TenderLine) → o ≡ some (tender t) 
     → some (tenderNote t) ≡ noted m table o
 unfolding noted
 noted-tender o t e m table = rw e
+
+pub noted-reserve : (o : Option Line) (p : ℕ) → o ≡ some (reserve p) → (m : ℕ) (table : List ℕ)
+    → some (reserveNote p) ≡ noted m table o
+unfolding noted
+noted-reserve o p e m table = rw e
 
 -- the tender's line from place `at` on: its words end at k, s and e
 
@@ -171,6 +177,27 @@ module _ (line : List ℕ) (at n p : ℕ) (l : at ≤ length line) (q : at + toN
               go none e = let z : _≡_ {A = ℕ} 0 1 = cc in absurd (omega arith)
               go (some ws) e = cc
 
+-- the reserve's line from place `at` on: its word ends at e
+
+module _ (line : List ℕ) (at e : ℕ) (l : at ≤ length line) (q : at + toNext 32 (drop at line) ≡ e) where
+  pub reserve-two : e < length line → reserveOf (cut 32 (drop at line)) ≡ none
+  unfolding reserveOf
+  reserve-two h = let c = cut-some 32 (drop (e + 1) line) in rw (cut-at 32 line at e q h, c .are)
+
+  module _ (h : e ≡ length line) where
+    pub reserve-open : closed (drop at line) ≡ none → reserveOf (cut 32 (drop at line)) ≡ none
+    unfolding reserveOf andThen
+    reserve-open g = rw (cut-at-end 32 line at l (q ∙ h)) (rw g)
+
+    module _ (z : List ℕ) (gz : closed (drop at line) ≡ some z) where
+      pub reserve-unpriced : priceOf z ≡ none → reserveOf (cut 32 (drop at line)) ≡ none
+      unfolding reserveOf andThen
+      reserve-unpriced g = rw (cut-at-end 32 line at l (q ∙ h)) (rw (gz, g))
+
+      pub reserve-whole : (v : ℕ) → priceOf z ≡ some v → reserveOf (cut 32 (drop at line)) ≡ some (reserve v)
+      unfolding reserveOf andThen
+      reserve-whole v g = rw (cut-at-end 32 line at l (q ∙ h)) (rw (gz, g))
+
 -- the whole line: its first word ends at e
 
 first-word : (line : List ℕ) (e : ℕ) → 0 < e → e ≤ length line → take (e - 0) (drop 0 line) ≡ getD line 0 0 ∷ part line 1 e
@@ -180,14 +207,15 @@ first-word (b ∷ l) (suc n) h k = let a : suc n - 0 ≡ suc n = omega arith in 
 
 module _ (line : List ℕ) (e : ℕ) (q : 0 + toNext 32 (drop 0 line) ≡ e) where
   pub line-one : e ≡ length line → lineOf line ≡ none
-  unfolding lineOf lineOfWords tenderOf bidOf
+  unfolding lineOf lineOfWords tenderOf bidOf reserveOf
   line-one h = ap lineOfWords (cut-at-end 32 line 0 (omega arith) (q ∙ h))
-      ∙ go (sameBytes line (40 ∷ tenderWord)) (sameBytes line (40 ∷ bidWord))
+      ∙ go (sameBytes line (40 ∷ tenderWord)) (sameBytes line (40 ∷ bidWord)) (sameBytes line (40 ∷ reserveWord))
     where
-      go : (a b : Bool) → cond a (tenderOf []) (cond b (bidOf []) none) ≡ none
-      go true b = refl
-      go false true = refl
-      go false false = refl
+      go : (a b c : Bool) → cond a (tenderOf []) (cond b (bidOf []) (cond c (reserveOf []) none)) ≡ none
+      go true b c = refl
+      go false true c = refl
+      go false false true = refl
+      go false false false = refl
 
   module _ (h : e < length line) where
     words-are : cut 32 line ≡ part line 0 e ∷ cut 32 (drop (e + 1) line)
@@ -215,7 +243,11 @@ module _ (line : List ℕ) (e : ℕ) (q : 0 + toNext 32 (drop 0 line) ≡ e) whe
         unfolding lineOf lineOfWords sameBytes
         line-bid s t = ap lineOfWords opened-words ∙ rw (eq-eqb (getD line 0 0) 40 g) (rw (s, t))
 
-        pub line-other : sameBytes (part line 1 e) tenderWord ≡ false → sameBytes (part line 1 e) bidWord ≡ false
-            → lineOf line ≡ none
-        unfolding lineOf lineOfWords sameBytes
-        line-other s t = ap lineOfWords opened-words ∙ rw (eq-eqb (getD line 0 0) 40 g) (rw (s, t))
+        module _ (s : sameBytes (part line 1 e) tenderWord ≡ false) (t : sameBytes (part line 1 e) bidWord ≡ false) where
+          pub line-reserve : sameBytes (part line 1 e) reserveWord ≡ true → lineOf line ≡ reserveOf (cut 32 (drop (e + 1) line))
+          unfolding lineOf lineOfWords sameBytes
+          line-reserve u = ap lineOfWords opened-words ∙ rw (eq-eqb (getD line 0 0) 40 g) (rw (s, t, u))
+
+          pub line-other : sameBytes (part line 1 e) reserveWord ≡ false → lineOf line ≡ none
+          unfolding lineOf lineOfWords sameBytes
+          line-other u = ap lineOfWords opened-words ∙ rw (eq-eqb (getD line 0 0) 40 g) (rw (s, t, u))

@@ -9,10 +9,10 @@ use lib.ListN.{length}
 use lib.Dec.{eqb}
 use borrow.Author.Tests.{leb-true}
 use Rattle.tender.specs.declared.Window.{Window}
-use Rattle.tender.specs.Keywords.{tenderWord, bidWord}
+use Rattle.tender.specs.Keywords.{tenderWord, bidWord, reserveWord}
 use Rattle.tender.specs.Limits.{within}
 use Rattle.reader_word.specs.Words.{growFirst, cut, sameBytes, opened, closed, digits, leadingZero, numeralOf, priceOf}
-use Rattle.reader_line.specs.Line.{BidLine, bid, kindOf, windowsIn, tenderOf, bidOf, lineOfWords, lineOf}
+use Rattle.reader_line.specs.Line.{BidLine, bid, kindOf, windowsIn, tenderOf, bidOf, reserveOf, lineOfWords, lineOf}
 use Rattle.reader_word.specs.Windows.{spanOf, windowOf}
 use Rattle.reader_word.specs.CutLaws.{Pieces, cut-some}
 use Rattle.reader_line.specs.LinePlainLaws.{both-true, then-some, cond-some}
@@ -96,6 +96,16 @@ tender-no-bid (k ∷ s ∷ e ∷ []) b h =
     let z : _≡_ {A = ℕ} 0 1 = cc in omega arith
 tender-no-bid (k ∷ s ∷ e ∷ x ∷ ws) b h = let z : _≡_ {A = ℕ} 0 1 = cc in omega arith
 
+reserve-no-bid : (ws : List (List ℕ)) (b : BidLine) → reserveOf ws ≡ some (bid b) → ⊥
+unfolding reserveOf
+reserve-no-bid [] b h = let z : _≡_ {A = ℕ} 0 1 = cc in omega arith
+reserve-no-bid (p ∷ []) b h =
+    let z = then-some (closed p) _ (bid b) h in
+    let v = then-some (priceOf (z .0)) _ (bid b) (z .2) in
+    let q = v .2 in
+    let z : _≡_ {A = ℕ} 0 1 = cc in omega arith
+reserve-no-bid (p ∷ x ∷ ws) b h = let z : _≡_ {A = ℕ} 0 1 = cc in omega arith
+
 bid-long : (ws : List (List ℕ)) (b : BidLine) → bidOf ws ≡ some (bid b) → 6 * length (b .windows) ≤ bytesOf ws
 unfolding bidOf bytesOf
 bid-long [] b h = let z : _≡_ {A = ℕ} 0 1 = cc in absurd (omega arith)
@@ -114,10 +124,11 @@ line-windows line b h = omega (arith, go (cut 32 line) h, cut-bytes 32 line)
   where
     go : (ws : List (List ℕ)) → lineOfWords ws ≡ some (bid b) → 6 * length (b .windows) ≤ bytesOf ws
     go [] e = let z : _≡_ {A = ℕ} 0 1 = cc in absurd (omega arith)
-    go (w ∷ ws) e = first (sameBytes w (40 ∷ tenderWord)) (sameBytes w (40 ∷ bidWord)) e
+    go (w ∷ ws) e = first (sameBytes w (40 ∷ tenderWord)) (sameBytes w (40 ∷ bidWord)) (sameBytes w (40 ∷ reserveWord)) e
       where
-        first : (x y : Bool) → cond x (tenderOf ws) (cond y (bidOf ws) none) ≡ some (bid b)
+        first : (x y z : Bool) → cond x (tenderOf ws) (cond y (bidOf ws) (cond z (reserveOf ws) none)) ≡ some (bid b)
             → 6 * length (b .windows) ≤ bytesOf (w ∷ ws)
-        first true y q = absurd (tender-no-bid ws b q)
-        first false true q = omega (arith, bid-long ws b q)
-        first false false q = let z : _≡_ {A = ℕ} 0 1 = cc in absurd (omega arith)
+        first true y z q = absurd (tender-no-bid ws b q)
+        first false true z q = omega (arith, bid-long ws b q)
+        first false false true q = absurd (reserve-no-bid ws b q)
+        first false false false q = let z : _≡_ {A = ℕ} 0 1 = cc in absurd (omega arith)

@@ -8,7 +8,7 @@ use lib.ListN.{length, set}
 use lib.Dec.{ltb}
 use Rattle.tender.specs.declared.Window.{Window}
 use Rattle.tender.specs.Tables.{windowWidth}
-use Rattle.reader_line.specs.Line.{TenderLine, Line, tender, bid}
+use Rattle.reader_line.specs.Line.{TenderLine, Line, tender, bid, reserve}
 use Rattle.reader_word.specs.Flaws.{flawOf, worst}
 use Rattle.reader_word.specs.declared.windows.Flaw.{Flaw}
 use Rattle.reader_word.specs.declared.windows.Flaw.the-variants.{Sound}
@@ -44,9 +44,11 @@ tallied m n flaw table (some ws) = some (tally m n flaw table ws)
 pub data Note : Type 0 where
   tenderNote : TenderLine → Note
   bidNote : ℕ → ℕ → Tally → Note
+  reserveNote : ℕ → Note
 
 unfoldable pub noted : ℕ → List ℕ → Option Line → Option Note
 unfolding tally
 noted m table none = none
 noted m table (some (tender t)) = some (tenderNote t)
 noted m table (some (bid b)) = some (bidNote (b .bidder) (b .price) (tally m 0 Sound table (b .windows)))
+noted m table (some (reserve p)) = some (reserveNote p)

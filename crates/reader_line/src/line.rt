@@ -5,7 +5,7 @@ ghost use Prim.Native.Nat.{ℕ, _*_, _≤_};
 ghost use lib.ListN.{take, drop, length};
 ghost use Rattle.tender.specs.Tables.{windowWidth};
 ghost use Rattle.reader_word.specs.Words.{cut};
-ghost use Rattle.reader_line.specs.Line.{kindOf, windowsIn, tenderOf, bidOf, lineOf};
+ghost use Rattle.reader_line.specs.Line.{kindOf, windowsIn, tenderOf, bidOf, reserveOf, lineOf};
 ghost use Rattle.reader_line.specs.Tally.{putWindow, tallied, noted};
 ghost use Rattle.reader_word.specs.declared.windows.Flaw.the-variants.{Sound};
 ghost use Rattle.reader_line.specs.Answer.{asKind, toldTally, toldLine};
@@ -105,6 +105,7 @@ fn read_kind(w: &[u8]) -> KindWord
 pub enum Line {
     Tender(Kind, Window),
     Bid(u64, u64, usize, Flaw),
+    Reserve(u64),
     Broken,
 }
 
@@ -168,6 +169,28 @@ fn read_bid(line: &[u8], at: usize, windows: &mut [u64], m: usize) -> Line
     }
 }
 
+// The reserve's line from the word after "(reserve" on: a price and a closing bracket.
+fn read_reserve(line: &[u8], at: usize) -> Line
+    requires { ⌜ at ≤ length (now line) ⌝ }
+    ensures { λ r. ⌜ ((m : ℕ) (table : List ℕ) → toldLine r table
+        ≡ noted m table (reserveOf (cut 32 (drop at (now (line .entry)))))) ⌝ }
+{
+    let e = next(line, at, b' ');
+    if e < line.len() {
+        return Line::Broken;
+    }
+    if e <= at {
+        return Line::Broken;
+    }
+    if line[e - 1] != b')' {
+        return Line::Broken;
+    }
+    let Number::Value(price) = read_price(&line[at..e - 1]) else {
+        return Line::Broken;
+    };
+    Line::Reserve(price)
+}
+
 // The line with these bytes, the byte 10 left out. A bid's windows are put into the rows from m on; the rows before m stay, whatever
 // the line is.
 pub fn read_line(line: &[u8], windows: &mut [u64], m: usize) -> Line
@@ -190,6 +213,9 @@ pub fn read_line(line: &[u8], windows: &mut [u64], m: usize) -> Line
     }
     if same(&line[1..e], &tender::BID) {
         return read_bid(line, e + 1, windows, m);
+    }
+    if same(&line[1..e], &tender::RESERVE) {
+        return read_reserve(line, e + 1);
     }
     Line::Broken
 }

@@ -3,10 +3,11 @@ use mathlib.Core.Path.{_≡_, refl, sym, ap, _∙_}
 use native.Mathlib.Omega.{arith}
 use borrow.Author.Needs.{needs}
 use lib.ListN.{length}
-use Rattle.tender.specs.Keywords.{tenderWord, bidWord}
+use Rattle.tender.specs.Keywords.{tenderWord, bidWord, reserveWord}
 use Rattle.reader_line.specs.Tally.{noted}
 use Rattle.reader_word.specs.ScanLaws.{next-fits}
-use Rattle.reader_line.specs.LinesLaws.{noted-none, line-one, line-empty, line-unopened, line-tender, line-bid, line-other}
+use Rattle.reader_line.specs.LinesLaws.{noted-none, line-one, line-empty, line-unopened, line-tender, line-bid, line-reserve}
+use Rattle.reader_line.specs.LinesLaws.{line-other}
 use Rattle.reader_line.proofs.line.read_line.Statement.{statement}
 use Rattle.reader_line.proofs.line.read_line.Tie as tie
 
@@ -112,23 +113,66 @@ returns-5 c =
     let c16 = c15 .before in
     let c19 = c16 .before .before .before in (
       c .before .before .read-bid .ensures .0 ∙ ap (noted _ _)
-          (sym (line-bid (c19 .args .line .now) (c16 .next .result) (sym (c16 .next .ensures)) (c15 .if1 .left) (c14 .if2 .left)
-          (c12 .if3 .left) (sym (c9 .same .ensures) ∙ c8 .if4 .left) (sym (c5 .same2 .ensures) ∙ c4 .if5 .taken))),
+          (sym (line-bid (c19 .args .line .now) (c16 .next .result) (sym (c16 .next .ensures)) (c15 .if1 .left)
+          (c14 .if2 .left) (c12 .if3 .left) (sym (c9 .same .ensures) ∙ c8 .if4 .left) (sym (c5 .same2 .ensures) ∙ c4 .if5 .taken))),
       c .before .before .read-bid .ensures .1,
     )
 
+sub-same-3 : tie.Need-sub-same-3
+sub-same-3 c = search needs
+
+part-same-start-3 : tie.Need-part-same-start-3
+part-same-start-3 c = search needs
+
+part-same-end-3 : tie.Need-part-same-end-3
+part-same-end-3 c = search needs
+
+slice-aggregate-same-3 : tie.Need-slice-aggregate-same-3
+slice-aggregate-same-3 c = search needs
+
+same-requires-3 : tie.Need-same-requires-3
+same-requires-3 c κs = search needs
+
+add-read-reserve : tie.Need-add-read-reserve
+add-read-reserve c = search needs
+
+read-reserve-requires : tie.Need-read-reserve-requires
+read-reserve-requires c κs = search needs
+
 returns-6 : tie.Need-returns-6
-unfolding tenderWord bidWord
+unfolding tenderWord bidWord reserveWord
 returns-6 c =
+    let c5 = c .before .before .before .before .before in
+    let c6 = c5 .before in
+    let c9 = c6 .before .before .before in
+    let c10 = c9 .before in
+    let c13 = c10 .before .before .before in
+    let c15 = c13 .before .before in
+    let c16 = c15 .before in
+    let c17 = c16 .before in
+    let c20 = c17 .before .before .before in (
+      c .read-reserve .ensures _ _ ∙ ap (noted _ _)
+          (sym (line-reserve (c20 .args .line .now) (c17 .next .result) (sym (c17 .next .ensures)) (c16 .if1 .left)
+          (c15 .if2 .left) (c13 .if3 .left) (sym (c10 .same .ensures) ∙ c9 .if4 .left) (sym (c6 .same2 .ensures) ∙ c5 .if5 .left)
+          (sym (c .before .before .same3 .ensures) ∙ c .before .if6 .taken))),
+      refl,
+    )
+
+returns-7 : tie.Need-returns-7
+unfolding tenderWord bidWord reserveWord
+returns-7 c =
     let c4 = c .before .before .before .before in
     let c5 = c4 .before in
     let c8 = c5 .before .before .before in
-    let c10 = c8 .before .before in
-    let c11 = c10 .before in
-    let c12 = c11 .before in
-    let c15 = c12 .before .before .before in (
-      noted-none _ (line-other (c15 .args .line .now) (c12 .next .result) (sym (c12 .next .ensures)) (c11 .if1 .left) (c10 .if2 .left)
-          (c8 .if3 .left) (sym (c5 .same .ensures) ∙ c4 .if4 .left) (sym (c .before .same2 .ensures) ∙ c .if5 .left)) _ _,
+    let c9 = c8 .before in
+    let c12 = c9 .before .before .before in
+    let c14 = c12 .before .before in
+    let c15 = c14 .before in
+    let c16 = c15 .before in
+    let c19 = c16 .before .before .before in (
+      noted-none _ (line-other (c19 .args .line .now) (c16 .next .result) (sym (c16 .next .ensures)) (c15 .if1 .left)
+          (c14 .if2 .left) (c12 .if3 .left) (sym (c9 .same .ensures) ∙ c8 .if4 .left) (sym (c5 .same2 .ensures) ∙ c4 .if5 .left)
+          (sym (c .before .same3 .ensures) ∙ c .if6 .left)) _ _,
       refl,
     )
 
@@ -158,4 +202,12 @@ read-line-spec =
     read-bid-requires
     same-length
     returns-5
-    returns-6)
+    sub-same-3
+    part-same-start-3
+    part-same-end-3
+    slice-aggregate-same-3
+    same-requires-3
+    add-read-reserve
+    read-reserve-requires
+    returns-6
+    returns-7)
