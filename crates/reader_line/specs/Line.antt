@@ -6,6 +6,8 @@ use mathlib.Core.Option.{Option, none, some}
 use Rattle.tender.specs.declared.Kind.{Kind}
 use Rattle.tender.specs.declared.Kind.the-variants.{Single, Multi}
 use Rattle.tender.specs.declared.Window.{Window}
+use Rattle.tender.specs.declared.Reserve.{Reserve}
+use Rattle.tender.specs.declared.Reserve.the-variants.{Absent, Price}
 use Rattle.tender.specs.declared.Tender.{Tender}
 use Rattle.tender.specs.Keywords.{bidWord, multiWord, reserveWord, singleWord, tenderWord}
 use Rattle.reader_word.specs.Words.{andThen, cut, sameBytes, closed, numeralOf, priceOf}
@@ -28,6 +30,15 @@ pub data Line : Type 0 where
 -- the line of a tender
 abbrev pub tenderLine : Tender → TenderLine
 tenderLine t = record { kind = t .kind; window = t .window }
+
+unfoldable pub reserveLines : Reserve → List Line
+reserveLines Absent = []
+reserveLines (Price p) = reserve p ∷ []
+
+-- the lines before the bids, as the tender says them: its own, and the reserve's where it has one
+unfoldable pub headLines : Tender → List Line
+unfolding reserveLines
+headLines t = tender (tenderLine t) ∷ reserveLines (t .reserve)
 
 unfoldable pub kindOf : List ℕ → Option Kind
 unfolding sameBytes singleWord multiWord

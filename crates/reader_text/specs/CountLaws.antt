@@ -1,11 +1,11 @@
--- How much an accepted text fills: a row for each line after the first, at most 1,000 rows and 32,000 windows. Assumes nothing.
+-- How much an accepted text fills: a row for each line after the head, at most 1,000 rows and 32,000 windows. Assumes nothing.
 use mathlib.Core.Path.{_≡_, refl, ap, _∙_}
-use mathlib.Core.List.{List, [], _∷_, _++_}
+use mathlib.Core.List.{List, [], _∷_, _++_, map}
 use mathlib.Core.Bool.{Bool, true, false, cond}
 use mathlib.Core.Option.{Option, none, some}
 use Prim.Native.Nat.{ℕ, _+_, _*_, _≤_}
 use native.Mathlib.Omega.{arith}
-use lib.ListN.{length, length-map}
+use lib.ListN.{length, length-append, length-map}
 use lib.Dec.{eqb}
 use borrow.Author.Tests.{le-leb}
 use Rattle.tender.specs.declared.Kind.{Kind}
@@ -13,11 +13,11 @@ use Rattle.tender.specs.declared.Window.{Window}
 use Rattle.tender.specs.declared.Tender.{Tender}
 use Rattle.tender.specs.Tables.{Row}
 use Rattle.reader_word.specs.Words.{cut, growFirst}
-use Rattle.reader_line.specs.Line.{Line, lineOf, linesOf}
+use Rattle.reader_line.specs.Line.{Line, headLines, lineOf, linesOf}
 use Rattle.reader_text.specs.Read.{ReadOutcome, accepted, refused, bidsOf, readLines, readText, fitted, readInto}
 use Rattle.reader_word.specs.CutLaws.{Pieces, cut-some}
 use Rattle.reader_text.specs.ReadLaws.{read-lines}
-use Rattle.reader_text.specs.HeadLaws.{headLines, head-is, AllRead, accepted-head, accepted-read}
+use Rattle.reader_text.specs.HeadLaws.{head-is, AllRead, accepted-head, accepted-read}
 use Rattle.reader_text.specs.Rules.{RowsRules, bytesLike}
 use Rattle.reader_text.specs.RulesLaws.{rowsFrom-length, rules-law}
 
@@ -51,21 +51,21 @@ lines-count p (q ∷ ps) a = go (lineOf p) a (lines-count q ps)
     go none h ih = absurd h
     go (some l) h ih = omega (arith, ih h)
 
--- an accepted text has a row for each line after the first; each line ends with byte 10
+-- an accepted text has a row for each line after the head; each line ends with byte 10
 pub lines-law : (T : Tender) (R : List Row) (W : List Window) (text : List ℕ) → readText text ≡ accepted T R W
-    → length R + 1 ≡ bytesLike 10 text
-unfolding headLines
+    → length R + length (headLines T) ≡ bytesLike 10 text
 lines-law T R W text e = go (linesOf (cut 10 text)) refl (cut-some 10 text) (read-lines T R W text e)
   where
     go : (ls : List (Option Line)) → linesOf (cut 10 text) ≡ ls → Pieces (cut 10 text) → readLines ls ≡ accepted T R W
-        → length R + 1 ≡ bytesLike 10 text
+        → length R + length (headLines T) ≡ bytesLike 10 text
     go ls q c x =
         let g = accepted-head T R W ls x in
         let i = head-is ls T (g .from) (g .rest) (g .head) in
         let m : linesOf (c .first ∷ c .rest) ≡ ls = rw (← (c .are)) q in
         let r : AllRead (linesOf (c .first ∷ c .rest)) = rw m (accepted-read T R W ls g) in
         let o : length (g .rest) ≡ length (bidsOf (g .rest)) = ap length (g .bids) ∙ simp length-map in
-        let n : length ls ≡ length (headLines T) + length (g .rest) = ap length (i .lines) ∙ omega arith in
+        let n : length ls ≡ length (headLines T) + length (g .rest) = ap length (i .lines)
+        ∙ length-append (map (λ l. some l) (headLines T)) (g .rest) ∙ omega (arith, length-map (headLines T) (λ l. some l)) in
         omega (
           arith,
           lines-count (c .first) (c .rest) r,

@@ -6,6 +6,8 @@ use mathlib.Core.List.{List, [], _∷_, _++_}
 use lib.ListN.{replicate}
 use Rattle.tender.specs.declared.Kind.the-variants.{Single, Multi}
 use Rattle.tender.specs.declared.Window.{Window}
+use Rattle.tender.specs.declared.Reserve.the-variants.{Price}
+use Rattle.tender.specs.declared.Tender.{Tender}
 use Rattle.tender.specs.Keywords.{bytes}
 use Rattle.tender.specs.Plain.{plainTender}
 use Rattle.tender.specs.Tables.{Row}
@@ -18,6 +20,11 @@ win s e = record { start = s; end = e }
 
 row : ℕ → ℕ → ℕ → ℕ → Row
 row n p f c = record { bidder = n; price = p; first = f; count = c }
+
+-- a single tender from 0 to 100 with a reserve
+reserved : ℕ → Tender
+unfolding win
+reserved p = record { kind = Single; window = win 0 100; reserve = Price p }
 
 -- so many windows of one minute
 minutes : ℕ → List ℕ
@@ -195,6 +202,82 @@ late-and-empty = refl
 first-fault : read "(tender single 0 100)\n(bid 11 30 (0 0))\n(bid 11 30 (0 50)\n" ≡ refused 5 2
 unfolding read
 first-fault = refl
+
+reserve-read : read "(tender single 0 100)\n(reserve 5000)\n(bid 11 30 (0 50))\n"
+    ≡ accepted (reserved 5000) (row 11 30 0 1 ∷ []) (win 0 50 ∷ [])
+unfolding read reserved row win
+reserve-read = refl
+
+reserve-alone : read "(tender single 0 100)\n(reserve 0)\n"
+    ≡ accepted (reserved 0) [] []
+unfolding read reserved row win
+reserve-alone = refl
+
+reserve-most : read "(tender single 0 100)\n(reserve 100000000)\n"
+    ≡ accepted (reserved 100000000) [] []
+unfolding read reserved row win
+reserve-most = refl
+
+reserve-high : read "(tender single 0 100)\n(reserve 100000001)\n" ≡ refused 3 2
+unfolding read
+reserve-high = refl
+
+reserve-after-a-bid : read "(tender single 0 100)\n(bid 11 30 (0 50))\n(reserve 5000)\n" ≡ refused 16 3
+unfolding read
+reserve-after-a-bid = refl
+
+reserve-twice : read "(tender single 0 100)\n(reserve 5000)\n(reserve 5000)\n" ≡ refused 16 3
+unfolding read
+reserve-twice = refl
+
+-- near miss: the price is above the limit, and the line stands after a bid
+reserve-late-and-high : read "(tender single 0 100)\n(bid 11 30 (0 50))\n(reserve 100000001)\n" ≡ refused 16 3
+unfolding read
+reserve-late-and-high = refl
+
+reserve-twice-and-high : read "(tender single 0 100)\n(reserve 5000)\n(reserve 100000001)\n" ≡ refused 16 3
+unfolding read
+reserve-twice-and-high = refl
+
+reserve-first : read "(reserve 5000)\n(tender single 0 100)\n" ≡ refused 2 1
+unfolding read
+reserve-first = refl
+
+reserve-alone-first : read "(reserve 5000)\n" ≡ refused 2 1
+unfolding read
+reserve-alone-first = refl
+
+reserve-leading-zero : read "(tender single 0 100)\n(reserve 007)\n" ≡ refused 2 2
+unfolding read
+reserve-leading-zero = refl
+
+reserve-unpriced : read "(tender single 0 100)\n(reserve)\n" ≡ refused 2 2
+unfolding read
+reserve-unpriced = refl
+
+reserve-space-last : read "(tender single 0 100)\n(reserve 5 )\n" ≡ refused 2 2
+unfolding read
+reserve-space-last = refl
+
+reserve-two-prices : read "(tender single 0 100)\n(reserve 5 6)\n" ≡ refused 2 2
+unfolding read
+reserve-two-prices = refl
+
+reserve-unended : read "(tender single 0 100)\n(reserve 5)" ≡ refused 2 2
+unfolding read
+reserve-unended = refl
+
+reserve-late-and-unformed : read "(tender single 0 100)\n(bid 11 30 (0 50))\n(reserve 007)\n" ≡ refused 2 3
+unfolding read
+reserve-late-and-unformed = refl
+
+used-after-reserve : read "(tender single 0 100)\n(reserve 5000)\n(bid 11 30 (0 50))\n(bid 11 40 (0 50))\n" ≡ refused 6 4
+unfolding read
+used-after-reserve = refl
+
+reserve-of-faulty-tender : read "(tender single 100 100)\n(reserve 100000001)\n" ≡ refused 5 1
+unfolding read
+reserve-of-faulty-tender = refl
 
 window-32 : readText (bytes "(tender multi 0 10)\n(bid 11 30" ++ minutes 32 ++ bytes ")\n")
     ≡ accepted (plainTender Multi 0 10) (row 11 30 0 32 ∷ []) (replicate 32 (win 0 1))

@@ -7,6 +7,7 @@ use mathlib.Core.Option.{Option, none, some}
 use native.Mathlib.Omega.{arith}
 use Rattle.tender.specs.declared.Kind.{Kind}
 use Rattle.tender.specs.declared.Window.{Window}
+use Rattle.tender.specs.declared.Reserve.{Reserve}
 use Rattle.reader_line.specs.Line.{TenderLine}
 use Rattle.tender.specs.declared.Refusal.{Refusal}
 use Rattle.tender.specs.declared.Refusal.the-variants.{EmptyWindow, LateWindow}
@@ -36,17 +37,18 @@ lawful-every (w ∷ ws) e =
     let h = lawful-every ws (s .1) in
     (rw (u .0) (h .0), rw (u .1) (h .1))
 
--- the tender's line has no fault where its tender is sound
+-- the tender's line has no fault, and the reserve is within its limits, where the tender is sound
 
-module _ (t : TenderLine) where
-  pub sound-faultless : soundTender (tenderWith t) ≡ true → tenderFault t ≡ none
-  unfolding soundTender lawful lawfulReserve tenderFault lineFault
+module _ (t : TenderLine) (r : Reserve) where
+  pub sound-faultless : soundTender (tenderWith t r) ≡ true → (tenderFault t ≡ none) × (lawfulReserve r ≡ true)
+  unfolding soundTender lawful tenderFault lineFault
   sound-faultless e =
-      let u = and-split (ordered (t .window)) (early (t .window)) (and-split (lawful (t .window)) true e .0) in rw (u .0, u .1)
+      let s = and-split (lawful (t .window)) (lawfulReserve r) e in
+      let u = and-split (ordered (t .window)) (early (t .window)) (s .0) in (rw (u .0, u .1), s .1)
 
-  pub faultless-sound : tenderFault t ≡ none → soundTender (tenderWith t) ≡ true
-  unfolding soundTender lawful lawfulReserve tenderFault lineFault
-  faultless-sound e = go (ordered (t .window)) (early (t .window)) e
+  pub faultless-sound : tenderFault t ≡ none → lawfulReserve r ≡ true → soundTender (tenderWith t r) ≡ true
+  unfolding soundTender lawful tenderFault lineFault
+  faultless-sound e l = rw l (go (ordered (t .window)) (early (t .window)) e)
     where
       go : (a b : Bool) → lineFault false false false (not a) (not b) false ≡ none → (a && b) && true ≡ true
       go true true x = refl

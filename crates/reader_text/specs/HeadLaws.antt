@@ -1,20 +1,24 @@
 -- Laws of a text's head, the lines before its bids, and what an accepted text says of it. Assumes nothing.
 use mathlib.Core.Path.{_≡_, refl, ap, sym, _∙_}
 use mathlib.Core.List.{List, [], _∷_, _++_, map}
-use mathlib.Core.Bool.{true}
+use mathlib.Core.Bool.{Bool, true, false, cond}
 use mathlib.Core.Option.{Option, none, some}
-use Prim.Native.Nat.{ℕ, _+_, _≤_}
+use Prim.Native.Nat.{ℕ, suc, _+_, _≤_, _<_}
 use native.Mathlib.Omega.{arith}
 use lib.ListN.{length}
+use lib.Dec.{leb}
+use borrow.Author.Tests.{le-leb, lt-leb, leb-true}
 use Rattle.tender.specs.declared.Window.{Window}
+use Rattle.tender.specs.declared.Reserve.{Reserve}
+use Rattle.tender.specs.declared.Reserve.the-variants.{Absent, Price}
 use Rattle.tender.specs.declared.Tender.{Tender}
 use Rattle.tender.specs.declared.Refusal.{Refusal}
-use Rattle.tender.specs.declared.Refusal.the-variants.{BadForm}
-use Rattle.tender.specs.Limits.{soundTender}
+use Rattle.tender.specs.declared.Refusal.the-variants.{BadForm, OutsideLimits}
+use Rattle.tender.specs.Limits.{lawfulReserve, soundTender}
 use Rattle.tender.specs.Tables.{Row}
-use Rattle.reader_line.specs.Line.{TenderLine, BidLine, Line, tender, bid, tenderLine}
+use Rattle.reader_line.specs.Line.{TenderLine, BidLine, Line, tender, bid, reserve, tenderLine, reserveLines, headLines}
 use Rattle.reader_text.specs.Read.{accepted, declinedBy, rowsFrom, allWindows, bidsOf, tenderFault, lineJudged, checked, tables}
-use Rattle.reader_text.specs.Read.{Head, begun, halted, headJudged, tenderWith, headOf, afterHead, readLines}
+use Rattle.reader_text.specs.Read.{Head, begun, halted, headJudged, tenderWith, reserveIn, headOf, afterHead, readLines}
 use Rattle.reader_text.specs.FaultLaws.{sound-faultless, faultless-sound}
 use Rattle.reader_text.specs.ReadLaws.{never, checked-out, checked-bids}
 
@@ -43,34 +47,103 @@ pub bid-first : (b : BidLine) (ls : List (Option Line)) → headOf (some (bid b)
 unfolding headOf
 bid-first b ls = refl
 
+pub reserve-first : (p : ℕ) (ls : List (Option Line)) → headOf (some (reserve p) ∷ ls) ≡ halted (BadForm 1)
+unfolding headOf
+reserve-first p ls = refl
+
 pub tender-first : (t : TenderLine) (ls : List (Option Line))
-    → headOf (some (tender t) ∷ ls) ≡ headJudged (tenderFault t) 1 (begun (tenderWith t) 2 ls)
+    → headOf (some (tender t) ∷ ls) ≡ headJudged (tenderFault t) 1 (reserveIn t 2 ls)
 unfolding headOf
 tender-first t ls = refl
 
 pub tender-faulty : (t : TenderLine) (f : ℕ → Refusal) (ls : List (Option Line)) → tenderFault t ≡ some f
     → headOf (some (tender t) ∷ ls) ≡ halted (f 1)
 unfolding headJudged
-tender-faulty t f ls e = tender-first t ls ∙ ap (λ o. headJudged o 1 (begun (tenderWith t) 2 ls)) e
+tender-faulty t f ls e = tender-first t ls ∙ ap (λ o. headJudged o 1 (reserveIn t 2 ls)) e
 
-pub tender-sound : (t : TenderLine) (ls : List (Option Line)) → soundTender (tenderWith t) ≡ true
-    → headOf (some (tender t) ∷ ls) ≡ begun (tenderWith t) 2 ls
+pub tender-faultless : (t : TenderLine) (ls : List (Option Line)) → tenderFault t ≡ none
+    → headOf (some (tender t) ∷ ls) ≡ reserveIn t 2 ls
 unfolding headJudged
-tender-sound t ls e = tender-first t ls ∙ ap (λ o. headJudged o 1 (begun (tenderWith t) 2 ls)) (sound-faultless t e)
+tender-faultless t ls e = tender-first t ls ∙ ap (λ o. headJudged o 1 (reserveIn t 2 ls)) e
 
 pub tender-read : (t : TenderLine) (ls : List (Option Line))
-    → readLines (some (tender t) ∷ ls) ≡ lineJudged (tenderFault t) 1 (checked (t .kind) 2 [] ls (tables (tenderWith t) (bidsOf ls)))
+    → readLines (some (tender t) ∷ ls) ≡ lineJudged (tenderFault t) 1 (afterHead (reserveIn t 2 ls))
 unfolding readLines headOf headJudged afterHead lineJudged
 tender-read t ls = go (tenderFault t)
   where
-    go : (f : Option (ℕ → Refusal)) → afterHead (headJudged f 1 (begun (tenderWith t) 2 ls))
-        ≡ lineJudged f 1 (checked (t .kind) 2 [] ls (tables (tenderWith t) (bidsOf ls)))
+    go : (f : Option (ℕ → Refusal)) → afterHead (headJudged f 1 (reserveIn t 2 ls)) ≡ lineJudged f 1 (afterHead (reserveIn t 2 ls))
     go none = refl
     go (some f) = refl
 
--- the lines of a head, as its tender says them
-unfoldable pub headLines : Tender → List Line
-headLines t = tender (tenderLine t) ∷ []
+-- by the next line
+
+-- it is not the reserve's
+abbrev pub Unreserved : List (Option Line) → Type 0
+Unreserved [] = Unit {0}
+Unreserved (none ∷ ls) = Unit {0}
+Unreserved (some (tender t) ∷ ls) = Unit {0}
+Unreserved (some (bid b) ∷ ls) = Unit {0}
+Unreserved (some (reserve p) ∷ ls) = ⊥
+
+pub bids-unreserved : (bs : List BidLine) → Unreserved (map (λ b. some (bid b)) bs)
+bids-unreserved [] = tt
+bids-unreserved (b ∷ bs) = tt
+
+module _ (t : TenderLine) (at : ℕ) where
+  pub reserve-absent : (ls : List (Option Line)) → Unreserved ls → reserveIn t at ls ≡ begun (tenderWith t Absent) at ls
+  unfolding reserveIn
+  reserve-absent [] u = refl
+  reserve-absent (none ∷ ls) u = refl
+  reserve-absent (some (tender s) ∷ ls) u = refl
+  reserve-absent (some (bid b) ∷ ls) u = refl
+  reserve-absent (some (reserve p) ∷ ls) u = absurd u
+
+  pub reserve-taken : (p : ℕ) (ls : List (Option Line)) → p ≤ 100000000
+      → reserveIn t at (some (reserve p) ∷ ls) ≡ begun (tenderWith t (Price p)) (at + 1) ls
+  unfolding reserveIn
+  reserve-taken p ls l = rw (le-leb p 100000000 l)
+
+  pub reserve-high : (p : ℕ) (ls : List (Option Line)) → 100000000 < p
+      → reserveIn t at (some (reserve p) ∷ ls) ≡ halted (OutsideLimits at)
+  unfolding reserveIn
+  reserve-high p ls l = rw (lt-leb p 100000000 l)
+
+-- lines without a reserve's line have the head that the tender's line alone gives
+pub unreserved-head : (t : TenderLine) (ls : List (Option Line)) → Unreserved ls
+    → headOf (some (tender t) ∷ ls) ≡ headJudged (tenderFault t) 1 (begun (tenderWith t Absent) 2 ls)
+unreserved-head t ls u = tender-first t ls ∙ ap (headJudged (tenderFault t) 1) (reserve-absent t 2 ls u)
+
+-- the lines of a head
+
+pub head-few : (T : Tender) → length (headLines T) ≤ 2
+unfolding headLines reserveLines
+head-few T = go (T .reserve)
+  where
+    go : (r : Reserve) → suc (length (reserveLines r)) ≤ 2
+    go Absent = omega arith
+    go (Price p) = omega arith
+
+pub head-bids : (T : Tender) (ls : List (Option Line)) → bidsOf (map (λ l. some l) (headLines T) ++ ls) ≡ bidsOf ls
+unfolding headLines reserveLines bidsOf
+head-bids T ls = go (T .reserve)
+  where
+    go : (r : Reserve) → bidsOf (map (λ l. some l) (reserveLines r) ++ ls) ≡ bidsOf ls
+    go Absent = refl
+    go (Price p) = refl
+
+-- the lines of a sound tender are a head, where no reserve's line stands after a tender without one
+pub head-of : (T : Tender) (rest : List (Option Line)) → soundTender T ≡ true → (T .reserve ≡ Absent → Unreserved rest)
+    → headOf (map (λ l. some l) (headLines T) ++ rest) ≡ begun T (length (headLines T) + 1) rest
+unfolding headLines reserveLines lawfulReserve
+head-of T rest e u =
+    let s = sound-faultless (tenderLine T) (T .reserve) e in
+    tender-faultless (tenderLine T) (map (λ l. some l) (reserveLines (T .reserve)) ++ rest) (s .0) ∙ go (T .reserve) (s .1) u
+  where
+    go : (r : Reserve) → lawfulReserve r ≡ true → (r ≡ Absent → Unreserved rest) →
+        reserveIn (tenderLine T) 2 (map (λ l. some l) (reserveLines r) ++ rest)
+        ≡ begun (tenderWith (tenderLine T) r) (suc (length (reserveLines r)) + 1) rest
+    go Absent l v = reserve-absent (tenderLine T) 2 rest (v refl)
+    go (Price p) l v = reserve-taken (tenderLine T) 2 p rest (leb-true p 100000000 l)
 
 pub record HeadIs (ls : List (Option Line)) (T : Tender) (from : ℕ) (rest : List (Option Line)) : Type 0 where
   pub lines : ls ≡ map (λ l. some l) (headLines T) ++ rest
@@ -78,59 +151,116 @@ pub record HeadIs (ls : List (Option Line)) (T : Tender) (from : ℕ) (rest : Li
   pub bids : bidsOf ls ≡ bidsOf rest
   pub sound : soundTender T ≡ true
 
+-- a head that has ended before the lines ls
+ended : (t : TenderLine) (r : Reserve) (n : ℕ) (ls : List (Option Line)) (T : Tender) (from : ℕ) (rest : List (Option Line))
+    → tenderFault t ≡ none → lawfulReserve r ≡ true → n ≡ length (headLines (tenderWith t r)) + 1
+    → begun (tenderWith t r) n ls ≡ begun T from rest → HeadIs (map (λ l. some l) (headLines (tenderWith t r)) ++ ls) T from rest
+ended t r n ls T from rest q l m h =
+    let same : tenderWith t r ≡ T = cc in
+    let e : ls ≡ rest = cc in
+    let k : n ≡ from = cc in
+    record {
+      lines = ap (λ u. map (λ l. some l) (headLines u) ++ ls) same ∙ ap (λ r. map (λ l. some l) (headLines T) ++ r) e;
+      number = sym k ∙ m ∙ ap (λ u. length (headLines u) + 1) same;
+      bids = head-bids (tenderWith t r) ls ∙ ap bidsOf e;
+      sound = ap soundTender (sym same) ∙ faultless-sound t r q l;
+    }
+
+reserve-is : (t : TenderLine) (ls : List (Option Line)) (T : Tender) (from : ℕ) (rest : List (Option Line)) → tenderFault t ≡ none
+    → reserveIn t 2 ls ≡ begun T from rest → HeadIs (some (tender t) ∷ ls) T from rest
+unfolding reserveIn headLines reserveLines lawfulReserve
+reserve-is t [] T from rest q h = ended t Absent 2 [] T from rest q refl refl h
+reserve-is t (none ∷ ls) T from rest q h = ended t Absent 2 (none ∷ ls) T from rest q refl refl h
+reserve-is t (some (tender s) ∷ ls) T from rest q h = ended t Absent 2 (some (tender s) ∷ ls) T from rest q refl refl h
+reserve-is t (some (bid b) ∷ ls) T from rest q h = ended t Absent 2 (some (bid b) ∷ ls) T from rest q refl refl h
+reserve-is t (some (reserve p) ∷ ls) T from rest q h = go (leb p 100000000) refl h
+  where
+    go : (b : Bool) → leb p 100000000 ≡ b → cond b (begun (tenderWith t (Price p)) 3 ls) (halted (OutsideLimits 2)) ≡ begun T from rest
+        → HeadIs (some (tender t) ∷ some (reserve p) ∷ ls) T from rest
+    go true l x = ended t (Price p) 3 ls T from rest q l refl x
+    go false l x = let z : _≡_ {A = ℕ} 0 1 = cc in absurd (omega arith)
+
 pub head-is : (ls : List (Option Line)) (T : Tender) (from : ℕ) (rest : List (Option Line)) → headOf ls ≡ begun T from rest
     → HeadIs ls T from rest
-unfolding headOf headJudged headLines bidsOf
+unfolding headOf headJudged
 head-is [] T from rest e = let z : _≡_ {A = ℕ} 0 1 = cc in absurd (omega arith)
 head-is (none ∷ ls) T from rest e = let z : _≡_ {A = ℕ} 0 1 = cc in absurd (omega arith)
 head-is (some (bid b) ∷ ls) T from rest e = let z : _≡_ {A = ℕ} 0 1 = cc in absurd (omega arith)
+head-is (some (reserve p) ∷ ls) T from rest e = let z : _≡_ {A = ℕ} 0 1 = cc in absurd (omega arith)
 head-is (some (tender t) ∷ ls) T from rest e = go (tenderFault t) refl e
   where
-    go : (f : Option (ℕ → Refusal)) → tenderFault t ≡ f → headJudged f 1 (begun (tenderWith t) 2 ls) ≡ begun T from rest
+    go : (f : Option (ℕ → Refusal)) → tenderFault t ≡ f → headJudged f 1 (reserveIn t 2 ls) ≡ begun T from rest
         → HeadIs (some (tender t) ∷ ls) T from rest
-    go none q h =
-        let same : tenderWith t ≡ T = cc in
-        let l : ls ≡ rest = cc in
-        let n : 2 ≡ from = cc in
-        record {
-          lines = ap (λ (u : Tender). some (tender (tenderLine u)) ∷ ls) same ∙ ap (λ r. some (tender (tenderLine T)) ∷ r) l;
-          number = sym n;
-          bids = ap bidsOf l;
-          sound = ap soundTender (sym same) ∙ faultless-sound t q;
-        }
+    go none q h = reserve-is t ls T from rest q h
     go (some f) q h = let z : _≡_ {A = ℕ} 0 1 = cc in absurd (omega arith)
 
 -- it has few lines
 pub head-short : (ls : List (Option Line)) (T : Tender) (from : ℕ) (rest : List (Option Line)) → headOf ls ≡ begun T from rest
     → from ≤ 65536
-unfolding headLines
-head-short ls T from rest e = omega (arith, head-is ls T from rest e .number)
+head-short ls T from rest e = omega (arith, head-is ls T from rest e .number, head-few T)
 
 -- a bid's line stands after the head, which does not depend on the bid
-pub record BidAfter (xs ys : List (Option Line)) (T : Tender) (from : ℕ) (rest : List (Option Line)) (b : BidLine) : Type 0 where
+pub record BidAfter (head : List (Option Line) → Head) (xs ys : List (Option Line)) (T : Tender) (from : ℕ)
+    (rest : List (Option Line)) (b : BidLine) : Type 0 where
   pub between : List (Option Line)
   pub rest-is : rest ≡ between ++ some (bid b) ∷ ys
-  pub any : (c : BidLine) → headOf (xs ++ some (bid c) ∷ ys) ≡ begun T from (between ++ some (bid c) ∷ ys)
+  pub any : (c : BidLine) → head (xs ++ some (bid c) ∷ ys) ≡ begun T from (between ++ some (bid c) ∷ ys)
+
+-- the head ends before zs, whatever the bid
+ends-before : (head : List (Option Line) → Head) (xs zs ys : List (Option Line)) (U T : Tender) (n from : ℕ)
+    (rest : List (Option Line)) (b : BidLine) → ((c : BidLine) → head (xs ++ some (bid c) ∷ ys) ≡ begun U n (zs ++ some (bid c) ∷ ys))
+    → begun U n (zs ++ some (bid b) ∷ ys) ≡ begun T from rest → BidAfter head xs ys T from rest b
+ends-before head xs zs ys U T n from rest b h e =
+    let same : U ≡ T = cc in
+    let k : n ≡ from = cc in
+    record {
+      between = zs;
+      rest-is = cc;
+      any = λ c. h c ∙ ap (λ u. begun u n (zs ++ some (bid c) ∷ ys)) same ∙ ap (λ i. begun T i (zs ++ some (bid c) ∷ ys)) k;
+    }
+
+module _ (t : TenderLine) (at : ℕ) where
+  -- before the first bid there is no reserve's line, or there is
+  reserve-before : (xs ys : List (Option Line)) (T : Tender) (from : ℕ) (rest : List (Option Line)) (b : BidLine)
+      → reserveIn t at (xs ++ some (bid b) ∷ ys) ≡ begun T from rest → BidAfter (reserveIn t at) xs ys T from rest b
+  unfolding reserveIn
+  reserve-before [] ys T from rest b e =
+      ends-before (reserveIn t at) [] [] ys (tenderWith t Absent) T at from rest b (λ c. refl) e
+  reserve-before (none ∷ xs) ys T from rest b e =
+      ends-before (reserveIn t at) (none ∷ xs) (none ∷ xs) ys (tenderWith t Absent) T at from rest b (λ c. refl) e
+  reserve-before (some (tender s) ∷ xs) ys T from rest b e =
+      let zs = some (tender s) ∷ xs in
+      ends-before (reserveIn t at) zs zs ys (tenderWith t Absent) T at from rest b (λ c. refl) e
+  reserve-before (some (bid d) ∷ xs) ys T from rest b e =
+      let zs = some (bid d) ∷ xs in
+      ends-before (reserveIn t at) zs zs ys (tenderWith t Absent) T at from rest b (λ c. refl) e
+  reserve-before (some (reserve p) ∷ xs) ys T from rest b e = go (leb p 100000000) refl e
+    where
+      go : (s : Bool) → leb p 100000000 ≡ s
+          → cond s (begun (tenderWith t (Price p)) (at + 1) (xs ++ some (bid b) ∷ ys)) (halted (OutsideLimits at)) ≡ begun T from rest
+          → BidAfter (reserveIn t at) (some (reserve p) ∷ xs) ys T from rest b
+      go true l x = ends-before (reserveIn t at) (some (reserve p) ∷ xs) xs ys (tenderWith t (Price p)) T (at + 1) from rest b
+          (λ c. reserve-taken t at p (xs ++ some (bid c) ∷ ys) (leb-true p 100000000 l)) x
+      go false l x = let z : _≡_ {A = ℕ} 0 1 = cc in absurd (omega arith)
 
 pub head-before : (xs ys : List (Option Line)) (T : Tender) (from : ℕ) (rest : List (Option Line)) (b : BidLine)
-    → headOf (xs ++ some (bid b) ∷ ys) ≡ begun T from rest → BidAfter xs ys T from rest b
+    → headOf (xs ++ some (bid b) ∷ ys) ≡ begun T from rest → BidAfter headOf xs ys T from rest b
 unfolding headOf headJudged
 head-before [] ys T from rest b e = let z : _≡_ {A = ℕ} 0 1 = cc in absurd (omega arith)
 head-before (none ∷ xs) ys T from rest b e = let z : _≡_ {A = ℕ} 0 1 = cc in absurd (omega arith)
 head-before (some (bid d) ∷ xs) ys T from rest b e = let z : _≡_ {A = ℕ} 0 1 = cc in absurd (omega arith)
+head-before (some (reserve p) ∷ xs) ys T from rest b e = let z : _≡_ {A = ℕ} 0 1 = cc in absurd (omega arith)
 head-before (some (tender t) ∷ xs) ys T from rest b e = go (tenderFault t) refl e
   where
     go : (f : Option (ℕ → Refusal)) → tenderFault t ≡ f
-        → headJudged f 1 (begun (tenderWith t) 2 (xs ++ some (bid b) ∷ ys)) ≡ begun T from rest
-        → BidAfter (some (tender t) ∷ xs) ys T from rest b
+        → headJudged f 1 (reserveIn t 2 (xs ++ some (bid b) ∷ ys)) ≡ begun T from rest
+        → BidAfter headOf (some (tender t) ∷ xs) ys T from rest b
     go none q h =
-        let same : tenderWith t ≡ T = cc in
-        let n : 2 ≡ from = cc in
+        let k = reserve-before t 2 xs ys T from rest b h in
         record {
-          between = xs;
-          rest-is = cc;
-          any = λ c. ap (λ f. headJudged f 1 (begun (tenderWith t) 2 (xs ++ some (bid c) ∷ ys))) q
-              ∙ ap (λ u. begun u 2 (xs ++ some (bid c) ∷ ys)) same ∙ ap (λ i. begun T i (xs ++ some (bid c) ∷ ys)) n;
+          between = k .between;
+          rest-is = k .rest-is;
+          any = λ c. tender-faultless t (xs ++ some (bid c) ∷ ys) q ∙ k .any c;
         }
     go (some f) q h = let z : _≡_ {A = ℕ} 0 1 = cc in absurd (omega arith)
 

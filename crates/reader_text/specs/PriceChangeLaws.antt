@@ -13,7 +13,7 @@ use Rattle.tender.specs.declared.Window.{Window}
 use Rattle.tender.specs.declared.Tender.{Tender}
 use Rattle.tender.specs.Tables.{Row}
 use Rattle.reader_word.specs.Words.{andThen, cut, numeralOf, priceOf}
-use Rattle.reader_line.specs.Line.{BidLine, Line, tender, bid, windowsIn, bidOf, lineOf, linesOf}
+use Rattle.reader_line.specs.Line.{BidLine, Line, tender, bid, reserve, windowsIn, bidOf, lineOf, linesOf}
 use Rattle.reader_text.specs.Read.{ReadOutcome, accepted, rowsFrom, allWindows, bidsOf, lineFault, bidFaultIn, bidFaultAfter}
 use Rattle.reader_text.specs.Read.{bidFault}
 use Rattle.reader_text.specs.Read.{checked, tables, readLines, readText}
@@ -44,6 +44,7 @@ module _ (T : Tender) (R : List Row) (W : List Window) where
   checked-any k at used [] out o e = refl
   checked-any k at used (none ∷ ls) out o e = never e
   checked-any k at used (some (tender t) ∷ ls) out o e = never e
+  checked-any k at used (some (reserve p) ∷ ls) out o e = never e
   checked-any k at used (some (bid b) ∷ ls) out o e =
       let j = judged-out T R W (bidFault k used b) at (checked k (at + 1) (used ++ b .bidder ∷ []) ls out) e in
       rw (j .0) (checked-any k (at + 1) (used ++ b .bidder ∷ []) ls out o (j .1))
@@ -59,6 +60,7 @@ module _ (T : Tender) (R : List Row) (W : List Window) where
       rw (fault-price k used b v l (j .0)) (checked-any k (at + 1) (used ++ b .bidder ∷ []) ys out o (j .1))
   checked-price k at used (none ∷ xs) b ys out o v l e = never e
   checked-price k at used (some (tender t) ∷ xs) b ys out o v l e = never e
+  checked-price k at used (some (reserve p) ∷ xs) b ys out o v l e = never e
   checked-price k at used (some (bid c) ∷ xs) b ys out o v l e =
       let j = judged-out T R W (bidFault k used c) at (checked k (at + 1) (used ++ c .bidder ∷ []) (xs ++ some (bid b) ∷ ys) out) e in
       rw (j .0) (checked-price k (at + 1) (used ++ c .bidder ∷ []) xs b ys out o v l (j .1))

@@ -11,7 +11,7 @@ use Rattle.tender.specs.declared.Window.{Window}
 use Rattle.tender.specs.declared.Tender.{Tender}
 use Rattle.tender.specs.Tables.{Row}
 use Rattle.reader_word.specs.Words.{andThen, cut, among, numeralOf, priceOf}
-use Rattle.reader_line.specs.Line.{BidLine, Line, tender, bid, windowsIn, bidOf, lineOfWords, lineOf, linesOf}
+use Rattle.reader_line.specs.Line.{BidLine, Line, tender, bid, reserve, windowsIn, bidOf, lineOfWords, lineOf, linesOf}
 use Rattle.reader_text.specs.Read.{accepted, rowsFrom, allWindows, bidsOf, checked, tables, begun, headOf, readLines, readText}
 use Rattle.reader_word.specs.CutLaws.{Pieces, cut-some, cut-end, cut-word, cut-append}
 use Rattle.reader_line.specs.PiecesLaws.{lines-append}
@@ -74,6 +74,7 @@ unfolding bidsOf
 bids-append [] b ys = refl
 bids-append (none ∷ xs) b ys = bids-append xs b ys
 bids-append (some (tender t) ∷ xs) b ys = bids-append xs b ys
+bids-append (some (reserve p) ∷ xs) b ys = bids-append xs b ys
 bids-append (some (bid c) ∷ xs) b ys = ap {B = List BidLine} (λ l. c ∷ l) (bids-append xs b ys)
 
 -- where the windows of the bids end

@@ -12,7 +12,7 @@ use Rattle.tender.specs.declared.Window.{Window}
 use Rattle.tender.specs.declared.Tender.{Tender}
 use Rattle.tender.specs.Tables.{Row}
 use Rattle.reader_word.specs.Words.{cut}
-use Rattle.reader_line.specs.Line.{Line, tender, bid, linesOf}
+use Rattle.reader_line.specs.Line.{Line, tender, bid, reserve, linesOf}
 use Rattle.tender.specs.declared.Refusal.{Refusal}
 use Rattle.tender.specs.declared.Refusal.the-variants.{TextTooLong}
 use Rattle.reader_text.specs.Read.{ReadOutcome, accepted, refused, declinedBy, bidsOf, bidFault, lineJudged, checked}
@@ -45,6 +45,7 @@ module _ (T : Tender) (R : List Row) (W : List Window) where
   checked-out k at used [] out e = e
   checked-out k at used (none ∷ ls) out e = never e
   checked-out k at used (some (tender t) ∷ ls) out e = never e
+  checked-out k at used (some (reserve p) ∷ ls) out e = never e
   checked-out k at used (some (bid b) ∷ ls) out e =
       checked-out k (at + 1) (used ++ b .bidder ∷ []) ls out
       (judged-out (bidFault k used b) at (checked k (at + 1) (used ++ b .bidder ∷ []) ls out) e .1)
@@ -56,6 +57,7 @@ module _ (T : Tender) (R : List Row) (W : List Window) where
   checked-bids k at used [] out e = refl
   checked-bids k at used (none ∷ ls) out e = never e
   checked-bids k at used (some (tender t) ∷ ls) out e = never e
+  checked-bids k at used (some (reserve p) ∷ ls) out e = never e
   checked-bids k at used (some (bid b) ∷ ls) out e =
       ap {B = List (Option Line)} (λ r. some (bid b) ∷ r)
       (checked-bids k (at + 1) (used ++ b .bidder ∷ []) ls out

@@ -9,7 +9,7 @@ use native.Mathlib.Nat.{zero-add}
 use lib.ListN.{length, length-append}
 use lib.Dec.{leb, ltb}
 use borrow.Author.Tests.{ltb-false, leb-true, leb-false, not-false}
-use Rattle.tender.specs.Keywords.{bidWord, tenderWord}
+use Rattle.tender.specs.Keywords.{bidWord, reserveWord, tenderWord}
 use Rattle.tender.specs.declared.Kind.{Kind}
 use Rattle.tender.specs.declared.Kind.the-variants.{Single, Multi}
 use Rattle.tender.specs.declared.Window.{Window}
@@ -18,9 +18,9 @@ use Rattle.tender.specs.Limits.{allLawful, isSingle, lawful, soundTender, withi
 use Rattle.tender.specs.RulesLaws.{lawful-rules, sound-rules}
 use Rattle.tender.specs.Tables.{Row}
 use Rattle.reader_word.specs.Words.{andThen, cut, among, sameBytes, closed, numeralOf, priceOf}
-use Rattle.reader_line.specs.Line.{BidLine, Line, tender, bid, kindOf, windowsIn, tenderOf, bidOf, lineOfWords, lineOf}
+use Rattle.reader_line.specs.Line.{BidLine, Line, tender, bid, reserve, kindOf, windowsIn, tenderOf, bidOf, reserveOf, lineOfWords}
 use Rattle.reader_word.specs.Windows.{spanOf, windowOf}
-use Rattle.reader_line.specs.Line.{linesOf}
+use Rattle.reader_line.specs.Line.{headLines, lineOf, linesOf}
 use Rattle.reader_line.specs.LinePlainLaws.{both-true as and-split}
 use Rattle.tender.specs.declared.Refusal.{Refusal}
 use Rattle.tender.specs.declared.Refusal.the-variants.{OutsideLimits, TooMany, EmptyWindow, BidderRepeated, SeveralWindows}
@@ -31,7 +31,7 @@ use Rattle.reader_text.specs.Read.{checked, tables, readText}
 use Rattle.reader_text.specs.FaultLaws.{every-lawful}
 use Rattle.reader_word.specs.CutLaws.{neither}
 use Rattle.reader_text.specs.ReadLaws.{never, read-lines, judged-out}
-use Rattle.reader_text.specs.HeadLaws.{headLines, head-is, accepted-head}
+use Rattle.reader_text.specs.HeadLaws.{head-is, accepted-head}
 use Rattle.reader_text.specs.Rules.{RowsRules, WindowsRules, Rules}
 
 -- a bid that was read has a window
@@ -40,6 +40,7 @@ abbrev Filled : Option Line → Type 0
 Filled none = Unit {0}
 Filled (some (tender t)) = Unit {0}
 Filled (some (bid b)) = 1 ≤ length (b .windows)
+Filled (some (reserve p)) = Unit {0}
 
 abbrev Long : Option (List Window) → Type 0
 Long none = Unit {0}
@@ -96,15 +97,30 @@ tender-filled (k ∷ s ∷ e ∷ []) = go (kindOf k) (closed e)
     go (some y) (some z) = last y (spanOf s z)
 tender-filled (k ∷ s ∷ e ∷ x ∷ ws) = tt
 
+reserve-filled : (ws : List (List ℕ)) → Filled (reserveOf ws)
+unfolding reserveOf andThen
+reserve-filled [] = tt
+reserve-filled (p ∷ []) = go (closed p)
+  where
+    last : (o : Option ℕ) → Filled (andThen o (λ v. some (reserve v)))
+    last none = tt
+    last (some v) = tt
+
+    go : (o : Option (List ℕ)) → Filled (andThen o (λ z. andThen (priceOf z) (λ v. some (reserve v))))
+    go none = tt
+    go (some z) = last (priceOf z)
+reserve-filled (p ∷ x ∷ ws) = tt
+
 words-filled : (ws : List (List ℕ)) → Filled (lineOfWords ws)
 unfolding lineOfWords
 words-filled [] = tt
-words-filled (w ∷ ws) = go (sameBytes w (40 ∷ tenderWord)) (sameBytes w (40 ∷ bidWord))
+words-filled (w ∷ ws) = go (sameBytes w (40 ∷ tenderWord)) (sameBytes w (40 ∷ bidWord)) (sameBytes w (40 ∷ reserveWord))
   where
-    go : (a b : Bool) → Filled (cond a (tenderOf ws) (cond b (bidOf ws) none))
-    go true b = tender-filled ws
-    go false true = bid-filled ws
-    go false false = tt
+    go : (a b c : Bool) → Filled (cond a (tenderOf ws) (cond b (bidOf ws) (cond c (reserveOf ws) none)))
+    go true b c = tender-filled ws
+    go false true c = bid-filled ws
+    go false false true = reserve-filled ws
+    go false false false = tt
 
 abbrev AllFilled : List (Option Line) → Type 0
 AllFilled [] = Unit {0}
@@ -237,6 +253,7 @@ module _ (T : Tender) (R : List Row) (W : List Window) where
   sound k n used at [] out a e = record { few-bids = λ u. omega arith; rows = omega arith; windows = tt }
   sound k n used at (none ∷ ls) out a e = never e
   sound k n used at (some (tender t) ∷ ls) out a e = never e
+  sound k n used at (some (reserve p) ∷ ls) out a e = never e
   sound k n used at (some (bid b) ∷ ls) out a e =
       let j = judged-out T R W (bidFault k used b) n (checked k (n + 1) (used ++ b .bidder ∷ []) ls out) e in
       more k used at b (bidsOf ls) (a .0) (faultless-bid k used b (j .0))

@@ -13,7 +13,7 @@ use Rattle.tender.specs.declared.Window.{Window}
 use Rattle.tender.specs.declared.Tender.{Tender}
 use Rattle.tender.specs.Tables.{Row}
 use Rattle.reader_word.specs.Words.{cut, growFirst}
-use Rattle.reader_line.specs.Line.{BidLine, Line, tender, bid, lineOf, linesOf}
+use Rattle.reader_line.specs.Line.{BidLine, Line, tender, bid, reserve, lineOf, linesOf}
 use Rattle.reader_word.specs.CutLaws.{Pieces, cut-some}
 use Rattle.reader_line.specs.SizeLaws.{line-windows}
 use Rattle.tender.specs.declared.Refusal.the-variants.{TextTooLong}
@@ -55,6 +55,7 @@ lines-size (p ∷ q ∷ ps) = go (lineOf p) (line-windows p) (lines-size (q ∷ 
         6 * length (allWindows (bidsOf (x ∷ linesOf (q ∷ ps)))) ≤ length p + 1 + size (q ∷ ps)
     go none f ih = omega arith
     go (some (tender t)) f ih = omega arith
+    go (some (reserve v)) f ih = omega arith
     go (some (bid b)) f ih = omega (arith, f b refl, length-append (b .windows) (allWindows (bidsOf (linesOf (q ∷ ps)))))
 
 pub short-text : (T : Tender) (R : List Row) (W : List Window) (text : List ℕ) → readText text ≡ accepted T R W
