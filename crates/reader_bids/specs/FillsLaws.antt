@@ -16,7 +16,7 @@ use Rattle.tender.specs.Refusals.{numberOf, placeOf}
 use Rattle.tender.specs.Tables.{flatRows, flatWindows, bidWidth, windowWidth, bidTable, windowTable}
 use Rattle.cells.specs.Cells.{cell, RangeAdded}
 use Rattle.reader_word.specs.Words.{among}
-use Rattle.reader_line.specs.Line.{BidLine, Line, tender, bid, lineOf}
+use Rattle.reader_line.specs.Line.{BidLine, Line, tender, bid, reserve, lineOf}
 use Rattle.reader_line.specs.SizeLaws.{line-windows}
 use Rattle.reader_text.specs.Read.{ReadOutcome, refused, rowsFrom, allWindows, bidsOf, bidFaultAfter, bidFault, lineJudged, checked}
 use Rattle.reader_text.specs.RulesLaws.{faultless-after}
@@ -127,6 +127,7 @@ pub taken-room : (kind : Kind) (line k m : ℕ) (used rows windows used′ rows�
     ((b : BidLine) → o ≡ some (bid b) → 6 * (m + length (b .windows)) ≤ n) → 6 * (m + c) ≤ n
 taken-room kind line k m used rows windows used′ rows′ windows′ none r c n t e h = bid-not-refused r c 2 line e t
 taken-room kind line k m used rows windows used′ rows′ windows′ (some (tender x)) r c n t e h = bid-not-refused r c 2 line e t
+taken-room kind line k m used rows windows used′ rows′ windows′ (some (reserve x)) r c n t e h = bid-not-refused r c 16 line e t
 taken-room kind line k m used rows windows used′ rows′ windows′ (some (bid b)) r c n t e h =
     go (bidFaultAfter kind k b (eqb (cell used (b .bidder)) 1)) t
   where
@@ -184,6 +185,7 @@ module _ (kind : Kind) (from : ℕ) (whole rest : List (Option Line)) (line k m 
       Walk kind from whole rest (line + 1) (k + 1) (m + c) used′ rows′ windows′
   goes none w r t lu lr lw c e room = bid-not-refused r c 2 line e t
   goes (some (tender x)) w r t lu lr lw c e room = bid-not-refused r c 2 line e t
+  goes (some (reserve x)) w r t lu lr lw c e room = bid-not-refused r c 16 line e t
   goes (some (bid b)) w r t lu lr lw c e room = go
       (bidFaultAfter kind k b (eqb (cell used (b .bidder)) 1)) refl t
     where
@@ -209,6 +211,7 @@ module _ (kind : Kind) (from : ℕ) (whole rest : List (Option Line)) (line k m 
   unfolding checked lineJudged
   stops none w r t x e out = w .checks out ∙ refusal-is r x 2 line e t
   stops (some (tender y)) w r t x e out = w .checks out ∙ refusal-is r x 2 line e t
+  stops (some (reserve y)) w r t x e out = w .checks out ∙ refusal-is r x 16 line e t
   stops (some (bid b)) w r t x e out = w .checks out
       ∙ go (bidFaultAfter kind k b (eqb (cell used (b .bidder)) 1))
       refl t

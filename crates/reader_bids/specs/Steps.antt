@@ -10,7 +10,7 @@ use Rattle.tender.specs.declared.Refusal.{Refusal}
 use Rattle.tender.specs.Refusals.{numberOf, placeOf}
 use Rattle.tender.specs.Tables.{Row, flatRows, flatWindows, bidWidth, windowWidth}
 use Rattle.cells.specs.Cells as cells
-use Rattle.reader_line.specs.Line.{BidLine, Line, tender, bid}
+use Rattle.reader_line.specs.Line.{BidLine, Line, tender, bid, reserve}
 use Rattle.reader_line.specs.Tally.{putWindows}
 use Rattle.reader_text.specs.Read.{ReadOutcome, refused, rowsFrom, allWindows, bidsOf, bidFaultAfter, checked}
 use Rattle.reader_bids.specs.declared.Verdict.{Verdict}
@@ -64,6 +64,7 @@ abbrev pub Taken : Option Line → Kind → (line k m : ℕ) → (used rows wind
     → (used′ rows′ windows′ : List ℕ) → Type 0
 Taken none kind line k m used rows windows r used′ rows′ windows′ = StepDeclines r 2 line
 Taken (some (tender t)) kind line k m used rows windows r used′ rows′ windows′ = StepDeclines r 2 line
+Taken (some (reserve p)) kind line k m used rows windows r used′ rows′ windows′ = StepDeclines r 16 line
 Taken (some (bid b)) kind line k m used rows windows r used′ rows′ windows′ =
     Judged (bidFaultAfter kind k b (eqb (cells.cell used (b .bidder)) 1)) b line k m used rows windows r used′ rows′ windows′
 

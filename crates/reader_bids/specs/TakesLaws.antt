@@ -9,11 +9,11 @@ use lib.ListN.{length, take, drop}
 use lib.Dec.{eqb}
 use Rattle.tender.specs.declared.Kind.{Kind}
 use Rattle.cells.specs.Cells.{cell, RangeAdded}
-use Rattle.reader_line.specs.Line.{TenderLine, BidLine, Line, tender, bid}
+use Rattle.reader_line.specs.Line.{TenderLine, BidLine, Line, tender, bid, reserve}
 use Rattle.reader_word.specs.declared.windows.Flaw.{Flaw}
 use Rattle.reader_word.specs.declared.windows.Flaw.the-variants.{Sound}
 use Rattle.reader_word.specs.Flaws.{flawOf, isEmpty, isLate}
-use Rattle.reader_line.specs.Tally.{putWindows, Tally, tally, tenderNote, bidNote, noted}
+use Rattle.reader_line.specs.Tally.{putWindows, Tally, tally, tenderNote, bidNote, reserveNote, noted}
 use Rattle.tender.specs.declared.Refusal.{Refusal}
 use Rattle.tender.specs.Refusals.{numberOf, placeOf}
 use Rattle.tender.specs.Tables.{bidWidth}
@@ -64,6 +64,7 @@ module _ (kind : Kind) (line k m : ℕ) (used rows windows : List ℕ) (r : Step
   taken-broken none e h = h
   taken-broken (some (tender t)) e h = let z : _≡_ {A = ℕ} 0 1 = cc in absurd (omega arith)
   taken-broken (some (bid b)) e h = let z : _≡_ {A = ℕ} 0 1 = cc in absurd (omega arith)
+  taken-broken (some (reserve v)) e h = let z : _≡_ {A = ℕ} 0 1 = cc in absurd (omega arith)
 
   pub taken-tender : (o : Option Line) (t : TenderLine) → some (tenderNote t) ≡ noted m windows o → StepDeclines r 2 line
       → Taken o kind line k m used rows windows r used′ rows′ windows′
@@ -71,6 +72,15 @@ module _ (kind : Kind) (line k m : ℕ) (used rows windows : List ℕ) (r : Step
   taken-tender none t e h = let z : _≡_ {A = ℕ} 0 1 = cc in absurd (omega arith)
   taken-tender (some (tender u)) t e h = h
   taken-tender (some (bid b)) t e h = let z : _≡_ {A = ℕ} 0 1 = cc in absurd (omega arith)
+  taken-tender (some (reserve v)) t e h = let z : _≡_ {A = ℕ} 0 1 = cc in absurd (omega arith)
+
+  pub taken-reserve : (o : Option Line) (v : ℕ) → some (reserveNote v) ≡ noted m windows o → StepDeclines r 16 line
+      → Taken o kind line k m used rows windows r used′ rows′ windows′
+  unfolding noted
+  taken-reserve none v e h = let z : _≡_ {A = ℕ} 0 1 = cc in absurd (omega arith)
+  taken-reserve (some (tender t)) v e h = let z : _≡_ {A = ℕ} 0 1 = cc in absurd (omega arith)
+  taken-reserve (some (bid b)) v e h = let z : _≡_ {A = ℕ} 0 1 = cc in absurd (omega arith)
+  taken-reserve (some (reserve w)) v e h = h
 
   module _ (n p c : ℕ) (flaw : Flaw) where
     -- judged by what is noted
@@ -88,6 +98,7 @@ module _ (kind : Kind) (line k m : ℕ) (used rows windows : List ℕ) (r : Step
     unfolding noted
     taken-fault none e f g h = let z : _≡_ {A = ℕ} 0 1 = cc in absurd (omega arith)
     taken-fault (some (tender u)) e f g h = let z : _≡_ {A = ℕ} 0 1 = cc in absurd (omega arith)
+    taken-fault (some (reserve v)) e f g h = let z : _≡_ {A = ℕ} 0 1 = cc in absurd (omega arith)
     taken-fault (some (bid b)) e f g h =
         let x = noted-bid n p c flaw m windows windows′ b e in
         let y : bidFaultAfter kind k b (eqb (cell used (b .bidder)) 1) ≡ some f = sym (noted-fault b x) ∙ g in
@@ -101,6 +112,7 @@ module _ (kind : Kind) (line k m : ℕ) (used rows windows : List ℕ) (r : Step
     unfolding noted
     taken-sound none e g q s t = let z : _≡_ {A = ℕ} 0 1 = cc in absurd (omega arith)
     taken-sound (some (tender u)) e g q s t = let z : _≡_ {A = ℕ} 0 1 = cc in absurd (omega arith)
+    taken-sound (some (reserve v)) e g q s t = let z : _≡_ {A = ℕ} 0 1 = cc in absurd (omega arith)
     taken-sound (some (bid b)) e g q s t =
         let x = noted-bid n p c flaw m windows windows′ b e in
         let y : bidFaultAfter kind k b (eqb (cell used (b .bidder)) 1) ≡ none = sym (noted-fault b x) ∙ g in

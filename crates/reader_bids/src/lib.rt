@@ -142,6 +142,7 @@ fn take_line(
             Verdict::Faulty(r) => Step::Refused(r),
         },
         Line::Tender(_, _) => Step::Refused(Refusal::BadForm { line }),
+        Line::Reserve(_) => Step::Refused(Refusal::ReserveMisplaced { line }),
         Line::Broken => Step::Refused(Refusal::BadForm { line }),
     }
 }

@@ -4,7 +4,8 @@ use native.Mathlib.Omega.{arith}
 use Rattle.reader_line.specs.Answer.{toldLine}
 use Rattle.reader_text.specs.RulesLaws.{passed}
 use Rattle.reader_bids.specs.Steps.{verdictOf}
-use Rattle.reader_bids.specs.TakesLaws.{is-sound, is-fault, taken-broken, taken-tender, taken-fault, taken-sound}
+use Rattle.reader_bids.specs.TakesLaws.{is-sound, is-fault, taken-broken, taken-tender, taken-reserve, taken-fault}
+use Rattle.reader_bids.specs.TakesLaws.{taken-sound}
 use borrow.Author.Needs.{needs}
 use Rattle.reader_bids.proofs.take_line.Statement.{statement}
 use Rattle.reader_bids.proofs.take_line.Tie as tie
@@ -44,6 +45,9 @@ enum-told-2 c = search needs
 
 enum-told-3 : tie.Need-enum-told-3
 enum-told-3 c = search needs
+
+enum-told-4 : tie.Need-enum-told-4
+enum-told-4 c = search needs
 
 same-length : tie.Need-same-length
 same-length c = search needs
@@ -96,7 +100,16 @@ same-length-7 c = search needs
 returns-4 : tie.Need-returns-4
 returns-4 c =
     let c4 = c .before .before .before .before in
-    taken-broken _ _ _ _ _ _ _ _ _ _ _ _ (ap (λ t. toldLine t (c4 .read-line .last .1 .0)) (sym (c .enum-told3 .given .1))
+    taken-reserve _ _ _ _ _ _ _ _ _ _ _ _ _ (ap (λ t. toldLine t (c4 .read-line .last .1 .0)) (sym (c .enum-told3 .given .1))
+    ∙ c4 .read-line .ensures .0) refl
+
+same-length-8 : tie.Need-same-length-8
+same-length-8 c = search needs
+
+returns-5 : tie.Need-returns-5
+returns-5 c =
+    let c4 = c .before .before .before .before in
+    taken-broken _ _ _ _ _ _ _ _ _ _ _ _ (ap (λ t. toldLine t (c4 .read-line .last .1 .0)) (sym (c .enum-told4 .given .1))
     ∙ c4 .read-line .ensures .0) refl
 
 pub take-line-spec : {M : Type 1} → statement M
@@ -112,6 +125,7 @@ take-line-spec =
     enum-known-r
     enum-told-2
     enum-told-3
+    enum-told-4
     same-length
     same-length-2
     same-length-3
@@ -122,4 +136,6 @@ take-line-spec =
     same-length-6
     returns-3
     same-length-7
-    returns-4)
+    returns-4
+    same-length-8
+    returns-5)
