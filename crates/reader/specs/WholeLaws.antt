@@ -1,8 +1,7 @@
 -- What reading answers, from the head, the bids and the lent tables' lengths. Assumes nothing.
 use Prim.Native.Nat.{ℕ, _*_, _/_, _≤_, _<_}
-use mathlib.Core.Path.{_≡_, refl, _∙_}
+use mathlib.Core.Path.{_≡_, refl, sym, subst, _∙_}
 use mathlib.Core.List.{List, [], _∷_, _++_}
-use mathlib.Core.Bool.{true}
 use mathlib.Core.Option.{Option, none, some}
 use native.Mathlib.Omega.{arith}
 use lib.ListN.{length, take, drop}
@@ -12,16 +11,17 @@ use Rattle.tender.specs.declared.Window.{Window}
 use Rattle.tender.specs.declared.Tender.{Tender}
 use Rattle.tender.specs.declared.Refusal.{Refusal}
 use Rattle.tender.specs.declared.Refusal.the-variants.{BadForm}
-use Rattle.tender.specs.Limits.{soundTender}
 use Rattle.tender.specs.Refusals.{numberOf, placeOf}
 use Rattle.tender.specs.Tables.{Row, flatRows, flatWindows, bidWidth, windowWidth}
 use Rattle.reader_word.specs.Words.{cut}
-use Rattle.reader_line.specs.Line.{TenderLine, Line, tender, bid, linesOf}
-use Rattle.reader_line.specs.Tally.{Tally, tenderNote, bidNote, noted}
+use Rattle.reader_line.specs.Line.{TenderLine, Line, tender, bid, reserve, linesOf}
+use Rattle.reader_line.specs.Tally.{Tally, tenderNote, bidNote, reserveNote, noted}
 use Rattle.reader_line.specs.Answer.{FirstBroken}
 use Rattle.reader_text.specs.Read.{ReadOutcome, accepted, refused, rowsFrom, allWindows, bidsOf, tenderFault, checked, tables}
-use Rattle.reader_text.specs.Read.{begun, halted, tenderWith, headOf, readLines, readText, fitted, readInto}
-use Rattle.reader_text.specs.HeadLaws.{lines-halted, lines-begun, no-line, broken-first, bid-first, tender-faulty, tender-sound}
+use Rattle.reader_text.specs.Read.{halted, reserveIn, headOf, readLines, readText, fitted, readInto}
+use Rattle.reader_text.specs.Read as reading
+use Rattle.reader_text.specs.HeadLaws.{lines-halted, lines-begun, no-line, broken-first, bid-first, reserve-first, tender-faulty}
+use Rattle.reader_text.specs.HeadLaws.{tender-faultless}
 use Rattle.reader_text.specs.RulesLaws.{rowsFrom-length}
 use Rattle.reader.specs.Answer.{filled, declined, summary, bidsAfter, windowsAfter}
 use Rattle.reader.specs.Opened.{Begins, Opened}
@@ -44,6 +44,7 @@ unfolding noted
 is-tender m table none t e = let z : _≡_ {A = ℕ} 0 1 = cc in absurd (omega arith)
 is-tender m table (some (tender u)) t e = cc
 is-tender m table (some (bid b)) t e = let z : _≡_ {A = ℕ} 0 1 = cc in absurd (omega arith)
+is-tender m table (some (reserve p)) t e = let z : _≡_ {A = ℕ} 0 1 = cc in absurd (omega arith)
 
 module _ (ls rest : List (Option Line)) (o : Option Line) (q : ls ≡ o ∷ rest) where
   pub first-bid : (m n p : ℕ) (table : List ℕ) (t : Tally) → some (bidNote n p t) ≡ noted m table o
@@ -55,6 +56,17 @@ module _ (ls rest : List (Option Line)) (o : Option Line) (q : ls ≡ o ∷ rest
       go none h = let z : _≡_ {A = ℕ} 0 1 = cc in absurd (omega arith)
       go (some (tender u)) h = let z : _≡_ {A = ℕ} 0 1 = cc in absurd (omega arith)
       go (some (bid b)) h = bid-first b rest
+      go (some (reserve v)) h = let z : _≡_ {A = ℕ} 0 1 = cc in absurd (omega arith)
+
+  pub first-reserve : (m v : ℕ) (table : List ℕ) → some (reserveNote v) ≡ noted m table o → headOf ls ≡ halted (BadForm 1)
+  unfolding noted
+  first-reserve m v table e = rw q (go o e)
+    where
+      go : (x : Option Line) → some (reserveNote v) ≡ noted m table x → headOf (x ∷ rest) ≡ halted (BadForm 1)
+      go none h = let z : _≡_ {A = ℕ} 0 1 = cc in absurd (omega arith)
+      go (some (tender u)) h = let z : _≡_ {A = ℕ} 0 1 = cc in absurd (omega arith)
+      go (some (bid b)) h = let z : _≡_ {A = ℕ} 0 1 = cc in absurd (omega arith)
+      go (some (reserve w)) h = reserve-first w rest
 
   pub first-broken : (m : ℕ) (table : List ℕ) → none ≡ noted m table o → headOf ls ≡ halted (BadForm 1)
   unfolding noted
@@ -64,30 +76,30 @@ module _ (ls rest : List (Option Line)) (o : Option Line) (q : ls ≡ o ∷ rest
       go none h = broken-first rest
       go (some (tender u)) h = let z : _≡_ {A = ℕ} 0 1 = cc in absurd (omega arith)
       go (some (bid b)) h = let z : _≡_ {A = ℕ} 0 1 = cc in absurd (omega arith)
+      go (some (reserve v)) h = let z : _≡_ {A = ℕ} 0 1 = cc in absurd (omega arith)
 
   pub first-faulty : (t : TenderLine) → o ≡ some (tender t) → (f : ℕ → Refusal) → tenderFault t ≡ some f
       → headOf ls ≡ halted (f 1)
   first-faulty t e f l = rw (q, e) (tender-faulty t f rest l)
 
-  pub first-sound : (t : TenderLine) → o ≡ some (tender t) → soundTender (tenderWith t) ≡ true → (T : Tender)
-      → T ≡ tenderWith t → headOf ls ≡ begun T 2 rest
-  first-sound t e l T w = rw (q, e, w) (tender-sound t rest l)
+  pub first-sound : (t : TenderLine) → o ≡ some (tender t) → tenderFault t ≡ none → headOf ls ≡ reserveIn t 2 rest
+  first-sound t e l = rw (q, e) (tender-faultless t rest l)
 
 pub first-odd : (ls : List (Option Line)) → FirstBroken ls → headOf ls ≡ halted (BadForm 1)
 first-odd ls b = rw (b .are) (broken-first (b .rest))
 
 -- by the case of an answer
 
-pub opened-tender : (text : List ℕ) (r : Head) → Opened text r → (t : Tender) (at from : ℕ) → r ≡ head.Tender t at from
-    → Begins text t at from
-opened-tender text (head.Tender u i n) h t at from e =
-    let x : u ≡ t = cc in let y : i ≡ at = cc in let z : n ≡ from = cc in rw (← x, ← y, ← z) h
-opened-tender text (head.Refused r) h t at from e = let z : _≡_ {A = ℕ} 0 1 = cc in absurd (omega arith)
+pub opened-same : (text : List ℕ) (g h : reading.Head) (r : Head) → g ≡ h → Opened text h r → Opened text g r
+opened-same text g h r e o = subst (λ x. Opened text x r) (sym e) o
 
-pub opened-refused : (text : List ℕ) (r : Head) → Opened text r → (x : Refusal) → r ≡ head.Refused x
-    → readLines (linesOf (cut 10 text)) ≡ refused (numberOf x) (placeOf x)
-opened-refused text (head.Tender u i n) h x e = let z : _≡_ {A = ℕ} 0 1 = cc in absurd (omega arith)
-opened-refused text (head.Refused r) h x e = let y : r ≡ x = cc in rw (← y) (lines-halted (linesOf (cut 10 text)) r h)
+pub opened-tender : (text : List ℕ) (r : Head) → Opened text (headOf (linesOf (cut 10 text))) r → (t : Tender) (at from : ℕ)
+    → r ≡ head.Tender t at from → Begins text (headOf (linesOf (cut 10 text))) t at from
+opened-tender text r h t at from e = subst (Opened text (headOf (linesOf (cut 10 text)))) e h
+
+pub opened-refused : (text : List ℕ) (r : Head) → Opened text (headOf (linesOf (cut 10 text))) r → (x : Refusal)
+    → r ≡ head.Refused x → readLines (linesOf (cut 10 text)) ≡ refused (numberOf x) (placeOf x)
+opened-refused text r h x e = lines-halted (linesOf (cut 10 text)) x (subst (Opened text (headOf (linesOf (cut 10 text)))) e h)
 
 module _ (kind : Kind) (from : ℕ) (ls : List (Option Line)) (rows spans : List ℕ) where
   pub filled-held : (r : Bids) → LinesFilled kind from ls r rows spans → (k m : ℕ) → r ≡ bids.Filled k m
@@ -126,7 +138,7 @@ module _ (text bids windows : List ℕ) where
     unfolding Refuses readInto fitted
     lines-refused n at e = rw (short, e)
 
-    module _ (t : Tender) (at from : ℕ) (g : Begins text t at from) where
+    module _ (t : Tender) (at from : ℕ) (g : Begins text (headOf (linesOf (cut 10 text))) t at from) where
       read-on : readLines (linesOf (cut 10 text)) ≡ checked (t .kind) from [] (linesOf (cut 10 (drop at text)))
           (tables t (bidsOf (linesOf (cut 10 (drop at text)))))
       read-on = lines-begun (linesOf (cut 10 text)) t from (linesOf (cut 10 (drop at text))) (g .lines)

@@ -1,12 +1,14 @@
 // The bid reader: bid text to a tender, a table of bids and a table of windows. `reader_text` Read says what a text gives;
 // a text is read whole or refused, and a refused text leaves both tables as they were.
 ghost use mathlib.Core.Path.{_≡_};
-ghost use Prim.Native.Nat.{_/_};
-ghost use lib.ListN.{length, replicate};
+ghost use Prim.Native.Nat.{_/_, _≤_};
+ghost use lib.ListN.{length, drop, replicate};
 ghost use Rattle.tender.specs.Tables.{bidWidth, windowWidth};
-ghost use Rattle.reader_text.specs.Read.{readInto, tenderWith};
+ghost use Rattle.reader_word.specs.Words.{cut};
+ghost use Rattle.reader_line.specs.Line.{linesOf};
+ghost use Rattle.reader_text.specs.Read.{tenderWith, reserveIn, headOf, readInto};
 ghost use Rattle.reader.specs.Answer.{toldReading, summary, bidsAfter, windowsAfter};
-ghost use Rattle.reader.specs.Opened.{Opened};
+ghost use Rattle.reader.specs.Opened.{Opened, NextIs};
 
 mod rows;
 
@@ -34,10 +36,9 @@ pub(crate) enum Head {
 }
 
 // The tender that the lines of a head give.
-fn tender_with(kind: Kind, window: Window) -> Tender
-    ensures { λ r. ⌜ r ≡ tenderWith (record { kind = kind; window = window }) ⌝ }
+fn tender_with(kind: Kind, window: Window, reserve: Reserve) -> Tender
+    ensures { λ r. ⌜ r ≡ tenderWith (record { kind = kind; window = window }) reserve ⌝ }
 {
-    let reserve = Reserve::Absent;
     Tender {
         kind,
         window,
@@ -45,10 +46,64 @@ fn tender_with(kind: Kind, window: Window) -> Tender
     }
 }
 
+pub(crate) enum Next {
+    Reserve(u64, usize),
+    Other,
+}
+
+// Whether the reserve's line begins at `at`: its price, and where the next line begins. The table serves the line's reader and is not
+// looked at.
+fn next_reserve(text: &[u8], at: usize, windows: &mut [u64]) -> Next
+    requires { ⌜ at ≤ length (now text) ⌝ }
+    ensures { λ r. ⌜ NextIs (now (text .entry)) at r ⌝ }
+{
+    if text.len() <= at {
+        return Next::Other;
+    }
+    match line_end(text, at) {
+        LineEnd::At(e) => match read_line(&text[at..e], windows, 0) {
+            Line::Reserve(price) => Next::Reserve(price, e + 1),
+            Line::Tender(_, _) => Next::Other,
+            Line::Bid(_, _, _, _) => Next::Other,
+            Line::Broken => Next::Other,
+        },
+        LineEnd::Broken => Next::Other,
+    }
+}
+
+// The head from its line of this number on, which begins at `at`: the reserve's line, where it stands there. Any other line is left to
+// the bids, which read it again.
+fn reserve_in(
+    text: &[u8],
+    at: usize,
+    line: u64,
+    kind: Kind,
+    window: Window,
+    windows: &mut [u64],
+) -> Head
+    requires { ⌜ (at ≤ length (now text)) × (line ≤ 65536) ⌝ }
+    ensures { λ r. ⌜ Opened (now (text .entry)) (reserveIn (record { kind = kind; window = window }) line
+        (linesOf (cut 10 (drop at (now (text .entry)))))) r ⌝ }
+{
+    match next_reserve(text, at, windows) {
+        Next::Reserve(price, after) => {
+            if tender::MAX_PRICE < price {
+                return Head::Refused(Refusal::OutsideLimits { line });
+            }
+            Head::Tender(
+                tender_with(kind, window, Reserve::Price(price)),
+                after,
+                line + 1,
+            )
+        }
+        Next::Other => Head::Tender(tender_with(kind, window, Reserve::Absent), at, line),
+    }
+}
+
 // The lines before the bids: the tender, where the bids begin, and the number of their first line. The table serves the line's reader
 // and is not looked at.
 fn read_head(text: &[u8], windows: &mut [u64]) -> Head
-    ensures { λ r. ⌜ Opened (now (text .entry)) r ⌝ }
+    ensures { λ r. ⌜ Opened (now (text .entry)) (headOf (linesOf (cut 10 (now (text .entry))))) r ⌝ }
 {
     if text.len() == 0 {
         return Head::Refused(Refusal::BadForm { line: 1 });
@@ -58,9 +113,10 @@ fn read_head(text: &[u8], windows: &mut [u64]) -> Head
             Line::Tender(kind, w) => match flaw_in(w.start, w.end) {
                 Flaw::Empty => Head::Refused(Refusal::EmptyWindow { line: 1 }),
                 Flaw::Late => Head::Refused(Refusal::LateWindow { line: 1 }),
-                Flaw::Sound => Head::Tender(tender_with(kind, w), e + 1, 2),
+                Flaw::Sound => reserve_in(text, e + 1, 2, kind, w, windows),
             },
             Line::Bid(_, _, _, _) => Head::Refused(Refusal::BadForm { line: 1 }),
+            Line::Reserve(_) => Head::Refused(Refusal::BadForm { line: 1 }),
             Line::Broken => Head::Refused(Refusal::BadForm { line: 1 }),
         },
         LineEnd::Broken => Head::Refused(Refusal::BadForm { line: 1 }),

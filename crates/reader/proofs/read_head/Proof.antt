@@ -3,15 +3,17 @@ use mathlib.Core.Path.{sym, ap, _∙_}
 use native.Mathlib.Omega.{arith}
 use Rattle.reader_line.specs.PiecesLaws.{lines-at}
 use Rattle.reader_line.specs.Answer.{toldLine}
-use Rattle.reader_text.specs.FaultLaws.{flawFault, faultless-sound, tender-told}
+use Rattle.reader_text.specs.FaultLaws.{flawFault, tender-told}
 use Rattle.reader_line.specs.EndsLaws.{ends-at, ends-broken}
-use Rattle.reader.specs.WholeLaws.{first-empty, is-tender, first-bid, first-broken, first-faulty, first-sound, first-odd}
+use Rattle.reader.specs.WholeLaws.{first-empty, is-tender, first-bid, first-reserve, first-broken, first-faulty, first-sound}
+use Rattle.reader.specs.WholeLaws.{first-odd, opened-same}
 use borrow.Author.Needs.{needs}
 use Rattle.reader.proofs.read_head.Statement.{statement}
 use Rattle.reader.proofs.read_head.Tie as tie
 
 returns : tie.Need-returns
-returns c = first-empty _ (c .if1 .taken)
+returns c =
+    first-empty _ (c .if1 .taken)
 
 line-end-requires : tie.Need-line-end-requires
 line-end-requires c κs = search needs
@@ -49,15 +51,19 @@ enum-told-2 c = search needs
 enum-told-3 : tie.Need-enum-told-3
 enum-told-3 c = search needs
 
-tender-with-requires : tie.Need-tender-with-requires
-tender-with-requires c κs = search needs
+add-reserve-in : tie.Need-add-reserve-in
+add-reserve-in c =
+    let c12 = c .before .before .before .before .before .before .before .before .before .before .before .before in
+    let c14 = c12 .before .before in
+    let c18 = c14 .before .before .before .before in
+    let b = ends-at (c18 .args .text .now) 0 _ (c14 .line-end .ensures) _ (c12 .e .given .1) in omega (arith, b .1)
 
-add-t24 : tie.Need-add-t24
-add-t24 c =
+reserve-in-requires : tie.Need-reserve-in-requires
+reserve-in-requires c κs =
     let c13 = c .before .before .before .before .before .before .before .before .before .before .before .before .before in
     let c15 = c13 .before .before in
     let c19 = c15 .before .before .before .before in
-    let b = ends-at (c19 .args .text .now) 0 _ (c15 .line-end .ensures) _ (c13 .e .given .1) in omega (arith, b .1)
+    let b = ends-at (c19 .args .text .now) 0 _ (c15 .line-end .ensures) _ (c13 .e .given .1) in (omega (arith, b .1), omega arith)
 
 enum-told-4 : tie.Need-enum-told-4
 enum-told-4 c = search needs
@@ -67,6 +73,9 @@ enum-told-5 c = search needs
 
 enum-told-6 : tie.Need-enum-told-6
 enum-told-6 c = search needs
+
+enum-told-7 : tie.Need-enum-told-7
+enum-told-7 c = search needs
 
 same-length : tie.Need-same-length
 same-length c = search needs
@@ -79,7 +88,8 @@ returns-2 c =
     let c14 = c12 .before .before in
     let c18 = c14 .before .before .before .before in
     let b = ends-at (c18 .args .text .now) 0 _ (c14 .line-end .ensures) _ (c12 .e .given .1) in
-    let o = is-tender 0 _ _ _ (ap (λ t. toldLine t (c8 .read-line .last .1 .0)) (sym (c4 .kind .given .1)) ∙ c8 .read-line .ensures .0) in
+    let o = is-tender 0 _ _ _ (ap (λ t. toldLine t (c8 .read-line .last .1 .0)) (sym (c4 .kind .given .1))
+    ∙ c8 .read-line .ensures .0) in
     first-faulty _ _ _ (lines-at (c18 .args .text .now) 0 _ (b .0) (b .1)) _ o _
     (tender-told _ ∙ ap flawFault (sym (c .before .before .flaw-in .ensures) ∙ c .enum-told .given .1))
 
@@ -94,7 +104,8 @@ returns-3 c =
     let c14 = c12 .before .before in
     let c18 = c14 .before .before .before .before in
     let b = ends-at (c18 .args .text .now) 0 _ (c14 .line-end .ensures) _ (c12 .e .given .1) in
-    let o = is-tender 0 _ _ _ (ap (λ t. toldLine t (c8 .read-line .last .1 .0)) (sym (c4 .kind .given .1)) ∙ c8 .read-line .ensures .0) in
+    let o = is-tender 0 _ _ _ (ap (λ t. toldLine t (c8 .read-line .last .1 .0)) (sym (c4 .kind .given .1))
+    ∙ c8 .read-line .ensures .0) in
     first-faulty _ _ _ (lines-at (c18 .args .text .now) 0 _ (b .0) (b .1)) _ o _
     (tender-told _ ∙ ap flawFault (sym (c .before .before .flaw-in .ensures) ∙ c .enum-told2 .given .1))
 
@@ -103,21 +114,20 @@ same-length-3 c = search needs
 
 returns-4 : tie.Need-returns-4
 returns-4 c =
-    let c5 = c .before .before .before .before .before in
-    let c9 = c5 .before .before .before .before in
-    let c13 = c9 .before .before .before .before in
-    let c15 = c13 .before .before in
-    let c19 = c15 .before .before .before .before in
-    let b = ends-at (c19 .args .text .now) 0 _ (c15 .line-end .ensures) _ (c13 .e .given .1) in
-    let o = is-tender 0 _ _ _ (ap (λ t. toldLine t (c9 .read-line .last .1 .0)) (sym (c5 .kind .given .1)) ∙ c9 .read-line .ensures .0) in
-    record {
-      inside = omega (arith, b .1);
-      lines = first-sound _ _ _ (lines-at (c19 .args .text .now) 0 _ (b .0) (b .1)) _ o
-          (faultless-sound _
-          (tender-told (record { kind = c5 .kind .given .0 .0; window = c5 .kind .given .0 .1 .0 })
-          ∙ ap flawFault (sym (c .before .before .before .flaw-in .ensures) ∙ c .before .enum-told3 .given .1)))
-          _ (c .tender-with .ensures);
-    }
+    let c4 = c .before .before .before .before in
+    let c6 = c4 .before .before in
+    let c8 = c6 .before .before in
+    let c12 = c8 .before .before .before .before in
+    let c16 = c12 .before .before .before .before in
+    let c18 = c16 .before .before in
+    let c22 = c18 .before .before .before .before in
+    let b = ends-at (c22 .args .text .now) 0 _ (c18 .line-end .ensures) _ (c16 .e .given .1) in
+    let o = is-tender 0 _ _ _ (ap (λ t. toldLine t (c12 .read-line .last .1 .0)) (sym (c8 .kind .given .1))
+    ∙ c12 .read-line .ensures .0) in
+    opened-same (c22 .args .text .now) _ _ (c .before .before .reserve-in .result)
+    (first-sound _ _ _ (lines-at (c22 .args .text .now) 0 _ (b .0) (b .1)) _ o
+    (tender-told (record { kind = c8 .kind .given .0 .0; window = c8 .kind .given .0 .1 .0 })
+    ∙ ap flawFault (sym (c6 .flaw-in .ensures) ∙ c4 .enum-told3 .given .1))) (c .before .before .reserve-in .ensures)
 
 same-length-4 : tie.Need-same-length-4
 same-length-4 c = search needs
@@ -142,13 +152,26 @@ returns-6 c =
     let c10 = c8 .before .before in
     let c14 = c10 .before .before .before .before in
     let b = ends-at (c14 .args .text .now) 0 _ (c10 .line-end .ensures) _ (c8 .e .given .1) in
-    first-broken _ _ _ (lines-at (c14 .args .text .now) 0 _ (b .0) (b .1)) 0 _
+    first-reserve _ _ _ (lines-at (c14 .args .text .now) 0 _ (b .0) (b .1)) 0 _ _
     (ap (λ t. toldLine t (c4 .read-line .last .1 .0)) (sym (c .enum-told5 .given .1)) ∙ c4 .read-line .ensures .0)
+
+same-length-6 : tie.Need-same-length-6
+same-length-6 c = search needs
 
 returns-7 : tie.Need-returns-7
 returns-7 c =
+    let c4 = c .before .before .before .before in
+    let c8 = c4 .before .before .before .before in
+    let c10 = c8 .before .before in
+    let c14 = c10 .before .before .before .before in
+    let b = ends-at (c14 .args .text .now) 0 _ (c10 .line-end .ensures) _ (c8 .e .given .1) in
+    first-broken _ _ _ (lines-at (c14 .args .text .now) 0 _ (b .0) (b .1)) 0 _
+    (ap (λ t. toldLine t (c4 .read-line .last .1 .0)) (sym (c .enum-told6 .given .1)) ∙ c4 .read-line .ensures .0)
+
+returns-8 : tie.Need-returns-8
+returns-8 c =
     let c6 = c .before .before .before .before .before .before in
-    first-odd _ (ends-broken (c6 .args .text .now) 0 _ (c .before .before .line-end .ensures) (c .enum-told6 .given .1))
+    first-odd _ (ends-broken (c6 .args .text .now) 0 _ (c .before .before .line-end .ensures) (c .enum-told7 .given .1))
 
 pub read-head-spec : {M : Type 1} → statement M
 read-head-spec =
@@ -166,11 +189,12 @@ read-head-spec =
     enum-told
     enum-told-2
     enum-told-3
-    tender-with-requires
-    add-t24
+    add-reserve-in
+    reserve-in-requires
     enum-told-4
     enum-told-5
     enum-told-6
+    enum-told-7
     same-length
     returns-2
     same-length-2
@@ -181,4 +205,6 @@ read-head-spec =
     returns-5
     same-length-5
     returns-6
-    returns-7)
+    same-length-6
+    returns-7
+    returns-8)
