@@ -54,7 +54,8 @@ module _ (m : ℕ) (table : List ℕ) where
 -- by the case of an answer
 
 module _ (text : List ℕ) (at : ℕ) where
-  pub found-reserve : (r : Next) → NextIs text at r → (p after : ℕ) → r ≡ next.Reserve p after → NextIs text at (next.Reserve p after)
+  pub found-reserve : (r : Next) → NextIs text at r → (p after : ℕ) → r ≡ next.Reserve p after
+      → NextIs text at (next.Reserve p after)
   found-reserve r h p after e = subst (NextIs text at) e h
 
   pub found-other : (r : Next) → NextIs text at r → r ≡ next.Other → NextIs text at next.Other

@@ -51,8 +51,8 @@ pub(crate) enum Next {
     Other,
 }
 
-// Whether the reserve's line begins at `at`: its price, and where the next line begins. The table serves the line's reader and is not
-// looked at.
+// Whether the reserve's line begins at `at`: its price, and where the next line begins. The table serves the line's reader and
+// is not looked at.
 fn next_reserve(text: &[u8], at: usize, windows: &mut [u64]) -> Next
     requires { ⌜ at ≤ length (now text) ⌝ }
     ensures { λ r. ⌜ NextIs (now (text .entry)) at r ⌝ }
@@ -71,8 +71,8 @@ fn next_reserve(text: &[u8], at: usize, windows: &mut [u64]) -> Next
     }
 }
 
-// The head from its line of this number on, which begins at `at`: the reserve's line, where it stands there. Any other line is left to
-// the bids, which read it again.
+// The head from its line of this number on, which begins at `at`: the reserve's line, where it stands there. Any other line is
+// left to the bids, which read it again.
 fn reserve_in(
     text: &[u8],
     at: usize,

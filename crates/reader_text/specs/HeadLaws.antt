@@ -175,7 +175,8 @@ reserve-is t (some (tender s) ∷ ls) T from rest q h = ended t Absent 2 (some (
 reserve-is t (some (bid b) ∷ ls) T from rest q h = ended t Absent 2 (some (bid b) ∷ ls) T from rest q refl refl h
 reserve-is t (some (reserve p) ∷ ls) T from rest q h = go (leb p 100000000) refl h
   where
-    go : (b : Bool) → leb p 100000000 ≡ b → cond b (begun (tenderWith t (Price p)) 3 ls) (halted (OutsideLimits 2)) ≡ begun T from rest
+    go : (b : Bool) → leb p 100000000 ≡ b
+        → cond b (begun (tenderWith t (Price p)) 3 ls) (halted (OutsideLimits 2)) ≡ begun T from rest
         → HeadIs (some (tender t) ∷ some (reserve p) ∷ ls) T from rest
     go true l x = ended t (Price p) 3 ls T from rest q l refl x
     go false l x = let z : _≡_ {A = ℕ} 0 1 = cc in absurd (omega arith)
@@ -208,7 +209,8 @@ pub record BidAfter (head : List (Option Line) → Head) (xs ys : List (Option L
 
 -- the head ends before zs, whatever the bid
 ends-before : (head : List (Option Line) → Head) (xs zs ys : List (Option Line)) (U T : Tender) (n from : ℕ)
-    (rest : List (Option Line)) (b : BidLine) → ((c : BidLine) → head (xs ++ some (bid c) ∷ ys) ≡ begun U n (zs ++ some (bid c) ∷ ys))
+    (rest : List (Option Line)) (b : BidLine)
+    → ((c : BidLine) → head (xs ++ some (bid c) ∷ ys) ≡ begun U n (zs ++ some (bid c) ∷ ys))
     → begun U n (zs ++ some (bid b) ∷ ys) ≡ begun T from rest → BidAfter head xs ys T from rest b
 ends-before head xs zs ys U T n from rest b h e =
     let same : U ≡ T = cc in
@@ -237,7 +239,8 @@ module _ (t : TenderLine) (at : ℕ) where
   reserve-before (some (reserve p) ∷ xs) ys T from rest b e = go (leb p 100000000) refl e
     where
       go : (s : Bool) → leb p 100000000 ≡ s
-          → cond s (begun (tenderWith t (Price p)) (at + 1) (xs ++ some (bid b) ∷ ys)) (halted (OutsideLimits at)) ≡ begun T from rest
+          → cond s (begun (tenderWith t (Price p)) (at + 1) (xs ++ some (bid b) ∷ ys)) (halted (OutsideLimits at))
+          ≡ begun T from rest
           → BidAfter (reserveIn t at) (some (reserve p) ∷ xs) ys T from rest b
       go true l x = ends-before (reserveIn t at) (some (reserve p) ∷ xs) xs ys (tenderWith t (Price p)) T (at + 1) from rest b
           (λ c. reserve-taken t at p (xs ++ some (bid c) ∷ ys) (leb-true p 100000000 l)) x

@@ -15,6 +15,7 @@ use Rattle.tender.specs.declared.Totals.{Totals}
 use Rattle.tender.specs.declared.Refusal.the-variants.{BadTables}
 use Rattle.tender.specs.Tables.{Row, rowsOf, flatRows, flatWindows, bidWidth, windowWidth}
 use Rattle.reader_word.specs.Words.{digits}
+use Rattle.reader_line.specs.Line.{headLines}
 use Rattle.reader_line.specs.LinePlain.{allPlain}
 use Rattle.reader_text.specs.Read.{accepted, refused, readText, readInto}
 use Rattle.reader_text.specs.Rules.{bytesLike}
@@ -116,8 +117,8 @@ module _ (text : List ℕ) (T : Tender) (R : List Row) (W : List Window) (read :
   pub one-spelling : text ≡ textOf T (map (bidIn (flatWindows W)) R)
   one-spelling = spelt-again text T R W read
 
-  -- There is a row for each line after the first, and each byte is a digit, a space, a bracket, a newline or a letter.
-  pub row-for-each-line : length R + 1 ≡ bytesLike 10 text
+  -- There is a row for each line after the head, and each byte is a digit, a space, a bracket, a newline or a letter.
+  pub row-for-each-line : length R + length (headLines T) ≡ bytesLike 10 text
   row-for-each-line = lines-law T R W text read
 
   pub plain-bytes : allPlain text ≡ true

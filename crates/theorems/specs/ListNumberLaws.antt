@@ -105,7 +105,7 @@ shows-no-other l n at small a e = go (readText (l .text)) refl (sym (listed-is (
 
     text-small : (m : ℕ) → OfText m → m < 10 ^ 20
     text-small m (inl r) = omega (arith, r .1)
-    text-small m (inr r) = omega (arith, r)
+    text-small m (inr r) = omega (arith, r .1)
 
     of : (T : Tender) (R : List Row) (W : List Window) → Rules T R W → (o : Outcome)
         → awardOf (T .kind) T (length R) (flatRows R) (flatWindows W) (length R) ≡ o → listLines T R o ≡ pairLine refusedWord n at

@@ -8,16 +8,18 @@ use Prim.Native.Nat.{ℕ, _+_, _*_, _/_, _≤_, _<_}
 use lib.ListN.{length, drop}
 use Rattle.tender.specs.declared.Kind.the-variants.{Single}
 use Rattle.tender.specs.declared.Window.{Window}
+use Rattle.tender.specs.declared.Reserve.{Reserve}
+use Rattle.tender.specs.declared.Reserve.the-variants.{Absent, Price}
 use Rattle.tender.specs.declared.Tender.{Tender}
 use Rattle.tender.specs.declared.Refusal.{Refusal}
 use Rattle.tender.specs.declared.Refusal.the-variants.{TextTooLong, BadForm, OutsideLimits, TooMany, EmptyWindow, BidderRepeated}
-use Rattle.tender.specs.declared.Refusal.the-variants.{SeveralWindows, TableTooShort, LateWindow}
+use Rattle.tender.specs.declared.Refusal.the-variants.{SeveralWindows, TableTooShort, LateWindow, ReserveMisplaced}
 use Rattle.tender.specs.Limits.{week, maxPrice, maxBidder, maxBids, maxWindows, maxText}
 use Rattle.tender.specs.Refusals.{numberOf, placeOf}
 use Rattle.tender.specs.Tables.{Row, flatRows, flatWindows, bidWidth, windowWidth}
 use Rattle.reader_word.specs.Words.{cut}
-use Rattle.reader_line.specs.Line.{TenderLine, BidLine, Line, tender, bid, tenderLine, linesOf}
-use Rattle.reader_text.specs.Read.{rowsFrom, allWindows}
+use Rattle.reader_line.specs.Line.{TenderLine, BidLine, Line, tender, bid, reserve, tenderLine, headLines, linesOf}
+use Rattle.reader_text.specs.Read.{rowsFrom, allWindows, tenderWith}
 use Rattle.reader.specs.Answer.{toldReading, filled, declined}
 use Rattle.theorems.specs.Calls.{ReadRun}
 
@@ -26,23 +28,24 @@ abbrev pub orBroken : List (Option Line) → List (Option Line)
 orBroken [] = none ∷ []
 orBroken (x ∷ ls) = x ∷ ls
 
--- the lines of a text, each the tender's, a bid's, or not of the form
+-- the lines of a text, each the tender's, the reserve's, a bid's, or not of the form
 abbrev pub linesIn : List ℕ → List (Option Line)
 linesIn text = orBroken (linesOf (cut 10 text))
 
--- what stands before a line: nothing, or the tender's line and those of bids
+-- what stands before a line: nothing, or the tender's line, the reserve's where the tender has one, and those of bids
 pub data Above : Type 0 where
   at-start : Above
   after : Tender → List BidLine → Above
 
 abbrev pub linesAbove : Above → List (Option Line)
 linesAbove at-start = []
-linesAbove (after t bs) = some (tender (tenderLine t)) ∷ map (λ b. some (bid b)) bs
+linesAbove (after t bs) = map (λ l. some l) (headLines t) ++ map (λ b. some (bid b)) bs
 
--- the faults of a line: its form (2), how many bids and windows there are (4), the limits of its numbers (3), several windows in a
--- single tender (7), a window without a minute (5), a window past the week (15), its bidder number (6)
+-- the faults of a line: its form (2), its place (16), how many bids and windows there are (4), the limits of its numbers (3),
+-- several windows in a single tender (7), a window without a minute (5), a window past the week (15), its bidder number (6)
 pub data LineFault : Type 0 where
   of-form : LineFault
+  of-place : LineFault
   of-count : LineFault
   of-limits : LineFault
   of-kind : LineFault
@@ -52,7 +55,7 @@ pub data LineFault : Type 0 where
 
 -- the order in which they are looked for
 abbrev pub pageOrder : List LineFault
-pageOrder = of-form ∷ of-count ∷ of-limits ∷ of-kind ∷ of-minutes ∷ of-week ∷ of-bidder ∷ []
+pageOrder = of-form ∷ of-place ∷ of-count ∷ of-limits ∷ of-kind ∷ of-minutes ∷ of-week ∷ of-bidder ∷ []
 
 -- the start is not below the end
 abbrev pub NoMinute : Window → Type 0
@@ -75,6 +78,7 @@ UsedIn n (b ∷ bs) = (b .bidder ≡ n) ⊎ UsedIn n bs
 -- the fault stands on a bid's line, after the tender's and those of the bids `done`
 abbrev pub OnBid : LineFault → Tender → List BidLine → BidLine → Type 0
 OnBid of-form t done b = ⊥
+OnBid of-place t done b = ⊥
 OnBid of-count t done b = (maxBids ≤ length done) ⊎ (maxWindows < length (b .windows))
 OnBid of-limits t done b = ((b .bidder < 1) ⊎ (maxBidder < b .bidder)) ⊎ (maxPrice < b .price)
 OnBid of-kind t done b = (t .kind ≡ Single) × (1 < length (b .windows))
@@ -85,6 +89,7 @@ OnBid of-bidder t done b = UsedIn (b .bidder) done
 -- on the tender's line
 abbrev pub OnTender : LineFault → TenderLine → Type 0
 OnTender of-form t = ⊥
+OnTender of-place t = ⊥
 OnTender of-count t = ⊥
 OnTender of-limits t = ⊥
 OnTender of-kind t = ⊥
@@ -92,14 +97,27 @@ OnTender of-minutes t = NoMinute (t .window)
 OnTender of-week t = PastWeek (t .window)
 OnTender of-bidder t = ⊥
 
--- on any line: the first has to be a tender's, the others a bid's
+-- on the reserve's line: its place is wrong where there is a reserve already, or a bid
+abbrev pub OnReserve : LineFault → Tender → List BidLine → ℕ → Type 0
+OnReserve of-form t done p = ⊥
+OnReserve of-place t done p = (t .reserve ≡ Absent → ⊥) ⊎ (0 < length done)
+OnReserve of-count t done p = ⊥
+OnReserve of-limits t done p = maxPrice < p
+OnReserve of-kind t done p = ⊥
+OnReserve of-minutes t done p = ⊥
+OnReserve of-week t done p = ⊥
+OnReserve of-bidder t done p = ⊥
+
+-- on any line: the first has to be a tender's, the others a bid's or the reserve's
 abbrev pub OnLine : LineFault → Above → Option Line → Type 0
 OnLine f at-start none = f ≡ of-form
 OnLine f at-start (some (tender t)) = OnTender f t
 OnLine f at-start (some (bid b)) = f ≡ of-form
+OnLine f at-start (some (reserve p)) = f ≡ of-form
 OnLine f (after t done) none = f ≡ of-form
 OnLine f (after t done) (some (tender u)) = f ≡ of-form
 OnLine f (after t done) (some (bid b)) = OnBid f t done b
+OnLine f (after t done) (some (reserve p)) = OnReserve f t done p
 
 -- it is the first of these faults to stand there
 abbrev pub FirstAmong : List LineFault → LineFault → Above → Option Line → Type 0
@@ -115,10 +133,16 @@ abbrev pub SoundBids : Tender → List BidLine → List BidLine → Type 0
 SoundBids t done [] = Unit {0}
 SoundBids t done (b ∷ bs) = NoFault (after t done) (some (bid b)) × SoundBids t (done ++ b ∷ []) bs
 
+-- nor on the reserve's line, where there is one, after the tender's
+abbrev pub SoundReserve : TenderLine → Reserve → Type 0
+SoundReserve t Absent = Unit {0}
+SoundReserve t (Price p) = NoFault (after (tenderWith t Absent) []) (some (reserve p))
+
 -- nor on any of these lines
 abbrev pub SoundLines : Above → Type 0
 SoundLines at-start = Unit {0}
-SoundLines (after t bs) = NoFault at-start (some (tender (tenderLine t))) × SoundBids t [] bs
+SoundLines (after t bs) = NoFault at-start (some (tender (tenderLine t))) × (SoundReserve (tenderLine t) (t .reserve)
+    × SoundBids t [] bs)
 
 -- a line of a text that is not too long, after faultless lines
 pub record LineOf (text : List ℕ) : Type 0 where
@@ -137,7 +161,7 @@ placeIn l = length (linesAbove (l .above)) + 1
 abbrev pub FirstOn : {text : List ℕ} → LineFault → LineOf text → Type 0
 FirstOn f l = FirstAmong pageOrder f (l .above) (l .line)
 
--- a text that is not too long and whose lines are faultless: the tender's, and those of bids with these rows and windows
+-- a text that is not too long and whose lines are faultless: those of the tender, and of bids with these rows and windows
 pub record Readable (text : List ℕ) (t : Tender) (R : List Row) (W : List Window) : Type 0 where
   pub bids : List BidLine
   pub short : length text ≤ maxText
@@ -162,6 +186,7 @@ pub record Fills (t : Tender) (R : List Row) (W : List Window) (r : ReadRun) : T
 pub data OneReading (r : ReadRun) : Type 0 where
   text-too-long : maxText < length (r .text) → Declines TextTooLong r → OneReading r
   bad-form : (l : LineOf (r .text)) → FirstOn of-form l → Declines (BadForm (placeIn l)) r → OneReading r
+  reserve-misplaced : (l : LineOf (r .text)) → FirstOn of-place l → Declines (ReserveMisplaced (placeIn l)) r → OneReading r
   too-many : (l : LineOf (r .text)) → FirstOn of-count l → Declines (TooMany (placeIn l)) r → OneReading r
   outside-limits : (l : LineOf (r .text)) → FirstOn of-limits l → Declines (OutsideLimits (placeIn l)) r → OneReading r
   several-windows : (l : LineOf (r .text)) → FirstOn of-kind l → Declines (SeveralWindows (placeIn l)) r → OneReading r
@@ -176,7 +201,7 @@ pub data OneReading (r : ReadRun) : Type 0 where
 
 -- the numbers that reading a text may be declined with, whatever the lent tables
 abbrev pub OfText : ℕ → Type 0
-OfText n = ((1 ≤ n) × (n ≤ 7)) ⊎ (n ≡ 15)
+OfText n = ((1 ≤ n) × (n ≤ 7)) ⊎ ((15 ≤ n) × (n ≤ 16))
 
 -- two calls answered the same and left the same
 pub record SameReading (x y : ReadRun) : Type 0 where

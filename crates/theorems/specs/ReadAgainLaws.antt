@@ -10,8 +10,9 @@ use Rattle.tender.specs.Tables.{Row}
 use Rattle.reader.specs.Answer.{toldReading}
 use Rattle.reader.specs.declared.Reading.the-variants as answer
 use Rattle.theorems.specs.Calls.{ReadCall}
-use Rattle.theorems.specs.OneReading.{Readable, Declines, Fills, OneReading, text-too-long, bad-form, too-many, outside-limits}
-use Rattle.theorems.specs.OneReading.{several-windows, empty-window, late-window, bidder-repeated, table-too-short, tables-filled}
+use Rattle.theorems.specs.OneReading.{Readable, Declines, Fills, OneReading, text-too-long, bad-form, too-many}
+use Rattle.theorems.specs.OneReading.{reserve-misplaced, outside-limits, several-windows, empty-window, late-window}
+use Rattle.theorems.specs.OneReading.{bidder-repeated, table-too-short, tables-filled}
 use Rattle.theorems.specs.ReadingLaws.{one-reading, text-accepted}
 use Rattle.writer_back.specs.SpeltLaws.{spelt-again}
 use Rattle.theorems.specs.Between.{WasRead}
@@ -32,6 +33,7 @@ read-again r t n m e = go (one-reading (r .run) (r .kept))
     go : OneReading (r .run) → WasRead (r .run) t
     go (text-too-long l x) = never x
     go (bad-form l h x) = never x
+    go (reserve-misplaced l h x) = never x
     go (too-many l h x) = never x
     go (outside-limits l h x) = never x
     go (several-windows l h x) = never x

@@ -13,28 +13,33 @@ use borrow.Author.Tests.{ltb-true, ltb-false, leb-true, leb-false, eqb-true, eqb
 use Rattle.tender.specs.declared.Kind.{Kind}
 use Rattle.tender.specs.declared.Kind.the-variants.{Single, Multi}
 use Rattle.tender.specs.declared.Window.{Window}
+use Rattle.tender.specs.declared.Reserve.{Reserve}
+use Rattle.tender.specs.declared.Reserve.the-variants.{Absent, Price}
 use Rattle.tender.specs.declared.Tender.{Tender}
 use Rattle.tender.specs.declared.Refusal.{Refusal}
 use Rattle.tender.specs.declared.Refusal.the-variants.{TextTooLong, BadForm, OutsideLimits, TooMany, EmptyWindow, BidderRepeated}
-use Rattle.tender.specs.declared.Refusal.the-variants.{SeveralWindows, TableTooShort, LateWindow}
-use Rattle.tender.specs.Limits.{within, isSingle, ordered, early, every}
+use Rattle.tender.specs.declared.Refusal.the-variants.{SeveralWindows, TableTooShort, LateWindow, ReserveMisplaced}
+use Rattle.tender.specs.Limits.{within, isSingle, ordered, early, every, lawfulReserve}
 use Rattle.tender.specs.Refusals.{numberOf, placeOf}
 use Rattle.tender.specs.Tables.{Row, bidWidth, windowWidth}
 use Rattle.reader_word.specs.Words.{cut, among}
-use Rattle.reader_line.specs.Line.{TenderLine, BidLine, Line, tender, bid, tenderLine, linesOf}
+use Rattle.reader_line.specs.Line.{TenderLine, BidLine, Line, tender, bid, reserve, tenderLine, reserveLines, headLines, linesOf}
 use Rattle.reader_text.specs.Read.{ReadOutcome, accepted, refused, declinedBy, rowsFrom, allWindows, bidsOf, lineFault, tenderFault}
-use Rattle.reader_text.specs.Read.{bidFaultIn}
-use Rattle.reader_text.specs.Read.{bidFaultAfter, bidFault, lineJudged, checked, tables, tenderWith, readLines, readText, fitted, readInto}
-use Rattle.reader_text.specs.HeadLaws.{lines-halted, no-line, broken-first, bid-first, tender-read}
+use Rattle.reader_text.specs.Read.{bidFaultIn, bidFaultAfter, bidFault, lineJudged, checked, tables, halted, tenderWith, reserveIn}
+use Rattle.reader_text.specs.Read.{afterHead, readLines, readText, fitted, readInto}
+use Rattle.reader_text.specs.FaultLaws.{faultless-sound}
+use Rattle.reader_text.specs.HeadLaws.{lines-halted, lines-begun, no-line, broken-first, bid-first, reserve-first, tender-read}
+use Rattle.reader_text.specs.HeadLaws.{Unreserved, bids-unreserved, tender-faultless, reserve-absent, reserve-taken}
+use Rattle.reader_text.specs.HeadLaws.{reserve-high, head-of}
 use Rattle.reader.specs.Answer.{summary, toldReading, bidsAfter, windowsAfter}
 use Rattle.theorems.specs.Calls.{ReadRun, ReadKept}
-use Rattle.theorems.specs.OneReading.{orBroken, linesIn, Above, at-start, after, linesAbove, LineFault, of-form, of-count}
-use Rattle.theorems.specs.OneReading.{of-limits, of-kind, of-minutes, of-week, of-bidder, pageOrder, NoMinute, PastWeek, SomeWindow}
-use Rattle.theorems.specs.OneReading.{UsedIn, OnLine, OfText}
-use Rattle.theorems.specs.OneReading.{FirstAmong, NoFault, SoundBids, SoundLines, LineOf, placeIn, FirstOn, Readable}
-use Rattle.theorems.specs.OneReading.{Declines, Fills, OneReading, text-too-long, bad-form, too-many, outside-limits}
-use Rattle.theorems.specs.OneReading.{several-windows, empty-window, late-window, bidder-repeated, table-too-short}
-use Rattle.theorems.specs.OneReading.{tables-filled, SameReading}
+use Rattle.theorems.specs.OneReading.{orBroken, linesIn, Above, at-start, after, linesAbove, LineFault, of-form, of-place}
+use Rattle.theorems.specs.OneReading.{of-count, of-limits, of-kind, of-minutes, of-week, of-bidder, pageOrder}
+use Rattle.theorems.specs.OneReading.{NoMinute, PastWeek, SomeWindow, UsedIn, OnReserve, OnLine, OfText}
+use Rattle.theorems.specs.OneReading.{FirstAmong, NoFault, SoundBids, SoundReserve, SoundLines, LineOf, placeIn}
+use Rattle.theorems.specs.OneReading.{FirstOn, Readable, Declines, Fills, OneReading, text-too-long, bad-form, reserve-misplaced, too-many}
+use Rattle.theorems.specs.OneReading.{outside-limits, several-windows, empty-window, late-window, bidder-repeated}
+use Rattle.theorems.specs.OneReading.{table-too-short, tables-filled, SameReading}
 
 -- a test says whether a fact holds
 
@@ -132,6 +137,7 @@ used n (b ∷ bs) = says-or (b .bidder ≡ n) (UsedIn n bs) (eqb (b .bidder) n) 
 -- the refusal that a fault brings, on its line
 abbrev pub refusalOf : LineFault → ℕ → Refusal
 refusalOf of-form = BadForm
+refusalOf of-place = ReserveMisplaced
 refusalOf of-count = TooMany
 refusalOf of-limits = OutsideLimits
 refusalOf of-kind = SeveralWindows
@@ -159,23 +165,26 @@ data Verdict (d : Above) (x : Option Line) (o : Option (ℕ → Refusal)) : Type
   clean : NoFault d x → o ≡ none → Verdict d x o
   stopped-by : (f : LineFault) → FirstAmong pageOrder f d x → o ≡ some (refusalOf f) → Verdict d x o
 
-verdict : (d : Above) (x : Option Line) (c4 c3 c7 c5 c15 c6 : Bool) → (OnLine of-form d x → ⊥) → Decides c4 (OnLine of-count d x)
-    → Decides c3 (OnLine of-limits d x) → Decides c7 (OnLine of-kind d x) → Decides c5 (OnLine of-minutes d x)
-    → Decides c15 (OnLine of-week d x) → Decides c6 (OnLine of-bidder d x) → Verdict d x (lineFault c4 c3 c7 c5 c15 c6)
+verdict : (d : Above) (x : Option Line) (c4 c3 c7 c5 c15 c6 : Bool) → (OnLine of-form d x → ⊥) → (OnLine of-place d x → ⊥)
+    → Decides c4 (OnLine of-count d x) → Decides c3 (OnLine of-limits d x) → Decides c7 (OnLine of-kind d x)
+    → Decides c5 (OnLine of-minutes d x) → Decides c15 (OnLine of-week d x) → Decides c6 (OnLine of-bidder d x) → Verdict d x (lineFault c4 c3 c7 c5 c15 c6)
 unfolding lineFault
-verdict d x true c3 c7 c5 c15 c6 s2 s4 s3 s7 s5 s15 s6 = stopped-by of-count (inr (s2, inl (refl, s4))) refl
-verdict d x false true c7 c5 c15 c6 s2 s4 s3 s7 s5 s15 s6 = stopped-by of-limits (inr (s2, inr (s4, inl (refl, s3)))) refl
-verdict d x false false true c5 c15 c6 s2 s4 s3 s7 s5 s15 s6 = stopped-by of-kind (inr (s2, inr (s4, inr (s3, inl (refl, s7))))) refl
-verdict d x false false false true c15 c6 s2 s4 s3 s7 s5 s15 s6 =
-    stopped-by of-minutes (inr (s2, inr (s4, inr (s3, inr (s7, inl (refl, s5)))))) refl
-verdict d x false false false false true c6 s2 s4 s3 s7 s5 s15 s6 =
-    stopped-by of-week (inr (s2, inr (s4, inr (s3, inr (s7, inr (s5, inl (refl, s15))))))) refl
-verdict d x false false false false false true s2 s4 s3 s7 s5 s15 s6 =
-    stopped-by of-bidder (inr (s2, inr (s4, inr (s3, inr (s7, inr (s5, inr (s15, inl (refl, s6)))))))) refl
-verdict d x false false false false false false s2 s4 s3 s7 s5 s15 s6 = clean none-stands refl
+verdict d x true c3 c7 c5 c15 c6 s2 s16 s4 s3 s7 s5 s15 s6 = stopped-by of-count (inr (s2, inr (s16, inl (refl, s4)))) refl
+verdict d x false true c7 c5 c15 c6 s2 s16 s4 s3 s7 s5 s15 s6 =
+    stopped-by of-limits (inr (s2, inr (s16, inr (s4, inl (refl, s3))))) refl
+verdict d x false false true c5 c15 c6 s2 s16 s4 s3 s7 s5 s15 s6 =
+    stopped-by of-kind (inr (s2, inr (s16, inr (s4, inr (s3, inl (refl, s7)))))) refl
+verdict d x false false false true c15 c6 s2 s16 s4 s3 s7 s5 s15 s6 =
+    stopped-by of-minutes (inr (s2, inr (s16, inr (s4, inr (s3, inr (s7, inl (refl, s5))))))) refl
+verdict d x false false false false true c6 s2 s16 s4 s3 s7 s5 s15 s6 =
+    stopped-by of-week (inr (s2, inr (s16, inr (s4, inr (s3, inr (s7, inr (s5, inl (refl, s15)))))))) refl
+verdict d x false false false false false true s2 s16 s4 s3 s7 s5 s15 s6 =
+    stopped-by of-bidder (inr (s2, inr (s16, inr (s4, inr (s3, inr (s7, inr (s5, inr (s15, inl (refl, s6))))))))) refl
+verdict d x false false false false false false s2 s16 s4 s3 s7 s5 s15 s6 = clean none-stands refl
   where
     none-stands : (f : LineFault) → OnLine f d x → ⊥
     none-stands of-form = s2
+    none-stands of-place = s16
     none-stands of-count = s4
     none-stands of-limits = s3
     none-stands of-kind = s7
@@ -186,7 +195,7 @@ verdict d x false false false false false false s2 s4 s3 s7 s5 s15 s6 = clean no
 tender-verdict : (t : TenderLine) → Verdict at-start (some (tender t)) (tenderFault t)
 unfolding tenderFault
 tender-verdict t = verdict at-start (some (tender t)) false false false (not (ordered (t .window))) (not (early (t .window))) false
-    (λ h. h) (λ h. h) (λ h. h) (λ h. h) (no-minute (t .window)) (past-week (t .window)) (λ h. h)
+    (λ h. h) (λ h. h) (λ h. h) (λ h. h) (λ h. h) (no-minute (t .window)) (past-week (t .window)) (λ h. h)
 
 bid-verdict : (t : Tender) (done : List BidLine) (b : BidLine) →
     Verdict (after t done) (some (bid b)) (bidFault (t .kind) (map (λ b. b .bidder) done) b)
@@ -195,7 +204,7 @@ bid-verdict t done b = rw (length-map done (λ b. b .bidder))
     (verdict (after t done) (some (bid b)) (leb 1000 (length done) || ltb 32 (length (b .windows)))
     (not (within 1 999999 (b .bidder)) || ltb 100000000 (b .price)) (isSingle (t .kind) && ltb 1 (length (b .windows)))
     (not (every ordered (b .windows))) (not (every early (b .windows))) (among (b .bidder) (map (λ b. b .bidder) done))
-    (λ h. h)
+    (λ h. h) (λ h. h)
     (says-or (1000 ≤ length done) (32 < length (b .windows)) (leb 1000 (length done)) (ltb 32 (length (b .windows)))
     (says-leb 1000 (length done)) (says-ltb 32 (length (b .windows))))
     (says-or ((b .bidder < 1) ⊎ (999999 < b .bidder)) (100000000 < b .price) (not (within 1 999999 (b .bidder)))
@@ -231,17 +240,35 @@ bidders-after : (done : List BidLine) (b : BidLine) → map (λ b. b .bidder) (d
 bidders-after [] b = refl
 bidders-after (c ∷ done) b = ap (λ l. c .bidder ∷ l) (bidders-after done b)
 
+-- a reserve's line is misplaced where the tender has a reserve, or a bid stands before
+misplaced : (r : Reserve) (done : List BidLine) → (r ≡ Absent → done ≡ [] → ⊥) → (r ≡ Absent → ⊥) ⊎ (0 < length done)
+misplaced (Price p) done h = inl (λ e. let z : _≡_ {A = ℕ} 0 1 = cc in omega arith)
+misplaced Absent [] h = absurd (h refl refl)
+misplaced Absent (b ∷ done) h = inr (omega arith)
+
+first-misplaced : (t : Tender) (done : List BidLine) (p : ℕ) → (t .reserve ≡ Absent → done ≡ [] → ⊥)
+    → FirstAmong pageOrder of-place (after t done) (some (reserve p))
+first-misplaced t done p h = inr ((λ x. x), inl (refl, misplaced (t .reserve) done h))
+
+not-empty : {A : Type 0} (done : List BidLine) (b : BidLine) → done ++ b ∷ [] ≡ [] → A
+not-empty done b e = absurd (omega (arith, ap length e, length-append done (b ∷ [])))
+
 walked : (t : Tender) (from : ℕ) (done : List BidLine) (ls : List (Option Line)) (out : ReadOutcome) (at : ℕ)
-    → at ≡ from + length done → Walked t from done ls out (checked (t .kind) at (map (λ b. b .bidder) done) ls out)
+    → at ≡ from + length done → (t .reserve ≡ Absent → done ≡ [] → Unreserved ls)
+    → Walked t from done ls out (checked (t .kind) at (map (λ b. b .bidder) done) ls out)
 unfolding checked lineJudged
-walked t from done [] out at e = all-sound [] refl tt refl
-walked t from done (none ∷ ls) out at e =
+walked t from done [] out at e u = all-sound [] refl tt refl
+walked t from done (none ∷ ls) out at e u =
     stops [] none ls of-form refl tt (inl (refl, refl)) (ap (λ n. declinedBy (BadForm n)) (omega arith))
-walked t from done (some (tender u) ∷ ls) out at e =
-    stops [] (some (tender u)) ls of-form refl tt (inl (refl, refl)) (ap (λ n. declinedBy (BadForm n)) (omega arith))
-walked t from done (some (bid b) ∷ ls) out at e =
+walked t from done (some (reserve p) ∷ ls) out at e u =
+    stops [] (some (reserve p)) ls of-place refl tt (rw (append-nil done) (first-misplaced t done p u))
+    (ap (λ n. declinedBy (ReserveMisplaced n)) (omega arith))
+walked t from done (some (tender v) ∷ ls) out at e u =
+    stops [] (some (tender v)) ls of-form refl tt (inl (refl, refl)) (ap (λ n. declinedBy (BadForm n)) (omega arith))
+walked t from done (some (bid b) ∷ ls) out at e u =
     go (bidFault (t .kind) (map (λ b. b .bidder) done) b) (bid-verdict t done b)
-    (rw (bidders-after done b) at (walked t from (done ++ b ∷ []) ls out (at + 1) (omega (arith, length-append done (b ∷ [])))))
+    (rw (bidders-after done b) at (walked t from (done ++ b ∷ []) ls out (at + 1) (omega (arith, length-append done (b ∷ [])))
+    (λ r x. not-empty done b x)))
   where
     more : (o : ReadOutcome) → NoFault (after t done) (some (bid b)) → Walked t from (done ++ b ∷ []) ls out o
         → Walked t from done (some (bid b) ∷ ls) out o
@@ -270,9 +297,33 @@ unfolding bidsOf
 bids-of [] = refl
 bids-of (b ∷ bs) = ap {B = List BidLine} (λ l. b ∷ l) (bids-of bs)
 
-sound-lines : (t : Tender) (bs : List BidLine) → NoFault at-start (some (tender (tenderLine t))) → SoundBids t [] bs
-    → SoundLines (after t bs)
-sound-lines t bs u s = (u, s)
+sound-lines : (t : Tender) (bs : List BidLine) → NoFault at-start (some (tender (tenderLine t)))
+    → SoundReserve (tenderLine t) (t .reserve) → SoundBids t [] bs → SoundLines (after t bs)
+sound-lines t bs u v s = (u, (v, s))
+
+-- the reserve's line after the tender's: within the limits, or not
+
+only-limits : (t : TenderLine) (p : ℕ) (f : LineFault) → OnReserve f (tenderWith t Absent) [] p → (f ≡ of-limits) × (100000000 < p)
+only-limits t p of-form h = absurd h
+only-limits t p of-place (inl n) = absurd (n refl)
+only-limits t p of-place (inr l) = absurd (omega arith)
+only-limits t p of-count h = absurd h
+only-limits t p of-limits h = (refl, h)
+only-limits t p of-kind h = absurd h
+only-limits t p of-minutes h = absurd h
+only-limits t p of-week h = absurd h
+only-limits t p of-bidder h = absurd h
+
+sound-reserve : (t : TenderLine) (p : ℕ) → p ≤ 100000000 → SoundReserve t (Price p)
+sound-reserve t p l f h = omega (arith, only-limits t p f h .1)
+
+high-reserve : (t : TenderLine) (p : ℕ) → 100000000 < p
+    → FirstAmong pageOrder of-limits (after (tenderWith t Absent) []) (some (reserve p))
+high-reserve t p l = inr ((λ h. h), inr (placed, inr ((λ h. h), inl (refl, l))))
+  where
+    placed : OnReserve of-place (tenderWith t Absent) [] p → ⊥
+    placed (inl n) = n refl
+    placed (inr m) = omega arith
 
 module _ (text : List ℕ) (short : length text ≤ 65536) where
   first-line : (x : Option Line) (ls : List (Option Line)) → linesIn text ≡ x ∷ ls → OnLine of-form at-start x
@@ -280,43 +331,101 @@ module _ (text : List ℕ) (short : length text ≤ 65536) where
   first-line x ls e f = faulty (record { above = at-start; line = x; rest = ls; short = short; lines = e; sound = tt }) of-form
       (inl (refl, f)) refl
 
-  after-tender : (t : TenderLine) (ls : List (Option Line)) → linesIn text ≡ some (tender t) ∷ ls → (o : Option (ℕ → Refusal))
-      → Verdict at-start (some (tender t)) o
-      → TextRead text (lineJudged o 1 (checked (t .kind) 2 [] ls (tables (tenderWith t) (bidsOf ls))))
-  unfolding tables lineJudged
-  after-tender t ls e o (stopped-by f h q) =
-      rw q (faulty (record { above = at-start; line = some (tender t); rest = ls; short = short; lines = e; sound = tt }) f h refl)
-  after-tender t ls e o (clean u q) = rw q (go (walked (tenderWith t) 2 [] ls (tables (tenderWith t) (bidsOf ls)) 2 refl))
+  -- the lines after a faultless head
+  after-head : (T : Tender) (ls : List (Option Line)) → linesIn text ≡ map (λ l. some l) (headLines T) ++ ls
+      → NoFault at-start (some (tender (tenderLine T))) → SoundReserve (tenderLine T) (T .reserve)
+      → (T .reserve ≡ Absent → Unreserved ls) → (from : ℕ) → from ≡ length (headLines T) + 1
+      → TextRead text (checked (T .kind) from [] ls (tables T (bidsOf ls)))
+  unfolding tables
+  after-head T ls e u v w from n =
+      go (walked T from [] ls (tables T (bidsOf ls)) from (omega arith) (λ a x. w a))
     where
-      go : {o : ReadOutcome} → Walked (tenderWith t) 2 [] ls (tables (tenderWith t) (bidsOf ls)) o → TextRead text o
-      go (all-sound bs l s q) = readable (tenderWith t) (rowsFrom 0 bs) (allWindows bs)
+      front : List (Option Line)
+      front = map (λ l. some l) (headLines T)
+
+      count : (bs : List BidLine) → from + 0 + length bs ≡ length (front ++ map (λ b. some (bid b)) bs) + 1
+      count bs = omega (
+        arith,
+        n,
+        length-append front (map (λ b. some (bid b)) bs),
+        length-map (headLines T) (λ l. some l),
+        length-map bs (λ b. some (bid b)),
+      )
+
+      go : {o : ReadOutcome} → Walked T from [] ls (tables T (bidsOf ls)) o → TextRead text o
+      go (all-sound bs l s q) = readable T (rowsFrom 0 bs) (allWindows bs)
           (record {
             bids = bs;
             short = short;
-            lines = e ∙ ap {B = List (Option Line)} (λ r. some (tender t) ∷ r) l;
-            sound = sound-lines (tenderWith t) bs u s;
+            lines = e ∙ ap (λ r. front ++ r) l;
+            sound = sound-lines T bs u v s;
             rows = refl;
             windows = refl;
           })
-          (q ∙ ap (λ ls. tables (tenderWith t) (bidsOf ls)) l ∙ ap (tables (tenderWith t)) (bids-of bs))
+          (q ∙ ap (λ ls. tables T (bidsOf ls)) l ∙ ap (tables T) (bids-of bs))
       go (stops bs x rest f l s h q) =
           faulty (record {
-            above = after (tenderWith t) bs;
+            above = after T bs;
             line = x;
             rest = rest;
             short = short;
-            lines = e ∙ ap {B = List (Option Line)} (λ r. some (tender t) ∷ r) l;
-            sound = sound-lines (tenderWith t) bs u s;
+            lines = e ∙ ap (λ r. front ++ r) l ∙ sym (append-assoc front (map (λ b. some (bid b)) bs) (x ∷ rest));
+            sound = sound-lines T bs u v s;
           }) f h
-          (q ∙ ap (λ n. declinedBy (refusalOf f n)) (let m = length-map bs (λ b. some (bid b)) in omega (arith, m)))
+          (q ∙ ap (λ n. declinedBy (refusalOf f n)) (count bs))
+
+  -- the reserve's line, where it stands after the tender's
+  after-tender : (t : TenderLine) (ls : List (Option Line)) → linesIn text ≡ some (tender t) ∷ ls
+      → NoFault at-start (some (tender t)) → TextRead text (afterHead (reserveIn t 2 ls))
+  unfolding afterHead headLines reserveLines
+  after-tender t [] e u = rw (reserve-absent t 2 [] tt) (after-head (tenderWith t Absent) [] e u tt (λ a. tt) 2 refl)
+  after-tender t (none ∷ ls) e u =
+      rw (reserve-absent t 2 (none ∷ ls) tt) (after-head (tenderWith t Absent) (none ∷ ls) e u tt (λ a. tt) 2 refl)
+  after-tender t (some (tender s) ∷ ls) e u =
+      rw (reserve-absent t 2 (some (tender s) ∷ ls) tt)
+      (after-head (tenderWith t Absent) (some (tender s) ∷ ls) e u tt (λ a. tt) 2 refl)
+  after-tender t (some (bid b) ∷ ls) e u =
+      rw (reserve-absent t 2 (some (bid b) ∷ ls) tt)
+      (after-head (tenderWith t Absent) (some (bid b) ∷ ls) e u tt (λ a. tt) 2 refl)
+  after-tender t (some (reserve p) ∷ ls) e u = go (leb p 100000000) refl
+    where
+      priced : {A : Type 0} → Price p ≡ Absent → A
+      priced q = let z : _≡_ {A = ℕ} 0 1 = cc in absurd (omega arith)
+
+      go : (b : Bool) → leb p 100000000 ≡ b → TextRead text (afterHead (reserveIn t 2 (some (reserve p) ∷ ls)))
+      go true q =
+          let l = leb-true p 100000000 q in
+          rw (reserve-taken t 2 p ls l)
+          (after-head (tenderWith t (Price p)) ls e u (sound-reserve t p l) (λ a. priced a) 3 refl)
+      go false q =
+          let l = leb-false p 100000000 q in
+          rw (reserve-high t 2 p ls l)
+          (faulty (record {
+            above = after (tenderWith t Absent) [];
+            line = some (reserve p);
+            rest = ls;
+            short = short;
+            lines = e;
+            sound = sound-lines (tenderWith t Absent) [] u tt tt;
+          }) of-limits (high-reserve t p l) refl)
+
+  tender-judged : (t : TenderLine) (ls : List (Option Line)) → linesIn text ≡ some (tender t) ∷ ls → (o : Option (ℕ → Refusal))
+      → Verdict at-start (some (tender t)) o → TextRead text (lineJudged o 1 (afterHead (reserveIn t 2 ls)))
+  unfolding lineJudged
+  tender-judged t ls e o (stopped-by f h q) =
+      rw q (faulty (record { above = at-start; line = some (tender t); rest = ls; short = short; lines = e; sound = tt }) f h refl)
+  tender-judged t ls e o (clean u q) = rw q (after-tender t ls e u)
 
   lines-read : (ls : List (Option Line)) → linesOf (cut 10 text) ≡ ls → TextRead text (readLines ls)
   lines-read [] e = rw (lines-halted [] (BadForm 1) no-line) (first-line none [] (ap orBroken e) refl)
   lines-read (none ∷ ls) e = rw (lines-halted (none ∷ ls) (BadForm 1) (broken-first ls)) (first-line none ls (ap orBroken e) refl)
   lines-read (some (bid b) ∷ ls) e =
       rw (lines-halted (some (bid b) ∷ ls) (BadForm 1) (bid-first b ls)) (first-line (some (bid b)) ls (ap orBroken e) refl)
+  lines-read (some (reserve p) ∷ ls) e =
+      rw (lines-halted (some (reserve p) ∷ ls) (BadForm 1) (reserve-first p ls))
+      (first-line (some (reserve p)) ls (ap orBroken e) refl)
   lines-read (some (tender t) ∷ ls) e =
-      rw (tender-read t ls) (after-tender t ls (ap orBroken e) (tenderFault t) (tender-verdict t))
+      rw (tender-read t ls) (tender-judged t ls (ap orBroken e) (tenderFault t) (tender-verdict t))
 
 text-read : (text : List ℕ) → TextRead text (readText text)
 unfolding readText
@@ -336,11 +445,12 @@ refusal-number text n at e = go (text-read text)
 
     number : (f : LineFault) (k : ℕ) → OfText (numberOf (refusalOf f k))
     number of-form k = inl (omega arith, omega arith)
+    number of-place k = inr (omega arith, omega arith)
     number of-count k = inl (omega arith, omega arith)
     number of-limits k = inl (omega arith, omega arith)
     number of-kind k = inl (omega arith, omega arith)
     number of-minutes k = inl (omega arith, omega arith)
-    number of-week k = inr refl
+    number of-week k = inr (omega arith, omega arith)
     number of-bidder k = inl (omega arith, omega arith)
 
     go : TextRead text (readText text) → OfText n
@@ -372,6 +482,7 @@ module _ (r : ReadRun) where
 
   by-fault : (l : LineOf (r .text)) (f : LineFault) → FirstOn f l → Declines (refusalOf f (placeIn l)) r → OneReading r
   by-fault l of-form h x = bad-form l h x
+  by-fault l of-place h x = reserve-misplaced l h x
   by-fault l of-count h x = too-many l h x
   by-fault l of-limits h x = outside-limits l h x
   by-fault l of-kind h x = several-windows l h x
@@ -434,15 +545,18 @@ skips t done (b ∷ bs) ls out at (v, s) =
         ∙ ap (λ ds. checked (t .kind) (at + length (b ∷ bs)) (map (λ b. b .bidder) ds) ls out) (append-assoc done (b ∷ []) bs)
 
 at-fault : (t : Tender) (done : List BidLine) (x : Option Line) (ls : List (Option Line)) (out : ReadOutcome) (at : ℕ) (f : LineFault)
-    → FirstAmong pageOrder f (after t done) x
+    → FirstAmong pageOrder f (after t done) x → (t .reserve ≡ Absent → done ≡ [] → Unreserved (x ∷ ls))
     → checked (t .kind) at (map (λ b. b .bidder) done) (x ∷ ls) out ≡ declinedBy (refusalOf f at)
 unfolding checked lineJudged
-at-fault t done none ls out at f h = let e = first-stands pageOrder f (after t done) none h in
+at-fault t done none ls out at f h u = let e = first-stands pageOrder f (after t done) none h in
     ap (λ g. declinedBy (refusalOf g at)) (sym e)
-at-fault t done (some (tender u)) ls out at f h =
-    let e = first-stands pageOrder f (after t done) (some (tender u)) h in
+at-fault t done (some (tender v)) ls out at f h u =
+    let e = first-stands pageOrder f (after t done) (some (tender v)) h in
     ap (λ g. declinedBy (refusalOf g at)) (sym e)
-at-fault t done (some (bid b)) ls out at f h =
+at-fault t done (some (reserve p)) ls out at f h u =
+    ap (λ g. declinedBy (refusalOf g at))
+    (one-first pageOrder of-place f (after t done) (some (reserve p)) (first-misplaced t done p u) h)
+at-fault t done (some (bid b)) ls out at f h u =
     tells (after t done) (some (bid b)) (bidFault (t .kind) (map (λ b. b .bidder) done) b) at _ f h (bid-verdict t done b)
 
 short-text : (text : List ℕ) → length text ≤ 65536 → readText text ≡ readLines (linesIn text)
@@ -453,10 +567,29 @@ short-text text l = rw (le-ltb 65536 (length text) l) (go (linesOf (cut 10 text)
     go [] = lines-halted [] (BadForm 1) no-line ∙ sym (lines-halted (none ∷ []) (BadForm 1) (broken-first []))
     go (x ∷ ls) = refl
 
-tender-first : (t : Tender) (ls : List (Option Line)) → NoFault at-start (some (tender (tenderLine t)))
-    → readLines (some (tender (tenderLine t)) ∷ ls) ≡ checked (t .kind) 2 [] ls (tables t (bidsOf ls))
-tender-first t ls u = tender-read (tenderLine t) ls
-    ∙ passes at-start (some (tender (tenderLine t))) (tenderFault (tenderLine t)) 1 _ u (tender-verdict (tenderLine t))
+faultless : (t : TenderLine) → NoFault at-start (some (tender t)) → tenderFault t ≡ none
+faultless t u = go (tender-verdict t)
+  where
+    go : {o : Option (ℕ → Refusal)} → Verdict at-start (some (tender t)) o → o ≡ none
+    go (clean v q) = q
+    go (stopped-by f h q) = absurd (u f (first-stands pageOrder f at-start (some (tender t)) h))
+
+lawful-reserve : (t : TenderLine) (r : Reserve) → SoundReserve t r → lawfulReserve r ≡ true
+unfolding lawfulReserve
+lawful-reserve t Absent s = refl
+lawful-reserve t (Price p) s = go (leb p 100000000) refl
+  where
+    go : (b : Bool) → leb p 100000000 ≡ b → b ≡ true
+    go true e = refl
+    go false e = absurd (s of-limits (leb-false p 100000000 e))
+
+-- a faultless head is followed by the bids
+head-first : (T : Tender) (ls : List (Option Line)) → NoFault at-start (some (tender (tenderLine T)))
+    → SoundReserve (tenderLine T) (T .reserve) → (T .reserve ≡ Absent → Unreserved ls)
+    → readLines (map (λ l. some l) (headLines T) ++ ls) ≡ checked (T .kind) (length (headLines T) + 1) [] ls (tables T (bidsOf ls))
+head-first T ls u v w = lines-begun (map (λ l. some l) (headLines T) ++ ls) T (length (headLines T) + 1) ls
+    (head-of T ls (faultless-sound (tenderLine T) (T .reserve) (faultless (tenderLine T) u)
+    (lawful-reserve (tenderLine T) (T .reserve) v)) w)
 
 at-first : (f : LineFault) (x : Option Line) (ls : List (Option Line)) → FirstAmong pageOrder f at-start x
     → readLines (x ∷ ls) ≡ declinedBy (refusalOf f 1)
@@ -464,7 +597,45 @@ at-first f none ls k = lines-halted (none ∷ ls) (BadForm 1) (broken-first ls)
     ∙ ap (λ g. declinedBy (refusalOf g 1)) (sym (first-stands pageOrder f at-start none k))
 at-first f (some (bid b)) ls k = lines-halted (some (bid b) ∷ ls) (BadForm 1) (bid-first b ls)
     ∙ ap (λ g. declinedBy (refusalOf g 1)) (sym (first-stands pageOrder f at-start (some (bid b)) k))
+at-first f (some (reserve p)) ls k = lines-halted (some (reserve p) ∷ ls) (BadForm 1) (reserve-first p ls)
+    ∙ ap (λ g. declinedBy (refusalOf g 1)) (sym (first-stands pageOrder f at-start (some (reserve p)) k))
 at-first f (some (tender t)) ls k = tender-read t ls ∙ tells at-start (some (tender t)) (tenderFault t) 1 _ f k (tender-verdict t)
+
+-- the reserve's line after the tender's, with a price above the limit
+at-reserve : (t : TenderLine) (p : ℕ) (ls : List (Option Line)) (f : LineFault) → NoFault at-start (some (tender t))
+    → FirstAmong pageOrder f (after (tenderWith t Absent) []) (some (reserve p))
+    → readLines (some (tender t) ∷ some (reserve p) ∷ ls) ≡ declinedBy (refusalOf f 2)
+at-reserve t p ls f u k =
+    let h = only-limits t p f (first-stands pageOrder f (after (tenderWith t Absent) []) (some (reserve p)) k) in
+    lines-halted (some (tender t) ∷ some (reserve p) ∷ ls) (OutsideLimits 2)
+    (tender-faultless t (some (reserve p) ∷ ls) (faultless t u) ∙ reserve-high t 2 p ls (h .1))
+    ∙ ap (λ g. declinedBy (refusalOf g 2)) (sym (h .0))
+
+-- a line after a head: the reserve's next after the tender's, or another
+data Stands (r : Reserve) (bs : List BidLine) (x : Option Line) : Type 0 where
+  second : (p : ℕ) → r ≡ Absent → bs ≡ [] → x ≡ some (reserve p) → Stands r bs x
+  later : ((ls : List (Option Line)) → r ≡ Absent → bs ≡ [] → Unreserved (x ∷ ls)) → Stands r bs x
+
+stands : (r : Reserve) (bs : List BidLine) (x : Option Line) → Stands r bs x
+stands r bs none = later (λ ls e f. tt)
+stands r bs (some (tender t)) = later (λ ls e f. tt)
+stands r bs (some (bid b)) = later (λ ls e f. tt)
+stands Absent [] (some (reserve p)) = second p refl refl refl
+stands Absent (b ∷ bs) (some (reserve p)) = later (λ ls e f. absurd (omega (arith, ap length f)))
+stands (Price q) bs (some (reserve p)) = later (λ ls e f. let z : _≡_ {A = ℕ} 0 1 = cc in absurd (omega arith))
+
+second-refused : (t : TenderLine) (r : Reserve) (bs : List BidLine) (x : Option Line) (ls : List (Option Line)) (f : LineFault)
+    (p : ℕ) → r ≡ Absent → bs ≡ [] → x ≡ some (reserve p) → NoFault at-start (some (tender t))
+    → FirstAmong pageOrder f (after (tenderWith t r) bs) x
+    → readLines (linesAbove (after (tenderWith t r) bs) ++ x ∷ ls)
+    ≡ declinedBy (refusalOf f (length (linesAbove (after (tenderWith t r) bs)) + 1))
+unfolding headLines reserveLines
+second-refused t r bs x ls f p a b q u k = rw (a, b, q) (at-reserve t p ls f u (rw (a, b, q) at k))
+
+unreserved-bids : (bs : List BidLine) (x : Option Line) (ls : List (Option Line)) → (bs ≡ [] → Unreserved (x ∷ ls))
+    → Unreserved (map (λ b. some (bid b)) bs ++ x ∷ ls)
+unreserved-bids [] x ls h = h refl
+unreserved-bids (b ∷ bs) x ls h = tt
 
 line-refused : (text : List ℕ) (l : LineOf text) (f : LineFault) → FirstOn f l
     → readText text ≡ declinedBy (refusalOf f (placeIn l))
@@ -473,18 +644,32 @@ line-refused text l f h = short-text text (l .short) ∙ ap readLines (l .lines)
     go : (d : Above) (x : Option Line) → SoundLines d → FirstAmong pageOrder f d x →
         readLines (linesAbove d ++ x ∷ l .rest) ≡ declinedBy (refusalOf f (length (linesAbove d) + 1))
     go at-start x s k = at-first f x (l .rest) k
-    go (after t bs) x (u, s) k =
-        let ls = map (λ b. some (bid b)) bs ++ x ∷ l .rest in
-        let e : 2 + length bs ≡ length (linesAbove (after t bs)) + 1 = omega (arith, length-map bs (λ b. some (bid b))) in
-        tender-first t ls u
-        ∙ skips t [] bs (x ∷ l .rest) (tables t (bidsOf ls)) 2 s
-        ∙ at-fault t bs x (l .rest) (tables t (bidsOf ls)) (2 + length bs) f k
-        ∙ ap (λ n. declinedBy (refusalOf f n)) e
+    go (after t bs) x (u, (v, s)) k = by (stands (t .reserve) bs x)
+      where
+        by : Stands (t .reserve) bs x → readLines (linesAbove (after t bs) ++ x ∷ l .rest)
+            ≡ declinedBy (refusalOf f (length (linesAbove (after t bs)) + 1))
+        by (second p a b q) = second-refused (tenderLine t) (t .reserve) bs x (l .rest) f p a b q u k
+        by (later w) =
+            let front = map (λ l. some l) (headLines t) in
+            let bids = map (λ b. some (bid b)) bs in
+            let ls = bids ++ x ∷ l .rest in
+            let n = length (headLines t) + 1 in
+            let e : n + length bs ≡ length (front ++ bids) + 1 = omega (
+              arith,
+              length-append front bids,
+              length-map (headLines t) (λ l. some l),
+              length-map bs (λ b. some (bid b)),
+            ) in
+            ap readLines (append-assoc front bids (x ∷ l .rest))
+            ∙ head-first t ls u v (λ a. unreserved-bids bs x (l .rest) (w (l .rest) a))
+            ∙ skips t [] bs (x ∷ l .rest) (tables t (bidsOf ls)) n s
+            ∙ at-fault t bs x (l .rest) (tables t (bidsOf ls)) (n + length bs) f k (w (l .rest))
+            ∙ ap (λ n. declinedBy (refusalOf f n)) e
 
-through : (t : Tender) (bs : List BidLine) (out : ReadOutcome) → SoundBids t [] bs
-    → checked (t .kind) 2 [] (map (λ b. some (bid b)) bs ++ []) out ≡ out
+through : (t : Tender) (from : ℕ) (bs : List BidLine) (out : ReadOutcome) → SoundBids t [] bs
+    → checked (t .kind) from [] (map (λ b. some (bid b)) bs ++ []) out ≡ out
 unfolding checked
-through t bs out s = skips t [] bs [] out 2 s
+through t from bs out s = skips t [] bs [] out from s
 
 pub text-accepted : (text : List ℕ) (t : Tender) (R : List Row) (W : List Window) → Readable text t R W
     → readText text ≡ accepted t R W
@@ -492,10 +677,11 @@ unfolding tables
 text-accepted text t R W h =
     let bs = h .bids in
     let ls = map (λ b. some (bid b)) bs in
+    let n = length (headLines t) + 1 in
     short-text text (h .short) ∙ ap readLines (h .lines)
-    ∙ tender-first t ls (h .sound .0)
-    ∙ ap (λ l. checked (t .kind) 2 [] l (tables t (bidsOf ls))) (sym (append-nil ls))
-    ∙ through t bs (tables t (bidsOf ls)) (h .sound .1)
+    ∙ head-first t ls (h .sound .0) (h .sound .1 .0) (λ a. bids-unreserved bs)
+    ∙ ap (λ l. checked (t .kind) n [] l (tables t (bidsOf ls))) (sym (append-nil ls))
+    ∙ through t n bs (tables t (bidsOf ls)) (h .sound .1 .1)
     ∙ ap (tables t) (bids-of bs) ∙ ap (λ x. accepted t x (allWindows bs)) (sym (h .rows)) ∙ ap (accepted t R) (sym (h .windows))
 
 long-refused : (text : List ℕ) → 65536 < length text → readText text ≡ declinedBy TextTooLong
@@ -550,6 +736,7 @@ module _ (r : ReadRun) where
   pub reading-kept : OneReading r → ReadKept r
   reading-kept (text-too-long l x) = refused-kept TextTooLong (long-refused (r .text) l) x
   reading-kept (bad-form l h x) = refused-kept (BadForm (placeIn l)) (line-refused (r .text) l of-form h) x
+  reading-kept (reserve-misplaced l h x) = refused-kept (ReserveMisplaced (placeIn l)) (line-refused (r .text) l of-place h) x
   reading-kept (too-many l h x) = refused-kept (TooMany (placeIn l)) (line-refused (r .text) l of-count h) x
   reading-kept (outside-limits l h x) = refused-kept (OutsideLimits (placeIn l)) (line-refused (r .text) l of-limits h) x
   reading-kept (several-windows l h x) = refused-kept (SeveralWindows (placeIn l)) (line-refused (r .text) l of-kind h) x
