@@ -1,20 +1,34 @@
-// Reads the texts of paper 01's worked cases 9 and 10 and their near misses, and writes what each answers.
+// Reads the texts of paper 01's worked cases 9 and 10, texts with a reserve, and their near misses, and writes what each answers.
 mod texts;
 
 ghost use Prim.Native.Nat.{_≤_};
 ghost use lib.ListN.{length};
 use reader::Reading;
+use tender::Reserve;
 use texts::long_text;
 use texts::many_bids;
 use texts::repeated;
+use texts::reserve_last;
+use texts::reserved;
 use texts::windows_of;
+
+// Writes the reserve, where there is one.
+fn tell_reserve(reserve: Reserve) {
+    match reserve {
+        Reserve::Absent => {}
+        Reserve::Price(cents) => {
+            io::write_all(1, b", reserve ");
+            io::print_decimal(1, cents);
+        }
+    }
+}
 
 // Writes the label, and the answer as numbers: accepted with the rows of each table, or refused with number and place.
 fn tell(label: &[u8], answer: Reading) {
     io::write_all(1, label);
     match answer {
         Reading::Accepted {
-            tender: _,
+            tender: t,
             bids,
             windows,
         } => {
@@ -22,6 +36,8 @@ fn tell(label: &[u8], answer: Reading) {
             io::print_decimal(1, bids as u64);
             io::write_all(1, b" ");
             io::print_decimal(1, windows as u64);
+            let reserve = t.reserve;
+            tell_reserve(reserve);
         }
         Reading::Refused(r) => {
             io::write_all(1, b": refused ");
@@ -179,8 +195,79 @@ fn late_ends() {
     show(b"tender late and swapped", b"(tender single 10082 10081)\n");
 }
 
+// A reserve line among many bids: it counts among the lines, and not among the bids.
+fn long_reserves() {
+    let mut buf = [0u8; 65537];
+    let a = reserved(&mut buf, 1000);
+    show(b"a reserve and 1000 bids", &buf[..a]);
+    let b = reserved(&mut buf, 1001);
+    show(b"a reserve and 1001 bids", &buf[..b]);
+    let c = reserve_last(&mut buf, 1000);
+    show(b"a reserve after 1000 bids", &buf[..c]);
+}
+
+// The reserve line: 3 and 16, and 2 before both.
+fn reserves() {
+    show(
+        b"reserve 5000",
+        b"(tender single 0 100)\n(reserve 5000)\n(bid 11 30 (0 50))\n",
+    );
+    show(b"reserve 0", b"(tender single 0 100)\n(reserve 0)\n");
+    show(
+        b"reserve 100000000",
+        b"(tender single 0 100)\n(reserve 100000000)\n(bid 11 30 (0 50))\n",
+    );
+    show(
+        b"reserve 100000001",
+        b"(tender single 0 100)\n(reserve 100000001)\n(bid 11 30 (0 50))\n",
+    );
+    show(
+        b"reserve after a bid",
+        b"(tender single 0 100)\n(bid 11 30 (0 50))\n(reserve 5000)\n",
+    );
+    show(
+        b"a second reserve",
+        b"(tender single 0 100)\n(reserve 5000)\n(reserve 4000)\n",
+    );
+    show(
+        b"reserve 100000001 after a bid",
+        b"(tender single 0 100)\n(bid 11 30 (0 50))\n(reserve 100000001)\n",
+    );
+    show(
+        b"reserve on line 1",
+        b"(reserve 5000)\n(tender single 0 100)\n",
+    );
+    show(b"reserve 007", b"(tender single 0 100)\n(reserve 007)\n");
+    show(
+        b"reserve without a price",
+        b"(tender single 0 100)\n(reserve)\n",
+    );
+    show(
+        b"reserve with a last space",
+        b"(tender single 0 100)\n(reserve 5 )\n",
+    );
+    show(
+        b"reserve with two prices",
+        b"(tender single 0 100)\n(reserve 5 6)\n",
+    );
+    show(
+        b"reserve without a last byte 10",
+        b"(tender single 0 100)\n(reserve 5)",
+    );
+    show(
+        b"reserve 007 after a bid",
+        b"(tender single 0 100)\n(bid 11 30 (0 50))\n(reserve 007)\n",
+    );
+    show(
+        b"bidder again after a reserve",
+        b"(tender single 0 100)\n(reserve 5000)\n(bid 11 30 (0 50))\n(bid 11 30 (0 50))\n",
+    );
+    long_reserves();
+}
+
 fn near_misses() {
     late_ends();
+    reserves();
     show(b"empty text", b"");
     show(b"no bids", b"(tender single 0 100)\n");
     show(

@@ -92,6 +92,22 @@ pub(crate) fn repeated(buf: &mut [u8], n: usize) -> usize
     put_bid(buf, at, 1, b"5", 1)
 }
 
+// The same n bids after a reserve line.
+pub(crate) fn reserved(buf: &mut [u8], n: usize) -> usize
+    ensures { λ r. ⌜ r ≤ length (now (buf .exit)) ⌝ }
+{
+    let at = put(buf, 0, b"(tender single 0 10)\n(reserve 5000)\n");
+    put_bids(buf, at, 1, n, 1)
+}
+
+// The same n bids before a reserve line.
+pub(crate) fn reserve_last(buf: &mut [u8], n: usize) -> usize
+    ensures { λ r. ⌜ r ≤ length (now (buf .exit)) ⌝ }
+{
+    let at = many_bids(buf, n);
+    put(buf, at, b"(reserve 5000)\n")
+}
+
 // 316 bids of 207 bytes between a line of 20 bytes and one of 98 bytes and the price.
 pub(crate) fn long_text(buf: &mut [u8], price: &[u8]) -> usize
     ensures { λ r. ⌜ r ≤ length (now (buf .exit)) ⌝ }
