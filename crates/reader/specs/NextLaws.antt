@@ -9,7 +9,7 @@ use Rattle.reader_word.specs.Words.{cut}
 use Rattle.reader_line.specs.Line.{Line, tender, bid, reserve, linesOf}
 use Rattle.reader_line.specs.Tally.{Note, tenderNote, bidNote, reserveNote, noted}
 use Rattle.reader_line.specs.Answer.{FirstBroken}
-use Rattle.reader_text.specs.HeadLaws.{Unreserved}
+use Rattle.reader_text.specs.Read.{Unreserved}
 use Rattle.reader.specs.Opened.{NextIs}
 use Rattle.reader.specs.declared.Next.{Next}
 use Rattle.reader.specs.declared.Next.the-variants as next

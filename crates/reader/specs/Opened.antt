@@ -7,9 +7,8 @@ use lib.ListN.{length, drop}
 use Rattle.tender.specs.declared.Tender.{Tender}
 use Rattle.reader_word.specs.Words.{cut}
 use Rattle.reader_line.specs.Line.{reserve, linesOf}
-use Rattle.reader_text.specs.Read.{begun, halted}
+use Rattle.reader_text.specs.Read.{begun, halted, Unreserved}
 use Rattle.reader_text.specs.Read as reading
-use Rattle.reader_text.specs.HeadLaws.{Unreserved}
 use Rattle.reader.specs.declared.Head.{Head}
 use Rattle.reader.specs.declared.Head.the-variants as head
 use Rattle.reader.specs.declared.Next.{Next}

@@ -18,7 +18,7 @@ use Rattle.tender.specs.Limits.{lawfulReserve, soundTender}
 use Rattle.tender.specs.Tables.{Row}
 use Rattle.reader_line.specs.Line.{TenderLine, BidLine, Line, tender, bid, reserve, tenderLine, reserveLines, headLines}
 use Rattle.reader_text.specs.Read.{accepted, declinedBy, rowsFrom, allWindows, bidsOf, tenderFault, lineJudged, checked, tables}
-use Rattle.reader_text.specs.Read.{Head, begun, halted, headJudged, tenderWith, reserveIn, headOf, afterHead, readLines}
+use Rattle.reader_text.specs.Read.{Head, begun, halted, headJudged, tenderWith, reserveIn, Unreserved, headOf, afterHead, readLines}
 use Rattle.reader_text.specs.FaultLaws.{sound-faultless, faultless-sound}
 use Rattle.reader_text.specs.ReadLaws.{never, checked-out, checked-bids}
 
@@ -76,14 +76,6 @@ tender-read t ls = go (tenderFault t)
     go (some f) = refl
 
 -- by the next line
-
--- it is not the reserve's
-abbrev pub Unreserved : List (Option Line) → Type 0
-Unreserved [] = Unit {0}
-Unreserved (none ∷ ls) = Unit {0}
-Unreserved (some (tender t) ∷ ls) = Unit {0}
-Unreserved (some (bid b) ∷ ls) = Unit {0}
-Unreserved (some (reserve p) ∷ ls) = ⊥
 
 pub bids-unreserved : (bs : List BidLine) → Unreserved (map (λ b. some (bid b)) bs)
 bids-unreserved [] = tt

@@ -117,6 +117,14 @@ reserveIn t at (none ∷ ls) = begun (tenderWith t Absent) at (none ∷ ls)
 reserveIn t at (some (tender u) ∷ ls) = begun (tenderWith t Absent) at (some (tender u) ∷ ls)
 reserveIn t at (some (bid b) ∷ ls) = begun (tenderWith t Absent) at (some (bid b) ∷ ls)
 
+-- the next line is not the reserve's
+abbrev pub Unreserved : List (Option Line) → Type 0
+Unreserved [] = Unit {0}
+Unreserved (none ∷ ls) = Unit {0}
+Unreserved (some (tender t) ∷ ls) = Unit {0}
+Unreserved (some (bid b) ∷ ls) = Unit {0}
+Unreserved (some (reserve p) ∷ ls) = ⊥
+
 -- the first line is the tender's
 unfoldable pub headOf : List (Option Line) → Head
 unfolding tenderFault headJudged reserveIn

@@ -26,11 +26,10 @@ use Rattle.reader_word.specs.Words.{cut, among}
 use Rattle.reader_line.specs.Line.{TenderLine, BidLine, Line, tender, bid, reserve, tenderLine, reserveLines, headLines, linesOf}
 use Rattle.reader_text.specs.Read.{ReadOutcome, accepted, refused, declinedBy, rowsFrom, allWindows, bidsOf, lineFault, tenderFault}
 use Rattle.reader_text.specs.Read.{bidFaultIn, bidFaultAfter, bidFault, lineJudged, checked, tables, halted, tenderWith, reserveIn}
-use Rattle.reader_text.specs.Read.{afterHead, readLines, readText, fitted, readInto}
+use Rattle.reader_text.specs.Read.{Unreserved, afterHead, readLines, readText, fitted, readInto}
 use Rattle.reader_text.specs.FaultLaws.{faultless-sound}
 use Rattle.reader_text.specs.HeadLaws.{lines-halted, lines-begun, no-line, broken-first, bid-first, reserve-first, tender-read}
-use Rattle.reader_text.specs.HeadLaws.{Unreserved, bids-unreserved, tender-faultless, reserve-absent, reserve-taken}
-use Rattle.reader_text.specs.HeadLaws.{reserve-high, head-of}
+use Rattle.reader_text.specs.HeadLaws.{bids-unreserved, tender-faultless, reserve-absent, reserve-taken, reserve-high, head-of}
 use Rattle.reader.specs.Answer.{summary, toldReading, bidsAfter, windowsAfter}
 use Rattle.theorems.specs.Calls.{ReadRun, ReadKept}
 use Rattle.theorems.specs.OneReading.{orBroken, linesIn, Above, at-start, after, linesAbove, LineFault, of-form, of-place}
