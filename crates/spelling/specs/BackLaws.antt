@@ -1,24 +1,28 @@
 -- The lines of a text as it is spelt read back. Assumes nothing.
 use mathlib.Core.Path.{_≡_, refl, ap, _∙_}
 use mathlib.Core.Bool.{false}
-use mathlib.Core.List.{List, [], _∷_, _++_, append-assoc}
+use mathlib.Core.List.{List, [], _∷_, _++_, map, append-assoc}
 use mathlib.Core.Option.{Option, some}
 use Prim.Native.Nat.{ℕ, _<_}
 use native.Mathlib.Omega.{arith}
 use Rattle.tender.specs.declared.Kind.{Kind}
 use Rattle.tender.specs.declared.Kind.the-variants.{Single, Multi}
 use Rattle.tender.specs.declared.Window.{Window}
+use Rattle.tender.specs.declared.Reserve.{Reserve}
+use Rattle.tender.specs.declared.Reserve.the-variants.{Absent, Price}
 use Rattle.tender.specs.declared.Tender.{Tender}
-use Rattle.tender.specs.Keywords.{bytes, tenderWord, bidWord, singleWord, multiWord}
+use Rattle.tender.specs.Keywords.{bytes, tenderWord, reserveWord, bidWord, singleWord, multiWord}
 use Rattle.reader_word.specs.Words.{andThen, among, cut, sameBytes, priceOf}
-use Rattle.reader_line.specs.Line.{BidLine, Line, tender, bid, tenderLine, kindOf, tenderOf, bidOf, lineOfWords, lineOf, linesOf}
+use Rattle.reader_line.specs.Line.{BidLine, Line, tender, bid, reserve, tenderLine, reserveLines, headLines, kindOf, tenderOf}
+use Rattle.reader_line.specs.Line.{bidOf, reserveOf, lineOfWords, lineOf, linesOf}
 use Rattle.reader_word.specs.CutLaws.{cut-some, cut-end}
 use Rattle.spelling.specs.Decimal.{decimal}
-use Rattle.spelling.specs.Lines.{kindWord}
-use Rattle.spelling.specs.Text.{bidText, tenderText, bidsText, textOf}
+use Rattle.spelling.specs.Lines.{oneLine, kindWord}
+use Rattle.spelling.specs.Text.{bidText, tenderText, reserveText, headText, bidsText, textOf}
 use Rattle.spelling.specs.DecimalLaws.{decimal-plain, numeral-decimal}
-use Rattle.spelling.specs.WordLaws.{spaced, tenderWords, windowWords, bidWords, Without, among-append, cut-spaced, spaced-among}
-use Rattle.spelling.specs.WordLaws.{bid-line, tender-line, bid-without, closed-back, Named, AllNamed, span-back, windows-back}
+use Rattle.spelling.specs.WordLaws.{spaced, tenderWords, oneWords, windowWords, bidWords, Without, among-append, cut-spaced}
+use Rattle.spelling.specs.WordLaws.{spaced-among, bid-line, tender-line, one-line, bid-without, closed-back, Named, AllNamed}
+use Rattle.spelling.specs.WordLaws.{span-back, windows-back}
 
 -- a line of words before more
 line-then : (w : List ℕ) (ws : List (List ℕ)) (rest : List ℕ) → Without 10 (w ∷ ws)
@@ -113,6 +117,37 @@ tender-back t h = record {
   is = tender-words-back t h;
 }
 
+-- a line (word a)
+
+one-without : (d : ℕ) (word : List ℕ) (a : ℕ) → d < 48 → among d (40 ∷ word) ≡ false → among d (41 ∷ []) ≡ false
+    → Without d (oneWords word a)
+unfolding oneWords
+one-without d word a l k b = (k, (among-append d (decimal a) (41 ∷ []) (decimal-plain d a l) b, tt))
+
+pub one-cuts : (word : List ℕ) (a : ℕ) (rest : List ℕ) → among 10 word ≡ false
+    → cut 10 (oneLine word a ++ rest) ≡ spaced (oneWords word a) ∷ cut 10 rest
+unfolding oneWords among
+one-cuts word a rest h = ap (λ s. cut 10 (s ++ rest)) (one-line word a)
+    ∙ line-then (40 ∷ word) ((decimal a ++ 41 ∷ []) ∷ []) rest (one-without 10 word a (omega arith) h refl)
+
+pub one-words : (word : List ℕ) (a : ℕ) → among 32 word ≡ false → cut 32 (spaced (oneWords word a)) ≡ oneWords word a
+unfolding oneWords among
+one-words word a h = cut-spaced (40 ∷ word) ((decimal a ++ 41 ∷ []) ∷ []) (one-without 32 word a (omega arith) h refl)
+
+-- the reserve's line
+
+reserve-words-back : (p : ℕ) → p < 1000000000 → lineOf (spaced (oneWords reserveWord p)) ≡ some (reserve p)
+unfolding lineOf lineOfWords sameBytes tenderWord bidWord reserveWord bytes oneWords reserveOf andThen priceOf among
+reserve-words-back p l = rw (one-words reserveWord p refl) (rw (closed-back (decimal p), numeral-decimal p l))
+
+reserve-back : (p : ℕ) → p < 1000000000 → Read (reserveText (Price p)) (reserve p)
+unfolding reserveText reserveWord bytes among
+reserve-back p l = record {
+  words = spaced (oneWords reserveWord p);
+  cuts = λ rest. one-cuts reserveWord p rest refl;
+  is = reserve-words-back p l;
+}
+
 -- a line that reads back, before pieces of which there is a first
 first-line : (line rest : List ℕ) (x : Line) → Read line x → linesOf (cut 10 (line ++ rest)) ≡ some x ∷ linesOf (cut 10 rest)
 unfolding linesOf
@@ -130,10 +165,23 @@ bids-back (b ∷ bs) h =
     first-line (bidText b) (bidsText bs) (bid b) (bid-back b (h .0))
     ∙ ap {B = List (Option Line)} (λ l. some (bid b) ∷ l) (bids-back bs (h .1))
 
+-- a reserve that a text may name
+abbrev pub NamedReserve : Reserve → Type 0
+NamedReserve Absent = Unit {0}
+NamedReserve (Price p) = p < 1000000000
+
+reserve-first : (r : Reserve) (rest : List ℕ) → NamedReserve r
+    → linesOf (cut 10 (reserveText r ++ rest)) ≡ map (λ x. some x) (reserveLines r) ++ linesOf (cut 10 rest)
+unfolding reserveText reserveLines
+reserve-first Absent rest h = refl
+reserve-first (Price p) rest h = first-line (reserveText (Price p)) rest (reserve p) (reserve-back p h)
+
 -- the whole text's lines, whatever its length
-pub text-back : (t : Tender) (bs : List BidLine) → Named (t .window) → AllNameable bs
-    → linesOf (cut 10 (textOf t bs)) ≡ some (tender (tenderLine t)) ∷ asLines bs
-unfolding textOf
-text-back t bs n h =
-    first-line (tenderText t) (bidsText bs) (tender (tenderLine t)) (tender-back t n)
-    ∙ ap {B = List (Option Line)} (λ l. some (tender (tenderLine t)) ∷ l) (bids-back bs h)
+pub text-back : (t : Tender) (bs : List BidLine) → Named (t .window) → NamedReserve (t .reserve) → AllNameable bs
+    → linesOf (cut 10 (textOf t bs)) ≡ map (λ x. some x) (headLines t) ++ asLines bs
+unfolding textOf headText headLines
+text-back t bs n r h =
+    ap (λ s. linesOf (cut 10 s)) (append-assoc (tenderText t) (reserveText (t .reserve)) (bidsText bs))
+    ∙ first-line (tenderText t) (reserveText (t .reserve) ++ bidsText bs) (tender (tenderLine t)) (tender-back t n)
+    ∙ ap {B = List (Option Line)} (λ l. some (tender (tenderLine t)) ∷ l) (reserve-first (t .reserve) (bidsText bs) r
+    ∙ ap (λ l. map (λ x. some x) (reserveLines (t .reserve)) ++ l) (bids-back bs h))

@@ -1,4 +1,4 @@
--- How long numbers and the lines of two numbers are. Assumes nothing.
+-- How long numbers and the lines of one number or two are. Assumes nothing.
 use mathlib.Core.Path.{_≡_, refl}
 use mathlib.Core.Bool.{Bool, true, false, cond}
 use mathlib.Core.List.{List, [], _∷_, _++_}
@@ -12,7 +12,7 @@ use Rattle.tender.specs.declared.Refusal.{Refusal}
 use Rattle.tender.specs.Refusals.{numberOf, placeOf}
 use Rattle.tender.specs.Keywords.{bytes, singleWord, multiWord}
 use Rattle.spelling.specs.Decimal.{digitsBefore, decimal}
-use Rattle.spelling.specs.Lines.{closing, numbers, pairLine, kindWord, refusedWord, refusedLine}
+use Rattle.spelling.specs.Lines.{closing, numbers, pairLine, oneLine, kindWord, refusedWord, refusedLine}
 
 short : (f n : ℕ) (done : List ℕ) → length (digitsBefore f n done) ≤ f + length done
 unfolding digitsBefore
@@ -50,6 +50,16 @@ pair-short word a b = omega (arith, numbers-short a b, length-append (40 ∷ [])
 pub pair-some : (word : List ℕ) (a b : ℕ) → 0 < length (pairLine word a b)
 unfolding pairLine
 pair-some word a b = omega (arith, length-append (40 ∷ []) word, length-append ((40 ∷ []) ++ word) (numbers a b))
+
+pub one-short : (word : List ℕ) (a : ℕ) → length (oneLine word a) ≤ 24 + length word
+unfolding oneLine closing bytes
+one-short word a = omega (
+  arith,
+  decimal-short a,
+  length-append (40 ∷ []) word,
+  length-append ((40 ∷ []) ++ word) (32 ∷ decimal a),
+  length-append ((40 ∷ []) ++ word ++ (32 ∷ decimal a)) (41 ∷ 10 ∷ []),
+)
 
 pub refusal-few : (n at : ℕ) → length (pairLine refusedWord n at) ≤ 52
 unfolding refusedWord bytes

@@ -23,6 +23,11 @@ unfoldable pub pairLine : List ℕ → ℕ → ℕ → List ℕ
 unfolding numbers
 pairLine word a b = (40 ∷ []) ++ word ++ numbers a b
 
+-- (word a)
+unfoldable pub oneLine : List ℕ → ℕ → List ℕ
+unfolding decimal closing
+oneLine word a = (40 ∷ []) ++ word ++ (32 ∷ decimal a) ++ closing
+
 unfoldable pub kindWord : Kind → List ℕ
 unfolding singleWord multiWord
 kindWord Single = singleWord

@@ -13,7 +13,7 @@ use Rattle.tender.specs.declared.Refusal.{Refusal}
 use Rattle.tender.specs.Refusals.{numberOf, placeOf}
 use Rattle.tender.specs.Keywords.{bytes}
 use Rattle.spelling.specs.Decimal.{digitsBefore, decimal}
-use Rattle.spelling.specs.Lines.{closing, numbers, pairLine, kindWord, refusedWord, refusedLine}
+use Rattle.spelling.specs.Lines.{closing, numbers, pairLine, oneLine, kindWord, refusedWord, refusedLine}
 use Rattle.spelling.specs.Written.{Written}
 use Rattle.spelling.specs.WritingLaws.{then}
 
@@ -95,6 +95,12 @@ pub pair-written : {old m1 m2 new word : List ℕ} {at e1 e2 f : ℕ} (a b : ℕ
     → Written m2 e2 (numbers a b) new f → Written old at (pairLine word a b) new f
 unfolding pairLine
 pair-written {old} {m1} {m2} {new} {word} {at} {e1} {e2} {f} a b x y z = then (then x y) z
+
+pub one-written : {old m1 m2 m3 new word : List ℕ} {at e1 e2 e3 f : ℕ} (a : ℕ) → Written old at (40 ∷ []) m1 e1
+    → Written m1 e1 word m2 e2 → Written m2 e2 (32 ∷ decimal a) m3 e3 → Written m3 e3 (41 ∷ 10 ∷ []) new f
+    → Written old at (oneLine word a) new f
+unfolding oneLine closing bytes
+one-written {old} {m1} {m2} {m3} {new} {word} {at} {e1} {e2} {e3} {f} a x y z q = then (then (then x y) z) q
 
 pub kind-written : {old new : List ℕ} {at f : ℕ} (k l : Kind) → k ≡ l → Written old at (kindWord l) new f
     → Written old at (kindWord k) new f

@@ -2,12 +2,14 @@
 use mathlib.Core.List.{List, [], _∷_, _++_}
 use Prim.Native.Nat.{ℕ}
 use Rattle.tender.specs.declared.Window.{Window}
+use Rattle.tender.specs.declared.Reserve.{Reserve}
+use Rattle.tender.specs.declared.Reserve.the-variants.{Absent, Price}
 use Rattle.tender.specs.declared.Tender.{Tender}
-use Rattle.tender.specs.Keywords.{bytes}
+use Rattle.tender.specs.Keywords.{bytes, reserveWord}
 use Rattle.tender.specs.Tables.{Row, own}
 use Rattle.reader_line.specs.Line.{BidLine}
 use Rattle.spelling.specs.Decimal.{decimal}
-use Rattle.spelling.specs.Lines.{closing, numbers, kindWord}
+use Rattle.spelling.specs.Lines.{closing, numbers, oneLine, kindWord}
 
 -- " (START END)"
 unfoldable pub windowText : Window → List ℕ
@@ -36,10 +38,21 @@ unfoldable pub tenderText : Tender → List ℕ
 unfolding bytes kindWord numbers
 tenderText t = bytes "(tender " ++ (kindWord (t .kind) ++ numbers (t .window .start) (t .window .end))
 
--- the tender's line, and a line for each bid
+-- "(reserve PRICE)" and byte 10, where there is a reserve
+unfoldable pub reserveText : Reserve → List ℕ
+unfolding oneLine reserveWord
+reserveText Absent = []
+reserveText (Price p) = oneLine reserveWord p
+
+-- the lines before the bids: the tender's, and its reserve's
+unfoldable pub headText : Tender → List ℕ
+unfolding tenderText reserveText
+headText t = tenderText t ++ reserveText (t .reserve)
+
+-- the head, and a line for each bid
 unfoldable pub textOf : Tender → List BidLine → List ℕ
-unfolding tenderText bidsText
-textOf t bs = tenderText t ++ bidsText bs
+unfolding headText bidsText
+textOf t bs = headText t ++ bidsText bs
 
 -- the bid of a row
 unfoldable pub bidIn : List ℕ → Row → BidLine

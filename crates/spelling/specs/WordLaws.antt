@@ -14,7 +14,7 @@ use Rattle.reader_word.specs.Windows.{spanOf, windowOf}
 use Rattle.reader_line.specs.Line.{windowsIn}
 use Rattle.reader_word.specs.CutLaws.{neither, cut-end, cut-word}
 use Rattle.spelling.specs.Decimal.{decimal}
-use Rattle.spelling.specs.Lines.{closing, numbers, kindWord}
+use Rattle.spelling.specs.Lines.{closing, numbers, oneLine, kindWord}
 use Rattle.spelling.specs.Text.{windowText, windowsText, bidText, tenderText}
 use Rattle.spelling.specs.DecimalLaws.{decimal-plain, numeral-decimal}
 
@@ -33,6 +33,11 @@ ended (l ∷ ls) = l ++ 10 ∷ ended ls
 unfoldable pub tenderWords : Tender → List (List ℕ)
 unfolding tenderWord kindWord decimal
 tenderWords t = (40 ∷ tenderWord) ∷ kindWord (t .kind) ∷ decimal (t .window .start) ∷ (decimal (t .window .end) ++ 41 ∷ []) ∷ []
+
+-- (word a)
+unfoldable pub oneWords : List ℕ → ℕ → List (List ℕ)
+unfolding decimal
+oneWords word a = (40 ∷ word) ∷ (decimal a ++ 41 ∷ []) ∷ []
 
 -- (START END) for each window, and the bracket that closes the line after the last
 unfoldable pub windowWords : List Window → List (List ℕ)
@@ -116,6 +121,10 @@ bid-line n p w ws =
 pub tender-line : (t : Tender) → tenderText t ≡ spaced (tenderWords t) ++ 10 ∷ []
 unfolding tenderText tenderWords tenderWord bytes numbers closing spaced
 tender-line t = simp append-assoc
+
+pub one-line : (word : List ℕ) (a : ℕ) → oneLine word a ≡ spaced (oneWords word a) ++ 10 ∷ []
+unfolding oneLine oneWords bytes closing spaced
+one-line word a = simp append-assoc
 
 pub bid-without : (d n p : ℕ) (w : Window) (ws : List Window) → d < 40 → among d (40 ∷ bidWord) ≡ false
     → among d (40 ∷ []) ≡ false → among d (41 ∷ []) ≡ false → Without d (bidWords n p (w ∷ ws))

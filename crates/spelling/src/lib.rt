@@ -4,7 +4,7 @@ ghost use mathlib.Core.List.{[], _∷_};
 ghost use Prim.Native.Nat.{_+_, _≤_, _<_};
 ghost use lib.ListN.{length, drop};
 ghost use Rattle.spelling.specs.Decimal.{decimal};
-ghost use Rattle.spelling.specs.Lines.{numbers, pairLine, kindWord, refusedLine};
+ghost use Rattle.spelling.specs.Lines.{numbers, pairLine, oneLine, kindWord, refusedLine};
 ghost use Rattle.spelling.specs.Written.{Written};
 use tender::Kind;
 use tender::Refusal;
@@ -93,6 +93,17 @@ pub fn put_pair(buf: &mut [u8], at: usize, word: &[u8], a: u64, b: u64) -> usize
     let begun = put(buf, at, b'(');
     let said = put_all(buf, begun, word);
     put_numbers(buf, said, a, b)
+}
+
+// The line (word a).
+pub fn put_one(buf: &mut [u8], at: usize, word: &[u8], a: u64) -> usize
+    requires { ⌜ at + length (now word) + 24 ≤ length (now buf) ⌝ }
+    ensures { λ r. ⌜ Written (now (buf .entry)) at (oneLine (now (word .entry)) a) (now (buf .exit)) r ⌝ }
+{
+    let begun = put(buf, at, b'(');
+    let said = put_all(buf, begun, word);
+    let named = put_number(buf, said, a);
+    put_all(buf, named, b")\n")
 }
 
 // The keyword of a kind.
