@@ -1,4 +1,4 @@
--- How long the joined windows of a bid are as bytes. Assumes nothing.
+-- How long the tender's line and the joined windows of a bid are as bytes. Assumes nothing.
 use mathlib.Core.Path.{_≡_, refl, ap}
 use mathlib.Core.Bool.{true}
 use mathlib.Core.List.{List, [], _∷_, _++_}
@@ -8,16 +8,28 @@ use lib.ListN.{length, drop, length-append}
 use lib.Dec.{leb, ltb}
 use borrow.Author.Tests.{leb-true, ltb-true}
 use Rattle.tender.specs.declared.Window.{Window}
+use Rattle.tender.specs.declared.Tender.{Tender}
 use Rattle.tender.specs.Keywords.{bytes}
 use Rattle.tender.specs.Limits.{allLawful, lawful}
 use Rattle.tender.specs.Tables.{windowsOf, windowWidth}
 use Rattle.cover.specs.SetLaws.{and-split}
 use Rattle.spelling.specs.Decimal.{decimal}
 use Rattle.spelling.specs.DecimalLaws.{decimal-few}
-use Rattle.spelling.specs.Text.{windowText, windowsText}
+use Rattle.spelling.specs.Lines.{numbers, kindWord}
+use Rattle.spelling.specs.LineLaws.{numbers-short, kind-short}
+use Rattle.spelling.specs.Text.{windowText, windowsText, tenderText}
 use Rattle.runs.specs.Runs.{joined}
 use Rattle.runs.specs.RunsFewLaws.{joined-few}
 use Rattle.runs.specs.JoinedLaws.{joined-lawful}
+
+pub tender-short : (t : Tender) → length (tenderText t) ≤ 58
+unfolding tenderText bytes
+tender-short t = omega (
+  arith,
+  length-append (kindWord (t .kind)) (numbers (t .window .start) (t .window .end)),
+  kind-short (t .kind),
+  numbers-short (t .window .start) (t .window .end),
+)
 
 pub window-few : (w : Window) → lawful w ≡ true → length (windowText w) ≤ 14
 unfolding lawful windowText bytes

@@ -6,13 +6,15 @@ use Prim.Native.Nat.{ℕ, _+_, _-_, _≤_, _<_}
 use native.Mathlib.Omega.{arith}
 use lib.ListN.{length, length-append}
 use Rattle.tender.specs.declared.Window.{Window}
+use Rattle.tender.specs.declared.Reserve.{Reserve}
+use Rattle.tender.specs.declared.Reserve.the-variants.{Absent, Price}
 use Rattle.tender.specs.declared.Tender.{Tender}
-use Rattle.tender.specs.Keywords.{bytes}
+use Rattle.tender.specs.Keywords.{bytes, reserveWord}
 use Rattle.tender.specs.Limits.{allLawful}
 use Rattle.reader_line.specs.Line.{BidLine}
 use Rattle.spelling.specs.Decimal.{decimal}
-use Rattle.spelling.specs.Lines.{closing, numbers, kindWord}
-use Rattle.spelling.specs.Text.{windowText, windowsText, bidText, tenderText}
+use Rattle.spelling.specs.Lines.{closing, numbers, oneLine, kindWord}
+use Rattle.spelling.specs.Text.{windowText, windowsText, bidText, tenderText, reserveText, headText}
 use Rattle.spelling.specs.Written.{Written}
 use Rattle.spelling.specs.WritingLaws.{then}
 use Rattle.spelling.specs.SpellingLaws.{nothing-written}
@@ -36,6 +38,20 @@ pub tender-written : {old m1 m2 new : List ℕ} {at e1 e2 f : ℕ} (t : Tender) 
     → Written old at (tenderText t) new f
 unfolding tenderText
 tender-written {old} {m1} {m2} {new} {at} {e1} {e2} {f} t x y z = then x (then y z)
+
+pub no-reserve : (old : List ℕ) (at : ℕ) (r : Reserve) → r ≡ Absent → Written old at (reserveText r) old at
+unfolding reserveText
+no-reserve old at r e = rw e (nothing-written old at)
+
+pub reserve-written : {old new : List ℕ} {at f : ℕ} (r : Reserve) (p : ℕ) → r ≡ Price p
+    → Written old at (oneLine reserveWord p) new f → Written old at (reserveText r) new f
+unfolding reserveText
+reserve-written {old} {new} {at} {f} r p e x = rw e x
+
+pub head-written : {old mid new : List ℕ} {at e f : ℕ} (t : Tender) → Written old at (tenderText t) mid e
+    → Written mid e (reserveText (t .reserve)) new f → Written old at (headText t) new f
+unfolding headText
+head-written {old} {mid} {new} {at} {e} {f} t x y = then x y
 
 pub bid-written : {old m1 m2 m3 m4 new : List ℕ} {at e1 e2 e3 e4 f : ℕ} (b : BidLine) → Written old at (bytes "(bid ") m1 e1
     → Written m1 e1 (decimal (b .bidder)) m2 e2 → Written m2 e2 (32 ∷ decimal (b .price)) m3 e3

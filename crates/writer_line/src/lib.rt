@@ -1,16 +1,17 @@
-// One line of a tender's text in one spelling: the tender's line, and a bid's line with its windows joined where they overlap or touch,
-// in rising order. `specs/Respelt.antt` says which windows a bid's line has.
+// The lines of a tender's text in one spelling: the tender's line, its reserve's, and a bid's line with its windows joined where
+// they overlap or touch, in rising order. `specs/Respelt.antt` says which windows a bid's line has.
 ghost use mathlib.Core.Path.{_≡_};
 ghost use mathlib.Core.Bool.{true};
 ghost use Prim.Native.Nat.{_+_, _*_, _/_, _≤_};
 ghost use lib.ListN.{length, drop};
 ghost use Rattle.tender.specs.Limits.{allLawful};
 ghost use Rattle.tender.specs.Tables.{windowsOf, windowWidth};
-ghost use Rattle.spelling.specs.Text.{windowText, windowsText, bidText, tenderText};
+ghost use Rattle.spelling.specs.Text.{windowText, windowsText, bidText, tenderText, reserveText, headText};
 ghost use Rattle.spelling.specs.Written.{Written};
 ghost use Rattle.runs.specs.Runs.{joined};
 ghost use Rattle.runs.specs.MinuteRows.{rowWords, Empty, Full};
 ghost use Rattle.writer_line.specs.Respelt.{respelt};
+use tender::Reserve;
 use tender::Tender;
 
 // " (START END)"
@@ -87,7 +88,7 @@ pub fn put_bid(
 }
 
 // "(tender KIND START END)" and byte 10.
-pub fn put_tender(buf: &mut [u8], tender: Tender) -> usize
+fn put_tender(buf: &mut [u8], tender: Tender) -> usize
     requires { ⌜ 58 ≤ length (now buf) ⌝ }
     ensures { λ r. ⌜ Written (now (buf .entry)) 0 (tenderText tender) (now (buf .exit)) r ⌝ }
 {
@@ -95,4 +96,25 @@ pub fn put_tender(buf: &mut [u8], tender: Tender) -> usize
     let begun = spelling::put_all(buf, 0, b"(tender ");
     let said = spelling::put_kind(buf, begun, kind);
     spelling::put_numbers(buf, said, tender.window.start, tender.window.end)
+}
+
+// "(reserve PRICE)" and byte 10, where there is a reserve.
+fn put_reserve(buf: &mut [u8], at: usize, reserve: Reserve) -> usize
+    requires { ⌜ at + 31 ≤ length (now buf) ⌝ }
+    ensures { λ r. ⌜ Written (now (buf .entry)) at (reserveText reserve) (now (buf .exit)) r ⌝ }
+{
+    match reserve {
+        Reserve::Absent => at,
+        Reserve::Price(price) => spelling::put_one(buf, at, &tender::RESERVE, price),
+    }
+}
+
+// The lines before the bids.
+pub fn put_head(buf: &mut [u8], tender: Tender) -> usize
+    requires { ⌜ 89 ≤ length (now buf) ⌝ }
+    ensures { λ r. ⌜ Written (now (buf .entry)) 0 (headText tender) (now (buf .exit)) r ⌝ }
+{
+    let reserve = tender.reserve;
+    let begun = put_tender(buf, tender);
+    put_reserve(buf, begun, reserve)
 }
