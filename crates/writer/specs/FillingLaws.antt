@@ -15,7 +15,7 @@ use Rattle.tender.specs.declared.Tender.{Tender}
 use Rattle.tender.specs.declared.Refusal.the-variants.{BadTables, NoRoom}
 use Rattle.tender.specs.Tables.{Row, rowsOf, windowsOf, own, bidWidth, windowWidth}
 use Rattle.reader_line.specs.Line.{BidLine}
-use Rattle.spelling.specs.Text.{bidText, bidsText, tenderText, textOf, bidIn}
+use Rattle.spelling.specs.Text.{bidText, bidsText, headText, textOf, bidIn}
 use Rattle.spelling.specs.Written.{Written}
 use Rattle.spelling.specs.WritingLaws.{then, from-start}
 use Rattle.spelling.specs.SpellingLaws.{nothing-written}
@@ -59,9 +59,9 @@ lines-part f (r ∷ rs) (suc j) = omega (
   lines-part f rs j,
 )
 
-text-length : (t : Tender) (bs : List BidLine) → length (textOf t bs) ≡ length (tenderText t) + length (bidsText bs)
+text-length : (t : Tender) (bs : List BidLine) → length (textOf t bs) ≡ length (headText t) + length (bidsText bs)
 unfolding textOf
-text-length t bs = length-append (tenderText t) (bidsText bs)
+text-length t bs = length-append (headText t) (bidsText bs)
 
 pub text-part : (t : Tender) (rows : List Row) (windows : List ℕ) (j : ℕ)
     → length (canonical t (take j rows) windows) ≤ length (canonical t rows windows)
@@ -114,9 +114,9 @@ module _ {windows : List ℕ} {rows : List Row} {old : List ℕ} {at n j : ℕ} 
   pub bids-long : 65536 < end → SomeBids windows rows old at n new end
   bids-long l = record { lines = j; few = h .inside; written = h .written; all = inl l }
 
--- the tender's line before them
+-- the head before them
 pub some-text : {t : Tender} {windows : List ℕ} {rows : List Row} {old mid : List ℕ} {n : ℕ} {new : List ℕ} {e end : ℕ}
-    → Written old 0 (tenderText t) mid e → SomeBids windows rows mid e n new end → SomeText t windows rows old n new end
+    → Written old 0 (headText t) mid e → SomeBids windows rows mid e n new end → SomeText t windows rows old n new end
 unfolding canonical textOf
 some-text w b = record { lines = b .lines; few = b .few; written = then w (b .written); all = b .all }
 

@@ -68,7 +68,7 @@ fn put_text(buf: &mut [u8], tender: Tender, count: usize, bids: &[u64], windows:
     let mut row = [1u64; 158];
     let blank = [0u64; 158];
     let full = [!0u64; 158];
-    let begun = writer_line::put_tender(buf, tender);
+    let begun = writer_line::put_head(buf, tender);
     put_bids(
         buf,
         begun,
