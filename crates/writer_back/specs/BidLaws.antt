@@ -11,12 +11,14 @@ use borrow.Author.Tests.{leb-true, ltb-true, le-leb, lt-leb, le-ltb}
 use Rattle.tender.specs.declared.Kind.{Kind}
 use Rattle.tender.specs.declared.Kind.the-variants.{Single, Multi}
 use Rattle.tender.specs.declared.Window.{Window}
+use Rattle.tender.specs.declared.Reserve.{Reserve}
+use Rattle.tender.specs.declared.Reserve.the-variants.{Absent, Price}
 use Rattle.tender.specs.Limits.{within, mostWindows, isSingle, lawful, allLawful, ordered, early, every}
 use Rattle.tender.specs.Tables.{Row, own}
 use Rattle.reader_word.specs.Words.{among}
 use Rattle.spelling.specs.Text.{bidIn}
 use Rattle.spelling.specs.WordLaws.{Named, AllNamed}
-use Rattle.spelling.specs.BackLaws.{Nameable, AllNameable, asLines}
+use Rattle.spelling.specs.BackLaws.{NamedReserve, Nameable, AllNameable, asLines}
 use Rattle.reader_text.specs.Read.{ReadOutcome, lineFault, bidFaultIn, bidFaultAfter, bidFault, checked, lineJudged}
 use Rattle.reader_text.specs.FaultLaws.{lawful-every}
 use Rattle.cover.specs.SetLaws.{and-split}
@@ -27,7 +29,7 @@ use Rattle.writer_line.specs.Respelt.{respelt}
 use Rattle.writer.specs.Canonical.{respeltIn}
 use Rattle.writer.specs.RowLaws.{RowSays, own-length, joined-count, most-few, split-fault}
 
--- a text may name the numbers of lawful windows
+-- a text may name the numbers of lawful windows and of a lawful reserve
 
 pub lawful-named : (w : Window) → lawful w ≡ true → Named w
 unfolding lawful
@@ -36,6 +38,10 @@ lawful-named w e =
     let l = ltb-true (w .start) (w .end) (b .0) in
     let u = leb-true (w .end) 10080 (b .1) in
     (omega arith, omega arith)
+
+pub reserve-named : (r : Reserve) → ((p : ℕ) → r ≡ Price p → p ≤ 100000000) → NamedReserve r
+reserve-named Absent h = tt
+reserve-named (Price p) h = omega (arith, h p refl)
 
 pub all-named : (ws : List Window) → allLawful ws ≡ true → AllNamed ws
 unfolding allLawful

@@ -2,9 +2,9 @@
 -- bids (paper 02, request 2). Assumes nothing.
 use mathlib.Core.Path.{_≡_, refl, sym, ap, _∙_}
 use mathlib.Core.Bool.{true, _&&_}
-use mathlib.Core.List.{List, [], _∷_, _++_}
+use mathlib.Core.List.{List, [], _∷_, _++_, map}
 use mathlib.Core.Option.{none, some}
-use Prim.Native.Nat.{ℕ, zero, suc, _/_, _≤_, _<_}
+use Prim.Native.Nat.{ℕ, zero, suc, _+_, _/_, _≤_, _<_}
 use native.Mathlib.Omega.{arith}
 use lib.ListN.{length, getD}
 use lib.Dec.{leb}
@@ -16,9 +16,9 @@ use Rattle.tender.specs.RulesLaws.{rules-lawful, sound-rules}
 use Rattle.tender.specs.Tables.{Row, rowsOf, own, flatRows, flatWindows, bidWidth}
 use Rattle.cover.specs.SetLaws.{and-split}
 use Rattle.reader_word.specs.Words.{cut}
-use Rattle.reader_line.specs.Line.{BidLine, tender, tenderLine, linesOf}
-use Rattle.reader_text.specs.Read.{accepted, rowsFrom, allWindows, bidsOf, tables, tenderWith, readLines, readText}
-use Rattle.reader_text.specs.HeadLaws.{lines-begun, tender-sound}
+use Rattle.reader_line.specs.Line.{BidLine, headLines, linesOf}
+use Rattle.reader_text.specs.Read.{accepted, rowsFrom, allWindows, bidsOf, tables, begun, headOf, readLines, readText}
+use Rattle.reader_text.specs.HeadLaws.{lines-begun, Unreserved, head-of}
 use Rattle.reader_text.specs.RulesLaws.{rules-law, rowsFrom-length}
 use Rattle.spelling.specs.Text.{bidIn, textOf}
 use Rattle.spelling.specs.BackLaws.{asLines, text-back}
@@ -31,7 +31,7 @@ use Rattle.runs.specs.JoinedLaws.{joined-holds, joined-same}
 use Rattle.writer_line.specs.Respelt.{respelt}
 use Rattle.writer.specs.Canonical.{respeltIn, canonical}
 use Rattle.writer_back.specs.Same.{Same, ReadBack}
-use Rattle.writer_back.specs.BidLaws.{lawful-named, rows-told, rows-checked, AllLawful, row-lawful}
+use Rattle.writer_back.specs.BidLaws.{lawful-named, reserve-named, rows-told, rows-checked, AllLawful, row-lawful}
 use Rattle.writer_back.specs.OwnLaws.{noBid, bid-filled, respelt-length, respelt-at}
 
 -- a tender and rows without a fault
@@ -49,24 +49,31 @@ lawful-tables t n bids windows e =
 -- the text reads back
 
 lines-are : (t : Tender) (rows : List Row) (windows : List ℕ) → Lawful t rows windows
-    → linesOf (cut 10 (canonical t rows windows)) ≡ some (tender (tenderLine t)) ∷ asLines (respeltIn windows rows)
+    → linesOf (cut 10 (canonical t rows windows)) ≡ map (λ x. some x) (headLines t) ++ asLines (respeltIn windows rows)
 unfolding canonical
 lines-are t rows windows h =
-    text-back t (respeltIn windows rows) (lawful-named (t .window) (rules-lawful (t .window) (sound-rules t (h .sound) .window)))
-    (rows-told (t .kind) windows 1 [] 0 rows (h .rows-too))
+    let s = sound-rules t (h .sound) in
+    text-back t (respeltIn windows rows) (lawful-named (t .window) (rules-lawful (t .window) (s .window)))
+    (reserve-named (t .reserve) (s .reserve)) (rows-told (t .kind) windows 1 [] 0 rows (h .rows-too))
 
 bids-as : (bs : List BidLine) → bidsOf (asLines bs) ≡ bs
 unfolding bidsOf asLines
 bids-as [] = refl
 bids-as (b ∷ bs) = ap (λ l. b ∷ l) (bids-as bs)
 
+bids-next : (bs : List BidLine) → Unreserved (asLines bs)
+unfolding asLines
+bids-next [] = tt
+bids-next (b ∷ bs) = tt
+
 lines-read : (t : Tender) (rows : List Row) (windows : List ℕ) → Lawful t rows windows →
-    readLines (some (tender (tenderLine t)) ∷ asLines (respeltIn windows rows))
+    readLines (map (λ x. some x) (headLines t) ++ asLines (respeltIn windows rows))
     ≡ accepted t (rowsFrom 0 (respeltIn windows rows)) (allWindows (respeltIn windows rows))
 unfolding tables
 lines-read t rows windows h =
     let ls = asLines (respeltIn windows rows) in
-    lines-begun (some (tender (tenderLine t)) ∷ ls) t _ ls (tender-sound (tenderLine t) ls (h .sound))
+    lines-begun (map (λ x. some x) (headLines t) ++ ls) t _ ls
+    (head-of t ls (h .sound) (λ e. bids-next (respeltIn windows rows)))
     ∙ rows-checked (t .kind) windows 1 [] 0 _ rows (tables t (bidsOf ls)) (h .rows-too) refl
     ∙ ap (tables t) (bids-as (respeltIn windows rows))
 
@@ -116,12 +123,12 @@ reads-back t n bids windows e l =
 
 -- equal bytes have equal lines, and so the same bids
 
-lines-same : (t : Tender) (bs : List BidLine) (t′ : Tender) (bs′ : List BidLine)
-    → some (tender (tenderLine t)) ∷ asLines bs ≡ some (tender (tenderLine t′)) ∷ asLines bs′ → (t ≡ t′) × (bs ≡ bs′)
-unfolding bidsOf
-lines-same t bs t′ bs′ e =
-    let l : tenderLine t ≡ tenderLine t′ = cc in
-    let p : t ≡ t′ = ap tenderWith l in
+lines-same : (t : Tender) (bs : List BidLine) (t′ : Tender) (bs′ : List BidLine) → soundTender t ≡ true → soundTender t′ ≡ true
+    → map (λ x. some x) (headLines t) ++ asLines bs ≡ map (λ x. some x) (headLines t′) ++ asLines bs′ → (t ≡ t′) × (bs ≡ bs′)
+lines-same t bs t′ bs′ s s′ e =
+    let h : begun t (length (headLines t) + 1) (asLines bs) ≡ begun t′ (length (headLines t′) + 1) (asLines bs′) =
+    sym (head-of t (asLines bs) s (λ q. bids-next bs)) ∙ ap headOf e ∙ head-of t′ (asLines bs′) s′ (λ q. bids-next bs′) in
+    let p : t ≡ t′ = cc in
     let q : asLines bs ≡ asLines bs′ = cc in
     (p, sym (bids-as bs) ∙ ap bidsOf q ∙ bids-as bs′)
 
@@ -152,7 +159,7 @@ pub text-same : (t : Tender) (rows : List Row) (windows : List ℕ) (t′ : Tend
     → Lawful t rows windows → Lawful t′ rows′ windows′ →
     canonical t rows windows ≡ canonical t′ rows′ windows′ → Same t rows windows t′ rows′ windows′
 text-same t rows windows t′ rows′ windows′ h h′ e =
-    let s = lines-same t (respeltIn windows rows) t′ (respeltIn windows′ rows′)
+    let s = lines-same t (respeltIn windows rows) t′ (respeltIn windows′ rows′) (h .sound) (h′ .sound)
     (sym (lines-are t rows windows h) ∙ ap (λ x. linesOf (cut 10 x)) e ∙ lines-are t′ rows′ windows′ h′) in
     bids-same t rows windows t′ rows′ windows′ h h′ (s .0) (s .1)
 

@@ -12,7 +12,7 @@ use Rattle.tender.specs.Limits.{allLawful}
 use Rattle.tender.specs.Tables.{Row, own}
 use Rattle.spelling.specs.Decimal.{decimal}
 use Rattle.spelling.specs.Lines.{closing}
-use Rattle.spelling.specs.Text.{windowText, windowsText, bidText, bidsText, tenderText, textOf, bidIn}
+use Rattle.spelling.specs.Text.{windowText, windowsText, bidText, bidsText, tenderText, reserveText, headText, textOf, bidIn}
 use Rattle.runs.specs.Runs.{joined}
 use Rattle.runs.specs.RunsFewLaws.{startsSum, endsSum, joined-starts, joined-ends}
 use Rattle.writer_line.specs.Respelt.{respelt}
@@ -82,16 +82,16 @@ unfolding canonical textOf
 canonical-short t rows windows h = omega (
   arith,
   bids-short windows rows h,
-  length-append (tenderText t) (bidsText (respeltIn windows rows)),
-  length-append (tenderText t) (bidsText (map (bidIn windows) rows)),
+  length-append (headText t) (bidsText (respeltIn windows rows)),
+  length-append (headText t) (bidsText (map (bidIn windows) rows)),
 )
 
 -- no text is empty
-tender-some : (t : Tender) → 0 < length (tenderText t)
-unfolding tenderText bytes
-tender-some t = omega arith
+head-some : (t : Tender) → 0 < length (headText t)
+unfolding headText tenderText bytes
+head-some t = omega (arith, length-append (tenderText t) (reserveText (t .reserve)))
 
 pub canonical-some : (t : Tender) (rows : List Row) (windows : List ℕ) → 0 < length (canonical t rows windows)
 unfolding canonical textOf
 canonical-some t rows windows =
-    omega (arith, length-append (tenderText t) (bidsText (respeltIn windows rows)), tender-some t)
+    omega (arith, length-append (headText t) (bidsText (respeltIn windows rows)), head-some t)

@@ -12,24 +12,26 @@ use lib.Seq.{take-append-seam, drop-append-seam, drop-drop}
 use Rattle.tender.specs.declared.Kind.{Kind}
 use Rattle.tender.specs.declared.Kind.the-variants.{Single, Multi}
 use Rattle.tender.specs.declared.Window.{Window}
+use Rattle.tender.specs.declared.Reserve.{Reserve}
+use Rattle.tender.specs.declared.Reserve.the-variants.{Absent, Price}
 use Rattle.tender.specs.declared.Tender.{Tender}
-use Rattle.tender.specs.Keywords.{tenderWord, bidWord, singleWord, multiWord}
+use Rattle.tender.specs.Keywords.{tenderWord, reserveWord, bidWord, singleWord, multiWord}
 use Rattle.tender.specs.Tables.{Row, flatWindows}
 use Rattle.reader_word.specs.Words.{andThen, growFirst, cut, sameBytes, opened, closed, numeralOf, priceOf}
-use Rattle.reader_line.specs.Line.{BidLine, Line, tender, bid, kindOf, windowsIn, tenderOf, bidOf, lineOfWords, lineOf}
+use Rattle.reader_line.specs.Line.{BidLine, Line, tender, bid, reserve, kindOf, windowsIn, tenderOf, bidOf, reserveOf, lineOfWords}
 use Rattle.reader_word.specs.Windows.{spanOf, windowOf}
-use Rattle.reader_line.specs.Line.{linesOf}
+use Rattle.reader_line.specs.Line.{reserveLines, headLines, lineOf, linesOf}
 use Rattle.reader_word.specs.CutLaws.{Pieces, cut-some}
 use Rattle.reader_text.specs.Read.{accepted, rowsFrom, allWindows, bidsOf, tenderWith, readText}
 use Rattle.reader_text.specs.Rules.{RowsRules}
 use Rattle.reader_text.specs.RulesLaws.{rules-law}
 use Rattle.reader_text.specs.ReadLaws.{read-lines}
-use Rattle.reader_text.specs.HeadLaws.{headLines, head-is, accepted-head}
+use Rattle.reader_text.specs.HeadLaws.{head-is, accepted-head}
 use Rattle.spelling.specs.Decimal.{decimal}
 use Rattle.spelling.specs.Lines.{kindWord}
-use Rattle.spelling.specs.Text.{bidText, tenderText, bidsText, textOf, bidIn}
+use Rattle.spelling.specs.Text.{bidText, tenderText, reserveText, headText, bidsText, textOf, bidIn}
 use Rattle.spelling.specs.DecimalLaws.{numeral-spelling}
-use Rattle.spelling.specs.WordLaws.{spaced, ended, tenderWords, windowWords, bidWords, bid-line, tender-line}
+use Rattle.spelling.specs.WordLaws.{spaced, ended, tenderWords, oneWords, windowWords, bidWords, bid-line, tender-line, one-line}
 use Rattle.writer_back.specs.OwnLaws.{bids-filled}
 
 -- pieces joined again
@@ -195,8 +197,9 @@ kind-is w k h = go (sameBytes w singleWord) (sameBytes w multiWord) refl refl h
 
 -- the words of a line that was read
 abbrev pub wordsOf : Line → List (List ℕ)
-wordsOf (tender t) = tenderWords (tenderWith t)
+wordsOf (tender t) = tenderWords (tenderWith t Absent)
 wordsOf (bid b) = bidWords (b .bidder) (b .price) (b .windows)
+wordsOf (reserve p) = oneWords reserveWord p
 
 tender-is : (ws : List (List ℕ)) (x : Line) → tenderOf ws ≡ some x → (40 ∷ tenderWord) ∷ ws ≡ wordsOf x
 unfolding tenderOf andThen tenderWords
@@ -238,16 +241,34 @@ bid-is (n ∷ p ∷ ws) x h = go (numeralOf n) (priceOf p) (windowsIn ws) refl r
         let u : bid (record { bidder = y; price = v; windows = l }) ≡ x = cc in
         rw (numeral-spelling n y f, numeral-spelling p v g, windows-are ws l i) (ap wordsOf u)
 
+reserve-is : (ws : List (List ℕ)) (x : Line) → reserveOf ws ≡ some x → (40 ∷ reserveWord) ∷ ws ≡ wordsOf x
+unfolding reserveOf andThen oneWords priceOf
+reserve-is [] x h = let z : _≡_ {A = ℕ} 0 1 = cc in absurd (omega arith)
+reserve-is (p ∷ []) x h = go (closed p) refl h
+  where
+    last : (z : List ℕ) → p ≡ z ++ 41 ∷ [] → (o : Option ℕ) → priceOf z ≡ o → andThen o (λ v. some (reserve v)) ≡ some x
+        → (40 ∷ reserveWord) ∷ p ∷ [] ≡ wordsOf x
+    last z f none i q = let n : _≡_ {A = ℕ} 0 1 = cc in absurd (omega arith)
+    last z f (some v) i q = let u : reserve v ≡ x = cc in rw (f, numeral-spelling z v i) (ap wordsOf u)
+
+    go : (o : Option (List ℕ)) → closed p ≡ o → andThen o (λ z. andThen (priceOf z) (λ v. some (reserve v))) ≡ some x
+        → (40 ∷ reserveWord) ∷ p ∷ [] ≡ wordsOf x
+    go none f q = let n : _≡_ {A = ℕ} 0 1 = cc in absurd (omega arith)
+    go (some z) f q = last z (closed-is p z f) (priceOf z) refl q
+reserve-is (p ∷ y ∷ ws) x h = let z : _≡_ {A = ℕ} 0 1 = cc in absurd (omega arith)
+
 words-are : (ws : List (List ℕ)) (x : Line) → lineOfWords ws ≡ some x → ws ≡ wordsOf x
 unfolding lineOfWords
 words-are [] x h = let z : _≡_ {A = ℕ} 0 1 = cc in absurd (omega arith)
-words-are (w ∷ ws) x h = go (sameBytes w (40 ∷ tenderWord)) (sameBytes w (40 ∷ bidWord)) refl refl h
+words-are (w ∷ ws) x h =
+    go (sameBytes w (40 ∷ tenderWord)) (sameBytes w (40 ∷ bidWord)) (sameBytes w (40 ∷ reserveWord)) refl refl refl h
   where
-    go : (a b : Bool) → sameBytes w (40 ∷ tenderWord) ≡ a → sameBytes w (40 ∷ bidWord) ≡ b
-        → cond a (tenderOf ws) (cond b (bidOf ws) none) ≡ some x → w ∷ ws ≡ wordsOf x
-    go true b f g q = ap (λ v. v ∷ ws) (same-is w (40 ∷ tenderWord) f) ∙ tender-is ws x q
-    go false true f g q = ap (λ v. v ∷ ws) (same-is w (40 ∷ bidWord) g) ∙ bid-is ws x q
-    go false false f g q = let z : _≡_ {A = ℕ} 0 1 = cc in absurd (omega arith)
+    go : (a b c : Bool) → sameBytes w (40 ∷ tenderWord) ≡ a → sameBytes w (40 ∷ bidWord) ≡ b → sameBytes w (40 ∷ reserveWord) ≡ c
+        → cond a (tenderOf ws) (cond b (bidOf ws) (cond c (reserveOf ws) none)) ≡ some x → w ∷ ws ≡ wordsOf x
+    go true b c f g i q = ap (λ v. v ∷ ws) (same-is w (40 ∷ tenderWord) f) ∙ tender-is ws x q
+    go false true c f g i q = ap (λ v. v ∷ ws) (same-is w (40 ∷ bidWord) g) ∙ bid-is ws x q
+    go false false true f g i q = ap (λ v. v ∷ ws) (same-is w (40 ∷ reserveWord) i) ∙ reserve-is ws x q
+    go false false false f g i q = let z : _≡_ {A = ℕ} 0 1 = cc in absurd (omega arith)
 
 -- a line is read from one spelling
 pub line-is : (line : List ℕ) (x : Line) → lineOf line ≡ some x → line ≡ spaced (wordsOf x)
@@ -274,15 +295,14 @@ lines-of [] [] = refl
 lines-of [] (b ∷ bs) = ap {B = List (Option Line)} (λ l. some (bid b) ∷ l) (lines-of [] bs)
 lines-of (x ∷ above) bs = ap {B = List (Option Line)} (λ l. some x ∷ l) (lines-of above bs)
 
--- the bids whose lines an accepted text has after its tender's, and whose rows and windows it fills into the tables
+-- the bids whose lines an accepted text has after its head, and whose rows and windows it fills into the tables
 pub record Spelt (text : List ℕ) (T : Tender) (R : List Row) (W : List Window) : Type 0 where
   pub bids : List BidLine
   pub rows : R ≡ rowsFrom 0 bids
   pub windows : W ≡ allWindows bids
-  pub lines : text ≡ ended (spaced (tenderWords T) ∷ map (λ x. spaced (wordsOf x)) (map (λ b. bid b) bids))
+  pub lines : text ≡ ended (map (λ x. spaced (wordsOf x)) (headLines T ++ map (λ b. bid b) bids))
 
 pub spelt-lines : (text : List ℕ) (T : Tender) (R : List Row) (W : List Window) → readText text ≡ accepted T R W → Spelt text T R W
-unfolding headLines
 spelt-lines text T R W e =
     let c = cut-some 10 text in
     let ls = linesOf (cut 10 text) in
@@ -298,6 +318,26 @@ spelt-lines text T R W e =
       lines = sym (rejoined-cut 10 text) ∙ ap (rejoined 10) (c .are)
           ∙ pieces-are (c .first) (c .rest) (headLines T ++ map (λ b. bid b) bs) (m ∙ lines-of (headLines T) bs);
     }
+
+-- the words of the head are its bytes
+
+reserve-bytes : (r : Reserve) (ls : List Line) → ended (map (λ x. spaced (wordsOf x)) (reserveLines r ++ ls))
+    ≡ reserveText r ++ ended (map (λ x. spaced (wordsOf x)) ls)
+unfolding reserveLines ended reserveText
+reserve-bytes Absent ls = refl
+reserve-bytes (Price p) ls =
+    let rest = ended (map (λ x. spaced (wordsOf x)) ls) in
+    sym (append-assoc (spaced (oneWords reserveWord p)) (10 ∷ []) rest) ∙ ap (λ l. l ++ rest) (sym (one-line reserveWord p))
+
+head-bytes : (T : Tender) (ls : List Line) → ended (map (λ x. spaced (wordsOf x)) (headLines T ++ ls))
+    ≡ headText T ++ ended (map (λ x. spaced (wordsOf x)) ls)
+unfolding headLines ended headText tenderWords
+head-bytes T ls =
+    let after = ended (map (λ x. spaced (wordsOf x)) (reserveLines (T .reserve) ++ ls)) in
+    sym (append-assoc (spaced (tenderWords T)) (10 ∷ []) after)
+    ∙ ap (λ l. l ++ after) (sym (tender-line T))
+    ∙ ap (λ l. tenderText T ++ l) (reserve-bytes (T .reserve) ls)
+    ∙ sym (append-assoc (tenderText T) (reserveText (T .reserve)) (ended (map (λ x. spaced (wordsOf x)) ls)))
 
 -- a bid's words are its bytes, where it has a window
 words-bytes : (n p : ℕ) (ws : List Window) → 1 ≤ length ws
@@ -326,14 +366,12 @@ bids-of text T R W w s =
 -- No bid is dropped or shortened: an accepted text is the one spelt from its tender, rows and windows.
 pub spelt-again : (text : List ℕ) (T : Tender) (R : List Row) (W : List Window) → readText text ≡ accepted T R W
     → text ≡ textOf T (map (bidIn (flatWindows W)) R)
-unfolding textOf ended
+unfolding textOf
 spelt-again text T R W e =
     let s = spelt-lines text T R W e in
-    let rest = ended (map (λ x. spaced (wordsOf x)) (map (λ b. bid b) (s .bids))) in
     s .lines
-    ∙ sym (append-assoc (spaced (tenderWords T)) (10 ∷ []) rest)
-    ∙ ap (λ l. l ++ rest) (sym (tender-line T))
-    ∙ ap (λ l. tenderText T ++ l) (bids-bytes (T .kind) [] 0 (s .bids) (length W) (rw (s .rows) at (rules-law T R W text e .rows)))
+    ∙ head-bytes T (map (λ b. bid b) (s .bids))
+    ∙ ap (λ l. headText T ++ l) (bids-bytes (T .kind) [] 0 (s .bids) (length W) (rw (s .rows) at (rules-law T R W text e .rows)))
     ∙ ap (textOf T) (sym (bids-of text T R W [] s) ∙ ap (λ ws. map (bidIn ws) R) (append-nil (flatWindows W)))
 
 -- the same by the words of each row
@@ -345,9 +383,21 @@ unfoldable pub rowLine : List Window → Row → List ℕ
 unfolding spaced bidWords
 rowLine W r = spaced (bidWords (r .bidder) (r .price) (spansOf W r))
 
+-- the reserve's line, where there is one
+unfoldable pub spacedReserve : Reserve → List (List ℕ)
+unfolding spaced oneWords reserveWord
+spacedReserve Absent = []
+spacedReserve (Price p) = spaced (oneWords reserveWord p) ∷ []
+
 unfoldable pub spacedText : Tender → List Row → List Window → List ℕ
-unfolding spaced ended tenderWords rowLine
-spacedText T R W = ended (spaced (tenderWords T) ∷ map (rowLine W) R)
+unfolding spaced ended tenderWords spacedReserve rowLine
+spacedText T R W = ended (spaced (tenderWords T) ∷ (spacedReserve (T .reserve) ++ map (rowLine W) R))
+
+reserve-spaced : (r : Reserve) (ls : List Line)
+    → map (λ x. spaced (wordsOf x)) (reserveLines r ++ ls) ≡ spacedReserve r ++ map (λ x. spaced (wordsOf x)) ls
+unfolding reserveLines spacedReserve
+reserve-spaced Absent ls = refl
+reserve-spaced (Price p) ls = refl
 
 rows-spell : (at : ℕ) (bs : List BidLine) (W : List Window) → drop at W ≡ allWindows bs
     → map (rowLine W) (rowsFrom at bs) ≡ map (λ x. spaced (wordsOf x)) (map (λ b. bid b) bs)
@@ -362,8 +412,10 @@ rows-spell at (b ∷ bs) W e =
 
 pub spelt-words : (text : List ℕ) (T : Tender) (R : List Row) (W : List Window) → readText text ≡ accepted T R W
     → text ≡ spacedText T R W
-unfolding spacedText
+unfolding spacedText headLines tenderWords
 spelt-words text T R W e =
     let s = spelt-lines text T R W e in
     s .lines ∙ ap (λ r. ended (spaced (tenderWords T) ∷ r))
-    (sym (rows-spell 0 (s .bids) W (s .windows)) ∙ ap (map (rowLine W)) (sym (s .rows)))
+    (reserve-spaced (T .reserve) (map (λ b. bid b) (s .bids))
+    ∙ ap (λ r. spacedReserve (T .reserve) ++ r)
+    (sym (rows-spell 0 (s .bids) W (s .windows)) ∙ ap (map (rowLine W)) (sym (s .rows))))
