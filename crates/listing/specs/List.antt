@@ -13,7 +13,7 @@ use Rattle.award_plain.specs.Award.{Outcome, awarded, refused, awardOf}
 use Rattle.award.specs.Gain.{lost}
 use Rattle.spelling.specs.Lines.{pairLine, refusedWord, refusedLine}
 use Rattle.spelling.specs.Delivered.{Delivered}
-use Rattle.listing.specs.Lines.{winWord, totalWord, awardLine}
+use Rattle.listing.specs.Lines.{winWord, awardLine, lastLines}
 
 -- the lines of the winners among the first n bids, in entry order: bidder and cents paid
 unfoldable pub winList : List Row → List AwardRow → ℕ → List ℕ
@@ -22,10 +22,11 @@ winList R rows zero = []
 winList R rows (suc n) = winList R rows n ++ cond (getD rows n lost .won)
     (pairLine winWord (getD R n noRow .bidder) (getD rows n lost .cents)) []
 
--- the list of an award's outcome: kind, start and end; the winners; cost and sum paid. A refusal is the whole list
+-- the list of an award's outcome: kind, start and end; the winners; the house, where it won; cost and sum paid. A refusal is the
+-- whole list
 unfoldable pub listLines : Tender → List Row → Outcome → List ℕ
-unfolding awardLine winList pairLine totalWord refusedLine
-listLines t R (awarded rows totals) = awardLine t ++ winList R rows (length R) ++ pairLine totalWord (totals .cost) (totals .paid)
+unfolding awardLine winList lastLines refusedLine
+listLines t R (awarded rows totals) = awardLine t ++ winList R rows (length R) ++ lastLines (t .reserve) totals
 listLines t R (refused r) = refusedLine r
 
 -- the list of a text, by what reading it answers: of the award on what was read, with an award row for every bid

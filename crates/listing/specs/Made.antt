@@ -8,16 +8,15 @@ use Rattle.reader_text.specs.Read.{readText}
 use Rattle.tender.specs.declared.Answer.{Answer}
 use Rattle.tender.specs.declared.Answer.the-variants.{Awarded, Refused}
 use Rattle.award_plain.specs.Plain.{PlainPromise}
-use Rattle.spelling.specs.Lines.{pairLine, refusedLine}
+use Rattle.spelling.specs.Lines.{refusedLine}
 use Rattle.spelling.specs.Written.{Written}
-use Rattle.listing.specs.Lines.{awardLine, winLines, totalWord}
+use Rattle.listing.specs.Lines.{awardLine, winLines, lastLines}
 use Rattle.listing.specs.List.{listOf}
 
 -- the list of an award's answer, from the numbers of the table of bids and the flags and cents
 unfoldable pub answerLines : Tender → List ℕ → List ℕ → List ℕ → ℕ → Answer → List ℕ
-unfolding awardLine winLines pairLine totalWord refusedLine
-answerLines t bids won cents n (Awarded totals) = awardLine t ++ winLines bids won cents n
-    ++ pairLine totalWord (totals .cost) (totals .paid)
+unfolding awardLine winLines lastLines refusedLine
+answerLines t bids won cents n (Awarded totals) = awardLine t ++ winLines bids won cents n ++ lastLines (t .reserve) totals
 answerLines t bids won cents n (Refused r) = refusedLine r
 
 -- the list of the award to these tables is written: the award left the lists `won` and `cents` and answered a

@@ -19,7 +19,7 @@ use Rattle.spelling.specs.Lines.{pairLine, refusedWord, refusedLine}
 use Rattle.spelling.specs.LineLaws.{refused-line}
 use Rattle.spelling.specs.Written.{Written}
 use Rattle.spelling.specs.DeliveredLaws.{delivered-none, delivered-all}
-use Rattle.listing.specs.Lines.{awardLine, winLines, totalWord}
+use Rattle.listing.specs.Lines.{awardLine, winLines, lastLines}
 use Rattle.listing.specs.List.{listOf, Listed}
 use Rattle.listing.specs.ListLaws.{award-list, list-short}
 use Rattle.listing.specs.Made.{answerLines, Awarded·written, Made}
@@ -27,7 +27,7 @@ use Rattle.listing.specs.Made.{answerLines, Awarded·written, Made}
 module _ {t : Tender} {n lent : ℕ} {bids windows ow oc won cents old new : List ℕ} {a : Answer} {f : ℕ} where
   pub award-written : (totals : Totals) → a ≡ Awarded totals → n ≤ lent
       → PlainPromise (t .kind) t n bids windows lent ow oc won cents a →
-      Written old 0 (awardLine t ++ winLines bids won cents n ++ pairLine totalWord (totals .cost) (totals .paid)) new f
+      Written old 0 (awardLine t ++ winLines bids won cents n ++ lastLines (t .reserve) totals) new f
       → Awarded·written t n bids windows old new f
   unfolding answerLines
   award-written totals e l p w = record {

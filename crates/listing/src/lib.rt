@@ -7,9 +7,8 @@ ghost use mathlib.Core.List.{_++_};
 ghost use Prim.Native.Nat.{_+_, _*_, _≤_};
 ghost use lib.ListN.{length};
 ghost use Rattle.tender.specs.Tables.{bidWidth};
-ghost use Rattle.spelling.specs.Lines.{pairLine};
 ghost use Rattle.spelling.specs.Written.{Written};
-ghost use Rattle.listing.specs.Lines.{awardLine, winLines, totalWord};
+ghost use Rattle.listing.specs.Lines.{awardLine, winLines, lastLines};
 ghost use Rattle.listing.specs.List.{Listed};
 ghost use Rattle.listing.specs.Made.{Awarded·written, Made};
 use reader::Reading;
@@ -28,20 +27,20 @@ fn put_awarded(
     totals: Totals,
 ) -> usize
     requires { ⌜ (bidWidth * n ≤ length (now bids)) × ((n ≤ length (now won))
-        × ((n ≤ length (now cents)) × (48 * n + 107 ≤ length (now list))))
+        × ((n ≤ length (now cents)) × (48 * n + 136 ≤ length (now list))))
         ⌝ }
     ensures { λ r. ⌜ Written (now (list .entry)) 0 (awardLine tender
-        ++ winLines (now (bids .entry)) (now (won .entry)) (now (cents .entry)) n ++ pairLine totalWord (totals .cost) (totals .paid))
+        ++ winLines (now (bids .entry)) (now (won .entry)) (now (cents .entry)) n ++ lastLines (tender .reserve) totals)
         (now (list .exit)) r ⌝ }
 {
     let begun = lines::put_award(list, 0, tender);
     let named = lines::put_wins(list, begun, bids, won, cents, n);
-    spelling::put_pair(list, named, b"total", totals.cost, totals.paid)
+    lines::put_last(list, named, tender, totals)
 }
 
 // The list of the award to these tables.
 fn put_award(list: &mut [u8], tender: Tender, n: usize, bids: &[u64], windows: &[u64]) -> usize
-    requires { ⌜ (n ≤ 1000) × ((bidWidth * n ≤ length (now bids)) × (48 * n + 107 ≤ length (now list))) ⌝ }
+    requires { ⌜ (n ≤ 1000) × ((bidWidth * n ≤ length (now bids)) × (48 * n + 136 ≤ length (now list))) ⌝ }
     ensures { λ r. ⌜ Awarded·written tender n (now (bids .entry)) (now (windows .entry)) (now (list .entry)) (now (list .exit)) r ⌝ }
 {
     let mut won = [1u64; 1000];

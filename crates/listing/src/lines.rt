@@ -3,8 +3,10 @@ ghost use Prim.Native.Nat.{_+_, _*_, _≤_, _<_};
 ghost use lib.ListN.{length};
 ghost use Rattle.tender.specs.Tables.{bidWidth};
 ghost use Rattle.spelling.specs.Written.{Written};
-ghost use Rattle.listing.specs.Lines.{awardLine, winLine, winLines};
+ghost use Rattle.listing.specs.Lines.{awardLine, winLine, winLines, houseLine, lastLines};
+use tender::Reserve;
 use tender::Tender;
+use tender::Totals;
 
 // The line (award single 0 100).
 pub(crate) fn put_award(buf: &mut [u8], at: usize, tender: Tender) -> usize
@@ -50,4 +52,28 @@ pub(crate) fn put_wins(
         i += 1;
     }
     end
+}
+
+// The line (house price), where the house won.
+fn put_house(buf: &mut [u8], at: usize, reserve: Reserve, won: bool) -> usize
+    requires { ⌜ at + 29 ≤ length (now buf) ⌝ }
+    ensures { λ r. ⌜ Written (now (buf .entry)) at (houseLine reserve won) (now (buf .exit)) r ⌝ }
+{
+    if !won {
+        return at;
+    }
+    match reserve {
+        Reserve::Absent => at,
+        Reserve::Price(price) => spelling::put_one(buf, at, b"house", price),
+    }
+}
+
+// The lines after the winners': the house's, and (total cost paid).
+pub(crate) fn put_last(buf: &mut [u8], at: usize, tender: Tender, totals: Totals) -> usize
+    requires { ⌜ at + 79 ≤ length (now buf) ⌝ }
+    ensures { λ r. ⌜ Written (now (buf .entry)) at (lastLines (tender .reserve) totals) (now (buf .exit)) r ⌝ }
+{
+    let reserve = tender.reserve;
+    let said = put_house(buf, at, reserve, totals.house);
+    spelling::put_pair(buf, said, b"total", totals.cost, totals.paid)
 }
