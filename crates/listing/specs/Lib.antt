@@ -6,3 +6,4 @@ pub mod ListLaws
 pub mod MakingLaws
 pub mod SpellingLaws
 pub mod WinningLaws
+pub mod Cases
