@@ -40,6 +40,20 @@ fn pairs() {
     );
 }
 
+// A reserve beside a bid and alone; two texts that differ in the reserve, and two of which one has none.
+fn reserves() {
+    show::text(b"(tender multi 0 10)\n(reserve 5000)\n(bid 11 30 (5 9) (0 5))\n");
+    show::text(b"(tender single 0 10)\n(reserve 0)\n");
+    show::pair(
+        b"(tender multi 0 10)\n(reserve 100000000)\n(bid 11 30 (0 5))\n",
+        b"(tender multi 0 10)\n(reserve 10000000)\n(bid 11 30 (0 5))\n",
+    );
+    show::pair(
+        b"(tender multi 0 10)\n(reserve 0)\n(bid 11 30 (0 5))\n",
+        b"(tender multi 0 10)\n(bid 11 30 (0 5))\n",
+    );
+}
+
 // A text of 38 bytes.
 fn lent_buffers() {
     show::lend(b"a buffer one byte short", &mut [7u8; 37]);
@@ -81,6 +95,7 @@ fn main() {
     joined();
     kept();
     pairs();
+    reserves();
     lent_buffers();
     faults();
     long_texts();
