@@ -6,6 +6,8 @@
  * and the answers are kept both ways: the bids that have a cell, and the cells that a bid has.
  * Single: the least cover cell by cell, sets compared where costs tie, and the whole selection again without each winner.
  * Multi: the greedy run, replayed from the start at each price tried; the critical price by bisection, not by document 000's maximum.
+ * The house is no bid here. It has every cell and comes last, so in a single tender it stands alone or not at all, where the bids cost more
+ * than the reserve, and in a multi tender the run ends where it is taken.
  */
 #include "second.h"
 
@@ -13,7 +15,8 @@
 #include <stdio.h>
 #include <string.h>
 
-enum { MAX_BIDS = 1000, MAX_WINDOWS = 32, WEEK = 10080, MAX_TEXT = 65536, WORDS = (MAX_BIDS + 63) / 64 };
+enum { MAX_BIDS = 1000, MAX_WINDOWS = 32, WEEK = 10080, MAX_TEXT = 65536, TOP_PRICE = 100000000, WORDS = (MAX_BIDS + 63) / 64 };
+enum { HOUSE = MAX_BIDS };      /* the house, where a bid is asked for by its entry */
 static const int64_t NONE = INT64_MAX;
 
 typedef struct { long bidder, price; int count; int start[MAX_WINDOWS + 1], end[MAX_WINDOWS + 1]; } Bid;
@@ -22,6 +25,8 @@ typedef struct { int count; uint16_t cell[WEEK]; } Cells;       /* of a bid: the
 typedef struct {
     bool single;
     long start, end;
+    bool reserved;
+    long reserve;
     int n;
     Bid bid[MAX_BIDS];
     int cells;
@@ -58,6 +63,11 @@ static bool form_of_tender(Line l, Tender *t)
     return number(&l, &t->start) && word(&l, " ") && number(&l, &t->end) && word(&l, ")") && l.at == l.end;
 }
 
+static bool form_of_reserve(Line l, long *price)
+{
+    return word(&l, "(reserve ") && number(&l, price) && word(&l, ")") && l.at == l.end;
+}
+
 /* the form of the whole line; `windows` counts them all, of which the first 33 are kept, `empty` and `late` those of either fault */
 static bool form_of_bid(Line l, Bid *b, long *windows, long *empty, long *late)
 {
@@ -79,6 +89,7 @@ static int read_text(const uint8_t *text, size_t len, Tender *t, long *place)
     *place = 0;
     if (len > MAX_TEXT) return 1;
     t->n = 0;
+    t->reserved = false;
     const uint8_t *at = text, *end = text + len;
     for (*place = 1; *place == 1 || at < end; ++*place) {
         const uint8_t *stop = at < end ? memchr(at, '\n', (size_t)(end - at)) : NULL;
@@ -91,11 +102,17 @@ static int read_text(const uint8_t *text, size_t len, Tender *t, long *place)
             if (t->end > WEEK) return 15;
             continue;
         }
+        if (form_of_reserve(l, &t->reserve)) {
+            if (*place > 2) return 16;
+            if (t->reserve > TOP_PRICE) return 3;
+            t->reserved = true;
+            continue;
+        }
         Bid b;
         long windows, empty, late;
         if (!form_of_bid(l, &b, &windows, &empty, &late)) return 2;
         if (t->n == MAX_BIDS || windows > MAX_WINDOWS) return 4;
-        if (b.bidder < 1 || b.bidder > 999999 || b.price > 100000000) return 3;
+        if (b.bidder < 1 || b.bidder > 999999 || b.price > TOP_PRICE) return 3;
         if (t->single && windows > 1) return 7;
         if (empty) return 5;
         if (late) return 15;
@@ -159,8 +176,8 @@ static bool better(const Cover *a, const Cover *b)
     return false;
 }
 
-/* The best cover of the tender without bid `skip`. best[c] covers the cells before c; its last bid has cell c - 1, and, having one window,
-   all from its first cell on, so the others cover the cells before that. */
+/* The best cover of the tender by the bids but `skip`; with HOUSE by all of them. best[c] covers the cells before c; its last bid has cell
+   c - 1, and, having one window, all from its first cell on, so the others cover the cells before that. */
 static Cover least_cover(const Tender *t, int skip)
 {
     static Cover best[WEEK + 1];
@@ -181,22 +198,31 @@ static Cover least_cover(const Tender *t, int skip)
     return best[t->cells];
 }
 
+/* the least cost without bid `skip`: the other bids', or the house alone where that is less */
+static int64_t least_cost(const Tender *t, int skip)
+{
+    int64_t cost = least_cover(t, skip).cost;
+    return t->reserved && t->reserve < cost ? t->reserve : cost;
+}
+
 /* multi */
 
-/* The greedy run with bid k at this price, all else standing, until it is known whether k is taken; with k = -1 the whole run, in `won`. */
+/* The greedy run with bid k at this price, all else standing, until it is known whether k is taken; with HOUSE the whole run, in `won`, and
+   whether the house is taken. The house reaches all that is open; it is taken only where no bid is as cheap, and nothing is open then. */
 static bool greedy(const Tender *t, int k, int64_t price, bool *won)
 {
     static bool open[WEEK];
     static int reach[MAX_BIDS];
     for (int c = 0; c < t->cells; c++) open[c] = true;
     for (int i = 0; i < t->n; i++) { won[i] = false; reach[i] = t->held[i].count; }
-    for (;;) {
+    for (int left = t->cells; left;) {
         int pick = -1;
         int64_t least = 0;
         for (int i = 0; i < t->n; i++) {
             int64_t p = i == k ? price : t->bid[i].price;
             if (reach[i] && (pick < 0 || p * reach[pick] < least * reach[i])) { pick = i; least = p; }
         }
+        if (t->reserved && (pick < 0 || t->reserve * reach[pick] < least * left)) return k == HOUSE;
         if (pick < 0) return false;
         won[pick] = true;
         if (pick == k) return true;
@@ -204,10 +230,12 @@ static bool greedy(const Tender *t, int k, int64_t price, bool *won)
             int c = t->held[pick].cell[j];
             if (!open[c]) continue;
             open[c] = false;
+            left--;
             for (int o = 0; o < t->owners[c].count; o++) reach[t->owners[c].bid[o]]--;
         }
-        if (k >= 0 && !reach[k]) return false;
+        if (k != HOUSE && !reach[k]) return false;
     }
+    return false;
 }
 
 /* the largest price at which bid k is taken, as it is at its own */
@@ -226,18 +254,21 @@ static int64_t critical(const Tender *t, int k)
 
 /* the list */
 
-static void award(const Tender *t, bool *won, int64_t *paid)
+/* who wins and what each is paid; answers whether the house wins */
+static bool award(const Tender *t, bool *won, int64_t *paid)
 {
     if (!t->single) {
-        greedy(t, -1, 0, won);
+        bool house = greedy(t, HOUSE, 0, won);
         for (int i = 0; i < t->n; i++) paid[i] = won[i] ? critical(t, i) : 0;
-        return;
+        return house;
     }
-    Cover all = least_cover(t, -1);
+    Cover bids = least_cover(t, HOUSE);
+    bool house = t->reserved && t->reserve < bids.cost;
     for (int i = 0; i < t->n; i++) {
-        won[i] = in_set(&all, i);
-        paid[i] = won[i] ? least_cover(t, i).cost - all.cost + t->bid[i].price : 0;
+        won[i] = !house && in_set(&bids, i);
+        paid[i] = won[i] ? least_cost(t, i) - bids.cost + t->bid[i].price : 0;
     }
+    return house;
 }
 
 size_t second_list(const uint8_t *text, size_t len, char *list, size_t room)
@@ -249,11 +280,11 @@ size_t second_list(const uint8_t *text, size_t len, char *list, size_t room)
     int no = read_text(text, len, &t, &place);
     if (no) return (size_t)snprintf(list, room, "(refused %d %ld)\n", no, place);
     lay_out(&t);
-    for (int few = 0; few < 2; few++) {
+    for (int few = 0; few < 2 && !t.reserved; few++) {
         int c = cell_with(&t, few);
         if (c >= 0) return (size_t)snprintf(list, room, "(refused %d %ld)\n", 11 + few, minute_of(&t, c));
     }
-    award(&t, won, paid);
+    bool house = award(&t, won, paid);
     size_t at = (size_t)snprintf(list, room, "(award %s %ld %ld)\n", t.single ? "single" : "multi", t.start, t.end);
     int64_t cost = 0, sum = 0;
     for (int i = 0; i < t.n; i++) {
@@ -261,6 +292,10 @@ size_t second_list(const uint8_t *text, size_t len, char *list, size_t room)
         at += (size_t)snprintf(list + at, room - at, "(win %ld %lld)\n", t.bid[i].bidder, (long long)paid[i]);
         cost += t.bid[i].price;
         sum += paid[i];
+    }
+    if (house) {
+        at += (size_t)snprintf(list + at, room - at, "(house %ld)\n", t.reserve);
+        cost += t.reserve;
     }
     return at + (size_t)snprintf(list + at, room - at, "(total %lld %lld)\n", (long long)cost, (long long)sum);
 }
@@ -293,6 +328,7 @@ size_t second_rewrite(const uint8_t *text, size_t len, char *out, size_t room)
     int no = read_text(text, len, &t, &place);
     if (no) return (size_t)snprintf(out, room, "(refused %d %ld)\n", no, place);
     size_t at = (size_t)snprintf(out, room, "(tender %s %ld %ld)\n", t.single ? "single" : "multi", t.start, t.end);
+    if (t.reserved) at += (size_t)snprintf(out + at, room - at, "(reserve %ld)\n", t.reserve);
     for (int i = 0; i < t.n; i++) {
         mark_minutes(&t.bid[i], minute);
         at += (size_t)snprintf(out + at, room - at, "(bid %ld %ld", t.bid[i].bidder, t.bid[i].price);
@@ -309,6 +345,7 @@ const char *second_difference(const uint8_t *text, size_t len, const uint8_t *ot
     long place;
     if (read_text(text, len, &t, &place) || read_text(other, other_len, &u, &place)) return "one cannot be read";
     if (t.single != u.single || t.start != u.start || t.end != u.end) return "another tender";
+    if (t.reserved != u.reserved || (t.reserved && t.reserve != u.reserve)) return "another reserve";
     if (t.n != u.n) return "another number of bids";
     for (int i = 0; i < t.n; i++) {
         if (t.bid[i].bidder != u.bid[i].bidder) return "another bidder";
