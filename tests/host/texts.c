@@ -20,6 +20,7 @@ size_t small_text(char *s)
 {
     unsigned start = below(30), cells = 1 + below(below(8) ? 40 : 200), n = below(9), single = below(2);
     size_t at = (size_t)sprintf(s, "(tender %s %u %u)\n", single ? "single" : "multi", start, start + cells);
+    if (below(2)) at += (size_t)sprintf(s + at, "(reserve %u)\n", below(4) ? below(150) : below(5));
     for (unsigned i = 0; i < n; i++) {
         at += (size_t)sprintf(s + at, "(bid %u %u", 1 + i * 7 + below(7), below(4) ? below(50) : below(5));
         for (unsigned k = single ? 1 : 1 + below(4); k; k--) {
@@ -41,24 +42,38 @@ static size_t some_window(char *s)
     return (size_t)sprintf(s, " (%u %u)", a, e);
 }
 
+/* a reserve's line: of any price, or, one in eight, just not one */
+static size_t some_reserve(char *s)
+{
+    static const unsigned price[] = {0, 5000, 100000000, 100000001, 999999999};
+    static const char *misspelt[] = {"(reserve)", "(reserve 007)", "(reserve 5 )", "(reserve  5)", "(reserve 5 6)", "(reserve 5",
+                                     "(reserve5)", "(reserve 1000000000)", "(reserve -1)", " (reserve 5)", "(reserve 5))",
+                                     "(reserve (0 5))", "(reserves 5)"};
+    if (!below(8)) return (size_t)sprintf(s, "%s\n", misspelt[below(sizeof misspelt / sizeof *misspelt)]);
+    return (size_t)sprintf(s, "(reserve %u)\n", below(2) ? below(100) : price[below(5)]);
+}
+
 size_t faulty_text(char *s)
 {
     static const unsigned bidder[] = {0, 1, 2, 999999, 1000000}, price[] = {0, 100000000, 100000001};
     bool single = below(2);
     unsigned start = below(8) ? 0 : 10081, end = below(8) ? 20 : below(2) ? 10081 : 0;
-    size_t at = (size_t)sprintf(s, "(tender %s %u %u)\n", single ? "single" : "multi", start, end);
+    size_t at = below(60) ? 0 : some_reserve(s);
+    at += (size_t)sprintf(s + at, "(tender %s %u %u)\n", single ? "single" : "multi", start, end);
+    for (unsigned k = below(2) ? 0 : 1 + !below(12); k; k--) at += some_reserve(s + at);
     for (unsigned i = 0, n = below(6); i < n; i++) {
         unsigned who = below(3) ? 10 + i : below(2) ? 10 + below(4) : bidder[below(5)];
         at += (size_t)sprintf(s + at, "(bid %u %u", who, below(6) ? below(50) : price[below(3)]);
         for (unsigned k = !below(8) ? 31 + below(3) : single && below(4) ? 1 : 1 + below(3); k; k--) at += some_window(s + at);
         at += (size_t)sprintf(s + at, ")\n");
+        if (!below(30)) at += some_reserve(s + at);
     }
     return at;
 }
 
 size_t mutated(char *s, size_t n)
 {
-    static const char odd[] = "0123456789() \nabdegilmnrstu\r.-\0\377";
+    static const char odd[] = "0123456789() \nabdegilmnrstuv\r.-\0\377";
     for (unsigned k = 1 + below(2); k; k--) {
         size_t at = n ? below((unsigned)n) : 0;
         char c = odd[below(sizeof odd - 1)];
@@ -153,6 +168,19 @@ static unsigned price_of(const Bid *b, unsigned manner, unsigned rate)
     }
 }
 
+/* a reserve: priced as a bid of all the minutes, as some bids together, or as one of many minutes */
+static unsigned reserve_for(unsigned start, unsigned minutes, unsigned manner, unsigned rate)
+{
+    Bid whole = {0, 1, {{start, start + minutes}}};
+    uint64_t sum = 0;
+    switch (bids ? below(3) : 0) {
+    case 0: return price_of(&whole, manner, rate);
+    case 1: return price_of(&whole, manner, rate) / (1 + below(8));
+    default: for (unsigned k = 1 + below(bids); k && sum < TOP_PRICE; k--) sum += bid[below(bids)].price;
+             return sum < TOP_PRICE ? (unsigned)sum : TOP_PRICE;
+    }
+}
+
 static void shuffle(void)
 {
     for (unsigned i = bids; i > 1; i--) {
@@ -190,6 +218,7 @@ size_t wide_text(char *s, Size size)
     if (thin) bids -= 1 + below(2);
     for (unsigned i = 0; i < bids; i++) bid[i].price = lesser(price_of(&bid[i], manner, rate), TOP_PRICE);
     size_t at = (size_t)sprintf(s, "(tender %s %u %u)\n", size.single ? "single" : "multi", start, start + size.minutes);
+    if (below(2)) at += (size_t)sprintf(s + at, "(reserve %u)\n", lesser(reserve_for(start, size.minutes, manner, rate), TOP_PRICE));
     unsigned step = 1 + below(900), first = 1 + below(90000);
     for (unsigned i = 0; i < bids; i++) {
         at += (size_t)sprintf(s + at, "(bid %u %u", first + i * step, bid[i].price);

@@ -9,17 +9,19 @@ enum { TEXT_ROOM = 1 << 17 };
 
 unsigned below(unsigned n);
 
-/* a tender of up to 40, at times 200 minutes with up to 8 bids; most are declined */
+/* a tender of up to 40, at times 200 minutes with up to 8 bids; half have a reserve, most others are declined */
 size_t small_text(char *s);
 
-/* a text whose lines have the form and often a fault or several: numbers at and past each limit, windows empty or late, too many of them */
+/* a text whose lines have the form and often a fault or several: numbers at and past each limit, windows empty or late, too many of them;
+   reserves in any place, some of them misspelt */
 size_t faulty_text(char *s);
 
 /* a text with one or two bytes changed, dropped or put in */
 size_t mutated(char *s, size_t n);
 
 /* A tender of so many minutes and so many bids, 3 to 1000, of up to so many windows: one in a single tender, and fewer where the text would
-   be longer than 65,536 bytes. Each minute has two bidders or more, but one text in eight has fewer bids and then lacks one or two more. */
+   be longer than 65,536 bytes. Each minute has two bidders or more, but one text in eight has fewer bids and then lacks one or two more.
+   Half have a reserve. */
 typedef struct { bool single; unsigned minutes, bids, windows; } Size;
 size_t wide_text(char *s, Size size);
 
