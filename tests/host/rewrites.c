@@ -86,6 +86,9 @@ static void near_misses(void)
     joins(minutes(31, -1), "(0 32)");
     rewrites("(tender multi 0 1)\n", "(tender multi 0 1)\n");        /* no bids */
     rewrites("(tender single 0 10080)\n", "(tender single 0 10080)\n");
+    rewrites("(tender single 0 9)\n(reserve 0)\n", "(tender single 0 9)\n(reserve 0)\n");
+    rewrites("(tender multi 0 9)\n(reserve 100000000)\n(bid 7 30 (5 9) (0 5))\n",
+             "(tender multi 0 9)\n(reserve 100000000)\n(bid 7 30 (0 9))\n");
     rewrites("(tender single 480 600)\n(bid 999999 100000000 (470 660))\n(bid 1 0 (0 1))\n",
              "(tender single 480 600)\n(bid 999999 100000000 (470 660))\n(bid 1 0 (0 1))\n");
 }
@@ -108,6 +111,8 @@ static void named_pairs(void)
 {
     static const struct { const char *text, *difference; } others[] = {
         {TENDER "(bid 1 5 (6 8) (0 4))\n" BID_2, NULL},
+        {TENDER "(reserve 5)\n" BID_1 BID_2, "a reserve more"},
+        {TENDER "(reserve 0)\n" BID_1 BID_2, "a reserve of 0 more"},
         {TENDER "(bid 1 5 (6 7) (7 8) (0 3) (1 4))\n(bid 2 5 (2 9) (2 9))\n", NULL},
         {TENDER BID_2 BID_1, "two bids in another order"},
         {TENDER "(bid 2 5 (0 4) (6 8))\n(bid 1 5 (2 9))\n", "two bidders exchanged"},
@@ -121,9 +126,14 @@ static void named_pairs(void)
         {"(tender multi 0 8)\n" BID_1 BID_2, "another end"},
     };
     static const char SINGLE[] = "(tender single 0 9)\n(bid 1 5 (0 4))\n", MULTI[] = "(tender multi 0 9)\n(bid 1 5 (0 4))\n";
+    static const char RESERVED[] = TENDER "(reserve 60)\n" BID_1, LESS[] = TENDER "(reserve 59)\n" BID_1;
+    static const char HOUSE_BID[] = TENDER BID_1 "(bid 2 60 (0 9))\n";
     for (size_t i = 0; i < sizeof others / sizeof *others; i++)
         compared(TENDER BID_1 BID_2, strlen(TENDER BID_1 BID_2), others[i].text, strlen(others[i].text), others[i].difference);
     compared(SINGLE, strlen(SINGLE), MULTI, strlen(MULTI), "another kind");
+    compared(RESERVED, strlen(RESERVED), RESERVED, strlen(RESERVED), NULL);
+    compared(RESERVED, strlen(RESERVED), LESS, strlen(LESS), "another reserve");
+    compared(RESERVED, strlen(RESERVED), HOUSE_BID, strlen(HOUSE_BID), "a bid for a reserve");
 }
 
 /* the longest texts */
@@ -145,7 +155,7 @@ static size_t put_bid(char *s, unsigned bidder, size_t length, bool falling)
 
 static void put_long(char *s, size_t n, bool falling)
 {
-    size_t at = (size_t)sprintf(s, "(tender multi 0 10080)\n");
+    size_t at = (size_t)sprintf(s, "(tender multi 0 10080)\n(reserve 100000000)\n");
     for (unsigned bidder = 100000; at < n; bidder++) at += put_bid(s + at, bidder, n - at < LINE ? n - at : LINE, falling);
     expect(at == n, "a long text made wrong", NULL, 0);
 }
@@ -159,7 +169,7 @@ static void longest(void)
     rewrites(falling, rising);
     put_long(rising, LONGEST + 1, false);
     writes(tender_rewrite, LONGEST, rising, LONGEST + 1, "(refused 1 0)\n");
-    size_t n = (size_t)sprintf(rising, "(tender multi 0 10)\n"), m = n;
+    size_t n = (size_t)sprintf(rising, "(tender multi 0 10)\n(reserve 5)\n"), m = n;
     memcpy(falling, rising, n);
     for (int i = 1; i <= 1000; i++) {
         n += (size_t)sprintf(rising + n, "(bid %d 1 (5 9) (0 5) (3 4))\n", i);

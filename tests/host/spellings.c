@@ -51,6 +51,8 @@ void some_bids(Spelt *t)
     t->single = !below(8);
     t->start = below(3) ? below(WEEK) : 0;
     t->end = t->start + 1 + below(WEEK - t->start);
+    t->reserved = below(2);
+    t->reserve = below(2) ? below(100) : below(TOP_PRICE + 1);
     t->n = below(below(8) ? 6 : SPELT_BIDS + 1);
     for (unsigned i = 0; i < t->n; i++) {
         t->bid[i].bidder = first + i * step;
@@ -90,16 +92,24 @@ static void change_tender(Spelt *t)
     else t->end--;
 }
 
+/* a cent more or less, or a reserve more or fewer */
+static void change_reserve(Spelt *t)
+{
+    if (t->reserved && below(2)) t->reserve += t->reserve ? -1u : 1;
+    else t->reserved = !t->reserved;
+}
+
 const char *change(Spelt *t)
 {
-    unsigned manner = t->n ? below(6) : 0, i = t->n ? below(t->n) : 0;
+    unsigned manner = t->n ? below(7) : below(2), i = t->n ? below(t->n) : 0;
     SpeltBid *b = &t->bid[i], first = *b;
     bool last = i + 1 >= t->n;
     switch (manner) {
     case 0: change_tender(t); return "another tender";
-    case 1: b->price += b->price ? -1u : 1; return "another price";
-    case 2: b->bidder++; return "another bidder";
-    case 3: if (last) { t->n--; return "the last bid dropped"; }
+    case 1: change_reserve(t); return "another reserve";
+    case 2: b->price += b->price ? -1u : 1; return "another price";
+    case 3: b->bidder++; return "another bidder";
+    case 4: if (last) { t->n--; return "the last bid dropped"; }
             b[0] = b[1];
             b[1] = first;
             return "two bids in another order";
@@ -133,6 +143,7 @@ static void respell(SpeltBid *b)
 static size_t put_text(char *s, const Spelt *t, bool plain)
 {
     size_t at = (size_t)sprintf(s, "(tender %s %u %u)\n", t->single ? "single" : "multi", t->start, t->end);
+    if (t->reserved) at += (size_t)sprintf(s + at, "(reserve %u)\n", t->reserve);
     for (unsigned i = 0; i < t->n; i++) {
         SpeltBid b = t->bid[i];
         if (!plain) respell(&b);

@@ -10,12 +10,13 @@ enum { SPELT_BIDS = 60, SPELT_WINDOWS = 32 };
 /* the windows of a bid rise, with a minute or more between two: one for each run of its minutes */
 typedef struct { unsigned start, end; } Run;
 typedef struct { unsigned bidder, price, runs; Run run[SPELT_WINDOWS]; } SpeltBid;
-typedef struct { bool single; unsigned start, end, n; SpeltBid bid[SPELT_BIDS]; } Spelt;
+typedef struct { bool single, reserved; unsigned start, end, reserve, n; SpeltBid bid[SPELT_BIDS]; } Spelt;
 
-/* up to 5, at times 60 bids, anywhere in the week; in half of the tenders some runs begin or end at or beside a multiple of 64 */
+/* up to 5, at times 60 bids, anywhere in the week; in half of the tenders some runs begin or end at or beside a multiple of 64, and half
+   have a reserve */
 void some_bids(Spelt *t);
 
-/* one thing changed, and which: the tender, a price, a bidder, a minute, the order of two bids, the last bid dropped */
+/* one thing changed, and which: the tender, its reserve, a price, a bidder, a minute, the order of two bids, the last bid dropped */
 const char *change(Spelt *t);
 
 /* the text with a window for each run, in rising order */
