@@ -8,6 +8,7 @@
 #include "rewrites.h"
 #include "second.h"
 #include "texts.h"
+#include "tries.h"
 
 #include <pthread.h>
 #include <stdio.h>
@@ -42,6 +43,95 @@ static void worked(void)
           "(award multi 0 10)\n(win 21 30)\n(win 22 30)\n(win 24 11)\n(total 36 71)\n");
     LISTS("(tender single 0 10)\n(bid 1 0 (0 10))\n(bid 2 0 (0 10))\n", "(award single 0 10)\n(win 1 0)\n(total 0 0)\n");
     LISTS("(tender multi 0 10)\n(bid 1 0 (0 10))\n(bid 2 0 (0 10))\n", "(award multi 0 10)\n(win 1 0)\n(total 0 0)\n");
+}
+
+/* the house: after all bids, with every minute */
+
+#define HALF(price) "(tender multi 0 10)\n(reserve 100)\n(bid 1 " #price " (0 5))\n"
+
+static void reserves(void)
+{
+    LISTS("(tender single 0 1)\n(reserve 5000)\n", "(award single 0 1)\n(house 5000)\n(total 5000 0)\n");
+    LISTS("(tender multi 0 1)\n(reserve 0)\n", "(award multi 0 1)\n(house 0)\n(total 0 0)\n");
+    LISTS("(tender multi 0 10080)\n(reserve 100000000)\n", "(award multi 0 10080)\n(house 100000000)\n(total 100000000 0)\n");
+    LISTS(HALF(10), "(award multi 0 10)\n(win 1 50)\n(house 100)\n(total 110 50)\n");
+    LISTS(HALF(50), "(award multi 0 10)\n(win 1 50)\n(house 100)\n(total 150 50)\n");
+    LISTS(HALF(51), "(award multi 0 10)\n(house 100)\n(total 100 0)\n");
+    LISTS("(tender single 0 10)\n(reserve 100)\n(bid 1 10 (0 5))\n", "(award single 0 10)\n(house 100)\n(total 100 0)\n");
+    /* on a tie the house, the last entry, loses */
+    LISTS("(tender single 0 10)\n(reserve 20)\n(bid 1 20 (0 10))\n", "(award single 0 10)\n(win 1 20)\n(total 20 20)\n");
+    LISTS("(tender single 0 10)\n(reserve 20)\n(bid 1 21 (0 10))\n", "(award single 0 10)\n(house 20)\n(total 20 0)\n");
+    LISTS("(tender multi 0 10)\n(reserve 20)\n(bid 1 20 (0 10))\n", "(award multi 0 10)\n(win 1 20)\n(total 20 20)\n");
+    LISTS("(tender multi 0 10)\n(reserve 20)\n(bid 1 21 (0 10))\n", "(award multi 0 10)\n(house 20)\n(total 20 0)\n");
+    LISTS("(tender single 0 10)\n(reserve 20)\n(bid 1 10 (0 5))\n(bid 2 10 (5 10))\n",
+          "(award single 0 10)\n(win 1 10)\n(win 2 10)\n(total 20 20)\n");
+    LISTS("(tender multi 0 10)\n(reserve 20)\n(bid 1 10 (0 5))\n(bid 2 10 (5 10))\n",
+          "(award multi 0 10)\n(win 1 20)\n(win 2 20)\n(total 20 40)\n");
+    LISTS("(tender single 0 10)\n(reserve 0)\n(bid 1 0 (0 10))\n", "(award single 0 10)\n(win 1 0)\n(total 0 0)\n");
+    LISTS("(tender multi 0 10)\n(reserve 0)\n(bid 1 0 (0 10))\n", "(award multi 0 10)\n(win 1 0)\n(total 0 0)\n");
+    LISTS("(tender multi 0 10)\n(reserve 0)\n(bid 1 1 (0 10))\n(bid 2 2 (0 5))\n", "(award multi 0 10)\n(house 0)\n(total 0 0)\n");
+    /* a lone owner, and no one in a minute */
+    LISTS("(tender single 480 600)\n(reserve 5000)\n(bid 31 1200 (480 560))\n(bid 32 900 (540 600))\n(bid 33 1500 (500 600))\n",
+          "(award single 480 600)\n(win 31 4100)\n(win 32 1500)\n(total 2100 5600)\n");
+    /* beside a bid that costs nothing, and one with no minute of the tender */
+    LISTS("(tender single 0 10)\n(reserve 7)\n(bid 1 0 (0 5))\n", "(award single 0 10)\n(house 7)\n(total 7 0)\n");
+    LISTS("(tender multi 0 10)\n(reserve 7)\n(bid 1 0 (0 5))\n(bid 2 0 (20 30))\n",
+          "(award multi 0 10)\n(win 1 3)\n(house 7)\n(total 7 3)\n");
+}
+
+static void misplaced_reserves(void)
+{
+    REFUSES("(tender single 0 9)\n(bid 1 1 (0 9))\n(reserve 5000)\n", "(refused 16 3)\n");
+    REFUSES("(tender single 0 9)\n(reserve 5000)\n(reserve 5000)\n", "(refused 16 3)\n");
+    REFUSES("(tender single 0 9)\n(bid 1 1 (0 9))\n(reserve 100000001)\n", "(refused 16 3)\n");
+    REFUSES("(tender single 0 9)\n(reserve 5000)\n(bid 1 1 (0 9))\n(reserve 6000)\n", "(refused 16 4)\n");
+    REFUSES("(tender single 0 9)\n(bid 1 1 (0 9))\n(reserve 007)\n", "(refused 2 3)\n");
+    REFUSES("(tender single 0 9)\n(bid 1 1 (0 9))\n(reserve 5000)", "(refused 2 3)\n");
+    REFUSES("(reserve 5000)\n", "(refused 2 1)\n");
+    REFUSES("(reserve 5000)\n(tender single 0 9)\n", "(refused 2 1)\n");
+    REFUSES("(tender single 9 9)\n(reserve 007)\n", "(refused 5 1)\n");
+    REFUSES("(tender single 0 9)\n(reserve 100000001)\n", "(refused 3 2)\n");
+    REFUSES("(tender single 0 9)\n(reserve 100000001)\n(reserve 5000)\n", "(refused 3 2)\n");
+    REFUSES("(tender single 0 9)\n(reserve 999999999)\n", "(refused 3 2)\n");
+    REFUSES("(tender single 0 9)\n(reserve 1000000000)\n", "(refused 2 2)\n");
+    REFUSES("(tender single 0 9)\n(reserve 007)\n", "(refused 2 2)\n");
+    REFUSES("(tender single 0 9)\n(reserve)\n", "(refused 2 2)\n");
+    REFUSES("(tender single 0 9)\n(reserve )\n", "(refused 2 2)\n");
+    REFUSES("(tender single 0 9)\n(reserve 5 )\n", "(refused 2 2)\n");
+    REFUSES("(tender single 0 9)\n(reserve 5 6)\n", "(refused 2 2)\n");
+    REFUSES("(tender single 0 9)\n(reserve  5)\n", "(refused 2 2)\n");
+    REFUSES("(tender single 0 9)\n(reserve (0 5))\n", "(refused 2 2)\n");
+    REFUSES("(tender single 0 9)\n(reserves 5)\n", "(refused 2 2)\n");
+    REFUSES("(tender single 0 9)\n(reserve 5)", "(refused 2 2)\n");
+    REFUSES("(tender single 0 9)\n(house 5)\n", "(refused 2 2)\n");
+    /* bids then begin on line 3 */
+    REFUSES("(tender single 0 9)\n(reserve 5)\n(bid 0 1 (0 9))\n", "(refused 3 3)\n");
+    REFUSES("(tender single 0 9)\n(reserve 5)\n(bid 7 1 (0 9))\n(bid 7 1 (0 9))\n", "(refused 6 4)\n");
+}
+
+/* a text of so many bids of all the minutes, each a cent dearer than the one before, after these lines */
+static size_t many_bids(char *s, const char *lines, int bids)
+{
+    size_t n = (size_t)sprintf(s, "%s", lines);
+    for (int i = 1; i <= bids; i++) n += (size_t)sprintf(s + n, "(bid %d %d (0 10))\n", i, 100 + i);
+    return n;
+}
+
+/* the house counts toward no limit, and its line counts in line numbers */
+static void many_beside_a_reserve(void)
+{
+    static char big[TEXT_ROOM];
+    refuses(big, many_bids(big, "(tender multi 0 10)\n(reserve 5)\n", 1001), "(refused 4 1003)\n");
+    lists(big, many_bids(big, "(tender multi 0 10)\n(reserve 5)\n", 1000), "(award multi 0 10)\n(house 5)\n(total 5 0)\n");
+    lists(big, many_bids(big, "(tender single 0 10)\n(reserve 5)\n", 1000), "(award single 0 10)\n(house 5)\n(total 5 0)\n");
+    lists(big, many_bids(big, "(tender multi 0 10)\n(reserve 101)\n", 1000), "(award multi 0 10)\n(win 1 101)\n(total 101 101)\n");
+    lists(big, many_bids(big, "(tender single 0 10)\n(reserve 101)\n", 1000), "(award single 0 10)\n(win 1 101)\n(total 101 101)\n");
+    size_t n = many_bids(big, "(tender multi 0 10)\n", 1000);
+    n += (size_t)sprintf(big + n, "(reserve 5)\n");
+    refuses(big, n, "(refused 16 1002)\n");
+    n = many_bids(big, "(tender multi 0 10)\n", 1001);
+    n += (size_t)sprintf(big + n, "(reserve 5)\n");
+    refuses(big, n, "(refused 4 1002)\n");
 }
 
 /* 11 and 12 name the earliest minute, counted from 0 and not from the tender's start; 11 stands before 12 wherever it falls */
@@ -90,6 +180,8 @@ static void refusals(void)
     LISTS("(tender multi 0 1)\n", "(refused 11 0)\n");
     LISTS("(tender single 3 4)\n(bid 1 1 (0 10))\n", "(refused 12 3)\n");
     earliest();
+    misplaced_reserves();
+    many_beside_a_reserve();
     size_t n = (size_t)sprintf(big, "(tender multi 0 10)\n(bid 1 1");
     for (int i = 0; i < 33; i++) n += (size_t)sprintf(big + n, " (0 1)");
     n += (size_t)sprintf(big + n, ")\n");
@@ -113,17 +205,24 @@ static bool awarded(const uint8_t *out, size_t k)
     return k > 6 && !memcmp(out, "(award", 6);
 }
 
+/* the list has a line of the house */
+static bool housed(const uint8_t *out, size_t k)
+{
+    return memmem(out, k, "\n(house ", 8);
+}
+
 static void random_texts(long rounds)
 {
     static char s[TEXT_ROOM];
     static uint8_t out[ROOM];
-    long awards = 0;
+    long awards = 0, houses = 0;
     for (long i = 0; i < 2 * rounds; i++) {
         size_t n = small_text(s);
         if (i % 2) n = mutated(s, n);
         size_t k = called(tender_list, s, n, LIST_MAX, out);
         expect(agrees((const uint8_t *)s, n, out, k), "differs from the second implementation", s, n);
         awards += awarded(out, k);
+        houses += housed(out, k);
     }
     for (long i = 0; i < rounds / 4; i++) {
         size_t n = below(64);
@@ -131,13 +230,14 @@ static void random_texts(long rounds)
         size_t k = called(tender_list, s, n, LIST_MAX, out);
         expect(agrees((const uint8_t *)s, n, out, k), "random bytes", s, n);
     }
-    printf("small tenders: %ld awarded, %ld declined; %ld texts of random bytes\n", awards, 2 * rounds - awards, rounds / 4);
+    printf("small tenders: %ld awarded, the house booked in %ld, %ld declined; %ld texts of random bytes\n", awards, houses,
+           2 * rounds - awards, rounds / 4);
 }
 
 /* texts with several faults on a line: the order in which they are told */
 static void faulty_texts(long rounds)
 {
-    enum { NUMBERS = 16 };
+    enum { NUMBERS = 17 };
     static char s[TEXT_ROOM];
     static uint8_t out[ROOM];
     long told[NUMBERS] = {0};
@@ -157,7 +257,7 @@ static void faulty_texts(long rounds)
 
 enum { WEEK = 10080 };
 
-typedef struct { long awarded[2], declined[2]; } Wide;      /* multi, single */
+typedef struct { long awarded[2], housed[2], declined[2]; } Wide;      /* multi, single */
 
 static void wide(Size size, Wide *count)
 {
@@ -167,13 +267,14 @@ static void wide(Size size, Wide *count)
     expect(agrees((const uint8_t *)s, n, out, k), "a wide tender", s, n);
     if (awarded(out, k)) count->awarded[size.single]++;
     else count->declined[size.single]++;
+    count->housed[size.single] += housed(out, k);
     expect(k && called(tender_list, s, n, k - 1, out) == 0, "a wide tender, a short buffer", s, n);
 }
 
 static void say(const char *what, const Wide *w)
 {
-    printf("%s: single %ld awarded, %ld declined; multi %ld awarded, %ld declined\n", what, w->awarded[1], w->declined[1], w->awarded[0],
-           w->declined[0]);
+    printf("%s: single %ld awarded, the house booked in %ld, %ld declined; multi %ld awarded, in %ld, %ld declined\n", what, w->awarded[1],
+           w->housed[1], w->declined[1], w->awarded[0], w->housed[0], w->declined[0]);
 }
 
 static void wide_tenders(long rounds)
@@ -293,11 +394,13 @@ int main(int argc, char **argv)
     long rounds = argc > 2 ? atol(argv[2]) : 100000;
     setvbuf(stdout, NULL, _IOLBF, 0);
     worked();
+    reserves();
     refusals();
     named_rewrites();
     threads();
     programs(argv[1]);
     random_texts(rounds);
+    tried_lists(rounds / 5);
     wide_tenders(rounds);
     random_rewrites(rounds);
     faulty_texts(rounds);
