@@ -3,7 +3,8 @@
  * [FILE]` the text in one spelling.
  *
  * All that is decided about a tender is decided by the proved calls. This file reads, writes, says in words what a
- * refusal means, and tells by its exit status how it went: 0 awarded or rewritten, 1 refused, 2 trouble.
+ * refusal means and that the house is booked, and tells by its exit status how it went: 0 awarded or rewritten,
+ * 1 refused, 2 trouble.
  */
 #define _POSIX_C_SOURCE 200809L
 #include "tender.h"
@@ -33,7 +34,7 @@ static const char HELP[] =
     "\n"
     "Where the text or the tender is declined, (refused N P) is written, number and place.\n"
     "\n"
-    "  -q          say nothing on standard error about a refusal\n"
+    "  -q          say nothing on standard error about a refusal or the house\n"
     "  --          what follows is no option\n"
     "  --help      write this text\n"
     "  --version   write the version, and the kit that proved the calls\n"
@@ -112,6 +113,7 @@ static const struct { enum place place; const char *what; } REFUSALS[] = {
     [13] = {NOWHERE, "the list would be longer than the room lent"},
     [14] = {NOWHERE, "the text would be longer than 65,536 bytes or the room lent"},
     [15] = {LINE, "a window that ends after the week, above 10,080"},
+    [16] = {LINE, "a reserve after a bid, or a second reserve"},
 };
 
 /* The line's first bytes, with \xNN for a byte that does not print. */
@@ -129,6 +131,7 @@ static void tell_line(unsigned number, unsigned long place)
     stop = memchr(line, '\n', (size_t)(end - line));
     size_t len = (size_t)((stop ? stop : end) - line);
     const char *what = REFUSALS[number].what;
+    if (number == 2 && len >= 8 && !memcmp(line, "(reserve", 8)) what = "not spelt as a reserve";
     if (number == 2 && place == 1) what = "not a tender or not spelt as one";
     if (number == 2 && !stop) what = "no newline at the end of the line";
     if (number == 2 && len == 0) what = stop ? "the line is empty" : "the text is empty";
@@ -149,6 +152,15 @@ static void tell(unsigned number, unsigned long place)
     else if (REFUSALS[number].place == LINE) tell_line(number, place);
     else if (REFUSALS[number].place == MINUTE) tell_minute(number, place);
     else fprintf(stderr, "tender: %s\n", REFUSALS[number].what);
+}
+
+/* Says so where the list has a line of the house. Only lines of a list begin so, and none is the first. */
+static void tell_house(void)
+{
+    const char *line = strstr((const char *)out, "\n(house ");
+    unsigned long price;
+    if (line && sscanf(line, "\n(house %lu)", &price) == 1)
+        fprintf(stderr, "tender: the house is booked for %lu cents, counted in the cost and not in the sum paid\n", price);
 }
 
 /* the commands */
@@ -200,9 +212,10 @@ static int run(const char *file, bool quiet)
     if (write_out(out, out_len)) return TROUBLE;
     unsigned number;
     unsigned long place;
-    if (sscanf((const char *)out, "(refused %u %lu", &number, &place) != 2) return DONE;
-    if (!quiet) tell(number, place);
-    return REFUSED;
+    bool refused = sscanf((const char *)out, "(refused %u %lu", &number, &place) == 2;
+    if (!quiet && refused) tell(number, place);
+    else if (!quiet) tell_house();
+    return refused ? REFUSED : DONE;
 }
 
 int main(int argc, char **argv)
