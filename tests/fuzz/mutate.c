@@ -117,6 +117,23 @@ static void add_bid(Text *t, bool whole)
     replace(t, t->n, 0, s, (size_t)sprintf(s, "(bid %u %u (%u %u))\n", 1 + below(TOP_BIDDER), price, from, to));
 }
 
+static bool is_reserve(const uint8_t *line, const uint8_t *end)
+{
+    return end - line >= 8 && !memcmp(line, "(reserve", 8);
+}
+
+/* the reserve on the second line: put in, taken away, or of another price */
+static void change_reserve(Text *t)
+{
+    char s[32];
+    uint8_t *stop = t->n ? memchr(t->s, '\n', t->n) : NULL, *end = t->s + t->n, *next;
+    if (!stop) return;
+    size_t at = (size_t)(stop + 1 - t->s), len = 0;
+    if (is_reserve(stop + 1, end) && (next = memchr(stop + 1, '\n', (size_t)(end - stop - 1)))) len = (size_t)(next - stop);
+    if (len && below(3)) { replace(t, at, len, "", 0); return; }
+    replace(t, at, len, s, (size_t)sprintf(s, "(reserve %u)\n", below(4) ? below(below(2) ? 300 : 20000) : below(3)));
+}
+
 /* a line, or a window, dropped, or put in again at another place */
 static void move_part(Text *t, bool line)
 {
@@ -177,13 +194,15 @@ static void mend(Text *t)
     const uint8_t *at = t->s, *end = t->s + t->n, *stop;
     size_t len = 0;
     bool multi = false;
-    for (bool first = true; at < end && bids < MAX_BIDS && len + 500 < t->most; first = false, at = stop + 1) {
+    for (long line = 1; at < end && bids < MAX_BIDS && len + 500 < t->most; line++, at = stop + 1) {
         stop = memchr(at, '\n', (size_t)(end - at));
         if (!stop) stop = end;
-        n = numbers_of(at, stop, v, first ? 2 : 2 + 2 * MAX_WINDOWS);
-        if (first) {
+        n = numbers_of(at, stop, v, line == 1 ? 2 : 2 + 2 * MAX_WINDOWS);
+        if (line == 1) {
             multi = memchr(at, 'm', (size_t)(stop - at));
             len += (size_t)window(s, multi ? "(tender multi " : "(tender single ", n > 0 ? v[0] : 0, n > 1 ? v[1] : 100);
+        } else if (line == 2 && n && is_reserve(at, stop)) {
+            len += (size_t)sprintf(s + len, "(reserve %ld)", v[0] % (TOP_PRICE + 1));
         } else {
             if (n < 4) continue;
             bool taken = v[0] < 1 || v[0] > TOP_BIDDER;
@@ -205,12 +224,13 @@ size_t LLVMFuzzerCustomMutator(uint8_t *data, size_t n, size_t most, unsigned fr
     seed = from * 2654435761u;
     if (!below(6)) return LLVMFuzzerMutate(data, n, most);
     for (unsigned k = 1 + below(4); k; k--) {
-        switch (below(16)) {
+        switch (below(17)) {
         case 0: other_kind(&t); break;
         case 1: case 2: add_bid(&t, below(2)); break;
         case 3: case 4: case 5: move_part(&t, true); break;
         case 6: case 7: move_part(&t, false); break;
         case 8: split_window(&t); break;
+        case 9: change_reserve(&t); break;
         default: change_number(&t);
         }
     }
