@@ -16,14 +16,13 @@ use Rattle.tender.specs.declared.Refusal.the-variants.{MinuteUncovered, OneBidd
 use Rattle.tender.specs.Refusals.{numberOf}
 use Rattle.tender.specs.Tables.{Row, flatRows, flatWindows, bidWidth}
 use Rattle.cover.specs.Sets.{Found, nothing, found}
-use Rattle.cover.specs.Earliest.{cellWith}
 use Rattle.cover.specs.SettledLaws.{getD-listed}
 use Rattle.reader_text.specs.Read.{accepted, readText}
 use Rattle.reader_text.specs.Read as reading
 use Rattle.reader_text.specs.Rules.{Rules}
 use Rattle.reader_text.specs.RulesLaws.{rules-law}
 use Rattle.award_check.specs.Cells.{noRow}
-use Rattle.award_check.specs.Auction.{Auction, auctionOf}
+use Rattle.award_check.specs.Auction.{Auction, auctionOf, thinCell}
 use Rattle.award_check.specs.AuctionLaws.{auction-read}
 use Rattle.award_check.specs.Faults.{faultOf}
 use Rattle.award_check.specs.TextLaws.{never-nine}
@@ -64,7 +63,7 @@ module _ (T : Tender) (R : List Row) (W : List Window) (rules : Rules T R W) whe
     award-none (T .kind) T (length R) (flatRows R) (flatWindows W) (length R) sound-alone,
     le-ltb (length R) (length R) (omega arith),
   )
-      (go (cellWith (A .has) (A .owners) (A .cells) 0) (cellWith (A .has) (A .owners) (A .cells) 1) refl refl)
+      (go (thinCell A 0) (thinCell A 1) refl refl)
     where
       A : Auction
       A = auctionOf T (length R) (flatRows R) (flatWindows W)
@@ -72,8 +71,7 @@ module _ (T : Tender) (R : List Row) (W : List Window) (rules : Rules T R W) whe
       o : Outcome
       o = settled (rule (T .kind)) A (uncovered T) (lone T)
 
-      go : (x y : Found) → cellWith (A .has) (A .owners) (A .cells) 0 ≡ x → cellWith (A .has) (A .owners) (A .cells) 1 ≡ y
-          → (outcomeNumber o ≡ 0)
+      go : (x y : Found) → thinCell A 0 ≡ x → thinCell A 1 ≡ y → (outcomeNumber o ≡ 0)
           ⊎ ((outcomeNumber o ≡ numberOf (MinuteUncovered (outcomePlace o)))
           ⊎ (outcomeNumber o ≡ numberOf (OneBidder (outcomePlace o))))
       go (found x) y e f = inr (inl (ap outcomeNumber (settled-is (rule (T .kind)) A (uncovered T) (lone T) (found x) y e f)))

@@ -17,8 +17,8 @@ use Rattle.tender.specs.Tables.{Row, rowsOf, own, flatRows, flatWindows, bidWid
 use Rattle.cover.specs.SetLaws.{and-split}
 use Rattle.reader_word.specs.Words.{cut}
 use Rattle.reader_line.specs.Line.{BidLine, headLines, linesOf}
-use Rattle.reader_text.specs.Read.{accepted, rowsFrom, allWindows, bidsOf, tables, begun, headOf, readLines, readText}
-use Rattle.reader_text.specs.HeadLaws.{lines-begun, Unreserved, head-of}
+use Rattle.reader_text.specs.Read.{accepted, rowsFrom, allWindows, bidsOf, tables, begun, Unreserved, headOf, readLines, readText}
+use Rattle.reader_text.specs.HeadLaws.{lines-begun, head-of}
 use Rattle.reader_text.specs.RulesLaws.{rules-law, rowsFrom-length}
 use Rattle.spelling.specs.Text.{bidIn, textOf}
 use Rattle.spelling.specs.BackLaws.{asLines, text-back}
