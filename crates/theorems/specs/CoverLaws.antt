@@ -1,9 +1,10 @@
--- An award whose tables break no rule and which has a row for every bid declines just where some minute has fewer than two
--- bidders. Assumes nothing.
+-- An award without a reserve whose tables break no rule and which has a row for every bid declines just where some minute has fewer
+-- than two bidders. Assumes nothing.
 use mathlib.Core.Path.{_≡_, ap}
 use mathlib.Core.Logic.{_⊎_, inl, inr}
 use Prim.Native.Nat.{ℕ, _-_, _<_}
 use native.Mathlib.Omega.{arith}
+use Rattle.tender.specs.declared.Reserve.the-variants.{Absent}
 use Rattle.award_check.specs.AuctionLaws.{minutes}
 use Rattle.award_plain.specs.Award.{outcomeNumber}
 use Rattle.award.specs.Right.{Bidders, EarliestIn, OneAnswer, tables-break-a-rule, rows-too-few, minute-uncovered, one-bidder, award}
@@ -23,7 +24,7 @@ at-minute d m b i l = record { minute = m; from = i .from; to = i .to; few = ome
 one-is-two : {c : AwardCall} → FewerThan 1 c → FewerThan 2 c
 one-is-two f = record { minute = f .minute; from = f .from; to = f .to; few = omega (arith, f .few) }
 
-module _ (c : AwardCall) (callable : CallableWith c) where
+module _ (c : AwardCall) (callable : CallableWith c) (bare : c .tender .reserve ≡ Absent) where
   enough : (d : ℕ) → Bidders (auctionBy c) d → FewerThan d c → ⊥
   enough d h f =
       let t = c .tender .window in
@@ -38,9 +39,9 @@ module _ (c : AwardCall) (callable : CallableWith c) where
       go : OneAnswer (c .kind) (c .tender) (c .count) (c .bids) (c .windows) (c .rows-before) (c .rows-after) (toldBy c) → ByCover c
       go (tables-break-a-rule q e r) = let f = callable .sound in let z : _≡_ {A = ℕ} 0 1 = cc in absurd (omega arith)
       go (rows-too-few f l r) = absurd (omega (arith, callable .rows))
-      go (minute-uncovered m s i r) = nobody-there (ap outcomeNumber (r .outcome)) (at-minute 1 m 0 i (omega arith))
-      go (one-bidder m s b i r) = one-there (ap outcomeNumber (r .outcome)) (at-minute 2 m 1 i (omega arith)) (enough 1 b)
-      go (award s b w) = two-there (ap outcomeNumber (w .outcome)) (enough 2 b)
+      go (minute-uncovered m s u i r) = nobody-there (ap outcomeNumber (r .outcome)) (at-minute 1 m 0 i (omega arith))
+      go (one-bidder m s u b i r) = one-there (ap outcomeNumber (r .outcome)) (at-minute 2 m 1 i (omega arith)) (enough 1 b)
+      go (award s b w) = two-there (ap outcomeNumber (w .outcome)) (enough 2 (b bare))
 
   -- 11 or 12 exactly where some minute has fewer than two bidders
   pub thin-if-refused : (outcomeNumber (toldBy c) ≡ 11) ⊎ (outcomeNumber (toldBy c) ≡ 12) → FewerThan 2 c

@@ -1,7 +1,7 @@
 -- The demands in one place, in their order and words: each is of a public call as one record (`Calls`) and is proved by citing.
 -- `docs/RULES.md` prints the definitions that they rest on; `Worked` has the starred tenders of paper 01. Assumes nothing.
 use mathlib.Core.Path.{_≡_, sym, _∙_}
-use mathlib.Core.Logic.{_⊎_}
+use mathlib.Core.Logic.{_⊎_, inl, inr}
 use mathlib.Core.Bool.{true}
 use mathlib.Core.List.{List, map}
 use mathlib.Core.Option.{some}
@@ -9,6 +9,7 @@ use Prim.Native.Nat.{ℕ, _+_, _/_, _^_, _≤_, _<_, min}
 use lib.ListN.{length, getD, take}
 use lib.Dec.{leb}
 use Rattle.tender.specs.declared.Window.{Window}
+use Rattle.tender.specs.declared.Reserve.the-variants.{Absent, Price}
 use Rattle.tender.specs.declared.Tender.{Tender}
 use Rattle.tender.specs.declared.AwardRow.{AwardRow}
 use Rattle.tender.specs.declared.Totals.{Totals}
@@ -137,7 +138,7 @@ pub long-tables : (text : List ℕ) (bidRows windowRows : ℕ) → 1000 ≤ bidR
     → readInto text bidRows windowRows ≡ readText text
 long-tables = room-law
 
--- A list shows no refusal but 1 to 7, 11, 12 and 15.
+-- A list shows no refusal but 1 to 7, 11, 12, 15 and 16.
 pub a-list-shows : (l : ListCall) (n at : ℕ) → n < 10 ^ 20 → 0 < l .answer → shown l ≡ pairLine refusedWord n at → Showable n
 a-list-shows = shows-no-other
 
@@ -145,22 +146,35 @@ a-list-shows = shows-no-other
 -- tender, the greedy cover with critical prices for a multi tender.
 
 module _ (c : AwardCall) where
-  -- Where no rule is broken, each bid has an award row and each minute two bidders, the tender is awarded as defined.
-  pub awarded-as-defined : CallableWith c → Bidders (auctionBy c) 2
+  -- Where no rule is broken, each bid has an award row and, without a reserve, each minute two bidders, the tender is awarded as
+  -- defined.
+  pub awarded-as-defined : CallableWith c → (c .tender .reserve ≡ Absent → Bidders (auctionBy c) 2)
       → IsAward (rule (c .kind)) (auctionBy c) (c .rows-before) (c .rows-after) (toldBy c)
   awarded-as-defined =
       one.awards (c .kind) (c .tender) (c .count) (c .bids) (c .windows) (c .rows-before) (c .rows-after) (c .answer) (c .promise)
 
   -- Else it is refused for cover: with 11 or 12 exactly where some minute has fewer than two bidders, with 11 where some has none.
-  pub refused-for-cover : CallableWith c → Exactly (ForCover c) (FewerThan 2 c)
-  refused-for-cover h = (cover.thin-if-refused c h, cover.refused-if-thin c h)
+  pub refused-for-cover : CallableWith c → c .tender .reserve ≡ Absent → Exactly (ForCover c) (FewerThan 2 c)
+  refused-for-cover h e = (cover.thin-if-refused c h e, cover.refused-if-thin c h e)
 
-  pub refused-with-eleven : CallableWith c → Exactly (outcomeNumber (toldBy c) ≡ 11) (FewerThan 1 c)
-  refused-with-eleven h = (cover.bare-if-eleven c h, cover.eleven-if-bare c h)
+  pub refused-with-eleven : CallableWith c → c .tender .reserve ≡ Absent → Exactly (outcomeNumber (toldBy c) ≡ 11) (FewerThan 1 c)
+  refused-with-eleven h e = (cover.bare-if-eleven c h e, cover.eleven-if-bare c h e)
+
+  -- With a reserve it never is.
+  pub reserve-serves : (p : ℕ) → c .tender .reserve ≡ Price p → ForCover c → ⊥
+  reserve-serves p e f = go f
+    where
+      served : (outcomeNumber (toldBy c) ≡ 11 → ⊥) × (outcomeNumber (toldBy c) ≡ 12 → ⊥)
+      served = one.reserve-serves (c .kind) (c .tender) (c .count) (c .bids) (c .windows) (c .rows-before) (c .rows-after) (c .answer)
+          (c .promise) p e
+
+      go : ForCover c → ⊥
+      go (inl h) = served .0 h
+      go (inr h) = served .1 h
 
 module _ (c : AwardCall) (rows : List AwardRow) (totals : Totals) (told : toldBy c ≡ awarded rows totals) where
-  -- The winners cover: each minute of the tender, cell x, is in a winner's windows.
-  pub winners-cover-all : (x : ℕ) → x < auctionBy c .cells → WinnerAt (auctionBy c) (awarded rows totals) x
+  -- The winners cover: each minute of the tender, cell x, is in a winner's windows, or the house is among the winners.
+  pub winners-cover-all : (x : ℕ) → x < auctionBy c .cells → WinnerAt (auctionBy c) rows totals x
   winners-cover-all = outcome.all-served (c .kind) (c .tender) (c .count) (c .bids) (c .windows) (length (c .rows-before)) rows totals
       (rw told at (c .promise .answers))
 

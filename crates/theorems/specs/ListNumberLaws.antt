@@ -18,13 +18,12 @@ use Rattle.tender.specs.Refusals.{numberOf, placeOf}
 use Rattle.tender.specs.Keywords.{bytes}
 use Rattle.tender.specs.Tables.{Row, flatRows, flatWindows}
 use Rattle.cover.specs.Sets.{Found, nothing, found}
-use Rattle.cover.specs.Earliest.{cellWith}
 use Rattle.reader_word.specs.Words.{among}
 use Rattle.reader_text.specs.Read.{readText}
 use Rattle.reader_text.specs.Read as reading
 use Rattle.reader_text.specs.Rules.{Rules}
 use Rattle.reader_text.specs.RulesLaws.{rules-law}
-use Rattle.award_check.specs.Auction.{Auction, auctionOf}
+use Rattle.award_check.specs.Auction.{Auction, auctionOf, thinCell}
 use Rattle.award_check.specs.Faults.{faultOf}
 use Rattle.award_check.specs.TextLaws.{never-nine}
 use Rattle.award_plain.specs.Award.{rule, Outcome, awarded, refused, awardRows, totalsOf, uncovered, lone, thinned, awardOf}
@@ -73,8 +72,7 @@ refusal-begins n at = refl
 read-declined : (T : Tender) (R : List Row) (W : List Window) → Rules T R W → (r : Refusal) →
     awardOf (T .kind) T (length R) (flatRows R) (flatWindows W) (length R) ≡ refused r → (numberOf r ≡ 11) ⊎ (numberOf r ≡ 12)
 unfolding thinned uncovered lone
-read-declined T R W rules r e =
-    go (cellWith (A .has) (length R) (A .cells) 0) (cellWith (A .has) (length R) (A .cells) 1) refl refl
+read-declined T R W rules r e = go (thinCell A 0) (thinCell A 1) refl refl
   where
     A : Auction
     A = auctionOf T (length R) (flatRows R) (flatWindows W)
@@ -82,13 +80,12 @@ read-declined T R W rules r e =
     sound : faultOf (T .kind) T (length R) (flatRows R) (flatWindows W) ≡ none
     sound = rw (append-nil (flatRows R), append-nil (flatWindows W)) at (never-nine T R W [] [] rules)
 
-    settles : (x y : Found) → cellWith (A .has) (length R) (A .cells) 0 ≡ x → cellWith (A .has) (length R) (A .cells) 1 ≡ y
+    settles : (x y : Found) → thinCell A 0 ≡ x → thinCell A 1 ≡ y
         → refused r ≡ thinned (uncovered T) (lone T) x y (awarded (awardRows (rule (T .kind)) A) (totalsOf (rule (T .kind)) A))
     settles x y d f = sym e ∙ award-settles (T .kind) T (length R) (flatRows R) (flatWindows W) (length R) sound
         (le-ltb (length R) (length R) (omega arith)) x y d f
 
-    go : (x y : Found) → cellWith (A .has) (length R) (A .cells) 0 ≡ x → cellWith (A .has) (length R) (A .cells) 1 ≡ y
-        → (numberOf r ≡ 11) ⊎ (numberOf r ≡ 12)
+    go : (x y : Found) → thinCell A 0 ≡ x → thinCell A 1 ≡ y → (numberOf r ≡ 11) ⊎ (numberOf r ≡ 12)
     go (found x) y d f = let h = settles (found x) y d f in inl (cc)
     go nothing (found y) d f = let h = settles nothing (found y) d f in inr (cc)
     go nothing nothing d f = let h = settles nothing nothing d f in let z : _≡_ {A = ℕ} 0 1 = cc in absurd (omega arith)

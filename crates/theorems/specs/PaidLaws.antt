@@ -10,6 +10,8 @@ use lib.Dec.{eqb}
 use borrow.Author.Tests.{eq-eqb}
 use Rattle.tender.specs.declared.Kind.{Kind}
 use Rattle.tender.specs.declared.Window.{Window}
+use Rattle.tender.specs.declared.Reserve.{Reserve}
+use Rattle.tender.specs.declared.Reserve.the-variants.{Absent, Price}
 use Rattle.tender.specs.declared.Tender.{Tender}
 use Rattle.tender.specs.Tables.{Row, flatRows, flatWindows, bidWidth}
 use Rattle.cover.specs.Sets.{when, found, valueOf, bit, cells, cost}
@@ -20,8 +22,8 @@ use Rattle.cover.specs.Intervals.BidsLaws.{cost-most, sum-most}
 use Rattle.reader_word.specs.Words.{among}
 use Rattle.reader_text.specs.Rules.{RowsRules, Rules}
 use Rattle.award_check.specs.Cells.{noRow}
-use Rattle.award_check.specs.Auction.{Auction, auctionOf}
-use Rattle.award_check.specs.AuctionLaws.{minutes, entries, price-named}
+use Rattle.award_check.specs.Auction.{houses, Auction, auctionOf}
+use Rattle.award_check.specs.AuctionLaws.{minutes, entries, price-named, house-price, EntryAt, owner, house, past, entry-at}
 use Rattle.award_plain.specs.Award.{Rule, leastCost, greedy, coversIn, cents}
 
 -- payments
@@ -55,7 +57,7 @@ when-most : (t : Bool) (n : ℕ) → when t n ≤ n
 when-most true n = omega arith
 when-most false n = omega arith
 
-pub cents-small : (r : Rule) (A : Auction) (i : ℕ) → sum (A .prices) ≤ 100000000000 → A .cells ≤ 10080 → cents r A i < 10 ^ 20
+pub cents-small : (r : Rule) (A : Auction) (i : ℕ) → sum (A .prices) ≤ 100100000000 → A .cells ≤ 10080 → cents r A i < 10 ^ 20
 unfolding cents vcgPaid criticalPaid critical ceiling
 cents-small leastCost A i s l =
     let ps = A .prices in
@@ -75,13 +77,13 @@ cents-small greedy A i s l =
       most,
     )
   where
-    few : sum (set (A .prices) i 0) ≤ 100000000000
+    few : sum (set (A .prices) i 0) ≤ 100100000000
     few = omega (arith, sum-set (A .prices) i)
 
     short : length (cells (A .cells)) ≤ 10080
     short = omega (arith, cells-count (A .cells))
 
-    most : sum (set (A .prices) i 0) * length (cells (A .cells)) ≤ 100000000000 * 10080
+    most : sum (set (A .prices) i 0) * length (cells (A .cells)) ≤ 100100000000 * 10080
     most = mul-le-mul few short
 
 -- what was read
@@ -160,21 +162,32 @@ module _ (T : Tender) (R : List Row) (W : List Window) (rules : Rules T R W) whe
   pub bidder-small : (i : ℕ) → getD R i noRow .bidder < 10 ^ 20
   bidder-small i = omega (arith, bidders-low (T .kind) [] 0 R (length W) (rules .rows) i)
 
-  price-low : (i : ℕ) → i < length R → getD (auctionOf T (length R) (flatRows R) (flatWindows W) .prices) i 0 ≤ 100000000
-  price-low i l = omega (
-    arith,
-    price-named T (length R) (flatRows R) (flatWindows W) i l,
-    price-cell R i l,
-    prices-low (T .kind) [] 0 R (length W) (rules .rows) i,
-  )
+  price-low : (i : ℕ) → i < length (auctionOf T (length R) (flatRows R) (flatWindows W) .prices)
+      → getD (auctionOf T (length R) (flatRows R) (flatWindows W) .prices) i 0 ≤ 100000000
+  price-low i l = go (entry-at T (length R) i)
+    where
+      go : EntryAt T (length R) i → getD (auctionOf T (length R) (flatRows R) (flatWindows W) .prices) i 0 ≤ 100000000
+      go (owner m) = omega (
+        arith,
+        price-named T (length R) (flatRows R) (flatWindows W) i m,
+        price-cell R i m,
+        prices-low (T .kind) [] 0 R (length W) (rules .rows) i,
+      )
+      go (house p e q) = rw q (omega (arith, house-price T (length R) (flatRows R) (flatWindows W) p e, rules .tender .reserve p e))
+      go (past m) = absurd (omega (arith, entries T (length R) (flatRows R) (flatWindows W)))
 
-  pub prices-sum : sum (auctionOf T (length R) (flatRows R) (flatWindows W) .prices) ≤ 100000000000
+  one-house : (r : Reserve) → houses r ≤ 1
+  one-house Absent = omega arith
+  one-house (Price p) = omega arith
+
+  pub prices-sum : sum (auctionOf T (length R) (flatRows R) (flatWindows W) .prices) ≤ 100100000000
   prices-sum =
       let n = entries T (length R) (flatRows R) (flatWindows W) in
       omega (
         arith,
-        sum-most (auctionOf T (length R) (flatRows R) (flatWindows W) .prices) (λ i l. price-low i (omega arith)),
+        sum-most (auctionOf T (length R) (flatRows R) (flatWindows W) .prices) price-low,
         rules .few-bids,
+        one-house (T .reserve),
       )
 
   pub minutes-few : auctionOf T (length R) (flatRows R) (flatWindows W) .cells ≤ 10080

@@ -265,8 +265,8 @@ module _ (w : WriteCall) (c : AwardCall) (s : SameTables w c) (row : ℕ) where
           let q : p ≡ row = cc in
           faulty (sym same-fault ∙ f ∙ ap (λ (m : ℕ). some m) q)
       go (rows-too-few f l r) = let h = sym (r .outcome) ∙ e in let z : _≡_ {A = ℕ} 0 1 = cc in absurd (omega arith)
-      go (minute-uncovered m f l r) = let h = sym (r .outcome) ∙ e in let z : _≡_ {A = ℕ} 0 1 = cc in absurd (omega arith)
-      go (one-bidder m f b l r) = let h = sym (r .outcome) ∙ e in let z : _≡_ {A = ℕ} 0 1 = cc in absurd (omega arith)
+      go (minute-uncovered m f u l r) = let h = sym (r .outcome) ∙ e in let z : _≡_ {A = ℕ} 0 1 = cc in absurd (omega arith)
+      go (one-bidder m f u b l r) = let h = sym (r .outcome) ∙ e in let z : _≡_ {A = ℕ} 0 1 = cc in absurd (omega arith)
       go (award f b r) = let h = sym (r .outcome) ∙ e in let z : _≡_ {A = ℕ} 0 1 = cc in absurd (omega arith)
 
   pub nine-as-award : Exactly (w .answer ≡ writing.Refused (BadTables row)) (toldBy c ≡ outcome.refused (BadTables row))

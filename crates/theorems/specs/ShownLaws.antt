@@ -10,6 +10,8 @@ use lib.Dec.{eqb}
 use borrow.Author.Tests.{eq-eqb, eqb-true, eqb-false, ne-eqb}
 use Rattle.tender.specs.declared.Kind.{Kind}
 use Rattle.tender.specs.declared.Kind.the-variants.{Single, Multi}
+use Rattle.tender.specs.declared.Reserve.{Reserve}
+use Rattle.tender.specs.declared.Reserve.the-variants.{Absent, Price}
 use Rattle.tender.specs.declared.Tender.{Tender}
 use Rattle.tender.specs.declared.AwardRow.{AwardRow}
 use Rattle.tender.specs.declared.Totals.{Totals}
@@ -23,9 +25,9 @@ use Rattle.award_check.specs.Cells.{noRow}
 use Rattle.award_plain.specs.Award.{awarded}
 use Rattle.award.specs.Gain.{lost}
 use Rattle.spelling.specs.Decimal.{decimal}
-use Rattle.spelling.specs.Lines.{closing, numbers, pairLine, kindWord, refusedWord, refusedLine}
+use Rattle.spelling.specs.Lines.{closing, numbers, pairLine, oneLine, kindWord, refusedWord, refusedLine}
 use Rattle.spelling.specs.LineLaws.{refused-line}
-use Rattle.listing.specs.Lines.{awardWord, winWord, totalWord, awardLine}
+use Rattle.listing.specs.Lines.{awardWord, winWord, houseWord, totalWord, awardLine, houseLine, lastLines}
 use Rattle.listing.specs.List.{winList, listLines}
 use Rattle.spelling.specs.DecimalLaws.{decimal-back, decimal-plain}
 use Rattle.writer_back.specs.SpeltLaws.{same-is}
@@ -136,6 +138,22 @@ award-first k a b =
     ap (λ s. getD (cut 32 s) 0 []) (append-assoc (40 ∷ awardWord) (32 ∷ kindWord k) end)
     ∙ ap (λ ws. getD ws 0 []) (cut-end 32 (40 ∷ awardWord) (kindWord k ++ end) refl)
 
+-- a line (word a)
+
+oneBare : List ℕ → ℕ → List ℕ
+oneBare word a = (40 ∷ word) ++ 32 ∷ (decimal a ++ 41 ∷ [])
+
+one-cut : (word : List ℕ) (a : ℕ) (rest : List ℕ) → among 10 word ≡ false
+    → cut 10 (oneLine word a ++ rest) ≡ oneBare word a ∷ cut 10 rest
+unfolding oneLine closing bytes oneBare among
+one-cut word a rest h = ap (cut 10)
+    (ap (λ l. l ++ rest) (append-assoc (40 ∷ word) (32 ∷ decimal a) (41 ∷ 10 ∷ []))
+    ∙ ap (λ l. ((40 ∷ word) ++ 32 ∷ l) ++ rest) (sym (append-assoc (decimal a) (41 ∷ []) (10 ∷ [])))
+    ∙ ap (λ l. l ++ rest) (sym (append-assoc (40 ∷ word) (32 ∷ (decimal a ++ 41 ∷ [])) (10 ∷ [])))
+    ∙ append-assoc (oneBare word a) (10 ∷ []) rest)
+    ∙ cut-end 10 (oneBare word a) rest (plain-append 10 word (32 ∷ (decimal a ++ 41 ∷ [])) h
+    (plain-append 10 (decimal a) (41 ∷ []) (decimal-plain 10 a (omega arith)) refl))
+
 module _ (n : ℕ) (small : n < 10 ^ 20) where
   line-row : (word : List ℕ) (a b : ℕ) (rest : List ℕ) → among 10 word ≡ false →
       rowShown n (pairLine word a b ++ rest) ≡ rowOr (winOn n (cut 32 (bare word a b))) (rowShown n rest)
@@ -177,6 +195,15 @@ module _ (n : ℕ) (small : n < 10 ^ 20) where
   unfolding rowOr totalWord winWord bytes among sameBytes
   total-row a b rest = line-row totalWord a b rest refl
       ∙ ap (λ o. rowOr o (rowShown n rest)) (other-word (cut 32 (bare totalWord a b)) (rw (begins totalWord a b refl) refl))
+
+  -- the house's line
+  house-row : (r : Reserve) (w : Bool) (rest : List ℕ) → rowShown n (houseLine r w ++ rest) ≡ rowShown n rest
+  unfolding houseLine rowShown rowAmong rowOr oneBare houseWord winWord bytes among sameBytes
+  house-row Absent w rest = refl
+  house-row (Price p) false rest = refl
+  house-row (Price p) true rest = ap (rowAmong n) (one-cut houseWord p rest refl)
+      ∙ ap (λ o. rowOr o (rowShown n rest)) (other-word (cut 32 (oneBare houseWord p))
+      (ap (λ ws. sameBytes (getD ws 0 []) (40 ∷ winWord)) (cut-end 32 (40 ∷ houseWord) (decimal p ++ 41 ∷ []) refl)))
 
   refusal-row : (a b : ℕ) → rowShown n (pairLine refusedWord a b) ≡ lost
   unfolding rowOr refusedWord winWord bytes among sameBytes rowShown rowAmong cut winOn
@@ -267,16 +294,17 @@ pub row-shown : (t : Tender) (R : List Row) (rows : List AwardRow) (totals : Tot
     ((j : ℕ) → j < length R → (j ≡ i → ⊥) → getD R j noRow .bidder ≡ getD R i noRow .bidder → ⊥) →
     (getD rows i lost .won ≡ false → getD rows i lost .cents ≡ 0) →
     rowShown (getD R i noRow .bidder) (listLines t R (awarded rows totals)) ≡ getD rows i lost
-unfolding listLines rowShown rowAmong cut winOn sameBytes rowOr
+unfolding listLines lastLines rowShown rowAmong cut winOn sameBytes rowOr
 row-shown t R rows totals i l sizes d h =
     let n = getD R i noRow .bidder in
     let s = sizes i l .0 in
     let total = pairLine totalWord (totals .cost) (totals .paid) in
-    ap (rowShown n) (append-assoc (awardLine t) (winList R rows (length R)) total)
-    ∙ award-row n s t (winList R rows (length R) ++ total)
-    ∙ own n s R rows sizes (length R) i (omega arith) l refl d total
+    let last = houseLine (t .reserve) (totals .house) ++ total in
+    ap (rowShown n) (append-assoc (awardLine t) (winList R rows (length R)) last)
+    ∙ award-row n s t (winList R rows (length R) ++ last)
+    ∙ own n s R rows sizes (length R) i (omega arith) l refl d last
     ∙ ap (λ r. cond (getD rows i lost .won) (record { won = true; cents = getD rows i lost .cents }) r)
-    (ap (rowShown n) (sym (append-nil total)) ∙ total-row n s (totals .cost) (totals .paid) [])
+    (house-row n s (t .reserve) (totals .house) total ∙ ap (rowShown n) (sym (append-nil total)) ∙ total-row n s (totals .cost) (totals .paid) [])
     ∙ kept-row (getD rows i lost) h
 
 -- two such lines are the same only where their first numbers are

@@ -19,7 +19,7 @@ use Rattle.award_check.specs.TextLaws.{rows-end}
 use Rattle.spelling.specs.Decimal.{decimal}
 use Rattle.spelling.specs.DecimalLaws.{decimal-plain}
 use Rattle.spelling.specs.WordLaws.{spaced, ended, tenderWords, windowWords, bidWords}
-use Rattle.writer_back.specs.SpeltLaws.{spansOf, rowLine, spacedText, spelt-words}
+use Rattle.writer_back.specs.SpeltLaws.{spansOf, rowLine, spacedReserve, spacedText, spelt-words}
 use Rattle.theorems.specs.Between.{Variant}
 
 -- row i among the rows
@@ -88,11 +88,13 @@ number-word n = record { no-space = decimal-plain 32 n (omega arith); no-end = d
 
 -- the lines before a row's, its line and those after it
 around : (T : Tender) (W : List Window) (xs : List Row) (r : Row) (ys : List Row) → spacedText T (xs ++ r ∷ ys) W
-    ≡ ended (spaced (tenderWords T) ∷ map (rowLine W) xs) ++ (rowLine W r ++ 10 ∷ ended (map (rowLine W) ys))
+    ≡ ended (spaced (tenderWords T) ∷ (spacedReserve (T .reserve) ++ map (rowLine W) xs))
+    ++ (rowLine W r ++ 10 ∷ ended (map (rowLine W) ys))
 unfolding spacedText ended
 around T W xs r ys =
-    ap (λ x. ended (spaced (tenderWords T) ∷ x)) (map-parts (rowLine W) xs (r ∷ ys))
-    ∙ ended-parts (spaced (tenderWords T) ∷ map (rowLine W) xs) (rowLine W r ∷ map (rowLine W) ys)
+    ap (λ x. ended (spaced (tenderWords T) ∷ x)) (ap (λ x. spacedReserve (T .reserve) ++ x) (map-parts (rowLine W) xs (r ∷ ys))
+    ∙ sym (append-assoc (spacedReserve (T .reserve)) (map (rowLine W) xs) (map (rowLine W) (r ∷ ys))))
+    ∙ ended-parts (spaced (tenderWords T) ∷ (spacedReserve (T .reserve) ++ map (rowLine W) xs)) (rowLine W r ∷ map (rowLine W) ys)
 
 line-at : (W : List Window) (r : Row) (rest : List ℕ) → 1 ≤ length (spansOf W r) → rowLine W r ++ 10 ∷ rest
     ≡ bidLine (decimal (r .bidder)) (decimal (r .price)) (spaced (windowWords (spansOf W r)) ++ 10 ∷ rest)
@@ -110,7 +112,7 @@ parted : (text : List ℕ) (T : Tender) (xs : List Row) (r : Row) (ys : List Row
     → text ≡ spacedText T (xs ++ r ∷ ys) W
     → 1 ≤ length (spansOf W r) → Parted text r
 parted text T xs r ys W e s =
-    let b = ends (spaced (tenderWords T)) (map (rowLine W) xs) in
+    let b = ends (spaced (tenderWords T)) (spacedReserve (T .reserve) ++ map (rowLine W) xs) in
     let rest = ended (map (rowLine W) ys) in
     record {
       head = b .but-last;
