@@ -1,6 +1,7 @@
 -- What the demands say of a call, of two calls one after the other, and of two calls compared (paper 01, "Time, price and place").
 use mathlib.Core.Path.{_≡_}
 use mathlib.Core.Logic.{_⊎_}
+use mathlib.Core.Bool.{false}
 use mathlib.Core.List.{List, _++_, map}
 use Prim.Native.Nat.{ℕ, _+_, _-_, _*_, _≤_, _<_}
 use mathlib.Core.Option.{some}
@@ -9,14 +10,16 @@ use lib.Dec.{ltb}
 use Rattle.tender.specs.declared.Window.{Window}
 use Rattle.tender.specs.declared.Tender.{Tender}
 use Rattle.tender.specs.Limits.{maxPrice, maxText}
-use Rattle.tender.specs.Tables.{Row, flatWindows, bidWidth}
+use Rattle.tender.specs.Tables.{Row, rowsOf, flatWindows, bidWidth}
 use Rattle.cover.specs.Sets.{bidders}
+use Rattle.cover.specs.Earliest.{cellWith}
 use Rattle.reader_text.specs.Words.{numeralOf, priceOf}
 use Rattle.reader_text.specs.Read.{accepted, readText}
 use Rattle.reader.specs.declared.Reading.the-variants as answer
 use Rattle.reader_text.specs.Differ.{DifferInPrice}
 use Rattle.award_check.specs.Cells.{noRow}
-use Rattle.award_plain.specs.Award.{outcomeNumber}
+use Rattle.award_check.specs.Auction.{offered, offersOf, thinCell}
+use Rattle.award_plain.specs.Award.{Rule, totalsOf, outcomeNumber}
 use Rattle.award.specs.Right.{Callable}
 use Rattle.award.specs.Gain.{rowFor, gain, AtMost}
 use Rattle.spelling.specs.Decimal.{decimal}
@@ -44,6 +47,12 @@ ForCover c = (outcomeNumber (toldBy c) ≡ 11) ⊎ (outcomeNumber (toldBy c) ≡
 
 abbrev pub Exactly : Type 0 → Type 0 → Type 0
 Exactly A B = (A → B) × (B → A)
+
+-- the award as it is without a house: the bids alone are weighed, a thin cell is looked for, and no house is told
+pub record BidsAlone (c : AwardCall) : Type 0 where
+  pub offers : offersOf (c .tender) (c .count) (c .bids) (c .windows) ≡ map (offered (c .windows)) (rowsOf (c .count) (c .bids))
+  pub thin : (m : ℕ) → thinCell (auctionBy c) m ≡ cellWith (auctionBy c .has) (auctionBy c .owners) (auctionBy c .cells) m
+  pub no-house : (r : Rule) → totalsOf r (auctionBy c) .house ≡ false
 
 -- the bidder and the price of row i of its table of bids
 abbrev pub bidderAt : AwardCall → ℕ → ℕ

@@ -3,7 +3,7 @@
 use mathlib.Core.Path.{_≡_, sym, _∙_}
 use mathlib.Core.Logic.{_⊎_, inl, inr}
 use mathlib.Core.Bool.{true}
-use mathlib.Core.List.{List, map}
+use mathlib.Core.List.{List, _++_, map}
 use mathlib.Core.Option.{some}
 use Prim.Native.Nat.{ℕ, _+_, _/_, _^_, _≤_, _<_, min}
 use lib.ListN.{length, getD, take}
@@ -16,7 +16,7 @@ use Rattle.tender.specs.declared.Totals.{Totals}
 use Rattle.tender.specs.declared.Refusal.the-variants.{BadTables}
 use Rattle.tender.specs.Tables.{Row, rowsOf, flatRows, flatWindows, bidWidth, windowWidth}
 use Rattle.reader_word.specs.Words.{digits}
-use Rattle.reader_line.specs.Line.{headLines}
+use Rattle.reader_line.specs.Line.{BidLine, headLines}
 use Rattle.reader_line.specs.LinePlain.{allPlain}
 use Rattle.reader_text.specs.Read.{accepted, refused, readText, readInto}
 use Rattle.reader_text.specs.Rules.{bytesLike}
@@ -38,9 +38,11 @@ use Rattle.award.specs.Right.{Bidders, IsAward, OneAnswer, LeastCover, WinnerAt
 use Rattle.award.specs.OneAnswerLaws as one
 use Rattle.award.specs.OutcomeLaws as outcome
 use Rattle.spelling.specs.Decimal.{decimal}
-use Rattle.spelling.specs.Text.{textOf, bidIn}
+use Rattle.spelling.specs.Text.{tenderText, bidsText, textOf, bidIn}
 use Rattle.spelling.specs.DeliveredLaws.{same-shown}
 use Rattle.spelling.specs.Lines.{pairLine, refusedWord}
+use Rattle.listing.specs.Lines.{totalWord, awardLine}
+use Rattle.listing.specs.List.{winList, listLines}
 use Rattle.listing.specs.ListLaws as list
 use Rattle.writer.specs.declared.Writing.the-variants.{Written, Refused}
 use Rattle.writer_back.specs.Same.{Same, ReadBack}
@@ -48,7 +50,7 @@ use Rattle.theorems.specs.Calls.{ReadRun, ReadCall, AwardCall, auctionBy
 use Rattle.theorems.specs.Calls.{WriteCall, RewriteCall, rewritten}
 use Rattle.theorems.specs.OneReading.{OneReading, OfText, SameReading}
 use Rattle.theorems.specs.ListRead.{rowShown}
-use Rattle.theorems.specs.Between.{Exactly, CallableWith, FewerThan, ForCover, priceAt, WasRead, Variant, Follows, SameAward}
+use Rattle.theorems.specs.Between.{BidsAlone, Exactly, CallableWith, FewerThan, ForCover, priceAt, WasRead, Variant, Follows, SameAward}
 use Rattle.theorems.specs.Between.{NoGainBetween, OneList}
 use Rattle.theorems.specs.Between.{ListGiven, NoGainShown, Showable}
 use Rattle.theorems.specs.ReadingLaws as reading
@@ -58,6 +60,7 @@ use Rattle.theorems.specs.ReadAgainLaws.{read-again}
 use Rattle.theorems.specs.VariedLaws.{varied}
 use Rattle.theorems.specs.TextGainLaws.{no-gain-read}
 use Rattle.theorems.specs.CoverLaws as cover
+use Rattle.theorems.specs.UnreservedLaws.{bids-alone, no-house-line, no-reserve-line}
 use Rattle.theorems.specs.ListNumberLaws.{one-list, shows-no-other}
 use Rattle.theorems.specs.ListGainLaws.{list-shows, no-gain-shown}
 use Rattle.theorems.specs.Rewriting.{OneWriting, ReadAsWritten, SameTables}
@@ -241,6 +244,18 @@ pub never-paid-less : (c : AwardCall) (i : ℕ) → i < c .count → rowFor (tol
 unfolding named
 never-paid-less c i l = outcome.no-loss (c .kind) (c .tender) (c .count) i (c .bids) (c .windows) (length (c .rows-before)) (toldBy c) l
     (c .promise .answers)
+
+-- Paper 5 of 02. Tenders without a reserve keep their answers: the bids alone are weighed, and lists and texts have no line more.
+pub award-without-a-reserve : (c : AwardCall) → c .tender .reserve ≡ Absent → BidsAlone c
+award-without-a-reserve = bids-alone
+
+pub list-without-a-reserve : (t : Tender) (R : List Row) (rows : List AwardRow) (totals : Totals) → t .reserve ≡ Absent
+    → listLines t R (awarded rows totals)
+    ≡ awardLine t ++ winList R rows (length R) ++ pairLine totalWord (totals .cost) (totals .paid)
+list-without-a-reserve = no-house-line
+
+pub text-without-a-reserve : (t : Tender) (bs : List BidLine) → t .reserve ≡ Absent → textOf t bs ≡ tenderText t ++ bidsText bs
+text-without-a-reserve = no-reserve-line
 
 -- Paper 2 of 02. Bid lists in one spelling: each bid's windows joined where they overlap or touch, in rising order.
 

@@ -13,6 +13,7 @@ pub mod PaidLaws
 pub mod ShownLaws
 pub mod ListNumberLaws
 pub mod ListGainLaws
+pub mod UnreservedLaws
 pub mod WorkedLaws
 pub mod RewritingLaws
 pub mod Demands
