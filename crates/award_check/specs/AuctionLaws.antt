@@ -2,7 +2,7 @@
 -- price, or in what was read. Assumes nothing.
 use mathlib.Core.Path.{_≡_, refl, sym, ap, _∙_, fun-ext}
 use mathlib.Core.List.{List, [], _∷_, _++_, map, append-nil}
-use mathlib.Core.Bool.{Bool, true, false, _&&_, and-false}
+use mathlib.Core.Bool.{Bool, true, false, cond, _&&_, and-false}
 use mathlib.Core.Option.{none}
 use Prim.Native.Nat.{ℕ, zero, suc, _+_, _-_, _*_, _≤_, _<_}
 use native.Mathlib.Omega.{arith}
@@ -189,11 +189,13 @@ module _ (t : Tender) (n : ℕ) (bids windows : List ℕ) where
   pub thin-told : t .reserve ≡ Absent → (m : ℕ) → thinCell (auctionOf t n bids windows) m
       ≡ cellWith (auctionOf t n bids windows .has) n (cellsOf t) m
   unfolding thinCell
-  thin-told e m = rw (without-reserve e, owners-are, cells-are)
+  thin-told e m = ap (λ b. cond b nothing (cellWith (auctionOf t n bids windows .has) (auctionOf t n bids windows .owners)
+      (auctionOf t n bids windows .cells) m)) (without-reserve e) ∙ rw (owners-are, cells-are) refl
 
   pub none-thin : (p : ℕ) → t .reserve ≡ Price p → (m : ℕ) → thinCell (auctionOf t n bids windows) m ≡ nothing
   unfolding thinCell
-  none-thin p e m = rw (with-reserve p e)
+  none-thin p e m = ap (λ b. cond b nothing (cellWith (auctionOf t n bids windows .has) (auctionOf t n bids windows .owners)
+      (auctionOf t n bids windows .cells) m)) (with-reserve p e)
 
   -- the house has every cell
   house-whole : (p : ℕ) → t .reserve ≡ Price p → (x : ℕ) → x < auctionOf t n bids windows .cells
