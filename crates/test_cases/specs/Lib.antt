@@ -1,2 +1,3 @@
 pub mod FaultCases
+pub mod HouseCases
 pub mod ThinCases
