@@ -1,5 +1,7 @@
-// Runs `award::award_single` and `award::award_multi` over a lent slice of award rows, and writes what each call answers and
-// every row as the call leaves it. Before each call every row says won and 7 cents.
+// Runs `award::award_single` and `award::award_multi` over a lent slice of award rows, and writes what each call answers and every
+// row as the call leaves it. Before each call every row says won and 7 cents. Then runs `award::settle` on 1,000 bids, the most
+// there can be, with a reserve and without.
+mod many;
 mod rows;
 
 use reader::Reading;
@@ -7,9 +9,10 @@ use rows::Called;
 use tender::Answer;
 use tender::AwardRow;
 use tender::Kind;
+use tender::Reserve;
 use tender::Tender;
 
-// Writes the answer: awarded with cost and sum paid, or refused with number and place.
+// Writes the answer: awarded with cost, sum paid and whether the house won, or refused with number and place.
 fn tell_answer(answer: Answer) {
     match answer {
         Answer::Awarded(totals) => {
@@ -17,6 +20,11 @@ fn tell_answer(answer: Answer) {
             io::print_decimal(1, totals.cost);
             io::write_all(1, b" ");
             io::print_decimal(1, totals.paid);
+            if totals.house {
+                io::write_all(1, b" with the house");
+            } else {
+                io::write_all(1, b" without the house");
+            }
         }
         Answer::Refused(r) => {
             io::write_all(1, b"refused ");
@@ -99,6 +107,101 @@ fn multi_cases(tender: Tender, bids: &[u64], windows: &[u64]) {
     show_single(b"multi, put to the other award", tender, 4, bids, windows);
 }
 
+// The tender with this reserve.
+fn with_reserve(tender: Tender, price: u64) -> Tender {
+    let kind = tender.kind;
+    let window = tender.window;
+    let reserve = Reserve::Price(price);
+    Tender {
+        kind,
+        window,
+        reserve,
+    }
+}
+
+// The least cost of the bids is 7. The house wins below it, has no row, and stands in for bidders that a minute lacks.
+fn single_reserves(tender: Tender, bids: &[u64], windows: &[u64]) {
+    let seven = with_reserve(tender, 7);
+    let six = with_reserve(tender, 6);
+    let eight = with_reserve(tender, 8);
+    let dear = with_reserve(tender, 5000);
+    let longer = with_reserve(tender::plain(Kind::Single, 0, 10), 9);
+    show_single(b"single, reserve 7", seven, 5, bids, windows);
+    show_single(b"single, reserve 6", six, 5, bids, windows);
+    show_single(
+        b"single, minutes in one bid, reserve 8",
+        eight,
+        2,
+        bids,
+        windows,
+    );
+    show_single(
+        b"single, a minute in no bid, reserve 9",
+        longer,
+        5,
+        bids,
+        windows,
+    );
+    show_single(b"single, no bids, reserve 5000", dear, 0, bids, windows);
+    show_single(b"single, a row short, reserve 8", eight, 6, bids, windows);
+}
+
+// The first round takes a bid at 2 cents a minute, if the house asks no less for ten minutes.
+fn multi_reserves(tender: Tender, bids: &[u64], windows: &[u64]) {
+    let even = with_reserve(tender, 20);
+    let less = with_reserve(tender, 19);
+    let more = with_reserve(tender, 100);
+    let nothing = with_reserve(tender, 0);
+    let longer = with_reserve(tender::plain(Kind::Multi, 0, 11), 40);
+    show_multi(b"multi, reserve 20", even, 4, bids, windows);
+    show_multi(b"multi, reserve 19", less, 4, bids, windows);
+    show_multi(b"multi, one bid, reserve 100", more, 1, bids, windows);
+    show_multi(
+        b"multi, a minute in no bid, reserve 40",
+        longer,
+        4,
+        bids,
+        windows,
+    );
+    show_multi(b"multi, no bids, reserve 0", nothing, 0, bids, windows);
+    show_multi(b"multi, a row short, reserve 20", even, 6, bids, windows);
+}
+
+// Row 1 has a fault. A reserve above its limit is one of the tender.
+fn reserve_limits(tender: Tender, bids: &[u64], windows: &[u64]) {
+    let most = with_reserve(tender, 100000000);
+    let above = with_reserve(tender, 100000001);
+    show_single(b"single, bidder 0 in row 1", tender, 5, bids, windows);
+    show_single(
+        b"single, reserve 100000000 before it",
+        most,
+        5,
+        bids,
+        windows,
+    );
+    show_single(
+        b"single, reserve 100000001 before it",
+        above,
+        5,
+        bids,
+        windows,
+    );
+    show_single(
+        b"single, no bids, reserve 100000000",
+        most,
+        0,
+        bids,
+        windows,
+    );
+    show_single(
+        b"single, no bids, reserve 100000001",
+        above,
+        0,
+        bids,
+        windows,
+    );
+}
+
 // Six bids of one window each, of which five have a row.
 fn singles() {
     let mut bids = [0u64; 24];
@@ -114,6 +217,7 @@ fn singles() {
         windows: _,
     } = reading {
         single_cases(tender, &bids, &windows);
+        single_reserves(tender, &bids, &windows);
         bids[9] = 100000001;
         show_single(
             b"single, a price above the limit in row 3",
@@ -122,6 +226,8 @@ fn singles() {
             &bids,
             &windows,
         );
+        bids[0] = 0;
+        reserve_limits(tender, &bids, &windows);
     }
 }
 
@@ -141,6 +247,7 @@ fn multis() {
         windows: _,
     } = reading {
         multi_cases(tender, &bids, &windows);
+        multi_reserves(tender, &bids, &windows);
         bids[6] = 3;
         show_multi(
             b"multi, a window skipped in row 2",
@@ -155,4 +262,5 @@ fn multis() {
 fn main() {
     singles();
     multis();
+    many::cases();
 }
