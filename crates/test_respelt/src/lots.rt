@@ -1,6 +1,7 @@
 // Tables as one value: written, and read from a text.
 use reader::Reading;
 use tender::Kind;
+use tender::Reserve;
 use tender::Tender;
 use writer::Writing;
 
@@ -18,6 +19,17 @@ pub(crate) fn tender_of(several: bool, start: u64, end: u64) -> Tender {
         return tender::plain(Kind::Multi, start, end);
     }
     tender::plain(Kind::Single, start, end)
+}
+
+// The tender with this reserve in place of its own.
+pub(crate) fn with_reserve(tender: Tender, reserve: Reserve) -> Tender {
+    let kind = tender.kind;
+    let window = tender.window;
+    Tender {
+        kind,
+        window,
+        reserve,
+    }
 }
 
 // The tables that are read from the text; where it is refused, of a tender that no call takes.

@@ -1,10 +1,12 @@
-// Reads bid texts and writes them in one spelling, near misses that can be read by eye; lends buffers that are short, exact and longer;
-// writes tables of great length and tables with a fault; and writes random tables and reads them again. Says what was written or
-// refused, and of the random tables how many answers disagree.
+// Reads bid texts and writes them in one spelling, near misses that can be read by eye; lends buffers that are short, exact and
+// longer; writes tables of great length and tables with a fault; and writes random tables, half of them with a reserve, and reads
+// them again. Says what was written or refused, and of the random tables how many answers disagree.
 mod lots;
 mod show;
 mod tables;
 mod trials;
+
+use tender::Reserve;
 
 // Windows that touch, stand a minute apart, overlap, lie inside others, and hold the week.
 fn joined() {
@@ -54,11 +56,27 @@ fn reserves() {
     );
 }
 
-// A text of 38 bytes.
+// Beside a reserve: two texts that differ in the order of windows, and two of which one has a bid of all the minutes in its place.
+fn reserve_pairs() {
+    show::pair(
+        b"(tender multi 0 10)\n(reserve 7)\n(bid 11 30 (0 5) (6 9))\n",
+        b"(tender multi 0 10)\n(reserve 7)\n(bid 11 30 (6 9) (0 5))\n",
+    );
+    show::pair(
+        b"(tender multi 0 10)\n(reserve 7)\n(bid 11 30 (0 5))\n",
+        b"(tender multi 0 10)\n(bid 11 30 (0 5))\n(bid 1 7 (0 10))\n",
+    );
+}
+
+// A text of 38 bytes, and one of 53 with a reserve.
 fn lent_buffers() {
-    show::lend(b"a buffer one byte short", &mut [7u8; 37]);
-    show::lend(b"a buffer of 38 bytes", &mut [7u8; 38]);
-    show::lend(b"a buffer of 60 bytes", &mut [7u8; 60]);
+    let plain = b"(tender multi 0 10)\n(bid 11 30 (5 9) (0 5))\n";
+    show::lend(b"a buffer one byte short", plain, &mut [7u8; 37]);
+    show::lend(b"a buffer of 38 bytes", plain, &mut [7u8; 38]);
+    show::lend(b"a buffer of 60 bytes", plain, &mut [7u8; 60]);
+    let reserved = b"(tender multi 0 10)\n(reserve 5000)\n(bid 11 30 (5 9) (0 5))\n";
+    show::lend(b"with a reserve, one byte short", reserved, &mut [7u8; 52]);
+    show::lend(b"with a reserve, 53 bytes", reserved, &mut [7u8; 53]);
 }
 
 // 9 comes before 14.
@@ -74,21 +92,55 @@ fn faults() {
         11,
     );
     show::nowhere(b"no buffer, more bids stated than lent", multi, 3, 11);
+    let most = lots::with_reserve(multi, Reserve::Price(100000000));
+    let dear = lots::with_reserve(multi, Reserve::Price(100000001));
+    show::nowhere(b"no buffer, a reserve at the limit", most, 2, 11);
+    show::nowhere(b"no buffer, bidder 0 in row 2 beside it", most, 2, 0);
+    show::nowhere(b"no buffer, a reserve above the limit", dear, 2, 11);
+    show::nowhere(b"no buffer, bidder 0 in row 2 beside that", dear, 2, 0);
 }
 
-// In the last two a bid of 42 bytes and its price comes after 139 of 471 bytes.
+// The last bid of a text of 65536 bytes has 42 bytes and its price, after 139 of 471 bytes; with a reserve it has 28 bytes and its
+// price, and the reserve's line has 11 bytes and the price.
 fn long_texts() {
     let mut buf = [7u8; 65600];
-    show::long(b"1000 bids of 471 bytes", 1000, 100000000, 32, &mut buf);
+    let none = Reserve::Absent;
+    let three = Reserve::Price(999);
+    let four = Reserve::Price(1000);
+    show::long(
+        b"1000 bids of 471 bytes",
+        none,
+        1000,
+        100000000,
+        32,
+        &mut buf,
+    );
     show::long(
         b"1000 bids, the last with a price above the limit",
+        none,
         1000,
         100000001,
         32,
         &mut buf,
     );
-    show::long(b"a text of 65537 bytes", 140, 100000, 2, &mut buf);
-    show::long(b"a text of 65536 bytes", 140, 10000, 2, &mut buf);
+    show::long(b"a text of 65537 bytes", none, 140, 100000, 2, &mut buf);
+    show::long(
+        b"a text of 65537 bytes with a reserve",
+        four,
+        140,
+        10000,
+        1,
+        &mut buf,
+    );
+    show::long(b"a text of 65536 bytes", none, 140, 10000, 2, &mut buf);
+    show::long(
+        b"a text of 65536 bytes with a reserve",
+        three,
+        140,
+        10000,
+        1,
+        &mut buf,
+    );
 }
 
 fn main() {
@@ -96,6 +148,7 @@ fn main() {
     kept();
     pairs();
     reserves();
+    reserve_pairs();
     lent_buffers();
     faults();
     long_texts();

@@ -2,6 +2,7 @@
 use crate::lots;
 use crate::tables;
 use crate::tables::Table;
+use tender::Reserve;
 use tender::Tender;
 use writer::Writing;
 
@@ -84,18 +85,23 @@ fn tell_bytes(label: &[u8], answer: Writing, buf: &[u8]) {
     }
 }
 
-// Writes a text of 38 bytes into this buffer, whose bytes are all 7, and tells it.
-pub(crate) fn lend(label: &[u8], buf: &mut [u8]) {
-    let answer = lots::written(
-        lots::read(b"(tender multi 0 10)\n(bid 11 30 (5 9) (0 5))\n"),
-        buf,
-    );
+// Writes the text in one spelling into this buffer, whose bytes are all 7, and tells it.
+pub(crate) fn lend(label: &[u8], given: &[u8], buf: &mut [u8]) {
+    let answer = lots::written(lots::read(given), buf);
     tell_bytes(label, answer, buf);
 }
 
-// Writes a tender of 20 bytes and so many bids of 471 bytes each, but the last with this price and so many windows, into a buffer whose
-// bytes are 7.
-pub(crate) fn long(label: &[u8], count: usize, price: u64, windows: u64, buf: &mut [u8]) {
+// Writes a tender of 20 bytes with this reserve and so many bids of 471 bytes each, but the last with this price and so many
+// windows, into a buffer whose bytes are 7.
+pub(crate) fn long(
+    label: &[u8],
+    reserve: Reserve,
+    count: usize,
+    price: u64,
+    windows: u64,
+    buf: &mut [u8],
+) {
+    let tender = lots::with_reserve(lots::tender_of(true, 0, 10), reserve);
     let mut bids = [0u64; tender::BID_TABLE];
     let mut rows = [0u64; 64000];
     tables::fill(
@@ -108,7 +114,7 @@ pub(crate) fn long(label: &[u8], count: usize, price: u64, windows: u64, buf: &m
         0,
     );
     tables::fill(&mut rows, Table::FarWindows, 0);
-    let answer = writer::write(lots::tender_of(true, 0, 10), count, &bids, &rows, buf);
+    let answer = writer::write(tender, count, &bids, &rows, buf);
     tell_bytes(label, answer, buf);
 }
 

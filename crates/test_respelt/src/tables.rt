@@ -46,7 +46,7 @@ fn power(exponent: u64) -> u64
 }
 
 // A price of one to nine digits, at times a power of ten.
-fn price_of(state: u64) -> u64 {
+pub(crate) fn price_of(state: u64) -> u64 {
     let most = power(state % 9);
     if state / 16 % 8 == 0 {
         return most;

@@ -1,10 +1,12 @@
-// Random tables written, read again and compared minute by minute; and tables that differ in one minute or in nothing.
+// Random tables written, read again and compared minute by minute; and tables that differ in one minute, in the reserve or in
+// nothing.
 use crate::lots;
 use crate::lots::Lot;
 use crate::show;
 use crate::tables;
 use crate::tables::Table;
 use tender::Kind;
+use tender::Reserve;
 
 // Sums wrap; they are small.
 fn plus(a: u64, b: u64) -> u64 {
@@ -92,6 +94,14 @@ fn compare(bids: &[u64], windows: &[u64], others: &[u64], spans: &[u64], n: u64)
     }
 }
 
+// In half of the tenders none; a price of one to nine digits.
+fn reserve_of(state: u64) -> Reserve {
+    if state / 4 % 2 == 0 {
+        return Reserve::Absent;
+    }
+    Reserve::Price(tables::price_of(state / 8))
+}
+
 // Random tables of up to 12 bids.
 fn draw(seed: u64, several: bool) -> Lot {
     let mut bids = [0u64; 48];
@@ -101,8 +111,10 @@ fn draw(seed: u64, several: bool) -> Lot {
     tables::fill(&mut windows, Table::SomeWindows, tables::next(seed));
     let start = seed / 256 % 5040;
     let count = seed / 64 % 13;
+    let tender = lots::tender_of(several, start, start + 1 + seed / 65536 % 5040);
+    let reserve = reserve_of(tables::next(seed));
     Lot {
-        tender: lots::tender_of(several, start, start + 1 + seed / 65536 % 5040),
+        tender: lots::with_reserve(tender, reserve),
         count: count as usize,
         rows: count << (doubled % 4),
         bids,
@@ -136,6 +148,28 @@ fn is_multi(kind: Kind) -> bool {
     }
 }
 
+// 0 for none, and one more than the price for a price.
+fn as_number(reserve: Reserve) -> u64 {
+    match reserve {
+        Reserve::Absent => 0,
+        Reserve::Price(price) => plus(price, 1),
+    }
+}
+
+fn has_reserve(lot: Lot) -> bool {
+    let tender = lot.tender;
+    let reserve = tender.reserve;
+    as_number(reserve) != 0
+}
+
+fn same_reserve(a: Lot, b: Lot) -> bool {
+    let tender = a.tender;
+    let other = b.tender;
+    let reserve = tender.reserve;
+    let other_reserve = other.reserve;
+    as_number(reserve) == as_number(other_reserve)
+}
+
 fn same_tender(a: Lot, b: Lot) -> bool {
     let tender = a.tender;
     let other = b.tender;
@@ -144,15 +178,44 @@ fn same_tender(a: Lot, b: Lot) -> bool {
     is_multi(kind) == is_multi(other_kind)
         && tender.window.start == other.window.start
         && tender.window.end == other.window.end
+        && same_reserve(a, b)
+}
+
+// The reserve as it is, a cent dearer, none, or 0.
+fn near_reserve(reserve: Reserve, seed: u64) -> Reserve {
+    match seed / 4096 % 4 {
+        0 => reserve,
+        1 => Reserve::Price(as_number(reserve)),
+        2 => Reserve::Absent,
+        _ => Reserve::Price(0),
+    }
+}
+
+// The tables with the same reserve or another; with one above the limit they are refused.
+fn other_reserve(lot: Lot, seed: u64) -> Lot {
+    let tender = lot.tender;
+    let reserve = tender.reserve;
+    let bids = lot.bids;
+    let windows = lot.windows;
+    Lot {
+        tender: lots::with_reserve(tender, near_reserve(reserve, seed)),
+        count: lot.count,
+        rows: lot.rows,
+        bids,
+        windows,
+    }
 }
 
 // What was tried, and how many answers disagree.
 struct Tried {
+    reserves: u64,
     minutes: u64,
     windows: u64,
     runs: u64,
     equal: u64,
     unequal: u64,
+    kept: u64,
+    moved: u64,
     wrong: u64,
 }
 
@@ -166,6 +229,9 @@ fn reads_back(t: Tried, lot: Lot, text: &[u8]) -> Tried {
     n.minutes = plus(n.minutes, c.minutes);
     n.windows = plus(n.windows, lot.rows);
     n.runs = plus(n.runs, back.rows);
+    if has_reserve(lot) {
+        n.reserves = plus(n.reserves, 1);
+    }
     let same = lot.count == back.count
         && same_tender(lot, back)
         && c.apart == 0
@@ -176,42 +242,94 @@ fn reads_back(t: Tried, lot: Lot, text: &[u8]) -> Tried {
     n
 }
 
-// Whether tables with the same tender and count, where they are not refused, have the same text just where they agree.
-fn beside(t: Tried, lot: Lot, near: Lot, text: &[u8]) -> Tried {
-    let mut n = t;
+// Tables written beside a text: refused, or with the same bytes, or with others.
+enum Beside {
+    Refused,
+    Same,
+    Other,
+}
+
+fn written_beside(near: Lot, text: &[u8]) -> Beside {
     let mut other = [0u8; 2000];
     let m = show::length_of(lots::written(near, &mut other));
     if m == 0 {
-        return n;
+        return Beside::Refused;
     }
-    let equal = check::same(text, show::head(&other, m));
-    if equal {
-        n.equal = plus(n.equal, 1);
-    } else {
-        n.unequal = plus(n.unequal, 1);
+    if check::same(text, show::head(&other, m)) {
+        return Beside::Same;
     }
-    if equal != (lots_compared(lot, near).apart == 0) {
-        n.wrong = plus(n.wrong, 1);
+    Beside::Other
+}
+
+// Whether tables with a minute changed, where they are not refused, have the same text just where they agree.
+fn minute_changed(t: Tried, lot: Lot, near: Lot, text: &[u8]) -> Tried {
+    let mut n = t;
+    let agree = lots_compared(lot, near).apart == 0;
+    match written_beside(near, text) {
+        Beside::Refused => {}
+        Beside::Same => {
+            n.equal = plus(n.equal, 1);
+            if !agree {
+                n.wrong = plus(n.wrong, 1);
+            }
+        }
+        Beside::Other => {
+            n.unequal = plus(n.unequal, 1);
+            if agree {
+                n.wrong = plus(n.wrong, 1);
+            }
+        }
     }
     n
+}
+
+// Whether tables with the reserve or another, where they are not refused, have the same text just where it is the same.
+fn reserve_changed(t: Tried, lot: Lot, near: Lot, text: &[u8]) -> Tried {
+    let mut n = t;
+    let agree = same_reserve(lot, near);
+    match written_beside(near, text) {
+        Beside::Refused => {}
+        Beside::Same => {
+            n.kept = plus(n.kept, 1);
+            if !agree {
+                n.wrong = plus(n.wrong, 1);
+            }
+        }
+        Beside::Other => {
+            n.moved = plus(n.moved, 1);
+            if agree {
+                n.wrong = plus(n.wrong, 1);
+            }
+        }
+    }
+    n
+}
+
+// The text of the tables read back, and set beside the texts of tables near them.
+fn text_tried(t: Tried, lot: Lot, seed: u64, text: &[u8]) -> Tried {
+    let once = reads_back(t, lot, text);
+    let twice = minute_changed(once, lot, changed(lot, seed), text);
+    reserve_changed(twice, lot, other_reserve(lot, seed), text)
 }
 
 fn trial(t: Tried, seed: u64, several: bool) -> Tried {
     let mut text = [0u8; 2000];
     let lot = draw(seed, several);
     let n = show::length_of(lots::written(lot, &mut text));
-    let once = reads_back(t, lot, show::head(&text, n));
-    beside(once, lot, changed(lot, seed), show::head(&text, n))
+    text_tried(t, lot, seed, show::head(&text, n))
 }
 
 // So many random tables, of either kind by turns.
 fn all(n: u64) -> Tried {
     let mut t = Tried {
+        reserves: 0,
         minutes: 0,
         windows: 0,
         runs: 0,
         equal: 0,
         unequal: 0,
+        kept: 0,
+        moved: 0,
         wrong: 0,
     };
     let mut state: u64 = 20261116;
@@ -234,11 +352,14 @@ fn say(word: &[u8], n: u64) {
 pub(crate) fn told(n: u64) {
     let t = all(n);
     say(b"random tables written and read again ", n);
+    say(b"with a reserve ", t.reserves);
     say(b"bids ", t.minutes / 10080);
     say(b"minutes compared ", t.minutes);
     say(b"windows drawn ", t.windows);
     say(b"windows written ", t.runs);
     say(b"changed tables with the same bytes ", t.equal);
     say(b"changed tables with other bytes ", t.unequal);
+    say(b"reserves kept, the same bytes ", t.kept);
+    say(b"reserves changed, other bytes ", t.moved);
     say(b"disagreements ", t.wrong);
 }
