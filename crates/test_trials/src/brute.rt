@@ -1,4 +1,5 @@
-// Another implementation of both awards, for up to seven bids: every set of bids, every price. Sums wrap; they are small.
+// Another implementation of both awards, for up to seven entries: every set of them, every price. The house is the entry after the
+// bids, and has every cell. Sums wrap; they are small.
 
 // The bits of the cells from 0 up to length.
 pub(crate) fn all_cells(length: u64) -> u64 {

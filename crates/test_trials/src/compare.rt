@@ -6,15 +6,22 @@ use crate::rules;
 use tender::Answer;
 use tender::Kind;
 use tender::Refusal;
+use tender::Reserve;
 use tender::Tender;
 use tender::Totals;
+use tender::Window;
 
-// What was tried, and how many answers disagree.
+// What was tried by kind; how many tenders had a reserve, in how many awards the house is booked, and owners are paid beside it; how
+// many false prices were named; and how many answers disagree.
 pub(crate) struct Tried {
     pub(crate) single_awarded: u64,
     pub(crate) single_declined: u64,
     pub(crate) multi_awarded: u64,
     pub(crate) multi_declined: u64,
+    pub(crate) reserved: u64,
+    pub(crate) booked: u64,
+    pub(crate) beside: u64,
+    pub(crate) prices: u64,
     pub(crate) wrong: u64,
 }
 
@@ -32,10 +39,19 @@ fn plus_one(n: u64) -> u64 {
 // What is lent in the cells of the rows, to see which of them are written.
 const OLD: u64 = 77;
 
-// The other implementation's answer: the set of winners and what each bid is paid.
+// The other implementation's answer: the set of winners, with the house among the entries, and what each bid is paid.
 struct Right {
     winners: u64,
     paid: [u64; 7],
+}
+
+// Whether the entry i is a bid, and in the set; the house is paid nothing.
+fn owner_in(lot: Lot, set: u64, i: usize) -> bool {
+    i < lot.count && brute::within(set, i)
+}
+
+fn house_in(lot: Lot, set: u64) -> bool {
+    lot.reserved && brute::within(set, lot.count)
 }
 
 fn right_single(lot: Lot, cells: u64) -> Right {
@@ -46,7 +62,7 @@ fn right_single(lot: Lot, cells: u64) -> Right {
     let mut paid = [0u64; 7];
     let mut i: usize = 0;
     while i < 7 {
-        if brute::within(winners, i) {
+        if owner_in(lot, winners, i) {
             let others = brute::cost_of(prices, brute::least_cover(masks, prices, cells, i));
             paid[i] = std::num::wrapping_sub_u64(
                 std::num::wrapping_add_u64(others, prices[i]),
@@ -58,7 +74,7 @@ fn right_single(lot: Lot, cells: u64) -> Right {
     Right { winners, paid }
 }
 
-// No bid can ask more than 15 for each of 12 cells, and win against others that cover.
+// No bid can ask more than 15 for each of 12 cells, and win against others that cover, nor more than the house for all of them.
 fn right_multi(lot: Lot, cells: u64) -> Right {
     let masks = lot.masks;
     let prices = lot.prices;
@@ -66,7 +82,7 @@ fn right_multi(lot: Lot, cells: u64) -> Right {
     let mut paid = [0u64; 7];
     let mut i: usize = 0;
     while i < 7 {
-        if brute::within(winners, i) {
+        if owner_in(lot, winners, i) {
             paid[i] = brute::largest_price(masks, prices, cells, i, 200);
         }
         i += 1;
@@ -115,10 +131,25 @@ fn minute_of(lot: Lot, x: u64) -> u64 {
     random::minute(std::num::wrapping_add_u64(lot.start, x), lot.width)
 }
 
+fn reserve_of(lot: Lot) -> Reserve {
+    if lot.reserved {
+        return Reserve::Price(lot.reserve);
+    }
+    Reserve::Absent
+}
+
 fn tender_of(lot: Lot, several: bool) -> Tender {
-    let start = minute_of(lot, 0);
-    let end = minute_of(lot, lot.length);
-    tender::plain(kind_of(several), start, end)
+    let kind = kind_of(several);
+    let window = Window {
+        start: minute_of(lot, 0),
+        end: minute_of(lot, lot.length),
+    };
+    let reserve = reserve_of(lot);
+    Tender {
+        kind,
+        window,
+        reserve,
+    }
 }
 
 fn kind_of(several: bool) -> Kind {
@@ -135,12 +166,20 @@ fn sum_of(paid: [u64; 7]) -> u64 {
     sum
 }
 
-// Whether an award is the right one.
-fn award_right(lot: Lot, several: bool, totals: Totals, won: [u64; 9], cents: [u64; 9]) -> bool {
+// Whether a cell has fewer than two bidders; with a reserve it is not asked.
+fn thin(lot: Lot) -> bool {
     let masks = lot.masks;
+    if lot.reserved {
+        return false;
+    }
+    brute::cell_with(masks, lot.length, 0) < 16 || brute::cell_with(masks, lot.length, 1) < 16
+}
+
+// Whether an award is the right one. Its cost has the house in it, the sum paid has not.
+fn award_right(lot: Lot, several: bool, totals: Totals, won: [u64; 9], cents: [u64; 9]) -> bool {
     let prices = lot.prices;
     let cells = brute::all_cells(lot.length);
-    if brute::cell_with(masks, lot.length, 0) < 16 || brute::cell_with(masks, lot.length, 1) < 16 {
+    if thin(lot) {
         return false;
     }
     let right = if several {
@@ -153,15 +192,19 @@ fn award_right(lot: Lot, several: bool, totals: Totals, won: [u64; 9], cents: [u
     if totals.cost != brute::cost_of(prices, winners) || totals.paid != sum_of(paid) {
         return false;
     }
+    if totals.house != house_in(lot, winners) {
+        return false;
+    }
     rows_right(right, lot.count, won, cents)
 }
 
-// Whether a refusal is the right one: 11 at the first minute in no bid, or 12, where there is none, at the first in one bid.
+// Whether a refusal is the right one: 11 at the first minute in no bid, or 12, where there is none, at the first in one bid; with a
+// reserve neither.
 fn refusal_right(lot: Lot, refusal: Refusal, won: [u64; 9], cents: [u64; 9]) -> bool {
     let masks = lot.masks;
     let uncovered = brute::cell_with(masks, lot.length, 0);
     let lone = brute::cell_with(masks, lot.length, 1);
-    if !untouched(won, cents) {
+    if lot.reserved || !untouched(won, cents) {
         return false;
     }
     match refusal {
@@ -175,9 +218,11 @@ fn refusal_right(lot: Lot, refusal: Refusal, won: [u64; 9], cents: [u64; 9]) -> 
     }
 }
 
-// One tender, tried: how it ended, and whether rightly.
+// One tender, tried: how it ended, with the house booked or not and owners paid beside it or not, and whether rightly.
 struct Trial {
     awarded: bool,
+    booked: bool,
+    beside: bool,
     right: bool,
 }
 
@@ -200,19 +245,89 @@ fn try_award(lot: Lot, several: bool) -> Trial {
     match answer {
         Answer::Awarded(totals) => Trial {
             awarded: true,
+            booked: totals.house,
+            beside: totals.house && 0 < totals.paid,
             right: award_right(lot, several, totals, won, cents),
         },
         Answer::Refused(r) => Trial {
             awarded: false,
+            booked: false,
+            beside: false,
             right: refusal_right(lot, r, won, cents),
         },
     }
+}
+
+// What the owner of bid i is left with where the bid names this price: the payment, or, where it does not win, the true cost, which
+// is the price in the lot.
+fn left_with(lot: Lot, several: bool, i: usize, price: u64) -> u64 {
+    let mut bids = lot.bids;
+    let windows = lot.windows;
+    let costs = lot.prices;
+    let mut won = [0u64; 9];
+    let mut cents = [0u64; 9];
+    if 6 < i {
+        return 0;
+    }
+    bids[4 * i + 1] = price;
+    award::settle(
+        kind_of(several),
+        tender_of(lot, several),
+        lot.count,
+        &bids,
+        &windows,
+        &mut won,
+        &mut cents,
+    );
+    if won[i] == 1 { cents[i] } else { costs[i] }
+}
+
+// The prices that are named in place of the true cost: from 0 up to this one.
+const FALSE_PRICES: u64 = 50;
+
+// How many of them leave the owner of bid i with more than the true cost does, and one more where that leaves less than the cost.
+fn gains(lot: Lot, several: bool, i: usize) -> u64 {
+    let costs = lot.prices;
+    if 6 < i {
+        return 0;
+    }
+    let cost = costs[i];
+    let honest = left_with(lot, several, i, cost);
+    let mut n: u64 = if honest < cost { 1 } else { 0 };
+    let mut price: u64 = 0;
+    while price < FALSE_PRICES {
+        if honest < left_with(lot, several, i, price) {
+            n = plus_one(n);
+        }
+        price += 1;
+    }
+    n
+}
+
+// Every bid of the tender, tried with each of these prices.
+fn with_prices(t: Tried, lot: Lot, several: bool) -> Tried {
+    let mut n = t;
+    let mut i: usize = 0;
+    while i < 7 {
+        if i < lot.count {
+            n.prices = std::num::wrapping_add_u64(n.prices, FALSE_PRICES);
+            n.wrong = std::num::wrapping_add_u64(n.wrong, gains(lot, several, i));
+        }
+        i += 1;
+    }
+    n
 }
 
 fn counted(t: Tried, several: bool, trial: Trial) -> Tried {
     let mut n = t;
     if !trial.right {
         n.wrong = plus_one(n.wrong);
+    }
+    if trial.booked {
+        n.booked = plus_one(n.booked);
+    }
+    if trial.beside {
+        n.beside = plus_one(n.beside);
     }
     if several {
         if trial.awarded {
@@ -230,6 +345,18 @@ fn counted(t: Tried, several: bool, trial: Trial) -> Tried {
     n
 }
 
+// One tender, tried; one of 127 with false prices too.
+fn tried_one(t: Tried, lot: Lot, several: bool, i: u64) -> Tried {
+    let mut n = counted(t, several, try_award(lot, several));
+    if lot.reserved {
+        n.reserved = plus_one(n.reserved);
+    }
+    if i % 127 == 0 {
+        return with_prices(n, lot, several);
+    }
+    n
+}
+
 // Both awards on so many random tenders each.
 pub(crate) fn awards(n: u64) -> Tried {
     let mut t = Tried {
@@ -237,15 +364,19 @@ pub(crate) fn awards(n: u64) -> Tried {
         single_declined: 0,
         multi_awarded: 0,
         multi_declined: 0,
+        reserved: 0,
+        booked: 0,
+        beside: 0,
+        prices: 0,
         wrong: 0,
     };
     let mut state: u64 = 20261115;
     let mut i: u64 = 0;
     while i < n {
         let one = random::draw(state, false, i);
-        t = counted(t, false, try_award(one, false));
+        t = tried_one(t, one, false, i);
         let several = random::draw(one.state, true, i);
-        t = counted(t, true, try_award(several, true));
+        t = tried_one(t, several, true, i);
         state = several.state;
         i += 1;
     }
@@ -254,7 +385,7 @@ pub(crate) fn awards(n: u64) -> Tried {
 
 // A number that a rule of some cell refuses or just takes.
 fn odd(state: u64) -> u64 {
-    let k = random::below(state, 10);
+    let k = random::below(state, 11);
     match k {
         0 => 0,
         1 => 1,
@@ -264,22 +395,30 @@ fn odd(state: u64) -> u64 {
         5 => 10081,
         6 => 999999,
         7 => 1000000,
-        8 => 100000001,
+        8 => 100000000,
+        9 => 100000001,
         _ => 18446744073709551615,
     }
 }
 
-// The lot with one cell of a table set to an odd number.
+// The lot with one cell of a table, or the reserve, set to an odd number.
 fn broken(lot: Lot, state: u64) -> Lot {
     let mut l = lot;
     let s = random::next(state);
     let v = odd(random::next(s));
-    if s % 2 == 0 {
-        let i = (s / 4 % 28) as usize;
-        l.bids[i] = v;
-    } else {
-        let i = (s / 4 % 42) as usize;
-        l.windows[i] = v;
+    match s % 5 {
+        0 => {
+            l.reserved = true;
+            l.reserve = v;
+        }
+        1 | 2 => {
+            let i = (s / 8 % 28) as usize;
+            l.bids[i] = v;
+        }
+        _ => {
+            let i = (s / 8 % 42) as usize;
+            l.windows[i] = v;
+        }
     }
     l
 }
@@ -341,21 +480,13 @@ fn judged(
     let mut n = f;
     let s = random::next(seed);
     let s2 = random::next(s);
-    let window = tender.window;
     let count = (std::num::wrapping_add_u64(stated as u64, random::below(s, 5) / 4) % 16) as usize;
     let rows = part(9, random::next(s2));
     let some_bids = head(bids, part(28, s));
     let some_windows = head(windows, part(42, s2));
     let mut won = [OLD; 9];
     let mut cents = [OLD; 9];
-    let place = rules::fault(
-        !several,
-        window.start,
-        window.end,
-        count,
-        some_bids,
-        some_windows,
-    );
+    let place = rules::fault(!several, tender, count, some_bids, some_windows);
     let answer = settle_part(
         kind_of(several),
         tender,
@@ -383,6 +514,9 @@ fn judged(
                     n.wrong = plus_one(n.wrong);
                 }
                 return n;
+            }
+            if rules::has_reserve(tender) {
+                n.wrong = plus_one(n.wrong);
             }
         }
         Answer::Awarded(_) => {}

@@ -1,7 +1,8 @@
-// Tries both awards on random tenders of few bids under a fixed seed, against another implementation (`brute`) that tries every
-// set of bids and every price: over up to 11 cells, each a minute in every other tender, 6 to 60 minutes in most of the others, and
-// more, up to a whole week of ten cells, in a few. And the check of the tables on tables with a fault in them, against another
-// check (`rules`). Writes what was tried by kind, and last how many answers disagree.
+// Tries both awards on random tenders of few bids under a fixed seed, half of them with a reserve, against another implementation
+// (`brute`) that tries every set of entries and every price: over up to 11 cells, each a minute in every other tender, 6 to 60
+// minutes in most of the others, and more, up to a whole week of ten cells, in a few. In some of them each owner names false
+// prices too, of which none may gain. And the check of the tables on tables with a fault in them, against another check (`rules`).
+// Writes what was tried by kind, and last how many answers disagree.
 mod brute;
 mod compare;
 mod random;
@@ -21,6 +22,10 @@ fn main() {
     say(b"single declined ", t.single_declined);
     say(b"multi awarded ", t.multi_awarded);
     say(b"multi declined ", t.multi_declined);
+    say(b"with a reserve ", t.reserved);
+    say(b"house booked ", t.booked);
+    say(b"house booked beside paid owners ", t.beside);
+    say(b"false prices ", t.prices);
     let f = compare::faults(6000);
     say(b"tables sound ", f.sound);
     say(b"tables faulty ", f.faulty);

@@ -19,13 +19,16 @@ pub(crate) fn below(state: u64, n: u64) -> u64
     (state >> 11) % n
 }
 
-// A tender of up to seven bids over up to 11 cells of `width` minutes each, in the two tables, with the cells of each bid as
-// bits. The answer is that of cells of a minute: every reach is multiplied by the width.
+// A tender of up to seven entries, its bids and the house, over up to 11 cells of `width` minutes each: in the two tables and the
+// reserve, and with the price of each entry and its cells as bits. The answer is that of cells of a minute: every reach is
+// multiplied by the width.
 pub(crate) struct Lot {
     pub(crate) state: u64,
     pub(crate) width: u64,
     pub(crate) start: u64,
     pub(crate) length: u64,
+    pub(crate) reserved: bool,
+    pub(crate) reserve: u64,
     pub(crate) count: usize,
     pub(crate) rows: usize,
     pub(crate) bids: [u64; 28],
@@ -144,18 +147,52 @@ fn with_bid(lot: Lot, i: usize, several: bool) -> Lot {
     with_window(two, i)
 }
 
-// Tender i of a series; tender 0 has cells of a minute.
+// What the house asks: little, as much as a bid may, or as several bids may together.
+fn reserve_of(state: u64) -> u64 {
+    match state % 4 {
+        0 => below(state, 4),
+        1 => below(state, 16),
+        _ => below(state, 48),
+    }
+}
+
+// Three to seven bids, or none to six beside the house.
+fn count_of(reserved: bool, state: u64) -> usize {
+    if reserved {
+        below(state, 7) as usize
+    } else {
+        (3 + below(state, 5)) as usize
+    }
+}
+
+// The house, where there is a reserve: one entry more, after the bids, that has every cell.
+fn with_house(lot: Lot) -> Lot {
+    let n = lot.count;
+    if !lot.reserved || 6 < n {
+        return lot;
+    }
+    let mut l = lot;
+    l.prices[n] = l.reserve;
+    l.masks[n] = brute::all_cells(l.length);
+    l
+}
+
+// Tender i of a series; tender 0 has cells of a minute. Half of the tenders have a reserve.
 pub(crate) fn draw(seed: u64, several: bool, i: u64) -> Lot {
     let s1 = next(seed);
     let s2 = next(s1);
     let s3 = next(s2);
+    let s4 = next(s3);
     let width = width_of(i, s3);
-    let count = (3 + below(s3, 5)) as usize;
+    let reserved = s4 / 4 % 2 == 0;
+    let count = count_of(reserved, s3);
     let mut lot = Lot {
-        state: s3,
+        state: s4,
         width,
         start: start_of(width, s1),
         length: length_of(width, s2),
+        reserved,
+        reserve: reserve_of(s4),
         count,
         rows: 0,
         bids: [0; 28],
@@ -170,5 +207,5 @@ pub(crate) fn draw(seed: u64, several: bool, i: u64) -> Lot {
         }
         j += 1;
     }
-    lot
+    with_house(lot)
 }

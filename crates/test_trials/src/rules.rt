@@ -1,4 +1,6 @@
 // Another check of the tables: the place of refusal 9.
+use tender::Reserve;
+use tender::Tender;
 ghost use Prim.Native.Nat.{_≤_};
 
 // Said where no rule is broken.
@@ -67,15 +69,35 @@ fn row_right(single: bool, bids: &[u64], j: usize, first: u64, windows: &[u64]) 
     windows_right(windows, first, count)
 }
 
+pub(crate) fn has_reserve(tender: Tender) -> bool {
+    let reserve = tender.reserve;
+    match reserve {
+        Reserve::Absent => false,
+        Reserve::Price(_) => true,
+    }
+}
+
+// Whether the tender keeps the limits of its window and of its reserve.
+fn tender_right(tender: Tender) -> bool {
+    let window = tender.window;
+    let reserve = tender.reserve;
+    if window.end <= window.start || 10080 < window.end {
+        return false;
+    }
+    match reserve {
+        Reserve::Absent => true,
+        Reserve::Price(price) => price <= 100000000,
+    }
+}
+
 pub(crate) fn fault(
     single: bool,
-    start: u64,
-    end: u64,
+    tender: Tender,
     count: usize,
     bids: &[u64],
     windows: &[u64],
 ) -> u64 {
-    if end <= start || 10080 < end || bids.len() / 4 < count {
+    if !tender_right(tender) || bids.len() / 4 < count {
         return 0;
     }
     let stop = lesser(count as u64, 1001) as usize;

@@ -5,8 +5,7 @@ use Rattle.test_trials.proofs.compare.awards.Statement.{statement}
 use Rattle.test_trials.proofs.compare.awards.Tie as tie
 use Rattle.test_trials.proofs.compare.awards.Reads as reads
 use Rattle.test_trials.proofs.compare.awards.Lts as lts
-use Rattle.test_trials.proofs.compare.counted.Reads as counted-reads
-use Rattle.test_trials.proofs.compare.try_award.Reads as try-award-reads
+use Rattle.test_trials.proofs.compare.tried_one.Reads as tried-one-reads
 use Rattle.test_trials.proofs.random.draw.Reads as draw-reads
 
 abbrev Inv-loop : tie.InvT-loop
@@ -21,20 +20,14 @@ loop-holds c = search needs
 draw-requires : tie.Need-draw-requires Inv-loop μ-loop
 draw-requires c κs = search needs
 
-try-award-requires : tie.Need-try-award-requires Inv-loop μ-loop
-try-award-requires c κs = search needs
-
-counted-requires : tie.Need-counted-requires Inv-loop μ-loop
-counted-requires c κs = search needs
+tried-one-requires : tie.Need-tried-one-requires Inv-loop μ-loop
+tried-one-requires c κs = search needs
 
 draw-requires-2 : tie.Need-draw-requires-2 Inv-loop μ-loop
 draw-requires-2 c κs = search needs
 
-try-award-requires-2 : tie.Need-try-award-requires-2 Inv-loop μ-loop
-try-award-requires-2 c κs = search needs
-
-counted-requires-2 : tie.Need-counted-requires-2 Inv-loop μ-loop
-counted-requires-2 c κs = search needs
+tried-one-requires-2 : tie.Need-tried-one-requires-2 Inv-loop μ-loop
+tried-one-requires-2 c κs = search needs
 
 add-i : tie.Need-add-i Inv-loop μ-loop
 add-i c = search needs
@@ -56,11 +49,9 @@ awards-spec =
     μ-loop
     loop-holds
     draw-requires
-    try-award-requires
-    counted-requires
+    tried-one-requires
     draw-requires-2
-    try-award-requires-2
-    counted-requires-2
+    tried-one-requires-2
     add-i
     loop-less
     loop-again

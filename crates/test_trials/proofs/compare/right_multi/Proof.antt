@@ -7,13 +7,13 @@ use Rattle.test_trials.proofs.compare.right_multi.Reads as reads
 use Rattle.test_trials.proofs.compare.right_multi.Lts as lts
 use Rattle.test_trials.proofs.brute.greedy.Reads as greedy-reads
 use Rattle.test_trials.proofs.brute.largest_price.Reads as largest-price-reads
-use Rattle.test_trials.proofs.brute.within.Reads as within-reads
+use Rattle.test_trials.proofs.compare.owner_in.Reads as owner-in-reads
 
 abbrev Inv-loop : tie.InvT-loop
-Inv-loop cells masks prices winners paid₀ i₀ paid i = (i ≤ 7)
+Inv-loop lot cells masks prices winners paid₀ i₀ paid i = (i ≤ 7)
 
 abbrev μ-loop : tie.MeasureT-loop
-μ-loop cells masks prices winners paid₀ i₀ paid i = 7 - i
+μ-loop lot cells masks prices winners paid₀ i₀ paid i = 7 - i
 
 greedy-requires : tie.Need-greedy-requires Inv-loop μ-loop
 greedy-requires c κs = search needs
@@ -21,8 +21,8 @@ greedy-requires c κs = search needs
 loop-holds : tie.Need-loop-holds Inv-loop μ-loop
 loop-holds c = search needs
 
-within-requires : tie.Need-within-requires Inv-loop μ-loop
-within-requires c κs = search needs
+owner-in-requires : tie.Need-owner-in-requires Inv-loop μ-loop
+owner-in-requires c κs = search needs
 
 largest-price-requires : tie.Need-largest-price-requires Inv-loop μ-loop
 largest-price-requires c κs = search needs
@@ -53,7 +53,7 @@ right-multi-spec =
     μ-loop
     greedy-requires
     loop-holds
-    within-requires
+    owner-in-requires
     largest-price-requires
     mul-paid
     array-write-paid

@@ -9,13 +9,13 @@ use Rattle.std.proofs.num.wrapping_add_u64.Reads as wrapping-add-u64-reads
 use Rattle.std.proofs.num.wrapping_sub_u64.Reads as wrapping-sub-u64-reads
 use Rattle.test_trials.proofs.brute.cost_of.Reads as cost-of-reads
 use Rattle.test_trials.proofs.brute.least_cover.Reads as least-cover-reads
-use Rattle.test_trials.proofs.brute.within.Reads as within-reads
+use Rattle.test_trials.proofs.compare.owner_in.Reads as owner-in-reads
 
 abbrev Inv-loop : tie.InvT-loop
-Inv-loop cells masks prices winners cost paid₀ i₀ paid i = (i ≤ 7)
+Inv-loop lot cells masks prices winners cost paid₀ i₀ paid i = (i ≤ 7)
 
 abbrev μ-loop : tie.MeasureT-loop
-μ-loop cells masks prices winners cost paid₀ i₀ paid i = 7 - i
+μ-loop lot cells masks prices winners cost paid₀ i₀ paid i = 7 - i
 
 least-cover-requires : tie.Need-least-cover-requires Inv-loop μ-loop
 least-cover-requires c κs = search needs
@@ -26,8 +26,8 @@ cost-of-requires c κs = search needs
 loop-holds : tie.Need-loop-holds Inv-loop μ-loop
 loop-holds c = search needs
 
-within-requires : tie.Need-within-requires Inv-loop μ-loop
-within-requires c κs = search needs
+owner-in-requires : tie.Need-owner-in-requires Inv-loop μ-loop
+owner-in-requires c κs = search needs
 
 least-cover-requires-2 : tie.Need-least-cover-requires-2 Inv-loop μ-loop
 least-cover-requires-2 c κs = search needs
@@ -74,7 +74,7 @@ right-single-spec =
     least-cover-requires
     cost-of-requires
     loop-holds
-    within-requires
+    owner-in-requires
     least-cover-requires-2
     cost-of-requires-2
     mul-wrapping-add-u64

@@ -9,12 +9,16 @@ use Rattle.std.proofs.num.wrapping_add_u64.Reads as wrapping-add-u64-reads
 use Rattle.test_trials.proofs.rules.at.Reads as at-reads
 use Rattle.test_trials.proofs.rules.lesser.Reads as lesser-reads
 use Rattle.test_trials.proofs.rules.row_right.Reads as row-right-reads
+use Rattle.test_trials.proofs.rules.tender_right.Reads as tender-right-reads
 
 abbrev Inv-loop : tie.InvT-loop
-Inv-loop single start end count bids windows stop first₀ j₀ first j = (j ≤ 1001)
+Inv-loop single count bids windows stop first₀ j₀ first j = (j ≤ 1001)
 
 abbrev μ-loop : tie.MeasureT-loop
-μ-loop single start end count bids windows stop first₀ j₀ first j = 1001 - j
+μ-loop single count bids windows stop first₀ j₀ first j = 1001 - j
+
+tender-right-requires : tie.Need-tender-right-requires Inv-loop μ-loop
+tender-right-requires c κs = search needs
 
 returns : tie.Need-returns Inv-loop μ-loop
 returns c = search needs
@@ -64,6 +68,7 @@ fault-spec =
     (tie.spec
     Inv-loop
     μ-loop
+    tender-right-requires
     returns
     lesser-requires
     loop-holds
