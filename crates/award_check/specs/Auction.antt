@@ -9,6 +9,7 @@ use Rattle.tender.specs.declared.Window.{Window}
 use Rattle.tender.specs.declared.Reserve.{Reserve}
 use Rattle.tender.specs.declared.Reserve.the-variants.{Absent, Price}
 use Rattle.tender.specs.declared.Tender.{Tender}
+use Rattle.tender.specs.Limits.{asWindow}
 use Rattle.tender.specs.Tables.{Row, rowsOf, own}
 use Rattle.cover.specs.Sets.{Found, nothing}
 use Rattle.cover.specs.Earliest.{cellWith}
@@ -35,7 +36,7 @@ houses (Price p) = 1
 -- the house covers the whole tender for its price
 unfoldable pub houseOf : Tender → Reserve → List Offer
 houseOf t Absent = []
-houseOf t (Price p) = record { price = p; windows = t .window ∷ [] } ∷ []
+houseOf t (Price p) = record { price = p; windows = asWindow (t .window) ∷ [] } ∷ []
 
 -- the n bids of the tables, in entry order, and after all others the house
 unfoldable pub offersOf : Tender → ℕ → List ℕ → List ℕ → List Offer

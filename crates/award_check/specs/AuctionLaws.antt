@@ -15,6 +15,7 @@ use Rattle.tender.specs.declared.Window.{Window}
 use Rattle.tender.specs.declared.Reserve.{Reserve}
 use Rattle.tender.specs.declared.Reserve.the-variants.{Absent, Price}
 use Rattle.tender.specs.declared.Tender.{Tender}
+use Rattle.tender.specs.Limits.{asWindow}
 use Rattle.tender.specs.Tables.{Row, rowsOf, windowsOf, own, flatRows, flatWindows, bidWidth, windowWidth}
 use Rattle.cover.specs.Sets.{nothing}
 use Rattle.cover.specs.Earliest.{cellWith}
@@ -152,11 +153,11 @@ module _ (t : Tender) (n : ℕ) (bids windows : List ℕ) where
   house-has p x e = has-by n x
       ∙ ap (λ ws. ltb x (cellsOf t) && holds ws (minuteOf t x))
       (ap (λ r. getD (map (own windows) (rowsOf n bids) ++ map (λ o. o .windows) (houseOf t r)) n []) e
-      ∙ ap (λ (j : ℕ). getD (map (own windows) (rowsOf n bids) ++ (t .window ∷ []) ∷ []) j []) (sym owner-count)
-      ∙ getD-append-seam (map (own windows) (rowsOf n bids)) (t .window ∷ []) [] [])
+      ∙ ap (λ (j : ℕ). getD (map (own windows) (rowsOf n bids) ++ (asWindow (t .window) ∷ []) ∷ []) j []) (sym owner-count)
+      ∙ getD-append-seam (map (own windows) (rowsOf n bids)) (asWindow (t .window) ∷ []) [] [])
       ∙ whole (ltb x (cellsOf t)) refl
     where
-      whole : (b : Bool) → ltb x (cellsOf t) ≡ b → (b && holds (t .window ∷ []) (minuteOf t x)) ≡ b
+      whole : (b : Bool) → ltb x (cellsOf t) ≡ b → (b && holds (asWindow (t .window) ∷ []) (minuteOf t x)) ≡ b
       whole true u = rw (le-leb (t .window .start) (t .window .start + x) (omega arith),
           lt-ltb (t .window .start + x) (t .window .end) (omega (arith, ltb-true x (t .window .end - t .window .start) u)))
       whole false u = refl

@@ -24,8 +24,8 @@ use rows::copy;
 use tender::Kind;
 use tender::Refusal;
 use tender::Reserve;
+use tender::Span;
 use tender::Tender;
-use tender::Window;
 
 // The words of a set of a million bidder numbers.
 const NUMBER_WORDS: usize = 15625;
@@ -36,7 +36,7 @@ pub(crate) enum Head {
 }
 
 // The tender that the lines of a head give.
-fn tender_with(kind: Kind, window: Window, reserve: Reserve) -> Tender
+fn tender_with(kind: Kind, window: Span, reserve: Reserve) -> Tender
     ensures { λ r. ⌜ r ≡ tenderWith (record { kind = kind; window = window }) reserve ⌝ }
 {
     Tender {
@@ -78,7 +78,7 @@ fn reserve_in(
     at: usize,
     line: u64,
     kind: Kind,
-    window: Window,
+    window: Span,
     windows: &mut [u64],
 ) -> Head
     requires { ⌜ (at ≤ length (now text)) × (line ≤ 65536) ⌝ }

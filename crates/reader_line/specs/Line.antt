@@ -5,6 +5,7 @@ use mathlib.Core.Bool.{cond}
 use mathlib.Core.Option.{Option, none, some}
 use Rattle.tender.specs.declared.Kind.{Kind}
 use Rattle.tender.specs.declared.Kind.the-variants.{Single, Multi}
+use Rattle.tender.specs.declared.Span.{Span}
 use Rattle.tender.specs.declared.Window.{Window}
 use Rattle.tender.specs.declared.Reserve.{Reserve}
 use Rattle.tender.specs.declared.Reserve.the-variants.{Absent, Price}
@@ -15,7 +16,7 @@ use Rattle.reader_word.specs.Windows.{spanOf, windowOf}
 
 pub record TenderLine : Type 0 where
   pub kind : Kind
-  pub window : Window
+  pub window : Span
 
 pub record BidLine : Type 0 where
   pub bidder : ℕ

@@ -11,6 +11,7 @@ use borrow.Author.Tests.{eqb-true}
 use Rattle.tender.specs.Keywords.{bidWord, multiWord, reserveWord, singleWord, tenderWord}
 use Rattle.tender.specs.declared.Kind.{Kind}
 use Rattle.tender.specs.declared.Kind.the-variants.{Single, Multi}
+use Rattle.tender.specs.declared.Span.{Span}
 use Rattle.tender.specs.declared.Window.{Window}
 use Rattle.tender.specs.Limits.{within}
 use Rattle.reader_word.specs.Words.{andThen, growFirst, cut, sameBytes, opened, closed, digits, leadingZero, numeralOf, priceOf}
@@ -106,7 +107,7 @@ closed-plain (b ∷ c ∷ w) r e h =
     let z = both-true (plain b) (allPlain (t .0)) y in
     both (plain b) (allPlain (c ∷ w)) (z .0) (closed-plain (c ∷ w) (t .0) (t .1) (z .1))
 
-span-plain : (s e : List ℕ) (w : Window) → spanOf s e ≡ some w → (allPlain s ≡ true) × (allPlain e ≡ true)
+span-plain : (s e : List ℕ) (w : Span) → spanOf s e ≡ some w → (allPlain s ≡ true) × (allPlain e ≡ true)
 unfolding spanOf
 span-plain s e w h =
     let a = then-some (numeralOf s) _ w h in
@@ -118,7 +119,8 @@ unfolding windowOf
 window-plain s e w h =
     let a = then-some (opened s) _ w h in
     let z = then-some (closed e) _ w (a .2) in
-    let p = span-plain (a .0) (z .0) w (z .2) in
+    let n = then-some (spanOf (a .0) (z .0)) _ w (z .2) in
+    let p = span-plain (a .0) (z .0) (n .0) (n .1) in
     (opened-plain s (a .0) (a .1) (p .0), closed-plain e (z .0) (z .1) (p .1))
 
 windows-plain : (ws : List (List ℕ)) (l : List Window) → windowsIn ws ≡ some l → PlainPieces ws

@@ -10,6 +10,7 @@ use lib.Seq.{getD-drop}
 use borrow.Author.Tests.{eq-eqb, ne-eqb}
 use Rattle.tender.specs.declared.Kind.{Kind}
 use Rattle.tender.specs.declared.Kind.the-variants.{Single, Multi}
+use Rattle.tender.specs.declared.Span.{Span}
 use Rattle.tender.specs.declared.Window.{Window}
 use Rattle.tender.specs.Keywords.{tenderWord, bidWord, reserveWord, singleWord, multiWord}
 use Rattle.reader_word.specs.Words.{andThen, cut, sameBytes, closed, numeralOf, priceOf}
@@ -118,7 +119,7 @@ module _ (line : List ℕ) (at k s e : ℕ) (l : at ≤ length line) (q : at + t
         unfolding tenderOf andThen
         tender-unspan g = rw (three j) (rw (gy, gz, g))
 
-        pub tender-whole : (w : Window) → spanOf (part line (k + 1) s) z ≡ some w
+        pub tender-whole : (w : Span) → spanOf (part line (k + 1) s) z ≡ some w
             → tenderOf (cut 32 (drop at line)) ≡ some (tender (record { kind = y; window = w }))
         unfolding tenderOf andThen
         tender-whole w g = rw (three j) (rw (gy, gz, g))

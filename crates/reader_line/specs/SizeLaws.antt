@@ -60,8 +60,9 @@ unfolding windowOf spanOf
 window-long s e w h =
     let a = then-some (opened s) _ w h in
     let z = then-some (closed e) _ w (a .2) in
-    let n = then-some (numeralOf (a .0)) _ w (z .2) in
-    let m = then-some (numeralOf (z .0)) _ w (n .2) in (
+    let v = then-some (spanOf (a .0) (z .0)) _ w (z .2) in
+    let n = then-some (numeralOf (a .0)) _ (v .0) (v .1) in
+    let m = then-some (numeralOf (z .0)) _ (v .0) (n .2) in (
       omega (arith, opened-long s (a .0) (a .1), numeral-long (a .0) (n .0) (n .1)),
       omega (arith, closed-long e (z .0) (z .1), numeral-long (z .0) (m .0) (m .1)),
     )

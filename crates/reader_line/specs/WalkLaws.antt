@@ -6,6 +6,7 @@ use mathlib.Core.Option.{Option, none, some}
 use native.Mathlib.Omega.{arith}
 use lib.ListN.{length, take, drop, drop-of-length-le, length-drop}
 use Rattle.reader_word.specs.Words.{andThen, cut, closed}
+use Rattle.tender.specs.declared.Span.{Span}
 use Rattle.tender.specs.declared.Window.{Window}
 use Rattle.reader_word.specs.Windows.{windowOf}
 use Rattle.reader_line.specs.Line.{windowsIn}
@@ -13,8 +14,8 @@ use Rattle.reader_word.specs.ScanLaws.{cut-at, cut-at-end}
 use Rattle.reader_word.specs.Scan.{toNext}
 use Rattle.reader_line.specs.Tally.{tallied}
 use Rattle.reader_word.specs.declared.windows.Flaw.{Flaw}
-use Rattle.reader_word.specs.declared.windows.Span.the-variants.{Of, Wrong}
-use Rattle.reader_word.specs.Answer.{asSpan, lastOf}
+use Rattle.reader_word.specs.declared.windows.Ends.the-variants.{Of, Wrong}
+use Rattle.reader_word.specs.Answer.{spanEnds, windowEnds, lastOf}
 
 pub tally-end : (line : List ℕ) (i m n : ℕ) (flaw : Flaw) (table : List ℕ) → length line ≤ i
     → tallied m n flaw table (windowsIn (cut 32 (drop i line))) ≡ none
@@ -28,11 +29,19 @@ rest-part line k f e = go (drop k line) (f - k) (rw (length-drop k line, e))
     go [] m h = rw h
     go (b ∷ l) m h = rw h (ap (λ r. b ∷ r) (go l (length l) refl))
 
-pub is-of : (o : Option Window) (a z : ℕ) → asSpan o ≡ Of a z → o ≡ some (record { start = a; end = z })
+pub span-is-of : (o : Option Span) (a z : ℕ) → spanEnds o ≡ Of a z → o ≡ some (record { start = a; end = z })
+span-is-of none a z e = let q : _≡_ {A = ℕ} 0 1 = cc in absurd (omega arith)
+span-is-of (some s) a z e = let h : s .start ≡ a = cc in let k : s .end ≡ z = cc in rw (← h, ← k)
+
+pub span-is-wrong : (o : Option Span) → spanEnds o ≡ Wrong → o ≡ none
+span-is-wrong none e = refl
+span-is-wrong (some s) e = let q : _≡_ {A = ℕ} 0 1 = cc in absurd (omega arith)
+
+pub is-of : (o : Option Window) (a z : ℕ) → windowEnds o ≡ Of a z → o ≡ some (record { start = a; end = z })
 is-of none a z e = let q : _≡_ {A = ℕ} 0 1 = cc in absurd (omega arith)
 is-of (some w) a z e = let h : w .start ≡ a = cc in let k : w .end ≡ z = cc in rw (← h, ← k)
 
-pub is-wrong : (o : Option Window) → asSpan o ≡ Wrong → o ≡ none
+pub is-wrong : (o : Option Window) → windowEnds o ≡ Wrong → o ≡ none
 is-wrong none e = refl
 is-wrong (some w) e = let q : _≡_ {A = ℕ} 0 1 = cc in absurd (omega arith)
 

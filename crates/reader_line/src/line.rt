@@ -9,8 +9,8 @@ ghost use Rattle.reader_line.specs.Line.{kindOf, windowsIn, tenderOf, bi
 ghost use Rattle.reader_line.specs.Tally.{putWindow, tallied, noted};
 ghost use Rattle.reader_word.specs.declared.windows.Flaw.the-variants.{Sound};
 ghost use Rattle.reader_line.specs.Answer.{asKind, toldTally, toldLine};
+use reader_word::windows::Ends;
 use reader_word::windows::Flaw;
-use reader_word::windows::Span;
 use reader_word::windows::read_last;
 use reader_word::windows::read_span;
 use reader_word::windows::read_window;
@@ -21,7 +21,7 @@ use reader_word::words::read_number;
 use reader_word::words::read_price;
 use reader_word::words::same;
 use tender::Kind;
-use tender::Window;
+use tender::Span;
 
 // The window in row m, where the table has that row.
 fn put_window(windows: &mut [u64], m: usize, a: u64, z: u64)
@@ -58,23 +58,23 @@ fn read_windows(line: &[u8], at: usize, windows: &mut [u64], m: usize) -> Tally
         let f = next(line, e + 1, b' ');
         if f < line.len() {
             match read_window(&line[i..e], &line[e + 1..f]) {
-                Span::Of(a, z) => {
+                Ends::Of(a, z) => {
                     put_window(windows, m + n, a, z);
                     flaw = worse(flaw, a, z);
                     n += 1;
                     i = f + 1;
                 }
-                Span::Wrong => {
+                Ends::Wrong => {
                     return Tally::Broken;
                 }
             }
         } else {
             match read_last(&line[i..e], &line[e + 1..f]) {
-                Span::Of(a, z) => {
+                Ends::Of(a, z) => {
                     put_window(windows, m + n, a, z);
                     return Tally::Windows(n + 1, worse(flaw, a, z));
                 }
-                Span::Wrong => {
+                Ends::Wrong => {
                     return Tally::Broken;
                 }
             }
@@ -103,7 +103,7 @@ fn read_kind(w: &[u8]) -> KindWord
 
 // A line as it stands, with what is judged of a bid: bidder, price, how many windows, and what is wrong with them.
 pub enum Line {
-    Tender(Kind, Window),
+    Tender(Kind, Span),
     Bid(u64, u64, usize, Flaw),
     Reserve(u64),
     Broken,
@@ -136,10 +136,10 @@ fn read_tender(line: &[u8], at: usize) -> Line
     let KindWord::Of(kind) = read_kind(&line[at..k]) else {
         return Line::Broken;
     };
-    let Span::Of(start, end) = read_span(&line[k + 1..s], &line[s + 1..e - 1]) else {
+    let Ends::Of(start, end) = read_span(&line[k + 1..s], &line[s + 1..e - 1]) else {
         return Line::Broken;
     };
-    Line::Tender(kind, Window { start, end })
+    Line::Tender(kind, Span { start, end })
 }
 
 // A bid's line from the word after "(bid" on: bidder, price and the windows, which are put into the rows from m on.

@@ -23,8 +23,7 @@ row n p f c = record { bidder = n; price = p; first = f; count = c }
 
 -- a single tender from 0 to 100 with a reserve
 reserved : ℕ → Tender
-unfolding win
-reserved p = record { kind = Single; window = win 0 100; reserve = Price p }
+reserved p = record { kind = Single; window = record { start = 0; end = 100 }; reserve = Price p }
 
 -- so many windows of one minute
 minutes : ℕ → List ℕ

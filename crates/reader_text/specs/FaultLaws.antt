@@ -11,7 +11,7 @@ use Rattle.tender.specs.declared.Reserve.{Reserve}
 use Rattle.reader_line.specs.Line.{TenderLine}
 use Rattle.tender.specs.declared.Refusal.{Refusal}
 use Rattle.tender.specs.declared.Refusal.the-variants.{EmptyWindow, LateWindow}
-use Rattle.tender.specs.Limits.{ordered, early, lawful, lawfulReserve, soundTender, allLawful, every}
+use Rattle.tender.specs.Limits.{asWindow, ordered, early, lawful, lawfulReserve, soundTender, allLawful, every}
 use Rattle.reader_line.specs.LinePlainLaws.{both-true as and-split}
 use Rattle.reader_word.specs.declared.windows.Flaw.{Flaw}
 use Rattle.reader_word.specs.declared.windows.Flaw.the-variants.{Empty, Late, Sound}
@@ -43,12 +43,12 @@ module _ (t : TenderLine) (r : Reserve) where
   pub sound-faultless : soundTender (tenderWith t r) ≡ true → (tenderFault t ≡ none) × (lawfulReserve r ≡ true)
   unfolding soundTender lawful tenderFault lineFault
   sound-faultless e =
-      let s = and-split (lawful (t .window)) (lawfulReserve r) e in
-      let u = and-split (ordered (t .window)) (early (t .window)) (s .0) in (rw (u .0, u .1), s .1)
+      let s = and-split (lawful (asWindow (t .window))) (lawfulReserve r) e in
+      let u = and-split (ordered (asWindow (t .window))) (early (asWindow (t .window))) (s .0) in (rw (u .0, u .1), s .1)
 
   pub faultless-sound : tenderFault t ≡ none → lawfulReserve r ≡ true → soundTender (tenderWith t r) ≡ true
   unfolding soundTender lawful tenderFault lineFault
-  faultless-sound e l = rw l (go (ordered (t .window)) (early (t .window)) e)
+  faultless-sound e l = rw l (go (ordered (asWindow (t .window))) (early (asWindow (t .window))) e)
     where
       go : (a b : Bool) → lineFault false false false (not a) (not b) false ≡ none → (a && b) && true ≡ true
       go true true x = refl
@@ -61,9 +61,9 @@ flawFault Empty = some EmptyWindow
 flawFault Late = some LateWindow
 flawFault Sound = none
 
-pub tender-told : (t : TenderLine) → tenderFault t ≡ flawFault (flawIn (t .window))
+pub tender-told : (t : TenderLine) → tenderFault t ≡ flawFault (flawIn (asWindow (t .window)))
 unfolding flawIn tenderFault lineFault
-tender-told t = go (ordered (t .window)) (early (t .window))
+tender-told t = go (ordered (asWindow (t .window))) (early (asWindow (t .window)))
   where
     go : (a b : Bool) → lineFault false false false (not a) (not b) false ≡ flawFault (flawBy a b)
     go true true = refl

@@ -14,7 +14,7 @@ use Rattle.tender.specs.declared.Refusal.{Refusal}
 use Rattle.tender.specs.declared.Refusal.the-variants.{TextTooLong, BadForm, OutsideLimits, TooMany, EmptyWindow, BidderRepeated}
 use Rattle.tender.specs.declared.Refusal.the-variants.{SeveralWindows, TableTooShort, LateWindow, ReserveMisplaced}
 use Rattle.tender.specs.Refusals.{numberOf, placeOf}
-use Rattle.tender.specs.Limits.{within, maxPrice, maxBidder, maxBids, maxWindows, maxText, isSingle, ordered, early, every}
+use Rattle.tender.specs.Limits.{asWindow, within, maxPrice, maxBidder, maxBids, maxWindows, maxText, isSingle, ordered, early, every}
 use Rattle.tender.specs.Tables.{Row}
 use Rattle.reader_word.specs.Words.{cut, among}
 use Rattle.reader_line.specs.Line.{TenderLine, BidLine, Line, tender, bid, reserve, linesOf}
@@ -56,7 +56,7 @@ lineFault many outside several empty late used =
 
 unfoldable pub tenderFault : TenderLine → Option (ℕ → Refusal)
 unfolding lineFault
-tenderFault t = lineFault false false false (not (ordered (t .window))) (not (early (t .window))) false
+tenderFault t = lineFault false false false (not (ordered (asWindow (t .window)))) (not (early (asWindow (t .window)))) false
 
 -- the fault of a bid after so many others: its numbers, how many windows it has, whether one of them is empty, whether one is late,
 -- and whether its bidder number was used before

@@ -12,6 +12,7 @@ use borrow.Author.Tests.{ltb-false, leb-true, leb-false, not-false}
 use Rattle.tender.specs.Keywords.{bidWord, reserveWord, tenderWord}
 use Rattle.tender.specs.declared.Kind.{Kind}
 use Rattle.tender.specs.declared.Kind.the-variants.{Single, Multi}
+use Rattle.tender.specs.declared.Span.{Span}
 use Rattle.tender.specs.declared.Window.{Window}
 use Rattle.tender.specs.declared.Tender.{Tender}
 use Rattle.tender.specs.Limits.{allLawful, isSingle, lawful, soundTender, within, ordered, early, every}
@@ -86,7 +87,7 @@ tender-filled (k ∷ []) = tt
 tender-filled (k ∷ s ∷ []) = tt
 tender-filled (k ∷ s ∷ e ∷ []) = go (kindOf k) (closed e)
   where
-    last : (y : Kind) (o : Option Window) → Filled (andThen o (λ w. some (tender (record { kind = y; window = w }))))
+    last : (y : Kind) (o : Option Span) → Filled (andThen o (λ w. some (tender (record { kind = y; window = w }))))
     last y none = tt
     last y (some w) = tt
 

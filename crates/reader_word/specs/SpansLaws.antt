@@ -7,10 +7,12 @@ use native.Mathlib.Omega.{arith}
 use native.Mathlib.Nat.{sub-zero}
 use lib.ListN.{length, take, drop, getD}
 use borrow.Author.Tests.{eq-eqb, ne-eqb}
+use Rattle.tender.specs.declared.Span.{Span}
+use Rattle.tender.specs.Limits.{asWindow}
 use Rattle.reader_word.specs.Words.{andThen, opened, closed, numeralOf}
 use Rattle.reader_word.specs.Windows.{spanOf, windowOf}
 use Rattle.reader_word.specs.declared.words.Number.the-variants.{Value, Bad}
-use Rattle.reader_word.specs.Answer.{asNumber, lastOf}
+use Rattle.reader_word.specs.Answer.{asNumber, spanEnds, windowEnds, lastOf}
 
 pub is-value : (o : Option ℕ) (v : ℕ) → asNumber o ≡ Value v → o ≡ some v
 is-value none v e = let z : _≡_ {A = ℕ} 0 1 = cc in absurd (omega arith)
@@ -90,9 +92,13 @@ pub window-close : (s e a : List ℕ) → opened s ≡ some a → closed e ≡ n
 unfolding windowOf andThen
 window-close s e a h k = rw (h, k)
 
-pub window-both : (s e a z : List ℕ) → opened s ≡ some a → closed e ≡ some z → windowOf s e ≡ spanOf a z
+pub window-both : (s e a z : List ℕ) → opened s ≡ some a → closed e ≡ some z → windowEnds (windowOf s e) ≡ spanEnds (spanOf a z)
 unfolding windowOf andThen
-window-both s e a z h k = rw (h, k)
+window-both s e a z h k = rw (h, k) (go (spanOf a z))
+  where
+    go : (o : Option Span) → windowEnds (andThen o (λ s. some (asWindow s))) ≡ spanEnds o
+    go none = refl
+    go (some s) = refl
 
 pub last-open : (s e : List ℕ) → closed e ≡ none → lastOf s e ≡ none
 unfolding lastOf andThen

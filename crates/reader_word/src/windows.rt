@@ -2,59 +2,60 @@
 ghost use mathlib.Core.Path.{_≡_};
 ghost use Rattle.reader_word.specs.Windows.{spanOf, windowOf};
 ghost use Rattle.reader_word.specs.Flaws.{flawIn, worst};
-ghost use Rattle.reader_word.specs.Answer.{asSpan, lastOf};
+ghost use Rattle.reader_word.specs.Answer.{spanEnds, windowEnds, lastOf};
 use crate::words::Number;
 use crate::words::read_number;
 
-pub enum Span {
+// The two numbers that two words spell.
+pub enum Ends {
     Of(u64, u64),
     Wrong,
 }
 
 // The numbers that the words s and e spell.
-pub fn read_span(s: &[u8], e: &[u8]) -> Span
-    ensures { λ r. ⌜ r ≡ asSpan (spanOf (now (s .entry)) (now (e .entry))) ⌝ }
+pub fn read_span(s: &[u8], e: &[u8]) -> Ends
+    ensures { λ r. ⌜ r ≡ spanEnds (spanOf (now (s .entry)) (now (e .entry))) ⌝ }
 {
     let Number::Value(a) = read_number(s) else {
-        return Span::Wrong;
+        return Ends::Wrong;
     };
     let Number::Value(z) = read_number(e) else {
-        return Span::Wrong;
+        return Ends::Wrong;
     };
-    Span::Of(a, z)
+    Ends::Of(a, z)
 }
 
 // The window that the words "(S" and "E)" spell.
-pub fn read_window(s: &[u8], e: &[u8]) -> Span
-    ensures { λ r. ⌜ r ≡ asSpan (windowOf (now (s .entry)) (now (e .entry))) ⌝ }
+pub fn read_window(s: &[u8], e: &[u8]) -> Ends
+    ensures { λ r. ⌜ r ≡ windowEnds (windowOf (now (s .entry)) (now (e .entry))) ⌝ }
 {
     let n = s.len();
     if n == 0 {
-        return Span::Wrong;
+        return Ends::Wrong;
     }
     if s[0] != b'(' {
-        return Span::Wrong;
+        return Ends::Wrong;
     }
     let m = e.len();
     if m == 0 {
-        return Span::Wrong;
+        return Ends::Wrong;
     }
     if e[m - 1] != b')' {
-        return Span::Wrong;
+        return Ends::Wrong;
     }
     read_span(&s[1..n], &e[0..m - 1])
 }
 
 // The window that the words "(S" and "E))" spell.
-pub fn read_last(s: &[u8], e: &[u8]) -> Span
-    ensures { λ r. ⌜ r ≡ asSpan (lastOf (now (s .entry)) (now (e .entry))) ⌝ }
+pub fn read_last(s: &[u8], e: &[u8]) -> Ends
+    ensures { λ r. ⌜ r ≡ windowEnds (lastOf (now (s .entry)) (now (e .entry))) ⌝ }
 {
     let m = e.len();
     if m == 0 {
-        return Span::Wrong;
+        return Ends::Wrong;
     }
     if e[m - 1] != b')' {
-        return Span::Wrong;
+        return Ends::Wrong;
     }
     read_window(s, &e[0..m - 1])
 }

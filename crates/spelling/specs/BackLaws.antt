@@ -11,6 +11,7 @@ use Rattle.tender.specs.declared.Window.{Window}
 use Rattle.tender.specs.declared.Reserve.{Reserve}
 use Rattle.tender.specs.declared.Reserve.the-variants.{Absent, Price}
 use Rattle.tender.specs.declared.Tender.{Tender}
+use Rattle.tender.specs.Limits.{asWindow}
 use Rattle.tender.specs.Keywords.{bytes, tenderWord, reserveWord, bidWord, singleWord, multiWord}
 use Rattle.reader_word.specs.Words.{andThen, among, cut, sameBytes, priceOf}
 use Rattle.reader_line.specs.Line.{BidLine, Line, tender, bid, reserve, tenderLine, reserveLines, headLines, kindOf, tenderOf}
@@ -100,14 +101,14 @@ tender-without d t l a k b = (
   ),
 )
 
-tender-words-back : (t : Tender) → Named (t .window) → lineOf (spaced (tenderWords t)) ≡ some (tender (tenderLine t))
+tender-words-back : (t : Tender) → Named (asWindow (t .window)) → lineOf (spaced (tenderWords t)) ≡ some (tender (tenderLine t))
 unfolding lineOf lineOfWords sameBytes tenderWord bytes tenderWords tenderOf andThen among
 tender-words-back t h =
     rw (cut-spaced (40 ∷ tenderWord) (kindWord (t .kind) ∷ decimal (t .window .start) ∷ (decimal (t .window .end) ++ 41 ∷ [])
     ∷ []) (tender-without 32 t (omega arith) refl (kind-space (t .kind)) refl))
     (rw (kind-back (t .kind), closed-back (decimal (t .window .end)), span-back (t .window) h))
 
-pub tender-back : (t : Tender) → Named (t .window) → Read (tenderText t) (tender (tenderLine t))
+pub tender-back : (t : Tender) → Named (asWindow (t .window)) → Read (tenderText t) (tender (tenderLine t))
 unfolding among tenderWord bytes tenderWords
 tender-back t h = record {
   words = spaced (tenderWords t);
@@ -177,7 +178,7 @@ reserve-first Absent rest h = refl
 reserve-first (Price p) rest h = first-line (reserveText (Price p)) rest (reserve p) (reserve-back p h)
 
 -- the whole text's lines, whatever its length
-pub text-back : (t : Tender) (bs : List BidLine) → Named (t .window) → NamedReserve (t .reserve) → AllNameable bs
+pub text-back : (t : Tender) (bs : List BidLine) → Named (asWindow (t .window)) → NamedReserve (t .reserve) → AllNameable bs
     → linesOf (cut 10 (textOf t bs)) ≡ map (λ x. some x) (headLines t) ++ asLines bs
 unfolding textOf headText headLines
 text-back t bs n r h =

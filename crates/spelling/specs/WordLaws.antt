@@ -6,7 +6,9 @@ use mathlib.Core.Option.{some}
 use Prim.Native.Nat.{ℕ, _<_}
 use native.Mathlib.Omega.{arith}
 use lib.Dec.{eqb}
+use Rattle.tender.specs.declared.Span.{Span}
 use Rattle.tender.specs.declared.Window.{Window}
+use Rattle.tender.specs.Limits.{asWindow}
 use Rattle.tender.specs.declared.Tender.{Tender}
 use Rattle.tender.specs.Keywords.{bytes, tenderWord, bidWord}
 use Rattle.reader_word.specs.Words.{andThen, among, cut, opened, closed}
@@ -147,13 +149,13 @@ abbrev pub AllNamed : List Window → Type 0
 AllNamed [] = Unit {0}
 AllNamed (w ∷ ws) = Named w × AllNamed ws
 
-pub span-back : (w : Window) → Named w → spanOf (decimal (w .start)) (decimal (w .end)) ≡ some w
+pub span-back : (w : Span) → Named (asWindow w) → spanOf (decimal (w .start)) (decimal (w .end)) ≡ some w
 unfolding spanOf andThen
 span-back w h = rw (numeral-decimal (w .start) (h .0), numeral-decimal (w .end) (h .1))
 
 window-back : (w : Window) → Named w → windowOf (40 ∷ decimal (w .start)) (decimal (w .end) ++ 41 ∷ []) ≡ some w
 unfolding windowOf opened andThen
-window-back w h = rw (closed-back (decimal (w .end))) (span-back w h)
+window-back w h = rw (closed-back (decimal (w .end)), span-back (record { start = w .start; end = w .end }) h)
 
 pub windows-back : (w : Window) (ws : List Window) → AllNamed (w ∷ ws) → windowsIn (windowWords (w ∷ ws)) ≡ some (w ∷ ws)
 unfolding windowsIn windowWords andThen

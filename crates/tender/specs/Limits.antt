@@ -5,6 +5,7 @@ use mathlib.Core.List.{List, [], _∷_}
 use lib.Dec.{leb, ltb}
 use Rattle.tender.specs.declared.Kind.{Kind}
 use Rattle.tender.specs.declared.Kind.the-variants.{Single, Multi}
+use Rattle.tender.specs.declared.Span.{Span}
 use Rattle.tender.specs.declared.Window.{Window}
 use Rattle.tender.specs.declared.Reserve.{Reserve}
 use Rattle.tender.specs.declared.Reserve.the-variants.{Absent, Price}
@@ -48,6 +49,10 @@ unfoldable pub isSingle : Kind → Bool
 isSingle Single = true
 isSingle Multi = false
 
+-- the window that holds the minutes of a span
+abbrev pub asWindow : Span → Window
+asWindow s = record { start = s .start; end = s .end }
+
 -- a window (S E) has 0 ≤ S < E
 abbrev pub ordered : Window → Bool
 ordered w = ltb (w .start) (w .end)
@@ -67,7 +72,7 @@ lawfulReserve (Price p) = leb p maxPrice
 -- the rules of a tender: its own window and its reserve are lawful
 unfoldable pub soundTender : Tender → Bool
 unfolding lawful lawfulReserve
-soundTender t = lawful (t .window) && lawfulReserve (t .reserve)
+soundTender t = lawful (asWindow (t .window)) && lawfulReserve (t .reserve)
 
 unfoldable pub allLawful : List Window → Bool
 unfolding lawful

@@ -8,7 +8,7 @@ use Rattle.tender.specs.declared.Window.{Window}
 use Rattle.tender.specs.declared.Reserve.{Reserve}
 use Rattle.tender.specs.declared.Reserve.the-variants.{Absent, Price}
 use Rattle.tender.specs.declared.Tender.{Tender}
-use Rattle.tender.specs.Limits.{lawful, lawfulReserve, soundTender}
+use Rattle.tender.specs.Limits.{asWindow, lawful, lawfulReserve, soundTender}
 use Rattle.tender.specs.Rules.{WindowRules, TenderRules}
 
 both-true : (a b : Bool) → a && b ≡ true → (a ≡ true) × (b ≡ true)
@@ -37,9 +37,9 @@ within-reserve (Price p) h = le-leb p 100000000 (h p refl)
 pub sound-rules : (t : Tender) → soundTender t ≡ true → TenderRules t
 unfolding soundTender
 sound-rules t e =
-    let h = both-true (lawful (t .window)) (lawfulReserve (t .reserve)) e in
-    record { window = lawful-rules (t .window) (h .0); reserve = reserve-within (t .reserve) (h .1) }
+    let h = both-true (lawful (asWindow (t .window))) (lawfulReserve (t .reserve)) e in
+    record { window = lawful-rules (asWindow (t .window)) (h .0); reserve = reserve-within (t .reserve) (h .1) }
 
 pub rules-sound : (t : Tender) → TenderRules t → soundTender t ≡ true
 unfolding soundTender
-rules-sound t r = rw (rules-lawful (t .window) (r .window), within-reserve (t .reserve) (r .reserve))
+rules-sound t r = rw (rules-lawful (asWindow (t .window)) (r .window), within-reserve (t .reserve) (r .reserve))

@@ -1,4 +1,4 @@
-// The data that every crate here speaks of: kinds, windows, reserves, tenders, limits, keywords, award rows, answers and refusals.
+// The data that every crate here speaks of: kinds, spans, windows, reserves, tenders, limits, keywords, award rows, answers and refusals.
 // No algorithm stands here. `specs/` has what the crates above cite of it: the limits and the rule of a
 // window, the layout of the two tables, the keywords, and each refusal's number and place.
 ghost use mathlib.Core.Path.{_≡_};
@@ -11,7 +11,13 @@ pub enum Kind {
     Multi,
 }
 
-// The minutes from `start` to `end` - 1.
+// What a tender spans: the minutes from `start` to `end` - 1.
+pub struct Span {
+    pub start: u64,
+    pub end: u64,
+}
+
+// A window of a bid: the minutes from `start` to `end` - 1.
 pub struct Window {
     pub start: u64,
     pub end: u64,
@@ -26,7 +32,7 @@ pub enum Reserve {
 // What is bought: every minute of the tender's own window.
 pub struct Tender {
     pub kind: Kind,
-    pub window: Window,
+    pub window: Span,
     pub reserve: Reserve,
 }
 
@@ -109,7 +115,7 @@ pub const MULTI: [u8; 5] = *b"multi";
 pub fn plain(kind: Kind, start: u64, end: u64) -> Tender
     ensures { λ r. ⌜ r ≡ plainTender kind start end ⌝ }
 {
-    let window = Window { start, end };
+    let window = Span { start, end };
     let reserve = Reserve::Absent;
     Tender {
         kind,

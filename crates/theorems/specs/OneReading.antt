@@ -14,7 +14,7 @@ use Rattle.tender.specs.declared.Tender.{Tender}
 use Rattle.tender.specs.declared.Refusal.{Refusal}
 use Rattle.tender.specs.declared.Refusal.the-variants.{TextTooLong, BadForm, OutsideLimits, TooMany, EmptyWindow, BidderRepeated}
 use Rattle.tender.specs.declared.Refusal.the-variants.{SeveralWindows, TableTooShort, LateWindow, ReserveMisplaced}
-use Rattle.tender.specs.Limits.{week, maxPrice, maxBidder, maxBids, maxWindows, maxText}
+use Rattle.tender.specs.Limits.{asWindow, week, maxPrice, maxBidder, maxBids, maxWindows, maxText}
 use Rattle.tender.specs.Refusals.{numberOf, placeOf}
 use Rattle.tender.specs.Tables.{Row, flatRows, flatWindows, bidWidth, windowWidth}
 use Rattle.reader_word.specs.Words.{cut}
@@ -93,8 +93,8 @@ OnTender of-place t = ⊥
 OnTender of-count t = ⊥
 OnTender of-limits t = ⊥
 OnTender of-kind t = ⊥
-OnTender of-minutes t = NoMinute (t .window)
-OnTender of-week t = PastWeek (t .window)
+OnTender of-minutes t = NoMinute (asWindow (t .window))
+OnTender of-week t = PastWeek (asWindow (t .window))
 OnTender of-bidder t = ⊥
 
 -- on the reserve's line: its place is wrong where there is a reserve already, or a bid

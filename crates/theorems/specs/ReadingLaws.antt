@@ -19,7 +19,7 @@ use Rattle.tender.specs.declared.Tender.{Tender}
 use Rattle.tender.specs.declared.Refusal.{Refusal}
 use Rattle.tender.specs.declared.Refusal.the-variants.{TextTooLong, BadForm, OutsideLimits, TooMany, EmptyWindow, BidderRepeated}
 use Rattle.tender.specs.declared.Refusal.the-variants.{SeveralWindows, TableTooShort, LateWindow, ReserveMisplaced}
-use Rattle.tender.specs.Limits.{within, isSingle, ordered, early, every, lawfulReserve}
+use Rattle.tender.specs.Limits.{asWindow, within, isSingle, ordered, early, every, lawfulReserve}
 use Rattle.tender.specs.Refusals.{numberOf, placeOf}
 use Rattle.tender.specs.Tables.{Row, bidWidth, windowWidth}
 use Rattle.reader_word.specs.Words.{cut, among}
@@ -193,8 +193,8 @@ verdict d x false false false false false false s2 s16 s4 s3 s7 s5 s15 s6 = clea
 
 tender-verdict : (t : TenderLine) → Verdict at-start (some (tender t)) (tenderFault t)
 unfolding tenderFault
-tender-verdict t = verdict at-start (some (tender t)) false false false (not (ordered (t .window))) (not (early (t .window))) false
-    (λ h. h) (λ h. h) (λ h. h) (λ h. h) (λ h. h) (no-minute (t .window)) (past-week (t .window)) (λ h. h)
+tender-verdict t = verdict at-start (some (tender t)) false false false (not (ordered (asWindow (t .window)))) (not (early (asWindow (t .window)))) false
+    (λ h. h) (λ h. h) (λ h. h) (λ h. h) (λ h. h) (no-minute (asWindow (t .window))) (past-week (asWindow (t .window))) (λ h. h)
 
 bid-verdict : (t : Tender) (done : List BidLine) (b : BidLine) →
     Verdict (after t done) (some (bid b)) (bidFault (t .kind) (map (λ b. b .bidder) done) b)

@@ -11,7 +11,7 @@ use lib.Dec.{leb}
 use borrow.Author.Tests.{le-ltb}
 use Rattle.tender.specs.declared.Window.{Window}
 use Rattle.tender.specs.declared.Tender.{Tender}
-use Rattle.tender.specs.Limits.{soundTender}
+use Rattle.tender.specs.Limits.{asWindow, soundTender}
 use Rattle.tender.specs.RulesLaws.{rules-lawful, sound-rules}
 use Rattle.tender.specs.Tables.{Row, rowsOf, own, flatRows, flatWindows, bidWidth}
 use Rattle.cover.specs.SetLaws.{and-split}
@@ -53,7 +53,7 @@ lines-are : (t : Tender) (rows : List Row) (windows : List ℕ) → Lawful t row
 unfolding canonical
 lines-are t rows windows h =
     let s = sound-rules t (h .sound) in
-    text-back t (respeltIn windows rows) (lawful-named (t .window) (rules-lawful (t .window) (s .window)))
+    text-back t (respeltIn windows rows) (lawful-named (asWindow (t .window)) (rules-lawful (asWindow (t .window)) (s .window)))
     (reserve-named (t .reserve) (s .reserve)) (rows-told (t .kind) windows 1 [] 0 rows (h .rows-too))
 
 bids-as : (bs : List BidLine) → bidsOf (asLines bs) ≡ bs

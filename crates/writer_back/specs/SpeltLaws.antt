@@ -11,7 +11,9 @@ use borrow.Author.Tests.{eqb-true}
 use lib.Seq.{take-append-seam, drop-append-seam, drop-drop}
 use Rattle.tender.specs.declared.Kind.{Kind}
 use Rattle.tender.specs.declared.Kind.the-variants.{Single, Multi}
+use Rattle.tender.specs.declared.Span.{Span}
 use Rattle.tender.specs.declared.Window.{Window}
+use Rattle.tender.specs.Limits.{asWindow}
 use Rattle.tender.specs.declared.Reserve.{Reserve}
 use Rattle.tender.specs.declared.Reserve.the-variants.{Absent, Price}
 use Rattle.tender.specs.declared.Tender.{Tender}
@@ -107,11 +109,11 @@ closed-is (b ∷ c ∷ s) a e = go (closed (c ∷ s)) refl e (closed-is (c ∷ s
     go none f x ih = let z : _≡_ {A = ℕ} 0 1 = cc in absurd (omega arith)
     go (some r) f x ih = let h : b ∷ r ≡ a = cc in rw (← h) (ap (λ l. b ∷ l) (ih r f))
 
-record SpeltSpan (s e : List ℕ) (w : Window) : Type 0 where
+record SpeltSpan (s e : List ℕ) (w : Span) : Type 0 where
   start-is : s ≡ decimal (w .start)
   end-is : e ≡ decimal (w .end)
 
-span-is : (s e : List ℕ) (w : Window) → spanOf s e ≡ some w → SpeltSpan s e w
+span-is : (s e : List ℕ) (w : Span) → spanOf s e ≡ some w → SpeltSpan s e w
 unfolding spanOf andThen
 span-is s e w h = go (numeralOf s) (numeralOf e) refl refl h
   where
@@ -121,11 +123,11 @@ span-is s e w h = go (numeralOf s) (numeralOf e) refl refl h
     go none y f g q = let z : _≡_ {A = ℕ} 0 1 = cc in absurd (omega arith)
     go (some a) none f g q = let z : _≡_ {A = ℕ} 0 1 = cc in absurd (omega arith)
     go (some a) (some z) f g q =
-        let k : _≡_ {A = Window} (record { start = a; end = z }) w = cc in
+        let k : _≡_ {A = Span} (record { start = a; end = z }) w = cc in
         record {
-          start-is = numeral-spelling s a f ∙ ap (λ (v : Window). decimal (v .start)) k;
+          start-is = numeral-spelling s a f ∙ ap (λ (v : Span). decimal (v .start)) k;
           end-is = numeral-spelling e z g
-              ∙ ap (λ (v : Window). decimal (v .end)) k;
+              ∙ ap (λ (v : Span). decimal (v .end)) k;
         }
 
 record Bracketed (s e : List ℕ) (w : Window) : Type 0 where
@@ -136,17 +138,22 @@ window-is : (s e : List ℕ) (w : Window) → windowOf s e ≡ some w → Bracke
 unfolding windowOf andThen
 window-is s e w h = go (opened s) (closed e) refl refl h
   where
-    go : (x y : Option (List ℕ)) → opened s ≡ x → closed e ≡ y → andThen x (λ a. andThen y (λ z. spanOf a z)) ≡ some w
-        → Bracketed s e w
+    inner : (a z : List ℕ) → opened s ≡ some a → closed e ≡ some z → (o : Option Span) → spanOf a z ≡ o
+        → andThen o (λ v. some (asWindow v)) ≡ some w → Bracketed s e w
+    inner a z f g none i q = let n : _≡_ {A = ℕ} 0 1 = cc in absurd (omega arith)
+    inner a z f g (some v) i q =
+        let k = span-is a z v i in
+        let u : _≡_ {A = Window} (asWindow v) w = cc in
+        record {
+          start-is = opened-is s a f ∙ ap (λ l. 40 ∷ l) (k .start-is) ∙ ap (λ (x : Window). 40 ∷ decimal (x .start)) u;
+          end-is = closed-is e z g ∙ ap (λ l. l ++ 41 ∷ []) (k .end-is) ∙ ap (λ (x : Window). decimal (x .end) ++ 41 ∷ []) u;
+        }
+
+    go : (x y : Option (List ℕ)) → opened s ≡ x → closed e ≡ y
+        → andThen x (λ a. andThen y (λ z. andThen (spanOf a z) (λ v. some (asWindow v)))) ≡ some w → Bracketed s e w
     go none y f g q = let z : _≡_ {A = ℕ} 0 1 = cc in absurd (omega arith)
     go (some a) none f g q = let z : _≡_ {A = ℕ} 0 1 = cc in absurd (omega arith)
-    go (some a) (some z) f g q =
-        let k = span-is a z w q in
-        record {
-          start-is = opened-is s a f ∙ ap (λ l. 40 ∷ l) (k .start-is);
-          end-is = closed-is e z g
-              ∙ ap (λ l. l ++ 41 ∷ []) (k .end-is);
-        }
+    go (some a) (some z) f g q = inner a z f g (spanOf a z) refl q
 
 windows-are : (ws : List (List ℕ)) (l : List Window) → windowsIn ws ≡ some l → ws ≡ windowWords l
 unfolding windowsIn andThen windowWords
@@ -208,7 +215,7 @@ tender-is (k ∷ []) x h = let z : _≡_ {A = ℕ} 0 1 = cc in absurd (omega ari
 tender-is (k ∷ s ∷ []) x h = let z : _≡_ {A = ℕ} 0 1 = cc in absurd (omega arith)
 tender-is (k ∷ s ∷ e ∷ []) x h = go (kindOf k) (closed e) refl refl h
   where
-    last : (y : Kind) (z : List ℕ) → k ≡ kindWord y → e ≡ z ++ 41 ∷ [] → (o : Option Window) → spanOf s z ≡ o
+    last : (y : Kind) (z : List ℕ) → k ≡ kindWord y → e ≡ z ++ 41 ∷ [] → (o : Option Span) → spanOf s z ≡ o
         → andThen o (λ w. some (tender (record { kind = y; window = w }))) ≡ some x →
         (40 ∷ tenderWord) ∷ k ∷ s ∷ e ∷ [] ≡ wordsOf x
     last y z f g none i q = let n : _≡_ {A = ℕ} 0 1 = cc in absurd (omega arith)

@@ -6,7 +6,7 @@ use borrow.Author.Needs.{needs}
 use lib.ListN.{length, drop, length-drop}
 use Rattle.reader_word.specs.ScanLaws.{next-fits}
 use Rattle.reader_word.specs.SpansLaws.{closed-empty}
-use Rattle.reader_line.specs.WalkLaws.{is-of, is-wrong}
+use Rattle.reader_line.specs.WalkLaws.{span-is-of, span-is-wrong}
 use Rattle.reader_line.specs.LinesLaws.{is-kind, is-no-kind, tail-closed, tail-open, noted-none, noted-tender, tender-one, tender-two}
 use Rattle.reader_line.specs.LinesLaws.{tender-four, tender-open, tender-unkind, tender-unspan, tender-whole}
 use Rattle.reader_line.proofs.line.read_tender.Statement.{statement}
@@ -194,7 +194,7 @@ returns-7 c =
     (sym (c18 .next .ensures)) (c17 .if1 .left) (sym (c16 .next2 .ensures)) (c15 .if2 .left) (sym (c14 .next3 .ensures)) h
     _ _ (is-kind _ _ (sym (c8 .read-kind .ensures) ∙ c6 .kind .given .1))
     (tail-closed line (c16 .next2 .result + 1) (c14 .next3 .result) h (c12 .if4 .left) (c10 .if5 .left))
-    (is-wrong _ (sym (c .before .before .read-span .ensures) ∙ c .enum-told2 .given .1)))
+    (span-is-wrong _ (sym (c .before .before .read-span .ensures) ∙ c .enum-told2 .given .1)))
 
 returns-8 : tie.Need-returns-8
 returns-8 c =
@@ -215,7 +215,7 @@ returns-8 c =
     (sym (c19 .next .ensures)) (c18 .if1 .left) (sym (c17 .next2 .ensures)) (c16 .if2 .left) (sym (c15 .next3 .ensures)) h
     _ _ (is-kind _ _ (sym (c9 .read-kind .ensures) ∙ c7 .kind .given .1))
     (tail-closed line (c17 .next2 .result + 1) (c15 .next3 .result) h (c13 .if4 .left) (c11 .if5 .left)) _
-    (is-of _ _ _ (sym (c .before .before .before .read-span .ensures) ∙ c .before .start .given .1)))
+    (span-is-of _ _ _ (sym (c .before .before .before .read-span .ensures) ∙ c .before .start .given .1)))
 
 pub read-tender-spec : {M : Type 1} → statement M
 read-tender-spec =

@@ -1,7 +1,7 @@
 -- `windows::read_span` meets its contract: it follows `spanOf`. Assumes nothing.
 use mathlib.Core.Path.{sym, ap, _∙_}
 use borrow.Author.Needs.{needs}
-use Rattle.reader_word.specs.Answer.{asSpan}
+use Rattle.reader_word.specs.Answer.{spanEnds}
 use Rattle.reader_word.specs.SpansLaws.{is-value, is-bad, span-first, span-second, span-both}
 use Rattle.reader_word.proofs.windows.read_span.Statement.{statement}
 use Rattle.reader_word.proofs.windows.read_span.Tie as tie
@@ -18,7 +18,7 @@ enum-told c = search needs
 returns : tie.Need-returns
 returns c =
     let n = c .before .before in
-    ap asSpan (sym (span-first _ _ (is-bad _ (sym (n .read-number .ensures) ∙ c .enum-told .given .1))))
+    ap spanEnds (sym (span-first _ _ (is-bad _ (sym (n .read-number .ensures) ∙ c .enum-told .given .1))))
 
 read-number-requires-2 : tie.Need-read-number-requires-2
 read-number-requires-2 c κs = search needs
@@ -34,7 +34,7 @@ returns-2 c =
     let m = c .before .before in
     let s = m .before .before in
     let n = s .before .before in
-    ap asSpan (sym (span-second _ _ (s .a .given .0 .0) (is-value _ _ (sym (n .read-number .ensures) ∙ s .a .given .1))
+    ap spanEnds (sym (span-second _ _ (s .a .given .0 .0) (is-value _ _ (sym (n .read-number .ensures) ∙ s .a .given .1))
     (is-bad _ (sym (m .read-number2 .ensures) ∙ c .enum-told2 .given .1))))
 
 returns-3 : tie.Need-returns-3
@@ -43,7 +43,7 @@ returns-3 c =
     let m = z .before .before in
     let s = m .before .before in
     let n = s .before .before in
-    ap asSpan (sym (span-both _ _ (s .a .given .0 .0) (z .z .given .0 .0) (is-value _ _ (sym (n .read-number .ensures) ∙ s .a .given .1))
+    ap spanEnds (sym (span-both _ _ (s .a .given .0 .0) (z .z .given .0 .0) (is-value _ _ (sym (n .read-number .ensures) ∙ s .a .given .1))
     (is-value _ _ (sym (m .read-number2 .ensures) ∙ z .z .given .1))))
 
 pub read-span-spec : {M : Type 1} → statement M

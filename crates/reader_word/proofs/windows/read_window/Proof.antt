@@ -1,25 +1,25 @@
 -- `windows::read_window` meets its contract: the words without their brackets are what `opened` and `closed` give. Assumes nothing.
 use mathlib.Core.Path.{sym, ap, _∙_}
 use borrow.Author.Needs.{needs}
-use Rattle.reader_word.specs.Answer.{asSpan}
+use Rattle.reader_word.specs.Answer.{windowEnds}
 use Rattle.reader_word.specs.SpansLaws.{opened-is, opened-not, opened-empty, closed-is, closed-not, closed-empty, window-open}
 use Rattle.reader_word.specs.SpansLaws.{window-close, window-both}
 use Rattle.reader_word.proofs.windows.read_window.Statement.{statement}
 use Rattle.reader_word.proofs.windows.read_window.Tie as tie
 
 returns : tie.Need-returns
-returns c = ap asSpan (sym (window-open _ _ (opened-empty _ (c .if1 .taken))))
+returns c = ap windowEnds (sym (window-open _ _ (opened-empty _ (c .if1 .taken))))
 
 shared-slice-read-if2 : tie.Need-shared-slice-read-if2
 shared-slice-read-if2 c = search needs
 
 returns-2 : tie.Need-returns-2
-returns-2 c = ap asSpan (sym (window-open _ _ (opened-not _ (c .if2 .taken))))
+returns-2 c = ap windowEnds (sym (window-open _ _ (opened-not _ (c .if2 .taken))))
 
 returns-3 : tie.Need-returns-3
 returns-3 c =
     let o = c .before in
-    ap asSpan (sym (window-close _ _ _ (opened-is _ (o .before .before .if1 .left) (o .if2 .left)) (closed-empty _ (c .if3 .taken))))
+    ap windowEnds (sym (window-close _ _ _ (opened-is _ (o .before .before .if1 .left) (o .if2 .left)) (closed-empty _ (c .if3 .taken))))
 
 sub-if4 : tie.Need-sub-if4
 sub-if4 c = search needs
@@ -31,7 +31,7 @@ returns-4 : tie.Need-returns-4
 returns-4 c =
     let k = c .before .before in
     let o = k .before in
-    ap asSpan (sym (window-close _ _ _ (opened-is _ (o .before .before .if1 .left) (o .if2 .left))
+    ap windowEnds (sym (window-close _ _ _ (opened-is _ (o .before .before .if1 .left) (o .if2 .left))
     (closed-not _ (k .if3 .left) (c .if4 .taken))))
 
 sub-read-span : tie.Need-sub-read-span
@@ -63,8 +63,8 @@ returns-5 c =
     let f = c .before .before .before in
     let k = f .before .before in
     let o = k .before in
-    c .read-span .ensures ∙ ap asSpan (sym (window-both _ _ _ _ (opened-is _ (o .before .before .if1 .left) (o .if2 .left))
-    (closed-is _ (k .if3 .left) (f .if4 .left))))
+    c .read-span .ensures ∙ sym (window-both _ _ _ _ (opened-is _ (o .before .before .if1 .left) (o .if2 .left))
+    (closed-is _ (k .if3 .left) (f .if4 .left)))
 
 pub read-window-spec : {M : Type 1} → statement M
 read-window-spec =
