@@ -10,13 +10,14 @@ use lib.Seq.{getD-drop, drop-drop}
 use lib.Dec.{leb, eqb}
 use borrow.Author.Tests.{eqb-true}
 use Rattle.tender.specs.declared.Kind.{Kind}
+use Rattle.tender.specs.declared.Kind.the-variants.{Single, Multi}
 use Rattle.tender.specs.declared.Tender.{Tender}
 use Rattle.tender.specs.Limits.{within, maxPrice, maxBidder, maxBids, mostWindows, soundTender, allLawful}
 use Rattle.tender.specs.Tables.{Row, rowsOf, windowsOf, own, bidWidth, windowWidth, windowAt}
 use Rattle.reader_text.specs.Words.{among}
 use Rattle.reader_text.specs.Differ.{withPrice}
 use Rattle.cover.specs.SetLaws.{and-split}
-use Rattle.award_check.specs.Faults.{keeps, sound, rowFault, sameKind, faultOf}
+use Rattle.award_check.specs.Faults.{keeps, sound, rowFault, kindNumber, sameKind, faultOf}
 use Rattle.award_check.specs.Cells.{noRow, bidRowAt}
 use Rattle.award_check.specs.Alike.{windowCount, Alike}
 
@@ -112,61 +113,61 @@ own-set windows (r ∷ rs) zero v (suc j) = refl
 own-set windows (r ∷ rs) (suc i) v zero = refl
 own-set windows (r ∷ rs) (suc i) v (suc j) = own-set windows rs i v j
 
-pub sound-keeps : (k : Kind) (windows : List ℕ) (place : ℕ) (used : List ℕ) (at : ℕ) (r : Row)
-    → sound k windows place used at r ≡ true
-    → keeps k windows at r ≡ true
+pub sound-keeps : (t : Tender) (windows : List ℕ) (place : ℕ) (used : List ℕ) (at : ℕ) (r : Row)
+    → sound t windows place used at r ≡ true
+    → keeps t windows at r ≡ true
 unfolding sound
-sound-keeps k windows place used at r e =
-    and-split (not (among (r .bidder) used)) (keeps k windows at r)
-    (and-split (leb place maxBids) (not (among (r .bidder) used) && keeps k windows at r) e .1) .1
+sound-keeps t windows place used at r e =
+    and-split (not (among (r .bidder) used)) (keeps t windows at r)
+    (and-split (leb place maxBids) (not (among (r .bidder) used) && keeps t windows at r) e .1) .1
 
 -- what the row rules say
-pub record Kept (k : Kind) (windows : List ℕ) (at : ℕ) (r : Row) : Type 0 where
+pub record Kept (t : Tender) (windows : List ℕ) (at : ℕ) (r : Row) : Type 0 where
   pub bidder : within 1 maxBidder (r .bidder) ≡ true
   pub price : leb (r .price) maxPrice ≡ true
-  pub count : within 1 (mostWindows k) (r .count) ≡ true
+  pub count : within 1 (mostWindows (t .kind)) (r .count) ≡ true
   pub first : r .first ≡ at
   pub room : leb (at + r .count) (length windows / windowWidth) ≡ true
   pub windows-too : allLawful (own windows r) ≡ true
 
-pub keeps-kept : (k : Kind) (windows : List ℕ) (at : ℕ) (r : Row) → keeps k windows at r ≡ true → Kept k windows at r
+pub keeps-kept : (t : Tender) (windows : List ℕ) (at : ℕ) (r : Row) → keeps t windows at r ≡ true → Kept t windows at r
 unfolding keeps
-keeps-kept k windows at r e =
+keeps-kept t windows at r e =
     let a = and-split (within 1 maxBidder (r .bidder)) _ e in
     let b = and-split (leb (r .price) maxPrice) _ (a .1) in
-    let c = and-split (within 1 (mostWindows k) (r .count)) _ (b .1) in
+    let c = and-split (within 1 (mostWindows (t .kind)) (r .count)) _ (b .1) in
     let d = and-split (eqb (r .first) at) _ (c .1) in
     let f = and-split (leb (at + r .count) (length windows / windowWidth)) _ (d .1) in
     record { bidder = a .0; price = b .0; count = c .0; first = eqb-true (r .first) at (d .0); room = f .0; windows-too = f .1 }
 
-pub sound-first : (k : Kind) (windows : List ℕ) (place : ℕ) (used : List ℕ) (at : ℕ) (r : Row)
-    → sound k windows place used at r ≡ true
+pub sound-first : (t : Tender) (windows : List ℕ) (place : ℕ) (used : List ℕ) (at : ℕ) (r : Row)
+    → sound t windows place used at r ≡ true
     → r .first ≡ at
-sound-first k windows place used at r e = keeps-kept k windows at r (sound-keeps k windows place used at r e) .first
+sound-first t windows place used at r e = keeps-kept t windows at r (sound-keeps t windows place used at r e) .first
 
 -- the windows of each row stand among those held
-pub among-held : (k : Kind) (windows : List ℕ) (place : ℕ) (used : List ℕ) (at : ℕ) (rs : List Row) (j : ℕ)
-    → rowFault k windows place used at rs ≡ none →
+pub among-held : (t : Tender) (windows : List ℕ) (place : ℕ) (used : List ℕ) (at : ℕ) (rs : List Row) (j : ℕ)
+    → rowFault t windows place used at rs ≡ none →
     getD rs j noRow .first + getD rs j noRow .count ≤ at + windowCount rs
 unfolding rowFault windowCount noRow
-among-held k windows place used at [] j e = omega arith
-among-held k windows place used at (r ∷ rs) j e =
-    go (sound k windows place used at r) refl e j (λ j f. among-held k windows (place + 1) (used ++ r .bidder ∷ []) (at + r .count) rs j
-    f)
+among-held t windows place used at [] j e = omega arith
+among-held t windows place used at (r ∷ rs) j e =
+    go (sound t windows place used at r) refl e j
+    (λ j f. among-held t windows (place + 1) (used ++ r .bidder ∷ []) (at + r .count) rs j f)
   where
-    go : (b : Bool) → sound k windows place used at r ≡ b
-        → cond b (rowFault k windows (place + 1) (used ++ r .bidder ∷ []) (at + r .count) rs) (some place) ≡ none → (j : ℕ) →
-        ((j : ℕ) → rowFault k windows (place + 1) (used ++ r .bidder ∷ []) (at + r .count) rs ≡ none
+    go : (b : Bool) → sound t windows place used at r ≡ b
+        → cond b (rowFault t windows (place + 1) (used ++ r .bidder ∷ []) (at + r .count) rs) (some place) ≡ none → (j : ℕ) →
+        ((j : ℕ) → rowFault t windows (place + 1) (used ++ r .bidder ∷ []) (at + r .count) rs ≡ none
         → getD rs j noRow .first + getD rs j noRow .count ≤ at + r .count + windowCount rs) →
         getD (r ∷ rs) j noRow .first + getD (r ∷ rs) j noRow .count ≤ at + (r .count + windowCount rs)
     go false s e j ih = let z : _≡_ {A = ℕ} 0 1 = cc in absurd (omega arith)
-    go true s e zero ih = omega (arith, sound-first k windows place used at r s)
+    go true s e zero ih = omega (arith, sound-first t windows place used at r s)
     go true s e (suc j) ih = omega (arith, ih j e)
 
 -- what no refusal 9 says
 pub record Faultless (k : Kind) (t : Tender) (n : ℕ) (bids windows : List ℕ) : Type 0 where
   pub tender : sameKind k (t .kind) && soundTender t && leb n (length bids / bidWidth) ≡ true
-  pub rows : rowFault k windows 1 [] 0 (rowsOf n bids) ≡ none
+  pub rows : rowFault t windows 1 [] 0 (rowsOf n bids) ≡ none
 
 pub faultless : (k : Kind) (t : Tender) (n : ℕ) (bids windows : List ℕ) → faultOf k t n bids windows ≡ none
     → Faultless k t n bids windows
@@ -174,17 +175,28 @@ unfolding faultOf
 faultless k t n bids windows e = go (sameKind k (t .kind) && soundTender t && leb n (length bids / bidWidth)) refl e
   where
     go : (b : Bool) → sameKind k (t .kind) && soundTender t && leb n (length bids / bidWidth) ≡ b
-        → cond b (rowFault k windows 1 [] 0 (rowsOf n bids)) (some 0) ≡ none → Faultless k t n bids windows
+        → cond b (rowFault t windows 1 [] 0 (rowsOf n bids)) (some 0) ≡ none → Faultless k t n bids windows
     go true f e = record { tender = f; rows = e }
     go false f e = let z : _≡_ {A = ℕ} 0 1 = cc in absurd (omega arith)
 
-module _ (k : Kind) (t : Tender) (n i : ℕ) (bids windows bids′ windows′ : List ℕ) (inside : i < n)
-    (f : rowFault k windows 1 [] 0 (rowsOf n bids) ≡ none) (a : Alike n i bids windows bids′ windows′) where
+-- the award's kind is the tender's own
+pub own-kind : (k : Kind) (t : Tender) (n : ℕ) (bids windows : List ℕ) → faultOf k t n bids windows ≡ none → t .kind ≡ k
+own-kind k t n bids windows e = go k (t .kind) (eqb-true (kindNumber k) (kindNumber (t .kind)) (and-split (sameKind k (t .kind)) _
+    (and-split (sameKind k (t .kind) && soundTender t) _ (faultless k t n bids windows e .tender) .0) .0))
+  where
+    go : (a b : Kind) → kindNumber a ≡ kindNumber b → b ≡ a
+    go Single Single e = refl
+    go Single Multi e = absurd (omega arith)
+    go Multi Single e = absurd (omega arith)
+    go Multi Multi e = refl
+
+module _ (t : Tender) (n i : ℕ) (bids windows bids′ windows′ : List ℕ) (inside : i < n)
+    (f : rowFault t windows 1 [] 0 (rowsOf n bids) ≡ none) (a : Alike n i bids windows bids′ windows′) where
   pub own-alike : (j : ℕ) → own windows′ (getD (rowsOf n bids′) j noRow) ≡ own windows (getD (rowsOf n bids) j noRow)
   unfolding own
   own-alike j = ap (λ rs. own windows′ (getD rs j noRow)) (rows-set n i bids bids′ inside (a .rows))
       ∙ own-set windows′ (rowsOf n bids) i (getD bids′ (bidWidth * i + 1) 0) j
-      ∙ sym (go (getD (rowsOf n bids) j noRow) (among-held k windows 1 [] 0 (rowsOf n bids) j f))
+      ∙ sym (go (getD (rowsOf n bids) j noRow) (among-held t windows 1 [] 0 (rowsOf n bids) j f))
     where
       go : (r : Row) → r .first + r .count ≤ 0 + windowCount (rowsOf n bids) → own windows r ≡ own windows′ r
       go r l = windows-same (r .count) (drop (windowWidth * r .first) windows) (drop (windowWidth * r .first) windows′)

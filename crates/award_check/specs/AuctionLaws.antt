@@ -251,7 +251,7 @@ module _ (k : Kind) (t : Tender) (n i : ℕ) (bids windows bids′ windows′ : 
   owns-alike = ext-getD [] (map (own windows′) (rowsOf n bids′)) (map (own windows) (rowsOf n bids))
       (owner-count t n bids′ windows′ ∙ sym (owner-count t n bids windows))
       (λ j m. own-at windows′ (rowsOf n bids′) j
-      ∙ own-alike k t n i bids windows bids′ windows′ l (faultless k t n bids windows f .rows) a j
+      ∙ own-alike t n i bids windows bids′ windows′ l (faultless k t n bids windows f .rows) a j
       ∙ sym (own-at windows (rowsOf n bids) j))
 
   has-alike : auctionOf t n bids′ windows′ .has ≡ auctionOf t n bids windows .has
@@ -280,7 +280,7 @@ module _ (T : Tender) (R : List Row) (W : List Window) (rules : Rules T R W) whe
   within : (w : List ℕ) (j : ℕ) → getD R j noRow .first + getD R j noRow .count ≤ length W
   within w j = omega (
     arith,
-    among-held (T .kind) (flatWindows W ++ w) 1 [] 0 R j
+    among-held T (flatWindows W ++ w) 1 [] 0 R j
         (rw (rows-flat R []) at (faultless (T .kind) T (length R) (flatRows R ++ []) (flatWindows W ++ w)
         (never-nine T R W [] w rules) .rows)),
     rows-end (T .kind) [] 0 R (length W) (rules .rows),

@@ -14,28 +14,28 @@ use Rattle.reader_text.specs.Words.{among}
 
 -- the row rules: bidder and price within limits, one window at least and no more than the kind allows, windows that begin where
 -- the row before ended and stand inside the lent rows, each window lawful; the windows of the row before end at `at`
-unfoldable pub keeps : Kind → List ℕ → ℕ → Row → Bool
+unfoldable pub keeps : Tender → List ℕ → ℕ → Row → Bool
 unfolding within mostWindows own allLawful
-keeps k windows at r =
+keeps t windows at r =
     within 1 maxBidder (r .bidder)
     && (leb (r .price) maxPrice
-    && (within 1 (mostWindows k) (r .count)
+    && (within 1 (mostWindows (t .kind)) (r .count)
     && (eqb (r .first) at
     && (leb (at + r .count) (length windows / windowWidth)
     && allLawful (own windows r)))))
 
 -- besides, at most 1,000 bids, and a bidder number that is new: the row stands at `place`, after rows with the bidder numbers `used`
-unfoldable pub sound : Kind → List ℕ → ℕ → List ℕ → ℕ → Row → Bool
+unfoldable pub sound : Tender → List ℕ → ℕ → List ℕ → ℕ → Row → Bool
 unfolding among keeps
-sound k windows place used at r = leb place maxBids && (not (among (r .bidder) used) && keeps k windows at r)
+sound t windows place used at r = leb place maxBids && (not (among (r .bidder) used) && keeps t windows at r)
 
 -- the place of the first row that breaks a rule
-unfoldable pub rowFault : Kind → List ℕ → ℕ → List ℕ → ℕ → List Row → Option ℕ
+unfoldable pub rowFault : Tender → List ℕ → ℕ → List ℕ → ℕ → List Row → Option ℕ
 unfolding sound
-rowFault k windows place used at [] = none
-rowFault k windows place used at (r ∷ rs) =
-    let later = rowFault k windows (place + 1) (used ++ r .bidder ∷ []) (at + r .count) rs in
-    cond (sound k windows place used at r) later (some place)
+rowFault t windows place used at [] = none
+rowFault t windows place used at (r ∷ rs) =
+    let later = rowFault t windows (place + 1) (used ++ r .bidder ∷ []) (at + r .count) rs in
+    cond (sound t windows place used at r) later (some place)
 
 -- each kind has a number of its own
 abbrev pub kindNumber : Kind → ℕ
@@ -51,5 +51,5 @@ unfoldable pub faultOf : Kind → Tender → ℕ → List ℕ → List ℕ → O
 unfolding soundTender rowsOf rowFault
 faultOf k t n bids windows =
     cond (sameKind k (t .kind) && soundTender t && leb n (length bids / bidWidth))
-    (rowFault k windows 1 [] 0 (rowsOf n bids))
+    (rowFault t windows 1 [] 0 (rowsOf n bids))
     (some 0)

@@ -76,38 +76,38 @@ unfolding mostWindows
 count-most Single r l f = omega (arith, f refl)
 count-most Multi r l f = l
 
-row-sound : (k : Kind) (windows v : List ℕ) (place : ℕ) (used : List ℕ) (at : ℕ) (r : Row) (W : List Window) → place ≤ 1000
-    → RowRules k used at r → drop (windowWidth * at) windows ≡ flatWindows W ++ v →
-    r .count ≤ length W → at + r .count ≤ length windows / windowWidth → WindowsRules W → sound k windows place used at r ≡ true
+row-sound : (t : Tender) (windows v : List ℕ) (place : ℕ) (used : List ℕ) (at : ℕ) (r : Row) (W : List Window) → place ≤ 1000
+    → RowRules (t .kind) used at r → drop (windowWidth * at) windows ≡ flatWindows W ++ v →
+    r .count ≤ length W → at + r .count ≤ length windows / windowWidth → WindowsRules W → sound t windows place used at r ≡ true
 unfolding sound keeps within own
-row-sound k windows v place used at r W l h d c e w =
+row-sound t windows v place used at r W l h d c e w =
     both (le-leb place maxBids l)
     (both (ap not (h .bidder-new))
     (both (both (le-leb 1 (r .bidder) (h .bidder-low)) (le-leb (r .bidder) maxBidder (h .bidder-high)))
     (both (le-leb (r .price) maxPrice (h .price-high))
     (both (both (le-leb 1 (r .count) (h .some-window))
-    (le-leb (r .count) (mostWindows k) (count-most k r (h .few-windows) (h .one-window))))
+    (le-leb (r .count) (mostWindows (t .kind)) (count-most (t .kind) r (h .few-windows) (h .one-window))))
     (both (eq-eqb (r .first) at (h .begins))
     (both (le-leb (at + r .count) (length windows / windowWidth) e)
     (ap (λ (f : ℕ). allLawful (windowsOf (r .count) (drop (windowWidth * f) windows))) (h .begins)
     ∙ ap (λ ws. allLawful (windowsOf (r .count) ws)) d ∙ all-lawful (r .count) W v c w)))))))
 
-rows-sound : (k : Kind) (windows v : List ℕ) (place : ℕ) (used : List ℕ) (at : ℕ) (rs : List Row) (W : List Window) (end : ℕ)
-    → RowsRules k used at rs end → place + length rs ≤ 1001 →
+rows-sound : (t : Tender) (windows v : List ℕ) (place : ℕ) (used : List ℕ) (at : ℕ) (rs : List Row) (W : List Window) (end : ℕ)
+    → RowsRules (t .kind) used at rs end → place + length rs ≤ 1001 →
     drop (windowWidth * at) windows ≡ flatWindows W ++ v → at + length W ≡ end → end ≤ length windows / windowWidth
     → WindowsRules W
-    → rowFault k windows place used at rs ≡ none
+    → rowFault t windows place used at rs ≡ none
 unfolding rowFault
-rows-sound k windows v place used at [] W end h l d e f w = refl
-rows-sound k windows v place used at (r ∷ rs) W end h l d e f w =
-    let m = rows-end k (used ++ r .bidder ∷ []) (at + r .count) rs end (h .1) in
+rows-sound t windows v place used at [] W end h l d e f w = refl
+rows-sound t windows v place used at (r ∷ rs) W end h l d e f w =
+    let m = rows-end (t .kind) (used ++ r .bidder ∷ []) (at + r .count) rs end (h .1) in
     let i : windowWidth * (at + r .count) ≡ windowWidth * at + windowWidth * r .count = omega arith in
     let n : drop (windowWidth * (at + r .count)) windows ≡ flatWindows (drop (r .count) W) ++ v =
     ap (λ (j : ℕ). drop j windows) i
     ∙ sym (drop-drop (windowWidth * r .count) (windowWidth * at) windows) ∙ ap (drop (windowWidth * r .count)) d
     ∙ drop-flat (r .count) W v (omega arith) in
-    rw (row-sound k windows v place used at r W (omega arith) (h .0) d (omega arith) (omega arith) w)
-    (rows-sound k windows v (place + 1) (used ++ r .bidder ∷ []) (at + r .count) rs (drop (r .count) W) end (h .1) (omega arith) n
+    rw (row-sound t windows v place used at r W (omega arith) (h .0) d (omega arith) (omega arith) w)
+    (rows-sound t windows v (place + 1) (used ++ r .bidder ∷ []) (at + r .count) rs (drop (r .count) W) end (h .1) (omega arith) n
     (omega (arith, length-drop (r .count) W)) f (drop-rules (r .count) W w))
 
 same-kind : (k : Kind) → sameKind k k ≡ true
@@ -124,7 +124,7 @@ never-nine T R W v w h =
       both (both (same-kind (T .kind)) (rules-sound T (h .tender))) (le-leb (length R) (length (flatRows R ++ v) / bidWidth) l),
       rows-flat R v,
     )
-    (rows-sound (T .kind) (flatWindows W ++ w) w 1 [] 0 R W (length W) (h .rows) (omega (arith, h .few-bids)) refl (omega arith) m
+    (rows-sound T (flatWindows W ++ w) w 1 [] 0 R W (length W) (h .rows) (omega (arith, h .few-bids)) refl (omega arith) m
     (h .windows))
 
 before-end : (xs v v′ : List ℕ) (j : ℕ) → j < length xs → getD (xs ++ v) j 0 ≡ getD (xs ++ v′) j 0

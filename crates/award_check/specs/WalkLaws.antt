@@ -9,7 +9,7 @@ use native.Mathlib.Omega.{arith}
 use lib.ListN.{length, getD, drop, replicate, length-replicate}
 use lib.Dec.{leb, ltb, eqb}
 use borrow.Author.Tests.{not-true, not-false, ltb-true, ltb-false, leb-true, le-leb, lt-leb, eqb-true, eqb-false, eq-eqb, ne-eqb}
-use Rattle.tender.specs.declared.Kind.{Kind}
+use Rattle.tender.specs.declared.Tender.{Tender}
 use Rattle.tender.specs.Limits.{within, lawful, allLawful}
 use Rattle.cover.specs.SetLaws.{and-split}
 use Rattle.tender.specs.Tables.{Row, rowsOf, windowsOf, bidWidth, windowWidth, windowAt}
@@ -103,91 +103,94 @@ passed-more used used′ list b p f l = record { size = l ∙ p .size; tied = λ
         side x d false true e f′ = f .above x (omega (arith, ltb-true b x f′))
         side x d false false e f′ = absurd (eqb-false b x d (omega (arith, ltb-false x b e, ltb-false b x f′)))
 
-is-sound : (k : Kind) (windows : List ℕ) (place : ℕ) (used : List ℕ) (at : ℕ) (r : Row) → leb place 1000 ≡ true
-    → among (r .bidder) used ≡ false → keeps k windows at r ≡ true → sound k windows place used at r ≡ true
+is-sound : (t : Tender) (windows : List ℕ) (place : ℕ) (used : List ℕ) (at : ℕ) (r : Row) → leb place 1000 ≡ true
+    → among (r .bidder) used ≡ false → keeps t windows at r ≡ true → sound t windows place used at r ≡ true
 unfolding sound
-is-sound k windows place used at r a b c = rw (a, b, c)
+is-sound t windows place used at r a b c = rw (a, b, c)
 
 -- the rows from j on have the first fault of all of them
-pub record Going (k : Kind) (n : ℕ) (bids windows used : List ℕ) (at j : ℕ) : Type 0 where
+pub record Going (t : Tender) (n : ℕ) (bids windows used : List ℕ) (at j : ℕ) : Type 0 where
   pub list : List ℕ
   pub passed : RowsPassed used list
   pub inside : j ≤ n
   pub room : at ≤ length windows / windowWidth
-  pub rest : rowFault k windows (j + 1) list at (rowsOf (n - j) (drop (bidWidth * j) bids)) ≡ rowFault k windows 1 [] 0 (rowsOf n bids)
+  pub rest : rowFault t windows (j + 1) list at (rowsOf (n - j) (drop (bidWidth * j) bids))
+      ≡ rowFault t windows 1 [] 0 (rowsOf n bids)
 
-pub going-starts : (k : Kind) (n : ℕ) (bids windows used : List ℕ) → used ≡ replicate {A = ℕ} 15625 0
-    → Going k n bids windows used 0 0
-going-starts k n bids windows used e =
+pub going-starts : (t : Tender) (n : ℕ) (bids windows used : List ℕ) → used ≡ replicate {A = ℕ} 15625 0
+    → Going t n bids windows used 0 0
+going-starts t n bids windows used e =
     let d : n - 0 ≡ n = omega arith in
     record {
       list = [];
       passed = passed-none used e;
       inside = omega arith;
       room = omega arith;
-      rest = ap (λ (m : ℕ). rowFault k windows 1 [] 0 (rowsOf m bids)) d;
+      rest = ap (λ (m : ℕ). rowFault t windows 1 [] 0 (rowsOf m bids)) d;
     }
 
-module _ (k : Kind) (n : ℕ) (bids windows used : List ℕ) (at j : ℕ) (g : Going k n bids windows used at j) where
-  pub going-ends : n ≤ j → none ≡ rowFault k windows 1 [] 0 (rowsOf n bids)
+module _ (t : Tender) (n : ℕ) (bids windows used : List ℕ) (at j : ℕ) (g : Going t n bids windows used at j) where
+  pub going-ends : n ≤ j → none ≡ rowFault t windows 1 [] 0 (rowsOf n bids)
   unfolding rowFault rowsOf
   going-ends l = let d : n - j ≡ 0 = omega arith in
-      sym (ap (λ (m : ℕ). rowFault k windows (j + 1) (g .list) at (rowsOf m (drop (bidWidth * j) bids))) d) ∙ g .rest
+      sym (ap (λ (m : ℕ). rowFault t windows (j + 1) (g .list) at (rowsOf m (drop (bidWidth * j) bids))) d) ∙ g .rest
 
-  step : j < n → rowFault k windows 1 [] 0 (rowsOf n bids)
-      ≡ cond (sound k windows (j + 1) (g .list) at (bidRowAt bids j))
-      (rowFault k windows (j + 1 + 1) (g .list ++ bidRowAt bids j .bidder ∷ []) (at + bidRowAt bids j .count)
+  step : j < n → rowFault t windows 1 [] 0 (rowsOf n bids)
+      ≡ cond (sound t windows (j + 1) (g .list) at (bidRowAt bids j))
+      (rowFault t windows (j + 1 + 1) (g .list ++ bidRowAt bids j .bidder ∷ []) (at + bidRowAt bids j .count)
       (rowsOf (n - (j + 1)) (drop (bidWidth * (j + 1)) bids))) (some (j + 1))
   unfolding rowFault
   step l =
       let d : n - j ≡ suc (n - (j + 1)) = omega arith in
-      sym (g .rest) ∙ ap (λ (m : ℕ). rowFault k windows (j + 1) (g .list) at (rowsOf m (drop (bidWidth * j) bids))) d
-      ∙ ap (rowFault k windows (j + 1) (g .list) at) (rows-step (n - (j + 1)) j bids)
+      sym (g .rest) ∙ ap (λ (m : ℕ). rowFault t windows (j + 1) (g .list) at (rowsOf m (drop (bidWidth * j) bids))) d
+      ∙ ap (rowFault t windows (j + 1) (g .list) at) (rows-step (n - (j + 1)) j bids)
 
-  unsound : j < n → sound k windows (j + 1) (g .list) at (bidRowAt bids j) ≡ false
-      → some (j + 1) ≡ rowFault k windows 1 [] 0 (rowsOf n bids)
+  unsound : j < n → sound t windows (j + 1) (g .list) at (bidRowAt bids j) ≡ false
+      → some (j + 1) ≡ rowFault t windows 1 [] 0 (rowsOf n bids)
   unsound l e = sym (rw e at (step l))
 
   -- a 1,001st bid, a row that breaks a rule, a bidder number used before
-  pub too-many : j < n → 1000 ≤ j → some (j + 1) ≡ rowFault k windows 1 [] 0 (rowsOf n bids)
+  pub too-many : j < n → 1000 ≤ j → some (j + 1) ≡ rowFault t windows 1 [] 0 (rowsOf n bids)
   unfolding sound
   too-many l h = unsound l (rw (lt-leb (j + 1) 1000 (omega arith)))
 
-  pub breaks : j < n → j < 1000 → keeps k windows at (bidRowAt bids j) ≡ false
-      → some (j + 1) ≡ rowFault k windows 1 [] 0 (rowsOf n bids)
+  pub breaks : j < n → j < 1000 → keeps t windows at (bidRowAt bids j) ≡ false
+      → some (j + 1) ≡ rowFault t windows 1 [] 0 (rowsOf n bids)
   unfolding sound
   breaks l h e = unsound l (rw (le-leb (j + 1) 1000 (omega arith), e) (and-false (not (among (bidRowAt bids j .bidder) (g .list)))))
 
   pub repeated : j < n → j < 1000 → eqb (cell used (bidRowAt bids j .bidder)) 1 ≡ true
-      → some (j + 1) ≡ rowFault k windows 1 [] 0 (rowsOf n bids)
+      → some (j + 1) ≡ rowFault t windows 1 [] 0 (rowsOf n bids)
   unfolding sound
   repeated l h e = unsound l (rw (le-leb (j + 1) 1000 (omega arith), ← g .passed .tied (bidRowAt bids j .bidder), e))
 
-  pub going-on : j < n → j < 1000 → keeps k windows at (bidRowAt bids j) ≡ true
+  pub going-on : j < n → j < 1000 → keeps t windows at (bidRowAt bids j) ≡ true
       → eqb (cell used (bidRowAt bids j .bidder)) 1 ≡ false → (used′ : List ℕ) →
       RangeAdded (bidRowAt bids j .bidder) (bidRowAt bids j .bidder + 1) used used′ → length used′ ≡ length used
-      → Going k n bids windows used′ (at + bidRowAt bids j .count) (j + 1)
+      → Going t n bids windows used′ (at + bidRowAt bids j .count) (j + 1)
   going-on l h e f used′ fills s = record {
     list = g .list ++ bidRowAt bids j .bidder ∷ [];
     passed = passed-more used used′ (g .list) (bidRowAt bids j .bidder) (g .passed) fills s;
     inside = omega arith;
-    room = leb-true (at + bidRowAt bids j .count) (length windows / windowWidth) (keeps-kept k windows at (bidRowAt bids j) e .room);
-    rest = sym (step l ∙ ap (λ t. cond t (rowFault k windows (j + 1 + 1) (g .list ++ bidRowAt bids j .bidder ∷ [])
+    room = leb-true (at + bidRowAt bids j .count) (length windows / windowWidth)
+        (keeps-kept t windows at (bidRowAt bids j) e .room);
+    rest = sym (step l ∙ ap (λ b. cond b (rowFault t windows (j + 1 + 1) (g .list ++ bidRowAt bids j .bidder ∷ [])
         (at + bidRowAt bids j .count)
         (rowsOf (n - (j + 1)) (drop (bidWidth * (j + 1)) bids))) (some (j + 1))) sound-here);
   }
     where
-      sound-here : sound k windows (j + 1) (g .list) at (bidRowAt bids j) ≡ true
-      sound-here = is-sound k windows (j + 1) (g .list) at (bidRowAt bids j) (le-leb (j + 1) 1000 (omega arith))
+      sound-here : sound t windows (j + 1) (g .list) at (bidRowAt bids j) ≡ true
+      sound-here = is-sound t windows (j + 1) (g .list) at (bidRowAt bids j) (le-leb (j + 1) 1000 (omega arith))
           (sym (g .passed .tied (bidRowAt bids j .bidder)) ∙ f) e
 
   -- the bidder number of a row that keeps its rules is a cell of the words
-  pub bidder-cell : keeps k windows at (bidRowAt bids j) ≡ true → bidRowAt bids j .bidder < 64 * length used
+  pub bidder-cell : keeps t windows at (bidRowAt bids j) ≡ true → bidRowAt bids j .bidder < 64 * length used
   unfolding within
   bidder-cell e =
       let b = and-split (leb 1 (bidRowAt bids j .bidder)) (leb (bidRowAt bids j .bidder) 999999)
-      (keeps-kept k windows at (bidRowAt bids j) e .bidder) in
+      (keeps-kept t windows at (bidRowAt bids j) e .bidder) in
       omega (arith, g .passed .size, leb-true (bidRowAt bids j .bidder) 999999 (b .1))
 
-  pub room-here : keeps k windows at (bidRowAt bids j) ≡ true → at + bidRowAt bids j .count ≤ length windows / windowWidth
-  room-here e = leb-true (at + bidRowAt bids j .count) (length windows / windowWidth) (keeps-kept k windows at (bidRowAt bids j) e .room)
+  pub room-here : keeps t windows at (bidRowAt bids j) ≡ true → at + bidRowAt bids j .count ≤ length windows / windowWidth
+  room-here e = leb-true (at + bidRowAt bids j .count) (length windows / windowWidth)
+      (keeps-kept t windows at (bidRowAt bids j) e .room)

@@ -36,9 +36,10 @@ fn same_kind(a: Kind, b: Kind) -> bool
     kind_number(a) == kind_number(b)
 }
 
-fn most_windows(kind: Kind) -> u64
-    ensures { λ r. ⌜ r ≡ mostWindows kind ⌝ }
+fn most_windows(tender: Tender) -> u64
+    ensures { λ r. ⌜ r ≡ mostWindows (tender .kind) ⌝ }
 {
+    let kind = tender.kind;
     match kind {
         Kind::Single => 1,
         Kind::Multi => 32,
@@ -76,7 +77,7 @@ fn between(a: u64, z: u64, n: u64) -> bool
 
 // Whether a row keeps its rules, where the windows of the row before end at `at`.
 fn row_keeps(
-    kind: Kind,
+    tender: Tender,
     windows: &[u64],
     at: usize,
     bidder: u64,
@@ -85,7 +86,7 @@ fn row_keeps(
     count: u64,
 ) -> bool
     requires { ⌜ at ≤ length (now windows) / windowWidth ⌝ }
-    ensures { λ r. ⌜ r ≡ keeps kind (now (windows .entry))
+    ensures { λ r. ⌜ r ≡ keeps tender (now (windows .entry))
         at (record { bidder = bidder; price = price; first = first; count = count }) ⌝ }
 {
     if !between(1, 999999, bidder) {
@@ -94,7 +95,7 @@ fn row_keeps(
     if 100000000 < price {
         return false;
     }
-    if !between(1, most_windows(kind), count) {
+    if !between(1, most_windows(tender), count) {
         return false;
     }
     if first != at as u64 {
@@ -107,9 +108,9 @@ fn row_keeps(
 }
 
 // The place of the first row that breaks a rule.
-fn row_fault(kind: Kind, count: usize, bids: &[u64], windows: &[u64]) -> Check
+fn row_fault(tender: Tender, count: usize, bids: &[u64], windows: &[u64]) -> Check
     requires { ⌜ count ≤ length (now bids) / bidWidth ⌝ }
-    ensures { λ r. ⌜ checkedFault r ≡ rowFault kind (now (windows .entry)) 1 [] 0 (rowsOf count (now (bids .entry))) ⌝ }
+    ensures { λ r. ⌜ checkedFault r ≡ rowFault tender (now (windows .entry)) 1 [] 0 (rowsOf count (now (bids .entry))) ⌝ }
 {
     // The bidder numbers of the rows passed.
     let mut used = [0u64; 15625];
@@ -123,7 +124,7 @@ fn row_fault(kind: Kind, count: usize, bids: &[u64], windows: &[u64]) -> Check
         let bidder = bids[tender::BID_WIDTH * j];
         let windows_here = bids[tender::BID_WIDTH * j + 3];
         if !row_keeps(
-            kind,
+            tender,
             windows,
             at,
             bidder,
@@ -175,5 +176,5 @@ pub fn fault(kind: Kind, tender: Tender, count: usize, bids: &[u64], windows: &[
     if bids.len() / tender::BID_WIDTH < count {
         return Check::Faulty { row: 0 };
     }
-    row_fault(kind, count, bids, windows)
+    row_fault(tender, count, bids, windows)
 }

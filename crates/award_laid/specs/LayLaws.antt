@@ -27,6 +27,7 @@ use Rattle.award_check.specs.Faults.{faultOf}
 use Rattle.award_check.specs.Cells.{cellsOf, bidRowAt}
 use Rattle.award_check.specs.Auction.{houses, auctionOf}
 use Rattle.award_check.specs.AuctionLaws.{thin-told, none-thin}
+use Rattle.award_check.specs.AlikeLaws.{own-kind}
 use Rattle.award_layout.specs.Orderly.{Orderly, PricesLaid, SpansLaid, AllMasked}
 use Rattle.award_layout.specs.LayoutLaws.{orderly, cells-within, prices-laid, spans-have, spans-ordered, spans-inside, masks-have}
 use Rattle.award_laid.specs.Lay.{Tells, LaidSpans, LaidMasks}
@@ -109,8 +110,11 @@ spans-ready t n bids windows ps starts ends qs ss es f a b c u v p l = record {
 }
 
 module _ (t : Tender) (n : ℕ) (bids windows ps starts ends : List ℕ) (r : SpansReady t n bids windows ps starts ends) where
-  o : Orderly Single n bids windows
+  o : Orderly t n bids windows
   o = orderly Single t n bids windows (r .sound)
+
+  kind-is : t .kind ≡ Single
+  kind-is = own-kind Single t n bids windows (r .sound)
 
   module _ (e : t .reserve ≡ Absent) where
     no-house : (q : ℕ) → t .reserve ≡ Price q → (getD starts n 0 ≡ 0) × (getD ends n 0 ≡ cellsOf t)
@@ -120,15 +124,15 @@ module _ (t : Tender) (n : ℕ) (bids windows ps starts ends : List ℕ) (r : Sp
     spans-owners = record {
       same = r .end-count ∙ sym (r .start-count);
       few = omega (arith, o .few, r .start-count, ap houses e);
-      ordered = spans-ordered t n bids windows starts ends o (r .start-count) (r .end-count) (r .laid) no-house;
-      inside = spans-inside t n bids windows starts ends o (r .start-count) (r .end-count) (r .laid) no-house;
+      ordered = spans-ordered t n bids windows starts ends o kind-is (r .start-count) (r .end-count) (r .laid) no-house;
+      inside = spans-inside t n bids windows starts ends o kind-is (r .start-count) (r .end-count) (r .laid) no-house;
     }
 
     pub lays-owners : (thin : Thin) → Says (spans starts ends) (length starts) (cellsOf t) thin
         → LaidSpans t n bids windows ps starts ends thin
     lays-owners thin s =
         let m : length starts ≡ n = omega (arith, r .start-count, ap houses e) in
-        let h = spans-have t n bids windows starts ends o (r .start-count) (r .end-count) (r .laid) no-house in
+        let h = spans-have t n bids windows starts ends o kind-is (r .start-count) (r .end-count) (r .laid) no-house in
         record {
           prices-are = prices-owners t n bids windows ps (r .price-count) (r .priced) e;
           has-is = h;
@@ -141,9 +145,9 @@ module _ (t : Tender) (n : ℕ) (bids windows ps starts ends : List ℕ) (r : Sp
       → LaidSpans t n bids windows (set ps n q) (set starts n 0) (set ends n (cellsOf t)) Enough
   lays-house q e = record {
     prices-are = prices-house t n bids windows ps (r .price-count) (r .priced) q e;
-    has-is = spans-have t n bids windows (set starts n 0) (set ends n (cellsOf t)) o a b l house;
-    ordered = spans-ordered t n bids windows (set starts n 0) (set ends n (cellsOf t)) o a b l house;
-    inside = spans-inside t n bids windows (set starts n 0) (set ends n (cellsOf t)) o a b l house;
+    has-is = spans-have t n bids windows (set starts n 0) (set ends n (cellsOf t)) o kind-is a b l house;
+    ordered = spans-ordered t n bids windows (set starts n 0) (set ends n (cellsOf t)) o kind-is a b l house;
+    inside = spans-inside t n bids windows (set starts n 0) (set ends n (cellsOf t)) o kind-is a b l house;
     thin-is = tells-none t n bids windows q e;
   }
     where

@@ -8,7 +8,6 @@ use lib.ListN.{length, getD, set, drop}
 use lib.Seq.{getD-set-same, getD-set-other}
 use lib.Dec.{leb, ltb, eqb}
 use borrow.Author.Tests.{ltb-true, ltb-false, leb-true}
-use Rattle.tender.specs.declared.Kind.{Kind}
 use Rattle.tender.specs.declared.Tender.{Tender}
 use Rattle.tender.specs.Limits.{within, mostWindows}
 use Rattle.cover.specs.SetLaws.{and-split}
@@ -116,14 +115,14 @@ masking-ends t windows first count j words m l = record { sets = λ x. sym (none
         ∙ off (eqb (cell words x) 1) (ltb x (cellsOf t))
 
 -- the windows of a row stand in the table
-module _ (k : Kind) (n : ℕ) (bids windows : List ℕ) (o : Orderly k n bids windows) (i : ℕ) (l : i < n) where
+module _ (t : Tender) (n : ℕ) (bids windows : List ℕ) (o : Orderly t n bids windows) (i : ℕ) (l : i < n) where
   pub row-room : bidRowAt bids i .first + bidRowAt bids i .count ≤ length windows / windowWidth
   row-room = leb-true (bidRowAt bids i .first + bidRowAt bids i .count) (length windows / windowWidth) (o .kept i l .room)
 
   some-window : 1 ≤ bidRowAt bids i .count
   unfolding within
   some-window = leb-true 1 (bidRowAt bids i .count)
-      (and-split (leb 1 (bidRowAt bids i .count)) (leb (bidRowAt bids i .count) (mostWindows k))
+      (and-split (leb 1 (bidRowAt bids i .count)) (leb (bidRowAt bids i .count) (mostWindows (t .kind)))
       (o .kept i l .count) .0)
 
   pub first-room : bidRowAt bids i .first + 1 ≤ length windows / windowWidth

@@ -30,53 +30,53 @@ use Rattle.award_check.specs.AlikeLaws.{Kept, keeps-kept, sound-keeps, sound-fi
 use Rattle.award_layout.specs.Orderly.{Orderly, clipped, SpansLaid, AllMasked}
 
 -- each row of faultless rows keeps the rules, and they are few
-module _ (k : Kind) (windows : List ℕ) where
-  sound-place : (place : ℕ) (used : List ℕ) (at : ℕ) (r : Row) → sound k windows place used at r ≡ true → place ≤ 1000
+module _ (t : Tender) (windows : List ℕ) where
+  sound-place : (place : ℕ) (used : List ℕ) (at : ℕ) (r : Row) → sound t windows place used at r ≡ true → place ≤ 1000
   unfolding sound
   sound-place place used at r e = leb-true place 1000 (and-split (leb place 1000) _ e .0)
 
-  rows-kept : (place : ℕ) (used : List ℕ) (at : ℕ) (rs : List Row) → rowFault k windows place used at rs ≡ none → (i : ℕ)
+  rows-kept : (place : ℕ) (used : List ℕ) (at : ℕ) (rs : List Row) → rowFault t windows place used at rs ≡ none → (i : ℕ)
       → i < length rs
-      → Kept k windows (getD rs i noRow .first) (getD rs i noRow)
+      → Kept t windows (getD rs i noRow .first) (getD rs i noRow)
   unfolding rowFault
   rows-kept place used at [] e i l = absurd (omega arith)
-  rows-kept place used at (r ∷ rs) e i l = go (sound k windows place used at r) refl e i l
+  rows-kept place used at (r ∷ rs) e i l = go (sound t windows place used at r) refl e i l
       (rows-kept (place + 1) (used ++ r .bidder ∷ []) (at + r .count) rs)
     where
-      go : (b : Bool) → sound k windows place used at r ≡ b
-          → cond b (rowFault k windows (place + 1) (used ++ r .bidder ∷ []) (at + r .count) rs) (some place) ≡ none → (i : ℕ)
+      go : (b : Bool) → sound t windows place used at r ≡ b
+          → cond b (rowFault t windows (place + 1) (used ++ r .bidder ∷ []) (at + r .count) rs) (some place) ≡ none → (i : ℕ)
           → i < suc (length rs) →
-          (rowFault k windows (place + 1) (used ++ r .bidder ∷ []) (at + r .count) rs ≡ none → (i : ℕ) → i < length rs
-          → Kept k windows (getD rs i noRow .first) (getD rs i noRow)) →
-          Kept k windows (getD (r ∷ rs) i noRow .first) (getD (r ∷ rs) i noRow)
+          (rowFault t windows (place + 1) (used ++ r .bidder ∷ []) (at + r .count) rs ≡ none → (i : ℕ) → i < length rs
+          → Kept t windows (getD rs i noRow .first) (getD rs i noRow)) →
+          Kept t windows (getD (r ∷ rs) i noRow .first) (getD (r ∷ rs) i noRow)
       go false s e i l ih = let z : _≡_ {A = ℕ} 0 1 = cc in absurd (omega arith)
-      go true s e zero l ih = subst (λ (a : ℕ). Kept k windows a r) (sym (sound-first k windows place used at r s))
-          (keeps-kept k windows at r (sound-keeps k windows place used at r s))
+      go true s e zero l ih = subst (λ (a : ℕ). Kept t windows a r) (sym (sound-first t windows place used at r s))
+          (keeps-kept t windows at r (sound-keeps t windows place used at r s))
       go true s e (suc i) l ih = ih e i (omega arith)
 
-  rows-few : (place : ℕ) (used : List ℕ) (at : ℕ) (rs : List Row) → rowFault k windows place used at rs ≡ none → place ≤ 1001
+  rows-few : (place : ℕ) (used : List ℕ) (at : ℕ) (rs : List Row) → rowFault t windows place used at rs ≡ none → place ≤ 1001
       → place + length rs ≤ 1001
   unfolding rowFault
   rows-few place used at [] e l = omega arith
-  rows-few place used at (r ∷ rs) e l = go (sound k windows place used at r) refl e
+  rows-few place used at (r ∷ rs) e l = go (sound t windows place used at r) refl e
       (rows-few (place + 1) (used ++ r .bidder ∷ []) (at + r .count) rs)
     where
-      go : (b : Bool) → sound k windows place used at r ≡ b
-          → cond b (rowFault k windows (place + 1) (used ++ r .bidder ∷ []) (at + r .count) rs) (some place) ≡ none →
-          (rowFault k windows (place + 1) (used ++ r .bidder ∷ []) (at + r .count) rs ≡ none → place + 1 ≤ 1001
+      go : (b : Bool) → sound t windows place used at r ≡ b
+          → cond b (rowFault t windows (place + 1) (used ++ r .bidder ∷ []) (at + r .count) rs) (some place) ≡ none →
+          (rowFault t windows (place + 1) (used ++ r .bidder ∷ []) (at + r .count) rs ≡ none → place + 1 ≤ 1001
           → place + 1 + length rs ≤ 1001) → place + suc (length rs) ≤ 1001
       go false s e ih = let z : _≡_ {A = ℕ} 0 1 = cc in absurd (omega arith)
       go true s e ih = omega (arith, ih e (omega (arith, sound-place place used at r s)))
 
 pub orderly : (k : Kind) (t : Tender) (n : ℕ) (bids windows : List ℕ) → faultOf k t n bids windows ≡ none
-    → Orderly k n bids windows
+    → Orderly t n bids windows
 orderly k t n bids windows e =
     let f = faultless k t n bids windows e in
     let a = and-split (sameKind k (t .kind) && soundTender t) (leb n (length bids / bidWidth)) (f .tender) in
     record {
-      few = omega (arith, rows-few k windows 1 [] 0 (rowsOf n bids) (f .rows) (omega arith), rows-length n bids);
+      few = omega (arith, rows-few t windows 1 [] 0 (rowsOf n bids) (f .rows) (omega arith), rows-length n bids);
       lent = leb-true n (length bids / bidWidth) (a .1);
-      kept = λ i l. rw (row-named n i bids l) at (rows-kept k windows 1 [] 0 (rowsOf n bids) (f .rows) i
+      kept = λ i l. rw (row-named n i bids l) at (rows-kept t windows 1 [] 0 (rowsOf n bids) (f .rows) i
           (omega (arith, rows-length n bids)));
     }
 
@@ -178,14 +178,15 @@ pub clip-inside : (t : Tender) (s : ℕ) → clipped t s ≤ cellsOf t
 clip-inside t s = omega arith
 
 -- starts and ends of bids of one window each, and after them of the house, have the cells of the auction
-module _ (t : Tender) (n : ℕ) (bids windows starts ends : List ℕ) (o : Orderly Single n bids windows)
+module _ (t : Tender) (n : ℕ) (bids windows starts ends : List ℕ) (o : Orderly t n bids windows) (s : t .kind ≡ Single)
     (a : length starts ≡ n + houses (t .reserve)) (b : length ends ≡ n + houses (t .reserve))
     (p : SpansLaid n t bids windows starts ends)
     (h : (q : ℕ) → t .reserve ≡ Price q → (getD starts n 0 ≡ 0) × (getD ends n 0 ≡ cellsOf t)) where
   one-count : (i : ℕ) → i < n → bidRowAt bids i .count ≡ 1
   unfolding within mostWindows
   one-count i l =
-      let c = and-split (leb 1 (bidRowAt bids i .count)) (leb (bidRowAt bids i .count) 1) (o .kept i l .count) in
+      let c = and-split (leb 1 (bidRowAt bids i .count)) (leb (bidRowAt bids i .count) 1)
+      (rw s at (o .kept i l .count)) in
       omega (arith, leb-true 1 (bidRowAt bids i .count) (c .0), leb-true (bidRowAt bids i .count) 1 (c .1))
 
   own-one : (i : ℕ) → i < n → own windows (bidRowAt bids i)

@@ -5,7 +5,6 @@ use mathlib.Core.Bool.{_&&_}
 use Prim.Native.Nat.{ℕ, _+_, _-_, _/_, _≤_, _<_, min}
 use lib.ListN.{length, getD}
 use lib.Dec.{ltb, eqb}
-use Rattle.tender.specs.declared.Kind.{Kind}
 use Rattle.tender.specs.declared.Window.{Window}
 use Rattle.tender.specs.declared.Tender.{Tender}
 use Rattle.tender.specs.Tables.{own, windowAt, bidWidth}
@@ -15,10 +14,10 @@ use Rattle.award_check.specs.Cells.{holds, cellsOf, minuteOf, bidRowAt}
 use Rattle.award_check.specs.AlikeLaws.{Kept}
 
 -- n rows that keep the row rules
-pub record Orderly (k : Kind) (n : ℕ) (bids windows : List ℕ) : Type 0 where
+pub record Orderly (t : Tender) (n : ℕ) (bids windows : List ℕ) : Type 0 where
   pub few : n ≤ 1000
   pub lent : n ≤ length bids / bidWidth
-  pub kept : (i : ℕ) → i < n → Kept k windows (bidRowAt bids i .first) (bidRowAt bids i)
+  pub kept : (i : ℕ) → i < n → Kept t windows (bidRowAt bids i .first) (bidRowAt bids i)
 
 -- the cell of a minute, within the tender
 abbrev pub clipped : Tender → ℕ → ℕ

@@ -6,7 +6,6 @@ ghost use mathlib.Core.Path.{_≡_};
 ghost use Prim.Native.Nat.{ℕ, _+_, _*_, _/_, _≤_, _<_};
 ghost use lib.ListN.{length, getD, drop};
 ghost use mathlib.Core.Bool.{true};
-ghost use Rattle.tender.specs.declared.Kind.the-variants.{Single, Multi};
 ghost use Rattle.tender.specs.Limits.{maxBids, allLawful};
 ghost use Rattle.tender.specs.Tables.{windowsOf, bidWidth, windowWidth};
 ghost use Rattle.cells.specs.Masks.{masks};
@@ -76,7 +75,7 @@ fn clip(tender: Tender, minute: u64) -> u64
 
 // The starts and ends of bids of one window each.
 pub fn spans(tender: Tender, bids: &[u64], windows: &[u64], starts: &mut [u64], ends: &mut [u64])
-    requires { ⌜ Orderly Single (length (now starts)) (now bids) (now windows)
+    requires { ⌜ Orderly tender (length (now starts)) (now bids) (now windows)
         × ((length (now ends) ≡ length (now starts)) × (0 < cellsOf tender)) ⌝ }
     ensures { λ _. ⌜ SpansLaid (length (now (starts .entry))) tender (now (bids .entry)) (now (windows .entry)) (now (starts .exit))
         (now (ends .exit)) ⌝ }
@@ -144,7 +143,7 @@ fn masks_by(
     windows: &[u64],
     out: &mut [u64],
 )
-    requires { ⌜ Orderly Multi n (now bids) (now windows) × ((length (now out) ≡ w * n)
+    requires { ⌜ Orderly tender n (now bids) (now windows) × ((length (now out) ≡ w * n)
         × (((0 < cellsOf tender) × (cellsOf tender ≤ 64 * w)) × (w ≤ 158))) ⌝ }
     requires { ⌜ now table ≡ masks ⌝ }
     ensures { λ _. ⌜ AllMasked n tender w (now (bids .entry)) (now (windows .entry)) (now (out .exit)) ⌝ }
@@ -162,7 +161,7 @@ fn masks_by(
 
 // The words of each bid, w words a bid.
 pub fn masks(tender: Tender, w: usize, n: usize, bids: &[u64], windows: &[u64], out: &mut [u64])
-    requires { ⌜ Orderly Multi n (now bids) (now windows) × ((length (now out) ≡ w * n)
+    requires { ⌜ Orderly tender n (now bids) (now windows) × ((length (now out) ≡ w * n)
         × (((0 < cellsOf tender) × (cellsOf tender ≤ 64 * w)) × (w ≤ 158))) ⌝ }
     ensures { λ _. ⌜ AllMasked n tender w (now (bids .entry)) (now (windows .entry)) (now (out .exit)) ⌝ }
 {

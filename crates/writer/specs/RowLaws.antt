@@ -10,6 +10,7 @@ use lib.Dec.{leb}
 use borrow.Author.Tests.{leb-true, not-true}
 use Rattle.tender.specs.declared.Kind.{Kind}
 use Rattle.tender.specs.declared.Kind.the-variants.{Single, Multi}
+use Rattle.tender.specs.declared.Tender.{Tender}
 use Rattle.tender.specs.Limits.{within, mostWindows, allLawful}
 use Rattle.tender.specs.Tables.{Row, own}
 use Rattle.reader_word.specs.Words.{among}
@@ -25,26 +26,26 @@ unfolding own
 own-length windows r = windows-length (r .count) _
 
 -- the rows' rules, as facts
-pub record RowSays (k : Kind) (windows : List ℕ) (place : ℕ) (used : List ℕ) (r : Row) : Type 0 where
+pub record RowSays (t : Tender) (windows : List ℕ) (place : ℕ) (used : List ℕ) (r : Row) : Type 0 where
   pub place-low : place ≤ 1000
   pub bidder-new : among (r .bidder) used ≡ false
   pub bidder-low : 1 ≤ r .bidder
   pub bidder-high : r .bidder ≤ 999999
   pub price-high : r .price ≤ 100000000
   pub some-window : 1 ≤ r .count
-  pub most-windows : r .count ≤ mostWindows k
+  pub most-windows : r .count ≤ mostWindows (t .kind)
   pub all-lawful : allLawful (own windows r) ≡ true
 
-pub row-says : (k : Kind) (windows : List ℕ) (place : ℕ) (used : List ℕ) (at : ℕ) (r : Row)
-    → sound k windows place used at r ≡ true
-    → RowSays k windows place used r
+pub row-says : (t : Tender) (windows : List ℕ) (place : ℕ) (used : List ℕ) (at : ℕ) (r : Row)
+    → sound t windows place used at r ≡ true
+    → RowSays t windows place used r
 unfolding sound within
-row-says k windows place used at r e =
+row-says t windows place used at r e =
     let a = and-split (leb place 1000) _ e in
     let u = and-split (not (among (r .bidder) used)) _ (a .1) in
-    let s = keeps-kept k windows at r (u .1) in
+    let s = keeps-kept t windows at r (u .1) in
     let b = and-split (leb 1 (r .bidder)) (leb (r .bidder) 999999) (s .bidder) in
-    let c = and-split (leb 1 (r .count)) (leb (r .count) (mostWindows k)) (s .count) in
+    let c = and-split (leb 1 (r .count)) (leb (r .count) (mostWindows (t .kind))) (s .count) in
     record {
       place-low = leb-true place 1000 (a .0);
       bidder-new = not-true (among (r .bidder) used) (u .0);
@@ -52,13 +53,14 @@ row-says k windows place used at r e =
       bidder-high = leb-true (r .bidder) 999999 (b .1);
       price-high = leb-true (r .price) 100000000 (s .price);
       some-window = leb-true 1 (r .count) (c .0);
-      most-windows = leb-true (r .count) (mostWindows k) (c .1);
+      most-windows = leb-true (r .count) (mostWindows (t .kind)) (c .1);
       all-lawful = s .windows-too;
     }
 
-pub joined-count : (k : Kind) (windows : List ℕ) (place : ℕ) (used : List ℕ) (r : Row) → RowSays k windows place used r
-    → length (joined (own windows r)) ≤ mostWindows k
-joined-count k windows place used r s = omega (arith, joined-few (own windows r) (s .all-lawful), own-length windows r, s .most-windows)
+pub joined-count : (t : Tender) (windows : List ℕ) (place : ℕ) (used : List ℕ) (r : Row) → RowSays t windows place used r
+    → length (joined (own windows r)) ≤ mostWindows (t .kind)
+joined-count t windows place used r s =
+    omega (arith, joined-few (own windows r) (s .all-lawful), own-length windows r, s .most-windows)
 
 pub most-few : (k : Kind) → mostWindows k ≤ 32
 unfolding mostWindows
@@ -66,14 +68,14 @@ most-few Single = omega arith
 most-few Multi = omega arith
 
 -- the first row is sound, and the later ones have no fault
-pub split-fault : (k : Kind) (windows : List ℕ) (place : ℕ) (used : List ℕ) (at : ℕ) (r : Row) (rs : List Row)
-    → rowFault k windows place used at (r ∷ rs) ≡ none →
-    RowSays k windows place used r × (rowFault k windows (place + 1) (used ++ r .bidder ∷ []) (at + r .count) rs ≡ none)
+pub split-fault : (t : Tender) (windows : List ℕ) (place : ℕ) (used : List ℕ) (at : ℕ) (r : Row) (rs : List Row)
+    → rowFault t windows place used at (r ∷ rs) ≡ none →
+    RowSays t windows place used r × (rowFault t windows (place + 1) (used ++ r .bidder ∷ []) (at + r .count) rs ≡ none)
 unfolding rowFault
-split-fault k windows place used at r rs e = go (sound k windows place used at r) refl e
+split-fault t windows place used at r rs e = go (sound t windows place used at r) refl e
   where
-    go : (b : Bool) → sound k windows place used at r ≡ b
-        → cond b (rowFault k windows (place + 1) (used ++ r .bidder ∷ []) (at + r .count) rs) (some place) ≡ none →
-        RowSays k windows place used r × (rowFault k windows (place + 1) (used ++ r .bidder ∷ []) (at + r .count) rs ≡ none)
-    go true f x = (row-says k windows place used at r f, x)
+    go : (b : Bool) → sound t windows place used at r ≡ b
+        → cond b (rowFault t windows (place + 1) (used ++ r .bidder ∷ []) (at + r .count) rs) (some place) ≡ none →
+        RowSays t windows place used r × (rowFault t windows (place + 1) (used ++ r .bidder ∷ []) (at + r .count) rs ≡ none)
+    go true f x = (row-says t windows place used at r f, x)
     go false f x = let z : _≡_ {A = ℕ} 0 1 = cc in absurd (omega arith)

@@ -10,6 +10,7 @@ use lib.Dec.{leb, ltb}
 use borrow.Author.Tests.{leb-true, ltb-true, le-leb, lt-leb, le-ltb}
 use Rattle.tender.specs.declared.Kind.{Kind}
 use Rattle.tender.specs.declared.Kind.the-variants.{Single, Multi}
+use Rattle.tender.specs.declared.Tender.{Tender}
 use Rattle.tender.specs.declared.Window.{Window}
 use Rattle.tender.specs.declared.Reserve.{Reserve}
 use Rattle.tender.specs.declared.Reserve.the-variants.{Absent, Price}
@@ -48,10 +49,11 @@ unfolding allLawful
 all-named [] e = tt
 all-named (w ∷ ws) e = let a = and-split (lawful w) (allLawful ws) e in (lawful-named w (a .0), all-named ws (a .1))
 
-row-told : (k : Kind) (windows : List ℕ) (place : ℕ) (used : List ℕ) (r : Row) → RowSays k windows place used r
+row-told : (t : Tender) (windows : List ℕ) (place : ℕ) (used : List ℕ) (r : Row) → RowSays t windows place used r
     → Nameable (respelt (bidIn windows r))
 unfolding respelt bidIn
-row-told k windows place used r s = go (joined-some (own windows r) (s .all-lawful) (omega (arith, own-length windows r, s .some-window)))
+row-told t windows place used r s =
+    go (joined-some (own windows r) (s .all-lawful) (omega (arith, own-length windows r, s .some-window)))
   where
     go : (w : Window) × (vs : List Window) × (joined (own windows r) ≡ w ∷ vs) → Nameable (respelt (bidIn windows r))
     go (w, vs, q) = (
@@ -82,37 +84,37 @@ no-fault k bids bidder price count empty late used a b c d e f g h = rw (
   h,
 )
 
-row-read : (k : Kind) (windows : List ℕ) (place : ℕ) (used : List ℕ) (r : Row) → RowSays k windows place used r
-    → place ≡ length used + 1 → bidFault k used (respelt (bidIn windows r)) ≡ none
+row-read : (t : Tender) (windows : List ℕ) (place : ℕ) (used : List ℕ) (r : Row) → RowSays t windows place used r
+    → place ≡ length used + 1 → bidFault (t .kind) used (respelt (bidIn windows r)) ≡ none
 unfolding bidFault bidFaultAfter respelt bidIn
-row-read k windows place used r s p =
+row-read t windows place used r s p =
     let ws = joined (own windows r) in
     let h = lawful-every ws (joined-lawful (own windows r)) in
-    no-fault k (length used) (r .bidder) (r .price) (length ws) (not (every ordered ws)) (not (every early ws)) (among (r .bidder) used)
-    (omega (arith, s .place-low)) (joined-count k windows place used r s) (s .bidder-low) (s .bidder-high) (s .price-high)
+    no-fault (t .kind) (length used) (r .bidder) (r .price) (length ws) (not (every ordered ws)) (not (every early ws))
+    (among (r .bidder) used) (omega (arith, s .place-low)) (joined-count t windows place used r s) (s .bidder-low) (s .bidder-high) (s .price-high)
     (ap not (h .0)) (ap not (h .1)) (s .bidder-new)
 
 -- all rows
 
-pub rows-told : (k : Kind) (windows : List ℕ) (place : ℕ) (used : List ℕ) (at : ℕ) (rs : List Row)
-    → rowFault k windows place used at rs ≡ none → AllNameable (respeltIn windows rs)
+pub rows-told : (t : Tender) (windows : List ℕ) (place : ℕ) (used : List ℕ) (at : ℕ) (rs : List Row)
+    → rowFault t windows place used at rs ≡ none → AllNameable (respeltIn windows rs)
 unfolding respeltIn
-rows-told k windows place used at [] e = tt
-rows-told k windows place used at (r ∷ rs) e =
-    let s = split-fault k windows place used at r rs e in
-    (row-told k windows place used r (s .0), rows-told k windows (place + 1) (used ++ r .bidder ∷ []) (at + r .count) rs (s .1))
+rows-told t windows place used at [] e = tt
+rows-told t windows place used at (r ∷ rs) e =
+    let s = split-fault t windows place used at r rs e in
+    (row-told t windows place used r (s .0), rows-told t windows (place + 1) (used ++ r .bidder ∷ []) (at + r .count) rs (s .1))
 
 -- no line of the rows' bids is faulty
-pub rows-checked : (k : Kind) (windows : List ℕ) (place : ℕ) (used : List ℕ) (at line : ℕ) (rs : List Row) (out : ReadOutcome)
-    → rowFault k windows place used at rs ≡ none → place ≡ length used + 1 →
-    checked k line used (asLines (respeltIn windows rs)) out ≡ out
+pub rows-checked : (t : Tender) (windows : List ℕ) (place : ℕ) (used : List ℕ) (at line : ℕ) (rs : List Row) (out : ReadOutcome)
+    → rowFault t windows place used at rs ≡ none → place ≡ length used + 1 →
+    checked (t .kind) line used (asLines (respeltIn windows rs)) out ≡ out
 unfolding checked asLines lineJudged respeltIn respelt bidIn
-rows-checked k windows place used at line [] out e p = refl
-rows-checked k windows place used at line (r ∷ rs) out e p =
-    let s = split-fault k windows place used at r rs e in
-    let later = checked k (line + 1) (used ++ r .bidder ∷ []) (asLines (respeltIn windows rs)) out in
-    ap (λ f. lineJudged f line later) (row-read k windows place used r (s .0) p)
-    ∙ rows-checked k windows (place + 1) (used ++ r .bidder ∷ []) (at + r .count) (line + 1) rs out (s .1)
+rows-checked t windows place used at line [] out e p = refl
+rows-checked t windows place used at line (r ∷ rs) out e p =
+    let s = split-fault t windows place used at r rs e in
+    let later = checked (t .kind) (line + 1) (used ++ r .bidder ∷ []) (asLines (respeltIn windows rs)) out in
+    ap (λ f. lineJudged f line later) (row-read t windows place used r (s .0) p)
+    ∙ rows-checked t windows (place + 1) (used ++ r .bidder ∷ []) (at + r .count) (line + 1) rs out (s .1)
     (omega (arith, length-append used (r .bidder ∷ [])))
 
 -- the windows of each row are lawful
@@ -120,9 +122,9 @@ abbrev pub AllLawful : List ℕ → List Row → Type 0
 AllLawful windows [] = Unit {0}
 AllLawful windows (r ∷ rs) = (allLawful (own windows r) ≡ true) × AllLawful windows rs
 
-pub row-lawful : (k : Kind) (windows : List ℕ) (place : ℕ) (used : List ℕ) (at : ℕ) (rs : List Row)
-    → rowFault k windows place used at rs ≡ none → AllLawful windows rs
-row-lawful k windows place used at [] e = tt
-row-lawful k windows place used at (r ∷ rs) e =
-    let s = split-fault k windows place used at r rs e in
-    (s .0 .all-lawful, row-lawful k windows (place + 1) (used ++ r .bidder ∷ []) (at + r .count) rs (s .1))
+pub row-lawful : (t : Tender) (windows : List ℕ) (place : ℕ) (used : List ℕ) (at : ℕ) (rs : List Row)
+    → rowFault t windows place used at rs ≡ none → AllLawful windows rs
+row-lawful t windows place used at [] e = tt
+row-lawful t windows place used at (r ∷ rs) e =
+    let s = split-fault t windows place used at r rs e in
+    (s .0 .all-lawful, row-lawful t windows (place + 1) (used ++ r .bidder ∷ []) (at + r .count) rs (s .1))

@@ -52,7 +52,7 @@ module _ (text : List ℕ) (T : Tender) (R : List Row) (W : List Window) (e : re
   -- each row's windows are lawful
   pub read-all-lawful : AllLawful (flatWindows W) R
   read-all-lawful = rw (append-nil (flatWindows W)) at
-      (row-lawful (T .kind) (flatWindows W ++ []) 1 [] 0 R (read-lawful text T R W [] e .rows-too))
+      (row-lawful T (flatWindows W ++ []) 1 [] 0 R (read-lawful text T R W [] e .rows-too))
 
   -- what writing comes to: the text, or 14
   pub write-read : (v w : List ℕ) (room : ℕ) → writeInto T (length R) (flatRows R ++ v) (flatWindows W ++ w) room

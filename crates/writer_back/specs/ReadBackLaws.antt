@@ -37,7 +37,7 @@ use Rattle.writer_back.specs.OwnLaws.{noBid, bid-filled, respelt-length,
 -- a tender and rows without a fault
 pub record Lawful (t : Tender) (rows : List Row) (windows : List ℕ) : Type 0 where
   pub sound : soundTender t ≡ true
-  pub rows-too : rowFault (t .kind) windows 1 [] 0 rows ≡ none
+  pub rows-too : rowFault t windows 1 [] 0 rows ≡ none
 
 pub lawful-tables : (t : Tender) (n : ℕ) (bids windows : List ℕ) → faultOf (t .kind) t n bids windows ≡ none
     → Lawful t (rowsOf n bids) windows
@@ -54,7 +54,7 @@ unfolding canonical
 lines-are t rows windows h =
     let s = sound-rules t (h .sound) in
     text-back t (respeltIn windows rows) (lawful-named (asWindow (t .window)) (rules-lawful (asWindow (t .window)) (s .window)))
-    (reserve-named (t .reserve) (s .reserve)) (rows-told (t .kind) windows 1 [] 0 rows (h .rows-too))
+    (reserve-named (t .reserve) (s .reserve)) (rows-told t windows 1 [] 0 rows (h .rows-too))
 
 bids-as : (bs : List BidLine) → bidsOf (asLines bs) ≡ bs
 unfolding bidsOf asLines
@@ -74,7 +74,7 @@ lines-read t rows windows h =
     let ls = asLines (respeltIn windows rows) in
     lines-begun (map (λ x. some x) (headLines t) ++ ls) t _ ls
     (head-of t ls (h .sound) (λ e. bids-next (respeltIn windows rows)))
-    ∙ rows-checked (t .kind) windows 1 [] 0 _ rows (tables t (bidsOf ls)) (h .rows-too) refl
+    ∙ rows-checked t windows 1 [] 0 _ rows (tables t (bidsOf ls)) (h .rows-too) refl
     ∙ ap (tables t) (bids-as (respeltIn windows rows))
 
 text-read : (text : List ℕ) → length text ≤ 65536 → readText text ≡ readLines (linesOf (cut 10 text))
@@ -97,7 +97,7 @@ filled-same t rows windows v h = record {
   bidders = λ i l. sym (ap (λ (b : BidLine). b .bidder) (at i l));
   prices = λ i l. sym (ap (λ (b : BidLine). b .price) (at i l));
   minutes = λ i l m. sym (ap (λ (b : BidLine). holds (b .windows) m) (at i l)
-      ∙ minutes-at windows rows i m (row-lawful (t .kind) windows 1 [] 0 rows (h .rows-too)) l);
+      ∙ minutes-at windows rows i m (row-lawful t windows 1 [] 0 rows (h .rows-too)) l);
 }
   where
     bs : List BidLine
@@ -145,9 +145,9 @@ bids-same t rows windows t′ rows′ windows′ h h′ p q =
       bidders = λ i l. ap (λ (b : BidLine). b .bidder) (at c i l);
       prices = λ i l. ap (λ (b : BidLine). b .price) (at c i l);
       minutes = λ i l m.
-          sym (minutes-at windows rows i m (row-lawful (t .kind) windows 1 [] 0 rows (h .rows-too)) l)
+          sym (minutes-at windows rows i m (row-lawful t windows 1 [] 0 rows (h .rows-too)) l)
           ∙ ap (λ (b : BidLine). holds (b .windows) m) (at c i l)
-          ∙ minutes-at windows′ rows′ i m (row-lawful (t′ .kind) windows′ 1 [] 0 rows′ (h′ .rows-too)) (omega arith);
+          ∙ minutes-at windows′ rows′ i m (row-lawful t′ windows′ 1 [] 0 rows′ (h′ .rows-too)) (omega arith);
     }
   where
     at : length rows ≡ length rows′ → (i : ℕ) → i < length rows

@@ -110,7 +110,8 @@ mask-row-requires c κs =
     let args = start .args in
     let pre = start .pre .0 in (
       (
-        row-room Multi (args .n) (args .bids .now) (args .windows .now) (pre .0) (c4 .loop .i) (c .before .before .before .loop-test .taken),
+        row-room (args .tender) (args .n) (args .bids .now) (args .windows .now) (pre .0) (c4 .loop .i)
+            (c .before .before .before .loop-test .taken),
         (
           pre .0 .kept (c4 .loop .i) (c .before .before .before .loop-test .taken) .windows-too,
           rw (part-row (c4 .loop .out) (args .w) (c4 .loop .i)) (

@@ -50,7 +50,7 @@ mul-clip c =
     let args = c7 .args in
     omega (
       arith,
-      first-room Single (length (args .starts .now)) (args .bids .now) (args .windows .now) (c7 .pre .0)
+      first-room (args .tender) (length (args .starts .now)) (args .bids .now) (args .windows .now) (c7 .pre .0)
           (c .before .before .loop .i) (omega arith),
     )
 
@@ -60,7 +60,7 @@ mul-clip-2 c =
     let args = c7 .args in
     omega (
       arith,
-      first-room Single (length (args .starts .now)) (args .bids .now) (args .windows .now) (c7 .pre .0)
+      first-room (args .tender) (length (args .starts .now)) (args .bids .now) (args .windows .now) (c7 .pre .0)
           (c .before .before .loop .i) (omega arith),
     )
 
@@ -70,7 +70,7 @@ shared-slice-read-clip c =
     let args = c8 .args in
     omega (
       arith,
-      first-room Single (length (args .starts .now)) (args .bids .now) (args .windows .now) (c8 .pre .0)
+      first-room (args .tender) (length (args .starts .now)) (args .bids .now) (args .windows .now) (c8 .pre .0)
           (c .before .before .before .loop .i) (omega arith),
     )
 
@@ -90,7 +90,7 @@ mul-clip-3 c =
     let args = c9 .args in
     omega (
       arith,
-      first-room Single (length (args .starts .now)) (args .bids .now) (args .windows .now) (c9 .pre .0) (c4 .loop .i)
+      first-room (args .tender) (length (args .starts .now)) (args .bids .now) (args .windows .now) (c9 .pre .0) (c4 .loop .i)
           (omega arith),
     )
 
@@ -101,7 +101,7 @@ add-clip c =
     let args = c9 .args in
     omega (
       arith,
-      first-room Single (length (args .starts .now)) (args .bids .now) (args .windows .now) (c9 .pre .0) (c4 .loop .i)
+      first-room (args .tender) (length (args .starts .now)) (args .bids .now) (args .windows .now) (c9 .pre .0) (c4 .loop .i)
           (omega arith),
     )
 
@@ -112,7 +112,7 @@ mul-clip-4 c =
     let args = c9 .args in
     omega (
       arith,
-      first-room Single (length (args .starts .now)) (args .bids .now) (args .windows .now) (c9 .pre .0) (c4 .loop .i)
+      first-room (args .tender) (length (args .starts .now)) (args .bids .now) (args .windows .now) (c9 .pre .0) (c4 .loop .i)
           (omega arith),
     )
 
@@ -123,7 +123,7 @@ shared-slice-read-clip-2 c =
     let args = c10 .args in
     omega (
       arith,
-      first-room Single (length (args .starts .now)) (args .bids .now) (args .windows .now) (c10 .pre .0) (c5 .loop .i)
+      first-room (args .tender) (length (args .starts .now)) (args .bids .now) (args .windows .now) (c10 .pre .0) (c5 .loop .i)
           (omega arith),
     )
 
