@@ -12,7 +12,7 @@ use borrow.Author.Tests.{eqb-true}
 use Rattle.tender.specs.declared.Kind.{Kind}
 use Rattle.tender.specs.declared.Kind.the-variants.{Single, Multi}
 use Rattle.tender.specs.declared.Tender.{Tender}
-use Rattle.tender.specs.Limits.{within, maxPrice, maxBidder, maxBids, mostWindows, soundTender, allLawful}
+use Rattle.tender.specs.Limits.{within, maxPrice, maxBidder, maxBids, mostWindows, soundTender, lawful, every}
 use Rattle.tender.specs.Tables.{Row, rowsOf, windowsOf, own, bidWidth, windowWidth, windowAt}
 use Rattle.reader_text.specs.Words.{among}
 use Rattle.reader_text.specs.Differ.{withPrice}
@@ -128,7 +128,7 @@ pub record Kept (t : Tender) (windows : List ℕ) (at : ℕ) (r : Row) : Type 0 
   pub count : within 1 (mostWindows (t .kind)) (r .count) ≡ true
   pub first : r .first ≡ at
   pub room : leb (at + r .count) (length windows / windowWidth) ≡ true
-  pub windows-too : allLawful (own windows r) ≡ true
+  pub windows-too : every lawful (own windows r) ≡ true
 
 pub keeps-kept : (t : Tender) (windows : List ℕ) (at : ℕ) (r : Row) → keeps t windows at r ≡ true → Kept t windows at r
 unfolding keeps

@@ -8,21 +8,21 @@ use lib.Dec.{leb, eqb}
 use Rattle.tender.specs.declared.Kind.{Kind}
 use Rattle.tender.specs.declared.Kind.the-variants.{Single, Multi}
 use Rattle.tender.specs.declared.Tender.{Tender}
-use Rattle.tender.specs.Limits.{within, maxPrice, maxBidder, maxBids, mostWindows, soundTender, allLawful}
+use Rattle.tender.specs.Limits.{within, maxPrice, maxBidder, maxBids, mostWindows, soundTender, lawful, every}
 use Rattle.tender.specs.Tables.{Row, rowsOf, own, bidWidth, windowWidth}
 use Rattle.reader_text.specs.Words.{among}
 
 -- the row rules: bidder and price within limits, one window at least and no more than the kind allows, windows that begin where
 -- the row before ended and stand inside the lent rows, each window lawful; the windows of the row before end at `at`
 unfoldable pub keeps : Tender → List ℕ → ℕ → Row → Bool
-unfolding within mostWindows own allLawful
+unfolding within mostWindows own every
 keeps t windows at r =
     within 1 maxBidder (r .bidder)
     && (leb (r .price) maxPrice
     && (within 1 (mostWindows (t .kind)) (r .count)
     && (eqb (r .first) at
     && (leb (at + r .count) (length windows / windowWidth)
-    && allLawful (own windows r)))))
+    && every lawful (own windows r)))))
 
 -- besides, at most 1,000 bids, and a bidder number that is new: the row stands at `place`, after rows with the bidder numbers `used`
 unfoldable pub sound : Tender → List ℕ → ℕ → List ℕ → ℕ → Row → Bool

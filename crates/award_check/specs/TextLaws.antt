@@ -13,7 +13,7 @@ use Rattle.tender.specs.declared.Kind.{Kind}
 use Rattle.tender.specs.declared.Kind.the-variants.{Single, Multi}
 use Rattle.tender.specs.declared.Window.{Window}
 use Rattle.tender.specs.declared.Tender.{Tender}
-use Rattle.tender.specs.Limits.{within, maxPrice, maxBidder, maxBids, mostWindows, allLawful}
+use Rattle.tender.specs.Limits.{within, maxPrice, maxBidder, maxBids, mostWindows, lawful, every}
 use Rattle.tender.specs.Tables.{Row, rowsOf, windowsOf, own, flatRows, flatWindows, bidWidth, windowWidth}
 use Rattle.reader_text.specs.Words.{numeralOf, priceOf}
 use Rattle.tender.specs.RulesLaws.{rules-lawful, rules-sound}
@@ -39,8 +39,8 @@ length-windows [] = refl
 length-windows (w ∷ ws) = omega (arith, length-windows ws)
 
 all-lawful : (c : ℕ) (W : List Window) (v : List ℕ) → c ≤ length W → WindowsRules W
-    → allLawful (windowsOf c (flatWindows W ++ v)) ≡ true
-unfolding allLawful windowsOf flatWindows
+    → every lawful (windowsOf c (flatWindows W ++ v)) ≡ true
+unfolding every windowsOf flatWindows
 all-lawful zero W v l r = refl
 all-lawful (suc c) [] v l r = absurd (omega arith)
 all-lawful (suc c) (w ∷ W) v l r = rw (rules-lawful w (r .0), all-lawful c W v (omega arith) (r .1))
@@ -89,8 +89,8 @@ row-sound t windows v place used at r W l h d c e w =
     (le-leb (r .count) (mostWindows (t .kind)) (count-most (t .kind) r (h .few-windows) (h .one-window))))
     (both (eq-eqb (r .first) at (h .begins))
     (both (le-leb (at + r .count) (length windows / windowWidth) e)
-    (ap (λ (f : ℕ). allLawful (windowsOf (r .count) (drop (windowWidth * f) windows))) (h .begins)
-    ∙ ap (λ ws. allLawful (windowsOf (r .count) ws)) d ∙ all-lawful (r .count) W v c w)))))))
+    (ap (λ (f : ℕ). every lawful (windowsOf (r .count) (drop (windowWidth * f) windows))) (h .begins)
+    ∙ ap (λ ws. every lawful (windowsOf (r .count) ws)) d ∙ all-lawful (r .count) W v c w)))))))
 
 rows-sound : (t : Tender) (windows v : List ℕ) (place : ℕ) (used : List ℕ) (at : ℕ) (rs : List Row) (W : List Window) (end : ℕ)
     → RowsRules (t .kind) used at rs end → place + length rs ≤ 1001 →

@@ -10,7 +10,7 @@ use lib.ListN.{length, getD, drop, replicate, length-replicate}
 use lib.Dec.{leb, ltb, eqb}
 use borrow.Author.Tests.{not-true, not-false, ltb-true, ltb-false, leb-true, le-leb, lt-leb, eqb-true, eqb-false, eq-eqb, ne-eqb}
 use Rattle.tender.specs.declared.Tender.{Tender}
-use Rattle.tender.specs.Limits.{within, lawful, allLawful}
+use Rattle.tender.specs.Limits.{within, lawful, every}
 use Rattle.cover.specs.SetLaws.{and-split}
 use Rattle.tender.specs.Tables.{Row, rowsOf, windowsOf, bidWidth, windowWidth, windowAt}
 use Rattle.reader_text.specs.Words.{among}
@@ -21,32 +21,33 @@ use Rattle.award_check.specs.AlikeLaws.{rows-step, windows-step, keeps-k
 
 -- the windows from j on, of those from `first` on, where j are not yet passed
 abbrev pub rowsAhead : List ℕ → ℕ → ℕ → ℕ → Bool
-rowsAhead windows first count j = allLawful (windowsOf (count - j) (drop (windowWidth * (first + j)) windows))
+rowsAhead windows first count j = every lawful (windowsOf (count - j) (drop (windowWidth * (first + j)) windows))
 
 pub ahead-more : (windows : List ℕ) (first count j : ℕ) → j < count →
     rowsAhead windows first count j ≡ (ltb (windowAt windows (first + j) .start) (windowAt windows (first + j) .end)
     && leb (windowAt windows (first + j) .end) 10080) && rowsAhead windows first count (j + 1)
-unfolding allLawful lawful
+unfolding every lawful
 ahead-more windows first count j l =
     let e : count - j ≡ suc (count - (j + 1)) = omega arith in
     let f : first + j + 1 ≡ first + (j + 1) = omega arith in
-    ap (λ (m : ℕ). allLawful (windowsOf m (drop (windowWidth * (first + j)) windows))) e
-    ∙ ap allLawful (windows-step (count - (j + 1)) (first + j) windows)
+    ap (λ (m : ℕ). every lawful (windowsOf m (drop (windowWidth * (first + j)) windows))) e
+    ∙ ap (every lawful) (windows-step (count - (j + 1)) (first + j) windows)
     ∙ ap (λ (i : ℕ). (ltb (windowAt windows (first + j) .start) (windowAt windows (first + j) .end)
-    && leb (windowAt windows (first + j) .end) 10080) && allLawful (windowsOf (count - (j + 1)) (drop (windowWidth * i) windows))) f
+    && leb (windowAt windows (first + j) .end) 10080)
+    && every lawful (windowsOf (count - (j + 1)) (drop (windowWidth * i) windows))) f
 
 pub ahead-all : (windows : List ℕ) (first count j : ℕ) → count ≤ j → rowsAhead windows first count j ≡ true
-unfolding allLawful windowsOf
+unfolding every windowsOf
 ahead-all windows first count j l = let e : count - j ≡ 0 = omega arith in
-    ap (λ (m : ℕ). allLawful (windowsOf m (drop (windowWidth * (first + j)) windows))) e
+    ap (λ (m : ℕ). every lawful (windowsOf m (drop (windowWidth * (first + j)) windows))) e
 
 pub ahead-start : (windows : List ℕ) (first count : ℕ)
-    → rowsAhead windows first count 0 ≡ allLawful (windowsOf count (drop (windowWidth * first) windows))
+    → rowsAhead windows first count 0 ≡ every lawful (windowsOf count (drop (windowWidth * first) windows))
 ahead-start windows first count =
     let d : count - 0 ≡ count = omega arith in
     let e : first + 0 ≡ first = omega arith in
-    ap (λ (m : ℕ). allLawful (windowsOf m (drop (windowWidth * (first + 0)) windows))) d
-    ∙ ap (λ (i : ℕ). allLawful (windowsOf count (drop (windowWidth * i) windows))) e
+    ap (λ (m : ℕ). every lawful (windowsOf m (drop (windowWidth * (first + 0)) windows))) d
+    ∙ ap (λ (i : ℕ). every lawful (windowsOf count (drop (windowWidth * i) windows))) e
 
 -- window j was found lawful, or not
 module _ (windows : List ℕ) (first count j : ℕ) (r : Bool) (l : j < count)

@@ -9,7 +9,7 @@ ghost use mathlib.Core.List.{[]};
 ghost use Prim.Native.Nat.{_+_, _*_, _/_, _≤_};
 ghost use lib.ListN.{length, drop};
 ghost use lib.Dec.{leb, ltb, eqb};
-ghost use Rattle.tender.specs.Limits.{mostWindows, within, lawfulReserve, soundTender, allLawful};
+ghost use Rattle.tender.specs.Limits.{mostWindows, within, lawfulReserve, soundTender, lawful, every};
 ghost use Rattle.tender.specs.Tables.{rowsOf, windowsOf, bidWidth, windowWidth};
 ghost use Rattle.award_check.specs.Faults.{keeps, rowFault, faultOf, kindNumber, sameKind};
 ghost use Rattle.award_check.specs.Checks.{checkedFault};
@@ -55,7 +55,7 @@ fn window_lawful(start: u64, end: u64) -> bool
 // Whether the windows from `first` on, `count` of them, are lawful.
 fn windows_lawful(windows: &[u64], first: usize, count: usize) -> bool
     requires { ⌜ first + count ≤ length (now windows) / windowWidth ⌝ }
-    ensures { λ r. ⌜ r ≡ allLawful (windowsOf count (drop (windowWidth * first) (now (windows .entry)))) ⌝ }
+    ensures { λ r. ⌜ r ≡ every lawful (windowsOf count (drop (windowWidth * first) (now (windows .entry)))) ⌝ }
 {
     let mut j = 0;
     while j < count {

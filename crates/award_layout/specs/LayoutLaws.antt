@@ -14,7 +14,7 @@ use Rattle.tender.specs.declared.Kind.{Kind}
 use Rattle.tender.specs.declared.Kind.the-variants.{Single}
 use Rattle.tender.specs.declared.Reserve.the-variants.{Price}
 use Rattle.tender.specs.declared.Tender.{Tender}
-use Rattle.tender.specs.Limits.{within, mostWindows, lawful, soundTender, allLawful}
+use Rattle.tender.specs.Limits.{within, mostWindows, lawful, soundTender, every}
 use Rattle.tender.specs.RulesLaws.{sound-rules}
 use Rattle.tender.specs.Tables.{Row, rowsOf, windowsOf, own, bidWidth, windowWidth, windowAt}
 use Rattle.cover.specs.SetLaws.{and-split}
@@ -196,14 +196,14 @@ module _ (t : Tender) (n : ℕ) (bids windows starts ends : List ℕ) (o : Order
       ∙ windows-step 0 (bidRowAt bids i .first) windows
 
   pub spans-ordered : (i : ℕ) → getD starts i 0 ≤ getD ends i 0
-  unfolding allLawful lawful
+  unfolding every lawful
   spans-ordered i = go (entry-at t n i)
     where
       go : EntryAt t n i → getD starts i 0 ≤ getD ends i 0
       go (owner l) =
           let h : (ltb (windowAt windows (bidRowAt bids i .first) .start) (windowAt windows (bidRowAt bids i .first) .end)
           && leb (windowAt windows (bidRowAt bids i .first) .end) 10080) && true ≡ true =
-          sym (ap allLawful (own-one i l)) ∙ o .kept i l .windows-too in
+          sym (ap (every lawful) (own-one i l)) ∙ o .kept i l .windows-too in
           let c = and-split (ltb (windowAt windows (bidRowAt bids i .first) .start) (windowAt windows (bidRowAt bids i .first) .end))
           (leb (windowAt windows (bidRowAt bids i .first) .end) 10080) (and-split _ true h .0) in
           omega (

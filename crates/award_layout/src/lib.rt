@@ -6,7 +6,7 @@ ghost use mathlib.Core.Path.{_≡_};
 ghost use Prim.Native.Nat.{ℕ, _+_, _*_, _/_, _≤_, _<_};
 ghost use lib.ListN.{length, getD, drop};
 ghost use mathlib.Core.Bool.{true};
-ghost use Rattle.tender.specs.Limits.{maxBids, allLawful};
+ghost use Rattle.tender.specs.Limits.{maxBids, lawful, every};
 ghost use Rattle.tender.specs.Tables.{windowsOf, bidWidth, windowWidth};
 ghost use Rattle.cells.specs.Masks.{masks};
 ghost use Rattle.award_check.specs.Cells.{cellsOf, minuteOf};
@@ -99,7 +99,7 @@ fn add_windows(
     words: &mut [u64],
 )
     requires { ⌜ (first + count ≤ length (now windows) / windowWidth)
-        × ((allLawful (windowsOf count (drop (windowWidth * first) (now windows))) ≡ true)
+        × ((every lawful (windowsOf count (drop (windowWidth * first) (now windows))) ≡ true)
         × (((0 < cellsOf tender) × (cellsOf tender ≤ 64 * length (now words)))
         × ((length (now words) ≤ 158) × ((i : ℕ) → getD (now words) i 0 ≡ 0)))) ⌝ }
     requires { ⌜ now table ≡ masks ⌝ }
@@ -124,7 +124,7 @@ fn mask_row(
     words: &mut [u64],
 )
     requires { ⌜ (first + count ≤ length (now windows) / windowWidth)
-        × ((allLawful (windowsOf count (drop (windowWidth * first) (now windows))) ≡ true)
+        × ((every lawful (windowsOf count (drop (windowWidth * first) (now windows))) ≡ true)
         × (((0 < cellsOf tender) × (cellsOf tender ≤ 64 * length (now words))) × (length (now words) ≤ 158))) ⌝ }
     requires { ⌜ now table ≡ masks ⌝ }
     ensures { λ _. ⌜ Masked tender (windowsOf count (drop (windowWidth * first) (now (windows .entry)))) (now (words .exit)) ⌝ }

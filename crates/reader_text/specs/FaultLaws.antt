@@ -11,7 +11,7 @@ use Rattle.tender.specs.declared.Reserve.{Reserve}
 use Rattle.reader_line.specs.Line.{TenderLine}
 use Rattle.tender.specs.declared.Refusal.{Refusal}
 use Rattle.tender.specs.declared.Refusal.the-variants.{EmptyWindow, LateWindow}
-use Rattle.tender.specs.Limits.{asWindow, ordered, early, lawful, lawfulReserve, soundTender, allLawful, every}
+use Rattle.tender.specs.Limits.{asWindow, ordered, early, lawful, lawfulReserve, soundTender, every}
 use Rattle.reader_line.specs.LinePlainLaws.{both-true as and-split}
 use Rattle.reader_word.specs.declared.windows.Flaw.{Flaw}
 use Rattle.reader_word.specs.declared.windows.Flaw.the-variants.{Empty, Late, Sound}
@@ -20,19 +20,19 @@ use Rattle.reader_text.specs.Read.{lineFault, tenderFault, bidFaultIn, t
 
 -- windows are lawful where none is empty and none is late
 
-pub every-lawful : (ws : List Window) → every ordered ws ≡ true → every early ws ≡ true → allLawful ws ≡ true
-unfolding every allLawful lawful
+pub every-lawful : (ws : List Window) → every ordered ws ≡ true → every early ws ≡ true → every lawful ws ≡ true
+unfolding every lawful
 every-lawful [] a b = refl
 every-lawful (w ∷ ws) a b =
     let s = and-split (ordered w) (every ordered ws) a in
     let u = and-split (early w) (every early ws) b in
     rw (s .0, u .0) (every-lawful ws (s .1) (u .1))
 
-pub lawful-every : (ws : List Window) → allLawful ws ≡ true → (every ordered ws ≡ true) × (every early ws ≡ true)
-unfolding every allLawful lawful
+pub lawful-every : (ws : List Window) → every lawful ws ≡ true → (every ordered ws ≡ true) × (every early ws ≡ true)
+unfolding every lawful
 lawful-every [] e = (refl, refl)
 lawful-every (w ∷ ws) e =
-    let s = and-split (lawful w) (allLawful ws) e in
+    let s = and-split (lawful w) (every lawful ws) e in
     let u = and-split (ordered w) (early w) (s .0) in
     let h = lawful-every ws (s .1) in
     (rw (u .0) (h .0), rw (u .1) (h .1))

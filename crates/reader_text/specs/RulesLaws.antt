@@ -15,8 +15,8 @@ use Rattle.tender.specs.declared.Kind.the-variants.{Single, Multi}
 use Rattle.tender.specs.declared.Span.{Span}
 use Rattle.tender.specs.declared.Window.{Window}
 use Rattle.tender.specs.declared.Tender.{Tender}
-use Rattle.tender.specs.Limits.{allLawful, isSingle, lawful, soundTender, within, ordered, early, every}
-use Rattle.tender.specs.RulesLaws.{lawful-rules, sound-rules}
+use Rattle.tender.specs.Limits.{isSingle, lawful, soundTender, within, ordered, early, every}
+use Rattle.tender.specs.RulesLaws.{lawful-rules, every-split, sound-rules}
 use Rattle.tender.specs.Tables.{Row}
 use Rattle.reader_word.specs.Words.{andThen, cut, among, sameBytes, closed, numeralOf, priceOf}
 use Rattle.reader_line.specs.Line.{BidLine, Line, tender, bid, reserve, kindOf, windowsIn, tenderOf, bidOf, reserveOf, lineOfWords}
@@ -202,11 +202,10 @@ unfolding bidFault
 faultless-bid k used b e = faultless-after k (length used) b (among (b .bidder) used) e
 
 -- the windows of a bid before those of others
-windows-rules : (ws us : List Window) → allLawful ws ≡ true → WindowsRules us → WindowsRules (ws ++ us)
-unfolding allLawful
+windows-rules : (ws us : List Window) → every lawful ws ≡ true → WindowsRules us → WindowsRules (ws ++ us)
 windows-rules [] us e h = h
 windows-rules (w ∷ ws) us e h =
-    let s = and-split (lawful w) (allLawful ws) e in
+    let s = every-split lawful w ws e in
     (lawful-rules w (s .0), windows-rules ws us (s .1) h)
 
 record Sound (k : Kind) (used : List ℕ) (at : ℕ) (bs : List BidLine) : Type 0 where

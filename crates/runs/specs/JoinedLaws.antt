@@ -8,18 +8,19 @@ use lib.ListN.{length}
 use lib.Dec.{leb, ltb}
 use borrow.Author.Tests.{leb-true, ltb-true, lt-ltb, le-leb}
 use Rattle.tender.specs.declared.Window.{Window}
-use Rattle.tender.specs.Limits.{allLawful, lawful}
+use Rattle.tender.specs.Limits.{every, lawful}
+use Rattle.tender.specs.RulesLaws.{every-split}
 use Rattle.cover.specs.SetLaws.{and-split}
 use Rattle.award_check.specs.Cells.{holds}
 use Rattle.runs.specs.Runs.{runs, joined}
 use Rattle.runs.specs.RunsLaws.{Between, runs-between, runs-hold}
 
 -- lawful windows hold no minute past the week
-pub holds-early : (ws : List Window) (m : ℕ) → allLawful ws ≡ true → holds ws m ≡ true → m < 10080
-unfolding allLawful lawful holds
+pub holds-early : (ws : List Window) (m : ℕ) → every lawful ws ≡ true → holds ws m ≡ true → m < 10080
+unfolding lawful holds
 holds-early [] m e h = absurd (false≢true h)
 holds-early (w ∷ ws) m e h =
-    let a = and-split (lawful w) (allLawful ws) e in
+    let a = every-split lawful w ws e in
     let b = and-split (ltb (w .start) (w .end)) (leb (w .end) 10080) (a .0) in
     go (leb (w .start) m && ltb m (w .end)) refl (leb-true (w .end) 10080 (b .1)) h (holds-early ws m (a .1))
   where
@@ -28,7 +29,7 @@ holds-early (w ∷ ws) m e h =
     go true f l x ih = omega (arith, ltb-true m (w .end) (and-split (leb (w .start) m) (ltb m (w .end)) f .1))
     go false f l x ih = ih x
 
-pub joined-holds : (ws : List Window) (m : ℕ) → allLawful ws ≡ true → holds (joined ws) m ≡ holds ws m
+pub joined-holds : (ws : List Window) (m : ℕ) → every lawful ws ≡ true → holds (joined ws) m ≡ holds ws m
 unfolding joined
 joined-holds ws m e = runs-hold (holds ws) 0 10080 m ∙ go (holds ws m) refl
   where
@@ -40,13 +41,13 @@ joined-holds ws m e = runs-hold (holds ws) 0 10080 m ∙ go (holds ws m) refl
         none true = refl
         none false = refl
 
-between-lawful : (a : ℕ) (ws : List Window) → Between a 10080 ws → allLawful ws ≡ true
-unfolding allLawful lawful
+between-lawful : (a : ℕ) (ws : List Window) → Between a 10080 ws → every lawful ws ≡ true
+unfolding every lawful
 between-lawful a [] h = refl
 between-lawful a (w ∷ ws) h = rw (lt-ltb (w .start) (w .end) (h .0 .1 .0), le-leb (w .end) 10080 (h .0 .1 .1))
     (between-lawful a ws (h .1))
 
-pub joined-lawful : (ws : List Window) → allLawful (joined ws) ≡ true
+pub joined-lawful : (ws : List Window) → every lawful (joined ws) ≡ true
 unfolding joined
 joined-lawful ws = between-lawful 0 (runs (holds ws) 0 10080) (runs-between (holds ws) 0 10080)
 
@@ -55,12 +56,12 @@ unfolding holds lawful
 first-held w ws e = rw (le-leb (w .start) (w .start) (omega arith), and-split (ltb (w .start) (w .end)) (leb (w .end) 10080) e .0)
 
 -- there is a window
-pub joined-some : (ws : List Window) → allLawful ws ≡ true → 0 < length ws
+pub joined-some : (ws : List Window) → every lawful ws ≡ true → 0 < length ws
     → (w : Window) × (vs : List Window) × (joined ws ≡ w ∷ vs)
-unfolding allLawful holds
+unfolding holds
 joined-some [] e l = absurd (omega arith)
 joined-some (w ∷ ws) e l = go (joined (w ∷ ws)) refl (joined-holds (w ∷ ws) (w .start) e
-    ∙ first-held w ws (and-split (lawful w) (allLawful ws) e .0))
+    ∙ first-held w ws (every-split lawful w ws e .0))
   where
     go : (vs : List Window) → joined (w ∷ ws) ≡ vs → holds (joined (w ∷ ws)) (w .start) ≡ true
         → (v : Window) × (us : List Window) × (joined (w ∷ ws) ≡ v ∷ us)

@@ -10,7 +10,7 @@ use lib.ListN.{length, getD, drop, replicate, length-replicate, getD-replicate}
 use lib.Dec.{leb, ltb, eqb}
 use borrow.Author.Tests.{leb-true, ltb-true, eqb-true, eqb-false}
 use Rattle.tender.specs.declared.Window.{Window}
-use Rattle.tender.specs.Limits.{allLawful}
+use Rattle.tender.specs.Limits.{lawful, every}
 use Rattle.tender.specs.Tables.{windowsOf, windowWidth, windowAt}
 use Rattle.cover.specs.Sets.{when}
 use Rattle.cover.specs.SetLaws.{and-split}
@@ -66,7 +66,7 @@ pub record Adding (windows : List ℕ) (first count j : ℕ) (row : List ℕ) : 
       ≡ holds (windowsOf count (drop (windowWidth * first) windows)) x
 
 pub adding-begins : (windows : List ℕ) (first count : ℕ) (row : List ℕ)
-    → allLawful (windowsOf count (drop (windowWidth * first) windows)) ≡ true → Empty row → Adding windows first count 0 row
+    → every lawful (windowsOf count (drop (windowWidth * first) windows)) ≡ true → Empty row → Adding windows first count 0 row
 adding-begins windows first count row e m = record {
   wide = m .wide;
   inside = omega arith;
@@ -190,11 +190,11 @@ module _ (ws : List Window) (row : List ℕ) (m : Minutes ws row) (from start en
   run-late h = runs-none (holds ws) from (10080 - from) (λ x a b. out ws row m x (r .before x a (omega arith)))
 
   -- a run lies in the week
-  pub run-inside : allLawful ws ≡ true → start < end → end ≤ 10080
+  pub run-inside : every lawful ws ≡ true → start < end → end ≤ 10080
   run-inside e h = omega (arith, holds-early ws (end - 1) e (held ws row m (end - 1) (r .inside (end - 1) (omega arith) (omega arith))))
 
   -- it is the first, and those from its end on follow
-  pub run-next : allLawful ws ≡ true → start < end
+  pub run-next : every lawful ws ≡ true → start < end
       → runs (holds ws) from (10080 - from) ≡ record { start = start; end = end } ∷ runs (holds ws) end (10080 - end)
   run-next e h =
       let u = run-inside e h in

@@ -9,7 +9,8 @@ use lib.ListN.{length}
 use lib.Dec.{leb, ltb, eqb}
 use borrow.Author.Tests.{leb-true, ltb-true, ltb-false, lt-ltb, le-ltb, le-leb, lt-leb, eqb-true, eqb-false, eq-eqb, ne-eqb}
 use Rattle.tender.specs.declared.Window.{Window}
-use Rattle.tender.specs.Limits.{allLawful, lawful}
+use Rattle.tender.specs.Limits.{every, lawful}
+use Rattle.tender.specs.RulesLaws.{every-split}
 use Rattle.cover.specs.Sets.{when}
 use Rattle.cover.specs.SetLaws.{and-split}
 use Rattle.award_check.specs.Cells.{holds}
@@ -249,11 +250,11 @@ opens-few g (w ∷ ws) = omega (
   when-most (leb 0 (w .start)) (g (w .start)),
 )
 
-closes-few : (g : ℕ → ℕ) (ws : List Window) → allLawful ws ≡ true → closes g (holds ws) 0 10080 ≤ endsSum g ws
-unfolding endsSum allLawful lawful
+closes-few : (g : ℕ → ℕ) (ws : List Window) → every lawful ws ≡ true → closes g (holds ws) 0 10080 ≤ endsSum g ws
+unfolding endsSum lawful
 closes-few g [] e = omega (arith, none-closes g 0 10080)
 closes-few g (w ∷ ws) e =
-    let a = and-split (lawful w) (allLawful ws) e in
+    let a = every-split lawful w ws e in
     let b = and-split (ltb (w .start) (w .end)) (leb (w .end) 10080) (a .0) in
     omega (
       arith,
@@ -268,7 +269,7 @@ pub joined-starts : (g : ℕ → ℕ) (ws : List Window) → startsSum g (joined
 unfolding joined
 joined-starts g ws = omega (arith, runs-starts g (holds ws) 0 10080, opens-few g ws)
 
-pub joined-ends : (g : ℕ → ℕ) (ws : List Window) → allLawful ws ≡ true → endsSum g (joined ws) ≤ endsSum g ws
+pub joined-ends : (g : ℕ → ℕ) (ws : List Window) → every lawful ws ≡ true → endsSum g (joined ws) ≤ endsSum g ws
 unfolding joined
 joined-ends g ws e = omega (arith, runs-ends g (holds ws) 0 10080, closes-few g ws e)
 
@@ -277,5 +278,5 @@ unfolding endsSum
 ends-length [] = refl
 ends-length (w ∷ ws) = omega (arith, ends-length ws)
 
-pub joined-few : (ws : List Window) → allLawful ws ≡ true → length (joined ws) ≤ length ws
+pub joined-few : (ws : List Window) → every lawful ws ≡ true → length (joined ws) ≤ length ws
 joined-few ws e = omega (arith, ends-length (joined ws), ends-length ws, joined-ends (λ m. 1) ws e)

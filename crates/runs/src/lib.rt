@@ -4,7 +4,7 @@ ghost use mathlib.Core.Path.{_≡_};
 ghost use mathlib.Core.Bool.{true};
 ghost use Prim.Native.Nat.{_+_, _*_, _/_, _≤_};
 ghost use lib.ListN.{length, drop};
-ghost use Rattle.tender.specs.Limits.{allLawful};
+ghost use Rattle.tender.specs.Limits.{lawful, every};
 ghost use Rattle.tender.specs.Tables.{windowsOf, windowWidth};
 ghost use Rattle.cells.specs.Masks.{masks};
 ghost use Rattle.runs.specs.MinuteRows.{rowWords, rowCells, Empty, Full, Minutes, NextRun};
@@ -12,7 +12,7 @@ ghost use Rattle.runs.specs.MinuteRows.{rowWords, rowCells, Empty, Full,
 // Sets the minutes of the windows from `first` on, `count` of them, in a row that has none, by the table of masks.
 fn add_windows(table: &[u64], windows: &[u64], first: usize, count: usize, row: &mut [u64])
     requires { ⌜ (first + count ≤ length (now windows) / windowWidth)
-        × ((allLawful (windowsOf count (drop (windowWidth * first) (now windows))) ≡ true) × Empty (now row)) ⌝ }
+        × ((every lawful (windowsOf count (drop (windowWidth * first) (now windows))) ≡ true) × Empty (now row)) ⌝ }
     requires { ⌜ now table ≡ masks ⌝ }
     ensures { λ _. ⌜ Minutes (windowsOf count (drop (windowWidth * first) (now (windows .entry)))) (now (row .exit)) ⌝ }
 {
@@ -29,7 +29,7 @@ fn add_windows(table: &[u64], windows: &[u64], first: usize, count: usize, row: 
 // The minutes of the windows from `first` on, `count` of them, as a row of words.
 pub fn minutes(windows: &[u64], first: usize, count: usize, row: &mut [u64])
     requires { ⌜ (first + count ≤ length (now windows) / windowWidth)
-        × ((allLawful (windowsOf count (drop (windowWidth * first) (now windows))) ≡ true) × (length (now row) ≡ rowWords)) ⌝ }
+        × ((every lawful (windowsOf count (drop (windowWidth * first) (now windows))) ≡ true) × (length (now row) ≡ rowWords)) ⌝ }
     ensures { λ _. ⌜ Minutes (windowsOf count (drop (windowWidth * first) (now (windows .entry)))) (now (row .exit)) ⌝ }
 {
     let table = cells::MASKS;

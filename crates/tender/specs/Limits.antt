@@ -74,11 +74,6 @@ unfoldable pub soundTender : Tender → Bool
 unfolding lawful lawfulReserve
 soundTender t = lawful (asWindow (t .window)) && lawfulReserve (t .reserve)
 
-unfoldable pub allLawful : List Window → Bool
-unfolding lawful
-allLawful [] = true
-allLawful (w ∷ ws) = lawful w && allLawful ws
-
 -- each of the windows passes the test
 unfoldable pub every : (Window → Bool) → List Window → Bool
 every test [] = true

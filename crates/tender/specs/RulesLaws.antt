@@ -2,13 +2,14 @@
 use mathlib.Core.Path.{_≡_, refl, sym, ap, _∙_}
 use Prim.Native.Nat.{ℕ, _≤_}
 use mathlib.Core.Bool.{Bool, true, false, _&&_, false≢true}
+use mathlib.Core.List.{List, _∷_}
 use lib.Dec.{leb, ltb}
 use borrow.Author.Tests.{ltb-true, leb-true, lt-ltb, le-leb}
 use Rattle.tender.specs.declared.Window.{Window}
 use Rattle.tender.specs.declared.Reserve.{Reserve}
 use Rattle.tender.specs.declared.Reserve.the-variants.{Absent, Price}
 use Rattle.tender.specs.declared.Tender.{Tender}
-use Rattle.tender.specs.Limits.{asWindow, lawful, lawfulReserve, soundTender}
+use Rattle.tender.specs.Limits.{asWindow, lawful, every, lawfulReserve, soundTender}
 use Rattle.tender.specs.Rules.{WindowRules, TenderRules}
 
 both-true : (a b : Bool) → a && b ≡ true → (a ≡ true) × (b ≡ true)
@@ -24,6 +25,12 @@ lawful-rules w e =
 pub rules-lawful : (w : Window) → WindowRules w → lawful w ≡ true
 unfolding lawful
 rules-lawful w r = rw (lt-ltb (w .start) (w .end) (r .some-minute), le-leb (w .end) 10080 (r .in-week))
+
+-- where every window passes a test, the first does, and so does every later one
+pub every-split : (test : Window → Bool) (w : Window) (ws : List Window) → every test (w ∷ ws) ≡ true
+    → (test w ≡ true) × (every test ws ≡ true)
+unfolding every
+every-split test w ws e = both-true (test w) (every test ws) e
 
 reserve-within : (r : Reserve) → lawfulReserve r ≡ true → (p : ℕ) → r ≡ Price p → p ≤ 100000000
 unfolding lawfulReserve

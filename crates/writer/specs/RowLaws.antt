@@ -11,7 +11,7 @@ use borrow.Author.Tests.{leb-true, not-true}
 use Rattle.tender.specs.declared.Kind.{Kind}
 use Rattle.tender.specs.declared.Kind.the-variants.{Single, Multi}
 use Rattle.tender.specs.declared.Tender.{Tender}
-use Rattle.tender.specs.Limits.{within, mostWindows, allLawful}
+use Rattle.tender.specs.Limits.{within, mostWindows, lawful, every}
 use Rattle.tender.specs.Tables.{Row, own}
 use Rattle.reader_word.specs.Words.{among}
 use Rattle.cover.specs.SetLaws.{and-split}
@@ -34,7 +34,7 @@ pub record RowSays (t : Tender) (windows : List ℕ) (place : ℕ) (used : List 
   pub price-high : r .price ≤ 100000000
   pub some-window : 1 ≤ r .count
   pub most-windows : r .count ≤ mostWindows (t .kind)
-  pub all-lawful : allLawful (own windows r) ≡ true
+  pub all-lawful : every lawful (own windows r) ≡ true
 
 pub row-says : (t : Tender) (windows : List ℕ) (place : ℕ) (used : List ℕ) (at : ℕ) (r : Row)
     → sound t windows place used at r ≡ true

@@ -9,7 +9,7 @@ use lib.ListN.{length, getD, drop}
 use lib.Dec.{leb}
 use borrow.Author.Tests.{leb-true}
 use Rattle.tender.specs.declared.Tender.{Tender}
-use Rattle.tender.specs.Limits.{soundTender, allLawful}
+use Rattle.tender.specs.Limits.{soundTender, lawful, every}
 use Rattle.tender.specs.Tables.{Row, rowsOf, windowsOf, own, bidWidth, windowWidth}
 use Rattle.cover.specs.SetLaws.{and-split}
 use Rattle.award_check.specs.Faults.{sound, rowFault, sameKind, faultOf}
@@ -21,7 +21,7 @@ use Rattle.writer.specs.RowLaws.{row-says, most-few}
 pub record Plain (windows : List ℕ) (r : Row) : Type 0 where
   pub few-windows : r .count ≤ 32
   pub room : r .first + r .count ≤ length windows / windowWidth
-  pub all-lawful : allLawful (windowsOf (r .count) (drop (windowWidth * r .first) windows)) ≡ true
+  pub all-lawful : every lawful (windowsOf (r .count) (drop (windowWidth * r .first) windows)) ≡ true
 
 sound-plain : (t : Tender) (windows : List ℕ) (place : ℕ) (used : List ℕ) (at : ℕ) (r : Row)
     → sound t windows place used at r ≡ true

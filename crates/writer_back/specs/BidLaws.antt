@@ -14,7 +14,8 @@ use Rattle.tender.specs.declared.Tender.{Tender}
 use Rattle.tender.specs.declared.Window.{Window}
 use Rattle.tender.specs.declared.Reserve.{Reserve}
 use Rattle.tender.specs.declared.Reserve.the-variants.{Absent, Price}
-use Rattle.tender.specs.Limits.{within, mostWindows, isSingle, lawful, allLawful, ordered, early, every}
+use Rattle.tender.specs.Limits.{within, mostWindows, isSingle, lawful, ordered, early, every}
+use Rattle.tender.specs.RulesLaws.{every-split}
 use Rattle.tender.specs.Tables.{Row, own}
 use Rattle.reader_word.specs.Words.{among}
 use Rattle.spelling.specs.Text.{bidIn}
@@ -44,10 +45,9 @@ pub reserve-named : (r : Reserve) → ((p : ℕ) → r ≡ Price p → p ≤ 100
 reserve-named Absent h = tt
 reserve-named (Price p) h = omega (arith, h p refl)
 
-pub all-named : (ws : List Window) → allLawful ws ≡ true → AllNamed ws
-unfolding allLawful
+pub all-named : (ws : List Window) → every lawful ws ≡ true → AllNamed ws
 all-named [] e = tt
-all-named (w ∷ ws) e = let a = and-split (lawful w) (allLawful ws) e in (lawful-named w (a .0), all-named ws (a .1))
+all-named (w ∷ ws) e = let a = every-split lawful w ws e in (lawful-named w (a .0), all-named ws (a .1))
 
 row-told : (t : Tender) (windows : List ℕ) (place : ℕ) (used : List ℕ) (r : Row) → RowSays t windows place used r
     → Nameable (respelt (bidIn windows r))
@@ -58,7 +58,7 @@ row-told t windows place used r s =
     go : (w : Window) × (vs : List Window) × (joined (own windows r) ≡ w ∷ vs) → Nameable (respelt (bidIn windows r))
     go (w, vs, q) = (
       omega (arith, s .bidder-high),
-      (omega (arith, s .price-high), (w, vs, q, all-named (w ∷ vs) (ap allLawful (sym q) ∙ joined-lawful (own windows r)))),
+      (omega (arith, s .price-high), (w, vs, q, all-named (w ∷ vs) (ap (every lawful) (sym q) ∙ joined-lawful (own windows r)))),
     )
 
 -- the reader finds no fault in the row's bid
@@ -120,7 +120,7 @@ rows-checked t windows place used at line (r ∷ rs) out e p =
 -- the windows of each row are lawful
 abbrev pub AllLawful : List ℕ → List Row → Type 0
 AllLawful windows [] = Unit {0}
-AllLawful windows (r ∷ rs) = (allLawful (own windows r) ≡ true) × AllLawful windows rs
+AllLawful windows (r ∷ rs) = (every lawful (own windows r) ≡ true) × AllLawful windows rs
 
 pub row-lawful : (t : Tender) (windows : List ℕ) (place : ℕ) (used : List ℕ) (at : ℕ) (rs : List Row)
     → rowFault t windows place used at rs ≡ none → AllLawful windows rs

@@ -8,7 +8,7 @@ use lib.ListN.{length, length-append}
 use Rattle.tender.specs.declared.Window.{Window}
 use Rattle.tender.specs.declared.Tender.{Tender}
 use Rattle.tender.specs.Keywords.{bytes}
-use Rattle.tender.specs.Limits.{allLawful}
+use Rattle.tender.specs.Limits.{lawful, every}
 use Rattle.tender.specs.Tables.{Row, own}
 use Rattle.spelling.specs.Decimal.{decimal}
 use Rattle.spelling.specs.Lines.{closing}
@@ -32,7 +32,7 @@ windows-bytes (w ∷ ws) = omega (
   length-append (decimal (w .end)) (41 ∷ []),
 )
 
-pub joined-short : (ws : List Window) → allLawful ws ≡ true → length (windowsText (joined ws)) ≤ length (windowsText ws)
+pub joined-short : (ws : List Window) → every lawful ws ≡ true → length (windowsText (joined ws)) ≤ length (windowsText ws)
 joined-short ws e = omega (
   arith,
   windows-bytes (joined ws),
@@ -53,7 +53,7 @@ bid-bytes n p ws = omega (
   length-append (windowsText ws) (41 ∷ 10 ∷ []),
 )
 
-bid-short : (windows : List ℕ) (r : Row) → allLawful (own windows r) ≡ true
+bid-short : (windows : List ℕ) (r : Row) → every lawful (own windows r) ≡ true
     → length (bidText (respelt (bidIn windows r))) ≤ length (bidText (bidIn windows r))
 unfolding respelt bidIn
 bid-short windows r e = omega (

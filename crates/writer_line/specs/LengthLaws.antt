@@ -10,7 +10,8 @@ use borrow.Author.Tests.{leb-true, ltb-true}
 use Rattle.tender.specs.declared.Window.{Window}
 use Rattle.tender.specs.declared.Tender.{Tender}
 use Rattle.tender.specs.Keywords.{bytes}
-use Rattle.tender.specs.Limits.{allLawful, lawful}
+use Rattle.tender.specs.Limits.{every, lawful}
+use Rattle.tender.specs.RulesLaws.{every-split}
 use Rattle.tender.specs.Tables.{windowsOf, windowWidth}
 use Rattle.cover.specs.SetLaws.{and-split}
 use Rattle.spelling.specs.Decimal.{decimal}
@@ -45,11 +46,11 @@ window-few w e =
       decimal-few 5 (w .end) (omega arith) (omega arith),
     )
 
-pub windows-few : (ws : List Window) → allLawful ws ≡ true → length (windowsText ws) ≤ 14 * length ws
-unfolding allLawful windowsText
+pub windows-few : (ws : List Window) → every lawful ws ≡ true → length (windowsText ws) ≤ 14 * length ws
+unfolding windowsText
 windows-few [] e = omega arith
 windows-few (w ∷ ws) e =
-    let a = and-split (lawful w) (allLawful ws) e in
+    let a = every-split lawful w ws e in
     omega (arith, length-append (windowText w) (windowsText ws), window-few w (a .0), windows-few ws (a .1))
 
 -- n windows are read of a table, whatever it holds
@@ -59,7 +60,7 @@ windows-length zero cells = refl
 windows-length (suc n) cells = ap suc (windows-length n (drop windowWidth cells))
 
 -- the windows of a row, 32 of them at the most, joined
-pub joined-text-few : (n : ℕ) (table : List ℕ) → n ≤ 32 → allLawful (windowsOf n table) ≡ true
+pub joined-text-few : (n : ℕ) (table : List ℕ) → n ≤ 32 → every lawful (windowsOf n table) ≡ true
     → length (windowsText (joined (windowsOf n table))) ≤ 448
 joined-text-few n table l e =
     let ws = windowsOf n table in

@@ -10,7 +10,7 @@ use Rattle.tender.specs.declared.Reserve.{Reserve}
 use Rattle.tender.specs.declared.Reserve.the-variants.{Absent, Price}
 use Rattle.tender.specs.declared.Tender.{Tender}
 use Rattle.tender.specs.Keywords.{bytes, reserveWord}
-use Rattle.tender.specs.Limits.{allLawful}
+use Rattle.tender.specs.Limits.{lawful, every}
 use Rattle.reader_line.specs.Line.{BidLine}
 use Rattle.spelling.specs.Decimal.{decimal}
 use Rattle.spelling.specs.Lines.{closing, numbers, oneLine, kindWord}
@@ -119,7 +119,7 @@ module _ {ws : List Window} {old : List ℕ} {at : ℕ} {buf : List ℕ} {end fr
     pub putting-late : 10080 ≤ start → Written old at (windowsText (joined ws)) buf end
     putting-late l = none-left (run-late ws row m from start z r (p .within) l)
 
-    pub putting-goes : {new : List ℕ} {e : ℕ} → allLawful ws ≡ true → start < 10080
+    pub putting-goes : {new : List ℕ} {e : ℕ} → every lawful ws ≡ true → start < 10080
         → Written buf end (windowText (record { start = start; end = z })) new e → Putting ws old at new e z
     putting-goes {new} {e} h l w =
         let some = r .some (omega arith) in

@@ -4,7 +4,7 @@ ghost use mathlib.Core.Path.{_≡_};
 ghost use mathlib.Core.Bool.{true};
 ghost use Prim.Native.Nat.{_+_, _*_, _/_, _≤_};
 ghost use lib.ListN.{length, drop};
-ghost use Rattle.tender.specs.Limits.{allLawful};
+ghost use Rattle.tender.specs.Limits.{lawful, every};
 ghost use Rattle.tender.specs.Tables.{windowsOf, windowWidth};
 ghost use Rattle.spelling.specs.Text.{windowText, windowsText, bidText, tenderText, reserveText, headText};
 ghost use Rattle.spelling.specs.Written.{Written};
@@ -38,7 +38,7 @@ fn put_windows(
     full: &[u64],
 ) -> usize
     requires { ⌜ (first + count ≤ length (now windows) / windowWidth)
-        × ((allLawful (windowsOf count (drop (windowWidth * first) (now windows))) ≡ true)
+        × ((every lawful (windowsOf count (drop (windowWidth * first) (now windows))) ≡ true)
         × ((at + length (windowsText (joined (windowsOf count (drop (windowWidth * first) (now windows))))) + 44 ≤ length (now buf))
         × ((length (now row) ≡ rowWords) × (Empty (now blank) × Full (now full))))) ⌝ }
     ensures { λ r. ⌜ Written (now (buf .entry)) at
@@ -73,7 +73,7 @@ pub fn put_bid(
     full: &[u64],
 ) -> usize
     requires { ⌜ (first + count ≤ length (now windows) / windowWidth)
-        × ((allLawful (windowsOf count (drop (windowWidth * first) (now windows))) ≡ true)
+        × ((every lawful (windowsOf count (drop (windowWidth * first) (now windows))) ≡ true)
         × ((count ≤ 32) × ((at + 576 ≤ length (now buf))
         × ((length (now row) ≡ rowWords) × (Empty (now blank) × Full (now full)))))) ⌝ }
     ensures { λ r. ⌜ Written (now (buf .entry)) at (bidText (respelt

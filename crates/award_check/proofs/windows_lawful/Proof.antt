@@ -3,7 +3,7 @@ use mathlib.Core.Path.{_≡_, sym, _∙_}
 use Prim.Native.Nat.{_-_, _*_, _≤_}
 use native.Mathlib.Omega.{arith}
 use lib.ListN.{drop}
-use Rattle.tender.specs.Limits.{allLawful}
+use Rattle.tender.specs.Limits.{lawful, every}
 use Rattle.tender.specs.Tables.{windowsOf, windowWidth}
 use Rattle.award_check.specs.WalkLaws.{rowsAhead, ahead-start, ahead-goes, ahead-fails, ahead-all}
 use Rattle.award_check.proofs.windows_lawful.Statement.{statement}
@@ -13,7 +13,8 @@ use Rattle.award_check.proofs.windows_lawful.Lts as lts
 use Rattle.award_check.proofs.window_lawful.Reads as window-lawful-reads
 
 abbrev Inv-loop : tie.InvT-loop
-Inv-loop windows first count j₀ j = (j ≤ count) × (rowsAhead windows first count j ≡ allLawful (windowsOf count (drop (windowWidth * first) windows)))
+Inv-loop windows first count j₀ j =
+    (j ≤ count) × (rowsAhead windows first count j ≡ every lawful (windowsOf count (drop (windowWidth * first) windows)))
 
 abbrev μ-loop : tie.MeasureT-loop
 μ-loop windows first count j₀ j = count - j
