@@ -16,8 +16,8 @@ use Rattle.award_check.specs.Cells.{noRow}
 use Rattle.tender.specs.declared.AwardRow.{AwardRow}
 use Rattle.award_plain.specs.Award.{Outcome, awarded, refused}
 use Rattle.award.specs.Gain.{lost}
-use Rattle.spelling.specs.Lines.{pairLine, oneLine, kindWord, refusedWord}
-use Rattle.spelling.specs.LineLaws.{kind-short, pair-short, pair-some, one-short, refusal-few, refused-short, refused-some}
+use Rattle.spelling.specs.Lines.{pairLine, oneLine, kindWord}
+use Rattle.spelling.specs.LineLaws.{kind-short, pair-short, pair-some, one-short, refused-short, refused-some}
 use Rattle.listing.specs.Lines.{awardWord, winWord, houseWord, totalWord, winLine, winLines, awardLine, houseLine, lastLines}
 use Rattle.listing.specs.List.{winList, listLines}
 
@@ -113,6 +113,3 @@ win-lines-short bids won cents (suc n) = omega (
   win-lines-short bids won cents n,
   win-short (getD bids (bidWidth * n) 0) (getD won n 0) (getD cents n 0),
 )
-
-pub refusal-short : (n at : ℕ) → length (pairLine refusedWord n at) ≤ 51200
-refusal-short n at = omega (arith, refusal-few n at)

@@ -11,7 +11,7 @@ use Rattle.award_check.specs.Cells.{noRow}
 use Rattle.tender.specs.declared.AwardRow.{AwardRow}
 use Rattle.award_plain.specs.Award.{Outcome, awarded, refused, awardOf}
 use Rattle.award.specs.Gain.{lost}
-use Rattle.spelling.specs.Lines.{pairLine, refusedWord, refusedLine}
+use Rattle.spelling.specs.Lines.{pairLine, refusedLine}
 use Rattle.spelling.specs.Delivered.{Delivered}
 use Rattle.listing.specs.Lines.{winWord, awardLine, lastLines}
 
@@ -31,8 +31,8 @@ listLines t R (refused r) = refusedLine r
 
 -- the list of a text, by what reading it answers: of the award on what was read, with an award row for every bid
 unfoldable pub listOf : reading.ReadOutcome → List ℕ
-unfolding listLines awardOf flatRows flatWindows pairLine refusedWord
-listOf (reading.refused n at) = pairLine refusedWord n at
+unfolding listLines awardOf flatRows flatWindows refusedLine
+listOf (reading.refused r) = refusedLine r
 listOf (accepted t R W) = listLines t R (awardOf (t .kind) t (length R) (flatRows R) (flatWindows W) (length R))
 
 -- The promise of a call with the text and a lent buffer of the bytes `old`: it answers r and leaves the bytes `new`. Where the

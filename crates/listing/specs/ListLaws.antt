@@ -32,13 +32,12 @@ use Rattle.award_plain.specs.AwardLaws.{settled-is, award-none}
 use Rattle.tender.specs.declared.Answer.{Answer}
 use Rattle.tender.specs.declared.Answer.the-variants.{Awarded, Refused}
 use Rattle.award_plain.specs.Plain.{rowsIn, toldIn, PlainPromise}
-use Rattle.spelling.specs.Lines.{refusedWord}
-use Rattle.spelling.specs.LineLaws.{pair-some}
+use Rattle.spelling.specs.LineLaws.{refused-short, refused-some}
 use Rattle.spelling.specs.DeliveredLaws.{delivered-is}
 use Rattle.listing.specs.Lines.{winLine, winLines}
 use Rattle.listing.specs.Made.{answerLines}
 use Rattle.listing.specs.List.{winList, listLines, listOf, Listed}
-use Rattle.listing.specs.LineLaws.{refusal-short, lines-short, lines-some}
+use Rattle.listing.specs.LineLaws.{lines-short, lines-some}
 
 -- the award on what was read
 module _ (T : Tender) (R : List Row) (W : List Window) (rules : Rules T R W) where
@@ -131,7 +130,7 @@ list-short text = go (readText text) (λ T R W e. rules-law T R W text e)
   where
     go : (o : reading.ReadOutcome) → ((T : Tender) (R : List Row) (W : List Window) → o ≡ accepted T R W → Rules T R W)
         → (length (listOf o) ≤ 51200) × (0 < length (listOf o))
-    go (reading.refused n at) f = (refusal-short n at, pair-some refusedWord n at)
+    go (reading.refused r) f = (omega (arith, refused-short r), refused-some r)
     go (accepted T R W) f = let o = awardOf (T .kind) T (length R) (flatRows R) (flatWindows W) (length R) in
         (lines-short T R o (f T R W refl .few-bids), lines-some T R o)
 

@@ -1,5 +1,5 @@
 -- The list of the award to the tables that were read is the list of the text. Assumes nothing.
-use mathlib.Core.Path.{_≡_, refl, ap, _∙_}
+use mathlib.Core.Path.{_≡_, refl, ap}
 use mathlib.Core.List.{List, _++_}
 use Prim.Native.Nat.{ℕ, _≤_, _<_}
 use native.Mathlib.Omega.{arith}
@@ -7,7 +7,6 @@ use lib.ListN.{length, take}
 use Rattle.tender.specs.declared.Tender.{Tender}
 use Rattle.tender.specs.declared.Totals.{Totals}
 use Rattle.tender.specs.declared.Refusal.{Refusal}
-use Rattle.tender.specs.Refusals.{numberOf, placeOf}
 use Rattle.reader_text.specs.Read.{accepted, readText}
 use Rattle.reader_text.specs.Read as reading
 use Rattle.reader_text.specs.RulesLaws.{rules-law}
@@ -15,8 +14,7 @@ use Rattle.reader.specs.ReadInLaws.{ReadIn}
 use Rattle.tender.specs.declared.Answer.{Answer}
 use Rattle.tender.specs.declared.Answer.the-variants.{Awarded, Refused}
 use Rattle.award_plain.specs.Plain.{PlainPromise}
-use Rattle.spelling.specs.Lines.{pairLine, refusedWord, refusedLine}
-use Rattle.spelling.specs.LineLaws.{refused-line}
+use Rattle.spelling.specs.Lines.{refusedLine}
 use Rattle.spelling.specs.Written.{Written}
 use Rattle.spelling.specs.DeliveredLaws.{delivered-none, delivered-all}
 use Rattle.listing.specs.Lines.{awardLine, winLines, lastLines}
@@ -70,11 +68,11 @@ made-award {text} {bids} {windows} {old} {new} {t} {n} {f} h w =
     (rw (h .count) (w .enough)) (rw (h .bids-are, h .windows-are, ← (h .count)) at (w .promise))) in
     record { right = rw (h .is, g) l; size = omega (arith, ap length g, w .written .next) }
 
-pub made-refusal : {text old new : List ℕ} {f : ℕ} (q : Refusal) → readText text ≡ reading.refused (numberOf q) (placeOf q)
+pub made-refusal : {text old new : List ℕ} {f : ℕ} (q : Refusal) → readText text ≡ reading.refused q
     → Written old 0 (refusedLine q) new f → Made text new f
 unfolding listOf
 made-refusal {text} {old} {new} {f} q e w =
-    let g : take f new ≡ pairLine refusedWord (numberOf q) (placeOf q) = w .text ∙ refused-line q in
+    let g : take f new ≡ refusedLine q = w .text in
     record { right = rw (e, g) refl; size = omega (arith, ap length g, w .next) }
 
 -- what is made fits the buffer that it is made in

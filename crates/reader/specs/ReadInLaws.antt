@@ -7,13 +7,12 @@ use lib.ListN.{length, drop}
 use Rattle.tender.specs.declared.Tender.{Tender}
 use Rattle.tender.specs.declared.Refusal.{Refusal}
 use Rattle.tender.specs.declared.Window.{Window}
-use Rattle.tender.specs.Refusals.{numberOf, placeOf}
 use Rattle.tender.specs.Tables.{Row, flatRows, flatWindows, bidWidth, windowWidth, bidTable, windowTable}
 use Rattle.reader.specs.declared.Reading.{Reading}
 use Rattle.reader.specs.declared.Reading.the-variants as answer
 use Rattle.reader_text.specs.Read.{accepted, readText, readInto}
 use Rattle.reader_text.specs.Read as reading
-use Rattle.reader.specs.Answer.{filled, declined, toldReading, summary, bidsAfter, windowsAfter}
+use Rattle.reader.specs.Answer.{readAnswer, bidsAfter, windowsAfter}
 use Rattle.reader_text.specs.CountLaws.{counts-law}
 use Rattle.reader_text.specs.SizeLaws.{fits-law}
 
@@ -34,18 +33,18 @@ module _ (text ob ow : List ℕ) (room-b : length ob ≡ bidTable) (room-w : len
   whole = rw (room-b, room-w) (fits-law text 1000 11000 (omega arith) (omega arith))
 
   pub accepted-read : {nb nw : List ℕ} {r : Reading} (t : Tender) (n m : ℕ)
-      → toldReading r ≡ summary (readInto text (length ob / bidWidth) (length ow / windowWidth)) →
+      → r ≡ readAnswer (readInto text (length ob / bidWidth) (length ow / windowWidth)) →
       nb ≡ bidsAfter ob (readInto text (length ob / bidWidth) (length ow / windowWidth))
       → nw ≡ windowsAfter ow (readInto text (length ob / bidWidth) (length ow / windowWidth)) → r ≡ answer.Accepted t n m
       → ReadIn text nb nw t n
   unfolding bidsAfter windowsAfter
-  accepted-read {nb} {nw} {r} t n m a b w e = go (readText text) refl (sym (ap toldReading e) ∙ a ∙ ap summary whole)
+  accepted-read {nb} {nw} {r} t n m a b w e = go (readText text) refl (sym e ∙ a ∙ ap readAnswer whole)
       (b ∙ ap (bidsAfter ob) whole) (w ∙ ap (windowsAfter ow) whole)
     where
-      go : (o : reading.ReadOutcome) → readText text ≡ o → filled t n m ≡ summary o → nb ≡ bidsAfter ob o
+      go : (o : reading.ReadOutcome) → readText text ≡ o → answer.Accepted t n m ≡ readAnswer o → nb ≡ bidsAfter ob o
           → nw ≡ windowsAfter ow o
           → ReadIn text nb nw t n
-      go (reading.refused k at) h x y z = let f : _≡_ {A = ℕ} 0 1 = cc in absurd (omega arith)
+      go (reading.refused k) h x y z = let f : _≡_ {A = ℕ} 0 1 = cc in absurd (omega arith)
       go (accepted u R W) h x y z = record {
         rows = R;
         spans = W;
@@ -58,14 +57,14 @@ module _ (text ob ow : List ℕ) (room-b : length ob ≡ bidTable) (room-w : len
       }
 
   pub refused-read : {nb nw : List ℕ} {r : Reading} (q : Refusal)
-      → toldReading r ≡ summary (readInto text (length ob / bidWidth) (length ow / windowWidth)) →
+      → r ≡ readAnswer (readInto text (length ob / bidWidth) (length ow / windowWidth)) →
       nb ≡ bidsAfter ob (readInto text (length ob / bidWidth) (length ow / windowWidth))
       → nw ≡ windowsAfter ow (readInto text (length ob / bidWidth) (length ow / windowWidth)) → r ≡ answer.Refused q
-      → readText text ≡ reading.refused (numberOf q) (placeOf q)
-  refused-read {nb} {nw} {r} q a b w e = go (readText text) (sym (ap toldReading e) ∙ a ∙ ap summary whole)
+      → readText text ≡ reading.refused q
+  refused-read {nb} {nw} {r} q a b w e = go (readText text) (sym e ∙ a ∙ ap readAnswer whole)
     where
-      go : (o : reading.ReadOutcome) → declined (numberOf q) (placeOf q) ≡ summary o → o ≡ reading.refused (numberOf q) (placeOf q)
-      go (reading.refused k at) x = cc
+      go : (o : reading.ReadOutcome) → answer.Refused q ≡ readAnswer o → o ≡ reading.refused q
+      go (reading.refused k) x = cc
       go (accepted u R W) x = let f : _≡_ {A = ℕ} 0 1 = cc in absurd (omega arith)
 
 pub few-read : {text bids windows : List ℕ} {t : Tender} {n : ℕ} → ReadIn text bids windows t n → n ≤ 1000

@@ -10,8 +10,7 @@ use Rattle.tender.specs.declared.Kind.{Kind}
 use Rattle.tender.specs.declared.Window.{Window}
 use Rattle.tender.specs.declared.Tender.{Tender}
 use Rattle.tender.specs.declared.Refusal.{Refusal}
-use Rattle.tender.specs.declared.Refusal.the-variants.{BadForm}
-use Rattle.tender.specs.Refusals.{numberOf, placeOf}
+use Rattle.tender.specs.declared.Refusal.the-variants.{TextTooLong, BadForm, TableTooShort}
 use Rattle.tender.specs.Tables.{Row, flatRows, flatWindows, bidWidth, windowWidth}
 use Rattle.reader_word.specs.Words.{cut}
 use Rattle.reader_line.specs.Line.{TenderLine, Line, tender, bid, reserve, linesOf}
@@ -23,9 +22,10 @@ use Rattle.reader_text.specs.Read as reading
 use Rattle.reader_text.specs.HeadLaws.{lines-halted, lines-begun, no-line, broken-first, bid-first, reserve-first, tender-faulty}
 use Rattle.reader_text.specs.HeadLaws.{tender-faultless}
 use Rattle.reader_text.specs.RulesLaws.{rowsFrom-length}
-use Rattle.reader.specs.Answer.{filled, declined, summary, bidsAfter, windowsAfter}
+use Rattle.reader.specs.Answer.{readAnswer, bidsAfter, windowsAfter}
 use Rattle.reader.specs.Opened.{Begins, Opened}
 use Rattle.reader_bids.specs.Steps.{TablesHold, LinesFilled}
+use Rattle.reader.specs.declared.Reading.the-variants as answer
 use Rattle.reader.specs.declared.Head.{Head}
 use Rattle.reader.specs.declared.Head.the-variants as head
 use Rattle.reader_bids.specs.declared.Bids.{Bids}
@@ -98,7 +98,7 @@ pub opened-tender : (text : List ℕ) (r : Head) → Opened text (headOf (linesO
 opened-tender text r h t at from e = subst (Opened text (headOf (linesOf (cut 10 text)))) e h
 
 pub opened-refused : (text : List ℕ) (r : Head) → Opened text (headOf (linesOf (cut 10 text))) r → (x : Refusal)
-    → r ≡ head.Refused x → readLines (linesOf (cut 10 text)) ≡ refused (numberOf x) (placeOf x)
+    → r ≡ head.Refused x → readLines (linesOf (cut 10 text)) ≡ refused x
 opened-refused text r h x e = lines-halted (linesOf (cut 10 text)) x (subst (Opened text (headOf (linesOf (cut 10 text)))) e h)
 
 module _ (kind : Kind) (from : ℕ) (ls : List (Option Line)) (rows spans : List ℕ) where
@@ -108,24 +108,24 @@ module _ (kind : Kind) (from : ℕ) (ls : List (Option Line)) (rows spans : List
   filled-held (bids.Refused r) h k m e = let z : _≡_ {A = ℕ} 0 1 = cc in absurd (omega arith)
 
   pub filled-refused : (r : Bids) → LinesFilled kind from ls r rows spans → (x : Refusal) → r ≡ bids.Refused x
-      → (out : ReadOutcome) → checked kind from [] ls out ≡ refused (numberOf x) (placeOf x)
+      → (out : ReadOutcome) → checked kind from [] ls out ≡ refused x
   filled-refused (bids.Filled j n) h x e out = let z : _≡_ {A = ℕ} 0 1 = cc in absurd (omega arith)
   filled-refused (bids.Refused r) h x e out = let y : r ≡ x = cc in rw (← y) (h out)
 
 -- the whole answer
 
 module _ (text bids windows : List ℕ) where
-  pub Refuses : ℕ → ℕ → Type 0
-  Refuses n at = readInto text (length bids / bidWidth) (length windows / windowWidth) ≡ refused n at
+  pub Refuses : Refusal → Type 0
+  Refuses r = readInto text (length bids / bidWidth) (length windows / windowWidth) ≡ refused r
 
-  pub answer-refused : (n at : ℕ) → Refuses n at →
-      (declined n at ≡ summary (readInto text (length bids / bidWidth) (length windows / windowWidth)))
+  pub answer-refused : (r : Refusal) → Refuses r →
+      (answer.Refused r ≡ readAnswer (readInto text (length bids / bidWidth) (length windows / windowWidth)))
       × (bids ≡ bidsAfter bids (readInto text (length bids / bidWidth) (length windows / windowWidth)))
       × (windows ≡ windowsAfter windows (readInto text (length bids / bidWidth) (length windows / windowWidth)))
   unfolding Refuses bidsAfter windowsAfter
-  answer-refused n at e = rw e (refl, refl, refl)
+  answer-refused r e = rw e (refl, refl, refl)
 
-  pub too-long : 65536 < length text → Refuses 1 0
+  pub too-long : 65536 < length text → Refuses TextTooLong
   unfolding Refuses readInto readText fitted
   too-long h = rw (lt-ltb 65536 (length text) h)
 
@@ -134,19 +134,18 @@ module _ (text bids windows : List ℕ) where
     unfolding readText
     short = rw (le-ltb 65536 (length text) l)
 
-    pub lines-refused : (n at : ℕ) → readLines (linesOf (cut 10 text)) ≡ refused n at → Refuses n at
+    pub lines-refused : (r : Refusal) → readLines (linesOf (cut 10 text)) ≡ refused r → Refuses r
     unfolding Refuses readInto fitted
-    lines-refused n at e = rw (short, e)
+    lines-refused r e = rw (short, e)
 
     module _ (t : Tender) (at from : ℕ) (g : Begins text (headOf (linesOf (cut 10 text))) t at from) where
       read-on : readLines (linesOf (cut 10 text)) ≡ checked (t .kind) from [] (linesOf (cut 10 (drop at text)))
           (tables t (bidsOf (linesOf (cut 10 (drop at text)))))
       read-on = lines-begun (linesOf (cut 10 text)) t from (linesOf (cut 10 (drop at text))) (g .lines)
 
-      pub bids-refused : (n p : ℕ) → ((out : ReadOutcome) → checked (t .kind) from [] (linesOf (cut 10 (drop at text))) out
-          ≡ refused n p)
-          → Refuses n p
-      bids-refused n p h = lines-refused n p (read-on ∙ h _)
+      pub bids-refused : (r : Refusal)
+          → ((out : ReadOutcome) → checked (t .kind) from [] (linesOf (cut 10 (drop at text))) out ≡ refused r) → Refuses r
+      bids-refused r h = lines-refused r (read-on ∙ h _)
 
       module _ (k m : ℕ) (rows spans : List ℕ) (h : TablesHold (t .kind) from (linesOf (cut 10 (drop at text))) k m rows spans) where
         R : List Row
@@ -167,11 +166,11 @@ module _ (text bids windows : List ℕ) where
         unfolding tables R W
         read-is = short ∙ read-on ∙ h .faultless _
 
-        pub bids-short : length bids / bidWidth < k → Refuses 8 0
+        pub bids-short : length bids / bidWidth < k → Refuses TableTooShort
         unfolding Refuses readInto fitted
         bids-short j = rw (read-is, rows-count, lt-leb k (length bids / bidWidth) j)
 
-        pub windows-short : k ≤ length bids / bidWidth → length windows / windowWidth < m → Refuses 8 0
+        pub windows-short : k ≤ length bids / bidWidth → length windows / windowWidth < m → Refuses TableTooShort
         unfolding Refuses readInto fitted
         windows-short i j =
             rw (read-is, rows-count, windows-count, le-leb k (length bids / bidWidth) i, lt-leb m (length windows / windowWidth) j)
@@ -190,7 +189,7 @@ module _ (text bids windows : List ℕ) where
         windows-same = h .windows-are
 
         pub answer-accepted : k ≤ length bids / bidWidth → m ≤ length windows / windowWidth →
-            (filled t k m ≡ summary (readInto text (length bids / bidWidth) (length windows / windowWidth)))
+            (answer.Accepted t k m ≡ readAnswer (readInto text (length bids / bidWidth) (length windows / windowWidth)))
             × (take (bidWidth * k) rows ++ drop (bidWidth * k) bids
             ≡ bidsAfter bids (readInto text (length bids / bidWidth) (length windows / windowWidth)))
             × (take (windowWidth * m) spans ++ drop (windowWidth * m) windows

@@ -7,7 +7,7 @@ ghost use Rattle.tender.specs.Tables.{bidWidth, windowWidth};
 ghost use Rattle.reader_word.specs.Words.{cut};
 ghost use Rattle.reader_line.specs.Line.{linesOf};
 ghost use Rattle.reader_text.specs.Read.{tenderWith, reserveIn, headOf, readInto};
-ghost use Rattle.reader.specs.Answer.{toldReading, summary, bidsAfter, windowsAfter};
+ghost use Rattle.reader.specs.Answer.{readAnswer, bidsAfter, windowsAfter};
 ghost use Rattle.reader.specs.Opened.{Opened, NextIs};
 
 mod rows;
@@ -134,7 +134,7 @@ pub enum Reading {
 
 // Reads the text into the first rows of the two tables; places past them stay.
 pub fn read(text: &[u8], bids: &mut [u64], windows: &mut [u64]) -> Reading
-    ensures answer { λ r. ⌜ toldReading r ≡ summary (readInto (now (text .entry)) (length (now (bids .entry)) / bidWidth)
+    ensures answer { λ r. ⌜ r ≡ readAnswer (readInto (now (text .entry)) (length (now (bids .entry)) / bidWidth)
         (length (now (windows .entry)) / windowWidth)) ⌝ }
     ensures rows { λ r. ⌜ now (bids .exit) ≡ bidsAfter (now (bids .entry))
         (readInto (now (text .entry)) (length (now (bids .entry)) / bidWidth) (length (now (windows .entry)) / windowWidth)) ⌝ }

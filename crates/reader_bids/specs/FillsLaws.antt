@@ -12,7 +12,7 @@ use lib.Dec.{eqb, ltb}
 use borrow.Author.Tests.{eqb-true, eqb-false, ltb-true, ltb-false}
 use Rattle.tender.specs.declared.Kind.{Kind}
 use Rattle.tender.specs.declared.Refusal.{Refusal}
-use Rattle.tender.specs.Refusals.{numberOf, placeOf}
+use Rattle.tender.specs.declared.Refusal.the-variants.{BadForm, ReserveMisplaced}
 use Rattle.tender.specs.Tables.{flatRows, flatWindows, bidWidth, windowWidth, bidTable, windowTable}
 use Rattle.cells.specs.Cells.{cell, RangeAdded}
 use Rattle.reader_word.specs.Words.{among}
@@ -20,7 +20,7 @@ use Rattle.reader_line.specs.Line.{BidLine, Line, tender, bid, reserve, lineOf}
 use Rattle.reader_line.specs.SizeLaws.{line-windows}
 use Rattle.reader_text.specs.Read.{ReadOutcome, refused, rowsFrom, allWindows, bidsOf, bidFaultAfter, bidFault, lineJudged, checked}
 use Rattle.reader_text.specs.RulesLaws.{faultless-after}
-use Rattle.reader_bids.specs.Steps.{Fault, StepDeclines, BidTaken, Judged, Taken, TablesHold}
+use Rattle.reader_bids.specs.Steps.{BidTaken, Judged, Taken, TablesHold}
 use Rattle.reader_bids.specs.declared.Step.{Step}
 use Rattle.reader_bids.specs.declared.Step.the-variants as step
 use Rattle.reader_bids.specs.StoreLaws.{front, windows-put, windows-more, flat-more, rows-more}
@@ -116,24 +116,23 @@ marked-more b us used used′ h f x = go (eqb b x) refl (ltb x b) refl ∙ sym (
         let l : b + 1 ≤ x = omega (arith, ltb-false x b g) in
         rw (f .above x l, or-false (among x us)) (h x)
 
-bid-not-refused : {A : Type 0} (r : Step) (c n at : ℕ) → r ≡ step.Bid c → StepDeclines r n at → A
-bid-not-refused (step.Bid d) c n at e h = absurd h
-bid-not-refused (step.Refused x) c n at e h = let z : _≡_ {A = ℕ} 0 1 = cc in absurd (omega arith)
+bid-not-refused : {A : Type 0} (r : Step) (c : ℕ) (x : Refusal) → r ≡ step.Bid c → r ≡ step.Refused x → A
+bid-not-refused r c x e h = let q : step.Bid c ≡ step.Refused x = sym e ∙ h in let z : _≡_ {A = ℕ} 0 1 = cc in absurd (omega arith)
 
 -- what bounds the windows of a bid bounds those that a line adds
 pub taken-room : (kind : Kind) (line k m : ℕ) (used rows windows used′ rows′ windows′ : List ℕ) (o : Option Line) (r : Step)
     (c n : ℕ)
     → Taken o kind line k m used rows windows r used′ rows′ windows′ → r ≡ step.Bid c →
     ((b : BidLine) → o ≡ some (bid b) → 6 * (m + length (b .windows)) ≤ n) → 6 * (m + c) ≤ n
-taken-room kind line k m used rows windows used′ rows′ windows′ none r c n t e h = bid-not-refused r c 2 line e t
-taken-room kind line k m used rows windows used′ rows′ windows′ (some (tender x)) r c n t e h = bid-not-refused r c 2 line e t
-taken-room kind line k m used rows windows used′ rows′ windows′ (some (reserve x)) r c n t e h = bid-not-refused r c 16 line e t
+taken-room kind line k m used rows windows used′ rows′ windows′ none r c n t e h = bid-not-refused r c (BadForm line) e t
+taken-room kind line k m used rows windows used′ rows′ windows′ (some (tender x)) r c n t e h = bid-not-refused r c (BadForm line) e t
+taken-room kind line k m used rows windows used′ rows′ windows′ (some (reserve x)) r c n t e h = bid-not-refused r c (ReserveMisplaced line) e t
 taken-room kind line k m used rows windows used′ rows′ windows′ (some (bid b)) r c n t e h =
     go (bidFaultAfter kind k b (eqb (cell used (b .bidder)) 1)) t
   where
     go : (f : Option (ℕ → Refusal)) → Judged f b line k m used rows windows r used′ rows′ windows′ → 6 * (m + c) ≤ n
     go none j = let q : c ≡ length (b .windows) = cc (e, j .answer) in rw q (h b refl)
-    go (some f) j = bid-not-refused r c (numberOf (f line)) (placeOf (f line)) e j
+    go (some f) j = bid-not-refused r c (f line) e j
 
 module _ (kind : Kind) (from : ℕ) (whole rest : List (Option Line)) (line k m : ℕ)
     (used rows windows used′ rows′ windows′ : List ℕ) where
@@ -183,9 +182,9 @@ module _ (kind : Kind) (from : ℕ) (whole rest : List (Option Line)) (line k m 
       → r ≡ step.Bid c
       → ((b : BidLine) → o ≡ some (bid b) → m + length (b .windows) ≤ 11000) →
       Walk kind from whole rest (line + 1) (k + 1) (m + c) used′ rows′ windows′
-  goes none w r t lu lr lw c e room = bid-not-refused r c 2 line e t
-  goes (some (tender x)) w r t lu lr lw c e room = bid-not-refused r c 2 line e t
-  goes (some (reserve x)) w r t lu lr lw c e room = bid-not-refused r c 16 line e t
+  goes none w r t lu lr lw c e room = bid-not-refused r c (BadForm line) e t
+  goes (some (tender x)) w r t lu lr lw c e room = bid-not-refused r c (BadForm line) e t
+  goes (some (reserve x)) w r t lu lr lw c e room = bid-not-refused r c (ReserveMisplaced line) e t
   goes (some (bid b)) w r t lu lr lw c e room = go
       (bidFaultAfter kind k b (eqb (cell used (b .bidder)) 1)) refl t
     where
@@ -193,25 +192,19 @@ module _ (kind : Kind) (from : ℕ) (whole rest : List (Option Line)) (line k m 
           Judged f b line k m used rows windows r used′ rows′ windows′
           → Walk kind from whole rest (line + 1) (k + 1) (m + c) used′ rows′ windows′
       go none g j = let q : c ≡ length (b .windows) = cc (e, j .answer) in rw q (more b w r (room b refl) g j lu lr lw)
-      go (some f) g j = bid-not-refused r c (numberOf (f line)) (placeOf (f line)) e j
+      go (some f) g j = bid-not-refused r c (f line) e j
 
-  refusal-is : (r : Step) (x : Refusal) (n at : ℕ) → r ≡ step.Refused x → StepDeclines r n at
-      → refused n at ≡ refused (numberOf x) (placeOf x)
-  refusal-is (step.Bid d) x n at e h = absurd h
-  refusal-is (step.Refused y) x n at e h =
-      let q : y ≡ x = cc in
-      let a : numberOf y ≡ n = ap (λ (f : Fault). f .number) h in
-      let b : placeOf y ≡ at = ap (λ (f : Fault). f .place) h in
-      rw (← q, a, b)
+  refusal-is : (r : Step) (x y : Refusal) → r ≡ step.Refused x → r ≡ step.Refused y → refused y ≡ refused x
+  refusal-is r x y e h = let q : step.Refused y ≡ step.Refused x = sym h ∙ e in ap refused (cc)
 
   -- the next line is faulty
   pub stops : (o : Option Line) → Walk kind from whole (o ∷ rest) line k m used rows windows → (r : Step)
       → Taken o kind line k m used rows windows r used′ rows′ windows′ → (x : Refusal) → r ≡ step.Refused x →
-      (out : ReadOutcome) → checked kind from [] whole out ≡ refused (numberOf x) (placeOf x)
+      (out : ReadOutcome) → checked kind from [] whole out ≡ refused x
   unfolding checked lineJudged
-  stops none w r t x e out = w .checks out ∙ refusal-is r x 2 line e t
-  stops (some (tender y)) w r t x e out = w .checks out ∙ refusal-is r x 2 line e t
-  stops (some (reserve y)) w r t x e out = w .checks out ∙ refusal-is r x 16 line e t
+  stops none w r t x e out = w .checks out ∙ refusal-is r x (BadForm line) e t
+  stops (some (tender y)) w r t x e out = w .checks out ∙ refusal-is r x (BadForm line) e t
+  stops (some (reserve y)) w r t x e out = w .checks out ∙ refusal-is r x (ReserveMisplaced line) e t
   stops (some (bid b)) w r t x e out = w .checks out
       ∙ go (bidFaultAfter kind k b (eqb (cell used (b .bidder)) 1))
       refl t
@@ -219,15 +212,14 @@ module _ (kind : Kind) (from : ℕ) (whole rest : List (Option Line)) (line k m 
       go : (f : Option (ℕ → Refusal)) → bidFaultAfter kind k b (eqb (cell used (b .bidder)) 1) ≡ f →
           Judged f b line k m used rows windows r used′ rows′ windows′
           → checked kind line (bidderNumbers (w .done)) (some (bid b) ∷ rest) out
-          ≡ refused (numberOf x) (placeOf x)
-      go none g j = let q : step.Bid (length (b .windows)) ≡ step.Refused x = sym (j .answer) ∙ e in let z : _≡_ {A = ℕ} 0 1 = cc in
-          absurd (omega arith)
-      go (some f) g j = rw (fault-is b w ∙ g) (refusal-is r x (numberOf (f line)) (placeOf (f line)) e j)
+          ≡ refused x
+      go none g j = bid-not-refused r (length (b .windows)) x (j .answer) e
+      go (some f) g j = rw (fault-is b w ∙ g) (refusal-is r x (f line) e j)
 
 -- the next line is not of the form
 pub breaks : (kind : Kind) (from : ℕ) (whole rest : List (Option Line)) (line k m : ℕ) (used rows windows : List ℕ)
     → Walk kind from whole (none ∷ rest) line k m used rows windows →
-    (out : ReadOutcome) → checked kind from [] whole out ≡ refused 2 line
+    (out : ReadOutcome) → checked kind from [] whole out ≡ refused (BadForm line)
 unfolding checked
 breaks kind from whole rest line k m used rows windows w out = w .checks out
 

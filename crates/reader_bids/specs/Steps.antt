@@ -7,7 +7,7 @@ use lib.ListN.{length, take, drop}
 use lib.Dec.{eqb}
 use Rattle.tender.specs.declared.Kind.{Kind}
 use Rattle.tender.specs.declared.Refusal.{Refusal}
-use Rattle.tender.specs.Refusals.{numberOf, placeOf}
+use Rattle.tender.specs.declared.Refusal.the-variants.{BadForm, ReserveMisplaced}
 use Rattle.tender.specs.Tables.{Row, flatRows, flatWindows, bidWidth, windowWidth}
 use Rattle.cells.specs.Cells as cells
 use Rattle.reader_line.specs.Line.{BidLine, Line, tender, bid, reserve}
@@ -23,26 +23,14 @@ use Rattle.reader_bids.specs.declared.Bids.the-variants as bids
 abbrev pub rowNumbers : Row → List ℕ
 rowNumbers r = r .bidder ∷ r .price ∷ r .first ∷ r .count ∷ []
 
--- a fault and the line that has it
-pub record Fault : Type 0 where
-  pub number : ℕ
-  pub place : ℕ
-
-abbrev pub faultOfRefusal : Refusal → Fault
-faultOfRefusal r = record { number = numberOf r; place = placeOf r }
-
-abbrev pub faultAt : ℕ → Option (ℕ → Refusal) → Option Fault
+-- a fault of the line of this number
+abbrev pub faultAt : ℕ → Option (ℕ → Refusal) → Option Refusal
 faultAt line none = none
-faultAt line (some r) = some (faultOfRefusal (r line))
+faultAt line (some r) = some (r line)
 
-abbrev pub verdictOf : Verdict → Option Fault
+abbrev pub verdictOf : Verdict → Option Refusal
 verdictOf Sound = none
-verdictOf (Faulty r) = some (faultOfRefusal r)
-
--- the line declines
-abbrev pub StepDeclines : Step → ℕ → ℕ → Type 0
-StepDeclines (step.Bid count) n at = ⊥
-StepDeclines (step.Refused r) n at = faultOfRefusal r ≡ record { number = n; place = at }
+verdictOf (Faulty r) = some r
 
 -- a bid goes into the tables after k bids with m windows
 pub record BidTaken (b : BidLine) (k m : ℕ) (used rows windows : List ℕ) (r : Step) (used′ rows′ windows′ : List ℕ) : Type 0
@@ -57,14 +45,14 @@ pub record BidTaken (b : BidLine) (k m : ℕ) (used rows windows : List ℕ) (r 
 abbrev pub Judged : Option (ℕ → Refusal) → BidLine → (line k m : ℕ) → (used rows windows : List ℕ) → Step
     → (used′ rows′ windows′ : List ℕ) → Type 0
 Judged none b line k m used rows windows r used′ rows′ windows′ = BidTaken b k m used rows windows r used′ rows′ windows′
-Judged (some f) b line k m used rows windows r used′ rows′ windows′ = StepDeclines r (numberOf (f line)) (placeOf (f line))
+Judged (some f) b line k m used rows windows r used′ rows′ windows′ = r ≡ step.Refused (f line)
 
 -- what comes of a line, which has the number `line` in its text
 abbrev pub Taken : Option Line → Kind → (line k m : ℕ) → (used rows windows : List ℕ) → Step
     → (used′ rows′ windows′ : List ℕ) → Type 0
-Taken none kind line k m used rows windows r used′ rows′ windows′ = StepDeclines r 2 line
-Taken (some (tender t)) kind line k m used rows windows r used′ rows′ windows′ = StepDeclines r 2 line
-Taken (some (reserve p)) kind line k m used rows windows r used′ rows′ windows′ = StepDeclines r 16 line
+Taken none kind line k m used rows windows r used′ rows′ windows′ = r ≡ step.Refused (BadForm line)
+Taken (some (tender t)) kind line k m used rows windows r used′ rows′ windows′ = r ≡ step.Refused (BadForm line)
+Taken (some (reserve p)) kind line k m used rows windows r used′ rows′ windows′ = r ≡ step.Refused (ReserveMisplaced line)
 Taken (some (bid b)) kind line k m used rows windows r used′ rows′ windows′ =
     Judged (bidFaultAfter kind k b (eqb (cells.cell used (b .bidder)) 1)) b line k m used rows windows r used′ rows′ windows′
 
@@ -82,4 +70,4 @@ pub record TablesHold (kind : Kind) (from : ℕ) (ls : List (Option Line)) (k m 
 abbrev pub LinesFilled : Kind → ℕ → List (Option Line) → Bids → (rows windows : List ℕ) → Type 0
 LinesFilled kind from ls (bids.Filled k m) rows windows = TablesHold kind from ls k m rows windows
 LinesFilled kind from ls (bids.Refused r) rows windows =
-    (out : ReadOutcome) → checked kind from [] ls out ≡ refused (numberOf r) (placeOf r)
+    (out : ReadOutcome) → checked kind from [] ls out ≡ refused r

@@ -15,26 +15,17 @@ use Rattle.reader_word.specs.declared.windows.Flaw.the-variants.{Sound}
 use Rattle.reader_word.specs.Flaws.{flawOf, isEmpty, isLate}
 use Rattle.reader_line.specs.Tally.{putWindows, Tally, tally, tenderNote, bidNote, reserveNote, noted}
 use Rattle.tender.specs.declared.Refusal.{Refusal}
-use Rattle.tender.specs.Refusals.{numberOf, placeOf}
+use Rattle.tender.specs.declared.Refusal.the-variants.{BadForm, ReserveMisplaced}
 use Rattle.tender.specs.Tables.{bidWidth}
 use Rattle.reader_text.specs.Read.{bidFaultIn, bidFaultAfter}
 use Rattle.reader_text.specs.FaultLaws.{flaw-told}
-use Rattle.reader_bids.specs.Steps.{rowNumbers, Fault, faultAt, faultOfRefusal, StepDeclines, Taken}
+use Rattle.reader_bids.specs.Steps.{rowNumbers, faultAt, Judged, Taken}
 use Rattle.reader_bids.specs.declared.Step.{Step}
 use Rattle.reader_bids.specs.declared.Step.the-variants as step
 
 pub is-sound : (line : ℕ) (o : Option (ℕ → Refusal)) → none ≡ faultAt line o → o ≡ none
 is-sound line none e = refl
 is-sound line (some f) e = let z : _≡_ {A = ℕ} 0 1 = cc in absurd (omega arith)
-
-pub record Faulted (line : ℕ) (o : Option (ℕ → Refusal)) (x : Fault) : Type 0 where
-  pub f : ℕ → Refusal
-  pub number : o ≡ some f
-  pub fault : x ≡ faultOfRefusal (f line)
-
-pub is-fault : (line : ℕ) (o : Option (ℕ → Refusal)) (x : Fault) → some x ≡ faultAt line o → Faulted line o x
-is-fault line none x e = let z : _≡_ {A = ℕ} 0 1 = cc in absurd (omega arith)
-is-fault line (some f) x e = record { f = f; number = refl; fault = cc }
 
 -- a bid that was noted
 record Noted (n p c : ℕ) (flaw : Flaw) (m : ℕ) (old new : List ℕ) (b : BidLine) : Type 0 where
@@ -58,7 +49,7 @@ noted-bid n p c flaw m old new b e =
     }
 
 module _ (kind : Kind) (line k m : ℕ) (used rows windows : List ℕ) (r : Step) (used′ rows′ windows′ : List ℕ) where
-  pub taken-broken : (o : Option Line) → none ≡ noted m windows o → StepDeclines r 2 line
+  pub taken-broken : (o : Option Line) → none ≡ noted m windows o → r ≡ step.Refused (BadForm line)
       → Taken o kind line k m used rows windows r used′ rows′ windows′
   unfolding noted
   taken-broken none e h = h
@@ -66,7 +57,7 @@ module _ (kind : Kind) (line k m : ℕ) (used rows windows : List ℕ) (r : Step
   taken-broken (some (bid b)) e h = let z : _≡_ {A = ℕ} 0 1 = cc in absurd (omega arith)
   taken-broken (some (reserve v)) e h = let z : _≡_ {A = ℕ} 0 1 = cc in absurd (omega arith)
 
-  pub taken-tender : (o : Option Line) (t : TenderLine) → some (tenderNote t) ≡ noted m windows o → StepDeclines r 2 line
+  pub taken-tender : (o : Option Line) (t : TenderLine) → some (tenderNote t) ≡ noted m windows o → r ≡ step.Refused (BadForm line)
       → Taken o kind line k m used rows windows r used′ rows′ windows′
   unfolding noted
   taken-tender none t e h = let z : _≡_ {A = ℕ} 0 1 = cc in absurd (omega arith)
@@ -74,7 +65,7 @@ module _ (kind : Kind) (line k m : ℕ) (used rows windows : List ℕ) (r : Step
   taken-tender (some (bid b)) t e h = let z : _≡_ {A = ℕ} 0 1 = cc in absurd (omega arith)
   taken-tender (some (reserve v)) t e h = let z : _≡_ {A = ℕ} 0 1 = cc in absurd (omega arith)
 
-  pub taken-reserve : (o : Option Line) (v : ℕ) → some (reserveNote v) ≡ noted m windows o → StepDeclines r 16 line
+  pub taken-reserve : (o : Option Line) (v : ℕ) → some (reserveNote v) ≡ noted m windows o → r ≡ step.Refused (ReserveMisplaced line)
       → Taken o kind line k m used rows windows r used′ rows′ windows′
   unfolding noted
   taken-reserve none v e h = let z : _≡_ {A = ℕ} 0 1 = cc in absurd (omega arith)
@@ -92,17 +83,19 @@ module _ (kind : Kind) (line k m : ℕ) (used rows windows : List ℕ) (r : Step
         (flaw-told kind k (b .bidder) (b .price) (length (b .windows)) (b .windows) (eqb (cell used (b .bidder)) 1))
 
     pub taken-fault : (o : Option Line) → some (bidNote n p (record { count = c; flaw = flaw; table = windows′ })) ≡ noted m windows o
-        → (f : ℕ → Refusal) → bidFaultIn kind k n p c (isEmpty flaw) (isLate flaw) (eqb (cell used n) 1) ≡ some f →
-        StepDeclines r (numberOf (f line)) (placeOf (f line))
-        → Taken o kind line k m used rows windows r used′ rows′ windows′
+        → (x : Refusal) → some x ≡ faultAt line (bidFaultIn kind k n p c (isEmpty flaw) (isLate flaw) (eqb (cell used n) 1))
+        → r ≡ step.Refused x → Taken o kind line k m used rows windows r used′ rows′ windows′
     unfolding noted
-    taken-fault none e f g h = let z : _≡_ {A = ℕ} 0 1 = cc in absurd (omega arith)
-    taken-fault (some (tender u)) e f g h = let z : _≡_ {A = ℕ} 0 1 = cc in absurd (omega arith)
-    taken-fault (some (reserve v)) e f g h = let z : _≡_ {A = ℕ} 0 1 = cc in absurd (omega arith)
-    taken-fault (some (bid b)) e f g h =
-        let x = noted-bid n p c flaw m windows windows′ b e in
-        let y : bidFaultAfter kind k b (eqb (cell used (b .bidder)) 1) ≡ some f = sym (noted-fault b x) ∙ g in
-        rw y h
+    taken-fault none e x g h = let z : _≡_ {A = ℕ} 0 1 = cc in absurd (omega arith)
+    taken-fault (some (tender u)) e x g h = let z : _≡_ {A = ℕ} 0 1 = cc in absurd (omega arith)
+    taken-fault (some (reserve v)) e x g h = let z : _≡_ {A = ℕ} 0 1 = cc in absurd (omega arith)
+    taken-fault (some (bid b)) e x g h =
+        go (bidFaultAfter kind k b (eqb (cell used (b .bidder)) 1))
+        (g ∙ ap (faultAt line) (noted-fault b (noted-bid n p c flaw m windows windows′ b e)))
+      where
+        go : (f : Option (ℕ → Refusal)) → some x ≡ faultAt line f → Judged f b line k m used rows windows r used′ rows′ windows′
+        go none q = let z : _≡_ {A = ℕ} 0 1 = cc in absurd (omega arith)
+        go (some f) q = h ∙ ap step.Refused (cc)
 
     pub taken-sound : (o : Option Line) → some (bidNote n p (record { count = c; flaw = flaw; table = windows′ })) ≡ noted m windows o
         → bidFaultIn kind k n p c (isEmpty flaw) (isLate flaw) (eqb (cell used n) 1) ≡ none →

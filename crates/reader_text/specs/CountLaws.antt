@@ -101,7 +101,7 @@ unfolding readInto fitted
 room-law text b w hb hw = go (readText text) refl
   where
     go : (o : ReadOutcome) → readText text ≡ o → fitted b w o ≡ o
-    go (refused n at) e = refl
+    go (refused r) e = refl
     go (accepted T R W) e =
         let c = counts-law T R W text e in
         rw (le-leb (length R) b (omega (arith, c .0)), le-leb (length W) w (omega (arith, c .1)))

@@ -17,14 +17,14 @@ use Rattle.tender.specs.declared.Refusal.the-variants.{BadForm, OutsideLimits}
 use Rattle.tender.specs.Limits.{lawfulReserve, soundTender}
 use Rattle.tender.specs.Tables.{Row}
 use Rattle.reader_line.specs.Line.{TenderLine, BidLine, Line, tender, bid, reserve, tenderLine, reserveLines, headLines}
-use Rattle.reader_text.specs.Read.{accepted, declinedBy, rowsFrom, allWindows, bidsOf, tenderFault, lineJudged, checked, tables}
+use Rattle.reader_text.specs.Read.{accepted, refused, rowsFrom, allWindows, bidsOf, tenderFault, lineJudged, checked, tables}
 use Rattle.reader_text.specs.Read.{Head, begun, halted, headJudged, tenderWith, reserveIn, Unreserved, headOf, afterHead, readLines}
 use Rattle.reader_text.specs.FaultLaws.{sound-faultless, faultless-sound}
 use Rattle.reader_text.specs.ReadLaws.{never, checked-out, checked-bids}
 
 -- what reading answers, by the head
 
-pub lines-halted : (ls : List (Option Line)) (r : Refusal) → headOf ls ≡ halted r → readLines ls ≡ declinedBy r
+pub lines-halted : (ls : List (Option Line)) (r : Refusal) → headOf ls ≡ halted r → readLines ls ≡ refused r
 unfolding readLines afterHead
 lines-halted ls r e = ap afterHead e
 

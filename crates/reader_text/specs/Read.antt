@@ -13,7 +13,6 @@ use Rattle.tender.specs.declared.Tender.{Tender}
 use Rattle.tender.specs.declared.Refusal.{Refusal}
 use Rattle.tender.specs.declared.Refusal.the-variants.{TextTooLong, BadForm, OutsideLimits, TooMany, EmptyWindow, BidderRepeated}
 use Rattle.tender.specs.declared.Refusal.the-variants.{SeveralWindows, TableTooShort, LateWindow, ReserveMisplaced}
-use Rattle.tender.specs.Refusals.{numberOf, placeOf}
 use Rattle.tender.specs.Limits.{asWindow, within, maxPrice, maxBidder, maxBids, maxWindows, maxText, isSingle, ordered, early, every}
 use Rattle.tender.specs.Tables.{Row}
 use Rattle.reader_word.specs.Words.{cut, among}
@@ -21,11 +20,7 @@ use Rattle.reader_line.specs.Line.{TenderLine, BidLine, Line, tender, bid, rese
 
 pub data ReadOutcome : Type 0 where
   accepted : Tender → List Row → List Window → ReadOutcome
-  -- the refusal's number and place
-  refused : ℕ → ℕ → ReadOutcome
-
-abbrev pub declinedBy : Refusal → ReadOutcome
-declinedBy r = refused (numberOf r) (placeOf r)
+  refused : Refusal → ReadOutcome
 
 -- the rows of the bids, whose windows stand from `at` on
 unfoldable pub rowsFrom : ℕ → List BidLine → List Row
@@ -78,15 +73,15 @@ bidFault k used b = bidFaultAfter k (length used) b (among (b .bidder) used)
 
 unfoldable pub lineJudged : Option (ℕ → Refusal) → ℕ → ReadOutcome → ReadOutcome
 lineJudged none at out = out
-lineJudged (some r) at out = declinedBy (r at)
+lineJudged (some r) at out = refused (r at)
 
 -- the first faulty line from line `at` on, or `out` where there is none
 unfoldable pub checked : Kind → ℕ → List ℕ → List (Option Line) → ReadOutcome → ReadOutcome
 unfolding bidFault lineJudged
 checked k at used [] out = out
-checked k at used (none ∷ ls) out = declinedBy (BadForm at)
-checked k at used (some (tender t) ∷ ls) out = declinedBy (BadForm at)
-checked k at used (some (reserve p) ∷ ls) out = declinedBy (ReserveMisplaced at)
+checked k at used (none ∷ ls) out = refused (BadForm at)
+checked k at used (some (tender t) ∷ ls) out = refused (BadForm at)
+checked k at used (some (reserve p) ∷ ls) out = refused (ReserveMisplaced at)
 checked k at used (some (bid b) ∷ ls) out = let rest = checked k (at + 1) (used ++ b .bidder ∷ []) ls out in
     lineJudged (bidFault k used b) at rest
 
@@ -137,7 +132,7 @@ headOf (some (tender t) ∷ ls) = headJudged (tenderFault t) 1 (reserveIn t 2 ls
 -- the lines after the head are the bids'
 unfoldable pub afterHead : Head → ReadOutcome
 unfolding bidsOf checked tables
-afterHead (halted r) = declinedBy r
+afterHead (halted r) = refused r
 afterHead (begun t from rest) = checked (t .kind) from [] rest (tables t (bidsOf rest))
 
 unfoldable pub readLines : List (Option Line) → ReadOutcome
@@ -146,13 +141,13 @@ readLines ls = afterHead (headOf ls)
 
 unfoldable pub readText : List ℕ → ReadOutcome
 unfolding cut linesOf readLines
-readText text = cond (ltb maxText (length text)) (declinedBy TextTooLong) (readLines (linesOf (cut 10 text)))
+readText text = cond (ltb maxText (length text)) (refused TextTooLong) (readLines (linesOf (cut 10 text)))
 
 -- a lent table with fewer rows than the text needs is told last
 unfoldable pub fitted : ℕ → ℕ → ReadOutcome → ReadOutcome
-fitted bidRows windowRows (refused n at) = refused n at
+fitted bidRows windowRows (refused r) = refused r
 fitted bidRows windowRows (accepted t rows windows) =
-    cond (leb (length rows) bidRows && leb (length windows) windowRows) (accepted t rows windows) (declinedBy TableTooShort)
+    cond (leb (length rows) bidRows && leb (length windows) windowRows) (accepted t rows windows) (refused TableTooShort)
 
 -- what reading answers, with lent tables of so many rows
 unfoldable pub readInto : List ℕ → ℕ → ℕ → ReadOutcome

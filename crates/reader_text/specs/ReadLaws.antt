@@ -15,10 +15,10 @@ use Rattle.reader_word.specs.Words.{cut}
 use Rattle.reader_line.specs.Line.{Line, tender, bid, reserve, linesOf}
 use Rattle.tender.specs.declared.Refusal.{Refusal}
 use Rattle.tender.specs.declared.Refusal.the-variants.{TextTooLong}
-use Rattle.reader_text.specs.Read.{ReadOutcome, accepted, refused, declinedBy, bidsOf, bidFault, lineJudged, checked}
+use Rattle.reader_text.specs.Read.{ReadOutcome, accepted, refused, bidsOf, bidFault, lineJudged, checked}
 use Rattle.reader_text.specs.Read.{readLines, readText}
 
-pub never : {A : Type 0} {n at : ℕ} {t : Tender} {R : List Row} {W : List Window} → refused n at ≡ accepted t R W → A
+pub never : {A : Type 0} {r : Refusal} {t : Tender} {R : List Row} {W : List Window} → refused r ≡ accepted t R W → A
 never e = let z : _≡_ {A = ℕ} 0 1 = cc in absurd (omega arith)
 
 module _ (T : Tender) (R : List Row) (W : List Window) where
@@ -27,7 +27,7 @@ module _ (T : Tender) (R : List Row) (W : List Window) where
   unfolding readText
   read-lines text e = go (ltb 65536 (length text)) e
     where
-      go : (t : Bool) → cond t (declinedBy TextTooLong) (readLines (linesOf (cut 10 text))) ≡ accepted T R W
+      go : (t : Bool) → cond t (refused TextTooLong) (readLines (linesOf (cut 10 text))) ≡ accepted T R W
           → readLines (linesOf (cut 10 text)) ≡ accepted T R W
       go true x = never x
       go false x = x

@@ -17,7 +17,7 @@ use Rattle.reader_line.specs.Line.{BidLine, Line, tender, bid, reserve, lineOf,
 use Rattle.reader_word.specs.CutLaws.{Pieces, cut-some}
 use Rattle.reader_line.specs.SizeLaws.{line-windows}
 use Rattle.tender.specs.declared.Refusal.the-variants.{TextTooLong}
-use Rattle.reader_text.specs.Read.{ReadOutcome, accepted, refused, declinedBy, bidsOf, allWindows, readLines, readText, fitted}
+use Rattle.reader_text.specs.Read.{ReadOutcome, accepted, refused, bidsOf, allWindows, readLines, readText, fitted}
 use Rattle.reader_text.specs.Read.{readInto}
 use Rattle.reader_text.specs.ReadLaws.{never, read-lines}
 use Rattle.reader_text.specs.HeadLaws.{head-is, accepted-head}
@@ -63,7 +63,7 @@ pub short-text : (T : Tender) (R : List Row) (W : List Window) (text : List ℕ)
 unfolding readText
 short-text T R W text e = go (ltb 65536 (length text)) refl e
   where
-    go : (t : Bool) → ltb 65536 (length text) ≡ t → cond t (declinedBy TextTooLong) (readLines (linesOf (cut 10 text)))
+    go : (t : Bool) → ltb 65536 (length text) ≡ t → cond t (refused TextTooLong) (readLines (linesOf (cut 10 text)))
         ≡ accepted T R W
         → length text ≤ 65536
     go true f x = never x
@@ -87,7 +87,7 @@ unfolding readInto fitted
 fits-law text b w hb hw = go (readText text) refl
   where
     go : (o : ReadOutcome) → readText text ≡ o → fitted b w o ≡ o
-    go (refused n at) e = refl
+    go (refused r) e = refl
     go (accepted T R W) e = rw (
       le-leb (length R) b (omega (arith, counts-law T R W text e .0)),
       le-leb (length W) w (omega (arith, size-law T R W text e)),

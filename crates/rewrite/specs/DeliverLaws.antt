@@ -11,10 +11,8 @@ use Rattle.tender.specs.declared.Window.{Window}
 use Rattle.tender.specs.declared.Tender.{Tender}
 use Rattle.tender.specs.declared.Refusal.{Refusal}
 use Rattle.tender.specs.declared.Refusal.the-variants.{NoRoom}
-use Rattle.tender.specs.Refusals.{numberOf, placeOf}
 use Rattle.tender.specs.Tables.{Row, flatRows, flatWindows}
 use Rattle.spelling.specs.Lines.{refusedLine}
-use Rattle.spelling.specs.LineLaws.{refused-line}
 use Rattle.spelling.specs.Written.{Written}
 use Rattle.spelling.specs.Delivered.{Delivered}
 use Rattle.spelling.specs.DeliveredLaws.{delivered-none, delivered-all}
@@ -109,8 +107,8 @@ module _ {made mid line : List ℕ} {n : ℕ} (w : Written made 0 line mid n) wh
   pub line-all : {old new : List ℕ} {r : ℕ} → n ≤ length old → Written old 0 (take n mid) new r → Delivered line old new r
   line-all l v = delivered-all (omega (arith, w .next)) (rw line-is at v)
 
-pub rewritten-refusal : {text old new : List ℕ} {r : ℕ} (q : Refusal) → readText text ≡ refused (numberOf q) (placeOf q)
+pub rewritten-refusal : {text old new : List ℕ} {r : ℕ} (q : Refusal) → readText text ≡ refused q
     → Delivered (refusedLine q) old new r → Rewritten text old new r
 unfolding rewriteOf
 rewritten-refusal {text} {old} {new} {r} q e d =
-    record { delivers = subst (λ out. Delivered out old new r) (refused-line q ∙ sym (ap rewriteOf e)) d }
+    record { delivers = subst (λ out. Delivered out old new r) (sym (ap rewriteOf e)) d }

@@ -5,15 +5,15 @@ use Prim.Native.Nat.{ℕ}
 use lib.ListN.{length}
 use Rattle.tender.specs.declared.Tender.{Tender}
 use Rattle.tender.specs.Tables.{flatWindows}
-use Rattle.spelling.specs.Lines.{pairLine, refusedWord}
+use Rattle.spelling.specs.Lines.{refusedLine}
 use Rattle.spelling.specs.Delivered.{Delivered}
 use Rattle.reader_text.specs.Read.{ReadOutcome, accepted, refused, readText}
 use Rattle.writer.specs.Canonical.{canonical, WriteOutcome, spelt, unspelt, writeInto, bufferAfter}
 
 -- by what reading it answers: what was read in one spelling; a refusal's line
 unfoldable pub rewriteOf : ReadOutcome → List ℕ
-unfolding canonical flatWindows pairLine refusedWord
-rewriteOf (refused n at) = pairLine refusedWord n at
+unfolding canonical flatWindows refusedLine
+rewriteOf (refused r) = refusedLine r
 rewriteOf (accepted t R W) = canonical t R (flatWindows W)
 
 -- The promise of a call with the text and a lent buffer of the bytes `old`: it answers r and leaves the bytes `new`. Where there is no

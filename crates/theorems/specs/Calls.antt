@@ -9,7 +9,7 @@ use Rattle.tender.specs.declared.AwardRow.{AwardRow}
 use Rattle.tender.specs.declared.Answer.{Answer}
 use Rattle.tender.specs.Tables.{bidWidth, windowWidth}
 use Rattle.reader_text.specs.Read.{readInto}
-use Rattle.reader.specs.Answer.{toldReading, summary, bidsAfter, windowsAfter}
+use Rattle.reader.specs.Answer.{readAnswer, bidsAfter, windowsAfter}
 use Rattle.reader.specs.declared.Reading.{Reading}
 use Rattle.award_check.specs.Auction.{Auction, auctionOf}
 use Rattle.award_plain.specs.Award.{Outcome}
@@ -31,7 +31,7 @@ pub record ReadRun : Type 0 where
 
 -- the contract of `read`, its three clauses
 pub record ReadKept (r : ReadRun) : Type 0 where
-  pub answers : toldReading (r .answer) ≡ summary (readInto (r .text) (length (r .bids) / bidWidth) (length (r .windows) / windowWidth))
+  pub answers : r .answer ≡ readAnswer (readInto (r .text) (length (r .bids) / bidWidth) (length (r .windows) / windowWidth))
   pub rows : r .bids-after ≡ bidsAfter (r .bids) (readInto (r .text) (length (r .bids) / bidWidth) (length (r .windows) / windowWidth))
   pub own : r .windows-after ≡ windowsAfter (r .windows)
       (readInto (r .text) (length (r .bids) / bidWidth) (length (r .windows) / windowWidth))

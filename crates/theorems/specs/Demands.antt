@@ -13,7 +13,9 @@ use Rattle.tender.specs.declared.Reserve.the-variants.{Absent, Price}
 use Rattle.tender.specs.declared.Tender.{Tender}
 use Rattle.tender.specs.declared.AwardRow.{AwardRow}
 use Rattle.tender.specs.declared.Totals.{Totals}
+use Rattle.tender.specs.declared.Refusal.{Refusal}
 use Rattle.tender.specs.declared.Refusal.the-variants.{BadTables}
+use Rattle.tender.specs.Refusals.{numberOf}
 use Rattle.tender.specs.Tables.{Row, rowsOf, flatRows, flatWindows, bidWidth, windowWidth}
 use Rattle.reader_word.specs.Words.{digits}
 use Rattle.reader_line.specs.Line.{BidLine, headLines}
@@ -134,7 +136,7 @@ module _ (text : List ℕ) (T : Tender) (R : List Row) (W : List Window) (read :
   never-nine-or-ten = list.award-number T R W (rules-law T R W text read)
 
 -- A text alone is never refused with 8, nor is it with tables of 1,000 and 32,000 rows.
-pub never-eight : (text : List ℕ) (n at : ℕ) → readText text ≡ refused n at → OfText n
+pub never-eight : (text : List ℕ) (r : Refusal) → readText text ≡ refused r → OfText (numberOf r)
 never-eight = reading.refusal-number
 
 pub long-tables : (text : List ℕ) (bidRows windowRows : ℕ) → 1000 ≤ bidRows → 32000 ≤ windowRows

@@ -11,6 +11,7 @@ use Rattle.tender.specs.declared.Tender.{Tender}
 use Rattle.tender.specs.declared.AwardRow.{AwardRow}
 use Rattle.tender.specs.declared.Totals.{Totals}
 use Rattle.tender.specs.declared.Refusal.{Refusal}
+use Rattle.tender.specs.Refusals.{numberOf, placeOf}
 use Rattle.tender.specs.Tables.{Row, flatRows, flatWindows}
 use Rattle.reader_text.specs.Read.{accepted, readText}
 use Rattle.reader_text.specs.Read as reading
@@ -28,6 +29,7 @@ use Rattle.award.specs.SettleLaws.{lost-nothing, rowIn}
 use Rattle.award.specs.TableLaws.{row-is}
 use Rattle.award.specs.Right as right
 use Rattle.award.specs.TextOutcomeLaws.{honest-texts}
+use Rattle.spelling.specs.LineLaws.{refused-line}
 use Rattle.listing.specs.List.{listLines, listOf}
 use Rattle.listing.specs.ListLaws.{listed-is}
 use Rattle.theorems.specs.Calls.{ListCall, shown}
@@ -89,8 +91,8 @@ given-read l g = go (readText (l .text)) refl
   where
     go : (o : reading.ReadOutcome) → readText (l .text) ≡ o → Accepted (l .text)
     go (accepted T R W) e = accepts T R W e
-    go (reading.refused n at) e = absurd (g .read n at (refusal-number (l .text) n at e)
-        (listed-is (l .promise) (g .written) ∙ ap listOf e))
+    go (reading.refused r) e = absurd (g .read (numberOf r) (placeOf r) (refusal-number (l .text) r e)
+        (listed-is (l .promise) (g .written) ∙ ap listOf e ∙ refused-line r))
 
 -- Two calls of `tender_list`.
 pub no-gain-shown : (l l′ : ListCall) (bidder p q : List ℕ) → DifferInPrice (l .text) (l′ .text) bidder p q → ListGiven l

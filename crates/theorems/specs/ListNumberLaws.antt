@@ -113,9 +113,10 @@ shows-no-other l n at small a e = go (readText (l .text)) refl (sym (listed-is (
     of T R W rules (refused r) f x = inr (found-as (numberOf r) (placeOf r) (sym (refused-line r) ∙ x) (read-declined T R W rules r f))
 
     go : (o : reading.ReadOutcome) → readText (l .text) ≡ o → listOf (readText (l .text)) ≡ pairLine refusedWord n at → Showable n
-    go (reading.refused m k) f x =
-        let r = refusal-number (l .text) m k f in
-        let q : m ≡ n = same-number m k n at (text-small m r) small (sym (ap listOf f) ∙ x) in
-        inl (rw q at r)
+    go (reading.refused r) f x =
+        let h = refusal-number (l .text) r f in
+        let q : numberOf r ≡ n = same-number (numberOf r) (placeOf r) n at (text-small (numberOf r) h) small
+        (sym (refused-line r) ∙ sym (ap listOf f) ∙ x) in
+        inl (rw q at h)
     go (reading.accepted T R W) f x = of T R W (rules-law T R W (l .text) f)
         (awardOf (T .kind) T (length R) (flatRows R) (flatWindows W) (length R)) refl (sym (ap listOf f) ∙ x)

@@ -15,12 +15,11 @@ use Rattle.tender.specs.declared.Refusal.{Refusal}
 use Rattle.tender.specs.declared.Refusal.the-variants.{TextTooLong, BadForm, OutsideLimits, TooMany, EmptyWindow, BidderRepeated}
 use Rattle.tender.specs.declared.Refusal.the-variants.{SeveralWindows, TableTooShort, LateWindow, ReserveMisplaced}
 use Rattle.tender.specs.Limits.{asWindow, week, maxPrice, maxBidder, maxBids, maxWindows, maxText}
-use Rattle.tender.specs.Refusals.{numberOf, placeOf}
 use Rattle.tender.specs.Tables.{Row, flatRows, flatWindows, bidWidth, windowWidth}
 use Rattle.reader_word.specs.Words.{cut}
 use Rattle.reader_line.specs.Line.{TenderLine, BidLine, Line, tender, bid, reserve, tenderLine, headLines, linesOf}
 use Rattle.reader_text.specs.Read.{rowsFrom, allWindows, tenderWith}
-use Rattle.reader.specs.Answer.{toldReading, filled, declined}
+use Rattle.reader.specs.declared.Reading.the-variants.{Accepted, Refused}
 use Rattle.theorems.specs.Calls.{ReadRun}
 
 -- a text without a line has a first line that is not of the form
@@ -172,13 +171,13 @@ pub record Readable (text : List ℕ) (t : Tender) (R : List Row) (W : List Wind
 
 -- a refusal leaves both tables as they were
 pub record Declines (x : Refusal) (r : ReadRun) : Type 0 where
-  pub answer : toldReading (r .answer) ≡ declined (numberOf x) (placeOf x)
+  pub answer : r .answer ≡ Refused x
   pub bids-stay : r .bids-after ≡ r .bids
   pub windows-stay : r .windows-after ≡ r .windows
 
 -- an accepted text fills the first rows, and the places past them stay
 pub record Fills (t : Tender) (R : List Row) (W : List Window) (r : ReadRun) : Type 0 where
-  pub answer : toldReading (r .answer) ≡ filled t (length R) (length W)
+  pub answer : r .answer ≡ Accepted t (length R) (length W)
   pub bids-are : r .bids-after ≡ flatRows R ++ drop (bidWidth * length R) (r .bids)
   pub windows-are : r .windows-after ≡ flatWindows W ++ drop (windowWidth * length W) (r .windows)
 
@@ -205,6 +204,6 @@ OfText n = ((1 ≤ n) × (n ≤ 7)) ⊎ ((15 ≤ n) × (n ≤ 16))
 
 -- two calls answered the same and left the same
 pub record SameReading (x y : ReadRun) : Type 0 where
-  pub answers : toldReading (x .answer) ≡ toldReading (y .answer)
+  pub answers : x .answer ≡ y .answer
   pub bids-same : x .bids-after ≡ y .bids-after
   pub windows-same : x .windows-after ≡ y .windows-after

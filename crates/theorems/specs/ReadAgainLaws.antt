@@ -1,5 +1,5 @@
 -- A call of `read` that accepted its text left its rows and windows, from which the text is spelt again. Assumes nothing.
-use mathlib.Core.Path.{_≡_, sym, ap, subst, _∙_}
+use mathlib.Core.Path.{_≡_, sym, subst, _∙_}
 use mathlib.Core.List.{List}
 use Prim.Native.Nat.{ℕ}
 use native.Mathlib.Omega.{arith}
@@ -7,7 +7,6 @@ use Rattle.tender.specs.declared.Window.{Window}
 use Rattle.tender.specs.declared.Tender.{Tender}
 use Rattle.tender.specs.declared.Refusal.{Refusal}
 use Rattle.tender.specs.Tables.{Row}
-use Rattle.reader.specs.Answer.{toldReading}
 use Rattle.reader.specs.declared.Reading.the-variants as answer
 use Rattle.theorems.specs.Calls.{ReadCall}
 use Rattle.theorems.specs.OneReading.{Readable, Declines, Fills, OneReading, text-too-long, bad-form, too-many}
@@ -21,11 +20,11 @@ pub read-again : (r : ReadCall) (t : Tender) (n m : ℕ) → r .run .answer ≡ 
 read-again r t n m e = go (one-reading (r .run) (r .kept))
   where
     never : {A : Type 0} {x : Refusal} → Declines x (r .run) → A
-    never d = let h = sym (ap toldReading e) ∙ d .answer in let z : _≡_ {A = ℕ} 0 1 = cc in absurd (omega arith)
+    never d = let h = sym e ∙ d .answer in let z : _≡_ {A = ℕ} 0 1 = cc in absurd (omega arith)
 
     read : (u : Tender) (R : List Row) (W : List Window) → Readable (r .run .text) u R W → Fills u R W (r .run) → WasRead (r .run) t
     read u R W d f =
-        let h = sym (f .answer) ∙ ap toldReading e in
+        let h = sym (f .answer) ∙ e in
         let q : u ≡ t = cc in
         subst (WasRead (r .run)) q
         (record { rows = R; spans = W; spelt = spelt-again (r .run .text) u R W (text-accepted (r .run .text) u R W d); fills = f })

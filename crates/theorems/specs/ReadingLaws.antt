@@ -20,17 +20,17 @@ use Rattle.tender.specs.declared.Refusal.{Refusal}
 use Rattle.tender.specs.declared.Refusal.the-variants.{TextTooLong, BadForm, OutsideLimits, TooMany, EmptyWindow, BidderRepeated}
 use Rattle.tender.specs.declared.Refusal.the-variants.{SeveralWindows, TableTooShort, LateWindow, ReserveMisplaced}
 use Rattle.tender.specs.Limits.{asWindow, within, isSingle, ordered, early, every, lawfulReserve}
-use Rattle.tender.specs.Refusals.{numberOf, placeOf}
+use Rattle.tender.specs.Refusals.{numberOf}
 use Rattle.tender.specs.Tables.{Row, bidWidth, windowWidth}
 use Rattle.reader_word.specs.Words.{cut, among}
 use Rattle.reader_line.specs.Line.{TenderLine, BidLine, Line, tender, bid, reserve, tenderLine, reserveLines, headLines, linesOf}
-use Rattle.reader_text.specs.Read.{ReadOutcome, accepted, refused, declinedBy, rowsFrom, allWindows, bidsOf, lineFault, tenderFault}
+use Rattle.reader_text.specs.Read.{ReadOutcome, accepted, refused, rowsFrom, allWindows, bidsOf, lineFault, tenderFault}
 use Rattle.reader_text.specs.Read.{bidFaultIn, bidFaultAfter, bidFault, lineJudged, checked, tables, halted, tenderWith, reserveIn}
 use Rattle.reader_text.specs.Read.{Unreserved, afterHead, readLines, readText, fitted, readInto}
 use Rattle.reader_text.specs.FaultLaws.{faultless-sound}
 use Rattle.reader_text.specs.HeadLaws.{lines-halted, lines-begun, no-line, broken-first, bid-first, reserve-first, tender-read}
 use Rattle.reader_text.specs.HeadLaws.{bids-unreserved, tender-faultless, reserve-absent, reserve-taken, reserve-high, head-of}
-use Rattle.reader.specs.Answer.{summary, toldReading, bidsAfter, windowsAfter}
+use Rattle.reader.specs.Answer.{readAnswer, bidsAfter, windowsAfter}
 use Rattle.theorems.specs.Calls.{ReadRun, ReadKept}
 use Rattle.theorems.specs.OneReading.{orBroken, linesIn, Above, at-start, after, linesAbove, LineFault, of-form, of-place}
 use Rattle.theorems.specs.OneReading.{of-count, of-limits, of-kind, of-minutes, of-week, of-bidder, pageOrder}
@@ -220,10 +220,10 @@ module _ (d : Above) (x : Option Line) (o : Option (ℕ → Refusal)) (at : ℕ)
   passes v (clean w q) = rw q
   passes v (stopped-by f h q) = absurd (v f (first-stands pageOrder f d x h))
 
-  tells : (f : LineFault) → FirstAmong pageOrder f d x → Verdict d x o → lineJudged o at rest ≡ declinedBy (refusalOf f at)
+  tells : (f : LineFault) → FirstAmong pageOrder f d x → Verdict d x o → lineJudged o at rest ≡ refused (refusalOf f at)
   unfolding lineJudged
   tells f h (clean w q) = absurd (w f (first-stands pageOrder f d x h))
-  tells f h (stopped-by g k q) = rw q (ap (λ g. declinedBy (refusalOf g at)) (one-first pageOrder g f d x k h))
+  tells f h (stopped-by g k q) = rw q (ap (λ g. refused (refusalOf g at)) (one-first pageOrder g f d x k h))
 
 -- the lines after the head, from line `from` on: all are faultless bids, or the first that is not has its first fault
 data Walked (t : Tender) (from : ℕ) (done : List BidLine) (ls : List (Option Line)) (out o : ReadOutcome) : Type 0 where
@@ -232,7 +232,7 @@ data Walked (t : Tender) (from : ℕ) (done : List BidLine) (ls : List (Option L
   stops : (bs : List BidLine) (x : Option Line) (rest : List (Option Line)) (f : LineFault) → ls ≡ map (λ b. some (bid b)) bs
       ++ x ∷ rest
       → SoundBids t done bs → FirstAmong pageOrder f (after t (done ++ bs)) x →
-      o ≡ declinedBy (refusalOf f (from + length done + length bs)) → Walked t from done ls out o
+      o ≡ refused (refusalOf f (from + length done + length bs)) → Walked t from done ls out o
 
 bidders-after : (done : List BidLine) (b : BidLine) → map (λ b. b .bidder) (done ++ b ∷ []) ≡ map (λ b. b .bidder) done
     ++ b .bidder ∷ []
@@ -258,12 +258,12 @@ walked : (t : Tender) (from : ℕ) (done : List BidLine) (ls : List (Option Line
 unfolding checked lineJudged
 walked t from done [] out at e u = all-sound [] refl tt refl
 walked t from done (none ∷ ls) out at e u =
-    stops [] none ls of-form refl tt (inl (refl, refl)) (ap (λ n. declinedBy (BadForm n)) (omega arith))
+    stops [] none ls of-form refl tt (inl (refl, refl)) (ap (λ n. refused (BadForm n)) (omega arith))
 walked t from done (some (reserve p) ∷ ls) out at e u =
     stops [] (some (reserve p)) ls of-place refl tt (rw (append-nil done) (first-misplaced t done p u))
-    (ap (λ n. declinedBy (ReserveMisplaced n)) (omega arith))
+    (ap (λ n. refused (ReserveMisplaced n)) (omega arith))
 walked t from done (some (tender v) ∷ ls) out at e u =
-    stops [] (some (tender v)) ls of-form refl tt (inl (refl, refl)) (ap (λ n. declinedBy (BadForm n)) (omega arith))
+    stops [] (some (tender v)) ls of-form refl tt (inl (refl, refl)) (ap (λ n. refused (BadForm n)) (omega arith))
 walked t from done (some (bid b) ∷ ls) out at e u =
     go (bidFault (t .kind) (map (λ b. b .bidder) done) b) (bid-verdict t done b)
     (rw (bidders-after done b) at (walked t from (done ++ b ∷ []) ls out (at + 1) (omega (arith, length-append done (b ∷ [])))
@@ -275,7 +275,7 @@ walked t from done (some (bid b) ∷ ls) out at e u =
     more o v (stops bs x rest f l s h q) =
         stops (b ∷ bs) x rest f (ap {B = List (Option Line)} (λ r. some (bid b) ∷ r) l) (v, s)
         (rw (append-assoc done (b ∷ []) bs) at h)
-        (q ∙ ap (λ n. declinedBy (refusalOf f n)) (let m = length-append done (b ∷ []) in omega (arith, m)))
+        (q ∙ ap (λ n. refused (refusalOf f n)) (let m = length-append done (b ∷ []) in omega (arith, m)))
 
     go : (o : Option (ℕ → Refusal)) → Verdict (after t done) (some (bid b)) o
         → Walked t from (done ++ b ∷ []) ls out (checked (t .kind) (at + 1) (map (λ b. b .bidder) done ++ b .bidder ∷ []) ls out) →
@@ -283,12 +283,12 @@ walked t from done (some (bid b) ∷ ls) out at e u =
         (lineJudged o at (checked (t .kind) (at + 1) (map (λ b. b .bidder) done ++ b .bidder ∷ []) ls out))
     go o (clean v q) w = rw q (more _ v w)
     go o (stopped-by f h q) w =
-        rw q (stops [] (some (bid b)) ls f refl tt (rw (append-nil done) h) (ap (λ n. declinedBy (refusalOf f n)) (omega arith)))
+        rw q (stops [] (some (bid b)) ls f refl tt (rw (append-nil done) h) (ap (λ n. refused (refusalOf f n)) (omega arith)))
 
 -- the whole text
 data TextRead (text : List ℕ) (o : ReadOutcome) : Type 0 where
-  long : 65536 < length text → o ≡ declinedBy TextTooLong → TextRead text o
-  faulty : (l : LineOf text) (f : LineFault) → FirstOn f l → o ≡ declinedBy (refusalOf f (placeIn l)) → TextRead text o
+  long : 65536 < length text → o ≡ refused TextTooLong → TextRead text o
+  faulty : (l : LineOf text) (f : LineFault) → FirstOn f l → o ≡ refused (refusalOf f (placeIn l)) → TextRead text o
   readable : (t : Tender) (R : List Row) (W : List Window) → Readable text t R W → o ≡ accepted t R W → TextRead text o
 
 bids-of : (bs : List BidLine) → bidsOf (map (λ b. some (bid b)) bs) ≡ bs
@@ -326,7 +326,7 @@ high-reserve t p l = inr ((λ h. h), inr (placed, inr ((λ h. h), inl (refl, l))
 
 module _ (text : List ℕ) (short : length text ≤ 65536) where
   first-line : (x : Option Line) (ls : List (Option Line)) → linesIn text ≡ x ∷ ls → OnLine of-form at-start x
-      → TextRead text (declinedBy (BadForm 1))
+      → TextRead text (refused (BadForm 1))
   first-line x ls e f = faulty (record { above = at-start; line = x; rest = ls; short = short; lines = e; sound = tt }) of-form
       (inl (refl, f)) refl
 
@@ -371,7 +371,7 @@ module _ (text : List ℕ) (short : length text ≤ 65536) where
             lines = e ∙ ap (λ r. front ++ r) l ∙ sym (append-assoc front (map (λ b. some (bid b)) bs) (x ∷ rest));
             sound = sound-lines T bs u v s;
           }) f h
-          (q ∙ ap (λ n. declinedBy (refusalOf f n)) (count bs))
+          (q ∙ ap (λ n. refused (refusalOf f n)) (count bs))
 
   -- the reserve's line, where it stands after the tender's
   after-tender : (t : TenderLine) (ls : List (Option Line)) → linesIn text ≡ some (tender t) ∷ ls
@@ -431,16 +431,16 @@ unfolding readText
 text-read text = go (ltb 65536 (length text)) refl
   where
     go : (b : Bool) → ltb 65536 (length text) ≡ b → TextRead text
-        (cond b (declinedBy TextTooLong) (readLines (linesOf (cut 10 text))))
+        (cond b (refused TextTooLong) (readLines (linesOf (cut 10 text))))
     go true e = long (ltb-true 65536 (length text) e) refl
     go false e = lines-read text (ltb-false 65536 (length text) e) (linesOf (cut 10 text)) refl
 
 -- what a text is refused with, whatever the tables: never 8
-pub refusal-number : (text : List ℕ) (n at : ℕ) → readText text ≡ refused n at → OfText n
-refusal-number text n at e = go (text-read text)
+pub refusal-number : (text : List ℕ) (r : Refusal) → readText text ≡ refused r → OfText (numberOf r)
+refusal-number text r e = go (text-read text)
   where
-    from : (m k : ℕ) → readText text ≡ refused m k → OfText m → OfText n
-    from m k q b = let h : m ≡ n = cc (e, q) in rw h at b
+    from : (x : Refusal) → readText text ≡ refused x → OfText (numberOf x) → OfText (numberOf r)
+    from x q b = let h : x ≡ r = cc (e, q) in rw h at b
 
     number : (f : LineFault) (k : ℕ) → OfText (numberOf (refusalOf f k))
     number of-form k = inl (omega arith, omega arith)
@@ -452,21 +452,21 @@ refusal-number text n at e = go (text-read text)
     number of-week k = inr (omega arith, omega arith)
     number of-bidder k = inl (omega arith, omega arith)
 
-    go : TextRead text (readText text) → OfText n
-    go (long l q) = from 1 0 q (inl (omega arith, omega arith))
-    go (faulty l f h q) = from (numberOf (refusalOf f (placeIn l))) (placeOf (refusalOf f (placeIn l))) q (number f (placeIn l))
+    go : TextRead text (readText text) → OfText (numberOf r)
+    go (long l q) = from TextTooLong q (inl (omega arith, omega arith))
+    go (faulty l f h q) = from (refusalOf f (placeIn l)) q (number f (placeIn l))
     go (readable t R W d q) = let z : _≡_ {A = ℕ} 0 1 = cc (e, q) in absurd (omega arith)
 
 -- what comes of the tables
 module _ (r : ReadRun) where
   abbrev Leaves : ReadOutcome → Type 0
-  Leaves o = (toldReading (r .answer) ≡ summary o) × ((r .bids-after ≡ bidsAfter (r .bids) o)
+  Leaves o = (r .answer ≡ readAnswer o) × ((r .bids-after ≡ bidsAfter (r .bids) o)
       × (r .windows-after ≡ windowsAfter (r .windows) o))
 
-  refuses : (x : Refusal) (o : ReadOutcome) → o ≡ declinedBy x → Leaves o → Declines x r
+  refuses : (x : Refusal) (o : ReadOutcome) → o ≡ refused x → Leaves o → Declines x r
   unfolding bidsAfter windowsAfter
   refuses x o e (a, (b, c)) = record {
-    answer = a ∙ ap summary e;
+    answer = a ∙ ap readAnswer e;
     bids-stay = b ∙ ap (bidsAfter (r .bids)) e;
     windows-stay = c ∙ ap (windowsAfter (r .windows)) e;
   }
@@ -474,7 +474,7 @@ module _ (r : ReadRun) where
   fills : (t : Tender) (R : List Row) (W : List Window) (o : ReadOutcome) → o ≡ accepted t R W → Leaves o → Fills t R W r
   unfolding bidsAfter windowsAfter
   fills t R W o e (a, (b, c)) = record {
-    answer = a ∙ ap summary e;
+    answer = a ∙ ap readAnswer e;
     bids-are = b ∙ ap (bidsAfter (r .bids)) e;
     windows-are = c ∙ ap (windowsAfter (r .windows)) e;
   }
@@ -501,7 +501,7 @@ module _ (r : ReadRun) where
       n = length (r .windows) / windowWidth
 
       room : (t : Tender) (R : List Row) (W : List Window) → Readable (r .text) t R W → (p q : Bool) → leb (length R) m ≡ p
-          → leb (length W) n ≡ q → Leaves (cond (p && q) (accepted t R W) (declinedBy TableTooShort)) → OneReading r
+          → leb (length W) n ≡ q → Leaves (cond (p && q) (accepted t R W) (refused TableTooShort)) → OneReading r
       room t R W d true true e f x = tables-filled t R W d (leb-true (length R) m e, leb-true (length W) n f) (fills t R W _ refl x)
       room t R W d true false e f x = table-too-short t R W d (inr (leb-false (length W) n f)) (refuses TableTooShort _ refl x)
       room t R W d false q e f x = table-too-short t R W d (inl (leb-false (length R) m e)) (refuses TableTooShort _ refl x)
@@ -545,15 +545,15 @@ skips t done (b ∷ bs) ls out at (v, s) =
 
 at-fault : (t : Tender) (done : List BidLine) (x : Option Line) (ls : List (Option Line)) (out : ReadOutcome) (at : ℕ) (f : LineFault)
     → FirstAmong pageOrder f (after t done) x → (t .reserve ≡ Absent → done ≡ [] → Unreserved (x ∷ ls))
-    → checked (t .kind) at (map (λ b. b .bidder) done) (x ∷ ls) out ≡ declinedBy (refusalOf f at)
+    → checked (t .kind) at (map (λ b. b .bidder) done) (x ∷ ls) out ≡ refused (refusalOf f at)
 unfolding checked lineJudged
 at-fault t done none ls out at f h u = let e = first-stands pageOrder f (after t done) none h in
-    ap (λ g. declinedBy (refusalOf g at)) (sym e)
+    ap (λ g. refused (refusalOf g at)) (sym e)
 at-fault t done (some (tender v)) ls out at f h u =
     let e = first-stands pageOrder f (after t done) (some (tender v)) h in
-    ap (λ g. declinedBy (refusalOf g at)) (sym e)
+    ap (λ g. refused (refusalOf g at)) (sym e)
 at-fault t done (some (reserve p)) ls out at f h u =
-    ap (λ g. declinedBy (refusalOf g at))
+    ap (λ g. refused (refusalOf g at))
     (one-first pageOrder of-place f (after t done) (some (reserve p)) (first-misplaced t done p u) h)
 at-fault t done (some (bid b)) ls out at f h u =
     tells (after t done) (some (bid b)) (bidFault (t .kind) (map (λ b. b .bidder) done) b) at _ f h (bid-verdict t done b)
@@ -591,24 +591,24 @@ head-first T ls u v w = lines-begun (map (λ l. some l) (headLines T) ++ ls) T (
     (lawful-reserve (tenderLine T) (T .reserve) v)) w)
 
 at-first : (f : LineFault) (x : Option Line) (ls : List (Option Line)) → FirstAmong pageOrder f at-start x
-    → readLines (x ∷ ls) ≡ declinedBy (refusalOf f 1)
+    → readLines (x ∷ ls) ≡ refused (refusalOf f 1)
 at-first f none ls k = lines-halted (none ∷ ls) (BadForm 1) (broken-first ls)
-    ∙ ap (λ g. declinedBy (refusalOf g 1)) (sym (first-stands pageOrder f at-start none k))
+    ∙ ap (λ g. refused (refusalOf g 1)) (sym (first-stands pageOrder f at-start none k))
 at-first f (some (bid b)) ls k = lines-halted (some (bid b) ∷ ls) (BadForm 1) (bid-first b ls)
-    ∙ ap (λ g. declinedBy (refusalOf g 1)) (sym (first-stands pageOrder f at-start (some (bid b)) k))
+    ∙ ap (λ g. refused (refusalOf g 1)) (sym (first-stands pageOrder f at-start (some (bid b)) k))
 at-first f (some (reserve p)) ls k = lines-halted (some (reserve p) ∷ ls) (BadForm 1) (reserve-first p ls)
-    ∙ ap (λ g. declinedBy (refusalOf g 1)) (sym (first-stands pageOrder f at-start (some (reserve p)) k))
+    ∙ ap (λ g. refused (refusalOf g 1)) (sym (first-stands pageOrder f at-start (some (reserve p)) k))
 at-first f (some (tender t)) ls k = tender-read t ls ∙ tells at-start (some (tender t)) (tenderFault t) 1 _ f k (tender-verdict t)
 
 -- the reserve's line after the tender's, with a price above the limit
 at-reserve : (t : TenderLine) (p : ℕ) (ls : List (Option Line)) (f : LineFault) → NoFault at-start (some (tender t))
     → FirstAmong pageOrder f (after (tenderWith t Absent) []) (some (reserve p))
-    → readLines (some (tender t) ∷ some (reserve p) ∷ ls) ≡ declinedBy (refusalOf f 2)
+    → readLines (some (tender t) ∷ some (reserve p) ∷ ls) ≡ refused (refusalOf f 2)
 at-reserve t p ls f u k =
     let h = only-limits t p f (first-stands pageOrder f (after (tenderWith t Absent) []) (some (reserve p)) k) in
     lines-halted (some (tender t) ∷ some (reserve p) ∷ ls) (OutsideLimits 2)
     (tender-faultless t (some (reserve p) ∷ ls) (faultless t u) ∙ reserve-high t 2 p ls (h .1))
-    ∙ ap (λ g. declinedBy (refusalOf g 2)) (sym (h .0))
+    ∙ ap (λ g. refused (refusalOf g 2)) (sym (h .0))
 
 -- a line after a head: the reserve's next after the tender's, or another
 data Stands (r : Reserve) (bs : List BidLine) (x : Option Line) : Type 0 where
@@ -627,7 +627,7 @@ second-refused : (t : TenderLine) (r : Reserve) (bs : List BidLine) (x : Option 
     (p : ℕ) → r ≡ Absent → bs ≡ [] → x ≡ some (reserve p) → NoFault at-start (some (tender t))
     → FirstAmong pageOrder f (after (tenderWith t r) bs) x
     → readLines (linesAbove (after (tenderWith t r) bs) ++ x ∷ ls)
-    ≡ declinedBy (refusalOf f (length (linesAbove (after (tenderWith t r) bs)) + 1))
+    ≡ refused (refusalOf f (length (linesAbove (after (tenderWith t r) bs)) + 1))
 unfolding headLines reserveLines
 second-refused t r bs x ls f p a b q u k = rw (a, b, q) (at-reserve t p ls f u (rw (a, b, q) at k))
 
@@ -637,16 +637,16 @@ unreserved-bids [] x ls h = h refl
 unreserved-bids (b ∷ bs) x ls h = tt
 
 line-refused : (text : List ℕ) (l : LineOf text) (f : LineFault) → FirstOn f l
-    → readText text ≡ declinedBy (refusalOf f (placeIn l))
+    → readText text ≡ refused (refusalOf f (placeIn l))
 line-refused text l f h = short-text text (l .short) ∙ ap readLines (l .lines) ∙ go (l .above) (l .line) (l .sound) h
   where
     go : (d : Above) (x : Option Line) → SoundLines d → FirstAmong pageOrder f d x →
-        readLines (linesAbove d ++ x ∷ l .rest) ≡ declinedBy (refusalOf f (length (linesAbove d) + 1))
+        readLines (linesAbove d ++ x ∷ l .rest) ≡ refused (refusalOf f (length (linesAbove d) + 1))
     go at-start x s k = at-first f x (l .rest) k
     go (after t bs) x (u, (v, s)) k = by (stands (t .reserve) bs x)
       where
         by : Stands (t .reserve) bs x → readLines (linesAbove (after t bs) ++ x ∷ l .rest)
-            ≡ declinedBy (refusalOf f (length (linesAbove (after t bs)) + 1))
+            ≡ refused (refusalOf f (length (linesAbove (after t bs)) + 1))
         by (second p a b q) = second-refused (tenderLine t) (t .reserve) bs x (l .rest) f p a b q u k
         by (later w) =
             let front = map (λ l. some l) (headLines t) in
@@ -663,7 +663,7 @@ line-refused text l f h = short-text text (l .short) ∙ ap readLines (l .lines)
             ∙ head-first t ls u v (λ a. unreserved-bids bs x (l .rest) (w (l .rest) a))
             ∙ skips t [] bs (x ∷ l .rest) (tables t (bidsOf ls)) n s
             ∙ at-fault t bs x (l .rest) (tables t (bidsOf ls)) (n + length bs) f k (w (l .rest))
-            ∙ ap (λ n. declinedBy (refusalOf f n)) e
+            ∙ ap (λ n. refused (refusalOf f n)) e
 
 through : (t : Tender) (from : ℕ) (bs : List BidLine) (out : ReadOutcome) → SoundBids t [] bs
     → checked (t .kind) from [] (map (λ b. some (bid b)) bs ++ []) out ≡ out
@@ -683,7 +683,7 @@ text-accepted text t R W h =
     ∙ through t n bs (tables t (bidsOf ls)) (h .sound .1 .1)
     ∙ ap (tables t) (bids-of bs) ∙ ap (λ x. accepted t x (allWindows bs)) (sym (h .rows)) ∙ ap (accepted t R) (sym (h .windows))
 
-long-refused : (text : List ℕ) → 65536 < length text → readText text ≡ declinedBy TextTooLong
+long-refused : (text : List ℕ) → 65536 < length text → readText text ≡ refused TextTooLong
 unfolding readText
 long-refused text l = rw (lt-ltb 65536 (length text) l)
 
@@ -702,25 +702,25 @@ module _ (r : ReadRun) where
   keeps : (o : ReadOutcome) → fitted m n (readText (r .text)) ≡ o → Leaves r o → ReadKept r
   unfolding readInto
   keeps o e (a, (b, c)) = record {
-    answers = a ∙ ap summary (sym e);
+    answers = a ∙ ap readAnswer (sym e);
     rows = b ∙ ap (bidsAfter (r .bids)) (sym e);
     own = c ∙ ap (windowsAfter (r .windows)) (sym e);
   }
 
-  leaves : (x : Refusal) → Declines x r → Leaves r (declinedBy x)
+  leaves : (x : Refusal) → Declines x r → Leaves r (refused x)
   unfolding bidsAfter windowsAfter
   leaves x h = (h .answer, (h .bids-stay, h .windows-stay))
 
-  refused-kept : (x : Refusal) → readText (r .text) ≡ declinedBy x → Declines x r → ReadKept r
+  refused-kept : (x : Refusal) → readText (r .text) ≡ refused x → Declines x r → ReadKept r
   unfolding fitted
-  refused-kept x e h = keeps (declinedBy x) (ap (fitted m n) e) (leaves x h)
+  refused-kept x e h = keeps (refused x) (ap (fitted m n) e) (leaves x h)
 
   short-kept : (t : Tender) (R : List Row) (W : List Window) → readText (r .text) ≡ accepted t R W
       → (m < length R) ⊎ (n < length W) → Declines TableTooShort r → ReadKept r
   unfolding fitted
-  short-kept t R W e s h = keeps (declinedBy TableTooShort) (ap (fitted m n) e ∙ room s) (leaves TableTooShort h)
+  short-kept t R W e s h = keeps (refused TableTooShort) (ap (fitted m n) e ∙ room s) (leaves TableTooShort h)
     where
-      room : (m < length R) ⊎ (n < length W) → fitted m n (accepted t R W) ≡ declinedBy TableTooShort
+      room : (m < length R) ⊎ (n < length W) → fitted m n (accepted t R W) ≡ refused TableTooShort
       room (inl l) = rw (lt-leb (length R) m l)
       room (inr l) = rw (lt-leb (length W) n l, and-false (leb (length R) m))
 

@@ -14,13 +14,12 @@ use Rattle.tender.specs.declared.Tender.{Tender}
 use Rattle.tender.specs.declared.Refusal.the-variants.{BadTables, NoRoom}
 use Rattle.tender.specs.Tables.{Row, rowsOf, flatRows, flatWindows, bidWidth, windowWidth}
 use Rattle.reader_text.specs.Read.{ReadOutcome, accepted, refused, readText, readInto}
-use Rattle.reader.specs.Answer.{filled, toldReading, summary, bidsAfter, windowsAfter}
+use Rattle.reader.specs.Answer.{readAnswer, bidsAfter, windowsAfter}
 use Rattle.reader_text.specs.CountLaws.{room-law}
 use Rattle.reader_text.specs.SizeLaws.{short-text}
-use Rattle.reader.specs.declared.Reading.{Reading}
 use Rattle.reader.specs.declared.Reading.the-variants as reading
-use Rattle.spelling.specs.Lines.{pairLine, refusedWord}
-use Rattle.spelling.specs.LineLaws.{pair-some, refusal-few}
+use Rattle.spelling.specs.Lines.{refusedLine}
+use Rattle.spelling.specs.LineLaws.{refused-short, refused-some}
 use Rattle.spelling.specs.DeliveredLaws.{delivered-is}
 use Rattle.award_check.specs.Faults.{faultOf}
 use Rattle.award_check.specs.TextLaws.{rows-flat}
@@ -93,10 +92,6 @@ read-back w n e =
     let t = wrote-text w n e in
     rw (t .bytes) (reads-back (w .tender) (w .count) (w .bids) (w .windows) (t .faultless) (t .short))
 
-accepts-as : (r : Reading) (t : Tender) (n m : ℕ) → toldReading r ≡ filled t n m → r ≡ reading.Accepted t n m
-accepts-as (reading.Accepted u i j) t n m e = cc
-accepts-as (reading.Refused q) t n m e = let z : _≡_ {A = ℕ} 0 1 = cc in absurd (omega arith)
-
 pub read-as-written : (w : WriteCall) (r : ReadCall) (n : ℕ) → w .answer ≡ writing.Written n
     → r .run .text ≡ take n (w .buffer-after)
     → 1000 ≤ length (r .run .bids) / bidWidth → 32000 ≤ length (r .run .windows) / windowWidth → ReadAsWritten w r
@@ -119,8 +114,7 @@ read-as-written w r n e x lb lw =
     r .kept .own ∙ ap (windowsAfter (r .run .windows)) o in
     record {
       window-rows = length W;
-      accepts = accepts-as (r .run .answer) (w .tender) (w .count) (length W)
-          (r .kept .answers ∙ ap summary o ∙ ap (λ (m : ℕ). filled (w .tender) m (length W)) c);
+      accepts = r .kept .answers ∙ ap readAnswer o ∙ ap (λ (m : ℕ). reading.Accepted (w .tender) m (length W)) c;
       same = rw (p, q) s;
     }
 
@@ -182,13 +176,13 @@ always-fits l a b = go (readText (l .text)) refl
   where
     go : (o : ReadOutcome) → readText (l .text) ≡ o → 0 < l .answer
     go (accepted T R W) e = rewritten-fits l T R W e a .0
-    go (refused n at) e =
-        let c = pairLine refusedWord n at in
-        let m : leb (length c) (length (l .buffer)) ≡ true = le-leb (length c) (length (l .buffer)) (omega (arith, refusal-few n at)) in
+    go (refused q) e =
+        let c = refusedLine q in
+        let m : leb (length c) (length (l .buffer)) ≡ true = le-leb (length c) (length (l .buffer)) (omega (arith, refused-short q)) in
         let r : l .answer ≡ length c = l .promise .delivers .answer
         ∙ ap (λ out. cond (leb (length out) (length (l .buffer))) (length out) 0) (ap rewriteOf e)
         ∙ ap (λ b. cond b (length c) 0) m in
-        omega (arith, r, pair-some refusedWord n at)
+        omega (arith, r, refused-some q)
 
 pub equal-rewritten : (l l′ : RewriteCall) (T T′ : Tender) (R R′ : List Row) (W W′ : List Window)
     → readText (l .text) ≡ accepted T R W → readText (l′ .text) ≡ accepted T′ R′ W′ → 0 < l .answer → 0 < l′ .answer

@@ -14,10 +14,10 @@ use Rattle.tender.specs.declared.Tender.{Tender}
 use Rattle.tender.specs.declared.AwardRow.{AwardRow}
 use Rattle.tender.specs.declared.Answer.{Answer}
 use Rattle.tender.specs.Tables.{Row, flatRows, flatWindows, bidWidth, windowWidth}
+use Rattle.tender.specs.declared.Refusal.the-variants.{TableTooShort}
 use Rattle.reader_text.specs.Read.{accepted, readText, fitted, readInto}
 use Rattle.reader_text.specs.Read as reading
-use Rattle.reader.specs.Answer.{filled, summary, bidsAfter, windowsAfter}
-use Rattle.reader.specs.Answer as reader
+use Rattle.reader.specs.Answer.{readAnswer, bidsAfter, windowsAfter}
 use Rattle.reader.specs.declared.Reading.the-variants as answer
 use Rattle.reader_text.specs.Differ.{DifferInPrice, withPrice, RowsDifferInPrice}
 use Rattle.reader_text.specs.PriceLaws.{price-law}
@@ -43,13 +43,13 @@ record ReadLeft (text bids windows : List ℕ) (t : Tender) (n : ℕ) : Type 0 w
 accepted-read : (r : ReadCall) (t : Tender) (n m : ℕ) → r .run .answer ≡ answer.Accepted t n m
     → ReadLeft (r .run .text) (r .run .bids-after) (r .run .windows-after) t n
 unfolding readInto fitted bidsAfter windowsAfter
-accepted-read r t n m e = go (readText (r .run .text)) refl (sym (ap reader.toldReading e) ∙ r .kept .answers) (r .kept .rows)
+accepted-read r t n m e = go (readText (r .run .text)) refl (sym e ∙ r .kept .answers) (r .kept .rows)
     (r .kept .own)
   where
     room : (T : Tender) (R : List Row) (W : List Window) (b : Bool) → readText (r .run .text) ≡ accepted T R W
-        → filled t n m ≡ summary (cond b (accepted T R W) (reading.refused 8 0)) →
-        r .run .bids-after ≡ bidsAfter (r .run .bids) (cond b (accepted T R W) (reading.refused 8 0))
-        → r .run .windows-after ≡ windowsAfter (r .run .windows) (cond b (accepted T R W) (reading.refused 8 0)) →
+        → answer.Accepted t n m ≡ readAnswer (cond b (accepted T R W) (reading.refused TableTooShort)) →
+        r .run .bids-after ≡ bidsAfter (r .run .bids) (cond b (accepted T R W) (reading.refused TableTooShort))
+        → r .run .windows-after ≡ windowsAfter (r .run .windows) (cond b (accepted T R W) (reading.refused TableTooShort)) →
         ReadLeft (r .run .text) (r .run .bids-after) (r .run .windows-after) t n
     room T R W false h x y z = let f : _≡_ {A = ℕ} 0 1 = cc in absurd (omega arith)
     room T R W true h x y z =
@@ -65,13 +65,13 @@ accepted-read r t n m e = go (readText (r .run .text)) refl (sym (ap reader.told
         }
 
     go : (o : reading.ReadOutcome) → readText (r .run .text) ≡ o
-        → filled t n m ≡ summary (fitted (length (r .run .bids) / bidWidth) (length (r .run .windows) / windowWidth) o) →
+        → answer.Accepted t n m ≡ readAnswer (fitted (length (r .run .bids) / bidWidth) (length (r .run .windows) / windowWidth) o) →
         r .run .bids-after ≡ bidsAfter (r .run .bids)
         (fitted (length (r .run .bids) / bidWidth) (length (r .run .windows) / windowWidth) o)
         → r .run .windows-after ≡ windowsAfter (r .run .windows)
         (fitted (length (r .run .bids) / bidWidth) (length (r .run .windows) / windowWidth) o)
         → ReadLeft (r .run .text) (r .run .bids-after) (r .run .windows-after) t n
-    go (reading.refused k at) h x y z = let f : _≡_ {A = ℕ} 0 1 = cc in absurd (omega arith)
+    go (reading.refused k) h x y z = let f : _≡_ {A = ℕ} 0 1 = cc in absurd (omega arith)
     go (accepted T R W) h x y z =
         room T R W (leb (length R) (length (r .run .bids) / bidWidth) && leb (length W) (length (r .run .windows) / windowWidth))
         h x y z

@@ -54,19 +54,19 @@ takenIn (round i c O t) = i ∷ takenIn t
 -- the bidders in the order in which the rounds take them
 unfoldable pub inRounds : ReadOutcome → List ℕ
 unfolding takenIn run bids auctionOf cells noRow flatRows flatWindows
-inRounds (refused n at) = []
+inRounds (refused r) = []
 inRounds (accepted t R W) = let A = auctionOf t (length R) (flatRows R) (flatWindows W) in
     map (λ i. getD R i noRow .bidder) (takenIn (run (bids (A .has) (A .prices)) (length R) (A .cells) (cells (A .cells))))
 
 -- whether a set of bids covers, and what it costs: bid i is bit i of the set
 unfoldable pub setCovers : ReadOutcome → ℕ → Bool
 unfolding covers auctionOf flatRows flatWindows
-setCovers (refused n at) s = false
+setCovers (refused r) s = false
 setCovers (accepted t R W) s = let A = auctionOf t (length R) (flatRows R) (flatWindows W) in covers (A .has) (length R) (A .cells) s
 
 unfoldable pub setCost : ReadOutcome → ℕ → ℕ
 unfolding sets.cost auctionOf flatRows flatWindows
-setCost (refused n at) s = 0
+setCost (refused r) s = 0
 setCost (accepted t R W) s = sets.cost (auctionOf t (length R) (flatRows R) (flatWindows W) .prices) s
 
 -- taken: 21, 24, 22

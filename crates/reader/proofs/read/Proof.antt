@@ -16,7 +16,7 @@ returns : tie.Need-returns
 returns c =
     let c4 = c .before .before .before .before in
     let args = c4 .args in
-    let x = answer-refused (args .text .now) (args .bids .now) (args .windows .now) 1 0
+    let x = answer-refused (args .text .now) (args .bids .now) (args .windows .now) _
     (too-long (args .text .now) (args .bids .now) (args .windows .now) (c .if1 .taken)) in (x .0, (x .1, x .2))
 
 slice-aggregate-read-head : tie.Need-slice-aggregate-read-head
@@ -59,7 +59,7 @@ returns-2 c =
     let args = c21 .args in
     let b = opened-tender (args .text .now) _ (c15 .read-head .ensures) _ _ _ (c12 .t .given .1) in
     let h = filled-held _ _ _ _ _ _ (c7 .read-bids .ensures) _ _ (c .before .before .k .given .1) in
-    let x = answer-refused (args .text .now) (args .bids .now) (args .windows .now) 8 0
+    let x = answer-refused (args .text .now) (args .bids .now) (args .windows .now) _
     (bids-short (args .text .now) (args .bids .now) (args .windows .now) (c17 .if1 .left) _ _ _ b _ _ _ _ h (c .if2 .taken)) in
     (x .0, (x .1, x .2))
 
@@ -73,7 +73,7 @@ returns-3 c =
     let args = c22 .args in
     let b = opened-tender (args .text .now) _ (c16 .read-head .ensures) _ _ _ (c13 .t .given .1) in
     let h = filled-held _ _ _ _ _ _ (c8 .read-bids .ensures) _ _ (c .before .before .before .k .given .1) in
-    let x = answer-refused (args .text .now) (args .bids .now) (args .windows .now) 8 0
+    let x = answer-refused (args .text .now) (args .bids .now) (args .windows .now) _
     (windows-short (args .text .now) (args .bids .now) (args .windows .now) (c18 .if1 .left) _ _ _ b _ _ _ _ h (c .before .if2 .left)
     (c .if3 .taken)) in (x .0, (x .1, x .2))
 
@@ -150,8 +150,8 @@ returns-5 c =
     let c20 = c16 .before .before .before .before in
     let args = c20 .args in
     let b = opened-tender (args .text .now) _ (c14 .read-head .ensures) _ _ _ (c11 .t .given .1) in
-    let x = answer-refused (args .text .now) (args .bids .now) (args .windows .now) _ _
-    (bids-refused (args .text .now) (args .bids .now) (args .windows .now) (c16 .if1 .left) _ _ _ b _ _
+    let x = answer-refused (args .text .now) (args .bids .now) (args .windows .now) _
+    (bids-refused (args .text .now) (args .bids .now) (args .windows .now) (c16 .if1 .left) _ _ _ b _
     (filled-refused _ _ _ _ _ _ (c6 .read-bids .ensures) _ (c .before .r .given .1))) in (x .0, (x .1, x .2))
 
 returns-6 : tie.Need-returns-6
@@ -160,8 +160,8 @@ returns-6 c =
     let c6 = c4 .before .before in
     let c10 = c6 .before .before .before .before in
     let args = c10 .args in
-    let x = answer-refused (args .text .now) (args .bids .now) (args .windows .now) _ _
-    (lines-refused (args .text .now) (args .bids .now) (args .windows .now) (c6 .if1 .left) _ _
+    let x = answer-refused (args .text .now) (args .bids .now) (args .windows .now) _
+    (lines-refused (args .text .now) (args .bids .now) (args .windows .now) (c6 .if1 .left) _
     (opened-refused (args .text .now) _ (c4 .read-head .ensures) _ (c .before .r2 .given .1))) in (x .0, (x .1, x .2))
 
 pub read-spec : {M : Type 1} → statement M

@@ -4,7 +4,7 @@ use native.Mathlib.Omega.{arith}
 use Rattle.reader_line.specs.Answer.{toldLine}
 use Rattle.reader_text.specs.RulesLaws.{passed}
 use Rattle.reader_bids.specs.Steps.{verdictOf}
-use Rattle.reader_bids.specs.TakesLaws.{is-sound, is-fault, taken-broken, taken-tender, taken-reserve, taken-fault}
+use Rattle.reader_bids.specs.TakesLaws.{is-sound, taken-broken, taken-tender, taken-reserve, taken-fault}
 use Rattle.reader_bids.specs.TakesLaws.{taken-sound}
 use borrow.Author.Needs.{needs}
 use Rattle.reader_bids.proofs.take_line.Statement.{statement}
@@ -80,10 +80,9 @@ returns-2 : tie.Need-returns-2
 returns-2 c =
     let c6 = c .before .before .before .before .before .before in
     let c10 = c6 .before .before .before .before in
-    let x = is-fault _ _ _ (ap verdictOf (sym (c .before .r .given .1)) ∙ c .before .before .before .judge .ensures) in
     taken-fault _ _ _ _ _ _ _ _ _ _ _ _ _ _ _ _
     (ap (λ t. toldLine t (c10 .read-line .last .1 .0)) (sym (c6 .bidder .given .1)) ∙ c10 .read-line .ensures .0)
-    (x .f) (x .number) (x .fault)
+    _ (ap verdictOf (sym (c .before .r .given .1)) ∙ c .before .before .before .judge .ensures) refl
 
 same-length-6 : tie.Need-same-length-6
 same-length-6 c = search needs
