@@ -18,7 +18,7 @@ use Rattle.cells.specs.Cells.{cell, RangeAdded}
 use Rattle.reader_word.specs.Words.{among}
 use Rattle.reader_line.specs.Line.{BidLine, Line, tender, bid, reserve, lineOf}
 use Rattle.reader_line.specs.SizeLaws.{line-windows}
-use Rattle.reader_text.specs.Read.{ReadOutcome, refused, rowsFrom, allWindows, bidsOf, bidFaultAfter, bidFault, lineJudged, checked}
+use Rattle.reader_text.specs.Read.{ReadOutcome, refused, rowsFrom, allWindows, bidsOf, bidFaultAfter, bidFault, judgedBy, checked}
 use Rattle.reader_text.specs.RulesLaws.{faultless-after}
 use Rattle.reader_bids.specs.Steps.{BidTaken, Judged, Taken, TablesHold}
 use Rattle.reader_bids.specs.declared.Step.{Step}
@@ -148,7 +148,7 @@ module _ (kind : Kind) (from : ℕ) (whole rest : List (Option Line)) (line k m 
       BidTaken b k m used rows windows r used′ rows′ windows′ → length used′ ≡ length used → length rows′ ≡ length rows
       → length windows′ ≡ length windows →
       Walk kind from whole rest (line + 1) (k + 1) (m + length (b .windows)) used′ rows′ windows′
-  unfolding checked lineJudged bidsOf
+  unfolding checked judgedBy bidsOf
   more b w r room g t lu lr lw =
       let p = faultless-after kind k b (eqb (cell used (b .bidder)) 1) g in
       let f = fault-is b w ∙ g in
@@ -201,7 +201,7 @@ module _ (kind : Kind) (from : ℕ) (whole rest : List (Option Line)) (line k m 
   pub stops : (o : Option Line) → Walk kind from whole (o ∷ rest) line k m used rows windows → (r : Step)
       → Taken o kind line k m used rows windows r used′ rows′ windows′ → (x : Refusal) → r ≡ step.Refused x →
       (out : ReadOutcome) → checked kind from [] whole out ≡ refused x
-  unfolding checked lineJudged
+  unfolding checked judgedBy
   stops none w r t x e out = w .checks out ∙ refusal-is r x (BadForm line) e t
   stops (some (tender y)) w r t x e out = w .checks out ∙ refusal-is r x (BadForm line) e t
   stops (some (reserve y)) w r t x e out = w .checks out ∙ refusal-is r x (ReserveMisplaced line) e t

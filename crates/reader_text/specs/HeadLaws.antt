@@ -17,8 +17,8 @@ use Rattle.tender.specs.declared.Refusal.the-variants.{BadForm, OutsideLimits}
 use Rattle.tender.specs.Limits.{lawfulReserve, soundTender}
 use Rattle.tender.specs.Tables.{Row}
 use Rattle.reader_line.specs.Line.{TenderLine, BidLine, Line, tender, bid, reserve, tenderLine, reserveLines, headLines}
-use Rattle.reader_text.specs.Read.{accepted, refused, rowsFrom, allWindows, bidsOf, tenderFault, lineJudged, checked, tables}
-use Rattle.reader_text.specs.Read.{Head, begun, halted, headJudged, tenderWith, reserveIn, Unreserved, headOf, afterHead, readLines}
+use Rattle.reader_text.specs.Read.{accepted, refused, rowsFrom, allWindows, bidsOf, tenderFault, judgedBy, checked, tables}
+use Rattle.reader_text.specs.Read.{Head, begun, halted, tenderWith, reserveIn, Unreserved, headOf, afterHead, readLines}
 use Rattle.reader_text.specs.FaultLaws.{sound-faultless, faultless-sound}
 use Rattle.reader_text.specs.ReadLaws.{never, checked-out, checked-bids}
 
@@ -52,26 +52,27 @@ unfolding headOf
 reserve-first p ls = refl
 
 pub tender-first : (t : TenderLine) (ls : List (Option Line))
-    → headOf (some (tender t) ∷ ls) ≡ headJudged (tenderFault t) 1 (reserveIn t 2 ls)
+    → headOf (some (tender t) ∷ ls) ≡ judgedBy halted (tenderFault t) 1 (reserveIn t 2 ls)
 unfolding headOf
 tender-first t ls = refl
 
 pub tender-faulty : (t : TenderLine) (f : ℕ → Refusal) (ls : List (Option Line)) → tenderFault t ≡ some f
     → headOf (some (tender t) ∷ ls) ≡ halted (f 1)
-unfolding headJudged
-tender-faulty t f ls e = tender-first t ls ∙ ap (λ o. headJudged o 1 (reserveIn t 2 ls)) e
+unfolding judgedBy
+tender-faulty t f ls e = tender-first t ls ∙ ap (λ o. judgedBy halted o 1 (reserveIn t 2 ls)) e
 
 pub tender-faultless : (t : TenderLine) (ls : List (Option Line)) → tenderFault t ≡ none
     → headOf (some (tender t) ∷ ls) ≡ reserveIn t 2 ls
-unfolding headJudged
-tender-faultless t ls e = tender-first t ls ∙ ap (λ o. headJudged o 1 (reserveIn t 2 ls)) e
+unfolding judgedBy
+tender-faultless t ls e = tender-first t ls ∙ ap (λ o. judgedBy halted o 1 (reserveIn t 2 ls)) e
 
 pub tender-read : (t : TenderLine) (ls : List (Option Line))
-    → readLines (some (tender t) ∷ ls) ≡ lineJudged (tenderFault t) 1 (afterHead (reserveIn t 2 ls))
-unfolding readLines headOf headJudged afterHead lineJudged
+    → readLines (some (tender t) ∷ ls) ≡ judgedBy refused (tenderFault t) 1 (afterHead (reserveIn t 2 ls))
+unfolding readLines headOf judgedBy afterHead
 tender-read t ls = go (tenderFault t)
   where
-    go : (f : Option (ℕ → Refusal)) → afterHead (headJudged f 1 (reserveIn t 2 ls)) ≡ lineJudged f 1 (afterHead (reserveIn t 2 ls))
+    go : (f : Option (ℕ → Refusal))
+        → afterHead (judgedBy halted f 1 (reserveIn t 2 ls)) ≡ judgedBy refused f 1 (afterHead (reserveIn t 2 ls))
     go none = refl
     go (some f) = refl
 
@@ -102,8 +103,8 @@ module _ (t : TenderLine) (at : ℕ) where
 
 -- lines without a reserve's line have the head that the tender's line alone gives
 pub unreserved-head : (t : TenderLine) (ls : List (Option Line)) → Unreserved ls
-    → headOf (some (tender t) ∷ ls) ≡ headJudged (tenderFault t) 1 (begun (tenderWith t Absent) 2 ls)
-unreserved-head t ls u = tender-first t ls ∙ ap (headJudged (tenderFault t) 1) (reserve-absent t 2 ls u)
+    → headOf (some (tender t) ∷ ls) ≡ judgedBy halted (tenderFault t) 1 (begun (tenderWith t Absent) 2 ls)
+unreserved-head t ls u = tender-first t ls ∙ ap (judgedBy halted (tenderFault t) 1) (reserve-absent t 2 ls u)
 
 -- the lines of a head
 
@@ -175,14 +176,14 @@ reserve-is t (some (reserve p) ∷ ls) T from rest q h = go (leb p 100000000) re
 
 pub head-is : (ls : List (Option Line)) (T : Tender) (from : ℕ) (rest : List (Option Line)) → headOf ls ≡ begun T from rest
     → HeadIs ls T from rest
-unfolding headOf headJudged
+unfolding headOf judgedBy
 head-is [] T from rest e = let z : _≡_ {A = ℕ} 0 1 = cc in absurd (omega arith)
 head-is (none ∷ ls) T from rest e = let z : _≡_ {A = ℕ} 0 1 = cc in absurd (omega arith)
 head-is (some (bid b) ∷ ls) T from rest e = let z : _≡_ {A = ℕ} 0 1 = cc in absurd (omega arith)
 head-is (some (reserve p) ∷ ls) T from rest e = let z : _≡_ {A = ℕ} 0 1 = cc in absurd (omega arith)
 head-is (some (tender t) ∷ ls) T from rest e = go (tenderFault t) refl e
   where
-    go : (f : Option (ℕ → Refusal)) → tenderFault t ≡ f → headJudged f 1 (reserveIn t 2 ls) ≡ begun T from rest
+    go : (f : Option (ℕ → Refusal)) → tenderFault t ≡ f → judgedBy halted f 1 (reserveIn t 2 ls) ≡ begun T from rest
         → HeadIs (some (tender t) ∷ ls) T from rest
     go none q h = reserve-is t ls T from rest q h
     go (some f) q h = let z : _≡_ {A = ℕ} 0 1 = cc in absurd (omega arith)
@@ -240,7 +241,7 @@ module _ (t : TenderLine) (at : ℕ) where
 
 pub head-before : (xs ys : List (Option Line)) (T : Tender) (from : ℕ) (rest : List (Option Line)) (b : BidLine)
     → headOf (xs ++ some (bid b) ∷ ys) ≡ begun T from rest → BidAfter headOf xs ys T from rest b
-unfolding headOf headJudged
+unfolding headOf judgedBy
 head-before [] ys T from rest b e = let z : _≡_ {A = ℕ} 0 1 = cc in absurd (omega arith)
 head-before (none ∷ xs) ys T from rest b e = let z : _≡_ {A = ℕ} 0 1 = cc in absurd (omega arith)
 head-before (some (bid d) ∷ xs) ys T from rest b e = let z : _≡_ {A = ℕ} 0 1 = cc in absurd (omega arith)
@@ -248,7 +249,7 @@ head-before (some (reserve p) ∷ xs) ys T from rest b e = let z : _≡_ {A = �
 head-before (some (tender t) ∷ xs) ys T from rest b e = go (tenderFault t) refl e
   where
     go : (f : Option (ℕ → Refusal)) → tenderFault t ≡ f
-        → headJudged f 1 (reserveIn t 2 (xs ++ some (bid b) ∷ ys)) ≡ begun T from rest
+        → judgedBy halted f 1 (reserveIn t 2 (xs ++ some (bid b) ∷ ys)) ≡ begun T from rest
         → BidAfter headOf (some (tender t) ∷ xs) ys T from rest b
     go none q h =
         let k = reserve-before t 2 xs ys T from rest b h in

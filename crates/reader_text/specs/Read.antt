@@ -71,19 +71,20 @@ unfoldable pub bidFault : Kind → List ℕ → BidLine → Option (ℕ → Refu
 unfolding bidFaultAfter among
 bidFault k used b = bidFaultAfter k (length used) b (among (b .bidder) used)
 
-unfoldable pub lineJudged : Option (ℕ → Refusal) → ℕ → ReadOutcome → ReadOutcome
-lineJudged none at out = out
-lineJudged (some r) at out = refused (r at)
+-- the refusal of line `at` where it has a fault, or what comes of the lines after it
+unfoldable pub judgedBy : {A : Type 0} → (Refusal → A) → Option (ℕ → Refusal) → ℕ → A → A
+judgedBy refuse none at rest = rest
+judgedBy refuse (some r) at rest = refuse (r at)
 
 -- the first faulty line from line `at` on, or `out` where there is none
 unfoldable pub checked : Kind → ℕ → List ℕ → List (Option Line) → ReadOutcome → ReadOutcome
-unfolding bidFault lineJudged
+unfolding bidFault judgedBy
 checked k at used [] out = out
 checked k at used (none ∷ ls) out = refused (BadForm at)
 checked k at used (some (tender t) ∷ ls) out = refused (BadForm at)
 checked k at used (some (reserve p) ∷ ls) out = refused (ReserveMisplaced at)
 checked k at used (some (bid b) ∷ ls) out = let rest = checked k (at + 1) (used ++ b .bidder ∷ []) ls out in
-    lineJudged (bidFault k used b) at rest
+    judgedBy refused (bidFault k used b) at rest
 
 unfoldable pub tables : Tender → List BidLine → ReadOutcome
 unfolding rowsFrom allWindows
@@ -94,10 +95,6 @@ pub data Head : Type 0 where
   -- the tender, the number of the first line after the head, the lines from there on
   begun : Tender → ℕ → List (Option Line) → Head
   halted : Refusal → Head
-
-unfoldable pub headJudged : Option (ℕ → Refusal) → ℕ → Head → Head
-headJudged none at head = head
-headJudged (some r) at head = halted (r at)
 
 -- the tender that the lines of a head give
 abbrev pub tenderWith : TenderLine → Reserve → Tender
@@ -122,12 +119,12 @@ Unreserved (some (reserve p) ∷ ls) = ⊥
 
 -- the first line is the tender's
 unfoldable pub headOf : List (Option Line) → Head
-unfolding tenderFault headJudged reserveIn
+unfolding tenderFault judgedBy reserveIn
 headOf [] = halted (BadForm 1)
 headOf (none ∷ ls) = halted (BadForm 1)
 headOf (some (bid b) ∷ ls) = halted (BadForm 1)
 headOf (some (reserve p) ∷ ls) = halted (BadForm 1)
-headOf (some (tender t) ∷ ls) = headJudged (tenderFault t) 1 (reserveIn t 2 ls)
+headOf (some (tender t) ∷ ls) = judgedBy halted (tenderFault t) 1 (reserveIn t 2 ls)
 
 -- the lines after the head are the bids'
 unfoldable pub afterHead : Head → ReadOutcome

@@ -15,7 +15,7 @@ use Rattle.reader_word.specs.Words.{cut}
 use Rattle.reader_line.specs.Line.{Line, tender, bid, reserve, linesOf}
 use Rattle.tender.specs.declared.Refusal.{Refusal}
 use Rattle.tender.specs.declared.Refusal.the-variants.{TextTooLong}
-use Rattle.reader_text.specs.Read.{ReadOutcome, accepted, refused, bidsOf, bidFault, lineJudged, checked}
+use Rattle.reader_text.specs.Read.{ReadOutcome, accepted, refused, bidsOf, bidFault, judgedBy, checked}
 use Rattle.reader_text.specs.Read.{readLines, readText}
 
 pub never : {A : Type 0} {r : Refusal} {t : Tender} {R : List Row} {W : List Window} → refused r ≡ accepted t R W → A
@@ -32,9 +32,9 @@ module _ (T : Tender) (R : List Row) (W : List Window) where
       go true x = never x
       go false x = x
 
-  pub judged-out : (f : Option (ℕ → Refusal)) (at : ℕ) (out : ReadOutcome) → lineJudged f at out ≡ accepted T R W → (f ≡ none)
+  pub judged-out : (f : Option (ℕ → Refusal)) (at : ℕ) (out : ReadOutcome) → judgedBy refused f at out ≡ accepted T R W → (f ≡ none)
       × (out ≡ accepted T R W)
-  unfolding lineJudged
+  unfolding judgedBy
   judged-out none at out e = (refl, e)
   judged-out (some n) at out e = never e
 

@@ -64,15 +64,10 @@ NoMinute w = w .end ≤ w .start
 abbrev pub PastWeek : Window → Type 0
 PastWeek w = week < w .end
 
--- one of the windows is so
-abbrev pub SomeWindow : (Window → Type 0) → List Window → Type 0
-SomeWindow P [] = ⊥
-SomeWindow P (w ∷ ws) = P w ⊎ SomeWindow P ws
-
--- one of the bids has this bidder number
-abbrev pub UsedIn : ℕ → List BidLine → Type 0
-UsedIn n [] = ⊥
-UsedIn n (b ∷ bs) = (b .bidder ≡ n) ⊎ UsedIn n bs
+-- one of the list is so
+abbrev pub SomeOf : {A : Type 0} → (A → Type 0) → List A → Type 0
+SomeOf P [] = ⊥
+SomeOf P (x ∷ xs) = P x ⊎ SomeOf P xs
 
 -- the fault stands on a bid's line, after the tender's and those of the bids `done`
 abbrev pub OnBid : LineFault → Tender → List BidLine → BidLine → Type 0
@@ -81,9 +76,9 @@ OnBid of-place t done b = ⊥
 OnBid of-count t done b = (maxBids ≤ length done) ⊎ (maxWindows < length (b .windows))
 OnBid of-limits t done b = ((b .bidder < 1) ⊎ (maxBidder < b .bidder)) ⊎ (maxPrice < b .price)
 OnBid of-kind t done b = (t .kind ≡ Single) × (1 < length (b .windows))
-OnBid of-minutes t done b = SomeWindow NoMinute (b .windows)
-OnBid of-week t done b = SomeWindow PastWeek (b .windows)
-OnBid of-bidder t done b = UsedIn (b .bidder) done
+OnBid of-minutes t done b = SomeOf NoMinute (b .windows)
+OnBid of-week t done b = SomeOf PastWeek (b .windows)
+OnBid of-bidder t done b = SomeOf (λ (c : BidLine). c .bidder ≡ b .bidder) done
 
 -- on the tender's line
 abbrev pub OnTender : LineFault → TenderLine → Type 0

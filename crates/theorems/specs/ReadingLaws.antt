@@ -25,7 +25,7 @@ use Rattle.tender.specs.Tables.{Row, bidWidth, windowWidth}
 use Rattle.reader_word.specs.Words.{cut, among}
 use Rattle.reader_line.specs.Line.{TenderLine, BidLine, Line, tender, bid, reserve, tenderLine, reserveLines, headLines, linesOf}
 use Rattle.reader_text.specs.Read.{ReadOutcome, accepted, refused, rowsFrom, allWindows, bidsOf, lineFault, tenderFault}
-use Rattle.reader_text.specs.Read.{bidFaultIn, bidFaultAfter, bidFault, lineJudged, checked, tables, halted, tenderWith, reserveIn}
+use Rattle.reader_text.specs.Read.{bidFaultIn, bidFaultAfter, bidFault, judgedBy, checked, tables, tenderWith, reserveIn}
 use Rattle.reader_text.specs.Read.{Unreserved, afterHead, readLines, readText, fitted, readInto}
 use Rattle.reader_text.specs.FaultLaws.{faultless-sound}
 use Rattle.reader_text.specs.HeadLaws.{lines-halted, lines-begun, no-line, broken-first, bid-first, reserve-first, tender-read}
@@ -34,7 +34,7 @@ use Rattle.reader.specs.Answer.{readAnswer, bidsAfter, windowsAfter}
 use Rattle.theorems.specs.Calls.{ReadRun, ReadKept}
 use Rattle.theorems.specs.OneReading.{orBroken, linesIn, Above, at-start, after, linesAbove, LineFault, of-form, of-place}
 use Rattle.theorems.specs.OneReading.{of-count, of-limits, of-kind, of-minutes, of-week, of-bidder, pageOrder}
-use Rattle.theorems.specs.OneReading.{NoMinute, PastWeek, SomeWindow, UsedIn, OnReserve, OnLine, OfText}
+use Rattle.theorems.specs.OneReading.{NoMinute, PastWeek, SomeOf, OnReserve, OnLine, OfText}
 use Rattle.theorems.specs.OneReading.{FirstAmong, NoFault, SoundBids, SoundReserve, SoundLines, LineOf, placeIn}
 use Rattle.theorems.specs.OneReading.{FirstOn, Readable, Declines, Fills, OneReading, text-too-long, bad-form, reserve-misplaced, too-many}
 use Rattle.theorems.specs.OneReading.{outside-limits, several-windows, empty-window, late-window, bidder-repeated}
@@ -111,27 +111,26 @@ past-week w = go (early w) refl
     go false e = leb-false (w .end) 10080 e
 
 some-window : (test : Window → Bool) (P : Window → Type 0) → ((w : Window) → Decides (not (test w)) (P w)) → (ws : List Window)
-    → Decides (not (every test ws)) (SomeWindow P ws)
+    → Decides (not (every test ws)) (SomeOf P ws)
 unfolding every
 some-window test P says [] = λ h. h
 some-window test P says (w ∷ ws) = go (test w) (every test ws) (says w) (some-window test P says ws)
   where
-    go : (a b : Bool) → Decides (not a) (P w) → Decides (not b) (SomeWindow P ws) → Decides (not (a && b)) (P w ⊎ SomeWindow P ws)
+    go : (a b : Bool) → Decides (not a) (P w) → Decides (not b) (SomeOf P ws) → Decides (not (a && b)) (P w ⊎ SomeOf P ws)
     go false b s u = inl s
     go true false s u = inr u
-    go true true s u = says-or (P w) (SomeWindow P ws) false false s u
+    go true true s u = says-or (P w) (SomeOf P ws) false false s u
 
 single : (k : Kind) → Decides (isSingle k) (k ≡ Single)
 unfolding isSingle
 single Single = refl
 single Multi = λ e. let z : _≡_ {A = ℕ} 0 1 = cc in absurd (omega arith)
 
-used : (n : ℕ) (bs : List BidLine) → Decides (among n (map (λ b. b .bidder) bs)) (UsedIn n bs)
+used : (n : ℕ) (bs : List BidLine) → Decides (among n (map (λ b. b .bidder) bs)) (SomeOf (λ (b : BidLine). b .bidder ≡ n) bs)
 unfolding among
 used n [] = λ h. h
-used n (b ∷ bs) = says-or (b .bidder ≡ n) (UsedIn n bs) (eqb (b .bidder) n) (among n (map (λ b. b .bidder) bs))
-    (says-eqb (b .bidder) n)
-    (used n bs)
+used n (b ∷ bs) = says-or (b .bidder ≡ n) (SomeOf (λ (b : BidLine). b .bidder ≡ n) bs) (eqb (b .bidder) n)
+    (among n (map (λ b. b .bidder) bs)) (says-eqb (b .bidder) n) (used n bs)
 
 -- the refusal that a fault brings, on its line
 abbrev pub refusalOf : LineFault → ℕ → Refusal
@@ -215,13 +214,13 @@ bid-verdict t done b = rw (length-map done (λ b. b .bidder))
 
 -- what a verdict makes of the line
 module _ (d : Above) (x : Option Line) (o : Option (ℕ → Refusal)) (at : ℕ) (rest : ReadOutcome) where
-  passes : NoFault d x → Verdict d x o → lineJudged o at rest ≡ rest
-  unfolding lineJudged
+  passes : NoFault d x → Verdict d x o → judgedBy refused o at rest ≡ rest
+  unfolding judgedBy
   passes v (clean w q) = rw q
   passes v (stopped-by f h q) = absurd (v f (first-stands pageOrder f d x h))
 
-  tells : (f : LineFault) → FirstAmong pageOrder f d x → Verdict d x o → lineJudged o at rest ≡ refused (refusalOf f at)
-  unfolding lineJudged
+  tells : (f : LineFault) → FirstAmong pageOrder f d x → Verdict d x o → judgedBy refused o at rest ≡ refused (refusalOf f at)
+  unfolding judgedBy
   tells f h (clean w q) = absurd (w f (first-stands pageOrder f d x h))
   tells f h (stopped-by g k q) = rw q (ap (λ g. refused (refusalOf g at)) (one-first pageOrder g f d x k h))
 
@@ -255,7 +254,7 @@ not-empty done b e = absurd (omega (arith, ap length e, length-append done (b �
 walked : (t : Tender) (from : ℕ) (done : List BidLine) (ls : List (Option Line)) (out : ReadOutcome) (at : ℕ)
     → at ≡ from + length done → (t .reserve ≡ Absent → done ≡ [] → Unreserved ls)
     → Walked t from done ls out (checked (t .kind) at (map (λ b. b .bidder) done) ls out)
-unfolding checked lineJudged
+unfolding checked judgedBy
 walked t from done [] out at e u = all-sound [] refl tt refl
 walked t from done (none ∷ ls) out at e u =
     stops [] none ls of-form refl tt (inl (refl, refl)) (ap (λ n. refused (BadForm n)) (omega arith))
@@ -280,7 +279,7 @@ walked t from done (some (bid b) ∷ ls) out at e u =
     go : (o : Option (ℕ → Refusal)) → Verdict (after t done) (some (bid b)) o
         → Walked t from (done ++ b ∷ []) ls out (checked (t .kind) (at + 1) (map (λ b. b .bidder) done ++ b .bidder ∷ []) ls out) →
         Walked t from done (some (bid b) ∷ ls) out
-        (lineJudged o at (checked (t .kind) (at + 1) (map (λ b. b .bidder) done ++ b .bidder ∷ []) ls out))
+        (judgedBy refused o at (checked (t .kind) (at + 1) (map (λ b. b .bidder) done ++ b .bidder ∷ []) ls out))
     go o (clean v q) w = rw q (more _ v w)
     go o (stopped-by f h q) w =
         rw q (stops [] (some (bid b)) ls f refl tt (rw (append-nil done) h) (ap (λ n. refused (refusalOf f n)) (omega arith)))
@@ -409,8 +408,8 @@ module _ (text : List ℕ) (short : length text ≤ 65536) where
           }) of-limits (high-reserve t p l) refl)
 
   tender-judged : (t : TenderLine) (ls : List (Option Line)) → linesIn text ≡ some (tender t) ∷ ls → (o : Option (ℕ → Refusal))
-      → Verdict at-start (some (tender t)) o → TextRead text (lineJudged o 1 (afterHead (reserveIn t 2 ls)))
-  unfolding lineJudged
+      → Verdict at-start (some (tender t)) o → TextRead text (judgedBy refused o 1 (afterHead (reserveIn t 2 ls)))
+  unfolding judgedBy
   tender-judged t ls e o (stopped-by f h q) =
       rw q (faulty (record { above = at-start; line = some (tender t); rest = ls; short = short; lines = e; sound = tt }) f h refl)
   tender-judged t ls e o (clean u q) = rw q (after-tender t ls e u)
@@ -516,7 +515,7 @@ module _ (r : ReadRun) where
 skips : (t : Tender) (done bs : List BidLine) (ls : List (Option Line)) (out : ReadOutcome) (at : ℕ) → SoundBids t done bs →
     checked (t .kind) at (map (λ b. b .bidder) done) (map (λ b. some (bid b)) bs ++ ls) out
     ≡ checked (t .kind) (at + length bs) (map (λ b. b .bidder) (done ++ bs)) ls out
-unfolding checked lineJudged
+unfolding checked judgedBy
 skips t done [] ls out at s =
     let e : at ≡ at + 0 = omega arith in
     ap (λ n. checked (t .kind) n (map (λ b. b .bidder) done) ls out) e
@@ -546,7 +545,7 @@ skips t done (b ∷ bs) ls out at (v, s) =
 at-fault : (t : Tender) (done : List BidLine) (x : Option Line) (ls : List (Option Line)) (out : ReadOutcome) (at : ℕ) (f : LineFault)
     → FirstAmong pageOrder f (after t done) x → (t .reserve ≡ Absent → done ≡ [] → Unreserved (x ∷ ls))
     → checked (t .kind) at (map (λ b. b .bidder) done) (x ∷ ls) out ≡ refused (refusalOf f at)
-unfolding checked lineJudged
+unfolding checked judgedBy
 at-fault t done none ls out at f h u = let e = first-stands pageOrder f (after t done) none h in
     ap (λ g. refused (refusalOf g at)) (sym e)
 at-fault t done (some (tender v)) ls out at f h u =

@@ -21,7 +21,7 @@ use Rattle.reader_word.specs.Words.{among}
 use Rattle.spelling.specs.Text.{bidIn}
 use Rattle.spelling.specs.WordLaws.{Named, AllNamed}
 use Rattle.spelling.specs.BackLaws.{NamedReserve, Nameable, AllNameable, asLines}
-use Rattle.reader_text.specs.Read.{ReadOutcome, lineFault, bidFaultIn, bidFaultAfter, bidFault, checked, lineJudged}
+use Rattle.reader_text.specs.Read.{ReadOutcome, refused, lineFault, bidFaultIn, bidFaultAfter, bidFault, checked, judgedBy}
 use Rattle.reader_text.specs.FaultLaws.{lawful-every}
 use Rattle.cover.specs.SetLaws.{and-split}
 use Rattle.award_check.specs.Faults.{rowFault}
@@ -108,12 +108,12 @@ rows-told t windows place used at (r ∷ rs) e =
 pub rows-checked : (t : Tender) (windows : List ℕ) (place : ℕ) (used : List ℕ) (at line : ℕ) (rs : List Row) (out : ReadOutcome)
     → rowFault t windows place used at rs ≡ none → place ≡ length used + 1 →
     checked (t .kind) line used (asLines (respeltIn windows rs)) out ≡ out
-unfolding checked asLines lineJudged respeltIn respelt bidIn
+unfolding checked asLines judgedBy respeltIn respelt bidIn
 rows-checked t windows place used at line [] out e p = refl
 rows-checked t windows place used at line (r ∷ rs) out e p =
     let s = split-fault t windows place used at r rs e in
     let later = checked (t .kind) (line + 1) (used ++ r .bidder ∷ []) (asLines (respeltIn windows rs)) out in
-    ap (λ f. lineJudged f line later) (row-read t windows place used r (s .0) p)
+    ap (λ f. judgedBy refused f line later) (row-read t windows place used r (s .0) p)
     ∙ rows-checked t windows (place + 1) (used ++ r .bidder ∷ []) (at + r .count) (line + 1) rs out (s .1)
     (omega (arith, length-append used (r .bidder ∷ [])))
 
