@@ -6,7 +6,6 @@ use mathlib.Core.Option.{Option, none, some}
 use native.Mathlib.Omega.{arith}
 use lib.ListN.{length, take, drop}
 use borrow.Author.Tests.{lt-ltb, le-ltb, le-leb, lt-leb}
-use Rattle.tender.specs.declared.Kind.{Kind}
 use Rattle.tender.specs.declared.Window.{Window}
 use Rattle.tender.specs.declared.Tender.{Tender}
 use Rattle.tender.specs.declared.Refusal.{Refusal}
@@ -101,14 +100,14 @@ pub opened-refused : (text : List ℕ) (r : Head) → Opened text (headOf (lines
     → r ≡ head.Refused x → readLines (linesOf (cut 10 text)) ≡ refused x
 opened-refused text r h x e = lines-halted (linesOf (cut 10 text)) x (subst (Opened text (headOf (linesOf (cut 10 text)))) e h)
 
-module _ (kind : Kind) (from : ℕ) (ls : List (Option Line)) (rows spans : List ℕ) where
-  pub filled-held : (r : Bids) → LinesFilled kind from ls r rows spans → (k m : ℕ) → r ≡ bids.Filled k m
-      → TablesHold kind from ls k m rows spans
+module _ (t : Tender) (from : ℕ) (ls : List (Option Line)) (rows spans : List ℕ) where
+  pub filled-held : (r : Bids) → LinesFilled t from ls r rows spans → (k m : ℕ) → r ≡ bids.Filled k m
+      → TablesHold t from ls k m rows spans
   filled-held (bids.Filled j n) h k m e = let x : j ≡ k = cc in let y : n ≡ m = cc in rw (← x, ← y) h
   filled-held (bids.Refused r) h k m e = let z : _≡_ {A = ℕ} 0 1 = cc in absurd (omega arith)
 
-  pub filled-refused : (r : Bids) → LinesFilled kind from ls r rows spans → (x : Refusal) → r ≡ bids.Refused x
-      → (out : ReadOutcome) → checked kind from [] ls out ≡ refused x
+  pub filled-refused : (r : Bids) → LinesFilled t from ls r rows spans → (x : Refusal) → r ≡ bids.Refused x
+      → (out : ReadOutcome) → checked t from [] ls out ≡ refused x
   filled-refused (bids.Filled j n) h x e out = let z : _≡_ {A = ℕ} 0 1 = cc in absurd (omega arith)
   filled-refused (bids.Refused r) h x e out = let y : r ≡ x = cc in rw (← y) (h out)
 
@@ -139,15 +138,15 @@ module _ (text bids windows : List ℕ) where
     lines-refused r e = rw (short, e)
 
     module _ (t : Tender) (at from : ℕ) (g : Begins text (headOf (linesOf (cut 10 text))) t at from) where
-      read-on : readLines (linesOf (cut 10 text)) ≡ checked (t .kind) from [] (linesOf (cut 10 (drop at text)))
+      read-on : readLines (linesOf (cut 10 text)) ≡ checked t from [] (linesOf (cut 10 (drop at text)))
           (tables t (bidsOf (linesOf (cut 10 (drop at text)))))
       read-on = lines-begun (linesOf (cut 10 text)) t from (linesOf (cut 10 (drop at text))) (g .lines)
 
       pub bids-refused : (r : Refusal)
-          → ((out : ReadOutcome) → checked (t .kind) from [] (linesOf (cut 10 (drop at text))) out ≡ refused r) → Refuses r
+          → ((out : ReadOutcome) → checked t from [] (linesOf (cut 10 (drop at text))) out ≡ refused r) → Refuses r
       bids-refused r h = lines-refused r (read-on ∙ h _)
 
-      module _ (k m : ℕ) (rows spans : List ℕ) (h : TablesHold (t .kind) from (linesOf (cut 10 (drop at text))) k m rows spans) where
+      module _ (k m : ℕ) (rows spans : List ℕ) (h : TablesHold t from (linesOf (cut 10 (drop at text))) k m rows spans) where
         R : List Row
         R = rowsFrom 0 (bidsOf (linesOf (cut 10 (drop at text))))
 

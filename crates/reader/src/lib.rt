@@ -149,8 +149,7 @@ pub fn read(text: &[u8], bids: &mut [u64], windows: &mut [u64]) -> Reading
     let mut used = [0u64; NUMBER_WORDS];
     match read_head(text, &mut spans) {
         Head::Tender(t, at, from) => {
-            let kind = t.kind;
-            match read_bids(text, at, from, kind, &mut used, &mut rows, &mut spans) {
+            match read_bids(text, at, from, t, &mut used, &mut rows, &mut spans) {
                 Bids::Filled(k, m) => {
                     if bids.len() / tender::BID_WIDTH < k {
                         return Reading::Refused(Refusal::TableTooShort);

@@ -10,7 +10,7 @@ use lib.ListN.{length, take, drop, getD, replicate, length-append, length-drop, 
 use lib.Seq.{length-take-le}
 use lib.Dec.{eqb, ltb}
 use borrow.Author.Tests.{eqb-true, eqb-false, ltb-true, ltb-false}
-use Rattle.tender.specs.declared.Kind.{Kind}
+use Rattle.tender.specs.declared.Tender.{Tender}
 use Rattle.tender.specs.declared.Refusal.{Refusal}
 use Rattle.tender.specs.declared.Refusal.the-variants.{BadForm, ReserveMisplaced}
 use Rattle.tender.specs.Tables.{flatRows, flatWindows, bidWidth, windowWidth, bidTable, windowTable}
@@ -41,9 +41,9 @@ numbers-length (b ∷ bs) = ap suc (numbers-length bs)
 
 -- among the lines `whole`, from line `from` on, all before `left`, which begins on line `line`, are bids without a fault, and the
 -- tables hold them
-pub record Walk (kind : Kind) (from : ℕ) (whole left : List (Option Line)) (line k m : ℕ) (used rows windows : List ℕ) : Type 0 where
+pub record Walk (T : Tender) (from : ℕ) (whole left : List (Option Line)) (line k m : ℕ) (used rows windows : List ℕ) : Type 0 where
   pub done : List BidLine
-  pub checks : (out : ReadOutcome) → checked kind from [] whole out ≡ checked kind line (bidderNumbers done) left out
+  pub checks : (out : ReadOutcome) → checked T from [] whole out ≡ checked T line (bidderNumbers done) left out
   pub number : line ≡ from + k
   pub bids : bidsOf whole ≡ done ++ bidsOf left
   pub count : length done ≡ k
@@ -70,11 +70,11 @@ unset n x = let e : getD (zeros n) (x / 64) 0 ≡ 0 = zero-at (ltb (x / 64) n) r
     zero-at true h = getD-replicate n (x / 64) 0 0 (ltb-true (x / 64) n h)
     zero-at false h = List·getD-eq-default (zeros n) 0 (rw length-replicate (ltb-false (x / 64) n h))
 
-pub walk-begins : (kind : Kind) (from : ℕ) (ls : List (Option Line)) (used rows windows : List ℕ) → used ≡ replicate 15625 0
+pub walk-begins : (T : Tender) (from : ℕ) (ls : List (Option Line)) (used rows windows : List ℕ) → used ≡ replicate 15625 0
     → length rows ≡ bidTable
-    → length windows ≡ windowTable → Walk kind from ls ls from 0 0 used rows windows
+    → length windows ≡ windowTable → Walk T from ls ls from 0 0 used rows windows
 unfolding bidderNumbers zeros allWindows rowsFrom flatRows flatWindows among
-walk-begins kind from ls used rows windows u r w =
+walk-begins T from ls used rows windows u r w =
     record {
       done = [];
       checks = λ out. refl;
@@ -120,37 +120,37 @@ bid-not-refused : {A : Type 0} (r : Step) (c : ℕ) (x : Refusal) → r ≡ step
 bid-not-refused r c x e h = let q : step.Bid c ≡ step.Refused x = sym e ∙ h in let z : _≡_ {A = ℕ} 0 1 = cc in absurd (omega arith)
 
 -- what bounds the windows of a bid bounds those that a line adds
-pub taken-room : (kind : Kind) (line k m : ℕ) (used rows windows used′ rows′ windows′ : List ℕ) (o : Option Line) (r : Step)
+pub taken-room : (T : Tender) (line k m : ℕ) (used rows windows used′ rows′ windows′ : List ℕ) (o : Option Line) (r : Step)
     (c n : ℕ)
-    → Taken o kind line k m used rows windows r used′ rows′ windows′ → r ≡ step.Bid c →
+    → Taken o T line k m used rows windows r used′ rows′ windows′ → r ≡ step.Bid c →
     ((b : BidLine) → o ≡ some (bid b) → 6 * (m + length (b .windows)) ≤ n) → 6 * (m + c) ≤ n
-taken-room kind line k m used rows windows used′ rows′ windows′ none r c n t e h = bid-not-refused r c (BadForm line) e t
-taken-room kind line k m used rows windows used′ rows′ windows′ (some (tender x)) r c n t e h = bid-not-refused r c (BadForm line) e t
-taken-room kind line k m used rows windows used′ rows′ windows′ (some (reserve x)) r c n t e h = bid-not-refused r c (ReserveMisplaced line) e t
-taken-room kind line k m used rows windows used′ rows′ windows′ (some (bid b)) r c n t e h =
-    go (bidFaultAfter kind k b (eqb (cell used (b .bidder)) 1)) t
+taken-room T line k m used rows windows used′ rows′ windows′ none r c n t e h = bid-not-refused r c (BadForm line) e t
+taken-room T line k m used rows windows used′ rows′ windows′ (some (tender x)) r c n t e h = bid-not-refused r c (BadForm line) e t
+taken-room T line k m used rows windows used′ rows′ windows′ (some (reserve x)) r c n t e h = bid-not-refused r c (ReserveMisplaced line) e t
+taken-room T line k m used rows windows used′ rows′ windows′ (some (bid b)) r c n t e h =
+    go (bidFaultAfter T k b (eqb (cell used (b .bidder)) 1)) t
   where
     go : (f : Option (ℕ → Refusal)) → Judged f b line k m used rows windows r used′ rows′ windows′ → 6 * (m + c) ≤ n
     go none j = let q : c ≡ length (b .windows) = cc (e, j .answer) in rw q (h b refl)
     go (some f) j = bid-not-refused r c (f line) e j
 
-module _ (kind : Kind) (from : ℕ) (whole rest : List (Option Line)) (line k m : ℕ)
+module _ (T : Tender) (from : ℕ) (whole rest : List (Option Line)) (line k m : ℕ)
     (used rows windows used′ rows′ windows′ : List ℕ) where
   -- the fault of the next bid
-  fault-is : (b : BidLine) (w : Walk kind from whole (some (bid b) ∷ rest) line k m used rows windows) →
-      bidFault kind (bidderNumbers (w .done)) b ≡ bidFaultAfter kind k b (eqb (cell used (b .bidder)) 1)
+  fault-is : (b : BidLine) (w : Walk T from whole (some (bid b) ∷ rest) line k m used rows windows) →
+      bidFault T (bidderNumbers (w .done)) b ≡ bidFaultAfter T k b (eqb (cell used (b .bidder)) 1)
   unfolding bidFault
   fault-is b w = rw (← (w .marked (b .bidder)), numbers-length (w .done), w .count)
 
-  more : (b : BidLine) → Walk kind from whole (some (bid b) ∷ rest) line k m used rows windows → (r : Step)
+  more : (b : BidLine) → Walk T from whole (some (bid b) ∷ rest) line k m used rows windows → (r : Step)
       → m + length (b .windows) ≤ 11000 →
-      bidFaultAfter kind k b (eqb (cell used (b .bidder)) 1) ≡ none →
+      bidFaultAfter T k b (eqb (cell used (b .bidder)) 1) ≡ none →
       BidTaken b k m used rows windows r used′ rows′ windows′ → length used′ ≡ length used → length rows′ ≡ length rows
       → length windows′ ≡ length windows →
-      Walk kind from whole rest (line + 1) (k + 1) (m + length (b .windows)) used′ rows′ windows′
+      Walk T from whole rest (line + 1) (k + 1) (m + length (b .windows)) used′ rows′ windows′
   unfolding checked judgedBy bidsOf
   more b w r room g t lu lr lw =
-      let p = faultless-after kind k b (eqb (cell used (b .bidder)) 1) g in
+      let p = faultless-after T k b (eqb (cell used (b .bidder)) 1) g in
       let f = fault-is b w ∙ g in
       let i : m + length (b .windows) ≤ 32 * (k + 1) = omega (arith, w .few-windows, p .few-windows) in
       let j : windowWidth * (m + length (b .windows)) ≤ length windows = omega (arith, room, w .windows-long) in
@@ -176,21 +176,21 @@ module _ (kind : Kind) (from : ℕ) (whole rest : List (Option Line)) (line k m 
       }
 
   -- the next line is a bid
-  pub goes : (o : Option Line) → Walk kind from whole (o ∷ rest) line k m used rows windows → (r : Step)
-      → Taken o kind line k m used rows windows r used′ rows′ windows′ →
+  pub goes : (o : Option Line) → Walk T from whole (o ∷ rest) line k m used rows windows → (r : Step)
+      → Taken o T line k m used rows windows r used′ rows′ windows′ →
       length used′ ≡ length used → length rows′ ≡ length rows → length windows′ ≡ length windows → (c : ℕ)
       → r ≡ step.Bid c
       → ((b : BidLine) → o ≡ some (bid b) → m + length (b .windows) ≤ 11000) →
-      Walk kind from whole rest (line + 1) (k + 1) (m + c) used′ rows′ windows′
+      Walk T from whole rest (line + 1) (k + 1) (m + c) used′ rows′ windows′
   goes none w r t lu lr lw c e room = bid-not-refused r c (BadForm line) e t
   goes (some (tender x)) w r t lu lr lw c e room = bid-not-refused r c (BadForm line) e t
   goes (some (reserve x)) w r t lu lr lw c e room = bid-not-refused r c (ReserveMisplaced line) e t
   goes (some (bid b)) w r t lu lr lw c e room = go
-      (bidFaultAfter kind k b (eqb (cell used (b .bidder)) 1)) refl t
+      (bidFaultAfter T k b (eqb (cell used (b .bidder)) 1)) refl t
     where
-      go : (f : Option (ℕ → Refusal)) → bidFaultAfter kind k b (eqb (cell used (b .bidder)) 1) ≡ f →
+      go : (f : Option (ℕ → Refusal)) → bidFaultAfter T k b (eqb (cell used (b .bidder)) 1) ≡ f →
           Judged f b line k m used rows windows r used′ rows′ windows′
-          → Walk kind from whole rest (line + 1) (k + 1) (m + c) used′ rows′ windows′
+          → Walk T from whole rest (line + 1) (k + 1) (m + c) used′ rows′ windows′
       go none g j = let q : c ≡ length (b .windows) = cc (e, j .answer) in rw q (more b w r (room b refl) g j lu lr lw)
       go (some f) g j = bid-not-refused r c (f line) e j
 
@@ -198,37 +198,37 @@ module _ (kind : Kind) (from : ℕ) (whole rest : List (Option Line)) (line k m 
   refusal-is r x y e h = let q : step.Refused y ≡ step.Refused x = sym h ∙ e in ap refused (cc)
 
   -- the next line is faulty
-  pub stops : (o : Option Line) → Walk kind from whole (o ∷ rest) line k m used rows windows → (r : Step)
-      → Taken o kind line k m used rows windows r used′ rows′ windows′ → (x : Refusal) → r ≡ step.Refused x →
-      (out : ReadOutcome) → checked kind from [] whole out ≡ refused x
+  pub stops : (o : Option Line) → Walk T from whole (o ∷ rest) line k m used rows windows → (r : Step)
+      → Taken o T line k m used rows windows r used′ rows′ windows′ → (x : Refusal) → r ≡ step.Refused x →
+      (out : ReadOutcome) → checked T from [] whole out ≡ refused x
   unfolding checked judgedBy
   stops none w r t x e out = w .checks out ∙ refusal-is r x (BadForm line) e t
   stops (some (tender y)) w r t x e out = w .checks out ∙ refusal-is r x (BadForm line) e t
   stops (some (reserve y)) w r t x e out = w .checks out ∙ refusal-is r x (ReserveMisplaced line) e t
   stops (some (bid b)) w r t x e out = w .checks out
-      ∙ go (bidFaultAfter kind k b (eqb (cell used (b .bidder)) 1))
+      ∙ go (bidFaultAfter T k b (eqb (cell used (b .bidder)) 1))
       refl t
     where
-      go : (f : Option (ℕ → Refusal)) → bidFaultAfter kind k b (eqb (cell used (b .bidder)) 1) ≡ f →
+      go : (f : Option (ℕ → Refusal)) → bidFaultAfter T k b (eqb (cell used (b .bidder)) 1) ≡ f →
           Judged f b line k m used rows windows r used′ rows′ windows′
-          → checked kind line (bidderNumbers (w .done)) (some (bid b) ∷ rest) out
+          → checked T line (bidderNumbers (w .done)) (some (bid b) ∷ rest) out
           ≡ refused x
       go none g j = bid-not-refused r (length (b .windows)) x (j .answer) e
       go (some f) g j = rw (fault-is b w ∙ g) (refusal-is r x (f line) e j)
 
 -- the next line is not of the form
-pub breaks : (kind : Kind) (from : ℕ) (whole rest : List (Option Line)) (line k m : ℕ) (used rows windows : List ℕ)
-    → Walk kind from whole (none ∷ rest) line k m used rows windows →
-    (out : ReadOutcome) → checked kind from [] whole out ≡ refused (BadForm line)
+pub breaks : (T : Tender) (from : ℕ) (whole rest : List (Option Line)) (line k m : ℕ) (used rows windows : List ℕ)
+    → Walk T from whole (none ∷ rest) line k m used rows windows →
+    (out : ReadOutcome) → checked T from [] whole out ≡ refused (BadForm line)
 unfolding checked
-breaks kind from whole rest line k m used rows windows w out = w .checks out
+breaks T from whole rest line k m used rows windows w out = w .checks out
 
 -- no line is left
-pub walk-ends : (kind : Kind) (from : ℕ) (whole : List (Option Line)) (line k m : ℕ) (used rows windows : List ℕ)
-    → Walk kind from whole [] line k m used rows windows
-    → m < 11000 → TablesHold kind from whole k m rows windows
+pub walk-ends : (T : Tender) (from : ℕ) (whole : List (Option Line)) (line k m : ℕ) (used rows windows : List ℕ)
+    → Walk T from whole [] line k m used rows windows
+    → m < 11000 → TablesHold T from whole k m rows windows
 unfolding checked bidsOf
-walk-ends kind from whole line k m used rows windows w l =
+walk-ends T from whole line k m used rows windows w l =
     let e : bidsOf whole ≡ w .done = w .bids ∙ append-nil (w .done) in
     record {
       faultless = w .checks;

@@ -5,45 +5,45 @@ use mathlib.Core.Bool.{Bool, true, false, not, _&&_, _||_, true≢false}
 use mathlib.Core.Option.{none, some}
 use lib.Dec.{leb, ltb}
 use borrow.Author.Tests.{leb-true}
-use Rattle.tender.specs.declared.Kind.{Kind}
+use Rattle.tender.specs.declared.Tender.{Tender}
 use Rattle.tender.specs.declared.Refusal.the-variants.{OutsideLimits, TooMany, EmptyWindow, BidderRepeated, SeveralWindows}
 use Rattle.tender.specs.declared.Refusal.the-variants.{LateWindow}
 use Rattle.tender.specs.Limits.{within, isSingle}
 use Rattle.reader_text.specs.Read.{lineFault, bidFaultIn}
 
-module _ (k : Kind) (bids bidder price count : ℕ) (empty late used : Bool) where
-  pub many : leb 1000 bids || ltb 32 count ≡ true → bidFaultIn k bids bidder price count empty late used ≡ some TooMany
+module _ (t : Tender) (bids bidder price count : ℕ) (empty late used : Bool) where
+  pub many : leb 1000 bids || ltb 32 count ≡ true → bidFaultIn t bids bidder price count empty late used ≡ some TooMany
   unfolding bidFaultIn lineFault
   many h = rw h
 
   module _ (a : leb 1000 bids || ltb 32 count ≡ false) where
     pub beyond : not (within 1 999999 bidder) || ltb 100000000 price ≡ true
-        → bidFaultIn k bids bidder price count empty late used ≡ some OutsideLimits
+        → bidFaultIn t bids bidder price count empty late used ≡ some OutsideLimits
     unfolding bidFaultIn lineFault
     beyond h = rw (a, h)
 
     module _ (b : not (within 1 999999 bidder) || ltb 100000000 price ≡ false) where
-      pub several-windows : isSingle k && ltb 1 count ≡ true
-          → bidFaultIn k bids bidder price count empty late used ≡ some SeveralWindows
+      pub several-windows : isSingle (t .kind) && ltb 1 count ≡ true
+          → bidFaultIn t bids bidder price count empty late used ≡ some SeveralWindows
       unfolding bidFaultIn lineFault
       several-windows h = rw (a, b, h)
 
-      module _ (c : isSingle k && ltb 1 count ≡ false) where
-        pub window-empty : empty ≡ true → bidFaultIn k bids bidder price count empty late used ≡ some EmptyWindow
+      module _ (c : isSingle (t .kind) && ltb 1 count ≡ false) where
+        pub window-empty : empty ≡ true → bidFaultIn t bids bidder price count empty late used ≡ some EmptyWindow
         unfolding bidFaultIn lineFault
         window-empty h = rw (a, b, c, h)
 
         module _ (d : empty ≡ false) where
-          pub window-late : late ≡ true → bidFaultIn k bids bidder price count empty late used ≡ some LateWindow
+          pub window-late : late ≡ true → bidFaultIn t bids bidder price count empty late used ≡ some LateWindow
           unfolding bidFaultIn lineFault
           window-late h = rw (a, b, c, d, h)
 
           module _ (e : late ≡ false) where
-            pub repeated : used ≡ true → bidFaultIn k bids bidder price count empty late used ≡ some BidderRepeated
+            pub repeated : used ≡ true → bidFaultIn t bids bidder price count empty late used ≡ some BidderRepeated
             unfolding bidFaultIn lineFault
             repeated h = rw (a, b, c, d, e, h)
 
-            pub sound : used ≡ false → bidFaultIn k bids bidder price count empty late used ≡ none
+            pub sound : used ≡ false → bidFaultIn t bids bidder price count empty late used ≡ none
             unfolding bidFaultIn lineFault
             sound h = rw (a, b, c, d, e, h)
 

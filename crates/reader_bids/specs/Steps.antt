@@ -5,7 +5,7 @@ use mathlib.Core.Option.{Option, none, some}
 use Prim.Native.Nat.{ℕ, _+_, _*_, _≤_, _<_}
 use lib.ListN.{length, take, drop}
 use lib.Dec.{eqb}
-use Rattle.tender.specs.declared.Kind.{Kind}
+use Rattle.tender.specs.declared.Tender.{Tender}
 use Rattle.tender.specs.declared.Refusal.{Refusal}
 use Rattle.tender.specs.declared.Refusal.the-variants.{BadForm, ReserveMisplaced}
 use Rattle.tender.specs.Tables.{Row, flatRows, flatWindows, bidWidth, windowWidth}
@@ -48,17 +48,17 @@ Judged none b line k m used rows windows r used′ rows′ windows′ = BidTaken
 Judged (some f) b line k m used rows windows r used′ rows′ windows′ = r ≡ step.Refused (f line)
 
 -- what comes of a line, which has the number `line` in its text
-abbrev pub Taken : Option Line → Kind → (line k m : ℕ) → (used rows windows : List ℕ) → Step
+abbrev pub Taken : Option Line → Tender → (line k m : ℕ) → (used rows windows : List ℕ) → Step
     → (used′ rows′ windows′ : List ℕ) → Type 0
-Taken none kind line k m used rows windows r used′ rows′ windows′ = r ≡ step.Refused (BadForm line)
-Taken (some (tender t)) kind line k m used rows windows r used′ rows′ windows′ = r ≡ step.Refused (BadForm line)
-Taken (some (reserve p)) kind line k m used rows windows r used′ rows′ windows′ = r ≡ step.Refused (ReserveMisplaced line)
-Taken (some (bid b)) kind line k m used rows windows r used′ rows′ windows′ =
-    Judged (bidFaultAfter kind k b (eqb (cells.cell used (b .bidder)) 1)) b line k m used rows windows r used′ rows′ windows′
+Taken none t line k m used rows windows r used′ rows′ windows′ = r ≡ step.Refused (BadForm line)
+Taken (some (tender u)) t line k m used rows windows r used′ rows′ windows′ = r ≡ step.Refused (BadForm line)
+Taken (some (reserve p)) t line k m used rows windows r used′ rows′ windows′ = r ≡ step.Refused (ReserveMisplaced line)
+Taken (some (bid b)) t line k m used rows windows r used′ rows′ windows′ =
+    Judged (bidFaultAfter t k b (eqb (cells.cell used (b .bidder)) 1)) b line k m used rows windows r used′ rows′ windows′
 
 -- the tables hold the bids of these lines, from line `from` on, none of which is faulty
-pub record TablesHold (kind : Kind) (from : ℕ) (ls : List (Option Line)) (k m : ℕ) (rows windows : List ℕ) : Type 0 where
-  pub faultless : (out : ReadOutcome) → checked kind from [] ls out ≡ out
+pub record TablesHold (t : Tender) (from : ℕ) (ls : List (Option Line)) (k m : ℕ) (rows windows : List ℕ) : Type 0 where
+  pub faultless : (out : ReadOutcome) → checked t from [] ls out ≡ out
   pub bids : length (bidsOf ls) ≡ k
   pub places : length (allWindows (bidsOf ls)) ≡ m
   pub few-bids : k ≤ 1000
@@ -67,7 +67,7 @@ pub record TablesHold (kind : Kind) (from : ℕ) (ls : List (Option Line)) (k m 
   pub windows-are : take (windowWidth * m) windows ≡ flatWindows (allWindows (bidsOf ls))
 
 -- what comes of the lines after the head, from line `from` on
-abbrev pub LinesFilled : Kind → ℕ → List (Option Line) → Bids → (rows windows : List ℕ) → Type 0
-LinesFilled kind from ls (bids.Filled k m) rows windows = TablesHold kind from ls k m rows windows
-LinesFilled kind from ls (bids.Refused r) rows windows =
-    (out : ReadOutcome) → checked kind from [] ls out ≡ refused r
+abbrev pub LinesFilled : Tender → ℕ → List (Option Line) → Bids → (rows windows : List ℕ) → Type 0
+LinesFilled t from ls (bids.Filled k m) rows windows = TablesHold t from ls k m rows windows
+LinesFilled t from ls (bids.Refused r) rows windows =
+    (out : ReadOutcome) → checked t from [] ls out ≡ refused r

@@ -7,7 +7,7 @@ use native.Mathlib.Omega.{arith}
 use native.Mathlib.Nat.{add-zero, zero-add}
 use lib.ListN.{length, take, drop}
 use lib.Dec.{eqb}
-use Rattle.tender.specs.declared.Kind.{Kind}
+use Rattle.tender.specs.declared.Tender.{Tender}
 use Rattle.cells.specs.Cells.{cell, RangeAdded}
 use Rattle.reader_line.specs.Line.{TenderLine, BidLine, Line, tender, bid, reserve}
 use Rattle.reader_word.specs.declared.windows.Flaw.{Flaw}
@@ -48,9 +48,9 @@ noted-bid n p c flaw m old new b e =
       windows-are = ap (λ (x : Tally). x .table) t ∙ ap (λ i. putWindows old i (b .windows)) (add-zero m);
     }
 
-module _ (kind : Kind) (line k m : ℕ) (used rows windows : List ℕ) (r : Step) (used′ rows′ windows′ : List ℕ) where
+module _ (T : Tender) (line k m : ℕ) (used rows windows : List ℕ) (r : Step) (used′ rows′ windows′ : List ℕ) where
   pub taken-broken : (o : Option Line) → none ≡ noted m windows o → r ≡ step.Refused (BadForm line)
-      → Taken o kind line k m used rows windows r used′ rows′ windows′
+      → Taken o T line k m used rows windows r used′ rows′ windows′
   unfolding noted
   taken-broken none e h = h
   taken-broken (some (tender t)) e h = let z : _≡_ {A = ℕ} 0 1 = cc in absurd (omega arith)
@@ -58,7 +58,7 @@ module _ (kind : Kind) (line k m : ℕ) (used rows windows : List ℕ) (r : Step
   taken-broken (some (reserve v)) e h = let z : _≡_ {A = ℕ} 0 1 = cc in absurd (omega arith)
 
   pub taken-tender : (o : Option Line) (t : TenderLine) → some (tenderNote t) ≡ noted m windows o → r ≡ step.Refused (BadForm line)
-      → Taken o kind line k m used rows windows r used′ rows′ windows′
+      → Taken o T line k m used rows windows r used′ rows′ windows′
   unfolding noted
   taken-tender none t e h = let z : _≡_ {A = ℕ} 0 1 = cc in absurd (omega arith)
   taken-tender (some (tender u)) t e h = h
@@ -66,7 +66,7 @@ module _ (kind : Kind) (line k m : ℕ) (used rows windows : List ℕ) (r : Step
   taken-tender (some (reserve v)) t e h = let z : _≡_ {A = ℕ} 0 1 = cc in absurd (omega arith)
 
   pub taken-reserve : (o : Option Line) (v : ℕ) → some (reserveNote v) ≡ noted m windows o → r ≡ step.Refused (ReserveMisplaced line)
-      → Taken o kind line k m used rows windows r used′ rows′ windows′
+      → Taken o T line k m used rows windows r used′ rows′ windows′
   unfolding noted
   taken-reserve none v e h = let z : _≡_ {A = ℕ} 0 1 = cc in absurd (omega arith)
   taken-reserve (some (tender t)) v e h = let z : _≡_ {A = ℕ} 0 1 = cc in absurd (omega arith)
@@ -76,21 +76,21 @@ module _ (kind : Kind) (line k m : ℕ) (used rows windows : List ℕ) (r : Step
   module _ (n p c : ℕ) (flaw : Flaw) where
     -- judged by what is noted
     noted-fault : (b : BidLine) → Noted n p c flaw m windows windows′ b →
-        bidFaultIn kind k n p c (isEmpty flaw) (isLate flaw) (eqb (cell used n) 1)
-        ≡ bidFaultAfter kind k b (eqb (cell used (b .bidder)) 1)
+        bidFaultIn T k n p c (isEmpty flaw) (isLate flaw) (eqb (cell used n) 1)
+        ≡ bidFaultAfter T k b (eqb (cell used (b .bidder)) 1)
     unfolding bidFaultAfter
     noted-fault b x = rw (x .bidder-is, x .price-is, x .count-is, x .flaw-is)
-        (flaw-told kind k (b .bidder) (b .price) (length (b .windows)) (b .windows) (eqb (cell used (b .bidder)) 1))
+        (flaw-told T k (b .bidder) (b .price) (length (b .windows)) (b .windows) (eqb (cell used (b .bidder)) 1))
 
     pub taken-fault : (o : Option Line) → some (bidNote n p (record { count = c; flaw = flaw; table = windows′ })) ≡ noted m windows o
-        → (x : Refusal) → some x ≡ faultAt line (bidFaultIn kind k n p c (isEmpty flaw) (isLate flaw) (eqb (cell used n) 1))
-        → r ≡ step.Refused x → Taken o kind line k m used rows windows r used′ rows′ windows′
+        → (x : Refusal) → some x ≡ faultAt line (bidFaultIn T k n p c (isEmpty flaw) (isLate flaw) (eqb (cell used n) 1))
+        → r ≡ step.Refused x → Taken o T line k m used rows windows r used′ rows′ windows′
     unfolding noted
     taken-fault none e x g h = let z : _≡_ {A = ℕ} 0 1 = cc in absurd (omega arith)
     taken-fault (some (tender u)) e x g h = let z : _≡_ {A = ℕ} 0 1 = cc in absurd (omega arith)
     taken-fault (some (reserve v)) e x g h = let z : _≡_ {A = ℕ} 0 1 = cc in absurd (omega arith)
     taken-fault (some (bid b)) e x g h =
-        go (bidFaultAfter kind k b (eqb (cell used (b .bidder)) 1))
+        go (bidFaultAfter T k b (eqb (cell used (b .bidder)) 1))
         (g ∙ ap (faultAt line) (noted-fault b (noted-bid n p c flaw m windows windows′ b e)))
       where
         go : (f : Option (ℕ → Refusal)) → some x ≡ faultAt line f → Judged f b line k m used rows windows r used′ rows′ windows′
@@ -98,17 +98,17 @@ module _ (kind : Kind) (line k m : ℕ) (used rows windows : List ℕ) (r : Step
         go (some f) q = h ∙ ap step.Refused (cc)
 
     pub taken-sound : (o : Option Line) → some (bidNote n p (record { count = c; flaw = flaw; table = windows′ })) ≡ noted m windows o
-        → bidFaultIn kind k n p c (isEmpty flaw) (isLate flaw) (eqb (cell used n) 1) ≡ none →
+        → bidFaultIn T k n p c (isEmpty flaw) (isLate flaw) (eqb (cell used n) 1) ≡ none →
         r ≡ step.Bid c → rows′ ≡ take (bidWidth * k) rows ++ rowNumbers (record { bidder = n; price = p; first = m; count = c })
         ++ drop (bidWidth * k + bidWidth) rows → RangeAdded n (n + 1) used used′ →
-        Taken o kind line k m used rows windows r used′ rows′ windows′
+        Taken o T line k m used rows windows r used′ rows′ windows′
     unfolding noted
     taken-sound none e g q s t = let z : _≡_ {A = ℕ} 0 1 = cc in absurd (omega arith)
     taken-sound (some (tender u)) e g q s t = let z : _≡_ {A = ℕ} 0 1 = cc in absurd (omega arith)
     taken-sound (some (reserve v)) e g q s t = let z : _≡_ {A = ℕ} 0 1 = cc in absurd (omega arith)
     taken-sound (some (bid b)) e g q s t =
         let x = noted-bid n p c flaw m windows windows′ b e in
-        let y : bidFaultAfter kind k b (eqb (cell used (b .bidder)) 1) ≡ none = sym (noted-fault b x) ∙ g in
+        let y : bidFaultAfter T k b (eqb (cell used (b .bidder)) 1) ≡ none = sym (noted-fault b x) ∙ g in
         rw y (record {
           answer = q ∙ ap step.Bid (x .count-is);
           row = rw (x .bidder-is, x .price-is, x .count-is) at s;

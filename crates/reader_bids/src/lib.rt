@@ -23,6 +23,7 @@ use reader_word::windows::Flaw;
 use rows::put_row;
 use tender::Kind;
 use tender::Refusal;
+use tender::Tender;
 
 // Whether this is a 1,001st bid or has a 33rd window.
 fn too_many(bids: usize, windows: usize) -> bool
@@ -49,9 +50,10 @@ fn outside(bidder: u64, price: u64) -> bool
 }
 
 // Whether the tender takes one window a bid and there are more.
-fn several(kind: Kind, windows: usize) -> bool
-    ensures { λ r. ⌜ r ≡ (isSingle kind && ltb 1 windows) ⌝ }
+fn several(tender: Tender, windows: usize) -> bool
+    ensures { λ r. ⌜ r ≡ (isSingle (tender .kind) && ltb 1 windows) ⌝ }
 {
+    let kind = tender.kind;
     match kind {
         Kind::Single => 1 < windows,
         Kind::Multi => false,
@@ -65,7 +67,7 @@ pub(crate) enum Verdict {
 
 // The first fault of the bid on this line, after so many bids: 4, 3, 7, 5, 15, 6. A used bidder number is a set bit of `used`.
 fn judge(
-    kind: Kind,
+    tender: Tender,
     line: u64,
     bids: usize,
     used: &[u64],
@@ -75,7 +77,7 @@ fn judge(
     flaw: Flaw,
 ) -> Verdict
     requires { ⌜ length (now used) ≡ 15625 ⌝ }
-    ensures { λ r. ⌜ verdictOf r ≡ faultAt line (bidFaultIn kind bids bidder price windows (isEmpty flaw) (isLate flaw)
+    ensures { λ r. ⌜ verdictOf r ≡ faultAt line (bidFaultIn tender bids bidder price windows (isEmpty flaw) (isLate flaw)
         (eqb (cell (now (used .entry)) bidder) 1)) ⌝ }
 {
     if too_many(bids, windows) {
@@ -84,7 +86,7 @@ fn judge(
     if outside(bidder, price) {
         return Verdict::Faulty(Refusal::OutsideLimits { line });
     }
-    if several(kind, windows) {
+    if several(tender, windows) {
         return Verdict::Faulty(Refusal::SeveralWindows { line });
     }
     match flaw {
@@ -112,7 +114,7 @@ pub(crate) enum Step {
 fn take_line(
     bytes: &[u8],
     line: u64,
-    kind: Kind,
+    tender: Tender,
     k: usize,
     m: usize,
     used: &mut [u64],
@@ -120,12 +122,12 @@ fn take_line(
     windows: &mut [u64],
 ) -> Step
     requires { ⌜ (k ≤ 1000) × (m ≤ 32000) × (length (now used) ≡ 15625) × (length (now rows) ≡ bidTable) ⌝ }
-    ensures { λ r. ⌜ Taken (lineOf (now (bytes .entry))) kind line k m (now (used .entry)) (now (rows .entry)) (now (windows .entry))
+    ensures { λ r. ⌜ Taken (lineOf (now (bytes .entry))) tender line k m (now (used .entry)) (now (rows .entry)) (now (windows .entry))
         r (now (used .exit)) (now (rows .exit)) (now (windows .exit)) ⌝ }
 {
     match read_line(bytes, windows, m) {
         Line::Bid(bidder, price, count, flaw) => match judge(
-            kind,
+            tender,
             line,
             k,
             used,
@@ -158,7 +160,7 @@ pub fn read_bids(
     text: &[u8],
     at: usize,
     from: u64,
-    kind: Kind,
+    tender: Tender,
     used: &mut [u64],
     rows: &mut [u64],
     windows: &mut [u64],
@@ -166,7 +168,7 @@ pub fn read_bids(
     requires { ⌜ (at ≤ length (now text)) × (from ≤ 65536) × (length (now text) ≤ 65536) × (now used ≡ replicate 15625 0)
         × (length (now rows) ≡ bidTable)
         × (length (now windows) ≡ windowTable) ⌝ }
-    ensures { λ r. ⌜ LinesFilled kind from (linesOf (cut 10 (drop at (now (text .entry))))) r (now (rows .exit))
+    ensures { λ r. ⌜ LinesFilled tender from (linesOf (cut 10 (drop at (now (text .entry))))) r (now (rows .exit))
         (now (windows .exit)) ⌝ }
 {
     let mut k: usize = 0;
@@ -175,7 +177,16 @@ pub fn read_bids(
     let mut line = from;
     while i < text.len() {
         match line_end(text, i) {
-            LineEnd::At(e) => match take_line(&text[i..e], line, kind, k, m, used, rows, windows) {
+            LineEnd::At(e) => match take_line(
+                &text[i..e],
+                line,
+                tender,
+                k,
+                m,
+                used,
+                rows,
+                windows,
+            ) {
                 Step::Bid(count) => {
                     k += 1;
                     m += count;

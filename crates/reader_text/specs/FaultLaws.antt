@@ -5,7 +5,7 @@ use mathlib.Core.List.{List, [], _∷_}
 use mathlib.Core.Bool.{Bool, true, false, not, _&&_}
 use mathlib.Core.Option.{Option, none, some}
 use native.Mathlib.Omega.{arith}
-use Rattle.tender.specs.declared.Kind.{Kind}
+use Rattle.tender.specs.declared.Tender.{Tender}
 use Rattle.tender.specs.declared.Window.{Window}
 use Rattle.tender.specs.declared.Reserve.{Reserve}
 use Rattle.reader_line.specs.Line.{TenderLine}
@@ -71,14 +71,14 @@ tender-told t = go (ordered (asWindow (t .window))) (early (asWindow (t .window)
     go false b = refl
 
 -- the windows of a bid, by what is wrong with them
-pub flaw-told : (k : Kind) (bids bidder price count : ℕ) (ws : List Window) (used : Bool) →
-    bidFaultIn k bids bidder price count (isEmpty (flawOf ws)) (isLate (flawOf ws)) used
-    ≡ bidFaultIn k bids bidder price count (not (every ordered ws)) (not (every early ws)) used
+pub flaw-told : (t : Tender) (bids bidder price count : ℕ) (ws : List Window) (used : Bool) →
+    bidFaultIn t bids bidder price count (isEmpty (flawOf ws)) (isLate (flawOf ws)) used
+    ≡ bidFaultIn t bids bidder price count (not (every ordered ws)) (not (every early ws)) used
 unfolding flawOf bidFaultIn lineFault
-flaw-told k bids bidder price count ws used = go (every ordered ws) (every early ws)
+flaw-told t bids bidder price count ws used = go (every ordered ws) (every early ws)
   where
-    go : (a b : Bool) → bidFaultIn k bids bidder price count (isEmpty (flawBy a b)) (isLate (flawBy a b)) used
-        ≡ bidFaultIn k bids bidder price count (not a) (not b) used
+    go : (a b : Bool) → bidFaultIn t bids bidder price count (isEmpty (flawBy a b)) (isLate (flawBy a b)) used
+        ≡ bidFaultIn t bids bidder price count (not a) (not b) used
     go true true = refl
     go true false = refl
     go false b = refl

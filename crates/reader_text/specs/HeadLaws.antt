@@ -29,7 +29,7 @@ unfolding readLines afterHead
 lines-halted ls r e = ap afterHead e
 
 pub lines-begun : (ls : List (Option Line)) (T : Tender) (from : ℕ) (rest : List (Option Line)) → headOf ls ≡ begun T from rest
-    → readLines ls ≡ checked (T .kind) from [] rest (tables T (bidsOf rest))
+    → readLines ls ≡ checked T from [] rest (tables T (bidsOf rest))
 unfolding readLines afterHead
 lines-begun ls T from rest e = ap afterHead e
 
@@ -289,7 +289,7 @@ module _ (T : Tender) (R : List Row) (W : List Window) where
     pub from : ℕ
     pub rest : List (Option Line)
     pub head : headOf ls ≡ begun T from rest
-    pub sound : checked (T .kind) from [] rest (tables T (bidsOf rest)) ≡ accepted T R W
+    pub sound : checked T from [] rest (tables T (bidsOf rest)) ≡ accepted T R W
     pub bids : rest ≡ map (λ b. some (bid b)) (bidsOf rest)
     pub rows : R ≡ rowsFrom 0 (bidsOf rest)
     pub windows : W ≡ allWindows (bidsOf rest)
@@ -302,14 +302,14 @@ module _ (T : Tender) (R : List Row) (W : List Window) where
       go : (h : Head) → headOf ls ≡ h → afterHead h ≡ accepted T R W → Begun ls
       go (halted r) q x = never x
       go (begun t from rest) q x =
-          let o : tables t (bidsOf rest) ≡ accepted T R W = checked-out T R W (t .kind) from [] rest (tables t (bidsOf rest)) x in
+          let o : tables t (bidsOf rest) ≡ accepted T R W = checked-out T R W t from [] rest (tables t (bidsOf rest)) x in
           let same : t ≡ T = cc in
           record {
             from = from;
             rest = rest;
             head = q ∙ ap (λ u. begun u from rest) same;
             sound = rw same at x;
-            bids = checked-bids T R W (t .kind) from [] rest (tables t (bidsOf rest)) x;
+            bids = checked-bids T R W t from [] rest (tables t (bidsOf rest)) x;
             rows = cc;
             windows = cc;
           }

@@ -8,7 +8,6 @@ use Prim.Native.Nat.{ℕ, _+_, _≤_}
 use lib.ListN.{length}
 use lib.Dec.{ltb}
 use borrow.Author.Tests.{le-ltb}
-use Rattle.tender.specs.declared.Kind.{Kind}
 use Rattle.tender.specs.declared.Window.{Window}
 use Rattle.tender.specs.declared.Tender.{Tender}
 use Rattle.tender.specs.Tables.{Row}
@@ -27,43 +26,43 @@ use Rattle.reader_text.specs.RulesLaws.{faultless-bid}
 unfoldable pub atPrice : ℕ → BidLine → BidLine
 atPrice v b = record { bidder = b .bidder; price = v; windows = b .windows }
 
-fault-price : (k : Kind) (used : List ℕ) (b : BidLine) (v : ℕ) → v ≤ 100000000 → bidFault k used b ≡ none
-    → bidFault k used (atPrice v b) ≡ none
+fault-price : (u : Tender) (used : List ℕ) (b : BidLine) (v : ℕ) → v ≤ 100000000 → bidFault u used b ≡ none
+    → bidFault u used (atPrice v b) ≡ none
 unfolding bidFault bidFaultAfter bidFaultIn lineFault atPrice
-fault-price k used b v l e =
-    let p = (faultless-bid k used b e) .price-high in
+fault-price u used b v l e =
+    let p = (faultless-bid u used b e) .price-high in
     let m : ltb 100000000 (b .price) ≡ false = le-ltb 100000000 (b .price) p in
     let n : ltb 100000000 v ≡ false = le-ltb 100000000 v l in
     rw n (rw m at e)
 
 module _ (T : Tender) (R : List Row) (W : List Window) where
   -- the tables play no part in the checks
-  checked-any : (k : Kind) (at : ℕ) (used : List ℕ) (ls : List (Option Line)) (out o : ReadOutcome)
-      → checked k at used ls out ≡ accepted T R W → checked k at used ls o ≡ o
+  checked-any : (u : Tender) (at : ℕ) (used : List ℕ) (ls : List (Option Line)) (out o : ReadOutcome)
+      → checked u at used ls out ≡ accepted T R W → checked u at used ls o ≡ o
   unfolding checked
-  checked-any k at used [] out o e = refl
-  checked-any k at used (none ∷ ls) out o e = never e
-  checked-any k at used (some (tender t) ∷ ls) out o e = never e
-  checked-any k at used (some (reserve p) ∷ ls) out o e = never e
-  checked-any k at used (some (bid b) ∷ ls) out o e =
-      let j = judged-out T R W (bidFault k used b) at (checked k (at + 1) (used ++ b .bidder ∷ []) ls out) e in
-      rw (j .0) (checked-any k (at + 1) (used ++ b .bidder ∷ []) ls out o (j .1))
+  checked-any u at used [] out o e = refl
+  checked-any u at used (none ∷ ls) out o e = never e
+  checked-any u at used (some (tender t) ∷ ls) out o e = never e
+  checked-any u at used (some (reserve p) ∷ ls) out o e = never e
+  checked-any u at used (some (bid b) ∷ ls) out o e =
+      let j = judged-out T R W (bidFault u used b) at (checked u (at + 1) (used ++ b .bidder ∷ []) ls out) e in
+      rw (j .0) (checked-any u (at + 1) (used ++ b .bidder ∷ []) ls out o (j .1))
 
-  checked-price : (k : Kind) (at : ℕ) (used : List ℕ) (xs : List (Option Line)) (b : BidLine) (ys : List (Option Line))
+  checked-price : (u : Tender) (at : ℕ) (used : List ℕ) (xs : List (Option Line)) (b : BidLine) (ys : List (Option Line))
       (out o : ReadOutcome)
       (v : ℕ) → v ≤ 100000000 →
-      checked k at used (xs ++ some (bid b) ∷ ys) out ≡ accepted T R W → checked k at used (xs ++ some (bid (atPrice v b)) ∷ ys) o
+      checked u at used (xs ++ some (bid b) ∷ ys) out ≡ accepted T R W → checked u at used (xs ++ some (bid (atPrice v b)) ∷ ys) o
       ≡ o
   unfolding checked atPrice
-  checked-price k at used [] b ys out o v l e =
-      let j = judged-out T R W (bidFault k used b) at (checked k (at + 1) (used ++ b .bidder ∷ []) ys out) e in
-      rw (fault-price k used b v l (j .0)) (checked-any k (at + 1) (used ++ b .bidder ∷ []) ys out o (j .1))
-  checked-price k at used (none ∷ xs) b ys out o v l e = never e
-  checked-price k at used (some (tender t) ∷ xs) b ys out o v l e = never e
-  checked-price k at used (some (reserve p) ∷ xs) b ys out o v l e = never e
-  checked-price k at used (some (bid c) ∷ xs) b ys out o v l e =
-      let j = judged-out T R W (bidFault k used c) at (checked k (at + 1) (used ++ c .bidder ∷ []) (xs ++ some (bid b) ∷ ys) out) e in
-      rw (j .0) (checked-price k (at + 1) (used ++ c .bidder ∷ []) xs b ys out o v l (j .1))
+  checked-price u at used [] b ys out o v l e =
+      let j = judged-out T R W (bidFault u used b) at (checked u (at + 1) (used ++ b .bidder ∷ []) ys out) e in
+      rw (fault-price u used b v l (j .0)) (checked-any u (at + 1) (used ++ b .bidder ∷ []) ys out o (j .1))
+  checked-price u at used (none ∷ xs) b ys out o v l e = never e
+  checked-price u at used (some (tender t) ∷ xs) b ys out o v l e = never e
+  checked-price u at used (some (reserve p) ∷ xs) b ys out o v l e = never e
+  checked-price u at used (some (bid c) ∷ xs) b ys out o v l e =
+      let j = judged-out T R W (bidFault u used c) at (checked u (at + 1) (used ++ c .bidder ∷ []) (xs ++ some (bid b) ∷ ys) out) e in
+      rw (j .0) (checked-price u (at + 1) (used ++ c .bidder ∷ []) xs b ys out o v l (j .1))
 
 bid-of : (n q : List ℕ) (ws : List (List ℕ)) (b : BidLine) (v : ℕ) → numeralOf n ≡ some (b .bidder) → priceOf q ≡ some v
     → windowsIn ws ≡ some (b .windows) → bidOf (n ∷ q ∷ ws) ≡ some (bid (atPrice v b))
@@ -98,7 +97,7 @@ rewritten before n p q after f ps v T R W wn wq e x hv lv lu =
       short (before ++ 10 ∷ bidLine n q after) lu
           ∙ ap readLines (text-lines before n q after f ps wn wq e T R W ∙ ap (λ l. xs ++ l) r)
           ∙ lines-begun (xs ++ some (bid (atPrice v (x .b))) ∷ linesOf ps) T (x .line .from) ls (x .line .head (atPrice v (x .b)))
-          ∙ checked-price T R W (T .kind) (x .line .from) [] (x .line .between) (x .b) (linesOf ps)
+          ∙ checked-price T R W T (x .line .from) [] (x .line .between) (x .b) (linesOf ps)
           (tables T (bidsOf (x .line .between ++ some (bid (x .b)) ∷ linesOf ps))) (tables T (bidsOf ls)) v lv (x .line .sound),
     )
 

@@ -112,7 +112,7 @@ pub record LineHeld (b : BidLine) (xs ys : List (Option Line)) (T : Tender) (R :
   pub from : ℕ
   pub between : List (Option Line)
   pub head : (c : BidLine) → headOf (xs ++ some (bid c) ∷ ys) ≡ begun T from (between ++ some (bid c) ∷ ys)
-  pub sound : checked (T .kind) from [] (between ++ some (bid b) ∷ ys) (tables T (bidsOf (between ++ some (bid b) ∷ ys)))
+  pub sound : checked T from [] (between ++ some (bid b) ∷ ys) (tables T (bidsOf (between ++ some (bid b) ∷ ys)))
       ≡ accepted T R W
   pub rows : R ≡ rowsFrom 0 (bidsOf (between ++ some (bid b) ∷ ys))
   pub windows : W ≡ allWindows (bidsOf (between ++ some (bid b) ∷ ys))
@@ -125,7 +125,7 @@ line-held T R W b xs ys g =
       from = g .from;
       between = h .between;
       head = h .any;
-      sound = sym (ap (λ r. checked (T .kind) (g .from) [] r (tables T (bidsOf r))) (h .rest-is)) ∙ g .sound;
+      sound = sym (ap (λ r. checked T (g .from) [] r (tables T (bidsOf r))) (h .rest-is)) ∙ g .sound;
       rows = g .rows ∙ ap (λ r. rowsFrom 0 (bidsOf r)) (h .rest-is);
       windows = g .windows ∙ ap (λ r. allWindows (bidsOf r)) (h .rest-is);
     }

@@ -5,7 +5,6 @@ use mathlib.Core.Bool.{Bool, false, cond, not, _&&_, _||_}
 use mathlib.Core.Option.{Option, none, some}
 use lib.ListN.{length}
 use lib.Dec.{leb, ltb}
-use Rattle.tender.specs.declared.Kind.{Kind}
 use Rattle.tender.specs.declared.Window.{Window}
 use Rattle.tender.specs.declared.Reserve.{Reserve}
 use Rattle.tender.specs.declared.Reserve.the-variants.{Absent, Price}
@@ -55,21 +54,21 @@ tenderFault t = lineFault false false false (not (ordered (asWindow (t .window))
 
 -- the fault of a bid after so many others: its numbers, how many windows it has, whether one of them is empty, whether one is late,
 -- and whether its bidder number was used before
-unfoldable pub bidFaultIn : Kind → ℕ → ℕ → ℕ → ℕ → Bool → Bool → Bool → Option (ℕ → Refusal)
+unfoldable pub bidFaultIn : Tender → ℕ → ℕ → ℕ → ℕ → Bool → Bool → Bool → Option (ℕ → Refusal)
 unfolding lineFault within isSingle
-bidFaultIn k bids bidder price count empty late used =
+bidFaultIn t bids bidder price count empty late used =
     lineFault (leb maxBids bids || ltb maxWindows count) (not (within 1 maxBidder bidder) || ltb maxPrice price)
-    (isSingle k && ltb 1 count) empty late used
+    (isSingle (t .kind) && ltb 1 count) empty late used
 
-unfoldable pub bidFaultAfter : Kind → ℕ → BidLine → Bool → Option (ℕ → Refusal)
+unfoldable pub bidFaultAfter : Tender → ℕ → BidLine → Bool → Option (ℕ → Refusal)
 unfolding bidFaultIn every
-bidFaultAfter k bids b used = bidFaultIn k bids (b .bidder) (b .price) (length (b .windows)) (not (every ordered (b .windows)))
+bidFaultAfter t bids b used = bidFaultIn t bids (b .bidder) (b .price) (length (b .windows)) (not (every ordered (b .windows)))
     (not (every early (b .windows))) used
 
 -- after bids with the bidder numbers `used`
-unfoldable pub bidFault : Kind → List ℕ → BidLine → Option (ℕ → Refusal)
+unfoldable pub bidFault : Tender → List ℕ → BidLine → Option (ℕ → Refusal)
 unfolding bidFaultAfter among
-bidFault k used b = bidFaultAfter k (length used) b (among (b .bidder) used)
+bidFault t used b = bidFaultAfter t (length used) b (among (b .bidder) used)
 
 -- the refusal of line `at` where it has a fault, or what comes of the lines after it
 unfoldable pub judgedBy : {A : Type 0} → (Refusal → A) → Option (ℕ → Refusal) → ℕ → A → A
@@ -77,14 +76,14 @@ judgedBy refuse none at rest = rest
 judgedBy refuse (some r) at rest = refuse (r at)
 
 -- the first faulty line from line `at` on, or `out` where there is none
-unfoldable pub checked : Kind → ℕ → List ℕ → List (Option Line) → ReadOutcome → ReadOutcome
+unfoldable pub checked : Tender → ℕ → List ℕ → List (Option Line) → ReadOutcome → ReadOutcome
 unfolding bidFault judgedBy
-checked k at used [] out = out
-checked k at used (none ∷ ls) out = refused (BadForm at)
-checked k at used (some (tender t) ∷ ls) out = refused (BadForm at)
-checked k at used (some (reserve p) ∷ ls) out = refused (ReserveMisplaced at)
-checked k at used (some (bid b) ∷ ls) out = let rest = checked k (at + 1) (used ++ b .bidder ∷ []) ls out in
-    judgedBy refused (bidFault k used b) at rest
+checked t at used [] out = out
+checked t at used (none ∷ ls) out = refused (BadForm at)
+checked t at used (some (tender u) ∷ ls) out = refused (BadForm at)
+checked t at used (some (reserve p) ∷ ls) out = refused (ReserveMisplaced at)
+checked t at used (some (bid b) ∷ ls) out = let rest = checked t (at + 1) (used ++ b .bidder ∷ []) ls out in
+    judgedBy refused (bidFault t used b) at rest
 
 unfoldable pub tables : Tender → List BidLine → ReadOutcome
 unfolding rowsFrom allWindows
@@ -130,7 +129,7 @@ headOf (some (tender t) ∷ ls) = judgedBy halted (tenderFault t) 1 (reserveIn t
 unfoldable pub afterHead : Head → ReadOutcome
 unfolding bidsOf checked tables
 afterHead (halted r) = refused r
-afterHead (begun t from rest) = checked (t .kind) from [] rest (tables t (bidsOf rest))
+afterHead (begun t from rest) = checked t from [] rest (tables t (bidsOf rest))
 
 unfoldable pub readLines : List (Option Line) → ReadOutcome
 unfolding headOf afterHead

@@ -7,7 +7,6 @@ use Prim.Native.Nat.{ℕ, _+_}
 use native.Mathlib.Omega.{arith}
 use lib.ListN.{length}
 use lib.Dec.{ltb}
-use Rattle.tender.specs.declared.Kind.{Kind}
 use Rattle.tender.specs.declared.Window.{Window}
 use Rattle.tender.specs.declared.Tender.{Tender}
 use Rattle.tender.specs.Tables.{Row}
@@ -39,26 +38,26 @@ module _ (T : Tender) (R : List Row) (W : List Window) where
   judged-out (some n) at out e = never e
 
   -- no line is faulty
-  pub checked-out : (k : Kind) (at : ℕ) (used : List ℕ) (ls : List (Option Line)) (out : ReadOutcome)
-      → checked k at used ls out ≡ accepted T R W → out ≡ accepted T R W
+  pub checked-out : (u : Tender) (at : ℕ) (used : List ℕ) (ls : List (Option Line)) (out : ReadOutcome)
+      → checked u at used ls out ≡ accepted T R W → out ≡ accepted T R W
   unfolding checked
-  checked-out k at used [] out e = e
-  checked-out k at used (none ∷ ls) out e = never e
-  checked-out k at used (some (tender t) ∷ ls) out e = never e
-  checked-out k at used (some (reserve p) ∷ ls) out e = never e
-  checked-out k at used (some (bid b) ∷ ls) out e =
-      checked-out k (at + 1) (used ++ b .bidder ∷ []) ls out
-      (judged-out (bidFault k used b) at (checked k (at + 1) (used ++ b .bidder ∷ []) ls out) e .1)
+  checked-out u at used [] out e = e
+  checked-out u at used (none ∷ ls) out e = never e
+  checked-out u at used (some (tender t) ∷ ls) out e = never e
+  checked-out u at used (some (reserve p) ∷ ls) out e = never e
+  checked-out u at used (some (bid b) ∷ ls) out e =
+      checked-out u (at + 1) (used ++ b .bidder ∷ []) ls out
+      (judged-out (bidFault u used b) at (checked u (at + 1) (used ++ b .bidder ∷ []) ls out) e .1)
 
   -- every line is a bid
-  pub checked-bids : (k : Kind) (at : ℕ) (used : List ℕ) (ls : List (Option Line)) (out : ReadOutcome)
-      → checked k at used ls out ≡ accepted T R W → ls ≡ map (λ b. some (bid b)) (bidsOf ls)
+  pub checked-bids : (u : Tender) (at : ℕ) (used : List ℕ) (ls : List (Option Line)) (out : ReadOutcome)
+      → checked u at used ls out ≡ accepted T R W → ls ≡ map (λ b. some (bid b)) (bidsOf ls)
   unfolding checked bidsOf
-  checked-bids k at used [] out e = refl
-  checked-bids k at used (none ∷ ls) out e = never e
-  checked-bids k at used (some (tender t) ∷ ls) out e = never e
-  checked-bids k at used (some (reserve p) ∷ ls) out e = never e
-  checked-bids k at used (some (bid b) ∷ ls) out e =
+  checked-bids u at used [] out e = refl
+  checked-bids u at used (none ∷ ls) out e = never e
+  checked-bids u at used (some (tender t) ∷ ls) out e = never e
+  checked-bids u at used (some (reserve p) ∷ ls) out e = never e
+  checked-bids u at used (some (bid b) ∷ ls) out e =
       ap {B = List (Option Line)} (λ r. some (bid b) ∷ r)
-      (checked-bids k (at + 1) (used ++ b .bidder ∷ []) ls out
-      (judged-out (bidFault k used b) at (checked k (at + 1) (used ++ b .bidder ∷ []) ls out) e .1))
+      (checked-bids u (at + 1) (used ++ b .bidder ∷ []) ls out
+      (judged-out (bidFault u used b) at (checked u (at + 1) (used ++ b .bidder ∷ []) ls out) e .1))

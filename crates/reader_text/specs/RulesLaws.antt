@@ -144,24 +144,24 @@ cond-none : (t : Bool) (n : ℕ → Refusal) (x : Option (ℕ → Refusal)) → 
 cond-none true n x e = let z : _≡_ {A = ℕ} 0 1 = cc in absurd (omega arith)
 cond-none false n x e = (refl, e)
 
-pub record Passed (k : Kind) (bids bidder price count : ℕ) (empty late used : Bool) : Type 0 where
+pub record Passed (t : Tender) (bids bidder price count : ℕ) (empty late used : Bool) : Type 0 where
   pub few-bids : bids < 1000
   pub few-windows : count ≤ 32
   pub bidder-low : 1 ≤ bidder
   pub bidder-high : bidder ≤ 999999
   pub price-high : price ≤ 100000000
-  pub one-window : k ≡ Single → count ≤ 1
+  pub one-window : t .kind ≡ Single → count ≤ 1
   pub not-empty : empty ≡ false
   pub not-late : late ≡ false
   pub bidder-new : used ≡ false
 
-pub passed : (k : Kind) (bids bidder price count : ℕ) (empty late used : Bool)
-    → bidFaultIn k bids bidder price count empty late used ≡ none → Passed k bids bidder price count empty late used
+pub passed : (t : Tender) (bids bidder price count : ℕ) (empty late used : Bool)
+    → bidFaultIn t bids bidder price count empty late used ≡ none → Passed t bids bidder price count empty late used
 unfolding bidFaultIn lineFault within
-passed k bids bidder price count empty late used e =
+passed t bids bidder price count empty late used e =
     let c4 = cond-none (leb 1000 bids || ltb 32 count) TooMany _ e in
     let c3 = cond-none (not (within 1 999999 bidder) || ltb 100000000 price) OutsideLimits _ (c4 .1) in
-    let c7 = cond-none (isSingle k && ltb 1 count) SeveralWindows _ (c3 .1) in
+    let c7 = cond-none (isSingle (t .kind) && ltb 1 count) SeveralWindows _ (c3 .1) in
     let c5 = cond-none empty EmptyWindow _ (c7 .1) in
     let c15 = cond-none late LateWindow _ (c5 .1) in
     let c6 = cond-none used BidderRepeated _ (c15 .1) in
@@ -174,7 +174,7 @@ passed k bids bidder price count empty late used e =
       bidder-low = leb-true 1 bidder (w .0);
       bidder-high = leb-true bidder 999999 (w .1);
       price-high = ltb-false 100000000 price (f3 .1);
-      one-window = one k (c7 .0);
+      one-window = one (t .kind) (c7 .0);
       not-empty = c5 .0;
       not-late = c15 .0;
       bidder-new = c6 .0;
@@ -184,22 +184,22 @@ passed k bids bidder price count empty late used e =
     one Single h q = ltb-false 1 count h
     one Multi h q = let z : _≡_ {A = ℕ} 0 1 = cc in absurd (omega arith)
 
-abbrev pub FaultlessAfter : Kind → ℕ → BidLine → Bool → Type 0
-FaultlessAfter k bids b used = Passed k bids (b .bidder) (b .price) (length (b .windows)) (not (every ordered (b .windows)))
+abbrev pub FaultlessAfter : Tender → ℕ → BidLine → Bool → Type 0
+FaultlessAfter t bids b used = Passed t bids (b .bidder) (b .price) (length (b .windows)) (not (every ordered (b .windows)))
     (not (every early (b .windows))) used
 
-pub faultless-after : (k : Kind) (bids : ℕ) (b : BidLine) (used : Bool) → bidFaultAfter k bids b used ≡ none
-    → FaultlessAfter k bids b used
+pub faultless-after : (t : Tender) (bids : ℕ) (b : BidLine) (used : Bool) → bidFaultAfter t bids b used ≡ none
+    → FaultlessAfter t bids b used
 unfolding bidFaultAfter
-faultless-after k bids b used e = passed k bids (b .bidder) (b .price) (length (b .windows)) (not (every ordered (b .windows)))
+faultless-after t bids b used e = passed t bids (b .bidder) (b .price) (length (b .windows)) (not (every ordered (b .windows)))
     (not (every early (b .windows))) used e
 
-abbrev pub FaultlessBid : Kind → List ℕ → BidLine → Type 0
-FaultlessBid k used b = FaultlessAfter k (length used) b (among (b .bidder) used)
+abbrev pub FaultlessBid : Tender → List ℕ → BidLine → Type 0
+FaultlessBid t used b = FaultlessAfter t (length used) b (among (b .bidder) used)
 
-pub faultless-bid : (k : Kind) (used : List ℕ) (b : BidLine) → bidFault k used b ≡ none → FaultlessBid k used b
+pub faultless-bid : (t : Tender) (used : List ℕ) (b : BidLine) → bidFault t used b ≡ none → FaultlessBid t used b
 unfolding bidFault
-faultless-bid k used b e = faultless-after k (length used) b (among (b .bidder) used) e
+faultless-bid t used b e = faultless-after t (length used) b (among (b .bidder) used) e
 
 -- the windows of a bid before those of others
 windows-rules : (ws us : List Window) → every lawful ws ≡ true → WindowsRules us → WindowsRules (ws ++ us)
@@ -213,10 +213,10 @@ record Sound (k : Kind) (used : List ℕ) (at : ℕ) (bs : List BidLine) : Type 
   rows : RowsRules k used at (rowsFrom at bs) (at + length (allWindows bs))
   windows : WindowsRules (allWindows bs)
 
-more : (k : Kind) (used : List ℕ) (at : ℕ) (b : BidLine) (bs : List BidLine) → 1 ≤ length (b .windows) → FaultlessBid k used b
-    → Sound k (used ++ b .bidder ∷ []) (at + length (b .windows)) bs → Sound k used at (b ∷ bs)
+more : (t : Tender) (used : List ℕ) (at : ℕ) (b : BidLine) (bs : List BidLine) → 1 ≤ length (b .windows) → FaultlessBid t used b
+    → Sound (t .kind) (used ++ b .bidder ∷ []) (at + length (b .windows)) bs → Sound (t .kind) used at (b ∷ bs)
 unfolding rowsFrom allWindows
-more k used at b bs l h s =
+more t used at b bs l h s =
     let e : at + length (b .windows ++ allWindows bs) ≡ at + length (b .windows) + length (allWindows bs) =
     simp length-append (omega arith) in
     let f = h .few-bids in
@@ -247,17 +247,17 @@ rowsFrom-length at [] = refl
 rowsFrom-length at (b ∷ bs) = ap suc (rowsFrom-length (at + length (b .windows)) bs)
 
 module _ (T : Tender) (R : List Row) (W : List Window) where
-  sound : (k : Kind) (n : ℕ) (used : List ℕ) (at : ℕ) (ls : List (Option Line)) (out : ReadOutcome) → AllFilled ls
-      → checked k n used ls out ≡ accepted T R W → Sound k used at (bidsOf ls)
+  sound : (u : Tender) (n : ℕ) (used : List ℕ) (at : ℕ) (ls : List (Option Line)) (out : ReadOutcome) → AllFilled ls
+      → checked u n used ls out ≡ accepted T R W → Sound (u .kind) used at (bidsOf ls)
   unfolding checked bidsOf rowsFrom allWindows
-  sound k n used at [] out a e = record { few-bids = λ u. omega arith; rows = omega arith; windows = tt }
-  sound k n used at (none ∷ ls) out a e = never e
-  sound k n used at (some (tender t) ∷ ls) out a e = never e
-  sound k n used at (some (reserve p) ∷ ls) out a e = never e
-  sound k n used at (some (bid b) ∷ ls) out a e =
-      let j = judged-out T R W (bidFault k used b) n (checked k (n + 1) (used ++ b .bidder ∷ []) ls out) e in
-      more k used at b (bidsOf ls) (a .0) (faultless-bid k used b (j .0))
-      (sound k (n + 1) (used ++ b .bidder ∷ []) (at + length (b .windows)) ls out (a .1) (j .1))
+  sound u n used at [] out a e = record { few-bids = λ h. omega arith; rows = omega arith; windows = tt }
+  sound u n used at (none ∷ ls) out a e = never e
+  sound u n used at (some (tender t) ∷ ls) out a e = never e
+  sound u n used at (some (reserve p) ∷ ls) out a e = never e
+  sound u n used at (some (bid b) ∷ ls) out a e =
+      let j = judged-out T R W (bidFault u used b) n (checked u (n + 1) (used ++ b .bidder ∷ []) ls out) e in
+      more u used at b (bidsOf ls) (a .0) (faultless-bid u used b (j .0))
+      (sound u (n + 1) (used ++ b .bidder ∷ []) (at + length (b .windows)) ls out (a .1) (j .1))
 
   by-bids : (bs : List BidLine) → soundTender T ≡ true → Sound (T .kind) [] 0 bs → R ≡ rowsFrom 0 bs → W ≡ allWindows bs
       → Rules T R W
@@ -276,5 +276,5 @@ module _ (T : Tender) (R : List Row) (W : List Window) where
       let i = head-is ls T (g .from) (g .rest) (g .head) in
       let a : AllFilled (map (λ l. some l) (headLines T) ++ g .rest) = rw (i .lines) at (lines-filled (cut 10 text)) in
       let f = filled-after (map (λ l. some l) (headLines T)) (g .rest) a in
-      by-bids (bidsOf (g .rest)) (i .sound) (sound (T .kind) (g .from) [] 0 (g .rest) (tables T (bidsOf (g .rest))) f (g .sound))
+      by-bids (bidsOf (g .rest)) (i .sound) (sound T (g .from) [] 0 (g .rest) (tables T (bidsOf (g .rest))) f (g .sound))
       (g .rows) (g .windows)

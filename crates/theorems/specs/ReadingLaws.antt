@@ -196,7 +196,7 @@ tender-verdict t = verdict at-start (some (tender t)) false false false (not (or
     (λ h. h) (λ h. h) (λ h. h) (λ h. h) (λ h. h) (no-minute (asWindow (t .window))) (past-week (asWindow (t .window))) (λ h. h)
 
 bid-verdict : (t : Tender) (done : List BidLine) (b : BidLine) →
-    Verdict (after t done) (some (bid b)) (bidFault (t .kind) (map (λ b. b .bidder) done) b)
+    Verdict (after t done) (some (bid b)) (bidFault t (map (λ b. b .bidder) done) b)
 unfolding bidFault bidFaultAfter bidFaultIn
 bid-verdict t done b = rw (length-map done (λ b. b .bidder))
     (verdict (after t done) (some (bid b)) (leb 1000 (length done) || ltb 32 (length (b .windows)))
@@ -253,7 +253,7 @@ not-empty done b e = absurd (omega (arith, ap length e, length-append done (b �
 
 walked : (t : Tender) (from : ℕ) (done : List BidLine) (ls : List (Option Line)) (out : ReadOutcome) (at : ℕ)
     → at ≡ from + length done → (t .reserve ≡ Absent → done ≡ [] → Unreserved ls)
-    → Walked t from done ls out (checked (t .kind) at (map (λ b. b .bidder) done) ls out)
+    → Walked t from done ls out (checked t at (map (λ b. b .bidder) done) ls out)
 unfolding checked judgedBy
 walked t from done [] out at e u = all-sound [] refl tt refl
 walked t from done (none ∷ ls) out at e u =
@@ -264,7 +264,7 @@ walked t from done (some (reserve p) ∷ ls) out at e u =
 walked t from done (some (tender v) ∷ ls) out at e u =
     stops [] (some (tender v)) ls of-form refl tt (inl (refl, refl)) (ap (λ n. refused (BadForm n)) (omega arith))
 walked t from done (some (bid b) ∷ ls) out at e u =
-    go (bidFault (t .kind) (map (λ b. b .bidder) done) b) (bid-verdict t done b)
+    go (bidFault t (map (λ b. b .bidder) done) b) (bid-verdict t done b)
     (rw (bidders-after done b) at (walked t from (done ++ b ∷ []) ls out (at + 1) (omega (arith, length-append done (b ∷ [])))
     (λ r x. not-empty done b x)))
   where
@@ -277,9 +277,9 @@ walked t from done (some (bid b) ∷ ls) out at e u =
         (q ∙ ap (λ n. refused (refusalOf f n)) (let m = length-append done (b ∷ []) in omega (arith, m)))
 
     go : (o : Option (ℕ → Refusal)) → Verdict (after t done) (some (bid b)) o
-        → Walked t from (done ++ b ∷ []) ls out (checked (t .kind) (at + 1) (map (λ b. b .bidder) done ++ b .bidder ∷ []) ls out) →
+        → Walked t from (done ++ b ∷ []) ls out (checked t (at + 1) (map (λ b. b .bidder) done ++ b .bidder ∷ []) ls out) →
         Walked t from done (some (bid b) ∷ ls) out
-        (judgedBy refused o at (checked (t .kind) (at + 1) (map (λ b. b .bidder) done ++ b .bidder ∷ []) ls out))
+        (judgedBy refused o at (checked t (at + 1) (map (λ b. b .bidder) done ++ b .bidder ∷ []) ls out))
     go o (clean v q) w = rw q (more _ v w)
     go o (stopped-by f h q) w =
         rw q (stops [] (some (bid b)) ls f refl tt (rw (append-nil done) h) (ap (λ n. refused (refusalOf f n)) (omega arith)))
@@ -333,7 +333,7 @@ module _ (text : List ℕ) (short : length text ≤ 65536) where
   after-head : (T : Tender) (ls : List (Option Line)) → linesIn text ≡ map (λ l. some l) (headLines T) ++ ls
       → NoFault at-start (some (tender (tenderLine T))) → SoundReserve (tenderLine T) (T .reserve)
       → (T .reserve ≡ Absent → Unreserved ls) → (from : ℕ) → from ≡ length (headLines T) + 1
-      → TextRead text (checked (T .kind) from [] ls (tables T (bidsOf ls)))
+      → TextRead text (checked T from [] ls (tables T (bidsOf ls)))
   unfolding tables
   after-head T ls e u v w from n =
       go (walked T from [] ls (tables T (bidsOf ls)) from (omega arith) (λ a x. w a))
@@ -513,38 +513,38 @@ module _ (r : ReadRun) where
 -- and back: what stands before and on a line says what the text is refused with, or that it is accepted
 
 skips : (t : Tender) (done bs : List BidLine) (ls : List (Option Line)) (out : ReadOutcome) (at : ℕ) → SoundBids t done bs →
-    checked (t .kind) at (map (λ b. b .bidder) done) (map (λ b. some (bid b)) bs ++ ls) out
-    ≡ checked (t .kind) (at + length bs) (map (λ b. b .bidder) (done ++ bs)) ls out
+    checked t at (map (λ b. b .bidder) done) (map (λ b. some (bid b)) bs ++ ls) out
+    ≡ checked t (at + length bs) (map (λ b. b .bidder) (done ++ bs)) ls out
 unfolding checked judgedBy
 skips t done [] ls out at s =
     let e : at ≡ at + 0 = omega arith in
-    ap (λ n. checked (t .kind) n (map (λ b. b .bidder) done) ls out) e
-    ∙ ap (λ ds. checked (t .kind) (at + 0) (map (λ b. b .bidder) ds) ls out) (sym (append-nil done))
+    ap (λ n. checked t n (map (λ b. b .bidder) done) ls out) e
+    ∙ ap (λ ds. checked t (at + 0) (map (λ b. b .bidder) ds) ls out) (sym (append-nil done))
 skips t done (b ∷ bs) ls out at (v, s) =
-    passes (after t done) (some (bid b)) (bidFault (t .kind) (map (λ b. b .bidder) done) b) at rest v (bid-verdict t done b)
+    passes (after t done) (some (bid b)) (bidFault t (map (λ b. b .bidder) done) b) at rest v (bid-verdict t done b)
     ∙ step (skips t (done ++ b ∷ []) bs ls out (at + 1) s)
   where
     rest : ReadOutcome
-    rest = checked (t .kind) (at + 1) (map (λ b. b .bidder) done ++ b .bidder ∷ []) (map (λ b. some (bid b)) bs ++ ls) out
+    rest = checked t (at + 1) (map (λ b. b .bidder) done ++ b .bidder ∷ []) (map (λ b. some (bid b)) bs ++ ls) out
 
     end : ReadOutcome
-    end = checked (t .kind) (at + length (b ∷ bs)) (map (λ b. b .bidder) (done ++ b ∷ bs)) ls out
+    end = checked t (at + length (b ∷ bs)) (map (λ b. b .bidder) (done ++ b ∷ bs)) ls out
 
     mid : ReadOutcome
-    mid = checked (t .kind) (at + 1 + length bs) (map (λ b. b .bidder) ((done ++ b ∷ []) ++ bs)) ls out
+    mid = checked t (at + 1 + length bs) (map (λ b. b .bidder) ((done ++ b ∷ []) ++ bs)) ls out
 
-    step : checked (t .kind) (at + 1) (map (λ b. b .bidder) (done ++ b ∷ [])) (map (λ b. some (bid b)) bs ++ ls) out ≡ mid
+    step : checked t (at + 1) (map (λ b. b .bidder) (done ++ b ∷ [])) (map (λ b. some (bid b)) bs ++ ls) out ≡ mid
         → rest ≡ end
     step ih =
         let e : at + 1 + length bs ≡ at + length (b ∷ bs) = omega arith in
-        ap (λ us. checked (t .kind) (at + 1) us (map (λ b. some (bid b)) bs ++ ls) out) (sym (bidders-after done b))
+        ap (λ us. checked t (at + 1) us (map (λ b. some (bid b)) bs ++ ls) out) (sym (bidders-after done b))
         ∙ ih
-        ∙ ap (λ n. checked (t .kind) n (map (λ b. b .bidder) ((done ++ b ∷ []) ++ bs)) ls out) e
-        ∙ ap (λ ds. checked (t .kind) (at + length (b ∷ bs)) (map (λ b. b .bidder) ds) ls out) (append-assoc done (b ∷ []) bs)
+        ∙ ap (λ n. checked t n (map (λ b. b .bidder) ((done ++ b ∷ []) ++ bs)) ls out) e
+        ∙ ap (λ ds. checked t (at + length (b ∷ bs)) (map (λ b. b .bidder) ds) ls out) (append-assoc done (b ∷ []) bs)
 
 at-fault : (t : Tender) (done : List BidLine) (x : Option Line) (ls : List (Option Line)) (out : ReadOutcome) (at : ℕ) (f : LineFault)
     → FirstAmong pageOrder f (after t done) x → (t .reserve ≡ Absent → done ≡ [] → Unreserved (x ∷ ls))
-    → checked (t .kind) at (map (λ b. b .bidder) done) (x ∷ ls) out ≡ refused (refusalOf f at)
+    → checked t at (map (λ b. b .bidder) done) (x ∷ ls) out ≡ refused (refusalOf f at)
 unfolding checked judgedBy
 at-fault t done none ls out at f h u = let e = first-stands pageOrder f (after t done) none h in
     ap (λ g. refused (refusalOf g at)) (sym e)
@@ -555,7 +555,7 @@ at-fault t done (some (reserve p)) ls out at f h u =
     ap (λ g. refused (refusalOf g at))
     (one-first pageOrder of-place f (after t done) (some (reserve p)) (first-misplaced t done p u) h)
 at-fault t done (some (bid b)) ls out at f h u =
-    tells (after t done) (some (bid b)) (bidFault (t .kind) (map (λ b. b .bidder) done) b) at _ f h (bid-verdict t done b)
+    tells (after t done) (some (bid b)) (bidFault t (map (λ b. b .bidder) done) b) at _ f h (bid-verdict t done b)
 
 short-text : (text : List ℕ) → length text ≤ 65536 → readText text ≡ readLines (linesIn text)
 unfolding readText
@@ -584,7 +584,7 @@ lawful-reserve t (Price p) s = go (leb p 100000000) refl
 -- a faultless head is followed by the bids
 head-first : (T : Tender) (ls : List (Option Line)) → NoFault at-start (some (tender (tenderLine T)))
     → SoundReserve (tenderLine T) (T .reserve) → (T .reserve ≡ Absent → Unreserved ls)
-    → readLines (map (λ l. some l) (headLines T) ++ ls) ≡ checked (T .kind) (length (headLines T) + 1) [] ls (tables T (bidsOf ls))
+    → readLines (map (λ l. some l) (headLines T) ++ ls) ≡ checked T (length (headLines T) + 1) [] ls (tables T (bidsOf ls))
 head-first T ls u v w = lines-begun (map (λ l. some l) (headLines T) ++ ls) T (length (headLines T) + 1) ls
     (head-of T ls (faultless-sound (tenderLine T) (T .reserve) (faultless (tenderLine T) u)
     (lawful-reserve (tenderLine T) (T .reserve) v)) w)
@@ -665,7 +665,7 @@ line-refused text l f h = short-text text (l .short) ∙ ap readLines (l .lines)
             ∙ ap (λ n. refused (refusalOf f n)) e
 
 through : (t : Tender) (from : ℕ) (bs : List BidLine) (out : ReadOutcome) → SoundBids t [] bs
-    → checked (t .kind) from [] (map (λ b. some (bid b)) bs ++ []) out ≡ out
+    → checked t from [] (map (λ b. some (bid b)) bs ++ []) out ≡ out
 unfolding checked
 through t from bs out s = skips t [] bs [] out from s
 
@@ -678,7 +678,7 @@ text-accepted text t R W h =
     let n = length (headLines t) + 1 in
     short-text text (h .short) ∙ ap readLines (h .lines)
     ∙ head-first t ls (h .sound .0) (h .sound .1 .0) (λ a. bids-unreserved bs)
-    ∙ ap (λ l. checked (t .kind) n [] l (tables t (bidsOf ls))) (sym (append-nil ls))
+    ∙ ap (λ l. checked t n [] l (tables t (bidsOf ls))) (sym (append-nil ls))
     ∙ through t n bs (tables t (bidsOf ls)) (h .sound .1 .1)
     ∙ ap (tables t) (bids-of bs) ∙ ap (λ x. accepted t x (allWindows bs)) (sym (h .rows)) ∙ ap (accepted t R) (sym (h .windows))
 

@@ -68,29 +68,29 @@ unfolding mostWindows isSingle
 single-one Single n l = le-ltb 1 n l
 single-one Multi n l = refl
 
-no-fault : (k : Kind) (bids bidder price count : ℕ) (empty late used : Bool) → bids < 1000 → count ≤ mostWindows k → 1 ≤ bidder
+no-fault : (t : Tender) (bids bidder price count : ℕ) (empty late used : Bool) → bids < 1000 → count ≤ mostWindows (t .kind) → 1 ≤ bidder
     → bidder ≤ 999999 → price ≤ 100000000 → empty ≡ false → late ≡ false → used ≡ false →
-    bidFaultIn k bids bidder price count empty late used ≡ none
+    bidFaultIn t bids bidder price count empty late used ≡ none
 unfolding bidFaultIn lineFault within
-no-fault k bids bidder price count empty late used a b c d e f g h = rw (
+no-fault t bids bidder price count empty late used a b c d e f g h = rw (
   lt-leb 1000 bids a,
-  le-ltb 32 count (omega (arith, most-few k)),
+  le-ltb 32 count (omega (arith, most-few (t .kind))),
   le-leb 1 bidder c,
   le-leb bidder 999999 d,
   le-ltb 100000000 price e,
-  single-one k count b,
+  single-one (t .kind) count b,
   f,
   g,
   h,
 )
 
 row-read : (t : Tender) (windows : List ℕ) (place : ℕ) (used : List ℕ) (r : Row) → RowSays t windows place used r
-    → place ≡ length used + 1 → bidFault (t .kind) used (respelt (bidIn windows r)) ≡ none
+    → place ≡ length used + 1 → bidFault t used (respelt (bidIn windows r)) ≡ none
 unfolding bidFault bidFaultAfter respelt bidIn
 row-read t windows place used r s p =
     let ws = joined (own windows r) in
     let h = lawful-every ws (joined-lawful (own windows r)) in
-    no-fault (t .kind) (length used) (r .bidder) (r .price) (length ws) (not (every ordered ws)) (not (every early ws))
+    no-fault t (length used) (r .bidder) (r .price) (length ws) (not (every ordered ws)) (not (every early ws))
     (among (r .bidder) used) (omega (arith, s .place-low)) (joined-count t windows place used r s) (s .bidder-low) (s .bidder-high) (s .price-high)
     (ap not (h .0)) (ap not (h .1)) (s .bidder-new)
 
@@ -107,12 +107,12 @@ rows-told t windows place used at (r ∷ rs) e =
 -- no line of the rows' bids is faulty
 pub rows-checked : (t : Tender) (windows : List ℕ) (place : ℕ) (used : List ℕ) (at line : ℕ) (rs : List Row) (out : ReadOutcome)
     → rowFault t windows place used at rs ≡ none → place ≡ length used + 1 →
-    checked (t .kind) line used (asLines (respeltIn windows rs)) out ≡ out
+    checked t line used (asLines (respeltIn windows rs)) out ≡ out
 unfolding checked asLines judgedBy respeltIn respelt bidIn
 rows-checked t windows place used at line [] out e p = refl
 rows-checked t windows place used at line (r ∷ rs) out e p =
     let s = split-fault t windows place used at r rs e in
-    let later = checked (t .kind) (line + 1) (used ++ r .bidder ∷ []) (asLines (respeltIn windows rs)) out in
+    let later = checked t (line + 1) (used ++ r .bidder ∷ []) (asLines (respeltIn windows rs)) out in
     ap (λ f. judgedBy refused f line later) (row-read t windows place used r (s .0) p)
     ∙ rows-checked t windows (place + 1) (used ++ r .bidder ∷ []) (at + r .count) (line + 1) rs out (s .1)
     (omega (arith, length-append used (r .bidder ∷ [])))

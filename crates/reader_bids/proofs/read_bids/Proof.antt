@@ -13,13 +13,13 @@ use Rattle.reader_bids.proofs.read_bids.Statement.{statement}
 use Rattle.reader_bids.proofs.read_bids.Tie as tie
 
 abbrev Inv-loop : tie.InvT-loop
-Inv-loop text at from kind used₀ rows₀ windows₀ k₀ m₀ i₀ line₀ used rows windows k m i line =
-    Walk kind from (linesOf (cut 10 (drop at text))) (linesOf (cut 10 (drop i text))) line k m used rows windows × (i ≤ length text)
+Inv-loop text at from tender used₀ rows₀ windows₀ k₀ m₀ i₀ line₀ used rows windows k m i line =
+    Walk tender from (linesOf (cut 10 (drop at text))) (linesOf (cut 10 (drop i text))) line k m used rows windows × (i ≤ length text)
     × (length used ≡ length used₀) × (length rows ≡ length rows₀) × (length windows ≡ length windows₀) × (6 * m ≤ i)
     × (length text ≤ 65536) × (from ≤ 65536)
 
 abbrev μ-loop : tie.MeasureT-loop
-μ-loop text at from kind used₀ rows₀ windows₀ k₀ m₀ i₀ line₀ used rows windows k m i line = length text - i
+μ-loop text at from tender used₀ rows₀ windows₀ k₀ m₀ i₀ line₀ used rows windows k m i line = length text - i
 
 loop-holds : tie.Need-loop-holds Inv-loop μ-loop
 loop-holds c =
