@@ -50,7 +50,7 @@ use Rattle.writer.specs.declared.Writing.the-variants.{Written, Refused}
 use Rattle.writer_back.specs.Same.{Same, ReadBack}
 use Rattle.theorems.specs.Calls.{ReadRun, ReadCall, AwardCall, auctionBy, toldBy, SettleCall, toldPlain, ListCall, shown}
 use Rattle.theorems.specs.Calls.{WriteCall, RewriteCall, rewritten}
-use Rattle.theorems.specs.OneReading.{OneReading, OfText, SameReading}
+use Rattle.theorems.specs.OneReading.{OneReading, OfText}
 use Rattle.theorems.specs.ListRead.{rowShown}
 use Rattle.theorems.specs.Between.{BidsAlone, Exactly, CallableWith, FewerThan, ForCover, priceAt, WasRead, Variant, Follows, SameAward}
 use Rattle.theorems.specs.Between.{NoGainBetween, OneList}
@@ -79,7 +79,7 @@ one-answer-to-a-text r = reading.one-reading (r .run) (r .kept)
 -- It leaves nothing open: whatever answer and tables it holds of, for this text and the tables lent, are those of the call. So no two
 -- of its cases hold together.
 pub no-other-answer : (r : ReadCall) (x : ReadRun) → OneReading x → x .text ≡ r .run .text → x .bids ≡ r .run .bids
-    → x .windows ≡ r .run .windows → SameReading x (r .run)
+    → x .windows ≡ r .run .windows → x ≡ r .run
 no-other-answer r x h = reading.one-case x (r .run) (reading.reading-kept x h) (r .kept)
 
 -- Tables give one award or one refusal.

@@ -196,9 +196,3 @@ pub data OneReading (r : ReadRun) : Type 0 where
 -- the numbers that reading a text may be declined with, whatever the lent tables
 abbrev pub OfText : ℕ → Type 0
 OfText n = ((1 ≤ n) × (n ≤ 7)) ⊎ ((15 ≤ n) × (n ≤ 16))
-
--- two calls answered the same and left the same
-pub record SameReading (x y : ReadRun) : Type 0 where
-  pub answers : x .answer ≡ y .answer
-  pub bids-same : x .bids-after ≡ y .bids-after
-  pub windows-same : x .windows-after ≡ y .windows-after

@@ -30,6 +30,7 @@ use Rattle.reader_text.specs.Read.{Unreserved, afterHead, readLines, readText, 
 use Rattle.reader_text.specs.FaultLaws.{faultless-sound}
 use Rattle.reader_text.specs.HeadLaws.{lines-halted, lines-begun, no-line, broken-first, bid-first, reserve-first, tender-read}
 use Rattle.reader_text.specs.HeadLaws.{bids-unreserved, tender-faultless, reserve-absent, reserve-taken, reserve-high, head-of}
+use Rattle.reader.specs.declared.Reading.{Reading}
 use Rattle.reader.specs.Answer.{readAnswer, bidsAfter, windowsAfter}
 use Rattle.theorems.specs.Calls.{ReadRun, ReadKept}
 use Rattle.theorems.specs.OneReading.{orBroken, linesIn, Above, at-start, after, linesAbove, LineFault, of-form, of-place}
@@ -38,7 +39,7 @@ use Rattle.theorems.specs.OneReading.{NoMinute, PastWeek, SomeOf, OnRese
 use Rattle.theorems.specs.OneReading.{FirstAmong, NoFault, SoundBids, SoundReserve, SoundLines, LineOf, placeIn}
 use Rattle.theorems.specs.OneReading.{FirstOn, Readable, Declines, Fills, OneReading, text-too-long, bad-form, reserve-misplaced, too-many}
 use Rattle.theorems.specs.OneReading.{outside-limits, several-windows, empty-window, late-window, bidder-repeated}
-use Rattle.theorems.specs.OneReading.{table-too-short, tables-filled, SameReading}
+use Rattle.theorems.specs.OneReading.{table-too-short, tables-filled}
 
 -- a test says whether a fact holds
 
@@ -745,10 +746,18 @@ module _ (r : ReadRun) where
   reading-kept (tables-filled t R W d s x) = filled-kept t R W (text-accepted (r .text) t R W d) s x
 
 -- the contract leaves no choice
+
+run : List ℕ → List ℕ → List ℕ → List ℕ → List ℕ → Reading → ReadRun
+run t b w b′ w′ a = record { text = t; bids = b; windows = w; bids-after = b′; windows-after = w′; answer = a }
+
+by-parts : (x y : ReadRun) → x .text ≡ y .text → x .bids ≡ y .bids → x .windows ≡ y .windows → x .bids-after ≡ y .bids-after
+    → x .windows-after ≡ y .windows-after → x .answer ≡ y .answer
+    → run (x .text) (x .bids) (x .windows) (x .bids-after) (x .windows-after) (x .answer)
+    ≡ run (y .text) (y .bids) (y .windows) (y .bids-after) (y .windows-after) (y .answer)
+by-parts x y e f g b w a = cc
+
 pub one-case : (x y : ReadRun) → ReadKept x → ReadKept y → x .text ≡ y .text → x .bids ≡ y .bids → x .windows ≡ y .windows
-    → SameReading x y
-one-case x y h k e f g = record {
-  answers = h .answers ∙ rw (e, f, g) (sym (k .answers));
-  bids-same = h .rows ∙ rw (e, f, g) (sym (k .rows));
-  windows-same = h .own ∙ rw (e, f, g) (sym (k .own));
-}
+    → x ≡ y
+unfolding run
+one-case x y h k e f g = by-parts x y e f g (h .rows ∙ rw (e, f, g) (sym (k .rows))) (h .own ∙ rw (e, f, g) (sym (k .own)))
+    (h .answers ∙ rw (e, f, g) (sym (k .answers)))
