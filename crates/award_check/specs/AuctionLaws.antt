@@ -158,8 +158,10 @@ module _ (t : Tender) (n : ℕ) (bids windows : List ℕ) where
       ∙ whole (ltb x (cellsOf t)) refl
     where
       whole : (b : Bool) → ltb x (cellsOf t) ≡ b → (b && holds (asWindow (t .window) ∷ []) (minuteOf t x)) ≡ b
-      whole true u = rw (le-leb (t .window .start) (t .window .start + x) (omega arith),
-          lt-ltb (t .window .start + x) (t .window .end) (omega (arith, ltb-true x (t .window .end - t .window .start) u)))
+      whole true u = rw (
+        le-leb (t .window .start) (t .window .start + x) (omega arith),
+        lt-ltb (t .window .start + x) (t .window .end) (omega (arith, ltb-true x (t .window .end - t .window .start) u)),
+      )
       whole false u = refl
 
   -- past the last entry there are no cells

@@ -214,6 +214,7 @@ masks-ready t n w bids windows ps ms qs xs a b c p m = record {
   priced = λ i l. written-at n ps qs (p .count) i l ∙ p .prices-are i l;
   masked = masked-before t n w bids windows xs (drop (w * n) ms) c m;
 }
+
 module _ (t : Tender) (n w : ℕ) (bids windows ps ms : List ℕ) (r : MasksReady t n w bids windows ps ms) where
   pub masks-owners : t .reserve ≡ Absent → (thin : Thin) → Says (has ms w) n (cellsOf t) thin
       → LaidMasks t n w bids windows ps ms thin

@@ -51,7 +51,13 @@ pub fn lay_spans(
     let cells = award_layout::cells(tender);
     let reserve = tender.reserve;
     award_layout::prices(bids, &mut prices[..count]);
-    award_layout::spans(tender, bids, windows, &mut starts[..count], &mut ends[..count]);
+    award_layout::spans(
+        tender,
+        bids,
+        windows,
+        &mut starts[..count],
+        &mut ends[..count],
+    );
     match reserve {
         Reserve::Absent => award_thin::thin_spans(starts, ends, cells as usize),
         Reserve::Price(price) => {

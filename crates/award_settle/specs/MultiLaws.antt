@@ -72,8 +72,11 @@ prices-lawful k t n bids windows f =
       leb-true (getD bids (bidWidth * i + 1) 0) 100000000 (orderly k t n bids windows f .kept i l .price),
     )
     go i (house p e q) = rw q (omega (arith, house-price t n bids windows p e, reserve-within k t n bids windows f p e))
-    go i (past l) = omega (arith, List·getD-eq-default (auctionOf t n bids windows .prices) 0 {n = i}
-        (omega (arith, entries t n bids windows)))
+    go i (past l) = omega (
+      arith,
+      List·getD-eq-default (auctionOf t n bids windows .prices) 0 {n = i}
+          (omega (arith, entries t n bids windows)),
+    )
 
 module _ (t : Tender) (n w : ℕ) (bids windows ps ms : List ℕ) (thin : Thin) (f : faultOf Multi t n bids windows ≡ none)
     (l : LaidMasks t n w bids windows ps ms thin) where

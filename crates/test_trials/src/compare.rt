@@ -7,9 +7,9 @@ use tender::Answer;
 use tender::Kind;
 use tender::Refusal;
 use tender::Reserve;
+use tender::Span;
 use tender::Tender;
 use tender::Totals;
-use tender::Window;
 
 // What was tried by kind; how many tenders had a reserve, in how many awards the house is booked, and owners are paid beside it; how
 // many false prices were named; and how many answers disagree.
@@ -140,7 +140,7 @@ fn reserve_of(lot: Lot) -> Reserve {
 
 fn tender_of(lot: Lot, several: bool) -> Tender {
     let kind = kind_of(several);
-    let window = Window {
+    let window = Span {
         start: minute_of(lot, 0),
         end: minute_of(lot, lot.length),
     };

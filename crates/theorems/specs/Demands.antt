@@ -3,8 +3,8 @@
 use mathlib.Core.Path.{_≡_, sym, _∙_}
 use mathlib.Core.Logic.{_⊎_, inl, inr}
 use mathlib.Core.Bool.{true}
-use mathlib.Core.List.{List, _++_, map}
-use mathlib.Core.Option.{some}
+use mathlib.Core.List.{List, _∷_, _++_, map}
+use mathlib.Core.Option.{Option, some}
 use Prim.Native.Nat.{ℕ, _+_, _/_, _^_, _≤_, _<_, min}
 use lib.ListN.{length, getD, take}
 use lib.Dec.{leb}
@@ -18,9 +18,11 @@ use Rattle.tender.specs.declared.Refusal.the-variants.{BadTables}
 use Rattle.tender.specs.Refusals.{numberOf}
 use Rattle.tender.specs.Tables.{Row, rowsOf, flatRows, flatWindows, bidWidth, windowWidth}
 use Rattle.reader_word.specs.Words.{digits}
-use Rattle.reader_line.specs.Line.{BidLine, headLines}
+use Rattle.reader_line.specs.Line.{TenderLine, BidLine, Line, tender, headLines}
 use Rattle.reader_line.specs.LinePlain.{allPlain}
 use Rattle.reader_text.specs.Read.{accepted, refused, readText, readInto}
+use Rattle.reader_text.specs.Read.{judgedBy, begun, halted, tenderFault, tenderWith, Unreserved, headOf}
+use Rattle.reader_text.specs.HeadLaws.{unreserved-head}
 use Rattle.reader_text.specs.Rules.{bytesLike}
 use Rattle.reader_text.specs.RulesLaws.{rules-law}
 use Rattle.reader_text.specs.CountLaws.{lines-law, room-law}
@@ -247,7 +249,12 @@ unfolding named
 never-paid-less c i l = outcome.no-loss (c .kind) (c .tender) (c .count) i (c .bids) (c .windows) (length (c .rows-before)) (toldBy c) l
     (c .promise .answers)
 
--- Paper 5 of 02. Tenders without a reserve keep their answers: the bids alone are weighed, and lists and texts have no line more.
+-- Paper 5 of 02. Tenders without a reserve keep their answers. A text whose second line is not the reserve's is read as a tender
+-- without one, its bids from line 2 on; the bids alone are weighed, and lists and texts have no line more.
+pub read-without-a-reserve : (t : TenderLine) (ls : List (Option Line)) → Unreserved ls
+    → headOf (some (tender t) ∷ ls) ≡ judgedBy halted (tenderFault t) 1 (begun (tenderWith t Absent) 2 ls)
+read-without-a-reserve = unreserved-head
+
 pub award-without-a-reserve : (c : AwardCall) → c .tender .reserve ≡ Absent → BidsAlone c
 award-without-a-reserve = bids-alone
 

@@ -18,38 +18,40 @@ use Rattle.award_layout.proofs.prices.Reads as prices-reads
 use Rattle.award_thin.proofs.thin_masks.Reads as thin-masks-reads
 use Rattle.multi_rounds.proofs.unlock.Reads as unlock-reads
 
--- src/lib.rt:80:9
 cells-requires : tie.Need-cells-requires
-cells-requires c κs =  let A = c .before .before .before .before .args in cells-within Multi (A .tender) (A .count) (A .bids .now) (A .windows .now) (c .before .before .before .before .pre .0) .0
+cells-requires c κs =
+    let c4 = c .before .before .before .before in
+    let A = c4 .args in cells-within Multi (A .tender) (A .count) (A .bids .now) (A .windows .now) (c4 .pre .0) .0
 
--- src/lib.rt:82:15
 mul-own : tie.Need-mul-own
 mul-own c = search needs
 
--- src/lib.rt:83:32
 slice-relend-prefix-prices : tie.Need-slice-relend-prefix-prices
 slice-relend-prefix-prices c = search needs
 
--- src/lib.rt:83:32
 slice-aggregate-prices : tie.Need-slice-aggregate-prices
-slice-aggregate-prices c =  sym (front-count _ _ (c .before .before .before .before .before .before .args .prices .now) (c .before .before .before .before .before .before .pre .1 .1 .0))
+slice-aggregate-prices c =
+    let c6 = c .before .before .before .before .before .before in
+    sym (front-count _ _ (c6 .args .prices .now) (c6 .pre .1 .1 .0))
 
--- src/lib.rt:83:5
 prices-requires : tie.Need-prices-requires
-prices-requires c κs =  let A = c .before .before .before .before .before .before .args in let P = c .before .before .before .before .before .before .pre in
+prices-requires c κs =
+    let c6 = c .before .before .before .before .before .before in
+    let A = c6 .args in let P = c6 .pre in
     rw (front-count _ _ (A .prices .now) (P .1 .1 .0)) (orderly Multi (A .tender) (A .count) (A .bids .now) (A .windows .now) (P .0) .lent)
 
--- src/lib.rt:84:58
 slice-relend-prefix-masks : tie.Need-slice-relend-prefix-masks
 slice-relend-prefix-masks c = search needs
 
--- src/lib.rt:84:58
 slice-aggregate-masks : tie.Need-slice-aggregate-masks
-slice-aggregate-masks c =  sym (word-front _ _ _ (c .before .before .before .before .before .before .before .before .before .before .args .masks .now) (c .before .before .before .before .before .before .before .before .before .before .pre .1 .1 .1))
+slice-aggregate-masks c =
+    let c10 = c .before .before .before .before .before .before .before .before .before .before in
+    sym (word-front _ _ _ (c10 .args .masks .now) (c10 .pre .1 .1 .1))
 
--- src/lib.rt:84:5
 masks-requires : tie.Need-masks-requires
-masks-requires c κs =  let A = c .before .before .before .before .before .before .before .before .before .before .args in let P = c .before .before .before .before .before .before .before .before .before .before .pre in
+masks-requires c κs =
+    let c10 = c .before .before .before .before .before .before .before .before .before .before in
+    let A = c10 .args in let P = c10 .pre in
     let d = words-of Multi (A .tender) (A .count) (A .w) (A .bids .now) (A .windows .now) (P .0) (P .1 .0) in (
       orderly Multi (A .tender) (A .count) (A .bids .now) (A .windows .now) (P .0),
       (
@@ -58,100 +60,110 @@ masks-requires c κs =  let A = c .before .before .before .before .before .befor
       ),
     )
 
--- src/lib.rt:86:51
 enum-told : tie.Need-enum-told
 enum-told c = search needs
 
--- src/lib.rt:86:28
 thin-masks-requires : tie.Need-thin-masks-requires
-thin-masks-requires c κs =  let A = c .before .before .before .before .before .before .before .before .before .before .before .before .before .before .before .before .args in let P = c .before .before .before .before .before .before .before .before .before .before .before .before .before .before .before .before .pre in
+thin-masks-requires c κs =
+    let c5 = c .before .before .before .before .before in
+    let c9 = c5 .before .before .before .before in
+    let c11 = c9 .before .before in
+    let c16 = c11 .before .before .before .before .before in
+    let A = c16 .args in let P = c16 .pre in
     let d = words-of Multi (A .tender) (A .count) (A .w) (A .bids .now) (A .windows .now) (P .0) (P .1 .0) in
     let R = masks-ready (A .tender) (A .count) (A .w) (A .bids .now) (A .windows .now) (A .prices .now) (A .masks .now)
-    (c .before .before .before .before .before .before .before .before .before .prices .last .1 .0) (c .before .before .before .before .before .masks .last .1 .1 .1 .1 .1 .0) (P .1 .1 .0) (P .1 .1 .1)
-    (c .before .before .before .before .before .masks .kept .1 .1 .1 .1 .1 .0 ∙ word-front _ _ _ (A .masks .now) (P .1 .1 .1))
-    (rw (front-count _ _ (A .prices .now) (P .1 .1 .0)) at (c .before .before .before .before .before .before .before .before .before .prices .ensures)) (c .before .before .before .before .before .masks .ensures) in
-    (R .word-count ∙ rows-only (A .w) (A .count) _ (ap houses (c .before .enum-told .given .1)),
-    (d .words, omega (arith, c .before .before .before .before .before .before .before .before .before .before .before .cells .ensures, d .fits)))
+    (c9 .prices .last .1 .0) (c5 .masks .last .1 .1 .1 .1 .1 .0) (P .1 .1 .0) (P .1 .1 .1)
+    (c5 .masks .kept .1 .1 .1 .1 .1 .0 ∙ word-front _ _ _ (A .masks .now) (P .1 .1 .1))
+    (rw (front-count _ _ (A .prices .now) (P .1 .1 .0)) at (c9 .prices .ensures)) (c5 .masks .ensures) in (
+      R .word-count ∙ rows-only (A .w) (A .count) _ (ap houses (c .before .enum-told .given .1)),
+      (d .words, omega (arith, c11 .cells .ensures, d .fits)),
+    )
 
--- src/lib.rt:87:24
 enum-known-reserve : tie.Need-enum-known-reserve
 enum-known-reserve c = search needs
 
--- src/lib.rt:88:13
 mul-prices : tie.Need-mul-prices
 mul-prices c = search needs
 
--- src/lib.rt:88:13
 slice-write-prices : tie.Need-slice-write-prices
-slice-write-prices c =  let A = c .before .before .before .before .before .before .before .before .before .before .before .before .before .before .before .before .args in let P = c .before .before .before .before .before .before .before .before .before .before .before .before .before .before .before .before .pre in
+slice-write-prices c =
+    let c5 = c .before .before .before .before .before in
+    let c9 = c5 .before .before .before .before in
+    let c16 = c9 .before .before .before .before .before .before .before in
+    let A = c16 .args in let P = c16 .pre in
     let R = masks-ready (A .tender) (A .count) (A .w) (A .bids .now) (A .windows .now) (A .prices .now) (A .masks .now)
-    (c .before .before .before .before .before .before .before .before .before .prices .last .1 .0) (c .before .before .before .before .before .masks .last .1 .1 .1 .1 .1 .0) (P .1 .1 .0) (P .1 .1 .1)
-    (c .before .before .before .before .before .masks .kept .1 .1 .1 .1 .1 .0 ∙ word-front _ _ _ (A .masks .now) (P .1 .1 .1))
-    (rw (front-count _ _ (A .prices .now) (P .1 .1 .0)) at (c .before .before .before .before .before .before .before .before .before .prices .ensures)) (c .before .before .before .before .before .masks .ensures) in
+    (c9 .prices .last .1 .0) (c5 .masks .last .1 .1 .1 .1 .1 .0) (P .1 .1 .0) (P .1 .1 .1)
+    (c5 .masks .kept .1 .1 .1 .1 .1 .0 ∙ word-front _ _ _ (A .masks .now) (P .1 .1 .1))
+    (rw (front-count _ _ (A .prices .now) (P .1 .1 .0)) at (c9 .prices .ensures)) (c5 .masks .ensures) in
     omega (arith, ap houses (c .before .reserve .given .1), R .price-count)
 
--- src/lib.rt:89:34
 mul-unlock : tie.Need-mul-unlock
 mul-unlock c = search needs
 
--- src/lib.rt:89:34
 sub-unlock : tie.Need-sub-unlock
 sub-unlock c = search needs
 
--- src/lib.rt:89:34
 part-unlock-start : tie.Need-part-unlock-start
 part-unlock-start c = search needs
 
--- src/lib.rt:89:34
 part-unlock-end : tie.Need-part-unlock-end
 part-unlock-end c = search needs
 
--- src/lib.rt:89:13
 unlock-requires : tie.Need-unlock-requires
-unlock-requires c κs =  let A = c .before .before .before .before .before .before .before .before .before .before .before .before .before .before .before .before .before .args in let P = c .before .before .before .before .before .before .before .before .before .before .before .before .before .before .before .before .before .pre in
+unlock-requires c κs =
+    let c6 = c .before .before .before .before .before .before in
+    let c10 = c6 .before .before .before .before in
+    let c12 = c10 .before .before in
+    let c17 = c12 .before .before .before .before .before in
+    let A = c17 .args in let P = c17 .pre in
     let d = words-of Multi (A .tender) (A .count) (A .w) (A .bids .now) (A .windows .now) (P .0) (P .1 .0) in
     let R = masks-ready (A .tender) (A .count) (A .w) (A .bids .now) (A .windows .now) (A .prices .now) (A .masks .now)
-    (c .before .before .before .before .before .before .before .before .before .before .prices .last .1 .0) (c .before .before .before .before .before .before .masks .last .1 .1 .1 .1 .1 .0) (P .1 .1 .0) (P .1 .1 .1)
-    (c .before .before .before .before .before .before .masks .kept .1 .1 .1 .1 .1 .0 ∙ word-front _ _ _ (A .masks .now) (P .1 .1 .1))
-    (rw (front-count _ _ (A .prices .now) (P .1 .1 .0)) at (c .before .before .before .before .before .before .before .before .before .before .prices .ensures)) (c .before .before .before .before .before .before .masks .ensures) in
+    (c10 .prices .last .1 .0) (c6 .masks .last .1 .1 .1 .1 .1 .0) (P .1 .1 .0) (P .1 .1 .1)
+    (c6 .masks .kept .1 .1 .1 .1 .1 .0 ∙ word-front _ _ _ (A .masks .now) (P .1 .1 .1))
+    (rw (front-count _ _ (A .prices .now) (P .1 .1 .0)) at (c10 .prices .ensures)) (c6 .masks .ensures) in
     let e = house-words _ _ _ _ _ _ _ R _ (c .before .before .reserve .given .1) in
-    (omega (arith, c .before .before .before .before .before .before .before .before .before .before .before .before .cells .ensures, d .fits, e), omega (arith, d .words, e))
+    (omega (arith, c12 .cells .ensures, d .fits, e), omega (arith, d .words, e))
 
--- src/lib.rt:65:1
 same-length : tie.Need-same-length
 same-length c = search needs
 
--- src/lib.rt:65:1
 same-length-2 : tie.Need-same-length-2
 same-length-2 c = search needs
 
--- src/lib.rt:65:1
 returns : tie.Need-returns
-returns c =  let A = c .before .before .before .before .before .before .before .before .before .before .before .before .before .before .before .before .before .args in let P = c .before .before .before .before .before .before .before .before .before .before .before .before .before .before .before .before .before .pre in
+returns c =
+    let c6 = c .before .before .before .before .before .before in
+    let c10 = c6 .before .before .before .before in
+    let c12 = c10 .before .before in
+    let c17 = c12 .before .before .before .before .before in
+    let A = c17 .args in let P = c17 .pre in
     let R = masks-ready (A .tender) (A .count) (A .w) (A .bids .now) (A .windows .now) (A .prices .now) (A .masks .now)
-    (c .before .before .before .before .before .before .before .before .before .before .prices .last .1 .0) (c .before .before .before .before .before .before .masks .last .1 .1 .1 .1 .1 .0) (P .1 .1 .0) (P .1 .1 .1)
-    (c .before .before .before .before .before .before .masks .kept .1 .1 .1 .1 .1 .0 ∙ word-front _ _ _ (A .masks .now) (P .1 .1 .1))
-    (rw (front-count _ _ (A .prices .now) (P .1 .1 .0)) at (c .before .before .before .before .before .before .before .before .before .before .prices .ensures)) (c .before .before .before .before .before .before .masks .ensures) in
-    masks-owners _ _ _ _ _ _ _ R (c .before .before .enum-told .given .1) (c .thin-masks .result) (rw (c .before .before .before .before .before .before .before .before .before .before .before .before .cells .ensures) at (c .thin-masks .ensures))
+    (c10 .prices .last .1 .0) (c6 .masks .last .1 .1 .1 .1 .1 .0) (P .1 .1 .0) (P .1 .1 .1)
+    (c6 .masks .kept .1 .1 .1 .1 .1 .0 ∙ word-front _ _ _ (A .masks .now) (P .1 .1 .1))
+    (rw (front-count _ _ (A .prices .now) (P .1 .1 .0)) at (c10 .prices .ensures)) (c6 .masks .ensures) in
+    masks-owners _ _ _ _ _ _ _ R (c .before .before .enum-told .given .1) (c .thin-masks .result) (rw (c12 .cells .ensures) at (c .thin-masks .ensures))
 
--- src/lib.rt:65:1
 same-length-3 : tie.Need-same-length-3
 same-length-3 c = search needs
 
--- src/lib.rt:65:1
 same-length-4 : tie.Need-same-length-4
 same-length-4 c = search needs
 
--- src/lib.rt:65:1
 returns-2 : tie.Need-returns-2
-returns-2 c =  let A = c .before .before .before .before .before .before .before .before .before .before .before .before .before .before .before .before .before .before .before .before .args in let P = c .before .before .before .before .before .before .before .before .before .before .before .before .before .before .before .before .before .before .before .before .pre in
+returns-2 c =
+    let c5 = c .before .before .before .before .before in
+    let c9 = c5 .before .before .before .before in
+    let c13 = c9 .before .before .before .before in
+    let c15 = c13 .before .before in
+    let c20 = c15 .before .before .before .before .before in
+    let A = c20 .args in let P = c20 .pre in
     let R = masks-ready (A .tender) (A .count) (A .w) (A .bids .now) (A .windows .now) (A .prices .now) (A .masks .now)
-    (c .before .before .before .before .before .before .before .before .before .before .before .before .before .prices .last .1 .0) (c .before .before .before .before .before .before .before .before .before .masks .last .1 .1 .1 .1 .1 .0) (P .1 .1 .0) (P .1 .1 .1)
-    (c .before .before .before .before .before .before .before .before .before .masks .kept .1 .1 .1 .1 .1 .0 ∙ word-front _ _ _ (A .masks .now) (P .1 .1 .1))
-    (rw (front-count _ _ (A .prices .now) (P .1 .1 .0)) at (c .before .before .before .before .before .before .before .before .before .before .before .before .before .prices .ensures)) (c .before .before .before .before .before .before .before .before .before .masks .ensures) in
-    masks-house _ _ _ _ _ _ _ R _ (c .before .before .before .before .before .reserve .given .1) (c .before .before .unlock .last .0)
-    (c .before .before .unlock .kept .0 ∙ house-words _ _ _ _ _ _ _ R _ (c .before .before .before .before .before .reserve .given .1))
-    (rw (c .before .before .before .before .before .before .before .before .before .before .before .before .before .before .before .cells .ensures) at (c .before .before .unlock .ensures))
+    (c13 .prices .last .1 .0) (c9 .masks .last .1 .1 .1 .1 .1 .0) (P .1 .1 .0) (P .1 .1 .1)
+    (c9 .masks .kept .1 .1 .1 .1 .1 .0 ∙ word-front _ _ _ (A .masks .now) (P .1 .1 .1))
+    (rw (front-count _ _ (A .prices .now) (P .1 .1 .0)) at (c13 .prices .ensures)) (c9 .masks .ensures) in
+    masks-house _ _ _ _ _ _ _ R _ (c5 .reserve .given .1) (c .before .before .unlock .last .0)
+    (c .before .before .unlock .kept .0 ∙ house-words _ _ _ _ _ _ _ R _ (c5 .reserve .given .1))
+    (rw (c15 .cells .ensures) at (c .before .before .unlock .ensures))
 
 pub lay-masks-spec : {M : Type 1} → statement M
 lay-masks-spec =

@@ -20,76 +20,73 @@ Inv-loop n flags pays won₀ cents₀ i₀ won cents i = (FilledTo (λ j. when (
 abbrev μ-loop : tie.MeasureT-loop
 μ-loop n flags pays won₀ cents₀ i₀ won cents i = n - i
 
--- src/lib.rt:86:5
 loop-holds : tie.Need-loop-holds Inv-loop μ-loop
-loop-holds c =  ((written-none _ _, written-none _ _), omega arith)
+loop-holds c = ((written-none _ _, written-none _ _), omega arith)
 
--- src/lib.rt:87:23
 mul-only : tie.Need-mul-only Inv-loop μ-loop
-mul-only c =  omega arith
+mul-only c = omega arith
 
--- src/lib.rt:87:23
 shared-slice-read-only : tie.Need-shared-slice-read-only Inv-loop μ-loop
-shared-slice-read-only c =  omega (arith, c .before .loop-test .taken, c .before .before .before .before .before .before .before .pre .0)
+shared-slice-read-only c =
+    let c7 = c .before .before .before .before .before .before .before in
+    omega (arith, c .before .loop-test .taken, c7 .pre .0)
 
--- src/lib.rt:87:18
 only-requires : tie.Need-only-requires Inv-loop μ-loop
-only-requires c κs =  search needs
+only-requires c κs = search needs
 
--- src/lib.rt:87:9
 mul-won : tie.Need-mul-won Inv-loop μ-loop
-mul-won c =  omega arith
+mul-won c = omega arith
 
--- src/lib.rt:87:9
 slice-write-won : tie.Need-slice-write-won Inv-loop μ-loop
-slice-write-won c =  omega (arith, c .before .before .loop-test .taken, c .before .before .before .before .before .before .before .before .pre .1, c .before .before .before .loop .inv .0 .0 .sized)
+slice-write-won c =
+    let c8 = c .before .before .before .before .before .before .before .before in
+    omega (arith, c .before .before .loop-test .taken, c8 .pre .1, c .before .before .before .loop .inv .0 .0 .sized)
 
--- src/lib.rt:88:20
 mul-cents : tie.Need-mul-cents Inv-loop μ-loop
-mul-cents c =  omega arith
+mul-cents c = omega arith
 
--- src/lib.rt:88:20
 shared-slice-read-cents : tie.Need-shared-slice-read-cents Inv-loop μ-loop
-shared-slice-read-cents c =  omega (arith, c .before .before .before .loop-test .taken, c .before .before .before .before .before .before .before .before .before .pre .1)
+shared-slice-read-cents c =
+    let c9 = c .before .before .before .before .before .before .before .before .before in
+    omega (arith, c .before .before .before .loop-test .taken, c9 .pre .1)
 
--- src/lib.rt:88:9
 mul-cents-2 : tie.Need-mul-cents-2 Inv-loop μ-loop
-mul-cents-2 c =  omega arith
+mul-cents-2 c = omega arith
 
--- src/lib.rt:88:9
 slice-write-cents : tie.Need-slice-write-cents Inv-loop μ-loop
-slice-write-cents c =  omega (arith, c .before .before .before .loop-test .taken, c .before .before .before .before .before .before .before .before .before .pre .1, c .before .before .before .before .loop .inv .0 .1 .sized)
+slice-write-cents c =
+    let c4 = c .before .before .before .before in
+    let c9 = c4 .before .before .before .before .before in
+    omega (arith, c .before .before .before .loop-test .taken, c9 .pre .1, c4 .loop .inv .0 .1 .sized)
 
--- src/lib.rt:89:9
 add-i : tie.Need-add-i Inv-loop μ-loop
-add-i c =  omega (arith, c .before .before .before .loop-test .taken, c .before .before .before .before .before .before .before .before .before .pre .0)
+add-i c =
+    let c9 = c .before .before .before .before .before .before .before .before .before in
+    omega (arith, c .before .before .before .loop-test .taken, c9 .pre .0)
 
--- src/lib.rt:86:5
 loop-less : tie.Need-loop-less Inv-loop μ-loop
-loop-less c =  omega (arith, c .before .before .before .loop-test .taken)
+loop-less c = omega (arith, c .before .before .before .loop-test .taken)
 
--- src/lib.rt:86:5
 loop-again : tie.Need-loop-again Inv-loop μ-loop
-loop-again c =  let P = c .before .before .before .before .before .before .before .before .before .pre in let l = c .before .before .before .loop-test .taken in
-    (
+loop-again c =
+    let c4 = c .before .before .before .before in
+    let c9 = c4 .before .before .before .before .before in
+    let P = c9 .pre in let l = c .before .before .before .loop-test .taken in (
       (
-        written-more _ _ _ _ _ (omega (arith, l, P .1 .1)) (c .before .only .ensures .0) (c .before .before .before .before .loop .inv .0 .0),
-        written-more _ _ _ _ _ (omega (arith, l, P .1 .1)) refl (c .before .before .before .before .loop .inv .0 .1),
+        written-more _ _ _ _ _ (omega (arith, l, P .1 .1)) (c .before .only .ensures .0) (c4 .loop .inv .0 .0),
+        written-more _ _ _ _ _ (omega (arith, l, P .1 .1)) refl (c4 .loop .inv .0 .1),
       ),
       omega (arith, l),
     )
 
--- src/lib.rt:80:1
 same-length : tie.Need-same-length Inv-loop μ-loop
-same-length c =  c .before .loop .inv .0 .0 .sized
+same-length c = c .before .loop .inv .0 .0 .sized
 
--- src/lib.rt:80:1
 same-length-2 : tie.Need-same-length-2 Inv-loop μ-loop
-same-length-2 c =  c .before .loop .inv .0 .1 .sized
+same-length-2 c = c .before .loop .inv .0 .1 .sized
 
--- src/lib.rt:80:1
 returns : tie.Need-returns Inv-loop μ-loop
-returns c =  rw (le-antisymm (c .before .loop .inv .1) (c .loop-test .left)) at (c .before .loop .inv .0)
+returns c = rw (le-antisymm (c .before .loop .inv .1) (c .loop-test .left)) at (c .before .loop .inv .0)
 
 pub put-owners-spec : {M : Type 1} → statement M
 put-owners-spec =
