@@ -85,7 +85,8 @@ all-served k t n bids windows lent rows totals y x l =
         at (house p e q) =
             let z = sym (q ∙ sym (owners-are t n bids windows)) in
             by-house
-            (ap (λ z. z .house) (w .settles .totals-are) ∙ house-wins (rule k) (auctionOf t n bids windows) (with-reserve t n bids windows p e)
+            (ap (λ z. z .house) (w .settles .totals-are) ∙ house-wins (rule k) (auctionOf t n bids windows)
+            (with-reserve t n bids windows p e)
             (ap (won (rule k) (auctionOf t n bids windows)) z ∙ m .wins))
             (ap (λ (i : ℕ). auctionOf t n bids windows .has i x) z ∙ m .covers-it)
         at (past d) = absurd (omega (arith, m .inside, entries t n bids windows))

@@ -56,7 +56,8 @@ pub data OneAnswer (k : Kind) (t : Tender) (n : ℕ) (bids windows : List ℕ) (
       → OneAnswer k t n bids windows old new o
   rows-too-few : faultOf k t n bids windows ≡ none → length old < n → IsRefusal RowsTooFew old new o
       → OneAnswer k t n bids windows old new o
-  minute-uncovered : (m : ℕ) → Callable k t n bids windows (length old) → t .reserve ≡ Absent → EarliestIn t (auctionOf t n bids windows) m 0
+  minute-uncovered : (m : ℕ) → Callable k t n bids windows (length old) → t .reserve ≡ Absent
+      → EarliestIn t (auctionOf t n bids windows) m 0
       → IsRefusal (MinuteUncovered m) old new o → OneAnswer k t n bids windows old new o
   one-bidder : (m : ℕ) → Callable k t n bids windows (length old) → t .reserve ≡ Absent → Bidders (auctionOf t n bids windows) 1
       → EarliestIn t (auctionOf t n bids windows) m 1 → IsRefusal (OneBidder m) old new o → OneAnswer k t n bids windows old new o

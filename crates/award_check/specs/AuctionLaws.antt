@@ -24,7 +24,8 @@ use Rattle.reader_text.specs.Rules.{Rules}
 use Rattle.reader_text.specs.Differ.{withPrice}
 use Rattle.award_check.specs.Faults.{faultOf}
 use Rattle.award_check.specs.Cells.{holds, cellsOf, minuteOf, noRow}
-use Rattle.award_check.specs.Auction.{Offer, noOffer, offered, houses, houseOf, offersOf, Auction, hasOf, auctionOf, atPrice, reserved, thinCell}
+use Rattle.award_check.specs.Auction.{Offer, noOffer, offered, houses, houseOf, offersOf, Auction, hasOf}
+use Rattle.award_check.specs.Auction.{auctionOf, atPrice, reserved, thinCell}
 use Rattle.award_check.specs.Alike.{Alike}
 use Rattle.award_check.specs.AlikeLaws.{rows-length, rows-set, windows-same, among-held, faultless, own-alike}
 use Rattle.award_check.specs.TextLaws.{rows-flat, length-windows, rows-end, never-nine}
@@ -45,7 +46,8 @@ offer-windows windows [] = refl
 offer-windows windows (r ∷ rs) = ap (λ ws. own windows r ∷ ws) (offer-windows windows rs)
 
 same-offers : (windows windows′ : List ℕ) (rs : List Row)
-    → ((j : ℕ) → own windows (getD rs j noRow) ≡ own windows′ (getD rs j noRow)) → map (offered windows) rs ≡ map (offered windows′) rs
+    → ((j : ℕ) → own windows (getD rs j noRow) ≡ own windows′ (getD rs j noRow))
+    → map (offered windows) rs ≡ map (offered windows′) rs
 unfolding offered
 same-offers windows windows′ [] h = refl
 same-offers windows windows′ (r ∷ rs) h = rw (h 0) (ap (λ os. record { price = r .price; windows = own windows′ r } ∷ os)
@@ -210,7 +212,8 @@ module _ (t : Tender) (n : ℕ) (bids windows : List ℕ) where
     abbrev A : Auction
     A = auctionOf t n bids windows
 
-    spare-but : (r : Reserve) → t .reserve ≡ r → (i : ℕ) → (i ≡ n → t .reserve ≡ Absent) → Spare (A .has) (length (A .prices)) (A .cells) i
+    spare-but : (r : Reserve) → t .reserve ≡ r → (i : ℕ) → (i ≡ n → t .reserve ≡ Absent)
+        → Spare (A .has) (length (A .prices)) (A .cells) i
     spare-but Absent u i z = let c : length (A .prices) ≡ n = omega (arith, entries, ap houses u) in rw c
         (enough-spare (A .has) n (A .cells) (rw cells-are (sym (thin-told u 0) ∙ d)) (rw cells-are (sym (thin-told u 1) ∙ e)) i)
     spare-but (Price p) u i z = whole-spare (A .has) (length (A .prices)) (A .cells) n (omega (arith, entries, ap houses u))

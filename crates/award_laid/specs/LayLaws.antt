@@ -6,7 +6,8 @@ use mathlib.Core.Option.{none}
 use Prim.Native.Nat.{ℕ, _+_, _-_, _*_, _/_, _≤_, _<_}
 use native.Mathlib.Nat.{mul-le-mul-left, mul-add, mul-one}
 use native.Mathlib.Omega.{arith}
-use lib.ListN.{length, getD, set, take, drop, take-append-drop, drop-of-length-le, length-append, length-drop, length-set, List·getD-append}
+use lib.ListN.{length, getD, set, take, drop, take-append-drop, drop-of-length-le, length-append, length-drop}
+use lib.ListN.{length-set, List·getD-append}
 use lib.Seq.{getD-set-same, getD-set-other, length-take-le, take-all, take-append-le, drop-append-le, drop-at}
 use lib.Dec.{ltb, eqb}
 use borrow.Author.Tests.{ltb-true, ltb-false}
@@ -163,7 +164,8 @@ module _ (t : Tender) (n : ℕ) (bids windows ps starts ends : List ℕ) (r : Sp
         ends-are = λ i m. after n (cellsOf t) ends i m ∙ r .laid .ends-are i m;
       }
 
-      house : (p : ℕ) → t .reserve ≡ Price p → (getD (set starts n 0) n 0 ≡ 0) × (getD (set ends n (cellsOf t)) n 0 ≡ cellsOf t)
+      house : (p : ℕ) → t .reserve ≡ Price p → (getD (set starts n 0) n 0 ≡ 0)
+          × (getD (set ends n (cellsOf t)) n 0 ≡ cellsOf t)
       house p g = (
         getD-set-same starts n 0 0 (omega (arith, r .start-count, ap houses e)),
         getD-set-same ends n (cellsOf t) 0 (omega (arith, r .end-count, ap houses e)),

@@ -24,7 +24,8 @@ fn put_house(
     ends: &mut [u64],
 )
     requires { ⌜ (at < length (now prices)) × ((at < length (now starts)) × (at < length (now ends))) ⌝ }
-    ensures { λ _. ⌜ (now (prices .exit) ≡ set (now (prices .entry)) at price) × ((now (starts .exit) ≡ set (now (starts .entry)) at 0)
+    ensures { λ _. ⌜ (now (prices .exit) ≡ set (now (prices .entry)) at price)
+        × ((now (starts .exit) ≡ set (now (starts .entry)) at 0)
         × (now (ends .exit) ≡ set (now (ends .entry)) at cells)) ⌝ }
 {
     prices[at] = price;

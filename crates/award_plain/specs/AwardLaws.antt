@@ -115,7 +115,8 @@ no-fault k t n bids windows lent a e h = judged-nine (faultOf k t n bids windows
 
 -- where no rule is broken and each bid has an award row, what settles is answered
 pub award-settles : (k : Kind) (t : Tender) (n : ℕ) (bids windows : List ℕ) (lent : ℕ) → faultOf k t n bids windows ≡ none
-    → ltb lent n ≡ false → (x y : Found) → thinCell (auctionOf t n bids windows) 0 ≡ x → thinCell (auctionOf t n bids windows) 1 ≡ y
+    → ltb lent n ≡ false → (x y : Found) → thinCell (auctionOf t n bids windows) 0 ≡ x
+    → thinCell (auctionOf t n bids windows) 1 ≡ y
     → awardOf k t n bids windows lent
     ≡ thinned (uncovered t) (lone t) x y
     (awarded (awardRows (rule k) (auctionOf t n bids windows)) (totalsOf (rule k) (auctionOf t n bids windows)))

@@ -53,9 +53,11 @@ told-again n flags pays won cents won′ cents′ (Awarded totals) u v =
     row i = rowOf (getD flags i 0) (getD pays i 0)
 
     flag-at : (i : ℕ) → i < n → eqb (getD won′ i 0) 1 ≡ eqb (getD flags i 0) 1
-    flag-at i l = ap (λ (v : ℕ). eqb v 1) (ap (λ (xs : List ℕ). getD xs i 0) (u ∙ ap (λ (xs : List ℕ). xs ++ drop (length (listed n row)) won)
+    flag-at i l = ap (λ (v : ℕ). eqb v 1) (ap (λ (xs : List ℕ). getD xs i 0)
+        (u ∙ ap (λ (xs : List ℕ). xs ++ drop (length (listed n row)) won)
         (map-listed n row (λ r. when (r .won) 1)))
-        ∙ List·getD-append (listed n (λ i. when (eqb (getD flags i 0) 1) 1)) _ 0 i (omega (arith, length-listed n (λ i. when (eqb (getD flags i 0) 1) 1)))
+        ∙ List·getD-append (listed n (λ i. when (eqb (getD flags i 0) 1) 1)) _ 0 i
+        (omega (arith, length-listed n (λ i. when (eqb (getD flags i 0) 1) 1)))
         ∙ getD-listed n (λ i. when (eqb (getD flags i 0) 1) 1) i 0 l)
         ∙ when-is (eqb (getD flags i 0) 1)
 

@@ -78,7 +78,8 @@ pub fn totals(prices: &[u64], won: &[u64], cents: &[u64], owners: usize) -> Tota
 
 // The flags and cents of the first n entries, in the first places of the two lent lists.
 fn put_owners(n: usize, flags: &[u64], pays: &[u64], won: &mut [u64], cents: &mut [u64])
-    requires { ⌜ (n ≤ length (now flags)) × ((n ≤ length (now pays)) × ((n ≤ length (now won)) × (n ≤ length (now cents)))) ⌝ }
+    requires { ⌜ (n ≤ length (now flags)) × ((n ≤ length (now pays))
+        × ((n ≤ length (now won)) × (n ≤ length (now cents)))) ⌝ }
     ensures { λ _. ⌜ FilledTo (λ i. when (eqb (getD (now (flags .entry)) i 0) 1) 1) (now (won .entry)) (now (won .exit)) n
         × FilledTo (λ i. getD (now (pays .entry)) i 0) (now (cents .entry)) (now (cents .exit)) n ⌝ }
 {
@@ -99,7 +100,8 @@ pub fn report(
     won: &mut [u64],
     cents: &mut [u64],
 )
-    requires { ⌜ (n ≤ length (now flags)) × ((n ≤ length (now pays)) × ((n ≤ length (now won)) × (n ≤ length (now cents)))) ⌝ }
+    requires { ⌜ (n ≤ length (now flags)) × ((n ≤ length (now pays))
+        × ((n ≤ length (now won)) × (n ≤ length (now cents)))) ⌝ }
     ensures { λ _. ⌜ (now (won .exit) ≡ wonAfter (now (won .entry)) (toldIn n (now (flags .entry)) (now (pays .entry)) answer))
         × (now (cents .exit) ≡ centsAfter (now (cents .entry)) (toldIn n (now (flags .entry)) (now (pays .entry)) answer)) ⌝ }
 {

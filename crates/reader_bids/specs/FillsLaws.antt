@@ -126,7 +126,8 @@ pub taken-room : (T : Tender) (line k m : ℕ) (used rows windows used′ rows�
     ((b : BidLine) → o ≡ some (bid b) → 6 * (m + length (b .windows)) ≤ n) → 6 * (m + c) ≤ n
 taken-room T line k m used rows windows used′ rows′ windows′ none r c n t e h = bid-not-refused r c (BadForm line) e t
 taken-room T line k m used rows windows used′ rows′ windows′ (some (tender x)) r c n t e h = bid-not-refused r c (BadForm line) e t
-taken-room T line k m used rows windows used′ rows′ windows′ (some (reserve x)) r c n t e h = bid-not-refused r c (ReserveMisplaced line) e t
+taken-room T line k m used rows windows used′ rows′ windows′ (some (reserve x)) r c n t e h = bid-not-refused r c
+    (ReserveMisplaced line) e t
 taken-room T line k m used rows windows used′ rows′ windows′ (some (bid b)) r c n t e h =
     go (bidFaultAfter T k b (eqb (cell used (b .bidder)) 1)) t
   where

@@ -65,7 +65,8 @@ module _ (T : Tender) (line k m : ℕ) (used rows windows : List ℕ) (r : Step)
   taken-tender (some (bid b)) t e h = let z : _≡_ {A = ℕ} 0 1 = cc in absurd (omega arith)
   taken-tender (some (reserve v)) t e h = let z : _≡_ {A = ℕ} 0 1 = cc in absurd (omega arith)
 
-  pub taken-reserve : (o : Option Line) (v : ℕ) → some (reserveNote v) ≡ noted m windows o → r ≡ step.Refused (ReserveMisplaced line)
+  pub taken-reserve : (o : Option Line) (v : ℕ) → some (reserveNote v) ≡ noted m windows o
+      → r ≡ step.Refused (ReserveMisplaced line)
       → Taken o T line k m used rows windows r used′ rows′ windows′
   unfolding noted
   taken-reserve none v e h = let z : _≡_ {A = ℕ} 0 1 = cc in absurd (omega arith)
@@ -93,7 +94,8 @@ module _ (T : Tender) (line k m : ℕ) (used rows windows : List ℕ) (r : Step)
         go (bidFaultAfter T k b (eqb (cell used (b .bidder)) 1))
         (g ∙ ap (faultAt line) (noted-fault b (noted-bid n p c flaw m windows windows′ b e)))
       where
-        go : (f : Option (ℕ → Refusal)) → some x ≡ faultAt line f → Judged f b line k m used rows windows r used′ rows′ windows′
+        go : (f : Option (ℕ → Refusal)) → some x ≡ faultAt line f
+            → Judged f b line k m used rows windows r used′ rows′ windows′
         go none q = let z : _≡_ {A = ℕ} 0 1 = cc in absurd (omega arith)
         go (some f) q = h ∙ ap step.Refused (cc)
 

@@ -31,7 +31,8 @@ module _ (T : Tender) (R : List Row) (W : List Window) where
       go true x = never x
       go false x = x
 
-  pub judged-out : (f : Option (ℕ → Refusal)) (at : ℕ) (out : ReadOutcome) → judgedBy refused f at out ≡ accepted T R W → (f ≡ none)
+  pub judged-out : (f : Option (ℕ → Refusal)) (at : ℕ) (out : ReadOutcome)
+      → judgedBy refused f at out ≡ accepted T R W → (f ≡ none)
       × (out ≡ accepted T R W)
   unfolding judgedBy
   judged-out none at out e = (refl, e)

@@ -92,7 +92,8 @@ pub window-close : (s e a : List ℕ) → opened s ≡ some a → closed e ≡ n
 unfolding windowOf andThen
 window-close s e a h k = rw (h, k)
 
-pub window-both : (s e a z : List ℕ) → opened s ≡ some a → closed e ≡ some z → windowEnds (windowOf s e) ≡ spanEnds (spanOf a z)
+pub window-both : (s e a z : List ℕ) → opened s ≡ some a → closed e ≡ some z
+    → windowEnds (windowOf s e) ≡ spanEnds (spanOf a z)
 unfolding windowOf andThen
 window-both s e a z h k = rw (h, k) (go (spanOf a z))
   where

@@ -54,7 +54,8 @@ use Rattle.theorems.specs.Calls.{ReadRun, ReadCall, AwardCall, auctionBy
 use Rattle.theorems.specs.Calls.{WriteCall, RewriteCall, rewritten}
 use Rattle.theorems.specs.OneReading.{OneReading, OfText}
 use Rattle.theorems.specs.ListRead.{rowShown}
-use Rattle.theorems.specs.Between.{BidsAlone, Exactly, CallableWith, FewerThan, ForCover, priceAt, WasRead, Variant, Follows, SameAward}
+use Rattle.theorems.specs.Between.{BidsAlone, Exactly, CallableWith, FewerThan, ForCover, priceAt, WasRead}
+use Rattle.theorems.specs.Between.{Variant, Follows, SameAward}
 use Rattle.theorems.specs.Between.{NoGainBetween, OneList}
 use Rattle.theorems.specs.Between.{ListGiven, NoGainShown, Showable}
 use Rattle.theorems.specs.ReadingLaws as reading

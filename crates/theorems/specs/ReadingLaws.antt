@@ -37,7 +37,8 @@ use Rattle.theorems.specs.OneReading.{orBroken, linesIn, Above, at-start
 use Rattle.theorems.specs.OneReading.{of-count, of-limits, of-kind, of-minutes, of-week, of-bidder, pageOrder}
 use Rattle.theorems.specs.OneReading.{NoMinute, PastWeek, SomeOf, OnReserve, OnLine, OfText}
 use Rattle.theorems.specs.OneReading.{FirstAmong, NoFault, SoundBids, SoundReserve, SoundLines, LineOf, placeIn}
-use Rattle.theorems.specs.OneReading.{FirstOn, Readable, Declines, Fills, OneReading, text-too-long, bad-form, reserve-misplaced, too-many}
+use Rattle.theorems.specs.OneReading.{FirstOn, Readable, Declines, Fills, OneReading, text-too-long, bad-form}
+use Rattle.theorems.specs.OneReading.{reserve-misplaced, too-many}
 use Rattle.theorems.specs.OneReading.{outside-limits, several-windows, empty-window, late-window, bidder-repeated}
 use Rattle.theorems.specs.OneReading.{table-too-short, tables-filled}
 
@@ -166,7 +167,8 @@ data Verdict (d : Above) (x : Option Line) (o : Option (ℕ → Refusal)) : Type
 
 verdict : (d : Above) (x : Option Line) (c4 c3 c7 c5 c15 c6 : Bool) → (OnLine of-form d x → ⊥) → (OnLine of-place d x → ⊥)
     → Decides c4 (OnLine of-count d x) → Decides c3 (OnLine of-limits d x) → Decides c7 (OnLine of-kind d x)
-    → Decides c5 (OnLine of-minutes d x) → Decides c15 (OnLine of-week d x) → Decides c6 (OnLine of-bidder d x) → Verdict d x (lineFault c4 c3 c7 c5 c15 c6)
+    → Decides c5 (OnLine of-minutes d x) → Decides c15 (OnLine of-week d x) → Decides c6 (OnLine of-bidder d x)
+    → Verdict d x (lineFault c4 c3 c7 c5 c15 c6)
 unfolding lineFault
 verdict d x true c3 c7 c5 c15 c6 s2 s16 s4 s3 s7 s5 s15 s6 = stopped-by of-count (inr (s2, inr (s16, inl (refl, s4)))) refl
 verdict d x false true c7 c5 c15 c6 s2 s16 s4 s3 s7 s5 s15 s6 =
@@ -193,7 +195,8 @@ verdict d x false false false false false false s2 s16 s4 s3 s7 s5 s15 s6 = clea
 
 tender-verdict : (t : TenderLine) → Verdict at-start (some (tender t)) (tenderFault t)
 unfolding tenderFault
-tender-verdict t = verdict at-start (some (tender t)) false false false (not (ordered (asWindow (t .window)))) (not (early (asWindow (t .window)))) false
+tender-verdict t = verdict at-start (some (tender t)) false false false (not (ordered (asWindow (t .window))))
+    (not (early (asWindow (t .window)))) false
     (λ h. h) (λ h. h) (λ h. h) (λ h. h) (λ h. h) (no-minute (asWindow (t .window))) (past-week (asWindow (t .window))) (λ h. h)
 
 bid-verdict : (t : Tender) (done : List BidLine) (b : BidLine) →

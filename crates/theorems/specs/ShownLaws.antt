@@ -304,7 +304,8 @@ row-shown t R rows totals i l sizes d h =
     ∙ award-row n s t (winList R rows (length R) ++ last)
     ∙ own n s R rows sizes (length R) i (omega arith) l refl d last
     ∙ ap (λ r. cond (getD rows i lost .won) (record { won = true; cents = getD rows i lost .cents }) r)
-    (house-row n s (t .reserve) (totals .house) total ∙ ap (rowShown n) (sym (append-nil total)) ∙ total-row n s (totals .cost) (totals .paid) [])
+    (house-row n s (t .reserve) (totals .house) total ∙ ap (rowShown n) (sym (append-nil total))
+    ∙ total-row n s (totals .cost) (totals .paid) [])
     ∙ kept-row (getD rows i lost) h
 
 -- two such lines are the same only where their first numbers are

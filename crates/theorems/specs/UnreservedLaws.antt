@@ -40,4 +40,5 @@ no-house-line t R rows totals e = ap (λ r. awardLine t ++ winList R rows (lengt
 
 pub no-reserve-line : (t : Tender) (bs : List BidLine) → t .reserve ≡ Absent → textOf t bs ≡ tenderText t ++ bidsText bs
 unfolding textOf headText reserveText
-no-reserve-line t bs e = ap (λ r. (tenderText t ++ reserveText r) ++ bidsText bs) e ∙ ap (λ s. s ++ bidsText bs) (append-nil (tenderText t))
+no-reserve-line t bs e = ap (λ r. (tenderText t ++ reserveText r) ++ bidsText bs) e
+    ∙ ap (λ s. s ++ bidsText bs) (append-nil (tenderText t))

@@ -68,7 +68,8 @@ unfolding mostWindows isSingle
 single-one Single n l = le-ltb 1 n l
 single-one Multi n l = refl
 
-no-fault : (t : Tender) (bids bidder price count : ℕ) (empty late used : Bool) → bids < 1000 → count ≤ mostWindows (t .kind) → 1 ≤ bidder
+no-fault : (t : Tender) (bids bidder price count : ℕ) (empty late used : Bool) → bids < 1000
+    → count ≤ mostWindows (t .kind) → 1 ≤ bidder
     → bidder ≤ 999999 → price ≤ 100000000 → empty ≡ false → late ≡ false → used ≡ false →
     bidFaultIn t bids bidder price count empty late used ≡ none
 unfolding bidFaultIn lineFault within
@@ -91,7 +92,8 @@ row-read t windows place used r s p =
     let ws = joined (own windows r) in
     let h = lawful-every ws (joined-lawful (own windows r)) in
     no-fault t (length used) (r .bidder) (r .price) (length ws) (not (every ordered ws)) (not (every early ws))
-    (among (r .bidder) used) (omega (arith, s .place-low)) (joined-count t windows place used r s) (s .bidder-low) (s .bidder-high) (s .price-high)
+    (among (r .bidder) used) (omega (arith, s .place-low)) (joined-count t windows place used r s) (s .bidder-low)
+    (s .bidder-high) (s .price-high)
     (ap not (h .0)) (ap not (h .1)) (s .bidder-new)
 
 -- all rows

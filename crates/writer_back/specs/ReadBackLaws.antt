@@ -123,8 +123,10 @@ reads-back t n bids windows e l =
 
 -- equal bytes have equal lines, and so the same bids
 
-lines-same : (t : Tender) (bs : List BidLine) (t′ : Tender) (bs′ : List BidLine) → soundTender t ≡ true → soundTender t′ ≡ true
-    → map (λ x. some x) (headLines t) ++ asLines bs ≡ map (λ x. some x) (headLines t′) ++ asLines bs′ → (t ≡ t′) × (bs ≡ bs′)
+lines-same : (t : Tender) (bs : List BidLine) (t′ : Tender) (bs′ : List BidLine) → soundTender t ≡ true
+    → soundTender t′ ≡ true
+    → map (λ x. some x) (headLines t) ++ asLines bs ≡ map (λ x. some x) (headLines t′) ++ asLines bs′
+    → (t ≡ t′) × (bs ≡ bs′)
 lines-same t bs t′ bs′ s s′ e =
     let h : begun t (length (headLines t) + 1) (asLines bs) ≡ begun t′ (length (headLines t′) + 1) (asLines bs′) =
     sym (head-of t (asLines bs) s (λ q. bids-next bs)) ∙ ap headOf e ∙ head-of t′ (asLines bs′) s′ (λ q. bids-next bs′) in

@@ -253,7 +253,8 @@ unfolding reserveOf andThen oneWords priceOf
 reserve-is [] x h = let z : _≡_ {A = ℕ} 0 1 = cc in absurd (omega arith)
 reserve-is (p ∷ []) x h = go (closed p) refl h
   where
-    last : (z : List ℕ) → p ≡ z ++ 41 ∷ [] → (o : Option ℕ) → priceOf z ≡ o → andThen o (λ v. some (reserve v)) ≡ some x
+    last : (z : List ℕ) → p ≡ z ++ 41 ∷ [] → (o : Option ℕ) → priceOf z ≡ o
+        → andThen o (λ v. some (reserve v)) ≡ some x
         → (40 ∷ reserveWord) ∷ p ∷ [] ≡ wordsOf x
     last z f none i q = let n : _≡_ {A = ℕ} 0 1 = cc in absurd (omega arith)
     last z f (some v) i q = let u : reserve v ≡ x = cc in rw (f, numeral-spelling z v i) (ap wordsOf u)
@@ -270,7 +271,8 @@ words-are [] x h = let z : _≡_ {A = ℕ} 0 1 = cc in absurd (omega arith)
 words-are (w ∷ ws) x h =
     go (sameBytes w (40 ∷ tenderWord)) (sameBytes w (40 ∷ bidWord)) (sameBytes w (40 ∷ reserveWord)) refl refl refl h
   where
-    go : (a b c : Bool) → sameBytes w (40 ∷ tenderWord) ≡ a → sameBytes w (40 ∷ bidWord) ≡ b → sameBytes w (40 ∷ reserveWord) ≡ c
+    go : (a b c : Bool) → sameBytes w (40 ∷ tenderWord) ≡ a → sameBytes w (40 ∷ bidWord) ≡ b
+        → sameBytes w (40 ∷ reserveWord) ≡ c
         → cond a (tenderOf ws) (cond b (bidOf ws) (cond c (reserveOf ws) none)) ≡ some x → w ∷ ws ≡ wordsOf x
     go true b c f g i q = ap (λ v. v ∷ ws) (same-is w (40 ∷ tenderWord) f) ∙ tender-is ws x q
     go false true c f g i q = ap (λ v. v ∷ ws) (same-is w (40 ∷ bidWord) g) ∙ bid-is ws x q
