@@ -54,10 +54,7 @@ pub record BidsAlone (c : AwardCall) : Type 0 where
   pub thin : (m : ℕ) → thinCell (auctionBy c) m ≡ cellWith (auctionBy c .has) (auctionBy c .owners) (auctionBy c .cells) m
   pub no-house : (r : Rule) → totalsOf r (auctionBy c) .house ≡ false
 
--- the bidder and the price of row i of its table of bids
-abbrev pub bidderAt : AwardCall → ℕ → ℕ
-bidderAt c i = getD (c .bids) (bidWidth * i) 0
-
+-- the price of row i of its table of bids
 abbrev pub priceAt : AwardCall → ℕ → ℕ
 priceAt c i = getD (c .bids) (bidWidth * i + 1) 0
 
@@ -93,8 +90,8 @@ pub record NoGainBetween (c c′ : AwardCall) (bidder p q : List ℕ) : Type 0 w
   pub i : ℕ
   pub inside : i < c .count
   pub count-same : c′ .count ≡ c .count
-  pub bidder-is : numeralOf bidder ≡ some (bidderAt c i)
-  pub bidder-too : numeralOf bidder ≡ some (bidderAt c′ i)
+  pub bidder-is : numeralOf bidder ≡ some (getD (c .bids) (bidWidth * i) 0)
+  pub bidder-too : numeralOf bidder ≡ some (getD (c′ .bids) (bidWidth * i) 0)
   pub true-cost : priceOf p ≡ some (priceAt c i)
   pub other-price : priceOf q ≡ some (priceAt c′ i)
   pub most : AtMost (gain (priceAt c i) (rowFor (toldBy c′) i)) (gain (priceAt c i) (rowFor (toldBy c) i))

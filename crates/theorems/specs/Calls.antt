@@ -61,35 +61,21 @@ auctionBy c = auctionOf (c .tender) (c .count) (c .bids) (c .windows)
 abbrev pub toldBy : AwardCall → Outcome
 toldBy c = toldAward (c .count) (c .rows-after) (c .answer)
 
--- `settle`: flags and cents instead of award rows
-pub record SettleCall : Type 0 where
-  pub kind : Kind
-  pub tender : Tender
-  pub count : ℕ
-  pub bids : List ℕ
-  pub windows : List ℕ
-  pub won-before : List ℕ
-  pub cents-before : List ℕ
-  pub won-after : List ℕ
-  pub cents-after : List ℕ
-  pub answer : Answer
-  pub promise : PlainPromise kind tender count bids windows (min (length won-before) (length cents-before)) won-before cents-before
-      won-after cents-after answer
-
-abbrev pub toldPlain : SettleCall → Outcome
-toldPlain s = toldIn (s .count) (s .won-after) (s .cents-after) (s .answer)
-
--- `tender_list`, from C too
-pub record ListCall : Type 0 where
+-- a call from bytes to bytes in a lent buffer, which promises P of the text, the buffer before and after, and the answer
+pub record BytesCall (P : List ℕ → List ℕ → List ℕ → ℕ → Type 0) : Type 0 where
   pub text : List ℕ
   pub buffer : List ℕ
   pub buffer-after : List ℕ
   pub answer : ℕ
-  pub promise : Listed text buffer buffer-after answer
+  pub promise : P text buffer buffer-after answer
 
 -- the bytes that it wrote
-abbrev pub shown : ListCall → List ℕ
+abbrev pub shown : {P : List ℕ → List ℕ → List ℕ → ℕ → Type 0} → BytesCall P → List ℕ
 shown l = take (l .answer) (l .buffer-after)
+
+-- `tender_list`, from C too
+abbrev pub ListCall : Type 0
+ListCall = BytesCall Listed
 
 -- `write`
 pub record WriteCall : Type 0 where
@@ -103,13 +89,5 @@ pub record WriteCall : Type 0 where
   pub promise : Writes tender count bids windows buffer buffer-after answer
 
 -- `tender_rewrite`, from C too
-pub record RewriteCall : Type 0 where
-  pub text : List ℕ
-  pub buffer : List ℕ
-  pub buffer-after : List ℕ
-  pub answer : ℕ
-  pub promise : Rewritten text buffer buffer-after answer
-
--- the bytes that it wrote
-abbrev pub rewritten : RewriteCall → List ℕ
-rewritten l = take (l .answer) (l .buffer-after)
+abbrev pub RewriteCall : Type 0
+RewriteCall = BytesCall Rewritten

@@ -8,10 +8,12 @@ use mathlib.Core.Option.{Option, some}
 use Prim.Native.Nat.{ℕ, _+_, _/_, _^_, _≤_, _<_, min}
 use lib.ListN.{length, getD, take}
 use lib.Dec.{leb}
+use Rattle.tender.specs.declared.Kind.{Kind}
 use Rattle.tender.specs.declared.Window.{Window}
 use Rattle.tender.specs.declared.Reserve.the-variants.{Absent, Price}
 use Rattle.tender.specs.declared.Tender.{Tender}
 use Rattle.tender.specs.declared.AwardRow.{AwardRow}
+use Rattle.tender.specs.declared.Answer.{Answer}
 use Rattle.tender.specs.declared.Totals.{Totals}
 use Rattle.tender.specs.declared.Refusal.{Refusal}
 use Rattle.tender.specs.declared.Refusal.the-variants.{BadTables}
@@ -34,6 +36,7 @@ use Rattle.award_check.specs.Auction.{atPrice}
 use Rattle.award_check.specs.Alike.{named, Alike}
 use Rattle.award_plain.specs.Award.{leastCost, greedy, rule, won, awarded, awardOf, outcomeNumber}
 use Rattle.award_plain.specs.Award.{refused as refusal}
+use Rattle.award_plain.specs.Plain.{toldIn, PlainPromise}
 use Rattle.award_plain.specs.AwardLaws.{award-lent}
 use Rattle.award.specs.Gain.{rowFor, gain, AtMost}
 use Rattle.award.specs.Promise.{lentAfter, Promise}
@@ -50,8 +53,8 @@ use Rattle.listing.specs.List.{winList, listLines}
 use Rattle.listing.specs.ListLaws as list
 use Rattle.writer.specs.declared.Writing.the-variants.{Written, Refused}
 use Rattle.writer_back.specs.Same.{Same, ReadBack}
-use Rattle.theorems.specs.Calls.{ReadRun, ReadCall, AwardCall, auctionBy, toldBy, SettleCall, toldPlain, ListCall, shown}
-use Rattle.theorems.specs.Calls.{WriteCall, RewriteCall, rewritten}
+use Rattle.theorems.specs.Calls.{ReadRun, ReadCall, AwardCall, auctionBy, toldBy, ListCall, shown}
+use Rattle.theorems.specs.Calls.{WriteCall, RewriteCall}
 use Rattle.theorems.specs.OneReading.{OneReading, OfText}
 use Rattle.theorems.specs.ListRead.{rowShown}
 use Rattle.theorems.specs.Between.{BidsAlone, Exactly, CallableWith, FewerThan, ForCover, priceAt, WasRead}
@@ -99,10 +102,12 @@ same-tables-same-answer c c′ s t n b w =
     (length (c .rows-before)) (length (c′ .rows-before)) (rw n at (s .room))) ∙ sym (c′ .promise .answers)
 
 -- A call of `settle`, its lists read as award rows, is one of the award of its kind, so that what follows holds of it too.
-pub settle-as-award : (s : SettleCall) (old : List AwardRow) → length old ≡ min (length (s .won-before)) (length (s .cents-before))
-    → Promise (s .kind) (s .tender) (s .count) (s .bids) (s .windows) old (lentAfter old (toldPlain s)) (s .answer)
-settle-as-award s old e = rows-promise (s .kind) (s .tender) (s .count) (s .bids) (s .windows) old (s .won-before) (s .cents-before)
-    (s .won-after) (s .cents-after) (s .answer) (rw e (s .promise))
+pub settle-as-award : (k : Kind) (t : Tender) (n : ℕ) (bids windows won cents won′ cents′ : List ℕ) (a : Answer)
+    → PlainPromise k t n bids windows (min (length won) (length cents)) won cents won′ cents′ a
+    → (old : List AwardRow) → length old ≡ min (length won) (length cents)
+    → Promise k t n bids windows old (lentAfter old (toldIn n won′ cents′ a)) a
+settle-as-award k t n bids windows won cents won′ cents′ a p old e =
+    rows-promise k t n bids windows old won cents won′ cents′ a (rw e p)
 
 -- A text gives one list, or 13.
 pub one-answer-of-the-list : (l : ListCall) → OneList l
@@ -293,7 +298,7 @@ equal-bytes-of-tables = equal-written
 -- and of any two accepted texts.
 pub equal-bytes-of-texts : (l l′ : RewriteCall) (T T′ : Tender) (R R′ : List Row) (W W′ : List Window)
     → readText (l .text) ≡ accepted T R W → readText (l′ .text) ≡ accepted T′ R′ W′ → 0 < l .answer → 0 < l′ .answer
-    → Exactly (rewritten l ≡ rewritten l′) (Same T R (flatWindows W) T′ R′ (flatWindows W′))
+    → Exactly (shown l ≡ shown l′) (Same T R (flatWindows W) T′ R′ (flatWindows W′))
 equal-bytes-of-texts = equal-rewritten
 
 -- A buffer as long as the text, but of 52 bytes at least, always suffices.
@@ -303,12 +308,12 @@ rewrite-fits = always-fits
 -- an accepted text
 module _ (l : RewriteCall) (T : Tender) (R : List Row) (W : List Window) (read : readText (l .text) ≡ accepted T R W) where
   -- Rewritten, it reads as the same tender and bids,
-  pub rewritten-reads-back : 0 < l .answer → ReadBack (rewritten l) T R (flatWindows W)
+  pub rewritten-reads-back : 0 < l .answer → ReadBack (shown l) T R (flatWindows W)
   rewritten-reads-back = read-rewritten l T R W read
 
   -- is rewritten to itself,
-  pub rewritten-to-itself : (l′ : RewriteCall) → l′ .text ≡ rewritten l → 0 < l .answer → 0 < l′ .answer
-      → rewritten l′ ≡ rewritten l
+  pub rewritten-to-itself : (l′ : RewriteCall) → l′ .text ≡ shown l → 0 < l .answer → 0 < l′ .answer
+      → shown l′ ≡ shown l
   rewritten-to-itself = rewritten-again l T R W read
 
   -- and is no longer than it was: 14 is for a buffer that is shorter than the text.

@@ -14,7 +14,7 @@ use Rattle.tender.specs.declared.Tender.{Tender}
 use Rattle.tender.specs.declared.Refusal.{Refusal}
 use Rattle.tender.specs.declared.Refusal.the-variants.{TextTooLong, BadForm, OutsideLimits, TooMany, EmptyWindow, BidderRepeated}
 use Rattle.tender.specs.declared.Refusal.the-variants.{SeveralWindows, TableTooShort, LateWindow, ReserveMisplaced}
-use Rattle.tender.specs.Limits.{asWindow, week, maxPrice, maxBidder, maxBids, maxWindows, maxText}
+use Rattle.tender.specs.Limits.{week, maxPrice, maxBidder, maxBids, maxWindows, maxText}
 use Rattle.tender.specs.Tables.{Row, flatRows, flatWindows, bidWidth, windowWidth}
 use Rattle.reader_word.specs.Words.{cut}
 use Rattle.reader_line.specs.Line.{TenderLine, BidLine, Line, tender, bid, reserve, tenderLine, headLines, linesOf}
@@ -56,51 +56,36 @@ pub data LineFault : Type 0 where
 abbrev pub pageOrder : List LineFault
 pageOrder = of-form ∷ of-place ∷ of-count ∷ of-limits ∷ of-kind ∷ of-minutes ∷ of-week ∷ of-bidder ∷ []
 
--- the start is not below the end
-abbrev pub NoMinute : Window → Type 0
-NoMinute w = w .end ≤ w .start
-
--- the end is above 10,080
-abbrev pub PastWeek : Window → Type 0
-PastWeek w = week < w .end
-
 -- one of the list is so
 abbrev pub SomeOf : {A : Type 0} → (A → Type 0) → List A → Type 0
 SomeOf P [] = ⊥
 SomeOf P (x ∷ xs) = P x ⊎ SomeOf P xs
 
+-- what has to hold for each of them to stand, in the page's order
+abbrev pub standsBy : (form place count limits kind minutes week bidder : Type 0) → LineFault → Type 0
+standsBy form place count limits kind minutes week bidder of-form = form
+standsBy form place count limits kind minutes week bidder of-place = place
+standsBy form place count limits kind minutes week bidder of-count = count
+standsBy form place count limits kind minutes week bidder of-limits = limits
+standsBy form place count limits kind minutes week bidder of-kind = kind
+standsBy form place count limits kind minutes week bidder of-minutes = minutes
+standsBy form place count limits kind minutes week bidder of-week = week
+standsBy form place count limits kind minutes week bidder of-bidder = bidder
+
 -- the fault stands on a bid's line, after the tender's and those of the bids `done`
 abbrev pub OnBid : LineFault → Tender → List BidLine → BidLine → Type 0
-OnBid of-form t done b = ⊥
-OnBid of-place t done b = ⊥
-OnBid of-count t done b = (maxBids ≤ length done) ⊎ (maxWindows < length (b .windows))
-OnBid of-limits t done b = ((b .bidder < 1) ⊎ (maxBidder < b .bidder)) ⊎ (maxPrice < b .price)
-OnBid of-kind t done b = (t .kind ≡ Single) × (1 < length (b .windows))
-OnBid of-minutes t done b = SomeOf NoMinute (b .windows)
-OnBid of-week t done b = SomeOf PastWeek (b .windows)
-OnBid of-bidder t done b = SomeOf (λ (c : BidLine). c .bidder ≡ b .bidder) done
+OnBid f t done b = standsBy ⊥ ⊥ ((maxBids ≤ length done) ⊎ (maxWindows < length (b .windows)))
+    (((b .bidder < 1) ⊎ (maxBidder < b .bidder)) ⊎ (maxPrice < b .price)) ((t .kind ≡ Single) × (1 < length (b .windows)))
+    (SomeOf (λ (w : Window). w .end ≤ w .start) (b .windows)) (SomeOf (λ (w : Window). week < w .end) (b .windows))
+    (SomeOf (λ (c : BidLine). c .bidder ≡ b .bidder) done) f
 
 -- on the tender's line
 abbrev pub OnTender : LineFault → TenderLine → Type 0
-OnTender of-form t = ⊥
-OnTender of-place t = ⊥
-OnTender of-count t = ⊥
-OnTender of-limits t = ⊥
-OnTender of-kind t = ⊥
-OnTender of-minutes t = NoMinute (asWindow (t .window))
-OnTender of-week t = PastWeek (asWindow (t .window))
-OnTender of-bidder t = ⊥
+OnTender f t = standsBy ⊥ ⊥ ⊥ ⊥ ⊥ (t .window .end ≤ t .window .start) (week < t .window .end) ⊥ f
 
 -- on the reserve's line: its place is wrong where there is a reserve already, or a bid
 abbrev pub OnReserve : LineFault → Tender → List BidLine → ℕ → Type 0
-OnReserve of-form t done p = ⊥
-OnReserve of-place t done p = (t .reserve ≡ Absent → ⊥) ⊎ (0 < length done)
-OnReserve of-count t done p = ⊥
-OnReserve of-limits t done p = maxPrice < p
-OnReserve of-kind t done p = ⊥
-OnReserve of-minutes t done p = ⊥
-OnReserve of-week t done p = ⊥
-OnReserve of-bidder t done p = ⊥
+OnReserve f t done p = standsBy ⊥ ((t .reserve ≡ Absent → ⊥) ⊎ (0 < length done)) ⊥ (maxPrice < p) ⊥ ⊥ ⊥ ⊥ f
 
 -- on any line: the first has to be a tender's, the others a bid's or the reserve's
 abbrev pub OnLine : LineFault → Above → Option Line → Type 0

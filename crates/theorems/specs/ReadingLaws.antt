@@ -19,7 +19,7 @@ use Rattle.tender.specs.declared.Tender.{Tender}
 use Rattle.tender.specs.declared.Refusal.{Refusal}
 use Rattle.tender.specs.declared.Refusal.the-variants.{TextTooLong, BadForm, OutsideLimits, TooMany, EmptyWindow, BidderRepeated}
 use Rattle.tender.specs.declared.Refusal.the-variants.{SeveralWindows, TableTooShort, LateWindow, ReserveMisplaced}
-use Rattle.tender.specs.Limits.{asWindow, within, isSingle, ordered, early, every, lawfulReserve}
+use Rattle.tender.specs.Limits.{asWindow, week, within, isSingle, ordered, early, every, lawfulReserve}
 use Rattle.tender.specs.Refusals.{numberOf}
 use Rattle.tender.specs.Tables.{Row, bidWidth, windowWidth}
 use Rattle.reader_word.specs.Words.{cut, among}
@@ -35,7 +35,7 @@ use Rattle.reader.specs.Answer.{readAnswer, bidsAfter, windowsAfter}
 use Rattle.theorems.specs.Calls.{ReadRun, ReadKept}
 use Rattle.theorems.specs.OneReading.{orBroken, linesIn, Above, at-start, after, linesAbove, LineFault, of-form, of-place}
 use Rattle.theorems.specs.OneReading.{of-count, of-limits, of-kind, of-minutes, of-week, of-bidder, pageOrder}
-use Rattle.theorems.specs.OneReading.{NoMinute, PastWeek, SomeOf, OnReserve, OnLine, OfText}
+use Rattle.theorems.specs.OneReading.{SomeOf, OnReserve, OnLine, OfText}
 use Rattle.theorems.specs.OneReading.{FirstAmong, NoFault, SoundBids, SoundReserve, SoundLines, LineOf, placeIn}
 use Rattle.theorems.specs.OneReading.{FirstOn, Readable, Declines, Fills, OneReading, text-too-long, bad-form}
 use Rattle.theorems.specs.OneReading.{reserve-misplaced, too-many}
@@ -98,17 +98,17 @@ outside a z n = go (leb a n) (leb n z) refl refl
     go true false s u = inr (leb-false n z u)
     go true true s u = neither (leb-true a n s) (leb-true n z u)
 
-no-minute : (w : Window) → Decides (not (ordered w)) (NoMinute w)
+no-minute : (w : Window) → Decides (not (ordered w)) (w .end ≤ w .start)
 no-minute w = go (ordered w) refl
   where
-    go : (t : Bool) → ordered w ≡ t → Decides (not t) (NoMinute w)
+    go : (t : Bool) → ordered w ≡ t → Decides (not t) (w .end ≤ w .start)
     go true e = λ h. omega (arith, ltb-true (w .start) (w .end) e)
     go false e = ltb-false (w .start) (w .end) e
 
-past-week : (w : Window) → Decides (not (early w)) (PastWeek w)
+past-week : (w : Window) → Decides (not (early w)) (week < w .end)
 past-week w = go (early w) refl
   where
-    go : (t : Bool) → early w ≡ t → Decides (not t) (PastWeek w)
+    go : (t : Bool) → early w ≡ t → Decides (not t) (week < w .end)
     go true e = λ h. omega (arith, leb-true (w .end) 10080 e)
     go false e = leb-false (w .end) 10080 e
 
@@ -214,7 +214,8 @@ bid-verdict t done b = rw (length-map done (λ b. b .bidder))
     (outside 1 999999 (b .bidder)) (says-ltb 100000000 (b .price)))
     (says-and (t .kind ≡ Single) (1 < length (b .windows)) (isSingle (t .kind)) (ltb 1 (length (b .windows))) (single (t .kind))
     (says-ltb 1 (length (b .windows))))
-    (some-window ordered NoMinute no-minute (b .windows)) (some-window early PastWeek past-week (b .windows)) (used (b .bidder) done))
+    (some-window ordered (λ (w : Window). w .end ≤ w .start) no-minute (b .windows))
+    (some-window early (λ (w : Window). week < w .end) past-week (b .windows)) (used (b .bidder) done))
 
 -- what a verdict makes of the line
 module _ (d : Above) (x : Option Line) (o : Option (ℕ → Refusal)) (at : ℕ) (rest : ReadOutcome) where

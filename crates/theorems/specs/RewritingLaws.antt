@@ -36,7 +36,7 @@ use Rattle.writer_back.specs.ShortLaws.{canonical-some}
 use Rattle.writer_back.specs.ReadBackLaws.{lawful-tables, reads-back, text-same, same-text, same-bytes, writes-the-same}
 use Rattle.writer_back.specs.FilledLaws.{canonical-alone, read-sound, no-longer}
 use Rattle.rewrite.specs.Rewritten.{rewriteOf}
-use Rattle.theorems.specs.Calls.{ReadCall, AwardCall, toldBy, WriteCall, RewriteCall, rewritten}
+use Rattle.theorems.specs.Calls.{ReadCall, AwardCall, toldBy, WriteCall, RewriteCall, shown}
 use Rattle.theorems.specs.Between.{Exactly}
 use Rattle.theorems.specs.Rewriting.{textBy, OneWriting, tables-faulty, no-room, text-written, ReadAsWritten, SameTables}
 
@@ -125,7 +125,7 @@ module _ (l : RewriteCall) (T : Tender) (R : List Row) (W : List Window) (read :
   unfolding rewriteOf
   rewrite-is = ap rewriteOf read
 
-  rewritten-is : 0 < l .answer → rewritten l ≡ canonical T R (flatWindows W)
+  rewritten-is : 0 < l .answer → shown l ≡ canonical T R (flatWindows W)
   rewritten-is a = delivered-is (l .promise .delivers) a ∙ rewrite-is
 
   pub rewritten-fits : length (l .text) ≤ length (l .buffer) → (0 < l .answer) × (l .answer ≤ length (l .text))
@@ -138,7 +138,7 @@ module _ (l : RewriteCall) (T : Tender) (R : List Row) (W : List Window) (read :
       (omega (arith, r, canonical-some T R (flatWindows W)), omega (arith, r, n))
 
   -- what was rewritten reads as the same bids, and is rewritten to itself
-  back : 0 < l .answer → ReadBack (rewritten l) T R (flatWindows W)
+  back : 0 < l .answer → ReadBack (shown l) T R (flatWindows W)
   back a =
       let n = no-longer (l .text) T R W read in
       let x = short-text T R W (l .text) read in
@@ -157,16 +157,16 @@ module _ (l : RewriteCall) (T : Tender) (R : List Row) (W : List Window) (read :
         same = λ v. rw (rows-flat R [], append-nil (flatWindows W)) at (b .same v);
       }
 
-  pub rewritten-again : (l′ : RewriteCall) → l′ .text ≡ rewritten l → 0 < l .answer → 0 < l′ .answer
-      → rewritten l′ ≡ rewritten l
+  pub rewritten-again : (l′ : RewriteCall) → l′ .text ≡ shown l → 0 < l .answer → 0 < l′ .answer
+      → shown l′ ≡ shown l
   unfolding rewriteOf
   rewritten-again l′ x a a′ =
       let b = back a in
       delivered-is (l′ .promise .delivers) a′ ∙ ap rewriteOf (ap readText x ∙ b .reads)
       ∙ ap (canonical T (b .R)) (sym (append-nil (flatWindows (b .W))))
-      ∙ writes-the-same T R (flatWindows W) (rewritten l) b [] ∙ sym (rewritten-is a)
+      ∙ writes-the-same T R (flatWindows W) (shown l) b [] ∙ sym (rewritten-is a)
 
-  pub read-rewritten : 0 < l .answer → ReadBack (rewritten l) T R (flatWindows W)
+  pub read-rewritten : 0 < l .answer → ReadBack (shown l) T R (flatWindows W)
   read-rewritten = back
 
 -- a buffer as long as the text, and as the longest line of a refusal, suffices
@@ -186,7 +186,7 @@ always-fits l a b = go (readText (l .text)) refl
 
 pub equal-rewritten : (l l′ : RewriteCall) (T T′ : Tender) (R R′ : List Row) (W W′ : List Window)
     → readText (l .text) ≡ accepted T R W → readText (l′ .text) ≡ accepted T′ R′ W′ → 0 < l .answer → 0 < l′ .answer
-    → Exactly (rewritten l ≡ rewritten l′) (Same T R (flatWindows W) T′ R′ (flatWindows W′))
+    → Exactly (shown l ≡ shown l′) (Same T R (flatWindows W) T′ R′ (flatWindows W′))
 equal-rewritten l l′ T T′ R R′ W W′ e e′ a a′ =
     let s = same-bytes (l .text) (l′ .text) T T′ R R′ W W′ [] [] e e′ in
     let x = rewritten-is l T R W e a in
