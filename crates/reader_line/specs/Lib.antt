@@ -1,6 +1,7 @@
 pub mod Line
 pub mod LinePlain
 pub mod Tally
+pub mod LineFront
 pub mod Answer
 pub mod PiecesLaws
 pub mod LinePlainLaws

@@ -2,6 +2,7 @@ pub mod Words
 pub mod Windows
 pub mod Flaws
 pub mod Scan
+pub mod Front
 pub mod Answer
 pub mod CutLaws
 pub mod ScanLaws
