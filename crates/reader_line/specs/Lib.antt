@@ -2,6 +2,7 @@ pub mod Line
 pub mod LinePlain
 pub mod Tally
 pub mod LineFront
+pub mod WindowsFrontLaws
 pub mod Answer
 pub mod PiecesLaws
 pub mod LinePlainLaws

@@ -3,6 +3,7 @@ pub mod Windows
 pub mod Flaws
 pub mod Scan
 pub mod Front
+pub mod FrontLaws
 pub mod Answer
 pub mod CutLaws
 pub mod ScanLaws

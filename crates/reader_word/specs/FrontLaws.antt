@@ -1,0 +1,74 @@
+-- What is read from the front of bytes leaves fewer of them. Assumes nothing.
+use Prim.Native.Nat.{ℕ, suc, _+_, _-_, _*_, _≤_, _<_}
+use mathlib.Core.Path.{_≡_, refl}
+use mathlib.Core.List.{List, [], _∷_}
+use mathlib.Core.Bool.{Bool, true, false, cond, _&&_}
+use native.Mathlib.Omega.{arith}
+use lib.ListN.{length}
+use lib.Dec.{eqb, ltb}
+use Rattle.tender.specs.declared.Span.{Span}
+use Rattle.tender.specs.declared.Window.{Window}
+use Rattle.tender.specs.Limits.{within, asWindow}
+use Rattle.reader_word.specs.Front.{Front, got, wrong, onward, past, digitsFront, numberFront, priceFront, spanFront, windowFront}
+
+-- fewer than n bytes are left
+abbrev pub Shorter : {A : Type 0} → ℕ → Front A → Type 0
+Shorter n (got a r) = length r < n
+Shorter n wrong = Unit {0}
+
+-- so where a value was read
+pub got-shorter : {A : Type 0} (n : ℕ) (x : Front A) (a : A) (r : List ℕ) → Shorter n x → x ≡ got a r → length r < n
+got-shorter n x a r h e = rw e at h
+
+-- a smaller bound says more
+pub shorter-less : {A : Type 0} (m n : ℕ) (x : Front A) → m ≤ n → Shorter m x → Shorter n x
+shorter-less m n (got a r) l h = omega arith
+shorter-less m n wrong l h = tt
+
+cond-shorter : {A : Type 0} (n : ℕ) (t : Bool) (x y : Front A) → Shorter n x → Shorter n y → Shorter n (cond t x y)
+cond-shorter n true x y h k = h
+cond-shorter n false x y h k = k
+
+pub onward-shorter : {A B : Type 0} (n : ℕ) (x : Front A) (f : A → List ℕ → Front B) → Shorter n x
+    → ((a : A) (r : List ℕ) → length r < n → Shorter n (f a r)) → Shorter n (onward x f)
+unfolding onward
+onward-shorter n (got a r) f h k = k a r h
+onward-shorter n wrong f h k = tt
+
+pub past-shorter : {A : Type 0} (n d : ℕ) (s : List ℕ) (f : List ℕ → Front A) → length s ≤ n
+    → ((r : List ℕ) → length r < n → Shorter n (f r)) → Shorter n (past d s f)
+unfolding past
+past-shorter n d [] f h k = tt
+past-shorter n d (b ∷ s) f h k = cond-shorter n (eqb b d) (f s) wrong (k s (omega arith)) tt
+
+digits-shorter : (v : ℕ) (s : List ℕ) → Shorter (suc (length s)) (digitsFront v s)
+unfolding digitsFront
+digits-shorter v [] = omega arith
+digits-shorter v (b ∷ s) = let more = digitsFront (v * 10 + (b - 48)) s in
+    cond-shorter (suc (suc (length s))) (ltb v 100000000 && within 48 57 b) more (got v (b ∷ s))
+    (shorter-less (suc (length s)) (suc (suc (length s))) more (omega arith) (digits-shorter (v * 10 + (b - 48)) s)) (omega arith)
+
+pub number-shorter : (s : List ℕ) → Shorter (length s) (numberFront s)
+unfolding numberFront
+number-shorter [] = tt
+number-shorter (b ∷ s) = cond-shorter (suc (length s)) (within 49 57 b) (digitsFront (b - 48) s) (cond (eqb b 48) (got 0 s) wrong)
+    (digits-shorter (b - 48) s) (cond-shorter (suc (length s)) (eqb b 48) (got 0 s) wrong (omega arith) tt)
+
+pub price-shorter : (s : List ℕ) → Shorter (length s) (priceFront s)
+unfolding priceFront
+price-shorter s = number-shorter s
+
+pub span-shorter : (s : List ℕ) → Shorter (length s) (spanFront s)
+unfolding spanFront
+span-shorter s =
+    let n = length s in
+    onward-shorter n (numberFront s) _ (number-shorter s) (λ a r h. past-shorter n 32 r _ (omega arith)
+    (λ t k. onward-shorter n (numberFront t) _ (shorter-less (length t) n (numberFront t) (omega arith) (number-shorter t))
+    (λ z u l. past-shorter n 41 u _ (omega arith) (λ v m. m))))
+
+pub window-shorter : (s : List ℕ) → Shorter (length s) (windowFront s)
+unfolding windowFront
+window-shorter s =
+    let n = length s in
+    past-shorter n 32 s _ (omega arith) (λ r h. past-shorter n 40 r _ (omega arith)
+    (λ t k. onward-shorter n (spanFront t) _ (shorter-less (length t) n (spanFront t) (omega arith) (span-shorter t)) (λ w u l. l)))
