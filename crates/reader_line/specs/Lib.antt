@@ -3,6 +3,8 @@ pub mod LinePlain
 pub mod Tally
 pub mod LineFront
 pub mod WindowsFrontLaws
+pub mod WithoutLaws
+pub mod LineFrontLaws
 pub mod Answer
 pub mod PiecesLaws
 pub mod LinePlainLaws

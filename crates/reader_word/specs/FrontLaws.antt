@@ -1,15 +1,38 @@
--- What is read from the front of bytes leaves fewer of them. Assumes nothing.
+-- What is read from the front of bytes: step by step, and that it leaves fewer of them. Assumes nothing.
 use Prim.Native.Nat.{ℕ, suc, _+_, _-_, _*_, _≤_, _<_}
-use mathlib.Core.Path.{_≡_, refl}
+use mathlib.Core.Path.{_≡_, refl, ap}
 use mathlib.Core.List.{List, [], _∷_}
 use mathlib.Core.Bool.{Bool, true, false, cond, _&&_}
 use native.Mathlib.Omega.{arith}
 use lib.ListN.{length}
 use lib.Dec.{eqb, ltb}
+use borrow.Author.Tests.{eqb-true, eq-eqb}
 use Rattle.tender.specs.declared.Span.{Span}
 use Rattle.tender.specs.declared.Window.{Window}
 use Rattle.tender.specs.Limits.{within, asWindow}
 use Rattle.reader_word.specs.Front.{Front, got, wrong, onward, past, digitsFront, numberFront, priceFront, spanFront, windowFront}
+
+-- both steps gave something
+pub onward-got : {A B : Type 0} (x : Front A) (f : A → List ℕ → Front B) (b : B) (t : List ℕ) → onward x f ≡ got b t
+    → (a : A) × (r : List ℕ) × (x ≡ got a r) × (f a r ≡ got b t)
+unfolding onward
+onward-got (got a r) f b t e = (a, r, refl, e)
+onward-got wrong f b t e = let z : _≡_ {A = ℕ} 0 1 = cc in absurd (omega arith)
+
+-- the byte stands there
+pub past-got : {A : Type 0} (d : ℕ) (s : List ℕ) (f : List ℕ → Front A) (a : A) (t : List ℕ) → past d s f ≡ got a t
+    → (r : List ℕ) × (s ≡ d ∷ r) × (f r ≡ got a t)
+unfolding past
+past-got d [] f a t e = let z : _≡_ {A = ℕ} 0 1 = cc in absurd (omega arith)
+past-got d (b ∷ s) f a t e = go (eqb b d) refl e
+  where
+    go : (q : Bool) → eqb b d ≡ q → cond q (f s) wrong ≡ got a t → (r : List ℕ) × (b ∷ s ≡ d ∷ r) × (f r ≡ got a t)
+    go true q x = (s, ap (λ c. c ∷ s) (eqb-true b d q), x)
+    go false q x = let z : _≡_ {A = ℕ} 0 1 = cc in absurd (omega arith)
+
+pub past-here : {A : Type 0} (d : ℕ) (s : List ℕ) (f : List ℕ → Front A) → past d (d ∷ s) f ≡ f s
+unfolding past
+past-here d s f = rw (eq-eqb d d refl)
 
 -- fewer than n bytes are left
 abbrev pub Shorter : {A : Type 0} → ℕ → Front A → Type 0

@@ -4,6 +4,10 @@ pub mod Flaws
 pub mod Scan
 pub mod Front
 pub mod FrontLaws
+pub mod GivenLaws
+pub mod RejoinedLaws
+pub mod NumberFrontLaws
+pub mod WindowFrontLaws
 pub mod Answer
 pub mod CutLaws
 pub mod ScanLaws

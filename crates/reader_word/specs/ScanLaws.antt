@@ -1,6 +1,6 @@
 -- For a reader that walks the bytes: the next byte d after a place, the piece up to it, and what is left. Assumes nothing.
-use mathlib.Core.Path.{_≡_, refl, _∙_}
-use mathlib.Core.List.{List, [], _∷_}
+use mathlib.Core.Path.{_≡_, refl, ap, _∙_}
+use mathlib.Core.List.{List, [], _∷_, _++_}
 use mathlib.Core.Bool.{Bool, true, false, cond}
 use Prim.Native.Nat.{ℕ, suc, _+_, _-_, _≤_, _<_}
 use native.Mathlib.Omega.{arith}
@@ -8,8 +8,9 @@ use native.Mathlib.Numerals.{add-one}
 use lib.ListN.{length, take, drop, getD, length-drop, drop-of-length-le}
 use lib.Seq.{drop-cons, drop-drop}
 use lib.Dec.{eqb}
-use borrow.Author.Tests.{eq-eqb, ne-eqb}
-use Rattle.reader_word.specs.Words.{growFirst, cut}
+use borrow.Author.Tests.{eqb-true, eq-eqb, ne-eqb}
+use Rattle.reader_word.specs.Words.{among, growFirst, cut}
+use Rattle.reader_word.specs.CutLaws.{neither}
 use Rattle.reader_word.specs.Scan.{toNext}
 
 pub next-le : (d : ℕ) (s : List ℕ) → toNext d s ≤ length s
@@ -23,6 +24,24 @@ next-le d (b ∷ s) = go (eqb b d) (next-le d s)
 
 pub next-fits : (d : ℕ) (s : List ℕ) (i : ℕ) → i ≤ length s → i + toNext d (drop i s) ≤ length s
 next-fits d s i h = omega (arith, next-le d (drop i s), length-drop i s)
+
+-- the bytes before and after the first d
+pub next-split : (d : ℕ) (s : List ℕ) → toNext d s < length s → s ≡ take (toNext d s) s ++ d ∷ drop (suc (toNext d s)) s
+unfolding toNext
+next-split d [] h = absurd (omega arith)
+next-split d (b ∷ s) h = go (eqb b d) refl h (next-split d s)
+  where
+    go : (t : Bool) → eqb b d ≡ t → cond t 0 (suc (toNext d s)) < suc (length s)
+        → (toNext d s < length s → s ≡ take (toNext d s) s ++ d ∷ drop (suc (toNext d s)) s) →
+        b ∷ s ≡ take (cond t 0 (suc (toNext d s))) (b ∷ s) ++ d ∷ drop (suc (cond t 0 (suc (toNext d s)))) (b ∷ s)
+    go true e l ih = ap (λ c. c ∷ s) (eqb-true b d e)
+    go false e l ih = ap (λ r. b ∷ r) (ih (omega arith))
+
+-- bytes without d stand before the first d
+pub next-after : (d : ℕ) (w s : List ℕ) → among d w ≡ false → toNext d (w ++ d ∷ s) ≡ length w
+unfolding toNext among
+next-after d [] s h = rw (eq-eqb d d refl)
+next-after d (b ∷ w) s h = let n = neither (eqb b d) (among d w) h in rw (n .0, next-after d w s (n .1))
 
 -- the first piece, where a byte d ends it
 pub cut-next : (d : ℕ) (s : List ℕ) → toNext d s < length s → cut d s ≡ take (toNext d s) s ∷ cut d (drop (suc (toNext d s)) s)
