@@ -2,9 +2,6 @@ pub mod Line
 pub mod LinePlain
 pub mod Tally
 pub mod LineFront
-pub mod WindowsFrontLaws
-pub mod WithoutLaws
-pub mod LineFrontLaws
 pub mod Answer
 pub mod PiecesLaws
 pub mod LinePlainLaws
@@ -13,3 +10,7 @@ pub mod TallyLaws
 pub mod EndsLaws
 pub mod LinesLaws
 pub mod WalkLaws
+pub mod WithoutLaws
+pub mod WindowsFrontLaws
+pub mod HeadFrontLaws
+pub mod LineFrontLaws

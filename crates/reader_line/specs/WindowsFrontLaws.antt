@@ -4,7 +4,7 @@ use mathlib.Core.Path.{_≡_, refl, sym, ap, _∙_}
 use mathlib.Core.List.{List, [], _∷_, _++_, append-assoc}
 use mathlib.Core.Bool.{Bool, true, false, cond}
 use mathlib.Core.Logic.{_⊎_, inl, inr}
-use mathlib.Core.Option.{Option, none, some}
+use mathlib.Core.Option.{Option, some}
 use native.Mathlib.Omega.{arith}
 use lib.ListN.{length}
 use lib.Dec.{eqb}
@@ -73,8 +73,9 @@ windows-read (s ∷ e ∷ []) l t h =
     let z = then-some (closed e) _ l h in
     let w = then-some (windowOf s (z .0)) _ l (z .2) in
     let q : w .0 ∷ [] ≡ l = cc (w .2) in
+    let r : List ℕ = 41 ∷ 10 ∷ t in
     ap (λ b. windowsFront (32 ∷ b)) (last-bytes s e (z .0) t (closed-some e (z .0) (z .1)))
-    ∙ windows-first (32 ∷ (s ++ 32 ∷ (z .0 ++ 41 ∷ 10 ∷ t))) (w .0) (41 ∷ 10 ∷ t) (window-read s (z .0) (w .0) (41 ∷ 10 ∷ t) (w .1))
+    ∙ windows-first (32 ∷ (s ++ 32 ∷ (z .0 ++ r))) (w .0) r (window-read s (z .0) (w .0) r (w .1))
     ∙ ap (λ (v : List Window). got v t) q
 windows-read (s ∷ e ∷ x ∷ ws) l t h =
     let w = then-some (windowOf s e) _ l h in
@@ -153,8 +154,7 @@ window-next : (s : List ℕ) (w : Window) (r : List ℕ) (l : List Window) (t : 
     → WindowsLed s (w ∷ l) t
 unfolding windowsIn andThen
 window-next s w r l t m n =
-    let b = behind (m .first) (m .last) r l t n in
-    (
+    let b = behind (m .first) (m .last) r l t n in (
       m .first ++ 32 ∷ (m .last ++ r),
       m .are,
       record { words = m .first ∷ m .last ∷ b .first ∷ b .rest; are = b .are; is = rw (m .is, b .is) },

@@ -3,7 +3,7 @@ use Prim.Native.Nat.{ℕ, _<_}
 use mathlib.Core.Path.{_≡_, refl}
 use mathlib.Core.List.{List, [], _∷_}
 use mathlib.Core.Bool.{Bool, true, false, cond, _&&_}
-use mathlib.Core.Option.{Option, none, some}
+use mathlib.Core.Option.{none, some}
 use native.Mathlib.Omega.{arith}
 use lib.Dec.{leb}
 use borrow.Author.Tests.{leb-true, ne-eqb}
@@ -81,8 +81,7 @@ module _ (d : ℕ) (l : d < 40) where
   bid-without (n ∷ p ∷ ws) x h =
       let y = then-some (numeralOf n) _ x h in
       let v = then-some (priceOf p) _ x (y .2) in
-      let w = then-some (windowsIn ws) _ x (v .2) in
-      (
+      let w = then-some (windowsIn ws) _ x (v .2) in (
         number-without d n (y .0) (omega arith) (y .1),
         (price-without d p (v .0) (omega arith) (v .1), windows-without ws (w .0) (w .1)),
       )

@@ -1,5 +1,5 @@
--- What is read from the front of bytes, byte by byte, with the bytes after it: numbers and windows. `FrontLaws` says that this is what
--- the words of a line give.
+-- What is read from the front of bytes, byte by byte, with the bytes after it: numbers and windows. `NumberFrontLaws` and
+-- `WindowFrontLaws` say that this is what the words there give.
 use Prim.Native.Nat.{ℕ, _+_, _-_, _*_}
 use mathlib.Core.List.{List, [], _∷_}
 use mathlib.Core.Bool.{cond, _&&_}

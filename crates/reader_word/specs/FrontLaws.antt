@@ -6,10 +6,8 @@ use mathlib.Core.Bool.{Bool, true, false, cond, _&&_}
 use native.Mathlib.Omega.{arith}
 use lib.ListN.{length}
 use lib.Dec.{eqb, ltb}
-use borrow.Author.Tests.{eqb-true, eq-eqb}
-use Rattle.tender.specs.declared.Span.{Span}
-use Rattle.tender.specs.declared.Window.{Window}
-use Rattle.tender.specs.Limits.{within, asWindow}
+use borrow.Author.Tests.{eqb-true}
+use Rattle.tender.specs.Limits.{within}
 use Rattle.reader_word.specs.Front.{Front, got, wrong, onward, past, digitsFront, numberFront, priceFront, spanFront, windowFront}
 
 -- both steps gave something
@@ -29,10 +27,6 @@ past-got d (b ∷ s) f a t e = go (eqb b d) refl e
     go : (q : Bool) → eqb b d ≡ q → cond q (f s) wrong ≡ got a t → (r : List ℕ) × (b ∷ s ≡ d ∷ r) × (f r ≡ got a t)
     go true q x = (s, ap (λ c. c ∷ s) (eqb-true b d q), x)
     go false q x = let z : _≡_ {A = ℕ} 0 1 = cc in absurd (omega arith)
-
-pub past-here : {A : Type 0} (d : ℕ) (s : List ℕ) (f : List ℕ → Front A) → past d (d ∷ s) f ≡ f s
-unfolding past
-past-here d s f = rw (eq-eqb d d refl)
 
 -- fewer than n bytes are left
 abbrev pub Shorter : {A : Type 0} → ℕ → Front A → Type 0

@@ -1,18 +1,18 @@
--- A number, and a price, read from the front of bytes is that of the word there. Assumes nothing.
-use Prim.Native.Nat.{ℕ, zero, suc, _+_, _-_, _*_, _^_, _≤_, _<_}
+-- A number, and a price, read from the front of bytes is that of the word there: what a word gives is read where no digit follows
+-- (`..-read`), and what is read comes from a word that gives it (`..-from`). Assumes nothing.
+use Prim.Native.Nat.{ℕ, suc, _+_, _-_, _*_, _^_, _≤_, _<_}
 use mathlib.Core.Path.{_≡_, refl, sym, ap, _∙_}
 use mathlib.Core.List.{List, [], _∷_, _++_}
 use mathlib.Core.Bool.{Bool, true, false, cond, not, _&&_, and-false}
-use mathlib.Core.Option.{Option, none, some}
+use mathlib.Core.Option.{Option, some}
 use native.Mathlib.Omega.{arith}
 use native.Mathlib.Nat.{pow-suc, pow-le-pow-right}
-use native.Mathlib.Numerals.{add-one}
 use lib.ListN.{length}
 use lib.Dec.{eqb, leb, ltb, lit<}
-use borrow.Author.Tests.{ltb-true, leb-true, leb-false, eqb-true, eqb-false, not-true, lt-ltb, le-leb, lt-leb, eq-eqb, ne-eqb}
+use borrow.Author.Tests.{ltb-true, leb-true, leb-false, eqb-true, eqb-false, not-true, lt-ltb, le-leb, ne-eqb}
 use Rattle.tender.specs.Limits.{within}
 use Rattle.reader_word.specs.Words.{among, digits, leadingZero, numeralOf, priceOf}
-use Rattle.reader_word.specs.Front.{Front, got, wrong, digitsFront, numberFront, priceFront}
+use Rattle.reader_word.specs.Front.{got, wrong, digitsFront, numberFront, priceFront}
 use Rattle.reader_word.specs.GivenLaws.{both-true, cond-some}
 use Rattle.reader_word.specs.DigitsLaws.{inside, digits-below, ten-more, ten-below, leading-other, number-digits}
 
@@ -47,8 +47,8 @@ number-without d w v l e =
 
 -- the digits of a word, and a byte after them that is none
 
-digits-read : (v k : ℕ) (w : List ℕ) (u d : ℕ) (r : List ℕ) → v < 10 ^ k → k + length w ≤ 9 → d ≤ 41 → digits v w ≡ some u
-    → digitsFront v (w ++ d ∷ r) ≡ got u (d ∷ r)
+digits-read : (v k : ℕ) (w : List ℕ) (u d : ℕ) (r : List ℕ) → v < 10 ^ k → k + length w ≤ 9 → d ≤ 41
+    → digits v w ≡ some u → digitsFront v (w ++ d ∷ r) ≡ got u (d ∷ r)
 unfolding digits digitsFront
 digits-read v k [] u d r h n l e = let q : v ≡ u = cc in rw (digits-below d (omega arith), and-false (ltb v 100000000), q)
 digits-read v k (b ∷ w) u d r h n l e =
@@ -70,7 +70,8 @@ few-digits v k h l = go (leb 8 k) refl
     go true e = omega (arith, pow-le-pow-right {n = 10} (lit< tt) (leb-true 8 k e))
     go false e = leb-false 8 k e
 
-digits-from : (v k : ℕ) (s : List ℕ) (u : ℕ) (r : List ℕ) → 10 ^ k ≤ v → k ≤ 8 → digitsFront v s ≡ got u r → Digits v k s u r
+digits-from : (v k : ℕ) (s : List ℕ) (u : ℕ) (r : List ℕ) → 10 ^ k ≤ v → k ≤ 8
+    → digitsFront v s ≡ got u r → Digits v k s u r
 unfolding digits digitsFront
 digits-from v k [] u r h l e = record { word = []; are = cc; is = cc; few = omega arith }
 digits-from v k (b ∷ s) u r h l e =
@@ -103,7 +104,8 @@ number-zero-first : (b : ℕ) (s : List ℕ) → b ≡ 48 → numberFront (b ∷
 unfolding numberFront within
 number-zero-first b s p = rw p
 
-pub number-read : (w : List ℕ) (v d : ℕ) (r : List ℕ) → d ≤ 41 → numeralOf w ≡ some v → numberFront (w ++ d ∷ r) ≡ got v (d ∷ r)
+pub number-read : (w : List ℕ) (v d : ℕ) (r : List ℕ) → d ≤ 41 → numeralOf w ≡ some v
+    → numberFront (w ++ d ∷ r) ≡ got v (d ∷ r)
 unfolding numeralOf numberFront within leadingZero digits
 number-read [] v d r l e = let z : _≡_ {A = ℕ} 0 1 = cc in absurd (omega arith)
 number-read (b ∷ w) v d r l e =
@@ -161,7 +163,8 @@ pub price-without : (d : ℕ) (w : List ℕ) (v : ℕ) → d ≤ 41 → priceOf 
 unfolding priceOf
 price-without d w v l e = number-without d w v l e
 
-pub price-read : (w : List ℕ) (v d : ℕ) (r : List ℕ) → d ≤ 41 → priceOf w ≡ some v → priceFront (w ++ d ∷ r) ≡ got v (d ∷ r)
+pub price-read : (w : List ℕ) (v d : ℕ) (r : List ℕ) → d ≤ 41 → priceOf w ≡ some v
+    → priceFront (w ++ d ∷ r) ≡ got v (d ∷ r)
 unfolding priceOf priceFront
 price-read w v d r l e = number-read w v d r l e
 

@@ -1,9 +1,9 @@
 -- A span, and a window, read from the front of bytes is that of the two words there. Assumes nothing.
 use Prim.Native.Nat.{ℕ, _≤_, _<_}
-use mathlib.Core.Path.{_≡_, refl, sym, ap, _∙_}
+use mathlib.Core.Path.{_≡_, ap, _∙_}
 use mathlib.Core.List.{List, [], _∷_, _++_, append-assoc}
 use mathlib.Core.Bool.{false}
-use mathlib.Core.Option.{none, some}
+use mathlib.Core.Option.{some}
 use native.Mathlib.Omega.{arith}
 use borrow.Author.Tests.{ne-eqb}
 use Rattle.tender.specs.declared.Span.{Span}
@@ -11,16 +11,17 @@ use Rattle.tender.specs.declared.Window.{Window}
 use Rattle.tender.specs.Limits.{asWindow}
 use Rattle.reader_word.specs.Words.{andThen, among, opened, closed, numeralOf}
 use Rattle.reader_word.specs.Windows.{spanOf, windowOf}
-use Rattle.reader_word.specs.Front.{Front, got, wrong, onward, past, numberFront, spanFront, windowFront}
+use Rattle.reader_word.specs.Front.{got, onward, past, numberFront, spanFront, windowFront}
 use Rattle.reader_word.specs.FrontLaws.{onward-got, past-got}
 use Rattle.reader_word.specs.RejoinedLaws.{among-append}
 use Rattle.reader_word.specs.GivenLaws.{then-some, opened-some, closed-some, closed-back}
-use Rattle.reader_word.specs.NumberFrontLaws.{Led, number-without, number-read, number-from}
+use Rattle.reader_word.specs.NumberFrontLaws.{number-without, number-read, number-from}
 use Rattle.reader_word.specs.SpansLaws.{span-both}
 
 -- "S E)"
 
-pub span-without : (d : ℕ) (s e : List ℕ) (w : Span) → d ≤ 41 → spanOf s e ≡ some w → (among d s ≡ false) × (among d e ≡ false)
+pub span-without : (d : ℕ) (s e : List ℕ) (w : Span) → d ≤ 41 → spanOf s e ≡ some w
+    → (among d s ≡ false) × (among d e ≡ false)
 unfolding spanOf
 span-without d s e w l h =
     let a = then-some (numeralOf s) _ w h in
@@ -75,7 +76,8 @@ closed-without d w z l e h = rw (closed-some w z e) (among-append d z (41 ∷ []
 
 -- " (S E)"
 
-pub window-without : (d : ℕ) (s e : List ℕ) (w : Window) → d < 40 → windowOf s e ≡ some w → (among d s ≡ false) × (among d e ≡ false)
+pub window-without : (d : ℕ) (s e : List ℕ) (w : Window) → d < 40 → windowOf s e ≡ some w
+    → (among d s ≡ false) × (among d e ≡ false)
 unfolding windowOf among
 window-without d s e w l h =
     let a = then-some (opened s) _ w h in
@@ -89,7 +91,8 @@ brackets-read : (s e a z : List ℕ) (v : Span) (r : List ℕ) → s ≡ 40 ∷ 
 unfolding windowFront onward past
 brackets-read s e a z v r p q h = rw (p, q, append-assoc z (41 ∷ []) r) (rw (span-read a z v r h))
 
-pub window-read : (s e : List ℕ) (w : Window) (r : List ℕ) → windowOf s e ≡ some w → windowFront (32 ∷ (s ++ 32 ∷ (e ++ r))) ≡ got w r
+pub window-read : (s e : List ℕ) (w : Window) (r : List ℕ) → windowOf s e ≡ some w
+    → windowFront (32 ∷ (s ++ 32 ∷ (e ++ r))) ≡ got w r
 unfolding windowOf
 window-read s e w r h =
     let a = then-some (opened s) _ w h in
