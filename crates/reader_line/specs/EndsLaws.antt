@@ -16,7 +16,8 @@ use Rattle.reader_word.specs.Scan.{toNext}
 use Rattle.reader_word.specs.ScanLaws.{next-fits, next-other}
 use Rattle.reader_line.specs.PiecesLaws.{lines-at, lines-unended}
 use Rattle.reader_line.specs.LinePlain.{plain, allPlain}
-use Rattle.reader_line.specs.LinePlainLaws.{both-true, line-plain}
+use Rattle.reader_word.specs.GivenLaws.{both-true}
+use Rattle.reader_line.specs.LinePlainLaws.{line-plain}
 use Rattle.reader_line.specs.Answer.{FirstBroken, EndsAt}
 use Rattle.reader_line.specs.declared.ends.LineEnd.{LineEnd}
 use Rattle.reader_line.specs.declared.ends.LineEnd.the-variants.{At, Broken}

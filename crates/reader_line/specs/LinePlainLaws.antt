@@ -1,8 +1,8 @@
 -- Each byte of a line of the form is a digit, a space, a bracket or a letter. Assumes nothing.
 use mathlib.Core.Path.{_≡_, refl, ap, _∙_}
 use mathlib.Core.List.{List, [], _∷_}
-use mathlib.Core.Bool.{Bool, true, false, cond, not, _&&_, false≢true}
-use mathlib.Core.Option.{Option, none, some}
+use mathlib.Core.Bool.{Bool, true, false, cond, not, _&&_}
+use mathlib.Core.Option.{none, some}
 use Prim.Native.Nat.{ℕ, _+_, _-_, _*_}
 use native.Mathlib.Omega.{arith}
 use lib.ListN.{length}
@@ -14,19 +14,16 @@ use Rattle.tender.specs.declared.Kind.the-variants.{Single, Multi}
 use Rattle.tender.specs.declared.Span.{Span}
 use Rattle.tender.specs.declared.Window.{Window}
 use Rattle.tender.specs.Limits.{within}
-use Rattle.reader_word.specs.Words.{andThen, growFirst, cut, sameBytes, opened, closed, digits, leadingZero, numeralOf, priceOf}
+use Rattle.reader_word.specs.Words.{growFirst, cut, sameBytes, opened, closed, digits, leadingZero, numeralOf, priceOf}
 use Rattle.reader_line.specs.Line.{Line, kindOf, windowsIn, tenderOf, bidOf, reserveOf, lineOfWords, lineOf}
 use Rattle.reader_word.specs.Windows.{spanOf, windowOf}
+use Rattle.reader_word.specs.GivenLaws.{both-true, then-some, cond-some, same-is}
 use Rattle.reader_word.specs.CutLaws.{Pieces, cut-some}
 use Rattle.reader_line.specs.LinePlain.{plain, allPlain}
 
 abbrev pub PlainPieces : List (List ℕ) → Type 0
 PlainPieces [] = Unit {0}
 PlainPieces (p ∷ ps) = (allPlain p ≡ true) × PlainPieces ps
-
-pub both-true : (a b : Bool) → a && b ≡ true → (a ≡ true) × (b ≡ true)
-both-true true b e = (refl, e)
-both-true false b e = absurd (false≢true e)
 
 both : (a b : Bool) → a ≡ true → b ≡ true → a && b ≡ true
 both a b h k = rw (h, k)
@@ -46,28 +43,6 @@ cut-plain d (b ∷ s) h a = go (eqb b d) refl (cut d s) (cut-some d s) (cut-plai
     go true e ps c ih x = both (plain b) (allPlain s) (rw (eqb-true b d e) h) (ih (x .1))
     go false e [] c ih x = let q : [] ≡ c .first ∷ c .rest = c .are in let z : _≡_ {A = ℕ} 0 1 = cc in absurd (omega arith)
     go false e (p ∷ ps) c ih x = more p ps ih x
-
-pub then-some : {A B : Type 0} (o : Option A) (f : A → Option B) (x : B) → andThen o f ≡ some x → (a : A) × (o ≡ some a)
-    × (f a ≡ some x)
-unfolding andThen
-then-some none f x e = let z : _≡_ {A = ℕ} 0 1 = cc in absurd (omega arith)
-then-some (some a) f x e = (a, refl, e)
-
-pub cond-some : {A : Type 0} (t : Bool) (o : Option A) (x : A) → cond t o none ≡ some x → (t ≡ true) × (o ≡ some x)
-cond-some true o x e = (refl, e)
-cond-some false o x e = let z : _≡_ {A = ℕ} 0 1 = cc in absurd (omega arith)
-
-same-is : (v w : List ℕ) → sameBytes v w ≡ true → v ≡ w
-unfolding sameBytes
-same-is [] [] e = refl
-same-is [] (b ∷ w) e = absurd (false≢true e)
-same-is (a ∷ v) [] e = absurd (false≢true e)
-same-is (a ∷ v) (b ∷ w) e = go (eqb a b) refl e (same-is v w)
-  where
-    go : (t : Bool) → eqb a b ≡ t → cond t (sameBytes v w) false ≡ true → (sameBytes v w ≡ true → v ≡ w)
-        → a ∷ v ≡ b ∷ w
-    go true q x ih = let p = eqb-true a b q in let r = ih x in cc
-    go false q x ih = absurd (false≢true x)
 
 digit-plain : (b : ℕ) → within 48 57 b ≡ true → plain b ≡ true
 unfolding plain

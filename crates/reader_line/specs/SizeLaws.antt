@@ -15,7 +15,7 @@ use Rattle.reader_word.specs.Words.{growFirst, cut, sameBytes, opened, closed, 
 use Rattle.reader_line.specs.Line.{BidLine, bid, kindOf, windowsIn, tenderOf, bidOf, reserveOf, lineOfWords, lineOf}
 use Rattle.reader_word.specs.Windows.{spanOf, windowOf}
 use Rattle.reader_word.specs.CutLaws.{Pieces, cut-some}
-use Rattle.reader_line.specs.LinePlainLaws.{both-true, then-some, cond-some}
+use Rattle.reader_word.specs.GivenLaws.{both-true, then-some, cond-some}
 
 -- the bytes of the pieces, with one after each
 bytesOf : List (List ℕ) → ℕ

@@ -22,7 +22,7 @@ use Rattle.reader_word.specs.Words.{andThen, cut, among, sameBytes, closed, num
 use Rattle.reader_line.specs.Line.{BidLine, Line, tender, bid, reserve, kindOf, windowsIn, tenderOf, bidOf, reserveOf, lineOfWords}
 use Rattle.reader_word.specs.Windows.{spanOf, windowOf}
 use Rattle.reader_line.specs.Line.{headLines, lineOf, linesOf}
-use Rattle.reader_line.specs.LinePlainLaws.{both-true as and-split}
+use Rattle.reader_word.specs.GivenLaws.{both-true as and-split}
 use Rattle.tender.specs.declared.Refusal.{Refusal}
 use Rattle.tender.specs.declared.Refusal.the-variants.{OutsideLimits, TooMany, EmptyWindow, BidderRepeated, SeveralWindows}
 use Rattle.tender.specs.declared.Refusal.the-variants.{LateWindow}
