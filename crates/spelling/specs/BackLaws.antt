@@ -16,20 +16,21 @@ use Rattle.tender.specs.Keywords.{bytes, tenderWord, reserveWord, bidWord, sing
 use Rattle.reader_word.specs.Words.{andThen, among, cut, sameBytes, priceOf}
 use Rattle.reader_line.specs.Line.{BidLine, Line, tender, bid, reserve, tenderLine, reserveLines, headLines, kindOf, tenderOf}
 use Rattle.reader_line.specs.Line.{bidOf, reserveOf, lineOfWords, lineOf, linesOf}
+use Rattle.reader_word.specs.GivenLaws.{closed-back}
 use Rattle.reader_word.specs.CutLaws.{cut-some, cut-end}
+use Rattle.reader_word.specs.RejoinedLaws.{Without, among-append, cut-rejoined, rejoined-among}
 use Rattle.spelling.specs.Decimal.{decimal}
 use Rattle.spelling.specs.Lines.{oneLine, kindWord}
 use Rattle.spelling.specs.Text.{bidText, tenderText, reserveText, headText, bidsText, textOf}
 use Rattle.spelling.specs.DecimalLaws.{decimal-plain, numeral-decimal}
-use Rattle.spelling.specs.WordLaws.{spaced, tenderWords, oneWords, windowWords, bidWords, Without, among-append, cut-spaced}
-use Rattle.spelling.specs.WordLaws.{spaced-among, bid-line, tender-line, one-line, bid-without, closed-back, Named, AllNamed}
-use Rattle.spelling.specs.WordLaws.{span-back, windows-back}
+use Rattle.spelling.specs.WordLaws.{spaced, tenderWords, oneWords, windowWords, bidWords, bid-line, tender-line, one-line}
+use Rattle.spelling.specs.WordLaws.{bid-without, Named, AllNamed, span-back, windows-back}
 
 -- a line of words before more
 line-then : (w : List ℕ) (ws : List (List ℕ)) (rest : List ℕ) → Without 10 (w ∷ ws)
     → cut 10 ((spaced (w ∷ ws) ++ 10 ∷ []) ++ rest) ≡ spaced (w ∷ ws) ∷ cut 10 rest
 line-then w ws rest h = ap (cut 10) (append-assoc (spaced (w ∷ ws)) (10 ∷ []) rest)
-    ∙ cut-end 10 (spaced (w ∷ ws)) rest (spaced-among 10 w ws refl h)
+    ∙ cut-end 10 (spaced (w ∷ ws)) rest (rejoined-among 10 32 w ws refl h)
 
 -- a bid whose numbers a text may name, with some window
 abbrev pub Nameable : BidLine → Type 0
@@ -44,7 +45,7 @@ bid-words-back : (n p : ℕ) (w : Window) (ws : List Window) → n < 1000000000 
     lineOf (spaced (bidWords n p (w ∷ ws))) ≡ some (bid (record { bidder = n; price = p; windows = w ∷ ws }))
 unfolding lineOf lineOfWords sameBytes tenderWord bidWord bytes bidWords bidOf andThen priceOf among
 bid-words-back n p w ws a b h =
-    rw (cut-spaced (40 ∷ bidWord) (decimal n ∷ decimal p ∷ windowWords (w ∷ ws))
+    rw (cut-rejoined 32 (40 ∷ bidWord) (decimal n ∷ decimal p ∷ windowWords (w ∷ ws))
     (bid-without 32 n p w ws (omega arith) refl refl refl))
     (rw (numeral-decimal n a, numeral-decimal p b, windows-back w ws h))
 
@@ -104,7 +105,7 @@ tender-without d t l a k b = (
 tender-words-back : (t : Tender) → Named (asWindow (t .window)) → lineOf (spaced (tenderWords t)) ≡ some (tender (tenderLine t))
 unfolding lineOf lineOfWords sameBytes tenderWord bytes tenderWords tenderOf andThen among
 tender-words-back t h =
-    rw (cut-spaced (40 ∷ tenderWord) (kindWord (t .kind) ∷ decimal (t .window .start) ∷ (decimal (t .window .end) ++ 41 ∷ [])
+    rw (cut-rejoined 32 (40 ∷ tenderWord) (kindWord (t .kind) ∷ decimal (t .window .start) ∷ (decimal (t .window .end) ++ 41 ∷ [])
     ∷ []) (tender-without 32 t (omega arith) refl (kind-space (t .kind)) refl))
     (rw (kind-back (t .kind), closed-back (decimal (t .window .end)), span-back (t .window) h))
 
@@ -133,7 +134,7 @@ one-cuts word a rest h = ap (λ s. cut 10 (s ++ rest)) (one-line word a)
 
 pub one-words : (word : List ℕ) (a : ℕ) → among 32 word ≡ false → cut 32 (spaced (oneWords word a)) ≡ oneWords word a
 unfolding oneWords among
-one-words word a h = cut-spaced (40 ∷ word) ((decimal a ++ 41 ∷ []) ∷ []) (one-without 32 word a (omega arith) h refl)
+one-words word a h = cut-rejoined 32 (40 ∷ word) ((decimal a ++ 41 ∷ []) ∷ []) (one-without 32 word a (omega arith) h refl)
 
 -- the reserve's line
 

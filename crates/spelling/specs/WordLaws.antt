@@ -1,30 +1,28 @@
 -- A line of the bid text is its words with a space between two; cutting gives them back, and the words read back. Assumes nothing.
-use mathlib.Core.Path.{_≡_, refl, sym, ap, _∙_}
+use mathlib.Core.Path.{_≡_, sym, ap, _∙_}
 use mathlib.Core.Bool.{false}
-use mathlib.Core.List.{List, [], _∷_, _++_, append-assoc, append-nil}
+use mathlib.Core.List.{List, [], _∷_, _++_, append-assoc}
 use mathlib.Core.Option.{some}
 use Prim.Native.Nat.{ℕ, _<_}
 use native.Mathlib.Omega.{arith}
-use lib.Dec.{eqb}
 use Rattle.tender.specs.declared.Span.{Span}
 use Rattle.tender.specs.declared.Window.{Window}
 use Rattle.tender.specs.Limits.{asWindow}
 use Rattle.tender.specs.declared.Tender.{Tender}
 use Rattle.tender.specs.Keywords.{bytes, tenderWord, bidWord}
-use Rattle.reader_word.specs.Words.{andThen, among, cut, opened, closed}
+use Rattle.reader_word.specs.Words.{andThen, among, opened}
 use Rattle.reader_word.specs.Windows.{spanOf, windowOf}
 use Rattle.reader_line.specs.Line.{windowsIn}
-use Rattle.reader_word.specs.CutLaws.{neither, cut-end, cut-word}
+use Rattle.reader_word.specs.GivenLaws.{closed-back}
+use Rattle.reader_word.specs.RejoinedLaws.{rejoined, Without, among-append}
 use Rattle.spelling.specs.Decimal.{decimal}
 use Rattle.spelling.specs.Lines.{closing, numbers, oneLine, kindWord}
 use Rattle.spelling.specs.Text.{windowText, windowsText, bidText, tenderText}
 use Rattle.spelling.specs.DecimalLaws.{decimal-plain, numeral-decimal}
 
 -- words, with a space between two
-unfoldable pub spaced : List (List ℕ) → List ℕ
-spaced [] = []
-spaced (w ∷ []) = w
-spaced (w ∷ x ∷ ws) = w ++ 32 ∷ spaced (x ∷ ws)
+abbrev pub spaced : List (List ℕ) → List ℕ
+spaced ws = rejoined 32 ws
 
 -- lines, each ended by byte 10
 unfoldable pub ended : List (List ℕ) → List ℕ
@@ -53,27 +51,6 @@ unfoldable pub bidWords : ℕ → ℕ → List Window → List (List ℕ)
 unfolding bidWord decimal windowWords
 bidWords bidder price ws = (40 ∷ bidWord) ∷ decimal bidder ∷ decimal price ∷ windowWords ws
 
--- no word has a byte d
-abbrev pub Without : ℕ → List (List ℕ) → Type 0
-Without d [] = Unit {0}
-Without d (w ∷ ws) = (among d w ≡ false) × Without d ws
-
-pub among-append : (d : ℕ) (v w : List ℕ) → among d v ≡ false → among d w ≡ false → among d (v ++ w) ≡ false
-unfolding among
-among-append d [] w e f = f
-among-append d (b ∷ v) w e f = let s = neither (eqb b d) (among d v) e in rw (s .0) (among-append d v w (s .1) f)
-
-pub cut-spaced : (w : List ℕ) (ws : List (List ℕ)) → Without 32 (w ∷ ws) → cut 32 (spaced (w ∷ ws)) ≡ w ∷ ws
-unfolding spaced cut
-cut-spaced w [] h = ap (cut 32) (sym (append-nil w)) ∙ cut-word 32 w [] [] [] (h .0) refl ∙ ap (λ v. v ∷ []) (append-nil w)
-cut-spaced w (x ∷ ws) h = cut-end 32 w (spaced (x ∷ ws)) (h .0) ∙ ap (λ l. w ∷ l) (cut-spaced x ws (h .1))
-
-pub spaced-among : (d : ℕ) (w : List ℕ) (ws : List (List ℕ)) → eqb 32 d ≡ false → Without d (w ∷ ws)
-    → among d (spaced (w ∷ ws)) ≡ false
-unfolding spaced among
-spaced-among d w [] e h = h .0
-spaced-among d w (x ∷ ws) e h = among-append d w (32 ∷ spaced (x ∷ ws)) (h .0) (rw e (spaced-among d x ws e (h .1)))
-
 windows-without : (d : ℕ) (w : Window) (ws : List Window) → d < 40 → among d (40 ∷ []) ≡ false → among d (41 ∷ []) ≡ false
     → Without d (windowWords (w ∷ ws))
 unfolding windowWords
@@ -101,7 +78,7 @@ window-then a b c e = simp append-assoc
 -- a bid's line is its words, spaced, and byte 10
 windows-line : (before : List ℕ) (w : Window) (ws : List Window)
     → before ++ (windowsText (w ∷ ws) ++ closing) ≡ spaced (before ∷ windowWords (w ∷ ws)) ++ 10 ∷ []
-unfolding windowsText windowText windowWords spaced closing bytes
+unfolding windowsText windowText windowWords rejoined closing bytes
 windows-line before w [] =
     window-first before (decimal (w .start)) (decimal (w .end)) [] (41 ∷ 10 ∷ [])
     ∙ ap (λ s. before ++ 32 ∷ 40 ∷ (decimal (w .start) ++ 32 ∷ s))
@@ -114,18 +91,18 @@ windows-line before w (v ∷ ws) =
 
 pub bid-line : (n p : ℕ) (w : Window) (ws : List Window)
     → bidText (record { bidder = n; price = p; windows = w ∷ ws }) ≡ spaced (bidWords n p (w ∷ ws)) ++ 10 ∷ []
-unfolding bidText bidWord bytes bidWords spaced
+unfolding bidText bidWord bytes bidWords rejoined
 bid-line n p w ws =
     ap (λ s. (40 ∷ bidWord) ++ 32 ∷ (decimal n ++ 32 ∷ s)) (windows-line (decimal p) w ws)
     ∙ ap (λ s. (40 ∷ bidWord) ++ 32 ∷ s) (sym
     (append-assoc (decimal n) (32 ∷ spaced (decimal p ∷ windowWords (w ∷ ws))) (10 ∷ [])))
 
 pub tender-line : (t : Tender) → tenderText t ≡ spaced (tenderWords t) ++ 10 ∷ []
-unfolding tenderText tenderWords tenderWord bytes numbers closing spaced
+unfolding tenderText tenderWords tenderWord bytes numbers closing rejoined
 tender-line t = simp append-assoc
 
 pub one-line : (word : List ℕ) (a : ℕ) → oneLine word a ≡ spaced (oneWords word a) ++ 10 ∷ []
-unfolding oneLine oneWords bytes closing spaced
+unfolding oneLine oneWords bytes closing rejoined
 one-line word a = simp append-assoc
 
 pub bid-without : (d n p : ℕ) (w : Window) (ws : List Window) → d < 40 → among d (40 ∷ bidWord) ≡ false
@@ -134,12 +111,6 @@ unfolding bidWords
 bid-without d n p w ws l k a b = (k, (decimal-plain d n (omega arith), (decimal-plain d p (omega arith), windows-without d w ws l a b)))
 
 -- the words read back
-
-pub closed-back : (w : List ℕ) → closed (w ++ 41 ∷ []) ≡ some w
-unfolding closed andThen
-closed-back [] = refl
-closed-back (b ∷ []) = refl
-closed-back (b ∷ c ∷ w) = rw (closed-back (c ∷ w))
 
 -- a window of numbers that a text may name
 abbrev pub Named : Window → Type 0

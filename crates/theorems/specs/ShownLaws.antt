@@ -30,7 +30,7 @@ use Rattle.spelling.specs.LineLaws.{refused-line}
 use Rattle.listing.specs.Lines.{awardWord, winWord, houseWord, totalWord, awardLine, houseLine, lastLines}
 use Rattle.listing.specs.List.{winList, listLines}
 use Rattle.spelling.specs.DecimalLaws.{decimal-back, decimal-plain}
-use Rattle.writer_back.specs.SpeltLaws.{same-is}
+use Rattle.reader_word.specs.GivenLaws.{same-is}
 use Rattle.theorems.specs.ListRead.{lastNumber, winOn, rowOr, rowAmong, rowShown}
 
 -- a line without its byte 10

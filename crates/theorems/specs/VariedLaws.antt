@@ -18,6 +18,7 @@ use Rattle.award_check.specs.Cells.{noRow}
 use Rattle.award_check.specs.TextLaws.{rows-end}
 use Rattle.spelling.specs.Decimal.{decimal}
 use Rattle.spelling.specs.DecimalLaws.{decimal-plain}
+use Rattle.reader_word.specs.RejoinedLaws.{rejoined}
 use Rattle.spelling.specs.WordLaws.{spaced, ended, tenderWords, windowWords, bidWords}
 use Rattle.writer_back.specs.SpeltLaws.{spansOf, rowLine, spacedReserve, spacedText, spelt-words}
 use Rattle.theorems.specs.Between.{Variant}
@@ -45,7 +46,7 @@ row-in k used at (x ∷ xs) r ys end (h, hs) = row-in k (used ++ x .bidder ∷ [
 -- so its line is a bid's, up to its price and from there on
 line-parts : (n p : ℕ) (ws : List Window) → 1 ≤ length ws
     → spaced (bidWords n p ws) ≡ bidLine (decimal n) (decimal p) (spaced (windowWords ws))
-unfolding spaced bidWords windowWords bidLine
+unfolding rejoined bidWords windowWords bidLine
 line-parts n p [] l = absurd (omega arith)
 line-parts n p (w ∷ []) l = refl
 line-parts n p (w ∷ x ∷ ws) l = refl

@@ -14,7 +14,7 @@ use Rattle.reader_text.specs.Read.{ReadOutcome, accepted, refused, readText}
 use Rattle.award_check.specs.Cells.{noRow}
 use Rattle.award_check.specs.Auction.{auctionOf}
 use Rattle.listing.specs.List.{listOf}
-use Rattle.writer_back.specs.SpeltLaws.{same-is}
+use Rattle.reader_word.specs.GivenLaws.{same-is}
 use Rattle.theorems.specs.WorkedCases.{Case, third, cases}
 
 -- the list is the one defined

@@ -6,8 +6,6 @@ use mathlib.Core.Option.{Option, none, some}
 use Prim.Native.Nat.{ℕ, _+_, _≤_}
 use native.Mathlib.Omega.{arith}
 use lib.ListN.{length, take, drop}
-use lib.Dec.{eqb}
-use borrow.Author.Tests.{eqb-true}
 use lib.Seq.{take-append-seam, drop-append-seam, drop-drop}
 use Rattle.tender.specs.declared.Kind.{Kind}
 use Rattle.tender.specs.declared.Kind.the-variants.{Single, Multi}
@@ -19,11 +17,13 @@ use Rattle.tender.specs.declared.Reserve.the-variants.{Absent, Price}
 use Rattle.tender.specs.declared.Tender.{Tender}
 use Rattle.tender.specs.Keywords.{tenderWord, reserveWord, bidWord, singleWord, multiWord}
 use Rattle.tender.specs.Tables.{Row, flatWindows}
-use Rattle.reader_word.specs.Words.{andThen, growFirst, cut, sameBytes, opened, closed, numeralOf, priceOf}
+use Rattle.reader_word.specs.Words.{andThen, cut, sameBytes, opened, closed, numeralOf, priceOf}
 use Rattle.reader_line.specs.Line.{BidLine, Line, tender, bid, reserve, kindOf, windowsIn, tenderOf, bidOf, reserveOf, lineOfWords}
 use Rattle.reader_word.specs.Windows.{spanOf, windowOf}
 use Rattle.reader_line.specs.Line.{reserveLines, headLines, lineOf, linesOf}
-use Rattle.reader_word.specs.CutLaws.{Pieces, cut-some}
+use Rattle.reader_word.specs.GivenLaws.{same-is, opened-some, closed-some}
+use Rattle.reader_word.specs.CutLaws.{cut-some}
+use Rattle.reader_word.specs.RejoinedLaws.{rejoined, rejoined-cut}
 use Rattle.reader_text.specs.Read.{accepted, rowsFrom, allWindows, bidsOf, tenderWith, readText}
 use Rattle.reader_text.specs.Rules.{RowsRules}
 use Rattle.reader_text.specs.RulesLaws.{rules-law}
@@ -36,78 +36,7 @@ use Rattle.spelling.specs.DecimalLaws.{numeral-spelling}
 use Rattle.spelling.specs.WordLaws.{spaced, ended, tenderWords, oneWords, windowWords, bidWords, bid-line, tender-line, one-line}
 use Rattle.writer_back.specs.OwnLaws.{bids-filled}
 
--- pieces joined again
-
-rejoined : ℕ → List (List ℕ) → List ℕ
-rejoined d [] = []
-rejoined d (p ∷ []) = p
-rejoined d (p ∷ q ∷ ps) = p ++ d ∷ rejoined d (q ∷ ps)
-
-rejoined-grow : (d b : ℕ) (ps : List (List ℕ)) → Pieces ps → rejoined d (growFirst b ps) ≡ b ∷ rejoined d ps
-unfolding growFirst rejoined
-rejoined-grow d b [] c = let e = ap length (c .are) in absurd (omega (arith, e))
-rejoined-grow d b (p ∷ []) c = refl
-rejoined-grow d b (p ∷ q ∷ ps) c = refl
-
-rejoined-new : (d : ℕ) (ps : List (List ℕ)) → Pieces ps → rejoined d ([] ∷ ps) ≡ d ∷ rejoined d ps
-unfolding rejoined
-rejoined-new d [] c = let e = ap length (c .are) in absurd (omega (arith, e))
-rejoined-new d (p ∷ ps) c = refl
-
-rejoined-cut : (d : ℕ) (s : List ℕ) → rejoined d (cut d s) ≡ s
-unfolding cut rejoined
-rejoined-cut d [] = refl
-rejoined-cut d (b ∷ s) = go (eqb b d) refl (cut-some d s) (rejoined-cut d s)
-  where
-    go : (t : Bool) → eqb b d ≡ t → Pieces (cut d s) → rejoined d (cut d s) ≡ s
-        → rejoined d (cond t ([] ∷ cut d s) (growFirst b (cut d s)))
-        ≡ b ∷ s
-    go true e c h = rejoined-new d (cut d s) c ∙ rw (h, eqb-true b d e)
-    go false e c h = rejoined-grow d b (cut d s) c ∙ ap (λ l. b ∷ l) h
-
-rejoined-spaced : (ws : List (List ℕ)) → rejoined 32 ws ≡ spaced ws
-unfolding rejoined spaced
-rejoined-spaced [] = refl
-rejoined-spaced (w ∷ []) = refl
-rejoined-spaced (w ∷ x ∷ ws) = ap (λ l. w ++ 32 ∷ l) (rejoined-spaced (x ∷ ws))
-
 -- words
-
-pub same-is : (s t : List ℕ) → sameBytes s t ≡ true → s ≡ t
-unfolding sameBytes
-same-is [] [] e = refl
-same-is [] (b ∷ t) e = let z : _≡_ {A = ℕ} 0 1 = cc in absurd (omega arith)
-same-is (a ∷ s) [] e = let z : _≡_ {A = ℕ} 0 1 = cc in absurd (omega arith)
-same-is (a ∷ s) (b ∷ t) e = go (eqb a b) refl e (same-is s t)
-  where
-    go : (v : Bool) → eqb a b ≡ v → cond v (sameBytes s t) false ≡ true → (sameBytes s t ≡ true → s ≡ t)
-        → a ∷ s ≡ b ∷ t
-    go true f x ih = rw (eqb-true a b f, ih x)
-    go false f x ih = let z : _≡_ {A = ℕ} 0 1 = cc in absurd (omega arith)
-
-opened-is : (s a : List ℕ) → opened s ≡ some a → s ≡ 40 ∷ a
-unfolding opened
-opened-is [] a e = let z : _≡_ {A = ℕ} 0 1 = cc in absurd (omega arith)
-opened-is (b ∷ s) a e = go (eqb b 40) refl e
-  where
-    go : (v : Bool) → eqb b 40 ≡ v → cond v (some s) none ≡ some a → b ∷ s ≡ 40 ∷ a
-    go true f x = let h : s ≡ a = cc in rw (eqb-true b 40 f, h)
-    go false f x = let z : _≡_ {A = ℕ} 0 1 = cc in absurd (omega arith)
-
-closed-is : (s a : List ℕ) → closed s ≡ some a → s ≡ a ++ 41 ∷ []
-unfolding closed andThen
-closed-is [] a e = let z : _≡_ {A = ℕ} 0 1 = cc in absurd (omega arith)
-closed-is (b ∷ []) a e = go (eqb b 41) refl e
-  where
-    go : (v : Bool) → eqb b 41 ≡ v → cond v (some []) none ≡ some a → b ∷ [] ≡ a ++ 41 ∷ []
-    go true f x = let h : [] ≡ a = cc in rw (eqb-true b 41 f, ← h)
-    go false f x = let z : _≡_ {A = ℕ} 0 1 = cc in absurd (omega arith)
-closed-is (b ∷ c ∷ s) a e = go (closed (c ∷ s)) refl e (closed-is (c ∷ s))
-  where
-    go : (o : Option (List ℕ)) → closed (c ∷ s) ≡ o → andThen o (λ r. some (b ∷ r)) ≡ some a
-        → ((r : List ℕ) → closed (c ∷ s) ≡ some r → c ∷ s ≡ r ++ 41 ∷ []) → b ∷ c ∷ s ≡ a ++ 41 ∷ []
-    go none f x ih = let z : _≡_ {A = ℕ} 0 1 = cc in absurd (omega arith)
-    go (some r) f x ih = let h : b ∷ r ≡ a = cc in rw (← h) (ap (λ l. b ∷ l) (ih r f))
 
 record SpeltSpan (s e : List ℕ) (w : Span) : Type 0 where
   start-is : s ≡ decimal (w .start)
@@ -145,8 +74,8 @@ window-is s e w h = go (opened s) (closed e) refl refl h
         let k = span-is a z v i in
         let u : _≡_ {A = Window} (asWindow v) w = cc in
         record {
-          start-is = opened-is s a f ∙ ap (λ l. 40 ∷ l) (k .start-is) ∙ ap (λ (x : Window). 40 ∷ decimal (x .start)) u;
-          end-is = closed-is e z g ∙ ap (λ l. l ++ 41 ∷ []) (k .end-is) ∙ ap (λ (x : Window). decimal (x .end) ++ 41 ∷ []) u;
+          start-is = opened-some s a f ∙ ap (λ l. 40 ∷ l) (k .start-is) ∙ ap (λ (x : Window). 40 ∷ decimal (x .start)) u;
+          end-is = closed-some e z g ∙ ap (λ l. l ++ 41 ∷ []) (k .end-is) ∙ ap (λ (x : Window). decimal (x .end) ++ 41 ∷ []) u;
         }
 
     go : (x y : Option (List ℕ)) → opened s ≡ x → closed e ≡ y
@@ -173,7 +102,7 @@ windows-are (s ∷ e ∷ []) l h = go (closed e) refl h
     go : (o : Option (List ℕ)) → closed e ≡ o → andThen o (λ z. andThen (windowOf s z) (λ w. some (w ∷ []))) ≡ some l
         → s ∷ e ∷ [] ≡ windowWords l
     go none f q = let n : _≡_ {A = ℕ} 0 1 = cc in absurd (omega arith)
-    go (some z) f q = last z (closed-is e z f) (windowOf s z) refl q
+    go (some z) f q = last z (closed-some e z f) (windowOf s z) refl q
 windows-are (s ∷ e ∷ x ∷ ws) l h = go (windowOf s e) (windowsIn (x ∷ ws)) refl refl h (windows-are (x ∷ ws))
   where
     longer : (w : Window) (r : List Window) → Bracketed s e w → x ∷ ws ≡ windowWords r
@@ -229,7 +158,7 @@ tender-is (k ∷ s ∷ e ∷ []) x h = go (kindOf k) (closed e) refl refl h
         (40 ∷ tenderWord) ∷ k ∷ s ∷ e ∷ [] ≡ wordsOf x
     go none p f g q = let n : _≡_ {A = ℕ} 0 1 = cc in absurd (omega arith)
     go (some y) none f g q = let n : _≡_ {A = ℕ} 0 1 = cc in absurd (omega arith)
-    go (some y) (some z) f g q = last y z (kind-is k y f) (closed-is e z g) (spanOf s z) refl q
+    go (some y) (some z) f g q = last y z (kind-is k y f) (closed-some e z g) (spanOf s z) refl q
 tender-is (k ∷ s ∷ e ∷ y ∷ ws) x h = let z : _≡_ {A = ℕ} 0 1 = cc in absurd (omega arith)
 
 bid-is : (ws : List (List ℕ)) (x : Line) → bidOf ws ≡ some x → (40 ∷ bidWord) ∷ ws ≡ wordsOf x
@@ -262,7 +191,7 @@ reserve-is (p ∷ []) x h = go (closed p) refl h
     go : (o : Option (List ℕ)) → closed p ≡ o → andThen o (λ z. andThen (priceOf z) (λ v. some (reserve v))) ≡ some x
         → (40 ∷ reserveWord) ∷ p ∷ [] ≡ wordsOf x
     go none f q = let n : _≡_ {A = ℕ} 0 1 = cc in absurd (omega arith)
-    go (some z) f q = last z (closed-is p z f) (priceOf z) refl q
+    go (some z) f q = last z (closed-some p z f) (priceOf z) refl q
 reserve-is (p ∷ y ∷ ws) x h = let z : _≡_ {A = ℕ} 0 1 = cc in absurd (omega arith)
 
 words-are : (ws : List (List ℕ)) (x : Line) → lineOfWords ws ≡ some x → ws ≡ wordsOf x
@@ -282,7 +211,7 @@ words-are (w ∷ ws) x h =
 -- a line is read from one spelling
 pub line-is : (line : List ℕ) (x : Line) → lineOf line ≡ some x → line ≡ spaced (wordsOf x)
 unfolding lineOf
-line-is line x h = sym (rejoined-cut 32 line) ∙ ap (rejoined 32) (words-are (cut 32 line) x h) ∙ rejoined-spaced (wordsOf x)
+line-is line x h = sym (rejoined-cut 32 line) ∙ ap (rejoined 32) (words-are (cut 32 line) x h)
 
 -- the pieces between bytes 10: the lines, and nothing after the last
 pieces-are : (p : List ℕ) (ps : List (List ℕ)) (xs : List Line) → linesOf (p ∷ ps) ≡ map (λ x. some x) xs
@@ -389,17 +318,17 @@ abbrev pub spansOf : List Window → Row → List Window
 spansOf W r = take (r .count) (drop (r .first) W)
 
 unfoldable pub rowLine : List Window → Row → List ℕ
-unfolding spaced bidWords
+unfolding rejoined bidWords
 rowLine W r = spaced (bidWords (r .bidder) (r .price) (spansOf W r))
 
 -- the reserve's line, where there is one
 unfoldable pub spacedReserve : Reserve → List (List ℕ)
-unfolding spaced oneWords reserveWord
+unfolding rejoined oneWords reserveWord
 spacedReserve Absent = []
 spacedReserve (Price p) = spaced (oneWords reserveWord p) ∷ []
 
 unfoldable pub spacedText : Tender → List Row → List Window → List ℕ
-unfolding spaced ended tenderWords spacedReserve rowLine
+unfolding rejoined ended tenderWords spacedReserve rowLine
 spacedText T R W = ended (spaced (tenderWords T) ∷ (spacedReserve (T .reserve) ++ map (rowLine W) R))
 
 reserve-spaced : (r : Reserve) (ls : List Line)
