@@ -34,7 +34,8 @@ span-read s e w r h =
     let a = then-some (numeralOf s) _ w h in
     let z = then-some (numeralOf e) _ w (a .2) in
     let q : _≡_ {A = Span} (record { start = a .0; end = z .0 }) w = cc (z .2) in
-    rw (number-read s (a .0) 32 (e ++ 41 ∷ r) (omega arith) (a .1), number-read e (z .0) 41 r (omega arith) (z .1), q)
+    rw (number-read s (a .0) 32 (e ++ 41 ∷ r) (omega arith) (a .1), number-read e (z .0) 41 r (omega arith) (z .1))
+    (ap (λ (x : Span). got x r) q)
 
 pub record SpanLed (s : List ℕ) (w : Span) (r : List ℕ) : Type 0 where
   pub first : List ℕ
