@@ -1,46 +1,64 @@
--- The answers of this crate's functions, as the definitions' values.
+-- The answers of this crate's functions, as what is read from the front of bytes.
 use mathlib.Core.Path.{_≡_}
-use mathlib.Core.List.{List, _∷_}
+use mathlib.Core.List.{List}
 use mathlib.Core.Option.{Option, none, some}
-use Prim.Native.Nat.{ℕ, _+_, _<_}
+use Prim.Native.Nat.{ℕ, _+_, _≤_}
 use lib.ListN.{length, drop}
-use Rattle.tender.specs.declared.Kind.{Kind}
-use Rattle.reader_word.specs.Words.{cut}
-use Rattle.reader_line.specs.Line.{Line, linesOf}
+use Rattle.tender.specs.declared.Window.{Window}
 use Rattle.reader_word.specs.Scan.{toNext}
-use Rattle.reader_line.specs.Tally.{Note, tenderNote, bidNote, reserveNote}
+use Rattle.reader_word.specs.Front.{Front, got, wrong, onward}
+use Rattle.reader_word.specs.declared.windows.Flaw.{Flaw}
+use Rattle.reader_line.specs.Line as said
+use Rattle.reader_line.specs.LineFront.{fronted}
+use Rattle.reader_line.specs.Tally.{Note, tenderNote, bidNote, reserveNote, noted}
 use Rattle.reader_line.specs.Tally as held
-use Rattle.reader_line.specs.declared.ends.LineEnd.{LineEnd}
-use Rattle.reader_line.specs.declared.ends.LineEnd.the-variants.{At, Broken}
-use Rattle.reader_line.specs.declared.line.KindWord.{KindWord}
-use Rattle.reader_line.specs.declared.line.KindWord.the-variants as kindWord
 use Rattle.reader_line.specs.declared.line.Tally.{Tally}
 use Rattle.reader_line.specs.declared.line.Tally.the-variants as tally
 use Rattle.reader_line.specs.declared.line.Line as line
 use Rattle.reader_line.specs.declared.line.Line.the-variants as lineIs
 
--- the first line is not of the form
-pub record FirstBroken (ls : List (Option Line)) : Type 0 where
-  pub rest : List (Option Line)
-  pub are : ls ≡ none ∷ rest
+-- a bid with the windows that are read
+abbrev pub withWindows : ℕ → ℕ → Front (List Window) → Front said.Line
+withWindows y v x = onward x (λ ws r. got (said.bid (record { bidder = y; price = v; windows = ws })) r)
 
--- where the line from `at` on ends
-abbrev pub EndsAt : List ℕ → ℕ → LineEnd → Type 0
-EndsAt text at (At e) = (at + toNext 10 (drop at text) ≡ e) × (e < length text)
-EndsAt text at Broken = FirstBroken (linesOf (cut 10 (drop at text)))
+-- what a reader holds of the windows and of the line that it reads, with the bytes after them
 
-abbrev pub asKind : Option Kind → KindWord
-asKind none = kindWord.Wrong
-asKind (some k) = kindWord.Of k
+unfoldable pub talliedFront : ℕ → ℕ → Flaw → List ℕ → Front (List Window) → Front held.Tally
+unfolding onward held.tally
+talliedFront m n flaw table x = onward x (λ ws r. got (held.tally m n flaw table ws) r)
 
--- an answer with the table as it then is
+unfoldable pub notedFront : ℕ → List ℕ → Front said.Line → Front Note
+unfolding onward fronted noted
+notedFront m table x = onward x (λ l r. fronted (noted m table (some l)) r)
 
-abbrev pub toldTally : Tally → List ℕ → Option held.Tally
-toldTally tally.Broken table = none
-toldTally (tally.Windows n flaw) table = some (record { count = n; flaw = flaw; table = table })
+-- an answer with the table as it then is, and the bytes from its place on
+
+abbrev pub toldTally : List ℕ → Tally → List ℕ → Front held.Tally
+toldTally s tally.Broken table = wrong
+toldTally s (tally.Windows n flaw e) table = got (record { count = n; flaw = flaw; table = table }) (drop e s)
+
+abbrev pub tallyPlace : Tally → ℕ
+tallyPlace tally.Broken = 0
+tallyPlace (tally.Windows n flaw e) = e
 
 abbrev pub toldLine : line.Line → List ℕ → Option Note
 toldLine lineIs.Broken table = none
-toldLine (lineIs.Tender k w) table = some (tenderNote (record { kind = k; window = w }))
-toldLine (lineIs.Bid n p c flaw) table = some (bidNote n p (record { count = c; flaw = flaw; table = table }))
-toldLine (lineIs.Reserve p) table = some (reserveNote p)
+toldLine (lineIs.Tender k w e) table = some (tenderNote (record { kind = k; window = w }))
+toldLine (lineIs.Bid n p c flaw e) table = some (bidNote n p (record { count = c; flaw = flaw; table = table }))
+toldLine (lineIs.Reserve p e) table = some (reserveNote p)
+
+abbrev pub linePlace : line.Line → ℕ
+linePlace lineIs.Broken = 0
+linePlace (lineIs.Tender k w e) = e
+linePlace (lineIs.Bid n p c flaw e) = e
+linePlace (lineIs.Reserve p e) = e
+
+abbrev pub toldFront : List ℕ → line.Line → List ℕ → Front Note
+toldFront s r table = fronted (toldLine r table) (drop (linePlace r) s)
+
+-- where the line from `at` on goes on: past its byte 10
+abbrev pub EndsAfter : List ℕ → ℕ → line.Line → Type 0
+EndsAfter s at lineIs.Broken = Unit {0}
+EndsAfter s at (lineIs.Tender k w e) = (at + toNext 10 (drop at s) + 1 ≡ e) × (e ≤ length s)
+EndsAfter s at (lineIs.Bid n p c flaw e) = (at + toNext 10 (drop at s) + 1 ≡ e) × (e ≤ length s)
+EndsAfter s at (lineIs.Reserve p e) = (at + toNext 10 (drop at s) + 1 ≡ e) × (e ≤ length s)

@@ -1,14 +1,14 @@
 -- The pieces between bytes 10 as lines: behind others, and from a place on. Assumes nothing.
 use mathlib.Core.Path.{_≡_, refl, ap}
 use mathlib.Core.List.{List, [], _∷_, _++_, map}
-use mathlib.Core.Option.{Option, none}
+use mathlib.Core.Option.{Option}
 use Prim.Native.Nat.{ℕ, _+_, _-_, _≤_, _<_}
 use native.Mathlib.Omega.{arith}
 use lib.ListN.{length, take, drop, drop-of-length-le}
 use Rattle.reader_word.specs.Words.{cut}
 use Rattle.reader_word.specs.CutLaws.{cut-some}
 use Rattle.reader_word.specs.Scan.{toNext}
-use Rattle.reader_word.specs.ScanLaws.{drop-next, cut-at, cut-at-end}
+use Rattle.reader_word.specs.ScanLaws.{cut-at}
 use Rattle.reader_line.specs.Line.{Line, lineOf, linesOf}
 
 -- the pieces before some other are lines
@@ -24,11 +24,6 @@ pub lines-at : (s : List ℕ) (i e : ℕ) → i + toNext 10 (drop i s) ≡ e →
     → linesOf (cut 10 (drop i s)) ≡ lineOf (take (e - i) (drop i s)) ∷ linesOf (cut 10 (drop (e + 1) s))
 unfolding linesOf
 lines-at s i e q h = let c = cut-some 10 (drop (e + 1) s) in rw (cut-at 10 s i e q h, c .are)
-
-pub lines-unended : (s : List ℕ) (i : ℕ) → i < length s → i + toNext 10 (drop i s) ≡ length s
-    → linesOf (cut 10 (drop i s)) ≡ none ∷ []
-unfolding linesOf
-lines-unended s i l q = rw (cut-at-end 10 s i (omega arith) q, drop-next s i l)
 
 pub lines-end : (s : List ℕ) → linesOf (cut 10 (drop (length s) s)) ≡ []
 unfolding linesOf cut

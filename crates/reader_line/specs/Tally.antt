@@ -34,12 +34,6 @@ unfoldable pub tally : ℕ → ℕ → Flaw → List ℕ → List Window → Tal
 unfolding flawOf worst putWindows
 tally m n flaw table ws = record { count = n + length ws; flaw = worst flaw (flawOf ws); table = putWindows table (m + n) ws }
 
--- none where the form is broken
-unfoldable pub tallied : ℕ → ℕ → Flaw → List ℕ → Option (List Window) → Option Tally
-unfolding tally
-tallied m n flaw table none = none
-tallied m n flaw table (some ws) = some (tally m n flaw table ws)
-
 -- a line as it is noted: a bid's windows are in the table, from row m on
 pub data Note : Type 0 where
   tenderNote : TenderLine → Note

@@ -2,33 +2,23 @@
 use mathlib.Core.Path.{_≡_, refl, _∙_}
 use mathlib.Core.List.{List, [], _∷_}
 use mathlib.Core.Bool.{Bool, true, false, cond}
-use mathlib.Core.Option.{Option, none, some}
 use Prim.Native.Nat.{ℕ, _+_, _*_, _/_, _≤_, _<_}
 use native.Mathlib.Omega.{arith}
-use lib.ListN.{length, take, drop, set}
+use lib.ListN.{length, take, drop, getD, set}
 use lib.Dec.{ltb}
 use lib.Seq.{take-set-le}
 use Rattle.tender.specs.declared.Window.{Window}
 use Rattle.tender.specs.Tables.{windowWidth}
-use Rattle.reader_word.specs.Words.{andThen, cut, closed}
-use Rattle.reader_word.specs.Windows.{windowOf}
-use Rattle.reader_line.specs.Line.{windowsIn}
-use Rattle.reader_word.specs.CutLaws.{cut-some}
 use Rattle.reader_word.specs.Flaws.{flawIn, worst}
 use Rattle.reader_word.specs.FlawLaws.{worst-more, worst-last}
 use Rattle.reader_word.specs.declared.windows.Flaw.{Flaw}
-use Rattle.reader_word.specs.Scan.{toNext, part}
-use Rattle.reader_line.specs.Tally.{putWindow, tallied}
-use Rattle.reader_word.specs.ScanLaws.{cut-at, cut-at-end}
-
-step : (m n : ℕ) (flaw : Flaw) (table : List ℕ) (w : Window) (o : Option (List Window)) →
-    tallied m n flaw table (andThen o (λ r. some (w ∷ r))) ≡ tallied m (n + 1) (worst flaw (flawIn w)) (putWindow table (m + n) w) o
-unfolding tallied andThen
-step m n flaw table w none = refl
-step m n flaw table w (some ws) =
-    let e : n + length (w ∷ ws) ≡ n + 1 + length ws = omega arith in
-    let f : m + n + 1 ≡ m + (n + 1) = omega arith in
-    rw (e, f, worst-more flaw w ws)
+use Rattle.reader_word.specs.Front.{Front, got, wrong, onward, windowFront}
+use Rattle.reader_word.specs.Answer.{ReadAt}
+use Rattle.reader_line.specs.LineFront.{fork, ending, windowsFront}
+use Rattle.reader_line.specs.WindowsFrontLaws.{windows-step}
+use Rattle.reader_line.specs.EndingLaws.{fork-here, fork-other, ending-whole, ending-unended}
+use Rattle.reader_line.specs.Tally.{putWindow, tally}
+use Rattle.reader_line.specs.Answer.{talliedFront}
 
 -- a window in row k or in none leaves the rows before m
 pub rows-before : (table : List ℕ) (m k : ℕ) (w : Window) → m ≤ k
@@ -42,40 +32,45 @@ rows-before table m k w l = go (ltb k (length table / windowWidth))
         ∙ take-set-le (windowWidth * m) table (windowWidth * k) (w .start) (omega arith)
     go false = refl
 
-module _ (line : List ℕ) (i e f : ℕ) (m n : ℕ) (flaw : Flaw) (table : List ℕ) (q : i + toNext 32 (drop i line) ≡ e) where
-  -- one word is no window
-  pub tally-one : i ≤ length line → e ≡ length line → tallied m n flaw table (windowsIn (cut 32 (drop i line))) ≡ none
-  unfolding tallied windowsIn
-  tally-one l h = rw (cut-at-end 32 line i l (q ∙ h))
+module _ (m n : ℕ) (flaw : Flaw) (table : List ℕ) (w : Window) where
+  -- one window and more
+  step : (x : Front (List Window)) → talliedFront m n flaw table (onward x (λ ws t. got (w ∷ ws) t))
+      ≡ talliedFront m (n + 1) (worst flaw (flawIn w)) (putWindow table (m + n) w) x
+  unfolding talliedFront tally onward
+  step wrong = refl
+  step (got ws t) =
+      let e : n + length (w ∷ ws) ≡ n + 1 + length ws = omega arith in
+      let f : m + n + 1 ≡ m + (n + 1) = omega arith in
+      rw (e, f, worst-more flaw w ws)
 
-  module _ (h : e < length line) (q′ : e + 1 + toNext 32 (drop (e + 1) line) ≡ f) where
-    -- a window with others after it
-    pub tally-more : f < length line → (w : Window) → windowOf (part line i e) (part line (e + 1) f) ≡ some w →
-        tallied m n flaw table (windowsIn (cut 32 (drop i line)))
-        ≡ tallied m (n + 1) (worst flaw (flawIn w)) (putWindow table (m + n) w) (windowsIn (cut 32 (drop (f + 1) line)))
-    unfolding windowsIn andThen
-    tally-more k w g =
-        let c = cut-some 32 (drop (f + 1) line) in
-        rw (cut-at 32 line i e q h, cut-at 32 line (e + 1) f q′ k, c .are, g) (step m n flaw table w (windowsIn (c .first ∷ c .rest)))
+  -- one alone
+  last : tally m n flaw table (w ∷ []) ≡ record { count = n + 1; flaw = worst flaw (flawIn w); table = putWindow table (m + n) w }
+  unfolding tally
+  last = rw (worst-last flaw w)
 
-    pub tally-wrong : f < length line → windowOf (part line i e) (part line (e + 1) f) ≡ none
-        → tallied m n flaw table (windowsIn (cut 32 (drop i line))) ≡ none
-    unfolding tallied windowsIn andThen
-    tally-wrong k g =
-        let c = cut-some 32 (drop (f + 1) line) in
-        rw (cut-at 32 line i e q h, cut-at 32 line (e + 1) f q′ k, c .are, g)
+module _ (s : List ℕ) (m n : ℕ) (flaw : Flaw) (table : List ℕ) (i : ℕ) where
+  pub tally-wrong : windowFront (drop i s) ≡ wrong → talliedFront m n flaw table (windowsFront (drop i s)) ≡ wrong
+  unfolding talliedFront onward
+  tally-wrong e = rw (windows-step (drop i s)) (rw e)
 
-    -- the last window, with the line's own bracket after it
-    pub tally-last : f ≡ length line → (w : Window) → andThen (closed (drop (e + 1) line)) (λ z. windowOf (part line i e) z)
-        ≡ some w →
-        tallied m n flaw table (windowsIn (cut 32 (drop i line)))
-        ≡ some (record { count = n + 1; flaw = worst flaw (flawIn w); table = putWindow table (m + n) w })
-    unfolding tallied windowsIn andThen
-    tally-last k w g = rw (cut-at 32 line i e q h, cut-at-end 32 line (e + 1) (omega arith) (q′ ∙ k))
-        (go (closed (drop (e + 1) line)) g)
-      where
-        go : (o : Option (List ℕ)) → andThen o (λ z. windowOf (part line i e) z) ≡ some w →
-            tallied m n flaw table (andThen o (λ z. andThen (windowOf (part line i e) z) (λ v. some (v ∷ []))))
-            ≡ some (record { count = n + 1; flaw = worst flaw (flawIn w); table = putWindow table (m + n) w })
-        go none x = let z : _≡_ {A = ℕ} 0 1 = cc in absurd (omega arith)
-        go (some z) x = rw x (rw (worst-last flaw w))
+  module _ (w : Window) (q : ℕ) (x : ReadAt (windowFront (drop i s)) s (i + 2) w q) where
+    opened : windowsFront (drop i s) ≡ fork 41 (drop q s) (ending (w ∷ []) (drop q s))
+        (onward (windowsFront (drop q s)) (λ ws t. got (w ∷ ws) t))
+    unfolding onward
+    opened = windows-step (drop i s) ∙ rw (x .is)
+
+    -- no bracket after the window: more windows
+    pub tally-more : (getD s q 0 ≡ 41 → ⊥) → talliedFront m n flaw table (windowsFront (drop i s))
+        ≡ talliedFront m (n + 1) (worst flaw (flawIn w)) (putWindow table (m + n) w) (windowsFront (drop q s))
+    tally-more d = rw (opened, fork-other s q (x .inside) 41 _ _ d) (step m n flaw table w (windowsFront (drop q s)))
+
+    module _ (d : getD s q 0 ≡ 41) (k : q + 1 < length s) where
+      pub tally-last : getD s (q + 1) 0 ≡ 10 → talliedFront m n flaw table (windowsFront (drop i s))
+          ≡ got (record { count = n + 1; flaw = worst flaw (flawIn w); table = putWindow table (m + n) w }) (drop (q + 2) s)
+      unfolding talliedFront onward
+      tally-last e = rw (opened ∙ fork-here s q (x .inside) 41 _ _ d ∙ ending-whole s q (x .inside) (w ∷ []) d k e)
+          (rw (last m n flaw table w))
+
+      pub tally-unended : (getD s (q + 1) 0 ≡ 10 → ⊥) → talliedFront m n flaw table (windowsFront (drop i s)) ≡ wrong
+      unfolding talliedFront onward
+      tally-unended e = rw (opened ∙ fork-here s q (x .inside) 41 _ _ d ∙ ending-unended s q (x .inside) (w ∷ []) d k e)

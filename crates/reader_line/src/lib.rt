@@ -1,3 +1,2 @@
-// One line of a bid text: where it ends, and the line read into a value before it is judged.
-pub mod ends;
+// One line of a bid text, read in one pass from a place on into a value before it is judged.
 pub mod line;

@@ -1,25 +1,25 @@
-// One line of a bid text, read into a value before it is judged.
+// One line of a bid text, read from a place on into a value before it is judged. The text's last byte is 10.
 ghost use mathlib.Core.Path.{_≡_};
 ghost use mathlib.Core.List.{List};
-ghost use Prim.Native.Nat.{ℕ, _*_, _≤_};
+ghost use Prim.Native.Nat.{ℕ, _*_, _<_, _≤_};
 ghost use lib.ListN.{take, drop, length};
 ghost use Rattle.tender.specs.Tables.{windowWidth};
-ghost use Rattle.reader_word.specs.Words.{cut};
-ghost use Rattle.reader_line.specs.Line.{kindOf, windowsIn, tenderOf, bidOf, reserveOf, lineOf};
-ghost use Rattle.reader_line.specs.Tally.{putWindow, tallied, noted};
+ghost use Rattle.reader_word.specs.Scan.{Ended};
+ghost use Rattle.reader_line.specs.Line.{lineOf};
+ghost use Rattle.reader_line.specs.LineFront.{firstLine, windowsFront, bidFront, reserveFront, kindFront, tenderFront};
+ghost use Rattle.reader_line.specs.Tally.{putWindow, noted};
 ghost use Rattle.reader_word.specs.declared.windows.Flaw.the-variants.{Sound};
-ghost use Rattle.reader_line.specs.Answer.{asKind, toldTally, toldLine};
+ghost use Rattle.reader_line.specs.Answer.{talliedFront, toldTally, tallyPlace, notedFront, toldFront, linePlace, toldLine};
+ghost use Rattle.reader_line.specs.Answer.{EndsAfter};
 use reader_word::windows::Ends;
 use reader_word::windows::Flaw;
-use reader_word::windows::read_last;
 use reader_word::windows::read_span;
 use reader_word::windows::read_window;
 use reader_word::windows::worse;
 use reader_word::words::Number;
-use reader_word::words::next;
 use reader_word::words::read_number;
 use reader_word::words::read_price;
-use reader_word::words::same;
+use reader_word::words::stands;
 use tender::Kind;
 use tender::Span;
 
@@ -34,188 +34,147 @@ fn put_window(windows: &mut [u64], m: usize, a: u64, z: u64)
     }
 }
 
+// How many windows, what is wrong with them, and the place past their line.
 pub(crate) enum Tally {
-    Windows(usize, Flaw),
+    Windows(usize, Flaw, usize),
     Broken,
 }
 
-// The windows from `at` to the line's end: how many, and what is wrong with them. They are put into the rows from m on; the rows
-// before m stay, whatever the line is.
-fn read_windows(line: &[u8], at: usize, windows: &mut [u64], m: usize) -> Tally
-    requires { ⌜ m ≤ 32000 ⌝ }
-    ensures answer { λ r. ⌜ toldTally r (now (windows .exit))
-        ≡ tallied m 0 Sound (now (windows .entry)) (windowsIn (cut 32 (drop at (now (line .entry))))) ⌝ }
+// The windows from `at` on, up to the line's end. They are put into the rows from m on; the rows before m stay, whatever the line is.
+fn read_windows(s: &[u8], at: usize, windows: &mut [u64], m: usize) -> Tally
+    requires { ⌜ (m ≤ 32000) × ((at < length (now s)) × Ended (now s)) ⌝ }
+    ensures answer { λ r. ⌜ toldTally (now (s .entry)) r (now (windows .exit))
+        ≡ talliedFront m 0 Sound (now (windows .entry)) (windowsFront (drop at (now (s .entry)))) ⌝ }
+    ensures place { λ r. ⌜ tallyPlace r ≤ length (now (s .entry)) ⌝ }
     ensures rows { λ r. ⌜ take (windowWidth * m) (now (windows .exit)) ≡ take (windowWidth * m) (now (windows .entry)) ⌝ }
 {
     let mut n: usize = 0;
     let mut flaw = Flaw::Sound;
-    let mut i = at;
-    while i < line.len() {
-        let e = next(line, i, b' ');
-        if line.len() <= e {
-            return Tally::Broken;
-        }
-        let f = next(line, e + 1, b' ');
-        if f < line.len() {
-            match read_window(&line[i..e], &line[e + 1..f]) {
-                Ends::Of(a, z) => {
-                    put_window(windows, m + n, a, z);
-                    flaw = worse(flaw, a, z);
-                    n += 1;
-                    i = f + 1;
-                }
-                Ends::Wrong => {
+    let mut p = at;
+    loop {
+        match read_window(s, p) {
+            Ends::Of(a, z, q) => {
+                put_window(windows, m + n, a, z);
+                flaw = worse(flaw, a, z);
+                n += 1;
+                if s[q] == b')' {
+                    if s[q + 1] == b'\n' {
+                        return Tally::Windows(n, flaw, q + 2);
+                    }
                     return Tally::Broken;
                 }
+                p = q;
             }
-        } else {
-            match read_last(&line[i..e], &line[e + 1..f]) {
-                Ends::Of(a, z) => {
-                    put_window(windows, m + n, a, z);
-                    return Tally::Windows(n + 1, worse(flaw, a, z));
-                }
-                Ends::Wrong => {
-                    return Tally::Broken;
-                }
+            Ends::Wrong => {
+                return Tally::Broken;
             }
         }
     }
-    Tally::Broken
 }
 
-pub(crate) enum KindWord {
-    Of(Kind),
-    Wrong,
-}
-
-// The kind that the word spells.
-fn read_kind(w: &[u8]) -> KindWord
-    ensures { λ r. ⌜ r ≡ asKind (kindOf (now (w .entry))) ⌝ }
-{
-    if same(w, &tender::SINGLE) {
-        return KindWord::Of(Kind::Single);
-    }
-    if same(w, &tender::MULTI) {
-        return KindWord::Of(Kind::Multi);
-    }
-    KindWord::Wrong
-}
-
-// A line as it stands, with what is judged of a bid: bidder, price, how many windows, and what is wrong with them.
+// A line as it stands, with what is judged of a bid (bidder, price, how many windows, what is wrong with them) and the place past its
+// byte 10.
 pub enum Line {
-    Tender(Kind, Span),
-    Bid(u64, u64, usize, Flaw),
-    Reserve(u64),
+    Tender(Kind, Span, usize),
+    Bid(u64, u64, usize, Flaw, usize),
+    Reserve(u64, usize),
     Broken,
 }
 
-// The tender's line from the word after "(tender" on: kind, start, end and a closing bracket.
-fn read_tender(line: &[u8], at: usize) -> Line
-    requires { ⌜ at ≤ length (now line) ⌝ }
-    ensures { λ r. ⌜ ((m : ℕ) (table : List ℕ) → toldLine r table
-        ≡ noted m table (tenderOf (cut 32 (drop at (now (line .entry)))))) ⌝ }
-{
-    let k = next(line, at, b' ');
-    if line.len() <= k {
-        return Line::Broken;
-    }
-    let s = next(line, k + 1, b' ');
-    if line.len() <= s {
-        return Line::Broken;
-    }
-    let e = next(line, s + 1, b' ');
-    if e < line.len() {
-        return Line::Broken;
-    }
-    if e <= s + 1 {
-        return Line::Broken;
-    }
-    if line[e - 1] != b')' {
-        return Line::Broken;
-    }
-    let KindWord::Of(kind) = read_kind(&line[at..k]) else {
-        return Line::Broken;
-    };
-    let Ends::Of(start, end) = read_span(&line[k + 1..s], &line[s + 1..e - 1]) else {
-        return Line::Broken;
-    };
-    Line::Tender(kind, Span { start, end })
-}
-
-// A bid's line from the word after "(bid" on: bidder, price and the windows, which are put into the rows from m on.
-fn read_bid(line: &[u8], at: usize, windows: &mut [u64], m: usize) -> Line
-    requires { ⌜ (at ≤ length (now line)) × (m ≤ 32000) ⌝ }
-    ensures answer { λ r. ⌜ toldLine r (now (windows .exit))
-        ≡ noted m (now (windows .entry)) (bidOf (cut 32 (drop at (now (line .entry))))) ⌝ }
+// A bid's line from the bidder on: bidder, price and the windows, which are put into the rows from m on.
+fn read_bid(s: &[u8], at: usize, windows: &mut [u64], m: usize) -> Line
+    requires { ⌜ (m ≤ 32000) × ((at < length (now s)) × Ended (now s)) ⌝ }
+    ensures answer { λ r. ⌜ toldFront (now (s .entry)) r (now (windows .exit))
+        ≡ notedFront m (now (windows .entry)) (bidFront (drop at (now (s .entry)))) ⌝ }
+    ensures place { λ r. ⌜ linePlace r ≤ length (now (s .entry)) ⌝ }
     ensures rows { λ r. ⌜ take (windowWidth * m) (now (windows .exit)) ≡ take (windowWidth * m) (now (windows .entry)) ⌝ }
 {
-    let n = next(line, at, b' ');
-    if line.len() <= n {
-        return Line::Broken;
-    }
-    let p = next(line, n + 1, b' ');
-    if line.len() <= p {
-        return Line::Broken;
-    }
-    let Number::Value(bidder) = read_number(&line[at..n]) else {
+    let Number::Of(bidder, p) = read_number(s, at) else {
         return Line::Broken;
     };
-    let Number::Value(price) = read_price(&line[n + 1..p]) else {
+    if s[p] != b' ' {
+        return Line::Broken;
+    }
+    let Number::Of(price, q) = read_price(s, p + 1) else {
         return Line::Broken;
     };
-    match read_windows(line, p + 1, windows, m) {
-        Tally::Windows(count, flaw) => Line::Bid(bidder, price, count, flaw),
+    match read_windows(s, q, windows, m) {
+        Tally::Windows(count, flaw, next) => Line::Bid(bidder, price, count, flaw, next),
         Tally::Broken => Line::Broken,
     }
 }
 
-// The reserve's line from the word after "(reserve" on: a price and a closing bracket.
-fn read_reserve(line: &[u8], at: usize) -> Line
-    requires { ⌜ at ≤ length (now line) ⌝ }
-    ensures { λ r. ⌜ ((m : ℕ) (table : List ℕ) → toldLine r table
-        ≡ noted m table (reserveOf (cut 32 (drop at (now (line .entry)))))) ⌝ }
+// The reserve's line from the price on: a price, a closing bracket and the line's end.
+fn read_reserve(s: &[u8], at: usize) -> Line
+    requires { ⌜ (at < length (now s)) × Ended (now s) ⌝ }
+    ensures answer { λ r. ⌜ ((m : ℕ) (table : List ℕ) → toldFront (now (s .entry)) r table
+        ≡ notedFront m table (reserveFront (drop at (now (s .entry))))) ⌝ }
+    ensures place { λ r. ⌜ linePlace r ≤ length (now (s .entry)) ⌝ }
 {
-    let e = next(line, at, b' ');
-    if e < line.len() {
-        return Line::Broken;
-    }
-    if e <= at {
-        return Line::Broken;
-    }
-    if line[e - 1] != b')' {
-        return Line::Broken;
-    }
-    let Number::Value(price) = read_price(&line[at..e - 1]) else {
+    let Number::Of(price, p) = read_price(s, at) else {
         return Line::Broken;
     };
-    Line::Reserve(price)
+    if s[p] != b')' {
+        return Line::Broken;
+    }
+    if s[p + 1] != b'\n' {
+        return Line::Broken;
+    }
+    Line::Reserve(price, p + 2)
 }
 
-// The line with these bytes, the byte 10 left out. A bid's windows are put into the rows from m on; the rows before m stay, whatever
-// the line is.
-pub fn read_line(line: &[u8], windows: &mut [u64], m: usize) -> Line
-    requires { ⌜ m ≤ 32000 ⌝ }
-    ensures answer { λ r. ⌜ toldLine r (now (windows .exit)) ≡ noted m (now (windows .entry)) (lineOf (now (line .entry))) ⌝ }
+// The tender's line from the start on: start, end and the line's end.
+fn read_kind(s: &[u8], at: usize, kind: Kind) -> Line
+    requires { ⌜ (at < length (now s)) × Ended (now s) ⌝ }
+    ensures answer { λ r. ⌜ ((m : ℕ) (table : List ℕ) → toldFront (now (s .entry)) r table
+        ≡ notedFront m table (kindFront kind (drop at (now (s .entry))))) ⌝ }
+    ensures place { λ r. ⌜ linePlace r ≤ length (now (s .entry)) ⌝ }
+{
+    let Ends::Of(start, end, p) = read_span(s, at) else {
+        return Line::Broken;
+    };
+    if s[p] != b'\n' {
+        return Line::Broken;
+    }
+    Line::Tender(kind, Span { start, end }, p + 1)
+}
+
+// The tender's line from the kind on. "single " has 7 bytes, "multi " 6.
+fn read_tender(s: &[u8], at: usize) -> Line
+    requires { ⌜ (at < length (now s)) × Ended (now s) ⌝ }
+    ensures answer { λ r. ⌜ ((m : ℕ) (table : List ℕ) → toldFront (now (s .entry)) r table
+        ≡ notedFront m table (tenderFront (drop at (now (s .entry))))) ⌝ }
+    ensures place { λ r. ⌜ linePlace r ≤ length (now (s .entry)) ⌝ }
+{
+    if stands(s, at, &tender::SINGLE) {
+        return read_kind(s, at + 7, Kind::Single);
+    }
+    if stands(s, at, &tender::MULTI) {
+        return read_kind(s, at + 6, Kind::Multi);
+    }
+    Line::Broken
+}
+
+// The line from `at` on, by its first word: "(bid " has 5 bytes, "(tender " 8, "(reserve " 9. A bid's windows are put into the rows from
+// m on; the rows before m stay, whatever the line is.
+pub fn read_line(s: &[u8], at: usize, windows: &mut [u64], m: usize) -> Line
+    requires { ⌜ (m ≤ 32000) × ((at < length (now s)) × Ended (now s)) ⌝ }
+    ensures answer { λ r. ⌜ toldLine r (now (windows .exit))
+        ≡ noted m (now (windows .entry)) (lineOf (firstLine (drop at (now (s .entry))))) ⌝ }
+    ensures place { λ r. ⌜ EndsAfter (now (s .entry)) at r ⌝ }
     ensures rows { λ r. ⌜ take (windowWidth * m) (now (windows .exit)) ≡ take (windowWidth * m) (now (windows .entry)) ⌝ }
 {
-    let e = next(line, 0, b' ');
-    if line.len() <= e {
+    if s[at] != b'(' {
         return Line::Broken;
     }
-    if e == 0 {
-        return Line::Broken;
+    if stands(s, at + 1, &tender::BID) {
+        return read_bid(s, at + 5, windows, m);
     }
-    if line[0] != b'(' {
-        return Line::Broken;
+    if stands(s, at + 1, &tender::TENDER) {
+        return read_tender(s, at + 8);
     }
-    if same(&line[1..e], &tender::TENDER) {
-        return read_tender(line, e + 1);
-    }
-    if same(&line[1..e], &tender::BID) {
-        return read_bid(line, e + 1, windows, m);
-    }
-    if same(&line[1..e], &tender::RESERVE) {
-        return read_reserve(line, e + 1);
+    if stands(s, at + 1, &tender::RESERVE) {
+        return read_reserve(s, at + 9);
     }
     Line::Broken
 }

@@ -1,29 +1,31 @@
--- The answers of this crate's functions, as the definitions' values.
+-- The answers of this crate's functions, as what is read from the front of bytes.
+use mathlib.Core.Path.{_≡_}
 use mathlib.Core.List.{List}
-use mathlib.Core.Option.{Option, none, some}
-use Prim.Native.Nat.{ℕ}
+use Prim.Native.Nat.{ℕ, _+_, _≤_, _<_}
+use lib.ListN.{length, drop}
 use Rattle.tender.specs.declared.Span.{Span}
 use Rattle.tender.specs.declared.Window.{Window}
-use Rattle.reader_word.specs.Words.{andThen, closed}
-use Rattle.reader_word.specs.Windows.{windowOf}
+use Rattle.reader_word.specs.Front.{Front, got, wrong}
 use Rattle.reader_word.specs.declared.words.Number.{Number}
-use Rattle.reader_word.specs.declared.words.Number.the-variants.{Value, Bad}
+use Rattle.reader_word.specs.declared.words.Number.the-variants as number
 use Rattle.reader_word.specs.declared.windows.Ends.{Ends}
-use Rattle.reader_word.specs.declared.windows.Ends.the-variants.{Of, Wrong}
+use Rattle.reader_word.specs.declared.windows.Ends.the-variants as ends
 
-abbrev pub asNumber : Option ℕ → Number
-asNumber none = Bad
-asNumber (some v) = Value v
+-- x, read from `at` on, is the value a, and p the place past what spells it
+pub record ReadAt {A : Type 0} (x : Front A) (s : List ℕ) (at : ℕ) (a : A) (p : ℕ) : Type 0 where
+  pub is : x ≡ got a (drop p s)
+  pub after : at ≤ p
+  pub inside : p < length s
 
-abbrev pub spanEnds : Option Span → Ends
-spanEnds none = Wrong
-spanEnds (some s) = Of (s .start) (s .end)
+abbrev pub NumberIs : Front ℕ → List ℕ → ℕ → Number → Type 0
+NumberIs x s at (number.Of v p) = ReadAt x s at v p
+NumberIs x s at number.Bad = x ≡ wrong
 
-abbrev pub windowEnds : Option Window → Ends
-windowEnds none = Wrong
-windowEnds (some w) = Of (w .start) (w .end)
+abbrev pub SpanIs : Front Span → List ℕ → ℕ → Ends → Type 0
+SpanIs x s at (ends.Of a z p) = ReadAt x s at (record { start = a; end = z }) p
+SpanIs x s at ends.Wrong = x ≡ wrong
 
--- the last window, with the line's own bracket after it
-unfoldable pub lastOf : List ℕ → List ℕ → Option Window
-unfolding andThen
-lastOf s e = andThen (closed e) (λ z. windowOf s z)
+-- a window has two bytes before its numbers
+abbrev pub WindowIs : Front Window → List ℕ → ℕ → Ends → Type 0
+WindowIs x s at (ends.Of a z p) = ReadAt x s (at + 2) (record { start = a; end = z }) p
+WindowIs x s at ends.Wrong = x ≡ wrong

@@ -8,7 +8,7 @@ use lib.ListN.{length}
 use lib.Dec.{eqb, ltb}
 use borrow.Author.Tests.{eqb-true}
 use Rattle.tender.specs.Limits.{within}
-use Rattle.reader_word.specs.Front.{Front, got, wrong, onward, past, digitsFront, numberFront, priceFront, spanFront, windowFront}
+use Rattle.reader_word.specs.Front.{Front, got, wrong, onward, past, digitsFront, numberFront, spanFront, windowFront}
 
 -- both steps gave something
 pub onward-got : {A B : Type 0} (x : Front A) (f : A → List ℕ → Front B) (b : B) (t : List ℕ) → onward x f ≡ got b t
@@ -32,10 +32,6 @@ past-got d (b ∷ s) f a t e = go (eqb b d) refl e
 abbrev pub Shorter : {A : Type 0} → ℕ → Front A → Type 0
 Shorter n (got a r) = length r < n
 Shorter n wrong = Unit {0}
-
--- so where a value was read
-pub got-shorter : {A : Type 0} (n : ℕ) (x : Front A) (a : A) (r : List ℕ) → Shorter n x → x ≡ got a r → length r < n
-got-shorter n x a r h e = rw e at h
 
 -- a smaller bound says more
 pub shorter-less : {A : Type 0} (m n : ℕ) (x : Front A) → m ≤ n → Shorter m x → Shorter n x
@@ -70,10 +66,6 @@ unfolding numberFront
 number-shorter [] = tt
 number-shorter (b ∷ s) = cond-shorter (suc (length s)) (within 49 57 b) (digitsFront (b - 48) s) (cond (eqb b 48) (got 0 s) wrong)
     (digits-shorter (b - 48) s) (cond-shorter (suc (length s)) (eqb b 48) (got 0 s) wrong (omega arith) tt)
-
-pub price-shorter : (s : List ℕ) → Shorter (length s) (priceFront s)
-unfolding priceFront
-price-shorter s = number-shorter s
 
 pub span-shorter : (s : List ℕ) → Shorter (length s) (spanFront s)
 unfolding spanFront

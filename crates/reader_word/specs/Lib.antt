@@ -9,9 +9,9 @@ pub mod CutLaws
 pub mod RejoinedLaws
 pub mod ScanLaws
 pub mod DigitsLaws
-pub mod SameLaws
-pub mod SpansLaws
 pub mod FlawLaws
 pub mod FrontLaws
 pub mod NumberFrontLaws
 pub mod WindowFrontLaws
+pub mod StartsLaws
+pub mod PlaceLaws

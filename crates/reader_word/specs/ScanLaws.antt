@@ -2,28 +2,27 @@
 use mathlib.Core.Path.{_≡_, refl, ap, _∙_}
 use mathlib.Core.List.{List, [], _∷_, _++_}
 use mathlib.Core.Bool.{Bool, true, false, cond}
-use Prim.Native.Nat.{ℕ, suc, _+_, _-_, _≤_, _<_}
+use Prim.Native.Nat.{ℕ, zero, suc, _+_, _-_, _≤_, _<_}
 use native.Mathlib.Omega.{arith}
 use native.Mathlib.Numerals.{add-one}
-use lib.ListN.{length, take, drop, getD, length-drop, drop-of-length-le}
+use lib.ListN.{length, take, drop, getD, length-drop}
 use lib.Seq.{drop-cons, drop-drop}
 use lib.Dec.{eqb}
-use borrow.Author.Tests.{eqb-true, eq-eqb, ne-eqb}
+use borrow.Author.Tests.{eqb-true, eq-eqb}
 use Rattle.reader_word.specs.Words.{among, growFirst, cut}
 use Rattle.reader_word.specs.CutLaws.{neither}
 use Rattle.reader_word.specs.Scan.{toNext}
 
-pub next-le : (d : ℕ) (s : List ℕ) → toNext d s ≤ length s
+-- a byte d that stands at i is not before the first
+pub next-upto : (d : ℕ) (s : List ℕ) (i : ℕ) → i < length s → getD s i 0 ≡ d → toNext d s ≤ i
 unfolding toNext
-next-le d [] = omega arith
-next-le d (b ∷ s) = go (eqb b d) (next-le d s)
+next-upto d [] i h e = absurd (omega arith)
+next-upto d (b ∷ s) zero h e = rw (eq-eqb b d e) (omega arith)
+next-upto d (b ∷ s) (suc i) h e = go (eqb b d) (next-upto d s i (omega arith) e)
   where
-    go : (t : Bool) → toNext d s ≤ length s → cond t 0 (suc (toNext d s)) ≤ suc (length s)
-    go true h = omega arith
-    go false h = omega arith
-
-pub next-fits : (d : ℕ) (s : List ℕ) (i : ℕ) → i ≤ length s → i + toNext d (drop i s) ≤ length s
-next-fits d s i h = omega (arith, next-le d (drop i s), length-drop i s)
+    go : (t : Bool) → toNext d s ≤ i → cond t 0 (suc (toNext d s)) ≤ suc i
+    go true l = omega arith
+    go false l = omega arith
 
 -- the bytes before and after the first d
 pub next-split : (d : ℕ) (s : List ℕ) → toNext d s < length s → s ≡ take (toNext d s) s ++ d ∷ drop (suc (toNext d s)) s
@@ -56,34 +55,10 @@ cut-next d (b ∷ s) h = go (eqb b d) h (cut-next d s)
     go true l ih = refl
     go false l ih = rw (ih (omega arith))
 
--- the last piece
-pub cut-last : (d : ℕ) (s : List ℕ) → toNext d s ≡ length s → cut d s ≡ s ∷ []
-unfolding toNext cut
-cut-last d [] h = refl
-cut-last d (b ∷ s) h = go (eqb b d) h (cut-last d s)
-  where
-    go : (t : Bool) → cond t 0 (suc (toNext d s)) ≡ suc (length s) → (toNext d s ≡ length s → cut d s ≡ s ∷ [])
-        → cond t ([] ∷ cut d s) (growFirst b (cut d s)) ≡ (b ∷ s) ∷ []
-    go true l ih = absurd (omega arith)
-    go false l ih = rw (ih (omega arith))
-
 -- the walk from place i to the next
 
 pub drop-next : (s : List ℕ) (i : ℕ) → i < length s → drop i s ≡ getD s i 0 ∷ drop (i + 1) s
 drop-next s i h = rw (add-one, drop-cons s i 0)
-
-pub next-here : (d : ℕ) (s : List ℕ) (i : ℕ) → i < length s → getD s i 0 ≡ d → toNext d (drop i s) ≡ 0
-unfolding toNext
-next-here d s i h e = rw (drop-next s i h) (rw (eq-eqb (getD s i 0) d e))
-
-pub next-other : (d : ℕ) (s : List ℕ) (i : ℕ) → i < length s → (getD s i 0 ≡ d → ⊥)
-    → i + toNext d (drop i s) ≡ i + 1 + toNext d (drop (i + 1) s)
-unfolding toNext
-next-other d s i h e = rw (drop-next s i h) (rw (ne-eqb (getD s i 0) d e) (omega arith))
-
-pub next-end : (d : ℕ) (s : List ℕ) (i : ℕ) → length s ≤ i → toNext d (drop i s) ≡ 0
-unfolding toNext
-next-end d s i h = rw (drop-of-length-le s h)
 
 -- the pieces from place i on, where e is the next place of a byte d
 pub cut-at : (d : ℕ) (s : List ℕ) (i e : ℕ) → i + toNext d (drop i s) ≡ e → e < length s
@@ -93,8 +68,3 @@ cut-at d s i e q h =
     let l : toNext d (drop i s) < length (drop i s) = rw length-drop (omega arith) in
     let m : i + suc (e - i) ≡ e + 1 = omega arith in
     cut-next d (drop i s) l ∙ rw n (rw (drop-drop, m))
-
--- or the end
-pub cut-at-end : (d : ℕ) (s : List ℕ) (i : ℕ) → i ≤ length s → i + toNext d (drop i s) ≡ length s
-    → cut d (drop i s) ≡ drop i s ∷ []
-cut-at-end d s i l q = cut-last d (drop i s) (rw length-drop (omega arith))

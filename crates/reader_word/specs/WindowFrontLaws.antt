@@ -16,9 +16,13 @@ use Rattle.reader_word.specs.FrontLaws.{onward-got, past-got}
 use Rattle.reader_word.specs.RejoinedLaws.{among-append}
 use Rattle.reader_word.specs.GivenLaws.{then-some, opened-some, closed-some, closed-back}
 use Rattle.reader_word.specs.NumberFrontLaws.{number-without, number-read, number-from}
-use Rattle.reader_word.specs.SpansLaws.{span-both}
 
 -- "S E)"
+
+span-both : (s e : List ℕ) (a z : ℕ) → numeralOf s ≡ some a → numeralOf e ≡ some z
+    → spanOf s e ≡ some (record { start = a; end = z })
+unfolding spanOf andThen
+span-both s e a z h k = rw (h, k)
 
 pub span-without : (d : ℕ) (s e : List ℕ) (w : Span) → d ≤ 41 → spanOf s e ≡ some w
     → (among d s ≡ false) × (among d e ≡ false)

@@ -1,3 +1,3 @@
-// The words of a bid text: where the next byte is, whether words are the same, numbers, and windows with what is wrong with them.
+// The parts of a bid text's line, each read from a place on: keywords, numbers, and windows with what is wrong with them.
 pub mod windows;
 pub mod words;

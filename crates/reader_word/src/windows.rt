@@ -1,63 +1,52 @@
-// A window of a bid text: the numbers that its words spell, and what is wrong with it.
+// A window of a bid text: its two numbers, read from a place on, and what is wrong with it.
 ghost use mathlib.Core.Path.{_≡_};
-ghost use Rattle.reader_word.specs.Windows.{spanOf, windowOf};
+ghost use Prim.Native.Nat.{_<_};
+ghost use lib.ListN.{drop, length};
+ghost use Rattle.reader_word.specs.Scan.{Ended};
+ghost use Rattle.reader_word.specs.Front.{spanFront, windowFront};
 ghost use Rattle.reader_word.specs.Flaws.{flawIn, worst};
-ghost use Rattle.reader_word.specs.Answer.{spanEnds, windowEnds, lastOf};
+ghost use Rattle.reader_word.specs.Answer.{SpanIs, WindowIs};
 use crate::words::Number;
 use crate::words::read_number;
 
-// The two numbers that two words spell.
+// Two numbers and the place past them and their bracket.
 pub enum Ends {
-    Of(u64, u64),
+    Of(u64, u64, usize),
     Wrong,
 }
 
-// The numbers that the words s and e spell.
-pub fn read_span(s: &[u8], e: &[u8]) -> Ends
-    ensures { λ r. ⌜ r ≡ spanEnds (spanOf (now (s .entry)) (now (e .entry))) ⌝ }
+// "S E)" from `at` on.
+pub fn read_span(s: &[u8], at: usize) -> Ends
+    requires { ⌜ (at < length (now s)) × Ended (now s) ⌝ }
+    ensures { λ r. ⌜ SpanIs (spanFront (drop at (now (s .entry)))) (now (s .entry)) at r ⌝ }
 {
-    let Number::Value(a) = read_number(s) else {
+    let Number::Of(a, p) = read_number(s, at) else {
         return Ends::Wrong;
     };
-    let Number::Value(z) = read_number(e) else {
+    if s[p] != b' ' {
+        return Ends::Wrong;
+    }
+    let Number::Of(z, q) = read_number(s, p + 1) else {
         return Ends::Wrong;
     };
-    Ends::Of(a, z)
+    if s[q] != b')' {
+        return Ends::Wrong;
+    }
+    Ends::Of(a, z, q + 1)
 }
 
-// The window that the words "(S" and "E)" spell.
-pub fn read_window(s: &[u8], e: &[u8]) -> Ends
-    ensures { λ r. ⌜ r ≡ windowEnds (windowOf (now (s .entry)) (now (e .entry))) ⌝ }
+// " (S E)" from `at` on.
+pub fn read_window(s: &[u8], at: usize) -> Ends
+    requires { ⌜ (at < length (now s)) × Ended (now s) ⌝ }
+    ensures { λ r. ⌜ WindowIs (windowFront (drop at (now (s .entry)))) (now (s .entry)) at r ⌝ }
 {
-    let n = s.len();
-    if n == 0 {
+    if s[at] != b' ' {
         return Ends::Wrong;
     }
-    if s[0] != b'(' {
+    if s[at + 1] != b'(' {
         return Ends::Wrong;
     }
-    let m = e.len();
-    if m == 0 {
-        return Ends::Wrong;
-    }
-    if e[m - 1] != b')' {
-        return Ends::Wrong;
-    }
-    read_span(&s[1..n], &e[0..m - 1])
-}
-
-// The window that the words "(S" and "E))" spell.
-pub fn read_last(s: &[u8], e: &[u8]) -> Ends
-    ensures { λ r. ⌜ r ≡ windowEnds (lastOf (now (s .entry)) (now (e .entry))) ⌝ }
-{
-    let m = e.len();
-    if m == 0 {
-        return Ends::Wrong;
-    }
-    if e[m - 1] != b')' {
-        return Ends::Wrong;
-    }
-    read_window(s, &e[0..m - 1])
+    read_span(s, at + 2)
 }
 
 // What is wrong with windows: some start is not below its end; or else some end is past the week; or nothing.

@@ -1,11 +1,13 @@
-// The words and numbers of a bid text, and where the next byte is.
+// The keywords and numbers of a bid text whose last byte is 10, each read from a place on. No byte 10 is in a keyword or a number, so
+// that no loop here runs past the text.
 ghost use mathlib.Core.Path.{_≡_};
-ghost use Prim.Native.Nat.{_+_, _≤_};
+ghost use mathlib.Core.Bool.{true};
+ghost use mathlib.Core.List.{[], _∷_, _++_};
+ghost use Prim.Native.Nat.{_+_, _<_};
 ghost use lib.ListN.{drop, length};
-ghost use Rattle.tender.specs.Limits.{within};
-ghost use Rattle.reader_word.specs.Words.{sameBytes as sameWords, digits, numeralOf, priceOf};
-ghost use Rattle.reader_word.specs.Scan.{toNext};
-ghost use Rattle.reader_word.specs.Answer.{asNumber};
+ghost use Rattle.reader_word.specs.Scan.{Ended, lettered, startsWith};
+ghost use Rattle.reader_word.specs.Front.{digitsFront, numberFront, priceFront};
+ghost use Rattle.reader_word.specs.Answer.{NumberIs};
 
 fn wide(x: u8) -> u64
     ensures { λ r. ⌜ r ≡ x ⌝ }
@@ -13,96 +15,75 @@ fn wide(x: u8) -> u64
     x as u64
 }
 
-// The place of the next byte d, or the end.
-pub fn next(s: &[u8], at: usize, d: u8) -> usize
-    ensures { λ r. ⌜ r ≡ at + toNext d (drop at (now (s .entry))) ⌝ }
+// Whether the keyword, which is of letters, and a space stand at `at`.
+pub fn stands(s: &[u8], at: usize, word: &[u8]) -> bool
+    requires { ⌜ (at < length (now s)) × Ended (now s) × (lettered (now word) ≡ true) ⌝ }
+    ensures answer { λ r. ⌜ r ≡ startsWith (now (word .entry) ++ 32 ∷ []) (drop at (now (s .entry))) ⌝ }
+    ensures place { λ r. ⌜ (r ≡ true → at + length (now (word .entry)) + 1 < length (now (s .entry))) ⌝ }
 {
-    let mut i = at;
-    while i < s.len() {
-        if s[i] == d {
-            return i;
+    let mut i: usize = 0;
+    while i < word.len() {
+        let b = s[at + i];
+        match b {
+            b'a'..=b'z' => {
+                if b != word[i] {
+                    return false;
+                }
+                i += 1;
+            }
+            _ => {
+                return false;
+            }
         }
-        i += 1;
     }
-    i
+    s[at + i] == b' '
 }
 
-// Whether the byte is a digit. Most bytes of a text are.
-pub fn digit(b: u8) -> bool
-    ensures { λ r. ⌜ r ≡ within 48 57 b ⌝ }
-{
-    match b {
-        b'0'..=b'9' => true,
-        _ => false,
-    }
-}
-
-// Whether the two words have the same bytes.
-pub fn same(a: &[u8], b: &[u8]) -> bool
-    ensures { λ r. ⌜ r ≡ sameWords (now (a .entry)) (now (b .entry)) ⌝ }
-{
-    if a.len() != b.len() {
-        return false;
-    }
-    let mut i = 0;
-    while i < a.len() {
-        if a[i] != b[i] {
-            return false;
-        }
-        i += 1;
-    }
-    true
-}
-
+// A number and the place past it.
 pub enum Number {
-    Value(u64),
+    Of(u64, usize),
     Bad,
 }
 
-// The number that the whole word spells: 1 to 9 digits and no leading zero, except 0 itself.
-pub fn read_number(w: &[u8]) -> Number
-    ensures { λ r. ⌜ r ≡ asNumber (numeralOf (now (w .entry))) ⌝ }
+// The digits from `at` on, after those of value `first`, nine in all: nine without a leading zero make 100,000,000 at least.
+fn digits(s: &[u8], at: usize, first: u64) -> Number
+    requires { ⌜ (at < length (now s)) × Ended (now s) ⌝ }
+    ensures { λ r. ⌜ NumberIs (digitsFront first (drop at (now (s .entry)))) (now (s .entry)) at r ⌝ }
 {
-    let n = w.len();
-    if n == 0 {
-        return Number::Bad;
-    }
-    if 9 < n {
-        return Number::Bad;
-    }
-    if 1 < n {
-        if w[0] == b'0' {
-            return Number::Bad;
-        }
-    }
-    value(w)
-}
-
-// The value of the digits, at most nine.
-fn value(w: &[u8]) -> Number
-    requires { ⌜ length (now w) ≤ 9 ⌝ }
-    ensures { λ r. ⌜ r ≡ asNumber (digits 0 (now (w .entry))) ⌝ }
-{
-    let mut v: u64 = 0;
-    let mut i: usize = 0;
-    while i < w.len() {
-        let b = w[i];
+    let mut v = first;
+    let mut i = at;
+    while v < 100000000 {
+        let b = s[i];
         match b {
             b'0'..=b'9' => {
                 v = v * 10 + wide(b - b'0');
                 i += 1;
             }
             _ => {
-                return Number::Bad;
+                return Number::Of(v, i);
             }
         }
     }
-    Number::Value(v)
+    Number::Of(v, i)
 }
 
-// The price that the whole word spells, in cents.
-pub fn read_price(w: &[u8]) -> Number
-    ensures { λ r. ⌜ r ≡ asNumber (priceOf (now (w .entry))) ⌝ }
+// The number at `at`: 1 to 9 digits and no leading zero, except 0 itself. The byte after it is the caller's to judge.
+pub fn read_number(s: &[u8], at: usize) -> Number
+    requires { ⌜ (at < length (now s)) × Ended (now s) ⌝ }
+    ensures { λ r. ⌜ NumberIs (numberFront (drop at (now (s .entry)))) (now (s .entry)) at r ⌝ }
 {
-    read_number(w)
+    let b = s[at];
+    match b {
+        b'1'..=b'9' => digits(s, at + 1, wide(b - b'0')),
+        b'0' => Number::Of(0, at + 1),
+        _ => Number::Bad,
+    }
+}
+
+// The price at `at`, in cents.
+pub fn read_price(s: &[u8], at: usize) -> Number
+    requires { ⌜ (at < length (now s)) × Ended (now s) ⌝ }
+    ensures { λ r. ⌜ NumberIs (priceFront (drop at (now (s .entry)))) (now (s .entry)) at r ⌝ }
+{
+    read_number(s, at)
 }

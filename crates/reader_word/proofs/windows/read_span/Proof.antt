@@ -1,8 +1,7 @@
--- `windows::read_span` meets its contract: it follows `spanOf`. Assumes nothing.
-use mathlib.Core.Path.{sym, ap, _∙_}
+-- `windows::read_span` meets its contract: it follows `spanFront` from place to place. Assumes nothing.
+use native.Mathlib.Omega.{arith}
 use borrow.Author.Needs.{needs}
-use Rattle.reader_word.specs.Answer.{spanEnds}
-use Rattle.reader_word.specs.SpansLaws.{is-value, is-bad, span-first, span-second, span-both}
+use Rattle.reader_word.specs.PlaceLaws.{not-last, span-first, span-unparted, span-second, span-unclosed, span-whole}
 use Rattle.reader_word.proofs.windows.read_span.Statement.{statement}
 use Rattle.reader_word.proofs.windows.read_span.Tie as tie
 
@@ -17,11 +16,40 @@ enum-told c = search needs
 
 returns : tie.Need-returns
 returns c =
-    let n = c .before .before in
-    ap spanEnds (sym (span-first _ _ (is-bad _ (sym (n .read-number .ensures) ∙ c .enum-told .given .1))))
+    let c4 = c .before .before .before .before in
+    span-first (c4 .args .s .now) (c4 .args .at) (rw (c .enum-told .given .1) at (c .before .before .read-number .ensures))
+
+shared-slice-read-if1 : tie.Need-shared-slice-read-if1
+shared-slice-read-if1 c =
+    let c4 = c .before .before .before .before in
+    (rw (c .before .before .a .given .1) at (c4 .read-number .ensures)) .inside
+
+returns-2 : tie.Need-returns-2
+returns-2 c =
+    let c5 = c .before .before .before .before .before in
+    let start = c5 .before .before in
+    let s = start .args .s .now in
+    let at = start .args .at in
+    let p = c .before .before .before .a .given .0 .1 .0 in
+    let x = rw (c .before .before .before .a .given .1) at (c5 .read-number .ensures) in
+    span-unparted s at _ p x (c .if1 .taken)
+
+add-read-number : tie.Need-add-read-number
+add-read-number c =
+    let c5 = c .before .before .before .before .before in
+    let x = rw (c .before .before .before .a .given .1) at (c5 .read-number .ensures) in
+    search (needs, x .inside)
 
 read-number-requires-2 : tie.Need-read-number-requires-2
-read-number-requires-2 c κs = search needs
+read-number-requires-2 c κs =
+    let c5 = c .before .before .before .before .before in
+    let start = c5 .before .before in
+    let s = start .args .s .now in
+    let at = start .args .at in
+    let p = c .before .before .before .a .given .0 .1 .0 in
+    let x = rw (c .before .before .before .a .given .1) at (c5 .read-number .ensures) in
+    let b = c .if1 .left in
+    (not-last s p (start .pre .1) (x .inside) (λ e. omega (arith, e, b)), start .pre .1)
 
 enum-known-z : tie.Need-enum-known-z
 enum-known-z c = search needs
@@ -29,22 +57,58 @@ enum-known-z c = search needs
 enum-told-2 : tie.Need-enum-told-2
 enum-told-2 c = search needs
 
-returns-2 : tie.Need-returns-2
-returns-2 c =
-    let m = c .before .before in
-    let s = m .before .before in
-    let n = s .before .before in
-    ap spanEnds (sym (span-second _ _ (s .a .given .0 .0) (is-value _ _ (sym (n .read-number .ensures) ∙ s .a .given .1))
-    (is-bad _ (sym (m .read-number2 .ensures) ∙ c .enum-told2 .given .1))))
-
 returns-3 : tie.Need-returns-3
 returns-3 c =
-    let z = c .before in
-    let m = z .before .before in
-    let s = m .before .before in
-    let n = s .before .before in
-    ap spanEnds (sym (span-both _ _ (s .a .given .0 .0) (z .z .given .0 .0) (is-value _ _ (sym (n .read-number .ensures) ∙ s .a .given .1))
-    (is-value _ _ (sym (m .read-number2 .ensures) ∙ z .z .given .1))))
+    let c6 = c .before .before .before .before .before .before in
+    let c8 = c6 .before .before in
+    let start = c8 .before .before in
+    let s = start .args .s .now in
+    let at = start .args .at in
+    let p = c6 .a .given .0 .1 .0 in
+    let x = rw (c6 .a .given .1) at (c8 .read-number .ensures) in
+    span-second s at _ p x (c .before .before .before .if1 .left)
+    (rw (c .enum-told2 .given .1) at (c .before .before .read-number2 .ensures))
+
+shared-slice-read-if2 : tie.Need-shared-slice-read-if2
+shared-slice-read-if2 c =
+    let c4 = c .before .before .before .before in
+    (rw (c .before .before .z .given .1) at (c4 .read-number2 .ensures)) .inside
+
+returns-4 : tie.Need-returns-4
+returns-4 c =
+    let c5 = c .before .before .before .before .before in
+    let c6 = c5 .before in
+    let c9 = c6 .before .before .before in
+    let c11 = c9 .before .before in
+    let start = c11 .before .before in
+    let s = start .args .s .now in
+    let at = start .args .at in
+    let p = c9 .a .given .0 .1 .0 in
+    let x = rw (c9 .a .given .1) at (c11 .read-number .ensures) in
+    let q = c .before .before .before .z .given .0 .1 .0 in
+    let y = rw (c .before .before .before .z .given .1) at (c5 .read-number2 .ensures) in
+    span-unclosed s at _ p x (c6 .if1 .left) _ q y (c .if2 .taken)
+
+add-t12 : tie.Need-add-t12
+add-t12 c =
+    let c5 = c .before .before .before .before .before in
+    let y = rw (c .before .before .before .z .given .1) at (c5 .read-number2 .ensures) in
+    search (needs, y .inside)
+
+returns-5 : tie.Need-returns-5
+returns-5 c =
+    let c5 = c .before .before .before .before .before in
+    let c6 = c5 .before in
+    let c9 = c6 .before .before .before in
+    let c11 = c9 .before .before in
+    let start = c11 .before .before in
+    let s = start .args .s .now in
+    let at = start .args .at in
+    let p = c9 .a .given .0 .1 .0 in
+    let x = rw (c9 .a .given .1) at (c11 .read-number .ensures) in
+    let q = c .before .before .before .z .given .0 .1 .0 in
+    let y = rw (c .before .before .before .z .given .1) at (c5 .read-number2 .ensures) in
+    span-whole s at _ p x (c6 .if1 .left) _ q y (start .pre .1) (c .if2 .left)
 
 pub read-span-spec : {M : Type 1} → statement M
 read-span-spec =
@@ -54,8 +118,14 @@ read-span-spec =
     enum-known-a
     enum-told
     returns
+    shared-slice-read-if1
+    returns-2
+    add-read-number
     read-number-requires-2
     enum-known-z
     enum-told-2
-    returns-2
-    returns-3)
+    returns-3
+    shared-slice-read-if2
+    returns-4
+    add-t12
+    returns-5)
