@@ -1,21 +1,22 @@
 // The bid reader: bid text to a tender, a table of bids and a table of windows. `reader_text` Read says what a text gives;
 // a text is read whole or refused, and a refused text leaves both tables as they were.
 ghost use mathlib.Core.Path.{_≡_};
+ghost use mathlib.Core.List.{_++_};
 ghost use Prim.Native.Nat.{_/_, _≤_};
 ghost use lib.ListN.{length, drop, replicate};
-ghost use Rattle.tender.specs.Tables.{bidWidth, windowWidth};
+ghost use Rattle.tender.specs.Tables.{bidWidth, windowWidth, bidTable, windowTable};
 ghost use Rattle.reader_word.specs.Words.{cut};
+ghost use Rattle.reader_word.specs.Scan.{Ended};
 ghost use Rattle.reader_line.specs.Line.{linesOf};
-ghost use Rattle.reader_text.specs.Read.{tenderWith, reserveIn, headOf, readInto};
-ghost use Rattle.reader.specs.Answer.{readAnswer, bidsAfter, windowsAfter};
+ghost use Rattle.reader_text.specs.Read.{tenderWith, reserveIn, headOf, readLines, readText, readInto};
+ghost use Rattle.reader.specs.Answer.{readAnswer, bidsAfter, windowsAfter, Holds};
 ghost use Rattle.reader.specs.Opened.{Opened, NextIs};
+ghost use Rattle.reader.specs.Rest.{LinesEnd, restLine};
 
 mod rows;
 
 use reader_bids::Bids;
 use reader_bids::read_bids;
-use reader_line::ends::LineEnd;
-use reader_line::ends::line_end;
 use reader_line::line::Line;
 use reader_line::line::read_line;
 use reader_word::windows::Flaw;
@@ -54,20 +55,17 @@ pub(crate) enum Next {
 // Whether the reserve's line begins at `at`: its price, and where the next line begins. The table serves the line's reader and
 // is not looked at.
 fn next_reserve(text: &[u8], at: usize, windows: &mut [u64]) -> Next
-    requires { ⌜ at ≤ length (now text) ⌝ }
+    requires { ⌜ (at ≤ length (now text)) × Ended (now text) ⌝ }
     ensures { λ r. ⌜ NextIs (now (text .entry)) at r ⌝ }
 {
     if text.len() <= at {
         return Next::Other;
     }
-    match line_end(text, at) {
-        LineEnd::At(e) => match read_line(&text[at..e], windows, 0) {
-            Line::Reserve(price) => Next::Reserve(price, e + 1),
-            Line::Tender(_, _) => Next::Other,
-            Line::Bid(_, _, _, _) => Next::Other,
-            Line::Broken => Next::Other,
-        },
-        LineEnd::Broken => Next::Other,
+    match read_line(text, at, windows, 0) {
+        Line::Reserve(price, next) => Next::Reserve(price, next),
+        Line::Tender(_, _, _) => Next::Other,
+        Line::Bid(_, _, _, _, _) => Next::Other,
+        Line::Broken => Next::Other,
     }
 }
 
@@ -81,7 +79,7 @@ fn reserve_in(
     window: Span,
     windows: &mut [u64],
 ) -> Head
-    requires { ⌜ (at ≤ length (now text)) × (line ≤ 65536) ⌝ }
+    requires { ⌜ (at ≤ length (now text)) × (line ≤ 65536) × Ended (now text) ⌝ }
     ensures { λ r. ⌜ Opened (now (text .entry)) (reserveIn (record { kind = kind; window = window }) line
         (linesOf (cut 10 (drop at (now (text .entry)))))) r ⌝ }
 {
@@ -103,24 +101,33 @@ fn reserve_in(
 // The lines before the bids: the tender, where the bids begin, and the number of their first line. The table serves the line's reader
 // and is not looked at.
 fn read_head(text: &[u8], windows: &mut [u64]) -> Head
+    requires { ⌜ Ended (now text) ⌝ }
     ensures { λ r. ⌜ Opened (now (text .entry)) (headOf (linesOf (cut 10 (now (text .entry))))) r ⌝ }
 {
-    if text.len() == 0 {
-        return Head::Refused(Refusal::BadForm { line: 1 });
-    }
-    match line_end(text, 0) {
-        LineEnd::At(e) => match read_line(&text[0..e], windows, 0) {
-            Line::Tender(kind, w) => match flaw_in(w.start, w.end) {
-                Flaw::Empty => Head::Refused(Refusal::EmptyWindow { line: 1 }),
-                Flaw::Late => Head::Refused(Refusal::LateWindow { line: 1 }),
-                Flaw::Sound => reserve_in(text, e + 1, 2, kind, w, windows),
-            },
-            Line::Bid(_, _, _, _) => Head::Refused(Refusal::BadForm { line: 1 }),
-            Line::Reserve(_) => Head::Refused(Refusal::BadForm { line: 1 }),
-            Line::Broken => Head::Refused(Refusal::BadForm { line: 1 }),
+    match read_line(text, 0, windows, 0) {
+        Line::Tender(kind, w, next) => match flaw_in(w.start, w.end) {
+            Flaw::Empty => Head::Refused(Refusal::EmptyWindow { line: 1 }),
+            Flaw::Late => Head::Refused(Refusal::LateWindow { line: 1 }),
+            Flaw::Sound => reserve_in(text, next, 2, kind, w, windows),
         },
-        LineEnd::Broken => Head::Refused(Refusal::BadForm { line: 1 }),
+        Line::Bid(_, _, _, _, _) => Head::Refused(Refusal::BadForm { line: 1 }),
+        Line::Reserve(_, _) => Head::Refused(Refusal::BadForm { line: 1 }),
+        Line::Broken => Head::Refused(Refusal::BadForm { line: 1 }),
     }
+}
+
+// The place past the last byte 10, and 0 where there is none.
+fn last_line(text: &[u8]) -> usize
+    ensures { λ r. ⌜ LinesEnd (now (text .entry)) r ⌝ }
+{
+    let mut e = text.len();
+    while 0 < e {
+        if text[e - 1] == b'\n' {
+            return e;
+        }
+        e -= 1;
+    }
+    0
 }
 
 pub enum Reading {
@@ -132,33 +139,25 @@ pub enum Reading {
     Refused(Refusal),
 }
 
-// Reads the text into the first rows of the two tables; places past them stay.
-pub fn read(text: &[u8], bids: &mut [u64], windows: &mut [u64]) -> Reading
-    ensures answer { λ r. ⌜ r ≡ readAnswer (readInto (now (text .entry)) (length (now (bids .entry)) / bidWidth)
-        (length (now (windows .entry)) / windowWidth)) ⌝ }
-    ensures rows { λ r. ⌜ now (bids .exit) ≡ bidsAfter (now (bids .entry))
-        (readInto (now (text .entry)) (length (now (bids .entry)) / bidWidth) (length (now (windows .entry)) / windowWidth)) ⌝ }
-    ensures own { λ r. ⌜ now (windows .exit) ≡ windowsAfter (now (windows .entry))
-        (readInto (now (text .entry)) (length (now (bids .entry)) / bidWidth) (length (now (windows .entry)) / windowWidth)) ⌝ }
+// Reads lines that all end with byte 10 into the first rows of two tables that have room for any text. Where there is a rest, bytes that
+// no byte 10 ends follow the lines: they are a line of no form.
+fn read_lines(text: &[u8], rest: bool, rows: &mut [u64], windows: &mut [u64]) -> Reading
+    requires { ⌜ Ended (now text) × (length (now text) ≤ 65536) × (length (now rows) ≡ bidTable)
+        × (length (now windows) ≡ windowTable) ⌝ }
+    ensures answer { λ r. ⌜ r ≡ readAnswer (readLines (linesOf (cut 10 (now (text .entry))) ++ restLine rest)) ⌝ }
+    ensures tables { λ r. ⌜ Holds (readLines (linesOf (cut 10 (now (text .entry))) ++ restLine rest)) (now (rows .exit))
+        (now (windows .exit)) ⌝ }
 {
-    if tender::MAX_TEXT < text.len() {
-        return Reading::Refused(Refusal::TextTooLong);
-    }
-    let mut rows = [1u64; tender::BID_TABLE];
-    let mut spans = [1u64; tender::WINDOW_TABLE];
-    let mut used = [0u64; NUMBER_WORDS];
-    match read_head(text, &mut spans) {
+    match read_head(text, windows) {
         Head::Tender(t, at, from) => {
-            match read_bids(text, at, from, t, &mut used, &mut rows, &mut spans) {
+            let mut used = [0u64; NUMBER_WORDS];
+            match read_bids(text, at, from, t, &mut used, rows, windows) {
                 Bids::Filled(k, m) => {
-                    if bids.len() / tender::BID_WIDTH < k {
-                        return Reading::Refused(Refusal::TableTooShort);
+                    if rest {
+                        return Reading::Refused(Refusal::BadForm {
+                            line: from + k as u64,
+                        });
                     }
-                    if windows.len() / tender::WINDOW_WIDTH < m {
-                        return Reading::Refused(Refusal::TableTooShort);
-                    }
-                    copy(&rows, tender::BID_WIDTH * k, bids);
-                    copy(&spans, tender::WINDOW_WIDTH * m, windows);
                     Reading::Accepted {
                         tender: t,
                         bids: k,
@@ -169,5 +168,56 @@ pub fn read(text: &[u8], bids: &mut [u64], windows: &mut [u64]) -> Reading
             }
         }
         Head::Refused(r) => Reading::Refused(r),
+    }
+}
+
+// Reads the text into the first rows of two tables that have room for any text. A refused text may leave anything in them.
+pub fn fill(text: &[u8], rows: &mut [u64], windows: &mut [u64]) -> Reading
+    requires { ⌜ (length (now rows) ≡ bidTable) × (length (now windows) ≡ windowTable) ⌝ }
+    ensures answer { λ r. ⌜ r ≡ readAnswer (readText (now (text .entry))) ⌝ }
+    ensures tables { λ r. ⌜ Holds (readText (now (text .entry))) (now (rows .exit)) (now (windows .exit)) ⌝ }
+{
+    if tender::MAX_TEXT < text.len() {
+        return Reading::Refused(Refusal::TextTooLong);
+    }
+    let end = last_line(text);
+    if end == 0 {
+        return Reading::Refused(Refusal::BadForm { line: 1 });
+    }
+    read_lines(&text[..end], end < text.len(), rows, windows)
+}
+
+// Reads the text into the first rows of the two tables; places past them stay.
+pub fn read(text: &[u8], bids: &mut [u64], windows: &mut [u64]) -> Reading
+    ensures answer { λ r. ⌜ r ≡ readAnswer (readInto (now (text .entry)) (length (now (bids .entry)) / bidWidth)
+        (length (now (windows .entry)) / windowWidth)) ⌝ }
+    ensures rows { λ r. ⌜ now (bids .exit) ≡ bidsAfter (now (bids .entry))
+        (readInto (now (text .entry)) (length (now (bids .entry)) / bidWidth) (length (now (windows .entry)) / windowWidth)) ⌝ }
+    ensures own { λ r. ⌜ now (windows .exit) ≡ windowsAfter (now (windows .entry))
+        (readInto (now (text .entry)) (length (now (bids .entry)) / bidWidth) (length (now (windows .entry)) / windowWidth)) ⌝ }
+{
+    let mut rows = [1u64; tender::BID_TABLE];
+    let mut spans = [1u64; tender::WINDOW_TABLE];
+    match fill(text, &mut rows, &mut spans) {
+        Reading::Accepted {
+            tender,
+            bids: k,
+            windows: m,
+        } => {
+            if bids.len() / tender::BID_WIDTH < k {
+                return Reading::Refused(Refusal::TableTooShort);
+            }
+            if windows.len() / tender::WINDOW_WIDTH < m {
+                return Reading::Refused(Refusal::TableTooShort);
+            }
+            copy(&rows, tender::BID_WIDTH * k, bids);
+            copy(&spans, tender::WINDOW_WIDTH * m, windows);
+            Reading::Accepted {
+                tender,
+                bids: k,
+                windows: m,
+            }
+        }
+        Reading::Refused(r) => Reading::Refused(r),
     }
 }

@@ -16,8 +16,7 @@ use Rattle.tender.specs.declared.Refusal.the-variants.{BadForm, ReserveMisplace
 use Rattle.tender.specs.Tables.{flatRows, flatWindows, bidWidth, windowWidth, bidTable, windowTable}
 use Rattle.cells.specs.Cells.{cell, RangeAdded}
 use Rattle.reader_word.specs.Words.{among}
-use Rattle.reader_line.specs.Line.{BidLine, Line, tender, bid, reserve, lineOf}
-use Rattle.reader_line.specs.SizeLaws.{line-windows}
+use Rattle.reader_line.specs.Line.{BidLine, Line, tender, bid, reserve}
 use Rattle.reader_text.specs.Read.{ReadOutcome, refused, rowsFrom, allWindows, bidsOf, bidFaultAfter, bidFault, judgedBy, checked}
 use Rattle.reader_text.specs.RulesLaws.{faultless-after}
 use Rattle.reader_bids.specs.Steps.{BidTaken, Judged, Taken, TablesHold}
@@ -116,26 +115,24 @@ marked-more b us used used′ h f x = go (eqb b x) refl (ltb x b) refl ∙ sym (
         let l : b + 1 ≤ x = omega (arith, ltb-false x b g) in
         rw (f .above x l, or-false (among x us)) (h x)
 
-bid-not-refused : {A : Type 0} (r : Step) (c : ℕ) (x : Refusal) → r ≡ step.Bid c → r ≡ step.Refused x → A
-bid-not-refused r c x e h = let q : step.Bid c ≡ step.Refused x = sym e ∙ h in let z : _≡_ {A = ℕ} 0 1 = cc in absurd (omega arith)
+bid-not-refused : {A : Type 0} {r : Step} {c n : ℕ} {x : Refusal} → r ≡ step.Bid c n → r ≡ step.Refused x → A
+bid-not-refused {A} {r} {c} {n} {x} e h = let q : step.Bid c n ≡ step.Refused x = sym e ∙ h in let z : _≡_ {A = ℕ} 0 1 = cc in absurd (omega arith)
 
--- what bounds the windows of a bid bounds those that a line adds
-pub taken-room : (T : Tender) (line k m : ℕ) (used rows windows used′ rows′ windows′ : List ℕ) (o : Option Line) (r : Step)
-    (c n : ℕ)
-    → Taken o T line k m used rows windows r used′ rows′ windows′ → r ≡ step.Bid c →
-    ((b : BidLine) → o ≡ some (bid b) → 6 * (m + length (b .windows)) ≤ n) → 6 * (m + c) ≤ n
-taken-room T line k m used rows windows used′ rows′ windows′ none r c n t e h = bid-not-refused r c (BadForm line) e t
-taken-room T line k m used rows windows used′ rows′ windows′ (some (tender x)) r c n t e h = bid-not-refused r c (BadForm line) e t
-taken-room T line k m used rows windows used′ rows′ windows′ (some (reserve x)) r c n t e h = bid-not-refused r c
-    (ReserveMisplaced line) e t
-taken-room T line k m used rows windows used′ rows′ windows′ (some (bid b)) r c n t e h =
-    go (bidFaultAfter T k b (eqb (cell used (b .bidder)) 1)) t
-  where
-    go : (f : Option (ℕ → Refusal)) → Judged f b line k m used rows windows r used′ rows′ windows′ → 6 * (m + c) ≤ n
-    go none j = let q : c ≡ length (b .windows) = cc (e, j .answer) in rw q (h b refl)
-    go (some f) j = bid-not-refused r c (f line) e j
+-- a line that was taken is a bid: what holds of every bid that the line may be holds of the answer
+module _ (P : ℕ → ℕ → Type 0) (T : Tender) (next line k m : ℕ) (used rows windows used′ rows′ windows′ : List ℕ) (r : Step) (c e : ℕ)
+    (q : r ≡ step.Bid c e) where
+  pub taken-bid : (o : Option Line) → Taken o next T line k m used rows windows r used′ rows′ windows′
+      → ((b : BidLine) → o ≡ some (bid b) → P (length (b .windows)) next) → P c e
+  taken-bid none t h = bid-not-refused q t
+  taken-bid (some (tender x)) t h = bid-not-refused q t
+  taken-bid (some (reserve x)) t h = bid-not-refused q t
+  taken-bid (some (bid b)) t h = go (bidFaultAfter T k b (eqb (cell used (b .bidder)) 1)) t
+    where
+      go : (f : Option (ℕ → Refusal)) → Judged f b next line k m used rows windows r used′ rows′ windows′ → P c e
+      go none j = let x : c ≡ length (b .windows) = cc (q, j .answer) in let y : e ≡ next = cc (q, j .answer) in rw (x, y) (h b refl)
+      go (some f) j = bid-not-refused q j
 
-module _ (T : Tender) (from : ℕ) (whole rest : List (Option Line)) (line k m : ℕ)
+module _ (T : Tender) (from : ℕ) (whole rest : List (Option Line)) (next line k m : ℕ)
     (used rows windows used′ rows′ windows′ : List ℕ) where
   -- the fault of the next bid
   fault-is : (b : BidLine) (w : Walk T from whole (some (bid b) ∷ rest) line k m used rows windows) →
@@ -146,7 +143,7 @@ module _ (T : Tender) (from : ℕ) (whole rest : List (Option Line)) (line k m :
   more : (b : BidLine) → Walk T from whole (some (bid b) ∷ rest) line k m used rows windows → (r : Step)
       → m + length (b .windows) ≤ 11000 →
       bidFaultAfter T k b (eqb (cell used (b .bidder)) 1) ≡ none →
-      BidTaken b k m used rows windows r used′ rows′ windows′ → length used′ ≡ length used → length rows′ ≡ length rows
+      BidTaken b next k m used rows windows r used′ rows′ windows′ → length used′ ≡ length used → length rows′ ≡ length rows
       → length windows′ ≡ length windows →
       Walk T from whole rest (line + 1) (k + 1) (m + length (b .windows)) used′ rows′ windows′
   unfolding checked judgedBy bidsOf
@@ -178,29 +175,29 @@ module _ (T : Tender) (from : ℕ) (whole rest : List (Option Line)) (line k m :
 
   -- the next line is a bid
   pub goes : (o : Option Line) → Walk T from whole (o ∷ rest) line k m used rows windows → (r : Step)
-      → Taken o T line k m used rows windows r used′ rows′ windows′ →
-      length used′ ≡ length used → length rows′ ≡ length rows → length windows′ ≡ length windows → (c : ℕ)
-      → r ≡ step.Bid c
+      → Taken o next T line k m used rows windows r used′ rows′ windows′ →
+      length used′ ≡ length used → length rows′ ≡ length rows → length windows′ ≡ length windows → (c e : ℕ)
+      → r ≡ step.Bid c e
       → ((b : BidLine) → o ≡ some (bid b) → m + length (b .windows) ≤ 11000) →
       Walk T from whole rest (line + 1) (k + 1) (m + c) used′ rows′ windows′
-  goes none w r t lu lr lw c e room = bid-not-refused r c (BadForm line) e t
-  goes (some (tender x)) w r t lu lr lw c e room = bid-not-refused r c (BadForm line) e t
-  goes (some (reserve x)) w r t lu lr lw c e room = bid-not-refused r c (ReserveMisplaced line) e t
-  goes (some (bid b)) w r t lu lr lw c e room = go
+  goes none w r t lu lr lw c e q room = bid-not-refused q t
+  goes (some (tender x)) w r t lu lr lw c e q room = bid-not-refused q t
+  goes (some (reserve x)) w r t lu lr lw c e q room = bid-not-refused q t
+  goes (some (bid b)) w r t lu lr lw c e q room = go
       (bidFaultAfter T k b (eqb (cell used (b .bidder)) 1)) refl t
     where
       go : (f : Option (ℕ → Refusal)) → bidFaultAfter T k b (eqb (cell used (b .bidder)) 1) ≡ f →
-          Judged f b line k m used rows windows r used′ rows′ windows′
+          Judged f b next line k m used rows windows r used′ rows′ windows′
           → Walk T from whole rest (line + 1) (k + 1) (m + c) used′ rows′ windows′
-      go none g j = let q : c ≡ length (b .windows) = cc (e, j .answer) in rw q (more b w r (room b refl) g j lu lr lw)
-      go (some f) g j = bid-not-refused r c (f line) e j
+      go none g j = let x : c ≡ length (b .windows) = cc (q, j .answer) in rw x (more b w r (room b refl) g j lu lr lw)
+      go (some f) g j = bid-not-refused q j
 
   refusal-is : (r : Step) (x y : Refusal) → r ≡ step.Refused x → r ≡ step.Refused y → refused y ≡ refused x
   refusal-is r x y e h = let q : step.Refused y ≡ step.Refused x = sym h ∙ e in ap refused (cc)
 
   -- the next line is faulty
   pub stops : (o : Option Line) → Walk T from whole (o ∷ rest) line k m used rows windows → (r : Step)
-      → Taken o T line k m used rows windows r used′ rows′ windows′ → (x : Refusal) → r ≡ step.Refused x →
+      → Taken o next T line k m used rows windows r used′ rows′ windows′ → (x : Refusal) → r ≡ step.Refused x →
       (out : ReadOutcome) → checked T from [] whole out ≡ refused x
   unfolding checked judgedBy
   stops none w r t x e out = w .checks out ∙ refusal-is r x (BadForm line) e t
@@ -211,18 +208,11 @@ module _ (T : Tender) (from : ℕ) (whole rest : List (Option Line)) (line k m :
       refl t
     where
       go : (f : Option (ℕ → Refusal)) → bidFaultAfter T k b (eqb (cell used (b .bidder)) 1) ≡ f →
-          Judged f b line k m used rows windows r used′ rows′ windows′
+          Judged f b next line k m used rows windows r used′ rows′ windows′
           → checked T line (bidderNumbers (w .done)) (some (bid b) ∷ rest) out
           ≡ refused x
-      go none g j = bid-not-refused r (length (b .windows)) x (j .answer) e
+      go none g j = bid-not-refused (j .answer) e
       go (some f) g j = rw (fault-is b w ∙ g) (refusal-is r x (f line) e j)
-
--- the next line is not of the form
-pub breaks : (T : Tender) (from : ℕ) (whole rest : List (Option Line)) (line k m : ℕ) (used rows windows : List ℕ)
-    → Walk T from whole (none ∷ rest) line k m used rows windows →
-    (out : ReadOutcome) → checked T from [] whole out ≡ refused (BadForm line)
-unfolding checked
-breaks T from whole rest line k m used rows windows w out = w .checks out
 
 -- no line is left
 pub walk-ends : (T : Tender) (from : ℕ) (whole : List (Option Line)) (line k m : ℕ) (used rows windows : List ℕ)
@@ -240,10 +230,3 @@ walk-ends T from whole line k m used rows windows w l =
       rows-are = rw e (w .rows-are);
       windows-are = rw e (w .windows-are);
     }
-
--- the windows of the text up to the end of the next line
-pub room-for : (text : List ℕ) (i e m : ℕ) → 6 * m ≤ i → i ≤ e → e < length text → (b : BidLine)
-    → lineOf (take (e - i) (drop i text)) ≡ some (bid b) → 6 * (m + length (b .windows)) ≤ e + 1
-room-for text i e m h l k b q =
-    let n : length (take (e - i) (drop i text)) ≡ e - i = length-take-le (e - i) (drop i text) (rw length-drop (omega arith)) in
-    omega (arith, line-windows (take (e - i) (drop i text)) b q)

@@ -3,3 +3,4 @@ pub mod JudgeLaws
 pub mod StoreLaws
 pub mod TakesLaws
 pub mod FillsLaws
+pub mod PlacesLaws

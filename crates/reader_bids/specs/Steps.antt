@@ -32,29 +32,29 @@ abbrev pub verdictOf : Verdict → Option Refusal
 verdictOf Sound = none
 verdictOf (Faulty r) = some r
 
--- a bid goes into the tables after k bids with m windows
-pub record BidTaken (b : BidLine) (k m : ℕ) (used rows windows : List ℕ) (r : Step) (used′ rows′ windows′ : List ℕ) : Type 0
+-- a bid goes into the tables after k bids with m windows, and the next line begins at `next`
+pub record BidTaken (b : BidLine) (next k m : ℕ) (used rows windows : List ℕ) (r : Step) (used′ rows′ windows′ : List ℕ) : Type 0
   where
-    pub answer : r ≡ step.Bid (length (b .windows))
+    pub answer : r ≡ step.Bid (length (b .windows)) next
     pub row : rows′ ≡ take (bidWidth * k) rows ++ rowNumbers
         (record { bidder = b .bidder; price = b .price; first = m; count = length (b .windows) })
         ++ drop (bidWidth * k + bidWidth) rows
     pub own : windows′ ≡ putWindows windows m (b .windows)
     pub mark : cells.RangeAdded (b .bidder) (b .bidder + 1) used used′
 
-abbrev pub Judged : Option (ℕ → Refusal) → BidLine → (line k m : ℕ) → (used rows windows : List ℕ) → Step
+abbrev pub Judged : Option (ℕ → Refusal) → BidLine → (next line k m : ℕ) → (used rows windows : List ℕ) → Step
     → (used′ rows′ windows′ : List ℕ) → Type 0
-Judged none b line k m used rows windows r used′ rows′ windows′ = BidTaken b k m used rows windows r used′ rows′ windows′
-Judged (some f) b line k m used rows windows r used′ rows′ windows′ = r ≡ step.Refused (f line)
+Judged none b next line k m used rows windows r used′ rows′ windows′ = BidTaken b next k m used rows windows r used′ rows′ windows′
+Judged (some f) b next line k m used rows windows r used′ rows′ windows′ = r ≡ step.Refused (f line)
 
--- what comes of a line, which has the number `line` in its text
-abbrev pub Taken : Option Line → Tender → (line k m : ℕ) → (used rows windows : List ℕ) → Step
+-- what comes of a line, which has the number `line` in its text and goes on to place `next`
+abbrev pub Taken : Option Line → ℕ → Tender → (line k m : ℕ) → (used rows windows : List ℕ) → Step
     → (used′ rows′ windows′ : List ℕ) → Type 0
-Taken none t line k m used rows windows r used′ rows′ windows′ = r ≡ step.Refused (BadForm line)
-Taken (some (tender u)) t line k m used rows windows r used′ rows′ windows′ = r ≡ step.Refused (BadForm line)
-Taken (some (reserve p)) t line k m used rows windows r used′ rows′ windows′ = r ≡ step.Refused (ReserveMisplaced line)
-Taken (some (bid b)) t line k m used rows windows r used′ rows′ windows′ =
-    Judged (bidFaultAfter t k b (eqb (cells.cell used (b .bidder)) 1)) b line k m used rows windows r used′ rows′ windows′
+Taken none next t line k m used rows windows r used′ rows′ windows′ = r ≡ step.Refused (BadForm line)
+Taken (some (tender u)) next t line k m used rows windows r used′ rows′ windows′ = r ≡ step.Refused (BadForm line)
+Taken (some (reserve p)) next t line k m used rows windows r used′ rows′ windows′ = r ≡ step.Refused (ReserveMisplaced line)
+Taken (some (bid b)) next t line k m used rows windows r used′ rows′ windows′ =
+    Judged (bidFaultAfter t k b (eqb (cells.cell used (b .bidder)) 1)) b next line k m used rows windows r used′ rows′ windows′
 
 -- the tables hold the bids of these lines, from line `from` on, none of which is faulty
 pub record TablesHold (t : Tender) (from : ℕ) (ls : List (Option Line)) (k m : ℕ) (rows windows : List ℕ) : Type 0 where

@@ -48,9 +48,9 @@ noted-bid n p c flaw m old new b e =
       windows-are = ap (λ (x : Tally). x .table) t ∙ ap (λ i. putWindows old i (b .windows)) (add-zero m);
     }
 
-module _ (T : Tender) (line k m : ℕ) (used rows windows : List ℕ) (r : Step) (used′ rows′ windows′ : List ℕ) where
+module _ (next : ℕ) (T : Tender) (line k m : ℕ) (used rows windows : List ℕ) (r : Step) (used′ rows′ windows′ : List ℕ) where
   pub taken-broken : (o : Option Line) → none ≡ noted m windows o → r ≡ step.Refused (BadForm line)
-      → Taken o T line k m used rows windows r used′ rows′ windows′
+      → Taken o next T line k m used rows windows r used′ rows′ windows′
   unfolding noted
   taken-broken none e h = h
   taken-broken (some (tender t)) e h = let z : _≡_ {A = ℕ} 0 1 = cc in absurd (omega arith)
@@ -58,7 +58,7 @@ module _ (T : Tender) (line k m : ℕ) (used rows windows : List ℕ) (r : Step)
   taken-broken (some (reserve v)) e h = let z : _≡_ {A = ℕ} 0 1 = cc in absurd (omega arith)
 
   pub taken-tender : (o : Option Line) (t : TenderLine) → some (tenderNote t) ≡ noted m windows o → r ≡ step.Refused (BadForm line)
-      → Taken o T line k m used rows windows r used′ rows′ windows′
+      → Taken o next T line k m used rows windows r used′ rows′ windows′
   unfolding noted
   taken-tender none t e h = let z : _≡_ {A = ℕ} 0 1 = cc in absurd (omega arith)
   taken-tender (some (tender u)) t e h = h
@@ -67,7 +67,7 @@ module _ (T : Tender) (line k m : ℕ) (used rows windows : List ℕ) (r : Step)
 
   pub taken-reserve : (o : Option Line) (v : ℕ) → some (reserveNote v) ≡ noted m windows o
       → r ≡ step.Refused (ReserveMisplaced line)
-      → Taken o T line k m used rows windows r used′ rows′ windows′
+      → Taken o next T line k m used rows windows r used′ rows′ windows′
   unfolding noted
   taken-reserve none v e h = let z : _≡_ {A = ℕ} 0 1 = cc in absurd (omega arith)
   taken-reserve (some (tender t)) v e h = let z : _≡_ {A = ℕ} 0 1 = cc in absurd (omega arith)
@@ -85,7 +85,7 @@ module _ (T : Tender) (line k m : ℕ) (used rows windows : List ℕ) (r : Step)
 
     pub taken-fault : (o : Option Line) → some (bidNote n p (record { count = c; flaw = flaw; table = windows′ })) ≡ noted m windows o
         → (x : Refusal) → some x ≡ faultAt line (bidFaultIn T k n p c (isEmpty flaw) (isLate flaw) (eqb (cell used n) 1))
-        → r ≡ step.Refused x → Taken o T line k m used rows windows r used′ rows′ windows′
+        → r ≡ step.Refused x → Taken o next T line k m used rows windows r used′ rows′ windows′
     unfolding noted
     taken-fault none e x g h = let z : _≡_ {A = ℕ} 0 1 = cc in absurd (omega arith)
     taken-fault (some (tender u)) e x g h = let z : _≡_ {A = ℕ} 0 1 = cc in absurd (omega arith)
@@ -95,15 +95,15 @@ module _ (T : Tender) (line k m : ℕ) (used rows windows : List ℕ) (r : Step)
         (g ∙ ap (faultAt line) (noted-fault b (noted-bid n p c flaw m windows windows′ b e)))
       where
         go : (f : Option (ℕ → Refusal)) → some x ≡ faultAt line f
-            → Judged f b line k m used rows windows r used′ rows′ windows′
+            → Judged f b next line k m used rows windows r used′ rows′ windows′
         go none q = let z : _≡_ {A = ℕ} 0 1 = cc in absurd (omega arith)
         go (some f) q = h ∙ ap step.Refused (cc)
 
     pub taken-sound : (o : Option Line) → some (bidNote n p (record { count = c; flaw = flaw; table = windows′ })) ≡ noted m windows o
         → bidFaultIn T k n p c (isEmpty flaw) (isLate flaw) (eqb (cell used n) 1) ≡ none →
-        r ≡ step.Bid c → rows′ ≡ take (bidWidth * k) rows ++ rowNumbers (record { bidder = n; price = p; first = m; count = c })
+        r ≡ step.Bid c next → rows′ ≡ take (bidWidth * k) rows ++ rowNumbers (record { bidder = n; price = p; first = m; count = c })
         ++ drop (bidWidth * k + bidWidth) rows → RangeAdded n (n + 1) used used′ →
-        Taken o T line k m used rows windows r used′ rows′ windows′
+        Taken o next T line k m used rows windows r used′ rows′ windows′
     unfolding noted
     taken-sound none e g q s t = let z : _≡_ {A = ℕ} 0 1 = cc in absurd (omega arith)
     taken-sound (some (tender u)) e g q s t = let z : _≡_ {A = ℕ} 0 1 = cc in absurd (omega arith)
@@ -112,7 +112,7 @@ module _ (T : Tender) (line k m : ℕ) (used rows windows : List ℕ) (r : Step)
         let x = noted-bid n p c flaw m windows windows′ b e in
         let y : bidFaultAfter T k b (eqb (cell used (b .bidder)) 1) ≡ none = sym (noted-fault b x) ∙ g in
         rw y (record {
-          answer = q ∙ ap step.Bid (x .count-is);
+          answer = q ∙ ap (λ n. step.Bid n next) (x .count-is);
           row = rw (x .bidder-is, x .price-is, x .count-is) at s;
           own = x .windows-are;
           mark = rw (x .bidder-is) at t;

@@ -1,22 +1,22 @@
 // The bids of a text: each line judged in the paper's order, and put into tables.
 ghost use mathlib.Core.Path.{_≡_};
 ghost use mathlib.Core.Bool.{not, _&&_, _||_};
-ghost use Prim.Native.Nat.{_≤_};
+ghost use Prim.Native.Nat.{_+_, _≤_, _<_};
 ghost use lib.ListN.{length, drop, replicate};
 ghost use lib.Dec.{leb, ltb, eqb};
 ghost use Rattle.tender.specs.Limits.{within, maxPrice, maxBidder, maxBids, maxWindows, isSingle};
 ghost use Rattle.tender.specs.Tables.{bidTable, windowTable};
 ghost use Rattle.cells.specs.Cells.{cell};
 ghost use Rattle.reader_word.specs.Words.{cut};
+ghost use Rattle.reader_word.specs.Scan.{toNext, Ended};
 ghost use Rattle.reader_line.specs.Line.{lineOf, linesOf};
+ghost use Rattle.reader_line.specs.LineFront.{firstLine};
 ghost use Rattle.reader_word.specs.Flaws.{isEmpty, isLate};
 ghost use Rattle.reader_text.specs.Read.{bidFaultIn};
 ghost use Rattle.reader_bids.specs.Steps.{faultAt, verdictOf, Taken, LinesFilled};
 
 mod rows;
 
-use reader_line::ends::LineEnd;
-use reader_line::ends::line_end;
 use reader_line::line::Line;
 use reader_line::line::read_line;
 use reader_word::windows::Flaw;
@@ -105,14 +105,15 @@ fn judge(
 }
 
 pub(crate) enum Step {
-    Bid(usize),
+    Bid(usize, usize),
     Refused(Refusal),
 }
 
-// The line of this number, after k bids with m windows: a bid, which goes into the tables and whose bidder is used from then on, or
-// the line's fault.
+// The line of this number, which begins at `at`, after k bids with m windows: a bid, which goes into the tables and whose bidder is used
+// from then on, with how many windows it has and where the next line begins; or the line's fault.
 fn take_line(
-    bytes: &[u8],
+    text: &[u8],
+    at: usize,
     line: u64,
     tender: Tender,
     k: usize,
@@ -121,12 +122,15 @@ fn take_line(
     rows: &mut [u64],
     windows: &mut [u64],
 ) -> Step
-    requires { ⌜ (k ≤ 1000) × (m ≤ 32000) × (length (now used) ≡ 15625) × (length (now rows) ≡ bidTable) ⌝ }
-    ensures { λ r. ⌜ Taken (lineOf (now (bytes .entry))) tender line k m (now (used .entry)) (now (rows .entry)) (now (windows .entry))
-        r (now (used .exit)) (now (rows .exit)) (now (windows .exit)) ⌝ }
+    requires { ⌜ (k ≤ 1000) × (m ≤ 32000) × (length (now used) ≡ 15625) × (length (now rows) ≡ bidTable)
+        × (at < length (now text))
+        × Ended (now text) ⌝ }
+    ensures { λ r. ⌜ Taken (lineOf (firstLine (drop at (now (text .entry))))) (at + toNext 10 (drop at (now (text .entry))) + 1) tender line
+        k m (now (used .entry)) (now (rows .entry)) (now (windows .entry)) r (now (used .exit)) (now (rows .exit))
+        (now (windows .exit)) ⌝ }
 {
-    match read_line(bytes, windows, m) {
-        Line::Bid(bidder, price, count, flaw) => match judge(
+    match read_line(text, at, windows, m) {
+        Line::Bid(bidder, price, count, flaw, next) => match judge(
             tender,
             line,
             k,
@@ -139,12 +143,12 @@ fn take_line(
             Verdict::Sound => {
                 put_row(rows, k, bidder, price, m as u64, count as u64);
                 cells::add(used, bidder as usize);
-                Step::Bid(count)
+                Step::Bid(count, next)
             }
             Verdict::Faulty(r) => Step::Refused(r),
         },
-        Line::Tender(_, _) => Step::Refused(Refusal::BadForm { line }),
-        Line::Reserve(_) => Step::Refused(Refusal::ReserveMisplaced { line }),
+        Line::Tender(_, _, _) => Step::Refused(Refusal::BadForm { line }),
+        Line::Reserve(_, _) => Step::Refused(Refusal::ReserveMisplaced { line }),
         Line::Broken => Step::Refused(Refusal::BadForm { line }),
     }
 }
@@ -154,8 +158,8 @@ pub enum Bids {
     Refused(Refusal),
 }
 
-// The bids from `at` on, where line `from` begins, in the first rows of the two tables: how many bids and windows, or the first faulty
-// line.
+// The bids of lines that all end with byte 10, from `at` on, where line `from` begins, in the first rows of the two tables: how many bids
+// and windows, or the first faulty line.
 pub fn read_bids(
     text: &[u8],
     at: usize,
@@ -167,7 +171,8 @@ pub fn read_bids(
 ) -> Bids
     requires { ⌜ (at ≤ length (now text)) × (from ≤ 65536) × (length (now text) ≤ 65536) × (now used ≡ replicate 15625 0)
         × (length (now rows) ≡ bidTable)
-        × (length (now windows) ≡ windowTable) ⌝ }
+        × (length (now windows) ≡ windowTable)
+        × Ended (now text) ⌝ }
     ensures { λ r. ⌜ LinesFilled tender from (linesOf (cut 10 (drop at (now (text .entry))))) r (now (rows .exit))
         (now (windows .exit)) ⌝ }
 {
@@ -176,29 +181,15 @@ pub fn read_bids(
     let mut i = at;
     let mut line = from;
     while i < text.len() {
-        match line_end(text, i) {
-            LineEnd::At(e) => match take_line(
-                &text[i..e],
-                line,
-                tender,
-                k,
-                m,
-                used,
-                rows,
-                windows,
-            ) {
-                Step::Bid(count) => {
-                    k += 1;
-                    m += count;
-                    i = e + 1;
-                    line += 1;
-                }
-                Step::Refused(r) => {
-                    return Bids::Refused(r);
-                }
-            },
-            LineEnd::Broken => {
-                return Bids::Refused(Refusal::BadForm { line });
+        match take_line(text, i, line, tender, k, m, used, rows, windows) {
+            Step::Bid(count, next) => {
+                k += 1;
+                m += count;
+                i = next;
+                line += 1;
+            }
+            Step::Refused(r) => {
+                return Bids::Refused(r);
             }
         }
     }
