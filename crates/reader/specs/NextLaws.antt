@@ -8,7 +8,6 @@ use lib.ListN.{length, drop, drop-of-length-le}
 use Rattle.reader_word.specs.Words.{cut}
 use Rattle.reader_line.specs.Line.{Line, tender, bid, reserve, linesOf}
 use Rattle.reader_line.specs.Tally.{Note, tenderNote, bidNote, reserveNote, noted}
-use Rattle.reader_line.specs.Answer.{FirstBroken}
 use Rattle.reader_text.specs.Read.{Unreserved}
 use Rattle.reader.specs.Opened.{NextIs}
 use Rattle.reader.specs.declared.Next.{Next}
@@ -17,9 +16,6 @@ use Rattle.reader.specs.declared.Next.the-variants as next
 pub next-none : (text : List ℕ) (at : ℕ) → length text ≤ at → Unreserved (linesOf (cut 10 (drop at text)))
 unfolding linesOf cut
 next-none text at l = rw (drop-of-length-le text l) tt
-
-pub next-broken : (ls : List (Option Line)) → FirstBroken ls → Unreserved ls
-next-broken ls b = rw (b .are) tt
 
 -- what is noted is not the reserve's line
 abbrev pub NoReserve : Option Note → Type 0

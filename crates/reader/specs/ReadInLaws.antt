@@ -3,7 +3,7 @@ use mathlib.Core.Path.{_≡_, refl, sym, ap, _∙_}
 use mathlib.Core.List.{List, _++_}
 use Prim.Native.Nat.{ℕ, _*_, _/_, _≤_}
 use native.Mathlib.Omega.{arith}
-use lib.ListN.{length, drop}
+use lib.ListN.{length, drop, take-append-drop}
 use Rattle.tender.specs.declared.Tender.{Tender}
 use Rattle.tender.specs.declared.Refusal.{Refusal}
 use Rattle.tender.specs.declared.Window.{Window}
@@ -12,7 +12,8 @@ use Rattle.reader.specs.declared.Reading.{Reading}
 use Rattle.reader.specs.declared.Reading.the-variants as answer
 use Rattle.reader_text.specs.Read.{accepted, readText, readInto}
 use Rattle.reader_text.specs.Read as reading
-use Rattle.reader.specs.Answer.{readAnswer, bidsAfter, windowsAfter}
+use Rattle.reader.specs.Answer.{readAnswer, bidsAfter, windowsAfter, Holds}
+use Rattle.reader.specs.WholeLaws.{filled-is}
 use Rattle.reader_text.specs.CountLaws.{counts-law}
 use Rattle.reader_text.specs.SizeLaws.{fits-law}
 
@@ -66,6 +67,22 @@ module _ (text ob ow : List ℕ) (room-b : length ob ≡ bidTable) (room-w : len
       go : (o : reading.ReadOutcome) → answer.Refused q ≡ readAnswer o → o ≡ reading.refused q
       go (reading.refused k) x = cc
       go (accepted u R W) x = let f : _≡_ {A = ℕ} 0 1 = cc in absurd (omega arith)
+
+-- a reading by `fill`
+pub filled-read : (text nb nw : List ℕ) (r : Reading) → r ≡ readAnswer (readText text) → Holds (readText text) nb nw
+    → (t : Tender) (n m : ℕ) → r ≡ answer.Accepted t n m → ReadIn text nb nw t n
+filled-read text nb nw r a h t n m e =
+    let f = filled-is text nb nw r a h t n m e in
+    record {
+      rows = f .R;
+      spans = f .W;
+      past-rows = drop (bidWidth * n) nb;
+      past-spans = drop (windowWidth * m) nw;
+      is = f .is;
+      count = f .rows-count;
+      bids-are = sym (take-append-drop (bidWidth * n) nb) ∙ ap (λ l. l ++ drop (bidWidth * n) nb) (f .rows-are);
+      windows-are = sym (take-append-drop (windowWidth * m) nw) ∙ ap (λ l. l ++ drop (windowWidth * m) nw) (f .windows-are);
+    }
 
 pub few-read : {text bids windows : List ℕ} {t : Tender} {n : ℕ} → ReadIn text bids windows t n → n ≤ 1000
 few-read {text} {bids} {windows} {t} {n} h = omega (arith, h .count, counts-law t (h .rows) (h .spans) text (h .is) .0)

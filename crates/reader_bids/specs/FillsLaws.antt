@@ -116,11 +116,12 @@ marked-more b us used used′ h f x = go (eqb b x) refl (ltb x b) refl ∙ sym (
         rw (f .above x l, or-false (among x us)) (h x)
 
 bid-not-refused : {A : Type 0} {r : Step} {c n : ℕ} {x : Refusal} → r ≡ step.Bid c n → r ≡ step.Refused x → A
-bid-not-refused {A} {r} {c} {n} {x} e h = let q : step.Bid c n ≡ step.Refused x = sym e ∙ h in let z : _≡_ {A = ℕ} 0 1 = cc in absurd (omega arith)
+bid-not-refused {A} {r} {c} {n} {x} e h =
+    let q : step.Bid c n ≡ step.Refused x = sym e ∙ h in let z : _≡_ {A = ℕ} 0 1 = cc in absurd (omega arith)
 
 -- a line that was taken is a bid: what holds of every bid that the line may be holds of the answer
-module _ (P : ℕ → ℕ → Type 0) (T : Tender) (next line k m : ℕ) (used rows windows used′ rows′ windows′ : List ℕ) (r : Step) (c e : ℕ)
-    (q : r ≡ step.Bid c e) where
+module _ (P : ℕ → ℕ → Type 0) (T : Tender) (next line k m : ℕ) (used rows windows used′ rows′ windows′ : List ℕ)
+    (r : Step) (c e : ℕ) (q : r ≡ step.Bid c e) where
   pub taken-bid : (o : Option Line) → Taken o next T line k m used rows windows r used′ rows′ windows′
       → ((b : BidLine) → o ≡ some (bid b) → P (length (b .windows)) next) → P c e
   taken-bid none t h = bid-not-refused q t
@@ -143,8 +144,8 @@ module _ (T : Tender) (from : ℕ) (whole rest : List (Option Line)) (next line 
   more : (b : BidLine) → Walk T from whole (some (bid b) ∷ rest) line k m used rows windows → (r : Step)
       → m + length (b .windows) ≤ 11000 →
       bidFaultAfter T k b (eqb (cell used (b .bidder)) 1) ≡ none →
-      BidTaken b next k m used rows windows r used′ rows′ windows′ → length used′ ≡ length used → length rows′ ≡ length rows
-      → length windows′ ≡ length windows →
+      BidTaken b next k m used rows windows r used′ rows′ windows′ → length used′ ≡ length used
+      → length rows′ ≡ length rows → length windows′ ≡ length windows →
       Walk T from whole rest (line + 1) (k + 1) (m + length (b .windows)) used′ rows′ windows′
   unfolding checked judgedBy bidsOf
   more b w r room g t lu lr lw =

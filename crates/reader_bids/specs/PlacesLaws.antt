@@ -32,7 +32,8 @@ room-for text i m x h l b q =
 module _ (T : Tender) (from : ℕ) (whole : List (Option Line)) (text : List ℕ) (i line k m : ℕ)
     (used rows windows used′ rows′ windows′ : List ℕ) (x : Ended text) (h : i < length text)
     (w : Walk T from whole (linesOf (cut 10 (drop i text))) line k m used rows windows) (r : Step)
-    (t : Taken (lineOf (firstLine (drop i text))) (i + toNext 10 (drop i text) + 1) T line k m used rows windows r used′ rows′ windows′)
+    (t : Taken (lineOf (firstLine (drop i text))) (i + toNext 10 (drop i text) + 1) T line k m used rows windows r used′ rows′
+    windows′)
   where
     here : Walk T from whole (lineOf (firstLine (drop i text)) ∷ linesOf (cut 10 (drop (i + toNext 10 (drop i text) + 1) text)))
         line k m used rows windows
@@ -41,8 +42,8 @@ module _ (T : Tender) (from : ℕ) (whole : List (Option Line)) (text : List ℕ
     -- it is faulty
     pub walk-stops : (y : Refusal) → r ≡ step.Refused y → (out : ReadOutcome) → checked T from [] whole out ≡ refused y
     walk-stops y q out = stops T from whole (linesOf (cut 10 (drop (i + toNext 10 (drop i text) + 1) text)))
-        (i + toNext 10 (drop i text) + 1) line k m used rows windows used′ rows′ windows′ (lineOf (firstLine (drop i text))) here r t y q
-        out
+        (i + toNext 10 (drop i text) + 1) line k m used rows windows used′ rows′ windows′ (lineOf (firstLine (drop i text))) here r t
+        y q out
 
     -- it is a bid, and the walk goes on at e
     pub walk-goes : length text ≤ 65536 → 6 * m ≤ i → length used′ ≡ length used → length rows′ ≡ length rows
@@ -55,7 +56,8 @@ module _ (T : Tender) (from : ℕ) (whole : List (Option Line)) (text : List ℕ
         let o = lineOf (firstLine (drop i text)) in
         let next = i + toNext 10 (drop i text) + 1 in
         let a = ended-in text i x h in
-        let n : next ≡ e = taken-bid (λ c e. next ≡ e) T next line k m used rows windows used′ rows′ windows′ r c e q o t (λ b z. refl) in
+        let n : next ≡ e = taken-bid (λ c e. next ≡ e) T next line k m used rows windows used′ rows′ windows′ r c e q o t
+        (λ b z. refl) in
         let g = goes T from whole (linesOf (cut 10 (drop next text))) next line k m used rows windows used′ rows′ windows′ o here r t
         lu lr lw c e q (λ b z. omega (arith, room-for text i m x h l b z, a)) in
         let y = taken-bid (λ c e. 6 * (m + c) ≤ e) T next line k m used rows windows used′ rows′ windows′ r c e q o t

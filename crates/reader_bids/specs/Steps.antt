@@ -33,7 +33,8 @@ verdictOf Sound = none
 verdictOf (Faulty r) = some r
 
 -- a bid goes into the tables after k bids with m windows, and the next line begins at `next`
-pub record BidTaken (b : BidLine) (next k m : ℕ) (used rows windows : List ℕ) (r : Step) (used′ rows′ windows′ : List ℕ) : Type 0
+pub record BidTaken (b : BidLine) (next k m : ℕ) (used rows windows : List ℕ) (r : Step)
+    (used′ rows′ windows′ : List ℕ) : Type 0
   where
     pub answer : r ≡ step.Bid (length (b .windows)) next
     pub row : rows′ ≡ take (bidWidth * k) rows ++ rowNumbers
@@ -44,7 +45,8 @@ pub record BidTaken (b : BidLine) (next k m : ℕ) (used rows windows : List ℕ
 
 abbrev pub Judged : Option (ℕ → Refusal) → BidLine → (next line k m : ℕ) → (used rows windows : List ℕ) → Step
     → (used′ rows′ windows′ : List ℕ) → Type 0
-Judged none b next line k m used rows windows r used′ rows′ windows′ = BidTaken b next k m used rows windows r used′ rows′ windows′
+Judged none b next line k m used rows windows r used′ rows′ windows′ =
+    BidTaken b next k m used rows windows r used′ rows′ windows′
 Judged (some f) b next line k m used rows windows r used′ rows′ windows′ = r ≡ step.Refused (f line)
 
 -- what comes of a line, which has the number `line` in its text and goes on to place `next`

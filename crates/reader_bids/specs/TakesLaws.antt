@@ -101,7 +101,8 @@ module _ (next : ℕ) (T : Tender) (line k m : ℕ) (used rows windows : List �
 
     pub taken-sound : (o : Option Line) → some (bidNote n p (record { count = c; flaw = flaw; table = windows′ })) ≡ noted m windows o
         → bidFaultIn T k n p c (isEmpty flaw) (isLate flaw) (eqb (cell used n) 1) ≡ none →
-        r ≡ step.Bid c next → rows′ ≡ take (bidWidth * k) rows ++ rowNumbers (record { bidder = n; price = p; first = m; count = c })
+        r ≡ step.Bid c next →
+        rows′ ≡ take (bidWidth * k) rows ++ rowNumbers (record { bidder = n; price = p; first = m; count = c })
         ++ drop (bidWidth * k + bidWidth) rows → RangeAdded n (n + 1) used used′ →
         Taken o next T line k m used rows windows r used′ rows′ windows′
     unfolding noted

@@ -125,8 +125,8 @@ fn take_line(
     requires { ⌜ (k ≤ 1000) × (m ≤ 32000) × (length (now used) ≡ 15625) × (length (now rows) ≡ bidTable)
         × (at < length (now text))
         × Ended (now text) ⌝ }
-    ensures { λ r. ⌜ Taken (lineOf (firstLine (drop at (now (text .entry))))) (at + toNext 10 (drop at (now (text .entry))) + 1) tender line
-        k m (now (used .entry)) (now (rows .entry)) (now (windows .entry)) r (now (used .exit)) (now (rows .exit))
+    ensures { λ r. ⌜ Taken (lineOf (firstLine (drop at (now (text .entry))))) (at + toNext 10 (drop at (now (text .entry))) + 1) tender
+        line k m (now (used .entry)) (now (rows .entry)) (now (windows .entry)) r (now (used .exit)) (now (rows .exit))
         (now (windows .exit)) ⌝ }
 {
     match read_line(text, at, windows, m) {

@@ -4,6 +4,7 @@ pub mod Example
 pub mod FaultLaws
 pub mod ReadLaws
 pub mod HeadLaws
+pub mod RestLaws
 pub mod Differ
 pub mod PriceLaws
 pub mod PriceChangeLaws
