@@ -78,6 +78,12 @@ module _ (text rows spans : List ℕ) (r : Reading) (a : r ≡ readAnswer (readT
       go (refused k) x = cc
       go (accepted u R W) x = let f : _≡_ {A = ℕ} 0 1 = cc in absurd (omega arith)
 
+pub few-rows : {text rows spans : List ℕ} {t : Tender} {k m : ℕ} → Filled text t k m rows spans → k ≤ 1000
+few-rows {text} {rows} {spans} {t} {k} {m} h = omega (arith, counts-law t (h .R) (h .W) text (h .is) .0, h .rows-count)
+
+pub few-windows : {text rows spans : List ℕ} {t : Tender} {k m : ℕ} → Filled text t k m rows spans → m ≤ 10922
+few-windows {text} {rows} {spans} {t} {k} {m} h = omega (arith, size-law t (h .R) (h .W) text (h .is), h .windows-count)
+
 -- copied into lent tables
 
 module _ (text bids windows : List ℕ) where
@@ -96,12 +102,6 @@ module _ (text bids windows : List ℕ) where
   text-refused r e = rw e
 
   module _ (t : Tender) (k m : ℕ) (rows spans : List ℕ) (h : Filled text t k m rows spans) where
-    pub few-rows : k ≤ 1000
-    few-rows = omega (arith, counts-law t (h .R) (h .W) text (h .is) .0, h .rows-count)
-
-    pub few-windows : m ≤ 10922
-    few-windows = omega (arith, size-law t (h .R) (h .W) text (h .is), h .windows-count)
-
     pub bids-short : length bids / bidWidth < k → Refuses TableTooShort
     unfolding Refuses readInto fitted
     bids-short j = rw (h .is, h .rows-count, lt-leb k (length bids / bidWidth) j)

@@ -28,9 +28,6 @@ use tender::Reserve;
 use tender::Span;
 use tender::Tender;
 
-// The words of a set of a million bidder numbers.
-const NUMBER_WORDS: usize = 15625;
-
 pub(crate) enum Head {
     Tender(Tender, usize, u64),
     Refused(Refusal),
@@ -150,7 +147,7 @@ fn read_lines(text: &[u8], rest: bool, rows: &mut [u64], windows: &mut [u64]) ->
 {
     match read_head(text, windows) {
         Head::Tender(t, at, from) => {
-            let mut used = [0u64; NUMBER_WORDS];
+            let mut used = [1u64; numbers::WORDS];
             match read_bids(text, at, from, t, &mut used, rows, windows) {
                 Bids::Filled(k, m) => {
                     if rest {

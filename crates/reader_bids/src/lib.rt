@@ -7,6 +7,7 @@ ghost use lib.Dec.{leb, ltb, eqb};
 ghost use Rattle.tender.specs.Limits.{within, maxPrice, maxBidder, maxBids, maxWindows, isSingle};
 ghost use Rattle.tender.specs.Tables.{bidTable, windowTable};
 ghost use Rattle.cells.specs.Cells.{cell};
+ghost use Rattle.numbers.specs.Members.{members};
 ghost use Rattle.reader_word.specs.Words.{cut};
 ghost use Rattle.reader_word.specs.Scan.{toNext, Ended};
 ghost use Rattle.reader_line.specs.Line.{lineOf, linesOf};
@@ -65,7 +66,7 @@ pub(crate) enum Verdict {
     Faulty(Refusal),
 }
 
-// The first fault of the bid on this line, after so many bids: 4, 3, 7, 5, 15, 6. A used bidder number is a set bit of `used`.
+// The first fault of the bid on this line, after so many bids: 4, 3, 7, 5, 15, 6. `used` is the set of used bidder numbers.
 fn judge(
     tender: Tender,
     line: u64,
@@ -78,7 +79,7 @@ fn judge(
 ) -> Verdict
     requires { ⌜ length (now used) ≡ 15625 ⌝ }
     ensures { λ r. ⌜ verdictOf r ≡ faultAt line (bidFaultIn tender bids bidder price windows (isEmpty flaw) (isLate flaw)
-        (eqb (cell (now (used .entry)) bidder) 1)) ⌝ }
+        (eqb (cell (members (now (used .entry))) bidder) 1)) ⌝ }
 {
     if too_many(bids, windows) {
         return Verdict::Faulty(Refusal::TooMany { line });
@@ -98,7 +99,7 @@ fn judge(
         }
         Flaw::Sound => {}
     }
-    if cells::holds(used, bidder as usize) {
+    if numbers::holds(used, bidder as usize) {
         return Verdict::Faulty(Refusal::BidderRepeated { line });
     }
     Verdict::Sound
@@ -126,8 +127,8 @@ fn take_line(
         × (at < length (now text))
         × Ended (now text) ⌝ }
     ensures { λ r. ⌜ Taken (lineOf (firstLine (drop at (now (text .entry))))) (at + toNext 10 (drop at (now (text .entry))) + 1) tender
-        line k m (now (used .entry)) (now (rows .entry)) (now (windows .entry)) r (now (used .exit)) (now (rows .exit))
-        (now (windows .exit)) ⌝ }
+        line k m (members (now (used .entry))) (now (rows .entry)) (now (windows .entry)) r (members (now (used .exit)))
+        (now (rows .exit)) (now (windows .exit)) ⌝ }
 {
     match read_line(text, at, windows, m) {
         Line::Bid(bidder, price, count, flaw, next) => match judge(
@@ -142,7 +143,7 @@ fn take_line(
         ) {
             Verdict::Sound => {
                 put_row(rows, k, bidder, price, m as u64, count as u64);
-                cells::add(used, bidder as usize);
+                numbers::add(used, bidder as usize);
                 Step::Bid(count, next)
             }
             Verdict::Faulty(r) => Step::Refused(r),
@@ -169,7 +170,7 @@ pub fn read_bids(
     rows: &mut [u64],
     windows: &mut [u64],
 ) -> Bids
-    requires { ⌜ (at ≤ length (now text)) × (from ≤ 65536) × (length (now text) ≤ 65536) × (now used ≡ replicate 15625 0)
+    requires { ⌜ (at ≤ length (now text)) × (from ≤ 65536) × (length (now text) ≤ 65536) × (now used ≡ replicate 15625 1)
         × (length (now rows) ≡ bidTable)
         × (length (now windows) ≡ windowTable)
         × Ended (now text) ⌝ }

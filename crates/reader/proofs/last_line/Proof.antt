@@ -30,8 +30,7 @@ returns c =
     record {
       inside = c .before .before .before .loop .inv .0;
       last = λ h. c .if1 .taken;
-      none-after = c .before .before .before .loop
-          .inv .1;
+      none-after = c .before .before .before .loop .inv .1;
     }
 
 sub-e : tie.Need-sub-e Inv-loop μ-loop
@@ -45,7 +44,7 @@ loop-again c =
     let c4 = c .before .before .before .before in (
       omega (arith, c .before .before .before .loop .inv .0),
       none-here (c4 .args .text .now) (c .before .before .before .loop .e)
-          (c .before .before .loop-test .taken) (c .before .before .before .loop .inv .0) (c .if1 .left)
+          (omega (arith, c .before .before .loop-test .taken)) (c .before .before .before .loop .inv .0) (c .if1 .left)
           (c .before .before .before .loop .inv .1),
     )
 

@@ -59,10 +59,9 @@ copy-requires c κs =
     let h = filled-is (args .text .now) _ _ _ (c9 .fill .ensures .0) (c9 .fill .ensures .1) _ _ _ (c5 .tender .given .1) in (
       omega (
         arith,
-        few-rows (args .text .now) (args .bids .now) (args .windows .now) _ _ _ _ _ h,
+        few-rows h,
         c9 .fill .kept .1 .0,
-        length-replicate
-            {A = ℕ} bidTable 1,
+        length-replicate {A = ℕ} bidTable 1,
       ),
       omega (arith, c .before .before .before .if1 .left),
     )
@@ -77,7 +76,7 @@ mul-copy-2 c =
     let c19 = c13 .before .before .before .before .before .before in
     let args = c19 .args in
     let h = filled-is (args .text .now) _ _ _ (c13 .fill .ensures .0) (c13 .fill .ensures .1) _ _ _ (c9 .tender .given .1) in
-    omega (arith, few-windows (args .text .now) (args .bids .now) (args .windows .now) _ _ _ _ _ h)
+    omega (arith, few-windows h)
 
 copy-requires-2 : tie.Need-copy-requires-2
 copy-requires-2 c κs =
@@ -89,8 +88,7 @@ copy-requires-2 c κs =
     let h = filled-is (args .text .now) _ _ _ (c14 .fill .ensures .0) (c14 .fill .ensures .1) _ _ _ (c10 .tender .given .1) in (
       omega (
         arith,
-        few-windows (args .text .now) (args .bids .now)
-            (args .windows .now) _ _ _ _ _ h,
+        few-windows h,
         c14 .fill .kept .1 .1 .0,
         length-replicate {A = ℕ} windowTable 1,
       ),

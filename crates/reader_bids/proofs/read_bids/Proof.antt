@@ -1,8 +1,11 @@
 -- `read_bids` meets its contract: the lines before the walk's place are in the tables. Assumes nothing.
-use Prim.Native.Nat.{_-_, _*_, _≤_}
-use mathlib.Core.Path.{_≡_, refl, _∙_}
+use Prim.Native.Nat.{ℕ, _-_, _*_, _≤_}
+use mathlib.Core.Path.{_≡_, refl, sym, ap, _∙_}
+use mathlib.Core.List.{List}
 use native.Mathlib.Omega.{arith}
 use lib.ListN.{length, drop}
+use Rattle.numbers.specs.Members.{members}
+use Rattle.numbers.specs.MembersLaws.{members-none, members-length}
 use Rattle.reader_word.specs.Words.{cut}
 use Rattle.reader_line.specs.Line.{linesOf}
 use Rattle.reader_line.specs.PiecesLaws.{lines-end}
@@ -12,9 +15,13 @@ use borrow.Author.Needs.{needs}
 use Rattle.reader_bids.proofs.read_bids.Statement.{statement}
 use Rattle.reader_bids.proofs.read_bids.Tie as tie
 
+same-length-kept : (ws vs : List ℕ) → length ws ≡ length vs → length (members ws) ≡ length (members vs)
+same-length-kept ws vs e = members-length ws ∙ e ∙ sym (members-length vs)
+
 abbrev Inv-loop : tie.InvT-loop
 Inv-loop text at from tender used₀ rows₀ windows₀ k₀ m₀ i₀ line₀ used rows windows k m i line =
-    Walk tender from (linesOf (cut 10 (drop at text))) (linesOf (cut 10 (drop i text))) line k m used rows windows × (i ≤ length text)
+    Walk tender from (linesOf (cut 10 (drop at text))) (linesOf (cut 10 (drop i text))) line k m (members used) rows windows
+    × (i ≤ length text)
     × (length used ≡ length used₀) × (length rows ≡ length rows₀) × (length windows ≡ length windows₀) × (6 * m ≤ i)
 
 abbrev μ-loop : tie.MeasureT-loop
@@ -23,7 +30,7 @@ abbrev μ-loop : tie.MeasureT-loop
 loop-holds : tie.Need-loop-holds Inv-loop μ-loop
 loop-holds c =
     let c4 = c .before .before .before .before in
-    let pre = c4 .pre in (walk-begins _ _ _ _ _ _ (pre .3) (pre .4) (pre .5), pre .0, refl, refl, refl, omega arith)
+    let pre = c4 .pre in (walk-begins _ _ _ _ _ _ (ap members (pre .3) ∙ members-none 15625) (pre .4) (pre .5), pre .0, refl, refl, refl, omega arith)
 
 take-line-requires : tie.Need-take-line-requires Inv-loop μ-loop
 take-line-requires c κs =
@@ -32,7 +39,7 @@ take-line-requires c κs =
     let w = c4 .loop .inv .0 in (
       w .few-bids,
       omega (arith, w .few-windows, w .few-bids),
-      w .used-long,
+      sym (members-length _) ∙ w .used-long,
       w .rows-long,
       c .before .before .before .loop-test .taken,
       c9 .pre .6,
@@ -54,7 +61,7 @@ add-m c =
     let c19 = c14 .before .before .before .before .before in
     let pre = c19 .pre in let inv = c14 .loop .inv in let kept = c9 .take-line .kept .1 .1 .1 .1 .1 .1 in
     let g = walk-goes _ _ _ (c19 .args .text .now) (c14 .loop .i) _ _ _ _ _ _ _ _ _ (pre .6) (c13 .loop-test .taken) (inv .0) _
-    (c9 .take-line .ensures) (pre .2) (inv .5) (kept .0) (kept .1 .0) (kept .1 .1 .0) _ _ (c .before .count .given .1) in
+    (c9 .take-line .ensures) (pre .2) (inv .5) (same-length-kept _ _ (kept .0)) (kept .1 .0) (kept .1 .1 .0) _ _ (c .before .count .given .1) in
     omega (arith, g .0 .few-windows, g .0 .few-bids)
 
 add-line : tie.Need-add-line Inv-loop μ-loop
@@ -71,7 +78,7 @@ loop-less c =
     let c19 = c14 .before .before .before .before .before in
     let pre = c19 .pre in let inv = c14 .loop .inv in let kept = c9 .take-line .kept .1 .1 .1 .1 .1 .1 in
     let g = walk-goes _ _ _ (c19 .args .text .now) (c14 .loop .i) _ _ _ _ _ _ _ _ _ (pre .6) (c13 .loop-test .taken) (inv .0) _
-    (c9 .take-line .ensures) (pre .2) (inv .5) (kept .0) (kept .1 .0) (kept .1 .1 .0) _ _ (c .before .count .given .1) in
+    (c9 .take-line .ensures) (pre .2) (inv .5) (same-length-kept _ _ (kept .0)) (kept .1 .0) (kept .1 .1 .0) _ _ (c .before .count .given .1) in
     omega (arith, g .1, g .2)
 
 loop-again : tie.Need-loop-again Inv-loop μ-loop
@@ -82,7 +89,7 @@ loop-again c =
     let c19 = c14 .before .before .before .before .before in
     let pre = c19 .pre in let inv = c14 .loop .inv in let kept = c9 .take-line .kept .1 .1 .1 .1 .1 .1 in
     let g = walk-goes _ _ _ (c19 .args .text .now) (c14 .loop .i) _ _ _ _ _ _ _ _ _ (pre .6) (c13 .loop-test .taken) (inv .0) _
-    (c9 .take-line .ensures) (pre .2) (inv .5) (kept .0) (kept .1 .0) (kept .1 .1 .0) _ _ (c .before .count .given .1) in
+    (c9 .take-line .ensures) (pre .2) (inv .5) (same-length-kept _ _ (kept .0)) (kept .1 .0) (kept .1 .1 .0) _ _ (c .before .count .given .1) in
     (g .0, g .2, kept .0 ∙ inv .2, kept .1 .0 ∙ inv .3, kept .1 .1 .0 ∙ inv .4, g .3)
 
 enum-known-r : tie.Need-enum-known-r Inv-loop μ-loop
