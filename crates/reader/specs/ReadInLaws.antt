@@ -69,10 +69,10 @@ module _ (text ob ow : List ℕ) (room-b : length ob ≡ bidTable) (room-w : len
       go (accepted u R W) x = let f : _≡_ {A = ℕ} 0 1 = cc in absurd (omega arith)
 
 -- a reading by `fill`
-pub filled-read : (text nb nw : List ℕ) (r : Reading) → r ≡ readAnswer (readText text) → Holds (readText text) nb nw
-    → (t : Tender) (n m : ℕ) → r ≡ answer.Accepted t n m → ReadIn text nb nw t n
-filled-read text nb nw r a h t n m e =
-    let f = filled-is text nb nw r a h t n m e in
+pub filled-read : (text : List ℕ) {nb nw : List ℕ} {r : Reading} (t : Tender) (n m : ℕ) → r ≡ readAnswer (readText text)
+    → Holds (readText text) nb nw → r ≡ answer.Accepted t n m → ReadIn text nb nw t n
+filled-read text {nb} {nw} {r} t n m a h e =
+    let f = filled-is text t n m a h e in
     record {
       rows = f .R;
       spans = f .W;

@@ -50,10 +50,10 @@ pub record Filled (text : List ℕ) (t : Tender) (k m : ℕ) (rows spans : List 
   pub rows-are : take (bidWidth * k) rows ≡ flatRows R
   pub windows-are : take (windowWidth * m) spans ≡ flatWindows W
 
-module _ (text rows spans : List ℕ) (r : Reading) (a : r ≡ readAnswer (readText text)) where
-  pub filled-is : Holds (readText text) rows spans → (t : Tender) (k m : ℕ) → r ≡ answer.Accepted t k m
-      → Filled text t k m rows spans
-  filled-is h t k m e = go (readText text) refl (sym e ∙ a) h
+module _ (text : List ℕ) where
+  pub filled-is : {rows spans : List ℕ} {r : Reading} (t : Tender) (k m : ℕ) → r ≡ readAnswer (readText text)
+      → Holds (readText text) rows spans → r ≡ answer.Accepted t k m → Filled text t k m rows spans
+  filled-is {rows} {spans} {r} t k m a h e = go (readText text) refl (sym e ∙ a) h
     where
       go : (o : ReadOutcome) → readText text ≡ o → answer.Accepted t k m ≡ readAnswer o → Holds o rows spans
           → Filled text t k m rows spans
@@ -71,8 +71,9 @@ module _ (text rows spans : List ℕ) (r : Reading) (a : r ≡ readAnswer (readT
             windows-are = rw p at (y .1);
           }
 
-  pub refused-is : (q : Refusal) → r ≡ answer.Refused q → readText text ≡ refused q
-  refused-is q e = go (readText text) (sym e ∙ a)
+  pub refused-is : {r : Reading} (q : Refusal) → r ≡ readAnswer (readText text) → r ≡ answer.Refused q
+      → readText text ≡ refused q
+  refused-is {r} q a e = go (readText text) (sym e ∙ a)
     where
       go : (o : ReadOutcome) → answer.Refused q ≡ readAnswer o → o ≡ refused q
       go (refused k) x = cc

@@ -1,5 +1,5 @@
 // The bid reader: bid text to a tender, a table of bids and a table of windows. `reader_text` Read says what a text gives;
-// a text is read whole or refused, and a refused text leaves both tables as they were.
+// a text is read whole or refused, and a refused text leaves the tables that `read` is lent as they were.
 ghost use mathlib.Core.Path.{_≡_};
 ghost use mathlib.Core.List.{_++_};
 ghost use Prim.Native.Nat.{_/_, _≤_};

@@ -28,7 +28,7 @@ returns c =
     let c6 = c .before .before .before .before .before .before in
     let c12 = c6 .before .before .before .before .before .before in
     let args = c12 .args in
-    let h = filled-is (args .text .now) _ _ _ (c6 .fill .ensures .0) (c6 .fill .ensures .1) _ _ _ (c .before .before .tender .given .1) in
+    let h = filled-is (args .text .now) _ _ _ (c6 .fill .ensures .0) (c6 .fill .ensures .1) (c .before .before .tender .given .1) in
     let x = answer-refused (args .text .now) (args .bids .now) (args .windows .now) _
     (bids-short (args .text .now) (args .bids .now) (args .windows .now) _ _ _ _ _ h (c .if1 .taken)) in
     (x .0, (x .1, x .2))
@@ -38,8 +38,7 @@ returns-2 c =
     let c7 = c .before .before .before .before .before .before .before in
     let c13 = c7 .before .before .before .before .before .before in
     let args = c13 .args in
-    let h = filled-is (args .text .now) _ _ _ (c7 .fill .ensures .0) (c7 .fill .ensures .1) _ _ _
-    (c .before .before .before .tender .given .1) in
+    let h = filled-is (args .text .now) _ _ _ (c7 .fill .ensures .0) (c7 .fill .ensures .1) (c .before .before .before .tender .given .1) in
     let x = answer-refused (args .text .now) (args .bids .now) (args .windows .now) _
     (windows-short (args .text .now) (args .bids .now) (args .windows .now) _ _ _ _ _ h (c .before .if1 .left) (c .if2 .taken)) in
     (x .0, (x .1, x .2))
@@ -56,7 +55,7 @@ copy-requires c κs =
     let c9 = c5 .before .before .before .before in
     let c15 = c9 .before .before .before .before .before .before in
     let args = c15 .args in
-    let h = filled-is (args .text .now) _ _ _ (c9 .fill .ensures .0) (c9 .fill .ensures .1) _ _ _ (c5 .tender .given .1) in (
+    let h = filled-is (args .text .now) _ _ _ (c9 .fill .ensures .0) (c9 .fill .ensures .1) (c5 .tender .given .1) in (
       omega (
         arith,
         few-rows h,
@@ -75,7 +74,7 @@ mul-copy-2 c =
     let c13 = c9 .before .before .before .before in
     let c19 = c13 .before .before .before .before .before .before in
     let args = c19 .args in
-    let h = filled-is (args .text .now) _ _ _ (c13 .fill .ensures .0) (c13 .fill .ensures .1) _ _ _ (c9 .tender .given .1) in
+    let h = filled-is (args .text .now) _ _ _ (c13 .fill .ensures .0) (c13 .fill .ensures .1) (c9 .tender .given .1) in
     omega (arith, few-windows h)
 
 copy-requires-2 : tie.Need-copy-requires-2
@@ -85,7 +84,7 @@ copy-requires-2 c κs =
     let c14 = c10 .before .before .before .before in
     let c20 = c14 .before .before .before .before .before .before in
     let args = c20 .args in
-    let h = filled-is (args .text .now) _ _ _ (c14 .fill .ensures .0) (c14 .fill .ensures .1) _ _ _ (c10 .tender .given .1) in (
+    let h = filled-is (args .text .now) _ _ _ (c14 .fill .ensures .0) (c14 .fill .ensures .1) (c10 .tender .given .1) in (
       omega (
         arith,
         few-windows h,
@@ -113,7 +112,7 @@ returns-3 c =
     let c17 = c13 .before .before .before .before in
     let c23 = c17 .before .before .before .before .before .before in
     let args = c23 .args in
-    let h = filled-is (args .text .now) _ _ _ (c17 .fill .ensures .0) (c17 .fill .ensures .1) _ _ _ (c13 .tender .given .1) in
+    let h = filled-is (args .text .now) _ _ _ (c17 .fill .ensures .0) (c17 .fill .ensures .1) (c13 .tender .given .1) in
     let y = answer-accepted (args .text .now) (args .bids .now) (args .windows .now) _ _ _ _ _ h (c11 .if1 .left) (c10 .if2 .left) in
     (y .0, (c7 .copy .ensures ∙ y .1, c .before .before .copy2 .ensures ∙ y .2))
 
@@ -124,8 +123,7 @@ returns-4 c =
     let args = c11 .args in
     let x = answer-refused (args .text .now) (args .bids .now) (args .windows .now) _
     (text-refused (args .text .now) (args .bids .now) (args .windows .now) _
-    (refused-is (args .text .now) (c5 .fill .last .1 .0) (c5 .fill .last .1 .1 .0) _ (c5 .fill .ensures .0) _ (c .before .r .given .1)))
-    in
+    (refused-is (args .text .now) _ (c5 .fill .ensures .0) (c .before .r .given .1))) in
     (x .0, (x .1, x .2))
 
 pub read-spec : {M : Type 1} → statement M
