@@ -44,10 +44,10 @@ lowest-set (suc d) n l z = go (two (n % 2) (omega arith)) (lowest-set d (n / 2) 
     go (inl e) ih = rw e (bit-suc n (trailingZeros d (n / 2)) ∙ ih (λ y. z (omega arith)))
 
 -- no bit of a word is past its 64
-past-bits : (m j : ℕ) → m < 2 ^ 64 → 64 ≤ j → bitOf m j ≡ 0
+pub past-bits : (m j : ℕ) → m < 2 ^ 64 → 64 ≤ j → bitOf m j ≡ 0
 past-bits m j l h = ap (λ (x : ℕ). x % 2) (div-eq-of-lt (omega (arith, pow-mono h)))
 
-shifted-bit : (m s j : ℕ) → bitOf (m / 2 ^ s) j ≡ bitOf m (s + j)
+pub shifted-bit : (m s j : ℕ) → bitOf (m / 2 ^ s) j ≡ bitOf m (s + j)
 shifted-bit m s j = ap (λ (x : ℕ). x % 2) (shr-shr m s j)
 
 -- the cells of word q that are in a and not in b
