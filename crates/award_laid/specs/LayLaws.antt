@@ -17,8 +17,10 @@ use Rattle.tender.specs.declared.Kind.the-variants.{Single, Multi}
 use Rattle.tender.specs.declared.Reserve.{Reserve}
 use Rattle.tender.specs.declared.Reserve.the-variants.{Absent, Price}
 use Rattle.tender.specs.declared.Tender.{Tender}
+use Rattle.tender.specs.Limits.{maxEntries}
 use Rattle.cells.specs.Cells.{cell}
 use Rattle.cover.specs.Settled.{spans}
+use Rattle.cover.specs.Intervals.{Order}
 use Rattle.multi_rounds.specs.Market.{wordRow, has, First}
 use Rattle.multi_rounds.specs.WordRowLaws.{row-within}
 use Rattle.award_thin.specs.declared.Thin.{Thin}
@@ -129,9 +131,10 @@ module _ (t : Tender) (n : ℕ) (bids windows ps starts ends : List ℕ) (r : Sp
       inside = spans-inside t n bids windows starts ends o kind-is (r .start-count) (r .end-count) (r .laid) no-house;
     }
 
-    pub lays-owners : (thin : Thin) → Says (spans starts ends) (length starts) (cellsOf t) thin
-        → LaidSpans t n bids windows ps starts ends thin
-    lays-owners thin s =
+    pub lays-owners : (order : List ℕ) (thin : Thin) → Says (spans starts ends) (length starts) (cellsOf t) thin
+        → Order (length starts) (λ i. getD starts i 0) (λ q. getD order q 0)
+        → LaidSpans t n bids windows ps starts ends order thin
+    lays-owners order thin s sorted =
         let m : length starts ≡ n = omega (arith, r .start-count, ap houses e) in
         let h = spans-have t n bids windows starts ends o kind-is (r .start-count) (r .end-count) (r .laid) no-house in
         record {
@@ -139,37 +142,55 @@ module _ (t : Tender) (n : ℕ) (bids windows ps starts ends : List ℕ) (r : Sp
           has-is = h;
           ordered = spans-owners .ordered;
           inside = spans-owners .inside;
+          in-order = rw (r .start-count ∙ sym (r .price-count)) at sorted;
           thin-is = tells t n bids windows e thin (rw (h, m) at s);
         }
 
-  pub lays-house : (q : ℕ) → t .reserve ≡ Price q
-      → LaidSpans t n bids windows (set ps n q) (set starts n 0) (set ends n (cellsOf t)) Enough
-  lays-house q e = record {
-    prices-are = prices-house t n bids windows ps (r .price-count) (r .priced) q e;
-    has-is = spans-have t n bids windows (set starts n 0) (set ends n (cellsOf t)) o kind-is a b l house;
-    ordered = spans-ordered t n bids windows (set starts n 0) (set ends n (cellsOf t)) o kind-is a b l house;
-    inside = spans-inside t n bids windows (set starts n 0) (set ends n (cellsOf t)) o kind-is a b l house;
-    thin-is = tells-none t n bids windows q e;
-  }
-    where
-      a : length (set starts n 0) ≡ n + houses (t .reserve)
-      a = length-set starts n 0 ∙ r .start-count
+  -- the house after the bids
+  module _ (q : ℕ) (e : t .reserve ≡ Price q) where
+    pub house-count : length (set starts n 0) ≡ n + houses (t .reserve)
+    house-count = length-set starts n 0 ∙ r .start-count
 
-      b : length (set ends n (cellsOf t)) ≡ n + houses (t .reserve)
-      b = length-set ends n (cellsOf t) ∙ r .end-count
+    house-ends : length (set ends n (cellsOf t)) ≡ n + houses (t .reserve)
+    house-ends = length-set ends n (cellsOf t) ∙ r .end-count
 
-      l : SpansLaid n t bids windows (set starts n 0) (set ends n (cellsOf t))
-      l = record {
-        starts-are = λ i m. after n 0 starts i m ∙ r .laid .starts-are i m;
-        ends-are = λ i m. after n (cellsOf t) ends i m ∙ r .laid .ends-are i m;
-      }
+    house-laid : SpansLaid n t bids windows (set starts n 0) (set ends n (cellsOf t))
+    house-laid = record {
+      starts-are = λ i m. after n 0 starts i m ∙ r .laid .starts-are i m;
+      ends-are = λ i m. after n (cellsOf t) ends i m ∙ r .laid .ends-are i m;
+    }
 
-      house : (p : ℕ) → t .reserve ≡ Price p → (getD (set starts n 0) n 0 ≡ 0)
-          × (getD (set ends n (cellsOf t)) n 0 ≡ cellsOf t)
-      house p g = (
-        getD-set-same starts n 0 0 (omega (arith, r .start-count, ap houses e)),
-        getD-set-same ends n (cellsOf t) 0 (omega (arith, r .end-count, ap houses e)),
-      )
+    house-has : (p : ℕ) → t .reserve ≡ Price p → (getD (set starts n 0) n 0 ≡ 0)
+        × (getD (set ends n (cellsOf t)) n 0 ≡ cellsOf t)
+    house-has p g = (
+      getD-set-same starts n 0 0 (omega (arith, r .start-count, ap houses e)),
+      getD-set-same ends n (cellsOf t) 0 (omega (arith, r .end-count, ap houses e)),
+    )
+
+    house-ordered : (i : ℕ) → getD (set starts n 0) i 0 ≤ getD (set ends n (cellsOf t)) i 0
+    house-ordered = spans-ordered t n bids windows (set starts n 0) (set ends n (cellsOf t)) o kind-is house-count house-ends
+        house-laid house-has
+
+    house-inside : (i : ℕ) → getD (set ends n (cellsOf t)) i 0 ≤ cellsOf t
+    house-inside = spans-inside t n bids windows (set starts n 0) (set ends n (cellsOf t)) o kind-is house-count house-ends
+        house-laid house-has
+
+    pub house-starts : (i : ℕ) → getD (set starts n 0) i 0 ≤ cellsOf t
+    house-starts i = omega (arith, house-ordered i, house-inside i)
+
+    pub house-few : length (set starts n 0) ≤ maxEntries
+    house-few = omega (arith, house-count, o .few, ap houses e)
+
+    pub lays-house : (order : List ℕ) → Order (length (set starts n 0)) (λ i. getD (set starts n 0) i 0) (λ q. getD order q 0)
+        → LaidSpans t n bids windows (set ps n q) (set starts n 0) (set ends n (cellsOf t)) order Enough
+    lays-house order sorted = record {
+      prices-are = prices-house t n bids windows ps (r .price-count) (r .priced) q e;
+      has-is = spans-have t n bids windows (set starts n 0) (set ends n (cellsOf t)) o kind-is house-count house-ends house-laid house-has;
+      ordered = house-ordered;
+      inside = house-inside;
+      in-order = rw (house-count ∙ sym (r .price-count) ∙ sym (length-set ps n q)) at sorted;
+      thin-is = tells-none t n bids windows q e;
+    }
 
 -- the bids of a multi tender are laid out
 pub record MasksReady (t : Tender) (n w : ℕ) (bids windows ps ms : List ℕ) : Type 0 where

@@ -1,14 +1,18 @@
 // A faultless tender laid out for the award of its kind: the prices, and the starts and ends or the words of the bids and, where there
-// is a reserve, of the house after them; with whether a cell is thin. There are as many entries as `prices` has places.
+// is a reserve, of the house after them; with whether a cell is thin. There are as many entries as `prices` has places. The entries of a
+// single tender are put in order of start, once for the cells and the award.
 use award_thin::Thin;
 use tender::Reserve;
 use tender::Tender;
 ghost use mathlib.Core.Path.{_≡_};
 ghost use mathlib.Core.Option.{none};
 ghost use Prim.Native.Nat.{_+_, _*_, _/_, _≤_, _<_};
-ghost use lib.ListN.{length, set};
+ghost use lib.ListN.{length, getD, set};
 ghost use Rattle.tender.specs.declared.Kind.the-variants.{Single, Multi};
+ghost use Rattle.cover.specs.Settled.{spans};
+ghost use Rattle.cover.specs.Intervals.{Order};
 ghost use Rattle.multi_rounds.specs.Market.{First};
+ghost use Rattle.award_thin.specs.Thin.{Says, Spans};
 ghost use Rattle.award_check.specs.Faults.{faultOf};
 ghost use Rattle.award_check.specs.Cells.{cellsOf};
 ghost use Rattle.award_check.specs.Auction.{houses};
@@ -33,7 +37,18 @@ fn put_house(
     ends[at] = cells;
 }
 
-// A single tender as prices, starts and ends.
+// The bids put in order of start, and whether a cell is thin.
+fn ask(starts: &[u64], ends: &[u64], cells: u64, order: &mut [usize]) -> Thin
+    requires { ⌜ Spans (now starts) (now ends) cells × ((cells ≤ 10080) × (length (now starts) ≤ length (now order))) ⌝ }
+    ensures { λ r. ⌜ Says (spans (now (starts .entry)) (now (ends .entry))) (length (now (starts .entry))) cells r
+        × Order (length (now (starts .entry))) (λ i. getD (now (starts .entry)) i 0) (λ q. getD (now (order .exit)) q 0) ⌝ }
+{
+    let n = starts.len();
+    single_order::by_start(starts, n, cells, order);
+    award_thin::thin_spans(starts, ends, order, cells as usize)
+}
+
+// A single tender as prices, starts and ends, with its entries in order of start.
 pub fn lay_spans(
     tender: Tender,
     count: usize,
@@ -42,12 +57,13 @@ pub fn lay_spans(
     prices: &mut [u64],
     starts: &mut [u64],
     ends: &mut [u64],
+    order: &mut [usize],
 ) -> Thin
     requires { ⌜ (faultOf Single tender count (now bids) (now windows) ≡ none)
         × ((length (now prices) ≡ count + houses (tender .reserve)) × ((length (now starts) ≡ count + houses (tender .reserve))
-        × (length (now ends) ≡ count + houses (tender .reserve)))) ⌝ }
+        × ((length (now ends) ≡ count + houses (tender .reserve)) × (count + houses (tender .reserve) ≤ length (now order))))) ⌝ }
     ensures { λ r. ⌜ LaidSpans tender count (now (bids .entry)) (now (windows .entry)) (now (prices .exit))
-        (now (starts .exit)) (now (ends .exit)) r ⌝ }
+        (now (starts .exit)) (now (ends .exit)) (now (order .exit)) r ⌝ }
 {
     let cells = award_layout::cells(tender);
     let reserve = tender.reserve;
@@ -60,9 +76,10 @@ pub fn lay_spans(
         &mut ends[..count],
     );
     match reserve {
-        Reserve::Absent => award_thin::thin_spans(starts, ends, cells as usize),
+        Reserve::Absent => ask(starts, ends, cells, order),
         Reserve::Price(price) => {
             put_house(count, price, cells, prices, starts, ends);
+            single_order::by_start(starts, starts.len(), cells, order);
             Thin::Enough
         }
     }

@@ -30,8 +30,8 @@ use Rattle.award_settle.specs.ThinLaws.{enough}
 use Rattle.award_settle.specs.MultiLaws.{prices-lawful}
 use Rattle.award_plain.specs.PlainLaws.{awards, single-won, single-cents}
 
-module _ (t : Tender) (n : ℕ) (bids windows ps starts ends : List ℕ) (thin : Thin) (f : faultOf Single t n bids windows ≡ none)
-    (l : LaidSpans t n bids windows ps starts ends thin) where
+module _ (t : Tender) (n : ℕ) (bids windows ps starts ends order : List ℕ) (thin : Thin) (f : faultOf Single t n bids windows ≡ none)
+    (l : LaidSpans t n bids windows ps starts ends order thin) where
   abbrev A : Auction
   A = auctionOf t n bids windows
 

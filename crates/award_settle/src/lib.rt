@@ -87,7 +87,8 @@ fn settle_multi(
     )
 }
 
-// A faultless single tender: flags and cents of all entries. Room for prices, starts and ends of as many entries is lent.
+// A faultless single tender: flags and cents of all entries. Room for prices, starts and ends of as many entries, and for their order,
+// is lent.
 fn single_in(
     tender: Tender,
     count: usize,
@@ -96,17 +97,18 @@ fn single_in(
     prices: &mut [u64],
     starts: &mut [u64],
     ends: &mut [u64],
+    order: &mut [usize],
     flags: &mut [u64],
     pays: &mut [u64],
 ) -> Answer
     requires { ⌜ (faultOf Single tender count (now bids) (now windows) ≡ none)
         × ((length (now prices) ≡ count + houses (tender .reserve)) × ((length (now starts) ≡ count + houses (tender .reserve))
-        × ((length (now ends) ≡ count + houses (tender .reserve))
-        × ((length (now prices) ≤ length (now flags)) × (length (now prices) ≤ length (now pays)))))) ⌝ }
+        × ((length (now ends) ≡ count + houses (tender .reserve)) × ((length (now prices) ≤ length (now order))
+        × ((length (now prices) ≤ length (now flags)) × (length (now prices) ≤ length (now pays))))))) ⌝ }
     ensures { λ r. ⌜ toldIn count (now (flags .exit)) (now (pays .exit)) r
         ≡ awardOf Single tender count (now (bids .entry)) (now (windows .entry)) count ⌝ }
 {
-    let thin = award_laid::lay_spans(tender, count, bids, windows, prices, starts, ends);
+    let thin = award_laid::lay_spans(tender, count, bids, windows, prices, starts, ends, order);
     match thin {
         // 11: a minute in no bid.
         Thin::Nobody { cell } => Answer::Refused(Refusal::MinuteUncovered {
@@ -118,7 +120,7 @@ fn single_in(
         }),
         Thin::Enough => {
             let cells = award_layout::cells(tender);
-            single::award(starts, ends, prices, cells, flags, pays);
+            single::award(starts, ends, prices, order, cells, flags, pays);
             Answer::Awarded(award_plain::totals(prices, flags, pays, count))
         }
     }
@@ -142,6 +144,7 @@ fn settle_single(
     let mut prices = [1u64; tender::MAX_ENTRIES];
     let mut starts = [1u64; tender::MAX_ENTRIES];
     let mut ends = [1u64; tender::MAX_ENTRIES];
+    let mut order = [1usize; tender::MAX_ENTRIES];
     single_in(
         tender,
         count,
@@ -150,6 +153,7 @@ fn settle_single(
         &mut prices[..entries],
         &mut starts[..entries],
         &mut ends[..entries],
+        &mut order,
         flags,
         pays,
     )

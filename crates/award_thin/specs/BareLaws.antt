@@ -1,13 +1,13 @@
 -- The earliest cell that no bid has: cell by cell, and bid by bid. Assumes nothing.
 use mathlib.Core.Path.{_≡_, refl, ap}
 use mathlib.Core.Bool.{Bool, true, false}
-use Prim.Native.Nat.{ℕ, zero, suc, _+_, _≤_, _<_}
+use Prim.Native.Nat.{ℕ, _+_, _≤_, _<_}
 use native.Mathlib.Numerals.{add-one}
 use native.Mathlib.Omega.{arith}
-use lib.Dec.{ltb}
-use borrow.Author.Tests.{lt-ltb, le-ltb, ltb-true, ltb-false}
+use borrow.Author.Tests.{lt-ltb, le-ltb}
 use Rattle.cover.specs.Sets.{when, bidders}
 use Rattle.award_thin.specs.Thin.{fewer, FirstOf}
+use Rattle.award_thin.specs.CountsLaws.{some-bidder}
 use Rattle.award_thin.specs.FirstsLaws.{one-more-before}
 
 -- each cell before x has a bidder
@@ -21,16 +21,6 @@ pub record Asking (has : ℕ → ℕ → Bool) (n L x i : ℕ) : Type 0 where
   pub here : x < L
   pub upto : i ≤ n
   pub none : bidders has i x ≡ 0
-
-some-bidder : (has : ℕ → ℕ → Bool) (n x i : ℕ) → i < n → has i x ≡ true → 1 ≤ bidders has n x
-unfolding bidders
-some-bidder has zero x i l e = absurd (omega arith)
-some-bidder has (suc n) x i l e = go (ltb i n) refl (some-bidder has n x i)
-  where
-    go : (b : Bool) → ltb i n ≡ b → (i < n → has i x ≡ true → 1 ≤ bidders has n x)
-        → 1 ≤ when (has n x) 1 + bidders has n x
-    go true t ih = omega (arith, ih (ltb-true i n t) e)
-    go false t ih = let d : i ≡ n = omega (arith, ltb-false i n t) in omega (arith, ap (λ b. when b 1) (rw d at e))
 
 pub looks-none : (has : ℕ → ℕ → Bool) (n L : ℕ) → Looking has n L 0
 looks-none has n L = record { inside = omega arith; before = λ y l. absurd (omega arith) }

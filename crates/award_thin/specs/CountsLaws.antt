@@ -1,62 +1,69 @@
--- Laws of counts: how many numbers are x, how many are below x, and the bidders of a cell from both. Assumes nothing.
+-- Laws of counts: two bidders of a cell are two different bids, also by their positions in an order of the bids. Assumes nothing.
 use mathlib.Core.Path.{_≡_, refl, sym, ap, _∙_}
 use mathlib.Core.List.{List}
-use mathlib.Core.Bool.{Bool, true, false, _&&_}
-use Prim.Native.Nat.{ℕ, zero, suc, _+_, _≤_, _<_}
-use native.Mathlib.Numerals.{add-one}
+use mathlib.Core.Bool.{Bool, true, false}
+use Prim.Native.Nat.{ℕ, zero, suc, _+_, _-_, _≤_, _<_}
 use native.Mathlib.Omega.{arith}
-use lib.ListN.{length, getD, set, replicate}
-use lib.Seq.{getD-set-same, getD-set-other}
-use lib.Dec.{leb, ltb, eqb}
-use borrow.Author.Tests.{leb-true, leb-false, ltb-true, ltb-false, lt-ltb, le-ltb, eqb-true, eqb-false}
+use lib.ListN.{getD}
+use lib.Dec.{ltb, eqb}
+use borrow.Author.Tests.{ltb-true, ltb-false, lt-ltb, le-ltb, eqb-true, eqb-false, eq-eqb}
 use Rattle.cover.specs.Sets.{when, bidders}
-use Rattle.cover.specs.Settled.{spans}
 use Rattle.cover.specs.SetLaws.{when-one}
-use Rattle.award_thin.specs.Thin.{times}
+use Rattle.cover.specs.SpareLaws.{another}
+use Rattle.cover.specs.Intervals.{Order}
 
-pub times-none : (xs : List ℕ) (x : ℕ) → times xs 0 x ≡ 0
-unfolding times bidders
-times-none xs x = refl
-
-pub times-more : (xs : List ℕ) (i x : ℕ) → times xs (i + 1) x ≡ when (eqb (getD xs i 0) x) 1 + times xs i x
-unfolding times bidders
-times-more xs i x = ap (λ (m : ℕ). bidders (λ i y. eqb (getD xs i 0) y) m x) (add-one i)
-
-pub bidders-fit : (has : ℕ → ℕ → Bool) (n x : ℕ) → bidders has n x ≤ n
+bidders-fit : (has : ℕ → ℕ → Bool) (n x : ℕ) → bidders has n x ≤ n
 unfolding bidders
 bidders-fit has zero x = omega arith
 bidders-fit has (suc n) x = omega (arith, when-one (has n x), bidders-fit has n x)
 
-pub times-most : (xs : List ℕ) (n x : ℕ) → times xs n x ≤ n
-unfolding times
-times-most xs n x = bidders-fit (λ i y. eqb (getD xs i 0) y) n x
-
-pub count-of : (xs table : List ℕ) (i : ℕ) → getD xs i 0 < length table → ((x : ℕ) → getD table x 0 ≡ times xs i x) →
-    (x : ℕ) → getD (set table (getD xs i 0) (getD table (getD xs i 0) 0 + 1)) x 0 ≡ times xs (i + 1) x
-count-of xs table i l f x = go (eqb (getD xs i 0) x) refl
+pub some-bidder : (has : ℕ → ℕ → Bool) (n x i : ℕ) → i < n → has i x ≡ true → 1 ≤ bidders has n x
+unfolding bidders
+some-bidder has zero x i l e = absurd (omega arith)
+some-bidder has (suc n) x i l e = go (ltb i n) refl (some-bidder has n x i)
   where
-    go : (b : Bool) → eqb (getD xs i 0) x ≡ b → getD (set table (getD xs i 0) (getD table (getD xs i 0) 0 + 1)) x 0
-        ≡ times xs (i + 1) x
-    go true e =
-        let d : x ≡ getD xs i 0 = sym (eqb-true (getD xs i 0) x e) in
-        ap (λ (y : ℕ). getD (set table (getD xs i 0) (getD table (getD xs i 0) 0 + 1)) y 0) d
-        ∙ getD-set-same table (getD xs i 0) (getD table (getD xs i 0) 0 + 1) 0 l
-        ∙ omega (arith, f (getD xs i 0), ap (times xs i) d, times-more xs i x, ap (λ b. when b 1) e)
-    go false e =
-        getD-set-other table (getD xs i 0) x (getD table (getD xs i 0) 0 + 1) 0 (λ d. eqb-false (getD xs i 0) x e (sym d))
-        ∙ omega (arith, f x, times-more xs i x, ap (λ b. when b 1) e)
+    go : (b : Bool) → ltb i n ≡ b → (i < n → has i x ≡ true → 1 ≤ bidders has n x)
+        → 1 ≤ when (has n x) 1 + bidders has n x
+    go true t ih = omega (arith, ih (ltb-true i n t) e)
+    go false t ih = let d : i ≡ n = omega (arith, ltb-false i n t) in omega (arith, ap (λ b. when b 1) (rw d at e))
 
--- how many of the first n numbers are below x
-unfoldable pub countBelow : List ℕ → ℕ → ℕ → ℕ
+two-bidders : (has : ℕ → ℕ → Bool) (n x i j : ℕ) → i < n → j < n → (i ≡ j → ⊥) → has i x ≡ true
+    → has j x ≡ true → 2 ≤ bidders has n x
+unfolding bidders
+two-bidders has zero x i j l m d e f = absurd (omega arith)
+two-bidders has (suc n) x i j l m d e f = go (ltb i n) (ltb j n) refl refl (two-bidders has n x i j)
+  where
+    go : (a b : Bool) → ltb i n ≡ a → ltb j n ≡ b
+        → (i < n → j < n → (i ≡ j → ⊥) → has i x ≡ true → has j x ≡ true → 2 ≤ bidders has n x)
+        → 2 ≤ when (has n x) 1 + bidders has n x
+    go true true s t ih = omega (arith, ih (ltb-true i n s) (ltb-true j n t) d e f)
+    go true false s t ih = let g : j ≡ n = omega (arith, ltb-false j n t) in
+        omega (arith, ap (λ b. when b 1) (rw g at f), some-bidder has n x i (ltb-true i n s) e)
+    go false b s t ih = let g : i ≡ n = omega (arith, ltb-false i n s) in
+        omega (arith, ap (λ b. when b 1) (rw g at e), some-bidder has n x j (omega (arith, d)) f)
+
+-- bids that are renamed, no two to one, stay two
+two-renamed : (has has' : ℕ → ℕ → Bool) (n x : ℕ) (f : (i : ℕ) → i < n → ℕ) → ((i : ℕ) (l : i < n) → f i l < n)
+    → ((i j : ℕ) (l : i < n) (m : j < n) → f i l ≡ f j m → i ≡ j)
+    → ((i : ℕ) (l : i < n) → has i x ≡ true → has' (f i l) x ≡ true) → 2 ≤ bidders has n x
+    → 2 ≤ bidders has' n x
+two-renamed has has' n x f inside once same b =
+    let u = another has 0 x n b in
+    let v = another has (u .who) x n b in
+    two-bidders has' n x (f (u .who) (u .inside)) (f (v .who) (v .inside)) (inside (u .who) (u .inside)) (inside (v .who) (v .inside))
+    (λ e. v .other (sym (once (u .who) (v .who) (u .inside) (v .inside) e)))
+    (same (u .who) (u .inside) (u .covers-it)) (same (v .who) (v .inside) (v .covers-it))
+
+-- how many of the first n numbers are x, and how many are below x
+unfoldable times : List ℕ → ℕ → ℕ → ℕ
+unfolding bidders
+times xs n x = bidders (λ i y. eqb (getD xs i 0) y) n x
+
+unfoldable countBelow : List ℕ → ℕ → ℕ → ℕ
 unfolding bidders
 countBelow xs n x = bidders (λ i y. ltb (getD xs i 0) y) n x
 
-pub below-none : (xs : List ℕ) (n : ℕ) → countBelow xs n 0 ≡ 0
-unfolding countBelow
-below-none xs zero = refl
-below-none xs (suc n) = omega (arith, ap (λ b. when b 1) (le-ltb (getD xs n 0) 0 (omega arith)), below-none xs n)
-
-pub below-more : (xs : List ℕ) (n x : ℕ) → countBelow xs n (x + 1) ≡ countBelow xs n x + times xs n x
+below-more : (xs : List ℕ) (n x : ℕ) → countBelow xs n (x + 1) ≡ countBelow xs n x + times xs n x
 unfolding countBelow times bidders
 below-more xs zero x = refl
 below-more xs (suc n) x = omega (arith, below-more xs n x, go (ltb (getD xs n 0) x) (eqb (getD xs n 0) x) refl refl)
@@ -66,47 +73,54 @@ below-more xs (suc n) x = omega (arith, below-more xs n x, go (ltb (getD xs n 0)
     go true true e f = absurd (omega (arith, ltb-true (getD xs n 0) x e, eqb-true (getD xs n 0) x f))
     go true false e f = ap (λ b. when b 1) (lt-ltb (getD xs n 0) (x + 1) (omega (arith, ltb-true (getD xs n 0) x e)))
     go false true e f = ap (λ b. when b 1) (lt-ltb (getD xs n 0) (x + 1) (omega (arith, eqb-true (getD xs n 0) x f)))
-    go false false e f = ap (λ b. when b 1) (le-ltb (getD xs n 0) (x + 1) (next (ltb-false (getD xs n 0) x e) (ltb x (getD xs n 0)) refl))
-      where
-        next : x ≤ getD xs n 0 → (t : Bool) → ltb x (getD xs n 0) ≡ t → x + 1 ≤ getD xs n 0
-        next l true t = omega (arith, ltb-true x (getD xs n 0) t)
-        next l false t = absurd (eqb-false (getD xs n 0) x f (omega (arith, ltb-false x (getD xs n 0) t)))
+    go false false e f = ap (λ b. when b 1) (le-ltb (getD xs n 0) (x + 1) (omega (
+      arith,
+      ltb-false (getD xs n 0) x e,
+      eqb-false (getD xs n 0) x f,
+    )))
 
--- the bidders of a cell: the windows that start at it or before, less those that end at it or before
-pub bidders-below : (starts ends : List ℕ) (n x : ℕ) → ((i : ℕ) → getD starts i 0 ≤ getD ends i 0)
-    → bidders (spans starts ends) n x + countBelow ends n (x + 1) ≡ countBelow starts n (x + 1)
-unfolding countBelow bidders spans
-bidders-below starts ends zero x o = refl
-bidders-below starts ends (suc n) x o = omega (
-  arith,
-  bidders-below starts ends n x o,
-  go (leb (getD starts n 0) x) (ltb x (getD ends n 0)) refl refl,
-)
-  where
-    go : (a b : Bool) → leb (getD starts n 0) x ≡ a → ltb x (getD ends n 0) ≡ b
-        → when (a && b) 1 + when (ltb (getD ends n 0) (x + 1)) 1
-        ≡ when (ltb (getD starts n 0) (x + 1)) 1
-    go true true e f = omega (
-      arith,
-      ap (λ b. when b 1) (le-ltb (getD ends n 0) (x + 1) (omega (arith, ltb-true x (getD ends n 0) f))),
-      ap (λ b. when b 1) (lt-ltb (getD starts n 0) (x + 1) (omega (arith, leb-true (getD starts n 0) x e))),
-    )
-    go true false e f = omega (
-      arith,
-      ap (λ b. when b 1) (lt-ltb (getD ends n 0) (x + 1) (omega (arith, ltb-false x (getD ends n 0) f))),
-      ap (λ b. when b 1) (lt-ltb (getD starts n 0) (x + 1) (omega (arith, leb-true (getD starts n 0) x e))),
-    )
-    go false b e f = omega (
-      arith,
-      off b,
-      ap (λ b. when b 1) (le-ltb (getD ends n 0) (x + 1) (omega (arith, o n, leb-false (getD starts n 0) x e))),
-      ap (λ b. when b 1) (le-ltb (getD starts n 0) (x + 1) (omega (arith, leb-false (getD starts n 0) x e))),
-    )
-      where
-        off : (b : Bool) → when (false && b) 1 ≡ 0
-        off b = refl
+-- an order of the bids has each of them once: n positions hold n bids, so that none holds one again
+module _ (n : ℕ) (a : ℕ → ℕ) (order : List ℕ) (o : Order n a (λ q. getD order q 0)) where
+  found-once : (y : ℕ) → y < n → 1 ≤ times order n y
+  unfolding times
+  found-once y l = some-bidder (λ i y. eqb (getD order i 0) y) n y (o .every y l .place) (o .every y l .inside)
+      (eq-eqb (getD order (o .every y l .place) 0) y (o .every y l .is))
 
-pub no-counts : (n i : ℕ) → getD (replicate {A = ℕ} n 0) i 0 ≡ 0
-no-counts zero i = refl
-no-counts (suc n) zero = refl
-no-counts (suc n) (suc i) = no-counts n i
+  climbs : (d y : ℕ) → y + d ≤ n → countBelow order n y + d ≤ countBelow order n (y + d)
+  climbs zero y l = let e : y + 0 ≡ y = omega arith in rw e (omega arith)
+  climbs (suc d) y l = let e : y + suc d ≡ y + d + 1 = omega arith in
+      rw e (omega (arith, climbs d y (omega arith), below-more order n (y + d), found-once (y + d) (omega arith)))
+
+  fits : countBelow order n n ≤ n
+  unfolding countBelow
+  fits = bidders-fit (λ i y. ltb (getD order i 0) y) n n
+
+  once-at-most : (y : ℕ) → y < n → times order n y ≤ 1
+  once-at-most y l =
+      let e : 0 + y ≡ y = omega arith in
+      let f : y + 1 + (n - y - 1) ≡ n = omega arith in
+      omega (arith, rw e at (climbs y 0 (omega arith)), below-more order n y, rw f at (climbs (n - y - 1) (y + 1) (omega arith)), fits)
+
+  once : (q r : ℕ) → q < n → r < n → getD order q 0 ≡ getD order r 0 → q ≡ r
+  unfolding times
+  once q r l m e = go (eqb q r) refl
+    where
+      go : (b : Bool) → eqb q r ≡ b → q ≡ r
+      go true t = eqb-true q r t
+      go false t = absurd (omega (
+        arith,
+        once-at-most (getD order r 0) (o .bids r m),
+        two-bidders (λ i y. eqb (getD order i 0) y) n (getD order r 0) q r l m (eqb-false q r t)
+            (eq-eqb (getD order q 0) (getD order r 0) e) (eq-eqb (getD order r 0) (getD order r 0) refl),
+      ))
+
+  -- two bidders are at two positions, and bids at two positions are two bidders
+  module _ (has : ℕ → ℕ → Bool) (x : ℕ) where
+    pub two-positions : 2 ≤ bidders has n x → 2 ≤ bidders (λ q. has (getD order q 0)) n x
+    two-positions = two-renamed has (λ q. has (getD order q 0)) n x (λ i l. o .every i l .place) (λ i l. o .every i l .inside)
+        (λ i j l m e. sym (o .every i l .is) ∙ ap (λ (q : ℕ). getD order q 0) e ∙ o .every j m .is)
+        (λ i l h. ap (λ (j : ℕ). has j x) (o .every i l .is) ∙ h)
+
+    pub two-at-positions : 2 ≤ bidders (λ q. has (getD order q 0)) n x → 2 ≤ bidders has n x
+    two-at-positions = two-renamed (λ q. has (getD order q 0)) has n x (λ q l. getD order q 0) (λ q l. o .bids q l)
+        (λ q r l m e. once q r l m e) (λ q l h. h)

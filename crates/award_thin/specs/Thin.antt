@@ -4,7 +4,7 @@ use mathlib.Core.Bool.{Bool, true, false}
 use mathlib.Core.List.{List}
 use Prim.Native.Nat.{ℕ, _+_, _*_, _≤_, _<_}
 use lib.ListN.{length, getD}
-use lib.Dec.{leb, ltb, eqb}
+use lib.Dec.{leb, ltb}
 use Rattle.cells.specs.Cells.{bitOf, cell}
 use Rattle.cover.specs.Sets.{when, nothing, found, bidders}
 use Rattle.cover.specs.Earliest.{cellWith}
@@ -23,10 +23,6 @@ pub record Spans (starts ends : List ℕ) (L : ℕ) : Type 0 where
   pub few : length starts ≤ 1000
   pub ordered : (i : ℕ) → getD starts i 0 ≤ getD ends i 0
   pub inside : (i : ℕ) → getD ends i 0 ≤ L
-
--- how many of the first n numbers are x
-unfoldable pub times : List ℕ → ℕ → ℕ → ℕ
-times xs n x = bidders (λ i y. eqb (getD xs i 0) y) n x
 
 -- the cell x has fewer than m bidders
 unfoldable pub fewer : (ℕ → ℕ → Bool) → ℕ → ℕ → ℕ → Bool

@@ -1,11 +1,12 @@
 // Whether each cell has two bidders, for bids of one window each and for bids as rows of words.
 // The cell answered is the first in no bid, else the first in one bid. A cell in fewer than two is looked for first: mostly there is none.
 ghost use mathlib.Core.Path.{_≡_};
-ghost use Prim.Native.Nat.{ℕ, _+_, _*_, _≤_, _<_};
+ghost use Prim.Native.Nat.{_+_, _*_, _≤_, _<_, min, max};
 ghost use lib.ListN.{length, getD};
 ghost use Rattle.cover.specs.Settled.{spans};
+ghost use Rattle.cover.specs.Intervals.{Order};
 ghost use Rattle.multi_rounds.specs.Market.{has};
-ghost use Rattle.award_thin.specs.Thin.{Says, Spans, times, fewer, Reached, Gathered, FirstOf};
+ghost use Rattle.award_thin.specs.Thin.{Says, Spans, fewer, Reached, Gathered, FirstOf};
 
 pub enum Thin {
     Nobody { cell: u64 },
@@ -13,39 +14,46 @@ pub enum Thin {
     Enough,
 }
 
-// Adds to each cell of the table how many of the numbers name it.
-fn count_at(at: &[u64], table: &mut [u64])
-    requires { ⌜ (length (now at) ≤ 1000) × (((i : ℕ) → getD (now at) i 0 < length (now table))
-        × ((x : ℕ) → getD (now table) x 0 ≡ 0)) ⌝ }
-    ensures { λ _. ⌜ ((x : ℕ) → getD (now (table .exit)) x 0 ≡ times (now (at .entry)) (length (now (at .entry))) x) ⌝ }
+// The greater of two.
+fn greater(x: u64, y: u64) -> u64
+    ensures { λ r. ⌜ r ≡ max x y ⌝ }
 {
-    let mut i = 0;
-    while i < at.len() {
-        let x = at[i] as usize;
-        table[x] = table[x] + 1;
-        i += 1;
-    }
-}
-
-// The first cell with fewer than two bidders, or `cells` where there is none.
-fn spans_below(starts: &[u64], ends: &[u64], cells: usize) -> usize
-    requires { ⌜ Spans (now starts) (now ends) cells × (cells ≤ 10080) ⌝ }
-    ensures { λ r. ⌜ FirstOf (fewer (spans (now (starts .entry)) (now (ends .entry))) (length (now (starts .entry))) 2) cells r ⌝ }
-{
-    let mut opened = [0u64; 10081];
-    let mut ended = [0u64; 10081];
-    count_at(starts, &mut opened);
-    count_at(ends, &mut ended);
-    let mut count: u64 = 0;
-    let mut x = 0;
-    while x < cells {
-        count = count + opened[x] - ended[x];
-        if count < 2 {
-            return x;
-        }
-        x += 1;
+    if x < y {
+        return y;
     }
     x
+}
+
+// The lesser of two.
+fn lesser(x: u64, y: u64) -> u64
+    ensures { λ r. ⌜ r ≡ min x y ⌝ }
+{
+    if x < y {
+        return x;
+    }
+    y
+}
+
+// The first cell with fewer than two bidders, or `cells` where there is none. The bids come in order of start, with the two greatest ends
+// so far: each cell below the second is in two bids. Where no bid that is left begins at it or before, it is the first that is not.
+fn spans_below(starts: &[u64], ends: &[u64], order: &[usize], cells: usize) -> usize
+    requires { ⌜ Spans (now starts) (now ends) cells × ((length (now starts) ≤ length (now order))
+        × Order (length (now starts)) (λ i. getD (now starts) i 0) (λ q. getD (now order) q 0)) ⌝ }
+    ensures { λ r. ⌜ FirstOf (fewer (spans (now (starts .entry)) (now (ends .entry))) (length (now (starts .entry))) 2) cells r ⌝ }
+{
+    let mut first: u64 = 0;
+    let mut second: u64 = 0;
+    let mut q = 0;
+    while q < starts.len() {
+        let i = order[q];
+        if second < starts[i] {
+            return second as usize;
+        }
+        second = greater(second, lesser(first, ends[i]));
+        first = greater(first, ends[i]);
+        q += 1;
+    }
+    second as usize
 }
 
 // Whether bid i has the cell x.
@@ -77,11 +85,12 @@ fn bare_span(starts: &[u64], ends: &[u64], cells: usize) -> usize
 }
 
 // Bids of one window each.
-pub fn thin_spans(starts: &[u64], ends: &[u64], cells: usize) -> Thin
-    requires { ⌜ Spans (now starts) (now ends) cells × (cells ≤ 10080) ⌝ }
+pub fn thin_spans(starts: &[u64], ends: &[u64], order: &[usize], cells: usize) -> Thin
+    requires { ⌜ Spans (now starts) (now ends) cells × ((length (now starts) ≤ length (now order))
+        × Order (length (now starts)) (λ i. getD (now starts) i 0) (λ q. getD (now order) q 0)) ⌝ }
     ensures { λ r. ⌜ Says (spans (now (starts .entry)) (now (ends .entry))) (length (now (starts .entry))) cells r ⌝ }
 {
-    let lone = spans_below(starts, ends, cells);
+    let lone = spans_below(starts, ends, order, cells);
     if lone == cells {
         return Thin::Enough;
     }

@@ -10,6 +10,7 @@ ghost use Rattle.cover.specs.LeastCover.{winners, vcgPaid};
 ghost use Rattle.cover.specs.CriticalPrice.{sum};
 ghost use Rattle.cover.specs.Settled.{spans, Settled};
 ghost use Rattle.cover.specs.SettledLaws.{FilledTo};
+ghost use Rattle.cover.specs.Intervals.{Order};
 ghost use Rattle.cover.specs.Intervals.Bids.{Bids};
 ghost use Rattle.single_costs.specs.Across.{mostSum, Before, After, Waiting};
 ghost use Rattle.single.specs.Pay.{winnersOf, vcgPaidOf};
@@ -205,11 +206,13 @@ fn payments(
     );
 }
 
-// The award: a flag and the cents paid for each bid. Places of `won` and `cents` past the last bid stay.
+// The award: a flag and the cents paid for each bid. `order` has the bids in order of start. Places of `won` and `cents` past the last
+// bid stay.
 pub fn award(
     starts: &[u64],
     ends: &[u64],
     prices: &[u64],
+    order: &[usize],
     cells: u64,
     won: &mut [u64],
     cents: &mut [u64],
@@ -221,16 +224,15 @@ pub fn award(
     requires { ⌜ ((i : ℕ) → i < length (now prices) → (getD (now starts) i 0 ≤ getD (now ends) i 0)
         × (getD (now ends) i 0 ≤ cells)) ⌝ }
     requires { ⌜ sum (now prices) ≤ mostSum ⌝ }
+    requires { ⌜ (length (now prices) ≤ length (now order))
+        × Order (length (now prices)) (λ i. getD (now starts) i 0) (λ q. getD (now order) q 0) ⌝ }
     ensures { λ _. ⌜ Settled (λ _. Unit {0}) (λ i. bit (winners (covers (spans (now (starts .entry)) (now (ends .entry)))
         (length (now (prices .entry))) cells) (now (prices .entry))) i) (vcgPaid (covers (spans (now (starts .entry)) (now (ends .entry)))
         (length (now (prices .entry))) cells) (now (prices .entry))) (now (prices .entry)) (now (won .entry)) (now (cents .entry))
         (now (won .exit)) (now (cents .exit)) ⌝ }
 {
-    let n = prices.len();
     // ones, not zeros: the compiler writes these in wide stores
-    let mut order = [1usize; tender::MAX_ENTRIES];
     let mut early = [1u64; tender::MAX_ENTRIES + 1];
-    single_order::by_start(starts, n, cells, &mut order);
-    let all = single_select::winners(starts, ends, prices, &order, cells, &mut early, won);
-    payments(starts, ends, prices, &order, &early, won, cents, cells, all);
+    let all = single_select::winners(starts, ends, prices, order, cells, &mut early, won);
+    payments(starts, ends, prices, order, &early, won, cents, cells, all);
 }

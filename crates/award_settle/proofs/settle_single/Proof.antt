@@ -9,10 +9,6 @@ use Rattle.award_settle.specs.PrefixLaws.{prefix-length}
 use borrow.Author.Needs.{needs}
 use Rattle.award_settle.proofs.settle_single.Statement.{statement}
 use Rattle.award_settle.proofs.settle_single.Tie as tie
-use Rattle.award_settle.proofs.settle_single.Reads as reads
-use Rattle.award_settle.proofs.settle_single.Lts as lts
-use Rattle.award_layout.proofs.entries.Reads as entries-reads
-use Rattle.award_settle.proofs.single_in.Reads as single-in-reads
 
 entries-requires : tie.Need-entries-requires
 entries-requires c κs =
@@ -55,14 +51,17 @@ slice-aggregate-single-in-3 c =
     let A = c8 .args in sym (prefix-length (c .before .before .before .entries .result) maxEntries
     (omega (arith, c .before .before .before .entries .ensures, entries-few Single (A .tender) (A .count) (A .bids .now) (A .windows .now) (c8 .pre .0))))
 
+slice-aggregate-single-in-4 : tie.Need-slice-aggregate-single-in-4
+slice-aggregate-single-in-4 c = search needs
+
 single-in-requires : tie.Need-single-in-requires
 single-in-requires c κs =
-    let c5 = c .before .before .before .before .before in
-    let c10 = c5 .before .before .before .before .before in
-    let A = c10 .args in let P = c10 .pre in let e = c5 .entries .ensures in
+    let c6 = c .before .before .before .before .before .before in
+    let c11 = c6 .before .before .before .before .before in
+    let A = c11 .args in let P = c11 .pre in let e = c6 .entries .ensures in
     let f = entries-few Single (A .tender) (A .count) (A .bids .now) (A .windows .now) (P .0) in
-    rw (prefix-length (c5 .entries .result) maxEntries (omega (arith, e, f)))
-    (P .0, (e, (e, (e, (omega (arith, e, f, P .1), omega (arith, e, f, P .1))))))
+    rw (prefix-length (c6 .entries .result) maxEntries (omega (arith, e, f)))
+    (P .0, (e, (e, (e, (omega (arith, e, f), (omega (arith, e, f, P .1), omega (arith, e, f, P .1)))))))
 
 same-length : tie.Need-same-length
 same-length c = search needs
@@ -72,8 +71,8 @@ same-length-2 c = search needs
 
 returns : tie.Need-returns
 returns c =
-    let c7 = c .before .before .before .before .before .before .before in
-    c7 .single-in .ensures
+    let c8 = c .before .before .before .before .before .before .before .before in
+    c8 .single-in .ensures
 
 pub settle-single-spec : {M : Type 1} → statement M
 settle-single-spec =
@@ -86,6 +85,7 @@ settle-single-spec =
     slice-aggregate-single-in-2
     array-borrow-prefix-ends
     slice-aggregate-single-in-3
+    slice-aggregate-single-in-4
     single-in-requires
     same-length
     same-length-2

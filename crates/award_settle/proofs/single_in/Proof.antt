@@ -9,66 +9,63 @@ use Rattle.award_settle.specs.SingleLaws.{lawful-prices, prices-sum, set
 use borrow.Author.Needs.{needs}
 use Rattle.award_settle.proofs.single_in.Statement.{statement}
 use Rattle.award_settle.proofs.single_in.Tie as tie
-use Rattle.award_settle.proofs.single_in.Reads as reads
-use Rattle.award_settle.proofs.single_in.Lts as lts
-use Rattle.award_laid.proofs.lay_spans.Reads as lay-spans-reads
-use Rattle.award_layout.proofs.cells.Reads as cells-reads
-use Rattle.award_layout.proofs.minute.Reads as minute-reads
-use Rattle.award_plain.proofs.totals.Reads as totals-reads
-use Rattle.single.proofs.award.Reads as award-reads
 
 lay-spans-requires : tie.Need-lay-spans-requires
 lay-spans-requires c κs =
-    let c10 = c .before .before .before .before .before .before .before .before .before .before in
-    let P = c10 .pre in (P .0, (P .1 .0, (P .1 .1 .0, P .1 .1 .1 .0)))
+    let c12 = c .before .before .before .before .before .before .before .before .before .before .before .before in
+    let P = c12 .pre in
+    (P .0, (P .1 .0, (P .1 .1 .0, (P .1 .1 .1 .0, omega (arith, P .1 .0, P .1 .1 .1 .1 .0)))))
 
 enum-known-thin : tie.Need-enum-known-thin
 enum-known-thin c = search needs
 
 minute-requires : tie.Need-minute-requires
 minute-requires c κs =
-    let c9 = c .before .before .before .before .before .before .before .before .before in
-    let c20 = c9 .before .before .before .before .before .before .before .before .before .before .before in
-    let A = c20 .args in bare-inside (A .tender) (A .count) (A .bids .now) (A .windows .now) _
-    (c9 .lay-spans .ensures .thin-is) _ (c .before .thin .given .1)
+    let c11 = c .before .before .before .before .before .before .before .before .before .before .before in
+    let c24 = c11 .before .before .before .before .before .before .before .before .before .before .before .before .before in
+    let A = c24 .args in bare-inside (A .tender) (A .count) (A .bids .now) (A .windows .now) _
+    (c11 .lay-spans .ensures .thin-is) _ (c .before .thin .given .1)
 
 enum-known-thin-2 : tie.Need-enum-known-thin-2
 enum-known-thin-2 c = search needs
 
 minute-requires-2 : tie.Need-minute-requires-2
 minute-requires-2 c κs =
-    let c9 = c .before .before .before .before .before .before .before .before .before in
-    let c20 = c9 .before .before .before .before .before .before .before .before .before .before .before in
-    let A = c20 .args in lone-inside (A .tender) (A .count) (A .bids .now) (A .windows .now) _
-    (c9 .lay-spans .ensures .thin-is) _ (c .before .thin2 .given .1)
+    let c11 = c .before .before .before .before .before .before .before .before .before .before .before in
+    let c24 = c11 .before .before .before .before .before .before .before .before .before .before .before .before .before in
+    let A = c24 .args in lone-inside (A .tender) (A .count) (A .bids .now) (A .windows .now) _
+    (c11 .lay-spans .ensures .thin-is) _ (c .before .thin2 .given .1)
 
 enum-told : tie.Need-enum-told
 enum-told c = search needs
 
 cells-requires : tie.Need-cells-requires
 cells-requires c κs =
-    let c19 = c .before .before .before .before .before .before .before .before .before .before .before .before .before .before .before .before .before .before .before in
-    let A = c19 .args in cells-within Single (A .tender) (A .count) (A .bids .now) (A .windows .now) (c19 .pre .0) .0
+    let c23 = c .before .before .before .before .before .before .before .before .before .before .before .before .before .before .before .before .before .before .before .before .before .before .before in
+    let A = c23 .args in cells-within Single (A .tender) (A .count) (A .bids .now) (A .windows .now) (c23 .pre .0) .0
 
 award-requires : tie.Need-award-requires
 award-requires c κs =
-    let c5 = c .before .before .before .before .before in
-    let c14 = c5 .before .before .before .before .before .before .before .before .before in
-    let c25 = c14 .before .before .before .before .before .before .before .before .before .before .before in
-    let A = c25 .args in let P = c25 .pre in let L = c14 .lay-spans in
+    let c6 = c .before .before .before .before .before .before in
+    let c17 = c6 .before .before .before .before .before .before .before .before .before .before .before in
+    let c30 = c17 .before .before .before .before .before .before .before .before .before .before .before .before .before in
+    let A = c30 .args in let P = c30 .pre in let L = c17 .lay-spans in
     let w = cells-within Single (A .tender) (A .count) (A .bids .now) (A .windows .now) (P .0) in (
       (
-        lawful-prices (A .tender) (A .count) (A .bids .now) (A .windows .now) _ _ _ _ (P .0) (L .ensures) .count,
+        lawful-prices (A .tender) (A .count) (A .bids .now) (A .windows .now) _ _ _ _ _ (P .0) (L .ensures) .count,
         L .kept .1 .1 .1 .1 .1 .0 ∙ P .1 .1 .0 ∙ sym (P .1 .0) ∙ sym (L .kept .1 .1 .1 .1 .0),
         L .kept .1 .1 .1 .1 .1 .1 .0 ∙ P .1 .1 .1 .0 ∙ sym (P .1 .0) ∙ sym (L .kept .1 .1 .1 .1 .0),
-        omega (arith, w, c5 .cells .ensures),
-        omega (arith, w, c5 .cells .ensures),
+        omega (arith, w, c6 .cells .ensures),
+        omega (arith, w, c6 .cells .ensures),
       ),
       (
-        (omega (arith, L .kept .1 .1 .1 .1 .0, P .1 .1 .1 .1), omega (arith, L .kept .1 .1 .1 .1 .0, P .1 .1 .1 .1)),
+        (omega (arith, L .kept .1 .1 .1 .1 .0, P .1 .1 .1 .1 .1), omega (arith, L .kept .1 .1 .1 .1 .0, P .1 .1 .1 .1 .1)),
         (
-          λ i m. rw (c5 .cells .ensures) (L .ensures .ordered i, L .ensures .inside i),
-          prices-sum (A .tender) (A .count) (A .bids .now) (A .windows .now) _ _ _ _ (P .0) (L .ensures),
+          (λ i m. rw (c6 .cells .ensures) (L .ensures .ordered i, L .ensures .inside i)),
+          (
+            prices-sum (A .tender) (A .count) (A .bids .now) (A .windows .now) _ _ _ _ _ (P .0) (L .ensures),
+            (omega (arith, L .kept .1 .1 .1 .1 .0, L .kept .1 .1 .1 .1 .1 .1 .1 .0, P .1 .1 .1 .1 .0), L .ensures .in-order),
+          ),
         ),
       ),
     )
@@ -76,16 +73,16 @@ award-requires c κs =
 totals-requires : tie.Need-totals-requires
 totals-requires c κs =
     let c7 = c .before .before .before .before .before .before .before in
-    let c22 = c7 .before .before .before .before .before .before .before .before .before .before .before .before .before .before .before in
-    let c33 = c22 .before .before .before .before .before .before .before .before .before .before .before in
-    let A = c33 .args in let P = c33 .pre in let L = c22 .lay-spans in
-    let p = lawful-prices (A .tender) (A .count) (A .bids .now) (A .windows .now) _ _ _ _ (P .0) (L .ensures) in (
+    let c25 = c7 .before .before .before .before .before .before .before .before .before .before .before .before .before .before .before .before .before .before in
+    let c38 = c25 .before .before .before .before .before .before .before .before .before .before .before .before .before in
+    let A = c38 .args in let P = c38 .pre in let L = c25 .lay-spans in
+    let p = lawful-prices (A .tender) (A .count) (A .bids .now) (A .windows .now) _ _ _ _ _ (P .0) (L .ensures) in (
       (
         p .count,
         (
-          omega (arith, L .kept .1 .1 .1 .1 .0, c7 .award .kept .1 .1 .1 .1 .0, P .1 .1 .1 .1),
+          omega (arith, L .kept .1 .1 .1 .1 .0, c7 .award .kept .1 .1 .1 .1 .1 .0, P .1 .1 .1 .1 .1),
           (
-            omega (arith, L .kept .1 .1 .1 .1 .0, c7 .award .kept .1 .1 .1 .1 .1 .0, P .1 .1 .1 .1),
+            omega (arith, L .kept .1 .1 .1 .1 .0, c7 .award .kept .1 .1 .1 .1 .1 .1 .0, P .1 .1 .1 .1 .1),
             omega (arith, L .kept .1 .1 .1 .1 .0, P .1 .0),
           ),
         ),
@@ -102,15 +99,15 @@ same-length-2 c = search needs
 same-length-3 : tie.Need-same-length-3
 same-length-3 c = search needs
 
-returns : tie.Need-returns
-returns c =
-    let c10 = c .before .before .before .before .before .before .before .before .before .before in
-    let c21 = c10 .before .before .before .before .before .before .before .before .before .before .before in
-    let A = c21 .args in rw (c .minute .ensures) (tells-eleven (A .tender) (A .count) (A .bids .now)
-    (A .windows .now) _ (c10 .lay-spans .ensures .thin-is) Single (c21 .pre .0) (A .flags .now) (A .pays .now) _ (c .before .before .thin .given .1))
-
 same-length-4 : tie.Need-same-length-4
 same-length-4 c = search needs
+
+returns : tie.Need-returns
+returns c =
+    let c12 = c .before .before .before .before .before .before .before .before .before .before .before .before in
+    let c25 = c12 .before .before .before .before .before .before .before .before .before .before .before .before .before in
+    let A = c25 .args in rw (c .minute .ensures) (tells-eleven (A .tender) (A .count) (A .bids .now)
+    (A .windows .now) _ (c12 .lay-spans .ensures .thin-is) Single (c25 .pre .0) (A .flags .now) (A .pays .now) _ (c .before .before .thin .given .1))
 
 same-length-5 : tie.Need-same-length-5
 same-length-5 c = search needs
@@ -118,18 +115,18 @@ same-length-5 c = search needs
 same-length-6 : tie.Need-same-length-6
 same-length-6 c = search needs
 
-returns-2 : tie.Need-returns-2
-returns-2 c =
-    let c10 = c .before .before .before .before .before .before .before .before .before .before in
-    let c21 = c10 .before .before .before .before .before .before .before .before .before .before .before in
-    let A = c21 .args in rw (c .minute2 .ensures) (tells-twelve (A .tender) (A .count) (A .bids .now)
-    (A .windows .now) _ (c10 .lay-spans .ensures .thin-is) Single (c21 .pre .0) (A .flags .now) (A .pays .now) _ (c .before .before .thin2 .given .1))
-
 same-length-7 : tie.Need-same-length-7
 same-length-7 c = search needs
 
 same-length-8 : tie.Need-same-length-8
 same-length-8 c = search needs
+
+returns-2 : tie.Need-returns-2
+returns-2 c =
+    let c12 = c .before .before .before .before .before .before .before .before .before .before .before .before in
+    let c25 = c12 .before .before .before .before .before .before .before .before .before .before .before .before .before in
+    let A = c25 .args in rw (c .minute2 .ensures) (tells-twelve (A .tender) (A .count) (A .bids .now)
+    (A .windows .now) _ (c12 .lay-spans .ensures .thin-is) Single (c25 .pre .0) (A .flags .now) (A .pays .now) _ (c .before .before .thin2 .given .1))
 
 same-length-9 : tie.Need-same-length-9
 same-length-9 c = search needs
@@ -140,18 +137,27 @@ same-length-10 c = search needs
 same-length-11 : tie.Need-same-length-11
 same-length-11 c = search needs
 
+same-length-12 : tie.Need-same-length-12
+same-length-12 c = search needs
+
+same-length-13 : tie.Need-same-length-13
+same-length-13 c = search needs
+
+same-length-14 : tie.Need-same-length-14
+same-length-14 c = search needs
+
 returns-3 : tie.Need-returns-3
 returns-3 c =
     let c8 = c .before .before .before .before .before .before .before .before in
-    let c14 = c8 .before .before .before .before .before .before in
-    let c15 = c14 .before in
-    let c23 = c15 .before .before .before .before .before .before .before .before in
-    let c34 = c23 .before .before .before .before .before .before .before .before .before .before .before in
-    let A = c34 .args in let L = c23 .lay-spans in
+    let c15 = c8 .before .before .before .before .before .before .before in
+    let c16 = c15 .before in
+    let c26 = c16 .before .before .before .before .before .before .before .before .before .before in
+    let c39 = c26 .before .before .before .before .before .before .before .before .before .before .before .before .before in
+    let A = c39 .args in let L = c26 .lay-spans in
     settled (A .tender) (A .count) (A .bids .now) (A .windows .now) (L .last .1 .1 .1 .1 .0) (L .last .1 .1 .1 .1 .1 .0)
-    (L .last .1 .1 .1 .1 .1 .1 .0) (L .result) (c34 .pre .0) (L .ensures) (c15 .enum-told .given .1) (A .flags .now) (A .pays .now)
-    (c8 .award .last .1 .1 .1 .1 .0) (c8 .award .last .1 .1 .1 .1 .1 .0) (c .totals .result) (rw (c14 .cells .ensures) at (c8 .award .ensures))
-    (c .totals .ensures)
+    (L .last .1 .1 .1 .1 .1 .1 .0) (L .last .1 .1 .1 .1 .1 .1 .1 .0) (L .result) (c39 .pre .0) (L .ensures) (c16 .enum-told .given .1)
+    (A .flags .now) (A .pays .now) (c8 .award .last .1 .1 .1 .1 .1 .0) (c8 .award .last .1 .1 .1 .1 .1 .1 .0) (c .totals .result)
+    (rw (c15 .cells .ensures) at (c8 .award .ensures)) (c .totals .ensures)
 
 pub single-in-spec : {M : Type 1} → statement M
 single-in-spec =
@@ -169,14 +175,17 @@ single-in-spec =
     same-length
     same-length-2
     same-length-3
-    returns
     same-length-4
+    returns
     same-length-5
     same-length-6
-    returns-2
     same-length-7
     same-length-8
+    returns-2
     same-length-9
     same-length-10
     same-length-11
+    same-length-12
+    same-length-13
+    same-length-14
     returns-3)

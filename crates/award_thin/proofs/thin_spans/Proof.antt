@@ -6,37 +6,33 @@ use Rattle.award_thin.specs.FirstsLaws.{enough, bare, lone}
 use borrow.Author.Needs.{needs}
 use Rattle.award_thin.proofs.thin_spans.Statement.{statement}
 use Rattle.award_thin.proofs.thin_spans.Tie as tie
-use Rattle.award_thin.proofs.thin_spans.Reads as reads
-use Rattle.award_thin.proofs.thin_spans.Lts as lts
-use Rattle.award_thin.proofs.spans_below.Reads as spans-below-reads
-use Rattle.award_thin.proofs.bare_span.Reads as bare-span-reads
 
 spans-below-requires : tie.Need-spans-below-requires
 spans-below-requires c κs = search needs
 
 returns : tie.Need-returns
 returns c =
-    let c4 = c .before .before .before .before in
-    let args = c4 .args in
+    let c5 = c .before .before .before .before .before in
+    let args = c5 .args in
     enough (spans (args .starts .now) (args .ends .now)) (length (args .starts .now)) (args .cells) (c .before .spans-below .result)
     (c .before .spans-below .ensures) (omega arith)
 
 bare-span-requires : tie.Need-bare-span-requires
 bare-span-requires c κs =
-    let c4 = c .before .before .before .before in
-    c4 .pre .0 .same
+    let c5 = c .before .before .before .before .before in
+    c5 .pre .0 .same
 
 returns-2 : tie.Need-returns-2
 returns-2 c =
-    let c6 = c .before .before .before .before .before .before in
-    let args = c6 .args in
+    let c7 = c .before .before .before .before .before .before .before in
+    let args = c7 .args in
     bare (spans (args .starts .now) (args .ends .now)) (length (args .starts .now)) (args .cells) (c .before .bare-span .result)
     (c .before .bare-span .ensures) (c .if2 .taken)
 
 returns-3 : tie.Need-returns-3
 returns-3 c =
-    let c6 = c .before .before .before .before .before .before in
-    let args = c6 .args in
+    let c7 = c .before .before .before .before .before .before .before in
+    let args = c7 .args in
     lone (spans (args .starts .now) (args .ends .now)) (length (args .starts .now)) (args .cells)
     (c .before .before .before .spans-below .result) (c .before .bare-span .result) (c .before .before .before .spans-below .ensures)
     (c .before .before .if1 .left) (c .before .bare-span .ensures) (c .if2 .left)
