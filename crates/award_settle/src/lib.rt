@@ -181,7 +181,7 @@ fn settle_entries(
 }
 
 // A faultless tender of this kind: flags and cents of the owners' bids in the two lent lists.
-fn settle_sound(
+pub fn settle_sound(
     kind: Kind,
     tender: Tender,
     count: usize,

@@ -1,8 +1,6 @@
 -- What the inner functions of the listing leave in the buffer in which the list is made.
-use mathlib.Core.Path.{_≡_}
 use mathlib.Core.List.{List, _++_}
 use Prim.Native.Nat.{ℕ, _≤_}
-use lib.ListN.{length, take}
 use Rattle.tender.specs.declared.Tender.{Tender}
 use Rattle.reader_text.specs.Read.{readText}
 use Rattle.tender.specs.declared.Answer.{Answer}
@@ -31,7 +29,6 @@ pub record Awarded·written (t : Tender) (n : ℕ) (bids windows old new : List 
   pub promise : PlainPromise (t .kind) t n bids windows lent old-won old-cents won cents answer
   pub written : Written old 0 (answerLines t bids won cents n answer) new end
 
--- the first `end` bytes are the list of the text
-pub record Made (text new : List ℕ) (end : ℕ) : Type 0 where
-  pub right : take end new ≡ listOf (readText text)
-  pub size : length (take end new) ≡ end
+-- the list of the text is written at the start of the buffer
+pub record Made (text old new : List ℕ) (end : ℕ) : Type 0 where
+  pub written : Written old 0 (listOf (readText text)) new end

@@ -1,6 +1,8 @@
--- The list of the award to the tables that were read is the list of the text. Assumes nothing.
-use mathlib.Core.Path.{_≡_, refl, ap}
+-- The list of the award to the tables that were read is the list of the text, and a buffer with room for any list gets it at once. Assumes
+-- nothing.
+use mathlib.Core.Path.{_≡_, ap}
 use mathlib.Core.List.{List, _++_}
+use mathlib.Core.Option.{none}
 use Prim.Native.Nat.{ℕ, _≤_, _<_}
 use native.Mathlib.Omega.{arith}
 use lib.ListN.{length, take}
@@ -13,6 +15,8 @@ use Rattle.reader_text.specs.RulesLaws.{rules-law}
 use Rattle.reader.specs.ReadInLaws.{ReadIn}
 use Rattle.tender.specs.declared.Answer.{Answer}
 use Rattle.tender.specs.declared.Answer.the-variants.{Awarded, Refused}
+use Rattle.award_check.specs.Faults.{faultOf}
+use Rattle.award_check.specs.TextLaws.{never-nine}
 use Rattle.award_plain.specs.Plain.{PlainPromise}
 use Rattle.spelling.specs.Lines.{refusedLine}
 use Rattle.spelling.specs.Written.{Written}
@@ -56,35 +60,43 @@ module _ {t : Tender} {n lent : ℕ} {bids windows ow oc won cents old new : Lis
     written = rw e w;
   }
 
+-- what was read breaks no rule
+pub read-sound : {text bids windows : List ℕ} {t : Tender} {n : ℕ} → ReadIn text bids windows t n
+    → faultOf (t .kind) t n bids windows ≡ none
+read-sound {text} {bids} {windows} {t} {n} h = rw (h .bids-are, h .windows-are, ← (h .count))
+    (never-nine t (h .rows) (h .spans) (h .past-rows) (h .past-spans) (rules-law t (h .rows) (h .spans) text (h .is)))
+
 -- so the list is made
 pub made-award : {text bids windows old new : List ℕ} {t : Tender} {n f : ℕ} → ReadIn text bids windows t n
-    → Awarded·written t n bids windows old new f → Made text new f
+    → Awarded·written t n bids windows old new f → Made text old new f
 made-award {text} {bids} {windows} {old} {new} {t} {n} {f} h w =
-    let lines : List ℕ = answerLines t bids (w .won) (w .cents) n (w .answer) in
-    let g : take f new ≡ lines = w .written .text in
-    let l : lines ≡ listOf (accepted t (h .rows) (h .spans)) =
+    let l : answerLines t bids (w .won) (w .cents) n (w .answer) ≡ listOf (accepted t (h .rows) (h .spans)) =
     rw (h .bids-are, ← (h .count)) (award-list t (h .rows) (h .spans) (h .past-rows) (h .past-spans) (w .lent) (w .old-won) (w .old-cents)
     (w .won) (w .cents) (w .answer) (rules-law t (h .rows) (h .spans) text (h .is))
     (rw (h .count) (w .enough)) (rw (h .bids-are, h .windows-are, ← (h .count)) at (w .promise))) in
-    record { right = rw (h .is, g) l; size = omega (arith, ap length g, w .written .next) }
+    record { written = rw (h .is) (rw l at (w .written)) }
 
 pub made-refusal : {text old new : List ℕ} {f : ℕ} (q : Refusal) → readText text ≡ reading.refused q
-    → Written old 0 (refusedLine q) new f → Made text new f
+    → Written old 0 (refusedLine q) new f → Made text old new f
 unfolding listOf
-made-refusal {text} {old} {new} {f} q e w =
-    let g : take f new ≡ refusedLine q = w .text in
-    record { right = rw (e, g) refl; size = omega (arith, ap length g, w .next) }
+made-refusal {text} {old} {new} {f} q e w = record { written = rw e w }
 
--- what is made fits the buffer that it is made in
-pub made-few : {text made : List ℕ} {n : ℕ} → Made text made n → n ≤ 51200
-made-few {text} {made} {n} m = omega (arith, m .size, ap length (m .right), list-short text .0)
+-- a buffer of 51,200 bytes has room for any list
+module _ {text old new : List ℕ} {n : ℕ} (m : Made text old new n) where
+  pub made-few : n ≤ 51200
+  made-few = omega (arith, m .written .next, list-short text .0)
 
--- it is copied where there is room, and else nothing is
-pub listed-none : {text made old : List ℕ} {n : ℕ} → Made text made n → length old < n → Listed text old old 0
-listed-none {text} {made} {old} {n} m l =
-    record { delivers = delivered-none (listOf (readText text)) old (omega (arith, m .size, ap length (m .right))) }
+  pub listed-here : 51200 ≤ length old → Listed text old new n
+  listed-here l = record { delivers = delivered-all (omega (arith, list-short text .0)) (m .written) }
 
-pub listed-all : {text made old new : List ℕ} {n r : ℕ} → Made text made n → n ≤ length old → Written old 0 (take n made) new r
-    → Listed text old new r
-listed-all {text} {made} {old} {new} {n} {r} m l w =
-    record { delivers = delivered-all (omega (arith, m .size, ap length (m .right))) (rw (m .right) at w) }
+  -- a shorter one gets a copy where it has room, and else nothing
+  pub listed-none : {short : List ℕ} → length short < n → Listed text short short 0
+  listed-none {short} l = record { delivers = delivered-none (listOf (readText text)) short (omega (arith, m .written .next)) }
+
+  pub listed-all : {short copied : List ℕ} {r : ℕ} → n ≤ length short → Written short 0 (take n new) copied r
+      → Listed text short copied r
+  listed-all l w = record { delivers = delivered-all (omega (arith, m .written .next)) (rw (m .written .text) at w) }
+
+  -- what is copied
+  pub made-size : length (take n new) ≡ n
+  made-size = omega (arith, ap length (m .written .text), m .written .next)

@@ -4,9 +4,11 @@ mod lines;
 
 ghost use mathlib.Core.Path.{_≡_};
 ghost use mathlib.Core.List.{_++_};
+ghost use mathlib.Core.Option.{none};
 ghost use Prim.Native.Nat.{_+_, _*_, _≤_};
 ghost use lib.ListN.{length};
 ghost use Rattle.tender.specs.Tables.{bidWidth};
+ghost use Rattle.award_check.specs.Faults.{faultOf};
 ghost use Rattle.spelling.specs.Written.{Written};
 ghost use Rattle.listing.specs.Lines.{awardLine, winLines, lastLines};
 ghost use Rattle.listing.specs.List.{Listed};
@@ -38,24 +40,25 @@ fn put_awarded(
     lines::put_last(list, named, tender, totals)
 }
 
-// The list of the award to these tables.
+// The list of the award to these tables, which break no rule.
 fn put_award(list: &mut [u8], tender: Tender, n: usize, bids: &[u64], windows: &[u64]) -> usize
-    requires { ⌜ (n ≤ 1000) × ((bidWidth * n ≤ length (now bids)) × (48 * n + 136 ≤ length (now list))) ⌝ }
+    requires { ⌜ (faultOf (tender .kind) tender n (now bids) (now windows) ≡ none)
+        × ((n ≤ 1000) × ((bidWidth * n ≤ length (now bids)) × (48 * n + 136 ≤ length (now list)))) ⌝ }
     ensures { λ r. ⌜ Awarded·written tender n (now (bids .entry)) (now (windows .entry)) (now (list .entry)) (now (list .exit)) r ⌝ }
 {
     let mut won = [1u64; 1000];
     let mut cents = [1u64; 1000];
     let kind = tender.kind;
-    match award::settle(kind, tender, n, bids, windows, &mut won, &mut cents) {
+    match award_settle::settle_sound(kind, tender, n, bids, windows, &mut won, &mut cents) {
         Answer::Awarded(totals) => put_awarded(list, tender, n, bids, &won, &cents, totals),
         Answer::Refused(r) => spelling::put_refused(list, r),
     }
 }
 
-// Makes the list of the text, in a buffer that has room for any. The tables have room for any readable text.
+// Makes the list of the text, at the start of a buffer that has room for any. The tables have room for any readable text.
 fn make(text: &[u8], list: &mut [u8]) -> usize
-    requires { ⌜ length (now list) ≡ 51200 ⌝ }
-    ensures { λ r. ⌜ Made (now (text .entry)) (now (list .exit)) r ⌝ }
+    requires { ⌜ 51200 ≤ length (now list) ⌝ }
+    ensures { λ r. ⌜ Made (now (text .entry)) (now (list .entry)) (now (list .exit)) r ⌝ }
 {
     let mut bids = [1u64; tender::BID_TABLE];
     let mut windows = [1u64; tender::WINDOW_TABLE];
@@ -69,10 +72,8 @@ fn make(text: &[u8], list: &mut [u8]) -> usize
     }
 }
 
-// The list of a text: its length, with the list at the start of `list` and the bytes past it staying; 0 where the list
-// is longer than `list`, which then stays as it was.
-#[no_mangle]
-pub extern "C" fn tender_list(text: &[u8], list: &mut [u8]) -> usize
+// The list of the text in a buffer that may be short: it is made in one of the call's own and measured first.
+fn make_apart(text: &[u8], list: &mut [u8]) -> usize
     ensures { λ r. ⌜ Listed (now (text .entry)) (now (list .entry)) (now (list .exit)) r ⌝ }
 {
     let mut made = [1u8; 51200];
@@ -81,4 +82,16 @@ pub extern "C" fn tender_list(text: &[u8], list: &mut [u8]) -> usize
         return 0;
     }
     spelling::put_all(list, 0, &made[..n])
+}
+
+// The list of a text: its length, with the list at the start of `list` and the bytes past it staying; 0 where the list
+// is longer than `list`, which then stays as it was.
+#[no_mangle]
+pub extern "C" fn tender_list(text: &[u8], list: &mut [u8]) -> usize
+    ensures { λ r. ⌜ Listed (now (text .entry)) (now (list .entry)) (now (list .exit)) r ⌝ }
+{
+    if list.len() < 51200 {
+        return make_apart(text, list);
+    }
+    make(text, list)
 }

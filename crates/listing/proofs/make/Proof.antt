@@ -1,7 +1,7 @@
 -- The tables suffice, so the text is read or refused as its definition says; then its award or its refusal is written. Assumes nothing.
 use native.Mathlib.Omega.{arith}
 use Rattle.reader.specs.ReadInLaws.{accepted-read, refused-read, few-read}
-use Rattle.listing.specs.MakingLaws.{made-award, made-refusal}
+use Rattle.listing.specs.MakingLaws.{read-sound, made-award, made-refusal}
 use borrow.Author.Needs.{needs}
 use Rattle.listing.proofs.make.Statement.{statement}
 use Rattle.listing.proofs.make.Tie as tie
@@ -34,9 +34,10 @@ put-award-requires c κs =
     let c4 = c .before .before .before .before in
     let c8 = c4 .before .before .before .before in
     let c13 = c8 .before .before .before .before .before in
-    let h = few-read (accepted-read (c13 .args .text .now) _ _ (search needs) (search needs) (c4 .tender .given .0 .0)
+    let h = accepted-read (c13 .args .text .now) _ _ (search needs) (search needs) (c4 .tender .given .0 .0)
     (c4 .tender .given .0 .1 .0) (c4 .tender .given .0 .1 .1 .0) (c8 .read .ensures .0) (c8 .read .ensures .1 .0)
-    (c8 .read .ensures .1 .1) (c4 .tender .given .1)) in (h, (omega arith, omega (arith, c13 .pre)))
+    (c8 .read .ensures .1 .1) (c4 .tender .given .1) in
+    let f = few-read h in (read-sound h, (f, (omega arith, omega (arith, c13 .pre))))
 
 enum-known-r : tie.Need-enum-known-r
 enum-known-r c = search needs
