@@ -113,7 +113,7 @@ fn row_fault(tender: Tender, count: usize, bids: &[u64], windows: &[u64]) -> Che
     ensures { λ r. ⌜ checkedFault r ≡ rowFault tender (now (windows .entry)) 1 [] 0 (rowsOf count (now (bids .entry))) ⌝ }
 {
     // The bidder numbers of the rows passed.
-    let mut used = [0u64; 15625];
+    let mut used = [1u64; numbers::WORDS];
     let mut at = 0;
     let mut j = 0;
     while j < count {
@@ -134,10 +134,10 @@ fn row_fault(tender: Tender, count: usize, bids: &[u64], windows: &[u64]) -> Che
         ) {
             return Check::Faulty { row: place };
         }
-        if cells::holds(&used, bidder as usize) {
+        if numbers::holds(&used, bidder as usize) {
             return Check::Faulty { row: place };
         }
-        cells::add(&mut used, bidder as usize);
+        numbers::add(&mut used, bidder as usize);
         at += windows_here as usize;
         j += 1;
     }

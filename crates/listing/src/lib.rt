@@ -62,7 +62,7 @@ fn make(text: &[u8], list: &mut [u8]) -> usize
 {
     let mut bids = [1u64; tender::BID_TABLE];
     let mut windows = [1u64; tender::WINDOW_TABLE];
-    match reader::read(text, &mut bids, &mut windows) {
+    match reader::fill(text, &mut bids, &mut windows) {
         Reading::Accepted {
             tender,
             bids: n,

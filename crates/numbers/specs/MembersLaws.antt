@@ -1,6 +1,6 @@
 -- Words with their lowest bit turned: laws. Assumes nothing.
 use Prim.Native.Nat.{ℕ, zero, suc, _+_, _*_, _/_, _%_, _<_}
-use mathlib.Core.Path.{_≡_, refl, ap, _∙_}
+use mathlib.Core.Path.{_≡_, refl, sym, ap, _∙_}
 use mathlib.Core.List.{List, [], _∷_}
 use native.Mathlib.Omega.{arith}
 use lib.ListN.{length, getD, set, replicate}
@@ -36,6 +36,9 @@ pub members-length : (ws : List ℕ) → length (members ws) ≡ length ws
 unfolding members
 members-length [] = refl
 members-length (w ∷ ws) = ap suc (members-length ws)
+
+pub members-same : (ws vs : List ℕ) → length ws ≡ length vs → length (members ws) ≡ length (members vs)
+members-same ws vs e = members-length ws ∙ e ∙ sym (members-length vs)
 
 pub member-word : (ws : List ℕ) (q : ℕ) → q < length ws → getD (members ws) q 0 ≡ bitXor (getD ws q 0) 1
 unfolding members

@@ -44,7 +44,7 @@ pub extern "C" fn tender_rewrite(text: &[u8], out: &mut [u8]) -> usize
 {
     let mut bids = [1u64; tender::BID_TABLE];
     let mut windows = [1u64; tender::WINDOW_TABLE];
-    match reader::read(text, &mut bids, &mut windows) {
+    match reader::fill(text, &mut bids, &mut windows) {
         Reading::Accepted {
             tender,
             bids: n,

@@ -4,17 +4,14 @@ use mathlib.Core.Path.{refl, sym, _∙_}
 use Prim.Native.Nat.{_-_}
 use native.Mathlib.Omega.{arith}
 use borrow.Author.Tests.{not-true, not-false}
+use Rattle.numbers.specs.Members.{members}
+use Rattle.numbers.specs.MembersLaws.{members-length, members-same, members-none}
 use Rattle.award_check.specs.WalkLaws.{Going, going-starts, going-ends, too-many, breaks, repeated, going-on, bidder-cell, room-here}
 use Rattle.award_check.proofs.row_fault.Statement.{statement}
 use Rattle.award_check.proofs.row_fault.Tie as tie
-use Rattle.award_check.proofs.row_fault.Reads as reads
-use Rattle.award_check.proofs.row_fault.Lts as lts
-use Rattle.cells.proofs.add.Reads as add-reads
-use Rattle.cells.proofs.holds.Reads as holds-reads
-use Rattle.award_check.proofs.row_keeps.Reads as row-keeps-reads
 
 abbrev Inv-loop : tie.InvT-loop
-Inv-loop tender count bids windows used₀ at₀ j₀ used at j = Going tender count bids windows used at j
+Inv-loop tender count bids windows used₀ at₀ j₀ used at j = Going tender count bids windows (members used) at j
 
 abbrev μ-loop : tie.MeasureT-loop
 μ-loop tender count bids windows used₀ at₀ j₀ used at j = count - j
@@ -22,7 +19,7 @@ abbrev μ-loop : tie.MeasureT-loop
 loop-holds : tie.Need-loop-holds Inv-loop μ-loop
 loop-holds c =
     let args = c .before .before .args in
-    going-starts (args .tender) (args .count) (args .bids .now) (args .windows .now) _ refl
+    going-starts (args .tender) (args .count) (args .bids .now) (args .windows .now) _ (members-none 15625)
 
 add-place : tie.Need-add-place Inv-loop μ-loop
 add-place c = omega arith
@@ -31,7 +28,7 @@ returns : tie.Need-returns Inv-loop μ-loop
 returns c =
     let c5 = c .before .before .before .before .before in
     let args = c5 .args in
-    too-many (args .tender) (args .count) (args .bids .now) (args .windows .now) (c .before .before .loop .used)
+    too-many (args .tender) (args .count) (args .bids .now) (args .windows .now) (members (c .before .before .loop .used))
     (c .before .before .loop .at) (c .before .before .loop .j) (c .before .before .loop .inv) (c .before .loop-test .taken)
     (c .if1 .taken)
 
@@ -90,21 +87,27 @@ returns-2 c =
     let c8 = c7 .before in
     let c11 = c8 .before .before .before in
     let args = c11 .args in
-    breaks (args .tender) (args .count) (args .bids .now) (args .windows .now) (c8 .loop .used) (c8 .loop .at) (c8 .loop .j)
+    breaks (args .tender) (args .count) (args .bids .now) (args .windows .now) (members (c8 .loop .used)) (c8 .loop .at) (c8 .loop .j)
     (c8 .loop .inv) (c7 .loop-test .taken) (c6 .if1 .left) (sym (c .before .row-keeps .ensures)
     ∙ not-true (c .before .row-keeps .result) (c .if2 .taken))
 
 slice-aggregate-holds : tie.Need-slice-aggregate-holds Inv-loop μ-loop
-slice-aggregate-holds c = omega arith
+slice-aggregate-holds c =
+    let c9 = c .before .before .before .before .before .before .before .before .before in
+    omega (arith, members-length (c9 .loop .used), c9 .loop .inv .passed .size)
 
 holds-requires : tie.Need-holds-requires Inv-loop μ-loop
 holds-requires c κs =
     let c9 = c .before .before .before .before .before .before .before .before .before in
     let c12 = c9 .before .before .before in
     let args = c12 .args in
-    bidder-cell (args .tender) (args .count) (args .bids .now) (args .windows .now) (c9 .loop .used) (c9 .loop .at) (c9 .loop .j)
-    (c9 .loop .inv) (sym (c .before .before .row-keeps .ensures)
-    ∙ not-false (c .before .before .row-keeps .result) (c .before .if2 .left))
+    omega (
+      arith,
+      members-length (c9 .loop .used),
+      bidder-cell (args .tender) (args .count) (args .bids .now) (args .windows .now) (members (c9 .loop .used)) (c9 .loop .at)
+          (c9 .loop .j) (c9 .loop .inv) (sym (c .before .before .row-keeps .ensures)
+          ∙ not-false (c .before .before .row-keeps .result) (c .before .if2 .left)),
+    )
 
 returns-3 : tie.Need-returns-3 Inv-loop μ-loop
 returns-3 c =
@@ -113,11 +116,13 @@ returns-3 c =
     let c11 = c10 .before in
     let c14 = c11 .before .before .before in
     let args = c14 .args in
-    repeated (args .tender) (args .count) (args .bids .now) (args .windows .now) (c11 .loop .used) (c11 .loop .at) (c11 .loop .j)
+    repeated (args .tender) (args .count) (args .bids .now) (args .windows .now) (members (c11 .loop .used)) (c11 .loop .at) (c11 .loop .j)
     (c11 .loop .inv) (c10 .loop-test .taken) (c9 .if1 .left) (sym (c .before .holds .ensures) ∙ c .if3 .taken)
 
 slice-aggregate-add : tie.Need-slice-aggregate-add Inv-loop μ-loop
-slice-aggregate-add c = omega arith
+slice-aggregate-add c =
+    let c12 = c .before .before .before .before .before .before .before .before .before .before .before .before in
+    omega (arith, members-length (c12 .loop .used), c12 .loop .inv .passed .size)
 
 add-requires : tie.Need-add-requires Inv-loop μ-loop
 add-requires c κs =
@@ -128,7 +133,8 @@ add-requires c κs =
     let args = c15 .args in
     omega (
       arith,
-      bidder-cell (args .tender) (args .count) (args .bids .now) (args .windows .now) (c12 .loop .used) (c12 .loop .at)
+      members-length (c12 .loop .used),
+      bidder-cell (args .tender) (args .count) (args .bids .now) (args .windows .now) (members (c12 .loop .used)) (c12 .loop .at)
           (c12 .loop .j) (c12 .loop .inv) (sym (c5 .row-keeps .ensures) ∙ not-false (c5 .row-keeps .result) (c4 .if2 .left)),
     )
 
@@ -141,7 +147,7 @@ add-at c =
     let args = c17 .args in
     omega (
       arith,
-      room-here (args .tender) (args .count) (args .bids .now) (args .windows .now) (c14 .loop .used) (c14 .loop .at)
+      room-here (args .tender) (args .count) (args .bids .now) (args .windows .now) (members (c14 .loop .used)) (c14 .loop .at)
           (c14 .loop .j) (c14 .loop .inv) (sym (c7 .row-keeps .ensures) ∙ not-false (c7 .row-keeps .result) (c6 .if2 .left)),
     )
 
@@ -161,17 +167,17 @@ loop-again c =
     let c14 = c13 .before in
     let c17 = c14 .before .before .before in
     let args = c17 .args in
-    going-on (args .tender) (args .count) (args .bids .now) (args .windows .now) (c14 .loop .used) (c14 .loop .at) (c14 .loop .j)
+    going-on (args .tender) (args .count) (args .bids .now) (args .windows .now) (members (c14 .loop .used)) (c14 .loop .at) (c14 .loop .j)
     (c14 .loop .inv) (c13 .loop-test .taken) (c12 .if1 .left)
     (sym (c7 .row-keeps .ensures) ∙ not-false (c7 .row-keeps .result) (c6 .if2 .left))
-    (sym (c4 .holds .ensures) ∙ c .before .before .before .if3 .left) (c .before .add .last .0) (c .before .add .ensures)
-    (c .before .add .kept .0)
+    (sym (c4 .holds .ensures) ∙ c .before .before .before .if3 .left) (members (c .before .add .last .0)) (c .before .add .ensures)
+    (members-same _ _ (c .before .add .kept .0))
 
 returns-4 : tie.Need-returns-4 Inv-loop μ-loop
 returns-4 c =
     let c4 = c .before .before .before .before in
     let args = c4 .args in
-    going-ends (args .tender) (args .count) (args .bids .now) (args .windows .now) (c .before .loop .used) (c .before .loop .at)
+    going-ends (args .tender) (args .count) (args .bids .now) (args .windows .now) (members (c .before .loop .used)) (c .before .loop .at)
     (c .before .loop .j) (c .before .loop .inv) (c .loop-test .left)
 
 pub row-fault-spec : {M : Type 1} → statement M

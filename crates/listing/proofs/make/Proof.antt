@@ -1,6 +1,7 @@
 -- The tables suffice, so the text is read or refused as its definition says; then its award or its refusal is written. Assumes nothing.
 use native.Mathlib.Omega.{arith}
-use Rattle.reader.specs.ReadInLaws.{accepted-read, refused-read, few-read}
+use Rattle.reader.specs.WholeLaws.{refused-is}
+use Rattle.reader.specs.ReadInLaws.{filled-read, few-read}
 use Rattle.listing.specs.MakingLaws.{read-sound, made-award, made-refusal}
 use borrow.Author.Needs.{needs}
 use Rattle.listing.proofs.make.Statement.{statement}
@@ -9,16 +10,16 @@ use Rattle.listing.proofs.make.Reads as reads
 use Rattle.listing.proofs.make.Lts as lts
 use Rattle.listing.proofs.put_award.Reads as put-award-reads
 use Rattle.spelling.proofs.put_refused.Reads as put-refused-reads
-use Rattle.reader.proofs.read.Reads as read-reads
+use Rattle.reader.proofs.fill.Reads as fill-reads
 
-slice-aggregate-read : tie.Need-slice-aggregate-read
-slice-aggregate-read c = search needs
+slice-aggregate-fill : tie.Need-slice-aggregate-fill
+slice-aggregate-fill c = search needs
 
-slice-aggregate-read-2 : tie.Need-slice-aggregate-read-2
-slice-aggregate-read-2 c = search needs
+slice-aggregate-fill-2 : tie.Need-slice-aggregate-fill-2
+slice-aggregate-fill-2 c = search needs
 
-read-requires : tie.Need-read-requires
-read-requires c κs = search needs
+fill-requires : tie.Need-fill-requires
+fill-requires c κs = search needs
 
 enum-known-tender : tie.Need-enum-known-tender
 enum-known-tender c = search needs
@@ -34,9 +35,8 @@ put-award-requires c κs =
     let c4 = c .before .before .before .before in
     let c8 = c4 .before .before .before .before in
     let c13 = c8 .before .before .before .before .before in
-    let h = accepted-read (c13 .args .text .now) _ _ (search needs) (search needs) (c4 .tender .given .0 .0)
-    (c4 .tender .given .0 .1 .0) (c4 .tender .given .0 .1 .1 .0) (c8 .read .ensures .0) (c8 .read .ensures .1 .0)
-    (c8 .read .ensures .1 .1) (c4 .tender .given .1) in
+    let h = filled-read (c13 .args .text .now) (c4 .tender .given .0 .0) (c4 .tender .given .0 .1 .0) (c4 .tender .given .0 .1 .1 .0)
+    (c8 .fill .ensures .0) (c8 .fill .ensures .1) (c4 .tender .given .1) in
     let f = few-read h in (read-sound h, (f, (omega arith, omega (arith, c13 .pre))))
 
 enum-known-r : tie.Need-enum-known-r
@@ -53,9 +53,8 @@ returns c =
     let c7 = c .before .before .before .before .before .before .before in
     let c11 = c7 .before .before .before .before in
     let c16 = c11 .before .before .before .before .before in
-    made-award (accepted-read (c16 .args .text .now) _ _ (search needs) (search needs) (c7 .tender .given .0 .0)
-    (c7 .tender .given .0 .1 .0) (c7 .tender .given .0 .1 .1 .0) (c11 .read .ensures .0) (c11 .read .ensures .1 .0)
-    (c11 .read .ensures .1 .1) (c7 .tender .given .1)) (c .before .before .put-award .ensures)
+    made-award (filled-read (c16 .args .text .now) (c7 .tender .given .0 .0) (c7 .tender .given .0 .1 .0) (c7 .tender .given .0 .1 .1 .0)
+    (c11 .fill .ensures .0) (c11 .fill .ensures .1) (c7 .tender .given .1)) (c .before .before .put-award .ensures)
 
 same-length-2 : tie.Need-same-length-2
 same-length-2 c = search needs
@@ -65,17 +64,16 @@ returns-2 c =
     let c5 = c .before .before .before .before .before in
     let c9 = c5 .before .before .before .before in
     let c14 = c9 .before .before .before .before .before in
-    made-refusal (c5 .r .given .0 .0) (refused-read (c14 .args .text .now) _ _ (search needs) (search needs) (c5 .r .given .0 .0)
-    (c9 .read .ensures .0) (c9 .read .ensures .1 .0) (c9 .read .ensures .1 .1) (c5 .r .given .1))
-    (c .before .before .put-refused .ensures)
+    made-refusal (c5 .r .given .0 .0) (refused-is (c14 .args .text .now) (c5 .r .given .0 .0) (c9 .fill .ensures .0)
+    (c5 .r .given .1)) (c .before .before .put-refused .ensures)
 
 pub make-spec : {M : Type 1} → statement M
 make-spec =
     tie.close
     (tie.spec
-    slice-aggregate-read
-    slice-aggregate-read-2
-    read-requires
+    slice-aggregate-fill
+    slice-aggregate-fill-2
+    fill-requires
     enum-known-tender
     slice-aggregate-put-award
     slice-aggregate-put-award-2

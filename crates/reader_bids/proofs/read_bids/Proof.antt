@@ -5,7 +5,7 @@ use mathlib.Core.List.{List}
 use native.Mathlib.Omega.{arith}
 use lib.ListN.{length, drop}
 use Rattle.numbers.specs.Members.{members}
-use Rattle.numbers.specs.MembersLaws.{members-none, members-length}
+use Rattle.numbers.specs.MembersLaws.{members-none, members-length, members-same}
 use Rattle.reader_word.specs.Words.{cut}
 use Rattle.reader_line.specs.Line.{linesOf}
 use Rattle.reader_line.specs.PiecesLaws.{lines-end}
@@ -14,9 +14,6 @@ use Rattle.reader_bids.specs.PlacesLaws.{walk-goes, walk-stops}
 use borrow.Author.Needs.{needs}
 use Rattle.reader_bids.proofs.read_bids.Statement.{statement}
 use Rattle.reader_bids.proofs.read_bids.Tie as tie
-
-same-length-kept : (ws vs : List ℕ) → length ws ≡ length vs → length (members ws) ≡ length (members vs)
-same-length-kept ws vs e = members-length ws ∙ e ∙ sym (members-length vs)
 
 abbrev Inv-loop : tie.InvT-loop
 Inv-loop text at from tender used₀ rows₀ windows₀ k₀ m₀ i₀ line₀ used rows windows k m i line =
@@ -61,7 +58,7 @@ add-m c =
     let c19 = c14 .before .before .before .before .before in
     let pre = c19 .pre in let inv = c14 .loop .inv in let kept = c9 .take-line .kept .1 .1 .1 .1 .1 .1 in
     let g = walk-goes _ _ _ (c19 .args .text .now) (c14 .loop .i) _ _ _ _ _ _ _ _ _ (pre .6) (c13 .loop-test .taken) (inv .0) _
-    (c9 .take-line .ensures) (pre .2) (inv .5) (same-length-kept _ _ (kept .0)) (kept .1 .0) (kept .1 .1 .0) _ _ (c .before .count .given .1) in
+    (c9 .take-line .ensures) (pre .2) (inv .5) (members-same _ _ (kept .0)) (kept .1 .0) (kept .1 .1 .0) _ _ (c .before .count .given .1) in
     omega (arith, g .0 .few-windows, g .0 .few-bids)
 
 add-line : tie.Need-add-line Inv-loop μ-loop
@@ -78,7 +75,7 @@ loop-less c =
     let c19 = c14 .before .before .before .before .before in
     let pre = c19 .pre in let inv = c14 .loop .inv in let kept = c9 .take-line .kept .1 .1 .1 .1 .1 .1 in
     let g = walk-goes _ _ _ (c19 .args .text .now) (c14 .loop .i) _ _ _ _ _ _ _ _ _ (pre .6) (c13 .loop-test .taken) (inv .0) _
-    (c9 .take-line .ensures) (pre .2) (inv .5) (same-length-kept _ _ (kept .0)) (kept .1 .0) (kept .1 .1 .0) _ _ (c .before .count .given .1) in
+    (c9 .take-line .ensures) (pre .2) (inv .5) (members-same _ _ (kept .0)) (kept .1 .0) (kept .1 .1 .0) _ _ (c .before .count .given .1) in
     omega (arith, g .1, g .2)
 
 loop-again : tie.Need-loop-again Inv-loop μ-loop
@@ -89,7 +86,7 @@ loop-again c =
     let c19 = c14 .before .before .before .before .before in
     let pre = c19 .pre in let inv = c14 .loop .inv in let kept = c9 .take-line .kept .1 .1 .1 .1 .1 .1 in
     let g = walk-goes _ _ _ (c19 .args .text .now) (c14 .loop .i) _ _ _ _ _ _ _ _ _ (pre .6) (c13 .loop-test .taken) (inv .0) _
-    (c9 .take-line .ensures) (pre .2) (inv .5) (same-length-kept _ _ (kept .0)) (kept .1 .0) (kept .1 .1 .0) _ _ (c .before .count .given .1) in
+    (c9 .take-line .ensures) (pre .2) (inv .5) (members-same _ _ (kept .0)) (kept .1 .0) (kept .1 .1 .0) _ _ (c .before .count .given .1) in
     (g .0, g .2, kept .0 ∙ inv .2, kept .1 .0 ∙ inv .3, kept .1 .1 .0 ∙ inv .4, g .3)
 
 enum-known-r : tie.Need-enum-known-r Inv-loop μ-loop
