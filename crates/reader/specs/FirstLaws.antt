@@ -7,52 +7,40 @@ use native.Mathlib.Omega.{arith}
 use Rattle.tender.specs.declared.Refusal.{Refusal}
 use Rattle.tender.specs.declared.Refusal.the-variants.{BadForm}
 use Rattle.reader_line.specs.Line.{TenderLine, Line, tender, bid, reserve}
-use Rattle.reader_line.specs.Tally.{Tally, tenderNote, bidNote, reserveNote, noted}
+use Rattle.reader_line.specs.Tally.{Note, tenderNote, bidNote, reserveNote, noted}
+use Rattle.reader_line.specs.Answer.{headLine}
 use Rattle.reader_text.specs.Read.{tenderFault, halted, reserveIn, headOf}
 use Rattle.reader_text.specs.Read as reading
 use Rattle.reader_text.specs.HeadLaws.{broken-first, bid-first, reserve-first, tender-faulty, tender-faultless}
 use Rattle.reader.specs.Opened.{Opened}
 use Rattle.reader.specs.declared.Head.{Head}
 
-pub is-tender : (m : ℕ) (table : List ℕ) (o : Option Line) (t : TenderLine) → some (tenderNote t) ≡ noted m table o
+pub is-tender : (m : ℕ) (table : List ℕ) (o : Option Line) (t : TenderLine) → some (tenderNote t) ≡ noted m table (headLine o)
     → o ≡ some (tender t)
-unfolding noted
+unfolding noted headLine
 is-tender m table none t e = let z : _≡_ {A = ℕ} 0 1 = cc in absurd (omega arith)
 is-tender m table (some (tender u)) t e = cc
 is-tender m table (some (bid b)) t e = let z : _≡_ {A = ℕ} 0 1 = cc in absurd (omega arith)
 is-tender m table (some (reserve p)) t e = let z : _≡_ {A = ℕ} 0 1 = cc in absurd (omega arith)
 
+-- what is noted is not the tender's line
+abbrev pub NoTender : Option Note → Type 0
+NoTender none = Unit {0}
+NoTender (some (tenderNote t)) = ⊥
+NoTender (some (bidNote n p t)) = Unit {0}
+NoTender (some (reserveNote p)) = Unit {0}
+
 module _ (ls rest : List (Option Line)) (o : Option Line) (q : ls ≡ o ∷ rest) where
-  pub first-bid : (m n p : ℕ) (table : List ℕ) (t : Tally) → some (bidNote n p t) ≡ noted m table o
+  pub first-other : (m : ℕ) (table : List ℕ) (x : Option Note) → x ≡ noted m table (headLine o) → NoTender x
       → headOf ls ≡ halted (BadForm 1)
-  unfolding noted
-  first-bid m n p table t e = rw q (go o e)
+  unfolding noted headLine
+  first-other m table x e n = rw q (go o e)
     where
-      go : (x : Option Line) → some (bidNote n p t) ≡ noted m table x → headOf (x ∷ rest) ≡ halted (BadForm 1)
-      go none h = let z : _≡_ {A = ℕ} 0 1 = cc in absurd (omega arith)
-      go (some (tender u)) h = let z : _≡_ {A = ℕ} 0 1 = cc in absurd (omega arith)
-      go (some (bid b)) h = bid-first b rest
-      go (some (reserve v)) h = let z : _≡_ {A = ℕ} 0 1 = cc in absurd (omega arith)
-
-  pub first-reserve : (m v : ℕ) (table : List ℕ) → some (reserveNote v) ≡ noted m table o → headOf ls ≡ halted (BadForm 1)
-  unfolding noted
-  first-reserve m v table e = rw q (go o e)
-    where
-      go : (x : Option Line) → some (reserveNote v) ≡ noted m table x → headOf (x ∷ rest) ≡ halted (BadForm 1)
-      go none h = let z : _≡_ {A = ℕ} 0 1 = cc in absurd (omega arith)
-      go (some (tender u)) h = let z : _≡_ {A = ℕ} 0 1 = cc in absurd (omega arith)
-      go (some (bid b)) h = let z : _≡_ {A = ℕ} 0 1 = cc in absurd (omega arith)
-      go (some (reserve w)) h = reserve-first w rest
-
-  pub first-broken : (m : ℕ) (table : List ℕ) → none ≡ noted m table o → headOf ls ≡ halted (BadForm 1)
-  unfolding noted
-  first-broken m table e = rw q (go o e)
-    where
-      go : (x : Option Line) → none ≡ noted m table x → headOf (x ∷ rest) ≡ halted (BadForm 1)
+      go : (o : Option Line) → x ≡ noted m table (headLine o) → headOf (o ∷ rest) ≡ halted (BadForm 1)
       go none h = broken-first rest
-      go (some (tender u)) h = let z : _≡_ {A = ℕ} 0 1 = cc in absurd (omega arith)
-      go (some (bid b)) h = let z : _≡_ {A = ℕ} 0 1 = cc in absurd (omega arith)
-      go (some (reserve v)) h = let z : _≡_ {A = ℕ} 0 1 = cc in absurd (omega arith)
+      go (some (tender t)) h = absurd (subst NoTender h n)
+      go (some (bid b)) h = bid-first b rest
+      go (some (reserve p)) h = reserve-first p rest
 
   pub first-faulty : (t : TenderLine) → o ≡ some (tender t) → (f : ℕ → Refusal) → tenderFault t ≡ some f
       → headOf ls ≡ halted (f 1)

@@ -8,6 +8,7 @@ use lib.ListN.{length, drop, drop-of-length-le}
 use Rattle.reader_word.specs.Words.{cut}
 use Rattle.reader_line.specs.Line.{Line, tender, bid, reserve, linesOf}
 use Rattle.reader_line.specs.Tally.{Note, tenderNote, bidNote, reserveNote, noted}
+use Rattle.reader_line.specs.Answer.{headLine}
 use Rattle.reader_text.specs.Read.{Unreserved}
 use Rattle.reader.specs.Opened.{NextIs}
 use Rattle.reader.specs.declared.Next.{Next}
@@ -25,23 +26,23 @@ NoReserve (some (bidNote n p t)) = Unit {0}
 NoReserve (some (reserveNote p)) = ⊥
 
 module _ (m : ℕ) (table : List ℕ) where
-  pub next-other : (ls rest : List (Option Line)) (o : Option Line) → ls ≡ o ∷ rest → (x : Option Note) → x ≡ noted m table o
-      → NoReserve x → Unreserved ls
-  unfolding noted
+  pub next-other : (ls rest : List (Option Line)) (o : Option Line) → ls ≡ o ∷ rest → (x : Option Note)
+      → x ≡ noted m table (headLine o) → NoReserve x → Unreserved ls
+  unfolding noted headLine
   next-other ls rest o q x e n = rw q (go o e)
     where
-      go : (o : Option Line) → x ≡ noted m table o → Unreserved (o ∷ rest)
+      go : (o : Option Line) → x ≡ noted m table (headLine o) → Unreserved (o ∷ rest)
       go none h = tt
       go (some (tender t)) h = tt
       go (some (bid b)) h = tt
       go (some (reserve p)) h = subst NoReserve h n
 
   pub next-reserve : (ls rest : List (Option Line)) (o : Option Line) → ls ≡ o ∷ rest → (p : ℕ)
-      → some (reserveNote p) ≡ noted m table o → ls ≡ some (reserve p) ∷ rest
-  unfolding noted
+      → some (reserveNote p) ≡ noted m table (headLine o) → ls ≡ some (reserve p) ∷ rest
+  unfolding noted headLine
   next-reserve ls rest o q p e = rw q (go o e)
     where
-      go : (o : Option Line) → some (reserveNote p) ≡ noted m table o → o ∷ rest ≡ some (reserve p) ∷ rest
+      go : (o : Option Line) → some (reserveNote p) ≡ noted m table (headLine o) → o ∷ rest ≡ some (reserve p) ∷ rest
       go none h = let z : _≡_ {A = ℕ} 0 1 = cc in absurd (omega arith)
       go (some (tender t)) h = let z : _≡_ {A = ℕ} 0 1 = cc in absurd (omega arith)
       go (some (bid b)) h = let z : _≡_ {A = ℕ} 0 1 = cc in absurd (omega arith)

@@ -18,7 +18,7 @@ mod rows;
 use reader_bids::Bids;
 use reader_bids::read_bids;
 use reader_line::line::Line;
-use reader_line::line::read_line;
+use reader_line::line::read_head_line;
 use reader_word::windows::Flaw;
 use reader_word::windows::flaw_in;
 use rows::copy;
@@ -49,16 +49,15 @@ pub(crate) enum Next {
     Other,
 }
 
-// Whether the reserve's line begins at `at`: its price, and where the next line begins. The table serves the line's reader and
-// is not looked at.
-fn next_reserve(text: &[u8], at: usize, windows: &mut [u64]) -> Next
+// Whether the reserve's line begins at `at`: its price, and where the next line begins.
+fn next_reserve(text: &[u8], at: usize) -> Next
     requires { ⌜ (at ≤ length (now text)) × Ended (now text) ⌝ }
     ensures { λ r. ⌜ NextIs (now (text .entry)) at r ⌝ }
 {
     if text.len() <= at {
         return Next::Other;
     }
-    match read_line(text, at, windows, 0) {
+    match read_head_line(text, at) {
         Line::Reserve(price, next) => Next::Reserve(price, next),
         Line::Tender(_, _, _) => Next::Other,
         Line::Bid(_, _, _, _, _) => Next::Other,
@@ -68,19 +67,12 @@ fn next_reserve(text: &[u8], at: usize, windows: &mut [u64]) -> Next
 
 // The head from its line of this number on, which begins at `at`: the reserve's line, where it stands there. Any other line is
 // left to the bids, which read it again.
-fn reserve_in(
-    text: &[u8],
-    at: usize,
-    line: u64,
-    kind: Kind,
-    window: Span,
-    windows: &mut [u64],
-) -> Head
+fn reserve_in(text: &[u8], at: usize, line: u64, kind: Kind, window: Span) -> Head
     requires { ⌜ (at ≤ length (now text)) × (line ≤ 65536) × Ended (now text) ⌝ }
     ensures { λ r. ⌜ Opened (now (text .entry)) (reserveIn (record { kind = kind; window = window }) line
         (linesOf (cut 10 (drop at (now (text .entry)))))) r ⌝ }
 {
-    match next_reserve(text, at, windows) {
+    match next_reserve(text, at) {
         Next::Reserve(price, after) => {
             if tender::MAX_PRICE < price {
                 return Head::Refused(Refusal::OutsideLimits { line });
@@ -95,17 +87,16 @@ fn reserve_in(
     }
 }
 
-// The lines before the bids: the tender, where the bids begin, and the number of their first line. The table serves the line's reader
-// and is not looked at.
-fn read_head(text: &[u8], windows: &mut [u64]) -> Head
+// The lines before the bids: the tender, where the bids begin, and the number of their first line.
+fn read_head(text: &[u8]) -> Head
     requires { ⌜ Ended (now text) ⌝ }
     ensures { λ r. ⌜ Opened (now (text .entry)) (headOf (linesOf (cut 10 (now (text .entry))))) r ⌝ }
 {
-    match read_line(text, 0, windows, 0) {
+    match read_head_line(text, 0) {
         Line::Tender(kind, w, next) => match flaw_in(w.start, w.end) {
             Flaw::Empty => Head::Refused(Refusal::EmptyWindow { line: 1 }),
             Flaw::Late => Head::Refused(Refusal::LateWindow { line: 1 }),
-            Flaw::Sound => reserve_in(text, next, 2, kind, w, windows),
+            Flaw::Sound => reserve_in(text, next, 2, kind, w),
         },
         Line::Bid(_, _, _, _, _) => Head::Refused(Refusal::BadForm { line: 1 }),
         Line::Reserve(_, _) => Head::Refused(Refusal::BadForm { line: 1 }),
@@ -145,7 +136,7 @@ fn read_lines(text: &[u8], rest: bool, rows: &mut [u64], windows: &mut [u64]) ->
     ensures tables { λ r. ⌜ Holds (readLines (linesOf (cut 10 (now (text .entry))) ++ restLine rest)) (now (rows .exit))
         (now (windows .exit)) ⌝ }
 {
-    match read_head(text, windows) {
+    match read_head(text) {
         Head::Tender(t, at, from) => {
             let mut used = [1u64; numbers::WORDS];
             match read_bids(text, at, from, t, &mut used, rows, windows) {

@@ -56,6 +56,13 @@ linePlace (lineIs.Reserve p e) = e
 abbrev pub toldFront : List ℕ → line.Line → List ℕ → Front Note
 toldFront s r table = fronted (toldLine r table) (drop (linePlace r) s)
 
+-- a line, where it is one of a head: the tender's or the reserve's
+unfoldable pub headLine : Option said.Line → Option said.Line
+headLine none = none
+headLine (some (said.tender t)) = some (said.tender t)
+headLine (some (said.bid b)) = none
+headLine (some (said.reserve p)) = some (said.reserve p)
+
 -- where the line from `at` on goes on: past its byte 10
 abbrev pub EndsAfter : List ℕ → ℕ → line.Line → Type 0
 EndsAfter s at lineIs.Broken = Unit {0}

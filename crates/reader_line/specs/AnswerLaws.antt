@@ -60,7 +60,7 @@ module _ (s : List ℕ) (m : ℕ) (table later : List ℕ) (y v : ℕ) where
 
 -- a value, where there is one
 
-fronted-value : {A : Type 0} (o p : Option A) (s t : List ℕ) → fronted o s ≡ fronted p t → o ≡ p
+pub fronted-value : {A : Type 0} (o p : Option A) (s t : List ℕ) → fronted o s ≡ fronted p t → o ≡ p
 unfolding fronted
 fronted-value none none s t e = refl
 fronted-value none (some b) s t e = let z : _≡_ {A = ℕ} 0 1 = cc in absurd (omega arith)
@@ -85,21 +85,33 @@ module _ (s : List ℕ) (at : ℕ) (h : at < length s) (ended : Ended s) where
   place : (e : ℕ) → e ≤ length s → drop e s ≡ nextLines (drop at s) → at + toNext 10 (drop at s) + 1 ≡ e
   place e l q = omega (arith, inside, length-drop e s, length-drop at s, length-drop (suc (toNext 10 (drop at s))) (drop at s), ap length q)
 
+  -- by the line that the answer tells, where the place is past it
+
+  module _ (m : ℕ) (table later : List ℕ) (o : Option Line) (r : line.Line)
+      (q : toldFront s r later ≡ notedFront m table (fronted o (nextLines (drop at s))))
+    where
+      fronts : toldFront s r later ≡ fronted (noted m table o) (nextLines (drop at s))
+      fronts = q ∙ noted-fronted m table o (nextLines (drop at s))
+
+      pub told-as : toldLine r later ≡ noted m table o
+      told-as = fronted-value (toldLine r later) (noted m table o) (drop (linePlace r) s) (nextLines (drop at s)) fronts
+
+  pub told-after : (m : ℕ) (table later : List ℕ) (o : Option Line) (r : line.Line)
+      → toldFront s r later ≡ notedFront m table (fronted o (nextLines (drop at s))) → linePlace r ≤ length s → EndsAfter s at r
+  told-after m table later o lineIs.Broken q l = tt
+  told-after m table later o (lineIs.Tender k w e) q l =
+      (place e l (fronted-rest _ _ _ _ (fronts m table later o (lineIs.Tender k w e) q)), l)
+  told-after m table later o (lineIs.Bid n p c flaw e) q l =
+      (place e l (fronted-rest _ _ _ _ (fronts m table later o (lineIs.Bid n p c flaw e) q)), l)
+  told-after m table later o (lineIs.Reserve p e) q l =
+      (place e l (fronted-rest _ _ _ _ (fronts m table later o (lineIs.Reserve p e) q)), l)
+
+  pub line-is : lineFront (drop at s) ≡ fronted (lineOf (firstLine (drop at s))) (nextLines (drop at s))
+  line-is = line-front (drop at s) inside
+
   module _ (m : ℕ) (table later : List ℕ) (r : line.Line) (q : toldFront s r later ≡ notedFront m table (lineFront (drop at s))) where
-    fronts : toldFront s r later ≡ fronted (noted m table (lineOf (firstLine (drop at s)))) (nextLines (drop at s))
-    fronts = q ∙ ap (notedFront m table) (line-front (drop at s) inside)
-        ∙ noted-fronted m table (lineOf (firstLine (drop at s))) (nextLines (drop at s))
-
     pub line-told : toldLine r later ≡ noted m table (lineOf (firstLine (drop at s)))
-    line-told = fronted-value (toldLine r later) (noted m table (lineOf (firstLine (drop at s)))) (drop (linePlace r) s)
-        (nextLines (drop at s)) fronts
+    line-told = told-as m table later _ r (q ∙ ap (notedFront m table) line-is)
 
-  pub line-after : (m : ℕ) (table later : List ℕ) (r : line.Line) → toldFront s r later ≡ notedFront m table (lineFront (drop at s))
-      → linePlace r ≤ length s → EndsAfter s at r
-  line-after m table later lineIs.Broken q l = tt
-  line-after m table later (lineIs.Tender k w e) q l =
-      (place e l (fronted-rest _ _ _ _ (fronts m table later (lineIs.Tender k w e) q)), l)
-  line-after m table later (lineIs.Bid n p c flaw e) q l =
-      (place e l (fronted-rest _ _ _ _ (fronts m table later (lineIs.Bid n p c flaw e) q)), l)
-  line-after m table later (lineIs.Reserve p e) q l =
-      (place e l (fronted-rest _ _ _ _ (fronts m table later (lineIs.Reserve p e) q)), l)
+    pub line-after : linePlace r ≤ length s → EndsAfter s at r
+    line-after = told-after m table later _ r (q ∙ ap (notedFront m table) line-is)

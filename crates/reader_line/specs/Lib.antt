@@ -15,3 +15,4 @@ pub mod EndingLaws
 pub mod TallyLaws
 pub mod LinePlaceLaws
 pub mod AnswerLaws
+pub mod HeadLineLaws

@@ -10,7 +10,7 @@ ghost use Rattle.reader_line.specs.LineFront.{firstLine, windowsFront, b
 ghost use Rattle.reader_line.specs.Tally.{putWindow, noted};
 ghost use Rattle.reader_word.specs.declared.windows.Flaw.the-variants.{Sound};
 ghost use Rattle.reader_line.specs.Answer.{talliedFront, toldTally, tallyPlace, notedFront, toldFront, linePlace, toldLine};
-ghost use Rattle.reader_line.specs.Answer.{EndsAfter};
+ghost use Rattle.reader_line.specs.Answer.{EndsAfter, headLine};
 use reader_word::windows::Ends;
 use reader_word::windows::Flaw;
 use reader_word::windows::read_span;
@@ -155,8 +155,27 @@ fn read_tender(s: &[u8], at: usize) -> Line
     Line::Broken
 }
 
-// The line from `at` on, by its first word: "(bid " has 5 bytes, "(tender " 8, "(reserve " 9. A bid's windows are put into the rows from
-// m on; the rows before m stay, whatever the line is.
+// The line from `at` on, where it is one of a head: the tender's, after "(tender ", or the reserve's, after "(reserve ". Any other is
+// `Broken`.
+pub fn read_head_line(s: &[u8], at: usize) -> Line
+    requires { ⌜ (at < length (now s)) × Ended (now s) ⌝ }
+    ensures answer { λ r. ⌜ ((m : ℕ) (table : List ℕ) → toldLine r table
+        ≡ noted m table (headLine (lineOf (firstLine (drop at (now (s .entry))))))) ⌝ }
+    ensures place { λ r. ⌜ EndsAfter (now (s .entry)) at r ⌝ }
+{
+    if s[at] != b'(' {
+        return Line::Broken;
+    }
+    if stands(s, at + 1, &tender::TENDER) {
+        return read_tender(s, at + 8);
+    }
+    if stands(s, at + 1, &tender::RESERVE) {
+        return read_reserve(s, at + 9);
+    }
+    Line::Broken
+}
+
+// The line from `at` on. A bid's windows, after "(bid ", are put into the rows from m on; the rows before m stay, whatever the line is.
 pub fn read_line(s: &[u8], at: usize, windows: &mut [u64], m: usize) -> Line
     requires { ⌜ (m ≤ 32000) × ((at < length (now s)) × Ended (now s)) ⌝ }
     ensures answer { λ r. ⌜ toldLine r (now (windows .exit))
@@ -170,11 +189,5 @@ pub fn read_line(s: &[u8], at: usize, windows: &mut [u64], m: usize) -> Line
     if stands(s, at + 1, &tender::BID) {
         return read_bid(s, at + 5, windows, m);
     }
-    if stands(s, at + 1, &tender::TENDER) {
-        return read_tender(s, at + 8);
-    }
-    if stands(s, at + 1, &tender::RESERVE) {
-        return read_reserve(s, at + 9);
-    }
-    Line::Broken
+    read_head_line(s, at)
 }

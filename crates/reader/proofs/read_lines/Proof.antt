@@ -1,5 +1,5 @@
 -- `read_lines` meets its contract: the head, the bids and the rest settle the answer. Assumes nothing.
-use mathlib.Core.Path.{refl, _∙_}
+use mathlib.Core.Path.{refl}
 use native.Mathlib.Omega.{arith}
 use Rattle.reader_text.specs.HeadLaws.{head-short}
 use Rattle.reader.specs.LinesReadLaws.{opened-tender, opened-refused, filled-held, filled-refused, told-refused, told-accepted}
@@ -20,22 +20,22 @@ slice-aggregate-read-bids c = search needs
 read-bids-requires : tie.Need-read-bids-requires
 read-bids-requires c κs =
     let c4 = c .before .before .before .before in
-    let c8 = c4 .before .before .before .before in
-    let c13 = c8 .before .before .before .before .before in
-    let pre = c13 .pre in
-    let b = opened-tender (c13 .args .text .now) _ _ (c8 .read-head .ensures) _ _ _ (c4 .t .given .1) in
-    (b .inside, head-short _ _ _ _ (b .lines), pre .1, refl, pre .2, c8 .read-head .kept .1 .0 ∙ pre .3, pre .0)
+    let c6 = c4 .before .before in
+    let c10 = c6 .before .before .before .before in
+    let pre = c10 .pre in
+    let b = opened-tender (c10 .args .text .now) _ _ (c6 .read-head .ensures) _ _ _ (c4 .t .given .1) in
+    (b .inside, head-short _ _ _ _ (b .lines), pre .1, refl, pre .2, pre .3, pre .0)
 
 enum-known-k : tie.Need-enum-known-k
 enum-known-k c = search needs
 
-add-t27 : tie.Need-add-t27
-add-t27 c =
+add-t25 : tie.Need-add-t25
+add-t25 c =
     let c9 = c .before .before .before .before .before .before .before .before .before in
     let c14 = c9 .before .before .before .before .before in
-    let c18 = c14 .before .before .before .before in
-    let c23 = c18 .before .before .before .before .before in
-    let b = opened-tender (c23 .args .text .now) _ _ (c18 .read-head .ensures) _ _ _ (c14 .t .given .1) in
+    let c16 = c14 .before .before in
+    let c20 = c16 .before .before .before .before in
+    let b = opened-tender (c20 .args .text .now) _ _ (c16 .read-head .ensures) _ _ _ (c14 .t .given .1) in
     let h = filled-held _ _ _ _ _ _ (c9 .read-bids .ensures) _ _ (c .before .before .k .given .1) in
     omega (arith, head-short _ _ _ _ (b .lines), h .few-bids)
 
@@ -49,9 +49,9 @@ returns : tie.Need-returns
 returns c =
     let c9 = c .before .before .before .before .before .before .before .before .before in
     let c14 = c9 .before .before .before .before .before in
-    let c18 = c14 .before .before .before .before in
-    let c23 = c18 .before .before .before .before .before in
-    let b = opened-tender (c23 .args .text .now) _ _ (c18 .read-head .ensures) _ _ _ (c14 .t .given .1) in
+    let c16 = c14 .before .before in
+    let c20 = c16 .before .before .before .before in
+    let b = opened-tender (c20 .args .text .now) _ _ (c16 .read-head .ensures) _ _ _ (c14 .t .given .1) in
     let h = filled-held _ _ _ _ _ _ (c9 .read-bids .ensures) _ _ (c .before .before .k .given .1) in
     told-refused _ _ _ _ (rest-refused _ _ _ _ (b .lines) _ _ _ _ h _ (c .if1 .taken))
 
@@ -71,9 +71,9 @@ returns-2 : tie.Need-returns-2
 returns-2 c =
     let c9 = c .before .before .before .before .before .before .before .before .before in
     let c14 = c9 .before .before .before .before .before in
-    let c18 = c14 .before .before .before .before in
-    let c23 = c18 .before .before .before .before .before in
-    let b = opened-tender (c23 .args .text .now) _ _ (c18 .read-head .ensures) _ _ _ (c14 .t .given .1) in
+    let c16 = c14 .before .before in
+    let c20 = c16 .before .before .before .before in
+    let b = opened-tender (c20 .args .text .now) _ _ (c16 .read-head .ensures) _ _ _ (c14 .t .given .1) in
     let h = filled-held _ _ _ _ _ _ (c9 .read-bids .ensures) _ _ (c .before .before .k .given .1) in
     told-accepted _ _ _ _ (b .lines) _ _ _ _ h _ (c .if1 .left)
 
@@ -87,20 +87,17 @@ returns-3 : tie.Need-returns-3
 returns-3 c =
     let c8 = c .before .before .before .before .before .before .before .before in
     let c13 = c8 .before .before .before .before .before in
-    let c17 = c13 .before .before .before .before in
-    let c22 = c17 .before .before .before .before .before in
-    let b = opened-tender (c22 .args .text .now) _ _ (c17 .read-head .ensures) _ _ _ (c13 .t .given .1) in
+    let c15 = c13 .before .before in
+    let c19 = c15 .before .before .before .before in
+    let b = opened-tender (c19 .args .text .now) _ _ (c15 .read-head .ensures) _ _ _ (c13 .t .given .1) in
     told-refused _ _ _ _ (bids-refused _ _ _ _ (b .lines) _ _ (filled-refused _ _ _ _ _ _ (c8 .read-bids .ensures) _
     (c .before .r .given .1)))
 
-same-length-7 : tie.Need-same-length-7
-same-length-7 c = search needs
-
 returns-4 : tie.Need-returns-4
 returns-4 c =
-    let c5 = c .before .before .before .before .before in
-    let c10 = c5 .before .before .before .before .before in
-    told-refused _ _ _ _ (head-refused _ _ _ (opened-refused (c10 .args .text .now) _ _ (c5 .read-head .ensures) _
+    let c3 = c .before .before .before in
+    let c7 = c3 .before .before .before .before in
+    told-refused _ _ _ _ (head-refused _ _ _ (opened-refused (c7 .args .text .now) _ _ (c3 .read-head .ensures) _
     (c .before .r2 .given .1)))
 
 pub read-lines-spec : {M : Type 1} → statement M
@@ -112,7 +109,7 @@ read-lines-spec =
     slice-aggregate-read-bids
     read-bids-requires
     enum-known-k
-    add-t27
+    add-t25
     same-length
     same-length-2
     returns
@@ -124,5 +121,4 @@ read-lines-spec =
     same-length-5
     same-length-6
     returns-3
-    same-length-7
     returns-4)

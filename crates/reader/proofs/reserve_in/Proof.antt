@@ -17,23 +17,19 @@ next-reserve-requires c κs = search needs
 enum-known-price : tie.Need-enum-known-price
 enum-known-price c = search needs
 
-same-length : tie.Need-same-length
-same-length c = search needs
-
 returns : tie.Need-returns
 returns c =
-    let c6 = c .before .before .before .before .before .before in
-    let c10 = c6 .before .before .before .before in
-    let args = c10 .args in
-    let n = found-reserve (args .text .now) (args .at) _ (c6 .next-reserve .ensures) _ _ (c .before .before .price .given .1) in
+    let c4 = c .before .before .before .before in
+    let args = c4 .before .before .args in
+    let n = found-reserve (args .text .now) (args .at) _ (c4 .next-reserve .ensures) _ _ (c .before .before .price .given .1) in
     ap (reserveIn (record { kind = args .kind; window = args .window }) (args .line)) (n .1)
     ∙ reserve-high _ (args .line) _ _ (c .if1 .taken)
 
 tender-with-requires : tie.Need-tender-with-requires
 tender-with-requires c κs = search needs
 
-add-t17 : tie.Need-add-t17
-add-t17 c = search needs
+add-t14 : tie.Need-add-t14
+add-t14 c = search needs
 
 enum-told : tie.Need-enum-told
 enum-told c = search needs
@@ -41,16 +37,12 @@ enum-told c = search needs
 tender-with-requires-2 : tie.Need-tender-with-requires-2
 tender-with-requires-2 c κs = search needs
 
-same-length-2 : tie.Need-same-length-2
-same-length-2 c = search needs
-
 returns-2 : tie.Need-returns-2
 returns-2 c =
-    let c7 = c .before .before .before .before .before .before .before in
-    let c11 = c7 .before .before .before .before in
-    let args = c11 .args in
+    let c5 = c .before .before .before .before .before in
+    let args = c5 .before .before .args in
     let p = c .before .before .before .price .given in
-    let n = found-reserve (args .text .now) (args .at) _ (c7 .next-reserve .ensures) _ _ (p .1) in
+    let n = found-reserve (args .text .now) (args .at) _ (c5 .next-reserve .ensures) _ _ (p .1) in
     record {
       inside = n .0;
       lines = ap (reserveIn (record { kind = args .kind; window = args .window }) (args .line)) (n .1)
@@ -59,18 +51,15 @@ returns-2 c =
           (sym (c .tender-with .ensures));
     }
 
-same-length-3 : tie.Need-same-length-3
-same-length-3 c = search needs
-
 returns-3 : tie.Need-returns-3
 returns-3 c =
-    let c5 = c .before .before .before .before .before in
-    let c9 = c5 .before .before .before .before in
-    let args = c9 .args in
+    let c3 = c .before .before .before in
+    let c5 = c3 .before .before in
+    let args = c5 .args in
     record {
-      inside = c9 .pre .0;
+      inside = c5 .pre .0;
       lines = reserve-absent _ (args .line) _
-          (found-other (args .text .now) (args .at) _ (c5 .next-reserve .ensures) (c .before .enum-told .given .1))
+          (found-other (args .text .now) (args .at) _ (c3 .next-reserve .ensures) (c .before .enum-told .given .1))
           ∙ ap (λ t. begun t (args .line) (linesOf (cut 10 (drop (args .at) (args .text .now))))) (sym (c .tender-with2 .ensures));
     }
 
@@ -80,13 +69,10 @@ reserve-in-spec =
     (tie.spec
     next-reserve-requires
     enum-known-price
-    same-length
     returns
     tender-with-requires
-    add-t17
+    add-t14
     enum-told
     tender-with-requires-2
-    same-length-2
     returns-2
-    same-length-3
     returns-3)
