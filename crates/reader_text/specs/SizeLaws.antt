@@ -1,5 +1,4 @@
--- A window takes six bytes of its line, so an accepted text has at most 10,922 windows: a table of 11,000 rows never answers 8.
--- Assumes nothing.
+-- A window takes six bytes of its line, so an accepted text has at most 10,922 windows. Assumes nothing.
 use mathlib.Core.Path.{_≡_, refl, ap}
 use mathlib.Core.List.{List, [], _∷_}
 use mathlib.Core.Bool.{Bool, true, false, cond}
@@ -8,7 +7,7 @@ use Prim.Native.Nat.{ℕ, suc, _+_, _*_, _≤_}
 use native.Mathlib.Omega.{arith}
 use lib.ListN.{length, length-append}
 use lib.Dec.{eqb, ltb}
-use borrow.Author.Tests.{le-leb, ltb-false}
+use borrow.Author.Tests.{ltb-false}
 use Rattle.tender.specs.declared.Window.{Window}
 use Rattle.tender.specs.declared.Tender.{Tender}
 use Rattle.tender.specs.Tables.{Row}
@@ -17,11 +16,9 @@ use Rattle.reader_line.specs.Line.{BidLine, Line, tender, bid, reserve, lineOf,
 use Rattle.reader_word.specs.CutLaws.{Pieces, cut-some}
 use Rattle.reader_line.specs.SizeLaws.{line-windows}
 use Rattle.tender.specs.declared.Refusal.the-variants.{TextTooLong}
-use Rattle.reader_text.specs.Read.{ReadOutcome, accepted, refused, bidsOf, allWindows, readLines, readText, fitted}
-use Rattle.reader_text.specs.Read.{readInto}
+use Rattle.reader_text.specs.Read.{accepted, refused, bidsOf, allWindows, readLines, readText}
 use Rattle.reader_text.specs.ReadLaws.{never, read-lines}
 use Rattle.reader_text.specs.HeadLaws.{head-is, accepted-head}
-use Rattle.reader_text.specs.CountLaws.{counts-law}
 
 -- the bytes of the pieces, with one for what stands after each
 size : List (List ℕ) → ℕ
@@ -79,16 +76,3 @@ size-law T R W text e = go (linesOf (cut 10 text)) (lines-size (cut 10 text)) (r
         let k : 6 * length (allWindows (bidsOf (g .rest))) ≤ size (cut 10 text) =
         rw (head-is ls T (g .from) (g .rest) (g .head) .bids) at h in
         omega (arith, k, cut-size 10 text, ap length (g .windows), short-text T R W text e)
-
--- tables of that size never answer 8
-pub fits-law : (text : List ℕ) (bidRows windowRows : ℕ) → 1000 ≤ bidRows → 10922 ≤ windowRows
-    → readInto text bidRows windowRows ≡ readText text
-unfolding readInto fitted
-fits-law text b w hb hw = go (readText text) refl
-  where
-    go : (o : ReadOutcome) → readText text ≡ o → fitted b w o ≡ o
-    go (refused r) e = refl
-    go (accepted T R W) e = rw (
-      le-leb (length R) b (omega (arith, counts-law T R W text e .0)),
-      le-leb (length W) w (omega (arith, size-law T R W text e)),
-    )
