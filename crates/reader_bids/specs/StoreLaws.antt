@@ -1,12 +1,11 @@
 -- Rows and windows put into tables: what the first places then are. Assumes nothing.
-use Prim.Native.Nat.{ℕ, suc, _+_, _*_, _/_, _≤_, _<_}
+use Prim.Native.Nat.{ℕ, suc, _+_, _*_, _≤_}
 use mathlib.Core.Path.{_≡_, refl, sym, ap, _∙_}
 use mathlib.Core.List.{List, [], _∷_, _++_, append-assoc, append-nil}
 use native.Mathlib.Omega.{arith}
 use native.Mathlib.Nat.{add-zero}
 use lib.ListN.{length, take, drop, set, length-append, length-set}
 use lib.Seq.{sets-eq, length-take-le, take-at}
-use borrow.Author.Tests.{lt-ltb}
 use Rattle.tender.specs.declared.Window.{Window}
 use Rattle.tender.specs.Tables.{flatRows, flatWindows, windowWidth}
 use Rattle.reader_line.specs.Line.{BidLine}
@@ -33,16 +32,12 @@ put-is : (table : List ℕ) (m : ℕ) (w : Window) → windowWidth * m + windowW
     → putWindow table m w ≡ take (windowWidth * m) table ++ (w .start ∷ w .end ∷ []) ++ drop (windowWidth * m + windowWidth) table
 unfolding putWindow
 put-is table m w h =
-    let l : m < length table / windowWidth = omega arith in
     let e : windowWidth * m + 1 ≡ suc (windowWidth * m) = omega arith in
-    rw (lt-ltb m (length table / windowWidth) l, e) (sets-eq (w .start ∷ w .end ∷ []) table (windowWidth * m) h)
+    rw e (sets-eq (w .start ∷ w .end ∷ []) table (windowWidth * m) h)
 
-put-length : (table : List ℕ) (m : ℕ) (w : Window) → windowWidth * m + windowWidth ≤ length table
-    → length (putWindow table m w) ≡ length table
+put-length : (table : List ℕ) (m : ℕ) (w : Window) → length (putWindow table m w) ≡ length table
 unfolding putWindow
-put-length table m w h =
-    let l : m < length table / windowWidth = omega arith in
-    rw (lt-ltb m (length table / windowWidth) l) (simp length-set)
+put-length table m w = simp length-set
 
 -- the windows stand in the rows from m on
 pub windows-put : (table : List ℕ) (m : ℕ) (ws : List Window) → windowWidth * (m + length ws) ≤ length table
@@ -52,7 +47,7 @@ windows-put table m [] h = rw add-zero (sym (append-nil (take (windowWidth * m) 
 windows-put table m (w ∷ ws) h =
     let a : m + length (w ∷ ws) ≡ m + 1 + length ws = omega arith in
     let l : windowWidth * m + windowWidth ≤ length table = omega arith in
-    let b = windows-put (putWindow table m w) (m + 1) ws (rw (put-length table m w l) (omega arith)) in
+    let b = windows-put (putWindow table m w) (m + 1) ws (rw (put-length table m w) (omega arith)) in
     let c : take (windowWidth * (m + 1)) (putWindow table m w) ≡ take (windowWidth * m) table ++ (w .start ∷ w .end ∷ []) =
     ap (take (windowWidth * (m + 1))) (put-is table m w l)
     ∙ front table (w .start ∷ w .end ∷ []) (drop (windowWidth * m + windowWidth) table) (windowWidth * m) (windowWidth * (m + 1))

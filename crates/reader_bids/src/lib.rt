@@ -12,6 +12,7 @@ ghost use Rattle.reader_word.specs.Words.{cut};
 ghost use Rattle.reader_word.specs.Scan.{toNext, Ended};
 ghost use Rattle.reader_line.specs.Line.{lineOf, linesOf};
 ghost use Rattle.reader_line.specs.LineFront.{firstLine};
+ghost use Rattle.reader_line.specs.Answer.{Room};
 ghost use Rattle.reader_word.specs.Flaws.{isEmpty, isLate};
 ghost use Rattle.reader_text.specs.Read.{bidFaultIn};
 ghost use Rattle.reader_bids.specs.Steps.{faultAt, verdictOf, Taken, LinesFilled};
@@ -123,7 +124,7 @@ fn take_line(
     rows: &mut [u64],
     windows: &mut [u64],
 ) -> Step
-    requires { ⌜ (k ≤ 1000) × (m ≤ 32000) × (length (now used) ≡ 15625) × (length (now rows) ≡ bidTable)
+    requires { ⌜ (k ≤ 1000) × Room (now text) at m (now windows) × (length (now used) ≡ 15625) × (length (now rows) ≡ bidTable)
         × (at < length (now text))
         × Ended (now text) ⌝ }
     ensures { λ r. ⌜ Taken (lineOf (firstLine (drop at (now (text .entry))))) (at + toNext 10 (drop at (now (text .entry))) + 1) tender

@@ -2,9 +2,11 @@
 use mathlib.Core.Path.{_≡_}
 use mathlib.Core.List.{List}
 use mathlib.Core.Option.{Option, none, some}
-use Prim.Native.Nat.{ℕ, _+_, _≤_}
+use Prim.Native.Nat.{ℕ, _+_, _*_, _≤_}
 use lib.ListN.{length, drop}
 use Rattle.tender.specs.declared.Window.{Window}
+use Rattle.tender.specs.Limits.{maxText}
+use Rattle.tender.specs.Tables.{windowTable}
 use Rattle.reader_word.specs.Scan.{toNext}
 use Rattle.reader_word.specs.Front.{Front, got, wrong, onward}
 use Rattle.reader_word.specs.declared.windows.Flaw.{Flaw}
@@ -69,3 +71,7 @@ EndsAfter s at lineIs.Broken = Unit {0}
 EndsAfter s at (lineIs.Tender k w e) = (at + toNext 10 (drop at s) + 1 ≡ e) × (e ≤ length s)
 EndsAfter s at (lineIs.Bid n p c flaw e) = (at + toNext 10 (drop at s) + 1 ≡ e) × (e ≤ length s)
 EndsAfter s at (lineIs.Reserve p e) = (at + toNext 10 (drop at s) + 1 ≡ e) × (e ≤ length s)
+
+-- the table has room for all windows of a text whose bytes before `at` hold m: each takes six bytes at least, as " (0 1)"
+abbrev pub Room : List ℕ → (at m : ℕ) → List ℕ → Type 0
+Room s at m table = (6 * m ≤ at) × (length s ≤ maxText) × (length table ≡ windowTable)

@@ -1,11 +1,9 @@
 -- What a reader that walks a line holds of a bid's windows: their number, what is wrong with them, and the table with each of them in
 -- its row.
-use Prim.Native.Nat.{ℕ, _+_, _*_, _/_}
+use Prim.Native.Nat.{ℕ, _+_, _*_}
 use mathlib.Core.List.{List, [], _∷_}
-use mathlib.Core.Bool.{cond}
 use mathlib.Core.Option.{Option, none, some}
 use lib.ListN.{length, set}
-use lib.Dec.{ltb}
 use Rattle.tender.specs.declared.Window.{Window}
 use Rattle.tender.specs.Tables.{windowWidth}
 use Rattle.reader_line.specs.Line.{TenderLine, Line, tender, bid, reserve}
@@ -13,10 +11,9 @@ use Rattle.reader_word.specs.Flaws.{flawOf, worst}
 use Rattle.reader_word.specs.declared.windows.Flaw.{Flaw}
 use Rattle.reader_word.specs.declared.windows.Flaw.the-variants.{Sound}
 
--- the window in row m, where the table has that row
+-- the window in row m
 unfoldable pub putWindow : List ℕ → ℕ → Window → List ℕ
-putWindow table m w =
-    cond (ltb m (length table / windowWidth)) (set (set table (windowWidth * m) (w .start)) (windowWidth * m + 1) (w .end)) table
+putWindow table m w = set (set table (windowWidth * m) (w .start)) (windowWidth * m + 1) (w .end)
 
 -- the windows in the rows from m on
 unfoldable pub putWindows : List ℕ → ℕ → List Window → List ℕ

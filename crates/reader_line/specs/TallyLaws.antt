@@ -1,11 +1,9 @@
 -- For a reader that walks a bid's windows and holds only their number and what is wrong with them. Assumes nothing.
 use mathlib.Core.Path.{_≡_, refl, _∙_}
 use mathlib.Core.List.{List, [], _∷_}
-use mathlib.Core.Bool.{Bool, true, false, cond}
-use Prim.Native.Nat.{ℕ, _+_, _*_, _/_, _≤_, _<_}
+use Prim.Native.Nat.{ℕ, _+_, _*_, _≤_, _<_}
 use native.Mathlib.Omega.{arith}
 use lib.ListN.{length, take, drop, getD, set}
-use lib.Dec.{ltb}
 use lib.Seq.{take-set-le}
 use Rattle.tender.specs.declared.Window.{Window}
 use Rattle.tender.specs.Tables.{windowWidth}
@@ -20,17 +18,13 @@ use Rattle.reader_line.specs.EndingLaws.{fork-here, fork-other, ending-w
 use Rattle.reader_line.specs.Tally.{putWindow, tally}
 use Rattle.reader_line.specs.Answer.{talliedFront}
 
--- a window in row k or in none leaves the rows before m
+-- a window in row k leaves the rows before m
 pub rows-before : (table : List ℕ) (m k : ℕ) (w : Window) → m ≤ k
     → take (windowWidth * m) (putWindow table k w) ≡ take (windowWidth * m) table
 unfolding putWindow
-rows-before table m k w l = go (ltb k (length table / windowWidth))
-  where
-    go : (t : Bool) → take (windowWidth * m) (cond t (set (set table (windowWidth * k) (w .start)) (windowWidth * k + 1) (w .end)) table)
-        ≡ take (windowWidth * m) table
-    go true = take-set-le (windowWidth * m) (set table (windowWidth * k) (w .start)) (windowWidth * k + 1) (w .end) (omega arith)
-        ∙ take-set-le (windowWidth * m) table (windowWidth * k) (w .start) (omega arith)
-    go false = refl
+rows-before table m k w l =
+    take-set-le (windowWidth * m) (set table (windowWidth * k) (w .start)) (windowWidth * k + 1) (w .end) (omega arith)
+    ∙ take-set-le (windowWidth * m) table (windowWidth * k) (w .start) (omega arith)
 
 module _ (m n : ℕ) (flaw : Flaw) (table : List ℕ) (w : Window) where
   -- one window and more

@@ -1,7 +1,7 @@
 // One line of a bid text, read from a place on into a value before it is judged. The text's last byte is 10.
 ghost use mathlib.Core.Path.{_≡_};
 ghost use mathlib.Core.List.{List};
-ghost use Prim.Native.Nat.{ℕ, _*_, _<_, _≤_};
+ghost use Prim.Native.Nat.{ℕ, _+_, _*_, _<_, _≤_};
 ghost use lib.ListN.{take, drop, length};
 ghost use Rattle.tender.specs.Tables.{windowWidth};
 ghost use Rattle.reader_word.specs.Scan.{Ended};
@@ -10,7 +10,7 @@ ghost use Rattle.reader_line.specs.LineFront.{firstLine, windowsFront, b
 ghost use Rattle.reader_line.specs.Tally.{putWindow, noted};
 ghost use Rattle.reader_word.specs.declared.windows.Flaw.the-variants.{Sound};
 ghost use Rattle.reader_line.specs.Answer.{talliedFront, toldTally, tallyPlace, notedFront, toldFront, linePlace, toldLine};
-ghost use Rattle.reader_line.specs.Answer.{EndsAfter, headLine};
+ghost use Rattle.reader_line.specs.Answer.{EndsAfter, headLine, Room};
 use reader_word::windows::Ends;
 use reader_word::windows::Flaw;
 use reader_word::windows::read_span;
@@ -23,15 +23,14 @@ use reader_word::words::stands;
 use tender::Kind;
 use tender::Span;
 
-// The window in row m, where the table has that row.
+// The window in row m, which the table has.
 fn put_window(windows: &mut [u64], m: usize, a: u64, z: u64)
+    requires { ⌜ windowWidth * m + 1 < length (now windows) ⌝ }
     ensures { λ r. ⌜ now (windows .exit) ≡ putWindow (now (windows .entry)) m (record { start = a; end = z }) ⌝ }
 {
-    if m < windows.len() / tender::WINDOW_WIDTH {
-        let at = tender::WINDOW_WIDTH * m;
-        windows[at] = a;
-        windows[at + 1] = z;
-    }
+    let at = tender::WINDOW_WIDTH * m;
+    windows[at] = a;
+    windows[at + 1] = z;
 }
 
 // How many windows, what is wrong with them, and the place past their line.
@@ -42,7 +41,7 @@ pub(crate) enum Tally {
 
 // The windows from `at` on, up to the line's end. They are put into the rows from m on; the rows before m stay, whatever the line is.
 fn read_windows(s: &[u8], at: usize, windows: &mut [u64], m: usize) -> Tally
-    requires { ⌜ (m ≤ 32000) × ((at < length (now s)) × Ended (now s)) ⌝ }
+    requires { ⌜ Room (now s) at m (now windows) × ((at < length (now s)) × Ended (now s)) ⌝ }
     ensures answer { λ r. ⌜ toldTally (now (s .entry)) r (now (windows .exit))
         ≡ talliedFront m 0 Sound (now (windows .entry)) (windowsFront (drop at (now (s .entry)))) ⌝ }
     ensures place { λ r. ⌜ tallyPlace r ≤ length (now (s .entry)) ⌝ }
@@ -83,7 +82,7 @@ pub enum Line {
 
 // A bid's line from the bidder on: bidder, price and the windows, which are put into the rows from m on.
 fn read_bid(s: &[u8], at: usize, windows: &mut [u64], m: usize) -> Line
-    requires { ⌜ (m ≤ 32000) × ((at < length (now s)) × Ended (now s)) ⌝ }
+    requires { ⌜ Room (now s) at m (now windows) × ((at < length (now s)) × Ended (now s)) ⌝ }
     ensures answer { λ r. ⌜ toldFront (now (s .entry)) r (now (windows .exit))
         ≡ notedFront m (now (windows .entry)) (bidFront (drop at (now (s .entry)))) ⌝ }
     ensures place { λ r. ⌜ linePlace r ≤ length (now (s .entry)) ⌝ }
@@ -177,7 +176,7 @@ pub fn read_head_line(s: &[u8], at: usize) -> Line
 
 // The line from `at` on. A bid's windows, after "(bid ", are put into the rows from m on; the rows before m stay, whatever the line is.
 pub fn read_line(s: &[u8], at: usize, windows: &mut [u64], m: usize) -> Line
-    requires { ⌜ (m ≤ 32000) × ((at < length (now s)) × Ended (now s)) ⌝ }
+    requires { ⌜ Room (now s) at m (now windows) × ((at < length (now s)) × Ended (now s)) ⌝ }
     ensures answer { λ r. ⌜ toldLine r (now (windows .exit))
         ≡ noted m (now (windows .entry)) (lineOf (firstLine (drop at (now (s .entry))))) ⌝ }
     ensures place { λ r. ⌜ EndsAfter (now (s .entry)) at r ⌝ }

@@ -7,6 +7,8 @@ use native.Mathlib.Omega.{arith}
 use lib.ListN.{length}
 use lib.Dec.{eqb, ltb}
 use borrow.Author.Tests.{eqb-true}
+use Rattle.tender.specs.declared.Span.{Span}
+use Rattle.tender.specs.declared.Window.{Window}
 use Rattle.tender.specs.Limits.{within}
 use Rattle.reader_word.specs.Front.{Front, got, wrong, onward, past, digitsFront, numberFront, spanFront, windowFront}
 
@@ -81,3 +83,34 @@ window-shorter s =
     let n = length s in
     past-shorter n 32 s _ (omega arith) (λ r h. past-shorter n 40 r _ (omega arith)
     (λ t k. onward-shorter n (spanFront t) _ (shorter-less (length t) n (spanFront t) (omega arith) (span-shorter t)) (λ w u l. l)))
+
+-- a number has a byte at least, and a window six
+
+number-took : (s : List ℕ) (v : ℕ) (r : List ℕ) → numberFront s ≡ got v r → length r + 1 ≤ length s
+number-took s v r e = let h : Shorter (length s) (got v r) = rw e at (number-shorter s) in omega arith
+
+span-took : (s : List ℕ) (w : Span) (t : List ℕ) → spanFront s ≡ got w t → length t + 4 ≤ length s
+unfolding spanFront
+span-took s w t h =
+    let a = onward-got (numberFront s) _ w t h in
+    let b = past-got 32 (a .1) _ w t (a .3) in
+    let c = onward-got (numberFront (b .0)) _ w t (b .2) in
+    let d = past-got 41 (c .1) _ w t (c .3) in
+    let e : d .0 ≡ t = cc (d .2) in
+    omega (
+      arith,
+      number-took s (a .0) (a .1) (a .2),
+      ap length (b .1),
+      number-took (b .0) (c .0) (c .1) (c .2),
+      ap length (d .1),
+      ap length e,
+    )
+
+pub window-took : (s : List ℕ) (w : Window) (t : List ℕ) → windowFront s ≡ got w t → length t + 6 ≤ length s
+unfolding windowFront
+window-took s w t h =
+    let a = past-got 32 s _ w t h in
+    let b = past-got 40 (a .0) _ w t (a .2) in
+    let c = onward-got (spanFront (b .0)) _ w t (b .2) in
+    let e : c .1 ≡ t = cc (c .3) in
+    omega (arith, ap length (a .1), ap length (b .1), span-took (b .0) (c .0) (c .1) (c .2), ap length e)

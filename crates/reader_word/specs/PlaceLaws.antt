@@ -4,10 +4,11 @@ use mathlib.Core.Path.{_≡_, refl, _∙_}
 use mathlib.Core.List.{List}
 use mathlib.Core.Bool.{Bool, true, false}
 use native.Mathlib.Omega.{arith}
-use lib.ListN.{length, drop, getD}
+use lib.ListN.{length, drop, getD, length-drop}
 use lib.Dec.{ltb}
 use borrow.Author.Tests.{le-leb, lt-leb, eq-eqb, ne-eqb, lt-ltb, le-ltb, ltb-true, ltb-false}
 use Rattle.tender.specs.declared.Span.{Span}
+use Rattle.tender.specs.declared.Window.{Window}
 use Rattle.tender.specs.Limits.{within, asWindow}
 use Rattle.reader_word.specs.Scan.{Ended}
 use Rattle.reader_word.specs.ScanLaws.{drop-next}
@@ -17,6 +18,7 @@ use Rattle.reader_word.specs.declared.windows.Ends.{Ends}
 use Rattle.reader_word.specs.declared.windows.Ends.the-variants.{Of, Wrong}
 use Rattle.reader_word.specs.Answer.{ReadAt, NumberIs, SpanIs, WindowIs}
 use Rattle.reader_word.specs.Front.{Front, got, wrong, onward, past, digitsFront, numberFront, spanFront, windowFront}
+use Rattle.reader_word.specs.FrontLaws.{window-took}
 
 -- a byte other than 10 is not the last
 pub not-last : (s : List ℕ) (i : ℕ) → Ended s → i < length s → (getD s i 0 ≡ 10 → ⊥) → i + 1 < length s
@@ -141,3 +143,8 @@ module _ (s : List ℕ) (i : ℕ) (h : i < length s) where
         let f : windowFront (drop i s) ≡ onward (spanFront (drop (i + 2) s)) (λ w u. got (asWindow w) u) =
         past-at 32 s i _ h b ∙ past-at 40 s (i + 1) _ k d ∙ rw e in
         rw f (onward-is (spanFront (drop (i + 2) s)) s i r x)
+
+-- the place past a window is six further at least
+pub window-further : (s : List ℕ) (i j : ℕ) (w : Window) (q : ℕ) → ReadAt (windowFront (drop i s)) s j w q → i + 6 ≤ q
+window-further s i j w q x =
+    omega (arith, window-took (drop i s) w (drop q s) (x .is), length-drop i s, length-drop q s, x .inside)

@@ -33,9 +33,10 @@ take-line-requires : tie.Need-take-line-requires Inv-loop μ-loop
 take-line-requires c κs =
     let c4 = c .before .before .before .before in
     let c9 = c4 .before .before .before .before .before in
-    let w = c4 .loop .inv .0 in (
+    let inv = c4 .loop .inv in
+    let w = inv .0 in (
       w .few-bids,
-      omega (arith, w .few-windows, w .few-bids),
+      (inv .5, c9 .pre .2, w .windows-long),
       sym (members-length _) ∙ w .used-long,
       w .rows-long,
       c .before .before .before .loop-test .taken,

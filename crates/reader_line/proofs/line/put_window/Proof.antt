@@ -1,7 +1,5 @@
--- `line::put_window` meets its contract: it stores where the table has the row. Assumes nothing.
-use native.Mathlib.Omega.{arith}
-use lib.ListN.{length-set}
-use borrow.Author.Tests.{lt-ltb, le-ltb}
+-- `line::put_window` meets its contract: the table has the row. Assumes nothing.
+use mathlib.Core.Path.{refl}
 use Rattle.reader_line.specs.Tally.{putWindow}
 use borrow.Author.Needs.{needs}
 use Rattle.reader_line.proofs.line.put_window.Statement.{statement}
@@ -23,18 +21,14 @@ mul-windows-2 : tie.Need-mul-windows-2
 mul-windows-2 c = search needs
 
 slice-write-windows-2 : tie.Need-slice-write-windows-2
-slice-write-windows-2 c = simp length-set (omega arith)
+slice-write-windows-2 c = search needs
 
 same-length : tie.Need-same-length
 same-length c = search needs
 
 returns : tie.Need-returns
 unfolding putWindow
-returns c = simp (lt-ltb _ _ (c .if1 .taken))
-
-returns-2 : tie.Need-returns-2
-unfolding putWindow
-returns-2 c = simp (le-ltb _ _ (c .if1 .left))
+returns c = refl
 
 pub put-window-spec : {M : Type 1} → statement M
 put-window-spec =
@@ -47,5 +41,4 @@ put-window-spec =
     mul-windows-2
     slice-write-windows-2
     same-length
-    returns
-    returns-2)
+    returns)

@@ -81,10 +81,12 @@ returns-3 c =
 read-windows-requires : tie.Need-read-windows-requires
 read-windows-requires c κs =
     let c4 = c .before .before .before .before in
-    let start = c4 .before .before .before .before .before .before .before .before .before in
-    let at = start .args .at in
+    let c8 = c4 .before .before .before .before in
+    let c10 = c8 .before .before in
+    let pre = c10 .before .before .before .pre in
+    let x = rw (c8 .bidder .given .1) at (c10 .read-number .ensures) in
     let z = rw (c .before .before .price .given .1) at (c4 .read-price .ensures) in
-    (start .pre .0, (z .inside, start .pre .1 .1))
+    ((omega (arith, pre .0 .0, x .after, z .after), pre .0 .1, pre .0 .2), (z .inside, pre .1 .1))
 
 enum-known-count : tie.Need-enum-known-count
 enum-known-count c = search needs

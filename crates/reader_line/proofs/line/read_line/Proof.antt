@@ -53,8 +53,10 @@ add-read-bid c = search needs
 
 read-bid-requires : tie.Need-read-bid-requires
 read-bid-requires c κs =
-    let start = c .before .before .before .before .before .before .before .before in
-    (start .pre .0, (omega (arith, c .before .before .stands .ensures .1 (c .before .if2 .taken)), start .pre .1 .1))
+    let pre = c .before .before .before .before .before .before .before .before .pre in (
+      (omega (arith, pre .0 .0), pre .0 .1, pre .0 .2),
+      (omega (arith, c .before .before .stands .ensures .1 (c .before .if2 .taken)), pre .1 .1),
+    )
 
 same-length : tie.Need-same-length
 same-length c = search needs

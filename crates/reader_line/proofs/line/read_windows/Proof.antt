@@ -5,7 +5,7 @@ use native.Mathlib.Omega.{arith}
 use borrow.Author.Needs.{needs}
 use lib.ListN.{length, take, drop}
 use Rattle.tender.specs.Tables.{windowWidth}
-use Rattle.reader_word.specs.PlaceLaws.{not-last}
+use Rattle.reader_word.specs.PlaceLaws.{not-last, window-further}
 use Rattle.reader_word.specs.declared.windows.Flaw.the-variants.{Sound}
 use Rattle.reader_line.specs.LineFront.{windowsFront}
 use Rattle.reader_line.specs.Answer.{talliedFront}
@@ -15,14 +15,16 @@ use Rattle.reader_line.proofs.line.read_windows.Tie as tie
 
 abbrev Inv-loop : tie.InvT-loop
 Inv-loop s at windows₀ m n₀ flaw₀ p₀ windows n flaw p =
-    (talliedFront m n flaw windows (windowsFront (drop p s)) ≡ talliedFront m 0 Sound windows₀ (windowsFront (drop at s))) × (n ≤ p)
+    (talliedFront m n flaw windows (windowsFront (drop p s)) ≡ talliedFront m 0 Sound windows₀ (windowsFront (drop at s))) × (6 * (m + n) ≤ p)
     × (p < length s) × (length windows ≡ length windows₀) × (take (windowWidth * m) windows ≡ take (windowWidth * m) windows₀)
 
 abbrev μ-loop : tie.MeasureT-loop
 μ-loop s at windows₀ m n₀ flaw₀ p₀ windows n flaw p = length s - p
 
 loop-holds : tie.Need-loop-holds Inv-loop μ-loop
-loop-holds c = (refl, omega arith, c .before .before .pre .1 .0, refl, refl)
+loop-holds c =
+    let pre = c .before .before .pre in
+    (refl, omega (arith, pre .0 .0), pre .1 .0, refl, refl)
 
 read-window-requires : tie.Need-read-window-requires Inv-loop μ-loop
 read-window-requires c κs = (c .loop .inv .2, c .before .before .before .pre .1 .1)
@@ -153,7 +155,7 @@ loop-again c =
     let x = rw (c8 .a .given .1) at (c10 .read-window .ensures) in (
       rw (c .before .before .worse .ensures, c5 .put-window .ensures)
           (sym (tally-more s (start .args .m) (l .n) (l .flaw) (l .windows) (l .p) _ q x (c .if1 .left)) ∙ l .inv .0),
-      omega (arith, x .after, l .inv .1),
+      omega (arith, window-further s (l .p) (l .p + 2) _ q x, l .inv .1),
       x .inside,
       c5 .put-window .kept .0 ∙ l .inv .3,
       ap (take (windowWidth * start .args .m)) (c5 .put-window .ensures)
