@@ -12,7 +12,7 @@ use Rattle.tender.specs.declared.Refusal.{Refusal}
 use Rattle.reader_text.specs.Read.{accepted, readText}
 use Rattle.reader_text.specs.Read as reading
 use Rattle.reader_text.specs.RulesLaws.{rules-law}
-use Rattle.reader.specs.ReadInLaws.{ReadIn}
+use Rattle.reader_fill.specs.ReadInLaws.{ReadIn}
 use Rattle.tender.specs.declared.Answer.{Answer}
 use Rattle.tender.specs.declared.Answer.the-variants.{Awarded, Refused}
 use Rattle.award_check.specs.Faults.{faultOf}

@@ -13,7 +13,7 @@ ghost use Rattle.spelling.specs.Written.{Written};
 ghost use Rattle.listing.specs.Lines.{awardLine, winLines, lastLines};
 ghost use Rattle.listing.specs.List.{Listed};
 ghost use Rattle.listing.specs.Made.{Awarded·written, Made};
-use reader::Reading;
+use reader_fill::Filling;
 use tender::Answer;
 use tender::Tender;
 use tender::Totals;
@@ -62,13 +62,13 @@ fn make(text: &[u8], list: &mut [u8]) -> usize
 {
     let mut bids = [1u64; tender::BID_TABLE];
     let mut windows = [1u64; tender::WINDOW_TABLE];
-    match reader::fill(text, &mut bids, &mut windows) {
-        Reading::Accepted {
+    match reader_fill::fill(text, &mut bids, &mut windows) {
+        Filling::Rows {
             tender,
             bids: n,
             windows: _,
         } => put_award(list, tender, n, &bids, &windows),
-        Reading::Refused(r) => spelling::put_refused(list, r),
+        Filling::Refused(r) => spelling::put_refused(list, r),
     }
 }
 

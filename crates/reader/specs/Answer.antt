@@ -1,8 +1,7 @@
--- What `read` and `fill` answer and leave in the tables.
-use mathlib.Core.Path.{_≡_}
+-- What `read` answers and leaves in the tables.
 use mathlib.Core.List.{List, _++_}
 use Prim.Native.Nat.{ℕ, _*_}
-use lib.ListN.{length, take, drop}
+use lib.ListN.{length, drop}
 use Rattle.tender.specs.Tables.{flatRows, flatWindows, bidWidth, windowWidth}
 use Rattle.reader_text.specs.Read.{ReadOutcome, accepted, refused}
 use Rattle.reader.specs.declared.Reading.{Reading}
@@ -23,9 +22,3 @@ unfoldable pub windowsAfter : List ℕ → ReadOutcome → List ℕ
 unfolding flatWindows
 windowsAfter old (accepted t rows windows) = flatWindows windows ++ drop (windowWidth * length windows) old
 windowsAfter old (refused r) = old
-
--- the first rows of the two tables are those of an accepted text; of a refused one nothing is said
-abbrev pub Holds : ReadOutcome → (bids windows : List ℕ) → Type 0
-Holds (accepted t rows spans) bids windows =
-    (take (bidWidth * length rows) bids ≡ flatRows rows) × (take (windowWidth * length spans) windows ≡ flatWindows spans)
-Holds (refused r) bids windows = Unit {0}

@@ -1,122 +1,19 @@
 // The bid reader: bid text to a tender, a table of bids and a table of windows. `reader_text` Read says what a text gives;
-// a text is read whole or refused, and a refused text leaves the tables that `read` is lent as they were.
+// a text is read whole or refused, and a refused text leaves both tables as they were.
 ghost use mathlib.Core.Path.{_≡_};
-ghost use mathlib.Core.List.{_++_};
-ghost use Prim.Native.Nat.{_/_, _≤_};
-ghost use lib.ListN.{length, drop, replicate};
-ghost use Rattle.tender.specs.Tables.{bidWidth, windowWidth, bidTable, windowTable};
-ghost use Rattle.reader_word.specs.Words.{cut};
-ghost use Rattle.reader_word.specs.Scan.{Ended};
-ghost use Rattle.reader_line.specs.Line.{linesOf};
-ghost use Rattle.reader_text.specs.Read.{tenderWith, reserveIn, headOf, readLines, readText, readInto};
-ghost use Rattle.reader.specs.Answer.{readAnswer, bidsAfter, windowsAfter, Holds};
-ghost use Rattle.reader.specs.Opened.{Opened, NextIs};
-ghost use Rattle.reader.specs.Rest.{LinesEnd, restLine};
+ghost use Prim.Native.Nat.{_/_};
+ghost use lib.ListN.{length};
+ghost use Rattle.tender.specs.Tables.{bidWidth, windowWidth};
+ghost use Rattle.reader_text.specs.Read.{readInto};
+ghost use Rattle.reader.specs.Answer.{readAnswer, bidsAfter, windowsAfter};
 
 mod rows;
 
-use reader_bids::Bids;
-use reader_bids::read_bids;
-use reader_line::line::Line;
-use reader_line::line::read_head_line;
-use reader_word::windows::Flaw;
-use reader_word::windows::flaw_in;
+use reader_fill::Filling;
+use reader_fill::fill;
 use rows::copy;
-use tender::Kind;
 use tender::Refusal;
-use tender::Reserve;
-use tender::Span;
 use tender::Tender;
-
-pub(crate) enum Head {
-    Tender(Tender, usize, u64),
-    Refused(Refusal),
-}
-
-// The tender that the lines of a head give.
-fn tender_with(kind: Kind, window: Span, reserve: Reserve) -> Tender
-    ensures { λ r. ⌜ r ≡ tenderWith (record { kind = kind; window = window }) reserve ⌝ }
-{
-    Tender {
-        kind,
-        window,
-        reserve,
-    }
-}
-
-pub(crate) enum Next {
-    Reserve(u64, usize),
-    Other,
-}
-
-// Whether the reserve's line begins at `at`: its price, and where the next line begins.
-fn next_reserve(text: &[u8], at: usize) -> Next
-    requires { ⌜ (at ≤ length (now text)) × Ended (now text) ⌝ }
-    ensures { λ r. ⌜ NextIs (now (text .entry)) at r ⌝ }
-{
-    if text.len() <= at {
-        return Next::Other;
-    }
-    match read_head_line(text, at) {
-        Line::Reserve(price, next) => Next::Reserve(price, next),
-        Line::Tender(_, _, _) => Next::Other,
-        Line::Bid(_, _, _, _, _) => Next::Other,
-        Line::Broken => Next::Other,
-    }
-}
-
-// The head from its line of this number on, which begins at `at`: the reserve's line, where it stands there. Any other line is
-// left to the bids, which read it again.
-fn reserve_in(text: &[u8], at: usize, line: u64, kind: Kind, window: Span) -> Head
-    requires { ⌜ (at ≤ length (now text)) × (line ≤ 65536) × Ended (now text) ⌝ }
-    ensures { λ r. ⌜ Opened (now (text .entry)) (reserveIn (record { kind = kind; window = window }) line
-        (linesOf (cut 10 (drop at (now (text .entry)))))) r ⌝ }
-{
-    match next_reserve(text, at) {
-        Next::Reserve(price, after) => {
-            if tender::MAX_PRICE < price {
-                return Head::Refused(Refusal::OutsideLimits { line });
-            }
-            Head::Tender(
-                tender_with(kind, window, Reserve::Price(price)),
-                after,
-                line + 1,
-            )
-        }
-        Next::Other => Head::Tender(tender_with(kind, window, Reserve::Absent), at, line),
-    }
-}
-
-// The lines before the bids: the tender, where the bids begin, and the number of their first line.
-fn read_head(text: &[u8]) -> Head
-    requires { ⌜ Ended (now text) ⌝ }
-    ensures { λ r. ⌜ Opened (now (text .entry)) (headOf (linesOf (cut 10 (now (text .entry))))) r ⌝ }
-{
-    match read_head_line(text, 0) {
-        Line::Tender(kind, w, next) => match flaw_in(w.start, w.end) {
-            Flaw::Empty => Head::Refused(Refusal::EmptyWindow { line: 1 }),
-            Flaw::Late => Head::Refused(Refusal::LateWindow { line: 1 }),
-            Flaw::Sound => reserve_in(text, next, 2, kind, w),
-        },
-        Line::Bid(_, _, _, _, _) => Head::Refused(Refusal::BadForm { line: 1 }),
-        Line::Reserve(_, _) => Head::Refused(Refusal::BadForm { line: 1 }),
-        Line::Broken => Head::Refused(Refusal::BadForm { line: 1 }),
-    }
-}
-
-// The place past the last byte 10, and 0 where there is none.
-fn last_line(text: &[u8]) -> usize
-    ensures { λ r. ⌜ LinesEnd (now (text .entry)) r ⌝ }
-{
-    let mut e = text.len();
-    while 0 < e {
-        if text[e - 1] == b'\n' {
-            return e;
-        }
-        e -= 1;
-    }
-    0
-}
 
 pub enum Reading {
     Accepted {
@@ -125,54 +22,6 @@ pub enum Reading {
         windows: usize,
     },
     Refused(Refusal),
-}
-
-// Reads lines that all end with byte 10 into the first rows of two tables that have room for any text. Where there is a rest, bytes that
-// no byte 10 ends follow the lines: they are a line of no form.
-fn read_lines(text: &[u8], rest: bool, rows: &mut [u64], windows: &mut [u64]) -> Reading
-    requires { ⌜ Ended (now text) × (length (now text) ≤ 65536) × (length (now rows) ≡ bidTable)
-        × (length (now windows) ≡ windowTable) ⌝ }
-    ensures answer { λ r. ⌜ r ≡ readAnswer (readLines (linesOf (cut 10 (now (text .entry))) ++ restLine rest)) ⌝ }
-    ensures tables { λ r. ⌜ Holds (readLines (linesOf (cut 10 (now (text .entry))) ++ restLine rest)) (now (rows .exit))
-        (now (windows .exit)) ⌝ }
-{
-    match read_head(text) {
-        Head::Tender(t, at, from) => {
-            let mut used = [1u64; numbers::WORDS];
-            match read_bids(text, at, from, t, &mut used, rows, windows) {
-                Bids::Filled(k, m) => {
-                    if rest {
-                        return Reading::Refused(Refusal::BadForm {
-                            line: from + k as u64,
-                        });
-                    }
-                    Reading::Accepted {
-                        tender: t,
-                        bids: k,
-                        windows: m,
-                    }
-                }
-                Bids::Refused(r) => Reading::Refused(r),
-            }
-        }
-        Head::Refused(r) => Reading::Refused(r),
-    }
-}
-
-// Reads the text into the first rows of two tables that have room for any text. A refused text may leave anything in them.
-pub fn fill(text: &[u8], rows: &mut [u64], windows: &mut [u64]) -> Reading
-    requires { ⌜ (length (now rows) ≡ bidTable) × (length (now windows) ≡ windowTable) ⌝ }
-    ensures answer { λ r. ⌜ r ≡ readAnswer (readText (now (text .entry))) ⌝ }
-    ensures tables { λ r. ⌜ Holds (readText (now (text .entry))) (now (rows .exit)) (now (windows .exit)) ⌝ }
-{
-    if tender::MAX_TEXT < text.len() {
-        return Reading::Refused(Refusal::TextTooLong);
-    }
-    let end = last_line(text);
-    if end == 0 {
-        return Reading::Refused(Refusal::BadForm { line: 1 });
-    }
-    read_lines(&text[..end], end < text.len(), rows, windows)
 }
 
 // Reads the text into the first rows of the two tables; places past them stay.
@@ -187,7 +36,7 @@ pub fn read(text: &[u8], bids: &mut [u64], windows: &mut [u64]) -> Reading
     let mut rows = [1u64; tender::BID_TABLE];
     let mut spans = [1u64; tender::WINDOW_TABLE];
     match fill(text, &mut rows, &mut spans) {
-        Reading::Accepted {
+        Filling::Rows {
             tender,
             bids: k,
             windows: m,
@@ -206,6 +55,6 @@ pub fn read(text: &[u8], bids: &mut [u64], windows: &mut [u64]) -> Reading
                 windows: m,
             }
         }
-        Reading::Refused(r) => Reading::Refused(r),
+        Filling::Refused(r) => Reading::Refused(r),
     }
 }

@@ -18,7 +18,7 @@ use Rattle.spelling.specs.Delivered.{Delivered}
 use Rattle.spelling.specs.DeliveredLaws.{delivered-none, delivered-all}
 use Rattle.reader_text.specs.Read.{accepted, refused, readText}
 use Rattle.reader_text.specs.SizeLaws.{short-text}
-use Rattle.reader.specs.ReadInLaws.{ReadIn}
+use Rattle.reader_fill.specs.ReadInLaws.{ReadIn}
 use Rattle.writer.specs.declared.Writing.{Writing}
 use Rattle.writer.specs.declared.Writing.the-variants as writing
 use Rattle.writer.specs.Canonical.{canonical, WriteOutcome, spelt, unspelt, writeInto, writeAnswer, bufferAfter, Writes}

@@ -3,7 +3,7 @@
 ghost use Rattle.spelling.specs.Lines.{refusedLine};
 ghost use Rattle.spelling.specs.Delivered.{Delivered};
 ghost use Rattle.rewrite.specs.Rewritten.{Delivers, Rewritten};
-use reader::Reading;
+use reader_fill::Filling;
 use tender::Refusal;
 use tender::Tender;
 use writer::Writing;
@@ -44,12 +44,12 @@ pub extern "C" fn tender_rewrite(text: &[u8], out: &mut [u8]) -> usize
 {
     let mut bids = [1u64; tender::BID_TABLE];
     let mut windows = [1u64; tender::WINDOW_TABLE];
-    match reader::fill(text, &mut bids, &mut windows) {
-        Reading::Accepted {
+    match reader_fill::fill(text, &mut bids, &mut windows) {
+        Filling::Rows {
             tender,
             bids: n,
             windows: _,
         } => deliver_text(tender, n, &bids, &windows, out),
-        Reading::Refused(r) => deliver_refusal(r, out),
+        Filling::Refused(r) => deliver_refusal(r, out),
     }
 }

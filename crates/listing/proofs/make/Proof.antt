@@ -1,7 +1,7 @@
 -- The tables suffice, so the text is read or refused as its definition says; then its award or its refusal is written. Assumes nothing.
 use native.Mathlib.Omega.{arith}
-use Rattle.reader.specs.WholeLaws.{refused-is}
-use Rattle.reader.specs.ReadInLaws.{filled-read, few-read}
+use Rattle.reader_fill.specs.FillLaws.{refused-is}
+use Rattle.reader_fill.specs.ReadInLaws.{filled-read, few-read}
 use Rattle.listing.specs.MakingLaws.{read-sound, made-award, made-refusal}
 use borrow.Author.Needs.{needs}
 use Rattle.listing.proofs.make.Statement.{statement}
@@ -10,7 +10,7 @@ use Rattle.listing.proofs.make.Reads as reads
 use Rattle.listing.proofs.make.Lts as lts
 use Rattle.listing.proofs.put_award.Reads as put-award-reads
 use Rattle.spelling.proofs.put_refused.Reads as put-refused-reads
-use Rattle.reader.proofs.fill.Reads as fill-reads
+use Rattle.reader_fill.proofs.fill.Reads as fill-reads
 
 slice-aggregate-fill : tie.Need-slice-aggregate-fill
 slice-aggregate-fill c = search needs

@@ -5,8 +5,8 @@ use mathlib.Core.Path.{_∙_}
 use native.Mathlib.Omega.{arith}
 use lib.ListN.{length-replicate}
 use Rattle.tender.specs.Tables.{bidTable, windowTable}
-use Rattle.reader.specs.WholeLaws.{filled-is, refused-is, answer-refused, text-refused, few-rows, few-windows, bids-short}
-use Rattle.reader.specs.WholeLaws.{windows-short, answer-accepted}
+use Rattle.reader_fill.specs.FillLaws.{filled-is, refused-is, few-rows, few-windows}
+use Rattle.reader.specs.WholeLaws.{answer-refused, text-refused, bids-short, windows-short, answer-accepted}
 use borrow.Author.Needs.{needs}
 use Rattle.reader.proofs.read.Statement.{statement}
 use Rattle.reader.proofs.read.Tie as tie

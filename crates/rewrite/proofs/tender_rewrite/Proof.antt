@@ -1,13 +1,13 @@
 -- What was read is written; a refusal's line stands for a text that cannot be read. Assumes nothing.
-use Rattle.reader.specs.WholeLaws.{refused-is}
-use Rattle.reader.specs.ReadInLaws.{filled-read}
+use Rattle.reader_fill.specs.FillLaws.{refused-is}
+use Rattle.reader_fill.specs.ReadInLaws.{filled-read}
 use Rattle.rewrite.specs.DeliverLaws.{rewritten-text, rewritten-refusal}
 use borrow.Author.Needs.{needs}
 use Rattle.rewrite.proofs.tender_rewrite.Statement.{statement}
 use Rattle.rewrite.proofs.tender_rewrite.Tie as tie
 use Rattle.rewrite.proofs.tender_rewrite.Reads as reads
 use Rattle.rewrite.proofs.tender_rewrite.Lts as lts
-use Rattle.reader.proofs.fill.Reads as fill-reads
+use Rattle.reader_fill.proofs.fill.Reads as fill-reads
 use Rattle.rewrite.proofs.deliver_refusal.Reads as deliver-refusal-reads
 use Rattle.rewrite.proofs.deliver_text.Reads as deliver-text-reads
 

@@ -2,13 +2,13 @@
 use mathlib.Core.Path.{sym, subst, ap, _∙_}
 use native.Mathlib.Omega.{arith}
 use lib.Seq.{length-take-le}
-use Rattle.reader.specs.Answer.{readAnswer, Holds}
-use Rattle.reader.specs.RestLaws.{front-ended, front-length}
-use Rattle.reader.specs.LinesReadLaws.{told-refused}
-use Rattle.reader.specs.WholeLaws.{too-long, no-lines, by-lines}
+use Rattle.reader_fill.specs.Answer.{fillAnswer, Holds}
+use Rattle.reader_fill.specs.RestLaws.{front-ended, front-length}
+use Rattle.reader_fill.specs.LinesReadLaws.{told-refused}
+use Rattle.reader_fill.specs.FillLaws.{too-long, no-lines, by-lines}
 use borrow.Author.Needs.{needs}
-use Rattle.reader.proofs.fill.Statement.{statement}
-use Rattle.reader.proofs.fill.Tie as tie
+use Rattle.reader_fill.proofs.fill.Statement.{statement}
+use Rattle.reader_fill.proofs.fill.Tie as tie
 
 returns : tie.Need-returns
 returns c =
@@ -55,7 +55,7 @@ returns-3 c =
     let c14 = c10 .before .before .before .before in
     let text = c14 .args .text .now in
     let b = by-lines text (c10 .if1 .left) _ (c9 .last-line .ensures) (omega (arith, c8 .if2 .left)) in (
-      c4 .read-lines .ensures .0 ∙ ap readAnswer b,
+      c4 .read-lines .ensures .0 ∙ ap fillAnswer b,
       subst (λ o. Holds o (c4 .read-lines .last .1 .1 .0)
           (c4 .read-lines .last .1 .1 .1 .0)) b (c4 .read-lines .ensures .1),
     )

@@ -16,7 +16,7 @@ use Rattle.reader_line.specs.EndedLaws.{lines-rest, lines-none}
 use Rattle.reader_text.specs.Read.{refused, halted, headOf, readLines}
 use Rattle.reader_text.specs.HeadLaws.{no-line, broken-first, lines-halted}
 use Rattle.tender.specs.declared.Refusal.the-variants.{BadForm}
-use Rattle.reader.specs.Rest.{LinesEnd, restLine}
+use Rattle.reader_fill.specs.Rest.{LinesEnd, restLine}
 
 -- the search from the end
 

@@ -10,9 +10,9 @@ use Rattle.reader_line.specs.Line.{Line, tender, bid, reserve, linesOf}
 use Rattle.reader_line.specs.Tally.{Note, tenderNote, bidNote, reserveNote, noted}
 use Rattle.reader_line.specs.Answer.{headLine}
 use Rattle.reader_text.specs.Read.{Unreserved}
-use Rattle.reader.specs.Opened.{NextIs}
-use Rattle.reader.specs.declared.Next.{Next}
-use Rattle.reader.specs.declared.Next.the-variants as next
+use Rattle.reader_fill.specs.Opened.{NextIs}
+use Rattle.reader_fill.specs.declared.Next.{Next}
+use Rattle.reader_fill.specs.declared.Next.the-variants as next
 
 pub next-none : (text : List ℕ) (at : ℕ) → length text ≤ at → Unreserved (linesOf (cut 10 (drop at text)))
 unfolding linesOf cut

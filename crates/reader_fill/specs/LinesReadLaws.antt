@@ -20,12 +20,12 @@ use Rattle.reader_text.specs.RulesLaws.{rowsFrom-length}
 use Rattle.reader_bids.specs.Steps.{TablesHold, LinesFilled}
 use Rattle.reader_bids.specs.declared.Bids.{Bids}
 use Rattle.reader_bids.specs.declared.Bids.the-variants as bids
-use Rattle.reader.specs.Answer.{readAnswer, Holds}
-use Rattle.reader.specs.Opened.{Begins, Opened}
-use Rattle.reader.specs.Rest.{restLine}
-use Rattle.reader.specs.declared.Head.{Head}
-use Rattle.reader.specs.declared.Head.the-variants as head
-use Rattle.reader.specs.declared.Reading.the-variants as answer
+use Rattle.reader_fill.specs.Answer.{fillAnswer, Holds}
+use Rattle.reader_fill.specs.Opened.{Begins, Opened}
+use Rattle.reader_fill.specs.Rest.{restLine}
+use Rattle.reader_fill.specs.declared.Head.{Head}
+use Rattle.reader_fill.specs.declared.Head.the-variants as head
+use Rattle.reader_fill.specs.declared.Filling.the-variants as answer
 
 -- by the case of an answer
 
@@ -50,7 +50,7 @@ module _ (t : Tender) (from : ℕ) (ls : List (Option Line)) (rows spans : List 
 
 -- a refusal is answered
 pub told-refused : (o : ReadOutcome) (r : Refusal) (rows spans : List ℕ) → o ≡ refused r
-    → (answer.Refused r ≡ readAnswer o) × Holds o rows spans
+    → (answer.Refused r ≡ fillAnswer o) × Holds o rows spans
 told-refused o r rows spans e = rw e (refl, tt)
 
 module _ (ls : List (Option Line)) where
@@ -75,7 +75,7 @@ module _ (ls : List (Option Line)) where
       unfolding restLine tables
       lines-accepted = ap readLines (append-nil ls) ∙ lines-begun ls t from more g ∙ h .faultless (tables t (bidsOf more))
 
-      pub told-accepted : (rest : Bool) → rest ≡ false → (answer.Accepted t k m ≡ readAnswer (readLines (ls ++ restLine rest)))
+      pub told-accepted : (rest : Bool) → rest ≡ false → (answer.Rows t k m ≡ fillAnswer (readLines (ls ++ restLine rest)))
           × Holds (readLines (ls ++ restLine rest)) rows spans
       told-accepted rest q =
           let a : length (rowsFrom 0 (bidsOf more)) ≡ k = rowsFrom-length 0 (bidsOf more) ∙ h .bids in

@@ -7,9 +7,9 @@ use Rattle.reader_word.specs.Words.{cut}
 use Rattle.reader_line.specs.Line.{linesOf}
 use Rattle.reader_text.specs.Read.{begun, reserveIn}
 use Rattle.reader_text.specs.HeadLaws.{reserve-absent, reserve-taken, reserve-high}
-use Rattle.reader.specs.NextLaws.{found-reserve, found-other}
-use Rattle.reader.proofs.reserve_in.Statement.{statement}
-use Rattle.reader.proofs.reserve_in.Tie as tie
+use Rattle.reader_fill.specs.NextLaws.{found-reserve, found-other}
+use Rattle.reader_fill.proofs.reserve_in.Statement.{statement}
+use Rattle.reader_fill.proofs.reserve_in.Tie as tie
 
 next-reserve-requires : tie.Need-next-reserve-requires
 next-reserve-requires c κs = search needs

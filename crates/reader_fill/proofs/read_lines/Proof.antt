@@ -2,11 +2,11 @@
 use mathlib.Core.Path.{refl}
 use native.Mathlib.Omega.{arith}
 use Rattle.reader_text.specs.HeadLaws.{head-short}
-use Rattle.reader.specs.LinesReadLaws.{opened-tender, opened-refused, filled-held, filled-refused, told-refused, told-accepted}
-use Rattle.reader.specs.LinesReadLaws.{head-refused, bids-refused, rest-refused}
+use Rattle.reader_fill.specs.LinesReadLaws.{opened-tender, opened-refused, filled-held, filled-refused, told-refused, told-accepted}
+use Rattle.reader_fill.specs.LinesReadLaws.{head-refused, bids-refused, rest-refused}
 use borrow.Author.Needs.{needs}
-use Rattle.reader.proofs.read_lines.Statement.{statement}
-use Rattle.reader.proofs.read_lines.Tie as tie
+use Rattle.reader_fill.proofs.read_lines.Statement.{statement}
+use Rattle.reader_fill.proofs.read_lines.Tie as tie
 
 read-head-requires : tie.Need-read-head-requires
 read-head-requires c κs = search needs

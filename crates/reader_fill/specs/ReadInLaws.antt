@@ -7,11 +7,11 @@ use lib.ListN.{length, drop, take-append-drop}
 use Rattle.tender.specs.declared.Tender.{Tender}
 use Rattle.tender.specs.declared.Window.{Window}
 use Rattle.tender.specs.Tables.{Row, flatRows, flatWindows, bidWidth, windowWidth}
-use Rattle.reader.specs.declared.Reading.{Reading}
-use Rattle.reader.specs.declared.Reading.the-variants as answer
+use Rattle.reader_fill.specs.declared.Filling.{Filling}
+use Rattle.reader_fill.specs.declared.Filling.the-variants as answer
 use Rattle.reader_text.specs.Read.{accepted, readText}
-use Rattle.reader.specs.Answer.{readAnswer, Holds}
-use Rattle.reader.specs.WholeLaws.{filled-is}
+use Rattle.reader_fill.specs.Answer.{fillAnswer, Holds}
+use Rattle.reader_fill.specs.FillLaws.{filled-is}
 use Rattle.reader_text.specs.CountLaws.{counts-law}
 
 -- what an accepted text left in the tables
@@ -26,8 +26,8 @@ pub record ReadIn (text bids windows : List ℕ) (t : Tender) (n : ℕ) : Type 0
   pub windows-are : windows ≡ flatWindows spans ++ past-spans
 
 -- a reading by `fill`
-pub filled-read : (text : List ℕ) {nb nw : List ℕ} {r : Reading} (t : Tender) (n m : ℕ) → r ≡ readAnswer (readText text)
-    → Holds (readText text) nb nw → r ≡ answer.Accepted t n m → ReadIn text nb nw t n
+pub filled-read : (text : List ℕ) {nb nw : List ℕ} {r : Filling} (t : Tender) (n m : ℕ) → r ≡ fillAnswer (readText text)
+    → Holds (readText text) nb nw → r ≡ answer.Rows t n m → ReadIn text nb nw t n
 filled-read text {nb} {nw} {r} t n m a h e =
     let f = filled-is text t n m a h e in
     record {

@@ -5,10 +5,10 @@ use native.Mathlib.Omega.{arith}
 use Rattle.reader_line.specs.EndedLaws.{lines-on, lines-next}
 use Rattle.reader_line.specs.Answer.{toldLine, EndsAfter}
 use Rattle.reader_text.specs.FaultLaws.{flawFault, tender-told}
-use Rattle.reader.specs.FirstLaws.{is-tender, first-other, first-faulty, first-sound, opened-same}
+use Rattle.reader_fill.specs.FirstLaws.{is-tender, first-other, first-faulty, first-sound, opened-same}
 use borrow.Author.Needs.{needs}
-use Rattle.reader.proofs.read_head.Statement.{statement}
-use Rattle.reader.proofs.read_head.Tie as tie
+use Rattle.reader_fill.proofs.read_head.Statement.{statement}
+use Rattle.reader_fill.proofs.read_head.Tie as tie
 
 read-head-line-requires : tie.Need-read-head-line-requires
 read-head-line-requires c κs = search needs

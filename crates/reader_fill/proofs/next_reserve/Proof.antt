@@ -3,10 +3,10 @@ use mathlib.Core.Path.{sym, subst, ap, _∙_}
 use mathlib.Core.List.{[]}
 use Rattle.reader_line.specs.EndedLaws.{lines-on, lines-next}
 use Rattle.reader_line.specs.Answer.{toldLine, EndsAfter}
-use Rattle.reader.specs.NextLaws.{next-none, next-other, next-reserve}
+use Rattle.reader_fill.specs.NextLaws.{next-none, next-other, next-reserve}
 use borrow.Author.Needs.{needs}
-use Rattle.reader.proofs.next_reserve.Statement.{statement}
-use Rattle.reader.proofs.next_reserve.Tie as tie
+use Rattle.reader_fill.proofs.next_reserve.Statement.{statement}
+use Rattle.reader_fill.proofs.next_reserve.Tie as tie
 
 returns : tie.Need-returns
 returns c = next-none _ _ (c .if1 .taken)

@@ -12,8 +12,8 @@ use Rattle.reader_line.specs.Answer.{headLine}
 use Rattle.reader_text.specs.Read.{tenderFault, halted, reserveIn, headOf}
 use Rattle.reader_text.specs.Read as reading
 use Rattle.reader_text.specs.HeadLaws.{broken-first, bid-first, reserve-first, tender-faulty, tender-faultless}
-use Rattle.reader.specs.Opened.{Opened}
-use Rattle.reader.specs.declared.Head.{Head}
+use Rattle.reader_fill.specs.Opened.{Opened}
+use Rattle.reader_fill.specs.declared.Head.{Head}
 
 pub is-tender : (m : ℕ) (table : List ℕ) (o : Option Line) (t : TenderLine) → some (tenderNote t) ≡ noted m table (headLine o)
     → o ≡ some (tender t)

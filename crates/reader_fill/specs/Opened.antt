@@ -9,10 +9,10 @@ use Rattle.reader_word.specs.Words.{cut}
 use Rattle.reader_line.specs.Line.{reserve, linesOf}
 use Rattle.reader_text.specs.Read.{begun, halted, Unreserved}
 use Rattle.reader_text.specs.Read as reading
-use Rattle.reader.specs.declared.Head.{Head}
-use Rattle.reader.specs.declared.Head.the-variants as head
-use Rattle.reader.specs.declared.Next.{Next}
-use Rattle.reader.specs.declared.Next.the-variants as next
+use Rattle.reader_fill.specs.declared.Head.{Head}
+use Rattle.reader_fill.specs.declared.Head.the-variants as head
+use Rattle.reader_fill.specs.declared.Next.{Next}
+use Rattle.reader_fill.specs.declared.Next.the-variants as next
 
 -- after the head h the bids begin at byte `at`, on line `from`
 pub record Begins (text : List ℕ) (h : reading.Head) (t : Tender) (at from : ℕ) : Type 0 where

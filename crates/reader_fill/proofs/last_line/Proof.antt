@@ -5,10 +5,10 @@ use mathlib.Core.Bool.{false}
 use native.Mathlib.Omega.{arith}
 use lib.ListN.{length, drop}
 use Rattle.reader_word.specs.Words.{among}
-use Rattle.reader.specs.RestLaws.{none-yet, none-here}
+use Rattle.reader_fill.specs.RestLaws.{none-yet, none-here}
 use borrow.Author.Needs.{needs}
-use Rattle.reader.proofs.last_line.Statement.{statement}
-use Rattle.reader.proofs.last_line.Tie as tie
+use Rattle.reader_fill.proofs.last_line.Statement.{statement}
+use Rattle.reader_fill.proofs.last_line.Tie as tie
 
 abbrev Inv-loop : tie.InvT-loop
 Inv-loop text e₀ e = (e ≤ length text) × (among 10 (drop e text) ≡ false)
