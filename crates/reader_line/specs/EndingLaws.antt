@@ -4,21 +4,11 @@ use mathlib.Core.List.{List}
 use Prim.Native.Nat.{ℕ, _+_, _<_}
 use native.Mathlib.Omega.{arith}
 use lib.ListN.{length, drop, getD}
-use borrow.Author.Tests.{eq-eqb, ne-eqb}
-use Rattle.reader_word.specs.ScanLaws.{drop-next}
-use Rattle.reader_word.specs.Front.{Front, got, wrong}
+use Rattle.reader_word.specs.Front.{got, wrong}
 use Rattle.reader_word.specs.PlaceLaws.{past-at, past-not}
-use Rattle.reader_line.specs.LineFront.{fork, ending}
+use Rattle.reader_line.specs.LineFront.{ending}
 
 module _ {A : Type 0} (s : List ℕ) (i : ℕ) (h : i < length s) where
-  pub fork-here : (d : ℕ) (x y : Front A) → getD s i 0 ≡ d → fork d (drop i s) x y ≡ x
-  unfolding fork
-  fork-here d x y e = rw (drop-next s i h) (rw (eq-eqb (getD s i 0) d e))
-
-  pub fork-other : (d : ℕ) (x y : Front A) → (getD s i 0 ≡ d → ⊥) → fork d (drop i s) x y ≡ y
-  unfolding fork
-  fork-other d x y e = rw (drop-next s i h) (rw (ne-eqb (getD s i 0) d e))
-
   pub ending-unclosed : (a : A) → (getD s i 0 ≡ 41 → ⊥) → ending a (drop i s) ≡ wrong
   unfolding ending
   ending-unclosed a e = past-not 41 s i _ h e

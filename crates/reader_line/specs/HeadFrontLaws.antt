@@ -18,7 +18,7 @@ use Rattle.reader_word.specs.Front.{Front, got, wrong, onward, past, priceFront
 use Rattle.reader_word.specs.FrontLaws.{onward-got, past-got}
 use Rattle.reader_word.specs.GivenLaws.{then-some, same-is, closed-some, closed-back}
 use Rattle.reader_word.specs.RejoinedLaws.{rejoined}
-use Rattle.reader_word.specs.NumberFrontLaws.{price-read, price-from}
+use Rattle.reader_word.specs.PriceFrontLaws.{price-read, price-from}
 use Rattle.reader_word.specs.WindowFrontLaws.{span-read, span-from}
 use Rattle.reader_line.specs.Line.{Line, tender, reserve, kindOf, tenderOf, reserveOf}
 use Rattle.reader_line.specs.LineFront.{ending, reserveFront, afterWord, kindFront, tenderFront}

@@ -11,7 +11,7 @@ use Rattle.tender.specs.declared.Kind.the-variants.{Single, Multi}
 use Rattle.tender.specs.declared.Window.{Window}
 use Rattle.tender.specs.Keywords.{tenderWord, bidWord, reserveWord, singleWord, multiWord}
 use Rattle.reader_word.specs.Scan.{toNext}
-use Rattle.reader_word.specs.Front.{Front, got, wrong, onward, past, numberFront, priceFront, spanFront, windowFront}
+use Rattle.reader_word.specs.Front.{Front, got, wrong, onward, past, fork, numberFront, priceFront, spanFront, windowFront}
 use Rattle.reader_line.specs.Line.{Line, tender, bid, reserve}
 
 -- the bytes before the first byte 10, and those after it
@@ -25,11 +25,6 @@ nextLines s = drop (suc (toNext 10 s)) s
 unfoldable pub fronted : {A : Type 0} → Option A → List ℕ → Front A
 fronted none s = wrong
 fronted (some a) s = got a s
-
--- one of two, by whether the byte d stands next
-unfoldable pub fork : {A : Type 0} → ℕ → List ℕ → Front A → Front A → Front A
-fork d [] x y = y
-fork d (b ∷ s) x y = cond (eqb b d) x y
 
 -- ")" and byte 10
 unfoldable pub ending : {A : Type 0} → A → List ℕ → Front A

@@ -18,7 +18,8 @@ use Rattle.reader_word.specs.FrontLaws.{onward-got, past-got}
 use Rattle.reader_word.specs.GivenLaws.{then-some, same-is}
 use Rattle.reader_word.specs.RejoinedLaws.{rejoined, rejoined-cut, cut-rejoined, rejoined-among}
 use Rattle.reader_word.specs.ScanLaws.{next-split, next-after}
-use Rattle.reader_word.specs.NumberFrontLaws.{number-read, number-from, price-read, price-from}
+use Rattle.reader_word.specs.NumberFrontLaws.{number-read, number-from}
+use Rattle.reader_word.specs.PriceFrontLaws.{price-read, price-from}
 use Rattle.reader_line.specs.Line.{Line, bid, windowsIn, tenderOf, bidOf, reserveOf, lineOfWords, lineOf}
 use Rattle.reader_line.specs.LineFront.{firstLine, nextLines, fronted, windowsFront, bidFront, reserveFront, afterWord}
 use Rattle.reader_line.specs.LineFront.{tenderFront, lineFront}

@@ -1,6 +1,6 @@
--- Each byte of a line of the form is a digit, a space, a bracket or a letter. Assumes nothing.
+-- Each byte of a line of the form is a digit, a point, a space, a bracket or a letter. Assumes nothing.
 use mathlib.Core.Path.{_≡_, refl, ap, _∙_}
-use mathlib.Core.List.{List, [], _∷_}
+use mathlib.Core.List.{List, [], _∷_, _++_}
 use mathlib.Core.Bool.{Bool, true, false, cond, not, _&&_}
 use mathlib.Core.Option.{none, some}
 use Prim.Native.Nat.{ℕ, _+_, _-_, _*_}
@@ -19,6 +19,7 @@ use Rattle.reader_line.specs.Line.{Line, kindOf, windowsIn, tenderOf, bi
 use Rattle.reader_word.specs.Windows.{spanOf, windowOf}
 use Rattle.reader_word.specs.GivenLaws.{both-true, then-some, cond-some, same-is}
 use Rattle.reader_word.specs.CutLaws.{Pieces, cut-some}
+use Rattle.reader_word.specs.PriceFormLaws.{PriceForm, plainly, pointed, price-form}
 use Rattle.reader_line.specs.LinePlain.{plain, allPlain}
 
 abbrev pub PlainPieces : List (List ℕ) → Type 0
@@ -59,9 +60,20 @@ number-plain : (w : List ℕ) (x : ℕ) → numeralOf w ≡ some x → allPlain 
 unfolding numeralOf
 number-plain w x e = digits-plain 0 w x (cond-some (within 1 9 (length w) && not (leadingZero w)) (digits 0 w) x e .1)
 
+append-plain : (v w : List ℕ) → allPlain v ≡ true → allPlain w ≡ true → allPlain (v ++ w) ≡ true
+unfolding allPlain
+append-plain [] w h k = k
+append-plain (b ∷ v) w h k =
+    let y = both-true (plain b) (allPlain v) h in both (plain b) (allPlain (v ++ w)) (y .0) (append-plain v w (y .1) k)
+
 price-plain : (w : List ℕ) (x : ℕ) → priceOf w ≡ some x → allPlain w ≡ true
-unfolding priceOf
-price-plain w x e = number-plain w x e
+unfolding allPlain plain
+price-plain w x e = go (price-form w x e)
+  where
+    go : PriceForm w x → allPlain w ≡ true
+    go (plainly n) = number-plain w x n
+    go (pointed p) = rw (p .are) (append-plain (p .whole) (46 ∷ p .cents) (number-plain (p .whole) (p .x) (p .whole-is))
+        (digits-plain 0 (p .cents) (p .y) (p .cents-are)))
 
 opened-plain : (w r : List ℕ) → opened w ≡ some r → allPlain r ≡ true → allPlain w ≡ true
 unfolding opened allPlain

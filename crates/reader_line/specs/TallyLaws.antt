@@ -10,11 +10,12 @@ use Rattle.tender.specs.Tables.{windowWidth}
 use Rattle.reader_word.specs.Flaws.{flawIn, worst}
 use Rattle.reader_word.specs.FlawLaws.{worst-more, worst-last}
 use Rattle.reader_word.specs.declared.windows.Flaw.{Flaw}
-use Rattle.reader_word.specs.Front.{Front, got, wrong, onward, windowFront}
+use Rattle.reader_word.specs.Front.{Front, got, wrong, onward, fork, windowFront}
 use Rattle.reader_word.specs.Answer.{ReadAt}
-use Rattle.reader_line.specs.LineFront.{fork, ending, windowsFront}
+use Rattle.reader_word.specs.PlaceLaws.{fork-here, fork-other}
+use Rattle.reader_line.specs.LineFront.{ending, windowsFront}
 use Rattle.reader_line.specs.WindowsFrontLaws.{windows-step}
-use Rattle.reader_line.specs.EndingLaws.{fork-here, fork-other, ending-whole, ending-unended}
+use Rattle.reader_line.specs.EndingLaws.{ending-whole, ending-unended}
 use Rattle.reader_line.specs.Tally.{putWindow, tally}
 use Rattle.reader_line.specs.Answer.{talliedFront}
 

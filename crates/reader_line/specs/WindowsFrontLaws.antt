@@ -11,13 +11,13 @@ use lib.Dec.{eqb}
 use Rattle.tender.specs.declared.Window.{Window}
 use Rattle.reader_word.specs.Words.{andThen, closed}
 use Rattle.reader_word.specs.Windows.{windowOf}
-use Rattle.reader_word.specs.Front.{Front, got, wrong, onward, past, windowFront}
+use Rattle.reader_word.specs.Front.{Front, got, wrong, onward, past, fork, windowFront}
 use Rattle.reader_word.specs.FrontLaws.{Shorter, window-shorter, onward-got, past-got}
 use Rattle.reader_word.specs.GivenLaws.{then-some, closed-some, closed-back}
 use Rattle.reader_word.specs.RejoinedLaws.{rejoined}
 use Rattle.reader_word.specs.WindowFrontLaws.{WindowLed, window-read, window-from}
 use Rattle.reader_line.specs.Line.{windowsIn}
-use Rattle.reader_line.specs.LineFront.{fork, ending, windowsWithin, windowsFront}
+use Rattle.reader_line.specs.LineFront.{ending, windowsWithin, windowsFront}
 
 -- how many are looked for
 

@@ -15,7 +15,8 @@ use Rattle.reader_word.specs.Words.{among, sameBytes, closed, numeralOf, priceO
 use Rattle.reader_word.specs.Windows.{spanOf, windowOf}
 use Rattle.reader_word.specs.GivenLaws.{both-true, then-some, same-is}
 use Rattle.reader_word.specs.RejoinedLaws.{Without}
-use Rattle.reader_word.specs.NumberFrontLaws.{number-without, price-without}
+use Rattle.reader_word.specs.NumberFrontLaws.{number-without}
+use Rattle.reader_word.specs.PriceFrontLaws.{price-without}
 use Rattle.reader_word.specs.WindowFrontLaws.{span-without, closed-without, window-without}
 use Rattle.reader_line.specs.Line.{Line, kindOf, windowsIn, tenderOf, bidOf, reserveOf, lineOfWords}
 

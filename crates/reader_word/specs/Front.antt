@@ -35,9 +35,26 @@ unfolding within digitsFront
 numberFront [] = wrong
 numberFront (b ∷ s) = cond (within 49 57 b) (digitsFront (b - 48) s) (cond (eqb b 48) (got 0 s) wrong)
 
+-- one of two, by whether the byte d stands next
+unfoldable pub fork : {A : Type 0} → ℕ → List ℕ → Front A → Front A → Front A
+fork d [] x y = y
+fork d (b ∷ s) x y = cond (eqb b d) x y
+
+-- one digit after a number of value v
+unfoldable pub digitFront : ℕ → List ℕ → Front ℕ
+unfolding within
+digitFront v [] = wrong
+digitFront v (b ∷ s) = cond (within 48 57 b) (got (v * 10 + (b - 48)) s) wrong
+
+-- a point and two digits after a number x, which has seven digits at the most
+unfoldable pub centsFront : ℕ → List ℕ → Front ℕ
+unfolding onward past digitFront
+centsFront x s = cond (ltb x 10000000) (past 46 s (λ r. onward (digitFront x r) (λ v t. digitFront v t))) wrong
+
+-- a number of cents; or one of at most seven digits, a point and two digits
 unfoldable pub priceFront : List ℕ → Front ℕ
-unfolding numberFront
-priceFront s = numberFront s
+unfolding onward fork numberFront centsFront
+priceFront s = onward (numberFront s) (λ x r. fork 46 r (centsFront x r) (got x r))
 
 -- "S E)"
 unfoldable pub spanFront : List ℕ → Front Span

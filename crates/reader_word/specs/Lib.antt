@@ -12,6 +12,9 @@ pub mod DigitsLaws
 pub mod FlawLaws
 pub mod FrontLaws
 pub mod NumberFrontLaws
+pub mod PriceFormLaws
+pub mod PriceFrontLaws
 pub mod WindowFrontLaws
 pub mod StartsLaws
 pub mod PlaceLaws
+pub mod PricePlaceLaws

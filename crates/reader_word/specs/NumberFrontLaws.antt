@@ -1,5 +1,5 @@
--- A number, and a price, read from the front of bytes is that of the word there: what a word gives is read where no digit follows
--- (`..-read`), and what is read comes from a word that gives it (`..-from`). Assumes nothing.
+-- A number read from the front of bytes is that of the word there: what a word gives is read where no digit follows (`..-read`), and
+-- what is read comes from a word that gives it (`..-from`). Assumes nothing.
 use Prim.Native.Nat.{ℕ, suc, _+_, _-_, _*_, _^_, _≤_, _<_}
 use mathlib.Core.Path.{_≡_, refl, sym, ap, _∙_}
 use mathlib.Core.List.{List, [], _∷_, _++_}
@@ -11,8 +11,8 @@ use lib.ListN.{length}
 use lib.Dec.{eqb, leb, ltb, lit<}
 use borrow.Author.Tests.{ltb-true, leb-true, leb-false, eqb-true, eqb-false, not-true, lt-ltb, le-leb, ne-eqb}
 use Rattle.tender.specs.Limits.{within}
-use Rattle.reader_word.specs.Words.{among, digits, leadingZero, numeralOf, priceOf}
-use Rattle.reader_word.specs.Front.{got, wrong, digitsFront, numberFront, priceFront}
+use Rattle.reader_word.specs.Words.{among, digits, leadingZero, numeralOf}
+use Rattle.reader_word.specs.Front.{got, wrong, digitsFront, numberFront}
 use Rattle.reader_word.specs.GivenLaws.{both-true, cond-some}
 use Rattle.reader_word.specs.DigitsLaws.{inside, digits-below, ten-more, ten-below, leading-other, number-digits}
 
@@ -22,7 +22,7 @@ pub record Led {A : Type 0} (of : List ℕ → Option A) (s : List ℕ) (a : A) 
   pub are : s ≡ word ++ r
   pub is : of word ≡ some a
 
-within-both : (a z b : ℕ) → within a z b ≡ true → (a ≤ b) × (b ≤ z)
+pub within-both : (a z b : ℕ) → within a z b ≡ true → (a ≤ b) × (b ≤ z)
 unfolding within
 within-both a z b e = let t = both-true (leb a b) (leb b z) e in (leb-true a b (t .0), leb-true b z (t .1))
 
@@ -32,7 +32,7 @@ digits-more v b w e = rw e
 
 -- the digits of a number are no other bytes
 
-digits-without : (d v : ℕ) (w : List ℕ) (u : ℕ) → d < 48 → digits v w ≡ some u → among d w ≡ false
+pub digits-without : (d v : ℕ) (w : List ℕ) (u : ℕ) → d < 48 → digits v w ≡ some u → among d w ≡ false
 unfolding digits among
 digits-without d v [] u l e = refl
 digits-without d v (b ∷ w) u l e =
@@ -40,17 +40,17 @@ digits-without d v (b ∷ w) u l e =
     let k = within-both 48 57 b (c .0) in
     rw (ne-eqb b d (λ q. omega arith)) (digits-without d (v * 10 + (b - 48)) w u l (c .1))
 
-pub number-without : (d : ℕ) (w : List ℕ) (v : ℕ) → d ≤ 41 → numeralOf w ≡ some v → among d w ≡ false
+pub number-without : (d : ℕ) (w : List ℕ) (v : ℕ) → d < 48 → numeralOf w ≡ some v → among d w ≡ false
 unfolding numeralOf
 number-without d w v l e =
-    digits-without d 0 w v (omega arith) (cond-some (within 1 9 (length w) && not (leadingZero w)) (digits 0 w) v e .1)
+    digits-without d 0 w v l (cond-some (within 1 9 (length w) && not (leadingZero w)) (digits 0 w) v e .1)
 
 -- the digits of a word, and a byte after them that is none
 
-digits-read : (v k : ℕ) (w : List ℕ) (u d : ℕ) (r : List ℕ) → v < 10 ^ k → k + length w ≤ 9 → d ≤ 41
+digits-read : (v k : ℕ) (w : List ℕ) (u d : ℕ) (r : List ℕ) → v < 10 ^ k → k + length w ≤ 9 → d < 48
     → digits v w ≡ some u → digitsFront v (w ++ d ∷ r) ≡ got u (d ∷ r)
 unfolding digits digitsFront
-digits-read v k [] u d r h n l e = let q : v ≡ u = cc in rw (digits-below d (omega arith), and-false (ltb v 100000000), q)
+digits-read v k [] u d r h n l e = let q : v ≡ u = cc in rw (digits-below d l, and-false (ltb v 100000000), q)
 digits-read v k (b ∷ w) u d r h n l e =
     let c = cond-some (within 48 57 b) (digits (v * 10 + (b - 48)) w) u e in
     let i = within-both 48 57 b (c .0) in
@@ -104,7 +104,7 @@ number-zero-first : (b : ℕ) (s : List ℕ) → b ≡ 48 → numberFront (b ∷
 unfolding numberFront within
 number-zero-first b s p = rw p
 
-pub number-read : (w : List ℕ) (v d : ℕ) (r : List ℕ) → d ≤ 41 → numeralOf w ≡ some v
+pub number-read : (w : List ℕ) (v d : ℕ) (r : List ℕ) → d < 48 → numeralOf w ≡ some v
     → numberFront (w ++ d ∷ r) ≡ got v (d ∷ r)
 unfolding numeralOf numberFront within leadingZero digits
 number-read [] v d r l e = let z : _≡_ {A = ℕ} 0 1 = cc in absurd (omega arith)
@@ -156,18 +156,3 @@ number-from (b ∷ s) v r e = go (within 49 57 b) refl e
         → Led numeralOf (b ∷ s) v r
     go true q x = let k = within-both 49 57 b q in digit (k .0) (k .1) x
     go false q x = zero-only (eqb b 48) refl x
-
--- a price
-
-pub price-without : (d : ℕ) (w : List ℕ) (v : ℕ) → d ≤ 41 → priceOf w ≡ some v → among d w ≡ false
-unfolding priceOf
-price-without d w v l e = number-without d w v l e
-
-pub price-read : (w : List ℕ) (v d : ℕ) (r : List ℕ) → d ≤ 41 → priceOf w ≡ some v
-    → priceFront (w ++ d ∷ r) ≡ got v (d ∷ r)
-unfolding priceOf priceFront
-price-read w v d r l e = number-read w v d r l e
-
-pub price-from : (s : List ℕ) (v : ℕ) (r : List ℕ) → priceFront s ≡ got v r → Led priceOf s v r
-unfolding priceOf priceFront
-price-from s v r e = number-from s v r e

@@ -17,7 +17,7 @@ use Rattle.reader_word.specs.declared.words.Number.the-variants as numbe
 use Rattle.reader_word.specs.declared.windows.Ends.{Ends}
 use Rattle.reader_word.specs.declared.windows.Ends.the-variants.{Of, Wrong}
 use Rattle.reader_word.specs.Answer.{ReadAt, NumberIs, SpanIs, WindowIs}
-use Rattle.reader_word.specs.Front.{Front, got, wrong, onward, past, digitsFront, numberFront, spanFront, windowFront}
+use Rattle.reader_word.specs.Front.{Front, got, wrong, onward, past, fork, digitsFront, numberFront, spanFront, windowFront}
 use Rattle.reader_word.specs.FrontLaws.{window-took}
 
 -- a byte other than 10 is not the last
@@ -37,6 +37,15 @@ module _ {A : Type 0} (d : ℕ) (s : List ℕ) (i : ℕ) (f : List ℕ → Front
   pub past-not : (getD s i 0 ≡ d → ⊥) → past d (drop i s) f ≡ wrong
   unfolding past
   past-not e = rw (drop-next s i h) (rw (ne-eqb (getD s i 0) d e))
+
+module _ {A : Type 0} (s : List ℕ) (i : ℕ) (h : i < length s) where
+  pub fork-here : (d : ℕ) (x y : Front A) → getD s i 0 ≡ d → fork d (drop i s) x y ≡ x
+  unfolding fork
+  fork-here d x y e = rw (drop-next s i h) (rw (eq-eqb (getD s i 0) d e))
+
+  pub fork-other : (d : ℕ) (x y : Front A) → (getD s i 0 ≡ d → ⊥) → fork d (drop i s) x y ≡ y
+  unfolding fork
+  fork-other d x y e = rw (drop-next s i h) (rw (ne-eqb (getD s i 0) d e))
 
 -- digits after others of value v
 

@@ -30,7 +30,7 @@ unfolding spanOf
 span-without d s e w l h =
     let a = then-some (numeralOf s) _ w h in
     let z = then-some (numeralOf e) _ w (a .2) in
-    (number-without d s (a .0) l (a .1), number-without d e (z .0) l (z .1))
+    (number-without d s (a .0) (omega arith) (a .1), number-without d e (z .0) (omega arith) (z .1))
 
 pub span-read : (s e : List ℕ) (w : Span) (r : List ℕ) → spanOf s e ≡ some w → spanFront (s ++ 32 ∷ (e ++ 41 ∷ r)) ≡ got w r
 unfolding spanOf spanFront onward past

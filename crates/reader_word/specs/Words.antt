@@ -4,7 +4,7 @@ use mathlib.Core.List.{List, [], _∷_}
 use mathlib.Core.Bool.{Bool, true, false, cond, not, _&&_, _||_}
 use mathlib.Core.Option.{Option, none, some}
 use lib.ListN.{length}
-use lib.Dec.{eqb}
+use lib.Dec.{eqb, leb}
 use Rattle.tender.specs.Limits.{within}
 
 unfoldable pub andThen : {A B : Type 0} → Option A → (A → Option B) → Option B
@@ -61,7 +61,16 @@ unfoldable pub numeralOf : List ℕ → Option ℕ
 unfolding within leadingZero digits
 numeralOf w = cond (within 1 9 (length w) && not (leadingZero w)) (digits 0 w) none
 
--- a price is written as a number of cents
+-- a number of cents; or one to seven digits, a point and two digits
+unfoldable pub priceIn : List (List ℕ) → Option ℕ
+unfolding andThen digits numeralOf
+priceIn [] = none
+priceIn (a ∷ []) = numeralOf a
+priceIn (a ∷ b ∷ []) = cond (leb (length a) 7 && eqb (length b) 2)
+    (andThen (numeralOf a) (λ x. andThen (digits 0 b) (λ y. some (x * 100 + y)))) none
+priceIn (a ∷ b ∷ c ∷ ps) = none
+
+-- a price in cents, by what stands before and after its point
 unfoldable pub priceOf : List ℕ → Option ℕ
-unfolding numeralOf
-priceOf w = numeralOf w
+unfolding cut priceIn
+priceOf w = priceIn (cut 46 w)

@@ -4,9 +4,9 @@ ghost use mathlib.Core.Path.{_≡_};
 ghost use mathlib.Core.Bool.{true};
 ghost use mathlib.Core.List.{[], _∷_, _++_};
 ghost use Prim.Native.Nat.{_+_, _<_};
-ghost use lib.ListN.{drop, length};
+ghost use lib.ListN.{drop, getD, length};
 ghost use Rattle.reader_word.specs.Scan.{Ended, lettered, startsWith};
-ghost use Rattle.reader_word.specs.Front.{digitsFront, numberFront, priceFront};
+ghost use Rattle.reader_word.specs.Front.{digitFront, digitsFront, centsFront, numberFront, priceFront};
 ghost use Rattle.reader_word.specs.Answer.{NumberIs};
 
 fn wide(x: u8) -> u64
@@ -80,10 +80,43 @@ pub fn read_number(s: &[u8], at: usize) -> Number
     }
 }
 
-// The price at `at`, in cents.
+// One more digit at `at`, after those of value `v`.
+fn read_digit(s: &[u8], at: usize, v: u64) -> Number
+    requires { ⌜ (at < length (now s)) × Ended (now s) × (v < 100000000) ⌝ }
+    ensures { λ r. ⌜ NumberIs (digitFront v (drop at (now (s .entry)))) (now (s .entry)) at r ⌝ }
+{
+    let b = s[at];
+    match b {
+        b'0'..=b'9' => Number::Of(v * 10 + wide(b - b'0'), at + 1),
+        _ => Number::Bad,
+    }
+}
+
+// The point at `at` and two digits, after the number `whole`, which has seven digits at the most.
+fn read_cents(s: &[u8], at: usize, whole: u64) -> Number
+    requires { ⌜ (at < length (now s)) × Ended (now s) × (getD (now s) at 0 ≡ 46) ⌝ }
+    ensures { λ r. ⌜ NumberIs (centsFront whole (drop at (now (s .entry)))) (now (s .entry)) at r ⌝ }
+{
+    if 10000000 <= whole {
+        return Number::Bad;
+    }
+    let Number::Of(v, p) = read_digit(s, at + 1, whole) else {
+        return Number::Bad;
+    };
+    read_digit(s, p, v)
+}
+
+// The price at `at`, in cents: a number of them, or a number, a point and two digits.
 pub fn read_price(s: &[u8], at: usize) -> Number
     requires { ⌜ (at < length (now s)) × Ended (now s) ⌝ }
     ensures { λ r. ⌜ NumberIs (priceFront (drop at (now (s .entry)))) (now (s .entry)) at r ⌝ }
 {
-    read_number(s, at)
+    let Number::Of(x, p) = read_number(s, at) else {
+        return Number::Bad;
+    };
+    if s[p] == b'.' {
+        read_cents(s, p, x)
+    } else {
+        Number::Of(x, p)
+    }
 }
