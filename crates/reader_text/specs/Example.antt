@@ -99,7 +99,7 @@ ten-digits : read "(tender single 0 100)\n(bid 11 1000000000 (0 50))\n" ≡ refu
 unfolding read
 ten-digits = refl
 
-other-byte : read "(tender single 0 100)\n(bid 11 2.50 (0 50))\n" ≡ refused (BadForm 2)
+other-byte : read "(tender single 0 100)\n(bid 11 2,50 (0 50))\n" ≡ refused (BadForm 2)
 unfolding read
 other-byte = refl
 
