@@ -12,6 +12,7 @@ pub mod DigitsLaws
 pub mod FlawLaws
 pub mod FrontLaws
 pub mod NumberFrontLaws
+pub mod NumberSizeLaws
 pub mod PriceFormLaws
 pub mod PriceFrontLaws
 pub mod WindowFrontLaws

@@ -1,6 +1,6 @@
 -- A price is a number of cents, or a number of at most seven digits, a point and two digits; what each form gives. Callers go by the
 -- two forms and not by the pieces that the definition cuts. Assumes nothing.
-use Prim.Native.Nat.{ℕ, _+_, _*_, _≤_}
+use Prim.Native.Nat.{ℕ, _+_, _-_, _*_, _≤_}
 use mathlib.Core.Path.{_≡_, refl, sym, ap, _∙_}
 use mathlib.Core.List.{List, [], _∷_, _++_}
 use mathlib.Core.Bool.{true, false, cond, _&&_}
@@ -9,6 +9,7 @@ use native.Mathlib.Omega.{arith}
 use lib.ListN.{length}
 use lib.Dec.{eqb, leb}
 use borrow.Author.Tests.{leb-true, eqb-true, le-leb, eq-eqb}
+use Rattle.tender.specs.Limits.{within}
 use Rattle.reader_word.specs.Words.{andThen, among, cut, digits, numeralOf, priceIn, priceOf}
 use Rattle.reader_word.specs.GivenLaws.{both-true, then-some, cond-some}
 use Rattle.reader_word.specs.RejoinedLaws.{rejoined, rejoined-cut, cut-rejoined}
@@ -74,3 +75,30 @@ price-pointed w v p =
     ) in
     ap (λ l. priceIn (cut 46 l)) (p .are) ∙ ap priceIn c
     ∙ rw (le-leb (length (p .whole)) 7 (p .few), eq-eqb (length (p .cents)) 2 (p .two), p .whole-is, p .cents-are) (ap some (sym (p .value)))
+
+-- two digits after the point
+
+pub record Cents (cs : List ℕ) (y : ℕ) : Type 0 where
+  pub tens : ℕ
+  pub ones : ℕ
+  pub are : cs ≡ tens ∷ ones ∷ []
+  pub tens-digit : within 48 57 tens ≡ true
+  pub ones-digit : within 48 57 ones ≡ true
+  pub value : y ≡ (tens - 48) * 10 + (ones - 48)
+
+pub two-cents : (cs : List ℕ) (y : ℕ) → length cs ≡ 2 → digits 0 cs ≡ some y → Cents cs y
+unfolding digits
+two-cents [] y n e = absurd (omega arith)
+two-cents (a ∷ []) y n e = absurd (omega arith)
+two-cents (a ∷ b ∷ []) y n e =
+    let c = cond-some (within 48 57 a) (digits (0 * 10 + (a - 48)) (b ∷ [])) y e in
+    let d = cond-some (within 48 57 b) (digits ((0 * 10 + (a - 48)) * 10 + (b - 48)) []) y (c .1) in
+    let q : (0 * 10 + (a - 48)) * 10 + (b - 48) ≡ y = cc (d .1) in
+    record { tens = a; ones = b; are = refl; tens-digit = c .0; ones-digit = d .0; value = omega arith }
+two-cents (a ∷ b ∷ c ∷ cs) y n e = absurd (omega arith)
+
+pub cents-two : (a b : ℕ) → within 48 57 a ≡ true → within 48 57 b ≡ true → digits 0 (a ∷ b ∷ []) ≡ some ((a - 48) * 10 + (b - 48))
+unfolding digits
+cents-two a b h k =
+    let o : (0 * 10 + (a - 48)) * 10 + (b - 48) ≡ (a - 48) * 10 + (b - 48) = omega arith in
+    rw (h, k) (ap (λ n. some n) o)

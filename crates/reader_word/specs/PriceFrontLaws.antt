@@ -1,72 +1,23 @@
 -- A price read from the front of bytes is that of the word there, in either form: what a word gives is read where no digit and no point
 -- follows, and what is read comes from a word that gives it. Assumes nothing.
-use Prim.Native.Nat.{ℕ, suc, _+_, _-_, _*_, _^_, _≤_, _<_}
+use Prim.Native.Nat.{ℕ, _+_, _-_, _*_, _≤_, _<_}
 use mathlib.Core.Path.{_≡_, refl, sym, ap, _∙_}
 use mathlib.Core.List.{List, [], _∷_, _++_, append-assoc}
-use mathlib.Core.Bool.{Bool, true, false, cond, not, _&&_}
+use mathlib.Core.Bool.{Bool, true, false, cond}
 use mathlib.Core.Option.{some}
 use native.Mathlib.Omega.{arith}
-use native.Mathlib.Nat.{pow-suc, pow-le-pow-right}
 use lib.ListN.{length}
-use lib.Dec.{eqb, leb, ltb, lit<}
-use borrow.Author.Tests.{ltb-true, leb-true, leb-false, eqb-true, eqb-false, not-true, lt-ltb, ne-eqb}
+use lib.Dec.{eqb, ltb}
+use borrow.Author.Tests.{ltb-true, lt-ltb, ne-eqb}
 use Rattle.tender.specs.Limits.{within}
-use Rattle.reader_word.specs.Words.{among, digits, leadingZero, numeralOf, priceOf}
+use Rattle.reader_word.specs.Words.{among, digits, numeralOf, priceOf}
 use Rattle.reader_word.specs.Front.{got, wrong, onward, past, fork, digitFront, centsFront, numberFront, priceFront}
-use Rattle.reader_word.specs.GivenLaws.{both-true, cond-some}
 use Rattle.reader_word.specs.RejoinedLaws.{among-append}
-use Rattle.reader_word.specs.DigitsLaws.{ten-more}
 use Rattle.reader_word.specs.FrontLaws.{onward-got, past-got}
 use Rattle.reader_word.specs.NumberFrontLaws.{Led, within-both, digits-without, number-without, number-read, number-from}
+use Rattle.reader_word.specs.NumberSizeLaws.{number-small, number-few}
 use Rattle.reader_word.specs.PriceFormLaws.{Pointed, PriceForm, plainly, pointed, price-form, price-plainly, price-pointed}
-
--- how many digits a number has, by its value
-
-digits-most : (v k : ℕ) (w : List ℕ) (u : ℕ) → v < 10 ^ k → digits v w ≡ some u → u < 10 ^ (k + length w)
-unfolding digits
-digits-most v k [] u h e = let q : v ≡ u = cc in
-    let n : k + length {A = ℕ} [] ≡ k = omega arith in
-    rw n (omega (arith, q, h))
-digits-most v k (b ∷ w) u h e =
-    let c = cond-some (within 48 57 b) (digits (v * 10 + (b - 48)) w) u e in
-    let i = within-both 48 57 b (c .0) in
-    let n : k + 1 + length w ≡ k + length (b ∷ w) = omega arith in
-    rw (← n) (digits-most (v * 10 + (b - 48)) (k + 1) w u (ten-more v k (b - 48) h (omega arith)) (c .1))
-
-digits-least : (v k : ℕ) (w : List ℕ) (u : ℕ) → 10 ^ k ≤ v → digits v w ≡ some u → 10 ^ (k + length w) ≤ u
-unfolding digits
-digits-least v k [] u h e = let q : v ≡ u = cc in
-    let n : k + length {A = ℕ} [] ≡ k = omega arith in
-    rw n (omega (arith, q, h))
-digits-least v k (b ∷ w) u h e =
-    let c = cond-some (within 48 57 b) (digits (v * 10 + (b - 48)) w) u e in
-    let n : suc k + length w ≡ k + length (b ∷ w) = omega arith in
-    rw (← n) (digits-least (v * 10 + (b - 48)) (suc k) w u (rw pow-suc (omega arith)) (c .1))
-
-number-small : (w : List ℕ) (x : ℕ) → numeralOf w ≡ some x → length w ≤ 7 → x < 10000000
-unfolding numeralOf
-number-small w x e l =
-    let d = cond-some (within 1 9 (length w) && not (leadingZero w)) (digits 0 w) x e .1 in
-    let n : 0 + length w ≡ length w = omega arith in
-    let m : x < 10 ^ length w = rw n at (digits-most 0 0 w x (omega arith) d) in
-    omega (arith, m, pow-le-pow-right {n = 10} (lit< tt) l)
-
-number-few : (w : List ℕ) (x : ℕ) → numeralOf w ≡ some x → x < 10000000 → length w ≤ 7
-unfolding numeralOf leadingZero digits
-number-few [] x e l = omega arith
-number-few (b ∷ []) x e l = omega arith
-number-few (b ∷ c ∷ w) x e l =
-    let a = cond-some (within 1 9 (length (b ∷ c ∷ w)) && not (eqb b 48)) (digits 0 (b ∷ c ∷ w)) x e in
-    let t = both-true (within 1 9 (length (b ∷ c ∷ w))) (not (eqb b 48)) (a .0) in
-    let f = cond-some (within 48 57 b) (digits (0 * 10 + (b - 48)) (c ∷ w)) x (a .1) in
-    let k = within-both 48 57 b (f .0) in
-    let z = eqb-false b 48 (not-true (eqb b 48) (t .1)) in
-    let n : 0 + length (c ∷ w) ≡ length (c ∷ w) = omega arith in
-    go (rw n at (digits-least (0 * 10 + (b - 48)) 0 (c ∷ w) x (omega arith) (f .1))) (leb 7 (length (c ∷ w))) refl
-  where
-    go : 10 ^ length (c ∷ w) ≤ x → (t : Bool) → leb 7 (length (c ∷ w)) ≡ t → length (b ∷ c ∷ w) ≤ 7
-    go h true q = absurd (omega (arith, h, l, pow-le-pow-right {n = 10} (lit< tt) (leb-true 7 (length (c ∷ w)) q)))
-    go h false q = omega (arith, leb-false 7 (length (c ∷ w)) q)
+use Rattle.reader_word.specs.PriceFormLaws.{Cents, two-cents, cents-two}
 
 -- the bytes of a price
 
@@ -83,17 +34,12 @@ price-without d w v l e = go (price-form w v e)
 
 cents-read : (x : ℕ) (cs : List ℕ) (y : ℕ) (r : List ℕ) → x < 10000000 → length cs ≡ 2 → digits 0 cs ≡ some y
     → centsFront x (46 ∷ (cs ++ r)) ≡ got (x * 100 + y) r
-unfolding digits centsFront past onward digitFront
-cents-read x [] y r l n e = absurd (omega arith)
-cents-read x (a ∷ []) y r l n e = absurd (omega arith)
-cents-read x (a ∷ b ∷ []) y r l n e =
-    let c = cond-some (within 48 57 a) (digits (0 * 10 + (a - 48)) (b ∷ [])) y e in
-    let d = cond-some (within 48 57 b) (digits ((0 * 10 + (a - 48)) * 10 + (b - 48)) []) y (c .1) in
-    let q : (0 * 10 + (a - 48)) * 10 + (b - 48) ≡ y = cc (d .1) in
-    let i = within-both 48 57 a (c .0) in
-    let o : (x * 10 + (a - 48)) * 10 + (b - 48) ≡ x * 100 + y = omega arith in
-    rw (lt-ltb x 10000000 l, c .0, d .0) (ap (λ n. got n r) o)
-cents-read x (a ∷ b ∷ c ∷ cs) y r l n e = absurd (omega arith)
+unfolding centsFront past onward digitFront
+cents-read x cs y r l n e =
+    let c = two-cents cs y n e in
+    let i = within-both 48 57 (c .tens) (c .tens-digit) in
+    let o : (x * 10 + (c .tens - 48)) * 10 + (c .ones - 48) ≡ x * 100 + y = omega (arith, c .value) in
+    rw (c .are) (rw (lt-ltb x 10000000 l, c .tens-digit, c .ones-digit) (ap (λ n. got n r) o))
 
 pub price-read : (w : List ℕ) (v d : ℕ) (r : List ℕ) → d ≤ 41 → priceOf w ≡ some v
     → priceFront (w ++ d ∷ r) ≡ got v (d ∷ r)
@@ -125,11 +71,6 @@ digit-from v (b ∷ s) u r e = go (within 48 57 b) refl e
     go true q x = record { byte = b; are = cc; is = q; value = cc }
     go false q x = let z : _≡_ {A = ℕ} 0 1 = cc in absurd (omega arith)
 
-digits-two : (a b : ℕ) → within 48 57 a ≡ true → within 48 57 b ≡ true
-    → digits 0 (a ∷ b ∷ []) ≡ some ((0 * 10 + (a - 48)) * 10 + (b - 48))
-unfolding digits
-digits-two a b h k = rw (h, k)
-
 two-more : (w t u s r : List ℕ) (a b : ℕ) → t ≡ 46 ∷ u → u ≡ a ∷ s → s ≡ b ∷ r → w ++ t ≡ (w ++ 46 ∷ a ∷ b ∷ []) ++ r
 two-more w t u s r a b e f g =
     ap (λ l. w ++ l) (e ∙ ap (λ l. 46 ∷ l) (f ∙ ap (λ l. a ∷ l) g)) ∙ sym (append-assoc w (46 ∷ a ∷ b ∷ []) r)
@@ -148,7 +89,7 @@ cents-from w x t v r n e = go (ltb x 10000000) refl e
         let d = digit-from (b .0) (b .1) v r (b .3) in
         let i = within-both 48 57 (c .byte) (c .is) in
         let tail = c .byte ∷ d .byte ∷ [] in
-        let o : v ≡ x * 100 + ((0 * 10 + (c .byte - 48)) * 10 + (d .byte - 48)) = omega (arith, c .value, d .value) in
+        let o : v ≡ x * 100 + ((c .byte - 48) * 10 + (d .byte - 48)) = omega (arith, c .value, d .value) in
         record {
           word = w ++ 46 ∷ tail;
           are = two-more w t (a .0) (b .1) r (c .byte) (d .byte) (a .1) (c .are) (d .are);
@@ -156,12 +97,12 @@ cents-from w x t v r n e = go (ltb x 10000000) refl e
             whole = w;
             cents = tail;
             x = x;
-            y = (0 * 10 + (c .byte - 48)) * 10 + (d .byte - 48);
+            y = (c .byte - 48) * 10 + (d .byte - 48);
             are = refl;
             few = number-few w x n (ltb-true x 10000000 q);
             two = refl;
             whole-is = n;
-            cents-are = digits-two (c .byte) (d .byte) (c .is) (d .is);
+            cents-are = cents-two (c .byte) (d .byte) (c .is) (d .is);
             value = o;
           });
         }

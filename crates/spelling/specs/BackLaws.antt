@@ -13,7 +13,7 @@ use Rattle.tender.specs.declared.Reserve.the-variants.{Absent, Price}
 use Rattle.tender.specs.declared.Tender.{Tender}
 use Rattle.tender.specs.Limits.{asWindow}
 use Rattle.tender.specs.Keywords.{bytes, tenderWord, reserveWord, bidWord, singleWord, multiWord}
-use Rattle.reader_word.specs.Words.{andThen, among, cut, sameBytes, priceOf}
+use Rattle.reader_word.specs.Words.{andThen, among, cut, sameBytes}
 use Rattle.reader_line.specs.Line.{BidLine, Line, tender, bid, reserve, tenderLine, reserveLines, headLines, kindOf, tenderOf}
 use Rattle.reader_line.specs.Line.{bidOf, reserveOf, lineOfWords, lineOf, linesOf}
 use Rattle.reader_word.specs.GivenLaws.{closed-back}
@@ -23,6 +23,7 @@ use Rattle.spelling.specs.Decimal.{decimal}
 use Rattle.spelling.specs.Lines.{oneLine, kindWord}
 use Rattle.spelling.specs.Text.{bidText, tenderText, reserveText, headText, bidsText, textOf}
 use Rattle.spelling.specs.DecimalLaws.{decimal-plain, numeral-decimal}
+use Rattle.spelling.specs.PriceLaws.{price-decimal}
 use Rattle.spelling.specs.WordLaws.{spaced, tenderWords, oneWords, windowWords, bidWords, bid-line, tender-line, one-line}
 use Rattle.spelling.specs.WordLaws.{bid-without, Named, AllNamed, span-back, windows-back}
 
@@ -43,11 +44,11 @@ AllNameable (b ∷ bs) = Nameable b × AllNameable bs
 
 bid-words-back : (n p : ℕ) (w : Window) (ws : List Window) → n < 1000000000 → p < 1000000000 → AllNamed (w ∷ ws) →
     lineOf (spaced (bidWords n p (w ∷ ws))) ≡ some (bid (record { bidder = n; price = p; windows = w ∷ ws }))
-unfolding lineOf lineOfWords sameBytes tenderWord bidWord bytes bidWords bidOf andThen priceOf among
+unfolding lineOf lineOfWords sameBytes tenderWord bidWord bytes bidWords bidOf andThen among
 bid-words-back n p w ws a b h =
     rw (cut-rejoined 32 (40 ∷ bidWord) (decimal n ∷ decimal p ∷ windowWords (w ∷ ws))
     (bid-without 32 n p w ws (omega arith) refl refl refl))
-    (rw (numeral-decimal n a, numeral-decimal p b, windows-back w ws h))
+    (rw (numeral-decimal n a, price-decimal p b, windows-back w ws h))
 
 -- a bid's line before more lines
 pub record Read (line : List ℕ) (x : Line) : Type 0 where
@@ -139,8 +140,8 @@ one-words word a h = cut-rejoined 32 (40 ∷ word) ((decimal a ++ 41 ∷ []) ∷
 -- the reserve's line
 
 reserve-words-back : (p : ℕ) → p < 1000000000 → lineOf (spaced (oneWords reserveWord p)) ≡ some (reserve p)
-unfolding lineOf lineOfWords sameBytes tenderWord bidWord reserveWord bytes oneWords reserveOf andThen priceOf among
-reserve-words-back p l = rw (one-words reserveWord p refl) (rw (closed-back (decimal p), numeral-decimal p l))
+unfolding lineOf lineOfWords sameBytes tenderWord bidWord reserveWord bytes oneWords reserveOf andThen among
+reserve-words-back p l = rw (one-words reserveWord p refl) (rw (closed-back (decimal p), price-decimal p l))
 
 reserve-back : (p : ℕ) → p < 1000000000 → Read (reserveText (Price p)) (reserve p)
 unfolding reserveText reserveWord bytes among

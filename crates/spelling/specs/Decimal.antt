@@ -1,6 +1,6 @@
 -- Numbers in base ten (paper 01, "The bid text" and "One list in full").
 use mathlib.Core.Bool.{cond}
-use mathlib.Core.List.{List, [], _∷_}
+use mathlib.Core.List.{List, [], _∷_, _++_}
 use Prim.Native.Nat.{ℕ, zero, suc, _+_, _/_, _%_}
 use lib.Dec.{ltb}
 
@@ -15,3 +15,8 @@ digitsBefore (suc f) n done =
 unfoldable pub decimal : ℕ → List ℕ
 unfolding digitsBefore
 decimal n = digitsBefore 20 n []
+
+-- n cents with a point, as "2.50"
+unfoldable pub withPoint : ℕ → List ℕ
+unfolding decimal
+withPoint n = decimal (n / 100) ++ 46 ∷ (48 + n % 100 / 10) ∷ (48 + n % 10) ∷ []

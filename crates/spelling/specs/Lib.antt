@@ -7,6 +7,7 @@ pub mod LineLaws
 pub mod WritingLaws
 pub mod SpellingLaws
 pub mod DecimalLaws
+pub mod PriceLaws
 pub mod WordLaws
 pub mod BackLaws
 pub mod DeliveredLaws
