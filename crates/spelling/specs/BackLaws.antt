@@ -43,7 +43,7 @@ AllNameable [] = Unit {0}
 AllNameable (b ∷ bs) = Nameable b × AllNameable bs
 
 bid-words-back : (n p : ℕ) (w : Window) (ws : List Window) → n < 1000000000 → p < 1000000000 → AllNamed (w ∷ ws) →
-    lineOf (spaced (bidWords n p (w ∷ ws))) ≡ some (bid (record { bidder = n; price = p; windows = w ∷ ws }))
+    lineOf (spaced (bidWords n (decimal p) (w ∷ ws))) ≡ some (bid (record { bidder = n; price = p; windows = w ∷ ws }))
 unfolding lineOf lineOfWords sameBytes tenderWord bidWord bytes bidWords bidOf andThen among
 bid-words-back n p w ws a b h =
     rw (cut-rejoined 32 (40 ∷ bidWord) (decimal n ∷ decimal p ∷ windowWords (w ∷ ws))
@@ -57,7 +57,7 @@ pub record Read (line : List ℕ) (x : Line) : Type 0 where
   pub is : lineOf words ≡ some x
 
 pub bid-back : (b : BidLine) → Nameable b → Read (bidText b) (bid b)
-unfolding among bidWord bytes bidWords
+unfolding bidText among bidWord bytes bidWords
 bid-back b h = go (h .1 .1 .0) (h .1 .1 .1) (h .1 .1 .2) (h .1 .1 .3)
   where
     go : (w : Window) (ws : List Window) → b .windows ≡ w ∷ ws → AllNamed (w ∷ ws) → Read (bidText b) (bid b)
@@ -65,8 +65,8 @@ bid-back b h = go (h .1 .1 .0) (h .1 .1 .1) (h .1 .1 .2) (h .1 .1 .3)
         let q : _≡_ {A = BidLine} b (record { bidder = b .bidder; price = b .price; windows = w ∷ ws }) =
         ap (λ (l : List Window). record { bidder = b .bidder; price = b .price; windows = l }) e in
         rw q record {
-          words = spaced (bidWords (b .bidder) (b .price) (w ∷ ws));
-          cuts = λ rest. ap (λ s. cut 10 (s ++ rest)) (bid-line (b .bidder) (b .price) w ws)
+          words = spaced (bidWords (b .bidder) (decimal (b .price)) (w ∷ ws));
+          cuts = λ rest. ap (λ s. cut 10 (s ++ rest)) (bid-line (decimal (b .price)) (b .bidder) (b .price) w ws)
               ∙ line-then (40 ∷ bidWord) (decimal (b .bidder) ∷ decimal (b .price) ∷ windowWords (w ∷ ws)) rest
               (bid-without 10 (b .bidder) (b .price) w ws (omega arith) refl refl refl);
           is = bid-words-back (b .bidder) (b .price) w ws (h .0) (h .1 .0) a;
@@ -123,30 +123,30 @@ tender-back t h = record {
 -- a line (word a)
 
 one-without : (d : ℕ) (word : List ℕ) (a : ℕ) → d < 48 → among d (40 ∷ word) ≡ false → among d (41 ∷ []) ≡ false
-    → Without d (oneWords word a)
+    → Without d (oneWords word (decimal a))
 unfolding oneWords
 one-without d word a l k b = (k, (among-append d (decimal a) (41 ∷ []) (decimal-plain d a l) b, tt))
 
 pub one-cuts : (word : List ℕ) (a : ℕ) (rest : List ℕ) → among 10 word ≡ false
-    → cut 10 (oneLine word a ++ rest) ≡ spaced (oneWords word a) ∷ cut 10 rest
-unfolding oneWords among
-one-cuts word a rest h = ap (λ s. cut 10 (s ++ rest)) (one-line word a)
+    → cut 10 (oneLine word a ++ rest) ≡ spaced (oneWords word (decimal a)) ∷ cut 10 rest
+unfolding oneLine oneWords among
+one-cuts word a rest h = ap (λ s. cut 10 (s ++ rest)) (one-line word (decimal a))
     ∙ line-then (40 ∷ word) ((decimal a ++ 41 ∷ []) ∷ []) rest (one-without 10 word a (omega arith) h refl)
 
-pub one-words : (word : List ℕ) (a : ℕ) → among 32 word ≡ false → cut 32 (spaced (oneWords word a)) ≡ oneWords word a
+pub one-words : (word : List ℕ) (a : ℕ) → among 32 word ≡ false → cut 32 (spaced (oneWords word (decimal a))) ≡ oneWords word (decimal a)
 unfolding oneWords among
 one-words word a h = cut-rejoined 32 (40 ∷ word) ((decimal a ++ 41 ∷ []) ∷ []) (one-without 32 word a (omega arith) h refl)
 
 -- the reserve's line
 
-reserve-words-back : (p : ℕ) → p < 1000000000 → lineOf (spaced (oneWords reserveWord p)) ≡ some (reserve p)
+reserve-words-back : (p : ℕ) → p < 1000000000 → lineOf (spaced (oneWords reserveWord (decimal p))) ≡ some (reserve p)
 unfolding lineOf lineOfWords sameBytes tenderWord bidWord reserveWord bytes oneWords reserveOf andThen among
 reserve-words-back p l = rw (one-words reserveWord p refl) (rw (closed-back (decimal p), price-decimal p l))
 
 reserve-back : (p : ℕ) → p < 1000000000 → Read (reserveText (Price p)) (reserve p)
 unfolding reserveText reserveWord bytes among
 reserve-back p l = record {
-  words = spaced (oneWords reserveWord p);
+  words = spaced (oneWords reserveWord (decimal p));
   cuts = λ rest. one-cuts reserveWord p rest refl;
   is = reserve-words-back p l;
 }

@@ -1,6 +1,7 @@
 pub mod Decimal
 pub mod Lines
 pub mod Text
+pub mod Spelt
 pub mod Written
 pub mod Delivered
 pub mod LineLaws
@@ -8,6 +9,7 @@ pub mod WritingLaws
 pub mod SpellingLaws
 pub mod DecimalLaws
 pub mod PriceLaws
+pub mod SpeltShortLaws
 pub mod WordLaws
 pub mod BackLaws
 pub mod DeliveredLaws

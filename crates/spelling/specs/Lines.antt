@@ -23,10 +23,14 @@ unfoldable pub pairLine : List ℕ → ℕ → ℕ → List ℕ
 unfolding numbers
 pairLine word a b = (40 ∷ []) ++ word ++ numbers a b
 
+-- (word p), both as bytes
+abbrev pub oneLineAs : List ℕ → List ℕ → List ℕ
+oneLineAs word p = (40 ∷ []) ++ word ++ (32 ∷ p) ++ closing
+
 -- (word a)
 unfoldable pub oneLine : List ℕ → ℕ → List ℕ
 unfolding decimal closing
-oneLine word a = (40 ∷ []) ++ word ++ (32 ∷ decimal a) ++ closing
+oneLine word a = oneLineAs word (decimal a)
 
 unfoldable pub kindWord : Kind → List ℕ
 unfolding singleWord multiWord

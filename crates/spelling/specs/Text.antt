@@ -22,10 +22,15 @@ unfolding windowText
 windowsText [] = []
 windowsText (w ∷ ws) = windowText w ++ windowsText ws
 
--- "(bid BIDDER PRICE (START END) ..)" and byte 10
-unfoldable pub bidText : BidLine → List ℕ
+-- "(bid BIDDER PRICE (START END) ..)" and byte 10, the price written as the word p
+unfoldable pub bidTextAs : List ℕ → BidLine → List ℕ
 unfolding bytes decimal windowsText closing
-bidText b = bytes "(bid " ++ (decimal (b .bidder) ++ (32 ∷ (decimal (b .price) ++ (windowsText (b .windows) ++ closing))))
+bidTextAs p b = bytes "(bid " ++ (decimal (b .bidder) ++ (32 ∷ (p ++ (windowsText (b .windows) ++ closing))))
+
+-- the same, the price in cents
+unfoldable pub bidText : BidLine → List ℕ
+unfolding decimal bidTextAs
+bidText b = bidTextAs (decimal (b .price)) b
 
 -- one after the other
 unfoldable pub bidsText : List BidLine → List ℕ

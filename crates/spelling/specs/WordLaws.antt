@@ -16,28 +16,22 @@ use Rattle.reader_line.specs.Line.{windowsIn}
 use Rattle.reader_word.specs.GivenLaws.{closed-back}
 use Rattle.reader_word.specs.RejoinedLaws.{rejoined, Without, among-append}
 use Rattle.spelling.specs.Decimal.{decimal}
-use Rattle.spelling.specs.Lines.{closing, numbers, oneLine, kindWord}
-use Rattle.spelling.specs.Text.{windowText, windowsText, bidText, tenderText}
+use Rattle.spelling.specs.Lines.{closing, numbers, oneLineAs, kindWord}
+use Rattle.spelling.specs.Text.{windowText, windowsText, bidTextAs, tenderText}
 use Rattle.spelling.specs.DecimalLaws.{decimal-plain, numeral-decimal}
 
 -- words, with a space between two
 abbrev pub spaced : List (List ℕ) → List ℕ
 spaced ws = rejoined 32 ws
 
--- lines, each ended by byte 10
-unfoldable pub ended : List (List ℕ) → List ℕ
-ended [] = []
-ended (l ∷ ls) = l ++ 10 ∷ ended ls
-
 -- (tender KIND START END)
 unfoldable pub tenderWords : Tender → List (List ℕ)
 unfolding tenderWord kindWord decimal
 tenderWords t = (40 ∷ tenderWord) ∷ kindWord (t .kind) ∷ decimal (t .window .start) ∷ (decimal (t .window .end) ++ 41 ∷ []) ∷ []
 
--- (word a)
-unfoldable pub oneWords : List ℕ → ℕ → List (List ℕ)
-unfolding decimal
-oneWords word a = (40 ∷ word) ∷ (decimal a ++ 41 ∷ []) ∷ []
+-- (word p)
+unfoldable pub oneWords : List ℕ → List ℕ → List (List ℕ)
+oneWords word p = (40 ∷ word) ∷ (p ++ 41 ∷ []) ∷ []
 
 -- (START END) for each window, and the bracket that closes the line after the last
 unfoldable pub windowWords : List Window → List (List ℕ)
@@ -46,10 +40,10 @@ windowWords [] = []
 windowWords (w ∷ []) = (40 ∷ decimal (w .start)) ∷ ((decimal (w .end) ++ 41 ∷ []) ++ 41 ∷ []) ∷ []
 windowWords (w ∷ x ∷ ws) = (40 ∷ decimal (w .start)) ∷ (decimal (w .end) ++ 41 ∷ []) ∷ windowWords (x ∷ ws)
 
--- (bid BIDDER PRICE WINDOW ..)
-unfoldable pub bidWords : ℕ → ℕ → List Window → List (List ℕ)
+-- (bid BIDDER PRICE WINDOW ..), the price written as the word p
+unfoldable pub bidWords : ℕ → List ℕ → List Window → List (List ℕ)
 unfolding bidWord decimal windowWords
-bidWords bidder price ws = (40 ∷ bidWord) ∷ decimal bidder ∷ decimal price ∷ windowWords ws
+bidWords bidder p ws = (40 ∷ bidWord) ∷ decimal bidder ∷ p ∷ windowWords ws
 
 windows-without : (d : ℕ) (w : Window) (ws : List Window) → d < 40 → among d (40 ∷ []) ≡ false → among d (41 ∷ []) ≡ false
     → Without d (windowWords (w ∷ ws))
@@ -89,24 +83,23 @@ windows-line before w (v ∷ ws) =
     ∙ ap (λ s. before ++ 32 ∷ 40 ∷ (decimal (w .start) ++ 32 ∷ s)) (windows-line (decimal (w .end) ++ 41 ∷ []) v ws)
     ∙ window-then before (decimal (w .start)) (spaced ((decimal (w .end) ++ 41 ∷ []) ∷ windowWords (v ∷ ws))) (10 ∷ [])
 
-pub bid-line : (n p : ℕ) (w : Window) (ws : List Window)
-    → bidText (record { bidder = n; price = p; windows = w ∷ ws }) ≡ spaced (bidWords n p (w ∷ ws)) ++ 10 ∷ []
-unfolding bidText bidWord bytes bidWords rejoined
-bid-line n p w ws =
-    ap (λ s. (40 ∷ bidWord) ++ 32 ∷ (decimal n ++ 32 ∷ s)) (windows-line (decimal p) w ws)
-    ∙ ap (λ s. (40 ∷ bidWord) ++ 32 ∷ s) (sym
-    (append-assoc (decimal n) (32 ∷ spaced (decimal p ∷ windowWords (w ∷ ws))) (10 ∷ [])))
+pub bid-line : (p : List ℕ) (n v : ℕ) (w : Window) (ws : List Window)
+    → bidTextAs p (record { bidder = n; price = v; windows = w ∷ ws }) ≡ spaced (bidWords n p (w ∷ ws)) ++ 10 ∷ []
+unfolding bidTextAs bidWord bytes bidWords rejoined
+bid-line p n v w ws =
+    ap (λ s. (40 ∷ bidWord) ++ 32 ∷ (decimal n ++ 32 ∷ s)) (windows-line p w ws)
+    ∙ ap (λ s. (40 ∷ bidWord) ++ 32 ∷ s) (sym (append-assoc (decimal n) (32 ∷ spaced (p ∷ windowWords (w ∷ ws))) (10 ∷ [])))
 
 pub tender-line : (t : Tender) → tenderText t ≡ spaced (tenderWords t) ++ 10 ∷ []
 unfolding tenderText tenderWords tenderWord bytes numbers closing rejoined
 tender-line t = simp append-assoc
 
-pub one-line : (word : List ℕ) (a : ℕ) → oneLine word a ≡ spaced (oneWords word a) ++ 10 ∷ []
-unfolding oneLine oneWords bytes closing rejoined
-one-line word a = simp append-assoc
+pub one-line : (word p : List ℕ) → oneLineAs word p ≡ spaced (oneWords word p) ++ 10 ∷ []
+unfolding oneWords bytes closing rejoined
+one-line word p = simp append-assoc
 
 pub bid-without : (d n p : ℕ) (w : Window) (ws : List Window) → d < 40 → among d (40 ∷ bidWord) ≡ false
-    → among d (40 ∷ []) ≡ false → among d (41 ∷ []) ≡ false → Without d (bidWords n p (w ∷ ws))
+    → among d (40 ∷ []) ≡ false → among d (41 ∷ []) ≡ false → Without d (bidWords n (decimal p) (w ∷ ws))
 unfolding bidWords
 bid-without d n p w ws l k a b = (k, (decimal-plain d n (omega arith), (decimal-plain d p (omega arith), windows-without d w ws l a b)))
 

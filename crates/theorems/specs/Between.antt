@@ -24,7 +24,8 @@ use Rattle.award.specs.Right.{Callable}
 use Rattle.award.specs.Gain.{rowFor, gain, AtMost}
 use Rattle.spelling.specs.Decimal.{decimal}
 use Rattle.spelling.specs.Lines.{pairLine, refusedWord}
-use Rattle.spelling.specs.Text.{textOf, bidIn}
+use Rattle.spelling.specs.Text.{bidIn}
+use Rattle.spelling.specs.Spelt.{Spelt}
 use Rattle.listing.specs.List.{listOf}
 use Rattle.theorems.specs.Calls.{ReadRun, ReadCall, AwardCall, auctionBy, toldBy, ListCall, shown}
 use Rattle.theorems.specs.OneReading.{Fills, OfText}
@@ -58,18 +59,20 @@ pub record BidsAlone (c : AwardCall) : Type 0 where
 abbrev pub priceAt : AwardCall → ℕ → ℕ
 priceAt c i = getD (c .bids) (bidWidth * i + 1) 0
 
--- what an accepted text left in the tables, whatever their size; it is spelt again from it
+-- what an accepted text left in the tables, whatever their size; it is spelt again from it and from a word for each price
 pub record WasRead (r : ReadRun) (t : Tender) : Type 0 where
   pub rows : List Row
   pub spans : List Window
-  pub spelt : r .text ≡ textOf t (map (bidIn (flatWindows spans)) rows)
+  pub spelt : Spelt (r .text) t (map (bidIn (flatWindows spans)) rows)
   pub fills : Fills t rows spans r
 
--- a text that differs from an accepted one in the price of row i alone, written q; with a price within the limits it is accepted too,
--- if it is not too long
+-- a text that differs from an accepted one in the price of row i alone, written p there and q here; with a price within the limits it
+-- is accepted too, if it is not too long
 pub record Variant (text : List ℕ) (t : Tender) (R : List Row) (W : List Window) (i : ℕ) (q : List ℕ) : Type 0 where
   pub other : List ℕ
-  pub differ : DifferInPrice text other (decimal (getD R i noRow .bidder)) (decimal (getD R i noRow .price)) q
+  pub p : List ℕ
+  pub is : priceOf p ≡ some (getD R i noRow .price)
+  pub differ : DifferInPrice text other (decimal (getD R i noRow .bidder)) p q
   pub accepted-too : (v : ℕ) → priceOf q ≡ some v → v ≤ maxPrice → length other ≤ maxText
       → (S : List Row) × (readText other ≡ accepted t S W)
 

@@ -46,6 +46,7 @@ use Rattle.award.specs.OneAnswerLaws as one
 use Rattle.award.specs.OutcomeLaws as outcome
 use Rattle.spelling.specs.Decimal.{decimal}
 use Rattle.spelling.specs.Text.{tenderText, bidsText, textOf, bidIn}
+use Rattle.spelling.specs.Spelt.{Spelt}
 use Rattle.spelling.specs.DeliveredLaws.{same-shown}
 use Rattle.spelling.specs.Lines.{pairLine, refusedWord}
 use Rattle.listing.specs.Lines.{totalWord, awardLine}
@@ -121,15 +122,16 @@ same-text-same-list l l′ e a a′ = same-shown {old′ = l′ .buffer} (l .pro
 pub list-fits : (l : ListCall) → 51200 ≤ length (l .buffer) → 0 < l .answer
 list-fits l h = list.suffices (l .promise) h .0
 
--- No bid is dropped or shortened: an accepted text is spelt again from what was read, and the tables hold just that.
+-- No bid is dropped or shortened: an accepted text is spelt again from what was read and a word for each price, and the tables hold
+-- just that.
 pub nothing-dropped : (r : ReadCall) (t : Tender) (n m : ℕ) → r .run .answer ≡ answer.Accepted t n m → WasRead (r .run) t
 nothing-dropped = read-again
 
 -- an accepted text
 module _ (text : List ℕ) (T : Tender) (R : List Row) (W : List Window) (read : readText text ≡ accepted T R W) where
-  -- The same of the text alone.
-  pub one-spelling : text ≡ textOf T (map (bidIn (flatWindows W)) R)
-  one-spelling = spelt-again text T R W read
+  -- The same of the text alone, up to the spelling of prices.
+  pub spelt-from-what-was-read : Spelt text T (map (bidIn (flatWindows W)) R)
+  spelt-from-what-was-read = spelt-again text T R W read
 
   -- There is a row for each line after the head, and each byte is a digit, a space, a bracket, a newline or a letter.
   pub row-for-each-line : length R + length (headLines T) ≡ bytesLike 10 text

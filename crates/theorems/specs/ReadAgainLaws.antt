@@ -1,4 +1,5 @@
--- A call of `read` that accepted its text left its rows and windows, from which the text is spelt again. Assumes nothing.
+-- A call of `read` that accepted its text left its rows and windows, from which the text is spelt again up to the spelling of prices.
+-- Assumes nothing.
 use mathlib.Core.Path.{_≡_, sym, subst, _∙_}
 use mathlib.Core.List.{List}
 use Prim.Native.Nat.{ℕ}

@@ -1,162 +1,151 @@
 -- Each bid of an accepted text can be given another price as demand 3 says: a text that differs in that price alone. Assumes nothing.
-use mathlib.Core.Path.{_≡_, refl, sym, ap, _∙_}
-use mathlib.Core.List.{List, [], _∷_, _++_, map, append-assoc}
+use mathlib.Core.Path.{_≡_, refl, sym, ap, subst, _∙_}
+use mathlib.Core.List.{List, [], _∷_, _++_, map, append-assoc, append-nil}
+use mathlib.Core.Option.{some}
 use Prim.Native.Nat.{ℕ, zero, suc, _+_, _≤_, _<_}
 use native.Mathlib.Omega.{arith}
-use lib.ListN.{length, getD, take, drop, length-drop}
+use lib.ListN.{length, getD}
 use Rattle.tender.specs.declared.Kind.{Kind}
 use Rattle.tender.specs.declared.Window.{Window}
+use Rattle.tender.specs.declared.Reserve.{Reserve}
+use Rattle.tender.specs.declared.Reserve.the-variants.{Absent, Price}
 use Rattle.tender.specs.declared.Tender.{Tender}
-use Rattle.tender.specs.Keywords.{bytes, bidWord}
-use Rattle.tender.specs.Tables.{Row}
+use Rattle.tender.specs.Keywords.{bytes, bidWord, reserveWord}
+use Rattle.tender.specs.Tables.{Row, flatWindows}
+use Rattle.reader_word.specs.Words.{priceOf}
+use Rattle.reader_word.specs.NumberFrontLaws.{price-without}
+use Rattle.reader_line.specs.Line.{BidLine}
 use Rattle.reader_text.specs.Read.{accepted, readText}
 use Rattle.reader_text.specs.Rules.{RowsRules}
 use Rattle.reader_text.specs.RulesLaws.{rules-law}
 use Rattle.reader_text.specs.PriceChangeLaws.{Changed, price-change}
 use Rattle.reader_text.specs.Differ.{bidLine, Word, DifferInPrice}
 use Rattle.award_check.specs.Cells.{noRow}
-use Rattle.award_check.specs.TextLaws.{rows-end}
 use Rattle.spelling.specs.Decimal.{decimal}
 use Rattle.spelling.specs.DecimalLaws.{decimal-plain}
-use Rattle.reader_word.specs.RejoinedLaws.{rejoined}
-use Rattle.spelling.specs.WordLaws.{spaced, ended, tenderWords, windowWords, bidWords}
-use Rattle.writer_back.specs.SpeltLaws.{spansOf, rowLine, spacedReserve, spacedText, spelt-words}
+use Rattle.spelling.specs.Lines.{closing}
+use Rattle.spelling.specs.Text.{windowText, windowsText, bidTextAs, tenderText, bidIn}
+use Rattle.spelling.specs.Spelt.{SpeltBids, SpeltReserve}
+use Rattle.spelling.specs.WordLaws.{spaced, tenderWords, oneWords, tender-line, one-line}
+use Rattle.writer.specs.RowLaws.{own-length}
+use Rattle.writer_back.specs.SpeltLaws.{spelt-again}
 use Rattle.theorems.specs.Between.{Variant}
 
--- row i among the rows
-record Placed (R : List Row) (i : ℕ) : Type 0 where
-  before : List Row
-  after : List Row
-  are : R ≡ before ++ getD R i noRow ∷ after
+-- words
 
-row-at : (R : List Row) (i : ℕ) → i < length R → Placed R i
-row-at [] i l = absurd (omega arith)
-row-at (r ∷ R) zero l = record { before = []; after = R; are = refl }
-row-at (r ∷ R) (suc i) l = let a = row-at R i (omega arith) in
-    record { before = r ∷ a .before; after = a .after; are = ap (λ s. r ∷ s) (a .are) }
+number-word : (n : ℕ) → Word (decimal n)
+number-word n = record { no-space = decimal-plain 32 n (omega arith); no-end = decimal-plain 10 n (omega arith) }
 
--- its windows stand among the windows
-row-in : (k : Kind) (used : List ℕ) (at : ℕ) (xs : List Row) (r : Row) (ys : List Row) (end : ℕ)
-    → RowsRules k used at (xs ++ r ∷ ys) end
-    → (1 ≤ r .count) × (r .first + r .count ≤ end)
-row-in k used at [] r ys end (h, hs) = let b = h .begins in let s = h .some-window in
-    (s, omega (arith, b, rows-end k (used ++ r .bidder ∷ []) (at + r .count) ys end hs))
-row-in k used at (x ∷ xs) r ys end (h, hs) = row-in k (used ++ x .bidder ∷ []) (at + x .count) xs r ys end hs
-
--- so its line is a bid's, up to its price and from there on
-line-parts : (n p : ℕ) (ws : List Window) → 1 ≤ length ws
-    → spaced (bidWords n p ws) ≡ bidLine (decimal n) (decimal p) (spaced (windowWords ws))
-unfolding rejoined bidWords windowWords bidLine
-line-parts n p [] l = absurd (omega arith)
-line-parts n p (w ∷ []) l = refl
-line-parts n p (w ∷ x ∷ ws) l = refl
-
-some-taken : (n : ℕ) (l : List Window) → 1 ≤ n → 1 ≤ length l → 1 ≤ length (take n l)
-some-taken zero l h k = absurd (omega arith)
-some-taken (suc n) [] h k = absurd (omega arith)
-some-taken (suc n) (x ∷ l) h k = omega arith
-
-line-more : (n p a s : List ℕ) → bidLine n p a ++ s ≡ bidLine n p (a ++ s)
-unfolding bidLine bidWord bytes
-line-more n p a s = ap (λ r. 40 ∷ 98 ∷ 105 ∷ 100 ∷ 32 ∷ r)
-    (append-assoc n (32 ∷ (p ++ 32 ∷ a)) s ∙ ap (λ r. n ++ 32 ∷ r) (append-assoc p (32 ∷ a) s))
-
-map-parts : (f : Row → List ℕ) (xs ys : List Row) → map f (xs ++ ys) ≡ map f xs ++ map f ys
-map-parts f [] ys = refl
-map-parts f (x ∷ xs) ys = ap (λ l. f x ∷ l) (map-parts f xs ys)
-
-ended-parts : (xs ys : List (List ℕ)) → ended (xs ++ ys) ≡ ended xs ++ ended ys
-unfolding ended
-ended-parts [] ys = refl
-ended-parts (x ∷ xs) ys = ap (λ l. x ++ 10 ∷ l) (ended-parts xs ys) ∙ sym (append-assoc x (10 ∷ ended xs) (ended ys))
+price-word : (p : List ℕ) (v : ℕ) → priceOf p ≡ some v → Word p
+price-word p v e = record { no-space = price-without 32 p v (omega arith) e; no-end = price-without 10 p v (omega arith) e }
 
 -- lines end with a byte 10
 record Ends (s : List ℕ) : Type 0 where
   but-last : List ℕ
   are : s ≡ but-last ++ 10 ∷ []
 
-ends : (l : List ℕ) (ls : List (List ℕ)) → Ends (ended (l ∷ ls))
-unfolding ended
-ends l [] = record { but-last = l; are = refl }
-ends l (m ∷ ls) = let e = ends m ls in record {
-  but-last = l ++ 10 ∷ e .but-last;
-  are = ap (λ r. l ++ 10 ∷ r) (e .are)
-      ∙ sym (append-assoc l (10 ∷ e .but-last) (10 ∷ []));
+ends-after : (a s : List ℕ) → Ends s → Ends (a ++ s)
+ends-after a s e = record {
+  but-last = a ++ e .but-last;
+  are = ap (λ r. a ++ r) (e .are) ∙ sym (append-assoc a (e .but-last) (10 ∷ []));
 }
 
-number-word : (n : ℕ) → Word (decimal n)
-number-word n = record { no-space = decimal-plain 32 n (omega arith); no-end = decimal-plain 10 n (omega arith) }
+bid-ends : (p : List ℕ) (b : BidLine) → Ends (bidTextAs p b)
+unfolding bidTextAs bytes closing
+bid-ends p b = record {
+  but-last = bytes "(bid " ++ (decimal (b .bidder) ++ (32 ∷ (p ++ (windowsText (b .windows) ++ 41 ∷ []))));
+  are = simp append-assoc;
+}
 
--- the lines before a row's, its line and those after it
-around : (T : Tender) (W : List Window) (xs : List Row) (r : Row) (ys : List Row) → spacedText T (xs ++ r ∷ ys) W
-    ≡ ended (spaced (tenderWords T) ∷ (spacedReserve (T .reserve) ++ map (rowLine W) xs))
-    ++ (rowLine W r ++ 10 ∷ ended (map (rowLine W) ys))
-unfolding spacedText ended
-around T W xs r ys =
-    ap (λ x. ended (spaced (tenderWords T) ∷ x)) (ap (λ x. spacedReserve (T .reserve) ++ x) (map-parts (rowLine W) xs (r ∷ ys))
-    ∙ sym (append-assoc (spacedReserve (T .reserve)) (map (rowLine W) xs) (map (rowLine W) (r ∷ ys))))
-    ∙ ended-parts (spaced (tenderWords T) ∷ (spacedReserve (T .reserve) ++ map (rowLine W) xs)) (rowLine W r ∷ map (rowLine W) ys)
-
-line-at : (W : List Window) (r : Row) (rest : List ℕ) → 1 ≤ length (spansOf W r) → rowLine W r ++ 10 ∷ rest
-    ≡ bidLine (decimal (r .bidder)) (decimal (r .price)) (spaced (windowWords (spansOf W r)) ++ 10 ∷ rest)
-unfolding rowLine
-line-at W r rest s = ap (λ x. x ++ 10 ∷ rest) (line-parts (r .bidder) (r .price) (spansOf W r) s)
-    ∙ line-more (decimal (r .bidder)) (decimal (r .price)) (spaced (windowWords (spansOf W r))) (10 ∷ rest)
+head-ends : (t : Tender) (r : Reserve) (s : List ℕ) → SpeltReserve s r → Ends (tenderText t ++ s)
+head-ends t Absent s e =
+    rw (e, append-nil (tenderText t)) (record { but-last = spaced (tenderWords t); are = tender-line t })
+head-ends t (Price v) s (p, h, e) = ends-after (tenderText t) s
+    (record { but-last = spaced (oneWords reserveWord p); are = e ∙ one-line reserveWord p })
 
 -- the text up to a row's line, and from its price on
 record Parted (text : List ℕ) (r : Row) : Type 0 where
   head : List ℕ
+  p : List ℕ
   tail : List ℕ
-  is : text ≡ head ++ 10 ∷ bidLine (decimal (r .bidder)) (decimal (r .price)) tail
+  priced : priceOf p ≡ some (r .price)
+  is : text ≡ head ++ 10 ∷ bidLine (decimal (r .bidder)) p tail
 
-parted : (text : List ℕ) (T : Tender) (xs : List Row) (r : Row) (ys : List Row) (W : List Window)
-    → text ≡ spacedText T (xs ++ r ∷ ys) W
-    → 1 ≤ length (spansOf W r) → Parted text r
-parted text T xs r ys W e s =
-    let b = ends (spaced (tenderWords T)) (spacedReserve (T .reserve) ++ map (rowLine W) xs) in
-    let rest = ended (map (rowLine W) ys) in
+line-more : (n p a s : List ℕ) → bidLine n p a ++ s ≡ bidLine n p (a ++ s)
+unfolding bidLine bidWord bytes
+line-more n p a s = ap (λ r. 40 ∷ 98 ∷ 105 ∷ 100 ∷ 32 ∷ r)
+    (append-assoc n (32 ∷ (p ++ 32 ∷ a)) s ∙ ap (λ r. n ++ 32 ∷ r) (append-assoc p (32 ∷ a) s))
+
+-- a bid's line, with a window, from its price on
+line-parts : (p : List ℕ) (b : BidLine) (rest : List ℕ) → 1 ≤ length (b .windows)
+    → (tail : List ℕ) × (bidTextAs p b ++ rest ≡ bidLine (decimal (b .bidder)) p tail)
+unfolding bidTextAs windowsText windowText bidLine bidWord bytes
+line-parts p b rest l = go (b .windows) refl l
+  where
+    go : (ws : List Window) → b .windows ≡ ws → 1 ≤ length ws
+        → (tail : List ℕ) × (bidTextAs p b ++ rest ≡ bidLine (decimal (b .bidder)) p tail)
+    go [] e l = absurd (omega arith)
+    go (w ∷ ws) e l =
+        let after = 40 ∷ (decimal (w .start) ++ 32 ∷ (decimal (w .end) ++ 41 ∷ [])) ++ windowsText ws ++ closing in
+        (after ++ rest, rw e (line-more (decimal (b .bidder)) p after rest))
+
+-- bytes that end with byte 10 before the lines of the rows
+parted : (k : Kind) (used : List ℕ) (at : ℕ) (cells : List ℕ) (R : List Row) (end i : ℕ) (a s : List ℕ)
+    → RowsRules k used at R end → Ends a → SpeltBids s (map (bidIn cells) R) → i < length R → Parted (a ++ s) (getD R i noRow)
+unfolding bidIn
+parted k used at cells [] end i a s h e m l = absurd (omega arith)
+parted k used at cells (r ∷ R) end zero a s (h, hs) e (p, rest, v, q, m) l =
+    let t = line-parts p (bidIn cells r) rest (omega (arith, own-length cells r, h .some-window)) in
     record {
-      head = b .but-last;
-      tail = spaced (windowWords (spansOf W r)) ++ 10 ∷ rest;
-      is = e ∙ around T W xs r ys ∙ ap (λ x. x ++ (rowLine W r ++ 10 ∷ rest)) (b .are)
-          ∙ append-assoc (b .but-last) (10 ∷ []) (rowLine W r ++ 10 ∷ rest)
-          ∙ ap (λ x. b .but-last ++ 10 ∷ x) (line-at W r rest s);
+      head = e .but-last;
+      p = p;
+      tail = t .0;
+      priced = v;
+      is = ap (λ x. a ++ x) (q ∙ t .1) ∙ ap (λ x. x ++ bidLine (decimal (r .bidder)) p (t .0)) (e .are)
+          ∙ append-assoc (e .but-last) (10 ∷ []) (bidLine (decimal (r .bidder)) p (t .0));
     }
+parted k used at cells (r ∷ R) end (suc i) a s (h, hs) e (p, rest, v, q, m) l =
+    let b = bidTextAs p (bidIn cells r) in
+    let f : (a ++ b) ++ rest ≡ a ++ s = append-assoc a b rest ∙ ap (λ x. a ++ x) (sym q) in
+    subst (λ x. Parted x (getD R i noRow)) f
+    (parted k (used ++ r .bidder ∷ []) (at + r .count) cells R end i (a ++ b) rest hs (ends-after a b (bid-ends p (bidIn cells r))) m
+    (omega arith))
 
 pub varied : (text : List ℕ) (T : Tender) (R : List Row) (W : List Window) → readText text ≡ accepted T R W → (i : ℕ)
     → i < length R
     → (q : List ℕ) → Word q → Variant text T R W i q
-varied text T R W h i l q wq = go (row-at R i l)
+varied text T R W h i l q wq =
+    let s = spelt-again text T R W h in
+    let e = head-ends T (T .reserve) (s .reserve) (s .reserve-is) in
+    let f : (tenderText T ++ s .reserve) ++ s .bids ≡ text = append-assoc (tenderText T) (s .reserve) (s .bids) ∙ sym (s .is) in
+    made (subst (λ x. Parted x r) f (parted (T .kind) [] 0 (flatWindows W) R (length W) i (tenderText T ++ s .reserve) (s .bids)
+    (rules-law T R W text h .rows) e (s .bids-are) l))
   where
     r : Row
     r = getD R i noRow
 
     made : Parted text r → Variant text T R W i q
-    made p = record {
+    made a = record {
       other = other;
+      p = a .p;
+      is = a .priced;
       differ = differ;
       accepted-too = λ v e m k. also (price-change text other _ _ q v T R W differ h e m k);
     }
       where
         other : List ℕ
-        other = p .head ++ 10 ∷ bidLine (decimal (r .bidder)) q (p .tail)
+        other = a .head ++ 10 ∷ bidLine (decimal (r .bidder)) q (a .tail)
 
-        differ : DifferInPrice text other (decimal (r .bidder)) (decimal (r .price)) q
+        differ : DifferInPrice text other (decimal (r .bidder)) (a .p) q
         differ = record {
-          before = p .head;
-          after = p .tail;
-          left = p .is;
+          before = a .head;
+          after = a .tail;
+          left = a .is;
           right = refl;
           bidder-word = number-word (r .bidder);
-          p-word = number-word (r .price);
+          p-word = price-word (a .p) (r .price) (a .priced);
           q-word = wq;
         }
 
-        also : Changed T R W other (decimal (r .bidder)) (decimal (r .price)) q → (S : List Row) × (readText other ≡ accepted T S W)
+        also : Changed T R W other (decimal (r .bidder)) (a .p) q → (S : List Row) × (readText other ≡ accepted T S W)
         also c = (c .S, c .stays)
-
-    go : Placed R i → Variant text T R W i q
-    go a =
-        let b = row-in (T .kind) [] 0 (a .before) r (a .after) (length W) (rw (a .are) at (rules-law T R W text h .rows)) in
-        let s = some-taken (r .count) (drop (r .first) W) (b .0) (omega (arith, b .0, b .1, length-drop (r .first) W)) in
-        made (parted text T (a .before) r (a .after) W (spelt-words text T R W h ∙ ap (λ x. spacedText T x W) (a .are)) s)

@@ -16,12 +16,13 @@ use Rattle.tender.specs.Tables.{Row, rowsOf, flatRows, flatWindows}
 use Rattle.reader_text.specs.Read.{accepted, readText}
 use Rattle.reader_text.specs.RulesLaws.{rules-law}
 use Rattle.spelling.specs.Text.{bidIn, textOf}
+use Rattle.spelling.specs.SpeltShortLaws.{spelt-short}
 use Rattle.award_check.specs.Faults.{faultOf}
 use Rattle.award_check.specs.TextLaws.{rows-flat, never-nine}
 use Rattle.writer_line.specs.Respelt.{respelt}
 use Rattle.writer.specs.Canonical.{respeltIn, canonical, WriteOutcome, spelt, unspelt, unlessFault, writeInto}
 use Rattle.writer_back.specs.BidLaws.{AllLawful, row-lawful}
-use Rattle.writer_back.specs.SpeltLaws.{spelt-lines, bids-of, spelt-again}
+use Rattle.writer_back.specs.SpeltLaws.{bids-read, bids-of, spelt-again}
 use Rattle.writer_back.specs.ShortLaws.{canonical-short}
 use Rattle.writer_back.specs.ReadBackLaws.{read-lawful}
 
@@ -34,7 +35,7 @@ module _ (text : List ℕ) (T : Tender) (R : List Row) (W : List Window) (e : re
   -- the bids are the same, whatever stands past the windows
   pub bids-alone : (w : List ℕ) → map (bidIn (flatWindows W ++ w)) R ≡ map (bidIn (flatWindows W)) R
   bids-alone w =
-      let s = spelt-lines text T R W e in
+      let s = bids-read text T R W e in
       bids-of text T R W w s ∙ sym (bids-of text T R W [] s) ∙ ap (λ ws. map (bidIn ws) R) (append-nil (flatWindows W))
 
   -- and so is the text of them
@@ -65,4 +66,8 @@ module _ (text : List ℕ) (T : Tender) (R : List Row) (W : List Window) (e : re
 
   -- it is written with no more bytes than it has
   pub no-longer : length (canonical T R (flatWindows W)) ≤ length text
-  no-longer = omega (arith, canonical-short T R (flatWindows W) read-all-lawful, ap length (spelt-again text T R W e))
+  no-longer = omega (
+    arith,
+    canonical-short T R (flatWindows W) read-all-lawful,
+    spelt-short text T (map (bidIn (flatWindows W)) R) (spelt-again text T R W e),
+  )

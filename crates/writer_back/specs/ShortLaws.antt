@@ -11,8 +11,8 @@ use Rattle.tender.specs.Keywords.{bytes}
 use Rattle.tender.specs.Limits.{lawful, every}
 use Rattle.tender.specs.Tables.{Row, own}
 use Rattle.spelling.specs.Decimal.{decimal}
-use Rattle.spelling.specs.Lines.{closing}
 use Rattle.spelling.specs.Text.{windowText, windowsText, bidText, bidsText, tenderText, reserveText, headText, textOf, bidIn}
+use Rattle.spelling.specs.SpeltShortLaws.{bid-bytes}
 use Rattle.runs.specs.Runs.{joined}
 use Rattle.runs.specs.RunsFewLaws.{startsSum, endsSum, joined-starts, joined-ends}
 use Rattle.writer_line.specs.Respelt.{respelt}
@@ -41,25 +41,13 @@ joined-short ws e = omega (
   joined-ends (λ z. length (decimal z)) ws e,
 )
 
--- the bytes of a bid's line, by those of its windows
-bid-bytes : (n p : ℕ) (ws : List Window)
-    → length (bidText (record { bidder = n; price = p; windows = ws }))
-    ≡ length (decimal n) + length (decimal p) + length (windowsText ws) + 8
-unfolding bidText bytes closing
-bid-bytes n p ws = omega (
-  arith,
-  length-append (decimal n) (32 ∷ (decimal p ++ (windowsText ws ++ 41 ∷ 10 ∷ []))),
-  length-append (decimal p) (windowsText ws ++ 41 ∷ 10 ∷ []),
-  length-append (windowsText ws) (41 ∷ 10 ∷ []),
-)
-
 bid-short : (windows : List ℕ) (r : Row) → every lawful (own windows r) ≡ true
     → length (bidText (respelt (bidIn windows r))) ≤ length (bidText (bidIn windows r))
-unfolding respelt bidIn
+unfolding bidText respelt bidIn
 bid-short windows r e = omega (
   arith,
-  bid-bytes (r .bidder) (r .price) (joined (own windows r)),
-  bid-bytes (r .bidder) (r .price) (own windows r),
+  bid-bytes (decimal (r .price)) (respelt (bidIn windows r)),
+  bid-bytes (decimal (r .price)) (bidIn windows r),
   joined-short (own windows r) e,
 )
 

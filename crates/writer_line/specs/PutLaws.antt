@@ -14,7 +14,7 @@ use Rattle.tender.specs.Limits.{lawful, every}
 use Rattle.reader_line.specs.Line.{BidLine}
 use Rattle.spelling.specs.Decimal.{decimal}
 use Rattle.spelling.specs.Lines.{closing, numbers, oneLine, kindWord}
-use Rattle.spelling.specs.Text.{windowText, windowsText, bidText, tenderText, reserveText, headText}
+use Rattle.spelling.specs.Text.{windowText, windowsText, bidTextAs, bidText, tenderText, reserveText, headText}
 use Rattle.spelling.specs.Written.{Written}
 use Rattle.spelling.specs.WritingLaws.{then}
 use Rattle.spelling.specs.SpellingLaws.{nothing-written}
@@ -57,7 +57,7 @@ pub bid-written : {old m1 m2 m3 m4 new : List ℕ} {at e1 e2 e3 e4 f : ℕ} (b :
     → Written m1 e1 (decimal (b .bidder)) m2 e2 → Written m2 e2 (32 ∷ decimal (b .price)) m3 e3
     → Written m3 e3 (windowsText (joined (b .windows))) m4 e4 → Written m4 e4 (bytes ")\n") new f
     → Written old at (bidText (respelt b)) new f
-unfolding bidText respelt closing
+unfolding bidTextAs bidText respelt closing
 bid-written {old} {m1} {m2} {m3} {m4} {new} {at} {e1} {e2} {e3} {e4} {f} b x y z ws q = then x (then y (then z (then ws q)))
 
 -- ---- windows one by one
