@@ -8,6 +8,8 @@ pub mod RestLaws
 pub mod Differ
 pub mod PriceLaws
 pub mod PriceChangeLaws
+pub mod DifferInSpelling
+pub mod SpellingLaws
 pub mod Rules
 pub mod RulesLaws
 pub mod CountLaws

@@ -75,7 +75,7 @@ line-lines : (n q f : List ℕ) (ps : List (List ℕ)) → Word n → Word q →
 unfolding linesOf
 line-lines n q f ps wn wq c = rw (c .are) (rw (line-of n q f wn wq))
 
-short : (text : List ℕ) → length text ≤ 65536 → readText text ≡ readLines (linesOf (cut 10 text))
+pub short : (text : List ℕ) → length text ≤ 65536 → readText text ≡ readLines (linesOf (cut 10 text))
 unfolding readText
 short text l = rw (le-ltb 65536 (length text) l)
 

@@ -76,6 +76,12 @@ pub record Variant (text : List ℕ) (t : Tender) (R : List Row) (W : List Windo
   pub accepted-too : (v : ℕ) → priceOf q ≡ some v → v ≤ maxPrice → length other ≤ maxText
       → (S : List Row) × (readText other ≡ accepted t S W)
 
+-- two calls of `read` gave the same answer and left the same in the tables
+pub record SameReading (r r′ : ReadCall) : Type 0 where
+  pub answers : r .run .answer ≡ r′ .run .answer
+  pub bids : r .run .bids-after ≡ r′ .run .bids-after
+  pub windows : r .run .windows-after ≡ r′ .run .windows-after
+
 -- the award is called on what the accepted text left
 pub record Follows (r : ReadCall) (c : AwardCall) : Type 0 where
   pub window-rows : ℕ

@@ -31,6 +31,7 @@ use Rattle.reader_text.specs.CountLaws.{lines-law, room-law}
 use Rattle.reader_text.specs.PlainLaws.{plain-law}
 use Rattle.reader.specs.declared.Reading.the-variants as answer
 use Rattle.reader_text.specs.Differ.{Word, DifferInPrice}
+use Rattle.reader_text.specs.DifferInSpelling.{DifferInSpelling}
 use Rattle.award_check.specs.Cells.{noRow}
 use Rattle.award_check.specs.Auction.{atPrice}
 use Rattle.award_check.specs.Alike.{named, Alike}
@@ -59,7 +60,7 @@ use Rattle.theorems.specs.Calls.{WriteCall, RewriteCall}
 use Rattle.theorems.specs.OneReading.{OneReading, OfText}
 use Rattle.theorems.specs.ListRead.{rowShown}
 use Rattle.theorems.specs.Between.{BidsAlone, Exactly, CallableWith, FewerThan, ForCover, priceAt, WasRead}
-use Rattle.theorems.specs.Between.{Variant, Follows, SameAward}
+use Rattle.theorems.specs.Between.{Variant, SameReading, Follows, SameAward}
 use Rattle.theorems.specs.Between.{NoGainBetween, OneList}
 use Rattle.theorems.specs.Between.{ListGiven, NoGainShown, Showable}
 use Rattle.theorems.specs.ReadingLaws as reading
@@ -75,6 +76,7 @@ use Rattle.theorems.specs.ListGainLaws.{list-shows, no-gain-shown}
 use Rattle.theorems.specs.Rewriting.{OneWriting, ReadAsWritten, SameTables}
 use Rattle.theorems.specs.RewritingLaws.{one-writing, nine-as-award, read-as-written, equal-written, equal-rewritten}
 use Rattle.theorems.specs.RewritingLaws.{always-fits, read-rewritten, rewritten-again, rewritten-fits}
+use Rattle.theorems.specs.EitherSpellingLaws.{reading-same, list-same, rewriting-same}
 
 -- Demand 1. Every text and every table gets one complete award or one refusal, by number and place. No bid is dropped or shortened,
 -- and a refusal changes nothing that was lent.
@@ -321,3 +323,21 @@ module _ (l : RewriteCall) (T : Tender) (R : List Row) (W : List Window) (read :
   -- and is no longer than it was: 14 is for a buffer that is shorter than the text.
   pub rewritten-no-longer : length (l .text) ≤ length (l .buffer) → (0 < l .answer) × (l .answer ≤ length (l .text))
   rewritten-no-longer = rewritten-fits l T R W read
+
+-- Paper 6 of 02. Prices with a point: two texts that differ only in how prices are spelt, neither too long, are answered alike,
+-- accepted or refused.
+
+-- They get the same list,
+pub same-list-of-either-spelling : (l l′ : ListCall) → DifferInSpelling (l .text) (l′ .text) → 0 < l .answer → 0 < l′ .answer
+    → shown l ≡ shown l′
+same-list-of-either-spelling = list-same
+
+-- the same rewriting,
+pub same-rewriting-of-either-spelling : (l l′ : RewriteCall) → DifferInSpelling (l .text) (l′ .text) → 0 < l .answer
+    → 0 < l′ .answer → shown l ≡ shown l′
+same-rewriting-of-either-spelling = rewriting-same
+
+-- and, read into the same tables, the same answer and the same tables left.
+pub same-reading-of-either-spelling : (r r′ : ReadCall) → DifferInSpelling (r .run .text) (r′ .run .text)
+    → r .run .bids ≡ r′ .run .bids → r .run .windows ≡ r′ .run .windows → SameReading r r′
+same-reading-of-either-spelling = reading-same

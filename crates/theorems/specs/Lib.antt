@@ -16,4 +16,5 @@ pub mod ListGainLaws
 pub mod UnreservedLaws
 pub mod WorkedLaws
 pub mod RewritingLaws
+pub mod EitherSpellingLaws
 pub mod Demands
