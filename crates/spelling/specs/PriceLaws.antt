@@ -19,7 +19,7 @@ use Rattle.spelling.specs.DecimalLaws.{decimal-few, numeral-decimal, num
 pub price-decimal : (n : ℕ) → n < 1000000000 → priceOf (decimal n) ≡ some n
 price-decimal n l = price-plainly (decimal n) n (numeral-decimal n l)
 
-pub price-with-point : (n : ℕ) → n < 1000000000 → priceOf (withPoint n) ≡ some n
+price-with-point : (n : ℕ) → n < 1000000000 → priceOf (withPoint n) ≡ some n
 unfolding withPoint
 price-with-point n l =
     let a = 48 + n % 100 / 10 in
@@ -37,6 +37,10 @@ price-with-point n l =
       cents-are = cents-two a b (inside a (omega arith) (omega arith)) (inside b (omega arith) (omega arith));
       value = omega arith;
     })
+
+pub written-price : (w : List ℕ) (n : ℕ) → (n < 1000000000) × ((w ≡ decimal n) ⊎ (w ≡ withPoint n)) → priceOf w ≡ some n
+written-price w n (l, inl e) = ap priceOf e ∙ price-decimal n l
+written-price w n (l, inr e) = ap priceOf e ∙ price-with-point n l
 
 -- a price is written in one of the two ways
 

@@ -19,7 +19,7 @@ use Rattle.tender.specs.declared.Refusal.{Refusal}
 use Rattle.tender.specs.declared.Refusal.the-variants.{BadTables}
 use Rattle.tender.specs.Refusals.{numberOf}
 use Rattle.tender.specs.Tables.{Row, rowsOf, flatRows, flatWindows, bidWidth, windowWidth}
-use Rattle.reader_word.specs.Words.{digits}
+use Rattle.reader_word.specs.Words.{digits, priceOf}
 use Rattle.reader_line.specs.Line.{TenderLine, BidLine, Line, tender, headLines}
 use Rattle.reader_line.specs.LinePlain.{allPlain}
 use Rattle.reader_text.specs.Read.{accepted, refused, readText, readInto}
@@ -45,7 +45,7 @@ use Rattle.award.specs.RowsPromiseLaws.{rows-promise}
 use Rattle.award.specs.Right.{Bidders, IsAward, OneAnswer, LeastCover, WinnerAt, PaidByEight}
 use Rattle.award.specs.OneAnswerLaws as one
 use Rattle.award.specs.OutcomeLaws as outcome
-use Rattle.spelling.specs.Decimal.{decimal}
+use Rattle.spelling.specs.Decimal.{decimal, withPoint}
 use Rattle.spelling.specs.Text.{tenderText, bidsText, textOf, bidIn}
 use Rattle.spelling.specs.Spelt.{Spelt}
 use Rattle.spelling.specs.DeliveredLaws.{same-shown}
@@ -65,6 +65,7 @@ use Rattle.theorems.specs.Between.{NoGainBetween, OneList}
 use Rattle.theorems.specs.Between.{ListGiven, NoGainShown, Showable}
 use Rattle.theorems.specs.ReadingLaws as reading
 use Rattle.spelling.specs.DecimalLaws.{decimal-back}
+use Rattle.spelling.specs.PriceLaws.{price-written, written-price}
 use Rattle.writer_back.specs.SpeltLaws.{spelt-again}
 use Rattle.theorems.specs.ReadAgainLaws.{read-again}
 use Rattle.theorems.specs.VariedLaws.{varied}
@@ -324,10 +325,14 @@ module _ (l : RewriteCall) (T : Tender) (R : List Row) (W : List Window) (read :
   pub rewritten-no-longer : length (l .text) ≤ length (l .buffer) → (0 < l .answer) × (l .answer ≤ length (l .text))
   rewritten-no-longer = rewritten-fits l T R W read
 
--- Paper 6 of 02. Prices with a point: two texts that differ only in how prices are spelt, neither too long, are answered alike,
--- accepted or refused.
+-- Paper 6 of 02. Prices with a point.
 
--- They get the same list,
+-- A word is read as a price exactly where it is that price in whole cents or with a point.
+pub two-spellings : (w : List ℕ) (v : ℕ)
+    → Exactly (priceOf w ≡ some v) ((v < 1000000000) × ((w ≡ decimal v) ⊎ (w ≡ withPoint v)))
+two-spellings w v = (price-written w v, written-price w v)
+
+-- Two texts that differ only in how prices are spelt, neither too long, are answered alike, accepted or refused. They get the same list,
 pub same-list-of-either-spelling : (l l′ : ListCall) → DifferInSpelling (l .text) (l′ .text) → 0 < l .answer → 0 < l′ .answer
     → shown l ≡ shown l′
 same-list-of-either-spelling = list-same
