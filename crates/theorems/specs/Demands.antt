@@ -136,7 +136,7 @@ module _ (text : List ℕ) (T : Tender) (R : List Row) (W : List Window) (read :
   pub spelt-from-what-was-read : Spelt text T (map (bidIn (flatWindows W)) R)
   spelt-from-what-was-read = spelt-again text T R W read
 
-  -- There is a row for each line after the head, and each byte is a digit, a space, a bracket, a newline or a letter.
+  -- There is a row for each line after the head, and each byte is a digit, a point, a space, a bracket, a newline or a letter.
   pub row-for-each-line : length R + length (headLines T) ≡ bytesLike 10 text
   row-for-each-line = lines-law T R W text read
 
