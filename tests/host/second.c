@@ -54,6 +54,21 @@ static bool number(Line *l, long *v)
     return digits >= 1 && digits <= 9 && (digits == 1 || *from != '0');
 }
 
+/* A price is the word up to the next space or bracket. Its digits make the cents, and it has to be one of the two words for so many. */
+static bool price(Line *l, long *cents)
+{
+    enum { NINE_DIGITS = 999999999 };
+    const uint8_t *from = l->at;
+    char whole[24], pointed[24];
+    for (*cents = 0; l->at < l->end && *l->at != ' ' && *l->at != ')' && *cents <= NINE_DIGITS; l->at++)
+        if (*l->at >= '0' && *l->at <= '9') *cents = *cents * 10 + (*l->at - '0');
+    if (*cents > NINE_DIGITS) return false;
+    Line first = {from, l->at}, second = first;
+    sprintf(whole, "%ld", *cents);
+    sprintf(pointed, "%ld.%02ld", *cents / 100, *cents % 100);
+    return (word(&first, whole) && first.at == first.end) || (word(&second, pointed) && second.at == second.end);
+}
+
 static bool form_of_tender(Line l, Tender *t)
 {
     if (!word(&l, "(tender ")) return false;
@@ -63,16 +78,16 @@ static bool form_of_tender(Line l, Tender *t)
     return number(&l, &t->start) && word(&l, " ") && number(&l, &t->end) && word(&l, ")") && l.at == l.end;
 }
 
-static bool form_of_reserve(Line l, long *price)
+static bool form_of_reserve(Line l, long *cents)
 {
-    return word(&l, "(reserve ") && number(&l, price) && word(&l, ")") && l.at == l.end;
+    return word(&l, "(reserve ") && price(&l, cents) && word(&l, ")") && l.at == l.end;
 }
 
 /* the form of the whole line; `windows` counts them all, of which the first 33 are kept, `empty` and `late` those of either fault */
 static bool form_of_bid(Line l, Bid *b, long *windows, long *empty, long *late)
 {
     *windows = *empty = *late = 0;
-    if (!word(&l, "(bid ") || !number(&l, &b->bidder) || !word(&l, " ") || !number(&l, &b->price)) return false;
+    if (!word(&l, "(bid ") || !number(&l, &b->bidder) || !word(&l, " ") || !price(&l, &b->price)) return false;
     do {
         long s, e;
         if (!word(&l, " (") || !number(&l, &s) || !word(&l, " ") || !number(&l, &e) || !word(&l, ")")) return false;
