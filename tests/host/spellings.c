@@ -143,11 +143,16 @@ static void respell(SpeltBid *b)
 static size_t put_text(char *s, const Spelt *t, bool plain)
 {
     size_t at = (size_t)sprintf(s, "(tender %s %u %u)\n", t->single ? "single" : "multi", t->start, t->end);
-    if (t->reserved) at += (size_t)sprintf(s + at, "(reserve %u)\n", t->reserve);
+    if (t->reserved) {
+        at += (size_t)sprintf(s + at, "(reserve ");
+        at += put_price(s + at, t->reserve, !plain && !below(3));
+        at += (size_t)sprintf(s + at, ")\n");
+    }
     for (unsigned i = 0; i < t->n; i++) {
         SpeltBid b = t->bid[i];
-        if (!plain) respell(&b);
-        at += (size_t)sprintf(s + at, "(bid %u %u", b.bidder, b.price);
+        if (!plain && !t->single) respell(&b);
+        at += (size_t)sprintf(s + at, "(bid %u ", b.bidder);
+        at += put_price(s + at, b.price, !plain && !below(3));
         for (unsigned k = 0; k < b.runs; k++) at += (size_t)sprintf(s + at, " (%u %u)", b.run[k].start, b.run[k].end);
         at += (size_t)sprintf(s + at, ")\n");
     }
@@ -161,5 +166,5 @@ size_t plain_text(char *s, const Spelt *t)
 
 size_t any_text(char *s, const Spelt *t)
 {
-    return put_text(s, t, t->single);
+    return put_text(s, t, false);
 }

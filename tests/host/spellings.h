@@ -19,10 +19,11 @@ void some_bids(Spelt *t);
 /* one thing changed, and which: the tender, its reserve, a price, a bidder, a minute, the order of two bids, the last bid dropped */
 const char *change(Spelt *t);
 
-/* the text with a window for each run, in rising order */
+/* the text with prices in whole cents and a window for each run, in rising order */
 size_t plain_text(char *s, const Spelt *t);
 
-/* a text with the same minutes: windows split so that they touch or overlap, parts of them said again, all in a random order */
+/* a text with the same prices and minutes: one price in three with a point, and in a multi tender windows split so that they touch or
+   overlap, parts of them said again, all in a random order */
 size_t any_text(char *s, const Spelt *t);
 
 #endif

@@ -16,13 +16,39 @@ unsigned below(unsigned n)
     return (unsigned)((state >> 33) % n);
 }
 
+size_t put_price(char *s, unsigned cents, bool pointed)
+{
+    return (size_t)(pointed ? sprintf(s, "%u.%02u", cents / 100, cents % 100) : sprintf(s, "%u", cents));
+}
+
+size_t some_price(char *s, unsigned cents)
+{
+    return put_price(s, cents, !below(3));
+}
+
+/* a reserve's line */
+static size_t put_reserve(char *s, unsigned cents)
+{
+    size_t at = (size_t)sprintf(s, "(reserve ");
+    at += some_price(s + at, cents);
+    return at + (size_t)sprintf(s + at, ")\n");
+}
+
+/* a bid's line up to its windows */
+static size_t open_bid(char *s, unsigned bidder, unsigned cents)
+{
+    size_t at = (size_t)sprintf(s, "(bid %u ", bidder);
+    return at + some_price(s + at, cents);
+}
+
 size_t small_text(char *s)
 {
     unsigned start = below(30), cells = 1 + below(below(8) ? 40 : 200), n = below(9), single = below(2);
     size_t at = (size_t)sprintf(s, "(tender %s %u %u)\n", single ? "single" : "multi", start, start + cells);
-    if (below(2)) at += (size_t)sprintf(s + at, "(reserve %u)\n", below(4) ? below(150) : below(5));
+    if (below(2)) at += put_reserve(s + at, below(4) ? below(150) : below(5));
     for (unsigned i = 0; i < n; i++) {
-        at += (size_t)sprintf(s + at, "(bid %u %u", 1 + i * 7 + below(7), below(4) ? below(50) : below(5));
+        unsigned who = 1 + i * 7 + below(7);
+        at += open_bid(s + at, who, below(4) ? below(50) : below(5));
         for (unsigned k = single ? 1 : 1 + below(4); k; k--) {
             unsigned a = below(start + cells + 3), e = a + 1 + below(cells + 10);
             at += (size_t)sprintf(s + at, " (%u %u)", a, e);
@@ -32,14 +58,23 @@ size_t small_text(char *s)
     return at;
 }
 
-/* a window: mostly lawful, and at times empty, late or both */
+/* a window: mostly lawful, and at times empty, late or both, or with a point in it */
 static size_t some_window(char *s)
 {
     static const unsigned odd[] = {0, 5, 9, 10079, 10080, 10081, 10082, 999999999};
     unsigned a = below(20), e = a + 1 + below(20);
     if (!below(4)) a = odd[below(8)];
     if (!below(4)) e = odd[below(8)];
+    if (!below(150)) return (size_t)sprintf(s, below(2) ? " (%u.00 %u)" : " (%u %u.00)", a, e);
     return (size_t)sprintf(s, " (%u %u)", a, e);
+}
+
+/* a word that is just not a price */
+static const char *misspelt_price(void)
+{
+    static const char *word[] = {".50", "2.", "2.5", "2.500", "02.50", "00.50", "2.5.0", "2..50", "2.50.", "2,50", "12345678.00",
+                                 "10000000.00", "-2.50", "2.5O", ".", "007", "1000000000"};
+    return word[below(sizeof word / sizeof *word)];
 }
 
 /* a reserve's line: of any price, or, one in eight, just not one */
@@ -50,20 +85,24 @@ static size_t some_reserve(char *s)
                                      "(reserve5)", "(reserve 1000000000)", "(reserve -1)", " (reserve 5)", "(reserve 5))",
                                      "(reserve (0 5))", "(reserves 5)"};
     if (!below(8)) return (size_t)sprintf(s, "%s\n", misspelt[below(sizeof misspelt / sizeof *misspelt)]);
-    return (size_t)sprintf(s, "(reserve %u)\n", below(2) ? below(100) : price[below(5)]);
+    if (!below(16)) return (size_t)sprintf(s, "(reserve %s)\n", misspelt_price());
+    return put_reserve(s, below(2) ? below(100) : price[below(5)]);
 }
 
 size_t faulty_text(char *s)
 {
-    static const unsigned bidder[] = {0, 1, 2, 999999, 1000000}, price[] = {0, 100000000, 100000001};
+    static const unsigned bidder[] = {0, 1, 2, 999999, 1000000}, price[] = {0, 250, 100000000, 100000001, 999999999};
     bool single = below(2);
     unsigned start = below(8) ? 0 : 10081, end = below(8) ? 20 : below(2) ? 10081 : 0;
     size_t at = below(60) ? 0 : some_reserve(s);
-    at += (size_t)sprintf(s + at, "(tender %s %u %u)\n", single ? "single" : "multi", start, end);
+    at += (size_t)sprintf(s + at, below(200) ? "(tender %s %u %u)\n" : "(tender %s %u.00 %u)\n", single ? "single" : "multi", start, end);
     for (unsigned k = below(2) ? 0 : 1 + !below(12); k; k--) at += some_reserve(s + at);
     for (unsigned i = 0, n = below(6); i < n; i++) {
         unsigned who = below(3) ? 10 + i : below(2) ? 10 + below(4) : bidder[below(5)];
-        at += (size_t)sprintf(s + at, "(bid %u %u", who, below(6) ? below(50) : price[below(3)]);
+        unsigned cents = below(6) ? below(50) : price[below(5)];
+        if (!below(60)) at += (size_t)sprintf(s + at, "(bid %u %s", who, misspelt_price());
+        else if (!below(200)) at += (size_t)sprintf(s + at, "(bid %u.00 %u", who, cents);
+        else at += open_bid(s + at, who, cents);
         for (unsigned k = !below(8) ? 31 + below(3) : single && below(4) ? 1 : 1 + below(3); k; k--) at += some_window(s + at);
         at += (size_t)sprintf(s + at, ")\n");
         if (!below(30)) at += some_reserve(s + at);
@@ -73,7 +112,7 @@ size_t faulty_text(char *s)
 
 size_t mutated(char *s, size_t n)
 {
-    static const char odd[] = "0123456789() \nabdegilmnrstuv\r.-\0\377";
+    static const char odd[] = "0123456789() \nabdegilmnrstuv\r.,-\0\377";
     for (unsigned k = 1 + below(2); k; k--) {
         size_t at = n ? below((unsigned)n) : 0;
         char c = odd[below(sizeof odd - 1)];
@@ -218,10 +257,10 @@ size_t wide_text(char *s, Size size)
     if (thin) bids -= 1 + below(2);
     for (unsigned i = 0; i < bids; i++) bid[i].price = lesser(price_of(&bid[i], manner, rate), TOP_PRICE);
     size_t at = (size_t)sprintf(s, "(tender %s %u %u)\n", size.single ? "single" : "multi", start, start + size.minutes);
-    if (below(2)) at += (size_t)sprintf(s + at, "(reserve %u)\n", lesser(reserve_for(start, size.minutes, manner, rate), TOP_PRICE));
+    if (below(2)) at += put_reserve(s + at, lesser(reserve_for(start, size.minutes, manner, rate), TOP_PRICE));
     unsigned step = 1 + below(900), first = 1 + below(90000);
     for (unsigned i = 0; i < bids; i++) {
-        at += (size_t)sprintf(s + at, "(bid %u %u", first + i * step, bid[i].price);
+        at += open_bid(s + at, first + i * step, bid[i].price);
         for (unsigned k = 0; k < bid[i].count; k++) at += (size_t)sprintf(s + at, " (%u %u)", bid[i].window[k].start, bid[i].window[k].end);
         at += (size_t)sprintf(s + at, ")\n");
     }

@@ -9,11 +9,16 @@ enum { TEXT_ROOM = 1 << 17 };
 
 unsigned below(unsigned n);
 
-/* a tender of up to 40, at times 200 minutes with up to 8 bids; half have a reserve, most others are declined */
+/* a price in either spelling, whole cents or a point before the last two digits; and in one of the two, one in three with a point */
+size_t put_price(char *s, unsigned cents, bool pointed);
+size_t some_price(char *s, unsigned cents);
+
+/* a tender of up to 40, at times 200 minutes with up to 8 bids; half have a reserve, most others are declined. Here and below one price in
+   three has a point. */
 size_t small_text(char *s);
 
 /* a text whose lines have the form and often a fault or several: numbers at and past each limit, windows empty or late, too many of them;
-   reserves in any place, some of them misspelt */
+   reserves in any place, some of them misspelt; prices with a misspelt point, and points in other numbers */
 size_t faulty_text(char *s);
 
 /* a text with one or two bytes changed, dropped or put in */

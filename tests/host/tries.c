@@ -16,6 +16,7 @@ enum { MOST = 5, MINUTES = 10, TOP = 40, TRIED = 60, CEILING = (TOP + 2) * (MINU
 typedef struct {
     bool single, reserved;
     unsigned start, minutes, n, entries, price[MOST + 1], has[MOST + 1], all;
+    bool pointed[MOST + 1];     /* how the price is spelt */
     char windows[MOST][64];
 } Tried;
 
@@ -38,13 +39,19 @@ static void some_tender(Tried *t)
     }
     t->price[t->n] = below(3) ? below(2 * TOP) : below(4);
     t->has[t->n] = t->all;
+    for (unsigned i = 0; i <= t->n; i++) t->pointed[i] = !below(3);
 }
 
 static size_t put(char *s, const Tried *t)
 {
+    char price[16];
     size_t at = (size_t)sprintf(s, "(tender %s %u %u)\n", t->single ? "single" : "multi", t->start, t->start + t->minutes);
-    if (t->reserved) at += (size_t)sprintf(s + at, "(reserve %u)\n", t->price[t->n]);
-    for (unsigned i = 0; i < t->n; i++) at += (size_t)sprintf(s + at, "(bid %u %u%s)\n", i + 1, t->price[i], t->windows[i]);
+    put_price(price, t->price[t->n], t->pointed[t->n]);
+    if (t->reserved) at += (size_t)sprintf(s + at, "(reserve %s)\n", price);
+    for (unsigned i = 0; i < t->n; i++) {
+        put_price(price, t->price[i], t->pointed[i]);
+        at += (size_t)sprintf(s + at, "(bid %u %s%s)\n", i + 1, price, t->windows[i]);
+    }
     return at;
 }
 
@@ -172,11 +179,12 @@ static long gain(const Told *told, unsigned i, long cost)
     return told->won[i] ? told->paid[i] - cost : 0;
 }
 
-/* no price gains an owner more than the true cost, which the bid names */
+/* no price, however it is spelt, gains an owner more than the true cost, which the bid names */
 static void no_gain(const Tried *t, const Told *told, unsigned i, const char *text, size_t n)
 {
     Tried other = *t;
     for (other.price[i] = 0; other.price[i] < TRIED; other.price[i]++) {
+        other.pointed[i] = below(2);
         Told with = list_of(&other);
         expect(gain(&with, i, t->price[i]) <= gain(told, i, t->price[i]), "tried: a gain by a false price", text, n);
     }
