@@ -5,6 +5,7 @@
 #define _GNU_SOURCE
 #include "calls.h"
 #include "entry.h"
+#include "prices.h"
 #include "rewrites.h"
 #include "second.h"
 #include "texts.h"
@@ -396,6 +397,7 @@ int main(int argc, char **argv)
     worked();
     reserves();
     refusals();
+    named_prices();
     named_rewrites();
     threads();
     programs(argv[1]);
@@ -403,6 +405,7 @@ int main(int argc, char **argv)
     tried_lists(rounds / 5);
     wide_tenders(rounds);
     random_rewrites(rounds);
+    respelt_prices(rounds);
     faulty_texts(rounds);
     printf("host: %ld checks, %ld faults\n", checks, faults);
     return faults != 0;

@@ -89,6 +89,8 @@ static void near_misses(void)
     rewrites("(tender single 0 9)\n(reserve 0)\n", "(tender single 0 9)\n(reserve 0)\n");
     rewrites("(tender multi 0 9)\n(reserve 100000000)\n(bid 7 30 (5 9) (0 5))\n",
              "(tender multi 0 9)\n(reserve 100000000)\n(bid 7 30 (0 9))\n");
+    rewrites("(tender multi 0 9)\n(reserve 50.00)\n(bid 7 2.50 (5 9) (0 5))\n(bid 8 0.05 (0 9))\n",
+             "(tender multi 0 9)\n(reserve 5000)\n(bid 7 250 (0 9))\n(bid 8 5 (0 9))\n");
     rewrites("(tender single 480 600)\n(bid 999999 100000000 (470 660))\n(bid 1 0 (0 1))\n",
              "(tender single 480 600)\n(bid 999999 100000000 (470 660))\n(bid 1 0 (0 1))\n");
 }
@@ -118,6 +120,9 @@ static void named_pairs(void)
         {TENDER "(bid 2 5 (0 4) (6 8))\n(bid 1 5 (2 9))\n", "two bidders exchanged"},
         {TENDER BID_1 "(bid 3 5 (2 9))\n", "another bidder"},
         {TENDER BID_1 "(bid 2 6 (2 9))\n", "another price"},
+        {TENDER "(bid 1 0.05 (0 4) (6 8))\n(bid 2 0.05 (2 9))\n", NULL},
+        {TENDER BID_1 "(bid 2 0.50 (2 9))\n", "another price, with a point"},
+        {TENDER BID_1 "(bid 2 5.00 (2 9))\n", "the same digits before the point"},
         {TENDER "(bid 1 5 (0 4) (5 8))\n" BID_2, "a minute more"},
         {TENDER "(bid 1 5 (0 4) (4 8))\n" BID_2, "the minutes between two windows"},
         {TENDER BID_1 "(bid 2 5 (2 9) (10 11))\n", "a minute more outside the tender"},
@@ -127,11 +132,14 @@ static void named_pairs(void)
     };
     static const char SINGLE[] = "(tender single 0 9)\n(bid 1 5 (0 4))\n", MULTI[] = "(tender multi 0 9)\n(bid 1 5 (0 4))\n";
     static const char RESERVED[] = TENDER "(reserve 60)\n" BID_1, LESS[] = TENDER "(reserve 59)\n" BID_1;
+    static const char POINTED[] = TENDER "(reserve 0.60)\n" BID_1, DEARER[] = TENDER "(reserve 60.00)\n" BID_1;
     static const char HOUSE_BID[] = TENDER BID_1 "(bid 2 60 (0 9))\n";
     for (size_t i = 0; i < sizeof others / sizeof *others; i++)
         compared(TENDER BID_1 BID_2, strlen(TENDER BID_1 BID_2), others[i].text, strlen(others[i].text), others[i].difference);
     compared(SINGLE, strlen(SINGLE), MULTI, strlen(MULTI), "another kind");
     compared(RESERVED, strlen(RESERVED), RESERVED, strlen(RESERVED), NULL);
+    compared(RESERVED, strlen(RESERVED), POINTED, strlen(POINTED), NULL);
+    compared(RESERVED, strlen(RESERVED), DEARER, strlen(DEARER), "another reserve, with a point");
     compared(RESERVED, strlen(RESERVED), LESS, strlen(LESS), "another reserve");
     compared(RESERVED, strlen(RESERVED), HOUSE_BID, strlen(HOUSE_BID), "a bid for a reserve");
 }
@@ -160,6 +168,15 @@ static void put_long(char *s, size_t n, bool falling)
     expect(at == n, "a long text made wrong", NULL, 0);
 }
 
+/* the reserve with a point, which is a byte more */
+static const char *point_reserve(char *s)
+{
+    char *cents = strstr(s, "00)");
+    memmove(cents + 1, cents, strlen(cents) + 1);
+    *cents = '.';
+    return s;
+}
+
 static void longest(void)
 {
     static char rising[TEXT_ROOM], falling[TEXT_ROOM];
@@ -169,6 +186,11 @@ static void longest(void)
     rewrites(falling, rising);
     put_long(rising, LONGEST + 1, false);
     writes(tender_rewrite, LONGEST, rising, LONGEST + 1, "(refused 1 0)\n");
+    put_long(rising, LONGEST, false);
+    writes(tender_rewrite, LONGEST, point_reserve(rising), LONGEST + 1, "(refused 1 0)\n");
+    put_long(rising, LONGEST - 1, false);
+    put_long(falling, LONGEST - 1, true);
+    rewrites(point_reserve(falling), rising);
     size_t n = (size_t)sprintf(rising, "(tender multi 0 10)\n(reserve 5)\n"), m = n;
     memcpy(falling, rising, n);
     for (int i = 1; i <= 1000; i++) {
