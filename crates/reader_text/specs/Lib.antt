@@ -1,6 +1,7 @@
 pub mod Words
 pub mod Read
 pub mod Example
+pub mod PriceExample
 pub mod FaultLaws
 pub mod ReadLaws
 pub mod HeadLaws
