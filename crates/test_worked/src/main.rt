@@ -1,60 +1,19 @@
-// Reads the texts of paper 01's worked cases 9 and 10, texts with a reserve, and their near misses, and writes what each answers.
+// Reads the texts of paper 01's worked cases 9 and 10, texts with a reserve, texts with prices in both spellings, and their near
+// misses, and writes what each answers.
+mod prices;
+mod show;
 mod texts;
 
 ghost use Prim.Native.Nat.{_≤_};
 ghost use lib.ListN.{length};
-use reader::Reading;
-use tender::Reserve;
+use show::show;
+use show::tell;
 use texts::long_text;
 use texts::many_bids;
 use texts::repeated;
 use texts::reserve_last;
 use texts::reserved;
 use texts::windows_of;
-
-// Writes the reserve, where there is one.
-fn tell_reserve(reserve: Reserve) {
-    match reserve {
-        Reserve::Absent => {}
-        Reserve::Price(cents) => {
-            io::write_all(1, b", reserve ");
-            io::print_decimal(1, cents);
-        }
-    }
-}
-
-// Writes the label, and the answer as numbers: accepted with the rows of each table, or refused with number and place.
-fn tell(label: &[u8], answer: Reading) {
-    io::write_all(1, label);
-    match answer {
-        Reading::Accepted {
-            tender: t,
-            bids,
-            windows,
-        } => {
-            io::write_all(1, b": accepted ");
-            io::print_decimal(1, bids as u64);
-            io::write_all(1, b" ");
-            io::print_decimal(1, windows as u64);
-            let reserve = t.reserve;
-            tell_reserve(reserve);
-        }
-        Reading::Refused(r) => {
-            io::write_all(1, b": refused ");
-            io::print_decimal(1, tender::number(r));
-            io::write_all(1, b" ");
-            io::print_decimal(1, tender::place(r));
-        }
-    }
-    io::write_all(1, b"\n");
-}
-
-// Reads the text into tables that are long enough.
-fn show(label: &[u8], text: &[u8]) {
-    let mut bids = [0u64; tender::BID_TABLE];
-    let mut windows = [0u64; tender::WINDOW_TABLE];
-    tell(label, reader::read(text, &mut bids, &mut windows));
-}
 
 // Whether every cell from `at` on is 7.
 fn sevens(cells: &[u64], at: usize) -> bool {
@@ -268,6 +227,7 @@ fn reserves() {
 fn near_misses() {
     late_ends();
     reserves();
+    prices::prices();
     show(b"empty text", b"");
     show(b"no bids", b"(tender single 0 100)\n");
     show(
