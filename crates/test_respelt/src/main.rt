@@ -68,6 +68,18 @@ fn reserve_pairs() {
     );
 }
 
+// Two texts whose prices differ in the spelling, and two whose prices differ in the place of a digit.
+fn prices() {
+    show::pair(
+        b"(tender multi 0 10)\n(reserve 5000)\n(bid 11 250 (0 5))\n(bid 3 0 (0 9))\n",
+        b"(tender multi 0 10)\n(reserve 50.00)\n(bid 11 2.50 (0 5))\n(bid 3 0.00 (0 9))\n",
+    );
+    show::pair(
+        b"(tender multi 0 10)\n(reserve 1000000.00)\n(bid 11 0.50 (0 5))\n",
+        b"(tender multi 0 10)\n(reserve 1000000.00)\n(bid 11 0.05 (0 5))\n",
+    );
+}
+
 // A text of 38 bytes, and one of 53 with a reserve.
 fn lent_buffers() {
     let plain = b"(tender multi 0 10)\n(bid 11 30 (5 9) (0 5))\n";
@@ -149,6 +161,7 @@ fn main() {
     pairs();
     reserves();
     reserve_pairs();
+    prices();
     lent_buffers();
     faults();
     long_texts();
