@@ -73,6 +73,12 @@ static void change_number(Text *t)
     replace(t, at, len, s, (size_t)sprintf(s, "%ld", v));
 }
 
+/* so many cents in either spelling, one in three with a point; answers its length */
+static size_t put_price(char *s, long cents)
+{
+    return (size_t)(below(3) ? sprintf(s, "%ld", cents) : sprintf(s, "%ld.%02ld", cents / 100, cents % 100));
+}
+
 /* where a random line begins, and its length with byte 10 */
 static bool some_line(const Text *t, size_t *at, size_t *len)
 {
@@ -102,6 +108,45 @@ static bool some_window(const Text *t, size_t *at, size_t *len)
     return false;
 }
 
+/* the price of a random line: its second word, or the third of a line that begins as a bid */
+static bool some_price(const Text *t, size_t *at, size_t *len)
+{
+    size_t line, n;
+    if (!some_line(t, &line, &n)) return false;
+    size_t i = line, end = line + n;
+    for (unsigned words = n > 5 && !memcmp(t->s + line, "(bid ", 5) ? 2 : 1; words; words--) {
+        while (i < end && t->s[i] != ' ') i++;
+        i += i < end;
+    }
+    *at = i;
+    while (i < end && t->s[i] != ' ' && t->s[i] != ')') i++;
+    *len = i - *at;
+    return *len > 0 && *len < 12;
+}
+
+/* a price in the other spelling, or its point at another place */
+static void respell_price(Text *t)
+{
+    char s[40];
+    size_t at, len, n = 0;
+    bool pointed = false;
+    long cents = 0;
+    if (!some_price(t, &at, &len)) return;
+    for (size_t i = at; i < at + len; i++) {
+        pointed |= t->s[i] == '.';
+        if (digit(t, i)) { s[n++] = (char)t->s[i]; cents = cents * 10 + (t->s[i] - '0'); }
+    }
+    if (!n) return;
+    if (below(8)) n = (size_t)(pointed ? sprintf(s, "%ld", cents) : sprintf(s, "%ld.%02ld", cents / 100, cents % 100));
+    else {
+        size_t point = below((unsigned)n + 1);
+        memmove(s + point + 1, s + point, n - point);
+        s[point] = '.';
+        n++;
+    }
+    replace(t, at, len, s, n);
+}
+
 /* a bid of all the tender's minutes, mostly dear, or of a part, as the last line */
 static void add_bid(Text *t, bool whole)
 {
@@ -114,7 +159,9 @@ static void add_bid(Text *t, bool whole)
     }
     unsigned length = end - start, from = whole ? start : start + below(length), to = whole ? end : from + 1 + below(length);
     unsigned price = below(4) ? below(whole ? 40 : 6) * (to - from) + below(2) : below(100);
-    replace(t, t->n, 0, s, (size_t)sprintf(s, "(bid %u %u (%u %u))\n", 1 + below(TOP_BIDDER), price, from, to));
+    size_t n = (size_t)sprintf(s, "(bid %u ", 1 + below(TOP_BIDDER));
+    n += put_price(s + n, price);
+    replace(t, t->n, 0, s, n + (size_t)sprintf(s + n, " (%u %u))\n", from, to));
 }
 
 static bool is_reserve(const uint8_t *line, const uint8_t *end)
@@ -131,7 +178,9 @@ static void change_reserve(Text *t)
     size_t at = (size_t)(stop + 1 - t->s), len = 0;
     if (is_reserve(stop + 1, end) && (next = memchr(stop + 1, '\n', (size_t)(end - stop - 1)))) len = (size_t)(next - stop);
     if (len && below(3)) { replace(t, at, len, "", 0); return; }
-    replace(t, at, len, s, (size_t)sprintf(s, "(reserve %u)\n", below(4) ? below(below(2) ? 300 : 20000) : below(3)));
+    size_t n = (size_t)sprintf(s, "(reserve ");
+    n += put_price(s + n, below(4) ? below(below(2) ? 300 : 20000) : below(3));
+    replace(t, at, len, s, n + (size_t)sprintf(s + n, ")\n"));
 }
 
 /* a line, or a window, dropped, or put in again at another place */
@@ -167,12 +216,14 @@ static void other_kind(Text *t)
 
 /* mending: a text of the right form and with lawful numbers, made of the numbers of each line */
 
+/* the digits on either side of a point are one number */
 static long numbers_of(const uint8_t *at, const uint8_t *end, long *v, long most)
 {
     long n = 0;
     while (at < end && n < most) {
         if (*at < '0' || *at > '9') { at++; continue; }
-        for (v[n] = 0; at < end && *at >= '0' && *at <= '9'; at++) v[n] = (v[n] * 10 + (*at - '0')) % 1000000000;
+        for (v[n] = 0; at < end && ((*at >= '0' && *at <= '9') || *at == '.'); at++)
+            if (*at != '.') v[n] = (v[n] * 10 + (*at - '0')) % 1000000000;
         n++;
     }
     return n;
@@ -202,14 +253,17 @@ static void mend(Text *t)
             multi = memchr(at, 'm', (size_t)(stop - at));
             len += (size_t)window(s, multi ? "(tender multi " : "(tender single ", n > 0 ? v[0] : 0, n > 1 ? v[1] : 100);
         } else if (line == 2 && n && is_reserve(at, stop)) {
-            len += (size_t)sprintf(s + len, "(reserve %ld)", v[0] % (TOP_PRICE + 1));
+            len += (size_t)sprintf(s + len, "(reserve ");
+            len += put_price(s + len, v[0] % (TOP_PRICE + 1));
+            s[len++] = ')';
         } else {
             if (n < 4) continue;
             bool taken = v[0] < 1 || v[0] > TOP_BIDDER;
             for (long i = 0; i < bids; i++) taken |= used[i] == v[0];
             if (taken) v[0] = 1 + below(TOP_BIDDER);
             used[bids++] = v[0];
-            len += (size_t)sprintf(s + len, "(bid %ld %ld", v[0], v[1] % (TOP_PRICE + 1));
+            len += (size_t)sprintf(s + len, "(bid %ld ", v[0]);
+            len += put_price(s + len, v[1] % (TOP_PRICE + 1));
             for (long k = 2; k + 1 < (multi ? n : 4); k += 2) len += (size_t)window(s + len, " (", v[k], v[k + 1]);
             s[len++] = ')';
         }
@@ -224,13 +278,14 @@ size_t LLVMFuzzerCustomMutator(uint8_t *data, size_t n, size_t most, unsigned fr
     seed = from * 2654435761u;
     if (!below(6)) return LLVMFuzzerMutate(data, n, most);
     for (unsigned k = 1 + below(4); k; k--) {
-        switch (below(17)) {
+        switch (below(19)) {
         case 0: other_kind(&t); break;
         case 1: case 2: add_bid(&t, below(2)); break;
         case 3: case 4: case 5: move_part(&t, true); break;
         case 6: case 7: move_part(&t, false); break;
         case 8: split_window(&t); break;
         case 9: change_reserve(&t); break;
+        case 10: case 11: respell_price(&t); break;
         default: change_number(&t);
         }
     }
