@@ -30,7 +30,7 @@ static const char HELP[] =
     "\n"
     "  list        write its list: who wins and what each is paid\n"
     "  rewrite     write it in one spelling: each bid's windows joined where they overlap\n"
-    "              or touch, in rising order\n"
+    "              or touch, in rising order, and prices in whole cents\n"
     "\n"
     "Where the text or the tender is declined, (refused N P) is written, number and place.\n"
     "\n"
@@ -103,7 +103,7 @@ enum place { NOWHERE, LINE, MINUTE };
 static const struct { enum place place; const char *what; } REFUSALS[] = {
     [1] = {NOWHERE, "the text is longer than 65,536 bytes"},
     [2] = {LINE, "not a bid or not spelt as one"},
-    [3] = {LINE, "a bidder outside 1 to 999,999 or a price above 100,000,000"},
+    [3] = {LINE, "a bidder outside 1 to 999,999 or a price above 100,000,000 cents"},
     [4] = {LINE, "a bid after 1,000 bids, or more than 32 windows in a bid"},
     [5] = {LINE, "a window that ends before it starts, or where it starts"},
     [6] = {LINE, "a bidder number used on an earlier line"},
@@ -124,6 +124,18 @@ static void quote(const uint8_t *line, size_t len)
     fputs(len > SHOWN ? "...\n" : "\n", stderr);
 }
 
+/* Whether a line that begins as a bid or a reserve has a price with a point or a comma that is not spelt as one. */
+static bool misspelt_price(const uint8_t *line, size_t len)
+{
+    char start[64], price[32];
+    snprintf(start, sizeof start, "%.*s", len < sizeof start ? (int)len : (int)sizeof start, (const char *)line);
+    if (sscanf(start, "(bid %*[^ ] %31[^ )]", price) != 1 && sscanf(start, "(reserve %31[^ )]", price) != 1) return false;
+    size_t whole = strspn(price, "0123456789");
+    bool counted = whole >= 1 && whole <= 7 && (whole == 1 || price[0] != '0');
+    bool spelt = counted && price[whole] == '.' && strspn(price + whole + 1, "0123456789") == 2 && !price[whole + 3];
+    return strpbrk(price, ".,") && !spelt;
+}
+
 static void tell_line(unsigned number, unsigned long place)
 {
     const uint8_t *line = text, *end = text + text_len, *stop;
@@ -132,6 +144,8 @@ static void tell_line(unsigned number, unsigned long place)
     size_t len = (size_t)((stop ? stop : end) - line);
     const char *what = REFUSALS[number].what;
     if (number == 2 && len >= 8 && !memcmp(line, "(reserve", 8)) what = "not spelt as a reserve";
+    if (number == 2 && misspelt_price(line, len))
+        what = "a price is spelt as 250 or as 2.50, with at most seven digits before the point and no leading zero";
     if (number == 2 && place == 1) what = "not a tender or not spelt as one";
     if (number == 2 && !stop) what = "no newline at the end of the line";
     if (number == 2 && len == 0) what = stop ? "the line is empty" : "the text is empty";
