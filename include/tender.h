@@ -30,20 +30,22 @@ extern "C" {
 #define TENDER_TEXT_MAX 65536
 
 /*
- * The list of the tender: who wins and what each is paid. A buffer of TENDER_LIST_MAX bytes holds every list. Where
- * the text has a line "(reserve C)" and the house wins, the list has the line "(house C)" after the winners and before
- * the total, whose cost includes it and whose sum paid does not. With a reserve no list is "(refused 11 P)" or
- * "(refused 12 P)"; a reserve in the wrong place is "(refused 16 P)", P its line.
+ * The list of the tender: who wins and what each is paid. A buffer of TENDER_LIST_MAX bytes holds every list. Amounts
+ * are in whole cents, also where the text has a price with a point, "2.50" for 250. Where the text has a line
+ * "(reserve C)" and the house wins, the list has the line "(house C)" after the winners and before the total, whose
+ * cost includes it and whose sum paid does not. With a reserve no list is "(refused 11 P)" or "(refused 12 P)"; a
+ * reserve in the wrong place is "(refused 16 P)", P its line.
  */
 #define TENDER_LIST_MAX 51200
 size_t tender_list(const uint8_t *text, size_t text_len, uint8_t *list, size_t list_len);
 
 /*
  * The text in one spelling: each bid's windows joined where they overlap or touch, in rising order, also those outside
- * the tender; all else as it was, the reserve included. It reads back as the same tender, with the same reserve if it
- * has one, and the same bidders, prices and minutes in the same entry order, and two texts that can be read have equal
- * bytes here exactly when all of these agree. It is never longer than the text. A buffer as long as the text, but of
- * 64 bytes at least, holds it or the refusal's line; so TENDER_TEXT_MAX bytes hold every one.
+ * the tender, and prices in whole cents; all else as it was, the reserve included. It reads back as the same tender,
+ * with the same reserve if it has one, and the same bidders, prices and minutes in the same entry order, and two texts
+ * that can be read have equal bytes here exactly when all of these agree. It is never longer than the text. A buffer
+ * as long as the text, but of 64 bytes at least, holds it or the refusal's line; so TENDER_TEXT_MAX bytes hold every
+ * one.
  */
 size_t tender_rewrite(const uint8_t *text, size_t text_len, uint8_t *out, size_t out_len);
 
