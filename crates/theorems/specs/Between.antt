@@ -26,7 +26,7 @@ use Rattle.spelling.specs.Decimal.{decimal}
 use Rattle.spelling.specs.Lines.{pairLine, refusedWord}
 use Rattle.spelling.specs.Text.{bidIn}
 use Rattle.spelling.specs.Spelt.{Spelt}
-use Rattle.listing.specs.List.{listOf}
+use Rattle.listing_text.specs.List.{listOf}
 use Rattle.theorems.specs.Calls.{ReadRun, ReadCall, AwardCall, auctionBy, toldBy, ListCall, shown}
 use Rattle.theorems.specs.OneReading.{Fills, OfText}
 use Rattle.theorems.specs.ListRead.{rowShown}

@@ -50,9 +50,9 @@ use Rattle.spelling.specs.Text.{tenderText, bidsText, textOf, bidIn}
 use Rattle.spelling.specs.Spelt.{Spelt}
 use Rattle.spelling.specs.DeliveredLaws.{same-shown}
 use Rattle.spelling.specs.Lines.{pairLine, refusedWord}
-use Rattle.listing.specs.Lines.{totalWord, awardLine}
-use Rattle.listing.specs.List.{winList, listLines}
-use Rattle.listing.specs.ListLaws as list
+use Rattle.listing_text.specs.Lines.{totalWord, awardLine}
+use Rattle.listing_text.specs.List.{winList, listLines}
+use Rattle.listing_text.specs.ListLaws as list
 use Rattle.writer.specs.declared.Writing.the-variants.{Written, Refused}
 use Rattle.writer_back.specs.Same.{Same, ReadBack}
 use Rattle.theorems.specs.Calls.{ReadRun, ReadCall, AwardCall, auctionBy, toldBy, ListCall, shown}

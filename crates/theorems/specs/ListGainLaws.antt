@@ -30,8 +30,8 @@ use Rattle.award.specs.TableLaws.{row-is}
 use Rattle.award.specs.Right as right
 use Rattle.award.specs.TextOutcomeLaws.{honest-texts}
 use Rattle.spelling.specs.LineLaws.{refused-line}
-use Rattle.listing.specs.List.{listLines, listOf}
-use Rattle.listing.specs.ListLaws.{listed-is}
+use Rattle.listing_text.specs.List.{listLines, listOf}
+use Rattle.listing_text.specs.ListLaws.{listed-is}
 use Rattle.theorems.specs.Calls.{ListCall, shown}
 use Rattle.theorems.specs.Between.{ListGiven, NoGainShown}
 use Rattle.theorems.specs.ReadingLaws.{refusal-number}

@@ -30,9 +30,9 @@ use Rattle.award_plain.specs.Award.{rule, Outcome, awarded, refused, awardRows,
 use Rattle.award_plain.specs.AwardLaws.{award-settles}
 use Rattle.spelling.specs.Lines.{pairLine, refusedWord}
 use Rattle.spelling.specs.LineLaws.{refused-line}
-use Rattle.listing.specs.Lines.{awardWord, awardLine}
-use Rattle.listing.specs.List.{listLines, listOf}
-use Rattle.listing.specs.ListLaws.{listed-is}
+use Rattle.listing_text.specs.Lines.{awardWord, awardLine}
+use Rattle.listing_text.specs.List.{listLines, listOf}
+use Rattle.listing_text.specs.ListLaws.{listed-is}
 use Rattle.theorems.specs.OneReading.{OfText}
 use Rattle.theorems.specs.ReadingLaws.{refusal-number}
 use Rattle.theorems.specs.ShownLaws.{first-number}

@@ -8,7 +8,7 @@ use Rattle.tender.specs.declared.AwardRow.{AwardRow}
 use Rattle.reader_word.specs.Words.{andThen, cut, sameBytes, closed, digits}
 use Rattle.award.specs.Gain.{lost}
 use Rattle.spelling.specs.Decimal.{decimal}
-use Rattle.listing.specs.Lines.{winWord}
+use Rattle.listing_text.specs.Lines.{winWord}
 
 -- the number of a line's last word, which a bracket closes
 unfoldable pub lastNumber : List (List ℕ) → Option ℕ

@@ -27,8 +27,8 @@ use Rattle.award.specs.Gain.{lost}
 use Rattle.spelling.specs.Decimal.{decimal}
 use Rattle.spelling.specs.Lines.{closing, numbers, pairLine, oneLine, kindWord, refusedWord, refusedLine}
 use Rattle.spelling.specs.LineLaws.{refused-line}
-use Rattle.listing.specs.Lines.{awardWord, winWord, houseWord, totalWord, awardLine, houseLine, lastLines}
-use Rattle.listing.specs.List.{winList, listLines}
+use Rattle.listing_text.specs.Lines.{awardWord, winWord, houseWord, totalWord, awardLine, houseLine, lastLines}
+use Rattle.listing_text.specs.List.{winList, listLines}
 use Rattle.spelling.specs.DecimalLaws.{decimal-back, decimal-plain}
 use Rattle.reader_word.specs.GivenLaws.{same-is}
 use Rattle.theorems.specs.ListRead.{lastNumber, winOn, rowOr, rowAmong, rowShown}

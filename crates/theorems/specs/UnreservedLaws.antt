@@ -15,8 +15,8 @@ use Rattle.award_check.specs.AuctionLaws.{without-reserve, thin-told, owners-ar
 use Rattle.award_plain.specs.Award.{won, awarded, totalsOf}
 use Rattle.spelling.specs.Lines.{pairLine}
 use Rattle.spelling.specs.Text.{tenderText, reserveText, headText, bidsText, textOf}
-use Rattle.listing.specs.Lines.{totalWord, awardLine, houseLine, lastLines}
-use Rattle.listing.specs.List.{winList, listLines}
+use Rattle.listing_text.specs.Lines.{totalWord, awardLine, houseLine, lastLines}
+use Rattle.listing_text.specs.List.{winList, listLines}
 use Rattle.theorems.specs.Calls.{AwardCall, auctionBy}
 use Rattle.theorems.specs.Between.{BidsAlone}
 

@@ -13,7 +13,7 @@ use Rattle.reader_word.specs.Words.{sameBytes}
 use Rattle.reader_text.specs.Read.{ReadOutcome, accepted, refused, readText}
 use Rattle.award_check.specs.Cells.{noRow}
 use Rattle.award_check.specs.Auction.{auctionOf}
-use Rattle.listing.specs.List.{listOf}
+use Rattle.listing_text.specs.List.{listOf}
 use Rattle.reader_word.specs.GivenLaws.{same-is}
 use Rattle.theorems.specs.WorkedCases.{Case, third, cases}
 

@@ -3,7 +3,7 @@ use mathlib.Core.Path.{sym}
 use lib.Seq.{length-take-le}
 use borrow.Author.Tests.{lt-ltb}
 use Rattle.list.specs.InputLaws.{text-within}
-use Rattle.listing.specs.ListLaws.{suffices}
+use Rattle.listing_text.specs.ListLaws.{suffices}
 use borrow.Author.Needs.{needs}
 use Rattle.list.proofs.main.Statement.{statement}
 use Rattle.list.proofs.main.Tie as tie

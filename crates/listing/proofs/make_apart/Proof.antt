@@ -1,14 +1,14 @@
 -- The list is made in a buffer of its own, measured, and copied where there is room. Assumes nothing.
 use mathlib.Core.Path.{sym}
 use native.Mathlib.Omega.{arith}
-use Rattle.listing.specs.MakingLaws.{made-few, made-size, listed-none, listed-all}
+use Rattle.listing_made.specs.MakingLaws.{made-few, made-size, listed-none, listed-all}
 use borrow.Author.Needs.{needs}
 use Rattle.listing.proofs.make_apart.Statement.{statement}
 use Rattle.listing.proofs.make_apart.Tie as tie
 use Rattle.listing.proofs.make_apart.Reads as reads
 use Rattle.listing.proofs.make_apart.Lts as lts
 use Rattle.spelling.proofs.put_all.Reads as put-all-reads
-use Rattle.listing.proofs.make.Reads as make-reads
+use Rattle.listing_made.proofs.make.Reads as make-reads
 
 slice-aggregate-make : tie.Need-slice-aggregate-make
 slice-aggregate-make c = search needs

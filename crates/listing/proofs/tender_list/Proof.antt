@@ -1,12 +1,12 @@
 -- A buffer that has room for any list gets it at once; for a shorter one it is made apart and measured. Assumes nothing.
 use native.Mathlib.Omega.{arith}
-use Rattle.listing.specs.MakingLaws.{listed-here}
+use Rattle.listing_made.specs.MakingLaws.{listed-here}
 use borrow.Author.Needs.{needs}
 use Rattle.listing.proofs.tender_list.Statement.{statement}
 use Rattle.listing.proofs.tender_list.Tie as tie
 use Rattle.listing.proofs.tender_list.Reads as reads
 use Rattle.listing.proofs.tender_list.Lts as lts
-use Rattle.listing.proofs.make.Reads as make-reads
+use Rattle.listing_made.proofs.make.Reads as make-reads
 use Rattle.listing.proofs.make_apart.Reads as make-apart-reads
 
 make-apart-requires : tie.Need-make-apart-requires

@@ -1,9 +1,0 @@
-pub mod Lines
-pub mod List
-pub mod LineLaws
-pub mod Made
-pub mod ListLaws
-pub mod MakingLaws
-pub mod SpellingLaws
-pub mod WinningLaws
-pub mod Cases
