@@ -1,3 +1,2 @@
 pub mod LocalArray
 pub mod PassesKind
-pub mod WalkSteps

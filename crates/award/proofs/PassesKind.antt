@@ -52,12 +52,12 @@ use Rattle.tender.proofs.Tender as Ten
 use Rattle.tender.proofs.Tender.Laws as Ten′
 use Rattle.tender.specs.declared.Answer.{Answer}
 use Rattle.tender.specs.declared.AwardRow.{AwardRow}
-use Rattle.award.specs.Promise.{Promise}
+use Rattle.award_outcome.specs.Promise.{Promise}
 use Rattle.tender.proofs.Answer as Ans
 use Rattle.tender.proofs.Answer.Laws as Ans′
 use Rattle.tender.proofs.AwardRow as Row
 use Rattle.tender.proofs.AwardRow.Laws as Row′
-use Rattle.award.proofs.WalkSteps.{spent, answered}
+use Rattle.award_rows.proofs.WalkSteps.{spent, answered}
 use Rattle.award.proofs.award_in as award
 use Rattle.award.proofs.award_in.Symbol.{name as #award·award-in}
 use Rattle.award.proofs.award_single as f

@@ -1,18 +1,16 @@
 // The awards on tables. `award_single` and `award_multi` answer every call over a lent slice of award rows, and `settle`
 // every call over plain lists: a flag and the cents paid for each bid. None of them requires anything.
-// `specs/` has what a call promises on rows (`Promise`), how the promise of plain lists gives it (`RowsPromise`), a bidder's gain,
-// and what the demands say of an outcome (`Right`); crate `theorems` states them.
+// `award_outcome` Promise says what a call promises on rows.
 use tender::Answer;
 use tender::AwardRow;
 use tender::Kind;
 use tender::Tender;
 ghost use mathlib.Core.Path.{_≡_};
 ghost use Prim.Native.Nat.{ℕ, _≤_, min};
-ghost use mathlib.Core.List.{_++_};
-ghost use lib.ListN.{length, drop};
+ghost use lib.ListN.{length};
 ghost use Rattle.tender.specs.declared.Kind.the-variants.{Single, Multi};
-ghost use Rattle.award.specs.Promise.{Promise, rowsFilled};
-ghost use Rattle.award_plain.specs.Plain.{PlainPromise, rowOf, rowsIn};
+ghost use Rattle.award_outcome.specs.Promise.{Promise, rowsFilled};
+ghost use Rattle.award_plain.specs.Plain.{PlainPromise};
 
 fn lesser(a: usize, b: usize) -> usize
     ensures { λ r. ⌜ r ≡ min a b ⌝ }
@@ -37,38 +35,6 @@ pub fn settle(
 {
     let lent = lesser(won.len(), cents.len());
     award_settle::settle_in(kind, tender, count, bids, windows, lent, won, cents)
-}
-
-// The award row that a bid's flag and cents say: won where its flag is 1, and the cents paid.
-fn row_of(flag: u64, paid: u64) -> AwardRow
-    ensures { λ r. ⌜ r ≡ rowOf flag paid ⌝ }
-{
-    AwardRow {
-        won: flag == 1,
-        cents: paid,
-    }
-}
-
-// Fills one award row for each of the n bids, in entry order, from its flag and cents. Rows past the last bid stay.
-fn fill(rows: &mut [AwardRow], won: &[u64], cents: &[u64], n: usize)
-    requires { ⌜ (n ≤ length (now rows)) × ((n ≤ length (now won)) × (n ≤ length (now cents))) ⌝ }
-    ensures { λ _. ⌜ now (rows .exit) ≡ rowsIn n (now (won .entry)) (now (cents .entry)) ++ drop n (now (rows .entry)) ⌝ }
-{
-    let mut i = 0;
-    while i < n {
-        rows[i] = row_of(won[i], cents[i]);
-        i += 1;
-    }
-}
-
-// The award rows that an answer fills: one for each bid where it awards, none where it declines.
-fn rows_filled(answer: Answer, count: usize) -> usize
-    ensures { λ n. ⌜ n ≡ rowsFilled answer count ⌝ }
-{
-    match answer {
-        Answer::Awarded(totals) => count,
-        Answer::Refused(refusal) => 0,
-    }
 }
 
 // What an award settles: its answer, and how many award rows it fills.
@@ -96,7 +62,7 @@ fn settle_rows(
     let answer = award_settle::settle_in(kind, tender, count, bids, windows, lent, won, cents);
     Settled {
         answer: answer,
-        rows: rows_filled(answer, count),
+        rows: award_rows::rows_filled(answer, count),
     }
 }
 
@@ -124,7 +90,7 @@ fn award_in(
         &mut won,
         &mut cents,
     );
-    fill(rows, &won, &cents, settled.rows);
+    award_rows::fill(rows, &won, &cents, settled.rows);
     settled.answer
 }
 

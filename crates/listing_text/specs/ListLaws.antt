@@ -27,7 +27,7 @@ use Rattle.award_check.specs.AuctionLaws.{auction-read}
 use Rattle.award_check.specs.Faults.{faultOf}
 use Rattle.award_check.specs.TextLaws.{never-nine}
 use Rattle.award_plain.specs.Award.{rule, Outcome, uncovered, lone, thinned, settled, awardOf, outcomeNumber, outcomePlace}
-use Rattle.award.specs.Gain.{lost}
+use Rattle.award_outcome.specs.Gain.{lost}
 use Rattle.award_plain.specs.AwardLaws.{settled-is, award-none}
 use Rattle.tender.specs.declared.Answer.{Answer}
 use Rattle.tender.specs.declared.Answer.the-variants.{Awarded, Refused}

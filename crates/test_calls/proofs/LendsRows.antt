@@ -51,7 +51,7 @@ use Rattle.tender.proofs.Tender as Ten
 use Rattle.tender.proofs.Tender.Laws as Ten′
 use Rattle.tender.specs.declared.Answer.{Answer}
 use Rattle.tender.specs.declared.AwardRow.{AwardRow}
-use Rattle.award.specs.Promise.{Promise}
+use Rattle.award_outcome.specs.Promise.{Promise}
 use Rattle.tender.proofs.Answer as Ans
 use Rattle.tender.proofs.Answer.Laws as Ans′
 use Rattle.tender.proofs.AwardRow as Row

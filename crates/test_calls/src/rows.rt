@@ -3,7 +3,7 @@ use tender::Answer;
 use tender::AwardRow;
 use tender::Tender;
 ghost use Rattle.tender.specs.declared.Kind.the-variants.{Single, Multi};
-ghost use Rattle.award.specs.Promise.{Promise};
+ghost use Rattle.award_outcome.specs.Promise.{Promise};
 
 // What a call answers, and the rows as it leaves them.
 pub struct Called {

@@ -20,8 +20,8 @@ use Rattle.reader_text.specs.Differ.{DifferInPrice}
 use Rattle.award_check.specs.Cells.{noRow}
 use Rattle.award_check.specs.Auction.{offered, offersOf, thinCell}
 use Rattle.award_plain.specs.Award.{Rule, totalsOf, outcomeNumber}
-use Rattle.award.specs.Right.{Callable}
-use Rattle.award.specs.Gain.{rowFor, gain, AtMost}
+use Rattle.award_outcome.specs.Right.{Callable}
+use Rattle.award_outcome.specs.Gain.{rowFor, gain, AtMost}
 use Rattle.spelling.specs.Decimal.{decimal}
 use Rattle.spelling.specs.Lines.{pairLine, refusedWord}
 use Rattle.spelling.specs.Text.{bidIn}

@@ -14,7 +14,7 @@ use Rattle.reader.specs.declared.Reading.{Reading}
 use Rattle.award_check.specs.Auction.{Auction, auctionOf}
 use Rattle.award_plain.specs.Award.{Outcome}
 use Rattle.award_plain.specs.Plain.{toldIn, PlainPromise}
-use Rattle.award.specs.Promise.{toldAward, Promise}
+use Rattle.award_outcome.specs.Promise.{toldAward, Promise}
 use Rattle.listing_text.specs.List.{Listed}
 use Rattle.writer.specs.declared.Writing.{Writing}
 use Rattle.writer.specs.Canonical.{Writes}

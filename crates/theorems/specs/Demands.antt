@@ -39,12 +39,12 @@ use Rattle.award_plain.specs.Award.{leastCost, greedy, rule, won, awarded, awar
 use Rattle.award_plain.specs.Award.{refused as refusal}
 use Rattle.award_plain.specs.Plain.{toldIn, PlainPromise}
 use Rattle.award_plain.specs.AwardLaws.{award-lent}
-use Rattle.award.specs.Gain.{rowFor, gain, AtMost}
-use Rattle.award.specs.Promise.{lentAfter, Promise}
-use Rattle.award.specs.RowsPromiseLaws.{rows-promise}
-use Rattle.award.specs.Right.{Bidders, IsAward, OneAnswer, LeastCover, WinnerAt, PaidByEight}
-use Rattle.award.specs.OneAnswerLaws as one
-use Rattle.award.specs.OutcomeLaws as outcome
+use Rattle.award_outcome.specs.Gain.{rowFor, gain, AtMost}
+use Rattle.award_outcome.specs.Promise.{lentAfter, Promise}
+use Rattle.award_outcome.specs.RowsPromiseLaws.{rows-promise}
+use Rattle.award_outcome.specs.Right.{Bidders, IsAward, OneAnswer, LeastCover, WinnerAt, PaidByEight}
+use Rattle.award_outcome.specs.OneAnswerLaws as one
+use Rattle.award_outcome.specs.OutcomeLaws as outcome
 use Rattle.spelling.specs.Decimal.{decimal, withPoint}
 use Rattle.spelling.specs.Text.{tenderText, bidsText, textOf, bidIn}
 use Rattle.spelling.specs.Spelt.{Spelt}

@@ -24,11 +24,11 @@ use Rattle.award_check.specs.Auction.{Auction, auctionOf}
 use Rattle.award_check.specs.Alike.{named}
 use Rattle.award_plain.specs.Award.{rule, Outcome, awarded, refused, awardOf}
 use Rattle.award_plain.specs.AwardLaws.{award-awarded}
-use Rattle.award.specs.Gain.{lost, rowFor}
-use Rattle.award.specs.SettleLaws.{lost-nothing, rowIn}
-use Rattle.award.specs.TableLaws.{row-is}
-use Rattle.award.specs.Right as right
-use Rattle.award.specs.TextOutcomeLaws.{honest-texts}
+use Rattle.award_outcome.specs.Gain.{lost, rowFor}
+use Rattle.award_outcome.specs.SettleLaws.{lost-nothing, rowIn}
+use Rattle.award_outcome.specs.TableLaws.{row-is}
+use Rattle.award_outcome.specs.Right as right
+use Rattle.award_outcome.specs.TextOutcomeLaws.{honest-texts}
 use Rattle.spelling.specs.LineLaws.{refused-line}
 use Rattle.listing_text.specs.List.{listLines, listOf}
 use Rattle.listing_text.specs.ListLaws.{listed-is}

@@ -6,7 +6,7 @@ use Prim.Native.Nat.{ℕ}
 use lib.ListN.{getD}
 use Rattle.tender.specs.declared.AwardRow.{AwardRow}
 use Rattle.reader_word.specs.Words.{andThen, cut, sameBytes, closed, digits}
-use Rattle.award.specs.Gain.{lost}
+use Rattle.award_outcome.specs.Gain.{lost}
 use Rattle.spelling.specs.Decimal.{decimal}
 use Rattle.listing_text.specs.Lines.{winWord}
 

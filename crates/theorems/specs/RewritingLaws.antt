@@ -26,8 +26,8 @@ use Rattle.award_check.specs.TextLaws.{rows-flat}
 use Rattle.award_check.specs.AlikeLaws.{rows-length}
 use Rattle.award_plain.specs.Award as outcome
 use Rattle.award_plain.specs.AwardLaws.{award-nine}
-use Rattle.award.specs.Right.{OneAnswer, tables-break-a-rule, rows-too-few, minute-uncovered, one-bidder, award}
-use Rattle.award.specs.OneAnswerLaws.{one-answer}
+use Rattle.award_outcome.specs.Right.{OneAnswer, tables-break-a-rule, rows-too-few, minute-uncovered, one-bidder, award}
+use Rattle.award_outcome.specs.OneAnswerLaws.{one-answer}
 use Rattle.writer.specs.declared.Writing.{Writing}
 use Rattle.writer.specs.declared.Writing.the-variants as writing
 use Rattle.writer.specs.Canonical.{canonical, spelt, unspelt, unlessFault, writeInto, writeAnswer, bufferAfter}

@@ -23,7 +23,7 @@ use Rattle.reader_word.specs.Words.{andThen, growFirst, cut, among, sameBytes, 
 use Rattle.reader_word.specs.CutLaws.{cut-end}
 use Rattle.award_check.specs.Cells.{noRow}
 use Rattle.award_plain.specs.Award.{awarded}
-use Rattle.award.specs.Gain.{lost}
+use Rattle.award_outcome.specs.Gain.{lost}
 use Rattle.spelling.specs.Decimal.{decimal}
 use Rattle.spelling.specs.Lines.{closing, numbers, pairLine, oneLine, kindWord, refusedWord, refusedLine}
 use Rattle.spelling.specs.LineLaws.{refused-line}

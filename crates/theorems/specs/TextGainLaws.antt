@@ -23,9 +23,9 @@ use Rattle.reader_text.specs.Differ.{DifferInPrice, withPrice, RowsDifferInPric
 use Rattle.reader_text.specs.PriceLaws.{price-law}
 use Rattle.award_check.specs.Cells.{noRow}
 use Rattle.award_check.specs.Alike.{named}
-use Rattle.award.specs.Promise.{toldAward, Promise}
-use Rattle.award.specs.Right as right
-use Rattle.award.specs.TextOutcomeLaws.{honest-texts}
+use Rattle.award_outcome.specs.Promise.{toldAward, Promise}
+use Rattle.award_outcome.specs.Right as right
+use Rattle.award_outcome.specs.TextOutcomeLaws.{honest-texts}
 use Rattle.theorems.specs.Calls.{ReadCall, AwardCall}
 use Rattle.theorems.specs.Between.{Follows, SameAward, NoGainBetween}
 

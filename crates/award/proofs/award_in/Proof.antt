@@ -52,11 +52,11 @@ use Rattle.tender.proofs.Tender as Ten
 use Rattle.tender.proofs.Tender.Laws as Ten′
 use Rattle.tender.specs.declared.Answer.{Answer}
 use Rattle.tender.specs.declared.AwardRow.{AwardRow}
-use Rattle.award.specs.Promise.{Promise, rowsFilled}
+use Rattle.award_outcome.specs.Promise.{Promise, rowsFilled}
 use Rattle.award_plain.specs.Plain.{rowsIn, PlainPromise}
-use Rattle.award.specs.RowsPromiseLaws.{rows-fit, filled-promise}
+use Rattle.award_outcome.specs.RowsPromiseLaws.{rows-fit, filled-promise}
 use Rattle.award.specs.declared.Settled.{Settled}
-use Rattle.award.proofs.WalkSteps.{spent, answered}
+use Rattle.award_rows.proofs.WalkSteps.{spent, answered}
 use Rattle.award.proofs.LocalArray.{lent-ref, repeated, repeated-elements, as-room, lend, take-back, lend-shared, take-back-shared}
 use Rattle.tender.proofs.Answer as Ans
 use Rattle.tender.proofs.Answer.Laws as Ans′
@@ -67,10 +67,10 @@ use Rattle.award.proofs.settle_rows as settle
 use Rattle.award.proofs.settle_rows.Symbol as settle-def
 use Rattle.award.proofs.settle_rows.Symbol.{name as #award·settle-rows}
 use Rattle.award.proofs.settle_rows.Met as settle-thm
-use Rattle.award.proofs.fill as fill
-use Rattle.award.proofs.fill.Symbol as fill-def
-use Rattle.award.proofs.fill.Symbol.{name as #award·fill}
-use Rattle.award.proofs.fill.Met as fill-thm
+use Rattle.award_rows.proofs.fill as fill
+use Rattle.award_rows.proofs.fill.Symbol as fill-def
+use Rattle.award_rows.proofs.fill.Symbol.{name as #award-rows·fill}
+use Rattle.award_rows.proofs.fill.Met as fill-thm
 use Rattle.award.proofs.award_in.Key.{name as #award·award-in}
 use Rattle.award.proofs.award_in as f
 use Rattle.award.proofs.award_in.Statement as stated
@@ -255,7 +255,7 @@ module _ {M : Type 1} (𝓤 : URA M) (H : Heap 𝓤) (A : Atoms 𝓤) (W : Given
         ! (3 ∷ 0 ∷ []) $ fjoin ! $ move ! (2 ∷ 0 ∷ []) $ fjoin ! $ move ! (1 ∷ 0 ∷ []) $ fjoin ! $ done !
 
   walk : (𝓣 : Tables 𝓤 H) → FmC 𝓤 H (W .laws) (𝓣 .C) → Triple 𝓤 (𝓣 .C #award·settle-rows) (Settle 𝓤 H A at-mem run)
-      → Triple 𝓤 (𝓣 .C #award·fill) (Fill 𝓤 H A at-mem run)
+      → Triple 𝓤 (𝓣 .C #award-rows·fill) (Fill 𝓤 H A at-mem run)
       → ent 𝓤 (onEntry 𝓤 H A f.signature (κ0, (κ1, (κ2, tt))) (q0, (q1, (q2, tt))) args at)
       (WpFn 𝓤 H (𝓣 .C) (𝓣 .Λ) code.function (vk ∷ vt ∷ vint w64 n ∷ s0 ∷ s1 ∷ s2 ∷ []) Post)
   walk 𝓣 fm known-settle known-fill =
@@ -376,7 +376,7 @@ module _ {M : Type 1} (𝓤 : URA M) (H : Heap 𝓤) (A : Atoms 𝓤) (W : Given
 
 module _ {M : Type 1} (𝓤 : URA M) (H : Heap 𝓤) (A : Atoms 𝓤) (W : Given 𝓤 H A) (at-mem : Memory → SProp 𝓤) (run : Routine → Fun 𝓤) where
   award-in-walks : (𝓣 : Tables 𝓤 H) → Triple 𝓤 (𝓣 .C #award·settle-rows) (Settle 𝓤 H A at-mem run)
-      → Triple 𝓤 (𝓣 .C #award·fill) (Fill 𝓤 H A at-mem run)
+      → Triple 𝓤 (𝓣 .C #award-rows·fill) (Fill 𝓤 H A at-mem run)
       → Walks 𝓤 H A f.ended stayed (WpFn 𝓤 H (𝓣 .C) (𝓣 .Λ) code.function) (f.clauses 𝓤 H A at-mem run)
   award-in-walks 𝓣 known-settle known-fill =
       walked 𝓤 H A f.ended stayed (f.clauses 𝓤 H A at-mem run) (WpFn 𝓤 H (𝓣 .C) (𝓣 .Λ) code.function)
@@ -429,7 +429,7 @@ module _ {M : Type 1} (𝓤 : URA M) (H : Heap 𝓤) (A : Atoms 𝓤) (W : Given
 
 award-in-meets : {M : Type 1} (𝓤 : URA M) (H : Heap 𝓤) (A : Atoms 𝓤) → Given 𝓤 H A
     → (at-mem : Memory → SProp 𝓤) (run : Routine → Fun 𝓤) (𝓣 : Tables 𝓤 H)
-    → Triple 𝓤 (𝓣 .C #award·settle-rows) (Settle 𝓤 H A at-mem run) → Triple 𝓤 (𝓣 .C #award·fill) (Fill 𝓤 H A at-mem run)
+    → Triple 𝓤 (𝓣 .C #award·settle-rows) (Settle 𝓤 H A at-mem run) → Triple 𝓤 (𝓣 .C #award-rows·fill) (Fill 𝓤 H A at-mem run)
     → Meets 𝓤 H A f.signature (WpFn 𝓤 H (𝓣 .C) (𝓣 .Λ) code.function) (f.spec 𝓤 H A at-mem run)
 award-in-meets 𝓤 H A W at-mem run 𝓣 known-settle known-fill =
     walk-meets 𝓤 H A f.ended stayed W (goes 𝓤 H A W at-mem run) (f.clauses 𝓤 H A at-mem run) (WpFn 𝓤 H (𝓣 .C) (𝓣 .Λ) code.function)
@@ -443,5 +443,5 @@ award-in-spec 𝓤 H 𝓜 𝓖 𝓡 =
     (award-in-meets 𝓤 H (𝓖 .A) (givenOf 𝓤 H 𝓜 𝓖) (𝓜 .mem) (𝓡 .run) (tablesOf 𝓤 H 𝓜 (tables 𝓤 H 𝓜 𝓡 code.env))
     (cited 𝓤 H (Settle 𝓤 H (𝓖 .A) (𝓜 .mem) (𝓡 .run)) 𝓜 𝓡 code.env #award·settle-rows settle-def.routine code.calls-award·settle-rows
     (settle-thm.met 𝓤 H 𝓜 𝓖 𝓡))
-    (cited 𝓤 H (Fill 𝓤 H (𝓖 .A) (𝓜 .mem) (𝓡 .run)) 𝓜 𝓡 code.env #award·fill fill-def.routine code.calls-award·fill
+    (cited 𝓤 H (Fill 𝓤 H (𝓖 .A) (𝓜 .mem) (𝓡 .run)) 𝓜 𝓡 code.env #award-rows·fill fill-def.routine code.calls-award-rows·fill
     (fill-thm.met 𝓤 H 𝓜 𝓖 𝓡)))

@@ -18,11 +18,11 @@ use Rattle.award_check.specs.AuctionLaws.{owners-are, entries, with-reserve, En
 use Rattle.award_check.specs.Alike.{named, Alike}
 use Rattle.tender.specs.declared.AwardRow.{AwardRow}
 use Rattle.award_plain.specs.Award.{leastCost, greedy, rule, coversIn, won, totalsOf, Outcome, awarded, refused, outcomeNumber, awardOf}
-use Rattle.award.specs.Gain.{rowFor, gain, AtMost}
-use Rattle.award.specs.Right.{LeastCover, WinnerAt, by-owner, by-house, PaidByEight}
+use Rattle.award_outcome.specs.Gain.{rowFor, gain, AtMost}
+use Rattle.award_outcome.specs.Right.{LeastCover, WinnerAt, by-owner, by-house, PaidByEight}
 use Rattle.award_plain.specs.AwardLaws.{won-least, cents-least, no-fault, AwardOn, award-awarded, spared, all-spared}
-use Rattle.award.specs.SettleLaws.{rowIn, cost-least, house-least, house-wins, largest, vcg-pays, Winner, winners-cover}
-use Rattle.award.specs.TableLaws.{award-honest, row-is, row-fair}
+use Rattle.award_outcome.specs.SettleLaws.{rowIn, cost-least, house-least, house-wins, largest, vcg-pays, Winner, winners-cover}
+use Rattle.award_outcome.specs.TableLaws.{award-honest, row-is, row-fair}
 
 -- Two tenders that neither answer refuses with 9, alike in all but the price of bid i, each with an award row for every bid or
 -- each with fewer: where the first names the bidder's true cost, its gain in the second is no higher.

@@ -13,7 +13,7 @@ use Rattle.tender.specs.declared.AwardRow.{AwardRow}
 use Rattle.tender.specs.declared.Answer.{Answer}
 use Rattle.tender.specs.declared.Answer.the-variants.{Awarded, Refused}
 use Rattle.award_plain.specs.Award.{awarded}
-use Rattle.award.specs.Promise.{lentAfter, toldAward, Promise, rowsFilled}
+use Rattle.award_outcome.specs.Promise.{lentAfter, toldAward, Promise, rowsFilled}
 use Rattle.award_layout.specs.LayoutLaws.{orderly}
 use borrow.Author.Tests.{ltb-false}
 use Rattle.award_plain.specs.Plain.{rowsIn, toldIn, PlainPromise}

@@ -24,9 +24,9 @@ use Rattle.award_check.specs.Alike.{named}
 use Rattle.award_check.specs.TextLaws.{never-nine, Tabled, tabled}
 use Rattle.award_plain.specs.Award.{Outcome, refused, awardOf}
 use Rattle.award_plain.specs.AwardLaws.{award-nine}
-use Rattle.award.specs.Gain.{rowFor, gain, AtMost}
-use Rattle.award.specs.Right.{NoGain}
-use Rattle.award.specs.TableLaws.{award-honest}
+use Rattle.award_outcome.specs.Gain.{rowFor, gain, AtMost}
+use Rattle.award_outcome.specs.Right.{NoGain}
+use Rattle.award_outcome.specs.TableLaws.{award-honest}
 
 -- the kind of a number
 kindAt : ℕ → Kind

@@ -22,7 +22,7 @@ use Rattle.award_check.specs.Auction.{Auction, auctionOf, reserved}
 use Rattle.award_check.specs.Alike.{named}
 use Rattle.tender.specs.declared.AwardRow.{AwardRow}
 use Rattle.award_plain.specs.Award.{Rule, rule, coversIn, Outcome, awarded, refused, awardRows, totalsOf}
-use Rattle.award.specs.Gain.{rowFor, gain, AtMost}
+use Rattle.award_outcome.specs.Gain.{rowFor, gain, AtMost}
 
 -- no rule is broken, and there is an award row for every bid
 pub record Callable (k : Kind) (t : Tender) (n : ℕ) (bids windows : List ℕ) (lent : ℕ) : Type 0 where

@@ -22,8 +22,8 @@ use Rattle.award_check.specs.Auction.{Auction, atPrice, reserved, thinCell}
 use Rattle.award_check.specs.AuctionLaws.{at-own-price}
 use Rattle.award_plain.specs.Award.{Rule, leastCost, greedy, coversIn, won, cents, awarded, awardRows, totalsOf, thinned, settled}
 use Rattle.award_plain.specs.AwardLaws.{won-least, cents-least, won-greedy, cents-greedy, settled-is}
-use Rattle.award.specs.Gain.{lost, rowFor, gain, AtMost}
-use Rattle.award.specs.GainLaws.{gain-most}
+use Rattle.award_outcome.specs.Gain.{lost, rowFor, gain, AtMost}
+use Rattle.award_outcome.specs.GainLaws.{gain-most}
 
 -- a loser's row says 0
 pub lost-nothing : (r : Rule) (A : Auction) (i : ℕ) → won r A i ≡ false → cents r A i ≡ 0

@@ -7,6 +7,4 @@ pub mod TableLaws
 pub mod OutcomeLaws
 pub mod OneAnswerLaws
 pub mod TextOutcomeLaws
-pub mod Rows
-pub mod RowsLaws
 pub mod RowsPromiseLaws

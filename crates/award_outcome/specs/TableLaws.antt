@@ -20,8 +20,8 @@ use Rattle.award_check.specs.AuctionLaws.{owners-are, entries, owner-spared, pr
 use Rattle.award_check.specs.Alike.{Alike}
 use Rattle.award_plain.specs.Award.{rule, won, cents, awarded, refused, uncovered, lone, settled, awardOf}
 use Rattle.award_plain.specs.AwardLaws.{award-none, AwardOn, spared}
-use Rattle.award.specs.Gain.{rowFor, gain, AtMost}
-use Rattle.award.specs.SettleLaws.{settled-honest, row-filled, rowIn, fair}
+use Rattle.award_outcome.specs.Gain.{rowFor, gain, AtMost}
+use Rattle.award_outcome.specs.SettleLaws.{settled-honest, row-filled, rowIn, fair}
 
 module _ (k : Kind) (t : Tender) (n i : ℕ) (bids windows : List ℕ) (inside : i < n) (f : faultOf k t n bids windows ≡ none) where
   abbrev A : Auction

@@ -2,11 +2,11 @@
 use mathlib.Core.Path.{sym, ap}
 use borrow.Author.Needs.{needs}
 use Rattle.tender.specs.declared.Answer.{Answer}
-use Rattle.award.specs.Promise.{rowsFilled}
-use Rattle.award.proofs.rows_filled.Statement.{statement}
-use Rattle.award.proofs.rows_filled.Tie as tie
-use Rattle.award.proofs.rows_filled.Reads as reads
-use Rattle.award.proofs.rows_filled.Lts as lts
+use Rattle.award_outcome.specs.Promise.{rowsFilled}
+use Rattle.award_rows.proofs.rows_filled.Statement.{statement}
+use Rattle.award_rows.proofs.rows_filled.Tie as tie
+use Rattle.award_rows.proofs.rows_filled.Reads as reads
+use Rattle.award_rows.proofs.rows_filled.Lts as lts
 
 enum-known-answer : tie.Need-enum-known-answer
 enum-known-answer c = search needs

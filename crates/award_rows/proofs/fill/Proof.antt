@@ -1,4 +1,4 @@
--- `award::fill` meets its contract: a walk of its MIR, by hand. The borrow of the rows is opened once, before the loop, and
+-- `award_rows::fill` meets its contract: a walk of its MIR, by hand. The borrow of the rows is opened once, before the loop, and
 -- closed after it; a turn looks into each of the other slices for one number, and calls `row_of` on the two. The loop's
 -- invariant: the rows are `filled i`. Assumes nothing.
 use mathlib.Core.Path.{_≡_, refl, sym, ap, subst, _∙_}
@@ -55,21 +55,21 @@ use denote.Triple.Call.{calls-at}
 use denote.Triple.Table.{entered, cited}
 use denote.Triple.Walked.{says, needs, Stays, stay-slice, stay-dropped, walkOf, AllGo, Walks, ends-at, walked, goes-slice, goes-dropped}
 use denote.Triple.Walked.{walk-meets}
-use Rattle.award.specs.Rows.{awardRowAt, rowsWritten}
-use Rattle.award.specs.RowsLaws.{filled-rows, length-filled}
+use Rattle.award_rows.specs.Rows.{awardRowAt, rowsWritten}
+use Rattle.award_rows.specs.RowsLaws.{filled-rows, length-filled}
 use Rattle.tender.specs.declared.AwardRow.{AwardRow}
 use Rattle.tender.proofs.AwardRow as T
 use Rattle.tender.proofs.AwardRow.Laws as T′
-use Rattle.award.proofs.WalkSteps.{spent, answered}
-use Rattle.award.proofs.row_of as one
-use Rattle.award.proofs.row_of.Symbol as one-def
-use Rattle.award.proofs.row_of.Symbol.{name as #award·row-of}
-use Rattle.award.proofs.row_of.Met as one-thm
-use Rattle.award.proofs.fill.Key.{name as #award·fill}
-use Rattle.award.proofs.fill as f
-use Rattle.award.proofs.fill.Statement as stated
-use Rattle.award.proofs.fill.Code as code
-use Rattle.award.proofs.fill.Code.Mir as pieces
+use Rattle.award_rows.proofs.WalkSteps.{spent, answered}
+use Rattle.award_rows.proofs.row_of as one
+use Rattle.award_rows.proofs.row_of.Symbol as one-def
+use Rattle.award_rows.proofs.row_of.Symbol.{name as #award-rows·row-of}
+use Rattle.award_rows.proofs.row_of.Met as one-thm
+use Rattle.award_rows.proofs.fill.Key.{name as #award-rows·fill}
+use Rattle.award_rows.proofs.fill as f
+use Rattle.award_rows.proofs.fill.Statement as stated
+use Rattle.award_rows.proofs.fill.Code as code
+use Rattle.award_rows.proofs.fill.Code.Mir as pieces
 
 abbrev Arg : Type 0
 Arg = RefT (List AwardRow) × (RefT (List ℕ) × (RefT (List ℕ) × (ℕ × Unit {0})))
@@ -171,7 +171,7 @@ module _ {M : Type 1} (𝓤 : URA M) (H : Heap 𝓤) (A : Atoms 𝓤) (W : Given
   Nearer-wf : WellFounded Nearer
   Nearer-wf = InvImage·wf (λ (i : Upto). n - i .0) (Nat·lt-wfRel .wf)
 
-  module _ (𝓣 : Tables 𝓤 H) (fm : FmC 𝓤 H (W .laws) (𝓣 .C)) (known : Triple 𝓤 (𝓣 .C #award·row-of) (RowOf 𝓤 H A at-mem run))
+  module _ (𝓣 : Tables 𝓤 H) (fm : FmC 𝓤 H (W .laws) (𝓣 .C)) (known : Triple 𝓤 (𝓣 .C #award-rows·row-of) (RowOf 𝓤 H A at-mem run))
       (l0 l1 l2 l3 l4 l5 l6 l7 l8 l9 l10 l11 l12 l13 l14 l15 : ℕ) where
     abbrev C : Calls 𝓤 H
     C = 𝓣 .C
@@ -306,7 +306,7 @@ module _ {M : Type 1} (𝓤 : URA M) (H : Heap 𝓤) (A : Atoms 𝓤) (W : Given
         choose (inl l) = more i l
         choose (inr l) = last i l
 
-  walk : (𝓣 : Tables 𝓤 H) → FmC 𝓤 H (W .laws) (𝓣 .C) → Triple 𝓤 (𝓣 .C #award·row-of) (RowOf 𝓤 H A at-mem run)
+  walk : (𝓣 : Tables 𝓤 H) → FmC 𝓤 H (W .laws) (𝓣 .C) → Triple 𝓤 (𝓣 .C #award-rows·row-of) (RowOf 𝓤 H A at-mem run)
       → ent 𝓤 (onEntry 𝓤 H A f.signature (κ, (κ1, (κ2, tt))) (q, (q1, (q2, tt))) x at)
       (WpFn 𝓤 H (𝓣 .C) (𝓣 .Λ) code.function (sliceVal (b, o) (length ys) ∷ sliceVal (b1, o1) (length ws) ∷ sliceVal (b2, o2) (length cs)
       ∷ vint w64 n ∷ []) Post)
@@ -334,7 +334,7 @@ module _ {M : Type 1} (𝓤 : URA M) (H : Heap 𝓤) (A : Atoms 𝓤) (W : Given
       (turns 𝓣 fm known l0 l1 l2 l3 l4 l5 l6 l7 l8 l9 l10 l11 l12 l13 l14 l15) (0, zero-le)))))))))))))))))
 
 module _ {M : Type 1} (𝓤 : URA M) (H : Heap 𝓤) (A : Atoms 𝓤) (W : Given 𝓤 H A) (at-mem : Memory → SProp 𝓤) (run : Routine → Fun 𝓤) where
-  fill-walks : (𝓣 : Tables 𝓤 H) → Triple 𝓤 (𝓣 .C #award·row-of) (RowOf 𝓤 H A at-mem run)
+  fill-walks : (𝓣 : Tables 𝓤 H) → Triple 𝓤 (𝓣 .C #award-rows·row-of) (RowOf 𝓤 H A at-mem run)
       → Walks 𝓤 H A f.ended stayed (WpFn 𝓤 H (𝓣 .C) (𝓣 .Λ) code.function) (f.clauses 𝓤 H A at-mem run)
   fill-walks 𝓣 known = walked 𝓤 H A f.ended stayed (f.clauses 𝓤 H A at-mem run) (WpFn 𝓤 H (𝓣 .C) (𝓣 .Λ) code.function)
       (λ κs. (slice-vals, (slice-vals, (slice-vals, (uint-vals w64, tt)))))
@@ -364,7 +364,7 @@ module _ {M : Type 1} (𝓤 : URA M) (H : Heap 𝓤) (A : Atoms 𝓤) (W : Given
 
 fill-meets : {M : Type 1} (𝓤 : URA M) (H : Heap 𝓤) (A : Atoms 𝓤) → Given 𝓤 H A
     → (at-mem : Memory → SProp 𝓤) (run : Routine → Fun 𝓤) (𝓣 : Tables 𝓤 H)
-    → Triple 𝓤 (𝓣 .C #award·row-of) (RowOf 𝓤 H A at-mem run)
+    → Triple 𝓤 (𝓣 .C #award-rows·row-of) (RowOf 𝓤 H A at-mem run)
     → Meets 𝓤 H A f.signature (WpFn 𝓤 H (𝓣 .C) (𝓣 .Λ) code.function) (f.spec 𝓤 H A at-mem run)
 fill-meets 𝓤 H A W at-mem run 𝓣 known = walk-meets 𝓤 H A f.ended stayed W (goes 𝓤 H A W at-mem run) (f.clauses 𝓤 H A at-mem run)
     (WpFn 𝓤 H (𝓣 .C) (𝓣 .Λ) code.function) (WpFn-mono 𝓤 H (W .laws) 𝓣 code.function) (fill-walks 𝓤 H A W at-mem run 𝓣 known)
@@ -373,7 +373,7 @@ pub fill-spec : {M : Type 1} → stated.statement M
 unfolding code.routine tablesOf
 fill-spec 𝓤 H 𝓜 𝓖 𝓡 =
     entered 𝓤 H (tripleOf 𝓤 H (𝓖 .A) f.signature (f.spec 𝓤 H (𝓖 .A) (𝓜 .mem) (𝓡 .run)))
-    (tables 𝓤 H 𝓜 𝓡 code.env .C) (tables 𝓤 H 𝓜 𝓡 code.env .Λ) #award·fill code.function (code.unfolded 𝓤 H 𝓜 𝓡)
+    (tables 𝓤 H 𝓜 𝓡 code.env .C) (tables 𝓤 H 𝓜 𝓡 code.env .Λ) #award-rows·fill code.function (code.unfolded 𝓤 H 𝓜 𝓡)
     (fill-meets 𝓤 H (𝓖 .A) (givenOf 𝓤 H 𝓜 𝓖) (𝓜 .mem) (𝓡 .run) (tablesOf 𝓤 H 𝓜 (tables 𝓤 H 𝓜 𝓡 code.env))
-    (cited 𝓤 H (RowOf 𝓤 H (𝓖 .A) (𝓜 .mem) (𝓡 .run)) 𝓜 𝓡 code.env #award·row-of one-def.routine code.calls-award·row-of
+    (cited 𝓤 H (RowOf 𝓤 H (𝓖 .A) (𝓜 .mem) (𝓡 .run)) 𝓜 𝓡 code.env #award-rows·row-of one-def.routine code.calls-award-rows·row-of
     (one-thm.met 𝓤 H 𝓜 𝓖 𝓡)))

@@ -25,9 +25,9 @@ use Rattle.award_check.specs.AuctionLaws.{minutes, cells-are, owners-are, thin-
 use Rattle.tender.specs.declared.AwardRow.{AwardRow}
 use Rattle.tender.specs.declared.Answer.{Answer}
 use Rattle.award_plain.specs.Award.{rule, Outcome, awarded, refused, awardRows, totalsOf, uncovered, lone, thinned, settled, outcomeNumber}
-use Rattle.award.specs.Promise.{lentAfter, toldAward, Promise}
-use Rattle.award.specs.Right.{Callable, Bidders, EarliestIn, IsAward, IsRefusal, OneAnswer, tables-break-a-rule, rows-too-few}
-use Rattle.award.specs.Right.{minute-uncovered, one-bidder, award}
+use Rattle.award_outcome.specs.Promise.{lentAfter, toldAward, Promise}
+use Rattle.award_outcome.specs.Right.{Callable, Bidders, EarliestIn, IsAward, IsRefusal, OneAnswer, tables-break-a-rule, rows-too-few}
+use Rattle.award_outcome.specs.Right.{minute-uncovered, one-bidder, award}
 use Rattle.award_plain.specs.AwardLaws.{award-none, award-nine, award-settles}
 
 module _ (k : Kind) (t : Tender) (n : ℕ) (bids windows : List ℕ) (old new : List AwardRow) (a : Answer)

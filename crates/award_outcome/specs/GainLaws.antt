@@ -8,7 +8,7 @@ use lib.Dec.{ltb}
 use borrow.Author.Tests.{ltb-true, ltb-false}
 use Rattle.cover.specs.Sets.{when}
 use Rattle.tender.specs.declared.AwardRow.{AwardRow}
-use Rattle.award.specs.Gain.{gain, AtMost}
+use Rattle.award_outcome.specs.Gain.{gain, AtMost}
 
 pub sub-most : (a b c d : ℕ) → a + d ≤ c + b → AtMost (subℕ a b) (subℕ c d)
 sub-most a b c d l = go (ltb a b) (ltb c d) refl refl

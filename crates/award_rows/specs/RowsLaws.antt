@@ -9,10 +9,10 @@ use lib.Seq.{ext-getD, getD-set-same, getD-set-other, getD-drop, getD-append-add
 use lib.Dec.{ltb}
 use borrow.Author.Tests.{ltb-true, ltb-false}
 use Rattle.tender.specs.declared.AwardRow.{AwardRow}
-use Rattle.award.specs.Gain.{lost}
+use Rattle.award_outcome.specs.Gain.{lost}
 use Rattle.award_plain.specs.Plain.{rowsIn}
 use Rattle.cover.specs.SettledLaws.{length-listed, getD-listed}
-use Rattle.award.specs.Rows.{awardRowAt, rowsWritten}
+use Rattle.award_rows.specs.Rows.{awardRowAt, rowsWritten}
 
 pub length-filled : (n : ℕ) (won cents : List ℕ) (rows : List AwardRow) → length (rowsWritten n won cents rows) ≡ length rows
 length-filled zero won cents rows = refl
