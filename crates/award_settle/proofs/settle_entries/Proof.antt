@@ -8,8 +8,8 @@ use Rattle.award_settle.proofs.settle_entries.Statement.{statement}
 use Rattle.award_settle.proofs.settle_entries.Tie as tie
 use Rattle.award_settle.proofs.settle_entries.Reads as reads
 use Rattle.award_settle.proofs.settle_entries.Lts as lts
-use Rattle.award_settle.proofs.settle_multi.Reads as settle-multi-reads
-use Rattle.award_settle.proofs.settle_single.Reads as settle-single-reads
+use Rattle.award_entries.proofs.settle_multi.Reads as settle-multi-reads
+use Rattle.award_entries.proofs.settle_single.Reads as settle-single-reads
 
 enum-told : tie.Need-enum-told
 enum-told c = search needs

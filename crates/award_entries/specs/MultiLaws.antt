@@ -38,7 +38,7 @@ use Rattle.award_plain.specs.Award.{awardOf}
 use Rattle.award_plain.specs.Sums.{totalsIn}
 use Rattle.award_plain.specs.Plain.{toldIn}
 use Rattle.award_plain.specs.PlainLaws.{awards, multi-won, multi-cents}
-use Rattle.award_settle.specs.ThinLaws.{enough}
+use Rattle.award_entries.specs.ThinLaws.{enough}
 
 one-house : (r : Reserve) → houses r ≤ 1
 one-house Absent = omega arith

@@ -4,11 +4,11 @@ use mathlib.Core.Path.{sym, _∙_}
 use native.Mathlib.Omega.{arith}
 use Rattle.tender.specs.declared.Kind.the-variants.{Single}
 use Rattle.award_layout.specs.LayoutLaws.{cells-within}
-use Rattle.award_settle.specs.ThinLaws.{bare-inside, lone-inside, tells-eleven, tells-twelve}
-use Rattle.award_settle.specs.SingleLaws.{lawful-prices, prices-sum, settled}
+use Rattle.award_entries.specs.ThinLaws.{bare-inside, lone-inside, tells-eleven, tells-twelve}
+use Rattle.award_entries.specs.SingleLaws.{lawful-prices, prices-sum, settled}
 use borrow.Author.Needs.{needs}
-use Rattle.award_settle.proofs.single_in.Statement.{statement}
-use Rattle.award_settle.proofs.single_in.Tie as tie
+use Rattle.award_entries.proofs.single_in.Statement.{statement}
+use Rattle.award_entries.proofs.single_in.Tie as tie
 
 lay-spans-requires : tie.Need-lay-spans-requires
 lay-spans-requires c κs =

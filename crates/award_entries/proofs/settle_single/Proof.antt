@@ -4,11 +4,11 @@ use native.Mathlib.Omega.{arith}
 use Rattle.tender.specs.declared.Kind.the-variants.{Single}
 use Rattle.tender.specs.Limits.{maxEntries}
 use Rattle.award_layout.specs.LayoutLaws.{orderly}
-use Rattle.award_settle.specs.MultiLaws.{entries-few}
-use Rattle.award_settle.specs.PrefixLaws.{prefix-length}
+use Rattle.award_entries.specs.MultiLaws.{entries-few}
+use Rattle.award_entries.specs.PrefixLaws.{prefix-length}
 use borrow.Author.Needs.{needs}
-use Rattle.award_settle.proofs.settle_single.Statement.{statement}
-use Rattle.award_settle.proofs.settle_single.Tie as tie
+use Rattle.award_entries.proofs.settle_single.Statement.{statement}
+use Rattle.award_entries.proofs.settle_single.Tie as tie
 
 entries-requires : tie.Need-entries-requires
 entries-requires c κs =

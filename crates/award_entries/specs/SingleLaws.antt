@@ -26,8 +26,8 @@ use Rattle.award_laid.specs.Lay.{LaidSpans}
 use Rattle.award_plain.specs.Award.{coversIn, awardOf}
 use Rattle.award_plain.specs.Sums.{totalsIn}
 use Rattle.award_plain.specs.Plain.{toldIn}
-use Rattle.award_settle.specs.ThinLaws.{enough}
-use Rattle.award_settle.specs.MultiLaws.{prices-lawful}
+use Rattle.award_entries.specs.ThinLaws.{enough}
+use Rattle.award_entries.specs.MultiLaws.{prices-lawful}
 use Rattle.award_plain.specs.PlainLaws.{awards, single-won, single-cents}
 
 module _ (t : Tender) (n : ℕ) (bids windows ps starts ends order : List ℕ) (thin : Thin) (f : faultOf Single t n bids windows ≡ none)

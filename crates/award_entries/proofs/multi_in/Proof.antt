@@ -4,13 +4,13 @@ use native.Mathlib.Omega.{arith}
 use Rattle.tender.specs.declared.Kind.the-variants.{Multi}
 use Rattle.award_layout.specs.LayoutLaws.{cells-within}
 use Rattle.award_laid.specs.LayLaws.{words-of}
-use Rattle.award_settle.specs.ThinLaws.{bare-inside, lone-inside, tells-eleven, tells-twelve}
-use Rattle.award_settle.specs.MultiLaws.{market, settled}
+use Rattle.award_entries.specs.ThinLaws.{bare-inside, lone-inside, tells-eleven, tells-twelve}
+use Rattle.award_entries.specs.MultiLaws.{market, settled}
 use borrow.Author.Needs.{needs}
-use Rattle.award_settle.proofs.multi_in.Statement.{statement}
-use Rattle.award_settle.proofs.multi_in.Tie as tie
-use Rattle.award_settle.proofs.multi_in.Reads as reads
-use Rattle.award_settle.proofs.multi_in.Lts as lts
+use Rattle.award_entries.proofs.multi_in.Statement.{statement}
+use Rattle.award_entries.proofs.multi_in.Tie as tie
+use Rattle.award_entries.proofs.multi_in.Reads as reads
+use Rattle.award_entries.proofs.multi_in.Lts as lts
 use Rattle.award_laid.proofs.lay_masks.Reads as lay-masks-reads
 use Rattle.award_layout.proofs.cells.Reads as cells-reads
 use Rattle.award_layout.proofs.minute.Reads as minute-reads

@@ -5,16 +5,16 @@ use native.Mathlib.Omega.{arith}
 use Rattle.tender.specs.declared.Kind.the-variants.{Multi}
 use Rattle.tender.specs.Limits.{maxEntries}
 use Rattle.award_layout.specs.LayoutLaws.{orderly, cells-within}
-use Rattle.award_settle.specs.MultiLaws.{entries-few, words-room}
-use Rattle.award_settle.specs.PrefixLaws.{prefix-length}
+use Rattle.award_entries.specs.MultiLaws.{entries-few, words-room}
+use Rattle.award_entries.specs.PrefixLaws.{prefix-length}
 use borrow.Author.Needs.{needs}
-use Rattle.award_settle.proofs.settle_multi.Statement.{statement}
-use Rattle.award_settle.proofs.settle_multi.Tie as tie
-use Rattle.award_settle.proofs.settle_multi.Reads as reads
-use Rattle.award_settle.proofs.settle_multi.Lts as lts
+use Rattle.award_entries.proofs.settle_multi.Statement.{statement}
+use Rattle.award_entries.proofs.settle_multi.Tie as tie
+use Rattle.award_entries.proofs.settle_multi.Reads as reads
+use Rattle.award_entries.proofs.settle_multi.Lts as lts
 use Rattle.award_layout.proofs.cells.Reads as cells-reads
 use Rattle.award_layout.proofs.entries.Reads as entries-reads
-use Rattle.award_settle.proofs.multi_in.Reads as multi-in-reads
+use Rattle.award_entries.proofs.multi_in.Reads as multi-in-reads
 
 cells-requires : tie.Need-cells-requires
 cells-requires c κs =
