@@ -12,7 +12,7 @@ use Rattle.reader_word.specs.Words.{cut}
 use Rattle.reader_word.specs.Scan.{toNext, Ended}
 use Rattle.reader_line.specs.Line.{BidLine, Line, bid, lineOf, linesOf}
 use Rattle.reader_line.specs.LineFront.{firstLine}
-use Rattle.reader_line.specs.SizeLaws.{line-windows}
+use Rattle.reader_line.specs.SizeLaws.{line-long}
 use Rattle.reader_line.specs.EndedLaws.{ended-in, lines-on}
 use Rattle.reader_text.specs.Read.{ReadOutcome, refused, checked}
 use Rattle.reader_bids.specs.Steps.{Taken}
@@ -26,7 +26,7 @@ room-for : (text : List ℕ) (i m : ℕ) → Ended text → i < length text → 
 room-for text i m x h l b q =
     let n : length (firstLine (drop i text)) ≡ toNext 10 (drop i text) =
     length-take-le (toNext 10 (drop i text)) (drop i text) (rw length-drop (omega (arith, ended-in text i x h))) in
-    omega (arith, line-windows (firstLine (drop i text)) b q)
+    omega (arith, line-long (firstLine (drop i text)) b q .1)
 
 -- the line at i was taken
 module _ (T : Tender) (from : ℕ) (whole : List (Option Line)) (text : List ℕ) (i line k m : ℕ)

@@ -1,4 +1,5 @@
--- A bid's line has six bytes for each of its windows, so that a text's length bounds how many windows it has. Assumes nothing.
+-- A bid's line has six bytes for each of its windows and nine beside them, so that a text's length bounds how many bids and windows it
+-- has. Assumes nothing.
 use mathlib.Core.Path.{_≡_, refl, ap, _∙_}
 use mathlib.Core.List.{List, [], _∷_}
 use mathlib.Core.Bool.{Bool, true, false, cond, not, _&&_}
@@ -15,7 +16,7 @@ use Rattle.reader_word.specs.Words.{growFirst, cut, sameBytes, opened, closed, 
 use Rattle.reader_line.specs.Line.{BidLine, bid, kindOf, windowsIn, tenderOf, bidOf, reserveOf, lineOfWords, lineOf}
 use Rattle.reader_word.specs.Windows.{spanOf, windowOf}
 use Rattle.reader_word.specs.CutLaws.{Pieces, cut-some}
-use Rattle.reader_word.specs.GivenLaws.{both-true, then-some, cond-some}
+use Rattle.reader_word.specs.GivenLaws.{same-is, both-true, then-some, cond-some}
 
 -- the bytes of the pieces, with one after each
 bytesOf : List (List ℕ) → ℕ
@@ -67,7 +68,8 @@ window-long s e w h =
       omega (arith, closed-long e (z .0) (z .1), numeral-long (z .0) (m .0) (m .1)),
     )
 
-windows-long : (ws : List (List ℕ)) (l : List Window) → windowsIn ws ≡ some l → 6 * length l ≤ bytesOf ws
+-- one window at least, and the bracket that closes the line
+windows-long : (ws : List (List ℕ)) (l : List Window) → windowsIn ws ≡ some l → (1 ≤ length l) × (6 * length l + 1 ≤ bytesOf ws)
 unfolding windowsIn bytesOf
 windows-long [] l h = let z : _≡_ {A = ℕ} 0 1 = cc in absurd (omega arith)
 windows-long (s ∷ []) l h = let z : _≡_ {A = ℕ} 0 1 = cc in absurd (omega arith)
@@ -76,13 +78,13 @@ windows-long (s ∷ e ∷ []) l h =
     let w = then-some (windowOf s (z .0)) _ l (z .2) in
     let q : w .0 ∷ [] ≡ l = cc (w .2) in
     let b = window-long s (z .0) (w .0) (w .1) in
-    omega (arith, b .0, b .1, closed-long e (z .0) (z .1), ap length q)
+    let n = ap length q in (omega arith, omega (arith, b .0, b .1, closed-long e (z .0) (z .1)))
 windows-long (s ∷ e ∷ x ∷ ws) l h =
     let w = then-some (windowOf s e) _ l h in
     let r = then-some (windowsIn (x ∷ ws)) _ l (w .2) in
     let q : w .0 ∷ r .0 ≡ l = cc (r .2) in
     let b = window-long s e (w .0) (w .1) in
-    omega (arith, b .0, b .1, windows-long (x ∷ ws) (r .0) (r .1), ap length q)
+    let n = ap length q in (omega arith, omega (arith, b .0, b .1, windows-long (x ∷ ws) (r .0) (r .1) .1))
 
 tender-no-bid : (ws : List (List ℕ)) (b : BidLine) → tenderOf ws ≡ some (bid b) → ⊥
 unfolding tenderOf
@@ -107,8 +109,9 @@ reserve-no-bid (p ∷ []) b h =
     let z : _≡_ {A = ℕ} 0 1 = cc in omega arith
 reserve-no-bid (p ∷ x ∷ ws) b h = let z : _≡_ {A = ℕ} 0 1 = cc in omega arith
 
-bid-long : (ws : List (List ℕ)) (b : BidLine) → bidOf ws ≡ some (bid b) → 6 * length (b .windows) ≤ bytesOf ws
-unfolding bidOf bytesOf
+bid-long : (ws : List (List ℕ)) (b : BidLine) → bidOf ws ≡ some (bid b)
+    → (1 ≤ length (b .windows)) × (6 * length (b .windows) + 5 ≤ bytesOf ws)
+unfolding bidOf priceOf bytesOf
 bid-long [] b h = let z : _≡_ {A = ℕ} 0 1 = cc in absurd (omega arith)
 bid-long (n ∷ []) b h = let z : _≡_ {A = ℕ} 0 1 = cc in absurd (omega arith)
 bid-long (n ∷ p ∷ ws) b h =
@@ -116,20 +119,27 @@ bid-long (n ∷ p ∷ ws) b h =
     let v = then-some (priceOf p) _ (bid b) (y .2) in
     let l = then-some (windowsIn ws) _ (bid b) (v .2) in
     let q : _≡_ {A = BidLine} (record { bidder = y .0; price = v .0; windows = l .0 }) b = cc (l .2) in
-    omega (arith, windows-long ws (l .0) (l .1), ap (λ (c : BidLine). length (c .windows)) q)
+    let long = windows-long ws (l .0) (l .1) in
+    let same = ap (λ (c : BidLine). length (c .windows)) q in
+    (omega (arith, long .0), omega (arith, long .1, numeral-long n (y .0) (y .1), numeral-long p (v .0) (v .1)))
 
--- the windows of a bid's line
-pub line-windows : (line : List ℕ) (b : BidLine) → lineOf line ≡ some (bid b) → 6 * length (b .windows) ≤ length line + 1
-unfolding lineOf lineOfWords bytesOf
-line-windows line b h = omega (arith, go (cut 32 line) h, cut-bytes 32 line)
+-- the windows of a bid's line, which has one at least, and its bytes
+pub line-long : (line : List ℕ) (b : BidLine) → lineOf line ≡ some (bid b)
+    → (1 ≤ length (b .windows)) × (6 * length (b .windows) + 9 ≤ length line)
+unfolding lineOf lineOfWords bytesOf bidWord
+line-long line b h = let l = go (cut 32 line) h in (l .0, omega (arith, l .1, cut-bytes 32 line))
   where
-    go : (ws : List (List ℕ)) → lineOfWords ws ≡ some (bid b) → 6 * length (b .windows) ≤ bytesOf ws
+    go : (ws : List (List ℕ)) → lineOfWords ws ≡ some (bid b)
+        → (1 ≤ length (b .windows)) × (6 * length (b .windows) + 10 ≤ bytesOf ws)
     go [] e = let z : _≡_ {A = ℕ} 0 1 = cc in absurd (omega arith)
-    go (w ∷ ws) e = first (sameBytes w (40 ∷ tenderWord)) (sameBytes w (40 ∷ bidWord)) (sameBytes w (40 ∷ reserveWord)) e
+    go (w ∷ ws) e = first (sameBytes w (40 ∷ tenderWord)) (sameBytes w (40 ∷ bidWord)) refl (sameBytes w (40 ∷ reserveWord)) e
       where
-        first : (x y z : Bool) → cond x (tenderOf ws) (cond y (bidOf ws) (cond z (reserveOf ws) none)) ≡ some (bid b)
-            → 6 * length (b .windows) ≤ bytesOf (w ∷ ws)
-        first true y z q = absurd (tender-no-bid ws b q)
-        first false true z q = omega (arith, bid-long ws b q)
-        first false false true q = absurd (reserve-no-bid ws b q)
-        first false false false q = let z : _≡_ {A = ℕ} 0 1 = cc in absurd (omega arith)
+        first : (x y : Bool) → sameBytes w (40 ∷ bidWord) ≡ y → (z : Bool)
+            → cond x (tenderOf ws) (cond y (bidOf ws) (cond z (reserveOf ws) none)) ≡ some (bid b)
+            → (1 ≤ length (b .windows)) × (6 * length (b .windows) + 10 ≤ bytesOf (w ∷ ws))
+        first true y s z q = absurd (tender-no-bid ws b q)
+        first false true s z q =
+            let l = bid-long ws b q in
+            (l .0, omega (arith, l .1, ap length (same-is w (40 ∷ bidWord) s)))
+        first false false s true q = absurd (reserve-no-bid ws b q)
+        first false false s false q = let z : _≡_ {A = ℕ} 0 1 = cc in absurd (omega arith)
