@@ -1,18 +1,19 @@
--- The list of the award to the tables that were read is the list of the text, and a buffer with room for any list gets it at once. Assumes
+-- The list of the award to the tables that were read is the list of the text, and a buffer with room for it gets it at once. Assumes
 -- nothing.
 use mathlib.Core.Path.{_≡_, ap}
 use mathlib.Core.List.{List, _++_}
 use mathlib.Core.Option.{none}
-use Prim.Native.Nat.{ℕ, _≤_, _<_}
+use Prim.Native.Nat.{ℕ, _+_, _*_, _≤_, _<_}
 use native.Mathlib.Omega.{arith}
-use lib.ListN.{length, take}
+use lib.ListN.{length, take, drop, length-append, take-append-drop}
 use Rattle.tender.specs.declared.Tender.{Tender}
 use Rattle.tender.specs.declared.Totals.{Totals}
 use Rattle.tender.specs.declared.Refusal.{Refusal}
 use Rattle.reader_text.specs.Read.{accepted, readText}
 use Rattle.reader_text.specs.Read as reading
 use Rattle.reader_text.specs.RulesLaws.{rules-law}
-use Rattle.reader_fill.specs.ReadInLaws.{ReadIn}
+use Rattle.reader_text.specs.SizeLaws.{bids-few}
+use Rattle.reader_fill.specs.ReadInLaws.{ReadIn, few-read}
 use Rattle.tender.specs.declared.Answer.{Answer}
 use Rattle.tender.specs.declared.Answer.the-variants.{Awarded, Refused}
 use Rattle.award_check.specs.Faults.{faultOf}
@@ -25,6 +26,7 @@ use Rattle.listing_text.specs.Lines.{awardLine, winLines, lastLines}
 use Rattle.listing_text.specs.List.{listOf, Listed}
 use Rattle.listing_text.specs.ListLaws.{award-list, list-short}
 use Rattle.listing_text.specs.Made.{answerLines, Awarded·written, Made}
+use Rattle.listing_made.specs.Room.{roomFor}
 
 module _ {t : Tender} {n lent : ℕ} {bids windows ow oc won cents old new : List ℕ} {a : Answer} {f : ℕ} where
   pub award-written : (totals : Totals) → a ≡ Awarded totals → n ≤ lent
@@ -66,6 +68,12 @@ pub read-sound : {text bids windows : List ℕ} {t : Tender} {n : ℕ} → ReadI
 read-sound {text} {bids} {windows} {t} {n} h = rw (h .bids-are, h .windows-are, ← (h .count))
     (never-nine t (h .rows) (h .spans) (h .past-rows) (h .past-spans) (rules-law t (h .rows) (h .spans) text (h .is)))
 
+-- and its bids are so few that their list has room
+pub read-room : {text bids windows : List ℕ} {t : Tender} {n room : ℕ} → ReadIn text bids windows t n → roomFor (length text) ≤ room
+    → 48 * n + 136 ≤ room
+read-room {text} {bids} {windows} {t} {n} {room} h l =
+    omega (arith, few-read h, h .count, bids-few t (h .rows) (h .spans) text (h .is))
+
 -- so the list is made
 pub made-award : {text bids windows old new : List ℕ} {t : Tender} {n f : ℕ} → ReadIn text bids windows t n
     → Awarded·written t n bids windows old new f → Made text old new f
@@ -81,8 +89,18 @@ pub made-refusal : {text old new : List ℕ} {f : ℕ} (q : Refusal) → readTex
 unfolding listOf
 made-refusal {text} {old} {new} {f} q e w = record { written = rw e w }
 
--- a buffer of 51,200 bytes has room for any list
 module _ {text old new : List ℕ} {n : ℕ} (m : Made text old new n) where
+  -- no list is empty
+  pub made-some : 0 < n
+  made-some = omega (arith, m .written .next, list-short text .1)
+
+  pub made-size : length (take n new) ≡ n
+  made-size = omega (arith, ap length (m .written .text), m .written .next)
+
+  pub made-inside : n ≤ length new
+  made-inside = omega (arith, made-size, ap length (take-append-drop n new), length-append (take n new) (drop n new))
+
+  -- a buffer of 51,200 bytes has room for any
   pub made-few : n ≤ 51200
   made-few = omega (arith, m .written .next, list-short text .0)
 
@@ -96,7 +114,3 @@ module _ {text old new : List ℕ} {n : ℕ} (m : Made text old new n) where
   pub listed-all : {short copied : List ℕ} {r : ℕ} → n ≤ length short → Written short 0 (take n new) copied r
       → Listed text short copied r
   listed-all l w = record { delivers = delivered-all (omega (arith, m .written .next)) (rw (m .written .text) at w) }
-
-  -- what is copied
-  pub made-size : length (take n new) ≡ n
-  made-size = omega (arith, ap length (m .written .text), m .written .next)

@@ -1,8 +1,9 @@
--- The tables suffice, so the text is read or refused as its definition says; then its award or its refusal is written. Assumes nothing.
+-- The tables suffice, so the text is read or refused as its definition says; then its award or its refusal is written. The bids are so
+-- few that the list has room. Assumes nothing.
 use native.Mathlib.Omega.{arith}
 use Rattle.reader_fill.specs.FillLaws.{refused-is}
 use Rattle.reader_fill.specs.ReadInLaws.{filled-read, few-read}
-use Rattle.listing_made.specs.MakingLaws.{read-sound, made-award, made-refusal}
+use Rattle.listing_made.specs.MakingLaws.{read-sound, read-room, made-award, made-refusal}
 use borrow.Author.Needs.{needs}
 use Rattle.listing_made.proofs.make.Statement.{statement}
 use Rattle.listing_made.proofs.make.Tie as tie
@@ -37,7 +38,7 @@ put-award-requires c κs =
     let c13 = c8 .before .before .before .before .before in
     let h = filled-read (c13 .args .text .now) (c4 .tender .given .0 .0) (c4 .tender .given .0 .1 .0) (c4 .tender .given .0 .1 .1 .0)
     (c8 .fill .ensures .0) (c8 .fill .ensures .1) (c4 .tender .given .1) in
-    let f = few-read h in (read-sound h, (f, (omega arith, omega (arith, c13 .pre))))
+    let f = few-read h in (read-sound h, (f, (omega arith, read-room h (c13 .pre))))
 
 enum-known-r : tie.Need-enum-known-r
 enum-known-r c = search needs
