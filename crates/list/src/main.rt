@@ -1,22 +1,25 @@
 // The list program: reads a bid text from standard input and writes its list to standard output. A program has no exit
-// status, so what cannot be read or written is told on standard error.
-ghost use Rattle.list.specs.Input.{Within};
+// status, so what cannot be read or written is told on standard error. To fill the buffers of the longest text takes longer
+// than to list a short one, so a short text has smaller ones.
+ghost use Prim.Native.Nat.{_≤_};
 ghost use lib.ListN.{length};
+ghost use Rattle.list.specs.Input.{Within};
 use libc::STDERR_FILENO;
 use libc::STDIN_FILENO;
 use libc::STDOUT_FILENO;
 
-// What was read: so many bytes, or a read failed.
+// What was read: so many bytes stand in the buffer, or a read failed.
 pub(crate) enum Input {
     Text(usize),
     Failed,
 }
 
-// Reads until the input ends or the buffer is full.
-fn read_all(fd: i32, buf: &mut [u8]) -> Input
+// Reads from the place `from` on until the input ends or the buffer is full.
+fn read_on(fd: i32, buf: &mut [u8], from: usize) -> Input
+    requires { ⌜ from ≤ length (now buf) ⌝ }
     ensures { λ r. ⌜ Within (length (now (buf .exit))) r ⌝ }
 {
-    let mut n: usize = 0;
+    let mut n = from;
     while n < buf.len() {
         let got = libc::read(fd, &mut buf[n..]);
         if got < 0 {
@@ -31,21 +34,48 @@ fn read_all(fd: i32, buf: &mut [u8]) -> Input
     Input::Text(n)
 }
 
-// The text's buffer holds one byte more than a readable text may have, so that a longer one is seen to be too long.
-fn main() {
-    let mut text = [0u8; 65537];
-    match read_all(STDIN_FILENO, &mut text) {
+fn tell_unread() {
+    io::write_all(STDERR_FILENO, b"list: standard input cannot be read\n");
+}
+
+fn write_list(list: &[u8]) {
+    if !io::write_all(STDOUT_FILENO, list) {
+        io::write_all(STDERR_FILENO, b"list: standard output cannot be written\n");
+    }
+}
+
+// Lists a text that begins so and of which more is to be read. The buffer holds one byte more than a readable text may
+// have, so that a longer one is seen to be too long; the list is made in the text's place.
+fn list_long(first: &[u8])
+    requires { ⌜ length (now first) ≤ 65537 ⌝ }
+{
+    let mut buf = [0u8; 65537];
+    let begun = spelling::put_all(&mut buf, 0, first);
+    match read_on(STDIN_FILENO, &mut buf, begun) {
         Input::Text(n) => {
-            let mut list = [0u8; 51200];
-            let k = listing::tender_list(&text[..n], &mut list);
-            // The list program's buffer always suffices: refusal 13 is ruled out here.
+            let k = listing_made::make_in(&mut buf, n);
+            // The buffer always suffices: refusal 13 is ruled out here.
             check::expect(0 < k);
-            if !io::write_all(STDOUT_FILENO, &list[..k]) {
-                io::write_all(STDERR_FILENO, b"list: standard output cannot be written\n");
+            write_list(&buf[..k]);
+        }
+        Input::Failed => tell_unread(),
+    }
+}
+
+// A text that ends within the first buffer has so few bids that their list fits the second: refusal 13 is ruled out.
+fn main() {
+    let mut text = [0u8; 6656];
+    match read_on(STDIN_FILENO, &mut text, 0) {
+        Input::Text(n) => {
+            if n < text.len() {
+                let mut list = [0u8; 20480];
+                let k = listing_made::make(&text[..n], &mut list);
+                check::expect(0 < k);
+                write_list(&list[..k]);
+            } else {
+                list_long(&text);
             }
         }
-        Input::Failed => {
-            io::write_all(STDERR_FILENO, b"list: standard input cannot be read\n");
-        }
+        Input::Failed => tell_unread(),
     }
 }

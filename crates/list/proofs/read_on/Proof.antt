@@ -3,18 +3,18 @@ use mathlib.Core.Path.{_≡_}
 use Prim.Native.Nat.{_≤_, _-_}
 use lib.ListN.{length}
 use borrow.Author.Needs.{needs}
-use Rattle.list.proofs.read_all.Statement.{statement}
-use Rattle.list.proofs.read_all.Tie as tie
-use Rattle.list.proofs.read_all.Reads as reads
-use Rattle.list.proofs.read_all.Lts as lts
+use Rattle.list.proofs.read_on.Statement.{statement}
+use Rattle.list.proofs.read_on.Tie as tie
+use Rattle.list.proofs.read_on.Reads as reads
+use Rattle.list.proofs.read_on.Lts as lts
 use Rattle.io.proofs.count.Reads as count-reads
 use Rattle.libc.proofs.read.Reads as read-reads
 
 abbrev Inv-loop : tie.InvT-loop
-Inv-loop fd buf₀ n₀ buf n = (length buf ≡ length buf₀) × (n ≤ length buf₀)
+Inv-loop fd buf₀ from n₀ buf n = (length buf ≡ length buf₀) × (n ≤ length buf₀)
 
 abbrev μ-loop : tie.MeasureT-loop
-μ-loop fd buf₀ n₀ buf n = length buf₀ - n
+μ-loop fd buf₀ from n₀ buf n = length buf₀ - n
 
 loop-holds : tie.Need-loop-holds Inv-loop μ-loop
 loop-holds c = search needs
@@ -70,8 +70,8 @@ same-length-3 c = search needs
 returns-3 : tie.Need-returns-3 Inv-loop μ-loop
 returns-3 c = search needs
 
-pub read-all-spec : {M : Type 1} → statement M
-read-all-spec =
+pub read-on-spec : {M : Type 1} → statement M
+read-on-spec =
     tie.close
     (tie.spec
     Inv-loop
