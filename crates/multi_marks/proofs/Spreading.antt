@@ -17,10 +17,14 @@ use Rattle.cells.specs.BitLaws.{and-bit}
 use Rattle.cells.specs.StoreLaws.{lt-or-le, cell-past}
 use Rattle.multi_tournament.specs.Tournament.{at}
 use Rattle.multi_tournament.specs.OrderLaws.{zero-or}
-use Rattle.multi_rounds.specs.Market.{wordRow}
-use Rattle.multi_rounds.specs.WordRowLaws.{row-length}
+use Rattle.multi_rounds.specs.Market.{wordRow, Market}
+use Rattle.multi_rounds.specs.WordRowLaws.{row-length, row-in}
 use Rattle.cells_count.specs.WalkLaws.{bare-cells}
 use Rattle.multi_marks.specs.Marks.{Indexed, Spread, Disturbed}
+
+-- the place of word q of bid i
+pub word-in : {ps ms : List ℕ} {w i q : ℕ} → Market ps ms w → i < length ps → q < w → w * i + q < length ms
+word-in {ps} {ms} {w} {i} m l h = omega (arith, row-in ps ms w i m l)
 
 -- the bids below i are done
 pub record Spreading (ps ms : List ℕ) (w : ℕ) (alt : List ℕ) (q m : ℕ) (stale mark stale′ mark′ : List ℕ) (i : ℕ) : Type 0 where

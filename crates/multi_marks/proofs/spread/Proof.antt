@@ -9,9 +9,10 @@ use Rattle.multi_tournament.specs.Tournament.{at, known, Tournament}
 use Rattle.multi_tournament.specs.TreeLaws.{length-known}
 use Rattle.multi_rounds.specs.WordRowLaws.{part-row, row-in}
 use Rattle.multi_rounds.specs.BeginLaws.{common-few}
-use Rattle.multi_marks.proofs.Spreading.{Spreading, begins, passes, leaves, adds, ends, no-cells, row-at, set-in, set-length}
+use Rattle.multi_marks.proofs.Spreading.{Spreading, begins, passes, leaves, adds, ends, no-cells, row-at, set-in, set-length, word-in}
 use Rattle.multi_marks.proofs.Spreading.{next-within, next-free}
 use Rattle.cells_count.specs.Hops.{Counted}
+use borrow.Author.Needs.{needs}
 use Rattle.multi_marks.proofs.spread.Statement.{statement}
 use Rattle.multi_marks.proofs.spread.Tie as tie
 use Rattle.multi_marks.proofs.spread.Reads as reads
@@ -32,30 +33,18 @@ abbrev μ-loop : tie.MeasureT-loop
 returns : tie.Need-returns Inv-loop μ-loop
 returns c =
     let c10 = c .before .before .before .before .before .before .before .before .before .before in
-    let pre = c10 .pre in
-    let A = c10 .args in (
-      pre .1 .1 .1 .1 .1 .1 .0,
-      (
-        no-cells (A .prices .now) (A .masks .now) (A .w) (A .alt .now) (A .q) (A .m) (known (A .num .now)) (A .mark .now)
-            (c .if1 .taken),
-        pre .1 .1 .1 .1 .0,
-      ),
-    )
+    let P = c10 .pre in let A = c10 .args in
+    let none = no-cells (A .prices .now) (A .masks .now) (A .w) (A .alt .now) (A .q) (A .m) (known (A .num .now)) (A .mark .now)
+    (c .if1 .taken) in (P .1 .1 .1 .1 .1 .1 .0, (none, P .1 .1 .1 .1 .0))
 
 mul-a : tie.Need-mul-a Inv-loop μ-loop
-mul-a c =
-    let c10 = c .before .before .before .before .before .before .before .before .before .before in
-    let P = c10 .pre in omega (arith, P .1 .1 .1 .1 .1 .0, P .0 .words)
+mul-a c = search needs
 
 add-e : tie.Need-add-e Inv-loop μ-loop
-add-e c =
-    let c10 = c .before .before .before .before .before .before .before .before .before .before in
-    let P = c10 .pre in omega (arith, P .1 .1 .1 .1 .1 .0, P .0 .words)
+add-e c = search needs
 
 mul-next : tie.Need-mul-next Inv-loop μ-loop
-mul-next c =
-    let c10 = c .before .before .before .before .before .before .before .before .before .before in
-    let P = c10 .pre in omega (arith, P .1 .1 .1 .1 .1 .0, P .0 .words)
+mul-next c = search needs
 
 sub-next : tie.Need-sub-next Inv-loop μ-loop
 sub-next c = omega arith
@@ -64,9 +53,7 @@ part-next-start : tie.Need-part-next-start Inv-loop μ-loop
 part-next-start c = omega arith
 
 part-next-end : tie.Need-part-next-end Inv-loop μ-loop
-part-next-end c =
-    let c10 = c .before .before .before .before .before .before .before .before .before .before in
-    let P = c10 .pre in set-in (P .1 .1 .0) (P .1 .1 .1 .1 .1 .0)
+part-next-end c = search needs
 
 next-requires : tie.Need-next-requires Inv-loop μ-loop
 next-requires c κs =
@@ -86,53 +73,31 @@ loop-holds c =
 mul-if2 : tie.Need-mul-if2 Inv-loop μ-loop
 mul-if2 c =
     let c15 = c .before .before .before .before .before .before .before .before .before .before .before .before .before .before .before in
-    let P = c15 .pre in let A = c15 .args in omega (
-      arith,
-      row-in (A .prices .now) (A .masks .now) (A .w) (c .before .loop .i) (P .0) (c .loop-test .taken),
-    )
+    omega (arith, word-in (c15 .pre .0) (c .loop-test .taken) (c15 .pre .1 .1 .1 .1 .1 .0))
 
 add-if2 : tie.Need-add-if2 Inv-loop μ-loop
 add-if2 c =
     let c15 = c .before .before .before .before .before .before .before .before .before .before .before .before .before .before .before in
-    let P = c15 .pre in let A = c15 .args in omega (
-      arith,
-      row-in (A .prices .now) (A .masks .now) (A .w) (c .before .loop .i) (P .0) (c .loop-test .taken),
-      P .1 .1 .1 .1 .1 .0,
-    )
+    omega (arith, word-in (c15 .pre .0) (c .loop-test .taken) (c15 .pre .1 .1 .1 .1 .1 .0))
 
 mul-if2-2 : tie.Need-mul-if2-2 Inv-loop μ-loop
 mul-if2-2 c =
     let c15 = c .before .before .before .before .before .before .before .before .before .before .before .before .before .before .before in
-    let P = c15 .pre in let A = c15 .args in omega (
-      arith,
-      row-in (A .prices .now) (A .masks .now) (A .w) (c .before .loop .i) (P .0) (c .loop-test .taken),
-      P .1 .1 .1 .1 .1 .0,
-    )
+    omega (arith, word-in (c15 .pre .0) (c .loop-test .taken) (c15 .pre .1 .1 .1 .1 .1 .0))
 
 shared-slice-read-if2 : tie.Need-shared-slice-read-if2 Inv-loop μ-loop
 shared-slice-read-if2 c =
     let c16 = c .before .before .before .before .before .before .before .before .before .before .before .before .before .before .before
     .before in
-    let P = c16 .pre in let A = c16 .args in omega (
-      arith,
-      row-in (A .prices .now) (A .masks .now) (A .w) (c .before .before .loop .i) (P .0) (c .before .loop-test .taken),
-      P .1 .1 .1 .1 .1 .0,
-    )
+    word-in (c16 .pre .0) (c .before .loop-test .taken) (c16 .pre .1 .1 .1 .1 .1 .0)
 
 overlap-requires : tie.Need-overlap-requires Inv-loop μ-loop
 overlap-requires c κs =
     let c4 = c .before .before .before .before in
     let c18 = c4 .before .before .before .before .before .before .before .before .before .before .before .before .before .before in
-    let P = c18 .pre in let A = c18 .args in (
-      P .1 .1 .1 .0,
-      (
-        P .0 .words,
-        (
-          row-in (A .prices .now) (A .masks .now) (A .w) (c4 .loop .i) (P .0) (c .before .before .before .loop-test .taken),
-          (P .1 .0 .size, (c4 .loop .inv .1 .1 .1 .1 .1, P .1 .0 .each (c4 .loop .i) (c .before .before .before .loop-test .taken))),
-        ),
-      ),
-    )
+    let P = c18 .pre in let A = c18 .args in let l = c .before .before .before .loop-test .taken in
+    let row = row-in (A .prices .now) (A .masks .now) (A .w) (c4 .loop .i) (P .0) l in
+    (P .1 .1 .1 .0, (P .0 .words, (row, (P .1 .0 .size, (c4 .loop .inv .1 .1 .1 .1 .1, P .1 .0 .each (c4 .loop .i) l)))))
 
 update-requires : tie.Need-update-requires Inv-loop μ-loop
 update-requires c κs =
@@ -140,16 +105,8 @@ update-requires c κs =
     let c8 = c4 .before .before .before .before in
     let c9 = c8 .before in
     let c23 = c9 .before .before .before .before .before .before .before .before .before .before .before .before .before .before in
-    let P = c23 .pre in let A = c23 .args in (
-      P .0 .priced,
-      (
-        c9 .loop .inv .1 .1 .1 .0,
-        (
-          c8 .loop-test .taken,
-          rw (c4 .overlap .ensures .0) (common-few (A .alt .now) _ (omega (arith, P .1 .1 .1 .0, P .0 .words))),
-        ),
-      ),
-    )
+    let P = c23 .pre in let A = c23 .args in let few = common-few (A .alt .now) _ (omega (arith, P .1 .1 .1 .0, P .0 .words)) in
+    (P .0 .priced, (c9 .loop .inv .1 .1 .1 .0, (c8 .loop-test .taken, rw (c4 .overlap .ensures .0) few)))
 
 add-requires : tie.Need-add-requires Inv-loop μ-loop
 add-requires c κs =
@@ -179,11 +136,7 @@ part-next-end-2 c =
     let P = c32 .pre in set-in (P .1 .1 .0) (P .1 .1 .1 .1 .1 .0)
 
 add-next : tie.Need-add-next Inv-loop μ-loop
-add-next c =
-    let c19 = c .before .before .before .before .before .before .before .before .before .before .before .before .before .before .before
-    .before .before .before .before in
-    let c34 = c19 .before .before .before .before .before .before .before .before .before .before .before .before .before .before .before in
-    let P = c34 .pre in omega (arith, c19 .loop-test .taken, P .0 .priced .count)
+add-next c = search needs
 
 next-requires-2 : tie.Need-next-requires-2 Inv-loop μ-loop
 next-requires-2 c κs =
@@ -226,10 +179,7 @@ loop-again c =
     )
 
 mul-next-3 : tie.Need-mul-next-3 Inv-loop μ-loop
-mul-next-3 c =
-    let c17 = c .before .before .before .before .before .before .before .before .before .before .before .before .before .before .before
-    .before .before in
-    let P = c17 .pre in omega (arith, P .1 .1 .1 .1 .1 .0, P .0 .words)
+mul-next-3 c = search needs
 
 sub-next-3 : tie.Need-sub-next-3 Inv-loop μ-loop
 sub-next-3 c = omega arith
@@ -238,16 +188,10 @@ part-next-start-3 : tie.Need-part-next-start-3 Inv-loop μ-loop
 part-next-start-3 c = omega arith
 
 part-next-end-3 : tie.Need-part-next-end-3 Inv-loop μ-loop
-part-next-end-3 c =
-    let c17 = c .before .before .before .before .before .before .before .before .before .before .before .before .before .before .before
-    .before .before in
-    let P = c17 .pre in set-in (P .1 .1 .0) (P .1 .1 .1 .1 .1 .0)
+part-next-end-3 c = search needs
 
 add-next-2 : tie.Need-add-next-2 Inv-loop μ-loop
-add-next-2 c =
-    let c4 = c .before .before .before .before in
-    let c19 = c4 .before .before .before .before .before .before .before .before .before .before .before .before .before .before .before in
-    let P = c19 .pre in omega (arith, c4 .loop-test .taken, P .0 .priced .count)
+add-next-2 c = search needs
 
 next-requires-3 : tie.Need-next-requires-3 Inv-loop μ-loop
 next-requires-3 c κs =
@@ -277,24 +221,16 @@ loop-again-2 c =
     )
 
 same-length : tie.Need-same-length Inv-loop μ-loop
-same-length c =
-    let c15 = c .before .before .before .before .before .before .before .before .before .before .before .before .before .before .before in
-    c .before .loop .inv .1 .1 .1 .1 .1 .size ∙ sym (c15 .pre .1 .1 .1 .1 .0 .size)
+same-length c = search needs
 
 same-length-2 : tie.Need-same-length-2 Inv-loop μ-loop
-same-length-2 c =
-    let c15 = c .before .before .before .before .before .before .before .before .before .before .before .before .before .before .before in
-    c .before .loop .inv .1 .1 .1 .0 .seats .players ∙ sym (c15 .pre .1 .1 .1 .1 .1 .1 .0 .seats .players)
+same-length-2 c = search needs
 
 same-length-3 : tie.Need-same-length-3 Inv-loop μ-loop
-same-length-3 c =
-    let c15 = c .before .before .before .before .before .before .before .before .before .before .before .before .before .before .before in
-    c .before .loop .inv .1 .1 .1 .0 .seats .numbers ∙ sym (c15 .pre .1 .1 .1 .1 .1 .1 .0 .seats .numbers)
+same-length-3 c = search needs
 
 same-length-4 : tie.Need-same-length-4 Inv-loop μ-loop
-same-length-4 c =
-    let c15 = c .before .before .before .before .before .before .before .before .before .before .before .before .before .before .before in
-    c .before .loop .inv .1 .1 .1 .1 .0 ∙ sym (c15 .pre .1 .1 .1 .1 .1 .1 .1)
+same-length-4 c = search needs
 
 returns-2 : tie.Need-returns-2 Inv-loop μ-loop
 returns-2 c = (c .before .loop .inv .1 .1 .1 .0, (ends (c .before .loop .inv .0) (omega arith), c .before .loop .inv .1 .1 .1 .1 .1))
