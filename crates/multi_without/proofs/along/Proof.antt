@@ -65,25 +65,9 @@ front-requires : tie.Need-front-requires
 front-requires c κs =
     let c20 = c .before .before .before .before .before .before .before .before .before .before .before .before .before .before .before
     .before .before .before .before .before in
-    let P = c20 .pre in let co = P .0 in let s = P .1 .0 in let l = co .main .route .inside (c20 .args .g) (P .1 .1 .1) in (
-      co .market,
-      (
-        co .hopping,
-        (
-          words co s,
-          (
-            s .counted,
-            (
-              s .tree,
-              (
-                knows (inside co) (co .market .words) (s .follow .strayed),
-                (omega (arith, l), (co .market .priced .most _, co .main .route .few _ (P .1 .1 .1))),
-              ),
-            ),
-          ),
-        ),
-      ),
-    )
+    let P = c20 .pre in let co = P .0 in let s = P .1 .0 in let l = co .main .route .inside (c20 .args .g) (P .1 .1 .1) in
+    let stale = knows (inside co) (co .market .words) (s .follow .strayed) in let few = co .main .route .few _ (P .1 .1 .1) in
+    (co .market, (co .hopping, (words co s, (s .counted, (s .tree, (stale, (omega (arith, l), (co .market .priced .most _, few))))))))
 
 take-requires : tie.Need-take-requires
 take-requires c κs =
@@ -150,14 +134,10 @@ both-requires c κs =
     let c15 = c8 .before .before .before .before .before .before .before in
     let c36 = c15 .before .before .before .before .before .before .before .before .before .before .before .before .before .before .before
     .before .before .before .before .before .before in
-    let P = c36 .pre in let co = P .0 in let s = P .1 .0 in let f = c15 .front .ensures .1 .0 in
-    let a = there _ _ _ _ (sym (c7 .ahead .ensures) ∙ c6 .if2 .taken) in (
-      co,
-      (
-        fronted co s (c15 .front .ensures .0) (c15 .front .ensures .1 .0) (c15 .front .ensures .1 .1),
-        (P .1 .1 .0, (takes-other co (s .follow) f (c8 .if1 .left) (a .0) (P .1 .1 .1) (a .1), (P .1 .1 .1, c5 .if3 .taken))),
-      ),
-    )
+    let P = c36 .pre in let co = P .0 in let s = P .1 .0 in let f = c15 .front .ensures in
+    let a = there _ _ _ _ (sym (c7 .ahead .ensures) ∙ c6 .if2 .taken) in
+    let takes = takes-other co (s .follow) (f .1 .0) (c8 .if1 .left) (a .0) (P .1 .1 .1) (a .1) in
+    (co, (fronted co s (f .0) (f .1 .0) (f .1 .1), (P .1 .1 .0, (takes, (P .1 .1 .1, c5 .if3 .taken)))))
 
 same-length-6 : tie.Need-same-length-6
 same-length-6 c = search needs
@@ -185,14 +165,10 @@ other-requires c κs =
     let c15 = c8 .before .before .before .before .before .before .before in
     let c36 = c15 .before .before .before .before .before .before .before .before .before .before .before .before .before .before .before
     .before .before .before .before .before .before in
-    let P = c36 .pre in let co = P .0 in let s = P .1 .0 in let f = c15 .front .ensures .1 .0 in
-    let a = there _ _ _ _ (sym (c7 .ahead .ensures) ∙ c6 .if2 .taken) in (
-      co,
-      (
-        fronted co s (c15 .front .ensures .0) (c15 .front .ensures .1 .0) (c15 .front .ensures .1 .1),
-        (P .1 .1 .0, takes-other co (s .follow) f (c8 .if1 .left) (a .0) (P .1 .1 .1) (a .1)),
-      ),
-    )
+    let P = c36 .pre in let co = P .0 in let s = P .1 .0 in let f = c15 .front .ensures in
+    let a = there _ _ _ _ (sym (c7 .ahead .ensures) ∙ c6 .if2 .taken) in
+    let takes = takes-other co (s .follow) (f .1 .0) (c8 .if1 .left) (a .0) (P .1 .1 .1) (a .1) in
+    (co, (fronted co s (f .0) (f .1 .0) (f .1 .1), (P .1 .1 .0, takes)))
 
 same-length-11 : tie.Need-same-length-11
 same-length-11 c = search needs
@@ -217,19 +193,9 @@ disturb-requires c κs =
     let c14 = c .before .before .before .before .before .before .before .before .before .before .before .before .before .before in
     let c35 = c14 .before .before .before .before .before .before .before .before .before .before .before .before .before .before .before
     .before .before .before .before .before .before in
-    let P = c35 .pre in let co = P .0 in let s = P .1 .0 in (
-      co .market,
-      (
-        co .hopping,
-        (
-          co .indexed,
-          (
-            words co s,
-            (c14 .front .ensures .1 .1, (co .main .route .inside (c35 .args .g) (P .1 .1 .1), (c14 .front .ensures .0, s .marks))),
-          ),
-        ),
-      ),
-    )
+    let P = c35 .pre in let co = P .0 in let s = P .1 .0 in let l = co .main .route .inside (c35 .args .g) (P .1 .1 .1) in
+    let f = c14 .front .ensures in
+    (co .market, (co .hopping, (co .indexed, (words co s, (f .1 .1, (l, (f .0, s .marks)))))))
 
 add-t27 : tie.Need-add-t27
 add-t27 c =
