@@ -1,4 +1,4 @@
--- `award_settle::multi_in` meets its contract: the tender is laid out as words, and each way out is one of the laws. Assumes nothing.
+-- `award_entries::multi_in` meets its contract: the tender is laid out as words, and each way out is one of the laws. Assumes nothing.
 use mathlib.Core.Path.{sym, _∙_}
 use native.Mathlib.Omega.{arith}
 use Rattle.tender.specs.declared.Kind.the-variants.{Multi}

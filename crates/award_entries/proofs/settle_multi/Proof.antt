@@ -1,4 +1,4 @@
--- `award_settle::settle_multi` meets its contract: the places lent are as many as the entries and their words need. Assumes nothing.
+-- `award_entries::settle_multi` meets its contract: the places lent are as many as the entries and their words need. Assumes nothing.
 use mathlib.Core.Path.{sym, ap, _∙_}
 use Prim.Native.Nat.{ℕ, _+_, _*_, _/_}
 use native.Mathlib.Omega.{arith}

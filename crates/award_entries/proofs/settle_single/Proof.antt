@@ -1,4 +1,4 @@
--- `award_settle::settle_single` meets its contract: the places lent are as many as the entries. Assumes nothing.
+-- `award_entries::settle_single` meets its contract: the places lent are as many as the entries. Assumes nothing.
 use mathlib.Core.Path.{sym}
 use native.Mathlib.Omega.{arith}
 use Rattle.tender.specs.declared.Kind.the-variants.{Single}

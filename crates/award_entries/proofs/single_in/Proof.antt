@@ -1,4 +1,4 @@
--- `award_settle::single_in` meets its contract: the tender is laid out as starts and ends, and each way out is one of the laws.
+-- `award_entries::single_in` meets its contract: the tender is laid out as starts and ends, and each way out is one of the laws.
 -- Assumes nothing.
 use mathlib.Core.Path.{sym, _∙_}
 use native.Mathlib.Omega.{arith}

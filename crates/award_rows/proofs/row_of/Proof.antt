@@ -1,4 +1,4 @@
--- `award::row_of` meets its contract: it is the row. Assumes nothing.
+-- `award_rows::row_of` meets its contract: it is the row. Assumes nothing.
 use mathlib.Core.Path.{refl}
 use Rattle.award_rows.proofs.row_of.Statement.{statement}
 use Rattle.award_rows.proofs.row_of.Tie as tie

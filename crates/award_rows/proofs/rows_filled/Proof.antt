@@ -1,4 +1,4 @@
--- `award::rows_filled` meets its contract: one row for each bid where the answer awards, none where it declines. Assumes nothing.
+-- `award_rows::rows_filled` meets its contract: one row for each bid where the answer awards, none where it declines. Assumes nothing.
 use mathlib.Core.Path.{sym, ap}
 use borrow.Author.Needs.{needs}
 use Rattle.tender.specs.declared.Answer.{Answer}
