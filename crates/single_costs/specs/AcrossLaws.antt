@@ -25,7 +25,7 @@ use Rattle.single_lead.specs.CostsLaws.{cost-found, cost-least}
 use Rattle.single_lead.specs.Live.{On, counted, Live}
 use Rattle.single_lead.specs.LiveLaws.{thinned-none, thinned-more, live-none, live-thinned, live-more, live-below, on-more}
 use Rattle.single_lead.specs.LeadLaws.{leading-none}
-use Rattle.single_costs.specs.Run.{Running, Ran}
+use Rattle.single_run.specs.Run.{Running, Ran}
 use Rattle.single_costs.specs.Across.{mostSum, joinedCost, lessOf, joinAt, leastAcross, Before, After, Waiting, BegunAt}
 
 -- the list thinned out and copied

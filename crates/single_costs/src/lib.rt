@@ -12,10 +12,7 @@ ghost use Rattle.cover.specs.Intervals.Bids.{Bids, costWithout};
 ghost use Rattle.cover.specs.Intervals.MirrorLaws.{Mirrored};
 ghost use Rattle.single_lead.specs.Costs.{costIn};
 ghost use Rattle.single_costs.specs.Across.{mostSum, joinedCost, lessOf, leastAcross, Before, After, Waiting, BegunAt};
-
-mod steps;
-
-use steps::run;
+use single_run::run;
 
 // The cost across a bid of price `price`: `x` is its cost with what comes before it, `y` with what comes after it.
 fn join(x: u64, y: u64, price: u64) -> u64

@@ -1,11 +1,11 @@
--- `single_costs::steps::step` meets its contract: the least cost with the bid's price is the bid's cost. Assumes nothing.
+-- `single_run::step` meets its contract: the least cost with the bid's price is the bid's cost. Assumes nothing.
 use Rattle.single_lead.specs.RowsLaws.{no-words}
 use Rattle.single_lead.specs.LiveLaws.{live-below}
-use Rattle.single_costs.specs.RunLaws.{next-cost, cost-fits, running-more}
+use Rattle.single_run.specs.RunLaws.{next-cost, cost-fits, running-more}
 use native.Mathlib.Omega.{arith}
 use borrow.Author.Needs.{needs}
-use Rattle.single_costs.proofs.steps.step.Statement.{statement}
-use Rattle.single_costs.proofs.steps.step.Tie as tie
+use Rattle.single_run.proofs.step.Statement.{statement}
+use Rattle.single_run.proofs.step.Tie as tie
 
 mul-i : tie.Need-mul-i
 mul-i c = search needs

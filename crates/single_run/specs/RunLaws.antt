@@ -23,7 +23,7 @@ use Rattle.single_lead.specs.Live.{On}
 use Rattle.single_lead.specs.LiveLaws.{live-below, on-more}
 use Rattle.single_lead.specs.Lead.{leadCost, Seen, Led, same, anew}
 use Rattle.single_lead.specs.LeadLaws.{leading-more, led-ready}
-use Rattle.single_costs.specs.Run.{entry, Running, ReadyCost, Ran}
+use Rattle.single_run.specs.Run.{entry, Running, ReadyCost, Ran}
 
 -- the lead
 

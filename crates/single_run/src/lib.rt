@@ -5,7 +5,7 @@ ghost use lib.ListN.{getD, length};
 ghost use Rattle.tender.specs.Limits.{maxEntries};
 ghost use Rattle.cover.specs.CriticalPrice.{sum};
 ghost use Rattle.cover.specs.Intervals.Bids.{Bids};
-ghost use Rattle.single_costs.specs.Run.{entry, Running, Ran};
+ghost use Rattle.single_run.specs.Run.{entry, Running, Ran};
 use single_lead::Lead;
 use single_lead::NONE;
 use single_lead::add_price;
@@ -66,7 +66,7 @@ fn step(
 }
 
 // The costs without bid `skip` of the bids from position `from` on that begin before `stop`: how many bids of `live` reach then.
-pub(crate) fn run(
+pub fn run(
     starts: &[u64],
     ends: &[u64],
     prices: &[u64],

@@ -1,14 +1,14 @@
--- `single_costs::steps::run` meets its contract: each turn gives one bid its cost. Assumes nothing.
+-- `single_run::run` meets its contract: each turn gives one bid its cost. Assumes nothing.
 use mathlib.Core.Path.{_≡_, refl}
 use Prim.Native.Nat.{_≤_, _-_}
 use lib.ListN.{length}
 use native.Mathlib.Nat.{le-antisymm}
-use Rattle.single_costs.specs.Run.{Running}
-use Rattle.single_costs.specs.RunLaws.{ran-stop, ran-end}
+use Rattle.single_run.specs.Run.{Running}
+use Rattle.single_run.specs.RunLaws.{ran-stop, ran-end}
 use native.Mathlib.Omega.{arith}
 use borrow.Author.Needs.{needs}
-use Rattle.single_costs.proofs.steps.run.Statement.{statement}
-use Rattle.single_costs.proofs.steps.run.Tie as tie
+use Rattle.single_run.proofs.run.Statement.{statement}
+use Rattle.single_run.proofs.run.Tie as tie
 
 abbrev Inv-loop : tie.InvT-loop
 Inv-loop starts ends prices order live₀ costs₀ skip from len stop n lead₀ q₀ live costs lead q = (q ≤ length prices)

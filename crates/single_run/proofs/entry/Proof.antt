@@ -1,9 +1,9 @@
--- `single_costs::steps::entry` meets its contract: by the two ways through it. Assumes nothing.
+-- `single_run::entry` meets its contract: by the two ways through it. Assumes nothing.
 use mathlib.Core.Path.{_∙_}
-use Rattle.single_costs.specs.RunLaws.{entry-none, entry-some}
+use Rattle.single_run.specs.RunLaws.{entry-none, entry-some}
 use borrow.Author.Needs.{needs}
-use Rattle.single_costs.proofs.steps.entry.Statement.{statement}
-use Rattle.single_costs.proofs.steps.entry.Tie as tie
+use Rattle.single_run.proofs.entry.Statement.{statement}
+use Rattle.single_run.proofs.entry.Tie as tie
 
 returns : tie.Need-returns
 returns c = entry-none _ _ _ _ (c .if1 .taken)
