@@ -45,7 +45,7 @@ fn ask(starts: &[u64], ends: &[u64], cells: u64, order: &mut [usize]) -> Thin
 {
     let n = starts.len();
     single_order::by_start(starts, n, cells, order);
-    award_thin::thin_spans(starts, ends, order, cells as usize)
+    award_thin_spans::thin_spans(starts, ends, order, cells as usize)
 }
 
 // A single tender as prices, starts and ends, with its entries in order of start.
@@ -107,7 +107,7 @@ pub fn lay_masks(
     award_layout::prices(bids, &mut prices[..count]);
     award_layout::masks(tender, w, count, bids, windows, &mut masks[..own]);
     match reserve {
-        Reserve::Absent => award_thin::thin_masks(masks, w, count, cells as usize),
+        Reserve::Absent => award_thin_masks::thin_masks(masks, w, count, cells as usize),
         Reserve::Price(price) => {
             prices[count] = price;
             multi_rounds::unlock(&mut masks[own..], cells as usize);

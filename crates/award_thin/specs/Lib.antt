@@ -1,6 +1,4 @@
 pub mod Thin
-pub mod BareLaws
 pub mod CountsLaws
-pub mod EndsLaws
 pub mod FirstsLaws
-pub mod MasksLaws
+pub mod BareLaws

@@ -1,11 +1,11 @@
--- `award_thin::thin_spans` meets its contract. Assumes nothing.
+-- `award_thin_spans::thin_spans` meets its contract. Assumes nothing.
 use native.Mathlib.Omega.{arith}
 use lib.ListN.{length}
 use Rattle.cover.specs.Settled.{spans}
 use Rattle.award_thin.specs.FirstsLaws.{enough, bare, lone}
 use borrow.Author.Needs.{needs}
-use Rattle.award_thin.proofs.thin_spans.Statement.{statement}
-use Rattle.award_thin.proofs.thin_spans.Tie as tie
+use Rattle.award_thin_spans.proofs.thin_spans.Statement.{statement}
+use Rattle.award_thin_spans.proofs.thin_spans.Tie as tie
 
 spans-below-requires : tie.Need-spans-below-requires
 spans-below-requires c κs = search needs

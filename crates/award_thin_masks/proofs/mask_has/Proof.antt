@@ -1,14 +1,14 @@
--- `award_thin::mask_has` meets its contract: the bid's words are a part of all the words. Assumes nothing.
+-- `award_thin_masks::mask_has` meets its contract: the bid's words are a part of all the words. Assumes nothing.
 use mathlib.Core.Path.{ap, _∙_}
 use lib.Dec.{eqb}
 use Rattle.cells.specs.Cells.{cell}
 use Rattle.multi_rounds.specs.Market.{has}
 use Rattle.multi_rounds.specs.WordRowLaws.{part-row}
 use borrow.Author.Needs.{needs}
-use Rattle.award_thin.proofs.mask_has.Statement.{statement}
-use Rattle.award_thin.proofs.mask_has.Tie as tie
-use Rattle.award_thin.proofs.mask_has.Reads as reads
-use Rattle.award_thin.proofs.mask_has.Lts as lts
+use Rattle.award_thin_masks.proofs.mask_has.Statement.{statement}
+use Rattle.award_thin_masks.proofs.mask_has.Tie as tie
+use Rattle.award_thin_masks.proofs.mask_has.Reads as reads
+use Rattle.award_thin_masks.proofs.mask_has.Lts as lts
 use Rattle.cells.proofs.holds.Reads as holds-reads
 
 mul-a : tie.Need-mul-a

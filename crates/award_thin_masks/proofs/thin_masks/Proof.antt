@@ -1,14 +1,14 @@
--- `award_thin::thin_masks` meets its contract. Assumes nothing.
+-- `award_thin_masks::thin_masks` meets its contract. Assumes nothing.
 use native.Mathlib.Omega.{arith}
 use Rattle.multi_rounds.specs.Market.{has}
 use Rattle.award_thin.specs.FirstsLaws.{enough, bare, lone}
 use borrow.Author.Needs.{needs}
-use Rattle.award_thin.proofs.thin_masks.Statement.{statement}
-use Rattle.award_thin.proofs.thin_masks.Tie as tie
-use Rattle.award_thin.proofs.thin_masks.Reads as reads
-use Rattle.award_thin.proofs.thin_masks.Lts as lts
-use Rattle.award_thin.proofs.masks_below.Reads as masks-below-reads
-use Rattle.award_thin.proofs.bare_mask.Reads as bare-mask-reads
+use Rattle.award_thin_masks.proofs.thin_masks.Statement.{statement}
+use Rattle.award_thin_masks.proofs.thin_masks.Tie as tie
+use Rattle.award_thin_masks.proofs.thin_masks.Reads as reads
+use Rattle.award_thin_masks.proofs.thin_masks.Lts as lts
+use Rattle.award_thin_masks.proofs.masks_below.Reads as masks-below-reads
+use Rattle.award_thin_masks.proofs.bare_mask.Reads as bare-mask-reads
 
 masks-below-requires : tie.Need-masks-below-requires
 masks-below-requires c κs = search needs

@@ -1,15 +1,15 @@
--- `award_thin::seen` meets its contract: `one` and `two` have the cells that the bids passed have once and twice, and more bids
+-- `award_thin_masks::seen` meets its contract: `one` and `two` have the cells that the bids passed have once and twice, and more bids
 -- only add to them. Assumes nothing.
 use Prim.Native.Nat.{_+_, _*_, _-_, _≤_}
 use native.Mathlib.Omega.{arith}
 use lib.ListN.{getD}
 use lib.Bits.{bitAnd, bitOr}
 use Rattle.multi_rounds.specs.WordRowLaws.{row-within}
-use Rattle.award_thin.specs.MasksLaws.{Seeing, seeing-none, seeing-more, reached-soon, reached-all}
-use Rattle.award_thin.proofs.seen.Statement.{statement}
-use Rattle.award_thin.proofs.seen.Tie as tie
-use Rattle.award_thin.proofs.seen.Reads as reads
-use Rattle.award_thin.proofs.seen.Lts as lts
+use Rattle.award_thin_masks.specs.MasksLaws.{Seeing, seeing-none, seeing-more, reached-soon, reached-all}
+use Rattle.award_thin_masks.proofs.seen.Statement.{statement}
+use Rattle.award_thin_masks.proofs.seen.Tie as tie
+use Rattle.award_thin_masks.proofs.seen.Reads as reads
+use Rattle.award_thin_masks.proofs.seen.Lts as lts
 
 abbrev Inv-loop : tie.InvT-loop
 Inv-loop masks w n q wanted one₀ two₀ i₀ one two i = (i ≤ n) × Seeing masks w q i one two

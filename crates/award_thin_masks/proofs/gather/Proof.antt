@@ -1,16 +1,16 @@
--- `award_thin::gather` meets its contract: the words passed are gathered. Assumes nothing.
+-- `award_thin_masks::gather` meets its contract: the words passed are gathered. Assumes nothing.
 use mathlib.Core.Path.{_≡_, refl}
 use Prim.Native.Nat.{_-_, _≤_}
 use native.Mathlib.Omega.{arith}
 use lib.ListN.{length, length-set}
 use Rattle.award_thin.specs.Thin.{Gathered}
-use Rattle.award_thin.specs.MasksLaws.{gathered-none, gathered-more}
+use Rattle.award_thin_masks.specs.MasksLaws.{gathered-none, gathered-more}
 use borrow.Author.Needs.{needs}
-use Rattle.award_thin.proofs.gather.Statement.{statement}
-use Rattle.award_thin.proofs.gather.Tie as tie
-use Rattle.award_thin.proofs.gather.Reads as reads
-use Rattle.award_thin.proofs.gather.Lts as lts
-use Rattle.award_thin.proofs.seen.Reads as seen-reads
+use Rattle.award_thin_masks.proofs.gather.Statement.{statement}
+use Rattle.award_thin_masks.proofs.gather.Tie as tie
+use Rattle.award_thin_masks.proofs.gather.Reads as reads
+use Rattle.award_thin_masks.proofs.gather.Lts as lts
+use Rattle.award_thin_masks.proofs.seen.Reads as seen-reads
 
 abbrev Inv-loop : tie.InvT-loop
 Inv-loop masks w n wanted enough₀ q₀ enough q = (q ≤ w) × ((length enough ≡ length enough₀) × Gathered masks w n wanted enough q)

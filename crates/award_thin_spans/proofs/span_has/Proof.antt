@@ -1,11 +1,11 @@
--- `award_thin::span_has` meets its contract: each way out rewrites with the test that led there. Assumes nothing.
+-- `award_thin_spans::span_has` meets its contract: each way out rewrites with the test that led there. Assumes nothing.
 use borrow.Author.Tests.{le-leb, lt-leb}
 use Rattle.cover.specs.Settled.{spans}
 use borrow.Author.Needs.{needs}
-use Rattle.award_thin.proofs.span_has.Statement.{statement}
-use Rattle.award_thin.proofs.span_has.Tie as tie
-use Rattle.award_thin.proofs.span_has.Reads as reads
-use Rattle.award_thin.proofs.span_has.Lts as lts
+use Rattle.award_thin_spans.proofs.span_has.Statement.{statement}
+use Rattle.award_thin_spans.proofs.span_has.Tie as tie
+use Rattle.award_thin_spans.proofs.span_has.Reads as reads
+use Rattle.award_thin_spans.proofs.span_has.Lts as lts
 
 mul-if1 : tie.Need-mul-if1
 mul-if1 c = search needs

@@ -1,12 +1,12 @@
--- `award_thin::masks_below` meets its contract: it lends two rows of w words. Assumes nothing.
+-- `award_thin_masks::masks_below` meets its contract: it lends two rows of w words. Assumes nothing.
 use mathlib.Core.Path.{sym}
-use Rattle.award_thin.specs.MasksLaws.{ones-length}
+use Rattle.award_thin_masks.specs.MasksLaws.{ones-length}
 use borrow.Author.Needs.{needs}
-use Rattle.award_thin.proofs.masks_below.Statement.{statement}
-use Rattle.award_thin.proofs.masks_below.Tie as tie
-use Rattle.award_thin.proofs.masks_below.Reads as reads
-use Rattle.award_thin.proofs.masks_below.Lts as lts
-use Rattle.award_thin.proofs.first_below.Reads as first-below-reads
+use Rattle.award_thin_masks.proofs.masks_below.Statement.{statement}
+use Rattle.award_thin_masks.proofs.masks_below.Tie as tie
+use Rattle.award_thin_masks.proofs.masks_below.Reads as reads
+use Rattle.award_thin_masks.proofs.masks_below.Lts as lts
+use Rattle.award_thin_masks.proofs.first_below.Reads as first-below-reads
 
 array-borrow-prefix-wanted : tie.Need-array-borrow-prefix-wanted
 array-borrow-prefix-wanted c = search needs

@@ -1,12 +1,12 @@
--- `award_thin::first_below` meets its contract: the first of the cells that is not among those with two bidders. Assumes nothing.
+-- `award_thin_masks::first_below` meets its contract: the first of the cells that is not among those with two bidders. Assumes nothing.
 use mathlib.Core.Path.{_∙_}
-use Rattle.award_thin.specs.MasksLaws.{first-found, first-none}
+use Rattle.award_thin_masks.specs.MasksLaws.{first-found, first-none}
 use borrow.Author.Needs.{needs}
-use Rattle.award_thin.proofs.first_below.Statement.{statement}
-use Rattle.award_thin.proofs.first_below.Tie as tie
-use Rattle.award_thin.proofs.first_below.Reads as reads
-use Rattle.award_thin.proofs.first_below.Lts as lts
-use Rattle.award_thin.proofs.gather.Reads as gather-reads
+use Rattle.award_thin_masks.proofs.first_below.Statement.{statement}
+use Rattle.award_thin_masks.proofs.first_below.Tie as tie
+use Rattle.award_thin_masks.proofs.first_below.Reads as reads
+use Rattle.award_thin_masks.proofs.first_below.Lts as lts
+use Rattle.award_thin_masks.proofs.gather.Reads as gather-reads
 use Rattle.cells.proofs.next.Reads as next-reads
 use Rattle.multi_rounds.proofs.unlock.Reads as unlock-reads
 

@@ -1,12 +1,12 @@
--- `award_thin::spans_below` meets its contract: the two greatest ends of the bids so far are kept, and the second is the answer as soon
+-- `award_thin_spans::spans_below` meets its contract: the two greatest ends of the bids so far are kept, and the second is the answer as soon
 -- as no bid that is left begins at it or before. Assumes nothing.
 use Prim.Native.Nat.{_-_}
 use native.Mathlib.Omega.{arith}
 use lib.ListN.{length}
-use Rattle.award_thin.specs.EndsLaws.{Ends, ends-begin, ends-more, ends-found}
+use Rattle.award_thin_spans.specs.EndsLaws.{Ends, ends-begin, ends-more, ends-found}
 use borrow.Author.Needs.{needs}
-use Rattle.award_thin.proofs.spans_below.Statement.{statement}
-use Rattle.award_thin.proofs.spans_below.Tie as tie
+use Rattle.award_thin_spans.proofs.spans_below.Statement.{statement}
+use Rattle.award_thin_spans.proofs.spans_below.Tie as tie
 
 abbrev Inv-loop : tie.InvT-loop
 Inv-loop starts ends order cells first₀ second₀ q₀ first second q = Ends starts ends order cells q first second
