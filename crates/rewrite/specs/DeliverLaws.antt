@@ -21,7 +21,8 @@ use Rattle.reader_text.specs.SizeLaws.{short-text}
 use Rattle.reader_fill.specs.ReadInLaws.{ReadIn}
 use Rattle.writer.specs.declared.Writing.{Writing}
 use Rattle.writer.specs.declared.Writing.the-variants as writing
-use Rattle.writer.specs.Canonical.{canonical, WriteOutcome, spelt, unspelt, writeInto, writeAnswer, bufferAfter, Writes}
+use Rattle.writer_text.specs.Canonical.{canonical, WriteOutcome, spelt, unspelt, writeInto, bufferAfter}
+use Rattle.writer.specs.Writes.{writeAnswer, Writes}
 use Rattle.writer_back.specs.FilledLaws.{write-read, no-longer}
 use Rattle.rewrite.specs.Rewritten.{rewriteOf, Rewritten, lengthWritten, Delivers}
 

@@ -8,7 +8,7 @@ use Rattle.tender.specs.Tables.{flatWindows}
 use Rattle.spelling.specs.Lines.{refusedLine}
 use Rattle.spelling.specs.Delivered.{Delivered}
 use Rattle.reader_text.specs.Read.{ReadOutcome, accepted, refused, readText}
-use Rattle.writer.specs.Canonical.{canonical, WriteOutcome, spelt, unspelt, writeInto, bufferAfter}
+use Rattle.writer_text.specs.Canonical.{canonical, WriteOutcome, spelt, unspelt, writeInto, bufferAfter}
 
 -- by what reading it answers: what was read in one spelling; a refusal's line
 unfoldable pub rewriteOf : ReadOutcome → List ℕ

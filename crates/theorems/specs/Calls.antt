@@ -17,7 +17,7 @@ use Rattle.award_plain.specs.Plain.{toldIn, PlainPromise}
 use Rattle.award_outcome.specs.Promise.{toldAward, Promise}
 use Rattle.listing_text.specs.List.{Listed}
 use Rattle.writer.specs.declared.Writing.{Writing}
-use Rattle.writer.specs.Canonical.{Writes}
+use Rattle.writer.specs.Writes.{Writes}
 use Rattle.rewrite.specs.Rewritten.{Rewritten}
 
 -- the text and the tables lent to `read`, the tables that it left and what it answered

@@ -10,7 +10,7 @@ use Rattle.tender.specs.Tables.{rowsOf}
 use Rattle.reader.specs.declared.Reading.the-variants as answer
 use Rattle.award_check.specs.Faults.{faultOf}
 use Rattle.writer.specs.declared.Writing.the-variants.{Written, Refused}
-use Rattle.writer.specs.Canonical.{canonical}
+use Rattle.writer_text.specs.Canonical.{canonical}
 use Rattle.writer_back.specs.Same.{Same}
 use Rattle.theorems.specs.Calls.{ReadCall, AwardCall, WriteCall}
 

@@ -30,7 +30,8 @@ use Rattle.award_outcome.specs.Right.{OneAnswer, tables-break-a-rule, rows-too-
 use Rattle.award_outcome.specs.OneAnswerLaws.{one-answer}
 use Rattle.writer.specs.declared.Writing.{Writing}
 use Rattle.writer.specs.declared.Writing.the-variants as writing
-use Rattle.writer.specs.Canonical.{canonical, spelt, unspelt, unlessFault, writeInto, writeAnswer, bufferAfter}
+use Rattle.writer_text.specs.Canonical.{canonical, spelt, unspelt, unlessFault, writeInto, bufferAfter}
+use Rattle.writer.specs.Writes.{writeAnswer}
 use Rattle.writer_back.specs.Same.{Same, ReadBack}
 use Rattle.writer_back.specs.ShortLaws.{canonical-some}
 use Rattle.writer_back.specs.ReadBackLaws.{lawful-tables, reads-back, text-same, same-text, same-bytes, writes-the-same}

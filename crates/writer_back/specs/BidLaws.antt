@@ -28,8 +28,8 @@ use Rattle.award_check.specs.Faults.{rowFault}
 use Rattle.runs.specs.Runs.{joined}
 use Rattle.runs.specs.JoinedLaws.{joined-lawful, joined-some}
 use Rattle.writer_line.specs.Respelt.{respelt}
-use Rattle.writer.specs.Canonical.{respeltIn}
-use Rattle.writer.specs.RowLaws.{RowSays, own-length, joined-count, most-few, split-fault}
+use Rattle.writer_text.specs.Canonical.{respeltIn}
+use Rattle.writer_text.specs.RowLaws.{RowSays, own-length, joined-count, most-few, split-fault}
 
 -- a text may name the numbers of lawful windows and of a lawful reserve
 

@@ -20,7 +20,7 @@ use Rattle.spelling.specs.SpeltShortLaws.{spelt-short}
 use Rattle.award_check.specs.Faults.{faultOf}
 use Rattle.award_check.specs.TextLaws.{rows-flat, never-nine}
 use Rattle.writer_line.specs.Respelt.{respelt}
-use Rattle.writer.specs.Canonical.{respeltIn, canonical, WriteOutcome, spelt, unspelt, unlessFault, writeInto}
+use Rattle.writer_text.specs.Canonical.{respeltIn, canonical, WriteOutcome, spelt, unspelt, unlessFault, writeInto}
 use Rattle.writer_back.specs.BidLaws.{AllLawful, row-lawful}
 use Rattle.writer_back.specs.SpeltLaws.{bids-read, bids-of, spelt-again}
 use Rattle.writer_back.specs.ShortLaws.{canonical-short}

@@ -12,7 +12,7 @@ use Rattle.reader_text.specs.Read.{rowsFrom, allWindows}
 use Rattle.spelling.specs.Text.{bidIn}
 use Rattle.award_check.specs.Cells.{noRow}
 use Rattle.writer_line.specs.Respelt.{respelt}
-use Rattle.writer.specs.Canonical.{respeltIn}
+use Rattle.writer_text.specs.Canonical.{respeltIn}
 
 windows-flat : (ws us : List Window) (v : List ℕ) → windowsOf (length ws) (flatWindows (ws ++ us) ++ v) ≡ ws
 unfolding windowsOf flatWindows

@@ -29,7 +29,7 @@ use Rattle.award_check.specs.TextLaws.{rows-flat, never-nine}
 use Rattle.runs.specs.Runs.{joined}
 use Rattle.runs.specs.JoinedLaws.{joined-holds, joined-same}
 use Rattle.writer_line.specs.Respelt.{respelt}
-use Rattle.writer.specs.Canonical.{respeltIn, canonical}
+use Rattle.writer_text.specs.Canonical.{respeltIn, canonical}
 use Rattle.writer_back.specs.Same.{Same, ReadBack}
 use Rattle.writer_back.specs.BidLaws.{lawful-named, reserve-named, rows-told, rows-checked, AllLawful, row-lawful}
 use Rattle.writer_back.specs.OwnLaws.{noBid, bid-filled, respelt-length, respelt-at}

@@ -16,7 +16,7 @@ use Rattle.spelling.specs.SpeltShortLaws.{bid-bytes}
 use Rattle.runs.specs.Runs.{joined}
 use Rattle.runs.specs.RunsFewLaws.{startsSum, endsSum, joined-starts, joined-ends}
 use Rattle.writer_line.specs.Respelt.{respelt}
-use Rattle.writer.specs.Canonical.{respeltIn, canonical}
+use Rattle.writer_text.specs.Canonical.{respeltIn, canonical}
 use Rattle.writer_back.specs.BidLaws.{AllLawful}
 
 -- the bytes of windows, by starts and ends

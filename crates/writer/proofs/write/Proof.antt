@@ -1,7 +1,7 @@
 -- Tables with a fault are refused as an award refuses them, and the others written. Assumes nothing.
 use mathlib.Core.Path.{_∙_, sym, ap}
 use Rattle.award_check.specs.Checks.{checkedFault}
-use Rattle.writer.specs.FillingLaws.{writes-nine}
+use Rattle.writer.specs.WritesLaws.{writes-nine}
 use borrow.Author.Needs.{needs}
 use Rattle.writer.proofs.write.Statement.{statement}
 use Rattle.writer.proofs.write.Tie as tie

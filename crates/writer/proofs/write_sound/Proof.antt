@@ -2,14 +2,15 @@
 use mathlib.Core.Path.{sym}
 use mathlib.Core.Logic.{inl, inr}
 use native.Mathlib.Omega.{arith}
-use Rattle.writer.specs.FillingLaws.{some-length, writes-fourteen, writes-text}
+use Rattle.writer_text.specs.FillingLaws.{some-length}
+use Rattle.writer.specs.WritesLaws.{writes-fourteen, writes-text}
 use borrow.Author.Needs.{needs}
 use Rattle.writer.proofs.write_sound.Statement.{statement}
 use Rattle.writer.proofs.write_sound.Tie as tie
 use Rattle.writer.proofs.write_sound.Reads as reads
 use Rattle.writer.proofs.write_sound.Lts as lts
 use Rattle.spelling.proofs.put_all.Reads as put-all-reads
-use Rattle.writer.proofs.put_text.Reads as put-text-reads
+use Rattle.writer_made.proofs.put_text.Reads as put-text-reads
 
 slice-aggregate-put-text : tie.Need-slice-aggregate-put-text
 slice-aggregate-put-text c = search needs

@@ -5,12 +5,12 @@ use native.Mathlib.Omega.{arith}
 use lib.ListN.{length}
 use Rattle.tender.specs.Tables.{rowsOf, bidWidth}
 use Rattle.runs.specs.MinuteRows.{rowWords}
-use Rattle.writer.specs.TableLaws.{row-plain, rows-lent}
-use Rattle.writer.specs.FillingLaws.{BidsPut, bids-begin, bids-go, bids-end, bids-long}
-use Rattle.writer.proofs.put_bids.Statement.{statement}
-use Rattle.writer.proofs.put_bids.Tie as tie
-use Rattle.writer.proofs.put_bids.Reads as reads
-use Rattle.writer.proofs.put_bids.Lts as lts
+use Rattle.writer_text.specs.TableLaws.{row-plain, rows-lent}
+use Rattle.writer_text.specs.FillingLaws.{BidsPut, bids-begin, bids-go, bids-end, bids-long}
+use Rattle.writer_made.proofs.put_bids.Statement.{statement}
+use Rattle.writer_made.proofs.put_bids.Tie as tie
+use Rattle.writer_made.proofs.put_bids.Reads as reads
+use Rattle.writer_made.proofs.put_bids.Lts as lts
 use Rattle.writer_line.proofs.put_bid.Reads as put-bid-reads
 
 abbrev Inv-loop : tie.InvT-loop

@@ -9,7 +9,7 @@ use Rattle.tender.specs.Limits.{maxText}
 use Rattle.tender.specs.Tables.{Row}
 use Rattle.spelling.specs.Text.{bidsText}
 use Rattle.spelling.specs.Written.{Written}
-use Rattle.writer.specs.Canonical.{respeltIn, canonical}
+use Rattle.writer_text.specs.Canonical.{respeltIn, canonical}
 
 -- the lines of some first rows are written: of all of them, or of so many that the text is too long
 pub record SomeBids (windows : List ℕ) (rows : List Row) (old : List ℕ) (at n : ℕ) (new : List ℕ) (end : ℕ) : Type 0 where

@@ -9,7 +9,7 @@ use Rattle.tender.specs.declared.Tender.{Tender}
 use Rattle.tender.specs.declared.Refusal.the-variants.{BadTables, NoRoom}
 use Rattle.tender.specs.Keywords.{bytes}
 use Rattle.tender.specs.Plain.{plainTender}
-use Rattle.writer.specs.Canonical.{spelt, unspelt, writeInto}
+use Rattle.writer_text.specs.Canonical.{spelt, unspelt, writeInto}
 
 multi : Tender
 multi = plainTender Multi 0 10

@@ -1,5 +1,4 @@
 -- The text of tables in one spelling (paper 02, request 2): each bid's windows joined where they overlap or touch, in rising order.
-use mathlib.Core.Path.{_≡_}
 use mathlib.Core.Bool.{cond}
 use mathlib.Core.List.{List, _++_, map}
 use mathlib.Core.Option.{Option, none, some}
@@ -15,8 +14,6 @@ use Rattle.reader_line.specs.Line.{BidLine}
 use Rattle.spelling.specs.Text.{textOf, bidIn}
 use Rattle.award_check.specs.Faults.{faultOf}
 use Rattle.writer_line.specs.Respelt.{respelt}
-use Rattle.writer.specs.declared.Writing.{Writing}
-use Rattle.writer.specs.declared.Writing.the-variants.{Written, Refused}
 
 -- the bids of the rows, each respelt
 unfoldable pub respeltIn : List ℕ → List Row → List BidLine
@@ -44,17 +41,7 @@ writeInto t n bids windows room =
     let text = canonical t (rowsOf n bids) windows in
     unlessFault (faultOf (t .kind) t n bids windows) (cond (leb (length text) (min maxText room)) (spelt text) (unspelt NoRoom))
 
--- what is answered: the length or the refusal
-unfoldable pub writeAnswer : WriteOutcome → Writing
-writeAnswer (spelt text) = Written (length text)
-writeAnswer (unspelt q) = Refused q
-
 -- what the lent buffer then holds: the text and what stood past it, or what stood in it
 unfoldable pub bufferAfter : List ℕ → WriteOutcome → List ℕ
 bufferAfter old (spelt text) = text ++ drop (length text) old
 bufferAfter old (unspelt q) = old
-
--- The promise of a call that was lent a buffer of the bytes `old`, left the bytes `new` and answered r
-pub record Writes (t : Tender) (n : ℕ) (bids windows old new : List ℕ) (r : Writing) : Type 0 where
-  pub answer : r ≡ writeAnswer (writeInto t n bids windows (length old))
-  pub bytes : new ≡ bufferAfter old (writeInto t n bids windows (length old))

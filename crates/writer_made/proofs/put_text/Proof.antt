@@ -2,13 +2,13 @@
 use mathlib.Core.Path.{refl}
 use native.Mathlib.Omega.{arith}
 use Rattle.runs.specs.MinuteRowLaws.{empty-row, full-row}
-use Rattle.writer.specs.FillingLaws.{some-text}
+use Rattle.writer_text.specs.FillingLaws.{some-text}
 use borrow.Author.Needs.{needs}
-use Rattle.writer.proofs.put_text.Statement.{statement}
-use Rattle.writer.proofs.put_text.Tie as tie
-use Rattle.writer.proofs.put_text.Reads as reads
-use Rattle.writer.proofs.put_text.Lts as lts
-use Rattle.writer.proofs.put_bids.Reads as put-bids-reads
+use Rattle.writer_made.proofs.put_text.Statement.{statement}
+use Rattle.writer_made.proofs.put_text.Tie as tie
+use Rattle.writer_made.proofs.put_text.Reads as reads
+use Rattle.writer_made.proofs.put_text.Lts as lts
+use Rattle.writer_made.proofs.put_bids.Reads as put-bids-reads
 use Rattle.writer_line.proofs.put_head.Reads as put-head-reads
 
 put-head-requires : tie.Need-put-head-requires
