@@ -26,7 +26,8 @@ use Rattle.tender.specs.declared.AwardRow.{AwardRow}
 use Rattle.tender.specs.declared.Answer.{Answer}
 use Rattle.award_plain.specs.Award.{rule, Outcome, awarded, refused, awardRows, totalsOf, uncovered, lone, thinned, settled, outcomeNumber}
 use Rattle.award_outcome.specs.Promise.{lentAfter, toldAward, Promise}
-use Rattle.award_outcome.specs.Right.{Callable, Bidders, EarliestIn, IsAward, IsRefusal, OneAnswer, tables-break-a-rule, rows-too-few}
+use Rattle.award_outcome.specs.Right.{Callable, Bidders, EarliestIn, IsAward, IsRefusal, OneAnswer, tables-break-a-rule}
+use Rattle.award_outcome.specs.Right.{rows-too-few}
 use Rattle.award_outcome.specs.Right.{minute-uncovered, one-bidder, award}
 use Rattle.award_plain.specs.AwardLaws.{award-none, award-nine, award-settles}
 

@@ -69,7 +69,8 @@ read-sound {text} {bids} {windows} {t} {n} h = rw (h .bids-are, h .windows-are, 
     (never-nine t (h .rows) (h .spans) (h .past-rows) (h .past-spans) (rules-law t (h .rows) (h .spans) text (h .is)))
 
 -- and its bids are so few that their list has room
-pub read-room : {text bids windows : List ℕ} {t : Tender} {n room : ℕ} → ReadIn text bids windows t n → roomFor (length text) ≤ room
+pub read-room : {text bids windows : List ℕ} {t : Tender} {n room : ℕ} → ReadIn text bids windows t n
+    → roomFor (length text) ≤ room
     → 48 * n + 136 ≤ room
 read-room {text} {bids} {windows} {t} {n} {room} h l =
     omega (arith, few-read h, h .count, bids-few t (h .rows) (h .spans) text (h .is))

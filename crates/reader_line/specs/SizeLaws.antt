@@ -6,7 +6,7 @@ use mathlib.Core.Bool.{Bool, true, false, cond, not, _&&_}
 use mathlib.Core.Option.{none, some}
 use Prim.Native.Nat.{ℕ, _+_, _*_, _≤_}
 use native.Mathlib.Omega.{arith}
-use lib.ListN.{length}
+use lib.ListN.{length, length-append}
 use lib.Dec.{eqb}
 use borrow.Author.Tests.{leb-true}
 use Rattle.tender.specs.declared.Window.{Window}
@@ -16,6 +16,7 @@ use Rattle.reader_word.specs.Words.{growFirst, cut, sameBytes, opened, closed, 
 use Rattle.reader_line.specs.Line.{BidLine, bid, kindOf, windowsIn, tenderOf, bidOf, reserveOf, lineOfWords, lineOf}
 use Rattle.reader_word.specs.Windows.{spanOf, windowOf}
 use Rattle.reader_word.specs.CutLaws.{Pieces, cut-some}
+use Rattle.reader_word.specs.PriceFormLaws.{PriceForm, plainly, pointed, price-form}
 use Rattle.reader_word.specs.GivenLaws.{same-is, both-true, then-some, cond-some}
 
 -- the bytes of the pieces, with one after each
@@ -41,6 +42,13 @@ unfolding numeralOf within
 numeral-long w v e =
     let c = cond-some (within 1 9 (length w) && not (leadingZero w)) (digits 0 w) v e in
     leb-true 1 (length w) (both-true _ _ (both-true (within 1 9 (length w)) (not (leadingZero w)) (c .0) .0) .0)
+
+price-long : (w : List ℕ) (v : ℕ) → priceOf w ≡ some v → 1 ≤ length w
+price-long w v e = go (price-form w v e)
+  where
+    go : PriceForm w v → 1 ≤ length w
+    go (plainly n) = numeral-long w v n
+    go (pointed p) = omega (arith, ap length (p .are), length-append (p .whole) (46 ∷ p .cents))
 
 opened-long : (w r : List ℕ) → opened w ≡ some r → length w ≡ length r + 1
 unfolding opened
@@ -69,7 +77,8 @@ window-long s e w h =
     )
 
 -- one window at least, and the bracket that closes the line
-windows-long : (ws : List (List ℕ)) (l : List Window) → windowsIn ws ≡ some l → (1 ≤ length l) × (6 * length l + 1 ≤ bytesOf ws)
+windows-long : (ws : List (List ℕ)) (l : List Window) → windowsIn ws ≡ some l
+    → (1 ≤ length l) × (6 * length l + 1 ≤ bytesOf ws)
 unfolding windowsIn bytesOf
 windows-long [] l h = let z : _≡_ {A = ℕ} 0 1 = cc in absurd (omega arith)
 windows-long (s ∷ []) l h = let z : _≡_ {A = ℕ} 0 1 = cc in absurd (omega arith)
@@ -111,7 +120,7 @@ reserve-no-bid (p ∷ x ∷ ws) b h = let z : _≡_ {A = ℕ} 0 1 = cc in omega 
 
 bid-long : (ws : List (List ℕ)) (b : BidLine) → bidOf ws ≡ some (bid b)
     → (1 ≤ length (b .windows)) × (6 * length (b .windows) + 5 ≤ bytesOf ws)
-unfolding bidOf priceOf bytesOf
+unfolding bidOf bytesOf
 bid-long [] b h = let z : _≡_ {A = ℕ} 0 1 = cc in absurd (omega arith)
 bid-long (n ∷ []) b h = let z : _≡_ {A = ℕ} 0 1 = cc in absurd (omega arith)
 bid-long (n ∷ p ∷ ws) b h =
@@ -121,7 +130,7 @@ bid-long (n ∷ p ∷ ws) b h =
     let q : _≡_ {A = BidLine} (record { bidder = y .0; price = v .0; windows = l .0 }) b = cc (l .2) in
     let long = windows-long ws (l .0) (l .1) in
     let same = ap (λ (c : BidLine). length (c .windows)) q in
-    (omega (arith, long .0), omega (arith, long .1, numeral-long n (y .0) (y .1), numeral-long p (v .0) (v .1)))
+    (omega (arith, long .0), omega (arith, long .1, numeral-long n (y .0) (y .1), price-long p (v .0) (v .1)))
 
 -- the windows of a bid's line, which has one at least, and its bytes
 pub line-long : (line : List ℕ) (b : BidLine) → lineOf line ≡ some (bid b)

@@ -18,7 +18,8 @@ pub data SameLine (l m : List ℕ) : Type 0 where
   same-bytes : l ≡ m → SameLine l m
   bid-spelt : (bidder p q after : List ℕ) → Word bidder → Word p → Word q → priceOf p ≡ priceOf q
       → l ≡ bidLine bidder p after → m ≡ bidLine bidder q after → SameLine l m
-  reserve-spelt : (p q : List ℕ) → Word p → Word q → priceOf p ≡ priceOf q → l ≡ reserveLine p → m ≡ reserveLine q → SameLine l m
+  reserve-spelt : (p q : List ℕ) → Word p → Word q → priceOf p ≡ priceOf q → l ≡ reserveLine p → m ≡ reserveLine q
+      → SameLine l m
 
 -- one by one
 abbrev pub SameLines : List (List ℕ) → List (List ℕ) → Type 0

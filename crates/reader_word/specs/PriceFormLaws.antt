@@ -74,7 +74,8 @@ price-pointed w v p =
       (digits-without 46 0 (p .cents) (p .y) (omega arith) (p .cents-are), tt),
     ) in
     ap (λ l. priceIn (cut 46 l)) (p .are) ∙ ap priceIn c
-    ∙ rw (le-leb (length (p .whole)) 7 (p .few), eq-eqb (length (p .cents)) 2 (p .two), p .whole-is, p .cents-are) (ap some (sym (p .value)))
+    ∙ rw (le-leb (length (p .whole)) 7 (p .few), eq-eqb (length (p .cents)) 2 (p .two), p .whole-is, p .cents-are)
+    (ap some (sym (p .value)))
 
 -- two digits after the point
 
@@ -97,7 +98,8 @@ two-cents (a ∷ b ∷ []) y n e =
     record { tens = a; ones = b; are = refl; tens-digit = c .0; ones-digit = d .0; value = omega arith }
 two-cents (a ∷ b ∷ c ∷ cs) y n e = absurd (omega arith)
 
-pub cents-two : (a b : ℕ) → within 48 57 a ≡ true → within 48 57 b ≡ true → digits 0 (a ∷ b ∷ []) ≡ some ((a - 48) * 10 + (b - 48))
+pub cents-two : (a b : ℕ) → within 48 57 a ≡ true → within 48 57 b ≡ true
+    → digits 0 (a ∷ b ∷ []) ≡ some ((a - 48) * 10 + (b - 48))
 unfolding digits
 cents-two a b h k =
     let o : (0 * 10 + (a - 48)) * 10 + (b - 48) ≡ (a - 48) * 10 + (b - 48) = omega arith in

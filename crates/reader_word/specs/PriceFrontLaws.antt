@@ -27,7 +27,8 @@ price-without d w v l e = go (price-form w v e)
   where
     go : PriceForm w v → among d w ≡ false
     go (plainly n) = number-without d w v (omega arith) n
-    go (pointed p) = rw (p .are) (among-append d (p .whole) (46 ∷ p .cents) (number-without d (p .whole) (p .x) (omega arith) (p .whole-is))
+    go (pointed p) = rw (p .are) (among-append d (p .whole) (46 ∷ p .cents)
+        (number-without d (p .whole) (p .x) (omega arith) (p .whole-is))
         (rw (ne-eqb 46 d (λ q. omega arith)) (digits-without d 0 (p .cents) (p .y) (omega arith) (p .cents-are))))
 
 -- what a word gives is read
@@ -71,7 +72,8 @@ digit-from v (b ∷ s) u r e = go (within 48 57 b) refl e
     go true q x = record { byte = b; are = cc; is = q; value = cc }
     go false q x = let z : _≡_ {A = ℕ} 0 1 = cc in absurd (omega arith)
 
-two-more : (w t u s r : List ℕ) (a b : ℕ) → t ≡ 46 ∷ u → u ≡ a ∷ s → s ≡ b ∷ r → w ++ t ≡ (w ++ 46 ∷ a ∷ b ∷ []) ++ r
+two-more : (w t u s r : List ℕ) (a b : ℕ) → t ≡ 46 ∷ u → u ≡ a ∷ s → s ≡ b ∷ r
+    → w ++ t ≡ (w ++ 46 ∷ a ∷ b ∷ []) ++ r
 two-more w t u s r a b e f g =
     ap (λ l. w ++ l) (e ∙ ap (λ l. 46 ∷ l) (f ∙ ap (λ l. a ∷ l) g)) ∙ sym (append-assoc w (46 ∷ a ∷ b ∷ []) r)
 

@@ -24,7 +24,8 @@ later s i j e l number.Bad h = e ∙ h
 -- one digit after a number of value v
 
 module _ (s : List ℕ) (v i : ℕ) (h : i < length s) where
-  pub digit-at : Ended s → 48 ≤ getD s i 0 → getD s i 0 < 58 → ReadAt (digitFront v (drop i s)) s i (v * 10 + (getD s i 0 - 48)) (i + 1)
+  pub digit-at : Ended s → 48 ≤ getD s i 0 → getD s i 0 < 58
+      → ReadAt (digitFront v (drop i s)) s i (v * 10 + (getD s i 0 - 48)) (i + 1)
   unfolding digitFront within
   digit-at e a z = record {
     is = rw (drop-next s i h) (simp (le-leb 48 (getD s i 0) a, le-leb (getD s i 0) 57 (omega arith)));
@@ -78,6 +79,7 @@ module _ (s : List ℕ) (i : ℕ) where
       inside = y .inside;
     }
 
-    pub price-cents : getD s p 0 ≡ 46 → (r : Number) → NumberIs (centsFront x (drop p s)) s p r → NumberIs (priceFront (drop i s)) s i r
+    pub price-cents : getD s p 0 ≡ 46 → (r : Number) → NumberIs (centsFront x (drop p s)) s p r
+        → NumberIs (priceFront (drop i s)) s i r
     unfolding priceFront onward
     price-cents b = later s i p (rw (y .is) (fork-here s p (y .inside) 46 _ _ b)) (y .after)

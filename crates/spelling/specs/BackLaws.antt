@@ -133,7 +133,8 @@ unfolding oneLine oneWords among
 one-cuts word a rest h = ap (λ s. cut 10 (s ++ rest)) (one-line word (decimal a))
     ∙ line-then (40 ∷ word) ((decimal a ++ 41 ∷ []) ∷ []) rest (one-without 10 word a (omega arith) h refl)
 
-pub one-words : (word : List ℕ) (a : ℕ) → among 32 word ≡ false → cut 32 (spaced (oneWords word (decimal a))) ≡ oneWords word (decimal a)
+pub one-words : (word : List ℕ) (a : ℕ) → among 32 word ≡ false
+    → cut 32 (spaced (oneWords word (decimal a))) ≡ oneWords word (decimal a)
 unfolding oneWords among
 one-words word a h = cut-rejoined 32 (40 ∷ word) ((decimal a ++ 41 ∷ []) ∷ []) (one-without 32 word a (omega arith) h refl)
 

@@ -15,7 +15,8 @@ use Rattle.spelling.specs.Text.{bidTextAs, tenderText}
 -- a line for each bid, its price written by a word that is read as it
 abbrev pub SpeltBids : List ℕ → List BidLine → Type 0
 SpeltBids s [] = s ≡ []
-SpeltBids s (b ∷ bs) = (p : List ℕ) × (rest : List ℕ) × (priceOf p ≡ some (b .price)) × (s ≡ bidTextAs p b ++ rest) × SpeltBids rest bs
+SpeltBids s (b ∷ bs) =
+    (p : List ℕ) × (rest : List ℕ) × (priceOf p ≡ some (b .price)) × (s ≡ bidTextAs p b ++ rest) × SpeltBids rest bs
 
 -- the reserve's line, where there is one, its price written so too
 abbrev pub SpeltReserve : List ℕ → Reserve → Type 0

@@ -7,7 +7,8 @@ use native.Mathlib.Omega.{arith}
 use Rattle.tender.specs.declared.Reserve.the-variants.{Absent}
 use Rattle.award_check.specs.AuctionLaws.{minutes}
 use Rattle.award_plain.specs.Award.{outcomeNumber}
-use Rattle.award_outcome.specs.Right.{Bidders, EarliestIn, OneAnswer, tables-break-a-rule, rows-too-few, minute-uncovered, one-bidder, award}
+use Rattle.award_outcome.specs.Right.{Bidders, EarliestIn, OneAnswer, tables-break-a-rule, rows-too-few, minute-uncovered}
+use Rattle.award_outcome.specs.Right.{one-bidder, award}
 use Rattle.award_outcome.specs.OneAnswerLaws.{one-answer}
 use Rattle.theorems.specs.Calls.{AwardCall, auctionBy, toldBy}
 use Rattle.theorems.specs.Between.{CallableWith, FewerThan}

@@ -19,14 +19,16 @@ into-same t u n m d = ap (fitted n m) (spelling-law t u d)
 pub reading-same : (r r′ : ReadCall) → DifferInSpelling (r .run .text) (r′ .run .text) → r .run .bids ≡ r′ .run .bids
     → r .run .windows ≡ r′ .run .windows → SameReading r r′
 reading-same r r′ d b w =
-    let e = into-same (r .run .text) (r′ .run .text) (length (r′ .run .bids) / bidWidth) (length (r′ .run .windows) / windowWidth) d in
+    let e = into-same (r .run .text) (r′ .run .text) (length (r′ .run .bids) / bidWidth)
+    (length (r′ .run .windows) / windowWidth) d in
     record {
       answers = r .kept .answers ∙ rw (b, w) (ap readAnswer e) ∙ sym (r′ .kept .answers);
       bids = r .kept .rows ∙ rw (b, w) (ap (bidsAfter (r′ .run .bids)) e) ∙ sym (r′ .kept .rows);
       windows = r .kept .own ∙ rw (b, w) (ap (windowsAfter (r′ .run .windows)) e) ∙ sym (r′ .kept .own);
     }
 
-pub list-same : (l l′ : ListCall) → DifferInSpelling (l .text) (l′ .text) → 0 < l .answer → 0 < l′ .answer → shown l ≡ shown l′
+pub list-same : (l l′ : ListCall) → DifferInSpelling (l .text) (l′ .text) → 0 < l .answer → 0 < l′ .answer
+    → shown l ≡ shown l′
 list-same l l′ d a a′ = same-shown {old′ = l′ .buffer} (l .promise .delivers)
     (rw (spelling-law (l .text) (l′ .text) d) (l′ .promise .delivers)) a a′
 

@@ -31,7 +31,8 @@ use Rattle.writer_back.specs.SpeltWordLaws.{wordsAs, Priced, words-are}
 -- the lines one after the other, each ended by byte 10
 abbrev pub LinesSpelt : List ℕ → List Line → Type 0
 LinesSpelt s [] = s ≡ []
-LinesSpelt s (x ∷ xs) = (p : List ℕ) × (rest : List ℕ) × Priced p x × (s ≡ spaced (wordsAs p x) ++ 10 ∷ rest) × LinesSpelt rest xs
+LinesSpelt s (x ∷ xs) = (p : List ℕ) × (rest : List ℕ) × Priced p x × (s ≡ spaced (wordsAs p x) ++ 10 ∷ rest)
+    × LinesSpelt rest xs
 
 -- the pieces between bytes 10: the lines, and nothing after the last
 pieces-are : (p : List ℕ) (ps : List (List ℕ)) (xs : List Line) → linesOf (p ∷ ps) ≡ map (λ x. some x) xs
