@@ -181,14 +181,13 @@ pub fn read_bids(
     let mut k: usize = 0;
     let mut m: usize = 0;
     let mut i = at;
-    let mut line = from;
     while i < text.len() {
+        let line = from + k as u64;
         match take_line(text, i, line, tender, k, m, used, rows, windows) {
             Step::Bid(count, next) => {
                 k += 1;
                 m += count;
                 i = next;
-                line += 1;
             }
             Step::Refused(r) => {
                 return Bids::Refused(r);

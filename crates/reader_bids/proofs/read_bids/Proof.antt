@@ -1,7 +1,8 @@
 -- `read_bids` meets its contract: the lines before the walk's place are in the tables. Assumes nothing.
-use Prim.Native.Nat.{ℕ, _-_, _*_, _≤_}
+use Prim.Native.Nat.{ℕ, _+_, _-_, _*_, _≤_}
 use mathlib.Core.Path.{_≡_, refl, sym, ap, _∙_}
 use mathlib.Core.List.{List}
+use native.Mathlib.Nat.{add-zero}
 use native.Mathlib.Omega.{arith}
 use lib.ListN.{length, drop}
 use Rattle.numbers.specs.Members.{members}
@@ -16,18 +17,25 @@ use Rattle.reader_bids.proofs.read_bids.Statement.{statement}
 use Rattle.reader_bids.proofs.read_bids.Tie as tie
 
 abbrev Inv-loop : tie.InvT-loop
-Inv-loop text at from tender used₀ rows₀ windows₀ k₀ m₀ i₀ line₀ used rows windows k m i line =
-    Walk tender from (linesOf (cut 10 (drop at text))) (linesOf (cut 10 (drop i text))) line k m (members used) rows windows
+Inv-loop text at from tender used₀ rows₀ windows₀ k₀ m₀ i₀ used rows windows k m i =
+    Walk tender from (linesOf (cut 10 (drop at text))) (linesOf (cut 10 (drop i text))) (from + k) k m (members used) rows windows
     × (i ≤ length text)
     × (length used ≡ length used₀) × (length rows ≡ length rows₀) × (length windows ≡ length windows₀) × (6 * m ≤ i)
 
 abbrev μ-loop : tie.MeasureT-loop
-μ-loop text at from tender used₀ rows₀ windows₀ k₀ m₀ i₀ line₀ used rows windows k m i line = length text - i
+μ-loop text at from tender used₀ rows₀ windows₀ k₀ m₀ i₀ used rows windows k m i = length text - i
 
 loop-holds : tie.Need-loop-holds Inv-loop μ-loop
 loop-holds c =
     let c4 = c .before .before .before .before in
-    let pre = c4 .pre in (walk-begins _ _ _ _ _ _ (ap members (pre .3) ∙ members-none 15625) (pre .4) (pre .5), pre .0, refl, refl, refl, omega arith)
+    let pre = c4 .pre in
+    let w = walk-begins _ _ _ _ _ _ (ap members (pre .3) ∙ members-none 15625) (pre .4) (pre .5) in
+    (rw (add-zero (c4 .args .from)) w, pre .0, refl, refl, refl, omega arith)
+
+add-line : tie.Need-add-line Inv-loop μ-loop
+add-line c =
+    let c6 = c .before .before .before .before .before .before in
+    omega (arith, c .before .loop .inv .0 .few-bids, c6 .pre .1)
 
 take-line-requires : tie.Need-take-line-requires Inv-loop μ-loop
 take-line-requires c κs =
@@ -62,12 +70,6 @@ add-m c =
     (c9 .take-line .ensures) (pre .2) (inv .5) (members-same _ _ (kept .0)) (kept .1 .0) (kept .1 .1 .0) _ _ (c .before .count .given .1) in
     omega (arith, g .0 .few-windows, g .0 .few-bids)
 
-add-line : tie.Need-add-line Inv-loop μ-loop
-add-line c =
-    let c14 = c .before .before .before .before .before .before .before .before .before .before .before .before .before .before in
-    let c19 = c14 .before .before .before .before .before in
-    omega (arith, c14 .loop .inv .0 .number, c14 .loop .inv .0 .few-bids, c19 .pre .1)
-
 loop-less : tie.Need-loop-less Inv-loop μ-loop
 loop-less c =
     let c9 = c .before .before .before .before .before .before .before .before .before in
@@ -88,7 +90,8 @@ loop-again c =
     let pre = c19 .pre in let inv = c14 .loop .inv in let kept = c9 .take-line .kept .1 .1 .1 .1 .1 .1 in
     let g = walk-goes _ _ _ (c19 .args .text .now) (c14 .loop .i) _ _ _ _ _ _ _ _ _ (pre .6) (c13 .loop-test .taken) (inv .0) _
     (c9 .take-line .ensures) (pre .2) (inv .5) (members-same _ _ (kept .0)) (kept .1 .0) (kept .1 .1 .0) _ _ (c .before .count .given .1) in
-    (g .0, g .2, kept .0 ∙ inv .2, kept .1 .0 ∙ inv .3, kept .1 .1 .0 ∙ inv .4, g .3)
+    let e : c19 .args .from + (c14 .loop .k + 1) ≡ c19 .args .from + c14 .loop .k + 1 = omega arith in
+    (rw e (g .0), g .2, kept .0 ∙ inv .2, kept .1 .0 ∙ inv .3, kept .1 .1 .0 ∙ inv .4, g .3)
 
 enum-known-r : tie.Need-enum-known-r Inv-loop μ-loop
 enum-known-r c = search needs
@@ -133,11 +136,11 @@ read-bids-spec =
     Inv-loop
     μ-loop
     loop-holds
+    add-line
     take-line-requires
     enum-known-count
     add-k
     add-m
-    add-line
     loop-less
     loop-again
     enum-known-r
