@@ -27,7 +27,7 @@ use Rattle.spelling.specs.Lines.{closing}
 use Rattle.spelling.specs.Text.{windowText, windowsText, bidTextAs, tenderText, bidIn}
 use Rattle.spelling.specs.Spelt.{SpeltBids, SpeltReserve}
 use Rattle.spelling.specs.WordLaws.{spaced, tenderWords, oneWords, tender-line, one-line}
-use Rattle.writer.specs.RowLaws.{own-length}
+use Rattle.writer_text.specs.RowLaws.{own-length}
 use Rattle.writer_back.specs.SpeltLaws.{spelt-again}
 use Rattle.theorems.specs.Between.{Variant}
 
