@@ -1,5 +1,4 @@
 pub mod Faults
-pub mod Checks
 pub mod Cells
 pub mod Auction
 pub mod Alike

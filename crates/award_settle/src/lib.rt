@@ -1,6 +1,6 @@
 // The award of a tender of either kind over plain lists: a refusal, 9 to 12, or a flag and the cents paid for each bid, and the totals.
 // What it answers is in `award_plain` Award, what is promised of plain lists in `award_plain` Plain.
-use award_check::Check;
+use award_fault::Check;
 use tender::Answer;
 use tender::Kind;
 use tender::Refusal;
@@ -72,7 +72,7 @@ pub fn settle_in(
     ensures { λ r. ⌜ PlainPromise kind tender count (now (bids .entry)) (now (windows .entry)) lent (now (won .entry))
         (now (cents .entry)) (now (won .exit)) (now (cents .exit)) r ⌝ }
 {
-    let check = award_check::fault(kind, tender, count, bids, windows);
+    let check = award_fault::fault(kind, tender, count, bids, windows);
     if let Check::Faulty { row } = check {
         // 9: the tables break a rule.
         return Answer::Refused(Refusal::BadTables { row });

@@ -4,7 +4,7 @@ ghost use mathlib.Core.Path.{_≡_};
 ghost use mathlib.Core.Option.{none};
 ghost use Rattle.award_check.specs.Faults.{faultOf};
 ghost use Rattle.writer.specs.Writes.{Writes};
-use award_check::Check;
+use award_fault::Check;
 use tender::Refusal;
 use tender::Tender;
 
@@ -50,7 +50,7 @@ pub fn write(
     ensures { λ r. ⌜ Writes tender count (now (bids .entry)) (now (windows .entry)) (now (text .entry)) (now (text .exit)) r ⌝ }
 {
     let kind = tender.kind;
-    match award_check::fault(kind, tender, count, bids, windows) {
+    match award_fault::fault(kind, tender, count, bids, windows) {
         Check::Sound => write_sound(tender, count, bids, windows, text),
         Check::Faulty { row } => Writing::Refused(Refusal::BadTables { row: row }),
     }

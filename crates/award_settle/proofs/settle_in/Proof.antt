@@ -1,7 +1,7 @@
 -- `award_settle::settle_in` meets its contract: each way out is one of the laws. Assumes nothing.
 use mathlib.Core.Path.{sym, ap, _∙_}
 use native.Mathlib.Omega.{arith}
-use Rattle.award_check.specs.Checks.{checkedFault}
+use Rattle.award_fault.specs.Checks.{checkedFault}
 use Rattle.award_layout.specs.LayoutLaws.{orderly}
 use Rattle.award_plain.specs.PlainLaws.{nine, ten, lent-more}
 use borrow.Author.Needs.{needs}
@@ -9,7 +9,7 @@ use Rattle.award_settle.proofs.settle_in.Statement.{statement}
 use Rattle.award_settle.proofs.settle_in.Tie as tie
 use Rattle.award_settle.proofs.settle_in.Reads as reads
 use Rattle.award_settle.proofs.settle_in.Lts as lts
-use Rattle.award_check.proofs.fault.Reads as fault-reads
+use Rattle.award_fault.proofs.fault.Reads as fault-reads
 use Rattle.award_settle.proofs.settle_sound.Reads as settle-sound-reads
 
 fault-requires : tie.Need-fault-requires

@@ -1,13 +1,13 @@
 -- Tables with a fault are refused as an award refuses them, and the others written. Assumes nothing.
 use mathlib.Core.Path.{_∙_, sym, ap}
-use Rattle.award_check.specs.Checks.{checkedFault}
+use Rattle.award_fault.specs.Checks.{checkedFault}
 use Rattle.writer.specs.WritesLaws.{writes-nine}
 use borrow.Author.Needs.{needs}
 use Rattle.writer.proofs.write.Statement.{statement}
 use Rattle.writer.proofs.write.Tie as tie
 use Rattle.writer.proofs.write.Reads as reads
 use Rattle.writer.proofs.write.Lts as lts
-use Rattle.award_check.proofs.fault.Reads as fault-reads
+use Rattle.award_fault.proofs.fault.Reads as fault-reads
 use Rattle.writer.proofs.write_sound.Reads as write-sound-reads
 
 fault-requires : tie.Need-fault-requires

@@ -1,18 +1,18 @@
--- `award_check::fault` meets its contract: each way out rewrites with the tests that led there. Assumes nothing.
+-- `award_fault::fault` meets its contract: each way out rewrites with the tests that led there. Assumes nothing.
 use Prim.Native.Nat.{_/_}
 use native.Mathlib.Omega.{arith}
 use lib.ListN.{length}
 use borrow.Author.Tests.{not-true, not-false, le-leb, lt-leb}
 use Rattle.tender.specs.Tables.{bidWidth}
 use Rattle.award_check.specs.Faults.{faultOf}
 use borrow.Author.Needs.{needs}
-use Rattle.award_check.proofs.fault.Statement.{statement}
-use Rattle.award_check.proofs.fault.Tie as tie
-use Rattle.award_check.proofs.fault.Reads as reads
-use Rattle.award_check.proofs.fault.Lts as lts
-use Rattle.award_check.proofs.row_fault.Reads as row-fault-reads
-use Rattle.award_check.proofs.same_kind.Reads as same-kind-reads
-use Rattle.award_check.proofs.tender_sound.Reads as tender-sound-reads
+use Rattle.award_fault.proofs.fault.Statement.{statement}
+use Rattle.award_fault.proofs.fault.Tie as tie
+use Rattle.award_fault.proofs.fault.Reads as reads
+use Rattle.award_fault.proofs.fault.Lts as lts
+use Rattle.award_fault.proofs.row_fault.Reads as row-fault-reads
+use Rattle.award_fault.proofs.same_kind.Reads as same-kind-reads
+use Rattle.award_fault.proofs.tender_sound.Reads as tender-sound-reads
 
 same-kind-requires : tie.Need-same-kind-requires
 same-kind-requires c κs = search needs

@@ -1,10 +1,10 @@
--- `award_check::same_kind` meets its contract: kinds are compared by their numbers. Assumes nothing.
+-- `award_fault::same_kind` meets its contract: kinds are compared by their numbers. Assumes nothing.
 use borrow.Author.Needs.{needs}
-use Rattle.award_check.proofs.same_kind.Statement.{statement}
-use Rattle.award_check.proofs.same_kind.Tie as tie
-use Rattle.award_check.proofs.same_kind.Reads as reads
-use Rattle.award_check.proofs.same_kind.Lts as lts
-use Rattle.award_check.proofs.kind_number.Reads as kind-number-reads
+use Rattle.award_fault.proofs.same_kind.Statement.{statement}
+use Rattle.award_fault.proofs.same_kind.Tie as tie
+use Rattle.award_fault.proofs.same_kind.Reads as reads
+use Rattle.award_fault.proofs.same_kind.Lts as lts
+use Rattle.award_fault.proofs.kind_number.Reads as kind-number-reads
 
 kind-number-requires : tie.Need-kind-number-requires
 kind-number-requires c κs = search needs

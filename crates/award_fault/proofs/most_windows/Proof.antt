@@ -1,10 +1,10 @@
--- `award_check::most_windows` meets its contract, by its cases. Assumes nothing.
+-- `award_fault::most_windows` meets its contract, by its cases. Assumes nothing.
 use Rattle.tender.specs.Limits.{mostWindows}
 use borrow.Author.Needs.{needs}
-use Rattle.award_check.proofs.most_windows.Statement.{statement}
-use Rattle.award_check.proofs.most_windows.Tie as tie
-use Rattle.award_check.proofs.most_windows.Reads as reads
-use Rattle.award_check.proofs.most_windows.Lts as lts
+use Rattle.award_fault.proofs.most_windows.Statement.{statement}
+use Rattle.award_fault.proofs.most_windows.Tie as tie
+use Rattle.award_fault.proofs.most_windows.Reads as reads
+use Rattle.award_fault.proofs.most_windows.Lts as lts
 
 enum-told : tie.Need-enum-told
 enum-told c = search needs

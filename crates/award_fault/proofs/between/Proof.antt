@@ -1,10 +1,10 @@
--- `award_check::between` meets its contract: each way out rewrites with the test that led there. Assumes nothing.
+-- `award_fault::between` meets its contract: each way out rewrites with the test that led there. Assumes nothing.
 use borrow.Author.Tests.{le-leb, lt-leb}
 use Rattle.tender.specs.Limits.{within}
-use Rattle.award_check.proofs.between.Statement.{statement}
-use Rattle.award_check.proofs.between.Tie as tie
-use Rattle.award_check.proofs.between.Reads as reads
-use Rattle.award_check.proofs.between.Lts as lts
+use Rattle.award_fault.proofs.between.Statement.{statement}
+use Rattle.award_fault.proofs.between.Tie as tie
+use Rattle.award_fault.proofs.between.Reads as reads
+use Rattle.award_fault.proofs.between.Lts as lts
 
 returns : tie.Need-returns
 unfolding within

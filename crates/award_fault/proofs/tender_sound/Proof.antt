@@ -1,13 +1,13 @@
--- `award_check::tender_sound` meets its contract: both parts are asked, or the first is false. Assumes nothing.
+-- `award_fault::tender_sound` meets its contract: both parts are asked, or the first is false. Assumes nothing.
 use mathlib.Core.Path.{sym, _∙_}
 use Rattle.tender.specs.Limits.{lawful, soundTender}
 use borrow.Author.Needs.{needs}
-use Rattle.award_check.proofs.tender_sound.Statement.{statement}
-use Rattle.award_check.proofs.tender_sound.Tie as tie
-use Rattle.award_check.proofs.tender_sound.Reads as reads
-use Rattle.award_check.proofs.tender_sound.Lts as lts
-use Rattle.award_check.proofs.reserve_lawful.Reads as reserve-lawful-reads
-use Rattle.award_check.proofs.window_lawful.Reads as window-lawful-reads
+use Rattle.award_fault.proofs.tender_sound.Statement.{statement}
+use Rattle.award_fault.proofs.tender_sound.Tie as tie
+use Rattle.award_fault.proofs.tender_sound.Reads as reads
+use Rattle.award_fault.proofs.tender_sound.Lts as lts
+use Rattle.award_fault.proofs.reserve_lawful.Reads as reserve-lawful-reads
+use Rattle.award_fault.proofs.window_lawful.Reads as window-lawful-reads
 
 window-lawful-requires : tie.Need-window-lawful-requires
 window-lawful-requires c κs = search needs

@@ -1,11 +1,11 @@
--- `award_check::reserve_lawful` meets its contract, by its cases. Assumes nothing.
+-- `award_fault::reserve_lawful` meets its contract, by its cases. Assumes nothing.
 use mathlib.Core.Path.{sym, ap}
 use Rattle.tender.specs.Limits.{lawfulReserve}
 use borrow.Author.Needs.{needs}
-use Rattle.award_check.proofs.reserve_lawful.Statement.{statement}
-use Rattle.award_check.proofs.reserve_lawful.Tie as tie
-use Rattle.award_check.proofs.reserve_lawful.Reads as reads
-use Rattle.award_check.proofs.reserve_lawful.Lts as lts
+use Rattle.award_fault.proofs.reserve_lawful.Statement.{statement}
+use Rattle.award_fault.proofs.reserve_lawful.Tie as tie
+use Rattle.award_fault.proofs.reserve_lawful.Reads as reads
+use Rattle.award_fault.proofs.reserve_lawful.Lts as lts
 
 enum-told : tie.Need-enum-told
 enum-told c = search needs

@@ -1,4 +1,4 @@
--- `award_check::row_fault` meets its contract: the rows not yet passed have the first fault of all, and the words hold the bidder
+-- `award_fault::row_fault` meets its contract: the rows not yet passed have the first fault of all, and the words hold the bidder
 -- numbers of those passed. Assumes nothing.
 use mathlib.Core.Path.{refl, sym, _∙_}
 use Prim.Native.Nat.{_-_}
@@ -6,9 +6,9 @@ use native.Mathlib.Omega.{arith}
 use borrow.Author.Tests.{not-true, not-false}
 use Rattle.numbers.specs.Members.{members}
 use Rattle.numbers.specs.MembersLaws.{members-length, members-same, members-none}
 use Rattle.award_check.specs.WalkLaws.{Going, going-starts, going-ends, too-many, breaks, repeated, going-on, bidder-cell, room-here}
-use Rattle.award_check.proofs.row_fault.Statement.{statement}
-use Rattle.award_check.proofs.row_fault.Tie as tie
+use Rattle.award_fault.proofs.row_fault.Statement.{statement}
+use Rattle.award_fault.proofs.row_fault.Tie as tie
 
 abbrev Inv-loop : tie.InvT-loop
 Inv-loop tender count bids windows used₀ at₀ j₀ used at j = Going tender count bids windows (members used) at j

@@ -1,18 +1,18 @@
--- `award_check::row_keeps` meets its contract: each way out rewrites with the tests that led there. Assumes nothing.
+-- `award_fault::row_keeps` meets its contract: each way out rewrites with the tests that led there. Assumes nothing.
 use native.Mathlib.Omega.{arith}
 use borrow.Author.Tests.{not-true, not-false, le-leb, lt-leb, eq-eqb, ne-eqb}
 use lib.ListN.{length}
 use Prim.Native.Nat.{_+_, _/_}
 use Rattle.tender.specs.Tables.{own, windowWidth}
 use Rattle.award_check.specs.Faults.{keeps}
 use borrow.Author.Needs.{needs}
-use Rattle.award_check.proofs.row_keeps.Statement.{statement}
-use Rattle.award_check.proofs.row_keeps.Tie as tie
-use Rattle.award_check.proofs.row_keeps.Reads as reads
-use Rattle.award_check.proofs.row_keeps.Lts as lts
-use Rattle.award_check.proofs.between.Reads as between-reads
-use Rattle.award_check.proofs.most_windows.Reads as most-windows-reads
-use Rattle.award_check.proofs.windows_lawful.Reads as windows-lawful-reads
+use Rattle.award_fault.proofs.row_keeps.Statement.{statement}
+use Rattle.award_fault.proofs.row_keeps.Tie as tie
+use Rattle.award_fault.proofs.row_keeps.Reads as reads
+use Rattle.award_fault.proofs.row_keeps.Lts as lts
+use Rattle.award_fault.proofs.between.Reads as between-reads
+use Rattle.award_fault.proofs.most_windows.Reads as most-windows-reads
+use Rattle.award_fault.proofs.windows_lawful.Reads as windows-lawful-reads
 
 between-requires : tie.Need-between-requires
 between-requires c κs = search needs

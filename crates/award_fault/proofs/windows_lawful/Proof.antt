@@ -1,16 +1,16 @@
--- `award_check::windows_lawful` meets its contract: what is left of the windows decides as all of them do. Assumes nothing.
+-- `award_fault::windows_lawful` meets its contract: what is left of the windows decides as all of them do. Assumes nothing.
 use mathlib.Core.Path.{_≡_, sym, _∙_}
 use Prim.Native.Nat.{_-_, _*_, _≤_}
 use native.Mathlib.Omega.{arith}
 use lib.ListN.{drop}
 use Rattle.tender.specs.Limits.{lawful, every}
 use Rattle.tender.specs.Tables.{windowsOf, windowWidth}
 use Rattle.award_check.specs.WalkLaws.{rowsAhead, ahead-start, ahead-goes, ahead-fails, ahead-all}
-use Rattle.award_check.proofs.windows_lawful.Statement.{statement}
-use Rattle.award_check.proofs.windows_lawful.Tie as tie
-use Rattle.award_check.proofs.windows_lawful.Reads as reads
-use Rattle.award_check.proofs.windows_lawful.Lts as lts
-use Rattle.award_check.proofs.window_lawful.Reads as window-lawful-reads
+use Rattle.award_fault.proofs.windows_lawful.Statement.{statement}
+use Rattle.award_fault.proofs.windows_lawful.Tie as tie
+use Rattle.award_fault.proofs.windows_lawful.Reads as reads
+use Rattle.award_fault.proofs.windows_lawful.Lts as lts
+use Rattle.award_fault.proofs.window_lawful.Reads as window-lawful-reads
 
 abbrev Inv-loop : tie.InvT-loop
 Inv-loop windows first count j₀ j =
