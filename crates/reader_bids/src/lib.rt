@@ -1,6 +1,6 @@
 // The bids of a text: each line judged in the paper's order, and put into tables.
 ghost use mathlib.Core.Path.{_≡_};
-ghost use mathlib.Core.Bool.{not, _&&_, _||_};
+ghost use mathlib.Core.Bool.{cond, not, _&&_, _||_};
 ghost use Prim.Native.Nat.{_+_, _≤_, _<_};
 ghost use lib.ListN.{length, drop, replicate};
 ghost use lib.Dec.{leb, ltb, eqb};
@@ -51,15 +51,23 @@ fn outside(bidder: u64, price: u64) -> bool
     }
 }
 
-// Whether the tender takes one window a bid and there are more.
-fn several(tender: Tender, windows: usize) -> bool
-    ensures { λ r. ⌜ r ≡ (isSingle (tender .kind) && ltb 1 windows) ⌝ }
+// How many windows the tender takes a bid.
+fn most(tender: Tender) -> usize
+    ensures { λ r. ⌜ r ≡ cond (isSingle (tender .kind)) 1 maxWindows ⌝ }
 {
     let kind = tender.kind;
     match kind {
-        Kind::Single => 1 < windows,
-        Kind::Multi => false,
+        Kind::Single => 1,
+        Kind::Multi => tender::MAX_WINDOWS,
     }
+}
+
+// Whether the tender takes one window a bid and there are more. By the number, which is the same for all bids, it takes one test.
+fn several(tender: Tender, windows: usize) -> bool
+    requires { ⌜ windows ≤ maxWindows ⌝ }
+    ensures { λ r. ⌜ r ≡ (isSingle (tender .kind) && ltb 1 windows) ⌝ }
+{
+    most(tender) < windows
 }
 
 pub(crate) enum Verdict {

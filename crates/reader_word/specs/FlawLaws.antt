@@ -2,8 +2,10 @@
 use mathlib.Core.Path.{_≡_, refl}
 use mathlib.Core.List.{List, [], _∷_}
 use mathlib.Core.Bool.{Bool, true, false, _&&_}
+use Prim.Native.Nat.{ℕ, _≤_, _<_}
+use borrow.Author.Tests.{lt-ltb, le-ltb, le-leb, lt-leb}
 use Rattle.tender.specs.declared.Window.{Window}
-use Rattle.tender.specs.Limits.{ordered, early, every}
+use Rattle.tender.specs.Limits.{week, ordered, early, every}
 use Rattle.reader_word.specs.declared.windows.Flaw.{Flaw}
 use Rattle.reader_word.specs.declared.windows.Flaw.the-variants.{Empty, Late, Sound}
 use Rattle.reader_word.specs.Flaws.{flawBy, flawIn, flawOf, worst}
@@ -12,20 +14,33 @@ and-true : (a : Bool) → a && true ≡ a
 and-true true = refl
 and-true false = refl
 
-worst-sound : (f : Flaw) → worst f Sound ≡ f
+pub worst-sound : (f : Flaw) → worst f Sound ≡ f
 unfolding worst
 worst-sound Empty = refl
 worst-sound Late = refl
 worst-sound Sound = refl
 
--- a window with a minute leaves a late line late
-pub worst-late : (w : Window) → ordered w ≡ true → worst Late (flawIn w) ≡ Late
-unfolding flawIn worst
-worst-late w h = rw h (go (early w))
-  where
-    go : (b : Bool) → worst Late (flawBy true b) ≡ Late
-    go true = refl
-    go false = refl
+pub worst-empty : (f : Flaw) → worst f Empty ≡ Empty
+unfolding worst
+worst-empty Empty = refl
+worst-empty Late = refl
+worst-empty Sound = refl
+
+-- the window from a to z
+
+module _ (a z : ℕ) where
+  pub flaw-empty : z ≤ a → flawIn (record { start = a; end = z }) ≡ Empty
+  unfolding flawIn
+  flaw-empty h = simp (le-ltb a z h)
+
+  module _ (h : a < z) where
+    pub flaw-sound : z ≤ week → flawIn (record { start = a; end = z }) ≡ Sound
+    unfolding flawIn
+    flaw-sound k = simp (lt-ltb a z h, le-leb z week k)
+
+    pub flaw-late : week < z → flawIn (record { start = a; end = z }) ≡ Late
+    unfolding flawIn
+    flaw-late k = simp (lt-ltb a z h, lt-leb z week k)
 
 worst-both : (f : Flaw) (a b c d : Bool) → worst (worst f (flawBy a b)) (flawBy c d) ≡ worst f (flawBy (a && c) (b && d))
 unfolding worst

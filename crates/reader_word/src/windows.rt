@@ -75,9 +75,15 @@ pub fn flaw_in(a: u64, z: u64) -> Flaw
 pub fn worse(flaw: Flaw, a: u64, z: u64) -> Flaw
     ensures { λ r. ⌜ r ≡ worst flaw (flawIn (record { start = a; end = z })) ⌝ }
 {
+    if z <= a {
+        return Flaw::Empty;
+    }
+    if z <= tender::WEEK {
+        return flaw;
+    }
     match flaw {
         Flaw::Empty => Flaw::Empty,
-        Flaw::Late => { if z <= a { Flaw::Empty } else { Flaw::Late } }
-        Flaw::Sound => flaw_in(a, z),
+        Flaw::Late => Flaw::Late,
+        Flaw::Sound => Flaw::Late,
     }
 }

@@ -3,7 +3,8 @@ use mathlib.Core.Path.{sym, ap, _∙_}
 use native.Mathlib.Omega.{arith}
 use Rattle.reader_word.specs.Flaws.{isEmpty, isLate}
 use Rattle.reader_bids.specs.Steps.{faultAt}
-use Rattle.reader_bids.specs.JudgeLaws.{many, beyond, several-windows, window-empty, window-late, repeated, sound, bidder-in}
+use Rattle.reader_bids.specs.JudgeLaws.{many, beyond, several-windows, window-empty, window-late, repeated, sound, few-windows}
+use Rattle.reader_bids.specs.JudgeLaws.{bidder-in}
 use borrow.Author.Needs.{needs}
 use Rattle.reader_bids.proofs.judge.Statement.{statement}
 use Rattle.reader_bids.proofs.judge.Tie as tie
@@ -23,7 +24,9 @@ returns-2 c = ap (faultAt _)
     (sym (c .before .outside .ensures) ∙ c .if2 .taken)))
 
 several-requires : tie.Need-several-requires
-several-requires c κs = search needs
+several-requires c κs =
+    let c3 = c .before .before .before in
+    few-windows (c3 .before .before .args .bids) (c3 .before .before .args .windows) (sym (c3 .too-many .ensures) ∙ c .before .before .if1 .left)
 
 returns-3 : tie.Need-returns-3
 returns-3 c =

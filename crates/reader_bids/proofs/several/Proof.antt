@@ -1,22 +1,17 @@
--- `several` meets its contract: the test is made for a single tender. Assumes nothing.
+-- `several` meets its contract: of 32 windows at the most, more than the tender takes are several. Assumes nothing.
 use Rattle.tender.specs.Limits.{isSingle}
 use borrow.Author.Needs.{needs}
+use Rattle.reader_bids.specs.JudgeLaws.{more-than-taken}
 use Rattle.reader_bids.proofs.several.Statement.{statement}
 use Rattle.reader_bids.proofs.several.Tie as tie
 
-enum-told : tie.Need-enum-told
-enum-told c = search needs
-
-enum-told-2 : tie.Need-enum-told-2
-enum-told-2 c = search needs
+most-requires : tie.Need-most-requires
+most-requires c κs = search needs
 
 returns : tie.Need-returns
-unfolding isSingle
-returns c = rw (c .enum-told .given .1)
-
-returns-2 : tie.Need-returns-2
-unfolding isSingle
-returns-2 c = rw (c .enum-told2 .given .1)
+returns c =
+    let start = c .before in
+    rw (c .most .ensures) (more-than-taken (isSingle (start .args .tender .kind)) (start .args .windows) (start .pre))
 
 pub several-spec : {M : Type 1} → statement M
-several-spec = tie.close (tie.spec enum-told enum-told-2 returns returns-2)
+several-spec = tie.close (tie.spec most-requires returns)
