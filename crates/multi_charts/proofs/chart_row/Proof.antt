@@ -5,10 +5,6 @@ use native.Mathlib.Omega.{arith}
 use Rattle.multi_charts.proofs.Charting.{Charting, charts-none, charts-gap, charts-run, charts-still, charts-some, charts-all}
 use Rattle.multi_charts.proofs.chart_row.Statement.{statement}
 use Rattle.multi_charts.proofs.chart_row.Tie as tie
-use Rattle.multi_charts.proofs.chart_row.Reads as reads
-use Rattle.multi_charts.proofs.chart_row.Lts as lts
-use Rattle.multi_charts.proofs.back.Reads as back-reads
-use Rattle.multi_charts.proofs.byte.Reads as byte-reads
 
 abbrev Inv-loop : tie.InvT-loop
 Inv-loop masks w i hop₀ a q₀ gap₀ hop q gap = Charting masks w i hop₀ hop q gap × (q ≤ w)
