@@ -9,7 +9,7 @@ use Rattle.tender.specs.declared.Tender.{Tender}
 use Rattle.tender.specs.declared.Refusal.the-variants.{OutsideLimits, TooMany, EmptyWindow, BidderRepeated, SeveralWindows}
 use Rattle.tender.specs.declared.Refusal.the-variants.{LateWindow}
 use Rattle.tender.specs.Limits.{within, isSingle}
-use Rattle.reader_word.specs.CutLaws.{neither}
+use Rattle.reader_parts.specs.CutLaws.{neither}
 use Rattle.reader_text.specs.Read.{lineFault, bidFaultIn}
 
 module _ (t : Tender) (bids bidder price count : ℕ) (empty late used : Bool) where

@@ -8,8 +8,8 @@ use lib.ListN.{length, drop, length-drop}
 use lib.Seq.{length-take-le}
 use Rattle.tender.specs.declared.Tender.{Tender}
 use Rattle.tender.specs.declared.Refusal.{Refusal}
-use Rattle.reader_word.specs.Words.{cut}
-use Rattle.reader_word.specs.Scan.{toNext, Ended}
+use Rattle.reader_parts.specs.Words.{cut}
+use Rattle.reader_parts.specs.Scan.{toNext, Ended}
 use Rattle.reader_line.specs.Line.{BidLine, Line, bid, lineOf, linesOf}
 use Rattle.reader_line.specs.LineFront.{firstLine}
 use Rattle.reader_line.specs.SizeLaws.{line-long}

@@ -10,9 +10,9 @@ use lib.Dec.{eqb}
 use Rattle.tender.specs.declared.Tender.{Tender}
 use Rattle.cells.specs.Cells.{cell, RangeAdded}
 use Rattle.reader_line.specs.Line.{TenderLine, BidLine, Line, tender, bid, reserve}
-use Rattle.reader_word.specs.declared.windows.Flaw.{Flaw}
-use Rattle.reader_word.specs.declared.windows.Flaw.the-variants.{Sound}
-use Rattle.reader_word.specs.Flaws.{flawOf, isEmpty, isLate}
+use Rattle.reader_parts.specs.declared.Flaw.{Flaw}
+use Rattle.reader_parts.specs.declared.Flaw.the-variants.{Sound}
+use Rattle.reader_parts.specs.Flaws.{flawOf, isEmpty, isLate}
 use Rattle.reader_line.specs.Tally.{putWindows, Tally, tally, tenderNote, bidNote, reserveNote, noted}
 use Rattle.tender.specs.declared.Refusal.{Refusal}
 use Rattle.tender.specs.declared.Refusal.the-variants.{BadForm, ReserveMisplaced}

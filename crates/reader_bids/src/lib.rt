@@ -8,12 +8,12 @@ ghost use Rattle.tender.specs.Limits.{within, maxPrice, maxBidder, maxBids, max
 ghost use Rattle.tender.specs.Tables.{bidTable, windowTable};
 ghost use Rattle.cells.specs.Cells.{cell};
 ghost use Rattle.numbers.specs.Members.{members};
-ghost use Rattle.reader_word.specs.Words.{cut};
-ghost use Rattle.reader_word.specs.Scan.{toNext, Ended};
+ghost use Rattle.reader_parts.specs.Words.{cut};
+ghost use Rattle.reader_parts.specs.Scan.{toNext, Ended};
 ghost use Rattle.reader_line.specs.Line.{lineOf, linesOf};
 ghost use Rattle.reader_line.specs.LineFront.{firstLine};
 ghost use Rattle.reader_line.specs.Answer.{Room};
-ghost use Rattle.reader_word.specs.Flaws.{isEmpty, isLate};
+ghost use Rattle.reader_parts.specs.Flaws.{isEmpty, isLate};
 ghost use Rattle.reader_text.specs.Read.{bidFaultIn};
 ghost use Rattle.reader_bids.specs.Steps.{faultAt, verdictOf, Taken, LinesFilled};
 
@@ -21,7 +21,7 @@ mod rows;
 
 use reader_line::line::Line;
 use reader_line::line::read_line;
-use reader_word::windows::Flaw;
+use reader_parts::Flaw;
 use rows::put_row;
 use tender::Kind;
 use tender::Refusal;

@@ -5,7 +5,7 @@ use mathlib.Core.List.{List, [], _∷_}
 use mathlib.Core.Option.{Option, none, some}
 use native.Mathlib.Omega.{arith}
 use lib.ListN.{length, drop, drop-of-length-le}
-use Rattle.reader_word.specs.Words.{cut}
+use Rattle.reader_parts.specs.Words.{cut}
 use Rattle.reader_line.specs.Line.{Line, tender, bid, reserve, linesOf}
 use Rattle.reader_line.specs.Tally.{Note, tenderNote, bidNote, reserveNote, noted}
 use Rattle.reader_line.specs.Answer.{headLine}

@@ -9,8 +9,8 @@ use lib.ListN.{length, getD, take, drop, take-append-drop, length-drop}
 use lib.Seq.{take-suc, drop-cons, append-snoc, getD-take, length-take-le}
 use lib.Dec.{ltb}
 use borrow.Author.Tests.{lt-ltb, le-ltb, ne-eqb}
-use Rattle.reader_word.specs.Words.{cut, among}
-use Rattle.reader_word.specs.Scan.{Ended}
+use Rattle.reader_parts.specs.Words.{cut, among}
+use Rattle.reader_parts.specs.Scan.{Ended}
 use Rattle.reader_line.specs.Line.{Line, linesOf}
 use Rattle.reader_line.specs.EndedLaws.{lines-rest, lines-none}
 use Rattle.reader_text.specs.Read.{refused, halted, headOf, readLines}

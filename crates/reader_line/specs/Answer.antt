@@ -7,9 +7,9 @@ use lib.ListN.{length, drop}
 use Rattle.tender.specs.declared.Window.{Window}
 use Rattle.tender.specs.Limits.{maxText}
 use Rattle.tender.specs.Tables.{windowTable}
-use Rattle.reader_word.specs.Scan.{toNext}
-use Rattle.reader_word.specs.Front.{Front, got, wrong, onward}
-use Rattle.reader_word.specs.declared.windows.Flaw.{Flaw}
+use Rattle.reader_parts.specs.Scan.{toNext}
+use Rattle.reader_parts.specs.Front.{Front, got, wrong, onward}
+use Rattle.reader_parts.specs.declared.Flaw.{Flaw}
 use Rattle.reader_line.specs.Line as said
 use Rattle.reader_line.specs.LineFront.{fronted}
 use Rattle.reader_line.specs.Tally.{Note, tenderNote, bidNote, reserveNote, noted}

@@ -8,10 +8,10 @@ use lib.ListN.{length, drop, length-drop}
 use Rattle.tender.specs.declared.Kind.{Kind}
 use Rattle.tender.specs.declared.Span.{Span}
 use Rattle.tender.specs.declared.Window.{Window}
-use Rattle.reader_word.specs.Scan.{toNext, Ended}
-use Rattle.reader_word.specs.Front.{Front, got, wrong, onward}
-use Rattle.reader_word.specs.declared.windows.Flaw.{Flaw}
-use Rattle.reader_word.specs.declared.windows.Flaw.the-variants.{Sound}
+use Rattle.reader_parts.specs.Scan.{toNext, Ended}
+use Rattle.reader_parts.specs.Front.{Front, got, wrong, onward}
+use Rattle.reader_parts.specs.declared.Flaw.{Flaw}
+use Rattle.reader_parts.specs.declared.Flaw.the-variants.{Sound}
 use Rattle.reader_line.specs.Line.{Line, tender, reserve, lineOf}
 use Rattle.reader_line.specs.LineFront.{firstLine, nextLines, fronted, lineFront}
 use Rattle.reader_line.specs.LineFrontLaws.{line-front}

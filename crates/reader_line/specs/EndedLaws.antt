@@ -6,10 +6,10 @@ use mathlib.Core.Bool.{false}
 use native.Mathlib.Omega.{arith}
 use lib.ListN.{length, take, drop, getD, length-drop}
 use lib.Seq.{getD-drop}
-use Rattle.reader_word.specs.Words.{cut, among}
-use Rattle.reader_word.specs.CutLaws.{cut-word, cut-append}
-use Rattle.reader_word.specs.Scan.{toNext, Ended}
-use Rattle.reader_word.specs.ScanLaws.{next-upto}
+use Rattle.reader_parts.specs.Words.{cut, among}
+use Rattle.reader_parts.specs.CutLaws.{cut-word, cut-append}
+use Rattle.reader_parts.specs.Scan.{toNext, Ended}
+use Rattle.reader_parts.specs.ScanLaws.{next-upto}
 use Rattle.reader_line.specs.Line.{lineOf, linesOf}
 use Rattle.reader_line.specs.LineFront.{firstLine}
 use Rattle.reader_line.specs.PiecesLaws.{lines-append, lines-at}

@@ -4,8 +4,8 @@ use mathlib.Core.List.{List}
 use Prim.Native.Nat.{ℕ, _+_, _<_}
 use native.Mathlib.Omega.{arith}
 use lib.ListN.{length, drop, getD}
-use Rattle.reader_word.specs.Front.{got, wrong}
-use Rattle.reader_word.specs.PlaceLaws.{past-at, past-not}
+use Rattle.reader_parts.specs.Front.{got, wrong}
+use Rattle.reader_parts.specs.PlaceLaws.{past-at, past-not}
 use Rattle.reader_line.specs.LineFront.{ending}
 
 module _ {A : Type 0} (s : List ℕ) (i : ℕ) (h : i < length s) where

@@ -12,14 +12,14 @@ use Rattle.tender.specs.declared.Kind.{Kind}
 use Rattle.tender.specs.declared.Kind.the-variants.{Single, Multi}
 use Rattle.tender.specs.declared.Span.{Span}
 use Rattle.tender.specs.Keywords.{bytes, singleWord, multiWord}
-use Rattle.reader_word.specs.Words.{andThen, sameBytes, closed, priceOf}
-use Rattle.reader_word.specs.Windows.{spanOf}
-use Rattle.reader_word.specs.Front.{Front, got, wrong, onward, past, priceFront, spanFront}
-use Rattle.reader_word.specs.FrontLaws.{onward-got, past-got}
-use Rattle.reader_word.specs.GivenLaws.{then-some, same-is, closed-some, closed-back}
-use Rattle.reader_word.specs.RejoinedLaws.{rejoined}
-use Rattle.reader_word.specs.PriceFrontLaws.{price-read, price-from}
-use Rattle.reader_word.specs.WindowFrontLaws.{span-read, span-from}
+use Rattle.reader_parts.specs.Words.{andThen, sameBytes, closed, priceOf}
+use Rattle.reader_parts.specs.Windows.{spanOf}
+use Rattle.reader_parts.specs.Front.{Front, got, wrong, onward, past, priceFront, spanFront}
+use Rattle.reader_parts.specs.FrontLaws.{onward-got, past-got}
+use Rattle.reader_parts.specs.GivenLaws.{then-some, same-is, closed-some, closed-back}
+use Rattle.reader_parts.specs.RejoinedLaws.{rejoined}
+use Rattle.reader_parts.specs.PriceFrontLaws.{price-read, price-from}
+use Rattle.reader_parts.specs.WindowFrontLaws.{span-read, span-from}
 use Rattle.reader_line.specs.Line.{Line, tender, reserve, kindOf, tenderOf, reserveOf}
 use Rattle.reader_line.specs.LineFront.{ending, reserveFront, afterWord, kindFront, tenderFront}
 use Rattle.reader_line.specs.WindowsFrontLaws.{LineLed, last-bytes, ending-got}

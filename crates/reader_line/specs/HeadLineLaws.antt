@@ -10,9 +10,9 @@ use lib.Dec.{eqb}
 use Rattle.tender.specs.declared.Kind.{Kind}
 use Rattle.tender.specs.declared.Kind.the-variants.{Single, Multi}
 use Rattle.tender.specs.Keywords.{bytes, tenderWord, bidWord, reserveWord, singleWord, multiWord}
-use Rattle.reader_word.specs.Scan.{startsWith, Ended}
-use Rattle.reader_word.specs.StartsLaws.{other-start}
-use Rattle.reader_word.specs.Front.{Front, got, wrong, onward, past, numberFront, priceFront, spanFront}
+use Rattle.reader_parts.specs.Scan.{startsWith, Ended}
+use Rattle.reader_parts.specs.StartsLaws.{other-start}
+use Rattle.reader_parts.specs.Front.{Front, got, wrong, onward, past, numberFront, priceFront, spanFront}
 use Rattle.reader_line.specs.Line.{Line, lineOf}
 use Rattle.reader_line.specs.LineFront.{firstLine, nextLines, fronted, ending, windowsFront, bidFront, reserveFront, afterWord}
 use Rattle.reader_line.specs.LineFront.{kindFront, tenderFront, lineFront}

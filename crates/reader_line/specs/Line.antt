@@ -11,8 +11,8 @@ use Rattle.tender.specs.declared.Reserve.{Reserve}
 use Rattle.tender.specs.declared.Reserve.the-variants.{Absent, Price}
 use Rattle.tender.specs.declared.Tender.{Tender}
 use Rattle.tender.specs.Keywords.{bidWord, multiWord, reserveWord, singleWord, tenderWord}
-use Rattle.reader_word.specs.Words.{andThen, cut, sameBytes, closed, numeralOf, priceOf}
-use Rattle.reader_word.specs.Windows.{spanOf, windowOf}
+use Rattle.reader_parts.specs.Words.{andThen, cut, sameBytes, closed, numeralOf, priceOf}
+use Rattle.reader_parts.specs.Windows.{spanOf, windowOf}
 
 pub record TenderLine : Type 0 where
   pub kind : Kind

@@ -10,8 +10,8 @@ use Rattle.tender.specs.declared.Kind.{Kind}
 use Rattle.tender.specs.declared.Kind.the-variants.{Single, Multi}
 use Rattle.tender.specs.declared.Window.{Window}
 use Rattle.tender.specs.Keywords.{tenderWord, bidWord, reserveWord, singleWord, multiWord}
-use Rattle.reader_word.specs.Scan.{toNext}
-use Rattle.reader_word.specs.Front.{Front, got, wrong, onward, past, fork, numberFront, priceFront, spanFront, windowFront}
+use Rattle.reader_parts.specs.Scan.{toNext}
+use Rattle.reader_parts.specs.Front.{Front, got, wrong, onward, past, fork, numberFront, priceFront, spanFront, windowFront}
 use Rattle.reader_line.specs.Line.{Line, tender, bid, reserve}
 
 -- the bytes before the first byte 10, and those after it

@@ -11,15 +11,15 @@ use lib.ListN.{length, take}
 use lib.Seq.{take-append-seam}
 use Rattle.tender.specs.declared.Window.{Window}
 use Rattle.tender.specs.Keywords.{bytes, tenderWord, bidWord, reserveWord}
-use Rattle.reader_word.specs.Words.{andThen, cut, sameBytes, numeralOf, priceOf}
-use Rattle.reader_word.specs.Scan.{toNext}
-use Rattle.reader_word.specs.Front.{Front, got, wrong, onward, past, numberFront, priceFront}
-use Rattle.reader_word.specs.FrontLaws.{onward-got, past-got}
-use Rattle.reader_word.specs.GivenLaws.{then-some, same-is}
-use Rattle.reader_word.specs.RejoinedLaws.{rejoined, rejoined-cut, cut-rejoined, rejoined-among}
-use Rattle.reader_word.specs.ScanLaws.{next-split, next-after}
-use Rattle.reader_word.specs.NumberFrontLaws.{number-read, number-from}
-use Rattle.reader_word.specs.PriceFrontLaws.{price-read, price-from}
+use Rattle.reader_parts.specs.Words.{andThen, cut, sameBytes, numeralOf, priceOf}
+use Rattle.reader_parts.specs.Scan.{toNext}
+use Rattle.reader_parts.specs.Front.{Front, got, wrong, onward, past, numberFront, priceFront}
+use Rattle.reader_parts.specs.FrontLaws.{onward-got, past-got}
+use Rattle.reader_parts.specs.GivenLaws.{then-some, same-is}
+use Rattle.reader_parts.specs.RejoinedLaws.{rejoined, rejoined-cut, cut-rejoined, rejoined-among}
+use Rattle.reader_parts.specs.ScanLaws.{next-split, next-after}
+use Rattle.reader_parts.specs.NumberFrontLaws.{number-read, number-from}
+use Rattle.reader_parts.specs.PriceFrontLaws.{price-read, price-from}
 use Rattle.reader_line.specs.Line.{Line, bid, windowsIn, tenderOf, bidOf, reserveOf, lineOfWords, lineOf}
 use Rattle.reader_line.specs.LineFront.{firstLine, nextLines, fronted, windowsFront, bidFront, reserveFront, afterWord}
 use Rattle.reader_line.specs.LineFront.{tenderFront, lineFront}

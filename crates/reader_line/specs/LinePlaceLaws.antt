@@ -12,12 +12,12 @@ use Rattle.tender.specs.declared.Kind.{Kind}
 use Rattle.tender.specs.declared.Kind.the-variants.{Single, Multi}
 use Rattle.tender.specs.declared.Span.{Span}
 use Rattle.tender.specs.Keywords.{bytes, tenderWord, bidWord, reserveWord, singleWord, multiWord}
-use Rattle.reader_word.specs.Scan.{startsWith}
-use Rattle.reader_word.specs.ScanLaws.{drop-next}
-use Rattle.reader_word.specs.StartsLaws.{other-start}
-use Rattle.reader_word.specs.Front.{Front, got, wrong, onward, numberFront, priceFront, spanFront}
-use Rattle.reader_word.specs.PlaceLaws.{past-at, past-not}
-use Rattle.reader_word.specs.Answer.{ReadAt}
+use Rattle.reader_parts.specs.Scan.{startsWith}
+use Rattle.reader_parts.specs.ScanLaws.{drop-next}
+use Rattle.reader_parts.specs.StartsLaws.{other-start}
+use Rattle.reader_parts.specs.Front.{Front, got, wrong, onward, numberFront, priceFront, spanFront}
+use Rattle.reader_parts.specs.PlaceLaws.{past-at, past-not}
+use Rattle.reader_parts.specs.Answer.{ReadAt}
 use Rattle.reader_line.specs.Line.{tender, reserve}
 use Rattle.reader_line.specs.LineFront.{windowsFront, bidFront, reserveFront, afterWord, kindFront, tenderFront, lineFront}
 use Rattle.reader_line.specs.Answer.{withWindows}

@@ -5,10 +5,10 @@ use mathlib.Core.Option.{Option}
 use Prim.Native.Nat.{ℕ, _+_, _-_, _≤_, _<_}
 use native.Mathlib.Omega.{arith}
 use lib.ListN.{length, take, drop, drop-of-length-le}
-use Rattle.reader_word.specs.Words.{cut}
-use Rattle.reader_word.specs.CutLaws.{cut-some}
-use Rattle.reader_word.specs.Scan.{toNext}
-use Rattle.reader_word.specs.ScanLaws.{cut-at}
+use Rattle.reader_parts.specs.Words.{cut}
+use Rattle.reader_parts.specs.CutLaws.{cut-some}
+use Rattle.reader_parts.specs.Scan.{toNext}
+use Rattle.reader_parts.specs.ScanLaws.{cut-at}
 use Rattle.reader_line.specs.Line.{Line, lineOf, linesOf}
 
 -- the pieces before some other are lines

@@ -7,9 +7,9 @@ use lib.ListN.{length, set}
 use Rattle.tender.specs.declared.Window.{Window}
 use Rattle.tender.specs.Tables.{windowWidth}
 use Rattle.reader_line.specs.Line.{TenderLine, Line, tender, bid, reserve}
-use Rattle.reader_word.specs.Flaws.{flawOf, worst}
-use Rattle.reader_word.specs.declared.windows.Flaw.{Flaw}
-use Rattle.reader_word.specs.declared.windows.Flaw.the-variants.{Sound}
+use Rattle.reader_parts.specs.Flaws.{flawOf, worst}
+use Rattle.reader_parts.specs.declared.Flaw.{Flaw}
+use Rattle.reader_parts.specs.declared.Flaw.the-variants.{Sound}
 
 -- the window in row m
 unfoldable pub putWindow : List ℕ → ℕ → Window → List ℕ

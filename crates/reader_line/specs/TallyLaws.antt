@@ -7,12 +7,12 @@ use lib.ListN.{length, take, drop, getD, set}
 use lib.Seq.{take-set-le}
 use Rattle.tender.specs.declared.Window.{Window}
 use Rattle.tender.specs.Tables.{windowWidth}
-use Rattle.reader_word.specs.Flaws.{flawIn, worst}
-use Rattle.reader_word.specs.FlawLaws.{worst-more, worst-last}
-use Rattle.reader_word.specs.declared.windows.Flaw.{Flaw}
-use Rattle.reader_word.specs.Front.{Front, got, wrong, onward, fork, windowFront}
-use Rattle.reader_word.specs.Answer.{ReadAt}
-use Rattle.reader_word.specs.PlaceLaws.{fork-here, fork-other}
+use Rattle.reader_parts.specs.Flaws.{flawIn, worst}
+use Rattle.reader_parts.specs.FlawLaws.{worst-more, worst-last}
+use Rattle.reader_parts.specs.declared.Flaw.{Flaw}
+use Rattle.reader_parts.specs.Front.{Front, got, wrong, onward, fork, windowFront}
+use Rattle.reader_parts.specs.Answer.{ReadAt}
+use Rattle.reader_parts.specs.PlaceLaws.{fork-here, fork-other}
 use Rattle.reader_line.specs.LineFront.{ending, windowsFront}
 use Rattle.reader_line.specs.WindowsFrontLaws.{windows-step}
 use Rattle.reader_line.specs.EndingLaws.{ending-whole, ending-unended}

@@ -9,13 +9,13 @@ use native.Mathlib.Omega.{arith}
 use lib.ListN.{length}
 use lib.Dec.{eqb}
 use Rattle.tender.specs.declared.Window.{Window}
-use Rattle.reader_word.specs.Words.{andThen, closed}
-use Rattle.reader_word.specs.Windows.{windowOf}
-use Rattle.reader_word.specs.Front.{Front, got, wrong, onward, past, fork, windowFront}
-use Rattle.reader_word.specs.FrontLaws.{Shorter, window-shorter, onward-got, past-got}
-use Rattle.reader_word.specs.GivenLaws.{then-some, closed-some, closed-back}
-use Rattle.reader_word.specs.RejoinedLaws.{rejoined}
-use Rattle.reader_word.specs.WindowFrontLaws.{WindowLed, window-read, window-from}
+use Rattle.reader_parts.specs.Words.{andThen, closed}
+use Rattle.reader_parts.specs.Windows.{windowOf}
+use Rattle.reader_parts.specs.Front.{Front, got, wrong, onward, past, fork, windowFront}
+use Rattle.reader_parts.specs.FrontLaws.{Shorter, window-shorter, onward-got, past-got}
+use Rattle.reader_parts.specs.GivenLaws.{then-some, closed-some, closed-back}
+use Rattle.reader_parts.specs.RejoinedLaws.{rejoined}
+use Rattle.reader_parts.specs.WindowFrontLaws.{WindowLed, window-read, window-from}
 use Rattle.reader_line.specs.Line.{windowsIn}
 use Rattle.reader_line.specs.LineFront.{ending, windowsWithin, windowsFront}
 

@@ -11,13 +11,13 @@ use Rattle.tender.specs.declared.Kind.{Kind}
 use Rattle.tender.specs.declared.Kind.the-variants.{Single, Multi}
 use Rattle.tender.specs.declared.Window.{Window}
 use Rattle.tender.specs.Keywords.{bytes, tenderWord, bidWord, reserveWord, singleWord, multiWord}
-use Rattle.reader_word.specs.Words.{among, sameBytes, closed, numeralOf, priceOf}
-use Rattle.reader_word.specs.Windows.{spanOf, windowOf}
-use Rattle.reader_word.specs.GivenLaws.{both-true, then-some, same-is}
-use Rattle.reader_word.specs.RejoinedLaws.{Without}
-use Rattle.reader_word.specs.NumberFrontLaws.{number-without}
-use Rattle.reader_word.specs.PriceFrontLaws.{price-without}
-use Rattle.reader_word.specs.WindowFrontLaws.{span-without, closed-without, window-without}
+use Rattle.reader_parts.specs.Words.{among, sameBytes, closed, numeralOf, priceOf}
+use Rattle.reader_parts.specs.Windows.{spanOf, windowOf}
+use Rattle.reader_parts.specs.GivenLaws.{both-true, then-some, same-is}
+use Rattle.reader_parts.specs.RejoinedLaws.{Without}
+use Rattle.reader_parts.specs.NumberFrontLaws.{number-without}
+use Rattle.reader_parts.specs.PriceFrontLaws.{price-without}
+use Rattle.reader_parts.specs.WindowFrontLaws.{span-without, closed-without, window-without}
 use Rattle.reader_line.specs.Line.{Line, kindOf, windowsIn, tenderOf, bidOf, reserveOf, lineOfWords}
 
 -- each byte is a bracket or above

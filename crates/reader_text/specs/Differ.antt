@@ -8,7 +8,7 @@ use Rattle.tender.specs.declared.Window.{Window}
 use Rattle.tender.specs.declared.Tender.{Tender}
 use Rattle.tender.specs.Keywords.{bidWord}
 use Rattle.tender.specs.Tables.{Row}
-use Rattle.reader_word.specs.Words.{among, numeralOf, priceOf}
+use Rattle.reader_parts.specs.Words.{among, numeralOf, priceOf}
 
 -- a bid's line up to its price, the price, and a space before what follows
 unfoldable pub bidLine : List ℕ → List ℕ → List ℕ → List ℕ

@@ -5,7 +5,7 @@ use Prim.Native.Nat.{ℕ, _≤_}
 use lib.ListN.{length}
 use Rattle.tender.specs.Keywords.{reserveWord}
 use Rattle.tender.specs.Limits.{maxText}
-use Rattle.reader_word.specs.Words.{cut, priceOf}
+use Rattle.reader_parts.specs.Words.{cut, priceOf}
 use Rattle.reader_text.specs.Differ.{bidLine, Word}
 
 -- the reserve's line, its price written as the word p

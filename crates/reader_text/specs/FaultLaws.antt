@@ -12,10 +12,10 @@ use Rattle.reader_line.specs.Line.{TenderLine}
 use Rattle.tender.specs.declared.Refusal.{Refusal}
 use Rattle.tender.specs.declared.Refusal.the-variants.{EmptyWindow, LateWindow}
 use Rattle.tender.specs.Limits.{asWindow, ordered, early, lawful, lawfulReserve, soundTender, every}
-use Rattle.reader_word.specs.GivenLaws.{both-true as and-split}
-use Rattle.reader_word.specs.declared.windows.Flaw.{Flaw}
-use Rattle.reader_word.specs.declared.windows.Flaw.the-variants.{Empty, Late, Sound}
-use Rattle.reader_word.specs.Flaws.{flawBy, flawIn, flawOf, isEmpty, isLate}
+use Rattle.reader_parts.specs.GivenLaws.{both-true as and-split}
+use Rattle.reader_parts.specs.declared.Flaw.{Flaw}
+use Rattle.reader_parts.specs.declared.Flaw.the-variants.{Empty, Late, Sound}
+use Rattle.reader_parts.specs.Flaws.{flawBy, flawIn, flawOf, isEmpty, isLate}
 use Rattle.reader_text.specs.Read.{lineFault, tenderFault, bidFaultIn, tenderWith}
 
 -- windows are lawful where none is empty and none is late

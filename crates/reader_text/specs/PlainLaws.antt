@@ -7,12 +7,12 @@ use Prim.Native.Nat.{ℕ}
 use Rattle.tender.specs.declared.Window.{Window}
 use Rattle.tender.specs.declared.Tender.{Tender}
 use Rattle.tender.specs.Tables.{Row}
-use Rattle.reader_word.specs.Words.{cut}
+use Rattle.reader_parts.specs.Words.{cut}
 use Rattle.reader_line.specs.LinePlain.{plain, allPlain}
 use Rattle.reader_line.specs.LinePlainLaws.{PlainPieces, cut-plain, line-plain}
 use Rattle.reader_line.specs.Line.{Line, lineOf, linesOf}
 use Rattle.reader_text.specs.Read.{accepted, readLines, readText}
-use Rattle.reader_word.specs.CutLaws.{Pieces, cut-some}
+use Rattle.reader_parts.specs.CutLaws.{Pieces, cut-some}
 use Rattle.reader_text.specs.ReadLaws.{read-lines}
 use Rattle.reader_text.specs.HeadLaws.{AllRead, accepted-head, accepted-read}
 

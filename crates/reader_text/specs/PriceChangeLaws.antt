@@ -11,12 +11,12 @@ use borrow.Author.Tests.{le-ltb}
 use Rattle.tender.specs.declared.Window.{Window}
 use Rattle.tender.specs.declared.Tender.{Tender}
 use Rattle.tender.specs.Tables.{Row}
-use Rattle.reader_word.specs.Words.{andThen, cut, numeralOf, priceOf}
+use Rattle.reader_parts.specs.Words.{andThen, cut, numeralOf, priceOf}
 use Rattle.reader_line.specs.Line.{BidLine, Line, tender, bid, reserve, windowsIn, bidOf, lineOf, linesOf}
 use Rattle.reader_text.specs.Read.{ReadOutcome, accepted, rowsFrom, allWindows, bidsOf, lineFault, bidFaultIn, bidFaultAfter}
 use Rattle.reader_text.specs.Read.{bidFault}
 use Rattle.reader_text.specs.Read.{checked, tables, readLines, readText}
-use Rattle.reader_word.specs.CutLaws.{Pieces, cut-some}
+use Rattle.reader_parts.specs.CutLaws.{Pieces, cut-some}
 use Rattle.reader_text.specs.HeadLaws.{lines-begun}
 use Rattle.reader_text.specs.ReadLaws.{never, judged-out}
 use Rattle.reader_text.specs.Differ.{bidLine, Word, DifferInPrice, RowsDifferInPrice}

@@ -14,7 +14,7 @@ use Rattle.tender.specs.declared.Refusal.the-variants.{TextTooLong, BadForm, Ou
 use Rattle.tender.specs.declared.Refusal.the-variants.{SeveralWindows, TableTooShort, LateWindow, ReserveMisplaced}
 use Rattle.tender.specs.Limits.{asWindow, within, maxPrice, maxBidder, maxBids, maxWindows, maxText, isSingle, ordered, early, every}
 use Rattle.tender.specs.Tables.{Row}
-use Rattle.reader_word.specs.Words.{cut, among}
+use Rattle.reader_parts.specs.Words.{cut, among}
 use Rattle.reader_line.specs.Line.{TenderLine, BidLine, Line, tender, bid, reserve, linesOf}
 
 pub data ReadOutcome : Type 0 where

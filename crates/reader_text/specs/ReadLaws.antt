@@ -10,7 +10,7 @@ use lib.Dec.{ltb}
 use Rattle.tender.specs.declared.Window.{Window}
 use Rattle.tender.specs.declared.Tender.{Tender}
 use Rattle.tender.specs.Tables.{Row}
-use Rattle.reader_word.specs.Words.{cut}
+use Rattle.reader_parts.specs.Words.{cut}
 use Rattle.reader_line.specs.Line.{Line, tender, bid, reserve, linesOf}
 use Rattle.tender.specs.declared.Refusal.{Refusal}
 use Rattle.tender.specs.declared.Refusal.the-variants.{TextTooLong}

@@ -11,7 +11,7 @@ use Rattle.tender.specs.declared.Window.{Window}
 use Rattle.tender.specs.declared.Tender.{Tender}
 use Rattle.tender.specs.Tables.{Row}
 use Rattle.tender.specs.Rules.{WindowRules, TenderRules}
-use Rattle.reader_word.specs.Words.{among}
+use Rattle.reader_parts.specs.Words.{among}
 
 -- a row after rows with the bidder numbers `used`, whose windows end at `at`
 pub record RowRules (k : Kind) (used : List ℕ) (at : ℕ) (r : Row) : Type 0 where

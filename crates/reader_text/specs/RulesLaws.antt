@@ -18,11 +18,11 @@ use Rattle.tender.specs.declared.Tender.{Tender}
 use Rattle.tender.specs.Limits.{isSingle, lawful, soundTender, within, ordered, early, every}
 use Rattle.tender.specs.RulesLaws.{lawful-rules, every-split, sound-rules}
 use Rattle.tender.specs.Tables.{Row}
-use Rattle.reader_word.specs.Words.{andThen, cut, among, sameBytes, closed, numeralOf, priceOf}
+use Rattle.reader_parts.specs.Words.{andThen, cut, among, sameBytes, closed, numeralOf, priceOf}
 use Rattle.reader_line.specs.Line.{BidLine, Line, tender, bid, reserve, kindOf, windowsIn, tenderOf, bidOf, reserveOf, lineOfWords}
-use Rattle.reader_word.specs.Windows.{spanOf, windowOf}
+use Rattle.reader_parts.specs.Windows.{spanOf, windowOf}
 use Rattle.reader_line.specs.Line.{headLines, lineOf, linesOf}
-use Rattle.reader_word.specs.GivenLaws.{both-true as and-split}
+use Rattle.reader_parts.specs.GivenLaws.{both-true as and-split}
 use Rattle.tender.specs.declared.Refusal.{Refusal}
 use Rattle.tender.specs.declared.Refusal.the-variants.{OutsideLimits, TooMany, EmptyWindow, BidderRepeated, SeveralWindows}
 use Rattle.tender.specs.declared.Refusal.the-variants.{LateWindow}
@@ -30,7 +30,7 @@ use Rattle.reader_text.specs.Read.{ReadOutcome, accepted, rowsFrom, allW
 use Rattle.reader_text.specs.Read.{bidFault}
 use Rattle.reader_text.specs.Read.{checked, tables, readText}
 use Rattle.reader_text.specs.FaultLaws.{every-lawful}
-use Rattle.reader_word.specs.CutLaws.{neither}
+use Rattle.reader_parts.specs.CutLaws.{neither}
 use Rattle.reader_text.specs.ReadLaws.{never, read-lines, judged-out}
 use Rattle.reader_text.specs.HeadLaws.{head-is, accepted-head}
 use Rattle.reader_text.specs.Rules.{RowsRules, WindowsRules, Rules}

@@ -4,9 +4,9 @@ use mathlib.Core.List.{List, [], _∷_, _++_}
 use mathlib.Core.Option.{some}
 use Prim.Native.Nat.{ℕ}
 use Rattle.tender.specs.Keywords.{bytes, tenderWord, reserveWord, bidWord}
-use Rattle.reader_word.specs.Words.{andThen, cut, among, sameBytes, priceOf}
-use Rattle.reader_word.specs.GivenLaws.{closed-back}
-use Rattle.reader_word.specs.RejoinedLaws.{rejoined, among-append, cut-rejoined}
+use Rattle.reader_parts.specs.Words.{andThen, cut, among, sameBytes, priceOf}
+use Rattle.reader_parts.specs.GivenLaws.{closed-back}
+use Rattle.reader_parts.specs.RejoinedLaws.{rejoined, among-append, cut-rejoined}
 use Rattle.reader_line.specs.Line.{reserve, bidOf, reserveOf, lineOfWords, lineOf, linesOf}
 use Rattle.reader_text.specs.Read.{readLines, readText}
 use Rattle.reader_text.specs.Differ.{bidLine, Word}

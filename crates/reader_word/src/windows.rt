@@ -2,18 +2,14 @@
 ghost use mathlib.Core.Path.{_≡_};
 ghost use Prim.Native.Nat.{_<_};
 ghost use lib.ListN.{drop, length};
-ghost use Rattle.reader_word.specs.Scan.{Ended};
-ghost use Rattle.reader_word.specs.Front.{spanFront, windowFront};
-ghost use Rattle.reader_word.specs.Flaws.{flawIn, worst};
-ghost use Rattle.reader_word.specs.Answer.{SpanIs, WindowIs};
-use crate::words::Number;
+ghost use Rattle.reader_parts.specs.Scan.{Ended};
+ghost use Rattle.reader_parts.specs.Front.{spanFront, windowFront};
+ghost use Rattle.reader_parts.specs.Flaws.{flawIn, worst};
+ghost use Rattle.reader_parts.specs.Answer.{SpanIs, WindowIs};
 use crate::words::read_number;
-
-// Two numbers and the place past them and their bracket.
-pub enum Ends {
-    Of(u64, u64, usize),
-    Wrong,
-}
+use reader_parts::Ends;
+use reader_parts::Flaw;
+use reader_parts::Number;
 
 // "S E)" from `at` on.
 pub fn read_span(s: &[u8], at: usize) -> Ends
@@ -47,13 +43,6 @@ pub fn read_window(s: &[u8], at: usize) -> Ends
         return Ends::Wrong;
     }
     read_span(s, at + 2)
-}
-
-// What is wrong with windows: some start is not below its end; or else some end is past the week; or nothing.
-pub enum Flaw {
-    Empty,
-    Late,
-    Sound,
 }
 
 // What is wrong with the window from a to z.

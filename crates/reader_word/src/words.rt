@@ -5,9 +5,10 @@ ghost use mathlib.Core.Bool.{true};
 ghost use mathlib.Core.List.{[], _∷_, _++_};
 ghost use Prim.Native.Nat.{_+_, _<_};
 ghost use lib.ListN.{drop, getD, length};
-ghost use Rattle.reader_word.specs.Scan.{Ended, lettered, startsWith};
-ghost use Rattle.reader_word.specs.Front.{digitFront, digitsFront, centsFront, numberFront, priceFront};
-ghost use Rattle.reader_word.specs.Answer.{NumberIs};
+ghost use Rattle.reader_parts.specs.Scan.{Ended, lettered, startsWith};
+ghost use Rattle.reader_parts.specs.Front.{digitFront, digitsFront, centsFront, numberFront, priceFront};
+ghost use Rattle.reader_parts.specs.Answer.{NumberIs};
+use reader_parts::Number;
 
 fn wide(x: u8) -> u64
     ensures { λ r. ⌜ r ≡ x ⌝ }
@@ -37,12 +38,6 @@ pub fn stands(s: &[u8], at: usize, word: &[u8]) -> bool
         }
     }
     s[at + i] == b' '
-}
-
-// A number and the place past it.
-pub enum Number {
-    Of(u64, usize),
-    Bad,
 }
 
 // The digits from `at` on, after those of value `first`, nine in all: nine without a leading zero make 100,000,000 at least.

@@ -10,8 +10,8 @@ use lib.ListN.{length}
 use lib.Dec.{leb, ltb}
 use borrow.Author.Tests.{ltb-true, ltb-false, le-leb, lt-ltb, le-ltb, leb-true, ne-eqb, eqb-false, not-true}
 use Rattle.tender.specs.Limits.{within}
-use Rattle.reader_word.specs.Words.{among, digits, leadingZero, numeralOf}
-use Rattle.reader_word.specs.GivenLaws.{both-true as and-split}
+use Rattle.reader_parts.specs.Words.{among, digits, leadingZero, numeralOf}
+use Rattle.reader_parts.specs.GivenLaws.{both-true as and-split}
 use Rattle.spelling.specs.Decimal.{digitsBefore, decimal}
 
 -- a digit

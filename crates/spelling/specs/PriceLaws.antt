@@ -7,12 +7,12 @@ use Prim.Native.Nat.{ℕ, suc, _+_, _-_, _*_, _/_, _%_, _^_, _≤_, _<_}
 use native.Mathlib.Nat.{pow-suc}
 use native.Mathlib.Omega.{arith}
 use lib.ListN.{length, length-append}
-use Rattle.reader_word.specs.Words.{digits, priceOf}
-use Rattle.reader_word.specs.DigitsLaws.{inside}
-use Rattle.reader_word.specs.NumberFrontLaws.{within-both}
-use Rattle.reader_word.specs.NumberSizeLaws.{number-below, number-most, number-small}
-use Rattle.reader_word.specs.PriceFormLaws.{Pointed, PriceForm, plainly, pointed, price-form, price-plainly, price-pointed}
-use Rattle.reader_word.specs.PriceFormLaws.{Cents, two-cents, cents-two}
+use Rattle.reader_parts.specs.Words.{digits, priceOf}
+use Rattle.reader_parts.specs.DigitsLaws.{inside}
+use Rattle.reader_parts.specs.NumberFrontLaws.{within-both}
+use Rattle.reader_parts.specs.NumberSizeLaws.{number-below, number-most, number-small}
+use Rattle.reader_parts.specs.PriceFormLaws.{Pointed, PriceForm, plainly, pointed, price-form, price-plainly, price-pointed}
+use Rattle.reader_parts.specs.PriceFormLaws.{Cents, two-cents, cents-two}
 use Rattle.spelling.specs.Decimal.{decimal, withPoint}
 use Rattle.spelling.specs.DecimalLaws.{decimal-few, numeral-decimal, numeral-spelling}
 

@@ -10,11 +10,11 @@ use Rattle.tender.specs.declared.Window.{Window}
 use Rattle.tender.specs.Limits.{asWindow}
 use Rattle.tender.specs.declared.Tender.{Tender}
 use Rattle.tender.specs.Keywords.{bytes, tenderWord, bidWord}
-use Rattle.reader_word.specs.Words.{andThen, among, opened}
-use Rattle.reader_word.specs.Windows.{spanOf, windowOf}
+use Rattle.reader_parts.specs.Words.{andThen, among, opened}
+use Rattle.reader_parts.specs.Windows.{spanOf, windowOf}
 use Rattle.reader_line.specs.Line.{windowsIn}
-use Rattle.reader_word.specs.GivenLaws.{closed-back}
-use Rattle.reader_word.specs.RejoinedLaws.{rejoined, Without, among-append}
+use Rattle.reader_parts.specs.GivenLaws.{closed-back}
+use Rattle.reader_parts.specs.RejoinedLaws.{rejoined, Without, among-append}
 use Rattle.spelling.specs.Decimal.{decimal}
 use Rattle.spelling.specs.Lines.{closing, numbers, oneLineAs, kindWord}
 use Rattle.spelling.specs.Text.{windowText, windowsText, bidTextAs, tenderText}

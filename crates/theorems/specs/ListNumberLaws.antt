@@ -18,7 +18,7 @@ use Rattle.tender.specs.Refusals.{numberOf, placeOf}
 use Rattle.tender.specs.Keywords.{bytes}
 use Rattle.tender.specs.Tables.{Row, flatRows, flatWindows}
 use Rattle.cover.specs.Sets.{Found, nothing, found}
-use Rattle.reader_word.specs.Words.{among}
+use Rattle.reader_parts.specs.Words.{among}
 use Rattle.reader_text.specs.Read.{readText}
 use Rattle.reader_text.specs.Read as reading
 use Rattle.reader_text.specs.Rules.{Rules}

@@ -5,7 +5,7 @@ use mathlib.Core.Option.{Option, none, some}
 use Prim.Native.Nat.{ℕ}
 use lib.ListN.{getD}
 use Rattle.tender.specs.declared.AwardRow.{AwardRow}
-use Rattle.reader_word.specs.Words.{andThen, cut, sameBytes, closed, digits}
+use Rattle.reader_parts.specs.Words.{andThen, cut, sameBytes, closed, digits}
 use Rattle.award_outcome.specs.Gain.{lost}
 use Rattle.spelling.specs.Decimal.{decimal}
 use Rattle.listing_text.specs.Lines.{winWord}

@@ -19,7 +19,7 @@ use Rattle.cover.specs.LeastCover.{winners, without, payment, vcgPaid}
 use Rattle.cover.specs.Greedy.{wins}
 use Rattle.cover.specs.CriticalPrice.{largest, sum, ceiling, winsAt, critical, criticalPaid}
 use Rattle.cover.specs.Intervals.BidsLaws.{cost-most, sum-most}
-use Rattle.reader_word.specs.Words.{among}
+use Rattle.reader_parts.specs.Words.{among}
 use Rattle.reader_text.specs.Rules.{RowsRules, Rules}
 use Rattle.award_check.specs.Cells.{noRow}
 use Rattle.award_check.specs.Auction.{houses, Auction, auctionOf}

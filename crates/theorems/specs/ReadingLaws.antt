@@ -22,7 +22,7 @@ use Rattle.tender.specs.declared.Refusal.the-variants.{SeveralWindows, TableToo
 use Rattle.tender.specs.Limits.{asWindow, week, within, isSingle, ordered, early, every, lawfulReserve}
 use Rattle.tender.specs.Refusals.{numberOf}
 use Rattle.tender.specs.Tables.{Row, bidWidth, windowWidth}
-use Rattle.reader_word.specs.Words.{cut, among}
+use Rattle.reader_parts.specs.Words.{cut, among}
 use Rattle.reader_line.specs.Line.{TenderLine, BidLine, Line, tender, bid, reserve, tenderLine, reserveLines, headLines, linesOf}
 use Rattle.reader_text.specs.Read.{ReadOutcome, accepted, refused, rowsFrom, allWindows, bidsOf, lineFault, tenderFault}
 use Rattle.reader_text.specs.Read.{bidFaultIn, bidFaultAfter, bidFault, judgedBy, checked, tables, tenderWith, reserveIn}

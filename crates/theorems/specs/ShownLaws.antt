@@ -19,8 +19,8 @@ use Rattle.tender.specs.declared.Refusal.{Refusal}
 use Rattle.tender.specs.Refusals.{numberOf, placeOf}
 use Rattle.tender.specs.Keywords.{bytes, singleWord, multiWord}
 use Rattle.tender.specs.Tables.{Row}
-use Rattle.reader_word.specs.Words.{andThen, growFirst, cut, among, sameBytes, closed, digits}
-use Rattle.reader_word.specs.CutLaws.{cut-end}
+use Rattle.reader_parts.specs.Words.{andThen, growFirst, cut, among, sameBytes, closed, digits}
+use Rattle.reader_parts.specs.CutLaws.{cut-end}
 use Rattle.award_check.specs.Cells.{noRow}
 use Rattle.award_plain.specs.Award.{awarded}
 use Rattle.award_outcome.specs.Gain.{lost}
@@ -30,7 +30,7 @@ use Rattle.spelling.specs.LineLaws.{refused-line}
 use Rattle.listing_text.specs.Lines.{awardWord, winWord, houseWord, totalWord, awardLine, houseLine, lastLines}
 use Rattle.listing_text.specs.List.{winList, listLines}
 use Rattle.spelling.specs.DecimalLaws.{decimal-back, decimal-plain}
-use Rattle.reader_word.specs.GivenLaws.{same-is}
+use Rattle.reader_parts.specs.GivenLaws.{same-is}
 use Rattle.theorems.specs.ListRead.{lastNumber, winOn, rowOr, rowAmong, rowShown}
 
 -- a line without its byte 10

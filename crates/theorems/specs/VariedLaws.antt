@@ -12,8 +12,8 @@ use Rattle.tender.specs.declared.Reserve.the-variants.{Absent, Price}
 use Rattle.tender.specs.declared.Tender.{Tender}
 use Rattle.tender.specs.Keywords.{bytes, bidWord, reserveWord}
 use Rattle.tender.specs.Tables.{Row, flatWindows}
-use Rattle.reader_word.specs.Words.{priceOf}
-use Rattle.reader_word.specs.PriceFrontLaws.{price-without}
+use Rattle.reader_parts.specs.Words.{priceOf}
+use Rattle.reader_parts.specs.PriceFrontLaws.{price-without}
 use Rattle.reader_line.specs.Line.{BidLine}
 use Rattle.reader_text.specs.Read.{accepted, readText}
 use Rattle.reader_text.specs.Rules.{RowsRules}

@@ -9,12 +9,12 @@ use Rattle.cover.specs.Sets.{covers, cells}
 use Rattle.cover.specs.Sets as sets
 use Rattle.cover.specs.SetLaws.{and-split}
 use Rattle.cover.specs.Greedy.{Rounds, stop, round, run, bids}
-use Rattle.reader_word.specs.Words.{sameBytes}
+use Rattle.reader_parts.specs.Words.{sameBytes}
 use Rattle.reader_text.specs.Read.{ReadOutcome, accepted, refused, readText}
 use Rattle.award_check.specs.Cells.{noRow}
 use Rattle.award_check.specs.Auction.{auctionOf}
 use Rattle.listing_text.specs.List.{listOf}
-use Rattle.reader_word.specs.GivenLaws.{same-is}
+use Rattle.reader_parts.specs.GivenLaws.{same-is}
 use Rattle.theorems.specs.WorkedCases.{Case, third, cases}
 
 -- the list is the one defined

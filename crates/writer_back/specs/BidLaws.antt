@@ -17,7 +17,7 @@ use Rattle.tender.specs.declared.Reserve.the-variants.{Absent, Price}
 use Rattle.tender.specs.Limits.{within, mostWindows, isSingle, lawful, ordered, early, every}
 use Rattle.tender.specs.RulesLaws.{every-split}
 use Rattle.tender.specs.Tables.{Row, own}
-use Rattle.reader_word.specs.Words.{among}
+use Rattle.reader_parts.specs.Words.{among}
 use Rattle.spelling.specs.Text.{bidIn}
 use Rattle.spelling.specs.WordLaws.{Named, AllNamed}
 use Rattle.spelling.specs.BackLaws.{NamedReserve, Nameable, AllNameable, asLines}

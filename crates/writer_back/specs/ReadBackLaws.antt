@@ -15,7 +15,7 @@ use Rattle.tender.specs.Limits.{asWindow, soundTender}
 use Rattle.tender.specs.RulesLaws.{rules-lawful, sound-rules}
 use Rattle.tender.specs.Tables.{Row, rowsOf, own, flatRows, flatWindows, bidWidth}
 use Rattle.cover.specs.SetLaws.{and-split}
-use Rattle.reader_word.specs.Words.{cut}
+use Rattle.reader_parts.specs.Words.{cut}
 use Rattle.reader_line.specs.Line.{BidLine, headLines, linesOf}
 use Rattle.reader_text.specs.Read.{accepted, rowsFrom, allWindows, bidsOf, tables, begun, Unreserved, headOf, readLines, readText}
 use Rattle.reader_text.specs.HeadLaws.{lines-begun, head-of}

@@ -13,10 +13,10 @@ use Rattle.tender.specs.declared.Window.{Window}
 use Rattle.tender.specs.Limits.{asWindow}
 use Rattle.tender.specs.declared.Reserve.the-variants.{Absent}
 use Rattle.tender.specs.Keywords.{tenderWord, reserveWord, bidWord, singleWord, multiWord}
-use Rattle.reader_word.specs.Words.{andThen, sameBytes, opened, closed, numeralOf, priceOf}
+use Rattle.reader_parts.specs.Words.{andThen, sameBytes, opened, closed, numeralOf, priceOf}
 use Rattle.reader_line.specs.Line.{Line, tender, bid, reserve, kindOf, windowsIn, tenderOf, bidOf, reserveOf, lineOfWords}
-use Rattle.reader_word.specs.Windows.{spanOf, windowOf}
-use Rattle.reader_word.specs.GivenLaws.{same-is, opened-some, closed-some}
+use Rattle.reader_parts.specs.Windows.{spanOf, windowOf}
+use Rattle.reader_parts.specs.GivenLaws.{same-is, opened-some, closed-some}
 use Rattle.reader_text.specs.Read.{tenderWith}
 use Rattle.spelling.specs.Decimal.{decimal}
 use Rattle.spelling.specs.Lines.{kindWord}

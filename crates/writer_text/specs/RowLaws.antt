@@ -13,7 +13,7 @@ use Rattle.tender.specs.declared.Kind.the-variants.{Single, Multi}
 use Rattle.tender.specs.declared.Tender.{Tender}
 use Rattle.tender.specs.Limits.{within, mostWindows, lawful, every}
 use Rattle.tender.specs.Tables.{Row, own}
-use Rattle.reader_word.specs.Words.{among}
+use Rattle.reader_parts.specs.Words.{among}
 use Rattle.cover.specs.SetLaws.{and-split}
 use Rattle.award_check.specs.Faults.{sound, rowFault}
 use Rattle.award_check.specs.AlikeLaws.{keeps-kept}

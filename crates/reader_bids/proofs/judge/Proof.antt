@@ -1,7 +1,7 @@
 -- `judge` meets its contract: its tests are those of the definition, in their order. Assumes nothing.
 use mathlib.Core.Path.{sym, ap, _∙_}
 use native.Mathlib.Omega.{arith}
-use Rattle.reader_word.specs.Flaws.{isEmpty, isLate}
+use Rattle.reader_parts.specs.Flaws.{isEmpty, isLate}
 use Rattle.reader_bids.specs.Steps.{faultAt}
 use Rattle.reader_bids.specs.JudgeLaws.{many, beyond, several-windows, window-empty, window-late, repeated, sound, few-windows}
 use Rattle.reader_bids.specs.JudgeLaws.{bidder-in}

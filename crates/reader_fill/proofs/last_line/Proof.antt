@@ -4,7 +4,7 @@ use mathlib.Core.Path.{_≡_}
 use mathlib.Core.Bool.{false}
 use native.Mathlib.Omega.{arith}
 use lib.ListN.{length, drop}
-use Rattle.reader_word.specs.Words.{among}
+use Rattle.reader_parts.specs.Words.{among}
 use Rattle.reader_fill.specs.RestLaws.{none-yet, none-here}
 use borrow.Author.Needs.{needs}
 use Rattle.reader_fill.proofs.last_line.Statement.{statement}

@@ -4,9 +4,9 @@ use native.Mathlib.Omega.{arith}
 use borrow.Author.Needs.{needs}
 use Rattle.tender.specs.Limits.{within}
 use Rattle.tender.specs.Keywords.{bytes, tenderWord, reserveWord}
-use Rattle.reader_word.specs.Scan.{lettered}
-use Rattle.reader_word.specs.Front.{wrong}
-use Rattle.reader_word.specs.PlaceLaws.{not-last}
+use Rattle.reader_parts.specs.Scan.{lettered}
+use Rattle.reader_parts.specs.Front.{wrong}
+use Rattle.reader_parts.specs.PlaceLaws.{not-last}
 use Rattle.reader_line.specs.declared.line.Line.the-variants.{Broken}
 use Rattle.reader_line.specs.AnswerLaws.{noted-wrong}
 use Rattle.reader_line.specs.HeadLineLaws.{head-unopened, head-tender, head-reserve, head-neither, head-told, head-after}

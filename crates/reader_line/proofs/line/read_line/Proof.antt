@@ -4,8 +4,8 @@ use native.Mathlib.Omega.{arith}
 use borrow.Author.Needs.{needs}
 use Rattle.tender.specs.Limits.{within}
 use Rattle.tender.specs.Keywords.{bytes, bidWord}
-use Rattle.reader_word.specs.Scan.{lettered}
-use Rattle.reader_word.specs.PlaceLaws.{not-last}
+use Rattle.reader_parts.specs.Scan.{lettered}
+use Rattle.reader_parts.specs.PlaceLaws.{not-last}
 use Rattle.reader_line.specs.declared.line.Line.the-variants.{Broken}
 use Rattle.reader_line.specs.Tally.{noted}
 use Rattle.reader_line.specs.Answer.{notedFront}

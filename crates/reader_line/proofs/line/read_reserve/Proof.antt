@@ -2,7 +2,7 @@
 use Prim.Native.Nat.{_+_}
 use native.Mathlib.Omega.{arith}
 use borrow.Author.Needs.{needs}
-use Rattle.reader_word.specs.PlaceLaws.{not-last}
+use Rattle.reader_parts.specs.PlaceLaws.{not-last}
 use Rattle.reader_line.specs.LinePlaceLaws.{reserve-unpriced, reserve-unclosed, reserve-unended, reserve-whole}
 use Rattle.reader_line.specs.AnswerLaws.{noted-wrong, noted-reserve}
 use Rattle.reader_line.proofs.line.read_reserve.Statement.{statement}

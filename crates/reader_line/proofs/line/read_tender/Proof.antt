@@ -4,7 +4,7 @@ use native.Mathlib.Omega.{arith}
 use borrow.Author.Needs.{needs}
 use Rattle.tender.specs.Limits.{within}
 use Rattle.tender.specs.Keywords.{bytes, singleWord, multiWord}
-use Rattle.reader_word.specs.Scan.{lettered}
+use Rattle.reader_parts.specs.Scan.{lettered}
 use Rattle.reader_line.specs.Answer.{notedFront}
 use Rattle.reader_line.specs.LinePlaceLaws.{tender-single, tender-multi, tender-neither}
 use Rattle.reader_line.specs.AnswerLaws.{noted-wrong}

@@ -5,8 +5,8 @@ use native.Mathlib.Omega.{arith}
 use borrow.Author.Needs.{needs}
 use lib.ListN.{length, take, drop}
 use Rattle.tender.specs.Tables.{windowWidth}
-use Rattle.reader_word.specs.PlaceLaws.{not-last, window-further}
-use Rattle.reader_word.specs.declared.windows.Flaw.the-variants.{Sound}
+use Rattle.reader_parts.specs.PlaceLaws.{not-last, window-further}
+use Rattle.reader_parts.specs.declared.Flaw.the-variants.{Sound}
 use Rattle.reader_line.specs.LineFront.{windowsFront}
 use Rattle.reader_line.specs.Answer.{talliedFront}
 use Rattle.reader_line.specs.TallyLaws.{rows-before, tally-wrong, tally-more, tally-last, tally-unended}

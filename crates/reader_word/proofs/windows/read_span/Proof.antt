@@ -1,7 +1,7 @@
 -- `windows::read_span` meets its contract: it follows `spanFront` from place to place. Assumes nothing.
 use native.Mathlib.Omega.{arith}
 use borrow.Author.Needs.{needs}
-use Rattle.reader_word.specs.PlaceLaws.{not-last, span-first, span-unparted, span-second, span-unclosed, span-whole}
+use Rattle.reader_parts.specs.PlaceLaws.{not-last, span-first, span-unparted, span-second, span-unclosed, span-whole}
 use Rattle.reader_word.proofs.windows.read_span.Statement.{statement}
 use Rattle.reader_word.proofs.windows.read_span.Tie as tie
 

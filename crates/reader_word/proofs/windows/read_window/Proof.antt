@@ -2,7 +2,7 @@
 use Prim.Native.Nat.{_+_}
 use native.Mathlib.Omega.{arith}
 use borrow.Author.Needs.{needs}
-use Rattle.reader_word.specs.PlaceLaws.{not-last, window-unparted, window-unopened, window-span}
+use Rattle.reader_parts.specs.PlaceLaws.{not-last, window-unparted, window-unopened, window-span}
 use Rattle.reader_word.proofs.windows.read_window.Statement.{statement}
 use Rattle.reader_word.proofs.windows.read_window.Tie as tie
 

@@ -1,8 +1,8 @@
 -- `windows::worse` meets its contract: an empty window is the worst, and a late one worse than none. Assumes nothing.
 use mathlib.Core.Path.{sym}
 use borrow.Author.Needs.{needs}
-use Rattle.reader_word.specs.Flaws.{worst}
-use Rattle.reader_word.specs.FlawLaws.{worst-empty, worst-sound, flaw-empty, flaw-sound, flaw-late}
+use Rattle.reader_parts.specs.Flaws.{worst}
+use Rattle.reader_parts.specs.FlawLaws.{worst-empty, worst-sound, flaw-empty, flaw-sound, flaw-late}
 use Rattle.reader_word.proofs.windows.worse.Statement.{statement}
 use Rattle.reader_word.proofs.windows.worse.Tie as tie
 

@@ -4,8 +4,8 @@ use mathlib.Core.Path.{_≡_, refl, sym, _∙_}
 use native.Mathlib.Omega.{arith}
 use borrow.Author.Needs.{needs}
 use lib.ListN.{length, drop}
-use Rattle.reader_word.specs.Front.{digitsFront}
-use Rattle.reader_word.specs.PlaceLaws.{not-last, digits-more, digits-below, digits-above, digits-full}
+use Rattle.reader_parts.specs.Front.{digitsFront}
+use Rattle.reader_parts.specs.PlaceLaws.{not-last, digits-more, digits-below, digits-above, digits-full}
 use Rattle.reader_word.proofs.words.digits.Statement.{statement}
 use Rattle.reader_word.proofs.words.digits.Tie as tie
 

@@ -1,8 +1,8 @@
 -- `words::read_cents` meets its contract: it follows `centsFront` from the point to the second digit. Assumes nothing.
 use native.Mathlib.Omega.{arith}
 use borrow.Author.Needs.{needs}
-use Rattle.reader_word.specs.PlaceLaws.{not-last}
-use Rattle.reader_word.specs.PricePlaceLaws.{cents-above, cents-first, first-small, cents-second}
+use Rattle.reader_parts.specs.PlaceLaws.{not-last}
+use Rattle.reader_parts.specs.PricePlaceLaws.{cents-above, cents-first, first-small, cents-second}
 use Rattle.reader_word.proofs.words.read_cents.Statement.{statement}
 use Rattle.reader_word.proofs.words.read_cents.Tie as tie
 

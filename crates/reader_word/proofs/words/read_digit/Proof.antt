@@ -1,6 +1,6 @@
 -- `words::read_digit` meets its contract: it goes by the byte, as `digitFront` does. Assumes nothing.
 use borrow.Author.Needs.{needs}
-use Rattle.reader_word.specs.PricePlaceLaws.{digit-at, digit-below, digit-above}
+use Rattle.reader_parts.specs.PricePlaceLaws.{digit-at, digit-below, digit-above}
 use Rattle.reader_word.proofs.words.read_digit.Statement.{statement}
 use Rattle.reader_word.proofs.words.read_digit.Tie as tie
 

@@ -1,7 +1,7 @@
 -- `words::read_number` meets its contract: it goes by the first byte, as `numberFront` does. Assumes nothing.
 use native.Mathlib.Omega.{arith}
 use borrow.Author.Needs.{needs}
-use Rattle.reader_word.specs.PlaceLaws.{not-last, number-zero, number-below, number-above, number-later}
+use Rattle.reader_parts.specs.PlaceLaws.{not-last, number-zero, number-below, number-above, number-later}
 use Rattle.reader_word.proofs.words.read_number.Statement.{statement}
 use Rattle.reader_word.proofs.words.read_number.Tie as tie
 

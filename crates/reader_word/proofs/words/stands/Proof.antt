@@ -7,9 +7,9 @@ use native.Mathlib.Omega.{arith}
 use borrow.Author.Needs.{needs}
 use borrow.Author.Tests.{eqb-true}
 use lib.ListN.{length, drop, getD}
-use Rattle.reader_word.specs.Scan.{startsWith}
-use Rattle.reader_word.specs.PlaceLaws.{not-last}
-use Rattle.reader_word.specs.StartsLaws.{letter-same, letter-other, space-next, letters}
+use Rattle.reader_parts.specs.Scan.{startsWith}
+use Rattle.reader_parts.specs.PlaceLaws.{not-last}
+use Rattle.reader_parts.specs.StartsLaws.{letter-same, letter-other, space-next, letters}
 use Rattle.reader_word.proofs.words.stands.Statement.{statement}
 use Rattle.reader_word.proofs.words.stands.Tie as tie
 

@@ -10,14 +10,14 @@ use lib.ListN.{length}
 use lib.Dec.{eqb, ltb}
 use borrow.Author.Tests.{ltb-true, lt-ltb, ne-eqb}
 use Rattle.tender.specs.Limits.{within}
-use Rattle.reader_word.specs.Words.{among, digits, numeralOf, priceOf}
-use Rattle.reader_word.specs.Front.{got, wrong, onward, past, fork, digitFront, centsFront, numberFront, priceFront}
-use Rattle.reader_word.specs.RejoinedLaws.{among-append}
-use Rattle.reader_word.specs.FrontLaws.{onward-got, past-got}
-use Rattle.reader_word.specs.NumberFrontLaws.{Led, within-both, digits-without, number-without, number-read, number-from}
-use Rattle.reader_word.specs.NumberSizeLaws.{number-small, number-few}
-use Rattle.reader_word.specs.PriceFormLaws.{Pointed, PriceForm, plainly, pointed, price-form, price-plainly, price-pointed}
-use Rattle.reader_word.specs.PriceFormLaws.{Cents, two-cents, cents-two}
+use Rattle.reader_parts.specs.Words.{among, digits, numeralOf, priceOf}
+use Rattle.reader_parts.specs.Front.{got, wrong, onward, past, fork, digitFront, centsFront, numberFront, priceFront}
+use Rattle.reader_parts.specs.RejoinedLaws.{among-append}
+use Rattle.reader_parts.specs.FrontLaws.{onward-got, past-got}
+use Rattle.reader_parts.specs.NumberFrontLaws.{Led, within-both, digits-without, number-without, number-read, number-from}
+use Rattle.reader_parts.specs.NumberSizeLaws.{number-small, number-few}
+use Rattle.reader_parts.specs.PriceFormLaws.{Pointed, PriceForm, plainly, pointed, price-form, price-plainly, price-pointed}
+use Rattle.reader_parts.specs.PriceFormLaws.{Cents, two-cents, cents-two}
 
 -- the bytes of a price
 

@@ -10,7 +10,7 @@ use lib.ListN.{length, getD}
 use lib.Dec.{lit<}
 use borrow.Author.Tests.{le-leb, lt-leb, ne-eqb}
 use Rattle.tender.specs.Limits.{within}
-use Rattle.reader_word.specs.Words.{digits, leadingZero, numeralOf}
+use Rattle.reader_parts.specs.Words.{digits, leadingZero, numeralOf}
 
 pub inside : (b : ℕ) → 48 ≤ b → b < 58 → within 48 57 b ≡ true
 unfolding within

@@ -6,9 +6,9 @@ use Prim.Native.Nat.{ℕ, _≤_, _<_}
 use borrow.Author.Tests.{lt-ltb, le-ltb, le-leb, lt-leb}
 use Rattle.tender.specs.declared.Window.{Window}
 use Rattle.tender.specs.Limits.{week, ordered, early, every}
-use Rattle.reader_word.specs.declared.windows.Flaw.{Flaw}
-use Rattle.reader_word.specs.declared.windows.Flaw.the-variants.{Empty, Late, Sound}
-use Rattle.reader_word.specs.Flaws.{flawBy, flawIn, flawOf, worst}
+use Rattle.reader_parts.specs.declared.Flaw.{Flaw}
+use Rattle.reader_parts.specs.declared.Flaw.the-variants.{Empty, Late, Sound}
+use Rattle.reader_parts.specs.Flaws.{flawBy, flawIn, flawOf, worst}
 
 and-true : (a : Bool) → a && true ≡ a
 and-true true = refl

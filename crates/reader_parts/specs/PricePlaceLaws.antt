@@ -6,15 +6,15 @@ use native.Mathlib.Omega.{arith}
 use lib.ListN.{length, drop, getD}
 use borrow.Author.Tests.{le-leb, lt-leb, lt-ltb, le-ltb}
 use Rattle.tender.specs.Limits.{within}
-use Rattle.reader_word.specs.Scan.{Ended}
-use Rattle.reader_word.specs.ScanLaws.{drop-next}
-use Rattle.reader_word.specs.declared.words.Number.{Number}
-use Rattle.reader_word.specs.declared.words.Number.the-variants as number
-use Rattle.reader_word.specs.Answer.{ReadAt, NumberIs}
-use Rattle.reader_word.specs.Front.{Front, got, wrong, onward, digitFront, centsFront, numberFront, priceFront}
-use Rattle.reader_word.specs.NumberFrontLaws.{within-both}
-use Rattle.reader_word.specs.PriceFrontLaws.{digit-from}
-use Rattle.reader_word.specs.PlaceLaws.{not-last, past-at, fork-here, fork-other}
+use Rattle.reader_parts.specs.Scan.{Ended}
+use Rattle.reader_parts.specs.ScanLaws.{drop-next}
+use Rattle.reader_parts.specs.declared.Number.{Number}
+use Rattle.reader_parts.specs.declared.Number.the-variants as number
+use Rattle.reader_parts.specs.Answer.{ReadAt, NumberIs}
+use Rattle.reader_parts.specs.Front.{Front, got, wrong, onward, digitFront, centsFront, numberFront, priceFront}
+use Rattle.reader_parts.specs.NumberFrontLaws.{within-both}
+use Rattle.reader_parts.specs.PriceFrontLaws.{digit-from}
+use Rattle.reader_parts.specs.PlaceLaws.{not-last, past-at, fork-here, fork-other}
 
 -- what is read from a later place on is read from an earlier one, where both give the same
 later : {x y : Front ℕ} (s : List ℕ) (i j : ℕ) → y ≡ x → i ≤ j → (r : Number) → NumberIs x s j r → NumberIs y s i r

@@ -10,15 +10,15 @@ use borrow.Author.Tests.{le-leb, lt-leb, eq-eqb, ne-eqb, lt-ltb, le-ltb, ltb-tru
 use Rattle.tender.specs.declared.Span.{Span}
 use Rattle.tender.specs.declared.Window.{Window}
 use Rattle.tender.specs.Limits.{within, asWindow}
-use Rattle.reader_word.specs.Scan.{Ended}
-use Rattle.reader_word.specs.ScanLaws.{drop-next}
-use Rattle.reader_word.specs.declared.words.Number.{Number}
-use Rattle.reader_word.specs.declared.words.Number.the-variants as number
-use Rattle.reader_word.specs.declared.windows.Ends.{Ends}
-use Rattle.reader_word.specs.declared.windows.Ends.the-variants.{Of, Wrong}
-use Rattle.reader_word.specs.Answer.{ReadAt, NumberIs, SpanIs, WindowIs}
-use Rattle.reader_word.specs.Front.{Front, got, wrong, onward, past, fork, digitsFront, numberFront, spanFront, windowFront}
-use Rattle.reader_word.specs.FrontLaws.{window-took}
+use Rattle.reader_parts.specs.Scan.{Ended}
+use Rattle.reader_parts.specs.ScanLaws.{drop-next}
+use Rattle.reader_parts.specs.declared.Number.{Number}
+use Rattle.reader_parts.specs.declared.Number.the-variants as number
+use Rattle.reader_parts.specs.declared.Ends.{Ends}
+use Rattle.reader_parts.specs.declared.Ends.the-variants.{Of, Wrong}
+use Rattle.reader_parts.specs.Answer.{ReadAt, NumberIs, SpanIs, WindowIs}
+use Rattle.reader_parts.specs.Front.{Front, got, wrong, onward, past, fork, digitsFront, numberFront, spanFront, windowFront}
+use Rattle.reader_parts.specs.FrontLaws.{window-took}
 
 -- a byte other than 10 is not the last
 pub not-last : (s : List ℕ) (i : ℕ) → Ended s → i < length s → (getD s i 0 ≡ 10 → ⊥) → i + 1 < length s

@@ -9,13 +9,13 @@ use borrow.Author.Tests.{ne-eqb}
 use Rattle.tender.specs.declared.Span.{Span}
 use Rattle.tender.specs.declared.Window.{Window}
 use Rattle.tender.specs.Limits.{asWindow}
-use Rattle.reader_word.specs.Words.{andThen, among, opened, closed, numeralOf}
-use Rattle.reader_word.specs.Windows.{spanOf, windowOf}
-use Rattle.reader_word.specs.Front.{got, onward, past, numberFront, spanFront, windowFront}
-use Rattle.reader_word.specs.FrontLaws.{onward-got, past-got}
-use Rattle.reader_word.specs.RejoinedLaws.{among-append}
-use Rattle.reader_word.specs.GivenLaws.{then-some, opened-some, closed-some, closed-back}
-use Rattle.reader_word.specs.NumberFrontLaws.{number-without, number-read, number-from}
+use Rattle.reader_parts.specs.Words.{andThen, among, opened, closed, numeralOf}
+use Rattle.reader_parts.specs.Windows.{spanOf, windowOf}
+use Rattle.reader_parts.specs.Front.{got, onward, past, numberFront, spanFront, windowFront}
+use Rattle.reader_parts.specs.FrontLaws.{onward-got, past-got}
+use Rattle.reader_parts.specs.RejoinedLaws.{among-append}
+use Rattle.reader_parts.specs.GivenLaws.{then-some, opened-some, closed-some, closed-back}
+use Rattle.reader_parts.specs.NumberFrontLaws.{number-without, number-read, number-from}
 
 -- "S E)"
 

@@ -10,7 +10,7 @@ use borrow.Author.Tests.{eqb-true}
 use Rattle.tender.specs.declared.Span.{Span}
 use Rattle.tender.specs.declared.Window.{Window}
 use Rattle.tender.specs.Limits.{within}
-use Rattle.reader_word.specs.Front.{Front, got, wrong, onward, past, digitsFront, numberFront, spanFront, windowFront}
+use Rattle.reader_parts.specs.Front.{Front, got, wrong, onward, past, digitsFront, numberFront, spanFront, windowFront}
 
 -- both steps gave something
 pub onward-got : {A B : Type 0} (x : Front A) (f : A → List ℕ → Front B) (b : B) (t : List ℕ) → onward x f ≡ got b t

@@ -11,10 +11,10 @@ use lib.ListN.{length}
 use lib.Dec.{eqb, leb, ltb, lit<}
 use borrow.Author.Tests.{ltb-true, leb-true, leb-false, eqb-true, eqb-false, not-true, lt-ltb, le-leb, ne-eqb}
 use Rattle.tender.specs.Limits.{within}
-use Rattle.reader_word.specs.Words.{among, digits, leadingZero, numeralOf}
-use Rattle.reader_word.specs.Front.{got, wrong, digitsFront, numberFront}
-use Rattle.reader_word.specs.GivenLaws.{both-true, cond-some}
-use Rattle.reader_word.specs.DigitsLaws.{inside, digits-below, ten-more, ten-below, leading-other, number-digits}
+use Rattle.reader_parts.specs.Words.{among, digits, leadingZero, numeralOf}
+use Rattle.reader_parts.specs.Front.{got, wrong, digitsFront, numberFront}
+use Rattle.reader_parts.specs.GivenLaws.{both-true, cond-some}
+use Rattle.reader_parts.specs.DigitsLaws.{inside, digits-below, ten-more, ten-below, leading-other, number-digits}
 
 -- the bytes s begin with a word that gives a, and r stands after it
 pub record Led {A : Type 0} (of : List ℕ → Option A) (s : List ℕ) (a : A) (r : List ℕ) : Type 0 where

@@ -9,9 +9,9 @@ use lib.ListN.{length, take, drop, getD, length-drop}
 use lib.Seq.{drop-cons, drop-drop}
 use lib.Dec.{eqb}
 use borrow.Author.Tests.{eqb-true, eq-eqb}
-use Rattle.reader_word.specs.Words.{among, growFirst, cut}
-use Rattle.reader_word.specs.CutLaws.{neither}
-use Rattle.reader_word.specs.Scan.{toNext}
+use Rattle.reader_parts.specs.Words.{among, growFirst, cut}
+use Rattle.reader_parts.specs.CutLaws.{neither}
+use Rattle.reader_parts.specs.Scan.{toNext}
 
 -- a byte d that stands at i is not before the first
 pub next-upto : (d : ℕ) (s : List ℕ) (i : ℕ) → i < length s → getD s i 0 ≡ d → toNext d s ≤ i

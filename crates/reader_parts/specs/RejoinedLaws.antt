@@ -7,8 +7,8 @@ use native.Mathlib.Omega.{arith}
 use lib.ListN.{length}
 use lib.Dec.{eqb}
 use borrow.Author.Tests.{eqb-true}
-use Rattle.reader_word.specs.Words.{among, growFirst, cut}
-use Rattle.reader_word.specs.CutLaws.{neither, Pieces, cut-some, cut-end, cut-word}
+use Rattle.reader_parts.specs.Words.{among, growFirst, cut}
+use Rattle.reader_parts.specs.CutLaws.{neither, Pieces, cut-some, cut-end, cut-word}
 
 unfoldable pub rejoined : ℕ → List (List ℕ) → List ℕ
 rejoined d [] = []

@@ -5,7 +5,7 @@ use mathlib.Core.Option.{Option, some}
 use Rattle.tender.specs.declared.Span.{Span}
 use Rattle.tender.specs.declared.Window.{Window}
 use Rattle.tender.specs.Limits.{asWindow}
-use Rattle.reader_word.specs.Words.{andThen, opened, closed, numeralOf}
+use Rattle.reader_parts.specs.Words.{andThen, opened, closed, numeralOf}
 
 -- the words "S" and "E"
 unfoldable pub spanOf : List ℕ → List ℕ → Option Span

@@ -3,8 +3,8 @@ use mathlib.Core.List.{List}
 use mathlib.Core.Bool.{Bool, true, false, cond}
 use Rattle.tender.specs.declared.Window.{Window}
 use Rattle.tender.specs.Limits.{ordered, early, every}
-use Rattle.reader_word.specs.declared.windows.Flaw.{Flaw}
-use Rattle.reader_word.specs.declared.windows.Flaw.the-variants.{Empty, Late, Sound}
+use Rattle.reader_parts.specs.declared.Flaw.{Flaw}
+use Rattle.reader_parts.specs.declared.Flaw.the-variants.{Empty, Late, Sound}
 
 -- whether the starts are below the ends, and whether the ends lie within the week
 abbrev pub flawBy : Bool → Bool → Flaw

@@ -8,9 +8,9 @@ use lib.ListN.{length, drop, getD, drop-of-length-le}
 use lib.Dec.{eqb, leb}
 use borrow.Author.Tests.{leb-true, eqb-true, eq-eqb, ne-eqb}
 use Rattle.tender.specs.Limits.{within}
-use Rattle.reader_word.specs.Scan.{lettered, startsWith}
-use Rattle.reader_word.specs.GivenLaws.{both-true}
-use Rattle.reader_word.specs.ScanLaws.{drop-next}
+use Rattle.reader_parts.specs.Scan.{lettered, startsWith}
+use Rattle.reader_parts.specs.GivenLaws.{both-true}
+use Rattle.reader_parts.specs.ScanLaws.{drop-next}
 
 module _ (w s : List ℕ) (i j : ℕ) (k : j < length s) where
   pub letter-same : i < length w → getD s j 0 ≡ getD w i 0

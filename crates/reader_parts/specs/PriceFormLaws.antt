@@ -10,10 +10,10 @@ use lib.ListN.{length}
 use lib.Dec.{eqb, leb}
 use borrow.Author.Tests.{leb-true, eqb-true, le-leb, eq-eqb}
 use Rattle.tender.specs.Limits.{within}
-use Rattle.reader_word.specs.Words.{andThen, among, cut, digits, numeralOf, priceIn, priceOf}
-use Rattle.reader_word.specs.GivenLaws.{both-true, then-some, cond-some}
-use Rattle.reader_word.specs.RejoinedLaws.{rejoined, rejoined-cut, cut-rejoined}
-use Rattle.reader_word.specs.NumberFrontLaws.{digits-without, number-without}
+use Rattle.reader_parts.specs.Words.{andThen, among, cut, digits, numeralOf, priceIn, priceOf}
+use Rattle.reader_parts.specs.GivenLaws.{both-true, then-some, cond-some}
+use Rattle.reader_parts.specs.RejoinedLaws.{rejoined, rejoined-cut, cut-rejoined}
+use Rattle.reader_parts.specs.NumberFrontLaws.{digits-without, number-without}
 
 -- before the point x, after it y
 pub record Pointed (w : List ℕ) (v : ℕ) : Type 0 where

@@ -10,10 +10,10 @@ use lib.ListN.{length}
 use lib.Dec.{eqb, leb, lit<}
 use borrow.Author.Tests.{leb-true, leb-false, eqb-false, not-true}
 use Rattle.tender.specs.Limits.{within}
-use Rattle.reader_word.specs.Words.{digits, leadingZero, numeralOf}
-use Rattle.reader_word.specs.GivenLaws.{both-true, cond-some}
-use Rattle.reader_word.specs.DigitsLaws.{ten-more}
-use Rattle.reader_word.specs.NumberFrontLaws.{within-both}
+use Rattle.reader_parts.specs.Words.{digits, leadingZero, numeralOf}
+use Rattle.reader_parts.specs.GivenLaws.{both-true, cond-some}
+use Rattle.reader_parts.specs.DigitsLaws.{ten-more}
+use Rattle.reader_parts.specs.NumberFrontLaws.{within-both}
 
 digits-most : (v k : ℕ) (w : List ℕ) (u : ℕ) → v < 10 ^ k → digits v w ≡ some u → u < 10 ^ (k + length w)
 unfolding digits
