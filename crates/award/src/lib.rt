@@ -10,7 +10,7 @@ ghost use Prim.Native.Nat.{ℕ, _≤_, min};
 ghost use lib.ListN.{length};
 ghost use Rattle.tender.specs.declared.Kind.the-variants.{Single, Multi};
 ghost use Rattle.award_outcome.specs.Promise.{Promise, rowsFilled};
-ghost use Rattle.award_plain.specs.Plain.{PlainPromise};
+ghost use Rattle.award_rule.specs.Plain.{PlainPromise};
 
 fn lesser(a: usize, b: usize) -> usize
     ensures { λ r. ⌜ r ≡ min a b ⌝ }

@@ -34,10 +34,10 @@ use Rattle.award_check.specs.AuctionLaws.{EntryAt, owner, house, past, entry-at
 use Rattle.award_layout.specs.LayoutLaws.{orderly, reserve-within}
 use Rattle.award_laid.specs.Lay.{LaidMasks}
 use Rattle.award_laid.specs.LayLaws.{Words, words-of}
-use Rattle.award_plain.specs.Award.{awardOf}
-use Rattle.award_plain.specs.Sums.{totalsIn}
-use Rattle.award_plain.specs.Plain.{toldIn}
-use Rattle.award_plain.specs.PlainLaws.{awards, multi-won, multi-cents}
+use Rattle.award_rule.specs.Award.{awardOf}
+use Rattle.award_rule.specs.Sums.{totalsIn}
+use Rattle.award_rule.specs.Plain.{toldIn}
+use Rattle.award_rule.specs.PlainLaws.{awards, multi-won, multi-cents}
 use Rattle.award_entries.specs.ThinLaws.{enough}
 
 one-house : (r : Reserve) → houses r ≤ 1

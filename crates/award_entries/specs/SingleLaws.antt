@@ -23,12 +23,12 @@ use Rattle.award_check.specs.Cells.{cellsOf}
 use Rattle.award_check.specs.Auction.{Auction, auctionOf}
 use Rattle.award_check.specs.AuctionLaws.{cells-are}
 use Rattle.award_laid.specs.Lay.{LaidSpans}
-use Rattle.award_plain.specs.Award.{coversIn, awardOf}
-use Rattle.award_plain.specs.Sums.{totalsIn}
-use Rattle.award_plain.specs.Plain.{toldIn}
+use Rattle.award_rule.specs.Award.{coversIn, awardOf}
+use Rattle.award_rule.specs.Sums.{totalsIn}
+use Rattle.award_rule.specs.Plain.{toldIn}
 use Rattle.award_entries.specs.ThinLaws.{enough}
 use Rattle.award_entries.specs.MultiLaws.{prices-lawful}
-use Rattle.award_plain.specs.PlainLaws.{awards, single-won, single-cents}
+use Rattle.award_rule.specs.PlainLaws.{awards, single-won, single-cents}
 
 module _ (t : Tender) (n : ℕ) (bids windows ps starts ends order : List ℕ) (thin : Thin) (f : faultOf Single t n bids windows ≡ none)
     (l : LaidSpans t n bids windows ps starts ends order thin) where

@@ -21,9 +21,9 @@ use Rattle.award_check.specs.Cells.{cellsOf, minuteOf}
 use Rattle.award_check.specs.Auction.{Auction, auctionOf, thinCell}
 use Rattle.award_check.specs.AuctionLaws.{thin-told, none-thin}
 use Rattle.award_laid.specs.Lay.{Tells}
-use Rattle.award_plain.specs.Award.{awardOf}
-use Rattle.award_plain.specs.Plain.{toldIn}
-use Rattle.award_plain.specs.PlainLaws.{eleven, twelve}
+use Rattle.award_rule.specs.Award.{awardOf}
+use Rattle.award_rule.specs.Plain.{toldIn}
+use Rattle.award_rule.specs.PlainLaws.{eleven, twelve}
 
 module _ (t : Tender) (n : ℕ) (bids windows : List ℕ) where
   abbrev A : Auction

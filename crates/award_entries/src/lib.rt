@@ -12,8 +12,8 @@ ghost use Rattle.tender.specs.Limits.{maxEntries};
 ghost use Rattle.award_check.specs.Faults.{faultOf};
 ghost use Rattle.award_check.specs.Cells.{cellsOf};
 ghost use Rattle.award_check.specs.Auction.{houses};
-ghost use Rattle.award_plain.specs.Award.{awardOf};
-ghost use Rattle.award_plain.specs.Plain.{toldIn};
+ghost use Rattle.award_rule.specs.Award.{awardOf};
+ghost use Rattle.award_rule.specs.Plain.{toldIn};
 
 // A faultless multi tender: flags and cents of all entries. Room for prices and words of as many entries is lent.
 fn multi_in(

@@ -4,7 +4,7 @@ use Prim.Native.Nat.{ℕ, _≤_}
 use lib.ListN.{getD}
 use lib.IntN.{ℤ, pos, negsuc, subℕ}
 use Rattle.tender.specs.declared.AwardRow.{AwardRow}
-use Rattle.award_plain.specs.Award.{Outcome, awarded, refused}
+use Rattle.award_rule.specs.Award.{Outcome, awarded, refused}
 
 -- a loser's row
 unfoldable pub lost : AwardRow

@@ -24,12 +24,12 @@ use Rattle.award_check.specs.Auction.{houses, Auction, auctionOf, thinCell}
 use Rattle.award_check.specs.AuctionLaws.{minutes, cells-are, owners-are, thin-told, none-thin}
 use Rattle.tender.specs.declared.AwardRow.{AwardRow}
 use Rattle.tender.specs.declared.Answer.{Answer}
-use Rattle.award_plain.specs.Award.{rule, Outcome, awarded, refused, awardRows, totalsOf, uncovered, lone, thinned, settled, outcomeNumber}
+use Rattle.award_rule.specs.Award.{rule, Outcome, awarded, refused, awardRows, totalsOf, uncovered, lone, thinned, settled, outcomeNumber}
 use Rattle.award_outcome.specs.Promise.{lentAfter, toldAward, Promise}
 use Rattle.award_outcome.specs.Right.{Callable, Bidders, EarliestIn, IsAward, IsRefusal, OneAnswer, tables-break-a-rule}
 use Rattle.award_outcome.specs.Right.{rows-too-few}
 use Rattle.award_outcome.specs.Right.{minute-uncovered, one-bidder, award}
-use Rattle.award_plain.specs.AwardLaws.{award-none, award-nine, award-settles}
+use Rattle.award_rule.specs.AwardLaws.{award-none, award-nine, award-settles}
 
 module _ (k : Kind) (t : Tender) (n : ℕ) (bids windows : List ℕ) (old new : List AwardRow) (a : Answer)
     (p : Promise k t n bids windows old new a) where

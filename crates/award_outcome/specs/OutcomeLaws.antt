@@ -17,10 +17,10 @@ use Rattle.award_check.specs.Auction.{auctionOf, atPrice}
 use Rattle.award_check.specs.AuctionLaws.{owners-are, entries, with-reserve, EntryAt, owner, house, past, entry-at}
 use Rattle.award_check.specs.Alike.{named, Alike}
 use Rattle.tender.specs.declared.AwardRow.{AwardRow}
-use Rattle.award_plain.specs.Award.{leastCost, greedy, rule, coversIn, won, totalsOf, Outcome, awarded, refused, outcomeNumber, awardOf}
+use Rattle.award_rule.specs.Award.{leastCost, greedy, rule, coversIn, won, totalsOf, Outcome, awarded, refused, outcomeNumber, awardOf}
 use Rattle.award_outcome.specs.Gain.{rowFor, gain, AtMost}
 use Rattle.award_outcome.specs.Right.{LeastCover, WinnerAt, by-owner, by-house, PaidByEight}
-use Rattle.award_plain.specs.AwardLaws.{won-least, cents-least, no-fault, AwardOn, award-awarded, spared, all-spared}
+use Rattle.award_rule.specs.AwardLaws.{won-least, cents-least, no-fault, AwardOn, award-awarded, spared, all-spared}
 use Rattle.award_outcome.specs.SettleLaws.{rowIn, cost-least, house-least, house-wins, largest, vcg-pays, Winner, winners-cover}
 use Rattle.award_outcome.specs.TableLaws.{award-honest, row-is, row-fair}
 

@@ -8,7 +8,7 @@ use Rattle.tender.specs.declared.Tender.{Tender}
 use Rattle.tender.specs.declared.AwardRow.{AwardRow}
 use Rattle.tender.specs.declared.Answer.{Answer}
 use Rattle.tender.specs.declared.Answer.the-variants.{Awarded, Refused}
-use Rattle.award_plain.specs.Award.{Outcome, awarded, refused, awardOf}
+use Rattle.award_rule.specs.Award.{Outcome, awarded, refused, awardOf}
 
 -- the lent award rows after the call: rows past the last bid stay, and all of them where the award declines
 unfoldable pub lentAfter : List AwardRow → Outcome → List AwardRow

@@ -21,7 +21,7 @@ use Rattle.award_check.specs.Cells.{noRow}
 use Rattle.award_check.specs.Auction.{Auction, auctionOf, reserved}
 use Rattle.award_check.specs.Alike.{named}
 use Rattle.tender.specs.declared.AwardRow.{AwardRow}
-use Rattle.award_plain.specs.Award.{Rule, rule, coversIn, Outcome, awarded, refused, awardRows, totalsOf}
+use Rattle.award_rule.specs.Award.{Rule, rule, coversIn, Outcome, awarded, refused, awardRows, totalsOf}
 use Rattle.award_outcome.specs.Gain.{rowFor, gain, AtMost}
 
 -- no rule is broken, and there is an award row for every bid

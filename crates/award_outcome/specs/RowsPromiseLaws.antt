@@ -12,13 +12,13 @@ use Rattle.tender.specs.declared.Totals.{Totals}
 use Rattle.tender.specs.declared.AwardRow.{AwardRow}
 use Rattle.tender.specs.declared.Answer.{Answer}
 use Rattle.tender.specs.declared.Answer.the-variants.{Awarded, Refused}
-use Rattle.award_plain.specs.Award.{awarded}
+use Rattle.award_rule.specs.Award.{awarded}
 use Rattle.award_outcome.specs.Promise.{lentAfter, toldAward, Promise, rowsFilled}
 use Rattle.award_layout.specs.LayoutLaws.{orderly}
 use borrow.Author.Tests.{ltb-false}
-use Rattle.award_plain.specs.Plain.{rowsIn, toldIn, PlainPromise}
+use Rattle.award_rule.specs.Plain.{rowsIn, toldIn, PlainPromise}
 use Rattle.cover.specs.SettledLaws.{length-listed}
-use Rattle.award_plain.specs.AwardLaws.{award-awarded}
+use Rattle.award_rule.specs.AwardLaws.{award-awarded}
 
 rows-count : (n : ℕ) (won cents : List ℕ) → length (rowsIn n won cents) ≡ n
 unfolding rowsIn

@@ -20,8 +20,8 @@ use Rattle.cover.specs.SpareLaws.{Spare, others, others-below, spare-set, spare
 use Rattle.cover.specs.SettledLaws.{getD-listed, cost-sum}
 use Rattle.award_check.specs.Auction.{Auction, atPrice, reserved, thinCell}
 use Rattle.award_check.specs.AuctionLaws.{at-own-price}
-use Rattle.award_plain.specs.Award.{Rule, leastCost, greedy, coversIn, won, cents, awarded, awardRows, totalsOf, thinned, settled}
-use Rattle.award_plain.specs.AwardLaws.{won-least, cents-least, won-greedy, cents-greedy, settled-is}
+use Rattle.award_rule.specs.Award.{Rule, leastCost, greedy, coversIn, won, cents, awarded, awardRows, totalsOf, thinned, settled}
+use Rattle.award_rule.specs.AwardLaws.{won-least, cents-least, won-greedy, cents-greedy, settled-is}
 use Rattle.award_outcome.specs.Gain.{lost, rowFor, gain, AtMost}
 use Rattle.award_outcome.specs.GainLaws.{gain-most}
 

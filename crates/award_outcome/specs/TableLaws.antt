@@ -18,8 +18,8 @@ use Rattle.award_check.specs.Faults.{faultOf}
 use Rattle.award_check.specs.Auction.{Auction, auctionOf}
 use Rattle.award_check.specs.AuctionLaws.{owners-are, entries, owner-spared, price-named, at-own-price, auction-alike}
 use Rattle.award_check.specs.Alike.{Alike}
-use Rattle.award_plain.specs.Award.{rule, won, cents, awarded, refused, uncovered, lone, settled, awardOf}
-use Rattle.award_plain.specs.AwardLaws.{award-none, AwardOn, spared}
+use Rattle.award_rule.specs.Award.{rule, won, cents, awarded, refused, uncovered, lone, settled, awardOf}
+use Rattle.award_rule.specs.AwardLaws.{award-none, AwardOn, spared}
 use Rattle.award_outcome.specs.Gain.{rowFor, gain, AtMost}
 use Rattle.award_outcome.specs.SettleLaws.{settled-honest, row-filled, rowIn, fair}
 

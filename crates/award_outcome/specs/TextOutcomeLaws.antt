@@ -22,8 +22,8 @@ use Rattle.reader_text.specs.PriceLaws.{price-law}
 use Rattle.award_check.specs.Faults.{kindNumber, sameKind, faultOf}
 use Rattle.award_check.specs.Alike.{named}
 use Rattle.award_check.specs.TextLaws.{never-nine, Tabled, tabled}
-use Rattle.award_plain.specs.Award.{Outcome, refused, awardOf}
-use Rattle.award_plain.specs.AwardLaws.{award-nine}
+use Rattle.award_rule.specs.Award.{Outcome, refused, awardOf}
+use Rattle.award_rule.specs.AwardLaws.{award-nine}
 use Rattle.award_outcome.specs.Gain.{rowFor, gain, AtMost}
 use Rattle.award_outcome.specs.Right.{NoGain}
 use Rattle.award_outcome.specs.TableLaws.{award-honest}

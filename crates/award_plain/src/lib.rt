@@ -1,5 +1,5 @@
-// Totals of the flags and cents that an award leaves for its entries, and the owners' flags and cents put into lent lists. `specs/` has
-// what an award answers (`Award`) and what is promised of plain lists (`Plain`).
+// Totals of the flags and cents that an award leaves for its entries, and the owners' flags and cents put into lent lists. `award_rule`
+// has what an award answers (`Award`) and what is promised of plain lists (`Plain`).
 use tender::Answer;
 use tender::Totals;
 ghost use mathlib.Core.Path.{_≡_};
@@ -10,8 +10,8 @@ ghost use Rattle.tender.specs.Limits.{maxEntries};
 ghost use Rattle.cover.specs.Sets.{when};
 ghost use Rattle.cover.specs.Settled.{mostCents};
 ghost use Rattle.cover.specs.SettledLaws.{FilledTo};
-ghost use Rattle.award_plain.specs.Sums.{costIn, paidIn, houseIn, totalsIn};
-ghost use Rattle.award_plain.specs.Plain.{toldIn, wonAfter, centsAfter};
+ghost use Rattle.award_rule.specs.Sums.{costIn, paidIn, houseIn, totalsIn};
+ghost use Rattle.award_rule.specs.Plain.{toldIn, wonAfter, centsAfter};
 
 // The price where the flag is 1.
 fn only(flag: u64, price: u64) -> u64

@@ -3,7 +3,7 @@ use mathlib.Core.List.{List}
 use Prim.Native.Nat.{ℕ, zero, suc}
 use lib.ListN.{getD, set}
 use Rattle.tender.specs.declared.AwardRow.{AwardRow}
-use Rattle.award_plain.specs.Plain.{rowOf}
+use Rattle.award_rule.specs.Plain.{rowOf}
 
 -- the row of bid i: won where its flag is 1, and its cents
 abbrev pub awardRowAt : List ℕ → List ℕ → ℕ → AwardRow

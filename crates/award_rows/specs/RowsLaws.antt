@@ -10,7 +10,7 @@ use lib.Dec.{ltb}
 use borrow.Author.Tests.{ltb-true, ltb-false}
 use Rattle.tender.specs.declared.AwardRow.{AwardRow}
 use Rattle.award_outcome.specs.Gain.{lost}
-use Rattle.award_plain.specs.Plain.{rowsIn}
+use Rattle.award_rule.specs.Plain.{rowsIn}
 use Rattle.cover.specs.SettledLaws.{length-listed, getD-listed}
 use Rattle.award_rows.specs.Rows.{awardRowAt, rowsWritten}
 

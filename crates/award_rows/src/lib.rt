@@ -5,7 +5,7 @@ ghost use mathlib.Core.Path.{_≡_};
 ghost use mathlib.Core.List.{_++_};
 ghost use Prim.Native.Nat.{_≤_};
 ghost use lib.ListN.{length, drop};
-ghost use Rattle.award_plain.specs.Plain.{rowOf, rowsIn};
+ghost use Rattle.award_rule.specs.Plain.{rowOf, rowsIn};
 ghost use Rattle.award_outcome.specs.Promise.{rowsFilled};
 
 // The award row that a bid's flag and cents say: won where its flag is 1, and the cents paid.

@@ -11,8 +11,8 @@ ghost use Prim.Native.Nat.{_≤_, min};
 ghost use lib.ListN.{length};
 ghost use Rattle.tender.specs.Limits.{maxEntries};
 ghost use Rattle.award_check.specs.Faults.{faultOf};
-ghost use Rattle.award_plain.specs.Award.{awardOf};
-ghost use Rattle.award_plain.specs.Plain.{toldIn, PlainPromise};
+ghost use Rattle.award_rule.specs.Award.{awardOf};
+ghost use Rattle.award_rule.specs.Plain.{toldIn, PlainPromise};
 
 // A faultless tender of this kind: flags and cents of all entries.
 fn settle_entries(

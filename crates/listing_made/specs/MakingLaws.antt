@@ -18,7 +18,7 @@ use Rattle.tender.specs.declared.Answer.{Answer}
 use Rattle.tender.specs.declared.Answer.the-variants.{Awarded, Refused}
 use Rattle.award_check.specs.Faults.{faultOf}
 use Rattle.award_check.specs.TextLaws.{never-nine}
-use Rattle.award_plain.specs.Plain.{PlainPromise}
+use Rattle.award_rule.specs.Plain.{PlainPromise}
 use Rattle.spelling.specs.Lines.{refusedLine}
 use Rattle.spelling.specs.Written.{Written}
 use Rattle.spelling.specs.DeliveredLaws.{delivered-none, delivered-all}

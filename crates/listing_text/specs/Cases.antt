@@ -8,7 +8,7 @@ use Rattle.tender.specs.declared.Reserve.the-variants.{Price}
 use Rattle.tender.specs.declared.Tender.{Tender}
 use Rattle.tender.specs.Keywords.{bytes}
 use Rattle.tender.specs.Tables.{Row}
-use Rattle.award_plain.specs.Award.{awarded}
+use Rattle.award_rule.specs.Award.{awarded}
 use Rattle.listing_text.specs.List.{listLines}
 
 multi : Tender

@@ -14,7 +14,7 @@ use Rattle.tender.specs.Keywords.{bytes}
 use Rattle.tender.specs.Tables.{Row, bidWidth}
 use Rattle.award_check.specs.Cells.{noRow}
 use Rattle.tender.specs.declared.AwardRow.{AwardRow}
-use Rattle.award_plain.specs.Award.{Outcome, awarded, refused}
+use Rattle.award_rule.specs.Award.{Outcome, awarded, refused}
 use Rattle.award_outcome.specs.Gain.{lost}
 use Rattle.spelling.specs.Lines.{pairLine, oneLine, kindWord}
 use Rattle.spelling.specs.LineLaws.{kind-short, pair-short, pair-some, one-short, refused-short, refused-some}

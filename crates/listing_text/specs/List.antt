@@ -9,7 +9,7 @@ use Rattle.reader_text.specs.Read.{accepted, readText}
 use Rattle.reader_text.specs.Read as reading
 use Rattle.award_check.specs.Cells.{noRow}
 use Rattle.tender.specs.declared.AwardRow.{AwardRow}
-use Rattle.award_plain.specs.Award.{Outcome, awarded, refused, awardOf}
+use Rattle.award_rule.specs.Award.{Outcome, awarded, refused, awardOf}
 use Rattle.award_outcome.specs.Gain.{lost}
 use Rattle.spelling.specs.Lines.{pairLine, refusedLine}
 use Rattle.spelling.specs.Delivered.{Delivered}

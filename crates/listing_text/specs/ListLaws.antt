@@ -26,12 +26,12 @@ use Rattle.award_check.specs.Auction.{Auction, auctionOf, thinCell}
 use Rattle.award_check.specs.AuctionLaws.{auction-read}
 use Rattle.award_check.specs.Faults.{faultOf}
 use Rattle.award_check.specs.TextLaws.{never-nine}
-use Rattle.award_plain.specs.Award.{rule, Outcome, uncovered, lone, thinned, settled, awardOf, outcomeNumber, outcomePlace}
+use Rattle.award_rule.specs.Award.{rule, Outcome, uncovered, lone, thinned, settled, awardOf, outcomeNumber, outcomePlace}
 use Rattle.award_outcome.specs.Gain.{lost}
-use Rattle.award_plain.specs.AwardLaws.{settled-is, award-none}
+use Rattle.award_rule.specs.AwardLaws.{settled-is, award-none}
 use Rattle.tender.specs.declared.Answer.{Answer}
 use Rattle.tender.specs.declared.Answer.the-variants.{Awarded, Refused}
-use Rattle.award_plain.specs.Plain.{rowsIn, toldIn, PlainPromise}
+use Rattle.award_rule.specs.Plain.{rowsIn, toldIn, PlainPromise}
 use Rattle.spelling.specs.LineLaws.{refused-short, refused-some}
 use Rattle.spelling.specs.DeliveredLaws.{delivered-is}
 use Rattle.listing_text.specs.Lines.{winLine, winLines}

@@ -5,7 +5,7 @@ use Rattle.tender.specs.declared.Tender.{Tender}
 use Rattle.reader_text.specs.Read.{readText}
 use Rattle.tender.specs.declared.Answer.{Answer}
 use Rattle.tender.specs.declared.Answer.the-variants.{Awarded, Refused}
-use Rattle.award_plain.specs.Plain.{PlainPromise}
+use Rattle.award_rule.specs.Plain.{PlainPromise}
 use Rattle.spelling.specs.Lines.{refusedLine}
 use Rattle.spelling.specs.Written.{Written}
 use Rattle.listing_text.specs.Lines.{awardLine, winLines, lastLines}

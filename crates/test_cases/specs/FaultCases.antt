@@ -9,7 +9,7 @@ use Rattle.tender.specs.declared.Kind.{Kind}
 use Rattle.tender.specs.declared.Kind.the-variants.{Single, Multi}
 use Rattle.tender.specs.Plain.{plainTender}
 use Rattle.award_check.specs.Faults.{faultOf}
-use Rattle.award_plain.specs.Award.{Outcome, awardOf, outcomeNumber, outcomePlace}
+use Rattle.award_rule.specs.Award.{Outcome, awardOf, outcomeNumber, outcomePlace}
 
 unfoldable pub refuses : ℕ → ℕ → Outcome → Bool
 unfolding outcomeNumber outcomePlace

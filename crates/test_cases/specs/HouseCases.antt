@@ -10,7 +10,7 @@ use Rattle.tender.specs.declared.Reserve.the-variants.{Price}
 use Rattle.tender.specs.declared.Tender.{Tender}
 use Rattle.tender.specs.declared.AwardRow.{AwardRow}
 use Rattle.award_check.specs.Faults.{faultOf}
-use Rattle.award_plain.specs.Award.{Outcome, awarded, awardOf}
+use Rattle.award_rule.specs.Award.{Outcome, awarded, awardOf}
 use Rattle.test_cases.specs.FaultCases.{refuses, try, bidRow, allTrue}
 
 -- a tender of the kind k from s to e with the reserve p

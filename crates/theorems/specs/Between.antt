@@ -19,7 +19,7 @@ use Rattle.reader.specs.declared.Reading.the-variants as answer
 use Rattle.reader_text.specs.Differ.{DifferInPrice}
 use Rattle.award_check.specs.Cells.{noRow}
 use Rattle.award_check.specs.Auction.{offered, offersOf, thinCell}
-use Rattle.award_plain.specs.Award.{Rule, totalsOf, outcomeNumber}
+use Rattle.award_rule.specs.Award.{Rule, totalsOf, outcomeNumber}
 use Rattle.award_outcome.specs.Right.{Callable}
 use Rattle.award_outcome.specs.Gain.{rowFor, gain, AtMost}
 use Rattle.spelling.specs.Decimal.{decimal}

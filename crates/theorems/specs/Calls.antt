@@ -12,8 +12,8 @@ use Rattle.reader_text.specs.Read.{readInto}
 use Rattle.reader.specs.Answer.{readAnswer, bidsAfter, windowsAfter}
 use Rattle.reader.specs.declared.Reading.{Reading}
 use Rattle.award_check.specs.Auction.{Auction, auctionOf}
-use Rattle.award_plain.specs.Award.{Outcome}
-use Rattle.award_plain.specs.Plain.{toldIn, PlainPromise}
+use Rattle.award_rule.specs.Award.{Outcome}
+use Rattle.award_rule.specs.Plain.{toldIn, PlainPromise}
 use Rattle.award_outcome.specs.Promise.{toldAward, Promise}
 use Rattle.listing_text.specs.List.{Listed}
 use Rattle.writer.specs.declared.Writing.{Writing}

@@ -6,7 +6,7 @@ use Prim.Native.Nat.{ℕ, _-_, _<_}
 use native.Mathlib.Omega.{arith}
 use Rattle.tender.specs.declared.Reserve.the-variants.{Absent}
 use Rattle.award_check.specs.AuctionLaws.{minutes}
-use Rattle.award_plain.specs.Award.{outcomeNumber}
+use Rattle.award_rule.specs.Award.{outcomeNumber}
 use Rattle.award_outcome.specs.Right.{Bidders, EarliestIn, OneAnswer, tables-break-a-rule, rows-too-few, minute-uncovered}
 use Rattle.award_outcome.specs.Right.{one-bidder, award}
 use Rattle.award_outcome.specs.OneAnswerLaws.{one-answer}

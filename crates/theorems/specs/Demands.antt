@@ -35,10 +35,10 @@ use Rattle.reader_text.specs.DifferInSpelling.{DifferInSpelling}
 use Rattle.award_check.specs.Cells.{noRow}
 use Rattle.award_check.specs.Auction.{atPrice}
 use Rattle.award_check.specs.Alike.{named, Alike}
-use Rattle.award_plain.specs.Award.{leastCost, greedy, rule, won, awarded, awardOf, outcomeNumber}
-use Rattle.award_plain.specs.Award.{refused as refusal}
-use Rattle.award_plain.specs.Plain.{toldIn, PlainPromise}
-use Rattle.award_plain.specs.AwardLaws.{award-lent}
+use Rattle.award_rule.specs.Award.{leastCost, greedy, rule, won, awarded, awardOf, outcomeNumber}
+use Rattle.award_rule.specs.Award.{refused as refusal}
+use Rattle.award_rule.specs.Plain.{toldIn, PlainPromise}
+use Rattle.award_rule.specs.AwardLaws.{award-lent}
 use Rattle.award_outcome.specs.Gain.{rowFor, gain, AtMost}
 use Rattle.award_outcome.specs.Promise.{lentAfter, Promise}
 use Rattle.award_outcome.specs.RowsPromiseLaws.{rows-promise}

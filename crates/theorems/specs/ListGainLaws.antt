@@ -22,8 +22,8 @@ use Rattle.reader_text.specs.PriceLaws.{price-law}
 use Rattle.award_check.specs.Cells.{noRow}
 use Rattle.award_check.specs.Auction.{Auction, auctionOf}
 use Rattle.award_check.specs.Alike.{named}
-use Rattle.award_plain.specs.Award.{rule, Outcome, awarded, refused, awardOf}
-use Rattle.award_plain.specs.AwardLaws.{award-awarded}
+use Rattle.award_rule.specs.Award.{rule, Outcome, awarded, refused, awardOf}
+use Rattle.award_rule.specs.AwardLaws.{award-awarded}
 use Rattle.award_outcome.specs.Gain.{lost, rowFor}
 use Rattle.award_outcome.specs.SettleLaws.{lost-nothing, rowIn}
 use Rattle.award_outcome.specs.TableLaws.{row-is}

@@ -26,8 +26,8 @@ use Rattle.reader_text.specs.RulesLaws.{rules-law}
 use Rattle.award_check.specs.Auction.{Auction, auctionOf, thinCell}
 use Rattle.award_check.specs.Faults.{faultOf}
 use Rattle.award_check.specs.TextLaws.{never-nine}
-use Rattle.award_plain.specs.Award.{rule, Outcome, awarded, refused, awardRows, totalsOf, uncovered, lone, thinned, awardOf}
-use Rattle.award_plain.specs.AwardLaws.{award-settles}
+use Rattle.award_rule.specs.Award.{rule, Outcome, awarded, refused, awardRows, totalsOf, uncovered, lone, thinned, awardOf}
+use Rattle.award_rule.specs.AwardLaws.{award-settles}
 use Rattle.spelling.specs.Lines.{pairLine, refusedWord}
 use Rattle.spelling.specs.LineLaws.{refused-line}
 use Rattle.listing_text.specs.Lines.{awardWord, awardLine}

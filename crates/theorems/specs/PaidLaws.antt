@@ -24,7 +24,7 @@ use Rattle.reader_text.specs.Rules.{RowsRules, Rules}
 use Rattle.award_check.specs.Cells.{noRow}
 use Rattle.award_check.specs.Auction.{houses, Auction, auctionOf}
 use Rattle.award_check.specs.AuctionLaws.{minutes, entries, price-named, house-price, EntryAt, owner, house, past, entry-at}
-use Rattle.award_plain.specs.Award.{Rule, leastCost, greedy, coversIn, cents}
+use Rattle.award_rule.specs.Award.{Rule, leastCost, greedy, coversIn, cents}
 
 -- payments
 

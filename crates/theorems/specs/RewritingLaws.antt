@@ -24,8 +24,8 @@ use Rattle.spelling.specs.DeliveredLaws.{delivered-is}
 use Rattle.award_check.specs.Faults.{faultOf}
 use Rattle.award_check.specs.TextLaws.{rows-flat}
 use Rattle.award_check.specs.AlikeLaws.{rows-length}
-use Rattle.award_plain.specs.Award as outcome
-use Rattle.award_plain.specs.AwardLaws.{award-nine}
+use Rattle.award_rule.specs.Award as outcome
+use Rattle.award_rule.specs.AwardLaws.{award-nine}
 use Rattle.award_outcome.specs.Right.{OneAnswer, tables-break-a-rule, rows-too-few, minute-uncovered, one-bidder, award}
 use Rattle.award_outcome.specs.OneAnswerLaws.{one-answer}
 use Rattle.writer.specs.declared.Writing.{Writing}

@@ -22,7 +22,7 @@ use Rattle.tender.specs.Tables.{Row}
 use Rattle.reader_parts.specs.Words.{andThen, growFirst, cut, among, sameBytes, closed, digits}
 use Rattle.reader_parts.specs.CutLaws.{cut-end}
 use Rattle.award_check.specs.Cells.{noRow}
-use Rattle.award_plain.specs.Award.{awarded}
+use Rattle.award_rule.specs.Award.{awarded}
 use Rattle.award_outcome.specs.Gain.{lost}
 use Rattle.spelling.specs.Decimal.{decimal}
 use Rattle.spelling.specs.Lines.{closing, numbers, pairLine, oneLine, kindWord, refusedWord, refusedLine}

@@ -12,7 +12,7 @@ use Rattle.tender.specs.Tables.{Row, rowsOf}
 use Rattle.reader_line.specs.Line.{BidLine}
 use Rattle.award_check.specs.Auction.{offered, houseOf, offersOf}
 use Rattle.award_check.specs.AuctionLaws.{without-reserve, thin-told, owners-are, cells-are}
-use Rattle.award_plain.specs.Award.{won, awarded, totalsOf}
+use Rattle.award_rule.specs.Award.{won, awarded, totalsOf}
 use Rattle.spelling.specs.Lines.{pairLine}
 use Rattle.spelling.specs.Text.{tenderText, reserveText, headText, bidsText, textOf}
 use Rattle.listing_text.specs.Lines.{totalWord, awardLine, houseLine, lastLines}

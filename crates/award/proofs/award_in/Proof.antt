@@ -53,7 +53,7 @@ use Rattle.tender.proofs.Tender.Laws as Ten′
 use Rattle.tender.specs.declared.Answer.{Answer}
 use Rattle.tender.specs.declared.AwardRow.{AwardRow}
 use Rattle.award_outcome.specs.Promise.{Promise, rowsFilled}
-use Rattle.award_plain.specs.Plain.{rowsIn, PlainPromise}
+use Rattle.award_rule.specs.Plain.{rowsIn, PlainPromise}
 use Rattle.award_outcome.specs.RowsPromiseLaws.{rows-fit, filled-promise}
 use Rattle.award.specs.declared.Settled.{Settled}
 use Rattle.award_rows.proofs.WalkSteps.{spent, answered}

@@ -2,8 +2,8 @@
 use Prim.Native.Nat.{_-_}
 use native.Mathlib.Omega.{arith}
 use lib.ListN.{length}
-use Rattle.award_plain.specs.Sums.{asked}
-use Rattle.award_plain.specs.SumsLaws.{Added, added-none, added-more, cost-all}
+use Rattle.award_rule.specs.Sums.{asked}
+use Rattle.award_rule.specs.SumsLaws.{Added, added-none, added-more, cost-all}
 use Rattle.award_plain.proofs.cost.Statement.{statement}
 use Rattle.award_plain.proofs.cost.Tie as tie
 use Rattle.award_plain.proofs.cost.Reads as reads

@@ -1,7 +1,7 @@
 -- `award_plain::house` meets its contract: each way out rewrites with the test that led there. Assumes nothing.
 use lib.ListN.{length}
 use borrow.Author.Tests.{lt-ltb, le-ltb}
-use Rattle.award_plain.specs.Sums.{houseIn}
+use Rattle.award_rule.specs.Sums.{houseIn}
 use borrow.Author.Needs.{needs}
 use Rattle.award_plain.proofs.house.Statement.{statement}
 use Rattle.award_plain.proofs.house.Tie as tie

@@ -2,7 +2,7 @@
 use Prim.Native.Nat.{_-_}
 use native.Mathlib.Omega.{arith}
 use lib.ListN.{getD}
-use Rattle.award_plain.specs.SumsLaws.{Added, added-none, added-more, paid-all}
+use Rattle.award_rule.specs.SumsLaws.{Added, added-none, added-more, paid-all}
 use mathlib.Core.Path.{refl}
 use Rattle.award_plain.proofs.paid.Statement.{statement}
 use Rattle.award_plain.proofs.paid.Tie as tie

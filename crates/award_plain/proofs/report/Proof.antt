@@ -1,8 +1,8 @@
 -- `award_plain::report` meets its contract: an award's flags and cents are put, a refusal leaves both lists. Assumes nothing.
 use mathlib.Core.Path.{refl}
 use native.Mathlib.Omega.{arith}
-use Rattle.award_plain.specs.Plain.{toldIn, wonAfter, centsAfter}
-use Rattle.award_plain.specs.ReportLaws.{flags-written, cents-written}
+use Rattle.award_rule.specs.Plain.{toldIn, wonAfter, centsAfter}
+use Rattle.award_rule.specs.ReportLaws.{flags-written, cents-written}
 use borrow.Author.Needs.{needs}
 use Rattle.award_plain.proofs.report.Statement.{statement}
 use Rattle.award_plain.proofs.report.Tie as tie

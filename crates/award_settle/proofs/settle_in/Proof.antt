@@ -3,7 +3,7 @@ use mathlib.Core.Path.{sym, ap, _∙_}
 use native.Mathlib.Omega.{arith}
 use Rattle.award_fault.specs.Checks.{checkedFault}
 use Rattle.award_layout.specs.LayoutLaws.{orderly}
-use Rattle.award_plain.specs.PlainLaws.{nine, ten, lent-more}
+use Rattle.award_rule.specs.PlainLaws.{nine, ten, lent-more}
 use borrow.Author.Needs.{needs}
 use Rattle.award_settle.proofs.settle_in.Statement.{statement}
 use Rattle.award_settle.proofs.settle_in.Tie as tie

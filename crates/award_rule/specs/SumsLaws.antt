@@ -14,8 +14,8 @@ use Rattle.cover.specs.CriticalPrice.{sum}
 use Rattle.cover.specs.Settled.{listed, mostCents}
 use Rattle.cover.specs.SettledLaws.{listed-same, sumTo, sum-none, sum-more, sum-listed}
 use Rattle.award_check.specs.Auction.{Auction, reserved}
-use Rattle.award_plain.specs.Award.{Rule, won, cents, totalsOf}
-use Rattle.award_plain.specs.Sums.{asked, costIn, paidIn, houseIn, totalsIn}
+use Rattle.award_rule.specs.Award.{Rule, won, cents, totalsOf}
+use Rattle.award_rule.specs.Sums.{asked, costIn, paidIn, houseIn, totalsIn}
 
 -- s is the sum of f below k, of n numbers that are each no more than a payment can be
 pub record Added (f : ℕ → ℕ) (n k s : ℕ) : Type 0 where

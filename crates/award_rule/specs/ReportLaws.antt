@@ -16,8 +16,8 @@ use Rattle.cover.specs.Sets.{when}
 use Rattle.cover.specs.SetLaws.{when-is}
 use Rattle.cover.specs.Settled.{listed}
 use Rattle.cover.specs.SettledLaws.{FilledTo, length-listed, getD-listed, listed-same, map-listed, listed-of}
-use Rattle.award_plain.specs.Award.{awarded, awardOf}
-use Rattle.award_plain.specs.Plain.{rowOf, rowsIn, toldIn, wonAfter, centsAfter, PlainPromise}
+use Rattle.award_rule.specs.Award.{awarded, awardOf}
+use Rattle.award_rule.specs.Plain.{rowOf, rowsIn, toldIn, wonAfter, centsAfter, PlainPromise}
 
 -- what a list has after the places of n entries were written
 module _ (n : ℕ) (flags pays old new : List ℕ) (totals : Totals) (room : n ≤ length old) where

@@ -30,13 +30,13 @@ use Rattle.award_check.specs.Auction.{Auction, auctionOf, thinCell}
 use Rattle.award_check.specs.AuctionLaws.{owners-are, entries}
 use Rattle.tender.specs.declared.Answer.{Answer}
 use Rattle.tender.specs.declared.Answer.the-variants.{Awarded, Refused}
-use Rattle.award_plain.specs.Award.{coversIn, won, cents, awarded, refused, awardRows, totalsOf, thinned, settled, awardOf}
-use Rattle.award_plain.specs.Award.{leastCost, greedy, rule, uncovered, lone}
-use Rattle.award_plain.specs.Sums.{totalsIn}
-use Rattle.award_plain.specs.SumsLaws.{totals-are}
-use Rattle.award_plain.specs.Plain.{rowsIn, toldIn, wonAfter, centsAfter, PlainPromise}
-use Rattle.award_plain.specs.AwardLaws.{won-least, cents-least, won-greedy, cents-greedy, award-none, award-lent, award-nine}
-use Rattle.award_plain.specs.AwardLaws.{award-settles}
+use Rattle.award_rule.specs.Award.{coversIn, won, cents, awarded, refused, awardRows, totalsOf, thinned, settled, awardOf}
+use Rattle.award_rule.specs.Award.{leastCost, greedy, rule, uncovered, lone}
+use Rattle.award_rule.specs.Sums.{totalsIn}
+use Rattle.award_rule.specs.SumsLaws.{totals-are}
+use Rattle.award_rule.specs.Plain.{rowsIn, toldIn, wonAfter, centsAfter, PlainPromise}
+use Rattle.award_rule.specs.AwardLaws.{won-least, cents-least, won-greedy, cents-greedy, award-none, award-lent, award-nine}
+use Rattle.award_rule.specs.AwardLaws.{award-settles}
 
 module _ (k : Kind) (t : Tender) (n : ℕ) (bids windows : List ℕ) where
   abbrev A : Auction

@@ -11,7 +11,7 @@ use Rattle.cover.specs.Settled.{listed}
 use Rattle.tender.specs.declared.AwardRow.{AwardRow}
 use Rattle.tender.specs.declared.Answer.{Answer}
 use Rattle.tender.specs.declared.Answer.the-variants.{Awarded, Refused}
-use Rattle.award_plain.specs.Award.{Outcome, awarded, refused, awardOf}
+use Rattle.award_rule.specs.Award.{Outcome, awarded, refused, awardOf}
 
 -- the award row that a bid's flag and cents say
 abbrev pub rowOf : ℕ → ℕ → AwardRow

@@ -23,8 +23,8 @@ use Rattle.cover.specs.SettledLaws.{length-listed}
 use Rattle.award_check.specs.Faults.{faultOf}
 use Rattle.award_check.specs.Auction.{Auction, auctionOf, thinCell}
 use Rattle.award_check.specs.AuctionLaws.{owners-are, owner-spared, all-have}
-use Rattle.award_plain.specs.Award.{won, cents, Outcome, awarded, refused, awardRows, totalsOf, thinned, settled, judged, awardOf}
-use Rattle.award_plain.specs.Award.{Rule, leastCost, greedy, rule, uncovered, lone, outcomeNumber}
+use Rattle.award_rule.specs.Award.{won, cents, Outcome, awarded, refused, awardRows, totalsOf, thinned, settled, judged, awardOf}
+use Rattle.award_rule.specs.Award.{Rule, leastCost, greedy, rule, uncovered, lone, outcomeNumber}
 
 pub won-least : (A : Auction) (i n : ℕ) → length (A .prices) ≡ n
     → won leastCost A i ≡ bit (winners (covers (A .has) n (A .cells)) (A .prices)) i
