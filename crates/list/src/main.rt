@@ -50,7 +50,7 @@ fn list_long(first: &[u8])
     requires { ⌜ length (now first) ≤ 65537 ⌝ }
 {
     let mut buf = [0u8; 65537];
-    let begun = spelling::put_all(&mut buf, 0, first);
+    let begun = spelling_put::put_all(&mut buf, 0, first);
     match read_on(STDIN_FILENO, &mut buf, begun) {
         Input::Text(n) => {
             let k = listing_made::make_in(&mut buf, n);

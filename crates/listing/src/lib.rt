@@ -11,7 +11,7 @@ fn make_apart(text: &[u8], list: &mut [u8]) -> usize
     if list.len() < n {
         return 0;
     }
-    spelling::put_all(list, 0, &made[..n])
+    spelling_put::put_all(list, 0, &made[..n])
 }
 
 // The list of a text: its length, with the list at the start of `list` and the bytes past it staying; 0 where the list

@@ -16,9 +16,9 @@ fn put_award(buf: &mut [u8], at: usize, tender: Tender) -> usize
     ensures { λ r. ⌜ Written (now (buf .entry)) at (awardLine tender) (now (buf .exit)) r ⌝ }
 {
     let kind = tender.kind;
-    let begun = spelling::put_all(buf, at, b"(award ");
-    let said = spelling::put_kind(buf, begun, kind);
-    spelling::put_numbers(buf, said, tender.window.start, tender.window.end)
+    let begun = spelling_put::put_all(buf, at, b"(award ");
+    let said = spelling_put::put_kind(buf, begun, kind);
+    spelling_put::put_numbers(buf, said, tender.window.start, tender.window.end)
 }
 
 // The line (win bidder cents), where the bid won.
@@ -27,7 +27,7 @@ fn put_win(buf: &mut [u8], at: usize, bidder: u64, flag: u64, cents: u64) -> usi
     ensures { λ r. ⌜ Written (now (buf .entry)) at (winLine bidder flag cents) (now (buf .exit)) r ⌝ }
 {
     if flag == 1 {
-        spelling::put_pair(buf, at, b"win", bidder, cents)
+        spelling_put::put_pair(buf, at, b"win", bidder, cents)
     } else {
         at
     }
@@ -59,7 +59,7 @@ fn put_house(buf: &mut [u8], at: usize, reserve: Reserve, won: bool) -> usize
     }
     match reserve {
         Reserve::Absent => at,
-        Reserve::Price(price) => spelling::put_one(buf, at, b"house", price),
+        Reserve::Price(price) => spelling_put::put_one(buf, at, b"house", price),
     }
 }
 
@@ -70,7 +70,7 @@ fn put_last(buf: &mut [u8], at: usize, tender: Tender, totals: Totals) -> usize
 {
     let reserve = tender.reserve;
     let said = put_house(buf, at, reserve, totals.house);
-    spelling::put_pair(buf, said, b"total", totals.cost, totals.paid)
+    spelling_put::put_pair(buf, said, b"total", totals.cost, totals.paid)
 }
 
 // The list of an award that is made.

@@ -30,7 +30,7 @@ fn put_award(list: &mut [u8], tender: Tender, n: usize, bids: &[u64], windows: &
             &cents,
             totals,
         ),
-        Answer::Refused(r) => spelling::put_refused(list, r),
+        Answer::Refused(r) => spelling_put::put_refused(list, r),
     }
 }
 
@@ -47,7 +47,7 @@ pub fn make(text: &[u8], list: &mut [u8]) -> usize
             bids: n,
             windows: _,
         } => put_award(list, tender, n, &bids, &windows),
-        Filling::Refused(r) => spelling::put_refused(list, r),
+        Filling::Refused(r) => spelling_put::put_refused(list, r),
     }
 }
 
@@ -64,6 +64,6 @@ pub fn make_in(buf: &mut [u8], n: usize) -> usize
             bids: k,
             windows: _,
         } => put_award(buf, tender, k, &bids, &windows),
-        Filling::Refused(r) => spelling::put_refused(buf, r),
+        Filling::Refused(r) => spelling_put::put_refused(buf, r),
     }
 }

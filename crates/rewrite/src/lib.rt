@@ -13,11 +13,11 @@ fn deliver_refusal(refusal: Refusal, out: &mut [u8]) -> usize
     ensures { λ r. ⌜ Delivered (refusedLine refusal) (now (out .entry)) (now (out .exit)) r ⌝ }
 {
     let mut line = [1u8; 52];
-    let n = spelling::put_refused(&mut line, refusal);
+    let n = spelling_put::put_refused(&mut line, refusal);
     if out.len() < n {
         return 0;
     }
-    spelling::put_all(out, 0, &line[..n])
+    spelling_put::put_all(out, 0, &line[..n])
 }
 
 // The text of tables, where it is written: 0 stands for any refusal.

@@ -33,7 +33,7 @@ fn write_sound(
     if text.len() < n {
         return Writing::Refused(Refusal::NoRoom);
     }
-    let end = spelling::put_all(text, 0, &made[..n]);
+    let end = spelling_put::put_all(text, 0, &made[..n]);
     Writing::Written(end)
 }
 

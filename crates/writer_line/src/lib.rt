@@ -19,10 +19,10 @@ fn put_window(buf: &mut [u8], at: usize, start: u64, end: u64) -> usize
     requires { ⌜ at + 44 ≤ length (now buf) ⌝ }
     ensures { λ r. ⌜ Written (now (buf .entry)) at (windowText (record { start = start; end = end })) (now (buf .exit)) r ⌝ }
 {
-    let begun = spelling::put_all(buf, at, b" (");
-    let said = spelling::put_decimal(buf, begun, start);
-    let ended = spelling::put_number(buf, said, end);
-    spelling::put(buf, ended, b')')
+    let begun = spelling_put::put_all(buf, at, b" (");
+    let said = spelling_put::put_decimal(buf, begun, start);
+    let ended = spelling_put::put_number(buf, said, end);
+    spelling_put::put(buf, ended, b')')
 }
 
 // The windows from `first` on, `count` of them, joined. Lent beside the buffer: a row for their minutes, one without a cell and
@@ -80,11 +80,11 @@ pub fn put_bid(
         (record { bidder = bidder; price = price; windows = windowsOf count (drop (windowWidth * first) (now (windows .entry))) })))
         (now (buf .exit)) r × (length (now (row .exit)) ≡ rowWords) ⌝ }
 {
-    let begun = spelling::put_all(buf, at, b"(bid ");
-    let named = spelling::put_decimal(buf, begun, bidder);
-    let priced = spelling::put_number(buf, named, price);
+    let begun = spelling_put::put_all(buf, at, b"(bid ");
+    let named = spelling_put::put_decimal(buf, begun, bidder);
+    let priced = spelling_put::put_number(buf, named, price);
     let ended = put_windows(buf, priced, windows, first, count, row, blank, full);
-    spelling::put_all(buf, ended, b")\n")
+    spelling_put::put_all(buf, ended, b")\n")
 }
 
 // "(tender KIND START END)" and byte 10.
@@ -93,9 +93,9 @@ fn put_tender(buf: &mut [u8], tender: Tender) -> usize
     ensures { λ r. ⌜ Written (now (buf .entry)) 0 (tenderText tender) (now (buf .exit)) r ⌝ }
 {
     let kind = tender.kind;
-    let begun = spelling::put_all(buf, 0, b"(tender ");
-    let said = spelling::put_kind(buf, begun, kind);
-    spelling::put_numbers(buf, said, tender.window.start, tender.window.end)
+    let begun = spelling_put::put_all(buf, 0, b"(tender ");
+    let said = spelling_put::put_kind(buf, begun, kind);
+    spelling_put::put_numbers(buf, said, tender.window.start, tender.window.end)
 }
 
 // "(reserve PRICE)" and byte 10, where there is a reserve.
@@ -105,7 +105,7 @@ fn put_reserve(buf: &mut [u8], at: usize, reserve: Reserve) -> usize
 {
     match reserve {
         Reserve::Absent => at,
-        Reserve::Price(price) => spelling::put_one(buf, at, &tender::RESERVE, price),
+        Reserve::Price(price) => spelling_put::put_one(buf, at, &tender::RESERVE, price),
     }
 }
 

@@ -13,7 +13,7 @@ use Rattle.list.proofs.read_on.Reads as read-on-reads
 use Rattle.list.proofs.tell_unread.Reads as tell-unread-reads
 use Rattle.list.proofs.write_list.Reads as write-list-reads
 use Rattle.listing_made.proofs.make_in.Reads as make-in-reads
-use Rattle.spelling.proofs.put_all.Reads as put-all-reads
+use Rattle.spelling_put.proofs.put_all.Reads as put-all-reads
 
 slice-aggregate-put-all : tie.Need-slice-aggregate-put-all
 slice-aggregate-put-all c = search needs

@@ -7,7 +7,7 @@ use Rattle.listing.proofs.make_apart.Statement.{statement}
 use Rattle.listing.proofs.make_apart.Tie as tie
 use Rattle.listing.proofs.make_apart.Reads as reads
 use Rattle.listing.proofs.make_apart.Lts as lts
-use Rattle.spelling.proofs.put_all.Reads as put-all-reads
+use Rattle.spelling_put.proofs.put_all.Reads as put-all-reads
 use Rattle.listing_made.proofs.make.Reads as make-reads
 
 slice-aggregate-make : tie.Need-slice-aggregate-make

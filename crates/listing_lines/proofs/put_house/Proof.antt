@@ -8,7 +8,7 @@ use Rattle.listing_lines.proofs.put_house.Statement.{statement}
 use Rattle.listing_lines.proofs.put_house.Tie as tie
 use Rattle.listing_lines.proofs.put_house.Reads as reads
 use Rattle.listing_lines.proofs.put_house.Lts as lts
-use Rattle.spelling.proofs.put_one.Reads as put-one-reads
+use Rattle.spelling_put.proofs.put_one.Reads as put-one-reads
 
 returns : tie.Need-returns
 returns c =

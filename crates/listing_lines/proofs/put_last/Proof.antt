@@ -9,7 +9,7 @@ use Rattle.listing_lines.proofs.put_last.Tie as tie
 use Rattle.listing_lines.proofs.put_last.Reads as reads
 use Rattle.listing_lines.proofs.put_last.Lts as lts
 use Rattle.listing_lines.proofs.put_house.Reads as put-house-reads
-use Rattle.spelling.proofs.put_pair.Reads as put-pair-reads
+use Rattle.spelling_put.proofs.put_pair.Reads as put-pair-reads
 
 put-house-requires : tie.Need-put-house-requires
 put-house-requires c κs = search needs

@@ -7,7 +7,7 @@ use Rattle.listing_lines.proofs.put_win.Statement.{statement}
 use Rattle.listing_lines.proofs.put_win.Tie as tie
 use Rattle.listing_lines.proofs.put_win.Reads as reads
 use Rattle.listing_lines.proofs.put_win.Lts as lts
-use Rattle.spelling.proofs.put_pair.Reads as put-pair-reads
+use Rattle.spelling_put.proofs.put_pair.Reads as put-pair-reads
 
 slice-aggregate-put-pair : tie.Need-slice-aggregate-put-pair
 slice-aggregate-put-pair c = search needs

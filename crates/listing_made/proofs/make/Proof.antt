@@ -10,7 +10,7 @@ use Rattle.listing_made.proofs.make.Tie as tie
 use Rattle.listing_made.proofs.make.Reads as reads
 use Rattle.listing_made.proofs.make.Lts as lts
 use Rattle.listing_made.proofs.put_award.Reads as put-award-reads
-use Rattle.spelling.proofs.put_refused.Reads as put-refused-reads
+use Rattle.spelling_put.proofs.put_refused.Reads as put-refused-reads
 use Rattle.reader_fill.proofs.fill.Reads as fill-reads
 
 slice-aggregate-fill : tie.Need-slice-aggregate-fill

@@ -14,7 +14,7 @@ use Rattle.listing_made.proofs.make_in.Reads as reads
 use Rattle.listing_made.proofs.make_in.Lts as lts
 use Rattle.listing_made.proofs.put_award.Reads as put-award-reads
 use Rattle.reader_fill.proofs.fill.Reads as fill-reads
-use Rattle.spelling.proofs.put_refused.Reads as put-refused-reads
+use Rattle.spelling_put.proofs.put_refused.Reads as put-refused-reads
 
 slice-reshare-prefix-fill : tie.Need-slice-reshare-prefix-fill
 slice-reshare-prefix-fill c = search needs

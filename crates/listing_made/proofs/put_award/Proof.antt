@@ -7,7 +7,7 @@ use Rattle.listing_made.proofs.put_award.Reads as reads
 use Rattle.listing_made.proofs.put_award.Lts as lts
 use Rattle.award_settle.proofs.settle_sound.Reads as settle-sound-reads
 use Rattle.listing_lines.proofs.put_awarded.Reads as put-awarded-reads
-use Rattle.spelling.proofs.put_refused.Reads as put-refused-reads
+use Rattle.spelling_put.proofs.put_refused.Reads as put-refused-reads
 
 slice-aggregate-settle-sound : tie.Need-slice-aggregate-settle-sound
 slice-aggregate-settle-sound c = search needs

@@ -8,8 +8,8 @@ use Rattle.rewrite.proofs.deliver_refusal.Statement.{statement}
 use Rattle.rewrite.proofs.deliver_refusal.Tie as tie
 use Rattle.rewrite.proofs.deliver_refusal.Reads as reads
 use Rattle.rewrite.proofs.deliver_refusal.Lts as lts
-use Rattle.spelling.proofs.put_all.Reads as put-all-reads
-use Rattle.spelling.proofs.put_refused.Reads as put-refused-reads
+use Rattle.spelling_put.proofs.put_all.Reads as put-all-reads
+use Rattle.spelling_put.proofs.put_refused.Reads as put-refused-reads
 
 -- src/lib.rt:17:35
 slice-aggregate-put-refused : tie.Need-slice-aggregate-put-refused

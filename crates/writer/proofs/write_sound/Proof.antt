@@ -9,7 +9,7 @@ use Rattle.writer.proofs.write_sound.Statement.{statement}
 use Rattle.writer.proofs.write_sound.Tie as tie
 use Rattle.writer.proofs.write_sound.Reads as reads
 use Rattle.writer.proofs.write_sound.Lts as lts
-use Rattle.spelling.proofs.put_all.Reads as put-all-reads
+use Rattle.spelling_put.proofs.put_all.Reads as put-all-reads
 use Rattle.writer_made.proofs.put_text.Reads as put-text-reads
 
 slice-aggregate-put-text : tie.Need-slice-aggregate-put-text

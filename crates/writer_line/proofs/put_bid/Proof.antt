@@ -12,9 +12,9 @@ use Rattle.writer_line.proofs.put_bid.Statement.{statement}
 use Rattle.writer_line.proofs.put_bid.Tie as tie
 use Rattle.writer_line.proofs.put_bid.Reads as reads
 use Rattle.writer_line.proofs.put_bid.Lts as lts
-use Rattle.spelling.proofs.put_all.Reads as put-all-reads
-use Rattle.spelling.proofs.put_decimal.Reads as put-decimal-reads
-use Rattle.spelling.proofs.put_number.Reads as put-number-reads
+use Rattle.spelling_put.proofs.put_all.Reads as put-all-reads
+use Rattle.spelling_put.proofs.put_decimal.Reads as put-decimal-reads
+use Rattle.spelling_put.proofs.put_number.Reads as put-number-reads
 use Rattle.writer_line.proofs.put_windows.Reads as put-windows-reads
 
 slice-aggregate-put-all : tie.Need-slice-aggregate-put-all

@@ -6,7 +6,7 @@ use Rattle.writer_line.proofs.put_reserve.Statement.{statement}
 use Rattle.writer_line.proofs.put_reserve.Tie as tie
 use Rattle.writer_line.proofs.put_reserve.Reads as reads
 use Rattle.writer_line.proofs.put_reserve.Lts as lts
-use Rattle.spelling.proofs.put_one.Reads as put-one-reads
+use Rattle.spelling_put.proofs.put_one.Reads as put-one-reads
 
 enum-told : tie.Need-enum-told
 enum-told c = search needs

@@ -8,10 +8,10 @@ use Rattle.writer_line.proofs.put_window.Statement.{statement}
 use Rattle.writer_line.proofs.put_window.Tie as tie
 use Rattle.writer_line.proofs.put_window.Reads as reads
 use Rattle.writer_line.proofs.put_window.Lts as lts
-use Rattle.spelling.proofs.put.Reads as put-reads
-use Rattle.spelling.proofs.put_all.Reads as put-all-reads
-use Rattle.spelling.proofs.put_decimal.Reads as put-decimal-reads
-use Rattle.spelling.proofs.put_number.Reads as put-number-reads
+use Rattle.spelling_put.proofs.put.Reads as put-reads
+use Rattle.spelling_put.proofs.put_all.Reads as put-all-reads
+use Rattle.spelling_put.proofs.put_decimal.Reads as put-decimal-reads
+use Rattle.spelling_put.proofs.put_number.Reads as put-number-reads
 
 slice-aggregate-put-all : tie.Need-slice-aggregate-put-all
 slice-aggregate-put-all c = search needs

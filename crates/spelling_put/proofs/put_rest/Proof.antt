@@ -4,11 +4,11 @@ use Prim.Native.Nat.{_-_}
 use lib.ListN.{length, drop, length-drop}
 use lib.Seq.{take-all}
 use borrow.Author.Needs.{needs}
-use Rattle.spelling.proofs.put_rest.Statement.{statement}
-use Rattle.spelling.proofs.put_rest.Tie as tie
-use Rattle.spelling.proofs.put_rest.Reads as reads
-use Rattle.spelling.proofs.put_rest.Lts as lts
-use Rattle.spelling.proofs.put_all.Reads as put-all-reads
+use Rattle.spelling_put.proofs.put_rest.Statement.{statement}
+use Rattle.spelling_put.proofs.put_rest.Tie as tie
+use Rattle.spelling_put.proofs.put_rest.Reads as reads
+use Rattle.spelling_put.proofs.put_rest.Lts as lts
+use Rattle.spelling_put.proofs.put_all.Reads as put-all-reads
 
 sub-put-all : tie.Need-sub-put-all
 sub-put-all c = search needs

@@ -1,14 +1,14 @@
 -- Each kind's keyword. Assumes nothing.
 use Rattle.tender.specs.declared.Kind.the-variants.{Single, Multi}
 use Rattle.tender.specs.Keywords.{bytes, singleWord, multiWord}
 use Rattle.spelling.specs.Lines.{kindWord}
 use Rattle.spelling.specs.SpellingLaws.{kind-written}
 use borrow.Author.Needs.{needs}
-use Rattle.spelling.proofs.put_kind.Statement.{statement}
-use Rattle.spelling.proofs.put_kind.Tie as tie
-use Rattle.spelling.proofs.put_kind.Reads as reads
-use Rattle.spelling.proofs.put_kind.Lts as lts
-use Rattle.spelling.proofs.put_all.Reads as put-all-reads
+use Rattle.spelling_put.proofs.put_kind.Statement.{statement}
+use Rattle.spelling_put.proofs.put_kind.Tie as tie
+use Rattle.spelling_put.proofs.put_kind.Reads as reads
+use Rattle.spelling_put.proofs.put_kind.Lts as lts
+use Rattle.spelling_put.proofs.put_all.Reads as put-all-reads
 
 enum-told : tie.Need-enum-told
 enum-told c = search needs

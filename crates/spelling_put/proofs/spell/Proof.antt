@@ -3,11 +3,11 @@ use native.Mathlib.Omega.{arith}
 use mathlib.Core.Path.{sym, _∙_}
 use Prim.Native.Nat.{_+_, _-_, _%_}
 use lib.ListN.{length-set}
 use Rattle.spelling.specs.SpellingLaws.{Spelling, spell-begins, spell-goes, spell-ends}
-use Rattle.spelling.proofs.spell.Statement.{statement}
-use Rattle.spelling.proofs.spell.Tie as tie
-use Rattle.spelling.proofs.spell.Reads as reads
-use Rattle.spelling.proofs.spell.Lts as lts
+use Rattle.spelling_put.proofs.spell.Statement.{statement}
+use Rattle.spelling_put.proofs.spell.Tie as tie
+use Rattle.spelling_put.proofs.spell.Reads as reads
+use Rattle.spelling_put.proofs.spell.Lts as lts
 
 abbrev Inv-loop : tie.InvT-loop
 Inv-loop n digits₀ v₀ i₀ digits v i = Spelling n digits v i

@@ -1,12 +1,12 @@
 -- A space, and the number. Assumes nothing.
 use Rattle.spelling.specs.WritingLaws.{then}
 use borrow.Author.Needs.{needs}
-use Rattle.spelling.proofs.put_number.Statement.{statement}
-use Rattle.spelling.proofs.put_number.Tie as tie
-use Rattle.spelling.proofs.put_number.Reads as reads
-use Rattle.spelling.proofs.put_number.Lts as lts
-use Rattle.spelling.proofs.put.Reads as put-reads
-use Rattle.spelling.proofs.put_decimal.Reads as put-decimal-reads
+use Rattle.spelling_put.proofs.put_number.Statement.{statement}
+use Rattle.spelling_put.proofs.put_number.Tie as tie
+use Rattle.spelling_put.proofs.put_number.Reads as reads
+use Rattle.spelling_put.proofs.put_number.Lts as lts
+use Rattle.spelling_put.proofs.put.Reads as put-reads
+use Rattle.spelling_put.proofs.put_decimal.Reads as put-decimal-reads
 
 put-requires : tie.Need-put-requires
 put-requires c κs = search needs

@@ -1,15 +1,15 @@
 -- An opening bracket, the word, the number, and the bytes that end a line. Assumes nothing.
 use native.Mathlib.Omega.{arith}
 use Rattle.spelling.specs.LineLaws.{decimal-short}
 use Rattle.spelling.specs.SpellingLaws.{one-written}
 use borrow.Author.Needs.{needs}
-use Rattle.spelling.proofs.put_one.Statement.{statement}
-use Rattle.spelling.proofs.put_one.Tie as tie
-use Rattle.spelling.proofs.put_one.Reads as reads
-use Rattle.spelling.proofs.put_one.Lts as lts
-use Rattle.spelling.proofs.put.Reads as put-reads
-use Rattle.spelling.proofs.put_all.Reads as put-all-reads
-use Rattle.spelling.proofs.put_number.Reads as put-number-reads
+use Rattle.spelling_put.proofs.put_one.Statement.{statement}
+use Rattle.spelling_put.proofs.put_one.Tie as tie
+use Rattle.spelling_put.proofs.put_one.Reads as reads
+use Rattle.spelling_put.proofs.put_one.Lts as lts
+use Rattle.spelling_put.proofs.put.Reads as put-reads
+use Rattle.spelling_put.proofs.put_all.Reads as put-all-reads
+use Rattle.spelling_put.proofs.put_number.Reads as put-number-reads
 
 put-requires : tie.Need-put-requires
 put-requires c κs = search needs

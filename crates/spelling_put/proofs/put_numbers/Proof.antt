@@ -1,14 +1,14 @@
 -- Two numbers and the bytes that end a line. Assumes nothing.
 use native.Mathlib.Omega.{arith}
 use Rattle.spelling.specs.LineLaws.{decimal-short}
 use Rattle.spelling.specs.SpellingLaws.{numbers-written}
 use borrow.Author.Needs.{needs}
-use Rattle.spelling.proofs.put_numbers.Statement.{statement}
-use Rattle.spelling.proofs.put_numbers.Tie as tie
-use Rattle.spelling.proofs.put_numbers.Reads as reads
-use Rattle.spelling.proofs.put_numbers.Lts as lts
-use Rattle.spelling.proofs.put_all.Reads as put-all-reads
-use Rattle.spelling.proofs.put_number.Reads as put-number-reads
+use Rattle.spelling_put.proofs.put_numbers.Statement.{statement}
+use Rattle.spelling_put.proofs.put_numbers.Tie as tie
+use Rattle.spelling_put.proofs.put_numbers.Reads as reads
+use Rattle.spelling_put.proofs.put_numbers.Lts as lts
+use Rattle.spelling_put.proofs.put_all.Reads as put-all-reads
+use Rattle.spelling_put.proofs.put_number.Reads as put-number-reads
 
 put-number-requires : tie.Need-put-number-requires
 put-number-requires c κs = search needs

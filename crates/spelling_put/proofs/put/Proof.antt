@@ -1,10 +1,10 @@
 -- The store puts one byte. Assumes nothing.
 use Rattle.spelling.specs.WritingLaws.{one-byte}
 use borrow.Author.Needs.{needs}
-use Rattle.spelling.proofs.put.Statement.{statement}
-use Rattle.spelling.proofs.put.Tie as tie
-use Rattle.spelling.proofs.put.Reads as reads
-use Rattle.spelling.proofs.put.Lts as lts
+use Rattle.spelling_put.proofs.put.Statement.{statement}
+use Rattle.spelling_put.proofs.put.Tie as tie
+use Rattle.spelling_put.proofs.put.Reads as reads
+use Rattle.spelling_put.proofs.put.Lts as lts
 
 slice-write-buf : tie.Need-slice-write-buf
 slice-write-buf c = search needs

@@ -2,11 +2,11 @@
 use Prim.Native.Nat.{_-_}
 use native.Mathlib.Omega.{arith}
 use lib.ListN.{length}
 use Rattle.spelling.specs.WritingLaws.{Copying, copy-begins, copy-goes, copy-size, copy-ends}
-use Rattle.spelling.proofs.put_all.Statement.{statement}
-use Rattle.spelling.proofs.put_all.Tie as tie
-use Rattle.spelling.proofs.put_all.Reads as reads
-use Rattle.spelling.proofs.put_all.Lts as lts
+use Rattle.spelling_put.proofs.put_all.Statement.{statement}
+use Rattle.spelling_put.proofs.put_all.Tie as tie
+use Rattle.spelling_put.proofs.put_all.Reads as reads
+use Rattle.spelling_put.proofs.put_all.Lts as lts
 
 abbrev Inv-loop : tie.InvT-loop
 Inv-loop buf₀ at s i₀ buf i = Copying buf₀ at s buf i

@@ -1,12 +1,12 @@
 -- The digits that were spelt. Assumes nothing.
 use Rattle.spelling.specs.SpellingLaws.{decimal-written}
 use borrow.Author.Needs.{needs}
-use Rattle.spelling.proofs.put_decimal.Statement.{statement}
-use Rattle.spelling.proofs.put_decimal.Tie as tie
-use Rattle.spelling.proofs.put_decimal.Reads as reads
-use Rattle.spelling.proofs.put_decimal.Lts as lts
-use Rattle.spelling.proofs.put_rest.Reads as put-rest-reads
-use Rattle.spelling.proofs.spell.Reads as spell-reads
+use Rattle.spelling_put.proofs.put_decimal.Statement.{statement}
+use Rattle.spelling_put.proofs.put_decimal.Tie as tie
+use Rattle.spelling_put.proofs.put_decimal.Reads as reads
+use Rattle.spelling_put.proofs.put_decimal.Lts as lts
+use Rattle.spelling_put.proofs.put_rest.Reads as put-rest-reads
+use Rattle.spelling_put.proofs.spell.Reads as spell-reads
 
 slice-aggregate-spell : tie.Need-slice-aggregate-spell
 slice-aggregate-spell c = search needs

@@ -1,13 +1,13 @@
 -- An opening bracket, the word, and the two numbers. Assumes nothing.
 use Rattle.spelling.specs.SpellingLaws.{pair-written}
 use borrow.Author.Needs.{needs}
-use Rattle.spelling.proofs.put_pair.Statement.{statement}
-use Rattle.spelling.proofs.put_pair.Tie as tie
-use Rattle.spelling.proofs.put_pair.Reads as reads
-use Rattle.spelling.proofs.put_pair.Lts as lts
-use Rattle.spelling.proofs.put.Reads as put-reads
-use Rattle.spelling.proofs.put_all.Reads as put-all-reads
-use Rattle.spelling.proofs.put_numbers.Reads as put-numbers-reads
+use Rattle.spelling_put.proofs.put_pair.Statement.{statement}
+use Rattle.spelling_put.proofs.put_pair.Tie as tie
+use Rattle.spelling_put.proofs.put_pair.Reads as reads
+use Rattle.spelling_put.proofs.put_pair.Lts as lts
+use Rattle.spelling_put.proofs.put.Reads as put-reads
+use Rattle.spelling_put.proofs.put_all.Reads as put-all-reads
+use Rattle.spelling_put.proofs.put_numbers.Reads as put-numbers-reads
 
 put-requires : tie.Need-put-requires
 put-requires c κs = search needs
