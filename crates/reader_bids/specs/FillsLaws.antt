@@ -16,7 +16,7 @@ use Rattle.tender.specs.declared.Refusal.the-variants.{BadForm, ReserveMisplace
 use Rattle.tender.specs.Tables.{flatRows, flatWindows, bidWidth, windowWidth, bidTable, windowTable}
 use Rattle.cells.specs.Cells.{cell, RangeAdded}
 use Rattle.reader_parts.specs.Words.{among}
-use Rattle.reader_line.specs.Line.{BidLine, Line, tender, bid, reserve}
+use Rattle.reader_forms.specs.Line.{BidLine, Line, tender, bid, reserve}
 use Rattle.reader_text.specs.Read.{ReadOutcome, refused, rowsFrom, allWindows, bidsOf, bidFaultAfter, bidFault, judgedBy, checked}
 use Rattle.reader_text.specs.RulesLaws.{faultless-after}
 use Rattle.reader_bids.specs.Steps.{BidTaken, Judged, Taken, TablesHold}

@@ -10,10 +10,10 @@ use Rattle.tender.specs.declared.Tender.{Tender}
 use Rattle.tender.specs.declared.Refusal.{Refusal}
 use Rattle.reader_parts.specs.Words.{cut}
 use Rattle.reader_parts.specs.Scan.{toNext, Ended}
-use Rattle.reader_line.specs.Line.{BidLine, Line, bid, lineOf, linesOf}
-use Rattle.reader_line.specs.LineFront.{firstLine}
-use Rattle.reader_line.specs.SizeLaws.{line-long}
-use Rattle.reader_line.specs.EndedLaws.{ended-in, lines-on}
+use Rattle.reader_forms.specs.Line.{BidLine, Line, bid, lineOf, linesOf}
+use Rattle.reader_forms.specs.LineFront.{firstLine}
+use Rattle.reader_forms.specs.SizeLaws.{line-long}
+use Rattle.reader_forms.specs.EndedLaws.{ended-in, lines-on}
 use Rattle.reader_text.specs.Read.{ReadOutcome, refused, checked}
 use Rattle.reader_bids.specs.Steps.{Taken}
 use Rattle.reader_bids.specs.FillsLaws.{Walk, taken-bid, goes, stops}

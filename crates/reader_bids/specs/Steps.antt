@@ -10,8 +10,8 @@ use Rattle.tender.specs.declared.Refusal.{Refusal}
 use Rattle.tender.specs.declared.Refusal.the-variants.{BadForm, ReserveMisplaced}
 use Rattle.tender.specs.Tables.{Row, flatRows, flatWindows, bidWidth, windowWidth}
 use Rattle.cells.specs.Cells as cells
-use Rattle.reader_line.specs.Line.{BidLine, Line, tender, bid, reserve}
-use Rattle.reader_line.specs.Tally.{putWindows}
+use Rattle.reader_forms.specs.Line.{BidLine, Line, tender, bid, reserve}
+use Rattle.reader_forms.specs.Tally.{putWindows}
 use Rattle.reader_text.specs.Read.{ReadOutcome, refused, rowsFrom, allWindows, bidsOf, bidFaultAfter, checked}
 use Rattle.reader_bids.specs.declared.Verdict.{Verdict}
 use Rattle.reader_bids.specs.declared.Verdict.the-variants.{Sound, Faulty}

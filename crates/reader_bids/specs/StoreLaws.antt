@@ -8,8 +8,8 @@ use lib.ListN.{length, take, drop, set, length-append, length-set}
 use lib.Seq.{sets-eq, length-take-le, take-at}
 use Rattle.tender.specs.declared.Window.{Window}
 use Rattle.tender.specs.Tables.{flatRows, flatWindows, windowWidth}
-use Rattle.reader_line.specs.Line.{BidLine}
-use Rattle.reader_line.specs.Tally.{putWindow, putWindows}
+use Rattle.reader_forms.specs.Line.{BidLine}
+use Rattle.reader_forms.specs.Tally.{putWindow, putWindows}
 use Rattle.reader_text.specs.Read.{rowsFrom, allWindows}
 use Rattle.reader_bids.specs.Steps.{rowNumbers}
 

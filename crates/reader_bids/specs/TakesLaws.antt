@@ -9,11 +9,11 @@ use lib.ListN.{length, take, drop}
 use lib.Dec.{eqb}
 use Rattle.tender.specs.declared.Tender.{Tender}
 use Rattle.cells.specs.Cells.{cell, RangeAdded}
-use Rattle.reader_line.specs.Line.{TenderLine, BidLine, Line, tender, bid, reserve}
+use Rattle.reader_forms.specs.Line.{TenderLine, BidLine, Line, tender, bid, reserve}
 use Rattle.reader_parts.specs.declared.Flaw.{Flaw}
 use Rattle.reader_parts.specs.declared.Flaw.the-variants.{Sound}
 use Rattle.reader_parts.specs.Flaws.{flawOf, isEmpty, isLate}
-use Rattle.reader_line.specs.Tally.{putWindows, Tally, tally, tenderNote, bidNote, reserveNote, noted}
+use Rattle.reader_forms.specs.Tally.{putWindows, Tally, tally, tenderNote, bidNote, reserveNote, noted}
 use Rattle.tender.specs.declared.Refusal.{Refusal}
 use Rattle.tender.specs.declared.Refusal.the-variants.{BadForm, ReserveMisplaced}
 use Rattle.tender.specs.Tables.{bidWidth}

@@ -12,7 +12,7 @@ use Rattle.tender.specs.declared.Refusal.{Refusal}
 use Rattle.tender.specs.declared.Refusal.the-variants.{TextTooLong, BadForm}
 use Rattle.tender.specs.Tables.{Row, flatRows, flatWindows, bidWidth, windowWidth}
 use Rattle.reader_parts.specs.Words.{cut}
-use Rattle.reader_line.specs.Line.{linesOf}
+use Rattle.reader_forms.specs.Line.{linesOf}
 use Rattle.reader_text.specs.Read.{ReadOutcome, accepted, refused, readLines, readText}
 use Rattle.reader_text.specs.CountLaws.{counts-law}
 use Rattle.reader_text.specs.SizeLaws.{size-law}

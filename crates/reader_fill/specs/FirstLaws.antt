@@ -6,8 +6,8 @@ use mathlib.Core.Option.{Option, none, some}
 use native.Mathlib.Omega.{arith}
 use Rattle.tender.specs.declared.Refusal.{Refusal}
 use Rattle.tender.specs.declared.Refusal.the-variants.{BadForm}
-use Rattle.reader_line.specs.Line.{TenderLine, Line, tender, bid, reserve}
-use Rattle.reader_line.specs.Tally.{Note, tenderNote, bidNote, reserveNote, noted}
+use Rattle.reader_forms.specs.Line.{TenderLine, Line, tender, bid, reserve}
+use Rattle.reader_forms.specs.Tally.{Note, tenderNote, bidNote, reserveNote, noted}
 use Rattle.reader_line.specs.Answer.{headLine}
 use Rattle.reader_text.specs.Read.{tenderFault, halted, reserveIn, headOf}
 use Rattle.reader_text.specs.Read as reading

@@ -10,7 +10,7 @@ use Rattle.tender.specs.declared.Tender.{Tender}
 use Rattle.tender.specs.declared.Refusal.{Refusal}
 use Rattle.tender.specs.declared.Refusal.the-variants.{BadForm}
 use Rattle.tender.specs.Tables.{flatRows, flatWindows, bidWidth, windowWidth}
-use Rattle.reader_line.specs.Line.{Line}
+use Rattle.reader_forms.specs.Line.{Line}
 use Rattle.reader_text.specs.Read.{ReadOutcome, accepted, refused, rowsFrom, allWindows, bidsOf, checked, tables, begun, halted}
 use Rattle.reader_text.specs.Read.{headOf, readLines}
 use Rattle.reader_text.specs.Read as reading

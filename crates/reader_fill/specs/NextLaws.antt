@@ -6,8 +6,8 @@ use mathlib.Core.Option.{Option, none, some}
 use native.Mathlib.Omega.{arith}
 use lib.ListN.{length, drop, drop-of-length-le}
 use Rattle.reader_parts.specs.Words.{cut}
-use Rattle.reader_line.specs.Line.{Line, tender, bid, reserve, linesOf}
-use Rattle.reader_line.specs.Tally.{Note, tenderNote, bidNote, reserveNote, noted}
+use Rattle.reader_forms.specs.Line.{Line, tender, bid, reserve, linesOf}
+use Rattle.reader_forms.specs.Tally.{Note, tenderNote, bidNote, reserveNote, noted}
 use Rattle.reader_line.specs.Answer.{headLine}
 use Rattle.reader_text.specs.Read.{Unreserved}
 use Rattle.reader_fill.specs.Opened.{NextIs}

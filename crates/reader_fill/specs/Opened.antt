@@ -6,7 +6,7 @@ use Prim.Native.Nat.{ℕ, _≤_}
 use lib.ListN.{length, drop}
 use Rattle.tender.specs.declared.Tender.{Tender}
 use Rattle.reader_parts.specs.Words.{cut}
-use Rattle.reader_line.specs.Line.{reserve, linesOf}
+use Rattle.reader_forms.specs.Line.{reserve, linesOf}
 use Rattle.reader_text.specs.Read.{begun, halted, Unreserved}
 use Rattle.reader_text.specs.Read as reading
 use Rattle.reader_fill.specs.declared.Head.{Head}

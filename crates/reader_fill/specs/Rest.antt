@@ -6,7 +6,7 @@ use mathlib.Core.Option.{Option, none}
 use Prim.Native.Nat.{ℕ, _-_, _≤_, _<_}
 use lib.ListN.{length, getD, drop}
 use Rattle.reader_parts.specs.Words.{among}
-use Rattle.reader_line.specs.Line.{Line}
+use Rattle.reader_forms.specs.Line.{Line}
 
 -- the last byte 10 stands before e, which is 0 where there is none
 pub record LinesEnd (text : List ℕ) (e : ℕ) : Type 0 where

@@ -11,8 +11,8 @@ use lib.Dec.{ltb}
 use borrow.Author.Tests.{lt-ltb, le-ltb, ne-eqb}
 use Rattle.reader_parts.specs.Words.{cut, among}
 use Rattle.reader_parts.specs.Scan.{Ended}
-use Rattle.reader_line.specs.Line.{Line, linesOf}
-use Rattle.reader_line.specs.EndedLaws.{lines-rest, lines-none}
+use Rattle.reader_forms.specs.Line.{Line, linesOf}
+use Rattle.reader_forms.specs.EndedLaws.{lines-rest, lines-none}
 use Rattle.reader_text.specs.Read.{refused, halted, headOf, readLines}
 use Rattle.reader_text.specs.HeadLaws.{no-line, broken-first, lines-halted}
 use Rattle.tender.specs.declared.Refusal.the-variants.{BadForm}

@@ -7,7 +7,7 @@ ghost use lib.ListN.{length, drop};
 ghost use Rattle.tender.specs.Tables.{bidTable, windowTable};
 ghost use Rattle.reader_parts.specs.Words.{cut};
 ghost use Rattle.reader_parts.specs.Scan.{Ended};
-ghost use Rattle.reader_line.specs.Line.{linesOf};
+ghost use Rattle.reader_forms.specs.Line.{linesOf};
 ghost use Rattle.reader_text.specs.Read.{tenderWith, reserveIn, headOf, readLines, readText};
 ghost use Rattle.reader_fill.specs.Answer.{fillAnswer, Holds};
 ghost use Rattle.reader_fill.specs.Opened.{Opened, NextIs};

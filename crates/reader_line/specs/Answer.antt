@@ -10,10 +10,10 @@ use Rattle.tender.specs.Tables.{windowTable}
 use Rattle.reader_parts.specs.Scan.{toNext}
 use Rattle.reader_parts.specs.Front.{Front, got, wrong, onward}
 use Rattle.reader_parts.specs.declared.Flaw.{Flaw}
-use Rattle.reader_line.specs.Line as said
-use Rattle.reader_line.specs.LineFront.{fronted}
-use Rattle.reader_line.specs.Tally.{Note, tenderNote, bidNote, reserveNote, noted}
-use Rattle.reader_line.specs.Tally as held
+use Rattle.reader_forms.specs.Line as said
+use Rattle.reader_forms.specs.LineFront.{fronted}
+use Rattle.reader_forms.specs.Tally.{Note, tenderNote, bidNote, reserveNote, noted}
+use Rattle.reader_forms.specs.Tally as held
 use Rattle.reader_line.specs.declared.line.Tally.{Tally}
 use Rattle.reader_line.specs.declared.line.Tally.the-variants as tally
 use Rattle.reader_line.specs.declared.line.Line as line

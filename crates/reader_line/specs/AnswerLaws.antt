@@ -12,11 +12,11 @@ use Rattle.reader_parts.specs.Scan.{toNext, Ended}
 use Rattle.reader_parts.specs.Front.{Front, got, wrong, onward}
 use Rattle.reader_parts.specs.declared.Flaw.{Flaw}
 use Rattle.reader_parts.specs.declared.Flaw.the-variants.{Sound}
-use Rattle.reader_line.specs.Line.{Line, tender, reserve, lineOf}
-use Rattle.reader_line.specs.LineFront.{firstLine, nextLines, fronted, lineFront}
-use Rattle.reader_line.specs.LineFrontLaws.{line-front}
-use Rattle.reader_line.specs.EndedLaws.{ended-in}
-use Rattle.reader_line.specs.Tally.{Tally, tally, noted}
+use Rattle.reader_forms.specs.Line.{Line, tender, reserve, lineOf}
+use Rattle.reader_forms.specs.LineFront.{firstLine, nextLines, fronted, lineFront}
+use Rattle.reader_forms.specs.LineFrontLaws.{line-front}
+use Rattle.reader_forms.specs.EndedLaws.{ended-in}
+use Rattle.reader_forms.specs.Tally.{Tally, tally, noted}
 use Rattle.reader_line.specs.Answer.{withWindows, talliedFront, notedFront, toldFront, toldLine, linePlace, EndsAfter}
 use Rattle.reader_line.specs.declared.line.Line as line
 use Rattle.reader_line.specs.declared.line.Line.the-variants as lineIs

@@ -13,11 +13,11 @@ use Rattle.tender.specs.Keywords.{bytes, tenderWord, bidWord, reserveWord, sing
 use Rattle.reader_parts.specs.Scan.{startsWith, Ended}
 use Rattle.reader_parts.specs.StartsLaws.{other-start}
 use Rattle.reader_parts.specs.Front.{Front, got, wrong, onward, past, numberFront, priceFront, spanFront}
-use Rattle.reader_line.specs.Line.{Line, lineOf}
-use Rattle.reader_line.specs.LineFront.{firstLine, nextLines, fronted, ending, windowsFront, bidFront, reserveFront, afterWord}
-use Rattle.reader_line.specs.LineFront.{kindFront, tenderFront, lineFront}
+use Rattle.reader_forms.specs.Line.{Line, lineOf}
+use Rattle.reader_forms.specs.LineFront.{firstLine, nextLines, fronted, ending, windowsFront, bidFront, reserveFront, afterWord}
+use Rattle.reader_forms.specs.LineFront.{kindFront, tenderFront, lineFront}
 use Rattle.reader_line.specs.LinePlaceLaws.{line-unopened, line-bid, line-tender, line-reserve, line-other}
-use Rattle.reader_line.specs.Tally.{noted}
+use Rattle.reader_forms.specs.Tally.{noted}
 use Rattle.reader_line.specs.Answer.{notedFront, toldFront, toldLine, linePlace, EndsAfter, headLine}
 use Rattle.reader_line.specs.AnswerLaws.{fronted-value, line-is, told-as, told-after}
 use Rattle.reader_line.specs.declared.line.Line as line

@@ -18,10 +18,10 @@ use Rattle.reader_parts.specs.StartsLaws.{other-start}
 use Rattle.reader_parts.specs.Front.{Front, got, wrong, onward, numberFront, priceFront, spanFront}
 use Rattle.reader_parts.specs.PlaceLaws.{past-at, past-not}
 use Rattle.reader_parts.specs.Answer.{ReadAt}
-use Rattle.reader_line.specs.Line.{tender, reserve}
-use Rattle.reader_line.specs.LineFront.{windowsFront, bidFront, reserveFront, afterWord, kindFront, tenderFront, lineFront}
+use Rattle.reader_forms.specs.Line.{tender, reserve}
+use Rattle.reader_forms.specs.LineFront.{windowsFront, bidFront, reserveFront, afterWord, kindFront, tenderFront, lineFront}
 use Rattle.reader_line.specs.Answer.{withWindows}
-use Rattle.reader_line.specs.EndingLaws.{ending-unclosed, ending-unended, ending-whole}
+use Rattle.reader_forms.specs.EndingLaws.{ending-unclosed, ending-unended, ending-whole}
 
 -- after "(bid "
 

@@ -13,10 +13,10 @@ use Rattle.reader_parts.specs.declared.Flaw.{Flaw}
 use Rattle.reader_parts.specs.Front.{Front, got, wrong, onward, fork, windowFront}
 use Rattle.reader_parts.specs.Answer.{ReadAt}
 use Rattle.reader_parts.specs.PlaceLaws.{fork-here, fork-other}
-use Rattle.reader_line.specs.LineFront.{ending, windowsFront}
-use Rattle.reader_line.specs.WindowsFrontLaws.{windows-step}
-use Rattle.reader_line.specs.EndingLaws.{ending-whole, ending-unended}
-use Rattle.reader_line.specs.Tally.{putWindow, tally}
+use Rattle.reader_forms.specs.LineFront.{ending, windowsFront}
+use Rattle.reader_forms.specs.WindowsFrontLaws.{windows-step}
+use Rattle.reader_forms.specs.EndingLaws.{ending-whole, ending-unended}
+use Rattle.reader_forms.specs.Tally.{putWindow, tally}
 use Rattle.reader_line.specs.Answer.{talliedFront}
 
 -- a window in row k leaves the rows before m

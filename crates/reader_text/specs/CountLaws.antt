@@ -13,7 +13,7 @@ use Rattle.tender.specs.declared.Window.{Window}
 use Rattle.tender.specs.declared.Tender.{Tender}
 use Rattle.tender.specs.Tables.{Row}
 use Rattle.reader_parts.specs.Words.{cut, growFirst}
-use Rattle.reader_line.specs.Line.{Line, headLines, lineOf, linesOf}
+use Rattle.reader_forms.specs.Line.{Line, headLines, lineOf, linesOf}
 use Rattle.reader_text.specs.Read.{ReadOutcome, accepted, refused, bidsOf, readLines, readText, fitted, readInto}
 use Rattle.reader_parts.specs.CutLaws.{Pieces, cut-some}
 use Rattle.reader_text.specs.ReadLaws.{read-lines}

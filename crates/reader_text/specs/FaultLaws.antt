@@ -8,7 +8,7 @@ use native.Mathlib.Omega.{arith}
 use Rattle.tender.specs.declared.Tender.{Tender}
 use Rattle.tender.specs.declared.Window.{Window}
 use Rattle.tender.specs.declared.Reserve.{Reserve}
-use Rattle.reader_line.specs.Line.{TenderLine}
+use Rattle.reader_forms.specs.Line.{TenderLine}
 use Rattle.tender.specs.declared.Refusal.{Refusal}
 use Rattle.tender.specs.declared.Refusal.the-variants.{EmptyWindow, LateWindow}
 use Rattle.tender.specs.Limits.{asWindow, ordered, early, lawful, lawfulReserve, soundTender, every}

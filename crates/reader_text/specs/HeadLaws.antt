@@ -16,7 +16,7 @@ use Rattle.tender.specs.declared.Refusal.{Refusal}
 use Rattle.tender.specs.declared.Refusal.the-variants.{BadForm, OutsideLimits}
 use Rattle.tender.specs.Limits.{lawfulReserve, soundTender}
 use Rattle.tender.specs.Tables.{Row}
-use Rattle.reader_line.specs.Line.{TenderLine, BidLine, Line, tender, bid, reserve, tenderLine, reserveLines, headLines}
+use Rattle.reader_forms.specs.Line.{TenderLine, BidLine, Line, tender, bid, reserve, tenderLine, reserveLines, headLines}
 use Rattle.reader_text.specs.Read.{accepted, refused, rowsFrom, allWindows, bidsOf, tenderFault, judgedBy, checked, tables}
 use Rattle.reader_text.specs.Read.{Head, begun, halted, tenderWith, reserveIn, Unreserved, headOf, afterHead, readLines}
 use Rattle.reader_text.specs.FaultLaws.{sound-faultless, faultless-sound}

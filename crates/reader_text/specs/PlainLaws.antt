@@ -8,9 +8,9 @@ use Rattle.tender.specs.declared.Window.{Window}
 use Rattle.tender.specs.declared.Tender.{Tender}
 use Rattle.tender.specs.Tables.{Row}
 use Rattle.reader_parts.specs.Words.{cut}
-use Rattle.reader_line.specs.LinePlain.{plain, allPlain}
-use Rattle.reader_line.specs.LinePlainLaws.{PlainPieces, cut-plain, line-plain}
-use Rattle.reader_line.specs.Line.{Line, lineOf, linesOf}
+use Rattle.reader_forms.specs.LinePlain.{plain, allPlain}
+use Rattle.reader_forms.specs.LinePlainLaws.{PlainPieces, cut-plain, line-plain}
+use Rattle.reader_forms.specs.Line.{Line, lineOf, linesOf}
 use Rattle.reader_text.specs.Read.{accepted, readLines, readText}
 use Rattle.reader_parts.specs.CutLaws.{Pieces, cut-some}
 use Rattle.reader_text.specs.ReadLaws.{read-lines}

@@ -11,10 +11,10 @@ use Rattle.tender.specs.declared.Window.{Window}
 use Rattle.tender.specs.declared.Tender.{Tender}
 use Rattle.tender.specs.Tables.{Row}
 use Rattle.reader_parts.specs.Words.{andThen, cut, among, numeralOf, priceOf}
-use Rattle.reader_line.specs.Line.{BidLine, Line, tender, bid, reserve, windowsIn, bidOf, lineOfWords, lineOf, linesOf}
+use Rattle.reader_forms.specs.Line.{BidLine, Line, tender, bid, reserve, windowsIn, bidOf, lineOfWords, lineOf, linesOf}
 use Rattle.reader_text.specs.Read.{accepted, rowsFrom, allWindows, bidsOf, checked, tables, begun, headOf, readLines, readText}
 use Rattle.reader_parts.specs.CutLaws.{Pieces, cut-some, cut-end, cut-word, cut-append}
-use Rattle.reader_line.specs.PiecesLaws.{lines-append}
+use Rattle.reader_forms.specs.PiecesLaws.{lines-append}
 use Rattle.reader_text.specs.Differ.{bidLine, Word, DifferInPrice, withPrice, RowsDifferInPrice, DifferInOnePrice}
 use Rattle.reader_text.specs.ReadLaws.{read-lines}
 use Rattle.reader_text.specs.HeadLaws.{head-before, read-at, Begun, accepted-head, accepted-read}

@@ -15,7 +15,7 @@ use Rattle.tender.specs.declared.Refusal.the-variants.{SeveralWindows, TableToo
 use Rattle.tender.specs.Limits.{asWindow, within, maxPrice, maxBidder, maxBids, maxWindows, maxText, isSingle, ordered, early, every}
 use Rattle.tender.specs.Tables.{Row}
 use Rattle.reader_parts.specs.Words.{cut, among}
-use Rattle.reader_line.specs.Line.{TenderLine, BidLine, Line, tender, bid, reserve, linesOf}
+use Rattle.reader_forms.specs.Line.{TenderLine, BidLine, Line, tender, bid, reserve, linesOf}
 
 pub data ReadOutcome : Type 0 where
   accepted : Tender → List Row → List Window → ReadOutcome

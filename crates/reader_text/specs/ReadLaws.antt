@@ -11,7 +11,7 @@ use Rattle.tender.specs.declared.Window.{Window}
 use Rattle.tender.specs.declared.Tender.{Tender}
 use Rattle.tender.specs.Tables.{Row}
 use Rattle.reader_parts.specs.Words.{cut}
-use Rattle.reader_line.specs.Line.{Line, tender, bid, reserve, linesOf}
+use Rattle.reader_forms.specs.Line.{Line, tender, bid, reserve, linesOf}
 use Rattle.tender.specs.declared.Refusal.{Refusal}
 use Rattle.tender.specs.declared.Refusal.the-variants.{TextTooLong}
 use Rattle.reader_text.specs.Read.{ReadOutcome, accepted, refused, bidsOf, bidFault, judgedBy, checked}

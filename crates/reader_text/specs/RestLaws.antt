@@ -12,7 +12,7 @@ use Rattle.tender.specs.declared.Tender.{Tender}
 use Rattle.tender.specs.declared.Refusal.{Refusal}
 use Rattle.tender.specs.declared.Refusal.the-variants.{BadForm, OutsideLimits}
 use Rattle.tender.specs.Limits.{maxPrice}
-use Rattle.reader_line.specs.Line.{TenderLine, Line, tender, bid, reserve}
+use Rattle.reader_forms.specs.Line.{TenderLine, Line, tender, bid, reserve}
 use Rattle.reader_text.specs.Read.{ReadOutcome, accepted, refused, bidsOf, tenderFault, bidFault, judgedBy, checked, tables}
 use Rattle.reader_text.specs.Read.{Head, begun, halted, tenderWith, reserveIn, headOf, readLines}
 use Rattle.reader_text.specs.ReadLaws.{checked-bids}

@@ -19,9 +19,9 @@ use Rattle.tender.specs.Limits.{isSingle, lawful, soundTender, within, ordered,
 use Rattle.tender.specs.RulesLaws.{lawful-rules, every-split, sound-rules}
 use Rattle.tender.specs.Tables.{Row}
 use Rattle.reader_parts.specs.Words.{andThen, cut, among, sameBytes, closed, numeralOf, priceOf}
-use Rattle.reader_line.specs.Line.{BidLine, Line, tender, bid, reserve, kindOf, windowsIn, tenderOf, bidOf, reserveOf, lineOfWords}
+use Rattle.reader_forms.specs.Line.{BidLine, Line, tender, bid, reserve, kindOf, windowsIn, tenderOf, bidOf, reserveOf, lineOfWords}
 use Rattle.reader_parts.specs.Windows.{spanOf, windowOf}
-use Rattle.reader_line.specs.Line.{headLines, lineOf, linesOf}
+use Rattle.reader_forms.specs.Line.{headLines, lineOf, linesOf}
 use Rattle.reader_parts.specs.GivenLaws.{both-true as and-split}
 use Rattle.tender.specs.declared.Refusal.{Refusal}
 use Rattle.tender.specs.declared.Refusal.the-variants.{OutsideLimits, TooMany, EmptyWindow, BidderRepeated, SeveralWindows}

@@ -13,9 +13,9 @@ use Rattle.tender.specs.declared.Window.{Window}
 use Rattle.tender.specs.declared.Tender.{Tender}
 use Rattle.tender.specs.Tables.{Row}
 use Rattle.reader_parts.specs.Words.{cut, growFirst}
-use Rattle.reader_line.specs.Line.{BidLine, Line, tender, bid, reserve, lineOf, linesOf}
+use Rattle.reader_forms.specs.Line.{BidLine, Line, tender, bid, reserve, lineOf, linesOf}
 use Rattle.reader_parts.specs.CutLaws.{Pieces, cut-some}
-use Rattle.reader_line.specs.SizeLaws.{line-long}
+use Rattle.reader_forms.specs.SizeLaws.{line-long}
 use Rattle.tender.specs.declared.Refusal.the-variants.{TextTooLong}
 use Rattle.reader_text.specs.Read.{accepted, refused, bidsOf, allWindows, readLines, readText}
 use Rattle.reader_text.specs.ReadLaws.{never, read-lines}

@@ -7,7 +7,7 @@ use Rattle.tender.specs.Keywords.{bytes, tenderWord, reserveWord, bidWord}
 use Rattle.reader_parts.specs.Words.{andThen, cut, among, sameBytes, priceOf}
 use Rattle.reader_parts.specs.GivenLaws.{closed-back}
 use Rattle.reader_parts.specs.RejoinedLaws.{rejoined, among-append, cut-rejoined}
-use Rattle.reader_line.specs.Line.{reserve, bidOf, reserveOf, lineOfWords, lineOf, linesOf}
+use Rattle.reader_forms.specs.Line.{reserve, bidOf, reserveOf, lineOfWords, lineOf, linesOf}
 use Rattle.reader_text.specs.Read.{readLines, readText}
 use Rattle.reader_text.specs.Differ.{bidLine, Word}
 use Rattle.reader_text.specs.DifferInSpelling.{reserveLine, SameLine, same-bytes, bid-spelt, reserve-spelt, SameLines}

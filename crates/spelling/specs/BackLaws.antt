@@ -14,8 +14,8 @@ use Rattle.tender.specs.declared.Tender.{Tender}
 use Rattle.tender.specs.Limits.{asWindow}
 use Rattle.tender.specs.Keywords.{bytes, tenderWord, reserveWord, bidWord, singleWord, multiWord}
 use Rattle.reader_parts.specs.Words.{andThen, among, cut, sameBytes}
-use Rattle.reader_line.specs.Line.{BidLine, Line, tender, bid, reserve, tenderLine, reserveLines, headLines, kindOf, tenderOf}
-use Rattle.reader_line.specs.Line.{bidOf, reserveOf, lineOfWords, lineOf, linesOf}
+use Rattle.reader_forms.specs.Line.{BidLine, Line, tender, bid, reserve, tenderLine, reserveLines, headLines, kindOf, tenderOf}
+use Rattle.reader_forms.specs.Line.{bidOf, reserveOf, lineOfWords, lineOf, linesOf}
 use Rattle.reader_parts.specs.GivenLaws.{closed-back}
 use Rattle.reader_parts.specs.CutLaws.{cut-some, cut-end}
 use Rattle.reader_parts.specs.RejoinedLaws.{Without, among-append, cut-rejoined, rejoined-among}

@@ -8,7 +8,7 @@ use Rattle.tender.specs.declared.Reserve.the-variants.{Absent, Price}
 use Rattle.tender.specs.declared.Tender.{Tender}
 use Rattle.tender.specs.Keywords.{reserveWord}
 use Rattle.reader_parts.specs.Words.{priceOf}
-use Rattle.reader_line.specs.Line.{BidLine}
+use Rattle.reader_forms.specs.Line.{BidLine}
 use Rattle.spelling.specs.Lines.{oneLineAs}
 use Rattle.spelling.specs.Text.{bidTextAs, tenderText}
 

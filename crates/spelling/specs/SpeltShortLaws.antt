@@ -8,7 +8,7 @@ use Rattle.tender.specs.declared.Reserve.{Reserve}
 use Rattle.tender.specs.declared.Reserve.the-variants.{Absent, Price}
 use Rattle.tender.specs.declared.Tender.{Tender}
 use Rattle.tender.specs.Keywords.{bytes, reserveWord}
-use Rattle.reader_line.specs.Line.{BidLine}
+use Rattle.reader_forms.specs.Line.{BidLine}
 use Rattle.spelling.specs.Decimal.{decimal}
 use Rattle.spelling.specs.Lines.{closing, oneLineAs, oneLine}
 use Rattle.spelling.specs.Text.{windowsText, bidTextAs, bidText, bidsText, tenderText, reserveText, headText, textOf}

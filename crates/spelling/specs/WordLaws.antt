@@ -12,7 +12,7 @@ use Rattle.tender.specs.declared.Tender.{Tender}
 use Rattle.tender.specs.Keywords.{bytes, tenderWord, bidWord}
 use Rattle.reader_parts.specs.Words.{andThen, among, opened}
 use Rattle.reader_parts.specs.Windows.{spanOf, windowOf}
-use Rattle.reader_line.specs.Line.{windowsIn}
+use Rattle.reader_forms.specs.Line.{windowsIn}
 use Rattle.reader_parts.specs.GivenLaws.{closed-back}
 use Rattle.reader_parts.specs.RejoinedLaws.{rejoined, Without, among-append}
 use Rattle.spelling.specs.Decimal.{decimal}

@@ -20,8 +20,8 @@ use Rattle.tender.specs.declared.Refusal.the-variants.{BadTables}
 use Rattle.tender.specs.Refusals.{numberOf}
 use Rattle.tender.specs.Tables.{Row, rowsOf, flatRows, flatWindows, bidWidth, windowWidth}
 use Rattle.reader_parts.specs.Words.{digits, priceOf}
-use Rattle.reader_line.specs.Line.{TenderLine, BidLine, Line, tender, headLines}
-use Rattle.reader_line.specs.LinePlain.{allPlain}
+use Rattle.reader_forms.specs.Line.{TenderLine, BidLine, Line, tender, headLines}
+use Rattle.reader_forms.specs.LinePlain.{allPlain}
 use Rattle.reader_text.specs.Read.{accepted, refused, readText, readInto}
 use Rattle.reader_text.specs.Read.{judgedBy, begun, halted, tenderFault, tenderWith, Unreserved, headOf}
 use Rattle.reader_text.specs.HeadLaws.{unreserved-head}

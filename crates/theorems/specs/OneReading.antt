@@ -17,7 +17,7 @@ use Rattle.tender.specs.declared.Refusal.the-variants.{SeveralWindows, TableToo
 use Rattle.tender.specs.Limits.{week, maxPrice, maxBidder, maxBids, maxWindows, maxText}
 use Rattle.tender.specs.Tables.{Row, flatRows, flatWindows, bidWidth, windowWidth}
 use Rattle.reader_parts.specs.Words.{cut}
-use Rattle.reader_line.specs.Line.{TenderLine, BidLine, Line, tender, bid, reserve, tenderLine, headLines, linesOf}
+use Rattle.reader_forms.specs.Line.{TenderLine, BidLine, Line, tender, bid, reserve, tenderLine, headLines, linesOf}
 use Rattle.reader_text.specs.Read.{rowsFrom, allWindows, tenderWith}
 use Rattle.reader.specs.declared.Reading.the-variants.{Accepted, Refused}
 use Rattle.theorems.specs.Calls.{ReadRun}

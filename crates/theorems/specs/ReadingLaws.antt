@@ -23,7 +23,7 @@ use Rattle.tender.specs.Limits.{asWindow, week, within, isSingle, ordered, earl
 use Rattle.tender.specs.Refusals.{numberOf}
 use Rattle.tender.specs.Tables.{Row, bidWidth, windowWidth}
 use Rattle.reader_parts.specs.Words.{cut, among}
-use Rattle.reader_line.specs.Line.{TenderLine, BidLine, Line, tender, bid, reserve, tenderLine, reserveLines, headLines, linesOf}
+use Rattle.reader_forms.specs.Line.{TenderLine, BidLine, Line, tender, bid, reserve, tenderLine, reserveLines, headLines, linesOf}
 use Rattle.reader_text.specs.Read.{ReadOutcome, accepted, refused, rowsFrom, allWindows, bidsOf, lineFault, tenderFault}
 use Rattle.reader_text.specs.Read.{bidFaultIn, bidFaultAfter, bidFault, judgedBy, checked, tables, tenderWith, reserveIn}
 use Rattle.reader_text.specs.Read.{Unreserved, afterHead, readLines, readText, fitted, readInto}

@@ -9,7 +9,7 @@ use Rattle.tender.specs.declared.Tender.{Tender}
 use Rattle.tender.specs.declared.AwardRow.{AwardRow}
 use Rattle.tender.specs.declared.Totals.{Totals}
 use Rattle.tender.specs.Tables.{Row, rowsOf}
-use Rattle.reader_line.specs.Line.{BidLine}
+use Rattle.reader_forms.specs.Line.{BidLine}
 use Rattle.award_check.specs.Auction.{offered, houseOf, offersOf}
 use Rattle.award_check.specs.AuctionLaws.{without-reserve, thin-told, owners-are, cells-are}
 use Rattle.award_rule.specs.Award.{won, awarded, totalsOf}

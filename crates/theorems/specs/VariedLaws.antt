@@ -14,7 +14,7 @@ use Rattle.tender.specs.Keywords.{bytes, bidWord, reserveWord}
 use Rattle.tender.specs.Tables.{Row, flatWindows}
 use Rattle.reader_parts.specs.Words.{priceOf}
 use Rattle.reader_parts.specs.PriceFrontLaws.{price-without}
-use Rattle.reader_line.specs.Line.{BidLine}
+use Rattle.reader_forms.specs.Line.{BidLine}
 use Rattle.reader_text.specs.Read.{accepted, readText}
 use Rattle.reader_text.specs.Rules.{RowsRules}
 use Rattle.reader_text.specs.RulesLaws.{rules-law}

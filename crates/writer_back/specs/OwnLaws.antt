@@ -7,7 +7,7 @@ use lib.ListN.{length, getD, drop}
 use lib.Seq.{drop-drop}
 use Rattle.tender.specs.declared.Window.{Window}
 use Rattle.tender.specs.Tables.{Row, windowsOf, own, flatWindows, windowWidth}
-use Rattle.reader_line.specs.Line.{BidLine}
+use Rattle.reader_forms.specs.Line.{BidLine}
 use Rattle.reader_text.specs.Read.{rowsFrom, allWindows}
 use Rattle.spelling.specs.Text.{bidIn}
 use Rattle.award_check.specs.Cells.{noRow}

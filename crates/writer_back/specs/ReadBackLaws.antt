@@ -16,7 +16,7 @@ use Rattle.tender.specs.RulesLaws.{rules-lawful, sound-rules}
 use Rattle.tender.specs.Tables.{Row, rowsOf, own, flatRows, flatWindows, bidWidth}
 use Rattle.cover.specs.SetLaws.{and-split}
 use Rattle.reader_parts.specs.Words.{cut}
-use Rattle.reader_line.specs.Line.{BidLine, headLines, linesOf}
+use Rattle.reader_forms.specs.Line.{BidLine, headLines, linesOf}
 use Rattle.reader_text.specs.Read.{accepted, rowsFrom, allWindows, bidsOf, tables, begun, Unreserved, headOf, readLines, readText}
 use Rattle.reader_text.specs.HeadLaws.{lines-begun, head-of}
 use Rattle.reader_text.specs.RulesLaws.{rules-law, rowsFrom-length}

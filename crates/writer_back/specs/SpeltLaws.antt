@@ -13,7 +13,7 @@ use Rattle.tender.specs.declared.Tender.{Tender}
 use Rattle.tender.specs.Keywords.{reserveWord}
 use Rattle.tender.specs.Tables.{Row, flatWindows}
 use Rattle.reader_parts.specs.Words.{cut}
-use Rattle.reader_line.specs.Line.{BidLine, Line, bid, reserveLines, headLines, lineOfWords, lineOf, linesOf}
+use Rattle.reader_forms.specs.Line.{BidLine, Line, bid, reserveLines, headLines, lineOfWords, lineOf, linesOf}
 use Rattle.reader_parts.specs.CutLaws.{cut-some}
 use Rattle.reader_parts.specs.RejoinedLaws.{rejoined, rejoined-cut}
 use Rattle.reader_text.specs.Read.{accepted, rowsFrom, allWindows, bidsOf, readText}

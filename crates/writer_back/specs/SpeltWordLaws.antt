@@ -14,7 +14,7 @@ use Rattle.tender.specs.Limits.{asWindow}
 use Rattle.tender.specs.declared.Reserve.the-variants.{Absent}
 use Rattle.tender.specs.Keywords.{tenderWord, reserveWord, bidWord, singleWord, multiWord}
 use Rattle.reader_parts.specs.Words.{andThen, sameBytes, opened, closed, numeralOf, priceOf}
-use Rattle.reader_line.specs.Line.{Line, tender, bid, reserve, kindOf, windowsIn, tenderOf, bidOf, reserveOf, lineOfWords}
+use Rattle.reader_forms.specs.Line.{Line, tender, bid, reserve, kindOf, windowsIn, tenderOf, bidOf, reserveOf, lineOfWords}
 use Rattle.reader_parts.specs.Windows.{spanOf, windowOf}
 use Rattle.reader_parts.specs.GivenLaws.{same-is, opened-some, closed-some}
 use Rattle.reader_text.specs.Read.{tenderWith}

@@ -11,7 +11,7 @@ use Rattle.tender.specs.declared.Reserve.the-variants.{Absent, Price}
 use Rattle.tender.specs.declared.Tender.{Tender}
 use Rattle.tender.specs.Keywords.{bytes, reserveWord}
 use Rattle.tender.specs.Limits.{lawful, every}
-use Rattle.reader_line.specs.Line.{BidLine}
+use Rattle.reader_forms.specs.Line.{BidLine}
 use Rattle.spelling.specs.Decimal.{decimal}
 use Rattle.spelling.specs.Lines.{closing, numbers, oneLine, kindWord}
 use Rattle.spelling.specs.Text.{windowText, windowsText, bidTextAs, bidText, tenderText, reserveText, headText}

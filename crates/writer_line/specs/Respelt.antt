@@ -1,5 +1,5 @@
 -- A bid in one spelling (paper 02, request 2): its windows joined where they overlap or touch, in rising order.
-use Rattle.reader_line.specs.Line.{BidLine}
+use Rattle.reader_forms.specs.Line.{BidLine}
 use Rattle.runs.specs.Runs.{joined}
 
 -- a bid with its windows joined

@@ -10,7 +10,7 @@ use Rattle.tender.specs.declared.Refusal.{Refusal}
 use Rattle.tender.specs.declared.Refusal.the-variants.{BadTables, NoRoom}
 use Rattle.tender.specs.Limits.{maxText}
 use Rattle.tender.specs.Tables.{Row, rowsOf}
-use Rattle.reader_line.specs.Line.{BidLine}
+use Rattle.reader_forms.specs.Line.{BidLine}
 use Rattle.spelling.specs.Text.{textOf, bidIn}
 use Rattle.award_check.specs.Faults.{faultOf}
 use Rattle.writer_line.specs.Respelt.{respelt}

@@ -8,8 +8,8 @@ use lib.ListN.{length, drop}
 use Rattle.numbers.specs.Members.{members}
 use Rattle.numbers.specs.MembersLaws.{members-none, members-length, members-same}
 use Rattle.reader_parts.specs.Words.{cut}
-use Rattle.reader_line.specs.Line.{linesOf}
-use Rattle.reader_line.specs.PiecesLaws.{lines-end}
+use Rattle.reader_forms.specs.Line.{linesOf}
+use Rattle.reader_forms.specs.PiecesLaws.{lines-end}
 use Rattle.reader_bids.specs.FillsLaws.{Walk, walk-begins, walk-ends}
 use Rattle.reader_bids.specs.PlacesLaws.{walk-goes, walk-stops}
 use borrow.Author.Needs.{needs}

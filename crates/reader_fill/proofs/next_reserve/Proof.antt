@@ -1,7 +1,7 @@
 -- `next_reserve` meets its contract: the line at `at` is read as the definition does. Assumes nothing.
 use mathlib.Core.Path.{sym, subst, ap, _∙_}
 use mathlib.Core.List.{[]}
-use Rattle.reader_line.specs.EndedLaws.{lines-on, lines-next}
+use Rattle.reader_forms.specs.EndedLaws.{lines-on, lines-next}
 use Rattle.reader_line.specs.Answer.{toldLine, EndsAfter}
 use Rattle.reader_fill.specs.NextLaws.{next-none, next-other, next-reserve}
 use borrow.Author.Needs.{needs}

@@ -2,7 +2,7 @@
 use mathlib.Core.Path.{sym, subst, ap, _∙_}
 use mathlib.Core.List.{[]}
 use native.Mathlib.Omega.{arith}
-use Rattle.reader_line.specs.EndedLaws.{lines-on, lines-next}
+use Rattle.reader_forms.specs.EndedLaws.{lines-on, lines-next}
 use Rattle.reader_line.specs.Answer.{toldLine, EndsAfter}
 use Rattle.reader_text.specs.FaultLaws.{flawFault, tender-told}
 use Rattle.reader_fill.specs.FirstLaws.{is-tender, first-other, first-faulty, first-sound, opened-same}

@@ -4,7 +4,7 @@ use Prim.Native.Nat.{_+_}
 use borrow.Author.Needs.{needs}
 use lib.ListN.{drop}
 use Rattle.reader_parts.specs.Words.{cut}
-use Rattle.reader_line.specs.Line.{linesOf}
+use Rattle.reader_forms.specs.Line.{linesOf}
 use Rattle.reader_text.specs.Read.{begun, reserveIn}
 use Rattle.reader_text.specs.HeadLaws.{reserve-absent, reserve-taken, reserve-high}
 use Rattle.reader_fill.specs.NextLaws.{found-reserve, found-other}

@@ -1,6 +1,6 @@
 -- `line::put_window` meets its contract: the table has the row. Assumes nothing.
 use mathlib.Core.Path.{refl}
-use Rattle.reader_line.specs.Tally.{putWindow}
+use Rattle.reader_forms.specs.Tally.{putWindow}
 use borrow.Author.Needs.{needs}
 use Rattle.reader_line.proofs.line.put_window.Statement.{statement}
 use Rattle.reader_line.proofs.line.put_window.Tie as tie

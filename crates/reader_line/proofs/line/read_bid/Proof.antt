@@ -4,7 +4,7 @@ use native.Mathlib.Omega.{arith}
 use borrow.Author.Needs.{needs}
 use lib.ListN.{drop}
 use Rattle.reader_parts.specs.PlaceLaws.{not-last}
-use Rattle.reader_line.specs.LineFront.{windowsFront}
+use Rattle.reader_forms.specs.LineFront.{windowsFront}
 use Rattle.reader_line.specs.Answer.{notedFront}
 use Rattle.reader_line.specs.LinePlaceLaws.{bid-unnumbered, bid-unparted, bid-unpriced, bid-priced}
 use Rattle.reader_line.specs.AnswerLaws.{noted-wrong, bid-broken, bid-told}

@@ -7,7 +7,7 @@ use Rattle.tender.specs.Keywords.{bytes, bidWord}
 use Rattle.reader_parts.specs.Scan.{lettered}
 use Rattle.reader_parts.specs.PlaceLaws.{not-last}
 use Rattle.reader_line.specs.declared.line.Line.the-variants.{Broken}
-use Rattle.reader_line.specs.Tally.{noted}
+use Rattle.reader_forms.specs.Tally.{noted}
 use Rattle.reader_line.specs.Answer.{notedFront}
 use Rattle.reader_line.specs.LinePlaceLaws.{line-unopened, line-bid}
 use Rattle.reader_line.specs.AnswerLaws.{noted-wrong, line-told, line-after}

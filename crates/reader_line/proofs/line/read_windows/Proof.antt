@@ -7,7 +7,7 @@ use lib.ListN.{length, take, drop}
 use Rattle.tender.specs.Tables.{windowWidth}
 use Rattle.reader_parts.specs.PlaceLaws.{not-last, window-further}
 use Rattle.reader_parts.specs.declared.Flaw.the-variants.{Sound}
-use Rattle.reader_line.specs.LineFront.{windowsFront}
+use Rattle.reader_forms.specs.LineFront.{windowsFront}
 use Rattle.reader_line.specs.Answer.{talliedFront}
 use Rattle.reader_line.specs.TallyLaws.{rows-before, tally-wrong, tally-more, tally-last, tally-unended}
 use Rattle.reader_line.proofs.line.read_windows.Statement.{statement}

@@ -6,7 +6,7 @@ use native.Mathlib.Omega.{arith}
 use lib.ListN.{length, drop, getD}
 use Rattle.reader_parts.specs.Front.{got, wrong}
 use Rattle.reader_parts.specs.PlaceLaws.{past-at, past-not}
-use Rattle.reader_line.specs.LineFront.{ending}
+use Rattle.reader_forms.specs.LineFront.{ending}
 
 module _ {A : Type 0} (s : List ℕ) (i : ℕ) (h : i < length s) where
   pub ending-unclosed : (a : A) → (getD s i 0 ≡ 41 → ⊥) → ending a (drop i s) ≡ wrong

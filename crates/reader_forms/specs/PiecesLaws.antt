@@ -9,7 +9,7 @@ use Rattle.reader_parts.specs.Words.{cut}
 use Rattle.reader_parts.specs.CutLaws.{cut-some}
 use Rattle.reader_parts.specs.Scan.{toNext}
 use Rattle.reader_parts.specs.ScanLaws.{cut-at}
-use Rattle.reader_line.specs.Line.{Line, lineOf, linesOf}
+use Rattle.reader_forms.specs.Line.{Line, lineOf, linesOf}
 
 -- the pieces before some other are lines
 pub lines-append : (xs : List (List ℕ)) (p : List ℕ) (ps : List (List ℕ)) → linesOf (xs ++ p ∷ ps) ≡ map lineOf xs

@@ -6,7 +6,7 @@ use mathlib.Core.Option.{Option, none, some}
 use lib.ListN.{length, set}
 use Rattle.tender.specs.declared.Window.{Window}
 use Rattle.tender.specs.Tables.{windowWidth}
-use Rattle.reader_line.specs.Line.{TenderLine, Line, tender, bid, reserve}
+use Rattle.reader_forms.specs.Line.{TenderLine, Line, tender, bid, reserve}
 use Rattle.reader_parts.specs.Flaws.{flawOf, worst}
 use Rattle.reader_parts.specs.declared.Flaw.{Flaw}
 use Rattle.reader_parts.specs.declared.Flaw.the-variants.{Sound}

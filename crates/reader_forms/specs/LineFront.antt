@@ -12,7 +12,7 @@ use Rattle.tender.specs.declared.Window.{Window}
 use Rattle.tender.specs.Keywords.{tenderWord, bidWord, reserveWord, singleWord, multiWord}
 use Rattle.reader_parts.specs.Scan.{toNext}
 use Rattle.reader_parts.specs.Front.{Front, got, wrong, onward, past, fork, numberFront, priceFront, spanFront, windowFront}
-use Rattle.reader_line.specs.Line.{Line, tender, bid, reserve}
+use Rattle.reader_forms.specs.Line.{Line, tender, bid, reserve}
 
 -- the bytes before the first byte 10, and those after it
 abbrev pub firstLine : List ℕ → List ℕ

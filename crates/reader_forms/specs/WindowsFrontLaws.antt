@@ -16,8 +16,8 @@ use Rattle.reader_parts.specs.FrontLaws.{Shorter, window-shorter, onward-got, p
 use Rattle.reader_parts.specs.GivenLaws.{then-some, closed-some, closed-back}
 use Rattle.reader_parts.specs.RejoinedLaws.{rejoined}
 use Rattle.reader_parts.specs.WindowFrontLaws.{WindowLed, window-read, window-from}
-use Rattle.reader_line.specs.Line.{windowsIn}
-use Rattle.reader_line.specs.LineFront.{ending, windowsWithin, windowsFront}
+use Rattle.reader_forms.specs.Line.{windowsIn}
+use Rattle.reader_forms.specs.LineFront.{ending, windowsWithin, windowsFront}
 
 -- how many are looked for
 

@@ -10,9 +10,9 @@ use Rattle.reader_parts.specs.Words.{cut, among}
 use Rattle.reader_parts.specs.CutLaws.{cut-word, cut-append}
 use Rattle.reader_parts.specs.Scan.{toNext, Ended}
 use Rattle.reader_parts.specs.ScanLaws.{next-upto}
-use Rattle.reader_line.specs.Line.{lineOf, linesOf}
-use Rattle.reader_line.specs.LineFront.{firstLine}
-use Rattle.reader_line.specs.PiecesLaws.{lines-append, lines-at}
+use Rattle.reader_forms.specs.Line.{lineOf, linesOf}
+use Rattle.reader_forms.specs.LineFront.{firstLine}
+use Rattle.reader_forms.specs.PiecesLaws.{lines-append, lines-at}
 
 module _ (s : List ℕ) (at : ℕ) (x : Ended s) (h : at < length s) where
   -- a byte 10 follows

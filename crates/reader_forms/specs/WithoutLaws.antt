@@ -18,7 +18,7 @@ use Rattle.reader_parts.specs.RejoinedLaws.{Without}
 use Rattle.reader_parts.specs.NumberFrontLaws.{number-without}
 use Rattle.reader_parts.specs.PriceFrontLaws.{price-without}
 use Rattle.reader_parts.specs.WindowFrontLaws.{span-without, closed-without, window-without}
-use Rattle.reader_line.specs.Line.{Line, kindOf, windowsIn, tenderOf, bidOf, reserveOf, lineOfWords}
+use Rattle.reader_forms.specs.Line.{Line, kindOf, windowsIn, tenderOf, bidOf, reserveOf, lineOfWords}
 
 -- each byte is a bracket or above
 high : List ℕ → Bool

@@ -15,12 +15,12 @@ use Rattle.tender.specs.declared.Span.{Span}
 use Rattle.tender.specs.declared.Window.{Window}
 use Rattle.tender.specs.Limits.{within}
 use Rattle.reader_parts.specs.Words.{growFirst, cut, sameBytes, opened, closed, digits, leadingZero, numeralOf, priceOf}
-use Rattle.reader_line.specs.Line.{Line, kindOf, windowsIn, tenderOf, bidOf, reserveOf, lineOfWords, lineOf}
+use Rattle.reader_forms.specs.Line.{Line, kindOf, windowsIn, tenderOf, bidOf, reserveOf, lineOfWords, lineOf}
 use Rattle.reader_parts.specs.Windows.{spanOf, windowOf}
 use Rattle.reader_parts.specs.GivenLaws.{both-true, then-some, cond-some, same-is}
 use Rattle.reader_parts.specs.CutLaws.{Pieces, cut-some}
 use Rattle.reader_parts.specs.PriceFormLaws.{PriceForm, plainly, pointed, price-form}
-use Rattle.reader_line.specs.LinePlain.{plain, allPlain}
+use Rattle.reader_forms.specs.LinePlain.{plain, allPlain}
 
 abbrev pub PlainPieces : List (List ℕ) → Type 0
 PlainPieces [] = Unit {0}

@@ -20,9 +20,9 @@ use Rattle.reader_parts.specs.GivenLaws.{then-some, same-is, closed-some, close
 use Rattle.reader_parts.specs.RejoinedLaws.{rejoined}
 use Rattle.reader_parts.specs.PriceFrontLaws.{price-read, price-from}
 use Rattle.reader_parts.specs.WindowFrontLaws.{span-read, span-from}
-use Rattle.reader_line.specs.Line.{Line, tender, reserve, kindOf, tenderOf, reserveOf}
-use Rattle.reader_line.specs.LineFront.{ending, reserveFront, afterWord, kindFront, tenderFront}
-use Rattle.reader_line.specs.WindowsFrontLaws.{LineLed, last-bytes, ending-got}
+use Rattle.reader_forms.specs.Line.{Line, tender, reserve, kindOf, tenderOf, reserveOf}
+use Rattle.reader_forms.specs.LineFront.{ending, reserveFront, afterWord, kindFront, tenderFront}
+use Rattle.reader_forms.specs.WindowsFrontLaws.{LineLed, last-bytes, ending-got}
 
 -- a reserve
 

@@ -13,7 +13,7 @@ use Rattle.tender.specs.declared.Window.{Window}
 use Rattle.tender.specs.Keywords.{tenderWord, bidWord, reserveWord}
 use Rattle.tender.specs.Limits.{within}
 use Rattle.reader_parts.specs.Words.{growFirst, cut, sameBytes, opened, closed, digits, leadingZero, numeralOf, priceOf}
-use Rattle.reader_line.specs.Line.{BidLine, bid, kindOf, windowsIn, tenderOf, bidOf, reserveOf, lineOfWords, lineOf}
+use Rattle.reader_forms.specs.Line.{BidLine, bid, kindOf, windowsIn, tenderOf, bidOf, reserveOf, lineOfWords, lineOf}
 use Rattle.reader_parts.specs.Windows.{spanOf, windowOf}
 use Rattle.reader_parts.specs.CutLaws.{Pieces, cut-some}
 use Rattle.reader_parts.specs.PriceFormLaws.{PriceForm, plainly, pointed, price-form}

@@ -20,12 +20,12 @@ use Rattle.reader_parts.specs.RejoinedLaws.{rejoined, rejoined-cut, cut-rejoine
 use Rattle.reader_parts.specs.ScanLaws.{next-split, next-after}
 use Rattle.reader_parts.specs.NumberFrontLaws.{number-read, number-from}
 use Rattle.reader_parts.specs.PriceFrontLaws.{price-read, price-from}
-use Rattle.reader_line.specs.Line.{Line, bid, windowsIn, tenderOf, bidOf, reserveOf, lineOfWords, lineOf}
-use Rattle.reader_line.specs.LineFront.{firstLine, nextLines, fronted, windowsFront, bidFront, reserveFront, afterWord}
-use Rattle.reader_line.specs.LineFront.{tenderFront, lineFront}
-use Rattle.reader_line.specs.HeadFrontLaws.{after-either, reserve-read, reserve-from, tender-read, tender-from}
-use Rattle.reader_line.specs.WithoutLaws.{line-without}
-use Rattle.reader_line.specs.WindowsFrontLaws.{LineLed, WindowsLed, next-bytes, behind, windows-read, windows-from}
+use Rattle.reader_forms.specs.Line.{Line, bid, windowsIn, tenderOf, bidOf, reserveOf, lineOfWords, lineOf}
+use Rattle.reader_forms.specs.LineFront.{firstLine, nextLines, fronted, windowsFront, bidFront, reserveFront, afterWord}
+use Rattle.reader_forms.specs.LineFront.{tenderFront, lineFront}
+use Rattle.reader_forms.specs.HeadFrontLaws.{after-either, reserve-read, reserve-from, tender-read, tender-from}
+use Rattle.reader_forms.specs.WithoutLaws.{line-without}
+use Rattle.reader_forms.specs.WindowsFrontLaws.{LineLed, WindowsLed, next-bytes, behind, windows-read, windows-from}
 
 -- a bid
 
