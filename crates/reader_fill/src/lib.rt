@@ -17,7 +17,7 @@ use reader_bids::read_bids;
 use reader_line::line::Line;
 use reader_line::line::read_head_line;
 use reader_parts::Flaw;
-use reader_word::windows::flaw_in;
+use reader_window::flaw_in;
 use tender::Kind;
 use tender::Refusal;
 use tender::Reserve;

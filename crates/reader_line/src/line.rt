@@ -14,12 +14,12 @@ ghost use Rattle.reader_line.specs.Answer.{EndsAfter, headLine, Room};
 use reader_parts::Ends;
 use reader_parts::Flaw;
 use reader_parts::Number;
-use reader_word::windows::read_span;
-use reader_word::windows::read_window;
-use reader_word::windows::worse;
-use reader_word::words::read_number;
-use reader_word::words::read_price;
-use reader_word::words::stands;
+use reader_window::read_span;
+use reader_window::read_window;
+use reader_window::worse;
+use reader_word::read_number;
+use reader_word::read_price;
+use reader_word::stands;
 use tender::Kind;
 use tender::Span;
 

@@ -3,8 +3,8 @@ use mathlib.Core.Path.{sym}
 use borrow.Author.Needs.{needs}
 use Rattle.reader_parts.specs.Flaws.{worst}
 use Rattle.reader_parts.specs.FlawLaws.{worst-empty, worst-sound, flaw-empty, flaw-sound, flaw-late}
-use Rattle.reader_word.proofs.windows.worse.Statement.{statement}
-use Rattle.reader_word.proofs.windows.worse.Tie as tie
+use Rattle.reader_window.proofs.worse.Statement.{statement}
+use Rattle.reader_window.proofs.worse.Tie as tie
 
 returns : tie.Need-returns
 returns c = rw (flaw-empty _ _ (c .if1 .taken)) (sym (worst-empty _))

@@ -1,8 +1,8 @@
 -- `windows::flaw_in` meets its contract: its branches are the two tests of a window. Assumes nothing.
 use borrow.Author.Tests.{lt-ltb, le-ltb, le-leb, lt-leb}
 use Rattle.reader_parts.specs.Flaws.{flawIn}
-use Rattle.reader_word.proofs.windows.flaw_in.Statement.{statement}
-use Rattle.reader_word.proofs.windows.flaw_in.Tie as tie
+use Rattle.reader_window.proofs.flaw_in.Statement.{statement}
+use Rattle.reader_window.proofs.flaw_in.Tie as tie
 
 returns : tie.Need-returns
 unfolding flawIn

@@ -2,8 +2,8 @@
 use native.Mathlib.Omega.{arith}
 use borrow.Author.Needs.{needs}
 use Rattle.reader_parts.specs.PlaceLaws.{not-last, number-zero, number-below, number-above, number-later}
-use Rattle.reader_word.proofs.words.read_number.Statement.{statement}
-use Rattle.reader_word.proofs.words.read_number.Tie as tie
+use Rattle.reader_word.proofs.read_number.Statement.{statement}
+use Rattle.reader_word.proofs.read_number.Tie as tie
 
 shared-slice-read-b : tie.Need-shared-slice-read-b
 shared-slice-read-b c = search needs

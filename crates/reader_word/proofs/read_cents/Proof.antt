@@ -3,8 +3,8 @@ use native.Mathlib.Omega.{arith}
 use borrow.Author.Needs.{needs}
 use Rattle.reader_parts.specs.PlaceLaws.{not-last}
 use Rattle.reader_parts.specs.PricePlaceLaws.{cents-above, cents-first, first-small, cents-second}
-use Rattle.reader_word.proofs.words.read_cents.Statement.{statement}
-use Rattle.reader_word.proofs.words.read_cents.Tie as tie
+use Rattle.reader_word.proofs.read_cents.Statement.{statement}
+use Rattle.reader_word.proofs.read_cents.Tie as tie
 
 returns : tie.Need-returns
 returns c = cents-above (c .before .before .args .whole) _ (omega (arith, c .if1 .taken))

@@ -2,8 +2,8 @@
 use native.Mathlib.Omega.{arith}
 use borrow.Author.Needs.{needs}
 use Rattle.reader_parts.specs.PlaceLaws.{not-last, span-first, span-unparted, span-second, span-unclosed, span-whole}
-use Rattle.reader_word.proofs.windows.read_span.Statement.{statement}
-use Rattle.reader_word.proofs.windows.read_span.Tie as tie
+use Rattle.reader_window.proofs.read_span.Statement.{statement}
+use Rattle.reader_window.proofs.read_span.Tie as tie
 
 read-number-requires : tie.Need-read-number-requires
 read-number-requires c κs = search needs

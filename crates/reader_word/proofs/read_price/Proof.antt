@@ -1,8 +1,8 @@
 -- `words::read_price` meets its contract: a number and, where a point follows, its cents, as `priceFront` has it. Assumes nothing.
 use borrow.Author.Needs.{needs}
 use Rattle.reader_parts.specs.PricePlaceLaws.{price-first, price-whole, price-cents}
-use Rattle.reader_word.proofs.words.read_price.Statement.{statement}
-use Rattle.reader_word.proofs.words.read_price.Tie as tie
+use Rattle.reader_word.proofs.read_price.Statement.{statement}
+use Rattle.reader_word.proofs.read_price.Tie as tie
 
 read-number-requires : tie.Need-read-number-requires
 read-number-requires c κs = search needs

@@ -1,8 +1,8 @@
 -- `words::read_digit` meets its contract: it goes by the byte, as `digitFront` does. Assumes nothing.
 use borrow.Author.Needs.{needs}
 use Rattle.reader_parts.specs.PricePlaceLaws.{digit-at, digit-below, digit-above}
-use Rattle.reader_word.proofs.words.read_digit.Statement.{statement}
-use Rattle.reader_word.proofs.words.read_digit.Tie as tie
+use Rattle.reader_word.proofs.read_digit.Statement.{statement}
+use Rattle.reader_word.proofs.read_digit.Tie as tie
 
 shared-slice-read-b : tie.Need-shared-slice-read-b
 shared-slice-read-b c = search needs

@@ -6,10 +6,10 @@ ghost use Rattle.reader_parts.specs.Scan.{Ended};
 ghost use Rattle.reader_parts.specs.Front.{spanFront, windowFront};
 ghost use Rattle.reader_parts.specs.Flaws.{flawIn, worst};
 ghost use Rattle.reader_parts.specs.Answer.{SpanIs, WindowIs};
-use crate::words::read_number;
 use reader_parts::Ends;
 use reader_parts::Flaw;
 use reader_parts::Number;
+use reader_word::read_number;
 
 // "S E)" from `at` on.
 pub fn read_span(s: &[u8], at: usize) -> Ends

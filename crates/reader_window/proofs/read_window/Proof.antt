@@ -3,8 +3,8 @@ use Prim.Native.Nat.{_+_}
 use native.Mathlib.Omega.{arith}
 use borrow.Author.Needs.{needs}
 use Rattle.reader_parts.specs.PlaceLaws.{not-last, window-unparted, window-unopened, window-span}
-use Rattle.reader_word.proofs.windows.read_window.Statement.{statement}
-use Rattle.reader_word.proofs.windows.read_window.Tie as tie
+use Rattle.reader_window.proofs.read_window.Statement.{statement}
+use Rattle.reader_window.proofs.read_window.Tie as tie
 
 shared-slice-read-if1 : tie.Need-shared-slice-read-if1
 shared-slice-read-if1 c = search needs

@@ -6,8 +6,8 @@ use borrow.Author.Needs.{needs}
 use lib.ListN.{length, drop}
 use Rattle.reader_parts.specs.Front.{digitsFront}
 use Rattle.reader_parts.specs.PlaceLaws.{not-last, digits-more, digits-below, digits-above, digits-full}
-use Rattle.reader_word.proofs.words.digits.Statement.{statement}
-use Rattle.reader_word.proofs.words.digits.Tie as tie
+use Rattle.reader_word.proofs.digits.Statement.{statement}
+use Rattle.reader_word.proofs.digits.Tie as tie
 
 abbrev Inv-loop : tie.InvT-loop
 Inv-loop s at first v₀ i₀ v i = (digitsFront v (drop i s) ≡ digitsFront first (drop at s)) × (at ≤ i) × (i < length s)

@@ -10,8 +10,8 @@ use lib.ListN.{length, drop, getD}
 use Rattle.reader_parts.specs.Scan.{startsWith}
 use Rattle.reader_parts.specs.PlaceLaws.{not-last}
 use Rattle.reader_parts.specs.StartsLaws.{letter-same, letter-other, space-next, letters}
-use Rattle.reader_word.proofs.words.stands.Statement.{statement}
-use Rattle.reader_word.proofs.words.stands.Tie as tie
+use Rattle.reader_word.proofs.stands.Statement.{statement}
+use Rattle.reader_word.proofs.stands.Tie as tie
 
 abbrev Inv-loop : tie.InvT-loop
 Inv-loop s at word i₀ i =
