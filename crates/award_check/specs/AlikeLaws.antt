@@ -1,11 +1,12 @@
--- Tables that are alike in all but one price: the rows differ in that one, and each has the same windows. Assumes nothing.
+-- Rows of tables, and what no refusal 9 says of them; in tables that are alike in all but one price that bid offers all its minutes.
+-- Assumes nothing.
 use mathlib.Core.Path.{_≡_, refl, sym, ap, _∙_}
 use mathlib.Core.List.{List, [], _∷_, _++_}
 use mathlib.Core.Bool.{Bool, true, false, cond, not, _&&_}
 use mathlib.Core.Option.{none, some}
 use Prim.Native.Nat.{ℕ, zero, suc, _+_, _*_, _/_, _≤_, _<_}
 use native.Mathlib.Omega.{arith}
-use lib.ListN.{length, getD, set, drop}
+use lib.ListN.{length, getD, drop}
 use lib.Seq.{getD-drop, drop-drop}
 use lib.Dec.{leb, eqb}
 use borrow.Author.Tests.{eqb-true}
@@ -15,11 +16,11 @@ use Rattle.tender.specs.declared.Tender.{Tender}
 use Rattle.tender.specs.Limits.{within, maxPrice, maxBidder, maxBids, mostWindows, soundTender, lawful, every}
 use Rattle.tender.specs.Tables.{Row, rowsOf, windowsOf, own, bidWidth, windowWidth, windowAt}
 use Rattle.reader_text.specs.Words.{among}
-use Rattle.reader_text.specs.Differ.{withPrice}
 use Rattle.cover.specs.SetLaws.{and-split}
 use Rattle.award_check.specs.Faults.{keeps, sound, rowFault, kindNumber, sameKind, faultOf}
 use Rattle.award_check.specs.Cells.{noRow, bidRowAt}
-use Rattle.award_check.specs.Alike.{windowCount, Alike}
+use Rattle.award_check.specs.Auction.{offered}
+use Rattle.award_check.specs.Alike.{windowCount, Alike, offerAt, Withheld}
 
 pub rows-length : (n : ℕ) (bs : List ℕ) → length (rowsOf n bs) ≡ n
 unfolding rowsOf
@@ -52,18 +53,6 @@ later : (d n : ℕ) (bs cs : List ℕ) → ((j : ℕ) → d ≤ j → j < n → 
     → getD (drop d bs) j 0 ≡ getD (drop d cs) j 0
 later d n bs cs h j l = getD-drop d bs j 0 ∙ h (d + j) (omega arith) l ∙ sym (getD-drop d cs j 0)
 
-rows-same : (n : ℕ) (bs cs : List ℕ) → ((j : ℕ) → j < bidWidth * n → getD bs j 0 ≡ getD cs j 0)
-    → rowsOf n cs ≡ rowsOf n bs
-unfolding rowsOf
-rows-same zero bs cs h = refl
-rows-same (suc n) bs cs h = rw (
-  h 0 (omega arith),
-  h 1 (omega arith),
-  h 2 (omega arith),
-  h 3 (omega arith),
-  rows-same n (drop bidWidth bs) (drop bidWidth cs) (λ j l. later bidWidth (bidWidth * suc n) bs cs (λ k m o. h k o) j (omega arith)),
-)
-
 pub windows-same : (n : ℕ) (bs cs : List ℕ) → ((j : ℕ) → j < windowWidth * n → getD bs j 0 ≡ getD cs j 0)
     → windowsOf n bs ≡ windowsOf n cs
 unfolding windowsOf
@@ -74,44 +63,6 @@ windows-same (suc n) bs cs h = rw (
   windows-same n (drop windowWidth bs) (drop windowWidth cs)
       (λ j l. later windowWidth (windowWidth * suc n) bs cs (λ k m o. h k o) j (omega arith)),
 )
-
-pub rows-set : (n i : ℕ) (bs cs : List ℕ) → i < n
-    → ((j : ℕ) → j < bidWidth * n → (j ≡ bidWidth * i + 1 → ⊥) → getD bs j 0 ≡ getD cs j 0) →
-    rowsOf n cs ≡ set (rowsOf n bs) i (withPrice (getD cs (bidWidth * i + 1) 0) (getD (rowsOf n bs) i noRow))
-unfolding rowsOf withPrice
-rows-set zero i bs cs l h = absurd (omega arith)
-rows-set (suc n) zero bs cs l h = rw (
-  h 0 (omega arith) (λ e. omega arith),
-  h 2 (omega arith) (λ e. omega arith),
-  h 3 (omega arith) (λ e. omega arith),
-  rows-same n (drop bidWidth bs) (drop bidWidth cs)
-      (λ j m. later bidWidth (bidWidth * suc n) bs cs (λ k o p. h k p (λ e. omega arith)) j (omega arith)),
-)
-rows-set (suc n) (suc i) bs cs l h =
-    let e : getD (drop bidWidth cs) (bidWidth * i + 1) 0 ≡ getD cs (bidWidth * suc i + 1) 0 = getD-drop bidWidth cs (bidWidth * i + 1) 0
-    ∙ ap (λ (j : ℕ). getD cs j 0) (index i) in
-    let f = rows-set n i (drop bidWidth bs) (drop bidWidth cs) (omega arith)
-    (λ j m d. getD-drop bidWidth bs j 0 ∙ h (bidWidth + j) (omega arith) (λ p. d (omega arith)) ∙ sym (getD-drop bidWidth cs j 0)) in
-    rw (
-      h 0 (omega arith) (λ e. omega arith),
-      h 1 (omega arith) (λ e. omega arith),
-      h 2 (omega arith) (λ e. omega arith),
-      h 3 (omega arith) (λ e. omega arith),
-      ← e,
-      f,
-    )
-  where
-    index : (i : ℕ) → bidWidth + (bidWidth * i + 1) ≡ bidWidth * suc i + 1
-    index i = omega arith
-
-own-set : (windows : List ℕ) (rs : List Row) (i v j : ℕ) → own windows (getD (set rs i (withPrice v (getD rs i noRow))) j noRow)
-    ≡ own windows (getD rs j noRow)
-unfolding own withPrice
-own-set windows [] i v j = refl
-own-set windows (r ∷ rs) zero v zero = refl
-own-set windows (r ∷ rs) zero v (suc j) = refl
-own-set windows (r ∷ rs) (suc i) v zero = refl
-own-set windows (r ∷ rs) (suc i) v (suc j) = own-set windows rs i v j
 
 pub sound-keeps : (t : Tender) (windows : List ℕ) (place : ℕ) (used : List ℕ) (at : ℕ) (r : Row)
     → sound t windows place used at r ≡ true
@@ -192,16 +143,31 @@ own-kind k t n bids windows e = go k (t .kind) (eqb-true (kindNumber k) (kindNum
 
 module _ (t : Tender) (n i : ℕ) (bids windows bids′ windows′ : List ℕ) (inside : i < n)
     (f : rowFault t windows 1 [] 0 (rowsOf n bids) ≡ none) (a : Alike n i bids windows bids′ windows′) where
-  pub own-alike : (j : ℕ) → own windows′ (getD (rowsOf n bids′) j noRow) ≡ own windows (getD (rowsOf n bids) j noRow)
+  -- where the windows begin and how many they are is the same, and so are the windows
+  own-row : (j : ℕ) → j < n → own windows′ (bidRowAt bids′ j) ≡ own windows (bidRowAt bids j)
   unfolding own
-  own-alike j = ap (λ rs. own windows′ (getD rs j noRow)) (rows-set n i bids bids′ inside (a .rows))
-      ∙ own-set windows′ (rowsOf n bids) i (getD bids′ (bidWidth * i + 1) 0) j
-      ∙ sym (go (getD (rowsOf n bids) j noRow) (among-held t windows 1 [] 0 (rowsOf n bids) j f))
+  own-row j l =
+      let first = sym (a .rows (bidWidth * j + 2) (omega arith) (λ e. omega arith)) in
+      let count = sym (a .rows (bidWidth * j + 3) (omega arith) (λ e. omega arith)) in
+      ap (λ (k : ℕ). windowsOf (bidRowAt bids′ j .count) (drop (windowWidth * k) windows′)) first
+      ∙ ap (λ (c : ℕ). windowsOf c (drop (windowWidth * bidRowAt bids j .first) windows′)) count
+      ∙ sym (go (bidRowAt bids j) (rw (row-named n j bids l) at (among-held t windows 1 [] 0 (rowsOf n bids) j f)))
     where
       go : (r : Row) → r .first + r .count ≤ 0 + windowCount (rowsOf n bids) → own windows r ≡ own windows′ r
       go r l = windows-same (r .count) (drop (windowWidth * r .first) windows) (drop (windowWidth * r .first) windows′)
           (λ x m. getD-drop (windowWidth * r .first) windows x 0 ∙ a .windows-too (windowWidth * r .first + x) (omega arith)
           ∙ sym (getD-drop (windowWidth * r .first) windows′ x 0))
+
+  offer-row : (j : ℕ) → j < n → (j ≡ i → ⊥) → offerAt bids′ windows′ j ≡ offerAt bids windows j
+  unfolding offered
+  offer-row j l d = ap (λ ws. record { price = getD bids′ (bidWidth * j + 1) 0; windows = ws }) (own-row j l)
+      ∙ ap (λ p. record { price = p; windows = own windows (bidRowAt bids j) })
+      (sym (a .rows (bidWidth * j + 1) (omega arith) (λ e. d (omega arith))))
+
+  -- bid i offers all its minutes
+  pub alike-withheld : Withheld n i bids windows bids′ windows′
+  unfolding offered
+  alike-withheld = record { others = offer-row; part = λ m e. rw (own-row i inside) at e }
 
 -- for a loop over the rows: row j, and those after it
 pub rows-step : (m j : ℕ) (bids : List ℕ) → rowsOf (suc m) (drop (bidWidth * j) bids)

@@ -1,16 +1,14 @@
--- The auction of tables: its cells, its entries and their prices, who has which cell; and of tables that are alike in all but one
--- price, or in what was read. Assumes nothing.
+-- The auction of tables: its cells, its entries and their prices, who has which cell; and of tables that are alike in all but one bid's
+-- price and minutes, or in what was read. Assumes nothing.
 use mathlib.Core.Path.{_≡_, refl, sym, ap, _∙_, fun-ext}
 use mathlib.Core.List.{List, [], _∷_, _++_, map, append-nil}
 use mathlib.Core.Bool.{Bool, true, false, cond, _&&_, and-false}
-use mathlib.Core.Option.{none}
 use Prim.Native.Nat.{ℕ, zero, suc, _+_, _-_, _*_, _≤_, _<_}
 use native.Mathlib.Omega.{arith}
-use lib.ListN.{length, getD, set, drop, length-map, length-append, List·getD-map, List·getD-append, List·getD-eq-default}
-use lib.Seq.{getD-drop, getD-append-seam, ext-getD, set-getD, set-append-left}
+use lib.ListN.{length, getD, set, drop, length-set, length-map, length-append, List·getD-map, List·getD-append, List·getD-eq-default}
+use lib.Seq.{getD-drop, getD-append-seam, getD-set-same, getD-set-other, ext-getD, set-getD, set-append-left}
 use lib.Dec.{ltb, eqb}
 use borrow.Author.Tests.{ltb-true, ltb-false, lt-ltb, le-ltb, le-leb, eqb-true, eqb-false}
-use Rattle.tender.specs.declared.Kind.{Kind}
 use Rattle.tender.specs.declared.Window.{Window}
 use Rattle.tender.specs.declared.Reserve.{Reserve}
 use Rattle.tender.specs.declared.Reserve.the-variants.{Absent, Price}
@@ -19,18 +17,17 @@ use Rattle.tender.specs.Limits.{asWindow}
 use Rattle.tender.specs.Tables.{Row, rowsOf, windowsOf, own, flatRows, flatWindows, bidWidth, windowWidth}
 use Rattle.cover.specs.Sets.{nothing}
 use Rattle.cover.specs.Earliest.{cellWith}
+use Rattle.cover.specs.SetLaws.{and-split}
 use Rattle.cover.specs.SpareLaws.{Spare, enough-spare, whole-spare}
 use Rattle.reader_text.specs.Rules.{Rules}
-use Rattle.reader_text.specs.Differ.{withPrice}
-use Rattle.award_check.specs.Faults.{faultOf}
-use Rattle.award_check.specs.Cells.{holds, cellsOf, minuteOf, noRow}
+use Rattle.award_check.specs.Cells.{holds, cellsOf, minuteOf, bidRowAt, noRow}
 use Rattle.award_check.specs.Auction.{Offer, noOffer, offered, houses, houseOf, offersOf, Auction, hasOf}
 use Rattle.award_check.specs.Auction.{auctionOf, atPrice, reserved, thinCell}
-use Rattle.award_check.specs.Alike.{Alike}
-use Rattle.award_check.specs.AlikeLaws.{rows-length, rows-set, windows-same, among-held, faultless, own-alike}
+use Rattle.award_check.specs.Alike.{Withheld}
+use Rattle.award_check.specs.AlikeLaws.{rows-length, row-named, windows-same, among-held, faultless}
 use Rattle.award_check.specs.TextLaws.{rows-flat, length-windows, rows-end, never-nine}
 
-map-append : {A B : Type 0} (f : A → B) (xs ys : List A) → map f (xs ++ ys) ≡ map f xs ++ map f ys
+pub map-append : {A B : Type 0} (f : A → B) (xs ys : List A) → map f (xs ++ ys) ≡ map f xs ++ map f ys
 map-append f [] ys = refl
 map-append f (x ∷ xs) ys = ap (λ zs. f x ∷ zs) (map-append f xs ys)
 
@@ -61,13 +58,6 @@ offer-prices : (windows : List ℕ) (rs : List Row) → map (λ o. o .price) (ma
 unfolding offered
 offer-prices windows [] = refl
 offer-prices windows (r ∷ rs) = ap (λ ps. r .price ∷ ps) (offer-prices windows rs)
-
-prices-set : (rs : List Row) (i q : ℕ) → map (λ r. r .price) (set rs i (withPrice q (getD rs i noRow)))
-    ≡ set (map (λ r. r .price) rs) i q
-unfolding withPrice
-prices-set [] i q = refl
-prices-set (r ∷ rs) zero q = refl
-prices-set (r ∷ rs) (suc i) q = ap (λ ps. r .price ∷ ps) (prices-set rs i q)
 
 price-at : (n i : ℕ) (bids : List ℕ) → i < n → getD (map (λ r. r .price) (rowsOf n bids)) i 0 ≡ getD bids (bidWidth * i + 1) 0
 unfolding rowsOf
@@ -148,6 +138,10 @@ module _ (t : Tender) (n : ℕ) (bids windows : List ℕ) where
       ∙ ap (λ ws. ltb x (cellsOf t) && holds ws (minuteOf t x))
       (List·getD-append (map (own windows) (rowsOf n bids)) (house-windows t) [] i (omega (arith, owner-count))
       ∙ own-at windows (rowsOf n bids) i)
+
+  has-row : (i x : ℕ) → i < n → auctionOf t n bids windows .has i x
+      ≡ (ltb x (cellsOf t) && holds (own windows (bidRowAt bids i)) (minuteOf t x))
+  has-row i x l = has-cell i x l ∙ ap (λ r. ltb x (cellsOf t) && holds (own windows r) (minuteOf t x)) (row-named n i bids l)
 
   -- the house has every cell
   pub house-has : (p x : ℕ) → t .reserve ≡ Price p → auctionOf t n bids windows .has n x ≡ ltb x (cellsOf t)
@@ -249,36 +243,61 @@ pub at-own-price : (i : ℕ) (A : Auction) → atPrice i (getD (A .prices) i 0) 
 unfolding atPrice
 at-own-price i A = ap (λ ps. record { cells = A .cells; has = A .has; prices = ps; owners = A .owners }) (set-getD (A .prices) i 0)
 
--- tables alike in all but the price of row i: the same auction but for that price
-module _ (k : Kind) (t : Tender) (n i : ℕ) (bids windows bids′ windows′ : List ℕ) (l : i < n)
-    (f : faultOf k t n bids windows ≡ none) (a : Alike n i bids windows bids′ windows′) where
-  owns-alike : map (own windows′) (rowsOf n bids′) ≡ map (own windows) (rowsOf n bids)
-  owns-alike = ext-getD [] (map (own windows′) (rowsOf n bids′)) (map (own windows) (rowsOf n bids))
-      (owner-count t n bids′ windows′ ∙ sym (owner-count t n bids windows))
-      (λ j m. own-at windows′ (rowsOf n bids′) j
-      ∙ own-alike t n i bids windows bids′ windows′ l (faultless k t n bids windows f .rows) a j
-      ∙ sym (own-at windows (rowsOf n bids) j))
+-- the auction in which entry i asks q and the entries have these cells
+abbrev pub offering : ℕ → ℕ → (ℕ → ℕ → Bool) → Auction → Auction
+offering i q h A = record { cells = A .cells; has = h; prices = set (A .prices) i q; owners = A .owners }
 
-  has-alike : auctionOf t n bids′ windows′ .has ≡ auctionOf t n bids windows .has
-  has-alike = fun-ext (λ j. fun-ext (λ x. has-by t n bids′ windows′ j x
-      ∙ ap (λ wss. ltb x (cellsOf t) && holds (getD (wss ++ house-windows t) j []) (minuteOf t x)) owns-alike
-      ∙ sym (has-by t n bids windows j x)))
+-- tables in which bid i may name another price and offers part of its minutes: it has no cell more, the other entries have the same, and
+-- that price alone is another
+module _ (t : Tender) (n i : ℕ) (bids windows bids′ windows′ : List ℕ) (l : i < n)
+    (w : Withheld n i bids windows bids′ windows′) where
+  abbrev q : ℕ
+  q = getD bids′ (bidWidth * i + 1) 0
 
-  prices-alike : auctionOf t n bids′ windows′ .prices ≡ set (auctionOf t n bids windows .prices) i (getD bids′ (bidWidth * i + 1) 0)
-  prices-alike =
+  prices-at : (j : ℕ) → j < n
+      → getD (map (λ r. r .price) (rowsOf n bids′)) j 0 ≡ getD (set (map (λ r. r .price) (rowsOf n bids)) i q) j 0
+  unfolding offered
+  prices-at j m = price-at n j bids′ m ∙ go (eqb j i) refl
+    where
+      go : (b : Bool) → eqb j i ≡ b → getD bids′ (bidWidth * j + 1) 0 ≡ getD (set (map (λ r. r .price) (rowsOf n bids)) i q) j 0
+      go true e = rw (eqb-true j i e)
+          (sym (getD-set-same (map (λ r. r .price) (rowsOf n bids)) i q 0 (omega (arith, price-count t n bids windows))))
+      go false e = ap (λ (o : Offer). o .price) (w .others j m (eqb-false j i e)) ∙ sym (price-at n j bids m)
+          ∙ sym (getD-set-other (map (λ r. r .price) (rowsOf n bids)) i j q 0 (eqb-false j i e))
+
+  prices-withheld : auctionOf t n bids′ windows′ .prices ≡ set (auctionOf t n bids windows .prices) i q
+  prices-withheld =
       prices-by t n bids′ windows′
-      ∙ ap (λ rs. map (λ r. r .price) rs ++ map (λ o. o .price) (houseOf t (t .reserve))) (rows-set n i bids bids′ l (a .rows))
       ∙ ap (λ ps. ps ++ map (λ o. o .price) (houseOf t (t .reserve)))
-      (prices-set (rowsOf n bids) i (getD bids′ (bidWidth * i + 1) 0))
-      ∙ sym (set-append-left (map (λ r. r .price) (rowsOf n bids)) (map (λ o. o .price) (houseOf t (t .reserve))) i
-      (getD bids′ (bidWidth * i + 1) 0) (omega (arith, price-count t n bids windows)))
-      ∙ ap (λ ps. set ps i (getD bids′ (bidWidth * i + 1) 0)) (sym (prices-by t n bids windows))
+      (ext-getD 0 (map (λ r. r .price) (rowsOf n bids′)) (set (map (λ r. r .price) (rowsOf n bids)) i q)
+      (price-count t n bids′ windows′ ∙ sym (length-set (map (λ r. r .price) (rowsOf n bids)) i q ∙ price-count t n bids windows))
+      (λ j m. prices-at j (omega (arith, price-count t n bids′ windows′))))
+      ∙ sym (set-append-left (map (λ r. r .price) (rowsOf n bids)) (map (λ o. o .price) (houseOf t (t .reserve))) i q
+      (omega (arith, price-count t n bids windows)))
+      ∙ ap (λ ps. set ps i q) (sym (prices-by t n bids windows))
 
-  pub auction-alike : auctionOf t n bids′ windows′ ≡ atPrice i (getD bids′ (bidWidth * i + 1) 0) (auctionOf t n bids windows)
-  unfolding auctionOf atPrice
-  auction-alike =
-      ap (λ h. record { cells = cellsOf t; has = h; prices = auctionOf t n bids′ windows′ .prices; owners = n }) has-alike
-      ∙ ap (λ ps. record { cells = cellsOf t; has = auctionOf t n bids windows .has; prices = ps; owners = n }) prices-alike
+  pub auction-withheld : auctionOf t n bids′ windows′
+      ≡ offering i q (auctionOf t n bids′ windows′ .has) (auctionOf t n bids windows)
+  unfolding auctionOf
+  auction-withheld =
+      ap (λ ps. record { cells = cellsOf t; has = auctionOf t n bids′ windows′ .has; prices = ps; owners = n }) prices-withheld
+
+  pub has-others : (j : ℕ) → (j ≡ i → ⊥) → auctionOf t n bids′ windows′ .has j ≡ auctionOf t n bids windows .has j
+  unfolding offered
+  has-others j d = fun-ext (λ x. go x (entry-at t n j))
+    where
+      go : (x : ℕ) → EntryAt t n j → auctionOf t n bids′ windows′ .has j x ≡ auctionOf t n bids windows .has j x
+      go x (owner m) = has-row t n bids′ windows′ j x m
+          ∙ ap (λ (o : Offer). ltb x (cellsOf t) && holds (o .windows) (minuteOf t x)) (w .others j m d)
+          ∙ sym (has-row t n bids windows j x m)
+      go x (house p e h) = rw h (house-has t n bids′ windows′ p x e ∙ sym (house-has t n bids windows p x e))
+      go x (past m) = no-cells t n bids′ windows′ j x m ∙ sym (no-cells t n bids windows j x m)
+
+  pub has-part : (x : ℕ) → auctionOf t n bids′ windows′ .has i x ≡ true → auctionOf t n bids windows .has i x ≡ true
+  unfolding offered
+  has-part x e =
+      let s = and-split (ltb x (cellsOf t)) _ (sym (has-row t n bids′ windows′ i x l) ∙ e) in
+      has-row t n bids windows i x l ∙ rw (s .0, w .part (minuteOf t x) (s .1))
 
 -- what stands past the rows that were read says nothing
 module _ (T : Tender) (R : List Row) (W : List Window) (rules : Rules T R W) where

@@ -5,4 +5,5 @@ pub mod Alike
 pub mod AlikeLaws
 pub mod TextLaws
 pub mod AuctionLaws
+pub mod WithheldLaws
 pub mod WalkLaws

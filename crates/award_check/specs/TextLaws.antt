@@ -1,13 +1,12 @@
--- The tables of an accepted text: the award never refuses them with 9, and two texts that differ in one price give tables alike
--- in all but that price. Assumes nothing.
+-- The tables of an accepted text: the award never refuses them with 9. Assumes nothing.
 use mathlib.Core.Path.{_≡_, refl, sym, ap, _∙_}
 use mathlib.Core.List.{List, [], _∷_, _++_}
 use mathlib.Core.Bool.{Bool, true, not, _&&_}
-use mathlib.Core.Option.{none, some}
-use Prim.Native.Nat.{ℕ, zero, suc, _+_, _*_, _/_, _≤_, _<_}
+use mathlib.Core.Option.{none}
+use Prim.Native.Nat.{ℕ, zero, suc, _+_, _*_, _/_, _≤_}
 use native.Mathlib.Omega.{arith}
-use lib.ListN.{length, getD, drop, length-append, length-drop, List·getD-append}
-use lib.Seq.{drop-drop, getD-append-seam}
+use lib.ListN.{length, drop, length-append, length-drop}
+use lib.Seq.{drop-drop}
 use borrow.Author.Tests.{eq-eqb, le-leb}
 use Rattle.tender.specs.declared.Kind.{Kind}
 use Rattle.tender.specs.declared.Kind.the-variants.{Single, Multi}
@@ -15,13 +14,10 @@ use Rattle.tender.specs.declared.Window.{Window}
 use Rattle.tender.specs.declared.Tender.{Tender}
 use Rattle.tender.specs.Limits.{within, maxPrice, maxBidder, maxBids, mostWindows, lawful, every}
 use Rattle.tender.specs.Tables.{Row, rowsOf, windowsOf, own, flatRows, flatWindows, bidWidth, windowWidth}
-use Rattle.reader_text.specs.Words.{numeralOf, priceOf}
 use Rattle.tender.specs.RulesLaws.{rules-lawful, rules-sound}
 use Rattle.reader_text.specs.Rules.{RowRules, RowsRules, WindowsRules, Rules}
-use Rattle.reader_text.specs.Differ.{withPrice, RowsDifferInPrice}
 use Rattle.award_check.specs.Faults.{keeps, sound, rowFault, kindNumber, sameKind, faultOf}
-use Rattle.award_check.specs.Cells.{noRow}
-use Rattle.award_check.specs.Alike.{windowCount, Alike}
+use Rattle.award_check.specs.Alike.{windowCount}
 
 pub rows-flat : (R : List Row) (v : List ℕ) → rowsOf (length R) (flatRows R ++ v) ≡ R
 unfolding rowsOf flatRows
@@ -50,7 +46,7 @@ drop-rules zero W r = r
 drop-rules (suc c) [] r = r
 drop-rules (suc c) (w ∷ W) r = drop-rules c W (r .1)
 
-drop-flat : (c : ℕ) (W : List Window) (v : List ℕ) → c ≤ length W
+pub drop-flat : (c : ℕ) (W : List Window) (v : List ℕ) → c ≤ length W
     → drop (windowWidth * c) (flatWindows W ++ v) ≡ flatWindows (drop c W)
     ++ v
 unfolding flatWindows
@@ -126,60 +122,3 @@ never-nine T R W v w h =
     )
     (rows-sound T (flatWindows W ++ w) w 1 [] 0 R W (length W) (h .rows) (omega (arith, h .few-bids)) refl (omega arith) m
     (h .windows))
-
-before-end : (xs v v′ : List ℕ) (j : ℕ) → j < length xs → getD (xs ++ v) j 0 ≡ getD (xs ++ v′) j 0
-before-end xs v v′ j l = List·getD-append xs v 0 j l ∙ sym (List·getD-append xs v′ 0 j l)
-
--- cells of rows that differ in the price of the row after bs
-rows-alike : (bs : List Row) (r : Row) (ls : List Row) (q : ℕ) (v v′ : List ℕ) (j : ℕ) → j < bidWidth * length (bs ++ r ∷ ls)
-    → (j ≡ bidWidth * length bs + 1 → ⊥) →
-    getD (flatRows (bs ++ r ∷ ls) ++ v) j 0 ≡ getD (flatRows (bs ++ withPrice q r ∷ ls) ++ v′) j 0
-unfolding flatRows withPrice
-rows-alike [] r ls q v v′ zero l d = refl
-rows-alike [] r ls q v v′ (suc zero) l d = absurd (d refl)
-rows-alike [] r ls q v v′ (suc (suc zero)) l d = refl
-rows-alike [] r ls q v v′ (suc (suc (suc zero))) l d = refl
-rows-alike [] r ls q v v′ (suc (suc (suc (suc j)))) l d = before-end (flatRows ls) v v′ j (omega (arith, length-rows ls))
-rows-alike (b ∷ bs) r ls q v v′ zero l d = refl
-rows-alike (b ∷ bs) r ls q v v′ (suc zero) l d = refl
-rows-alike (b ∷ bs) r ls q v v′ (suc (suc zero)) l d = refl
-rows-alike (b ∷ bs) r ls q v v′ (suc (suc (suc zero))) l d = refl
-rows-alike (b ∷ bs) r ls q v v′ (suc (suc (suc (suc j)))) l d = rows-alike bs r ls q v v′ j (omega arith) (λ e. d (omega arith))
-
-named-flat : (bs : List Row) (r : Row) (ls : List Row) (v : List ℕ) → getD (flatRows (bs ++ r ∷ ls) ++ v) (bidWidth * length bs + 1) 0
-    ≡ r .price
-unfolding flatRows
-named-flat [] r ls v = refl
-named-flat (b ∷ bs) r ls v =
-    let i : bidWidth * suc (length bs) + 1 ≡ suc (suc (suc (suc (bidWidth * length bs + 1)))) = omega arith in
-    ap (λ (j : ℕ). getD (flatRows (b ∷ (bs ++ r ∷ ls)) ++ v) j 0) i ∙ named-flat bs r ls v
-
--- the tables that two accepted texts fill, whatever stands past their rows
-pub record Tabled (R S : List Row) (W : List Window) (v w v′ w′ bidder p q : List ℕ) : Type 0 where
-  pub i : ℕ
-  pub inside : i < length R
-  pub count : length S ≡ length R
-  pub bidder-is : numeralOf bidder ≡ some (getD R i noRow .bidder)
-  pub named-p : priceOf p ≡ some (getD (flatRows R ++ v) (bidWidth * i + 1) 0)
-  pub named-q : priceOf q ≡ some (getD (flatRows S ++ v′) (bidWidth * i + 1) 0)
-  pub alike : Alike (length R) i (flatRows R ++ v) (flatWindows W ++ w) (flatRows S ++ v′) (flatWindows W ++ w′)
-
-pub tabled : (T : Tender) (R S : List Row) (W : List Window) (v w v′ w′ bidder p q : List ℕ) → Rules T R W
-    → RowsDifferInPrice R S bidder p q → Tabled R S W v w v′ w′ bidder p q
-unfolding withPrice
-tabled T R S W v w v′ w′ bidder p q h d = record {
-  i = length (d .before);
-  inside = rw (d .left) (omega (arith, length-append (d .before) (d .row ∷ d .after)));
-  count = rw (d .left, d .right) (length-append (d .before) (withPrice (d .w) (d .row) ∷ d .after)
-      ∙ sym (length-append (d .before) (d .row ∷ d .after)));
-  bidder-is = d .bidder-is ∙ rw (d .left, getD-append-seam (d .before) (d .row) (d .after) noRow);
-  named-p = d .p-is ∙ rw (d .left, named-flat (d .before) (d .row) (d .after) v);
-  named-q = d .q-is ∙ rw (d .right, named-flat (d .before) (withPrice (d .w) (d .row)) (d .after) v′);
-  alike = record {
-    rows = rw (d .left, d .right) (rows-alike (d .before) (d .row) (d .after) (d .w) v v′);
-    windows-too = λ j l. before-end (flatWindows W) w w′ j (few j (rw (rows-flat R v) at l));
-  };
-}
-  where
-    few : (j : ℕ) → j < windowWidth * windowCount R → j < length (flatWindows W)
-    few j l = omega (arith, rows-end (T .kind) [] 0 R (length W) (h .rows), length-windows W)

@@ -15,28 +15,34 @@ use Rattle.cover.specs.LeastCoverLaws.{tie}
 use Rattle.cover.specs.SpareLaws.{least-wins}
 use Rattle.award_check.specs.Auction.{auctionOf, atPrice}
 use Rattle.award_check.specs.AuctionLaws.{owners-are, entries, with-reserve, EntryAt, owner, house, past, entry-at}
-use Rattle.award_check.specs.Alike.{named, Alike}
+use Rattle.award_check.specs.Alike.{named, Alike, Withheld}
+use Rattle.award_check.specs.AlikeLaws.{faultless, alike-withheld}
 use Rattle.tender.specs.declared.AwardRow.{AwardRow}
 use Rattle.award_rule.specs.Award.{leastCost, greedy, rule, coversIn, won, totalsOf, Outcome, awarded, refused, outcomeNumber, awardOf}
 use Rattle.award_outcome.specs.Gain.{rowFor, gain, AtMost}
 use Rattle.award_outcome.specs.Right.{LeastCover, WinnerAt, by-owner, by-house, PaidByEight}
 use Rattle.award_rule.specs.AwardLaws.{won-least, cents-least, no-fault, AwardOn, award-awarded, spared, all-spared}
 use Rattle.award_outcome.specs.SettleLaws.{rowIn, cost-least, house-least, house-wins, largest, vcg-pays, Winner, winners-cover}
-use Rattle.award_outcome.specs.TableLaws.{award-honest, row-is, row-fair}
+use Rattle.award_outcome.specs.TableLaws.{award-withheld, row-is, row-fair}
 
--- Two tenders that neither answer refuses with 9, alike in all but the price of bid i, each with an award row for every bid or
--- each with fewer: where the first names the bidder's true cost, its gain in the second is no higher.
-pub honest-outcome : (k : Kind) (t : Tender) (n i : ℕ) (bids windows bids′ windows′ : List ℕ) (lent lent′ : ℕ)
-    (a a′ : Outcome) → i < n →
-    Alike n i bids windows bids′ windows′ → ltb lent n ≡ ltb lent′ n →
-    a ≡ awardOf k t n bids windows lent → a′ ≡ awardOf k t n bids′ windows′ lent′ → (outcomeNumber a ≡ 9 → ⊥)
-    → (outcomeNumber a′ ≡ 9 → ⊥) →
-    AtMost (gain (named bids i) (rowFor a′ i)) (gain (named bids i) (rowFor a i))
-unfolding named
-honest-outcome k t n i bids windows bids′ windows′ lent lent′ a a′ l d e x x′ h h′ =
-    let f = no-fault k t n bids windows lent a x h in
-    let f′ = no-fault k t n bids′ windows′ lent′ a′ x′ h′ in
-    rw (x, x′) (award-honest k t n i bids windows l f bids′ windows′ lent lent′ f′ d e)
+-- Two tenders that neither answer refuses with 9, each with an award row for every bid or each with fewer; the first names the true cost
+-- of bid i.
+module _ (k : Kind) (t : Tender) (n i : ℕ) (bids windows bids′ windows′ : List ℕ) (lent lent′ : ℕ) (a a′ : Outcome)
+    (l : i < n) (e : ltb lent n ≡ ltb lent′ n)
+    (x : a ≡ awardOf k t n bids windows lent) (x′ : a′ ≡ awardOf k t n bids′ windows′ lent′)
+    (h : outcomeNumber a ≡ 9 → ⊥) (h′ : outcomeNumber a′ ≡ 9 → ⊥) where
+  -- The second is alike but for that bid, which offers part of its minutes: its gain there is no higher.
+  pub withheld-outcome : Withheld n i bids windows bids′ windows′
+      → AtMost (gain (named bids i) (rowFor a′ i)) (gain (named bids i) (rowFor a i))
+  unfolding named
+  withheld-outcome w = rw (x, x′) (award-withheld k t n i bids windows l (no-fault k t n bids windows lent a x h) bids′ windows′ lent
+      lent′ (no-fault k t n bids′ windows′ lent′ a′ x′ h′) w e)
+
+  -- The same where it offers them all.
+  pub honest-outcome : Alike n i bids windows bids′ windows′
+      → AtMost (gain (named bids i) (rowFor a′ i)) (gain (named bids i) (rowFor a i))
+  honest-outcome d = withheld-outcome (alike-withheld t n i bids windows bids′ windows′ l
+      (faultless k t n bids windows (no-fault k t n bids windows lent a x h) .rows) d)
 
 -- no winner is paid less than it named
 pub no-loss : (k : Kind) (t : Tender) (n i : ℕ) (bids windows : List ℕ) (lent : ℕ) (a : Outcome) → i < n

@@ -1,4 +1,4 @@
--- What the demands say of an outcome: one answer, least cover, formula 8, no gain by a false price.
+-- What the demands say of an outcome: one answer, least cover, formula 8, no gain by a false price or by minutes held back.
 use mathlib.Core.Path.{_≡_}
 use mathlib.Core.List.{List, _++_}
 use mathlib.Core.Bool.{true, _&&_}
@@ -88,11 +88,13 @@ pub record PaidByEight (A : Auction) (i cents cost : ℕ) : Type 0 where
   pub least-without : Wins (without i (coversIn A)) (sets.cost (A .prices)) (2 ^ length (A .prices)) other
   pub formula : cents + cost ≡ sets.cost (A .prices) other + getD (A .prices) i 0
 
--- bid i is the one whose price the texts write p and q: where p names the true cost, q gains no more
-pub record NoGain (R : List Row) (bids bids′ : List ℕ) (a a′ : Outcome) (bidder p q : List ℕ) : Type 0 where
+-- bid i is the one whose price the texts write p and q: where p names the true cost, the second gains no more
+pub record NoGain (R S : List Row) (bids bids′ : List ℕ) (a a′ : Outcome) (bidder p q : List ℕ) : Type 0 where
   pub i : ℕ
   pub inside : i < length R
+  pub count : length S ≡ length R
   pub bidder-is : numeralOf bidder ≡ some (getD R i noRow .bidder)
+  pub bidder-too : numeralOf bidder ≡ some (getD S i noRow .bidder)
   pub true-cost : priceOf p ≡ some (named bids i)
   pub other-price : priceOf q ≡ some (named bids′ i)
   pub most : AtMost (gain (named bids i) (rowFor a′ i)) (gain (named bids i) (rowFor a i))

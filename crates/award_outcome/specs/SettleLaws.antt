@@ -1,25 +1,28 @@
--- Of an auction, by either rule: a loser is paid nothing; where the other entries have every cell naming the true cost is best and no
--- winner is paid less than it named; where all entries do the winners cover. Assumes nothing.
+-- Of an auction, by either rule: a loser is paid nothing; where the other entries have every cell naming the true cost and offering all
+-- cells is best and no winner is paid less than it named; where all entries do the winners cover. Assumes nothing.
 use mathlib.Core.Path.{_≡_, refl, sym, _∙_}
-use mathlib.Core.Bool.{Bool, true, false, _&&_}
+use mathlib.Core.Bool.{Bool, true, false, cond, _&&_}
 use Prim.Native.Nat.{ℕ, _+_, _^_, _≤_, _<_}
 use native.Mathlib.Omega.{arith}
 use lib.ListN.{length, getD, set, length-set}
 use lib.Seq.{set-getD}
-use lib.Dec.{leb}
+use lib.Dec.{leb, ltb}
+use lib.IntN.{pos}
 use Rattle.tender.specs.declared.AwardRow.{AwardRow}
 use Rattle.tender.specs.declared.Totals.{Totals}
 use Rattle.tender.specs.declared.Refusal.{Refusal}
-use Rattle.cover.specs.Sets.{when, Found, nothing, found, bit, cost, cells}
+use Rattle.cover.specs.Sets.{when, Found, nothing, found, bit, covers, cost, cells}
 use Rattle.cover.specs.LeastCover.{Wins, winners, without, payment, vcgPaid}
+use Rattle.cover.specs.Earliest.{cellWith}
 use Rattle.cover.specs.Greedy.{wins}
 use Rattle.cover.specs.CriticalPrice.{criticalPaid, winsAt}
 use Rattle.cover.specs.VcgLaws as vcg
 use Rattle.cover.specs.CriticalLaws as critical
 use Rattle.cover.specs.SpareLaws.{Spare, others, others-below, spare-set, spare-bids, least-covers, greedy-covers}
+use Rattle.cover.specs.FewerLaws.{covers-fewer, without-same, none-thin}
 use Rattle.cover.specs.SettledLaws.{getD-listed, cost-sum}
 use Rattle.award_check.specs.Auction.{Auction, atPrice, reserved, thinCell}
-use Rattle.award_check.specs.AuctionLaws.{at-own-price}
+use Rattle.award_check.specs.AuctionLaws.{at-own-price, offering}
 use Rattle.award_rule.specs.Award.{Rule, leastCost, greedy, coversIn, won, cents, awarded, awardRows, totalsOf, thinned, settled}
 use Rattle.award_rule.specs.AwardLaws.{won-least, cents-least, won-greedy, cents-greedy, settled-is}
 use Rattle.award_outcome.specs.Gain.{lost, rowFor, gain, AtMost}
@@ -31,32 +34,22 @@ unfolding won cents vcgPaid criticalPaid payment
 lost-nothing leastCost A i e = rw e
 lost-nothing greedy A i e = rw e
 
--- where the price of entry i is set to q
-module _ (A : Auction) (i q : ℕ) where
-  won-least-at : won leastCost (atPrice i q A) i ≡ bit (winners (coversIn A) (set (A .prices) i q)) i
-  unfolding atPrice
-  won-least-at = won-least (atPrice i q A) i (length (A .prices)) (length-set (A .prices) i q)
+-- where entry i asks q and the entries have the cells h
+module _ (A : Auction) (i q : ℕ) (h : ℕ → ℕ → Bool) where
+  abbrev B : Auction
+  B = offering i q h A
 
-  cents-least-at : cents leastCost (atPrice i q A) i ≡ vcgPaid (coversIn A) (set (A .prices) i q) i
-  unfolding atPrice
-  cents-least-at = cents-least (atPrice i q A) i (length (A .prices)) (length-set (A .prices) i q)
+  won-least-at : won leastCost B i ≡ bit (winners (covers h (length (A .prices)) (A .cells)) (set (A .prices) i q)) i
+  won-least-at = won-least B i (length (A .prices)) (length-set (A .prices) i q)
 
-  won-greedy-at : won greedy (atPrice i q A) i ≡ wins (A .has) (set (A .prices) i q) (cells (A .cells)) i
-  unfolding atPrice
-  won-greedy-at = won-greedy (atPrice i q A) i
+  cents-least-at : cents leastCost B i ≡ vcgPaid (covers h (length (A .prices)) (A .cells)) (set (A .prices) i q) i
+  cents-least-at = cents-least B i (length (A .prices)) (length-set (A .prices) i q)
 
-  cents-greedy-at : cents greedy (atPrice i q A) i ≡ criticalPaid (A .has) (set (A .prices) i q) (cells (A .cells)) i
-  unfolding atPrice
-  cents-greedy-at = cents-greedy (atPrice i q A) i
+  won-greedy-at : won greedy B i ≡ wins h (set (A .prices) i q) (cells (A .cells)) i
+  won-greedy-at = won-greedy B i
 
-  thin-at : (m : ℕ) → thinCell (atPrice i q A) m ≡ thinCell A m
-  unfolding thinCell reserved atPrice
-  thin-at m = rw (length-set (A .prices) i q)
-
-  settled-at : (r : Rule) (bare alone : ℕ → Refusal) (x y : Found) → thinCell A 0 ≡ x → thinCell A 1 ≡ y
-      → settled r (atPrice i q A) bare alone
-      ≡ thinned bare alone x y (awarded (awardRows r (atPrice i q A)) (totalsOf r (atPrice i q A)))
-  settled-at r bare alone x y e f = settled-is r (atPrice i q A) bare alone x y (thin-at 0 ∙ e) (thin-at 1 ∙ f)
+  cents-greedy-at : cents greedy B i ≡ criticalPaid h (set (A .prices) i q) (cells (A .cells)) i
+  cents-greedy-at = cents-greedy B i
 
 -- where the other entries have every cell
 module _ (A : Auction) (i : ℕ) (inside : i < length (A .prices)) (y : Spare (A .has) (length (A .prices)) (A .cells) i) where
@@ -69,20 +62,37 @@ module _ (A : Auction) (i : ℕ) (inside : i < length (A .prices)) (y : Spare (A
   spare : without i ok rest ≡ true
   spare = spare-set (A .has) (length (A .prices)) (A .cells) i y inside
 
-  -- whoever's cost is c gains no more by naming q
-  pub honest : (r : Rule) (c q : ℕ) → cents r (atPrice i q A) i + when (won r (atPrice i c A) i) c
-      ≤ cents r (atPrice i c A) i + when (won r (atPrice i q A) i) c
-  honest leastCost c q = rw (won-least-at A i q, won-least-at A i c, cents-least-at A i q, cents-least-at A i c)
-      (vcg.truthful ok ok (A .prices) i (λ s e. e) refl inside rest (others-below (length (A .prices)) i) spare c q)
-  honest greedy c q = rw (won-greedy-at A i q, won-greedy-at A i c, cents-greedy-at A i q, cents-greedy-at A i c)
-      (critical.truthful (A .has) (A .prices) (cells (A .cells)) i inside
-      (spare-bids (A .has) (length (A .prices)) (A .cells) i y (A .prices)) (A .has) (λ j d. refl) (λ x e. e) c q)
+  -- whoever's cost is c gains no more by naming q and offering fewer cells
+  module _ (h : ℕ → ℕ → Bool) (theirs : (j : ℕ) → (j ≡ i → ⊥) → h j ≡ A .has j)
+      (fewer : (x : ℕ) → h i x ≡ true → A .has i x ≡ true) where
+    pub honest : (r : Rule) (c q : ℕ) → cents r (offering i q h A) i + when (won r (atPrice i c A) i) c
+        ≤ cents r (atPrice i c A) i + when (won r (offering i q h A) i) c
+    unfolding atPrice
+    honest leastCost c q = rw (
+      won-least-at A i q h,
+      won-least-at A i c (A .has),
+      cents-least-at A i q h,
+      cents-least-at A i c (A .has),
+    )
+        (vcg.truthful ok (covers h (length (A .prices)) (A .cells)) (A .prices) i
+        (covers-fewer (A .has) h i theirs fewer (length (A .prices)) (A .cells))
+        (without-same (A .has) h i theirs fewer (length (A .prices)) (A .cells))
+        inside rest (others-below (length (A .prices)) i) spare c q)
+    honest greedy c q = rw (
+      won-greedy-at A i q h,
+      won-greedy-at A i c (A .has),
+      cents-greedy-at A i q h,
+      cents-greedy-at A i c (A .has),
+    )
+        (critical.truthful (A .has) (A .prices) (cells (A .cells)) i inside
+        (spare-bids (A .has) (length (A .prices)) (A .cells) i y (A .prices)) h theirs fewer c q)
 
   -- a winner is paid no less than it named
   pub fair : (r : Rule) (q : ℕ) → when (won r (atPrice i q A) i) q ≤ cents r (atPrice i q A) i
-  fair leastCost q = rw (won-least-at A i q, cents-least-at A i q)
+  unfolding atPrice
+  fair leastCost q = rw (won-least-at A i q (A .has), cents-least-at A i q (A .has))
       (vcg.fair ok (A .prices) i inside rest (others-below (length (A .prices)) i) spare q)
-  fair greedy q = rw (won-greedy-at A i q, cents-greedy-at A i q)
+  fair greedy q = rw (won-greedy-at A i q (A .has), cents-greedy-at A i q (A .has))
       (critical.fair (A .has) (A .prices) (cells (A .cells)) i inside
       (spare-bids (A .has) (length (A .prices)) (A .cells) i y (A .prices)) q)
 
@@ -130,30 +140,57 @@ pub row-filled : (r : Rule) (A : Auction) (i : ℕ) (totals : Totals) → i < A 
 unfolding rowFor awardRows
 row-filled r A i totals l = getD-listed (A .owners) (λ i. rowIn r A i) i lost l
 
-row-filled-at : (r : Rule) (A : Auction) (i q : ℕ) (totals : Totals) → i < A .owners
-    → rowFor (awarded (awardRows r (atPrice i q A)) totals) i ≡ rowIn r (atPrice i q A) i
-unfolding atPrice
-row-filled-at r A i q totals l = row-filled r (atPrice i q A) i totals l
+-- Bid i, whose true cost is its price in A, names q and offers fewer cells: it gains no more. With all its cells it gains 0 at least, so
+-- that a second award that is refused for cover, or in which it loses, leaves it no more; where the second is made the first is too.
+module _ (r : Rule) (A : Auction) (i q : ℕ) (h : ℕ → ℕ → Bool) (bare alone : ℕ → Refusal) (l : i < A .owners)
+    (inside : i < length (A .prices)) (theirs : (j : ℕ) → (j ≡ i → ⊥) → h j ≡ A .has j)
+    (fewer : (x : ℕ) → h i x ≡ true → A .has i x ≡ true)
+    (spare : thinCell A 0 ≡ nothing → thinCell A 1 ≡ nothing → Spare (A .has) (length (A .prices)) (A .cells) i) where
+  abbrev less : Auction
+  less = offering i q h A
 
--- naming q is no better than naming the true cost, which is the price of bid i in A, where no thin cell means that bid i is spared
-pub settled-honest : (r : Rule) (A : Auction) (i q : ℕ) (bare alone : ℕ → Refusal) → i < A .owners → i < length (A .prices)
-    → (thinCell A 0 ≡ nothing → thinCell A 1 ≡ nothing → Spare (A .has) (length (A .prices)) (A .cells) i) →
-    AtMost (gain (getD (A .prices) i 0) (rowFor (settled r (atPrice i q A) bare alone) i))
-    (gain (getD (A .prices) i 0) (rowFor (settled r A bare alone) i))
-unfolding rowFor gain thinned
-settled-honest r A i q bare alone l n spare = go (thinCell A 0) (thinCell A 1) refl refl
-  where
-    go : (x y : Found) → thinCell A 0 ≡ x → thinCell A 1 ≡ y →
-        AtMost (gain (getD (A .prices) i 0) (rowFor (settled r (atPrice i q A) bare alone) i))
-        (gain (getD (A .prices) i 0) (rowFor (settled r A bare alone) i))
-    go (found x) y e f = rw (settled-is r A bare alone (found x) y e f, settled-at A i q r bare alone (found x) y e f) (omega arith)
-    go nothing (found x) e f = rw (settled-is r A bare alone nothing (found x) e f, settled-at A i q r bare alone nothing (found x) e f)
-        (omega arith)
-    go nothing nothing e f = rw (settled-is r A bare alone nothing nothing e f, settled-at A i q r bare alone nothing nothing e f)
-        (rw (row-filled r A i (totalsOf r A) l, row-filled-at r A i q (totalsOf r (atPrice i q A)) l)
-        (gain-most (getD (A .prices) i 0) (rowIn r (atPrice i q A) i) (rowIn r A i) (lost-nothing r (atPrice i q A) i)
-        (lost-nothing r A i)
-        (rw (at-own-price i A) at (honest A i n (spare e f) r (getD (A .prices) i 0) q))))
+  abbrev c : ℕ
+  c = getD (A .prices) i 0
+
+  -- what the first award leaves it
+  no-loss : (x y : Found) → thinCell A 0 ≡ x → thinCell A 1 ≡ y → AtMost (pos 0) (gain c (rowFor (settled r A bare alone) i))
+  unfolding rowFor gain thinned lost
+  no-loss (found x) y e f = rw (settled-is r A bare alone (found x) y e f) (omega arith)
+  no-loss nothing (found x) e f = rw (settled-is r A bare alone nothing (found x) e f) (omega arith)
+  no-loss nothing nothing e f = rw (settled-is r A bare alone nothing nothing e f, row-filled r A i (totalsOf r A) l)
+      (gain-most c lost (rowIn r A i) (λ z. refl) (lost-nothing r A i)
+      (omega (arith, rw (at-own-price i A) at (fair A i inside (spare e f) r c))))
+
+  -- a thin cell of the first is one of the second
+  thin-too : thinCell less 0 ≡ nothing → thinCell less 1 ≡ nothing → (thinCell A 0 ≡ nothing) × (thinCell A 1 ≡ nothing)
+  unfolding thinCell reserved
+  thin-too e f = go (ltb (A .owners) (length (A .prices))) (rw (length-set (A .prices) i q) at e) (rw (length-set (A .prices) i q) at f)
+    where
+      go : (b : Bool) → cond b nothing (cellWith h (A .owners) (A .cells) 0) ≡ nothing
+          → cond b nothing (cellWith h (A .owners) (A .cells) 1) ≡ nothing
+          → (cond b nothing (cellWith (A .has) (A .owners) (A .cells) 0) ≡ nothing)
+          × (cond b nothing (cellWith (A .has) (A .owners) (A .cells) 1) ≡ nothing)
+      go true e f = (refl, refl)
+      go false e f = none-thin (A .has) h i theirs fewer (A .owners) (A .cells) e f
+
+  pub settled-withheld : AtMost (gain c (rowFor (settled r less bare alone) i)) (gain c (rowFor (settled r A bare alone) i))
+  unfolding rowFor gain thinned lost
+  settled-withheld = go (thinCell less 0) (thinCell less 1) refl refl
+    where
+      go : (x y : Found) → thinCell less 0 ≡ x → thinCell less 1 ≡ y
+          → AtMost (gain c (rowFor (settled r less bare alone) i)) (gain c (rowFor (settled r A bare alone) i))
+      go (found x) y e f = rw (settled-is r less bare alone (found x) y e f) (no-loss (thinCell A 0) (thinCell A 1) refl refl)
+      go nothing (found x) e f = rw (settled-is r less bare alone nothing (found x) e f) (no-loss (thinCell A 0) (thinCell A 1) refl refl)
+      go nothing nothing e f =
+          let t = thin-too e f in
+          rw (
+            settled-is r less bare alone nothing nothing e f,
+            settled-is r A bare alone nothing nothing (t .0) (t .1),
+            row-filled r less i (totalsOf r less) l,
+            row-filled r A i (totalsOf r A) l,
+          )
+          (gain-most c (rowIn r less i) (rowIn r A i) (lost-nothing r less i) (lost-nothing r A i)
+          (rw (at-own-price i A) at (honest A i inside (spare (t .0) (t .1)) h theirs fewer r c q)))
 
 -- the sum of the winners' prices is the cost of the set
 pub cost-least : (A : Auction) → totalsOf leastCost A .cost

@@ -17,6 +17,7 @@ pub mod GreedyCoverLaws
 pub mod BarLaws
 pub mod CriticalLaws
 pub mod SpareLaws
+pub mod FewerLaws
 pub mod SetMemberLaws
 pub mod Intervals
 pub mod SettledLaws

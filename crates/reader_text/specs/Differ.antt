@@ -1,14 +1,14 @@
--- Two lists that are alike in all but one bidder's price (paper 01, "Time, price and place"): of the texts, and of the tables.
+-- Two texts that are alike in all but one bidder's price (paper 01, "Time, price and place"), or in all but one bidder's price and windows
+-- (paper 02, request 7).
 use mathlib.Core.Path.{_≡_}
-use mathlib.Core.List.{List, _∷_, _++_}
+use mathlib.Core.List.{List, [], _∷_, _++_}
 use mathlib.Core.Bool.{false}
-use mathlib.Core.Option.{some}
+use mathlib.Core.Option.{Option, none, some}
 use Prim.Native.Nat.{ℕ}
 use Rattle.tender.specs.declared.Window.{Window}
-use Rattle.tender.specs.declared.Tender.{Tender}
 use Rattle.tender.specs.Keywords.{bidWord}
-use Rattle.tender.specs.Tables.{Row}
-use Rattle.reader_parts.specs.Words.{among, numeralOf, priceOf}
+use Rattle.reader_parts.specs.Words.{cut, among}
+use Rattle.reader_forms.specs.Line.{windowsIn}
 
 -- a bid's line up to its price, the price, and a space before what follows
 unfoldable pub bidLine : List ℕ → List ℕ → List ℕ → List ℕ
@@ -30,23 +30,24 @@ pub record DifferInPrice (t u bidder p q : List ℕ) : Type 0 where
   pub p-word : Word p
   pub q-word : Word q
 
-unfoldable pub withPrice : ℕ → Row → Row
-withPrice v r = record { bidder = r .bidder; price = v; first = r .first; count = r .count }
+-- the two texts differ in how the price and the windows of this bidder are written, p and ws or q and vs, and nowhere else; what is
+-- written ws ends the bid's line
+pub record DifferInBid (t u bidder p q ws vs : List ℕ) : Type 0 where
+  pub before : List ℕ
+  pub after : List ℕ
+  pub left : t ≡ before ++ 10 ∷ bidLine bidder p (ws ++ 10 ∷ after)
+  pub right : u ≡ before ++ 10 ∷ bidLine bidder q (vs ++ 10 ∷ after)
+  pub bidder-word : Word bidder
+  pub p-word : Word p
+  pub q-word : Word q
+  pub ws-line : among 10 ws ≡ false
+  pub vs-line : among 10 vs ≡ false
 
--- the rows agree but for the price of this bidder's row, which is the value of p in one and of q in the other
-pub record RowsDifferInPrice (R S : List Row) (bidder p q : List ℕ) : Type 0 where
-  pub before : List Row
-  pub row : Row
-  pub after : List Row
-  pub w : ℕ
-  pub bidder-is : numeralOf bidder ≡ some (row .bidder)
-  pub p-is : priceOf p ≡ some (row .price)
-  pub q-is : priceOf q ≡ some w
-  pub left : R ≡ before ++ row ∷ after
-  pub right : S ≡ before ++ withPrice w row ∷ after
+abbrev pub thoseIn : Option (List Window) → List Window
+thoseIn none = []
+thoseIn (some ws) = ws
 
--- what two such accepted texts answer: all alike but that price
-pub record DifferInOnePrice (T U : Tender) (R S : List Row) (W X : List Window) (bidder p q : List ℕ) : Type 0 where
-  pub tenders : T ≡ U
-  pub windows : W ≡ X
-  pub rows : RowsDifferInPrice R S bidder p q
+-- the windows that are written so; none where no windows are
+unfoldable pub windowsBy : List ℕ → List Window
+unfolding cut windowsIn
+windowsBy ws = thoseIn (windowsIn (cut 32 ws))

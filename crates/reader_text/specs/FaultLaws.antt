@@ -1,17 +1,21 @@
--- What the tests of a line's windows say: of the tender's window, and of a bid's. Assumes nothing.
-use Prim.Native.Nat.{ℕ}
+-- What the tests of a line say: of the tender's window, of a bid's windows, and of a bid within all limits. Assumes nothing.
+use Prim.Native.Nat.{ℕ, _≤_, _<_}
 use mathlib.Core.Path.{_≡_, refl}
 use mathlib.Core.List.{List, [], _∷_}
 use mathlib.Core.Bool.{Bool, true, false, not, _&&_}
 use mathlib.Core.Option.{Option, none, some}
 use native.Mathlib.Omega.{arith}
+use lib.Dec.{ltb}
+use borrow.Author.Tests.{le-leb, lt-leb, le-ltb}
+use Rattle.tender.specs.declared.Kind.{Kind}
+use Rattle.tender.specs.declared.Kind.the-variants.{Single, Multi}
 use Rattle.tender.specs.declared.Tender.{Tender}
 use Rattle.tender.specs.declared.Window.{Window}
 use Rattle.tender.specs.declared.Reserve.{Reserve}
 use Rattle.reader_forms.specs.Line.{TenderLine}
 use Rattle.tender.specs.declared.Refusal.{Refusal}
 use Rattle.tender.specs.declared.Refusal.the-variants.{EmptyWindow, LateWindow}
-use Rattle.tender.specs.Limits.{asWindow, ordered, early, lawful, lawfulReserve, soundTender, every}
+use Rattle.tender.specs.Limits.{asWindow, within, mostWindows, isSingle, ordered, early, lawful, lawfulReserve, soundTender, every}
 use Rattle.reader_parts.specs.GivenLaws.{both-true as and-split}
 use Rattle.reader_parts.specs.declared.Flaw.{Flaw}
 use Rattle.reader_parts.specs.declared.Flaw.the-variants.{Empty, Late, Sound}
@@ -82,3 +86,32 @@ flaw-told t bids bidder price count ws used = go (every ordered ws) (every early
     go true true = refl
     go true false = refl
     go false b = refl
+
+-- a bid within all limits has no fault
+
+single-one : (k : Kind) (n : ℕ) → n ≤ mostWindows k → isSingle k && ltb 1 n ≡ false
+unfolding mostWindows isSingle
+single-one Single n l = le-ltb 1 n l
+single-one Multi n l = refl
+
+pub most-few : (k : Kind) → mostWindows k ≤ 32
+unfolding mostWindows
+most-few Single = omega arith
+most-few Multi = omega arith
+
+pub no-fault : (t : Tender) (bids bidder price count : ℕ) (empty late used : Bool) → bids < 1000
+    → count ≤ mostWindows (t .kind) → 1 ≤ bidder
+    → bidder ≤ 999999 → price ≤ 100000000 → empty ≡ false → late ≡ false → used ≡ false →
+    bidFaultIn t bids bidder price count empty late used ≡ none
+unfolding bidFaultIn lineFault within
+no-fault t bids bidder price count empty late used a b c d e f g h = rw (
+  lt-leb 1000 bids a,
+  le-ltb 32 count (omega (arith, most-few (t .kind))),
+  le-leb 1 bidder c,
+  le-leb bidder 999999 d,
+  le-ltb 100000000 price e,
+  single-one (t .kind) count b,
+  f,
+  g,
+  h,
+)

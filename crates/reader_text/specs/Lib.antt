@@ -7,9 +7,10 @@ pub mod ReadLaws
 pub mod HeadLaws
 pub mod RestLaws
 pub mod Differ
-pub mod PriceLaws
-pub mod PriceChangeLaws
+pub mod BidLaws
+pub mod BidChangeLaws
 pub mod DifferInSpelling
+pub mod DifferExample
 pub mod SpellingLaws
 pub mod Rules
 pub mod RulesLaws

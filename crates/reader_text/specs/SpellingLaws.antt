@@ -12,8 +12,8 @@ use Rattle.reader_text.specs.Read.{readLines, readText}
 use Rattle.reader_text.specs.Differ.{bidLine, Word}
 use Rattle.reader_text.specs.DifferInSpelling.{reserveLine, SameLine, same-bytes, bid-spelt, reserve-spelt, SameLines}
 use Rattle.reader_text.specs.DifferInSpelling.{DifferInSpelling}
-use Rattle.reader_text.specs.PriceLaws.{line-of}
-use Rattle.reader_text.specs.PriceChangeLaws.{short}
+use Rattle.reader_text.specs.BidLaws.{line-of}
+use Rattle.reader_text.specs.BidChangeLaws.{short}
 
 -- of two words of one value the same is read
 

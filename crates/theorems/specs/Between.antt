@@ -1,7 +1,7 @@
 -- What the demands say of a call, of two calls one after the other, and of two calls compared (paper 01, "Time, price and place").
 use mathlib.Core.Path.{_≡_}
 use mathlib.Core.Logic.{_⊎_}
-use mathlib.Core.Bool.{false}
+use mathlib.Core.Bool.{true, false}
 use mathlib.Core.List.{List, _++_, map}
 use Prim.Native.Nat.{ℕ, _+_, _-_, _*_, _≤_, _<_}
 use mathlib.Core.Option.{some}
@@ -9,14 +9,14 @@ use lib.ListN.{length, getD, drop}
 use lib.Dec.{ltb}
 use Rattle.tender.specs.declared.Window.{Window}
 use Rattle.tender.specs.declared.Tender.{Tender}
-use Rattle.tender.specs.Limits.{maxPrice, maxText}
-use Rattle.tender.specs.Tables.{Row, rowsOf, flatWindows, bidWidth}
+use Rattle.tender.specs.Limits.{maxPrice, maxText, mostWindows, lawful, every}
+use Rattle.tender.specs.Tables.{Row, rowsOf, own, flatWindows, bidWidth}
 use Rattle.cover.specs.Sets.{bidders}
 use Rattle.cover.specs.Earliest.{cellWith}
 use Rattle.reader_text.specs.Words.{numeralOf, priceOf}
 use Rattle.reader_text.specs.Read.{accepted, readText}
 use Rattle.reader.specs.declared.Reading.the-variants as answer
-use Rattle.reader_text.specs.Differ.{DifferInPrice}
+use Rattle.reader_text.specs.Differ.{DifferInPrice, DifferInBid, windowsBy}
 use Rattle.award_check.specs.Cells.{noRow}
 use Rattle.award_check.specs.Auction.{offered, offersOf, thinCell}
 use Rattle.award_rule.specs.Award.{Rule, totalsOf, outcomeNumber}
@@ -27,9 +27,9 @@ use Rattle.spelling.specs.Lines.{pairLine, refusedWord}
 use Rattle.spelling.specs.Text.{bidIn}
 use Rattle.spelling.specs.Spelt.{Spelt}
 use Rattle.listing_text.specs.List.{listOf}
-use Rattle.theorems.specs.Calls.{ReadRun, ReadCall, AwardCall, auctionBy, toldBy, ListCall, shown}
-use Rattle.theorems.specs.OneReading.{Fills, OfText}
-use Rattle.theorems.specs.ListRead.{rowShown}
+use Rattle.theorems_calls.specs.Calls.{ReadRun, ReadCall, AwardCall, auctionBy, toldBy, ListCall, shown}
+use Rattle.theorems_calls.specs.OneReading.{Fills, OfText}
+use Rattle.theorems_shown.specs.ListRead.{rowShown}
 
 -- its tables break no rule, and each bid has an award row
 abbrev pub CallableWith : AwardCall → Type 0
@@ -76,6 +76,19 @@ pub record Variant (text : List ℕ) (t : Tender) (R : List Row) (W : List Windo
   pub accepted-too : (v : ℕ) → priceOf q ≡ some v → v ≤ maxPrice → length other ≤ maxText
       → (S : List Row) × (readText other ≡ accepted t S W)
 
+-- a text that differs from an accepted one in the bid of row i alone, whose price and windows are written p and ws there, q and vs here;
+-- with a price and windows within the limits it is accepted too, if it is not too long
+pub record BidVariant (text : List ℕ) (t : Tender) (R : List Row) (W : List Window) (i : ℕ) (q vs : List ℕ) : Type 0 where
+  pub other : List ℕ
+  pub p : List ℕ
+  pub ws : List ℕ
+  pub price-is : priceOf p ≡ some (getD R i noRow .price)
+  pub windows-are : windowsBy ws ≡ own (flatWindows W) (getD R i noRow)
+  pub differ : DifferInBid text other (decimal (getD R i noRow .bidder)) p q ws vs
+  pub accepted-too : (v : ℕ) → priceOf q ≡ some v → v ≤ maxPrice → 1 ≤ length (windowsBy vs)
+      → length (windowsBy vs) ≤ mostWindows (t .kind) → every lawful (windowsBy vs) ≡ true → length other ≤ maxText
+      → (S : List Row) × (X : List Window) × (readText other ≡ accepted t S X)
+
 -- two calls of `read` gave the same answer and left the same in the tables
 pub record SameReading (r r′ : ReadCall) : Type 0 where
   pub answers : r .run .answer ≡ r′ .run .answer
@@ -94,7 +107,12 @@ pub record SameAward (c c′ : AwardCall) : Type 0 where
   pub kinds : c .kind ≡ c′ .kind
   pub room : ltb (length (c .rows-before)) (c .count) ≡ ltb (length (c′ .rows-before)) (c′ .count)
 
--- row i is in both calls this bidder's, with the price p in the first and q in the second: where p is the true cost, q gains no more
+-- bid i, whose true cost the first call names, gains no more in the second
+abbrev pub NoGainAt : AwardCall → AwardCall → ℕ → Type 0
+NoGainAt c c′ i = AtMost (gain (priceAt c i) (rowFor (toldBy c′) i)) (gain (priceAt c i) (rowFor (toldBy c) i))
+
+-- row i is in both calls this bidder's, with the price p in the first and q in the second: where p is the true cost, the second gains no
+-- more
 pub record NoGainBetween (c c′ : AwardCall) (bidder p q : List ℕ) : Type 0 where
   pub i : ℕ
   pub inside : i < c .count
@@ -103,7 +121,7 @@ pub record NoGainBetween (c c′ : AwardCall) (bidder p q : List ℕ) : Type 0 w
   pub bidder-too : numeralOf bidder ≡ some (getD (c′ .bids) (bidWidth * i) 0)
   pub true-cost : priceOf p ≡ some (priceAt c i)
   pub other-price : priceOf q ≡ some (priceAt c′ i)
-  pub most : AtMost (gain (priceAt c i) (rowFor (toldBy c′) i)) (gain (priceAt c i) (rowFor (toldBy c) i))
+  pub most : NoGainAt c c′ i
 
 -- the list of the text that it was given
 abbrev pub listBy : ListCall → List ℕ

@@ -10,7 +10,7 @@ use Rattle.award_rule.specs.Award.{outcomeNumber}
 use Rattle.award_outcome.specs.Right.{Bidders, EarliestIn, OneAnswer, tables-break-a-rule, rows-too-few, minute-uncovered}
 use Rattle.award_outcome.specs.Right.{one-bidder, award}
 use Rattle.award_outcome.specs.OneAnswerLaws.{one-answer}
-use Rattle.theorems.specs.Calls.{AwardCall, auctionBy, toldBy}
+use Rattle.theorems_calls.specs.Calls.{AwardCall, auctionBy, toldBy}
 use Rattle.theorems.specs.Between.{CallableWith, FewerThan}
 
 -- the three cases of such a call

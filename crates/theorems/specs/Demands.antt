@@ -2,7 +2,7 @@
 -- `docs/RULES.md` prints the definitions that they rest on; `Worked` has the starred tenders of paper 01. Assumes nothing.
 use mathlib.Core.Path.{_≡_, sym, _∙_}
 use mathlib.Core.Logic.{_⊎_, inl, inr}
-use mathlib.Core.Bool.{true}
+use mathlib.Core.Bool.{true, false}
 use mathlib.Core.List.{List, _∷_, _++_, map}
 use mathlib.Core.Option.{Option, some}
 use Prim.Native.Nat.{ℕ, _+_, _/_, _^_, _≤_, _<_, min}
@@ -19,7 +19,7 @@ use Rattle.tender.specs.declared.Refusal.{Refusal}
 use Rattle.tender.specs.declared.Refusal.the-variants.{BadTables}
 use Rattle.tender.specs.Refusals.{numberOf}
 use Rattle.tender.specs.Tables.{Row, rowsOf, flatRows, flatWindows, bidWidth, windowWidth}
-use Rattle.reader_parts.specs.Words.{digits, priceOf}
+use Rattle.reader_parts.specs.Words.{among, digits, priceOf}
 use Rattle.reader_forms.specs.Line.{TenderLine, BidLine, Line, tender, headLines}
 use Rattle.reader_forms.specs.LinePlain.{allPlain}
 use Rattle.reader_text.specs.Read.{accepted, refused, readText, readInto}
@@ -30,16 +30,16 @@ use Rattle.reader_text.specs.RulesLaws.{rules-law}
 use Rattle.reader_text.specs.CountLaws.{lines-law, room-law}
 use Rattle.reader_text.specs.PlainLaws.{plain-law}
 use Rattle.reader.specs.declared.Reading.the-variants as answer
-use Rattle.reader_text.specs.Differ.{Word, DifferInPrice}
+use Rattle.reader_text.specs.Differ.{Word, DifferInPrice, DifferInBid, windowsBy}
 use Rattle.reader_text.specs.DifferInSpelling.{DifferInSpelling}
 use Rattle.award_check.specs.Cells.{noRow}
 use Rattle.award_check.specs.Auction.{atPrice}
-use Rattle.award_check.specs.Alike.{named, Alike}
+use Rattle.award_check.specs.Alike.{named, Alike, PartOf, Withheld}
 use Rattle.award_rule.specs.Award.{leastCost, greedy, rule, won, awarded, awardOf, outcomeNumber}
 use Rattle.award_rule.specs.Award.{refused as refusal}
 use Rattle.award_rule.specs.Plain.{toldIn, PlainPromise}
 use Rattle.award_rule.specs.AwardLaws.{award-lent}
-use Rattle.award_outcome.specs.Gain.{rowFor, gain, AtMost}
+use Rattle.award_outcome.specs.Gain.{rowFor}
 use Rattle.award_outcome.specs.Promise.{lentAfter, Promise}
 use Rattle.award_outcome.specs.RowsPromiseLaws.{rows-promise}
 use Rattle.award_outcome.specs.Right.{Bidders, IsAward, OneAnswer, LeastCover, WinnerAt, PaidByEight}
@@ -55,25 +55,26 @@ use Rattle.listing_text.specs.List.{winList, listLines}
 use Rattle.listing_text.specs.ListLaws as list
 use Rattle.writer.specs.declared.Writing.the-variants.{Written, Refused}
 use Rattle.writer_back.specs.Same.{Same, ReadBack}
-use Rattle.theorems.specs.Calls.{ReadRun, ReadCall, AwardCall, auctionBy, toldBy, ListCall, shown}
-use Rattle.theorems.specs.Calls.{WriteCall, RewriteCall}
-use Rattle.theorems.specs.OneReading.{OneReading, OfText}
-use Rattle.theorems.specs.ListRead.{rowShown}
+use Rattle.theorems_calls.specs.Calls.{ReadRun, ReadCall, AwardCall, auctionBy, toldBy, ListCall, shown}
+use Rattle.theorems_calls.specs.Calls.{WriteCall, RewriteCall}
+use Rattle.theorems_calls.specs.OneReading.{OneReading, OfText}
+use Rattle.theorems_shown.specs.ListRead.{rowShown}
 use Rattle.theorems.specs.Between.{BidsAlone, Exactly, CallableWith, FewerThan, ForCover, priceAt, WasRead}
-use Rattle.theorems.specs.Between.{Variant, SameReading, Follows, SameAward}
-use Rattle.theorems.specs.Between.{NoGainBetween, OneList}
+use Rattle.theorems.specs.Between.{Variant, BidVariant, SameReading, Follows, SameAward}
+use Rattle.theorems.specs.Between.{NoGainAt, NoGainBetween, OneList}
 use Rattle.theorems.specs.Between.{ListGiven, NoGainShown, Showable}
-use Rattle.theorems.specs.ReadingLaws as reading
+use Rattle.theorems_calls.specs.ReadingLaws as reading
 use Rattle.spelling.specs.DecimalLaws.{decimal-back}
 use Rattle.spelling.specs.PriceLaws.{price-written, written-price}
 use Rattle.writer_back.specs.SpeltLaws.{spelt-again}
 use Rattle.theorems.specs.ReadAgainLaws.{read-again}
 use Rattle.theorems.specs.VariedLaws.{varied}
-use Rattle.theorems.specs.TextGainLaws.{no-gain-read}
+use Rattle.theorems.specs.VariedBidLaws.{varied-bid}
+use Rattle.theorems.specs.TextGainLaws.{withheld-read, no-gain-read}
 use Rattle.theorems.specs.CoverLaws as cover
 use Rattle.theorems.specs.UnreservedLaws.{bids-alone, no-house-line, no-reserve-line}
 use Rattle.theorems.specs.ListNumberLaws.{one-list, shows-no-other}
-use Rattle.theorems.specs.ListGainLaws.{list-shows, no-gain-shown}
+use Rattle.theorems.specs.ListGainLaws.{list-shows, withheld-shown, no-gain-shown}
 use Rattle.theorems.specs.Rewriting.{OneWriting, ReadAsWritten, SameTables}
 use Rattle.theorems.specs.RewritingLaws.{one-writing, nine-as-award, read-as-written, equal-written, equal-rewritten}
 use Rattle.theorems.specs.RewritingLaws.{always-fits, read-rewritten, rewritten-again, rewritten-fits}
@@ -230,23 +231,21 @@ number-reads-back = decimal-back
 -- cost, the other gains no more.
 pub no-gain : (r r′ : ReadCall) (c c′ : AwardCall) (bidder p q : List ℕ) → DifferInPrice (r .run .text) (r′ .run .text) bidder p q
     → Follows r c → Follows r′ c′ → SameAward c c′ → NoGainBetween c c′ bidder p q
-no-gain = no-gain-read
+no-gain r r′ c c′ bidder p q d f f′ s = no-gain-read r r′ c c′ bidder p q f f′ s d
 
 -- The same of the lists that `tender_list` writes, by their bytes.
 pub no-gain-in-lists : (l l′ : ListCall) (bidder p q : List ℕ) → DifferInPrice (l .text) (l′ .text) bidder p q → ListGiven l
     → ListGiven l′ → NoGainShown l l′ bidder p
-no-gain-in-lists = no-gain-shown
+no-gain-in-lists l l′ bidder p q d g g′ = no-gain-shown l l′ bidder p q g g′ d
 
 -- On tables: two calls of the same award on tables alike in all but the price of bid i, neither answered with 9.
 pub no-gain-on-tables : (c c′ : AwardCall) (i : ℕ) → c .tender ≡ c′ .tender → c .count ≡ c′ .count → SameAward c c′
     → (outcomeNumber (toldBy c) ≡ 9 → ⊥) → (outcomeNumber (toldBy c′) ≡ 9 → ⊥) → i < c .count
-    → Alike (c .count) i (c .bids) (c .windows) (c′ .bids) (c′ .windows)
-    → AtMost (gain (priceAt c i) (rowFor (toldBy c′) i)) (gain (priceAt c i) (rowFor (toldBy c) i))
+    → Alike (c .count) i (c .bids) (c .windows) (c′ .bids) (c′ .windows) → NoGainAt c c′ i
 unfolding named
-no-gain-on-tables c c′ i t n s h h′ l a =
-    outcome.honest-outcome (c .kind) (c .tender) (c .count) i (c .bids) (c .windows) (c′ .bids) (c′ .windows) (length (c .rows-before))
-    (length (c′ .rows-before)) (toldBy c) (toldBy c′) l a (rw (← n) at (s .room)) (c .promise .answers)
-    (rw (s .kinds, t, n) (c′ .promise .answers)) h h′
+no-gain-on-tables c c′ i t n s h h′ l = outcome.honest-outcome (c .kind) (c .tender) (c .count) i (c .bids) (c .windows) (c′ .bids)
+    (c′ .windows) (length (c .rows-before)) (length (c′ .rows-before)) (toldBy c) (toldBy c′) l (rw (← n) at (s .room))
+    (c .promise .answers) (rw (s .kinds, t, n) (c′ .promise .answers)) h h′
 
 -- Every bid of an accepted text can be varied so, and the other text is accepted where the price is within the limits.
 pub can-be-varied : (text : List ℕ) (T : Tender) (R : List Row) (W : List Window) → readText text ≡ accepted T R W
@@ -259,6 +258,36 @@ pub never-paid-less : (c : AwardCall) (i : ℕ) → i < c .count → rowFor (tol
 unfolding named
 never-paid-less c i l = outcome.no-loss (c .kind) (c .tender) (c .count) i (c .bids) (c .windows) (length (c .rows-before)) (toldBy c) l
     (c .promise .answers)
+
+-- Paper 7 of 02. Nor can an owner gain by holding back minutes, whatever price is named beside it; the true cost is that of the whole bid.
+-- Part is by minutes: the same windows cut or written otherwise hold all of them. Where minutes held back leave one too thin, the second
+-- award is refused and the gain there is 0. With all the minutes it is demand 3.
+
+-- Two texts that differ in one bid's price and windows, of which the second hold part of the minutes of the first.
+pub no-gain-by-less : (r r′ : ReadCall) (c c′ : AwardCall) (bidder p q ws vs : List ℕ)
+    → DifferInBid (r .run .text) (r′ .run .text) bidder p q ws vs → PartOf (windowsBy vs) (windowsBy ws)
+    → Follows r c → Follows r′ c′ → SameAward c c′ → NoGainBetween c c′ bidder p q
+no-gain-by-less r r′ c c′ bidder p q ws vs d part f f′ s = withheld-read r r′ c c′ bidder p q f f′ s ws vs d part
+
+-- Of the lists, by their bytes.
+pub no-gain-by-less-in-lists : (l l′ : ListCall) (bidder p q ws vs : List ℕ) → DifferInBid (l .text) (l′ .text) bidder p q ws vs
+    → PartOf (windowsBy vs) (windowsBy ws) → ListGiven l → ListGiven l′ → NoGainShown l l′ bidder p
+no-gain-by-less-in-lists l l′ bidder p q ws vs d part g g′ = withheld-shown l l′ bidder p q g g′ ws vs d part
+
+-- On tables: two calls of the same award, neither answered with 9, on tables in which each bid offers the same but bid i.
+pub no-gain-by-less-on-tables : (c c′ : AwardCall) (i : ℕ) → c .tender ≡ c′ .tender → c .count ≡ c′ .count
+    → SameAward c c′
+    → (outcomeNumber (toldBy c) ≡ 9 → ⊥) → (outcomeNumber (toldBy c′) ≡ 9 → ⊥) → i < c .count
+    → Withheld (c .count) i (c .bids) (c .windows) (c′ .bids) (c′ .windows) → NoGainAt c c′ i
+unfolding named
+no-gain-by-less-on-tables c c′ i t n s h h′ l = outcome.withheld-outcome (c .kind) (c .tender) (c .count) i (c .bids) (c .windows)
+    (c′ .bids) (c′ .windows) (length (c .rows-before)) (length (c′ .rows-before)) (toldBy c) (toldBy c′) l (rw (← n) at (s .room))
+    (c .promise .answers) (rw (s .kinds, t, n) (c′ .promise .answers)) h h′
+
+-- Every bid of an accepted text has such a second text, whatever its price and windows there, accepted where both are within the limits.
+pub can-be-offered-less : (text : List ℕ) (T : Tender) (R : List Row) (W : List Window) → readText text ≡ accepted T R W
+    → (i : ℕ) → i < length R → (q vs : List ℕ) → Word q → among 10 vs ≡ false → BidVariant text T R W i q vs
+can-be-offered-less = varied-bid
 
 -- Paper 5 of 02. Tenders without a reserve keep their answers. A text whose second line is not the reserve's is read as a tender
 -- without one, its bids from line 2 on; the bids alone are weighed, and lists and texts have no line more.

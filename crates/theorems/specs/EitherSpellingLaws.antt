@@ -9,7 +9,7 @@ use Rattle.reader_text.specs.DifferInSpelling.{DifferInSpelling}
 use Rattle.reader_text.specs.SpellingLaws.{spelling-law}
 use Rattle.reader.specs.Answer.{readAnswer, bidsAfter, windowsAfter}
 use Rattle.spelling.specs.DeliveredLaws.{same-shown}
-use Rattle.theorems.specs.Calls.{ReadCall, ListCall, RewriteCall, shown}
+use Rattle.theorems_calls.specs.Calls.{ReadCall, ListCall, RewriteCall, shown}
 use Rattle.theorems.specs.Between.{SameReading}
 
 into-same : (t u : List ℕ) (n m : ℕ) → DifferInSpelling t u → readInto t n m ≡ readInto u n m

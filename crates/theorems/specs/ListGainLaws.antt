@@ -1,4 +1,4 @@
--- The lists of two texts that differ in one price: the bidder whose price it is gains no more by the bytes of the second. Assumes nothing.
+-- The lists of two texts that differ in one bid: by the bytes of the second its bidder gains no more. Assumes nothing.
 use mathlib.Core.Path.{_≡_, refl, sym, ap, _∙_}
 use mathlib.Core.Bool.{false}
 use mathlib.Core.List.{List, [], _++_, append-nil}
@@ -17,27 +17,26 @@ use Rattle.reader_text.specs.Read.{accepted, readText}
 use Rattle.reader_text.specs.Read as reading
 use Rattle.reader_text.specs.Rules.{Rules}
 use Rattle.reader_text.specs.RulesLaws.{rules-law}
-use Rattle.reader_text.specs.Differ.{DifferInPrice, DifferInOnePrice}
-use Rattle.reader_text.specs.PriceLaws.{price-law}
+use Rattle.reader_text.specs.Differ.{DifferInPrice, DifferInBid, windowsBy}
+use Rattle.reader_text.specs.BidLaws.{bid-law, price-as-bid}
 use Rattle.award_check.specs.Cells.{noRow}
 use Rattle.award_check.specs.Auction.{Auction, auctionOf}
-use Rattle.award_check.specs.Alike.{named}
+use Rattle.award_check.specs.Alike.{named, PartOf}
 use Rattle.award_rule.specs.Award.{rule, Outcome, awarded, refused, awardOf}
 use Rattle.award_rule.specs.AwardLaws.{award-awarded}
 use Rattle.award_outcome.specs.Gain.{lost, rowFor}
 use Rattle.award_outcome.specs.SettleLaws.{lost-nothing, rowIn}
 use Rattle.award_outcome.specs.TableLaws.{row-is}
 use Rattle.award_outcome.specs.Right as right
-use Rattle.award_outcome.specs.TextOutcomeLaws.{honest-texts}
+use Rattle.award_outcome.specs.TextOutcomeLaws.{withheld-texts}
 use Rattle.spelling.specs.LineLaws.{refused-line}
 use Rattle.listing_text.specs.List.{listLines, listOf}
 use Rattle.listing_text.specs.ListLaws.{listed-is}
-use Rattle.theorems.specs.Calls.{ListCall, shown}
+use Rattle.theorems_calls.specs.Calls.{ListCall, shown}
 use Rattle.theorems.specs.Between.{ListGiven, NoGainShown}
-use Rattle.theorems.specs.ReadingLaws.{refusal-number}
-use Rattle.theorems.specs.TextGainLaws.{bidders-same, rows-same}
-use Rattle.theorems.specs.ListRead.{rowShown}
-use Rattle.theorems.specs.ShownLaws.{refused-row, row-shown}
+use Rattle.theorems_calls.specs.ReadingLaws.{refusal-number}
+use Rattle.theorems_shown.specs.ListRead.{rowShown}
+use Rattle.theorems_shown.specs.ShownLaws.{refused-row, row-shown}
 use Rattle.theorems.specs.PaidLaws.{cents-small, bidder-once, bidder-small, prices-sum, minutes-few}
 
 -- of each bid of an accepted text the list shows the row that the award gave it
@@ -95,31 +94,42 @@ given-read l g = go (readText (l .text)) refl
         (listed-is (l .promise) (g .written) ∙ ap listOf e ∙ refused-line r))
 
 -- Two calls of `tender_list`.
-pub no-gain-shown : (l l′ : ListCall) (bidder p q : List ℕ) → DifferInPrice (l .text) (l′ .text) bidder p q → ListGiven l
-    → ListGiven l′
-    → NoGainShown l l′ bidder p
-no-gain-shown l l′ bidder p q d g g′ = go (given-read l g) (given-read l′ g′)
-  where
-    by : (T T′ : Tender) (R R′ : List Row) (W W′ : List Window) → readText (l .text) ≡ accepted T R W
-        → readText (l′ .text) ≡ accepted T′ R′ W′ → DifferInOnePrice T T′ R R′ W W′ bidder p q →
-        right.NoGain R (flatRows R ++ []) (flatRows R′ ++ []) (awardOf (T .kind) T (length R) (flatRows R) (flatWindows W) (length R))
-        (awardOf (T′ .kind) T′ (length R′) (flatRows R′) (flatWindows W′) (length R′)) bidder p q
-        → NoGainShown l l′ bidder p
-    by T T′ R R′ W W′ h h′ m k =
-        let b = getD R (k .i) noRow .bidder in
-        let c = named (flatRows R ++ []) (k .i) in
-        let s = list-shows l T R W (k .i) (g .written) h (k .inside) in
-        let s′ = ap (λ n. rowShown n (shown l′)) (sym (bidders-same (m .rows) (k .i)))
-        ∙ list-shows l′ T′ R′ W′ (k .i) (g′ .written) h′ (omega (arith, k .inside, rows-same (m .rows))) in
-        record { number = b; cost = c; bidder-is = k .bidder-is; true-cost = k .true-cost; most = rw (s, s′) (k .most) }
+module _ (l l′ : ListCall) (bidder p q : List ℕ) (g : ListGiven l) (g′ : ListGiven l′) where
+  by : (T T′ : Tender) (R R′ : List Row) (W W′ : List Window) → readText (l .text) ≡ accepted T R W
+      → readText (l′ .text) ≡ accepted T′ R′ W′ →
+      right.NoGain R R′ (flatRows R ++ []) (flatRows R′ ++ []) (awardOf (T .kind) T (length R) (flatRows R) (flatWindows W) (length R))
+      (awardOf (T′ .kind) T′ (length R′) (flatRows R′) (flatWindows W′) (length R′)) bidder p q
+      → NoGainShown l l′ bidder p
+  by T T′ R R′ W W′ h h′ k =
+      let b = getD R (k .i) noRow .bidder in
+      let c = named (flatRows R ++ []) (k .i) in
+      let n : getD R′ (k .i) noRow .bidder ≡ b = cc (k .bidder-is, k .bidder-too) in
+      let s = list-shows l T R W (k .i) (g .written) h (k .inside) in
+      let s′ = ap (λ n. rowShown n (shown l′)) (sym n)
+      ∙ list-shows l′ T′ R′ W′ (k .i) (g′ .written) h′ (omega (arith, k .inside, k .count)) in
+      record { number = b; cost = c; bidder-is = k .bidder-is; true-cost = k .true-cost; most = rw (s, s′) (k .most) }
 
-    go : Accepted (l .text) → Accepted (l′ .text) → NoGainShown l l′ bidder p
-    go (accepts T R W h) (accepts T′ R′ W′ h′) =
-        let m = price-law (l .text) (l′ .text) bidder p q T T′ R R′ W W′ d h h′ in
-        by T T′ R R′ W W′ h h′ m
-        (honest-texts (l .text) (l′ .text) bidder p q (T .kind) T T′ R R′ W W′ [] [] [] [] (length R) (length R′)
-        (awardOf (T .kind) T (length R) (flatRows R) (flatWindows W) (length R))
-        (awardOf (T′ .kind) T′ (length R′) (flatRows R′) (flatWindows W′) (length R′)) d h h′
-        (le-ltb (length R) (length R) (omega arith) ∙ sym (le-ltb (length R′) (length R′) (omega arith)))
-        (rw (append-nil (flatRows R), append-nil (flatWindows W)) refl)
-        (rw (append-nil (flatRows R′), append-nil (flatWindows W′), m .tenders) refl))
+  pub withheld-shown : (ws vs : List ℕ) → DifferInBid (l .text) (l′ .text) bidder p q ws vs
+      → PartOf (windowsBy vs) (windowsBy ws) → NoGainShown l l′ bidder p
+  withheld-shown ws vs d part = go (given-read l g) (given-read l′ g′)
+    where
+      go : Accepted (l .text) → Accepted (l′ .text) → NoGainShown l l′ bidder p
+      go (accepts T R W h) (accepts T′ R′ W′ h′) =
+          let m = bid-law (l .text) (l′ .text) bidder p q ws vs T T′ R R′ W W′ d h h′ in
+          by T T′ R R′ W W′ h h′
+          (withheld-texts (l .text) (l′ .text) bidder p q ws vs T T′ R R′ W W′ d part h h′ (T .kind) [] [] [] [] (length R)
+          (length R′)
+          (awardOf (T .kind) T (length R) (flatRows R) (flatWindows W) (length R))
+          (awardOf (T′ .kind) T′ (length R′) (flatRows R′) (flatWindows W′) (length R′))
+          (le-ltb (length R) (length R) (omega arith) ∙ sym (le-ltb (length R′) (length R′) (omega arith)))
+          (rw (append-nil (flatRows R), append-nil (flatWindows W)) refl)
+          (rw (append-nil (flatRows R′), append-nil (flatWindows W′), m .tenders) refl))
+
+  -- with the same windows: all the minutes
+  pub no-gain-shown : DifferInPrice (l .text) (l′ .text) bidder p q → NoGainShown l l′ bidder p
+  no-gain-shown d = go (given-read l g)
+    where
+      go : Accepted (l .text) → NoGainShown l l′ bidder p
+      go (accepts T R W h) =
+          let m = price-as-bid (l .text) (l′ .text) bidder p q T R W d h in
+          withheld-shown (m .ws) (m .ws) (m .differ) (λ minute h. h)

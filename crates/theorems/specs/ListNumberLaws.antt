@@ -33,10 +33,10 @@ use Rattle.spelling.specs.LineLaws.{refused-line}
 use Rattle.listing_text.specs.Lines.{awardWord, awardLine}
 use Rattle.listing_text.specs.List.{listLines, listOf}
 use Rattle.listing_text.specs.ListLaws.{listed-is}
-use Rattle.theorems.specs.OneReading.{OfText}
-use Rattle.theorems.specs.ReadingLaws.{refusal-number}
-use Rattle.theorems.specs.ShownLaws.{first-number}
-use Rattle.theorems.specs.Calls.{ListCall, shown}
+use Rattle.theorems_calls.specs.OneReading.{OfText}
+use Rattle.theorems_calls.specs.ReadingLaws.{refusal-number}
+use Rattle.theorems_shown.specs.ShownLaws.{first-number}
+use Rattle.theorems_calls.specs.Calls.{ListCall, shown}
 use Rattle.theorems.specs.Between.{Showable, OneList, list-written, list-too-long}
 
 pub one-list : (l : ListCall) → OneList l

@@ -159,8 +159,11 @@ module _ (T : Tender) (R : List Row) (W : List Window) (rules : Rules T R W) whe
       → getD R j noRow .bidder ≡ getD R i noRow .bidder → ⊥
   bidder-once = one-row (T .kind) [] 0 R (length W) (rules .rows)
 
+  pub bidder-low : (i : ℕ) → getD R i noRow .bidder < 1000000000
+  bidder-low i = omega (arith, bidders-low (T .kind) [] 0 R (length W) (rules .rows) i)
+
   pub bidder-small : (i : ℕ) → getD R i noRow .bidder < 10 ^ 20
-  bidder-small i = omega (arith, bidders-low (T .kind) [] 0 R (length W) (rules .rows) i)
+  bidder-small i = omega (arith, bidder-low i)
 
   price-low : (i : ℕ) → i < length (auctionOf T (length R) (flatRows R) (flatWindows W) .prices)
       → getD (auctionOf T (length R) (flatRows R) (flatWindows W) .prices) i 0 ≤ 100000000

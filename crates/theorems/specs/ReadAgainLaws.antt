@@ -9,11 +9,11 @@ use Rattle.tender.specs.declared.Tender.{Tender}
 use Rattle.tender.specs.declared.Refusal.{Refusal}
 use Rattle.tender.specs.Tables.{Row}
 use Rattle.reader.specs.declared.Reading.the-variants as answer
-use Rattle.theorems.specs.Calls.{ReadCall}
-use Rattle.theorems.specs.OneReading.{Readable, Declines, Fills, OneReading, text-too-long, bad-form, too-many}
-use Rattle.theorems.specs.OneReading.{reserve-misplaced, outside-limits, several-windows, empty-window, late-window}
-use Rattle.theorems.specs.OneReading.{bidder-repeated, table-too-short, tables-filled}
-use Rattle.theorems.specs.ReadingLaws.{one-reading, text-accepted}
+use Rattle.theorems_calls.specs.Calls.{ReadCall}
+use Rattle.theorems_calls.specs.OneReading.{Readable, Declines, Fills, OneReading, text-too-long, bad-form, too-many}
+use Rattle.theorems_calls.specs.OneReading.{reserve-misplaced, outside-limits, several-windows, empty-window, late-window}
+use Rattle.theorems_calls.specs.OneReading.{bidder-repeated, table-too-short, tables-filled}
+use Rattle.theorems_calls.specs.ReadingLaws.{one-reading, text-accepted}
 use Rattle.writer_back.specs.SpeltLaws.{spelt-again}
 use Rattle.theorems.specs.Between.{WasRead}
 

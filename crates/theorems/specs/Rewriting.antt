@@ -12,7 +12,7 @@ use Rattle.award_check.specs.Faults.{faultOf}
 use Rattle.writer.specs.declared.Writing.the-variants.{Written, Refused}
 use Rattle.writer_text.specs.Canonical.{canonical}
 use Rattle.writer_back.specs.Same.{Same}
-use Rattle.theorems.specs.Calls.{ReadCall, AwardCall, WriteCall}
+use Rattle.theorems_calls.specs.Calls.{ReadCall, AwardCall, WriteCall}
 
 -- the text of its tables in one spelling
 abbrev pub textBy : WriteCall → List ℕ

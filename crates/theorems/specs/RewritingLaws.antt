@@ -37,7 +37,7 @@ use Rattle.writer_back.specs.ShortLaws.{canonical-some}
 use Rattle.writer_back.specs.ReadBackLaws.{lawful-tables, reads-back, text-same, same-text, same-bytes, writes-the-same}
 use Rattle.writer_back.specs.FilledLaws.{canonical-alone, read-sound, no-longer}
 use Rattle.rewrite.specs.Rewritten.{rewriteOf}
-use Rattle.theorems.specs.Calls.{ReadCall, AwardCall, toldBy, WriteCall, RewriteCall, shown}
+use Rattle.theorems_calls.specs.Calls.{ReadCall, AwardCall, toldBy, WriteCall, RewriteCall, shown}
 use Rattle.theorems.specs.Between.{Exactly}
 use Rattle.theorems.specs.Rewriting.{textBy, OneWriting, tables-faulty, no-room, text-written, ReadAsWritten, SameTables}
 

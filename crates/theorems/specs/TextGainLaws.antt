@@ -1,12 +1,12 @@
--- Two texts that differ in one price, each read by a call of `read` into tables of any size, and an award called on what each
--- left: the false price gains nothing. Assumes nothing.
+-- Two texts that differ in one bid, each read by a call of `read` into tables of any size, and an award called on what each left: a false
+-- price and minutes held back gain nothing. Assumes nothing.
 use mathlib.Core.Path.{_≡_, refl, sym, ap, _∙_}
 use mathlib.Core.Bool.{Bool, true, false, cond, _&&_}
 use mathlib.Core.List.{List, [], _∷_, _++_}
 use mathlib.Core.Option.{some}
 use Prim.Native.Nat.{ℕ, zero, suc, _+_, _*_, _/_, _<_}
 use native.Mathlib.Omega.{arith}
-use lib.ListN.{length, getD, drop, length-append}
+use lib.ListN.{length, getD, drop}
 use lib.Dec.{leb, ltb}
 use Rattle.tender.specs.declared.Kind.{Kind}
 use Rattle.tender.specs.declared.Window.{Window}
@@ -19,14 +19,14 @@ use Rattle.reader_text.specs.Read.{accepted, readText, fitted, readInto}
 use Rattle.reader_text.specs.Read as reading
 use Rattle.reader.specs.Answer.{readAnswer, bidsAfter, windowsAfter}
 use Rattle.reader.specs.declared.Reading.the-variants as answer
-use Rattle.reader_text.specs.Differ.{DifferInPrice, withPrice, RowsDifferInPrice}
-use Rattle.reader_text.specs.PriceLaws.{price-law}
+use Rattle.reader_text.specs.Differ.{DifferInPrice, DifferInBid, windowsBy}
+use Rattle.reader_text.specs.BidLaws.{price-as-bid}
 use Rattle.award_check.specs.Cells.{noRow}
-use Rattle.award_check.specs.Alike.{named}
+use Rattle.award_check.specs.Alike.{named, PartOf}
 use Rattle.award_outcome.specs.Promise.{toldAward, Promise}
 use Rattle.award_outcome.specs.Right as right
-use Rattle.award_outcome.specs.TextOutcomeLaws.{honest-texts}
-use Rattle.theorems.specs.Calls.{ReadCall, AwardCall}
+use Rattle.award_outcome.specs.TextOutcomeLaws.{withheld-texts}
+use Rattle.theorems_calls.specs.Calls.{ReadCall, AwardCall}
 use Rattle.theorems.specs.Between.{Follows, SameAward, NoGainBetween}
 
 -- what an accepted text left in the tables
@@ -76,8 +76,6 @@ accepted-read r t n m e = go (readText (r .run .text)) refl (sym e ∙ r .kept .
         room T R W (leb (length R) (length (r .run .bids) / bidWidth) && leb (length W) (length (r .run .windows) / windowWidth))
         h x y z
 
--- row i of two such texts is the same bidder's
-
 bidder-cell : (R : List Row) (v : List ℕ) (i : ℕ) → i < length R
     → getD (flatRows R ++ v) (bidWidth * i) 0 ≡ getD R i noRow .bidder
 unfolding flatRows
@@ -88,23 +86,6 @@ bidder-cell (r ∷ R) v (suc i) l = ap (λ k. getD (r .bidder ∷ r .price ∷ r
   where
     index : (i : ℕ) → bidWidth * suc i ≡ suc (suc (suc (suc (bidWidth * i))))
     index i = omega arith
-
-same-bidder : (xs : List Row) (r : Row) (ys : List Row) (w i : ℕ)
-    → getD (xs ++ withPrice w r ∷ ys) i noRow .bidder ≡ getD (xs ++ r ∷ ys) i noRow .bidder
-unfolding withPrice
-same-bidder [] r ys w zero = refl
-same-bidder [] r ys w (suc i) = refl
-same-bidder (x ∷ xs) r ys w zero = refl
-same-bidder (x ∷ xs) r ys w (suc i) = same-bidder xs r ys w i
-
-pub bidders-same : {R S : List Row} {bidder p q : List ℕ} → RowsDifferInPrice R S bidder p q → (i : ℕ)
-    → getD S i noRow .bidder ≡ getD R i noRow .bidder
-bidders-same {R} {S} d i = ap (λ l. getD l i noRow .bidder) (d .right) ∙ same-bidder (d .before) (d .row) (d .after) (d .w) i
-    ∙ ap (λ l. getD l i noRow .bidder) (sym (d .left))
-
-pub rows-same : {R S : List Row} {bidder p q : List ℕ} → RowsDifferInPrice R S bidder p q → length S ≡ length R
-rows-same d = rw (d .left, d .right) (length-append (d .before) (withPrice (d .w) (d .row) ∷ d .after)
-    ∙ sym (length-append (d .before) (d .row ∷ d .after)))
 
 module _ (bidder p q : List ℕ) (k k′ : Kind) (T T′ : Tender) (n n′ : ℕ) (bids windows bids′ windows′ : List ℕ)
     (old new old′ new′ : List AwardRow) (a a′ : Answer)
@@ -133,49 +114,55 @@ module _ (bidder p q : List ℕ) (k k′ : Kind) (T T′ : Tender) (n n′ : ℕ
         promise = y′;
       }) bidder p q
 
-  of-calls : {text text′ : List ℕ} (h : ReadLeft text bids windows T n) (h′ : ReadLeft text′ bids′ windows′ T′ n′)
-      → RowsDifferInPrice (h .rows) (h′ .rows) bidder p q →
-      right.NoGain (h .rows) (flatRows (h .rows) ++ h .past-rows) (flatRows (h′ .rows) ++ h′ .past-rows)
+  of-calls : {text text′ : List ℕ} (h : ReadLeft text bids windows T n) (h′ : ReadLeft text′ bids′ windows′ T′ n′) →
+      right.NoGain (h .rows) (h′ .rows) (flatRows (h .rows) ++ h .past-rows) (flatRows (h′ .rows) ++ h′ .past-rows)
       (toldAward (length (h .rows)) new a) (toldAward (length (h′ .rows)) new′ a′) bidder p q → Between
   unfolding named
-  of-calls h h′ d g =
-      let c = rows-same d in
-      record {
-        i = g .i;
-        inside = omega (arith, g .inside, h .count);
-        count-same = omega (arith, c, h .count, h′ .count);
-        bidder-is = g .bidder-is ∙ ap some (sym (bidder-cell (h .rows) (h .past-rows) (g .i) (g .inside))
-            ∙ ap (λ b. getD b (bidWidth * g .i) 0) (sym (h .bids-are)));
-        bidder-too = g .bidder-is ∙ ap some (sym (bidders-same d (g .i))
-            ∙ sym (bidder-cell (h′ .rows) (h′ .past-rows) (g .i) (omega (arith, c, g .inside)))
-            ∙ ap (λ b. getD b (bidWidth * g .i) 0) (sym (h′ .bids-are)));
-        true-cost = g .true-cost ∙ ap (λ b. some (getD b (bidWidth * g .i + 1) 0)) (sym (h .bids-are));
-        other-price = g .other-price ∙ ap (λ b. some (getD b (bidWidth * g .i + 1) 0)) (sym (h′ .bids-are));
-        most = rw (← (h .bids-are), h .count, h′ .count) at (g .most);
-      }
+  of-calls h h′ g = record {
+    i = g .i;
+    inside = omega (arith, g .inside, h .count);
+    count-same = omega (arith, g .count, h .count, h′ .count);
+    bidder-is = g .bidder-is ∙ ap some (sym (bidder-cell (h .rows) (h .past-rows) (g .i) (g .inside))
+        ∙ ap (λ b. getD b (bidWidth * g .i) 0) (sym (h .bids-are)));
+    bidder-too = g .bidder-too ∙ ap some (sym (bidder-cell (h′ .rows) (h′ .past-rows) (g .i) (omega (arith, g .count, g .inside)))
+        ∙ ap (λ b. getD b (bidWidth * g .i) 0) (sym (h′ .bids-are)));
+    true-cost = g .true-cost ∙ ap (λ b. some (getD b (bidWidth * g .i + 1) 0)) (sym (h .bids-are));
+    other-price = g .other-price ∙ ap (λ b. some (getD b (bidWidth * g .i + 1) 0)) (sym (h′ .bids-are));
+    most = rw (← (h .bids-are), h .count, h′ .count) at (g .most);
+  }
 
-  between : (text text′ : List ℕ) → k ≡ k′ → DifferInPrice text text′ bidder p q → ReadLeft text bids windows T n
-      → ReadLeft text′ bids′ windows′ T′ n′ → ltb (length old) n ≡ ltb (length old′) n′ → Between
-  between text text′ s d h h′ e = of-calls h h′ (price-law text text′ bidder p q T T′ (h .rows) (h′ .rows) (h .spans)
-      (h′ .spans) d
-      (h .is) (h′ .is) .rows)
-      (honest-texts text text′ bidder p q k T T′ (h .rows) (h′ .rows) (h .spans) (h′ .spans) (h .past-rows) (h .past-spans)
-      (h′ .past-rows)
-      (h′ .past-spans) (length old) (length old′) (toldAward (length (h .rows)) new a) (toldAward (length (h′ .rows)) new′ a′) d
-      (h .is)
-      (h′ .is) (rw (h .count, h′ .count) e)
+  between : (text text′ ws vs : List ℕ) → k ≡ k′ → DifferInBid text text′ bidder p q ws vs
+      → PartOf (windowsBy vs) (windowsBy ws)
+      → ReadLeft text bids windows T n → ReadLeft text′ bids′ windows′ T′ n′
+      → ltb (length old) n ≡ ltb (length old′) n′ → Between
+  between text text′ ws vs s d part h h′ e = of-calls h h′
+      (withheld-texts text text′ bidder p q ws vs T T′ (h .rows) (h′ .rows) (h .spans) (h′ .spans) d part (h .is) (h′ .is)
+      k (h .past-rows) (h .past-spans) (h′ .past-rows) (h′ .past-spans) (length old) (length old′)
+      (toldAward (length (h .rows)) new a) (toldAward (length (h′ .rows)) new′ a′)
+      (rw (h .count, h′ .count) e)
       (rw (h .count, ← (h .bids-are), ← (h .windows-are)) (y .answers))
       (rw (s, h′ .count, ← (h′ .bids-are), ← (h′ .windows-are)) (y′ .answers)))
 
 -- Two calls of `read`, two of the same award on what they left.
-pub no-gain-read : (r r′ : ReadCall) (c c′ : AwardCall) (bidder p q : List ℕ)
-    → DifferInPrice (r .run .text) (r′ .run .text) bidder p q
-    → Follows r c → Follows r′ c′ → SameAward c c′ → NoGainBetween c c′ bidder p q
-no-gain-read r r′ c c′ bidder p q d f f′ s =
-    let h = accepted-read r (c .tender) (c .count) (f .window-rows) (f .accepts) in
-    let h′ = accepted-read r′ (c′ .tender) (c′ .count) (f′ .window-rows) (f′ .accepts) in
-    between bidder p q (c .kind) (c′ .kind) (c .tender) (c′ .tender) (c .count) (c′ .count) (c .bids) (c .windows) (c′ .bids)
-    (c′ .windows) (c .rows-before) (c .rows-after) (c′ .rows-before) (c′ .rows-after)
-    (c .answer) (c′ .answer) (c .promise) (c′ .promise) (r .run .text) (r′ .run .text) (s .kinds) d
-    (rw (f .bids-are, f .windows-are) h)
-    (rw (f′ .bids-are, f′ .windows-are) h′) (s .room)
+module _ (r r′ : ReadCall) (c c′ : AwardCall) (bidder p q : List ℕ) (f : Follows r c) (f′ : Follows r′ c′)
+    (s : SameAward c c′) where
+  first : ReadLeft (r .run .text) (r .run .bids-after) (r .run .windows-after) (c .tender) (c .count)
+  first = accepted-read r (c .tender) (c .count) (f .window-rows) (f .accepts)
+
+  second : ReadLeft (r′ .run .text) (r′ .run .bids-after) (r′ .run .windows-after) (c′ .tender) (c′ .count)
+  second = accepted-read r′ (c′ .tender) (c′ .count) (f′ .window-rows) (f′ .accepts)
+
+  pub withheld-read : (ws vs : List ℕ) → DifferInBid (r .run .text) (r′ .run .text) bidder p q ws vs
+      → PartOf (windowsBy vs) (windowsBy ws) → NoGainBetween c c′ bidder p q
+  withheld-read ws vs d part =
+      between bidder p q (c .kind) (c′ .kind) (c .tender) (c′ .tender) (c .count) (c′ .count) (c .bids) (c .windows) (c′ .bids)
+      (c′ .windows) (c .rows-before) (c .rows-after) (c′ .rows-before) (c′ .rows-after)
+      (c .answer) (c′ .answer) (c .promise) (c′ .promise) (r .run .text) (r′ .run .text) ws vs (s .kinds) d part
+      (rw (f .bids-are, f .windows-are) first)
+      (rw (f′ .bids-are, f′ .windows-are) second) (s .room)
+
+  -- with the same windows: all the minutes
+  pub no-gain-read : DifferInPrice (r .run .text) (r′ .run .text) bidder p q → NoGainBetween c c′ bidder p q
+  no-gain-read d =
+      let m = price-as-bid (r .run .text) (r′ .run .text) bidder p q (c .tender) (first .rows) (first .spans) d (first .is) in
+      withheld-read (m .ws) (m .ws) (m .differ) (λ minute h. h)

@@ -17,7 +17,7 @@ use Rattle.spelling.specs.Lines.{pairLine}
 use Rattle.spelling.specs.Text.{tenderText, reserveText, headText, bidsText, textOf}
 use Rattle.listing_text.specs.Lines.{totalWord, awardLine, houseLine, lastLines}
 use Rattle.listing_text.specs.List.{winList, listLines}
-use Rattle.theorems.specs.Calls.{AwardCall, auctionBy}
+use Rattle.theorems_calls.specs.Calls.{AwardCall, auctionBy}
 use Rattle.theorems.specs.Between.{BidsAlone}
 
 pub bids-alone : (c : AwardCall) → c .tender .reserve ≡ Absent → BidsAlone c

@@ -18,7 +18,7 @@ use Rattle.reader_forms.specs.Line.{BidLine}
 use Rattle.reader_text.specs.Read.{accepted, readText}
 use Rattle.reader_text.specs.Rules.{RowsRules}
 use Rattle.reader_text.specs.RulesLaws.{rules-law}
-use Rattle.reader_text.specs.PriceChangeLaws.{Changed, price-change}
+use Rattle.reader_text.specs.BidChangeLaws.{price-change}
 use Rattle.reader_text.specs.Differ.{bidLine, Word, DifferInPrice}
 use Rattle.award_check.specs.Cells.{noRow}
 use Rattle.spelling.specs.Decimal.{decimal}
@@ -130,7 +130,7 @@ varied text T R W h i l q wq =
       p = a .p;
       is = a .priced;
       differ = differ;
-      accepted-too = λ v e m k. also (price-change text other _ _ q v T R W differ h e m k);
+      accepted-too = λ v e m k. price-change text other _ _ q v T R W differ h e m k;
     }
       where
         other : List ℕ
@@ -146,6 +146,3 @@ varied text T R W h i l q wq =
           p-word = price-word (a .p) (r .price) (a .priced);
           q-word = wq;
         }
-
-        also : Changed T R W other (decimal (r .bidder)) (a .p) q → (S : List Row) × (readText other ≡ accepted T S W)
-        also c = (c .S, c .stays)

@@ -1,35 +1,33 @@
 -- Rows without a fault, their windows joined, are bids without a fault whose numbers a text may name. Assumes nothing.
 use mathlib.Core.Path.{_≡_, refl, sym, ap, _∙_}
-use mathlib.Core.Bool.{Bool, true, false, not, _&&_}
+use mathlib.Core.Bool.{true, not}
 use mathlib.Core.List.{List, [], _∷_, _++_}
 use mathlib.Core.Option.{none}
-use Prim.Native.Nat.{ℕ, _+_, _≤_, _<_}
+use Prim.Native.Nat.{ℕ, _+_, _≤_}
 use native.Mathlib.Omega.{arith}
 use lib.ListN.{length, length-append}
 use lib.Dec.{leb, ltb}
-use borrow.Author.Tests.{leb-true, ltb-true, le-leb, lt-leb, le-ltb}
-use Rattle.tender.specs.declared.Kind.{Kind}
-use Rattle.tender.specs.declared.Kind.the-variants.{Single, Multi}
+use borrow.Author.Tests.{leb-true, ltb-true}
 use Rattle.tender.specs.declared.Tender.{Tender}
 use Rattle.tender.specs.declared.Window.{Window}
 use Rattle.tender.specs.declared.Reserve.{Reserve}
 use Rattle.tender.specs.declared.Reserve.the-variants.{Absent, Price}
-use Rattle.tender.specs.Limits.{within, mostWindows, isSingle, lawful, ordered, early, every}
+use Rattle.tender.specs.Limits.{lawful, ordered, early, every}
 use Rattle.tender.specs.RulesLaws.{every-split}
 use Rattle.tender.specs.Tables.{Row, own}
 use Rattle.reader_parts.specs.Words.{among}
 use Rattle.spelling.specs.Text.{bidIn}
 use Rattle.spelling.specs.WordLaws.{Named, AllNamed}
 use Rattle.spelling.specs.BackLaws.{NamedReserve, Nameable, AllNameable, asLines}
-use Rattle.reader_text.specs.Read.{ReadOutcome, refused, lineFault, bidFaultIn, bidFaultAfter, bidFault, checked, judgedBy}
-use Rattle.reader_text.specs.FaultLaws.{lawful-every}
+use Rattle.reader_text.specs.Read.{ReadOutcome, refused, bidFaultAfter, bidFault, checked, judgedBy}
+use Rattle.reader_text.specs.FaultLaws.{lawful-every, no-fault}
 use Rattle.cover.specs.SetLaws.{and-split}
 use Rattle.award_check.specs.Faults.{rowFault}
 use Rattle.runs.specs.Runs.{joined}
 use Rattle.runs.specs.JoinedLaws.{joined-lawful, joined-some}
 use Rattle.writer_line.specs.Respelt.{respelt}
 use Rattle.writer_text.specs.Canonical.{respeltIn}
-use Rattle.writer_text.specs.RowLaws.{RowSays, own-length, joined-count, most-few, split-fault}
+use Rattle.writer_text.specs.RowLaws.{RowSays, own-length, joined-count, split-fault}
 
 -- a text may name the numbers of lawful windows and of a lawful reserve
 
@@ -62,28 +60,6 @@ row-told t windows place used r s =
     )
 
 -- the reader finds no fault in the row's bid
-
-single-one : (k : Kind) (n : ℕ) → n ≤ mostWindows k → isSingle k && ltb 1 n ≡ false
-unfolding mostWindows isSingle
-single-one Single n l = le-ltb 1 n l
-single-one Multi n l = refl
-
-no-fault : (t : Tender) (bids bidder price count : ℕ) (empty late used : Bool) → bids < 1000
-    → count ≤ mostWindows (t .kind) → 1 ≤ bidder
-    → bidder ≤ 999999 → price ≤ 100000000 → empty ≡ false → late ≡ false → used ≡ false →
-    bidFaultIn t bids bidder price count empty late used ≡ none
-unfolding bidFaultIn lineFault within
-no-fault t bids bidder price count empty late used a b c d e f g h = rw (
-  lt-leb 1000 bids a,
-  le-ltb 32 count (omega (arith, most-few (t .kind))),
-  le-leb 1 bidder c,
-  le-leb bidder 999999 d,
-  le-ltb 100000000 price e,
-  single-one (t .kind) count b,
-  f,
-  g,
-  h,
-)
 
 row-read : (t : Tender) (windows : List ℕ) (place : ℕ) (used : List ℕ) (r : Row) → RowSays t windows place used r
     → place ≡ length used + 1 → bidFault t used (respelt (bidIn windows r)) ≡ none

@@ -8,8 +8,6 @@ use native.Mathlib.Omega.{arith}
 use lib.ListN.{length}
 use lib.Dec.{leb}
 use borrow.Author.Tests.{leb-true, not-true}
-use Rattle.tender.specs.declared.Kind.{Kind}
-use Rattle.tender.specs.declared.Kind.the-variants.{Single, Multi}
 use Rattle.tender.specs.declared.Tender.{Tender}
 use Rattle.tender.specs.Limits.{within, mostWindows, lawful, every}
 use Rattle.tender.specs.Tables.{Row, own}
@@ -61,11 +59,6 @@ pub joined-count : (t : Tender) (windows : List ℕ) (place : ℕ) (used : List 
     → length (joined (own windows r)) ≤ mostWindows (t .kind)
 joined-count t windows place used r s =
     omega (arith, joined-few (own windows r) (s .all-lawful), own-length windows r, s .most-windows)
-
-pub most-few : (k : Kind) → mostWindows k ≤ 32
-unfolding mostWindows
-most-few Single = omega arith
-most-few Multi = omega arith
 
 -- the first row is sound, and the later ones have no fault
 pub split-fault : (t : Tender) (windows : List ℕ) (place : ℕ) (used : List ℕ) (at : ℕ) (r : Row) (rs : List Row)

@@ -15,7 +15,8 @@ use Rattle.cover.specs.SetLaws.{and-split}
 use Rattle.award_check.specs.Faults.{sound, rowFault, sameKind, faultOf}
 use Rattle.award_check.specs.Cells.{noRow, bidRowAt}
 use Rattle.award_check.specs.AlikeLaws.{sound-keeps, keeps-kept, faultless, rows-length, row-named}
-use Rattle.writer_text.specs.RowLaws.{row-says, most-few}
+use Rattle.reader_text.specs.FaultLaws.{most-few}
+use Rattle.writer_text.specs.RowLaws.{row-says}
 
 -- what writing a row's line asks of the row
 pub record Plain (windows : List ℕ) (r : Row) : Type 0 where

@@ -32,15 +32,15 @@ use Rattle.reader_text.specs.HeadLaws.{lines-halted, lines-begun, no-line, brok
 use Rattle.reader_text.specs.HeadLaws.{bids-unreserved, tender-faultless, reserve-absent, reserve-taken, reserve-high, head-of}
 use Rattle.reader.specs.declared.Reading.{Reading}
 use Rattle.reader.specs.Answer.{readAnswer, bidsAfter, windowsAfter}
-use Rattle.theorems.specs.Calls.{ReadRun, ReadKept}
-use Rattle.theorems.specs.OneReading.{orBroken, linesIn, Above, at-start, after, linesAbove, LineFault, of-form, of-place}
-use Rattle.theorems.specs.OneReading.{of-count, of-limits, of-kind, of-minutes, of-week, of-bidder, pageOrder}
-use Rattle.theorems.specs.OneReading.{SomeOf, OnReserve, OnLine, OfText}
-use Rattle.theorems.specs.OneReading.{FirstAmong, NoFault, SoundBids, SoundReserve, SoundLines, LineOf, placeIn}
-use Rattle.theorems.specs.OneReading.{FirstOn, Readable, Declines, Fills, OneReading, text-too-long, bad-form}
-use Rattle.theorems.specs.OneReading.{reserve-misplaced, too-many}
-use Rattle.theorems.specs.OneReading.{outside-limits, several-windows, empty-window, late-window, bidder-repeated}
-use Rattle.theorems.specs.OneReading.{table-too-short, tables-filled}
+use Rattle.theorems_calls.specs.Calls.{ReadRun, ReadKept}
+use Rattle.theorems_calls.specs.OneReading.{orBroken, linesIn, Above, at-start, after, linesAbove, LineFault, of-form, of-place}
+use Rattle.theorems_calls.specs.OneReading.{of-count, of-limits, of-kind, of-minutes, of-week, of-bidder, pageOrder}
+use Rattle.theorems_calls.specs.OneReading.{SomeOf, OnReserve, OnLine, OfText}
+use Rattle.theorems_calls.specs.OneReading.{FirstAmong, NoFault, SoundBids, SoundReserve, SoundLines, LineOf, placeIn}
+use Rattle.theorems_calls.specs.OneReading.{FirstOn, Readable, Declines, Fills, OneReading, text-too-long, bad-form}
+use Rattle.theorems_calls.specs.OneReading.{reserve-misplaced, too-many}
+use Rattle.theorems_calls.specs.OneReading.{outside-limits, several-windows, empty-window, late-window, bidder-repeated}
+use Rattle.theorems_calls.specs.OneReading.{table-too-short, tables-filled}
 
 -- a test says whether a fact holds
 

@@ -31,7 +31,7 @@ use Rattle.listing_text.specs.Lines.{awardWord, winWord, houseWord, totalWord, 
 use Rattle.listing_text.specs.List.{winList, listLines}
 use Rattle.spelling.specs.DecimalLaws.{decimal-back, decimal-plain}
 use Rattle.reader_parts.specs.GivenLaws.{same-is}
-use Rattle.theorems.specs.ListRead.{lastNumber, winOn, rowOr, rowAmong, rowShown}
+use Rattle.theorems_shown.specs.ListRead.{lastNumber, winOn, rowOr, rowAmong, rowShown}
 
 -- a line without its byte 10
 

@@ -1,21 +1,23 @@
--- Two accepted texts that differ in how one price is written give the same tender, the same windows, and the same rows but
--- for the price of that bidder's row. Assumes nothing.
+-- Two accepted texts that differ in how one bid's price and windows are written give the same tender and the same bids but for that one.
+-- Assumes nothing.
 use mathlib.Core.Path.{_≡_, refl, ap, sym, _∙_}
 use mathlib.Core.List.{List, [], _∷_, _++_, map, append-assoc}
+use mathlib.Core.Bool.{Bool, true, false, cond}
 use mathlib.Core.Option.{Option, none, some}
-use Prim.Native.Nat.{ℕ, _+_}
+use Prim.Native.Nat.{ℕ}
 use native.Mathlib.Omega.{arith}
-use lib.ListN.{length, set}
+use lib.Dec.{eqb}
+use borrow.Author.Tests.{eqb-true}
 use Rattle.tender.specs.Keywords.{bidWord}
 use Rattle.tender.specs.declared.Window.{Window}
 use Rattle.tender.specs.declared.Tender.{Tender}
 use Rattle.tender.specs.Tables.{Row}
-use Rattle.reader_parts.specs.Words.{andThen, cut, among, numeralOf, priceOf}
+use Rattle.reader_parts.specs.Words.{andThen, growFirst, cut, among, numeralOf, priceOf}
 use Rattle.reader_forms.specs.Line.{BidLine, Line, tender, bid, reserve, windowsIn, bidOf, lineOfWords, lineOf, linesOf}
 use Rattle.reader_text.specs.Read.{accepted, rowsFrom, allWindows, bidsOf, checked, tables, begun, headOf, readLines, readText}
 use Rattle.reader_parts.specs.CutLaws.{Pieces, cut-some, cut-end, cut-word, cut-append}
 use Rattle.reader_forms.specs.PiecesLaws.{lines-append}
-use Rattle.reader_text.specs.Differ.{bidLine, Word, DifferInPrice, withPrice, RowsDifferInPrice, DifferInOnePrice}
+use Rattle.reader_text.specs.Differ.{bidLine, Word, DifferInPrice, DifferInBid, thoseIn, windowsBy}
 use Rattle.reader_text.specs.ReadLaws.{read-lines}
 use Rattle.reader_text.specs.HeadLaws.{head-before, read-at, Begun, accepted-head, accepted-read}
 
@@ -76,16 +78,6 @@ bids-append (none ∷ xs) b ys = bids-append xs b ys
 bids-append (some (tender t) ∷ xs) b ys = bids-append xs b ys
 bids-append (some (reserve p) ∷ xs) b ys = bids-append xs b ys
 bids-append (some (bid c) ∷ xs) b ys = ap {B = List BidLine} (λ l. c ∷ l) (bids-append xs b ys)
-
--- where the windows of the bids end
-placeAfter : ℕ → List BidLine → ℕ
-placeAfter at [] = at
-placeAfter at (b ∷ bs) = placeAfter (at + length (b .windows)) bs
-
-rows-append : (at : ℕ) (bs cs : List BidLine) → rowsFrom at (bs ++ cs) ≡ rowsFrom at bs ++ rowsFrom (placeAfter at bs) cs
-unfolding rowsFrom placeAfter
-rows-append at [] cs = refl
-rows-append at (b ∷ bs) cs = rw (rows-append (at + length (b .windows)) bs cs)
 
 windows-append : (bs cs : List BidLine) → allWindows (bs ++ cs) ≡ allWindows bs ++ allWindows cs
 unfolding allWindows
@@ -175,64 +167,111 @@ module _ (before n p after f : List ℕ) (ps : List (List ℕ)) (wn : Word n) (w
           held (q ∷ qs) (lineOf (bidLine n p f)) g (record { first = q; rest = qs; are = refl })
           (is-bid n p (cut 32 f) (l .0) (sym (line-of n p f wn wp) ∙ l .1)) (line-of n p f wn wp)
 
-pub price-law : (t u bidder p q : List ℕ) (T U : Tender) (R S : List Row) (W X : List Window) → DifferInPrice t u bidder p q →
-    readText t ≡ accepted T R W → readText u ≡ accepted U S X → DifferInOnePrice T U R S W X bidder p q
-unfolding rowsFrom allWindows withPrice
-price-law t u n p q T U R S W X d h k =
-    let s = cut-some 10 (d .after) in
-    go (found (d .before) n p (d .after) (s .first) (s .rest) (d .bidder-word) (d .p-word) (s .are) T R W (rw (d .left) at h))
-    (found (d .before) n q (d .after) (s .first) (s .rest) (d .bidder-word) (d .q-word) (s .are) U S X (rw (d .right) at k))
+-- what two accepted texts answer that differ in one bid: the same tender, and the same bids but for that one's price and windows
+pub record DifferInOneBid (T U : Tender) (R S : List Row) (W X : List Window) (n p q ws vs : List ℕ) : Type 0 where
+  pub tenders : T ≡ U
+  pub before : List BidLine
+  pub b : BidLine
+  pub c : BidLine
+  pub after : List BidLine
+  pub first : Parts n p (cut 32 ws) b
+  pub second : Parts n q (cut 32 vs) c
+  pub rows : R ≡ rowsFrom 0 (before ++ b ∷ after)
+  pub rows-too : S ≡ rowsFrom 0 (before ++ c ∷ after)
+  pub windows : W ≡ allWindows (before ++ b ∷ after)
+  pub windows-too : X ≡ allWindows (before ++ c ∷ after)
+
+pub windows-by : {n p : List ℕ} {b : BidLine} (ws : List ℕ) → Parts n p (cut 32 ws) b → windowsBy ws ≡ b .windows
+unfolding windowsBy
+windows-by ws h = ap thoseIn (h .windows-are)
+
+both-found : {before n p q f g : List ℕ} {ps : List (List ℕ)} {T U : Tender} {R S : List Row} {W X : List Window}
+    → BidFound before n p f ps T R W → BidFound before n q g ps U S X → DifferInOneBid T U R S W X n p q f g
+both-found {n = n} {p = p} {q = q} {f = f} {g = g} {ps = ps} {T = T} {U = U} x y =
+    let b = x .b in
+    let c = y .b in
+    let zs = x .line .between in
+    let same : begun U (y .line .from) (y .line .between ++ some (bid c) ∷ linesOf ps)
+    ≡ begun T (x .line .from) (zs ++ some (bid c) ∷ linesOf ps) = sym (y .line .head c) ∙ x .line .head c in
+    let lines : y .line .between ++ some (bid c) ∷ linesOf ps ≡ zs ++ some (bid c) ∷ linesOf ps = cc (same) in
+    let hx = bids-append zs b (linesOf ps) in
+    let hy = ap bidsOf lines ∙ bids-append zs c (linesOf ps) in
+    record {
+      tenders = cc (same);
+      before = bidsOf zs;
+      b = b;
+      c = c;
+      after = bidsOf (linesOf ps);
+      first = parts n p (cut 32 f) b (x .is);
+      second = parts n q (cut 32 g) c (y .is);
+      rows = x .line .rows ∙ ap (rowsFrom 0) hx;
+      rows-too = y .line .rows ∙ ap (rowsFrom 0) hy;
+      windows = x .line .windows ∙ ap allWindows hx;
+      windows-too = y .line .windows ∙ ap allWindows hy;
+    }
+
+pub bid-law : (t u n p q ws vs : List ℕ) (T U : Tender) (R S : List Row) (W X : List Window) → DifferInBid t u n p q ws vs
+    → readText t ≡ accepted T R W → readText u ≡ accepted U S X → DifferInOneBid T U R S W X n p q ws vs
+bid-law t u n p q ws vs T U R S W X d h k = both-found
+    (found (d .before) n p (ws ++ 10 ∷ d .after) ws (cut 10 (d .after)) (d .bidder-word) (d .p-word)
+    (cut-end 10 ws (d .after) (d .ws-line)) T R W (rw (d .left) at h))
+    (found (d .before) n q (vs ++ 10 ∷ d .after) vs (cut 10 (d .after)) (d .bidder-word) (d .q-word)
+    (cut-end 10 vs (d .after) (d .vs-line)) U S X (rw (d .right) at k))
+
+-- the first of two pieces or more ends with the byte d
+record EndedBy (d : ℕ) (s f : List ℕ) : Type 0 where
+  rest : List ℕ
+  are : s ≡ f ++ d ∷ rest
+  without : among d f ≡ false
+
+ended-by : (d : ℕ) (s f g : List ℕ) (gs : List (List ℕ)) → cut d s ≡ f ∷ g ∷ gs → EndedBy d s f
+unfolding cut among
+ended-by d [] f g gs e = let z : _≡_ {A = ℕ} 0 1 = cc in absurd (omega arith)
+ended-by d (b ∷ s) f g gs e = go (eqb b d) refl (cut-some d s) (λ h. ended-by d s h g gs) e
   where
-    go : {f : List ℕ} {ps : List (List ℕ)} → BidFound (d .before) n p f ps T R W → BidFound (d .before) n q f ps U S X
-        → DifferInOnePrice T U R S W X n p q
-    go {f} {ps} x y =
-        let b = x .b in
-        let c = y .b in
-        let zs = x .line .between in
-        let B = bidsOf zs in
-        let C = bidsOf (linesOf ps) in
-        let m = parts n p (cut 32 f) b (x .is) in
-        let o = parts n q (cut 32 f) c (y .is) in
-        let hb : c .bidder ≡ b .bidder = cc (m .bidder-is, o .bidder-is) in
-        let hw : c .windows ≡ b .windows = cc (m .windows-are, o .windows-are) in
-        let same : begun U (y .line .from) (y .line .between ++ some (bid c) ∷ linesOf ps)
-        ≡ begun T (x .line .from) (zs ++ some (bid c) ∷ linesOf ps) = sym (y .line .head c) ∙ x .line .head c in
-        let lines : y .line .between ++ some (bid c) ∷ linesOf ps ≡ zs ++ some (bid c) ∷ linesOf ps = cc (same) in
-        let hx : bidsOf (zs ++ some (bid b) ∷ linesOf ps) ≡ B ++ b ∷ C = bids-append zs b (linesOf ps) in
-        let hy : bidsOf (y .line .between ++ some (bid c) ∷ linesOf ps) ≡ B ++ c ∷ C = ap bidsOf lines
-        ∙ bids-append zs c (linesOf ps) in
-        record {
-          tenders = cc (same);
-          windows = x .line .windows ∙ ap allWindows hx ∙ windows-append B (b ∷ C)
-              ∙ rw (← hw) (sym (windows-append B (c ∷ C)) ∙ sym (y .line .windows ∙ ap allWindows hy));
-          rows = record {
-            before = rowsFrom 0 B;
-            row = record { bidder = b .bidder; price = b .price; first = placeAfter 0 B; count = length (b .windows) };
-            after = rowsFrom (placeAfter 0 B + length (b .windows)) C;
-            w = c .price;
-            bidder-is = m .bidder-is;
-            p-is = m .price-is;
-            q-is = o .price-is;
-            left = x .line .rows ∙ ap (rowsFrom 0) hx ∙ rows-append 0 B (b ∷ C);
-            right = rw (← hb, ← hw) (y .line .rows ∙ ap (rowsFrom 0) hy ∙ rows-append 0 B (c ∷ C));
-          };
-        }
+    grown : (h : List ℕ) → eqb b d ≡ false → EndedBy d s h → b ∷ h ≡ f → EndedBy d (b ∷ s) f
+    grown h q m k = record { rest = m .rest; are = rw (← k) (ap (λ r. b ∷ r) (m .are)); without = rw (← k) (rw q (m .without)) }
 
--- the same with the place of the row
+    go : (t : Bool) → eqb b d ≡ t → Pieces (cut d s) → ((h : List ℕ) → cut d s ≡ h ∷ g ∷ gs → EndedBy d s h)
+        → cond t ([] ∷ cut d s) (growFirst b (cut d s)) ≡ f ∷ g ∷ gs → EndedBy d (b ∷ s) f
+    go true q c ih e = let k : [] ≡ f = cc in record { rest = s; are = rw (← k, eqb-true b d q); without = rw (← k) }
+    go false q c ih e =
+        let k : growFirst b (c .first ∷ c .rest) ≡ f ∷ g ∷ gs = ap (growFirst b) (sym (c .are)) ∙ e in
+        let l : c .rest ≡ g ∷ gs = cc (k) in
+        grown (c .first) q (ih (c .first) (c .are ∙ ap (λ r. c .first ∷ r) l)) (cc (k))
 
-set-here : {A : Type 0} (xs : List A) (x y : A) (ys : List A) → set (xs ++ x ∷ ys) (length xs) y ≡ xs ++ y ∷ ys
-set-here [] x y ys = refl
-set-here (z ∷ xs) x y ys = ap (λ l. z ∷ l) (set-here xs x y ys)
+-- accepted texts that differ in a price differ in that bid, with the same windows
+pub record SameWindows (t u n p q : List ℕ) : Type 0 where
+  pub ws : List ℕ
+  pub differ : DifferInBid t u n p q ws ws
 
-module _ (R S : List Row) (bidder p q : List ℕ) (d : RowsDifferInPrice R S bidder p q) where
-  pub rows-set : S ≡ set R (length (d .before)) (withPrice (d .w) (d .row))
-  rows-set = d .right ∙ rw (d .left) (sym (set-here (d .before) (d .row) (withPrice (d .w) (d .row)) (d .after)))
+pub price-as-bid : (t u n p q : List ℕ) (T : Tender) (R : List Row) (W : List Window) → DifferInPrice t u n p q
+    → readText t ≡ accepted T R W → SameWindows t u n p q
+price-as-bid t u n p q T R W d h =
+    let s = cut-some 10 (d .after) in
+    let x = found (d .before) n p (d .after) (s .first) (s .rest) (d .bidder-word) (d .p-word) (s .are) T R W (rw (d .left) at h) in
+    let e = ended-by 10 (d .after) (s .first) (x .ended .first) (x .ended .rest) (s .are ∙ ap (λ ps. s .first ∷ ps) (x .ended .are)) in
+    record {
+      ws = s .first;
+      differ = record {
+        before = d .before;
+        after = e .rest;
+        left = d .left ∙ ap (λ r. d .before ++ 10 ∷ bidLine n p r) (e .are);
+        right = d .right ∙ ap (λ r. d .before ++ 10 ∷ bidLine n q r) (e .are);
+        bidder-word = d .bidder-word;
+        p-word = d .p-word;
+        q-word = d .q-word;
+        ws-line = e .without;
+        vs-line = e .without;
+      };
+    }
 
-  pub prices-set : map (λ r. r .price) S ≡ set (map (λ r. r .price) R) (length (d .before)) (d .w)
-  unfolding withPrice
-  prices-set = rw (d .left, d .right) (go (d .before))
-    where
-      go : (bs : List Row) → map (λ r. r .price) (bs ++ withPrice (d .w) (d .row) ∷ d .after)
-          ≡ set (map (λ r. r .price) (bs ++ d .row ∷ d .after)) (length bs) (d .w)
-      go [] = refl
-      go (b ∷ bs) = ap (λ l. b .price ∷ l) (go bs)
+-- and then both have the same windows
+pub windows-same : {T U : Tender} {R S : List Row} {W X : List Window} {n p q ws : List ℕ} → DifferInOneBid T U R S W X n p q ws ws
+    → X ≡ W
+unfolding allWindows
+windows-same d =
+    let e : d .c .windows ≡ d .b .windows = cc (d .first .windows-are, d .second .windows-are) in
+    d .windows-too ∙ windows-append (d .before) (d .c ∷ d .after)
+    ∙ ap (λ ws. allWindows (d .before) ++ (ws ++ allWindows (d .after))) e
+    ∙ sym (d .windows ∙ windows-append (d .before) (d .b ∷ d .after))

@@ -20,7 +20,7 @@ use Rattle.reader_parts.specs.Words.{cut}
 use Rattle.reader_forms.specs.Line.{TenderLine, BidLine, Line, tender, bid, reserve, tenderLine, headLines, linesOf}
 use Rattle.reader_text.specs.Read.{rowsFrom, allWindows, tenderWith}
 use Rattle.reader.specs.declared.Reading.the-variants.{Accepted, Refused}
-use Rattle.theorems.specs.Calls.{ReadRun}
+use Rattle.theorems_calls.specs.Calls.{ReadRun}
 
 -- a text without a line has a first line that is not of the form
 abbrev pub orBroken : List (Option Line) → List (Option Line)

@@ -15,7 +15,7 @@ use Rattle.award_check.specs.Cells.{noRow}
 use Rattle.award_check.specs.Auction.{auctionOf}
 use Rattle.listing_text.specs.List.{listOf}
 use Rattle.reader_parts.specs.GivenLaws.{same-is}
-use Rattle.theorems.specs.WorkedCases.{Case, third, cases}
+use Rattle.theorems_worked.specs.WorkedCases.{Case, third, cases}
 
 -- the list is the one defined
 unfoldable pub right : Case → Bool

@@ -1,0 +1,2 @@
+pub mod ListRead
+pub mod ShownLaws
