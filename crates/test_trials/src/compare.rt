@@ -32,7 +32,7 @@ pub(crate) struct Checked {
     pub(crate) wrong: u64,
 }
 
-fn plus_one(n: u64) -> u64 {
+pub(crate) fn plus_one(n: u64) -> u64 {
     std::num::wrapping_add_u64(n, 1)
 }
 
@@ -138,7 +138,7 @@ fn reserve_of(lot: Lot) -> Reserve {
     Reserve::Absent
 }
 
-fn tender_of(lot: Lot, several: bool) -> Tender {
+pub(crate) fn tender_of(lot: Lot, several: bool) -> Tender {
     let kind = kind_of(several);
     let window = Span {
         start: minute_of(lot, 0),
@@ -152,7 +152,7 @@ fn tender_of(lot: Lot, several: bool) -> Tender {
     }
 }
 
-fn kind_of(several: bool) -> Kind {
+pub(crate) fn kind_of(several: bool) -> Kind {
     if several { Kind::Multi } else { Kind::Single }
 }
 
@@ -167,7 +167,7 @@ fn sum_of(paid: [u64; 7]) -> u64 {
 }
 
 // Whether a cell has fewer than two bidders; with a reserve it is not asked.
-fn thin(lot: Lot) -> bool {
+pub(crate) fn thin(lot: Lot) -> bool {
     let masks = lot.masks;
     if lot.reserved {
         return false;
@@ -260,7 +260,7 @@ fn try_award(lot: Lot, several: bool) -> Trial {
 
 // What the owner of bid i is left with where the bid names this price: the payment, or, where it does not win, the true cost, which
 // is the price in the lot.
-fn left_with(lot: Lot, several: bool, i: usize, price: u64) -> u64 {
+pub(crate) fn left_with(lot: Lot, several: bool, i: usize, price: u64) -> u64 {
     let mut bids = lot.bids;
     let windows = lot.windows;
     let costs = lot.prices;
