@@ -1,5 +1,5 @@
 /*
- * Lists of small tenders held to the rules themselves, by trying: every set of entries, every price of a bid.
+ * Lists of small tenders held to the rules themselves, by trying: every set of entries, every price of a bid, every part of its minutes.
  * The house is the last entry here, with every minute, as paper 02 says it. Nothing is shared with the second implementation.
  */
 #include "tries.h"
@@ -16,8 +16,9 @@ enum { MOST = 5, MINUTES = 10, TOP = 40, TRIED = 60, CEILING = (TOP + 2) * (MINU
 typedef struct {
     bool single, reserved;
     unsigned start, minutes, n, entries, price[MOST + 1], has[MOST + 1], all;
+    unsigned week[MOST];        /* the minutes that a bid has, also those outside the tender, counted from the week's start */
     bool pointed[MOST + 1];     /* how the price is spelt */
-    char windows[MOST][64];
+    char windows[MOST][256];
 } Tried;
 
 /* what a list tells: of each bid whether it won and its payment, whether the house did, cost and sum paid; or the refusal */
@@ -33,9 +34,10 @@ static void some_tender(Tried *t)
         t->price[i] = below(4) ? below(TOP) : below(4);
         for (unsigned k = t->single ? 1 : 1 + below(3); k; k--) {
             unsigned s = below(t->start + t->minutes), e = s + 1 + below(t->minutes + 3);
-            for (unsigned m = s; m < e; m++) if (m >= t->start && m - t->start < t->minutes) t->has[i] |= 1u << (m - t->start);
+            for (unsigned m = s; m < e; m++) t->week[i] |= 1u << m;
             at += (size_t)sprintf(t->windows[i] + at, " (%u %u)", s, e);
         }
+        t->has[i] = t->week[i] >> t->start & t->all;
     }
     t->price[t->n] = below(3) ? below(2 * TOP) : below(4);
     t->has[t->n] = t->all;
@@ -190,6 +192,69 @@ static void no_gain(const Tried *t, const Told *told, unsigned i, const char *te
     }
 }
 
+/* minutes held back */
+
+static struct { long parts, refused, prices, winning; } less;
+
+/* some bits, the same in each run */
+static unsigned mixed(void)
+{
+    return (unsigned)((unsigned long)less.parts * 0x9e3779b97f4a7c15u >> 32);
+}
+
+/* the minutes as windows, one for each run, and another from each minute of `cuts` inside a run on; the last of them twice, where asked */
+static void put_windows(char *s, unsigned minutes, unsigned cuts, bool twice)
+{
+    unsigned firsts = minutes & (~(minutes << 1) | cuts), lasts = minutes & (~(minutes >> 1) | cuts >> 1), start = 0, end = 0;
+    for (unsigned m = 0; m < 31; m++) {
+        if (firsts >> m & 1) start = m;
+        if (lasts >> m & 1) s += sprintf(s, " (%u %u)", start, end = m + 1);
+    }
+    if (twice) sprintf(s, " (%u %u)", start, end);
+}
+
+/* Bid i names this price in `other`, where it has a part of the minutes that it has in `t`: its owner gains no more than told. With the
+   same price and minutes, however they are spelt, all is as told. */
+static void no_gain_at(const Tried *t, const Told *told, Tried *other, unsigned i, unsigned price, const char *text, size_t n)
+{
+    unsigned few = fewest(other);
+    other->price[i] = price;
+    other->pointed[i] = less.prices++ & 1;
+    Told with = list_of(other);
+    less.winning += with.won[i];
+    expect(with.number == (t->reserved || few >= 2 ? 0 : 11 + few), "tried: whether less time is refused", text, n);
+    expect(gain(&with, i, t->price[i]) <= gain(told, i, t->price[i]), "tried: a gain by less time", text, n);
+    if (other->has[i] != t->has[i] || price != t->price[i]) return;
+    expect(with.won[i] == told->won[i] && with.cost == told->cost && with.sum == told->sum, "tried: the same minutes", text, n);
+}
+
+/* a part of its minutes, offered at the true cost and at every `step`-th price below TRIED */
+static void offer_part(const Tried *t, const Told *told, unsigned i, unsigned part, unsigned step, const char *text, size_t n)
+{
+    Tried other = *t;
+    put_windows(other.windows[i], part, t->single ? 0 : mixed() & mixed() >> 7, !t->single && mixed() & 1);
+    other.has[i] = part >> t->start & t->all;
+    no_gain_at(t, told, &other, i, t->price[i], text, n);
+    for (unsigned price = less.parts % step; price < TRIED; price += step) no_gain_at(t, told, &other, i, price, text, n);
+    less.parts++;
+    less.refused += !t->reserved && fewest(&other) < 2;
+}
+
+/* Every part of the minutes of bid i: in a single tender each window inside the bid's, in a multi tender each set of its minutes inside the
+   tender, with some of those outside it. With every price, where that is asked and not more than six of its minutes are inside. */
+static void no_gain_by_less(const Tried *t, const Told *told, unsigned i, bool every, const char *text, size_t n)
+{
+    unsigned had = t->week[i], inside = t->has[i] << t->start, set = inside, step = every && __builtin_popcount(inside) <= 6 ? 1 : 23;
+    for (unsigned s = 0; t->single && s < 31; s++)
+        for (unsigned e = s; had >> e & 1; e++) offer_part(t, told, i, (2u << e) - (1u << s), step, text, n);
+    if (t->single) return;
+    do {
+        unsigned part = set | (mixed() >> 2 & had & ~inside);
+        if (part) offer_part(t, told, i, part, step, text, n);
+        set = (set - 1) & inside;
+    } while (set != inside);
+}
+
 void tried_lists(long rounds)
 {
     static char text[TEXT_ROOM];
@@ -202,6 +267,7 @@ void tried_lists(long rounds)
         unsigned few = fewest(&t);
         expect(told.number == (t.reserved || few >= 2 ? 0 : 11 + few), "tried: whether it is refused", text, n);
         *(told.number ? &refused[t.reserved] : &awards[t.reserved]) += 1;
+        if (r % 64 == 3) for (unsigned i = 0; i < t.n; i++) no_gain_by_less(&t, &told, i, r % 256 == 67, text, n);
         if (told.number) continue;
         judge(&t, &told, text, n);
         houses += told.won[t.n];
@@ -210,4 +276,6 @@ void tried_lists(long rounds)
     }
     printf("tried: %ld awarded and %ld declined without a reserve; %ld and %ld with one, the house booked in %ld, in %ld beside owners\n",
            awards[0], refused[0], awards[1], refused[1], houses, beside);
+    printf("tried: %ld parts of a bid's minutes, %ld of them refused, with %ld prices, of which %ld win\n",
+           less.parts, less.refused, less.prices, less.winning);
 }

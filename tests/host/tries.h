@@ -1,4 +1,4 @@
-/* Lists of small tenders held to the rules themselves, by trying: every set, every price. */
+/* Lists of small tenders held to the rules themselves, by trying: every set, every price, every part of the minutes. */
 #ifndef TRIES_H
 #define TRIES_H
 
