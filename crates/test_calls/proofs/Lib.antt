@@ -1,1 +1,2 @@
+pub mod AwardCall
 pub mod LendsRows

@@ -7,7 +7,8 @@ use Rattle.tender.specs.declared.Kind.the-variants.{Multi}
 use Rattle.award.proofs.award_multi.Symbol as award-def
 use Rattle.award.proofs.award_multi.Symbol.{name as #award·award-multi}
 use Rattle.award.proofs.award_multi.Met as award-thm
-use Rattle.test_calls.proofs.LendsRows.{Award, meets}
+use Rattle.test_calls.proofs.AwardCall.{Award}
+use Rattle.test_calls.proofs.LendsRows.{meets}
 use Rattle.test_calls.proofs.rows.multi.Key.{name as #test_calls·rows·multi}
 use Rattle.test_calls.proofs.rows.multi as f
 use Rattle.test_calls.proofs.rows.multi.Statement as stated

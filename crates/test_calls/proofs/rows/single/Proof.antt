@@ -7,7 +7,8 @@ use Rattle.tender.specs.declared.Kind.the-variants.{Single}
 use Rattle.award.proofs.award_single.Symbol as award-def
 use Rattle.award.proofs.award_single.Symbol.{name as #award·award-single}
 use Rattle.award.proofs.award_single.Met as award-thm
-use Rattle.test_calls.proofs.LendsRows.{Award, meets}
+use Rattle.test_calls.proofs.AwardCall.{Award}
+use Rattle.test_calls.proofs.LendsRows.{meets}
 use Rattle.test_calls.proofs.rows.single.Key.{name as #test_calls·rows·single}
 use Rattle.test_calls.proofs.rows.single as f
 use Rattle.test_calls.proofs.rows.single.Statement as stated
