@@ -23,7 +23,7 @@ use Rattle.multi_rounds.specs.OpensLaws.{opens-same, reach-alike, reach-open, c
 use Rattle.multi_rounds.specs.TracingLaws.{main-best}
 use Rattle.cells.specs.FillingLaws.{no-cell}
 use Rattle.multi_marks.specs.Marks.{Disturbed, Strayed}
-use Rattle.multi_follow.specs.Follow.{raisedTo, Raised, bar-from, Standing, Course, Following, Takes, Followed}
+use Rattle.multi_follow.specs.Follow.{raisedTo, Raised, bar-from, Standing, Course, Following, Takes, Advances, Followed}
 use Rattle.multi_follow.proofs.Limiting.{others, bar-none}
 use Rattle.multi_follow.proofs.Strayed.{both-close, main-closes, other-closes, after-scan, scan-main, scan-other, scan-last}
 use Rattle.multi_follow.proofs.Strayed.{scan-none}
@@ -53,7 +53,7 @@ strayed-as s e = record {
   skip = s .skip;
   out = s .out;
   bound = s .bound;
-  same = λ i l z x h. s .same i l z x h ∙ e x;
+  within = λ i l z x h. omega (arith, s .within i l z x h, e x);
 }
 
 module _ {ps ms hop index : List ℕ} {w n : ℕ} {order gains : List ℕ} {rounds h k : ℕ}
@@ -92,9 +92,10 @@ module _ {ps ms hop index : List ℕ} {w n : ℕ} {order gains : List ℕ} {roun
       }
 
       pub takes-main : g < rounds → rival ≡ at order g → ask ≡ at ps (at order g) → gain ≡ at gains g → cell mark (at order g) ≡ 0
-          → clear ≡ true → Takes ps ms w k alt (at order g) (at ps (at order g)) (at gains g)
-      takes-main l e a y z d = rw (co .main .gets g l)
-          (scan-main inside (co .market .words) (s .strayed) f (at order g) (main-best (co .main) g l) z
+          → clear ≡ true → common alt (wordRow ms w (at order g)) ≡ at gains g
+          → Takes ps ms w k alt (at order g) (at ps (at order g)) (at gains g)
+      takes-main l e a y z d i = rw (co .main .gets g l)
+          (scan-main inside (co .market .words) (s .strayed) f (at order g) (main-best (co .main) g l) z (i ∙ co .main .gets g l)
           (rw (e, a, y, co .main .gets g l) at (f .clear-of d .1)))
 
       pub takes-other : clear ≡ false → b < length ps → g < rounds → p * at gains g + late b (at order g) ≤ at ps (at order g) * c
@@ -181,7 +182,7 @@ module _ {ps ms hop index : List ℕ} {w n : ℕ} {order gains : List ℕ} {roun
           go : (x : ℕ) → cell (wordRow ms w k) x ≡ 1 → (cell (wordRow ms w b) x ≡ 0) ⊎ (cell (wordRow ms w b) x ≡ 1)
               → cell alt x ≡ cell rest x
           go x y (inl u) = omega (arith, d .clears x)
-          go x y (inr u) = omega (arith, d .clears x, s .strayed .same b (t .inside) z x u, s .gone x y)
+          go x y (inr u) = omega (arith, d .clears x, s .strayed .within b (t .inside) z x u, s .gone x y)
 
       pub main-step : b ≡ at order g → g < rounds → cell mark b ≡ 0
           → Following ps ms w n order gains rounds h k rest stale mark more mine (g + 1)
@@ -191,20 +192,20 @@ module _ {ps ms hop index : List ℕ} {w n : ℕ} {order gains : List ℕ} {roun
         next-few : next ≤ 10112
         next-few = rw y (common-few rest (wordRow ms w k) (omega (arith, s .strayed .words, co .market .words)))
 
-        pub both-step : b ≡ at order g → g < rounds → Following ps ms w n order gains rounds h k rest stale mark more next (g + 1)
-        both-step q l = both-with q l (y ∙ sym (reach-open rest ms w k)) next-few
+        own-now : next ≡ reach (has ms w k) (openOf rest)
+        own-now = y ∙ sym (reach-open rest ms w k)
 
-        pub other-step : {stale′ mark′ : List ℕ} → Sized stale′ → Disturbed ps ms w alt b stale mark stale′ mark′
-            → Following ps ms w n order gains rounds h k rest stale′ mark′ more next g
-        other-step z dist = record {
-          strayed = other-closes inside (co .market .words) (s .strayed) z dist e d;
+        pub advance-step : {g′ : ℕ} → Advances order rounds g b g′ → Following ps ms w n order gains rounds h k rest stale mark more next g′
+        advance-step (inl (z, (l, q))) = rw z (both-with q l own-now next-few)
+        advance-step (inr z) = rw z (record {
+          strayed = other-closes inside (co .market .words) (s .strayed) b e d;
           reached = s .reached;
-          own = y ∙ sym (reach-open rest ms w k);
+          own = own-now;
           few = next-few;
           gone = s .gone;
           highest = one-round;
           small = small-after;
-        }
+        })
 
   -- how it starts: the cells of the main run before round h, k alone marked, then the bids that share a cell with k
   pub starts : {held : List ℕ} → Standing ms w n order h held → {stale none mark : List ℕ} → ((i : ℕ) → at stale i ≡ 0) → Cleared none
@@ -247,5 +248,5 @@ module _ {ps ms hop index : List ℕ} {w n : ℕ} {order gains : List ℕ} {roun
         skip = zs k;
         out = λ i m y. zs i;
         bound = λ i m y e. absurd (omega (arith, unmarked i e));
-        same = λ i m y x e. st .stands x;
+        within = λ i m y x e. omega (arith, st .stands x);
       }

@@ -17,8 +17,8 @@ use Rattle.multi_rounds.specs.WordRowLaws.{row-in}
 use Rattle.multi_rounds.specs.BeginLaws.{sized-of}
 use Rattle.multi_marks.specs.Marks.{Disturbed}
 use Rattle.multi_rounds.specs.OpensLaws.{two-way}
-use Rattle.multi_follow.specs.Follow.{Took, Course, Walking, Takes, Stepped}
-use Rattle.multi_follow.proofs.Following.{scanned, ends-none, skips, fewer-open, main-step, both-step, other-step}
+use Rattle.multi_follow.specs.Follow.{Took, Course, Walking, Takes, Advances, Stepped}
+use Rattle.multi_follow.proofs.Following.{scanned, ends-none, skips, fewer-open, main-step, advance-step}
 
 module _ {ps ms hop index : List ℕ} {w n : ℕ} {order gains : List ℕ} {rounds h k : ℕ}
     (co : Course ps ms hop index w n order gains rounds h k) where
@@ -61,32 +61,17 @@ module _ {ps ms hop index : List ℕ} {w n : ℕ} {order gains : List ℕ} {roun
       }
 
       module _ {next : ℕ} (x : next ≡ common rest (wordRow ms w k)) where
-        pub both-goes : b ≡ at order g → g < rounds → Stepped ps ms w n order gains rounds h k alt rest counts′ who num mark g top (g + 1)
-            next more false
-        both-goes q l = record {
+        pub advance-goes : {g′ : ℕ} → Advances order rounds g b g′
+            → Stepped ps ms w n order gains rounds h k alt rest counts′ who num mark g top g′ next more false
+        advance-goes v = record {
           tree = s .tree;
           goes = λ a. record {
-            follow = both-step co (s .follow) t (r .raised-by) (r .is) e d x q l;
+            follow = advance-step co (s .follow) t (r .raised-by) (r .is) e d x v;
             tree = s .tree;
             counted = y;
             marks = s .marks;
           };
-          falls = λ a. omega (arith, less);
-          ends = λ a. absurd (false≢true a);
-        }
-
-        pub other-goes : {who′ num′ mark′ : List ℕ} → Tournament ps who′ num′ → length mark′ ≡ length mark
-            → Disturbed ps ms w alt b (known num) mark (known num′) mark′
-            → Stepped ps ms w n order gains rounds h k alt rest counts′ who′ num′ mark′ g top g next more false
-        other-goes t′ m dist = record {
-          tree = t′;
-          goes = λ a. record {
-            follow = other-step co (s .follow) t (r .raised-by) (r .is) e d x (sized-of t′) dist;
-            tree = t′;
-            counted = y;
-            marks = m ∙ s .marks;
-          };
-          falls = λ a. omega (arith, less);
+          falls = λ a. ⊎-elim (λ z. omega (arith, less, z .0)) (λ z. omega (arith, less, z)) v;
           ends = λ a. absurd (false≢true a);
         }
 

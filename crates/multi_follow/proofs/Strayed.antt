@@ -22,7 +22,7 @@ use Rattle.multi_follow.specs.Follow.{Takes}
 use Rattle.multi_rounds.specs.ChosenLaws.{right-ext}
 use Rattle.multi_rounds.specs.FrontingLaws.{right-one, turned}
 use Rattle.multi_rounds.specs.BeginLaws.{common-few}
-use Rattle.multi_rounds.specs.OpensLaws.{reach-open, close-open, reach-alike, two-way}
+use Rattle.multi_rounds.specs.OpensLaws.{reach-open, close-open, reach-less, two-way}
 use Rattle.multi_rounds.specs.Market.{wordRow, has, live, Sized, Known, Fronted}
 use Rattle.multi_tournament.specs.Tournament.{at}
 use Rattle.multi_tournament.specs.OrderLaws.{zero-or}
@@ -51,22 +51,30 @@ module _ {ps ms : List ℕ} {w k : ℕ} {alt stale mark : List ℕ} {og : ℕ �
   pub not-own : (i : ℕ) → cell mark i ≡ 0 → i ≡ k → ⊥
   not-own i e d = omega (arith, s .own, rw d at e)
 
-  -- both runs close bid m
-  pub both-close : (m : ℕ) {new : List ℕ} → length new ≡ length alt → Closed alt (wordRow ms w m) new
-      → Strayed ps ms w k new stale mark (λ x. og x - cell (wordRow ms w m) x)
-  both-close m {new} e c = record {
-    words = e ∙ s .words;
-    sized = s .sized;
-    own = s .own;
-    skip = s .skip;
-    out = s .out;
-    bound = λ i l g d. omega (arith, s .bound i l g d, falls i);
-    same = λ i l z x h. c .clears x ∙ ap (λ (v : ℕ). v - cell (wordRow ms w m) x) (s .same i l z x h);
-  }
-    where
-      falls : (i : ℕ) → common new (wordRow ms w i) ≤ common alt (wordRow ms w i)
-      falls i = rw (← reach-open new ms w i, ← reach-open alt ms w i, ← close-open alt new ms w m e c)
-          (close-other (has ms w m) (has ms w i) (openOf alt))
+  -- this run closes bid m, and what the main run has open of the other cells stays open there
+  module _ (m : ℕ) {new : List ℕ} (e : length new ≡ length alt) (c : Closed alt (wordRow ms w m) new) where
+    falls : (i : ℕ) → common new (wordRow ms w i) ≤ common alt (wordRow ms w i)
+    falls i = rw (← reach-open new ms w i, ← reach-open alt ms w i, ← close-open alt new ms w m e c)
+        (close-other (has ms w m) (has ms w i) (openOf alt))
+
+    closes-with : {og′ : ℕ → ℕ} → ((x : ℕ) → og x - cell (wordRow ms w m) x ≤ og′ x) → Strayed ps ms w k new stale mark og′
+    closes-with y = record {
+      words = e ∙ s .words;
+      sized = s .sized;
+      own = s .own;
+      skip = s .skip;
+      out = s .out;
+      bound = λ i l g d. omega (arith, s .bound i l g d, falls i);
+      within = λ i l z x h. omega (arith, c .clears x, s .within i l z x h, y x);
+    }
+
+    -- both runs close bid m
+    pub both-close : Strayed ps ms w k new stale mark (λ x. og x - cell (wordRow ms w m) x)
+    both-close = closes-with (λ x. omega arith)
+
+    -- this run alone closes bid m: no bid gains by it
+    pub other-closes : Strayed ps ms w k new stale mark og
+    other-closes = closes-with (λ x. omega arith)
 
   module _ {j : ℕ} {stale′ mark′ : List ℕ} (z′ : Sized stale′) (d : Disturbed ps ms w alt j stale mark stale′ mark′) where
     was-free : (i : ℕ) → i < length ps → cell mark′ i ≡ 0 → cell mark i ≡ 0
@@ -85,26 +93,9 @@ module _ {ps ms : List ℕ} {w k : ℕ} {alt stale mark : List ℕ} {og : ℕ �
       skip = d .kept k inside (s .own) .1 ∙ s .skip;
       out = λ i l z. d .still i l z .0 ∙ s .out i l (was-free i l z);
       bound = bound-after;
-      same = λ i l z x h. ⊎-elim (λ a. omega (arith, s .same i l (was-free i l z) x h))
-          (λ a. omega (arith, s .same i l (was-free i l z) x h, d .still i l z .1 x h a)) (two-way (wordRow ms w j) x);
+      within = λ i l z x h. ⊎-elim (λ a. omega (arith, s .within i l (was-free i l z) x h))
+          (λ a. omega (arith, d .still i l z .1 x h a)) (two-way (wordRow ms w j) x);
     }
-
-    -- this run alone closes bid j
-    pub other-closes : {new : List ℕ} → length new ≡ length alt → Closed alt (wordRow ms w j) new → Strayed ps ms w k new stale′ mark′ og
-    other-closes {new} e c = record {
-      words = e ∙ s .words;
-      sized = z′;
-      own = omega (arith, d .kept k inside (s .own) .0, s .own);
-      skip = d .kept k inside (s .own) .1 ∙ s .skip;
-      out = λ i l z. d .still i l z .0 ∙ s .out i l (was-free i l z);
-      bound = λ i l g n. omega (arith, bound-after i l g n, falls i);
-      same = λ i l z x h. ⊎-elim (λ a. omega (arith, c .clears x, s .same i l (was-free i l z) x h))
-          (λ a. omega (arith, c .clears x, s .same i l (was-free i l z) x h, d .still i l z .1 x h a)) (two-way (wordRow ms w j) x);
-    }
-      where
-        falls : (i : ℕ) → common new (wordRow ms w i) ≤ common alt (wordRow ms w i)
-        falls i = rw (← reach-open new ms w i, ← reach-open alt ms w i, ← close-open alt new ms w j e c)
-            (close-other (has ms w j) (has ms w i) (openOf alt))
 
   -- a scan of the marked bids
   pub knows : Known ps ms w alt stale
@@ -130,10 +121,11 @@ module _ {ps ms : List ℕ} {w k : ℕ} {alt stale mark : List ℕ} {og : ℕ �
   abbrev pub main : ℕ → ℕ
   main i = reach (has ms w i) (opens og (64 * w))
 
-  pub alike : (i : ℕ) → i < length ps → cell mark i ≡ 0 → other i ≡ main i
+  -- a bid without mark does not gain
+  pub no-more : (i : ℕ) → i < length ps → cell mark i ≡ 0 → other i ≤ main i
   unfolding bids openOf has
-  alike i l z = rw (withdrawn-other k (bids (has ms w) ps) i (not-own i z), s .words)
-      (reach-alike (has ms w i) (cell alt) og (64 * w) (λ x h. s .same i l z x (eqb-true (cell (wordRow ms w i) x) 1 h)))
+  no-more i l z = rw (withdrawn-other k (bids (has ms w) ps) i (not-own i z), s .words)
+      (reach-less (has ms w i) (cell alt) og (64 * w) (λ x h. s .within i l z x (eqb-true (cell (wordRow ms w i) x) 1 h)))
 
   price : (i : ℕ) → i < length ps → 0 < other i → at ps i ≡ others k ps ms w i .price
   unfolding bids
@@ -166,7 +158,7 @@ module _ {ps ms : List ℕ} {w k : ℕ} {alt stale mark : List ℕ} {og : ℕ �
       skip = omega (arith, f .high k, s .skip);
       out = λ i l z. omega (arith, f .high i, s .out i l z);
       bound = λ i l g d. omega (arith, live-in i l g, other-is i d, f .low i l);
-      same = s .same;
+      within = s .within;
     }
 
     -- no marked bid comes before the front
@@ -174,22 +166,17 @@ module _ {ps ms : List ℕ} {w k : ℕ} {alt stale mark : List ℕ} {og : ℕ �
     scan-bound i q z g = let h : other i ≤ at new i = omega (arith, live-in i q z, f .low i q) in let y = f .least i q (omega arith) in
         (y .0, omega (arith, y .1, mul-le-mul-left p h))
 
-    -- the main run's next bid is not marked and comes before the front
-    pub scan-main : (m : ℕ) → Best (at ps) main (length ps) m → cell mark m ≡ 0 → at ps m * c + late m b ≤ p * main m
-        → Takes ps ms w k alt m (at ps m) (main m)
-    scan-main m x e a = record {
+    -- the main run's next bid is not marked, reaches as much in this run, and comes before the front
+    pub scan-main : (m : ℕ) → Best (at ps) main (length ps) m → cell mark m ≡ 0 → common alt (wordRow ms w m) ≡ main m
+        → at ps m * c + late m b ≤ p * main m → Takes ps ms w k alt m (at ps m) (main m)
+    scan-main m x e y a = record {
       inside = x .inside;
       other = not-own m e;
-      next = settles m (takes-main (at ps) main other (cell mark) (length ps) alike m b p c x e scan-bound a);
+      next = settles m (takes-main (at ps) main other (cell mark) (length ps) no-more m b p c x (other-is m (not-own m e) ∙ y) scan-bound a);
       price = refl;
-      cells = sym (alike m (x .inside) e) ∙ other-is m (not-own m e);
+      cells = sym y;
       some = x .good;
-      few = omega (
-        arith,
-        alike m (x .inside) e,
-        other-is m (not-own m e),
-        common-few alt (wordRow ms w m) (omega (arith, s .words, few-words)),
-      );
+      few = omega (arith, y, common-few alt (wordRow ms w m) (omega (arith, s .words, few-words)));
     }
 
     module _ (e : clear ≡ false) (l : b < length ps) where
@@ -225,17 +212,17 @@ module _ {ps ms : List ℕ} {w k : ℕ} {alt stale mark : List ℕ} {og : ℕ �
 
       -- the front comes before the main run's next bid
       pub scan-other : (m : ℕ) → Best (at ps) main (length ps) m → p * main m + late b m ≤ at ps m * c → Takes ps ms w k alt b p c
-      scan-other m x a = takes-front (settles b (takes-other (at ps) main other (cell mark) (length ps) alike m b x l
+      scan-other m x a = takes-front (settles b (takes-other (at ps) main other (cell mark) (length ps) no-more m b x l
           (omega (arith, front-gains, some-cells)) front-bound (rw (front-gains, ← price-is) a)))
 
       -- the main run is over
       pub scan-last : ((i : ℕ) → i < length ps → main i ≡ 0) → Takes ps ms w k alt b p c
-      scan-last x = takes-front (settles b (takes-last (at ps) main other (cell mark) (length ps) alike b x l
+      scan-last x = takes-front (settles b (takes-last (at ps) main other (cell mark) (length ps) no-more b x l
           (omega (arith, front-gains, some-cells)) front-bound))
 
     pub scan-none : clear ≡ false → length ps ≤ b → ((i : ℕ) → i < length ps → main i ≡ 0)
         → best (others k ps ms w) (length ps) (openOf alt) ≡ nothing
-    scan-none e q x = settles-none (λ i l. ⊎-elim (λ z. alike i l z ∙ x i l)
+    scan-none e q x = settles-none (λ i l. ⊎-elim (λ z. omega (arith, no-more i l z, x i l))
         (λ z. omega (arith, live-in i l z, f .low i l, none-left i l)) (zero-or (cell mark i)))
       where
         none-left : (i : ℕ) → i < length ps → at new i ≡ 0

@@ -1,6 +1,7 @@
 -- How a payment is found: the run without bid k follows the main run as written down, but for the bids marked.
 use mathlib.Core.Path.{_≡_}
 use mathlib.Core.Bool.{Bool, true, false, _&&_}
+use mathlib.Core.Logic.{_⊎_}
 use mathlib.Core.List.{List}
 use Prim.Native.Nat.{ℕ, suc, _+_, _-_, _*_, _/_, _≤_, _<_, max}
 use lib.ListN.{length}
@@ -72,6 +73,10 @@ pub record Takes (ps ms : List ℕ) (w k : ℕ) (alt : List ℕ) (b p c : ℕ) :
   pub cells : c ≡ common alt (wordRow ms w b)
   pub some : 0 < c
   pub few : c ≤ 10112
+
+-- where the run without k takes bid b the main run comes from round g to round g′: it takes b too, or stays
+abbrev pub Advances : List ℕ → ℕ → ℕ → ℕ → ℕ → Type 0
+Advances order rounds g b g′ = ((g′ ≡ g + 1) × ((g < rounds) × (b ≡ at order g))) ⊎ (g′ ≡ g)
 
 -- one more than the highest price at which the bid of round h is taken from there on in the run without it
 pub record Followed (ps ms : List ℕ) (w n : ℕ) (order : List ℕ) (h r : ℕ) : Type 0 where

@@ -1,6 +1,7 @@
 // A bid taken in the run without bid k, which follows the main run as written down. `take` closes the bid's cells and raises the highest
-// price at which k would be taken before it; `both` is the step where the two runs take the bid, `other` the step where the run without k
-// alone does, and marks the bids that share an open cell with it. `ahead` says whether a bid is there and comes before another.
+// price at which k would be taken before it; `advance` is the step where the run without k takes a bid, with the main run or alone; `pass`
+// the step where the main run alone takes one, and marks the bids that gain by it. `ahead` says whether a bid is there and comes before
+// another.
 ghost use mathlib.Core.Path.{_≡_};
 ghost use mathlib.Core.Bool.{true, _&&_};
 ghost use Prim.Native.Nat.{_+_, _*_, _<_, _≤_, max};
@@ -11,7 +12,7 @@ ghost use Rattle.cells.specs.Cells.{Closed};
 ghost use Rattle.cells_count.specs.Hops.{Hops, Counted};
 ghost use Rattle.multi_tournament.specs.Tournament.{at};
 ghost use Rattle.multi_rounds.specs.Market.{wordRow};
-ghost use Rattle.multi_follow.specs.Follow.{Raised, Took, Course, Walking, Takes, Stepped};
+ghost use Rattle.multi_follow.specs.Follow.{Raised, Took, Course, Walking, Takes, Advances, Stepped};
 
 fn higher(a: u64, b: u64) -> u64
     ensures { λ r. ⌜ r ≡ max a b ⌝ }
@@ -78,8 +79,8 @@ pub struct Move {
     pub over: bool,
 }
 
-// Both runs take bid b, the main run's next.
-pub fn both(
+// The run without k takes bid b; the main run, before round g till then, comes to round `next`.
+pub fn advance(
     prices: &[u64],
     masks: &[u64],
     hop: &[u8],
@@ -97,6 +98,7 @@ pub fn both(
     b: usize,
     p: u64,
     c: u64,
+    next: usize,
     alt: &mut [u64],
     counts: &mut [u64],
     who: &mut [u64],
@@ -106,7 +108,7 @@ pub fn both(
     requires { ⌜ Course (now prices) (now masks) (now hop) (now index) w count (now order) (now gains) rounds h k
         × (Walking (now prices) (now masks) w count (now order) (now gains) rounds h k (now alt) (now counts) (now who) (now num)
         (now mark) top mine g
-        × ((0 < mine) × (Takes (now prices) (now masks) w k (now alt) b p c × ((g < rounds) × (b ≡ at (now order) g))))) ⌝ }
+        × ((0 < mine) × (Takes (now prices) (now masks) w k (now alt) b p c × Advances (now order) rounds g b next))) ⌝ }
     ensures { λ r. ⌜ Stepped (now (prices .entry)) (now (masks .entry)) w count (now (order .entry)) (now (gains .entry)) rounds h k
         (now (alt .entry)) (now (alt .exit)) (now (counts .exit)) (now (who .exit)) (now (num .exit)) (now (mark .exit)) g top (r .g)
         (r .mine) (r .top) (r .over) ⌝ }
@@ -114,15 +116,15 @@ pub fn both(
     let t = take(masks, hop, w, k, b, p, c, mine, top, alt, counts);
     let y = multi_rounds::overlap(alt, counts, masks, hop, w, k);
     Move {
-        g: g + 1,
+        g: next,
         mine: y,
         top: t,
         over: false,
     }
 }
 
-// The run without k alone takes bid b.
-pub fn other(
+// The main run alone takes its next bid; the bids that share a cell with it that is open here gain, and are marked.
+pub fn pass(
     prices: &[u64],
     masks: &[u64],
     hop: &[u8],
@@ -137,9 +139,6 @@ pub fn other(
     g: usize,
     mine: u64,
     top: u64,
-    b: usize,
-    p: u64,
-    c: u64,
     alt: &mut [u64],
     counts: &mut [u64],
     who: &mut [u64],
@@ -149,18 +148,17 @@ pub fn other(
     requires { ⌜ Course (now prices) (now masks) (now hop) (now index) w count (now order) (now gains) rounds h k
         × (Walking (now prices) (now masks) w count (now order) (now gains) rounds h k (now alt) (now counts) (now who) (now num)
         (now mark) top mine g
-        × ((0 < mine) × Takes (now prices) (now masks) w k (now alt) b p c)) ⌝ }
+        × (g < rounds)) ⌝ }
     ensures { λ r. ⌜ Stepped (now (prices .entry)) (now (masks .entry)) w count (now (order .entry)) (now (gains .entry)) rounds h k
         (now (alt .entry)) (now (alt .exit)) (now (counts .exit)) (now (who .exit)) (now (num .exit)) (now (mark .exit)) g top (r .g)
         (r .mine) (r .top) (r .over) ⌝ }
 {
-    multi_marks::disturb(prices, masks, hop, index, w, alt, counts, b, who, num, mark);
-    let t = take(masks, hop, w, k, b, p, c, mine, top, alt, counts);
-    let y = multi_rounds::overlap(alt, counts, masks, hop, w, k);
+    let m = order[g] as usize;
+    multi_marks::disturb(prices, masks, hop, index, w, alt, counts, m, who, num, mark);
     Move {
-        g,
-        mine: y,
-        top: t,
+        g: g + 1,
+        mine,
+        top,
         over: false,
     }
 }

@@ -1,5 +1,5 @@
--- The bids marked: those of which some open cell may differ between the main run and the run without bid k. A mark is a cell of a
--- row of 16 words.
+-- The bids marked: those of which some cell may be open in the run without bid k that is not open in the main run. A mark is a cell
+-- of a row of 16 words.
 use mathlib.Core.Path.{_≡_}
 use mathlib.Core.List.{List}
 use Prim.Native.Nat.{ℕ, _*_, _≤_, _<_}
@@ -28,8 +28,8 @@ pub record Disturbed (ps ms : List ℕ) (w : ℕ) (alt : List ℕ) (j : ℕ) (st
       × ((x : ℕ) → cell (wordRow ms w i) x ≡ 1 → cell (wordRow ms w j) x ≡ 1 → cell alt x ≡ 0)
   pub moved : (i : ℕ) → i < length ps → cell mark i ≡ 0 → 0 < cell mark′ i → at stale′ i ≡ common alt (wordRow ms w i)
 
--- og x: whether cell x is open in the main run. A bid without mark has the same open cells in both runs, and nothing is known of it;
--- what is known of a bid with a mark is no less than it reaches in the run without k, and k itself is out
+-- og x: whether cell x is open in the main run. What a bid without mark has open in the run without k it has open in the main run,
+-- and nothing is known of it; what is known of a bid with a mark is no less than it reaches in the run without k, and k itself is out
 pub record Strayed (ps ms : List ℕ) (w k : ℕ) (alt stale mark : List ℕ) (og : ℕ → ℕ) : Type 0 where
   pub words : length alt ≡ w
   pub sized : Sized stale
@@ -37,4 +37,4 @@ pub record Strayed (ps ms : List ℕ) (w k : ℕ) (alt stale mark : List ℕ) (o
   pub skip : at stale k ≡ 0
   pub out : (i : ℕ) → i < length ps → cell mark i ≡ 0 → at stale i ≡ 0
   pub bound : (i : ℕ) → i < length ps → 0 < cell mark i → (i ≡ k → ⊥) → common alt (wordRow ms w i) ≤ at stale i
-  pub same : (i : ℕ) → i < length ps → cell mark i ≡ 0 → (x : ℕ) → cell (wordRow ms w i) x ≡ 1 → cell alt x ≡ og x
+  pub within : (i : ℕ) → i < length ps → cell mark i ≡ 0 → (x : ℕ) → cell (wordRow ms w i) x ≡ 1 → cell alt x ≤ og x

@@ -8,6 +8,7 @@ use native.Mathlib.Nat.{eq-or-lt-of-le}
 use native.Mathlib.Omega.{arith}
 use lib.ListN.{length}
 use lib.Dec.{eqb}
+use borrow.Author.Tests.{eqb-true, eqb-false}
 use Rattle.cells.specs.Cells.{cell, total, both, common, Closed}
 use Rattle.cover.specs.Greedy.{reach, keep, close}
 use Rattle.cover.specs.Sets.{cells}
@@ -85,25 +86,26 @@ unfolding opens
 opens-same f g zero h = refl
 opens-same f g (suc n) h = rw (h n, opens-same f g n h)
 
+-- what f has of the cells of h, g has too
+pub reach-less : (h : ℕ → Bool) (f g : ℕ → ℕ) (n : ℕ) → ((x : ℕ) → h x ≡ true → f x ≤ g x)
+    → reach h (opens f n) ≤ reach h (opens g n)
+unfolding opens reach
+reach-less h f g zero e = omega arith
+reach-less h f g (suc n) e = go (h n) (eqb (f n) 0) (eqb (g n) 0) refl refl refl (reach-less h f g n e)
+  where
+    go : (t a b : Bool) → h n ≡ t → eqb (f n) 0 ≡ a → eqb (g n) 0 ≡ b → reach h (opens f n) ≤ reach h (opens g n)
+        → reach h (keep a n (opens f n)) ≤ reach h (keep b n (opens g n))
+    go t true true y u v ih = ih
+    go t true false y u v ih = omega arith
+    go true false true y u v ih = absurd (omega (arith, e n y, eqb-false (f n) 0 u, eqb-true (g n) 0 v))
+    go false false true y u v ih = rw y (omega (arith, ih))
+    go t false false y u v ih = omega arith
+
 -- the cells of h alike in both
 pub reach-alike : (h : ℕ → Bool) (f g : ℕ → ℕ) (n : ℕ) → ((x : ℕ) → h x ≡ true → f x ≡ g x)
     → reach h (opens f n) ≡ reach h (opens g n)
-unfolding opens reach
-reach-alike h f g zero e = refl
-reach-alike h f g (suc n) e = go (h n) refl (reach-alike h f g n e)
-  where
-    pass : (t : Bool) (xs : List ℕ) → h n ≡ false → reach h (keep t n xs) ≡ reach h xs
-    pass true xs a = refl
-    pass false xs a = rw a (omega arith)
-
-    one : (u : ℕ) (xs : List ℕ) → h n ≡ false → reach h (keep (eqb u 0) n xs) ≡ reach h xs
-    one u xs a = pass (eqb u 0) xs a
-
-    two : (t : Bool) → reach h (opens f n) ≡ reach h (opens g n) → reach h (keep t n (opens f n)) ≡ reach h (keep t n (opens g n))
-    two true a = a
-    two false a = omega arith
-
-    go : (t : Bool) → h n ≡ t → reach h (opens f n) ≡ reach h (opens g n)
-        → reach h (keep (eqb (f n) 0) n (opens f n)) ≡ reach h (keep (eqb (g n) 0) n (opens g n))
-    go true a ih = rw (e n a) (two (eqb (g n) 0) ih)
-    go false a ih = one (f n) (opens f n) a ∙ ih ∙ sym (one (g n) (opens g n) a)
+reach-alike h f g n e = omega (
+  arith,
+  reach-less h f g n (λ x y. omega (arith, e x y)),
+  reach-less h g f n (λ x y. omega (arith, e x y)),
+)

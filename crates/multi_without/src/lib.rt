@@ -1,8 +1,18 @@
-// One step of the run without bid k, which follows the main run as written down: a bid that is not marked is taken as the main run takes
-// it, the first of the marked bids where it comes before, and a bid that the main run alone takes is passed over. `step` gives where the
-// run then stands, with the highest price so far at which k would be taken.
-ghost use Prim.Native.Nat.{_<_, _≤_};
+// One step of the run without bid k, which follows the main run as written down: a bid that is not marked and reaches what it reaches in
+// the main run is taken as there, the first of the marked bids where it comes before, and a bid that the main run alone takes is passed
+// over. `step` gives where the run then stands, with the highest price so far at which k would be taken.
+ghost use mathlib.Core.Path.{_≡_};
+ghost use mathlib.Core.Logic.{_⊎_};
+ghost use Prim.Native.Nat.{_+_, _<_, _≤_};
 ghost use Rattle.multi_follow.specs.Follow.{Course, Walking, Stepped};
+
+// The round that the main run comes to where bid b is taken here, and m is its bid of round g.
+fn after(g: usize, b: usize, m: usize) -> usize
+    requires { ⌜ g ≤ 10112 ⌝ }
+    ensures { λ r. ⌜ ((b ≡ m) × (r ≡ g + 1)) ⊎ ((b ≡ m → ⊥) × (r ≡ g)) ⌝ }
+{
+    if b == m { g + 1 } else { g }
+}
 
 // One step where the main run has a next bid.
 fn along(
@@ -40,43 +50,41 @@ fn along(
     let free = !cells::holds(mark, m);
     let f = multi_rounds::front(prices, masks, hop, w, alt, counts, who, num, m, p, v, free);
     if f.clear {
-        let t = multi_follow::take(masks, hop, w, k, m, p, v, mine, top, alt, counts);
-        return multi_follow::Move {
-            g: g + 1,
+        if multi_rounds::overlap(alt, counts, masks, hop, w, m) == v {
+            let t = multi_follow::take(masks, hop, w, k, m, p, v, mine, top, alt, counts);
+            return multi_follow::Move {
+                g: g + 1,
+                mine,
+                top: t,
+                over: false,
+            };
+        }
+        return multi_follow::pass(
+            prices,
+            masks,
+            hop,
+            index,
+            w,
+            count,
+            order,
+            gains,
+            rounds,
+            h,
+            k,
+            g,
             mine,
-            top: t,
-            over: false,
-        };
+            top,
+            alt,
+            counts,
+            who,
+            num,
+            mark,
+        );
     }
     let b = f.bid;
     if multi_follow::ahead(prices.len(), f.price, f.cells, b, p, v, m) {
-        if b == m {
-            return multi_follow::both(
-                prices,
-                masks,
-                hop,
-                index,
-                w,
-                count,
-                order,
-                gains,
-                rounds,
-                h,
-                k,
-                g,
-                mine,
-                top,
-                b,
-                f.price,
-                f.cells,
-                alt,
-                counts,
-                who,
-                num,
-                mark,
-            );
-        }
-        return multi_follow::other(
+        let next = after(g, b, m);
+        return multi_follow::advance(
             prices,
             masks,
             hop,
@@ -94,6 +102,7 @@ fn along(
             b,
             f.price,
             f.cells,
+            next,
             alt,
             counts,
             who,
@@ -101,13 +110,27 @@ fn along(
             mark,
         );
     }
-    multi_marks::disturb(prices, masks, hop, index, w, alt, counts, m, who, num, mark);
-    multi_follow::Move {
-        g: g + 1,
+    multi_follow::pass(
+        prices,
+        masks,
+        hop,
+        index,
+        w,
+        count,
+        order,
+        gains,
+        rounds,
+        h,
+        k,
+        g,
         mine,
         top,
-        over: false,
-    }
+        alt,
+        counts,
+        who,
+        num,
+        mark,
+    )
 }
 
 // One step where the main run is over.
@@ -143,7 +166,7 @@ fn beyond(
     let f = multi_rounds::front(prices, masks, hop, w, alt, counts, who, num, 0, 0, 0, false);
     let b = f.bid;
     if b < prices.len() {
-        return multi_follow::other(
+        return multi_follow::advance(
             prices,
             masks,
             hop,
@@ -161,6 +184,7 @@ fn beyond(
             b,
             f.price,
             f.cells,
+            g,
             alt,
             counts,
             who,

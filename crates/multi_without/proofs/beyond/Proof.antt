@@ -1,6 +1,7 @@
 -- `multi_without::beyond` meets its contract: the first of the marked bids is taken, and without one the run is over. Assumes nothing.
 use mathlib.Core.Path.{refl}
 use mathlib.Core.Bool.{false}
+use mathlib.Core.Logic.{inr}
 use native.Mathlib.Omega.{arith}
 use Rattle.multi_rounds.specs.FrontingLaws.{not-clear}
 use Rattle.multi_follow.proofs.Strayed.{knows}
@@ -9,45 +10,22 @@ use Rattle.multi_follow.proofs.Stepping.{words, fronted, over-goes}
 use borrow.Author.Needs.{needs}
 use Rattle.multi_without.proofs.beyond.Statement.{statement}
 use Rattle.multi_without.proofs.beyond.Tie as tie
-use Rattle.multi_without.proofs.beyond.Reads as reads
-use Rattle.multi_without.proofs.beyond.Lts as lts
-use Rattle.multi_follow.proofs.other.Reads as other-reads
-use Rattle.multi_rounds.proofs.front.Reads as front-reads
 
 front-requires : tie.Need-front-requires
 front-requires c κs =
     let c15 = c .before .before .before .before .before .before .before .before .before .before .before .before .before .before .before in
-    let P = c15 .pre in let co = P .0 in let s = P .1 .0 in (
-      co .market,
-      (
-        co .hopping,
-        (
-          words co s,
-          (
-            s .counted,
-            (s .tree, (knows (inside co) (co .market .words) (s .follow .strayed), (omega arith, (omega arith, omega arith)))),
-          ),
-        ),
-      ),
-    )
+    let P = c15 .pre in let co = P .0 in let s = P .1 .0 in
+    let stale = knows (inside co) (co .market .words) (s .follow .strayed) in
+    (co .market, (co .hopping, (words co s, (s .counted, (s .tree, (stale, (omega arith, (omega arith, omega arith))))))))
 
-other-requires : tie.Need-other-requires
-other-requires c κs =
+advance-requires : tie.Need-advance-requires
+advance-requires c κs =
     let c5 = c .before .before .before .before .before in
     let c12 = c5 .before .before .before .before .before .before .before in
-    let c28 = c12 .before .before .before .before .before .before .before .before .before .before .before .before .before .before .before
-    .before in
-    let P = c28 .pre in let co = P .0 in let s = P .1 .0 in (
-      co,
-      (
-        fronted co s (c12 .front .ensures .0) (c12 .front .ensures .1 .0) (c12 .front .ensures .1 .1),
-        (
-          P .1 .1 .0,
-          takes-last co (s .follow) (c12 .front .ensures .1 .0)
-              (not-clear false _ (λ e. c12 .front .ensures .1 .0 .clear-of e .0) refl) (c5 .if1 .taken) (P .1 .1 .1),
-        ),
-      ),
-    )
+    let c28 = c12 .before .before .before .before .before .before .before .before .before .before .before .before .before .before .before .before in
+    let P = c28 .pre in let co = P .0 in let s = P .1 .0 in let f = c12 .front .ensures in
+    let takes = takes-last co (s .follow) (f .1 .0) (not-clear false _ (λ e. f .1 .0 .clear-of e .0) refl) (c5 .if1 .taken) (P .1 .1 .1) in
+    (co, (fronted co s (f .0) (f .1 .0) (f .1 .1), (P .1 .1 .0, (takes, inr refl))))
 
 same-length : tie.Need-same-length
 same-length c = search needs
@@ -82,18 +60,16 @@ same-length-9 c = search needs
 returns-2 : tie.Need-returns-2
 returns-2 c =
     let c7 = c .before .before .before .before .before .before .before in
-    let c23 = c7 .before .before .before .before .before .before .before .before .before .before .before .before .before .before .before
-    .before in
-    let P = c23 .pre in let co = P .0 in let s = P .1 .0 in
-    over-goes co s (c7 .front .ensures .0) (c7 .front .ensures .1 .0)
-    (not-clear false _ (λ e. c7 .front .ensures .1 .0 .clear-of e .0) refl) (c .if1 .left) (P .1 .1 .1)
+    let c23 = c7 .before .before .before .before .before .before .before .before .before .before .before .before .before .before .before .before in
+    let P = c23 .pre in let f = c7 .front .ensures in
+    over-goes (P .0) (P .1 .0) (f .0) (f .1 .0) (not-clear false _ (λ e. f .1 .0 .clear-of e .0) refl) (c .if1 .left) (P .1 .1 .1)
 
 pub beyond-spec : {M : Type 1} → statement M
 beyond-spec =
     tie.close
     (tie.spec
     front-requires
-    other-requires
+    advance-requires
     same-length
     same-length-2
     same-length-3

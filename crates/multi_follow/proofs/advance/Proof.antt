@@ -1,15 +1,10 @@
--- `multi_follow::both` meets its contract: both runs close the bid's cells. Assumes nothing.
+-- `multi_follow::advance` meets its contract: this run closes the bid's cells, and the main run does or stays. Assumes nothing.
 use mathlib.Core.Path.{_∙_}
-use native.Mathlib.Omega.{arith}
 use Rattle.multi_follow.proofs.Following.{inside}
-use Rattle.multi_follow.proofs.Stepping.{bid-row, words, price-small, both-goes}
+use Rattle.multi_follow.proofs.Stepping.{bid-row, words, price-small, advance-goes}
 use borrow.Author.Needs.{needs}
-use Rattle.multi_follow.proofs.both.Statement.{statement}
-use Rattle.multi_follow.proofs.both.Tie as tie
-use Rattle.multi_follow.proofs.both.Reads as reads
-use Rattle.multi_follow.proofs.both.Lts as lts
-use Rattle.multi_follow.proofs.take.Reads as take-reads
-use Rattle.multi_rounds.proofs.overlap.Reads as overlap-reads
+use Rattle.multi_follow.proofs.advance.Statement.{statement}
+use Rattle.multi_follow.proofs.advance.Tie as tie
 
 take-requires : tie.Need-take-requires
 take-requires c κs =
@@ -28,13 +23,6 @@ overlap-requires c κs =
       (co .market .words, (bid-row co _ (inside co), (co .hopping .size, (c6 .take .ensures .1 .1, co .hopping .each _ (inside co))))),
     )
 
-add-t33 : tie.Need-add-t33
-add-t33 c =
-    let c23 = c .before .before .before .before .before .before .before .before .before .before .before .before .before .before .before
-    .before .before .before .before .before .before .before .before in
-    let pre = c23 .pre in
-    omega (arith, pre .1 .1 .1 .1 .0, pre .0 .main .route .most)
-
 same-length : tie.Need-same-length
 same-length c = search needs
 
@@ -45,10 +33,9 @@ returns : tie.Need-returns
 returns c =
     let c9 = c .before .before .before .before .before .before .before .before .before in
     let c23 = c9 .before .before .before .before .before .before .before .before .before .before .before .before .before .before in
-    let P = c23 .pre in both-goes (P .0) (P .1 .0) (P .1 .1 .1 .0) (c9 .take .ensures .0) (c9 .take .kept .1 .1 .1 .1 .1 .1 .1 .1 .1 .0)
-    (c9 .take .ensures .1 .0) (c .before .before .overlap .ensures .1) (c .before .before .overlap .ensures .0) (P .1 .1 .1 .1 .1)
-    (P .1 .1 .1 .1 .0)
+    let P = c23 .pre in advance-goes (P .0) (P .1 .0) (P .1 .1 .1 .0) (c9 .take .ensures .0) (c9 .take .kept .1 .1 .1 .1 .1 .1 .1 .1 .1 .0)
+    (c9 .take .ensures .1 .0) (c .before .before .overlap .ensures .1) (c .before .before .overlap .ensures .0) (P .1 .1 .1 .1)
 
-pub both-spec : {M : Type 1} → statement M
-both-spec =
-    tie.close (tie.spec take-requires overlap-requires add-t33 same-length same-length-2 returns)
+pub advance-spec : {M : Type 1} → statement M
+advance-spec =
+    tie.close (tie.spec take-requires overlap-requires same-length same-length-2 returns)
