@@ -36,7 +36,7 @@ fn begin(
 {
     multi_rounds::copy(held, alt);
     cells_count::count_none(alt, counts);
-    cells::clear(num);
+    multi_tournament::empty(prices, who, num);
     cells::clear(mark);
     cells::add(mark, k);
     multi_marks::disturb(prices, masks, hop, index, w, alt, counts, k, who, num, mark);

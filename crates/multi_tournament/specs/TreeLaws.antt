@@ -5,7 +5,7 @@ use mathlib.Core.Bool.{Bool, true, false}
 use mathlib.Core.List.{List}
 use Prim.Native.Nat.{ℕ, zero, suc, _+_, _-_, _*_, _/_, _≤_, _<_}
 use native.Mathlib.Omega.{arith}
-use lib.ListN.{length, set, length-set, length-drop}
+use lib.ListN.{length, set, length-set, length-drop, List·getD-eq-default}
 use lib.Seq.{getD-set-same, getD-set-other, getD-drop, ext-getD}
 use lib.Dec.{eqb, ltb}
 use borrow.Author.Tests.{eqb-true, eqb-false, ltb-true, ltb-false}
@@ -316,3 +316,71 @@ seats-node {who} {v} s l m = record {
 
 pub seats-all : {who : List ℕ} {v : ℕ} → Seating who v → v ≡ 0 → Seated who
 seats-all s e = record { players = s .players; leaf = λ i a. s .leaf i a (omega arith); first = λ v a b. s .first v a (omega arith) b }
+
+-- emptying, from the last node down: the nodes from 2v on have no cells, and those before stand as they stood
+pub record Emptying (old num : List ℕ) (v : ℕ) : Type 0 where
+  pub numbers : length num ≡ 2048
+  pub stands : (u : ℕ) → u < 2 * v → at num u ≡ at old u
+  pub none : (u : ℕ) → 2 * v ≤ u → at num u ≡ 0
+
+pub empties-none : (num : List ℕ) → length num ≡ 2048 → Emptying num num 1024
+empties-none num e = record {
+  numbers = e;
+  stands = λ u l. refl;
+  none = λ u l. List·getD-eq-default num 0 (omega arith);
+}
+
+-- below a node without cells there are none
+pub empties-past : {ps who old num : List ℕ} {v : ℕ} → Tournament ps who old → Emptying old num v → 1 < v → v ≤ 1024
+    → at num (v - 1) ≡ 0 → Emptying old num (v - 1)
+empties-past {ps} {old = old} {num} {v} t s l m z = record {
+  numbers = s .numbers;
+  stands = λ u q. s .stands u (omega arith);
+  none = λ u q. ⊎-elim (λ a. a) (λ a. s .none u (omega arith)) (near u q (eqb u (2 * (v - 1))) (eqb u (2 * (v - 1) + 1)) refl refl);
+}
+  where
+    empty : at old (v - 1) ≡ 0
+    empty = sym (s .stands (v - 1) (omega arith)) ∙ z
+
+    none-in : (i j x : ℕ) → Leads ps i (at old (v - 1)) j x → x ≡ 0
+    none-in i j x = ⊎-elim (λ a. a) (λ a. absurd (omega (arith, empty, a .0)))
+
+    near : (u : ℕ) → 2 * (v - 1) ≤ u → (a b : Bool) → eqb u (2 * (v - 1)) ≡ a → eqb u (2 * (v - 1) + 1) ≡ b
+        → (at num u ≡ 0) ⊎ (2 * v ≤ u)
+    near u q true b d e = inl (rw (eqb-true u _ d, s .stands (2 * (v - 1)) (omega arith))
+        (none-in _ _ _ (t .node (v - 1) (omega arith) (omega arith) .left)))
+    near u q false true d e = inl (rw (eqb-true u _ e, s .stands (2 * (v - 1) + 1) (omega arith))
+        (none-in _ _ _ (t .node (v - 1) (omega arith) (omega arith) .right)))
+    near u q false false d e = inr (omega (arith, eqb-false u _ d, eqb-false u _ e))
+
+pub empties-below : {old num : List ℕ} {v : ℕ} → Emptying old num v → 1 < v → v ≤ 1024
+    → Emptying old (set (set num (2 * (v - 1)) 0) (2 * (v - 1) + 1) 0) (v - 1)
+empties-below {old} {num} {v} s l m = record {
+  numbers = simp length-set (s .numbers);
+  stands = λ u q. other u (λ e. omega arith) (λ e. omega arith) ∙ s .stands u (omega arith);
+  none = λ u q. go u q (eqb u (2 * (v - 1))) (eqb u (2 * (v - 1) + 1)) refl refl;
+}
+  where
+    other : (u : ℕ) → (u ≡ 2 * (v - 1) → ⊥) → (u ≡ 2 * (v - 1) + 1 → ⊥)
+        → at (set (set num (2 * (v - 1)) 0) (2 * (v - 1) + 1) 0) u ≡ at num u
+    other u a b = getD-set-other (set num (2 * (v - 1)) 0) (2 * (v - 1) + 1) u 0 0 b ∙ getD-set-other num (2 * (v - 1)) u 0 0 a
+
+    go : (u : ℕ) → 2 * (v - 1) ≤ u → (a b : Bool) → eqb u (2 * (v - 1)) ≡ a → eqb u (2 * (v - 1) + 1) ≡ b
+        → at (set (set num (2 * (v - 1)) 0) (2 * (v - 1) + 1) 0) u ≡ 0
+    go u q true b d e = let z = eqb-true u (2 * (v - 1)) d in
+        getD-set-other (set num (2 * (v - 1)) 0) (2 * (v - 1) + 1) u 0 0 (λ y. omega arith)
+        ∙ rw z (getD-set-same num (2 * (v - 1)) 0 0 (omega (arith, s .numbers)))
+    go u q false true d e = rw (eqb-true u (2 * (v - 1) + 1) e)
+        (getD-set-same (set num (2 * (v - 1)) 0) (2 * (v - 1) + 1) 0 0 (simp length-set (omega (arith, s .numbers))))
+    go u q false false d e = let a = eqb-false u (2 * (v - 1)) d in let b = eqb-false u (2 * (v - 1) + 1) e in
+        other u a b ∙ s .none u (omega arith)
+
+pub empties-all : {old num : List ℕ} {v : ℕ} → Emptying old num v → v ≤ 1 → (u : ℕ) → at (set (set num 1 0) 0 0) u ≡ 0
+empties-all {old} {num} {v} s l u = go (eqb u 0) (eqb u 1) refl refl
+  where
+    go : (a b : Bool) → eqb u 0 ≡ a → eqb u 1 ≡ b → at (set (set num 1 0) 0 0) u ≡ 0
+    go true b d e = rw (eqb-true u 0 d) (getD-set-same (set num 1 0) 0 0 0 (simp length-set (omega (arith, s .numbers))))
+    go false true d e = getD-set-other (set num 1 0) 0 u 0 0 (eqb-false u 0 d)
+        ∙ rw (eqb-true u 1 e) (getD-set-same num 1 0 0 (omega (arith, s .numbers)))
+    go false false d e = let a = eqb-false u 0 d in let b = eqb-false u 1 e in
+        getD-set-other (set num 1 0) 0 u 0 0 a ∙ getD-set-other num 1 u 0 0 b ∙ s .none u (omega arith)

@@ -2,7 +2,7 @@
 // known of that bid. `seat` sets it up, `update` changes what is known of a bid; node 1 has the bid that comes before all others.
 ghost use mathlib.Core.Path.{_≡_};
 ghost use mathlib.Core.Bool.{true, false};
-ghost use Prim.Native.Nat.{_+_, _*_, _<_, _≤_};
+ghost use Prim.Native.Nat.{ℕ, _+_, _*_, _<_, _≤_};
 ghost use lib.ListN.{length, set};
 ghost use Rattle.multi_tournament.specs.Tournament.{at, Priced, known, Leads, Seats, Tournament, Seated, Put, Played};
 
@@ -89,4 +89,22 @@ pub fn seat(who: &mut [u64])
             who[v] = who[2 * v];
         }
     }
+}
+
+// Forgets what is known of every bid: below a node without cells there are none.
+pub fn empty(prices: &[u64], who: &[u64], num: &mut [u64])
+    requires { ⌜ Tournament (now prices) (now who) (now num) ⌝ }
+    ensures { λ _. ⌜ Tournament (now (prices .entry)) (now (who .entry)) (now (num .exit))
+        × ((v : ℕ) → at (now (num .exit)) v ≡ 0) ⌝ }
+{
+    let mut v: usize = 1024;
+    while 1 < v {
+        v -= 1;
+        if 0 < num[v] {
+            num[2 * v] = 0;
+            num[2 * v + 1] = 0;
+        }
+    }
+    num[1] = 0;
+    num[0] = 0;
 }
