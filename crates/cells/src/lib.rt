@@ -190,7 +190,7 @@ pub fn add(words: &mut [u64], x: usize)
 
 // The first cell from word `first` on that is in a and not in b; past the last cell where there is none.
 fn next_from(a: &[u64], b: &[u64], first: usize) -> usize
-    requires { ⌜ (length (now a) ≡ length (now b)) × ((length (now a) ≤ 65536) × (first ≤ length (now a))) ⌝ }
+    requires { ⌜ (length (now a) ≤ length (now b)) × ((length (now a) ≤ 65536) × (first ≤ length (now a))) ⌝ }
     ensures { λ r. ⌜ Next (now (a .entry)) (now (b .entry)) (64 * first) r ⌝ }
 {
     let mut q = first;
@@ -206,7 +206,7 @@ fn next_from(a: &[u64], b: &[u64], first: usize) -> usize
 
 // The first x from `from` on that is in a and not in b; past the last cell where there is none.
 pub fn next(a: &[u64], b: &[u64], from: usize) -> usize
-    requires { ⌜ (length (now a) ≡ length (now b)) × ((length (now a) ≤ 65536) × (from ≤ 64 * length (now a))) ⌝ }
+    requires { ⌜ (length (now a) ≤ length (now b)) × ((length (now a) ≤ 65536) × (from ≤ 64 * length (now a))) ⌝ }
     ensures { λ r. ⌜ Next (now (a .entry)) (now (b .entry)) from r ⌝ }
 {
     let q = from / 64;

@@ -80,7 +80,7 @@ fn settle(
         × ((length (now hop) ≡ length (now masks)) × ((length (now index) ≡ 16 * w)
         × ((length (now held) ≡ w) × ((length (now alt) ≡ w)
         × ((length (now counts) ≡ w + 2) × ((length (now who) ≡ 2048)
-        × ((length (now num) ≡ 2048) × ((length (now mark) ≡ 16)
+        × ((length (now num) ≡ 2048) × ((length (now mark) ≡ 32)
         × ((length (now won) ≡ length (now prices)) × (length (now cents) ≡ length (now prices)))))))))))))) ⌝ }
     ensures { λ _. ⌜ Paid (now (prices .entry)) (now (masks .entry)) w count (now (won .exit)) (now (cents .exit)) ⌝ }
 {
@@ -147,7 +147,7 @@ fn award_in(
         × ((158 * maxEntries ≤ length (now hop)) × ((2528 ≤ length (now index))
         × ((158 ≤ length (now held)) × ((158 ≤ length (now alt))
         × ((160 ≤ length (now counts)) × ((length (now who) ≡ 2048)
-        × ((length (now num) ≡ 2048) × ((length (now mark) ≡ 16)
+        × ((length (now num) ≡ 2048) × ((length (now mark) ≡ 32)
         × ((length (now prices) ≤ length (now won)) × (length (now prices) ≤ length (now cents)))))))))))))) ⌝ }
     ensures { λ _. ⌜ Settled (Spare (has (now (masks .entry)) w) (length (now (prices .entry))) count)
         (wins (has (now (masks .entry)) w) (now (prices .entry)) (cells count))
@@ -205,7 +205,7 @@ pub fn award(
     let mut counts = [0u64; 160];
     let mut who = [0u64; 2048];
     let mut num = [0u64; 2048];
-    let mut mark = [0u64; 16];
+    let mut mark = [0u64; 32];
     award_in(
         prices,
         masks,

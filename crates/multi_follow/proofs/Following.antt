@@ -23,10 +23,10 @@ use Rattle.multi_rounds.specs.OpensLaws.{opens-same, reach-alike, reach-open, c
 use Rattle.multi_rounds.specs.TracingLaws.{main-best}
 use Rattle.cells.specs.FillingLaws.{no-cell}
 use Rattle.multi_marks.specs.Marks.{Disturbed, Strayed}
-use Rattle.multi_follow.specs.Follow.{raisedTo, Raised, bar-from, Standing, Course, Following, Takes, Advances, Followed}
+use Rattle.multi_follow.specs.Follow.{raisedTo, Raised, bar-from, Standing, Course, Following, Takes, Advances, Loses, Followed}
 use Rattle.multi_follow.proofs.Limiting.{others, bar-none}
-use Rattle.multi_follow.proofs.Strayed.{both-close, main-closes, other-closes, after-scan, scan-main, scan-other, scan-last}
-use Rattle.multi_follow.proofs.Strayed.{scan-none}
+use Rattle.multi_follow.proofs.Strayed.{Apart, both-close, main-closes, other-closes, touched-on, alike, after-scan, scan-main}
+use Rattle.multi_follow.proofs.Strayed.{scan-other, scan-last, scan-none}
 
 pub gains-some : {ps ms : List ℕ} {w n : ℕ} {order gains : List ℕ} {rounds : ℕ} → Trace ps ms w n order gains rounds → (g : ℕ)
     → g < rounds → 0 < at gains g
@@ -54,6 +54,7 @@ strayed-as s e = record {
   out = s .out;
   bound = s .bound;
   within = λ i l z x h. omega (arith, s .within i l z x h, e x);
+  same = λ i l z f x h. s .same i l z f x h ∙ e x;
 }
 
 module _ {ps ms hop index : List ℕ} {w n : ℕ} {order gains : List ℕ} {rounds h k : ℕ}
@@ -114,6 +115,24 @@ module _ {ps ms hop index : List ℕ} {w n : ℕ} {order gains : List ℕ} {roun
             (scan-none inside (co .market .words) (s .strayed) f e q (over-main m))) ∙ omega arith));
         small = s .small;
       }
+
+    -- more bids are touched
+    pub touches : {b g′ : ℕ} {mark′ : List ℕ} → Loses ps ms w alt b mark mark′ g g′
+        → Following ps ms w n order gains rounds h k alt stale mark′ top mine g
+    touches d = record {
+      strayed = touched-on inside (co .market .words) (s .strayed) (omega (arith, co .market .priced .count)) d;
+      reached = s .reached;
+      own = s .own;
+      few = s .few;
+      gone = s .gone;
+      highest = s .highest;
+      small = s .small;
+    }
+
+    -- a bid that is neither marked nor touched reaches what it reaches in the main run
+    pub reaches-alike : g < rounds → cell mark (at order g) ≡ 0 → cell mark (1024 + at order g) ≡ 0
+        → common alt (wordRow ms w (at order g)) ≡ at gains g
+    reaches-alike l z f = alike inside (co .market .words) (s .strayed) (at order g) (co .main .route .inside g l) z f ∙ sym (co .main .gets g l)
 
     gone-after : (x : ℕ) → cell (wordRow ms w k) x ≡ 1 → before ms w n order (g + 1) x ≡ 0
     unfolding before
@@ -195,10 +214,11 @@ module _ {ps ms hop index : List ℕ} {w n : ℕ} {order gains : List ℕ} {roun
         own-now : next ≡ reach (has ms w k) (openOf rest)
         own-now = y ∙ sym (reach-open rest ms w k)
 
-        pub advance-step : {g′ : ℕ} → Advances order rounds g b g′ → Following ps ms w n order gains rounds h k rest stale mark more next g′
-        advance-step (inl (z, (l, q))) = rw z (both-with q l own-now next-few)
-        advance-step (inr z) = rw z (record {
-          strayed = other-closes inside (co .market .words) (s .strayed) b e d;
+        pub advance-step : {g′ : ℕ} → Advances order rounds g b g′ → (g′ ≡ g → Apart ps ms w alt b mark)
+            → Following ps ms w n order gains rounds h k rest stale mark more next g′
+        advance-step (inl (z, (l, q))) v = rw z (both-with q l own-now next-few)
+        advance-step (inr z) v = rw z (record {
+          strayed = other-closes inside (co .market .words) (s .strayed) b e d (v z);
           reached = s .reached;
           own = own-now;
           few = next-few;
@@ -249,4 +269,5 @@ module _ {ps ms hop index : List ℕ} {w n : ℕ} {order gains : List ℕ} {roun
         out = λ i m y. zs i;
         bound = λ i m y e. absurd (omega (arith, unmarked i e));
         within = λ i m y x e. omega (arith, st .stands x);
+        same = λ i m y f x e. st .stands x;
       }

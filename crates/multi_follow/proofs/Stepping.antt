@@ -17,8 +17,9 @@ use Rattle.multi_rounds.specs.WordRowLaws.{row-in}
 use Rattle.multi_rounds.specs.BeginLaws.{sized-of}
 use Rattle.multi_marks.specs.Marks.{Disturbed}
 use Rattle.multi_rounds.specs.OpensLaws.{two-way}
-use Rattle.multi_follow.specs.Follow.{Took, Course, Walking, Takes, Advances, Stepped}
-use Rattle.multi_follow.proofs.Following.{scanned, ends-none, skips, fewer-open, main-step, advance-step}
+use Rattle.multi_follow.specs.Follow.{Took, Course, Walking, Takes, Advances, Loses, Stepped}
+use Rattle.multi_follow.proofs.Following.{scanned, ends-none, touches, skips, fewer-open, main-step, advance-step}
+use Rattle.multi_follow.proofs.Strayed.{Apart}
 
 module _ {ps ms hop index : List ℕ} {w n : ℕ} {order gains : List ℕ} {rounds h k : ℕ}
     (co : Course ps ms hop index w n order gains rounds h k) where
@@ -39,6 +40,11 @@ module _ {ps ms hop index : List ℕ} {w n : ℕ} {order gains : List ℕ} {roun
         → Fronted ps ms w alt (known num) (known num′) rival ask gain free b p c clear
         → Counted alt counts′ → Walking ps ms w n order gains rounds h k alt counts′ who′ num′ mark top mine g
     fronted t f y = record { follow = scanned co (s .follow) f; tree = t; counted = y; marks = s .marks }
+
+    -- more bids are touched
+    pub touched : {b g′ : ℕ} {mark′ : List ℕ} → length mark′ ≡ length mark → Loses ps ms w alt b mark mark′ g g′
+        → Walking ps ms w n order gains rounds h k alt counts who num mark′ top mine g
+    touched e d = record { follow = touches co (s .follow) d; tree = s .tree; counted = s .counted; marks = e ∙ s .marks }
 
     -- the run without k takes bid b
     module _ {b p c : ℕ} (t : Takes ps ms w k alt b p c) {more : ℕ} (r : Took k b p c mine top more) {rest counts′ : List ℕ}
@@ -61,12 +67,12 @@ module _ {ps ms hop index : List ℕ} {w n : ℕ} {order gains : List ℕ} {roun
       }
 
       module _ {next : ℕ} (x : next ≡ common rest (wordRow ms w k)) where
-        pub advance-goes : {g′ : ℕ} → Advances order rounds g b g′
+        pub advance-goes : {g′ : ℕ} → Advances order rounds g b g′ → (g′ ≡ g → Apart ps ms w alt b mark)
             → Stepped ps ms w n order gains rounds h k alt rest counts′ who num mark g top g′ next more false
-        advance-goes v = record {
+        advance-goes v u = record {
           tree = s .tree;
           goes = λ a. record {
-            follow = advance-step co (s .follow) t (r .raised-by) (r .is) e d x v;
+            follow = advance-step co (s .follow) t (r .raised-by) (r .is) e d x v u;
             tree = s .tree;
             counted = y;
             marks = s .marks;

@@ -18,15 +18,20 @@ use Rattle.cover.specs.Sets.{nothing, found}
 use Rattle.multi_follow.proofs.Astray.{Bound, takes-main, takes-other, takes-last}
 use Rattle.multi_follow.proofs.Limiting.{others}
 use Rattle.multi_marks.specs.Marks.{Disturbed, Strayed}
-use Rattle.multi_follow.specs.Follow.{Takes}
+use Rattle.multi_follow.specs.Follow.{Takes, Loses}
 use Rattle.multi_rounds.specs.ChosenLaws.{right-ext}
 use Rattle.multi_rounds.specs.FrontingLaws.{right-one, turned}
 use Rattle.multi_rounds.specs.BeginLaws.{common-few}
-use Rattle.multi_rounds.specs.OpensLaws.{reach-open, close-open, reach-less, two-way}
+use Rattle.multi_rounds.specs.OpensLaws.{reach-open, close-open, reach-less, reach-alike, two-way}
 use Rattle.multi_rounds.specs.Market.{wordRow, has, live, Sized, Known, Fronted}
 use Rattle.multi_tournament.specs.Tournament.{at}
 use Rattle.multi_tournament.specs.OrderLaws.{zero-or}
 use Rattle.multi_rounds.specs.Trace.{opens, openOf}
+
+-- a bid that is not touched shares no open cell with bid j
+abbrev pub Apart : List ℕ → List ℕ → ℕ → List ℕ → ℕ → List ℕ → Type 0
+Apart ps ms w alt j mark = (i : ℕ) → i < length ps → cell mark (1024 + i) ≡ 0 → (x : ℕ) → cell (wordRow ms w i) x ≡ 1
+    → cell (wordRow ms w j) x ≡ 1 → cell alt x ≡ 0
 
 module _ {ps ms : List ℕ} {w k : ℕ} {alt stale mark : List ℕ} {og : ℕ → ℕ} (inside : k < length ps) (few-words : w ≤ 158)
     (s : Strayed ps ms w k alt stale mark og) where
@@ -51,37 +56,65 @@ module _ {ps ms : List ℕ} {w k : ℕ} {alt stale mark : List ℕ} {og : ℕ �
   pub not-own : (i : ℕ) → cell mark i ≡ 0 → i ≡ k → ⊥
   not-own i e d = omega (arith, s .own, rw d at e)
 
-  -- this run closes bid m, and what the main run has open of the other cells stays open there
+  -- this run closes bid m
   module _ (m : ℕ) {new : List ℕ} (e : length new ≡ length alt) (c : Closed alt (wordRow ms w m) new) where
     falls : (i : ℕ) → common new (wordRow ms w i) ≤ common alt (wordRow ms w i)
     falls i = rw (← reach-open new ms w i, ← reach-open alt ms w i, ← close-open alt new ms w m e c)
         (close-other (has ms w m) (has ms w i) (openOf alt))
 
-    closes-with : {og′ : ℕ → ℕ} → ((x : ℕ) → og x - cell (wordRow ms w m) x ≤ og′ x) → Strayed ps ms w k new stale mark og′
-    closes-with y = record {
+    -- both runs close bid m
+    pub both-close : Strayed ps ms w k new stale mark (λ x. og x - cell (wordRow ms w m) x)
+    both-close = record {
       words = e ∙ s .words;
       sized = s .sized;
       own = s .own;
       skip = s .skip;
       out = s .out;
       bound = λ i l g d. omega (arith, s .bound i l g d, falls i);
-      within = λ i l z x h. omega (arith, c .clears x, s .within i l z x h, y x);
+      within = λ i l z x h. omega (arith, c .clears x, s .within i l z x h);
+      same = λ i l z f x h. omega (arith, c .clears x, s .same i l z f x h);
     }
 
-    -- both runs close bid m
-    pub both-close : Strayed ps ms w k new stale mark (λ x. og x - cell (wordRow ms w m) x)
-    both-close = closes-with (λ x. omega arith)
+    -- this run alone closes bid m, and the bids that share an open cell with it are touched: none gains
+    pub other-closes : Apart ps ms w alt m mark → Strayed ps ms w k new stale mark og
+    other-closes d = record {
+      words = e ∙ s .words;
+      sized = s .sized;
+      own = s .own;
+      skip = s .skip;
+      out = s .out;
+      bound = λ i l g n. omega (arith, s .bound i l g n, falls i);
+      within = λ i l z x h. omega (arith, c .clears x, s .within i l z x h);
+      same = λ i l z f x h. ⊎-elim (λ a. omega (arith, c .clears x, s .same i l z f x h))
+          (λ a. omega (arith, c .clears x, s .same i l z f x h, d i l f x h a)) (two-way (wordRow ms w m) x);
+    }
 
-    -- this run alone closes bid m: no bid gains by it
-    pub other-closes : Strayed ps ms w k new stale mark og
-    other-closes = closes-with (λ x. omega arith)
+  -- more bids are touched
+  pub touched-on : {b g g′ : ℕ} {mark′ : List ℕ} → length ps ≤ 1024 → Loses ps ms w alt b mark mark′ g g′
+      → Strayed ps ms w k alt stale mark′ og
+  touched-on {mark′ = mark′} few d = record {
+    words = s .words;
+    sized = s .sized;
+    own = omega (arith, d .kept k (omega (arith, inside)), s .own);
+    skip = s .skip;
+    out = λ i l z. s .out i l (was i l z);
+    bound = λ i l g n. s .bound i l (omega (arith, d .kept i (omega arith))) n;
+    within = λ i l z x h. s .within i l (was i l z) x h;
+    same = λ i l z f x h. s .same i l (was i l z) (d .still i l f) x h;
+  }
+    where
+      was : (i : ℕ) → i < length ps → cell mark′ i ≡ 0 → cell mark i ≡ 0
+      was i l z = sym (d .kept i (omega arith)) ∙ z
 
   module _ {j : ℕ} {stale′ mark′ : List ℕ} (z′ : Sized stale′) (d : Disturbed ps ms w alt j stale mark stale′ mark′) where
     was-free : (i : ℕ) → i < length ps → cell mark′ i ≡ 0 → cell mark i ≡ 0
-    was-free i l z = ⊎-elim (λ a. a) (λ a. absurd (omega (arith, d .kept i l a .0))) (zero-or (cell mark i))
+    was-free i l z = ⊎-elim (λ a. a) (λ a. absurd (omega (arith, d .kept i a .0))) (zero-or (cell mark i))
+
+    was-untouched : (i : ℕ) → cell mark′ (1024 + i) ≡ 0 → cell mark (1024 + i) ≡ 0
+    was-untouched i z = ⊎-elim (λ a. a) (λ a. absurd (omega (arith, d .kept (1024 + i) a .0))) (zero-or (cell mark (1024 + i)))
 
     bound-after : (i : ℕ) → i < length ps → 0 < cell mark′ i → (i ≡ k → ⊥) → common alt (wordRow ms w i) ≤ at stale′ i
-    bound-after i l g n = ⊎-elim (λ a. omega (arith, d .moved i l a g)) (λ a. omega (arith, d .kept i l a .1, s .bound i l a n))
+    bound-after i l g n = ⊎-elim (λ a. omega (arith, d .moved i l a g)) (λ a. omega (arith, d .kept i a .1, s .bound i l a n))
         (zero-or (cell mark i))
 
     -- the main run alone closes bid j
@@ -89,12 +122,14 @@ module _ {ps ms : List ℕ} {w k : ℕ} {alt stale mark : List ℕ} {og : ℕ �
     main-closes = record {
       words = s .words;
       sized = z′;
-      own = omega (arith, d .kept k inside (s .own) .0, s .own);
-      skip = d .kept k inside (s .own) .1 ∙ s .skip;
+      own = omega (arith, d .kept k (s .own) .0, s .own);
+      skip = d .kept k (s .own) .1 ∙ s .skip;
       out = λ i l z. d .still i l z .0 ∙ s .out i l (was-free i l z);
       bound = bound-after;
       within = λ i l z x h. ⊎-elim (λ a. omega (arith, s .within i l (was-free i l z) x h))
           (λ a. omega (arith, d .still i l z .1 x h a)) (two-way (wordRow ms w j) x);
+      same = λ i l z f x h. let y = s .same i l (was-free i l z) (was-untouched i f) x h in
+          ⊎-elim (λ a. omega (arith, y)) (λ a. omega (arith, y, d .still i l z .1 x h a)) (two-way (wordRow ms w j) x);
     }
 
   -- a scan of the marked bids
@@ -126,6 +161,12 @@ module _ {ps ms : List ℕ} {w k : ℕ} {alt stale mark : List ℕ} {og : ℕ �
   unfolding bids openOf has
   no-more i l z = rw (withdrawn-other k (bids (has ms w) ps) i (not-own i z), s .words)
       (reach-less (has ms w i) (cell alt) og (64 * w) (λ x h. s .within i l z x (eqb-true (cell (wordRow ms w i) x) 1 h)))
+
+  -- nor lose where it is not touched
+  pub alike : (i : ℕ) → i < length ps → cell mark i ≡ 0 → cell mark (1024 + i) ≡ 0 → common alt (wordRow ms w i) ≡ main i
+  unfolding openOf has
+  alike i l z f = sym (reach-open alt ms w i) ∙ rw (s .words)
+      (reach-alike (has ms w i) (cell alt) og (64 * w) (λ x h. s .same i l z f x (eqb-true (cell (wordRow ms w i) x) 1 h)))
 
   price : (i : ℕ) → i < length ps → 0 < other i → at ps i ≡ others k ps ms w i .price
   unfolding bids
@@ -159,6 +200,7 @@ module _ {ps ms : List ℕ} {w k : ℕ} {alt stale mark : List ℕ} {og : ℕ �
       out = λ i l z. omega (arith, f .high i, s .out i l z);
       bound = λ i l g d. omega (arith, live-in i l g, other-is i d, f .low i l);
       within = s .within;
+      same = s .same;
     }
 
     -- no marked bid comes before the front

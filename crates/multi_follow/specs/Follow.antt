@@ -62,7 +62,7 @@ pub record Walking (ps ms : List ℕ) (w n : ℕ) (order gains : List ℕ) (roun
   pub follow : Following ps ms w n order gains rounds h k alt (known num) mark top mine g
   pub tree : Tournament ps who num
   pub counted : Counted alt counts
-  pub marks : length mark ≡ 16
+  pub marks : length mark ≡ 32
 
 -- the run without k takes bid b next, which asks p for c cells
 pub record Takes (ps ms : List ℕ) (w k : ℕ) (alt : List ℕ) (b p c : ℕ) : Type 0 where
@@ -77,6 +77,13 @@ pub record Takes (ps ms : List ℕ) (w k : ℕ) (alt : List ℕ) (b p c : ℕ) :
 -- where the run without k takes bid b the main run comes from round g to round g′: it takes b too, or stays
 abbrev pub Advances : List ℕ → ℕ → ℕ → ℕ → ℕ → Type 0
 Advances order rounds g b g′ = ((g′ ≡ g + 1) × ((g < rounds) × (b ≡ at order g))) ⊎ (g′ ≡ g)
+
+-- where the main run stays the bids that share an open cell with bid b are touched
+pub record Loses (ps ms : List ℕ) (w : ℕ) (alt : List ℕ) (b : ℕ) (mark mark′ : List ℕ) (g g′ : ℕ) : Type 0 where
+  pub kept : (x : ℕ) → x < 1024 → cell mark′ x ≡ cell mark x
+  pub still : (i : ℕ) → i < length ps → cell mark′ (1024 + i) ≡ 0 → cell mark (1024 + i) ≡ 0
+  pub apart : g′ ≡ g → (i : ℕ) → i < length ps → cell mark′ (1024 + i) ≡ 0 → (x : ℕ) → cell (wordRow ms w i) x ≡ 1
+      → cell (wordRow ms w b) x ≡ 1 → cell alt x ≡ 0
 
 -- one more than the highest price at which the bid of round h is taken from there on in the run without it
 pub record Followed (ps ms : List ℕ) (w n : ℕ) (order : List ℕ) (h r : ℕ) : Type 0 where

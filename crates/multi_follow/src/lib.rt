@@ -11,8 +11,9 @@ ghost use Rattle.cover.specs.CriticalPrice.{late};
 ghost use Rattle.cells.specs.Cells.{Closed};
 ghost use Rattle.cells_count.specs.Hops.{Hops, Counted};
 ghost use Rattle.multi_tournament.specs.Tournament.{at};
-ghost use Rattle.multi_rounds.specs.Market.{wordRow};
-ghost use Rattle.multi_follow.specs.Follow.{Raised, Took, Course, Walking, Takes, Advances, Stepped};
+ghost use Rattle.multi_rounds.specs.Market.{wordRow, Market, Hopping};
+ghost use Rattle.multi_marks.specs.Marks.{Indexed};
+ghost use Rattle.multi_follow.specs.Follow.{Raised, Took, Course, Walking, Takes, Advances, Loses, Stepped};
 
 fn higher(a: u64, b: u64) -> u64
     ensures { λ r. ⌜ r ≡ max a b ⌝ }
@@ -79,6 +80,31 @@ pub struct Move {
     pub over: bool,
 }
 
+// Touches the bids that share an open cell with bid b, where the main run stays before round g.
+fn lose(
+    prices: &[u64],
+    masks: &[u64],
+    hop: &[u8],
+    index: &[u64],
+    w: usize,
+    alt: &[u64],
+    b: usize,
+    g: usize,
+    next: usize,
+    mark: &mut [u64],
+)
+    requires { ⌜ Market (now prices) (now masks) w ×
+        (Hopping (now prices) (now masks) (now hop) w × (Indexed (now prices) (now masks) (now index) w × ((length (now alt) ≡ w)
+        × ((b < length (now prices)) × (length (now mark) ≡ 32))))) ⌝ }
+    ensures { λ _. ⌜ Loses (now (prices .entry)) (now (masks .entry)) w (now (alt .entry)) b (now (mark .entry)) (now (mark .exit))
+        g next ⌝ }
+{
+    if g < next {
+        return;
+    }
+    multi_marks::touch(prices, masks, hop, index, w, alt, b, mark);
+}
+
 // The run without k takes bid b; the main run, before round g till then, comes to round `next`.
 pub fn advance(
     prices: &[u64],
@@ -113,6 +139,7 @@ pub fn advance(
         (now (alt .entry)) (now (alt .exit)) (now (counts .exit)) (now (who .exit)) (now (num .exit)) (now (mark .exit)) g top (r .g)
         (r .mine) (r .top) (r .over) ⌝ }
 {
+    lose(prices, masks, hop, index, w, alt, b, g, next, mark);
     let t = take(masks, hop, w, k, b, p, c, mine, top, alt, counts);
     let y = multi_rounds::overlap(alt, counts, masks, hop, w, k);
     Move {

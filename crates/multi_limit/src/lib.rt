@@ -29,7 +29,7 @@ fn begin(
     requires { ⌜ Course (now prices) (now masks) (now hop) (now index) w count (now order) (now gains) rounds h k
         × (Standing (now masks) w count (now order) h (now held)
         × ((length (now alt) ≡ w) × ((length (now counts) ≡ w + 2)
-        × (Tournament (now prices) (now who) (now num) × (length (now mark) ≡ 16))))) ⌝ }
+        × (Tournament (now prices) (now who) (now num) × (length (now mark) ≡ 32))))) ⌝ }
     ensures { λ _. ⌜ Walking (now (prices .entry)) (now (masks .entry)) w count (now (order .entry)) (now (gains .entry)) rounds h k
         (now (alt .exit)) (now (counts .exit)) (now (who .exit)) (now (num .exit)) (now (mark .exit)) 0 (at (now (gains .entry)) h)
         (h + 1) ⌝ }
@@ -65,7 +65,7 @@ pub fn limit_in(
     requires { ⌜ Course (now prices) (now masks) (now hop) (now index) w count (now order) (now gains) rounds h k
         × (Standing (now masks) w count (now order) h (now held)
         × ((length (now alt) ≡ w) × ((length (now counts) ≡ w + 2)
-        × (Tournament (now prices) (now who) (now num) × (length (now mark) ≡ 16))))) ⌝ }
+        × (Tournament (now prices) (now who) (now num) × (length (now mark) ≡ 32))))) ⌝ }
     ensures { λ r. ⌜ Followed (now (prices .entry)) (now (masks .entry)) w count (now (order .entry)) h r
         × Tournament (now (prices .entry)) (now (who .exit)) (now (num .exit)) ⌝ }
 {

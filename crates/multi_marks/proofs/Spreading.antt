@@ -28,14 +28,14 @@ word-in {ps} {ms} {w} {i} m l h = omega (arith, row-in ps ms w i m l)
 
 -- the bids below i are done
 pub record Spreading (ps ms : List ℕ) (w : ℕ) (alt : List ℕ) (q m : ℕ) (stale mark stale′ mark′ : List ℕ) (i : ℕ) : Type 0 where
-  pub kept : (b : ℕ) → b < length ps → 0 < cell mark b → (cell mark′ b ≡ cell mark b) × (at stale′ b ≡ at stale b)
+  pub kept : (b : ℕ) → 0 < cell mark b → (cell mark′ b ≡ cell mark b) × (at stale′ b ≡ at stale b)
   pub same : (b : ℕ) → b < length ps → cell mark′ b ≡ 0 → at stale′ b ≡ at stale b
   pub still : (b : ℕ) → b < i → b < length ps → cell mark′ b ≡ 0 → bitAnd (at (wordRow ms w b) q) m ≡ 0
   pub moved : (b : ℕ) → b < length ps → cell mark b ≡ 0 → 0 < cell mark′ b → at stale′ b ≡ common alt (wordRow ms w b)
 
 pub begins : (ps ms : List ℕ) (w : ℕ) (alt : List ℕ) (q m : ℕ) (stale mark : List ℕ) → Spreading ps ms w alt q m stale mark stale mark 0
 begins ps ms w alt q m stale mark = record {
-  kept = λ b l g. (refl, refl);
+  kept = λ b g. (refl, refl);
   same = λ b l z. refl;
   still = λ b l. absurd (omega arith);
   moved = λ b l z g. absurd (omega arith);
@@ -73,7 +73,7 @@ module _ {ps ms : List ℕ} {w : ℕ} {alt : List ℕ} {q m : ℕ} {stale mark s
       → new ≡ set stale′ i v → RangeAdded i (i + 1) mark′ next
       → Spreading ps ms w alt q m stale mark new next (i + 1)
   adds {v} {new} {next} l ls z e d f = record {
-    kept = λ b a g. let n = free b a g in let k = s .kept b a g in (other-mark b n ∙ k .0, other-stale b n ∙ k .1);
+    kept = λ b g. let n = free b g in let k = s .kept b g in (other-mark b n ∙ k .0, other-stale b n ∙ k .1);
     same = λ b a y. let n : (b ≡ i → ⊥) = λ j. omega (arith, own-mark, rw j at y) in other-stale b n
         ∙ s .same b a (sym (other-mark b n) ∙ y);
     still = λ b a c y. let n : (b ≡ i → ⊥) = λ j. omega (arith, own-mark, rw j at y) in
@@ -90,8 +90,8 @@ module _ {ps ms : List ℕ} {w : ℕ} {alt : List ℕ} {q m : ℕ} {stale mark s
       other-stale : (b : ℕ) → (b ≡ i → ⊥) → at new b ≡ at stale′ b
       other-stale b n = ap (λ (xs : List ℕ). at xs b) d ∙ getD-set-other stale′ i b v 0 n
 
-      free : (b : ℕ) → b < length ps → 0 < cell mark b → b ≡ i → ⊥
-      free b a g j = omega (arith, s .kept b a g .0, rw (← j) at z)
+      free : (b : ℕ) → 0 < cell mark b → b ≡ i → ⊥
+      free b g j = omega (arith, s .kept b g .0, rw (← j) at z)
 
       go : (b : ℕ) → b < length ps → cell mark b ≡ 0 → 0 < cell next b → (t : Bool) → eqb b i ≡ t → at new b ≡ common alt (wordRow ms w b)
       go b a y g true j = rw (eqb-true b i j) (ap (λ (xs : List ℕ). at xs i) d ∙ getD-set-same stale′ i v 0 ls ∙ e)
@@ -103,14 +103,14 @@ module _ {ps ms : List ℕ} {w : ℕ} {alt : List ℕ} {q m : ℕ} {stale mark s
 pub no-cells : (ps ms : List ℕ) (w : ℕ) (alt : List ℕ) (q m : ℕ) (stale mark : List ℕ) → m ≡ 0
     → Spread ps ms w alt q m stale mark stale mark
 no-cells ps ms w alt q m stale mark e = record {
-  kept = λ b l g. (refl, refl);
+  kept = λ b g. (refl, refl);
   still = λ b l z. (refl, rw e (and-zero-r (at (wordRow ms w b) q)));
   moved = λ b l z g. absurd (omega arith);
 }
 
 -- ---- the words of bid j below q are done
 pub record Disturbing (ps ms : List ℕ) (w : ℕ) (alt : List ℕ) (j : ℕ) (stale mark stale′ mark′ : List ℕ) (q : ℕ) : Type 0 where
-  pub kept : (i : ℕ) → i < length ps → 0 < cell mark i → (cell mark′ i ≡ cell mark i) × (at stale′ i ≡ at stale i)
+  pub kept : (i : ℕ) → 0 < cell mark i → (cell mark′ i ≡ cell mark i) × (at stale′ i ≡ at stale i)
   pub same : (i : ℕ) → i < length ps → cell mark′ i ≡ 0 → at stale′ i ≡ at stale i
   pub still : (i : ℕ) → i < length ps → cell mark′ i ≡ 0 → (x : ℕ) → x < 64 * q → cell (wordRow ms w i) x ≡ 1 → cell (wordRow ms w j) x ≡ 1
       → cell alt x ≡ 0
@@ -118,14 +118,14 @@ pub record Disturbing (ps ms : List ℕ) (w : ℕ) (alt : List ℕ) (j : ℕ) (s
 
 pub starts : (ps ms : List ℕ) (w : ℕ) (alt : List ℕ) (j : ℕ) (stale mark : List ℕ) → Disturbing ps ms w alt j stale mark stale mark 0
 starts ps ms w alt j stale mark = record {
-  kept = λ i l g. (refl, refl);
+  kept = λ i g. (refl, refl);
   same = λ i l z. refl;
   still = λ i l z x m. absurd (omega arith);
   moved = λ i l z g. absurd (omega arith);
 }
 
 -- no cell of word q is in all three
-apart : (alt a b : List ℕ) (q x : ℕ) → bitAnd (at a q) (bitAnd (at alt q) (at b q)) ≡ 0 → x / 64 ≡ q → cell a x ≡ 1 → cell b x ≡ 1
+pub apart : (alt a b : List ℕ) (q x : ℕ) → bitAnd (at a q) (bitAnd (at alt q) (at b q)) ≡ 0 → x / 64 ≡ q → cell a x ≡ 1 → cell b x ≡ 1
     → cell alt x ≡ 0
 unfolding cell
 apart alt a b q x e f u v = rw f (omega (
@@ -145,14 +145,14 @@ pub goes : {ps ms : List ℕ} {w : ℕ} {alt : List ℕ} {j : ℕ} {stale mark s
     → m ≡ bitAnd (at alt q) (at (wordRow ms w j) q) → Spread ps ms w alt q m stale′ mark′ new next → Onward (wordRow ms w j) q r
     → Disturbing ps ms w alt j stale mark new next r
 goes {ps} {ms} {w} {alt} {j} {stale} {mark} {stale′} {mark′} {new} {next} {q} {r} {m} s e d o = record {
-  kept = λ i l g. let a = s .kept i l g in let b = d .kept i l (omega (arith, a .0)) in (b .0 ∙ a .0, b .1 ∙ a .1);
+  kept = λ i g. let a = s .kept i g in let b = d .kept i (omega (arith, a .0)) in (b .0 ∙ a .0, b .1 ∙ a .1);
   same = λ i l z. d .still i l z .0 ∙ s .same i l (was i l z);
   still = λ i l z x y u v. ⊎-elim (λ a. s .still i l (was i l z) x a u v) (λ a. word i l z x a y u v) (lt-or-le x (64 * q));
-  moved = λ i l z g. ⊎-elim (λ a. d .moved i l a g) (λ a. d .kept i l a .1 ∙ s .moved i l z a) (zero-or (cell mark′ i));
+  moved = λ i l z g. ⊎-elim (λ a. d .moved i l a g) (λ a. d .kept i a .1 ∙ s .moved i l z a) (zero-or (cell mark′ i));
 }
   where
     was : (i : ℕ) → i < length ps → cell next i ≡ 0 → cell mark′ i ≡ 0
-    was i l z = ⊎-elim (λ a. a) (λ a. absurd (omega (arith, d .kept i l a .0))) (zero-or (cell mark′ i))
+    was i l z = ⊎-elim (λ a. a) (λ a. absurd (omega (arith, d .kept i a .0))) (zero-or (cell mark′ i))
 
     word : (i : ℕ) → i < length ps → cell next i ≡ 0 → (x : ℕ) → 64 * q ≤ x → x < 64 * r → cell (wordRow ms w i) x ≡ 1
         → cell (wordRow ms w j) x ≡ 1 → cell alt x ≡ 0

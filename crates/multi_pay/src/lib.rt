@@ -35,7 +35,7 @@ fn pay(
     requires { ⌜ Ground (now prices) (now masks) (now hop) (now index) w count (now order) (now gains) rounds × ((h < rounds)
         × (Paying (now prices) (now masks) w count (now order) h (now held) (now won) (now cents)
         × ((length (now alt) ≡ w) × ((length (now counts) ≡ w + 2)
-        × (Tournament (now prices) (now who) (now num) × (length (now mark) ≡ 16)))))) ⌝ }
+        × (Tournament (now prices) (now who) (now num) × (length (now mark) ≡ 32)))))) ⌝ }
     ensures { λ _. ⌜ Paying (now (prices .entry)) (now (masks .entry)) w count (now (order .entry)) (h + 1) (now (held .exit))
         (now (won .exit)) (now (cents .exit))
         × Tournament (now (prices .entry)) (now (who .exit)) (now (num .exit)) ⌝ }
@@ -90,7 +90,7 @@ pub fn pay_all(
     requires { ⌜ Ground (now prices) (now masks) (now hop) (now index) w count (now order) (now gains) rounds
         × (Paying (now prices) (now masks) w count (now order) 0 (now held) (now won) (now cents)
         × ((length (now alt) ≡ w) × ((length (now counts) ≡ w + 2)
-        × (Tournament (now prices) (now who) (now num) × (length (now mark) ≡ 16))))) ⌝ }
+        × (Tournament (now prices) (now who) (now num) × (length (now mark) ≡ 32))))) ⌝ }
     ensures { λ _. ⌜ Paid (now (prices .entry)) (now (masks .entry)) w count (now (won .exit)) (now (cents .exit)) ⌝ }
 {
     let mut h = 0;

@@ -3,7 +3,12 @@
 // over. `step` gives where the run then stands, with the highest price so far at which k would be taken.
 ghost use mathlib.Core.Path.{_≡_};
 ghost use mathlib.Core.Logic.{_⊎_};
-ghost use Prim.Native.Nat.{_+_, _<_, _≤_};
+ghost use Prim.Native.Nat.{_+_, _*_, _<_, _≤_};
+ghost use lib.ListN.{length};
+ghost use lib.Dec.{eqb};
+ghost use Rattle.cells.specs.Cells.{cell, common};
+ghost use Rattle.cells_count.specs.Hops.{Hops, Counted};
+ghost use Rattle.multi_rounds.specs.Market.{wordRow};
 ghost use Rattle.multi_follow.specs.Follow.{Course, Walking, Stepped};
 
 // The round that the main run comes to where bid b is taken here, and m is its bid of round g.
@@ -12,6 +17,31 @@ fn after(g: usize, b: usize, m: usize) -> usize
     ensures { λ r. ⌜ ((b ≡ m) × (r ≡ g + 1)) ⊎ ((b ≡ m → ⊥) × (r ≡ g)) ⌝ }
 {
     if b == m { g + 1 } else { g }
+}
+
+// Whether bid m reaches v cells, as in the main run: one that is not touched does.
+fn alike(
+    masks: &[u64],
+    hop: &[u8],
+    w: usize,
+    alt: &[u64],
+    counts: &mut [u64],
+    mark: &[u64],
+    m: usize,
+    v: u64,
+) -> bool
+    requires { ⌜ ((length (now alt) ≡ w) × ((w ≤ 158)
+        × ((w * m + w ≤ length (now masks)) × ((length (now hop) ≡ length (now masks))
+        × (Counted (now alt) (now counts) × Hops (wordRow (now masks) w m) (wordRow (now hop) w m))))))
+        × (((m < 1024) × (length (now mark) ≡ 32))
+        × (cell (now mark) (1024 + m) ≡ 0 → common (now alt) (wordRow (now masks) w m) ≡ v)) ⌝ }
+    ensures { λ r. ⌜ (r ≡ eqb (common (now (alt .entry)) (wordRow (now (masks .entry)) w m)) v)
+        × Counted (now (alt .entry)) (now (counts .exit)) ⌝ }
+{
+    if cells::holds(mark, 1024 + m) {
+        return multi_rounds::overlap(alt, counts, masks, hop, w, m) == v;
+    }
+    true
 }
 
 // One step where the main run has a next bid.
@@ -50,7 +80,7 @@ fn along(
     let free = !cells::holds(mark, m);
     let f = multi_rounds::front(prices, masks, hop, w, alt, counts, who, num, m, p, v, free);
     if f.clear {
-        if multi_rounds::overlap(alt, counts, masks, hop, w, m) == v {
+        if alike(masks, hop, w, alt, counts, mark, m, v) {
             let t = multi_follow::take(masks, hop, w, k, m, p, v, mine, top, alt, counts);
             return multi_follow::Move {
                 g: g + 1,

@@ -18,13 +18,15 @@ shared-slice-read-m c =
 
 disturb-requires : tie.Need-disturb-requires
 disturb-requires c κs =
-    let c17 = c .before .before .before .before .before .before .before .before .before .before .before .before .before .before .before .before .before in
+    let c17 = c .before .before .before .before .before .before .before .before .before .before .before .before .before .before .before
+    .before .before in
     let P = c17 .pre in let co = P .0 in let s = P .1 .0 in
     (co .market, (co .hopping, (co .indexed, (words co s, (s .counted, (co .main .route .inside _ (P .1 .1), (s .tree, s .marks)))))))
 
 add-t21 : tie.Need-add-t21
 add-t21 c =
-    let c26 = c .before .before .before .before .before .before .before .before .before .before .before .before .before .before .before .before .before .before .before .before .before .before .before .before .before .before in
+    let c26 = c .before .before .before .before .before .before .before .before .before .before .before .before .before .before .before
+    .before .before .before .before .before .before .before .before .before .before .before in
     let P = c26 .pre in omega (arith, P .1 .1, P .0 .main .route .most)
 
 same-length : tie.Need-same-length
@@ -45,7 +47,8 @@ same-length-5 c = search needs
 returns : tie.Need-returns
 returns c =
     let c8 = c .before .before .before .before .before .before .before .before in
-    let c26 = c8 .before .before .before .before .before .before .before .before .before .before .before .before .before .before .before .before .before .before in
+    let c26 = c8 .before .before .before .before .before .before .before .before .before .before .before .before .before .before .before
+    .before .before .before in
     let P = c26 .pre in skip-goes (P .0) (P .1 .0) (P .1 .1) (c8 .disturb .ensures .0)
     (c8 .disturb .kept .1 .1 .1 .1 .1 .1 .1 .1 .1 .1 .0) (c8 .disturb .ensures .1 .0) (c8 .disturb .ensures .1 .1)
 

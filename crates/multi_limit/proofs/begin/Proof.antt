@@ -24,7 +24,8 @@ count-none-requires c κs =
 
 empty-requires : tie.Need-empty-requires
 empty-requires c κs =
-    let c23 = c .before .before .before .before .before .before .before .before .before .before .before .before .before .before .before .before .before .before .before .before .before .before .before in
+    let c23 = c .before .before .before .before .before .before .before .before .before .before .before .before .before .before .before
+    .before .before .before .before .before .before .before .before in
     c23 .pre .1 .1 .1 .1 .0
 
 clear-requires : tie.Need-clear-requires
@@ -32,8 +33,15 @@ clear-requires c κs = search needs
 
 add-requires : tie.Need-add-requires
 add-requires c κs =
-    let c31 = c .before .before .before .before .before .before .before .before .before .before .before .before .before .before .before .before .before .before .before .before .before .before .before .before .before .before .before .before .before .before .before in
-    let P = c31 .pre in omega (arith, inside (P .0), P .0 .market .priced .count, c .before .before .before .clear .kept .0, P .1 .1 .1 .1 .1)
+    let c31 = c .before .before .before .before .before .before .before .before .before .before .before .before .before .before .before
+    .before .before .before .before .before .before .before .before .before .before .before .before .before .before .before .before in
+    let P = c31 .pre in omega (
+      arith,
+      inside (P .0),
+      P .0 .market .priced .count,
+      c .before .before .before .clear .kept .0,
+      P .1 .1 .1 .1 .1,
+    )
 
 disturb-requires : tie.Need-disturb-requires
 disturb-requires c κs =
@@ -49,7 +57,9 @@ disturb-requires c κs =
 
 same-length : tie.Need-same-length
 same-length c =
-    let c34 = c .before .before .before .before .before .before .before .before .before .before .before .before .before .before .before .before .before .before .before .before .before .before .before .before .before .before .before .before .before .before .before .before .before .before in
+    let c34 = c .before .before .before .before .before .before .before .before .before .before .before .before .before .before .before
+    .before .before .before .before .before .before .before .before .before .before .before .before .before .before .before .before
+    .before .before .before in
     c34 .copy .kept .1 .0
 
 same-length-2 : tie.Need-same-length-2

@@ -21,7 +21,7 @@ use Rattle.multi_marks.proofs.spread.Reads as spread-reads
 abbrev Inv-loop : tie.InvT-loop
 Inv-loop prices masks hop index w alt counts₀ j who₀ num₀ mark₀ a e q₀ counts who num mark q =
     Disturbing prices masks w alt j (known num₀) mark₀ (known num) mark q
-    × ((q ≤ w) × (Tournament prices who num × ((length mark ≡ 16) × Counted alt counts)))
+    × ((q ≤ w) × (Tournament prices who num × ((length mark ≡ 32) × Counted alt counts)))
 
 abbrev μ-loop : tie.MeasureT-loop
 μ-loop prices masks hop index w alt counts₀ j who₀ num₀ mark₀ a e q₀ counts who num mark q = w - q

@@ -25,7 +25,7 @@ use Rattle.multi_tournament.proofs.update.Reads as update-reads
 abbrev Inv-loop : tie.InvT-loop
 Inv-loop prices masks hop index w alt counts₀ q m who₀ num₀ mark₀ a e i₀ counts who num mark i =
     Spreading prices masks w alt q m (known num₀) mark₀ (known num) mark i
-    × ((i ≤ 1024) × ((i < 1024 → cell mark i ≡ 0) × (Tournament prices who num × ((length mark ≡ 16) × Counted alt counts))))
+    × ((i ≤ 1024) × ((i < 1024 → cell mark i ≡ 0) × (Tournament prices who num × ((length mark ≡ 32) × Counted alt counts))))
 
 abbrev μ-loop : tie.MeasureT-loop
 μ-loop prices masks hop index w alt counts₀ q m who₀ num₀ mark₀ a e i₀ counts who num mark i = 1024 - i
@@ -59,7 +59,7 @@ next-requires : tie.Need-next-requires Inv-loop μ-loop
 next-requires c κs =
     let c12 = c .before .before .before .before .before .before .before .before .before .before .before .before in
     let P = c12 .pre in let A = c12 .args in rw (part-row (A .index .now) 16 (A .q))
-    (let e = set-length (P .1 .1 .0) (P .1 .1 .1 .1 .1 .0) in (e ∙ sym (P .1 .1 .1 .1 .1 .1 .1), (omega arith, omega arith)))
+    (let e = set-length (P .1 .1 .0) (P .1 .1 .1 .1 .1 .0) in (omega (arith, e, P .1 .1 .1 .1 .1 .1 .1), (omega arith, omega arith)))
 
 loop-holds : tie.Need-loop-holds Inv-loop μ-loop
 loop-holds c =
@@ -146,7 +146,7 @@ next-requires-2 c κs =
     let c34 = c20 .before .before .before .before .before .before .before .before .before .before .before .before .before .before in
     let P = c34 .pre in let A = c34 .args in rw (part-row (A .index .now) 16 (A .q))
     (let e = set-length (P .1 .1 .0) (P .1 .1 .1 .1 .1 .0) in (
-      e ∙ sym (c4 .add .kept .0 ∙ c20 .loop .inv .1 .1 .1 .1 .0),
+      omega (arith, e, c4 .add .kept .0, c20 .loop .inv .1 .1 .1 .1 .0),
       (omega arith, omega (arith, c19 .loop-test .taken, P .0 .priced .count)),
     ))
 
@@ -200,7 +200,7 @@ next-requires-3 c κs =
     let c19 = c5 .before .before .before .before .before .before .before .before .before .before .before .before .before .before in
     let P = c19 .pre in let A = c19 .args in rw (part-row (A .index .now) 16 (A .q))
     (let e = set-length (P .1 .1 .0) (P .1 .1 .1 .1 .1 .0) in
-    (e ∙ sym (c5 .loop .inv .1 .1 .1 .1 .0), (omega arith, omega (arith, c4 .loop-test .taken, P .0 .priced .count))))
+    (omega (arith, e, c5 .loop .inv .1 .1 .1 .1 .0), (omega arith, omega (arith, c4 .loop-test .taken, P .0 .priced .count))))
 
 loop-less-2 : tie.Need-loop-less-2 Inv-loop μ-loop
 loop-less-2 c =

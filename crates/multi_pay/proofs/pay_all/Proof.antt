@@ -15,7 +15,7 @@ use Rattle.multi_pay.proofs.pay.Reads as pay-reads
 abbrev Inv-loop : tie.InvT-loop
 Inv-loop prices masks hop index w count order gains rounds held₀ alt₀ counts₀ who₀ num₀ mark₀ won₀ cents₀ h₀ held alt counts who num mark
     won cents h = (h ≤ rounds) × (Paying prices masks w count order h held won cents
-    × ((length alt ≡ w) × ((length counts ≡ w + 2) × (Tournament prices who num × (length mark ≡ 16)))))
+    × ((length alt ≡ w) × ((length counts ≡ w + 2) × (Tournament prices who num × (length mark ≡ 32)))))
 
 abbrev μ-loop : tie.MeasureT-loop
 μ-loop prices masks hop index w count order gains rounds held₀ alt₀ counts₀ who₀ num₀ mark₀ won₀ cents₀ h₀ held alt counts who num mark

@@ -32,7 +32,13 @@ mul-num-2 : tie.Need-mul-num-2 Inv-loop μ-loop
 mul-num-2 c = omega (arith, c .before .before .loop-test, c .before .before .before .loop .inv .0)
 
 slice-write-num : tie.Need-slice-write-num Inv-loop μ-loop
-slice-write-num c = omega (arith, c .before .before .loop-test, c .before .before .before .loop .inv .0, c .before .before .before .loop .inv .1 .numbers)
+slice-write-num c = omega (
+  arith,
+  c .before .before .loop-test,
+  c .before .before .before .loop .inv .0,
+  c .before .before .before .loop
+      .inv .1 .numbers,
+)
 
 mul-num-3 : tie.Need-mul-num-3 Inv-loop μ-loop
 mul-num-3 c = omega (arith, c .before .before .loop-test, c .before .before .before .loop .inv .0)
@@ -44,21 +50,34 @@ mul-num-4 : tie.Need-mul-num-4 Inv-loop μ-loop
 mul-num-4 c = omega (arith, c .before .before .loop-test, c .before .before .before .loop .inv .0)
 
 slice-write-num-2 : tie.Need-slice-write-num-2 Inv-loop μ-loop
-slice-write-num-2 c = simp length-set (omega (arith, c .before .before .loop-test, c .before .before .before .loop .inv .0, c .before .before .before .loop .inv .1 .numbers))
+slice-write-num-2 c = simp length-set (omega (
+  arith,
+  c .before .before .loop-test,
+  c .before .before .before .loop .inv .0,
+  c .before
+      .before .before .loop .inv .1 .numbers,
+))
 
 loop-less : tie.Need-loop-less Inv-loop μ-loop
 loop-less c = omega (arith, c .before .before .loop-test)
 
 loop-again : tie.Need-loop-again Inv-loop μ-loop
-loop-again c = (omega (arith, c .before .before .before .loop .inv .0), empties-below (c .before .before .before .loop .inv .1) (omega arith) (c .before .before .before .loop .inv .0))
+loop-again c = (
+  omega (arith, c .before .before .before .loop .inv .0),
+  empties-below (c .before .before .before .loop .inv .1) (omega
+      arith) (c .before .before .before .loop .inv .0),
+)
 
 loop-less-2 : tie.Need-loop-less-2 Inv-loop μ-loop
 loop-less-2 c = omega (arith, c .before .before .loop-test)
 
 loop-again-2 : tie.Need-loop-again-2 Inv-loop μ-loop
 loop-again-2 c =
-    let c4 = c .before .before .before .before in
-    (omega (arith, c .before .before .before .loop .inv .0), empties-past (c4 .pre) (c .before .before .before .loop .inv .1) (omega arith) (c .before .before .before .loop .inv .0) (omega arith))
+    let c4 = c .before .before .before .before in (
+      omega (arith, c .before .before .before .loop .inv .0),
+      empties-past (c4 .pre) (c .before .before .before .loop .inv .1) (omega
+          arith) (c .before .before .before .loop .inv .0) (omega arith),
+    )
 
 slice-write-num-3 : tie.Need-slice-write-num-3 Inv-loop μ-loop
 slice-write-num-3 c = omega (arith, c .before .loop .inv .1 .numbers)
@@ -70,7 +89,11 @@ same-length : tie.Need-same-length Inv-loop μ-loop
 same-length c = simp length-set (c .before .loop .inv .1 .numbers ∙ sym (c .before .before .pre .seats .numbers))
 
 returns : tie.Need-returns Inv-loop μ-loop
-returns c = let z = empties-all (c .before .loop .inv .1) (omega arith) in (emptied (c .before .before .pre) (simp length-set (c .before .loop .inv .1 .numbers)) z, z)
+returns c = let z = empties-all (c .before .loop .inv .1) (omega arith) in (
+  emptied (c .before .before .pre) (simp length-set (c .before
+      .loop .inv .1 .numbers)) z,
+  z,
+)
 
 pub empty-spec : {M : Type 1} → statement M
 empty-spec =

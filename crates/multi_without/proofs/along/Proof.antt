@@ -3,9 +3,10 @@
 use mathlib.Core.Path.{refl, sym, _∙_}
 use mathlib.Core.Logic.{⊎-elim, inl, inr}
 use native.Mathlib.Omega.{arith}
+use borrow.Author.Tests.{eqb-true}
 use Rattle.multi_tournament.specs.OrderLaws.{there}
 use Rattle.multi_follow.proofs.Strayed.{knows}
-use Rattle.multi_follow.proofs.Following.{inside, gains-some, takes-main, takes-other}
+use Rattle.multi_follow.proofs.Following.{inside, gains-some, reaches-alike, takes-main, takes-other}
 use Rattle.multi_follow.proofs.Stepping.{bid-row, words, fronted, main-goes, unmarked}
 use borrow.Author.Needs.{needs}
 use Rattle.multi_without.proofs.along.Statement.{statement}
@@ -24,7 +25,12 @@ shared-slice-read-m c =
 mul-p : tie.Need-mul-p
 mul-p c =
     let c12 = c .before .before .before .before .before .before .before .before .before .before .before .before in
-    let pre = c12 .pre in let co = pre .0 in omega (arith, co .main .route .inside (c12 .args .g) (pre .1 .1 .1), co .market .priced .count)
+    let pre = c12 .pre in let co = pre .0 in omega (
+      arith,
+      co .main .route .inside (c12 .args .g) (pre .1 .1 .1),
+      co .market .priced
+          .count,
+    )
 
 shared-slice-read-p : tie.Need-shared-slice-read-p
 shared-slice-read-p c =
@@ -49,31 +55,41 @@ holds-requires c κs =
 
 front-requires : tie.Need-front-requires
 front-requires c κs =
-    let c20 = c .before .before .before .before .before .before .before .before .before .before .before .before .before .before .before .before .before .before .before .before in
+    let c20 = c .before .before .before .before .before .before .before .before .before .before .before .before .before .before .before
+    .before .before .before .before .before in
     let P = c20 .pre in let co = P .0 in let s = P .1 .0 in let l = co .main .route .inside (c20 .args .g) (P .1 .1 .1) in
     let stale = knows (inside co) (co .market .words) (s .follow .strayed) in let few = co .main .route .few _ (P .1 .1 .1) in
     (co .market, (co .hopping, (words co s, (s .counted, (s .tree, (stale, (omega (arith, l), (co .market .priced .most _, few))))))))
 
-overlap-requires : tie.Need-overlap-requires
-overlap-requires c κs =
-    let c9 = c .before .before .before .before .before .before .before .before .before in
-    let c30 = c9 .before .before .before .before .before .before .before .before .before .before .before .before .before .before .before .before .before .before .before .before .before in
-    let P = c30 .pre in let co = P .0 in let s = P .1 .0 in let l = co .main .route .inside (c30 .args .g) (P .1 .1 .1) in
-    (words co s, (co .market .words, (bid-row co _ l, (co .hopping .size, (c9 .front .ensures .1 .1, co .hopping .each _ l)))))
+alike-requires : tie.Need-alike-requires
+alike-requires c κs =
+    let c10 = c .before .before .before .before .before .before .before .before .before .before in
+    let c15 = c10 .before .before .before .before .before in
+    let c31 = c15 .before .before .before .before .before .before .before .before .before .before .before .before .before .before .before
+    .before in
+    let P = c31 .pre in let co = P .0 in let s = P .1 .0 in let l = co .main .route .inside (c31 .args .g) (P .1 .1 .1) in
+    let z = unmarked _ _ _ (c15 .holds .ensures) (c10 .front .ensures .1 .0 .clear-of (c .before .before .before .if1 .taken) .0) in (
+      (words co s, (co .market .words, (bid-row co _ l, (co .hopping .size, (c10 .front .ensures .1 .1, co .hopping .each _ l))))),
+      ((omega (arith, l, co .market .priced .count), s .marks), reaches-alike co (s .follow) (P .1 .1 .1) z),
+    )
 
 take-requires : tie.Need-take-requires
 take-requires c κs =
     let c5 = c .before .before .before .before .before in
-    let c36 = c5 .before .before .before .before .before .before .before .before .before .before .before .before .before .before .before .before .before .before .before .before .before .before .before .before .before .before .before .before .before .before .before in
-    let P = c36 .pre in let co = P .0 in let s = P .1 .0 in let l = co .main .route .inside (c36 .args .g) (P .1 .1 .1) in (
+    let c37 = c5 .before .before .before .before .before .before .before .before .before .before .before .before .before .before .before
+    .before .before .before .before .before .before .before .before .before .before .before .before .before .before .before .before
+    .before in
+    let P = c37 .pre in let co = P .0 in let s = P .1 .0 in let l = co .main .route .inside (c37 .args .g) (P .1 .1 .1) in (
       (co .market .priced .most _, (gains-some (co .main) _ (P .1 .1 .1), (P .1 .1 .0, s .follow .few))),
-      (words co s, (co .market .words, (bid-row co _ l, (co .hopping .size, (c5 .overlap .ensures .1, co .hopping .each _ l))))),
+      (words co s, (co .market .words, (bid-row co _ l, (co .hopping .size, (c5 .alike .ensures .1, co .hopping .each _ l))))),
     )
 
-add-t54 : tie.Need-add-t54
-add-t54 c =
-    let c41 = c .before .before .before .before .before .before .before .before .before .before .before .before .before .before .before .before .before .before .before .before .before .before .before .before .before .before .before .before .before .before .before .before .before .before .before .before .before .before .before .before .before in
-    let pre = c41 .pre in omega (arith, pre .1 .1 .1, pre .0 .main .route .most)
+add-t55 : tie.Need-add-t55
+add-t55 c =
+    let c42 = c .before .before .before .before .before .before .before .before .before .before .before .before .before .before .before
+    .before .before .before .before .before .before .before .before .before .before .before .before .before .before .before .before
+    .before .before .before .before .before .before .before .before .before .before .before in
+    let pre = c42 .pre in omega (arith, pre .1 .1 .1, pre .0 .main .route .most)
 
 same-length : tie.Need-same-length
 same-length c = search needs
@@ -95,23 +111,31 @@ returns c =
     let c4 = c .before .before .before .before in
     let c7 = c4 .before .before .before in
     let c10 = c7 .before .before .before in
-    let c13 = c10 .before .before .before in
-    let c20 = c13 .before .before .before .before .before .before .before in
-    let c25 = c20 .before .before .before .before .before in
-    let c41 = c25 .before .before .before .before .before .before .before .before .before .before .before .before .before .before .before .before in
-    let P = c41 .pre in let co = P .0 in let s = P .1 .0 in let f = c20 .front .ensures .1 .0 in
-    let z = unmarked _ _ _ (c25 .holds .ensures) (f .clear-of (c13 .if1 .taken) .0) in
-    let alike = sym (c10 .overlap .ensures .0) ∙ c7 .if2 .taken in
-    main-goes co (fronted co s (c20 .front .ensures .0) f (c10 .overlap .ensures .1))
-    (takes-main co (s .follow) f (P .1 .1 .1) refl refl refl z (c13 .if1 .taken) alike) (c4 .take .ensures .0)
+    let c14 = c10 .before .before .before .before in
+    let c21 = c14 .before .before .before .before .before .before .before in
+    let c26 = c21 .before .before .before .before .before in
+    let c42 = c26 .before .before .before .before .before .before .before .before .before .before .before .before .before .before .before
+    .before in
+    let P = c42 .pre in let co = P .0 in let s = P .1 .0 in let f = c21 .front .ensures .1 .0 in
+    let z = unmarked _ _ _ (c26 .holds .ensures) (f .clear-of (c14 .if1 .taken) .0) in
+    let same = eqb-true _ _ (sym (c10 .alike .ensures .0) ∙ c7 .if2 .taken) in
+    main-goes co (fronted co s (c21 .front .ensures .0) f (c10 .alike .ensures .1))
+    (takes-main co (s .follow) f (P .1 .1 .1) refl refl refl z (c14 .if1 .taken) same) (c4 .take .ensures .0)
     (c4 .take .kept .1 .1 .1 .1 .1 .1 .1 .1 .1 .0) (c4 .take .ensures .1 .0) (c4 .take .ensures .1 .1) refl (P .1 .1 .1) z
 
 pass-requires : tie.Need-pass-requires
 pass-requires c κs =
     let c8 = c .before .before .before .before .before .before .before .before in
-    let c18 = c8 .before .before .before .before .before .before .before .before .before .before in
-    let c39 = c18 .before .before .before .before .before .before .before .before .before .before .before .before .before .before .before .before .before .before .before .before .before in
-    let P = c39 .pre in (P .0, (fronted (P .0) (P .1 .0) (c18 .front .ensures .0) (c18 .front .ensures .1 .0) (c8 .overlap .ensures .1), P .1 .1 .1))
+    let c19 = c8 .before .before .before .before .before .before .before .before .before .before .before in
+    let c40 = c19 .before .before .before .before .before .before .before .before .before .before .before .before .before .before .before
+    .before .before .before .before .before .before in
+    let P = c40 .pre in (
+      P .0,
+      (
+        fronted (P .0) (P .1 .0) (c19 .front .ensures .0) (c19 .front .ensures .1 .0) (c8 .alike .ensures .1),
+        P .1 .1 .1,
+      ),
+    )
 
 same-length-6 : tie.Need-same-length-6
 same-length-6 c = search needs
@@ -120,14 +144,15 @@ same-length-7 : tie.Need-same-length-7
 same-length-7 c =
     let c10 = c .before .before .before .before .before .before .before .before .before .before in
     let c19 = c10 .before .before .before .before .before .before .before .before .before in
-    let c29 = c19 .before .before .before .before .before .before .before .before .before .before in
-    c10 .pass .kept .1 .1 .1 .1 .1 .1 .1 .1 .1 .1 .1 .1 .1 .1 .1 .0 ∙ c19 .overlap .kept .1 .0 ∙ c29 .front .kept .1 .1 .1 .1 .1 .0
+    let c30 = c19 .before .before .before .before .before .before .before .before .before .before .before in
+    c10 .pass .kept .1 .1 .1 .1 .1 .1 .1 .1 .1 .1 .1 .1 .1 .1 .1 .0 ∙ c19 .alike .kept .1 .1 .1 .1 .0 ∙ c30 .front .kept .1 .1 .1 .1 .1 .0
 
 same-length-8 : tie.Need-same-length-8
 same-length-8 c =
     let c10 = c .before .before .before .before .before .before .before .before .before .before in
-    let c29 = c10 .before .before .before .before .before .before .before .before .before .before .before .before .before .before .before .before .before .before .before in
-    c10 .pass .kept .1 .1 .1 .1 .1 .1 .1 .1 .1 .1 .1 .1 .1 .1 .1 .1 .0 ∙ c29 .front .kept .1 .1 .1 .1 .1 .1 .0
+    let c30 = c10 .before .before .before .before .before .before .before .before .before .before .before .before .before .before .before
+    .before .before .before .before .before in
+    c10 .pass .kept .1 .1 .1 .1 .1 .1 .1 .1 .1 .1 .1 .1 .1 .1 .1 .1 .0 ∙ c30 .front .kept .1 .1 .1 .1 .1 .1 .0
 
 same-length-9 : tie.Need-same-length-9
 same-length-9 c = search needs
@@ -141,13 +166,15 @@ returns-2 c = search needs
 ahead-requires : tie.Need-ahead-requires
 ahead-requires c κs =
     let c7 = c .before .before .before .before .before .before .before in
-    let c28 = c7 .before .before .before .before .before .before .before .before .before .before .before .before .before .before .before .before .before .before .before .before .before in
+    let c28 = c7 .before .before .before .before .before .before .before .before .before .before .before .before .before .before .before
+    .before .before .before .before .before .before in
     let pre = c28 .pre in let co = pre .0 in let f = c7 .front .ensures .1 .0 in
     ((f .cheap, f .small), (co .market .priced .most _, co .main .route .few _ (pre .1 .1 .1)))
 
 after-requires : tie.Need-after-requires
 after-requires c κs =
-    let c30 = c .before .before .before .before .before .before .before .before .before .before .before .before .before .before .before .before .before .before .before .before .before .before .before .before .before .before .before .before .before .before in
+    let c30 = c .before .before .before .before .before .before .before .before .before .before .before .before .before .before .before
+    .before .before .before .before .before .before .before .before .before .before .before .before .before .before .before in
     let pre = c30 .pre in omega (arith, pre .1 .1 .1, pre .0 .main .route .most)
 
 advance-requires : tie.Need-advance-requires
@@ -157,7 +184,8 @@ advance-requires c κs =
     let c7 = c6 .before in
     let c8 = c7 .before in
     let c15 = c8 .before .before .before .before .before .before .before in
-    let c36 = c15 .before .before .before .before .before .before .before .before .before .before .before .before .before .before .before .before .before .before .before .before .before in
+    let c36 = c15 .before .before .before .before .before .before .before .before .before .before .before .before .before .before .before
+    .before .before .before .before .before .before in
     let P = c36 .pre in let co = P .0 in let s = P .1 .0 in let f = c15 .front .ensures in
     let a = there _ _ _ _ (sym (c7 .ahead .ensures) ∙ c6 .if3 .taken) in
     let takes = takes-other co (s .follow) (f .1 .0) (c8 .if1 .left) (a .0) (P .1 .1 .1) (a .1) in
@@ -185,8 +213,15 @@ returns-3 c = search needs
 pass-requires-2 : tie.Need-pass-requires-2
 pass-requires-2 c κs =
     let c14 = c .before .before .before .before .before .before .before .before .before .before .before .before .before .before in
-    let c35 = c14 .before .before .before .before .before .before .before .before .before .before .before .before .before .before .before .before .before .before .before .before .before in
-    let P = c35 .pre in (P .0, (fronted (P .0) (P .1 .0) (c14 .front .ensures .0) (c14 .front .ensures .1 .0) (c14 .front .ensures .1 .1), P .1 .1 .1))
+    let c35 = c14 .before .before .before .before .before .before .before .before .before .before .before .before .before .before .before
+    .before .before .before .before .before .before in
+    let P = c35 .pre in (
+      P .0,
+      (
+        fronted (P .0) (P .1 .0) (c14 .front .ensures .0) (c14 .front .ensures .1 .0) (c14 .front .ensures .1 .1),
+        P .1 .1 .1,
+      ),
+    )
 
 same-length-16 : tie.Need-same-length-16
 same-length-16 c = search needs
@@ -218,9 +253,9 @@ along-spec =
     shared-slice-read-v
     holds-requires
     front-requires
-    overlap-requires
+    alike-requires
     take-requires
-    add-t54
+    add-t55
     same-length
     same-length-2
     same-length-3

@@ -22,9 +22,11 @@ advance-requires : tie.Need-advance-requires
 advance-requires c κs =
     let c5 = c .before .before .before .before .before in
     let c12 = c5 .before .before .before .before .before .before .before in
-    let c28 = c12 .before .before .before .before .before .before .before .before .before .before .before .before .before .before .before .before in
+    let c28 = c12 .before .before .before .before .before .before .before .before .before .before .before .before .before .before .before
+    .before in
     let P = c28 .pre in let co = P .0 in let s = P .1 .0 in let f = c12 .front .ensures in
-    let takes = takes-last co (s .follow) (f .1 .0) (not-clear false _ (λ e. f .1 .0 .clear-of e .0) refl) (c5 .if1 .taken) (P .1 .1 .1) in
+    let takes = takes-last co (s .follow) (f .1 .0) (not-clear false _ (λ e. f .1 .0 .clear-of e .0) refl) (c5 .if1 .taken) (P .1 .1 .1)
+    in
     (co, (fronted co s (f .0) (f .1 .0) (f .1 .1), (P .1 .1 .0, (takes, inr refl))))
 
 same-length : tie.Need-same-length
@@ -60,7 +62,8 @@ same-length-9 c = search needs
 returns-2 : tie.Need-returns-2
 returns-2 c =
     let c7 = c .before .before .before .before .before .before .before in
-    let c23 = c7 .before .before .before .before .before .before .before .before .before .before .before .before .before .before .before .before in
+    let c23 = c7 .before .before .before .before .before .before .before .before .before .before .before .before .before .before .before
+    .before in
     let P = c23 .pre in let f = c7 .front .ensures in
     over-goes (P .0) (P .1 .0) (f .0) (f .1 .0) (not-clear false _ (λ e. f .1 .0 .clear-of e .0) refl) (c .if1 .left) (P .1 .1 .1)
 
