@@ -228,29 +228,28 @@ static void no_gain_at(const Tried *t, const Told *told, Tried *other, unsigned 
     expect(with.won[i] == told->won[i] && with.cost == told->cost && with.sum == told->sum, "tried: the same minutes", text, n);
 }
 
-/* a part of its minutes, offered at the true cost and at every `step`-th price below TRIED */
-static void offer_part(const Tried *t, const Told *told, unsigned i, unsigned part, unsigned step, const char *text, size_t n)
+/* a part of its minutes, offered at every price below TRIED, the true cost among them */
+static void offer_part(const Tried *t, const Told *told, unsigned i, unsigned part, const char *text, size_t n)
 {
     Tried other = *t;
     put_windows(other.windows[i], part, t->single ? 0 : mixed() & mixed() >> 7, !t->single && mixed() & 1);
     other.has[i] = part >> t->start & t->all;
-    no_gain_at(t, told, &other, i, t->price[i], text, n);
-    for (unsigned price = less.parts % step; price < TRIED; price += step) no_gain_at(t, told, &other, i, price, text, n);
+    for (unsigned price = 0; price < TRIED; price++) no_gain_at(t, told, &other, i, price, text, n);
     less.parts++;
     less.refused += !t->reserved && fewest(&other) < 2;
 }
 
 /* Every part of the minutes of bid i: in a single tender each window inside the bid's, in a multi tender each set of its minutes inside the
-   tender, with some of those outside it. With every price, where that is asked and not more than six of its minutes are inside. */
-static void no_gain_by_less(const Tried *t, const Told *told, unsigned i, bool every, const char *text, size_t n)
+   tender, with some of those outside it. */
+static void no_gain_by_less(const Tried *t, const Told *told, unsigned i, const char *text, size_t n)
 {
-    unsigned had = t->week[i], inside = t->has[i] << t->start, set = inside, step = every && __builtin_popcount(inside) <= 6 ? 1 : 23;
+    unsigned had = t->week[i], inside = t->has[i] << t->start, set = inside;
     for (unsigned s = 0; t->single && s < 31; s++)
-        for (unsigned e = s; had >> e & 1; e++) offer_part(t, told, i, (2u << e) - (1u << s), step, text, n);
+        for (unsigned e = s; had >> e & 1; e++) offer_part(t, told, i, (2u << e) - (1u << s), text, n);
     if (t->single) return;
     do {
         unsigned part = set | (mixed() >> 2 & had & ~inside);
-        if (part) offer_part(t, told, i, part, step, text, n);
+        if (part) offer_part(t, told, i, part, text, n);
         set = (set - 1) & inside;
     } while (set != inside);
 }
@@ -267,7 +266,7 @@ void tried_lists(long rounds)
         unsigned few = fewest(&t);
         expect(told.number == (t.reserved || few >= 2 ? 0 : 11 + few), "tried: whether it is refused", text, n);
         *(told.number ? &refused[t.reserved] : &awards[t.reserved]) += 1;
-        if (r % 64 == 3) for (unsigned i = 0; i < t.n; i++) no_gain_by_less(&t, &told, i, r % 256 == 67, text, n);
+        if (r % 128 == 3) for (unsigned i = 0; i < t.n; i++) no_gain_by_less(&t, &told, i, text, n);
         if (told.number) continue;
         judge(&t, &told, text, n);
         houses += told.won[t.n];
