@@ -18,18 +18,7 @@ use Rattle.cover.specs.Threshold.{Threshold, honest, enough}
 use Rattle.cover.specs.GreedyLaws.{shrink, rounds, withdrawn-same}
 use Rattle.cover.specs.GreedyCoverLaws.{Each, Covered}
 use Rattle.cover.specs.BarLaws.{under, bar-fewer}
-
--- the largest number that passes, where those below m pass
-
-pub largest-under : (ok : ℕ → Bool) (m n : ℕ) → ((p : ℕ) → ok p ≡ ltb p m) → m ≤ n → valueOf (largest ok n) ≡ m - 1
-unfolding largest valueOf
-largest-under ok m zero f l = omega arith
-largest-under ok m (suc n) f l = go (ok n) (f n) (largest-under ok m n f)
-  where
-    go : (t : Bool) → t ≡ ltb n m → (m ≤ n → valueOf (largest ok n) ≡ m - 1)
-        → valueOf (cond t (found n) (largest ok n)) ≡ m - 1
-    go true e ih = omega (arith, ltb-true n m (sym e))
-    go false e ih = ih (ltb-false n m (sym e))
+use Rattle.cover.specs.WinningLaws.{largest-below, value-less}
 
 -- the rounds give no more than the ceiling
 
@@ -114,8 +103,8 @@ module _ (has : ℕ → ℕ → Bool) (ps cells : List ℕ) (k : ℕ) where
     -- the critical price is the maximum over the rounds
     pub critical-is : critical has ps cells k ≡ limit has ps cells k - 1
     unfolding critical
-    critical-is = largest-under (winsAt has ps cells k) (limit has ps cells k) (ceiling (set ps k 0) cells) wins-under
-        (limit-most has ps cells k)
+    critical-is = ap valueOf (largest-below (winsAt has ps cells k) (limit has ps cells k) wins-under (ceiling (set ps k 0) cells)
+        (limit-most has ps cells k)) ∙ value-less (limit has ps cells k)
 
     -- some price wins: then the critical price does, and the lower ones, and no higher
     pub some-price : (q : ℕ) → winsAt has ps cells k q ≡ true → (p : ℕ)

@@ -4,6 +4,7 @@ pub mod Earliest
 pub mod Greedy
 pub mod CriticalPrice
 pub mod Threshold
+pub mod Winning
 pub mod Settled
 pub mod SetLaws
 pub mod LeastCoverLaws
@@ -15,6 +16,7 @@ pub mod GreedyLaws
 pub mod ChanceLaws
 pub mod GreedyCoverLaws
 pub mod BarLaws
+pub mod WinningLaws
 pub mod CriticalLaws
 pub mod SpareLaws
 pub mod FewerLaws

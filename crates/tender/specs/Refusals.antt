@@ -3,7 +3,7 @@ use Prim.Native.Nat.{ℕ}
 use Rattle.tender.specs.declared.Refusal.{Refusal}
 use Rattle.tender.specs.declared.Refusal.the-variants.{TextTooLong, BadForm, OutsideLimits, TooMany, EmptyWindow, BidderRepeated}
 use Rattle.tender.specs.declared.Refusal.the-variants.{SeveralWindows, TableTooShort, BadTables, RowsTooFew, MinuteUncovered}
-use Rattle.tender.specs.declared.Refusal.the-variants.{OneBidder, NoRoom, LateWindow, ReserveMisplaced}
+use Rattle.tender.specs.declared.Refusal.the-variants.{OneBidder, NoRoom, LateWindow, ReserveMisplaced, NoSuchBidder}
 
 abbrev pub numberOf : Refusal → ℕ
 -- Reading: a text above 65,536 bytes; a line that is not of the form; a bidder or price outside its limits; a 1,001st bid or
@@ -27,6 +27,8 @@ numberOf (MinuteUncovered minute) = 11
 numberOf (OneBidder minute) = 12
 -- Writing: a text above 65,536 bytes, or one that the lent buffer has no room for
 numberOf NoRoom = 14
+-- Asking with which price a bid would win: no bid has that bidder number
+numberOf NoSuchBidder = 17
 
 abbrev pub placeOf : Refusal → ℕ
 placeOf TextTooLong = 0
@@ -44,3 +46,4 @@ placeOf (OneBidder minute) = minute
 placeOf NoRoom = 0
 placeOf (LateWindow line) = line
 placeOf (ReserveMisplaced line) = line
+placeOf NoSuchBidder = 0

@@ -67,11 +67,20 @@ pub enum Refusal {
     NoRoom,
     LateWindow { line: u64 },
     ReserveMisplaced { line: u64 },
+    NoSuchBidder,
 }
 
 // What an award answers: the totals, or why it declines.
 pub enum Answer {
     Awarded(Totals),
+    Refused(Refusal),
+}
+
+// What is answered to who asks with which price a bid would win: the largest such price, that no price would, not even 0, or why the
+// question is declined.
+pub enum Highest {
+    Price(u64),
+    NoPrice,
     Refused(Refusal),
 }
 
@@ -144,6 +153,7 @@ pub fn number(r: Refusal) -> u64
         Refusal::NoRoom => 14,
         Refusal::LateWindow { line: _ } => 15,
         Refusal::ReserveMisplaced { line: _ } => 16,
+        Refusal::NoSuchBidder => 17,
     }
 }
 
@@ -167,5 +177,6 @@ pub fn place(r: Refusal) -> u64
         Refusal::NoRoom => 0,
         Refusal::LateWindow { line } => line,
         Refusal::ReserveMisplaced { line } => line,
+        Refusal::NoSuchBidder => 0,
     }
 }
