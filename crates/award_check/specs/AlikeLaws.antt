@@ -144,7 +144,7 @@ own-kind k t n bids windows e = go k (t .kind) (eqb-true (kindNumber k) (kindNum
 module _ (t : Tender) (n i : ℕ) (bids windows bids′ windows′ : List ℕ) (inside : i < n)
     (f : rowFault t windows 1 [] 0 (rowsOf n bids) ≡ none) (a : Alike n i bids windows bids′ windows′) where
   -- where the windows begin and how many they are is the same, and so are the windows
-  own-row : (j : ℕ) → j < n → own windows′ (bidRowAt bids′ j) ≡ own windows (bidRowAt bids j)
+  pub own-row : (j : ℕ) → j < n → own windows′ (bidRowAt bids′ j) ≡ own windows (bidRowAt bids j)
   unfolding own
   own-row j l =
       let first = sym (a .rows (bidWidth * j + 2) (omega arith) (λ e. omega arith)) in

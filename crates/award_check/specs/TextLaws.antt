@@ -3,9 +3,9 @@ use mathlib.Core.Path.{_≡_, refl, sym, ap, _∙_}
 use mathlib.Core.List.{List, [], _∷_, _++_}
 use mathlib.Core.Bool.{Bool, true, not, _&&_}
 use mathlib.Core.Option.{none}
-use Prim.Native.Nat.{ℕ, zero, suc, _+_, _*_, _/_, _≤_}
+use Prim.Native.Nat.{ℕ, zero, suc, _+_, _*_, _/_, _≤_, _<_}
 use native.Mathlib.Omega.{arith}
-use lib.ListN.{length, drop, length-append, length-drop}
+use lib.ListN.{length, getD, drop, length-append, length-drop}
 use lib.Seq.{drop-drop}
 use borrow.Author.Tests.{eq-eqb, le-leb}
 use Rattle.tender.specs.declared.Kind.{Kind}
@@ -16,6 +16,7 @@ use Rattle.tender.specs.Limits.{within, maxPrice, maxBidder, maxBids, mostWindo
 use Rattle.tender.specs.Tables.{Row, rowsOf, windowsOf, own, flatRows, flatWindows, bidWidth, windowWidth}
 use Rattle.tender.specs.RulesLaws.{rules-lawful, rules-sound}
 use Rattle.reader_text.specs.Rules.{RowRules, RowsRules, WindowsRules, Rules}
+use Rattle.award_check.specs.Cells.{noRow}
 use Rattle.award_check.specs.Faults.{keeps, sound, rowFault, kindNumber, sameKind, faultOf}
 use Rattle.award_check.specs.Alike.{windowCount}
 
@@ -33,6 +34,18 @@ pub length-windows : (W : List Window) → length (flatWindows W) ≡ windowWidt
 unfolding flatWindows
 length-windows [] = refl
 length-windows (w ∷ ws) = omega (arith, length-windows ws)
+
+-- the bidder of a row that was read, whatever stands past the rows
+pub bidder-read : (R : List Row) (v : List ℕ) (i : ℕ) → i < length R
+    → getD (flatRows R ++ v) (bidWidth * i) 0 ≡ getD R i noRow .bidder
+unfolding flatRows
+bidder-read [] v i l = absurd (omega arith)
+bidder-read (r ∷ R) v zero l = refl
+bidder-read (r ∷ R) v (suc i) l = ap (λ k. getD (r .bidder ∷ r .price ∷ r .first ∷ r .count ∷ (flatRows R ++ v)) k 0) (index i)
+    ∙ bidder-read R v i (omega arith)
+  where
+    index : (i : ℕ) → bidWidth * suc i ≡ suc (suc (suc (suc (bidWidth * i))))
+    index i = omega arith
 
 all-lawful : (c : ℕ) (W : List Window) (v : List ℕ) → c ≤ length W → WindowsRules W
     → every lawful (windowsOf c (flatWindows W ++ v)) ≡ true

@@ -81,7 +81,7 @@ passed-none used e = rw e (record {
     getD-zeros (suc n) zero = refl
     getD-zeros (suc n) (suc i) = getD-zeros n i
 
-among-last : (x b : ℕ) (list : List ℕ) → among x (list ++ b ∷ []) ≡ (among x list || eqb b x)
+pub among-last : (x b : ℕ) (list : List ℕ) → among x (list ++ b ∷ []) ≡ (among x list || eqb b x)
 unfolding among
 among-last x b [] = or-false (eqb b x)
 among-last x b (m ∷ list) = rw (among-last x b list) (sym (or-assoc (eqb m x) (among x list) (eqb b x)))

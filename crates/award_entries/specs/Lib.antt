@@ -1,4 +1,3 @@
 pub mod ThinLaws
 pub mod MultiLaws
-pub mod PrefixLaws
 pub mod SingleLaws

@@ -15,7 +15,6 @@ use Rattle.cover.specs.CriticalPrice.{sum}
 use Rattle.cover.specs.Settled.{spans, Settled}
 use Rattle.cover.specs.Intervals.BidsLaws.{sum-most}
 use Rattle.single_costs.specs.Across.{mostSum}
-use Rattle.multi_tournament.specs.Tournament.{Priced}
 use Rattle.award_thin.specs.declared.Thin.{Thin}
 use Rattle.award_thin.specs.declared.Thin.the-variants.{Enough}
 use Rattle.award_check.specs.Faults.{faultOf}
@@ -23,11 +22,11 @@ use Rattle.award_check.specs.Cells.{cellsOf}
 use Rattle.award_check.specs.Auction.{Auction, auctionOf}
 use Rattle.award_check.specs.AuctionLaws.{cells-are}
 use Rattle.award_laid.specs.Lay.{LaidSpans}
+use Rattle.award_laid.specs.TellsLaws.{enough}
+use Rattle.award_laid.specs.EntryLaws.{laid-prices}
 use Rattle.award_rule.specs.Award.{coversIn, awardOf}
 use Rattle.award_rule.specs.Sums.{totalsIn}
 use Rattle.award_rule.specs.Plain.{toldIn}
-use Rattle.award_entries.specs.ThinLaws.{enough}
-use Rattle.award_entries.specs.MultiLaws.{prices-lawful}
 use Rattle.award_rule.specs.PlainLaws.{awards, single-won, single-cents}
 
 module _ (t : Tender) (n : ℕ) (bids windows ps starts ends order : List ℕ) (thin : Thin) (f : faultOf Single t n bids windows ≡ none)
@@ -35,11 +34,9 @@ module _ (t : Tender) (n : ℕ) (bids windows ps starts ends order : List ℕ) (
   abbrev A : Auction
   A = auctionOf t n bids windows
 
-  pub lawful-prices : Priced ps
-  lawful-prices = rw (l .prices-are) (prices-lawful Single t n bids windows f)
-
   pub prices-sum : sum ps ≤ mostSum
-  prices-sum = omega (arith, lawful-prices .count, sum-most ps (λ i d. lawful-prices .most i))
+  prices-sum = let p = laid-prices t n bids windows ps starts ends order thin f l in omega
+      (arith, p .count, sum-most ps (λ i d. p .most i))
 
   pub settled : thin ≡ Enough → (ow oc nw nc : List ℕ) (totals : Totals) →
       Settled (λ _. Unit {0}) (λ i. bit (winners (covers (spans starts ends) (length ps) (cellsOf t)) ps) i)

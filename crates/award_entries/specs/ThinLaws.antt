@@ -1,64 +1,30 @@
 -- A tender with a thin cell: what is found of its cells is what the award answers. Assumes nothing.
-use mathlib.Core.Path.{_≡_, refl, sym, subst, _∙_}
+use mathlib.Core.Path.{_≡_}
 use mathlib.Core.List.{List}
-use mathlib.Core.Bool.{Bool, true, false, cond}
 use mathlib.Core.Option.{none}
-use Prim.Native.Nat.{ℕ, _<_}
-use native.Mathlib.Omega.{arith}
+use Prim.Native.Nat.{ℕ}
 use Rattle.tender.specs.declared.Kind.{Kind}
-use Rattle.tender.specs.declared.Reserve.{Reserve}
-use Rattle.tender.specs.declared.Reserve.the-variants.{Absent, Price}
 use Rattle.tender.specs.declared.Tender.{Tender}
 use Rattle.tender.specs.declared.Refusal.the-variants.{MinuteUncovered, OneBidder}
 use Rattle.tender.specs.declared.Answer.the-variants.{Refused}
-use Rattle.cover.specs.Sets.{nothing, found}
-use Rattle.cover.specs.Earliest.{cellWith}
-use Rattle.cover.specs.EarliestLaws.{cell-found}
 use Rattle.award_thin.specs.declared.Thin.{Thin}
-use Rattle.award_thin.specs.declared.Thin.the-variants.{Nobody, Alone, Enough}
+use Rattle.award_thin.specs.declared.Thin.the-variants.{Nobody, Alone}
 use Rattle.award_check.specs.Faults.{faultOf}
-use Rattle.award_check.specs.Cells.{cellsOf, minuteOf}
-use Rattle.award_check.specs.Auction.{Auction, auctionOf, thinCell}
-use Rattle.award_check.specs.AuctionLaws.{thin-told, none-thin}
+use Rattle.award_check.specs.Cells.{minuteOf}
+use Rattle.award_check.specs.Auction.{auctionOf}
 use Rattle.award_laid.specs.Lay.{Tells}
+use Rattle.award_laid.specs.TellsLaws.{at-bare, at-lone}
 use Rattle.award_rule.specs.Award.{awardOf}
 use Rattle.award_rule.specs.Plain.{toldIn}
 use Rattle.award_rule.specs.PlainLaws.{eleven, twelve}
 
-module _ (t : Tender) (n : ℕ) (bids windows : List ℕ) where
-  abbrev A : Auction
-  A = auctionOf t n bids windows
+module _ (t : Tender) (n : ℕ) (bids windows : List ℕ) (thin : Thin) (s : Tells (auctionOf t n bids windows) thin) (k : Kind)
+    (f : faultOf k t n bids windows ≡ none) (nw nc : List ℕ) where
+  pub tells-eleven : (x : ℕ) → thin ≡ Nobody x
+      → toldIn n nw nc (Refused (MinuteUncovered (minuteOf t x))) ≡ awardOf k t n bids windows n
+  tells-eleven x e = eleven k t n bids windows f nw nc x (at-bare t n bids windows thin s x e)
 
-  -- a cell that is found is a cell of the tender
-  thin-inside : (m x : ℕ) → thinCell A m ≡ found x → x < cellsOf t
-  thin-inside m x e = go (t .reserve) refl
-    where
-      go : (r : Reserve) → t .reserve ≡ r → x < cellsOf t
-      go Absent u = cell-found (A .has) n (cellsOf t) m x (sym (thin-told t n bids windows u m) ∙ e) .inside
-      go (Price p) u = let z = sym (none-thin t n bids windows p u m) ∙ e in let z : _≡_ {A = ℕ} 0 1 = cc in absurd (omega arith)
-
-  module _ (thin : Thin) (s : Tells A thin) where
-    at-bare : (x : ℕ) → thin ≡ Nobody x → Tells A (Nobody x)
-    at-bare x e = subst (Tells A) e s
-
-    at-lone : (x : ℕ) → thin ≡ Alone x → Tells A (Alone x)
-    at-lone x e = subst (Tells A) e s
-
-    pub bare-inside : (x : ℕ) → thin ≡ Nobody x → x < cellsOf t
-    bare-inside x e = thin-inside 0 x (at-bare x e)
-
-    pub lone-inside : (x : ℕ) → thin ≡ Alone x → x < cellsOf t
-    lone-inside x e = thin-inside 1 x (at-lone x e .1)
-
-    -- no cell is thin
-    pub enough : thin ≡ Enough → (thinCell A 0 ≡ nothing) × (thinCell A 1 ≡ nothing)
-    enough e = subst (Tells A) e s
-
-    module _ (k : Kind) (f : faultOf k t n bids windows ≡ none) (nw nc : List ℕ) where
-      pub tells-eleven : (x : ℕ) → thin ≡ Nobody x
-          → toldIn n nw nc (Refused (MinuteUncovered (minuteOf t x))) ≡ awardOf k t n bids windows n
-      tells-eleven x e = eleven k t n bids windows f nw nc x (at-bare x e)
-
-      pub tells-twelve : (x : ℕ) → thin ≡ Alone x
-          → toldIn n nw nc (Refused (OneBidder (minuteOf t x))) ≡ awardOf k t n bids windows n
-      tells-twelve x e = twelve k t n bids windows f nw nc x (at-lone x e .0) (at-lone x e .1)
+  pub tells-twelve : (x : ℕ) → thin ≡ Alone x
+      → toldIn n nw nc (Refused (OneBidder (minuteOf t x))) ≡ awardOf k t n bids windows n
+  tells-twelve x e = twelve k t n bids windows f nw nc x (at-lone t n bids windows thin s x e .0)
+      (at-lone t n bids windows thin s x e .1)

@@ -1,2 +1,4 @@
 pub mod Lay
 pub mod LayLaws
+pub mod TellsLaws
+pub mod EntryLaws

@@ -1,5 +1,5 @@
--- The award on what was read does not turn on what stands past the rows in the tables, nor on more award rows than bids; no list
--- is empty and none is longer than 51,200 bytes; neither 8 nor 10 is ever shown. Assumes nothing.
+-- The award on what was read gives the list of the text; no list is empty and none is longer than 51,200 bytes; neither 8 nor 10 is
+-- ever shown. Assumes nothing.
 use mathlib.Core.Path.{_≡_, refl, sym, ap, _∙_}
 use mathlib.Core.Logic.{_⊎_, inl, inr}
 use mathlib.Core.Bool.{true}
@@ -25,10 +25,10 @@ use Rattle.award_check.specs.Cells.{noRow}
 use Rattle.award_check.specs.Auction.{Auction, auctionOf, thinCell}
 use Rattle.award_check.specs.AuctionLaws.{auction-read}
 use Rattle.award_check.specs.Faults.{faultOf}
-use Rattle.award_check.specs.TextLaws.{never-nine}
+use Rattle.award_check.specs.TextLaws.{bidder-read}
 use Rattle.award_rule.specs.Award.{rule, Outcome, uncovered, lone, thinned, settled, awardOf, outcomeNumber, outcomePlace}
 use Rattle.award_outcome.specs.Gain.{lost}
-use Rattle.award_rule.specs.AwardLaws.{settled-is, award-none}
+use Rattle.award_rule.specs.ReadLaws.{award-read, award-number}
 use Rattle.tender.specs.declared.Answer.{Answer}
 use Rattle.tender.specs.declared.Answer.the-variants.{Awarded, Refused}
 use Rattle.award_rule.specs.Plain.{rowsIn, toldIn, PlainPromise}
@@ -39,57 +39,7 @@ use Rattle.listing_text.specs.Made.{answerLines}
 use Rattle.listing_text.specs.List.{winList, listLines, listOf, Listed}
 use Rattle.listing_text.specs.LineLaws.{lines-short, lines-some}
 
--- the award on what was read
-module _ (T : Tender) (R : List Row) (W : List Window) (rules : Rules T R W) where
-  sound-alone : faultOf (T .kind) T (length R) (flatRows R) (flatWindows W) ≡ none
-  sound-alone = rw (append-nil (flatRows R), append-nil (flatWindows W)) at (never-nine T R W [] [] rules)
-
-  pub award-read : (v w : List ℕ) (lent : ℕ) → length R ≤ lent
-      → awardOf (T .kind) T (length R) (flatRows R ++ v) (flatWindows W ++ w) lent
-      ≡ awardOf (T .kind) T (length R) (flatRows R) (flatWindows W) (length R)
-  award-read v w lent l =
-      award-none (T .kind) T (length R) (flatRows R ++ v) (flatWindows W ++ w) lent (never-nine T R W v w rules)
-      ∙ rw (le-ltb lent (length R) l, auction-read T R W rules v w)
-      (sym (award-none (T .kind) T (length R) (flatRows R) (flatWindows W) (length R) sound-alone
-      ∙ rw (le-ltb (length R) (length R) (omega arith))))
-
-  -- the award on what was read is made, or declined with 11 or 12: never with 9 or 10
-  pub award-number : let o = awardOf (T .kind) T (length R) (flatRows R) (flatWindows W) (length R) in (outcomeNumber o ≡ 0)
-      ⊎ ((outcomeNumber o ≡ numberOf (MinuteUncovered (outcomePlace o)))
-      ⊎ (outcomeNumber o ≡ numberOf (OneBidder (outcomePlace o))))
-  unfolding outcomeNumber thinned uncovered lone
-  award-number = rw (
-    award-none (T .kind) T (length R) (flatRows R) (flatWindows W) (length R) sound-alone,
-    le-ltb (length R) (length R) (omega arith),
-  )
-      (go (thinCell A 0) (thinCell A 1) refl refl)
-    where
-      A : Auction
-      A = auctionOf T (length R) (flatRows R) (flatWindows W)
-
-      o : Outcome
-      o = settled (rule (T .kind)) A (uncovered T) (lone T)
-
-      go : (x y : Found) → thinCell A 0 ≡ x → thinCell A 1 ≡ y → (outcomeNumber o ≡ 0)
-          ⊎ ((outcomeNumber o ≡ numberOf (MinuteUncovered (outcomePlace o)))
-          ⊎ (outcomeNumber o ≡ numberOf (OneBidder (outcomePlace o))))
-      go (found x) y e f = inr (inl (ap outcomeNumber (settled-is (rule (T .kind)) A (uncovered T) (lone T) (found x) y e f)))
-      go nothing (found x) e f = inr (inr (ap outcomeNumber
-          (settled-is (rule (T .kind)) A (uncovered T) (lone T) nothing (found x) e f)))
-      go nothing nothing e f = inl (ap outcomeNumber (settled-is (rule (T .kind)) A (uncovered T) (lone T) nothing nothing e f))
-
 -- the lines that the code writes, from the numbers of the tables, are the list's
-
-bidder-cell : (R : List Row) (v : List ℕ) (i : ℕ) → i < length R
-    → getD (flatRows R ++ v) (bidWidth * i) 0 ≡ getD R i noRow .bidder
-unfolding flatRows
-bidder-cell [] v i l = absurd (omega arith)
-bidder-cell (r ∷ R) v zero l = refl
-bidder-cell (r ∷ R) v (suc i) l = ap (λ k. getD (r .bidder ∷ r .price ∷ r .first ∷ r .count ∷ (flatRows R ++ v)) k 0) (index i)
-    ∙ bidder-cell R v i (omega arith)
-  where
-    index : (i : ℕ) → bidWidth * suc i ≡ suc (suc (suc (suc (bidWidth * i))))
-    index i = omega arith
 
 row-cells : (n : ℕ) (won cents : List ℕ) (i : ℕ) → i < n
     → getD (rowsIn n won cents) i lost ≡ record { won = eqb (getD won i 0) 1; cents = getD cents i 0 }
@@ -101,7 +51,7 @@ win-lines : (R : List Row) (v won cents : List ℕ) (n m : ℕ) → m ≤ n → 
 unfolding winLines winList winLine
 win-lines R v won cents n zero l h = refl
 win-lines R v won cents n (suc m) l h = rw (
-  bidder-cell R v m (omega arith),
+  bidder-read R v m (omega arith),
   row-cells n won cents m (omega arith),
   win-lines R v won cents n m (omega arith) h,
 )

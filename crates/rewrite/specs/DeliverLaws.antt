@@ -2,9 +2,9 @@
 use mathlib.Core.Path.{_≡_, refl, sym, ap, subst, _∙_}
 use mathlib.Core.Bool.{Bool, true, false, cond}
 use mathlib.Core.List.{List, _++_}
-use Prim.Native.Nat.{ℕ, min, _≤_, _<_}
+use Prim.Native.Nat.{ℕ, min, _≤_}
 use native.Mathlib.Omega.{arith}
-use lib.ListN.{length, take}
+use lib.ListN.{length}
 use lib.Dec.{leb}
 use borrow.Author.Tests.{le-leb, lt-leb, leb-true, leb-false}
 use Rattle.tender.specs.declared.Window.{Window}
@@ -13,9 +13,7 @@ use Rattle.tender.specs.declared.Refusal.{Refusal}
 use Rattle.tender.specs.declared.Refusal.the-variants.{NoRoom}
 use Rattle.tender.specs.Tables.{Row, flatRows, flatWindows}
 use Rattle.spelling.specs.Lines.{refusedLine}
-use Rattle.spelling.specs.Written.{Written}
 use Rattle.spelling.specs.Delivered.{Delivered}
-use Rattle.spelling.specs.DeliveredLaws.{delivered-none, delivered-all}
 use Rattle.reader_text.specs.Read.{accepted, refused, readText}
 use Rattle.reader_text.specs.SizeLaws.{short-text}
 use Rattle.reader_fill.specs.ReadInLaws.{ReadIn}
@@ -92,21 +90,6 @@ rewritten-text {text} {bids} {windows} {old} {new} {t} {n} {r} h d =
       delivers = subst (λ out. Delivered out old new r) (read-is text t (h .rows) (h .spans) (h .is))
           (room-enough c old new r (omega (arith, s, x)) (d .answer ∙ ap lengthWritten o) (d .bytes ∙ ap (bufferAfter old) o));
     }
-
--- the line of a refusal, made in a buffer of its own
-
-module _ {made mid line : List ℕ} {n : ℕ} (w : Written made 0 line mid n) where
-  line-is : take n mid ≡ line
-  line-is = w .text
-
-  pub line-size : length (take n mid) ≡ n
-  line-size = omega (arith, ap length line-is, w .next)
-
-  pub line-none : {old : List ℕ} → length old < n → Delivered line old old 0
-  line-none {old} l = delivered-none line old (omega (arith, w .next))
-
-  pub line-all : {old new : List ℕ} {r : ℕ} → n ≤ length old → Written old 0 (take n mid) new r → Delivered line old new r
-  line-all l v = delivered-all (omega (arith, w .next)) (rw line-is at v)
 
 pub rewritten-refusal : {text old new : List ℕ} {r : ℕ} (q : Refusal) → readText text ≡ refused q
     → Delivered (refusedLine q) old new r → Rewritten text old new r

@@ -1,5 +1,5 @@
 -- Bytes made in a buffer of their own are copied into the lent one where there is room, and else nothing is. Assumes nothing.
-use mathlib.Core.Path.{_≡_, sym, _∙_}
+use mathlib.Core.Path.{_≡_, sym, ap, _∙_}
 use mathlib.Core.Bool.{Bool, true, false, cond}
 use mathlib.Core.List.{List, _++_}
 use Prim.Native.Nat.{ℕ, _≤_, _<_}
@@ -36,3 +36,18 @@ pub same-shown : {out old new old′ new′ : List ℕ} {r r′ : ℕ} → Deliv
     → 0 < r → 0 < r′
     → take r new ≡ take r′ new′
 same-shown h h′ l l′ = delivered-is h l ∙ sym (delivered-is h′ l′)
+
+-- a line made in a buffer of its own
+
+module _ {made mid line : List ℕ} {n : ℕ} (w : Written made 0 line mid n) where
+  line-is : take n mid ≡ line
+  line-is = w .text
+
+  pub line-size : length (take n mid) ≡ n
+  line-size = omega (arith, ap length line-is, w .next)
+
+  pub line-none : {old : List ℕ} → length old < n → Delivered line old old 0
+  line-none {old} l = delivered-none line old (omega (arith, w .next))
+
+  pub line-all : {old new : List ℕ} {r : ℕ} → n ≤ length old → Written old 0 (take n mid) new r → Delivered line old new r
+  line-all l v = delivered-all (omega (arith, w .next)) (rw line-is at v)

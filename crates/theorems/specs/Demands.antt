@@ -39,6 +39,7 @@ use Rattle.award_rule.specs.Award.{leastCost, greedy, rule, won, awarded, award
 use Rattle.award_rule.specs.Award.{refused as refusal}
 use Rattle.award_rule.specs.Plain.{toldIn, PlainPromise}
 use Rattle.award_rule.specs.AwardLaws.{award-lent}
+use Rattle.award_rule.specs.ReadLaws.{award-number}
 use Rattle.award_outcome.specs.Gain.{rowFor}
 use Rattle.award_outcome.specs.Promise.{lentAfter, Promise}
 use Rattle.award_outcome.specs.RowsPromiseLaws.{rows-promise}
@@ -147,7 +148,7 @@ module _ (text : List ℕ) (T : Tender) (R : List Row) (W : List Window) (read :
   -- What was read is never refused with 9 or 10: the award is made, or declined with 11 or 12.
   pub never-nine-or-ten : let n = outcomeNumber (awardOf (T .kind) T (length R) (flatRows R) (flatWindows W) (length R)) in
       (n ≡ 0) ⊎ ((n ≡ 11) ⊎ (n ≡ 12))
-  never-nine-or-ten = list.award-number T R W (rules-law T R W text read)
+  never-nine-or-ten = award-number T R W (rules-law T R W text read)
 
 -- A text alone is never refused with 8, nor is it with tables of 1,000 and 32,000 rows.
 pub never-eight : (text : List ℕ) (r : Refusal) → readText text ≡ refused r → OfText (numberOf r)

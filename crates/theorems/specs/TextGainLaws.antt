@@ -23,6 +23,7 @@ use Rattle.reader_text.specs.Differ.{DifferInPrice, DifferInBid, windowsBy}
 use Rattle.reader_text.specs.BidLaws.{price-as-bid}
 use Rattle.award_check.specs.Cells.{noRow}
 use Rattle.award_check.specs.Alike.{named, PartOf}
+use Rattle.award_check.specs.TextLaws.{bidder-read}
 use Rattle.award_outcome.specs.Promise.{toldAward, Promise}
 use Rattle.award_outcome.specs.Right as right
 use Rattle.award_outcome.specs.TextOutcomeLaws.{withheld-texts}
@@ -76,17 +77,6 @@ accepted-read r t n m e = go (readText (r .run .text)) refl (sym e ∙ r .kept .
         room T R W (leb (length R) (length (r .run .bids) / bidWidth) && leb (length W) (length (r .run .windows) / windowWidth))
         h x y z
 
-bidder-cell : (R : List Row) (v : List ℕ) (i : ℕ) → i < length R
-    → getD (flatRows R ++ v) (bidWidth * i) 0 ≡ getD R i noRow .bidder
-unfolding flatRows
-bidder-cell [] v i l = absurd (omega arith)
-bidder-cell (r ∷ R) v zero l = refl
-bidder-cell (r ∷ R) v (suc i) l = ap (λ k. getD (r .bidder ∷ r .price ∷ r .first ∷ r .count ∷ (flatRows R ++ v)) k 0) (index i)
-    ∙ bidder-cell R v i (omega arith)
-  where
-    index : (i : ℕ) → bidWidth * suc i ≡ suc (suc (suc (suc (bidWidth * i))))
-    index i = omega arith
-
 module _ (bidder p q : List ℕ) (k k′ : Kind) (T T′ : Tender) (n n′ : ℕ) (bids windows bids′ windows′ : List ℕ)
     (old new old′ new′ : List AwardRow) (a a′ : Answer)
     (y : Promise k T n bids windows old new a) (y′ : Promise k′ T′ n′ bids′ windows′ old′ new′ a′) where
@@ -122,9 +112,9 @@ module _ (bidder p q : List ℕ) (k k′ : Kind) (T T′ : Tender) (n n′ : ℕ
     i = g .i;
     inside = omega (arith, g .inside, h .count);
     count-same = omega (arith, g .count, h .count, h′ .count);
-    bidder-is = g .bidder-is ∙ ap some (sym (bidder-cell (h .rows) (h .past-rows) (g .i) (g .inside))
+    bidder-is = g .bidder-is ∙ ap some (sym (bidder-read (h .rows) (h .past-rows) (g .i) (g .inside))
         ∙ ap (λ b. getD b (bidWidth * g .i) 0) (sym (h .bids-are)));
-    bidder-too = g .bidder-too ∙ ap some (sym (bidder-cell (h′ .rows) (h′ .past-rows) (g .i) (omega (arith, g .count, g .inside)))
+    bidder-too = g .bidder-too ∙ ap some (sym (bidder-read (h′ .rows) (h′ .past-rows) (g .i) (omega (arith, g .count, g .inside)))
         ∙ ap (λ b. getD b (bidWidth * g .i) 0) (sym (h′ .bids-are)));
     true-cost = g .true-cost ∙ ap (λ b. some (getD b (bidWidth * g .i + 1) 0)) (sym (h .bids-are));
     other-price = g .other-price ∙ ap (λ b. some (getD b (bidWidth * g .i + 1) 0)) (sym (h′ .bids-are));

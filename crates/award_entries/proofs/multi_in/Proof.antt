@@ -4,8 +4,10 @@ use native.Mathlib.Omega.{arith}
 use Rattle.tender.specs.declared.Kind.the-variants.{Multi}
 use Rattle.award_layout.specs.LayoutLaws.{cells-within}
 use Rattle.award_laid.specs.LayLaws.{words-of}
-use Rattle.award_entries.specs.ThinLaws.{bare-inside, lone-inside, tells-eleven, tells-twelve}
-use Rattle.award_entries.specs.MultiLaws.{market, settled}
+use Rattle.award_laid.specs.TellsLaws.{bare-inside, lone-inside}
+use Rattle.award_laid.specs.EntryLaws.{market}
+use Rattle.award_entries.specs.ThinLaws.{tells-eleven, tells-twelve}
+use Rattle.award_entries.specs.MultiLaws.{settled}
 use borrow.Author.Needs.{needs}
 use Rattle.award_entries.proofs.multi_in.Statement.{statement}
 use Rattle.award_entries.proofs.multi_in.Tie as tie

@@ -5,8 +5,7 @@ use native.Mathlib.Omega.{arith}
 use Rattle.tender.specs.declared.Kind.the-variants.{Multi}
 use Rattle.tender.specs.Limits.{maxEntries}
 use Rattle.award_layout.specs.LayoutLaws.{orderly, cells-within}
-use Rattle.award_entries.specs.MultiLaws.{entries-few, words-room}
-use Rattle.award_entries.specs.PrefixLaws.{prefix-length}
+use Rattle.award_laid.specs.EntryLaws.{entries-few, words-room, prefix-length}
 use borrow.Author.Needs.{needs}
 use Rattle.award_entries.proofs.settle_multi.Statement.{statement}
 use Rattle.award_entries.proofs.settle_multi.Tie as tie

@@ -4,8 +4,7 @@ use native.Mathlib.Omega.{arith}
 use Rattle.tender.specs.declared.Kind.the-variants.{Single}
 use Rattle.tender.specs.Limits.{maxEntries}
 use Rattle.award_layout.specs.LayoutLaws.{orderly}
-use Rattle.award_entries.specs.MultiLaws.{entries-few}
-use Rattle.award_entries.specs.PrefixLaws.{prefix-length}
+use Rattle.award_laid.specs.EntryLaws.{entries-few, prefix-length}
 use borrow.Author.Needs.{needs}
 use Rattle.award_entries.proofs.settle_single.Statement.{statement}
 use Rattle.award_entries.proofs.settle_single.Tie as tie

@@ -4,8 +4,10 @@ use mathlib.Core.Path.{sym, _∙_}
 use native.Mathlib.Omega.{arith}
 use Rattle.tender.specs.declared.Kind.the-variants.{Single}
 use Rattle.award_layout.specs.LayoutLaws.{cells-within}
-use Rattle.award_entries.specs.ThinLaws.{bare-inside, lone-inside, tells-eleven, tells-twelve}
-use Rattle.award_entries.specs.SingleLaws.{lawful-prices, prices-sum, settled}
+use Rattle.award_laid.specs.TellsLaws.{bare-inside, lone-inside}
+use Rattle.award_laid.specs.EntryLaws.{laid-prices}
+use Rattle.award_entries.specs.ThinLaws.{tells-eleven, tells-twelve}
+use Rattle.award_entries.specs.SingleLaws.{prices-sum, settled}
 use borrow.Author.Needs.{needs}
 use Rattle.award_entries.proofs.single_in.Statement.{statement}
 use Rattle.award_entries.proofs.single_in.Tie as tie
@@ -52,7 +54,7 @@ award-requires c κs =
     let A = c30 .args in let P = c30 .pre in let L = c17 .lay-spans in
     let w = cells-within Single (A .tender) (A .count) (A .bids .now) (A .windows .now) (P .0) in (
       (
-        lawful-prices (A .tender) (A .count) (A .bids .now) (A .windows .now) _ _ _ _ _ (P .0) (L .ensures) .count,
+        laid-prices (A .tender) (A .count) (A .bids .now) (A .windows .now) _ _ _ _ _ (P .0) (L .ensures) .count,
         L .kept .1 .1 .1 .1 .1 .0 ∙ P .1 .1 .0 ∙ sym (P .1 .0) ∙ sym (L .kept .1 .1 .1 .1 .0),
         L .kept .1 .1 .1 .1 .1 .1 .0 ∙ P .1 .1 .1 .0 ∙ sym (P .1 .0) ∙ sym (L .kept .1 .1 .1 .1 .0),
         omega (arith, w, c6 .cells .ensures),
@@ -76,7 +78,7 @@ totals-requires c κs =
     let c25 = c7 .before .before .before .before .before .before .before .before .before .before .before .before .before .before .before .before .before .before in
     let c38 = c25 .before .before .before .before .before .before .before .before .before .before .before .before .before in
     let A = c38 .args in let P = c38 .pre in let L = c25 .lay-spans in
-    let p = lawful-prices (A .tender) (A .count) (A .bids .now) (A .windows .now) _ _ _ _ _ (P .0) (L .ensures) in (
+    let p = laid-prices (A .tender) (A .count) (A .bids .now) (A .windows .now) _ _ _ _ _ (P .0) (L .ensures) in (
       (
         p .count,
         (

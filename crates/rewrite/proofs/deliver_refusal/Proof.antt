@@ -2,7 +2,7 @@
 use mathlib.Core.Path.{sym}
 use native.Mathlib.Omega.{arith}
 use Rattle.spelling.specs.LineLaws.{refused-short}
-use Rattle.rewrite.specs.DeliverLaws.{line-size, line-none, line-all}
+use Rattle.spelling.specs.DeliveredLaws.{line-size, line-none, line-all}
 use borrow.Author.Needs.{needs}
 use Rattle.rewrite.proofs.deliver_refusal.Statement.{statement}
 use Rattle.rewrite.proofs.deliver_refusal.Tie as tie
