@@ -1,6 +1,6 @@
 -- In both mechanisms the prices with which a bid would win are those below some price: by the least cover those up to its threshold, the
--- threshold itself where the tie falls so; by the greedy cover those up to its critical price (`CriticalLaws`). The threshold is what the bid is paid at
--- the price 0. Assumes nothing.
+-- threshold itself where the tie falls so; by the greedy cover those up to its critical price (`CriticalLaws`). The threshold is what
+-- the bid is paid at the price 0. Assumes nothing.
 use mathlib.Core.Path.{_≡_, refl, sym, ap, _∙_}
 use mathlib.Core.Bool.{Bool, true, false, cond, true≢false, false≢true}
 use mathlib.Core.List.{List}

@@ -1,0 +1,4 @@
+pub mod Highest
+pub mod HighestLaws
+pub mod RowLaws
+pub mod AnswerLaws
