@@ -1,3 +1,4 @@
 pub mod FaultCases
 pub mod HouseCases
 pub mod ThinCases
+pub mod HighestCases

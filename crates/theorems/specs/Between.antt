@@ -35,6 +35,14 @@ use Rattle.theorems_shown.specs.ListRead.{rowShown}
 abbrev pub CallableWith : AwardCall → Type 0
 CallableWith c = Callable (c .kind) (c .tender) (c .count) (c .bids) (c .windows) (length (c .rows-before))
 
+-- it is the award of the tender's own kind, called on these tables
+pub record SameTables (t : Tender) (n : ℕ) (bids windows : List ℕ) (c : AwardCall) : Type 0 where
+  pub kinds : c .kind ≡ t .kind
+  pub tenders : c .tender ≡ t
+  pub counts : c .count ≡ n
+  pub bids-too : c .bids ≡ bids
+  pub windows-too : c .windows ≡ windows
+
 -- some minute of the tender is in fewer than m bids
 pub record FewerThan (m : ℕ) (c : AwardCall) : Type 0 where
   pub minute : ℕ

@@ -15,6 +15,7 @@ use Rattle.tender.specs.declared.Tender.{Tender}
 use Rattle.tender.specs.declared.AwardRow.{AwardRow}
 use Rattle.tender.specs.declared.Answer.{Answer}
 use Rattle.tender.specs.declared.Totals.{Totals}
+use Rattle.tender.specs.declared.Highest.the-variants as highest
 use Rattle.tender.specs.declared.Refusal.{Refusal}
 use Rattle.tender.specs.declared.Refusal.the-variants.{BadTables}
 use Rattle.tender.specs.Refusals.{numberOf}
@@ -55,12 +56,13 @@ use Rattle.listing_text.specs.Lines.{totalWord, awardLine}
 use Rattle.listing_text.specs.List.{winList, listLines}
 use Rattle.listing_text.specs.ListLaws as list
 use Rattle.writer.specs.declared.Writing.the-variants.{Written, Refused}
+use Rattle.highest_text.specs.Told.{highestIn}
 use Rattle.writer_back.specs.Same.{Same, ReadBack}
 use Rattle.theorems_calls.specs.Calls.{ReadRun, ReadCall, AwardCall, auctionBy, toldBy, ListCall, shown}
-use Rattle.theorems_calls.specs.Calls.{WriteCall, RewriteCall}
+use Rattle.theorems_calls.specs.Calls.{WriteCall, RewriteCall, HighestCall, HighestLineCall}
 use Rattle.theorems_calls.specs.OneReading.{OneReading, OfText}
 use Rattle.theorems_shown.specs.ListRead.{rowShown}
-use Rattle.theorems.specs.Between.{BidsAlone, Exactly, CallableWith, FewerThan, ForCover, priceAt, WasRead}
+use Rattle.theorems.specs.Between.{BidsAlone, Exactly, CallableWith, SameTables, FewerThan, ForCover, priceAt, WasRead}
 use Rattle.theorems.specs.Between.{Variant, BidVariant, SameReading, Follows, SameAward}
 use Rattle.theorems.specs.Between.{NoGainAt, NoGainBetween, OneList}
 use Rattle.theorems.specs.Between.{ListGiven, NoGainShown, Showable}
@@ -76,10 +78,13 @@ use Rattle.theorems.specs.CoverLaws as cover
 use Rattle.theorems.specs.UnreservedLaws.{bids-alone, no-house-line, no-reserve-line}
 use Rattle.theorems.specs.ListNumberLaws.{one-list, shows-no-other}
 use Rattle.theorems.specs.ListGainLaws.{list-shows, withheld-shown, no-gain-shown}
-use Rattle.theorems.specs.Rewriting.{OneWriting, ReadAsWritten, SameTables}
+use Rattle.theorems.specs.Rewriting.{OneWriting, ReadAsWritten}
 use Rattle.theorems.specs.RewritingLaws.{one-writing, nine-as-award, read-as-written, equal-written, equal-rewritten}
 use Rattle.theorems.specs.RewritingLaws.{always-fits, read-rewritten, rewritten-again, rewritten-fits}
 use Rattle.theorems.specs.EitherSpellingLaws.{reading-same, list-same, rewriting-same}
+use Rattle.theorems.specs.Asking.{OneHighest, RowAsked, Renamed, Beside, PaidOrLess, BelowNamed}
+use Rattle.theorems.specs.AskingLaws.{one-highest, renamed-wins, renamed-loses, greedy-payment, least-payment, loser-price}
+use Rattle.theorems.specs.AskingLaws.{line-shown, line-fits}
 
 -- Demand 1. Every text and every table gets one complete award or one refusal, by number and place. No bid is dropped or shortened,
 -- and a refusal changes nothing that was lent.
@@ -314,7 +319,8 @@ pub one-answer-of-the-writer : (w : WriteCall) → OneWriting w
 one-answer-of-the-writer = one-writing
 
 -- 9 as the award of the tender's own kind gives it on these tables, at the same place.
-pub nine-as-the-award : (w : WriteCall) (c : AwardCall) → SameTables w c → (row : ℕ)
+pub nine-as-the-award : (w : WriteCall) (c : AwardCall) → SameTables (w .tender) (w .count) (w .bids) (w .windows) c
+    → (row : ℕ)
     → Exactly (w .answer ≡ Refused (BadTables row)) (toldBy c ≡ refusal (BadTables row))
 nine-as-the-award = nine-as-award
 
@@ -376,3 +382,43 @@ same-rewriting-of-either-spelling = rewriting-same
 pub same-reading-of-either-spelling : (r r′ : ReadCall) → DifferInSpelling (r .run .text) (r′ .run .text)
     → r .run .bids ≡ r′ .run .bids → r .run .windows ≡ r′ .run .windows → SameReading r r′
 same-reading-of-either-spelling = reading-same
+
+-- Paper 8 of 02. What would have won.
+
+-- Tables and a bidder number get one answer: refused as by the award of the tender's own kind with an award row for every bid, so never
+-- with 10; then 17 where no bid has the number; else the price at which and below which the bid would win if all else stood, and above
+-- which it would lose, for every whole price; or that it would win with none, not even 0.
+pub one-answer-to-who-asks : (h : HighestCall) → OneHighest h
+one-answer-to-who-asks = one-highest
+
+-- It is what the award says where the bid names another price in the same tables, within the limits: it wins with the price answered and
+-- below, and with none where none is answered.
+module _ (h : HighestCall) (c : AwardCall) (i : ℕ) (r : RowAsked h i) (d : Renamed h c i) where
+  pub wins-up-to-the-answer : (p : ℕ) → h .answer ≡ highest.Price p → rowFor (toldBy c) i .won ≡ leb (priceAt c i) p
+  wins-up-to-the-answer = renamed-wins h c i r d
+
+  pub wins-with-none : h .answer ≡ highest.NoPrice → rowFor (toldBy c) i .won ≡ false
+  wins-with-none = renamed-loses h c i r d
+
+-- beside an award on the same tables
+module _ (h : HighestCall) (c : AwardCall) (i : ℕ) (rows : List AwardRow) (totals : Totals) (b : Beside h c i rows totals) where
+  -- A winner by the greedy rule, as of a multi tender, is answered its payment,
+  pub multi-winner-s-payment : rule (h .tender .kind) ≡ greedy → rowFor (awarded rows totals) i .won ≡ true
+      → h .answer ≡ highest.Price (rowFor (awarded rows totals) i .cents)
+  multi-winner-s-payment = greedy-payment h c i rows totals b
+
+  -- one by least cost, as of a single tender, its payment where it would win by naming just that, and else one cent less,
+  pub single-winner-s-payment : rule (h .tender .kind) ≡ leastCost → rowFor (awarded rows totals) i .won ≡ true
+      → PaidOrLess h i (rowFor (awarded rows totals) i .cents)
+  single-winner-s-payment = least-payment h c i rows totals b
+
+  -- and a loser less than the price named, or none.
+  pub loser-s-price : rowFor (awarded rows totals) i .won ≡ false → BelowNamed h c i
+  loser-s-price = loser-price h c i rows totals b
+
+-- The line that `tender_highest` writes is that of what was read, and 52 bytes always suffice.
+pub highest-of-a-text : (bidder : ℕ) (l : HighestLineCall bidder) → 0 < l .answer → shown l ≡ highestIn (readText (l .text)) bidder
+highest-of-a-text = line-shown
+
+pub highest-fits : (bidder : ℕ) (l : HighestLineCall bidder) → 52 ≤ length (l .buffer) → 0 < l .answer
+highest-fits = line-fits

@@ -1,5 +1,6 @@
 pub mod Between
 pub mod Rewriting
+pub mod Asking
 pub mod ReadAgainLaws
 pub mod VariedLaws
 pub mod TextGainLaws
@@ -11,4 +12,5 @@ pub mod ListGainLaws
 pub mod UnreservedLaws
 pub mod RewritingLaws
 pub mod EitherSpellingLaws
+pub mod AskingLaws
 pub mod Demands

@@ -12,7 +12,7 @@ use Rattle.award_check.specs.Faults.{faultOf}
 use Rattle.writer.specs.declared.Writing.the-variants.{Written, Refused}
 use Rattle.writer_text.specs.Canonical.{canonical}
 use Rattle.writer_back.specs.Same.{Same}
-use Rattle.theorems_calls.specs.Calls.{ReadCall, AwardCall, WriteCall}
+use Rattle.theorems_calls.specs.Calls.{ReadCall, WriteCall}
 
 -- the text of its tables in one spelling
 abbrev pub textBy : WriteCall → List ℕ
@@ -35,11 +35,3 @@ pub record ReadAsWritten (w : WriteCall) (r : ReadCall) : Type 0 where
   pub accepts : r .run .answer ≡ answer.Accepted (w .tender) (w .count) window-rows
   pub same : Same (w .tender) (rowsOf (w .count) (w .bids)) (w .windows)
       (w .tender) (rowsOf (w .count) (r .run .bids-after)) (r .run .windows-after)
-
--- the award of the tender's own kind is called on the same tables
-pub record SameTables (w : WriteCall) (c : AwardCall) : Type 0 where
-  pub kinds : c .kind ≡ w .tender .kind
-  pub tenders : c .tender ≡ w .tender
-  pub counts : c .count ≡ w .count
-  pub bids : c .bids ≡ w .bids
-  pub windows : c .windows ≡ w .windows

@@ -38,8 +38,8 @@ use Rattle.writer_back.specs.ReadBackLaws.{lawful-tables, reads-back, text-same
 use Rattle.writer_back.specs.FilledLaws.{canonical-alone, read-sound, no-longer}
 use Rattle.rewrite.specs.Rewritten.{rewriteOf}
 use Rattle.theorems_calls.specs.Calls.{ReadCall, AwardCall, toldBy, WriteCall, RewriteCall, shown}
-use Rattle.theorems.specs.Between.{Exactly}
-use Rattle.theorems.specs.Rewriting.{textBy, OneWriting, tables-faulty, no-room, text-written, ReadAsWritten, SameTables}
+use Rattle.theorems.specs.Between.{Exactly, SameTables}
+use Rattle.theorems.specs.Rewriting.{textBy, OneWriting, tables-faulty, no-room, text-written, ReadAsWritten}
 
 -- one answer
 
@@ -222,10 +222,10 @@ equal-written w w′ n n′ e e′ =
 
 -- 9 is told just where the award of the tender's kind tells it, at the same place
 
-module _ (w : WriteCall) (c : AwardCall) (s : SameTables w c) (row : ℕ) where
+module _ (w : WriteCall) (c : AwardCall) (s : SameTables (w .tender) (w .count) (w .bids) (w .windows) c) (row : ℕ) where
   same-fault : faultOf (c .kind) (c .tender) (c .count) (c .bids) (c .windows)
       ≡ faultOf (w .tender .kind) (w .tender) (w .count) (w .bids) (w .windows)
-  same-fault = rw (s .kinds, s .tenders, s .counts, s .bids, s .windows)
+  same-fault = rw (s .kinds, s .tenders, s .counts, s .bids-too, s .windows-too)
 
   told-nine : w .answer ≡ writing.Refused (BadTables row) → toldBy c ≡ outcome.refused (BadTables row)
   told-nine e = go (one-writing w)

@@ -7,6 +7,7 @@ use Rattle.tender.specs.declared.Kind.{Kind}
 use Rattle.tender.specs.declared.Tender.{Tender}
 use Rattle.tender.specs.declared.AwardRow.{AwardRow}
 use Rattle.tender.specs.declared.Answer.{Answer}
+use Rattle.tender.specs.declared.Highest.{Highest}
 use Rattle.tender.specs.Tables.{bidWidth, windowWidth}
 use Rattle.reader_text.specs.Read.{readInto}
 use Rattle.reader.specs.Answer.{readAnswer, bidsAfter, windowsAfter}
@@ -19,6 +20,8 @@ use Rattle.listing_text.specs.List.{Listed}
 use Rattle.writer.specs.declared.Writing.{Writing}
 use Rattle.writer.specs.Writes.{Writes}
 use Rattle.rewrite.specs.Rewritten.{Rewritten}
+use Rattle.highest_rule.specs.Highest.{highestOf}
+use Rattle.highest_text.specs.Told.{HighestTold}
 
 -- the text and the tables lent to `read`, the tables that it left and what it answered
 pub record ReadRun : Type 0 where
@@ -91,3 +94,17 @@ pub record WriteCall : Type 0 where
 -- `tender_rewrite`, from C too
 abbrev pub RewriteCall : Type 0
 RewriteCall = BytesCall Rewritten
+
+-- `highest_price`: nothing lent changes
+pub record HighestCall : Type 0 where
+  pub tender : Tender
+  pub count : ℕ
+  pub bids : List ℕ
+  pub windows : List ℕ
+  pub bidder : ℕ
+  pub answer : Highest
+  pub promise : answer ≡ highestOf tender count bids windows bidder
+
+-- `tender_highest` with a bidder number, from C too
+abbrev pub HighestLineCall : ℕ → Type 0
+HighestLineCall bidder = BytesCall (λ text old new r. HighestTold text bidder old new r)
