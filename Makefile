@@ -16,7 +16,7 @@ CC = gcc
 CFLAGS = -O2
 
 # The crates that export calls. The archive has the calls of each of them; include/tender.h declares them.
-CALLS = listing rewrite
+CALLS = listing rewrite highest_text
 
 SHELL = bash
 .SHELLFLAGS = -e -o pipefail -c

@@ -49,6 +49,17 @@ size_t tender_list(const uint8_t *text, size_t text_len, uint8_t *list, size_t l
  */
 size_t tender_rewrite(const uint8_t *text, size_t text_len, uint8_t *out, size_t out_len);
 
+/*
+ * What would have won: "(highest B C)", C the largest whole price in cents with which the bid of bidder B would win if
+ * all else stood, the limit of 100,000,000 set aside; or "(highest B none)" where not even 0 would. Every lower price
+ * would win too, and no higher one. For a winner of a multi tender C is what the list pays, for a winner of a single
+ * tender that or one cent less, as the tie falls; for a loser it is less than the price named. Any number may be asked
+ * for. What the list declines is declined with the same line; then "(refused 17 0)" says that no bid has the number. A
+ * buffer of TENDER_HIGHEST_MAX bytes holds every line.
+ */
+#define TENDER_HIGHEST_MAX 64
+size_t tender_highest(const uint8_t *text, size_t text_len, uint64_t bidder, uint8_t *out, size_t out_len);
+
 #ifdef __cplusplus
 }
 #endif
