@@ -1,11 +1,14 @@
 /*
- * A second implementation of the list and of the one spelling, written for plainness and not for speed, to compare the proved one with.
+ * A second implementation of the list, of the one spelling and of the highest price, written for plainness and not for speed, to compare
+ * the proved one with.
  *
  * The text is read into a Tender. A rewritten text is made from one flag for each minute of the week, bid by bid.
  * For a list all speak of cells, of which one question is asked, whether a bid has a cell (`has`); it is asked once of each bid and cell,
  * and the answers are kept both ways: the bids that have a cell, and the cells that a bid has.
  * Single: the least cover cell by cell, sets compared where costs tie, and the whole selection again without each winner.
  * Multi: the greedy run, replayed from the start at each price tried; the critical price by bisection, not by document 000's maximum.
+ * The highest price with which a bid would win is found by bisection in either kind, the bid's fate being decided from the start at each
+ * price tried, and not from what is paid.
  * The house is no bid here. It has every cell and comes last, so in a single tender it stands alone or not at all, where the bids cost more
  * than the reserve, and in a multi tender the run ends where it is taken.
  */
@@ -174,6 +177,21 @@ static int cell_with(const Tender *t, int bids)
     return -1;
 }
 
+/* Reads the text, lays its tender out and answers what the tender is refused with, by number and place; 0 where it is not. */
+static int open_tender(const uint8_t *text, size_t len, Tender *t, long *place)
+{
+    int no = read_text(text, len, t, place);
+    if (no) return no;
+    lay_out(t);
+    for (int few = 0; few < 2 && !t->reserved; few++) {
+        int c = cell_with(t, few);
+        if (c < 0) continue;
+        *place = minute_of(t, c);
+        return 11 + few;
+    }
+    return 0;
+}
+
 /* single */
 
 typedef struct { int64_t cost; uint64_t set[WORDS]; } Cover;
@@ -253,24 +271,56 @@ static bool greedy(const Tender *t, int k, int64_t price, bool *won)
     return false;
 }
 
-/* the largest price at which bid k is taken, as it is at its own */
-static int64_t critical(const Tender *t, int k)
+/* which prices win */
+
+/* whether bid i wins with this price, all else standing: decided from the start */
+static bool wins_at(Tender *t, int i, int64_t price)
 {
     static bool won[MAX_BIDS];
-    int64_t low = t->bid[k].price, high = low + 1;     /* low wins */
-    while (greedy(t, k, high, won)) { low = high; high *= 2; }
+    if (!t->single) return greedy(t, i, price, won);
+    long named = t->bid[i].price;
+    t->bid[i].price = price;
+    Cover bids = least_cover(t, HOUSE);
+    t->bid[i].price = named;
+    return in_set(&bids, i) && !(t->reserved && t->reserve < bids.cost);
+}
+
+/* the largest price with which bid i wins, where `high` loses and `low` wins or is -1; -1 then says that none does */
+static int64_t largest(Tender *t, int i, int64_t low, int64_t high)
+{
     while (high - low > 1) {
         int64_t mid = low + (high - low) / 2;
-        if (greedy(t, k, mid, won)) low = mid;
+        if (wins_at(t, i, mid)) low = mid;
         else high = mid;
     }
     return low;
 }
 
+/* the largest price at which bid k of a multi tender is taken, as it is at its own */
+static int64_t critical(Tender *t, int k)
+{
+    int64_t low = t->bid[k].price, high = low + 1;     /* low wins */
+    while (wins_at(t, k, high)) { low = high; high *= 2; }
+    return largest(t, k, low, high);
+}
+
+/* A price that surely loses. Others have every cell of bid i: in a single tender it is above all of them together; in a multi tender it is
+   for each of i's cells above what any of them asks for one. */
+static int64_t too_much(const Tender *t, int i)
+{
+    int64_t sum = t->reserved ? t->reserve : 0, dearest = sum;
+    for (int j = 0; j < t->n; j++) {
+        if (j == i) continue;
+        sum += t->bid[j].price;
+        if (dearest < t->bid[j].price) dearest = t->bid[j].price;
+    }
+    return (t->single ? sum : dearest * t->cells) + 1;
+}
+
 /* the list */
 
 /* who wins and what each is paid; answers whether the house wins */
-static bool award(const Tender *t, bool *won, int64_t *paid)
+static bool award(Tender *t, bool *won, int64_t *paid)
 {
     if (!t->single) {
         bool house = greedy(t, HOUSE, 0, won);
@@ -292,13 +342,8 @@ size_t second_list(const uint8_t *text, size_t len, char *list, size_t room)
     static bool won[MAX_BIDS];
     static int64_t paid[MAX_BIDS];
     long place;
-    int no = read_text(text, len, &t, &place);
+    int no = open_tender(text, len, &t, &place);
     if (no) return (size_t)snprintf(list, room, "(refused %d %ld)\n", no, place);
-    lay_out(&t);
-    for (int few = 0; few < 2 && !t.reserved; few++) {
-        int c = cell_with(&t, few);
-        if (c >= 0) return (size_t)snprintf(list, room, "(refused %d %ld)\n", 11 + few, minute_of(&t, c));
-    }
     bool house = award(&t, won, paid);
     size_t at = (size_t)snprintf(list, room, "(award %s %ld %ld)\n", t.single ? "single" : "multi", t.start, t.end);
     int64_t cost = 0, sum = 0;
@@ -313,6 +358,21 @@ size_t second_list(const uint8_t *text, size_t len, char *list, size_t room)
         cost += t.reserve;
     }
     return at + (size_t)snprintf(list + at, room - at, "(total %lld %lld)\n", (long long)cost, (long long)sum);
+}
+
+/* the highest price */
+
+size_t second_highest(const uint8_t *text, size_t len, uint64_t bidder, char *out, size_t room)
+{
+    static Tender t;
+    long place;
+    int i = 0, no = open_tender(text, len, &t, &place);
+    if (no) return (size_t)snprintf(out, room, "(refused %d %ld)\n", no, place);
+    while (i < t.n && (uint64_t)t.bid[i].bidder != bidder) i++;
+    if (i == t.n) return (size_t)snprintf(out, room, "(refused 17 0)\n");
+    int64_t price = largest(&t, i, -1, too_much(&t, i));
+    if (price < 0) return (size_t)snprintf(out, room, "(highest %ld none)\n", t.bid[i].bidder);
+    return (size_t)snprintf(out, room, "(highest %ld %lld)\n", t.bid[i].bidder, (long long)price);
 }
 
 /* the one spelling */
