@@ -4,7 +4,7 @@
 
 #include "../../include/tender.h"
 
-enum { LIST_MAX = TENDER_LIST_MAX, STACK = TENDER_STACK };
+enum { LIST_MAX = TENDER_LIST_MAX, HIGHEST_MAX = TENDER_HIGHEST_MAX, STACK = TENDER_STACK };
 
 /* room enough for a rewritten text, or the line of a refusal */
 static inline size_t rewrite_room(size_t text_len)

@@ -3,8 +3,10 @@
  *   host PROGRAM [ROUNDS]     ROUNDS small random tenders and as many with a byte changed (default 100000), the other sorts in proportion
  */
 #define _GNU_SOURCE
+#include "bids.h"
 #include "calls.h"
 #include "entry.h"
+#include "highest.h"
 #include "prices.h"
 #include "rewrites.h"
 #include "second.h"
@@ -18,12 +20,14 @@
 #include <sys/wait.h>
 #include <unistd.h>
 
+/* the list; where it is a refusal, it is that of the highest price too */
 static void lists(const char *text, size_t n, const char *want)
 {
     writes(tender_list, LIST_MAX, text, n, want);
+    if (want[1] == 'r') highest_declines(text, n, want);
 }
 
-/* a text that cannot be read: either call writes its refusal */
+/* a text that cannot be read: each call writes its refusal */
 static void refuses(const char *text, size_t n, const char *want)
 {
     lists(text, n, want);
@@ -294,7 +298,11 @@ static void wide_tenders(long rounds)
 /* several threads at once: each runs all the texts, of both kinds and all widths, beginning at another */
 
 enum { THREADS = 4, TEXTS = 60, PASSES = 5 };
-static struct { char text[TEXT_ROOM], list[1 << 16], rewritten[TEXT_ROOM]; size_t n, k, m; } shared[TEXTS];
+static struct {
+    char text[TEXT_ROOM], list[1 << 16], rewritten[TEXT_ROOM], highest[64];
+    size_t n, k, m, h;
+    uint64_t bidder;        /* one of the text's, or 0 where it has none */
+} shared[TEXTS];
 
 static void *thread(void *arg)
 {
@@ -308,9 +316,26 @@ static void *thread(void *arg)
         *wrong += k != shared[at].k || memcmp(out, shared[at].list, k);
         size_t m = tender_rewrite((const uint8_t *)shared[at].text, shared[at].n, out, ROOM);
         *wrong += m != shared[at].m || memcmp(out, shared[at].rewritten, m);
+        size_t h = tender_highest((const uint8_t *)shared[at].text, shared[at].n, shared[at].bidder, out, ROOM);
+        *wrong += h != shared[at].h || memcmp(out, shared[at].highest, h);
     }
     free(out);
     return NULL;
+}
+
+/* a text for the threads, and what each call is to write of it */
+static void share(int i)
+{
+    static Bidders in;
+    Size size = i < 4 ? (Size){i % 2, WEEK, 40, 8} : wide_size();
+    size_t n = i % 3 == 2 ? small_text(shared[i].text) : wide_text(shared[i].text, size);
+    const uint8_t *text = (const uint8_t *)shared[i].text;
+    bidders_in(text, n, &in);
+    shared[i].n = n;
+    shared[i].bidder = in.count ? in.number[(unsigned)i % in.count] : 0;
+    shared[i].k = second_list(text, n, shared[i].list, sizeof shared[i].list);
+    shared[i].m = second_rewrite(text, n, shared[i].rewritten, sizeof shared[i].rewritten);
+    shared[i].h = second_highest(text, n, shared[i].bidder, shared[i].highest, sizeof shared[i].highest);
 }
 
 static void threads(void)
@@ -320,10 +345,7 @@ static void threads(void)
     long awards = 0;
     pthread_attr_t attr;
     for (int i = 0; i < TEXTS; i++) {
-        Size size = i < 4 ? (Size){i % 2, WEEK, 40, 8} : wide_size();
-        shared[i].n = i % 3 == 2 ? small_text(shared[i].text) : wide_text(shared[i].text, size);
-        shared[i].k = second_list((const uint8_t *)shared[i].text, shared[i].n, shared[i].list, sizeof shared[i].list);
-        shared[i].m = second_rewrite((const uint8_t *)shared[i].text, shared[i].n, shared[i].rewritten, sizeof shared[i].rewritten);
+        share(i);
         awards += awarded((const uint8_t *)shared[i].list, shared[i].k);
     }
     pthread_attr_init(&attr);
@@ -399,6 +421,7 @@ int main(int argc, char **argv)
     refusals();
     named_prices();
     named_rewrites();
+    named_highest();
     threads();
     programs(argv[1]);
     random_texts(rounds);
@@ -407,6 +430,7 @@ int main(int argc, char **argv)
     random_rewrites(rounds);
     respelt_prices(rounds);
     faulty_texts(rounds);
+    random_highest(rounds);
     printf("host: %ld checks, %ld faults\n", checks, faults);
     return faults != 0;
 }

@@ -2,6 +2,7 @@
 #include "prices.h"
 #include "calls.h"
 #include "entry.h"
+#include "highest.h"
 #include "texts.h"
 
 #include <stdio.h>
@@ -24,6 +25,7 @@ static void refuses(const char *text, const char *want)
 {
     lists(text, want);
     rewrites(text, want);
+    highest_declines(text, strlen(text), want);
 }
 
 /* this word as the price of two bids, and as the reserve of no bids, is so many cents in the list and in the rewritten text */

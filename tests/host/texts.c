@@ -41,21 +41,35 @@ static size_t open_bid(char *s, unsigned bidder, unsigned cents)
     return at + some_price(s + at, cents);
 }
 
-size_t small_text(char *s)
+/* so many minutes from a start on, so many bids with prices below `top`, and windows of up to so many minutes more than the tender */
+typedef struct { unsigned start, cells, bids, single, top, more; } Small;
+
+static size_t put_small(char *s, Small t)
 {
-    unsigned start = below(30), cells = 1 + below(below(8) ? 40 : 200), n = below(9), single = below(2);
-    size_t at = (size_t)sprintf(s, "(tender %s %u %u)\n", single ? "single" : "multi", start, start + cells);
-    if (below(2)) at += put_reserve(s + at, below(4) ? below(150) : below(5));
-    for (unsigned i = 0; i < n; i++) {
+    size_t at = (size_t)sprintf(s, "(tender %s %u %u)\n", t.single ? "single" : "multi", t.start, t.start + t.cells);
+    if (below(2)) at += put_reserve(s + at, below(4) ? below(3 * t.top) : below(5));
+    for (unsigned i = 0; i < t.bids; i++) {
         unsigned who = 1 + i * 7 + below(7);
-        at += open_bid(s + at, who, below(4) ? below(50) : below(5));
-        for (unsigned k = single ? 1 : 1 + below(4); k; k--) {
-            unsigned a = below(start + cells + 3), e = a + 1 + below(cells + 10);
+        at += open_bid(s + at, who, below(4) ? below(t.top) : below(5));
+        for (unsigned k = t.single ? 1 : 1 + below(4); k; k--) {
+            unsigned a = below(t.start + t.cells + 3), e = a + 1 + below(t.cells + t.more);
             at += (size_t)sprintf(s + at, " (%u %u)", a, e);
         }
         at += (size_t)sprintf(s + at, ")\n");
     }
     return at;
+}
+
+size_t small_text(char *s)
+{
+    unsigned start = below(30), cells = 1 + below(below(8) ? 40 : 200), n = below(9), single = below(2);
+    return put_small(s, (Small){start, cells, n, single, .top = 50, .more = 10});
+}
+
+size_t tiny_text(char *s)
+{
+    unsigned start = below(4), cells = 1 + below(10), n = below(7), single = below(2);
+    return put_small(s, (Small){start, cells, n, single, .top = TINY_TOP, .more = 3});
 }
 
 /* a window: mostly lawful, and at times empty, late or both, or with a point in it */

@@ -17,6 +17,10 @@ size_t some_price(char *s, unsigned cents);
    three has a point. */
 size_t small_text(char *s);
 
+/* a tender of up to 10 minutes with up to six bids and prices below TINY_TOP; half have a reserve */
+enum { TINY_TOP = 20 };
+size_t tiny_text(char *s);
+
 /* a text whose lines have the form and often a fault or several: numbers at and past each limit, windows empty or late, too many of them;
    reserves in any place, some of them misspelt; prices with a misspelt point, and points in other numbers */
 size_t faulty_text(char *s);
