@@ -8,7 +8,7 @@
 # make rules           writes docs/RULES.md, what has to be believed, from the sources
 # make times           writes docs/GATE.md, the gate's time, from the last run of the gate
 # make clean           removes target/, so that the next build proves everything anew
-VERSION = 0.7.0
+VERSION = 0.8.0
 TEXT ?= examples/market-day.txt
 PREFIX ?= /usr/local
 TIME ?= 600

@@ -1,21 +1,23 @@
 /*
  * tender: the command over the calls of tender.h. `tender list [FILE]` writes the list of a bid text, `tender rewrite
- * [FILE]` the text in one spelling.
+ * [FILE]` the text in one spelling, `tender highest BIDDER [FILE]` the highest price with which a bid would win.
  *
  * All that is decided about a tender is decided by the proved calls. This file reads, writes, says in words what a
- * refusal means and that the house is booked, and tells by its exit status how it went: 0 awarded or rewritten,
- * 1 refused, 2 trouble.
+ * refusal or a highest price means and that the house is booked, and tells by its exit status how it went: 0 awarded,
+ * rewritten or answered, 1 refused, 2 trouble.
  */
 #define _POSIX_C_SOURCE 200809L
 #include "tender.h"
 
 #include <errno.h>
 #include <fcntl.h>
+#include <inttypes.h>
 #include <pthread.h>
 #include <signal.h>
 #include <stdarg.h>
 #include <stdbool.h>
 #include <stdio.h>
+#include <stdlib.h>
 #include <string.h>
 #include <unistd.h>
 
@@ -24,6 +26,7 @@ enum { DONE, REFUSED, TROUBLE };
 static const char HELP[] =
     "usage: tender list [-q] [FILE]\n"
     "       tender rewrite [-q] [FILE]\n"
+    "       tender highest [-q] BIDDER [FILE]\n"
     "       tender --help | --version\n"
     "\n"
     "Reads a bid text from FILE, or from standard input where FILE is left out or -.\n"
@@ -31,25 +34,28 @@ static const char HELP[] =
     "  list        write its list: who wins and what each is paid\n"
     "  rewrite     write it in one spelling: each bid's windows joined where they overlap\n"
     "              or touch, in rising order, and prices in whole cents\n"
+    "  highest     write the highest price in cents with which bidder BIDDER would win if\n"
+    "              all else stood, or none where not even 0 would\n"
     "\n"
     "Where the text or the tender is declined, (refused N P) is written, number and place.\n"
     "\n"
-    "  -q          say nothing on standard error about a refusal or the house\n"
+    "  -q          say nothing on standard error about a refusal, the house or the price\n"
     "  --          what follows is no option\n"
     "  --help      write this text\n"
     "  --version   write the version, and the kit that proved the calls\n"
     "\n"
-    "Exit status: 0 awarded or rewritten, 1 refused, 2 trouble (bad usage, cannot read,\n"
-    "cannot write).\n";
+    "Exit status: 0 awarded, rewritten or answered, 1 refused, 2 trouble (bad usage, cannot\n"
+    "read, cannot write).\n";
 
 static const char ABOUT[] = "tender " VERSION "\nproved with " KIT "\n";
 
-/* Room for every list and every rewritten text. */
+/* Room for every list, every rewritten text and every line of a price. */
 enum { OUT_MAX = TENDER_TEXT_MAX < TENDER_LIST_MAX ? TENDER_LIST_MAX : TENDER_TEXT_MAX };
 
 /* One byte more than a text may have, so that a longer one is seen to be too long; and the byte 0 after what is written. */
 static uint8_t text[TENDER_TEXT_MAX + 1], out[OUT_MAX + 1];
 static size_t text_len, out_len;
+static uint64_t bidder; /* who is asked for, by a command that asks for one */
 
 static int trouble(const char *format, ...)
 {
@@ -98,7 +104,8 @@ static int write_out(const void *bytes, size_t n)
 
 /* what a refusal means */
 
-enum place { NOWHERE, LINE, MINUTE };
+/* what the sentence names: the place, or who was asked for */
+enum place { NOWHERE, LINE, MINUTE, BIDDER };
 
 static const struct { enum place place; const char *what; } REFUSALS[] = {
     [1] = {NOWHERE, "the text is longer than 65,536 bytes"},
@@ -110,10 +117,9 @@ static const struct { enum place place; const char *what; } REFUSALS[] = {
     [7] = {LINE, "more than one window in a single tender"},
     [11] = {MINUTE, "in no bid"},
     [12] = {MINUTE, "in one bid only, and each minute needs two"},
-    [13] = {NOWHERE, "the list would be longer than the room lent"},
-    [14] = {NOWHERE, "the text would be longer than 65,536 bytes or the room lent"},
     [15] = {LINE, "a window that ends after the week, above 10,080"},
     [16] = {LINE, "a reserve after a bid, or a second reserve"},
+    [17] = {BIDDER, "no bid has the bidder number"},
 };
 
 /* The line's first bytes, with \xNN for a byte that does not print. */
@@ -165,10 +171,13 @@ static void tell(unsigned number, unsigned long place)
     if (!known) fprintf(stderr, "tender: refused, number %u, place %lu\n", number, place);
     else if (REFUSALS[number].place == LINE) tell_line(number, place);
     else if (REFUSALS[number].place == MINUTE) tell_minute(number, place);
+    else if (REFUSALS[number].place == BIDDER) fprintf(stderr, "tender: %s %" PRIu64 "\n", REFUSALS[number].what, bidder);
     else fprintf(stderr, "tender: %s\n", REFUSALS[number].what);
 }
 
-/* Says so where the list has a line of the house. Only lines of a list begin so, and none is the first. */
+/* what is said where nothing is refused */
+
+/* That the house is booked, where the list has a line of the house; none is the first. */
 static void tell_house(void)
 {
     const char *line = strstr((const char *)out, "\n(house ");
@@ -177,16 +186,56 @@ static void tell_house(void)
         fprintf(stderr, "tender: the house is booked for %lu cents, counted in the cost and not in the sum paid\n", price);
 }
 
+/* What the answer means to who asks, with the bid's line, so that the price named is in sight. An accepted text has just
+   one line of this bidder, which is not the first, and no byte 0 before its end. */
+static void tell_highest(void)
+{
+    enum { TOP_PRICE = 100000000 };
+    char start[32];
+    uint64_t price;
+    snprintf(start, sizeof start, "\n(bid %" PRIu64 " ", bidder);
+    const char *line = strstr((const char *)text, start);
+    if (!line) return;
+    fprintf(stderr, "tender: bidder %" PRIu64 " would win with ", bidder);
+    if (sscanf((const char *)out, "(highest %*u %" SCNu64, &price) == 1)
+        fprintf(stderr, "a price of up to %" PRIu64 " cents, and with none above, if all else stood%s: ", price,
+            price > TOP_PRICE ? " and prices had no limit" : "");
+    else fputs("no price, not even 0, if all else stood: ", stderr);
+    quote((const uint8_t *)line + 1, strcspn(line + 1, "\n"));
+}
+
+/* A rewritten text speaks for itself. */
+static void tell_nothing(void)
+{
+}
+
 /* the commands */
 
-/* A call, and the refusal that it tells by the answer 0. */
+static size_t make_list(void)
+{
+    return tender_list(text, text_len, out, OUT_MAX);
+}
+
+static size_t make_rewritten(void)
+{
+    return tender_rewrite(text, text_len, out, OUT_MAX);
+}
+
+static size_t make_highest(void)
+{
+    return tender_highest(text, text_len, bidder, out, OUT_MAX);
+}
+
+/* Whether a bidder's number stands before FILE, the call, and what is said where nothing is refused. */
 static const struct command {
     const char *name;
-    size_t (*call)(const uint8_t *text, size_t text_len, uint8_t *out, size_t out_len);
-    unsigned no_room;
+    bool of_bidder;
+    size_t (*make)(void);
+    void (*tell)(void);
 } COMMANDS[] = {
-    {"list", tender_list, 13},
-    {"rewrite", tender_rewrite, 14},
+    {"list", false, make_list, tell_house},
+    {"rewrite", false, make_rewritten, tell_nothing},
+    {"highest", true, make_highest, tell_highest},
 };
 
 static const struct command *command;
@@ -199,7 +248,7 @@ static const struct command *named(const char *word)
 
 static void *make_out(void *unused)
 {
-    out_len = command->call(text, text_len, out, OUT_MAX);
+    out_len = command->make();
     return unused;
 }
 
@@ -222,14 +271,24 @@ static int run(const char *file, bool quiet)
     if (from_file) close(fd);
     int error = on_large_stack(make_out);
     if (error) return trouble("no room for a stack of %u bytes: %s", TENDER_STACK, strerror(error));
-    if (out_len == 0) return trouble("%s", REFUSALS[command->no_room].what);
+    if (out_len == 0) return trouble("what is to be written is longer than the room for it"); /* 13 and 14, never due here */
     if (write_out(out, out_len)) return TROUBLE;
     unsigned number;
     unsigned long place;
     bool refused = sscanf((const char *)out, "(refused %u %lu", &number, &place) == 2;
     if (!quiet && refused) tell(number, place);
-    else if (!quiet) tell_house();
+    else if (!quiet) command->tell();
     return refused ? REFUSED : DONE;
+}
+
+/* Who is asked for: digits alone, no leading zero but 0 itself, and a number of 64 bits. */
+static bool take_bidder(const char *word)
+{
+    size_t digits = strspn(word, "0123456789");
+    bool spelt = digits && !word[digits] && (digits == 1 || word[0] != '0');
+    errno = 0;
+    bidder = strtoull(word, NULL, 10);
+    return spelt && !errno;
 }
 
 int main(int argc, char **argv)
@@ -239,13 +298,13 @@ int main(int argc, char **argv)
     signal(SIGXFSZ, SIG_IGN);
     setvbuf(stderr, NULL, _IOLBF, BUFSIZ); /* a message is written at once */
     bool quiet = false, options = true;
-    const char *words[2] = {NULL, NULL};
+    enum { MOST = 3 };
+    const char *words[MOST + 1] = {NULL}; /* as many as a command may have, and one too many */
     int count = 0;
     for (int i = 1; i < argc; i++) {
         const char *word = argv[i];
         if (!options || word[0] != '-' || !strcmp(word, "-")) {
-            if (count == 2) return trouble("too many words, from '%s' on; see tender --help", word);
-            words[count++] = word;
+            if (count <= MOST) words[count++] = word;
         }
         else if (!strcmp(word, "--")) options = false;
         else if (!strcmp(word, "-q")) quiet = true;
@@ -256,5 +315,9 @@ int main(int argc, char **argv)
     if (!words[0]) return trouble("no command; see tender --help");
     command = named(words[0]);
     if (!command) return trouble("no such command: %s; see tender --help", words[0]);
-    return run(words[1], quiet);
+    int before_file = command->of_bidder ? 2 : 1;
+    if (count > before_file + 1) return trouble("too many words, from '%s' on; see tender --help", words[before_file + 1]);
+    if (command->of_bidder && !words[1]) return trouble("no bidder number; see tender --help");
+    if (command->of_bidder && !take_bidder(words[1])) return trouble("'%s' is no bidder number; see tender --help", words[1]);
+    return run(words[before_file], quiet);
 }
