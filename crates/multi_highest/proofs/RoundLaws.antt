@@ -28,7 +28,7 @@ use Rattle.multi_rounds.specs.FrontingLaws.{turned}
 use Rattle.multi_rounds.specs.OpensLaws.{reach-open}
 use Rattle.multi_follow.specs.Follow.{raisedTo, Took, bar-from}
 use Rattle.multi_follow.proofs.Limiting.{others, bar-none}
-use Rattle.multi_highest.specs.Rounding.{Rounding, Highest}
+use Rattle.multi_highest.specs.Rounding.{Rounding, Limited}
 
 -- there are no more words than 1,001 bids of 158 words have
 pub words-most : {ps ms : List ℕ} {w : ℕ} → Market ps ms w → length ms ≤ 158 * maxEntries
@@ -78,7 +78,7 @@ starts {ps} {ms} {w} {n} {k} m inside {held} e l f {old = old} t₀ g t q y x = 
 module _ {ps ms : List ℕ} {w n k : ℕ} {held counts who num : List ℕ} {mine top : ℕ}
     (s : Rounding ps ms w n k held counts who num mine top) where
   -- k has no open cell left
-  pub ends-own : mine ≡ 0 → Highest ps ms w n k top
+  pub ends-own : mine ≡ 0 → Limited ps ms w n k top
   unfolding bar-from rounds-of
   ends-own z = record {
     is = sym (s .highest ∙ ap (max top) (bar-none k (has ms w k) (others k ps ms w) (length ps) (openOf held) (sym (s .own) ∙ z))
@@ -92,7 +92,7 @@ module _ {ps ms : List ℕ} {w n k : ℕ} {held counts who num : List ℕ} {mine
     turn = turned f exact
 
     -- no other bid reaches an open cell
-    pub ends-none : length ps ≤ b → Highest ps ms w n k top
+    pub ends-none : length ps ≤ b → Limited ps ms w n k top
     unfolding bar-from rounds-of bar
     ends-none l = record {
       is = sym (s .highest ∙ ap (λ (t : Rounds). max top (bar k (has ms w k) t))

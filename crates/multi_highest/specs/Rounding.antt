@@ -23,6 +23,6 @@ pub record Rounding (ps ms : List ℕ) (w n k : ℕ) (held counts who num : List
   pub small : top ≤ 1011200000001
 
 -- r is the price below which bid k would win
-pub record Highest (ps ms : List ℕ) (w n k r : ℕ) : Type 0 where
+pub record Limited (ps ms : List ℕ) (w n k r : ℕ) : Type 0 where
   pub is : r ≡ limit (has ms w) ps (cells n) k
   pub small : r ≤ 1011200000001

@@ -7,7 +7,7 @@ ghost use Rattle.tender.specs.Limits.{maxEntries};
 ghost use Rattle.cover.specs.Sets.{cells};
 ghost use Rattle.cover.specs.CriticalPrice.{limit};
 ghost use Rattle.multi_rounds.specs.Market.{has, Market, Hopping};
-ghost use Rattle.multi_highest.specs.Rounding.{Rounding, Highest};
+ghost use Rattle.multi_highest.specs.Rounding.{Rounding, Limited};
 
 // The run without bid k before its first round: the first cells open, and each bid but k entered. Answers how many of them k has.
 fn begin(
@@ -55,7 +55,7 @@ fn rounds(
 ) -> u64
     requires { ⌜ Market (now prices) (now masks) w × (Hopping (now prices) (now masks) (now hop) w × ((k < length (now prices))
         × Rounding (now prices) (now masks) w count k (now held) (now counts) (now who) (now num) own 0)) ⌝ }
-    ensures { λ r. ⌜ Highest (now (prices .entry)) (now (masks .entry)) w count k r ⌝ }
+    ensures { λ r. ⌜ Limited (now (prices .entry)) (now (masks .entry)) w count k r ⌝ }
 {
     let mut mine = own;
     let mut top: u64 = 0;
@@ -113,7 +113,7 @@ fn find(
     requires { ⌜ Market (now prices) (now masks) w × ((count ≤ 64 * w) × ((k < length (now prices))
         × ((length (now hop) ≡ length (now masks)) × ((length (now held) ≡ w) × ((length (now counts) ≡ w + 2)
         × ((length (now who) ≡ 2048) × (length (now num) ≡ 2048))))))) ⌝ }
-    ensures { λ r. ⌜ Highest (now (prices .entry)) (now (masks .entry)) w count k r ⌝ }
+    ensures { λ r. ⌜ Limited (now (prices .entry)) (now (masks .entry)) w count k r ⌝ }
 {
     multi_charts::chart(prices, masks, w, hop);
     let mine = begin(prices, masks, hop, w, count, k, held, counts, who, num);
@@ -148,7 +148,7 @@ fn below_in(
     requires { ⌜ Market (now prices) (now masks) w × ((count ≤ 64 * w) × ((k < length (now prices))
         × ((158 * maxEntries ≤ length (now hop)) × ((158 ≤ length (now held)) × ((160 ≤ length (now counts))
         × ((length (now who) ≡ 2048) × (length (now num) ≡ 2048))))))) ⌝ }
-    ensures { λ r. ⌜ Highest (now (prices .entry)) (now (masks .entry)) w count k r ⌝ }
+    ensures { λ r. ⌜ Limited (now (prices .entry)) (now (masks .entry)) w count k r ⌝ }
 {
     let z = masks.len();
     let u = w + 2;
