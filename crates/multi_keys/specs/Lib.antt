@@ -1,0 +1,4 @@
+pub mod Keys
+pub mod Tree
+pub mod KeyLaws
+pub mod TreeLaws
