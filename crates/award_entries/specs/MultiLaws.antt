@@ -14,7 +14,7 @@ use Rattle.cover.specs.SpareLaws.{Spare}
 use Rattle.cover.specs.Greedy.{wins}
 use Rattle.cover.specs.CriticalPrice.{roundsPaid}
 use Rattle.cover.specs.Settled.{Settled}
-use Rattle.multi_rounds.specs.Market.{has}
+use Rattle.multi_market.specs.Market.{has}
 use Rattle.award_thin.specs.declared.Thin.{Thin}
 use Rattle.award_thin.specs.declared.Thin.the-variants.{Enough}
 use Rattle.award_check.specs.Faults.{faultOf}

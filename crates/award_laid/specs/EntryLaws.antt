@@ -15,9 +15,9 @@ use Rattle.tender.specs.declared.Reserve.the-variants.{Absent, Price}
 use Rattle.tender.specs.declared.Tender.{Tender}
 use Rattle.tender.specs.Limits.{maxEntries}
 use Rattle.tender.specs.Tables.{bidWidth}
-use Rattle.multi_tournament.specs.Tournament.{Priced}
-use Rattle.multi_tournament.specs.OrderLaws.{product}
-use Rattle.multi_rounds.specs.Market.{Market}
+use Rattle.multi_market.specs.Market.{Priced}
+use native.Mathlib.Nat.{mul-le-mul}
+use Rattle.multi_market.specs.Market.{Market}
 use Rattle.award_thin.specs.declared.Thin.{Thin}
 use Rattle.award_check.specs.Faults.{faultOf}
 use Rattle.award_check.specs.Cells.{cellsOf}
@@ -37,15 +37,15 @@ pub entries-few : (k : Kind) (t : Tender) (n : ℕ) (bids windows : List ℕ) �
     → n + houses (t .reserve) ≤ maxEntries
 entries-few k t n bids windows f = omega (arith, orderly k t n bids windows f .few, one-house (t .reserve))
 
+product : (a b m n : ℕ) → a ≤ m → b ≤ n → a * b ≤ m * n
+product a b m n h l = mul-le-mul h l
+
 -- the words of all entries of a tender with c cells have room
 pub words-room : (t : Tender) (n m c : ℕ) (bids windows : List ℕ) → faultOf Multi t n bids windows ≡ none
     → m ≡ n + houses (t .reserve) → c ≡ cellsOf t → (c + 63) / 64 * m ≤ 158 * maxEntries
-words-room t n m c bids windows f g e = omega (
-  arith,
-  product ((c + 63) / 64) m 158 maxEntries
-      (words-of Multi t n ((c + 63) / 64) bids windows f (ap (λ (v : ℕ). (v + 63) / 64) e) .words)
-      (omega (arith, entries-few Multi t n bids windows f)),
-)
+words-room t n m c bids windows f g e = product ((c + 63) / 64) m 158 maxEntries
+    (words-of Multi t n ((c + 63) / 64) bids windows f (ap (λ (v : ℕ). (v + 63) / 64) e) .words)
+    (omega (arith, entries-few Multi t n bids windows f))
 
 -- the prices of a faultless tender's entries are within the limit
 pub prices-lawful : (k : Kind) (t : Tender) (n : ℕ) (bids windows : List ℕ) → faultOf k t n bids windows ≡ none

@@ -7,7 +7,7 @@ use Rattle.tender.specs.declared.Tender.{Tender}
 use Rattle.cover.specs.Sets.{nothing, found}
 use Rattle.cover.specs.Settled.{spans}
 use Rattle.cover.specs.Intervals.{Order}
-use Rattle.multi_rounds.specs.Market.{has}
+use Rattle.multi_market.specs.Market.{has}
 use Rattle.award_thin.specs.declared.Thin.{Thin}
 use Rattle.award_thin.specs.declared.Thin.the-variants.{Nobody, Alone, Enough}
 use Rattle.award_check.specs.Cells.{cellsOf}

@@ -21,8 +21,8 @@ use Rattle.tender.specs.Limits.{maxEntries}
 use Rattle.cells.specs.Cells.{cell}
 use Rattle.cover.specs.Settled.{spans}
 use Rattle.cover.specs.Intervals.{Order}
-use Rattle.multi_rounds.specs.Market.{wordRow, has, First}
-use Rattle.multi_rounds.specs.WordRowLaws.{row-within}
+use Rattle.multi_market.specs.Market.{wordRow, has, First}
+use Rattle.multi_market.specs.WordRowLaws.{row-within}
 use Rattle.award_thin.specs.declared.Thin.{Thin}
 use Rattle.award_thin.specs.declared.Thin.the-variants.{Nobody, Alone, Enough}
 use Rattle.award_thin.specs.Thin.{Says, Spans}

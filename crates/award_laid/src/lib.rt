@@ -11,7 +11,7 @@ ghost use lib.ListN.{length, getD, set};
 ghost use Rattle.tender.specs.declared.Kind.the-variants.{Single, Multi};
 ghost use Rattle.cover.specs.Settled.{spans};
 ghost use Rattle.cover.specs.Intervals.{Order};
-ghost use Rattle.multi_rounds.specs.Market.{First};
+ghost use Rattle.multi_market.specs.Market.{First};
 ghost use Rattle.award_thin.specs.Thin.{Says, Spans};
 ghost use Rattle.award_check.specs.Faults.{faultOf};
 ghost use Rattle.award_check.specs.Cells.{cellsOf};
@@ -110,7 +110,7 @@ pub fn lay_masks(
         Reserve::Absent => award_thin_masks::thin_masks(masks, w, count, cells as usize),
         Reserve::Price(price) => {
             prices[count] = price;
-            multi_rounds::unlock(&mut masks[own..], cells as usize);
+            multi_market::unlock(&mut masks[own..], cells as usize);
             Thin::Enough
         }
     }

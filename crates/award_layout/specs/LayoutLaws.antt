@@ -20,7 +20,7 @@ use Rattle.tender.specs.Tables.{Row, rowsOf, windowsOf, own, bidWidth, windowWi
 use Rattle.cover.specs.SetLaws.{and-split}
 use Rattle.cover.specs.Settled.{spans}
 use Rattle.cells.specs.Cells.{cell}
-use Rattle.multi_rounds.specs.Market.{wordRow, has}
+use Rattle.multi_market.specs.Market.{wordRow, has}
 use Rattle.award_check.specs.Faults.{sound, rowFault, sameKind, faultOf}
 use Rattle.award_check.specs.Cells.{holds, cellsOf, minuteOf, noRow, bidRowAt}
 use Rattle.award_check.specs.Auction.{houses, auctionOf}

@@ -9,7 +9,7 @@ use Rattle.tender.specs.declared.Window.{Window}
 use Rattle.tender.specs.declared.Tender.{Tender}
 use Rattle.tender.specs.Tables.{own, windowAt, bidWidth}
 use Rattle.cells.specs.Cells.{cell}
-use Rattle.multi_rounds.specs.Market.{wordRow}
+use Rattle.multi_market.specs.Market.{wordRow}
 use Rattle.award_check.specs.Cells.{holds, cellsOf, minuteOf, bidRowAt}
 use Rattle.award_check.specs.AlikeLaws.{Kept}
 

@@ -11,8 +11,8 @@ use borrow.Author.Tests.{ltb-true, ltb-false}
 use borrow.Rule.Slice.PartMut.{midOf, putMid, same-len-mid}
 use Rattle.tender.specs.declared.Tender.{Tender}
 use Rattle.tender.specs.Tables.{own}
-use Rattle.multi_rounds.specs.Market.{wordRow}
-use Rattle.multi_rounds.specs.WordRowLaws.{part-row, row-within, row-length}
+use Rattle.multi_market.specs.Market.{wordRow}
+use Rattle.multi_market.specs.WordRowLaws.{part-row, row-within, row-length}
 use Rattle.award_check.specs.Cells.{bidRowAt}
 use Rattle.award_layout.specs.Orderly.{Masked, AllMasked}
 

@@ -8,7 +8,7 @@ use lib.Dec.{leb, ltb}
 use Rattle.cells.specs.Cells.{bitOf, cell}
 use Rattle.cover.specs.Sets.{when, nothing, found, bidders}
 use Rattle.cover.specs.Earliest.{cellWith}
-use Rattle.multi_rounds.specs.Market.{has}
+use Rattle.multi_market.specs.Market.{has}
 use Rattle.award_thin.specs.declared.Thin.{Thin}
 use Rattle.award_thin.specs.declared.Thin.the-variants.{Nobody, Alone, Enough}
 

@@ -15,7 +15,7 @@ use Rattle.cells.specs.Cells.{bitOf, cell, Next}
 use Rattle.cells.specs.BitLaws.{bit-lt, zero-bit, and-bit, or-bit}
 use Rattle.cells.specs.StoreLaws.{lt-or-le, cell-lt, set-same, set-other}
 use Rattle.cover.specs.Sets.{when, bidders}
-use Rattle.multi_rounds.specs.Market.{wordRow, has, First}
+use Rattle.multi_market.specs.Market.{wordRow, has, First}
 use Rattle.award_thin.specs.Thin.{fewer, Reached, Gathered, FirstOf}
 
 -- the first w words of a row of ones

@@ -2,7 +2,7 @@
 ghost use mathlib.Core.Path.{_≡_};
 ghost use Prim.Native.Nat.{_+_, _*_, _≤_, _<_};
 ghost use lib.ListN.{length};
-ghost use Rattle.multi_rounds.specs.Market.{has};
+ghost use Rattle.multi_market.specs.Market.{has};
 ghost use Rattle.award_thin.specs.Thin.{Says, fewer, Reached, Gathered, FirstOf};
 use award_thin::Thin;
 
@@ -51,7 +51,7 @@ fn first_below(
         × ((length (now wanted) ≡ w) × (length (now enough) ≡ w)))) ⌝ }
     ensures { λ r. ⌜ FirstOf (fewer (has (now (masks .entry)) w) n 2) cells r ⌝ }
 {
-    multi_rounds::unlock(wanted, cells);
+    multi_market::unlock(wanted, cells);
     gather(masks, w, n, wanted, enough);
     let x = cells::next(wanted, enough, 0);
     if x < cells {

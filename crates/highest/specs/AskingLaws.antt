@@ -20,7 +20,7 @@ use Rattle.cover.specs.Settled.{spans}
 use Rattle.cover.specs.SpareLaws.{Spare}
 use Rattle.cover.specs.Winning.{Below, oneLess}
 use Rattle.cover.specs.Intervals.BidsLaws.{sum-most}
-use Rattle.multi_rounds.specs.Market.{placeOr, has}
+use Rattle.multi_market.specs.Market.{placeOr, has}
 use Rattle.award_thin.specs.declared.Thin.{Thin}
 use Rattle.award_thin.specs.declared.Thin.the-variants.{Nobody, Alone, Enough}
 use Rattle.award_check.specs.Faults.{faultOf}

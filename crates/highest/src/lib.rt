@@ -15,7 +15,7 @@ ghost use Rattle.tender.specs.Limits.{maxEntries};
 ghost use Rattle.tender.specs.Tables.{bidWidth};
 ghost use Rattle.cover.specs.Winning.{oneLess};
 ghost use Rattle.cover.specs.Settled.{mostCents};
-ghost use Rattle.multi_rounds.specs.Market.{placeOr};
+ghost use Rattle.multi_market.specs.Market.{placeOr};
 ghost use Rattle.award_check.specs.Faults.{faultOf};
 ghost use Rattle.award_check.specs.Cells.{cellsOf};
 ghost use Rattle.award_check.specs.Auction.{houses};

@@ -1,180 +1,131 @@
 // The greedy award over plain numbers (paper 01, "Multi"): a flag and the cents paid for each bid.
 // `award` takes a price and w words of cells a bid; what a bid is paid is said where the others have each of the `count` cells.
 ghost use mathlib.Core.Path.{_≡_};
+ghost use mathlib.Core.List.{List};
 ghost use Prim.Native.Nat.{ℕ, _+_, _*_, _≤_};
 ghost use lib.ListN.{length};
-ghost use Rattle.tender.specs.Limits.{maxEntries};
 ghost use Rattle.cover.specs.Sets.{cells};
 ghost use Rattle.cover.specs.Greedy.{wins};
 ghost use Rattle.cover.specs.CriticalPrice.{roundsPaid};
 ghost use Rattle.cover.specs.Settled.{Settled};
 ghost use Rattle.cover.specs.SpareLaws.{Spare};
-ghost use Rattle.multi_tournament.specs.Tournament.{Tournament};
-ghost use Rattle.multi_rounds.specs.Market.{has, Market, Hopping};
+ghost use Rattle.multi_keys.specs.Tree.{leaves, Tree};
+ghost use Rattle.multi_market.specs.Market.{has, Market, Hopping, First};
 ghost use Rattle.multi_rounds.specs.Trace.{Trace};
-ghost use Rattle.multi_pay.specs.Paying.{Paid};
+ghost use Rattle.multi_pay.specs.Paying.{Listed, Paid};
+ghost use Rattle.multi.specs.Picked.{Picked};
 
-// The run from all cells open, written down. Answers the number of rounds.
-fn run(
+// The keys of the bids in `ever`; the others are out.
+fn pick(tree: &[u64], ever: &[u64], list: &mut [u64])
+    requires { ⌜ (length (now tree) ≡ 2048) × ((length (now ever) ≡ 16) × (length (now list) ≡ 2048)) ⌝ }
+    ensures { λ _. ⌜ Tree (now (list .exit)) × Picked (now (ever .entry)) (leaves (now (tree .entry))) (leaves (now (list .exit))) ⌝ }
+{
+    let mut i = 0;
+    while i < 1024 {
+        if cells::holds(ever, i) {
+            list[1024 + i] = tree[1024 + i];
+            i += 1;
+        } else {
+            list[1024 + i] = multi_keys::OUT;
+            i += 1;
+        }
+    }
+    multi_keys::play(list);
+}
+
+// The run from all cells open, written down, and the list of the bids in `ever` before its first round. Answers the number of rounds.
+fn write(
     prices: &[u64],
     masks: &[u64],
     hop: &[u8],
-    w: usize,
+    ever: &[u64],
     count: usize,
     held: &mut [u64],
     counts: &mut [u64],
-    who: &mut [u64],
-    num: &mut [u64],
-    order: &mut [u64],
-    gains: &mut [u64],
+    tree: &mut [u64],
+    list: &mut [u64],
+    run: &mut [u64],
+    tape: &mut [u64],
 ) -> usize
-    requires { ⌜ Market (now prices) (now masks) w ×
-        (Hopping (now prices) (now masks) (now hop) w ×
-        ((count ≤ 64 * w) × ((count ≤ length (now order)) × ((count ≤ length (now gains))
-        × ((length (now held) ≡ w) × ((length (now counts) ≡ w + 2)
-        × ((length (now who) ≡ 2048) × (length (now num) ≡ 2048)))))))) ⌝ }
-    ensures { λ r. ⌜ Trace (now (prices .entry)) (now (masks .entry)) w count (now (order .exit)) (now (gains .exit)) r
-        × Tournament (now (prices .entry)) (now (who .exit)) (now (num .exit)) ⌝ }
+    requires { ⌜ Market (now prices) (now masks) (length (now held)) × (Hopping (now prices) (now masks) (now hop) (length (now held))
+        × ((count ≤ 64 * length (now held)) × (((3 * count + 3 ≤ length (now run)) × (2 * count ≤ length (now tape)))
+        × ((length (now counts) ≡ length (now held) + 2) × ((length (now ever) ≡ 16) × ((length (now tree) ≡ 2048)
+        × (length (now list) ≡ 2048))))))) ⌝ }
+    ensures { λ r. ⌜ Trace (has (now (masks .entry)) (length (now (held .entry)))) (now (prices .entry)) (length (now (held .entry)))
+        count (now (run .exit)) (now (tape .exit)) r
+        × (((h : List ℕ) → First count h → length h ≡ length (now (held .entry))
+        → Listed (has (now (masks .entry)) (length (now (held .entry)))) (now (prices .entry)) h (now (ever .entry))
+        (leaves (now (list .exit))))
+        × Tree (now (list .exit))) ⌝ }
 {
-    multi_rounds::unlock(held, count);
+    multi_market::unlock(held, count);
     cells_count::count_none(held, counts);
-    multi_tournament::seat(who);
-    cells::clear(num);
-    multi_rounds::enter(prices, masks, hop, w, held, counts, who, num);
-    multi_rounds::trace(
-        prices,
-        masks,
-        hop,
-        w,
-        count,
-        held,
-        counts,
-        who,
-        num,
-        order,
-        gains,
-    )
+    multi_rounds::enter(prices, masks, hop, held, counts, tree);
+    pick(tree, ever, list);
+    multi_rounds::trace(prices, masks, hop, count, held, counts, tree, run, tape)
 }
 
 // The award into lists with a place for each bid and no more, with room to work lent.
 fn settle(
     prices: &[u64],
     masks: &[u64],
-    w: usize,
     count: usize,
-    order: &mut [u64],
-    gains: &mut [u64],
     hop: &mut [u8],
     index: &mut [u64],
+    ever: &mut [u64],
+    run: &mut [u64],
+    tape: &mut [u64],
     held: &mut [u64],
     alt: &mut [u64],
     counts: &mut [u64],
-    who: &mut [u64],
-    num: &mut [u64],
+    list: &mut [u64],
+    tree: &mut [u64],
     mark: &mut [u64],
     won: &mut [u64],
     cents: &mut [u64],
 )
-    requires { ⌜ Market (now prices) (now masks) w ×
-        ((count ≤ 64 * w) × ((count ≤ length (now order)) × ((count ≤ length (now gains))
-        × ((length (now hop) ≡ length (now masks)) × ((length (now index) ≡ 16 * w)
-        × ((length (now held) ≡ w) × ((length (now alt) ≡ w)
-        × ((length (now counts) ≡ w + 2) × ((length (now who) ≡ 2048)
-        × ((length (now num) ≡ 2048) × ((length (now mark) ≡ 32)
-        × ((length (now won) ≡ length (now prices)) × (length (now cents) ≡ length (now prices)))))))))))))) ⌝ }
-    ensures { λ _. ⌜ Paid (now (prices .entry)) (now (masks .entry)) w count (now (won .exit)) (now (cents .exit)) ⌝ }
+    requires { ⌜ Market (now prices) (now masks) (length (now held))
+        × ((count ≤ 64 * length (now held)) × (((3 * count + 3 ≤ length (now run)) × (2 * count ≤ length (now tape)))
+        × ((length (now hop) ≡ length (now masks)) × (((316 ≤ length (now index)) × (length (now index) ≤ 200000))
+        × ((length (now alt) ≡ length (now held)) × ((length (now counts) ≡ length (now held) + 2)
+        × (((length (now ever) ≡ 16) × (length (now mark) ≡ 16)) × (((length (now tree) ≡ 2048) × (length (now list) ≡ 2048))
+        × ((length (now prices) ≡ length (now won)) × (length (now prices) ≡ length (now cents))))))))))) ⌝ }
+    ensures { λ _. ⌜ Paid (has (now (masks .entry)) (length (now (held .entry)))) (now (prices .entry)) count (now (won .exit))
+        (now (cents .exit)) ⌝ }
 {
-    multi_charts::chart(prices, masks, w, hop);
-    multi_charts::enlist(prices, masks, hop, w, index);
-    let rounds = run(
+    multi_charts::chart(prices, masks, held.len(), hop);
+    multi_index::enlist(prices, masks, hop, held.len(), index, ever);
+    let rounds = write(
         prices,
         masks,
         hop,
-        w,
+        ever,
         count,
         held,
         counts,
-        who,
-        num,
-        order,
-        gains,
+        tree,
+        list,
+        run,
+        tape,
     );
-    multi_rounds::unlock(held, count);
-    cells::clear(won);
-    cells::clear(cents);
     multi_pay::pay_all(
         prices,
         masks,
         hop,
         index,
-        w,
+        ever,
+        run,
+        tape,
         count,
-        order,
-        gains,
         rounds,
         held,
         alt,
         counts,
-        who,
-        num,
+        list,
+        tree,
         mark,
         won,
         cents,
-    );
-}
-
-// The award, with room lent for 1,001 bids of 158 words.
-fn award_in(
-    prices: &[u64],
-    masks: &[u64],
-    w: usize,
-    count: usize,
-    order: &mut [u64],
-    gains: &mut [u64],
-    hop: &mut [u8],
-    index: &mut [u64],
-    held: &mut [u64],
-    alt: &mut [u64],
-    counts: &mut [u64],
-    who: &mut [u64],
-    num: &mut [u64],
-    mark: &mut [u64],
-    won: &mut [u64],
-    cents: &mut [u64],
-)
-    requires { ⌜ Market (now prices) (now masks) w ×
-        ((count ≤ 64 * w) × ((count ≤ length (now order)) × ((count ≤ length (now gains))
-        × ((158 * maxEntries ≤ length (now hop)) × ((2528 ≤ length (now index))
-        × ((158 ≤ length (now held)) × ((158 ≤ length (now alt))
-        × ((160 ≤ length (now counts)) × ((length (now who) ≡ 2048)
-        × ((length (now num) ≡ 2048) × ((length (now mark) ≡ 32)
-        × ((length (now prices) ≤ length (now won)) × (length (now prices) ≤ length (now cents)))))))))))))) ⌝ }
-    ensures { λ _. ⌜ Settled (Spare (has (now (masks .entry)) w) (length (now (prices .entry))) count)
-        (wins (has (now (masks .entry)) w) (now (prices .entry)) (cells count))
-        (roundsPaid (has (now (masks .entry)) w) (now (prices .entry)) (cells count))
-        (now (prices .entry)) (now (won .entry)) (now (cents .entry)) (now (won .exit)) (now (cents .exit)) ⌝ }
-{
-    let n = prices.len();
-    let z = masks.len();
-    let v = 16 * w;
-    let u = w + 2;
-    settle(
-        prices,
-        masks,
-        w,
-        count,
-        order,
-        gains,
-        &mut hop[..z],
-        &mut index[..v],
-        &mut held[..w],
-        &mut alt[..w],
-        &mut counts[..u],
-        who,
-        num,
-        mark,
-        &mut won[..n],
-        &mut cents[..n],
     );
 }
 
@@ -196,32 +147,36 @@ pub fn award(
         (now (prices .entry)) (now (won .entry)) (now (cents .entry)) (now (won .exit)) (now (cents .exit)) ⌝ }
 {
     // Written before they are read: ones are stored in place, zeros by a call of the library.
-    let mut order = [1u64; 10080];
-    let mut gains = [1u64; 10080];
     let mut hop = [0u8; 158 * tender::MAX_ENTRIES];
-    let mut index = [0u64; 2528];
-    let mut held = [0u64; 158];
-    let mut alt = [0u64; 158];
-    let mut counts = [0u64; 160];
-    let mut who = [0u64; 2048];
-    let mut num = [0u64; 2048];
-    let mut mark = [0u64; 32];
-    award_in(
+    let mut index = [1u64; 44316];
+    let mut ever = [1u64; 16];
+    let mut run = [1u64; 30243];
+    let mut tape = [1u64; 20160];
+    let mut held = [1u64; 158];
+    let mut alt = [1u64; 158];
+    let mut counts = [1u64; 160];
+    let mut list = [1u64; 2048];
+    let mut tree = [1u64; 2048];
+    let mut mark = [1u64; 16];
+    let n = prices.len();
+    let z = masks.len();
+    let u = w + 2;
+    settle(
         prices,
         masks,
-        w,
         count,
-        &mut order,
-        &mut gains,
-        &mut hop,
+        &mut hop[..z],
         &mut index,
-        &mut held,
-        &mut alt,
-        &mut counts,
-        &mut who,
-        &mut num,
+        &mut ever,
+        &mut run,
+        &mut tape,
+        &mut held[..w],
+        &mut alt[..w],
+        &mut counts[..u],
+        &mut list,
+        &mut tree,
         &mut mark,
-        won,
-        cents,
+        &mut won[..n],
+        &mut cents[..n],
     );
 }

@@ -1,4 +1,4 @@
--- How the hops of a bid's words and the bids of each word are found. Assumes nothing.
+-- How the hops of a bid's words are found. Assumes nothing.
 use mathlib.Core.Path.{_≡_, refl, sym, ap, _∙_}
 use mathlib.Core.Logic.{_⊎_, inl, inr, ⊎-elim}
 use mathlib.Core.Bool.{Bool, true, false}
@@ -10,15 +10,13 @@ use lib.ListN.{length, set, length-set}
 use lib.Seq.{getD-set-same, getD-set-other, ext-getD}
 use lib.Dec.{eqb}
 use borrow.Author.Tests.{eqb-true, eqb-false}
-use Rattle.cells.specs.Cells.{cell, RangeAdded, whole}
-use Rattle.cells_count.specs.Hops.{Hops, Onward}
+use Rattle.cells.specs.Cells.{whole}
+use Rattle.cells_count.specs.Hops.{Hops}
 use Rattle.cells.specs.StoreLaws.{lt-or-le}
-use Rattle.multi_tournament.specs.Tournament.{at}
-use Rattle.multi_rounds.specs.Market.{wordRow, Market, Hopping}
-use Rattle.multi_rounds.specs.WordRowLaws.{row-length, row-in}
-use Rattle.multi_marks.specs.Marks.{Indexed}
-use Rattle.multi_marks.proofs.Spreading.{row-at}
-use Rattle.multi_charts.specs.Charts.{Backed, Charted, Enlisted}
+use Rattle.multi_keys.specs.Keys.{at}
+use Rattle.multi_market.specs.Market.{wordRow, Market, Hopping}
+use Rattle.multi_market.specs.WordRowLaws.{row-length, row-in, row-at}
+use Rattle.multi_charts.specs.Charts.{Backed, Charted}
 
 -- the words of bid i from q on have their hops; up to `gap` they have no cell
 pub record Charting (ms : List ℕ) (w i : ℕ) (old new : List ℕ) (q gap : ℕ) : Type 0 where
@@ -190,69 +188,3 @@ charts-on {ps} {ms} {w} {hop} {new} {i} m s l e c = record { size = e ∙ s .siz
 
 pub charts-end : {ps ms : List ℕ} {w : ℕ} {hop : List ℕ} {i : ℕ} → Charts ps ms w hop i → length ps ≤ i → Hopping ps ms hop w
 charts-end s l = record { size = s .size; each = λ j z. s .done j (omega arith) }
-
--- ---- the bids of each word
-cell-row : (index : List ℕ) (q i : ℕ) → i < 1024 → cell (wordRow index 16 q) i ≡ cell index (1024 * q + i)
-unfolding cell
-cell-row index q i l = let a : (1024 * q + i) / 64 ≡ 16 * q + i / 64 = omega arith in let b : (1024 * q + i) % 64 ≡ i % 64 =
-    omega arith in rw (row-at index 16 q (i / 64) (omega arith), a, b)
-
--- the words of bid i below q are entered
-pub record Enlisting (ms : List ℕ) (w i : ℕ) (old new : List ℕ) (q : ℕ) : Type 0 where
-  pub same : length new ≡ length old
-  pub kept : (x : ℕ) → cell old x ≡ 1 → cell new x ≡ 1
-  pub done : (p : ℕ) → p < q → (at (wordRow ms w i) p ≡ 0 → ⊥) → cell new (1024 * p + i) ≡ 1
-
-pub enlists-none : (ms : List ℕ) (w i : ℕ) (old : List ℕ) → Enlisting ms w i old old 0
-enlists-none ms w i old = record { same = refl; kept = λ x e. e; done = λ p l. absurd (omega arith) }
-
-module _ {ms : List ℕ} {w i : ℕ} {old new : List ℕ} {q : ℕ} (s : Enlisting ms w i old new q) where
-  pub enlists-bare : at (wordRow ms w i) q ≡ 0 → Enlisting ms w i old new (q + 1)
-  enlists-bare e = record { same = s .same; kept = s .kept; done = λ p l n. go p l n (eqb p q) refl }
-    where
-      go : (p : ℕ) → p < q + 1 → (at (wordRow ms w i) p ≡ 0 → ⊥) → (t : Bool) → eqb p q ≡ t → cell new (1024 * p + i) ≡ 1
-      go p l n true d = absurd (n (ap (at (wordRow ms w i)) (eqb-true p q d) ∙ e))
-      go p l n false d = s .done p (omega (arith, eqb-false p q d)) n
-
-  pub enlists-some : {next : List ℕ} → length next ≡ length new → RangeAdded (1024 * q + i) (1024 * q + i + 1) new next
-      → Enlisting ms w i old next (q + 1)
-  enlists-some {next} e f = record { same = e ∙ s .same; kept = λ x z. stays x (s .kept x z); done = λ p l n. go p l n (eqb p q) refl }
-    where
-      stays : (x : ℕ) → cell new x ≡ 1 → cell next x ≡ 1
-      stays x z = ⊎-elim (λ a. f .below x a ∙ z) (λ a. ⊎-elim (λ b. f .inside x a b) (λ b. f .above x b ∙ z)
-          (lt-or-le x (1024 * q + i + 1))) (lt-or-le x (1024 * q + i))
-
-      go : (p : ℕ) → p < q + 1 → (at (wordRow ms w i) p ≡ 0 → ⊥) → (t : Bool) → eqb p q ≡ t → cell next (1024 * p + i) ≡ 1
-      go p l n true d = rw (eqb-true p q d) (f .inside (1024 * q + i) (omega arith) (omega arith))
-      go p l n false d = stays (1024 * p + i) (s .done p (omega (arith, eqb-false p q d)) n)
-
-  -- the words between q and r have no cell
-  pub enlists-past : {p r : ℕ} → q ≡ p + 1 → Onward (wordRow ms w i) p r → Enlisting ms w i old new r
-  enlists-past {p} {r} e o = record {
-    same = s .same;
-    kept = s .kept;
-    done = λ x l n. ⊎-elim (λ a. s .done x a n) (λ a. absurd (n (o .gap x (omega arith) l))) (lt-or-le x q);
-  }
-
-  pub enlists-all : w ≤ q → Enlisted ms w i old new
-  enlists-all l = record { kept = s .kept; own = λ p a n. s .done p (omega arith) n }
-
-pub record Enlists (ps ms : List ℕ) (w : ℕ) (index : List ℕ) (i : ℕ) : Type 0 where
-  pub size : length index ≡ 16 * w
-  pub done : (j p : ℕ) → j < i → p < w → (at (wordRow ms w j) p ≡ 0 → ⊥) → cell index (1024 * p + j) ≡ 1
-
-pub enlists-on : {ps ms : List ℕ} {w : ℕ} {index new : List ℕ} {i : ℕ} → Enlists ps ms w index i → length new ≡ length index
-    → Enlisted ms w i index new → Enlists ps ms w new (i + 1)
-enlists-on {ps} {ms} {w} {index} {new} {i} s e c = record { size = e ∙ s .size; done = λ j p z y n. go j p z y n (eqb j i) refl }
-  where
-    go : (j p : ℕ) → j < i + 1 → p < w → (at (wordRow ms w j) p ≡ 0 → ⊥) → (t : Bool) → eqb j i ≡ t → cell new (1024 * p + j) ≡ 1
-    go j p z y n true d = let f = eqb-true j i d in rw f (c .own p y (rw f at n))
-    go j p z y n false d = c .kept (1024 * p + j) (s .done j p (omega (arith, eqb-false j i d)) y n)
-
-pub enlists-end : {ps ms : List ℕ} {w : ℕ} {index : List ℕ} {i : ℕ} → Market ps ms w → Enlists ps ms w index i → length ps ≤ i
-    → Indexed ps ms index w
-enlists-end {index = index} m s l = record {
-  size = s .size;
-  lists = λ j q a b n. cell-row index q j (omega (arith, m .priced .count))
-      ∙ s .done j q (omega arith) b n;
-}

@@ -1,12 +1,11 @@
--- The hops of the bids' words and the bids of each word, found bid by bid.
+-- The hops of the bids' words, found bid by bid.
 use mathlib.Core.Path.{_≡_}
 use mathlib.Core.Logic.{_⊎_}
 use mathlib.Core.List.{List}
 use Prim.Native.Nat.{ℕ, _+_, _-_, _*_, _≤_, _<_}
-use Rattle.cells.specs.Cells.{cell}
 use Rattle.cells_count.specs.Hops.{Hops}
-use Rattle.multi_tournament.specs.Tournament.{at}
-use Rattle.multi_rounds.specs.Market.{wordRow}
+use Rattle.multi_keys.specs.Keys.{at}
+use Rattle.multi_market.specs.Market.{wordRow}
 
 -- the words r up to q, counted from a on, are m and hop to v; the word before r is another
 pub record Backed (ms : List ℕ) (a q m v : ℕ) (old new : List ℕ) (r : ℕ) : Type 0 where
@@ -20,8 +19,3 @@ pub record Backed (ms : List ℕ) (a q m v : ℕ) (old new : List ℕ) (r : ℕ)
 pub record Charted (ms : List ℕ) (w i : ℕ) (old new : List ℕ) : Type 0 where
   pub own : Hops (wordRow ms w i) (wordRow new w i)
   pub others : (p : ℕ) → (p < w * i) ⊎ (w * i + w ≤ p) → at new p ≡ at old p
-
--- bid i is in the set of each word where it has a cell, and no bid is left out that was in
-pub record Enlisted (ms : List ℕ) (w i : ℕ) (old new : List ℕ) : Type 0 where
-  pub kept : (x : ℕ) → cell old x ≡ 1 → cell new x ≡ 1
-  pub own : (q : ℕ) → q < w → (at (wordRow ms w i) q ≡ 0 → ⊥) → cell new (1024 * q + i) ≡ 1

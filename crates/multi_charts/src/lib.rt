@@ -1,13 +1,10 @@
-// Two tables over the bids' words. `chart` writes the hop from each word of a bid: past the words that follow with no cell, or, from a
-// word that has all its cells, past those that have all theirs. `enlist` writes for each word the bids that have a cell there.
+// The hops of the bids' words: from each word of a bid past the words that follow with no cell or, from a word that has all its cells,
+// past those that have all theirs.
 ghost use mathlib.Core.Path.{_≡_};
 ghost use Prim.Native.Nat.{_+_, _*_, _<_, _≤_};
 ghost use lib.ListN.{length};
-ghost use Rattle.tender.specs.Limits.{maxEntries};
-ghost use Rattle.cells_count.specs.Hops.{Hops};
-ghost use Rattle.multi_rounds.specs.Market.{wordRow, Market, Hopping};
-ghost use Rattle.multi_marks.specs.Marks.{Indexed};
-ghost use Rattle.multi_charts.specs.Charts.{Backed, Charted, Enlisted};
+ghost use Rattle.multi_market.specs.Market.{Market, Hopping};
+ghost use Rattle.multi_charts.specs.Charts.{Backed, Charted};
 
 fn byte(x: usize) -> u8
     requires { ⌜ x < 256 ⌝ }
@@ -64,39 +61,6 @@ pub fn chart(prices: &[u64], masks: &[u64], w: usize, hop: &mut [u8])
     let mut i = 0;
     while i < prices.len() {
         chart_row(masks, w, i, hop);
-        i += 1;
-    }
-}
-
-// Enters bid i in the set of each word where it has a cell.
-fn enlist_row(masks: &[u64], hop: &[u8], w: usize, i: usize, index: &mut [u64])
-    requires { ⌜ (w ≤ 158) × ((w * i + w ≤ length (now masks))
-        × ((length (now hop) ≡ length (now masks)) × (Hops (wordRow (now masks) w i) (wordRow (now hop) w i)
-        × ((i < maxEntries) × (length (now index) ≡ 16 * w))))) ⌝ }
-    ensures { λ _. ⌜ Enlisted (now (masks .entry)) w i (now (index .entry)) (now (index .exit)) ⌝ }
-{
-    let a = w * i;
-    let e = a + w;
-    let mut q = 0;
-    while q < w {
-        if masks[a + q] != 0 {
-            cells::add(index, 1024 * q + i);
-            q = cells_count::onward(&masks[a..e], &hop[a..e], q);
-        } else {
-            q = cells_count::onward(&masks[a..e], &hop[a..e], q);
-        }
-    }
-}
-
-// For each word, the bids that have a cell there.
-pub fn enlist(prices: &[u64], masks: &[u64], hop: &[u8], w: usize, index: &mut [u64])
-    requires { ⌜ Market (now prices) (now masks) w × (Hopping (now prices) (now masks) (now hop) w × (length (now index) ≡ 16 * w))
-        ⌝ }
-    ensures { λ _. ⌜ Indexed (now (prices .entry)) (now (masks .entry)) (now (index .exit)) w ⌝ }
-{
-    let mut i = 0;
-    while i < prices.len() {
-        enlist_row(masks, hop, w, i, index);
         i += 1;
     }
 }

@@ -1,3 +1,4 @@
 pub mod Paying
-pub mod AlongLaws
+pub mod PrefixLaws
 pub mod WinnersLaws
+pub mod AlongLaws

@@ -1,235 +1,156 @@
 // The rounds of the greedy cover over plain numbers: which bid comes first, and the whole run written down.
-// `front` gives the bid that comes before all others, `trace` the bids that the rounds take and the cells that each gains; `overlap`
-// and `shut` count and close a bid's cells among those held. What is known of a bid is no less than it reaches.
+// `front` gives the least key of the bids in a tree, counting bids anew until it is not stale or above a cap; `trace` writes the rounds
+// down, and the cells that each closes on a tape. `shut` and `cut` close and write down a bid's cells among those held.
 ghost use mathlib.Core.Path.{_≡_};
-ghost use mathlib.Core.Bool.{true, false, _&&_};
 ghost use Prim.Native.Nat.{_+_, _*_, _<_, _≤_};
 ghost use lib.ListN.{length};
-ghost use lib.Dec.{leb};
-ghost use Rattle.cover.specs.CriticalPrice.{late};
-ghost use Rattle.cells.specs.Cells.{common, Closed};
+ghost use Rattle.cover.specs.Greedy.{reach};
 ghost use Rattle.cells_count.specs.Hops.{Hops, Counted};
-ghost use Rattle.multi_tournament.specs.Tournament.{known, Tournament};
-ghost use Rattle.multi_rounds.specs.Market.{wordRow, Market, Hopping, Known, First, Entered, Fronted};
+ghost use Rattle.cells_pairs.specs.Pairs.{Shut, Cut};
+ghost use Rattle.multi_keys.specs.Keys.{last};
+ghost use Rattle.multi_keys.specs.Tree.{leaves, Tree};
+ghost use Rattle.multi_market.specs.Opens.{openOf};
+ghost use Rattle.multi_market.specs.Market.{wordRow, has, Market, Hopping, First};
+ghost use Rattle.multi_market.specs.Seats.{Seats, Fronted, Entered};
 ghost use Rattle.multi_rounds.specs.Trace.{Trace};
 
-// How many of the cells held bid i has.
-pub fn overlap(
-    held: &[u64],
-    counts: &mut [u64],
-    masks: &[u64],
-    hop: &[u8],
-    w: usize,
-    i: usize,
-) -> u64
-    requires { ⌜ (length (now held) ≡ w) × ((w ≤ 158)
-        × ((w * i + w ≤ length (now masks)) × ((length (now hop) ≡ length (now masks))
-        × (Counted (now held) (now counts) × Hops (wordRow (now masks) w i) (wordRow (now hop) w i))))) ⌝ }
-    ensures { λ r. ⌜ (r ≡ common (now (held .entry)) (wordRow (now (masks .entry)) w i))
-        × Counted (now (held .entry)) (now (counts .exit)) ⌝ }
-{
-    let a = w * i;
-    let e = a + w;
-    cells_count::reach(held, counts, &masks[a..e], &hop[a..e])
-}
-
 // Closes the cells of bid i.
-pub fn shut(held: &mut [u64], counts: &mut [u64], masks: &[u64], hop: &[u8], w: usize, i: usize)
-    requires { ⌜ (length (now held) ≡ w) × ((w ≤ 158)
-        × ((w * i + w ≤ length (now masks)) × ((length (now hop) ≡ length (now masks))
-        × (Counted (now held) (now counts) × Hops (wordRow (now masks) w i) (wordRow (now hop) w i))))) ⌝ }
-    ensures { λ _. ⌜ Closed (now (held .entry)) (wordRow (now (masks .entry)) w i) (now (held .exit))
+pub fn shut(held: &mut [u64], counts: &mut [u64], masks: &[u64], hop: &[u8], i: usize)
+    requires { ⌜ (length (now held) ≤ 158) × ((length (now held) * i + length (now held) ≤ length (now masks))
+        × ((length (now hop) ≡ length (now masks)) × (Counted (now held) (now counts)
+        × Hops (wordRow (now masks) (length (now held)) i) (wordRow (now hop) (length (now held)) i)))) ⌝ }
+    ensures { λ _. ⌜ Shut (now (held .entry)) (has (now (masks .entry)) (length (now (held .entry))) i) (now (held .exit))
         × Counted (now (held .exit)) (now (counts .exit)) ⌝ }
 {
+    let w = held.len();
     let a = w * i;
     let e = a + w;
     cells_count::close_counted(held, counts, &masks[a..e], &hop[a..e]);
 }
 
-// Whether bid i at p/r comes before bid b at t/c.
-pub fn comes(p: u64, r: u64, i: usize, t: u64, c: u64, b: usize) -> bool
-    requires { ⌜ ((p ≤ 100000000) × (r ≤ 10112)) × ((t ≤ 100000000) × (c ≤ 10112)) ⌝ }
-    ensures { λ s. ⌜ s ≡ leb (p * c + late i b) (t * r) ⌝ }
+// Writes the cells held that bid i has as pairs from `at` on. Answers the place after them.
+pub fn cut(held: &[u64], masks: &[u64], hop: &[u8], i: usize, tape: &mut [u64], at: usize) -> usize
+    requires { ⌜ (length (now held) ≤ 158) × ((length (now held) * i + length (now held) ≤ length (now masks))
+        × ((length (now hop) ≡ length (now masks))
+        × (Hops (wordRow (now masks) (length (now held)) i) (wordRow (now hop) (length (now held)) i)
+        × ((2 * (at + reach (has (now masks) (length (now held)) i) (openOf (now held))) ≤ length (now tape)) × (at ≤ 10112))))) ⌝ }
+    ensures { λ r. ⌜ Cut (now (held .entry)) (wordRow (now (masks .entry)) (length (now (held .entry))) i) (now (tape .entry))
+        (now (tape .exit)) at r ⌝ }
 {
-    let x = p * c;
-    let y = t * r;
-    if b < i {
-        return x < y;
-    }
-    x <= y
+    let w = held.len();
+    let a = w * i;
+    let e = a + w;
+    cells_pairs::cut(held, &masks[a..e], &hop[a..e], tape, at)
 }
 
-// Whether the rival may come first, and does.
-fn clear_of(free: bool, p: u64, r: u64, i: usize, t: u64, c: u64, b: usize) -> bool
-    requires { ⌜ ((p ≤ 100000000) × (r ≤ 10112)) × ((t ≤ 100000000) × (c ≤ 10112)) ⌝ }
-    ensures { λ s. ⌜ s ≡ (free && leb (p * c + late i b) (t * r)) ⌝ }
-{
-    if free {
-        return comes(p, r, i, t, c, b);
-    }
-    false
-}
-
+// A key, and the cells that its bid reaches.
 pub struct Lead {
-    pub bid: usize,
-    pub price: u64,
+    pub key: u64,
     pub cells: u64,
-    pub clear: bool,
 }
 
-// The bid that comes before all others. Bids are counted anew until the first has the cells known of it, or the rival comes before it.
+// The least key. Bids are counted anew until it is above the cap, or its bid's own.
 pub fn front(
     prices: &[u64],
     masks: &[u64],
     hop: &[u8],
-    w: usize,
     held: &[u64],
     counts: &mut [u64],
-    who: &mut [u64],
-    num: &mut [u64],
-    rival: usize,
-    ask: u64,
-    gain: u64,
-    free: bool,
+    tree: &mut [u64],
+    cap: u64,
 ) -> Lead
-    requires { ⌜ Market (now prices) (now masks) w ×
-        (Hopping (now prices) (now masks) (now hop) w × ((length (now held) ≡ w) × (Counted (now held) (now counts)
-        × (Tournament (now prices) (now who) (now num)
-        × (Known (now prices) (now masks) w (now held) (known (now num))
-        × ((rival ≤ length (now prices)) × ((ask ≤ 100000000) × (gain ≤ 10112)))))))) ⌝ }
-    ensures { λ r. ⌜ Tournament (now (prices .entry)) (now (who .exit)) (now (num .exit))
-        × (Fronted (now (prices .entry)) (now (masks .entry)) w (now (held .entry)) (known (now (num .entry))) (known (now (num .exit)))
-        rival ask gain free (r .bid) (r .price) (r .cells) (r .clear)
+    requires { ⌜ Market (now prices) (now masks) (length (now held)) × (Hopping (now prices) (now masks) (now hop) (length (now held))
+        × (Counted (now held) (now counts) × (Tree (now tree)
+        × (Seats (has (now masks) (length (now held))) (now prices) (now held) (leaves (now tree)) × (cap ≤ last))))) ⌝ }
+    ensures { λ r. ⌜ Tree (now (tree .exit))
+        × (Fronted (has (now (masks .entry)) (length (now (held .entry)))) (now (prices .entry)) (now (held .entry))
+        (leaves (now (tree .entry))) (leaves (now (tree .exit))) cap (r .key) (r .cells)
         × Counted (now (held .entry)) (now (counts .exit))) ⌝ }
 {
     loop {
-        let s = num[1];
-        if s == 0 {
-            return Lead {
-                bid: prices.len(),
-                price: 1,
-                cells: 0,
-                clear: free,
-            };
+        let c = tree[1];
+        if cap < c {
+            return Lead { key: c, cells: 0 };
         }
-        let b = who[1] as usize;
-        let p = prices[b];
-        if clear_of(free, ask, gain, rival, p, s, b) {
-            return Lead {
-                bid: b,
-                price: p,
-                cells: s,
-                clear: true,
-            };
+        let b = (c % 1024) as usize;
+        let r = multi_market::overlap(held, counts, masks, hop, b);
+        let now = multi_keys::key_of(prices[b], r, b);
+        if now == c {
+            return Lead { key: c, cells: r };
         }
-        let r = overlap(held, counts, masks, hop, w, b);
-        if r == s {
-            return Lead {
-                bid: b,
-                price: p,
-                cells: s,
-                clear: false,
-            };
-        }
-        multi_tournament::update(prices, who, num, b, r);
+        multi_keys::put(tree, b, now);
     }
 }
 
-pub fn copy(from: &[u64], to: &mut [u64])
-    requires { ⌜ length (now from) ≡ length (now to) ⌝ }
-    ensures { λ _. ⌜ now (to .exit) ≡ now (from .entry) ⌝ }
-{
-    let mut i = 0;
-    while i < to.len() {
-        to[i] = from[i];
-        i += 1;
-    }
-}
-
-// Sets the first cells and no other.
-pub fn unlock(held: &mut [u64], count: usize)
-    requires { ⌜ (count ≤ 64 * length (now held)) × (length (now held) ≤ 158) ⌝ }
-    ensures { λ _. ⌜ First count (now (held .exit)) ⌝ }
-{
-    cells::clear(held);
-    cells::add_range(held, 0, count);
-}
-
-// Enters each bid with the cells held that it has.
+// Enters each bid with its key.
 pub fn enter(
     prices: &[u64],
     masks: &[u64],
     hop: &[u8],
-    w: usize,
     held: &[u64],
     counts: &mut [u64],
-    who: &mut [u64],
-    num: &mut [u64],
+    tree: &mut [u64],
 )
-    requires { ⌜ Market (now prices) (now masks) w ×
-        (Hopping (now prices) (now masks) (now hop) w ×
-        ((length (now held) ≡ w) × (Counted (now held) (now counts) × Tournament (now prices) (now who) (now num)))) ⌝ }
-    ensures { λ _. ⌜ Tournament (now (prices .entry)) (now (who .exit)) (now (num .exit))
-        × (Entered (now (prices .entry)) (now (masks .entry)) w (now (held .entry)) (known (now (num .exit)))
+    requires { ⌜ Market (now prices) (now masks) (length (now held)) × (Hopping (now prices) (now masks) (now hop) (length (now held))
+        × (Counted (now held) (now counts) × (length (now tree) ≡ 2048))) ⌝ }
+    ensures { λ _. ⌜ Tree (now (tree .exit))
+        × (Entered (has (now (masks .entry)) (length (now (held .entry)))) (now (prices .entry)) (now (held .entry))
+        (leaves (now (tree .exit)))
         × Counted (now (held .entry)) (now (counts .exit))) ⌝ }
 {
     let mut i = 0;
-    while i < prices.len() {
-        let r = overlap(held, counts, masks, hop, w, i);
-        multi_tournament::update(prices, who, num, i, r);
-        i += 1;
+    while i < 1024 {
+        if i < prices.len() {
+            let r = multi_market::overlap(held, counts, masks, hop, i);
+            tree[1024 + i] = multi_keys::key_of(prices[i], r, i);
+            i += 1;
+        } else {
+            tree[1024 + i] = multi_keys::OUT;
+            i += 1;
+        }
     }
+    multi_keys::play(tree);
 }
 
-// The run: the bid that each round takes and the cells that it gains. Answers the number of rounds.
+// The run: each round's key, the cells that it gains and where they begin on the tape. Answers the number of rounds.
 pub fn trace(
     prices: &[u64],
     masks: &[u64],
     hop: &[u8],
-    w: usize,
     count: usize,
     held: &mut [u64],
     counts: &mut [u64],
-    who: &mut [u64],
-    num: &mut [u64],
-    order: &mut [u64],
-    gains: &mut [u64],
+    tree: &mut [u64],
+    run: &mut [u64],
+    tape: &mut [u64],
 ) -> usize
-    requires { ⌜ Market (now prices) (now masks) w ×
-        (Hopping (now prices) (now masks) (now hop) w ×
-        ((length (now held) ≡ w) × (Counted (now held) (now counts) × (Tournament (now prices) (now who) (now num)
-        × (First count (now held) × (Entered (now prices) (now masks) w (now held) (known (now num))
-        × ((count ≤ 64 * w) × ((count ≤ length (now order)) × (count ≤ length (now gains)))))))))) ⌝ }
-    ensures { λ r. ⌜ Trace (now (prices .entry)) (now (masks .entry)) w count (now (order .exit)) (now (gains .exit)) r
-        × Tournament (now (prices .entry)) (now (who .exit)) (now (num .exit)) ⌝ }
+    requires { ⌜ Market (now prices) (now masks) (length (now held)) × (Hopping (now prices) (now masks) (now hop) (length (now held))
+        × (Counted (now held) (now counts) × (Tree (now tree)
+        × (Entered (has (now masks) (length (now held))) (now prices) (now held) (leaves (now tree))
+        × (First count (now held) × ((count ≤ 64 * length (now held)) × ((3 * count + 3 ≤ length (now run))
+        × (2 * count ≤ length (now tape))))))))) ⌝ }
+    ensures { λ r. ⌜ Trace (has (now (masks .entry)) (length (now (held .entry)))) (now (prices .entry)) (length (now (held .entry)))
+        count (now (run .exit)) (now (tape .exit)) r
+        × (Counted (now (held .exit)) (now (counts .exit)) × (length (now (tree .exit)) ≡ 2048)) ⌝ }
 {
-    let mut left = count as u64;
     let mut r = 0;
-    while 0 < left {
-        let f = front(
-            prices,
-            masks,
-            hop,
-            w,
-            held,
-            counts,
-            who,
-            num,
-            0,
-            0,
-            0,
-            false,
-        );
-        let b = f.bid;
-        if b < prices.len() {
-            order[r] = b as u64;
-            gains[r] = f.cells;
-            shut(held, counts, masks, hop, w, b);
-            left -= f.cells;
-            r += 1;
-        } else {
+    let mut c = 0;
+    run[2] = 0;
+    loop {
+        let f = front(prices, masks, hop, held, counts, tree, multi_keys::LAST);
+        let key = f.key;
+        if multi_keys::LAST < key {
+            run[3 * r] = multi_keys::LAST;
             return r;
         }
+        let b = (key % 1024) as usize;
+        let z = cut(held, masks, hop, b, tape, c);
+        cells_pairs::close_pairs(held, counts, tape, c, z);
+        multi_keys::put(tree, b, multi_keys::OUT);
+        run[3 * r] = key;
+        run[3 * r + 1] = f.cells;
+        run[3 * r + 5] = z as u64;
+        c = z;
+        r += 1;
     }
-    r
 }

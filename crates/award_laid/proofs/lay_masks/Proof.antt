@@ -16,7 +16,7 @@ use Rattle.award_layout.proofs.cells.Reads as cells-reads
 use Rattle.award_layout.proofs.masks.Reads as masks-reads
 use Rattle.award_layout.proofs.prices.Reads as prices-reads
 use Rattle.award_thin_masks.proofs.thin_masks.Reads as thin-masks-reads
-use Rattle.multi_rounds.proofs.unlock.Reads as unlock-reads
+use Rattle.multi_market.proofs.unlock.Reads as unlock-reads
 
 cells-requires : tie.Need-cells-requires
 cells-requires c κs =

@@ -1,9 +1,9 @@
 -- `award_thin_masks::bare_mask` meets its contract: each cell passed has a bidder, and none of the bids asked has the cell. Assumes nothing.
 use Prim.Native.Nat.{_-_}
 use native.Mathlib.Omega.{arith}
-use Rattle.multi_rounds.specs.WordRowLaws.{row-within}
+use Rattle.multi_market.specs.WordRowLaws.{row-within}
 use mathlib.Core.Path.{_≡_, refl, sym, _∙_}
-use Rattle.multi_rounds.specs.Market.{has}
+use Rattle.multi_market.specs.Market.{has}
 use Rattle.award_thin.specs.BareLaws.{Looking, Asking, looks-none, asks-none, looks-on, asks-on, bare-found, bare-none}
 use Rattle.award_thin_masks.proofs.bare_mask.Statement.{statement}
 use Rattle.award_thin_masks.proofs.bare_mask.Tie as tie

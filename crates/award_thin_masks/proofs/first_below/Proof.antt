@@ -8,7 +8,7 @@ use Rattle.award_thin_masks.proofs.first_below.Reads as reads
 use Rattle.award_thin_masks.proofs.first_below.Lts as lts
 use Rattle.award_thin_masks.proofs.gather.Reads as gather-reads
 use Rattle.cells.proofs.next.Reads as next-reads
-use Rattle.multi_rounds.proofs.unlock.Reads as unlock-reads
+use Rattle.multi_market.proofs.unlock.Reads as unlock-reads
 
 unlock-requires : tie.Need-unlock-requires
 unlock-requires c κs = search needs

@@ -2,8 +2,8 @@
 use mathlib.Core.Path.{ap, _∙_}
 use lib.Dec.{eqb}
 use Rattle.cells.specs.Cells.{cell}
-use Rattle.multi_rounds.specs.Market.{has}
-use Rattle.multi_rounds.specs.WordRowLaws.{part-row}
+use Rattle.multi_market.specs.Market.{has}
+use Rattle.multi_market.specs.WordRowLaws.{part-row}
 use borrow.Author.Needs.{needs}
 use Rattle.award_thin_masks.proofs.mask_has.Statement.{statement}
 use Rattle.award_thin_masks.proofs.mask_has.Tie as tie

@@ -4,7 +4,7 @@ use Prim.Native.Nat.{_+_, _*_, _-_, _≤_}
 use native.Mathlib.Omega.{arith}
 use lib.ListN.{getD}
 use lib.Bits.{bitAnd, bitOr}
-use Rattle.multi_rounds.specs.WordRowLaws.{row-within}
+use Rattle.multi_market.specs.WordRowLaws.{row-within}
 use Rattle.award_thin_masks.specs.MasksLaws.{Seeing, seeing-none, seeing-more, reached-soon, reached-all}
 use Rattle.award_thin_masks.proofs.seen.Statement.{statement}
 use Rattle.award_thin_masks.proofs.seen.Tie as tie

@@ -1,6 +1,6 @@
 -- `award_thin_masks::thin_masks` meets its contract. Assumes nothing.
 use native.Mathlib.Omega.{arith}
-use Rattle.multi_rounds.specs.Market.{has}
+use Rattle.multi_market.specs.Market.{has}
 use Rattle.award_thin.specs.FirstsLaws.{enough, bare, lone}
 use borrow.Author.Needs.{needs}
 use Rattle.award_thin_masks.proofs.thin_masks.Statement.{statement}

@@ -1,7 +1,7 @@
 -- `multi_charts::back` meets its contract: the words from r on are m and have their hops. Assumes nothing.
 use mathlib.Core.Path.{ap, _∙_}
 use native.Mathlib.Omega.{arith}
-use Rattle.multi_tournament.specs.Tournament.{at}
+use Rattle.multi_keys.specs.Keys.{at}
 use Rattle.multi_charts.proofs.Charting.{Backing, backs-none, backs-more, backs-all}
 use Rattle.multi_charts.proofs.back.Statement.{statement}
 use Rattle.multi_charts.proofs.back.Tie as tie

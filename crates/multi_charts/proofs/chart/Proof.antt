@@ -3,7 +3,7 @@ use Prim.Native.Nat.{_-_}
 use mathlib.Core.Path.{sym, _∙_}
 use native.Mathlib.Omega.{arith}
 use lib.ListN.{length}
-use Rattle.multi_rounds.specs.WordRowLaws.{row-in}
+use Rattle.multi_market.specs.WordRowLaws.{row-in}
 use Rattle.multi_charts.proofs.Charting.{Charts, charts-on, charts-end}
 use Rattle.multi_charts.proofs.chart.Statement.{statement}
 use Rattle.multi_charts.proofs.chart.Tie as tie

@@ -1,116 +1,70 @@
--- `multi_highest::begin` meets its contract: all cells are opened, each bid is entered with the cells that it has, and k then with
--- none. Assumes nothing.
-use Prim.Native.Nat.{ℕ, _+_}
-use mathlib.Core.Path.{_∙_, sym, ap}
+-- `multi_highest::begin` meets its contract: the first cells are opened, each bid is entered with its key, k's open cells are counted, and
+-- k is then put out. Assumes nothing.
+use mathlib.Core.Path.{refl}
+use Prim.Native.Nat.{ℕ, _<_}
 use native.Mathlib.Omega.{arith}
-use Rattle.multi_tournament.specs.TreeLaws.{tree-opened}
-use Rattle.multi_rounds.specs.WordRowLaws.{row-in}
-use Rattle.multi_highest.proofs.RoundLaws.{starts}
+use lib.ListN.{length}
+use Rattle.multi_market.specs.WordRowLaws.{row-in}
+use Rattle.multi_highest.specs.RoundLaws.{starts}
 use borrow.Author.Needs.{needs}
 use Rattle.multi_highest.proofs.begin.Statement.{statement}
 use Rattle.multi_highest.proofs.begin.Tie as tie
 
 unlock-requires : tie.Need-unlock-requires
-unlock-requires c κs =
-    let c8 = c .before .before .before .before .before .before .before .before in
-    let P = c8 .pre in (omega (arith, P .1 .1 .0, P .1 .1 .1 .1 .0), omega (arith, P .0 .words, P .1 .1 .1 .1 .0))
+unlock-requires c κs = search needs
 
 count-none-requires : tie.Need-count-none-requires
-count-none-requires c κs =
-    let c4 = c .before .before .before .before in
-    let c13 = c4 .before .before .before .before .before .before .before .before .before in
-    let P = c13 .pre in let e = c4 .unlock .kept .0 ∙ P .1 .1 .1 .1 .0 in
-    (P .1 .1 .1 .1 .1 .0 ∙ ap (λ (x : ℕ). x + 2) (sym e), omega (arith, e, P .0 .words))
-
-seat-requires : tie.Need-seat-requires
-seat-requires c κs =
-    let c17 = c .before .before .before .before .before .before .before .before .before .before .before .before .before .before
-    .before .before .before in
-    c17 .pre .1 .1 .1 .1 .1 .1 .0
-
-clear-requires : tie.Need-clear-requires
-clear-requires c κs = search needs
+count-none-requires c κs = search needs
 
 enter-requires : tie.Need-enter-requires
 enter-requires c κs =
-    let c6 = c .before .before .before .before .before .before in
-    let c10 = c6 .before .before .before .before in
-    let c14 = c10 .before .before .before .before in
-    let c19 = c14 .before .before .before .before .before in
-    let c28 = c19 .before .before .before .before .before .before .before .before .before in
-    let P = c28 .pre in let tree = tree-opened (c28 .args .prices .now) (c10 .seat .ensures)
-    (c6 .clear .kept .0 ∙ P .1 .1 .1 .1 .1 .1 .1) (c6 .clear .ensures .none) in
-    (P .0, (P .1 .0, (c19 .unlock .kept .0 ∙ P .1 .1 .1 .1 .0, (c14 .count-none .ensures, tree))))
+    let c5 = c .before .before .before .before .before in
+    let c10 = c5 .before .before .before .before .before in
+    let c18 = c10 .before .before .before .before .before .before .before .before in
+    let P = c18 .pre in rw (c10 .unlock .kept .0) (P .0, (P .1 .0, (c5 .count-none .ensures, P .1 .1 .1 .1 .1)))
 
 overlap-requires : tie.Need-overlap-requires
 overlap-requires c κs =
-    let c8 = c .before .before .before .before .before .before .before .before in
-    let c28 = c8 .before .before .before .before .before .before .before .before .before .before .before .before .before .before
-    .before .before .before .before .before .before in
-    let c37 = c28 .before .before .before .before .before .before .before .before .before in
-    let P = c37 .pre in let A = c37 .args in (
-      c28 .unlock .kept .0 ∙ P .1 .1 .1 .1 .0,
+    let c6 = c .before .before .before .before .before .before in
+    let c17 = c6 .before .before .before .before .before .before .before .before .before .before .before in
+    let c25 = c17 .before .before .before .before .before .before .before .before in
+    let P = c25 .pre in let A = c25 .args in
+    let i : ℕ = A .k in let l : i < length (A .prices .now) = omega (arith, P .1 .1 .1 .0) in
+    rw (c17 .unlock .kept .0) (
+      P .0 .words,
       (
-        P .0 .words,
-        (
-          row-in (A .prices .now) (A .masks .now) (A .w) _ (P .0) (P .1 .1 .1 .0),
-          (
-            P .1 .0 .size,
-            (
-              c8 .enter .ensures .1 .1,
-              P .1 .0 .each _ (P .1 .1 .1 .0),
-            ),
-          ),
-        ),
+        row-in (A .prices .now) (A .masks .now) (length (A .held .now)) i (P .0) l,
+        (P .1 .0 .size, (c6 .enter .ensures .1 .1, P .1 .0 .each i l)),
       ),
     )
 
-update-requires : tie.Need-update-requires
-update-requires c κs =
-    let c13 = c .before .before .before .before .before .before .before .before .before .before .before .before .before in
-    let c42 = c13 .before .before .before .before .before .before .before .before .before .before .before .before .before .before
-    .before .before .before .before .before .before .before .before .before .before .before .before .before .before .before in
-    let P = c42 .pre in (P .0 .priced, (c13 .enter .ensures .0, (P .1 .1 .1 .0, omega arith)))
+put-requires : tie.Need-put-requires
+put-requires c κs =
+    let c10 = c .before .before .before .before .before .before .before .before .before .before in
+    let c29 = c10 .before .before .before .before .before .before .before .before .before .before .before .before .before
+    .before .before .before .before .before .before in
+    let P = c29 .pre in (c10 .enter .ensures .0, omega (arith, P .0 .priced .count, P .1 .1 .1 .0))
 
 same-length : tie.Need-same-length
-same-length c =
-    let c38 = c .before .before .before .before .before .before .before .before .before .before .before .before .before .before
-    .before .before .before .before .before .before .before .before .before .before .before .before .before .before .before .before
-    .before .before .before .before .before .before .before .before in
-    c38 .unlock .kept .0
+same-length c = search needs
 
 same-length-2 : tie.Need-same-length-2
-same-length-2 c =
-    let c9 = c .before .before .before .before .before .before .before .before .before in
-    let c18 = c9 .before .before .before .before .before .before .before .before .before in
-    let c33 = c18 .before .before .before .before .before .before .before .before .before .before .before .before .before .before .before in
-    c9 .overlap .kept .1 .0 ∙ c18 .enter .kept .1 .1 .1 .1 .1 .0 ∙ c33 .count-none .kept .1 .0
+same-length-2 c = search needs
 
 same-length-3 : tie.Need-same-length-3
-same-length-3 c =
-    let c4 = c .before .before .before .before in
-    let c18 = c4 .before .before .before .before .before .before .before .before .before .before .before .before .before .before in
-    let c29 = c18 .before .before .before .before .before .before .before .before .before .before .before in
-    c4 .update .kept .1 .0 ∙ c18 .enter .kept .1 .1 .1 .1 .1 .1 .0 ∙ c29 .seat .kept .0
-
-same-length-4 : tie.Need-same-length-4
-same-length-4 c =
-    let c4 = c .before .before .before .before in
-    let c18 = c4 .before .before .before .before .before .before .before .before .before .before .before .before .before .before in
-    let c25 = c18 .before .before .before .before .before .before .before in
-    c4 .update .kept .1 .1 .0 ∙ c18 .enter .kept .1 .1 .1 .1 .1 .1 .1 .0 ∙ c25 .clear .kept .0
+same-length-3 c = search needs
 
 returns : tie.Need-returns
 returns c =
-    let c4 = c .before .before .before .before in
-    let c9 = c4 .before .before .before .before .before in
-    let c18 = c9 .before .before .before .before .before .before .before .before .before in
-    let c38 = c18 .before .before .before .before .before .before .before .before .before .before .before .before .before .before
-    .before .before .before .before .before .before in
-    let c47 = c38 .before .before .before .before .before .before .before .before .before in
-    let P = c47 .pre in
-    starts (P .0) (P .1 .1 .1 .0) (c38 .unlock .kept .0 ∙ P .1 .1 .1 .1 .0) (P .1 .1 .0) (c38 .unlock .ensures) (c18 .enter .ensures .0)
-    (c18 .enter .ensures .1 .0) (c4 .update .ensures .0) (c4 .update .ensures .1) (c9 .overlap .ensures .1) (c9 .overlap .ensures .0)
+    let c6 = c .before .before .before .before .before .before in
+    let c13 = c6 .before .before .before .before .before .before .before in
+    let c24 = c13 .before .before .before .before .before .before .before .before .before .before .before in
+    let c32 = c24 .before .before .before .before .before .before .before .before in
+    let P = c32 .pre in let e = c24 .unlock .kept .0 in let entered = rw e at (c13 .enter .ensures .1 .0) in
+    let own = rw e at (c6 .overlap .ensures) in let put = c .before .before .put .ensures in (
+      starts (P .0 .priced) (P .1 .1 .1 .0) (omega (arith, e, P .1 .1 .0)) (c24 .unlock .ensures) entered (put .1) (own .0 .0) (own .0 .1),
+      (refl, (put .0, own .1)),
+    )
 
 pub begin-spec : {M : Type 1} → statement M
 begin-spec =
@@ -118,13 +72,10 @@ begin-spec =
     (tie.spec
     unlock-requires
     count-none-requires
-    seat-requires
-    clear-requires
     enter-requires
     overlap-requires
-    update-requires
+    put-requires
     same-length
     same-length-2
     same-length-3
-    same-length-4
     returns)

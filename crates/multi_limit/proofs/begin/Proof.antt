@@ -1,66 +1,100 @@
--- `multi_limit::begin` meets its contract: nothing is known of any bid, k alone is marked, then those that share an open cell
--- with it. Assumes nothing.
-use Prim.Native.Nat.{ℕ, _+_}
-use mathlib.Core.Path.{sym, _∙_, ap}
+-- `multi_limit::begin` meets its contract: the main run alone takes the bid, which is marked first, and then those that have an open cell
+-- of its tape; as many cells are open for it as its round gains. Assumes nothing.
+use mathlib.Core.Path.{refl, _∙_}
 use native.Mathlib.Omega.{arith}
-use Rattle.multi_tournament.specs.TreeLaws.{known-at}
-use Rattle.multi_rounds.specs.BeginLaws.{sized-of}
-use Rattle.multi_follow.proofs.Following.{inside, starts}
+use Rattle.multi_keys.specs.TreeLaws.{length-leaves}
+use Rattle.multi_gain.specs.GainLaws.{indexed-more}
+use Rattle.multi_limit.specs.PassLaws.{mark-kept, begin-follows}
 use borrow.Author.Needs.{needs}
 use Rattle.multi_limit.proofs.begin.Statement.{statement}
 use Rattle.multi_limit.proofs.begin.Tie as tie
 
-copy-requires : tie.Need-copy-requires
-copy-requires c κs =
-    let c13 = c .before .before .before .before .before .before .before .before .before .before .before .before .before in
-    let P = c13 .pre in P .1 .0 .words ∙ sym (P .1 .1 .0)
+mul-k : tie.Need-mul-k
+mul-k c = search needs
 
-count-none-requires : tie.Need-count-none-requires
-count-none-requires c κs =
-    let c4 = c .before .before .before .before in
-    let c18 = c4 .before .before .before .before .before .before .before .before .before .before .before .before .before .before in
-    let P = c18 .pre in let e = c4 .copy .kept .1 .0 ∙ P .1 .1 .0 in
-    (P .1 .1 .1 .0 ∙ ap (λ (x : ℕ). x + 2) (sym e), omega (arith, e, P .0 .market .words))
+mul-k-2 : tie.Need-mul-k-2
+mul-k-2 c = search needs
 
-empty-requires : tie.Need-empty-requires
-empty-requires c κs =
-    let c23 = c .before .before .before .before .before .before .before .before .before .before .before .before .before .before .before
-    .before .before .before .before .before .before .before .before in
-    c23 .pre .1 .1 .1 .1 .0
+shared-slice-read-k : tie.Need-shared-slice-read-k
+shared-slice-read-k c = search needs
 
-clear-requires : tie.Need-clear-requires
-clear-requires c κs = search needs
+mul-a : tie.Need-mul-a
+mul-a c = search needs
+
+add-a : tie.Need-add-a
+add-a c = search needs
+
+mul-a-2 : tie.Need-mul-a-2
+mul-a-2 c = search needs
+
+shared-slice-read-a : tie.Need-shared-slice-read-a
+shared-slice-read-a c = search needs
+
+add-z : tie.Need-add-z
+add-z c = search needs
+
+mul-z : tie.Need-mul-z
+mul-z c = search needs
+
+add-z-2 : tie.Need-add-z-2
+add-z-2 c = search needs
+
+mul-z-2 : tie.Need-mul-z-2
+mul-z-2 c = search needs
+
+shared-slice-read-z : tie.Need-shared-slice-read-z
+shared-slice-read-z c = search needs
 
 add-requires : tie.Need-add-requires
-add-requires c κs =
-    let c31 = c .before .before .before .before .before .before .before .before .before .before .before .before .before .before .before
-    .before .before .before .before .before .before .before .before .before .before .before .before .before .before .before .before in
-    let P = c31 .pre in omega (
-      arith,
-      inside (P .0),
-      P .0 .market .priced .count,
-      c .before .before .before .clear .kept .0,
-      P .1 .1 .1 .1 .1,
+add-requires c κs = search needs
+
+gain-pairs-requires : tie.Need-gain-pairs-requires
+gain-pairs-requires c κs =
+    let c5 = c .before .before .before .before .before in
+    let c20 = c5 .before .before .before .before .before .before .before .before .before .before .before .before .before .before .before in
+    let P = c20 .pre in let Q = P .1 .1 .1 in let B = Q .1 .1 .1 in (
+      P .0,
+      (
+        P .1 .0,
+        (
+          indexed-more (P .1 .1 .0) (λ i l y. mark-kept (c5 .add .ensures) i y),
+          (B .main .each (c20 .args .h) (B .here) .paired, (Q .0, (Q .1 .0, c5 .add .kept .0 ∙ Q .1 .1 .0))),
+        ),
+      ),
     )
 
-disturb-requires : tie.Need-disturb-requires
-disturb-requires c κs =
-    let c7 = c .before .before .before .before .before .before .before in
-    let c11 = c7 .before .before .before .before in
-    let c15 = c11 .before .before .before .before in
-    let c20 = c15 .before .before .before .before .before in
-    let c25 = c20 .before .before .before .before .before in
-    let c39 = c25 .before .before .before .before .before .before .before .before .before .before .before .before .before .before in
-    let P = c39 .pre in let co = P .0 in let marks = c7 .add .kept .0 ∙ c11 .clear .kept .0 ∙ P .1 .1 .1 .1 .1 in
-    let words = c25 .copy .kept .1 .0 ∙ P .1 .1 .0 in
-    (co .market, (co .hopping, (co .indexed, (words, (c20 .count-none .ensures, (inside co, (c15 .empty .ensures .0, marks)))))))
+add-t15 : tie.Need-add-t15
+add-t15 c =
+    let c14 = c .before .before .before .before .before .before .before .before .before .before .before .before .before .before in
+    let c27 = c14 .before .before .before .before .before .before .before .before .before .before .before .before .before in
+    let B = c27 .pre .1 .1 .1 .1 .1 .1 in omega (arith, B .here, B .main .room)
+
+mul-t16 : tie.Need-mul-t16
+mul-t16 c =
+    let c14 = c .before .before .before .before .before .before .before .before .before .before .before .before .before .before in
+    let c27 = c14 .before .before .before .before .before .before .before .before .before .before .before .before .before in
+    let B = c27 .pre .1 .1 .1 .1 .1 .1 in omega (arith, B .here, B .main .room)
+
+add-t20 : tie.Need-add-t20
+add-t20 c =
+    let c14 = c .before .before .before .before .before .before .before .before .before .before .before .before .before .before in
+    let c27 = c14 .before .before .before .before .before .before .before .before .before .before .before .before .before in
+    let B = c27 .pre .1 .1 .1 .1 .1 .1 in omega (arith, B .here, B .main .room)
+
+mul-t22 : tie.Need-mul-t22
+mul-t22 c =
+    let c14 = c .before .before .before .before .before .before .before .before .before .before .before .before .before .before in
+    let c27 = c14 .before .before .before .before .before .before .before .before .before .before .before .before .before in
+    let B = c27 .pre .1 .1 .1 .1 .1 .1 in omega (arith, B .here, B .main .room)
+
+shared-slice-read-t19 : tie.Need-shared-slice-read-t19
+shared-slice-read-t19 c =
+    let c14 = c .before .before .before .before .before .before .before .before .before .before .before .before .before .before in
+    let c28 = c14 .before .before .before .before .before .before .before .before .before .before .before .before .before .before in
+    let B = c28 .pre .1 .1 .1 .1 .1 .1 in omega (arith, B .here, B .main .room)
 
 same-length : tie.Need-same-length
-same-length c =
-    let c34 = c .before .before .before .before .before .before .before .before .before .before .before .before .before .before .before
-    .before .before .before .before .before .before .before .before .before .before .before .before .before .before .before .before
-    .before .before .before in
-    c34 .copy .kept .1 .0
+same-length c = search needs
 
 same-length-2 : tie.Need-same-length-2
 same-length-2 c = search needs
@@ -68,42 +102,50 @@ same-length-2 c = search needs
 same-length-3 : tie.Need-same-length-3
 same-length-3 c = search needs
 
-same-length-4 : tie.Need-same-length-4
-same-length-4 c = search needs
-
-same-length-5 : tie.Need-same-length-5
-same-length-5 c = search needs
-
 returns : tie.Need-returns
 returns c =
-    let c8 = c .before .before .before .before .before .before .before .before in
-    let c16 = c8 .before .before .before .before .before .before .before .before in
-    let c20 = c16 .before .before .before .before in
-    let c24 = c20 .before .before .before .before in
-    let c34 = c24 .before .before .before .before .before .before .before .before .before .before in
-    let c48 = c34 .before .before .before .before .before .before .before .before .before .before .before .before .before .before in
-    let P = c48 .pre in let co = P .0 in let t = c8 .disturb .ensures .0 in
-    record {
-      follow = rw (c34 .copy .ensures) (starts co (P .1 .0) (λ i. known-at _ i ∙ c24 .empty .ensures .1 _)
-          (c20 .clear .ensures) (c16 .add .ensures) (sized-of t) (rw (c34 .copy .ensures) at (c8 .disturb .ensures .1 .0)));
-      tree = t;
-      counted = c8 .disturb .ensures .1 .1;
-      marks = c8 .disturb .kept .1 .1 .1 .1 .1 .1 .1 .1 .1 .1 .0 ∙ c16 .add .kept .0 ∙ c20 .clear .kept .0 ∙ P .1 .1 .1 .1 .1;
-    }
+    let c7 = c .before .before .before .before .before .before .before in
+    let c13 = c7 .before .before .before .before .before .before in
+    let c28 = c13 .before .before .before .before .before .before .before .before .before .before .before .before .before .before .before in
+    let P = c28 .pre in let d = c7 .gain-pairs .ensures in let f = c13 .add .ensures in (
+      begin-follows (P .0 .priced) (P .0 .words) (P .1 .1 .1 .1 .1 .1) f (d .1 .0) (length-leaves _ (d .0 .size)) (omega arith),
+      (
+        (refl, refl),
+        (
+          d .0,
+          (
+            d .1 .1,
+            indexed-more (indexed-more (P .1 .1 .0) (λ i l y. mark-kept f i y))
+                (λ i l y. d .1 .0 .kept i (omega (arith, l, P .0 .priced .count)) y .0),
+          ),
+        ),
+      ),
+    )
 
 pub begin-spec : {M : Type 1} → statement M
 begin-spec =
     tie.close
     (tie.spec
-    copy-requires
-    count-none-requires
-    empty-requires
-    clear-requires
+    mul-k
+    mul-k-2
+    shared-slice-read-k
+    mul-a
+    add-a
+    mul-a-2
+    shared-slice-read-a
+    add-z
+    mul-z
+    add-z-2
+    mul-z-2
+    shared-slice-read-z
     add-requires
-    disturb-requires
+    gain-pairs-requires
+    add-t15
+    mul-t16
+    add-t20
+    mul-t22
+    shared-slice-read-t19
     same-length
     same-length-2
     same-length-3
-    same-length-4
-    same-length-5
     returns)

@@ -1,7 +1,8 @@
 -- `multi_rounds::shut` meets its contract: the bid's words are a part of all the words. Assumes nothing.
-use mathlib.Core.Path.{sym, _∙_}
-use native.Mathlib.Omega.{arith}
-use Rattle.multi_rounds.specs.WordRowLaws.{part-row, row-length}
+use mathlib.Core.Path.{sym}
+use lib.ListN.{length}
+use Rattle.multi_market.specs.WordRowLaws.{part-row, row-length}
+use Rattle.multi_rounds.specs.ShutLaws.{shut-row}
 use borrow.Author.Needs.{needs}
 use Rattle.multi_rounds.proofs.shut.Statement.{statement}
 use Rattle.multi_rounds.proofs.shut.Tie as tie
@@ -39,8 +40,9 @@ part-close-counted-end-2 c = search needs
 close-counted-requires : tie.Need-close-counted-requires
 close-counted-requires c κs =
     let c8 = c .before .before .before .before .before .before .before .before in
-    let P = c8 .pre in let A = c8 .args in rw (part-row (A .masks .now) (A .w) (A .i), part-row (A .hop .now) (A .w) (A .i))
-    ((P .0 ∙ sym (row-length (A .masks .now) (A .w) (A .i) (P .1 .1 .0)), (omega arith, (P .1 .1 .1 .1 .0, P .1 .1 .1 .1 .1))))
+    let S = c8 in let P = S .pre in let A = S .args in let w = length (A .held .now) in
+    rw (part-row (A .masks .now) w (A .i), part-row (A .hop .now) w (A .i))
+    ((sym (row-length (A .masks .now) w (A .i) (P .1 .0)), (P .0, (P .1 .1 .1 .0, P .1 .1 .1 .1))))
 
 same-length : tie.Need-same-length
 same-length c = search needs
@@ -52,7 +54,8 @@ returns : tie.Need-returns
 returns c =
     let c4 = c .before .before .before .before in
     let c13 = c4 .before .before .before .before .before .before .before .before .before in
-    let A = c13 .args in rw (← part-row (A .masks .now) (A .w) (A .i)) (c4 .close-counted .ensures)
+    let A = c13 .args in let u = c4 .close-counted .ensures in let w = length (A .held .now) in
+    (shut-row (A .held .now) _ (A .masks .now) w (A .i) (rw (part-row (A .masks .now) w (A .i)) at (u .0)), u .1)
 
 pub shut-spec : {M : Type 1} → statement M
 shut-spec =

@@ -1,5 +1,0 @@
-pub mod Limiting
-pub mod Astray
-pub mod Strayed
-pub mod Following
-pub mod Stepping

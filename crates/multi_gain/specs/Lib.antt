@@ -1,0 +1,2 @@
+pub mod Gain
+pub mod GainLaws

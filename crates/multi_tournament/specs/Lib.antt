@@ -1,3 +1,0 @@
-pub mod Tournament
-pub mod OrderLaws
-pub mod TreeLaws
