@@ -83,9 +83,9 @@ module _ {M : Type 1} {𝓤 : Ura M} (𝓛 : Logic 𝓤) (R : RattleType) (xs : 
   lends_shared ℓ κ g = qed 𝓛 (‵ (row R full_share xs b 0) ∷ []) ∵ feq_i ! ℕ (length xs) (length xs) refl $ fjoin ! $ by !
       (lends_shr_slice 𝓛 R ℓ κ full_share xs b 0 g)
 
-  pub comes-back-shared : (κ : Lft) → ent 𝓤 (sep 𝓤 (A.dead κ) (A.lent κ ((arr_parts (shares R) (length xs)).part full_share xs b 0)))
+  pub comes_back_shared : (κ : Lft) → ent 𝓤 (sep 𝓤 (A.dead κ) (A.lent κ ((arr_parts (shares R) (length xs)).part full_share xs b 0)))
       (H.⇛ (sem 𝓛 (row R full_share xs b 0)))
-  comes-back-shared κ = qed 𝓛 (‵ (fdead κ) ∷ ‵ (flent κ ((arr_parts (shares R) (length xs)).part full_share xs b 0)) ∷ []) ∵ updating ! $
+  comes_back_shared κ = qed 𝓛 (‵ (fdead κ) ∷ ‵ (flent κ ((arr_parts (shares R) (length xs)).part full_share xs b 0)) ∷ []) ∵ updating ! $
       lent_back ! tt $ fsplit ! $ drop ! $ at_once ! $ done !
 
 -- the reference to an array at b, lent under the name γ
@@ -108,39 +108,39 @@ module _ {M : Type 1} {𝓤 : Ura M} {K : Type 0} (𝓛 : Logic 𝓤) {Γ : List
   take_back t z R xs b ν γ n = step (λ s. lft_end t z $ use3 𝓛 (later (‵ (row R full_share xs b 0)))
       (comes_back 𝓛 R xs b (ν ∷ []) γ n) $ await t z $ s)
 
-  pub lend-shared : K → Soaks G → (R : RattleType) (ℓ : Lifetime) (xs : List R.Denot) (b : ℕ) → Room R (length xs)
+  pub lend_shared : K → Soaks G → (R : RattleType) (ℓ : Lifetime) (xs : List R.Denot) (b : ℕ) → Room R (length xs)
       → ((ν : ℕ) (γ : GName) → Seq K 𝓛 (‵ ((ShrSlice ℓ (ν ∷ []) R).own_val (lent_ref b γ xs) (slice_val (b, 0) (length xs) ∷ []))
       ∷ ‵ (flent (ν ∷ []) ((arr_parts (shares R) (length xs)).part full_share xs b 0)) ∷ ‵ (flft (ν ∷ []) full_share) ∷ Γ) G)
       → Seq K 𝓛 (‵ (row R full_share xs b 0) ∷ Γ) G
-  lend-shared t z R ℓ xs b g k = lft_new t z (λ ν. move t (1 ∷ []) $ use1 𝓛 (later (some (λ (γ : GName).
+  lend_shared t z R ℓ xs b g k = lft_new t z (λ ν. move t (1 ∷ []) $ use1 𝓛 (later (some (λ (γ : GName).
       ‵ ((ShrSlice ℓ (ν ∷ []) R).own_val (lent_ref b γ xs) (slice_val (b, 0) (length xs) ∷ []))
       ⊛ ‵ (flent (ν ∷ []) ((arr_parts (shares R) (length xs)).part full_share xs b 0)))))
       (lends_shared 𝓛 R xs b ℓ (ν ∷ []) g) $ await t z $ pick t (λ γ. split t $ k ν γ))
 
-  pub take-back-shared : K → Soaks G → (R : RattleType) (xs : List R.Denot) (b ν : ℕ) → Step K 𝓛 (‵ (row R full_share xs b 0) ∷ Γ) G
+  pub take_back_shared : K → Soaks G → (R : RattleType) (xs : List R.Denot) (b ν : ℕ) → Step K 𝓛 (‵ (row R full_share xs b 0) ∷ Γ) G
       (‵ (flft (ν ∷ []) full_share) ∷ ‵ (flent (ν ∷ []) ((arr_parts (shares R) (length xs)).part full_share xs b 0)) ∷ Γ) G
-  take-back-shared t z R xs b ν = step (λ s. lft_end t z $ use2 𝓛 (later (‵ (row R full_share xs b 0)))
-      (comes-back-shared 𝓛 R xs b (ν ∷ [])) $ await t z $ s)
+  take_back_shared t z R xs b ν = step (λ s. lft_end t z $ use2 𝓛 (later (‵ (row R full_share xs b 0)))
+      (comes_back_shared 𝓛 R xs b (ν ∷ [])) $ await t z $ s)
 
-each-is : (n x : ℕ) → x < 2 ^ 64 → shadow (each ℕ u64.own_val (replicate n x) (replicate n (vint w64 x)))
-each-is zero x fits = tt
-each-is (suc n) x fits = ((refl, fits), each-is n x fits)
+each_is : (n x : ℕ) → x < 2 ^ 64 → shadow (each ℕ u64.own_val (replicate n x) (replicate n (vint w64 x)))
+each_is zero x fits = tt
+each_is (suc n) x fits = ((refl, fits), each_is n x fits)
 
-all-is : (n x : ℕ) → x < 2 ^ 64 → Is (Array u64 n) (replicate n x) (array_val (replicate n (vint w64 x)) ∷ [])
-all-is n x fits = (replicate n (vint w64 x), ((refl, length-replicate n x), each-is n x fits))
+all_is : (n x : ℕ) → x < 2 ^ 64 → Is (Array u64 n) (replicate n x) (array_val (replicate n (vint w64 x)) ∷ [])
+all_is n x fits = (replicate n (vint w64 x), ((refl, length-replicate n x), each_is n x fits))
 
 module _ {M : Type 1} {𝓤 : Ura M} (𝓛 : Logic 𝓤) (n x : ℕ) (fits : x < 2 ^ 64) where
   open 𝓛 use {H}
 
   pub repeated : T (has_ty (ty_array (ty_int w64) n) (array_val (replicate n (vint w64 x)))) × WT (array_val (replicate n (vint w64 x)))
   repeated = ((Array-Lawful 𝓛 u64 (uint_Lawful 𝓛 w64) n).typed (replicate n x) (array_val (replicate n (vint w64 x)) ∷ [])
-      (all-is n x fits)).0
+      (all_is n x fits)).0
 
-  pub repeated-elements : (b : ℕ) → ent 𝓤 (H.at full_share (ty_array (ty_int w64) n) b 0 (array_val (replicate n (vint w64 x))))
+  pub repeated_elements : (b : ℕ) → ent 𝓤 (H.at full_share (ty_array (ty_int w64) n) b 0 (array_val (replicate n (vint w64 x))))
       (ex 𝓤 (λ (xs : List ℕ). guard 𝓤 (length xs ≡ n) (sem 𝓛 (row u64 full_share xs b 0))))
-  repeated-elements b =
+  repeated_elements b =
       qed 𝓛 (‵ (fat full_share (ty_array (ty_int w64) n) b 0 (array_val (replicate n (vint w64 x)))) ∷ []) ∵
       use1 𝓛 (‵ (row u64 full_share (replicate n x) b 0))
-      (elements 𝓛 u64 (replicate n x) b tt (uint_Makes 𝓛 w64) n (array_val (replicate n (vint w64 x))) (all-is n x fits)) $
+      (elements 𝓛 u64 (replicate n x) b tt (uint_Makes 𝓛 w64) n (array_val (replicate n (vint w64 x))) (all_is n x fits)) $
       show ! (λ (xs : List ℕ). guard 𝓤 (length xs ≡ n) (sem 𝓛 (row u64 full_share xs b 0))) (replicate n x) $ check !
       (length-replicate n x) $ done !

@@ -45,7 +45,7 @@ use denote.Triple.Walked.{walk_Meets}
 use Rattle.tender.specs.declared.Kind.{Kind}
 use Rattle.tender.specs.declared.Kind.TheVariants.{Single, Multi}
 use Rattle.tender.specs.declared.Tender.{Tender}
-use Rattle.award_check.specs.Faults.{kindNumber}
+use Rattle.award_check.specs.Faults.{kind_number}
 use Rattle.tender.specs.contracts.Kind as Kin
 use Rattle.tender.proofs.Kind.TheLaws as Kin'
 use Rattle.tender.specs.contracts.Tender as Ten
@@ -65,17 +65,17 @@ use Rattle.award.specs.contracts.award_single as f
 abbrev word : Ty
 word = ty_int w64
 
-abbrev rowsTy : Ty
-rowsTy = ty_ref erased mut (pointee (Row.the_row).written)
+abbrev rows_ty : Ty
+rows_ty = ty_ref erased mut (pointee (Row.the_row).written)
 
-abbrev kindVal : Kind → Val
-kindVal k = vstruct (vcons (vint w8 (kindNumber k)) vnil)
+abbrev kind_val : Kind → Val
+kind_val k = vstruct (vcons (vint w8 (kind_number k)) vnil)
 
-is-kind : (k : Kind) → Is Kin.the_row k (kindVal k ∷ [])
-is-kind Single = EL.owes Kin.the_type Kin'.the_laws Single tt
-is-kind Multi = EL.owes Kin.the_type Kin'.the_laws Multi tt
+is_kind : (k : Kind) → Is Kin.the_row k (kind_val k ∷ [])
+is_kind Single = EL.owes Kin.the_type Kin'.the_laws Single tt
+is_kind Multi = EL.owes Kin.the_type Kin'.the_laws Multi tt
 
-small : (k : Kind) → Holds (ltb (kindNumber k) (2 ^ 8))
+small : (k : Kind) → Holds (ltb (kind_number k) (2 ^ 8))
 small Single = tt
 small Multi = tt
 
@@ -88,8 +88,8 @@ function k = record {
   locals = local Ans'.mir value_local ∷ local Ten'.mir value_local ∷ local word value_local
       ∷ local (slice_ty (ty_ref (named 0) imm word)) value_local ∷ local (slice_ty (ty_ref (named 1) imm word)) value_local
       ∷ local (slice_ty (ty_ref (named 2) mut (pointee (Row.the_row).written))) value_local ∷ local Kin'.mir value_local
-      ∷ local rowsTy value_local ∷ local (slice_ty rowsTy) value_local ∷ [];
-  body = seq (assign (place 6 []) (aggregate (int w8 (kindNumber k) ∷ [])))
+      ∷ local rows_ty value_local ∷ local (slice_ty rows_ty) value_local ∷ [];
+  body = seq (assign (place 6 []) (aggregate (int w8 (kind_number k) ∷ [])))
       (seq (assign (place 7 []) (addr_of (place 5 (field 0 ∷ deref Row'.mir ∷ []))))
       (seq (assign (place 8 []) (aggregate (copy (place 7 []) ∷ copy (place 5 (field 1 ∷ [])) ∷ [])))
       (seq (call #award·award-in (copy (place 6 []) ∷ copy (place 1 []) ∷ copy (place 2 []) ∷ copy (place 3 []) ∷ copy (place 4 [])
@@ -181,21 +181,21 @@ module _ {M : Type 1} {𝓤 : Ura M} (𝓛 : Logic 𝓤) (at_mem : Memory → SP
         owned ! Ans.the_row (Is Ans.the_row) (EL.makes Ans.the_type Ans'.the_plain 𝓛) r (v ∷ []) is $ done !
 
     -- what `award_in` is passed, and what of that is owned
-    abbrev to-award : (AwardIn 𝓛 at_mem run).Ghost
-    to-award = ((κs, qs, tt, (k, a), (kindVal k ∷ [], at a κs)), tt)
+    abbrev to_award : (AwardIn 𝓛 at_mem run).Ghost
+    to_award = ((κs, qs, tt, (k, a), (kind_val k ∷ [], at a κs)), tt)
 
     abbrev Owns : List (Item 𝓤)
     Owns = ‵ ((ShrSlice (named 0) κs.0 u64).own_val (bids a) (shr_slice_vals (bids a)))
         ∷ ‵ ((ShrSlice (named 1) κs.1.0 u64).own_val (windows a) (shr_slice_vals (windows a)))
         ∷ ‵ ((MutSlice (named 2) κs.1.1.0 Row.the_row).own_val (rows a) (shr_slice_vals (rows a))) ∷ []
 
-    goes-award : Known a κs → ent 𝓤 (⋆ 𝓛 (Lives ∷ Owns)) ((AwardIn 𝓛 at_mem run).pre to-award)
-    goes-award known =
+    goes_award : Known a κs → ent 𝓤 (⋆ 𝓛 (Lives ∷ Owns)) ((AwardIn 𝓛 at_mem run).pre to_award)
+    goes_award known =
         qed 𝓛 (Lives ∷ Owns) ∵
         nothing ! $ move ! (4 ∷ 0 ∷ []) $ fjoin ! $ move ! (3 ∷ 0 ∷ []) $ fjoin ! $ move ! (2 ∷ 0 ∷ []) $ fjoin ! $
         owned ! usize (Is usize) (uint_Makes 𝓛 w64) (count a) _ known.1.0 $ fjoin ! $
         owned ! Ten.the_row (Is Ten.the_row) (LL.makes Ten.the_type Ten'.the_plain 𝓛) (tender a) _ known.0 $ fjoin ! $
-        owned ! Kin.the_row (Is Kin.the_row) (EL.makes Kin.the_type Kin'.the_plain 𝓛) k (kindVal k ∷ []) (is-kind k) $ fjoin ! $
+        owned ! Kin.the_row (Is Kin.the_row) (EL.makes Kin.the_type Kin'.the_plain 𝓛) k (kind_val k ∷ []) (is_kind k) $ fjoin ! $
         move ! (1 ∷ 0 ∷ []) $ join ! $ frame ! $ done !
 
     walk : Known a κs → (𝓣 : Tables 𝓤 H) → FmC 𝓤 H 𝓛.laws 𝓣.C → Triple 𝓤 (𝓣.C #award·award-in) (AwardIn 𝓛 at_mem run)
@@ -212,14 +212,14 @@ module _ {M : Type 1} {𝓤 : Ura M} (𝓛 : Logic 𝓤) (at_mem : Memory → SP
         pass1 ! (init ! 8 refl (tt, (tt, (record { fits = known.1.1.1.0.0.1.0 }, tt)))) $
         pass1 ! (init ! 6 refl (tt, (tt, (record { fits = known.1.1.1.1.0.0.1.0 }, tt)))) $ pass0 ! $
         sets ! (agg ! (and_then ! (lit ! (small k)) (no_more !))) 4 refl
-        ((EL.lawful Kin.the_type Kin'.the_laws 𝓛 tt).typed k _ (is-kind k)).0 $
+        ((EL.lawful Kin.the_type Kin'.the_laws 𝓛 tt).typed k _ (is_kind k)).0 $
         sets ! (addr ! (from ! (fld ! refl (hop ! (look_in ! 6 (sub ! 0 refl (whole !))) (stop !))))) 2 refl (tt, tt) $
         sets ! (agg ! (and_then ! (held ! 2 refl) (and_then ! (held_in ! 6 1 refl refl refl) (no_more !)))) 0 refl
         (tt, (tt, (record { fits = known.1.1.1.1.0.0.1.0 }, tt))) $
         -- what is owned is taken apart, and all of it is passed on
         move ! (19 ∷ []) $ past ! $ past ! $ fsplit ! $ move ! (1 ∷ []) $ fsplit ! $ move ! (1 ∷ []) $ fsplit ! $ move ! (1 ∷ []) $ drop ! $
         move ! (21 ∷ 2 ∷ 1 ∷ 0 ∷ []) $ group ! 4 $
-        called 𝓛 ! fm award.ended (award.clauses 𝓛 at_mem run) known-award to-award (goes-award known) Lives (id⊢ 𝓤 _)
+        called 𝓛 ! fm award.ended (award.clauses 𝓛 at_mem run) known-award to_award (goes_award known) Lives (id⊢ 𝓤 _)
         (λ r last. Promised a k last.1.1.1.1.1.0 r) (λ r last. id⊢ 𝓤 _)
         (and_then ! (held ! 5 refl) (and_then ! (held ! 15 refl) (and_then ! (held ! 13 refl) (and_then ! (held ! 11 refl)
         (and_then ! (held ! 9 refl) (and_then ! (held ! 1 refl) (no_more !))))))) (λ v r last promise is.

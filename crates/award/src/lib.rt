@@ -1,9 +1,11 @@
 // The awards on tables. `award_single` and `award_multi` answer every call over a lent slice of award rows, and `settle`
 // every call over plain lists: a flag and the cents paid for each bid. None of them requires anything.
 // `award_outcome` Promise says what a call promises on rows.
+#![tactic(auto)]
+
 ghost use Rattle.std.specs.Prelude.{◌≡◌, ℕ, ◌≤◌, min, length};
 ghost use Rattle.tender.specs.declared.Kind.TheVariants.{Single, Multi};
-ghost use Rattle.award_outcome.specs.Promise.{Promise, rowsFilled};
+ghost use Rattle.award_outcome.specs.Promise.{Promise, rows_filled};
 ghost use Rattle.award_rule.specs.Plain.{PlainPromise};
 
 use tender::{Answer, AwardRow, Kind, Tender};
@@ -54,7 +56,7 @@ fn settle_rows(
     requires { (min lent 1000 ≤ length won.old) × (min lent 1000 ≤ length cents.old) }
     ensures { PlainPromise kind tender count bids.now windows.now lent won.old
         cents.old won.new cents.new result.answer
-        × (result.rows ≡ rowsFilled result.answer count) }
+        × (result.rows ≡ rows_filled result.answer count) }
 {
     let answer = award_settle::settle_in(kind, tender, count, bids, windows, lent, won, cents);
     Settled {

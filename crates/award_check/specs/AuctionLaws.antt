@@ -15,147 +15,147 @@ use Rattle.tender.specs.declared.Window.{Window}
 use Rattle.tender.specs.declared.Reserve.{Reserve}
 use Rattle.tender.specs.declared.Reserve.TheVariants.{Absent, Price}
 use Rattle.tender.specs.declared.Tender.{Tender}
-use Rattle.tender.specs.Limits.{asWindow}
-use Rattle.tender.specs.Tables.{Row, rows_of, windowsOf, own, flatRows, flatWindows, bidWidth, windowWidth}
+use Rattle.tender.specs.Limits.{as_window}
+use Rattle.tender.specs.Tables.{Row, rows_of, windows_of, own, flat_rows, flat_windows, bid_width, window_width}
 use Rattle.cover.specs.Sets.{nothing}
-use Rattle.cover.specs.Earliest.{cellWith}
+use Rattle.cover.specs.Earliest.{cell_with}
 use Rattle.cover.specs.SetLaws.{and_split}
-use Rattle.cover.specs.SpareLaws.{Spare, enough-spare, whole-spare}
+use Rattle.cover.specs.SpareLaws.{Spare, enough_spare, whole_spare}
 use Rattle.reader_text.specs.Rules.{Rules}
-use Rattle.award_check.specs.Cells.{holds, cells_of, minuteOf, bidRowAt, no_row}
-use Rattle.award_check.specs.Auction.{Offer, noOffer, offered, houses, houseOf, offersOf, Auction, has_of}
-use Rattle.award_check.specs.Auction.{auctionOf, atPrice, reserved, thinCell}
+use Rattle.award_check.specs.Cells.{holds, cells_of, minute_of, bid_row_at, no_row}
+use Rattle.award_check.specs.Auction.{Offer, no_offer, offered, houses, house_of, offers_of, Auction, has_of}
+use Rattle.award_check.specs.Auction.{auction_of, at_price, reserved, thin_cell}
 use Rattle.award_check.specs.Alike.{Withheld}
-use Rattle.award_check.specs.AlikeLaws.{rows-length, row_named, windows-same, among-held, faultless}
-use Rattle.award_check.specs.TextLaws.{rows-flat, length-windows, rows_end, never-nine}
+use Rattle.award_check.specs.AlikeLaws.{rows_length, row_named, windows_same, among_held, faultless}
+use Rattle.award_check.specs.TextLaws.{rows_flat, length_windows, rows_end, never_nine}
 
-pub map-append : {A B : Type 0} (f : A → B) (xs ys : List A) → map f (xs ++ ys) ≡ map f xs ++ map f ys
-map-append f [] ys = refl
-map-append f (x ∷ xs) ys = ap (λ zs. f x ∷ zs) (map-append f xs ys)
+pub map_append : {A B : Type 0} (f : A → B) (xs ys : List A) → map f (xs ++ ys) ≡ map f xs ++ map f ys
+map_append f [] ys = refl
+map_append f (x ∷ xs) ys = ap (λ zs. f x ∷ zs) (map_append f xs ys)
 
 -- offers
 
 own_at : (windows : List ℕ) (rs : List Row) (i : ℕ) → get_or (map (own windows) rs) i [] ≡ own windows (get_or rs i no_row)
-unfolding own windowsOf no_row
+unfolding own windows_of no_row
 own_at windows rs i = get_or-map (own windows) rs i no_row
 
-offer-windows : (windows : List ℕ) (rs : List Row) → map (λ o. o.windows) (map (offered windows) rs) ≡ map (own windows) rs
+offer_windows : (windows : List ℕ) (rs : List Row) → map (λ o. o.windows) (map (offered windows) rs) ≡ map (own windows) rs
 unfolding offered
-offer-windows windows [] = refl
-offer-windows windows (r ∷ rs) = ap (λ ws. own windows r ∷ ws) (offer-windows windows rs)
+offer_windows windows [] = refl
+offer_windows windows (r ∷ rs) = ap (λ ws. own windows r ∷ ws) (offer_windows windows rs)
 
-same-offers : (windows windows' : List ℕ) (rs : List Row)
+same_offers : (windows windows' : List ℕ) (rs : List Row)
     → ((j : ℕ) → own windows (get_or rs j no_row) ≡ own windows' (get_or rs j no_row))
     → map (offered windows) rs ≡ map (offered windows') rs
 unfolding offered
-same-offers windows windows' [] h = refl
-same-offers windows windows' (r ∷ rs) h = rw (h 0) (ap (λ os. record { price = r.price; windows = own windows' r } ∷ os)
-    (same-offers windows windows' rs (λ j. h (suc j))))
+same_offers windows windows' [] h = refl
+same_offers windows windows' (r ∷ rs) h = rw (h 0) (ap (λ os. record { price = r.price; windows = own windows' r } ∷ os)
+    (same_offers windows windows' rs (λ j. h (suc j))))
 
-windows-at : (os : List Offer) (i : ℕ) → (get_or os i noOffer).windows ≡ get_or (map (λ o. o.windows) os) i []
-unfolding noOffer
-windows-at os i = sym (get_or-map (λ o. o.windows) os i noOffer)
+windows_at : (os : List Offer) (i : ℕ) → (get_or os i no_offer).windows ≡ get_or (map (λ o. o.windows) os) i []
+unfolding no_offer
+windows_at os i = sym (get_or-map (λ o. o.windows) os i no_offer)
 
-offer-prices : (windows : List ℕ) (rs : List Row) → map (λ o. o.price) (map (offered windows) rs) ≡ map (λ r. r.price) rs
+offer_prices : (windows : List ℕ) (rs : List Row) → map (λ o. o.price) (map (offered windows) rs) ≡ map (λ r. r.price) rs
 unfolding offered
-offer-prices windows [] = refl
-offer-prices windows (r ∷ rs) = ap (λ ps. r.price ∷ ps) (offer-prices windows rs)
+offer_prices windows [] = refl
+offer_prices windows (r ∷ rs) = ap (λ ps. r.price ∷ ps) (offer_prices windows rs)
 
-price-at : (n i : ℕ) (bids : List ℕ) → i < n → get_or (map (λ r. r.price) (rows_of n bids)) i 0 ≡ get_or bids (bidWidth * i + 1) 0
+price_at_lem : (n i : ℕ) (bids : List ℕ) → i < n → get_or (map (λ r. r.price) (rows_of n bids)) i 0 ≡ get_or bids (bid_width * i + 1) 0
 unfolding rows_of
-price-at zero i bids l = absurd (omega arith)
-price-at (suc n) zero bids l = refl
-price-at (suc n) (suc i) bids l = price-at n i (drop bidWidth bids) (omega arith) ∙ get_or-drop bidWidth bids (bidWidth * i + 1) 0
+price_at_lem zero i bids l = absurd (omega arith)
+price_at_lem (suc n) zero bids l = refl
+price_at_lem (suc n) (suc i) bids l = price_at_lem n i (drop bid_width bids) (omega arith) ∙ get_or-drop bid_width bids (bid_width * i + 1) 0
     ∙ ap (λ (j : ℕ). get_or bids j 0) (index i)
   where
-    index : (i : ℕ) → bidWidth + (bidWidth * i + 1) ≡ bidWidth * suc i + 1
+    index : (i : ℕ) → bid_width + (bid_width * i + 1) ≡ bid_width * suc i + 1
     index i = omega arith
 
-house-count : (t : Tender) (r : Reserve) → length (houseOf t r) ≡ houses r
-unfolding houseOf
-house-count t Absent = refl
-house-count t (Price p) = refl
+house_count : (t : Tender) (r : Reserve) → length (house_of t r) ≡ houses r
+unfolding house_of
+house_count t Absent = refl
+house_count t (Price p) = refl
 
 -- the windows of the house
-abbrev house-windows : Tender → List (List Window)
-house-windows t = map (λ o. o.windows) (houseOf t t.reserve)
+abbrev house_windows : Tender → List (List Window)
+house_windows t = map (λ o. o.windows) (house_of t t.reserve)
 
 -- the auction of tables
 module _ (t : Tender) (n : ℕ) (bids windows : List ℕ) where
-  pub minutes : (auctionOf t n bids windows).cells ≡ t.window.end - t.window.start
-  unfolding auctionOf cells_of
+  pub minutes : (auction_of t n bids windows).cells ≡ t.window.end - t.window.start
+  unfolding auction_of cells_of
   minutes = refl
 
-  pub cells_are : (auctionOf t n bids windows).cells ≡ cells_of t
-  unfolding auctionOf
+  pub cells_are : (auction_of t n bids windows).cells ≡ cells_of t
+  unfolding auction_of
   cells_are = refl
 
-  pub owners-are : (auctionOf t n bids windows).owners ≡ n
-  unfolding auctionOf
-  owners-are = refl
+  pub owners_are : (auction_of t n bids windows).owners ≡ n
+  unfolding auction_of
+  owners_are = refl
 
   -- as many entries as bids, and the house
-  pub entries : length (auctionOf t n bids windows).prices ≡ n + houses t.reserve
-  unfolding auctionOf offersOf
-  entries = length-map (map (offered windows) (rows_of n bids) ++ houseOf t t.reserve) (λ o. o.price)
-      ∙ length-append (map (offered windows) (rows_of n bids)) (houseOf t t.reserve)
-      ∙ omega (arith, length-map (rows_of n bids) (offered windows), rows-length n bids, house-count t t.reserve)
+  pub entries : length (auction_of t n bids windows).prices ≡ n + houses t.reserve
+  unfolding auction_of offers_of
+  entries = length-map (map (offered windows) (rows_of n bids) ++ house_of t t.reserve) (λ o. o.price)
+      ∙ length-append (map (offered windows) (rows_of n bids)) (house_of t t.reserve)
+      ∙ omega (arith, length-map (rows_of n bids) (offered windows), rows_length n bids, house_count t t.reserve)
 
-  owner-count : length (map (own windows) (rows_of n bids)) ≡ n
-  owner-count = length-map (rows_of n bids) (own windows) ∙ rows-length n bids
+  owner_count : length (map (own windows) (rows_of n bids)) ≡ n
+  owner_count = length-map (rows_of n bids) (own windows) ∙ rows_length n bids
 
-  prices-by : (auctionOf t n bids windows).prices ≡ map (λ r. r.price) (rows_of n bids) ++ map (λ o. o.price) (houseOf t t.reserve)
-  unfolding auctionOf offersOf
-  prices-by = map-append (λ o. o.price) (map (offered windows) (rows_of n bids)) (houseOf t t.reserve)
-      ∙ ap (λ ps. ps ++ map (λ o. o.price) (houseOf t t.reserve)) (offer-prices windows (rows_of n bids))
+  prices_by : (auction_of t n bids windows).prices ≡ map (λ r. r.price) (rows_of n bids) ++ map (λ o. o.price) (house_of t t.reserve)
+  unfolding auction_of offers_of
+  prices_by = map_append (λ o. o.price) (map (offered windows) (rows_of n bids)) (house_of t t.reserve)
+      ∙ ap (λ ps. ps ++ map (λ o. o.price) (house_of t t.reserve)) (offer_prices windows (rows_of n bids))
 
-  price-count : length (map (λ r. r.price) (rows_of n bids)) ≡ n
-  price-count = length-map (rows_of n bids) (λ r. r.price) ∙ rows-length n bids
+  price_count : length (map (λ r. r.price) (rows_of n bids)) ≡ n
+  price_count = length-map (rows_of n bids) (λ r. r.price) ∙ rows_length n bids
 
-  pub price-named : (i : ℕ) → i < n → get_or (auctionOf t n bids windows).prices i 0 ≡ get_or bids (bidWidth * i + 1) 0
-  price-named i l = ap (λ ps. get_or ps i 0) prices-by
-      ∙ get_or-append (map (λ r. r.price) (rows_of n bids)) (map (λ o. o.price) (houseOf t t.reserve)) 0 i
-      (omega (arith, price-count))
-      ∙ price-at n i bids l
+  pub price_named : (i : ℕ) → i < n → get_or (auction_of t n bids windows).prices i 0 ≡ get_or bids (bid_width * i + 1) 0
+  price_named i l = ap (λ ps. get_or ps i 0) prices_by
+      ∙ get_or-append (map (λ r. r.price) (rows_of n bids)) (map (λ o. o.price) (house_of t t.reserve)) 0 i
+      (omega (arith, price_count))
+      ∙ price_at_lem n i bids l
 
   -- the house's price is the reserve
-  pub house-price : (p : ℕ) → t.reserve ≡ Price p → get_or (auctionOf t n bids windows).prices n 0 ≡ p
-  unfolding houseOf
-  house-price p e = ap (λ ps. get_or ps n 0) (prices-by
-      ∙ ap (λ r. map (λ r. r.price) (rows_of n bids) ++ map (λ o. o.price) (houseOf t r)) e)
-      ∙ ap (λ (j : ℕ). get_or (map (λ r. r.price) (rows_of n bids) ++ p ∷ []) j 0) (sym price-count)
+  pub house_price : (p : ℕ) → t.reserve ≡ Price p → get_or (auction_of t n bids windows).prices n 0 ≡ p
+  unfolding house_of
+  house_price p e = ap (λ ps. get_or ps n 0) (prices_by
+      ∙ ap (λ r. map (λ r. r.price) (rows_of n bids) ++ map (λ o. o.price) (house_of t r)) e)
+      ∙ ap (λ (j : ℕ). get_or (map (λ r. r.price) (rows_of n bids) ++ p ∷ []) j 0) (sym price_count)
       ∙ get_or-append_seam (map (λ r. r.price) (rows_of n bids)) p [] 0
 
-  has-by : (i x : ℕ) → (auctionOf t n bids windows).has i x
-      ≡ (ltb x (cells_of t) && holds (get_or (map (own windows) (rows_of n bids) ++ house-windows t) i []) (minuteOf t x))
-  unfolding auctionOf offersOf has_of
-  has-by i x = ap (λ ws. ltb x (cells_of t) && holds ws (minuteOf t x))
-      (windows-at (map (offered windows) (rows_of n bids) ++ houseOf t t.reserve) i
-      ∙ ap (λ wss. get_or wss i []) (map-append (λ o. o.windows) (map (offered windows) (rows_of n bids)) (houseOf t t.reserve)
-      ∙ ap (λ wss. wss ++ house-windows t) (offer-windows windows (rows_of n bids))))
+  has_by : (i x : ℕ) → (auction_of t n bids windows).has i x
+      ≡ (ltb x (cells_of t) && holds (get_or (map (own windows) (rows_of n bids) ++ house_windows t) i []) (minute_of t x))
+  unfolding auction_of offers_of has_of
+  has_by i x = ap (λ ws. ltb x (cells_of t) && holds ws (minute_of t x))
+      (windows_at (map (offered windows) (rows_of n bids) ++ house_of t t.reserve) i
+      ∙ ap (λ wss. get_or wss i []) (map_append (λ o. o.windows) (map (offered windows) (rows_of n bids)) (house_of t t.reserve)
+      ∙ ap (λ wss. wss ++ house_windows t) (offer_windows windows (rows_of n bids))))
 
-  pub has-cell : (i x : ℕ) → i < n → (auctionOf t n bids windows).has i x
-      ≡ (ltb x (cells_of t) && holds (own windows (get_or (rows_of n bids) i no_row)) (minuteOf t x))
-  has-cell i x l = has-by i x
-      ∙ ap (λ ws. ltb x (cells_of t) && holds ws (minuteOf t x))
-      (get_or-append (map (own windows) (rows_of n bids)) (house-windows t) [] i (omega (arith, owner-count))
+  pub has_cell : (i x : ℕ) → i < n → (auction_of t n bids windows).has i x
+      ≡ (ltb x (cells_of t) && holds (own windows (get_or (rows_of n bids) i no_row)) (minute_of t x))
+  has_cell i x l = has_by i x
+      ∙ ap (λ ws. ltb x (cells_of t) && holds ws (minute_of t x))
+      (get_or-append (map (own windows) (rows_of n bids)) (house_windows t) [] i (omega (arith, owner_count))
       ∙ own_at windows (rows_of n bids) i)
 
-  has-row : (i x : ℕ) → i < n → (auctionOf t n bids windows).has i x
-      ≡ (ltb x (cells_of t) && holds (own windows (bidRowAt bids i)) (minuteOf t x))
-  has-row i x l = has-cell i x l ∙ ap (λ r. ltb x (cells_of t) && holds (own windows r) (minuteOf t x)) (row_named n i bids l)
+  has_row : (i x : ℕ) → i < n → (auction_of t n bids windows).has i x
+      ≡ (ltb x (cells_of t) && holds (own windows (bid_row_at bids i)) (minute_of t x))
+  has_row i x l = has_cell i x l ∙ ap (λ r. ltb x (cells_of t) && holds (own windows r) (minute_of t x)) (row_named n i bids l)
 
   -- the house has every cell
-  pub house-has : (p x : ℕ) → t.reserve ≡ Price p → (auctionOf t n bids windows).has n x ≡ ltb x (cells_of t)
-  unfolding houseOf cells_of minuteOf holds
-  house-has p x e = has-by n x
-      ∙ ap (λ ws. ltb x (cells_of t) && holds ws (minuteOf t x))
-      (ap (λ r. get_or (map (own windows) (rows_of n bids) ++ map (λ o. o.windows) (houseOf t r)) n []) e
-      ∙ ap (λ (j : ℕ). get_or (map (own windows) (rows_of n bids) ++ (asWindow t.window ∷ []) ∷ []) j []) (sym owner-count)
-      ∙ get_or-append_seam (map (own windows) (rows_of n bids)) (asWindow t.window ∷ []) [] [])
+  pub house_has : (p x : ℕ) → t.reserve ≡ Price p → (auction_of t n bids windows).has n x ≡ ltb x (cells_of t)
+  unfolding house_of cells_of minute_of holds
+  house_has p x e = has_by n x
+      ∙ ap (λ ws. ltb x (cells_of t) && holds ws (minute_of t x))
+      (ap (λ r. get_or (map (own windows) (rows_of n bids) ++ map (λ o. o.windows) (house_of t r)) n []) e
+      ∙ ap (λ (j : ℕ). get_or (map (own windows) (rows_of n bids) ++ (as_window t.window ∷ []) ∷ []) j []) (sym owner_count)
+      ∙ get_or-append_seam (map (own windows) (rows_of n bids)) (as_window t.window ∷ []) [] [])
       ∙ whole (ltb x (cells_of t)) refl
     where
-      whole : (b : Bool) → ltb x (cells_of t) ≡ b → (b && holds (asWindow t.window ∷ []) (minuteOf t x)) ≡ b
+      whole : (b : Bool) → ltb x (cells_of t) ≡ b → (b && holds (as_window t.window ∷ []) (minute_of t x)) ≡ b
       whole true u = rw (
         le-leb t.window.start (t.window.start + x) (omega arith),
         lt-ltb (t.window.start + x) t.window.end (omega (arith, ltb-true x (t.window.end - t.window.start) u)),
@@ -163,63 +163,63 @@ module _ (t : Tender) (n : ℕ) (bids windows : List ℕ) where
       whole false u = refl
 
   -- past the last entry there are no cells
-  pub no_cells : (i x : ℕ) → n + houses t.reserve ≤ i → (auctionOf t n bids windows).has i x ≡ false
+  pub no_cells : (i x : ℕ) → n + houses t.reserve ≤ i → (auction_of t n bids windows).has i x ≡ false
   unfolding holds
-  no_cells i x l = has-by i x
-      ∙ ap (λ ws. ltb x (cells_of t) && holds ws (minuteOf t x))
-      (get_or-eq_default (map (own windows) (rows_of n bids) ++ house-windows t) [] {n = i} (omega (
+  no_cells i x l = has_by i x
+      ∙ ap (λ ws. ltb x (cells_of t) && holds ws (minute_of t x))
+      (get_or-eq_default (map (own windows) (rows_of n bids) ++ house_windows t) [] {n = i} (omega (
         arith,
-        length-append (map (own windows) (rows_of n bids)) (house-windows t),
-        owner-count,
-        length-map (houseOf t t.reserve) (λ o. o.windows),
-        house-count t t.reserve,
+        length-append (map (own windows) (rows_of n bids)) (house_windows t),
+        owner_count,
+        length-map (house_of t t.reserve) (λ o. o.windows),
+        house_count t t.reserve,
       )))
       ∙ and-false (ltb x (cells_of t))
 
   -- without a reserve the entries are the bids, and each thin cell is told
-  pub without-reserve : t.reserve ≡ Absent → reserved (auctionOf t n bids windows) ≡ false
+  pub without_reserve : t.reserve ≡ Absent → reserved (auction_of t n bids windows) ≡ false
   unfolding reserved
-  without-reserve e = le-ltb (auctionOf t n bids windows).owners (length (auctionOf t n bids windows).prices)
-      (omega (arith, entries, owners-are, ap houses e))
+  without_reserve e = le-ltb (auction_of t n bids windows).owners (length (auction_of t n bids windows).prices)
+      (omega (arith, entries, owners_are, ap houses e))
 
-  pub with-reserve : (p : ℕ) → t.reserve ≡ Price p → reserved (auctionOf t n bids windows) ≡ true
+  pub with_reserve : (p : ℕ) → t.reserve ≡ Price p → reserved (auction_of t n bids windows) ≡ true
   unfolding reserved
-  with-reserve p e = lt-ltb (auctionOf t n bids windows).owners (length (auctionOf t n bids windows).prices)
-      (omega (arith, entries, owners-are, ap houses e))
+  with_reserve p e = lt-ltb (auction_of t n bids windows).owners (length (auction_of t n bids windows).prices)
+      (omega (arith, entries, owners_are, ap houses e))
 
-  pub thin-told : t.reserve ≡ Absent → (m : ℕ) → thinCell (auctionOf t n bids windows) m
-      ≡ cellWith (auctionOf t n bids windows).has n (cells_of t) m
-  unfolding thinCell
-  thin-told e m = ap (λ b. cond b nothing (cellWith (auctionOf t n bids windows).has (auctionOf t n bids windows).owners
-      (auctionOf t n bids windows).cells m)) (without-reserve e) ∙ rw (owners-are, cells_are) refl
+  pub thin_told : t.reserve ≡ Absent → (m : ℕ) → thin_cell (auction_of t n bids windows) m
+      ≡ cell_with (auction_of t n bids windows).has n (cells_of t) m
+  unfolding thin_cell
+  thin_told e m = ap (λ b. cond b nothing (cell_with (auction_of t n bids windows).has (auction_of t n bids windows).owners
+      (auction_of t n bids windows).cells m)) (without_reserve e) ∙ rw (owners_are, cells_are) refl
 
-  pub none-thin : (p : ℕ) → t.reserve ≡ Price p → (m : ℕ) → thinCell (auctionOf t n bids windows) m ≡ nothing
-  unfolding thinCell
-  none-thin p e m = ap (λ b. cond b nothing (cellWith (auctionOf t n bids windows).has (auctionOf t n bids windows).owners
-      (auctionOf t n bids windows).cells m)) (with-reserve p e)
+  pub none_thin : (p : ℕ) → t.reserve ≡ Price p → (m : ℕ) → thin_cell (auction_of t n bids windows) m ≡ nothing
+  unfolding thin_cell
+  none_thin p e m = ap (λ b. cond b nothing (cell_with (auction_of t n bids windows).has (auction_of t n bids windows).owners
+      (auction_of t n bids windows).cells m)) (with_reserve p e)
 
   -- the house has every cell
-  house-whole : (p : ℕ) → t.reserve ≡ Price p → (x : ℕ) → x < (auctionOf t n bids windows).cells
-      → (auctionOf t n bids windows).has n x ≡ true
-  house-whole p e x l = house-has p x e ∙ lt-ltb x (cells_of t) (omega (arith, cells_are))
+  house_whole : (p : ℕ) → t.reserve ≡ Price p → (x : ℕ) → x < (auction_of t n bids windows).cells
+      → (auction_of t n bids windows).has n x ≡ true
+  house_whole p e x l = house_has p x e ∙ lt-ltb x (cells_of t) (omega (arith, cells_are))
 
   -- where no cell is thin, the entries but an owner's have every cell, and so have all of them
-  module _ (d : thinCell (auctionOf t n bids windows) 0 ≡ nothing) (e : thinCell (auctionOf t n bids windows) 1 ≡ nothing) where
+  module _ (d : thin_cell (auction_of t n bids windows) 0 ≡ nothing) (e : thin_cell (auction_of t n bids windows) 1 ≡ nothing) where
     abbrev A : Auction
-    A = auctionOf t n bids windows
+    A = auction_of t n bids windows
 
-    spare-but : (r : Reserve) → t.reserve ≡ r → (i : ℕ) → (i ≡ n → t.reserve ≡ Absent)
+    spare_but : (r : Reserve) → t.reserve ≡ r → (i : ℕ) → (i ≡ n → t.reserve ≡ Absent)
         → Spare A.has (length A.prices) A.cells i
-    spare-but Absent u i z = let c : length A.prices ≡ n = omega (arith, entries, ap houses u) in rw c
-        (enough-spare A.has n A.cells (rw cells_are (sym (thin-told u 0) ∙ d)) (rw cells_are (sym (thin-told u 1) ∙ e)) i)
-    spare-but (Price p) u i z = whole-spare A.has (length A.prices) A.cells n (omega (arith, entries, ap houses u))
-        (house-whole p u) i (λ q. let y : ◌≡◌ {A = ℕ} 0 1 = ap houses (sym (z (sym q)) ∙ u) in omega arith)
+    spare_but Absent u i z = let c : length A.prices ≡ n = omega (arith, entries, ap houses u) in rw c
+        (enough_spare A.has n A.cells (rw cells_are (sym (thin_told u 0) ∙ d)) (rw cells_are (sym (thin_told u 1) ∙ e)) i)
+    spare_but (Price p) u i z = whole_spare A.has (length A.prices) A.cells n (omega (arith, entries, ap houses u))
+        (house_whole p u) i (λ q. let y : ◌≡◌ {A = ℕ} 0 1 = ap houses (sym (z (sym q)) ∙ u) in omega arith)
 
-    pub owner-spared : (i : ℕ) → i < n → Spare A.has (length A.prices) A.cells i
-    owner-spared i l = spare-but t.reserve refl i (λ z. absurd (omega arith))
+    pub owner_spared : (i : ℕ) → i < n → Spare A.has (length A.prices) A.cells i
+    owner_spared i l = spare_but t.reserve refl i (λ z. absurd (omega arith))
 
     pub all_have : Spare A.has (length A.prices) A.cells (length A.prices)
-    all_have = spare-but t.reserve refl (length A.prices) (λ z. absent t.reserve (omega (arith, entries)))
+    all_have = spare_but t.reserve refl (length A.prices) (λ z. absent t.reserve (omega (arith, entries)))
       where
         absent : (r : Reserve) → houses r ≡ 0 → r ≡ Absent
         absent Absent q = refl
@@ -241,9 +241,9 @@ entry_at t n i = go (ltb i n) refl t.reserve refl (eqb i n) refl
     go false u (Price p) q false v = past (omega (arith, ltb-false i n u, eqb-false i n v, ap houses q))
 
 -- an entry's own price changes nothing
-pub at-own-price : (i : ℕ) (A : Auction) → atPrice i (get_or A.prices i 0) A ≡ A
-unfolding atPrice
-at-own-price i A = ap (λ ps. record { cells = A.cells; has = A.has; prices = ps; owners = A.owners }) (set-get_or A.prices i 0)
+pub at_own_price : (i : ℕ) (A : Auction) → at_price i (get_or A.prices i 0) A ≡ A
+unfolding at_price
+at_own_price i A = ap (λ ps. record { cells = A.cells; has = A.has; prices = ps; owners = A.owners }) (set-get_or A.prices i 0)
 
 -- the auction in which entry i asks q and the entries have these cells
 abbrev pub offering : ℕ → ℕ → (ℕ → ℕ → Bool) → Auction → Auction
@@ -254,81 +254,81 @@ offering i q h A = record { cells = A.cells; has = h; prices = set A.prices i q;
 module _ (t : Tender) (n i : ℕ) (bids windows bids' windows' : List ℕ) (l : i < n)
     (w : Withheld n i bids windows bids' windows') where
   abbrev q : ℕ
-  q = get_or bids' (bidWidth * i + 1) 0
+  q = get_or bids' (bid_width * i + 1) 0
 
-  prices-at : (j : ℕ) → j < n
+  prices_at : (j : ℕ) → j < n
       → get_or (map (λ r. r.price) (rows_of n bids')) j 0 ≡ get_or (set (map (λ r. r.price) (rows_of n bids)) i q) j 0
   unfolding offered
-  prices-at j m = price-at n j bids' m ∙ go (eqb j i) refl
+  prices_at j m = price_at_lem n j bids' m ∙ go (eqb j i) refl
     where
-      go : (b : Bool) → eqb j i ≡ b → get_or bids' (bidWidth * j + 1) 0 ≡ get_or (set (map (λ r. r.price) (rows_of n bids)) i q) j 0
+      go : (b : Bool) → eqb j i ≡ b → get_or bids' (bid_width * j + 1) 0 ≡ get_or (set (map (λ r. r.price) (rows_of n bids)) i q) j 0
       go true e = rw (eqb-true j i e)
-          (sym (get_or-set_same (map (λ r. r.price) (rows_of n bids)) i q 0 (omega (arith, price-count t n bids windows))))
-      go false e = ap (λ (o : Offer). o.price) (w.others j m (eqb-false j i e)) ∙ sym (price-at n j bids m)
+          (sym (get_or-set_same (map (λ r. r.price) (rows_of n bids)) i q 0 (omega (arith, price_count t n bids windows))))
+      go false e = ap (λ (o : Offer). o.price) (w.others j m (eqb-false j i e)) ∙ sym (price_at_lem n j bids m)
           ∙ sym (get_or-set_other (map (λ r. r.price) (rows_of n bids)) i j q 0 (eqb-false j i e))
 
-  prices-withheld : (auctionOf t n bids' windows').prices ≡ set (auctionOf t n bids windows).prices i q
-  prices-withheld =
-      prices-by t n bids' windows'
-      ∙ ap (λ ps. ps ++ map (λ o. o.price) (houseOf t t.reserve))
+  prices_withheld : (auction_of t n bids' windows').prices ≡ set (auction_of t n bids windows).prices i q
+  prices_withheld =
+      prices_by t n bids' windows'
+      ∙ ap (λ ps. ps ++ map (λ o. o.price) (house_of t t.reserve))
       (ext_get_or 0 (map (λ r. r.price) (rows_of n bids')) (set (map (λ r. r.price) (rows_of n bids)) i q)
-      (price-count t n bids' windows' ∙ sym (length-set (map (λ r. r.price) (rows_of n bids)) i q ∙ price-count t n bids windows))
-      (λ j m. prices-at j (omega (arith, price-count t n bids' windows'))))
-      ∙ sym (set-append_left (map (λ r. r.price) (rows_of n bids)) (map (λ o. o.price) (houseOf t t.reserve)) i q
-      (omega (arith, price-count t n bids windows)))
-      ∙ ap (λ ps. set ps i q) (sym (prices-by t n bids windows))
+      (price_count t n bids' windows' ∙ sym (length-set (map (λ r. r.price) (rows_of n bids)) i q ∙ price_count t n bids windows))
+      (λ j m. prices_at j (omega (arith, price_count t n bids' windows'))))
+      ∙ sym (set-append_left (map (λ r. r.price) (rows_of n bids)) (map (λ o. o.price) (house_of t t.reserve)) i q
+      (omega (arith, price_count t n bids windows)))
+      ∙ ap (λ ps. set ps i q) (sym (prices_by t n bids windows))
 
-  pub auction-withheld : auctionOf t n bids' windows'
-      ≡ offering i q (auctionOf t n bids' windows').has (auctionOf t n bids windows)
-  unfolding auctionOf
-  auction-withheld =
-      ap (λ ps. record { cells = cells_of t; has = (auctionOf t n bids' windows').has; prices = ps; owners = n }) prices-withheld
+  pub auction_withheld : auction_of t n bids' windows'
+      ≡ offering i q (auction_of t n bids' windows').has (auction_of t n bids windows)
+  unfolding auction_of
+  auction_withheld =
+      ap (λ ps. record { cells = cells_of t; has = (auction_of t n bids' windows').has; prices = ps; owners = n }) prices_withheld
 
-  pub has-others : (j : ℕ) → (j ≡ i → ⊥) → (auctionOf t n bids' windows').has j ≡ (auctionOf t n bids windows).has j
+  pub has_others : (j : ℕ) → (j ≡ i → ⊥) → (auction_of t n bids' windows').has j ≡ (auction_of t n bids windows).has j
   unfolding offered
-  has-others j d = fun_ext (λ x. go x (entry_at t n j))
+  has_others j d = fun_ext (λ x. go x (entry_at t n j))
     where
-      go : (x : ℕ) → EntryAt t n j → (auctionOf t n bids' windows').has j x ≡ (auctionOf t n bids windows).has j x
-      go x (owner m) = has-row t n bids' windows' j x m
-          ∙ ap (λ (o : Offer). ltb x (cells_of t) && holds o.windows (minuteOf t x)) (w.others j m d)
-          ∙ sym (has-row t n bids windows j x m)
-      go x (house p e h) = rw h (house-has t n bids' windows' p x e ∙ sym (house-has t n bids windows p x e))
+      go : (x : ℕ) → EntryAt t n j → (auction_of t n bids' windows').has j x ≡ (auction_of t n bids windows).has j x
+      go x (owner m) = has_row t n bids' windows' j x m
+          ∙ ap (λ (o : Offer). ltb x (cells_of t) && holds o.windows (minute_of t x)) (w.others j m d)
+          ∙ sym (has_row t n bids windows j x m)
+      go x (house p e h) = rw h (house_has t n bids' windows' p x e ∙ sym (house_has t n bids windows p x e))
       go x (past m) = no_cells t n bids' windows' j x m ∙ sym (no_cells t n bids windows j x m)
 
-  pub has_part : (x : ℕ) → (auctionOf t n bids' windows').has i x ≡ true → (auctionOf t n bids windows).has i x ≡ true
+  pub has_part : (x : ℕ) → (auction_of t n bids' windows').has i x ≡ true → (auction_of t n bids windows).has i x ≡ true
   unfolding offered
   has_part x e =
-      let s = and_split (ltb x (cells_of t)) _ (sym (has-row t n bids' windows' i x l) ∙ e) in
-      has-row t n bids windows i x l ∙ rw (s.0, w.part (minuteOf t x) s.1)
+      let s = and_split (ltb x (cells_of t)) _ (sym (has_row t n bids' windows' i x l) ∙ e) in
+      has_row t n bids windows i x l ∙ rw (s.0, w.part (minute_of t x) s.1)
 
 -- what stands past the rows that were read says nothing
 module _ (T : Tender) (R : List Row) (W : List Window) (rules : Rules T R W) where
   within : (w : List ℕ) (j : ℕ) → (get_or R j no_row).first + (get_or R j no_row).count ≤ length W
   within w j = omega (
     arith,
-    among-held T (flatWindows W ++ w) 1 [] 0 R j
-        (rw (rows-flat R []) at (faultless T.kind T (length R) (flatRows R ++ []) (flatWindows W ++ w)
-        (never-nine T R W [] w rules)).rows),
+    among_held T (flat_windows W ++ w) 1 [] 0 R j
+        (rw (rows_flat R []) at (faultless T.kind T (length R) (flat_rows R ++ []) (flat_windows W ++ w)
+        (never_nine T R W [] w rules)).rows),
     rows_end T.kind [] 0 R (length W) rules.rows,
   )
 
-  own_read : (w : List ℕ) (j : ℕ) → own (flatWindows W ++ w) (get_or R j no_row) ≡ own (flatWindows W) (get_or R j no_row)
+  own_read : (w : List ℕ) (j : ℕ) → own (flat_windows W ++ w) (get_or R j no_row) ≡ own (flat_windows W) (get_or R j no_row)
   unfolding own
   own_read w j = go (get_or R j no_row) (within w j)
     where
-      go : (r : Row) → r.first + r.count ≤ length W → own (flatWindows W ++ w) r ≡ own (flatWindows W) r
-      go r l = windows-same r.count (drop (windowWidth * r.first) (flatWindows W ++ w)) (drop (windowWidth * r.first) (flatWindows W))
-          (λ x m. get_or-drop (windowWidth * r.first) (flatWindows W ++ w) x 0
-          ∙ get_or-append (flatWindows W) w 0 (windowWidth * r.first + x) (omega (arith, length-windows W))
-          ∙ sym (get_or-drop (windowWidth * r.first) (flatWindows W) x 0))
+      go : (r : Row) → r.first + r.count ≤ length W → own (flat_windows W ++ w) r ≡ own (flat_windows W) r
+      go r l = windows_same r.count (drop (window_width * r.first) (flat_windows W ++ w)) (drop (window_width * r.first) (flat_windows W))
+          (λ x m. get_or-drop (window_width * r.first) (flat_windows W ++ w) x 0
+          ∙ get_or-append (flat_windows W) w 0 (window_width * r.first + x) (omega (arith, length_windows W))
+          ∙ sym (get_or-drop (window_width * r.first) (flat_windows W) x 0))
 
-  offers-read : (w : List ℕ) → map (offered (flatWindows W ++ w)) R ≡ map (offered (flatWindows W)) R
-  offers-read w = same-offers (flatWindows W ++ w) (flatWindows W) R (own_read w)
+  offers_read : (w : List ℕ) → map (offered (flat_windows W ++ w)) R ≡ map (offered (flat_windows W)) R
+  offers_read w = same_offers (flat_windows W ++ w) (flat_windows W) R (own_read w)
 
-  rows-alone : rows_of (length R) (flatRows R) ≡ R
-  rows-alone = ap (rows_of (length R)) (sym (append-nil (flatRows R))) ∙ rows-flat R []
+  rows_alone : rows_of (length R) (flat_rows R) ≡ R
+  rows_alone = ap (rows_of (length R)) (sym (append-nil (flat_rows R))) ∙ rows_flat R []
 
-  pub auction-read : (v w : List ℕ) → auctionOf T (length R) (flatRows R ++ v) (flatWindows W ++ w)
-      ≡ auctionOf T (length R) (flatRows R) (flatWindows W)
-  unfolding auctionOf offersOf
-  auction-read v w = rw (rows-flat R v, rows-alone, offers-read w)
+  pub auction_read : (v w : List ℕ) → auction_of T (length R) (flat_rows R ++ v) (flat_windows W ++ w)
+      ≡ auction_of T (length R) (flat_rows R) (flat_windows W)
+  unfolding auction_of offers_of
+  auction_read v w = rw (rows_flat R v, rows_alone, offers_read w)

@@ -2,7 +2,7 @@
 use Rattle.std.specs.Prelude.{List, [], ◌∷◌, Bool, false, ◌&&◌, ◌||◌, ℕ, ◌+◌, ◌-◌, ◌*◌, get_or, leb, ltb}
 use Rattle.tender.specs.declared.Window.{Window}
 use Rattle.tender.specs.declared.Tender.{Tender}
-use Rattle.tender.specs.Tables.{Row, bidWidth}
+use Rattle.tender.specs.Tables.{Row, bid_width}
 
 -- one of the windows holds the minute
 unfoldable pub holds : List Window → ℕ → Bool
@@ -14,16 +14,16 @@ unfoldable pub cells_of : Tender → ℕ
 cells_of t = t.window.end - t.window.start
 
 -- the minute of a cell
-unfoldable pub minuteOf : Tender → ℕ → ℕ
-minuteOf t x = t.window.start + x
+unfoldable pub minute_of : Tender → ℕ → ℕ
+minute_of t x = t.window.start + x
 
 -- row i of the bid table
-abbrev pub bidRowAt : List ℕ → ℕ → Row
-bidRowAt bids i = record {
-  bidder = get_or bids (bidWidth * i) 0;
-  price = get_or bids (bidWidth * i + 1) 0;
-  first = get_or bids (bidWidth * i + 2) 0;
-  count = get_or bids (bidWidth * i + 3) 0;
+abbrev pub bid_row_at : List ℕ → ℕ → Row
+bid_row_at bids i = record {
+  bidder = get_or bids (bid_width * i) 0;
+  price = get_or bids (bid_width * i + 1) 0;
+  first = get_or bids (bid_width * i + 2) 0;
+  count = get_or bids (bid_width * i + 3) 0;
 }
 
 -- what stands past the last row: it has no window

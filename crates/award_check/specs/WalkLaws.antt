@@ -12,55 +12,55 @@ use borrow.Author.Tests.{not-true, not-false, ltb-true, ltb-false, leb-true, le-
 use Rattle.tender.specs.declared.Tender.{Tender}
 use Rattle.tender.specs.Limits.{within, lawful, every}
 use Rattle.cover.specs.SetLaws.{and_split}
-use Rattle.tender.specs.Tables.{Row, rows_of, windowsOf, bidWidth, windowWidth, windowAt}
+use Rattle.tender.specs.Tables.{Row, rows_of, windows_of, bid_width, window_width, window_at}
 use Rattle.reader_text.specs.Words.{among}
 use Rattle.cells.specs.Cells.{cell, RangeAdded}
-use Rattle.award_check.specs.Faults.{keeps, sound, rowFault}
-use Rattle.award_check.specs.Cells.{bidRowAt}
-use Rattle.award_check.specs.AlikeLaws.{rows_step, windows-step, keeps-kept}
+use Rattle.award_check.specs.Faults.{keeps, sound, row_fault}
+use Rattle.award_check.specs.Cells.{bid_row_at}
+use Rattle.award_check.specs.AlikeLaws.{rows_step, windows_step, keeps_kept}
 
 -- the windows from j on, of those from `first` on, where j are not yet passed
-abbrev pub rowsAhead : List ℕ → ℕ → ℕ → ℕ → Bool
-rowsAhead windows first count j = every lawful (windowsOf (count - j) (drop (windowWidth * (first + j)) windows))
+abbrev pub rows_ahead : List ℕ → ℕ → ℕ → ℕ → Bool
+rows_ahead windows first count j = every lawful (windows_of (count - j) (drop (window_width * (first + j)) windows))
 
 pub ahead_more : (windows : List ℕ) (first count j : ℕ) → j < count →
-    rowsAhead windows first count j ≡ (ltb (windowAt windows (first + j)).start (windowAt windows (first + j)).end
-    && leb (windowAt windows (first + j)).end 10080) && rowsAhead windows first count (j + 1)
+    rows_ahead windows first count j ≡ (ltb (window_at windows (first + j)).start (window_at windows (first + j)).end
+    && leb (window_at windows (first + j)).end 10080) && rows_ahead windows first count (j + 1)
 unfolding every lawful
 ahead_more windows first count j l =
     let e : count - j ≡ suc (count - (j + 1)) = omega arith in
     let f : first + j + 1 ≡ first + (j + 1) = omega arith in
-    ap (λ (m : ℕ). every lawful (windowsOf m (drop (windowWidth * (first + j)) windows))) e
-    ∙ ap (every lawful) (windows-step (count - (j + 1)) (first + j) windows)
-    ∙ ap (λ (i : ℕ). (ltb (windowAt windows (first + j)).start (windowAt windows (first + j)).end
-    && leb (windowAt windows (first + j)).end 10080)
-    && every lawful (windowsOf (count - (j + 1)) (drop (windowWidth * i) windows))) f
+    ap (λ (m : ℕ). every lawful (windows_of m (drop (window_width * (first + j)) windows))) e
+    ∙ ap (every lawful) (windows_step (count - (j + 1)) (first + j) windows)
+    ∙ ap (λ (i : ℕ). (ltb (window_at windows (first + j)).start (window_at windows (first + j)).end
+    && leb (window_at windows (first + j)).end 10080)
+    && every lawful (windows_of (count - (j + 1)) (drop (window_width * i) windows))) f
 
-pub ahead-all : (windows : List ℕ) (first count j : ℕ) → count ≤ j → rowsAhead windows first count j ≡ true
-unfolding every windowsOf
-ahead-all windows first count j l = let e : count - j ≡ 0 = omega arith in
-    ap (λ (m : ℕ). every lawful (windowsOf m (drop (windowWidth * (first + j)) windows))) e
+pub ahead_all : (windows : List ℕ) (first count j : ℕ) → count ≤ j → rows_ahead windows first count j ≡ true
+unfolding every windows_of
+ahead_all windows first count j l = let e : count - j ≡ 0 = omega arith in
+    ap (λ (m : ℕ). every lawful (windows_of m (drop (window_width * (first + j)) windows))) e
 
-pub ahead-start : (windows : List ℕ) (first count : ℕ)
-    → rowsAhead windows first count 0 ≡ every lawful (windowsOf count (drop (windowWidth * first) windows))
-ahead-start windows first count =
+pub ahead_start : (windows : List ℕ) (first count : ℕ)
+    → rows_ahead windows first count 0 ≡ every lawful (windows_of count (drop (window_width * first) windows))
+ahead_start windows first count =
     let d : count - 0 ≡ count = omega arith in
     let e : first + 0 ≡ first = omega arith in
-    ap (λ (m : ℕ). every lawful (windowsOf m (drop (windowWidth * (first + 0)) windows))) d
-    ∙ ap (λ (i : ℕ). every lawful (windowsOf count (drop (windowWidth * i) windows))) e
+    ap (λ (m : ℕ). every lawful (windows_of m (drop (window_width * (first + 0)) windows))) d
+    ∙ ap (λ (i : ℕ). every lawful (windows_of count (drop (window_width * i) windows))) e
 
 -- window j was found lawful, or not
 module _ (windows : List ℕ) (first count j : ℕ) (r : Bool) (l : j < count)
-    (is : r ≡ (ltb (windowAt windows (first + j)).start (windowAt windows (first + j)).end
-    && leb (windowAt windows (first + j)).end 10080)) where
-  pub ahead-goes : (X : Bool) → not r ≡ false → rowsAhead windows first count j ≡ X → rowsAhead windows first count (j + 1) ≡ X
-  ahead-goes X t e = sym (ahead_more windows first count j l
-      ∙ ap (λ b. b && rowsAhead windows first count (j + 1)) (sym is ∙ not-false r t))
+    (is : r ≡ (ltb (window_at windows (first + j)).start (window_at windows (first + j)).end
+    && leb (window_at windows (first + j)).end 10080)) where
+  pub ahead_goes : (X : Bool) → not r ≡ false → rows_ahead windows first count j ≡ X → rows_ahead windows first count (j + 1) ≡ X
+  ahead_goes X t e = sym (ahead_more windows first count j l
+      ∙ ap (λ b. b && rows_ahead windows first count (j + 1)) (sym is ∙ not-false r t))
       ∙ e
 
-  pub ahead-fails : (X : Bool) → not r ≡ true → rowsAhead windows first count j ≡ X → false ≡ X
-  ahead-fails X t e = sym (ahead_more windows first count j l
-      ∙ ap (λ b. b && rowsAhead windows first count (j + 1)) (sym is ∙ not-true r t))
+  pub ahead_fails : (X : Bool) → not r ≡ true → rows_ahead windows first count j ≡ X → false ≡ X
+  ahead_fails X t e = sym (ahead_more windows first count j l
+      ∙ ap (λ b. b && rows_ahead windows first count (j + 1)) (sym is ∙ not-true r t))
       ∙ e
 
 -- the bidder numbers of the rows passed, as cells of the words `used`: an empty table has none, and one more is one cell more
@@ -72,126 +72,126 @@ pub passed_none : (used : List ℕ) → used ≡ replicate {A = ℕ} 15625 0 →
 unfolding cell among
 passed_none used e = rw e (record {
   size = length-replicate {A = ℕ} 15625 0;
-  tied = λ x. ap (λ (v : ℕ). eqb (v / 2 ^ (x % 64) % 2) 1) (getD-zeros 15625 (x / 64))
+  tied = λ x. ap (λ (v : ℕ). eqb (v / 2 ^ (x % 64) % 2) 1) (get_d_zeros 15625 (x / 64))
       ∙ ne_eqb (0 / 2 ^ (x % 64) % 2) 1 (λ f. omega (arith, zero-div (2 ^ (x % 64))));
 })
   where
-    getD-zeros : (n i : ℕ) → get_or (replicate {A = ℕ} n 0) i 0 ≡ 0
-    getD-zeros zero i = refl
-    getD-zeros (suc n) zero = refl
-    getD-zeros (suc n) (suc i) = getD-zeros n i
+    get_d_zeros : (n i : ℕ) → get_or (replicate {A = ℕ} n 0) i 0 ≡ 0
+    get_d_zeros zero i = refl
+    get_d_zeros (suc n) zero = refl
+    get_d_zeros (suc n) (suc i) = get_d_zeros n i
 
-pub among-last : (x b : ℕ) (list : List ℕ) → among x (list ++ b ∷ []) ≡ (among x list || eqb b x)
+pub among_last : (x b : ℕ) (list : List ℕ) → among x (list ++ b ∷ []) ≡ (among x list || eqb b x)
 unfolding among
-among-last x b [] = or-false (eqb b x)
-among-last x b (m ∷ list) = rw (among-last x b list) (sym (or_assoc (eqb m x) (among x list) (eqb b x)))
+among_last x b [] = or-false (eqb b x)
+among_last x b (m ∷ list) = rw (among_last x b list) (sym (or_assoc (eqb m x) (among x list) (eqb b x)))
 
-pub passed-more : (used used' list : List ℕ) (b : ℕ) → RowsPassed used list → RangeAdded b (b + 1) used used'
+pub passed_more : (used used' list : List ℕ) (b : ℕ) → RowsPassed used list → RangeAdded b (b + 1) used used'
     → length used' ≡ length used
     → RowsPassed used' (list ++ b ∷ [])
-passed-more used used' list b p f l = record { size = l ∙ p.size; tied = λ x. go x (eqb b x) refl }
+passed_more used used' list b p f l = record { size = l ∙ p.size; tied = λ x. go x (eqb b x) refl }
   where
     go : (x : ℕ) (t : Bool) → eqb b x ≡ t → eqb (cell used' x) 1 ≡ among x (list ++ b ∷ [])
     go x true e =
         let i : b ≡ x = eqb-true b x e in
         eq-eqb (cell used' x) 1 (f.inside x (omega arith) (omega arith))
-        ∙ sym (among-last x b list ∙ ap (λ t. among x list || t) e ∙ or-true (among x list))
+        ∙ sym (among_last x b list ∙ ap (λ t. among x list || t) e ∙ or-true (among x list))
     go x false e = ap (λ (v : ℕ). eqb v 1) (side x e (ltb x b) (ltb b x) refl refl) ∙ p.tied x
-        ∙ sym (among-last x b list ∙ ap (λ t. among x list || t) e ∙ or-false (among x list))
+        ∙ sym (among_last x b list ∙ ap (λ t. among x list || t) e ∙ or-false (among x list))
       where
         side : (x : ℕ) → eqb b x ≡ false → (t u : Bool) → ltb x b ≡ t → ltb b x ≡ u → cell used' x ≡ cell used x
         side x d true u e f' = f.below x (ltb-true x b e)
         side x d false true e f' = f.above x (omega (arith, ltb-true b x f'))
         side x d false false e f' = absurd (eqb-false b x d (omega (arith, ltb-false x b e, ltb-false b x f')))
 
-is-sound : (t : Tender) (windows : List ℕ) (place : ℕ) (used : List ℕ) (at : ℕ) (r : Row) → leb place 1000 ≡ true
+is_sound : (t : Tender) (windows : List ℕ) (place : ℕ) (used : List ℕ) (at : ℕ) (r : Row) → leb place 1000 ≡ true
     → among r.bidder used ≡ false → keeps t windows at r ≡ true → sound t windows place used at r ≡ true
 unfolding sound
-is-sound t windows place used at r a b c = rw (a, b, c)
+is_sound t windows place used at r a b c = rw (a, b, c)
 
 -- the rows from j on have the first fault of all of them
 pub record Going (t : Tender) (n : ℕ) (bids windows used : List ℕ) (at j : ℕ) : Type 0 where
   pub list : List ℕ
   pub passed : RowsPassed used list
   pub inside : j ≤ n
-  pub room : at ≤ length windows / windowWidth
-  pub rest : rowFault t windows (j + 1) list at (rows_of (n - j) (drop (bidWidth * j) bids))
-      ≡ rowFault t windows 1 [] 0 (rows_of n bids)
+  pub room : at ≤ length windows / window_width
+  pub rest : row_fault t windows (j + 1) list at (rows_of (n - j) (drop (bid_width * j) bids))
+      ≡ row_fault t windows 1 [] 0 (rows_of n bids)
 
-pub going-starts : (t : Tender) (n : ℕ) (bids windows used : List ℕ) → used ≡ replicate {A = ℕ} 15625 0
+pub going_starts : (t : Tender) (n : ℕ) (bids windows used : List ℕ) → used ≡ replicate {A = ℕ} 15625 0
     → Going t n bids windows used 0 0
-going-starts t n bids windows used e =
+going_starts t n bids windows used e =
     let d : n - 0 ≡ n = omega arith in
     record {
       list = [];
       passed = passed_none used e;
       inside = omega arith;
       room = omega arith;
-      rest = ap (λ (m : ℕ). rowFault t windows 1 [] 0 (rows_of m bids)) d;
+      rest = ap (λ (m : ℕ). row_fault t windows 1 [] 0 (rows_of m bids)) d;
     }
 
 module _ (t : Tender) (n : ℕ) (bids windows used : List ℕ) (at j : ℕ) (g : Going t n bids windows used at j) where
-  pub going-ends : n ≤ j → none ≡ rowFault t windows 1 [] 0 (rows_of n bids)
-  unfolding rowFault rows_of
-  going-ends l = let d : n - j ≡ 0 = omega arith in
-      sym (ap (λ (m : ℕ). rowFault t windows (j + 1) g.list at (rows_of m (drop (bidWidth * j) bids))) d) ∙ g.rest
+  pub going_ends : n ≤ j → none ≡ row_fault t windows 1 [] 0 (rows_of n bids)
+  unfolding row_fault rows_of
+  going_ends l = let d : n - j ≡ 0 = omega arith in
+      sym (ap (λ (m : ℕ). row_fault t windows (j + 1) g.list at (rows_of m (drop (bid_width * j) bids))) d) ∙ g.rest
 
-  step : j < n → rowFault t windows 1 [] 0 (rows_of n bids)
-      ≡ cond (sound t windows (j + 1) g.list at (bidRowAt bids j))
-      (rowFault t windows (j + 1 + 1) (g.list ++ (bidRowAt bids j).bidder ∷ []) (at + (bidRowAt bids j).count)
-      (rows_of (n - (j + 1)) (drop (bidWidth * (j + 1)) bids))) (some (j + 1))
-  unfolding rowFault
+  step : j < n → row_fault t windows 1 [] 0 (rows_of n bids)
+      ≡ cond (sound t windows (j + 1) g.list at (bid_row_at bids j))
+      (row_fault t windows (j + 1 + 1) (g.list ++ (bid_row_at bids j).bidder ∷ []) (at + (bid_row_at bids j).count)
+      (rows_of (n - (j + 1)) (drop (bid_width * (j + 1)) bids))) (some (j + 1))
+  unfolding row_fault
   step l =
       let d : n - j ≡ suc (n - (j + 1)) = omega arith in
-      sym g.rest ∙ ap (λ (m : ℕ). rowFault t windows (j + 1) g.list at (rows_of m (drop (bidWidth * j) bids))) d
-      ∙ ap (rowFault t windows (j + 1) g.list at) (rows_step (n - (j + 1)) j bids)
+      sym g.rest ∙ ap (λ (m : ℕ). row_fault t windows (j + 1) g.list at (rows_of m (drop (bid_width * j) bids))) d
+      ∙ ap (row_fault t windows (j + 1) g.list at) (rows_step (n - (j + 1)) j bids)
 
-  unsound : j < n → sound t windows (j + 1) g.list at (bidRowAt bids j) ≡ false
-      → some (j + 1) ≡ rowFault t windows 1 [] 0 (rows_of n bids)
+  unsound : j < n → sound t windows (j + 1) g.list at (bid_row_at bids j) ≡ false
+      → some (j + 1) ≡ row_fault t windows 1 [] 0 (rows_of n bids)
   unsound l e = sym (rw e at (step l))
 
   -- a 1,001st bid, a row that breaks a rule, a bidder number used before
-  pub too_many : j < n → 1000 ≤ j → some (j + 1) ≡ rowFault t windows 1 [] 0 (rows_of n bids)
+  pub too_many : j < n → 1000 ≤ j → some (j + 1) ≡ row_fault t windows 1 [] 0 (rows_of n bids)
   unfolding sound
   too_many l h = unsound l (rw (lt-leb (j + 1) 1000 (omega arith)))
 
-  pub breaks : j < n → j < 1000 → keeps t windows at (bidRowAt bids j) ≡ false
-      → some (j + 1) ≡ rowFault t windows 1 [] 0 (rows_of n bids)
+  pub breaks : j < n → j < 1000 → keeps t windows at (bid_row_at bids j) ≡ false
+      → some (j + 1) ≡ row_fault t windows 1 [] 0 (rows_of n bids)
   unfolding sound
-  breaks l h e = unsound l (rw (le-leb (j + 1) 1000 (omega arith), e) (and-false (not (among (bidRowAt bids j).bidder g.list))))
+  breaks l h e = unsound l (rw (le-leb (j + 1) 1000 (omega arith), e) (and-false (not (among (bid_row_at bids j).bidder g.list))))
 
-  pub repeated : j < n → j < 1000 → eqb (cell used (bidRowAt bids j).bidder) 1 ≡ true
-      → some (j + 1) ≡ rowFault t windows 1 [] 0 (rows_of n bids)
+  pub repeated : j < n → j < 1000 → eqb (cell used (bid_row_at bids j).bidder) 1 ≡ true
+      → some (j + 1) ≡ row_fault t windows 1 [] 0 (rows_of n bids)
   unfolding sound
-  repeated l h e = unsound l (rw (le-leb (j + 1) 1000 (omega arith), ← g.passed.tied (bidRowAt bids j).bidder, e))
+  repeated l h e = unsound l (rw (le-leb (j + 1) 1000 (omega arith), ← g.passed.tied (bid_row_at bids j).bidder, e))
 
-  pub going_on : j < n → j < 1000 → keeps t windows at (bidRowAt bids j) ≡ true
-      → eqb (cell used (bidRowAt bids j).bidder) 1 ≡ false → (used' : List ℕ) →
-      RangeAdded (bidRowAt bids j).bidder ((bidRowAt bids j).bidder + 1) used used' → length used' ≡ length used
-      → Going t n bids windows used' (at + (bidRowAt bids j).count) (j + 1)
+  pub going_on : j < n → j < 1000 → keeps t windows at (bid_row_at bids j) ≡ true
+      → eqb (cell used (bid_row_at bids j).bidder) 1 ≡ false → (used' : List ℕ) →
+      RangeAdded (bid_row_at bids j).bidder ((bid_row_at bids j).bidder + 1) used used' → length used' ≡ length used
+      → Going t n bids windows used' (at + (bid_row_at bids j).count) (j + 1)
   going_on l h e f used' fills s = record {
-    list = g.list ++ (bidRowAt bids j).bidder ∷ [];
-    passed = passed-more used used' g.list (bidRowAt bids j).bidder g.passed fills s;
+    list = g.list ++ (bid_row_at bids j).bidder ∷ [];
+    passed = passed_more used used' g.list (bid_row_at bids j).bidder g.passed fills s;
     inside = omega arith;
-    room = leb-true (at + (bidRowAt bids j).count) (length windows / windowWidth)
-        (keeps-kept t windows at (bidRowAt bids j) e).room;
-    rest = sym (step l ∙ ap (λ b. cond b (rowFault t windows (j + 1 + 1) (g.list ++ (bidRowAt bids j).bidder ∷ [])
-        (at + (bidRowAt bids j).count)
-        (rows_of (n - (j + 1)) (drop (bidWidth * (j + 1)) bids))) (some (j + 1))) sound-here);
+    room = leb-true (at + (bid_row_at bids j).count) (length windows / window_width)
+        (keeps_kept t windows at (bid_row_at bids j) e).room;
+    rest = sym (step l ∙ ap (λ b. cond b (row_fault t windows (j + 1 + 1) (g.list ++ (bid_row_at bids j).bidder ∷ [])
+        (at + (bid_row_at bids j).count)
+        (rows_of (n - (j + 1)) (drop (bid_width * (j + 1)) bids))) (some (j + 1))) sound_here);
   }
     where
-      sound-here : sound t windows (j + 1) g.list at (bidRowAt bids j) ≡ true
-      sound-here = is-sound t windows (j + 1) g.list at (bidRowAt bids j) (le-leb (j + 1) 1000 (omega arith))
-          (sym (g.passed.tied (bidRowAt bids j).bidder) ∙ f) e
+      sound_here : sound t windows (j + 1) g.list at (bid_row_at bids j) ≡ true
+      sound_here = is_sound t windows (j + 1) g.list at (bid_row_at bids j) (le-leb (j + 1) 1000 (omega arith))
+          (sym (g.passed.tied (bid_row_at bids j).bidder) ∙ f) e
 
   -- the bidder number of a row that keeps its rules is a cell of the words
-  pub bidder-cell : keeps t windows at (bidRowAt bids j) ≡ true → (bidRowAt bids j).bidder < 64 * length used
+  pub bidder_cell : keeps t windows at (bid_row_at bids j) ≡ true → (bid_row_at bids j).bidder < 64 * length used
   unfolding within
-  bidder-cell e =
-      let b = and_split (leb 1 (bidRowAt bids j).bidder) (leb (bidRowAt bids j).bidder 999999)
-      (keeps-kept t windows at (bidRowAt bids j) e).bidder in
-      omega (arith, g.passed.size, leb-true (bidRowAt bids j).bidder 999999 b.1)
+  bidder_cell e =
+      let b = and_split (leb 1 (bid_row_at bids j).bidder) (leb (bid_row_at bids j).bidder 999999)
+      (keeps_kept t windows at (bid_row_at bids j) e).bidder in
+      omega (arith, g.passed.size, leb-true (bid_row_at bids j).bidder 999999 b.1)
 
-  pub room-here : keeps t windows at (bidRowAt bids j) ≡ true → at + (bidRowAt bids j).count ≤ length windows / windowWidth
-  room-here e = leb-true (at + (bidRowAt bids j).count) (length windows / windowWidth)
-      (keeps-kept t windows at (bidRowAt bids j) e).room
+  pub room_here : keeps t windows at (bid_row_at bids j) ≡ true → at + (bid_row_at bids j).count ≤ length windows / window_width
+  room_here e = leb-true (at + (bid_row_at bids j).count) (length windows / window_width)
+      (keeps_kept t windows at (bid_row_at bids j) e).room

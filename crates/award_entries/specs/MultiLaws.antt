@@ -9,35 +9,35 @@ use Rattle.tender.specs.declared.Answer.TheVariants.{Awarded}
 use Rattle.cover.specs.Sets.{cells}
 use Rattle.cover.specs.SpareLaws.{Spare}
 use Rattle.cover.specs.Greedy.{wins}
-use Rattle.cover.specs.CriticalPrice.{roundsPaid}
+use Rattle.cover.specs.CriticalPrice.{rounds_paid}
 use Rattle.cover.specs.Settled.{Settled}
 use Rattle.multi_market.specs.Market.{has}
 use Rattle.award_thin.specs.declared.Thin.{Thin}
 use Rattle.award_thin.specs.declared.Thin.TheVariants.{Enough}
-use Rattle.award_check.specs.Faults.{faultOf}
+use Rattle.award_check.specs.Faults.{fault_of}
 use Rattle.award_check.specs.Cells.{cells_of}
-use Rattle.award_check.specs.Auction.{Auction, auctionOf}
-use Rattle.award_check.specs.AuctionLaws.{entries, cells_are, owner-spared}
+use Rattle.award_check.specs.Auction.{Auction, auction_of}
+use Rattle.award_check.specs.AuctionLaws.{entries, cells_are, owner_spared}
 use Rattle.award_laid.specs.Lay.{LaidMasks}
 use Rattle.award_laid.specs.TellsLaws.{enough}
-use Rattle.award_rule.specs.Award.{awardOf}
-use Rattle.award_rule.specs.Sums.{totalsIn}
-use Rattle.award_rule.specs.Plain.{toldIn}
-use Rattle.award_rule.specs.PlainLaws.{awards, multi-won, multi-cents}
+use Rattle.award_rule.specs.Award.{award_of}
+use Rattle.award_rule.specs.Sums.{totals_in}
+use Rattle.award_rule.specs.Plain.{told_in}
+use Rattle.award_rule.specs.PlainLaws.{awards, multi_won, multi_cents}
 
-module _ (t : Tender) (n w : ℕ) (bids windows ps ms : List ℕ) (thin : Thin) (f : faultOf Multi t n bids windows ≡ none)
+module _ (t : Tender) (n w : ℕ) (bids windows ps ms : List ℕ) (thin : Thin) (f : fault_of Multi t n bids windows ≡ none)
     (l : LaidMasks t n w bids windows ps ms thin) where
   abbrev A : Auction
-  A = auctionOf t n bids windows
+  A = auction_of t n bids windows
 
   pub settled : thin ≡ Enough → (ow oc nw nc : List ℕ) (totals : Totals) →
       Settled (Spare (has ms w) (length ps) (cells_of t)) (wins (has ms w) ps (cells (cells_of t)))
-      (roundsPaid (has ms w) ps (cells (cells_of t))) ps ow oc nw nc → totals ≡ totalsIn ps nw nc n →
-      toldIn n nw nc (Awarded totals) ≡ awardOf Multi t n bids windows n
+      (rounds_paid (has ms w) ps (cells (cells_of t))) ps ow oc nw nc → totals ≡ totals_in ps nw nc n →
+      told_in n nw nc (Awarded totals) ≡ award_of Multi t n bids windows n
   settled e ow oc nw nc totals h u =
       let d = enough t n bids windows thin l.thin_is e in
-      let y = owner-spared t n bids windows d.0 d.1 in
+      let y = owner_spared t n bids windows d.0 d.1 in
       awards Multi t n bids windows f nw nc d.0 d.1 ow oc (Spare A.has (length A.prices) A.cells)
-      (wins A.has A.prices (cells A.cells)) (roundsPaid A.has A.prices (cells A.cells)) y
-      (λ i. multi-won A i) (λ i m. multi-cents A i (omega (arith, entries t n bids windows)) (y i m)) totals
-      (rw (l.has-is, l.prices-are, ← cells_are t n bids windows) at h) (rw l.prices-are at u)
+      (wins A.has A.prices (cells A.cells)) (rounds_paid A.has A.prices (cells A.cells)) y
+      (λ i. multi_won A i) (λ i m. multi_cents A i (omega (arith, entries t n bids windows)) (y i m)) totals
+      (rw (l.has_is, l.prices_are, ← cells_are t n bids windows) at h) (rw l.prices_are at u)

@@ -7,22 +7,22 @@ use Rattle.tender.specs.declared.Refusal.TheVariants.{MinuteUncovered, OneBidder
 use Rattle.tender.specs.declared.Answer.TheVariants.{Refused}
 use Rattle.award_thin.specs.declared.Thin.{Thin}
 use Rattle.award_thin.specs.declared.Thin.TheVariants.{Nobody, Alone}
-use Rattle.award_check.specs.Faults.{faultOf}
-use Rattle.award_check.specs.Cells.{minuteOf}
-use Rattle.award_check.specs.Auction.{auctionOf}
+use Rattle.award_check.specs.Faults.{fault_of}
+use Rattle.award_check.specs.Cells.{minute_of}
+use Rattle.award_check.specs.Auction.{auction_of}
 use Rattle.award_laid.specs.Lay.{Tells}
-use Rattle.award_laid.specs.TellsLaws.{at_bare, at-lone}
-use Rattle.award_rule.specs.Award.{awardOf}
-use Rattle.award_rule.specs.Plain.{toldIn}
+use Rattle.award_laid.specs.TellsLaws.{at_bare, at_lone}
+use Rattle.award_rule.specs.Award.{award_of}
+use Rattle.award_rule.specs.Plain.{told_in}
 use Rattle.award_rule.specs.PlainLaws.{eleven, twelve}
 
-module _ (t : Tender) (n : ℕ) (bids windows : List ℕ) (thin : Thin) (s : Tells (auctionOf t n bids windows) thin) (k : Kind)
-    (f : faultOf k t n bids windows ≡ none) (nw nc : List ℕ) where
-  pub tells-eleven : (x : ℕ) → thin ≡ Nobody x
-      → toldIn n nw nc (Refused (MinuteUncovered (minuteOf t x))) ≡ awardOf k t n bids windows n
-  tells-eleven x e = eleven k t n bids windows f nw nc x (at_bare t n bids windows thin s x e)
+module _ (t : Tender) (n : ℕ) (bids windows : List ℕ) (thin : Thin) (s : Tells (auction_of t n bids windows) thin) (k : Kind)
+    (f : fault_of k t n bids windows ≡ none) (nw nc : List ℕ) where
+  pub tells_eleven : (x : ℕ) → thin ≡ Nobody x
+      → told_in n nw nc (Refused (MinuteUncovered (minute_of t x))) ≡ award_of k t n bids windows n
+  tells_eleven x e = eleven k t n bids windows f nw nc x (at_bare t n bids windows thin s x e)
 
-  pub tells-twelve : (x : ℕ) → thin ≡ Alone x
-      → toldIn n nw nc (Refused (OneBidder (minuteOf t x))) ≡ awardOf k t n bids windows n
-  tells-twelve x e = twelve k t n bids windows f nw nc x (at-lone t n bids windows thin s x e).0
-      (at-lone t n bids windows thin s x e).1
+  pub tells_twelve : (x : ℕ) → thin ≡ Alone x
+      → told_in n nw nc (Refused (OneBidder (minute_of t x))) ≡ award_of k t n bids windows n
+  tells_twelve x e = twelve k t n bids windows f nw nc x (at_lone t n bids windows thin s x e).0
+      (at_lone t n bids windows thin s x e).1

@@ -1,13 +1,15 @@
 // A faultless tender of either kind, awarded over lists of its own: 11, 12, or a flag and the cents paid for each entry, and the totals.
+#![tactic(auto)]
+
 ghost use Rattle.std.specs.Prelude.{◌≡◌, ◌+◌, ◌*◌, ◌/◌, ◌≤◌, length};
 ghost use Rattle.std.proofs.Math.Option.{none};
 ghost use Rattle.tender.specs.declared.Kind.TheVariants.{Single, Multi};
-ghost use Rattle.tender.specs.Limits.{maxEntries};
-ghost use Rattle.award_check.specs.Faults.{faultOf};
+ghost use Rattle.tender.specs.Limits.{max_entries};
+ghost use Rattle.award_check.specs.Faults.{fault_of};
 ghost use Rattle.award_check.specs.Cells.{cells_of};
 ghost use Rattle.award_check.specs.Auction.{houses};
-ghost use Rattle.award_rule.specs.Award.{awardOf};
-ghost use Rattle.award_rule.specs.Plain.{toldIn};
+ghost use Rattle.award_rule.specs.Award.{award_of};
+ghost use Rattle.award_rule.specs.Plain.{told_in};
 
 use award_thin::Thin;
 use tender::{Answer, Refusal, Tender};
@@ -24,12 +26,12 @@ fn multi_in(
     flags: &mut [u64],
     pays: &mut [u64],
 ) -> Answer
-    requires { (faultOf Multi tender count bids.now windows.now ≡ none)
+    requires { (fault_of Multi tender count bids.now windows.now ≡ none)
         × ((w ≡ (cells_of tender + 63) / 64) × ((length prices.old ≡ count + houses tender.reserve)
         × ((length masks.old ≡ w * (count + houses tender.reserve))
         × ((length prices.old ≤ length flags.old) × (length prices.old ≤ length pays.old))))) }
-    ensures { toldIn count flags.new pays.new result
-        ≡ awardOf Multi tender count bids.now windows.now count }
+    ensures { told_in count flags.new pays.new result
+        ≡ award_of Multi tender count bids.now windows.now count }
 {
     let thin = award_laid::lay_masks(tender, w, count, bids, windows, prices, masks);
     match thin {
@@ -58,10 +60,10 @@ pub fn settle_multi(
     flags: &mut [u64],
     pays: &mut [u64],
 ) -> Answer
-    requires { (faultOf Multi tender count bids.now windows.now ≡ none)
-        × ((length flags.old ≡ maxEntries) × (length pays.old ≡ maxEntries)) }
-    ensures { toldIn count flags.new pays.new result
-        ≡ awardOf Multi tender count bids.now windows.now count }
+    requires { (fault_of Multi tender count bids.now windows.now ≡ none)
+        × ((length flags.old ≡ max_entries) × (length pays.old ≡ max_entries)) }
+    ensures { told_in count flags.new pays.new result
+        ≡ award_of Multi tender count bids.now windows.now count }
 {
     let w = (award_layout::cells(tender) as usize + 63) / 64;
     let entries = award_layout::entries(tender, count);
@@ -95,12 +97,12 @@ fn single_in(
     flags: &mut [u64],
     pays: &mut [u64],
 ) -> Answer
-    requires { (faultOf Single tender count bids.now windows.now ≡ none)
+    requires { (fault_of Single tender count bids.now windows.now ≡ none)
         × ((length prices.old ≡ count + houses tender.reserve) × ((length starts.old ≡ count + houses tender.reserve)
         × ((length ends.old ≡ count + houses tender.reserve) × ((length prices.old ≤ length order.old)
         × ((length prices.old ≤ length flags.old) × (length prices.old ≤ length pays.old)))))) }
-    ensures { toldIn count flags.new pays.new result
-        ≡ awardOf Single tender count bids.now windows.now count }
+    ensures { told_in count flags.new pays.new result
+        ≡ award_of Single tender count bids.now windows.now count }
 {
     let thin = award_laid::lay_spans(tender, count, bids, windows, prices, starts, ends, order);
     match thin {
@@ -129,10 +131,10 @@ pub fn settle_single(
     flags: &mut [u64],
     pays: &mut [u64],
 ) -> Answer
-    requires { (faultOf Single tender count bids.now windows.now ≡ none)
-        × ((length flags.old ≡ maxEntries) × (length pays.old ≡ maxEntries)) }
-    ensures { toldIn count flags.new pays.new result
-        ≡ awardOf Single tender count bids.now windows.now count }
+    requires { (fault_of Single tender count bids.now windows.now ≡ none)
+        × ((length flags.old ≡ max_entries) × (length pays.old ≡ max_entries)) }
+    ensures { told_in count flags.new pays.new result
+        ≡ award_of Single tender count bids.now windows.now count }
 {
     let entries = award_layout::entries(tender, count);
     let mut prices = [1u64; tender::MAX_ENTRIES];

@@ -4,6 +4,6 @@ use Rattle.std.specs.Prelude.{ℕ}
 use Rattle.award_fault.specs.declared.Check.{Check}
 use Rattle.award_fault.specs.declared.Check.TheVariants.{Sound, Faulty}
 
-abbrev pub checkedFault : Check → Option ℕ
-checkedFault Sound = none
-checkedFault (Faulty row) = some row
+abbrev pub checked_fault : Check → Option ℕ
+checked_fault Sound = none
+checked_fault (Faulty row) = some row

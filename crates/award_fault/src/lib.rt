@@ -1,9 +1,11 @@
 // The tables lent to an award, checked: `fault` finds the place of refusal 9. `award_check` Faults has the rules.
+#![tactic(auto)]
+
 ghost use Rattle.std.specs.Prelude.{◌≡◌, ◌&&◌, [], ◌+◌, ◌*◌, ◌/◌, ◌≤◌, length, drop, leb, ltb, eqb};
-ghost use Rattle.tender.specs.Limits.{mostWindows, within, lawfulReserve, soundTender, lawful, every};
-ghost use Rattle.tender.specs.Tables.{rows_of, windowsOf, bidWidth, windowWidth};
-ghost use Rattle.award_check.specs.Faults.{keeps, rowFault, faultOf, kindNumber, sameKind};
-ghost use Rattle.award_fault.specs.Checks.{checkedFault};
+ghost use Rattle.tender.specs.Limits.{most_windows, within, lawful_reserve, sound_tender, lawful, every};
+ghost use Rattle.tender.specs.Tables.{rows_of, windows_of, bid_width, window_width};
+ghost use Rattle.award_check.specs.Faults.{keeps, row_fault, fault_of, kind_number, is_same_kind};
+ghost use Rattle.award_fault.specs.Checks.{checked_fault};
 
 use tender::{Kind, Reserve, Tender};
 
@@ -16,7 +18,7 @@ pub enum Check {
 }
 
 fn kind_number(kind: Kind) -> u64
-    ensures { result ≡ kindNumber kind }
+    ensures { result ≡ kind_number kind }
 {
     match kind {
         Kind::Single => 0,
@@ -25,13 +27,13 @@ fn kind_number(kind: Kind) -> u64
 }
 
 fn same_kind(a: Kind, b: Kind) -> bool
-    ensures { result ≡ sameKind a b }
+    ensures { result ≡ is_same_kind a b }
 {
     kind_number(a) == kind_number(b)
 }
 
 fn most_windows(tender: Tender) -> u64
-    ensures { result ≡ mostWindows tender.kind }
+    ensures { result ≡ most_windows tender.kind }
 {
     let kind = tender.kind;
     match kind {
@@ -48,8 +50,8 @@ fn window_lawful(start: u64, end: u64) -> bool
 
 // Whether the windows from `first` on, `count` of them, are lawful.
 fn windows_lawful(windows: &[u64], first: usize, count: usize) -> bool
-    requires { first + count ≤ length windows.now / windowWidth }
-    ensures { result ≡ every lawful (windowsOf count (drop (windowWidth * first) windows.now)) }
+    requires { first + count ≤ length windows.now / window_width }
+    ensures { result ≡ every lawful (windows_of count (drop (window_width * first) windows.now)) }
 {
     let mut j = 0;
     while j < count {
@@ -79,7 +81,7 @@ fn row_keeps(
     first: u64,
     count: u64,
 ) -> bool
-    requires { at ≤ length windows.now / windowWidth }
+    requires { at ≤ length windows.now / window_width }
     ensures { result ≡ keeps tender windows.now
         at (record { bidder = bidder; price = price; first = first; count = count }) }
 {
@@ -103,8 +105,8 @@ fn row_keeps(
 
 // The place of the first row that breaks a rule.
 fn row_fault(tender: Tender, count: usize, bids: &[u64], windows: &[u64]) -> Check
-    requires { count ≤ length bids.now / bidWidth }
-    ensures { checkedFault result ≡ rowFault tender windows.now 1 [] 0 (rows_of count bids.now) }
+    requires { count ≤ length bids.now / bid_width }
+    ensures { checked_fault result ≡ row_fault tender windows.now 1 [] 0 (rows_of count bids.now) }
 {
     // The bidder numbers of the rows passed.
     let mut used = [1u64; numbers::WORDS];
@@ -139,7 +141,7 @@ fn row_fault(tender: Tender, count: usize, bids: &[u64], windows: &[u64]) -> Che
 }
 
 fn reserve_lawful(reserve: Reserve) -> bool
-    ensures { result ≡ lawfulReserve reserve }
+    ensures { result ≡ lawful_reserve reserve }
 {
     match reserve {
         Reserve::Absent => true,
@@ -149,7 +151,7 @@ fn reserve_lawful(reserve: Reserve) -> bool
 
 // Whether the tender's own window and its reserve are lawful.
 fn tender_sound(tender: Tender) -> bool
-    ensures { result ≡ soundTender tender }
+    ensures { result ≡ sound_tender tender }
 {
     let window = tender.window;
     let reserve = tender.reserve;
@@ -158,7 +160,7 @@ fn tender_sound(tender: Tender) -> bool
 
 // The place of refusal 9 by the award of this kind, where `count` bids are stated.
 pub fn fault(kind: Kind, tender: Tender, count: usize, bids: &[u64], windows: &[u64]) -> Check
-    ensures { checkedFault result ≡ faultOf kind tender count bids.now windows.now }
+    ensures { checked_fault result ≡ fault_of kind tender count bids.now windows.now }
 {
     let own_kind = tender.kind;
     if !same_kind(kind, own_kind) {

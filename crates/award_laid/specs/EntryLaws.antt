@@ -10,73 +10,73 @@ use Rattle.tender.specs.declared.Kind.TheVariants.{Single, Multi}
 use Rattle.tender.specs.declared.Reserve.{Reserve}
 use Rattle.tender.specs.declared.Reserve.TheVariants.{Absent, Price}
 use Rattle.tender.specs.declared.Tender.{Tender}
-use Rattle.tender.specs.Limits.{maxEntries}
-use Rattle.tender.specs.Tables.{bidWidth}
+use Rattle.tender.specs.Limits.{max_entries}
+use Rattle.tender.specs.Tables.{bid_width}
 use Rattle.multi_market.specs.Market.{Priced}
 use Rattle.multi_market.specs.Market.{Market}
 use Rattle.award_thin.specs.declared.Thin.{Thin}
-use Rattle.award_check.specs.Faults.{faultOf}
+use Rattle.award_check.specs.Faults.{fault_of}
 use Rattle.award_check.specs.Cells.{cells_of}
-use Rattle.award_check.specs.Auction.{houses, auctionOf}
-use Rattle.award_check.specs.AuctionLaws.{entries, price-named, house-price}
+use Rattle.award_check.specs.Auction.{houses, auction_of}
+use Rattle.award_check.specs.AuctionLaws.{entries, price_named, house_price}
 use Rattle.award_check.specs.AuctionLaws.{EntryAt, owner, house, past, entry_at}
-use Rattle.award_layout.specs.LayoutLaws.{orderly, reserve-within}
+use Rattle.award_layout.specs.LayoutLaws.{orderly, reserve_within}
 use Rattle.award_laid.specs.Lay.{LaidSpans, LaidMasks}
 use Rattle.award_laid.specs.LayLaws.{Words, words_of}
 
-one-house : (r : Reserve) → houses r ≤ 1
-one-house Absent = omega arith
-one-house (Price p) = omega arith
+one_house : (r : Reserve) → houses r ≤ 1
+one_house Absent = omega arith
+one_house (Price p) = omega arith
 
 -- a faultless tender has no more entries than an award can weigh
-pub entries-few : (k : Kind) (t : Tender) (n : ℕ) (bids windows : List ℕ) → faultOf k t n bids windows ≡ none
-    → n + houses t.reserve ≤ maxEntries
-entries-few k t n bids windows f = omega (arith, (orderly k t n bids windows f).few, one-house t.reserve)
+pub entries_few : (k : Kind) (t : Tender) (n : ℕ) (bids windows : List ℕ) → fault_of k t n bids windows ≡ none
+    → n + houses t.reserve ≤ max_entries
+entries_few k t n bids windows f = omega (arith, (orderly k t n bids windows f).few, one_house t.reserve)
 
 product : (a b m n : ℕ) → a ≤ m → b ≤ n → a * b ≤ m * n
 product a b m n h l = mul-le-mul h l
 
 -- the words of all entries of a tender with c cells have room
-pub words-room : (t : Tender) (n m c : ℕ) (bids windows : List ℕ) → faultOf Multi t n bids windows ≡ none
-    → m ≡ n + houses t.reserve → c ≡ cells_of t → (c + 63) / 64 * m ≤ 158 * maxEntries
-words-room t n m c bids windows f g e = product ((c + 63) / 64) m 158 maxEntries
+pub words_room : (t : Tender) (n m c : ℕ) (bids windows : List ℕ) → fault_of Multi t n bids windows ≡ none
+    → m ≡ n + houses t.reserve → c ≡ cells_of t → (c + 63) / 64 * m ≤ 158 * max_entries
+words_room t n m c bids windows f g e = product ((c + 63) / 64) m 158 max_entries
     (words_of Multi t n ((c + 63) / 64) bids windows f (ap (λ (v : ℕ). (v + 63) / 64) e)).words
-    (omega (arith, entries-few Multi t n bids windows f))
+    (omega (arith, entries_few Multi t n bids windows f))
 
 -- the prices of a faultless tender's entries are within the limit
-pub prices-lawful : (k : Kind) (t : Tender) (n : ℕ) (bids windows : List ℕ) → faultOf k t n bids windows ≡ none
-    → Priced (auctionOf t n bids windows).prices
-prices-lawful k t n bids windows f =
-    record { count = omega (arith, entries-few k t n bids windows f, entries t n bids windows); most = λ i. go i (entry_at t n i) }
+pub prices_lawful : (k : Kind) (t : Tender) (n : ℕ) (bids windows : List ℕ) → fault_of k t n bids windows ≡ none
+    → Priced (auction_of t n bids windows).prices
+prices_lawful k t n bids windows f =
+    record { count = omega (arith, entries_few k t n bids windows f, entries t n bids windows); most = λ i. go i (entry_at t n i) }
   where
-    go : (i : ℕ) → EntryAt t n i → get_or (auctionOf t n bids windows).prices i 0 ≤ 100000000
+    go : (i : ℕ) → EntryAt t n i → get_or (auction_of t n bids windows).prices i 0 ≤ 100000000
     go i (owner l) = omega (
       arith,
-      price-named t n bids windows i l,
-      leb-true (get_or bids (bidWidth * i + 1) 0) 100000000 ((orderly k t n bids windows f).kept i l).price,
+      price_named t n bids windows i l,
+      leb-true (get_or bids (bid_width * i + 1) 0) 100000000 ((orderly k t n bids windows f).kept i l).price,
     )
-    go i (house p e q) = rw q (omega (arith, house-price t n bids windows p e, reserve-within k t n bids windows f p e))
+    go i (house p e q) = rw q (omega (arith, house_price t n bids windows p e, reserve_within k t n bids windows f p e))
     go i (past l) = omega (
       arith,
-      get_or-eq_default (auctionOf t n bids windows).prices 0 {n = i}
+      get_or-eq_default (auction_of t n bids windows).prices 0 {n = i}
           (omega (arith, entries t n bids windows)),
     )
 
 -- of a single tender laid out
-pub laid-prices : (t : Tender) (n : ℕ) (bids windows ps starts ends order : List ℕ) (thin : Thin)
-    → faultOf Single t n bids windows ≡ none
+pub laid_prices : (t : Tender) (n : ℕ) (bids windows ps starts ends order : List ℕ) (thin : Thin)
+    → fault_of Single t n bids windows ≡ none
     → LaidSpans t n bids windows ps starts ends order thin → Priced ps
-laid-prices t n bids windows ps starts ends order thin f l = rw l.prices-are (prices-lawful Single t n bids windows f)
+laid_prices t n bids windows ps starts ends order thin f l = rw l.prices_are (prices_lawful Single t n bids windows f)
 
 -- of a multi tender laid out
-pub market : (t : Tender) (n w : ℕ) (bids windows ps ms : List ℕ) (thin : Thin) → faultOf Multi t n bids windows ≡ none
+pub market : (t : Tender) (n w : ℕ) (bids windows ps ms : List ℕ) (thin : Thin) → fault_of Multi t n bids windows ≡ none
     → LaidMasks t n w bids windows ps ms thin → Words t w → length ms ≡ w * (n + houses t.reserve) → Market ps ms w
 market t n w bids windows ps ms thin f l d size = record {
-  priced = rw l.prices-are (prices-lawful Multi t n bids windows f);
-  size = rw l.prices-are (size ∙ ap (λ (k : ℕ). w * k) (sym (entries t n bids windows)));
+  priced = rw l.prices_are (prices_lawful Multi t n bids windows f);
+  size = rw l.prices_are (size ∙ ap (λ (k : ℕ). w * k) (sym (entries t n bids windows)));
   words = d.words;
 }
 
 -- the first places of a local array, which is filled with ones
-pub prefix-length : (k n : ℕ) → k ≤ n → length (take k (replicate {A = ℕ} n 1)) ≡ k
-prefix-length k n l = length-take-le k (replicate n 1) (omega (arith, length-replicate {A = ℕ} n 1))
+pub prefix_length : (k n : ℕ) → k ≤ n → length (take k (replicate {A = ℕ} n 1)) ≡ k
+prefix_length k n l = length-take-le k (replicate n 1) (omega (arith, length-replicate {A = ℕ} n 1))

@@ -8,25 +8,25 @@ use Rattle.multi_market.specs.Market.{has}
 use Rattle.award_thin.specs.declared.Thin.{Thin}
 use Rattle.award_thin.specs.declared.Thin.TheVariants.{Nobody, Alone, Enough}
 use Rattle.award_check.specs.Cells.{cells_of}
-use Rattle.award_check.specs.Auction.{Auction, auctionOf, thinCell}
+use Rattle.award_check.specs.Auction.{Auction, auction_of, thin_cell}
 
 -- the earliest cell in no bid, else the earliest in one bid alone, else neither
 abbrev pub Tells : Auction → Thin → Type 0
-Tells A (Nobody x) = thinCell A 0 ≡ found x
-Tells A (Alone x) = (thinCell A 0 ≡ nothing) × (thinCell A 1 ≡ found x)
-Tells A Enough = (thinCell A 0 ≡ nothing) × (thinCell A 1 ≡ nothing)
+Tells A (Nobody x) = thin_cell A 0 ≡ found x
+Tells A (Alone x) = (thin_cell A 0 ≡ nothing) × (thin_cell A 1 ≡ found x)
+Tells A Enough = (thin_cell A 0 ≡ nothing) × (thin_cell A 1 ≡ nothing)
 
 -- as prices, starts and ends, with the entries in order of start
 pub record LaidSpans (t : Tender) (n : ℕ) (bids windows ps starts ends order : List ℕ) (thin : Thin) : Type 0 where
-  pub prices-are : ps ≡ (auctionOf t n bids windows).prices
-  pub has-is : spans starts ends ≡ (auctionOf t n bids windows).has
+  pub prices_are : ps ≡ (auction_of t n bids windows).prices
+  pub has_is : spans starts ends ≡ (auction_of t n bids windows).has
   pub ordered : (i : ℕ) → get_or starts i 0 ≤ get_or ends i 0
   pub inside : (i : ℕ) → get_or ends i 0 ≤ cells_of t
   pub in_order : Order (length ps) (λ i. get_or starts i 0) (λ q. get_or order q 0)
-  pub thin_is : Tells (auctionOf t n bids windows) thin
+  pub thin_is : Tells (auction_of t n bids windows) thin
 
 -- as prices and words, w words an entry
 pub record LaidMasks (t : Tender) (n w : ℕ) (bids windows ps ms : List ℕ) (thin : Thin) : Type 0 where
-  pub prices-are : ps ≡ (auctionOf t n bids windows).prices
-  pub has-is : has ms w ≡ (auctionOf t n bids windows).has
-  pub thin_is : Tells (auctionOf t n bids windows) thin
+  pub prices_are : ps ≡ (auction_of t n bids windows).prices
+  pub has_is : has ms w ≡ (auction_of t n bids windows).has
+  pub thin_is : Tells (auction_of t n bids windows) thin

@@ -10,22 +10,22 @@ use Rattle.tender.specs.declared.Kind.TheVariants.{Single, Multi}
 use Rattle.tender.specs.declared.Reserve.{Reserve}
 use Rattle.tender.specs.declared.Reserve.TheVariants.{Absent, Price}
 use Rattle.tender.specs.declared.Tender.{Tender}
-use Rattle.tender.specs.Limits.{maxEntries}
+use Rattle.tender.specs.Limits.{max_entries}
 use Rattle.cells.specs.Cells.{cell}
 use Rattle.cover.specs.Settled.{spans}
 use Rattle.cover.specs.Intervals.{Order}
-use Rattle.multi_market.specs.Market.{wordRow, has, First}
+use Rattle.multi_market.specs.Market.{word_row, has, First}
 use Rattle.multi_market.specs.WordRowLaws.{row_within}
 use Rattle.award_thin.specs.declared.Thin.{Thin}
 use Rattle.award_thin.specs.declared.Thin.TheVariants.{Nobody, Alone, Enough}
 use Rattle.award_thin.specs.Thin.{Says, Spans}
-use Rattle.award_check.specs.Faults.{faultOf}
-use Rattle.award_check.specs.Cells.{cells_of, bidRowAt}
-use Rattle.award_check.specs.Auction.{houses, auctionOf}
-use Rattle.award_check.specs.AuctionLaws.{thin-told, none-thin}
-use Rattle.award_check.specs.AlikeLaws.{own-kind}
+use Rattle.award_check.specs.Faults.{fault_of}
+use Rattle.award_check.specs.Cells.{cells_of, bid_row_at}
+use Rattle.award_check.specs.Auction.{houses, auction_of}
+use Rattle.award_check.specs.AuctionLaws.{thin_told, none_thin}
+use Rattle.award_check.specs.AlikeLaws.{own_kind}
 use Rattle.award_layout.specs.Orderly.{Orderly, PricesLaid, SpansLaid, AllMasked}
-use Rattle.award_layout.specs.LayoutLaws.{orderly, cells-within, prices-laid, spans-have, spans-ordered, spans-inside, masks-have}
+use Rattle.award_layout.specs.LayoutLaws.{orderly, cells_within, prices_laid, spans_have, spans_ordered, spans_inside, masks_have}
 use Rattle.award_laid.specs.Lay.{Tells, LaidSpans, LaidMasks}
 
 -- the words that a tender's cells need
@@ -33,37 +33,37 @@ pub record Words (t : Tender) (w : ℕ) : Type 0 where
   pub words : w ≤ 158
   pub fits : cells_of t ≤ 64 * w
 
-pub words_of : (k : Kind) (t : Tender) (n w : ℕ) (bids windows : List ℕ) → faultOf k t n bids windows ≡ none
+pub words_of : (k : Kind) (t : Tender) (n w : ℕ) (bids windows : List ℕ) → fault_of k t n bids windows ≡ none
     → w ≡ (cells_of t + 63) / 64
     → Words t w
 words_of k t n w bids windows f e = record {
-  words = omega (arith, cells-within k t n bids windows f);
+  words = omega (arith, cells_within k t n bids windows f);
   fits = omega arith;
 }
 
 -- without a reserve what is found of the bids' cells is told, with one nothing is
 module _ (t : Tender) (n : ℕ) (bids windows : List ℕ) where
-  tells : t.reserve ≡ Absent → (thin : Thin) → Says (auctionOf t n bids windows).has n (cells_of t) thin
-      → Tells (auctionOf t n bids windows) thin
-  tells e (Nobody x) s = thin-told t n bids windows e 0 ∙ s
-  tells e (Alone x) s = (thin-told t n bids windows e 0 ∙ s.0, thin-told t n bids windows e 1 ∙ s.1)
-  tells e Enough s = (thin-told t n bids windows e 0 ∙ s.0, thin-told t n bids windows e 1 ∙ s.1)
+  tells : t.reserve ≡ Absent → (thin : Thin) → Says (auction_of t n bids windows).has n (cells_of t) thin
+      → Tells (auction_of t n bids windows) thin
+  tells e (Nobody x) s = thin_told t n bids windows e 0 ∙ s
+  tells e (Alone x) s = (thin_told t n bids windows e 0 ∙ s.0, thin_told t n bids windows e 1 ∙ s.1)
+  tells e Enough s = (thin_told t n bids windows e 0 ∙ s.0, thin_told t n bids windows e 1 ∙ s.1)
 
-  tells_none : (p : ℕ) → t.reserve ≡ Price p → Tells (auctionOf t n bids windows) Enough
-  tells_none p e = (none-thin t n bids windows p e 0, none-thin t n bids windows p e 1)
+  tells_none : (p : ℕ) → t.reserve ≡ Price p → Tells (auction_of t n bids windows) Enough
+  tells_none p e = (none_thin t n bids windows p e 0, none_thin t n bids windows p e 1)
 
 -- a price put past the first n
 after : (n v : ℕ) (xs : List ℕ) (i : ℕ) → i < n → get_or (set xs n v) i 0 ≡ get_or xs i 0
 after n v xs i l = get_or-set_other xs n i v 0 (λ z. omega arith)
 
 module _ (t : Tender) (n : ℕ) (bids windows ps : List ℕ) (a : length ps ≡ n + houses t.reserve)
-    (p : (i : ℕ) → i < n → get_or ps i 0 ≡ (bidRowAt bids i).price) where
-  prices-owners : t.reserve ≡ Absent → ps ≡ (auctionOf t n bids windows).prices
-  prices-owners e = prices-laid t n bids windows ps a p
+    (p : (i : ℕ) → i < n → get_or ps i 0 ≡ (bid_row_at bids i).price) where
+  prices_owners : t.reserve ≡ Absent → ps ≡ (auction_of t n bids windows).prices
+  prices_owners e = prices_laid t n bids windows ps a p
       (λ q f. let z : ◌≡◌ {A = ℕ} 0 1 = ap houses (sym e ∙ f) in absurd (omega arith))
 
-  prices-house : (q : ℕ) → t.reserve ≡ Price q → set ps n q ≡ (auctionOf t n bids windows).prices
-  prices-house q e = prices-laid t n bids windows (set ps n q) (length-set ps n q ∙ a) (λ i l. after n q ps i l ∙ p i l)
+  prices_house : (q : ℕ) → t.reserve ≡ Price q → set ps n q ≡ (auction_of t n bids windows).prices
+  prices_house q e = prices_laid t n bids windows (set ps n q) (length-set ps n q ∙ a) (λ i l. after n q ps i l ∙ p i l)
       (λ r f. get_or-set_same ps n q 0 (omega (arith, a, ap houses e)) ∙ price (sym e ∙ f))
     where
       price : {q r : ℕ} → Price q ≡ Price r → q ≡ r
@@ -71,8 +71,8 @@ module _ (t : Tender) (n : ℕ) (bids windows ps : List ℕ) (a : length ps ≡ 
 
 -- lists whose first n places are written
 
-pub front-count : (n h : ℕ) (xs : List ℕ) → length xs ≡ n + h → length (take n xs) ≡ n
-front-count n h xs e = length-take-le n xs (omega arith)
+pub front_count : (n h : ℕ) (xs : List ℕ) → length xs ≡ n + h → length (take n xs) ≡ n
+front_count n h xs e = length-take-le n xs (omega arith)
 
 written_count : (n h : ℕ) (xs ys : List ℕ) → length xs ≡ n + h → length ys ≡ n → length (ys ++ drop n xs) ≡ n + h
 written_count n h xs ys e d = length-append ys (drop n xs) ∙ omega (arith, length-drop n xs)
@@ -82,26 +82,26 @@ written_at n xs ys e i l = get_or-append ys (drop n xs) 0 i (omega arith)
 
 -- the bids of a single tender are laid out
 pub record SpansReady (t : Tender) (n : ℕ) (bids windows ps starts ends : List ℕ) : Type 0 where
-  pub sound : faultOf Single t n bids windows ≡ none
-  pub price-count : length ps ≡ n + houses t.reserve
-  pub start-count : length starts ≡ n + houses t.reserve
-  pub end-count : length ends ≡ n + houses t.reserve
-  pub priced : (i : ℕ) → i < n → get_or ps i 0 ≡ (bidRowAt bids i).price
+  pub sound : fault_of Single t n bids windows ≡ none
+  pub price_count : length ps ≡ n + houses t.reserve
+  pub start_count : length starts ≡ n + houses t.reserve
+  pub end_count : length ends ≡ n + houses t.reserve
+  pub priced : (i : ℕ) → i < n → get_or ps i 0 ≡ (bid_row_at bids i).price
   pub laid : SpansLaid n t bids windows starts ends
 
-pub spans-ready : (t : Tender) (n : ℕ) (bids windows ps starts ends qs ss es : List ℕ) → faultOf Single t n bids windows ≡ none
+pub spans_ready : (t : Tender) (n : ℕ) (bids windows ps starts ends qs ss es : List ℕ) → fault_of Single t n bids windows ≡ none
     → length ps ≡ n + houses t.reserve → length starts ≡ n + houses t.reserve → length ends ≡ n + houses t.reserve
     → length ss ≡ n → length es ≡ n → PricesLaid n bids qs → SpansLaid n t bids windows ss es
     → SpansReady t n bids windows (qs ++ drop n ps) (ss ++ drop n starts) (es ++ drop n ends)
-spans-ready t n bids windows ps starts ends qs ss es f a b c u v p l = record {
+spans_ready t n bids windows ps starts ends qs ss es f a b c u v p l = record {
   sound = f;
-  price-count = written_count n (houses t.reserve) ps qs a p.count;
-  start-count = written_count n (houses t.reserve) starts ss b u;
-  end-count = written_count n (houses t.reserve) ends es c v;
-  priced = λ i m. written_at n ps qs p.count i m ∙ p.prices-are i m;
+  price_count = written_count n (houses t.reserve) ps qs a p.count;
+  start_count = written_count n (houses t.reserve) starts ss b u;
+  end_count = written_count n (houses t.reserve) ends es c v;
+  priced = λ i m. written_at n ps qs p.count i m ∙ p.prices_are i m;
   laid = record {
-    starts-are = λ i m. written_at n starts ss u i m ∙ l.starts-are i m;
-    ends-are = λ i m. written_at n ends es v i m ∙ l.ends-are i m;
+    starts_are = λ i m. written_at n starts ss u i m ∙ l.starts_are i m;
+    ends_are = λ i m. written_at n ends es v i m ∙ l.ends_are i m;
   };
 }
 
@@ -109,87 +109,87 @@ module _ (t : Tender) (n : ℕ) (bids windows ps starts ends : List ℕ) (r : Sp
   o : Orderly t n bids windows
   o = orderly Single t n bids windows r.sound
 
-  kind-is : t.kind ≡ Single
-  kind-is = own-kind Single t n bids windows r.sound
+  kind_is : t.kind ≡ Single
+  kind_is = own_kind Single t n bids windows r.sound
 
   module _ (e : t.reserve ≡ Absent) where
-    no-house : (q : ℕ) → t.reserve ≡ Price q → (get_or starts n 0 ≡ 0) × (get_or ends n 0 ≡ cells_of t)
-    no-house q g = let z : ◌≡◌ {A = ℕ} 0 1 = ap houses (sym e ∙ g) in absurd (omega arith)
+    no_house : (q : ℕ) → t.reserve ≡ Price q → (get_or starts n 0 ≡ 0) × (get_or ends n 0 ≡ cells_of t)
+    no_house q g = let z : ◌≡◌ {A = ℕ} 0 1 = ap houses (sym e ∙ g) in absurd (omega arith)
 
-    pub spans-owners : Spans starts ends (cells_of t)
-    spans-owners = record {
-      same = r.end-count ∙ sym r.start-count;
-      few = omega (arith, o.few, r.start-count, ap houses e);
-      ordered = spans-ordered t n bids windows starts ends o kind-is r.start-count r.end-count r.laid no-house;
-      inside = spans-inside t n bids windows starts ends o kind-is r.start-count r.end-count r.laid no-house;
+    pub spans_owners : Spans starts ends (cells_of t)
+    spans_owners = record {
+      same = r.end_count ∙ sym r.start_count;
+      few = omega (arith, o.few, r.start_count, ap houses e);
+      ordered = spans_ordered t n bids windows starts ends o kind_is r.start_count r.end_count r.laid no_house;
+      inside = spans_inside t n bids windows starts ends o kind_is r.start_count r.end_count r.laid no_house;
     }
 
-    pub lays-owners : (order : List ℕ) (thin : Thin) → Says (spans starts ends) (length starts) (cells_of t) thin
+    pub lays_owners : (order : List ℕ) (thin : Thin) → Says (spans starts ends) (length starts) (cells_of t) thin
         → Order (length starts) (λ i. get_or starts i 0) (λ q. get_or order q 0)
         → LaidSpans t n bids windows ps starts ends order thin
-    lays-owners order thin s sorted =
-        let m : length starts ≡ n = omega (arith, r.start-count, ap houses e) in
-        let h = spans-have t n bids windows starts ends o kind-is r.start-count r.end-count r.laid no-house in
+    lays_owners order thin s sorted =
+        let m : length starts ≡ n = omega (arith, r.start_count, ap houses e) in
+        let h = spans_have t n bids windows starts ends o kind_is r.start_count r.end_count r.laid no_house in
         record {
-          prices-are = prices-owners t n bids windows ps r.price-count r.priced e;
-          has-is = h;
-          ordered = spans-owners.ordered;
-          inside = spans-owners.inside;
-          in_order = rw (r.start-count ∙ sym r.price-count) at sorted;
+          prices_are = prices_owners t n bids windows ps r.price_count r.priced e;
+          has_is = h;
+          ordered = spans_owners.ordered;
+          inside = spans_owners.inside;
+          in_order = rw (r.start_count ∙ sym r.price_count) at sorted;
           thin_is = tells t n bids windows e thin (rw (h, m) at s);
         }
 
   -- the house after the bids
   module _ (q : ℕ) (e : t.reserve ≡ Price q) where
-    pub house-count : length (set starts n 0) ≡ n + houses t.reserve
-    house-count = length-set starts n 0 ∙ r.start-count
+    pub house_count : length (set starts n 0) ≡ n + houses t.reserve
+    house_count = length-set starts n 0 ∙ r.start_count
 
-    house-ends : length (set ends n (cells_of t)) ≡ n + houses t.reserve
-    house-ends = length-set ends n (cells_of t) ∙ r.end-count
+    house_ends : length (set ends n (cells_of t)) ≡ n + houses t.reserve
+    house_ends = length-set ends n (cells_of t) ∙ r.end_count
 
-    house-laid : SpansLaid n t bids windows (set starts n 0) (set ends n (cells_of t))
-    house-laid = record {
-      starts-are = λ i m. after n 0 starts i m ∙ r.laid.starts-are i m;
-      ends-are = λ i m. after n (cells_of t) ends i m ∙ r.laid.ends-are i m;
+    house_laid : SpansLaid n t bids windows (set starts n 0) (set ends n (cells_of t))
+    house_laid = record {
+      starts_are = λ i m. after n 0 starts i m ∙ r.laid.starts_are i m;
+      ends_are = λ i m. after n (cells_of t) ends i m ∙ r.laid.ends_are i m;
     }
 
-    house-has : (p : ℕ) → t.reserve ≡ Price p → (get_or (set starts n 0) n 0 ≡ 0)
+    house_has : (p : ℕ) → t.reserve ≡ Price p → (get_or (set starts n 0) n 0 ≡ 0)
         × (get_or (set ends n (cells_of t)) n 0 ≡ cells_of t)
-    house-has p g = (
-      get_or-set_same starts n 0 0 (omega (arith, r.start-count, ap houses e)),
-      get_or-set_same ends n (cells_of t) 0 (omega (arith, r.end-count, ap houses e)),
+    house_has p g = (
+      get_or-set_same starts n 0 0 (omega (arith, r.start_count, ap houses e)),
+      get_or-set_same ends n (cells_of t) 0 (omega (arith, r.end_count, ap houses e)),
     )
 
-    house-ordered : (i : ℕ) → get_or (set starts n 0) i 0 ≤ get_or (set ends n (cells_of t)) i 0
-    house-ordered = spans-ordered t n bids windows (set starts n 0) (set ends n (cells_of t)) o kind-is house-count house-ends
-        house-laid house-has
+    house_ordered : (i : ℕ) → get_or (set starts n 0) i 0 ≤ get_or (set ends n (cells_of t)) i 0
+    house_ordered = spans_ordered t n bids windows (set starts n 0) (set ends n (cells_of t)) o kind_is house_count house_ends
+        house_laid house_has
 
-    house-inside : (i : ℕ) → get_or (set ends n (cells_of t)) i 0 ≤ cells_of t
-    house-inside = spans-inside t n bids windows (set starts n 0) (set ends n (cells_of t)) o kind-is house-count house-ends
-        house-laid house-has
+    house_inside : (i : ℕ) → get_or (set ends n (cells_of t)) i 0 ≤ cells_of t
+    house_inside = spans_inside t n bids windows (set starts n 0) (set ends n (cells_of t)) o kind_is house_count house_ends
+        house_laid house_has
 
-    pub house-starts : (i : ℕ) → get_or (set starts n 0) i 0 ≤ cells_of t
-    house-starts i = omega (arith, house-ordered i, house-inside i)
+    pub house_starts : (i : ℕ) → get_or (set starts n 0) i 0 ≤ cells_of t
+    house_starts i = omega (arith, house_ordered i, house_inside i)
 
-    pub house-few : length (set starts n 0) ≤ maxEntries
-    house-few = omega (arith, house-count, o.few, ap houses e)
+    pub house_few : length (set starts n 0) ≤ max_entries
+    house_few = omega (arith, house_count, o.few, ap houses e)
 
-    pub lays-house : (order : List ℕ) → Order (length (set starts n 0)) (λ i. get_or (set starts n 0) i 0) (λ q. get_or order q 0)
+    pub lays_house : (order : List ℕ) → Order (length (set starts n 0)) (λ i. get_or (set starts n 0) i 0) (λ q. get_or order q 0)
         → LaidSpans t n bids windows (set ps n q) (set starts n 0) (set ends n (cells_of t)) order Enough
-    lays-house order sorted = record {
-      prices-are = prices-house t n bids windows ps r.price-count r.priced q e;
-      has-is = spans-have t n bids windows (set starts n 0) (set ends n (cells_of t)) o kind-is house-count house-ends house-laid house-has;
-      ordered = house-ordered;
-      inside = house-inside;
-      in_order = rw (house-count ∙ sym r.price-count ∙ sym (length-set ps n q)) at sorted;
+    lays_house order sorted = record {
+      prices_are = prices_house t n bids windows ps r.price_count r.priced q e;
+      has_is = spans_have t n bids windows (set starts n 0) (set ends n (cells_of t)) o kind_is house_count house_ends house_laid house_has;
+      ordered = house_ordered;
+      inside = house_inside;
+      in_order = rw (house_count ∙ sym r.price_count ∙ sym (length-set ps n q)) at sorted;
       thin_is = tells_none t n bids windows q e;
     }
 
 -- the bids of a multi tender are laid out
 pub record MasksReady (t : Tender) (n w : ℕ) (bids windows ps ms : List ℕ) : Type 0 where
-  pub price-count : length ps ≡ n + houses t.reserve
+  pub price_count : length ps ≡ n + houses t.reserve
   pub word_count : length ms ≡ w * (n + houses t.reserve)
-  pub priced : (i : ℕ) → i < n → get_or ps i 0 ≡ (bidRowAt bids i).price
+  pub priced : (i : ℕ) → i < n → get_or ps i 0 ≡ (bid_row_at bids i).price
   pub masked : AllMasked n t w bids windows ms
 
 -- rows of words before others
@@ -197,84 +197,84 @@ pub record MasksReady (t : Tender) (n w : ℕ) (bids windows ps ms : List ℕ) :
 rows_more : (w n h : ℕ) → w * n ≤ w * (n + h)
 rows_more w n h = mul-le-mul_left w (omega arith)
 
-row_before : (w n i : ℕ) (xs ys : List ℕ) → length xs ≡ w * n → i < n → wordRow (xs ++ ys) w i ≡ wordRow xs w i
-unfolding wordRow
+row_before : (w n i : ℕ) (xs ys : List ℕ) → length xs ≡ w * n → i < n → word_row (xs ++ ys) w i ≡ word_row xs w i
+unfolding word_row
 row_before w n i xs ys e l = ap (take w) (drop-append-le (w * i) xs ys (omega (arith, row_within w n i l)))
     ∙ take-append-le w (drop (w * i) xs) ys (omega (arith, row_within w n i l, length-drop (w * i) xs))
 
-row_last : (w n : ℕ) (xs ys : List ℕ) → length xs ≡ w * n → length ys ≡ w → wordRow (xs ++ ys) w n ≡ ys
-unfolding wordRow
+row_last : (w n : ℕ) (xs ys : List ℕ) → length xs ≡ w * n → length ys ≡ w → word_row (xs ++ ys) w n ≡ ys
+unfolding word_row
 row_last w n xs ys e d = ap (take w) (drop_at xs ys (w * n) e) ∙ take_all w ys (omega arith)
 
-pub word-front : (w n h : ℕ) (ms : List ℕ) → length ms ≡ w * (n + h) → length (take (w * n) ms) ≡ w * n
-word-front w n h ms e = length-take-le (w * n) ms (omega (arith, rows_more w n h))
+pub word_front : (w n h : ℕ) (ms : List ℕ) → length ms ≡ w * (n + h) → length (take (w * n) ms) ≡ w * n
+word_front w n h ms e = length-take-le (w * n) ms (omega (arith, rows_more w n h))
 
 row_more : (w n h : ℕ) → h ≡ 1 → w * (n + h) ≡ w * n + w
 row_more w n h e = rw e (mul-add w n 1 ∙ ap (λ (m : ℕ). w * n + m) (mul-one w))
 
-pub rows-only : (w n h : ℕ) → h ≡ 0 → w * (n + h) ≡ w * n
-rows-only w n h e = ap (λ (m : ℕ). w * m) (omega arith)
+pub rows_only : (w n h : ℕ) → h ≡ 0 → w * (n + h) ≡ w * n
+rows_only w n h e = ap (λ (m : ℕ). w * m) (omega arith)
 
-masked-before : (t : Tender) (n w : ℕ) (bids windows xs ys : List ℕ) → length xs ≡ w * n → AllMasked n t w bids windows xs
+masked_before : (t : Tender) (n w : ℕ) (bids windows xs ys : List ℕ) → length xs ≡ w * n → AllMasked n t w bids windows xs
     → AllMasked n t w bids windows (xs ++ ys)
-masked-before t n w bids windows xs ys e m =
+masked_before t n w bids windows xs ys e m =
     record { each = λ i l. record { sets = λ x. ap (λ row. eqb (cell row x) 1) (row_before w n i xs ys e l) ∙ (m.each i l).sets x } }
 
-pub masks-ready : (t : Tender) (n w : ℕ) (bids windows ps ms qs xs : List ℕ) → length ps ≡ n + houses t.reserve
+pub masks_ready : (t : Tender) (n w : ℕ) (bids windows ps ms qs xs : List ℕ) → length ps ≡ n + houses t.reserve
     → length ms ≡ w * (n + houses t.reserve) → length xs ≡ w * n → PricesLaid n bids qs → AllMasked n t w bids windows xs
     → MasksReady t n w bids windows (qs ++ drop n ps) (xs ++ drop (w * n) ms)
-masks-ready t n w bids windows ps ms qs xs a b c p m = record {
-  price-count = written_count n (houses t.reserve) ps qs a p.count;
+masks_ready t n w bids windows ps ms qs xs a b c p m = record {
+  price_count = written_count n (houses t.reserve) ps qs a p.count;
   word_count = length-append xs (drop (w * n) ms)
       ∙ omega (arith, length-drop (w * n) ms, rows_more w n (houses t.reserve));
-  priced = λ i l. written_at n ps qs p.count i l ∙ p.prices-are i l;
-  masked = masked-before t n w bids windows xs (drop (w * n) ms) c m;
+  priced = λ i l. written_at n ps qs p.count i l ∙ p.prices_are i l;
+  masked = masked_before t n w bids windows xs (drop (w * n) ms) c m;
 }
 
 module _ (t : Tender) (n w : ℕ) (bids windows ps ms : List ℕ) (r : MasksReady t n w bids windows ps ms) where
-  pub masks-owners : t.reserve ≡ Absent → (thin : Thin) → Says (has ms w) n (cells_of t) thin
+  pub masks_owners : t.reserve ≡ Absent → (thin : Thin) → Says (has ms w) n (cells_of t) thin
       → LaidMasks t n w bids windows ps ms thin
-  masks-owners e thin s =
-      let h = masks-have t n w bids windows ms r.word_count r.masked
+  masks_owners e thin s =
+      let h = masks_have t n w bids windows ms r.word_count r.masked
       (λ q g. let z : ◌≡◌ {A = ℕ} 0 1 = ap houses (sym e ∙ g) in absurd (omega arith)) in
       record {
-        prices-are = prices-owners t n bids windows ps r.price-count r.priced e;
-        has-is = h;
+        prices_are = prices_owners t n bids windows ps r.price_count r.priced e;
+        has_is = h;
         thin_is = tells t n bids windows e thin (rw h at s);
       }
 
   -- what stands after the bids' words is a row
-  pub house-words : (q : ℕ) → t.reserve ≡ Price q → length (mid_of (w * n) (length ms - w * n) ms) ≡ w
-  house-words q e = length-take-le (length ms - w * n) (drop (w * n) ms) (omega (arith, length-drop (w * n) ms))
+  pub house_words : (q : ℕ) → t.reserve ≡ Price q → length (mid_of (w * n) (length ms - w * n) ms) ≡ w
+  house_words q e = length-take-le (length ms - w * n) (drop (w * n) ms) (omega (arith, length-drop (w * n) ms))
       ∙ omega (arith, r.word_count, row_more w n (houses t.reserve) (ap houses e))
 
   -- the cells of the house are the first ones, all of them
-  first-cells : (row : List ℕ) → First (cells_of t) row → (x : ℕ) → eqb (cell row x) 1 ≡ ltb x (cells_of t)
-  first-cells row f x = go (ltb x (cells_of t)) refl
+  first_cells : (row : List ℕ) → First (cells_of t) row → (x : ℕ) → eqb (cell row x) 1 ≡ ltb x (cells_of t)
+  first_cells row f x = go (ltb x (cells_of t)) refl
     where
       go : (b : Bool) → ltb x (cells_of t) ≡ b → eqb (cell row x) 1 ≡ b
       go true u = ap (λ (v : ℕ). eqb v 1) (f.inside x (ltb-true x (cells_of t) u))
       go false u = ap (λ (v : ℕ). eqb v 1) (f.above x (ltb-false x (cells_of t) u))
 
   front : length (take (w * n) ms) ≡ w * n
-  front = word-front w n (houses t.reserve) ms r.word_count
+  front = word_front w n (houses t.reserve) ms r.word_count
 
-  front-masked : AllMasked n t w bids windows (take (w * n) ms)
-  front-masked = record {
+  front_masked : AllMasked n t w bids windows (take (w * n) ms)
+  front_masked = record {
     each = λ i l. record {
       sets = λ x. ap (λ row. eqb (cell row x) 1)
-          (sym (row_before w n i (take (w * n) ms) (drop (w * n) ms) front l) ∙ ap (λ xs. wordRow xs w i) (take-append-drop (w * n) ms))
+          (sym (row_before w n i (take (w * n) ms) (drop (w * n) ms) front l) ∙ ap (λ xs. word_row xs w i) (take-append-drop (w * n) ms))
           ∙ (r.masked.each i l).sets x;
     };
   }
 
-  pub masks-house : (q : ℕ) → t.reserve ≡ Price q → (row : List ℕ) → length row ≡ w → First (cells_of t) row
+  pub masks_house : (q : ℕ) → t.reserve ≡ Price q → (row : List ℕ) → length row ≡ w → First (cells_of t) row
       → LaidMasks t n w bids windows (set ps n q) (put_mid (w * n) (length ms - w * n) ms row) Enough
-  masks-house q e row d f = record {
-    prices-are = prices-house t n bids windows ps r.price-count r.priced q e;
-    has-is = ap (λ xs. has xs w) whole ∙ masks-have t n w bids windows (take (w * n) ms ++ row) count
-        (masked-before t n w bids windows (take (w * n) ms) row front front-masked)
-        (λ p g x. ap (λ xs. eqb (cell xs x) 1) (row_last w n (take (w * n) ms) row front d) ∙ first-cells row f x);
+  masks_house q e row d f = record {
+    prices_are = prices_house t n bids windows ps r.price_count r.priced q e;
+    has_is = ap (λ xs. has xs w) whole ∙ masks_have t n w bids windows (take (w * n) ms ++ row) count
+        (masked_before t n w bids windows (take (w * n) ms) row front front_masked)
+        (λ p g x. ap (λ xs. eqb (cell xs x) 1) (row_last w n (take (w * n) ms) row front d) ∙ first_cells row f x);
     thin_is = tells_none t n bids windows q e;
   }
     where

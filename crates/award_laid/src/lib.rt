@@ -1,6 +1,8 @@
 // A faultless tender laid out for the award of its kind: the prices, and the starts and ends or the words of the bids and, where there
 // is a reserve, of the house after them; with whether a cell is thin. There are as many entries as `prices` has places. The entries of a
 // single tender are put in order of start, once for the cells and the award.
+#![tactic(auto)]
+
 ghost use Rattle.std.specs.Prelude.{◌≡◌, ◌+◌, ◌*◌, ◌/◌, ◌≤◌, ◌<◌, length, get_or, set};
 ghost use Rattle.std.proofs.Math.Option.{none};
 ghost use Rattle.tender.specs.declared.Kind.TheVariants.{Single, Multi};
@@ -8,7 +10,7 @@ ghost use Rattle.cover.specs.Settled.{spans};
 ghost use Rattle.cover.specs.Intervals.{Order};
 ghost use Rattle.multi_market.specs.Market.{First};
 ghost use Rattle.award_thin.specs.Thin.{Says, Spans};
-ghost use Rattle.award_check.specs.Faults.{faultOf};
+ghost use Rattle.award_check.specs.Faults.{fault_of};
 ghost use Rattle.award_check.specs.Cells.{cells_of};
 ghost use Rattle.award_check.specs.Auction.{houses};
 ghost use Rattle.award_laid.specs.Lay.{LaidSpans, LaidMasks};
@@ -57,7 +59,7 @@ pub fn lay_spans(
     ends: &mut [u64],
     order: &mut [usize],
 ) -> Thin
-    requires { (faultOf Single tender count bids.now windows.now ≡ none)
+    requires { (fault_of Single tender count bids.now windows.now ≡ none)
         × ((length prices.old ≡ count + houses tender.reserve) × ((length starts.old ≡ count + houses tender.reserve)
         × ((length ends.old ≡ count + houses tender.reserve) × (count + houses tender.reserve ≤ length order.old)))) }
     ensures { LaidSpans tender count bids.now windows.now prices.new
@@ -93,7 +95,7 @@ pub fn lay_masks(
     prices: &mut [u64],
     masks: &mut [u64],
 ) -> Thin
-    requires { (faultOf Multi tender count bids.now windows.now ≡ none)
+    requires { (fault_of Multi tender count bids.now windows.now ≡ none)
         × ((w ≡ (cells_of tender + 63) / 64) × ((length prices.old ≡ count + houses tender.reserve)
         × (length masks.old ≡ w * (count + houses tender.reserve)))) }
     ensures { LaidMasks tender count w bids.now windows.now prices.new

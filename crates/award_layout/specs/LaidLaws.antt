@@ -3,15 +3,15 @@ use Rattle.std.specs.Prelude.{◌≡◌, refl, List, ◌∷◌, Bool, true, fals
 use Rattle.std.proofs.Common.{sym, ap, ◌∙◌, arith, get_or-set_same, get_or-set_other}
 use borrow.Author.Tests.{ltb-true, ltb-false, leb-true}
 use Rattle.tender.specs.declared.Tender.{Tender}
-use Rattle.tender.specs.Limits.{within, mostWindows}
+use Rattle.tender.specs.Limits.{within, most_windows}
 use Rattle.cover.specs.SetLaws.{and_split}
-use Rattle.tender.specs.Tables.{windowsOf, windowWidth, windowAt}
+use Rattle.tender.specs.Tables.{windows_of, window_width, window_at}
 use Rattle.cells.specs.Cells.{cell, RangeAdded}
 use Rattle.cells.specs.BitLaws.{zero_bit}
 use Rattle.cells.specs.StoreLaws.{added}
-use Rattle.award_check.specs.Cells.{holds, cells_of, minuteOf, bidRowAt}
-use Rattle.award_check.specs.AlikeLaws.{windows-step}
-use Rattle.award_check.specs.WalkLaws.{rowsAhead, ahead_more}
+use Rattle.award_check.specs.Cells.{holds, cells_of, minute_of, bid_row_at}
+use Rattle.award_check.specs.AlikeLaws.{windows_step}
+use Rattle.award_check.specs.WalkLaws.{rows_ahead, ahead_more}
 use Rattle.award_layout.specs.LayoutLaws.{in_cell}
 use Rattle.award_layout.specs.Orderly.{Orderly, clipped, Masked}
 
@@ -32,68 +32,68 @@ filled_more f out i l h v e j m = go (ltb j i) refl
 pub record Masking (t : Tender) (windows : List ℕ) (first count j : ℕ) (words : List ℕ) : Type 0 where
   pub inside : j ≤ count
   pub sets : (x : ℕ) → (eqb (cell words x) 1
-      || (ltb x (cells_of t) && holds (windowsOf (count - j) (drop (windowWidth * (first + j)) windows)) (minuteOf t x)))
-      ≡ (ltb x (cells_of t) && holds (windowsOf count (drop (windowWidth * first) windows)) (minuteOf t x))
+      || (ltb x (cells_of t) && holds (windows_of (count - j) (drop (window_width * (first + j)) windows)) (minute_of t x)))
+      ≡ (ltb x (cells_of t) && holds (windows_of count (drop (window_width * first) windows)) (minute_of t x))
 
-pub masking-starts : (t : Tender) (windows : List ℕ) (first count : ℕ) (words : List ℕ) → ((i : ℕ) → get_or words i 0 ≡ 0)
+pub masking_starts : (t : Tender) (windows : List ℕ) (first count : ℕ) (words : List ℕ) → ((i : ℕ) → get_or words i 0 ≡ 0)
     → Masking t windows first count 0 words
 unfolding cell
-masking-starts t windows first count words z =
+masking_starts t windows first count words z =
     record {
       inside = omega arith;
       sets = λ x. ap (λ b.
-          b || (ltb x (cells_of t) && holds (windowsOf (count - 0) (drop (windowWidth * (first + 0)) windows)) (minuteOf t x))) (clear x)
+          b || (ltb x (cells_of t) && holds (windows_of (count - 0) (drop (window_width * (first + 0)) windows)) (minute_of t x))) (clear x)
           ∙ same x;
     }
   where
     clear : (x : ℕ) → eqb (get_or words (x / 64) 0 / 2 ^ (x % 64) % 2) 1 ≡ false
     clear x = ap (λ (v : ℕ). eqb (v / 2 ^ (x % 64) % 2) 1) (z (x / 64)) ∙ ap (λ (v : ℕ). eqb v 1) (zero_bit (x % 64))
 
-    same : (x : ℕ) → (ltb x (cells_of t) && holds (windowsOf (count - 0) (drop (windowWidth * (first + 0)) windows)) (minuteOf t x))
-        ≡ (ltb x (cells_of t) && holds (windowsOf count (drop (windowWidth * first) windows)) (minuteOf t x))
+    same : (x : ℕ) → (ltb x (cells_of t) && holds (windows_of (count - 0) (drop (window_width * (first + 0)) windows)) (minute_of t x))
+        ≡ (ltb x (cells_of t) && holds (windows_of count (drop (window_width * first) windows)) (minute_of t x))
     same x =
         let d : count - 0 ≡ count = omega arith in
         let e : first + 0 ≡ first = omega arith in
-        ap (λ (m : ℕ). ltb x (cells_of t) && holds (windowsOf m (drop (windowWidth * (first + 0)) windows)) (minuteOf t x)) d
-        ∙ ap (λ (m : ℕ). ltb x (cells_of t) && holds (windowsOf count (drop (windowWidth * m) windows)) (minuteOf t x)) e
+        ap (λ (m : ℕ). ltb x (cells_of t) && holds (windows_of m (drop (window_width * (first + 0)) windows)) (minute_of t x)) d
+        ∙ ap (λ (m : ℕ). ltb x (cells_of t) && holds (windows_of count (drop (window_width * m) windows)) (minute_of t x)) e
 
 regroup : (o l i h : Bool) → ((o || (l && i)) || (l && h)) ≡ (o || (l && (i || h)))
 regroup true l i h = refl
 regroup false true i h = refl
 regroup false false i h = refl
 
-pub masking-more : (t : Tender) (windows : List ℕ) (first count j : ℕ) (words words' : List ℕ) (s e : ℕ)
+pub masking_more : (t : Tender) (windows : List ℕ) (first count j : ℕ) (words words' : List ℕ) (s e : ℕ)
     → Masking t windows first count j words → j < count →
-    s ≡ clipped t (windowAt windows (first + j)).start → e ≡ clipped t (windowAt windows (first + j)).end → s ≤ e
+    s ≡ clipped t (window_at windows (first + j)).start → e ≡ clipped t (window_at windows (first + j)).end → s ≤ e
     → RangeAdded s e words words' → Masking t windows first count (j + 1) words'
 unfolding holds
-masking-more t windows first count j words words' s e m l es ee o f = record {
+masking_more t windows first count j words words' s e m l es ee o f = record {
   inside = omega arith;
   sets = λ x.
       ap (λ b. b
-      || (ltb x (cells_of t) && holds (windowsOf (count - (j + 1)) (drop (windowWidth * (first + (j + 1))) windows)) (minuteOf t x)))
+      || (ltb x (cells_of t) && holds (windows_of (count - (j + 1)) (drop (window_width * (first + (j + 1))) windows)) (minute_of t x)))
       (added s e words words' f x ∙ ap (λ (v : ℕ). eqb (cell words x) 1 || (leb v x && ltb x e)) es
-      ∙ ap (λ (v : ℕ). eqb (cell words x) 1 || (leb (clipped t (windowAt windows (first + j)).start) x && ltb x v)) ee
-      ∙ ap (λ b. eqb (cell words x) 1 || b) (in_cell t (windowAt windows (first + j)).start (windowAt windows (first + j)).end x))
-      ∙ regroup (eqb (cell words x) 1) (ltb x (cells_of t)) (leb (windowAt windows (first + j)).start (minuteOf t x)
-      && ltb (minuteOf t x) (windowAt windows (first + j)).end)
-      (holds (windowsOf (count - (j + 1)) (drop (windowWidth * (first + (j + 1))) windows)) (minuteOf t x))
-      ∙ ap (λ ws. eqb (cell words x) 1 || (ltb x (cells_of t) && holds ws (minuteOf t x))) (sym (next x)) ∙ m.sets x;
+      ∙ ap (λ (v : ℕ). eqb (cell words x) 1 || (leb (clipped t (window_at windows (first + j)).start) x && ltb x v)) ee
+      ∙ ap (λ b. eqb (cell words x) 1 || b) (in_cell t (window_at windows (first + j)).start (window_at windows (first + j)).end x))
+      ∙ regroup (eqb (cell words x) 1) (ltb x (cells_of t)) (leb (window_at windows (first + j)).start (minute_of t x)
+      && ltb (minute_of t x) (window_at windows (first + j)).end)
+      (holds (windows_of (count - (j + 1)) (drop (window_width * (first + (j + 1))) windows)) (minute_of t x))
+      ∙ ap (λ ws. eqb (cell words x) 1 || (ltb x (cells_of t) && holds ws (minute_of t x))) (sym (next x)) ∙ m.sets x;
 }
   where
-    next : (x : ℕ) → windowsOf (count - j) (drop (windowWidth * (first + j)) windows)
-        ≡ windowAt windows (first + j) ∷ windowsOf (count - (j + 1)) (drop (windowWidth * (first + (j + 1))) windows)
+    next : (x : ℕ) → windows_of (count - j) (drop (window_width * (first + j)) windows)
+        ≡ window_at windows (first + j) ∷ windows_of (count - (j + 1)) (drop (window_width * (first + (j + 1))) windows)
     next x =
         let d : count - j ≡ suc (count - (j + 1)) = omega arith in
         let g : first + j + 1 ≡ first + (j + 1) = omega arith in
-        ap (λ (c : ℕ). windowsOf c (drop (windowWidth * (first + j)) windows)) d ∙ windows-step (count - (j + 1)) (first + j) windows
-        ∙ ap (λ (i : ℕ). windowAt windows (first + j) ∷ windowsOf (count - (j + 1)) (drop (windowWidth * i) windows)) g
+        ap (λ (c : ℕ). windows_of c (drop (window_width * (first + j)) windows)) d ∙ windows_step (count - (j + 1)) (first + j) windows
+        ∙ ap (λ (i : ℕ). window_at windows (first + j) ∷ windows_of (count - (j + 1)) (drop (window_width * i) windows)) g
 
-pub masking-ends : (t : Tender) (windows : List ℕ) (first count j : ℕ) (words : List ℕ)
+pub masking_ends : (t : Tender) (windows : List ℕ) (first count j : ℕ) (words : List ℕ)
     → Masking t windows first count j words
-    → count ≤ j → Masked t (windowsOf count (drop (windowWidth * first) windows)) words
-unfolding holds windowsOf
-masking-ends t windows first count j words m l = record { sets = λ x. sym (none x) ∙ m.sets x }
+    → count ≤ j → Masked t (windows_of count (drop (window_width * first) windows)) words
+unfolding holds windows_of
+masking_ends t windows first count j words m l = record { sets = λ x. sym (none x) ∙ m.sets x }
   where
     off : (a b : Bool) → (a || (b && false)) ≡ a
     off true b = refl
@@ -101,34 +101,34 @@ masking-ends t windows first count j words m l = record { sets = λ x. sym (none
     off false false = refl
 
     none : (x : ℕ) → (eqb (cell words x) 1
-        || (ltb x (cells_of t) && holds (windowsOf (count - j) (drop (windowWidth * (first + j)) windows)) (minuteOf t x)))
+        || (ltb x (cells_of t) && holds (windows_of (count - j) (drop (window_width * (first + j)) windows)) (minute_of t x)))
         ≡ eqb (cell words x) 1
     none x = let d : count - j ≡ 0 = omega arith in
         ap (λ (c : ℕ). eqb (cell words x) 1
-        || (ltb x (cells_of t) && holds (windowsOf c (drop (windowWidth * (first + j)) windows)) (minuteOf t x))) d
+        || (ltb x (cells_of t) && holds (windows_of c (drop (window_width * (first + j)) windows)) (minute_of t x))) d
         ∙ off (eqb (cell words x) 1) (ltb x (cells_of t))
 
 -- the windows of a row stand in the table
 module _ (t : Tender) (n : ℕ) (bids windows : List ℕ) (o : Orderly t n bids windows) (i : ℕ) (l : i < n) where
-  pub row_room : (bidRowAt bids i).first + (bidRowAt bids i).count ≤ length windows / windowWidth
-  row_room = leb-true ((bidRowAt bids i).first + (bidRowAt bids i).count) (length windows / windowWidth) (o.kept i l).room
+  pub row_room : (bid_row_at bids i).first + (bid_row_at bids i).count ≤ length windows / window_width
+  row_room = leb-true ((bid_row_at bids i).first + (bid_row_at bids i).count) (length windows / window_width) (o.kept i l).room
 
-  some-window : 1 ≤ (bidRowAt bids i).count
+  some_window : 1 ≤ (bid_row_at bids i).count
   unfolding within
-  some-window = leb-true 1 (bidRowAt bids i).count
-      (and_split (leb 1 (bidRowAt bids i).count) (leb (bidRowAt bids i).count (mostWindows t.kind))
+  some_window = leb-true 1 (bid_row_at bids i).count
+      (and_split (leb 1 (bid_row_at bids i).count) (leb (bid_row_at bids i).count (most_windows t.kind))
       (o.kept i l).count).0
 
-  pub first-room : (bidRowAt bids i).first + 1 ≤ length windows / windowWidth
-  first-room = omega (arith, row_room, some-window)
+  pub first_room : (bid_row_at bids i).first + 1 ≤ length windows / window_width
+  first_room = omega (arith, row_room, some_window)
 
 -- the window passed next is lawful, and so are those after it
-pub here-lawful : (windows : List ℕ) (first count j : ℕ) → j < count → rowsAhead windows first count j ≡ true →
-    ((windowAt windows (first + j)).start ≤ (windowAt windows (first + j)).end) × (rowsAhead windows first count (j + 1) ≡ true)
-here-lawful windows first count j l e =
-    let a = and_split (ltb (windowAt windows (first + j)).start (windowAt windows (first + j)).end
-    && leb (windowAt windows (first + j)).end 10080) (rowsAhead windows first count (j + 1))
+pub here_lawful : (windows : List ℕ) (first count j : ℕ) → j < count → rows_ahead windows first count j ≡ true →
+    ((window_at windows (first + j)).start ≤ (window_at windows (first + j)).end) × (rows_ahead windows first count (j + 1) ≡ true)
+here_lawful windows first count j l e =
+    let a = and_split (ltb (window_at windows (first + j)).start (window_at windows (first + j)).end
+    && leb (window_at windows (first + j)).end 10080) (rows_ahead windows first count (j + 1))
     (sym (ahead_more windows first count j l) ∙ e) in
-    let b = and_split (ltb (windowAt windows (first + j)).start (windowAt windows (first + j)).end)
-    (leb (windowAt windows (first + j)).end 10080) a.0 in
-    (omega (arith, ltb-true (windowAt windows (first + j)).start (windowAt windows (first + j)).end b.0), a.1)
+    let b = and_split (ltb (window_at windows (first + j)).start (window_at windows (first + j)).end)
+    (leb (window_at windows (first + j)).end 10080) a.0 in
+    (omega (arith, ltb-true (window_at windows (first + j)).start (window_at windows (first + j)).end b.0), a.1)

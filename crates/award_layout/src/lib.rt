@@ -1,10 +1,12 @@
 // Faultless tables laid out as bids over cells, in plain numbers: the prices, the starts and ends of bids of one window,
 // and the words of bids of several windows. Minutes outside the tender are clipped.
+#![tactic(auto)]
+
 ghost use Rattle.std.specs.Prelude.{◌≡◌, ℕ, ◌+◌, ◌*◌, ◌/◌, ◌≤◌, ◌<◌, length, get_or, drop, true};
-ghost use Rattle.tender.specs.Limits.{maxBids, lawful, every};
-ghost use Rattle.tender.specs.Tables.{windowsOf, bidWidth, windowWidth};
+ghost use Rattle.tender.specs.Limits.{max_bids, lawful, every};
+ghost use Rattle.tender.specs.Tables.{windows_of, bid_width, window_width};
 ghost use Rattle.cells.specs.Masks.{masks};
-ghost use Rattle.award_check.specs.Cells.{cells_of, minuteOf};
+ghost use Rattle.award_check.specs.Cells.{cells_of, minute_of};
 ghost use Rattle.award_check.specs.Auction.{houses};
 ghost use Rattle.award_layout.specs.Orderly.{Orderly, clipped, PricesLaid, SpansLaid, Masked, AllMasked};
 
@@ -22,7 +24,7 @@ pub fn cells(tender: Tender) -> u64
 // The minute of a cell.
 pub fn minute(tender: Tender, cell: u64) -> u64
     requires { cell < cells_of tender }
-    ensures { result ≡ minuteOf tender cell }
+    ensures { result ≡ minute_of tender cell }
 {
     let window = tender.window;
     window.start + cell
@@ -30,7 +32,7 @@ pub fn minute(tender: Tender, cell: u64) -> u64
 
 // How many entries there are: the bids and, where there is a reserve, the house.
 pub fn entries(tender: Tender, count: usize) -> usize
-    requires { count ≤ maxBids }
+    requires { count ≤ max_bids }
     ensures { result ≡ count + houses tender.reserve }
 {
     let reserve = tender.reserve;
@@ -42,7 +44,7 @@ pub fn entries(tender: Tender, count: usize) -> usize
 
 // The prices of the bids.
 pub fn prices(bids: &[u64], out: &mut [u64])
-    requires { length out.old ≤ length bids.now / bidWidth }
+    requires { length out.old ≤ length bids.now / bid_width }
     ensures { PricesLaid (length out.old) bids.now out.new }
 {
     let mut i = 0;
@@ -95,12 +97,12 @@ fn add_windows(
     count: usize,
     words: &mut [u64],
 )
-    requires count_in_bounds { (first + count ≤ length windows.now / windowWidth)
-        × ((every lawful (windowsOf count (drop (windowWidth * first) windows.now)) ≡ true)
+    requires count_in_bounds { (first + count ≤ length windows.now / window_width)
+        × ((every lawful (windows_of count (drop (window_width * first) windows.now)) ≡ true)
         × (((0 < cells_of tender) × (cells_of tender ≤ 64 * length words.old))
         × ((length words.old ≤ 158) × ((i : ℕ) → get_or words.old i 0 ≡ 0)))) }
     requires table_value { table.now ≡ masks }
-    ensures { Masked tender (windowsOf count (drop (windowWidth * first) windows.now)) words.new }
+    ensures { Masked tender (windows_of count (drop (window_width * first) windows.now)) words.new }
 {
     let mut j = 0;
     while j < count {
@@ -120,11 +122,11 @@ fn mask_row(
     count: usize,
     words: &mut [u64],
 )
-    requires count_in_bounds { (first + count ≤ length windows.now / windowWidth)
-        × ((every lawful (windowsOf count (drop (windowWidth * first) windows.now)) ≡ true)
+    requires count_in_bounds { (first + count ≤ length windows.now / window_width)
+        × ((every lawful (windows_of count (drop (window_width * first) windows.now)) ≡ true)
         × (((0 < cells_of tender) × (cells_of tender ≤ 64 * length words.old)) × (length words.old ≤ 158))) }
     requires table_value { table.now ≡ masks }
-    ensures { Masked tender (windowsOf count (drop (windowWidth * first) windows.now)) words.new }
+    ensures { Masked tender (windows_of count (drop (window_width * first) windows.now)) words.new }
 {
     cells::clear(words);
     add_windows(tender, table, windows, first, count, words);

@@ -9,10 +9,10 @@ unfoldable pub lost : AwardRow
 lost = record { won = false; cents = 0 }
 
 -- the row of bid i; in a refused tender nobody wins
-unfoldable pub rowFor : Outcome → ℕ → AwardRow
+unfoldable pub row_for : Outcome → ℕ → AwardRow
 unfolding lost
-rowFor (awarded rows totals) i = get_or rows i lost
-rowFor (refused r) i = lost
+row_for (awarded rows totals) i = get_or rows i lost
+row_for (refused r) i = lost
 
 -- the payment less the true cost for a winner, and 0 for a loser or in a refused tender
 unfoldable pub gain : ℕ → AwardRow → ℤ

@@ -5,24 +5,24 @@ use Rattle.tender.specs.declared.Tender.{Tender}
 use Rattle.tender.specs.declared.AwardRow.{AwardRow}
 use Rattle.tender.specs.declared.Answer.{Answer}
 use Rattle.tender.specs.declared.Answer.TheVariants.{Awarded, Refused}
-use Rattle.award_rule.specs.Award.{Outcome, awarded, refused, awardOf}
+use Rattle.award_rule.specs.Award.{Outcome, awarded, refused, award_of}
 
 -- the lent award rows after the call: rows past the last bid stay, and all of them where the award declines
-unfoldable pub lentAfter : List AwardRow → Outcome → List AwardRow
-lentAfter old (awarded rows totals) = rows ++ drop (length rows) old
-lentAfter old (refused r) = old
+unfoldable pub lent_after : List AwardRow → Outcome → List AwardRow
+lent_after old (awarded rows totals) = rows ++ drop (length rows) old
+lent_after old (refused r) = old
 
 -- what a call on n bids told: its answer, and the first n of the lent rows where it awards
-unfoldable pub toldAward : ℕ → List AwardRow → Answer → Outcome
-toldAward n rows (Awarded totals) = awarded (take n rows) totals
-toldAward n rows (Refused r) = refused r
+unfoldable pub told_award : ℕ → List AwardRow → Answer → Outcome
+told_award n rows (Awarded totals) = awarded (take n rows) totals
+told_award n rows (Refused r) = refused r
 
 -- the promise of a call: it leaves the lent rows `new` and answers a
 pub record Promise (k : Kind) (t : Tender) (n : ℕ) (bids windows : List ℕ) (old new : List AwardRow) (a : Answer) : Type 0 where
-  pub answers : toldAward n new a ≡ awardOf k t n bids windows (length old)
-  pub rows : new ≡ lentAfter old (toldAward n new a)
+  pub answers : told_award n new a ≡ award_of k t n bids windows (length old)
+  pub rows : new ≡ lent_after old (told_award n new a)
 
 -- the award rows that an answer on n bids fills: one for each bid where it awards, none where it declines
-unfoldable pub rowsFilled : Answer → ℕ → ℕ
-rowsFilled (Awarded totals) n = n
-rowsFilled (Refused r) n = 0
+unfoldable pub rows_filled : Answer → ℕ → ℕ
+rows_filled (Awarded totals) n = n
+rows_filled (Refused r) n = 0

@@ -1,12 +1,14 @@
 // Totals of the flags and cents that an award leaves for its entries, and the owners' flags and cents put into lent lists. `award_rule`
 // has what an award answers (`Award`) and what is promised of plain lists (`Plain`).
+#![tactic(auto)]
+
 ghost use Rattle.std.specs.Prelude.{◌≡◌, ℕ, ◌≤◌, ◌<◌, length, get_or, eqb};
-ghost use Rattle.tender.specs.Limits.{maxEntries};
+ghost use Rattle.tender.specs.Limits.{max_entries};
 ghost use Rattle.cover.specs.Sets.{when};
-ghost use Rattle.cover.specs.Settled.{mostCents};
+ghost use Rattle.cover.specs.Settled.{most_cents};
 ghost use Rattle.cover.specs.SettledLaws.{FilledTo};
-ghost use Rattle.award_rule.specs.Sums.{costIn, paidIn, houseIn, totalsIn};
-ghost use Rattle.award_rule.specs.Plain.{toldIn, wonAfter, centsAfter};
+ghost use Rattle.award_rule.specs.Sums.{cost_in, paid_in, house_in, totals_in};
+ghost use Rattle.award_rule.specs.Plain.{told_in, won_after, cents_after};
 
 use tender::{Answer, Totals};
 
@@ -19,9 +21,9 @@ fn only(flag: u64, price: u64) -> u64
 
 // What the entries whose flag is 1 ask in all.
 fn cost(prices: &[u64], won: &[u64]) -> u64
-    requires { (length prices.now ≤ maxEntries) × ((length prices.now ≤ length won.now)
-        × ((i : ℕ) → i < length prices.now → get_or prices.now i 0 ≤ mostCents)) }
-    ensures { result ≡ costIn prices.now won.now }
+    requires { (length prices.now ≤ max_entries) × ((length prices.now ≤ length won.now)
+        × ((i : ℕ) → i < length prices.now → get_or prices.now i 0 ≤ most_cents)) }
+    ensures { result ≡ cost_in prices.now won.now }
 {
     let mut s: u64 = 0;
     let mut i: usize = 0;
@@ -34,9 +36,9 @@ fn cost(prices: &[u64], won: &[u64]) -> u64
 
 // What the first `owners` entries are paid in all.
 fn paid(cents: &[u64], owners: usize) -> u64
-    requires { (owners ≤ maxEntries) × ((owners ≤ length cents.now)
-        × ((i : ℕ) → i < owners → get_or cents.now i 0 ≤ mostCents)) }
-    ensures { result ≡ paidIn cents.now owners }
+    requires { (owners ≤ max_entries) × ((owners ≤ length cents.now)
+        × ((i : ℕ) → i < owners → get_or cents.now i 0 ≤ most_cents)) }
+    ensures { result ≡ paid_in cents.now owners }
 {
     let mut s: u64 = 0;
     let mut i: usize = 0;
@@ -50,18 +52,18 @@ fn paid(cents: &[u64], owners: usize) -> u64
 // Whether an entry stands after the owners' and won: the house.
 fn house(prices: &[u64], won: &[u64], owners: usize) -> bool
     requires { length prices.now ≤ length won.now }
-    ensures { result ≡ houseIn prices.now won.now owners }
+    ensures { result ≡ house_in prices.now won.now owners }
 {
     owners < prices.len() && won[owners] == 1
 }
 
 // The winners' cost over all entries, the sum paid to the first `owners` of them, and whether the house won.
 pub fn totals(prices: &[u64], won: &[u64], cents: &[u64], owners: usize) -> Totals
-    requires prices_len_bound { (length prices.now ≤ maxEntries) × ((length prices.now ≤ length won.now)
+    requires prices_len_bound { (length prices.now ≤ max_entries) × ((length prices.now ≤ length won.now)
         × ((length prices.now ≤ length cents.now) × (owners ≤ length prices.now))) }
     requires by_index { (i : ℕ) → i < length prices.now
-        → (get_or prices.now i 0 ≤ mostCents) × (get_or cents.now i 0 ≤ mostCents) }
-    ensures { result ≡ totalsIn prices.now won.now cents.now owners }
+        → (get_or prices.now i 0 ≤ most_cents) × (get_or cents.now i 0 ≤ most_cents) }
+    ensures { result ≡ totals_in prices.now won.now cents.now owners }
 {
     let cost = cost(prices, won);
     let paid = paid(cents, owners);
@@ -99,8 +101,8 @@ pub fn report(
 )
     requires { (n ≤ length flags.now) × ((n ≤ length pays.now)
         × ((n ≤ length won.old) × (n ≤ length cents.old))) }
-    ensures { (won.new ≡ wonAfter won.old (toldIn n flags.now pays.now answer))
-        × (cents.new ≡ centsAfter cents.old (toldIn n flags.now pays.now answer)) }
+    ensures { (won.new ≡ won_after won.old (told_in n flags.now pays.now answer))
+        × (cents.new ≡ cents_after cents.old (told_in n flags.now pays.now answer)) }
 {
     match answer {
         Answer::Awarded(_) => put_owners(n, flags, pays, won, cents),

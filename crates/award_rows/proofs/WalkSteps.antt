@@ -93,26 +93,26 @@ module _ {M : Type 1} {𝓤 : Ura M} {𝓛 : Logic 𝓤} {K : Type 0} {Γ : List
   last_of t k = fsplit t $ fsplit t $ move t (1 ∷ 2 ∷ []) $ feq_l t k
 
 -- the contract of these clauses
-abbrev pub contractOf : {M : Type 1} {𝓤 : Ura M} (𝓛 : Logic 𝓤) (T : Ended) → Clauses 𝓤 T → Contract 𝓤
-contractOf 𝓛 T c = triple_of 𝓛 T.signature (closing 𝓛 T c)
+abbrev pub contract_of : {M : Type 1} {𝓤 : Ura M} (𝓛 : Logic 𝓤) (T : Ended) → Clauses 𝓤 T → Contract 𝓤
+contract_of 𝓛 T c = triple_of 𝓛 T.signature (closing 𝓛 T c)
 
 module _ {M : Type 1} {𝓤 : Ura M} {K : Type 0} (𝓛 : Logic 𝓤) {Γ : List (Item 𝓤)} {E : Env 𝓤 𝓛.H}
     {C : Calls 𝓤 𝓛.H} {Λ : Loops 𝓤 𝓛.H} {q : Post 𝓤 𝓛.H} {g : Name} {xs : List Operand} {d : Place} {rest : Body} where
   open 𝓛 use {H}
 
-  pub called : K → FmC 𝓤 H 𝓛.laws C → (T : Ended) (c : Clauses 𝓤 T) → Triple 𝓤 (C g) (contractOf 𝓛 T c)
-      → (y : (contractOf 𝓛 T c).Ghost) {i : Item 𝓤} → ent 𝓤 (mean 𝓛 i) ((contractOf 𝓛 T c).pre y)
+  pub called : K → FmC 𝓤 H 𝓛.laws C → (T : Ended) (c : Clauses 𝓤 T) → Triple 𝓤 (C g) (contract_of 𝓛 T c)
+      → (y : (contract_of 𝓛 T c).Ghost) {i : Item 𝓤} → ent 𝓤 (mean 𝓛 i) ((contract_of 𝓛 T c).pre y)
       → (Tokens : Item 𝓤) → ent 𝓤 (alive 𝓛 T.signature y.0.0 y.0.1) (mean 𝓛 Tokens)
       → (Says : Res T.signature y.0.0 → Lasts T y.0.0 y.0.3 → Type 0)
       → ((r : Res T.signature y.0.0) (ws : Lasts T y.0.0 y.0.3)
       → ent 𝓤 ((c y.0.0 y.0.3).ensures y.1 r (at_exit T y.0.0 y.0.3 ws)) (fact 𝓤 (Says r ws)))
-      → Opds K 𝓛 (raw ((contractOf 𝓛 T c).pre y) ∷ Γ) E xs ((contractOf 𝓛 T c).args y)
+      → Opds K 𝓛 (raw ((contract_of 𝓛 T c).pre y) ∷ Γ) E xs ((contract_of 𝓛 T c).args y)
       → ((v : Val) (r : Res T.signature y.0.0) (ws : Lasts T y.0.0 y.0.3) → Says r ws
       → Is (type_at T.signature.result y.0.0) r (v ∷ [])
       → Seq K 𝓛 (‵ (lasts T y.0.0 y.0.3 ws) ∷ Tokens ∷ Γ) (lands C Λ E d v rest q))
       → Seq K 𝓛 (i ∷ Γ) (runs C Λ E (seq (call g xs d) rest) q)
   called t fm T c known y goes Tokens tokens Says says passed k =
-      use1 𝓛 (raw ((contractOf 𝓛 T c).pre y)) goes $ calls_at t fm (contractOf 𝓛 T c) known y passed (λ v.
+      use1 𝓛 (raw ((contract_of 𝓛 T c).pre y)) goes $ calls_at t fm (contract_of 𝓛 T c) known y passed (λ v.
       use1 𝓛 (later (some (λ (r : Res T.signature y.0.0). (raw (alive 𝓛 T.signature y.0.0 y.0.1)
       ⊛ ‵ (R.own r (v ∷ []))) ⊛ raw (ensured 𝓛 T c y.0.0 y.0.3 y.1 r)))) (id⊢ 𝓤 _) $ await t tt $ pick t (λ r.
       split t $ split t $ use1 𝓛 Tokens tokens $ move t (1 ∷ []) $ facts t R (Is R) (shows 𝓛 R) r (v ∷ []) (λ is.

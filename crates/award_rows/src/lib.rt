@@ -1,7 +1,9 @@
 // Award rows from the flags and cents of the bids: how many rows an answer fills, and a lent slice of rows filled.
+#![tactic(auto)]
+
 ghost use Rattle.std.specs.Prelude.{◌≡◌, ◌++◌, ◌≤◌, length, drop};
-ghost use Rattle.award_rule.specs.Plain.{row_of, rowsIn};
-ghost use Rattle.award_outcome.specs.Promise.{rowsFilled};
+ghost use Rattle.award_rule.specs.Plain.{row_of, rows_in};
+ghost use Rattle.award_outcome.specs.Promise.{rows_filled};
 
 use tender::{Answer, AwardRow};
 
@@ -18,7 +20,7 @@ fn row_of(flag: u64, paid: u64) -> AwardRow
 // Fills one award row for each of the n bids, in entry order, from its flag and cents. Rows past the last bid stay.
 pub fn fill(rows: &mut [AwardRow], won: &[u64], cents: &[u64], n: usize)
     requires { (n ≤ length rows.old) × ((n ≤ length won.now) × (n ≤ length cents.now)) }
-    ensures { rows.new ≡ rowsIn n won.now cents.now ++ drop n rows.old }
+    ensures { rows.new ≡ rows_in n won.now cents.now ++ drop n rows.old }
 {
     let mut i = 0;
     while i < n {
@@ -29,7 +31,7 @@ pub fn fill(rows: &mut [AwardRow], won: &[u64], cents: &[u64], n: usize)
 
 // The award rows that an answer fills: one for each bid where it awards, none where it declines.
 pub fn rows_filled(answer: Answer, count: usize) -> usize
-    ensures { result ≡ rowsFilled answer count }
+    ensures { result ≡ rows_filled answer count }
 {
     match answer {
         Answer::Awarded(totals) => count,

@@ -9,50 +9,50 @@ use Rattle.tender.specs.declared.Window.{Window}
 use Rattle.tender.specs.declared.Tender.{Tender}
 use Rattle.tender.specs.declared.Refusal.TheVariants.{MinuteUncovered, OneBidder}
 use Rattle.tender.specs.Refusals.{number_of}
-use Rattle.tender.specs.Tables.{Row, flatRows, flatWindows}
+use Rattle.tender.specs.Tables.{Row, flat_rows, flat_windows}
 use Rattle.cover.specs.Sets.{Found, nothing, found}
 use Rattle.reader_text.specs.Rules.{Rules}
-use Rattle.award_check.specs.Auction.{Auction, auctionOf, thinCell}
-use Rattle.award_check.specs.AuctionLaws.{auction-read}
-use Rattle.award_check.specs.Faults.{faultOf}
-use Rattle.award_check.specs.TextLaws.{never-nine}
-use Rattle.award_rule.specs.Award.{rule, Outcome, uncovered, lone, thinned, settled, awardOf, outcomeNumber, outcomePlace}
-use Rattle.award_rule.specs.AwardLaws.{settled_is, award-none}
+use Rattle.award_check.specs.Auction.{Auction, auction_of, thin_cell}
+use Rattle.award_check.specs.AuctionLaws.{auction_read}
+use Rattle.award_check.specs.Faults.{fault_of}
+use Rattle.award_check.specs.TextLaws.{never_nine}
+use Rattle.award_rule.specs.Award.{rule, Outcome, uncovered, lone, thinned, settled, award_of, outcome_number, outcome_place}
+use Rattle.award_rule.specs.AwardLaws.{settled_is, award_none}
 
 module _ (T : Tender) (R : List Row) (W : List Window) (rules : Rules T R W) where
-  pub sound-alone : faultOf T.kind T (length R) (flatRows R) (flatWindows W) ≡ none
-  sound-alone = rw (append-nil (flatRows R), append-nil (flatWindows W)) at (never-nine T R W [] [] rules)
+  pub sound_alone : fault_of T.kind T (length R) (flat_rows R) (flat_windows W) ≡ none
+  sound_alone = rw (append-nil (flat_rows R), append-nil (flat_windows W)) at (never_nine T R W [] [] rules)
 
-  pub award-read : (v w : List ℕ) (lent : ℕ) → length R ≤ lent
-      → awardOf T.kind T (length R) (flatRows R ++ v) (flatWindows W ++ w) lent
-      ≡ awardOf T.kind T (length R) (flatRows R) (flatWindows W) (length R)
-  award-read v w lent l =
-      award-none T.kind T (length R) (flatRows R ++ v) (flatWindows W ++ w) lent (never-nine T R W v w rules)
-      ∙ rw (le-ltb lent (length R) l, auction-read T R W rules v w)
-      (sym (award-none T.kind T (length R) (flatRows R) (flatWindows W) (length R) sound-alone
+  pub award_read : (v w : List ℕ) (lent : ℕ) → length R ≤ lent
+      → award_of T.kind T (length R) (flat_rows R ++ v) (flat_windows W ++ w) lent
+      ≡ award_of T.kind T (length R) (flat_rows R) (flat_windows W) (length R)
+  award_read v w lent l =
+      award_none T.kind T (length R) (flat_rows R ++ v) (flat_windows W ++ w) lent (never_nine T R W v w rules)
+      ∙ rw (le-ltb lent (length R) l, auction_read T R W rules v w)
+      (sym (award_none T.kind T (length R) (flat_rows R) (flat_windows W) (length R) sound_alone
       ∙ rw (le-ltb (length R) (length R) (omega arith))))
 
   -- the award on what was read is made, or declined with 11 or 12: never with 9 or 10
-  pub award-number : let o = awardOf T.kind T (length R) (flatRows R) (flatWindows W) (length R) in (outcomeNumber o ≡ 0)
-      ⊎ ((outcomeNumber o ≡ number_of (MinuteUncovered (outcomePlace o)))
-      ⊎ (outcomeNumber o ≡ number_of (OneBidder (outcomePlace o))))
-  unfolding outcomeNumber thinned uncovered lone
-  award-number = rw (
-    award-none T.kind T (length R) (flatRows R) (flatWindows W) (length R) sound-alone,
+  pub award_number : let o = award_of T.kind T (length R) (flat_rows R) (flat_windows W) (length R) in (outcome_number o ≡ 0)
+      ⊎ ((outcome_number o ≡ number_of (MinuteUncovered (outcome_place o)))
+      ⊎ (outcome_number o ≡ number_of (OneBidder (outcome_place o))))
+  unfolding outcome_number thinned uncovered lone
+  award_number = rw (
+    award_none T.kind T (length R) (flat_rows R) (flat_windows W) (length R) sound_alone,
     le-ltb (length R) (length R) (omega arith),
   )
-      (go (thinCell A 0) (thinCell A 1) refl refl)
+      (go (thin_cell A 0) (thin_cell A 1) refl refl)
     where
       A : Auction
-      A = auctionOf T (length R) (flatRows R) (flatWindows W)
+      A = auction_of T (length R) (flat_rows R) (flat_windows W)
 
       o : Outcome
       o = settled (rule T.kind) A (uncovered T) (lone T)
 
-      go : (x y : Found) → thinCell A 0 ≡ x → thinCell A 1 ≡ y → (outcomeNumber o ≡ 0)
-          ⊎ ((outcomeNumber o ≡ number_of (MinuteUncovered (outcomePlace o)))
-          ⊎ (outcomeNumber o ≡ number_of (OneBidder (outcomePlace o))))
-      go (found x) y e f = inr (inl (ap outcomeNumber (settled_is (rule T.kind) A (uncovered T) (lone T) (found x) y e f)))
-      go nothing (found x) e f = inr (inr (ap outcomeNumber
+      go : (x y : Found) → thin_cell A 0 ≡ x → thin_cell A 1 ≡ y → (outcome_number o ≡ 0)
+          ⊎ ((outcome_number o ≡ number_of (MinuteUncovered (outcome_place o)))
+          ⊎ (outcome_number o ≡ number_of (OneBidder (outcome_place o))))
+      go (found x) y e f = inr (inl (ap outcome_number (settled_is (rule T.kind) A (uncovered T) (lone T) (found x) y e f)))
+      go nothing (found x) e f = inr (inr (ap outcome_number
           (settled_is (rule T.kind) A (uncovered T) (lone T) nothing (found x) e f)))
-      go nothing nothing e f = inl (ap outcomeNumber (settled_is (rule T.kind) A (uncovered T) (lone T) nothing nothing e f))
+      go nothing nothing e f = inl (ap outcome_number (settled_is (rule T.kind) A (uncovered T) (lone T) nothing nothing e f))

@@ -11,19 +11,19 @@ abbrev pub asked : List ℕ → List ℕ → ℕ → ℕ
 asked ps won i = when (eqb (get_or won i 0) 1) (get_or ps i 0)
 
 -- what the entries whose flag is 1 ask in all
-unfoldable pub costIn : List ℕ → List ℕ → ℕ
+unfoldable pub cost_in : List ℕ → List ℕ → ℕ
 unfolding listed sum
-costIn ps won = sum (listed (length ps) (asked ps won))
+cost_in ps won = sum (listed (length ps) (asked ps won))
 
 -- what the first `owners` entries are paid in all
-unfoldable pub paidIn : List ℕ → ℕ → ℕ
+unfoldable pub paid_in : List ℕ → ℕ → ℕ
 unfolding listed sum
-paidIn cents owners = sum (listed owners (λ i. get_or cents i 0))
+paid_in cents owners = sum (listed owners (λ i. get_or cents i 0))
 
 -- an entry stands after the owners', and its flag is 1
-unfoldable pub houseIn : List ℕ → List ℕ → ℕ → Bool
-houseIn ps won owners = ltb owners (length ps) && eqb (get_or won owners 0) 1
+unfoldable pub house_in : List ℕ → List ℕ → ℕ → Bool
+house_in ps won owners = ltb owners (length ps) && eqb (get_or won owners 0) 1
 
-unfoldable pub totalsIn : List ℕ → List ℕ → List ℕ → ℕ → Totals
-unfolding costIn paidIn houseIn
-totalsIn ps won cents owners = record { cost = costIn ps won; paid = paidIn cents owners; house = houseIn ps won owners }
+unfoldable pub totals_in : List ℕ → List ℕ → List ℕ → ℕ → Totals
+unfolding cost_in paid_in house_in
+totals_in ps won cents owners = record { cost = cost_in ps won; paid = paid_in cents owners; house = house_in ps won owners }

@@ -1,11 +1,13 @@
 // The award of a tender of either kind over plain lists: a refusal, 9 to 12, or a flag and the cents paid for each bid, and the totals.
 // What it answers is in `award_plain` Award, what is promised of plain lists in `award_plain` Plain.
+#![tactic(auto)]
+
 ghost use Rattle.std.specs.Prelude.{◌≡◌, ◌≤◌, min, length};
 ghost use Rattle.std.proofs.Math.Option.{none};
-ghost use Rattle.tender.specs.Limits.{maxEntries};
-ghost use Rattle.award_check.specs.Faults.{faultOf};
-ghost use Rattle.award_rule.specs.Award.{awardOf};
-ghost use Rattle.award_rule.specs.Plain.{toldIn, PlainPromise};
+ghost use Rattle.tender.specs.Limits.{max_entries};
+ghost use Rattle.award_check.specs.Faults.{fault_of};
+ghost use Rattle.award_rule.specs.Award.{award_of};
+ghost use Rattle.award_rule.specs.Plain.{told_in, PlainPromise};
 
 use award_fault::Check;
 use tender::{Answer, Kind, Refusal, Tender};
@@ -20,10 +22,10 @@ fn settle_entries(
     flags: &mut [u64],
     pays: &mut [u64],
 ) -> Answer
-    requires { (faultOf kind tender count bids.now windows.now ≡ none)
-        × ((length flags.old ≡ maxEntries) × (length pays.old ≡ maxEntries)) }
-    ensures { toldIn count flags.new pays.new result
-        ≡ awardOf kind tender count bids.now windows.now count }
+    requires { (fault_of kind tender count bids.now windows.now ≡ none)
+        × ((length flags.old ≡ max_entries) × (length pays.old ≡ max_entries)) }
+    ensures { told_in count flags.new pays.new result
+        ≡ award_of kind tender count bids.now windows.now count }
 {
     match kind {
         Kind::Single => award_entries::settle_single(tender, count, bids, windows, flags, pays),
@@ -41,7 +43,7 @@ pub fn settle_sound(
     won: &mut [u64],
     cents: &mut [u64],
 ) -> Answer
-    requires { (faultOf kind tender count bids.now windows.now ≡ none)
+    requires { (fault_of kind tender count bids.now windows.now ≡ none)
         × ((count ≤ length won.old) × (count ≤ length cents.old)) }
     ensures { PlainPromise kind tender count bids.now windows.now count won.old
         cents.old won.new cents.new result }

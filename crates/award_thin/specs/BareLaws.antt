@@ -6,8 +6,8 @@ use Rattle.std.proofs.Common.{arith}
 use borrow.Author.Tests.{lt-ltb, le-ltb}
 use Rattle.cover.specs.Sets.{when, bidders}
 use Rattle.award_thin.specs.Thin.{fewer, FirstOf}
-use Rattle.award_thin.specs.CountsLaws.{some-bidder}
-use Rattle.award_thin.specs.FirstsLaws.{one-more-before}
+use Rattle.award_thin.specs.CountsLaws.{some_bidder}
+use Rattle.award_thin.specs.FirstsLaws.{one_more_before}
 
 -- each cell before x has a bidder
 pub record Looking (has : ℕ → ℕ → Bool) (n L x : ℕ) : Type 0 where
@@ -21,8 +21,8 @@ pub record Asking (has : ℕ → ℕ → Bool) (n L x i : ℕ) : Type 0 where
   pub upto : i ≤ n
   pub none : bidders has i x ≡ 0
 
-pub looks-none : (has : ℕ → ℕ → Bool) (n L : ℕ) → Looking has n L 0
-looks-none has n L = record { inside = omega arith; before = λ y l. absurd (omega arith) }
+pub looks_none : (has : ℕ → ℕ → Bool) (n L : ℕ) → Looking has n L 0
+looks_none has n L = record { inside = omega arith; before = λ y l. absurd (omega arith) }
 
 pub asks_none : (has : ℕ → ℕ → Bool) (n L x : ℕ) → Looking has n L x → x < L → Asking has n L x 0
 unfolding bidders
@@ -33,26 +33,26 @@ module _ {has : ℕ → ℕ → Bool} {n L x i : ℕ} (a : Asking has n L x i) w
   unfolding fewer
   looks_on l e = record {
     inside = omega (arith, a.here);
-    before = one-more-before (fewer has n 1) x a.looking.before (le-ltb (bidders has n x) 1 (some-bidder has n x i l e));
+    before = one_more_before (fewer has n 1) x a.looking.before (le-ltb (bidders has n x) 1 (some_bidder has n x i l e));
   }
 
-  pub asks-on : i < n → has i x ≡ false → Asking has n L x (i + 1)
+  pub asks_on : i < n → has i x ≡ false → Asking has n L x (i + 1)
   unfolding bidders
-  asks-on l e = record {
+  asks_on l e = record {
     looking = a.looking;
     here = a.here;
     upto = omega arith;
     none = rw add-one (omega (arith, a.none, ap (λ b. when b 1) e));
   }
 
-  pub bare-found : n ≤ i → FirstOf (fewer has n 1) L x
+  pub bare_found : n ≤ i → FirstOf (fewer has n 1) L x
   unfolding fewer
-  bare-found l = let d : i ≡ n = omega (arith, a.upto) in
+  bare_found l = let d : i ≡ n = omega (arith, a.upto) in
       record {
         inside = a.looking.inside;
         here = λ k. lt-ltb (bidders has n x) 1 (omega (arith, rw d at a.none));
         before = a.looking.before;
       }
 
-pub bare-none : {has : ℕ → ℕ → Bool} {n L x : ℕ} → Looking has n L x → L ≤ x → FirstOf (fewer has n 1) L x
-bare-none h l = record { inside = h.inside; here = λ k. absurd (omega arith); before = h.before }
+pub bare_none : {has : ℕ → ℕ → Bool} {n L x : ℕ} → Looking has n L x → L ≤ x → FirstOf (fewer has n 1) L x
+bare_none h l = record { inside = h.inside; here = λ k. absurd (omega arith); before = h.before }

@@ -2,15 +2,15 @@
 use Rattle.std.specs.Prelude.{◌≡◌, Bool, true, false, List, ℕ, ◌+◌, ◌*◌, ◌≤◌, ◌<◌, length, get_or, leb, ltb}
 use Rattle.cells.specs.Cells.{bit_of, cell}
 use Rattle.cover.specs.Sets.{when, nothing, found, bidders}
-use Rattle.cover.specs.Earliest.{cellWith}
+use Rattle.cover.specs.Earliest.{cell_with}
 use Rattle.multi_market.specs.Market.{has}
 use Rattle.award_thin.specs.declared.Thin.{Thin}
 use Rattle.award_thin.specs.declared.Thin.TheVariants.{Nobody, Alone, Enough}
 
 abbrev pub Says : (ℕ → ℕ → Bool) → ℕ → ℕ → Thin → Type 0
-Says has n L (Nobody x) = cellWith has n L 0 ≡ found x
-Says has n L (Alone x) = (cellWith has n L 0 ≡ nothing) × (cellWith has n L 1 ≡ found x)
-Says has n L Enough = (cellWith has n L 0 ≡ nothing) × (cellWith has n L 1 ≡ nothing)
+Says has n L (Nobody x) = cell_with has n L 0 ≡ found x
+Says has n L (Alone x) = (cell_with has n L 0 ≡ nothing) × (cell_with has n L 1 ≡ found x)
+Says has n L Enough = (cell_with has n L 0 ≡ nothing) × (cell_with has n L 1 ≡ nothing)
 
 -- n windows, each from a start to an end that is no earlier and within L cells
 pub record Spans (starts ends : List ℕ) (L : ℕ) : Type 0 where

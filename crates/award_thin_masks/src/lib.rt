@@ -1,4 +1,6 @@
 // Whether each cell has two bidders, for bids as rows of words: the cells in two bids, word by word.
+#![tactic(auto)]
+
 ghost use Rattle.std.specs.Prelude.{◌≡◌, ◌+◌, ◌*◌, ◌≤◌, ◌<◌, length};
 ghost use Rattle.multi_market.specs.Market.{has};
 ghost use Rattle.award_thin.specs.Thin.{Says, fewer, Reached, Gathered, FirstOf};

@@ -6,12 +6,12 @@ use Rattle.std.proofs.Common.{sym, ap, ◌∙◌, ⊎_elim, add-one}
 use native.Mathlib.Omega.{arith}
 use Rattle.std.proofs.Math.ListN.{get_or}
 use borrow.Author.Tests.{lt-ltb, le-ltb, le-leb, lt-leb}
-use Rattle.cells.specs.StoreLaws.{lt-or-le}
+use Rattle.cells.specs.StoreLaws.{lt_or_le}
 use Rattle.cover.specs.Sets.{when, bidders}
 use Rattle.cover.specs.Settled.{spans}
 use Rattle.cover.specs.Intervals.{Order}
 use Rattle.award_thin.specs.Thin.{Spans, fewer, FirstOf}
-use Rattle.award_thin.specs.CountsLaws.{two-positions, two-at-positions}
+use Rattle.award_thin.specs.CountsLaws.{two_positions, two_at_positions}
 
 -- which of the bids in order has the cell
 abbrev placed : List ℕ → List ℕ → List ℕ → ℕ → ℕ → Bool
@@ -31,9 +31,9 @@ lies x y l = ap (λ b. when b 1) (lt-ltb x y l)
 past : (x y : ℕ) → y ≤ x → when (ltb x y) 1 ≡ 0
 past x y l = ap (λ b. when b 1) (le-ltb x y l)
 
-pub ends-begin : (starts ends order : List ℕ) (L : ℕ) → Ends starts ends order L 0 0 0
+pub ends_begin : (starts ends order : List ℕ) (L : ℕ) → Ends starts ends order L 0 0 0
 unfolding bidders
-ends-begin starts ends order L = record {
+ends_begin starts ends order L = record {
   upto = omega arith;
   falling = omega arith;
   inside = omega arith;
@@ -45,21 +45,21 @@ one_more : (has : ℕ → ℕ → Bool) (q x : ℕ) → bidders has (q + 1) x �
 unfolding bidders
 one_more has q x = ap (λ (m : ℕ). bidders has m x) (add-one q)
 
-more-bidders : (has : ℕ → ℕ → Bool) (q d x : ℕ) → bidders has q x ≤ bidders has (q + d) x
-more-bidders has q zero x = let e : q + 0 ≡ q = omega arith in rw e (omega arith)
-more-bidders has q (suc d) x = let e : q + suc d ≡ q + d + 1 = omega arith in
-    rw e (omega (arith, one_more has (q + d) x, more-bidders has q d x))
+more_bidders : (has : ℕ → ℕ → Bool) (q d x : ℕ) → bidders has q x ≤ bidders has (q + d) x
+more_bidders has q zero x = let e : q + 0 ≡ q = omega arith in rw e (omega arith)
+more_bidders has q (suc d) x = let e : q + suc d ≡ q + d + 1 = omega arith in
+    rw e (omega (arith, one_more has (q + d) x, more_bidders has q d x))
 
-no-more-bidders : (has : ℕ → ℕ → Bool) (q d x : ℕ) → ((r : ℕ) → q ≤ r → r < q + d → has r x ≡ false)
+no_more_bidders : (has : ℕ → ℕ → Bool) (q d x : ℕ) → ((r : ℕ) → q ≤ r → r < q + d → has r x ≡ false)
     → bidders has (q + d) x ≡ bidders has q x
-no-more-bidders has q zero x f = let e : q + 0 ≡ q = omega arith in ap (λ (m : ℕ). bidders has m x) e
-no-more-bidders has q (suc d) x f = let e : q + suc d ≡ q + d + 1 = omega arith in
+no_more_bidders has q zero x f = let e : q + 0 ≡ q = omega arith in ap (λ (m : ℕ). bidders has m x) e
+no_more_bidders has q (suc d) x f = let e : q + suc d ≡ q + d + 1 = omega arith in
     ap (λ (m : ℕ). bidders has m x) e
     ∙ omega (
       arith,
       one_more has (q + d) x,
       ap (λ b. when b 1) (f (q + d) (omega arith) (omega arith)),
-      no-more-bidders has q d x (λ r l m. f r l (omega arith)),
+      no_more_bidders has q d x (λ r l m. f r l (omega arith)),
     )
 
 module _ {starts ends order : List ℕ} {L q first second : ℕ} (g : Ends starts ends order L q first second)
@@ -71,13 +71,13 @@ module _ {starts ends order : List ℕ} {L q first second : ℕ} (g : Ends start
   end = get_or ends (get_or order q 0) 0
 
   -- one bid more, which begins where two still reach
-  module _ (l : q < length starts) (open-there : begin ≤ second) where
-    has-it : (x : ℕ) → second ≤ x → when (placed starts ends order q x) 1 ≡ when (ltb x end) 1
+  module _ (l : q < length starts) (open_there : begin ≤ second) where
+    has_it : (x : ℕ) → second ≤ x → when (placed starts ends order q x) 1 ≡ when (ltb x end) 1
     unfolding spans
-    has-it x m = rw (le-leb begin x (omega (arith, open-there))) refl
+    has_it x m = rw (le-leb begin x (omega (arith, open_there))) refl
 
     here : (x : ℕ) → second ≤ x → bidders (placed starts ends order) (q + 1) x ≡ when (ltb x end) 1 + when (ltb x first) 1
-    here x m = omega (arith, one_more (placed starts ends order) q x, has-it x m, g.rest x m)
+    here x m = omega (arith, one_more (placed starts ends order) q x, has_it x m, g.rest x m)
 
     pub ends_more : Ends starts ends order L (q + 1) (max first end) (max second (min first end))
     ends_more = record {
@@ -85,13 +85,13 @@ module _ {starts ends order : List ℕ} {L q first second : ℕ} (g : Ends start
       falling = omega (arith, g.falling);
       inside = omega (arith, g.inside, s.inside (get_or order q 0));
       two = λ x m. ⊎_elim (λ lt. omega (arith, one_more (placed starts ends order) q x, g.two x lt))
-          (λ le. omega (arith, here x le, lies x end (omega arith), lies x first (omega arith))) (lt-or-le x second);
+          (λ le. omega (arith, here x le, lies x end (omega arith), lies x first (omega arith))) (lt_or_le x second);
       rest = λ x m. here x (omega arith)
           ∙ ⊎_elim (λ lt. ⊎_elim (λ lt'. absurd (omega arith))
-          (λ le. omega (arith, lies x end lt, past x first le, lies x (max first end) (omega arith))) (lt-or-le x first))
+          (λ le. omega (arith, lies x end lt, past x first le, lies x (max first end) (omega arith))) (lt_or_le x first))
           (λ le. ⊎_elim (λ lt. omega (arith, past x end le, lies x first lt, lies x (max first end) (omega arith)))
-          (λ le'. omega (arith, past x end le, past x first le', past x (max first end) (omega arith))) (lt-or-le x first))
-          (lt-or-le x end);
+          (λ le'. omega (arith, past x end le, past x first le', past x (max first end) (omega arith))) (lt_or_le x first))
+          (lt_or_le x end);
     }
 
   -- no bid that is left begins before the second greatest end
@@ -107,14 +107,14 @@ module _ {starts ends order : List ℕ} {L q first second : ℕ} (g : Ends start
     one_at_most : bidders (placed starts ends order) (length starts) second ≤ 1
     one_at_most = omega (
       arith,
-      rw all at (no-more-bidders (placed starts ends order) q (length starts - q) second not_there),
+      rw all at (no_more_bidders (placed starts ends order) q (length starts - q) second not_there),
       g.rest second (omega arith),
-      when-most (ltb second first),
+      when_most (ltb second first),
     )
       where
-        when-most : (b : Bool) → when b 1 ≤ 1
-        when-most true = omega arith
-        when-most false = omega arith
+        when_most : (b : Bool) → when b 1 ≤ 1
+        when_most true = omega arith
+        when_most false = omega arith
 
     pub ends_found : FirstOf (fewer (spans starts ends) (length starts) 2) L second
     unfolding fewer
@@ -124,9 +124,9 @@ module _ {starts ends order : List ℕ} {L q first second : ℕ} (g : Ends start
           (λ le. absurd (omega (
             arith,
             one_at_most,
-            two-positions (length starts) (λ i. get_or starts i 0) order o (spans starts ends) second le,
-          ))) (lt-or-le (bidders (spans starts ends) (length starts) second) 2));
+            two_positions (length starts) (λ i. get_or starts i 0) order o (spans starts ends) second le,
+          ))) (lt_or_le (bidders (spans starts ends) (length starts) second) 2));
       before = λ x l. le-ltb (bidders (spans starts ends) (length starts) x) 2
-          (two-at-positions (length starts) (λ i. get_or starts i 0) order o (spans starts ends) x
-          (omega (arith, g.two x l, rw all at (more-bidders (placed starts ends order) q (length starts - q) x))));
+          (two_at_positions (length starts) (λ i. get_or starts i 0) order o (spans starts ends) x
+          (omega (arith, g.two x l, rw all at (more_bidders (placed starts ends order) q (length starts - q) x))));
     }

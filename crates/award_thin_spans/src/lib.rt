@@ -1,4 +1,6 @@
 // Whether each cell has two bidders, for bids of one window each: a sweep over the bids in order of start.
+#![tactic(auto)]
+
 ghost use Rattle.std.specs.Prelude.{◌≡◌, ◌≤◌, ◌<◌, min, max, length, get_or};
 ghost use Rattle.cover.specs.Settled.{spans};
 ghost use Rattle.cover.specs.Intervals.{Order};

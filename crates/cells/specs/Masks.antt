@@ -14,6 +14,6 @@ masks =
     0x7fffffffffffffff ∷ 0xffffffffffffffff ∷ []
 
 -- the rule of the table as a test of all its entries: those from place k on are the numbers of k, k + 1, .. set bits
-unfoldable pub masksFrom : ℕ → List ℕ → Bool
-masksFrom k [] = true
-masksFrom k (m ∷ ms) = eqb m (2 ^ k - 1) && masksFrom (suc k) ms
+unfoldable pub masks_from : ℕ → List ℕ → Bool
+masks_from k [] = true
+masks_from k (m ∷ ms) = eqb m (2 ^ k - 1) && masks_from (suc k) ms

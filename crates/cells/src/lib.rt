@@ -1,6 +1,8 @@
 // Sets of cells as rows of 64-bit words: cell x is bit x % 64 of word x / 64.
 // Each function says what every cell is before and after: `close` clears the cells of a mask, `clear` all of them, `add_range` and
 // `add` set cells, `holds` reads one, `next` finds the first of one row that is not in another.
+#![tactic(auto)]
+
 ghost use Rattle.std.specs.Prelude.{◌≡◌, ◌+◌, ◌*◌, ◌-◌, ◌^◌, ◌<◌, ◌≤◌, length, eqb};
 ghost use Rattle.cells.specs.Masks.{masks};
 ghost use Rattle.cells.specs.Cells.{cell, Closed, Cleared, Span, RangeAdded, Next};

@@ -14,19 +14,19 @@ pub record Hops (mask hop : List ℕ) : Type 0 where
       → get_or mask p 0 ≡ 0
 
 -- how many cells the words before word q have
-unfoldable pub cellsTo : List ℕ → ℕ → ℕ
+unfoldable pub cells_to : List ℕ → ℕ → ℕ
 unfolding total
-cellsTo words q = total (λ p. ones (get_or words p 0)) q
+cells_to words q = total (λ p. ones (get_or words p 0)) q
 
 -- the word up to which the cells are counted: the last entry of the sums
-abbrev pub countedTo : List ℕ → List ℕ → ℕ
-countedTo words counts = get_or counts (length words + 1) 0
+abbrev pub counted_to : List ℕ → List ℕ → ℕ
+counted_to words counts = get_or counts (length words + 1) 0
 
 -- the sums of the cells before each word, as far as they are counted
 pub record Counted (words counts : List ℕ) : Type 0 where
   pub size : length counts ≡ length words + 2
-  pub known : countedTo words counts ≤ length words
-  pub each : (q : ℕ) → q ≤ countedTo words counts → get_or counts q 0 ≡ cellsTo words q
+  pub known : counted_to words counts ≤ length words
+  pub each : (q : ℕ) → q ≤ counted_to words counts → get_or counts q 0 ≡ cells_to words q
 
 -- the word q of the mask is followed by the word r, and those between have no cell
 pub record Onward (mask : List ℕ) (q r : ℕ) : Type 0 where

@@ -1,10 +1,12 @@
 // Cells counted and cleared along a mask. `reach` counts the cells of two rows in common, `close_counted` clears the cells of a mask.
 // Both walk the mask by its hops, over the words that have a cell alone. `reach` counts a run of whole words by sums of the cells before
 // each word, which it counts on as far as it needs them and `close_counted` forgets from the first word that it clears.
+#![tactic(auto)]
+
 ghost use Rattle.std.specs.Prelude.{◌≡◌, ℕ, ◌+◌, ◌<◌, ◌≤◌, length, get_or};
 ghost use Rattle.std.specs.Int.Count.{ones};
 ghost use Rattle.cells.specs.Cells.{common, Closed};
-ghost use Rattle.cells_count.specs.Hops.{Hops, countedTo, Counted, Onward};
+ghost use Rattle.cells_count.specs.Hops.{Hops, counted_to, Counted, Onward};
 
 fn wide(x: u8) -> usize
     ensures { result ≡ x }
@@ -25,7 +27,7 @@ pub fn count_none(words: &[u64], counts: &mut [u64])
 fn count_to(words: &[u64], counts: &mut [u64], e: usize)
     requires { Counted words.now counts.old × ((e ≤ length words.now) × (length words.now ≤ 158)) }
     ensures { Counted words.now counts.new
-        × (e ≤ countedTo words.now counts.new) }
+        × (e ≤ counted_to words.now counts.new) }
 {
     let last = words.len() + 1;
     let mut q = counts[last] as usize;
@@ -45,7 +47,7 @@ fn count_to(words: &[u64], counts: &mut [u64], e: usize)
 fn count_back(words: &[u64], counts: &mut [u64], q: usize)
     requires { Counted words.now counts.old × ((q ≤ length words.now) × (length words.now ≤ 158)) }
     ensures { Counted words.now counts.new
-        × (countedTo words.now counts.new ≤ q) }
+        × (counted_to words.now counts.new ≤ q) }
 {
     let last = words.len() + 1;
     if q < counts[last] as usize {

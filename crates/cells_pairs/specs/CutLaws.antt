@@ -10,14 +10,14 @@ use Rattle.std.specs.Int.Bits.{bit_and}
 use Rattle.std.proofs.lemmas.Nat.{and_le_l}
 use Rattle.std.specs.Int.Count.{ones, ones_step}
 use Rattle.cells.specs.Cells.{bit_of, cell, total, both, common}
-use Rattle.cells.specs.BitLaws.{and-bit, zero_bit}
+use Rattle.cells.specs.BitLaws.{and_bit, zero_bit}
 use Rattle.cells.specs.LowestLaws.{two}
-use Rattle.cells.specs.StoreLaws.{lt-or-le, cell-past}
+use Rattle.cells.specs.StoreLaws.{lt_or_le, cell_past}
 use Rattle.cells_count.specs.Hops.{Onward}
-use Rattle.cells_count.specs.SumLaws.{total-add, word_more}
-use Rattle.cells_count.specs.WalkLaws.{bare-cells}
-use Rattle.cells_pairs.specs.Pairs.{inPair, inPairs, Cut}
-use Rattle.cells_pairs.specs.PairLaws.{pair-here, pair-elsewhere, pairs-none, pairs-more, pairs-same}
+use Rattle.cells_count.specs.SumLaws.{total_add, word_more}
+use Rattle.cells_count.specs.WalkLaws.{bare_cells}
+use Rattle.cells_pairs.specs.Pairs.{in_pair, in_pairs, Cut}
+use Rattle.cells_pairs.specs.PairLaws.{pair_here, pair_elsewhere, pairs_none, pairs_more, pairs_same}
 
 abbrev at : List ℕ → ℕ → ℕ
 at xs q = get_or xs q 0
@@ -31,12 +31,12 @@ some_one (suc n) w l z = ⊎_elim
     (two (w % 2) (omega arith))
 
 -- more words have no fewer cells in common
-total-grows : (f : ℕ → ℕ) (m n : ℕ) → m ≤ n → total f m ≤ total f n
-total-grows f m n l = let e : m + (n - m) ≡ n = omega arith in
-    omega (arith, ap (total f) (sym e), total-add f m (n - m))
+total_grows : (f : ℕ → ℕ) (m n : ℕ) → m ≤ n → total f m ≤ total f n
+total_grows f m n l = let e : m + (n - m) ≡ n = omega arith in
+    omega (arith, ap (total f) (sym e), total_add f m (n - m))
 
-min-both : (a b : ℕ) → a < 2 → b < 2 → eqb (min a b) 1 ≡ (eqb a 1 && eqb b 1)
-min-both a b l m = go (two a l) (two b m)
+min_both : (a b : ℕ) → a < 2 → b < 2 → eqb (min a b) 1 ≡ (eqb a 1 && eqb b 1)
+min_both a b l m = go (two a l) (two b m)
   where
     go : (a ≡ 0) ⊎ (a ≡ 1) → (b ≡ 0) ⊎ (b ≡ 1) → eqb (min a b) 1 ≡ (eqb a 1 && eqb b 1)
     go (inl d) (inl e) = rw (d, e)
@@ -50,40 +50,40 @@ pub record Cutting (held mask old new : List ℕ) (a q c : ℕ) : Type 0 where
   pub few : c ≤ a + total (both held mask) (64 * q)
   pub kept : (p : ℕ) → p < 2 * a → at new p ≡ at old p
   pub words : (p : ℕ) → a ≤ p → p < c → at new (2 * p) < q
-  pub done : (x : ℕ) → x < 64 * q → inPairs new a (c - a) x ≡ (eqb (cell held x) 1 && eqb (cell mask x) 1)
-  pub rest : (x : ℕ) → 64 * q ≤ x → inPairs new a (c - a) x ≡ false
+  pub done : (x : ℕ) → x < 64 * q → in_pairs new a (c - a) x ≡ (eqb (cell held x) 1 && eqb (cell mask x) 1)
+  pub rest : (x : ℕ) → 64 * q ≤ x → in_pairs new a (c - a) x ≡ false
 
-pub cutting-none : (held mask old : List ℕ) (a : ℕ) → Cutting held mask old old a 0 a
-cutting-none held mask old a = record {
+pub cutting_none : (held mask old : List ℕ) (a : ℕ) → Cutting held mask old old a 0 a
+cutting_none held mask old a = record {
   rising = omega arith;
   few = omega arith;
   kept = λ p l. refl;
   words = λ p l m. absurd (omega arith);
   done = λ x l. absurd (omega arith);
-  rest = λ x l. pairs-none old a x;
+  rest = λ x l. pairs_none old a x;
 }
 
 module _ (held mask : List ℕ) where
   -- the cells of word q that are in both
-  word-both : (q x : ℕ) → x / 64 ≡ q → eqb (bit_of (bit_and (at held q) (at mask q)) (x % 64)) 1
+  word_both : (q x : ℕ) → x / 64 ≡ q → eqb (bit_of (bit_and (at held q) (at mask q)) (x % 64)) 1
       ≡ (eqb (cell held x) 1 && eqb (cell mask x) 1)
   unfolding cell
-  word-both q x e = rw e (ap (λ (v : ℕ). eqb v 1) (and-bit (at held q) (at mask q) (x % 64))
-      ∙ min-both (bit_of (at held q) (x % 64)) (bit_of (at mask q) (x % 64)) (omega arith) (omega arith))
+  word_both q x e = rw e (ap (λ (v : ℕ). eqb v 1) (and_bit (at held q) (at mask q) (x % 64))
+      ∙ min_both (bit_of (at held q) (x % 64)) (bit_of (at mask q) (x % 64)) (omega arith) (omega arith))
 
-  bare-both : (x : ℕ) → at mask (x / 64) ≡ 0 → (eqb (cell held x) 1 && eqb (cell mask x) 1) ≡ false
-  bare-both x e = rw (bare-cells mask x e) (and-false (eqb (cell held x) 1))
+  bare_both : (x : ℕ) → at mask (x / 64) ≡ 0 → (eqb (cell held x) 1 && eqb (cell mask x) 1) ≡ false
+  bare_both x e = rw (bare_cells mask x e) (and-false (eqb (cell held x) 1))
 
   module _ {old new : List ℕ} {a q c : ℕ} (s : Cutting held mask old new a q c) where
     -- a word with no cell in common
-    pub cutting-bare : bit_and (at held q) (at mask q) ≡ 0 → Cutting held mask old new a (q + 1) c
-    cutting-bare z = record {
+    pub cutting_bare : bit_and (at held q) (at mask q) ≡ 0 → Cutting held mask old new a (q + 1) c
+    cutting_bare z = record {
       rising = s.rising;
-      few = omega (arith, s.few, total-grows (both held mask) (64 * q) (64 * (q + 1)) (omega arith));
+      few = omega (arith, s.few, total_grows (both held mask) (64 * q) (64 * (q + 1)) (omega arith));
       kept = s.kept;
       words = λ p l m. omega (arith, s.words p l m);
-      done = λ x l. ⊎_elim (s.done x) (λ y. s.rest x y ∙ sym (sym (word-both q x (omega arith))
-          ∙ rw (z, zero_bit (x % 64)) refl)) (lt-or-le x (64 * q));
+      done = λ x l. ⊎_elim (s.done x) (λ y. s.rest x y ∙ sym (sym (word_both q x (omega arith))
+          ∙ rw (z, zero_bit (x % 64)) refl)) (lt_or_le x (64 * q));
       rest = λ x l. s.rest x (omega arith);
     }
 
@@ -100,7 +100,7 @@ module _ (held mask : List ℕ) where
       -- and so a pair more
       pub pair_fits : q < length held → c + 1 ≤ a + common held mask
       unfolding common
-      pair_fits l = omega (arith, one_more, total-grows (both held mask) (64 * (q + 1)) (64 * length held) (omega arith))
+      pair_fits l = omega (arith, one_more, total_grows (both held mask) (64 * (q + 1)) (64 * length held) (omega arith))
 
       module _ (room : 2 * c + 1 < length new) where
         abbrev longer : List ℕ
@@ -110,55 +110,55 @@ module _ (held mask : List ℕ) where
         earlier p l = get_or-set_other (set new (2 * c) q) (2 * c + 1) p (bit_and (at held q) (at mask q)) 0 (λ e. omega arith)
             ∙ get_or-set_other new (2 * c) p q 0 (λ e. omega arith)
 
-        word-there : at longer (2 * c) ≡ q
-        word-there = get_or-set_other (set new (2 * c) q) (2 * c + 1) (2 * c) (bit_and (at held q) (at mask q)) 0 (λ e. omega arith)
+        word_there : at longer (2 * c) ≡ q
+        word_there = get_or-set_other (set new (2 * c) q) (2 * c + 1) (2 * c) (bit_and (at held q) (at mask q)) 0 (λ e. omega arith)
             ∙ get_or-set_same new (2 * c) q 0 (omega arith)
 
-        mask-there : at longer (2 * c + 1) ≡ bit_and (at held q) (at mask q)
-        mask-there = get_or-set_same (set new (2 * c) q) (2 * c + 1) (bit_and (at held q) (at mask q)) 0 (simp length-set room)
+        mask_there : at longer (2 * c + 1) ≡ bit_and (at held q) (at mask q)
+        mask_there = get_or-set_same (set new (2 * c) q) (2 * c + 1) (bit_and (at held q) (at mask q)) 0 (simp length-set room)
 
-        cells-there : (x : ℕ) → inPairs longer a (c + 1 - a) x ≡ (inPairs new a (c - a) x || inPair longer c x)
-        cells-there x = pairs-more longer a c s.rising x ∙ ap (λ (b : Bool). b || inPair longer c x)
-            (pairs-same new longer a (c - a) (λ p l m. earlier p (omega (arith, s.rising))) x)
+        cells_there : (x : ℕ) → in_pairs longer a (c + 1 - a) x ≡ (in_pairs new a (c - a) x || in_pair longer c x)
+        cells_there x = pairs_more longer a c s.rising x ∙ ap (λ (b : Bool). b || in_pair longer c x)
+            (pairs_same new longer a (c - a) (λ p l m. earlier p (omega (arith, s.rising))) x)
 
-        pub cutting-pair : Cutting held mask old longer a (q + 1) (c + 1)
-        cutting-pair = record {
+        pub cutting_pair : Cutting held mask old longer a (q + 1) (c + 1)
+        cutting_pair = record {
           rising = omega (arith, s.rising);
           few = one_more;
           kept = λ p l. earlier p (omega (arith, s.rising)) ∙ s.kept p l;
           words = λ p l m. ⊎_elim (λ y. rw (earlier (2 * p) (omega arith)) (omega (arith, s.words p l y)))
-              (λ (y : c ≤ p). let e : p ≡ c = omega arith in rw (e, word-there) (omega arith)) (lt-or-le p c);
-          done = λ x l. cells-there x ∙ ⊎_elim
-              (λ y. ap₂ (λ (b d : Bool). b || d) (s.done x y) (pair-elsewhere longer c x (λ e. omega (arith, word-there)))
+              (λ (y : c ≤ p). let e : p ≡ c = omega arith in rw (e, word_there) (omega arith)) (lt_or_le p c);
+          done = λ x l. cells_there x ∙ ⊎_elim
+              (λ y. ap₂ (λ (b d : Bool). b || d) (s.done x y) (pair_elsewhere longer c x (λ e. omega (arith, word_there)))
               ∙ or-false (eqb (cell held x) 1 && eqb (cell mask x) 1))
               (λ y. let e : x / 64 ≡ q = omega arith in
-              ap₂ (λ (b d : Bool). b || d) (s.rest x y) (pair-here longer c x (word-there ∙ sym e)
-              ∙ ap (λ (v : ℕ). eqb (bit_of v (x % 64)) 1) mask-there ∙ word-both q x e))
-              (lt-or-le x (64 * q));
-          rest = λ x l. cells-there x ∙ ap₂ (λ (b d : Bool). b || d) (s.rest x (omega arith))
-              (pair-elsewhere longer c x (λ e. omega (arith, word-there)));
+              ap₂ (λ (b d : Bool). b || d) (s.rest x y) (pair_here longer c x (word_there ∙ sym e)
+              ∙ ap (λ (v : ℕ). eqb (bit_of v (x % 64)) 1) mask_there ∙ word_both q x e))
+              (lt_or_le x (64 * q));
+          rest = λ x l. cells_there x ∙ ap₂ (λ (b d : Bool). b || d) (s.rest x (omega arith))
+              (pair_elsewhere longer c x (λ e. omega (arith, word_there)));
         }
 
   -- on over words of the mask that have no cell
-  pub cutting-on : {old new : List ℕ} {a q c : ℕ} (r : ℕ) → Cutting held mask old new a (q + 1) c → Onward mask q r
+  pub cutting_on : {old new : List ℕ} {a q c : ℕ} (r : ℕ) → Cutting held mask old new a (q + 1) c → Onward mask q r
       → Cutting held mask old new a r c
-  cutting-on {old} {new} {a} {q} {c} r s o = record {
+  cutting_on {old} {new} {a} {q} {c} r s o = record {
     rising = s.rising;
-    few = omega (arith, s.few, total-grows (both held mask) (64 * (q + 1)) (64 * r) (omega (arith, o.on)));
+    few = omega (arith, s.few, total_grows (both held mask) (64 * (q + 1)) (64 * r) (omega (arith, o.on)));
     kept = s.kept;
     words = λ p l m. omega (arith, s.words p l m, o.on);
-    done = λ x l. ⊎_elim (s.done x) (λ y. s.rest x y ∙ sym (bare-both x (o.gap (x / 64) (omega arith) (omega arith))))
-        (lt-or-le x (64 * (q + 1)));
+    done = λ x l. ⊎_elim (s.done x) (λ y. s.rest x y ∙ sym (bare_both x (o.gap (x / 64) (omega arith) (omega arith))))
+        (lt_or_le x (64 * (q + 1)));
     rest = λ x l. s.rest x (omega (arith, o.on));
   }
 
-  pub cutting-all : {old new : List ℕ} {a q c : ℕ} → Cutting held mask old new a q c → q ≡ length held
+  pub cutting_all : {old new : List ℕ} {a q c : ℕ} → Cutting held mask old new a q c → q ≡ length held
       → 2 * (a + common held mask) ≤ length new → Cut held mask old new a c
   unfolding common
-  cutting-all {old} {new} {a} {q} {c} s e room = let few = rw e at s.few in record {
+  cutting_all {old} {new} {a} {q} {c} s e room = let few = rw e at s.few in record {
     paired = record { rising = s.rising; room = omega (arith, few); words = λ p l m. rw e at (s.words p l m) };
     few = few;
     kept = s.kept;
     cells = λ x. ⊎_elim (s.done x) (λ y. s.rest x y ∙ sym (ap (λ (v : ℕ). eqb v 1 && eqb (cell mask x) 1)
-        (cell-past held x (omega arith)))) (lt-or-le x (64 * q));
+        (cell_past held x (omega arith)))) (lt_or_le x (64 * q));
   }

@@ -1,9 +1,11 @@
 // Cells written down as pairs of a word and a mask: `cut` writes those that a row of words has in common with a mask, `all_held` says
 // whether all of them are set in a row, and `close_pairs` clears them there.
+#![tactic(auto)]
+
 ghost use Rattle.std.specs.Prelude.{◌≡◌, ◌+◌, ◌-◌, ◌*◌, ◌<◌, ◌≤◌, length};
 ghost use Rattle.cells.specs.Cells.{common};
 ghost use Rattle.cells_count.specs.Hops.{Hops, Counted};
-ghost use Rattle.cells_pairs.specs.Pairs.{inPairs, Paired, Cut, Covering, Shut};
+ghost use Rattle.cells_pairs.specs.Pairs.{in_pairs, Paired, Cut, Covering, Shut};
 
 // Writes the cells that are held and in the mask as pairs from `at` on. Answers the place after them.
 pub fn cut(held: &[u64], mask: &[u64], hop: &[u8], pairs: &mut [u64], at: usize) -> usize
@@ -47,7 +49,7 @@ pub fn all_held(held: &[u64], pairs: &[u64], a: usize, z: usize) -> bool
 // Clears the cells of the pairs a up to z; the sums of the cells before each word are forgotten.
 pub fn close_pairs(held: &mut [u64], counts: &mut [u64], pairs: &[u64], a: usize, z: usize)
     requires { Paired pairs.now (length held.old) a z × ((length held.old ≤ 158) × Counted held.old counts.old) }
-    ensures { Shut held.old (inPairs pairs.now a (z - a)) held.new
+    ensures { Shut held.old (in_pairs pairs.now a (z - a)) held.new
         × Counted held.new counts.new }
 {
     counts[held.len() + 1] = 0;

@@ -8,16 +8,16 @@ use Rattle.cover.specs.Greedy.{Entry, reach, Rounds, stop, round, run, taken, le
 use Rattle.cover.specs.CriticalPrice.{late, withdrawn, bar}
 use Rattle.cover.specs.Chance.{chance}
 use Rattle.cover.specs.GreedyLaws.{rounds, follow}
-use Rattle.cover.specs.GreedyCoverLaws.{Each, Covered, covered-closes}
+use Rattle.cover.specs.GreedyCoverLaws.{Each, Covered, covered_closes}
 
 both : (a b : Bool) → (a ≡ true → b ≡ true) → (b ≡ true → a ≡ true) → a ≡ b
 both true b f g = sym (f refl)
 both false true f g = g refl
 both false false f g = refl
 
-pub share-right : (a : Bool) (p m l x : ℕ) → 0 < m → a && leb (p * m + l) x ≡ ltb p (when (a && leb l x) (suc ((x - l) / m)))
-share-right false p m l x g = sym (le-ltb p 0 (omega arith))
-share-right true p m l x g = go (leb l x) refl
+pub share_right : (a : Bool) (p m l x : ℕ) → 0 < m → a && leb (p * m + l) x ≡ ltb p (when (a && leb l x) (suc ((x - l) / m)))
+share_right false p m l x g = sym (le-ltb p 0 (omega arith))
+share_right true p m l x g = go (leb l x) refl
   where
     go : (t : Bool) → leb l x ≡ t → leb (p * m + l) x ≡ ltb p (when t (suc ((x - l) / m)))
     go true e = let h = leb-true l x e in both _ _
@@ -32,8 +32,8 @@ share-right true p m l x g = go (leb l x) refl
         )))
     go false e = lt-leb (p * m + l) x (omega (arith, leb-false l x e)) ∙ sym (le-ltb p 0 (omega arith))
 
-ltb-max : (p u v : ℕ) → ltb p u || ltb p v ≡ ltb p (max u v)
-ltb-max p u v = go (ltb p u) (ltb p v) refl refl
+ltb_max : (p u v : ℕ) → ltb p u || ltb p v ≡ ltb p (max u v)
+ltb_max p u v = go (ltb p u) (ltb p v) refl refl
   where
     go : (s t : Bool) → ltb p u ≡ s → ltb p v ≡ t → s || t ≡ ltb p (max u v)
     go true t e f = sym (lt-ltb p (max u v) (omega (arith, ltb-true p u e)))
@@ -45,27 +45,27 @@ abbrev Sound : Rounds → Type 0
 Sound (stop O) = Unit {0}
 Sound (round i c O t) = (0 < reach c.has O) × Sound t
 
-bar-right : (k p : ℕ) (h : ℕ → Bool) (t : Rounds) → Sound t → reach h (left t) ≡ 0 → chance k p h t ≡ ltb p (bar k h t)
+bar_right : (k p : ℕ) (h : ℕ → Bool) (t : Rounds) → Sound t → reach h (left t) ≡ 0 → chance k p h t ≡ ltb p (bar k h t)
 unfolding bar chance left
-bar-right k p h (stop O) s e = rw e (sym (le-ltb p 0 (omega arith)))
-bar-right k p h (round i c O t) s e = rw (
-  share-right (ltb 0 (reach h O)) p (reach c.has O) (late k i) (c.price * reach h O) s.0,
-  bar-right k p h t s.1 e,
-) (ltb-max p _ _)
+bar_right k p h (stop O) s e = rw e (sym (le-ltb p 0 (omega arith)))
+bar_right k p h (round i c O t) s e = rw (
+  share_right (ltb 0 (reach h O)) p (reach c.has O) (late k i) (c.price * reach h O) s.0,
+  bar_right k p h t s.1 e,
+) (ltb_max p _ _)
 
 -- where the bids withdrawn k cover all the cells, bid k is taken just where its price is below the bar
 pub under : (B : ℕ → Entry) (n k : ℕ) → k < n → (f : ℕ) (O : List ℕ) → length O ≤ f → Each (Covered (withdrawn k B) n) O
     → taken k (run B n f O) ≡ ltb (B k).price (bar k (B k).has (run (withdrawn k B) n f O))
 unfolding reach
-under B n k m f O l g = follow n k m B f O l ∙ bar-right k (B k).price (B k).has _
+under B n k m f O l g = follow n k m B f O l ∙ bar_right k (B k).price (B k).has _
     (rounds (withdrawn k B) n (λ O t. Sound t) (λ O e. tt) (λ O i t b ih. (b.good, ih)) f O l)
-    (ap (reach (B k).has) (covered-closes (withdrawn k B) n f O l g))
+    (ap (reach (B k).has) (covered_closes (withdrawn k B) n f O l g))
 
 -- fewer cells, a lower bar
-reach-fewer : (g h : ℕ → Bool) → ((x : ℕ) → g x ≡ true → h x ≡ true) → (O : List ℕ) → reach g O ≤ reach h O
+reach_fewer : (g h : ℕ → Bool) → ((x : ℕ) → g x ≡ true → h x ≡ true) → (O : List ℕ) → reach g O ≤ reach h O
 unfolding reach
-reach-fewer g h f [] = omega arith
-reach-fewer g h f (x ∷ O) = go (g x) (h x) (f x) (reach-fewer g h f O)
+reach_fewer g h f [] = omega arith
+reach_fewer g h f (x ∷ O) = go (g x) (h x) (f x) (reach_fewer g h f O)
   where
     go : (s t : Bool) → (s ≡ true → t ≡ true) → reach g O ≤ reach h O → when s 1 + reach g O ≤ when t 1 + reach h O
     go true true e l = omega arith
@@ -73,13 +73,13 @@ reach-fewer g h f (x ∷ O) = go (g x) (h x) (f x) (reach-fewer g h f O)
     go false true e l = omega arith
     go false false e l = omega arith
 
-pub div-le : (x y m : ℕ) → x ≤ y → x / m ≤ y / m
-div-le x y zero l = omega (arith, div-zero x)
-div-le x y (suc m) l = (le-div_iff_mul-le {k = suc m} {x = x / suc m} {y = y} (omega arith)).1 (omega (arith, div-mul-le_self x (suc m)))
+pub div_le : (x y m : ℕ) → x ≤ y → x / m ≤ y / m
+div_le x y zero l = omega (arith, div-zero x)
+div_le x y (suc m) l = (le-div_iff_mul-le {k = suc m} {x = x / suc m} {y = y} (omega arith)).1 (omega (arith, div-mul-le_self x (suc m)))
 
-share-fewer : (l m q r s : ℕ) → r ≤ s → when (ltb 0 r && leb l (q * r)) (suc ((q * r - l) / m))
+share_fewer : (l m q r s : ℕ) → r ≤ s → when (ltb 0 r && leb l (q * r)) (suc ((q * r - l) / m))
     ≤ when (ltb 0 s && leb l (q * s)) (suc ((q * s - l) / m))
-share-fewer l m q r s h = go (ltb 0 r) (leb l (q * r)) refl refl
+share_fewer l m q r s h = go (ltb 0 r) (leb l (q * r)) refl refl
   where
     go : (a b : Bool) → ltb 0 r ≡ a → leb l (q * r) ≡ b
         → when (a && b) (suc ((q * r - l) / m)) ≤ when (ltb 0 s && leb l (q * s)) (suc ((q * s - l) / m))
@@ -87,16 +87,16 @@ share-fewer l m q r s h = go (ltb 0 r) (leb l (q * r)) refl refl
       lt-ltb 0 s (omega (arith, ltb-true 0 r d)),
       le-leb l (q * s) (omega (arith, mul-le-mul_left q h, leb-true l (q * r) e)),
     )
-        (omega (arith, div-le (q * r - l) (q * s - l) m (omega (arith, mul-le-mul_left q h))))
+        (omega (arith, div_le (q * r - l) (q * s - l) m (omega (arith, mul-le-mul_left q h))))
     go true false d e = omega arith
     go false b d e = omega arith
 
-pub bar-fewer : (k : ℕ) (g h : ℕ → Bool) → ((x : ℕ) → g x ≡ true → h x ≡ true) → (t : Rounds)
+pub bar_fewer : (k : ℕ) (g h : ℕ → Bool) → ((x : ℕ) → g x ≡ true → h x ≡ true) → (t : Rounds)
     → bar k g t ≤ bar k h t
 unfolding bar
-bar-fewer k g h f (stop O) = omega arith
-bar-fewer k g h f (round i c O t) = omega (
+bar_fewer k g h f (stop O) = omega arith
+bar_fewer k g h f (round i c O t) = omega (
   arith,
-  share-fewer (late k i) (reach c.has O) c.price (reach g O) (reach h O) (reach-fewer g h f O),
-  bar-fewer k g h f t,
+  share_fewer (late k i) (reach c.has O) c.price (reach g O) (reach h O) (reach_fewer g h f O),
+  bar_fewer k g h f t,
 )

@@ -19,19 +19,19 @@ unfolding sum
 ceiling ps open-cells = suc (sum ps * length open-cells)
 
 -- the prices with which bid k would win, all else held
-unfoldable pub winsAt : (ℕ → ℕ → Bool) → List ℕ → List ℕ → ℕ → ℕ → Bool
+unfoldable pub wins_at : (ℕ → ℕ → Bool) → List ℕ → List ℕ → ℕ → ℕ → Bool
 unfolding wins
-winsAt has ps open-cells k p = wins has (set ps k p) open-cells k
+wins_at has ps open-cells k p = wins has (set ps k p) open-cells k
 
 -- the largest of them
 unfoldable pub critical : (ℕ → ℕ → Bool) → List ℕ → List ℕ → ℕ → ℕ
-unfolding largest ceiling winsAt value_of
-critical has ps open-cells k = value_of (largest (winsAt has ps open-cells k) (ceiling (set ps k 0) open-cells))
+unfolding largest ceiling wins_at value_of
+critical has ps open-cells k = value_of (largest (wins_at has ps open-cells k) (ceiling (set ps k 0) open-cells))
 
 -- what bid k is paid
-unfoldable pub criticalPaid : (ℕ → ℕ → Bool) → List ℕ → List ℕ → ℕ → ℕ
+unfoldable pub critical_paid : (ℕ → ℕ → Bool) → List ℕ → List ℕ → ℕ → ℕ
 unfolding wins critical
-criticalPaid has ps open-cells k = when (wins has ps open-cells k) (critical has ps open-cells k)
+critical_paid has ps open-cells k = when (wins has ps open-cells k) (critical has ps open-cells k)
 
 -- one where bid i was entered after bid j: on a tie it loses
 unfoldable pub late : ℕ → ℕ → ℕ
@@ -63,7 +63,7 @@ unfoldable pub limit : (ℕ → ℕ → Bool) → List ℕ → List ℕ → ℕ 
 unfolding run bar withdrawn bids
 limit has ps open-cells k = bar k (has k) (run (withdrawn k (bids has ps)) (length ps) (length open-cells) open-cells)
 
--- what bid k is paid, from the rounds: where the others cover it is `criticalPaid`
-unfoldable pub roundsPaid : (ℕ → ℕ → Bool) → List ℕ → List ℕ → ℕ → ℕ
+-- what bid k is paid, from the rounds: where the others cover it is `critical_paid`
+unfoldable pub rounds_paid : (ℕ → ℕ → Bool) → List ℕ → List ℕ → ℕ → ℕ
 unfolding wins limit
-roundsPaid has ps open-cells k = when (wins has ps open-cells k) (limit has ps open-cells k - 1)
+rounds_paid has ps open-cells k = when (wins has ps open-cells k) (limit has ps open-cells k - 1)

@@ -43,15 +43,15 @@ pub data Rounds : Type 0 where
   stop : List ℕ → Rounds
   round : ℕ → Entry → List ℕ → Rounds → Rounds
 
-unfoldable pub growRun : (ℕ → Entry) → List ℕ → Found → (ℕ → Rounds) → Rounds
-growRun B O nothing t = stop O
-growRun B O (found i) t = round i (B i) O (t i)
+unfoldable pub grow_run : (ℕ → Entry) → List ℕ → Found → (ℕ → Rounds) → Rounds
+grow_run B O nothing t = stop O
+grow_run B O (found i) t = round i (B i) O (t i)
 
 -- the first f rounds of the bids below n, from the open cells O
 unfoldable pub run : (ℕ → Entry) → ℕ → ℕ → List ℕ → Rounds
-unfolding best growRun close
+unfolding best grow_run close
 run B n zero O = stop O
-run B n (suc f) O = growRun B O (best B n O) (λ i. run B n f (close (B i).has O))
+run B n (suc f) O = grow_run B O (best B n O) (λ i. run B n f (close (B i).has O))
 
 unfoldable pub taken : ℕ → Rounds → Bool
 taken k (stop O) = false

@@ -11,10 +11,10 @@ abbrev pub Each : (ℕ → Type 0) → List ℕ → Type 0
 Each P [] = Unit {0}
 Each P (x ∷ xs) = P x × Each P xs
 
-each-close : (P : ℕ → Type 0) (h : ℕ → Bool) (O : List ℕ) → Each P O → Each P (close h O)
+each_close : (P : ℕ → Type 0) (h : ℕ → Bool) (O : List ℕ) → Each P O → Each P (close h O)
 unfolding close
-each-close P h [] g = tt
-each-close P h (x ∷ O) g = go (h x) (each-close P h O g.1)
+each_close P h [] g = tt
+each_close P h (x ∷ O) g = go (h x) (each_close P h O g.1)
   where
     go : (t : Bool) → Each P (close h O) → Each P (keep t x (close h O))
     go true e = e
@@ -27,11 +27,11 @@ pub record Covered (B : ℕ → Entry) (n x : ℕ) : Type 0 where
   pub covers : (B who).has x ≡ true
 
 -- a run of bids that cover all the cells closes them all
-pub covered-closes : (B : ℕ → Entry) (n f : ℕ) (O : List ℕ) → length O ≤ f → Each (Covered B n) O
+pub covered_closes : (B : ℕ → Entry) (n f : ℕ) (O : List ℕ) → length O ≤ f → Each (Covered B n) O
     → left (run B n f O) ≡ []
 unfolding reach left
-covered-closes B n = rounds B n (λ O t. Each (Covered B n) O → left t ≡ []) go
-    (λ O i t b ih g. ih (each-close (Covered B n) (B i).has O g))
+covered_closes B n = rounds B n (λ O t. Each (Covered B n) O → left t ≡ []) go
+    (λ O i t b ih g. ih (each_close (Covered B n) (B i).has O g))
   where
     go : (O : List ℕ) → ((i : ℕ) → i < n → reach (B i).has O ≡ 0) → Each (Covered B n) O → O ≡ []
     go [] h g = refl
@@ -61,4 +61,4 @@ module _ (B : ℕ → Entry) (i : ℕ) (c : Entry) (U : List ℕ) (t : Rounds) w
 pub served : (B : ℕ → Entry) (n f : ℕ) (O : List ℕ) → length O ≤ f → Each (Covered B n) O → Each (Served B (run B n f O)) O
 unfolding left
 served B n f O l g = rounds B n (λ O t. left t ≡ [] → Each (Served B t) O) (λ O e z. rw z tt)
-    (λ O i t b ih z. reopen B i (B i) O t O (ih z)) f O l (covered-closes B n f O l g)
+    (λ O i t b ih z. reopen B i (B i) O t O (ih z)) f O l (covered_closes B n f O l g)

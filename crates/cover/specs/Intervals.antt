@@ -30,19 +30,19 @@ scan cost test v zero = nothing
 scan cost test v (suc k) = let r = scan cost test v k in cond (test k) (lesser cost (v k) r) r
 
 -- the costs alone
-unfoldable pub foundCost : (ℕ → ℕ) → Found → Found
-foundCost cost nothing = nothing
-foundCost cost (found s) = found (cost s)
+unfoldable pub found_cost : (ℕ → ℕ) → Found → Found
+found_cost cost nothing = nothing
+found_cost cost (found s) = found (cost s)
 
-unfoldable pub lesserCost : Found → Found → Found
-lesserCost nothing r = r
-lesserCost (found a) nothing = found a
-lesserCost (found a) (found b) = cond (ltb a b) (found a) (found b)
+unfoldable pub lesser_cost : Found → Found → Found
+lesser_cost nothing r = r
+lesser_cost (found a) nothing = found a
+lesser_cost (found a) (found b) = cond (ltb a b) (found a) (found b)
 
-unfoldable pub scanCost : (ℕ → Bool) → (ℕ → Found) → ℕ → Found
-unfolding lesserCost
-scanCost test v zero = nothing
-scanCost test v (suc k) = let r = scanCost test v k in cond (test k) (lesserCost (v k) r) r
+unfoldable pub scan_cost : (ℕ → Bool) → (ℕ → Found) → ℕ → Found
+unfolding lesser_cost
+scan_cost test v zero = nothing
+scan_cost test v (suc k) = let r = scan_cost test v k in cond (test k) (lesser_cost (v k) r) r
 
 unfoldable pub raise : ℕ → Found → Found
 raise p nothing = nothing
@@ -54,9 +54,9 @@ across p nothing y = nothing
 across p (found x) nothing = nothing
 across p (found x) (found y) = found (x + p + y)
 
-unfoldable pub leastSet : (ℕ → ℕ → Bool) → (ℕ → ℕ) → ℕ → ℕ → Found
+unfoldable pub least_set : (ℕ → ℕ → Bool) → (ℕ → ℕ) → ℕ → ℕ → Found
 unfolding first
-leastSet ok cost n t = first (ok t) cost (2 ^ n)
+least_set ok cost n t = first (ok t) cost (2 ^ n)
 
 -- with bid i
 unfoldable pub plus : ℕ → Found → Found
@@ -83,15 +83,15 @@ unfoldable pub begin : ℕ → ℕ → Found → Found
 begin o t r = cond (leb t o) (found 0) r
 
 -- bid `at k` and the least set before it, from the values at the positions below k
-unfoldable pub growSet : ℕ → (ℕ → ℕ) → (ℕ → ℕ) → (ℕ → ℕ) → (ℕ → Bool) → (ℕ → ℕ)
+unfoldable pub grow_set : ℕ → (ℕ → ℕ) → (ℕ → ℕ) → (ℕ → ℕ) → (ℕ → Bool) → (ℕ → ℕ)
     → (ℕ → Found) → ℕ → Found
 unfolding plus begin scan reaches
-growSet o a b cost may at v k = plus (at k) (begin o (a (at k)) (scan cost (reaches a b may at (a (at k))) v k))
+grow_set o a b cost may at v k = plus (at k) (begin o (a (at k)) (scan cost (reaches a b may at (a (at k))) v k))
 
 -- the cells from o to t, cell x at place f x
-unfoldable pub coversFrom : (ℕ → ℕ) → ℕ → (ℕ → ℕ → Bool) → ℕ → ℕ → ℕ → Bool
+unfoldable pub covers_from : (ℕ → ℕ) → ℕ → (ℕ → ℕ → Bool) → ℕ → ℕ → ℕ → Bool
 unfolding all hit
-coversFrom f o has n t s = all t (λ x. ltb x o || hit has n s (f x))
+covers_from f o has n t s = all t (λ x. ltb x o || hit has n s (f x))
 
-unfoldable pub mayBut : ℕ → (ℕ → Bool) → ℕ → Bool
-mayBut k may i = may i && not (eqb i k)
+unfoldable pub may_but : ℕ → (ℕ → Bool) → ℕ → Bool
+may_but k may i = may i && not (eqb i k)

@@ -50,9 +50,9 @@ payment false least all price = 0
 payment true least all price = least - (all - price)
 
 -- what bid i is paid
-unfoldable pub vcgPaid : (ℕ → Bool) → List ℕ → ℕ → ℕ
+unfoldable pub vcg_paid : (ℕ → Bool) → List ℕ → ℕ → ℕ
 unfolding winners without payment
-vcgPaid ok ps i =
+vcg_paid ok ps i =
     let m = winners ok ps in
     payment (bit m i) (cost ps (winners (without i ok) ps)) (cost ps m) (get_or ps i 0)
 
@@ -62,8 +62,8 @@ margin least price (found s) = least - price s
 
 -- the threshold of bid i, which does not turn on its price: the least cost without it, less what the others cost in the best set with it;
 -- 0 where no set of the family has it
-unfoldable pub vcgThreshold : (ℕ → Bool) → List ℕ → ℕ → ℕ
+unfoldable pub vcg_threshold : (ℕ → Bool) → List ℕ → ℕ → ℕ
 unfolding winners without first margin
-vcgThreshold ok ps i =
+vcg_threshold ok ps i =
     let free = set ps i 0 in
     margin (cost free (winners (without i ok) free)) (cost free) (first (λ s. ok s && bit s i) (cost free) (2 ^ length ps))

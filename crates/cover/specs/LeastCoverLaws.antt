@@ -55,48 +55,48 @@ module _ (ok : ℕ → Bool) (price : ℕ → ℕ) where
     earliest = last n (λ s l g q. omega (arith, h.least s l g, ltb-true (price n) (price b) d)) (λ g q. omega arith);
   }
 
-  pub first-right : (n : ℕ) → IsFirst ok price n (first ok price n)
+  pub first_right : (n : ℕ) → IsFirst ok price n (first ok price n)
   unfolding first
-  first-right zero = λ s l g. omega arith
-  first-right (suc n) = step n (ok n) (dearer price n (first ok price n)) (first ok price n) refl refl (first-right n)
+  first_right zero = λ s l g. omega arith
+  first_right (suc n) = step n (ok n) (dearer price n (first ok price n)) (first ok price n) refl refl (first_right n)
 
 -- the winner is one, and turns on the costs of the numbers that pass alone
-pub wins-one : (ok : ℕ → Bool) (price : ℕ → ℕ) (n a b : ℕ) → Wins ok price n a → Wins ok price n b → a ≡ b
-wins-one ok price n a b u v = le_antisymm (u.earliest b v.inside v.good (sym same)) (v.earliest a u.inside u.good same)
+pub wins_one : (ok : ℕ → Bool) (price : ℕ → ℕ) (n a b : ℕ) → Wins ok price n a → Wins ok price n b → a ≡ b
+wins_one ok price n a b u v = le_antisymm (u.earliest b v.inside v.good (sym same)) (v.earliest a u.inside u.good same)
   where
     same : price a ≡ price b
     same = le_antisymm (u.least b v.inside v.good) (v.least a u.inside u.good)
 
-pub wins-of : (ok : ℕ → Bool) (f g : ℕ → ℕ) (n b : ℕ) → ((s : ℕ) → ok s ≡ true → f s ≡ g s) → Wins ok f n b
+pub wins_of : (ok : ℕ → Bool) (f g : ℕ → ℕ) (n b : ℕ) → ((s : ℕ) → ok s ≡ true → f s ≡ g s) → Wins ok f n b
     → Wins ok g n b
-wins-of ok f g n b e w = record {
+wins_of ok f g n b e w = record {
   inside = w.inside;
   good = w.good;
   least = λ s l h. omega (arith, w.least s l h, e s h, e b w.good);
   earliest = λ s l h q. w.earliest s l h (omega (arith, e s h, e b w.good));
 }
 
-pub winners-right : (ok : ℕ → Bool) (ps : List ℕ) (s : ℕ) → s < 2 ^ length ps → ok s ≡ true
+pub winners_right : (ok : ℕ → Bool) (ps : List ℕ) (s : ℕ) → s < 2 ^ length ps → ok s ≡ true
     → Wins ok (cost ps) (2 ^ length ps) (winners ok ps)
 unfolding winners value_of
-winners-right ok ps s l g = go (first ok (cost ps) (2 ^ length ps)) (first-right ok (cost ps) (2 ^ length ps))
+winners_right ok ps s l g = go (first ok (cost ps) (2 ^ length ps)) (first_right ok (cost ps) (2 ^ length ps))
   where
     go : (r : Found) → IsFirst ok (cost ps) (2 ^ length ps) r → Wins ok (cost ps) (2 ^ length ps) (value_of r)
     go nothing h = absurd (h s l g)
     go (found b) h = h
 
-pub cost-set : (ps : List ℕ) (i q s : ℕ) → i < length ps → cost (set ps i q) s ≡ cost (set ps i 0) s + when (bit s i) q
+pub cost_set : (ps : List ℕ) (i q s : ℕ) → i < length ps → cost (set ps i q) s ≡ cost (set ps i 0) s + when (bit s i) q
 unfolding cost bit
-cost-set [] i q s l = absurd (omega arith)
-cost-set (p ∷ ps) zero q s l = go (bit s 0)
+cost_set [] i q s l = absurd (omega arith)
+cost_set (p ∷ ps) zero q s l = go (bit s 0)
   where
     go : (b : Bool) → when b q + cost ps (s / 2) ≡ when b 0 + cost ps (s / 2) + when b q
     go true = omega arith
     go false = omega arith
-cost-set (p ∷ ps) (suc i) q s l = omega (arith, cost-set ps i q (s / 2) (omega arith))
+cost_set (p ∷ ps) (suc i) q s l = omega (arith, cost_set ps i q (s / 2) (omega arith))
 
 -- the tie rule in the paper's words: of a least-cost set other than the winners, the latest bid that tells the two apart is in it
 -- and not in the winners
 pub tie : (ok : ℕ → Bool) (ps : List ℕ) (s : ℕ) → s < 2 ^ length ps → ok s ≡ true → cost ps s ≡ cost ps (winners ok ps)
     → (s ≡ winners ok ps → ⊥) → Stands (winners ok ps) s
-tie ok ps s l g e d = stands (length ps) (winners ok ps) s l (omega (arith, (winners-right ok ps s l g).earliest s l g e))
+tie ok ps s l g e d = stands (length ps) (winners ok ps) s l (omega (arith, (winners_right ok ps s l g).earliest s l g e))

@@ -24,17 +24,17 @@ abbrev pub IsPick : (ℕ → ℕ) → (ℕ → ℕ) → ℕ → Found → Type 0
 IsPick p r n nothing = (s : ℕ) → s < n → 0 < r s → ⊥
 IsPick p r n (found b) = Best p r n b
 
-pub late-no : (i j : ℕ) → i ≤ j → late i j ≡ 0
+pub late_no : (i j : ℕ) → i ≤ j → late i j ≡ 0
 unfolding late
-late-no i j l = rw (le-ltb j i l)
+late_no i j l = rw (le-ltb j i l)
 
-pub late-yes : (i j : ℕ) → j < i → late i j ≡ 1
+pub late_yes : (i j : ℕ) → j < i → late i j ≡ 1
 unfolding late
-late-yes i j l = rw (lt-ltb j i l)
+late_yes i j l = rw (lt-ltb j i l)
 
-pub late-most : (i j : ℕ) → late i j ≤ 1
+pub late_most : (i j : ℕ) → late i j ≤ 1
 unfolding late
-late-most i j = go (ltb j i)
+late_most i j = go (ltb j i)
   where
     go : (t : Bool) → when t 1 ≤ 1
     go true = omega arith
@@ -46,8 +46,8 @@ chain a b c d e f l g h = le_of_mul-le-mul_right (omega
     (arith, mul-le-mul_right f g, mul-le-mul_right b h, mul_right_comm a f d, mul_right_comm c b f, mul_right_comm e b d)) l
 
 -- a/b < c/d ≤ e/f
-pub chain-lt : (a b c d e f : ℕ) → 0 < f → a * d < c * b → c * f ≤ e * d → a * f < e * b
-chain-lt a b c d e f l g h = go (ltb (a * f) (e * b)) refl
+pub chain_lt : (a b c d e f : ℕ) → 0 < f → a * d < c * b → c * f ≤ e * d → a * f < e * b
+chain_lt a b c d e f l g h = go (ltb (a * f) (e * b)) refl
   where
     go : (t : Bool) → ltb (a * f) (e * b) ≡ t → a * f < e * b
     go true q = ltb-true _ _ q
@@ -76,12 +76,12 @@ module _ (p r : ℕ → ℕ) where
   step n true false (found b) e d h = record {
     inside = omega arith;
     good = h.good;
-    least = last n h.least (λ g. omega (arith, ltb-false (p n * r b) (p b * r n) d, late-no b n (omega (arith, h.inside))));
+    least = last n h.least (λ g. omega (arith, ltb-false (p n * r b) (p b * r n) d, late_no b n (omega (arith, h.inside))));
   }
   step n true true nothing e d h = record {
     inside = omega arith;
     good = ltb-true _ _ e;
-    least = last n (λ s l g. absurd (h s l g)) (λ g. omega (arith, late-no n n (omega arith)));
+    least = last n (λ s l g. absurd (h s l g)) (λ g. omega (arith, late_no n n (omega arith)));
   }
   step n true true (found b) e d h = record {
     inside = omega arith;
@@ -89,24 +89,24 @@ module _ (p r : ℕ → ℕ) where
     least = last n
         (λ s l g. omega (
           arith,
-          chain-lt (p n) (r n) (p b) (r b) (p s) (r s) g (ltb-true _ _ d) (omega (arith, h.least s l g)),
-          late-most n s,
+          chain_lt (p n) (r n) (p b) (r b) (p s) (r s) g (ltb-true _ _ d) (omega (arith, h.least s l g)),
+          late_most n s,
         ))
-        (λ g. omega (arith, late-no n n (omega arith)));
+        (λ g. omega (arith, late_no n n (omega arith)));
   }
 
-  pub pick-right : (n : ℕ) → IsPick p r n (pick p r n)
+  pub pick_right : (n : ℕ) → IsPick p r n (pick p r n)
   unfolding pick
-  pick-right zero = λ s l g. omega arith
-  pick-right (suc n) = step n (ltb 0 (r n)) (cheaper p r n (pick p r n)) (pick p r n) refl refl (pick-right n)
+  pick_right zero = λ s l g. omega arith
+  pick_right (suc n) = step n (ltb 0 (r n)) (cheaper p r n (pick p r n)) (pick p r n) refl refl (pick_right n)
 
 -- of two bids only one is taken before the other
-pub before-le : (p r : ℕ → ℕ) (i j : ℕ) → TakenBefore p r i j → TakenBefore p r j i → i ≤ j
-before-le p r i j u v = go (ltb j i) refl
+pub before_le : (p r : ℕ → ℕ) (i j : ℕ) → TakenBefore p r i j → TakenBefore p r j i → i ≤ j
+before_le p r i j u v = go (ltb j i) refl
   where
     go : (t : Bool) → ltb j i ≡ t → i ≤ j
-    go true e = absurd (omega (arith, late-yes i j (ltb-true j i e)))
+    go true e = absurd (omega (arith, late_yes i j (ltb-true j i e)))
     go false e = ltb-false j i e
 
-pub before-one : (p r : ℕ → ℕ) (i j : ℕ) → TakenBefore p r i j → TakenBefore p r j i → i ≡ j
-before-one p r i j u v = le_antisymm (before-le p r i j u v) (before-le p r j i v u)
+pub before_one : (p r : ℕ → ℕ) (i j : ℕ) → TakenBefore p r i j → TakenBefore p r j i → i ≡ j
+before_one p r i j u v = le_antisymm (before_le p r i j u v) (before_le p r j i v u)

@@ -16,9 +16,9 @@ or_split false b e = inr e
 
 -- the order of two numbers is the tie rule
 
-stands-half : (s t : ℕ) → Stands (s / 2) (t / 2) → Stands s t
+stands_half : (s t : ℕ) → Stands (s / 2) (t / 2) → Stands s t
 unfolding bit
-stands-half s t h = record { at = suc h.at; lacks = h.lacks; takes = h.takes; later = go }
+stands_half s t h = record { at = suc h.at; lacks = h.lacks; takes = h.takes; later = go }
   where
     go : (j : ℕ) → suc h.at < j → bit s j ≡ bit t j
     go zero l = absurd (omega arith)
@@ -38,7 +38,7 @@ stands (suc n) s t b l = go (eq-or-lt_of_le {n = s / 2} {m = t / 2} (omega arith
   where
     go : (s / 2 ≡ t / 2) ⊎ (s / 2 < t / 2) → (s / 2 < t / 2 → Stands (s / 2) (t / 2)) → Stands s t
     go (inl e) f = stands_here s t e l
-    go (inr h) f = stands-half s t (f h)
+    go (inr h) f = stands_half s t (f h)
 
 -- every number below L
 
@@ -47,10 +47,10 @@ unfolding all
 all_of P zero f = refl
 all_of P (suc L) f = rw (f L (omega arith), all_of P L (λ x l. f x (omega arith)))
 
-pub all-at : (P : ℕ → Bool) (L : ℕ) → all L P ≡ true → (x : ℕ) → x < L → P x ≡ true
+pub all_at : (P : ℕ → Bool) (L : ℕ) → all L P ≡ true → (x : ℕ) → x < L → P x ≡ true
 unfolding all
-all-at P zero e x l = absurd (omega arith)
-all-at P (suc L) e x l = let s = and_split (P L) (all L P) e in go (eq-or-lt_of_le (le_of_suc-le-suc l)) s.0 (all-at P L s.1 x)
+all_at P zero e x l = absurd (omega arith)
+all_at P (suc L) e x l = let s = and_split (P L) (all L P) e in go (eq-or-lt_of_le (le_of_suc-le-suc l)) s.0 (all_at P L s.1 x)
   where
     go : (x ≡ L) ⊎ (x < L) → P L ≡ true → (x < L → P x ≡ true) → P x ≡ true
     go (inl h) s f = rw h s
@@ -61,35 +61,35 @@ unfoldable pub pack : (ℕ → Bool) → ℕ → ℕ
 pack p zero = 0
 pack p (suc n) = when (p 0) 1 + 2 * pack (λ i. p (suc i)) n
 
-pub when-one : (b : Bool) → when b 1 ≤ 1
-when-one true = omega arith
-when-one false = omega arith
+pub when_one : (b : Bool) → when b 1 ≤ 1
+when_one true = omega arith
+when_one false = omega arith
 
-pub when-is : (b : Bool) → eqb (when b 1) 1 ≡ b
-when-is true = refl
-when-is false = refl
+pub when_is : (b : Bool) → eqb (when b 1) 1 ≡ b
+when_is true = refl
+when_is false = refl
 
-pub pack-below : (p : ℕ → Bool) (n : ℕ) → pack p n < 2 ^ n
+pub pack_below : (p : ℕ → Bool) (n : ℕ) → pack p n < 2 ^ n
 unfolding pack
-pack-below p zero = omega arith
-pack-below p (suc n) = omega (arith, pack-below (λ i. p (suc i)) n, pow-suc 2 n, when-one (p 0))
+pack_below p zero = omega arith
+pack_below p (suc n) = omega (arith, pack_below (λ i. p (suc i)) n, pow-suc 2 n, when_one (p 0))
 
-pub pack-bit : (p : ℕ → Bool) (n i : ℕ) → i < n → bit (pack p n) i ≡ p i
+pub pack_bit : (p : ℕ → Bool) (n i : ℕ) → i < n → bit (pack p n) i ≡ p i
 unfolding pack bit
-pack-bit p zero i l = absurd (omega arith)
-pack-bit p (suc n) zero l = go (p 0)
+pack_bit p zero i l = absurd (omega arith)
+pack_bit p (suc n) zero l = go (p 0)
   where
     go : (b : Bool) → eqb ((when b 1 + 2 * pack (λ i. p (suc i)) n) % 2) 1 ≡ b
     go true = eq-eqb ((1 + 2 * pack (λ i. p (suc i)) n) % 2) 1 (omega arith)
     go false = ne_eqb ((0 + 2 * pack (λ i. p (suc i)) n) % 2) 1 (λ e. omega arith)
-pack-bit p (suc n) (suc i) l =
-    let e : (when (p 0) 1 + 2 * pack (λ i. p (suc i)) n) / 2 ≡ pack (λ i. p (suc i)) n = omega (arith, when-one (p 0)) in
-    ap (λ s. bit s i) e ∙ pack-bit (λ i. p (suc i)) n i (omega arith)
+pack_bit p (suc n) (suc i) l =
+    let e : (when (p 0) 1 + 2 * pack (λ i. p (suc i)) n) / 2 ≡ pack (λ i. p (suc i)) n = omega (arith, when_one (p 0)) in
+    ap (λ s. bit s i) e ∙ pack_bit (λ i. p (suc i)) n i (omega arith)
 
-pub hit-of : (has : ℕ → ℕ → Bool) (n s x j : ℕ) → j < n → bit s j ≡ true → has j x ≡ true → hit has n s x ≡ true
+pub hit_of : (has : ℕ → ℕ → Bool) (n s x j : ℕ) → j < n → bit s j ≡ true → has j x ≡ true → hit has n s x ≡ true
 unfolding hit
-hit-of has zero s x j l b h = absurd (omega arith)
-hit-of has (suc n) s x j l b h = go (eq-or-lt_of_le (le_of_suc-le-suc l)) (hit-of has n s x j)
+hit_of has zero s x j l b h = absurd (omega arith)
+hit_of has (suc n) s x j l b h = go (eq-or-lt_of_le (le_of_suc-le-suc l)) (hit_of has n s x j)
   where
     go : (j ≡ n) ⊎ (j < n) → (j < n → bit s j ≡ true → has j x ≡ true → hit has n s x ≡ true) → bit s n
         && has n x || hit has n s x ≡ true
@@ -100,20 +100,20 @@ hit-of has (suc n) s x j l b h = go (eq-or-lt_of_le (le_of_suc-le-suc l)) (hit-o
 pub record Member (has : ℕ → ℕ → Bool) (n s x : ℕ) : Type 0 where
   pub who : ℕ
   pub inside : who < n
-  pub in-set : bit s who ≡ true
-  pub covers-it : has who x ≡ true
+  pub in_set : bit s who ≡ true
+  pub covers_it : has who x ≡ true
 
-pub hit-some : (has : ℕ → ℕ → Bool) (n s x : ℕ) → hit has n s x ≡ true → Member has n s x
+pub hit_some : (has : ℕ → ℕ → Bool) (n s x : ℕ) → hit has n s x ≡ true → Member has n s x
 unfolding hit
-hit-some has zero s x e = absurd (false≢true e)
-hit-some has (suc n) s x e = go (bit s n) (has n x) refl refl e (hit-some has n s x)
+hit_some has zero s x e = absurd (false≢true e)
+hit_some has (suc n) s x e = go (bit s n) (has n x) refl refl e (hit_some has n s x)
   where
     up : Member has n s x → Member has (suc n) s x
-    up m = record { who = m.who; inside = omega (arith, m.inside); in-set = m.in-set; covers-it = m.covers-it }
+    up m = record { who = m.who; inside = omega (arith, m.inside); in_set = m.in_set; covers_it = m.covers_it }
 
     go : (a b : Bool) → bit s n ≡ a → has n x ≡ b → a && b || hit has n s x ≡ true
         → (hit has n s x ≡ true → Member has n s x)
         → Member has (suc n) s x
-    go true true f g e ih = record { who = n; inside = omega arith; in-set = f; covers-it = g }
+    go true true f g e ih = record { who = n; inside = omega arith; in_set = f; covers_it = g }
     go true false f g e ih = up (ih e)
     go false b f g e ih = up (ih e)

@@ -8,11 +8,11 @@ pub record Added (m i : ℕ) : Type 0 where
   pub takes : bit (m + 2 ^ i) i ≡ true
   pub keeps : (j : ℕ) → (j ≡ i → ⊥) → bit (m + 2 ^ i) j ≡ bit m j
 
-half-add : (i m : ℕ) → (m + 2 ^ suc i) / 2 ≡ m / 2 + 2 ^ i
-half-add i m = omega (arith, pow-suc 2 i)
+half_add : (i m : ℕ) → (m + 2 ^ suc i) / 2 ≡ m / 2 + 2 ^ i
+half_add i m = omega (arith, pow-suc 2 i)
 
-odd-add : (i m : ℕ) → (m + 2 ^ suc i) % 2 ≡ m % 2
-odd-add i m = omega (arith, pow-suc 2 i)
+odd_add : (i m : ℕ) → (m + 2 ^ suc i) % 2 ≡ m % 2
+odd_add i m = omega (arith, pow-suc 2 i)
 
 pub added : (i m : ℕ) → bit m i ≡ false → Added m i
 unfolding bit
@@ -24,11 +24,11 @@ added zero m e = record { takes = eq-eqb ((m + 1) % 2) 1 (omega (arith, eqb-fals
 added (suc i) m e = up (added i (m / 2) e)
   where
     up : Added (m / 2) i → Added m (suc i)
-    up h = record { takes = rw half-add h.takes; keeps = go }
+    up h = record { takes = rw half_add h.takes; keeps = go }
       where
         go : (j : ℕ) → (j ≡ suc i → ⊥) → bit (m + 2 ^ suc i) j ≡ bit m j
-        go zero d = ap (λ x. eqb x 1) (odd-add i m)
-        go (suc j) d = rw half-add (h.keeps j (λ q. d (ap suc q)))
+        go zero d = ap (λ x. eqb x 1) (odd_add i m)
+        go (suc j) d = rw half_add (h.keeps j (λ q. d (ap suc q)))
 
 pub record Removed (s i : ℕ) : Type 0 where
   pub rest : ℕ
@@ -51,27 +51,27 @@ removed (suc i) s e = up (removed i (s / 2) e)
       lacks = ap (λ x. bit x i) (omega arith) ∙ h.lacks;
     }
 
-pub add-below : (n i m : ℕ) → i < n → bit m i ≡ false → m < 2 ^ n → m + 2 ^ i < 2 ^ n
+pub add_below : (n i m : ℕ) → i < n → bit m i ≡ false → m < 2 ^ n → m + 2 ^ i < 2 ^ n
 unfolding bit
-add-below zero i m l e b = absurd (omega arith)
-add-below (suc n) zero m l e b = omega (arith, pow-suc 2 n, eqb-false (m % 2) 1 e)
-add-below (suc n) (suc i) m l e b = omega (
+add_below zero i m l e b = absurd (omega arith)
+add_below (suc n) zero m l e b = omega (arith, pow-suc 2 n, eqb-false (m % 2) 1 e)
+add_below (suc n) (suc i) m l e b = omega (
   arith,
   pow-suc 2 n,
   pow-suc 2 i,
-  add-below n i (m / 2) (omega arith) e (omega (arith, pow-suc 2 n)),
+  add_below n i (m / 2) (omega arith) e (omega (arith, pow-suc 2 n)),
 )
 
-pub cost-none : (ps : List ℕ) → cost ps 0 ≡ 0
+pub cost_none : (ps : List ℕ) → cost ps 0 ≡ 0
 unfolding cost bit
-cost-none [] = refl
-cost-none (p ∷ ps) = omega (arith, cost-none ps)
+cost_none [] = refl
+cost_none (p ∷ ps) = omega (arith, cost_none ps)
 
-pub cost-add : (ps : List ℕ) (i m : ℕ) → i < length ps → bit m i ≡ false → cost ps (m + 2 ^ i) ≡ cost ps m + get_or ps i 0
+pub cost_add : (ps : List ℕ) (i m : ℕ) → i < length ps → bit m i ≡ false → cost ps (m + 2 ^ i) ≡ cost ps m + get_or ps i 0
 unfolding cost bit
-cost-add [] i m l e = absurd (omega arith)
-cost-add (p ∷ ps) zero m l e = rw ((added 0 m e).takes, e, half) (omega arith)
+cost_add [] i m l e = absurd (omega arith)
+cost_add (p ∷ ps) zero m l e = rw ((added 0 m e).takes, e, half) (omega arith)
   where
     half : (m + 1) / 2 ≡ m / 2
     half = omega (arith, eqb-false (m % 2) 1 e)
-cost-add (p ∷ ps) (suc i) m l e = rw (odd-add, half-add) (omega (arith, cost-add ps i (m / 2) (omega arith) e))
+cost_add (p ∷ ps) (suc i) m l e = rw (odd_add, half_add) (omega (arith, cost_add ps i (m / 2) (omega arith) e))

@@ -13,14 +13,14 @@ unfoldable pub spans : List ℕ → List ℕ → ℕ → ℕ → Bool
 spans a b i x = leb (get_or a i 0) x && ltb x (get_or b i 0)
 
 -- no award pays an entry more: the largest price for each of 10,112 cells, which are 158 words
-abbrev pub mostCents : ℕ
-mostCents = 1011200000000
+abbrev pub most_cents : ℕ
+most_cents = 1011200000000
 
 -- entry i wins if `won i` says so, and is paid `cents i` where that is `due`
-pub record Settled (due : ℕ → Type 0) (won : ℕ → Bool) (cents : ℕ → ℕ) (ps old-won old-cents new-won new-cents : List ℕ)
+pub record Settled (due : ℕ → Type 0) (won : ℕ → Bool) (cents : ℕ → ℕ) (ps old_won old_cents new-won new-cents : List ℕ)
     : Type 0 where
-  pub flags : new-won ≡ listed (length ps) (λ i. when (won i) 1) ++ drop (length ps) old-won
+  pub flags : new-won ≡ listed (length ps) (λ i. when (won i) 1) ++ drop (length ps) old_won
   pub payments : (i : ℕ) → i < length ps → due i → get_or new-cents i 0 ≡ cents i
-  pub small : (i : ℕ) → i < length ps → get_or new-cents i 0 ≤ mostCents
-  pub sized : length new-cents ≡ length old-cents
-  pub kept : (i : ℕ) → length ps ≤ i → get_or new-cents i 0 ≡ get_or old-cents i 0
+  pub small : (i : ℕ) → i < length ps → get_or new-cents i 0 ≤ most_cents
+  pub sized : length new-cents ≡ length old_cents
+  pub kept : (i : ℕ) → length ps ≤ i → get_or new-cents i 0 ≡ get_or old_cents i 0

@@ -10,27 +10,27 @@ use Rattle.std.proofs.Math.ListN.{length}
 use Rattle.std.proofs.Math.Seq.{get_or-set_same}
 use Rattle.std.proofs.lemmas.List.{set-get_or}
 use Rattle.cover.specs.Sets.{when, Found, nothing, found, bit, cost}
-use Rattle.cover.specs.LeastCover.{first, Wins, winners, without, payment, vcgPaid, margin, vcgThreshold}
+use Rattle.cover.specs.LeastCover.{first, Wins, winners, without, payment, vcg_paid, margin, vcg_threshold}
 use Rattle.cover.specs.Threshold.{Threshold, honest, enough}
 use Rattle.cover.specs.SetLaws.{and_split}
-use Rattle.cover.specs.LeastCoverLaws.{IsFirst, first-right, wins-one, wins-of, winners-right, cost-set}
+use Rattle.cover.specs.LeastCoverLaws.{IsFirst, first_right, wins_one, wins_of, winners_right, cost_set}
 
-pub without-split : (ok : ℕ → Bool) (i s : ℕ) → without i ok s ≡ true → (ok s ≡ true) × (bit s i ≡ false)
+pub without_split : (ok : ℕ → Bool) (i s : ℕ) → without i ok s ≡ true → (ok s ≡ true) × (bit s i ≡ false)
 unfolding without
-without-split ok i s e = go (ok s) (bit s i) e
+without_split ok i s e = go (ok s) (bit s i) e
   where
     go : (a b : Bool) → a && not b ≡ true → (a ≡ true) × (b ≡ false)
     go true false e = (refl, refl)
     go true true e = absurd (false≢true e)
     go false b e = absurd (false≢true e)
 
-pub without-join : (ok : ℕ → Bool) (i s : ℕ) → ok s ≡ true → bit s i ≡ false → without i ok s ≡ true
+pub without_join : (ok : ℕ → Bool) (i s : ℕ) → ok s ≡ true → bit s i ≡ false → without i ok s ≡ true
 unfolding without
-without-join ok i s e f = rw (e, f)
+without_join ok i s e f = rw (e, f)
 
 -- a member's price is within the cost
-pub own-price : (ps : List ℕ) (i s : ℕ) → i < length ps → bit s i ≡ true → get_or ps i 0 ≤ cost ps s
-own-price ps i s l e = omega (arith, rw (set-get_or ps i 0, e) at (cost-set ps i (get_or ps i 0) s l))
+pub own_price : (ps : List ℕ) (i s : ℕ) → i < length ps → bit s i ≡ true → get_or ps i 0 ≤ cost ps s
+own_price ps i s l e = omega (arith, rw (set-get_or ps i 0, e) at (cost_set ps i (get_or ps i 0) s l))
 
 -- the set s of the family is without bid i
 module _ (ok : ℕ → Bool) (ps : List ℕ) (i : ℕ) (inside : i < length ps) (s : ℕ) (below : s < 2 ^ length ps)
@@ -46,20 +46,20 @@ module _ (ok : ℕ → Bool) (ps : List ℕ) (i : ℕ) (inside : i < length ps) 
   rest = winners (without i ok) (set ps i 0)
 
   wins : (q : ℕ) → Wins ok (total q) (2 ^ length ps) (winners ok (set ps i q))
-  wins q = wins-of ok (cost (set ps i q)) (total q) _ _ (λ t g. cost-set ps i q t inside)
-      (rw (length-set ps i q) at (winners-right ok (set ps i q) s (rw length-set below) (without-split ok i s spare).0))
+  wins q = wins_of ok (cost (set ps i q)) (total q) _ _ (λ t g. cost_set ps i q t inside)
+      (rw (length-set ps i q) at (winners_right ok (set ps i q) s (rw length-set below) (without_split ok i s spare).0))
 
   free : (q t : ℕ) → without i ok t ≡ true → cost (set ps i q) t ≡ others t
-  free q t g = omega (arith, rw (without-split ok i t g).1 at (cost-set ps i q t inside))
+  free q t g = omega (arith, rw (without_split ok i t g).1 at (cost_set ps i q t inside))
 
   alt : (q : ℕ) → Wins (without i ok) others (2 ^ length ps) (winners (without i ok) (set ps i q))
-  alt q = wins-of (without i ok) (cost (set ps i q)) others _ _ (free q)
-      (rw (length-set ps i q) at (winners-right (without i ok) (set ps i q) s (rw length-set below) spare))
+  alt q = wins_of (without i ok) (cost (set ps i q)) others _ _ (free q)
+      (rw (length-set ps i q) at (winners_right (without i ok) (set ps i q) s (rw length-set below) spare))
 
-  holds : (q : ℕ) → let m = winners ok (set ps i q) in let θ = vcgThreshold ok ps i in
+  holds : (q : ℕ) → let m = winners ok (set ps i q) in let θ = vcg_threshold ok ps i in
       ((bit m i ≡ true) → (q ≤ θ) × (θ ≡ others rest - others m)) × ((bit m i ≡ false) → θ ≤ q)
-  unfolding vcgThreshold margin
-  holds q = go (first (λ t. ok t && bit t i) others (2 ^ length ps)) (first-right (λ t. ok t && bit t i) others (2 ^ length ps))
+  unfolding vcg_threshold margin
+  holds q = go (first (λ t. ok t && bit t i) others (2 ^ length ps)) (first_right (λ t. ok t && bit t i) others (2 ^ length ps))
     where
       m : ℕ
       m = winners ok (set ps i q)
@@ -68,7 +68,7 @@ module _ (ok : ℕ → Bool) (ps : List ℕ) (i : ℕ) (inside : i < length ps) 
       beats = (wins q).least
 
       under : total q m ≤ others rest
-      under = let g = without-split ok i rest (alt 0).good in omega (arith, rw g.1 at (beats rest (alt 0).inside g.0))
+      under = let g = without_split ok i rest (alt 0).good in omega (arith, rw g.1 at (beats rest (alt 0).inside g.0))
 
       go : (f : Found) → IsFirst (λ t. ok t && bit t i) others (2 ^ length ps) f →
           ((bit m i ≡ true) → (q ≤ margin (others rest) others f) × (margin (others rest) others f ≡ others rest - others m))
@@ -79,48 +79,48 @@ module _ (ok : ℕ → Bool) (ps : List ℕ) (i : ℕ) (inside : i < length ps) 
             omega (arith, rw e at under, rw (e, g.1) at (beats v h.inside g.0)),
         λ e. omega (
           arith,
-          (alt 0).least m (wins q).inside (without-join ok i m (wins q).good e),
+          (alt 0).least m (wins q).inside (without_join ok i m (wins q).good e),
           rw (e, g.1) at (beats v h.inside g.0),
         ),
       )
 
-  pub threshold : Threshold (λ q. bit (winners ok (set ps i q)) i) (vcgThreshold ok ps i)
+  pub threshold : Threshold (λ q. bit (winners ok (set ps i q)) i) (vcg_threshold ok ps i)
   threshold = record { below = λ q e. ((holds q).0 e).0; above = λ q e. (holds q).1 e }
 
   -- a winner is paid the threshold, whatever it named
-  pub pays : (q : ℕ) → vcgPaid ok (set ps i q) i ≡ when (bit (winners ok (set ps i q)) i) (vcgThreshold ok ps i)
-  unfolding vcgPaid payment
+  pub pays : (q : ℕ) → vcg_paid ok (set ps i q) i ≡ when (bit (winners ok (set ps i q)) i) (vcg_threshold ok ps i)
+  unfolding vcg_paid payment
   pays q = rw (
     get_or-set_same ps i q 0 inside,
-    cost-set ps i q (winners ok (set ps i q)) inside,
+    cost_set ps i q (winners ok (set ps i q)) inside,
     free q _ (alt q).good,
-    wins-one (without i ok) others _ _ _ (alt q) (alt 0),
+    wins_one (without i ok) others _ _ _ (alt q) (alt 0),
   ) (go (bit (winners ok (set ps i q)) i) (λ e. ((holds q).0 e).1))
     where
-      go : (t : Bool) → (t ≡ true → vcgThreshold ok ps i ≡ others rest - others (winners ok (set ps i q))) →
-          payment t (others rest) (others (winners ok (set ps i q)) + when t q) q ≡ when t (vcgThreshold ok ps i)
+      go : (t : Bool) → (t ≡ true → vcg_threshold ok ps i ≡ others rest - others (winners ok (set ps i q))) →
+          payment t (others rest) (others (winners ok (set ps i q)) + when t q) q ≡ when t (vcg_threshold ok ps i)
       go true f = omega (arith, f refl)
       go false f = refl
 
   -- a winner is paid no less than it named
-  pub fair : (q : ℕ) → when (bit (winners ok (set ps i q)) i) q ≤ vcgPaid ok (set ps i q) i
+  pub fair : (q : ℕ) → when (bit (winners ok (set ps i q)) i) q ≤ vcg_paid ok (set ps i q) i
   fair q = rw (pays q) (enough _ _ threshold q)
 
   -- document 000, formula 8
   pub formula : bit (winners ok ps) i ≡ true → (Wins (without i ok) (cost ps) (2 ^ length ps) (winners (without i ok) ps))
-      × (vcgPaid ok ps i + cost ps (winners ok ps) ≡ cost ps (winners (without i ok) ps) + get_or ps i 0)
-  unfolding vcgPaid payment
+      × (vcg_paid ok ps i + cost ps (winners ok ps) ≡ cost ps (winners (without i ok) ps) + get_or ps i 0)
+  unfolding vcg_paid payment
   formula e = (v, go (bit (winners ok ps) i) e)
     where
       v : Wins (without i ok) (cost ps) (2 ^ length ps) (winners (without i ok) ps)
-      v = winners-right (without i ok) ps s below spare
+      v = winners_right (without i ok) ps s below spare
 
       own : get_or ps i 0 ≤ cost ps (winners ok ps)
-      own = own-price ps i (winners ok ps) inside e
+      own = own_price ps i (winners ok ps) inside e
 
       less : cost ps (winners ok ps) ≤ cost ps (winners (without i ok) ps)
-      less = (winners-right ok ps s below (without-split ok i s spare).0).least (winners (without i ok) ps) v.inside
-          (without-split ok i (winners (without i ok) ps) v.good).0
+      less = (winners_right ok ps s below (without_split ok i s spare).0).least (winners (without i ok) ps) v.inside
+          (without_split ok i (winners (without i ok) ps) v.good).0
 
       go : (b : Bool) → b ≡ true → payment b (cost ps (winners (without i ok) ps)) (cost ps (winners ok ps)) (get_or ps i 0)
           + cost ps (winners ok ps) ≡ cost ps (winners (without i ok) ps) + get_or ps i 0
@@ -132,9 +132,9 @@ module _ (ok ok' : ℕ → Bool) (ps : List ℕ) (i : ℕ) (fewer : (s : ℕ) �
     (same : without i ok' ≡ without i ok)
   where
     -- it never raises the threshold
-    pub threshold-fewer : vcgThreshold ok' ps i ≤ vcgThreshold ok ps i
-    unfolding vcgThreshold margin
-    threshold-fewer = rw same (go (first with' price n) (first with-i price n) (first-right with' price n) (first-right with-i price n))
+    pub threshold_fewer : vcg_threshold ok' ps i ≤ vcg_threshold ok ps i
+    unfolding vcg_threshold margin
+    threshold_fewer = rw same (go (first with' price n) (first with_i price n) (first_right with' price n) (first_right with_i price n))
       where
         n : ℕ
         n = 2 ^ length ps
@@ -142,16 +142,16 @@ module _ (ok ok' : ℕ → Bool) (ps : List ℕ) (i : ℕ) (fewer : (s : ℕ) �
         price : ℕ → ℕ
         price t = cost (set ps i 0) t
 
-        with-i : ℕ → Bool
-        with-i t = ok t && bit t i
+        with_i : ℕ → Bool
+        with_i t = ok t && bit t i
 
         with' : ℕ → Bool
         with' t = ok' t && bit t i
 
-        more : (t : ℕ) → with' t ≡ true → with-i t ≡ true
+        more : (t : ℕ) → with' t ≡ true → with_i t ≡ true
         more t e = let g = and_split (ok' t) (bit t i) e in rw (fewer t g.0, g.1)
 
-        go : (f g : Found) → IsFirst with' price n f → IsFirst with-i price n g
+        go : (f g : Found) → IsFirst with' price n f → IsFirst with_i price n g
             → margin (price (winners (without i ok) (set ps i 0))) price f
             ≤ margin (price (winners (without i ok) (set ps i 0))) price g
         go nothing g x y = omega arith
@@ -160,8 +160,8 @@ module _ (ok ok' : ℕ → Bool) (ps : List ℕ) (i : ℕ) (fewer : (s : ℕ) �
 
     -- whoever's cost is c gains no more by asking q and offering fewer cells
     pub truthful : i < length ps → (s : ℕ) → s < 2 ^ length ps → without i ok s ≡ true → (c q : ℕ)
-        → vcgPaid ok' (set ps i q) i + when (bit (winners ok (set ps i c)) i) c ≤ vcgPaid ok (set ps i c) i
+        → vcg_paid ok' (set ps i q) i + when (bit (winners ok (set ps i c)) i) c ≤ vcg_paid ok (set ps i c) i
         + when (bit (winners ok' (set ps i q)) i) c
     truthful inside s below spare c q = rw (pays ok ps i inside s below spare c, pays ok' ps i inside s below (rw same spare) q)
-        (honest (λ p. bit (winners ok (set ps i p)) i) (vcgThreshold ok ps i) (threshold ok ps i inside s below spare) c
-        (bit (winners ok' (set ps i q)) i) (vcgThreshold ok' ps i) threshold-fewer)
+        (honest (λ p. bit (winners ok (set ps i p)) i) (vcg_threshold ok ps i) (threshold ok ps i inside s below spare) c
+        (bit (winners ok' (set ps i q)) i) (vcg_threshold ok' ps i) threshold_fewer)

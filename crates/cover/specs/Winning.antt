@@ -7,6 +7,6 @@ abbrev pub Below : (ℕ → Bool) → ℕ → Type 0
 Below ok m = (q : ℕ) → ok q ≡ ltb q m
 
 -- the largest of the numbers below m
-unfoldable pub oneLess : ℕ → Found
-oneLess zero = nothing
-oneLess (suc p) = found p
+unfoldable pub one_less : ℕ → Found
+one_less zero = nothing
+one_less (suc p) = found p

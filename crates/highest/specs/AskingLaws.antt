@@ -15,40 +15,40 @@ use Rattle.tender.specs.declared.Highest.TheVariants.{Price, NoPrice, Refused}
 use Rattle.tender.specs.declared.Refusal.TheVariants.{MinuteUncovered, OneBidder, NoSuchBidder}
 use Rattle.cover.specs.Sets.{Found, nothing, found, bit, covers, cells}
 use Rattle.cover.specs.LeastCover.{winners}
-use Rattle.tender.specs.Tables.{bidWidth}
+use Rattle.tender.specs.Tables.{bid_width}
 use Rattle.cover.specs.CriticalPrice.{largest, sum, limit}
 use Rattle.cover.specs.Settled.{spans}
 use Rattle.cover.specs.SpareLaws.{Spare}
-use Rattle.cover.specs.Winning.{Below, oneLess}
-use Rattle.cover.specs.Intervals.BidsLaws.{sum-most}
-use Rattle.multi_market.specs.Market.{placeOr, has}
+use Rattle.cover.specs.Winning.{Below, one_less}
+use Rattle.cover.specs.Intervals.BidsLaws.{sum_most}
+use Rattle.multi_market.specs.Market.{place_or, has}
 use Rattle.award_thin.specs.declared.Thin.{Thin}
 use Rattle.award_thin.specs.declared.Thin.TheVariants.{Nobody, Alone, Enough}
-use Rattle.award_check.specs.Faults.{faultOf}
-use Rattle.award_check.specs.Cells.{cells_of, minuteOf}
-use Rattle.award_check.specs.Auction.{Auction, auctionOf, atPrice}
-use Rattle.award_check.specs.AuctionLaws.{cells_are, owner-spared}
-use Rattle.award_check.specs.AlikeLaws.{own-kind}
+use Rattle.award_check.specs.Faults.{fault_of}
+use Rattle.award_check.specs.Cells.{cells_of, minute_of}
+use Rattle.award_check.specs.Auction.{Auction, auction_of, at_price}
+use Rattle.award_check.specs.AuctionLaws.{cells_are, owner_spared}
+use Rattle.award_check.specs.AlikeLaws.{own_kind}
 use Rattle.award_laid.specs.Lay.{Tells}
-use Rattle.award_laid.specs.TellsLaws.{at_bare, at-lone}
-use Rattle.award_laid.specs.EntryLaws.{laid-prices}
-use Rattle.award_rule.specs.Award.{leastCost, greedy, rule, won}
-use Rattle.award_rule.specs.AwardLaws.{won-least}
-use Rattle.highest_rule.specs.Highest.{rowWith, priceFor, highestOf}
-use Rattle.highest_rule.specs.HighestLaws.{wins-below}
+use Rattle.award_laid.specs.TellsLaws.{at_bare, at_lone}
+use Rattle.award_laid.specs.EntryLaws.{laid_prices}
+use Rattle.award_rule.specs.Award.{least_cost, greedy, rule, won}
+use Rattle.award_rule.specs.AwardLaws.{won_least}
+use Rattle.highest_rule.specs.Highest.{row_with, price_for, highest_of}
+use Rattle.highest_rule.specs.HighestLaws.{wins_below}
 use Rattle.highest_rule.specs.RowLaws.{row_inside}
-use Rattle.highest_rule.specs.AnswerLaws.{eleven, twelve, seventeen, price, row-spared, row-entry, some-cell}
+use Rattle.highest_rule.specs.AnswerLaws.{eleven, twelve, seventeen, price, row_spared, row_entry, some_cell}
 use Rattle.highest.specs.Asking.{SpansAsked, MasksAsked}
 
 -- the row is looked for from the last on: the largest of all the rows with the number is the largest of those before i
 module _ (bids : List ℕ) (n bidder : ℕ) where
-  pub row-stops : (i : ℕ) → 0 < i → get_or bids (bidWidth * (i - 1)) 0 ≡ bidder → rowWith bids i bidder ≡ rowWith bids n bidder
-      → i - 1 ≡ placeOr n (rowWith bids n bidder)
-  unfolding rowWith largest placeOr
-  row-stops zero l e h = absurd (omega arith)
-  row-stops (suc i) l e h = rw (
+  pub row_stops : (i : ℕ) → 0 < i → get_or bids (bid_width * (i - 1)) 0 ≡ bidder → row_with bids i bidder ≡ row_with bids n bidder
+      → i - 1 ≡ place_or n (row_with bids n bidder)
+  unfolding row_with largest place_or
+  row_stops zero l e h = absurd (omega arith)
+  row_stops (suc i) l e h = rw (
     ← h,
-    eq-eqb (get_or bids (bidWidth * i) 0) bidder (ap (λ (k : ℕ). get_or bids (bidWidth * k) 0) less
+    eq-eqb (get_or bids (bid_width * i) 0) bidder (ap (λ (k : ℕ). get_or bids (bid_width * k) 0) less
         ∙ e),
   )
       (omega arith)
@@ -56,117 +56,117 @@ module _ (bids : List ℕ) (n bidder : ℕ) where
       less : i ≡ suc i - 1
       less = omega arith
 
-  pub row_goes : (i : ℕ) → 0 < i → (get_or bids (bidWidth * (i - 1)) 0 ≡ bidder → ⊥)
-      → rowWith bids i bidder ≡ rowWith bids n bidder
-      → rowWith bids (i - 1) bidder ≡ rowWith bids n bidder
-  unfolding rowWith largest
+  pub row_goes : (i : ℕ) → 0 < i → (get_or bids (bid_width * (i - 1)) 0 ≡ bidder → ⊥)
+      → row_with bids i bidder ≡ row_with bids n bidder
+      → row_with bids (i - 1) bidder ≡ row_with bids n bidder
+  unfolding row_with largest
   row_goes zero l e h = absurd (omega arith)
-  row_goes (suc i) l e h = ap (λ (k : ℕ). rowWith bids k bidder) (sym less)
-      ∙ rw (ne_eqb (get_or bids (bidWidth * i) 0) bidder (λ z. e (ap (λ (k : ℕ). get_or bids (bidWidth * k) 0) (sym less) ∙ z))) at h
+  row_goes (suc i) l e h = ap (λ (k : ℕ). row_with bids k bidder) (sym less)
+      ∙ rw (ne_eqb (get_or bids (bid_width * i) 0) bidder (λ z. e (ap (λ (k : ℕ). get_or bids (bid_width * k) 0) (sym less) ∙ z))) at h
     where
       less : i ≡ suc i - 1
       less = omega arith
 
-  pub row_ends : (i : ℕ) → i ≤ 0 → rowWith bids i bidder ≡ rowWith bids n bidder → n ≡ placeOr n (rowWith bids n bidder)
-  unfolding rowWith largest placeOr
+  pub row_ends : (i : ℕ) → i ≤ 0 → row_with bids i bidder ≡ row_with bids n bidder → n ≡ place_or n (row_with bids n bidder)
+  unfolding row_with largest place_or
   row_ends zero l h = rw (← h)
   row_ends (suc i) l h = absurd (omega arith)
 
 -- the row, as its place is answered
-module _ (bids : List ℕ) (n bidder r : ℕ) (e : r ≡ placeOr n (rowWith bids n bidder)) where
-  pub row_here : r < n → rowWith bids n bidder ≡ found r
-  unfolding placeOr
-  row_here l = go (rowWith bids n bidder) refl e
+module _ (bids : List ℕ) (n bidder r : ℕ) (e : r ≡ place_or n (row_with bids n bidder)) where
+  pub row_here : r < n → row_with bids n bidder ≡ found r
+  unfolding place_or
+  row_here l = go (row_with bids n bidder) refl e
     where
-      go : (f : Found) → rowWith bids n bidder ≡ f → r ≡ placeOr n f → f ≡ found r
+      go : (f : Found) → row_with bids n bidder ≡ f → r ≡ place_or n f → f ≡ found r
       go nothing d h = absurd (omega arith)
       go (found i) d h = ap found (sym h)
 
-  pub row-missing : n ≤ r → rowWith bids n bidder ≡ nothing
-  unfolding placeOr
-  row-missing l = go (rowWith bids n bidder) refl e
+  pub row_missing : n ≤ r → row_with bids n bidder ≡ nothing
+  unfolding place_or
+  row_missing l = go (row_with bids n bidder) refl e
     where
-      go : (f : Found) → rowWith bids n bidder ≡ f → r ≡ placeOr n f → f ≡ nothing
+      go : (f : Found) → row_with bids n bidder ≡ f → r ≡ place_or n f → f ≡ nothing
       go nothing d h = refl
       go (found i) d h = absurd (omega (arith, (row_inside bids n bidder i d).0))
 
 -- the award's kind is the tender's own
-pub sound-own : (k : Kind) (t : Tender) (n : ℕ) (bids windows : List ℕ) → faultOf k t n bids windows ≡ none
-    → faultOf t.kind t n bids windows ≡ none
-sound-own k t n bids windows f = subst (λ k. faultOf k t n bids windows ≡ none) (sym (own-kind k t n bids windows f)) f
+pub sound_own : (k : Kind) (t : Tender) (n : ℕ) (bids windows : List ℕ) → fault_of k t n bids windows ≡ none
+    → fault_of t.kind t n bids windows ≡ none
+sound_own k t n bids windows f = subst (λ k. fault_of k t n bids windows ≡ none) (sym (own_kind k t n bids windows f)) f
 
 -- a thin cell
-module _ (k : Kind) (t : Tender) (n : ℕ) (bids windows : List ℕ) (bidder : ℕ) (f : faultOf k t n bids windows ≡ none) (thin : Thin)
-    (s : Tells (auctionOf t n bids windows) thin) where
-  pub tells-eleven : (x : ℕ) → thin ≡ Nobody x → Refused (MinuteUncovered (minuteOf t x)) ≡ highestOf t n bids windows bidder
-  tells-eleven x e = eleven t n bids windows bidder (sound-own k t n bids windows f) x (at_bare t n bids windows thin s x e)
+module _ (k : Kind) (t : Tender) (n : ℕ) (bids windows : List ℕ) (bidder : ℕ) (f : fault_of k t n bids windows ≡ none) (thin : Thin)
+    (s : Tells (auction_of t n bids windows) thin) where
+  pub tells_eleven : (x : ℕ) → thin ≡ Nobody x → Refused (MinuteUncovered (minute_of t x)) ≡ highest_of t n bids windows bidder
+  tells_eleven x e = eleven t n bids windows bidder (sound_own k t n bids windows f) x (at_bare t n bids windows thin s x e)
 
-  pub tells-twelve : (x : ℕ) → thin ≡ Alone x → Refused (OneBidder (minuteOf t x)) ≡ highestOf t n bids windows bidder
-  tells-twelve x e = let d = at-lone t n bids windows thin s x e in
-      twelve t n bids windows bidder (sound-own k t n bids windows f) x d.0 d.1
+  pub tells_twelve : (x : ℕ) → thin ≡ Alone x → Refused (OneBidder (minute_of t x)) ≡ highest_of t n bids windows bidder
+  tells_twelve x e = let d = at_lone t n bids windows thin s x e in
+      twelve t n bids windows bidder (sound_own k t n bids windows f) x d.0 d.1
 
 -- a single tender
 module _ (t : Tender) (n : ℕ) (bids windows ps starts ends order : List ℕ) (a : SpansAsked t n bids windows ps starts ends order) where
   abbrev A : Auction
-  A = auctionOf t n bids windows
+  A = auction_of t n bids windows
 
-  pub small-sum : sum ps ≤ 100100000000
-  small-sum = let p = laid-prices t n bids windows ps starts ends order Enough a.sound a.laid in
-      omega (arith, p.count, sum-most ps (λ i d. p.most i))
+  pub small_sum : sum ps ≤ 100100000000
+  small_sum = let p = laid_prices t n bids windows ps starts ends order Enough a.sound a.laid in
+      omega (arith, p.count, sum_most ps (λ i d. p.most i))
 
   pub spared : (i : ℕ) → i < n → Spare (spans starts ends) (length ps) (cells_of t) i
-  spared i l = rw (a.laid.has-is, a.laid.prices-are, ← cells_are t n bids windows)
-      (owner-spared t n bids windows a.laid.thin_is.0 a.laid.thin_is.1 i l)
+  spared i l = rw (a.laid.has_is, a.laid.prices_are, ← cells_are t n bids windows)
+      (owner_spared t n bids windows a.laid.thin_is.0 a.laid.thin_is.1 i l)
 
   module _ (bidder : ℕ) where
-    pub spans-missing : rowWith bids n bidder ≡ nothing → Refused NoSuchBidder ≡ highestOf t n bids windows bidder
-    spans-missing = seventeen t n bids windows bidder (sound-own Single t n bids windows a.sound) a.laid.thin_is.0
+    pub spans_missing : row_with bids n bidder ≡ nothing → Refused NoSuchBidder ≡ highest_of t n bids windows bidder
+    spans_missing = seventeen t n bids windows bidder (sound_own Single t n bids windows a.sound) a.laid.thin_is.0
         a.laid.thin_is.1
 
-    pub spans-price : (i m : ℕ) → rowWith bids n bidder ≡ found i
+    pub spans_price : (i m : ℕ) → row_with bids n bidder ≡ found i
         → Below (λ q. bit (winners (covers (spans starts ends) (length ps) (cells_of t)) (set ps i q)) i) m
-        → priceFor (oneLess m) ≡ highestOf t n bids windows bidder
-    unfolding atPrice
-    spans-price i m e b = price t n bids windows bidder (sound-own Single t n bids windows a.sound) a.laid.thin_is.0
+        → price_for (one_less m) ≡ highest_of t n bids windows bidder
+    unfolding at_price
+    spans_price i m e b = price t n bids windows bidder (sound_own Single t n bids windows a.sound) a.laid.thin_is.0
         a.laid.thin_is.1 i m e
-        (λ q. ap (λ k. won (rule k) (atPrice i q A) i) (own-kind Single t n bids windows a.sound)
-        ∙ won-least (atPrice i q A) i (length A.prices) (length-set A.prices i q)
-        ∙ rw (a.laid.has-is, a.laid.prices-are, ← cells_are t n bids windows) at (b q))
+        (λ q. ap (λ k. won (rule k) (at_price i q A) i) (own_kind Single t n bids windows a.sound)
+        ∙ won_least (at_price i q A) i (length A.prices) (length-set A.prices i q)
+        ∙ rw (a.laid.has_is, a.laid.prices_are, ← cells_are t n bids windows) at (b q))
 
 -- a multi tender
 module _ (t : Tender) (w n : ℕ) (bids windows ps ms : List ℕ) (a : MasksAsked t w n bids windows ps ms) (bidder : ℕ) where
   abbrev B : Auction
-  B = auctionOf t n bids windows
+  B = auction_of t n bids windows
 
-  own-sound : faultOf t.kind t n bids windows ≡ none
-  own-sound = sound-own Multi t n bids windows a.sound
+  own_sound : fault_of t.kind t n bids windows ≡ none
+  own_sound = sound_own Multi t n bids windows a.sound
 
-  pub masks-missing : rowWith bids n bidder ≡ nothing → Refused NoSuchBidder ≡ highestOf t n bids windows bidder
-  masks-missing = seventeen t n bids windows bidder own-sound a.laid.thin_is.0 a.laid.thin_is.1
+  pub masks_missing : row_with bids n bidder ≡ nothing → Refused NoSuchBidder ≡ highest_of t n bids windows bidder
+  masks_missing = seventeen t n bids windows bidder own_sound a.laid.thin_is.0 a.laid.thin_is.1
 
-  pub masks-price : (i m : ℕ) → rowWith bids n bidder ≡ found i → m ≡ limit (has ms w) ps (cells (cells_of t)) i
-      → priceFor (oneLess m) ≡ highestOf t n bids windows bidder
-  masks-price i m e d =
+  pub masks_price : (i m : ℕ) → row_with bids n bidder ≡ found i → m ≡ limit (has ms w) ps (cells (cells_of t)) i
+      → price_for (one_less m) ≡ highest_of t n bids windows bidder
+  masks_price i m e d =
       let u = a.laid.thin_is in
-      price t n bids windows bidder own-sound u.0 u.1 i m e
-      (λ q. ap (λ k. won (rule k) (atPrice i q B) i) (own-kind Multi t n bids windows a.sound)
-      ∙ rw (d ∙ is) (wins-below B i (row-entry t n bids windows bidder own-sound u.0 u.1 i e)
-      (row-spared t n bids windows bidder own-sound u.0 u.1 i e)
-      (some-cell t n bids windows bidder own-sound u.0 u.1) greedy q))
+      price t n bids windows bidder own_sound u.0 u.1 i m e
+      (λ q. ap (λ k. won (rule k) (at_price i q B) i) (own_kind Multi t n bids windows a.sound)
+      ∙ rw (d ∙ is) (wins_below B i (row_entry t n bids windows bidder own_sound u.0 u.1 i e)
+      (row_spared t n bids windows bidder own_sound u.0 u.1 i e)
+      (some_cell t n bids windows bidder own_sound u.0 u.1) greedy q))
     where
       is : limit (has ms w) ps (cells (cells_of t)) i ≡ limit B.has B.prices (cells B.cells) i
-      is = rw (a.laid.has-is, a.laid.prices-are, ← cells_are t n bids windows)
+      is = rw (a.laid.has_is, a.laid.prices_are, ← cells_are t n bids windows)
 
 -- the answer to a price below which a bid would win
-pub told_none : (m : ℕ) → m ≡ 0 → NoPrice ≡ priceFor (oneLess m)
-unfolding oneLess priceFor
+pub told_none : (m : ℕ) → m ≡ 0 → NoPrice ≡ price_for (one_less m)
+unfolding one_less price_for
 told_none zero e = refl
 told_none (suc p) e = absurd (omega arith)
 
-pub told-price : (m : ℕ) → (m ≡ 0 → ⊥) → Price (m - 1) ≡ priceFor (oneLess m)
-unfolding oneLess priceFor
-told-price zero e = absurd (e refl)
-told-price (suc p) e = ap Price less
+pub told_price : (m : ℕ) → (m ≡ 0 → ⊥) → Price (m - 1) ≡ price_for (one_less m)
+unfolding one_less price_for
+told_price zero e = absurd (e refl)
+told_price (suc p) e = ap Price less
   where
     less : suc p - 1 ≡ p
     less = omega arith

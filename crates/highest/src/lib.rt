@@ -1,17 +1,19 @@
 // With which price a bid of a tender of either kind would win if all else stood: `highest_price` answers the largest such price, that not
 // even 0 would, or a refusal. `highest_rule` Highest says what is answered.
+#![tactic(auto)]
+
 ghost use Rattle.std.specs.Prelude.{◌≡◌, ℕ, ◌+◌, ◌*◌, ◌/◌, ◌≤◌, ◌<◌, length, get_or};
 ghost use Rattle.std.proofs.Math.Option.{none};
 ghost use Rattle.tender.specs.declared.Kind.TheVariants.{Single, Multi};
-ghost use Rattle.tender.specs.Limits.{maxEntries};
-ghost use Rattle.tender.specs.Tables.{bidWidth};
-ghost use Rattle.cover.specs.Winning.{oneLess};
-ghost use Rattle.cover.specs.Settled.{mostCents};
-ghost use Rattle.multi_market.specs.Market.{placeOr};
-ghost use Rattle.award_check.specs.Faults.{faultOf};
+ghost use Rattle.tender.specs.Limits.{max_entries};
+ghost use Rattle.tender.specs.Tables.{bid_width};
+ghost use Rattle.cover.specs.Winning.{one_less};
+ghost use Rattle.cover.specs.Settled.{most_cents};
+ghost use Rattle.multi_market.specs.Market.{place_or};
+ghost use Rattle.award_check.specs.Faults.{fault_of};
 ghost use Rattle.award_check.specs.Cells.{cells_of};
 ghost use Rattle.award_check.specs.Auction.{houses};
-ghost use Rattle.highest_rule.specs.Highest.{rowWith, priceFor, highestOf};
+ghost use Rattle.highest_rule.specs.Highest.{row_with, price_for, highest_of};
 ghost use Rattle.highest.specs.Asking.{SpansAsked, MasksAsked};
 
 use award_fault::Check;
@@ -20,8 +22,8 @@ use tender::{Highest, Kind, Refusal, Tender};
 
 // The row with this bidder number; `count` where no row has it.
 fn row_with(bids: &[u64], count: usize, bidder: u64) -> usize
-    requires { count ≤ length bids.now / bidWidth }
-    ensures { result ≡ placeOr count (rowWith bids.now count bidder) }
+    requires { count ≤ length bids.now / bid_width }
+    ensures { result ≡ place_or count (row_with bids.now count bidder) }
 {
     let mut i = count;
     while 0 < i {
@@ -35,7 +37,7 @@ fn row_with(bids: &[u64], count: usize, bidder: u64) -> usize
 
 // The answer where a bid would win at the prices below this one: the largest of them.
 fn told(below: u64) -> Highest
-    ensures { result ≡ priceFor (oneLess below) }
+    ensures { result ≡ price_for (one_less below) }
 {
     if below == 0 {
         return Highest::NoPrice;
@@ -56,7 +58,7 @@ fn ask_spans(
     order: &[usize],
 ) -> Highest
     requires { SpansAsked tender count bids.now windows.now prices.old starts.now ends.now order.now }
-    ensures { result ≡ highestOf tender count bids.now windows.now bidder }
+    ensures { result ≡ highest_of tender count bids.now windows.now bidder }
 {
     let i = row_with(bids, count, bidder);
     if i < count {
@@ -79,7 +81,7 @@ fn ask_masks(
     masks: &[u64],
 ) -> Highest
     requires { MasksAsked tender w count bids.now windows.now prices.now masks.now }
-    ensures { result ≡ highestOf tender count bids.now windows.now bidder }
+    ensures { result ≡ highest_of tender count bids.now windows.now bidder }
 {
     let i = row_with(bids, count, bidder);
     if i < count {
@@ -102,10 +104,10 @@ fn single_in(
     ends: &mut [u64],
     order: &mut [usize],
 ) -> Highest
-    requires { (faultOf Single tender count bids.now windows.now ≡ none)
+    requires { (fault_of Single tender count bids.now windows.now ≡ none)
         × ((length prices.old ≡ count + houses tender.reserve) × ((length starts.old ≡ count + houses tender.reserve)
         × ((length ends.old ≡ count + houses tender.reserve) × (length prices.old ≤ length order.old)))) }
-    ensures { result ≡ highestOf tender count bids.now windows.now bidder }
+    ensures { result ≡ highest_of tender count bids.now windows.now bidder }
 {
     let thin = award_laid::lay_spans(tender, count, bids, windows, prices, starts, ends, order);
     match thin {
@@ -131,8 +133,8 @@ fn highest_single(
     windows: &[u64],
     bidder: u64,
 ) -> Highest
-    requires { faultOf Single tender count bids.now windows.now ≡ none }
-    ensures { result ≡ highestOf tender count bids.now windows.now bidder }
+    requires { fault_of Single tender count bids.now windows.now ≡ none }
+    ensures { result ≡ highest_of tender count bids.now windows.now bidder }
 {
     let entries = award_layout::entries(tender, count);
     let mut prices = [1u64; tender::MAX_ENTRIES];
@@ -163,10 +165,10 @@ fn multi_in(
     prices: &mut [u64],
     masks: &mut [u64],
 ) -> Highest
-    requires { (faultOf Multi tender count bids.now windows.now ≡ none)
+    requires { (fault_of Multi tender count bids.now windows.now ≡ none)
         × ((w ≡ (cells_of tender + 63) / 64) × ((length prices.old ≡ count + houses tender.reserve)
         × (length masks.old ≡ w * (count + houses tender.reserve)))) }
-    ensures { result ≡ highestOf tender count bids.now windows.now bidder }
+    ensures { result ≡ highest_of tender count bids.now windows.now bidder }
 {
     let thin = award_laid::lay_masks(tender, w, count, bids, windows, prices, masks);
     match thin {
@@ -190,8 +192,8 @@ fn highest_multi(
     windows: &[u64],
     bidder: u64,
 ) -> Highest
-    requires { faultOf Multi tender count bids.now windows.now ≡ none }
-    ensures { result ≡ highestOf tender count bids.now windows.now bidder }
+    requires { fault_of Multi tender count bids.now windows.now ≡ none }
+    ensures { result ≡ highest_of tender count bids.now windows.now bidder }
 {
     let w = (award_layout::cells(tender) as usize + 63) / 64;
     let entries = award_layout::entries(tender, count);
@@ -218,8 +220,8 @@ pub fn highest_sound(
     windows: &[u64],
     bidder: u64,
 ) -> Highest
-    requires { faultOf tender.kind tender count bids.now windows.now ≡ none }
-    ensures { result ≡ highestOf tender count bids.now windows.now bidder }
+    requires { fault_of tender.kind tender count bids.now windows.now ≡ none }
+    ensures { result ≡ highest_of tender count bids.now windows.now bidder }
 {
     let kind = tender.kind;
     match kind {
@@ -237,7 +239,7 @@ pub fn highest_price(
     windows: &[u64],
     bidder: u64,
 ) -> Highest
-    ensures { result ≡ highestOf tender count bids.now windows.now bidder }
+    ensures { result ≡ highest_of tender count bids.now windows.now bidder }
 {
     let kind = tender.kind;
     match award_fault::fault(kind, tender, count, bids, windows) {

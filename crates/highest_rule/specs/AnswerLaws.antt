@@ -12,138 +12,138 @@ use Rattle.tender.specs.declared.AwardRow.{AwardRow}
 use Rattle.tender.specs.declared.Totals.{Totals}
 use Rattle.tender.specs.declared.Refusal.{Refusal}
 use Rattle.tender.specs.declared.Refusal.TheVariants.{BadTables, MinuteUncovered, OneBidder, NoSuchBidder}
-use Rattle.tender.specs.Tables.{Row, flatRows, flatWindows}
+use Rattle.tender.specs.Tables.{Row, flat_rows, flat_windows}
 use Rattle.cover.specs.Sets.{Found, nothing, found}
 use Rattle.cover.specs.SpareLaws.{Spare}
-use Rattle.cover.specs.Winning.{Below, oneLess}
+use Rattle.cover.specs.Winning.{Below, one_less}
 use Rattle.reader_text.specs.Rules.{Rules}
-use Rattle.award_check.specs.Faults.{faultOf}
-use Rattle.award_check.specs.Cells.{minuteOf}
-use Rattle.award_check.specs.Auction.{Auction, auctionOf, atPrice, thinCell}
-use Rattle.award_check.specs.AuctionLaws.{entries, cells_are, owner-spared, auction-read}
-use Rattle.award_layout.specs.LayoutLaws.{cells-within}
-use Rattle.award_rule.specs.Award.{Rule, rule, won, Outcome, awarded, refused, awardRows, totalsOf, thinned, uncovered, lone, awardOf}
-use Rattle.award_rule.specs.AwardLaws.{award-nine, award-settles, AwardOn, award-awarded}
-use Rattle.award_rule.specs.ReadLaws.{award-read}
-use Rattle.highest_rule.specs.Highest.{highest, rowWith, priceFor, onRow, unlessRefused, highestOf}
-use Rattle.highest_rule.specs.HighestLaws.{highest-below}
+use Rattle.award_check.specs.Faults.{fault_of}
+use Rattle.award_check.specs.Cells.{minute_of}
+use Rattle.award_check.specs.Auction.{Auction, auction_of, at_price, thin_cell}
+use Rattle.award_check.specs.AuctionLaws.{entries, cells_are, owner_spared, auction_read}
+use Rattle.award_layout.specs.LayoutLaws.{cells_within}
+use Rattle.award_rule.specs.Award.{Rule, rule, won, Outcome, awarded, refused, award_rows, totals_of, thinned, uncovered, lone, award_of}
+use Rattle.award_rule.specs.AwardLaws.{award_nine, award_settles, AwardOn, award_awarded}
+use Rattle.award_rule.specs.ReadLaws.{award_read}
+use Rattle.highest_rule.specs.Highest.{highest, row_with, price_for, on_row, unless_refused, highest_of}
+use Rattle.highest_rule.specs.HighestLaws.{highest_below}
 use Rattle.highest_rule.specs.RowLaws.{row_inside, row_read}
 
 -- a price as it is answered
-pub price-found : (f : Found) (p : ℕ) → f ≡ found p → priceFor f ≡ Price p
-unfolding priceFor
-price-found f p e = rw e
+pub price_found : (f : Found) (p : ℕ) → f ≡ found p → price_for f ≡ Price p
+unfolding price_for
+price_found f p e = rw e
 
-pub price-none : (f : Found) → f ≡ nothing → priceFor f ≡ NoPrice
-unfolding priceFor
-price-none f e = rw e
+pub price_none : (f : Found) → f ≡ nothing → price_for f ≡ NoPrice
+unfolding price_for
+price_none f e = rw e
 
 module _ (t : Tender) (n : ℕ) (bids windows : List ℕ) (bidder : ℕ) where
   abbrev A : Auction
-  A = auctionOf t n bids windows
+  A = auction_of t n bids windows
 
   abbrev answer : Highest
-  answer = highestOf t n bids windows bidder
+  answer = highest_of t n bids windows bidder
 
   -- 9
-  pub nine : (p : ℕ) → faultOf t.kind t n bids windows ≡ some p → Refused (BadTables p) ≡ answer
-  unfolding highestOf unlessRefused
-  nine p e = rw (award-nine t.kind t n bids windows n p e)
+  pub nine : (p : ℕ) → fault_of t.kind t n bids windows ≡ some p → Refused (BadTables p) ≡ answer
+  unfolding highest_of unless_refused
+  nine p e = rw (award_nine t.kind t n bids windows n p e)
 
-  module _ (f : faultOf t.kind t n bids windows ≡ none) where
-    settles : (x y : Found) → thinCell A 0 ≡ x → thinCell A 1 ≡ y → awardOf t.kind t n bids windows n
-        ≡ thinned (uncovered t) (lone t) x y (awarded (awardRows (rule t.kind) A) (totalsOf (rule t.kind) A))
-    settles = award-settles t.kind t n bids windows n f (le-ltb n n (omega arith))
+  module _ (f : fault_of t.kind t n bids windows ≡ none) where
+    settles : (x y : Found) → thin_cell A 0 ≡ x → thin_cell A 1 ≡ y → award_of t.kind t n bids windows n
+        ≡ thinned (uncovered t) (lone t) x y (awarded (award_rows (rule t.kind) A) (totals_of (rule t.kind) A))
+    settles = award_settles t.kind t n bids windows n f (le-ltb n n (omega arith))
 
     -- 11
-    pub eleven : (x : ℕ) → thinCell A 0 ≡ found x → Refused (MinuteUncovered (minuteOf t x)) ≡ answer
-    unfolding highestOf unlessRefused thinned uncovered
-    eleven x e = rw (settles (found x) (thinCell A 1) e refl)
+    pub eleven : (x : ℕ) → thin_cell A 0 ≡ found x → Refused (MinuteUncovered (minute_of t x)) ≡ answer
+    unfolding highest_of unless_refused thinned uncovered
+    eleven x e = rw (settles (found x) (thin_cell A 1) e refl)
 
     -- 12
-    pub twelve : (x : ℕ) → thinCell A 0 ≡ nothing → thinCell A 1 ≡ found x → Refused (OneBidder (minuteOf t x)) ≡ answer
-    unfolding highestOf unlessRefused thinned lone
+    pub twelve : (x : ℕ) → thin_cell A 0 ≡ nothing → thin_cell A 1 ≡ found x → Refused (OneBidder (minute_of t x)) ≡ answer
+    unfolding highest_of unless_refused thinned lone
     twelve x d e = rw (settles nothing (found x) d e)
 
     -- the tender is awarded
-    module _ (covered : thinCell A 0 ≡ nothing) (doubled : thinCell A 1 ≡ nothing) where
-      pub asked : answer ≡ onRow (rowWith bids n bidder) (Refused NoSuchBidder) (λ i. priceFor (highest (rule t.kind) A i))
-      unfolding highestOf unlessRefused thinned
+    module _ (covered : thin_cell A 0 ≡ nothing) (doubled : thin_cell A 1 ≡ nothing) where
+      pub asked : answer ≡ on_row (row_with bids n bidder) (Refused NoSuchBidder) (λ i. price_for (highest (rule t.kind) A i))
+      unfolding highest_of unless_refused thinned
       asked = rw (settles nothing nothing covered doubled)
 
       -- 17
-      pub seventeen : rowWith bids n bidder ≡ nothing → Refused NoSuchBidder ≡ answer
-      unfolding onRow
-      seventeen e = sym (asked ∙ ap (λ f. onRow f (Refused NoSuchBidder) (λ i. priceFor (highest (rule t.kind) A i))) e)
+      pub seventeen : row_with bids n bidder ≡ nothing → Refused NoSuchBidder ≡ answer
+      unfolding on_row
+      seventeen e = sym (asked ∙ ap (λ f. on_row f (Refused NoSuchBidder) (λ i. price_for (highest (rule t.kind) A i))) e)
 
       -- the other entries have every cell, of which there is one
-      pub row-spared : (i : ℕ) → rowWith bids n bidder ≡ found i → Spare A.has (length A.prices) A.cells i
-      row-spared i e = owner-spared t n bids windows covered doubled i (row_inside bids n bidder i e).0
+      pub row_spared : (i : ℕ) → row_with bids n bidder ≡ found i → Spare A.has (length A.prices) A.cells i
+      row_spared i e = owner_spared t n bids windows covered doubled i (row_inside bids n bidder i e).0
 
-      pub row-entry : (i : ℕ) → rowWith bids n bidder ≡ found i → i < length A.prices
-      row-entry i e = omega (arith, (row_inside bids n bidder i e).0, entries t n bids windows)
+      pub row_entry : (i : ℕ) → row_with bids n bidder ≡ found i → i < length A.prices
+      row_entry i e = omega (arith, (row_inside bids n bidder i e).0, entries t n bids windows)
 
-      pub some-cell : 0 < A.cells
-      some-cell = omega (arith, cells_are t n bids windows, (cells-within t.kind t n bids windows f).0)
+      pub some_cell : 0 < A.cells
+      some_cell = omega (arith, cells_are t n bids windows, (cells_within t.kind t n bids windows f).0)
 
-      pub row-asked : (i : ℕ) → rowWith bids n bidder ≡ found i → answer ≡ priceFor (highest (rule t.kind) A i)
-      unfolding onRow
-      row-asked i e = asked ∙ ap (λ f. onRow f (Refused NoSuchBidder) (λ i. priceFor (highest (rule t.kind) A i))) e
+      pub row_asked : (i : ℕ) → row_with bids n bidder ≡ found i → answer ≡ price_for (highest (rule t.kind) A i)
+      unfolding on_row
+      row_asked i e = asked ∙ ap (λ f. on_row f (Refused NoSuchBidder) (λ i. price_for (highest (rule t.kind) A i))) e
 
       -- the price
-      pub price : (i m : ℕ) → rowWith bids n bidder ≡ found i → Below (λ q. won (rule t.kind) (atPrice i q A) i) m
-          → priceFor (oneLess m) ≡ answer
-      price i m e b = sym (row-asked i e ∙ ap priceFor
-          (highest-below A i (row-entry i e) (row-spared i e) some-cell (rule t.kind) m b))
+      pub price : (i m : ℕ) → row_with bids n bidder ≡ found i → Below (λ q. won (rule t.kind) (at_price i q A) i) m
+          → price_for (one_less m) ≡ answer
+      price i m e b = sym (row_asked i e ∙ ap price_for
+          (highest_below A i (row_entry i e) (row_spared i e) some_cell (rule t.kind) m b))
 
 -- what an answer says: the award's refusal, a number that no row has, or the price for the row's bid
 pub data Answered (t : Tender) (n : ℕ) (bids windows : List ℕ) (bidder : ℕ) (a : Highest) : Type 0 where
-  declined : (r : Refusal) → awardOf t.kind t n bids windows n ≡ refused r → a ≡ Refused r → Answered t n bids windows bidder a
+  declined : (r : Refusal) → award_of t.kind t n bids windows n ≡ refused r → a ≡ Refused r → Answered t n bids windows bidder a
   unknown : (rows : List AwardRow) (totals : Totals) → AwardOn t.kind t n bids windows n rows totals
-      → awardOf t.kind t n bids windows n ≡ awarded rows totals → rowWith bids n bidder ≡ nothing
+      → award_of t.kind t n bids windows n ≡ awarded rows totals → row_with bids n bidder ≡ nothing
       → a ≡ Refused NoSuchBidder → Answered t n bids windows bidder a
   priced : (rows : List AwardRow) (totals : Totals) → AwardOn t.kind t n bids windows n rows totals
-      → awardOf t.kind t n bids windows n ≡ awarded rows totals → (i : ℕ) → rowWith bids n bidder ≡ found i
-      → a ≡ priceFor (highest (rule t.kind) (auctionOf t n bids windows) i)
+      → award_of t.kind t n bids windows n ≡ awarded rows totals → (i : ℕ) → row_with bids n bidder ≡ found i
+      → a ≡ price_for (highest (rule t.kind) (auction_of t n bids windows) i)
       → Answered t n bids windows bidder a
 
-pub answered : (t : Tender) (n : ℕ) (bids windows : List ℕ) (bidder : ℕ) (a : Highest) → a ≡ highestOf t n bids windows bidder
+pub answered : (t : Tender) (n : ℕ) (bids windows : List ℕ) (bidder : ℕ) (a : Highest) → a ≡ highest_of t n bids windows bidder
     → Answered t n bids windows bidder a
-unfolding highestOf unlessRefused onRow
-answered t n bids windows bidder a e = go (awardOf t.kind t n bids windows n) refl e
+unfolding highest_of unless_refused on_row
+answered t n bids windows bidder a e = go (award_of t.kind t n bids windows n) refl e
   where
     price : Rule → ℕ → Highest
-    price r i = priceFor (highest r (auctionOf t n bids windows) i)
+    price r i = price_for (highest r (auction_of t n bids windows) i)
 
     row : (rows : List AwardRow) (totals : Totals) → AwardOn t.kind t n bids windows n rows totals
-        → awardOf t.kind t n bids windows n ≡ awarded rows totals → (f : Found)
-        → rowWith bids n bidder ≡ f → a ≡ onRow f (Refused NoSuchBidder) (price (rule t.kind))
+        → award_of t.kind t n bids windows n ≡ awarded rows totals → (f : Found)
+        → row_with bids n bidder ≡ f → a ≡ on_row f (Refused NoSuchBidder) (price (rule t.kind))
         → Answered t n bids windows bidder a
     row rows totals w m nothing d h = unknown rows totals w m d h
     row rows totals w m (found i) d h = priced rows totals w m i d h
 
-    go : (o : Outcome) → awardOf t.kind t n bids windows n ≡ o
-        → a ≡ unlessRefused o (onRow (rowWith bids n bidder) (Refused NoSuchBidder) (price (rule t.kind)))
+    go : (o : Outcome) → award_of t.kind t n bids windows n ≡ o
+        → a ≡ unless_refused o (on_row (row_with bids n bidder) (Refused NoSuchBidder) (price (rule t.kind)))
         → Answered t n bids windows bidder a
     go (refused r) d h = declined r d h
-    go (awarded rows totals) d h = row rows totals (award-awarded t.kind t n bids windows n rows totals (sym d)) d
-        (rowWith bids n bidder) refl h
+    go (awarded rows totals) d h = row rows totals (award_awarded t.kind t n bids windows n rows totals (sym d)) d
+        (row_with bids n bidder) refl h
 
 -- what stands past the rows that were read says nothing
-pub highest-read : (T : Tender) (R : List Row) (W : List Window) → Rules T R W → (v w : List ℕ) (bidder : ℕ)
-    → highestOf T (length R) (flatRows R ++ v) (flatWindows W ++ w) bidder
-    ≡ highestOf T (length R) (flatRows R) (flatWindows W) bidder
-unfolding highestOf
-highest-read T R W rules v w bidder =
-    ap (λ o. unlessRefused o (onRow (rowWith (flatRows R ++ v) (length R) bidder) (Refused NoSuchBidder)
-    (price (auctionOf T (length R) (flatRows R ++ v) (flatWindows W ++ w))))) (award-read T R W rules v w (length R) (omega arith))
-    ∙ ap (λ B. unlessRefused alone (onRow (rowWith (flatRows R ++ v) (length R) bidder) (Refused NoSuchBidder) (price B)))
-    (auction-read T R W rules v w)
-    ∙ ap (λ f. unlessRefused alone (onRow f (Refused NoSuchBidder) (price (auctionOf T (length R) (flatRows R) (flatWindows W)))))
+pub highest_read : (T : Tender) (R : List Row) (W : List Window) → Rules T R W → (v w : List ℕ) (bidder : ℕ)
+    → highest_of T (length R) (flat_rows R ++ v) (flat_windows W ++ w) bidder
+    ≡ highest_of T (length R) (flat_rows R) (flat_windows W) bidder
+unfolding highest_of
+highest_read T R W rules v w bidder =
+    ap (λ o. unless_refused o (on_row (row_with (flat_rows R ++ v) (length R) bidder) (Refused NoSuchBidder)
+    (price (auction_of T (length R) (flat_rows R ++ v) (flat_windows W ++ w))))) (award_read T R W rules v w (length R) (omega arith))
+    ∙ ap (λ B. unless_refused alone (on_row (row_with (flat_rows R ++ v) (length R) bidder) (Refused NoSuchBidder) (price B)))
+    (auction_read T R W rules v w)
+    ∙ ap (λ f. unless_refused alone (on_row f (Refused NoSuchBidder) (price (auction_of T (length R) (flat_rows R) (flat_windows W)))))
     (row_read R v bidder)
   where
     price : Auction → ℕ → Highest
-    price B i = priceFor (highest (rule T.kind) B i)
+    price B i = price_for (highest (rule T.kind) B i)
 
     alone : Outcome
-    alone = awardOf T.kind T (length R) (flatRows R) (flatWindows W) (length R)
+    alone = award_of T.kind T (length R) (flat_rows R) (flat_windows W) (length R)

@@ -3,36 +3,36 @@ use Rattle.std.specs.Prelude.{List, ◌∷◌, ◌++◌, ℕ, length}
 use Rattle.tender.specs.declared.Highest.{Highest}
 use Rattle.tender.specs.declared.Highest.TheVariants.{Price, NoPrice, Refused}
 use Rattle.tender.specs.Keywords.{bytes}
-use Rattle.tender.specs.Tables.{flatRows, flatWindows}
-use Rattle.reader_text.specs.Read.{ReadOutcome, accepted, refused, readText}
+use Rattle.tender.specs.Tables.{flat_rows, flat_windows}
+use Rattle.reader_text.specs.Read.{ReadOutcome, accepted, refused, read_text}
 use Rattle.spelling.specs.Decimal.{decimal}
-use Rattle.spelling.specs.Lines.{pairLine, refusedLine}
+use Rattle.spelling.specs.Lines.{pair_line, refused_line}
 use Rattle.spelling.specs.Delivered.{Delivered}
-use Rattle.highest_rule.specs.Highest.{highestOf}
+use Rattle.highest_rule.specs.Highest.{highest_of}
 
-unfoldable pub highestWord : List ℕ
+unfoldable pub highest_word : List ℕ
 unfolding bytes
-highestWord = bytes "highest"
+highest_word = bytes "highest"
 
 -- (highest bidder none)
-unfoldable pub noneLine : ℕ → List ℕ
+unfoldable pub none_line : ℕ → List ℕ
 unfolding bytes decimal
-noneLine bidder = bytes "(highest" ++ (32 ∷ decimal bidder) ++ bytes " none)\n"
+none_line bidder = bytes "(highest" ++ (32 ∷ decimal bidder) ++ bytes " none)\n"
 
 -- (highest bidder price), that no price wins, or the line of the refusal
-unfoldable pub highestLine : ℕ → Highest → List ℕ
-unfolding pairLine highestWord noneLine refusedLine
-highestLine bidder (Price p) = pairLine highestWord bidder p
-highestLine bidder NoPrice = noneLine bidder
-highestLine bidder (Refused r) = refusedLine r
+unfoldable pub highest_line : ℕ → Highest → List ℕ
+unfolding pair_line highest_word none_line refused_line
+highest_line bidder (Price p) = pair_line highest_word bidder p
+highest_line bidder NoPrice = none_line bidder
+highest_line bidder (Refused r) = refused_line r
 
 -- by what reading the text answers: of what was read
-unfoldable pub highestIn : ReadOutcome → ℕ → List ℕ
-unfolding refusedLine highestLine highestOf flatRows flatWindows
-highestIn (refused r) bidder = refusedLine r
-highestIn (accepted t R W) bidder = highestLine bidder (highestOf t (length R) (flatRows R) (flatWindows W) bidder)
+unfoldable pub highest_in : ReadOutcome → ℕ → List ℕ
+unfolding refused_line highest_line highest_of flat_rows flat_windows
+highest_in (refused r) bidder = refused_line r
+highest_in (accepted t R W) bidder = highest_line bidder (highest_of t (length R) (flat_rows R) (flat_windows W) bidder)
 
 -- The promise of a call with the text, a bidder number and a lent buffer of the bytes `old`: it answers r and leaves the bytes `new`.
 -- Where the line is longer than the buffer the answer is 0 and the buffer unchanged
 pub record HighestTold (text : List ℕ) (bidder : ℕ) (old new : List ℕ) (r : ℕ) : Type 0 where
-  pub delivers : Delivered (highestIn (readText text) bidder) old new r
+  pub delivers : Delivered (highest_in (read_text text) bidder) old new r

@@ -8,99 +8,99 @@ use Rattle.tender.specs.declared.Highest.{Highest}
 use Rattle.tender.specs.declared.Highest.TheVariants.{Price, NoPrice, Refused}
 use Rattle.tender.specs.declared.Refusal.{Refusal}
 use Rattle.tender.specs.Keywords.{bytes}
-use Rattle.tender.specs.Tables.{flatRows, flatWindows}
-use Rattle.reader_text.specs.Read.{ReadOutcome, accepted, refused, readText}
-use Rattle.reader_text.specs.RulesLaws.{rules-law}
+use Rattle.tender.specs.Tables.{flat_rows, flat_windows}
+use Rattle.reader_text.specs.Read.{ReadOutcome, accepted, refused, read_text}
+use Rattle.reader_text.specs.RulesLaws.{rules_law}
 use Rattle.reader_fill.specs.ReadInLaws.{ReadIn}
 use Rattle.spelling.specs.Decimal.{decimal}
-use Rattle.spelling.specs.Lines.{pairLine, refusedLine}
+use Rattle.spelling.specs.Lines.{pair_line, refused_line}
 use Rattle.spelling.specs.Written.{Written}
 use Rattle.spelling.specs.WritingLaws.{then}
-use Rattle.spelling.specs.LineLaws.{decimal-short, pair-short, pair-some, refused-short, refused-some}
+use Rattle.spelling.specs.LineLaws.{decimal_short, pair_short, pair_some, refused_short, refused_some}
 use Rattle.spelling.specs.Delivered.{Delivered}
-use Rattle.award_check.specs.Faults.{faultOf}
-use Rattle.award_check.specs.TextLaws.{never-nine}
-use Rattle.highest_rule.specs.Highest.{highestOf}
-use Rattle.highest_rule.specs.AnswerLaws.{highest-read}
-use Rattle.highest_text.specs.Told.{highestWord, noneLine, highestLine, highestIn, HighestTold}
+use Rattle.award_check.specs.Faults.{fault_of}
+use Rattle.award_check.specs.TextLaws.{never_nine}
+use Rattle.highest_rule.specs.Highest.{highest_of}
+use Rattle.highest_rule.specs.AnswerLaws.{highest_read}
+use Rattle.highest_text.specs.Told.{highest_word, none_line, highest_line, highest_in, HighestTold}
 
 -- what was read
 
 module _ {text bids windows : List ℕ} {t : Tender} {n : ℕ} (h : ReadIn text bids windows t n) where
-  pub read-sound : faultOf t.kind t n bids windows ≡ none
-  read-sound = rw (h.bids-are, h.windows-are, ← h.count)
-      (never-nine t h.rows h.spans h.past-rows h.past-spans (rules-law t h.rows h.spans text h.is))
+  pub read_sound : fault_of t.kind t n bids windows ≡ none
+  read_sound = rw (h.bids_are, h.windows_are, ← h.count)
+      (never_nine t h.rows h.spans h.past_rows h.past_spans (rules_law t h.rows h.spans text h.is))
 
-  pub told-read : {old new : List ℕ} {r bidder : ℕ} → (a : Highest) → a ≡ highestOf t n bids windows bidder
-      → Delivered (highestLine bidder a) old new r → HighestTold text bidder old new r
-  unfolding highestIn
-  told-read {old} {new} {r} {bidder} a e d = record {
-    delivers = subst (λ line. Delivered line old new r) (ap (highestLine bidder) (e ∙ is)
-        ∙ sym (ap (λ o. highestIn o bidder) h.is)) d;
+  pub told_read : {old new : List ℕ} {r bidder : ℕ} → (a : Highest) → a ≡ highest_of t n bids windows bidder
+      → Delivered (highest_line bidder a) old new r → HighestTold text bidder old new r
+  unfolding highest_in
+  told_read {old} {new} {r} {bidder} a e d = record {
+    delivers = subst (λ line. Delivered line old new r) (ap (highest_line bidder) (e ∙ is)
+        ∙ sym (ap (λ o. highest_in o bidder) h.is)) d;
   }
     where
-      is : highestOf t n bids windows bidder ≡ highestOf t (length h.rows) (flatRows h.rows) (flatWindows h.spans) bidder
-      is = rw (h.bids-are, h.windows-are, ← h.count)
-          (highest-read t h.rows h.spans (rules-law t h.rows h.spans text h.is) h.past-rows h.past-spans bidder)
+      is : highest_of t n bids windows bidder ≡ highest_of t (length h.rows) (flat_rows h.rows) (flat_windows h.spans) bidder
+      is = rw (h.bids_are, h.windows_are, ← h.count)
+          (highest_read t h.rows h.spans (rules_law t h.rows h.spans text h.is) h.past_rows h.past_spans bidder)
 
 -- a text that cannot be read
-pub told-refused : {text old new : List ℕ} {r bidder : ℕ} (q : Refusal) → readText text ≡ refused q
-    → Delivered (highestLine bidder (Refused q)) old new r → HighestTold text bidder old new r
-unfolding highestIn highestLine
-told-refused {text} {old} {new} {r} {bidder} q e d =
-    record { delivers = subst (λ line. Delivered line old new r) (sym (ap (λ o. highestIn o bidder) e)) d }
+pub told_refused : {text old new : List ℕ} {r bidder : ℕ} (q : Refusal) → read_text text ≡ refused q
+    → Delivered (highest_line bidder (Refused q)) old new r → HighestTold text bidder old new r
+unfolding highest_in highest_line
+told_refused {text} {old} {new} {r} {bidder} q e d =
+    record { delivers = subst (λ line. Delivered line old new r) (sym (ap (λ o. highest_in o bidder) e)) d }
 
 -- the line that no price wins, part by part
 pub none_written : {old one two new : List ℕ} {a b c : ℕ} (bidder : ℕ)
     → Written old 0 (40 ∷ 104 ∷ 105 ∷ 103 ∷ 104 ∷ 101 ∷ 115 ∷ 116 ∷ []) one a
     → Written one a (32 ∷ decimal bidder) two b
-    → Written two b (32 ∷ 110 ∷ 111 ∷ 110 ∷ 101 ∷ 41 ∷ 10 ∷ []) new c → Written old 0 (noneLine bidder) new c
-unfolding noneLine bytes
+    → Written two b (32 ∷ 110 ∷ 111 ∷ 110 ∷ 101 ∷ 41 ∷ 10 ∷ []) new c → Written old 0 (none_line bidder) new c
+unfolding none_line bytes
 none_written bidder u v w = then (then u v) w
 
 -- the line of an answer, by its case
 module _ {old new : List ℕ} {r : ℕ} (bidder : ℕ) {a : Highest} where
-  pub line-price : (p : ℕ) → a ≡ Price p
-      → Written old 0 (pairLine (104 ∷ 105 ∷ 103 ∷ 104 ∷ 101 ∷ 115 ∷ 116 ∷ []) bidder p) new r
-      → Written old 0 (highestLine bidder a) new r
-  unfolding highestLine highestWord bytes
-  line-price p e w = rw e w
+  pub line_price : (p : ℕ) → a ≡ Price p
+      → Written old 0 (pair_line (104 ∷ 105 ∷ 103 ∷ 104 ∷ 101 ∷ 115 ∷ 116 ∷ []) bidder p) new r
+      → Written old 0 (highest_line bidder a) new r
+  unfolding highest_line highest_word bytes
+  line_price p e w = rw e w
 
-  pub line-none : a ≡ NoPrice → Written old 0 (noneLine bidder) new r → Written old 0 (highestLine bidder a) new r
-  unfolding highestLine
-  line-none e w = rw e w
+  pub line_none : a ≡ NoPrice → Written old 0 (none_line bidder) new r → Written old 0 (highest_line bidder a) new r
+  unfolding highest_line
+  line_none e w = rw e w
 
-  pub line_refused : (q : Refusal) → a ≡ Refused q → Written old 0 (refusedLine q) new r
-      → Written old 0 (highestLine bidder a) new r
-  unfolding highestLine
+  pub line_refused : (q : Refusal) → a ≡ Refused q → Written old 0 (refused_line q) new r
+      → Written old 0 (highest_line bidder a) new r
+  unfolding highest_line
   line_refused q e w = rw e w
 
 -- how long a line is
 
-none-short : (bidder : ℕ) → length (noneLine bidder) ≤ 52
-unfolding noneLine bytes
-none-short bidder = omega (
+none_short : (bidder : ℕ) → length (none_line bidder) ≤ 52
+unfolding none_line bytes
+none_short bidder = omega (
   arith,
-  decimal-short bidder,
+  decimal_short bidder,
   length-append (bytes "(highest" ++ (32 ∷ decimal bidder)) (bytes " none)\n"),
   length-append (bytes "(highest") (32 ∷ decimal bidder),
 )
 
-none-some : (bidder : ℕ) → 0 < length (noneLine bidder)
-unfolding noneLine bytes
-none-some bidder = omega (arith, length-append (bytes "(highest" ++ (32 ∷ decimal bidder)) (bytes " none)\n"))
+none_some : (bidder : ℕ) → 0 < length (none_line bidder)
+unfolding none_line bytes
+none_some bidder = omega (arith, length-append (bytes "(highest" ++ (32 ∷ decimal bidder)) (bytes " none)\n"))
 
-pub line-short : (bidder : ℕ) (a : Highest) → (length (highestLine bidder a) ≤ 52) × (0 < length (highestLine bidder a))
-unfolding highestLine highestWord bytes
-line-short bidder (Price p) = (omega (arith, pair-short highestWord bidder p), pair-some highestWord bidder p)
-line-short bidder NoPrice = (none-short bidder, none-some bidder)
-line-short bidder (Refused r) = (refused-short r, refused-some r)
+pub line_short : (bidder : ℕ) (a : Highest) → (length (highest_line bidder a) ≤ 52) × (0 < length (highest_line bidder a))
+unfolding highest_line highest_word bytes
+line_short bidder (Price p) = (omega (arith, pair_short highest_word bidder p), pair_some highest_word bidder p)
+line_short bidder NoPrice = (none_short bidder, none_some bidder)
+line_short bidder (Refused r) = (refused_short r, refused_some r)
 
-pub told-short : (text : List ℕ) (bidder : ℕ)
-    → (length (highestIn (readText text) bidder) ≤ 52) × (0 < length (highestIn (readText text) bidder))
-unfolding highestIn highestLine
-told-short text bidder = go (readText text)
+pub told_short : (text : List ℕ) (bidder : ℕ)
+    → (length (highest_in (read_text text) bidder) ≤ 52) × (0 < length (highest_in (read_text text) bidder))
+unfolding highest_in highest_line
+told_short text bidder = go (read_text text)
   where
-    go : (o : ReadOutcome) → (length (highestIn o bidder) ≤ 52) × (0 < length (highestIn o bidder))
-    go (refused r) = (refused-short r, refused-some r)
-    go (accepted t R W) = line-short bidder (highestOf t (length R) (flatRows R) (flatWindows W) bidder)
+    go : (o : ReadOutcome) → (length (highest_in o bidder) ≤ 52) × (0 < length (highest_in o bidder))
+    go (refused r) = (refused_short r, refused_some r)
+    go (accepted t R W) = line_short bidder (highest_of t (length R) (flat_rows R) (flat_windows W) bidder)

@@ -1,9 +1,11 @@
 // With which price a bid of a text would win: reads it and asks what was read. `tender_highest` is the entry point for a host program in
 // C (include/tender.h). `specs/Told.antt` says which line it writes.
+#![tactic(auto)]
+
 ghost use Rattle.std.specs.Prelude.{◌≡◌, ◌≤◌, length};
 ghost use Rattle.spelling.specs.Written.{Written};
 ghost use Rattle.spelling.specs.Delivered.{Delivered};
-ghost use Rattle.highest_text.specs.Told.{noneLine, highestLine, HighestTold};
+ghost use Rattle.highest_text.specs.Told.{none_line, highest_line, HighestTold};
 
 use reader_fill::Filling;
 use tender::Highest;
@@ -11,7 +13,7 @@ use tender::Highest;
 // The line of a bid that would win with no price.
 fn put_none(buf: &mut [u8], bidder: u64) -> usize
     requires { 52 ≤ length buf.old }
-    ensures { Written buf.old 0 (noneLine bidder) buf.new result }
+    ensures { Written buf.old 0 (none_line bidder) buf.new result }
 {
     let begun = spelling_put::put_all(buf, 0, b"(highest");
     let named = spelling_put::put_number(buf, begun, bidder);
@@ -21,7 +23,7 @@ fn put_none(buf: &mut [u8], bidder: u64) -> usize
 // The line of an answer.
 fn put_line(buf: &mut [u8], bidder: u64, answer: Highest) -> usize
     requires { 52 ≤ length buf.old }
-    ensures { Written buf.old 0 (highestLine bidder answer) buf.new result }
+    ensures { Written buf.old 0 (highest_line bidder answer) buf.new result }
 {
     match answer {
         Highest::Price(price) => spelling_put::put_pair(buf, 0, b"highest", bidder, price),
@@ -32,7 +34,7 @@ fn put_line(buf: &mut [u8], bidder: u64, answer: Highest) -> usize
 
 // The line of an answer, where there is room.
 fn deliver(bidder: u64, answer: Highest, out: &mut [u8]) -> usize
-    ensures { Delivered (highestLine bidder answer) out.old out.new result }
+    ensures { Delivered (highest_line bidder answer) out.old out.new result }
 {
     let mut line = [1u8; 52];
     let n = put_line(&mut line, bidder, answer);

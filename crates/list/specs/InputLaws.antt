@@ -4,5 +4,5 @@ use Rattle.list.specs.declared.Input.{Input}
 use Rattle.list.specs.declared.Input.TheVariants.{Text}
 use Rattle.list.specs.Input.{Within}
 
-pub text-within : (room n : ℕ) (r : Input) → Within room r → r ≡ Text n → n ≤ room
-text-within room n r w e = rw e at w
+pub text_within : (room n : ℕ) (r : Input) → Within room r → r ≡ Text n → n ≤ room
+text_within room n r w e = rw e at w

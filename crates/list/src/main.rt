@@ -1,6 +1,8 @@
 // The list program: reads a bid text from standard input and writes its list to standard output. A program has no exit
 // status, so what cannot be read or written is told on standard error. To fill the buffers of the longest text takes longer
 // than to list a short one, so a short text has smaller ones.
+#![tactic(auto)]
+
 ghost use Rattle.std.specs.Prelude.{◌≤◌, length};
 ghost use Rattle.list.specs.Input.{Within};
 

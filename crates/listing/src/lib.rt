@@ -1,5 +1,7 @@
 // The list of a bid text: reads it, makes the award and writes its list. `tender_list` is the entry point for a host
 // program in C (include/tender.h). `listing_text` List says what the list of a text is.
+#![tactic(auto)]
+
 ghost use Rattle.listing_text.specs.List.{Listed};
 
 // The list of the text in a buffer that may be short: it is made in one of the call's own and measured first.

@@ -1,9 +1,11 @@
 // The list of a text, made at the start of a buffer that has room for it: reads the text, makes the award and puts its lines.
+#![tactic(auto)]
+
 ghost use Rattle.std.specs.Prelude.{◌≡◌, ◌+◌, ◌*◌, ◌≤◌, length, take};
 ghost use Rattle.std.proofs.Math.Option.{none};
-ghost use Rattle.tender.specs.Tables.{bidWidth};
-ghost use Rattle.award_check.specs.Faults.{faultOf};
-ghost use Rattle.listing_text.specs.Made.{Awarded·written, Made};
+ghost use Rattle.tender.specs.Tables.{bid_width};
+ghost use Rattle.award_check.specs.Faults.{fault_of};
+ghost use Rattle.listing_text.specs.Made.{AwardedWritten, Made};
 ghost use Rattle.listing_made.specs.Room.{room_for};
 
 use reader_fill::Filling;
@@ -11,9 +13,9 @@ use tender::{Answer, Tender};
 
 // The list of the award to these tables, which break no rule.
 fn put_award(list: &mut [u8], tender: Tender, n: usize, bids: &[u64], windows: &[u64]) -> usize
-    requires { (faultOf tender.kind tender n bids.now windows.now ≡ none)
-        × ((n ≤ 1000) × ((bidWidth * n ≤ length bids.now) × (48 * n + 136 ≤ length list.old))) }
-    ensures { Awarded·written tender n bids.now windows.now list.old list.new result }
+    requires { (fault_of tender.kind tender n bids.now windows.now ≡ none)
+        × ((n ≤ 1000) × ((bid_width * n ≤ length bids.now) × (48 * n + 136 ≤ length list.old))) }
+    ensures { AwardedWritten tender n bids.now windows.now list.old list.new result }
 {
     let mut won = [1u64; 1000];
     let mut cents = [1u64; 1000];

@@ -5,48 +5,48 @@ use Rattle.tender.specs.declared.Reserve.TheVariants.{Absent, Price}
 use Rattle.tender.specs.declared.Tender.{Tender}
 use Rattle.tender.specs.declared.Totals.{Totals}
 use Rattle.tender.specs.Keywords.{bytes}
-use Rattle.tender.specs.Tables.{bidWidth}
-use Rattle.spelling.specs.Lines.{pairLine, oneLine, kindWord}
+use Rattle.tender.specs.Tables.{bid_width}
+use Rattle.spelling.specs.Lines.{pair_line, one_line, kind_word}
 
-unfoldable pub awardWord : List ℕ
+unfoldable pub award_word : List ℕ
 unfolding bytes
-awardWord = bytes "award"
+award_word = bytes "award"
 
-unfoldable pub winWord : List ℕ
+unfoldable pub win_word : List ℕ
 unfolding bytes
-winWord = bytes "win"
+win_word = bytes "win"
 
-unfoldable pub houseWord : List ℕ
+unfoldable pub house_word : List ℕ
 unfolding bytes
-houseWord = bytes "house"
+house_word = bytes "house"
 
-unfoldable pub totalWord : List ℕ
+unfoldable pub total_word : List ℕ
 unfolding bytes
-totalWord = bytes "total"
+total_word = bytes "total"
 
 -- (award single 0 100)
-unfoldable pub awardLine : Tender → List ℕ
-unfolding awardWord kindWord pairLine
-awardLine t = pairLine (awardWord ++ (32 ∷ kindWord t.kind)) t.window.start t.window.end
+unfoldable pub award_line : Tender → List ℕ
+unfolding award_word kind_word pair_line
+award_line t = pair_line (award_word ++ (32 ∷ kind_word t.kind)) t.window.start t.window.end
 
 -- (win bidder cents), where the flag says that the bid won
-unfoldable pub winLine : ℕ → ℕ → ℕ → List ℕ
-unfolding winWord pairLine
-winLine bidder flag cents = cond (eqb flag 1) (pairLine winWord bidder cents) []
+unfoldable pub win_line : ℕ → ℕ → ℕ → List ℕ
+unfolding win_word pair_line
+win_line bidder flag cents = cond (eqb flag 1) (pair_line win_word bidder cents) []
 
 -- the lines of the first n bids, in entry order: the bidder is the first of the four numbers of a row of the table of bids
-unfoldable pub winLines : List ℕ → List ℕ → List ℕ → ℕ → List ℕ
-unfolding winLine
-winLines bids won cents zero = []
-winLines bids won cents (suc n) = winLines bids won cents n ++ winLine (get_or bids (bidWidth * n) 0) (get_or won n 0) (get_or cents n 0)
+unfoldable pub win_lines : List ℕ → List ℕ → List ℕ → ℕ → List ℕ
+unfolding win_line
+win_lines bids won cents zero = []
+win_lines bids won cents (suc n) = win_lines bids won cents n ++ win_line (get_or bids (bid_width * n) 0) (get_or won n 0) (get_or cents n 0)
 
 -- (house price), where the house won
-unfoldable pub houseLine : Reserve → Bool → List ℕ
-unfolding houseWord oneLine
-houseLine Absent won = []
-houseLine (Price p) won = cond won (oneLine houseWord p) []
+unfoldable pub house_line : Reserve → Bool → List ℕ
+unfolding house_word one_line
+house_line Absent won = []
+house_line (Price p) won = cond won (one_line house_word p) []
 
 -- the lines after the winners': the house's, and (total cost paid)
-unfoldable pub lastLines : Reserve → Totals → List ℕ
-unfolding houseLine totalWord pairLine
-lastLines r totals = houseLine r totals.house ++ pairLine totalWord totals.cost totals.paid
+unfoldable pub last_lines : Reserve → Totals → List ℕ
+unfolding house_line total_word pair_line
+last_lines r totals = house_line r totals.house ++ pair_line total_word totals.cost totals.paid

@@ -7,14 +7,14 @@ use Rattle.cover.specs.Sets.{cells}
 use Rattle.cover.specs.Greedy.{bids}
 use Rattle.multi_keys.specs.Keys.{at, out}
 use Rattle.multi_keys.specs.Tree.{leaves}
-use Rattle.multi_keys.specs.TreeLaws.{leaf-at, leaves-set, length-leaves}
+use Rattle.multi_keys.specs.TreeLaws.{leaf_at, leaves_set, length_leaves}
 use Rattle.multi_market.specs.Market.{Priced, First}
-use Rattle.multi_market.specs.Opens.{openOf}
-use Rattle.multi_market.specs.OpensLaws.{two-way}
-use Rattle.multi_market.specs.BeginLaws.{open-first}
-use Rattle.multi_market.specs.Seats.{keyIn, key_at, Seat, Seats, Entered}
+use Rattle.multi_market.specs.Opens.{open_of}
+use Rattle.multi_market.specs.OpensLaws.{two_way}
+use Rattle.multi_market.specs.BeginLaws.{open_first}
+use Rattle.multi_market.specs.Seats.{key_in, key_at, Seat, Seats, Entered}
 use Rattle.multi_market.specs.KeyedLaws.{zero_or}
-use Rattle.multi_rounds.specs.TracingLaws.{seats-of}
+use Rattle.multi_rounds.specs.TracingLaws.{seats_of}
 use Rattle.multi_pay.specs.Paying.{Listed}
 use Rattle.multi.specs.Picked.{Picked}
 
@@ -24,8 +24,8 @@ pub record Picking (ever tree list : List ℕ) (i : ℕ) : Type 0 where
   pub each : (j : ℕ) → j < i → 0 < cell ever j → at (leaves list) j ≡ at (leaves tree) j
   pub others : (j : ℕ) → j < i → cell ever j ≡ 0 → at (leaves list) j ≡ out
 
-pub picks-none : (ever tree list : List ℕ) → length list ≡ 2048 → Picking ever tree list 0
-picks-none ever tree list e = record { size = e; each = λ j l. absurd (omega arith); others = λ j l. absurd (omega arith) }
+pub picks_none : (ever tree list : List ℕ) → length list ≡ 2048 → Picking ever tree list 0
+picks_none ever tree list e = record { size = e; each = λ j l. absurd (omega arith); others = λ j l. absurd (omega arith) }
 
 -- one leaf more
 picks_more : {ever tree list : List ℕ} {i : ℕ} (v : ℕ) → Picking ever tree list i → i < 1024
@@ -33,14 +33,14 @@ picks_more : {ever tree list : List ℕ} {i : ℕ} (v : ℕ) → Picking ever tr
     → Picking ever tree (set list (1024 + i) v) (i + 1)
 picks_more {ever} {tree} {list} {i} v s l f g = record {
   size = simp length-set s.size;
-  each = λ j m z. rw (leaves-set list i v) (go (λ (x : ℕ). 0 < cell ever j → x ≡ at (leaves tree) j) j m
+  each = λ j m z. rw (leaves_set list i v) (go (λ (x : ℕ). 0 < cell ever j → x ≡ at (leaves tree) j) j m
       (λ e. rw e f) (λ k. s.each j k) (eqb j i) refl z);
-  others = λ j m z. rw (leaves-set list i v) (go (λ (x : ℕ). cell ever j ≡ 0 → x ≡ out) j m
+  others = λ j m z. rw (leaves_set list i v) (go (λ (x : ℕ). cell ever j ≡ 0 → x ≡ out) j m
       (λ e. rw e g) (λ k. s.others j k) (eqb j i) refl z);
 }
   where
     within : i < length (leaves list)
-    within = omega (arith, length-leaves list s.size)
+    within = omega (arith, length_leaves list s.size)
 
     go : (P : ℕ → Type 0) (j : ℕ) → j < i + 1 → (j ≡ i → P v) → (j < i → P (at (leaves list) j))
         → (t : Bool) → eqb j i ≡ t → P (at (set (leaves list) i v) j)
@@ -48,37 +48,37 @@ picks_more {ever} {tree} {list} {i} v s l f g = record {
     go P j m here there false e = rw (get_or-set_other (leaves list) i j v 0 (eqb-false j i e)) (there (omega (arith, eqb-false j i e)))
 
 -- the leaf of a bid in `ever`
-pub picks-bid : {ever tree list : List ℕ} {i : ℕ} → Picking ever tree list i → i < 1024 → eqb (cell ever i) 1 ≡ true
+pub picks_bid : {ever tree list : List ℕ} {i : ℕ} → Picking ever tree list i → i < 1024 → eqb (cell ever i) 1 ≡ true
     → Picking ever tree (set list (1024 + i) (at tree (1024 + i))) (i + 1)
-picks-bid {ever} {tree} {i = i} s l e =
-    picks_more _ s l (λ z. sym (leaf-at tree i)) (λ z. absurd (omega (arith, eqb-true (cell ever i) 1 e)))
+picks_bid {ever} {tree} {i = i} s l e =
+    picks_more _ s l (λ z. sym (leaf_at tree i)) (λ z. absurd (omega (arith, eqb-true (cell ever i) 1 e)))
 
 -- the leaf of another
-pub picks-out : {ever tree list : List ℕ} {i : ℕ} → Picking ever tree list i → i < 1024 → eqb (cell ever i) 1 ≡ false
+pub picks_out : {ever tree list : List ℕ} {i : ℕ} → Picking ever tree list i → i < 1024 → eqb (cell ever i) 1 ≡ false
     → Picking ever tree (set list (1024 + i) out) (i + 1)
-picks-out {ever} {i = i} s l e = picks_more out s l
-    (λ z. absurd (⊎_elim (λ y. omega arith) (λ y. eqb-false (cell ever i) 1 e y) (two-way ever i))) (λ z. refl)
+picks_out {ever} {i = i} s l e = picks_more out s l
+    (λ z. absurd (⊎_elim (λ y. omega arith) (λ y. eqb-false (cell ever i) 1 e y) (two_way ever i))) (λ z. refl)
 
-pub picks-all : {ever tree list : List ℕ} {i : ℕ} (new : List ℕ) → Picking ever tree list i → 1024 ≤ i
+pub picks_all : {ever tree list : List ℕ} {i : ℕ} (new : List ℕ) → Picking ever tree list i → 1024 ≤ i
     → leaves new ≡ leaves list → Picked ever (leaves tree) (leaves new)
-picks-all {list = list} new s l e = rw e (record {
-  size = length-leaves list s.size;
+picks_all {list = list} new s l e = rw e (record {
+  size = length_leaves list s.size;
   each = λ j m. s.each j (omega arith);
   others = λ j m. s.others j (omega arith);
 })
 
 -- the list is right for every row of words with the first n cells
-pub listed-first : {has : ℕ → ℕ → Bool} {ps : List ℕ} {n : ℕ} {held ever keys new : List ℕ} → Priced ps → First n held
+pub listed_first : {has : ℕ → ℕ → Bool} {ps : List ℕ} {n : ℕ} {held ever keys new : List ℕ} → Priced ps → First n held
     → n ≤ 64 * length held → Entered has ps held keys → Picked ever keys new
     → (h : List ℕ) → First n h → length h ≡ length held → Listed has ps h ever new
-listed-first {has} {ps} {n} {held} {ever} {keys} {new} p f l e k h g d = record {
+listed_first {has} {ps} {n} {held} {ever} {keys} {new} p f l e k h g d = record {
   seats = record { size = k.size; each = λ i m. go i m (zero_or (cell ever i)) };
   outs = λ i m z. k.others i (omega (arith, p.count)) z;
   bound = λ i m z. rw same (omega (arith, k.each i (omega (arith, p.count)) z, e.each i m));
 }
   where
-    same : openOf h ≡ openOf held
-    same = open-first g (omega (arith, d)) ∙ sym (open-first f l)
+    same : open_of h ≡ open_of held
+    same = open_first g (omega (arith, d)) ∙ sym (open_first f l)
 
     go : (i : ℕ) → i < 1024 → (cell ever i ≡ 0) ⊎ (0 < cell ever i) → (at new i ≡ out) ⊎ Seat has ps h i (at new i)
     go i m (inl z) = inl (k.others i m z)
@@ -86,4 +86,4 @@ listed-first {has} {ps} {n} {held} {ever} {keys} {new} p f l e k h g d = record 
       inside = y.inside;
       tells = y.tells;
       below = rw same y.below;
-    })) ((seats-of p e).each i m))
+    })) ((seats_of p e).each i m))

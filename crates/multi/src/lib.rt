@@ -1,9 +1,11 @@
 // The greedy award over plain numbers (paper 01, "Multi"): a flag and the cents paid for each bid.
 // `award` takes a price and w words of cells a bid; what a bid is paid is said where the others have each of the `count` cells.
+#![tactic(auto)]
+
 ghost use Rattle.std.specs.Prelude.{◌≡◌, List, ℕ, ◌+◌, ◌*◌, ◌≤◌, length};
 ghost use Rattle.cover.specs.Sets.{cells};
 ghost use Rattle.cover.specs.Greedy.{wins};
-ghost use Rattle.cover.specs.CriticalPrice.{roundsPaid};
+ghost use Rattle.cover.specs.CriticalPrice.{rounds_paid};
 ghost use Rattle.cover.specs.Settled.{Settled};
 ghost use Rattle.cover.specs.SpareLaws.{Spare};
 ghost use Rattle.multi_keys.specs.Tree.{leaves, Tree};
@@ -115,7 +117,7 @@ pub fn award(
         × (length prices.now ≤ length cents.old)))) }
     ensures { Settled (Spare (has masks.now w) (length prices.now) count)
         (wins (has masks.now w) prices.now (cells count))
-        (roundsPaid (has masks.now w) prices.now (cells count))
+        (rounds_paid (has masks.now w) prices.now (cells count))
         prices.now won.old cents.old won.new cents.new }
 {
     // Written before they are read: ones are stored in place, zeros by a call of the library.

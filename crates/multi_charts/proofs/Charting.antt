@@ -12,31 +12,31 @@ use lib.Dec.{eqb}
 use borrow.Author.Tests.{eqb-true, eqb-false}
 use Rattle.cells.specs.Cells.{whole}
 use Rattle.cells_count.specs.Hops.{Hops}
-use Rattle.cells.specs.StoreLaws.{lt-or-le}
+use Rattle.cells.specs.StoreLaws.{lt_or_le}
 use Rattle.multi_keys.specs.Keys.{at}
-use Rattle.multi_market.specs.Market.{wordRow, Market, Hopping}
-use Rattle.multi_market.specs.WordRowLaws.{row-length, row_in, row_at}
+use Rattle.multi_market.specs.Market.{word_row, Market, Hopping}
+use Rattle.multi_market.specs.WordRowLaws.{row_length, row_in, row_at}
 use Rattle.multi_charts.specs.Charts.{Backed, Charted}
 
 -- the words of bid i from q on have their hops; up to `gap` they have no cell
 pub record Charting (ms : List ℕ) (w i : ℕ) (old new : List ℕ) (q gap : ℕ) : Type 0 where
   pub same : length new ≡ length old
-  pub gap-low : q ≤ gap
-  pub gap-high : gap ≤ w
-  pub zeros : (p : ℕ) → q ≤ p → p < gap → at (wordRow ms w i) p ≡ 0
+  pub gap_low : q ≤ gap
+  pub gap_high : gap ≤ w
+  pub zeros : (p : ℕ) → q ≤ p → p < gap → at (word_row ms w i) p ≡ 0
   pub on : (p : ℕ) → q ≤ p → p < w → p < at new (w * i + p)
   pub within : (p : ℕ) → q ≤ p → p < w → at new (w * i + p) ≤ w
-  pub runs : (p : ℕ) → q ≤ p → p < w → at (wordRow ms w i) p ≡ whole → (x : ℕ) → p ≤ x → x < at new (w * i + p)
-      → at (wordRow ms w i) x ≡ whole
-  pub gaps : (p : ℕ) → q ≤ p → p < w → (at (wordRow ms w i) p ≡ whole → ⊥) → (x : ℕ) → p < x → x < at new (w * i + p)
-      → at (wordRow ms w i) x ≡ 0
+  pub runs : (p : ℕ) → q ≤ p → p < w → at (word_row ms w i) p ≡ whole → (x : ℕ) → p ≤ x → x < at new (w * i + p)
+      → at (word_row ms w i) x ≡ whole
+  pub gaps : (p : ℕ) → q ≤ p → p < w → (at (word_row ms w i) p ≡ whole → ⊥) → (x : ℕ) → p < x → x < at new (w * i + p)
+      → at (word_row ms w i) x ≡ 0
   pub others : (p : ℕ) → (p < w * i) ⊎ (w * i + w ≤ p) → at new p ≡ at old p
 
-pub charts-none : (ms : List ℕ) (w i : ℕ) (old : List ℕ) → Charting ms w i old old w w
-charts-none ms w i old = record {
+pub charts_none : (ms : List ℕ) (w i : ℕ) (old : List ℕ) → Charting ms w i old old w w
+charts_none ms w i old = record {
   same = refl;
-  gap-low = omega arith;
-  gap-high = omega arith;
+  gap_low = omega arith;
+  gap_high = omega arith;
   zeros = λ p a b. absurd (omega arith);
   on = λ p a b. absurd (omega arith);
   within = λ p a b. absurd (omega arith);
@@ -53,7 +53,7 @@ record Set (w i : ℕ) (new new' : List ℕ) (r q v : ℕ) : Type 0 where
 
 module _ {ms : List ℕ} {w i : ℕ} {old new : List ℕ} {q gap : ℕ} (s : Charting ms w i old new q gap) (m : q ≤ w) where
   abbrev M : ℕ → ℕ
-  M p = at (wordRow ms w i) p
+  M p = at (word_row ms w i) p
 
   more : {new' : List ℕ} {r v gap' : ℕ} → Set w i new new' r q v → r ≤ q → q ≤ v → v ≤ w
       → ((p : ℕ) → r ≤ p → p < q → M p ≡ whole → (x : ℕ) → p ≤ x → x < v → M x ≡ whole)
@@ -61,8 +61,8 @@ module _ {ms : List ℕ} {w i : ℕ} {old new : List ℕ} {q gap : ℕ} (s : Cha
       → ((p : ℕ) → r ≤ p → p < gap' → M p ≡ 0) → Charting ms w i old new' r gap'
   more {new'} {r} {v} {gap'} t low a b rs gs g1 g2 g3 = record {
     same = t.size ∙ s.same;
-    gap-low = g1;
-    gap-high = g2;
+    gap_low = g1;
+    gap_high = g2;
     zeros = g3;
     on = λ p x y. go (λ p v. p < v) p x (λ z. omega arith) (λ z. s.on p z y);
     within = λ p x y. go (λ p v. v ≤ w) p x (λ z. b) (λ z. s.within p z y);
@@ -72,31 +72,31 @@ module _ {ms : List ℕ} {w i : ℕ} {old new : List ℕ} {q gap : ℕ} (s : Cha
   }
     where
       go : (P : ℕ → ℕ → Type 0) (p : ℕ) → r ≤ p → (p < q → P p v) → (q ≤ p → P p (at new (w * i + p))) → P p (at new' (w * i + p))
-      go P p x h k = ⊎_elim (λ z. rw (t.here p x z) (h z)) (λ z. rw (t.there (w * i + p) (inr (omega arith))) (k z)) (lt-or-le p q)
+      go P p x h k = ⊎_elim (λ z. rw (t.here p x z) (h z)) (λ z. rw (t.there (w * i + p) (inr (omega arith))) (k z)) (lt_or_le p q)
 
   -- a gap, and then a run, gone back over
   module _ {new' : List ℕ} {r u v : ℕ} (b : Backed ms (w * i) q u v new new' r) (e : length new' ≡ length new) where
-    back-set : Set w i new new' r q v
-    back-set = record { size = e; here = b.hops; there = b.others }
+    back_set : Set w i new new' r q v
+    back_set = record { size = e; here = b.hops; there = b.others }
 
     words : (p : ℕ) → r ≤ p → p < q → M p ≡ u
     words p x y = row_at ms w i p (omega arith) ∙ b.words p x y
 
-    pub charts-still : (r < q → ⊥) → Charting ms w i old new' q gap
-    charts-still n = let d : r ≡ q = omega (arith, b.low) in
+    pub charts_still : (r < q → ⊥) → Charting ms w i old new' q gap
+    charts_still n = let d : r ≡ q = omega (arith, b.low) in
         more {r = q} {v = gap} (record { size = e; here = λ p x y. absurd (omega arith); there = λ p o. b.others p (rw d o) })
-        (omega arith) s.gap-low s.gap-high (λ p x y. absurd (omega arith)) (λ p x y. absurd (omega arith)) s.gap-low
-        s.gap-high s.zeros
+        (omega arith) s.gap_low s.gap_high (λ p x y. absurd (omega arith)) (λ p x y. absurd (omega arith)) s.gap_low
+        s.gap_high s.zeros
 
-    pub charts-gap : u ≡ 0 → v ≡ gap → Charting ms w i old new' r gap
-    charts-gap z d = more (rw d at back-set) b.low s.gap-low s.gap-high (λ p x y h. absurd (omega (arith, words p x y)))
-        (λ p x y h k c l. wide k (omega arith) l) (omega (arith, b.low, s.gap-low)) s.gap-high wide
+    pub charts_gap : u ≡ 0 → v ≡ gap → Charting ms w i old new' r gap
+    charts_gap z d = more (rw d at back_set) b.low s.gap_low s.gap_high (λ p x y h. absurd (omega (arith, words p x y)))
+        (λ p x y h k c l. wide k (omega arith) l) (omega (arith, b.low, s.gap_low)) s.gap_high wide
       where
         wide : (p : ℕ) → r ≤ p → p < gap → M p ≡ 0
-        wide p x y = ⊎_elim (λ c. words p x c ∙ z) (λ c. s.zeros p c y) (lt-or-le p q)
+        wide p x y = ⊎_elim (λ c. words p x c ∙ z) (λ c. s.zeros p c y) (lt_or_le p q)
 
-    pub charts-run : u ≡ whole → v ≡ q → r < q → Charting ms w i old new' r r
-    charts-run z d l = more (rw d at back-set) b.low (omega arith) m (λ p x y h k c f. words k (omega arith) f ∙ z)
+    pub charts_run : u ≡ whole → v ≡ q → r < q → Charting ms w i old new' r r
+    charts_run z d l = more (rw d at back_set) b.low (omega arith) m (λ p x y h k c f. words k (omega arith) f ∙ z)
         (λ p x y h. absurd (h (words p x y ∙ z))) (omega arith) (omega arith) (λ p x y. absurd (omega arith))
 
 -- ---- back: the words from r on are m and have their hops
@@ -107,8 +107,8 @@ pub record Backing (ms : List ℕ) (a q m v : ℕ) (old new : List ℕ) (r : ℕ
   pub hops : (p : ℕ) → r ≤ p → p < q → at new (a + p) ≡ v
   pub others : (p : ℕ) → (p < a + r) ⊎ (a + q ≤ p) → at new p ≡ at old p
 
-pub backs-none : (ms : List ℕ) (a q m v : ℕ) (old : List ℕ) → Backing ms a q m v old old q
-backs-none ms a q m v old = record {
+pub backs_none : (ms : List ℕ) (a q m v : ℕ) (old : List ℕ) → Backing ms a q m v old old q
+backs_none ms a q m v old = record {
   same = refl;
   low = omega arith;
   words = λ p x y. absurd (omega arith);
@@ -117,27 +117,27 @@ backs-none ms a q m v old = record {
 }
 
 module _ {ms : List ℕ} {a q m v : ℕ} {old new : List ℕ} {r : ℕ} (s : Backing ms a q m v old new r) where
-  pub backs-more : 0 < r → a + q ≤ length old → at ms (a + r - 1) ≡ m → Backing ms a q m v old (set new (a + (r - 1)) v) (r - 1)
-  backs-more l f e = record {
+  pub backs_more : 0 < r → a + q ≤ length old → at ms (a + r - 1) ≡ m → Backing ms a q m v old (set new (a + (r - 1)) v) (r - 1)
+  backs_more l f e = record {
     same = simp length-set s.same;
     low = omega (arith, s.low);
-    words = λ p x y. ⊎_elim (λ z. let d : a + p ≡ a + r - 1 = omega arith in rw d e) (λ z. s.words p z y) (lt-or-le p r);
+    words = λ p x y. ⊎_elim (λ z. let d : a + p ≡ a + r - 1 = omega arith in rw d e) (λ z. s.words p z y) (lt_or_le p r);
     hops = λ p x y. ⊎_elim (λ z. let d : p ≡ r - 1 = omega arith in
         rw d (get_or-set_same new (a + (r - 1)) v 0 (omega (arith, s.same, s.low))))
-        (λ z. get_or-set_other new (a + (r - 1)) (a + p) v 0 (λ d. omega arith) ∙ s.hops p z y) (lt-or-le p r);
+        (λ z. get_or-set_other new (a + (r - 1)) (a + p) v 0 (λ d. omega arith) ∙ s.hops p z y) (lt_or_le p r);
     others = λ p o. get_or-set_other new (a + (r - 1)) p v 0 (λ d. ⊎_elim (λ z. omega arith) (λ z. omega (arith, s.low)) o)
         ∙ s.others p (⊎_elim (λ z. inl (omega arith)) (λ z. inr z) o);
   }
 
-  pub backs-all : (0 < r → at ms (a + (r - 1)) ≡ m → ⊥) → Backed ms a q m v old new r
-  backs-all n = record { low = s.low; words = s.words; hops = s.hops; others = s.others; stop = n }
+  pub backs_all : (0 < r → at ms (a + (r - 1)) ≡ m → ⊥) → Backed ms a q m v old new r
+  backs_all n = record { low = s.low; words = s.words; hops = s.hops; others = s.others; stop = n }
 
 -- a word with some cells
-pub charts-some : {ms : List ℕ} {w i : ℕ} {old new : List ℕ} {q gap : ℕ} → Charting ms w i old new q gap → q ≤ w → 0 < q
+pub charts_some : {ms : List ℕ} {w i : ℕ} {old new : List ℕ} {q gap : ℕ} → Charting ms w i old new q gap → q ≤ w → 0 < q
     → w * i + w ≤ length old → (at ms (w * i + (q - 1)) ≡ whole → ⊥)
     → Charting ms w i old (set new (w * i + (q - 1)) gap) (q - 1) (q - 1)
-charts-some {ms} {w} {i} {old} {new} {q} {gap} s m l f n =
-    more s m stored (omega arith) s.gap-low s.gap-high (λ p x y h. absurd (n (one p x y h)))
+charts_some {ms} {w} {i} {old} {new} {q} {gap} s m l f n =
+    more s m stored (omega arith) s.gap_low s.gap_high (λ p x y h. absurd (n (one p x y h)))
     (λ p x y h k c d. s.zeros k (omega arith) d) (omega arith) (omega arith) (λ p x y. absurd (omega arith))
   where
     stored : Set w i new (set new (w * i + (q - 1)) gap) (q - 1) q gap
@@ -147,44 +147,44 @@ charts-some {ms} {w} {i} {old} {new} {q} {gap} s m l f n =
       there = λ p o. get_or-set_other new (w * i + (q - 1)) p gap 0 (λ e. ⊎_elim (λ z. omega arith) (λ z. omega arith) o);
     }
 
-    one : (p : ℕ) → q - 1 ≤ p → p < q → at (wordRow ms w i) p ≡ whole → at ms (w * i + (q - 1)) ≡ whole
+    one : (p : ℕ) → q - 1 ≤ p → p < q → at (word_row ms w i) p ≡ whole → at ms (w * i + (q - 1)) ≡ whole
     one p x y h = let e : p ≡ q - 1 = omega arith in rw (← e) (sym (row_at ms w i p (omega arith)) ∙ h)
 
-pub charts-all : {ms : List ℕ} {w i : ℕ} {old new : List ℕ} {q gap : ℕ} → Charting ms w i old new q gap → q ≡ 0 → w * i + w ≤ length ms
+pub charts_all : {ms : List ℕ} {w i : ℕ} {old new : List ℕ} {q gap : ℕ} → Charting ms w i old new q gap → q ≡ 0 → w * i + w ≤ length ms
     → length old ≡ length ms → Charted ms w i old new
-charts-all {ms} {w} {i} {old} {new} s e f g = record {
+charts_all {ms} {w} {i} {old} {new} s e f g = record {
   own = record {
-    same = row-length new w i (omega (arith, s.same)) ∙ sym (row-length ms w i f);
+    same = row_length new w i (omega (arith, s.same)) ∙ sym (row_length ms w i f);
     on = λ q l. rw (row_at new w i q (inside q l)) (s.on q (omega arith) (inside q l));
-    within = λ q l. rw (row_at new w i q (inside q l), row-length ms w i f) (s.within q (omega arith) (inside q l));
+    within = λ q l. rw (row_at new w i q (inside q l), row_length ms w i f) (s.within q (omega arith) (inside q l));
     run = λ q l z p a b. s.runs q (omega arith) (inside q l) z p a (rw (row_at new w i q (inside q l)) at b);
     gap = λ q l z p a b. s.gaps q (omega arith) (inside q l) z p a (rw (row_at new w i q (inside q l)) at b);
   };
   others = s.others;
 }
   where
-    inside : (q : ℕ) → q < length (wordRow ms w i) → q < w
-    inside q l = omega (arith, row-length ms w i f)
+    inside : (q : ℕ) → q < length (word_row ms w i) → q < w
+    inside q l = omega (arith, row_length ms w i f)
 
 -- ---- the bids below i are charted
 pub record Charts (ps ms : List ℕ) (w : ℕ) (hop : List ℕ) (i : ℕ) : Type 0 where
   pub size : length hop ≡ length ms
-  pub done : (j : ℕ) → j < i → Hops (wordRow ms w j) (wordRow hop w j)
+  pub done : (j : ℕ) → j < i → Hops (word_row ms w j) (word_row hop w j)
 
 same_row : (w j : ℕ) (a b : List ℕ) → length a ≡ length b → ((q : ℕ) → q < w → at a (w * j + q) ≡ at b (w * j + q)) → w * j + w ≤ length b
-    → wordRow a w j ≡ wordRow b w j
-same_row w j a b e h l = ext_get_or 0 (wordRow a w j) (wordRow b w j) (row-length a w j (omega arith) ∙ sym (row-length b w j l))
-    (λ q m. let z : q < w = omega (arith, row-length a w j (omega arith)) in row_at a w j q z ∙ h q z ∙ sym (row_at b w j q z))
+    → word_row a w j ≡ word_row b w j
+same_row w j a b e h l = ext_get_or 0 (word_row a w j) (word_row b w j) (row_length a w j (omega arith) ∙ sym (row_length b w j l))
+    (λ q m. let z : q < w = omega (arith, row_length a w j (omega arith)) in row_at a w j q z ∙ h q z ∙ sym (row_at b w j q z))
 
-pub charts-on : {ps ms : List ℕ} {w : ℕ} {hop new : List ℕ} {i : ℕ} → Market ps ms w → Charts ps ms w hop i → i < length ps
+pub charts_on : {ps ms : List ℕ} {w : ℕ} {hop new : List ℕ} {i : ℕ} → Market ps ms w → Charts ps ms w hop i → i < length ps
     → length new ≡ length hop → Charted ms w i hop new → Charts ps ms w new (i + 1)
-charts-on {ps} {ms} {w} {hop} {new} {i} m s l e c = record { size = e ∙ s.size; done = λ j z. go j z (eqb j i) refl }
+charts_on {ps} {ms} {w} {hop} {new} {i} m s l e c = record { size = e ∙ s.size; done = λ j z. go j z (eqb j i) refl }
   where
-    go : (j : ℕ) → j < i + 1 → (t : Bool) → eqb j i ≡ t → Hops (wordRow ms w j) (wordRow new w j)
+    go : (j : ℕ) → j < i + 1 → (t : Bool) → eqb j i ≡ t → Hops (word_row ms w j) (word_row new w j)
     go j z true d = rw (eqb-true j i d) c.own
     go j z false d = let y : j < i = omega (arith, eqb-false j i d) in
         rw (same_row w j new hop e (λ q v. c.others (w * j + q) (inl (omega (arith, mul-le-mul_left w y, mul-suc w j))))
         (omega (arith, row_in ps ms w j m (omega arith), s.size))) (s.done j y)
 
-pub charts-end : {ps ms : List ℕ} {w : ℕ} {hop : List ℕ} {i : ℕ} → Charts ps ms w hop i → length ps ≤ i → Hopping ps ms hop w
-charts-end s l = record { size = s.size; each = λ j z. s.done j (omega arith) }
+pub charts_end : {ps ms : List ℕ} {w : ℕ} {hop : List ℕ} {i : ℕ} → Charts ps ms w hop i → length ps ≤ i → Hopping ps ms hop w
+charts_end s l = record { size = s.size; each = λ j z. s.done j (omega arith) }

@@ -1,5 +1,7 @@
 // The hops of the bids' words: from each word of a bid past the words that follow with no cell or, from a word that has all its cells,
 // past those that have all theirs.
+#![tactic(auto)]
+
 ghost use Rattle.std.specs.Prelude.{◌≡◌, ◌+◌, ◌*◌, ◌<◌, ◌≤◌, length};
 ghost use Rattle.multi_market.specs.Market.{Market, Hopping};
 ghost use Rattle.multi_charts.specs.Charts.{Backed, Charted};

@@ -4,14 +4,14 @@ use Rattle.std.specs.Prelude.{◌≡◌, Bool, true, List, ℕ, ◌+◌, ◌≤�
 use Rattle.std.specs.Int.Bits.{bit_and}
 use Rattle.cells.specs.Cells.{cell}
 use Rattle.multi_keys.specs.Keys.{at}
-use Rattle.multi_market.specs.Market.{wordRow, has}
+use Rattle.multi_market.specs.Market.{word_row, has}
 use Rattle.multi_market.specs.Seats.{key_at}
 
 -- the bids that have a cell of m in word q are marked, with their keys where the cells of `alt` are open
 pub record Spread (ps ms alt : List ℕ) (q m : ℕ) (keys mark keys' mark' : List ℕ) : Type 0 where
   pub kept : (i : ℕ) → i < 1024 → 0 < cell mark i → (0 < cell mark' i) × (at keys' i ≡ at keys i)
   pub still : (i : ℕ) → i < 1024 → cell mark' i ≡ 0 → (at keys' i ≡ at keys i)
-      × (i < length ps → bit_and (at (wordRow ms (length alt) i) q) m ≡ 0)
+      × (i < length ps → bit_and (at (word_row ms (length alt) i) q) m ≡ 0)
   pub moved : (i : ℕ) → i < 1024 → cell mark i ≡ 0 → 0 < cell mark' i → (i < length ps)
       × (at keys' i ≡ key_at (has ms (length alt)) ps alt i)
 

@@ -6,32 +6,32 @@ use Rattle.std.proofs.Math.Nat.{zero-div}
 use Rattle.std.specs.Int.Bits.{bit_and, and_zero_l, and_zero_r}
 use Rattle.cover.specs.Greedy.{reach}
 use Rattle.cells.specs.Cells.{cell, bit_of, RangeAdded}
-use Rattle.cells.specs.BitLaws.{and-bit}
-use Rattle.cells.specs.StoreLaws.{lt-or-le}
-use Rattle.cells_pairs.specs.Pairs.{inPair, inPairs}
-use Rattle.cells_pairs.specs.PairLaws.{pair-word, pair-bit, pairs-none, pairs-more}
+use Rattle.cells.specs.BitLaws.{and_bit}
+use Rattle.cells.specs.StoreLaws.{lt_or_le}
+use Rattle.cells_pairs.specs.Pairs.{in_pair, in_pairs}
+use Rattle.cells_pairs.specs.PairLaws.{pair_word, pair_bit, pairs_none, pairs_more}
 use Rattle.multi_keys.specs.Keys.{at, key_of}
-use Rattle.multi_market.specs.Market.{wordRow, has}
+use Rattle.multi_market.specs.Market.{word_row, has}
 use Rattle.multi_market.specs.Seats.{key_at}
-use Rattle.multi_market.specs.Opens.{openOf}
-use Rattle.multi_market.specs.KeyedLaws.{zero_or, key-at}
-use Rattle.multi_index.specs.Index.{bidAt, next_at, maskAt, Lists, Chained, Indexed}
-use Rattle.multi_index.specs.IndexLaws.{chain-step, chain-end}
+use Rattle.multi_market.specs.Opens.{open_of}
+use Rattle.multi_market.specs.KeyedLaws.{zero_or, key_at_lem}
+use Rattle.multi_index.specs.Index.{bid_at, next_at, mask_at, Lists, Chained, Indexed}
+use Rattle.multi_index.specs.IndexLaws.{chain_step, chain_end}
 use Rattle.multi_gain.specs.Gain.{Spread, Gained}
 
 -- the chains still have all bids where marks only come to be
-pub indexed-more : {n : ℕ} {ms : List ℕ} {w : ℕ} {index old new : List ℕ} → Indexed n ms w index old
+pub indexed_more : {n : ℕ} {ms : List ℕ} {w : ℕ} {index old new : List ℕ} → Indexed n ms w index old
     → ((i : ℕ) → i < n → 0 < cell old i → 0 < cell new i) → Indexed n ms w index new
-indexed-more {old = old} x h = record {
+indexed_more {old = old} x h = record {
   top = x.top;
   chained = x.chained;
   lists = λ i q l g z. x.lists i q l g (⊎_elim (λ e. e) (λ e. absurd (omega (arith, h i l e))) (zero_or (cell old i)));
 }
 
 -- the key made of the cells counted
-pub key-counted : (ps ms alt : List ℕ) (b : ℕ) {r key : ℕ} → key ≡ key_of (at ps b) r b
-    → r ≡ reach (has ms (length alt) b) (openOf alt) → key ≡ key_at (has ms (length alt)) ps alt b
-key-counted ps ms alt b e f = e ∙ ap (λ (x : ℕ). key_of (at ps b) x b) f ∙ sym (key-at (has ms (length alt)) ps (openOf alt) b)
+pub key_counted : (ps ms alt : List ℕ) (b : ℕ) {r key : ℕ} → key ≡ key_of (at ps b) r b
+    → r ≡ reach (has ms (length alt) b) (open_of alt) → key ≡ key_at (has ms (length alt)) ps alt b
+key_counted ps ms alt b e f = e ∙ ap (λ (x : ℕ). key_of (at ps b) x b) f ∙ sym (key_at_lem (has ms (length alt)) ps (open_of alt) b)
 
 -- ---- the walk along word q's chain
 -- before node t: a bid without a mark has no cell of m in word q, or is still to come
@@ -41,8 +41,8 @@ pub record Gaining (ps ms alt index : List ℕ) (q m : ℕ) (keys mark keys' mar
   pub here : (t ≡ 0) ⊎ ((158 ≤ t) × (t < top))
   pub kept : (i : ℕ) → i < 1024 → 0 < cell mark i → (0 < cell mark' i) × (at keys' i ≡ at keys i)
   pub same : (i : ℕ) → i < 1024 → cell mark' i ≡ 0 → at keys' i ≡ at keys i
-  pub left : (i : ℕ) → i < length ps → cell mark' i ≡ 0 → (bit_and (at (wordRow ms (length alt) i) q) m ≡ 0)
-      ⊎ Lists index top t i (at (wordRow ms (length alt) i) q)
+  pub left : (i : ℕ) → i < length ps → cell mark' i ≡ 0 → (bit_and (at (word_row ms (length alt) i) q) m ≡ 0)
+      ⊎ Lists index top t i (at (word_row ms (length alt) i) q)
   pub moved : (i : ℕ) → i < 1024 → cell mark i ≡ 0 → 0 < cell mark' i → (i < length ps)
       × (at keys' i ≡ key_at (has ms (length alt)) ps alt i)
 
@@ -55,7 +55,7 @@ starts ps ms alt index q m keys mark x l h = record {
   kept = λ i k g. (g, refl);
   same = λ i k z. refl;
   left = λ i k z. ⊎_elim (λ e. inl (rw e (and_zero_l m))) (λ g. inr (x.lists i q k l z (λ e. omega arith)))
-      (zero_or (at (wordRow ms (length alt) i) q));
+      (zero_or (at (word_row ms (length alt) i) q));
   moved = λ i k z g. absurd (omega arith);
 }
 
@@ -67,14 +67,14 @@ module _ {ps ms alt index : List ℕ} {q m : ℕ} {keys mark keys' mark' : List 
   pub node_in : 0 < t → 2 * t + 1 < length index
   node_in l = omega (arith, (node l).1, s.chained.room)
 
-  pub bid-in : 0 < t → bidAt index t < length ps
-  bid-in l = s.chained.bids t (node l).0 (node l).1
+  pub bid_in_lem : 0 < t → bid_at index t < length ps
+  bid_in_lem l = s.chained.bids t (node l).0 (node l).1
 
-  pub next-below : 0 < t → next_at index t < t
-  next-below l = s.chained.earlier t (node l).0 (node l).1
+  pub next_below : 0 < t → next_at index t < t
+  next_below l = s.chained.earlier t (node l).0 (node l).1
 
   -- the node's bid has no cell of m, or a mark
-  pub passes : 0 < t → (bit_and (maskAt index t) m ≡ 0) ⊎ (0 < cell mark' (bidAt index t))
+  pub passes : 0 < t → (bit_and (mask_at index t) m ≡ 0) ⊎ (0 < cell mark' (bid_at index t))
       → Gaining ps ms alt index q m keys mark keys' mark' (next_at index t)
   passes l o = record {
     top = s.top;
@@ -83,12 +83,12 @@ module _ {ps ms alt index : List ℕ} {q m : ℕ} {keys mark keys' mark' : List 
     kept = s.kept;
     same = s.same;
     left = λ i k z. ⊎_elim (λ e. inl e) (λ r. ⊎_elim (λ e. inl (own i z e.0 e.1)) (λ y. inr y)
-        (chain-step s.chained t (node l).0 (node l).1 i (at (wordRow ms (length alt) i) q) r)) (s.left i k z);
+        (chain_step s.chained t (node l).0 (node l).1 i (at (word_row ms (length alt) i) q) r)) (s.left i k z);
     moved = s.moved;
   }
     where
-      own : (i : ℕ) → cell mark' i ≡ 0 → bidAt index t ≡ i → maskAt index t ≡ at (wordRow ms (length alt) i) q
-          → bit_and (at (wordRow ms (length alt) i) q) m ≡ 0
+      own : (i : ℕ) → cell mark' i ≡ 0 → bid_at index t ≡ i → mask_at index t ≡ at (word_row ms (length alt) i) q
+          → bit_and (at (word_row ms (length alt) i) q) m ≡ 0
       own i z e f = ⊎_elim (λ y. ap (λ (v : ℕ). bit_and v m) (sym f) ∙ y)
           (λ y. let d = ap (cell mark') e in absurd (omega (arith, d))) o
 
@@ -101,29 +101,29 @@ module _ {ps ms alt index : List ℕ} {q m : ℕ} {keys mark keys' mark' : List 
     chained = s.chained;
     here = s.here;
     kept = λ i k g. let y = s.kept i k g in let n : (i ≡ b → ⊥) = λ e. let a = ap (cell mark') e in omega (arith, y.0) in
-        (rw (other-mark i n) y.0, other_key i n ∙ y.1);
-    same = λ i k y. let n = unmarked i y in other_key i n ∙ s.same i k (sym (other-mark i n) ∙ y);
-    left = λ i k y. s.left i k (sym (other-mark i (unmarked i y)) ∙ y);
+        (rw (other_mark i n) y.0, other_key i n ∙ y.1);
+    same = λ i k y. let n = unmarked i y in other_key i n ∙ s.same i k (sym (other_mark i n) ∙ y);
+    left = λ i k y. s.left i k (sym (other_mark i (unmarked i y)) ∙ y);
     moved = λ i k y g. go i k y g (eqb i b) refl;
   }
     where
-      own-mark : cell next b ≡ 1
-      own-mark = f.inside b (omega arith) (omega arith)
+      own_mark : cell next b ≡ 1
+      own_mark = f.inside b (omega arith) (omega arith)
 
-      other-mark : (i : ℕ) → (i ≡ b → ⊥) → cell next i ≡ cell mark' i
-      other-mark i n = ⊎_elim (λ a. f.below i a) (λ a. f.above i (omega arith)) (lt-or-le i b)
+      other_mark : (i : ℕ) → (i ≡ b → ⊥) → cell next i ≡ cell mark' i
+      other_mark i n = ⊎_elim (λ a. f.below i a) (λ a. f.above i (omega arith)) (lt_or_le i b)
 
       other_key : (i : ℕ) → (i ≡ b → ⊥) → at new i ≡ at keys' i
       other_key i n = ap (λ (xs : List ℕ). at xs i) d ∙ get_or-set_other keys' b i (key_at (has ms (length alt)) ps alt b) 0 n
 
       unmarked : (i : ℕ) → cell next i ≡ 0 → i ≡ b → ⊥
-      unmarked i y e = let a = ap (cell next) e in omega (arith, own-mark)
+      unmarked i y e = let a = ap (cell next) e in omega (arith, own_mark)
 
       go : (i : ℕ) → i < 1024 → cell mark i ≡ 0 → 0 < cell next i → (v : Bool) → eqb i b ≡ v → (i < length ps)
           × (at new i ≡ key_at (has ms (length alt)) ps alt i)
       go i k y g true e = rw (eqb-true i b e)
           (l, ap (λ (xs : List ℕ). at xs b) d ∙ get_or-set_same keys' b (key_at (has ms (length alt)) ps alt b) 0 ls)
-      go i k y g false e = let n = eqb-false i b e in let h = s.moved i k y (rw (other-mark i n) at g) in
+      go i k y g false e = let n = eqb-false i b e in let h = s.moved i k y (rw (other_mark i n) at g) in
           (h.0, other_key i n ∙ h.1)
 
   pub ends : t ≡ 0 → Spread ps ms alt q m keys mark keys' mark'
@@ -131,17 +131,17 @@ module _ {ps ms alt index : List ℕ} {q m : ℕ} {keys mark keys' mark' : List 
     kept = s.kept;
     still = λ i k z. (
       s.same i k z,
-      λ l. ⊎_elim (λ y. y) (λ r. absurd (chain-end index s.top i (at (wordRow ms (length alt) i) q) (rw e at r))) (s.left i l z),
+      λ l. ⊎_elim (λ y. y) (λ r. absurd (chain_end index s.top i (at (word_row ms (length alt) i) q) (rw e at r))) (s.left i l z),
     );
     moved = s.moved;
   }
 
 -- ---- the pairs one after the other
-pub gained-none : (has : ℕ → ℕ → Bool) (ps alt pairs : List ℕ) (a : ℕ) (keys mark : List ℕ)
-    → Gained has ps alt (inPairs pairs a (a - a)) keys mark keys mark
-gained-none has ps alt pairs a keys mark = record {
+pub gained_none : (has : ℕ → ℕ → Bool) (ps alt pairs : List ℕ) (a : ℕ) (keys mark : List ℕ)
+    → Gained has ps alt (in_pairs pairs a (a - a)) keys mark keys mark
+gained_none has ps alt pairs a keys mark = record {
   kept = λ i k g. (g, refl);
-  still = λ i k z. (refl, λ l x h f. absurd (false≢true (sym (pairs-none pairs a x) ∙ f)));
+  still = λ i k z. (refl, λ l x h f. absurd (false≢true (sym (pairs_none pairs a x) ∙ f)));
   moved = λ i k z g. absurd (omega arith);
 }
 
@@ -149,13 +149,13 @@ gained-none has ps alt pairs a keys mark = record {
 pub spread_none : (ps ms alt : List ℕ) (q m : ℕ) (keys mark : List ℕ) → m ≡ 0 → Spread ps ms alt q m keys mark keys mark
 spread_none ps ms alt q m keys mark e = record {
   kept = λ i k g. (g, refl);
-  still = λ i k z. (refl, λ l. rw e (and_zero_r (at (wordRow ms (length alt) i) q)));
+  still = λ i k z. (refl, λ l. rw e (and_zero_r (at (word_row ms (length alt) i) q)));
   moved = λ i k z g. absurd (omega arith);
 }
 
-has-cell : (ms : List ℕ) (w i x : ℕ) → has ms w i x ≡ true → cell (wordRow ms w i) x ≡ 1
+has_cell : (ms : List ℕ) (w i x : ℕ) → has ms w i x ≡ true → cell (word_row ms w i) x ≡ 1
 unfolding has
-has-cell ms w i x h = eqb-true (cell (wordRow ms w i) x) 1 h
+has_cell ms w i x h = eqb-true (cell (word_row ms w i) x) 1 h
 
 -- a cell of word q is in the row and in the mask, but the row has no open cell of the mask there
 apart : (alt row : List ℕ) (q m x : ℕ) → bit_and (at row q) (bit_and (at alt q) m) ≡ 0 → x / 64 ≡ q → cell row x ≡ 1
@@ -166,8 +166,8 @@ apart alt row q m x e f u v = rw f (omega (
   rw f at u,
   v,
   zeros,
-  and-bit (at row q) (bit_and (at alt q) m) (x % 64),
-  and-bit (at alt q) m (x % 64),
+  and_bit (at row q) (bit_and (at alt q) m) (x % 64),
+  and_bit (at alt q) m (x % 64),
 ))
   where
     zeros : bit_of (bit_and (at row q) (bit_and (at alt q) m)) (x % 64) ≡ 0
@@ -177,11 +177,11 @@ or_cases : (a b : Bool) → (a || b) ≡ true → (a ≡ true) ⊎ (b ≡ true)
 or_cases true b e = inl refl
 or_cases false b e = inr e
 
-pub gained-more : (pairs : List ℕ) (a p : ℕ) {ps ms alt keys mark keys' mark' new next : List ℕ} → a ≤ p
-    → Gained (has ms (length alt)) ps alt (inPairs pairs a (p - a)) keys mark keys' mark'
+pub gained_more : (pairs : List ℕ) (a p : ℕ) {ps ms alt keys mark keys' mark' new next : List ℕ} → a ≤ p
+    → Gained (has ms (length alt)) ps alt (in_pairs pairs a (p - a)) keys mark keys' mark'
     → Spread ps ms alt (at pairs (2 * p)) (bit_and (at alt (at pairs (2 * p))) (at pairs (2 * p + 1))) keys' mark' new next
-    → Gained (has ms (length alt)) ps alt (inPairs pairs a (p + 1 - a)) keys mark new next
-gained-more pairs a p {ps} {ms} {alt} {keys} {mark} {keys'} {mark'} {new} {next} l s d = record {
+    → Gained (has ms (length alt)) ps alt (in_pairs pairs a (p + 1 - a)) keys mark new next
+gained_more pairs a p {ps} {ms} {alt} {keys} {mark} {keys'} {mark'} {new} {next} l s d = record {
   kept = λ i k g. let y = s.kept i k g in let z = d.kept i k y.0 in (z.0, z.1 ∙ y.1);
   still = λ i k z. ((d.still i k z).0 ∙ (s.still i k (was i k z)).0, λ b x h f. closed i k z b x h f);
   moved = λ i k z g. ⊎_elim (λ y. d.moved i k y g) (λ y. let h = s.moved i k z y in (h.0, (d.kept i k y).1 ∙ h.1))
@@ -192,8 +192,8 @@ gained-more pairs a p {ps} {ms} {alt} {keys} {mark} {keys'} {mark'} {new} {next}
     was i k z = ⊎_elim (λ y. y) (λ y. absurd (omega (arith, (d.kept i k y).0))) (zero_or (cell mark' i))
 
     closed : (i : ℕ) → i < 1024 → cell next i ≡ 0 → i < length ps → (x : ℕ) → has ms (length alt) i x ≡ true
-        → inPairs pairs a (p + 1 - a) x ≡ true → cell alt x ≡ 0
+        → in_pairs pairs a (p + 1 - a) x ≡ true → cell alt x ≡ 0
     closed i k z b x h f = ⊎_elim (λ y. (s.still i k (was i k z)).1 b x h y)
-        (λ y. apart alt (wordRow ms (length alt) i) (at pairs (2 * p)) (at pairs (2 * p + 1)) x ((d.still i k z).1 b)
-        (sym (pair-word pairs p x y)) (has-cell ms (length alt) i x h) (pair-bit pairs p x y))
-        (or_cases (inPairs pairs a (p - a) x) (inPair pairs p x) (sym (pairs-more pairs a p l x) ∙ f))
+        (λ y. apart alt (word_row ms (length alt) i) (at pairs (2 * p)) (at pairs (2 * p + 1)) x ((d.still i k z).1 b)
+        (sym (pair_word pairs p x y)) (has_cell ms (length alt) i x h) (pair_bit pairs p x y))
+        (or_cases (in_pairs pairs a (p - a) x) (in_pair pairs p x) (sym (pairs_more pairs a p l x) ∙ f))

@@ -1,9 +1,11 @@
 // The bids that gain in the run without one bid: those that have a cell which is open there and closed in the main run. `rank` marks one
 // bid and enters it with its key; `gain_pairs` does so for all that have an open cell of some pairs.
+#![tactic(auto)]
+
 ghost use Rattle.std.specs.Prelude.{◌≡◌, ◌+◌, ◌-◌, ◌*◌, ◌<◌, ◌≤◌, length, set};
 ghost use Rattle.cells.specs.Cells.{RangeAdded};
 ghost use Rattle.cells_count.specs.Hops.{Counted};
-ghost use Rattle.cells_pairs.specs.Pairs.{inPairs, Paired};
+ghost use Rattle.cells_pairs.specs.Pairs.{in_pairs, Paired};
 ghost use Rattle.multi_keys.specs.Tree.{leaves, Tree};
 ghost use Rattle.multi_market.specs.Market.{has, Market, Hopping};
 ghost use Rattle.multi_index.specs.Index.{Indexed};
@@ -89,7 +91,7 @@ pub fn gain_pairs(
         × (Paired pairs.now (length alt.now) a z × (Counted alt.now counts.old
         × (Tree tree.old × (length mark.old ≡ 16)))))) }
     ensures { Tree tree.new × (Gained (has masks.now (length alt.now)) prices.now
-        alt.now (inPairs pairs.now a (z - a)) (leaves tree.old) mark.old
+        alt.now (in_pairs pairs.now a (z - a)) (leaves tree.old) mark.old
         (leaves tree.new) mark.new
         × Counted alt.now counts.new) }
 {

@@ -1,7 +1,9 @@
 // The price below which one bid of a multi tender would win, all else standing. `below` makes one greedy run without the bid; in each
 // round it finds the prices at which the bid is taken before the round's, and answers one more than the highest of them.
+#![tactic(auto)]
+
 ghost use Rattle.std.specs.Prelude.{◌≡◌, ◌+◌, ◌*◌, ◌<◌, ◌≤◌, length};
-ghost use Rattle.tender.specs.Limits.{maxEntries};
+ghost use Rattle.tender.specs.Limits.{max_entries};
 ghost use Rattle.cover.specs.Sets.{cells};
 ghost use Rattle.cover.specs.CriticalPrice.{limit};
 ghost use Rattle.cells_count.specs.Hops.{Counted};

@@ -2,14 +2,14 @@
 use Rattle.std.specs.Prelude.{◌≡◌, Bool, true, false, List, ℕ, ◌+◌, ◌*◌, ◌<◌, length}
 use Rattle.cells.specs.Cells.{whole}
 use Rattle.multi_keys.specs.Keys.{at}
-use Rattle.multi_market.specs.Market.{wordRow}
-use Rattle.multi_index.specs.Index.{bidAt, next_at, maskAt, Lists, Chained}
+use Rattle.multi_market.specs.Market.{word_row}
+use Rattle.multi_index.specs.Index.{bid_at, next_at, mask_at, Lists, Chained}
 
 -- node t, of bid i with the cells m, is in front of word q's chain; of the places before it only that of q's first node has changed
 pub record Pushed (old : List ℕ) (q t i m : ℕ) (new : List ℕ) : Type 0 where
   pub head : next_at new q ≡ t
-  pub bid : bidAt new t ≡ i
-  pub mask : maskAt new t ≡ m
+  pub bid : bid_at new t ≡ i
+  pub mask : mask_at new t ≡ m
   pub next : next_at new t ≡ next_at old q
   pub others : (p : ℕ) → p < 2 * t → (p ≡ 2 * q → ⊥) → at new p ≡ at old p
 
@@ -21,7 +21,7 @@ Kept old top new top' = (q i m : ℕ) → q < 158 → Lists old top (next_at old
 pub record Enlisted (ms : List ℕ) (w i : ℕ) (old : List ℕ) (top : ℕ) (new : List ℕ) (top' : ℕ) : Type 0 where
   pub chained : Chained (i + 1) new top'
   pub kept : Kept old top new top'
-  pub own : (q : ℕ) → q < w → (at (wordRow ms w i) q ≡ 0 → ⊥) → Lists new top' (next_at new q) i (at (wordRow ms w i) q)
+  pub own : (q : ℕ) → q < w → (at (word_row ms w i) q ≡ 0 → ⊥) → Lists new top' (next_at new q) i (at (word_row ms w i) q)
 
 -- the hops from word q on come to a whole word with three more right after it
 pub data Wide : List ℕ → List ℕ → ℕ → Type 0 where

@@ -1,8 +1,10 @@
 // For each word the bids that have a cell there, as chains. A bid with a long run of whole words shares cells with nearly every other:
 // it is entered in no chain, but in the set `ever`; so is one for which there is no room.
+#![tactic(auto)]
+
 ghost use Rattle.std.specs.Prelude.{◌≡◌, ◌+◌, ◌*◌, ◌<◌, ◌≤◌, length};
 ghost use Rattle.cells_count.specs.Hops.{Hops};
-ghost use Rattle.multi_market.specs.Market.{wordRow, Market, Hopping};
+ghost use Rattle.multi_market.specs.Market.{word_row, Market, Hopping};
 ghost use Rattle.multi_index.specs.Index.{Chained, Indexed};
 ghost use Rattle.multi_index.specs.Enlisted.{Pushed, Enlisted, SaysWide};
 
@@ -20,7 +22,7 @@ fn push(index: &mut [u64], q: usize, t: usize, i: usize, m: u64)
 // Enters bid i in the chain of each word where it has a cell, with nodes from `at` on. Answers the place after them.
 fn enlist_row(masks: &[u64], hop: &[u8], w: usize, i: usize, index: &mut [u64], at: usize) -> usize
     requires { (w ≤ 158) × ((w * i + w ≤ length masks.now) × ((length hop.now ≡ length masks.now)
-        × (Hops (wordRow masks.now w i) (wordRow hop.now w i) × ((i < 1024) × (Chained i index.old at
+        × (Hops (word_row masks.now w i) (word_row hop.now w i) × ((i < 1024) × (Chained i index.old at
         × ((2 * (at + w) ≤ length index.old) × (length index.old ≤ 200000))))))) }
     ensures { Enlisted masks.now w i index.old at index.new result }
 {
@@ -44,8 +46,8 @@ fn enlist_row(masks: &[u64], hop: &[u8], w: usize, i: usize, index: &mut [u64], 
 // Whether bid i has more than three whole words in a row.
 fn is_wide(masks: &[u64], hop: &[u8], w: usize, i: usize) -> bool
     requires { (w ≤ 158) × ((w * i + w ≤ length masks.now) × ((length hop.now ≡ length masks.now)
-        × (Hops (wordRow masks.now w i) (wordRow hop.now w i) × (i < 1024)))) }
-    ensures { SaysWide (wordRow masks.now w i) (wordRow hop.now w i) result }
+        × (Hops (word_row masks.now w i) (word_row hop.now w i) × (i < 1024)))) }
+    ensures { SaysWide (word_row masks.now w i) (word_row hop.now w i) result }
 {
     let a = w * i;
     let mut q = 0;

@@ -7,13 +7,13 @@ use Rattle.std.proofs.lemmas.Bool.{eqb-false}
 use Rattle.multi_keys.specs.Keys.{at}
 use Rattle.multi_keys.specs.Tree.{leaves, Tree}
 
-pub leaf-at : (tree : List ℕ) (i : ℕ) → at (leaves tree) i ≡ at tree (1024 + i)
+pub leaf_at : (tree : List ℕ) (i : ℕ) → at (leaves tree) i ≡ at tree (1024 + i)
 unfolding leaves
-leaf-at tree i = get_or-drop 1024 tree i 0
+leaf_at tree i = get_or-drop 1024 tree i 0
 
-pub length-leaves : (tree : List ℕ) → length tree ≡ 2048 → length (leaves tree) ≡ 1024
+pub length_leaves : (tree : List ℕ) → length tree ≡ 2048 → length (leaves tree) ≡ 1024
 unfolding leaves
-length-leaves tree e = simp length-drop (omega arith)
+length_leaves tree e = simp length-drop (omega arith)
 
 -- a fact of the list after one store
 pub set_at : (P : ℕ → ℕ → Type 0) (xs : List ℕ) (i v : ℕ) → i < length xs → P i v → ((j : ℕ) → P j (at xs j))
@@ -27,13 +27,13 @@ set_at P xs i v l h f j = go (eqb j i) refl
 
 -- the leaves after one store
 
-pub leaves-set : (tree : List ℕ) (i x : ℕ) → leaves (set tree (1024 + i) x) ≡ set (leaves tree) i x
+pub leaves_set : (tree : List ℕ) (i x : ℕ) → leaves (set tree (1024 + i) x) ≡ set (leaves tree) i x
 unfolding leaves
-leaves-set tree i x = drop-set-add 1024 tree i x
+leaves_set tree i x = drop-set-add 1024 tree i x
 
-pub leaves-keep : (tree : List ℕ) (v x : ℕ) → v < 1024 → leaves (set tree v x) ≡ leaves tree
+pub leaves_keep : (tree : List ℕ) (v x : ℕ) → v < 1024 → leaves (set tree v x) ≡ leaves tree
 unfolding leaves
-leaves-keep tree v x l = drop-set-lt 1024 tree v x l
+leaves_keep tree v x l = drop-set-lt 1024 tree v x l
 
 -- a node is one of the two below the one above it
 half : (v : ℕ) → (v ≡ 2 * (v / 2)) ⊎ (v ≡ 2 * (v / 2) + 1)
@@ -44,8 +44,8 @@ half v = go (ltb (v - 2 * (v / 2)) 1) refl
     go false e = inr (omega (arith, ltb-false (v - 2 * (v / 2)) 1 e))
 
 -- the other of the two
-pub beside-is : (v : ℕ) → bit_xor v 1 ≡ 4 * (v / 2) + 1 - v
-beside-is v = xor_step v 1 ∙ ap (λ (x : ℕ). x * 2 + differ (v % 2) 1) (xor_zero_r (v / 2)) ∙ go (v % 2) refl
+pub beside_is : (v : ℕ) → bit_xor v 1 ≡ 4 * (v / 2) + 1 - v
+beside_is v = xor_step v 1 ∙ ap (λ (x : ℕ). x * 2 + differ (v % 2) 1) (xor_zero_r (v / 2)) ∙ go (v % 2) refl
   where
     go : (d : ℕ) → v % 2 ≡ d → v / 2 * 2 + differ (v % 2) 1 ≡ 4 * (v / 2) + 1 - v
     go zero e = rw e (omega arith)
@@ -80,8 +80,8 @@ module _ {tree : List ℕ} (t : Tree tree) where
       go false e ih = let n = eqb-false v 1 e in
           omega (arith, ih (omega arith) (omega arith) (omega arith), step v (omega arith) h)
 
-  pub first-least : (i : ℕ) → i < 1024 → at tree 1 ≤ at (leaves tree) i
-  first-least i l = rw (leaf-at tree i) (under_first (1024 + i) (1024 + i) (omega arith) (omega arith) (omega arith))
+  pub first_least : (i : ℕ) → i < 1024 → at tree 1 ≤ at (leaves tree) i
+  first_least i l = rw (leaf_at tree i) (under_first (1024 + i) (1024 + i) (omega arith) (omega arith) (omega arith))
 
   -- of the two below a node one has its key
   kept : (v : ℕ) → 0 < v → v < 1024 → (at tree (2 * v) ≡ at tree v) ⊎ (at tree (2 * v + 1) ≡ at tree v)
@@ -92,9 +92,9 @@ module _ {tree : List ℕ} (t : Tree tree) where
       go n true e = inl (omega (arith, n, ltb-true (at tree (2 * v)) (at tree (2 * v + 1)) e))
       go n false e = inr (omega (arith, n, ltb-false (at tree (2 * v)) (at tree (2 * v + 1)) e))
 
-  leaf-below : (f v : ℕ) → 2048 ≤ v + f → 0 < v → v < 2048 → Leaf tree v
-  leaf-below zero v l m h = absurd (omega arith)
-  leaf-below (suc f) v l m h = go (ltb v 1024) refl (leaf-below f (2 * v)) (leaf-below f (2 * v + 1))
+  leaf_below : (f v : ℕ) → 2048 ≤ v + f → 0 < v → v < 2048 → Leaf tree v
+  leaf_below zero v l m h = absurd (omega arith)
+  leaf_below (suc f) v l m h = go (ltb v 1024) refl (leaf_below f (2 * v)) (leaf_below f (2 * v + 1))
     where
       go : (b : Bool) → ltb v 1024 ≡ b → (2048 ≤ 2 * v + f → 0 < 2 * v → 2 * v < 2048 → Leaf tree (2 * v))
           → (2048 ≤ 2 * v + 1 + f → 0 < 2 * v + 1 → 2 * v + 1 < 2048 → Leaf tree (2 * v + 1)) → Leaf tree v
@@ -105,10 +105,10 @@ module _ {tree : List ℕ} (t : Tree tree) where
           record { place = o.place; inside = o.inside; is = o.is ∙ k })
           (kept v m y)
       go false e ih jh = let y = ltb-false v 1024 e in let i : 1024 + (v - 1024) ≡ v = omega arith in
-          record { place = v - 1024; inside = omega arith; is = leaf-at tree (v - 1024) ∙ ap (at tree) i }
+          record { place = v - 1024; inside = omega arith; is = leaf_at tree (v - 1024) ∙ ap (at tree) i }
 
   pub first_leaf : FirstLeaf tree
-  first_leaf = let o = leaf-below 2047 1 (omega arith) (omega arith) (omega arith) in
+  first_leaf = let o = leaf_below 2047 1 (omega arith) (omega arith) (omega arith) in
       record { place = o.place; inside = o.inside; is = o.is }
 
 -- a node has the lesser of the two keys below it
@@ -133,8 +133,8 @@ pub record Putting (tree : List ℕ) (v x d : ℕ) : Type 0 where
   key : x ≡ at tree v
   node : (u : ℕ) → 0 < u → u < 1024 → (u ≡ v / 2 → ⊥) → at tree u ≡ min (at tree (2 * u)) (at tree (2 * u + 1))
 
-pub put-starts : {tree : List ℕ} → Tree tree → (i x : ℕ) → i < 1024 → Putting (set tree (1024 + i) x) (1024 + i) x 0
-put-starts {tree} t i x l = record {
+pub put_starts : {tree : List ℕ} → Tree tree → (i x : ℕ) → i < 1024 → Putting (set tree (1024 + i) x) (1024 + i) x 0
+put_starts {tree} t i x l = record {
   size = simp length-set t.size;
   inside = omega arith;
   turns = omega arith;
@@ -145,9 +145,9 @@ put-starts {tree} t i x l = record {
 }
 
 -- the node above v gets the lesser of x and what stands beside it
-pub put-goes : {tree : List ℕ} {v x d y : ℕ} → Putting tree v x d → d < 10 → y ≡ min (at tree (4 * (v / 2) + 1 - v)) x
+pub put_goes : {tree : List ℕ} {v x d y : ℕ} → Putting tree v x d → d < 10 → y ≡ min (at tree (4 * (v / 2) + 1 - v)) x
     → Putting (set tree (v / 2) y) (v / 2) y (d + 1)
-put-goes {tree} {v} {x} {d} {y} t l f = record {
+put_goes {tree} {v} {x} {d} {y} t l f = record {
   size = simp length-set t.size;
   inside = omega (arith, t.inside);
   turns = omega arith;
@@ -181,8 +181,8 @@ put-goes {tree} {v} {x} {d} {y} t l f = record {
     ) least
     go u a b n false e = let k = eqb-false u (v / 2) e in untouched tree (v / 2) y u k n (t.node u a b k)
 
-pub put-ends : {tree : List ℕ} {v x d : ℕ} → Putting tree v x d → 10 ≤ d → Tree tree
-put-ends {tree} {v} {x} {d} t l = record { size = t.size; node = λ u a b. t.node u a b (λ z. omega (arith, top)) }
+pub put_ends : {tree : List ℕ} {v x d : ℕ} → Putting tree v x d → 10 ≤ d → Tree tree
+put_ends {tree} {v} {x} {d} t l = record { size = t.size; node = λ u a b. t.node u a b (λ z. omega (arith, top)) }
   where
     top : v < 2
     top = let e : d ≡ 10 = omega (arith, t.turns) in rw e at t.high
@@ -192,13 +192,13 @@ pub record From (tree : List ℕ) (v : ℕ) : Type 0 where
   pub size : length tree ≡ 2048
   node : (u : ℕ) → 0 < u → u < 1024 → v ≤ u → at tree u ≡ min (at tree (2 * u)) (at tree (2 * u + 1))
 
-pub play-starts : (tree : List ℕ) {v : ℕ} → length tree ≡ 2048 → 1024 ≤ v → From tree v
-play-starts tree e m = record { size = e; node = λ u a b l. absurd (omega arith) }
+pub play_starts : (tree : List ℕ) {v : ℕ} → length tree ≡ 2048 → 1024 ≤ v → From tree v
+play_starts tree e m = record { size = e; node = λ u a b l. absurd (omega arith) }
 
-pub play-goes : {tree : List ℕ} {v y : ℕ} → From tree v → 1 < v → v ≤ 1024
+pub play_goes : {tree : List ℕ} {v y : ℕ} → From tree v → 1 < v → v ≤ 1024
     → y ≡ min (at tree (2 * (v - 1))) (at tree (2 * (v - 1) + 1))
     → From (set tree (v - 1) y) (v - 1)
-play-goes {tree} {v} {y} t l m f = record { size = simp length-set t.size; node = λ u a b k. go u a b k (eqb u (v - 1)) refl }
+play_goes {tree} {v} {y} t l m f = record { size = simp length-set t.size; node = λ u a b k. go u a b k (eqb u (v - 1)) refl }
   where
     go : (u : ℕ) → 0 < u → u < 1024 → v - 1 ≤ u → (b : Bool) → eqb u (v - 1) ≡ b → Lesser (set tree (v - 1) y) u
     go u a b k true d = rw (
@@ -210,5 +210,5 @@ play-goes {tree} {v} {y} t l m f = record { size = simp length-set t.size; node 
     go u a b k false d = let n = eqb-false u (v - 1) d in
         untouched tree (v - 1) y u n (λ z. omega arith) (t.node u a b (omega arith))
 
-pub play-ends : {tree : List ℕ} {v : ℕ} → From tree v → v ≤ 1 → Tree tree
-play-ends t l = record { size = t.size; node = λ u a b. t.node u a b (omega arith) }
+pub play_ends : {tree : List ℕ} {v : ℕ} → From tree v → v ≤ 1 → Tree tree
+play_ends t l = record { size = t.size; node = λ u a b. t.node u a b (omega arith) }

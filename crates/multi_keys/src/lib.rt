@@ -1,5 +1,7 @@
 // Bids in order of price for each cell, on a tie in order of entry, by one number each: its key. A tree of the keys has the least of all
 // at node 1; `put` changes the key of one bid, `play` makes all nodes from the leaves.
+#![tactic(auto)]
+
 ghost use Rattle.std.specs.Prelude.{◌≡◌, ◌+◌, ◌-◌, ◌*◌, ◌/◌, ◌<◌, ◌≤◌, min, length, set};
 ghost use Rattle.multi_keys.specs.Keys.{key_of};
 ghost use Rattle.multi_keys.specs.Tree.{leaves, Tree};

@@ -8,39 +8,39 @@ use Rattle.cover.specs.CriticalPrice.{share, bar}
 use Rattle.cells.specs.Cells.{cell}
 use Rattle.multi_keys.specs.Keys.{at, last}
 use Rattle.multi_market.specs.Market.{Priced}
-use Rattle.multi_market.specs.Opens.{openOf}
+use Rattle.multi_market.specs.Opens.{open_of}
 use Rattle.multi_market.specs.Seats.{Fronted}
-use Rattle.multi_market.specs.RunLaws.{rounds-of}
-use Rattle.multi_rounds.specs.Trace.{keyOn}
-use Rattle.multi_limit.specs.Follow.{bar-from, Following, SameBar, Gone, Took, Stepped, Limited}
+use Rattle.multi_market.specs.RunLaws.{rounds_of}
+use Rattle.multi_rounds.specs.Trace.{key_on}
+use Rattle.multi_limit.specs.Follow.{bar_from, Following, SameBar, Gone, Took, Stepped, Limited}
 use Rattle.multi_limit.specs.StrayLaws.{others}
-use Rattle.multi_limit.specs.FollowLaws.{shut-fewer, here, key-last, take-falls, take-bar, take_on, over_none}
-use Rattle.multi_limit.specs.WalkLaws.{bar-on, open-less}
+use Rattle.multi_limit.specs.FollowLaws.{shut_fewer, here, key_last, take_falls, take_bar, take_on, over_none}
+use Rattle.multi_limit.specs.WalkLaws.{bar_on, open_less}
 
 -- a bid that reaches no open cell has no share
-pub bar-none : (k : ℕ) (h : ℕ → Bool) (B : ℕ → Entry) (n : ℕ) (O : List ℕ) → reach h O ≡ 0
-    → bar k h (rounds-of B n O) ≡ 0
-unfolding bar rounds-of share
-bar-none k h B n O = rounds B n (λ O t. reach h O ≡ 0 → bar k h t ≡ 0) (λ O e z. refl)
+pub bar_none : (k : ℕ) (h : ℕ → Bool) (B : ℕ → Entry) (n : ℕ) (O : List ℕ) → reach h O ≡ 0
+    → bar k h (rounds_of B n O) ≡ 0
+unfolding bar rounds_of share
+bar_none k h B n O = rounds B n (λ O t. reach h O ≡ 0 → bar k h t ≡ 0) (λ O e z. refl)
     (λ O i t b ih z. rw (z, ih (omega (arith, close_other (B i).has h O)))) (length O) O (omega arith)
 
-bar-from-none : (has : ℕ → ℕ → Bool) (ps : List ℕ) (k : ℕ) (O : List ℕ) → reach (has k) O ≡ 0
-    → bar-from has ps k O ≡ 0
-unfolding bar-from rounds-of
-bar-from-none has ps k O z = bar-none k (has k) (others has ps k) (length ps) O z
+bar_from_none : (has : ℕ → ℕ → Bool) (ps : List ℕ) (k : ℕ) (O : List ℕ) → reach (has k) O ≡ 0
+    → bar_from has ps k O ≡ 0
+unfolding bar_from rounds_of
+bar_from_none has ps k O z = bar_none k (has k) (others has ps k) (length ps) O z
 
 -- ---- one step
 -- the run goes along the main run
-pub step-goes : {has : ℕ → ℕ → Bool} {ps : List ℕ} {k : ℕ} {run tape alt alt' keys' mark' : List ℕ}
+pub step_goes : {has : ℕ → ℕ → Bool} {ps : List ℕ} {k : ℕ} {run tape alt alt' keys' mark' : List ℕ}
     {mine top g g' mine' top' : ℕ} {over : Bool}
     → Gone has ps k run tape alt alt' keys' mark' mine top g g' → length alt' ≡ length alt
     → top ≤ 1011200000001 → mine' ≡ mine → top' ≡ top → over ≡ false
     → Stepped has ps k run tape alt alt' keys' mark' g top g' mine' top' over
-step-goes {alt = alt} {alt' = alt'} d e l m t o = record {
+step_goes {alt = alt} {alt' = alt'} d e l m t o = record {
   goes = λ z. rw m d.goes;
-  falls = λ z. omega (arith, d.on, d.goes.reached, d.goes.main.room, open-less alt alt' e d.fewer);
+  falls = λ z. omega (arith, d.on, d.goes.reached, d.goes.main.room, open_less alt alt' e d.fewer);
   fewer = d.fewer;
-  bar-is = λ z. rw t d.bar-is;
+  bar_is = λ z. rw t d.bar_is;
   small = omega arith;
   ends = λ z. absurd (false≢true (sym o ∙ z));
 }
@@ -49,35 +49,35 @@ module _ {has : ℕ → ℕ → Bool} {ps : List ℕ} {k : ℕ} {run tape alt ke
     (most : length alt ≤ 158)
     (s : Following has ps k run tape alt keys mark mine g) where
   -- the marked bid with the least key is taken
-  pub step-takes : {key c : ℕ} {old alt' keys' : List ℕ} {next g' mine' top top' : ℕ} {over : Bool}
-      → Fronted has ps alt old keys (keyOn run g) key c → key ≤ keyOn run g → length alt' ≡ length alt
+  pub step_takes : {key c : ℕ} {old alt' keys' : List ℕ} {next g' mine' top top' : ℕ} {over : Bool}
+      → Fronted has ps alt old keys (key_on run g) key c → key ≤ key_on run g → length alt' ≡ length alt
       → Took has k (key % 1024) (at ps (key % 1024)) c alt keys alt' keys' mine top mine' top'
-      → (next ≡ g) ⊎ ((next ≡ g + 1) × ((keyOn run g % 1024 ≡ key % 1024) × (keyOn run g ≡ last → ⊥))) → g' ≡ next
+      → (next ≡ g) ⊎ ((next ≡ g + 1) × ((key_on run g % 1024 ≡ key % 1024) × (key_on run g ≡ last → ⊥))) → g' ≡ next
       → over ≡ false
       → Stepped has ps k run tape alt alt' keys' mark g top g' mine' top' over
-  step-takes {key = key} {next = next} f l e t n q o = record {
+  step_takes {key = key} {next = next} f l e t n q o = record {
     goes = λ z. rw q (take_on p most s f l refl e t came);
-    falls = λ z. omega (arith, q, stays, take-falls p most s f l refl e t);
-    fewer = shut-fewer t.shuts;
-    bar-is = λ z. take-bar p most s f l refl e t;
+    falls = λ z. omega (arith, q, stays, take_falls p most s f l refl e t);
+    fewer = shut_fewer t.shuts;
+    bar_is = λ z. take_bar p most s f l refl e t;
     small = t.small;
     ends = λ z. absurd (false≢true (sym o ∙ z));
   }
     where
-      came : (next ≡ g) ⊎ ((next ≡ g + 1) × ((keyOn run g % 1024 ≡ key % 1024) × (g < s.rounds)))
-      came = ⊎_elim (λ u. inl u) (λ u. inr (u.0, (u.1.0, here p most s (omega (arith, key-last p most s, u.1.1))))) n
+      came : (next ≡ g) ⊎ ((next ≡ g + 1) × ((key_on run g % 1024 ≡ key % 1024) × (g < s.rounds)))
+      came = ⊎_elim (λ u. inl u) (λ u. inr (u.0, (u.1.0, here p most s (omega (arith, key_last p most s, u.1.1))))) n
 
       stays : g ≤ next
       stays = ⊎_elim (λ u. omega arith) (λ u. omega (arith, u.0)) n
 
   -- no bid is left
-  pub step-ends : {top : ℕ} → top ≤ 1011200000001 → keyOn run g ≡ last → ((i : ℕ) → i < 1024 → last < at keys i)
+  pub step_ends : {top : ℕ} → top ≤ 1011200000001 → key_on run g ≡ last → ((i : ℕ) → i < 1024 → last < at keys i)
       → Stepped has ps k run tape alt alt keys mark g top g mine top true
-  step-ends l e h = record {
+  step_ends l e h = record {
     goes = λ z. absurd (false≢true (sym z));
     falls = λ z. absurd (false≢true (sym z));
     fewer = λ x. omega arith;
-    bar-is = λ z. absurd (false≢true (sym z));
+    bar_is = λ z. absurd (false≢true (sym z));
     small = l;
     ends = λ z. (over_none p most s e h, refl);
   }
@@ -89,33 +89,33 @@ pub record Limiting (has : ℕ → ℕ → Bool) (ps : List ℕ) (k : ℕ) (run 
   pub size : length alt ≡ length old
   pub goes : Following has ps k run tape alt keys mark mine g
   pub fewer : (x : ℕ) → cell alt x ≤ cell old x
-  pub bar-is : SameBar has ps k old alt 0 top
+  pub bar_is : SameBar has ps k old alt 0 top
   pub small : top ≤ 1011200000001
 
-pub limit-starts : {has : ℕ → ℕ → Bool} {ps : List ℕ} {k : ℕ} {run tape alt keys mark : List ℕ} {mine top g : ℕ}
+pub limit_starts : {has : ℕ → ℕ → Bool} {ps : List ℕ} {k : ℕ} {run tape alt keys mark : List ℕ} {mine top g : ℕ}
     → Following has ps k run tape alt keys mark mine g → top ≡ 0 → Limiting has ps k run tape alt alt keys mark mine top g
-limit-starts f e = record { size = refl; goes = f; fewer = λ x. omega arith; bar-is = λ s. rw e; small = omega arith }
+limit_starts f e = record { size = refl; goes = f; fewer = λ x. omega arith; bar_is = λ s. rw e; small = omega arith }
 
 module _ {has : ℕ → ℕ → Bool} {ps : List ℕ} {k : ℕ} {run tape old alt keys mark : List ℕ} {mine top g : ℕ}
     (a : Limiting has ps k run tape old alt keys mark mine top g) where
   module _ {alt' keys' mark' : List ℕ} {g' mine' top' : ℕ} {over : Bool}
       (t : Stepped has ps k run tape alt alt' keys' mark' g top g' mine' top' over) where
-    pub limit-goes : length alt' ≡ length alt → over ≡ false
+    pub limit_goes : length alt' ≡ length alt → over ≡ false
         → Limiting has ps k run tape old alt' keys' mark' mine' top' g'
-    limit-goes e o = record {
+    limit_goes e o = record {
       size = e ∙ a.size;
       goes = t.goes o;
       fewer = λ x. omega (arith, a.fewer x, t.fewer x);
-      bar-is = bar-on has ps k old alt alt' 0 top top' a.fewer a.bar-is (t.bar-is o);
+      bar_is = bar_on has ps k old alt alt' 0 top top' a.fewer a.bar_is (t.bar_is o);
       small = t.small;
     }
 
-    pub limit-over : over ≡ true → Limited has ps k old top'
-    limit-over o = record { is = λ s. omega (arith, a.bar-is s, (t.ends o).0, (t.ends o).1); small = t.small }
+    pub limit_over : over ≡ true → Limited has ps k old top'
+    limit_over o = record { is = λ s. omega (arith, a.bar_is s, (t.ends o).0, (t.ends o).1); small = t.small }
 
   -- the bid has no open cell
-  pub limit-ends : mine ≡ 0 → Limited has ps k old top
-  limit-ends z = record {
-    is = λ s. omega (arith, a.bar-is s, bar-from-none has ps k (openOf alt) (sym a.goes.own ∙ z));
+  pub limit_ends : mine ≡ 0 → Limited has ps k old top
+  limit_ends z = record {
+    is = λ s. omega (arith, a.bar_is s, bar_from_none has ps k (open_of alt) (sym a.goes.own ∙ z));
     small = a.small;
   }

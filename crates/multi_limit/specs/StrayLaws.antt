@@ -6,18 +6,18 @@ use Rattle.std.proofs.Math.ListN.{length}
 use Rattle.std.proofs.lemmas.Bool.{eqb-false}
 use Rattle.cover.specs.Sets.{when, found}
 use Rattle.cover.specs.Greedy.{Entry, reach, close, best, bids}
-use Rattle.cover.specs.GreedyLaws.{withdrawn-other, withdrawn-reach, close-own}
+use Rattle.cover.specs.GreedyLaws.{withdrawn_other, withdrawn_reach, close_own}
 use Rattle.cover.specs.CriticalPrice.{mute, withdrawn}
 use Rattle.cells.specs.Cells.{cell}
 use Rattle.cells_pairs.specs.Pairs.{Shut}
 use Rattle.multi_keys.specs.Keys.{at, out, last, key_of}
-use Rattle.multi_keys.specs.KeyLaws.{key-none, key-bid, key-rises}
+use Rattle.multi_keys.specs.KeyLaws.{key_none, key_bid, key_rises}
 use Rattle.multi_keys.specs.TreeLaws.{set_at}
 use Rattle.multi_market.specs.Market.{Priced}
-use Rattle.multi_market.specs.Opens.{opens, openOf}
-use Rattle.multi_market.specs.OpensLaws.{reach-less}
-use Rattle.multi_market.specs.Seats.{keyIn, key_at, Seat, Seats, Leader, Fronted}
-use Rattle.multi_market.specs.KeyedLaws.{zero_or, key-at, opens-most, least-taken}
+use Rattle.multi_market.specs.Opens.{opens, open_of}
+use Rattle.multi_market.specs.OpensLaws.{reach_less}
+use Rattle.multi_market.specs.Seats.{key_in, key_at, Seat, Seats, Leader, Fronted}
+use Rattle.multi_market.specs.KeyedLaws.{zero_or, key_at_lem, opens_most, least_taken}
 use Rattle.multi_rounds.specs.ShutLaws.{shut_open}
 use Rattle.multi_gain.specs.Gain.{Gained}
 use Rattle.multi_limit.specs.Follow.{Strayed}
@@ -29,23 +29,23 @@ others has ps k = withdrawn k (bids has ps)
 -- fewer open cells, a higher key
 pub rises : (has : ℕ → ℕ → Bool) {ps : List ℕ} (alt alt' : List ℕ) → Priced ps → length alt' ≡ length alt
     → ((x : ℕ) → cell alt' x ≤ cell alt x) → (i : ℕ) → i < length ps → key_at has ps alt i ≤ key_at has ps alt' i
-unfolding openOf
-rises has {ps} alt alt' p e h i l = rw (key-at has ps (openOf alt) i, key-at has ps (openOf alt') i, e)
-    (key-rises (at ps i) (reach (has i) (opens (cell alt) (64 * length alt))) (reach (has i) (opens (cell alt') (64 * length alt))) i
+unfolding open_of
+rises has {ps} alt alt' p e h i l = rw (key_at_lem has ps (open_of alt) i, key_at_lem has ps (open_of alt') i, e)
+    (key_rises (at ps i) (reach (has i) (opens (cell alt) (64 * length alt))) (reach (has i) (opens (cell alt') (64 * length alt))) i
     (p.most i)
-    (omega (arith, p.count)) (reach-less (has i) (cell alt') (cell alt) (64 * length alt) (λ x y. h x)))
+    (omega (arith, p.count)) (reach_less (has i) (cell alt') (cell alt) (64 * length alt) (λ x y. h x)))
 
 -- a bid's own key
 seated : {has : ℕ → ℕ → Bool} {ps alt : List ℕ} → Priced ps → (i : ℕ) → i < length ps
     → (key_at has ps alt i ≡ out) ⊎ Seat has ps alt i (key_at has ps alt i)
 seated {has} {ps} {alt} p i l = ⊎_elim
-    (λ z. inl (key-at has ps (openOf alt) i ∙ ap (λ (r : ℕ). key_of (at ps i) r i) z ∙ key-none (at ps i) i))
+    (λ z. inl (key_at_lem has ps (open_of alt) i ∙ ap (λ (r : ℕ). key_of (at ps i) r i) z ∙ key_none (at ps i) i))
     (λ z. inr (record {
       inside = l;
-      tells = ap (λ (y : ℕ). y % 1024) (key-at has ps (openOf alt) i)
-          ∙ key-bid (at ps i) (reach (has i) (openOf alt)) i z (omega (arith, p.count));
+      tells = ap (λ (y : ℕ). y % 1024) (key_at_lem has ps (open_of alt) i)
+          ∙ key_bid (at ps i) (reach (has i) (open_of alt)) i z (omega (arith, p.count));
       below = omega arith;
-    })) (zero_or (reach (has i) (openOf alt)))
+    })) (zero_or (reach (has i) (open_of alt)))
 
 cheap : (has : ℕ → ℕ → Bool) (ps : List ℕ) (k : ℕ) → Priced ps → (i : ℕ) → (others has ps k i).price ≤ 100000000
 unfolding withdrawn mute bids
@@ -60,31 +60,31 @@ module _ {has : ℕ → ℕ → Bool} {ps : List ℕ} {k : ℕ} {alt keys mark :
     (s : Strayed has ps k alt keys mark og) where
   -- a bid without mark has no lower key than in the main run
   pub no_lower : (i : ℕ) → i < length ps → cell mark i ≡ 0
-      → keyIn (bids has ps) (opens og (64 * length alt)) i ≤ key_at has ps alt i
-  unfolding openOf
-  no_lower i l z = rw (key-at has ps (opens og (64 * length alt)) i, key-at has ps (openOf alt) i)
-      (key-rises (at ps i) (reach (has i) (opens og (64 * length alt))) (reach (has i) (opens (cell alt) (64 * length alt))) i (p.most i)
-      (omega (arith, p.count)) (reach-less (has i) (cell alt) og (64 * length alt) (s.within i l z)))
+      → key_in (bids has ps) (opens og (64 * length alt)) i ≤ key_at has ps alt i
+  unfolding open_of
+  no_lower i l z = rw (key_at_lem has ps (opens og (64 * length alt)) i, key_at_lem has ps (open_of alt) i)
+      (key_rises (at ps i) (reach (has i) (opens og (64 * length alt))) (reach (has i) (opens (cell alt) (64 * length alt))) i (p.most i)
+      (omega (arith, p.count)) (reach_less (has i) (cell alt) og (64 * length alt) (s.within i l z)))
 
-  small : length (openOf alt) ≤ 10112
-  unfolding openOf
-  small = omega (arith, opens-most (cell alt) (64 * length alt))
+  small : length (open_of alt) ≤ 10112
+  unfolding open_of
+  small = omega (arith, opens_most (cell alt) (64 * length alt))
 
   -- a bid whose key is above none
-  pub taken : (b : ℕ) → b < length ps → (b ≡ k → ⊥) → 0 < reach (has b) (openOf alt)
+  pub taken : (b : ℕ) → b < length ps → (b ≡ k → ⊥) → 0 < reach (has b) (open_of alt)
       → ((i : ℕ) → i < length ps → 0 < cell mark i → key_at has ps alt b ≤ at keys i)
-      → ((i : ℕ) → i < length ps → cell mark i ≡ 0 → 0 < reach (has i) (openOf alt)
+      → ((i : ℕ) → i < length ps → cell mark i ≡ 0 → 0 < reach (has i) (open_of alt)
       → key_at has ps alt b ≤ key_at has ps alt i)
-      → best (others has ps k) (length ps) (openOf alt) ≡ found b
-  unfolding bids keyIn
-  taken b l d g marked free = least-taken (others has ps k) (length ps) (openOf alt) (omega (arith, p.count))
+      → best (others has ps k) (length ps) (open_of alt) ≡ found b
+  unfolding bids key_in
+  taken b l d g marked free = least_taken (others has ps k) (length ps) (open_of alt) (omega (arith, p.count))
       (λ i m. cheap has ps k p i) small
-      b l (rw (plain b d) g) (λ i m z. let e = withdrawn-reach k (bids has ps) (openOf alt) i z in
+      b l (rw (plain b d) g) (λ i m z. let e = withdrawn_reach k (bids has ps) (open_of alt) i z in
       rw (plain b d, plain i e) (⊎_elim (λ y. free i m y (rw (plain i e) at z))
       (λ y. omega (arith, marked i m y, s.bound i m y e)) (zero_or (cell mark i))))
     where
       plain : (i : ℕ) → (i ≡ k → ⊥) → others has ps k i ≡ bids has ps i
-      plain i e = withdrawn-other k (bids has ps) i e
+      plain i e = withdrawn_other k (bids has ps) i e
 
   -- after the keys were looked through
   pub scanned : {new : List ℕ} {cap key cells : ℕ} → k < length ps → Fronted has ps alt keys new cap key cells
@@ -123,22 +123,22 @@ module _ {has : ℕ → ℕ → Bool} {ps : List ℕ} {k : ℕ} {alt keys mark :
   }
 
   -- a bid that reaches nothing more is out
-  pub goes-out : (b : ℕ) → b < length ps → reach (has b) (openOf alt) ≡ 0 → Strayed has ps k alt (set keys b out) mark og
-  goes-out b l z = record {
+  pub goes_out : (b : ℕ) → b < length ps → reach (has b) (open_of alt) ≡ 0 → Strayed has ps k alt (set keys b out) mark og
+  goes_out b l z = record {
     seats = record {
       size = simp length-set s.seats.size;
-      each = set_at (λ i y. i < 1024 → (y ≡ out) ⊎ Seat has ps alt i y) keys b out within-keys (λ m. inl refl) s.seats.each;
+      each = set_at (λ i y. i < 1024 → (y ≡ out) ⊎ Seat has ps alt i y) keys b out within_keys (λ m. inl refl) s.seats.each;
     };
     own = s.own;
-    skip = set_at (λ i y. i ≡ k → y ≡ out) keys b out within-keys (λ m. refl) (λ i m. ap (at keys) m ∙ s.skip) k refl;
-    outs = set_at (λ i y. i < length ps → cell mark i ≡ 0 → y ≡ out) keys b out within-keys (λ m y. refl) s.outs;
-    bound = set_at (λ i y. i < length ps → 0 < cell mark i → (i ≡ k → ⊥) → y ≤ key_at has ps alt i) keys b out within-keys
-        (λ m y d. omega (arith, key-at has ps (openOf alt) b, ap (λ (r : ℕ). key_of (at ps b) r b) z, key-none (at ps b) b)) s.bound;
+    skip = set_at (λ i y. i ≡ k → y ≡ out) keys b out within_keys (λ m. refl) (λ i m. ap (at keys) m ∙ s.skip) k refl;
+    outs = set_at (λ i y. i < length ps → cell mark i ≡ 0 → y ≡ out) keys b out within_keys (λ m y. refl) s.outs;
+    bound = set_at (λ i y. i < length ps → 0 < cell mark i → (i ≡ k → ⊥) → y ≤ key_at has ps alt i) keys b out within_keys
+        (λ m y d. omega (arith, key_at_lem has ps (open_of alt) b, ap (λ (r : ℕ). key_of (at ps b) r b) z, key_none (at ps b) b)) s.bound;
     within = s.within;
   }
     where
-      within-keys : b < length keys
-      within-keys = omega (arith, s.seats.size, p.count)
+      within_keys : b < length keys
+      within_keys = omega (arith, s.seats.size, p.count)
 
   -- the main run alone closes the cells of bid m, which is marked; so are the bids that have one of these that is open here
   pub passes : {keys' mark' : List ℕ} {f : ℕ → Bool} (m : ℕ) {og' : ℕ → ℕ}

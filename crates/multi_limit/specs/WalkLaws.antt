@@ -4,28 +4,28 @@ use Rattle.std.proofs.Common.{◌∙◌, inl, inr, ⊎_elim, arith, eqb-true}
 use Rattle.std.proofs.lemmas.Bool.{eqb-false}
 use Rattle.cover.specs.Greedy.{keep}
 use Rattle.cells.specs.Cells.{cell}
-use Rattle.cells_pairs.specs.Pairs.{inPairs, Shut}
+use Rattle.cells_pairs.specs.Pairs.{in_pairs, Shut}
 use Rattle.multi_keys.specs.Keys.{at, last}
 use Rattle.multi_market.specs.Market.{Priced}
-use Rattle.multi_market.specs.Opens.{opens, openOf}
-use Rattle.multi_market.specs.OpensLaws.{two-way}
-use Rattle.multi_rounds.specs.Trace.{keyOn, bidOn, tapeOn, Round}
+use Rattle.multi_market.specs.Opens.{opens, open_of}
+use Rattle.multi_market.specs.OpensLaws.{two_way}
+use Rattle.multi_rounds.specs.Trace.{key_on, bid_on, tape_on, Round}
 use Rattle.multi_gain.specs.Gain.{Gained}
 use Rattle.multi_limit.specs.Follow.{Following, SameBar, Gone}
-use Rattle.multi_limit.specs.FollowLaws.{here, follow-on, follow-bar, follow-fewer, pass_on}
+use Rattle.multi_limit.specs.FollowLaws.{here, follow_on, follow_bar, follow_fewer, pass_on}
 
 -- where fewer cells are open, each of them is still another bid's
-pub bar-on : (has : ℕ → ℕ → Bool) (ps : List ℕ) (k : ℕ) (a b c : List ℕ) (s t u : ℕ)
+pub bar_on : (has : ℕ → ℕ → Bool) (ps : List ℕ) (k : ℕ) (a b c : List ℕ) (s t u : ℕ)
     → ((x : ℕ) → cell b x ≤ cell a x)
     → SameBar has ps k a b s t → SameBar has ps k b c t u → SameBar has ps k a c s u
-bar-on has ps k a b c s t u h f g spare = f spare ∙ g (λ x e. spare x
-    (⊎_elim (λ z. absurd (omega (arith, z, h x))) (λ z. z) (two-way a x)))
+bar_on has ps k a b c s t u h f g spare = f spare ∙ g (λ x e. spare x
+    (⊎_elim (λ z. absurd (omega (arith, z, h x))) (λ z. z) (two_way a x)))
 
 -- where g has each cell that f has, no fewer are open
-opens-less : (f g : ℕ → ℕ) (n : ℕ) → ((x : ℕ) → f x ≤ g x) → length (opens f n) ≤ length (opens g n)
+opens_less : (f g : ℕ → ℕ) (n : ℕ) → ((x : ℕ) → f x ≤ g x) → length (opens f n) ≤ length (opens g n)
 unfolding opens keep
-opens-less f g zero h = omega arith
-opens-less f g (suc n) h = go (eqb (f n) 0) (eqb (g n) 0) refl refl (opens-less f g n h)
+opens_less f g zero h = omega arith
+opens_less f g (suc n) h = go (eqb (f n) 0) (eqb (g n) 0) refl refl (opens_less f g n h)
   where
     go : (a b : Bool) → eqb (f n) 0 ≡ a → eqb (g n) 0 ≡ b → length (opens f n) ≤ length (opens g n)
         → length (keep a n (opens f n)) ≤ length (keep b n (opens g n))
@@ -34,10 +34,10 @@ opens-less f g (suc n) h = go (eqb (f n) 0) (eqb (g n) 0) refl refl (opens-less 
     go false true u v ih = absurd (omega (arith, h n, eqb-false (f n) 0 u, eqb-true (g n) 0 v))
     go false false u v ih = omega arith
 
-pub open-less : (a b : List ℕ) → length b ≡ length a → ((x : ℕ) → cell b x ≤ cell a x)
-    → length (openOf b) ≤ length (openOf a)
-unfolding openOf
-open-less a b e h = rw e (opens-less (cell b) (cell a) (64 * length a) h)
+pub open_less : (a b : List ℕ) → length b ≡ length a → ((x : ℕ) → cell b x ≤ cell a x)
+    → length (open_of b) ≤ length (open_of a)
+unfolding open_of
+open_less a b e h = rw e (opens_less (cell b) (cell a) (64 * length a) h)
 
 -- the run has come from round g₀ to round g, with the marks and keys that it had
 pub record Along (has : ℕ → ℕ → Bool) (ps : List ℕ) (k mine top cap : ℕ) (run tape old alt keys mark : List ℕ)
@@ -45,59 +45,59 @@ pub record Along (has : ℕ → ℕ → Bool) (ps : List ℕ) (k mine top cap : 
   pub size : length alt ≡ length old
   pub goes : Following has ps k run tape alt keys mark mine g
   pub on : from ≤ g
-  pub ahead : (from < g) ⊎ (keyOn run g < cap)
+  pub ahead : (from < g) ⊎ (key_on run g < cap)
   pub fewer : (x : ℕ) → cell alt x ≤ cell old x
-  pub bar-is : SameBar has ps k old alt top top
+  pub bar_is : SameBar has ps k old alt top top
 
-pub along-starts : {has : ℕ → ℕ → Bool} {ps : List ℕ} {k mine cap : ℕ} (top : ℕ) {run tape alt keys mark : List ℕ} {g : ℕ}
-    → Following has ps k run tape alt keys mark mine g → keyOn run g < cap
+pub along_starts : {has : ℕ → ℕ → Bool} {ps : List ℕ} {k mine cap : ℕ} (top : ℕ) {run tape alt keys mark : List ℕ} {g : ℕ}
+    → Following has ps k run tape alt keys mark mine g → key_on run g < cap
     → Along has ps k mine top cap run tape alt alt keys mark g g
-along-starts top f l = record { size = refl; goes = f; on = omega arith; ahead = inr l; fewer = λ x. omega arith; bar-is = λ s. refl }
+along_starts top f l = record { size = refl; goes = f; on = omega arith; ahead = inr l; fewer = λ x. omega arith; bar_is = λ s. refl }
 
 module _ {has : ℕ → ℕ → Bool} {ps : List ℕ} {k mine top cap : ℕ} {run tape old alt keys mark : List ℕ} {from g : ℕ}
     (p : Priced ps)
     (most : length old ≤ 158) (some : 0 < mine) (a : Along has ps k mine top cap run tape old alt keys mark from g) where
-  most-now : length alt ≤ 158
-  most-now = omega (arith, a.size)
+  most_now : length alt ≤ 158
+  most_now = omega (arith, a.size)
 
-  module _ (below : (i : ℕ) → i < 1024 → cap ≤ at keys i) (few : cap ≤ last) (l : keyOn run g < cap) where
-    pub in-run : g < a.goes.rounds
-    in-run = here p most-now a.goes (omega arith)
+  module _ (below : (i : ℕ) → i < 1024 → cap ≤ at keys i) (few : cap ≤ last) (l : key_on run g < cap) where
+    pub in_run : g < a.goes.rounds
+    in_run = here p most_now a.goes (omega arith)
 
-    pub written-here : Round has ps (length alt) a.goes.n run tape g
-    written-here = a.goes.main.each g in-run
+    pub written_here : Round has ps (length alt) a.goes.n run tape g
+    written_here = a.goes.main.each g in_run
 
-    pub room-here : 3 * g + 5 < length run
-    room-here = omega (arith, in-run, a.goes.main.room)
+    pub room_here : 3 * g + 5 < length run
+    room_here = omega (arith, in_run, a.goes.main.room)
 
     -- one round more that both take
-    pub along-goes : cell mark (bidOn run g) ≡ 0
-        → ((x : ℕ) → inPairs tape (tapeOn run g) (tapeOn run (g + 1) - tapeOn run g) x ≡ true → cell alt x ≡ 1)
+    pub along_goes : cell mark (bid_on run g) ≡ 0
+        → ((x : ℕ) → in_pairs tape (tape_on run g) (tape_on run (g + 1) - tape_on run g) x ≡ true → cell alt x ≡ 1)
         → {next : List ℕ}
-        → length next ≡ length alt → Shut alt (inPairs tape (tapeOn run g) (tapeOn run (g + 1) - tapeOn run g)) next
+        → length next ≡ length alt → Shut alt (in_pairs tape (tape_on run g) (tape_on run (g + 1) - tape_on run g)) next
         → Along has ps k mine top cap run tape old next keys mark from (g + 1)
-    along-goes free held {next} e s = record {
+    along_goes free held {next} e s = record {
       size = e ∙ a.size;
-      goes = follow-on p most-now a.goes cap below l few free held e s;
+      goes = follow_on p most_now a.goes cap below l few free held e s;
       on = omega (arith, a.on);
       ahead = inl (omega (arith, a.on));
-      fewer = λ x. omega (arith, a.fewer x, follow-fewer p most-now a.goes cap below l few free held e s x);
-      bar-is = bar-on has ps k old alt next top top top a.fewer a.bar-is
-          (follow-bar p most-now a.goes cap below l few free held e s top some);
+      fewer = λ x. omega (arith, a.fewer x, follow_fewer p most_now a.goes cap below l few free held e s x);
+      bar_is = bar_on has ps k old alt next top top top a.fewer a.bar_is
+          (follow_bar p most_now a.goes cap below l few free held e s top some);
     }
 
     -- the main run alone takes the next
-    pub along-passes : {keys' mark' : List ℕ}
-        → Gained has ps alt (inPairs tape (tapeOn run g) (tapeOn run (g + 1) - tapeOn run g)) keys mark keys' mark'
+    pub along_passes : {keys' mark' : List ℕ}
+        → Gained has ps alt (in_pairs tape (tape_on run g) (tape_on run (g + 1) - tape_on run g)) keys mark keys' mark'
         → length keys' ≡ 1024
-        → 0 < cell mark' (bidOn run g) → Gone has ps k run tape old alt keys' mark' mine top from (g + 1)
-    along-passes d size z = record {
-      goes = pass_on p most-now a.goes cap below l few d size z;
+        → 0 < cell mark' (bid_on run g) → Gone has ps k run tape old alt keys' mark' mine top from (g + 1)
+    along_passes d size z = record {
+      goes = pass_on p most_now a.goes cap below l few d size z;
       on = omega (arith, a.on);
       fewer = a.fewer;
-      bar-is = a.bar-is;
+      bar_is = a.bar_is;
     }
 
   -- the next has a key that is not below the cap
-  pub along-ends : (keyOn run g < cap → ⊥) → Gone has ps k run tape old alt keys mark mine top from g
-  along-ends n = record { goes = a.goes; on = ⊎_elim (λ z. z) (λ z. absurd (n z)) a.ahead; fewer = a.fewer; bar-is = a.bar-is }
+  pub along_ends : (key_on run g < cap → ⊥) → Gone has ps k run tape old alt keys mark mine top from g
+  along_ends n = record { goes = a.goes; on = ⊎_elim (λ z. z) (λ z. absurd (n z)) a.ahead; fewer = a.fewer; bar_is = a.bar_is }

@@ -2,15 +2,17 @@
 // written down. A bid that is not marked comes no earlier than there, so the next bid is the marked one with the least key, or the
 // written round's; and what the written round closes is closed by its tape. `limit_in` gives one more than the price for the bid of one
 // round, `take` is one round of such a run.
+#![tactic(auto)]
+
 ghost use Rattle.std.specs.Prelude.{◌≡◌, false, ◌⊎◌, ℕ, ◌+◌, ◌-◌, ◌*◌, ◌%◌, ◌<◌, ◌≤◌, max, min, length};
 ghost use Rattle.cells.specs.Cells.{cell};
 ghost use Rattle.cells_count.specs.Hops.{Counted};
-ghost use Rattle.cells_pairs.specs.Pairs.{inPairs, Paired};
+ghost use Rattle.cells_pairs.specs.Pairs.{in_pairs, Paired};
 ghost use Rattle.multi_keys.specs.Keys.{at, last};
 ghost use Rattle.multi_keys.specs.Tree.{leaves, Tree};
 ghost use Rattle.multi_market.specs.Market.{has, Market, Hopping};
 ghost use Rattle.multi_index.specs.Index.{Indexed};
-ghost use Rattle.multi_rounds.specs.Trace.{keyOn, bidOn, tapeOn};
+ghost use Rattle.multi_rounds.specs.Trace.{key_on, bid_on, tape_on};
 ghost use Rattle.multi_gain.specs.Gain.{Gained};
 ghost use Rattle.multi_limit.specs.Follow.{Raised, Following, Alike, Gone, Took, Stepped, Beginning, Limited};
 
@@ -117,7 +119,7 @@ fn after(g: usize, key: u64, lead: u64) -> usize
 // Whether the bid of round g has no mark, and all cells that it closes in the main run are open.
 fn alike(run: &[u64], tape: &[u64], g: usize, alt: &[u64], mark: &[u64]) -> bool
     requires { (3 * g + 5 < length run.now) × ((length mark.now ≡ 16)
-        × Paired tape.now (length alt.now) (tapeOn run.now g) (tapeOn run.now (g + 1))) }
+        × Paired tape.now (length alt.now) (tape_on run.now g) (tape_on run.now (g + 1))) }
     ensures { Alike run.now tape.now g alt.now mark.now result }
 {
     let m = (run[3 * g] % 1024) as usize;
@@ -168,13 +170,13 @@ fn pass(
 )
     requires { Market prices.now masks.now (length alt.now) × (Hopping prices.now masks.now hop.now (length alt.now)
         × (Indexed (length prices.now) masks.now (length alt.now) index.now mark.old × (Counted alt.now counts.old
-        × (Tree tree.old × ((length mark.old ≡ 16) × ((3 * g + 5 < length run.now) × ((bidOn run.now g < length prices.now)
-        × Paired tape.now (length alt.now) (tapeOn run.now g) (tapeOn run.now (g + 1))))))))) }
+        × (Tree tree.old × ((length mark.old ≡ 16) × ((3 * g + 5 < length run.now) × ((bid_on run.now g < length prices.now)
+        × Paired tape.now (length alt.now) (tape_on run.now g) (tape_on run.now (g + 1))))))))) }
     ensures { Tree tree.new × (Gained (has masks.now (length alt.now)) prices.now
-        alt.now (inPairs tape.now (tapeOn run.now g)
-        (tapeOn run.now (g + 1) - tapeOn run.now g)) (leaves tree.old) mark.old
+        alt.now (in_pairs tape.now (tape_on run.now g)
+        (tape_on run.now (g + 1) - tape_on run.now g)) (leaves tree.old) mark.old
         (leaves tree.new) mark.new
-        × ((0 < cell mark.new (bidOn run.now g)) × Counted alt.now counts.new)) }
+        × ((0 < cell mark.new (bid_on run.now g)) × Counted alt.now counts.new)) }
 {
     let m = (run[3 * g] % 1024) as usize;
     let a = run[3 * g + 2] as usize;
@@ -208,7 +210,7 @@ fn along(
         mark.old
         walk.mine walk.round
         × (((i : ℕ) → i < 1024 → cap ≤ at (leaves tree.old) i)
-        × ((cap ≤ last) × (keyOn run.now walk.round < cap)))))))))) }
+        × ((cap ≤ last) × (key_on run.now walk.round < cap)))))))))) }
     ensures { Gone (has masks.now (length alt.old)) prices.now walk.bid run.now
         tape.now alt.old alt.new (leaves tree.new) mark.new walk.mine walk.top
         walk.round result.round
@@ -303,9 +305,9 @@ fn begin(
         × (Tree tree.old × ((length mark.old ≡ 16)
         × Beginning (has masks.now (length alt.now)) prices.now run.now tape.now h alt.now (leaves tree.old)
         mark.old))))) }
-    ensures { Following (has masks.now (length alt.now)) prices.now (bidOn run.now h)
+    ensures { Following (has masks.now (length alt.now)) prices.now (bid_on run.now h)
         run.now tape.now alt.now (leaves tree.new) mark.new result.mine result.round
-        × (((result.bid ≡ bidOn run.now h) × (result.top ≡ 0))
+        × (((result.bid ≡ bid_on run.now h) × (result.top ≡ 0))
         × (Tree tree.new × (Counted alt.now counts.new
         × Indexed (length prices.now) masks.now (length alt.now) index.now
         mark.new))) }
@@ -345,7 +347,7 @@ pub fn limit_in(
         × (Tree tree.old × ((length mark.old ≡ 16)
         × Beginning (has masks.now (length alt.old)) prices.now run.now tape.now h alt.old (leaves tree.old)
         mark.old))))) }
-    ensures { Limited (has masks.now (length alt.old)) prices.now (bidOn run.now h)
+    ensures { Limited (has masks.now (length alt.old)) prices.now (bid_on run.now h)
         alt.old result
         × Counted alt.new counts.new }
 {

@@ -5,19 +5,19 @@ use Rattle.std.proofs.lemmas.Bool.{eqb-false}
 use Rattle.cells.specs.Cells.{cell, common, Cleared, RangeAdded}
 use Rattle.cells.specs.FillingLaws.{no_cell}
 use Rattle.cover.specs.Sets.{cells}
-use Rattle.cells_count.specs.SumLaws.{total-both-le}
-use Rattle.multi_market.specs.OpensLaws.{opens-first}
+use Rattle.cells_count.specs.SumLaws.{total_both_le}
+use Rattle.multi_market.specs.OpensLaws.{opens_first}
 use Rattle.multi_market.specs.Market.{First}
-use Rattle.multi_market.specs.Opens.{openOf}
+use Rattle.multi_market.specs.Opens.{open_of}
 
 -- the first cells set where there was none
 pub first_of : (n : ℕ) (a b : List ℕ) → Cleared a → RangeAdded 0 n a b → First n b
 first_of n a b c f = record { inside = λ x l. f.inside x (omega arith) l; above = λ x l. f.above x l ∙ no_cell a c x }
 
-pub open-first : {n : ℕ} {held : List ℕ} → First n held → n ≤ 64 * length held → openOf held ≡ cells n
-unfolding openOf
-open-first {n} {held} f l = opens-first (cell held) n (64 * length held) l f.inside f.above
+pub open_first : {n : ℕ} {held : List ℕ} → First n held → n ≤ 64 * length held → open_of held ≡ cells n
+unfolding open_of
+open_first {n} {held} f l = opens_first (cell held) n (64 * length held) l f.inside f.above
 
-pub common-few : (a b : List ℕ) → length a ≤ 158 → common a b ≤ 10112
+pub common_few : (a b : List ℕ) → length a ≤ 158 → common a b ≤ 10112
 unfolding common
-common-few a b l = omega (arith, total-both-le a b (64 * length a))
+common_few a b l = omega (arith, total_both_le a b (64 * length a))

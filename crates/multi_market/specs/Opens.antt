@@ -10,6 +10,6 @@ opens f zero = []
 opens f (suc n) = keep (eqb (f n) 0) n (opens f n)
 
 -- the cells set in the words
-unfoldable pub openOf : List ℕ → List ℕ
+unfoldable pub open_of : List ℕ → List ℕ
 unfolding opens cell
-openOf held = opens (cell held) (64 * length held)
+open_of held = opens (cell held) (64 * length held)

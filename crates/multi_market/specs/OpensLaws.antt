@@ -7,12 +7,12 @@ use Rattle.cells.specs.Cells.{cell, total, both, common, Closed}
 use Rattle.cover.specs.Greedy.{reach, keep, close}
 use Rattle.cover.specs.Sets.{cells}
 use Rattle.cells.specs.LowestLaws.{two}
-use Rattle.multi_market.specs.Market.{wordRow, has}
-use Rattle.multi_market.specs.Opens.{opens, openOf}
+use Rattle.multi_market.specs.Market.{word_row, has}
+use Rattle.multi_market.specs.Opens.{opens, open_of}
 
-pub two-way : (ws : List ℕ) (x : ℕ) → (cell ws x ≡ 0) ⊎ (cell ws x ≡ 1)
+pub two_way : (ws : List ℕ) (x : ℕ) → (cell ws x ≡ 0) ⊎ (cell ws x ≡ 1)
 unfolding cell
-two-way ws x = two _ (omega arith)
+two_way ws x = two _ (omega arith)
 
 module _ (h : ℕ → Bool) (x u v : ℕ) (e : h x ≡ eqb v 1) where
   reach_step : (xs : List ℕ) (t : ℕ) → reach h xs ≡ t → (u ≡ 0) ⊎ (u ≡ 1) → (v ≡ 0) ⊎ (v ≡ 1)
@@ -22,70 +22,70 @@ module _ (h : ℕ → Bool) (x u v : ℕ) (e : h x ≡ eqb v 1) where
   reach_step xs t d (inr a) (inl b) = rw (a, e, b) (omega arith)
   reach_step xs t d (inr a) (inr b) = rw (a, e, b) (omega arith)
 
-  pub close-step : (y : ℕ) (xs ys : List ℕ) → y ≡ u - v → close h xs ≡ ys → (u ≡ 0) ⊎ (u ≡ 1) → (v ≡ 0)
+  pub close_step : (y : ℕ) (xs ys : List ℕ) → y ≡ u - v → close h xs ≡ ys → (u ≡ 0) ⊎ (u ≡ 1) → (v ≡ 0)
       ⊎ (v ≡ 1)
       → close h (keep (eqb u 0) x xs) ≡ keep (eqb y 0) x ys
   unfolding keep close
-  close-step y xs ys c d (inl a) q = let z : y ≡ 0 = omega arith in rw (a, z) d
-  close-step y xs ys c d (inr a) (inl b) = let z : y ≡ 1 = omega arith in rw (a, z, e, b, d)
-  close-step y xs ys c d (inr a) (inr b) = let z : y ≡ 0 = omega arith in rw (a, z, e, b) d
+  close_step y xs ys c d (inl a) q = let z : y ≡ 0 = omega arith in rw (a, z) d
+  close_step y xs ys c d (inr a) (inl b) = let z : y ≡ 1 = omega arith in rw (a, z, e, b, d)
+  close_step y xs ys c d (inr a) (inr b) = let z : y ≡ 0 = omega arith in rw (a, z, e, b) d
 
-pub reach-opens : (a m : List ℕ) (n : ℕ) → reach (λ x. eqb (cell m x) 1) (opens (cell a) n) ≡ total (both a m) n
+pub reach_opens : (a m : List ℕ) (n : ℕ) → reach (λ x. eqb (cell m x) 1) (opens (cell a) n) ≡ total (both a m) n
 unfolding opens total both reach
-reach-opens a m zero = refl
-reach-opens a m (suc n) = reach_step (λ x. eqb (cell m x) 1) n (cell a n) (cell m n) refl (opens (cell a) n) _ (reach-opens a m n)
-    (two-way a n) (two-way m n)
+reach_opens a m zero = refl
+reach_opens a m (suc n) = reach_step (λ x. eqb (cell m x) 1) n (cell a n) (cell m n) refl (opens (cell a) n) _ (reach_opens a m n)
+    (two_way a n) (two_way m n)
 
-pub close-opens : (a m b : List ℕ) → Closed a m b → (n : ℕ)
+pub close_opens : (a m b : List ℕ) → Closed a m b → (n : ℕ)
     → close (λ x. eqb (cell m x) 1) (opens (cell a) n) ≡ opens (cell b) n
 unfolding opens close
-close-opens a m b c zero = refl
-close-opens a m b c (suc n) =
-    close-step (λ x. eqb (cell m x) 1) n (cell a n) (cell m n) refl (cell b n) (opens (cell a) n) _ (c.clears n) (close-opens a m b c n)
-    (two-way a n) (two-way m n)
+close_opens a m b c zero = refl
+close_opens a m b c (suc n) =
+    close_step (λ x. eqb (cell m x) 1) n (cell a n) (cell m n) refl (cell b n) (opens (cell a) n) _ (c.clears n) (close_opens a m b c n)
+    (two_way a n) (two_way m n)
 
-opens-ones : (f : ℕ → ℕ) (n : ℕ) → ((x : ℕ) → x < n → f x ≡ 1) → opens f n ≡ cells n
+opens_ones : (f : ℕ → ℕ) (n : ℕ) → ((x : ℕ) → x < n → f x ≡ 1) → opens f n ≡ cells n
 unfolding opens cells
-opens-ones f zero h = refl
-opens-ones f (suc n) h = rw (h n (omega arith), opens-ones f n (λ x l. h x (omega arith)))
+opens_ones f zero h = refl
+opens_ones f (suc n) h = rw (h n (omega arith), opens_ones f n (λ x l. h x (omega arith)))
 
-pub opens-first : (f : ℕ → ℕ) (k n : ℕ) → k ≤ n → ((x : ℕ) → x < k → f x ≡ 1)
+pub opens_first : (f : ℕ → ℕ) (k n : ℕ) → k ≤ n → ((x : ℕ) → x < k → f x ≡ 1)
     → ((x : ℕ) → k ≤ x → f x ≡ 0) → opens f n ≡ cells k
 unfolding opens cells
-opens-first f k zero l h g = let e : k ≡ 0 = omega arith in rw e
-opens-first f k (suc n) l h g = go (eq-or-lt_of_le l) (opens-first f k n)
+opens_first f k zero l h g = let e : k ≡ 0 = omega arith in rw e
+opens_first f k (suc n) l h g = go (eq-or-lt_of_le l) (opens_first f k n)
   where
     go : (k ≡ suc n) ⊎ (k < suc n) → (k ≤ n → ((x : ℕ) → x < k → f x ≡ 1) → ((x : ℕ) → k ≤ x → f x ≡ 0)
         → opens f n ≡ cells k)
         → opens f (suc n) ≡ cells k
-    go (inl e) ih = rw e (opens-ones f (suc n) (λ x q. h x (omega arith)))
+    go (inl e) ih = rw e (opens_ones f (suc n) (λ x q. h x (omega arith)))
     go (inr q) ih = rw (g n (omega arith)) (ih (omega arith) h g)
 
-pub length-cells : (n : ℕ) → length (cells n) ≡ n
+pub length_cells : (n : ℕ) → length (cells n) ≡ n
 unfolding cells
-length-cells zero = refl
-length-cells (suc n) = ap suc (length-cells n)
+length_cells zero = refl
+length_cells (suc n) = ap suc (length_cells n)
 
-pub reach-open : (held ms : List ℕ) (w i : ℕ) → reach (has ms w i) (openOf held) ≡ common held (wordRow ms w i)
-unfolding openOf has common
-reach-open held ms w i = reach-opens held (wordRow ms w i) (64 * length held)
+pub reach_open : (held ms : List ℕ) (w i : ℕ) → reach (has ms w i) (open_of held) ≡ common held (word_row ms w i)
+unfolding open_of has common
+reach_open held ms w i = reach_opens held (word_row ms w i) (64 * length held)
 
-pub close_open : (held new ms : List ℕ) (w i : ℕ) → length new ≡ length held → Closed held (wordRow ms w i) new
-    → close (has ms w i) (openOf held) ≡ openOf new
-unfolding openOf has
-close_open held new ms w i e c = rw e (close-opens held (wordRow ms w i) new c (64 * length held))
+pub close_open : (held new ms : List ℕ) (w i : ℕ) → length new ≡ length held → Closed held (word_row ms w i) new
+    → close (has ms w i) (open_of held) ≡ open_of new
+unfolding open_of has
+close_open held new ms w i e c = rw e (close_opens held (word_row ms w i) new c (64 * length held))
 
-pub opens-same : (f g : ℕ → ℕ) (n : ℕ) → ((x : ℕ) → f x ≡ g x) → opens f n ≡ opens g n
+pub opens_same : (f g : ℕ → ℕ) (n : ℕ) → ((x : ℕ) → f x ≡ g x) → opens f n ≡ opens g n
 unfolding opens
-opens-same f g zero h = refl
-opens-same f g (suc n) h = rw (h n, opens-same f g n h)
+opens_same f g zero h = refl
+opens_same f g (suc n) h = rw (h n, opens_same f g n h)
 
 -- what f has of the cells of h, g has too
-pub reach-less : (h : ℕ → Bool) (f g : ℕ → ℕ) (n : ℕ) → ((x : ℕ) → h x ≡ true → f x ≤ g x)
+pub reach_less : (h : ℕ → Bool) (f g : ℕ → ℕ) (n : ℕ) → ((x : ℕ) → h x ≡ true → f x ≤ g x)
     → reach h (opens f n) ≤ reach h (opens g n)
 unfolding opens reach
-reach-less h f g zero e = omega arith
-reach-less h f g (suc n) e = go (h n) (eqb (f n) 0) (eqb (g n) 0) refl refl refl (reach-less h f g n e)
+reach_less h f g zero e = omega arith
+reach_less h f g (suc n) e = go (h n) (eqb (f n) 0) (eqb (g n) 0) refl refl refl (reach_less h f g n e)
   where
     go : (t a b : Bool) → h n ≡ t → eqb (f n) 0 ≡ a → eqb (g n) 0 ≡ b → reach h (opens f n) ≤ reach h (opens g n)
         → reach h (keep a n (opens f n)) ≤ reach h (keep b n (opens g n))
@@ -96,10 +96,10 @@ reach-less h f g (suc n) e = go (h n) (eqb (f n) 0) (eqb (g n) 0) refl refl refl
     go t false false y u v ih = omega arith
 
 -- the cells of h alike in both
-pub reach-alike : (h : ℕ → Bool) (f g : ℕ → ℕ) (n : ℕ) → ((x : ℕ) → h x ≡ true → f x ≡ g x)
+pub reach_alike : (h : ℕ → Bool) (f g : ℕ → ℕ) (n : ℕ) → ((x : ℕ) → h x ≡ true → f x ≡ g x)
     → reach h (opens f n) ≡ reach h (opens g n)
-reach-alike h f g n e = omega (
+reach_alike h f g n e = omega (
   arith,
-  reach-less h f g n (λ x y. omega (arith, e x y)),
-  reach-less h g f n (λ x y. omega (arith, e x y)),
+  reach_less h f g n (λ x y. omega (arith, e x y)),
+  reach_less h g f n (λ x y. omega (arith, e x y)),
 )

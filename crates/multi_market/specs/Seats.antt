@@ -3,16 +3,16 @@
 use Rattle.std.specs.Prelude.{◌≡◌, ◌⊎◌, Bool, List, ℕ, ◌%◌, ◌≤◌, ◌<◌, length}
 use Rattle.cover.specs.Greedy.{Entry, reach, bids}
 use Rattle.multi_keys.specs.Keys.{at, out, key_of}
-use Rattle.multi_market.specs.Opens.{openOf}
+use Rattle.multi_market.specs.Opens.{open_of}
 
 -- bid i's key where the cells O are open
-unfoldable pub keyIn : (ℕ → Entry) → List ℕ → ℕ → ℕ
+unfoldable pub key_in : (ℕ → Entry) → List ℕ → ℕ → ℕ
 unfolding key_of reach
-keyIn B O i = key_of (B i).price (reach (B i).has O) i
+key_in B O i = key_of (B i).price (reach (B i).has O) i
 
 -- bid i's key where the cells held are open
 abbrev pub key_at : (ℕ → ℕ → Bool) → List ℕ → List ℕ → ℕ → ℕ
-key_at has ps held i = keyIn (bids has ps) (openOf held) i
+key_at has ps held i = key_in (bids has ps) (open_of held) i
 
 -- a key of bid i that is no more than it is, and tells the bid
 pub record Seat (has : ℕ → ℕ → Bool) (ps held : List ℕ) (i key : ℕ) : Type 0 where
@@ -30,7 +30,7 @@ pub record Leader (has : ℕ → ℕ → Bool) (ps held keys : List ℕ) (r c : 
   pub inside : r % 1024 < length ps
   pub own : at keys (r % 1024) ≡ r
   pub key : r ≡ key_at has ps held (r % 1024)
-  pub cells : c ≡ reach (has (r % 1024)) (openOf held)
+  pub cells : c ≡ reach (has (r % 1024)) (open_of held)
   pub some : 0 < c
   pub few : c ≤ 10112
 

@@ -1,11 +1,13 @@
 // The bids of the written run, round by round: each gets its flag and its critical price in cents, and its cells are closed.
 // The bids that are in no chain of the index take part in every payment: `list` keeps their keys, and a payment begins with a copy.
+#![tactic(auto)]
+
 ghost use Rattle.std.specs.Prelude.{◌≡◌, List, ℕ, ◌+◌, ◌-◌, ◌*◌, ◌≤◌, length};
 ghost use Rattle.cells_count.specs.Hops.{Counted};
 ghost use Rattle.multi_keys.specs.Tree.{leaves, Tree};
 ghost use Rattle.multi_market.specs.Market.{has, Market, Hopping, First};
 ghost use Rattle.multi_index.specs.Index.{Indexed};
-ghost use Rattle.multi_rounds.specs.Trace.{bidOn, Trace};
+ghost use Rattle.multi_rounds.specs.Trace.{bid_on, Trace};
 ghost use Rattle.multi_limit.specs.Follow.{Beginning};
 ghost use Rattle.multi_pay.specs.Paying.{Listed, Ready, Payment, Paid};
 
@@ -89,7 +91,7 @@ fn pay(
         × (Counted held.old counts.old × (((length alt.old ≡ length held.old) × ((length tree.old ≡ 2048)
         × ((length ever.now ≡ 16) × (length mark.old ≡ 16)))) × ((length prices.now ≡ length won.old)
         × (length prices.now ≡ length cents.old))))))))) }
-    ensures { Payment (has masks.now (length held.old)) prices.now (bidOn run.now h)
+    ensures { Payment (has masks.now (length held.old)) prices.now (bid_on run.now h)
         held.old won.old cents.old held.new won.new cents.new
         × (Listed (has masks.now (length held.old)) prices.now held.new ever.now
         (leaves list.new)

@@ -3,24 +3,24 @@ use Rattle.std.specs.Prelude.{◌≡◌, refl, ◌⊎◌, Bool, List, [], ◌∷
 use Rattle.std.proofs.Common.{sym, ap, ◌∙◌, inl, inr, ⊎_elim, arith, length-set}
 use Rattle.cover.specs.Greedy.{reach, bids}
 use Rattle.multi_keys.specs.Keys.{at, out, last, key_of}
-use Rattle.multi_keys.specs.KeyLaws.{key-none, key-most, key-bid}
+use Rattle.multi_keys.specs.KeyLaws.{key_none, key_most, key_bid}
 use Rattle.multi_keys.specs.Tree.{leaves, Tree}
-use Rattle.multi_keys.specs.TreeLaws.{length-leaves, first-least, FirstLeaf, first_leaf, set_at}
+use Rattle.multi_keys.specs.TreeLaws.{length_leaves, first_least, FirstLeaf, first_leaf, set_at}
 use Rattle.multi_market.specs.Market.{Priced}
-use Rattle.multi_market.specs.Opens.{openOf}
-use Rattle.multi_market.specs.Seats.{keyIn, key_at, Seat, Seats, Leader, Fronted}
-use Rattle.multi_market.specs.KeyedLaws.{zero_or, key-at}
+use Rattle.multi_market.specs.Opens.{open_of}
+use Rattle.multi_market.specs.Seats.{key_in, key_at, Seat, Seats, Leader, Fronted}
+use Rattle.multi_market.specs.KeyedLaws.{zero_or, key_at_lem}
 
 -- how far the keys may still rise
 unfoldable pub slack : List ℕ → ℕ
 slack [] = 0
 slack (x ∷ xs) = out - x + slack xs
 
-pub slack-falls : (xs : List ℕ) (i v : ℕ) → i < length xs → at xs i < v → v ≤ out → slack (set xs i v) < slack xs
+pub slack_falls : (xs : List ℕ) (i v : ℕ) → i < length xs → at xs i < v → v ≤ out → slack (set xs i v) < slack xs
 unfolding slack
-slack-falls [] i v l h m = absurd (omega arith)
-slack-falls (x ∷ xs) zero v l h m = omega arith
-slack-falls (x ∷ xs) (suc i) v l h m = omega (arith, slack-falls xs i v (omega arith) h m)
+slack_falls [] i v l h m = absurd (omega arith)
+slack_falls (x ∷ xs) zero v l h m = omega arith
+slack_falls (x ∷ xs) (suc i) v l h m = omega (arith, slack_falls xs i v (omega arith) h m)
 
 pub record Fronting (has : ℕ → ℕ → Bool) (ps held old tree : List ℕ) : Type 0 where
   pub grown : Tree tree
@@ -39,8 +39,8 @@ pub record FirstSeat (has : ℕ → ℕ → Bool) (ps held tree : List ℕ) : Ty
 
 module _ {has : ℕ → ℕ → Bool} {ps held old tree : List ℕ} (p : Priced ps) (f : Fronting has ps held old tree) where
   module _ (l : at tree 1 ≤ last) where
-    pub first-seat : FirstSeat has ps held tree
-    first-seat = go (first_leaf f.grown)
+    pub first_seat : FirstSeat has ps held tree
+    first_seat = go (first_leaf f.grown)
       where
         go : FirstLeaf tree → FirstSeat has ps held tree
         go u = ⊎_elim (λ e. absurd (omega (arith, u.is, e)))
@@ -49,29 +49,29 @@ module _ {has : ℕ → ℕ → Bool} {ps held old tree : List ℕ} (p : Priced 
               own = rw e u.is;
             }) (f.seats.each u.place u.inside)
 
-    pub first-in : at tree 1 % 1024 < length ps
-    first-in = first-seat.seat.inside
+    pub first_in : at tree 1 % 1024 < length ps
+    first_in = first_seat.seat.inside
 
-    first-place : at tree 1 % 1024 < 1024
-    first-place = omega (arith, first-in, p.count)
+    first_place : at tree 1 % 1024 < 1024
+    first_place = omega (arith, first_in, p.count)
 
-    module _ {r : ℕ} (e : r ≡ reach (has (at tree 1 % 1024)) (openOf held)) where
-      now-is : key_of (at ps (at tree 1 % 1024)) r (at tree 1 % 1024) ≡ key_at has ps held (at tree 1 % 1024)
-      now-is = rw e (sym (key-at has ps (openOf held) (at tree 1 % 1024)))
+    module _ {r : ℕ} (e : r ≡ reach (has (at tree 1 % 1024)) (open_of held)) where
+      now_is : key_of (at ps (at tree 1 % 1024)) r (at tree 1 % 1024) ≡ key_at has ps held (at tree 1 % 1024)
+      now_is = rw e (sym (key_at_lem has ps (open_of held) (at tree 1 % 1024)))
 
       -- the bid's own key
-      pub is-exact : {cap : ℕ} → r ≤ 10112 → key_of (at ps (at tree 1 % 1024)) r (at tree 1 % 1024) ≡ at tree 1
+      pub is_exact : {cap : ℕ} → r ≤ 10112 → key_of (at ps (at tree 1 % 1024)) r (at tree 1 % 1024) ≡ at tree 1
           → Fronted has ps held old (leaves tree) cap (at tree 1) r
-      is-exact m d = record {
+      is_exact m d = record {
         seats = f.seats;
         each = f.each;
-        least = first-least f.grown;
+        least = first_least f.grown;
         leads = λ z. record {
-          inside = first-in;
-          own = first-seat.own;
-          key = sym d ∙ now-is;
+          inside = first_in;
+          own = first_seat.own;
+          key = sym d ∙ now_is;
           cells = e;
-          some = ⊎_elim (λ y. absurd (omega (arith, rw y at d, key-none (at ps (at tree 1 % 1024)) (at tree 1 % 1024))))
+          some = ⊎_elim (λ y. absurd (omega (arith, rw y at d, key_none (at ps (at tree 1 % 1024)) (at tree 1 % 1024))))
               (λ y. y) (zero_or r);
           few = m;
         };
@@ -82,46 +82,46 @@ module _ {has : ℕ → ℕ → Bool} {ps held old tree : List ℕ} (p : Priced 
         now = key_of (at ps (at tree 1 % 1024)) r (at tree 1 % 1024)
 
         rises : at (leaves tree) (at tree 1 % 1024) < now
-        rises = omega (arith, first-seat.own, first-seat.seat.below, now-is, d)
+        rises = omega (arith, first_seat.own, first_seat.seat.below, now_is, d)
 
         within : at tree 1 % 1024 < length (leaves tree)
-        within = omega (arith, f.seats.size, first-place)
+        within = omega (arith, f.seats.size, first_place)
 
-        new-seat : (now ≡ out) ⊎ Seat has ps held (at tree 1 % 1024) now
-        new-seat = ⊎_elim (λ y. inl (ap (λ (x : ℕ). key_of (at ps (at tree 1 % 1024)) x (at tree 1 % 1024)) y
-            ∙ key-none (at ps (at tree 1 % 1024)) (at tree 1 % 1024)))
+        new_seat : (now ≡ out) ⊎ Seat has ps held (at tree 1 % 1024) now
+        new_seat = ⊎_elim (λ y. inl (ap (λ (x : ℕ). key_of (at ps (at tree 1 % 1024)) x (at tree 1 % 1024)) y
+            ∙ key_none (at ps (at tree 1 % 1024)) (at tree 1 % 1024)))
             (λ y. inr (record {
-              inside = first-in;
-              tells = key-bid (at ps (at tree 1 % 1024)) r (at tree 1 % 1024) y first-place;
-              below = omega (arith, now-is);
+              inside = first_in;
+              tells = key_bid (at ps (at tree 1 % 1024)) r (at tree 1 % 1024) y first_place;
+              below = omega (arith, now_is);
             })) (zero_or r)
 
         was : at old (at tree 1 % 1024) ≡ out → ⊥
-        was z = ⊎_elim (λ q. omega (arith, q, first-seat.own, z)) (λ q. q.0 z) (f.each (at tree 1 % 1024) first-place)
+        was z = ⊎_elim (λ q. omega (arith, q, first_seat.own, z)) (λ q. q.0 z) (f.each (at tree 1 % 1024) first_place)
 
         pub counted : {tree' : List ℕ} → Tree tree' → leaves tree' ≡ set (leaves tree) (at tree 1 % 1024) now
             → Fronting has ps held old tree'
         counted {tree'} t q = record {
           grown = t;
           seats = record {
-            size = length-leaves tree' t.size;
+            size = length_leaves tree' t.size;
             each = rw q (set_at (λ i y. i < 1024 → (y ≡ out) ⊎ Seat has ps held i y) (leaves tree) (at tree 1 % 1024) now within
-                (λ m. new-seat) f.seats.each);
+                (λ m. new_seat) f.seats.each);
           };
           each = rw q (set_at (λ i y. i < 1024 → (y ≡ at old i) ⊎ ((at old i ≡ out → ⊥) × (y ≡ key_at has ps held i)))
-              (leaves tree) (at tree 1 % 1024) now within (λ m. inr (was, now-is)) f.each);
+              (leaves tree) (at tree 1 % 1024) now within (λ m. inr (was, now_is)) f.each);
         }
 
         pub fewer : (tree' : List ℕ) → leaves tree' ≡ set (leaves tree) (at tree 1 % 1024) now
             → slack (leaves tree') < slack (leaves tree)
-        fewer tree' q = rw q (slack-falls (leaves tree) (at tree 1 % 1024) now within rises
-            (key-most (at ps (at tree 1 % 1024)) r (at tree 1 % 1024) (p.most (at tree 1 % 1024)) first-place))
+        fewer tree' q = rw q (slack_falls (leaves tree) (at tree 1 % 1024) now within rises
+            (key_most (at ps (at tree 1 % 1024)) r (at tree 1 % 1024) (p.most (at tree 1 % 1024)) first_place))
 
   -- the cap is passed
-  pub is-above : {cap : ℕ} → cap < at tree 1 → Fronted has ps held old (leaves tree) cap (at tree 1) 0
-  is-above l = record {
+  pub is_above : {cap : ℕ} → cap < at tree 1 → Fronted has ps held old (leaves tree) cap (at tree 1) 0
+  is_above l = record {
     seats = f.seats;
     each = f.each;
-    least = first-least f.grown;
+    least = first_least f.grown;
     leads = λ z. absurd (omega arith);
   }

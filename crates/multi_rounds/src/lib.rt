@@ -1,14 +1,16 @@
 // The rounds of the greedy cover over plain numbers: which bid comes first, and the whole run written down.
 // `front` gives the least key of the bids in a tree, counting bids anew until it is not stale or above a cap; `trace` writes the rounds
 // down, and the cells that each closes on a tape. `shut` and `cut` close and write down a bid's cells among those held.
+#![tactic(auto)]
+
 ghost use Rattle.std.specs.Prelude.{◌≡◌, ◌+◌, ◌*◌, ◌<◌, ◌≤◌, length};
 ghost use Rattle.cover.specs.Greedy.{reach};
 ghost use Rattle.cells_count.specs.Hops.{Hops, Counted};
 ghost use Rattle.cells_pairs.specs.Pairs.{Shut, Cut};
 ghost use Rattle.multi_keys.specs.Keys.{last};
 ghost use Rattle.multi_keys.specs.Tree.{leaves, Tree};
-ghost use Rattle.multi_market.specs.Opens.{openOf};
-ghost use Rattle.multi_market.specs.Market.{wordRow, has, Market, Hopping, First};
+ghost use Rattle.multi_market.specs.Opens.{open_of};
+ghost use Rattle.multi_market.specs.Market.{word_row, has, Market, Hopping, First};
 ghost use Rattle.multi_market.specs.Seats.{Seats, Fronted, Entered};
 ghost use Rattle.multi_rounds.specs.Trace.{Trace};
 
@@ -16,7 +18,7 @@ ghost use Rattle.multi_rounds.specs.Trace.{Trace};
 pub fn shut(held: &mut [u64], counts: &mut [u64], masks: &[u64], hop: &[u8], i: usize)
     requires { (length held.old ≤ 158) × ((length held.old * i + length held.old ≤ length masks.now)
         × ((length hop.now ≡ length masks.now) × (Counted held.old counts.old
-        × Hops (wordRow masks.now (length held.old) i) (wordRow hop.now (length held.old) i)))) }
+        × Hops (word_row masks.now (length held.old) i) (word_row hop.now (length held.old) i)))) }
     ensures { Shut held.old (has masks.now (length held.old) i) held.new
         × Counted held.new counts.new }
 {
@@ -30,9 +32,9 @@ pub fn shut(held: &mut [u64], counts: &mut [u64], masks: &[u64], hop: &[u8], i: 
 pub fn cut(held: &[u64], masks: &[u64], hop: &[u8], i: usize, tape: &mut [u64], at: usize) -> usize
     requires { (length held.now ≤ 158) × ((length held.now * i + length held.now ≤ length masks.now)
         × ((length hop.now ≡ length masks.now)
-        × (Hops (wordRow masks.now (length held.now) i) (wordRow hop.now (length held.now) i)
-        × ((2 * (at + reach (has masks.now (length held.now) i) (openOf held.now)) ≤ length tape.old) × (at ≤ 10112))))) }
-    ensures { Cut held.now (wordRow masks.now (length held.now) i) tape.old
+        × (Hops (word_row masks.now (length held.now) i) (word_row hop.now (length held.now) i)
+        × ((2 * (at + reach (has masks.now (length held.now) i) (open_of held.now)) ≤ length tape.old) × (at ≤ 10112))))) }
+    ensures { Cut held.now (word_row masks.now (length held.now) i) tape.old
         tape.new at result }
 {
     let w = held.len();

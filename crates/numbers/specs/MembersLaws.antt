@@ -9,8 +9,8 @@ turned : (w : ℕ) → bit_xor w 1 ≡ w / 2 * 2 + differ (w % 2) 1
 turned w = xor_step w 1 ∙ ap (λ (x : ℕ). x * 2 + differ (w % 2) 1) (xor_zero_r (w / 2))
 
 -- turned twice it is what it was
-pub turned-twice : (w : ℕ) → bit_xor (bit_xor w 1) 1 ≡ w
-turned-twice w = go (w % 2) refl
+pub turned_twice : (w : ℕ) → bit_xor (bit_xor w 1) 1 ≡ w
+turned_twice w = go (w % 2) refl
   where
     go : (d : ℕ) → w % 2 ≡ d → bit_xor (bit_xor w 1) 1 ≡ w
     go zero e =
@@ -24,27 +24,27 @@ turned-twice w = go (w % 2) refl
     go (suc (suc d)) e = absurd (omega arith)
 
 -- words of 1 have none
-pub members-none : (n : ℕ) → members (replicate n 1) ≡ replicate n 0
+pub members_none : (n : ℕ) → members (replicate n 1) ≡ replicate n 0
 unfolding members
-members-none zero = refl
-members-none (suc n) = ap (λ r. 0 ∷ r) (members-none n)
+members_none zero = refl
+members_none (suc n) = ap (λ r. 0 ∷ r) (members_none n)
 
-pub members-length : (ws : List ℕ) → length (members ws) ≡ length ws
+pub members_length : (ws : List ℕ) → length (members ws) ≡ length ws
 unfolding members
-members-length [] = refl
-members-length (w ∷ ws) = ap suc (members-length ws)
+members_length [] = refl
+members_length (w ∷ ws) = ap suc (members_length ws)
 
-pub members-same : (ws vs : List ℕ) → length ws ≡ length vs → length (members ws) ≡ length (members vs)
-members-same ws vs e = members-length ws ∙ e ∙ sym (members-length vs)
+pub members_same : (ws vs : List ℕ) → length ws ≡ length vs → length (members ws) ≡ length (members vs)
+members_same ws vs e = members_length ws ∙ e ∙ sym (members_length vs)
 
-pub member-word : (ws : List ℕ) (q : ℕ) → q < length ws → get_or (members ws) q 0 ≡ bit_xor (get_or ws q 0) 1
+pub member_word : (ws : List ℕ) (q : ℕ) → q < length ws → get_or (members ws) q 0 ≡ bit_xor (get_or ws q 0) 1
 unfolding members
-member-word [] q h = absurd (omega arith)
-member-word (w ∷ ws) zero h = refl
-member-word (w ∷ ws) (suc q) h = member-word ws q (omega arith)
+member_word [] q h = absurd (omega arith)
+member_word (w ∷ ws) zero h = refl
+member_word (w ∷ ws) (suc q) h = member_word ws q (omega arith)
 
-pub members-set : (ws : List ℕ) (q v : ℕ) → members (set ws q v) ≡ set (members ws) q (bit_xor v 1)
+pub members_set : (ws : List ℕ) (q v : ℕ) → members (set ws q v) ≡ set (members ws) q (bit_xor v 1)
 unfolding members
-members-set [] q v = refl
-members-set (w ∷ ws) zero v = refl
-members-set (w ∷ ws) (suc q) v = ap (λ r. bit_xor w 1 ∷ r) (members-set ws q v)
+members_set [] q v = refl
+members_set (w ∷ ws) zero v = refl
+members_set (w ∷ ws) (suc q) v = ap (λ r. bit_xor w 1 ∷ r) (members_set ws q v)

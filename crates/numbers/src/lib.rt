@@ -1,5 +1,7 @@
 // A set of bidder numbers: the cells of words that are kept with their lowest bit turned, so that a word of 1 has none. Ones are stored in
 // place by the compiler, where zeros are written by a call that goes byte by byte.
+#![tactic(auto)]
+
 ghost use Rattle.std.specs.Prelude.{◌≡◌, ◌+◌, ◌*◌, ◌<◌, length, eqb};
 ghost use Rattle.cells.specs.Cells.{cell, RangeAdded};
 ghost use Rattle.numbers.specs.Members.{members};

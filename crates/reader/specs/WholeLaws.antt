@@ -5,49 +5,49 @@ use borrow.Author.Tests.{le-leb, lt-leb}
 use Rattle.tender.specs.declared.Tender.{Tender}
 use Rattle.tender.specs.declared.Refusal.{Refusal}
 use Rattle.tender.specs.declared.Refusal.TheVariants.{TableTooShort}
-use Rattle.tender.specs.Tables.{bidWidth, windowWidth}
-use Rattle.reader_text.specs.Read.{accepted, refused, readText, fitted, readInto}
+use Rattle.tender.specs.Tables.{bid_width, window_width}
+use Rattle.reader_text.specs.Read.{accepted, refused, read_text, fitted, read_into}
 use Rattle.reader_fill.specs.FillLaws.{Filled}
-use Rattle.reader.specs.Answer.{readAnswer, bidsAfter, windowsAfter}
+use Rattle.reader.specs.Answer.{read_answer, bids_after, windows_after}
 use Rattle.reader.specs.declared.Reading.TheVariants as answer
 
 module _ (text bids windows : List ℕ) where
   pub Refuses : Refusal → Type 0
-  Refuses r = readInto text (length bids / bidWidth) (length windows / windowWidth) ≡ refused r
+  Refuses r = read_into text (length bids / bid_width) (length windows / window_width) ≡ refused r
 
-  pub answer-refused : (r : Refusal) → Refuses r →
-      (answer.Refused r ≡ readAnswer (readInto text (length bids / bidWidth) (length windows / windowWidth)))
-      × (bids ≡ bidsAfter bids (readInto text (length bids / bidWidth) (length windows / windowWidth)))
-      × (windows ≡ windowsAfter windows (readInto text (length bids / bidWidth) (length windows / windowWidth)))
-  unfolding Refuses bidsAfter windowsAfter
-  answer-refused r e = rw e (refl, refl, refl)
+  pub answer_refused : (r : Refusal) → Refuses r →
+      (answer.Refused r ≡ read_answer (read_into text (length bids / bid_width) (length windows / window_width)))
+      × (bids ≡ bids_after bids (read_into text (length bids / bid_width) (length windows / window_width)))
+      × (windows ≡ windows_after windows (read_into text (length bids / bid_width) (length windows / window_width)))
+  unfolding Refuses bids_after windows_after
+  answer_refused r e = rw e (refl, refl, refl)
 
-  pub text-refused : (r : Refusal) → readText text ≡ refused r → Refuses r
-  unfolding Refuses readInto fitted
-  text-refused r e = rw e
+  pub text_refused : (r : Refusal) → read_text text ≡ refused r → Refuses r
+  unfolding Refuses read_into fitted
+  text_refused r e = rw e
 
   module _ (t : Tender) (k m : ℕ) (rows spans : List ℕ) (h : Filled text t k m rows spans) where
-    pub bids-short : length bids / bidWidth < k → Refuses TableTooShort
-    unfolding Refuses readInto fitted
-    bids-short j = rw (h.is, h.rows-count, lt-leb k (length bids / bidWidth) j)
+    pub bids_short : length bids / bid_width < k → Refuses TableTooShort
+    unfolding Refuses read_into fitted
+    bids_short j = rw (h.is, h.rows_count, lt-leb k (length bids / bid_width) j)
 
-    pub windows-short : k ≤ length bids / bidWidth → length windows / windowWidth < m → Refuses TableTooShort
-    unfolding Refuses readInto fitted
-    windows-short i j =
-        rw (h.is, h.rows-count, h.windows-count, le-leb k (length bids / bidWidth) i, lt-leb m (length windows / windowWidth) j)
+    pub windows_short : k ≤ length bids / bid_width → length windows / window_width < m → Refuses TableTooShort
+    unfolding Refuses read_into fitted
+    windows_short i j =
+        rw (h.is, h.rows_count, h.windows_count, le-leb k (length bids / bid_width) i, lt-leb m (length windows / window_width) j)
 
-    fits : k ≤ length bids / bidWidth → m ≤ length windows / windowWidth
-        → readInto text (length bids / bidWidth) (length windows / windowWidth) ≡ accepted t h.R h.W
-    unfolding readInto fitted
+    fits : k ≤ length bids / bid_width → m ≤ length windows / window_width
+        → read_into text (length bids / bid_width) (length windows / window_width) ≡ accepted t h.R h.W
+    unfolding read_into fitted
     fits i j =
-        rw (h.is, h.rows-count, h.windows-count, le-leb k (length bids / bidWidth) i, le-leb m (length windows / windowWidth) j)
+        rw (h.is, h.rows_count, h.windows_count, le-leb k (length bids / bid_width) i, le-leb m (length windows / window_width) j)
 
-    pub answer-accepted : k ≤ length bids / bidWidth → m ≤ length windows / windowWidth →
-        (answer.Accepted t k m ≡ readAnswer (readInto text (length bids / bidWidth) (length windows / windowWidth)))
-        × (take (bidWidth * k) rows ++ drop (bidWidth * k) bids
-        ≡ bidsAfter bids (readInto text (length bids / bidWidth) (length windows / windowWidth)))
-        × (take (windowWidth * m) spans ++ drop (windowWidth * m) windows
-        ≡ windowsAfter windows (readInto text (length bids / bidWidth) (length windows / windowWidth)))
-    unfolding bidsAfter windowsAfter
-    answer-accepted i j =
-        rw (fits i j) (rw (h.rows-count, h.windows-count), rw (h.rows-count, h.rows_are), rw (h.windows-count, h.windows-are))
+    pub answer_accepted : k ≤ length bids / bid_width → m ≤ length windows / window_width →
+        (answer.Accepted t k m ≡ read_answer (read_into text (length bids / bid_width) (length windows / window_width)))
+        × (take (bid_width * k) rows ++ drop (bid_width * k) bids
+        ≡ bids_after bids (read_into text (length bids / bid_width) (length windows / window_width)))
+        × (take (window_width * m) spans ++ drop (window_width * m) windows
+        ≡ windows_after windows (read_into text (length bids / bid_width) (length windows / window_width)))
+    unfolding bids_after windows_after
+    answer_accepted i j =
+        rw (fits i j) (rw (h.rows_count, h.windows_count), rw (h.rows_count, h.rows_are), rw (h.windows_count, h.windows_are))

@@ -1,9 +1,11 @@
 // The bid reader: bid text to a tender, a table of bids and a table of windows. `reader_text` Read says what a text gives;
 // a text is read whole or refused, and a refused text leaves both tables as they were.
+#![tactic(auto)]
+
 ghost use Rattle.std.specs.Prelude.{◌≡◌, ◌/◌, length};
-ghost use Rattle.tender.specs.Tables.{bidWidth, windowWidth};
-ghost use Rattle.reader_text.specs.Read.{readInto};
-ghost use Rattle.reader.specs.Answer.{readAnswer, bidsAfter, windowsAfter};
+ghost use Rattle.tender.specs.Tables.{bid_width, window_width};
+ghost use Rattle.reader_text.specs.Read.{read_into};
+ghost use Rattle.reader.specs.Answer.{read_answer, bids_after, windows_after};
 
 mod rows;
 
@@ -23,12 +25,12 @@ pub enum Reading {
 
 // Reads the text into the first rows of the two tables; places past them stay.
 pub fn read(text: &[u8], bids: &mut [u64], windows: &mut [u64]) -> Reading
-    ensures answer { result ≡ readAnswer (readInto text.now (length bids.old / bidWidth)
-        (length windows.old / windowWidth)) }
-    ensures rows { bids.new ≡ bidsAfter bids.old
-        (readInto text.now (length bids.old / bidWidth) (length windows.old / windowWidth)) }
-    ensures own { windows.new ≡ windowsAfter windows.old
-        (readInto text.now (length bids.old / bidWidth) (length windows.old / windowWidth)) }
+    ensures answer { result ≡ read_answer (read_into text.now (length bids.old / bid_width)
+        (length windows.old / window_width)) }
+    ensures rows { bids.new ≡ bids_after bids.old
+        (read_into text.now (length bids.old / bid_width) (length windows.old / window_width)) }
+    ensures own { windows.new ≡ windows_after windows.old
+        (read_into text.now (length bids.old / bid_width) (length windows.old / window_width)) }
 {
     let mut rows = [1u64; tender::BID_TABLE];
     let mut spans = [1u64; tender::WINDOW_TABLE];

@@ -5,59 +5,59 @@ use Rattle.std.proofs.Math.Option.{none, some}
 use Rattle.tender.specs.declared.Tender.{Tender}
 use Rattle.tender.specs.declared.Refusal.TheVariants.{OutsideLimits, TooMany, EmptyWindow, BidderRepeated, SeveralWindows}
 use Rattle.tender.specs.declared.Refusal.TheVariants.{LateWindow}
-use Rattle.tender.specs.Limits.{within, isSingle}
+use Rattle.tender.specs.Limits.{within, is_single}
 use Rattle.reader_parts.specs.CutLaws.{neither}
-use Rattle.reader_text.specs.Read.{lineFault, bidFaultIn}
+use Rattle.reader_text.specs.Read.{line_fault, bid_fault_in}
 
 module _ (t : Tender) (bids bidder price count : ℕ) (empty late used : Bool) where
-  pub many : leb 1000 bids || ltb 32 count ≡ true → bidFaultIn t bids bidder price count empty late used ≡ some TooMany
-  unfolding bidFaultIn lineFault
+  pub many : leb 1000 bids || ltb 32 count ≡ true → bid_fault_in t bids bidder price count empty late used ≡ some TooMany
+  unfolding bid_fault_in line_fault
   many h = rw h
 
   module _ (a : leb 1000 bids || ltb 32 count ≡ false) where
     pub beyond : not (within 1 999999 bidder) || ltb 100000000 price ≡ true
-        → bidFaultIn t bids bidder price count empty late used ≡ some OutsideLimits
-    unfolding bidFaultIn lineFault
+        → bid_fault_in t bids bidder price count empty late used ≡ some OutsideLimits
+    unfolding bid_fault_in line_fault
     beyond h = rw (a, h)
 
     module _ (b : not (within 1 999999 bidder) || ltb 100000000 price ≡ false) where
-      pub several-windows : isSingle t.kind && ltb 1 count ≡ true
-          → bidFaultIn t bids bidder price count empty late used ≡ some SeveralWindows
-      unfolding bidFaultIn lineFault
-      several-windows h = rw (a, b, h)
+      pub several_windows : is_single t.kind && ltb 1 count ≡ true
+          → bid_fault_in t bids bidder price count empty late used ≡ some SeveralWindows
+      unfolding bid_fault_in line_fault
+      several_windows h = rw (a, b, h)
 
-      module _ (c : isSingle t.kind && ltb 1 count ≡ false) where
-        pub window-empty : empty ≡ true → bidFaultIn t bids bidder price count empty late used ≡ some EmptyWindow
-        unfolding bidFaultIn lineFault
-        window-empty h = rw (a, b, c, h)
+      module _ (c : is_single t.kind && ltb 1 count ≡ false) where
+        pub window_empty : empty ≡ true → bid_fault_in t bids bidder price count empty late used ≡ some EmptyWindow
+        unfolding bid_fault_in line_fault
+        window_empty h = rw (a, b, c, h)
 
         module _ (d : empty ≡ false) where
-          pub window-late : late ≡ true → bidFaultIn t bids bidder price count empty late used ≡ some LateWindow
-          unfolding bidFaultIn lineFault
-          window-late h = rw (a, b, c, d, h)
+          pub window_late : late ≡ true → bid_fault_in t bids bidder price count empty late used ≡ some LateWindow
+          unfolding bid_fault_in line_fault
+          window_late h = rw (a, b, c, d, h)
 
           module _ (e : late ≡ false) where
-            pub repeated : used ≡ true → bidFaultIn t bids bidder price count empty late used ≡ some BidderRepeated
-            unfolding bidFaultIn lineFault
+            pub repeated : used ≡ true → bid_fault_in t bids bidder price count empty late used ≡ some BidderRepeated
+            unfolding bid_fault_in line_fault
             repeated h = rw (a, b, c, d, e, h)
 
-            pub sound : used ≡ false → bidFaultIn t bids bidder price count empty late used ≡ none
-            unfolding bidFaultIn lineFault
+            pub sound : used ≡ false → bid_fault_in t bids bidder price count empty late used ≡ none
+            unfolding bid_fault_in line_fault
             sound h = rw (a, b, c, d, e, h)
 
 -- a bid that is not one of too many windows
-pub few-windows : (bids count : ℕ) → leb 1000 bids || ltb 32 count ≡ false → count ≤ 32
-few-windows bids count h = ltb-false 32 count (neither (leb 1000 bids) (ltb 32 count) h).1
+pub few_windows : (bids count : ℕ) → leb 1000 bids || ltb 32 count ≡ false → count ≤ 32
+few_windows bids count h = ltb-false 32 count (neither (leb 1000 bids) (ltb 32 count) h).1
 
 -- then more than one in a single tender are more than the tender takes
-pub more-than-taken : (single : Bool) (count : ℕ) → count ≤ 32 → ltb (cond single 1 32) count ≡ (single && ltb 1 count)
-more-than-taken true count h = refl
-more-than-taken false count h = le-ltb 32 count h
+pub more_than_taken : (single : Bool) (count : ℕ) → count ≤ 32 → ltb (cond single 1 32) count ≡ (single && ltb 1 count)
+more_than_taken true count h = refl
+more_than_taken false count h = le-ltb 32 count h
 
 -- a bidder within its limits is one of a million
-pub bidder-in : (bidder price : ℕ) → not (within 1 999999 bidder) || ltb 100000000 price ≡ false → bidder ≤ 999999
+pub bidder_in : (bidder price : ℕ) → not (within 1 999999 bidder) || ltb 100000000 price ≡ false → bidder ≤ 999999
 unfolding within
-bidder-in bidder price h = go (leb 1 bidder) (leb bidder 999999) refl h
+bidder_in bidder price h = go (leb 1 bidder) (leb bidder 999999) refl h
   where
     go : (a b : Bool) → leb bidder 999999 ≡ b → not (a && b) || ltb 100000000 price ≡ false → bidder ≤ 999999
     go true true e x = leb-true bidder 999999 e

@@ -4,11 +4,11 @@ use Rattle.std.proofs.Math.Option.{Option, none, some}
 use Rattle.tender.specs.declared.Tender.{Tender}
 use Rattle.tender.specs.declared.Refusal.{Refusal}
 use Rattle.tender.specs.declared.Refusal.TheVariants.{BadForm, ReserveMisplaced}
-use Rattle.tender.specs.Tables.{Row, flatRows, flatWindows, bidWidth, windowWidth}
+use Rattle.tender.specs.Tables.{Row, flat_rows, flat_windows, bid_width, window_width}
 use Rattle.cells.specs.Cells as cells
 use Rattle.reader_forms.specs.Line.{BidLine, Line, tender, bid, reserve}
-use Rattle.reader_forms.specs.Tally.{putWindows}
-use Rattle.reader_text.specs.Read.{ReadOutcome, refused, rows_from, allWindows, bidsOf, bidFaultAfter, checked}
+use Rattle.reader_forms.specs.Tally.{put_windows}
+use Rattle.reader_text.specs.Read.{ReadOutcome, refused, rows_from, all_windows, bids_of, bid_fault_after, checked}
 use Rattle.reader_bids.specs.declared.Verdict.{Verdict}
 use Rattle.reader_bids.specs.declared.Verdict.TheVariants.{Sound, Faulty}
 use Rattle.reader_bids.specs.declared.Step.{Step}
@@ -16,27 +16,27 @@ use Rattle.reader_bids.specs.declared.Step.TheVariants as step
 use Rattle.reader_bids.specs.declared.Bids.{Bids}
 use Rattle.reader_bids.specs.declared.Bids.TheVariants as bids
 
-abbrev pub rowNumbers : Row → List ℕ
-rowNumbers r = r.bidder ∷ r.price ∷ r.first ∷ r.count ∷ []
+abbrev pub row_numbers : Row → List ℕ
+row_numbers r = r.bidder ∷ r.price ∷ r.first ∷ r.count ∷ []
 
 -- a fault of the line of this number
-abbrev pub faultAt : ℕ → Option (ℕ → Refusal) → Option Refusal
-faultAt line none = none
-faultAt line (some r) = some (r line)
+abbrev pub fault_at : ℕ → Option (ℕ → Refusal) → Option Refusal
+fault_at line none = none
+fault_at line (some r) = some (r line)
 
-abbrev pub verdictOf : Verdict → Option Refusal
-verdictOf Sound = none
-verdictOf (Faulty r) = some r
+abbrev pub verdict_of : Verdict → Option Refusal
+verdict_of Sound = none
+verdict_of (Faulty r) = some r
 
 -- a bid goes into the tables after k bids with m windows, and the next line begins at `next`
 pub record BidTaken (b : BidLine) (next k m : ℕ) (used rows windows : List ℕ) (r : Step)
     (used' rows' windows' : List ℕ) : Type 0
   where
     pub answer : r ≡ step.Bid (length b.windows) next
-    pub row : rows' ≡ take (bidWidth * k) rows ++ rowNumbers
+    pub row : rows' ≡ take (bid_width * k) rows ++ row_numbers
         (record { bidder = b.bidder; price = b.price; first = m; count = length b.windows })
-        ++ drop (bidWidth * k + bidWidth) rows
-    pub own : windows' ≡ putWindows windows m b.windows
+        ++ drop (bid_width * k + bid_width) rows
+    pub own : windows' ≡ put_windows windows m b.windows
     pub mark : cells.RangeAdded b.bidder (b.bidder + 1) used used'
 
 abbrev pub Judged : Option (ℕ → Refusal) → BidLine → (next line k m : ℕ) → (used rows windows : List ℕ) → Step
@@ -52,17 +52,17 @@ Taken none next t line k m used rows windows r used' rows' windows' = r ≡ step
 Taken (some (tender u)) next t line k m used rows windows r used' rows' windows' = r ≡ step.Refused (BadForm line)
 Taken (some (reserve p)) next t line k m used rows windows r used' rows' windows' = r ≡ step.Refused (ReserveMisplaced line)
 Taken (some (bid b)) next t line k m used rows windows r used' rows' windows' =
-    Judged (bidFaultAfter t k b (eqb (cells.cell used b.bidder) 1)) b next line k m used rows windows r used' rows' windows'
+    Judged (bid_fault_after t k b (eqb (cells.cell used b.bidder) 1)) b next line k m used rows windows r used' rows' windows'
 
 -- the tables hold the bids of these lines, from line `from` on, none of which is faulty
 pub record TablesHold (t : Tender) (from : ℕ) (ls : List (Option Line)) (k m : ℕ) (rows windows : List ℕ) : Type 0 where
   pub faultless : (out : ReadOutcome) → checked t from [] ls out ≡ out
-  pub bids : length (bidsOf ls) ≡ k
-  pub places : length (allWindows (bidsOf ls)) ≡ m
-  pub few-bids : k ≤ 1000
-  pub few-windows : m < 11000
-  pub rows_are : take (bidWidth * k) rows ≡ flatRows (rows_from 0 (bidsOf ls))
-  pub windows-are : take (windowWidth * m) windows ≡ flatWindows (allWindows (bidsOf ls))
+  pub bids : length (bids_of ls) ≡ k
+  pub places : length (all_windows (bids_of ls)) ≡ m
+  pub few_bids : k ≤ 1000
+  pub few_windows : m < 11000
+  pub rows_are : take (bid_width * k) rows ≡ flat_rows (rows_from 0 (bids_of ls))
+  pub windows_are : take (window_width * m) windows ≡ flat_windows (all_windows (bids_of ls))
 
 -- what comes of the lines after the head, from line `from` on
 abbrev pub LinesFilled : Tender → ℕ → List (Option Line) → Bids → (rows windows : List ℕ) → Type 0

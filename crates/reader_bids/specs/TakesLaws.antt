@@ -8,109 +8,109 @@ use Rattle.cells.specs.Cells.{cell, RangeAdded}
 use Rattle.reader_forms.specs.Line.{TenderLine, BidLine, Line, tender, bid, reserve}
 use Rattle.reader_parts.specs.declared.Flaw.{Flaw}
 use Rattle.reader_parts.specs.declared.Flaw.TheVariants.{Sound}
-use Rattle.reader_parts.specs.Flaws.{flawOf, is_empty, isLate}
-use Rattle.reader_forms.specs.Tally.{putWindows, Tally, tally, tenderNote, bidNote, reserveNote, noted}
+use Rattle.reader_parts.specs.Flaws.{flaw_of, is_empty, is_late}
+use Rattle.reader_forms.specs.Tally.{put_windows, Tally, tally, tender_note, bid_note, reserve_note, noted}
 use Rattle.tender.specs.declared.Refusal.{Refusal}
 use Rattle.tender.specs.declared.Refusal.TheVariants.{BadForm, ReserveMisplaced}
-use Rattle.tender.specs.Tables.{bidWidth}
-use Rattle.reader_text.specs.Read.{bidFaultIn, bidFaultAfter}
-use Rattle.reader_text.specs.FaultLaws.{flaw-told}
-use Rattle.reader_bids.specs.Steps.{rowNumbers, faultAt, Judged, Taken}
+use Rattle.tender.specs.Tables.{bid_width}
+use Rattle.reader_text.specs.Read.{bid_fault_in, bid_fault_after}
+use Rattle.reader_text.specs.FaultLaws.{flaw_told}
+use Rattle.reader_bids.specs.Steps.{row_numbers, fault_at, Judged, Taken}
 use Rattle.reader_bids.specs.declared.Step.{Step}
 use Rattle.reader_bids.specs.declared.Step.TheVariants as step
 
-pub is-sound : (line : ℕ) (o : Option (ℕ → Refusal)) → none ≡ faultAt line o → o ≡ none
-is-sound line none e = refl
-is-sound line (some f) e = let z : ◌≡◌ {A = ℕ} 0 1 = cc in absurd (omega arith)
+pub is_sound : (line : ℕ) (o : Option (ℕ → Refusal)) → none ≡ fault_at line o → o ≡ none
+is_sound line none e = refl
+is_sound line (some f) e = let z : ◌≡◌ {A = ℕ} 0 1 = cc in absurd (omega arith)
 
 -- a bid that was noted
 record Noted (n p c : ℕ) (flaw : Flaw) (m : ℕ) (old new : List ℕ) (b : BidLine) : Type 0 where
-  bidder-is : n ≡ b.bidder
-  price-is : p ≡ b.price
-  count-is : c ≡ length b.windows
-  flaw-is : flaw ≡ flawOf b.windows
-  windows-are : new ≡ putWindows old m b.windows
+  bidder_is : n ≡ b.bidder
+  price_is : p ≡ b.price
+  count_is : c ≡ length b.windows
+  flaw_is : flaw ≡ flaw_of b.windows
+  windows_are : new ≡ put_windows old m b.windows
 
-noted-bid : (n p c : ℕ) (flaw : Flaw) (m : ℕ) (old new : List ℕ) (b : BidLine)
-    → some (bidNote n p (record { count = c; flaw = flaw; table = new })) ≡ noted m old (some (bid b)) → Noted n p c flaw m old new b
+noted_bid : (n p c : ℕ) (flaw : Flaw) (m : ℕ) (old new : List ℕ) (b : BidLine)
+    → some (bid_note n p (record { count = c; flaw = flaw; table = new })) ≡ noted m old (some (bid b)) → Noted n p c flaw m old new b
 unfolding noted tally
-noted-bid n p c flaw m old new b e =
+noted_bid n p c flaw m old new b e =
     let t : ◌≡◌ {A = Tally} (record { count = c; flaw = flaw; table = new }) (tally m 0 Sound old b.windows) = cc in
     record {
-      bidder-is = cc;
-      price-is = cc;
-      count-is = ap (λ (x : Tally). x.count) t ∙ zero-add (length b.windows);
-      flaw-is = ap (λ (x : Tally). x.flaw) t;
-      windows-are = ap (λ (x : Tally). x.table) t ∙ ap (λ i. putWindows old i b.windows) (add-zero m);
+      bidder_is = cc;
+      price_is = cc;
+      count_is = ap (λ (x : Tally). x.count) t ∙ zero-add (length b.windows);
+      flaw_is = ap (λ (x : Tally). x.flaw) t;
+      windows_are = ap (λ (x : Tally). x.table) t ∙ ap (λ i. put_windows old i b.windows) (add-zero m);
     }
 
 module _ (next : ℕ) (T : Tender) (line k m : ℕ) (used rows windows : List ℕ) (r : Step) (used' rows' windows' : List ℕ) where
-  pub taken-broken : (o : Option Line) → none ≡ noted m windows o → r ≡ step.Refused (BadForm line)
+  pub taken_broken : (o : Option Line) → none ≡ noted m windows o → r ≡ step.Refused (BadForm line)
       → Taken o next T line k m used rows windows r used' rows' windows'
   unfolding noted
-  taken-broken none e h = h
-  taken-broken (some (tender t)) e h = let z : ◌≡◌ {A = ℕ} 0 1 = cc in absurd (omega arith)
-  taken-broken (some (bid b)) e h = let z : ◌≡◌ {A = ℕ} 0 1 = cc in absurd (omega arith)
-  taken-broken (some (reserve v)) e h = let z : ◌≡◌ {A = ℕ} 0 1 = cc in absurd (omega arith)
+  taken_broken none e h = h
+  taken_broken (some (tender t)) e h = let z : ◌≡◌ {A = ℕ} 0 1 = cc in absurd (omega arith)
+  taken_broken (some (bid b)) e h = let z : ◌≡◌ {A = ℕ} 0 1 = cc in absurd (omega arith)
+  taken_broken (some (reserve v)) e h = let z : ◌≡◌ {A = ℕ} 0 1 = cc in absurd (omega arith)
 
-  pub taken-tender : (o : Option Line) (t : TenderLine) → some (tenderNote t) ≡ noted m windows o → r ≡ step.Refused (BadForm line)
+  pub taken_tender : (o : Option Line) (t : TenderLine) → some (tender_note t) ≡ noted m windows o → r ≡ step.Refused (BadForm line)
       → Taken o next T line k m used rows windows r used' rows' windows'
   unfolding noted
-  taken-tender none t e h = let z : ◌≡◌ {A = ℕ} 0 1 = cc in absurd (omega arith)
-  taken-tender (some (tender u)) t e h = h
-  taken-tender (some (bid b)) t e h = let z : ◌≡◌ {A = ℕ} 0 1 = cc in absurd (omega arith)
-  taken-tender (some (reserve v)) t e h = let z : ◌≡◌ {A = ℕ} 0 1 = cc in absurd (omega arith)
+  taken_tender none t e h = let z : ◌≡◌ {A = ℕ} 0 1 = cc in absurd (omega arith)
+  taken_tender (some (tender u)) t e h = h
+  taken_tender (some (bid b)) t e h = let z : ◌≡◌ {A = ℕ} 0 1 = cc in absurd (omega arith)
+  taken_tender (some (reserve v)) t e h = let z : ◌≡◌ {A = ℕ} 0 1 = cc in absurd (omega arith)
 
-  pub taken-reserve : (o : Option Line) (v : ℕ) → some (reserveNote v) ≡ noted m windows o
+  pub taken_reserve : (o : Option Line) (v : ℕ) → some (reserve_note v) ≡ noted m windows o
       → r ≡ step.Refused (ReserveMisplaced line)
       → Taken o next T line k m used rows windows r used' rows' windows'
   unfolding noted
-  taken-reserve none v e h = let z : ◌≡◌ {A = ℕ} 0 1 = cc in absurd (omega arith)
-  taken-reserve (some (tender t)) v e h = let z : ◌≡◌ {A = ℕ} 0 1 = cc in absurd (omega arith)
-  taken-reserve (some (bid b)) v e h = let z : ◌≡◌ {A = ℕ} 0 1 = cc in absurd (omega arith)
-  taken-reserve (some (reserve w)) v e h = h
+  taken_reserve none v e h = let z : ◌≡◌ {A = ℕ} 0 1 = cc in absurd (omega arith)
+  taken_reserve (some (tender t)) v e h = let z : ◌≡◌ {A = ℕ} 0 1 = cc in absurd (omega arith)
+  taken_reserve (some (bid b)) v e h = let z : ◌≡◌ {A = ℕ} 0 1 = cc in absurd (omega arith)
+  taken_reserve (some (reserve w)) v e h = h
 
   module _ (n p c : ℕ) (flaw : Flaw) where
     -- judged by what is noted
-    noted-fault : (b : BidLine) → Noted n p c flaw m windows windows' b →
-        bidFaultIn T k n p c (is_empty flaw) (isLate flaw) (eqb (cell used n) 1)
-        ≡ bidFaultAfter T k b (eqb (cell used b.bidder) 1)
-    unfolding bidFaultAfter
-    noted-fault b x = rw (x.bidder-is, x.price-is, x.count-is, x.flaw-is)
-        (flaw-told T k b.bidder b.price (length b.windows) b.windows (eqb (cell used b.bidder) 1))
+    noted_fault : (b : BidLine) → Noted n p c flaw m windows windows' b →
+        bid_fault_in T k n p c (is_empty flaw) (is_late flaw) (eqb (cell used n) 1)
+        ≡ bid_fault_after T k b (eqb (cell used b.bidder) 1)
+    unfolding bid_fault_after
+    noted_fault b x = rw (x.bidder_is, x.price_is, x.count_is, x.flaw_is)
+        (flaw_told T k b.bidder b.price (length b.windows) b.windows (eqb (cell used b.bidder) 1))
 
-    pub taken-fault : (o : Option Line) → some (bidNote n p (record { count = c; flaw = flaw; table = windows' })) ≡ noted m windows o
-        → (x : Refusal) → some x ≡ faultAt line (bidFaultIn T k n p c (is_empty flaw) (isLate flaw) (eqb (cell used n) 1))
+    pub taken_fault : (o : Option Line) → some (bid_note n p (record { count = c; flaw = flaw; table = windows' })) ≡ noted m windows o
+        → (x : Refusal) → some x ≡ fault_at line (bid_fault_in T k n p c (is_empty flaw) (is_late flaw) (eqb (cell used n) 1))
         → r ≡ step.Refused x → Taken o next T line k m used rows windows r used' rows' windows'
     unfolding noted
-    taken-fault none e x g h = let z : ◌≡◌ {A = ℕ} 0 1 = cc in absurd (omega arith)
-    taken-fault (some (tender u)) e x g h = let z : ◌≡◌ {A = ℕ} 0 1 = cc in absurd (omega arith)
-    taken-fault (some (reserve v)) e x g h = let z : ◌≡◌ {A = ℕ} 0 1 = cc in absurd (omega arith)
-    taken-fault (some (bid b)) e x g h =
-        go (bidFaultAfter T k b (eqb (cell used b.bidder) 1))
-        (g ∙ ap (faultAt line) (noted-fault b (noted-bid n p c flaw m windows windows' b e)))
+    taken_fault none e x g h = let z : ◌≡◌ {A = ℕ} 0 1 = cc in absurd (omega arith)
+    taken_fault (some (tender u)) e x g h = let z : ◌≡◌ {A = ℕ} 0 1 = cc in absurd (omega arith)
+    taken_fault (some (reserve v)) e x g h = let z : ◌≡◌ {A = ℕ} 0 1 = cc in absurd (omega arith)
+    taken_fault (some (bid b)) e x g h =
+        go (bid_fault_after T k b (eqb (cell used b.bidder) 1))
+        (g ∙ ap (fault_at line) (noted_fault b (noted_bid n p c flaw m windows windows' b e)))
       where
-        go : (f : Option (ℕ → Refusal)) → some x ≡ faultAt line f
+        go : (f : Option (ℕ → Refusal)) → some x ≡ fault_at line f
             → Judged f b next line k m used rows windows r used' rows' windows'
         go none q = let z : ◌≡◌ {A = ℕ} 0 1 = cc in absurd (omega arith)
         go (some f) q = h ∙ ap step.Refused (cc)
 
-    pub taken-sound : (o : Option Line) → some (bidNote n p (record { count = c; flaw = flaw; table = windows' })) ≡ noted m windows o
-        → bidFaultIn T k n p c (is_empty flaw) (isLate flaw) (eqb (cell used n) 1) ≡ none →
+    pub taken_sound : (o : Option Line) → some (bid_note n p (record { count = c; flaw = flaw; table = windows' })) ≡ noted m windows o
+        → bid_fault_in T k n p c (is_empty flaw) (is_late flaw) (eqb (cell used n) 1) ≡ none →
         r ≡ step.Bid c next →
-        rows' ≡ take (bidWidth * k) rows ++ rowNumbers (record { bidder = n; price = p; first = m; count = c })
-        ++ drop (bidWidth * k + bidWidth) rows → RangeAdded n (n + 1) used used' →
+        rows' ≡ take (bid_width * k) rows ++ row_numbers (record { bidder = n; price = p; first = m; count = c })
+        ++ drop (bid_width * k + bid_width) rows → RangeAdded n (n + 1) used used' →
         Taken o next T line k m used rows windows r used' rows' windows'
     unfolding noted
-    taken-sound none e g q s t = let z : ◌≡◌ {A = ℕ} 0 1 = cc in absurd (omega arith)
-    taken-sound (some (tender u)) e g q s t = let z : ◌≡◌ {A = ℕ} 0 1 = cc in absurd (omega arith)
-    taken-sound (some (reserve v)) e g q s t = let z : ◌≡◌ {A = ℕ} 0 1 = cc in absurd (omega arith)
-    taken-sound (some (bid b)) e g q s t =
-        let x = noted-bid n p c flaw m windows windows' b e in
-        let y : bidFaultAfter T k b (eqb (cell used b.bidder) 1) ≡ none = sym (noted-fault b x) ∙ g in
+    taken_sound none e g q s t = let z : ◌≡◌ {A = ℕ} 0 1 = cc in absurd (omega arith)
+    taken_sound (some (tender u)) e g q s t = let z : ◌≡◌ {A = ℕ} 0 1 = cc in absurd (omega arith)
+    taken_sound (some (reserve v)) e g q s t = let z : ◌≡◌ {A = ℕ} 0 1 = cc in absurd (omega arith)
+    taken_sound (some (bid b)) e g q s t =
+        let x = noted_bid n p c flaw m windows windows' b e in
+        let y : bid_fault_after T k b (eqb (cell used b.bidder) 1) ≡ none = sym (noted_fault b x) ∙ g in
         rw y (record {
-          answer = q ∙ ap (λ n. step.Bid n next) x.count-is;
-          row = rw (x.bidder-is, x.price-is, x.count-is) at s;
-          own = x.windows-are;
-          mark = rw x.bidder-is at t;
+          answer = q ∙ ap (λ n. step.Bid n next) x.count_is;
+          row = rw (x.bidder_is, x.price_is, x.count_is) at s;
+          own = x.windows_are;
+          mark = rw x.bidder_is at t;
         })

@@ -1,17 +1,19 @@
 // The bids of a text: each line judged in the paper's order, and put into tables.
+#![tactic(auto)]
+
 ghost use Rattle.std.specs.Prelude.{◌≡◌, cond, not, ◌&&◌, ◌||◌, ◌+◌, ◌≤◌, ◌<◌, length, drop, replicate, leb, ltb, eqb};
-ghost use Rattle.tender.specs.Limits.{within, maxPrice, maxBidder, maxBids, maxWindows, isSingle};
-ghost use Rattle.tender.specs.Tables.{bidTable, windowTable};
+ghost use Rattle.tender.specs.Limits.{within, max_price, max_bidder, max_bids, max_windows, is_single};
+ghost use Rattle.tender.specs.Tables.{bid_table, window_table};
 ghost use Rattle.cells.specs.Cells.{cell};
 ghost use Rattle.numbers.specs.Members.{members};
 ghost use Rattle.reader_parts.specs.Words.{cut};
-ghost use Rattle.reader_parts.specs.Scan.{toNext, Ended};
+ghost use Rattle.reader_parts.specs.Scan.{to_next, Ended};
 ghost use Rattle.reader_forms.specs.Line.{line_of, lines_of};
-ghost use Rattle.reader_forms.specs.LineFront.{firstLine};
+ghost use Rattle.reader_forms.specs.LineFront.{first_line};
 ghost use Rattle.reader_line.specs.Answer.{Room};
-ghost use Rattle.reader_parts.specs.Flaws.{is_empty, isLate};
-ghost use Rattle.reader_text.specs.Read.{bidFaultIn};
-ghost use Rattle.reader_bids.specs.Steps.{faultAt, verdictOf, Taken, LinesFilled};
+ghost use Rattle.reader_parts.specs.Flaws.{is_empty, is_late};
+ghost use Rattle.reader_text.specs.Read.{bid_fault_in};
+ghost use Rattle.reader_bids.specs.Steps.{fault_at, verdict_of, Taken, LinesFilled};
 
 mod rows;
 
@@ -22,7 +24,7 @@ use tender::{Kind, Refusal, Tender};
 
 // Whether this is a 1,001st bid or has a 33rd window.
 fn too_many(bids: usize, windows: usize) -> bool
-    ensures { result ≡ (leb maxBids bids || ltb maxWindows windows) }
+    ensures { result ≡ (leb max_bids bids || ltb max_windows windows) }
 {
     if tender::MAX_BIDS <= bids {
         true
@@ -33,7 +35,7 @@ fn too_many(bids: usize, windows: usize) -> bool
 
 // Whether the bidder or the price is outside its limits.
 fn outside(bidder: u64, price: u64) -> bool
-    ensures { result ≡ (not (within 1 maxBidder bidder) || ltb maxPrice price) }
+    ensures { result ≡ (not (within 1 max_bidder bidder) || ltb max_price price) }
 {
     if bidder < 1 {
         true
@@ -46,7 +48,7 @@ fn outside(bidder: u64, price: u64) -> bool
 
 // How many windows the tender takes a bid.
 fn most(tender: Tender) -> usize
-    ensures { result ≡ cond (isSingle tender.kind) 1 maxWindows }
+    ensures { result ≡ cond (is_single tender.kind) 1 max_windows }
 {
     let kind = tender.kind;
     match kind {
@@ -57,8 +59,8 @@ fn most(tender: Tender) -> usize
 
 // Whether the tender takes one window a bid and there are more. By the number, which is the same for all bids, it takes one test.
 fn several(tender: Tender, windows: usize) -> bool
-    requires { windows ≤ maxWindows }
-    ensures { result ≡ (isSingle tender.kind && ltb 1 windows) }
+    requires { windows ≤ max_windows }
+    ensures { result ≡ (is_single tender.kind && ltb 1 windows) }
 {
     most(tender) < windows
 }
@@ -81,7 +83,7 @@ fn judge(
     flaw: Flaw,
 ) -> Verdict
     requires { length used.now ≡ 15625 }
-    ensures { verdictOf result ≡ faultAt line (bidFaultIn tender bids bidder price windows (is_empty flaw) (isLate flaw)
+    ensures { verdict_of result ≡ fault_at line (bid_fault_in tender bids bidder price windows (is_empty flaw) (is_late flaw)
         (eqb (cell (members used.now) bidder) 1)) }
 {
     if too_many(bids, windows) {
@@ -127,10 +129,10 @@ fn take_line(
     rows: &mut [u64],
     windows: &mut [u64],
 ) -> Step
-    requires { (k ≤ 1000) × Room text.now at m windows.old × (length used.old ≡ 15625) × (length rows.old ≡ bidTable)
+    requires { (k ≤ 1000) × Room text.now at m windows.old × (length used.old ≡ 15625) × (length rows.old ≡ bid_table)
         × (at < length text.now)
         × Ended text.now }
-    ensures { Taken (line_of (firstLine (drop at text.now))) (at + toNext 10 (drop at text.now) + 1) tender
+    ensures { Taken (line_of (first_line (drop at text.now))) (at + to_next 10 (drop at text.now) + 1) tender
         line k m (members used.old) rows.old windows.old result (members used.new)
         rows.new windows.new }
 {
@@ -169,8 +171,8 @@ pub fn read_bids(
     windows: &mut [u64],
 ) -> Bids
     requires { (at ≤ length text.now) × (from ≤ 65536) × (length text.now ≤ 65536) × (used.old ≡ replicate 15625 1)
-        × (length rows.old ≡ bidTable)
-        × (length windows.old ≡ windowTable)
+        × (length rows.old ≡ bid_table)
+        × (length windows.old ≡ window_table)
         × Ended text.now }
     ensures { LinesFilled tender from (lines_of (cut 10 (drop at text.now))) result rows.new
         windows.new }

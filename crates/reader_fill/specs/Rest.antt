@@ -11,6 +11,6 @@ pub record LinesEnd (text : List ℕ) (e : ℕ) : Type 0 where
   pub none_after : among 10 (drop e text) ≡ false
 
 -- a rest, which no byte 10 ends, is a line of no form
-unfoldable pub restLine : Bool → List (Option Line)
-restLine true = none ∷ []
-restLine false = []
+unfoldable pub rest_line : Bool → List (Option Line)
+rest_line true = none ∷ []
+rest_line false = []

@@ -7,10 +7,10 @@ use Rattle.reader_parts.specs.Words.{cut, among}
 use Rattle.reader_parts.specs.Scan.{Ended}
 use Rattle.reader_forms.specs.Line.{Line, lines_of}
 use Rattle.reader_forms.specs.EndedLaws.{lines_rest, lines_none}
-use Rattle.reader_text.specs.Read.{refused, halted, head_of, readLines}
-use Rattle.reader_text.specs.HeadLaws.{no_line, broken-first, lines-halted}
+use Rattle.reader_text.specs.Read.{refused, halted, head_of, read_lines}
+use Rattle.reader_text.specs.HeadLaws.{no_line, broken_first, lines_halted}
 use Rattle.tender.specs.declared.Refusal.TheVariants.{BadForm}
-use Rattle.reader_fill.specs.Rest.{LinesEnd, restLine}
+use Rattle.reader_fill.specs.Rest.{LinesEnd, rest_line}
 
 -- the search from the end
 
@@ -30,14 +30,14 @@ none_here text (suc i) h l n a =
 
 -- the rest
 
-rest-is : (y : List ℕ) (n e : ℕ) → length y ≡ n - e → lines_of (y ∷ []) ≡ restLine (ltb e n)
-unfolding lines_of restLine
-rest-is [] n e h = rw (le-ltb e n (omega arith))
-rest-is (b ∷ y) n e h = rw (lt-ltb e n (omega arith))
+rest_is : (y : List ℕ) (n e : ℕ) → length y ≡ n - e → lines_of (y ∷ []) ≡ rest_line (ltb e n)
+unfolding lines_of rest_line
+rest_is [] n e h = rw (le-ltb e n (omega arith))
+rest_is (b ∷ y) n e h = rw (lt-ltb e n (omega arith))
 
 module _ (text : List ℕ) (e : ℕ) (x : LinesEnd text e) (h : 0 < e) where
-  pub front-ended : Ended (take e text)
-  front-ended =
+  pub front_ended : Ended (take e text)
+  front_ended =
       let l = length-take-le e text x.inside in
       let i : e - 1 < e = omega arith in
       (omega (arith, l), rw l (get_or-take e text (e - 1) 0 i ∙ x.last h))
@@ -51,22 +51,22 @@ module _ (text : List ℕ) (e : ℕ) (x : LinesEnd text e) (h : 0 < e) where
       ap (λ n. take n text) (sym q) ∙ take-suc text (e - 1) 0 (omega (arith, x.inside))
       ∙ ap (λ b. take (e - 1) text ++ b ∷ []) (x.last h)
 
-  pub lines-parted : lines_of (cut 10 text) ≡ lines_of (cut 10 (take e text)) ++ restLine (ltb e (length text))
-  lines-parted =
+  pub lines_parted : lines_of (cut 10 text) ≡ lines_of (cut 10 (take e text)) ++ rest_line (ltb e (length text))
+  lines_parted =
       let a : text ≡ take (e - 1) text ++ 10 ∷ drop e text =
       sym (take-append-drop e text) ∙ ap (λ l. l ++ drop e text) front ∙ append_snoc (take (e - 1) text) 10 (drop e text) in
       ap (λ l. lines_of (cut 10 l)) a ∙ lines_rest (take (e - 1) text) (drop e text) x.none_after
-      ∙ rw (front, rest-is (drop e text) (length text) e (length-drop e text))
+      ∙ rw (front, rest_is (drop e text) (length text) e (length-drop e text))
 
 -- no line ends
-pub lines-unended : (text : List ℕ) (e : ℕ) → LinesEnd text e → e ≡ 0
-    → readLines (lines_of (cut 10 text)) ≡ refused (BadForm 1)
+pub lines_unended : (text : List ℕ) (e : ℕ) → LinesEnd text e → e ≡ 0
+    → read_lines (lines_of (cut 10 text)) ≡ refused (BadForm 1)
 unfolding lines_of
-lines-unended text e x z = lines-halted (lines_of (cut 10 text)) (BadForm 1) (ap head_of (lines_none text n) ∙ go text)
+lines_unended text e x z = lines_halted (lines_of (cut 10 text)) (BadForm 1) (ap head_of (lines_none text n) ∙ go text)
   where
     n : among 10 text ≡ false
     n = rw z at x.none_after
 
     go : (y : List ℕ) → head_of (lines_of (y ∷ [])) ≡ halted (BadForm 1)
     go [] = no_line
-    go (b ∷ y) = broken-first []
+    go (b ∷ y) = broken_first []

@@ -1,14 +1,16 @@
 // A bid text read into two tables that have room for any: the head, the bids, and what stands after the last line. `reader_text` Read says
 // what a text gives; a refused text may leave anything in the tables.
+#![tactic(auto)]
+
 ghost use Rattle.std.specs.Prelude.{◌≡◌, ◌++◌, ◌≤◌, length, drop};
-ghost use Rattle.tender.specs.Tables.{bidTable, windowTable};
+ghost use Rattle.tender.specs.Tables.{bid_table, window_table};
 ghost use Rattle.reader_parts.specs.Words.{cut};
 ghost use Rattle.reader_parts.specs.Scan.{Ended};
 ghost use Rattle.reader_forms.specs.Line.{lines_of};
-ghost use Rattle.reader_text.specs.Read.{tenderWith, reserveIn, head_of, readLines, readText};
-ghost use Rattle.reader_fill.specs.Answer.{fillAnswer, Holds};
+ghost use Rattle.reader_text.specs.Read.{tender_with, reserve_in, head_of, read_lines, read_text};
+ghost use Rattle.reader_fill.specs.Answer.{fill_answer, Holds};
 ghost use Rattle.reader_fill.specs.Opened.{Opened, NextIs};
-ghost use Rattle.reader_fill.specs.Rest.{LinesEnd, restLine};
+ghost use Rattle.reader_fill.specs.Rest.{LinesEnd, rest_line};
 
 use reader_bids::{Bids, read_bids};
 use reader_line::line::{Line, read_head_line};
@@ -24,7 +26,7 @@ pub(crate) enum Head {
 
 // The tender that the lines of a head give.
 fn tender_with(kind: Kind, window: Span, reserve: Reserve) -> Tender
-    ensures { result ≡ tenderWith (record { kind = kind; window = window }) reserve }
+    ensures { result ≡ tender_with (record { kind = kind; window = window }) reserve }
 {
     Tender {
         kind,
@@ -59,7 +61,7 @@ fn next_reserve(text: &[u8], at: usize) -> Next
 // left to the bids, which read it again.
 fn reserve_in(text: &[u8], at: usize, line: u64, kind: Kind, window: Span) -> Head
     requires { (at ≤ length text.now) × (line ≤ 65536) × Ended text.now }
-    ensures { Opened text.now (reserveIn (record { kind = kind; window = window }) line
+    ensures { Opened text.now (reserve_in (record { kind = kind; window = window }) line
         (lines_of (cut 10 (drop at text.now)))) result }
 {
     match next_reserve(text, at) {
@@ -122,10 +124,10 @@ pub enum Filling {
 // Reads lines that all end with byte 10 into the first rows of two tables that have room for any text. Where there is a rest, bytes that
 // no byte 10 ends follow the lines: they are a line of no form.
 fn read_lines(text: &[u8], rest: bool, rows: &mut [u64], windows: &mut [u64]) -> Filling
-    requires { Ended text.now × (length text.now ≤ 65536) × (length rows.old ≡ bidTable)
-        × (length windows.old ≡ windowTable) }
-    ensures answer { result ≡ fillAnswer (readLines (lines_of (cut 10 text.now) ++ restLine rest)) }
-    ensures tables { Holds (readLines (lines_of (cut 10 text.now) ++ restLine rest)) rows.new
+    requires { Ended text.now × (length text.now ≤ 65536) × (length rows.old ≡ bid_table)
+        × (length windows.old ≡ window_table) }
+    ensures answer { result ≡ fill_answer (read_lines (lines_of (cut 10 text.now) ++ rest_line rest)) }
+    ensures tables { Holds (read_lines (lines_of (cut 10 text.now) ++ rest_line rest)) rows.new
         windows.new }
 {
     match read_head(text) {
@@ -153,9 +155,9 @@ fn read_lines(text: &[u8], rest: bool, rows: &mut [u64], windows: &mut [u64]) ->
 
 // Reads the text into the first rows of two tables that have room for any text. A refused text may leave anything in them.
 pub fn fill(text: &[u8], rows: &mut [u64], windows: &mut [u64]) -> Filling
-    requires { (length rows.old ≡ bidTable) × (length windows.old ≡ windowTable) }
-    ensures answer { result ≡ fillAnswer (readText text.now) }
-    ensures tables { Holds (readText text.now) rows.new windows.new }
+    requires { (length rows.old ≡ bid_table) × (length windows.old ≡ window_table) }
+    ensures answer { result ≡ fill_answer (read_text text.now) }
+    ensures tables { Holds (read_text text.now) rows.new windows.new }
 {
     if tender::MAX_TEXT < text.len() {
         return Filling::Refused(Refusal::TextTooLong);

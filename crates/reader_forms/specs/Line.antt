@@ -8,9 +8,9 @@ use Rattle.tender.specs.declared.Window.{Window}
 use Rattle.tender.specs.declared.Reserve.{Reserve}
 use Rattle.tender.specs.declared.Reserve.TheVariants.{Absent, Price}
 use Rattle.tender.specs.declared.Tender.{Tender}
-use Rattle.tender.specs.Keywords.{bidWord, multiWord, reserveWord, singleWord, tenderWord}
-use Rattle.reader_parts.specs.Words.{and_then, cut, sameBytes, closed, numeralOf, priceOf}
-use Rattle.reader_parts.specs.Windows.{span_of, windowOf}
+use Rattle.tender.specs.Keywords.{bid_word, multi_word, reserve_word, single_word, tender_word}
+use Rattle.reader_parts.specs.Words.{and_then, cut, equal_bytes, closed, numeral_of, price_of}
+use Rattle.reader_parts.specs.Windows.{span_of, window_of}
 
 pub record TenderLine : Type 0 where
   pub kind : Kind
@@ -27,68 +27,68 @@ pub data Line : Type 0 where
   reserve : ℕ → Line
 
 -- the line of a tender
-abbrev pub tenderLine : Tender → TenderLine
-tenderLine t = record { kind = t.kind; window = t.window }
+abbrev pub tender_line : Tender → TenderLine
+tender_line t = record { kind = t.kind; window = t.window }
 
-unfoldable pub reserveLines : Reserve → List Line
-reserveLines Absent = []
-reserveLines (Price p) = reserve p ∷ []
+unfoldable pub reserve_lines : Reserve → List Line
+reserve_lines Absent = []
+reserve_lines (Price p) = reserve p ∷ []
 
 -- the lines before the bids, as the tender says them: its own, and the reserve's where it has one
-unfoldable pub headLines : Tender → List Line
-unfolding reserveLines
-headLines t = tender (tenderLine t) ∷ reserveLines t.reserve
+unfoldable pub head_lines : Tender → List Line
+unfolding reserve_lines
+head_lines t = tender (tender_line t) ∷ reserve_lines t.reserve
 
 unfoldable pub kind_of : List ℕ → Option Kind
-unfolding sameBytes singleWord multiWord
-kind_of w = cond (sameBytes w singleWord) (some Single) (cond (sameBytes w multiWord) (some Multi) none)
+unfolding equal_bytes single_word multi_word
+kind_of w = cond (equal_bytes w single_word) (some Single) (cond (equal_bytes w multi_word) (some Multi) none)
 
 -- one or more windows; the bracket that closes the line stands after the last
-unfoldable pub windowsIn : List (List ℕ) → Option (List Window)
-unfolding and_then closed windowOf
-windowsIn [] = none
-windowsIn (s ∷ []) = none
-windowsIn (s ∷ e ∷ []) = and_then (closed e) (λ z. and_then (windowOf s z) (λ w. some (w ∷ [])))
-windowsIn (s ∷ e ∷ x ∷ ws) = and_then (windowOf s e) (λ w. and_then (windowsIn (x ∷ ws)) (λ r. some (w ∷ r)))
+unfoldable pub windows_in : List (List ℕ) → Option (List Window)
+unfolding and_then closed window_of
+windows_in [] = none
+windows_in (s ∷ []) = none
+windows_in (s ∷ e ∷ []) = and_then (closed e) (λ z. and_then (window_of s z) (λ w. some (w ∷ [])))
+windows_in (s ∷ e ∷ x ∷ ws) = and_then (window_of s e) (λ w. and_then (windows_in (x ∷ ws)) (λ r. some (w ∷ r)))
 
 -- after "(tender": kind, start, end and a closing bracket
-unfoldable pub tenderOf : List (List ℕ) → Option Line
+unfoldable pub tender_of : List (List ℕ) → Option Line
 unfolding and_then kind_of closed span_of
-tenderOf [] = none
-tenderOf (k ∷ []) = none
-tenderOf (k ∷ s ∷ []) = none
-tenderOf (k ∷ s ∷ e ∷ []) =
+tender_of [] = none
+tender_of (k ∷ []) = none
+tender_of (k ∷ s ∷ []) = none
+tender_of (k ∷ s ∷ e ∷ []) =
     and_then (kind_of k) (λ y. and_then (closed e) (λ z. and_then (span_of s z) (λ w. some (tender (record { kind = y; window = w })))))
-tenderOf (k ∷ s ∷ e ∷ x ∷ ws) = none
+tender_of (k ∷ s ∷ e ∷ x ∷ ws) = none
 
 -- after "(bid": bidder, price and the windows
-unfoldable pub bidOf : List (List ℕ) → Option Line
-unfolding and_then numeralOf priceOf windowsIn
-bidOf [] = none
-bidOf (n ∷ []) = none
-bidOf (n ∷ p ∷ ws) =
-    and_then (numeralOf n) (λ y. and_then (priceOf p)
-    (λ v. and_then (windowsIn ws) (λ l. some (bid (record { bidder = y; price = v; windows = l })))))
+unfoldable pub bid_of : List (List ℕ) → Option Line
+unfolding and_then numeral_of price_of windows_in
+bid_of [] = none
+bid_of (n ∷ []) = none
+bid_of (n ∷ p ∷ ws) =
+    and_then (numeral_of n) (λ y. and_then (price_of p)
+    (λ v. and_then (windows_in ws) (λ l. some (bid (record { bidder = y; price = v; windows = l })))))
 
 -- after "(reserve": a price and a closing bracket
-unfoldable pub reserveOf : List (List ℕ) → Option Line
-unfolding and_then closed priceOf
-reserveOf [] = none
-reserveOf (p ∷ []) = and_then (closed p) (λ z. and_then (priceOf z) (λ v. some (reserve v)))
-reserveOf (p ∷ x ∷ ws) = none
+unfoldable pub reserve_of : List (List ℕ) → Option Line
+unfolding and_then closed price_of
+reserve_of [] = none
+reserve_of (p ∷ []) = and_then (closed p) (λ z. and_then (price_of z) (λ v. some (reserve v)))
+reserve_of (p ∷ x ∷ ws) = none
 
-unfoldable pub lineOfWords : List (List ℕ) → Option Line
-unfolding sameBytes tenderWord bidWord reserveWord tenderOf bidOf reserveOf
-lineOfWords [] = none
-lineOfWords (w ∷ ws) =
-    cond (sameBytes w (40 ∷ tenderWord)) (tenderOf ws)
-    (cond (sameBytes w (40 ∷ bidWord)) (bidOf ws)
-    (cond (sameBytes w (40 ∷ reserveWord)) (reserveOf ws) none))
+unfoldable pub line_of_words : List (List ℕ) → Option Line
+unfolding equal_bytes tender_word bid_word reserve_word tender_of bid_of reserve_of
+line_of_words [] = none
+line_of_words (w ∷ ws) =
+    cond (equal_bytes w (40 ∷ tender_word)) (tender_of ws)
+    (cond (equal_bytes w (40 ∷ bid_word)) (bid_of ws)
+    (cond (equal_bytes w (40 ∷ reserve_word)) (reserve_of ws) none))
 
 -- the line with these bytes, the byte 10 left out; one space stands between two words, and none elsewhere
 unfoldable pub line_of : List ℕ → Option Line
-unfolding cut lineOfWords
-line_of line = lineOfWords (cut 32 line)
+unfolding cut line_of_words
+line_of line = line_of_words (cut 32 line)
 
 -- the lines of the pieces between bytes 10; a last piece, which no byte 10 ends, is none
 unfoldable pub lines_of : List (List ℕ) → List (Option Line)

@@ -6,7 +6,7 @@ unfoldable pub plain : ℕ → Bool
 unfolding within
 plain b = within 48 57 b || within 97 122 b || eqb b 40 || eqb b 41 || eqb b 32 || eqb b 10 || eqb b 46
 
-unfoldable pub allPlain : List ℕ → Bool
+unfoldable pub all_plain : List ℕ → Bool
 unfolding plain
-allPlain [] = true
-allPlain (b ∷ s) = plain b && allPlain s
+all_plain [] = true
+all_plain (b ∷ s) = plain b && all_plain s

@@ -1,13 +1,13 @@
 // One line of a bid text, read from a place on into a value before it is judged. The text's last byte is 10.
 ghost use Rattle.std.specs.Prelude.{◌≡◌, List, ℕ, ◌+◌, ◌*◌, ◌<◌, ◌≤◌, take, drop, length};
-ghost use Rattle.tender.specs.Tables.{windowWidth};
+ghost use Rattle.tender.specs.Tables.{window_width};
 ghost use Rattle.reader_parts.specs.Scan.{Ended};
 ghost use Rattle.reader_forms.specs.Line.{line_of};
-ghost use Rattle.reader_forms.specs.LineFront.{firstLine, windowsFront, bidFront, reserveFront, kindFront, tenderFront};
-ghost use Rattle.reader_forms.specs.Tally.{putWindow, noted};
+ghost use Rattle.reader_forms.specs.LineFront.{first_line, windows_front, bid_front, reserve_front, kind_front, tender_front};
+ghost use Rattle.reader_forms.specs.Tally.{put_window, noted};
 ghost use Rattle.reader_parts.specs.declared.Flaw.TheVariants.{Sound};
-ghost use Rattle.reader_line.specs.Answer.{talliedFront, toldTally, tallyPlace, notedFront, toldFront, linePlace, toldLine};
-ghost use Rattle.reader_line.specs.Answer.{EndsAfter, headLine, Room};
+ghost use Rattle.reader_line.specs.Answer.{tallied_front, told_tally, tally_place, noted_front, told_front, line_place, told_line};
+ghost use Rattle.reader_line.specs.Answer.{EndsAfter, head_line, Room};
 
 use reader_parts::{Ends, Flaw, Number};
 use reader_window::{read_span, read_window, worse};
@@ -16,8 +16,8 @@ use tender::{Kind, Span};
 
 // The window in row m, which the table has.
 fn put_window(windows: &mut [u64], m: usize, a: u64, z: u64)
-    requires { windowWidth * m + 1 < length windows.old }
-    ensures { windows.new ≡ putWindow windows.old m (record { start = a; end = z }) }
+    requires { window_width * m + 1 < length windows.old }
+    ensures { windows.new ≡ put_window windows.old m (record { start = a; end = z }) }
 {
     let at = tender::WINDOW_WIDTH * m;
     windows[at] = a;
@@ -34,10 +34,10 @@ pub(crate) enum Tally {
 // The windows from `at` on, up to the line's end. They are put into the rows from m on; the rows before m stay, whatever the line is.
 fn read_windows(s: &[u8], at: usize, windows: &mut [u64], m: usize) -> Tally
     requires { Room s.now at m windows.old × ((at < length s.now) × Ended s.now) }
-    ensures answer { toldTally s.now result windows.new
-        ≡ talliedFront m 0 Sound windows.old (windowsFront (drop at s.now)) }
-    ensures place { tallyPlace result ≤ length s.now }
-    ensures rows { take (windowWidth * m) windows.new ≡ take (windowWidth * m) windows.old }
+    ensures answer { told_tally s.now result windows.new
+        ≡ tallied_front m 0 Sound windows.old (windows_front (drop at s.now)) }
+    ensures place { tally_place result ≤ length s.now }
+    ensures rows { take (window_width * m) windows.new ≡ take (window_width * m) windows.old }
 {
     let mut n: usize = 0;
     let mut flaw = Flaw::Sound;
@@ -76,10 +76,10 @@ pub enum Line {
 // A bid's line from the bidder on: bidder, price and the windows, which are put into the rows from m on.
 fn read_bid(s: &[u8], at: usize, windows: &mut [u64], m: usize) -> Line
     requires { Room s.now at m windows.old × ((at < length s.now) × Ended s.now) }
-    ensures answer { toldFront s.now result windows.new
-        ≡ notedFront m windows.old (bidFront (drop at s.now)) }
-    ensures place { linePlace result ≤ length s.now }
-    ensures rows { take (windowWidth * m) windows.new ≡ take (windowWidth * m) windows.old }
+    ensures answer { told_front s.now result windows.new
+        ≡ noted_front m windows.old (bid_front (drop at s.now)) }
+    ensures place { line_place result ≤ length s.now }
+    ensures rows { take (window_width * m) windows.new ≡ take (window_width * m) windows.old }
 {
     let Number::Of(bidder, p) = read_number(s, at) else {
         return Line::Broken;
@@ -99,9 +99,9 @@ fn read_bid(s: &[u8], at: usize, windows: &mut [u64], m: usize) -> Line
 // The reserve's line from the price on: a price, a closing bracket and the line's end.
 fn read_reserve(s: &[u8], at: usize) -> Line
     requires { (at < length s.now) × Ended s.now }
-    ensures answer { (m : ℕ) (table : List ℕ) → toldFront s.now result table
-        ≡ notedFront m table (reserveFront (drop at s.now)) }
-    ensures place { linePlace result ≤ length s.now }
+    ensures answer { (m : ℕ) (table : List ℕ) → told_front s.now result table
+        ≡ noted_front m table (reserve_front (drop at s.now)) }
+    ensures place { line_place result ≤ length s.now }
 {
     let Number::Of(price, p) = read_price(s, at) else {
         return Line::Broken;
@@ -118,9 +118,9 @@ fn read_reserve(s: &[u8], at: usize) -> Line
 // The tender's line from the start on: start, end and the line's end.
 fn read_kind(s: &[u8], at: usize, kind: Kind) -> Line
     requires { (at < length s.now) × Ended s.now }
-    ensures answer { (m : ℕ) (table : List ℕ) → toldFront s.now result table
-        ≡ notedFront m table (kindFront kind (drop at s.now)) }
-    ensures place { linePlace result ≤ length s.now }
+    ensures answer { (m : ℕ) (table : List ℕ) → told_front s.now result table
+        ≡ noted_front m table (kind_front kind (drop at s.now)) }
+    ensures place { line_place result ≤ length s.now }
 {
     let Ends::Of(start, end, p) = read_span(s, at) else {
         return Line::Broken;
@@ -134,9 +134,9 @@ fn read_kind(s: &[u8], at: usize, kind: Kind) -> Line
 // The tender's line from the kind on. "single " has 7 bytes, "multi " 6.
 fn read_tender(s: &[u8], at: usize) -> Line
     requires { (at < length s.now) × Ended s.now }
-    ensures answer { (m : ℕ) (table : List ℕ) → toldFront s.now result table
-        ≡ notedFront m table (tenderFront (drop at s.now)) }
-    ensures place { linePlace result ≤ length s.now }
+    ensures answer { (m : ℕ) (table : List ℕ) → told_front s.now result table
+        ≡ noted_front m table (tender_front (drop at s.now)) }
+    ensures place { line_place result ≤ length s.now }
 {
     if stands(s, at, &tender::SINGLE) {
         return read_kind(s, at + 7, Kind::Single);
@@ -151,8 +151,8 @@ fn read_tender(s: &[u8], at: usize) -> Line
 // `Broken`.
 pub fn read_head_line(s: &[u8], at: usize) -> Line
     requires { (at < length s.now) × Ended s.now }
-    ensures answer { (m : ℕ) (table : List ℕ) → toldLine result table
-        ≡ noted m table (headLine (line_of (firstLine (drop at s.now)))) }
+    ensures answer { (m : ℕ) (table : List ℕ) → told_line result table
+        ≡ noted m table (head_line (line_of (first_line (drop at s.now)))) }
     ensures place { EndsAfter s.now at result }
 {
     if s[at] != b'(' {
@@ -170,10 +170,10 @@ pub fn read_head_line(s: &[u8], at: usize) -> Line
 // The line from `at` on. A bid's windows, after "(bid ", are put into the rows from m on; the rows before m stay, whatever the line is.
 pub fn read_line(s: &[u8], at: usize, windows: &mut [u64], m: usize) -> Line
     requires { Room s.now at m windows.old × ((at < length s.now) × Ended s.now) }
-    ensures answer { toldLine result windows.new
-        ≡ noted m windows.old (line_of (firstLine (drop at s.now))) }
+    ensures answer { told_line result windows.new
+        ≡ noted m windows.old (line_of (first_line (drop at s.now))) }
     ensures place { EndsAfter s.now at result }
-    ensures rows { take (windowWidth * m) windows.new ≡ take (windowWidth * m) windows.old }
+    ensures rows { take (window_width * m) windows.new ≡ take (window_width * m) windows.old }
 {
     if s[at] != b'(' {
         return Line::Broken;

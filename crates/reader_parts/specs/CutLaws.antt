@@ -1,7 +1,7 @@
 -- Cutting bytes into pieces: laws. Assumes nothing.
 use Rattle.std.specs.Prelude.{◌≡◌, refl, List, [], ◌∷◌, ◌++◌, Bool, true, false, cond, ◌||◌, ℕ, eqb}
 use Rattle.std.proofs.Common.{ap, true≢false, eq-eqb}
-use Rattle.reader_parts.specs.Words.{growFirst, cut, among}
+use Rattle.reader_parts.specs.Words.{grow_first, cut, among}
 
 pub neither : (a b : Bool) → a || b ≡ false → (a ≡ false) × (b ≡ false)
 neither true b e = absurd (true≢false e)
@@ -13,20 +13,20 @@ pub record Pieces (ps : List (List ℕ)) : Type 0 where
   pub are : ps ≡ first ∷ rest
 
 -- there is a first piece
-pub cut-some : (d : ℕ) (s : List ℕ) → Pieces (cut d s)
+pub cut_some : (d : ℕ) (s : List ℕ) → Pieces (cut d s)
 unfolding cut
-cut-some d [] = record { first = []; rest = []; are = refl }
-cut-some d (b ∷ s) = go (eqb b d) (cut-some d s)
+cut_some d [] = record { first = []; rest = []; are = refl }
+cut_some d (b ∷ s) = go (eqb b d) (cut_some d s)
   where
-    go : (t : Bool) → Pieces (cut d s) → Pieces (cond t ([] ∷ cut d s) (growFirst b (cut d s)))
+    go : (t : Bool) → Pieces (cut d s) → Pieces (cond t ([] ∷ cut d s) (grow_first b (cut d s)))
     go true c = record { first = []; rest = cut d s; are = refl }
-    go false c = record { first = b ∷ c.first; rest = c.rest; are = ap (growFirst b) c.are }
+    go false c = record { first = b ∷ c.first; rest = c.rest; are = ap (grow_first b) c.are }
 
 -- a piece that a byte d ends
-pub cut-end : (d : ℕ) (w s : List ℕ) → among d w ≡ false → cut d (w ++ d ∷ s) ≡ w ∷ cut d s
+pub cut_end : (d : ℕ) (w s : List ℕ) → among d w ≡ false → cut d (w ++ d ∷ s) ≡ w ∷ cut d s
 unfolding cut among
-cut-end d [] s n = rw (eq-eqb d d refl)
-cut-end d (b ∷ w) s n = rw ((neither (eqb b d) (among d w) n).0, cut-end d w s (neither (eqb b d) (among d w) n).1)
+cut_end d [] s n = rw (eq-eqb d d refl)
+cut_end d (b ∷ w) s n = rw ((neither (eqb b d) (among d w) n).0, cut_end d w s (neither (eqb b d) (among d w) n).1)
 
 -- bytes before the first piece
 pub cut_word : (d : ℕ) (w s f : List ℕ) (ps : List (List ℕ)) → among d w ≡ false → cut d s ≡ f ∷ ps
@@ -35,18 +35,18 @@ unfolding cut among
 cut_word d [] s f ps n e = e
 cut_word d (b ∷ w) s f ps n e = rw ((neither (eqb b d) (among d w) n).0, cut_word d w s f ps (neither (eqb b d) (among d w) n).1 e)
 
-grow-append : (b : ℕ) (ps qs : List (List ℕ)) → Pieces ps → growFirst b (ps ++ qs) ≡ growFirst b ps ++ qs
-unfolding growFirst
-grow-append b ps qs c = rw c.are
+grow_append : (b : ℕ) (ps qs : List (List ℕ)) → Pieces ps → grow_first b (ps ++ qs) ≡ grow_first b ps ++ qs
+unfolding grow_first
+grow_append b ps qs c = rw c.are
 
 -- a byte d parts the pieces before it from those after it
-pub cut-append : (d : ℕ) (x y : List ℕ) → cut d (x ++ d ∷ y) ≡ cut d x ++ cut d y
+pub cut_append : (d : ℕ) (x y : List ℕ) → cut d (x ++ d ∷ y) ≡ cut d x ++ cut d y
 unfolding cut
-cut-append d [] y = rw (eq-eqb d d refl)
-cut-append d (b ∷ x) y = go (eqb b d) (cut-append d x y)
+cut_append d [] y = rw (eq-eqb d d refl)
+cut_append d (b ∷ x) y = go (eqb b d) (cut_append d x y)
   where
     go : (t : Bool) → cut d (x ++ d ∷ y) ≡ cut d x ++ cut d y
-        → cond t ([] ∷ cut d (x ++ d ∷ y)) (growFirst b (cut d (x ++ d ∷ y)))
-        ≡ cond t ([] ∷ cut d x) (growFirst b (cut d x)) ++ cut d y
+        → cond t ([] ∷ cut d (x ++ d ∷ y)) (grow_first b (cut d (x ++ d ∷ y)))
+        ≡ cond t ([] ∷ cut d x) (grow_first b (cut d x)) ++ cut d y
     go true e = rw e
-    go false e = rw e (grow-append b (cut d x) (cut d y) (cut-some d x))
+    go false e = rw e (grow_append b (cut d x) (cut d y) (cut_some d x))

@@ -6,15 +6,15 @@ use Rattle.reader_parts.specs.declared.Flaw.{Flaw}
 use Rattle.reader_parts.specs.declared.Flaw.TheVariants.{Empty, Late, Sound}
 
 -- whether the starts are below the ends, and whether the ends lie within the week
-abbrev pub flawBy : Bool → Bool → Flaw
-flawBy ordered early = cond ordered (cond early Sound Late) Empty
+abbrev pub flaw_by : Bool → Bool → Flaw
+flaw_by ordered early = cond ordered (cond early Sound Late) Empty
 
-unfoldable pub flawIn : Window → Flaw
-flawIn w = flawBy (ordered w) (early w)
+unfoldable pub flaw_in : Window → Flaw
+flaw_in w = flaw_by (ordered w) (early w)
 
-unfoldable pub flawOf : List Window → Flaw
+unfoldable pub flaw_of : List Window → Flaw
 unfolding every
-flawOf ws = flawBy (every ordered ws) (every early ws)
+flaw_of ws = flaw_by (every ordered ws) (every early ws)
 
 unfoldable pub worst : Flaw → Flaw → Flaw
 worst Empty f = Empty
@@ -29,7 +29,7 @@ is_empty Empty = true
 is_empty Late = false
 is_empty Sound = false
 
-abbrev pub isLate : Flaw → Bool
-isLate Empty = false
-isLate Late = true
-isLate Sound = false
+abbrev pub is_late : Flaw → Bool
+is_late Empty = false
+is_late Late = true
+is_late Sound = false

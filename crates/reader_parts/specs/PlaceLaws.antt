@@ -5,16 +5,16 @@ use native.Mathlib.Omega.{arith}
 use borrow.Author.Tests.{le-leb, lt-leb, eq-eqb, ne_eqb, lt-ltb, le-ltb, ltb-true, ltb-false}
 use Rattle.tender.specs.declared.Span.{Span}
 use Rattle.tender.specs.declared.Window.{Window}
-use Rattle.tender.specs.Limits.{within, asWindow}
+use Rattle.tender.specs.Limits.{within, as_window}
 use Rattle.reader_parts.specs.Scan.{Ended}
-use Rattle.reader_parts.specs.ScanLaws.{drop-next}
+use Rattle.reader_parts.specs.ScanLaws.{drop_next}
 use Rattle.reader_parts.specs.declared.Number.{Number}
 use Rattle.reader_parts.specs.declared.Number.TheVariants as number
 use Rattle.reader_parts.specs.declared.Ends.{Ends}
 use Rattle.reader_parts.specs.declared.Ends.TheVariants.{Of, Wrong}
 use Rattle.reader_parts.specs.Answer.{ReadAt, NumberIs, SpanIs, WindowIs}
-use Rattle.reader_parts.specs.Front.{Front, got, wrong, onward, past, fork, digitsFront, numberFront, spanFront, windowFront}
-use Rattle.reader_parts.specs.FrontLaws.{window-took}
+use Rattle.reader_parts.specs.Front.{Front, got, wrong, onward, past, fork, digits_front, number_front, span_front, window_front}
+use Rattle.reader_parts.specs.FrontLaws.{window_took}
 
 -- a byte other than 10 is not the last
 pub not_last : (s : List ℕ) (i : ℕ) → Ended s → i < length s → (get_or s i 0 ≡ 10 → ⊥) → i + 1 < length s
@@ -26,130 +26,130 @@ not_last s i e h n = go (ltb (i + 1) (length s)) refl
 
 -- the byte d at place i
 module _ {A : Type 0} (d : ℕ) (s : List ℕ) (i : ℕ) (f : List ℕ → Front A) (h : i < length s) where
-  pub past-at : get_or s i 0 ≡ d → past d (drop i s) f ≡ f (drop (i + 1) s)
+  pub past_at : get_or s i 0 ≡ d → past d (drop i s) f ≡ f (drop (i + 1) s)
   unfolding past
-  past-at e = rw (drop-next s i h) (rw (eq-eqb (get_or s i 0) d e))
+  past_at e = rw (drop_next s i h) (rw (eq-eqb (get_or s i 0) d e))
 
-  pub past-not : (get_or s i 0 ≡ d → ⊥) → past d (drop i s) f ≡ wrong
+  pub past_not : (get_or s i 0 ≡ d → ⊥) → past d (drop i s) f ≡ wrong
   unfolding past
-  past-not e = rw (drop-next s i h) (rw (ne_eqb (get_or s i 0) d e))
+  past_not e = rw (drop_next s i h) (rw (ne_eqb (get_or s i 0) d e))
 
 module _ {A : Type 0} (s : List ℕ) (i : ℕ) (h : i < length s) where
-  pub fork-here : (d : ℕ) (x y : Front A) → get_or s i 0 ≡ d → fork d (drop i s) x y ≡ x
+  pub fork_here : (d : ℕ) (x y : Front A) → get_or s i 0 ≡ d → fork d (drop i s) x y ≡ x
   unfolding fork
-  fork-here d x y e = rw (drop-next s i h) (rw (eq-eqb (get_or s i 0) d e))
+  fork_here d x y e = rw (drop_next s i h) (rw (eq-eqb (get_or s i 0) d e))
 
-  pub fork-other : (d : ℕ) (x y : Front A) → (get_or s i 0 ≡ d → ⊥) → fork d (drop i s) x y ≡ y
+  pub fork_other : (d : ℕ) (x y : Front A) → (get_or s i 0 ≡ d → ⊥) → fork d (drop i s) x y ≡ y
   unfolding fork
-  fork-other d x y e = rw (drop-next s i h) (rw (ne_eqb (get_or s i 0) d e))
+  fork_other d x y e = rw (drop_next s i h) (rw (ne_eqb (get_or s i 0) d e))
 
 -- digits after others of value v
 
 module _ (s : List ℕ) (v i : ℕ) (h : i < length s) where
   pub digits_more : v < 100000000 → 48 ≤ get_or s i 0 → get_or s i 0 < 58
-      → digitsFront v (drop i s) ≡ digitsFront (v * 10 + (get_or s i 0 - 48)) (drop (i + 1) s)
-  unfolding digitsFront within
-  digits_more l a z = rw (drop-next s i h) (simp (lt-ltb v 100000000 l, le-leb 48 (get_or s i 0) a, le-leb (get_or s i 0) 57 (omega arith)))
+      → digits_front v (drop i s) ≡ digits_front (v * 10 + (get_or s i 0 - 48)) (drop (i + 1) s)
+  unfolding digits_front within
+  digits_more l a z = rw (drop_next s i h) (simp (lt-ltb v 100000000 l, le-leb 48 (get_or s i 0) a, le-leb (get_or s i 0) 57 (omega arith)))
 
-  pub digits-below : v < 100000000 → get_or s i 0 < 48 → digitsFront v (drop i s) ≡ got v (drop i s)
-  unfolding digitsFront within
-  digits-below l k = rw (drop-next s i h) (simp (lt-ltb v 100000000 l, lt-leb 48 (get_or s i 0) k))
+  pub digits_below : v < 100000000 → get_or s i 0 < 48 → digits_front v (drop i s) ≡ got v (drop i s)
+  unfolding digits_front within
+  digits_below l k = rw (drop_next s i h) (simp (lt-ltb v 100000000 l, lt-leb 48 (get_or s i 0) k))
 
-  pub digits_above : v < 100000000 → 58 ≤ get_or s i 0 → digitsFront v (drop i s) ≡ got v (drop i s)
-  unfolding digitsFront within
-  digits_above l k = rw (drop-next s i h)
+  pub digits_above : v < 100000000 → 58 ≤ get_or s i 0 → digits_front v (drop i s) ≡ got v (drop i s)
+  unfolding digits_front within
+  digits_above l k = rw (drop_next s i h)
       (simp (lt-ltb v 100000000 l, le-leb 48 (get_or s i 0) (omega arith), lt-leb (get_or s i 0) 57 (omega arith)))
 
-  pub digits-full : 100000000 ≤ v → digitsFront v (drop i s) ≡ got v (drop i s)
-  unfolding digitsFront
-  digits-full l = rw (drop-next s i h) (simp (le-ltb v 100000000 l))
+  pub digits_full : 100000000 ≤ v → digits_front v (drop i s) ≡ got v (drop i s)
+  unfolding digits_front
+  digits_full l = rw (drop_next s i h) (simp (le-ltb v 100000000 l))
 
 -- a number
 
 module _ (s : List ℕ) (i : ℕ) (h : i < length s) where
-  number_more : 49 ≤ get_or s i 0 → get_or s i 0 < 58 → numberFront (drop i s) ≡ digitsFront (get_or s i 0 - 48) (drop (i + 1) s)
-  unfolding numberFront within
-  number_more a z = rw (drop-next s i h) (simp (le-leb 49 (get_or s i 0) a, le-leb (get_or s i 0) 57 (omega arith)))
+  number_more : 49 ≤ get_or s i 0 → get_or s i 0 < 58 → number_front (drop i s) ≡ digits_front (get_or s i 0 - 48) (drop (i + 1) s)
+  unfolding number_front within
+  number_more a z = rw (drop_next s i h) (simp (le-leb 49 (get_or s i 0) a, le-leb (get_or s i 0) 57 (omega arith)))
 
-  pub number-zero : get_or s i 0 ≡ 48 → numberFront (drop i s) ≡ got 0 (drop (i + 1) s)
-  unfolding numberFront within
-  number-zero e = rw (drop-next s i h) (simp (lt-leb 49 (get_or s i 0) (omega arith), eq-eqb (get_or s i 0) 48 e))
+  pub number_zero : get_or s i 0 ≡ 48 → number_front (drop i s) ≡ got 0 (drop (i + 1) s)
+  unfolding number_front within
+  number_zero e = rw (drop_next s i h) (simp (lt-leb 49 (get_or s i 0) (omega arith), eq-eqb (get_or s i 0) 48 e))
 
-  pub number-below : get_or s i 0 < 48 → numberFront (drop i s) ≡ wrong
-  unfolding numberFront within
-  number-below k = rw (drop-next s i h)
+  pub number_below : get_or s i 0 < 48 → number_front (drop i s) ≡ wrong
+  unfolding number_front within
+  number_below k = rw (drop_next s i h)
       (simp (lt-leb 49 (get_or s i 0) (omega arith), ne_eqb (get_or s i 0) 48 (λ e. omega (arith, e))))
 
-  pub number-above : 58 ≤ get_or s i 0 → numberFront (drop i s) ≡ wrong
-  unfolding numberFront within
-  number-above k = rw (drop-next s i h)
+  pub number_above : 58 ≤ get_or s i 0 → number_front (drop i s) ≡ wrong
+  unfolding number_front within
+  number_above k = rw (drop_next s i h)
       (simp (le-leb 49 (get_or s i 0) (omega arith), lt-leb (get_or s i 0) 57 (omega arith), ne_eqb (get_or s i 0) 48 (λ e. omega (arith, e))))
 
-  pub number-later : 49 ≤ get_or s i 0 → get_or s i 0 < 58 → (r : Number)
-      → NumberIs (digitsFront (get_or s i 0 - 48) (drop (i + 1) s)) s (i + 1) r
-      → NumberIs (numberFront (drop i s)) s i r
-  number-later a z (number.Of v p) x =
+  pub number_later : 49 ≤ get_or s i 0 → get_or s i 0 < 58 → (r : Number)
+      → NumberIs (digits_front (get_or s i 0 - 48) (drop (i + 1) s)) s (i + 1) r
+      → NumberIs (number_front (drop i s)) s i r
+  number_later a z (number.Of v p) x =
       record { is = number_more a z ∙ x.is; after = omega (arith, x.after); inside = x.inside }
-  number-later a z number.Bad x = number_more a z ∙ x
+  number_later a z number.Bad x = number_more a z ∙ x
 
 -- "S E)"
 
 module _ (s : List ℕ) (i : ℕ) where
-  pub span-first : numberFront (drop i s) ≡ wrong → spanFront (drop i s) ≡ wrong
-  unfolding spanFront onward
-  span-first e = rw e
+  pub span_first : number_front (drop i s) ≡ wrong → span_front (drop i s) ≡ wrong
+  unfolding span_front onward
+  span_first e = rw e
 
-  module _ (a p : ℕ) (x : ReadAt (numberFront (drop i s)) s i a p) where
-    pub span-unparted : (get_or s p 0 ≡ 32 → ⊥) → spanFront (drop i s) ≡ wrong
-    unfolding spanFront onward
-    span-unparted n = rw x.is (past-not 32 s p _ x.inside n)
+  module _ (a p : ℕ) (x : ReadAt (number_front (drop i s)) s i a p) where
+    pub span_unparted : (get_or s p 0 ≡ 32 → ⊥) → span_front (drop i s) ≡ wrong
+    unfolding span_front onward
+    span_unparted n = rw x.is (past_not 32 s p _ x.inside n)
 
     module _ (b : get_or s p 0 ≡ 32) where
-      pub span_second : numberFront (drop (p + 1) s) ≡ wrong → spanFront (drop i s) ≡ wrong
-      unfolding spanFront onward
-      span_second e = rw x.is (past-at 32 s p _ x.inside b ∙ rw e)
+      pub span_second : number_front (drop (p + 1) s) ≡ wrong → span_front (drop i s) ≡ wrong
+      unfolding span_front onward
+      span_second e = rw x.is (past_at 32 s p _ x.inside b ∙ rw e)
 
-      module _ (z q : ℕ) (y : ReadAt (numberFront (drop (p + 1) s)) s (p + 1) z q) where
-        pub span-unclosed : (get_or s q 0 ≡ 41 → ⊥) → spanFront (drop i s) ≡ wrong
-        unfolding spanFront onward
-        span-unclosed n = rw x.is (past-at 32 s p _ x.inside b ∙ rw y.is (past-not 41 s q _ y.inside n))
+      module _ (z q : ℕ) (y : ReadAt (number_front (drop (p + 1) s)) s (p + 1) z q) where
+        pub span_unclosed : (get_or s q 0 ≡ 41 → ⊥) → span_front (drop i s) ≡ wrong
+        unfolding span_front onward
+        span_unclosed n = rw x.is (past_at 32 s p _ x.inside b ∙ rw y.is (past_not 41 s q _ y.inside n))
 
-        pub span-whole : Ended s → get_or s q 0 ≡ 41 → ReadAt (spanFront (drop i s)) s i (record { start = a; end = z }) (q + 1)
-        unfolding spanFront onward
-        span-whole e d = record {
-          is = rw x.is (past-at 32 s p _ x.inside b ∙ rw y.is (past-at 41 s q _ y.inside d));
+        pub span_whole : Ended s → get_or s q 0 ≡ 41 → ReadAt (span_front (drop i s)) s i (record { start = a; end = z }) (q + 1)
+        unfolding span_front onward
+        span_whole e d = record {
+          is = rw x.is (past_at 32 s p _ x.inside b ∙ rw y.is (past_at 41 s q _ y.inside d));
           after = omega (arith, x.after, y.after);
           inside = not_last s q e y.inside (λ t. omega (arith, t, d));
         }
 
 -- " (S E)"
 
-onward-is : (x : Front Span) (s : List ℕ) (i : ℕ) (r : Ends) → SpanIs x s (i + 2) r
-    → WindowIs (onward x (λ w u. got (asWindow w) u)) s i r
+onward_is : (x : Front Span) (s : List ℕ) (i : ℕ) (r : Ends) → SpanIs x s (i + 2) r
+    → WindowIs (onward x (λ w u. got (as_window w) u)) s i r
 unfolding onward
-onward-is x s i (Of a z p) h = record { is = rw h.is; after = h.after; inside = h.inside }
-onward-is x s i Wrong h = rw h
+onward_is x s i (Of a z p) h = record { is = rw h.is; after = h.after; inside = h.inside }
+onward_is x s i Wrong h = rw h
 
 module _ (s : List ℕ) (i : ℕ) (h : i < length s) where
-  pub window-unparted : (get_or s i 0 ≡ 32 → ⊥) → windowFront (drop i s) ≡ wrong
-  unfolding windowFront
-  window-unparted n = past-not 32 s i _ h n
+  pub window_unparted : (get_or s i 0 ≡ 32 → ⊥) → window_front (drop i s) ≡ wrong
+  unfolding window_front
+  window_unparted n = past_not 32 s i _ h n
 
   module _ (b : get_or s i 0 ≡ 32) (k : i + 1 < length s) where
-    pub window-unopened : (get_or s (i + 1) 0 ≡ 40 → ⊥) → windowFront (drop i s) ≡ wrong
-    unfolding windowFront
-    window-unopened n = past-at 32 s i _ h b ∙ past-not 40 s (i + 1) _ k n
+    pub window_unopened : (get_or s (i + 1) 0 ≡ 40 → ⊥) → window_front (drop i s) ≡ wrong
+    unfolding window_front
+    window_unopened n = past_at 32 s i _ h b ∙ past_not 40 s (i + 1) _ k n
 
-    pub window-span : get_or s (i + 1) 0 ≡ 40 → (r : Ends) → SpanIs (spanFront (drop (i + 2) s)) s (i + 2) r
-        → WindowIs (windowFront (drop i s)) s i r
-    unfolding windowFront
-    window-span d r x =
+    pub window_span : get_or s (i + 1) 0 ≡ 40 → (r : Ends) → SpanIs (span_front (drop (i + 2) s)) s (i + 2) r
+        → WindowIs (window_front (drop i s)) s i r
+    unfolding window_front
+    window_span d r x =
         let e : i + 1 + 1 ≡ i + 2 = omega arith in
-        let f : windowFront (drop i s) ≡ onward (spanFront (drop (i + 2) s)) (λ w u. got (asWindow w) u) =
-        past-at 32 s i _ h b ∙ past-at 40 s (i + 1) _ k d ∙ rw e in
-        rw f (onward-is (spanFront (drop (i + 2) s)) s i r x)
+        let f : window_front (drop i s) ≡ onward (span_front (drop (i + 2) s)) (λ w u. got (as_window w) u) =
+        past_at 32 s i _ h b ∙ past_at 40 s (i + 1) _ k d ∙ rw e in
+        rw f (onward_is (span_front (drop (i + 2) s)) s i r x)
 
 -- the place past a window is six further at least
-pub window-further : (s : List ℕ) (i j : ℕ) (w : Window) (q : ℕ) → ReadAt (windowFront (drop i s)) s j w q → i + 6 ≤ q
-window-further s i j w q x =
-    omega (arith, window-took (drop i s) w (drop q s) x.is, length-drop i s, length-drop q s, x.inside)
+pub window_further : (s : List ℕ) (i j : ℕ) (w : Window) (q : ℕ) → ReadAt (window_front (drop i s)) s j w q → i + 6 ≤ q
+window_further s i j w q x =
+    omega (arith, window_took (drop i s) w (drop q s) x.is, length-drop i s, length-drop q s, x.inside)

@@ -3,9 +3,9 @@ use Rattle.std.specs.Prelude.{ℕ, suc, ◌-◌, ◌<◌, ◌≡◌, List, [], �
 use Rattle.tender.specs.Limits.{within}
 
 -- how many bytes stand before the first d
-unfoldable pub toNext : ℕ → List ℕ → ℕ
-toNext d [] = 0
-toNext d (b ∷ s) = let more = suc (toNext d s) in cond (eqb b d) 0 more
+unfoldable pub to_next : ℕ → List ℕ → ℕ
+to_next d [] = 0
+to_next d (b ∷ s) = let more = suc (to_next d s) in cond (eqb b d) 0 more
 
 -- the last byte is 10
 abbrev pub Ended : List ℕ → Type 0

@@ -6,21 +6,21 @@ use Rattle.std.proofs.Common.{arith, drop_of_length-le, leb-true, eqb-true, eq-e
 use Rattle.tender.specs.Limits.{within}
 use Rattle.reader_parts.specs.Scan.{lettered, starts_with}
 use Rattle.reader_parts.specs.GivenLaws.{both_true}
-use Rattle.reader_parts.specs.ScanLaws.{drop-next}
+use Rattle.reader_parts.specs.ScanLaws.{drop_next}
 
 module _ (w s : List ℕ) (i j : ℕ) (k : j < length s) where
-  pub letter-same : i < length w → get_or s j 0 ≡ get_or w i 0
+  pub letter_same : i < length w → get_or s j 0 ≡ get_or w i 0
       → starts_with (drop i w ++ 32 ∷ []) (drop j s) ≡ starts_with (drop (i + 1) w ++ 32 ∷ []) (drop (j + 1) s)
   unfolding starts_with
-  letter-same h e = rw (drop-next w i h, drop-next s j k) (rw (eq-eqb (get_or s j 0) (get_or w i 0) e))
+  letter_same h e = rw (drop_next w i h, drop_next s j k) (rw (eq-eqb (get_or s j 0) (get_or w i 0) e))
 
-  pub letter-other : i < length w → (get_or s j 0 ≡ get_or w i 0 → ⊥) → starts_with (drop i w ++ 32 ∷ []) (drop j s) ≡ false
+  pub letter_other : i < length w → (get_or s j 0 ≡ get_or w i 0 → ⊥) → starts_with (drop i w ++ 32 ∷ []) (drop j s) ≡ false
   unfolding starts_with
-  letter-other h e = rw (drop-next w i h, drop-next s j k) (rw (ne_eqb (get_or s j 0) (get_or w i 0) e))
+  letter_other h e = rw (drop_next w i h, drop_next s j k) (rw (ne_eqb (get_or s j 0) (get_or w i 0) e))
 
-  pub space-next : length w ≤ i → starts_with (drop i w ++ 32 ∷ []) (drop j s) ≡ eqb (get_or s j 0) 32
+  pub space_next : length w ≤ i → starts_with (drop i w ++ 32 ∷ []) (drop j s) ≡ eqb (get_or s j 0) 32
   unfolding starts_with
-  space-next h = rw (drop_of_length-le w h, drop-next s j k) (go (eqb (get_or s j 0) 32))
+  space_next h = rw (drop_of_length-le w h, drop_next s j k) (go (eqb (get_or s j 0) 32))
     where
       go : (t : Bool) → t && true ≡ t
       go true = refl
@@ -37,10 +37,10 @@ letters (b ∷ w) zero e h =
 letters (b ∷ w) (suc i) e h = letters w i (both_true (leb 97 b && leb b 122) (lettered w) e).1 (omega arith)
 
 -- two words that begin with different bytes do not both stand at one place
-pub other-start : (s v w : List ℕ) (a b : ℕ) → (a ≡ b → ⊥)
+pub other_start : (s v w : List ℕ) (a b : ℕ) → (a ≡ b → ⊥)
     → starts_with (a ∷ v) s ≡ true → starts_with (b ∷ w) s ≡ false
 unfolding starts_with
-other-start [] v w a b n e = refl
-other-start (c ∷ s) v w a b n e =
+other_start [] v w a b n e = refl
+other_start (c ∷ s) v w a b n e =
     let h = eqb-true c a (both_true (eqb c a) (starts_with v s) e).0 in
     rw (ne_eqb c b (λ k. n (omega (arith, h, k))))

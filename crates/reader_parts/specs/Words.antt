@@ -12,22 +12,22 @@ unfoldable pub among : ℕ → List ℕ → Bool
 among n [] = false
 among n (m ∷ ms) = eqb m n || among n ms
 
-unfoldable pub growFirst : ℕ → List (List ℕ) → List (List ℕ)
-growFirst b [] = (b ∷ []) ∷ []
-growFirst b (p ∷ ps) = (b ∷ p) ∷ ps
+unfoldable pub grow_first : ℕ → List (List ℕ) → List (List ℕ)
+grow_first b [] = (b ∷ []) ∷ []
+grow_first b (p ∷ ps) = (b ∷ p) ∷ ps
 
 -- the pieces of s before, between and after its bytes d
 unfoldable pub cut : ℕ → List ℕ → List (List ℕ)
-unfolding growFirst
+unfolding grow_first
 cut d [] = [] ∷ []
-cut d (b ∷ s) = let ps = cut d s in let new = [] ∷ ps in let more = growFirst b ps in cond (eqb b d) new more
+cut d (b ∷ s) = let ps = cut d s in let new = [] ∷ ps in let more = grow_first b ps in cond (eqb b d) new more
 
 -- the two words have the same bytes
-unfoldable pub sameBytes : List ℕ → List ℕ → Bool
-sameBytes [] [] = true
-sameBytes [] (b ∷ t) = false
-sameBytes (a ∷ s) [] = false
-sameBytes (a ∷ s) (b ∷ t) = let more = sameBytes s t in cond (eqb a b) more false
+unfoldable pub equal_bytes : List ℕ → List ℕ → Bool
+equal_bytes [] [] = true
+equal_bytes [] (b ∷ t) = false
+equal_bytes (a ∷ s) [] = false
+equal_bytes (a ∷ s) (b ∷ t) = let more = equal_bytes s t in cond (eqb a b) more false
 
 -- what stands after an opening bracket
 unfoldable pub opened : List ℕ → Option (List ℕ)
@@ -47,26 +47,26 @@ unfolding within
 digits v [] = some v
 digits v (b ∷ w) = let more = digits (v * 10 + (b - 48)) w in cond (within 48 57 b) more none
 
-unfoldable pub leadingZero : List ℕ → Bool
-leadingZero [] = false
-leadingZero (b ∷ []) = false
-leadingZero (b ∷ c ∷ w) = eqb b 48
+unfoldable pub leading_zero : List ℕ → Bool
+leading_zero [] = false
+leading_zero (b ∷ []) = false
+leading_zero (b ∷ c ∷ w) = eqb b 48
 
 -- a number has 1 to 9 digits and no leading zero, except 0 itself
-unfoldable pub numeralOf : List ℕ → Option ℕ
-unfolding within leadingZero digits
-numeralOf w = cond (within 1 9 (length w) && not (leadingZero w)) (digits 0 w) none
+unfoldable pub numeral_of : List ℕ → Option ℕ
+unfolding within leading_zero digits
+numeral_of w = cond (within 1 9 (length w) && not (leading_zero w)) (digits 0 w) none
 
 -- a number of cents; or one to seven digits, a point and two digits
-unfoldable pub priceIn : List (List ℕ) → Option ℕ
-unfolding and_then digits numeralOf
-priceIn [] = none
-priceIn (a ∷ []) = numeralOf a
-priceIn (a ∷ b ∷ []) = cond (leb (length a) 7 && eqb (length b) 2)
-    (and_then (numeralOf a) (λ x. and_then (digits 0 b) (λ y. some (x * 100 + y)))) none
-priceIn (a ∷ b ∷ c ∷ ps) = none
+unfoldable pub price_in : List (List ℕ) → Option ℕ
+unfolding and_then digits numeral_of
+price_in [] = none
+price_in (a ∷ []) = numeral_of a
+price_in (a ∷ b ∷ []) = cond (leb (length a) 7 && eqb (length b) 2)
+    (and_then (numeral_of a) (λ x. and_then (digits 0 b) (λ y. some (x * 100 + y)))) none
+price_in (a ∷ b ∷ c ∷ ps) = none
 
 -- a price in cents, by what stands before and after its point
-unfoldable pub priceOf : List ℕ → Option ℕ
-unfolding cut priceIn
-priceOf w = priceIn (cut 46 w)
+unfoldable pub price_of : List ℕ → Option ℕ
+unfolding cut price_in
+price_of w = price_in (cut 46 w)

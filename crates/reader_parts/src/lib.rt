@@ -1,5 +1,6 @@
 // What reading a part of a bid text's line answers. `specs/` has what the parts are (`Words`, `Windows`), and what is read from the front
 // of bytes (`Front`).
+#![tactic(auto)]
 
 // A number and the place past it.
 #[derive(Drop)]

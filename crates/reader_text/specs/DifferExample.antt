@@ -5,81 +5,81 @@ use Prim.Native.String.{String}
 use Rattle.std.proofs.Common.{arith}
 use Rattle.tender.specs.Keywords.{bytes}
 use Rattle.tender.specs.declared.Window.{Window}
-use Rattle.reader_parts.specs.Words.{cut, among, priceOf}
-use Rattle.reader_text.specs.Differ.{bidLine, Word, DifferInBid, windowsBy}
-use Rattle.reader_text.specs.DifferInSpelling.{reserveLine, SameLine, DifferInSpelling, same_bytes, bid-spelt, reserve-spelt}
+use Rattle.reader_parts.specs.Words.{cut, among, price_of}
+use Rattle.reader_text.specs.Differ.{bid_line, Word, DifferInBid, windows_by}
+use Rattle.reader_text.specs.DifferInSpelling.{reserve_line, SameLine, DifferInSpelling, same_bytes, bid_spelt, reserve_spelt}
 
 word : (s : String) → among 32 (bytes s) ≡ among 32 [] → among 10 (bytes s) ≡ among 10 [] → Word (bytes s)
 unfolding among
-word s a b = record { no-space = a; no_end = b }
+word s a b = record { no_space = a; no_end = b }
 
-in-cents : List ℕ
+in_cents : List ℕ
 unfolding bytes
-in-cents = bytes "(tender single 0 100)\n(reserve 500)\n(bid 11 250 (0 50))\n"
+in_cents = bytes "(tender single 0 100)\n(reserve 500)\n(bid 11 250 (0 50))\n"
 
-with-points : List ℕ
+with_points : List ℕ
 unfolding bytes
-with-points = bytes "(tender single 0 100)\n(reserve 5.00)\n(bid 11 2.50 (0 50))\n"
+with_points = bytes "(tender single 0 100)\n(reserve 5.00)\n(bid 11 2.50 (0 50))\n"
 
-spelt-otherwise : DifferInSpelling in-cents with-points
-unfolding in-cents with-points cut among bytes priceOf bidLine reserveLine
-spelt-otherwise = record {
-  lines = (same_bytes refl, (reserve-line, (bid-line, (same_bytes refl, tt))));
-  left-short = omega arith;
-  right-short = omega arith;
+spelt_otherwise : DifferInSpelling in_cents with_points
+unfolding in_cents with_points cut among bytes price_of bid_line reserve_line
+spelt_otherwise = record {
+  lines = (same_bytes refl, (reserve_line_lem, (bid_line_lem, (same_bytes refl, tt))));
+  left_short = omega arith;
+  right_short = omega arith;
 }
   where
-    reserve-line : SameLine (reserveLine (bytes "500")) (reserveLine (bytes "5.00"))
-    reserve-line = reserve-spelt (bytes "500") (bytes "5.00") (word "500" refl refl) (word "5.00" refl refl) refl refl refl
+    reserve_line_lem : SameLine (reserve_line (bytes "500")) (reserve_line (bytes "5.00"))
+    reserve_line_lem = reserve_spelt (bytes "500") (bytes "5.00") (word "500" refl refl) (word "5.00" refl refl) refl refl refl
 
-    bid-line : SameLine (bidLine (bytes "11") (bytes "250") (bytes "(0 50))")) (bidLine (bytes "11") (bytes "2.50") (bytes "(0 50))"))
-    bid-line = bid-spelt (bytes "11") (bytes "250") (bytes "2.50") (bytes "(0 50))") (word "11" refl refl) (word "250" refl refl)
+    bid_line_lem : SameLine (bid_line (bytes "11") (bytes "250") (bytes "(0 50))")) (bid_line (bytes "11") (bytes "2.50") (bytes "(0 50))"))
+    bid_line_lem = bid_spelt (bytes "11") (bytes "250") (bytes "2.50") (bytes "(0 50))") (word "11" refl refl) (word "250" refl refl)
         (word "2.50" refl refl) refl refl refl
 
-all-offered : List ℕ
+all_offered : List ℕ
 unfolding bytes
-all-offered = bytes "(tender single 0 100)\n(bid 12 40 (40 100))\n(bid 13 90 (0 100))\n"
+all_offered = bytes "(tender single 0 100)\n(bid 12 40 (40 100))\n(bid 13 90 (0 100))\n"
 
 held_back : List ℕ
 unfolding bytes
 held_back = bytes "(tender single 0 100)\n(bid 12 60 (60 100))\n(bid 13 90 (0 100))\n"
 
-one-bid-otherwise : DifferInBid all-offered held_back (bytes "12") (bytes "40") (bytes "60") (bytes "(40 100))") (bytes "(60 100))")
-unfolding all-offered held_back among bytes bidLine
-one-bid-otherwise = record {
+one_bid_otherwise : DifferInBid all_offered held_back (bytes "12") (bytes "40") (bytes "60") (bytes "(40 100))") (bytes "(60 100))")
+unfolding all_offered held_back among bytes bid_line
+one_bid_otherwise = record {
   before = bytes "(tender single 0 100)";
   after = bytes "(bid 13 90 (0 100))\n";
   left = refl;
   right = refl;
-  bidder-word = word "12" refl refl;
-  p-word = word "40" refl refl;
-  q-word = word "60" refl refl;
-  ws-line = refl;
-  vs-line = refl;
+  bidder_word = word "12" refl refl;
+  p_word = word "40" refl refl;
+  q_word = word "60" refl refl;
+  ws_line = refl;
+  vs_line = refl;
 }
 
 -- the windows that are written
 
 written : String → List Window
-unfolding bytes windowsBy
-written s = windowsBy (bytes s)
+unfolding bytes windows_by
+written s = windows_by (bytes s)
 
-two-windows : written "(0 4) (6 8))" ≡ record { start = 0; end = 4 } ∷ record { start = 6; end = 8 } ∷ []
+two_windows : written "(0 4) (6 8))" ≡ record { start = 0; end = 4 } ∷ record { start = 6; end = 8 } ∷ []
 unfolding written
-two-windows = refl
+two_windows = refl
 
-line-not-closed : written "(0 4) (6 8)" ≡ []
+line_not_closed : written "(0 4) (6 8)" ≡ []
 unfolding written
-line-not-closed = refl
+line_not_closed = refl
 
-two-spaces : written "(0 4)  (6 8))" ≡ []
+two_spaces : written "(0 4)  (6 8))" ≡ []
 unfolding written
-two-spaces = refl
+two_spaces = refl
 
-number-missing : written "(0 4) (6))" ≡ []
+number_missing : written "(0 4) (6))" ≡ []
 unfolding written
-number-missing = refl
+number_missing = refl
 
-no-window : written ")" ≡ []
+no_window : written ")" ≡ []
 unfolding written
-no-window = refl
+no_window = refl

@@ -8,9 +8,9 @@ use Rattle.tender.specs.declared.Tender.{Tender}
 use Rattle.tender.specs.declared.Refusal.TheVariants.{TextTooLong, BadForm, OutsideLimits, TooMany, EmptyWindow, BidderRepeated}
 use Rattle.tender.specs.declared.Refusal.TheVariants.{SeveralWindows, LateWindow, ReserveMisplaced}
 use Rattle.tender.specs.Keywords.{bytes}
-use Rattle.tender.specs.Plain.{plainTender}
+use Rattle.tender.specs.Plain.{plain_tender}
 use Rattle.tender.specs.Tables.{Row}
-use Rattle.reader_text.specs.Read.{ReadOutcome, accepted, refused, readText}
+use Rattle.reader_text.specs.Read.{ReadOutcome, accepted, refused, read_text}
 
 -- what reading answers, flat: the tender; bidder, price, first, count of each row; start and end of each window
 
@@ -31,70 +31,70 @@ minutes zero = []
 minutes (suc n) = bytes " (0 1)" ++ minutes n
 
 read : String → ReadOutcome
-unfolding bytes readText
-read s = readText (bytes s)
+unfolding bytes read_text
+read s = read_text (bytes s)
 
-no-bids : read "(tender single 0 100)\n" ≡ accepted (plainTender Single 0 100) ([]) ([])
+no_bids : read "(tender single 0 100)\n" ≡ accepted (plain_tender Single 0 100) ([]) ([])
 unfolding read row win
-no-bids = refl
+no_bids = refl
 
-at-the-limits : read "(tender single 0 10080)\n(bid 999999 100000000 (10079 10080))\n(bid 1 0 (0 1))\n"
-    ≡ accepted (plainTender Single 0 10080) (row 999999 100000000 0 1 ∷ row 1 0 1 1 ∷ [])
+at_the_limits : read "(tender single 0 10080)\n(bid 999999 100000000 (10079 10080))\n(bid 1 0 (0 1))\n"
+    ≡ accepted (plain_tender Single 0 10080) (row 999999 100000000 0 1 ∷ row 1 0 1 1 ∷ [])
     (win 10079 10080 ∷ win 0 1 ∷ [])
 unfolding read row win
-at-the-limits = refl
+at_the_limits = refl
 
-empty-text : read "" ≡ refused (BadForm 1)
+empty_text : read "" ≡ refused (BadForm 1)
 unfolding read
-empty-text = refl
+empty_text = refl
 
-no-byte-10 : read "(tender single 0 100)" ≡ refused (BadForm 1)
+no_byte_10 : read "(tender single 0 100)" ≡ refused (BadForm 1)
 unfolding read
-no-byte-10 = refl
+no_byte_10 = refl
 
-no-byte-10-last : read "(tender single 0 100)\n(bid 11 30 (0 50))" ≡ refused (BadForm 2)
+no_byte_10_last : read "(tender single 0 100)\n(bid 11 30 (0 50))" ≡ refused (BadForm 2)
 unfolding read
-no-byte-10-last = refl
+no_byte_10_last = refl
 
-bid-first : read "(bid 11 30 (0 50))\n" ≡ refused (BadForm 1)
+bid_first : read "(bid 11 30 (0 50))\n" ≡ refused (BadForm 1)
 unfolding read
-bid-first = refl
+bid_first = refl
 
-tender-twice : read "(tender single 0 100)\n(tender single 0 100)\n" ≡ refused (BadForm 2)
+tender_twice : read "(tender single 0 100)\n(tender single 0 100)\n" ≡ refused (BadForm 2)
 unfolding read
-tender-twice = refl
+tender_twice = refl
 
-empty-line : read "(tender single 0 100)\n\n(bid 11 30 (0 50))\n" ≡ refused (BadForm 2)
+empty_line : read "(tender single 0 100)\n\n(bid 11 30 (0 50))\n" ≡ refused (BadForm 2)
 unfolding read
-empty-line = refl
+empty_line = refl
 
-empty-line-last : read "(tender single 0 100)\n(bid 11 30 (0 50))\n\n" ≡ refused (BadForm 3)
+empty_line_last : read "(tender single 0 100)\n(bid 11 30 (0 50))\n\n" ≡ refused (BadForm 3)
 unfolding read
-empty-line-last = refl
+empty_line_last = refl
 
-two-spaces : read "(tender single 0 100)\n(bid 11  30 (0 50))\n" ≡ refused (BadForm 2)
+two_spaces : read "(tender single 0 100)\n(bid 11  30 (0 50))\n" ≡ refused (BadForm 2)
 unfolding read
-two-spaces = refl
+two_spaces = refl
 
-no-space : read "(tender multi 0 10)\n(bid 21 12 (0 4)(6 8))\n" ≡ refused (BadForm 2)
+no_space : read "(tender multi 0 10)\n(bid 21 12 (0 4)(6 8))\n" ≡ refused (BadForm 2)
 unfolding read
-no-space = refl
+no_space = refl
 
-space-last : read "(tender single 0 100)\n(bid 11 30 (0 50)) \n" ≡ refused (BadForm 2)
+space_last : read "(tender single 0 100)\n(bid 11 30 (0 50)) \n" ≡ refused (BadForm 2)
 unfolding read
-space-last = refl
+space_last = refl
 
-no-windows : read "(tender single 0 100)\n(bid 11 30)\n" ≡ refused (BadForm 2)
+no_windows : read "(tender single 0 100)\n(bid 11 30)\n" ≡ refused (BadForm 2)
 unfolding read
-no-windows = refl
+no_windows = refl
 
-leading-zero : read "(tender single 0 100)\n(bid 11 007 (0 50))\n" ≡ refused (BadForm 2)
+leading_zero_lem : read "(tender single 0 100)\n(bid 11 007 (0 50))\n" ≡ refused (BadForm 2)
 unfolding read
-leading-zero = refl
+leading_zero_lem = refl
 
-ten-digits : read "(tender single 0 100)\n(bid 11 1000000000 (0 50))\n" ≡ refused (BadForm 2)
+ten_digits : read "(tender single 0 100)\n(bid 11 1000000000 (0 50))\n" ≡ refused (BadForm 2)
 unfolding read
-ten-digits = refl
+ten_digits = refl
 
 other_byte : read "(tender single 0 100)\n(bid 11 2,50 (0 50))\n" ≡ refused (BadForm 2)
 unfolding read
@@ -104,189 +104,189 @@ capital : read "(tender single 0 100)\n(Bid 11 30 (0 50))\n" ≡ refused (BadFor
 unfolding read
 capital = refl
 
-other-kind : read "(tender exact 0 100)\n" ≡ refused (BadForm 1)
+other_kind : read "(tender exact 0 100)\n" ≡ refused (BadForm 1)
 unfolding read
-other-kind = refl
+other_kind = refl
 
-form-before-limits : read "(tender single 0 100)\n(bid 0 30 (0 50)\n" ≡ refused (BadForm 2)
+form_before_limits : read "(tender single 0 100)\n(bid 0 30 (0 50)\n" ≡ refused (BadForm 2)
 unfolding read
-form-before-limits = refl
+form_before_limits = refl
 
-tender-window : read "(tender single 100 100)\n" ≡ refused (EmptyWindow 1)
+tender_window : read "(tender single 100 100)\n" ≡ refused (EmptyWindow 1)
 unfolding read
-tender-window = refl
+tender_window = refl
 
-tender-late : read "(tender single 0 10081)\n" ≡ refused (LateWindow 1)
+tender_late : read "(tender single 0 10081)\n" ≡ refused (LateWindow 1)
 unfolding read
-tender-late = refl
+tender_late = refl
 
 -- near miss: the end is past the week, and the start is past the end
-tender-late-empty : read "(tender single 10082 10081)\n" ≡ refused (EmptyWindow 1)
+tender_late_empty : read "(tender single 10082 10081)\n" ≡ refused (EmptyWindow 1)
 unfolding read
-tender-late-empty = refl
+tender_late_empty = refl
 
-window-33 : readText (bytes "(tender multi 0 10)\n(bid 0 30" ++ minutes 33 ++ bytes ")\n") ≡ refused (TooMany 2)
-unfolding readText minutes
-window-33 = refl
+window_33 : read_text (bytes "(tender multi 0 10)\n(bid 0 30" ++ minutes 33 ++ bytes ")\n") ≡ refused (TooMany 2)
+unfolding read_text minutes
+window_33 = refl
 
-window-33-single : readText (bytes "(tender single 0 100)\n(bid 11 30" ++ minutes 33 ++ bytes ")\n") ≡ refused (TooMany 2)
-unfolding readText minutes
-window-33-single = refl
+window_33_single : read_text (bytes "(tender single 0 100)\n(bid 11 30" ++ minutes 33 ++ bytes ")\n") ≡ refused (TooMany 2)
+unfolding read_text minutes
+window_33_single = refl
 
-window-32-single : readText (bytes "(tender single 0 100)\n(bid 11 30" ++ minutes 32 ++ bytes ")\n") ≡ refused (SeveralWindows 2)
-unfolding readText minutes
-window-32-single = refl
+window_32_single : read_text (bytes "(tender single 0 100)\n(bid 11 30" ++ minutes 32 ++ bytes ")\n") ≡ refused (SeveralWindows 2)
+unfolding read_text minutes
+window_32_single = refl
 
-bidder-0 : read "(tender single 0 100)\n(bid 0 30 (0 50) (5 5))\n" ≡ refused (OutsideLimits 2)
+bidder_0 : read "(tender single 0 100)\n(bid 0 30 (0 50) (5 5))\n" ≡ refused (OutsideLimits 2)
 unfolding read
-bidder-0 = refl
+bidder_0 = refl
 
-bidder-high : read "(tender single 0 100)\n(bid 1000000 30 (0 50))\n" ≡ refused (OutsideLimits 2)
+bidder_high : read "(tender single 0 100)\n(bid 1000000 30 (0 50))\n" ≡ refused (OutsideLimits 2)
 unfolding read
-bidder-high = refl
+bidder_high = refl
 
-price-high : read "(tender single 0 100)\n(bid 11 100000001 (0 50))\n" ≡ refused (OutsideLimits 2)
+price_high : read "(tender single 0 100)\n(bid 11 100000001 (0 50))\n" ≡ refused (OutsideLimits 2)
 unfolding read
-price-high = refl
+price_high = refl
 
-two-windows : read "(tender single 0 100)\n(bid 11 30 (0 50) (5 5))\n" ≡ refused (SeveralWindows 2)
+two_windows : read "(tender single 0 100)\n(bid 11 30 (0 50) (5 5))\n" ≡ refused (SeveralWindows 2)
 unfolding read
-two-windows = refl
+two_windows = refl
 
-empty-window : read "(tender single 0 100)\n(bid 11 30 (5 5))\n" ≡ refused (EmptyWindow 2)
+empty_window : read "(tender single 0 100)\n(bid 11 30 (5 5))\n" ≡ refused (EmptyWindow 2)
 unfolding read
-empty-window = refl
+empty_window = refl
 
-late-window : read "(tender single 0 100)\n(bid 11 30 (0 10081))\n" ≡ refused (LateWindow 2)
+late_window : read "(tender single 0 100)\n(bid 11 30 (0 10081))\n" ≡ refused (LateWindow 2)
 unfolding read
-late-window = refl
+late_window = refl
 
-second-window : read "(tender multi 0 10)\n(bid 11 30 (0 5) (9 8))\n" ≡ refused (EmptyWindow 2)
+second_window : read "(tender multi 0 10)\n(bid 11 30 (0 5) (9 8))\n" ≡ refused (EmptyWindow 2)
 unfolding read
-second-window = refl
+second_window = refl
 
-used-twice : read "(tender single 0 100)\n(bid 11 30 (0 50))\n(bid 12 30 (0 50))\n(bid 11 30 (0 50))\n" ≡ refused (BidderRepeated 4)
+used_twice : read "(tender single 0 100)\n(bid 11 30 (0 50))\n(bid 12 30 (0 50))\n(bid 11 30 (0 50))\n" ≡ refused (BidderRepeated 4)
 unfolding read
-used-twice = refl
+used_twice = refl
 
-used-empty : read "(tender single 0 100)\n(bid 11 30 (0 50))\n(bid 11 30 (0 0))\n" ≡ refused (EmptyWindow 3)
+used_empty : read "(tender single 0 100)\n(bid 11 30 (0 50))\n(bid 11 30 (0 0))\n" ≡ refused (EmptyWindow 3)
 unfolding read
-used-empty = refl
+used_empty = refl
 
-used-late : read "(tender single 0 100)\n(bid 11 30 (0 50))\n(bid 11 30 (0 10081))\n" ≡ refused (LateWindow 3)
+used_late : read "(tender single 0 100)\n(bid 11 30 (0 50))\n(bid 11 30 (0 10081))\n" ≡ refused (LateWindow 3)
 unfolding read
-used-late = refl
+used_late = refl
 
-two-late : read "(tender single 0 100)\n(bid 11 30 (0 10081) (0 10082))\n" ≡ refused (SeveralWindows 2)
+two_late : read "(tender single 0 100)\n(bid 11 30 (0 10081) (0 10082))\n" ≡ refused (SeveralWindows 2)
 unfolding read
-two-late = refl
+two_late = refl
 
-late-then-empty : read "(tender multi 0 10)\n(bid 11 30 (0 10081) (5 5))\n" ≡ refused (EmptyWindow 2)
+late_then_empty : read "(tender multi 0 10)\n(bid 11 30 (0 10081) (5 5))\n" ≡ refused (EmptyWindow 2)
 unfolding read
-late-then-empty = refl
+late_then_empty = refl
 
-empty-then-late : read "(tender multi 0 10)\n(bid 11 30 (5 5) (0 10081))\n" ≡ refused (EmptyWindow 2)
+empty_then_late : read "(tender multi 0 10)\n(bid 11 30 (5 5) (0 10081))\n" ≡ refused (EmptyWindow 2)
 unfolding read
-empty-then-late = refl
+empty_then_late = refl
 
-sound-then-late : read "(tender multi 0 10)\n(bid 11 30 (0 10080) (0 10081) (1 2))\n" ≡ refused (LateWindow 2)
+sound_then_late : read "(tender multi 0 10)\n(bid 11 30 (0 10080) (0 10081) (1 2))\n" ≡ refused (LateWindow 2)
 unfolding read
-sound-then-late = refl
+sound_then_late = refl
 
-late-and-empty : read "(tender multi 0 10)\n(bid 11 30 (10081 10081))\n" ≡ refused (EmptyWindow 2)
+late_and_empty : read "(tender multi 0 10)\n(bid 11 30 (10081 10081))\n" ≡ refused (EmptyWindow 2)
 unfolding read
-late-and-empty = refl
+late_and_empty = refl
 
-first-fault : read "(tender single 0 100)\n(bid 11 30 (0 0))\n(bid 11 30 (0 50)\n" ≡ refused (EmptyWindow 2)
+first_fault : read "(tender single 0 100)\n(bid 11 30 (0 0))\n(bid 11 30 (0 50)\n" ≡ refused (EmptyWindow 2)
 unfolding read
-first-fault = refl
+first_fault = refl
 
-reserve-read : read "(tender single 0 100)\n(reserve 5000)\n(bid 11 30 (0 50))\n"
+reserve_read : read "(tender single 0 100)\n(reserve 5000)\n(bid 11 30 (0 50))\n"
     ≡ accepted (reserved 5000) (row 11 30 0 1 ∷ []) (win 0 50 ∷ [])
 unfolding read reserved row win
-reserve-read = refl
+reserve_read = refl
 
-reserve-alone : read "(tender single 0 100)\n(reserve 0)\n"
+reserve_alone : read "(tender single 0 100)\n(reserve 0)\n"
     ≡ accepted (reserved 0) [] []
 unfolding read reserved row win
-reserve-alone = refl
+reserve_alone = refl
 
-reserve-most : read "(tender single 0 100)\n(reserve 100000000)\n"
+reserve_most : read "(tender single 0 100)\n(reserve 100000000)\n"
     ≡ accepted (reserved 100000000) [] []
 unfolding read reserved row win
-reserve-most = refl
+reserve_most = refl
 
-reserve-high : read "(tender single 0 100)\n(reserve 100000001)\n" ≡ refused (OutsideLimits 2)
+reserve_high : read "(tender single 0 100)\n(reserve 100000001)\n" ≡ refused (OutsideLimits 2)
 unfolding read
-reserve-high = refl
+reserve_high = refl
 
-reserve-after-a-bid : read "(tender single 0 100)\n(bid 11 30 (0 50))\n(reserve 5000)\n" ≡ refused (ReserveMisplaced 3)
+reserve_after_a_bid : read "(tender single 0 100)\n(bid 11 30 (0 50))\n(reserve 5000)\n" ≡ refused (ReserveMisplaced 3)
 unfolding read
-reserve-after-a-bid = refl
+reserve_after_a_bid = refl
 
-reserve-twice : read "(tender single 0 100)\n(reserve 5000)\n(reserve 5000)\n" ≡ refused (ReserveMisplaced 3)
+reserve_twice : read "(tender single 0 100)\n(reserve 5000)\n(reserve 5000)\n" ≡ refused (ReserveMisplaced 3)
 unfolding read
-reserve-twice = refl
+reserve_twice = refl
 
 -- near miss: the price is above the limit, and the line stands after a bid
-reserve-late-and-high : read "(tender single 0 100)\n(bid 11 30 (0 50))\n(reserve 100000001)\n" ≡ refused (ReserveMisplaced 3)
+reserve_late_and_high : read "(tender single 0 100)\n(bid 11 30 (0 50))\n(reserve 100000001)\n" ≡ refused (ReserveMisplaced 3)
 unfolding read
-reserve-late-and-high = refl
+reserve_late_and_high = refl
 
-reserve-twice-and-high : read "(tender single 0 100)\n(reserve 5000)\n(reserve 100000001)\n" ≡ refused (ReserveMisplaced 3)
+reserve_twice_and_high : read "(tender single 0 100)\n(reserve 5000)\n(reserve 100000001)\n" ≡ refused (ReserveMisplaced 3)
 unfolding read
-reserve-twice-and-high = refl
+reserve_twice_and_high = refl
 
-reserve-first : read "(reserve 5000)\n(tender single 0 100)\n" ≡ refused (BadForm 1)
+reserve_first : read "(reserve 5000)\n(tender single 0 100)\n" ≡ refused (BadForm 1)
 unfolding read
-reserve-first = refl
+reserve_first = refl
 
-reserve-alone-first : read "(reserve 5000)\n" ≡ refused (BadForm 1)
+reserve_alone_first : read "(reserve 5000)\n" ≡ refused (BadForm 1)
 unfolding read
-reserve-alone-first = refl
+reserve_alone_first = refl
 
-reserve-leading-zero : read "(tender single 0 100)\n(reserve 007)\n" ≡ refused (BadForm 2)
+reserve_leading_zero : read "(tender single 0 100)\n(reserve 007)\n" ≡ refused (BadForm 2)
 unfolding read
-reserve-leading-zero = refl
+reserve_leading_zero = refl
 
-reserve-unpriced : read "(tender single 0 100)\n(reserve)\n" ≡ refused (BadForm 2)
+reserve_unpriced : read "(tender single 0 100)\n(reserve)\n" ≡ refused (BadForm 2)
 unfolding read
-reserve-unpriced = refl
+reserve_unpriced = refl
 
-reserve-space-last : read "(tender single 0 100)\n(reserve 5 )\n" ≡ refused (BadForm 2)
+reserve_space_last : read "(tender single 0 100)\n(reserve 5 )\n" ≡ refused (BadForm 2)
 unfolding read
-reserve-space-last = refl
+reserve_space_last = refl
 
-reserve-two-prices : read "(tender single 0 100)\n(reserve 5 6)\n" ≡ refused (BadForm 2)
+reserve_two_prices : read "(tender single 0 100)\n(reserve 5 6)\n" ≡ refused (BadForm 2)
 unfolding read
-reserve-two-prices = refl
+reserve_two_prices = refl
 
-reserve-unended : read "(tender single 0 100)\n(reserve 5)" ≡ refused (BadForm 2)
+reserve_unended : read "(tender single 0 100)\n(reserve 5)" ≡ refused (BadForm 2)
 unfolding read
-reserve-unended = refl
+reserve_unended = refl
 
-reserve-late-and-unformed : read "(tender single 0 100)\n(bid 11 30 (0 50))\n(reserve 007)\n" ≡ refused (BadForm 3)
+reserve_late_and_unformed : read "(tender single 0 100)\n(bid 11 30 (0 50))\n(reserve 007)\n" ≡ refused (BadForm 3)
 unfolding read
-reserve-late-and-unformed = refl
+reserve_late_and_unformed = refl
 
-used-after-reserve : read "(tender single 0 100)\n(reserve 5000)\n(bid 11 30 (0 50))\n(bid 11 40 (0 50))\n" ≡ refused (BidderRepeated 4)
+used_after_reserve : read "(tender single 0 100)\n(reserve 5000)\n(bid 11 30 (0 50))\n(bid 11 40 (0 50))\n" ≡ refused (BidderRepeated 4)
 unfolding read
-used-after-reserve = refl
+used_after_reserve = refl
 
-reserve-of-faulty-tender : read "(tender single 100 100)\n(reserve 100000001)\n" ≡ refused (EmptyWindow 1)
+reserve_of_faulty_tender : read "(tender single 100 100)\n(reserve 100000001)\n" ≡ refused (EmptyWindow 1)
 unfolding read
-reserve-of-faulty-tender = refl
+reserve_of_faulty_tender = refl
 
-window-32 : readText (bytes "(tender multi 0 10)\n(bid 11 30" ++ minutes 32 ++ bytes ")\n")
-    ≡ accepted (plainTender Multi 0 10) (row 11 30 0 32 ∷ []) (replicate 32 (win 0 1))
-unfolding readText minutes row win
-window-32 = refl
+window_32 : read_text (bytes "(tender multi 0 10)\n(bid 11 30" ++ minutes 32 ++ bytes ")\n")
+    ≡ accepted (plain_tender Multi 0 10) (row 11 30 0 32 ∷ []) (replicate 32 (win 0 1))
+unfolding read_text minutes row win
+window_32 = refl
 
-too_long : readText (replicate 65537 32) ≡ refused TextTooLong
-unfolding readText
+too_long : read_text (replicate 65537 32) ≡ refused TextTooLong
+unfolding read_text
 too_long = refl
 
 -- near miss: the length is lawful, and the form is not
-long-enough : readText (replicate 65536 10) ≡ refused (BadForm 1)
-unfolding readText
-long-enough = refl
+long_enough : read_text (replicate 65536 10) ≡ refused (BadForm 1)
+unfolding read_text
+long_enough = refl

@@ -13,102 +13,102 @@ use Rattle.tender.specs.declared.Reserve.{Reserve}
 use Rattle.reader_forms.specs.Line.{TenderLine}
 use Rattle.tender.specs.declared.Refusal.{Refusal}
 use Rattle.tender.specs.declared.Refusal.TheVariants.{EmptyWindow, LateWindow}
-use Rattle.tender.specs.Limits.{asWindow, within, mostWindows, isSingle, ordered, early, lawful, lawfulReserve, soundTender, every}
+use Rattle.tender.specs.Limits.{as_window, within, most_windows, is_single, ordered, early, lawful, lawful_reserve, sound_tender, every}
 use Rattle.reader_parts.specs.GivenLaws.{both_true as and_split}
 use Rattle.reader_parts.specs.declared.Flaw.{Flaw}
 use Rattle.reader_parts.specs.declared.Flaw.TheVariants.{Empty, Late, Sound}
-use Rattle.reader_parts.specs.Flaws.{flawBy, flawIn, flawOf, is_empty, isLate}
-use Rattle.reader_text.specs.Read.{lineFault, tenderFault, bidFaultIn, tenderWith}
+use Rattle.reader_parts.specs.Flaws.{flaw_by, flaw_in, flaw_of, is_empty, is_late}
+use Rattle.reader_text.specs.Read.{line_fault, tender_fault, bid_fault_in, tender_with}
 
 -- windows are lawful where none is empty and none is late
 
-pub every-lawful : (ws : List Window) → every ordered ws ≡ true → every early ws ≡ true → every lawful ws ≡ true
+pub every_lawful : (ws : List Window) → every ordered ws ≡ true → every early ws ≡ true → every lawful ws ≡ true
 unfolding every lawful
-every-lawful [] a b = refl
-every-lawful (w ∷ ws) a b =
+every_lawful [] a b = refl
+every_lawful (w ∷ ws) a b =
     let s = and_split (ordered w) (every ordered ws) a in
     let u = and_split (early w) (every early ws) b in
-    rw (s.0, u.0) (every-lawful ws s.1 u.1)
+    rw (s.0, u.0) (every_lawful ws s.1 u.1)
 
-pub lawful-every : (ws : List Window) → every lawful ws ≡ true → (every ordered ws ≡ true) × (every early ws ≡ true)
+pub lawful_every : (ws : List Window) → every lawful ws ≡ true → (every ordered ws ≡ true) × (every early ws ≡ true)
 unfolding every lawful
-lawful-every [] e = (refl, refl)
-lawful-every (w ∷ ws) e =
+lawful_every [] e = (refl, refl)
+lawful_every (w ∷ ws) e =
     let s = and_split (lawful w) (every lawful ws) e in
     let u = and_split (ordered w) (early w) s.0 in
-    let h = lawful-every ws s.1 in
+    let h = lawful_every ws s.1 in
     (rw u.0 h.0, rw u.1 h.1)
 
 -- the tender's line has no fault, and the reserve is within its limits, where the tender is sound
 
 module _ (t : TenderLine) (r : Reserve) where
-  pub sound-faultless : soundTender (tenderWith t r) ≡ true → (tenderFault t ≡ none) × (lawfulReserve r ≡ true)
-  unfolding soundTender lawful tenderFault lineFault
-  sound-faultless e =
-      let s = and_split (lawful (asWindow t.window)) (lawfulReserve r) e in
-      let u = and_split (ordered (asWindow t.window)) (early (asWindow t.window)) s.0 in (rw (u.0, u.1), s.1)
+  pub sound_faultless : sound_tender (tender_with t r) ≡ true → (tender_fault t ≡ none) × (lawful_reserve r ≡ true)
+  unfolding sound_tender lawful tender_fault line_fault
+  sound_faultless e =
+      let s = and_split (lawful (as_window t.window)) (lawful_reserve r) e in
+      let u = and_split (ordered (as_window t.window)) (early (as_window t.window)) s.0 in (rw (u.0, u.1), s.1)
 
-  pub faultless-sound : tenderFault t ≡ none → lawfulReserve r ≡ true → soundTender (tenderWith t r) ≡ true
-  unfolding soundTender lawful tenderFault lineFault
-  faultless-sound e l = rw l (go (ordered (asWindow t.window)) (early (asWindow t.window)) e)
+  pub faultless_sound : tender_fault t ≡ none → lawful_reserve r ≡ true → sound_tender (tender_with t r) ≡ true
+  unfolding sound_tender lawful tender_fault line_fault
+  faultless_sound e l = rw l (go (ordered (as_window t.window)) (early (as_window t.window)) e)
     where
-      go : (a b : Bool) → lineFault false false false (not a) (not b) false ≡ none → (a && b) && true ≡ true
+      go : (a b : Bool) → line_fault false false false (not a) (not b) false ≡ none → (a && b) && true ≡ true
       go true true x = refl
       go true false x = let z : ◌≡◌ {A = ℕ} 0 1 = cc in absurd (omega arith)
       go false b x = let z : ◌≡◌ {A = ℕ} 0 1 = cc in absurd (omega arith)
 
 -- by what is wrong with it
-abbrev pub flawFault : Flaw → Option (ℕ → Refusal)
-flawFault Empty = some EmptyWindow
-flawFault Late = some LateWindow
-flawFault Sound = none
+abbrev pub flaw_fault : Flaw → Option (ℕ → Refusal)
+flaw_fault Empty = some EmptyWindow
+flaw_fault Late = some LateWindow
+flaw_fault Sound = none
 
-pub tender-told : (t : TenderLine) → tenderFault t ≡ flawFault (flawIn (asWindow t.window))
-unfolding flawIn tenderFault lineFault
-tender-told t = go (ordered (asWindow t.window)) (early (asWindow t.window))
+pub tender_told : (t : TenderLine) → tender_fault t ≡ flaw_fault (flaw_in (as_window t.window))
+unfolding flaw_in tender_fault line_fault
+tender_told t = go (ordered (as_window t.window)) (early (as_window t.window))
   where
-    go : (a b : Bool) → lineFault false false false (not a) (not b) false ≡ flawFault (flawBy a b)
+    go : (a b : Bool) → line_fault false false false (not a) (not b) false ≡ flaw_fault (flaw_by a b)
     go true true = refl
     go true false = refl
     go false b = refl
 
 -- the windows of a bid, by what is wrong with them
-pub flaw-told : (t : Tender) (bids bidder price count : ℕ) (ws : List Window) (used : Bool) →
-    bidFaultIn t bids bidder price count (is_empty (flawOf ws)) (isLate (flawOf ws)) used
-    ≡ bidFaultIn t bids bidder price count (not (every ordered ws)) (not (every early ws)) used
-unfolding flawOf bidFaultIn lineFault
-flaw-told t bids bidder price count ws used = go (every ordered ws) (every early ws)
+pub flaw_told : (t : Tender) (bids bidder price count : ℕ) (ws : List Window) (used : Bool) →
+    bid_fault_in t bids bidder price count (is_empty (flaw_of ws)) (is_late (flaw_of ws)) used
+    ≡ bid_fault_in t bids bidder price count (not (every ordered ws)) (not (every early ws)) used
+unfolding flaw_of bid_fault_in line_fault
+flaw_told t bids bidder price count ws used = go (every ordered ws) (every early ws)
   where
-    go : (a b : Bool) → bidFaultIn t bids bidder price count (is_empty (flawBy a b)) (isLate (flawBy a b)) used
-        ≡ bidFaultIn t bids bidder price count (not a) (not b) used
+    go : (a b : Bool) → bid_fault_in t bids bidder price count (is_empty (flaw_by a b)) (is_late (flaw_by a b)) used
+        ≡ bid_fault_in t bids bidder price count (not a) (not b) used
     go true true = refl
     go true false = refl
     go false b = refl
 
 -- a bid within all limits has no fault
 
-single-one : (k : Kind) (n : ℕ) → n ≤ mostWindows k → isSingle k && ltb 1 n ≡ false
-unfolding mostWindows isSingle
-single-one Single n l = le-ltb 1 n l
-single-one Multi n l = refl
+single_one : (k : Kind) (n : ℕ) → n ≤ most_windows k → is_single k && ltb 1 n ≡ false
+unfolding most_windows is_single
+single_one Single n l = le-ltb 1 n l
+single_one Multi n l = refl
 
-pub most-few : (k : Kind) → mostWindows k ≤ 32
-unfolding mostWindows
-most-few Single = omega arith
-most-few Multi = omega arith
+pub most_few : (k : Kind) → most_windows k ≤ 32
+unfolding most_windows
+most_few Single = omega arith
+most_few Multi = omega arith
 
-pub no-fault : (t : Tender) (bids bidder price count : ℕ) (empty late used : Bool) → bids < 1000
-    → count ≤ mostWindows t.kind → 1 ≤ bidder
+pub no_fault : (t : Tender) (bids bidder price count : ℕ) (empty late used : Bool) → bids < 1000
+    → count ≤ most_windows t.kind → 1 ≤ bidder
     → bidder ≤ 999999 → price ≤ 100000000 → empty ≡ false → late ≡ false → used ≡ false →
-    bidFaultIn t bids bidder price count empty late used ≡ none
-unfolding bidFaultIn lineFault within
-no-fault t bids bidder price count empty late used a b c d e f g h = rw (
+    bid_fault_in t bids bidder price count empty late used ≡ none
+unfolding bid_fault_in line_fault within
+no_fault t bids bidder price count empty late used a b c d e f g h = rw (
   lt-leb 1000 bids a,
-  le-ltb 32 count (omega (arith, most-few t.kind)),
+  le-ltb 32 count (omega (arith, most_few t.kind)),
   le-leb 1 bidder c,
   le-leb bidder 999999 d,
   le-ltb 100000000 price e,
-  single-one t.kind count b,
+  single_one t.kind count b,
   f,
   g,
   h,

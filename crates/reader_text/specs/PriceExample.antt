@@ -5,25 +5,25 @@ use Rattle.tender.specs.declared.Kind.TheVariants.{Single}
 use Rattle.tender.specs.declared.Reserve.TheVariants.{Price}
 use Rattle.tender.specs.declared.Refusal.TheVariants.{BadForm, OutsideLimits, ReserveMisplaced}
 use Rattle.tender.specs.Keywords.{bytes}
-use Rattle.tender.specs.Plain.{plainTender}
-use Rattle.reader_text.specs.Read.{ReadOutcome, accepted, refused, readText}
+use Rattle.tender.specs.Plain.{plain_tender}
+use Rattle.reader_text.specs.Read.{ReadOutcome, accepted, refused, read_text}
 
 read : String → ReadOutcome
-unfolding bytes readText
-read s = readText (bytes s)
+unfolding bytes read_text
+read s = read_text (bytes s)
 
 -- what reading answers where the word is the price of a bid, and where it is the reserve of a text without bids
 price : String → ReadOutcome × ReadOutcome
-unfolding bytes readText
+unfolding bytes read_text
 price w = (
-  readText (bytes "(tender single 0 100)\n(bid 11 " ++ bytes w ++ bytes " (0 50))\n"),
-  readText (bytes "(tender single 0 100)\n(reserve " ++ bytes w ++ bytes ")\n"),
+  read_text (bytes "(tender single 0 100)\n(bid 11 " ++ bytes w ++ bytes " (0 50))\n"),
+  read_text (bytes "(tender single 0 100)\n(reserve " ++ bytes w ++ bytes ")\n"),
 )
 
 -- either is read as so many cents
 cents : ℕ → ReadOutcome × ReadOutcome
 cents p = (
-  accepted (plainTender Single 0 100) (record { bidder = 11; price = p; first = 0; count = 1 } ∷ [])
+  accepted (plain_tender Single 0 100) (record { bidder = 11; price = p; first = 0; count = 1 } ∷ [])
       (record { start = 0; end = 50 } ∷ []),
   accepted (record { kind = Single; window = record { start = 0; end = 100 }; reserve = Price p }) [] [],
 )
@@ -36,118 +36,118 @@ high = (refused (OutsideLimits 2), refused (OutsideLimits 2))
 misspelt : ReadOutcome × ReadOutcome
 misspelt = (refused (BadForm 2), refused (BadForm 2))
 
-two-fifty : price "2.50" ≡ cents 250
+two_fifty : price "2.50" ≡ cents 250
 unfolding price cents
-two-fifty = refl
+two_fifty = refl
 
-whole-cents : price "250" ≡ cents 250
+whole_cents : price "250" ≡ cents 250
 unfolding price cents
-whole-cents = refl
+whole_cents = refl
 
-five-cents : price "0.05" ≡ cents 5
+five_cents : price "0.05" ≡ cents 5
 unfolding price cents
-five-cents = refl
+five_cents = refl
 
 nothing : price "0.00" ≡ cents 0
 unfolding price cents
 nothing = refl
 
-a-cent-short : price "999999.99" ≡ cents 99999999
+a_cent_short : price "999999.99" ≡ cents 99999999
 unfolding price cents
-a-cent-short = refl
+a_cent_short = refl
 
-at-the-limit : price "1000000.00" ≡ cents 100000000
+at_the_limit : price "1000000.00" ≡ cents 100000000
 unfolding price cents
-at-the-limit = refl
+at_the_limit = refl
 
-a-cent-above : price "1000000.01" ≡ high
+a_cent_above : price "1000000.01" ≡ high
 unfolding price high
-a-cent-above = refl
+a_cent_above = refl
 
-seven-digits : price "9999999.99" ≡ high
+seven_digits : price "9999999.99" ≡ high
 unfolding price high
-seven-digits = refl
+seven_digits = refl
 
-no-digit-before : price ".50" ≡ misspelt
+no_digit_before : price ".50" ≡ misspelt
 unfolding price misspelt
-no-digit-before = refl
+no_digit_before = refl
 
-no-digit-after : price "2." ≡ misspelt
+no_digit_after : price "2." ≡ misspelt
 unfolding price misspelt
-no-digit-after = refl
+no_digit_after = refl
 
-one-digit-after : price "2.5" ≡ misspelt
+one_digit_after : price "2.5" ≡ misspelt
 unfolding price misspelt
-one-digit-after = refl
+one_digit_after = refl
 
-three-digits-after : price "2.500" ≡ misspelt
+three_digits_after : price "2.500" ≡ misspelt
 unfolding price misspelt
-three-digits-after = refl
+three_digits_after = refl
 
-leading-zero : price "02.50" ≡ misspelt
+leading_zero_lem : price "02.50" ≡ misspelt
 unfolding price misspelt
-leading-zero = refl
+leading_zero_lem = refl
 
-two-zeros : price "00.50" ≡ misspelt
+two_zeros : price "00.50" ≡ misspelt
 unfolding price misspelt
-two-zeros = refl
+two_zeros = refl
 
-eight-digits : price "12345678.00" ≡ misspelt
+eight_digits : price "12345678.00" ≡ misspelt
 unfolding price misspelt
-eight-digits = refl
+eight_digits = refl
 
-two-points : price "2.5.0" ≡ misspelt
+two_points : price "2.5.0" ≡ misspelt
 unfolding price misspelt
-two-points = refl
+two_points = refl
 
-points-beside : price "2..50" ≡ misspelt
+points_beside : price "2..50" ≡ misspelt
 unfolding price misspelt
-points-beside = refl
+points_beside = refl
 
-point-last : price "2.50." ≡ misspelt
+point_last : price "2.50." ≡ misspelt
 unfolding price misspelt
-point-last = refl
+point_last = refl
 
-point-alone : price "." ≡ misspelt
+point_alone : price "." ≡ misspelt
 unfolding price misspelt
-point-alone = refl
+point_alone = refl
 
 comma : price "2,50" ≡ misspelt
 unfolding price misspelt
 comma = refl
 
-letter-after : price "2.5x" ≡ misspelt
+letter_after : price "2.5x" ≡ misspelt
 unfolding price misspelt
-letter-after = refl
+letter_after = refl
 
-sign-before : price "-2.50" ≡ misspelt
+sign_before : price "-2.50" ≡ misspelt
 unfolding price misspelt
-sign-before = refl
+sign_before = refl
 
 -- a point in another number
 
-bidder-with-point : read "(tender single 0 100)\n(bid 1.00 30 (0 50))\n" ≡ refused (BadForm 2)
+bidder_with_point : read "(tender single 0 100)\n(bid 1.00 30 (0 50))\n" ≡ refused (BadForm 2)
 unfolding read
-bidder-with-point = refl
+bidder_with_point = refl
 
-start-with-point : read "(tender single 0 100)\n(bid 11 30 (0.00 5))\n" ≡ refused (BadForm 2)
+start_with_point : read "(tender single 0 100)\n(bid 11 30 (0.00 5))\n" ≡ refused (BadForm 2)
 unfolding read
-start-with-point = refl
+start_with_point = refl
 
-end-with-point : read "(tender single 0 100)\n(bid 11 30 (0 5.00))\n" ≡ refused (BadForm 2)
+end_with_point : read "(tender single 0 100)\n(bid 11 30 (0 5.00))\n" ≡ refused (BadForm 2)
 unfolding read
-end-with-point = refl
+end_with_point = refl
 
-tender-start-with-point : read "(tender single 0.00 5)\n" ≡ refused (BadForm 1)
+tender_start_with_point : read "(tender single 0.00 5)\n" ≡ refused (BadForm 1)
 unfolding read
-tender-start-with-point = refl
+tender_start_with_point = refl
 
 -- near misses: the reserve stands after a bid, and its price is above the limit, or has not the form
 
-reserve-late-and-high : read "(tender single 0 100)\n(bid 11 2.50 (0 50))\n(reserve 1000000.01)\n" ≡ refused (ReserveMisplaced 3)
+reserve_late_and_high : read "(tender single 0 100)\n(bid 11 2.50 (0 50))\n(reserve 1000000.01)\n" ≡ refused (ReserveMisplaced 3)
 unfolding read
-reserve-late-and-high = refl
+reserve_late_and_high = refl
 
-reserve-late-and-unformed : read "(tender single 0 100)\n(bid 11 2.50 (0 50))\n(reserve 50.0)\n" ≡ refused (BadForm 3)
+reserve_late_and_unformed : read "(tender single 0 100)\n(bid 11 2.50 (0 50))\n(reserve 50.0)\n" ≡ refused (BadForm 3)
 unfolding read
-reserve-late-and-unformed = refl
+reserve_late_and_unformed = refl

@@ -9,80 +9,80 @@ use Rattle.tender.specs.declared.Reserve.TheVariants.{Price}
 use Rattle.tender.specs.declared.Tender.{Tender}
 use Rattle.tender.specs.declared.Refusal.{Refusal}
 use Rattle.tender.specs.declared.Refusal.TheVariants.{BadForm, OutsideLimits}
-use Rattle.tender.specs.Limits.{maxPrice}
+use Rattle.tender.specs.Limits.{max_price}
 use Rattle.reader_forms.specs.Line.{TenderLine, Line, tender, bid, reserve}
-use Rattle.reader_text.specs.Read.{ReadOutcome, accepted, refused, bidsOf, tenderFault, bidFault, judgedBy, checked, tables}
-use Rattle.reader_text.specs.Read.{Head, begun, halted, tenderWith, reserveIn, head_of, readLines}
-use Rattle.reader_text.specs.ReadLaws.{checked-bids}
-use Rattle.reader_text.specs.HeadLaws.{lines-halted, lines-begun}
+use Rattle.reader_text.specs.Read.{ReadOutcome, accepted, refused, bids_of, tender_fault, bid_fault, judged_by, checked, tables}
+use Rattle.reader_text.specs.Read.{Head, begun, halted, tender_with, reserve_in, head_of, read_lines}
+use Rattle.reader_text.specs.ReadLaws.{checked_bids}
+use Rattle.reader_text.specs.HeadLaws.{lines_halted, lines_begun}
 
 -- the head with one line of no form more
-withRest : Head → Head
-withRest (begun t from ls) = begun t from (ls ++ none ∷ [])
-withRest (halted r) = halted r
+with_rest : Head → Head
+with_rest (begun t from ls) = begun t from (ls ++ none ∷ [])
+with_rest (halted r) = halted r
 
-reserve-rest : (t : TenderLine) (at : ℕ) (ls : List (Option Line)) → reserveIn t at (ls ++ none ∷ []) ≡ withRest (reserveIn t at ls)
-unfolding reserveIn withRest
-reserve-rest t at [] = refl
-reserve-rest t at (none ∷ ls) = refl
-reserve-rest t at (some (tender u) ∷ ls) = refl
-reserve-rest t at (some (bid b) ∷ ls) = refl
-reserve-rest t at (some (reserve p) ∷ ls) = go (leb p maxPrice)
+reserve_rest : (t : TenderLine) (at : ℕ) (ls : List (Option Line)) → reserve_in t at (ls ++ none ∷ []) ≡ with_rest (reserve_in t at ls)
+unfolding reserve_in with_rest
+reserve_rest t at [] = refl
+reserve_rest t at (none ∷ ls) = refl
+reserve_rest t at (some (tender u) ∷ ls) = refl
+reserve_rest t at (some (bid b) ∷ ls) = refl
+reserve_rest t at (some (reserve p) ∷ ls) = go (leb p max_price)
   where
-    go : (q : Bool) → cond q (begun (tenderWith t (Price p)) (at + 1) (ls ++ none ∷ [])) (halted (OutsideLimits at))
-        ≡ withRest (cond q (begun (tenderWith t (Price p)) (at + 1) ls) (halted (OutsideLimits at)))
+    go : (q : Bool) → cond q (begun (tender_with t (Price p)) (at + 1) (ls ++ none ∷ [])) (halted (OutsideLimits at))
+        ≡ with_rest (cond q (begun (tender_with t (Price p)) (at + 1) ls) (halted (OutsideLimits at)))
     go true = refl
     go false = refl
 
-head-rest : (ls : List (Option Line)) → head_of (ls ++ none ∷ []) ≡ withRest (head_of ls)
-unfolding head_of withRest judgedBy
-head-rest [] = refl
-head-rest (none ∷ ls) = refl
-head-rest (some (bid b) ∷ ls) = refl
-head-rest (some (reserve p) ∷ ls) = refl
-head-rest (some (tender t) ∷ ls) = go (tenderFault t)
+head_rest : (ls : List (Option Line)) → head_of (ls ++ none ∷ []) ≡ with_rest (head_of ls)
+unfolding head_of with_rest judged_by
+head_rest [] = refl
+head_rest (none ∷ ls) = refl
+head_rest (some (bid b) ∷ ls) = refl
+head_rest (some (reserve p) ∷ ls) = refl
+head_rest (some (tender t) ∷ ls) = go (tender_fault t)
   where
-    go : (f : Option (ℕ → Refusal)) → judgedBy halted f 1 (reserveIn t 2 (ls ++ none ∷ []))
-        ≡ withRest (judgedBy halted f 1 (reserveIn t 2 ls))
-    go none = reserve-rest t 2 ls
+    go : (f : Option (ℕ → Refusal)) → judged_by halted f 1 (reserve_in t 2 (ls ++ none ∷ []))
+        ≡ with_rest (judged_by halted f 1 (reserve_in t 2 ls))
+    go none = reserve_rest t 2 ls
     go (some f) = refl
 
-checked-rest : (t : Tender) (at : ℕ) (used : List ℕ) (ls : List (Option Line)) (out : ReadOutcome)
+checked_rest : (t : Tender) (at : ℕ) (used : List ℕ) (ls : List (Option Line)) (out : ReadOutcome)
     → checked t at used (ls ++ none ∷ []) out ≡ checked t at used ls (refused (BadForm (at + length ls)))
 unfolding checked
-checked-rest t at used [] out = let e : at ≡ at + 0 = omega arith in ap (λ n. refused (BadForm n)) e
-checked-rest t at used (none ∷ ls) out = refl
-checked-rest t at used (some (tender u) ∷ ls) out = refl
-checked-rest t at used (some (reserve p) ∷ ls) out = refl
-checked-rest t at used (some (bid b) ∷ ls) out =
+checked_rest t at used [] out = let e : at ≡ at + 0 = omega arith in ap (λ n. refused (BadForm n)) e
+checked_rest t at used (none ∷ ls) out = refl
+checked_rest t at used (some (tender u) ∷ ls) out = refl
+checked_rest t at used (some (reserve p) ∷ ls) out = refl
+checked_rest t at used (some (bid b) ∷ ls) out =
     let e : at + 1 + length ls ≡ at + suc (length ls) = omega arith in
-    ap (judgedBy refused (bidFault t used b) at) (checked-rest t (at + 1) (used ++ b.bidder ∷ []) ls out
+    ap (judged_by refused (bid_fault t used b) at) (checked_rest t (at + 1) (used ++ b.bidder ∷ []) ls out
     ∙ ap (λ n. checked t (at + 1) (used ++ b.bidder ∷ []) ls (refused (BadForm n))) e)
 
 -- faultless lines are bids
-faultless-count : (t : Tender) (at : ℕ) (ls : List (Option Line)) → ((out : ReadOutcome) → checked t at [] ls out ≡ out)
-    → length ls ≡ length (bidsOf ls)
-faultless-count t at ls h =
-    ap length (checked-bids t [] [] t at [] ls (accepted t [] []) (h (accepted t [] []))) ∙ length-map (bidsOf ls) (λ b. some (bid b))
+faultless_count : (t : Tender) (at : ℕ) (ls : List (Option Line)) → ((out : ReadOutcome) → checked t at [] ls out ≡ out)
+    → length ls ≡ length (bids_of ls)
+faultless_count t at ls h =
+    ap length (checked_bids t [] [] t at [] ls (accepted t [] []) (h (accepted t [] []))) ∙ length-map (bids_of ls) (λ b. some (bid b))
 
 module _ (ls : List (Option Line)) where
-  pub halted-rest : (r : Refusal) → head_of ls ≡ halted r → readLines (ls ++ none ∷ []) ≡ refused r
-  unfolding withRest
-  halted-rest r e = lines-halted (ls ++ none ∷ []) r (head-rest ls ∙ ap withRest e)
+  pub halted_rest : (r : Refusal) → head_of ls ≡ halted r → read_lines (ls ++ none ∷ []) ≡ refused r
+  unfolding with_rest
+  halted_rest r e = lines_halted (ls ++ none ∷ []) r (head_rest ls ∙ ap with_rest e)
 
   module _ (t : Tender) (from : ℕ) (bids : List (Option Line)) (e : head_of ls ≡ begun t from bids) where
-    begun-rest : readLines (ls ++ none ∷ []) ≡ checked t from [] bids (refused (BadForm (from + length bids)))
-    unfolding withRest
-    begun-rest = lines-begun (ls ++ none ∷ []) t from (bids ++ none ∷ []) (head-rest ls ∙ ap withRest e)
-        ∙ checked-rest t from [] bids (tables t (bidsOf (bids ++ none ∷ [])))
+    begun_rest : read_lines (ls ++ none ∷ []) ≡ checked t from [] bids (refused (BadForm (from + length bids)))
+    unfolding with_rest
+    begun_rest = lines_begun (ls ++ none ∷ []) t from (bids ++ none ∷ []) (head_rest ls ∙ ap with_rest e)
+        ∙ checked_rest t from [] bids (tables t (bids_of (bids ++ none ∷ [])))
 
     -- a faulty line comes first
-    pub faulty-rest : (r : Refusal) → ((out : ReadOutcome) → checked t from [] bids out ≡ refused r)
-        → readLines (ls ++ none ∷ []) ≡ refused r
-    faulty-rest r h = begun-rest ∙ h (refused (BadForm (from + length bids)))
+    pub faulty_rest : (r : Refusal) → ((out : ReadOutcome) → checked t from [] bids out ≡ refused r)
+        → read_lines (ls ++ none ∷ []) ≡ refused r
+    faulty_rest r h = begun_rest ∙ h (refused (BadForm (from + length bids)))
 
     -- else it is told by its own number
-    pub faultless-rest : (k : ℕ) → length (bidsOf bids) ≡ k → ((out : ReadOutcome) → checked t from [] bids out ≡ out)
-        → readLines (ls ++ none ∷ []) ≡ refused (BadForm (from + k))
-    faultless-rest k c h = begun-rest ∙ h (refused (BadForm (from + length bids)))
-        ∙ ap (λ n. refused (BadForm (from + n))) (faultless-count t from bids h ∙ c)
+    pub faultless_rest : (k : ℕ) → length (bids_of bids) ≡ k → ((out : ReadOutcome) → checked t from [] bids out ≡ out)
+        → read_lines (ls ++ none ∷ []) ≡ refused (BadForm (from + k))
+    faultless_rest k c h = begun_rest ∙ h (refused (BadForm (from + length bids)))
+        ∙ ap (λ n. refused (BadForm (from + n))) (faultless_count t from bids h ∙ c)

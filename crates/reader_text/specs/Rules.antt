@@ -10,13 +10,13 @@ use Rattle.reader_parts.specs.Words.{among}
 
 -- a row after rows with the bidder numbers `used`, whose windows end at `at`
 pub record RowRules (k : Kind) (used : List ℕ) (at : ℕ) (r : Row) : Type 0 where
-  pub bidder-low : 1 ≤ r.bidder
-  pub bidder-high : r.bidder ≤ 999999
-  pub bidder-new : among r.bidder used ≡ false
-  pub price-high : r.price ≤ 100000000
-  pub some-window : 1 ≤ r.count
-  pub few-windows : r.count ≤ 32
-  pub one-window : k ≡ Single → r.count ≡ 1
+  pub bidder_low : 1 ≤ r.bidder
+  pub bidder_high : r.bidder ≤ 999999
+  pub bidder_new : among r.bidder used ≡ false
+  pub price_high : r.price ≤ 100000000
+  pub some_window : 1 ≤ r.count
+  pub few_windows : r.count ≤ 32
+  pub one_window : k ≡ Single → r.count ≡ 1
   pub begins : r.first ≡ at
 
 -- the windows of the last row end at `end`
@@ -30,11 +30,11 @@ WindowsRules (w ∷ ws) = WindowRules w × WindowsRules ws
 
 pub record Rules (t : Tender) (R : List Row) (W : List Window) : Type 0 where
   pub tender : TenderRules t
-  pub few-bids : length R ≤ 1000
+  pub few_bids : length R ≤ 1000
   pub rows : RowsRules t.kind [] 0 R (length W)
   pub windows : WindowsRules W
 
 -- how many of the bytes are d
-unfoldable pub bytesLike : ℕ → List ℕ → ℕ
-bytesLike d [] = 0
-bytesLike d (b ∷ s) = cond (eqb b d) 1 0 + bytesLike d s
+unfoldable pub bytes_like : ℕ → List ℕ → ℕ
+bytes_like d [] = 0
+bytes_like d (b ∷ s) = cond (eqb b d) 1 0 + bytes_like d s

@@ -1,2 +1,2 @@
 -- What of a text's words the layers above cite.
-unfoldable pub use Rattle.reader_parts.specs.Words.{among, numeralOf, priceOf}
+unfoldable pub use Rattle.reader_parts.specs.Words.{among, numeral_of, price_of}

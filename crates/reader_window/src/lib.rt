@@ -1,8 +1,10 @@
 // A window of a bid text: its two numbers, read from a place on, and what is wrong with it.
+#![tactic(auto)]
+
 ghost use Rattle.std.specs.Prelude.{◌≡◌, ◌<◌, drop, length};
 ghost use Rattle.reader_parts.specs.Scan.{Ended};
-ghost use Rattle.reader_parts.specs.Front.{spanFront, windowFront};
-ghost use Rattle.reader_parts.specs.Flaws.{flawIn, worst};
+ghost use Rattle.reader_parts.specs.Front.{span_front, window_front};
+ghost use Rattle.reader_parts.specs.Flaws.{flaw_in, worst};
 ghost use Rattle.reader_parts.specs.Answer.{SpanIs, WindowIs};
 
 use reader_parts::{Ends, Flaw, Number};
@@ -11,7 +13,7 @@ use reader_word::read_number;
 // "S E)" from `at` on.
 pub fn read_span(s: &[u8], at: usize) -> Ends
     requires { (at < length s.now) × Ended s.now }
-    ensures { SpanIs (spanFront (drop at s.now)) s.now at result }
+    ensures { SpanIs (span_front (drop at s.now)) s.now at result }
 {
     let Number::Of(a, p) = read_number(s, at) else {
         return Ends::Wrong;
@@ -31,7 +33,7 @@ pub fn read_span(s: &[u8], at: usize) -> Ends
 // " (S E)" from `at` on.
 pub fn read_window(s: &[u8], at: usize) -> Ends
     requires { (at < length s.now) × Ended s.now }
-    ensures { WindowIs (windowFront (drop at s.now)) s.now at result }
+    ensures { WindowIs (window_front (drop at s.now)) s.now at result }
 {
     if s[at] != b' ' {
         return Ends::Wrong;
@@ -44,7 +46,7 @@ pub fn read_window(s: &[u8], at: usize) -> Ends
 
 // What is wrong with the window from a to z.
 pub fn flaw_in(a: u64, z: u64) -> Flaw
-    ensures { result ≡ flawIn (record { start = a; end = z }) }
+    ensures { result ≡ flaw_in (record { start = a; end = z }) }
 {
     if a < z {
         if z <= tender::WEEK {
@@ -59,7 +61,7 @@ pub fn flaw_in(a: u64, z: u64) -> Flaw
 
 // What is wrong with windows, with one more.
 pub fn worse(flaw: Flaw, a: u64, z: u64) -> Flaw
-    ensures { result ≡ worst flaw (flawIn (record { start = a; end = z })) }
+    ensures { result ≡ worst flaw (flaw_in (record { start = a; end = z })) }
 {
     if z <= a {
         return Flaw::Empty;

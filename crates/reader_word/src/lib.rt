@@ -1,8 +1,10 @@
 // The keywords and numbers of a bid text whose last byte is 10, each read from a place on. No byte 10 is in a keyword or a number, so
 // that no loop here runs past the text.
+#![tactic(auto)]
+
 ghost use Rattle.std.specs.Prelude.{◌≡◌, true, [], ◌∷◌, ◌++◌, ◌+◌, ◌<◌, drop, get_or, length};
 ghost use Rattle.reader_parts.specs.Scan.{Ended, lettered, starts_with};
-ghost use Rattle.reader_parts.specs.Front.{digitFront, digitsFront, centsFront, numberFront, priceFront};
+ghost use Rattle.reader_parts.specs.Front.{digit_front, digits_front, cents_front, number_front, price_front};
 ghost use Rattle.reader_parts.specs.Answer.{NumberIs};
 
 use reader_parts::Number;
@@ -40,7 +42,7 @@ pub fn stands(s: &[u8], at: usize, word: &[u8]) -> bool
 // The digits from `at` on, after those of value `first`, nine in all: nine without a leading zero make 100,000,000 at least.
 fn digits(s: &[u8], at: usize, first: u64) -> Number
     requires { (at < length s.now) × Ended s.now }
-    ensures { NumberIs (digitsFront first (drop at s.now)) s.now at result }
+    ensures { NumberIs (digits_front first (drop at s.now)) s.now at result }
 {
     let mut v = first;
     let mut i = at;
@@ -62,7 +64,7 @@ fn digits(s: &[u8], at: usize, first: u64) -> Number
 // The number at `at`: 1 to 9 digits and no leading zero, except 0 itself. The byte after it is the caller's to judge.
 pub fn read_number(s: &[u8], at: usize) -> Number
     requires { (at < length s.now) × Ended s.now }
-    ensures { NumberIs (numberFront (drop at s.now)) s.now at result }
+    ensures { NumberIs (number_front (drop at s.now)) s.now at result }
 {
     let b = s[at];
     match b {
@@ -75,7 +77,7 @@ pub fn read_number(s: &[u8], at: usize) -> Number
 // One more digit at `at`, after those of value `v`.
 fn read_digit(s: &[u8], at: usize, v: u64) -> Number
     requires { (at < length s.now) × Ended s.now × (v < 100000000) }
-    ensures { NumberIs (digitFront v (drop at s.now)) s.now at result }
+    ensures { NumberIs (digit_front v (drop at s.now)) s.now at result }
 {
     let b = s[at];
     match b {
@@ -87,7 +89,7 @@ fn read_digit(s: &[u8], at: usize, v: u64) -> Number
 // The point at `at` and two digits, after the number `whole`, which has seven digits at the most.
 fn read_cents(s: &[u8], at: usize, whole: u64) -> Number
     requires { (at < length s.now) × Ended s.now × (get_or s.now at 0 ≡ 46) }
-    ensures { NumberIs (centsFront whole (drop at s.now)) s.now at result }
+    ensures { NumberIs (cents_front whole (drop at s.now)) s.now at result }
 {
     if 10000000 <= whole {
         return Number::Bad;
@@ -101,7 +103,7 @@ fn read_cents(s: &[u8], at: usize, whole: u64) -> Number
 // The price at `at`, in cents: a number of them, or a number, a point and two digits.
 pub fn read_price(s: &[u8], at: usize) -> Number
     requires { (at < length s.now) × Ended s.now }
-    ensures { NumberIs (priceFront (drop at s.now)) s.now at result }
+    ensures { NumberIs (price_front (drop at s.now)) s.now at result }
 {
     let Number::Of(x, p) = read_number(s, at) else {
         return Number::Bad;

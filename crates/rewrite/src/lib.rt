@@ -1,6 +1,8 @@
 // A bid text rewritten in one spelling: reads it and writes what was read. `tender_rewrite` is the entry point for a host program in
 // C (include/tender.h). `specs/Rewritten.antt` says what a text is rewritten to.
-ghost use Rattle.spelling.specs.Lines.{refusedLine};
+#![tactic(auto)]
+
+ghost use Rattle.spelling.specs.Lines.{refused_line};
 ghost use Rattle.spelling.specs.Delivered.{Delivered};
 ghost use Rattle.rewrite.specs.Rewritten.{Delivers, Rewritten};
 
@@ -10,7 +12,7 @@ use writer::Writing;
 
 // The line of a refusal, where there is room.
 fn deliver_refusal(refusal: Refusal, out: &mut [u8]) -> usize
-    ensures { Delivered (refusedLine refusal) out.old out.new result }
+    ensures { Delivered (refused_line refusal) out.old out.new result }
 {
     let mut line = [1u8; 52];
     let n = spelling_put::put_refused(&mut line, refusal);

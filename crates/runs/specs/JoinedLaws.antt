@@ -5,59 +5,59 @@ use Rattle.std.proofs.Math.Path.{fun_ext}
 use Rattle.std.proofs.lemmas.Bool.{false≢true}
 use Rattle.tender.specs.declared.Window.{Window}
 use Rattle.tender.specs.Limits.{every, lawful}
-use Rattle.tender.specs.RulesLaws.{every-split}
+use Rattle.tender.specs.RulesLaws.{every_split}
 use Rattle.cover.specs.SetLaws.{and_split}
 use Rattle.award_check.specs.Cells.{holds}
 use Rattle.runs.specs.Runs.{runs, joined}
-use Rattle.runs.specs.RunsLaws.{Between, runs-between, runs-hold}
+use Rattle.runs.specs.RunsLaws.{Between, runs_between, runs_hold}
 
 -- lawful windows hold no minute past the week
-pub holds-early : (ws : List Window) (m : ℕ) → every lawful ws ≡ true → holds ws m ≡ true → m < 10080
+pub holds_early : (ws : List Window) (m : ℕ) → every lawful ws ≡ true → holds ws m ≡ true → m < 10080
 unfolding lawful holds
-holds-early [] m e h = absurd (false≢true h)
-holds-early (w ∷ ws) m e h =
-    let a = every-split lawful w ws e in
+holds_early [] m e h = absurd (false≢true h)
+holds_early (w ∷ ws) m e h =
+    let a = every_split lawful w ws e in
     let b = and_split (ltb w.start w.end) (leb w.end 10080) a.0 in
-    go (leb w.start m && ltb m w.end) refl (leb-true w.end 10080 b.1) h (holds-early ws m a.1)
+    go (leb w.start m && ltb m w.end) refl (leb-true w.end 10080 b.1) h (holds_early ws m a.1)
   where
     go : (t : Bool) → leb w.start m && ltb m w.end ≡ t → w.end ≤ 10080 → t || holds ws m ≡ true
         → (holds ws m ≡ true → m < 10080) → m < 10080
     go true f l x ih = omega (arith, ltb-true m w.end (and_split (leb w.start m) (ltb m w.end) f).1)
     go false f l x ih = ih x
 
-pub joined-holds : (ws : List Window) (m : ℕ) → every lawful ws ≡ true → holds (joined ws) m ≡ holds ws m
+pub joined_holds : (ws : List Window) (m : ℕ) → every lawful ws ≡ true → holds (joined ws) m ≡ holds ws m
 unfolding joined
-joined-holds ws m e = runs-hold (holds ws) 0 10080 m ∙ go (holds ws m) refl
+joined_holds ws m e = runs_hold (holds ws) 0 10080 m ∙ go (holds ws m) refl
   where
     go : (t : Bool) → holds ws m ≡ t → ((leb 0 m && ltb m (0 + 10080)) && t) ≡ t
-    go true f = rw (le-leb 0 m (omega arith), lt-ltb m 10080 (holds-early ws m e f))
+    go true f = rw (le-leb 0 m (omega arith), lt-ltb m 10080 (holds_early ws m e f))
     go false f = none (leb 0 m && ltb m 10080)
       where
         none : (b : Bool) → (b && false) ≡ false
         none true = refl
         none false = refl
 
-between-lawful : (a : ℕ) (ws : List Window) → Between a 10080 ws → every lawful ws ≡ true
+between_lawful : (a : ℕ) (ws : List Window) → Between a 10080 ws → every lawful ws ≡ true
 unfolding every lawful
-between-lawful a [] h = refl
-between-lawful a (w ∷ ws) h = rw (lt-ltb w.start w.end h.0.1.0, le-leb w.end 10080 h.0.1.1)
-    (between-lawful a ws h.1)
+between_lawful a [] h = refl
+between_lawful a (w ∷ ws) h = rw (lt-ltb w.start w.end h.0.1.0, le-leb w.end 10080 h.0.1.1)
+    (between_lawful a ws h.1)
 
-pub joined-lawful : (ws : List Window) → every lawful (joined ws) ≡ true
+pub joined_lawful : (ws : List Window) → every lawful (joined ws) ≡ true
 unfolding joined
-joined-lawful ws = between-lawful 0 (runs (holds ws) 0 10080) (runs-between (holds ws) 0 10080)
+joined_lawful ws = between_lawful 0 (runs (holds ws) 0 10080) (runs_between (holds ws) 0 10080)
 
-first-held : (w : Window) (ws : List Window) → lawful w ≡ true → holds (w ∷ ws) w.start ≡ true
+first_held : (w : Window) (ws : List Window) → lawful w ≡ true → holds (w ∷ ws) w.start ≡ true
 unfolding holds lawful
-first-held w ws e = rw (le-leb w.start w.start (omega arith), (and_split (ltb w.start w.end) (leb w.end 10080) e).0)
+first_held w ws e = rw (le-leb w.start w.start (omega arith), (and_split (ltb w.start w.end) (leb w.end 10080) e).0)
 
 -- there is a window
-pub joined-some : (ws : List Window) → every lawful ws ≡ true → 0 < length ws
+pub joined_some : (ws : List Window) → every lawful ws ≡ true → 0 < length ws
     → (w : Window) × (vs : List Window) × (joined ws ≡ w ∷ vs)
 unfolding holds
-joined-some [] e l = absurd (omega arith)
-joined-some (w ∷ ws) e l = go (joined (w ∷ ws)) refl (joined-holds (w ∷ ws) w.start e
-    ∙ first-held w ws (every-split lawful w ws e).0)
+joined_some [] e l = absurd (omega arith)
+joined_some (w ∷ ws) e l = go (joined (w ∷ ws)) refl (joined_holds (w ∷ ws) w.start e
+    ∙ first_held w ws (every_split lawful w ws e).0)
   where
     go : (vs : List Window) → joined (w ∷ ws) ≡ vs → holds (joined (w ∷ ws)) w.start ≡ true
         → (v : Window) × (us : List Window) × (joined (w ∷ ws) ≡ v ∷ us)
@@ -70,6 +70,6 @@ unfolding joined
 joined_same ws vs h = ap (λ (P : ℕ → Bool). runs P 0 10080) (fun_ext h)
 
 -- before the first minute all runs are left
-pub joined-runs : (ws : List Window) → joined ws ≡ runs (holds ws) 0 (10080 - 0)
+pub joined_runs : (ws : List Window) → joined ws ≡ runs (holds ws) 0 (10080 - 0)
 unfolding joined
-joined-runs ws = let e : 10080 ≡ 10080 - 0 = omega arith in ap (λ (n : ℕ). runs (holds ws) 0 n) e
+joined_runs ws = let e : 10080 ≡ 10080 - 0 = omega arith in ap (λ (n : ℕ). runs (holds ws) 0 n) e

@@ -3,7 +3,7 @@ use Rattle.std.specs.Prelude.{◌≡◌, refl, Bool, true, false, cond, List, []
 use Rattle.std.proofs.Common.{ap, ◌∙◌, arith, eq-eqb}
 use Rattle.tender.specs.declared.Window.{Window}
 use Rattle.runs.specs.Runs.{extended, runs}
-use Rattle.runs.specs.RunsFewLaws.{beginsHere, startsHere, runs-start}
+use Rattle.runs.specs.RunsFewLaws.{begins_here, starts_here, runs_start}
 
 -- k minutes that do not pass
 pub runs_skip : (P : ℕ → Bool) (at k n : ℕ) → ((m : ℕ) → at ≤ m → m < at + k → P m ≡ false)
@@ -22,31 +22,31 @@ pub runs_none : (P : ℕ → Bool) (at n : ℕ) → ((m : ℕ) → at ≤ m → 
 unfolding runs
 runs_none P at n h = let a : n ≡ n + 0 = omega arith in ap (runs P at) a ∙ runs_skip P at n 0 h
 
-extended-apart : (at : ℕ) (ws : List Window) → startsHere (at + 1) ws ≡ false
+extended_apart : (at : ℕ) (ws : List Window) → starts_here (at + 1) ws ≡ false
     → extended at ws ≡ record { start = at; end = at + 1 } ∷ ws
 unfolding extended
-extended-apart at [] e = refl
-extended-apart at (w ∷ ws) e = rw e
+extended_apart at [] e = refl
+extended_apart at (w ∷ ws) e = rw e
 
-extended-next : (at z : ℕ) (ws : List Window)
+extended_next : (at z : ℕ) (ws : List Window)
     → extended at (record { start = at + 1; end = z } ∷ ws) ≡ record { start = at; end = z } ∷ ws
 unfolding extended
-extended-next at z ws = rw (eq-eqb (at + 1) (at + 1) refl)
+extended_next at z ws = rw (eq-eqb (at + 1) (at + 1) refl)
 
 -- k + 1 minutes that pass, up to the end or one that does not
-pub runs-run : (P : ℕ → Bool) (at k n : ℕ) → ((m : ℕ) → at ≤ m → m < at + suc k → P m ≡ true)
-    → beginsHere P (at + suc k) n ≡ false → runs P at (suc k + n) ≡ record { start = at; end = at + suc k } ∷ runs P
+pub runs_run : (P : ℕ → Bool) (at k n : ℕ) → ((m : ℕ) → at ≤ m → m < at + suc k → P m ≡ true)
+    → begins_here P (at + suc k) n ≡ false → runs P at (suc k + n) ≡ record { start = at; end = at + suc k } ∷ runs P
     (at + suc k) n
 unfolding runs
-runs-run P at zero n h e =
+runs_run P at zero n h e =
     let a : suc 0 + n ≡ suc n = omega arith in
     ap (runs P at) a ∙ ap (λ b. cond b (extended at (runs P (at + 1) n)) (runs P (at + 1) n)) (h at (omega arith) (omega arith))
-    ∙ extended-apart at (runs P (at + 1) n) (runs-start P (at + 1) n ∙ e)
-runs-run P at (suc k) n h e =
+    ∙ extended_apart at (runs P (at + 1) n) (runs_start P (at + 1) n ∙ e)
+runs_run P at (suc k) n h e =
     let a : suc (suc k) + n ≡ suc (suc k + n) = omega arith in
     let b : at + 1 + suc k ≡ at + suc (suc k) = omega arith in
     ap (runs P at) a ∙ ap (λ b. cond b (extended at (runs P (at + 1) (suc k + n))) (runs P (at + 1) (suc k + n)))
     (h at (omega arith) (omega arith))
-    ∙ ap (extended at) (runs-run P (at + 1) k n (λ m l u. h m (omega arith) (omega arith)) (rw b e))
-    ∙ extended-next at (at + 1 + suc k) (runs P (at + 1 + suc k) n)
+    ∙ ap (extended at) (runs_run P (at + 1) k n (λ m l u. h m (omega arith) (omega arith)) (rw b e))
+    ∙ extended_next at (at + 1 + suc k) (runs P (at + 1 + suc k) n)
     ∙ ap (λ (z : ℕ). record { start = at; end = z } ∷ runs P z n) b

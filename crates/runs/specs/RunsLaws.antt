@@ -16,27 +16,27 @@ wider : (a b z : ℕ) (ws : List Window) → a ≤ b → Between b z ws → Betw
 wider a b z [] l h = tt
 wider a b z (w ∷ ws) l h = ((omega (arith, h.0.0), h.0.1), wider a b z ws l h.1)
 
-extended-between : (at z : ℕ) (ws : List Window) → at < z → Between (at + 1) z ws → Between at z (extended at ws)
+extended_between : (at z : ℕ) (ws : List Window) → at < z → Between (at + 1) z ws → Between at z (extended at ws)
 unfolding extended
-extended-between at z [] l h = ((omega arith, (omega arith, omega arith)), tt)
-extended-between at z (w ∷ ws) l h = go (eqb w.start (at + 1))
+extended_between at z [] l h = ((omega arith, (omega arith, omega arith)), tt)
+extended_between at z (w ∷ ws) l h = go (eqb w.start (at + 1))
   where
     go : (b : Bool) → Between at z (cond b (record { start = at; end = w.end } ∷ ws)
         (record { start = at; end = at + 1 } ∷ w ∷ ws))
     go true = ((omega arith, (omega (arith, h.0.0, h.0.1.0), h.0.1.1)), wider at (at + 1) z ws (omega arith) h.1)
     go false = ((omega arith, (omega arith, omega arith)), wider at (at + 1) z (w ∷ ws) (omega arith) h)
 
-pub runs-between : (P : ℕ → Bool) (at n : ℕ) → Between at (at + n) (runs P at n)
+pub runs_between : (P : ℕ → Bool) (at n : ℕ) → Between at (at + n) (runs P at n)
 unfolding runs
-runs-between P at zero = tt
-runs-between P at (suc n) = go (P at) (up (runs P (at + 1) n) (runs-between P (at + 1) n))
+runs_between P at zero = tt
+runs_between P at (suc n) = go (P at) (up (runs P (at + 1) n) (runs_between P (at + 1) n))
   where
     up : (ws : List Window) → Between (at + 1) (at + 1 + n) ws → Between (at + 1) (at + suc n) ws
     up ws h = let e : at + 1 + n ≡ at + suc n = omega arith in rw e at h
 
     go : (b : Bool) → Between (at + 1) (at + suc n) (runs P (at + 1) n)
         → Between at (at + suc n) (cond b (extended at (runs P (at + 1) n)) (runs P (at + 1) n))
-    go true h = extended-between at (at + suc n) (runs P (at + 1) n) (omega arith) h
+    go true h = extended_between at (at + suc n) (runs P (at + 1) n) (omega arith) h
     go false h = wider at (at + 1) (at + suc n) (runs P (at + 1) n) (omega arith) h
 
 -- they hold the minutes that pass
@@ -52,8 +52,8 @@ one at m = go (eqb m at) refl
         side true f = le-ltb m (at + 1) (omega (arith, leb-true at m f, eqb-false m at e))
         side false f = refl
 
-first-longer : (at m e : ℕ) → at < e → (leb at m && ltb m e) ≡ (eqb m at || (leb (at + 1) m && ltb m e))
-first-longer at m e l = go (eqb m at) refl
+first_longer : (at m e : ℕ) → at < e → (leb at m && ltb m e) ≡ (eqb m at || (leb (at + 1) m && ltb m e))
+first_longer at m e l = go (eqb m at) refl
   where
     go : (b : Bool) → eqb m at ≡ b → (leb at m && ltb m e) ≡ (b || (leb (at + 1) m && ltb m e))
     go true f = let d = eqb-true m at f in rw (le-leb at m (omega arith), lt-ltb m e (omega arith))
@@ -63,27 +63,27 @@ first-longer at m e l = go (eqb m at) refl
         side true g = le-leb at m (omega (arith, leb-true (at + 1) m g))
         side false g = lt-leb at m (omega (arith, leb-false (at + 1) m g, eqb-false m at f))
 
-extended-holds : (at z m : ℕ) (ws : List Window) → Between (at + 1) z ws → holds (extended at ws) m ≡ (eqb m at || holds ws m)
+extended_holds : (at z m : ℕ) (ws : List Window) → Between (at + 1) z ws → holds (extended at ws) m ≡ (eqb m at || holds ws m)
 unfolding extended holds
-extended-holds at z m [] h = ap (λ b. b || false) (one at m)
-extended-holds at z m (w ∷ ws) h = go (eqb w.start (at + 1)) refl
+extended_holds at z m [] h = ap (λ b. b || false) (one at m)
+extended_holds at z m (w ∷ ws) h = go (eqb w.start (at + 1)) refl
   where
     go : (b : Bool) → eqb w.start (at + 1) ≡ b
         → holds (cond b (record { start = at; end = w.end } ∷ ws) (record { start = at; end = at + 1 } ∷ w ∷ ws)) m
         ≡ (eqb m at || ((leb w.start m && ltb m w.end) || holds ws m))
     go true e = rw (eqb-true w.start (at + 1) e)
-        (ap (λ b. b || holds ws m) (first-longer at m w.end (omega (arith, h.0.0, h.0.1.0)))
+        (ap (λ b. b || holds ws m) (first_longer at m w.end (omega (arith, h.0.0, h.0.1.0)))
         ∙ or_assoc (eqb m at) (leb (at + 1) m && ltb m w.end) (holds ws m))
     go false e = ap (λ b. b || ((leb w.start m && ltb m w.end) || holds ws m)) (one at m)
 
-pub runs-hold : (P : ℕ → Bool) (at n m : ℕ) → holds (runs P at n) m ≡ ((leb at m && ltb m (at + n)) && P m)
+pub runs_hold : (P : ℕ → Bool) (at n m : ℕ) → holds (runs P at n) m ≡ ((leb at m && ltb m (at + n)) && P m)
 unfolding runs holds
-runs-hold P at zero m = sym (none (leb at m) refl)
+runs_hold P at zero m = sym (none (leb at m) refl)
   where
     none : (b : Bool) → leb at m ≡ b → ((b && ltb m (at + 0)) && P m) ≡ false
     none true e = rw (le-ltb m (at + 0) (omega (arith, leb-true at m e)))
     none false e = refl
-runs-hold P at (suc n) m = go (P at) refl (runs-hold P (at + 1) n m)
+runs_hold P at (suc n) m = go (P at) refl (runs_hold P (at + 1) n m)
   where
     later : (leb (at + 1) m && ltb m (at + 1 + n)) ≡ (leb (at + 1) m && ltb m (at + suc n))
     later = let e : at + 1 + n ≡ at + suc n = omega arith in ap (λ (z : ℕ). leb (at + 1) m && ltb m z) e
@@ -94,14 +94,14 @@ runs-hold P at (suc n) m = go (P at) refl (runs-hold P (at + 1) n m)
 
     whole : (b : Bool) → P at ≡ b → ((leb at m && ltb m (at + suc n)) && P m)
         ≡ ((eqb m at && b) || ((leb (at + 1) m && ltb m (at + 1 + n)) && P m))
-    whole b e = ap (λ c. c && P m) (first-longer at m (at + suc n) (omega arith))
+    whole b e = ap (λ c. c && P m) (first_longer at m (at + suc n) (omega arith))
         ∙ and-or_distrib_right (eqb m at) (leb (at + 1) m && ltb m (at + suc n)) (P m)
         ∙ ap (λ c. c || ((leb (at + 1) m && ltb m (at + suc n)) && P m)) (here b e (eqb m at) refl)
         ∙ ap (λ c. (eqb m at && b) || (c && P m)) (sym later)
 
     go : (b : Bool) → P at ≡ b → holds (runs P (at + 1) n) m ≡ ((leb (at + 1) m && ltb m (at + 1 + n)) && P m) →
         holds (cond b (extended at (runs P (at + 1) n)) (runs P (at + 1) n)) m ≡ ((leb at m && ltb m (at + suc n)) && P m)
-    go true e ih = extended-holds at (at + 1 + n) m (runs P (at + 1) n) (runs-between P (at + 1) n) ∙ ap (λ c. eqb m at || c) ih
+    go true e ih = extended_holds at (at + 1 + n) m (runs P (at + 1) n) (runs_between P (at + 1) n) ∙ ap (λ c. eqb m at || c) ih
         ∙ ap (λ c. c || ((leb (at + 1) m && ltb m (at + 1 + n)) && P m)) (sym (and-true (eqb m at))) ∙ sym (whole true e)
     go false e ih = ih ∙ ap (λ c. c || ((leb (at + 1) m && ltb m (at + 1 + n)) && P m)) (sym (and-false (eqb m at)))
         ∙ sym (whole false e)

@@ -1,17 +1,19 @@
 // A bid's minutes as a row of words, one cell a minute, and the unbroken runs of them: `minutes` makes the row of windows of a
 // table, `next` finds the run that begins first from a minute on. `specs/` says what a bid's windows joined are: its runs in rising order.
+#![tactic(auto)]
+
 ghost use Rattle.std.specs.Prelude.{◌≡◌, true, ◌+◌, ◌*◌, ◌/◌, ◌≤◌, length, drop};
 ghost use Rattle.tender.specs.Limits.{lawful, every};
-ghost use Rattle.tender.specs.Tables.{windowsOf, windowWidth};
+ghost use Rattle.tender.specs.Tables.{windows_of, window_width};
 ghost use Rattle.cells.specs.Masks.{masks};
-ghost use Rattle.runs.specs.MinuteRows.{rowWords, rowCells, Empty, Full, Minutes, NextRun};
+ghost use Rattle.runs.specs.MinuteRows.{row_words, row_cells, Empty, Full, Minutes, NextRun};
 
 // Sets the minutes of the windows from `first` on, `count` of them, in a row that has none, by the table of masks.
 fn add_windows(table: &[u64], windows: &[u64], first: usize, count: usize, row: &mut [u64])
-    requires count_in_bounds { (first + count ≤ length windows.now / windowWidth)
-        × ((every lawful (windowsOf count (drop (windowWidth * first) windows.now)) ≡ true) × Empty row.old) }
+    requires count_in_bounds { (first + count ≤ length windows.now / window_width)
+        × ((every lawful (windows_of count (drop (window_width * first) windows.now)) ≡ true) × Empty row.old) }
     requires table_value { table.now ≡ masks }
-    ensures { Minutes (windowsOf count (drop (windowWidth * first) windows.now)) row.new }
+    ensures { Minutes (windows_of count (drop (window_width * first) windows.now)) row.new }
 {
     let mut j = 0;
     while j < count {
@@ -25,9 +27,9 @@ fn add_windows(table: &[u64], windows: &[u64], first: usize, count: usize, row: 
 
 // The minutes of the windows from `first` on, `count` of them, as a row of words.
 pub fn minutes(windows: &[u64], first: usize, count: usize, row: &mut [u64])
-    requires { (first + count ≤ length windows.now / windowWidth)
-        × ((every lawful (windowsOf count (drop (windowWidth * first) windows.now)) ≡ true) × (length row.old ≡ rowWords)) }
-    ensures { Minutes (windowsOf count (drop (windowWidth * first) windows.now)) row.new }
+    requires { (first + count ≤ length windows.now / window_width)
+        × ((every lawful (windows_of count (drop (window_width * first) windows.now)) ≡ true) × (length row.old ≡ row_words)) }
+    ensures { Minutes (windows_of count (drop (window_width * first) windows.now)) row.new }
 {
     let table = cells::MASKS;
     cells::clear(row);
@@ -43,7 +45,7 @@ pub struct Run {
 
 // The next unbroken run of a row from `from` on. Lent beside it: a row without a cell, and one with every cell.
 pub fn next(row: &[u64], none: &[u64], all: &[u64], from: usize) -> Run
-    requires { (length row.now ≡ rowWords) × ((from ≤ rowCells) × (Empty none.now × Full all.now)) }
+    requires { (length row.now ≡ row_words) × ((from ≤ row_cells) × (Empty none.now × Full all.now)) }
     ensures { NextRun row.now from result.start result.end }
 {
     let start = cells::next(row, none, from);

@@ -3,28 +3,28 @@ use Rattle.std.specs.Prelude.{◌≡◌, refl, Bool, true, false, List, ℕ, ◌
 use Rattle.std.proofs.Common.{sym, ap, ◌∙◌, arith, get_or-set_same, get_or-set_other, eqb-true}
 use Rattle.std.proofs.lemmas.Bool.{eqb-false}
 use Rattle.cover.specs.Sets.{when, value_of, bit, cost, covers}
-use Rattle.cover.specs.LeastCover.{winners, payment, vcgPaid}
+use Rattle.cover.specs.LeastCover.{winners, payment, vcg_paid}
 use Rattle.cover.specs.CriticalPrice.{sum}
 use Rattle.cover.specs.Settled.{spans, Settled}
 use Rattle.cover.specs.SettledLaws.{FilledTo, listed_at}
-use Rattle.cover.specs.Intervals.Bids.{Bids, costWithout}
-use Rattle.cover.specs.Intervals.BidsLaws.{paid-of, without-most}
+use Rattle.cover.specs.Intervals.Bids.{Bids, cost_without}
+use Rattle.cover.specs.Intervals.BidsLaws.{paid_of, without_most}
 use Rattle.single_select.specs.Weighing.{Selected}
-use Rattle.single_costs.specs.Across.{mostSum}
-use Rattle.single.specs.Pay.{winnersOf, vcgPaidOf}
+use Rattle.single_costs.specs.Across.{most_sum}
+use Rattle.single.specs.Pay.{winners_of, vcg_paid_of}
 
 -- the bids at the positions below q are paid
 pub record PaidTo (f : ℕ → ℕ) (order old new : List ℕ) (n q : ℕ) : Type 0 where
   pub paid : (j : ℕ) → j < q → get_or new (get_or order j 0) 0 ≡ f (get_or order j 0)
   pub kept : (i : ℕ) → n ≤ i → get_or new i 0 ≡ get_or old i 0
 
-pub paid-none : (f : ℕ → ℕ) (order old : List ℕ) (n : ℕ) → PaidTo f order old old n 0
-paid-none f order old n = record { paid = λ j l. absurd (omega arith); kept = λ i l. refl }
+pub paid_none : (f : ℕ → ℕ) (order old : List ℕ) (n : ℕ) → PaidTo f order old old n 0
+paid_none f order old n = record { paid = λ j l. absurd (omega arith); kept = λ i l. refl }
 
-pub paid-more : (f : ℕ → ℕ) (order old new : List ℕ) (n q v : ℕ) → get_or order q 0 < n → n ≤ length new
+pub paid_more : (f : ℕ → ℕ) (order old new : List ℕ) (n q v : ℕ) → get_or order q 0 < n → n ≤ length new
     → v ≡ f (get_or order q 0)
     → PaidTo f order old new n q → PaidTo f order old (set new (get_or order q 0) v) n (q + 1)
-paid-more f order old new n q v l fit e h = record {
+paid_more f order old new n q v l fit e h = record {
   paid = λ j d. go j d (eqb (get_or order j 0) (get_or order q 0)) refl;
   kept = λ i d. get_or-set_other new (get_or order q 0) i v 0 (λ z. omega arith) ∙ h.kept i d;
 }
@@ -40,31 +40,31 @@ paid-more f order old new n q v l fit e h = record {
         ∙ h.paid j (by j d (eqb j q) refl (eqb-false (get_or order j 0) (get_or order q 0) z))
 
 -- all of them
-pub paid-all : (f : ℕ → ℕ) (a b ps order old new : List ℕ) → Bids a b ps order → length new ≡ length old → (q : ℕ)
+pub paid_all : (f : ℕ → ℕ) (a b ps order old new : List ℕ) → Bids a b ps order → length new ≡ length old → (q : ℕ)
     → q ≡ length ps
     → PaidTo f order old new (length ps) q → FilledTo f old new (length ps)
-paid-all f a b ps order old new h e q z g = record {
+paid_all f a b ps order old new h e q z g = record {
   sized = e;
   values = λ i l. let y = h.sorted.every i l in rw y.is at (g.paid y.place (omega (arith, y.inside)));
   kept = g.kept;
 }
 
 -- a loser is paid nothing
-pub pays-none : (a b ps : List ℕ) (L i on : ℕ) → on ≡ when (bit (winnersOf a b ps L) i) 1 → on ≡ 0
-    → 0 ≡ vcgPaidOf a b ps L i
-unfolding vcgPaidOf winnersOf payment
-pays-none a b ps L i on e z = go (bit (winners (covers (spans a b) (length ps) L) ps) i) refl ∙ sym (paid-of i a b ps L)
+pub pays_none : (a b ps : List ℕ) (L i on : ℕ) → on ≡ when (bit (winners_of a b ps L) i) 1 → on ≡ 0
+    → 0 ≡ vcg_paid_of a b ps L i
+unfolding vcg_paid_of winners_of payment
+pays_none a b ps L i on e z = go (bit (winners (covers (spans a b) (length ps) L) ps) i) refl ∙ sym (paid_of i a b ps L)
   where
     go : (t : Bool) → bit (winners (covers (spans a b) (length ps) L) ps) i ≡ t
-        → 0 ≡ payment (bit (winners (covers (spans a b) (length ps) L) ps) i) (value_of (costWithout i a b ps L))
+        → 0 ≡ payment (bit (winners (covers (spans a b) (length ps) L) ps) i) (value_of (cost_without i a b ps L))
         (cost ps (winners (covers (spans a b) (length ps) L) ps)) (get_or ps i 0)
     go true d = absurd (omega (arith, ap (λ s. when s 1) d))
     go false d = rw d
 
-pub wins-bit : (a b ps : List ℕ) (L i on : ℕ) → on ≡ when (bit (winnersOf a b ps L) i) 1 → (on ≡ 0 → ⊥)
+pub wins_bit : (a b ps : List ℕ) (L i on : ℕ) → on ≡ when (bit (winners_of a b ps L) i) 1 → (on ≡ 0 → ⊥)
     → bit (winners (covers (spans a b) (length ps) L) ps) i ≡ true
-unfolding winnersOf
-wins-bit a b ps L i on e z = go (bit (winners (covers (spans a b) (length ps) L) ps) i) refl
+unfolding winners_of
+wins_bit a b ps L i on e z = go (bit (winners (covers (spans a b) (length ps) L) ps) i) refl
   where
     go : (t : Bool) → bit (winners (covers (spans a b) (length ps) L) ps) i ≡ t
         → bit (winners (covers (spans a b) (length ps) L) ps) i
@@ -73,44 +73,44 @@ wins-bit a b ps L i on e z = go (bit (winners (covers (spans a b) (length ps) L)
     go false d = absurd (z (e ∙ ap (λ s. when s 1) d))
 
 -- a winner is paid the least cost without it, less what the others cost
-pub pays-some : (a b ps : List ℕ) (L i on rest all : ℕ) → on ≡ when (bit (winnersOf a b ps L) i) 1 → (on ≡ 0 → ⊥)
-    → rest ≡ value_of (costWithout i a b ps L) → all ≡ cost ps (winnersOf a b ps L)
-    → rest - (all - get_or ps i 0) ≡ vcgPaidOf a b ps L i
-unfolding vcgPaidOf winnersOf payment
-pays-some a b ps L i on rest all e z d q = sym (paid-of i a b ps L ∙ rw (wins-bit a b ps L i on e z, d, q))
+pub pays_some : (a b ps : List ℕ) (L i on rest all : ℕ) → on ≡ when (bit (winners_of a b ps L) i) 1 → (on ≡ 0 → ⊥)
+    → rest ≡ value_of (cost_without i a b ps L) → all ≡ cost ps (winners_of a b ps L)
+    → rest - (all - get_or ps i 0) ≡ vcg_paid_of a b ps L i
+unfolding vcg_paid_of winners_of payment
+pays_some a b ps L i on rest all e z d q = sym (paid_of i a b ps L ∙ rw (wins_bit a b ps L i on e z, d, q))
 
-pub pays-most : (a b ps : List ℕ) (L i : ℕ) → vcgPaidOf a b ps L i ≤ sum ps
-unfolding vcgPaidOf payment
-pays-most a b ps L i = rw (paid-of i a b ps L) (go (bit (winners (covers (spans a b) (length ps) L) ps) i))
+pub pays_most : (a b ps : List ℕ) (L i : ℕ) → vcg_paid_of a b ps L i ≤ sum ps
+unfolding vcg_paid_of payment
+pays_most a b ps L i = rw (paid_of i a b ps L) (go (bit (winners (covers (spans a b) (length ps) L) ps) i))
   where
-    go : (t : Bool) → payment t (value_of (costWithout i a b ps L)) (cost ps (winners (covers (spans a b) (length ps) L) ps)) (get_or ps i 0)
+    go : (t : Bool) → payment t (value_of (cost_without i a b ps L)) (cost ps (winners (covers (spans a b) (length ps) L) ps)) (get_or ps i 0)
         ≤ sum ps
-    go true = omega (arith, without-most i a b ps L)
+    go true = omega (arith, without_most i a b ps L)
     go false = omega arith
 
 -- what the selection says of the flags and of the winners' cost
-pub selected-flags : (a b ps costs old-won new-won : List ℕ) (L all : ℕ) → Selected a b ps costs old-won new-won L all → (i : ℕ)
-    → i < length ps → get_or new-won i 0 ≡ when (bit (winnersOf a b ps L) i) 1
-unfolding winnersOf
-selected-flags a b ps costs old-won new-won L all s i l =
+pub selected_flags : (a b ps costs old_won new-won : List ℕ) (L all : ℕ) → Selected a b ps costs old_won new-won L all → (i : ℕ)
+    → i < length ps → get_or new-won i 0 ≡ when (bit (winners_of a b ps L) i) 1
+unfolding winners_of
+selected_flags a b ps costs old_won new-won L all s i l =
     ap (λ xs. get_or xs i 0) s.flags ∙ listed_at (length ps) (λ i. when (bit (winners (covers (spans a b) (length ps) L) ps) i) 1)
-    (drop (length ps) old-won) i l
+    (drop (length ps) old_won) i l
 
-pub selected-all : (a b ps costs old-won new-won : List ℕ) (L all : ℕ) → Selected a b ps costs old-won new-won L all
-    → all ≡ cost ps (winnersOf a b ps L)
-unfolding winnersOf
-selected-all a b ps costs old-won new-won L all s = s.all-is
+pub selected_all : (a b ps costs old_won new-won : List ℕ) (L all : ℕ) → Selected a b ps costs old_won new-won L all
+    → all ≡ cost ps (winners_of a b ps L)
+unfolding winners_of
+selected_all a b ps costs old_won new-won L all s = s.all_is
 
 -- THE AWARD
-pub award-settled : (a b ps old-won new-won costs old-cents new-cents : List ℕ) (L all : ℕ) → sum ps ≤ mostSum
-    → Selected a b ps costs old-won new-won L all → FilledTo (vcgPaidOf a b ps L) old-cents new-cents (length ps)
+pub award_settled : (a b ps old_won new-won costs old_cents new-cents : List ℕ) (L all : ℕ) → sum ps ≤ most_sum
+    → Selected a b ps costs old_won new-won L all → FilledTo (vcg_paid_of a b ps L) old_cents new-cents (length ps)
     → Settled (λ _. Unit {0}) (λ i. bit (winners (covers (spans a b) (length ps) L) ps) i)
-    (vcgPaid (covers (spans a b) (length ps) L) ps) ps old-won old-cents new-won new-cents
-unfolding vcgPaidOf
-award-settled a b ps old-won new-won costs old-cents new-cents L all l s w = record {
+    (vcg_paid (covers (spans a b) (length ps) L) ps) ps old_won old_cents new-won new-cents
+unfolding vcg_paid_of
+award_settled a b ps old_won new-won costs old_cents new-cents L all l s w = record {
   flags = s.flags;
   payments = λ i d u. w.values i d;
-  small = λ i d. omega (arith, w.values i d, pays-most a b ps L i);
+  small = λ i d. omega (arith, w.values i d, pays_most a b ps L i);
   sized = w.sized;
   kept = w.kept;
 }

@@ -1,17 +1,19 @@
 // The single award over plain numbers: bid i has the cells from starts[i] up to ends[i] and asks prices[i]. The winners are the
 // covering set of least cost; a winner is paid the least cost without it, less what the other winners ask. The least cost without
 // a winner comes from the costs up to its start, the costs from its end on, and the bids that begin in its window.
+#![tactic(auto)]
+
 ghost use Rattle.std.specs.Prelude.{◌≡◌, ℕ, ◌+◌, ◌*◌, ◌-◌, ◌<◌, ◌≤◌, get_or, length};
-ghost use Rattle.tender.specs.Limits.{maxEntries};
+ghost use Rattle.tender.specs.Limits.{max_entries};
 ghost use Rattle.cover.specs.Sets.{when, bit, cost, covers};
-ghost use Rattle.cover.specs.LeastCover.{winners, vcgPaid};
+ghost use Rattle.cover.specs.LeastCover.{winners, vcg_paid};
 ghost use Rattle.cover.specs.CriticalPrice.{sum};
 ghost use Rattle.cover.specs.Settled.{spans, Settled};
 ghost use Rattle.cover.specs.SettledLaws.{FilledTo};
 ghost use Rattle.cover.specs.Intervals.{Order};
 ghost use Rattle.cover.specs.Intervals.Bids.{Bids};
-ghost use Rattle.single_costs.specs.Across.{mostSum, Before, After, Waiting};
-ghost use Rattle.single.specs.Pay.{winnersOf, vcgPaidOf};
+ghost use Rattle.single_costs.specs.Across.{most_sum, Before, After, Waiting};
+ghost use Rattle.single.specs.Pay.{winners_of, vcg_paid_of};
 
 // The difference, 0 where `y` is more.
 fn less(x: u64, y: u64) -> u64
@@ -48,20 +50,20 @@ fn pay(
     all: u64,
 ) -> Paid
     requires bids { Bids starts.now ends.now prices.now order.now }
-    requires prices_len_bound { (length prices.now ≤ maxEntries) × (length prices.now ≤ length order.now)
+    requires prices_len_bound { (length prices.now ≤ max_entries) × (length prices.now ≤ length order.now)
         × (length prices.now ≤ length before.now)
         × (length prices.now ≤ length after.now) × (length prices.now ≤ length live.old)
         × (length prices.now ≤ length xs.old)
         × (length prices.now < length costs.old) }
-    requires q_in_bounds { (q < length prices.now) × (sum prices.now ≤ mostSum) }
-    requires won_value { (won ≡ when (bit (winnersOf starts.now ends.now prices.now cells) (get_or order.now q 0)) 1)
-        × (all ≡ cost prices.now (winnersOf starts.now ends.now prices.now cells)) }
+    requires q_in_bounds { (q < length prices.now) × (sum prices.now ≤ most_sum) }
+    requires won_value { (won ≡ when (bit (winners_of starts.now ends.now prices.now cells) (get_or order.now q 0)) 1)
+        × (all ≡ cost prices.now (winners_of starts.now ends.now prices.now cells)) }
     requires by_index { (i : ℕ) → i < length prices.now → (get_or starts.now i 0 ≤ get_or ends.now i 0)
         × (get_or ends.now i 0 ≤ cells) }
     requires before { Before starts.now ends.now prices.now before.now
         × After starts.now ends.now prices.now cells after.now }
     requires waiting { Waiting starts.now ends.now prices.now order.now live.old q m }
-    ensures cents_value { result.cents ≡ vcgPaidOf starts.now ends.now prices.now cells
+    ensures cents_value { result.cents ≡ vcg_paid_of starts.now ends.now prices.now cells
         (get_or order.now q 0) }
     ensures waiting_2 { Waiting starts.now ends.now prices.now order.now live.new q
         result.live }
@@ -98,21 +100,21 @@ fn pay_each(
     all: u64,
 )
     requires bids { Bids starts.now ends.now prices.now order.now }
-    requires prices_len_bound { (length prices.now ≤ maxEntries) × (length prices.now ≤ length order.now)
+    requires prices_len_bound { (length prices.now ≤ max_entries) × (length prices.now ≤ length order.now)
         × (length prices.now ≤ length before.now)
         × (length prices.now ≤ length after.now) × (length prices.now ≤ length live.old)
         × (length prices.now ≤ length xs.old)
         × (length prices.now < length costs.old) }
     requires prices_in_bounds { (length prices.now ≤ length won.now) × (length prices.now ≤ length cents.old)
-        × (sum prices.now ≤ mostSum)
-        × (all ≡ cost prices.now (winnersOf starts.now ends.now prices.now cells)) }
+        × (sum prices.now ≤ most_sum)
+        × (all ≡ cost prices.now (winners_of starts.now ends.now prices.now cells)) }
     requires by_index { (i : ℕ) → i < length prices.now
-        → get_or won.now i 0 ≡ when (bit (winnersOf starts.now ends.now prices.now cells) i) 1 }
+        → get_or won.now i 0 ≡ when (bit (winners_of starts.now ends.now prices.now cells) i) 1 }
     requires by_index_2 { (i : ℕ) → i < length prices.now → (get_or starts.now i 0 ≤ get_or ends.now i 0)
         × (get_or ends.now i 0 ≤ cells) }
     requires before { Before starts.now ends.now prices.now before.now
         × After starts.now ends.now prices.now cells after.now }
-    ensures { FilledTo (vcgPaidOf starts.now ends.now prices.now cells) cents.old
+    ensures { FilledTo (vcg_paid_of starts.now ends.now prices.now cells) cents.old
         cents.new (length prices.now) }
 {
     let n = prices.len();
@@ -144,18 +146,18 @@ fn payments(
     all: u64,
 )
     requires bids { Bids starts.now ends.now prices.now order.now }
-    requires prices_len_bound { (length prices.now ≤ maxEntries) × (length prices.now ≤ length order.now)
+    requires prices_len_bound { (length prices.now ≤ max_entries) × (length prices.now ≤ length order.now)
         × (length prices.now ≤ length before.now)
         × (cells ≤ 10080) }
     requires prices_in_bounds { (length prices.now ≤ length won.now) × (length prices.now ≤ length cents.old)
-        × (sum prices.now ≤ mostSum)
-        × (all ≡ cost prices.now (winnersOf starts.now ends.now prices.now cells)) }
+        × (sum prices.now ≤ most_sum)
+        × (all ≡ cost prices.now (winners_of starts.now ends.now prices.now cells)) }
     requires by_index { (i : ℕ) → i < length prices.now
-        → get_or won.now i 0 ≡ when (bit (winnersOf starts.now ends.now prices.now cells) i) 1 }
+        → get_or won.now i 0 ≡ when (bit (winners_of starts.now ends.now prices.now cells) i) 1 }
     requires by_index_2 { (i : ℕ) → i < length prices.now → (get_or starts.now i 0 ≤ get_or ends.now i 0)
         × (get_or ends.now i 0 ≤ cells) }
     requires before { Before starts.now ends.now prices.now before.now }
-    ensures { FilledTo (vcgPaidOf starts.now ends.now prices.now cells) cents.old
+    ensures { FilledTo (vcg_paid_of starts.now ends.now prices.now cells) cents.old
         cents.new (length prices.now) }
 {
     // ones, not zeros: the compiler writes these in wide stores
@@ -181,17 +183,17 @@ pub fn award(
     won: &mut [u64],
     cents: &mut [u64],
 )
-    requires prices_len_bound { (length prices.now ≤ maxEntries) × (length starts.now ≡ length prices.now)
+    requires prices_len_bound { (length prices.now ≤ max_entries) × (length starts.now ≡ length prices.now)
         × (length ends.now ≡ length prices.now)
         × (0 < cells) × (cells ≤ 10080) }
     requires prices_in_bounds { (length prices.now ≤ length won.old) × (length prices.now ≤ length cents.old) }
     requires by_index { (i : ℕ) → i < length prices.now → (get_or starts.now i 0 ≤ get_or ends.now i 0)
         × (get_or ends.now i 0 ≤ cells) }
-    requires prices_bound { sum prices.now ≤ mostSum }
+    requires prices_bound { sum prices.now ≤ most_sum }
     requires prices_in_bounds_2 { (length prices.now ≤ length order.now)
         × Order (length prices.now) (λ i. get_or starts.now i 0) (λ q. get_or order.now q 0) }
     ensures { Settled (λ _. Unit {0}) (λ i. bit (winners (covers (spans starts.now ends.now)
-        (length prices.now) cells) prices.now) i) (vcgPaid (covers (spans starts.now ends.now)
+        (length prices.now) cells) prices.now) i) (vcg_paid (covers (spans starts.now ends.now)
         (length prices.now) cells) prices.now) prices.now won.old cents.old
         won.new cents.new }
 {

@@ -2,22 +2,24 @@
 // bid the least cost of a set that ends with it; it serves for the costs from the end of each bid on, with the bids seen from the
 // other end, and for the bids that begin in a winner's window, once more and without that winner. The least cost comes from the
 // bid that leads.
+#![tactic(auto)]
+
 ghost use Rattle.std.specs.Prelude.{◌≡◌, ℕ, ◌+◌, ◌-◌, ◌<◌, ◌≤◌, get_or, length};
-ghost use Rattle.tender.specs.Limits.{maxEntries};
+ghost use Rattle.tender.specs.Limits.{max_entries};
 ghost use Rattle.cover.specs.Sets.{value_of};
 ghost use Rattle.cover.specs.CriticalPrice.{sum};
-ghost use Rattle.cover.specs.Intervals.Bids.{Bids, costWithout};
+ghost use Rattle.cover.specs.Intervals.Bids.{Bids, cost_without};
 ghost use Rattle.cover.specs.Intervals.MirrorLaws.{Mirrored};
-ghost use Rattle.single_lead.specs.Costs.{costIn};
-ghost use Rattle.single_costs.specs.Across.{mostSum, joinedCost, less_of, leastAcross, Before, After, Waiting, BegunAt};
+ghost use Rattle.single_lead.specs.Costs.{cost_in};
+ghost use Rattle.single_costs.specs.Across.{most_sum, joined_cost, less_of, least_across, Before, After, Waiting, BegunAt};
 
 use single_run::run;
 
 // The cost across a bid of price `price`: `x` is its cost with what comes before it, `y` with what comes after it.
 fn join(x: u64, y: u64, price: u64) -> u64
-    requires x_le_most_sum { (x ≡ 18446744073709551615 → ⊥) → x ≤ mostSum }
-    requires price_le_y { (y ≡ 18446744073709551615 → ⊥) → (price ≤ y) × (y ≤ mostSum + price) }
-    ensures { result ≡ joinedCost x y price }
+    requires x_le_most_sum { (x ≡ 18446744073709551615 → ⊥) → x ≤ most_sum }
+    requires price_le_y { (y ≡ 18446744073709551615 → ⊥) → (price ≤ y) × (y ≤ most_sum + price) }
+    ensures { result ≡ joined_cost x y price }
 {
     if x == single_lead::NONE {
         return x;
@@ -57,10 +59,10 @@ fn least_across(
         × (length prices.now ≤ length costs.now) × (length prices.now ≤ length after.now) }
     requires by_index { (j : ℕ) → j < m → get_or live.now j 0 < length prices.now }
     requires by_index_2 { (j : ℕ) → j < m → (get_or costs.now (get_or live.now j 0) 0 ≡ 18446744073709551615 → ⊥)
-        → get_or costs.now (get_or live.now j 0) 0 ≤ mostSum }
+        → get_or costs.now (get_or live.now j 0) 0 ≤ most_sum }
     requires by_index_3 { (i : ℕ) → i < length prices.now → (get_or after.now i 0 ≡ 18446744073709551615 → ⊥)
-        → (get_or prices.now i 0 ≤ get_or after.now i 0) × (get_or after.now i 0 ≤ mostSum + get_or prices.now i 0) }
-    ensures { costIn result ≡ leastAcross starts.now ends.now prices.now live.now
+        → (get_or prices.now i 0 ≤ get_or after.now i 0) × (get_or after.now i 0 ≤ most_sum + get_or prices.now i 0) }
+    ensures { cost_in result ≡ least_across starts.now ends.now prices.now live.now
         costs.now after.now t m }
 {
     let mut r: u64 = single_lead::NONE;
@@ -126,18 +128,18 @@ pub fn without(
     cells: u64,
 ) -> Rest
     requires bids { Bids starts.now ends.now prices.now order.now }
-    requires prices_len_bound { (length prices.now ≤ maxEntries) × (length prices.now ≤ length order.now)
+    requires prices_len_bound { (length prices.now ≤ max_entries) × (length prices.now ≤ length order.now)
         × (length prices.now ≤ length before.now)
         × (length prices.now ≤ length after.now) × (length prices.now ≤ length live.old)
         × (length prices.now ≤ length xs.old)
         × (length prices.now < length costs.old) }
-    requires q_in_bounds { (q < length prices.now) × (sum prices.now ≤ mostSum) × (0 < get_or ends.now (get_or order.now q 0) 0) }
+    requires q_in_bounds { (q < length prices.now) × (sum prices.now ≤ most_sum) × (0 < get_or ends.now (get_or order.now q 0) 0) }
     requires by_index { (i : ℕ) → i < length prices.now → (get_or starts.now i 0 ≤ get_or ends.now i 0)
         × (get_or ends.now i 0 ≤ cells) }
     requires before { Before starts.now ends.now prices.now before.now
         × After starts.now ends.now prices.now cells after.now }
     requires waiting { Waiting starts.now ends.now prices.now order.now live.old q m }
-    ensures cost_value { result.cost ≡ value_of (costWithout (get_or order.now q 0) starts.now ends.now
+    ensures cost_value { result.cost ≡ value_of (cost_without (get_or order.now q 0) starts.now ends.now
         prices.now cells) }
     ensures waiting_2 { Waiting starts.now ends.now prices.now order.now live.new q
         result.live }
@@ -174,7 +176,7 @@ fn mirror(starts: &[u64], ends: &[u64], n: usize, cells: u64, x: &mut [u64], y: 
 
 // The cost of each bid with what comes after it.
 pub fn after(starts: &[u64], ends: &[u64], prices: &[u64], cells: u64, costs: &mut [u64])
-    requires prices_len_bound { (length prices.now ≤ maxEntries) × (length prices.now ≤ length starts.now)
+    requires prices_len_bound { (length prices.now ≤ max_entries) × (length prices.now ≤ length starts.now)
         × (length prices.now ≤ length ends.now)
         × (length prices.now < length costs.old) }
     requires cells_bound { (cells ≤ 10080) × (sum prices.now < 18446744073709551615) }

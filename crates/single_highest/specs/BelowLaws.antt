@@ -2,18 +2,18 @@
 -- no price wins; or it is paid its threshold c, and the prices below c win, and c where the selection at c has it. Assumes nothing.
 use Rattle.std.specs.Prelude.{◌≡◌, refl, Bool, true, false, List, [], ◌∷◌, ◌++◌, ℕ, zero, suc, ◌+◌, ◌≤◌, ◌<◌, length, get_or, set, drop}
 use Rattle.std.proofs.Common.{sym, ap, ◌∙◌, arith, length-set, set-set}
-use Rattle.tender.specs.Limits.{maxEntries}
+use Rattle.tender.specs.Limits.{max_entries}
 use Rattle.cover.specs.Sets.{when, bit, covers}
-use Rattle.cover.specs.LeastCover.{winners, vcgPaid}
+use Rattle.cover.specs.LeastCover.{winners, vcg_paid}
 use Rattle.cover.specs.CriticalPrice.{sum}
 use Rattle.cover.specs.Settled.{spans, listed, Settled}
 use Rattle.cover.specs.SettledLaws.{listed_at}
-use Rattle.cover.specs.SpareLaws.{Spare, others, others_below, spare-set}
+use Rattle.cover.specs.SpareLaws.{Spare, others, others_below, spare_set}
 use Rattle.cover.specs.Winning.{Below}
-use Rattle.cover.specs.WinningLaws.{never-wins, wins-up-to, free-pays, threshold-most}
+use Rattle.cover.specs.WinningLaws.{never_wins, wins_up_to, free_pays, threshold_most}
 use Rattle.cover.specs.Intervals.{Order}
 use Rattle.single_select.specs.Weighing.{Selected}
-use Rattle.single_costs.specs.Across.{mostSum}
+use Rattle.single_costs.specs.Across.{most_sum}
 use Rattle.single_highest.specs.Runnable.{Runnable}
 
 -- sums with one price changed
@@ -24,16 +24,16 @@ sum_less [] i v l = omega arith
 sum_less (p ∷ ps) zero v l = omega arith
 sum_less (p ∷ ps) (suc i) v l = omega (arith, sum_less ps i v l)
 
-sum-put : (ps : List ℕ) (i v : ℕ) → sum (set ps i v) ≤ sum (set ps i 0) + v
+sum_put : (ps : List ℕ) (i v : ℕ) → sum (set ps i v) ≤ sum (set ps i 0) + v
 unfolding sum
-sum-put [] i v = omega arith
-sum-put (p ∷ ps) zero v = omega arith
-sum-put (p ∷ ps) (suc i) v = omega (arith, sum-put ps i v)
+sum_put [] i v = omega arith
+sum_put (p ∷ ps) zero v = omega arith
+sum_put (p ∷ ps) (suc i) v = omega (arith, sum_put ps i v)
 
 -- the bids can be awarded with another price of bid i
-pub runnable-at : (a b ps order : List ℕ) (L i v : ℕ) → Runnable a b ps order L i → sum (set ps i v) ≤ mostSum
+pub runnable_at : (a b ps order : List ℕ) (L i v : ℕ) → Runnable a b ps order L i → sum (set ps i v) ≤ most_sum
     → Runnable a b (set ps i v) order L i
-runnable-at a b ps order L i v r l = record {
+runnable_at a b ps order L i v r l = record {
   few = omega (arith, r.few, length-set ps i v);
   starts = r.starts ∙ sym (length-set ps i v);
   ends = r.ends ∙ sym (length-set ps i v);
@@ -47,13 +47,13 @@ runnable-at a b ps order L i v r l = record {
 }
 
 -- as a caller knows them, with a price no more than the one named
-pub runnable-less : (a b ps order : List ℕ) (L i v : ℕ)
-    → (length ps ≤ maxEntries) × (length a ≡ length ps) × (length b ≡ length ps) × (0 < L) × (L ≤ 10080)
+pub runnable_less : (a b ps order : List ℕ) (L i v : ℕ)
+    → (length ps ≤ max_entries) × (length a ≡ length ps) × (length b ≡ length ps) × (0 < L) × (L ≤ 10080)
     → ((j : ℕ) → j < length ps → (get_or a j 0 ≤ get_or b j 0) × (get_or b j 0 ≤ L))
     → (sum ps ≤ 100100000000) × (i < length ps)
     → (length ps ≤ length order) × Order (length ps) (λ j. get_or a j 0) (λ q. get_or order q 0)
     → v ≤ get_or ps i 0 → Runnable a b (set ps i v) order L i
-runnable-less a b ps order L i v f w s o l = runnable-at a b ps order L i v
+runnable_less a b ps order L i v f w s o l = runnable_at a b ps order L i v
     (record {
       few = f.0;
       starts = f.1;
@@ -75,82 +75,82 @@ flag_at : (won : ℕ → Bool) (n : ℕ) (old new : List ℕ) → new ≡ listed
     → get_or new i 0 ≡ when (won i) 1
 flag_at won n old new e i l = ap (λ xs. get_or xs i 0) e ∙ listed_at n (λ j. when (won j) 1) (drop n old) i l
 
-pub selected-flag : (a b ps costs old new : List ℕ) (L all : ℕ) → Selected a b ps costs old new L all → (i : ℕ) → i < length ps
+pub selected_flag : (a b ps costs old new : List ℕ) (L all : ℕ) → Selected a b ps costs old new L all → (i : ℕ) → i < length ps
     → get_or new i 0 ≡ when (bit (winners (covers (spans a b) (length ps) L) ps) i) 1
-selected-flag a b ps costs old new L all s =
+selected_flag a b ps costs old new L all s =
     flag_at (bit (winners (covers (spans a b) (length ps) L) ps)) (length ps) old new s.flags
 
-pub settled-flag : (a b ps old-won old-cents new-won new-cents : List ℕ) (L : ℕ)
+pub settled_flag : (a b ps old_won old_cents new-won new-cents : List ℕ) (L : ℕ)
     → Settled (λ _. Unit {0}) (λ j. bit (winners (covers (spans a b) (length ps) L) ps) j)
-    (vcgPaid (covers (spans a b) (length ps) L) ps) ps old-won old-cents new-won new-cents
+    (vcg_paid (covers (spans a b) (length ps) L) ps) ps old_won old_cents new-won new-cents
     → (i : ℕ) → i < length ps → get_or new-won i 0 ≡ when (bit (winners (covers (spans a b) (length ps) L) ps) i) 1
-settled-flag a b ps old-won old-cents new-won new-cents L s =
-    flag_at (bit (winners (covers (spans a b) (length ps) L) ps)) (length ps) old-won new-won s.flags
+settled_flag a b ps old_won old_cents new-won new-cents L s =
+    flag_at (bit (winners (covers (spans a b) (length ps) L) ps)) (length ps) old_won new-won s.flags
 
-flag-most : (t : Bool) (w : ℕ) → w ≡ when t 1 → w ≤ 1
-flag-most true w e = omega arith
-flag-most false w e = omega arith
+flag_most : (t : Bool) (w : ℕ) → w ≡ when t 1 → w ≤ 1
+flag_most true w e = omega arith
+flag_most false w e = omega arith
 
-flag-out : (t : Bool) (w : ℕ) → w ≡ when t 1 → w ≡ 0 → t ≡ false
-flag-out true w e z = absurd (omega arith)
-flag-out false w e z = refl
+flag_out : (t : Bool) (w : ℕ) → w ≡ when t 1 → w ≡ 0 → t ≡ false
+flag_out true w e z = absurd (omega arith)
+flag_out false w e z = refl
 
-flag-in : (t : Bool) (w : ℕ) → w ≡ when t 1 → (w ≡ 0 → ⊥) → t ≡ true
-flag-in true w e z = refl
-flag-in false w e z = absurd (z e)
+flag_in : (t : Bool) (w : ℕ) → w ≡ when t 1 → (w ≡ 0 → ⊥) → t ≡ true
+flag_in true w e z = refl
+flag_in false w e z = absurd (z e)
 
 -- bids over L cells, of which those but i have every cell
 module _ (a b ps : List ℕ) (L i : ℕ) (inside : i < length ps) (spare : Spare (spans a b) (length ps) L i) where
   -- the sets of the bids at the prices qs that cover
-  abbrev okAt : List ℕ → ℕ → Bool
-  okAt qs = covers (spans a b) (length qs) L
+  abbrev ok_at : List ℕ → ℕ → Bool
+  ok_at qs = covers (spans a b) (length qs) L
 
-  abbrev wonAt : ℕ → Bool
-  wonAt q = bit (winners (okAt ps) (set ps i q)) i
+  abbrev won_at : ℕ → Bool
+  won_at q = bit (winners (ok_at ps) (set ps i q)) i
 
-  free-won : (w : ℕ) → w ≡ when (bit (winners (okAt (set ps i 0)) (set ps i 0)) i) 1 → w ≡ when (wonAt 0) 1
-  free-won w e = rw (length-set ps i 0) at e
+  free_won : (w : ℕ) → w ≡ when (bit (winners (ok_at (set ps i 0)) (set ps i 0)) i) 1 → w ≡ when (won_at 0) 1
+  free_won w e = rw (length-set ps i 0) at e
 
-  free-paid : (c : ℕ) → c ≡ vcgPaid (okAt (set ps i 0)) (set ps i 0) i → c ≡ vcgPaid (okAt ps) (set ps i 0) i
-  free-paid c e = rw (length-set ps i 0) at e
+  free_paid : (c : ℕ) → c ≡ vcg_paid (ok_at (set ps i 0)) (set ps i 0) i → c ≡ vcg_paid (ok_at ps) (set ps i 0) i
+  free_paid c e = rw (length-set ps i 0) at e
 
   -- it loses at the price 0
-  pub below_none : (w : ℕ) → w ≡ when (bit (winners (okAt (set ps i 0)) (set ps i 0)) i) 1 → w ≡ 0 → Below wonAt 0
-  below_none w e z = never-wins (okAt ps) ps i inside (others (length ps) i) (others_below (length ps) i)
-      (spare-set (spans a b) (length ps) L i spare inside) (flag-out (wonAt 0) w (free-won w e) z)
+  pub below_none : (w : ℕ) → w ≡ when (bit (winners (ok_at (set ps i 0)) (set ps i 0)) i) 1 → w ≡ 0 → Below won_at 0
+  below_none w e z = never_wins (ok_at ps) ps i inside (others (length ps) i) (others_below (length ps) i)
+      (spare_set (spans a b) (length ps) L i spare inside) (flag_out (won_at 0) w (free_won w e) z)
 
-  module _ (w c : ℕ) (e : w ≡ when (bit (winners (okAt (set ps i 0)) (set ps i 0)) i) 1) (n : w ≡ 0 → ⊥)
-      (p : c ≡ vcgPaid (okAt (set ps i 0)) (set ps i 0) i) where
+  module _ (w c : ℕ) (e : w ≡ when (bit (winners (ok_at (set ps i 0)) (set ps i 0)) i) 1) (n : w ≡ 0 → ⊥)
+      (p : c ≡ vcg_paid (ok_at (set ps i 0)) (set ps i 0) i) where
     -- it wins at the price 0: no more is paid than the others ask in all
-    paid-most : c ≤ sum (set ps i 0)
-    paid-most = omega (
+    paid_most : c ≤ sum (set ps i 0)
+    paid_most = omega (
       arith,
-      free-paid c p,
-      free-pays (okAt ps) ps i inside (others (length ps) i) (others_below (length ps) i)
-          (spare-set (spans a b) (length ps) L i spare inside) (flag-in (wonAt 0) w (free-won w e) n),
-      threshold-most (okAt ps) ps i inside (others (length ps) i) (others_below (length ps) i)
-          (spare-set (spans a b) (length ps) L i spare inside),
+      free_paid c p,
+      free_pays (ok_at ps) ps i inside (others (length ps) i) (others_below (length ps) i)
+          (spare_set (spans a b) (length ps) L i spare inside) (flag_in (won_at 0) w (free_won w e) n),
+      threshold_most (ok_at ps) ps i inside (others (length ps) i) (others_below (length ps) i)
+          (spare_set (spans a b) (length ps) L i spare inside),
     )
 
     -- so the sum stays small with a price up to c
-    pub sum-at : sum ps ≤ 100100000000 → (v : ℕ) → v ≤ c → sum (set (set ps i 0) i v) ≤ mostSum
-    sum-at l v m = rw (set-set ps i 0 v) (omega (arith, sum-put ps i v, sum_less ps i 0 (omega arith), paid-most))
+    pub sum_at : sum ps ≤ 100100000000 → (v : ℕ) → v ≤ c → sum (set (set ps i 0) i v) ≤ most_sum
+    sum_at l v m = rw (set-set ps i 0 v) (omega (arith, sum_put ps i v, sum_less ps i 0 (omega arith), paid_most))
 
     -- and v says whether it wins at c
-    pub below-paid : (v : ℕ) → v ≡ when (bit (winners (okAt (set (set ps i 0) i c)) (set (set ps i 0) i c)) i) 1
-        → Below wonAt (c + v)
-    below-paid v f = rw f' (wins-up-to (okAt ps) ps i inside (others (length ps) i) (others_below (length ps) i)
-        (spare-set (spans a b) (length ps) L i spare inside) (flag-in (wonAt 0) w (free-won w e) n) c (free-paid c p))
+    pub below_paid : (v : ℕ) → v ≡ when (bit (winners (ok_at (set (set ps i 0) i c)) (set (set ps i 0) i c)) i) 1
+        → Below won_at (c + v)
+    below_paid v f = rw f' (wins_up_to (ok_at ps) ps i inside (others (length ps) i) (others_below (length ps) i)
+        (spare_set (spans a b) (length ps) L i spare inside) (flag_in (won_at 0) w (free_won w e) n) c (free_paid c p))
       where
-        f' : v ≡ when (wonAt c) 1
+        f' : v ≡ when (won_at c) 1
         f' = rw (set-set ps i 0 c, length-set ps i c) at f
 
     -- the answer is small
-    pub below-most : sum ps ≤ 100100000000 → (v : ℕ)
-        → v ≡ when (bit (winners (okAt (set (set ps i 0) i c)) (set (set ps i 0) i c)) i) 1 → c + v ≤ 100100000001
-    below-most l v f = omega (
+    pub below_most : sum ps ≤ 100100000000 → (v : ℕ)
+        → v ≡ when (bit (winners (ok_at (set (set ps i 0) i c)) (set (set ps i 0) i c)) i) 1 → c + v ≤ 100100000001
+    below_most l v f = omega (
       arith,
       sum_less ps i 0 (omega arith),
-      paid-most,
-      flag-most (bit (winners (okAt (set (set ps i 0) i c)) (set (set ps i 0) i c)) i) v f,
+      paid_most,
+      flag_most (bit (winners (ok_at (set (set ps i 0) i c)) (set (set ps i 0) i c)) i) v f,
     )

@@ -1,12 +1,14 @@
 // The price below which a bid of a single tender would win, all else standing, by two runs. The bid is first run at the price 0, at
 // which it loses, and then at every price, or is paid its threshold: each price below the threshold wins. Whether the threshold itself
 // wins is left to the tie of sets of equal cost, and a selection at that price says it.
+#![tactic(auto)]
+
 ghost use Rattle.std.specs.Prelude.{◌≡◌, ℕ, ◌+◌, ◌<◌, ◌≤◌, get_or, set, length};
-ghost use Rattle.tender.specs.Limits.{maxEntries};
+ghost use Rattle.tender.specs.Limits.{max_entries};
 ghost use Rattle.cover.specs.Sets.{when, bit, covers};
-ghost use Rattle.cover.specs.LeastCover.{winners, vcgPaid};
+ghost use Rattle.cover.specs.LeastCover.{winners, vcg_paid};
 ghost use Rattle.cover.specs.CriticalPrice.{sum};
-ghost use Rattle.cover.specs.Settled.{spans, mostCents};
+ghost use Rattle.cover.specs.Settled.{spans, most_cents};
 ghost use Rattle.cover.specs.SpareLaws.{Spare};
 ghost use Rattle.cover.specs.Winning.{Below};
 ghost use Rattle.cover.specs.Intervals.{Order};
@@ -31,7 +33,7 @@ fn fares(
     requires { Runnable starts.now ends.now prices.now order.now cells i }
     ensures { (result.won ≡ when (bit (winners (covers (spans starts.now ends.now)
         (length prices.now) cells) prices.now) i) 1)
-        × (result.cents ≡ vcgPaid (covers (spans starts.now ends.now) (length prices.now) cells)
+        × (result.cents ≡ vcg_paid (covers (spans starts.now ends.now) (length prices.now) cells)
         prices.now i) }
 {
     // ones, not zeros: the compiler writes these in wide stores
@@ -67,7 +69,7 @@ pub fn below(
     cells: u64,
     i: usize,
 ) -> u64
-    requires prices_len_bound { (length prices.old ≤ maxEntries) × (length starts.now ≡ length prices.old)
+    requires prices_len_bound { (length prices.old ≤ max_entries) × (length starts.now ≡ length prices.old)
         × (length ends.now ≡ length prices.old)
         × (0 < cells) × (cells ≤ 10080) }
     requires by_index { (j : ℕ) → j < length prices.old → (get_or starts.now j 0 ≤ get_or ends.now j 0)
@@ -78,7 +80,7 @@ pub fn below(
     requires spare { Spare (spans starts.now ends.now) (length prices.old) cells i }
     ensures below { Below (λ q. bit (winners (covers (spans starts.now ends.now)
         (length prices.old) cells) (set prices.old i q)) i) result }
-    ensures upper_bound { result ≤ mostCents + 1 }
+    ensures upper_bound { result ≤ most_cents + 1 }
 {
     prices[i] = 0;
     let free = fares(starts, ends, prices, order, cells, i);

@@ -2,23 +2,23 @@
 -- to its end.
 use Rattle.std.specs.Prelude.{◌≡◌, cond, List, ℕ, ◌≤◌, ◌<◌, eqb, length, get_or}
 use Rattle.cover.specs.Sets.{Found}
-use Rattle.cover.specs.Intervals.{scan, scanCost, reaches}
-use Rattle.cover.specs.Intervals.Bids.{anyBid}
-use Rattle.single_lead.specs.Costs.{noCost, costIn}
+use Rattle.cover.specs.Intervals.{scan, scan_cost, reaches}
+use Rattle.cover.specs.Intervals.Bids.{any_bid}
+use Rattle.single_lead.specs.Costs.{no_cost, cost_in}
 use Rattle.single_lead.specs.Rows.{weight, Honest}
 use Rattle.single_lead.specs.Live.{On, Thinned, Live}
 
 -- the least cost at the places below j of xs whose bids reach t
-unfoldable pub leadCost : List ℕ → List ℕ → List ℕ → List ℕ → ℕ → ℕ → Found
-unfolding scanCost reaches costIn
-leadCost a b xs costs t j = scanCost (reaches (λ i. get_or a i 0) (λ i. get_or b i 0) anyBid (λ q. get_or xs q 0) t)
-    (λ q. costIn (get_or costs (get_or xs q 0) 0)) j
+unfoldable pub lead_cost : List ℕ → List ℕ → List ℕ → List ℕ → ℕ → ℕ → Found
+unfolding scan_cost reaches cost_in
+lead_cost a b xs costs t j = scan_cost (reaches (λ i. get_or a i 0) (λ i. get_or b i 0) any_bid (λ q. get_or xs q 0) t)
+    (λ q. cost_in (get_or costs (get_or xs q 0) 0)) j
 
 -- and the least weight
-unfoldable pub leastWeight : (ℕ → ℕ) → ℕ → List ℕ → List ℕ → List ℕ → List ℕ → List ℕ
+unfoldable pub least_weight : (ℕ → ℕ) → ℕ → List ℕ → List ℕ → List ℕ → List ℕ → List ℕ
     → ℕ → ℕ → Found
 unfolding scan reaches weight
-leastWeight cost w a b xs costs sets t j = scan cost (reaches (λ i. get_or a i 0) (λ i. get_or b i 0) anyBid (λ q. get_or xs q 0) t)
+least_weight cost w a b xs costs sets t j = scan cost (reaches (λ i. get_or a i 0) (λ i. get_or b i 0) any_bid (λ q. get_or xs q 0) t)
     (λ q. weight w costs sets (get_or xs q 0)) j
 
 -- a bid of the list that reaches t
@@ -32,10 +32,10 @@ pub record Reaches (a b xs : List ℕ) (j t r : ℕ) : Type 0 where
 pub record Seen (w : ℕ) (a b xs costs sets : List ℕ) (n t j r : ℕ) : Type 0 where
   pub within : r ≤ n
   pub found_at : (r ≡ n → ⊥) → Reaches a b xs j t r
-  pub priced : get_or costs r 0 ≡ noCost → r ≡ n
-  pub cheapest : costIn (get_or costs r 0) ≡ leadCost a b xs costs t j
+  pub priced : get_or costs r 0 ≡ no_cost → r ≡ n
+  pub cheapest : cost_in (get_or costs r 0) ≡ lead_cost a b xs costs t j
   pub lightest : (cost : ℕ → ℕ) → ((q : ℕ) → q < j → Honest cost w costs sets (get_or xs q 0))
-      → Honest cost w costs sets r × (weight w costs sets r ≡ leastWeight cost w a b xs costs sets t j)
+      → Honest cost w costs sets r × (weight w costs sets r ≡ least_weight cost w a b xs costs sets t j)
 
 -- where the lead of bid r ends: nowhere for none
 unfoldable pub end_of : List ℕ → ℕ → ℕ → ℕ
@@ -45,7 +45,7 @@ end_of b n r = cond (eqb r n) 0 (get_or b r 0)
 pub record Renewed (w : ℕ) (a b old live costs sets : List ℕ) (n t m r c end len : ℕ) : Type 0 where
   pub thinned : Thinned b old live t m len
   pub seen : Seen w a b old costs sets n t m r
-  pub cost-is : c ≡ get_or costs r 0
+  pub cost_is : c ≡ get_or costs r 0
   pub end_is : end ≡ end_of b n r
 
 -- the lead of before, where it lasts up to t, or a new one
@@ -61,7 +61,7 @@ pub record Leading (best : ℕ → Found) (mine : Found) (a b ps order live : Li
   pub reach : Live order b live k m at
   pub within : r ≤ length ps
   pub past : (r ≡ length ps → ⊥) → get_or a r 0 < at
-  pub none : c ≡ noCost → r ≡ length ps
+  pub none : c ≡ no_cost → r ≡ length ps
   pub lasts : (t : ℕ) → at ≤ t → t ≤ end → mine ≡ best t
 
 -- and it is the best for the cells below t

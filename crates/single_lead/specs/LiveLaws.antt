@@ -8,18 +8,18 @@ use Rattle.single_lead.specs.Live.{On, counted, Thinned, Live}
 
 -- one more or not
 
-pub counted-yes : (e t x : ℕ) → t ≤ e → x + 1 ≡ counted e t x
+pub counted_yes : (e t x : ℕ) → t ≤ e → x + 1 ≡ counted e t x
 unfolding counted
-counted-yes e t x l = rw (le-leb t e l)
+counted_yes e t x l = rw (le-leb t e l)
 
-pub counted-no : (e t x : ℕ) → e < t → x ≡ counted e t x
+pub counted_no : (e t x : ℕ) → e < t → x ≡ counted e t x
 unfolding counted
-counted-no e t x l = rw (lt-leb t e l)
+counted_no e t x l = rw (lt-leb t e l)
 
 -- thinned out
 
-pub thinned-none : (b old : List ℕ) (t : ℕ) → Thinned b old old t 0 0
-thinned-none b old t = record {
+pub thinned_none : (b old : List ℕ) (t : ℕ) → Thinned b old old t 0 0
+thinned_none b old t = record {
   sized = refl;
   short = omega arith;
   rest = λ i l. refl;
@@ -91,18 +91,18 @@ module _ (b old act : List ℕ) (t j x : ℕ) (l : j < length old) (h : Thinned 
       ))
       two i d g false q = stay (get_or old i 0) (h.kept i (omega (arith, eqb-false i j q)) g) x (omega arith)
 
-  pub thinned-more : Thinned b old now t (j + 1) (counted (get_or b v 0) t x)
+  pub thinned_more : Thinned b old now t (j + 1) (counted (get_or b v 0) t x)
   unfolding counted
-  thinned-more = thin (leb t (get_or b v 0)) refl
+  thinned_more = thin (leb t (get_or b v 0)) refl
 
 -- the bids that reach
 
-pub live-none : (order b act : List ℕ) → Live order b act 0 0 0
-live-none order b act = record { few = omega arith; inside = λ j l. absurd (omega arith); every = λ q l d. absurd (omega arith) }
+pub live_none : (order b act : List ℕ) → Live order b act 0 0 0
+live_none order b act = record { few = omega arith; inside = λ j l. absurd (omega arith); every = λ q l d. absurd (omega arith) }
 
-pub live-thinned : (order b old act : List ℕ) (k m at t x : ℕ) → at ≤ t → Live order b old k m at → Thinned b old act t m x
+pub live_thinned : (order b old act : List ℕ) (k m at t x : ℕ) → at ≤ t → Live order b old k m at → Thinned b old act t m x
     → Live order b act k x t
-live-thinned order b old act k m at t x l h f = record {
+live_thinned order b old act k m at t x l h f = record {
   few = omega (arith, h.few, f.short);
   inside = λ j d. let y = f.from j d in rw y.is at (h.inside y.place y.inside);
   every = λ q d g. by q g (h.every q d (omega arith));
@@ -147,8 +147,8 @@ live_more order b act k m at l h = record {
           is = get_or-set_other act m y.place (get_or order k 0) 0 (λ z. omega (arith, y.inside)) ∙ y.is;
         }
 
-pub on-more : (act : List ℕ) (m i z : ℕ) → m < length act → On (set act m i) (m + 1) z → (z ≡ i → ⊥) → On act m z
-on-more act m i z l y n = record {
+pub on_more : (act : List ℕ) (m i z : ℕ) → m < length act → On (set act m i) (m + 1) z → (z ≡ i → ⊥) → On act m z
+on_more act m i z l y n = record {
   place = y.place;
   inside = less (eqb y.place m) refl;
   is = sym (get_or-set_other act m y.place i 0 other) ∙ y.is;

@@ -2,10 +2,12 @@
 // lightest ends the least set that covers them. It leads as long as it reaches the next start; when it no longer does, the bids
 // that still reach are looked through once. The lighter of two bids costs less, or as much and its set stands in the tie. A set
 // is a row of `w` words; where `w` is 0 there are no sets, costs alone count, and a tie changes nothing.
+#![tactic(auto)]
+
 ghost use Rattle.std.specs.Prelude.{◌≡◌, ℕ, ◌+◌, ◌*◌, ◌<◌, ◌≤◌, get_or, length, ltb};
 ghost use Rattle.cover.specs.Sets.{value_of};
-ghost use Rattle.single_lead.specs.Costs.{costIn, plusPrice};
-ghost use Rattle.single_lead.specs.Rows.{setIn, prefer, reached};
+ghost use Rattle.single_lead.specs.Costs.{cost_in, plus_price};
+ghost use Rattle.single_lead.specs.Rows.{set_in, prefer, reached};
 ghost use Rattle.single_lead.specs.Live.{counted};
 ghost use Rattle.single_lead.specs.Lead.{end_of, Renewed, Led};
 
@@ -15,7 +17,7 @@ pub const NONE: u64 = 18446744073709551615;
 // A cost with one price more.
 pub fn add_price(cost: u64, price: u64) -> u64
     requires { (cost ≡ 18446744073709551615 → ⊥) → cost + price < 18446744073709551615 }
-    ensures { result ≡ plusPrice cost price }
+    ensures { result ≡ plus_price cost price }
 {
     if cost == NONE {
         return cost;
@@ -25,7 +27,7 @@ pub fn add_price(cost: u64, price: u64) -> u64
 
 // A cost, 0 where there is none.
 pub fn whole(cost: u64) -> u64
-    ensures { result ≡ value_of (costIn cost) }
+    ensures { result ≡ value_of (cost_in cost) }
 {
     if cost == NONE {
         return 0;
@@ -58,7 +60,7 @@ fn end_of(ends: &[u64], n: usize, r: usize) -> u64
 // The set in row `q` stands in a tie with the set in row `r`: the highest word that tells them apart decides.
 fn stands(sets: &[u64], w: usize, q: usize, r: usize) -> bool
     requires { (q * w + w ≤ length sets.now) × (r * w + w ≤ length sets.now) }
-    ensures { result ≡ ltb (setIn w sets.now q) (setIn w sets.now r) }
+    ensures { result ≡ ltb (set_in w sets.now q) (set_in w sets.now r) }
 {
     let mut j: usize = w;
     while j > 0 {
@@ -141,7 +143,7 @@ fn renew(
     requires m_in_bounds { (m ≤ length live.old) × (m < 1000000) × (n < length costs.now) × (n ≤ length starts.now)
         × (n ≤ length ends.now) × (n * w + w ≤ length sets.now) }
     requires by_index { (j : ℕ) → j < m → get_or live.old j 0 < n }
-    requires n_value { (get_or costs.now n 0 ≡ 18446744073709551615) × (setIn w sets.now n ≡ 0) }
+    requires n_value { (get_or costs.now n 0 ≡ 18446744073709551615) × (set_in w sets.now n ≡ 0) }
     ensures { Renewed w starts.now ends.now live.old live.new costs.now
         sets.now n t m result.row result.cost result.end result.live }
 {
@@ -181,7 +183,7 @@ pub fn lead_at(
     requires live_in_bounds { (lead.live ≤ length live.old) × (lead.live < 1000000) × (n < length costs.now) × (n ≤ length starts.now)
         × (n ≤ length ends.now) × (n * w + w ≤ length sets.now) }
     requires by_index { (j : ℕ) → j < lead.live → get_or live.old j 0 < n }
-    requires n_value { (get_or costs.now n 0 ≡ 18446744073709551615) × (setIn w sets.now n ≡ 0) }
+    requires n_value { (get_or costs.now n 0 ≡ 18446744073709551615) × (set_in w sets.now n ≡ 0) }
     ensures { Led w starts.now ends.now live.old live.new costs.now
         sets.now n t lead.row lead.cost lead.end lead.live result.row result.cost result.end result.live }
 {

@@ -1,6 +1,8 @@
 // The run over the bids in order of start: each gets the least cost of a set that ends with it, without one bid.
+#![tactic(auto)]
+
 ghost use Rattle.std.specs.Prelude.{◌≡◌, ◌+◌, ◌-◌, ◌<◌, ◌≤◌, get_or, length};
-ghost use Rattle.tender.specs.Limits.{maxEntries};
+ghost use Rattle.tender.specs.Limits.{max_entries};
 ghost use Rattle.cover.specs.CriticalPrice.{sum};
 ghost use Rattle.cover.specs.Intervals.Bids.{Bids};
 ghost use Rattle.single_run.specs.Run.{entry, Running, Ran};
@@ -36,7 +38,7 @@ fn step(
     lead: Lead,
 ) -> Lead
     requires bids { Bids starts.now ends.now prices.now order.now }
-    requires prices_len_bound { (length prices.now ≤ maxEntries) × (length prices.now ≤ length order.now)
+    requires prices_len_bound { (length prices.now ≤ max_entries) × (length prices.now ≤ length order.now)
         × (length prices.now ≤ length live.old)
         × (length prices.now < length costs.old) }
     requires q_in_bounds { (q < length prices.now) × (sum prices.now < 18446744073709551615)
@@ -75,7 +77,7 @@ pub fn run(
     stop: u64,
 ) -> usize
     requires bids { Bids starts.now ends.now prices.now order.now }
-    requires prices_len_bound { (length prices.now ≤ maxEntries) × (length prices.now ≤ length order.now)
+    requires prices_len_bound { (length prices.now ≤ max_entries) × (length prices.now ≤ length order.now)
         × (length prices.now ≤ length live.old)
         × (length prices.now < length costs.old) }
     requires from_in_bounds { (from ≤ length prices.now) × (sum prices.now < 18446744073709551615) }

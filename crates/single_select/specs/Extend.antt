@@ -1,6 +1,6 @@
 -- Rows of words as they are written: a row copied, and one with a bid more.
 use Rattle.std.specs.Prelude.{◌≡◌, List, ℕ, ◌+◌, ◌*◌, ◌≤◌, ◌<◌, length, get_or}
-use Rattle.single_lead.specs.Rows.{setIn}
+use Rattle.single_lead.specs.Rows.{set_in}
 
 -- x is no place of row q
 abbrev pub Off : ℕ → ℕ → Type 0
@@ -16,4 +16,4 @@ pub record Copied (old new : List ℕ) (from q j : ℕ) : Type 0 where
 pub record Extended (old new : List ℕ) (from i s : ℕ) : Type 0 where
   pub sized : length new ≡ length old
   pub kept : (x : ℕ) → Off i x → get_or new x 0 ≡ get_or old x 0
-  pub is : setIn 16 new i ≡ setIn 16 old from + s
+  pub is : set_in 16 new i ≡ set_in 16 old from + s

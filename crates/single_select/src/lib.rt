@@ -1,11 +1,13 @@
 // The winners of a single tender: the covering set of least cost, and of two such sets the one without the latest-entered bid
 // that tells them apart. The bids are gone through in order of start. A bid's weight is the least cost of a set that ends with it
 // and covers every cell below its end, and that set as a row of 64-bit words, bid i its bit i; it comes from the bid that leads.
+#![tactic(auto)]
+
 ghost use Rattle.std.specs.Prelude.{◌≡◌, ℕ, ◌+◌, ◌*◌, ◌-◌, ◌/◌, ◌<◌, ◌≤◌, get_or, length};
-ghost use Rattle.tender.specs.Limits.{maxEntries};
+ghost use Rattle.tender.specs.Limits.{max_entries};
 ghost use Rattle.cover.specs.CriticalPrice.{sum};
 ghost use Rattle.cover.specs.Intervals.Bids.{Bids};
-ghost use Rattle.single_lead.specs.Rows.{setIn};
+ghost use Rattle.single_lead.specs.Rows.{set_in};
 ghost use Rattle.single_select.specs.Weighing.{Weighing, Weighed, Selected};
 
 mod rows;
@@ -26,7 +28,7 @@ fn step(
     lead: Lead,
 ) -> Lead
     requires bids { Bids starts.now ends.now prices.now order.now }
-    requires prices_len_bound { (length prices.now ≤ maxEntries) × (length prices.now ≤ length order.now)
+    requires prices_len_bound { (length prices.now ≤ max_entries) × (length prices.now ≤ length order.now)
         × (length prices.now ≤ length live.old)
         × (length prices.now < length costs.old) × (length prices.now * 16 + 16 ≤ length sets.old) }
     requires k_in_bounds { (k < length prices.now) × (sum prices.now < 18446744073709551615) }
@@ -63,10 +65,10 @@ fn weigh(
     sets: &mut [u64],
 ) -> Lead
     requires bids { Bids starts.now ends.now prices.now order.now }
-    requires prices_len_bound { (length prices.now ≤ maxEntries) × (length prices.now ≤ length order.now)
+    requires prices_len_bound { (length prices.now ≤ max_entries) × (length prices.now ≤ length order.now)
         × (length prices.now ≤ length live.old)
         × (length prices.now < length costs.old) × (length prices.now * 16 + 16 ≤ length sets.old) }
-    requires prices_bound { (sum prices.now < 18446744073709551615) × (setIn 16 sets.old (length prices.now) ≡ 0) }
+    requires prices_bound { (sum prices.now < 18446744073709551615) × (set_in 16 sets.old (length prices.now) ≡ 0) }
     requires by_index { (i : ℕ) → i < length prices.now → get_or starts.now i 0 ≤ cells }
     ensures { Weighed starts.now ends.now prices.now costs.new sets.new cells
         result.row result.cost }
@@ -98,7 +100,7 @@ pub fn winners(
     won: &mut [u64],
 ) -> u64
     requires bids { Bids starts.now ends.now prices.now order.now }
-    requires prices_len_bound { (length prices.now ≤ maxEntries) × (length prices.now ≤ length order.now)
+    requires prices_len_bound { (length prices.now ≤ max_entries) × (length prices.now ≤ length order.now)
         × (length prices.now < length costs.old)
         × (length prices.now ≤ length won.old) × (sum prices.now < 18446744073709551615) }
     requires by_index { (i : ℕ) → i < length prices.now → get_or starts.now i 0 ≤ cells }

@@ -2,7 +2,7 @@
 ghost use Rattle.std.specs.Prelude.{◌≡◌, false, ◌+◌, ◌*◌, ◌-◌, ◌/◌, ◌%◌, ◌^◌, ◌<◌, ◌≤◌, length};
 ghost use Rattle.cover.specs.Sets.{bit, when};
 ghost use Rattle.cover.specs.SettledLaws.{FilledTo};
-ghost use Rattle.single_lead.specs.Rows.{setIn};
+ghost use Rattle.single_lead.specs.Rows.{set_in};
 ghost use Rattle.single_select.specs.Extend.{Copied, Extended};
 
 fn mask(i: usize) -> u64
@@ -26,7 +26,7 @@ fn copy_row(sets: &mut [u64], from: usize, to: usize)
 // Row `i`: row `from` with bid `i`.
 pub(crate) fn extend(sets: &mut [u64], from: usize, i: usize)
     requires from_in_bounds { (from * 16 + 16 ≤ length sets.old) × (i * 16 + 16 ≤ length sets.old) × (from ≡ i → ⊥) × (i < 1024) }
-    requires i_value { bit (setIn 16 sets.old from) i ≡ false }
+    requires i_value { bit (set_in 16 sets.old from) i ≡ false }
     ensures { Extended sets.old sets.new from i (2 ^ i) }
 {
     copy_row(sets, from, i);
@@ -37,7 +37,7 @@ pub(crate) fn extend(sets: &mut [u64], from: usize, i: usize)
 // Row `r`: the set of no bids.
 pub(crate) fn clear(sets: &mut [u64], r: usize)
     requires { r * 16 + 16 ≤ length sets.old }
-    ensures { setIn 16 sets.new r ≡ 0 }
+    ensures { set_in 16 sets.new r ≡ 0 }
 {
     let mut j: usize = 0;
     while j < 16 {
@@ -49,7 +49,7 @@ pub(crate) fn clear(sets: &mut [u64], r: usize)
 // A flag for each bid of the set in row `r`.
 pub(crate) fn mark(sets: &[u64], r: usize, n: usize, won: &mut [u64])
     requires { (r * 16 + 16 ≤ length sets.now) × (n ≤ 1024) × (n ≤ length won.old) }
-    ensures { FilledTo (λ i. when (bit (setIn 16 sets.now r) i) 1) won.old won.new n }
+    ensures { FilledTo (λ i. when (bit (set_in 16 sets.now r) i) 1) won.old won.new n }
 {
     let mut i = 0;
     while i < n {

@@ -8,27 +8,27 @@ use Rattle.tender.specs.declared.Window.{Window}
 use Rattle.tender.specs.declared.Reserve.{Reserve}
 use Rattle.tender.specs.declared.Reserve.TheVariants.{Absent, Price}
 use Rattle.tender.specs.declared.Tender.{Tender}
-use Rattle.tender.specs.Limits.{asWindow}
-use Rattle.tender.specs.Keywords.{bytes, tenderWord, reserveWord, bidWord, singleWord, multiWord}
-use Rattle.reader_parts.specs.Words.{and_then, among, cut, sameBytes}
-use Rattle.reader_forms.specs.Line.{BidLine, Line, tender, bid, reserve, tenderLine, reserveLines, headLines, kind_of, tenderOf}
-use Rattle.reader_forms.specs.Line.{bidOf, reserveOf, lineOfWords, line_of, lines_of}
-use Rattle.reader_parts.specs.GivenLaws.{closed-back}
-use Rattle.reader_parts.specs.CutLaws.{cut-some, cut-end}
-use Rattle.reader_parts.specs.RejoinedLaws.{Without, among-append, cut-rejoined, rejoined-among}
+use Rattle.tender.specs.Limits.{as_window}
+use Rattle.tender.specs.Keywords.{bytes, tender_word, reserve_word, bid_word, single_word, multi_word}
+use Rattle.reader_parts.specs.Words.{and_then, among, cut, equal_bytes}
+use Rattle.reader_forms.specs.Line.{BidLine, Line, tender, bid, reserve, tender_line, reserve_lines, head_lines, kind_of, tender_of}
+use Rattle.reader_forms.specs.Line.{bid_of, reserve_of, line_of_words, line_of, lines_of}
+use Rattle.reader_parts.specs.GivenLaws.{closed_back}
+use Rattle.reader_parts.specs.CutLaws.{cut_some, cut_end}
+use Rattle.reader_parts.specs.RejoinedLaws.{Without, among_append, cut_rejoined, rejoined_among}
 use Rattle.spelling.specs.Decimal.{decimal}
-use Rattle.spelling.specs.Lines.{oneLine, kindWord}
-use Rattle.spelling.specs.Text.{bidText, tenderText, reserveText, headText, bidsText, text_of}
-use Rattle.spelling.specs.DecimalLaws.{decimal-plain, numeral-decimal}
-use Rattle.spelling.specs.PriceLaws.{price-decimal}
-use Rattle.spelling.specs.WordLaws.{spaced, tenderWords, oneWords, windowWords, bidWords, bid-line, tender-line, one_line}
-use Rattle.spelling.specs.WordLaws.{bid-without, Named, AllNamed, span-back, windows-back}
+use Rattle.spelling.specs.Lines.{one_line, kind_word}
+use Rattle.spelling.specs.Text.{bid_text, tender_text, reserve_text, head_text, bids_text, text_of}
+use Rattle.spelling.specs.DecimalLaws.{decimal_plain, numeral_decimal}
+use Rattle.spelling.specs.PriceLaws.{price_decimal}
+use Rattle.spelling.specs.WordLaws.{spaced, tender_words, one_words, window_words, bid_words, bid_line_lem, tender_line_lem, one_line_lem}
+use Rattle.spelling.specs.WordLaws.{bid_without, Named, AllNamed, span_back, windows_back}
 
 -- a line of words before more
-line-then : (w : List ℕ) (ws : List (List ℕ)) (rest : List ℕ) → Without 10 (w ∷ ws)
+line_then : (w : List ℕ) (ws : List (List ℕ)) (rest : List ℕ) → Without 10 (w ∷ ws)
     → cut 10 ((spaced (w ∷ ws) ++ 10 ∷ []) ++ rest) ≡ spaced (w ∷ ws) ∷ cut 10 rest
-line-then w ws rest h = ap (cut 10) (append_assoc (spaced (w ∷ ws)) (10 ∷ []) rest)
-    ∙ cut-end 10 (spaced (w ∷ ws)) rest (rejoined-among 10 32 w ws refl h)
+line_then w ws rest h = ap (cut 10) (append_assoc (spaced (w ∷ ws)) (10 ∷ []) rest)
+    ∙ cut_end 10 (spaced (w ∷ ws)) rest (rejoined_among 10 32 w ws refl h)
 
 -- a bid whose numbers a text may name, with some window
 abbrev pub Nameable : BidLine → Type 0
@@ -39,13 +39,13 @@ abbrev pub AllNameable : List BidLine → Type 0
 AllNameable [] = Unit {0}
 AllNameable (b ∷ bs) = Nameable b × AllNameable bs
 
-bid-words-back : (n p : ℕ) (w : Window) (ws : List Window) → n < 1000000000 → p < 1000000000 → AllNamed (w ∷ ws) →
-    line_of (spaced (bidWords n (decimal p) (w ∷ ws))) ≡ some (bid (record { bidder = n; price = p; windows = w ∷ ws }))
-unfolding line_of lineOfWords sameBytes tenderWord bidWord bytes bidWords bidOf and_then among
-bid-words-back n p w ws a b h =
-    rw (cut-rejoined 32 (40 ∷ bidWord) (decimal n ∷ decimal p ∷ windowWords (w ∷ ws))
-    (bid-without 32 n p w ws (omega arith) refl refl refl))
-    (rw (numeral-decimal n a, price-decimal p b, windows-back w ws h))
+bid_words_back : (n p : ℕ) (w : Window) (ws : List Window) → n < 1000000000 → p < 1000000000 → AllNamed (w ∷ ws) →
+    line_of (spaced (bid_words n (decimal p) (w ∷ ws))) ≡ some (bid (record { bidder = n; price = p; windows = w ∷ ws }))
+unfolding line_of line_of_words equal_bytes tender_word bid_word bytes bid_words bid_of and_then among
+bid_words_back n p w ws a b h =
+    rw (cut_rejoined 32 (40 ∷ bid_word) (decimal n ∷ decimal p ∷ window_words (w ∷ ws))
+    (bid_without 32 n p w ws (omega arith) refl refl refl))
+    (rw (numeral_decimal n a, price_decimal p b, windows_back w ws h))
 
 -- a bid's line before more lines
 pub record Read (line : List ℕ) (x : Line) : Type 0 where
@@ -53,136 +53,136 @@ pub record Read (line : List ℕ) (x : Line) : Type 0 where
   pub cuts : (rest : List ℕ) → cut 10 (line ++ rest) ≡ words ∷ cut 10 rest
   pub is : line_of words ≡ some x
 
-pub bid-back : (b : BidLine) → Nameable b → Read (bidText b) (bid b)
-unfolding bidText among bidWord bytes bidWords
-bid-back b h = go h.1.1.0 h.1.1.1 h.1.1.2 h.1.1.3
+pub bid_back : (b : BidLine) → Nameable b → Read (bid_text b) (bid b)
+unfolding bid_text among bid_word bytes bid_words
+bid_back b h = go h.1.1.0 h.1.1.1 h.1.1.2 h.1.1.3
   where
-    go : (w : Window) (ws : List Window) → b.windows ≡ w ∷ ws → AllNamed (w ∷ ws) → Read (bidText b) (bid b)
+    go : (w : Window) (ws : List Window) → b.windows ≡ w ∷ ws → AllNamed (w ∷ ws) → Read (bid_text b) (bid b)
     go w ws e a =
         let q : ◌≡◌ {A = BidLine} b (record { bidder = b.bidder; price = b.price; windows = w ∷ ws }) =
         ap (λ (l : List Window). record { bidder = b.bidder; price = b.price; windows = l }) e in
         rw q record {
-          words = spaced (bidWords b.bidder (decimal b.price) (w ∷ ws));
-          cuts = λ rest. ap (λ s. cut 10 (s ++ rest)) (bid-line (decimal b.price) b.bidder b.price w ws)
-              ∙ line-then (40 ∷ bidWord) (decimal b.bidder ∷ decimal b.price ∷ windowWords (w ∷ ws)) rest
-              (bid-without 10 b.bidder b.price w ws (omega arith) refl refl refl);
-          is = bid-words-back b.bidder b.price w ws h.0 h.1.0 a;
+          words = spaced (bid_words b.bidder (decimal b.price) (w ∷ ws));
+          cuts = λ rest. ap (λ s. cut 10 (s ++ rest)) (bid_line_lem (decimal b.price) b.bidder b.price w ws)
+              ∙ line_then (40 ∷ bid_word) (decimal b.bidder ∷ decimal b.price ∷ window_words (w ∷ ws)) rest
+              (bid_without 10 b.bidder b.price w ws (omega arith) refl refl refl);
+          is = bid_words_back b.bidder b.price w ws h.0 h.1.0 a;
         }
 
 -- the tender's line
 
-kind-back : (k : Kind) → kind_of (kindWord k) ≡ some k
-unfolding kind_of kindWord sameBytes singleWord multiWord bytes
-kind-back Single = refl
-kind-back Multi = refl
+kind_back : (k : Kind) → kind_of (kind_word k) ≡ some k
+unfolding kind_of kind_word equal_bytes single_word multi_word bytes
+kind_back Single = refl
+kind_back Multi = refl
 
-kind-space : (k : Kind) → among 32 (kindWord k) ≡ false
-unfolding kindWord singleWord multiWord bytes among
-kind-space Single = refl
-kind-space Multi = refl
+kind_space : (k : Kind) → among 32 (kind_word k) ≡ false
+unfolding kind_word single_word multi_word bytes among
+kind_space Single = refl
+kind_space Multi = refl
 
-kind-end : (k : Kind) → among 10 (kindWord k) ≡ false
-unfolding kindWord singleWord multiWord bytes among
-kind-end Single = refl
-kind-end Multi = refl
+kind_end : (k : Kind) → among 10 (kind_word k) ≡ false
+unfolding kind_word single_word multi_word bytes among
+kind_end Single = refl
+kind_end Multi = refl
 
-tender-without : (d : ℕ) (t : Tender) → d < 40 → among d (40 ∷ tenderWord) ≡ false → among d (kindWord t.kind) ≡ false
-    → among d (41 ∷ []) ≡ false → Without d (tenderWords t)
-unfolding tenderWords
-tender-without d t l a k b = (
+tender_without : (d : ℕ) (t : Tender) → d < 40 → among d (40 ∷ tender_word) ≡ false → among d (kind_word t.kind) ≡ false
+    → among d (41 ∷ []) ≡ false → Without d (tender_words t)
+unfolding tender_words
+tender_without d t l a k b = (
   a,
   (
     k,
     (
-      decimal-plain d t.window.start (omega arith),
-      (among-append d (decimal t.window.end) (41 ∷ []) (decimal-plain d t.window.end (omega arith)) b, tt),
+      decimal_plain d t.window.start (omega arith),
+      (among_append d (decimal t.window.end) (41 ∷ []) (decimal_plain d t.window.end (omega arith)) b, tt),
     ),
   ),
 )
 
-tender-words-back : (t : Tender) → Named (asWindow t.window) → line_of (spaced (tenderWords t)) ≡ some (tender (tenderLine t))
-unfolding line_of lineOfWords sameBytes tenderWord bytes tenderWords tenderOf and_then among
-tender-words-back t h =
-    rw (cut-rejoined 32 (40 ∷ tenderWord) (kindWord t.kind ∷ decimal t.window.start ∷ (decimal t.window.end ++ 41 ∷ [])
-    ∷ []) (tender-without 32 t (omega arith) refl (kind-space t.kind) refl))
-    (rw (kind-back t.kind, closed-back (decimal t.window.end), span-back t.window h))
+tender_words_back : (t : Tender) → Named (as_window t.window) → line_of (spaced (tender_words t)) ≡ some (tender (tender_line t))
+unfolding line_of line_of_words equal_bytes tender_word bytes tender_words tender_of and_then among
+tender_words_back t h =
+    rw (cut_rejoined 32 (40 ∷ tender_word) (kind_word t.kind ∷ decimal t.window.start ∷ (decimal t.window.end ++ 41 ∷ [])
+    ∷ []) (tender_without 32 t (omega arith) refl (kind_space t.kind) refl))
+    (rw (kind_back t.kind, closed_back (decimal t.window.end), span_back t.window h))
 
-pub tender-back : (t : Tender) → Named (asWindow t.window) → Read (tenderText t) (tender (tenderLine t))
-unfolding among tenderWord bytes tenderWords
-tender-back t h = record {
-  words = spaced (tenderWords t);
-  cuts = λ rest. ap (λ s. cut 10 (s ++ rest)) (tender-line t)
-      ∙ line-then (40 ∷ tenderWord) (kindWord t.kind ∷ decimal t.window.start ∷ (decimal t.window.end ++ 41 ∷ [])
-      ∷ []) rest (tender-without 10 t (omega arith) refl (kind-end t.kind) refl);
-  is = tender-words-back t h;
+pub tender_back : (t : Tender) → Named (as_window t.window) → Read (tender_text t) (tender (tender_line t))
+unfolding among tender_word bytes tender_words
+tender_back t h = record {
+  words = spaced (tender_words t);
+  cuts = λ rest. ap (λ s. cut 10 (s ++ rest)) (tender_line_lem t)
+      ∙ line_then (40 ∷ tender_word) (kind_word t.kind ∷ decimal t.window.start ∷ (decimal t.window.end ++ 41 ∷ [])
+      ∷ []) rest (tender_without 10 t (omega arith) refl (kind_end t.kind) refl);
+  is = tender_words_back t h;
 }
 
 -- a line (word a)
 
-one-without : (d : ℕ) (word : List ℕ) (a : ℕ) → d < 48 → among d (40 ∷ word) ≡ false → among d (41 ∷ []) ≡ false
-    → Without d (oneWords word (decimal a))
-unfolding oneWords
-one-without d word a l k b = (k, (among-append d (decimal a) (41 ∷ []) (decimal-plain d a l) b, tt))
+one_without : (d : ℕ) (word : List ℕ) (a : ℕ) → d < 48 → among d (40 ∷ word) ≡ false → among d (41 ∷ []) ≡ false
+    → Without d (one_words word (decimal a))
+unfolding one_words
+one_without d word a l k b = (k, (among_append d (decimal a) (41 ∷ []) (decimal_plain d a l) b, tt))
 
-pub one-cuts : (word : List ℕ) (a : ℕ) (rest : List ℕ) → among 10 word ≡ false
-    → cut 10 (oneLine word a ++ rest) ≡ spaced (oneWords word (decimal a)) ∷ cut 10 rest
-unfolding oneLine oneWords among
-one-cuts word a rest h = ap (λ s. cut 10 (s ++ rest)) (one_line word (decimal a))
-    ∙ line-then (40 ∷ word) ((decimal a ++ 41 ∷ []) ∷ []) rest (one-without 10 word a (omega arith) h refl)
+pub one_cuts : (word : List ℕ) (a : ℕ) (rest : List ℕ) → among 10 word ≡ false
+    → cut 10 (one_line word a ++ rest) ≡ spaced (one_words word (decimal a)) ∷ cut 10 rest
+unfolding one_line one_words among
+one_cuts word a rest h = ap (λ s. cut 10 (s ++ rest)) (one_line_lem word (decimal a))
+    ∙ line_then (40 ∷ word) ((decimal a ++ 41 ∷ []) ∷ []) rest (one_without 10 word a (omega arith) h refl)
 
-pub one-words : (word : List ℕ) (a : ℕ) → among 32 word ≡ false
-    → cut 32 (spaced (oneWords word (decimal a))) ≡ oneWords word (decimal a)
-unfolding oneWords among
-one-words word a h = cut-rejoined 32 (40 ∷ word) ((decimal a ++ 41 ∷ []) ∷ []) (one-without 32 word a (omega arith) h refl)
+pub one_words_lem : (word : List ℕ) (a : ℕ) → among 32 word ≡ false
+    → cut 32 (spaced (one_words word (decimal a))) ≡ one_words word (decimal a)
+unfolding one_words among
+one_words_lem word a h = cut_rejoined 32 (40 ∷ word) ((decimal a ++ 41 ∷ []) ∷ []) (one_without 32 word a (omega arith) h refl)
 
 -- the reserve's line
 
-reserve-words-back : (p : ℕ) → p < 1000000000 → line_of (spaced (oneWords reserveWord (decimal p))) ≡ some (reserve p)
-unfolding line_of lineOfWords sameBytes tenderWord bidWord reserveWord bytes oneWords reserveOf and_then among
-reserve-words-back p l = rw (one-words reserveWord p refl) (rw (closed-back (decimal p), price-decimal p l))
+reserve_words_back : (p : ℕ) → p < 1000000000 → line_of (spaced (one_words reserve_word (decimal p))) ≡ some (reserve p)
+unfolding line_of line_of_words equal_bytes tender_word bid_word reserve_word bytes one_words reserve_of and_then among
+reserve_words_back p l = rw (one_words_lem reserve_word p refl) (rw (closed_back (decimal p), price_decimal p l))
 
-reserve-back : (p : ℕ) → p < 1000000000 → Read (reserveText (Price p)) (reserve p)
-unfolding reserveText reserveWord bytes among
-reserve-back p l = record {
-  words = spaced (oneWords reserveWord (decimal p));
-  cuts = λ rest. one-cuts reserveWord p rest refl;
-  is = reserve-words-back p l;
+reserve_back : (p : ℕ) → p < 1000000000 → Read (reserve_text (Price p)) (reserve p)
+unfolding reserve_text reserve_word bytes among
+reserve_back p l = record {
+  words = spaced (one_words reserve_word (decimal p));
+  cuts = λ rest. one_cuts reserve_word p rest refl;
+  is = reserve_words_back p l;
 }
 
 -- a line that reads back, before pieces of which there is a first
-first-line : (line rest : List ℕ) (x : Line) → Read line x → lines_of (cut 10 (line ++ rest)) ≡ some x ∷ lines_of (cut 10 rest)
+first_line_lem : (line rest : List ℕ) (x : Line) → Read line x → lines_of (cut 10 (line ++ rest)) ≡ some x ∷ lines_of (cut 10 rest)
 unfolding lines_of
-first-line line rest x r = rw (r.cuts rest, (cut-some 10 rest).are, r.is)
+first_line_lem line rest x r = rw (r.cuts rest, (cut_some 10 rest).are, r.is)
 
 -- what is on the lines of some bids
-unfoldable pub asLines : List BidLine → List (Option Line)
-asLines [] = []
-asLines (b ∷ bs) = some (bid b) ∷ asLines bs
+unfoldable pub as_lines : List BidLine → List (Option Line)
+as_lines [] = []
+as_lines (b ∷ bs) = some (bid b) ∷ as_lines bs
 
-pub bids-back : (bs : List BidLine) → AllNameable bs → lines_of (cut 10 (bidsText bs)) ≡ asLines bs
-unfolding bidsText asLines lines_of cut
-bids-back [] h = refl
-bids-back (b ∷ bs) h =
-    first-line (bidText b) (bidsText bs) (bid b) (bid-back b h.0)
-    ∙ ap {B = List (Option Line)} (λ l. some (bid b) ∷ l) (bids-back bs h.1)
+pub bids_back : (bs : List BidLine) → AllNameable bs → lines_of (cut 10 (bids_text bs)) ≡ as_lines bs
+unfolding bids_text as_lines lines_of cut
+bids_back [] h = refl
+bids_back (b ∷ bs) h =
+    first_line_lem (bid_text b) (bids_text bs) (bid b) (bid_back b h.0)
+    ∙ ap {B = List (Option Line)} (λ l. some (bid b) ∷ l) (bids_back bs h.1)
 
 -- a reserve that a text may name
 abbrev pub NamedReserve : Reserve → Type 0
 NamedReserve Absent = Unit {0}
 NamedReserve (Price p) = p < 1000000000
 
-reserve-first : (r : Reserve) (rest : List ℕ) → NamedReserve r
-    → lines_of (cut 10 (reserveText r ++ rest)) ≡ map (λ x. some x) (reserveLines r) ++ lines_of (cut 10 rest)
-unfolding reserveText reserveLines
-reserve-first Absent rest h = refl
-reserve-first (Price p) rest h = first-line (reserveText (Price p)) rest (reserve p) (reserve-back p h)
+reserve_first : (r : Reserve) (rest : List ℕ) → NamedReserve r
+    → lines_of (cut 10 (reserve_text r ++ rest)) ≡ map (λ x. some x) (reserve_lines r) ++ lines_of (cut 10 rest)
+unfolding reserve_text reserve_lines
+reserve_first Absent rest h = refl
+reserve_first (Price p) rest h = first_line_lem (reserve_text (Price p)) rest (reserve p) (reserve_back p h)
 
 -- the whole text's lines, whatever its length
-pub text-back : (t : Tender) (bs : List BidLine) → Named (asWindow t.window) → NamedReserve t.reserve → AllNameable bs
-    → lines_of (cut 10 (text_of t bs)) ≡ map (λ x. some x) (headLines t) ++ asLines bs
-unfolding text_of headText headLines
-text-back t bs n r h =
-    ap (λ s. lines_of (cut 10 s)) (append_assoc (tenderText t) (reserveText t.reserve) (bidsText bs))
-    ∙ first-line (tenderText t) (reserveText t.reserve ++ bidsText bs) (tender (tenderLine t)) (tender-back t n)
-    ∙ ap {B = List (Option Line)} (λ l. some (tender (tenderLine t)) ∷ l) (reserve-first t.reserve (bidsText bs) r
-    ∙ ap (λ l. map (λ x. some x) (reserveLines t.reserve) ++ l) (bids-back bs h))
+pub text_back : (t : Tender) (bs : List BidLine) → Named (as_window t.window) → NamedReserve t.reserve → AllNameable bs
+    → lines_of (cut 10 (text_of t bs)) ≡ map (λ x. some x) (head_lines t) ++ as_lines bs
+unfolding text_of head_text head_lines
+text_back t bs n r h =
+    ap (λ s. lines_of (cut 10 s)) (append_assoc (tender_text t) (reserve_text t.reserve) (bids_text bs))
+    ∙ first_line_lem (tender_text t) (reserve_text t.reserve ++ bids_text bs) (tender (tender_line t)) (tender_back t n)
+    ∙ ap {B = List (Option Line)} (λ l. some (tender (tender_line t)) ∷ l) (reserve_first t.reserve (bids_text bs) r
+    ∙ ap (λ l. map (λ x. some x) (reserve_lines t.reserve) ++ l) (bids_back bs h))

@@ -5,69 +5,69 @@ use Rattle.tender.specs.declared.Kind.{Kind}
 use Rattle.tender.specs.declared.Kind.TheVariants.{Single, Multi}
 use Rattle.tender.specs.declared.Refusal.{Refusal}
 use Rattle.tender.specs.Refusals.{number_of, place_of}
-use Rattle.tender.specs.Keywords.{bytes, singleWord, multiWord}
-use Rattle.spelling.specs.Decimal.{digitsBefore, decimal}
-use Rattle.spelling.specs.Lines.{closing, numbers, pairLine, oneLine, kindWord, refusedWord, refusedLine}
+use Rattle.tender.specs.Keywords.{bytes, single_word, multi_word}
+use Rattle.spelling.specs.Decimal.{digits_before, decimal}
+use Rattle.spelling.specs.Lines.{closing, numbers, pair_line, one_line, kind_word, refused_word, refused_line}
 
-short : (f n : ℕ) (done : List ℕ) → length (digitsBefore f n done) ≤ f + length done
-unfolding digitsBefore
+short : (f n : ℕ) (done : List ℕ) → length (digits_before f n done) ≤ f + length done
+unfolding digits_before
 short zero n done = omega arith
 short (suc f) n done = go (ltb n 10) (short f (n / 10) ((48 + n % 10) ∷ done))
   where
-    go : (t : Bool) → length (digitsBefore f (n / 10) ((48 + n % 10) ∷ done)) ≤ f + suc (length done) →
-        length (cond t ((48 + n % 10) ∷ done) (digitsBefore f (n / 10) ((48 + n % 10) ∷ done))) ≤ suc f + length done
+    go : (t : Bool) → length (digits_before f (n / 10) ((48 + n % 10) ∷ done)) ≤ f + suc (length done) →
+        length (cond t ((48 + n % 10) ∷ done) (digits_before f (n / 10) ((48 + n % 10) ∷ done))) ≤ suc f + length done
     go true l = omega arith
     go false l = omega arith
 
-pub decimal-short : (n : ℕ) → length (decimal n) ≤ 20
+pub decimal_short : (n : ℕ) → length (decimal n) ≤ 20
 unfolding decimal
-decimal-short n = omega (arith, short 20 n [])
+decimal_short n = omega (arith, short 20 n [])
 
-pub numbers-short : (a b : ℕ) → length (numbers a b) ≤ 44
+pub numbers_short : (a b : ℕ) → length (numbers a b) ≤ 44
 unfolding numbers closing bytes
-numbers-short a b = omega (
+numbers_short a b = omega (
   arith,
-  decimal-short a,
-  decimal-short b,
+  decimal_short a,
+  decimal_short b,
   length-append (32 ∷ decimal a) (32 ∷ decimal b),
   length-append ((32 ∷ decimal a) ++ (32 ∷ decimal b)) (41 ∷ 10 ∷ []),
 )
 
-pub kind-short : (k : Kind) → length (kindWord k) ≤ 6
-unfolding kindWord singleWord multiWord bytes
-kind-short Single = omega arith
-kind-short Multi = omega arith
+pub kind_short : (k : Kind) → length (kind_word k) ≤ 6
+unfolding kind_word single_word multi_word bytes
+kind_short Single = omega arith
+kind_short Multi = omega arith
 
-pub pair-short : (word : List ℕ) (a b : ℕ) → length (pairLine word a b) ≤ 45 + length word
-unfolding pairLine
-pair-short word a b = omega (arith, numbers-short a b, length-append (40 ∷ []) word, length-append ((40 ∷ []) ++ word) (numbers a b))
+pub pair_short : (word : List ℕ) (a b : ℕ) → length (pair_line word a b) ≤ 45 + length word
+unfolding pair_line
+pair_short word a b = omega (arith, numbers_short a b, length-append (40 ∷ []) word, length-append ((40 ∷ []) ++ word) (numbers a b))
 
-pub pair-some : (word : List ℕ) (a b : ℕ) → 0 < length (pairLine word a b)
-unfolding pairLine
-pair-some word a b = omega (arith, length-append (40 ∷ []) word, length-append ((40 ∷ []) ++ word) (numbers a b))
+pub pair_some : (word : List ℕ) (a b : ℕ) → 0 < length (pair_line word a b)
+unfolding pair_line
+pair_some word a b = omega (arith, length-append (40 ∷ []) word, length-append ((40 ∷ []) ++ word) (numbers a b))
 
-pub one-short : (word : List ℕ) (a : ℕ) → length (oneLine word a) ≤ 24 + length word
-unfolding oneLine closing bytes
-one-short word a = omega (
+pub one_short : (word : List ℕ) (a : ℕ) → length (one_line word a) ≤ 24 + length word
+unfolding one_line closing bytes
+one_short word a = omega (
   arith,
-  decimal-short a,
+  decimal_short a,
   length-append (40 ∷ []) word,
   length-append ((40 ∷ []) ++ word) (32 ∷ decimal a),
   length-append ((40 ∷ []) ++ word ++ (32 ∷ decimal a)) (41 ∷ 10 ∷ []),
 )
 
-pub refusal-few : (n at : ℕ) → length (pairLine refusedWord n at) ≤ 52
-unfolding refusedWord bytes
-refusal-few n at = omega (arith, pair-short (114 ∷ 101 ∷ 102 ∷ 117 ∷ 115 ∷ 101 ∷ 100 ∷ []) n at)
+pub refusal_few : (n at : ℕ) → length (pair_line refused_word n at) ≤ 52
+unfolding refused_word bytes
+refusal_few n at = omega (arith, pair_short (114 ∷ 101 ∷ 102 ∷ 117 ∷ 115 ∷ 101 ∷ 100 ∷ []) n at)
 
 -- the line of a refusal
 
-pub refused-line : (r : Refusal) → refusedLine r ≡ pairLine refusedWord (number_of r) (place_of r)
-unfolding refusedLine
-refused-line r = refl
+pub refused_line_lem : (r : Refusal) → refused_line r ≡ pair_line refused_word (number_of r) (place_of r)
+unfolding refused_line
+refused_line_lem r = refl
 
-pub refused-short : (r : Refusal) → length (refusedLine r) ≤ 52
-refused-short r = rw (refused-line r) (refusal-few (number_of r) (place_of r))
+pub refused_short : (r : Refusal) → length (refused_line r) ≤ 52
+refused_short r = rw (refused_line_lem r) (refusal_few (number_of r) (place_of r))
 
-pub refused-some : (r : Refusal) → 0 < length (refusedLine r)
-refused-some r = rw (refused-line r) (pair-some refusedWord (number_of r) (place_of r))
+pub refused_some : (r : Refusal) → 0 < length (refused_line r)
+refused_some r = rw (refused_line_lem r) (pair_some refused_word (number_of r) (place_of r))

@@ -4,7 +4,7 @@ use Rattle.tender.specs.declared.Kind.{Kind}
 use Rattle.tender.specs.declared.Kind.TheVariants.{Single, Multi}
 use Rattle.tender.specs.declared.Refusal.{Refusal}
 use Rattle.tender.specs.Refusals.{number_of, place_of}
-use Rattle.tender.specs.Keywords.{bytes, singleWord, multiWord}
+use Rattle.tender.specs.Keywords.{bytes, single_word, multi_word}
 use Rattle.spelling.specs.Decimal.{decimal}
 
 -- the bytes that end a line
@@ -18,29 +18,29 @@ unfolding decimal closing
 numbers a b = (32 ∷ decimal a) ++ (32 ∷ decimal b) ++ closing
 
 -- (word a b)
-unfoldable pub pairLine : List ℕ → ℕ → ℕ → List ℕ
+unfoldable pub pair_line : List ℕ → ℕ → ℕ → List ℕ
 unfolding numbers
-pairLine word a b = (40 ∷ []) ++ word ++ numbers a b
+pair_line word a b = (40 ∷ []) ++ word ++ numbers a b
 
 -- (word p), both as bytes
-abbrev pub oneLineAs : List ℕ → List ℕ → List ℕ
-oneLineAs word p = (40 ∷ []) ++ word ++ (32 ∷ p) ++ closing
+abbrev pub one_line_as : List ℕ → List ℕ → List ℕ
+one_line_as word p = (40 ∷ []) ++ word ++ (32 ∷ p) ++ closing
 
 -- (word a)
-unfoldable pub oneLine : List ℕ → ℕ → List ℕ
+unfoldable pub one_line : List ℕ → ℕ → List ℕ
 unfolding decimal closing
-oneLine word a = oneLineAs word (decimal a)
+one_line word a = one_line_as word (decimal a)
 
-unfoldable pub kindWord : Kind → List ℕ
-unfolding singleWord multiWord
-kindWord Single = singleWord
-kindWord Multi = multiWord
+unfoldable pub kind_word : Kind → List ℕ
+unfolding single_word multi_word
+kind_word Single = single_word
+kind_word Multi = multi_word
 
-unfoldable pub refusedWord : List ℕ
+unfoldable pub refused_word : List ℕ
 unfolding bytes
-refusedWord = bytes "refused"
+refused_word = bytes "refused"
 
 -- the line of a refusal: its number and place
-unfoldable pub refusedLine : Refusal → List ℕ
-unfolding pairLine refusedWord
-refusedLine r = pairLine refusedWord (number_of r) (place_of r)
+unfoldable pub refused_line : Refusal → List ℕ
+unfolding pair_line refused_word
+refused_line r = pair_line refused_word (number_of r) (place_of r)

@@ -4,27 +4,27 @@ use Rattle.std.proofs.Math.Option.{some}
 use Rattle.tender.specs.declared.Reserve.{Reserve}
 use Rattle.tender.specs.declared.Reserve.TheVariants.{Absent, Price}
 use Rattle.tender.specs.declared.Tender.{Tender}
-use Rattle.tender.specs.Keywords.{reserveWord}
-use Rattle.reader_parts.specs.Words.{priceOf}
+use Rattle.tender.specs.Keywords.{reserve_word}
+use Rattle.reader_parts.specs.Words.{price_of}
 use Rattle.reader_forms.specs.Line.{BidLine}
-use Rattle.spelling.specs.Lines.{oneLineAs}
-use Rattle.spelling.specs.Text.{bidTextAs, tenderText}
+use Rattle.spelling.specs.Lines.{one_line_as}
+use Rattle.spelling.specs.Text.{bid_text_as, tender_text}
 
 -- a line for each bid, its price written by a word that is read as it
 abbrev pub SpeltBids : List ℕ → List BidLine → Type 0
 SpeltBids s [] = s ≡ []
 SpeltBids s (b ∷ bs) =
-    (p : List ℕ) × (rest : List ℕ) × (priceOf p ≡ some b.price) × (s ≡ bidTextAs p b ++ rest) × SpeltBids rest bs
+    (p : List ℕ) × (rest : List ℕ) × (price_of p ≡ some b.price) × (s ≡ bid_text_as p b ++ rest) × SpeltBids rest bs
 
 -- the reserve's line, where there is one, its price written so too
 abbrev pub SpeltReserve : List ℕ → Reserve → Type 0
 SpeltReserve s Absent = s ≡ []
-SpeltReserve s (Price v) = (p : List ℕ) × (priceOf p ≡ some v) × (s ≡ oneLineAs reserveWord p)
+SpeltReserve s (Price v) = (p : List ℕ) × (price_of p ≡ some v) × (s ≡ one_line_as reserve_word p)
 
 -- the text of a tender and its bids, up to the spelling of prices
 pub record Spelt (text : List ℕ) (t : Tender) (bs : List BidLine) : Type 0 where
   pub reserve : List ℕ
   pub bids : List ℕ
-  pub is : text ≡ tenderText t ++ (reserve ++ bids)
-  pub reserve-is : SpeltReserve reserve t.reserve
-  pub bids-are : SpeltBids bids bs
+  pub is : text ≡ tender_text t ++ (reserve ++ bids)
+  pub reserve_is : SpeltReserve reserve t.reserve
+  pub bids_are : SpeltBids bids bs

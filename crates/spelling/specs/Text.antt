@@ -4,61 +4,61 @@ use Rattle.tender.specs.declared.Window.{Window}
 use Rattle.tender.specs.declared.Reserve.{Reserve}
 use Rattle.tender.specs.declared.Reserve.TheVariants.{Absent, Price}
 use Rattle.tender.specs.declared.Tender.{Tender}
-use Rattle.tender.specs.Keywords.{bytes, reserveWord}
+use Rattle.tender.specs.Keywords.{bytes, reserve_word}
 use Rattle.tender.specs.Tables.{Row, own}
 use Rattle.reader_forms.specs.Line.{BidLine}
 use Rattle.spelling.specs.Decimal.{decimal}
-use Rattle.spelling.specs.Lines.{closing, numbers, oneLine, kindWord}
+use Rattle.spelling.specs.Lines.{closing, numbers, one_line, kind_word}
 
 -- " (START END)"
-unfoldable pub windowText : Window → List ℕ
+unfoldable pub window_text : Window → List ℕ
 unfolding bytes decimal
-windowText w = bytes " (" ++ (decimal w.start ++ (32 ∷ (decimal w.end ++ bytes ")")))
+window_text w = bytes " (" ++ (decimal w.start ++ (32 ∷ (decimal w.end ++ bytes ")")))
 
 -- one after the other
-unfoldable pub windowsText : List Window → List ℕ
-unfolding windowText
-windowsText [] = []
-windowsText (w ∷ ws) = windowText w ++ windowsText ws
+unfoldable pub windows_text : List Window → List ℕ
+unfolding window_text
+windows_text [] = []
+windows_text (w ∷ ws) = window_text w ++ windows_text ws
 
 -- "(bid BIDDER PRICE (START END) ..)" and byte 10, the price written as the word p
-unfoldable pub bidTextAs : List ℕ → BidLine → List ℕ
-unfolding bytes decimal windowsText closing
-bidTextAs p b = bytes "(bid " ++ (decimal b.bidder ++ (32 ∷ (p ++ (windowsText b.windows ++ closing))))
+unfoldable pub bid_text_as : List ℕ → BidLine → List ℕ
+unfolding bytes decimal windows_text closing
+bid_text_as p b = bytes "(bid " ++ (decimal b.bidder ++ (32 ∷ (p ++ (windows_text b.windows ++ closing))))
 
 -- the same, the price in cents
-unfoldable pub bidText : BidLine → List ℕ
-unfolding decimal bidTextAs
-bidText b = bidTextAs (decimal b.price) b
+unfoldable pub bid_text : BidLine → List ℕ
+unfolding decimal bid_text_as
+bid_text b = bid_text_as (decimal b.price) b
 
 -- one after the other
-unfoldable pub bidsText : List BidLine → List ℕ
-unfolding bidText
-bidsText [] = []
-bidsText (b ∷ bs) = bidText b ++ bidsText bs
+unfoldable pub bids_text : List BidLine → List ℕ
+unfolding bid_text
+bids_text [] = []
+bids_text (b ∷ bs) = bid_text b ++ bids_text bs
 
 -- "(tender KIND START END)" and byte 10
-unfoldable pub tenderText : Tender → List ℕ
-unfolding bytes kindWord numbers
-tenderText t = bytes "(tender " ++ (kindWord t.kind ++ numbers t.window.start t.window.end)
+unfoldable pub tender_text : Tender → List ℕ
+unfolding bytes kind_word numbers
+tender_text t = bytes "(tender " ++ (kind_word t.kind ++ numbers t.window.start t.window.end)
 
 -- "(reserve PRICE)" and byte 10, where there is a reserve
-unfoldable pub reserveText : Reserve → List ℕ
-unfolding oneLine reserveWord
-reserveText Absent = []
-reserveText (Price p) = oneLine reserveWord p
+unfoldable pub reserve_text : Reserve → List ℕ
+unfolding one_line reserve_word
+reserve_text Absent = []
+reserve_text (Price p) = one_line reserve_word p
 
 -- the lines before the bids: the tender's, and its reserve's
-unfoldable pub headText : Tender → List ℕ
-unfolding tenderText reserveText
-headText t = tenderText t ++ reserveText t.reserve
+unfoldable pub head_text : Tender → List ℕ
+unfolding tender_text reserve_text
+head_text t = tender_text t ++ reserve_text t.reserve
 
 -- the head, and a line for each bid
 unfoldable pub text_of : Tender → List BidLine → List ℕ
-unfolding headText bidsText
-text_of t bs = headText t ++ bidsText bs
+unfolding head_text bids_text
+text_of t bs = head_text t ++ bids_text bs
 
 -- the bid of a row
-unfoldable pub bidIn : List ℕ → Row → BidLine
+unfoldable pub bid_in : List ℕ → Row → BidLine
 unfolding own
-bidIn windows r = record { bidder = r.bidder; price = r.price; windows = own windows r }
+bid_in windows r = record { bidder = r.bidder; price = r.price; windows = own windows r }

@@ -35,8 +35,8 @@ pub record Copying (old : List ℕ) (at : ℕ) (s new : List ℕ) (i : ℕ) : Ty
   pub within : i ≤ length s
 
 module _ (old : List ℕ) (at : ℕ) (s : List ℕ) where
-  pub copy-begins : at + length s ≤ length old → Copying old at s old 0
-  copy-begins l = record { is = paste-zero old at s; fits = l; within = omega arith }
+  pub copy_begins : at + length s ≤ length old → Copying old at s old 0
+  copy_begins l = record { is = paste-zero old at s; fits = l; within = omega arith }
 
   pub copy_goes : (new : List ℕ) (i : ℕ) → i < length s → Copying old at s new i
       → Copying old at s (set new (at + i) (get_or s i 0)) (i + 1)
@@ -47,11 +47,11 @@ module _ (old : List ℕ) (at : ℕ) (s : List ℕ) where
     within = omega arith;
   }
 
-  pub copy-size : (new : List ℕ) (i : ℕ) → Copying old at s new i → length new ≡ length old
-  copy-size new i h = ap length h.is ∙ length-paste old at s i (omega (arith, h.fits, h.within)) h.within
+  pub copy_size : (new : List ℕ) (i : ℕ) → Copying old at s new i → length new ≡ length old
+  copy_size new i h = ap length h.is ∙ length-paste old at s i (omega (arith, h.fits, h.within)) h.within
 
-  pub copy-ends : (new : List ℕ) (i : ℕ) → length s ≤ i → Copying old at s new i → Written old at s new (at + length s)
-  copy-ends new i l h =
+  pub copy_ends : (new : List ℕ) (i : ℕ) → length s ≤ i → Copying old at s new i → Written old at s new (at + length s)
+  copy_ends new i l h =
       let e : i ≡ length s = omega (arith, h.within) in
       record {
         text = ap (take (at + length s)) (h.is ∙ ap (λ k. paste old at s k) e)
@@ -59,7 +59,7 @@ module _ (old : List ℕ) (at : ℕ) (s : List ℕ) where
         next = refl;
         rest = ap (drop (at + length s)) (h.is ∙ ap (λ k. paste old at s k) e)
             ∙ drop-paste old at s (length s) (omega (arith, h.fits)) (omega arith);
-        size = copy-size new i h;
+        size = copy_size new i h;
       }
 
 -- bytes written from the start, and what stood past them

@@ -1,7 +1,9 @@
 // Spells parts of texts and lists into a buffer: each function puts bytes from `at` on and answers the place past them.
+#![tactic(auto)]
+
 ghost use Rattle.std.specs.Prelude.{◌≡◌, [], ◌∷◌, ◌+◌, ◌≤◌, ◌<◌, length, drop};
 ghost use Rattle.spelling.specs.Decimal.{decimal};
-ghost use Rattle.spelling.specs.Lines.{numbers, pairLine, oneLine, kindWord, refusedLine};
+ghost use Rattle.spelling.specs.Lines.{numbers, pair_line, one_line, kind_word, refused_line};
 ghost use Rattle.spelling.specs.Written.{Written};
 
 use tender::{Kind, Refusal};
@@ -85,7 +87,7 @@ pub fn put_numbers(buf: &mut [u8], at: usize, a: u64, b: u64) -> usize
 // The line (word a b).
 pub fn put_pair(buf: &mut [u8], at: usize, word: &[u8], a: u64, b: u64) -> usize
     requires { at + length word.now + 45 ≤ length buf.old }
-    ensures { Written buf.old at (pairLine word.now a b) buf.new result }
+    ensures { Written buf.old at (pair_line word.now a b) buf.new result }
 {
     let begun = put(buf, at, b'(');
     let said = put_all(buf, begun, word);
@@ -95,7 +97,7 @@ pub fn put_pair(buf: &mut [u8], at: usize, word: &[u8], a: u64, b: u64) -> usize
 // The line (word a).
 pub fn put_one(buf: &mut [u8], at: usize, word: &[u8], a: u64) -> usize
     requires { at + length word.now + 24 ≤ length buf.old }
-    ensures { Written buf.old at (oneLine word.now a) buf.new result }
+    ensures { Written buf.old at (one_line word.now a) buf.new result }
 {
     let begun = put(buf, at, b'(');
     let said = put_all(buf, begun, word);
@@ -106,7 +108,7 @@ pub fn put_one(buf: &mut [u8], at: usize, word: &[u8], a: u64) -> usize
 // The keyword of a kind.
 pub fn put_kind(buf: &mut [u8], at: usize, kind: Kind) -> usize
     requires { at + 6 ≤ length buf.old }
-    ensures { Written buf.old at (kindWord kind) buf.new result }
+    ensures { Written buf.old at (kind_word kind) buf.new result }
 {
     match kind {
         Kind::Single => put_all(buf, at, &tender::SINGLE),
@@ -117,7 +119,7 @@ pub fn put_kind(buf: &mut [u8], at: usize, kind: Kind) -> usize
 // The line of a refusal, which is all that its text has for a list.
 pub fn put_refused(buf: &mut [u8], refusal: Refusal) -> usize
     requires { 52 ≤ length buf.old }
-    ensures { Written buf.old 0 (refusedLine refusal) buf.new result }
+    ensures { Written buf.old 0 (refused_line refusal) buf.new result }
 {
     let n = tender::number(refusal);
     let at = tender::place(refusal);

@@ -9,22 +9,22 @@ unfoldable pub bytes : String → List ℕ
 bytes S.[] = []
 bytes (S.◌∷◌ c s) = code c ∷ bytes s
 
-unfoldable pub tenderWord : List ℕ
+unfoldable pub tender_word : List ℕ
 unfolding bytes
-tenderWord = bytes "tender"
+tender_word = bytes "tender"
 
-unfoldable pub reserveWord : List ℕ
+unfoldable pub reserve_word : List ℕ
 unfolding bytes
-reserveWord = bytes "reserve"
+reserve_word = bytes "reserve"
 
-unfoldable pub bidWord : List ℕ
+unfoldable pub bid_word : List ℕ
 unfolding bytes
-bidWord = bytes "bid"
+bid_word = bytes "bid"
 
-unfoldable pub singleWord : List ℕ
+unfoldable pub single_word : List ℕ
 unfolding bytes
-singleWord = bytes "single"
+single_word = bytes "single"
 
-unfoldable pub multiWord : List ℕ
+unfoldable pub multi_word : List ℕ
 unfolding bytes
-multiWord = bytes "multi"
+multi_word = bytes "multi"

@@ -17,38 +17,38 @@ abbrev pub week : ℕ
 week = 10080
 
 -- prices are cents, 0 to 100,000,000
-abbrev pub maxPrice : ℕ
-maxPrice = 100000000
+abbrev pub max_price : ℕ
+max_price = 100000000
 
 -- bidder numbers run from 1 to 999,999
-abbrev pub maxBidder : ℕ
-maxBidder = 999999
+abbrev pub max_bidder : ℕ
+max_bidder = 999999
 
-abbrev pub maxBids : ℕ
-maxBids = 1000
+abbrev pub max_bids : ℕ
+max_bids = 1000
 
 -- an award can weigh the bids and one entry more
-abbrev pub maxEntries : ℕ
-maxEntries = 1001
+abbrev pub max_entries : ℕ
+max_entries = 1001
 
-abbrev pub maxWindows : ℕ
-maxWindows = 32
+abbrev pub max_windows : ℕ
+max_windows = 32
 
-abbrev pub maxText : ℕ
-maxText = 65536
+abbrev pub max_text : ℕ
+max_text = 65536
 
 -- how many windows a bid may have
-unfoldable pub mostWindows : Kind → ℕ
-mostWindows Single = 1
-mostWindows Multi = maxWindows
+unfoldable pub most_windows : Kind → ℕ
+most_windows Single = 1
+most_windows Multi = max_windows
 
-unfoldable pub isSingle : Kind → Bool
-isSingle Single = true
-isSingle Multi = false
+unfoldable pub is_single : Kind → Bool
+is_single Single = true
+is_single Multi = false
 
 -- the window that holds the minutes of a span
-abbrev pub asWindow : Span → Window
-asWindow s = record { start = s.start; end = s.end }
+abbrev pub as_window : Span → Window
+as_window s = record { start = s.start; end = s.end }
 
 -- a window (S E) has 0 ≤ S < E
 abbrev pub ordered : Window → Bool
@@ -62,14 +62,14 @@ unfoldable pub lawful : Window → Bool
 lawful w = ordered w && early w
 
 -- a reserve is a price within its limits
-unfoldable pub lawfulReserve : Reserve → Bool
-lawfulReserve Absent = true
-lawfulReserve (Price p) = leb p maxPrice
+unfoldable pub lawful_reserve : Reserve → Bool
+lawful_reserve Absent = true
+lawful_reserve (Price p) = leb p max_price
 
 -- the rules of a tender: its own window and its reserve are lawful
-unfoldable pub soundTender : Tender → Bool
-unfolding lawful lawfulReserve
-soundTender t = lawful (asWindow t.window) && lawfulReserve t.reserve
+unfoldable pub sound_tender : Tender → Bool
+unfolding lawful lawful_reserve
+sound_tender t = lawful (as_window t.window) && lawful_reserve t.reserve
 
 -- each of the windows passes the test
 unfoldable pub every : (Window → Bool) → List Window → Bool

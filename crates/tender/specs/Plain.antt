@@ -5,5 +5,5 @@ use Rattle.tender.specs.declared.Reserve.TheVariants.{Absent}
 use Rattle.tender.specs.declared.Tender.{Tender}
 
 -- the tender of which nothing is said but its kind and its window: it has no reserve
-abbrev pub plainTender : Kind → ℕ → ℕ → Tender
-plainTender kind start end = record { kind = kind; window = record { start = start; end = end }; reserve = Absent }
+abbrev pub plain_tender : Kind → ℕ → ℕ → Tender
+plain_tender kind start end = record { kind = kind; window = record { start = start; end = end }; reserve = Absent }

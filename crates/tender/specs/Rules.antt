@@ -3,12 +3,12 @@ use Rattle.std.specs.Prelude.{◌≡◌, ℕ, ◌≤◌, ◌<◌}
 use Rattle.tender.specs.declared.Window.{Window}
 use Rattle.tender.specs.declared.Reserve.TheVariants.{Price}
 use Rattle.tender.specs.declared.Tender.{Tender}
-use Rattle.tender.specs.Limits.{asWindow}
+use Rattle.tender.specs.Limits.{as_window}
 
 pub record WindowRules (w : Window) : Type 0 where
-  pub some-minute : w.start < w.end
-  pub in-week : w.end ≤ 10080
+  pub some_minute : w.start < w.end
+  pub in_week : w.end ≤ 10080
 
 pub record TenderRules (t : Tender) : Type 0 where
-  pub window : WindowRules (asWindow t.window)
+  pub window : WindowRules (as_window t.window)
   pub reserve : (p : ℕ) → t.reserve ≡ Price p → p ≤ 100000000

@@ -4,19 +4,19 @@ use Rattle.std.specs.Prelude.{ℕ, zero, suc, ◌+◌, ◌*◌, List, [], ◌∷
 use Rattle.tender.specs.declared.Window.{Window}
 
 -- the numbers of a row of the bid table
-abbrev pub bidWidth : ℕ
-bidWidth = 4
+abbrev pub bid_width : ℕ
+bid_width = 4
 
 -- the numbers of a row of the window table
-abbrev pub windowWidth : ℕ
-windowWidth = 2
+abbrev pub window_width : ℕ
+window_width = 2
 
 -- the numbers of a bid table and of a window table that have room for every readable text
-abbrev pub bidTable : ℕ
-bidTable = 4000
+abbrev pub bid_table : ℕ
+bid_table = 4000
 
-abbrev pub windowTable : ℕ
-windowTable = 22000
+abbrev pub window_table : ℕ
+window_table = 22000
 
 -- a row of the bid table
 pub record Row : Type 0 where
@@ -26,29 +26,29 @@ pub record Row : Type 0 where
   pub count : ℕ
 
 -- the numbers of the rows, one after the other
-unfoldable pub flatRows : List Row → List ℕ
-flatRows [] = []
-flatRows (r ∷ rs) = r.bidder ∷ r.price ∷ r.first ∷ r.count ∷ flatRows rs
+unfoldable pub flat_rows : List Row → List ℕ
+flat_rows [] = []
+flat_rows (r ∷ rs) = r.bidder ∷ r.price ∷ r.first ∷ r.count ∷ flat_rows rs
 
-unfoldable pub flatWindows : List Window → List ℕ
-flatWindows [] = []
-flatWindows (w ∷ ws) = w.start ∷ w.end ∷ flatWindows ws
+unfoldable pub flat_windows : List Window → List ℕ
+flat_windows [] = []
+flat_windows (w ∷ ws) = w.start ∷ w.end ∷ flat_windows ws
 
 -- the first n rows of a table
 unfoldable pub rows_of : ℕ → List ℕ → List Row
 rows_of zero table = []
 rows_of (suc n) table = record { bidder = get_or table 0 0; price = get_or table 1 0; first = get_or table 2 0; count = get_or table 3 0 }
-    ∷ rows_of n (drop bidWidth table)
+    ∷ rows_of n (drop bid_width table)
 
 -- row j of a window table
-abbrev pub windowAt : List ℕ → ℕ → Window
-windowAt table j = record { start = get_or table (windowWidth * j) 0; end = get_or table (windowWidth * j + 1) 0 }
+abbrev pub window_at : List ℕ → ℕ → Window
+window_at table j = record { start = get_or table (window_width * j) 0; end = get_or table (window_width * j + 1) 0 }
 
-unfoldable pub windowsOf : ℕ → List ℕ → List Window
-windowsOf zero table = []
-windowsOf (suc n) table = windowAt table 0 ∷ windowsOf n (drop windowWidth table)
+unfoldable pub windows_of : ℕ → List ℕ → List Window
+windows_of zero table = []
+windows_of (suc n) table = window_at table 0 ∷ windows_of n (drop window_width table)
 
 -- the windows of a row
 unfoldable pub own : List ℕ → Row → List Window
-unfolding windowsOf
-own windows r = windowsOf r.count (drop (windowWidth * r.first) windows)
+unfolding windows_of
+own windows r = windows_of r.count (drop (window_width * r.first) windows)

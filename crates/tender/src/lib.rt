@@ -1,8 +1,10 @@
 // The data that every crate here speaks of: kinds, spans, windows, reserves, tenders, limits, keywords, award rows, answers and refusals.
 // No algorithm stands here. `specs/` has what the crates above cite of it: the limits and the rule of a
 // window, the layout of the two tables, the keywords, and each refusal's number and place.
+#![tactic(auto)]
+
 ghost use Rattle.std.specs.Prelude.{◌≡◌};
-ghost use Rattle.tender.specs.Plain.{plainTender};
+ghost use Rattle.tender.specs.Plain.{plain_tender};
 ghost use Rattle.tender.specs.Refusals.{number_of, place_of};
 
 // A single tender takes bids of one window each, a multi tender bids of several.
@@ -132,7 +134,7 @@ pub const MULTI: [u8; 5] = *b"multi";
 
 // A tender of this kind and window, without a reserve.
 pub fn plain(kind: Kind, start: u64, end: u64) -> Tender
-    ensures { result ≡ plainTender kind start end }
+    ensures { result ≡ plain_tender kind start end }
 {
     let window = Span { start, end };
     let reserve = Reserve::Absent;

@@ -146,8 +146,8 @@ module _ {M : Type 1} {𝓤 : Ura M} (𝓛 : Logic 𝓤) (k : Kind) (κs : Lfts 
     abbrev Lives : Item 𝓤
     Lives = BidsLive ⊛ (WindowsLive ⊛ (LentLive ⊛ ‵ ftrue))
 
-    abbrev pub to-award : (Award 𝓛 k).Ghost
-    to-award = (
+    abbrev pub to_award : (Award 𝓛 k).Ghost
+    to_award = (
       (
         (κs.0, (κs.1.0, (ν ∷ [], tt))),
         (qs.0, (qs.1.0, (full_share, tt))),
@@ -166,8 +166,8 @@ module _ {M : Type 1} {𝓤 : Ura M} (𝓛 : Logic 𝓤) (k : Kind) (κs : Lfts 
         ∷ ‵ ((ShrSlice (named 1) κs.1.0 u64).own_val (windows a) (shr_slice_vals (windows a)))
         ∷ ‵ ((MutSlice (named 2) (ν ∷ []) Row.the_row).own_val lent (shr_slice_vals lent)) ∷ Γ
 
-    goes-award : Known a κs → ent 𝓤 (⋆ 𝓛 (Lives ∷ Owns [])) ((Award 𝓛 k).pre to-award)
-    goes-award known =
+    goes_award : Known a κs → ent 𝓤 (⋆ 𝓛 (Lives ∷ Owns [])) ((Award 𝓛 k).pre to_award)
+    goes_award known =
         qed 𝓛 (Lives ∷ Owns []) ∵
         nothing ! $ move ! (4 ∷ 0 ∷ []) $ fjoin ! $ move ! (3 ∷ 0 ∷ []) $ fjoin ! $ move ! (2 ∷ 0 ∷ []) $ fjoin ! $
         owned ! usize (Is usize) (uint_Makes 𝓛 w64) (count a) _ known.1.0 $ fjoin ! $
@@ -178,13 +178,13 @@ module _ {M : Type 1} {𝓤 : Ura M} (𝓛 : Logic 𝓤) (k : Kind) (κs : Lfts 
     module _ {K : Type 0} {Γ : List (Item 𝓤)} {E : Env 𝓤 H} {C : Calls 𝓤 H} {Λ : Loops 𝓤 H} {q : Post 𝓤 H} {g : Name}
         {xs : List Operand} {d : Place} {rest : Body} where
       pub awards : K → FmC 𝓤 H 𝓛.laws C → Triple 𝓤 (C g) (Award 𝓛 k) → Known a κs
-          → Opds K 𝓛 (raw ((Award 𝓛 k).pre to-award) ∷ Γ) E xs ((Award 𝓛 k).args to-award)
+          → Opds K 𝓛 (raw ((Award 𝓛 k).pre to_award) ∷ Γ) E xs ((Award 𝓛 k).args to_award)
           → ((v : Val) (r : Answer) (last : List AwardRow) → Promised last r → Is Ans.the_row r (v ∷ []) → length last ≡ length (rows a)
           → Seq K 𝓛 (LentLive ∷ WindowsLive ∷ BidsLive ∷ ‵ (finally Row.the_row δ last) ∷ Γ) (lands C Λ E d v rest q))
           → Seq K 𝓛 (BidsLive ∷ WindowsLive ∷ LentLive ∷ Owns Γ) (runs C Λ E (seq (call g xs d) rest) q)
       awards t fm known-award known passed k' =
           nothing t $ move t (1 ∷ 2 ∷ 3 ∷ 0 ∷ []) $ group t 4 $ group t 4 $
-          called 𝓛 t fm award.ended (promised 𝓤 k) known-award to-award (goes-award known) Lives (id⊢ 𝓤 _)
+          called 𝓛 t fm award.ended (promised 𝓤 k) known-award to_award (goes_award known) Lives (id⊢ 𝓤 _)
           (λ r last. Promised last.1.1.1.1.0 r) (λ r last. id⊢ 𝓤 _) passed (λ v r last promise is.
           past t $ past t $ past t $ past t $ last_of t (λ same.
           drop t $ move t (1 ∷ []) $ split t $ move t (1 ∷ []) $ split t $ move t (1 ∷ []) $ split t $ move t (1 ∷ []) $ drop t $

@@ -59,8 +59,8 @@ use Rattle.test_calls.proofs.AwardCall.{stayed, Arg, tender, rows, at, Known, fi
 abbrev word : Ty
 word = ty_int w64
 
-abbrev rowsTy : Ty
-rowsTy = ty_array Row'.mir 5
+abbrev rows_ty : Ty
+rows_ty = ty_array Row'.mir 5
 
 abbrev Rows5 : RattleType
 Rows5 = Array Row.the_row 5
@@ -73,9 +73,9 @@ function callee = record {
   params = 5;
   locals = local Cal'.mir value_local ∷ local Ten'.mir value_local ∷ local word value_local
       ∷ local (slice_ty (ty_ref (named 0) imm word)) value_local ∷ local (slice_ty (ty_ref (named 1) imm word)) value_local
-      ∷ local rowsTy value_local ∷ local rowsTy memory_slot ∷ local Ans'.mir value_local
+      ∷ local rows_ty value_local ∷ local rows_ty memory_slot ∷ local Ans'.mir value_local
       ∷ local (ty_ref erased mut (pointee Rows5.written)) value_local
-      ∷ local (slice_ty (ty_ref erased mut (pointee (Row.the_row).written))) value_local ∷ local rowsTy value_local ∷ [];
+      ∷ local (slice_ty (ty_ref erased mut (pointee (Row.the_row).written))) value_local ∷ local rows_ty value_local ∷ [];
   body = seq (assign (place 6 []) (rv_opd (copy (place 5 []))))
       (seq (assign (place 8 []) (addr_of (place 6 [])))
       (seq (assign (place 9 []) (aggregate (copy (place 8 []) ∷ int w64 5 ∷ [])))
@@ -89,26 +89,26 @@ room : (xs : List AwardRow) → length xs ≡ 5 → Room Row.the_row (length xs)
 room xs e = subst (Room Row.the_row) (sym e) (lit< tt, lit< tt)
 
 -- the rows as a field of `Called`
-as-field : (xs : List AwardRow) (us : List Val) → shadow (each AwardRow (Row.the_row).own_val xs us)
+as_field : (xs : List AwardRow) (us : List Val) → shadow (each AwardRow (Row.the_row).own_val xs us)
     → shadow (each (Row.the_field).row.Denot (Row.the_field).row.own_val (map (Row.the_field).into xs) us)
-as-field [] [] s = tt
-as-field [] (u ∷ us) s = absurd s
-as-field (x ∷ xs) [] s = absurd s
-as-field (x ∷ xs) (u ∷ us) s = (s.0, as-field xs us s.1)
+as_field [] [] s = tt
+as_field [] (u ∷ us) s = absurd s
+as_field (x ∷ xs) [] s = absurd s
+as_field (x ∷ xs) (u ∷ us) s = (s.0, as_field xs us s.1)
 
-abbrev calledVal : Val → Val → Val
-calledVal va vr = vstruct (vcons va (vcons vr vnil))
+abbrev called_val : Val → Val → Val
+called_val va vr = vstruct (vcons va (vcons vr vnil))
 
-is-called : (a : Answer) (va : Val) (xs : List AwardRow) (vr : Val) → Is Ans.the_row a (va ∷ []) → Is Rows5 xs (vr ∷ [])
-    → Is Cal.the_row (record { answer = a; rows = xs }) (calledVal va vr ∷ [])
-is-called a va xs vr isa isr = (
+is_called : (a : Answer) (va : Val) (xs : List AwardRow) (vr : Val) → Is Ans.the_row a (va ∷ []) → Is Rows5 xs (vr ∷ [])
+    → Is Cal.the_row (record { answer = a; rows = xs }) (called_val va vr ∷ [])
+is_called a va xs vr isa isr = (
   (va ∷ [], (vr ∷ [], tt)),
-  (refl, (isa, ((isr.0, ((isr.1.0.0, length-map xs (Row.the_field).into ∙ isr.1.0.1), as-field xs isr.0 isr.1.1)), tt))),
+  (refl, (isa, ((isr.0, ((isr.1.0.0, length-map xs (Row.the_field).into ∙ isr.1.0.1), as_field xs isr.0 isr.1.1)), tt))),
 )
 
-typed-rows : {M : Type 1} {𝓤 : Ura M} (𝓛 : Logic 𝓤) → (xs : List AwardRow) (v : Val) → Is Rows5 xs (v ∷ [])
-    → T (has_ty rowsTy v) × WT v
-typed-rows 𝓛 xs v is =
+typed_rows : {M : Type 1} {𝓤 : Ura M} (𝓛 : Logic 𝓤) → (xs : List AwardRow) (v : Val) → Is Rows5 xs (v ∷ [])
+    → T (has_ty rows_ty v) × WT v
+typed_rows 𝓛 xs v is =
     ((Array-Lawful 𝓛 Row.the_row (LL.lawful Row.the_type Row'.the_laws 𝓛) 5).typed xs (v ∷ []) is).0
 
 module _ {M : Type 1} {𝓤 : Ura M} (𝓛 : Logic 𝓤) (k : Kind) (callee : Name) where
@@ -128,9 +128,9 @@ module _ {M : Type 1} {𝓤 : Ura M} (𝓛 : Logic 𝓤) (k : Kind) (callee : Na
       pass1 ! (init ! 16 refl (tt, record { fits = known.1.0.1 })) $
       pass1 ! (init ! 14 refl (tt, (tt, (record { fits = known.1.1.0.0.1.0 }, tt)))) $
       pass1 ! (init ! 12 refl (tt, (tt, (record { fits = known.1.1.1.0.0.1.0 }, tt)))) $
-      pass1 ! (init ! 10 refl (typed-rows 𝓛 (rows a) _ known.1.1.1.1.0)) $ pass0 ! $
+      pass1 ! (init ! 10 refl (typed_rows 𝓛 (rows a) _ known.1.1.1.1.0)) $ pass0 ! $
       -- the rows, by the element, and the reference for the call
-      sets ! (of_opd ! (held ! 10 refl)) 8 refl (typed-rows 𝓛 (rows a) _ known.1.1.1.1.0) $
+      sets ! (of_opd ! (held ! 10 refl)) 8 refl (typed_rows 𝓛 (rows a) _ known.1.1.1.1.0) $
       move ! (8 ∷ []) $ use1 𝓛 (‵ (row Row.the_row full_share (rows a) l6 0))
       (elements 𝓛 Row.the_row (rows a) l6 tt (LL.makes Row.the_type Row'.the_plain 𝓛) 5 _ known.1.1.1.1.0) $
       sets ! (addr ! (from ! (stop !))) 5 refl (tt, tt) $
@@ -147,18 +147,18 @@ module _ {M : Type 1} {𝓤 : Ura M} (𝓛 : Logic 𝓤) (k : Kind) (callee : Na
       land ! (from ! (stop !)) (init ! 11 refl ((EL.lawful Ans.the_type Ans'.the_laws 𝓛 tt).typed r _ is).0) $
       -- the rows come back, and are one value again
       move ! (0 ∷ 4 ∷ 3 ∷ []) $ take_back 𝓛 ! tt Row.the_row last l6 ν δ (length (rows a)) $
-      use1 𝓛 (some (λ (u : Val). ‵ (fat full_share rowsTy l6 0 u) ⊛ ‵ (Rows5.own last (u ∷ []))))
+      use1 𝓛 (some (λ (u : Val). ‵ (fat full_share rows_ty l6 0 u) ⊛ ‵ (Rows5.own last (u ∷ []))))
       (whole 𝓛 Row.the_row last l6 5 (same ∙ five a κs known)) $ pick ! (λ u.
       split ! $ move ! (1 ∷ []) $ facts ! Rows5 (Is Rows5) (shows 𝓛 Rows5) last (u ∷ []) (λ isu.
-      sets ! (of_opd ! (held ! 0 refl)) 3 refl (typed-rows 𝓛 last u isu) $
+      sets ! (of_opd ! (held ! 0 refl)) 3 refl (typed_rows 𝓛 last u isu) $
       sets ! (agg ! (and_then ! (held ! 9 refl) (and_then ! (held ! 3 refl) (no_more !)))) 22 refl
       ((LL.lawful Cal.the_type Cal'.the_laws 𝓛).typed (record { answer = r; rows = last }) _
-      (is-called r v last u is isu)).0 $
+      (is_called r v last u is isu)).0 $
       -- the frame is released
       returns ! (look ! 22 refl) $ spent ! 22 refl refl $ spent ! 20 refl refl $ spent ! 18 refl refl $ spent ! 16 refl refl $
       spent ! 14 refl refl $ spent ! 12 refl refl $ move ! (0 ∷ 11 ∷ []) $ spent ! 0 refl refl $ spent ! 8 refl refl $
       spent ! 6 refl refl $ spent ! 4 refl refl $ spent ! 2 refl refl $ free0 ! $ keep ! (1 ∷ 0 ∷ []) $
-      by ! (exits 𝓛 k κs qs a (record { answer = r; rows = last }) (calledVal v u) (is-called r v last u is isu)
+      by ! (exits 𝓛 k κs qs a (record { answer = r; rows = last }) (called_val v u) (is_called r v last u is isu)
       promise))))))))))))))))
 
   passes : (𝓣 : Tables 𝓤 H) → Triple 𝓤 (𝓣.C callee) (Award 𝓛 k)

@@ -1,6 +1,8 @@
 // Runs `award::award_single` and `award::award_multi` over a lent slice of award rows, and writes what each call answers and every
 // row as the call leaves it. Before each call every row says won and 7 cents. Then runs `award::settle` on 1,000 bids, the most
 // there can be, with a reserve and without.
+#![tactic(auto)]
+
 mod many;
 mod rows;
 

@@ -9,8 +9,8 @@ use Rattle.tender.specs.declared.Reserve.TheVariants as reserve
 use Rattle.tender.specs.declared.Highest.{Highest}
 use Rattle.tender.specs.declared.Highest.TheVariants.{Price, NoPrice, Refused}
 use Rattle.tender.specs.Refusals.{number_of, place_of}
-use Rattle.highest_rule.specs.Highest.{highestOf}
-use Rattle.test_cases.specs.FaultCases.{bidRow, allTrue}
+use Rattle.highest_rule.specs.Highest.{highest_of}
+use Rattle.test_cases.specs.FaultCases.{bid_row, all_true}
 
 -- answered with this price
 unfoldable pub up_to : ℕ → Highest → Bool
@@ -19,10 +19,10 @@ up_to p NoPrice = false
 up_to p (Refused r) = false
 
 -- that none wins
-unfoldable pub withNone : Highest → Bool
-withNone (Price q) = false
-withNone NoPrice = true
-withNone (Refused r) = false
+unfoldable pub with_none : Highest → Bool
+with_none (Price q) = false
+with_none NoPrice = true
+with_none (Refused r) = false
 
 -- refused with this number and place
 unfoldable pub declines : ℕ → ℕ → Highest → Bool
@@ -32,16 +32,16 @@ declines n at (Refused r) = eqb n (number_of r) && eqb at (place_of r)
 
 -- the tender from minute 0 on
 unfoldable pub asks : Kind → ℕ → Reserve → ℕ → List ℕ → List ℕ → ℕ → Highest
-unfolding highestOf
+unfolding highest_of
 asks k end r n bids windows bidder =
-    highestOf (record { kind = k; window = record { start = 0; end = end }; reserve = r }) n bids windows bidder
+    highest_of (record { kind = k; window = record { start = 0; end = end }; reserve = r }) n bids windows bidder
 
 -- two bids with one window each, on the tender's one minute
 unfoldable pub two : ℕ → ℕ → List ℕ
-unfolding bidRow
-two p q = bidRow 1 p 0 1 ++ bidRow 2 q 1 1
+unfolding bid_row
+two p q = bid_row 1 p 0 1 ++ bid_row 2 q 1 1
 
-pub answers : allTrue (
+pub answers : all_true (
     -- the second is paid 4 and wins up to 3, since a tie is the first's; the first wins up to 3 too
     up_to 3 (asks Single 1 Absent 2 (two 4 3) (0 ∷ 1 ∷ 0 ∷ 1 ∷ []) 2)
     ∷ up_to 3 (asks Single 1 Absent 2 (two 4 3) (0 ∷ 1 ∷ 0 ∷ 1 ∷ []) 1)
@@ -49,29 +49,29 @@ pub answers : allTrue (
     ∷ up_to 3 (asks Multi 1 Absent 2 (two 4 3) (0 ∷ 1 ∷ 0 ∷ 1 ∷ []) 1)
     -- two at 0: the first wins with 0, the second with none
     ∷ up_to 0 (asks Single 1 Absent 2 (two 0 0) (0 ∷ 1 ∷ 0 ∷ 1 ∷ []) 1)
-    ∷ withNone (asks Single 1 Absent 2 (two 0 0) (0 ∷ 1 ∷ 0 ∷ 1 ∷ []) 2)
+    ∷ with_none (asks Single 1 Absent 2 (two 0 0) (0 ∷ 1 ∷ 0 ∷ 1 ∷ []) 2)
     ∷ up_to 0 (asks Multi 1 Absent 2 (two 0 0) (0 ∷ 1 ∷ 0 ∷ 1 ∷ []) 1)
-    ∷ withNone (asks Multi 1 Absent 2 (two 0 0) (0 ∷ 1 ∷ 0 ∷ 1 ∷ []) 2)
+    ∷ with_none (asks Multi 1 Absent 2 (two 0 0) (0 ∷ 1 ∷ 0 ∷ 1 ∷ []) 2)
     -- no minute in the tender
-    ∷ withNone (asks Single 1 (reserve.Price 2) 2 (two 0 1) (5 ∷ 6 ∷ 0 ∷ 1 ∷ []) 1)
+    ∷ with_none (asks Single 1 (reserve.Price 2) 2 (two 0 1) (5 ∷ 6 ∷ 0 ∷ 1 ∷ []) 1)
     -- half the minutes beside the house
-    ∷ up_to 1 (asks Multi 2 (reserve.Price 2) 1 (bidRow 1 3 0 1) (0 ∷ 1 ∷ []) 1)
-    ∷ withNone (asks Single 2 (reserve.Price 2) 1 (bidRow 1 3 0 1) (0 ∷ 1 ∷ []) 1)
+    ∷ up_to 1 (asks Multi 2 (reserve.Price 2) 1 (bid_row 1 3 0 1) (0 ∷ 1 ∷ []) 1)
+    ∷ with_none (asks Single 2 (reserve.Price 2) 1 (bid_row 1 3 0 1) (0 ∷ 1 ∷ []) 1)
     -- a tie with the house, which is later
-    ∷ up_to 2 (asks Single 1 (reserve.Price 2) 1 (bidRow 1 3 0 1) (0 ∷ 1 ∷ []) 1)
+    ∷ up_to 2 (asks Single 1 (reserve.Price 2) 1 (bid_row 1 3 0 1) (0 ∷ 1 ∷ []) 1)
     ∷ []) ≡ true
-unfolding allTrue up_to withNone asks two bidRow
+unfolding all_true up_to with_none asks two bid_row
 answers = refl
 
-pub refusals : allTrue (
+pub refusals : all_true (
     -- a number that no bid has, and one that stands past the count
     declines 17 0 (asks Single 1 Absent 2 (two 4 3) (0 ∷ 1 ∷ 0 ∷ 1 ∷ []) 3)
-    ∷ declines 17 0 (asks Multi 1 Absent 2 (two 4 3 ++ bidRow 3 0 0 1) (0 ∷ 1 ∷ 0 ∷ 1 ∷ []) 3)
+    ∷ declines 17 0 (asks Multi 1 Absent 2 (two 4 3 ++ bid_row 3 0 0 1) (0 ∷ 1 ∷ 0 ∷ 1 ∷ []) 3)
     -- before 17 stand 12, 11 and 9
     ∷ declines 12 0 (asks Single 1 Absent 1 (two 4 3) (0 ∷ 1 ∷ 0 ∷ 1 ∷ []) 2)
     ∷ declines 11 1 (asks Multi 2 Absent 2 (two 4 3) (0 ∷ 1 ∷ 0 ∷ 1 ∷ []) 3)
     ∷ declines 9 2 (asks Single 1 Absent 2 (two 4 3) (0 ∷ 1 ∷ 1 ∷ 1 ∷ []) 3)
     ∷ declines 9 0 (asks Single 1 Absent 3 (two 4 3) (0 ∷ 1 ∷ 0 ∷ 1 ∷ []) 1)
     ∷ []) ≡ true
-unfolding allTrue declines asks two bidRow
+unfolding all_true declines asks two bid_row
 refusals = refl

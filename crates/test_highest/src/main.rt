@@ -1,6 +1,8 @@
 // Asks `highest::highest_price` with which price each bid would win: near misses that can be read by eye, and random tenders under a
 // fixed seed, where each answer is held against every price named to the award. Writes the answers, what was tried, and last how many
 // answers disagree.
+#![tactic(auto)]
+
 mod lots;
 mod misses;
 mod trials;

@@ -1,6 +1,8 @@
 // Reads bid texts and writes them in one spelling, near misses that can be read by eye; lends buffers that are short, exact and
 // longer; writes tables of great length and tables with a fault; and writes random tables, half of them with a reserve, and reads
 // them again. Says what was written or refused, and of the random tables how many answers disagree.
+#![tactic(auto)]
+
 mod lots;
 mod show;
 mod tables;

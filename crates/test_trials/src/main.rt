@@ -3,6 +3,8 @@
 // minutes in most of the others, and more, up to a whole week of ten cells, in a few. In some of them each owner names false
 // prices too, and in other tenders offers part of the minutes (`withhold`), of which none may gain. And the check of the tables on
 // tables with a fault in them, against another check (`rules`). Writes what was tried by kind, and last how many answers disagree.
+#![tactic(auto)]
+
 mod brute;
 mod compare;
 mod parts;

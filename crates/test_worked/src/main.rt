@@ -1,5 +1,7 @@
 // Reads the texts of paper 01's worked cases 9 and 10, texts with a reserve, texts with prices in both spellings, and their near
 // misses, and writes what each answers.
+#![tactic(auto)]
+
 mod prices;
 mod show;
 mod texts;

@@ -3,27 +3,27 @@ use Rattle.std.specs.Prelude.{◌≡◌, ◌⊎◌, true, false, List, ◌++◌,
 use Rattle.std.proofs.Math.Option.{some}
 use Rattle.tender.specs.declared.Window.{Window}
 use Rattle.tender.specs.declared.Tender.{Tender}
-use Rattle.tender.specs.Limits.{maxPrice, maxText, mostWindows, lawful, every}
-use Rattle.tender.specs.Tables.{Row, rows_of, own, flatWindows, bidWidth}
+use Rattle.tender.specs.Limits.{max_price, max_text, most_windows, lawful, every}
+use Rattle.tender.specs.Tables.{Row, rows_of, own, flat_windows, bid_width}
 use Rattle.cover.specs.Sets.{bidders}
-use Rattle.cover.specs.Earliest.{cellWith}
-use Rattle.reader_text.specs.Words.{numeralOf, priceOf}
-use Rattle.reader_text.specs.Read.{accepted, readText}
+use Rattle.cover.specs.Earliest.{cell_with}
+use Rattle.reader_text.specs.Words.{numeral_of, price_of}
+use Rattle.reader_text.specs.Read.{accepted, read_text}
 use Rattle.reader.specs.declared.Reading.TheVariants as answer
-use Rattle.reader_text.specs.Differ.{DifferInPrice, DifferInBid, windowsBy}
+use Rattle.reader_text.specs.Differ.{DifferInPrice, DifferInBid, windows_by}
 use Rattle.award_check.specs.Cells.{no_row}
-use Rattle.award_check.specs.Auction.{offered, offersOf, thinCell}
-use Rattle.award_rule.specs.Award.{Rule, totalsOf, outcomeNumber}
+use Rattle.award_check.specs.Auction.{offered, offers_of, thin_cell}
+use Rattle.award_rule.specs.Award.{Rule, totals_of, outcome_number}
 use Rattle.award_outcome.specs.Right.{Callable}
-use Rattle.award_outcome.specs.Gain.{rowFor, gain, AtMost}
+use Rattle.award_outcome.specs.Gain.{row_for, gain, AtMost}
 use Rattle.spelling.specs.Decimal.{decimal}
-use Rattle.spelling.specs.Lines.{pairLine, refusedWord}
-use Rattle.spelling.specs.Text.{bidIn}
+use Rattle.spelling.specs.Lines.{pair_line, refused_word}
+use Rattle.spelling.specs.Text.{bid_in}
 use Rattle.spelling.specs.Spelt.{Spelt}
 use Rattle.listing_text.specs.List.{list_of}
-use Rattle.theorems_calls.specs.Calls.{ReadRun, ReadCall, AwardCall, auctionBy, toldBy, ListCall, shown}
+use Rattle.theorems_calls.specs.Calls.{ReadRun, ReadCall, AwardCall, auction_by, told_by, ListCall, shown}
 use Rattle.theorems_calls.specs.OneReading.{Fills, OfText}
-use Rattle.theorems_shown.specs.ListRead.{rowShown}
+use Rattle.theorems_shown.specs.ListRead.{row_shown}
 
 -- its tables break no rule, and each bid has an award row
 abbrev pub CallableWith : AwardCall → Type 0
@@ -34,38 +34,38 @@ pub record SameTables (t : Tender) (n : ℕ) (bids windows : List ℕ) (c : Awar
   pub kinds : c.kind ≡ t.kind
   pub tenders : c.tender ≡ t
   pub counts : c.count ≡ n
-  pub bids-too : c.bids ≡ bids
-  pub windows-too : c.windows ≡ windows
+  pub bids_too : c.bids ≡ bids
+  pub windows_too : c.windows ≡ windows
 
 -- some minute of the tender is in fewer than m bids
 pub record FewerThan (m : ℕ) (c : AwardCall) : Type 0 where
   pub minute : ℕ
   pub from : c.tender.window.start ≤ minute
   pub to : minute < c.tender.window.end
-  pub few : bidders (auctionBy c).has (auctionBy c).owners (minute - c.tender.window.start) < m
+  pub few : bidders (auction_by c).has (auction_by c).owners (minute - c.tender.window.start) < m
 
 -- the award is refused for cover
 abbrev pub ForCover : AwardCall → Type 0
-ForCover c = (outcomeNumber (toldBy c) ≡ 11) ⊎ (outcomeNumber (toldBy c) ≡ 12)
+ForCover c = (outcome_number (told_by c) ≡ 11) ⊎ (outcome_number (told_by c) ≡ 12)
 
 abbrev pub Exactly : Type 0 → Type 0 → Type 0
 Exactly A B = (A → B) × (B → A)
 
 -- the award as it is without a house: the bids alone are weighed, a thin cell is looked for, and no house is told
 pub record BidsAlone (c : AwardCall) : Type 0 where
-  pub offers : offersOf c.tender c.count c.bids c.windows ≡ map (offered c.windows) (rows_of c.count c.bids)
-  pub thin : (m : ℕ) → thinCell (auctionBy c) m ≡ cellWith (auctionBy c).has (auctionBy c).owners (auctionBy c).cells m
-  pub no-house : (r : Rule) → (totalsOf r (auctionBy c)).house ≡ false
+  pub offers : offers_of c.tender c.count c.bids c.windows ≡ map (offered c.windows) (rows_of c.count c.bids)
+  pub thin : (m : ℕ) → thin_cell (auction_by c) m ≡ cell_with (auction_by c).has (auction_by c).owners (auction_by c).cells m
+  pub no_house : (r : Rule) → (totals_of r (auction_by c)).house ≡ false
 
 -- the price of row i of its table of bids
-abbrev pub priceAt : AwardCall → ℕ → ℕ
-priceAt c i = get_or c.bids (bidWidth * i + 1) 0
+abbrev pub price_at : AwardCall → ℕ → ℕ
+price_at c i = get_or c.bids (bid_width * i + 1) 0
 
 -- what an accepted text left in the tables, whatever their size; it is spelt again from it and from a word for each price
 pub record WasRead (r : ReadRun) (t : Tender) : Type 0 where
   pub rows : List Row
   pub spans : List Window
-  pub spelt : Spelt r.text t (map (bidIn (flatWindows spans)) rows)
+  pub spelt : Spelt r.text t (map (bid_in (flat_windows spans)) rows)
   pub fills : Fills t rows spans r
 
 -- a text that differs from an accepted one in the price of row i alone, written p there and q here; with a price within the limits it
@@ -73,10 +73,10 @@ pub record WasRead (r : ReadRun) (t : Tender) : Type 0 where
 pub record Variant (text : List ℕ) (t : Tender) (R : List Row) (W : List Window) (i : ℕ) (q : List ℕ) : Type 0 where
   pub other : List ℕ
   pub p : List ℕ
-  pub is : priceOf p ≡ some (get_or R i no_row).price
+  pub is : price_of p ≡ some (get_or R i no_row).price
   pub differ : DifferInPrice text other (decimal (get_or R i no_row).bidder) p q
-  pub accepted-too : (v : ℕ) → priceOf q ≡ some v → v ≤ maxPrice → length other ≤ maxText
-      → (S : List Row) × (readText other ≡ accepted t S W)
+  pub accepted_too : (v : ℕ) → price_of q ≡ some v → v ≤ max_price → length other ≤ max_text
+      → (S : List Row) × (read_text other ≡ accepted t S W)
 
 -- a text that differs from an accepted one in the bid of row i alone, whose price and windows are written p and ws there, q and vs here;
 -- with a price and windows within the limits it is accepted too, if it is not too long
@@ -84,25 +84,25 @@ pub record BidVariant (text : List ℕ) (t : Tender) (R : List Row) (W : List Wi
   pub other : List ℕ
   pub p : List ℕ
   pub ws : List ℕ
-  pub price-is : priceOf p ≡ some (get_or R i no_row).price
-  pub windows-are : windowsBy ws ≡ own (flatWindows W) (get_or R i no_row)
+  pub price_is : price_of p ≡ some (get_or R i no_row).price
+  pub windows_are : windows_by ws ≡ own (flat_windows W) (get_or R i no_row)
   pub differ : DifferInBid text other (decimal (get_or R i no_row).bidder) p q ws vs
-  pub accepted-too : (v : ℕ) → priceOf q ≡ some v → v ≤ maxPrice → 1 ≤ length (windowsBy vs)
-      → length (windowsBy vs) ≤ mostWindows t.kind → every lawful (windowsBy vs) ≡ true → length other ≤ maxText
-      → (S : List Row) × (X : List Window) × (readText other ≡ accepted t S X)
+  pub accepted_too : (v : ℕ) → price_of q ≡ some v → v ≤ max_price → 1 ≤ length (windows_by vs)
+      → length (windows_by vs) ≤ most_windows t.kind → every lawful (windows_by vs) ≡ true → length other ≤ max_text
+      → (S : List Row) × (X : List Window) × (read_text other ≡ accepted t S X)
 
 -- two calls of `read` gave the same answer and left the same in the tables
 pub record SameReading (r r' : ReadCall) : Type 0 where
   pub answers : r.run.answer ≡ r'.run.answer
-  pub bids : r.run.bids-after ≡ r'.run.bids-after
-  pub windows : r.run.windows-after ≡ r'.run.windows-after
+  pub bids : r.run.bids_after_lem ≡ r'.run.bids_after_lem
+  pub windows : r.run.windows_after_lem ≡ r'.run.windows_after_lem
 
 -- the award is called on what the accepted text left
 pub record Follows (r : ReadCall) (c : AwardCall) : Type 0 where
-  pub window-rows : ℕ
-  pub accepts : r.run.answer ≡ answer.Accepted c.tender c.count window-rows
-  pub bids-are : c.bids ≡ r.run.bids-after
-  pub windows-are : c.windows ≡ r.run.windows-after
+  pub window_rows : ℕ
+  pub accepts : r.run.answer ≡ answer.Accepted c.tender c.count window_rows
+  pub bids_are : c.bids ≡ r.run.bids_after_lem
+  pub windows_are : c.windows ≡ r.run.windows_after_lem
 
 -- the same award, each time with an award row for every bid or each time with fewer
 pub record SameAward (c c' : AwardCall) : Type 0 where
@@ -111,7 +111,7 @@ pub record SameAward (c c' : AwardCall) : Type 0 where
 
 -- bid i, whose true cost the first call names, gains no more in the second
 abbrev pub NoGainAt : AwardCall → AwardCall → ℕ → Type 0
-NoGainAt c c' i = AtMost (gain (priceAt c i) (rowFor (toldBy c') i)) (gain (priceAt c i) (rowFor (toldBy c) i))
+NoGainAt c c' i = AtMost (gain (price_at c i) (row_for (told_by c') i)) (gain (price_at c i) (row_for (told_by c) i))
 
 -- row i is in both calls this bidder's, with the price p in the first and q in the second: where p is the true cost, the second gains no
 -- more
@@ -119,34 +119,34 @@ pub record NoGainBetween (c c' : AwardCall) (bidder p q : List ℕ) : Type 0 whe
   pub i : ℕ
   pub inside : i < c.count
   pub count_same : c'.count ≡ c.count
-  pub bidder-is : numeralOf bidder ≡ some (get_or c.bids (bidWidth * i) 0)
-  pub bidder-too : numeralOf bidder ≡ some (get_or c'.bids (bidWidth * i) 0)
-  pub true-cost : priceOf p ≡ some (priceAt c i)
-  pub other-price : priceOf q ≡ some (priceAt c' i)
+  pub bidder_is : numeral_of bidder ≡ some (get_or c.bids (bid_width * i) 0)
+  pub bidder_too : numeral_of bidder ≡ some (get_or c'.bids (bid_width * i) 0)
+  pub true_cost : price_of p ≡ some (price_at c i)
+  pub other_price : price_of q ≡ some (price_at c' i)
   pub most : NoGainAt c c' i
 
 -- the list of the text that it was given
-abbrev pub listBy : ListCall → List ℕ
-listBy l = list_of (readText l.text)
+abbrev pub list_by : ListCall → List ℕ
+list_by l = list_of (read_text l.text)
 
 -- one list: at the start of the buffer, with the bytes past it as they were; or 13, told by 0, where it is longer than the buffer
 pub data OneList (l : ListCall) : Type 0 where
-  list_written : length (listBy l) ≤ length l.buffer → l.answer ≡ length (listBy l)
-      → l.buffer-after ≡ listBy l ++ drop (length (listBy l)) l.buffer → OneList l
-  list-too-long : length l.buffer < length (listBy l) → l.answer ≡ 0 → l.buffer-after ≡ l.buffer → OneList l
+  list_written : length (list_by l) ≤ length l.buffer → l.answer ≡ length (list_by l)
+      → l.buffer_after_lem ≡ list_by l ++ drop (length (list_by l)) l.buffer → OneList l
+  list_too_long : length l.buffer < length (list_by l) → l.answer ≡ 0 → l.buffer_after_lem ≡ l.buffer → OneList l
 
 -- the list was written, and it shows no refusal of reading: the text is a readable list
 pub record ListGiven (l : ListCall) : Type 0 where
   pub written : 0 < l.answer
-  pub read : (n at : ℕ) → OfText n → shown l ≡ pairLine refusedWord n at → ⊥
+  pub read : (n at : ℕ) → OfText n → shown l ≡ pair_line refused_word n at → ⊥
 
 -- of the bidder's lines in the two lists: where p is the true cost, the other list gains no more
 pub record NoGainShown (l l' : ListCall) (bidder p : List ℕ) : Type 0 where
   pub number : ℕ
   pub cost : ℕ
-  pub bidder-is : numeralOf bidder ≡ some number
-  pub true-cost : priceOf p ≡ some cost
-  pub most : AtMost (gain cost (rowShown number (shown l'))) (gain cost (rowShown number (shown l)))
+  pub bidder_is : numeral_of bidder ≡ some number
+  pub true_cost : price_of p ≡ some cost
+  pub most : AtMost (gain cost (row_shown number (shown l'))) (gain cost (row_shown number (shown l)))
 
 -- the number of a refusal that a list may show
 abbrev pub Showable : ℕ → Type 0

@@ -9,107 +9,107 @@ use Rattle.tender.specs.declared.Totals.{Totals}
 use Rattle.tender.specs.declared.Refusal.{Refusal}
 use Rattle.tender.specs.Refusals.{number_of, place_of}
 use Rattle.tender.specs.Keywords.{bytes}
-use Rattle.tender.specs.Tables.{Row, flatRows, flatWindows}
+use Rattle.tender.specs.Tables.{Row, flat_rows, flat_windows}
 use Rattle.cover.specs.Sets.{Found, nothing, found}
 use Rattle.reader_parts.specs.Words.{among}
-use Rattle.reader_text.specs.Read.{readText}
+use Rattle.reader_text.specs.Read.{read_text}
 use Rattle.reader_text.specs.Read as reading
 use Rattle.reader_text.specs.Rules.{Rules}
-use Rattle.reader_text.specs.RulesLaws.{rules-law}
-use Rattle.award_check.specs.Auction.{Auction, auctionOf, thinCell}
-use Rattle.award_check.specs.Faults.{faultOf}
-use Rattle.award_check.specs.TextLaws.{never-nine}
-use Rattle.award_rule.specs.Award.{rule, Outcome, awarded, refused, awardRows, totalsOf, uncovered, lone, thinned, awardOf}
-use Rattle.award_rule.specs.AwardLaws.{award-settles}
-use Rattle.spelling.specs.Lines.{pairLine, refusedWord}
-use Rattle.spelling.specs.LineLaws.{refused-line}
-use Rattle.listing_text.specs.Lines.{awardWord, awardLine}
-use Rattle.listing_text.specs.List.{listLines, list_of}
-use Rattle.listing_text.specs.ListLaws.{listed-is}
+use Rattle.reader_text.specs.RulesLaws.{rules_law}
+use Rattle.award_check.specs.Auction.{Auction, auction_of, thin_cell}
+use Rattle.award_check.specs.Faults.{fault_of}
+use Rattle.award_check.specs.TextLaws.{never_nine}
+use Rattle.award_rule.specs.Award.{rule, Outcome, awarded, refused, award_rows, totals_of, uncovered, lone, thinned, award_of}
+use Rattle.award_rule.specs.AwardLaws.{award_settles}
+use Rattle.spelling.specs.Lines.{pair_line, refused_word}
+use Rattle.spelling.specs.LineLaws.{refused_line_lem}
+use Rattle.listing_text.specs.Lines.{award_word, award_line}
+use Rattle.listing_text.specs.List.{list_lines, list_of}
+use Rattle.listing_text.specs.ListLaws.{listed_is}
 use Rattle.theorems_calls.specs.OneReading.{OfText}
-use Rattle.theorems_calls.specs.ReadingLaws.{refusal-number}
-use Rattle.theorems_shown.specs.ShownLaws.{first-number}
+use Rattle.theorems_calls.specs.ReadingLaws.{refusal_number}
+use Rattle.theorems_shown.specs.ShownLaws.{first_number}
 use Rattle.theorems_calls.specs.Calls.{ListCall, shown}
-use Rattle.theorems.specs.Between.{Showable, OneList, list_written, list-too-long}
+use Rattle.theorems.specs.Between.{Showable, OneList, list_written, list_too_long}
 
 pub one_list : (l : ListCall) → OneList l
 one_list l = go (leb (length list) (length l.buffer)) refl l.promise.delivers.answer l.promise.delivers.bytes
   where
     list : List ℕ
-    list = list_of (readText l.text)
+    list = list_of (read_text l.text)
 
     go : (t : Bool) → leb (length list) (length l.buffer) ≡ t → l.answer ≡ cond t (length list) 0
-        → l.buffer-after ≡ cond t (list ++ drop (length list) l.buffer) l.buffer → OneList l
+        → l.buffer_after_lem ≡ cond t (list ++ drop (length list) l.buffer) l.buffer → OneList l
     go true e a b = list_written (leb-true (length list) (length l.buffer) e) a b
-    go false e a b = list-too-long (leb-false (length list) (length l.buffer) e) a b
+    go false e a b = list_too_long (leb-false (length list) (length l.buffer) e) a b
 
-plain-refused : among 32 refusedWord ≡ false
-unfolding among refusedWord bytes
-plain-refused = refl
+plain_refused : among 32 refused_word ≡ false
+unfolding among refused_word bytes
+plain_refused = refl
 
 -- two lines of a refusal show the same number only where it is the same
-same_number : (a b c d : ℕ) → a < 10 ^ 20 → c < 10 ^ 20 → pairLine refusedWord a b ≡ pairLine refusedWord c d → a ≡ c
-same_number a b c d l m e = first-number refusedWord a b c d plain-refused l m e
+same_number : (a b c d : ℕ) → a < 10 ^ 20 → c < 10 ^ 20 → pair_line refused_word a b ≡ pair_line refused_word c d → a ≡ c
+same_number a b c d l m e = first_number refused_word a b c d plain_refused l m e
 
 -- an award's list begins with another word
-award-begins : (t : Tender) (R : List Row) (rows : List AwardRow) (totals : Totals)
-    → get_or (listLines t R (awarded rows totals)) 1 0 ≡ 97
-unfolding listLines awardLine pairLine awardWord bytes
-award-begins t R rows totals = refl
+award_begins : (t : Tender) (R : List Row) (rows : List AwardRow) (totals : Totals)
+    → get_or (list_lines t R (awarded rows totals)) 1 0 ≡ 97
+unfolding list_lines award_line pair_line award_word bytes
+award_begins t R rows totals = refl
 
-refusal-begins : (n at : ℕ) → get_or (pairLine refusedWord n at) 1 0 ≡ 114
-unfolding pairLine refusedWord bytes
-refusal-begins n at = refl
+refusal_begins : (n at : ℕ) → get_or (pair_line refused_word n at) 1 0 ≡ 114
+unfolding pair_line refused_word bytes
+refusal_begins n at = refl
 
 -- the award on what was read declines with 11 or 12 alone
-read-declined : (T : Tender) (R : List Row) (W : List Window) → Rules T R W → (r : Refusal) →
-    awardOf T.kind T (length R) (flatRows R) (flatWindows W) (length R) ≡ refused r → (number_of r ≡ 11) ⊎ (number_of r ≡ 12)
+read_declined : (T : Tender) (R : List Row) (W : List Window) → Rules T R W → (r : Refusal) →
+    award_of T.kind T (length R) (flat_rows R) (flat_windows W) (length R) ≡ refused r → (number_of r ≡ 11) ⊎ (number_of r ≡ 12)
 unfolding thinned uncovered lone
-read-declined T R W rules r e = go (thinCell A 0) (thinCell A 1) refl refl
+read_declined T R W rules r e = go (thin_cell A 0) (thin_cell A 1) refl refl
   where
     A : Auction
-    A = auctionOf T (length R) (flatRows R) (flatWindows W)
+    A = auction_of T (length R) (flat_rows R) (flat_windows W)
 
-    sound : faultOf T.kind T (length R) (flatRows R) (flatWindows W) ≡ none
-    sound = rw (append-nil (flatRows R), append-nil (flatWindows W)) at (never-nine T R W [] [] rules)
+    sound : fault_of T.kind T (length R) (flat_rows R) (flat_windows W) ≡ none
+    sound = rw (append-nil (flat_rows R), append-nil (flat_windows W)) at (never_nine T R W [] [] rules)
 
-    settles : (x y : Found) → thinCell A 0 ≡ x → thinCell A 1 ≡ y
-        → refused r ≡ thinned (uncovered T) (lone T) x y (awarded (awardRows (rule T.kind) A) (totalsOf (rule T.kind) A))
-    settles x y d f = sym e ∙ award-settles T.kind T (length R) (flatRows R) (flatWindows W) (length R) sound
+    settles : (x y : Found) → thin_cell A 0 ≡ x → thin_cell A 1 ≡ y
+        → refused r ≡ thinned (uncovered T) (lone T) x y (awarded (award_rows (rule T.kind) A) (totals_of (rule T.kind) A))
+    settles x y d f = sym e ∙ award_settles T.kind T (length R) (flat_rows R) (flat_windows W) (length R) sound
         (le-ltb (length R) (length R) (omega arith)) x y d f
 
-    go : (x y : Found) → thinCell A 0 ≡ x → thinCell A 1 ≡ y → (number_of r ≡ 11) ⊎ (number_of r ≡ 12)
+    go : (x y : Found) → thin_cell A 0 ≡ x → thin_cell A 1 ≡ y → (number_of r ≡ 11) ⊎ (number_of r ≡ 12)
     go (found x) y d f = let h = settles (found x) y d f in inl (cc)
     go nothing (found y) d f = let h = settles nothing (found y) d f in inr (cc)
     go nothing nothing d f = let h = settles nothing nothing d f in let z : ◌≡◌ {A = ℕ} 0 1 = cc in absurd (omega arith)
 
 -- No list shows 8, 9 or 10: a refusal that stands in the buffer has another number.
-pub shows-no-other : (l : ListCall) (n at : ℕ) → n < 10 ^ 20 → 0 < l.answer → shown l ≡ pairLine refusedWord n at → Showable n
-unfolding list_of listLines
-shows-no-other l n at small a e = go (readText l.text) refl (sym (listed-is l.promise a) ∙ e)
+pub shows_no_other : (l : ListCall) (n at : ℕ) → n < 10 ^ 20 → 0 < l.answer → shown l ≡ pair_line refused_word n at → Showable n
+unfolding list_of list_lines
+shows_no_other l n at small a e = go (read_text l.text) refl (sym (listed_is l.promise a) ∙ e)
   where
-    found_as : (m k : ℕ) → pairLine refusedWord m k ≡ pairLine refusedWord n at → (m ≡ 11) ⊎ (m ≡ 12) → (n ≡ 11)
+    found_as : (m k : ℕ) → pair_line refused_word m k ≡ pair_line refused_word n at → (m ≡ 11) ⊎ (m ≡ 12) → (n ≡ 11)
         ⊎ (n ≡ 12)
     found_as m k y (inl g) = inl (sym (same_number m k n at (omega arith) small y) ∙ g)
     found_as m k y (inr g) = inr (sym (same_number m k n at (omega arith) small y) ∙ g)
 
-    text-small : (m : ℕ) → OfText m → m < 10 ^ 20
-    text-small m (inl r) = omega (arith, r.1)
-    text-small m (inr r) = omega (arith, r.1)
+    text_small : (m : ℕ) → OfText m → m < 10 ^ 20
+    text_small m (inl r) = omega (arith, r.1)
+    text_small m (inr r) = omega (arith, r.1)
 
     of : (T : Tender) (R : List Row) (W : List Window) → Rules T R W → (o : Outcome)
-        → awardOf T.kind T (length R) (flatRows R) (flatWindows W) (length R) ≡ o → listLines T R o ≡ pairLine refusedWord n at
+        → award_of T.kind T (length R) (flat_rows R) (flat_windows W) (length R) ≡ o → list_lines T R o ≡ pair_line refused_word n at
         → Showable n
     of T R W rules (awarded rows totals) f x =
-        let z = sym (award-begins T R rows totals) ∙ ap (λ s. get_or s 1 0) x ∙ refusal-begins n at in
+        let z = sym (award_begins T R rows totals) ∙ ap (λ s. get_or s 1 0) x ∙ refusal_begins n at in
         absurd (omega (arith, z))
-    of T R W rules (refused r) f x = inr (found_as (number_of r) (place_of r) (sym (refused-line r) ∙ x) (read-declined T R W rules r f))
+    of T R W rules (refused r) f x = inr (found_as (number_of r) (place_of r) (sym (refused_line_lem r) ∙ x) (read_declined T R W rules r f))
 
-    go : (o : reading.ReadOutcome) → readText l.text ≡ o → list_of (readText l.text) ≡ pairLine refusedWord n at → Showable n
+    go : (o : reading.ReadOutcome) → read_text l.text ≡ o → list_of (read_text l.text) ≡ pair_line refused_word n at → Showable n
     go (reading.refused r) f x =
-        let h = refusal-number l.text r f in
-        let q : number_of r ≡ n = same_number (number_of r) (place_of r) n at (text-small (number_of r) h) small
-        (sym (refused-line r) ∙ sym (ap list_of f) ∙ x) in
+        let h = refusal_number l.text r f in
+        let q : number_of r ≡ n = same_number (number_of r) (place_of r) n at (text_small (number_of r) h) small
+        (sym (refused_line_lem r) ∙ sym (ap list_of f) ∙ x) in
         inl (rw q at h)
-    go (reading.accepted T R W) f x = of T R W (rules-law T R W l.text f)
-        (awardOf T.kind T (length R) (flatRows R) (flatWindows W) (length R)) refl (sym (ap list_of f) ∙ x)
+    go (reading.accepted T R W) f x = of T R W (rules_law T R W l.text f)
+        (award_of T.kind T (length R) (flat_rows R) (flat_windows W) (length R)) refl (sym (ap list_of f) ∙ x)

@@ -8,15 +8,15 @@ use Rattle.tender.specs.declared.Refusal.{Refusal}
 use Rattle.tender.specs.Tables.{Row}
 use Rattle.reader.specs.declared.Reading.TheVariants as answer
 use Rattle.theorems_calls.specs.Calls.{ReadCall}
-use Rattle.theorems_calls.specs.OneReading.{Readable, Declines, Fills, OneReading, text-too-long, bad-form, too_many}
-use Rattle.theorems_calls.specs.OneReading.{reserve-misplaced, outside-limits, several-windows, empty-window, late-window}
-use Rattle.theorems_calls.specs.OneReading.{bidder-repeated, table-too-short, tables-filled}
-use Rattle.theorems_calls.specs.ReadingLaws.{one-reading, text-accepted}
-use Rattle.writer_back.specs.SpeltLaws.{spelt-again}
+use Rattle.theorems_calls.specs.OneReading.{Readable, Declines, Fills, OneReading, text_too_long, bad_form, too_many}
+use Rattle.theorems_calls.specs.OneReading.{reserve_misplaced, outside_limits, several_windows, empty_window, late_window}
+use Rattle.theorems_calls.specs.OneReading.{bidder_repeated, table_too_short, tables_filled}
+use Rattle.theorems_calls.specs.ReadingLaws.{one_reading, text_accepted}
+use Rattle.writer_back.specs.SpeltLaws.{spelt_again}
 use Rattle.theorems.specs.Between.{WasRead}
 
 pub read_again : (r : ReadCall) (t : Tender) (n m : ℕ) → r.run.answer ≡ answer.Accepted t n m → WasRead r.run t
-read_again r t n m e = go (one-reading r.run r.kept)
+read_again r t n m e = go (one_reading r.run r.kept)
   where
     never : {A : Type 0} {x : Refusal} → Declines x r.run → A
     never d = let h = sym e ∙ d.answer in let z : ◌≡◌ {A = ℕ} 0 1 = cc in absurd (omega arith)
@@ -26,17 +26,17 @@ read_again r t n m e = go (one-reading r.run r.kept)
         let h = sym f.answer ∙ e in
         let q : u ≡ t = cc in
         subst (WasRead r.run) q
-        (record { rows = R; spans = W; spelt = spelt-again r.run.text u R W (text-accepted r.run.text u R W d); fills = f })
+        (record { rows = R; spans = W; spelt = spelt_again r.run.text u R W (text_accepted r.run.text u R W d); fills = f })
 
     go : OneReading r.run → WasRead r.run t
-    go (text-too-long l x) = never x
-    go (bad-form l h x) = never x
-    go (reserve-misplaced l h x) = never x
+    go (text_too_long l x) = never x
+    go (bad_form l h x) = never x
+    go (reserve_misplaced l h x) = never x
     go (too_many l h x) = never x
-    go (outside-limits l h x) = never x
-    go (several-windows l h x) = never x
-    go (empty-window l h x) = never x
-    go (late-window l h x) = never x
-    go (bidder-repeated l h x) = never x
-    go (table-too-short u R W d s x) = never x
-    go (tables-filled u R W d s f) = read u R W d f
+    go (outside_limits l h x) = never x
+    go (several_windows l h x) = never x
+    go (empty_window l h x) = never x
+    go (late_window l h x) = never x
+    go (bidder_repeated l h x) = never x
+    go (table_too_short u R W d s x) = never x
+    go (tables_filled u R W d s f) = read u R W d f

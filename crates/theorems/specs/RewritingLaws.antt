@@ -8,208 +8,208 @@ use Rattle.std.proofs.Math.Seq.{take-append_seam}
 use Rattle.tender.specs.declared.Window.{Window}
 use Rattle.tender.specs.declared.Tender.{Tender}
 use Rattle.tender.specs.declared.Refusal.TheVariants.{BadTables, NoRoom}
-use Rattle.tender.specs.Tables.{Row, rows_of, flatRows, flatWindows, bidWidth, windowWidth}
-use Rattle.reader_text.specs.Read.{ReadOutcome, accepted, refused, readText, readInto}
-use Rattle.reader.specs.Answer.{readAnswer, bidsAfter, windowsAfter}
-use Rattle.reader_text.specs.CountLaws.{room-law}
-use Rattle.reader_text.specs.SizeLaws.{short-text}
+use Rattle.tender.specs.Tables.{Row, rows_of, flat_rows, flat_windows, bid_width, window_width}
+use Rattle.reader_text.specs.Read.{ReadOutcome, accepted, refused, read_text, read_into}
+use Rattle.reader.specs.Answer.{read_answer, bids_after, windows_after}
+use Rattle.reader_text.specs.CountLaws.{room_law}
+use Rattle.reader_text.specs.SizeLaws.{short_text}
 use Rattle.reader.specs.declared.Reading.TheVariants as reading
-use Rattle.spelling.specs.Lines.{refusedLine}
-use Rattle.spelling.specs.LineLaws.{refused-short, refused-some}
-use Rattle.spelling.specs.DeliveredLaws.{delivered-is}
-use Rattle.award_check.specs.Faults.{faultOf}
-use Rattle.award_check.specs.TextLaws.{rows-flat}
-use Rattle.award_check.specs.AlikeLaws.{rows-length}
+use Rattle.spelling.specs.Lines.{refused_line}
+use Rattle.spelling.specs.LineLaws.{refused_short, refused_some}
+use Rattle.spelling.specs.DeliveredLaws.{delivered_is}
+use Rattle.award_check.specs.Faults.{fault_of}
+use Rattle.award_check.specs.TextLaws.{rows_flat}
+use Rattle.award_check.specs.AlikeLaws.{rows_length}
 use Rattle.award_rule.specs.Award as outcome
-use Rattle.award_rule.specs.AwardLaws.{award-nine}
-use Rattle.award_outcome.specs.Right.{OneAnswer, tables-break-a-rule, rows-too-few, minute-uncovered, one-bidder, award}
+use Rattle.award_rule.specs.AwardLaws.{award_nine}
+use Rattle.award_outcome.specs.Right.{OneAnswer, tables_break_a_rule, rows_too_few, minute_uncovered, one_bidder, award}
 use Rattle.award_outcome.specs.OneAnswerLaws.{one_answer}
 use Rattle.writer.specs.declared.Writing.{Writing}
 use Rattle.writer.specs.declared.Writing.TheVariants as writing
-use Rattle.writer_text.specs.Canonical.{canonical, spelt, unspelt, unlessFault, writeInto, bufferAfter}
-use Rattle.writer.specs.Writes.{writeAnswer}
+use Rattle.writer_text.specs.Canonical.{canonical, spelt, unspelt, unless_fault, write_into, buffer_after}
+use Rattle.writer.specs.Writes.{write_answer}
 use Rattle.writer_back.specs.Same.{Same, ReadBack}
-use Rattle.writer_back.specs.ShortLaws.{canonical-some}
-use Rattle.writer_back.specs.ReadBackLaws.{lawful-tables, reads-back, text_same, same_text, same_bytes, writes-the-same}
-use Rattle.writer_back.specs.FilledLaws.{canonical-alone, read-sound, no_longer}
-use Rattle.rewrite.specs.Rewritten.{rewriteOf}
-use Rattle.theorems_calls.specs.Calls.{ReadCall, AwardCall, toldBy, WriteCall, RewriteCall, shown}
+use Rattle.writer_back.specs.ShortLaws.{canonical_some}
+use Rattle.writer_back.specs.ReadBackLaws.{lawful_tables, reads_back, text_same, same_text, same_bytes, writes_the_same}
+use Rattle.writer_back.specs.FilledLaws.{canonical_alone, read_sound, no_longer}
+use Rattle.rewrite.specs.Rewritten.{rewrite_of}
+use Rattle.theorems_calls.specs.Calls.{ReadCall, AwardCall, told_by, WriteCall, RewriteCall, shown}
 use Rattle.theorems.specs.Between.{Exactly, SameTables}
-use Rattle.theorems.specs.Rewriting.{textBy, OneWriting, tables-faulty, no_room, text-written, ReadAsWritten}
+use Rattle.theorems.specs.Rewriting.{text_by, OneWriting, tables_faulty, no_room, text_written, ReadAsWritten}
 
 -- one answer
 
-pub one-writing : (w : WriteCall) → OneWriting w
-unfolding writeInto unlessFault writeAnswer bufferAfter
-one-writing w = go (faultOf w.tender.kind w.tender w.count w.bids w.windows) refl w.promise.answer w.promise.bytes
+pub one_writing : (w : WriteCall) → OneWriting w
+unfolding write_into unless_fault write_answer buffer_after
+one_writing w = go (fault_of w.tender.kind w.tender w.count w.bids w.windows) refl w.promise.answer w.promise.bytes
   where
     room : ℕ
     room = length w.buffer
 
-    sound : faultOf w.tender.kind w.tender w.count w.bids w.windows ≡ none → (b : Bool)
-        → leb (length (textBy w)) (min 65536 room) ≡ b → w.answer ≡ writeAnswer (cond b (spelt (textBy w)) (unspelt NoRoom))
-        → w.buffer-after ≡ bufferAfter w.buffer (cond b (spelt (textBy w)) (unspelt NoRoom)) → OneWriting w
-    sound f true e a b = text-written f (leb-true (length (textBy w)) (min 65536 room) e) a b
-    sound f false e a b = no_room f (leb-false (length (textBy w)) (min 65536 room) e) a b
+    sound : fault_of w.tender.kind w.tender w.count w.bids w.windows ≡ none → (b : Bool)
+        → leb (length (text_by w)) (min 65536 room) ≡ b → w.answer ≡ write_answer (cond b (spelt (text_by w)) (unspelt NoRoom))
+        → w.buffer_after_lem ≡ buffer_after w.buffer (cond b (spelt (text_by w)) (unspelt NoRoom)) → OneWriting w
+    sound f true e a b = text_written f (leb-true (length (text_by w)) (min 65536 room) e) a b
+    sound f false e a b = no_room f (leb-false (length (text_by w)) (min 65536 room) e) a b
 
-    go : (o : Option ℕ) → faultOf w.tender.kind w.tender w.count w.bids w.windows ≡ o
-        → w.answer ≡ writeAnswer (unlessFault o (cond (leb (length (textBy w)) (min 65536 room)) (spelt (textBy w)) (unspelt NoRoom)))
-        → w.buffer-after
-        ≡ bufferAfter w.buffer (unlessFault o (cond (leb (length (textBy w)) (min 65536 room)) (spelt (textBy w)) (unspelt NoRoom)))
+    go : (o : Option ℕ) → fault_of w.tender.kind w.tender w.count w.bids w.windows ≡ o
+        → w.answer ≡ write_answer (unless_fault o (cond (leb (length (text_by w)) (min 65536 room)) (spelt (text_by w)) (unspelt NoRoom)))
+        → w.buffer_after_lem
+        ≡ buffer_after w.buffer (unless_fault o (cond (leb (length (text_by w)) (min 65536 room)) (spelt (text_by w)) (unspelt NoRoom)))
         → OneWriting w
-    go (some row) f a b = tables-faulty row f a b
-    go none f a b = sound f (leb (length (textBy w)) (min 65536 room)) refl a b
+    go (some row) f a b = tables_faulty row f a b
+    go none f a b = sound f (leb (length (text_by w)) (min 65536 room)) refl a b
 
 -- what was written
 
 record WroteText (w : WriteCall) (n : ℕ) : Type 0 where
-  faultless : faultOf w.tender.kind w.tender w.count w.bids w.windows ≡ none
-  short : length (textBy w) ≤ 65536
-  bytes : take n w.buffer-after ≡ textBy w
+  faultless : fault_of w.tender.kind w.tender w.count w.bids w.windows ≡ none
+  short : length (text_by w) ≤ 65536
+  bytes : take n w.buffer_after_lem ≡ text_by w
 
-wrote-text : (w : WriteCall) (n : ℕ) → w.answer ≡ writing.Written n → WroteText w n
-wrote-text w n e = go (one-writing w)
+wrote_text : (w : WriteCall) (n : ℕ) → w.answer ≡ writing.Written n → WroteText w n
+wrote_text w n e = go (one_writing w)
   where
     go : OneWriting w → WroteText w n
-    go (tables-faulty row f a b) = let h = sym a ∙ e in let z : ◌≡◌ {A = ℕ} 0 1 = cc in absurd (omega arith)
+    go (tables_faulty row f a b) = let h = sym a ∙ e in let z : ◌≡◌ {A = ℕ} 0 1 = cc in absurd (omega arith)
     go (no_room f l a b) = let h = sym a ∙ e in let z : ◌≡◌ {A = ℕ} 0 1 = cc in absurd (omega arith)
-    go (text-written f l a b) =
+    go (text_written f l a b) =
         let h = sym a ∙ e in
-        let k : length (textBy w) ≡ n = cc in
+        let k : length (text_by w) ≡ n = cc in
         record {
           faultless = f;
           short = omega (arith, l);
           bytes =
-              rw (b, ← k) (take-append_seam (textBy w) (drop (length (textBy w)) w.buffer));
+              rw (b, ← k) (take-append_seam (text_by w) (drop (length (text_by w)) w.buffer));
         }
 
 read_back : (w : WriteCall) (n : ℕ) → w.answer ≡ writing.Written n
-    → ReadBack (take n w.buffer-after) w.tender (rows_of w.count w.bids) w.windows
+    → ReadBack (take n w.buffer_after_lem) w.tender (rows_of w.count w.bids) w.windows
 read_back w n e =
-    let t = wrote-text w n e in
-    rw t.bytes (reads-back w.tender w.count w.bids w.windows t.faultless t.short)
+    let t = wrote_text w n e in
+    rw t.bytes (reads_back w.tender w.count w.bids w.windows t.faultless t.short)
 
-pub read-as-written : (w : WriteCall) (r : ReadCall) (n : ℕ) → w.answer ≡ writing.Written n
-    → r.run.text ≡ take n w.buffer-after
-    → 1000 ≤ length r.run.bids / bidWidth → 32000 ≤ length r.run.windows / windowWidth → ReadAsWritten w r
-unfolding bidsAfter windowsAfter
-read-as-written w r n e x lb lw =
+pub read_as_written : (w : WriteCall) (r : ReadCall) (n : ℕ) → w.answer ≡ writing.Written n
+    → r.run.text ≡ take n w.buffer_after_lem
+    → 1000 ≤ length r.run.bids / bid_width → 32000 ≤ length r.run.windows / window_width → ReadAsWritten w r
+unfolding bids_after windows_after
+read_as_written w r n e x lb lw =
     let b = read_back w n e in
     let R = b.R in
     let W = b.W in
-    let o : readInto r.run.text (length r.run.bids / bidWidth) (length r.run.windows / windowWidth)
+    let o : read_into r.run.text (length r.run.bids / bid_width) (length r.run.windows / window_width)
     ≡ accepted w.tender R W =
-    room-law r.run.text (length r.run.bids / bidWidth) (length r.run.windows / windowWidth) lb lw
-    ∙ ap readText x ∙ b.reads in
-    let s = b.same (drop (windowWidth * length W) r.run.windows) in
-    let c : length R ≡ w.count = sym s.count ∙ rows-length w.count w.bids in
-    let p : rows_of w.count r.run.bids-after ≡ R =
-    ap (rows_of w.count) (r.kept.rows ∙ ap (bidsAfter r.run.bids) o)
-    ∙ ap (λ (m : ℕ). rows_of m (flatRows R ++ drop (bidWidth * length R) r.run.bids)) (sym c)
-    ∙ rows-flat R (drop (bidWidth * length R) r.run.bids) in
-    let q : r.run.windows-after ≡ flatWindows W ++ drop (windowWidth * length W) r.run.windows =
-    r.kept.own ∙ ap (windowsAfter r.run.windows) o in
+    room_law r.run.text (length r.run.bids / bid_width) (length r.run.windows / window_width) lb lw
+    ∙ ap read_text x ∙ b.reads in
+    let s = b.same (drop (window_width * length W) r.run.windows) in
+    let c : length R ≡ w.count = sym s.count ∙ rows_length w.count w.bids in
+    let p : rows_of w.count r.run.bids_after_lem ≡ R =
+    ap (rows_of w.count) (r.kept.rows ∙ ap (bids_after r.run.bids) o)
+    ∙ ap (λ (m : ℕ). rows_of m (flat_rows R ++ drop (bid_width * length R) r.run.bids)) (sym c)
+    ∙ rows_flat R (drop (bid_width * length R) r.run.bids) in
+    let q : r.run.windows_after_lem ≡ flat_windows W ++ drop (window_width * length W) r.run.windows =
+    r.kept.own ∙ ap (windows_after r.run.windows) o in
     record {
-      window-rows = length W;
-      accepts = r.kept.answers ∙ ap readAnswer o ∙ ap (λ (m : ℕ). reading.Accepted w.tender m (length W)) c;
+      window_rows = length W;
+      accepts = r.kept.answers ∙ ap read_answer o ∙ ap (λ (m : ℕ). reading.Accepted w.tender m (length W)) c;
       same = rw (p, q) s;
     }
 
 -- texts rewritten
 
-module _ (l : RewriteCall) (T : Tender) (R : List Row) (W : List Window) (read : readText l.text ≡ accepted T R W) where
-  rewrite-is : rewriteOf (readText l.text) ≡ canonical T R (flatWindows W)
-  unfolding rewriteOf
-  rewrite-is = ap rewriteOf read
+module _ (l : RewriteCall) (T : Tender) (R : List Row) (W : List Window) (read : read_text l.text ≡ accepted T R W) where
+  rewrite_is : rewrite_of (read_text l.text) ≡ canonical T R (flat_windows W)
+  unfolding rewrite_of
+  rewrite_is = ap rewrite_of read
 
-  rewritten-is : 0 < l.answer → shown l ≡ canonical T R (flatWindows W)
-  rewritten-is a = delivered-is l.promise.delivers a ∙ rewrite-is
+  rewritten_is : 0 < l.answer → shown l ≡ canonical T R (flat_windows W)
+  rewritten_is a = delivered_is l.promise.delivers a ∙ rewrite_is
 
-  pub rewritten-fits : length l.text ≤ length l.buffer → (0 < l.answer) × (l.answer ≤ length l.text)
-  rewritten-fits a =
-      let c = canonical T R (flatWindows W) in
+  pub rewritten_fits : length l.text ≤ length l.buffer → (0 < l.answer) × (l.answer ≤ length l.text)
+  rewritten_fits a =
+      let c = canonical T R (flat_windows W) in
       let n = no_longer l.text T R W read in
       let e : leb (length c) (length l.buffer) ≡ true = le-leb (length c) (length l.buffer) (omega (arith, n)) in
       let r : l.answer ≡ length c = l.promise.delivers.answer
-      ∙ ap (λ out. cond (leb (length out) (length l.buffer)) (length out) 0) rewrite-is ∙ ap (λ b. cond b (length c) 0) e in
-      (omega (arith, r, canonical-some T R (flatWindows W)), omega (arith, r, n))
+      ∙ ap (λ out. cond (leb (length out) (length l.buffer)) (length out) 0) rewrite_is ∙ ap (λ b. cond b (length c) 0) e in
+      (omega (arith, r, canonical_some T R (flat_windows W)), omega (arith, r, n))
 
   -- what was rewritten reads as the same bids, and is rewritten to itself
-  back : 0 < l.answer → ReadBack (shown l) T R (flatWindows W)
+  back : 0 < l.answer → ReadBack (shown l) T R (flat_windows W)
   back a =
       let n = no_longer l.text T R W read in
-      let x = short-text T R W l.text read in
-      let k = canonical-alone l.text T R W read [] [] in
-      let b = reads-back T (length R) (flatRows R ++ []) (flatWindows W ++ []) (read-sound l.text T R W read [] [])
+      let x = short_text T R W l.text read in
+      let k = canonical_alone l.text T R W read [] [] in
+      let b = reads_back T (length R) (flat_rows R ++ []) (flat_windows W ++ []) (read_sound l.text T R W read [] [])
       (omega (arith, ap length k, n, x)) in
-      rw (rewritten-is a, ← k) (as_read b)
+      rw (rewritten_is a, ← k) (as_read b)
     where
-      as_read : ReadBack (canonical T (rows_of (length R) (flatRows R ++ [])) (flatWindows W ++ [])) T
-          (rows_of (length R) (flatRows R ++ [])) (flatWindows W ++ [])
-          → ReadBack (canonical T (rows_of (length R) (flatRows R ++ [])) (flatWindows W ++ [])) T R (flatWindows W)
+      as_read : ReadBack (canonical T (rows_of (length R) (flat_rows R ++ [])) (flat_windows W ++ [])) T
+          (rows_of (length R) (flat_rows R ++ [])) (flat_windows W ++ [])
+          → ReadBack (canonical T (rows_of (length R) (flat_rows R ++ [])) (flat_windows W ++ [])) T R (flat_windows W)
       as_read b = record {
         R = b.R;
         W = b.W;
         reads = b.reads;
-        same = λ v. rw (rows-flat R [], append-nil (flatWindows W)) at (b.same v);
+        same = λ v. rw (rows_flat R [], append-nil (flat_windows W)) at (b.same v);
       }
 
-  pub rewritten-again : (l' : RewriteCall) → l'.text ≡ shown l → 0 < l.answer → 0 < l'.answer
+  pub rewritten_again : (l' : RewriteCall) → l'.text ≡ shown l → 0 < l.answer → 0 < l'.answer
       → shown l' ≡ shown l
-  unfolding rewriteOf
-  rewritten-again l' x a a' =
+  unfolding rewrite_of
+  rewritten_again l' x a a' =
       let b = back a in
-      delivered-is l'.promise.delivers a' ∙ ap rewriteOf (ap readText x ∙ b.reads)
-      ∙ ap (canonical T b.R) (sym (append-nil (flatWindows b.W)))
-      ∙ writes-the-same T R (flatWindows W) (shown l) b [] ∙ sym (rewritten-is a)
+      delivered_is l'.promise.delivers a' ∙ ap rewrite_of (ap read_text x ∙ b.reads)
+      ∙ ap (canonical T b.R) (sym (append-nil (flat_windows b.W)))
+      ∙ writes_the_same T R (flat_windows W) (shown l) b [] ∙ sym (rewritten_is a)
 
-  pub read-rewritten : 0 < l.answer → ReadBack (shown l) T R (flatWindows W)
-  read-rewritten = back
+  pub read_rewritten : 0 < l.answer → ReadBack (shown l) T R (flat_windows W)
+  read_rewritten = back
 
 -- a buffer as long as the text, and as the longest line of a refusal, suffices
-pub always-fits : (l : RewriteCall) → length l.text ≤ length l.buffer → 52 ≤ length l.buffer → 0 < l.answer
-unfolding rewriteOf
-always-fits l a b = go (readText l.text) refl
+pub always_fits : (l : RewriteCall) → length l.text ≤ length l.buffer → 52 ≤ length l.buffer → 0 < l.answer
+unfolding rewrite_of
+always_fits l a b = go (read_text l.text) refl
   where
-    go : (o : ReadOutcome) → readText l.text ≡ o → 0 < l.answer
-    go (accepted T R W) e = (rewritten-fits l T R W e a).0
+    go : (o : ReadOutcome) → read_text l.text ≡ o → 0 < l.answer
+    go (accepted T R W) e = (rewritten_fits l T R W e a).0
     go (refused q) e =
-        let c = refusedLine q in
-        let m : leb (length c) (length l.buffer) ≡ true = le-leb (length c) (length l.buffer) (omega (arith, refused-short q)) in
+        let c = refused_line q in
+        let m : leb (length c) (length l.buffer) ≡ true = le-leb (length c) (length l.buffer) (omega (arith, refused_short q)) in
         let r : l.answer ≡ length c = l.promise.delivers.answer
-        ∙ ap (λ out. cond (leb (length out) (length l.buffer)) (length out) 0) (ap rewriteOf e)
+        ∙ ap (λ out. cond (leb (length out) (length l.buffer)) (length out) 0) (ap rewrite_of e)
         ∙ ap (λ b. cond b (length c) 0) m in
-        omega (arith, r, refused-some q)
+        omega (arith, r, refused_some q)
 
-pub equal-rewritten : (l l' : RewriteCall) (T T' : Tender) (R R' : List Row) (W W' : List Window)
-    → readText l.text ≡ accepted T R W → readText l'.text ≡ accepted T' R' W' → 0 < l.answer → 0 < l'.answer
-    → Exactly (shown l ≡ shown l') (Same T R (flatWindows W) T' R' (flatWindows W'))
-equal-rewritten l l' T T' R R' W W' e e' a a' =
+pub equal_rewritten : (l l' : RewriteCall) (T T' : Tender) (R R' : List Row) (W W' : List Window)
+    → read_text l.text ≡ accepted T R W → read_text l'.text ≡ accepted T' R' W' → 0 < l.answer → 0 < l'.answer
+    → Exactly (shown l ≡ shown l') (Same T R (flat_windows W) T' R' (flat_windows W'))
+equal_rewritten l l' T T' R R' W W' e e' a a' =
     let s = same_bytes l.text l'.text T T' R R' W W' [] [] e e' in
-    let x = rewritten-is l T R W e a in
-    let y = rewritten-is l' T' R' W' e' a' in (
-      (λ q. alone (s.0 (rw (append-nil (flatWindows W), append-nil (flatWindows W')) (sym x ∙ q ∙ y)))),
-      (λ q. x ∙ (rw (append-nil (flatWindows W), append-nil (flatWindows W')) at (s.1 (padded q))) ∙ sym y),
+    let x = rewritten_is l T R W e a in
+    let y = rewritten_is l' T' R' W' e' a' in (
+      (λ q. alone (s.0 (rw (append-nil (flat_windows W), append-nil (flat_windows W')) (sym x ∙ q ∙ y)))),
+      (λ q. x ∙ (rw (append-nil (flat_windows W), append-nil (flat_windows W')) at (s.1 (padded q))) ∙ sym y),
     )
   where
-    alone : Same T R (flatWindows W ++ []) T' R' (flatWindows W' ++ []) → Same T R (flatWindows W) T' R' (flatWindows W')
-    alone q = rw (append-nil (flatWindows W), append-nil (flatWindows W')) at q
+    alone : Same T R (flat_windows W ++ []) T' R' (flat_windows W' ++ []) → Same T R (flat_windows W) T' R' (flat_windows W')
+    alone q = rw (append-nil (flat_windows W), append-nil (flat_windows W')) at q
 
-    padded : Same T R (flatWindows W) T' R' (flatWindows W') → Same T R (flatWindows W ++ []) T' R' (flatWindows W' ++ [])
-    padded q = rw (append-nil (flatWindows W), append-nil (flatWindows W')) q
+    padded : Same T R (flat_windows W) T' R' (flat_windows W') → Same T R (flat_windows W ++ []) T' R' (flat_windows W' ++ [])
+    padded q = rw (append-nil (flat_windows W), append-nil (flat_windows W')) q
 
 -- tables written
 
-pub equal-written : (w w' : WriteCall) (n n' : ℕ) → w.answer ≡ writing.Written n → w'.answer ≡ writing.Written n'
-    → Exactly (take n w.buffer-after ≡ take n' w'.buffer-after) (Same w.tender (rows_of w.count w.bids) w.windows
+pub equal_written : (w w' : WriteCall) (n n' : ℕ) → w.answer ≡ writing.Written n → w'.answer ≡ writing.Written n'
+    → Exactly (take n w.buffer_after_lem ≡ take n' w'.buffer_after_lem) (Same w.tender (rows_of w.count w.bids) w.windows
     w'.tender (rows_of w'.count w'.bids) w'.windows)
-equal-written w w' n n' e e' =
-    let t = wrote-text w n e in
-    let t' = wrote-text w' n' e' in (
+equal_written w w' n n' e e' =
+    let t = wrote_text w n e in
+    let t' = wrote_text w' n' e' in (
       (λ q. text_same w.tender (rows_of w.count w.bids) w.windows w'.tender (rows_of w'.count w'.bids)
           w'.windows
-          (lawful-tables w.tender w.count w.bids w.windows t.faultless)
-          (lawful-tables w'.tender w'.count w'.bids w'.windows t'.faultless)
+          (lawful_tables w.tender w.count w.bids w.windows t.faultless)
+          (lawful_tables w'.tender w'.count w'.bids w'.windows t'.faultless)
           (sym t.bytes ∙ q ∙ t'.bytes)),
       (λ q. t.bytes ∙ same_text w.tender (rows_of w.count w.bids) w.windows w'.tender
           (rows_of w'.count w'.bids)
@@ -219,46 +219,46 @@ equal-written w w' n n' e e' =
 -- 9 is told just where the award of the tender's kind tells it, at the same place
 
 module _ (w : WriteCall) (c : AwardCall) (s : SameTables w.tender w.count w.bids w.windows c) (row : ℕ) where
-  same-fault : faultOf c.kind c.tender c.count c.bids c.windows
-      ≡ faultOf w.tender.kind w.tender w.count w.bids w.windows
-  same-fault = rw (s.kinds, s.tenders, s.counts, s.bids-too, s.windows-too)
+  same_fault : fault_of c.kind c.tender c.count c.bids c.windows
+      ≡ fault_of w.tender.kind w.tender w.count w.bids w.windows
+  same_fault = rw (s.kinds, s.tenders, s.counts, s.bids_too, s.windows_too)
 
-  told-nine : w.answer ≡ writing.Refused (BadTables row) → toldBy c ≡ outcome.refused (BadTables row)
-  told-nine e = go (one-writing w)
+  told_nine : w.answer ≡ writing.Refused (BadTables row) → told_by c ≡ outcome.refused (BadTables row)
+  told_nine e = go (one_writing w)
     where
-      go : OneWriting w → toldBy c ≡ outcome.refused (BadTables row)
-      go (tables-faulty p f a b) =
+      go : OneWriting w → told_by c ≡ outcome.refused (BadTables row)
+      go (tables_faulty p f a b) =
           let h = sym a ∙ e in
           let q : p ≡ row = cc in
-          c.promise.answers ∙ award-nine c.kind c.tender c.count c.bids c.windows (length c.rows_before) p
-          (same-fault ∙ f)
+          c.promise.answers ∙ award_nine c.kind c.tender c.count c.bids c.windows (length c.rows_before) p
+          (same_fault ∙ f)
           ∙ ap (λ (m : ℕ). outcome.refused (BadTables m)) q
       go (no_room f l a b) = let h = sym a ∙ e in let z : ◌≡◌ {A = ℕ} 0 1 = cc in absurd (omega arith)
-      go (text-written f l a b) = let h = sym a ∙ e in let z : ◌≡◌ {A = ℕ} 0 1 = cc in absurd (omega arith)
+      go (text_written f l a b) = let h = sym a ∙ e in let z : ◌≡◌ {A = ℕ} 0 1 = cc in absurd (omega arith)
 
-  faulty : faultOf w.tender.kind w.tender w.count w.bids w.windows ≡ some row
+  faulty : fault_of w.tender.kind w.tender w.count w.bids w.windows ≡ some row
       → w.answer ≡ writing.Refused (BadTables row)
-  faulty e = go (one-writing w)
+  faulty e = go (one_writing w)
     where
       go : OneWriting w → w.answer ≡ writing.Refused (BadTables row)
-      go (tables-faulty p f a b) = let h = sym f ∙ e in let q : p ≡ row = cc in a ∙ ap (λ (m : ℕ). writing.Refused (BadTables m)) q
+      go (tables_faulty p f a b) = let h = sym f ∙ e in let q : p ≡ row = cc in a ∙ ap (λ (m : ℕ). writing.Refused (BadTables m)) q
       go (no_room f l a b) = let h = sym f ∙ e in let z : ◌≡◌ {A = ℕ} 0 1 = cc in absurd (omega arith)
-      go (text-written f l a b) = let h = sym f ∙ e in let z : ◌≡◌ {A = ℕ} 0 1 = cc in absurd (omega arith)
+      go (text_written f l a b) = let h = sym f ∙ e in let z : ◌≡◌ {A = ℕ} 0 1 = cc in absurd (omega arith)
 
-  write-nine : toldBy c ≡ outcome.refused (BadTables row) → w.answer ≡ writing.Refused (BadTables row)
-  write-nine e = go (one_answer c.kind c.tender c.count c.bids c.windows c.rows_before c.rows-after c.answer
+  write_nine : told_by c ≡ outcome.refused (BadTables row) → w.answer ≡ writing.Refused (BadTables row)
+  write_nine e = go (one_answer c.kind c.tender c.count c.bids c.windows c.rows_before c.rows_after c.answer
       c.promise)
     where
-      go : OneAnswer c.kind c.tender c.count c.bids c.windows c.rows_before c.rows-after (toldBy c)
+      go : OneAnswer c.kind c.tender c.count c.bids c.windows c.rows_before c.rows_after (told_by c)
           → w.answer ≡ writing.Refused (BadTables row)
-      go (tables-break-a-rule p f r) =
+      go (tables_break_a_rule p f r) =
           let h = sym r.outcome ∙ e in
           let q : p ≡ row = cc in
-          faulty (sym same-fault ∙ f ∙ ap (λ (m : ℕ). some m) q)
-      go (rows-too-few f l r) = let h = sym r.outcome ∙ e in let z : ◌≡◌ {A = ℕ} 0 1 = cc in absurd (omega arith)
-      go (minute-uncovered m f u l r) = let h = sym r.outcome ∙ e in let z : ◌≡◌ {A = ℕ} 0 1 = cc in absurd (omega arith)
-      go (one-bidder m f u b l r) = let h = sym r.outcome ∙ e in let z : ◌≡◌ {A = ℕ} 0 1 = cc in absurd (omega arith)
+          faulty (sym same_fault ∙ f ∙ ap (λ (m : ℕ). some m) q)
+      go (rows_too_few f l r) = let h = sym r.outcome ∙ e in let z : ◌≡◌ {A = ℕ} 0 1 = cc in absurd (omega arith)
+      go (minute_uncovered m f u l r) = let h = sym r.outcome ∙ e in let z : ◌≡◌ {A = ℕ} 0 1 = cc in absurd (omega arith)
+      go (one_bidder m f u b l r) = let h = sym r.outcome ∙ e in let z : ◌≡◌ {A = ℕ} 0 1 = cc in absurd (omega arith)
       go (award f b r) = let h = sym r.outcome ∙ e in let z : ◌≡◌ {A = ℕ} 0 1 = cc in absurd (omega arith)
 
-  pub nine-as-award : Exactly (w.answer ≡ writing.Refused (BadTables row)) (toldBy c ≡ outcome.refused (BadTables row))
-  nine-as-award = (told-nine, write-nine)
+  pub nine_as_award : Exactly (w.answer ≡ writing.Refused (BadTables row)) (told_by c ≡ outcome.refused (BadTables row))
+  nine_as_award = (told_nine, write_nine)

@@ -10,20 +10,20 @@ use Rattle.tender.specs.declared.Window.{Window}
 use Rattle.tender.specs.declared.Tender.{Tender}
 use Rattle.tender.specs.declared.AwardRow.{AwardRow}
 use Rattle.tender.specs.declared.Answer.{Answer}
-use Rattle.tender.specs.Tables.{Row, flatRows, flatWindows, bidWidth, windowWidth}
+use Rattle.tender.specs.Tables.{Row, flat_rows, flat_windows, bid_width, window_width}
 use Rattle.tender.specs.declared.Refusal.TheVariants.{TableTooShort}
-use Rattle.reader_text.specs.Read.{accepted, readText, fitted, readInto}
+use Rattle.reader_text.specs.Read.{accepted, read_text, fitted, read_into}
 use Rattle.reader_text.specs.Read as reading
-use Rattle.reader.specs.Answer.{readAnswer, bidsAfter, windowsAfter}
+use Rattle.reader.specs.Answer.{read_answer, bids_after, windows_after}
 use Rattle.reader.specs.declared.Reading.TheVariants as answer
-use Rattle.reader_text.specs.Differ.{DifferInPrice, DifferInBid, windowsBy}
-use Rattle.reader_text.specs.BidLaws.{price-as-bid}
+use Rattle.reader_text.specs.Differ.{DifferInPrice, DifferInBid, windows_by}
+use Rattle.reader_text.specs.BidLaws.{price_as_bid}
 use Rattle.award_check.specs.Cells.{no_row}
 use Rattle.award_check.specs.Alike.{named, PartOf}
-use Rattle.award_check.specs.TextLaws.{bidder-read}
-use Rattle.award_outcome.specs.Promise.{toldAward, Promise}
+use Rattle.award_check.specs.TextLaws.{bidder_read}
+use Rattle.award_outcome.specs.Promise.{told_award, Promise}
 use Rattle.award_outcome.specs.Right as right
-use Rattle.award_outcome.specs.TextOutcomeLaws.{withheld-texts}
+use Rattle.award_outcome.specs.TextOutcomeLaws.{withheld_texts}
 use Rattle.theorems_calls.specs.Calls.{ReadCall, AwardCall}
 use Rattle.theorems.specs.Between.{Follows, SameAward, NoGainBetween}
 
@@ -31,47 +31,47 @@ use Rattle.theorems.specs.Between.{Follows, SameAward, NoGainBetween}
 record ReadLeft (text bids windows : List ℕ) (t : Tender) (n : ℕ) : Type 0 where
   rows : List Row
   spans : List Window
-  past-rows : List ℕ
-  past-spans : List ℕ
-  is : readText text ≡ accepted t rows spans
+  past_rows : List ℕ
+  past_spans : List ℕ
+  is : read_text text ≡ accepted t rows spans
   count : length rows ≡ n
-  bids-are : bids ≡ flatRows rows ++ past-rows
-  windows-are : windows ≡ flatWindows spans ++ past-spans
+  bids_are : bids ≡ flat_rows rows ++ past_rows
+  windows_are : windows ≡ flat_windows spans ++ past_spans
 
-accepted-read : (r : ReadCall) (t : Tender) (n m : ℕ) → r.run.answer ≡ answer.Accepted t n m
-    → ReadLeft r.run.text r.run.bids-after r.run.windows-after t n
-unfolding readInto fitted bidsAfter windowsAfter
-accepted-read r t n m e = go (readText r.run.text) refl (sym e ∙ r.kept.answers) r.kept.rows
+accepted_read : (r : ReadCall) (t : Tender) (n m : ℕ) → r.run.answer ≡ answer.Accepted t n m
+    → ReadLeft r.run.text r.run.bids_after_lem r.run.windows_after_lem t n
+unfolding read_into fitted bids_after windows_after
+accepted_read r t n m e = go (read_text r.run.text) refl (sym e ∙ r.kept.answers) r.kept.rows
     r.kept.own
   where
-    room : (T : Tender) (R : List Row) (W : List Window) (b : Bool) → readText r.run.text ≡ accepted T R W
-        → answer.Accepted t n m ≡ readAnswer (cond b (accepted T R W) (reading.refused TableTooShort)) →
-        r.run.bids-after ≡ bidsAfter r.run.bids (cond b (accepted T R W) (reading.refused TableTooShort))
-        → r.run.windows-after ≡ windowsAfter r.run.windows (cond b (accepted T R W) (reading.refused TableTooShort)) →
-        ReadLeft r.run.text r.run.bids-after r.run.windows-after t n
+    room : (T : Tender) (R : List Row) (W : List Window) (b : Bool) → read_text r.run.text ≡ accepted T R W
+        → answer.Accepted t n m ≡ read_answer (cond b (accepted T R W) (reading.refused TableTooShort)) →
+        r.run.bids_after_lem ≡ bids_after r.run.bids (cond b (accepted T R W) (reading.refused TableTooShort))
+        → r.run.windows_after_lem ≡ windows_after r.run.windows (cond b (accepted T R W) (reading.refused TableTooShort)) →
+        ReadLeft r.run.text r.run.bids_after_lem r.run.windows_after_lem t n
     room T R W false h x y z = let f : ◌≡◌ {A = ℕ} 0 1 = cc in absurd (omega arith)
     room T R W true h x y z =
         record {
           rows = R;
           spans = W;
-          past-rows = drop (bidWidth * length R) r.run.bids;
-          past-spans = drop (windowWidth * length W) r.run.windows;
+          past_rows = drop (bid_width * length R) r.run.bids;
+          past_spans = drop (window_width * length W) r.run.windows;
           is = h ∙ ap (λ v. accepted v R W) (cc);
           count = cc;
-          bids-are = y;
-          windows-are = z;
+          bids_are = y;
+          windows_are = z;
         }
 
-    go : (o : reading.ReadOutcome) → readText r.run.text ≡ o
-        → answer.Accepted t n m ≡ readAnswer (fitted (length r.run.bids / bidWidth) (length r.run.windows / windowWidth) o) →
-        r.run.bids-after ≡ bidsAfter r.run.bids
-        (fitted (length r.run.bids / bidWidth) (length r.run.windows / windowWidth) o)
-        → r.run.windows-after ≡ windowsAfter r.run.windows
-        (fitted (length r.run.bids / bidWidth) (length r.run.windows / windowWidth) o)
-        → ReadLeft r.run.text r.run.bids-after r.run.windows-after t n
+    go : (o : reading.ReadOutcome) → read_text r.run.text ≡ o
+        → answer.Accepted t n m ≡ read_answer (fitted (length r.run.bids / bid_width) (length r.run.windows / window_width) o) →
+        r.run.bids_after_lem ≡ bids_after r.run.bids
+        (fitted (length r.run.bids / bid_width) (length r.run.windows / window_width) o)
+        → r.run.windows_after_lem ≡ windows_after r.run.windows
+        (fitted (length r.run.bids / bid_width) (length r.run.windows / window_width) o)
+        → ReadLeft r.run.text r.run.bids_after_lem r.run.windows_after_lem t n
     go (reading.refused k) h x y z = let f : ◌≡◌ {A = ℕ} 0 1 = cc in absurd (omega arith)
     go (accepted T R W) h x y z =
-        room T R W (leb (length R) (length r.run.bids / bidWidth) && leb (length W) (length r.run.windows / windowWidth))
+        room T R W (leb (length R) (length r.run.bids / bid_width) && leb (length W) (length r.run.windows / window_width))
         h x y z
 
 module _ (bidder p q : List ℕ) (k k' : Kind) (T T' : Tender) (n n' : ℕ) (bids windows bids' windows' : List ℕ)
@@ -85,7 +85,7 @@ module _ (bidder p q : List ℕ) (k k' : Kind) (T T' : Tender) (n n' : ℕ) (bid
     bids = bids;
     windows = windows;
     rows_before = old;
-    rows-after = new;
+    rows_after = new;
     answer = a;
     promise = y;
   })
@@ -96,60 +96,60 @@ module _ (bidder p q : List ℕ) (k k' : Kind) (T T' : Tender) (n n' : ℕ) (bid
         bids = bids';
         windows = windows';
         rows_before = old';
-        rows-after = new';
+        rows_after = new';
         answer = a';
         promise = y';
       }) bidder p q
 
   of_calls : {text text' : List ℕ} (h : ReadLeft text bids windows T n) (h' : ReadLeft text' bids' windows' T' n') →
-      right.NoGain h.rows h'.rows (flatRows h.rows ++ h.past-rows) (flatRows h'.rows ++ h'.past-rows)
-      (toldAward (length h.rows) new a) (toldAward (length h'.rows) new' a') bidder p q → Between
+      right.NoGain h.rows h'.rows (flat_rows h.rows ++ h.past_rows) (flat_rows h'.rows ++ h'.past_rows)
+      (told_award (length h.rows) new a) (told_award (length h'.rows) new' a') bidder p q → Between
   unfolding named
   of_calls h h' g = record {
     i = g.i;
     inside = omega (arith, g.inside, h.count);
     count_same = omega (arith, g.count, h.count, h'.count);
-    bidder-is = g.bidder-is ∙ ap some (sym (bidder-read h.rows h.past-rows g.i g.inside)
-        ∙ ap (λ b. get_or b (bidWidth * g.i) 0) (sym h.bids-are));
-    bidder-too = g.bidder-too ∙ ap some (sym (bidder-read h'.rows h'.past-rows g.i (omega (arith, g.count, g.inside)))
-        ∙ ap (λ b. get_or b (bidWidth * g.i) 0) (sym h'.bids-are));
-    true-cost = g.true-cost ∙ ap (λ b. some (get_or b (bidWidth * g.i + 1) 0)) (sym h.bids-are);
-    other-price = g.other-price ∙ ap (λ b. some (get_or b (bidWidth * g.i + 1) 0)) (sym h'.bids-are);
-    most = rw (← h.bids-are, h.count, h'.count) at g.most;
+    bidder_is = g.bidder_is ∙ ap some (sym (bidder_read h.rows h.past_rows g.i g.inside)
+        ∙ ap (λ b. get_or b (bid_width * g.i) 0) (sym h.bids_are));
+    bidder_too = g.bidder_too ∙ ap some (sym (bidder_read h'.rows h'.past_rows g.i (omega (arith, g.count, g.inside)))
+        ∙ ap (λ b. get_or b (bid_width * g.i) 0) (sym h'.bids_are));
+    true_cost = g.true_cost ∙ ap (λ b. some (get_or b (bid_width * g.i + 1) 0)) (sym h.bids_are);
+    other_price = g.other_price ∙ ap (λ b. some (get_or b (bid_width * g.i + 1) 0)) (sym h'.bids_are);
+    most = rw (← h.bids_are, h.count, h'.count) at g.most;
   }
 
   between : (text text' ws vs : List ℕ) → k ≡ k' → DifferInBid text text' bidder p q ws vs
-      → PartOf (windowsBy vs) (windowsBy ws)
+      → PartOf (windows_by vs) (windows_by ws)
       → ReadLeft text bids windows T n → ReadLeft text' bids' windows' T' n'
       → ltb (length old) n ≡ ltb (length old') n' → Between
   between text text' ws vs s d part h h' e = of_calls h h'
-      (withheld-texts text text' bidder p q ws vs T T' h.rows h'.rows h.spans h'.spans d part h.is h'.is
-      k h.past-rows h.past-spans h'.past-rows h'.past-spans (length old) (length old')
-      (toldAward (length h.rows) new a) (toldAward (length h'.rows) new' a')
+      (withheld_texts text text' bidder p q ws vs T T' h.rows h'.rows h.spans h'.spans d part h.is h'.is
+      k h.past_rows h.past_spans h'.past_rows h'.past_spans (length old) (length old')
+      (told_award (length h.rows) new a) (told_award (length h'.rows) new' a')
       (rw (h.count, h'.count) e)
-      (rw (h.count, ← h.bids-are, ← h.windows-are) y.answers)
-      (rw (s, h'.count, ← h'.bids-are, ← h'.windows-are) y'.answers))
+      (rw (h.count, ← h.bids_are, ← h.windows_are) y.answers)
+      (rw (s, h'.count, ← h'.bids_are, ← h'.windows_are) y'.answers))
 
 -- Two calls of `read`, two of the same award on what they left.
 module _ (r r' : ReadCall) (c c' : AwardCall) (bidder p q : List ℕ) (f : Follows r c) (f' : Follows r' c')
     (s : SameAward c c') where
-  first : ReadLeft r.run.text r.run.bids-after r.run.windows-after c.tender c.count
-  first = accepted-read r c.tender c.count f.window-rows f.accepts
+  first : ReadLeft r.run.text r.run.bids_after_lem r.run.windows_after_lem c.tender c.count
+  first = accepted_read r c.tender c.count f.window_rows f.accepts
 
-  second : ReadLeft r'.run.text r'.run.bids-after r'.run.windows-after c'.tender c'.count
-  second = accepted-read r' c'.tender c'.count f'.window-rows f'.accepts
+  second : ReadLeft r'.run.text r'.run.bids_after_lem r'.run.windows_after_lem c'.tender c'.count
+  second = accepted_read r' c'.tender c'.count f'.window_rows f'.accepts
 
-  pub withheld-read : (ws vs : List ℕ) → DifferInBid r.run.text r'.run.text bidder p q ws vs
-      → PartOf (windowsBy vs) (windowsBy ws) → NoGainBetween c c' bidder p q
-  withheld-read ws vs d part =
+  pub withheld_read : (ws vs : List ℕ) → DifferInBid r.run.text r'.run.text bidder p q ws vs
+      → PartOf (windows_by vs) (windows_by ws) → NoGainBetween c c' bidder p q
+  withheld_read ws vs d part =
       between bidder p q c.kind c'.kind c.tender c'.tender c.count c'.count c.bids c.windows c'.bids
-      c'.windows c.rows_before c.rows-after c'.rows_before c'.rows-after
+      c'.windows c.rows_before c.rows_after c'.rows_before c'.rows_after
       c.answer c'.answer c.promise c'.promise r.run.text r'.run.text ws vs s.kinds d part
-      (rw (f.bids-are, f.windows-are) first)
-      (rw (f'.bids-are, f'.windows-are) second) s.room
+      (rw (f.bids_are, f.windows_are) first)
+      (rw (f'.bids_are, f'.windows_are) second) s.room
 
   -- with the same windows: all the minutes
-  pub no-gain-read : DifferInPrice r.run.text r'.run.text bidder p q → NoGainBetween c c' bidder p q
-  no-gain-read d =
-      let m = price-as-bid r.run.text r'.run.text bidder p q c.tender first.rows first.spans d first.is in
-      withheld-read m.ws m.ws m.differ (λ minute h. h)
+  pub no_gain_read : DifferInPrice r.run.text r'.run.text bidder p q → NoGainBetween c c' bidder p q
+  no_gain_read d =
+      let m = price_as_bid r.run.text r'.run.text bidder p q c.tender first.rows first.spans d first.is in
+      withheld_read m.ws m.ws m.differ (λ minute h. h)

@@ -7,35 +7,35 @@ use Rattle.tender.specs.declared.AwardRow.{AwardRow}
 use Rattle.tender.specs.declared.Totals.{Totals}
 use Rattle.tender.specs.Tables.{Row, rows_of}
 use Rattle.reader_forms.specs.Line.{BidLine}
-use Rattle.award_check.specs.Auction.{offered, houseOf, offersOf}
-use Rattle.award_check.specs.AuctionLaws.{without-reserve, thin-told, owners-are, cells_are}
-use Rattle.award_rule.specs.Award.{won, awarded, totalsOf}
-use Rattle.spelling.specs.Lines.{pairLine}
-use Rattle.spelling.specs.Text.{tenderText, reserveText, headText, bidsText, text_of}
-use Rattle.listing_text.specs.Lines.{totalWord, awardLine, houseLine, lastLines}
-use Rattle.listing_text.specs.List.{winList, listLines}
-use Rattle.theorems_calls.specs.Calls.{AwardCall, auctionBy}
+use Rattle.award_check.specs.Auction.{offered, house_of, offers_of}
+use Rattle.award_check.specs.AuctionLaws.{without_reserve, thin_told, owners_are, cells_are}
+use Rattle.award_rule.specs.Award.{won, awarded, totals_of}
+use Rattle.spelling.specs.Lines.{pair_line}
+use Rattle.spelling.specs.Text.{tender_text, reserve_text, head_text, bids_text, text_of}
+use Rattle.listing_text.specs.Lines.{total_word, award_line, house_line, last_lines}
+use Rattle.listing_text.specs.List.{win_list, list_lines}
+use Rattle.theorems_calls.specs.Calls.{AwardCall, auction_by}
 use Rattle.theorems.specs.Between.{BidsAlone}
 
-pub bids-alone : (c : AwardCall) → c.tender.reserve ≡ Absent → BidsAlone c
-unfolding offersOf houseOf totalsOf
-bids-alone c e = record {
-  offers = ap (λ r. map (offered c.windows) (rows_of c.count c.bids) ++ houseOf c.tender r) e
+pub bids_alone : (c : AwardCall) → c.tender.reserve ≡ Absent → BidsAlone c
+unfolding offers_of house_of totals_of
+bids_alone c e = record {
+  offers = ap (λ r. map (offered c.windows) (rows_of c.count c.bids) ++ house_of c.tender r) e
       ∙ append-nil (map (offered c.windows) (rows_of c.count c.bids));
-  thin = λ m. thin-told c.tender c.count c.bids c.windows e m
-      ∙ rw (owners-are c.tender c.count c.bids c.windows, cells_are c.tender c.count c.bids c.windows) refl;
-  no-house = λ r. ap (λ b. b && won r (auctionBy c) (auctionBy c).owners)
-      (without-reserve c.tender c.count c.bids c.windows e);
+  thin = λ m. thin_told c.tender c.count c.bids c.windows e m
+      ∙ rw (owners_are c.tender c.count c.bids c.windows, cells_are c.tender c.count c.bids c.windows) refl;
+  no_house = λ r. ap (λ b. b && won r (auction_by c) (auction_by c).owners)
+      (without_reserve c.tender c.count c.bids c.windows e);
 }
 
-pub no-house-line : (t : Tender) (R : List Row) (rows : List AwardRow) (totals : Totals) → t.reserve ≡ Absent
-    → listLines t R (awarded rows totals)
-    ≡ awardLine t ++ winList R rows (length R) ++ pairLine totalWord totals.cost totals.paid
-unfolding listLines lastLines houseLine
-no-house-line t R rows totals e = ap (λ r. awardLine t ++ winList R rows (length R)
-    ++ (houseLine r totals.house ++ pairLine totalWord totals.cost totals.paid)) e
+pub no_house_line : (t : Tender) (R : List Row) (rows : List AwardRow) (totals : Totals) → t.reserve ≡ Absent
+    → list_lines t R (awarded rows totals)
+    ≡ award_line t ++ win_list R rows (length R) ++ pair_line total_word totals.cost totals.paid
+unfolding list_lines last_lines house_line
+no_house_line t R rows totals e = ap (λ r. award_line t ++ win_list R rows (length R)
+    ++ (house_line r totals.house ++ pair_line total_word totals.cost totals.paid)) e
 
-pub no-reserve-line : (t : Tender) (bs : List BidLine) → t.reserve ≡ Absent → text_of t bs ≡ tenderText t ++ bidsText bs
-unfolding text_of headText reserveText
-no-reserve-line t bs e = ap (λ r. (tenderText t ++ reserveText r) ++ bidsText bs) e
-    ∙ ap (λ s. s ++ bidsText bs) (append-nil (tenderText t))
+pub no_reserve_line : (t : Tender) (bs : List BidLine) → t.reserve ≡ Absent → text_of t bs ≡ tender_text t ++ bids_text bs
+unfolding text_of head_text reserve_text
+no_reserve_line t bs e = ap (λ r. (tender_text t ++ reserve_text r) ++ bids_text bs) e
+    ∙ ap (λ s. s ++ bids_text bs) (append-nil (tender_text t))

@@ -5,19 +5,19 @@ use Rattle.tender.specs.declared.Tender.{Tender}
 use Rattle.tender.specs.declared.AwardRow.{AwardRow}
 use Rattle.tender.specs.declared.Answer.{Answer}
 use Rattle.tender.specs.declared.Highest.{Highest}
-use Rattle.tender.specs.Tables.{bidWidth, windowWidth}
-use Rattle.reader_text.specs.Read.{readInto}
-use Rattle.reader.specs.Answer.{readAnswer, bidsAfter, windowsAfter}
+use Rattle.tender.specs.Tables.{bid_width, window_width}
+use Rattle.reader_text.specs.Read.{read_into}
+use Rattle.reader.specs.Answer.{read_answer, bids_after, windows_after}
 use Rattle.reader.specs.declared.Reading.{Reading}
-use Rattle.award_check.specs.Auction.{Auction, auctionOf}
+use Rattle.award_check.specs.Auction.{Auction, auction_of}
 use Rattle.award_rule.specs.Award.{Outcome}
-use Rattle.award_rule.specs.Plain.{toldIn, PlainPromise}
-use Rattle.award_outcome.specs.Promise.{toldAward, Promise}
+use Rattle.award_rule.specs.Plain.{told_in, PlainPromise}
+use Rattle.award_outcome.specs.Promise.{told_award, Promise}
 use Rattle.listing_text.specs.List.{Listed}
 use Rattle.writer.specs.declared.Writing.{Writing}
 use Rattle.writer.specs.Writes.{Writes}
 use Rattle.rewrite.specs.Rewritten.{Rewritten}
-use Rattle.highest_rule.specs.Highest.{highestOf}
+use Rattle.highest_rule.specs.Highest.{highest_of}
 use Rattle.highest_text.specs.Told.{HighestTold}
 
 -- the text and the tables lent to `read`, the tables that it left and what it answered
@@ -25,16 +25,16 @@ pub record ReadRun : Type 0 where
   pub text : List ℕ
   pub bids : List ℕ
   pub windows : List ℕ
-  pub bids-after : List ℕ
-  pub windows-after : List ℕ
+  pub bids_after_lem : List ℕ
+  pub windows_after_lem : List ℕ
   pub answer : Reading
 
 -- the contract of `read`, its three clauses
 pub record ReadKept (r : ReadRun) : Type 0 where
-  pub answers : r.answer ≡ readAnswer (readInto r.text (length r.bids / bidWidth) (length r.windows / windowWidth))
-  pub rows : r.bids-after ≡ bidsAfter r.bids (readInto r.text (length r.bids / bidWidth) (length r.windows / windowWidth))
-  pub own : r.windows-after ≡ windowsAfter r.windows
-      (readInto r.text (length r.bids / bidWidth) (length r.windows / windowWidth))
+  pub answers : r.answer ≡ read_answer (read_into r.text (length r.bids / bid_width) (length r.windows / window_width))
+  pub rows : r.bids_after_lem ≡ bids_after r.bids (read_into r.text (length r.bids / bid_width) (length r.windows / window_width))
+  pub own : r.windows_after_lem ≡ windows_after r.windows
+      (read_into r.text (length r.bids / bid_width) (length r.windows / window_width))
 
 -- `read`
 pub record ReadCall : Type 0 where
@@ -49,29 +49,29 @@ pub record AwardCall : Type 0 where
   pub bids : List ℕ
   pub windows : List ℕ
   pub rows_before : List AwardRow
-  pub rows-after : List AwardRow
+  pub rows_after : List AwardRow
   pub answer : Answer
-  pub promise : Promise kind tender count bids windows rows_before rows-after answer
+  pub promise : Promise kind tender count bids windows rows_before rows_after answer
 
 -- the auction that its tables say
-abbrev pub auctionBy : AwardCall → Auction
-auctionBy c = auctionOf c.tender c.count c.bids c.windows
+abbrev pub auction_by : AwardCall → Auction
+auction_by c = auction_of c.tender c.count c.bids c.windows
 
 -- what an award told
-abbrev pub toldBy : AwardCall → Outcome
-toldBy c = toldAward c.count c.rows-after c.answer
+abbrev pub told_by : AwardCall → Outcome
+told_by c = told_award c.count c.rows_after c.answer
 
 -- a call from bytes to bytes in a lent buffer, which promises P of the text, the buffer before and after, and the answer
 pub record BytesCall (P : List ℕ → List ℕ → List ℕ → ℕ → Type 0) : Type 0 where
   pub text : List ℕ
   pub buffer : List ℕ
-  pub buffer-after : List ℕ
+  pub buffer_after_lem : List ℕ
   pub answer : ℕ
-  pub promise : P text buffer buffer-after answer
+  pub promise : P text buffer buffer_after_lem answer
 
 -- the bytes that it wrote
 abbrev pub shown : {P : List ℕ → List ℕ → List ℕ → ℕ → Type 0} → BytesCall P → List ℕ
-shown l = take l.answer l.buffer-after
+shown l = take l.answer l.buffer_after_lem
 
 -- `tender_list`, from C too
 abbrev pub ListCall : Type 0
@@ -84,9 +84,9 @@ pub record WriteCall : Type 0 where
   pub bids : List ℕ
   pub windows : List ℕ
   pub buffer : List ℕ
-  pub buffer-after : List ℕ
+  pub buffer_after_lem : List ℕ
   pub answer : Writing
-  pub promise : Writes tender count bids windows buffer buffer-after answer
+  pub promise : Writes tender count bids windows buffer buffer_after_lem answer
 
 -- `tender_rewrite`, from C too
 abbrev pub RewriteCall : Type 0
@@ -100,7 +100,7 @@ pub record HighestCall : Type 0 where
   pub windows : List ℕ
   pub bidder : ℕ
   pub answer : Highest
-  pub promise : answer ≡ highestOf tender count bids windows bidder
+  pub promise : answer ≡ highest_of tender count bids windows bidder
 
 -- `tender_highest` with a bidder number, from C too
 abbrev pub HighestLineCall : ℕ → Type 0

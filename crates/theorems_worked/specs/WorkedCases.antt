@@ -8,53 +8,53 @@ pub record Case : Type 0 where
   pub list : List ℕ
 
 -- the list of paper 01, with bidder 11 at the price p
-unfoldable pub fiveBids : String → String → Case
+unfoldable pub five_bids : String → String → Case
 unfolding bytes
-fiveBids p list = record {
+five_bids p list = record {
   text = bytes "(tender single 0 100)\n(bid 11 " ++ bytes p ++ bytes " (0 50))\n(bid 12 40 (40 100))\n"
       ++ bytes "(bid 13 90 (0 100))\n(bid 14 35 (0 60))\n(bid 15 50 (60 100))\n";
   list = bytes list;
 }
 
 -- the third tender, with bidder 21 at the price p
-unfoldable pub fourBids : String → String → Case
+unfoldable pub four_bids : String → String → Case
 unfolding bytes
-fourBids p list = record {
+four_bids p list = record {
   text = bytes "(tender multi 0 10)\n(bid 21 " ++ bytes p ++ bytes " (0 4) (6 8))\n(bid 22 15 (4 10))\n"
       ++ bytes "(bid 23 30 (0 10))\n(bid 24 9 (8 10) (4 5))\n";
   list = bytes list;
 }
 
 -- a tender of the kind, the words that follow it, and its list
-unfoldable pub ofKind : String → String → String → Case
+unfoldable pub of_kind : String → String → String → Case
 unfolding bytes
-ofKind k rest list = record { text = bytes "(tender " ++ bytes k ++ bytes rest; list = bytes list }
+of_kind k rest list = record { text = bytes "(tender " ++ bytes k ++ bytes rest; list = bytes list }
 
 unfoldable pub third : Case
-unfolding fourBids
-third = fourBids "12" "(award multi 0 10)\n(win 21 30)\n(win 22 30)\n(win 24 11)\n(total 36 71)\n"
+unfolding four_bids
+third = four_bids "12" "(award multi 0 10)\n(win 21 30)\n(win 22 30)\n(win 24 11)\n(total 36 71)\n"
 
 unfoldable pub cases : List Case
-unfolding fiveBids fourBids ofKind third
+unfolding five_bids four_bids of_kind third
 cases =
     -- 1, 2
-    fiveBids "30" "(award single 0 100)\n(win 11 35)\n(win 12 55)\n(total 70 90)\n"
-    ∷ fiveBids "35" "(award single 0 100)\n(win 11 35)\n(win 12 50)\n(total 75 85)\n"
-    ∷ fiveBids "36" "(award single 0 100)\n(win 12 50)\n(win 14 36)\n(total 75 86)\n"
+    five_bids "30" "(award single 0 100)\n(win 11 35)\n(win 12 55)\n(total 70 90)\n"
+    ∷ five_bids "35" "(award single 0 100)\n(win 11 35)\n(win 12 50)\n(total 75 85)\n"
+    ∷ five_bids "36" "(award single 0 100)\n(win 12 50)\n(win 14 36)\n(total 75 86)\n"
     -- 3, 4
     ∷ third
-    ∷ fourBids "30" "(award multi 0 10)\n(win 21 30)\n(win 22 18)\n(total 45 48)\n"
-    ∷ fourBids "31" "(award multi 0 10)\n(win 22 18)\n(win 23 30)\n(total 45 48)\n"
+    ∷ four_bids "30" "(award multi 0 10)\n(win 21 30)\n(win 22 18)\n(total 45 48)\n"
+    ∷ four_bids "31" "(award multi 0 10)\n(win 22 18)\n(win 23 30)\n(total 45 48)\n"
     -- 5, of either kind
-    ∷ ofKind "single" " 0 1)\n" "(refused 11 0)\n"
-    ∷ ofKind "multi" " 0 1)\n" "(refused 11 0)\n"
+    ∷ of_kind "single" " 0 1)\n" "(refused 11 0)\n"
+    ∷ of_kind "multi" " 0 1)\n" "(refused 11 0)\n"
     -- 6
-    ∷ ofKind "single" " 0 10)\n(bid 1 3 (0 5))\n(bid 2 4 (5 10))\n" "(refused 12 0)\n"
-    ∷ ofKind "multi" " 0 10)\n(bid 1 3 (0 5))\n(bid 2 4 (5 10))\n" "(refused 12 0)\n"
+    ∷ of_kind "single" " 0 10)\n(bid 1 3 (0 5))\n(bid 2 4 (5 10))\n" "(refused 12 0)\n"
+    ∷ of_kind "multi" " 0 10)\n(bid 1 3 (0 5))\n(bid 2 4 (5 10))\n" "(refused 12 0)\n"
     -- 7
-    ∷ ofKind "single" " 0 2)\n(bid 1 3 (0 1))\n(bid 2 4 (1 2))\n(bid 3 3 (0 1))\n(bid 4 6 (1 2))\n"
+    ∷ of_kind "single" " 0 2)\n(bid 1 3 (0 1))\n(bid 2 4 (1 2))\n(bid 3 3 (0 1))\n(bid 4 6 (1 2))\n"
     "(award single 0 2)\n(win 1 3)\n(win 2 6)\n(total 7 9)\n"
     -- 8
-    ∷ ofKind "single" " 0 10)\n(bid 1 0 (0 10))\n(bid 2 0 (0 10))\n" "(award single 0 10)\n(win 1 0)\n(total 0 0)\n"
-    ∷ ofKind "multi" " 0 10)\n(bid 1 0 (0 10))\n(bid 2 0 (0 10))\n" "(award multi 0 10)\n(win 1 0)\n(total 0 0)\n"
+    ∷ of_kind "single" " 0 10)\n(bid 1 0 (0 10))\n(bid 2 0 (0 10))\n" "(award single 0 10)\n(win 1 0)\n(total 0 0)\n"
+    ∷ of_kind "multi" " 0 10)\n(bid 1 0 (0 10))\n(bid 2 0 (0 10))\n" "(award multi 0 10)\n(win 1 0)\n(total 0 0)\n"
     ∷ []

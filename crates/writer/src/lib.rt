@@ -1,8 +1,10 @@
 // The text of a tender's tables in one spelling, into a lent buffer: each bid's windows joined where they overlap or touch, in
 // rising order. `writer_text` Canonical says what that text is, and when it is declined.
+#![tactic(auto)]
+
 ghost use Rattle.std.specs.Prelude.{◌≡◌};
 ghost use Rattle.std.proofs.Math.Option.{none};
-ghost use Rattle.award_check.specs.Faults.{faultOf};
+ghost use Rattle.award_check.specs.Faults.{fault_of};
 ghost use Rattle.writer.specs.Writes.{Writes};
 
 use award_fault::Check;
@@ -23,7 +25,7 @@ fn write_sound(
     windows: &[u64],
     text: &mut [u8],
 ) -> Writing
-    requires { faultOf tender.kind tender count bids.now windows.now ≡ none }
+    requires { fault_of tender.kind tender count bids.now windows.now ≡ none }
     ensures { Writes tender count bids.now windows.now text.old text.new result }
 {
     let mut made = [1u8; 66112];

@@ -2,8 +2,8 @@
 use Rattle.std.specs.Prelude.{◌≡◌, List, ◌++◌, ℕ, ◌<◌, length, get_or}
 use Rattle.tender.specs.declared.Window.{Window}
 use Rattle.tender.specs.declared.Tender.{Tender}
-use Rattle.tender.specs.Tables.{Row, own, flatWindows}
-use Rattle.reader_text.specs.Read.{accepted, readText}
+use Rattle.tender.specs.Tables.{Row, own, flat_windows}
+use Rattle.reader_text.specs.Read.{accepted, read_text}
 use Rattle.award_check.specs.Cells.{holds, no_row}
 
 -- the same tender, and in the same entry order the same bidders, prices and minutes, also those outside the tender
@@ -20,5 +20,5 @@ pub record Same (t : Tender) (rows : List Row) (windows : List ℕ) (t' : Tender
 pub record ReadBack (text : List ℕ) (t : Tender) (rows : List Row) (windows : List ℕ) : Type 0 where
   pub R : List Row
   pub W : List Window
-  pub reads : readText text ≡ accepted t R W
-  pub same : (v : List ℕ) → Same t rows windows t R (flatWindows W ++ v)
+  pub reads : read_text text ≡ accepted t R W
+  pub same : (v : List ℕ) → Same t rows windows t R (flat_windows W ++ v)

@@ -7,75 +7,75 @@ use Rattle.tender.specs.Keywords.{bytes}
 use Rattle.tender.specs.Limits.{lawful, every}
 use Rattle.tender.specs.Tables.{Row, own}
 use Rattle.spelling.specs.Decimal.{decimal}
-use Rattle.spelling.specs.Text.{windowText, windowsText, bidText, bidsText, tenderText, reserveText, headText, text_of, bidIn}
-use Rattle.spelling.specs.SpeltShortLaws.{bid-bytes}
+use Rattle.spelling.specs.Text.{window_text, windows_text, bid_text, bids_text, tender_text, reserve_text, head_text, text_of, bid_in}
+use Rattle.spelling.specs.SpeltShortLaws.{bid_bytes}
 use Rattle.runs.specs.Runs.{joined}
-use Rattle.runs.specs.RunsFewLaws.{startsSum, endsSum, joined-starts, joined-ends}
+use Rattle.runs.specs.RunsFewLaws.{starts_sum, ends_sum, joined_starts, joined_ends}
 use Rattle.writer_line.specs.Respelt.{respelt}
-use Rattle.writer_text.specs.Canonical.{respeltIn, canonical}
+use Rattle.writer_text.specs.Canonical.{respelt_in, canonical}
 use Rattle.writer_back.specs.BidLaws.{AllLawful}
 
 -- the bytes of windows, by starts and ends
-windows-bytes : (ws : List Window)
-    → length (windowsText ws) ≡ startsSum (λ s. length (decimal s) + 4) ws + endsSum (λ e. length (decimal e)) ws
-unfolding windowsText windowText bytes startsSum endsSum
-windows-bytes [] = refl
-windows-bytes (w ∷ ws) = omega (
+windows_bytes : (ws : List Window)
+    → length (windows_text ws) ≡ starts_sum (λ s. length (decimal s) + 4) ws + ends_sum (λ e. length (decimal e)) ws
+unfolding windows_text window_text bytes starts_sum ends_sum
+windows_bytes [] = refl
+windows_bytes (w ∷ ws) = omega (
   arith,
-  windows-bytes ws,
-  length-append (windowText w) (windowsText ws),
+  windows_bytes ws,
+  length-append (window_text w) (windows_text ws),
   length-append (decimal w.start) (32 ∷ (decimal w.end ++ 41 ∷ [])),
   length-append (decimal w.end) (41 ∷ []),
 )
 
-pub joined-short : (ws : List Window) → every lawful ws ≡ true → length (windowsText (joined ws)) ≤ length (windowsText ws)
-joined-short ws e = omega (
+pub joined_short : (ws : List Window) → every lawful ws ≡ true → length (windows_text (joined ws)) ≤ length (windows_text ws)
+joined_short ws e = omega (
   arith,
-  windows-bytes (joined ws),
-  windows-bytes ws,
-  joined-starts (λ s. length (decimal s) + 4) ws,
-  joined-ends (λ z. length (decimal z)) ws e,
+  windows_bytes (joined ws),
+  windows_bytes ws,
+  joined_starts (λ s. length (decimal s) + 4) ws,
+  joined_ends (λ z. length (decimal z)) ws e,
 )
 
-bid-short : (windows : List ℕ) (r : Row) → every lawful (own windows r) ≡ true
-    → length (bidText (respelt (bidIn windows r))) ≤ length (bidText (bidIn windows r))
-unfolding bidText respelt bidIn
-bid-short windows r e = omega (
+bid_short : (windows : List ℕ) (r : Row) → every lawful (own windows r) ≡ true
+    → length (bid_text (respelt (bid_in windows r))) ≤ length (bid_text (bid_in windows r))
+unfolding bid_text respelt bid_in
+bid_short windows r e = omega (
   arith,
-  bid-bytes (decimal r.price) (respelt (bidIn windows r)),
-  bid-bytes (decimal r.price) (bidIn windows r),
-  joined-short (own windows r) e,
+  bid_bytes (decimal r.price) (respelt (bid_in windows r)),
+  bid_bytes (decimal r.price) (bid_in windows r),
+  joined_short (own windows r) e,
 )
 
-bids-short : (windows : List ℕ) (rows : List Row) → AllLawful windows rows
-    → length (bidsText (respeltIn windows rows)) ≤ length (bidsText (map (bidIn windows) rows))
-unfolding bidsText respeltIn
-bids-short windows [] h = omega arith
-bids-short windows (r ∷ rs) h = omega (
+bids_short : (windows : List ℕ) (rows : List Row) → AllLawful windows rows
+    → length (bids_text (respelt_in windows rows)) ≤ length (bids_text (map (bid_in windows) rows))
+unfolding bids_text respelt_in
+bids_short windows [] h = omega arith
+bids_short windows (r ∷ rs) h = omega (
   arith,
-  bid-short windows r h.0,
-  bids-short windows rs h.1,
-  length-append (bidText (respelt (bidIn windows r))) (bidsText (respeltIn windows rs)),
-  length-append (bidText (bidIn windows r)) (bidsText (map (bidIn windows) rs)),
+  bid_short windows r h.0,
+  bids_short windows rs h.1,
+  length-append (bid_text (respelt (bid_in windows r))) (bids_text (respelt_in windows rs)),
+  length-append (bid_text (bid_in windows r)) (bids_text (map (bid_in windows) rs)),
 )
 
 -- the text in one spelling is no longer than the text of the rows as they are
-pub canonical-short : (t : Tender) (rows : List Row) (windows : List ℕ) → AllLawful windows rows
-    → length (canonical t rows windows) ≤ length (text_of t (map (bidIn windows) rows))
+pub canonical_short : (t : Tender) (rows : List Row) (windows : List ℕ) → AllLawful windows rows
+    → length (canonical t rows windows) ≤ length (text_of t (map (bid_in windows) rows))
 unfolding canonical text_of
-canonical-short t rows windows h = omega (
+canonical_short t rows windows h = omega (
   arith,
-  bids-short windows rows h,
-  length-append (headText t) (bidsText (respeltIn windows rows)),
-  length-append (headText t) (bidsText (map (bidIn windows) rows)),
+  bids_short windows rows h,
+  length-append (head_text t) (bids_text (respelt_in windows rows)),
+  length-append (head_text t) (bids_text (map (bid_in windows) rows)),
 )
 
 -- no text is empty
-head-some : (t : Tender) → 0 < length (headText t)
-unfolding headText tenderText bytes
-head-some t = omega (arith, length-append (tenderText t) (reserveText t.reserve))
+head_some : (t : Tender) → 0 < length (head_text t)
+unfolding head_text tender_text bytes
+head_some t = omega (arith, length-append (tender_text t) (reserve_text t.reserve))
 
-pub canonical-some : (t : Tender) (rows : List Row) (windows : List ℕ) → 0 < length (canonical t rows windows)
+pub canonical_some : (t : Tender) (rows : List Row) (windows : List ℕ) → 0 < length (canonical t rows windows)
 unfolding canonical text_of
-canonical-some t rows windows =
-    omega (arith, length-append (headText t) (bidsText (respeltIn windows rows)), head-some t)
+canonical_some t rows windows =
+    omega (arith, length-append (head_text t) (bids_text (respelt_in windows rows)), head_some t)

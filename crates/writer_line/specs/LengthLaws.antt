@@ -5,30 +5,30 @@ use Rattle.tender.specs.declared.Window.{Window}
 use Rattle.tender.specs.declared.Tender.{Tender}
 use Rattle.tender.specs.Keywords.{bytes}
 use Rattle.tender.specs.Limits.{every, lawful}
-use Rattle.tender.specs.RulesLaws.{every-split}
-use Rattle.tender.specs.Tables.{windowsOf, windowWidth}
+use Rattle.tender.specs.RulesLaws.{every_split}
+use Rattle.tender.specs.Tables.{windows_of, window_width}
 use Rattle.cover.specs.SetLaws.{and_split}
 use Rattle.spelling.specs.Decimal.{decimal}
-use Rattle.spelling.specs.DecimalLaws.{decimal-few}
-use Rattle.spelling.specs.Lines.{numbers, kindWord}
-use Rattle.spelling.specs.LineLaws.{numbers-short, kind-short}
-use Rattle.spelling.specs.Text.{windowText, windowsText, tenderText}
+use Rattle.spelling.specs.DecimalLaws.{decimal_few}
+use Rattle.spelling.specs.Lines.{numbers, kind_word}
+use Rattle.spelling.specs.LineLaws.{numbers_short, kind_short}
+use Rattle.spelling.specs.Text.{window_text, windows_text, tender_text}
 use Rattle.runs.specs.Runs.{joined}
-use Rattle.runs.specs.RunsFewLaws.{joined-few}
-use Rattle.runs.specs.JoinedLaws.{joined-lawful}
+use Rattle.runs.specs.RunsFewLaws.{joined_few}
+use Rattle.runs.specs.JoinedLaws.{joined_lawful}
 
-pub tender-short : (t : Tender) → length (tenderText t) ≤ 58
-unfolding tenderText bytes
-tender-short t = omega (
+pub tender_short : (t : Tender) → length (tender_text t) ≤ 58
+unfolding tender_text bytes
+tender_short t = omega (
   arith,
-  length-append (kindWord t.kind) (numbers t.window.start t.window.end),
-  kind-short t.kind,
-  numbers-short t.window.start t.window.end,
+  length-append (kind_word t.kind) (numbers t.window.start t.window.end),
+  kind_short t.kind,
+  numbers_short t.window.start t.window.end,
 )
 
-pub window-few : (w : Window) → lawful w ≡ true → length (windowText w) ≤ 14
-unfolding lawful windowText bytes
-window-few w e =
+pub window_few : (w : Window) → lawful w ≡ true → length (window_text w) ≤ 14
+unfolding lawful window_text bytes
+window_few w e =
     let b = and_split (ltb w.start w.end) (leb w.end 10080) e in
     let l = ltb-true w.start w.end b.0 in
     let u = leb-true w.end 10080 b.1 in
@@ -36,26 +36,26 @@ window-few w e =
       arith,
       length-append (decimal w.start) (32 ∷ (decimal w.end ++ 41 ∷ [])),
       length-append (decimal w.end) (41 ∷ []),
-      decimal-few 5 w.start (omega arith) (omega arith),
-      decimal-few 5 w.end (omega arith) (omega arith),
+      decimal_few 5 w.start (omega arith) (omega arith),
+      decimal_few 5 w.end (omega arith) (omega arith),
     )
 
-pub windows-few : (ws : List Window) → every lawful ws ≡ true → length (windowsText ws) ≤ 14 * length ws
-unfolding windowsText
-windows-few [] e = omega arith
-windows-few (w ∷ ws) e =
-    let a = every-split lawful w ws e in
-    omega (arith, length-append (windowText w) (windowsText ws), window-few w a.0, windows-few ws a.1)
+pub windows_few : (ws : List Window) → every lawful ws ≡ true → length (windows_text ws) ≤ 14 * length ws
+unfolding windows_text
+windows_few [] e = omega arith
+windows_few (w ∷ ws) e =
+    let a = every_split lawful w ws e in
+    omega (arith, length-append (window_text w) (windows_text ws), window_few w a.0, windows_few ws a.1)
 
 -- n windows are read of a table, whatever it holds
-pub windows-length : (n : ℕ) (cells : List ℕ) → length (windowsOf n cells) ≡ n
-unfolding windowsOf
-windows-length zero cells = refl
-windows-length (suc n) cells = ap suc (windows-length n (drop windowWidth cells))
+pub windows_length : (n : ℕ) (cells : List ℕ) → length (windows_of n cells) ≡ n
+unfolding windows_of
+windows_length zero cells = refl
+windows_length (suc n) cells = ap suc (windows_length n (drop window_width cells))
 
 -- the windows of a row, 32 of them at the most, joined
-pub joined-text-few : (n : ℕ) (table : List ℕ) → n ≤ 32 → every lawful (windowsOf n table) ≡ true
-    → length (windowsText (joined (windowsOf n table))) ≤ 448
-joined-text-few n table l e =
-    let ws = windowsOf n table in
-    omega (arith, windows-few (joined ws) (joined-lawful ws), joined-few ws e, windows-length n table)
+pub joined_text_few : (n : ℕ) (table : List ℕ) → n ≤ 32 → every lawful (windows_of n table) ≡ true
+    → length (windows_text (joined (windows_of n table))) ≤ 448
+joined_text_few n table l e =
+    let ws = windows_of n table in
+    omega (arith, windows_few (joined ws) (joined_lawful ws), joined_few ws e, windows_length n table)

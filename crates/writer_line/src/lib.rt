@@ -1,12 +1,14 @@
 // The lines of a tender's text in one spelling: the tender's line, its reserve's, and a bid's line with its windows joined where
 // they overlap or touch, in rising order. `specs/Respelt.antt` says which windows a bid's line has.
+#![tactic(auto)]
+
 ghost use Rattle.std.specs.Prelude.{◌≡◌, true, ◌+◌, ◌*◌, ◌/◌, ◌≤◌, length, drop};
 ghost use Rattle.tender.specs.Limits.{lawful, every};
-ghost use Rattle.tender.specs.Tables.{windowsOf, windowWidth};
-ghost use Rattle.spelling.specs.Text.{windowText, windowsText, bidText, tenderText, reserveText, headText};
+ghost use Rattle.tender.specs.Tables.{windows_of, window_width};
+ghost use Rattle.spelling.specs.Text.{window_text, windows_text, bid_text, tender_text, reserve_text, head_text};
 ghost use Rattle.spelling.specs.Written.{Written};
 ghost use Rattle.runs.specs.Runs.{joined};
-ghost use Rattle.runs.specs.MinuteRows.{rowWords, Empty, Full};
+ghost use Rattle.runs.specs.MinuteRows.{row_words, Empty, Full};
 ghost use Rattle.writer_line.specs.Respelt.{respelt};
 
 use tender::{Reserve, Tender};
@@ -14,7 +16,7 @@ use tender::{Reserve, Tender};
 // " (START END)"
 fn put_window(buf: &mut [u8], at: usize, start: u64, end: u64) -> usize
     requires { at + 44 ≤ length buf.old }
-    ensures { Written buf.old at (windowText (record { start = start; end = end })) buf.new result }
+    ensures { Written buf.old at (window_text (record { start = start; end = end })) buf.new result }
 {
     let begun = spelling_put::put_all(buf, at, b" (");
     let said = spelling_put::put_decimal(buf, begun, start);
@@ -34,13 +36,13 @@ fn put_windows(
     blank: &[u64],
     full: &[u64],
 ) -> usize
-    requires { (first + count ≤ length windows.now / windowWidth)
-        × ((every lawful (windowsOf count (drop (windowWidth * first) windows.now)) ≡ true)
-        × ((at + length (windowsText (joined (windowsOf count (drop (windowWidth * first) windows.now)))) + 44 ≤ length buf.old)
-        × ((length row.old ≡ rowWords) × (Empty blank.now × Full full.now)))) }
+    requires { (first + count ≤ length windows.now / window_width)
+        × ((every lawful (windows_of count (drop (window_width * first) windows.now)) ≡ true)
+        × ((at + length (windows_text (joined (windows_of count (drop (window_width * first) windows.now)))) + 44 ≤ length buf.old)
+        × ((length row.old ≡ row_words) × (Empty blank.now × Full full.now)))) }
     ensures { Written buf.old at
-        (windowsText (joined (windowsOf count (drop (windowWidth * first) windows.now))))
-        buf.new result × (length row.new ≡ rowWords) }
+        (windows_text (joined (windows_of count (drop (window_width * first) windows.now))))
+        buf.new result × (length row.new ≡ row_words) }
 {
     runs::minutes(windows, first, count, row);
     let mut end = at;
@@ -69,13 +71,13 @@ pub fn put_bid(
     blank: &[u64],
     full: &[u64],
 ) -> usize
-    requires { (first + count ≤ length windows.now / windowWidth)
-        × ((every lawful (windowsOf count (drop (windowWidth * first) windows.now)) ≡ true)
+    requires { (first + count ≤ length windows.now / window_width)
+        × ((every lawful (windows_of count (drop (window_width * first) windows.now)) ≡ true)
         × ((count ≤ 32) × ((at + 576 ≤ length buf.old)
-        × ((length row.old ≡ rowWords) × (Empty blank.now × Full full.now))))) }
-    ensures { Written buf.old at (bidText (respelt
-        (record { bidder = bidder; price = price; windows = windowsOf count (drop (windowWidth * first) windows.now) })))
-        buf.new result × (length row.new ≡ rowWords) }
+        × ((length row.old ≡ row_words) × (Empty blank.now × Full full.now))))) }
+    ensures { Written buf.old at (bid_text (respelt
+        (record { bidder = bidder; price = price; windows = windows_of count (drop (window_width * first) windows.now) })))
+        buf.new result × (length row.new ≡ row_words) }
 {
     let begun = spelling_put::put_all(buf, at, b"(bid ");
     let named = spelling_put::put_decimal(buf, begun, bidder);
@@ -87,7 +89,7 @@ pub fn put_bid(
 // "(tender KIND START END)" and byte 10.
 fn put_tender(buf: &mut [u8], tender: Tender) -> usize
     requires { 58 ≤ length buf.old }
-    ensures { Written buf.old 0 (tenderText tender) buf.new result }
+    ensures { Written buf.old 0 (tender_text tender) buf.new result }
 {
     let kind = tender.kind;
     let begun = spelling_put::put_all(buf, 0, b"(tender ");
@@ -98,7 +100,7 @@ fn put_tender(buf: &mut [u8], tender: Tender) -> usize
 // "(reserve PRICE)" and byte 10, where there is a reserve.
 fn put_reserve(buf: &mut [u8], at: usize, reserve: Reserve) -> usize
     requires { at + 31 ≤ length buf.old }
-    ensures { Written buf.old at (reserveText reserve) buf.new result }
+    ensures { Written buf.old at (reserve_text reserve) buf.new result }
 {
     match reserve {
         Reserve::Absent => at,
@@ -109,7 +111,7 @@ fn put_reserve(buf: &mut [u8], at: usize, reserve: Reserve) -> usize
 // The lines before the bids.
 pub fn put_head(buf: &mut [u8], tender: Tender) -> usize
     requires { 89 ≤ length buf.old }
-    ensures { Written buf.old 0 (headText tender) buf.new result }
+    ensures { Written buf.old 0 (head_text tender) buf.new result }
 {
     let reserve = tender.reserve;
     let begun = put_tender(buf, tender);

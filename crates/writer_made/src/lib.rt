@@ -1,9 +1,11 @@
 // The text of faultless tables in one spelling, put at the start of a buffer that has room for any, as far as a text may go.
+#![tactic(auto)]
+
 ghost use Rattle.std.specs.Prelude.{◌≡◌, ◌≤◌, length};
 ghost use Rattle.std.proofs.Math.Option.{none};
 ghost use Rattle.tender.specs.Tables.{rows_of};
-ghost use Rattle.award_check.specs.Faults.{faultOf};
-ghost use Rattle.runs.specs.MinuteRows.{rowWords, Empty, Full};
+ghost use Rattle.award_check.specs.Faults.{fault_of};
+ghost use Rattle.runs.specs.MinuteRows.{row_words, Empty, Full};
 ghost use Rattle.writer_text.specs.Filling.{SomeBids, SomeText};
 
 use tender::Tender;
@@ -20,8 +22,8 @@ fn put_bids(
     blank: &[u64],
     full: &[u64],
 ) -> usize
-    requires { (faultOf tender.kind tender count bids.now windows.now ≡ none)
-        × ((66112 ≤ length buf.old) × ((length row.old ≡ rowWords) × (Empty blank.now × Full full.now))) }
+    requires { (fault_of tender.kind tender count bids.now windows.now ≡ none)
+        × ((66112 ≤ length buf.old) × ((length row.old ≡ row_words) × (Empty blank.now × Full full.now))) }
     ensures { SomeBids windows.now (rows_of count bids.now) buf.old at count
         buf.new result }
 {
@@ -56,7 +58,7 @@ pub fn put_text(
     bids: &[u64],
     windows: &[u64],
 ) -> usize
-    requires { (faultOf tender.kind tender count bids.now windows.now ≡ none) × (66112 ≤ length buf.old) }
+    requires { (fault_of tender.kind tender count bids.now windows.now ≡ none) × (66112 ≤ length buf.old) }
     ensures { SomeText tender windows.now (rows_of count bids.now) buf.old count
         buf.new result }
 {

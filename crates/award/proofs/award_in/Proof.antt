@@ -1,6 +1,6 @@
 -- `award::award_in` meets its contract: a walk of its MIR, by hand. Two arrays are filled, lent to `settle_rows` and taken back;
 -- it answers how many rows there are to fill; the arrays are lent once more, and the rows are given up, to `fill`. `Calls` has the
--- two calls as steps. That the rows then keep the promise is `RowsPromiseLaws`' `filled-promise`. Assumes nothing.
+-- two calls as steps. That the rows then keep the promise is `RowsPromiseLaws`' `filled_promise`. Assumes nothing.
 use mathlib.Core.Path.{◌≡◌, refl, sym, ap, subst, ◌∙◌}
 use Prim.Native.Nat.{ℕ, ◌<◌, ◌^◌}
 use mathlib.Core.List.{List, [], ◌∷◌}
@@ -47,13 +47,13 @@ use Rattle.tender.proofs.Tender.TheLaws as Ten'
 use Rattle.tender.specs.contracts.Answer as Ans
 use Rattle.tender.proofs.Answer.TheLaws as Ans'
 use Rattle.tender.specs.contracts.AwardRow as Row
-use Rattle.award_outcome.specs.RowsPromiseLaws.{filled-promise}
+use Rattle.award_outcome.specs.RowsPromiseLaws.{filled_promise}
 use Rattle.award_rows.proofs.WalkSteps.{held, held_in, sets, spent, past}
 use Rattle.award_rows.proofs.fill.Symbol as fill-def
 use Rattle.award_rows.proofs.fill.Symbol.{name as #award-rows·fill}
 use Rattle.award_rows.proofs.fill.Met as fill-thm
 use Rattle.award.specs.declared.Settled.{Settled}
-use Rattle.award.proofs.LocalArray.{lent_ref, repeated, repeated-elements, as_room, lend, take_back, lend-shared, take-back-shared}
+use Rattle.award.proofs.LocalArray.{lent_ref, repeated, repeated_elements, as_room, lend, take_back, lend_shared, take_back_shared}
 use Rattle.award.specs.contracts.Settled as Set
 use Rattle.award.proofs.Settled.TheLaws as Set'
 use Rattle.award.proofs.settle_rows.Symbol as settle-def
@@ -64,7 +64,7 @@ use Rattle.award.specs.contracts.award_in as f
 use Rattle.award.proofs.award_in.Statement as stated
 use Rattle.award.proofs.award_in.Code as code
 use Entry.{stayed, Arg, kind, tender, count, bids, windows, rows, at, Known, lent_fits, BidsLive, WindowsLive, RowsLive, Ends, exits}
-use Calls.{Settle, Fill, fits-fill, settles, fills}
+use Calls.{Settle, Fill, fits_fill, settles, fills}
 mod Entry
 mod Calls
 
@@ -106,9 +106,9 @@ module _ {M : Type 1} {𝓤 : Ura M} (𝓛 : Logic 𝓤) (at_mem : Memory → SP
       sets ! (rep ! 1000 (lit ! tt)) 28 refl (repeated 𝓛 1000 1 (lit< tt)) $
       sets ! (rep ! 1000 (lit ! tt)) 26 refl (repeated 𝓛 1000 1 (lit< tt)) $
       move ! (28 ∷ []) $ use1 𝓛 (some (λ (xs : List ℕ). given (length xs ≡ 1000) (‵ (row u64 full_share xs l7 0))))
-      (repeated-elements 𝓛 1000 1 (lit< tt) l7) $ pick ! (λ xs7. learn ! (λ e7.
+      (repeated_elements 𝓛 1000 1 (lit< tt) l7) $ pick ! (λ xs7. learn ! (λ e7.
       move ! (27 ∷ []) $ use1 𝓛 (some (λ (xs : List ℕ). given (length xs ≡ 1000) (‵ (row u64 full_share xs l8 0))))
-      (repeated-elements 𝓛 1000 1 (lit< tt) l8) $ pick ! (λ xs8. learn ! (λ e8.
+      (repeated_elements 𝓛 1000 1 (lit< tt) l8) $ pick ! (λ xs8. learn ! (λ e8.
       -- the number of rows lent, and the references for the call
       sets ! (of_opd ! (held_in ! 30 1 refl refl refl)) 26 refl
       (tt, record { fits = lent_fits a κs known }) $
@@ -150,18 +150,18 @@ module _ {M : Type 1} {𝓤 : Ura M} (𝓛 : Logic 𝓤) (at_mem : Memory → SP
       sets ! (agg ! (and_then ! (held ! 8 refl) (and_then ! (lit ! tt) (no_more !)))) 6 refl (tt, (tt, (record { fits = lit< tt }, tt))) $
       rewrite ! 6 (λ (m : ℕ). ‵ (fat full_share (slice_ty (ty_ref erased imm word)) l21 0 (slice_val (l8, 0) m))) (sym (k8 ∙ e8)) refl $
       -- the arrays are lent once more, and the rows go to the fill
-      move ! (1 ∷ []) $ lend-shared 𝓛 ! tt u64 (named 1) won l7 (room won (k7 ∙ e7)) (λ ν' δ'.
-      move ! (3 ∷ []) $ lend-shared 𝓛 ! tt u64 (named 2) cents l8 (room cents (k8 ∙ e8)) (λ μ' ε'.
+      move ! (1 ∷ []) $ lend_shared 𝓛 ! tt u64 (named 1) won l7 (room won (k7 ∙ e7)) (λ ν' δ'.
+      move ! (3 ∷ []) $ lend_shared 𝓛 ! tt u64 (named 2) cents l8 (room cents (k8 ∙ e8)) (λ μ' ε'.
       move ! (8 ∷ 5 ∷ 2 ∷ 9 ∷ 3 ∷ 0 ∷ []) $
       fills 𝓛 at_mem run κs qs a (lent_ref l7 δ' won) (lent_ref l8 ε' cents) ν' μ' ! fm known-fill s.rows (fit s v is)
-      (fits-fill a s told (k7 ∙ e7) (k8 ∙ e8))
+      (fits_fill a s told (k7 ∙ e7) (k8 ∙ e8))
       (and_then ! (held ! 13 refl) (and_then ! (held ! 9 refl) (and_then ! (held ! 5 refl)
       (and_then ! (held_in ! 27 1 refl refl refl) (no_more !))))) (λ vu last filled typed same.
       land ! (from ! (stop !)) (init ! 20 refl typed) $
       -- the arrays come back, and are room again; the frame is released
-      move ! (1 ∷ 5 ∷ []) $ take-back-shared 𝓛 ! tt u64 won l7 ν' $
+      move ! (1 ∷ 5 ∷ []) $ take_back_shared 𝓛 ! tt u64 won l7 ν' $
       use1 𝓛 (‵ (froom (ty_array word 1000) l7 0)) (as_room 𝓛 u64 won l7 1000 (k7 ∙ e7)) $
-      move ! (1 ∷ 4 ∷ []) $ take-back-shared 𝓛 ! tt u64 cents l8 μ' $
+      move ! (1 ∷ 4 ∷ []) $ take_back_shared 𝓛 ! tt u64 cents l8 μ' $
       use1 𝓛 (‵ (froom (ty_array word 1000) l8 0)) (as_room 𝓛 u64 cents l8 1000 (k8 ∙ e8)) $
       sets ! (of_opd ! (held_in ! 28 0 refl refl refl)) 46 refl
       ((EL.lawful Ans.the_type Ans'.the_laws 𝓛 tt).typed s.answer _ (answers s v is)).0 $
@@ -171,7 +171,7 @@ module _ {M : Type 1} {𝓤 : Ura M} (𝓛 : Logic 𝓤) (at_mem : Memory → SP
       spent ! 18 refl refl $ spent ! 16 refl refl $ spent ! 14 refl refl $ spent ! 12 refl refl $ spent ! 10 refl refl $ spent ! 8 refl
       refl $ spent ! 6 refl refl $ spent ! 4 refl refl $ free0 ! $ keep ! (3 ∷ 2 ∷ 0 ∷ 1 ∷ []) $
       by ! (exits 𝓛 at_mem run κs qs a s.answer _ (answers s v is) last same
-      (filled-promise (kind a) (tender a) (count a) (bids a).now (windows a).now (rows a).now last _ _ won cents s.answer s.rows
+      (filled_promise (kind a) (tender a) (count a) (bids a).now (windows a).now (rows a).now last _ _ won cents s.answer s.rows
       told.0 told.1 filled))))))))))))))))))))))))))))))))))
 
   award-in-walks : (𝓣 : Tables 𝓤 H) → Triple 𝓤 (𝓣.C #award·settle-rows) (Settle 𝓛 at_mem run)

@@ -2,11 +2,11 @@
 use mathlib.Core.Path.{sym, ◌∙◌}
 use native.Mathlib.Omega.{arith}
 use Rattle.tender.specs.declared.Kind.TheVariants.{Multi}
-use Rattle.award_layout.specs.LayoutLaws.{cells-within}
+use Rattle.award_layout.specs.LayoutLaws.{cells_within}
 use Rattle.award_laid.specs.LayLaws.{words_of}
-use Rattle.award_laid.specs.TellsLaws.{bare-inside, lone-inside}
+use Rattle.award_laid.specs.TellsLaws.{bare_inside, lone_inside}
 use Rattle.award_laid.specs.EntryLaws.{market}
-use Rattle.award_entries.specs.ThinLaws.{tells-eleven, tells-twelve}
+use Rattle.award_entries.specs.ThinLaws.{tells_eleven, tells_twelve}
 use Rattle.award_entries.specs.MultiLaws.{settled}
 use borrow.Author.Rules.{rules}
 use Rattle.award_entries.proofs.multi_in.Statement.{statement}
@@ -31,7 +31,7 @@ minute-requires : tie.Need-minute-requires
 minute-requires c κs =
     let c7 = c.before.before.before.before.before.before.before in
     let c16 = c7.before.before.before.before.before.before.before.before.before in
-    let A = c16.args in bare-inside A.tender A.count A.bids.now A.windows.now _
+    let A = c16.args in bare_inside A.tender A.count A.bids.now A.windows.now _
     c7.lay-masks.ensures.thin_is _ c.before.thin.given.1
 
 enum-known-thin-2 : tie.Need-enum-known-thin-2
@@ -41,7 +41,7 @@ minute-requires-2 : tie.Need-minute-requires-2
 minute-requires-2 c κs =
     let c7 = c.before.before.before.before.before.before.before in
     let c16 = c7.before.before.before.before.before.before.before.before.before in
-    let A = c16.args in lone-inside A.tender A.count A.bids.now A.windows.now _
+    let A = c16.args in lone_inside A.tender A.count A.bids.now A.windows.now _
     c7.lay-masks.ensures.thin_is _ c.before.thin2.given.1
 
 enum_told : tie.Need-enum-told
@@ -50,7 +50,7 @@ enum_told c = search rules
 cells-requires : tie.Need-cells-requires
 cells-requires c κs =
     let c15 = c.before.before.before.before.before.before.before.before.before.before.before.before.before.before.before in
-    let A = c15.args in (cells-within Multi A.tender A.count A.bids.now A.windows.now c15.requires.0).0
+    let A = c15.args in (cells_within Multi A.tender A.count A.bids.now A.windows.now c15.requires.0).0
 
 award-requires : tie.Need-award-requires
 award-requires c κs =
@@ -58,7 +58,7 @@ award-requires c κs =
     let c11 = c4.before.before.before.before.before.before.before in
     let c20 = c11.before.before.before.before.before.before.before.before.before in
     let A = c20.args in let P = c20.requires in let L = c11.lay-masks in
-    let w = cells-within Multi A.tender A.count A.bids.now A.windows.now P.0 in
+    let w = cells_within Multi A.tender A.count A.bids.now A.windows.now P.0 in
     let d = words_of Multi A.tender A.count A.w A.bids.now A.windows.now P.0 P.1.0 in (
       market A.tender A.count A.w A.bids.now A.windows.now _ _ _ P.0 L.ensures d
           (L.auto.1.1.1.1.1.1.0 ∙ P.1.1.1.0),
@@ -103,7 +103,7 @@ returns : tie.Need-returns
 returns c =
     let c8 = c.before.before.before.before.before.before.before.before in
     let c17 = c8.before.before.before.before.before.before.before.before.before in
-    let A = c17.args in rw c.minute.ensures (tells-eleven A.tender A.count A.bids.now
+    let A = c17.args in rw c.minute.ensures (tells_eleven A.tender A.count A.bids.now
     A.windows.now _ c8.lay-masks.ensures.thin_is Multi c17.requires.0 A.flags.now A.pays.now _ c.before.before.thin.given.1)
 
 same-length-3 : tie.Need-same-length-3
@@ -116,7 +116,7 @@ returns-2 : tie.Need-returns-2
 returns-2 c =
     let c8 = c.before.before.before.before.before.before.before.before in
     let c17 = c8.before.before.before.before.before.before.before.before.before in
-    let A = c17.args in rw c.minute2.ensures (tells-twelve A.tender A.count A.bids.now
+    let A = c17.args in rw c.minute2.ensures (tells_twelve A.tender A.count A.bids.now
     A.windows.now _ c8.lay-masks.ensures.thin_is Multi c17.requires.0 A.flags.now A.pays.now _ c.before.before.thin2.given.1)
 
 same-length-5 : tie.Need-same-length-5

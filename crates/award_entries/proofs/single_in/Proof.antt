@@ -3,11 +3,11 @@
 use mathlib.Core.Path.{sym, ◌∙◌}
 use native.Mathlib.Omega.{arith}
 use Rattle.tender.specs.declared.Kind.TheVariants.{Single}
-use Rattle.award_layout.specs.LayoutLaws.{cells-within}
-use Rattle.award_laid.specs.TellsLaws.{bare-inside, lone-inside}
-use Rattle.award_laid.specs.EntryLaws.{laid-prices}
-use Rattle.award_entries.specs.ThinLaws.{tells-eleven, tells-twelve}
-use Rattle.award_entries.specs.SingleLaws.{prices-sum, settled}
+use Rattle.award_layout.specs.LayoutLaws.{cells_within}
+use Rattle.award_laid.specs.TellsLaws.{bare_inside, lone_inside}
+use Rattle.award_laid.specs.EntryLaws.{laid_prices}
+use Rattle.award_entries.specs.ThinLaws.{tells_eleven, tells_twelve}
+use Rattle.award_entries.specs.SingleLaws.{prices_sum, settled}
 use borrow.Author.Rules.{rules}
 use Rattle.award_entries.proofs.single_in.Statement.{statement}
 use Rattle.award_entries.proofs.single_in.Tie as tie
@@ -25,7 +25,7 @@ minute-requires : tie.Need-minute-requires
 minute-requires c κs =
     let c11 = c.before.before.before.before.before.before.before.before.before.before.before in
     let c24 = c11.before.before.before.before.before.before.before.before.before.before.before.before.before in
-    let A = c24.args in bare-inside A.tender A.count A.bids.now A.windows.now _
+    let A = c24.args in bare_inside A.tender A.count A.bids.now A.windows.now _
     c11.lay-spans.ensures.thin_is _ c.before.thin.given.1
 
 enum-known-thin-2 : tie.Need-enum-known-thin-2
@@ -35,7 +35,7 @@ minute-requires-2 : tie.Need-minute-requires-2
 minute-requires-2 c κs =
     let c11 = c.before.before.before.before.before.before.before.before.before.before.before in
     let c24 = c11.before.before.before.before.before.before.before.before.before.before.before.before.before in
-    let A = c24.args in lone-inside A.tender A.count A.bids.now A.windows.now _
+    let A = c24.args in lone_inside A.tender A.count A.bids.now A.windows.now _
     c11.lay-spans.ensures.thin_is _ c.before.thin2.given.1
 
 enum_told : tie.Need-enum-told
@@ -44,7 +44,7 @@ enum_told c = search rules
 cells-requires : tie.Need-cells-requires
 cells-requires c κs =
     let c23 = c.before.before.before.before.before.before.before.before.before.before.before.before.before.before.before.before.before.before.before.before.before.before.before in
-    let A = c23.args in (cells-within Single A.tender A.count A.bids.now A.windows.now c23.requires.0).0
+    let A = c23.args in (cells_within Single A.tender A.count A.bids.now A.windows.now c23.requires.0).0
 
 award-requires : tie.Need-award-requires
 award-requires c κs =
@@ -52,9 +52,9 @@ award-requires c κs =
     let c17 = c6.before.before.before.before.before.before.before.before.before.before.before in
     let c30 = c17.before.before.before.before.before.before.before.before.before.before.before.before.before in
     let A = c30.args in let P = c30.requires in let L = c17.lay-spans in
-    let w = cells-within Single A.tender A.count A.bids.now A.windows.now P.0 in (
+    let w = cells_within Single A.tender A.count A.bids.now A.windows.now P.0 in (
       (
-        (laid-prices A.tender A.count A.bids.now A.windows.now _ _ _ _ _ P.0 L.ensures).count,
+        (laid_prices A.tender A.count A.bids.now A.windows.now _ _ _ _ _ P.0 L.ensures).count,
         L.auto.1.1.1.1.1.0 ∙ P.1.1.0 ∙ sym P.1.0 ∙ sym L.auto.1.1.1.1.0,
         L.auto.1.1.1.1.1.1.0 ∙ P.1.1.1.0 ∙ sym P.1.0 ∙ sym L.auto.1.1.1.1.0,
         omega (arith, w, c6.cells.ensures),
@@ -65,7 +65,7 @@ award-requires c κs =
         (
           (λ i m. rw c6.cells.ensures (L.ensures.ordered i, L.ensures.inside i)),
           (
-            prices-sum A.tender A.count A.bids.now A.windows.now _ _ _ _ _ P.0 L.ensures,
+            prices_sum A.tender A.count A.bids.now A.windows.now _ _ _ _ _ P.0 L.ensures,
             (omega (arith, L.auto.1.1.1.1.0, L.auto.1.1.1.1.1.1.1.0, P.1.1.1.1.0), L.ensures.in_order),
           ),
         ),
@@ -78,7 +78,7 @@ totals-requires c κs =
     let c25 = c7.before.before.before.before.before.before.before.before.before.before.before.before.before.before.before.before.before.before in
     let c38 = c25.before.before.before.before.before.before.before.before.before.before.before.before.before in
     let A = c38.args in let P = c38.requires in let L = c25.lay-spans in
-    let p = laid-prices A.tender A.count A.bids.now A.windows.now _ _ _ _ _ P.0 L.ensures in (
+    let p = laid_prices A.tender A.count A.bids.now A.windows.now _ _ _ _ _ P.0 L.ensures in (
       (
         p.count,
         (
@@ -108,7 +108,7 @@ returns : tie.Need-returns
 returns c =
     let c12 = c.before.before.before.before.before.before.before.before.before.before.before.before in
     let c25 = c12.before.before.before.before.before.before.before.before.before.before.before.before.before in
-    let A = c25.args in rw c.minute.ensures (tells-eleven A.tender A.count A.bids.now
+    let A = c25.args in rw c.minute.ensures (tells_eleven A.tender A.count A.bids.now
     A.windows.now _ c12.lay-spans.ensures.thin_is Single c25.requires.0 A.flags.now A.pays.now _ c.before.before.thin.given.1)
 
 same-length-5 : tie.Need-same-length-5
@@ -127,7 +127,7 @@ returns-2 : tie.Need-returns-2
 returns-2 c =
     let c12 = c.before.before.before.before.before.before.before.before.before.before.before.before in
     let c25 = c12.before.before.before.before.before.before.before.before.before.before.before.before.before in
-    let A = c25.args in rw c.minute2.ensures (tells-twelve A.tender A.count A.bids.now
+    let A = c25.args in rw c.minute2.ensures (tells_twelve A.tender A.count A.bids.now
     A.windows.now _ c12.lay-spans.ensures.thin_is Single c25.requires.0 A.flags.now A.pays.now _ c.before.before.thin2.given.1)
 
 same-length-9 : tie.Need-same-length-9

@@ -3,8 +3,8 @@ use Prim.Native.Nat.{◌/◌}
 use native.Mathlib.Omega.{arith}
 use lib.ListN.{length}
 use borrow.Author.Tests.{not-true, not-false, le-leb, lt-leb}
-use Rattle.tender.specs.Tables.{bidWidth}
-use Rattle.award_check.specs.Faults.{faultOf}
+use Rattle.tender.specs.Tables.{bid_width}
+use Rattle.award_check.specs.Faults.{fault_of}
 use borrow.Author.Rules.{rules}
 use Rattle.award_fault.proofs.fault.Statement.{statement}
 use Rattle.award_fault.proofs.fault.Tie as tie
@@ -18,14 +18,14 @@ same-kind-requires : tie.Need-same-kind-requires
 same-kind-requires c κs = search rules
 
 returns : tie.Need-returns
-unfolding faultOf
+unfolding fault_of
 returns c = rw (← c.before.same_kind.ensures, not-true c.before.same_kind.result c.if1.true)
 
 tender-sound-requires : tie.Need-tender-sound-requires
 tender-sound-requires c κs = search rules
 
 returns-2 : tie.Need-returns-2
-unfolding faultOf
+unfolding fault_of
 returns-2 c = rw (
   ← c.before.before.before.same_kind.ensures,
   not-false c.before.before.before.same_kind.result c.before.before.if1.false,
@@ -34,7 +34,7 @@ returns-2 c = rw (
 )
 
 returns-3 : tie.Need-returns-3
-unfolding faultOf
+unfolding fault_of
 returns-3 c =
     let c4 = c.before.before.before.before in
     let args = c4.before.before.before.args in
@@ -43,14 +43,14 @@ returns-3 c =
       not-false c4.same_kind.result c.before.before.before.if1.false,
       ← c.before.before.tender-sound.ensures,
       not-false c.before.before.tender-sound.result c.before.if2.false,
-      lt-leb args.count (length args.bids.now / bidWidth) (omega arith),
+      lt-leb args.count (length args.bids.now / bid_width) (omega arith),
     )
 
 row-fault-requires : tie.Need-row-fault-requires
 row-fault-requires c κs = search rules
 
 returns-4 : tie.Need-returns-4
-unfolding faultOf
+unfolding fault_of
 returns-4 c =
     let c4 = c.before.before.before.before in
     let c5 = c4.before in
@@ -60,7 +60,7 @@ returns-4 c =
       not-false c5.same_kind.result c4.if1.false,
       ← c.before.before.before.tender-sound.ensures,
       not-false c.before.before.before.tender-sound.result c.before.before.if2.false,
-      le-leb args.count (length args.bids.now / bidWidth) (omega arith),
+      le-leb args.count (length args.bids.now / bid_width) (omega arith),
     )
     c.row-fault.ensures
 

@@ -5,8 +5,8 @@ use Prim.Native.Nat.{◌-◌}
 use native.Mathlib.Omega.{arith}
 use borrow.Author.Tests.{not-true, not-false}
 use Rattle.numbers.specs.Members.{members}
-use Rattle.numbers.specs.MembersLaws.{members-length, members-same, members-none}
-use Rattle.award_check.specs.WalkLaws.{Going, going-starts, going-ends, too_many, breaks, repeated, going_on, bidder-cell, room-here}
+use Rattle.numbers.specs.MembersLaws.{members_length, members_same, members_none}
+use Rattle.award_check.specs.WalkLaws.{Going, going_starts, going_ends, too_many, breaks, repeated, going_on, bidder_cell, room_here}
 use Rattle.award_fault.proofs.row_fault.Statement.{statement}
 use Rattle.award_fault.proofs.row_fault.Tie as tie
 
@@ -19,7 +19,7 @@ decreases-loop tender count bids windows used₀ at₀ j₀ used at j = count - 
 loop-holds : tie.Need-loop-init invariant-loop decreases-loop
 loop-holds c =
     let args = c.before.before.args in
-    going-starts args.tender args.count args.bids.now args.windows.now _ (members-none 15625)
+    going_starts args.tender args.count args.bids.now args.windows.now _ (members_none 15625)
 
 add-place : tie.Need-overflow-add-place invariant-loop decreases-loop
 add-place c = omega arith
@@ -94,7 +94,7 @@ returns-2 c =
 slice-aggregate-holds : tie.Need-slice-aggregate-init invariant-loop decreases-loop
 slice-aggregate-holds c =
     let c9 = c.before.before.before.before.before.before.before.before.before in
-    omega (arith, members-length c9.loop.used, c9.loop.invariant.passed.size)
+    omega (arith, members_length c9.loop.used, c9.loop.invariant.passed.size)
 
 holds-requires : tie.Need-holds-requires invariant-loop decreases-loop
 holds-requires c κs =
@@ -103,8 +103,8 @@ holds-requires c κs =
     let args = c12.args in
     omega (
       arith,
-      members-length c9.loop.used,
-      bidder-cell args.tender args.count args.bids.now args.windows.now (members c9.loop.used) c9.loop.at
+      members_length c9.loop.used,
+      bidder_cell args.tender args.count args.bids.now args.windows.now (members c9.loop.used) c9.loop.at
           c9.loop.j c9.loop.invariant (sym c.before.before.row_keeps.ensures
           ∙ not-false c.before.before.row_keeps.result c.before.if2.false),
     )
@@ -122,7 +122,7 @@ returns-3 c =
 slice-aggregate-add : tie.Need-slice-aggregate-add invariant-loop decreases-loop
 slice-aggregate-add c =
     let c12 = c.before.before.before.before.before.before.before.before.before.before.before.before in
-    omega (arith, members-length c12.loop.used, c12.loop.invariant.passed.size)
+    omega (arith, members_length c12.loop.used, c12.loop.invariant.passed.size)
 
 add-requires : tie.Need-add-requires invariant-loop decreases-loop
 add-requires c κs =
@@ -133,8 +133,8 @@ add-requires c κs =
     let args = c15.args in
     omega (
       arith,
-      members-length c12.loop.used,
-      bidder-cell args.tender args.count args.bids.now args.windows.now (members c12.loop.used) c12.loop.at
+      members_length c12.loop.used,
+      bidder_cell args.tender args.count args.bids.now args.windows.now (members c12.loop.used) c12.loop.at
           c12.loop.j c12.loop.invariant (sym c5.row_keeps.ensures ∙ not-false c5.row_keeps.result c4.if2.false),
     )
 
@@ -147,7 +147,7 @@ add_at c =
     let args = c17.args in
     omega (
       arith,
-      room-here args.tender args.count args.bids.now args.windows.now (members c14.loop.used) c14.loop.at
+      room_here args.tender args.count args.bids.now args.windows.now (members c14.loop.used) c14.loop.at
           c14.loop.j c14.loop.invariant (sym c7.row_keeps.ensures ∙ not-false c7.row_keeps.result c6.if2.false),
     )
 
@@ -171,13 +171,13 @@ loop-again c =
     c14.loop.invariant c13.loop-test.true c12.if1.false
     (sym c7.row_keeps.ensures ∙ not-false c7.row_keeps.result c6.if2.false)
     (sym c4.holds.ensures ∙ c.before.before.before.if3.false) (members c.before.add.new.0) c.before.add.ensures
-    (members-same _ _ c.before.add.auto.0)
+    (members_same _ _ c.before.add.auto.0)
 
 returns-4 : tie.Need-returns-4 invariant-loop decreases-loop
 returns-4 c =
     let c4 = c.before.before.before.before in
     let args = c4.args in
-    going-ends args.tender args.count args.bids.now args.windows.now (members c.before.loop.used) c.before.loop.at
+    going_ends args.tender args.count args.bids.now args.windows.now (members c.before.loop.used) c.before.loop.at
     c.before.loop.j c.before.loop.invariant c.loop-test.false
 
 pub row-fault-spec : {M : Type 1} → statement M

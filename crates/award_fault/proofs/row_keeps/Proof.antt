@@ -3,7 +3,7 @@ use native.Mathlib.Omega.{arith}
 use borrow.Author.Tests.{not-true, not-false, le-leb, lt-leb, eq-eqb, ne_eqb}
 use lib.ListN.{length}
 use Prim.Native.Nat.{◌+◌, ◌/◌}
-use Rattle.tender.specs.Tables.{own, windowWidth}
+use Rattle.tender.specs.Tables.{own, window_width}
 use Rattle.award_check.specs.Faults.{keeps}
 use borrow.Author.Rules.{rules}
 use Rattle.award_fault.proofs.row_keeps.Statement.{statement}
@@ -44,7 +44,7 @@ returns-3 c =
       ← c5.between.ensures,
       not-false c5.between.result c4.if1.false,
       le-leb _ _ c.before.before.before.if2.false,
-      ← c.before.before.most-windows.ensures,
+      ← c.before.before.most_windows_lem.ensures,
       ← c.before.between2.ensures,
       not-true c.before.between2.result c.if3.true,
     )
@@ -59,7 +59,7 @@ returns-4 c =
       ← c6.between.ensures,
       not-false c6.between.result c5.if1.false,
       le-leb _ _ c4.if2.false,
-      ← c.before.before.before.most-windows.ensures,
+      ← c.before.before.before.most_windows_lem.ensures,
       ← c.before.before.between2.ensures,
       not-false c.before.before.between2.result c.before.if3.false,
       ne_eqb _ _ c.if4.true,
@@ -81,11 +81,11 @@ returns-5 c =
       ← c7.between.ensures,
       not-false c7.between.result c6.if1.false,
       le-leb _ _ c5.if2.false,
-      ← c4.most-windows.ensures,
+      ← c4.most_windows_lem.ensures,
       ← c.before.before.before.between2.ensures,
       not-false c.before.before.before.between2.result c.before.before.if3.false,
       eq-eqb _ _ c.before.if4.false,
-      lt-leb (args.at + args.count) (length args.windows.now / windowWidth) (omega arith),
+      lt-leb (args.at + args.count) (length args.windows.now / window_width) (omega arith),
     )
 
 windows-lawful-requires : tie.Need-windows-lawful-requires
@@ -105,11 +105,11 @@ returns-6 c =
       ← c8.between.ensures,
       not-false c8.between.result c7.if1.false,
       le-leb _ _ c6.if2.false,
-      ← c5.most-windows.ensures,
+      ← c5.most_windows_lem.ensures,
       ← c4.between2.ensures,
       not-false c4.between2.result c.before.before.before.if3.false,
       eq-eqb _ _ c.before.before.if4.false,
-      le-leb (args.at + args.count) (length args.windows.now / windowWidth) (omega arith),
+      le-leb (args.at + args.count) (length args.windows.now / window_width) (omega arith),
     )
     (rw c.before.before.if4.false c.windows-lawful.ensures)
 

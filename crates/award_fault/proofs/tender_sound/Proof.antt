@@ -1,6 +1,6 @@
 -- `award_fault::tender_sound` meets its contract: both parts are asked, or the first is false. Assumes nothing.
 use mathlib.Core.Path.{sym, ◌∙◌}
-use Rattle.tender.specs.Limits.{lawful, soundTender}
+use Rattle.tender.specs.Limits.{lawful, sound_tender}
 use borrow.Author.Rules.{rules}
 use Rattle.award_fault.proofs.tender_sound.Statement.{statement}
 use Rattle.award_fault.proofs.tender_sound.Tie as tie
@@ -16,11 +16,11 @@ reserve-lawful-requires : tie.Need-reserve-lawful-requires
 reserve-lawful-requires c κs = search rules
 
 returns : tie.Need-returns
-unfolding soundTender lawful
+unfolding sound_tender lawful
 returns c = c.reserve-lawful.ensures ∙ sym (rw (← c.before.before.window-lawful.ensures, c.before.if1.true))
 
 returns-2 : tie.Need-returns-2
-unfolding soundTender lawful
+unfolding sound_tender lawful
 returns-2 c = rw (← c.before.window-lawful.ensures, c.if1.false)
 
 pub tender-sound-spec : {M : Type 1} → statement M

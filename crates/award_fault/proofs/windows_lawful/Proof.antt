@@ -4,8 +4,8 @@ use Prim.Native.Nat.{◌-◌, ◌*◌, ◌≤◌}
 use native.Mathlib.Omega.{arith}
 use lib.ListN.{drop}
 use Rattle.tender.specs.Limits.{lawful, every}
-use Rattle.tender.specs.Tables.{windowsOf, windowWidth}
-use Rattle.award_check.specs.WalkLaws.{rowsAhead, ahead-start, ahead-goes, ahead-fails, ahead-all}
+use Rattle.tender.specs.Tables.{windows_of, window_width}
+use Rattle.award_check.specs.WalkLaws.{rows_ahead, ahead_start, ahead_goes, ahead_fails, ahead_all}
 use Rattle.award_fault.proofs.windows_lawful.Statement.{statement}
 use Rattle.award_fault.proofs.windows_lawful.Tie as tie
 use Rattle.award_fault.proofs.windows_lawful.Reads as reads
@@ -14,7 +14,7 @@ use Rattle.award_fault.proofs.window_lawful.Reads as window-lawful-reads
 
 abbrev invariant-loop : tie.invariant-loop
 invariant-loop windows first count j₀ j =
-    (j ≤ count) × (rowsAhead windows first count j ≡ every lawful (windowsOf count (drop (windowWidth * first) windows)))
+    (j ≤ count) × (rows_ahead windows first count j ≡ every lawful (windows_of count (drop (window_width * first) windows)))
 
 abbrev decreases-loop : tie.decreases-loop
 decreases-loop windows first count j₀ j = count - j
@@ -22,7 +22,7 @@ decreases-loop windows first count j₀ j = count - j
 loop-holds : tie.Need-loop-init invariant-loop decreases-loop
 loop-holds c =
     let args = c.before.args in
-    (omega arith, ahead-start args.windows.now args.first args.count)
+    (omega arith, ahead_start args.windows.now args.first args.count)
 
 add-s : tie.Need-overflow-add-s invariant-loop decreases-loop
 add-s c = omega arith
@@ -60,7 +60,7 @@ returns c =
     let c5 = c4.before in
     let c7 = c5.before.before in
     let args = c7.args in
-    ahead-fails args.windows.now args.first args.count c5.loop.j c.before.window-lawful.result c4.loop-test.true
+    ahead_fails args.windows.now args.first args.count c5.loop.j c.before.window-lawful.result c4.loop-test.true
     c.before.window-lawful.ensures _ c.if1.true c5.loop.invariant.1
 
 add-j : tie.Need-overflow-add-j invariant-loop decreases-loop
@@ -76,14 +76,14 @@ loop-again c =
     let c7 = c5.before.before in
     let args = c7.args in (
       omega arith,
-      ahead-goes args.windows.now args.first args.count c5.loop.j c.before.window-lawful.result
+      ahead_goes args.windows.now args.first args.count c5.loop.j c.before.window-lawful.result
           c4.loop-test.true c.before.window-lawful.ensures _ c.if1.false c5.loop.invariant.1,
     )
 
 returns-2 : tie.Need-returns-2 invariant-loop decreases-loop
 returns-2 c =
     let args = c.before.before.before.args in
-    sym (ahead-all args.windows.now args.first args.count c.before.loop.j c.loop-test.false) ∙ c.before.loop.invariant.1
+    sym (ahead_all args.windows.now args.first args.count c.before.loop.j c.loop-test.false) ∙ c.before.loop.invariant.1
 
 pub windows-lawful-spec : {M : Type 1} → statement M
 windows-lawful-spec =

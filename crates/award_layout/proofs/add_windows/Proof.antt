@@ -4,10 +4,10 @@ use mathlib.Core.Bool.{true}
 use Prim.Native.Nat.{◌+◌, ◌*◌, ◌-◌}
 use native.Mathlib.Omega.{arith}
 use lib.ListN.{length, get_or}
-use Rattle.tender.specs.Tables.{windowAt}
-use Rattle.award_check.specs.WalkLaws.{rowsAhead, ahead-start}
-use Rattle.award_layout.specs.LaidLaws.{Masking, masking-starts, masking-more, masking-ends, here-lawful}
-use Rattle.award_layout.specs.LayoutLaws.{clip-order, clip-inside}
+use Rattle.tender.specs.Tables.{window_at}
+use Rattle.award_check.specs.WalkLaws.{rows_ahead, ahead_start}
+use Rattle.award_layout.specs.LaidLaws.{Masking, masking_starts, masking_more, masking_ends, here_lawful}
+use Rattle.award_layout.specs.LayoutLaws.{clip_order, clip_inside}
 use Rattle.award_layout.proofs.add_windows.Statement.{statement}
 use Rattle.award_layout.proofs.add_windows.Tie as tie
 use Rattle.award_layout.proofs.add_windows.Reads as reads
@@ -17,7 +17,7 @@ use Rattle.award_layout.proofs.clip.Reads as clip-reads
 
 abbrev invariant-loop : tie.invariant-loop
 invariant-loop tender table windows first count words₀ j₀ words j = (length words ≡ length words₀)
-    × ((rowsAhead windows first count j ≡ true) × Masking tender windows first count j words)
+    × ((rows_ahead windows first count j ≡ true) × Masking tender windows first count j words)
 
 abbrev decreases-loop : tie.decreases-loop
 decreases-loop tender table windows first count words₀ j₀ words j = count - j
@@ -28,8 +28,8 @@ loop-holds c =
     let pre = c.before.before.before.requires.0 in (
       refl,
       (
-        ahead-start args.windows.now args.first args.count ∙ pre.1.0,
-        masking-starts args.tender args.windows.now args.first args.count args.words.now pre.1.1.1.1,
+        ahead_start args.windows.now args.first args.count ∙ pre.1.0,
+        masking_starts args.tender args.windows.now args.first args.count args.words.now pre.1.1.1.1,
       ),
     )
 
@@ -73,21 +73,21 @@ add-range-by-requires c κs =
     let c9 = c6.before.before.before.before in
     let args = c9.args in
     let pre = c9.requires.0 in
-    let h = here-lawful args.windows.now args.first args.count c6.loop.j c5.loop-test.true c6.loop.invariant.1.0 in (
+    let h = here_lawful args.windows.now args.first args.count c6.loop.j c5.loop-test.true c6.loop.invariant.1.0 in (
       c9.requires.1,
       (
         omega (
           arith,
           c.before.before.before.clip.ensures,
           c.before.clip2.ensures,
-          clip-order args.tender _ _ h.0,
+          clip_order args.tender _ _ h.0,
         ),
         (
           omega (
             arith,
             c.before.clip2.ensures,
-            clip-inside args.tender
-                (windowAt args.windows.now (args.first + c6.loop.j)).end,
+            clip_inside args.tender
+                (window_at args.windows.now (args.first + c6.loop.j)).end,
             pre.1.1.0,
             c6.loop.invariant.0,
           ),
@@ -110,14 +110,14 @@ loop-again c =
     let c9 = c8.before in
     let c12 = c9.before.before.before.before in
     let args = c12.args in
-    let h = here-lawful args.windows.now args.first args.count c9.loop.j c8.loop-test.true c9.loop.invariant.1.0 in (
+    let h = here_lawful args.windows.now args.first args.count c9.loop.j c8.loop-test.true c9.loop.invariant.1.0 in (
       c.before.before.add-range-by.auto.1.0 ∙ c9.loop.invariant.0,
       (
         h.1,
-        masking-more args.tender args.windows.now args.first args.count c9.loop.j c9.loop.words
+        masking_more args.tender args.windows.now args.first args.count c9.loop.j c9.loop.words
             c.before.before.add-range-by.new.1.0 c6.clip.result c4.clip2.result c9.loop.invariant.1.1 c8.loop-test.true
             c6.clip.ensures c4.clip2.ensures (omega
-            (arith, c6.clip.ensures, c4.clip2.ensures, clip-order args.tender _ _ h.0))
+            (arith, c6.clip.ensures, c4.clip2.ensures, clip_order args.tender _ _ h.0))
             c.before.before.add-range-by.ensures,
       ),
     )
@@ -129,7 +129,7 @@ returns : tie.Need-returns invariant-loop decreases-loop
 returns c =
     let c5 = c.before.before.before.before.before in
     let args = c5.args in
-    masking-ends args.tender args.windows.now args.first args.count c.before.loop.j
+    masking_ends args.tender args.windows.now args.first args.count c.before.loop.j
     c.before.loop.words c.before.loop.invariant.1.1 c.loop-test.false
 
 pub add-windows-spec : {M : Type 1} → statement M

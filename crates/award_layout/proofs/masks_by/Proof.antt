@@ -4,9 +4,9 @@ use Prim.Native.Nat.{◌-◌, ◌≤◌}
 use native.Mathlib.Omega.{arith}
 use Rattle.tender.specs.declared.Kind.TheVariants.{Multi}
 use Rattle.tender.specs.Tables.{own}
-use Rattle.multi_market.specs.WordRowLaws.{part-row, row_within}
+use Rattle.multi_market.specs.WordRowLaws.{part_row, row_within}
 use Rattle.award_layout.specs.LaidLaws.{row_room}
-use Rattle.award_layout.specs.WordRowLaws.{Writing, writing-starts, writing_more, writing-ends, row-size}
+use Rattle.award_layout.specs.WordRowLaws.{Writing, writing_starts, writing_more, writing_ends, row_size}
 use Rattle.award_layout.proofs.masks_by.Statement.{statement}
 use Rattle.award_layout.proofs.masks_by.Tie as tie
 use Rattle.award_layout.proofs.masks_by.Reads as reads
@@ -24,7 +24,7 @@ loop-holds c =
     let start = c.before.before.before.before in
     let args = start.args in (
       omega arith,
-      writing-starts args.n args.tender args.w args.bids.now args.windows.now args.out.now
+      writing_starts args.n args.tender args.w args.bids.now args.windows.now args.out.now
           start.requires.0.1.0,
     )
 
@@ -113,17 +113,17 @@ mask-row-requires c κs =
         row_room args.tender args.n args.bids.now args.windows.now pre.0 c4.loop.i
             c.before.before.before.loop-test.true,
         (
-          (pre.0.kept c4.loop.i c.before.before.before.loop-test.true).windows-too,
-          rw (part-row c4.loop.out args.w c4.loop.i) (
+          (pre.0.kept c4.loop.i c.before.before.before.loop-test.true).windows_too,
+          rw (part_row c4.loop.out args.w c4.loop.i) (
             omega (
               arith,
-              row-size c4.loop.out args.w args.n c4.loop.i c4.loop.invariant.1.size
+              row_size c4.loop.out args.w args.n c4.loop.i c4.loop.invariant.1.size
                   c.before.before.before.loop-test.true,
               pre.1.1.0,
             ),
             omega (
               arith,
-              row-size c4.loop.out args.w args.n c4.loop.i c4.loop.invariant.1.size
+              row_size c4.loop.out args.w args.n c4.loop.i c4.loop.invariant.1.size
                   c.before.before.before.loop-test.true,
               pre.1.1.1,
             ),
@@ -161,7 +161,7 @@ returns : tie.Need-returns invariant-loop decreases-loop
 returns c =
     let start = c.before.before.before.before.before.before in
     let args = start.args in
-    writing-ends args.n args.tender args.w args.bids.now args.windows.now c.before.loop.i
+    writing_ends args.n args.tender args.w args.bids.now args.windows.now c.before.loop.i
     c.before.loop.out c.before.loop.invariant.1 (omega arith)
 
 pub masks-by-spec : {M : Type 1} → statement M

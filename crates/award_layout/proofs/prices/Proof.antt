@@ -3,7 +3,7 @@ use mathlib.Core.Path.{◌≡◌, refl}
 use Prim.Native.Nat.{ℕ, ◌+◌, ◌*◌, ◌-◌, ◌≤◌, ◌<◌}
 use native.Mathlib.Omega.{arith}
 use lib.ListN.{length, get_or, length-set}
-use Rattle.tender.specs.Tables.{bidWidth}
+use Rattle.tender.specs.Tables.{bid_width}
 use Rattle.award_layout.specs.LaidLaws.{filled_more}
 use Rattle.award_layout.proofs.prices.Statement.{statement}
 use Rattle.award_layout.proofs.prices.Tie as tie
@@ -11,7 +11,7 @@ use Rattle.award_layout.proofs.prices.Reads as reads
 use Rattle.award_layout.proofs.prices.Lts as lts
 
 abbrev invariant-loop : tie.invariant-loop
-invariant-loop bids out₀ i₀ out i = (i ≤ length out) × ((length out ≡ length out₀) × ((j : ℕ) → j < i → get_or out j 0 ≡ get_or bids (bidWidth * j + 1) 0))
+invariant-loop bids out₀ i₀ out i = (i ≤ length out) × ((length out ≡ length out₀) × ((j : ℕ) → j < i → get_or out j 0 ≡ get_or bids (bid_width * j + 1) 0))
 
 abbrev decreases-loop : tie.decreases-loop
 decreases-loop bids out₀ i₀ out i = length out - i
@@ -48,7 +48,7 @@ loop-again c = (
   simp length-set (omega arith),
   (
     simp length-set c.before.before.loop.invariant.1.0,
-    filled_more (λ j. get_or c.before.before.before.args.bids.now (bidWidth * j + 1) 0) c.before.before.loop.out
+    filled_more (λ j. get_or c.before.before.before.args.bids.now (bid_width * j + 1) 0) c.before.before.loop.out
         c.before.before.loop.i c.before.loop-test.true c.before.before.loop.invariant.1.1 _ refl,
   ),
 )
@@ -57,7 +57,7 @@ same_length : tie.Need-same-length invariant-loop decreases-loop
 same_length c = c.before.loop.invariant.1.0
 
 returns : tie.Need-returns invariant-loop decreases-loop
-returns c = record { count = c.before.loop.invariant.1.0; prices-are = λ j l. c.before.loop.invariant.1.1 j (omega arith) }
+returns c = record { count = c.before.loop.invariant.1.0; prices_are = λ j l. c.before.loop.invariant.1.1 j (omega arith) }
 
 pub prices-spec : {M : Type 1} → statement M
 prices-spec =

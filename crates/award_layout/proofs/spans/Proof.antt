@@ -4,10 +4,10 @@ use Prim.Native.Nat.{◌+◌, ◌*◌, ◌-◌, ◌≤◌}
 use native.Mathlib.Omega.{arith}
 use lib.ListN.{length, get_or, length-set}
 use Rattle.tender.specs.declared.Kind.TheVariants.{Single}
-use Rattle.tender.specs.Tables.{windowAt}
-use Rattle.award_check.specs.Cells.{bidRowAt}
+use Rattle.tender.specs.Tables.{window_at}
+use Rattle.award_check.specs.Cells.{bid_row_at}
 use Rattle.award_layout.specs.Orderly.{clipped, SpansLaid}
-use Rattle.award_layout.specs.LaidLaws.{filled_more, first-room}
+use Rattle.award_layout.specs.LaidLaws.{filled_more, first_room}
 use Rattle.award_layout.proofs.spans.Statement.{statement}
 use Rattle.award_layout.proofs.spans.Tie as tie
 use Rattle.award_layout.proofs.spans.Reads as reads
@@ -22,7 +22,7 @@ abbrev decreases-loop : tie.decreases-loop
 decreases-loop tender bids windows starts₀ ends₀ i₀ starts ends i = length starts₀ - i
 
 loop-holds : tie.Need-loop-init invariant-loop decreases-loop
-loop-holds c = (omega arith, (refl, (refl, record { starts-are = λ j l. absurd (omega arith); ends-are = λ j l. absurd (omega arith) })))
+loop-holds c = (omega arith, (refl, (refl, record { starts_are = λ j l. absurd (omega arith); ends_are = λ j l. absurd (omega arith) })))
 
 mul-j : tie.Need-overflow-mul-j invariant-loop decreases-loop
 mul-j c =
@@ -50,7 +50,7 @@ mul-clip c =
     let args = c7.args in
     omega (
       arith,
-      first-room args.tender (length args.starts.now) args.bids.now args.windows.now c7.requires.0
+      first_room args.tender (length args.starts.now) args.bids.now args.windows.now c7.requires.0
           c.before.before.loop.i (omega arith),
     )
 
@@ -60,7 +60,7 @@ mul-clip-2 c =
     let args = c7.args in
     omega (
       arith,
-      first-room args.tender (length args.starts.now) args.bids.now args.windows.now c7.requires.0
+      first_room args.tender (length args.starts.now) args.bids.now args.windows.now c7.requires.0
           c.before.before.loop.i (omega arith),
     )
 
@@ -70,7 +70,7 @@ shared-slice-read-clip c =
     let args = c8.args in
     omega (
       arith,
-      first-room args.tender (length args.starts.now) args.bids.now args.windows.now c8.requires.0
+      first_room args.tender (length args.starts.now) args.bids.now args.windows.now c8.requires.0
           c.before.before.before.loop.i (omega arith),
     )
 
@@ -90,7 +90,7 @@ mul-clip-3 c =
     let args = c9.args in
     omega (
       arith,
-      first-room args.tender (length args.starts.now) args.bids.now args.windows.now c9.requires.0 c4.loop.i
+      first_room args.tender (length args.starts.now) args.bids.now args.windows.now c9.requires.0 c4.loop.i
           (omega arith),
     )
 
@@ -101,7 +101,7 @@ add-clip c =
     let args = c9.args in
     omega (
       arith,
-      first-room args.tender (length args.starts.now) args.bids.now args.windows.now c9.requires.0 c4.loop.i
+      first_room args.tender (length args.starts.now) args.bids.now args.windows.now c9.requires.0 c4.loop.i
           (omega arith),
     )
 
@@ -112,7 +112,7 @@ mul-clip-4 c =
     let args = c9.args in
     omega (
       arith,
-      first-room args.tender (length args.starts.now) args.bids.now args.windows.now c9.requires.0 c4.loop.i
+      first_room args.tender (length args.starts.now) args.bids.now args.windows.now c9.requires.0 c4.loop.i
           (omega arith),
     )
 
@@ -123,7 +123,7 @@ shared-slice-read-clip-2 c =
     let args = c10.args in
     omega (
       arith,
-      first-room args.tender (length args.starts.now) args.bids.now args.windows.now c10.requires.0 c5.loop.i
+      first_room args.tender (length args.starts.now) args.bids.now args.windows.now c10.requires.0 c5.loop.i
           (omega arith),
     )
 
@@ -159,12 +159,12 @@ loop-again c =
         (
           simp length-set c6.loop.invariant.1.1.0,
           record {
-            starts-are = filled_more (λ j. clipped args.tender
-                (windowAt args.windows.now (bidRowAt args.bids.now j).first).start) c6.loop.starts c6.loop.i (omega arith)
-                c6.loop.invariant.1.1.1.starts-are _ c.before.before.clip.ensures;
-            ends-are = filled_more (λ j. clipped args.tender
-                (windowAt args.windows.now (bidRowAt args.bids.now j).first).end) c6.loop.ends c6.loop.i
-                (omega (arith, c6.loop.invariant.1.1.0, c11.requires.1.0)) c6.loop.invariant.1.1.1.ends-are _ c.clip2.ensures;
+            starts_are = filled_more (λ j. clipped args.tender
+                (window_at args.windows.now (bid_row_at args.bids.now j).first).start) c6.loop.starts c6.loop.i (omega arith)
+                c6.loop.invariant.1.1.1.starts_are _ c.before.before.clip.ensures;
+            ends_are = filled_more (λ j. clipped args.tender
+                (window_at args.windows.now (bid_row_at args.bids.now j).first).end) c6.loop.ends c6.loop.i
+                (omega (arith, c6.loop.invariant.1.1.0, c11.requires.1.0)) c6.loop.invariant.1.1.1.ends_are _ c.clip2.ensures;
           },
         ),
       ),

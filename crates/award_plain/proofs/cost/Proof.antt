@@ -3,7 +3,7 @@ use Prim.Native.Nat.{◌-◌}
 use native.Mathlib.Omega.{arith}
 use lib.ListN.{length}
 use Rattle.award_rule.specs.Sums.{asked}
-use Rattle.award_rule.specs.SumsLaws.{Added, added_none, added_more, cost-all}
+use Rattle.award_rule.specs.SumsLaws.{Added, added_none, added_more, cost_all}
 use Rattle.award_plain.proofs.cost.Statement.{statement}
 use Rattle.award_plain.proofs.cost.Tie as tie
 use Rattle.award_plain.proofs.cost.Reads as reads
@@ -63,7 +63,7 @@ loop-again c =
     (arith, c.only.ensures.1, c7.requires.1.1 c4.loop.i c.before.before.before.loop-test.true))
 
 returns : tie.Need-returns invariant-loop decreases-loop
-returns c = cost-all _ _ c.before.loop.invariant c.loop-test.false
+returns c = cost_all _ _ c.before.loop.invariant c.loop-test.false
 
 pub cost-spec : {M : Type 1} → statement M
 cost-spec =

@@ -2,7 +2,7 @@
 use Prim.Native.Nat.{◌-◌}
 use native.Mathlib.Omega.{arith}
 use lib.ListN.{get_or}
-use Rattle.award_rule.specs.SumsLaws.{Added, added_none, added_more, paid-all}
+use Rattle.award_rule.specs.SumsLaws.{Added, added_none, added_more, paid_all}
 use mathlib.Core.Path.{refl}
 use Rattle.award_plain.proofs.paid.Statement.{statement}
 use Rattle.award_plain.proofs.paid.Tie as tie
@@ -44,7 +44,7 @@ loop-again c = added_more _ c.before.before.loop.invariant c.before.loop-test.tr
     c.before.before.loop.i c.before.loop-test.true)
 
 returns : tie.Need-returns invariant-loop decreases-loop
-returns c = paid-all _ c.before.loop.invariant c.loop-test.false
+returns c = paid_all _ c.before.loop.invariant c.loop-test.false
 
 pub paid-spec : {M : Type 1} → statement M
 paid-spec =

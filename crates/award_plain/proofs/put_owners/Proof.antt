@@ -6,7 +6,7 @@ use native.Mathlib.Omega.{arith}
 use lib.ListN.{length, get_or}
 use lib.Dec.{eqb}
 use Rattle.cover.specs.Sets.{when}
-use Rattle.cover.specs.SettledLaws.{FilledTo, written_none, written-more}
+use Rattle.cover.specs.SettledLaws.{FilledTo, written_none, written_more}
 use borrow.Author.Rules.{rules}
 use Rattle.award_plain.proofs.put_owners.Statement.{statement}
 use Rattle.award_plain.proofs.put_owners.Tie as tie
@@ -73,8 +73,8 @@ loop-again c =
     let c9 = c4.before.before.before.before.before in
     let P = c9.requires in let l = c.before.before.before.loop-test.true in (
       (
-        written-more _ _ _ _ _ (omega (arith, l, P.1.1)) c.before.only.ensures.0 c4.loop.invariant.0.0,
-        written-more _ _ _ _ _ (omega (arith, l, P.1.1)) refl c4.loop.invariant.0.1,
+        written_more _ _ _ _ _ (omega (arith, l, P.1.1)) c.before.only.ensures.0 c4.loop.invariant.0.0,
+        written_more _ _ _ _ _ (omega (arith, l, P.1.1)) refl c4.loop.invariant.0.1,
       ),
       omega (arith, l),
     )

@@ -1,8 +1,8 @@
 -- `award_plain::report` meets its contract: an award's flags and cents are put, a refusal leaves both lists. Assumes nothing.
 use mathlib.Core.Path.{refl}
 use native.Mathlib.Omega.{arith}
-use Rattle.award_rule.specs.Plain.{toldIn, wonAfter, centsAfter}
-use Rattle.award_rule.specs.ReportLaws.{flags-written, cents-written}
+use Rattle.award_rule.specs.Plain.{told_in, won_after, cents_after}
+use Rattle.award_rule.specs.ReportLaws.{flags_written, cents_written}
 use borrow.Author.Rules.{rules}
 use Rattle.award_plain.proofs.report.Statement.{statement}
 use Rattle.award_plain.proofs.report.Tie as tie
@@ -31,12 +31,12 @@ returns c =
     let c7 = c4.before.before.before in
     let c13 = c7.before.before.before.before.before.before in
     let A = c13.args in let P = c13.requires in rw c7.enum_told.given.1 (
-      flags-written A.n A.flags.now A.pays.now A.won.now _ _ P.1.1.0 c4.put-owners.ensures.0,
-      cents-written A.n A.flags.now A.pays.now A.cents.now _ _ P.1.1.1 c4.put-owners.ensures.1,
+      flags_written A.n A.flags.now A.pays.now A.won.now _ _ P.1.1.0 c4.put-owners.ensures.0,
+      cents_written A.n A.flags.now A.pays.now A.cents.now _ _ P.1.1.1 c4.put-owners.ensures.1,
     )
 
 returns-2 : tie.Need-returns-2
-unfolding toldIn wonAfter centsAfter
+unfolding told_in won_after cents_after
 returns-2 c = rw c.enum-told2.given.1 (refl, refl)
 
 pub report-spec : {M : Type 1} → statement M

@@ -1,5 +1,5 @@
 -- `award_plain::totals` meets its contract: it makes the two sums and asks for the house. Assumes nothing.
-use Rattle.award_rule.specs.SumsLaws.{totals-in}
+use Rattle.award_rule.specs.SumsLaws.{totals_in_lem}
 use native.Mathlib.Omega.{arith}
 use Rattle.award_plain.proofs.totals.Statement.{statement}
 use Rattle.award_plain.proofs.totals.Tie as tie
@@ -26,7 +26,7 @@ house-requires c κs =
     omega (arith, pre.0)
 
 returns : tie.Need-returns
-returns c = totals-in _ _ _ _ _ c.before.before.cost.ensures c.before.paid.ensures c.house.ensures
+returns c = totals_in_lem _ _ _ _ _ c.before.before.cost.ensures c.before.paid.ensures c.house.ensures
 
 pub totals-spec : {M : Type 1} → statement M
 totals-spec = tie.close (tie.spec cost-requires paid-requires house-requires returns)

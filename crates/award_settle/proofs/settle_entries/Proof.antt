@@ -2,7 +2,7 @@
 use mathlib.Core.Path.{◌≡◌, subst}
 use mathlib.Core.Option.{none}
 use Rattle.tender.specs.declared.Kind.{Kind}
-use Rattle.award_check.specs.Faults.{faultOf}
+use Rattle.award_check.specs.Faults.{fault_of}
 use borrow.Author.Rules.{rules}
 use Rattle.award_settle.proofs.settle_entries.Statement.{statement}
 use Rattle.award_settle.proofs.settle_entries.Tie as tie
@@ -18,7 +18,7 @@ settle-single-requires : tie.Need-settle-single-requires
 settle-single-requires c κs =
     let c8 = c.before.before.before.before.before.before.before.before in
     let A = c8.args in let P = c8.requires in
-    (subst (λ (k : Kind). faultOf k A.tender A.count A.bids.now A.windows.now ≡ none) c.before.before.enum_told.given.1 P.0, P.1)
+    (subst (λ (k : Kind). fault_of k A.tender A.count A.bids.now A.windows.now ≡ none) c.before.before.enum_told.given.1 P.0, P.1)
 
 enum-told-2 : tie.Need-enum-told-2
 enum-told-2 c = search rules
@@ -27,7 +27,7 @@ settle-multi-requires : tie.Need-settle-multi-requires
 settle-multi-requires c κs =
     let c8 = c.before.before.before.before.before.before.before.before in
     let A = c8.args in let P = c8.requires in
-    (subst (λ (k : Kind). faultOf k A.tender A.count A.bids.now A.windows.now ≡ none) c.before.before.enum-told2.given.1 P.0, P.1)
+    (subst (λ (k : Kind). fault_of k A.tender A.count A.bids.now A.windows.now ≡ none) c.before.before.enum-told2.given.1 P.0, P.1)
 
 same_length : tie.Need-same-length
 same_length c = search rules

@@ -1,9 +1,9 @@
 -- `award_settle::settle_in` meets its contract: each way out is one of the laws. Assumes nothing.
 use mathlib.Core.Path.{sym, ap, ◌∙◌}
 use native.Mathlib.Omega.{arith}
-use Rattle.award_fault.specs.Checks.{checkedFault}
+use Rattle.award_fault.specs.Checks.{checked_fault}
 use Rattle.award_layout.specs.LayoutLaws.{orderly}
-use Rattle.award_rule.specs.PlainLaws.{nine, ten, lent-more}
+use Rattle.award_rule.specs.PlainLaws.{nine, ten, lent_more}
 use borrow.Author.Rules.{rules}
 use Rattle.award_settle.proofs.settle_in.Statement.{statement}
 use Rattle.award_settle.proofs.settle_in.Tie as tie
@@ -23,7 +23,7 @@ returns c =
     let c8 = c.before.before.before.before.before.before.before.before in
     let A = c8.args in
     nine A.kind A.tender A.count A.bids.now A.windows.now A.lent A.won.now A.cents.now
-    _ (sym c.before.before.before.fault.ensures ∙ ap checkedFault c.before.check.given.1)
+    _ (sym c.before.before.before.fault.ensures ∙ ap checked_fault c.before.check.given.1)
 
 enum_told : tie.Need-enum-told
 enum_told c = search rules
@@ -33,14 +33,14 @@ returns-2 c =
     let c8 = c.before.before.before.before.before.before.before.before in
     let A = c8.args in
     ten A.kind A.tender A.count A.bids.now A.windows.now A.lent A.won.now A.cents.now
-    (sym c.before.before.before.fault.ensures ∙ ap checkedFault c.before.enum_told.given.1) c.if1.true
+    (sym c.before.before.before.fault.ensures ∙ ap checked_fault c.before.enum_told.given.1) c.if1.true
 
 settle-sound-requires : tie.Need-settle-sound-requires
 settle-sound-requires c κs =
     let c5 = c.before.before.before.before.before in
     let c10 = c5.before.before.before.before.before in
     let A = c10.args in let P = c10.requires in
-    let f = (sym c5.fault.ensures ∙ ap checkedFault c.before.before.before.enum_told.given.1) in
+    let f = (sym c5.fault.ensures ∙ ap checked_fault c.before.before.before.enum_told.given.1) in
     let o = orderly A.kind A.tender A.count A.bids.now A.windows.now f in
     (f, (omega (arith, o.few, P, c.before.before.if1.false), omega (arith, o.few, P, c.before.before.if1.false)))
 
@@ -56,7 +56,7 @@ returns-3 c =
     let c7 = c4.before.before.before in
     let c15 = c7.before.before.before.before.before.before.before.before in
     let A = c15.args in
-    lent-more A.kind A.tender A.count A.bids.now A.windows.now A.lent A.won.now A.cents.now _ _ _
+    lent_more A.kind A.tender A.count A.bids.now A.windows.now A.lent A.won.now A.cents.now _ _ _
     c7.if1.false c4.settle-sound.ensures
 
 pub settle-in-spec : {M : Type 1} → statement M

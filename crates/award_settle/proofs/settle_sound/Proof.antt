@@ -2,7 +2,7 @@
 use Prim.Native.Nat.{ℕ}
 use native.Mathlib.Omega.{arith}
 use lib.ListN.{length-replicate}
-use Rattle.tender.specs.Limits.{maxEntries}
+use Rattle.tender.specs.Limits.{max_entries}
 use Rattle.award_layout.specs.LayoutLaws.{orderly}
 use Rattle.award_rule.specs.ReportLaws.{reported}
 use borrow.Author.Rules.{rules}
@@ -34,8 +34,8 @@ report-requires c κs =
     let c13 = c6.before.before.before.before.before.before.before in
     let A = c13.args in let P = c13.requires in let K = c6.settle-entries.auto in
     let o = orderly A.kind A.tender A.count A.bids.now A.windows.now P.0 in (
-      omega (arith, o.few, K.1.1.1.1.1.0, length-replicate {A = ℕ} maxEntries 1),
-      (omega (arith, o.few, K.1.1.1.1.1.1.0, length-replicate {A = ℕ} maxEntries 1), P.1),
+      omega (arith, o.few, K.1.1.1.1.1.0, length-replicate {A = ℕ} max_entries 1),
+      (omega (arith, o.few, K.1.1.1.1.1.1.0, length-replicate {A = ℕ} max_entries 1), P.1),
     )
 
 same_length : tie.Need-same-length

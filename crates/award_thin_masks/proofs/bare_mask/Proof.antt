@@ -4,7 +4,7 @@ use native.Mathlib.Omega.{arith}
 use Rattle.multi_market.specs.WordRowLaws.{row_within}
 use mathlib.Core.Path.{◌≡◌, refl, sym, ◌∙◌}
 use Rattle.multi_market.specs.Market.{has}
-use Rattle.award_thin.specs.BareLaws.{Looking, Asking, looks-none, asks_none, looks_on, asks-on, bare-found, bare-none}
+use Rattle.award_thin.specs.BareLaws.{Looking, Asking, looks_none, asks_none, looks_on, asks_on, bare_found, bare_none}
 use Rattle.award_thin_masks.proofs.bare_mask.Statement.{statement}
 use Rattle.award_thin_masks.proofs.bare_mask.Tie as tie
 use Rattle.award_thin_masks.proofs.bare_mask.Reads as reads
@@ -24,7 +24,7 @@ abbrev decreases-cells : tie.decreases-cells
 decreases-cells masks w n cells x₀ x = cells - x
 
 cells-holds : tie.Need-cells-init invariant-loop decreases-loop invariant-cells decreases-cells
-cells-holds c = looks-none _ _ _
+cells-holds c = looks_none _ _ _
 
 loop-holds : tie.Need-loop-init invariant-loop decreases-loop invariant-cells decreases-cells
 loop-holds c = (asks_none _ _ _ _ c.before.cells.invariant c.cells-test.true, refl)
@@ -56,16 +56,16 @@ loop-less c = omega arith
 
 loop-again : tie.Need-loop-preserved invariant-loop decreases-loop invariant-cells decreases-cells
 loop-again c = (
-  asks-on c.before.before.before.loop.invariant.0 c.before.before.loop-test.true
+  asks_on c.before.before.before.loop.invariant.0 c.before.before.loop-test.true
       (sym c.before.mask-has.ensures ∙ c.if1.false),
   c.before.before.before.loop.invariant.1,
 )
 
 returns : tie.Need-returns invariant-loop decreases-loop invariant-cells decreases-cells
-returns c = bare-found c.before.loop.invariant.0 c.loop-test.false
+returns c = bare_found c.before.loop.invariant.0 c.loop-test.false
 
 returns-2 : tie.Need-returns-2 invariant-loop decreases-loop invariant-cells decreases-cells
-returns-2 c = bare-none c.before.cells.invariant c.cells-test.false
+returns-2 c = bare_none c.before.cells.invariant c.cells-test.false
 
 pub bare-mask-spec : {M : Type 1} → statement M
 bare-mask-spec =

@@ -1,6 +1,6 @@
 -- `award_thin_masks::first_below` meets its contract: the first of the cells that is not among those with two bidders. Assumes nothing.
 use mathlib.Core.Path.{◌∙◌}
-use Rattle.award_thin_masks.specs.MasksLaws.{first_found, first-none}
+use Rattle.award_thin_masks.specs.MasksLaws.{first_found, first_none}
 use borrow.Author.Rules.{rules}
 use Rattle.award_thin_masks.proofs.first_below.Statement.{statement}
 use Rattle.award_thin_masks.proofs.first_below.Tie as tie
@@ -49,7 +49,7 @@ returns-2 c =
     let c16 = c11.before.before.before.before.before in
     let args = c16.args in
     let pre = c16.requires in
-    first-none args.masks.now args.w args.n args.cells c11.unlock.new.0 c6.gather.new.1.1.1.1.0
+    first_none args.masks.now args.w args.n args.cells c11.unlock.new.0 c6.gather.new.1.1.1.1.0
     c.before.next.result c11.unlock.ensures c6.gather.ensures c.before.next.ensures
     (c11.unlock.auto.0 ∙ pre.1.1.1.0) pre.1.1.0 c.if1.false
 

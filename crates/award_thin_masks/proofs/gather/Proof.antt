@@ -4,7 +4,7 @@ use Prim.Native.Nat.{◌-◌, ◌≤◌}
 use native.Mathlib.Omega.{arith}
 use lib.ListN.{length, length-set}
 use Rattle.award_thin.specs.Thin.{Gathered}
-use Rattle.award_thin_masks.specs.MasksLaws.{gathered_none, gathered-more}
+use Rattle.award_thin_masks.specs.MasksLaws.{gathered_none, gathered_more}
 use borrow.Author.Rules.{rules}
 use Rattle.award_thin_masks.proofs.gather.Statement.{statement}
 use Rattle.award_thin_masks.proofs.gather.Tie as tie
@@ -51,7 +51,7 @@ loop-again c =
       omega arith,
       (
         simp length-set c.before.before.before.loop.invariant.1.0,
-        gathered-more args.masks.now args.w args.n args.wanted.now c.before.before.before.loop.enough
+        gathered_more args.masks.now args.w args.n args.wanted.now c.before.before.before.loop.enough
             c.before.before.before.loop.q c.seen.result (omega arith) c.before.before.before.loop.invariant.1.1
             c.seen.ensures,
       ),

@@ -3,7 +3,7 @@ use mathlib.Core.Path.{ap, ◌∙◌}
 use lib.Dec.{eqb}
 use Rattle.cells.specs.Cells.{cell}
 use Rattle.multi_market.specs.Market.{has}
-use Rattle.multi_market.specs.WordRowLaws.{part-row}
+use Rattle.multi_market.specs.WordRowLaws.{part_row}
 use borrow.Author.Rules.{rules}
 use Rattle.award_thin_masks.proofs.mask_has.Statement.{statement}
 use Rattle.award_thin_masks.proofs.mask_has.Tie as tie
@@ -36,7 +36,7 @@ returns : tie.Need-returns
 unfolding has
 returns c =
     let args = c.before.before.before.args in
-    c.holds.ensures ∙ ap (λ r. eqb (cell r args.x) 1) (part-row args.masks.now args.w args.i)
+    c.holds.ensures ∙ ap (λ r. eqb (cell r args.x) 1) (part_row args.masks.now args.w args.i)
 
 pub mask-has-spec : {M : Type 1} → statement M
 mask-has-spec =

@@ -5,7 +5,7 @@ use native.Mathlib.Omega.{arith}
 use lib.ListN.{get_or}
 use lib.Bits.{bit_and, bit_or}
 use Rattle.multi_market.specs.WordRowLaws.{row_within}
-use Rattle.award_thin_masks.specs.MasksLaws.{Seeing, seeing-none, seeing-more, reached-soon, reached-all}
+use Rattle.award_thin_masks.specs.MasksLaws.{Seeing, seeing_none, seeing_more, reached_soon, reached_all}
 use Rattle.award_thin_masks.proofs.seen.Statement.{statement}
 use Rattle.award_thin_masks.proofs.seen.Tie as tie
 use Rattle.award_thin_masks.proofs.seen.Reads as reads
@@ -20,7 +20,7 @@ decreases-loop masks w n q wanted one₀ two₀ i₀ one two i = n - i
 loop-holds : tie.Need-loop-init invariant-loop decreases-loop
 loop-holds c =
     let args = c.args in
-    (omega arith, seeing-none args.masks.now args.w args.q)
+    (omega arith, seeing_none args.masks.now args.w args.q)
 
 mul-x : tie.Need-overflow-mul-x invariant-loop decreases-loop
 mul-x c =
@@ -51,10 +51,10 @@ returns c =
     let c4 = c.before.before.before.before in
     let args = c4.args in
     let x = get_or args.masks.now (args.w * c.before.before.before.loop.i + args.q) 0 in
-    reached-soon args.masks.now args.w args.q (c.before.before.before.loop.i + 1)
+    reached_soon args.masks.now args.w args.q (c.before.before.before.loop.i + 1)
     (bit_or c.before.before.before.loop.one x)
     (bit_or c.before.before.before.loop.two (bit_and c.before.before.before.loop.one x))
-    (seeing-more args.masks.now args.w args.q c4.requires.1 c.before.before.before.loop.i
+    (seeing_more args.masks.now args.w args.q c4.requires.1 c.before.before.before.loop.i
     c.before.before.before.loop.one c.before.before.before.loop.two c.before.before.before.loop.invariant.1)
     args.wanted args.n (omega arith) c.if1.true
 
@@ -69,14 +69,14 @@ loop-again c =
     let c4 = c.before.before.before.before in
     let args = c4.args in (
       omega arith,
-      seeing-more args.masks.now args.w args.q c4.requires.1 c.before.before.before.loop.i
+      seeing_more args.masks.now args.w args.q c4.requires.1 c.before.before.before.loop.i
           c.before.before.before.loop.one c.before.before.before.loop.two c.before.before.before.loop.invariant.1,
     )
 
 returns-2 : tie.Need-returns-2 invariant-loop decreases-loop
 returns-2 c =
     let args = c.before.before.args in
-    reached-all args.masks.now args.w args.q c.before.loop.i c.before.loop.one c.before.loop.two
+    reached_all args.masks.now args.w args.q c.before.loop.i c.before.loop.one c.before.loop.two
     c.before.loop.invariant.1 args.wanted args.n (omega arith)
 
 pub seen-spec : {M : Type 1} → statement M

@@ -3,7 +3,7 @@
 use Prim.Native.Nat.{◌-◌}
 use native.Mathlib.Omega.{arith}
 use lib.ListN.{length}
-use Rattle.award_thin_spans.specs.EndsLaws.{Ends, ends-begin, ends_more, ends_found}
+use Rattle.award_thin_spans.specs.EndsLaws.{Ends, ends_begin, ends_more, ends_found}
 use borrow.Author.Rules.{rules}
 use Rattle.award_thin_spans.proofs.spans_below.Statement.{statement}
 use Rattle.award_thin_spans.proofs.spans_below.Tie as tie
@@ -15,7 +15,7 @@ abbrev decreases-loop : tie.decreases-loop
 decreases-loop starts ends order cells first₀ second₀ q₀ first second q = length starts - q
 
 loop-holds : tie.Need-loop-init invariant-loop decreases-loop
-loop-holds c = ends-begin _ _ _ _
+loop-holds c = ends_begin _ _ _ _
 
 mul-i : tie.Need-overflow-mul-i invariant-loop decreases-loop
 mul-i c =

@@ -1,6 +1,6 @@
 -- `cells::add` meets its contract: the word that holds cell x gets one bit more. Assumes nothing.
 use native.Mathlib.Omega.{arith}
-use Rattle.cells.specs.StoreLaws.{one-added}
+use Rattle.cells.specs.StoreLaws.{one_added}
 use borrow.Author.Rules.{rules}
 use Rattle.cells.proofs.add.Statement.{statement}
 use Rattle.cells.proofs.add.Tie as tie
@@ -28,7 +28,7 @@ same_length c = search rules
 returns : tie.Need-returns
 returns c =
     let args = c.before.args in
-    one-added args.words.now args.x (omega arith)
+    one_added args.words.now args.x (omega arith)
 
 pub add_spec : {M : Type 1} → statement M
 add_spec =

@@ -1,6 +1,6 @@
 -- `cells::add_bits` meets its contract: one word gets the bits of a span. Assumes nothing.
 use native.Mathlib.Omega.{arith}
-use Rattle.cells.specs.StoreLaws.{bits-added}
+use Rattle.cells.specs.StoreLaws.{bits_added}
 use borrow.Author.Rules.{rules}
 use Rattle.cells.proofs.add_bits.Statement.{statement}
 use Rattle.cells.proofs.add_bits.Tie as tie
@@ -29,7 +29,7 @@ same_length c = search rules
 returns : tie.Need-returns
 returns c =
     let args = c.before.before.before.before.args in
-    bits-added args.words.now args.w (omega arith) args.lo args.hi c.before.span.result (omega arith) (omega arith)
+    bits_added args.words.now args.w (omega arith) args.lo args.hi c.before.span.result (omega arith) (omega arith)
     c.before.span.ensures
 
 pub add-bits-spec : {M : Type 1} → statement M

@@ -2,7 +2,7 @@
 -- Assumes nothing.
 use native.Mathlib.Omega.{arith}
 use Prim.Native.Nat.{◌/◌}
-use Rattle.cells.specs.StoreLaws.{filled-join, filled_at, filled-words}
+use Rattle.cells.specs.StoreLaws.{filled_join, filled_at, filled_words}
 use borrow.Author.Rules.{rules}
 use Rattle.cells.proofs.add_range_by.Statement.{statement}
 use Rattle.cells.proofs.add_range_by.Tie as tie
@@ -44,7 +44,7 @@ returns-3 c =
     let c11 = c7.before.before.before.before in
     let c16 = c11.before.before.before.before.before in
     let args = c16.before.args in
-    filled-join (omega arith) (omega arith) (filled-words args.s (args.e / 64) (omega arith) c11.add-bits2.ensures
+    filled_join (omega arith) (omega arith) (filled_words args.s (args.e / 64) (omega arith) c11.add-bits2.ensures
     c7.add_words.ensures) (filled_at (omega arith) (omega arith) c.before.before.add-bits3.ensures)
 
 same-length-3 : tie.Need-same-length-3
@@ -55,7 +55,7 @@ returns-4 c =
     let c7 = c.before.before.before.before.before.before.before in
     let c12 = c7.before.before.before.before.before in
     let args = c12.before.args in
-    filled_at (omega arith) (omega arith) (filled-words args.s (args.e / 64) (omega arith) c7.add-bits2.ensures
+    filled_at (omega arith) (omega arith) (filled_words args.s (args.e / 64) (omega arith) c7.add-bits2.ensures
     c.before.before.before.add_words.ensures)
 
 pub add-range-by-spec : {M : Type 1} → statement M

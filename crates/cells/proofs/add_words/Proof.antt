@@ -4,7 +4,7 @@ use Prim.Native.Nat.{◌-◌, ◌*◌, ◌≤◌}
 use mathlib.Core.Path.{◌≡◌, refl}
 use lib.ListN.{length, length-set}
 use Rattle.cells.specs.Cells.{RangeAdded}
-use Rattle.cells.specs.StoreLaws.{filled_none, filled-join, whole-added}
+use Rattle.cells.specs.StoreLaws.{filled_none, filled_join, whole_added}
 use borrow.Author.Rules.{rules}
 use Rattle.cells.proofs.add_words.Statement.{statement}
 use Rattle.cells.proofs.add_words.Tie as tie
@@ -47,8 +47,8 @@ loop-again c =
         omega arith,
         (
           simp length-set loop.invariant.1.1.0,
-          filled-join (omega arith) (omega arith) loop.invariant.1.1.1
-              (whole-added loop.words loop.w (omega arith) full.result full.ensures.1),
+          filled_join (omega arith) (omega arith) loop.invariant.1.1.1
+              (whole_added loop.words loop.w (omega arith) full.result full.ensures.1),
         ),
       ),
     )

@@ -1,5 +1,5 @@
 -- `cells::close` meets its contract: before word w the cells below 64 w are cleared of the mask, and the others stand. Assumes nothing.
-use Rattle.cells.specs.StoreLaws.{Swept, swept_none, swept-more, swept_all}
+use Rattle.cells.specs.StoreLaws.{Swept, swept_none, swept_more, swept_all}
 use mathlib.Core.Path.{◌≡◌, refl}
 use Prim.Native.Nat.{◌-◌, ◌≤◌}
 use native.Mathlib.Omega.{arith}
@@ -49,7 +49,7 @@ loop-again c =
       simp length-set (omega arith),
       (
         simp length-set c.before.before.before.loop.invariant.1.0,
-        swept-more c.before.before.before.loop.w args.held.now args.mask.now
+        swept_more c.before.before.before.loop.w args.held.now args.mask.now
             c.before.before.before.loop.held c.before.before.before.loop.invariant.1.1 (omega arith)
             (c.shared-slice-known.given c.before.before.before.loop.w).fits,
       ),

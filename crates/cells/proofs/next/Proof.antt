@@ -6,7 +6,7 @@ use lib.ListN.{get_or}
 use lib.Count.{trailing_le}
 use lib.Bits.{bit_and}
 use Rattle.cells.specs.Cells.{whole}
-use Rattle.cells.specs.LowestLaws.{first-at, none-at, search-on, search-over}
+use Rattle.cells.specs.LowestLaws.{first_at, none_at, search_on, search_over}
 use borrow.Author.Rules.{rules}
 use Rattle.cells.proofs.next.Statement.{statement}
 use Rattle.cells.proofs.next.Tie as tie
@@ -51,7 +51,7 @@ returns c =
     let c5 = c4.before in
     let c6 = c5.before in
     let args = c6.args in
-    let x = args.from in first-at args.a.now args.b.now x (c5.shared-slice-known.given (x / 64)).fits
+    let x = args.from in first_at args.a.now args.b.now x (c5.shared-slice-known.given (x / 64)).fits
     (c4.shared-slice-known2.given (x / 64)).fits c.if2.true (omega arith)
 
 add-next-from : tie.Need-overflow-add-next-from
@@ -66,7 +66,7 @@ returns-2 c =
     let c6 = c5.before in
     let c7 = c6.before in
     let args = c7.args in
-    let x = args.from in search-on (omega arith) (none-at args.a.now args.b.now x (c6.shared-slice-known.given (x / 64)).fits
+    let x = args.from in search_on (omega arith) (none_at args.a.now args.b.now x (c6.shared-slice-known.given (x / 64)).fits
     (c5.shared-slice-known2.given (x / 64)).fits c.before.if2.false) c.next-from.ensures
 
 mul-result : tie.Need-overflow-mul-result
@@ -75,7 +75,7 @@ mul-result c = search rules
 returns-3 : tie.Need-returns-3
 returns-3 c =
     let args = c.before.before.before.args in
-    search-over args.a.now args.b.now _ (omega arith) (omega arith)
+    search_over args.a.now args.b.now _ (omega arith) (omega arith)
 
 pub next-spec : {M : Type 1} → statement M
 next-spec =

@@ -6,7 +6,7 @@ use lib.ListN.{length, get_or}
 use lib.Count.{trailing_le}
 use lib.Bits.{bit_and}
 use Rattle.cells.specs.Cells.{cell, whole}
-use Rattle.cells.specs.LowestLaws.{first-in-word, none-in-word, search-on, search-over}
+use Rattle.cells.specs.LowestLaws.{first_in_word, none_in_word, search_on, search_over}
 use Rattle.cells.proofs.next_from.Statement.{statement}
 use Rattle.cells.proofs.next_from.Tie as tie
 use Rattle.cells.proofs.next_from.Reads as reads
@@ -55,7 +55,7 @@ returns c =
     let c4 = c.before.before.before.before in
     let c5 = c4.before in
     let args = c5.args in
-    search-on (omega arith) c4.loop.invariant.1.1 (first-in-word args.a.now args.b.now c4.loop.q
+    search_on (omega arith) c4.loop.invariant.1.1 (first_in_word args.a.now args.b.now c4.loop.q
     (c.before.before.shared-slice-known.given c4.loop.q).fits (c.before.shared-slice-known2.given c4.loop.q).fits
     c.if1.true (omega arith))
 
@@ -73,7 +73,7 @@ loop-again c =
       omega arith,
       (
         omega arith,
-        none-in-word args.a.now args.b.now c4.loop.q
+        none_in_word args.a.now args.b.now c4.loop.q
             (c.before.before.shared-slice-known.given c4.loop.q).fits (c.before.shared-slice-known2.given c4.loop.q).fits
             args.first c.if1.false c4.loop.invariant.1.1,
       ),
@@ -86,8 +86,8 @@ returns-2 : tie.Need-returns-2 invariant-loop decreases-loop
 returns-2 c =
     let args = c.before.before.args in
     let e : c.before.loop.q ≡ length args.a.now = omega arith in
-    search-on (omega arith) (rw e at c.before.loop.invariant.1.1)
-    (search-over args.a.now args.b.now _ (omega arith) (omega arith))
+    search_on (omega arith) (rw e at c.before.loop.invariant.1.1)
+    (search_over args.a.now args.b.now _ (omega arith) (omega arith))
 
 pub next-from-spec : {M : Type 1} → statement M
 next-from-spec =

@@ -4,10 +4,10 @@ use Prim.Native.Nat.{◌-◌, ◌≤◌}
 use mathlib.Core.Path.{◌≡◌, refl}
 use native.Mathlib.Omega.{arith}
 use lib.ListN.{length, length-set}
-use Rattle.cells_count.specs.Hops.{Counted, countedTo}
-use Rattle.cells.specs.StoreLaws.{Swept, swept-more, swept_all}
-use Rattle.cells_count.specs.WalkLaws.{swept-first, swept-on}
-use Rattle.cells_count.specs.CountsLaws.{counted-set}
+use Rattle.cells_count.specs.Hops.{Counted, counted_to}
+use Rattle.cells.specs.StoreLaws.{Swept, swept_more, swept_all}
+use Rattle.cells_count.specs.WalkLaws.{swept_first, swept_on}
+use Rattle.cells_count.specs.CountsLaws.{counted_set}
 use Rattle.cells_count.proofs.close_counted.Statement.{statement}
 use Rattle.cells_count.proofs.close_counted.Tie as tie
 use Rattle.cells_count.proofs.close_counted.Reads as reads
@@ -18,7 +18,7 @@ use Rattle.cells_count.proofs.onward.Reads as onward-reads
 
 abbrev invariant-loop : tie.invariant-loop
 invariant-loop held₀ counts mask hop n q₀ held q = (q ≤ length held)
-    × ((length held ≡ length held₀) × (Swept q held₀ mask held × (Counted held counts × (countedTo held₀ counts ≤ q))))
+    × ((length held ≡ length held₀) × (Swept q held₀ mask held × (Counted held counts × (counted_to held₀ counts ≤ q))))
 
 abbrev decreases-loop : tie.decreases-loop
 decreases-loop held₀ counts mask hop n q₀ held q = length held₀ - q
@@ -43,7 +43,7 @@ loop-holds c =
       (
         refl,
         (
-          swept-first c5.first_word.result args.held.now args.mask.now c5.first_word.ensures.1,
+          swept_first c5.first_word.result args.held.now args.mask.now c5.first_word.ensures.1,
           c.before.before.count-back.ensures,
         ),
       ),
@@ -85,10 +85,10 @@ loop-again c =
       (
         simp length-set s.0,
         (
-          swept-on c4.loop.q c.onward.result args.held.now args.mask.now _
-              (swept-more c4.loop.q args.held.now args.mask.now c4.loop.held s.1.0 (omega arith)
+          swept_on c4.loop.q c.onward.result args.held.now args.mask.now _
+              (swept_more c4.loop.q args.held.now args.mask.now c4.loop.held s.1.0 (omega arith)
               (c.before.shared-slice-known3.given c4.loop.q).fits) c.onward.ensures,
-          (counted-set c4.loop.q _ s.1.1.0 (rw l s.1.1.1), omega (arith, c.onward.ensures.on, s.1.1.1)),
+          (counted_set c4.loop.q _ s.1.1.0 (rw l s.1.1.1), omega (arith, c.onward.ensures.on, s.1.1.1)),
         ),
       ),
     )

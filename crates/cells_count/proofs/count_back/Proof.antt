@@ -1,7 +1,7 @@
 -- `cells::count_back` meets its contract: the sums up to a word before the last counted are still right. Assumes nothing.
 use native.Mathlib.Omega.{arith}
 use borrow.Author.Rules.{rules}
-use Rattle.cells_count.specs.CountsLaws.{counted_back, counted-last}
+use Rattle.cells_count.specs.CountsLaws.{counted_back, counted_last}
 use Rattle.cells_count.proofs.count_back.Statement.{statement}
 use Rattle.cells_count.proofs.count_back.Tie as tie
 use Rattle.cells_count.proofs.count_back.Reads as reads
@@ -30,7 +30,7 @@ returns c =
     let args = c.before.before.args in
     let k = c.before.before.requires.0 in (
       counted_back args.q k c.if1.true,
-      omega (arith, counted-last args.words.now args.counts.now args.q k.size),
+      omega (arith, counted_last args.words.now args.counts.now args.q k.size),
     )
 
 returns-2 : tie.Need-returns-2

@@ -4,7 +4,7 @@ use mathlib.Core.Path.{sym, ◌∙◌}
 use native.Mathlib.Omega.{arith}
 use lib.ListN.{get_or, length-set}
 use lib.Count.{ones-le}
-use Rattle.cells_count.specs.CountsLaws.{Counting, counting-from, counting-on, counting-done, counted-last, cells-few}
+use Rattle.cells_count.specs.CountsLaws.{Counting, counting_from, counting_on, counting_done, counted_last, cells_few}
 use Rattle.cells_count.proofs.count_to.Statement.{statement}
 use Rattle.cells_count.proofs.count_to.Tie as tie
 use Rattle.cells_count.proofs.count_to.Reads as reads
@@ -37,7 +37,7 @@ slice-read-sum c =
     omega (arith, pre.0.size, pre.0.known)
 
 loop-holds : tie.Need-loop-init invariant-loop decreases-loop
-loop-holds c = (omega arith, counting-from c.before.before.before.requires.0)
+loop-holds c = (omega arith, counting_from c.before.before.before.requires.0)
 
 mul-sum-2 : tie.Need-overflow-mul-sum-2 invariant-loop decreases-loop
 mul-sum-2 c = omega arith
@@ -63,7 +63,7 @@ add-sum c =
       ones-le 64 (get_or args.words.now c.before.before.loop.q 0)
           (c.shared-slice-known.given c.before.before.loop.q).fits,
       c.before.before.loop.invariant.1.last,
-      cells-few args.words.now (λ p. (c.shared-slice-known.given p).fits) c.before.before.loop.q,
+      cells_few args.words.now (λ p. (c.shared-slice-known.given p).fits) c.before.before.loop.q,
     )
 
 add-q : tie.Need-overflow-add-q invariant-loop decreases-loop
@@ -79,7 +79,7 @@ loop-less : tie.Need-loop-smaller invariant-loop decreases-loop
 loop-less c = omega arith
 
 loop-again : tie.Need-loop-preserved invariant-loop decreases-loop
-loop-again c = (omega arith, counting-on c.before.before.loop.invariant.1 (omega arith))
+loop-again c = (omega arith, counting_on c.before.before.loop.invariant.1 (omega arith))
 
 mul-counts-2 : tie.Need-overflow-mul-counts-2 invariant-loop decreases-loop
 mul-counts-2 c = omega arith
@@ -96,8 +96,8 @@ returns-2 : tie.Need-returns-2 invariant-loop decreases-loop
 returns-2 c =
     let c5 = c.before.before.before.before.before in
     let args = c5.args in (
-      counting-done args.e c.before.loop.invariant.1 c5.requires.1.0 (omega arith),
-      omega (arith, counted-last args.words.now c.before.loop.counts args.e c.before.loop.invariant.1.size),
+      counting_done args.e c.before.loop.invariant.1 c5.requires.1.0 (omega arith),
+      omega (arith, counted_last args.words.now c.before.loop.counts args.e c.before.loop.invariant.1.size),
     )
 
 pub count-to-spec : {M : Type 1} → statement M

@@ -1,7 +1,7 @@
 -- `cells::first_word` meets its contract: a word without a cell is followed by others without one. Assumes nothing.
 use native.Mathlib.Omega.{arith}
 use borrow.Author.Rules.{rules}
-use Rattle.cells_count.specs.WalkLaws.{first-gap}
+use Rattle.cells_count.specs.WalkLaws.{first_gap}
 use Rattle.cells_count.proofs.first_word.Statement.{statement}
 use Rattle.cells_count.proofs.first_word.Tie as tie
 use Rattle.cells_count.proofs.first_word.Reads as reads
@@ -24,7 +24,7 @@ returns-2 : tie.Need-returns-2
 returns-2 c =
     let c7 = c.before.before.before.before.before.before.before in
     let args = c7.args in
-    rw c.wide.ensures (first-gap args.mask.now args.hop.now c7.requires.0 (omega arith) c.before.before.if2.true)
+    rw c.wide.ensures (first_gap args.mask.now args.hop.now c7.requires.0 (omega arith) c.before.before.if2.true)
 
 returns-3 : tie.Need-returns-3
 returns-3 c = search rules

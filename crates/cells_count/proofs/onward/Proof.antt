@@ -1,6 +1,6 @@
 -- `cells::onward` meets its contract: one word on from a whole word, else the hop. Assumes nothing.
 use native.Mathlib.Omega.{arith}
-use Rattle.cells_count.specs.WalkLaws.{onward-gap}
+use Rattle.cells_count.specs.WalkLaws.{onward_gap}
 use borrow.Author.Rules.{rules}
 use Rattle.cells_count.proofs.onward.Statement.{statement}
 use Rattle.cells_count.proofs.onward.Tie as tie
@@ -29,7 +29,7 @@ wide-requires c κs = search rules
 returns-2 : tie.Need-returns-2
 returns-2 c =
     let c6 = c.before.before.before.before.before.before in
-    let A = c6.args in rw c.wide.ensures (onward-gap A.mask.now A.hop.now A.q c6.requires.0 (omega arith)
+    let A = c6.args in rw c.wide.ensures (onward_gap A.mask.now A.hop.now A.q c6.requires.0 (omega arith)
     c.before.before.if1.false)
 
 pub onward-spec : {M : Type 1} → statement M

@@ -6,8 +6,8 @@ use lib.ListN.{length}
 use Rattle.cells.specs.Cells.{total, both, common}
 use Rattle.cells_count.specs.Hops.{Counted}
 use lib.Count.{ones}
-use Rattle.cells_count.specs.SumLaws.{total-both-le, none}
-use Rattle.cells_count.specs.WalkLaws.{none-counted, run-sum, reach-gap}
+use Rattle.cells_count.specs.SumLaws.{total_both_le, none}
+use Rattle.cells_count.specs.WalkLaws.{none_counted, run_sum, reach_gap}
 use Rattle.cells_count.proofs.reach.Statement.{statement}
 use Rattle.cells_count.proofs.reach.Tie as tie
 use Rattle.cells_count.proofs.reach.Reads as reads
@@ -81,7 +81,7 @@ sub-sum c =
     let c16 = c15.before in
     let args = c16.args in
     let P = c16.requires in let l : c11.loop.q < length args.mask.now = omega arith in
-    let s = run-sum args.held.now args.mask.now args.hop.now (λ p. (c15.shared-slice-known.given p).fits) P.1.1.1
+    let s = run_sum args.held.now args.mask.now args.hop.now (λ p. (c15.shared-slice-known.given p).fits) P.1.1.1
     c11.loop.q l c8.wide.result c11.loop.sum c8.wide.ensures c4.count-to.ensures.0 c4.count-to.ensures.1
     c6.if1.true c11.loop.invariant.1.0 in s.0
 
@@ -97,10 +97,10 @@ add-sum c =
     let P = c16.requires in let l : c11.loop.q < length args.mask.now = omega arith in
     omega (
       arith,
-      (run-sum args.held.now args.mask.now args.hop.now (λ p. (c15.shared-slice-known.given p).fits)
+      (run_sum args.held.now args.mask.now args.hop.now (λ p. (c15.shared-slice-known.given p).fits)
           P.1.1.1 c11.loop.q l c8.wide.result c11.loop.sum c8.wide.ensures c4.count-to.ensures.0
           c4.count-to.ensures.1 c6.if1.true c11.loop.invariant.1.0).1,
-      total-both-le args.held.now args.mask.now (64 * c8.wide.result),
+      total_both_le args.held.now args.mask.now (64 * c8.wide.result),
       c8.wide.ensures,
       P.1.1.1.within c11.loop.q l,
     )
@@ -125,7 +125,7 @@ loop-again c =
     let P = c16.requires in let l : c11.loop.q < length args.mask.now = omega arith in (
       omega (arith, c8.wide.ensures, P.1.1.1.within c11.loop.q l),
       (
-        (run-sum args.held.now args.mask.now args.hop.now (λ p. (c15.shared-slice-known.given p).fits) P.1.1.1
+        (run_sum args.held.now args.mask.now args.hop.now (λ p. (c15.shared-slice-known.given p).fits) P.1.1.1
             c11.loop.q l c8.wide.result c11.loop.sum c8.wide.ensures c4.count-to.ensures.0 c4.count-to.ensures.1
             c6.if1.true c11.loop.invariant.1.0).1,
         c4.count-to.ensures.0,
@@ -160,8 +160,8 @@ loop-again-2 c =
           arith,
           c7.loop.invariant.1.0,
           ap ones c.if2.true,
-          none-counted,
-          reach-gap args.held.now args.mask.now args.hop.now (λ p. (c11.shared-slice-known.given p).fits) P.1.1.1
+          none_counted,
+          reach_gap args.held.now args.mask.now args.hop.now (λ p. (c11.shared-slice-known.given p).fits) P.1.1.1
               c7.loop.q l c.before.before.if1.false,
         )),
         c7.loop.invariant.1.1,
@@ -176,7 +176,7 @@ add-sum-2 c =
     let c8 = c.before.before.before.before.before.before.before.before in
     let c13 = c8.before.before.before.before.before in
     let args = c13.args in
-    omega (arith, c.ones-of.ensures.1, c8.loop.invariant.1.0, total-both-le args.held.now args.mask.now (64 * c8.loop.q))
+    omega (arith, c.ones-of.ensures.1, c8.loop.invariant.1.0, total_both_le args.held.now args.mask.now (64 * c8.loop.q))
 
 loop-less-3 : tie.Need-loop-smaller-3 invariant-loop decreases-loop
 loop-less-3 c =
@@ -199,7 +199,7 @@ loop-again-3 c =
         rw c5.wide.ensures (omega (
           arith,
           c.ones-of.ensures.0,
-          reach-gap args.held.now args.mask.now args.hop.now (λ p. (c12.shared-slice-known.given p).fits) P.1.1.1
+          reach_gap args.held.now args.mask.now args.hop.now (λ p. (c12.shared-slice-known.given p).fits) P.1.1.1
               c8.loop.q l c.before.before.before.if1.false,
         )),
         c8.loop.invariant.1.1,

@@ -3,7 +3,7 @@ use Prim.Native.Nat.{◌+◌, ◌-◌, ◌*◌, ◌≤◌}
 use mathlib.Core.Path.{◌≡◌}
 use native.Mathlib.Omega.{arith}
 use lib.ListN.{get_or}
-use Rattle.cells_pairs.specs.PairLaws.{HeldTo, held_none, held_more, held-not, held_all}
+use Rattle.cells_pairs.specs.PairLaws.{HeldTo, held_none, held_more, held_not, held_all}
 use Rattle.cells_pairs.proofs.all_held.Statement.{statement}
 use Rattle.cells_pairs.proofs.all_held.Tie as tie
 use Rattle.cells_pairs.proofs.all_held.Reads as reads
@@ -60,7 +60,7 @@ returns c =
     let c6 = c5.before in
     let args = c6.args in
     let loop = c5.loop in
-    held-not args.held.now args.pairs.now args.a loop.p loop.invariant.0
+    held_not args.held.now args.pairs.now args.a loop.p loop.invariant.0
     (c.before.shared-slice-known3.given (get_or args.pairs.now (2 * loop.p) 0)).fits
     (c.before.before.shared-slice-known2.given (2 * loop.p + 1)).fits args.z (omega arith) c.if1.true
 

@@ -4,10 +4,10 @@ use Prim.Native.Nat.{◌+◌, ◌-◌, ◌*◌, ◌≤◌, ◌<◌}
 use mathlib.Core.Path.{◌≡◌, refl}
 use native.Mathlib.Omega.{arith}
 use lib.ListN.{length, get_or, length-set}
-use Rattle.cells_count.specs.Hops.{countedTo, Counted}
-use Rattle.cells_count.specs.CountsLaws.{counted-last, counted-set}
-use Rattle.cells_pairs.specs.Pairs.{inPairs, Shut}
-use Rattle.cells_pairs.specs.PairLaws.{shut_none, shut-more, counted-not}
+use Rattle.cells_count.specs.Hops.{counted_to, Counted}
+use Rattle.cells_count.specs.CountsLaws.{counted_last, counted_set}
+use Rattle.cells_pairs.specs.Pairs.{in_pairs, Shut}
+use Rattle.cells_pairs.specs.PairLaws.{shut_none, shut_more, counted_not}
 use Rattle.cells_pairs.proofs.close_pairs.Statement.{statement}
 use Rattle.cells_pairs.proofs.close_pairs.Tie as tie
 use Rattle.cells_pairs.proofs.close_pairs.Reads as reads
@@ -15,7 +15,7 @@ use Rattle.cells_pairs.proofs.close_pairs.Lts as lts
 
 abbrev invariant-loop : tie.invariant-loop
 invariant-loop held₀ counts pairs a z p₀ held p = (a ≤ p) × ((p ≤ z) × ((length held ≡ length held₀)
-    × (Shut held₀ (inPairs pairs a (p - a)) held × (Counted held counts × (countedTo held₀ counts ≡ 0)))))
+    × (Shut held₀ (in_pairs pairs a (p - a)) held × (Counted held counts × (counted_to held₀ counts ≡ 0)))))
 
 abbrev decreases-loop : tie.decreases-loop
 decreases-loop held₀ counts pairs a z p₀ held p = z - p
@@ -40,7 +40,7 @@ loop-holds c =
           refl,
           (
             shut_none args.held.now args.pairs.now args.a,
-            (counted-not pre.1.1, counted-last args.held.now args.counts.now 0 pre.1.1.size),
+            (counted_not pre.1.1, counted_last args.held.now args.counts.now 0 pre.1.1.size),
           ),
         ),
       ),
@@ -117,9 +117,9 @@ loop-again c =
         (
           simp length-set s.0,
           (
-            shut-more args.pairs.now loop.held loop.p there (c.shared-slice-known2.given (2 * loop.p + 1)).fits
+            shut_more args.pairs.now loop.held loop.p there (c.shared-slice-known2.given (2 * loop.p + 1)).fits
                 args.held.now args.a loop.invariant.0 s.1.0,
-            (counted-set (get_or args.pairs.now (2 * loop.p) 0) _ s.1.1.0 (rw same (omega (arith, s.1.1.1))), s.1.1.1),
+            (counted_set (get_or args.pairs.now (2 * loop.p) 0) _ s.1.1.0 (rw same (omega (arith, s.1.1.1))), s.1.1.1),
           ),
         ),
       ),

@@ -3,7 +3,7 @@ use Prim.Native.Nat.{◌-◌, ◌≤◌}
 use mathlib.Core.Path.{◌≡◌, refl}
 use native.Mathlib.Omega.{arith}
 use lib.ListN.{length, length-set}
-use Rattle.cells_pairs.specs.CutLaws.{Cutting, cutting-none, cutting-bare, cutting-pair, cutting-on, cutting-all, pair_fits}
+use Rattle.cells_pairs.specs.CutLaws.{Cutting, cutting_none, cutting_bare, cutting_pair, cutting_on, cutting_all, pair_fits}
 use Rattle.cells_pairs.proofs.cut.Statement.{statement}
 use Rattle.cells_pairs.proofs.cut.Tie as tie
 use Rattle.cells_pairs.proofs.cut.Reads as reads
@@ -21,7 +21,7 @@ loop-holds : tie.Need-loop-init invariant-loop decreases-loop
 loop-holds c =
     let c4 = c.before.before.before.before in
     let args = c4.args in
-    (omega arith, (refl, cutting-none args.held.now args.mask.now args.pairs.now args.at))
+    (omega arith, (refl, cutting_none args.held.now args.mask.now args.pairs.now args.at))
 
 mul-x : tie.Need-overflow-mul-x invariant-loop decreases-loop
 mul-x c = omega arith
@@ -87,8 +87,8 @@ loop-again c =
       omega (arith, c.onward.ensures.within, pre.0),
       (
         simp length-set loop.invariant.1.0,
-        cutting-on args.held.now args.mask.now c.onward.result
-            (cutting-pair args.held.now args.mask.now loop.invariant.1.1 fits c.before.if1.true
+        cutting_on args.held.now args.mask.now c.onward.result
+            (cutting_pair args.held.now args.mask.now loop.invariant.1.1 fits c.before.if1.true
             (omega (arith, room, pre.1.1.1.0, loop.invariant.1.0))) c.onward.ensures,
       ),
     )
@@ -111,8 +111,8 @@ loop-again-2 c =
       omega (arith, c.onward2.ensures.within, pre.0),
       (
         loop.invariant.1.0,
-        cutting-on args.held.now args.mask.now c.onward2.result
-            (cutting-bare args.held.now args.mask.now loop.invariant.1.1 c.before.if1.false) c.onward2.ensures,
+        cutting_on args.held.now args.mask.now c.onward2.result
+            (cutting_bare args.held.now args.mask.now loop.invariant.1.1 c.before.if1.false) c.onward2.ensures,
       ),
     )
 
@@ -125,7 +125,7 @@ returns c =
     let args = c6.args in
     let pre = c6.requires in
     let loop = c.before.loop in
-    cutting-all args.held.now args.mask.now loop.invariant.1.1 (omega arith) (omega (arith, pre.1.1.1.0, loop.invariant.1.0))
+    cutting_all args.held.now args.mask.now loop.invariant.1.1 (omega arith) (omega (arith, pre.1.1.1.0, loop.invariant.1.0))
 
 pub cut_spec : {M : Type 1} → statement M
 cut_spec =

@@ -4,10 +4,10 @@ use Rattle.std.specs.Prelude.{Bool, true, cond, List, ℕ, ◌≤◌, length, ge
 use Rattle.cover.specs.Sets.{Found, nothing, cost}
 use Rattle.cover.specs.LeastCover.{without}
 use Rattle.cover.specs.Settled.{spans}
-use Rattle.cover.specs.Intervals.{foundCost, raise, leastSet, coversFrom, Order}
+use Rattle.cover.specs.Intervals.{found_cost, raise, least_set, covers_from, Order}
 
-abbrev pub anyBid : ℕ → Bool
-anyBid i = true
+abbrev pub any_bid : ℕ → Bool
+any_bid i = true
 
 -- a start and an end for each price, and `order` has the bids in order of start
 pub record Bids (a b ps order : List ℕ) : Type 0 where
@@ -16,34 +16,34 @@ pub record Bids (a b ps order : List ℕ) : Type 0 where
   pub sorted : Order (length ps) (λ i. get_or a i 0) (λ q. get_or order q 0)
 
 -- the sets of the bids below n that cover the cells below t
-unfoldable pub coversBelow : List ℕ → List ℕ → ℕ → ℕ → ℕ → Bool
-unfolding coversFrom spans
-coversBelow a b n = coversFrom (λ x. x) 0 (spans a b) n
+unfoldable pub covers_below : List ℕ → List ℕ → ℕ → ℕ → ℕ → Bool
+unfolding covers_from spans
+covers_below a b n = covers_from (λ x. x) 0 (spans a b) n
 
 -- the least of them, and its cost
-unfoldable pub leastBelow : List ℕ → List ℕ → List ℕ → ℕ → Found
-unfolding leastSet coversBelow
-leastBelow a b ps t = leastSet (coversBelow a b (length ps)) (cost ps) (length ps) t
+unfoldable pub least_below : List ℕ → List ℕ → List ℕ → ℕ → Found
+unfolding least_set covers_below
+least_below a b ps t = least_set (covers_below a b (length ps)) (cost ps) (length ps) t
 
-unfoldable pub costBelow : List ℕ → List ℕ → List ℕ → ℕ → Found
-unfolding foundCost leastBelow
-costBelow a b ps t = foundCost (cost ps) (leastBelow a b ps t)
+unfoldable pub cost_below : List ℕ → List ℕ → List ℕ → ℕ → Found
+unfolding found_cost least_below
+cost_below a b ps t = found_cost (cost ps) (least_below a b ps t)
 
 -- the same without bid k
-unfoldable pub othersBelow : ℕ → List ℕ → List ℕ → ℕ → ℕ → ℕ → Bool
-unfolding without coversBelow
-othersBelow k a b n t s = without k (coversBelow a b n t) s
+unfoldable pub others_below : ℕ → List ℕ → List ℕ → ℕ → ℕ → ℕ → Bool
+unfolding without covers_below
+others_below k a b n t s = without k (covers_below a b n t) s
 
-unfoldable pub costWithout : ℕ → List ℕ → List ℕ → List ℕ → ℕ → Found
-unfolding foundCost leastSet othersBelow
-costWithout k a b ps t = foundCost (cost ps) (leastSet (othersBelow k a b (length ps)) (cost ps) (length ps) t)
+unfoldable pub cost_without : ℕ → List ℕ → List ℕ → List ℕ → ℕ → Found
+unfolding found_cost least_set others_below
+cost_without k a b ps t = found_cost (cost ps) (least_set (others_below k a b (length ps)) (cost ps) (length ps) t)
 
 -- bid i and the least cost without bid k before it; nothing for bid k itself
-unfoldable pub endCost : ℕ → List ℕ → List ℕ → List ℕ → ℕ → Found
-unfolding raise costWithout
-endCost k a b ps i = cond (eqb i k) nothing (raise (get_or ps i 0) (costWithout k a b ps (get_or a i 0)))
+unfoldable pub end_cost : ℕ → List ℕ → List ℕ → List ℕ → ℕ → Found
+unfolding raise cost_without
+end_cost k a b ps i = cond (eqb i k) nothing (raise (get_or ps i 0) (cost_without k a b ps (get_or a i 0)))
 
 -- the least cost of the cells from the end of bid i up to L
-unfoldable pub costAfter : List ℕ → List ℕ → List ℕ → ℕ → ℕ → Found
-unfolding foundCost leastSet coversFrom spans
-costAfter a b ps L i = foundCost (cost ps) (leastSet (coversFrom (λ x. x) (get_or b i 0) (spans a b) (length ps)) (cost ps) (length ps) L)
+unfoldable pub cost_after : List ℕ → List ℕ → List ℕ → ℕ → ℕ → Found
+unfolding found_cost least_set covers_from spans
+cost_after a b ps L i = found_cost (cost ps) (least_set (covers_from (λ x. x) (get_or b i 0) (spans a b) (length ps)) (cost ps) (length ps) L)

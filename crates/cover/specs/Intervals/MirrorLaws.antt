@@ -5,26 +5,26 @@ use Rattle.std.proofs.Common.{sym, ap, ◌∙◌, arith, get_or-set_same, get_or
 use Rattle.std.proofs.Math.ListN.{get_or}
 use Rattle.std.proofs.lemmas.Bool.{eqb-false}
 use Rattle.cover.specs.Sets.{Found, cost}
-use Rattle.cover.specs.SetLaws.{hit-of}
+use Rattle.cover.specs.SetLaws.{hit_of}
 use Rattle.cover.specs.Settled.{spans}
-use Rattle.cover.specs.Intervals.{coversFrom, leastSet, foundCost}
-use Rattle.cover.specs.Intervals.ScanLaws.{Family, least-same, right-least}
-use Rattle.cover.specs.Intervals.PrefixLaws.{leastSet-is, leastSet-right}
+use Rattle.cover.specs.Intervals.{covers_from, least_set, found_cost}
+use Rattle.cover.specs.Intervals.ScanLaws.{Family, least_same, right_least}
+use Rattle.cover.specs.Intervals.PrefixLaws.{least_set_is, least_set_right}
 use Rattle.cover.specs.Intervals.CoverLaws.{covers_of, meets_at}
 use Rattle.cover.specs.Intervals.SuffixLaws.{mirrored, turned, suffix}
-use Rattle.cover.specs.Intervals.Bids.{coversBelow, leastBelow, costBelow, costAfter}
+use Rattle.cover.specs.Intervals.Bids.{covers_below, least_below, cost_below, cost_after}
 
 -- x and y are the starts and ends of the bids below n, counted from the end L
 pub record Mirrored (a b x y : List ℕ) (L n : ℕ) : Type 0 where
   pub starts : (i : ℕ) → i < n → get_or x i 0 ≡ L - get_or b i 0
   pub ends : (i : ℕ) → i < n → get_or y i 0 ≡ L - get_or a i 0
 
-pub mirrored-none : (a b x y : List ℕ) (L : ℕ) → Mirrored a b x y L 0
-mirrored-none a b x y L = record { starts = λ i l. absurd (omega arith); ends = λ i l. absurd (omega arith) }
+pub mirrored_none : (a b x y : List ℕ) (L : ℕ) → Mirrored a b x y L 0
+mirrored_none a b x y L = record { starts = λ i l. absurd (omega arith); ends = λ i l. absurd (omega arith) }
 
-pub mirrored-more : (a b x y : List ℕ) (L n : ℕ) → n < length x → n < length y → Mirrored a b x y L n
+pub mirrored_more : (a b x y : List ℕ) (L n : ℕ) → n < length x → n < length y → Mirrored a b x y L n
     → Mirrored a b (set x n (L - get_or b n 0)) (set y n (L - get_or a n 0)) L (n + 1)
-mirrored-more a b x y L n l d h = record {
+mirrored_more a b x y L n l d h = record {
   starts = λ i u. one x (λ j. L - get_or b j 0) l h.starts i u (eqb i n) refl;
   ends = λ i u. one y (λ j. L - get_or a j 0) d h.ends i u (eqb i n) refl;
 }
@@ -36,43 +36,43 @@ mirrored-more a b x y L n l d h = record {
     one z f l g i u false e = get_or-set_other z n i (f n) 0 (eqb-false i n e) ∙ g i (omega (arith, eqb-false i n e))
 
 module _ (a b x y : List ℕ) (L n : ℕ) (h : Mirrored a b x y L n) where
-  far-cells : (i z : ℕ) → i < n → z < L → spans a b i (mirrored L z) ≡ leb (L - get_or b i 0) z && ltb z (L - get_or a i 0)
+  far_cells : (i z : ℕ) → i < n → z < L → spans a b i (mirrored L z) ≡ leb (L - get_or b i 0) z && ltb z (L - get_or a i 0)
   unfolding spans
-  far-cells = turned L (spans a b) n (λ i. get_or a i 0) (λ i. get_or b i 0) (λ i x l k. refl)
+  far_cells = turned L (spans a b) n (λ i. get_or a i 0) (λ i. get_or b i 0) (λ i x l k. refl)
 
-  near-cells : (i z : ℕ) → i < n → z < L → spans x y i z ≡ leb (get_or x i 0) z && ltb z (get_or y i 0)
+  near_cells : (i z : ℕ) → i < n → z < L → spans x y i z ≡ leb (get_or x i 0) z && ltb z (get_or y i 0)
   unfolding spans
-  near-cells i z l k = refl
+  near_cells i z l k = refl
 
-  same-cells : (i z : ℕ) → i < n → z < L → spans x y i z ≡ spans a b i (mirrored L z)
-  same-cells i z l d = near-cells i z l d ∙ rw (h.starts i l, h.ends i l) (sym (far-cells i z l d))
+  same_cells : (i z : ℕ) → i < n → z < L → spans x y i z ≡ spans a b i (mirrored L z)
+  same_cells i z l d = near_cells i z l d ∙ rw (h.starts i l, h.ends i l) (sym (far_cells i z l d))
 
-  to : (t s : ℕ) → t ≤ L → coversFrom (λ z. z) 0 (spans x y) n t s ≡ true
-      → coversFrom (mirrored L) 0 (spans a b) n t s ≡ true
-  to t s f e = covers_of (mirrored L) 0 L (spans a b) n (λ i. L - get_or b i 0) (λ i. L - get_or a i 0) far-cells t s
-      (λ z u g. let m = meets_at (λ z. z) 0 L (spans x y) n (λ i. get_or x i 0) (λ i. get_or y i 0) near-cells t s z e u g in
-      hit-of (spans a b) n s (mirrored L z) m.who m.inside m.in-set
-      (sym (same-cells m.who z m.inside (omega arith)) ∙ m.covers-it))
+  to : (t s : ℕ) → t ≤ L → covers_from (λ z. z) 0 (spans x y) n t s ≡ true
+      → covers_from (mirrored L) 0 (spans a b) n t s ≡ true
+  to t s f e = covers_of (mirrored L) 0 L (spans a b) n (λ i. L - get_or b i 0) (λ i. L - get_or a i 0) far_cells t s
+      (λ z u g. let m = meets_at (λ z. z) 0 L (spans x y) n (λ i. get_or x i 0) (λ i. get_or y i 0) near_cells t s z e u g in
+      hit_of (spans a b) n s (mirrored L z) m.who m.inside m.in_set
+      (sym (same_cells m.who z m.inside (omega arith)) ∙ m.covers_it))
 
-  fro : (t s : ℕ) → t ≤ L → coversFrom (mirrored L) 0 (spans a b) n t s ≡ true
-      → coversFrom (λ z. z) 0 (spans x y) n t s ≡ true
-  fro t s f e = covers_of (λ z. z) 0 L (spans x y) n (λ i. get_or x i 0) (λ i. get_or y i 0) near-cells t s
-      (λ z u g. let m = meets_at (mirrored L) 0 L (spans a b) n (λ i. L - get_or b i 0) (λ i. L - get_or a i 0) far-cells t s z e u g in
-      hit-of (spans x y) n s z m.who m.inside m.in-set (same-cells m.who z m.inside (omega arith) ∙ m.covers-it))
+  fro : (t s : ℕ) → t ≤ L → covers_from (mirrored L) 0 (spans a b) n t s ≡ true
+      → covers_from (λ z. z) 0 (spans x y) n t s ≡ true
+  fro t s f e = covers_of (λ z. z) 0 L (spans x y) n (λ i. get_or x i 0) (λ i. get_or y i 0) near_cells t s
+      (λ z u g. let m = meets_at (mirrored L) 0 L (spans a b) n (λ i. L - get_or b i 0) (λ i. L - get_or a i 0) far_cells t s z e u g in
+      hit_of (spans x y) n s z m.who m.inside m.in_set (same_cells m.who z m.inside (omega arith) ∙ m.covers_it))
 
-  mirrored-least : (f : ℕ → ℕ) (k t : ℕ) → t ≤ L → leastSet (coversFrom (λ z. z) 0 (spans x y) n) f k t
-      ≡ leastSet (coversFrom (mirrored L) 0 (spans a b) n) f k t
-  mirrored-least f k t l = leastSet-is (coversFrom (mirrored L) 0 (spans a b) n) f k t r
-      (least-same (Family (coversFrom (λ z. z) 0 (spans x y) n t) (2 ^ k)) (Family (coversFrom (mirrored L) 0 (spans a b) n t) (2 ^ k)) f
+  mirrored_least : (f : ℕ → ℕ) (k t : ℕ) → t ≤ L → least_set (covers_from (λ z. z) 0 (spans x y) n) f k t
+      ≡ least_set (covers_from (mirrored L) 0 (spans a b) n) f k t
+  mirrored_least f k t l = least_set_is (covers_from (mirrored L) 0 (spans a b) n) f k t r
+      (least_same (Family (covers_from (λ z. z) 0 (spans x y) n t) (2 ^ k)) (Family (covers_from (mirrored L) 0 (spans a b) n t) (2 ^ k)) f
       (λ s q. record { inside = q.inside; good = to t s l q.good }) (λ s q. record { inside = q.inside; good = fro t s l q.good })
-      r (right-least (coversFrom (λ z. z) 0 (spans x y) n t) f (2 ^ k) r (leastSet-right (coversFrom (λ z. z) 0 (spans x y) n) f k t)))
+      r (right_least (covers_from (λ z. z) 0 (spans x y) n t) f (2 ^ k) r (least_set_right (covers_from (λ z. z) 0 (spans x y) n) f k t)))
     where
       r : Found
-      r = leastSet (coversFrom (λ z. z) 0 (spans x y) n) f k t
+      r = least_set (covers_from (λ z. z) 0 (spans x y) n) f k t
 
-pub mirrored-cost : (a b x y ps : List ℕ) (L : ℕ) → Mirrored a b x y L (length ps) → (i : ℕ) → i < length ps
-    → costBelow x y ps (get_or x i 0) ≡ costAfter a b ps L i
-unfolding costBelow leastBelow coversBelow costAfter spans
-mirrored-cost a b x y ps L h i l = rw (h.starts i l) (ap (foundCost (cost ps))
-    (mirrored-least a b x y L (length ps) h (cost ps) (length ps) (L - get_or b i 0) (omega arith)
+pub mirrored_cost : (a b x y ps : List ℕ) (L : ℕ) → Mirrored a b x y L (length ps) → (i : ℕ) → i < length ps
+    → cost_below x y ps (get_or x i 0) ≡ cost_after a b ps L i
+unfolding cost_below least_below covers_below cost_after spans
+mirrored_cost a b x y ps L h i l = rw (h.starts i l) (ap (found_cost (cost ps))
+    (mirrored_least a b x y L (length ps) h (cost ps) (length ps) (L - get_or b i 0) (omega arith)
     ∙ sym (suffix L (spans a b) (length ps) (λ i. get_or a i 0) (λ i. get_or b i 0) (λ i x l k. refl) (cost ps) (length ps) (get_or b i 0))))

@@ -10,13 +10,13 @@ use Rattle.std.proofs.Math.Dec.{leb}
 use borrow.Author.Tests.{ltb-true, ltb-false, leb-true, leb-false, lt-ltb, le-leb}
 use Rattle.cover.specs.Sets.{Found, bit, found, nothing}
 use Rattle.cover.specs.LeastCover.{Wins}
-use Rattle.cover.specs.LeastCoverLaws.{IsFirst, first-right}
+use Rattle.cover.specs.LeastCoverLaws.{IsFirst, first_right}
 use Rattle.cover.specs.SetLaws.{and_split}
-use Rattle.cover.specs.SetMemberLaws.{Removed, add-below, removed}
-use Rattle.cover.specs.Intervals.{At, Order, foundCost, growSet, leastSet, plus, raise, reaches, scan, scanCost}
-use Rattle.cover.specs.Intervals.ScanLaws.{SomeBefore, Family, IsLeast, Picked, cost-scan, found-one, least-of, least-one}
-use Rattle.cover.specs.Intervals.ScanLaws.{least-same}
-use Rattle.cover.specs.Intervals.ScanLaws.{none_found, right-least, scan-least}
+use Rattle.cover.specs.SetMemberLaws.{Removed, add_below, removed}
+use Rattle.cover.specs.Intervals.{At, Order, found_cost, grow_set, least_set, plus, raise, reaches, scan, scan_cost}
+use Rattle.cover.specs.Intervals.ScanLaws.{SomeBefore, Family, IsLeast, Picked, cost_scan, found_one, least_of, least_one}
+use Rattle.cover.specs.Intervals.ScanLaws.{least_same}
+use Rattle.cover.specs.Intervals.ScanLaws.{none_found, right_least, scan_least}
 
 -- a bid of s that has the cell before t
 pub record Last (n : ℕ) (a b : ℕ → ℕ) (may : ℕ → Bool) (t s : ℕ) : Type 0 where
@@ -62,7 +62,7 @@ pub record Candidate (n : ℕ) (a b cost : ℕ → ℕ) (may : ℕ → Bool) (ok
   pub usable : may bid ≡ true
   pub begins : a bid < t
   pub ends : t ≤ b bid
-  pub value : plus bid (leastSet ok cost n (a bid)) ≡ found s
+  pub value : plus bid (least_set ok cost n (a bid)) ≡ found s
 
 -- whoever begins before the bid at position k is at a position below k
 pub ready : (n : ℕ) (a at : ℕ → ℕ) → Order n a at → (k : ℕ) → k < n → (i : ℕ) → i < n → a i < a (at k) → At at k i
@@ -75,14 +75,14 @@ ready n a at o k l i j d = go (o.every i j)
         by true e = ltb-true y.place k e
         by false e = omega (arith, o.sorted k y.place (ltb-false y.place k e) y.inside, ap a y.is)
 
-pub leastSet-right : (ok : ℕ → ℕ → Bool) (cost : ℕ → ℕ) (n t : ℕ) → IsFirst (ok t) cost (2 ^ n) (leastSet ok cost n t)
-unfolding leastSet
-leastSet-right ok cost n t = first-right (ok t) cost (2 ^ n)
+pub least_set_right : (ok : ℕ → ℕ → Bool) (cost : ℕ → ℕ) (n t : ℕ) → IsFirst (ok t) cost (2 ^ n) (least_set ok cost n t)
+unfolding least_set
+least_set_right ok cost n t = first_right (ok t) cost (2 ^ n)
 
-pub leastSet-is : (ok : ℕ → ℕ → Bool) (cost : ℕ → ℕ) (n t : ℕ) (r : Found) → IsLeast (Family (ok t) (2 ^ n)) cost r
-    → r ≡ leastSet ok cost n t
-leastSet-is ok cost n t r h = least-one (Family (ok t) (2 ^ n)) cost r (leastSet ok cost n t) h
-    (right-least (ok t) cost (2 ^ n) (leastSet ok cost n t) (leastSet-right ok cost n t))
+pub least_set_is : (ok : ℕ → ℕ → Bool) (cost : ℕ → ℕ) (n t : ℕ) (r : Found) → IsLeast (Family (ok t) (2 ^ n)) cost r
+    → r ≡ least_set ok cost n t
+least_set_is ok cost n t r h = least_one (Family (ok t) (2 ^ n)) cost r (least_set ok cost n t) h
+    (right_least (ok t) cost (2 ^ n) (least_set ok cost n t) (least_set_right ok cost n t))
 
 module _ (n o L : ℕ) (a b p cost : ℕ → ℕ) (may : ℕ → Bool) (ok : ℕ → ℕ → Bool) (h : Prefixes n o L a b may ok)
     (c : AddsUp n p cost) where
@@ -112,13 +112,13 @@ module _ (n o L : ℕ) (a b p cost : ℕ → ℕ) (may : ℕ → Bool) (ok : ℕ
 
   pub upper : (t i m : ℕ) → t ≤ L → i < n → may i ≡ true → a i < t → t ≤ b i → Wins (ok (a i)) cost (2 ^ n) m
       → Family (ok t) (2 ^ n) (m + 2 ^ i)
-  upper t i m f l u x y w = record { inside = add-below n i m l k w.inside; good = h.add t m i f l u k x y w.good }
+  upper t i m f l u x y w = record { inside = add_below n i m l k w.inside; good = h.add t m i f l u k x y w.good }
     where
       k : bit m i ≡ false
       k = lacks (a i) i m l (λ x z g d e. omega arith) (omega arith) w
 
-  pub upper-cost : (i m : ℕ) → i < n → a i ≤ L → Wins (ok (a i)) cost (2 ^ n) m → cost (m + 2 ^ i) ≡ cost m + p i
-  upper-cost i m l f w = c.join i m l (lacks (a i) i m l (λ x z g d e. omega arith) f w)
+  pub upper_cost : (i m : ℕ) → i < n → a i ≤ L → Wins (ok (a i)) cost (2 ^ n) m → cost (m + 2 ^ i) ≡ cost m + p i
+  upper_cost i m l f w = c.join i m l (lacks (a i) i m l (λ x z g d e. omega arith) f w)
 
   pub last_of : (t s : ℕ) → o < t → t ≤ L → Family (ok t) (2 ^ n) s → LastOf n a b p cost may ok t s
   last_of t s z f q = go (h.last t s z f q.good)
@@ -144,19 +144,19 @@ module _ (n o L : ℕ) (a b p cost : ℕ → ℕ) (may : ℕ → Bool) (ok : ℕ
             price = ap cost d.sum ∙ c.join x.bid d.rest x.inside d.lacks;
           }
 
-  cand-in : (t s : ℕ) → t ≤ L → Candidate n a b cost may ok t s → Family (ok t) (2 ^ n) s
+  cand_in : (t s : ℕ) → t ≤ L → Candidate n a b cost may ok t s → Family (ok t) (2 ^ n) s
   unfolding plus
-  cand-in t s f x = go (leastSet ok cost n (a x.bid)) x.value (leastSet-right ok cost n (a x.bid))
+  cand_in t s f x = go (least_set ok cost n (a x.bid)) x.value (least_set_right ok cost n (a x.bid))
     where
       go : (r : Found) → plus x.bid r ≡ found s → IsFirst (ok (a x.bid)) cost (2 ^ n) r → Family (ok t) (2 ^ n) s
       go nothing e w = absurd (none_found e)
-      go (found m) e w = rw (← found-one e) (upper t x.bid m f x.inside x.usable x.begins x.ends w)
+      go (found m) e w = rw (← found_one e) (upper t x.bid m f x.inside x.usable x.begins x.ends w)
 
-  cand-before : (t s : ℕ) → t ≤ L → LastOf n a b p cost may ok t s → SomeBefore (Candidate n a b cost may ok t) cost s
+  cand_before : (t s : ℕ) → t ≤ L → LastOf n a b p cost may ok t s → SomeBefore (Candidate n a b cost may ok t) cost s
   unfolding plus
-  cand-before t s f x = go (leastSet ok cost n (a x.bid)) refl (leastSet-right ok cost n (a x.bid))
+  cand_before t s f x = go (least_set ok cost n (a x.bid)) refl (least_set_right ok cost n (a x.bid))
     where
-      go : (r : Found) → leastSet ok cost n (a x.bid) ≡ r → IsFirst (ok (a x.bid)) cost (2 ^ n) r
+      go : (r : Found) → least_set ok cost n (a x.bid) ≡ r → IsFirst (ok (a x.bid)) cost (2 ^ n) r
           → SomeBefore (Candidate n a b cost may ok t) cost s
       go nothing e w = absurd (w x.rest x.covers.inside x.covers.good)
       go (found m) e w = record {
@@ -169,18 +169,18 @@ module _ (n o L : ℕ) (a b p cost : ℕ → ℕ) (may : ℕ → Bool) (ok : ℕ
       }
         where
           paid : cost (m + 2 ^ x.bid) ≡ cost m + p x.bid
-          paid = upper-cost x.bid m x.inside (omega arith) w
+          paid = upper_cost x.bid m x.inside (omega arith) w
 
           dear : cost m ≤ cost x.rest
           dear = w.least x.rest x.covers.inside x.covers.good
 
   -- THE PREFIX LAW
-  pub prefix : (t : ℕ) (r : Found) → o < t → t ≤ L → IsLeast (Candidate n a b cost may ok t) cost r → r ≡ leastSet ok cost n t
-  prefix t r z f g = leastSet-is ok cost n t r (least-of (Candidate n a b cost may ok t) (Family (ok t) (2 ^ n)) cost (λ s. cand-in t s f)
-      (λ s q. cand-before t s f (last_of t s z f q)) r g)
+  pub prefix : (t : ℕ) (r : Found) → o < t → t ≤ L → IsLeast (Candidate n a b cost may ok t) cost r → r ≡ least_set ok cost n t
+  prefix t r z f g = least_set_is ok cost n t r (least_of (Candidate n a b cost may ok t) (Family (ok t) (2 ^ n)) cost (λ s. cand_in t s f)
+      (λ s q. cand_before t s f (last_of t s z f q)) r g)
 
-  pub start : (t : ℕ) → t ≤ o → leastSet ok cost n t ≡ found 0
-  start t l = sym (leastSet-is ok cost n t (found 0) (record {
+  pub start : (t : ℕ) → t ≤ o → least_set ok cost n t ≡ found 0
+  start t l = sym (least_set_is ok cost n t (found 0) (record {
     good = record { inside = one-le-pow n 2 (omega arith); good = h.none t l };
     fore = λ s q. record { cheap = omega (arith, c.empty); early = λ e. omega arith };
   }))
@@ -189,7 +189,7 @@ module _ (n o L : ℕ) (a b p cost : ℕ → ℕ) (may : ℕ → Bool) (ok : ℕ
   module _ (at : ℕ → ℕ) (v : ℕ → Found) (k t : ℕ) (z : o < t) (f : t ≤ L)
       (bids : (q : ℕ) → q < k → at q < n)
       (every : (i : ℕ) → i < n → a i < t → t ≤ b i → At at k i)
-      (values : (q : ℕ) → q < k → a (at q) < t → v q ≡ plus (at q) (leastSet ok cost n (a (at q)))) where
+      (values : (q : ℕ) → q < k → a (at q) < t → v q ≡ plus (at q) (least_set ok cost n (a (at q)))) where
     cand : (s : ℕ) → Picked (reaches a b may at t) v k s → Candidate n a b cost may ok t s
     unfolding reaches
     cand s q = go (and_split (may (at q.at)) _ q.passes)
@@ -219,37 +219,37 @@ module _ (n o L : ℕ) (a b p cost : ℕ → ℕ) (may : ℕ → Bool) (ok : ℕ
           value = values y.place y.inside (rw y.is x.begins) ∙ rw y.is x.value;
         }
 
-    pub scanned : (r : Found) → IsLeast (Picked (reaches a b may at t) v k) cost r → r ≡ leastSet ok cost n t
-    scanned r g = prefix t r z f (least-same (Picked (reaches a b may at t) v k) (Candidate n a b cost may ok t) cost cand picked r g)
+    pub scanned : (r : Found) → IsLeast (Picked (reaches a b may at t) v k) cost r → r ≡ least_set ok cost n t
+    scanned r g = prefix t r z f (least_same (Picked (reaches a b may at t) v k) (Candidate n a b cost may ok t) cost cand picked r g)
 
-    pub scan-leastSet : scan cost (reaches a b may at t) v k ≡ leastSet ok cost n t
-    scan-leastSet = scanned (scan cost (reaches a b may at t) v k) (scan-least cost (reaches a b may at t) v k)
+    pub scan_least_set : scan cost (reaches a b may at t) v k ≡ least_set ok cost n t
+    scan_least_set = scanned (scan cost (reaches a b may at t) v k) (scan_least cost (reaches a b may at t) v k)
 
-  pub cost-plus : (i : ℕ) → i < n → a i ≤ L → foundCost cost (plus i (leastSet ok cost n (a i)))
-      ≡ raise (p i) (foundCost cost (leastSet ok cost n (a i)))
-  unfolding foundCost plus raise
-  cost-plus i l f = go (leastSet ok cost n (a i)) (leastSet-right ok cost n (a i))
+  pub cost_plus : (i : ℕ) → i < n → a i ≤ L → found_cost cost (plus i (least_set ok cost n (a i)))
+      ≡ raise (p i) (found_cost cost (least_set ok cost n (a i)))
+  unfolding found_cost plus raise
+  cost_plus i l f = go (least_set ok cost n (a i)) (least_set_right ok cost n (a i))
     where
-      go : (r : Found) → IsFirst (ok (a i)) cost (2 ^ n) r → foundCost cost (plus i r) ≡ raise (p i) (foundCost cost r)
+      go : (r : Found) → IsFirst (ok (a i)) cost (2 ^ n) r → found_cost cost (plus i r) ≡ raise (p i) (found_cost cost r)
       go nothing w = refl
-      go (found m) w = ap found (upper-cost i m l f w)
+      go (found m) w = ap found (upper_cost i m l f w)
 
   -- costs alone, at the positions below k
-  pub scan-cost : (at : ℕ → ℕ) (w : ℕ → Found) (k t : ℕ) → o < t → t ≤ L
+  pub scan_cost_lem : (at : ℕ → ℕ) (w : ℕ → Found) (k t : ℕ) → o < t → t ≤ L
       → ((q : ℕ) → q < k → at q < n)
       → ((i : ℕ) → i < n → a i < t → t ≤ b i → At at k i)
-      → ((q : ℕ) → q < k → a (at q) < t → w q ≡ raise (p (at q)) (foundCost cost (leastSet ok cost n (a (at q)))))
-      → scanCost (reaches a b may at t) w k ≡ foundCost cost (leastSet ok cost n t)
+      → ((q : ℕ) → q < k → a (at q) < t → w q ≡ raise (p (at q)) (found_cost cost (least_set ok cost n (a (at q)))))
+      → scan_cost (reaches a b may at t) w k ≡ found_cost cost (least_set ok cost n t)
   unfolding reaches
-  scan-cost at w k t z f bids every values =
-      sym (cost-scan cost (reaches a b may at t) v w k same)
-      ∙ ap (foundCost cost) (scan-leastSet at v k t z f bids every (λ q l d. refl))
+  scan_cost_lem at w k t z f bids every values =
+      sym (cost_scan cost (reaches a b may at t) v w k same)
+      ∙ ap (found_cost cost) (scan_least_set at v k t z f bids every (λ q l d. refl))
     where
       v : ℕ → Found
-      v q = plus (at q) (leastSet ok cost n (a (at q)))
+      v q = plus (at q) (least_set ok cost n (a (at q)))
 
-      same : (q : ℕ) → q < k → reaches a b may at t q ≡ true → w q ≡ foundCost cost (v q)
-      same q l e = values q l before ∙ sym (cost-plus (at q) (bids q l) (omega (arith, before)))
+      same : (q : ℕ) → q < k → reaches a b may at t q ≡ true → w q ≡ found_cost cost (v q)
+      same q l e = values q l before ∙ sym (cost_plus (at q) (bids q l) (omega (arith, before)))
         where
           before : a (at q) < t
           before = ltb-true (a (at q)) t (and_split (ltb (a (at q)) t) (leb t (b (at q))) (and_split (may (at q)) _ e).1).0
@@ -257,18 +257,18 @@ module _ (n o L : ℕ) (a b p cost : ℕ → ℕ) (may : ℕ → Bool) (ok : ℕ
   -- THE RECURRENCE, the bids in order of start
   module _ (at : ℕ → ℕ) (r : Order n a at) where
     pub grown : (v : ℕ → Found) (k : ℕ) → k < n → a (at k) ≤ L
-        → ((q : ℕ) → q < k → a (at q) < L → v q ≡ plus (at q) (leastSet ok cost n (a (at q))))
-        → growSet o a b cost may at v k ≡ plus (at k) (leastSet ok cost n (a (at k)))
-    unfolding growSet
+        → ((q : ℕ) → q < k → a (at q) < L → v q ≡ plus (at q) (least_set ok cost n (a (at q))))
+        → grow_set o a b cost may at v k ≡ plus (at k) (least_set ok cost n (a (at k)))
+    unfolding grow_set
     grown v k l f values = ap (plus (at k)) (go (leb (a (at k)) o) refl)
       where
         go : (t : Bool) → leb (a (at k)) o ≡ t → cond t (found 0) (scan cost (reaches a b may at (a (at k))) v k)
-            ≡ leastSet ok cost n (a (at k))
+            ≡ least_set ok cost n (a (at k))
         go true e = sym (start (a (at k)) (leb-true (a (at k)) o e))
-        go false e = scan-leastSet at v k (a (at k)) (leb-false (a (at k)) o e) f (λ q d. r.bids q (omega arith))
+        go false e = scan_least_set at v k (a (at k)) (leb-false (a (at k)) o e) f (λ q d. r.bids q (omega arith))
             (λ i d g u. ready n a at r k l i d (omega arith)) (λ q d g. values q d (omega arith))
 
     pub award : (v : ℕ → Found) → o < L → ((q : ℕ) → q < n → a (at q) < L
-        → v q ≡ plus (at q) (leastSet ok cost n (a (at q))))
-        → scan cost (reaches a b may at L) v n ≡ leastSet ok cost n L
-    award v z values = scan-leastSet at v n L z (omega arith) r.bids (λ i d g u. r.every i d) values
+        → v q ≡ plus (at q) (least_set ok cost n (a (at q))))
+        → scan cost (reaches a b may at L) v n ≡ least_set ok cost n L
+    award v z values = scan_least_set at v n L z (omega arith) r.bids (λ i d g u. r.every i d) values

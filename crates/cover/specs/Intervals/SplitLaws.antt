@@ -11,13 +11,13 @@ use Rattle.cover.specs.Sets.{Found, bit, found, nothing}
 use Rattle.cover.specs.LeastCover.{without}
 use Rattle.cover.specs.LeastCoverLaws.{IsFirst}
 use Rattle.cover.specs.SetLaws.{and_split}
-use Rattle.cover.specs.SetMemberLaws.{Removed, add-below, removed}
-use Rattle.cover.specs.Intervals.{At, across, foundCost, leastSet, reaches, scanCost}
-use Rattle.cover.specs.Intervals.ScanLaws.{Costs, Family, IsLeast, Picked, Under, found-one, min-cost, min-one, none_found}
-use Rattle.cover.specs.Intervals.ScanLaws.{right-least}
-use Rattle.cover.specs.Intervals.ScanLaws.{scan-min}
-use Rattle.cover.specs.Intervals.CoverLaws.{and-not-split}
-use Rattle.cover.specs.Intervals.PrefixLaws.{LastOf, Prefixes, AddsUp, lacks, last_of, leastSet-is, leastSet-right}
+use Rattle.cover.specs.SetMemberLaws.{Removed, add_below, removed}
+use Rattle.cover.specs.Intervals.{At, across, found_cost, least_set, reaches, scan_cost}
+use Rattle.cover.specs.Intervals.ScanLaws.{Costs, Family, IsLeast, Picked, Under, found_one, min_cost, min_one, none_found}
+use Rattle.cover.specs.Intervals.ScanLaws.{right_least}
+use Rattle.cover.specs.Intervals.ScanLaws.{scan_min}
+use Rattle.cover.specs.Intervals.CoverLaws.{and_not_split}
+use Rattle.cover.specs.Intervals.PrefixLaws.{LastOf, Prefixes, AddsUp, lacks, last_of, least_set_is, least_set_right}
 
 -- a set of the family `ok` that costs no more than e
 pub record Cheap (n : ℕ) (cost : ℕ → ℕ) (ok : ℕ → Bool) (e : ℕ) : Type 0 where
@@ -46,7 +46,7 @@ module _ (n o L : ℕ) (a b p cost : ℕ → ℕ) (may : ℕ → Bool) (ok : ℕ
       go true e = by (removed i m e)
       go false e = record {
         set = m + 2 ^ i;
-        good = record { inside = add-below n i m l e w.inside; good = h.add t m i f l u e x y w.good };
+        good = record { inside = add_below n i m l e w.inside; good = h.add t m i f l u e x y w.good };
         cheap = omega (arith, c.join i m l e);
       }
 
@@ -155,11 +155,11 @@ module _ (n L : ℕ) (a b p cost : ℕ → ℕ) (may : ℕ → Bool) (ok : ℕ �
       (bids : (q : ℕ) → q < k → at q < n)
       (every : (i : ℕ) → i < n → a i < t → t ≤ b i → At at k i)
       (values : (q : ℕ) → q < k → a (at q) < t → t ≤ b (at q)
-      → w q ≡ across (p (at q)) (foundCost cost (leastSet (ok o) cost n (a (at q))))
-      (foundCost cost (leastSet (ok (b (at q))) cost n L)))
+      → w q ≡ across (p (at q)) (found_cost cost (least_set (ok o) cost n (a (at q))))
+      (found_cost cost (least_set (ok (b (at q))) cost n L)))
     where
       over : (x : ℕ) → Picked (reaches a b may at t) w k x → Under (Costs (Family (ok o L) (2 ^ n)) cost) x
-      unfolding reaches across foundCost
+      unfolding reaches across found_cost
       over x q = go (and_split (may (at q.at)) _ q.passes)
         where
           go : (may (at q.at) ≡ true) × (ltb (a (at q.at)) t && leb t (b (at q.at)) ≡ true)
@@ -167,8 +167,8 @@ module _ (n L : ℕ) (a b p cost : ℕ → ℕ) (may : ℕ → Bool) (ok : ℕ �
           go u = by (and_split (ltb (a (at q.at)) t) (leb t (b (at q.at))) u.1)
             where
               by : (ltb (a (at q.at)) t ≡ true) × (leb t (b (at q.at)) ≡ true) → Under (Costs (Family (ok o L) (2 ^ n)) cost) x
-              by d = to (leastSet (ok o) cost n (a (at q.at))) (leastSet (ok (b (at q.at))) cost n L)
-                  (leastSet-right (ok o) cost n (a (at q.at))) (leastSet-right (ok (b (at q.at))) cost n L)
+              by d = to (least_set (ok o) cost n (a (at q.at))) (least_set (ok (b (at q.at))) cost n L)
+                  (least_set_right (ok o) cost n (a (at q.at))) (least_set_right (ok (b (at q.at))) cost n L)
                   (sym (values q.at q.inside begins ends) ∙ q.value)
                 where
                   begins : a (at q.at) < t
@@ -178,7 +178,7 @@ module _ (n L : ℕ) (a b p cost : ℕ → ℕ) (may : ℕ → Bool) (ok : ℕ �
                   ends = leb-true t (b (at q.at)) d.1
 
                   to : (r s : Found) → IsFirst (ok o (a (at q.at))) cost (2 ^ n) r → IsFirst (ok (b (at q.at)) L) cost (2 ^ n) s
-                      → across (p (at q.at)) (foundCost cost r) (foundCost cost s) ≡ found x
+                      → across (p (at q.at)) (found_cost cost r) (found_cost cost s) ≡ found x
                       → Under (Costs (Family (ok o L) (2 ^ n)) cost) x
                   to nothing s g h e = absurd (none_found e)
                   to (found m) nothing g h e = absurd (none_found e)
@@ -189,20 +189,20 @@ module _ (n L : ℕ) (a b p cost : ℕ → ℕ) (may : ℕ → Bool) (ok : ℕ �
                       record {
                         one = cost y.set;
                         good = record { set = y.set; good = y.good; is = refl };
-                        under = omega (arith, found-one e);
+                        under = omega (arith, found_one e);
                       }
 
       under : (x : ℕ) → Costs (Family (ok o L) (2 ^ n)) cost x → Under (Picked (reaches a b may at t) w k) x
-      unfolding reaches across foundCost
+      unfolding reaches across found_cost
       under x q = go (cut (suc L) o t L q.set (omega arith) z f (omega arith) q.good)
         where
           go : Cross n o a b p cost may ok t L q.set → Under (Picked (reaches a b may at t) w k) x
-          go y = to (every y.bid y.inside y.begins y.ends) (leastSet (ok o) cost n (a y.bid))
-              (leastSet (ok (b y.bid)) cost n L) refl refl (leastSet-right (ok o) cost n (a y.bid))
-              (leastSet-right (ok (b y.bid)) cost n L)
+          go y = to (every y.bid y.inside y.begins y.ends) (least_set (ok o) cost n (a y.bid))
+              (least_set (ok (b y.bid)) cost n L) refl refl (least_set_right (ok o) cost n (a y.bid))
+              (least_set_right (ok (b y.bid)) cost n L)
             where
-              to : At at k y.bid → (r s : Found) → leastSet (ok o) cost n (a y.bid) ≡ r
-                  → leastSet (ok (b y.bid)) cost n L ≡ s
+              to : At at k y.bid → (r s : Found) → least_set (ok o) cost n (a y.bid) ≡ r
+                  → least_set (ok (b y.bid)) cost n L ≡ s
                   → IsFirst (ok o (a y.bid)) cost (2 ^ n) r → IsFirst (ok (b y.bid) L) cost (2 ^ n) s
                   → Under (Picked (reaches a b may at t) w k) x
               to v nothing s d e g h = absurd (g y.before y.early.inside y.early.good)
@@ -222,25 +222,25 @@ module _ (n L : ℕ) (a b p cost : ℕ → ℕ) (may : ℕ → Bool) (ok : ℕ �
                 );
               }
 
-      pub split-cost : scanCost (reaches a b may at t) w k ≡ foundCost cost (leastSet (ok o) cost n L)
-      split-cost = min-one (Picked (reaches a b may at t) w k) (Costs (Family (ok o L) (2 ^ n)) cost) over under
-          (scanCost (reaches a b may at t) w k) (foundCost cost (leastSet (ok o) cost n L))
-          (scan-min (reaches a b may at t) w k) (min-cost (Family (ok o L) (2 ^ n)) cost (leastSet (ok o) cost n L)
-          (right-least (ok o L) cost (2 ^ n) (leastSet (ok o) cost n L) (leastSet-right (ok o) cost n L)))
+      pub split_cost : scan_cost (reaches a b may at t) w k ≡ found_cost cost (least_set (ok o) cost n L)
+      split_cost = min_one (Picked (reaches a b may at t) w k) (Costs (Family (ok o L) (2 ^ n)) cost) over under
+          (scan_cost (reaches a b may at t) w k) (found_cost cost (least_set (ok o) cost n L))
+          (scan_min (reaches a b may at t) w k) (min_cost (Family (ok o L) (2 ^ n)) cost (least_set (ok o) cost n L)
+          (right_least (ok o L) cost (2 ^ n) (least_set (ok o) cost n L) (least_set_right (ok o) cost n L)))
 
 -- what bid k has no cell of is as well covered without it
 module _ (n o L : ℕ) (a b p cost : ℕ → ℕ) (may : ℕ → Bool) (ok : ℕ → ℕ → Bool) (h : Prefixes n o L a b may ok)
     (c : AddsUp n p cost) where
   pub unneeded : (k u : ℕ) → k < n → u ≤ L → ((x : ℕ) → o ≤ x → x < u → a k ≤ x → x < b k → ⊥)
-      → leastSet (λ t s. without k (ok t) s) cost n u ≡ leastSet ok cost n u
+      → least_set (λ t s. without k (ok t) s) cost n u ≡ least_set ok cost n u
   unfolding without
-  unneeded k u l f d = sym (leastSet-is (λ t s. without k (ok t) s) cost n u (leastSet ok cost n u)
-      (go (leastSet ok cost n u) (leastSet-right ok cost n u)))
+  unneeded k u l f d = sym (least_set_is (λ t s. without k (ok t) s) cost n u (least_set ok cost n u)
+      (go (least_set ok cost n u) (least_set_right ok cost n u)))
     where
       go : (r : Found) → IsFirst (ok u) cost (2 ^ n) r → IsLeast (Family (λ s. without k (ok u) s) (2 ^ n)) cost r
-      go nothing w = λ s q. w s q.inside (and-not-split (ok u s) (bit s k) q.good).0
+      go nothing w = λ s q. w s q.inside (and_not_split (ok u s) (bit s k) q.good).0
       go (found m) w = record {
         good = record { inside = w.inside; good = rw (w.good, lacks n o L a b p cost may ok h c u k m l d f w) };
-        fore = λ s q. let g = (and-not-split (ok u s) (bit s k) q.good).0 in
+        fore = λ s q. let g = (and_not_split (ok u s) (bit s k) q.good).0 in
             record { cheap = w.least s q.inside g; early = λ e. w.earliest s q.inside g (sym e) };
       }

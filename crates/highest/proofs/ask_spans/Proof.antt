@@ -3,9 +3,9 @@ use mathlib.Core.Path.{sym, ◌∙◌}
 use native.Mathlib.Omega.{arith}
 use Rattle.tender.specs.declared.Kind.TheVariants.{Single}
 use Rattle.award_thin.specs.declared.Thin.TheVariants.{Enough}
-use Rattle.award_layout.specs.LayoutLaws.{orderly, cells-within}
-use Rattle.award_laid.specs.EntryLaws.{laid-prices}
-use Rattle.highest.specs.AskingLaws.{row_here, row-missing, small-sum, spared, spans-missing, spans-price}
+use Rattle.award_layout.specs.LayoutLaws.{orderly, cells_within}
+use Rattle.award_laid.specs.EntryLaws.{laid_prices}
+use Rattle.highest.specs.AskingLaws.{row_here, row_missing, small_sum, spared, spans_missing, spans_price}
 use borrow.Author.Rules.{rules}
 use Rattle.highest.proofs.ask_spans.Statement.{statement}
 use Rattle.highest.proofs.ask_spans.Tie as tie
@@ -24,18 +24,18 @@ row-with-requires c κs =
 cells-requires : tie.Need-cells-requires
 cells-requires c κs =
     let c8 = c.before.before.before.before.before.before.before.before in
-    let A = c8.args in (cells-within Single A.tender A.count A.bids.now A.windows.now c8.requires.sound).0
+    let A = c8.args in (cells_within Single A.tender A.count A.bids.now A.windows.now c8.requires.sound).0
 
 below-requires : tie.Need-below-requires
 below-requires c κs =
     let c10 = c.before.before.before.before.before.before.before.before.before.before in
     let A = c10.args in let P = c10.requires in
-    let n = cells-within Single A.tender A.count A.bids.now A.windows.now P.sound in
-    let p = laid-prices A.tender A.count A.bids.now A.windows.now _ _ _ _ Enough P.sound P.laid in (
+    let n = cells_within Single A.tender A.count A.bids.now A.windows.now P.sound in
+    let p = laid_prices A.tender A.count A.bids.now A.windows.now _ _ _ _ Enough P.sound P.laid in (
       (
         p.count,
-        P.start-count ∙ sym P.price-count,
-        P.end-count ∙ sym P.price-count,
+        P.start_count ∙ sym P.price_count,
+        P.end_count ∙ sym P.price_count,
         omega (arith, n, c.before.cells.ensures),
         omega (arith, n, c.before.cells.ensures),
       ),
@@ -43,8 +43,8 @@ below-requires c κs =
         (λ j m. rw c.before.cells.ensures (P.laid.ordered j, P.laid.inside j)),
         (
           (
-            small-sum A.tender A.count A.bids.now A.windows.now _ _ _ _ P,
-            omega (arith, c.before.before.if1.true, P.price-count),
+            small_sum A.tender A.count A.bids.now A.windows.now _ _ _ _ P,
+            omega (arith, c.before.before.if1.true, P.price_count),
           ),
           (
             (P.room, P.laid.in_order),
@@ -67,15 +67,15 @@ returns c =
     let c7 = c6.before in
     let c14 = c7.before.before.before.before.before.before.before in
     let A = c14.args in
-    c.told.ensures ∙ spans-price A.tender A.count A.bids.now A.windows.now _ _ _ _ c14.requires A.bidder _ _
+    c.told.ensures ∙ spans_price A.tender A.count A.bids.now A.windows.now _ _ _ _ c14.requires A.bidder _ _
     (row_here A.bids.now A.count A.bidder _ c7.row-with.ensures c6.if1.true) (rw c5.cells.ensures at c.before.before.before.below.ensures.0)
 
 returns-2 : tie.Need-returns-2
 returns-2 c =
     let c8 = c.before.before.before.before.before.before.before.before in
     let A = c8.args in
-    spans-missing A.tender A.count A.bids.now A.windows.now _ _ _ _ c8.requires A.bidder
-    (row-missing A.bids.now A.count A.bidder _ c.before.row-with.ensures c.if1.false)
+    spans_missing A.tender A.count A.bids.now A.windows.now _ _ _ _ c8.requires A.bidder
+    (row_missing A.bids.now A.count A.bidder _ c.before.row-with.ensures c.if1.false)
 
 pub ask-spans-spec : {M : Type 1} → statement M
 ask-spans-spec =

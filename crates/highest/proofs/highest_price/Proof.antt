@@ -1,7 +1,7 @@
 -- `highest::highest_price` meets its contract: tables with a fault are refused as an award refuses them, the others asked.
 -- Assumes nothing.
 use mathlib.Core.Path.{sym, ap, ◌∙◌}
-use Rattle.award_fault.specs.Checks.{checkedFault}
+use Rattle.award_fault.specs.Checks.{checked_fault}
 use Rattle.highest_rule.specs.AnswerLaws.{nine}
 use borrow.Author.Rules.{rules}
 use Rattle.highest.proofs.highest_price.Statement.{statement}
@@ -18,7 +18,7 @@ enum_told : tie.Need-enum-told
 enum_told c = search rules
 
 highest-sound-requires : tie.Need-highest-sound-requires
-highest-sound-requires c κs = sym c.before.before.fault.ensures ∙ ap checkedFault c.enum_told.given.1
+highest-sound-requires c κs = sym c.before.before.fault.ensures ∙ ap checked_fault c.enum_told.given.1
 
 enum-known-row : tie.Need-enum-known-row
 enum-known-row c = search rules
@@ -30,7 +30,7 @@ returns-2 : tie.Need-returns-2
 returns-2 c =
     let c6 = c.before.before.before.before.before.before in
     let A = c6.args in nine A.tender A.count A.bids.now A.windows.now A.bidder _
-    (sym c.before.before.before.fault.ensures ∙ ap checkedFault c.before.row.given.1)
+    (sym c.before.before.before.fault.ensures ∙ ap checked_fault c.before.row.given.1)
 
 pub highest-price-spec : {M : Type 1} → statement M
 highest-price-spec =

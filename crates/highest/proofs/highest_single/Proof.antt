@@ -2,9 +2,9 @@
 use mathlib.Core.Path.{sym}
 use native.Mathlib.Omega.{arith}
 use Rattle.tender.specs.declared.Kind.TheVariants.{Single}
-use Rattle.tender.specs.Limits.{maxEntries}
+use Rattle.tender.specs.Limits.{max_entries}
 use Rattle.award_layout.specs.LayoutLaws.{orderly}
-use Rattle.award_laid.specs.EntryLaws.{entries-few, prefix-length}
+use Rattle.award_laid.specs.EntryLaws.{entries_few, prefix_length}
 use borrow.Author.Rules.{rules}
 use Rattle.highest.proofs.highest_single.Statement.{statement}
 use Rattle.highest.proofs.highest_single.Tie as tie
@@ -18,37 +18,37 @@ entries-requires c κs = let A = c.before.before.args in (orderly Single A.tende
 
 array-borrow-prefix-prices : tie.Need-array-borrow-prefix-prices
 array-borrow-prefix-prices c = let A = c.before.before.before.args in
-    omega (arith, c.entries.ensures, entries-few Single A.tender A.count A.bids.now A.windows.now c.before.before.before.requires)
+    omega (arith, c.entries.ensures, entries_few Single A.tender A.count A.bids.now A.windows.now c.before.before.before.requires)
 
 slice-aggregate-single-in : tie.Need-slice-aggregate-single-in
 slice-aggregate-single-in c =
     let c4 = c.before.before.before.before in
-    let A = c4.args in sym (prefix-length c.before.entries.result maxEntries
-    (omega (arith, c.before.entries.ensures, entries-few Single A.tender A.count A.bids.now A.windows.now c4.requires)))
+    let A = c4.args in sym (prefix_length c.before.entries.result max_entries
+    (omega (arith, c.before.entries.ensures, entries_few Single A.tender A.count A.bids.now A.windows.now c4.requires)))
 
 array-borrow-prefix-starts : tie.Need-array-borrow-prefix-starts
 array-borrow-prefix-starts c =
     let c4 = c.before.before.before.before in
     let A = c4.args in
-    omega (arith, c.before.entries.ensures, entries-few Single A.tender A.count A.bids.now A.windows.now c4.requires)
+    omega (arith, c.before.entries.ensures, entries_few Single A.tender A.count A.bids.now A.windows.now c4.requires)
 
 slice-aggregate-single-in-2 : tie.Need-slice-aggregate-single-in-2
 slice-aggregate-single-in-2 c =
     let c5 = c.before.before.before.before.before in
-    let A = c5.args in sym (prefix-length c.before.before.entries.result maxEntries
-    (omega (arith, c.before.before.entries.ensures, entries-few Single A.tender A.count A.bids.now A.windows.now c5.requires)))
+    let A = c5.args in sym (prefix_length c.before.before.entries.result max_entries
+    (omega (arith, c.before.before.entries.ensures, entries_few Single A.tender A.count A.bids.now A.windows.now c5.requires)))
 
 array-borrow-prefix-ends : tie.Need-array-borrow-prefix-ends
 array-borrow-prefix-ends c =
     let c5 = c.before.before.before.before.before in
     let A = c5.args in
-    omega (arith, c.before.before.entries.ensures, entries-few Single A.tender A.count A.bids.now A.windows.now c5.requires)
+    omega (arith, c.before.before.entries.ensures, entries_few Single A.tender A.count A.bids.now A.windows.now c5.requires)
 
 slice-aggregate-single-in-3 : tie.Need-slice-aggregate-single-in-3
 slice-aggregate-single-in-3 c =
     let c6 = c.before.before.before.before.before.before in
-    let A = c6.args in sym (prefix-length c.before.before.before.entries.result maxEntries
-    (omega (arith, c.before.before.before.entries.ensures, entries-few Single A.tender A.count A.bids.now A.windows.now c6.requires)))
+    let A = c6.args in sym (prefix_length c.before.before.before.entries.result max_entries
+    (omega (arith, c.before.before.before.entries.ensures, entries_few Single A.tender A.count A.bids.now A.windows.now c6.requires)))
 
 slice-aggregate-single-in-4 : tie.Need-slice-aggregate-single-in-4
 slice-aggregate-single-in-4 c = search rules
@@ -58,8 +58,8 @@ single-in-requires c κs =
     let c4 = c.before.before.before.before in
     let c7 = c4.before.before.before in
     let A = c7.args in let P = c7.requires in let e = c4.entries.ensures in
-    let f = entries-few Single A.tender A.count A.bids.now A.windows.now P in
-    rw (prefix-length c4.entries.result maxEntries (omega (arith, e, f))) (P, (e, (e, (e, omega (arith, e, f)))))
+    let f = entries_few Single A.tender A.count A.bids.now A.windows.now P in
+    rw (prefix_length c4.entries.result max_entries (omega (arith, e, f))) (P, (e, (e, (e, omega (arith, e, f)))))
 
 returns : tie.Need-returns
 returns c =

@@ -2,7 +2,7 @@
 use mathlib.Core.Path.{◌≡◌, subst}
 use mathlib.Core.Option.{none}
 use Rattle.tender.specs.declared.Kind.{Kind}
-use Rattle.award_check.specs.Faults.{faultOf}
+use Rattle.award_check.specs.Faults.{fault_of}
 use borrow.Author.Rules.{rules}
 use Rattle.highest.proofs.highest_sound.Statement.{statement}
 use Rattle.highest.proofs.highest_sound.Tie as tie
@@ -18,7 +18,7 @@ highest-single-requires : tie.Need-highest-single-requires
 highest-single-requires c κs =
     let c4 = c.before.before.before.before in
     let A = c4.args in
-    subst (λ (k : Kind). faultOf k A.tender A.count A.bids.now A.windows.now ≡ none) c.enum_told.given.1 c4.requires
+    subst (λ (k : Kind). fault_of k A.tender A.count A.bids.now A.windows.now ≡ none) c.enum_told.given.1 c4.requires
 
 enum-told-2 : tie.Need-enum-told-2
 enum-told-2 c = search rules
@@ -27,7 +27,7 @@ highest-multi-requires : tie.Need-highest-multi-requires
 highest-multi-requires c κs =
     let c4 = c.before.before.before.before in
     let A = c4.args in
-    subst (λ (k : Kind). faultOf k A.tender A.count A.bids.now A.windows.now ≡ none) c.enum-told2.given.1 c4.requires
+    subst (λ (k : Kind). fault_of k A.tender A.count A.bids.now A.windows.now ≡ none) c.enum-told2.given.1 c4.requires
 
 returns : tie.Need-returns
 returns c = c.highest-single.ensures

@@ -4,8 +4,8 @@ use native.Mathlib.Omega.{arith}
 use Rattle.tender.specs.declared.Kind.TheVariants.{Multi}
 use Rattle.award_thin.specs.declared.Thin.{Thin}
 use Rattle.award_laid.specs.Lay.{LaidMasks}
-use Rattle.award_laid.specs.TellsLaws.{bare-inside, lone-inside}
-use Rattle.highest.specs.AskingLaws.{tells-eleven, tells-twelve}
+use Rattle.award_laid.specs.TellsLaws.{bare_inside, lone_inside}
+use Rattle.highest.specs.AskingLaws.{tells_eleven, tells_twelve}
 use borrow.Author.Rules.{rules}
 use Rattle.highest.proofs.multi_in.Statement.{statement}
 use Rattle.highest.proofs.multi_in.Tie as tie
@@ -27,7 +27,7 @@ minute-requires : tie.Need-minute-requires
 minute-requires c κs =
     let c7 = c.before.before.before.before.before.before.before in
     let c14 = c7.before.before.before.before.before.before.before in
-    let A = c14.args in bare-inside A.tender A.count A.bids.now A.windows.now _ c7.lay-masks.ensures.thin_is _
+    let A = c14.args in bare_inside A.tender A.count A.bids.now A.windows.now _ c7.lay-masks.ensures.thin_is _
     c.before.thin.given.1
 
 enum-known-thin-2 : tie.Need-enum-known-thin-2
@@ -37,7 +37,7 @@ minute-requires-2 : tie.Need-minute-requires-2
 minute-requires-2 c κs =
     let c7 = c.before.before.before.before.before.before.before in
     let c14 = c7.before.before.before.before.before.before.before in
-    let A = c14.args in lone-inside A.tender A.count A.bids.now A.windows.now _ c7.lay-masks.ensures.thin_is _
+    let A = c14.args in lone_inside A.tender A.count A.bids.now A.windows.now _ c7.lay-masks.ensures.thin_is _
     c.before.thin2.given.1
 
 enum_told : tie.Need-enum-told
@@ -50,7 +50,7 @@ ask-masks-requires c κs =
     let A = c15.args in let P = c15.requires in let L = c8.lay-masks in record {
       sound = P.0;
       words = P.1.0;
-      price-count = L.auto.1.1.1.1.1.0 ∙ P.1.1.0;
+      price_count = L.auto.1.1.1.1.1.0 ∙ P.1.1.0;
       word_count = L.auto.1.1.1.1.1.1.0 ∙ P.1.1.1;
       laid = subst (λ (x : Thin). LaidMasks A.tender A.count A.w A.bids.now A.windows.now L.new.1.1.1.1.1.0
           L.new.1.1.1.1.1.1.0 x) c.before.before.enum_told.given.1 L.ensures;
@@ -66,7 +66,7 @@ returns : tie.Need-returns
 returns c =
     let c8 = c.before.before.before.before.before.before.before.before in
     let c15 = c8.before.before.before.before.before.before.before in
-    let A = c15.args in rw c.minute.ensures (tells-eleven Multi A.tender A.count A.bids.now A.windows.now A.bidder
+    let A = c15.args in rw c.minute.ensures (tells_eleven Multi A.tender A.count A.bids.now A.windows.now A.bidder
     c15.requires.0 _ c8.lay-masks.ensures.thin_is _ c.before.before.thin.given.1)
 
 same-length-3 : tie.Need-same-length-3
@@ -79,7 +79,7 @@ returns-2 : tie.Need-returns-2
 returns-2 c =
     let c8 = c.before.before.before.before.before.before.before.before in
     let c15 = c8.before.before.before.before.before.before.before in
-    let A = c15.args in rw c.minute2.ensures (tells-twelve Multi A.tender A.count A.bids.now A.windows.now A.bidder
+    let A = c15.args in rw c.minute2.ensures (tells_twelve Multi A.tender A.count A.bids.now A.windows.now A.bidder
     c15.requires.0 _ c8.lay-masks.ensures.thin_is _ c.before.before.thin2.given.1)
 
 same-length-5 : tie.Need-same-length-5

@@ -4,8 +4,8 @@ use mathlib.Core.Path.{◌≡◌, refl, sym, ap, ◌∙◌}
 use Prim.Native.Nat.{ℕ, ◌*◌, ◌≤◌}
 use native.Mathlib.Omega.{arith}
 use lib.ListN.{length}
-use Rattle.highest_rule.specs.Highest.{rowWith}
-use Rattle.highest.specs.AskingLaws.{row_goes, row-stops, row_ends}
+use Rattle.highest_rule.specs.Highest.{row_with}
+use Rattle.highest.specs.AskingLaws.{row_goes, row_stops, row_ends}
 use borrow.Author.Rules.{rules}
 use Rattle.highest.proofs.row_with.Statement.{statement}
 use Rattle.highest.proofs.row_with.Tie as tie
@@ -13,7 +13,7 @@ use Rattle.highest.proofs.row_with.Reads as reads
 use Rattle.highest.proofs.row_with.Lts as lts
 
 abbrev invariant-loop : tie.invariant-loop
-invariant-loop bids count bidder i₀ i = (i ≤ count) × (rowWith bids i bidder ≡ rowWith bids count bidder)
+invariant-loop bids count bidder i₀ i = (i ≤ count) × (row_with bids i bidder ≡ row_with bids count bidder)
 
 abbrev decreases-loop : tie.decreases-loop
 decreases-loop bids count bidder i₀ i = i
@@ -34,7 +34,7 @@ shared-slice-read-if1 : tie.Need-shared-slice-read-if1 invariant-loop decreases-
 shared-slice-read-if1 c = omega (arith, c.before.before.loop.invariant.0, c.before.loop-test.true, c.before.before.before.requires)
 
 returns : tie.Need-returns invariant-loop decreases-loop
-returns c = row-stops _ _ _ _ c.before.before.loop-test.true c.if1.true c.before.before.before.loop.invariant.1
+returns c = row_stops _ _ _ _ c.before.before.loop-test.true c.if1.true c.before.before.before.loop.invariant.1
 
 loop-less : tie.Need-loop-smaller invariant-loop decreases-loop
 loop-less c = omega (arith, c.before.before.loop-test.true)

@@ -5,8 +5,8 @@ use native.Mathlib.Omega.{arith}
 use Rattle.tender.specs.declared.Kind.TheVariants.{Single}
 use Rattle.award_thin.specs.declared.Thin.{Thin}
 use Rattle.award_laid.specs.Lay.{LaidSpans}
-use Rattle.award_laid.specs.TellsLaws.{bare-inside, lone-inside}
-use Rattle.highest.specs.AskingLaws.{tells-eleven, tells-twelve}
+use Rattle.award_laid.specs.TellsLaws.{bare_inside, lone_inside}
+use Rattle.highest.specs.AskingLaws.{tells_eleven, tells_twelve}
 use borrow.Author.Rules.{rules}
 use Rattle.highest.proofs.single_in.Statement.{statement}
 use Rattle.highest.proofs.single_in.Tie as tie
@@ -28,7 +28,7 @@ minute-requires : tie.Need-minute-requires
 minute-requires c κs =
     let c11 = c.before.before.before.before.before.before.before.before.before.before.before in
     let c22 = c11.before.before.before.before.before.before.before.before.before.before.before in
-    let A = c22.args in bare-inside A.tender A.count A.bids.now A.windows.now _ c11.lay-spans.ensures.thin_is _
+    let A = c22.args in bare_inside A.tender A.count A.bids.now A.windows.now _ c11.lay-spans.ensures.thin_is _
     c.before.thin.given.1
 
 enum-known-thin-2 : tie.Need-enum-known-thin-2
@@ -38,7 +38,7 @@ minute-requires-2 : tie.Need-minute-requires-2
 minute-requires-2 c κs =
     let c11 = c.before.before.before.before.before.before.before.before.before.before.before in
     let c22 = c11.before.before.before.before.before.before.before.before.before.before.before in
-    let A = c22.args in lone-inside A.tender A.count A.bids.now A.windows.now _ c11.lay-spans.ensures.thin_is _
+    let A = c22.args in lone_inside A.tender A.count A.bids.now A.windows.now _ c11.lay-spans.ensures.thin_is _
     c.before.thin2.given.1
 
 enum_told : tie.Need-enum-told
@@ -51,9 +51,9 @@ ask-spans-requires c κs =
     let c25 = c14.before.before.before.before.before.before.before.before.before.before.before in
     let A = c25.args in let P = c25.requires in let L = c14.lay-spans in record {
       sound = P.0;
-      price-count = L.auto.1.1.1.1.0 ∙ P.1.0;
-      start-count = L.auto.1.1.1.1.1.0 ∙ P.1.1.0;
-      end-count = L.auto.1.1.1.1.1.1.0 ∙ P.1.1.1.0;
+      price_count = L.auto.1.1.1.1.0 ∙ P.1.0;
+      start_count = L.auto.1.1.1.1.1.0 ∙ P.1.1.0;
+      end_count = L.auto.1.1.1.1.1.1.0 ∙ P.1.1.1.0;
       room = omega (arith, L.auto.1.1.1.1.0, L.auto.1.1.1.1.1.1.1.0, P.1.1.1.1);
       laid = subst (λ (x : Thin). LaidSpans A.tender A.count A.bids.now A.windows.now L.new.1.1.1.1.0
           L.new.1.1.1.1.1.0 L.new.1.1.1.1.1.1.0 L.new.1.1.1.1.1.1.1.0 x) c4.enum_told.given.1 L.ensures;
@@ -75,7 +75,7 @@ returns : tie.Need-returns
 returns c =
     let c12 = c.before.before.before.before.before.before.before.before.before.before.before.before in
     let c23 = c12.before.before.before.before.before.before.before.before.before.before.before in
-    let A = c23.args in rw c.minute.ensures (tells-eleven Single A.tender A.count A.bids.now A.windows.now A.bidder
+    let A = c23.args in rw c.minute.ensures (tells_eleven Single A.tender A.count A.bids.now A.windows.now A.bidder
     c23.requires.0 _ c12.lay-spans.ensures.thin_is _ c.before.before.thin.given.1)
 
 same-length-5 : tie.Need-same-length-5
@@ -94,7 +94,7 @@ returns-2 : tie.Need-returns-2
 returns-2 c =
     let c12 = c.before.before.before.before.before.before.before.before.before.before.before.before in
     let c23 = c12.before.before.before.before.before.before.before.before.before.before.before in
-    let A = c23.args in rw c.minute2.ensures (tells-twelve Single A.tender A.count A.bids.now A.windows.now A.bidder
+    let A = c23.args in rw c.minute2.ensures (tells_twelve Single A.tender A.count A.bids.now A.windows.now A.bidder
     c23.requires.0 _ c12.lay-spans.ensures.thin_is _ c.before.before.thin2.given.1)
 
 same-length-9 : tie.Need-same-length-9

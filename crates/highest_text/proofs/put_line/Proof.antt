@@ -1,5 +1,5 @@
 -- Each case of an answer has its line. Assumes nothing.
-use Rattle.highest_text.specs.ToldLaws.{line-price, line-none, line_refused}
+use Rattle.highest_text.specs.ToldLaws.{line_price, line_none, line_refused}
 use borrow.Author.Rules.{rules}
 use Rattle.highest_text.proofs.put_line.Statement.{statement}
 use Rattle.highest_text.proofs.put_line.Tie as tie
@@ -37,7 +37,7 @@ returns : tie.Need-returns
 returns c =
     let c6 = c.before.before.before.before.before.before in
     let c9 = c6.before.before.before in
-    line-price c9.args.bidder c6.answer.given.0.0 c6.answer.given.1 c.before.before.put-pair.ensures
+    line_price c9.args.bidder c6.answer.given.0.0 c6.answer.given.1 c.before.before.put-pair.ensures
 
 same-length-2 : tie.Need-same-length-2
 same-length-2 c = search rules
@@ -46,7 +46,7 @@ returns-2 : tie.Need-returns-2
 returns-2 c =
     let c4 = c.before.before.before.before in
     let c7 = c4.before.before.before in
-    line-none c7.args.bidder c4.enum_told.given.1 c.before.before.put-none.ensures
+    line_none c7.args.bidder c4.enum_told.given.1 c.before.before.put-none.ensures
 
 same-length-3 : tie.Need-same-length-3
 same-length-3 c = search rules

@@ -1,6 +1,6 @@
 -- The bracket and the word, the number, and the word that ends the line. Assumes nothing.
 use native.Mathlib.Omega.{arith}
-use Rattle.spelling.specs.LineLaws.{decimal-short}
+use Rattle.spelling.specs.LineLaws.{decimal_short}
 use Rattle.highest_text.specs.ToldLaws.{none_written}
 use borrow.Author.Rules.{rules}
 use Rattle.highest_text.proofs.put_none.Statement.{statement}
@@ -29,7 +29,7 @@ put-all-requires-2 c κs =
     let c12 = c8.before.before.before.before in
     omega (
       arith,
-      decimal-short c12.args.bidder,
+      decimal_short c12.args.bidder,
       c12.requires,
       c8.put_all_lem.ensures.next,
       c8.put_all_lem.ensures.size,

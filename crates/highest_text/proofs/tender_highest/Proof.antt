@@ -1,7 +1,7 @@
 -- What was read is asked; a refusal's line stands for a text that cannot be read. Assumes nothing.
-use Rattle.reader_fill.specs.FillLaws.{refused-is}
-use Rattle.reader_fill.specs.ReadInLaws.{filled-read}
-use Rattle.highest_text.specs.ToldLaws.{read-sound, told-read, told-refused}
+use Rattle.reader_fill.specs.FillLaws.{refused_is}
+use Rattle.reader_fill.specs.ReadInLaws.{filled_read}
+use Rattle.highest_text.specs.ToldLaws.{read_sound, told_read, told_refused}
 use borrow.Author.Rules.{rules}
 use Rattle.highest_text.proofs.tender_highest.Statement.{statement}
 use Rattle.highest_text.proofs.tender_highest.Tie as tie
@@ -34,7 +34,7 @@ highest-sound-requires c κs =
     let c7 = c.before.before.before.before.before.before.before in
     let c12 = c7.before.before.before.before.before in
     let g = c.before.before.before.tender.given in let s = c7.fill.ensures in
-    read-sound (filled-read c12.args.text.now g.0.0 g.0.1.0 g.0.1.1.0 s.0 s.1 g.1)
+    read_sound (filled_read c12.args.text.now g.0.0 g.0.1.0 g.0.1.1.0 s.0 s.1 g.1)
 
 deliver-requires : tie.Need-deliver-requires
 deliver-requires c κs = search rules
@@ -55,7 +55,7 @@ returns c =
     let c12 = c8.before.before.before.before in
     let c17 = c12.before.before.before.before.before in
     let g = c8.tender.given in let s = c12.fill.ensures in
-    told-read (filled-read c17.args.text.now g.0.0 g.0.1.0 g.0.1.1.0 s.0 s.1 g.1) _ c4.highest-sound.ensures
+    told_read (filled_read c17.args.text.now g.0.0 g.0.1.0 g.0.1.1.0 s.0 s.1 g.1) _ c4.highest-sound.ensures
     c.before.before.deliver.ensures
 
 same-length-2 : tie.Need-same-length-2
@@ -67,7 +67,7 @@ returns-2 c =
     let c9 = c5.before.before.before.before in
     let c14 = c9.before.before.before.before.before in
     let g = c5.r.given in
-    told-refused g.0.0 (refused-is c14.args.text.now g.0.0 c9.fill.ensures.0 g.1) c.before.before.deliver2.ensures
+    told_refused g.0.0 (refused_is c14.args.text.now g.0.0 c9.fill.ensures.0 g.1) c.before.before.deliver2.ensures
 
 pub tender-highest-spec : {M : Type 1} → statement M
 tender-highest-spec =

@@ -1,8 +1,8 @@
 -- What was read fits the buffer, which has room for any list. Assumes nothing.
 use mathlib.Core.Path.{sym}
 use borrow.Author.Tests.{lt-ltb}
-use Rattle.list.specs.InputLaws.{text-within}
-use Rattle.listing_made.specs.MakingLaws.{made_some, made-size, made_inside}
+use Rattle.list.specs.InputLaws.{text_within}
+use Rattle.listing_made.specs.MakingLaws.{made_some, made_size, made_inside}
 use borrow.Author.Rules.{rules}
 use Rattle.list.proofs.list_long.Statement.{statement}
 use Rattle.list.proofs.list_long.Tie as tie
@@ -36,7 +36,7 @@ slice-aggregate-make-in c = search rules
 make-in-requires : tie.Need-make-in-requires
 make-in-requires c κs =
     let c5 = c.before.before.before.before.before in
-    (text-within _ _ _ c5.read-on.ensures c.before.before.n.given.1, search rules)
+    (text_within _ _ _ c5.read-on.ensures c.before.before.n.given.1, search rules)
 
 expect-requires : tie.Need-expect-requires
 expect-requires c κs = lt-ltb 0 c.before.make-in.result (made_some c.before.make-in.ensures)
@@ -45,7 +45,7 @@ array-share-prefix-buf : tie.Need-array-share-prefix-buf
 array-share-prefix-buf c = made_inside c.before.before.make-in.ensures
 
 slice-aggregate-write-list : tie.Need-slice-aggregate-write-list
-slice-aggregate-write-list c = sym (made-size c.before.before.before.make-in.ensures)
+slice-aggregate-write-list c = sym (made_size c.before.before.before.make-in.ensures)
 
 write-list-requires : tie.Need-write-list-requires
 write-list-requires c κs = search rules

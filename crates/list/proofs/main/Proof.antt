@@ -3,8 +3,8 @@ use mathlib.Core.Path.{sym}
 use native.Mathlib.Omega.{arith}
 use lib.Seq.{length-take-le}
 use borrow.Author.Tests.{lt-ltb}
-use Rattle.list.specs.InputLaws.{text-within}
-use Rattle.listing_made.specs.MakingLaws.{made_some, made-size, made_inside}
+use Rattle.list.specs.InputLaws.{text_within}
+use Rattle.listing_made.specs.MakingLaws.{made_some, made_size, made_inside}
 use borrow.Author.Rules.{rules}
 use Rattle.list.proofs.main.Statement.{statement}
 use Rattle.list.proofs.main.Tie as tie
@@ -33,7 +33,7 @@ slice-aggregate-make : tie.Need-slice-aggregate-make
 slice-aggregate-make c =
     let c3 = c.before.before.before in
     let c6 = c3.before.before.before in
-    sym (length-take-le c3.n.given.0.0 c6.read-on.new.1.0 (text-within _ _ _ c6.read-on.ensures c3.n.given.1))
+    sym (length-take-le c3.n.given.0.0 c6.read-on.new.1.0 (text_within _ _ _ c6.read-on.ensures c3.n.given.1))
 
 slice-aggregate-make-2 : tie.Need-slice-aggregate-make-2
 slice-aggregate-make-2 c = search rules
@@ -42,7 +42,7 @@ make-requires : tie.Need-make-requires
 make-requires c κs =
     let c4 = c.before.before.before.before in
     let c7 = c4.before.before.before in
-    let inside = text-within _ _ _ c7.read-on.ensures c4.n.given.1 in
+    let inside = text_within _ _ _ c7.read-on.ensures c4.n.given.1 in
     omega (arith, length-take-le c4.n.given.0.0 c7.read-on.new.1.0 inside, c.before.before.if1.true)
 
 expect-requires : tie.Need-expect-requires
@@ -52,7 +52,7 @@ array-share-prefix-list : tie.Need-array-share-prefix-list
 array-share-prefix-list c = made_inside c.before.before.make.ensures
 
 slice-aggregate-write-list : tie.Need-slice-aggregate-write-list
-slice-aggregate-write-list c = sym (made-size c.before.before.before.make.ensures)
+slice-aggregate-write-list c = sym (made_size c.before.before.before.make.ensures)
 
 write-list-requires : tie.Need-write-list-requires
 write-list-requires c κs = search rules

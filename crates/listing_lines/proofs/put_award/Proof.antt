@@ -1,8 +1,8 @@
 -- The opening, the kind's keyword, and the tender's window. Assumes nothing.
 use native.Mathlib.Omega.{arith}
 use Rattle.tender.specs.Keywords.{bytes}
-use Rattle.spelling.specs.LineLaws.{kind-short}
-use Rattle.listing_lines.specs.SpellingLaws.{award-written}
+use Rattle.spelling.specs.LineLaws.{kind_short}
+use Rattle.listing_lines.specs.SpellingLaws.{award_written}
 use borrow.Author.Rules.{rules}
 use Rattle.listing_lines.proofs.put_award.Statement.{statement}
 use Rattle.listing_lines.proofs.put_award.Tie as tie
@@ -27,7 +27,7 @@ put-numbers-requires c κs =
     let c11 = c7.before.before.before.before in
     omega (
       arith,
-      kind-short c11.args.tender.kind,
+      kind_short c11.args.tender.kind,
       c11.requires,
       c7.put_all_lem.ensures.next,
       c7.put_all_lem.ensures.size,
@@ -44,7 +44,7 @@ returns c =
     let c6 = c.before.before.before.before.before.before in
     let c10 = c6.before.before.before.before in
     let c14 = c10.before.before.before.before in
-    award-written c14.args.tender c10.put_all_lem.ensures c6.put-kind.ensures c.before.before.put-numbers.ensures
+    award_written c14.args.tender c10.put_all_lem.ensures c6.put-kind.ensures c.before.before.put-numbers.ensures
 
 pub put-award-spec : {M : Type 1} → statement M
 put-award-spec =

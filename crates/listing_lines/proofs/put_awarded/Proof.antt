@@ -1,6 +1,6 @@
 -- The award line, the winners' lines and the last lines follow each other. Assumes nothing.
 use native.Mathlib.Omega.{arith}
-use Rattle.listing_text.specs.LineLaws.{award-short, win-lines-short}
+use Rattle.listing_text.specs.LineLaws.{award_short, win_lines_short}
 use Rattle.spelling.specs.WritingLaws.{then}
 use borrow.Author.Rules.{rules}
 use Rattle.listing_lines.proofs.put_awarded.Statement.{statement}
@@ -25,7 +25,7 @@ put-wins-requires c κs =
           omega (
             arith,
             c9.requires.1.1.1,
-            award-short c9.args.tender,
+            award_short c9.args.tender,
             c.before.before.before.put-award.ensures.next,
             c.before.before.before.put-award.ensures.size,
           ),
@@ -40,8 +40,8 @@ put-last-requires c κs =
     omega (
       arith,
       c13.requires.1.1.1,
-      award-short c13.args.tender,
-      win-lines-short c13.args.bids.now c13.args.won.now c13.args.cents.now c13.args.n,
+      award_short c13.args.tender,
+      win_lines_short c13.args.bids.now c13.args.won.now c13.args.cents.now c13.args.n,
       c7.put-award.ensures.next,
       c7.put-award.ensures.size,
       c.before.before.before.put-wins.ensures.next,

@@ -2,7 +2,7 @@
 use borrow.Author.Tests.{not-true, not-false}
 use Rattle.tender.specs.Keywords.{bytes}
 use Rattle.spelling.specs.SpellingLaws.{nothing_written}
-use Rattle.listing_lines.specs.SpellingLaws.{house-written, house-lost, no-house}
+use Rattle.listing_lines.specs.SpellingLaws.{house_written, house_lost, no_house}
 use borrow.Author.Rules.{rules}
 use Rattle.listing_lines.proofs.put_house.Statement.{statement}
 use Rattle.listing_lines.proofs.put_house.Tie as tie
@@ -13,7 +13,7 @@ use Rattle.spelling_put.proofs.put_one.Reads as put-one-reads
 returns : tie.Need-returns
 returns c =
     let args = c.before.before.args in
-    rw (house-lost args.reserve args.won (not-true args.won c.if1.true)) (nothing_written args.buf.now args.at)
+    rw (house_lost args.reserve args.won (not-true args.won c.if1.true)) (nothing_written args.buf.now args.at)
 
 enum_told : tie.Need-enum-told
 enum_told c = search rules
@@ -30,7 +30,7 @@ put-one-requires c κs = search rules
 returns-2 : tie.Need-returns-2
 returns-2 c =
     let args = c.before.before.before.before.args in
-    rw (no-house args.reserve args.won c.enum_told.given.1) (nothing_written args.buf.now args.at)
+    rw (no_house args.reserve args.won c.enum_told.given.1) (nothing_written args.buf.now args.at)
 
 same_length : tie.Need-same-length
 same_length c = search rules
@@ -41,7 +41,7 @@ returns-3 c =
     let c6 = c.before.before.before.before.before.before in
     let c8 = c6.before.before in
     let args = c8.before.before.args in
-    house-written args.reserve args.won c6.reserve.given.0.0 c6.reserve.given.1
+    house_written args.reserve args.won c6.reserve.given.0.0 c6.reserve.given.1
     (not-false args.won c8.if1.false) c.before.before.put_one.ensures
 
 pub put-house-spec : {M : Type 1} → statement M

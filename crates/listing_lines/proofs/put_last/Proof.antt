@@ -1,7 +1,7 @@
 -- The house's line, and the totals after it. Assumes nothing.
 use native.Mathlib.Omega.{arith}
 use Rattle.tender.specs.Keywords.{bytes}
-use Rattle.listing_text.specs.LineLaws.{house-short}
+use Rattle.listing_text.specs.LineLaws.{house_short}
 use Rattle.listing_lines.specs.SpellingLaws.{last_written}
 use borrow.Author.Rules.{rules}
 use Rattle.listing_lines.proofs.put_last.Statement.{statement}
@@ -22,7 +22,7 @@ put-pair-requires c κs =
     let c4 = c.before.before.before.before in
     let c7 = c4.before.before.before in
     let w = c4.put-house.ensures in
-    omega (arith, house-short c7.args.tender.reserve c7.args.totals.house, c7.requires, w.next, w.size)
+    omega (arith, house_short c7.args.tender.reserve c7.args.totals.house, c7.requires, w.next, w.size)
 
 same_length : tie.Need-same-length
 same_length c = search rules

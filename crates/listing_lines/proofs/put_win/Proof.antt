@@ -1,7 +1,7 @@
 -- A line for a winner, nothing for another bid. Assumes nothing.
 use Rattle.tender.specs.Keywords.{bytes}
 use Rattle.spelling.specs.SpellingLaws.{nothing_written}
-use Rattle.listing_lines.specs.SpellingLaws.{win-written, no-win}
+use Rattle.listing_lines.specs.SpellingLaws.{win_written, no_win}
 use borrow.Author.Rules.{rules}
 use Rattle.listing_lines.proofs.put_win.Statement.{statement}
 use Rattle.listing_lines.proofs.put_win.Tie as tie
@@ -24,12 +24,12 @@ returns c =
     let c5 = c.before.before.before.before.before in
     let c7 = c5.before.before in
     let args = c7.args in
-    win-written args.bidder args.flag args.cents c5.if1.true c.before.before.put-pair.ensures
+    win_written args.bidder args.flag args.cents c5.if1.true c.before.before.put-pair.ensures
 
 returns-2 : tie.Need-returns-2
 returns-2 c =
     let args = c.before.before.args in
-    rw (no-win args.bidder args.flag args.cents c.if1.false) (nothing_written args.buf.now args.at)
+    rw (no_win args.bidder args.flag args.cents c.if1.false) (nothing_written args.buf.now args.at)
 
 pub put-win-spec : {M : Type 1} → statement M
 put-win-spec =

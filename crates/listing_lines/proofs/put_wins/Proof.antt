@@ -1,7 +1,7 @@
 -- Each turn writes the line of one bid. Assumes nothing.
 use Prim.Native.Nat.{◌-◌, ◌≤◌}
 use native.Mathlib.Omega.{arith}
-use Rattle.listing_lines.specs.WinningLaws.{Winning, wins-begin, wins-go, wins-end}
+use Rattle.listing_lines.specs.WinningLaws.{Winning, wins_begin, wins_go, wins_end}
 use Rattle.listing_lines.proofs.put_wins.Statement.{statement}
 use Rattle.listing_lines.proofs.put_wins.Tie as tie
 use Rattle.listing_lines.proofs.put_wins.Reads as reads
@@ -18,7 +18,7 @@ loop-holds : tie.Need-loop-init invariant-loop decreases-loop
 loop-holds c =
     let c4 = c.before.before.before.before in
     let args = c4.args in
-    (wins-begin args.buf.now args.at args.bids.now args.won.now args.cents.now, omega arith)
+    (wins_begin args.buf.now args.at args.bids.now args.won.now args.cents.now, omega arith)
 
 mul-put-win : tie.Need-overflow-mul-put-win invariant-loop decreases-loop
 mul-put-win c = omega arith
@@ -58,7 +58,7 @@ loop-again c =
     let c8 = c.before.before.before.before.before.before.before.before in
     let c13 = c8.before.before.before.before.before in
     let args = c13.args in (
-      wins-go args.buf.now args.at args.bids.now args.won.now args.cents.now c8.loop.i c8.loop.invariant.0
+      wins_go args.buf.now args.at args.bids.now args.won.now args.cents.now c8.loop.i c8.loop.invariant.0
           c.before.before.put-win.ensures,
       omega arith,
     )
@@ -70,7 +70,7 @@ returns : tie.Need-returns invariant-loop decreases-loop
 returns c =
     let c6 = c.before.before.before.before.before.before in
     let args = c6.args in
-    wins-end args.buf.now args.at args.bids.now args.won.now args.cents.now (omega arith) c.before.loop.invariant.0
+    wins_end args.buf.now args.at args.bids.now args.won.now args.cents.now (omega arith) c.before.loop.invariant.0
 
 pub put-wins-spec : {M : Type 1} → statement M
 put-wins-spec =

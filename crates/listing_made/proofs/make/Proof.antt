@@ -1,9 +1,9 @@
 -- The tables suffice, so the text is read or refused as its definition says; then its award or its refusal is written. The bids are so
 -- few that the list has room. Assumes nothing.
 use native.Mathlib.Omega.{arith}
-use Rattle.reader_fill.specs.FillLaws.{refused-is}
-use Rattle.reader_fill.specs.ReadInLaws.{filled-read, few-read}
-use Rattle.listing_made.specs.MakingLaws.{read-sound, read-room, made-award, made-refusal}
+use Rattle.reader_fill.specs.FillLaws.{refused_is}
+use Rattle.reader_fill.specs.ReadInLaws.{filled_read, few_read}
+use Rattle.listing_made.specs.MakingLaws.{read_sound, read_room, made_award, made_refusal}
 use borrow.Author.Rules.{rules}
 use Rattle.listing_made.proofs.make.Statement.{statement}
 use Rattle.listing_made.proofs.make.Tie as tie
@@ -36,9 +36,9 @@ put-award-requires c κs =
     let c4 = c.before.before.before.before in
     let c8 = c4.before.before.before.before in
     let c13 = c8.before.before.before.before.before in
-    let h = filled-read c13.args.text.now c4.tender.given.0.0 c4.tender.given.0.1.0 c4.tender.given.0.1.1.0
+    let h = filled_read c13.args.text.now c4.tender.given.0.0 c4.tender.given.0.1.0 c4.tender.given.0.1.1.0
     c8.fill.ensures.0 c8.fill.ensures.1 c4.tender.given.1 in
-    let f = few-read h in (read-sound h, (f, (omega arith, read-room h c13.requires)))
+    let f = few_read h in (read_sound h, (f, (omega arith, read_room h c13.requires)))
 
 enum-known-r : tie.Need-enum-known-r
 enum-known-r c = search rules
@@ -54,7 +54,7 @@ returns c =
     let c7 = c.before.before.before.before.before.before.before in
     let c11 = c7.before.before.before.before in
     let c16 = c11.before.before.before.before.before in
-    made-award (filled-read c16.args.text.now c7.tender.given.0.0 c7.tender.given.0.1.0 c7.tender.given.0.1.1.0
+    made_award (filled_read c16.args.text.now c7.tender.given.0.0 c7.tender.given.0.1.0 c7.tender.given.0.1.1.0
     c11.fill.ensures.0 c11.fill.ensures.1 c7.tender.given.1) c.before.before.put-award.ensures
 
 same-length-2 : tie.Need-same-length-2
@@ -65,7 +65,7 @@ returns-2 c =
     let c5 = c.before.before.before.before.before in
     let c9 = c5.before.before.before.before in
     let c14 = c9.before.before.before.before.before in
-    made-refusal c5.r.given.0.0 (refused-is c14.args.text.now c5.r.given.0.0 c9.fill.ensures.0
+    made_refusal c5.r.given.0.0 (refused_is c14.args.text.now c5.r.given.0.0 c9.fill.ensures.0
     c5.r.given.1) c.before.before.Put-refused.ensures
 
 pub make_spec : {M : Type 1} → statement M

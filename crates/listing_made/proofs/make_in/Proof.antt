@@ -4,9 +4,9 @@ use mathlib.Core.Path.{sym}
 use native.Mathlib.Omega.{arith}
 use lib.ListN.{take}
 use lib.Seq.{length-take-le}
-use Rattle.reader_fill.specs.FillLaws.{refused-is}
-use Rattle.reader_fill.specs.ReadInLaws.{filled-read, few-read}
-use Rattle.listing_made.specs.MakingLaws.{read-sound, read-room, made-award, made-refusal}
+use Rattle.reader_fill.specs.FillLaws.{refused_is}
+use Rattle.reader_fill.specs.ReadInLaws.{filled_read, few_read}
+use Rattle.listing_made.specs.MakingLaws.{read_sound, read_room, made_award, made_refusal}
 use borrow.Author.Rules.{rules}
 use Rattle.listing_made.proofs.make_in.Statement.{statement}
 use Rattle.listing_made.proofs.make_in.Tie as tie
@@ -45,10 +45,10 @@ put-award-requires c κs =
     let c4 = c.before.before.before.before in
     let c8 = c4.before.before.before.before in
     let c13 = c8.before.before.before.before.before in
-    let h = filled-read (take c13.args.n c13.args.buf.now) c4.tender.given.0.0 c4.tender.given.0.1.0
+    let h = filled_read (take c13.args.n c13.args.buf.now) c4.tender.given.0.0 c4.tender.given.0.1.0
     c4.tender.given.0.1.1.0 c8.fill.ensures.0 c8.fill.ensures.1 c4.tender.given.1 in
     let l = length-take-le c13.args.n c13.args.buf.now c13.requires.0 in
-    let f = few-read h in (read-sound h, (f, (omega arith, read-room h (omega (arith, c13.requires.1, l)))))
+    let f = few_read h in (read_sound h, (f, (omega arith, read_room h (omega (arith, c13.requires.1, l)))))
 
 enum-known-r : tie.Need-enum-known-r
 enum-known-r c = search rules
@@ -64,7 +64,7 @@ returns c =
     let c7 = c.before.before.before.before.before.before.before in
     let c11 = c7.before.before.before.before in
     let c16 = c11.before.before.before.before.before in
-    made-award (filled-read (take c16.args.n c16.args.buf.now) c7.tender.given.0.0 c7.tender.given.0.1.0
+    made_award (filled_read (take c16.args.n c16.args.buf.now) c7.tender.given.0.0 c7.tender.given.0.1.0
     c7.tender.given.0.1.1.0 c11.fill.ensures.0 c11.fill.ensures.1 c7.tender.given.1)
     c.before.before.put-award.ensures
 
@@ -76,7 +76,7 @@ returns-2 c =
     let c5 = c.before.before.before.before.before in
     let c9 = c5.before.before.before.before in
     let c14 = c9.before.before.before.before.before in
-    made-refusal c5.r.given.0.0 (refused-is (take c14.args.n c14.args.buf.now) c5.r.given.0.0 c9.fill.ensures.0
+    made_refusal c5.r.given.0.0 (refused_is (take c14.args.n c14.args.buf.now) c5.r.given.0.0 c9.fill.ensures.0
     c5.r.given.1) c.before.before.Put-refused.ensures
 
 pub make-in-spec : {M : Type 1} → statement M

@@ -1,5 +1,5 @@
 -- The award's answer, as its list. Assumes nothing.
-use Rattle.listing_made.specs.MakingLaws.{award-written, declined-written}
+use Rattle.listing_made.specs.MakingLaws.{award_written, declined_written}
 use borrow.Author.Rules.{rules}
 use Rattle.listing_made.proofs.put_award.Statement.{statement}
 use Rattle.listing_made.proofs.put_award.Tie as tie
@@ -43,7 +43,7 @@ returns : tie.Need-returns
 returns c =
     let c7 = c.before.before.before.before.before.before.before in
     let c11 = c7.before.before.before.before in
-    award-written c7.totals.given.0.0 c7.totals.given.1 (search rules) c11.settle-sound.ensures
+    award_written c7.totals.given.0.0 c7.totals.given.1 (search rules) c11.settle-sound.ensures
     c.before.before.put-awarded.ensures
 
 same-length-2 : tie.Need-same-length-2
@@ -53,7 +53,7 @@ returns-2 : tie.Need-returns-2
 returns-2 c =
     let c5 = c.before.before.before.before.before in
     let c9 = c5.before.before.before.before in
-    declined-written c5.r.given.0.0 c5.r.given.1 (search rules) c9.settle-sound.ensures c.before.before.Put-refused.ensures
+    declined_written c5.r.given.0.0 c5.r.given.1 (search rules) c9.settle-sound.ensures c.before.before.Put-refused.ensures
 
 pub put-award-spec : {M : Type 1} → statement M
 put-award-spec =

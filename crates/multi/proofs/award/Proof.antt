@@ -5,8 +5,8 @@ use mathlib.Core.Path.{refl, sym, ap, ◌∙◌}
 use native.Mathlib.Omega.{arith}
 use lib.ListN.{length}
 use lib.Seq.{length-take-le}
-use Rattle.tender.specs.Limits.{maxEntries}
-use Rattle.multi.specs.LentLaws.{settles, prefix-length, words-few}
+use Rattle.tender.specs.Limits.{max_entries}
+use Rattle.multi.specs.LentLaws.{settles, prefix_length, words_few}
 use borrow.Author.Rules.{rules}
 use Rattle.multi.proofs.award.Statement.{statement}
 use Rattle.multi.proofs.award.Tie as tie
@@ -22,12 +22,12 @@ add-u c =
 array-borrow-prefix-hop : tie.Need-array-borrow-prefix-hop
 array-borrow-prefix-hop c =
     let c4 = c.before.before.before.before in
-    omega (arith, words-few c4.requires.0)
+    omega (arith, words_few c4.requires.0)
 
 slice-aggregate-settle : tie.Need-slice-aggregate-settle
 slice-aggregate-settle c =
     let c5 = c.before.before.before.before.before in
-    sym (prefix-length (length c5.args.masks.now) (158 * maxEntries) 0 (words-few c5.requires.0))
+    sym (prefix_length (length c5.args.masks.now) (158 * max_entries) 0 (words_few c5.requires.0))
 
 slice-aggregate-settle-2 : tie.Need-slice-aggregate-settle-2
 slice-aggregate-settle-2 c = search rules
@@ -49,7 +49,7 @@ array-borrow-prefix-held c =
 slice-aggregate-settle-6 : tie.Need-slice-aggregate-settle-6
 slice-aggregate-settle-6 c =
     let c10 = c.before.before.before.before.before.before.before.before.before.before in
-    sym (prefix-length c10.args.w 158 1 c10.requires.0.words)
+    sym (prefix_length c10.args.w 158 1 c10.requires.0.words)
 
 array-borrow-prefix-alt : tie.Need-array-borrow-prefix-alt
 array-borrow-prefix-alt c =
@@ -59,7 +59,7 @@ array-borrow-prefix-alt c =
 slice-aggregate-settle-7 : tie.Need-slice-aggregate-settle-7
 slice-aggregate-settle-7 c =
     let c11 = c.before.before.before.before.before.before.before.before.before.before.before in
-    sym (prefix-length c11.args.w 158 1 c11.requires.0.words)
+    sym (prefix_length c11.args.w 158 1 c11.requires.0.words)
 
 array-borrow-prefix-counts : tie.Need-array-borrow-prefix-counts
 array-borrow-prefix-counts c =
@@ -69,7 +69,7 @@ array-borrow-prefix-counts c =
 slice-aggregate-settle-8 : tie.Need-slice-aggregate-settle-8
 slice-aggregate-settle-8 c =
     let c12 = c.before.before.before.before.before.before.before.before.before.before.before.before in
-    sym (prefix-length (c12.args.w + 2) 160 1 (omega (arith, c12.requires.0.words)))
+    sym (prefix_length (c12.args.w + 2) 160 1 (omega (arith, c12.requires.0.words)))
 
 slice-aggregate-settle-9 : tie.Need-slice-aggregate-settle-9
 slice-aggregate-settle-9 c = search rules
@@ -105,20 +105,20 @@ slice-aggregate-settle-13 c =
 settle-requires : tie.Need-settle-requires
 settle-requires c κs =
     let c17 = c.before.before.before.before.before.before.before.before.before.before.before.before.before.before.before.before.before in
-    let P = c17.pre in let A = c17.args in let h = prefix-length A.w 158 1 P.0.words in (
+    let P = c17.pre in let A = c17.args in let h = prefix_length A.w 158 1 P.0.words in (
       rw h P.0,
       (
         rw h P.1.1.0,
         (
           (omega (arith, P.1.0), omega (arith, P.1.0)),
           (
-            prefix-length (length A.masks.now) (158 * maxEntries) 0 (words-few P.0),
+            prefix_length (length A.masks.now) (158 * max_entries) 0 (words_few P.0),
             (
               (omega arith, omega arith),
               (
                 refl,
                 (
-                  prefix-length (A.w + 2) 160 1 (omega (arith, P.0.words)) ∙ ap (λ (x : ℕ). x + 2) (sym h),
+                  prefix_length (A.w + 2) 160 1 (omega (arith, P.0.words)) ∙ ap (λ (x : ℕ). x + 2) (sym h),
                   (
                     (refl, refl),
                     (
@@ -147,7 +147,7 @@ returns : tie.Need-returns
 returns c =
     let c15 = c.before.before.before.before.before.before.before.before.before.before.before.before.before.before.before in
     let c33 = c15.before.before.before.before.before.before.before.before.before.before.before.before.before.before.before.before.before.before in
-    let P = c33.pre in let A = c33.args in let h = prefix-length A.w 158 1 P.0.words in
+    let P = c33.pre in let A = c33.args in let h = prefix_length A.w 158 1 P.0.words in
     settles A.won.now A.cents.now P.1.1.1.1 (rw h at c15.settle.ensures)
 
 pub award-spec : {M : Type 1} → statement M

@@ -2,7 +2,7 @@
 use Prim.Native.Nat.{◌-◌}
 use mathlib.Core.Path.{sym, ◌∙◌}
 use native.Mathlib.Omega.{arith}
-use Rattle.multi.specs.PickedLaws.{Picking, picks-none, picks-bid, picks-out, picks-all}
+use Rattle.multi.specs.PickedLaws.{Picking, picks_none, picks_bid, picks_out, picks_all}
 use Rattle.multi.proofs.pick.Statement.{statement}
 use Rattle.multi.proofs.pick.Tie as tie
 use Rattle.multi.proofs.pick.Reads as reads
@@ -19,7 +19,7 @@ decreases-loop tree ever list₀ i₀ list i = 1024 - i
 loop-holds : tie.Need-loop-init invariant-loop decreases-loop
 loop-holds c =
     let c3 = c.before.before.before in
-    let A = c3.args in picks-none A.ever.now A.tree.now A.list.now c3.requires.1.1
+    let A = c3.args in picks_none A.ever.now A.tree.now A.list.now c3.requires.1.1
 
 holds-requires : tie.Need-holds-requires invariant-loop decreases-loop
 holds-requires c κs =
@@ -62,7 +62,7 @@ loop-again : tie.Need-loop-preserved invariant-loop decreases-loop
 loop-again c =
     let c4 = c.before.before.before.before in
     let inside = c.before.before.before.loop-test.true in let held = c.before.before.holds.ensures in
-    picks-bid c4.loop.invariant (omega (arith, inside)) (sym held ∙ c.before.if1.true)
+    picks_bid c4.loop.invariant (omega (arith, inside)) (sym held ∙ c.before.if1.true)
 
 add-list-3 : tie.Need-overflow-add-list-3 invariant-loop decreases-loop
 add-list-3 c = omega arith
@@ -82,7 +82,7 @@ loop-less-2 c = omega (arith, c.before.before.loop-test.true)
 loop-again-2 : tie.Need-loop-preserved-2 invariant-loop decreases-loop
 loop-again-2 c =
     let inside = c.before.before.loop-test.true in let held = c.before.holds.ensures in
-    picks-out c.before.before.before.loop.invariant (omega (arith, inside)) (sym held ∙ c.if1.false)
+    picks_out c.before.before.before.loop.invariant (omega (arith, inside)) (sym held ∙ c.if1.false)
 
 play-requires : tie.Need-play-requires invariant-loop decreases-loop
 play-requires c κs = c.before.before.loop.invariant.size
@@ -96,7 +96,7 @@ returns : tie.Need-returns invariant-loop decreases-loop
 returns c =
     let c4 = c.before.before.before.before in
     let c5 = c4.before in
-    let u = c.before.before.play.ensures in (u.0, picks-all _ c5.loop.invariant (omega (arith, c4.loop-test.false)) u.1)
+    let u = c.before.before.play.ensures in (u.0, picks_all _ c5.loop.invariant (omega (arith, c4.loop-test.false)) u.1)
 
 pub pick_spec : {M : Type 1} → statement M
 pick_spec =

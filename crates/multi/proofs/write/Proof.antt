@@ -2,7 +2,7 @@
 -- the run is written down. Assumes nothing.
 use mathlib.Core.Path.{◌∙◌, sym}
 use native.Mathlib.Omega.{arith}
-use Rattle.multi.specs.PickedLaws.{listed-first}
+use Rattle.multi.specs.PickedLaws.{listed_first}
 use Rattle.multi.proofs.write.Statement.{statement}
 use Rattle.multi.proofs.write.Tie as tie
 use Rattle.multi.proofs.write.Reads as reads
@@ -96,7 +96,7 @@ returns c =
     let P = c48.requires in let u = c36.unlock.auto.0 in let p = c18.pick.ensures in (
       rw u at c10.trace.ensures.0,
       (
-        λ h f e. rw u at (listed-first P.0.priced c36.unlock.ensures (omega (arith, P.1.1.0, u)) c25.enter.ensures.1.0
+        λ h f e. rw u at (listed_first P.0.priced c36.unlock.ensures (omega (arith, P.1.1.0, u)) c25.enter.ensures.1.0
             p.1 h f (e ∙ sym u)),
         p.0,
       ),

@@ -2,7 +2,7 @@
 use mathlib.Core.Path.{ap, ◌∙◌}
 use native.Mathlib.Omega.{arith}
 use Rattle.multi_keys.specs.Keys.{at}
-use Rattle.multi_charts.proofs.Charting.{Backing, backs-none, backs-more, backs-all}
+use Rattle.multi_charts.proofs.Charting.{Backing, backs_none, backs_more, backs_all}
 use Rattle.multi_charts.proofs.back.Statement.{statement}
 use Rattle.multi_charts.proofs.back.Tie as tie
 use Rattle.multi_charts.proofs.back.Reads as reads
@@ -15,7 +15,7 @@ abbrev decreases-loop : tie.decreases-loop
 decreases-loop masks a q m to hop₀ r₀ hop r = r
 
 loop-holds : tie.Need-loop-init invariant-loop decreases-loop
-loop-holds c = let A = c.args in backs-none A.masks.now A.a A.q A.m A.to A.hop.now
+loop-holds c = let A = c.args in backs_none A.masks.now A.a A.q A.m A.to A.hop.now
 
 add-if1 : tie.Need-overflow-add-if1 invariant-loop decreases-loop
 add-if1 c =
@@ -43,7 +43,7 @@ same_length c = c.before.before.before.loop.invariant.same
 returns : tie.Need-returns invariant-loop decreases-loop
 returns c =
     let c4 = c.before.before.before.before in
-    let A = c4.args in backs-all c.before.before.before.loop.invariant (λ l e. c.if1.true (ap (at A.masks.now) (omega arith) ∙ e))
+    let A = c4.args in backs_all c.before.before.before.loop.invariant (λ l e. c.if1.true (ap (at A.masks.now) (omega arith) ∙ e))
 
 sub-r : tie.Need-overflow-sub-r invariant-loop decreases-loop
 sub-r c =
@@ -73,13 +73,13 @@ loop-again : tie.Need-loop-preserved invariant-loop decreases-loop
 loop-again c =
     let c4 = c.before.before.before.before in
     let pre = c4.requires in
-    backs-more c.before.before.before.loop.invariant c.before.before.loop-test.true (omega (arith, pre.0, pre.1)) c.if1.false
+    backs_more c.before.before.before.loop.invariant c.before.before.loop-test.true (omega (arith, pre.0, pre.1)) c.if1.false
 
 same-length-2 : tie.Need-same-length-2 invariant-loop decreases-loop
 same-length-2 c = c.before.loop.invariant.same
 
 returns-2 : tie.Need-returns-2 invariant-loop decreases-loop
-returns-2 c = backs-all c.before.loop.invariant (λ l e. omega (arith, l, c.loop-test.false))
+returns-2 c = backs_all c.before.loop.invariant (λ l e. omega (arith, l, c.loop-test.false))
 
 pub back-spec : {M : Type 1} → statement M
 back-spec =

@@ -4,7 +4,7 @@ use mathlib.Core.Path.{sym, ◌∙◌}
 use native.Mathlib.Omega.{arith}
 use lib.ListN.{length}
 use Rattle.multi_market.specs.WordRowLaws.{row_in}
-use Rattle.multi_charts.proofs.Charting.{Charts, charts-on, charts-end}
+use Rattle.multi_charts.proofs.Charting.{Charts, charts_on, charts_end}
 use Rattle.multi_charts.proofs.chart.Statement.{statement}
 use Rattle.multi_charts.proofs.chart.Tie as tie
 use Rattle.multi_charts.proofs.chart.Reads as reads
@@ -42,7 +42,7 @@ loop-again c =
     let c4 = c.before.before.before.before in
     let c5 = c4.before in
     let c9 = c5.before.before.before.before in
-    charts-on c9.requires.0 c5.loop.invariant c4.loop-test.true c.before.before.chart-row.auto.1.1.1.0
+    charts_on c9.requires.0 c5.loop.invariant c4.loop-test.true c.before.before.chart-row.auto.1.1.1.0
     c.before.before.chart-row.ensures
 
 same_length : tie.Need-same-length invariant-loop decreases-loop
@@ -51,7 +51,7 @@ same_length c =
     c.before.loop.invariant.size ∙ sym c5.requires.1
 
 returns : tie.Need-returns invariant-loop decreases-loop
-returns c = charts-end c.before.loop.invariant (omega arith)
+returns c = charts_end c.before.loop.invariant (omega arith)
 
 pub chart-spec : {M : Type 1} → statement M
 chart-spec =

@@ -2,7 +2,7 @@
 use Prim.Native.Nat.{◌≤◌}
 use mathlib.Core.Path.{◌≡◌, refl}
 use native.Mathlib.Omega.{arith}
-use Rattle.multi_charts.proofs.Charting.{Charting, charts-none, charts-gap, charts-run, charts-still, charts-some, charts-all}
+use Rattle.multi_charts.proofs.Charting.{Charting, charts_none, charts_gap, charts_run, charts_still, charts_some, charts_all}
 use Rattle.multi_charts.proofs.chart_row.Statement.{statement}
 use Rattle.multi_charts.proofs.chart_row.Tie as tie
 
@@ -16,13 +16,13 @@ mul-a : tie.Need-overflow-mul-a invariant-loop decreases-loop
 mul-a c = omega (arith, c.before.before.requires.1.0)
 
 loop-holds : tie.Need-loop-init invariant-loop decreases-loop
-loop-holds c = let A = c.before.before.args in (charts-none A.masks.now A.w A.i A.hop.now, omega arith)
+loop-holds c = let A = c.before.before.args in (charts_none A.masks.now A.w A.i A.hop.now, omega arith)
 
 byte-requires : tie.Need-byte-requires invariant-loop decreases-loop
 byte-requires c κs =
     let c4 = c.before.before.before.before in
     let pre = c4.requires in
-    omega (arith, pre.0, pre.1.0, pre.1.1, c.before.loop.invariant.1, c.before.loop.invariant.0.same, c.before.loop.invariant.0.gap-high)
+    omega (arith, pre.0, pre.1.0, pre.1.1, c.before.loop.invariant.1, c.before.loop.invariant.0.same, c.before.loop.invariant.0.gap_high)
 
 back-requires : tie.Need-back-requires invariant-loop decreases-loop
 back-requires c κs =
@@ -35,7 +35,7 @@ back-requires c κs =
         pre.1.1,
         c.before.before.before.loop.invariant.1,
         c.before.before.before.loop.invariant.0.same,
-        c.before.before.before.loop.invariant.0.gap-high,
+        c.before.before.before.loop.invariant.0.gap_high,
       ),
       omega (
         arith,
@@ -44,7 +44,7 @@ back-requires c κs =
         pre.1.1,
         c.before.before.before.loop.invariant.1,
         c.before.before.before.loop.invariant.0.same,
-        c.before.before.before.loop.invariant.0.gap-high,
+        c.before.before.before.loop.invariant.0.gap_high,
       ),
     )
 
@@ -60,7 +60,7 @@ byte-requires-2 c κs =
       pre.1.1,
       c6.loop.invariant.1,
       c6.loop.invariant.0.same,
-      c6.loop.invariant.0.gap-high,
+      c6.loop.invariant.0.gap_high,
       c.before.before.back.ensures.low,
       c.before.before.back.auto.1.1.1.1.1.0,
     )
@@ -78,7 +78,7 @@ back-requires-2 c κs =
         pre.1.1,
         c8.loop.invariant.1,
         c8.loop.invariant.0.same,
-        c8.loop.invariant.0.gap-high,
+        c8.loop.invariant.0.gap_high,
         c4.back.ensures.low,
         c4.back.auto.1.1.1.1.1.0,
       ),
@@ -89,7 +89,7 @@ back-requires-2 c κs =
         pre.1.1,
         c8.loop.invariant.1,
         c8.loop.invariant.0.same,
-        c8.loop.invariant.0.gap-high,
+        c8.loop.invariant.0.gap_high,
         c4.back.ensures.low,
         c4.back.auto.1.1.1.1.1.0,
       ),
@@ -108,7 +108,7 @@ loop-less c =
       pre.1.1,
       c12.loop.invariant.1,
       c12.loop.invariant.0.same,
-      c12.loop.invariant.0.gap-high,
+      c12.loop.invariant.0.gap_high,
       c8.back.ensures.low,
       c8.back.auto.1.1.1.1.1.0,
       c.before.before.before.back2.ensures.low,
@@ -123,7 +123,7 @@ loop-again c =
     let c12 = c10.before.before in
     let c15 = c12.before.before.before in
     let pre = c15.requires in (
-      charts-run (charts-gap c12.loop.invariant.0 c12.loop.invariant.1 c8.back.ensures c8.back.auto.1.1.1.1.1.0 refl
+      charts_run (charts_gap c12.loop.invariant.0 c12.loop.invariant.1 c8.back.ensures c8.back.auto.1.1.1.1.1.0 refl
           c10.byte.ensures) (omega (arith, c12.loop.invariant.1, c8.back.ensures.low)) c.before.before.before.back2.ensures
           c.before.before.before.back2.auto.1.1.1.1.1.0 refl c5.byte2.ensures c.if1.true,
       omega (
@@ -133,7 +133,7 @@ loop-again c =
         pre.1.1,
         c12.loop.invariant.1,
         c12.loop.invariant.0.same,
-        c12.loop.invariant.0.gap-high,
+        c12.loop.invariant.0.gap_high,
         c8.back.ensures.low,
         c8.back.auto.1.1.1.1.1.0,
         c.before.before.before.back2.ensures.low,
@@ -149,7 +149,7 @@ byte-requires-3 c κs =
     let c13 = c.before.before.before.before.before.before.before.before.before.before.before.before.before in
     let c16 = c13.before.before.before in
     let pre = c16.requires in
-    omega (arith, pre.0, pre.1.0, pre.1.1, c13.loop.invariant.1, c13.loop.invariant.0.same, c13.loop.invariant.0.gap-high)
+    omega (arith, pre.0, pre.1.0, pre.1.1, c13.loop.invariant.1, c13.loop.invariant.0.same, c13.loop.invariant.0.gap_high)
 
 add-hop : tie.Need-overflow-add-hop invariant-loop decreases-loop
 add-hop c =
@@ -165,7 +165,7 @@ add-hop c =
       pre.1.1,
       c14.loop.invariant.1,
       c14.loop.invariant.0.same,
-      c14.loop.invariant.0.gap-high,
+      c14.loop.invariant.0.gap_high,
       c10.back.ensures.low,
       c10.back.auto.1.1.1.1.1.0,
       c5.back2.ensures.low,
@@ -186,7 +186,7 @@ slice-write-hop c =
       pre.1.1,
       c14.loop.invariant.1,
       c14.loop.invariant.0.same,
-      c14.loop.invariant.0.gap-high,
+      c14.loop.invariant.0.gap_high,
       c10.back.ensures.low,
       c10.back.auto.1.1.1.1.1.0,
       c5.back2.ensures.low,
@@ -207,7 +207,7 @@ loop-less-2 c =
       pre.1.1,
       c14.loop.invariant.1,
       c14.loop.invariant.0.same,
-      c14.loop.invariant.0.gap-high,
+      c14.loop.invariant.0.gap_high,
       c10.back.ensures.low,
       c10.back.auto.1.1.1.1.1.0,
       c5.back2.ensures.low,
@@ -222,12 +222,12 @@ loop-again-2 c =
     let c14 = c12.before.before in
     let c17 = c14.before.before.before in
     let pre = c17.requires in (
-      rw c.byte3.ensures (charts-some (charts-still
-          (charts-gap c14.loop.invariant.0 c14.loop.invariant.1 c10.back.ensures c10.back.auto.1.1.1.1.1.0 refl
+      rw c.byte3.ensures (charts_some (charts_still
+          (charts_gap c14.loop.invariant.0 c14.loop.invariant.1 c10.back.ensures c10.back.auto.1.1.1.1.1.0 refl
           c12.byte.ensures) (omega (arith, c14.loop.invariant.1, c10.back.ensures.low)) c5.back2.ensures
           c5.back2.auto.1.1.1.1.1.0 (λ l. omega (arith, l, c.before.before.if1.false)))
           (omega (arith, c14.loop.invariant.1, c10.back.ensures.low)) c.before.if2.true
-          (omega (arith, pre.0, pre.1.0, pre.1.1, c14.loop.invariant.1, c14.loop.invariant.0.same, c14.loop.invariant.0.gap-high))
+          (omega (arith, pre.0, pre.1.0, pre.1.1, c14.loop.invariant.1, c14.loop.invariant.0.same, c14.loop.invariant.0.gap_high))
           (λ e. c5.back2.ensures.stop (omega (arith, c.before.before.if1.false, c.before.if2.true))
           (let d : c5.back2.result ≡ c10.back.result = omega (arith, c.before.before.if1.false, c5.back2.ensures.low) in
           rw d e))),
@@ -238,7 +238,7 @@ loop-again-2 c =
         pre.1.1,
         c14.loop.invariant.1,
         c14.loop.invariant.0.same,
-        c14.loop.invariant.0.gap-high,
+        c14.loop.invariant.0.gap_high,
         c10.back.ensures.low,
         c10.back.auto.1.1.1.1.1.0,
         c5.back2.ensures.low,
@@ -258,7 +258,7 @@ loop-again-3 c =
     let c11 = c9.before.before in
     let c13 = c11.before.before in (
       let d : c9.back.result ≡ 0 = omega (arith, c.if2.false) in
-          rw d at (charts-still (charts-gap c13.loop.invariant.0 c13.loop.invariant.1 c9.back.ensures c9.back.auto.1.1.1.1.1.0
+          rw d at (charts_still (charts_gap c13.loop.invariant.0 c13.loop.invariant.1 c9.back.ensures c9.back.auto.1.1.1.1.1.0
           refl c11.byte.ensures) (omega (arith, c13.loop.invariant.1, c9.back.ensures.low)) c4.back2.ensures
           c4.back2.auto.1.1.1.1.1.0 (λ l. omega (arith, l, c.before.if1.false))),
       omega arith,
@@ -271,7 +271,7 @@ returns : tie.Need-returns invariant-loop decreases-loop
 returns c =
     let c4 = c.before.before.before.before in
     let pre = c4.requires in
-    charts-all c.before.loop.invariant.0 (omega arith) pre.1.0 pre.1.1
+    charts_all c.before.loop.invariant.0 (omega arith) pre.1.0 pre.1.1
 
 pub chart-row-spec : {M : Type 1} → statement M
 chart-row-spec =

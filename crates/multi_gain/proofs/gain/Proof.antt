@@ -6,12 +6,12 @@ use native.Mathlib.Omega.{arith}
 use lib.ListN.{length}
 use borrow.Author.Tests.{eqb-true, eqb-false}
 use Rattle.cells.specs.Cells.{cell}
-use Rattle.cells.specs.StoreLaws.{cell-lt}
+use Rattle.cells.specs.StoreLaws.{cell_lt}
 use Rattle.cells_count.specs.Hops.{Counted}
 use Rattle.multi_keys.specs.Tree.{leaves, Tree}
-use Rattle.multi_keys.specs.TreeLaws.{length-leaves}
-use Rattle.multi_index.specs.Index.{bidAt}
-use Rattle.multi_gain.specs.GainLaws.{Gaining, starts, node_in, bid-in, next-below, passes, adds, ends}
+use Rattle.multi_keys.specs.TreeLaws.{length_leaves}
+use Rattle.multi_index.specs.Index.{bid_at}
+use Rattle.multi_gain.specs.GainLaws.{Gaining, starts, node_in, bid_in_lem, next_below, passes, adds, ends}
 use Rattle.multi_gain.proofs.gain.Statement.{statement}
 use Rattle.multi_gain.proofs.gain.Tie as tie
 
@@ -78,7 +78,7 @@ loop-less : tie.Need-loop-smaller invariant-loop decreases-loop
 loop-less c =
     let c6 = c.before.before.before.before.before.before in
     let c7 = c6.before in
-    let l = c6.loop-test.true in omega (arith, l, next-below c7.loop.invariant.0 l)
+    let l = c6.loop-test.true in omega (arith, l, next_below c7.loop.invariant.0 l)
 
 loop-again : tie.Need-loop-preserved invariant-loop decreases-loop
 loop-again c =
@@ -86,7 +86,7 @@ loop-again c =
     let c7 = c6.before in
     let c17 = c7.before.before.before.before.before.before.before.before.before.before in
     let A = c17.args in let s = c7.loop.invariant in
-    let e = eqb-true (cell c7.loop.mark (bidAt A.index.now c7.loop.t)) 1 (sym c.before.holds.ensures ∙ c.if2.true) in
+    let e = eqb-true (cell c7.loop.mark (bid_at A.index.now c7.loop.t)) 1 (sym c.before.holds.ensures ∙ c.if2.true) in
     (passes s.0 c6.loop-test.true (inr (omega (arith, e))), s.1)
 
 rank-requires : tie.Need-rank-requires invariant-loop decreases-loop
@@ -95,14 +95,14 @@ rank-requires c κs =
     let c10 = c9.before in
     let c20 = c10.before.before.before.before.before.before.before.before.before.before in
     let P = c20.requires in let s = c10.loop.invariant in
-    (P.0, (P.1.0, (s.1.1.1, (s.1.0, (s.1.1.0, bid-in s.0 c9.loop-test.true)))))
+    (P.0, (P.1.0, (s.1.1.1, (s.1.0, (s.1.1.0, bid_in_lem s.0 c9.loop-test.true)))))
 
 loop-less-2 : tie.Need-loop-smaller-2 invariant-loop decreases-loop
 loop-less-2 c =
     let c8 = c.before.before.before.before.before.before.before.before in
     let c16 = c8.before.before.before.before.before.before.before.before in
     let c17 = c16.before in
-    let l = c16.loop-test.true in omega (arith, l, next-below c17.loop.invariant.0 l)
+    let l = c16.loop-test.true in omega (arith, l, next_below c17.loop.invariant.0 l)
 
 loop-again-2 : tie.Need-loop-preserved-2 invariant-loop decreases-loop
 loop-again-2 c =
@@ -113,11 +113,11 @@ loop-again-2 c =
     let c17 = c16.before in
     let c27 = c17.before.before.before.before.before.before.before.before.before.before in
     let P = c27.requires in let A = c27.args in let s = c17.loop.invariant in let l = c16.loop-test.true in
-    let b = bidAt A.index.now c17.loop.t in
+    let b = bid_at A.index.now c17.loop.t in
     let e = eqb-false (cell c17.loop.mark b) 1 (sym c11.holds.ensures ∙ c10.if2.false) in
-    let r = c6.rank.ensures in let i = bid-in s.0 l in (
-      passes (adds s.0 b _ _ i (omega (arith, i, length-leaves c17.loop.tree s.1.0.size, P.0.priced.count))
-          (omega (arith, e, cell-lt c17.loop.mark b)) r.1.0 r.1.1.0) l
+    let r = c6.rank.ensures in let i = bid_in_lem s.0 l in (
+      passes (adds s.0 b _ _ i (omega (arith, i, length_leaves c17.loop.tree s.1.0.size, P.0.priced.count))
+          (omega (arith, e, cell_lt c17.loop.mark b)) r.1.0 r.1.1.0) l
           (inr (omega (arith, r.1.1.0.inside b (omega arith) (omega arith)))),
       (r.0, (c6.rank.auto.1.1.1.1.1.1.0 ∙ s.1.1.0, r.1.1.1)),
     )
@@ -125,7 +125,7 @@ loop-again-2 c =
 loop-less-3 : tie.Need-loop-smaller-3 invariant-loop decreases-loop
 loop-less-3 c =
     let c4 = c.before.before.before.before in
-    let l = c.before.before.before.loop-test.true in omega (arith, l, next-below c4.loop.invariant.0 l)
+    let l = c.before.before.before.loop-test.true in omega (arith, l, next_below c4.loop.invariant.0 l)
 
 loop-again-3 : tie.Need-loop-preserved-3 invariant-loop decreases-loop
 loop-again-3 c =

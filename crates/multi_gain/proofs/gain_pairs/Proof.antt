@@ -6,19 +6,19 @@ use Prim.Native.Nat.{◌-◌, ◌≤◌}
 use native.Mathlib.Omega.{arith}
 use lib.ListN.{length}
 use Rattle.cells_count.specs.Hops.{Counted}
-use Rattle.cells_pairs.specs.Pairs.{inPairs}
+use Rattle.cells_pairs.specs.Pairs.{in_pairs}
 use Rattle.multi_keys.specs.Tree.{leaves, Tree}
 use Rattle.multi_market.specs.Market.{has}
 use Rattle.multi_index.specs.Index.{Indexed}
 use Rattle.multi_gain.specs.Gain.{Gained}
-use Rattle.multi_gain.specs.GainLaws.{indexed-more, gained-none, gained-more, spread_none}
+use Rattle.multi_gain.specs.GainLaws.{indexed_more, gained_none, gained_more, spread_none}
 use Rattle.multi_gain.proofs.gain_pairs.Statement.{statement}
 use Rattle.multi_gain.proofs.gain_pairs.Tie as tie
 
 abbrev invariant-loop : tie.invariant-loop
 invariant-loop prices masks hop index pairs a z alt counts₀ tree₀ mark₀ p₀ counts tree mark p =
     (a ≤ p) × ((p ≤ z)
-    × (Gained (has masks (length alt)) prices alt (inPairs pairs a (p - a)) (leaves tree₀) mark₀ (leaves tree) mark
+    × (Gained (has masks (length alt)) prices alt (in_pairs pairs a (p - a)) (leaves tree₀) mark₀ (leaves tree) mark
     × (Indexed (length prices) masks (length alt) index mark × (Tree tree × ((length mark ≡ 16) × Counted alt counts)))))
 
 abbrev decreases-loop : tie.decreases-loop
@@ -32,7 +32,7 @@ loop-holds c =
       (
         P.1.1.1.0.rising,
         (
-          gained-none (has A.masks.now (length A.alt.now)) A.prices.now A.alt.now
+          gained_none (has A.masks.now (length A.alt.now)) A.prices.now A.alt.now
               A.pairs.now A.a (leaves A.tree.now) A.mark.now,
           (P.1.1.0, (P.1.1.1.1.1.0, (P.1.1.1.1.1.1, P.1.1.1.1.0))),
         ),
@@ -117,9 +117,9 @@ loop-again c =
       (
         omega (arith, c14.loop-test.true),
         (
-          gained-more A.pairs.now A.a c15.loop.p s.0 s.1.1.0 g.1.0,
+          gained_more A.pairs.now A.a c15.loop.p s.0 s.1.1.0 g.1.0,
           (
-            indexed-more s.1.1.1.0 (λ i l y. (g.1.0.kept i (omega (arith, l, P.0.priced.count)) y).0),
+            indexed_more s.1.1.1.0 (λ i l y. (g.1.0.kept i (omega (arith, l, P.0.priced.count)) y).0),
             (g.0, (c6.gain.auto.1.1.1.1.1.1.1.0 ∙ s.1.1.1.1.1.0, g.1.1)),
           ),
         ),
@@ -147,7 +147,7 @@ loop-again-2 c =
       (
         omega (arith, c4.loop-test.true),
         (
-          gained-more A.pairs.now A.a c5.loop.p s.0 s.1.1.0
+          gained_more A.pairs.now A.a c5.loop.p s.0 s.1.1.0
               (spread_none A.prices.now A.masks.now A.alt.now _ _ (leaves c5.loop.tree) c5.loop.mark c.if1.false),
           s.1.1.1,
         ),

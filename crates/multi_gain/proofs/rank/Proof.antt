@@ -5,7 +5,7 @@ use native.Mathlib.Omega.{arith}
 use lib.ListN.{length, set}
 use Rattle.multi_keys.specs.Tree.{leaves}
 use Rattle.multi_market.specs.WordRowLaws.{row_in}
-use Rattle.multi_gain.specs.GainLaws.{key-counted}
+use Rattle.multi_gain.specs.GainLaws.{key_counted}
 use borrow.Author.Rules.{rules}
 use Rattle.multi_gain.proofs.rank.Statement.{statement}
 use Rattle.multi_gain.proofs.rank.Tie as tie
@@ -55,7 +55,7 @@ returns c =
     let c12 = c7.before.before.before.before.before in
     let c21 = c12.before.before.before.before.before.before.before.before.before in
     let A = c21.args in
-    let key = key-counted A.prices.now A.masks.now A.alt.now A.b c7.key_of.ensures c12.overlap.ensures.0.0 in (
+    let key = key_counted A.prices.now A.masks.now A.alt.now A.b c7.key_of.ensures c12.overlap.ensures.0.0 in (
       c6.put.ensures.0,
       (c6.put.ensures.1 ∙ ap (set (leaves A.tree.now) A.b) key, (c.before.before.add.ensures, c12.overlap.ensures.1)),
     )

@@ -7,9 +7,9 @@ use lib.ListN.{length}
 use Rattle.cells_count.specs.Hops.{Counted}
 use Rattle.multi_keys.specs.Tree.{leaves, Tree}
 use Rattle.multi_market.specs.Market.{has}
-use Rattle.multi_market.specs.Opens.{openOf}
+use Rattle.multi_market.specs.Opens.{open_of}
 use Rattle.multi_highest.specs.Rounding.{Rounding}
-use Rattle.multi_highest.specs.RoundLaws.{ends-own, ends-none, fewer-open, goes}
+use Rattle.multi_highest.specs.RoundLaws.{ends_own, ends_none, fewer_open, goes}
 use Rattle.multi_highest.proofs.rounds.Statement.{statement}
 use Rattle.multi_highest.proofs.rounds.Tie as tie
 
@@ -20,7 +20,7 @@ invariant-loop prices masks hop count k held₀ counts₀ tree₀ walk₀ held c
     × (Tree tree × Counted held counts)))
 
 abbrev decreases-loop : tie.decreases-loop
-decreases-loop prices masks hop count k held₀ counts₀ tree₀ walk₀ held counts tree walk = length (openOf held)
+decreases-loop prices masks hop count k held₀ counts₀ tree₀ walk₀ held counts tree walk = length (open_of held)
 
 begin-requires : tie.Need-begin-requires invariant-loop decreases-loop
 begin-requires c κs =
@@ -71,7 +71,7 @@ returns c =
     let c29 = c19.before.before.before.before.before.before.before.before.before.before in
     let P = c29.requires in let v = c12.loop.invariant in let e = v.0 ∙ c19.begin.auto.1.1.1.1.1.0 in
     let most : length c12.loop.held ≤ 158 = omega (arith, e, P.0.words) in
-    rw e at (ends-none v.1.1.0 P.0.priced most c6.front.ensures.1.0 c.if2.true)
+    rw e at (ends_none v.1.1.0 P.0.priced most c6.front.ensures.1.0 c.if2.true)
 
 take-requires : tie.Need-take-requires invariant-loop decreases-loop
 take-requires c κs =
@@ -110,7 +110,7 @@ loop-less c =
     let P = c39.requires in let v = c22.loop.invariant in let e = v.0 ∙ c29.begin.auto.1.1.1.1.1.0 in
     let most : length c22.loop.held ≤ 158 = omega (arith, e, P.0.words) in
     let t = c6.take in
-    fewer-open v.1.1.0 P.0.priced most c16.front.ensures.1.0 (omega (arith, c10.if2.false))
+    fewer_open v.1.1.0 P.0.priced most c16.front.ensures.1.0 (omega (arith, c10.if2.false))
     t.auto.1.1.1.1.1.1.0 t.ensures.0.shuts
 
 loop-again : tie.Need-loop-preserved invariant-loop decreases-loop
@@ -148,7 +148,7 @@ returns-2 : tie.Need-returns-2 invariant-loop decreases-loop
 returns-2 c =
     let c9 = c.before.before.before.before.before.before.before.before.before in
     let v = c.before.before.loop.invariant in let e = v.0 ∙ c9.begin.auto.1.1.1.1.1.0 in
-    rw e at (ends-own v.1.1.0 (omega (arith, c.if1.false)))
+    rw e at (ends_own v.1.1.0 (omega (arith, c.if1.false)))
 
 pub rounds-spec : {M : Type 1} → statement M
 rounds-spec =

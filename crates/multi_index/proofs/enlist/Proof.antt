@@ -4,7 +4,7 @@ use mathlib.Core.Path.{◌∙◌, sym}
 use native.Mathlib.Omega.{arith}
 use lib.ListN.{length}
 use Rattle.multi_market.specs.WordRowLaws.{row_in}
-use Rattle.multi_index.proofs.Enlisting.{Indexing, indexes-none, indexes-ever, indexes-row, indexes-all}
+use Rattle.multi_index.proofs.Enlisting.{Indexing, indexes_none, indexes_ever, indexes_row, indexes_all}
 use Rattle.multi_index.proofs.enlist.Statement.{statement}
 use Rattle.multi_index.proofs.enlist.Tie as tie
 use Rattle.multi_index.proofs.enlist.Reads as reads
@@ -34,7 +34,7 @@ loop-holds c =
     let c6 = c.before.before.before.before.before.before in
     let c13 = c6.before.before.before.before.before.before.before in
     let heads = c.before.before.clear-heads in let P = c13.requires in (
-      indexes-none (omega (arith, heads.auto.0, P.1.1.1.0)) (c6.clear.auto.0 ∙ P.1.1.1.1) heads.ensures,
+      indexes_none (omega (arith, heads.auto.0, P.1.1.1.0)) (c6.clear.auto.0 ∙ P.1.1.1.1) heads.ensures,
       omega arith,
     )
 
@@ -70,7 +70,7 @@ loop-again c =
     let c5 = c.before.before.before.before.before in
     let c6 = c5.before in
     let added = c.before.before.add in
-    (indexes-ever c6.loop.invariant.0 added.auto.0 added.ensures, omega (arith, c5.loop-test.true))
+    (indexes_ever c6.loop.invariant.0 added.auto.0 added.ensures, omega (arith, c5.loop-test.true))
 
 is-wide-requires : tie.Need-is-wide-requires invariant-loop decreases-loop
 is-wide-requires c κs =
@@ -107,7 +107,7 @@ loop-again-2 c =
     let c7 = c.before.before.before.before.before.before.before in
     let c8 = c7.before in
     let added = c.before.before.add2 in
-    (indexes-ever c8.loop.invariant.0 added.auto.0 added.ensures, omega (arith, c7.loop-test.true))
+    (indexes_ever c8.loop.invariant.0 added.auto.0 added.ensures, omega (arith, c7.loop-test.true))
 
 enlist-row-requires : tie.Need-enlist-row-requires invariant-loop decreases-loop
 enlist-row-requires c κs =
@@ -145,7 +145,7 @@ loop-again-3 c =
     let c8 = c7.before in
     let c22 = c8.before.before.before.before.before.before.before.before.before.before.before.before.before.before in
     let row = c.before.before.enlist-row in (
-      indexes-row c8.loop.invariant.0 row.auto.1.1.1.1.0 row.ensures c22.requires.0.words,
+      indexes_row c8.loop.invariant.0 row.auto.1.1.1.1.0 row.ensures c22.requires.0.words,
       omega (arith, c7.loop-test.true),
     )
 
@@ -160,7 +160,7 @@ same-length-2 c =
     c.before.loop.invariant.0.sixteen ∙ sym c15.requires.1.1.1.1
 
 returns : tie.Need-returns invariant-loop decreases-loop
-returns c = indexes-all c.before.loop.invariant.0 (omega (arith, c.before.loop.invariant.1, c.loop-test.false))
+returns c = indexes_all c.before.loop.invariant.0 (omega (arith, c.before.loop.invariant.1, c.loop-test.false))
 
 pub enlist-spec : {M : Type 1} → statement M
 enlist-spec =

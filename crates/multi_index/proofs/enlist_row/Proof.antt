@@ -2,8 +2,8 @@
 use Prim.Native.Nat.{◌-◌}
 use mathlib.Core.Path.{◌∙◌}
 use native.Mathlib.Omega.{arith}
-use Rattle.multi_market.specs.WordRowLaws.{part-row, row-length, row_at}
-use Rattle.multi_index.proofs.Enlisting.{Enlisting, enlists-none, enlists-some, enlists-past, enlists-all, row_small}
+use Rattle.multi_market.specs.WordRowLaws.{part_row, row_length, row_at}
+use Rattle.multi_index.proofs.Enlisting.{Enlisting, enlists_none, enlists_some, enlists_past, enlists_all, row_small}
 use Rattle.multi_index.proofs.enlist_row.Statement.{statement}
 use Rattle.multi_index.proofs.enlist_row.Tie as tie
 use Rattle.multi_index.proofs.enlist_row.Reads as reads
@@ -26,7 +26,7 @@ add-e c = omega (arith, c.before.before.before.requires.1.0)
 loop-holds : tie.Need-loop-init invariant-loop decreases-loop
 loop-holds c =
     let c3 = c.before.before.before in let A = c3.args in
-    enlists-none A.masks.now A.w A.i c3.requires.1.1.1.1.1.0
+    enlists_none A.masks.now A.w A.i c3.requires.1.1.1.1.1.0
 
 add-m : tie.Need-overflow-add-m invariant-loop decreases-loop
 add-m c =
@@ -92,15 +92,15 @@ onward-requires : tie.Need-onward-requires invariant-loop decreases-loop
 onward-requires c κs =
     let c8 = c.before.before.before.before.before.before.before.before in
     let c13 = c8.before.before.before.before.before in
-    let P = c13.requires in let A = c13.args in let e = row-length A.masks.now A.w A.i P.1.0 in
-    rw (part-row A.masks.now A.w A.i, part-row A.hop.now A.w A.i)
+    let P = c13.requires in let A = c13.args in let e = row_length A.masks.now A.w A.i P.1.0 in
+    rw (part_row A.masks.now A.w A.i, part_row A.hop.now A.w A.i)
     ((P.1.1.1.0, (omega (arith, c8.loop-test.true), omega (arith, P.0))))
 
 loop-less : tie.Need-loop-smaller invariant-loop decreases-loop
 loop-less c =
     let c9 = c.before.before.before.before.before.before.before.before.before in
     let c14 = c9.before.before.before.before.before in
-    let A = c14.args in let n = rw (part-row A.masks.now A.w A.i) at c.onward.ensures in
+    let A = c14.args in let n = rw (part_row A.masks.now A.w A.i) at c.onward.ensures in
     omega (arith, n.on, c9.loop-test.true)
 
 loop-again : tie.Need-loop-preserved invariant-loop decreases-loop
@@ -110,9 +110,9 @@ loop-again c =
     let c10 = c9.before in
     let c14 = c10.before.before.before.before in
     let A = c14.args in let P = c14.requires in let R = P.1.1.1.1 in let s = c10.loop.invariant in let l = c9.loop-test.true in
-    let n = rw (part-row A.masks.now A.w A.i) at c.onward.ensures in
-    enlists-some s c5.push.auto.0 c5.push.ensures (row_at A.masks.now A.w A.i c10.loop.q l) n
-    (omega (arith, n.within, row-length A.masks.now A.w A.i P.1.0)) (omega (arith, P.0, l))
+    let n = rw (part_row A.masks.now A.w A.i) at c.onward.ensures in
+    enlists_some s c5.push.auto.0 c5.push.ensures (row_at A.masks.now A.w A.i c10.loop.q l) n
+    (omega (arith, n.within, row_length A.masks.now A.w A.i P.1.0)) (omega (arith, P.0, l))
     (omega (arith, s.room, s.same, R.1.1.0, l))
 
 mul-onward-2 : tie.Need-overflow-mul-onward-2 invariant-loop decreases-loop
@@ -146,15 +146,15 @@ onward-requires-2 : tie.Need-onward-requires-2 invariant-loop decreases-loop
 onward-requires-2 c κs =
     let c4 = c.before.before.before.before in
     let c9 = c4.before.before.before.before.before in
-    let P = c9.requires in let A = c9.args in let e = row-length A.masks.now A.w A.i P.1.0 in
-    rw (part-row A.masks.now A.w A.i, part-row A.hop.now A.w A.i)
+    let P = c9.requires in let A = c9.args in let e = row_length A.masks.now A.w A.i P.1.0 in
+    rw (part_row A.masks.now A.w A.i, part_row A.hop.now A.w A.i)
     ((P.1.1.1.0, (omega (arith, c4.loop-test.true), omega (arith, P.0))))
 
 loop-less-2 : tie.Need-loop-smaller-2 invariant-loop decreases-loop
 loop-less-2 c =
     let c5 = c.before.before.before.before.before in
     let c10 = c5.before.before.before.before.before in
-    let A = c10.args in let n = rw (part-row A.masks.now A.w A.i) at c.onward2.ensures in
+    let A = c10.args in let n = rw (part_row A.masks.now A.w A.i) at c.onward2.ensures in
     omega (arith, n.on, c5.loop-test.true)
 
 loop-again-2 : tie.Need-loop-preserved-2 invariant-loop decreases-loop
@@ -163,16 +163,16 @@ loop-again-2 c =
     let c6 = c5.before in
     let c10 = c6.before.before.before.before in
     let A = c10.args in let P = c10.requires in
-    let n = rw (part-row A.masks.now A.w A.i) at c.onward2.ensures in
-    enlists-past c6.loop.invariant
+    let n = rw (part_row A.masks.now A.w A.i) at c.onward2.ensures in
+    enlists_past c6.loop.invariant
     (row_at A.masks.now A.w A.i c6.loop.q c5.loop-test.true ∙ c.before.before.before.if1.false) n
-    (omega (arith, n.within, row-length A.masks.now A.w A.i P.1.0))
+    (omega (arith, n.within, row_length A.masks.now A.w A.i P.1.0))
 
 same_length : tie.Need-same-length invariant-loop decreases-loop
 same_length c = c.before.loop.invariant.same
 
 returns : tie.Need-returns invariant-loop decreases-loop
-returns c = enlists-all c.before.loop.invariant (omega arith)
+returns c = enlists_all c.before.loop.invariant (omega arith)
 
 pub enlist-row-spec : {M : Type 1} → statement M
 enlist-row-spec =

@@ -1,7 +1,7 @@
 -- `multi_index::is_wide` meets its contract: from word q on the hops come to such a word if from word 0 on they do. Assumes nothing.
 use Prim.Native.Nat.{◌+◌, ◌*◌, ◌-◌}
 use native.Mathlib.Omega.{arith}
-use Rattle.multi_index.proofs.Enlisting.{Widening, widens-none, widens-more, says-wide, says-narrow, hop-on}
+use Rattle.multi_index.proofs.Enlisting.{Widening, widens_none, widens_more, says_wide, says_narrow, hop_on}
 use Rattle.multi_index.proofs.is_wide.Statement.{statement}
 use Rattle.multi_index.proofs.is_wide.Tie as tie
 use Rattle.multi_index.proofs.is_wide.Reads as reads
@@ -17,7 +17,7 @@ mul-a : tie.Need-overflow-mul-a invariant-loop decreases-loop
 mul-a c = omega (arith, c.requires.1.0)
 
 loop-holds : tie.Need-loop-init invariant-loop decreases-loop
-loop-holds c = let A = c.args in widens-none A.masks.now A.hop.now A.w A.i
+loop-holds c = let A = c.args in widens_none A.masks.now A.hop.now A.w A.i
 
 add-e : tie.Need-overflow-add-e invariant-loop decreases-loop
 add-e c = omega arith
@@ -48,14 +48,14 @@ returns c =
     let c5 = c4.before in
     let c6 = c5.before in
     let P = c6.requires in
-    says-wide c5.loop.invariant P.1.0 P.1.1.1.0 c4.loop-test.true c.before.if1.true c.if2.true
+    says_wide c5.loop.invariant P.1.0 P.1.1.1.0 c4.loop-test.true c.before.if1.true c.if2.true
 
 loop-less : tie.Need-loop-smaller invariant-loop decreases-loop
 loop-less c =
     let c4 = c.before.before.before.before in
     let c5 = c4.before in
     let c6 = c5.before in
-    let P = c6.requires in let l = c4.loop-test.true in omega (arith, hop-on c5.loop.invariant P.1.0 P.1.1.1.0 l)
+    let P = c6.requires in let l = c4.loop-test.true in omega (arith, hop_on c5.loop.invariant P.1.0 P.1.1.1.0 l)
 
 loop-again : tie.Need-loop-preserved invariant-loop decreases-loop
 loop-again c =
@@ -63,24 +63,24 @@ loop-again c =
     let c5 = c4.before in
     let c6 = c5.before in
     let P = c6.requires in
-    widens-more c5.loop.invariant P.1.0 P.1.1.1.0 c4.loop-test.true (λ a b. omega (arith, b, c.if2.false))
+    widens_more c5.loop.invariant P.1.0 P.1.1.1.0 c4.loop-test.true (λ a b. omega (arith, b, c.if2.false))
 
 loop-less-2 : tie.Need-loop-smaller-2 invariant-loop decreases-loop
 loop-less-2 c =
     let c4 = c.before.before.before.before in
     let c5 = c4.before in
     let P = c5.requires in let l = c.before.before.before.loop-test.true in
-    omega (arith, hop-on c4.loop.invariant P.1.0 P.1.1.1.0 l)
+    omega (arith, hop_on c4.loop.invariant P.1.0 P.1.1.1.0 l)
 
 loop-again-2 : tie.Need-loop-preserved-2 invariant-loop decreases-loop
 loop-again-2 c =
     let c4 = c.before.before.before.before in
     let c5 = c4.before in
     let P = c5.requires in
-    widens-more c4.loop.invariant P.1.0 P.1.1.1.0 c.before.before.before.loop-test.true (λ a b. c.if1.false a)
+    widens_more c4.loop.invariant P.1.0 P.1.1.1.0 c.before.before.before.loop-test.true (λ a b. c.if1.false a)
 
 returns-2 : tie.Need-returns-2 invariant-loop decreases-loop
-returns-2 c = says-narrow c.before.loop.invariant c.before.before.requires.1.0 (omega arith)
+returns-2 c = says_narrow c.before.loop.invariant c.before.before.requires.1.0 (omega arith)
 
 pub is-wide-spec : {M : Type 1} → statement M
 is-wide-spec =

@@ -3,7 +3,7 @@ use Prim.Native.Nat.{◌+◌, ◌*◌, ◌/◌}
 use native.Mathlib.Omega.{arith}
 use lib.ListN.{length-set}
 use Rattle.multi_keys.specs.Keys.{at}
-use Rattle.multi_index.specs.IndexLaws.{push-stores}
+use Rattle.multi_index.specs.IndexLaws.{push_stores}
 use borrow.Author.Rules.{rules}
 use Rattle.multi_index.proofs.push.Statement.{statement}
 use Rattle.multi_index.proofs.push.Tie as tie
@@ -65,7 +65,7 @@ returns : tie.Need-returns
 returns c =
     let A = c.before.args in
     let v = at A.index.now (2 * A.q) / 1024 * 1024 + A.i in
-    push-stores A.index.now A.q A.t A.i A.m v (omega arith) (omega arith) (omega arith) (omega arith)
+    push_stores A.index.now A.q A.t A.i A.m v (omega arith) (omega arith) (omega arith) (omega arith)
 
 pub push_spec : {M : Type 1} → statement M
 push_spec =

@@ -3,7 +3,7 @@ use Prim.Native.Nat.{◌≤◌}
 use mathlib.Core.Path.{◌≡◌, refl, sym, ◌∙◌}
 use native.Mathlib.Omega.{arith}
 use Rattle.multi_keys.specs.Tree.{leaves}
-use Rattle.multi_keys.specs.TreeLaws.{From, play-starts, play-goes, play-ends, leaves-keep}
+use Rattle.multi_keys.specs.TreeLaws.{From, play_starts, play_goes, play_ends, leaves_keep}
 use Rattle.multi_keys.proofs.play.Statement.{statement}
 use Rattle.multi_keys.proofs.play.Tie as tie
 
@@ -14,7 +14,7 @@ abbrev decreases-loop : tie.decreases-loop
 decreases-loop tree₀ v₀ tree v = v
 
 loop-holds : tie.Need-loop-init invariant-loop decreases-loop
-loop-holds c = (omega arith, (play-starts c.before.args.tree.now c.before.requires (omega arith), refl))
+loop-holds c = (omega arith, (play_starts c.before.args.tree.now c.before.requires (omega arith), refl))
 
 sub-v : tie.Need-overflow-sub-v invariant-loop decreases-loop
 sub-v c = omega arith
@@ -58,8 +58,8 @@ loop-again c =
     let s = c3.before.loop.invariant in (
       omega (arith, s.0),
       (
-        play-goes s.1.0 (omega (arith, c3.loop-test)) s.0 c.lesser.ensures,
-        leaves-keep _ _ _ (omega (arith, s.0)) ∙ s.1.1,
+        play_goes s.1.0 (omega (arith, c3.loop-test)) s.0 c.lesser.ensures,
+        leaves_keep _ _ _ (omega (arith, s.0)) ∙ s.1.1,
       ),
     )
 
@@ -67,7 +67,7 @@ same_length : tie.Need-same-length invariant-loop decreases-loop
 same_length c = c.before.loop.invariant.1.0.size ∙ sym c.before.before.before.requires
 
 returns : tie.Need-returns invariant-loop decreases-loop
-returns c = let s = c.before.loop.invariant in (play-ends s.1.0 (omega arith), s.1.1)
+returns c = let s = c.before.loop.invariant in (play_ends s.1.0 (omega arith), s.1.1)
 
 pub play-spec : {M : Type 1} → statement M
 play-spec =

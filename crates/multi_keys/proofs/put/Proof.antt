@@ -4,7 +4,7 @@ use Prim.Native.Nat.{◌-◌}
 use mathlib.Core.Path.{◌≡◌, refl, sym, ◌∙◌}
 use native.Mathlib.Omega.{arith}
 use Rattle.multi_keys.specs.Tree.{leaves}
-use Rattle.multi_keys.specs.TreeLaws.{Putting, put-starts, put-goes, put-ends, leaves-set, leaves-keep}
+use Rattle.multi_keys.specs.TreeLaws.{Putting, put_starts, put_goes, put_ends, leaves_set, leaves_keep}
 use Rattle.multi_keys.proofs.put.Statement.{statement}
 use Rattle.multi_keys.proofs.put.Tie as tie
 
@@ -24,7 +24,7 @@ slice-write-tree : tie.Need-slice-write-tree invariant-loop decreases-loop
 slice-write-tree c = omega arith
 
 loop-holds : tie.Need-loop-init invariant-loop decreases-loop
-loop-holds c = let A = c.before.args in (put-starts c.before.requires.0 A.i A.key c.before.requires.1, refl)
+loop-holds c = let A = c.before.args in (put_starts c.before.requires.0 A.i A.key c.before.requires.1, refl)
 
 beside-requires : tie.Need-beside-requires invariant-loop decreases-loop
 beside-requires c κs = c.before.loop.invariant.0.inside
@@ -54,8 +54,8 @@ loop-again : tie.Need-loop-preserved invariant-loop decreases-loop
 loop-again c =
     let c3 = c.before.before.before in
     let s = c3.before.loop.invariant in (
-      put-goes s.0 (omega (arith, c3.loop-test)) (c.lesser.ensures ∙ rw c.before.before.beside.ensures),
-      leaves-keep _ _ _ (omega (arith, s.0.inside)) ∙ s.1,
+      put_goes s.0 (omega (arith, c3.loop-test)) (c.lesser.ensures ∙ rw c.before.before.beside.ensures),
+      leaves_keep _ _ _ (omega (arith, s.0.inside)) ∙ s.1,
     )
 
 same_length : tie.Need-same-length invariant-loop decreases-loop
@@ -65,7 +65,7 @@ returns : tie.Need-returns invariant-loop decreases-loop
 returns c =
     let s = c.before.loop.invariant in
     let A = c.before.before.before.args in
-    (put-ends s.0 (omega (arith, c.loop-test)), s.1 ∙ leaves-set A.tree.now A.i A.key)
+    (put_ends s.0 (omega (arith, c.loop-test)), s.1 ∙ leaves_set A.tree.now A.i A.key)
 
 pub put_spec : {M : Type 1} → statement M
 put_spec =

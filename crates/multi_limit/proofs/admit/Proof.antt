@@ -4,11 +4,11 @@ use native.Mathlib.Omega.{arith}
 use lib.ListN.{length}
 use borrow.Author.Tests.{eqb-true, eqb-false}
 use Rattle.cells.specs.Cells.{cell}
-use Rattle.cells.specs.StoreLaws.{cell-lt}
+use Rattle.cells.specs.StoreLaws.{cell_lt}
 use Rattle.multi_keys.specs.Tree.{leaves}
-use Rattle.multi_keys.specs.TreeLaws.{length-leaves}
+use Rattle.multi_keys.specs.TreeLaws.{length_leaves}
 use Rattle.multi_market.specs.Market.{has}
-use Rattle.multi_limit.specs.PassLaws.{mark-own, gained-nothing, gained-one}
+use Rattle.multi_limit.specs.PassLaws.{mark_own, gained_nothing, gained_one}
 use borrow.Author.Rules.{rules}
 use Rattle.multi_limit.proofs.admit.Statement.{statement}
 use Rattle.multi_limit.proofs.admit.Tie as tie
@@ -26,7 +26,7 @@ returns c =
     let e = eqb-true (cell A.mark.now A.m) 1 (sym c.before.holds.ensures ∙ c.if1.true) in (
       P.1.1.1.0,
       (
-        gained-nothing (has A.masks.now (length A.alt.now)) A.prices.now A.alt.now (leaves A.tree.now)
+        gained_nothing (has A.masks.now (length A.alt.now)) A.prices.now A.alt.now (leaves A.tree.now)
             A.mark.now,
         (omega (arith, e), P.1.1.0),
       ),
@@ -54,9 +54,9 @@ returns-2 c =
     let e = eqb-false (cell A.mark.now A.m) 1 (sym c11.holds.ensures ∙ c10.if1.false) in (
       r.0,
       (
-        gained-one A.m l (omega (arith, l, length-leaves A.tree.now P.1.1.1.0.size, P.0.priced.count))
-            (omega (arith, e, cell-lt A.mark.now A.m)) r.1.0 r.1.1.0,
-        (omega (arith, mark-own r.1.1.0), r.1.1.1),
+        gained_one A.m l (omega (arith, l, length_leaves A.tree.now P.1.1.1.0.size, P.0.priced.count))
+            (omega (arith, e, cell_lt A.mark.now A.m)) r.1.0 r.1.1.0,
+        (omega (arith, mark_own r.1.1.0), r.1.1.1),
       ),
     )
 

@@ -5,8 +5,8 @@ use mathlib.Core.Bool.{false≢true}
 use native.Mathlib.Omega.{arith}
 use borrow.Author.Tests.{eqb-true, eqb-false}
 use Rattle.cells.specs.Cells.{cell}
-use Rattle.cells.specs.StoreLaws.{cell-lt}
-use Rattle.multi_rounds.specs.Trace.{bidOn}
+use Rattle.cells.specs.StoreLaws.{cell_lt}
+use Rattle.multi_rounds.specs.Trace.{bid_on}
 use borrow.Author.Rules.{rules}
 use Rattle.multi_limit.proofs.alike.Statement.{statement}
 use Rattle.multi_limit.proofs.alike.Tie as tie
@@ -26,7 +26,7 @@ holds-requires c κs = search rules
 returns : tie.Need-returns
 returns c =
     let c7 = c.before.before.before.before.before.before.before in
-    let A = c7.args in let m = bidOn A.run.now A.g in
+    let A = c7.args in let m = bid_on A.run.now A.g in
     let e = eqb-true (cell A.mark.now m) 1 (sym c.before.holds.ensures ∙ c.if1.true) in
     record { free = λ t. absurd (false≢true t); held = λ t. absurd (false≢true t); not = λ t. inl (omega (arith, e)) }
 
@@ -64,10 +64,10 @@ returns-2 : tie.Need-returns-2
 returns-2 c =
     let c4 = c.before.before.before.before in
     let c10 = c4.before.before.before.before.before.before in
-    let A = c10.args in let m = bidOn A.run.now A.g in
+    let A = c10.args in let m = bid_on A.run.now A.g in
     let e = eqb-false (cell A.mark.now m) 1 (sym c4.holds.ensures ∙ c.before.before.before.if1.false) in
     record {
-      free = λ t. omega (arith, e, cell-lt A.mark.now m);
+      free = λ t. omega (arith, e, cell_lt A.mark.now m);
       held = c.all_held.ensures.yes;
       not = λ t. inr (c.all_held.ensures.no t);
     }

@@ -8,11 +8,11 @@ use borrow.Author.Rules.{rules}
 use Rattle.cells_count.specs.Hops.{Counted}
 use Rattle.multi_keys.specs.Keys.{at}
 use Rattle.multi_keys.specs.Tree.{leaves, Tree}
-use Rattle.multi_keys.specs.TreeLaws.{length-leaves}
+use Rattle.multi_keys.specs.TreeLaws.{length_leaves}
 use Rattle.multi_market.specs.Market.{has}
 use Rattle.multi_index.specs.Index.{Indexed}
-use Rattle.multi_gain.specs.GainLaws.{indexed-more}
-use Rattle.multi_limit.specs.WalkLaws.{Along, along-starts, in-run, room-here, written-here, along-goes, along-passes, along-ends}
+use Rattle.multi_gain.specs.GainLaws.{indexed_more}
+use Rattle.multi_limit.specs.WalkLaws.{Along, along_starts, in_run, room_here, written_here, along_goes, along_passes, along_ends}
 use Rattle.multi_limit.proofs.along.Statement.{statement}
 use Rattle.multi_limit.proofs.along.Tie as tie
 
@@ -29,7 +29,7 @@ loop-holds : tie.Need-loop-init invariant-loop decreases-loop
 loop-holds c =
     let c10 = c.before.before.before.before.before.before.before.before.before.before in
     let P = c10.requires in let Q = P.1.1.1 in let R = Q.1.1.1.1 in (
-      along-starts c10.args.walk.top R.0 R.1.1.1,
+      along_starts c10.args.walk.top R.0 R.1.1.1,
       (Q.0, (Q.1.0, (Q.1.1.0, (P.1.1.0, R.1.0)))),
     )
 
@@ -47,7 +47,7 @@ alike-requires c κs =
     let c4 = c.before.before.before.before in
     let c15 = c4.before.before.before.before.before.before.before.before.before.before.before in
     let P = c15.requires in let I = c4.loop.invariant in let R = P.1.1.1.1.1.1 in
-    let l = in-run P.0.priced P.0.words R.0 I.0 I.1.1.1.1.1 R.1.1.1.0
+    let l = in_run P.0.priced P.0.words R.0 I.0 I.1.1.1.1.1 R.1.1.1.0
     (omega (arith, c.before.before.if1.true)) in
     (omega (arith, l, I.0.goes.main.room), (I.1.1.1.0, (I.0.goes.main.each c4.loop.g l).paired))
 
@@ -57,7 +57,7 @@ mul-a c =
     let c6 = c4.before.before in
     let c17 = c6.before.before.before.before.before.before.before.before.before.before.before in
     let P = c17.requires in let I = c6.loop.invariant in let R = P.1.1.1.1.1.1 in
-    let l = room-here P.0.priced P.0.words R.0 I.0 I.1.1.1.1.1 R.1.1.1.0 (omega (arith, c4.if1.true)) in
+    let l = room_here P.0.priced P.0.words R.0 I.0 I.1.1.1.1.1 R.1.1.1.0 (omega (arith, c4.if1.true)) in
     omega (arith, l, c17.well-formed.1.1.1.1.0)
 
 add_a : tie.Need-overflow-add-a invariant-loop decreases-loop
@@ -66,7 +66,7 @@ add_a c =
     let c6 = c4.before.before in
     let c17 = c6.before.before.before.before.before.before.before.before.before.before.before in
     let P = c17.requires in let I = c6.loop.invariant in let R = P.1.1.1.1.1.1 in
-    let l = room-here P.0.priced P.0.words R.0 I.0 I.1.1.1.1.1 R.1.1.1.0 (omega (arith, c4.if1.true)) in
+    let l = room_here P.0.priced P.0.words R.0 I.0 I.1.1.1.1.1 R.1.1.1.0 (omega (arith, c4.if1.true)) in
     omega (arith, l, c17.well-formed.1.1.1.1.0)
 
 mul-a-2 : tie.Need-overflow-mul-a-2 invariant-loop decreases-loop
@@ -75,7 +75,7 @@ mul-a-2 c =
     let c6 = c4.before.before in
     let c17 = c6.before.before.before.before.before.before.before.before.before.before.before in
     let P = c17.requires in let I = c6.loop.invariant in let R = P.1.1.1.1.1.1 in
-    let l = room-here P.0.priced P.0.words R.0 I.0 I.1.1.1.1.1 R.1.1.1.0 (omega (arith, c4.if1.true)) in
+    let l = room_here P.0.priced P.0.words R.0 I.0 I.1.1.1.1.1 R.1.1.1.0 (omega (arith, c4.if1.true)) in
     omega (arith, l, c17.well-formed.1.1.1.1.0)
 
 shared-slice-read-a : tie.Need-shared-slice-read-a invariant-loop decreases-loop
@@ -84,7 +84,7 @@ shared-slice-read-a c =
     let c7 = c5.before.before in
     let c18 = c7.before.before.before.before.before.before.before.before.before.before.before in
     let P = c18.requires in let I = c7.loop.invariant in let R = P.1.1.1.1.1.1 in
-    let l = room-here P.0.priced P.0.words R.0 I.0 I.1.1.1.1.1 R.1.1.1.0 (omega (arith, c5.if1.true)) in
+    let l = room_here P.0.priced P.0.words R.0 I.0 I.1.1.1.1.1 R.1.1.1.0 (omega (arith, c5.if1.true)) in
     omega (arith, l)
 
 add-z : tie.Need-overflow-add-z invariant-loop decreases-loop
@@ -93,7 +93,7 @@ add-z c =
     let c7 = c5.before.before in
     let c18 = c7.before.before.before.before.before.before.before.before.before.before.before in
     let P = c18.requires in let I = c7.loop.invariant in let R = P.1.1.1.1.1.1 in
-    let l = room-here P.0.priced P.0.words R.0 I.0 I.1.1.1.1.1 R.1.1.1.0 (omega (arith, c5.if1.true)) in
+    let l = room_here P.0.priced P.0.words R.0 I.0 I.1.1.1.1.1 R.1.1.1.0 (omega (arith, c5.if1.true)) in
     omega (arith, l, c18.well-formed.1.1.1.1.0)
 
 mul-z : tie.Need-overflow-mul-z invariant-loop decreases-loop
@@ -102,7 +102,7 @@ mul-z c =
     let c7 = c5.before.before in
     let c18 = c7.before.before.before.before.before.before.before.before.before.before.before in
     let P = c18.requires in let I = c7.loop.invariant in let R = P.1.1.1.1.1.1 in
-    let l = room-here P.0.priced P.0.words R.0 I.0 I.1.1.1.1.1 R.1.1.1.0 (omega (arith, c5.if1.true)) in
+    let l = room_here P.0.priced P.0.words R.0 I.0 I.1.1.1.1.1 R.1.1.1.0 (omega (arith, c5.if1.true)) in
     omega (arith, l, c18.well-formed.1.1.1.1.0)
 
 add-z-2 : tie.Need-overflow-add-z-2 invariant-loop decreases-loop
@@ -111,7 +111,7 @@ add-z-2 c =
     let c7 = c5.before.before in
     let c18 = c7.before.before.before.before.before.before.before.before.before.before.before in
     let P = c18.requires in let I = c7.loop.invariant in let R = P.1.1.1.1.1.1 in
-    let l = room-here P.0.priced P.0.words R.0 I.0 I.1.1.1.1.1 R.1.1.1.0 (omega (arith, c5.if1.true)) in
+    let l = room_here P.0.priced P.0.words R.0 I.0 I.1.1.1.1.1 R.1.1.1.0 (omega (arith, c5.if1.true)) in
     omega (arith, l, c18.well-formed.1.1.1.1.0)
 
 mul-z-2 : tie.Need-overflow-mul-z-2 invariant-loop decreases-loop
@@ -120,7 +120,7 @@ mul-z-2 c =
     let c7 = c5.before.before in
     let c18 = c7.before.before.before.before.before.before.before.before.before.before.before in
     let P = c18.requires in let I = c7.loop.invariant in let R = P.1.1.1.1.1.1 in
-    let l = room-here P.0.priced P.0.words R.0 I.0 I.1.1.1.1.1 R.1.1.1.0 (omega (arith, c5.if1.true)) in
+    let l = room_here P.0.priced P.0.words R.0 I.0 I.1.1.1.1.1 R.1.1.1.0 (omega (arith, c5.if1.true)) in
     omega (arith, l, c18.well-formed.1.1.1.1.0)
 
 shared-slice-read-z : tie.Need-shared-slice-read-z invariant-loop decreases-loop
@@ -129,7 +129,7 @@ shared-slice-read-z c =
     let c8 = c6.before.before in
     let c19 = c8.before.before.before.before.before.before.before.before.before.before.before in
     let P = c19.requires in let I = c8.loop.invariant in let R = P.1.1.1.1.1.1 in
-    let l = room-here P.0.priced P.0.words R.0 I.0 I.1.1.1.1.1 R.1.1.1.0 (omega (arith, c6.if1.true)) in
+    let l = room_here P.0.priced P.0.words R.0 I.0 I.1.1.1.1.1 R.1.1.1.0 (omega (arith, c6.if1.true)) in
     omega (arith, l)
 
 close-pairs-requires : tie.Need-close-pairs-requires invariant-loop decreases-loop
@@ -138,7 +138,7 @@ close-pairs-requires c κs =
     let c10 = c8.before.before in
     let c21 = c10.before.before.before.before.before.before.before.before.before.before.before in
     let P = c21.requires in let I = c10.loop.invariant in let R = P.1.1.1.1.1.1 in (
-      (written-here P.0.priced P.0.words R.0 I.0 I.1.1.1.1.1 R.1.1.1.0 (omega (arith, c8.if1.true))).paired,
+      (written_here P.0.priced P.0.words R.0 I.0 I.1.1.1.1.1 R.1.1.1.0 (omega (arith, c8.if1.true))).paired,
       (omega (arith, I.0.size, P.0.words), I.1.0),
     )
 
@@ -148,7 +148,7 @@ add-g c =
     let c15 = c13.before.before in
     let c26 = c15.before.before.before.before.before.before.before.before.before.before.before in
     let P = c26.requires in let I = c15.loop.invariant in let R = P.1.1.1.1.1.1 in
-    let l = room-here P.0.priced P.0.words R.0 I.0 I.1.1.1.1.1 R.1.1.1.0 (omega (arith, c13.if1.true)) in
+    let l = room_here P.0.priced P.0.words R.0 I.0 I.1.1.1.1.1 R.1.1.1.0 (omega (arith, c13.if1.true)) in
     omega (arith, l, c26.well-formed.1.1.1.1.0)
 
 loop-less : tie.Need-loop-smaller invariant-loop decreases-loop
@@ -157,7 +157,7 @@ loop-less c =
     let c15 = c13.before.before in
     let c26 = c15.before.before.before.before.before.before.before.before.before.before.before in
     let P = c26.requires in let I = c15.loop.invariant in let R = P.1.1.1.1.1.1 in
-    let l = room-here P.0.priced P.0.words R.0 I.0 I.1.1.1.1.1 R.1.1.1.0 (omega (arith, c13.if1.true)) in
+    let l = room_here P.0.priced P.0.words R.0 I.0 I.1.1.1.1.1 R.1.1.1.0 (omega (arith, c13.if1.true)) in
     omega (arith, l)
 
 loop-again : tie.Need-loop-preserved invariant-loop decreases-loop
@@ -169,7 +169,7 @@ loop-again c =
     let c15 = c13.before.before in
     let c26 = c15.before.before.before.before.before.before.before.before.before.before.before in
     let P = c26.requires in let I = c15.loop.invariant in let R = P.1.1.1.1.1.1 in let u = c4.close-pairs in let v = c10.alike.ensures in (
-      along-goes P.0.priced P.0.words R.0 I.0 I.1.1.1.1.1 R.1.1.1.0 (omega (arith, c13.if1.true))
+      along_goes P.0.priced P.0.words R.0 I.0 I.1.1.1.1.1 R.1.1.1.0 (omega (arith, c13.if1.true))
           (v.free c9.if2.true)
           (v.held c9.if2.true) u.auto.0 u.ensures.0,
       (u.ensures.1, I.1.1),
@@ -181,7 +181,7 @@ pass-requires c κs =
     let c10 = c8.before.before in
     let c21 = c10.before.before.before.before.before.before.before.before.before.before.before in
     let P = c21.requires in let I = c10.loop.invariant in let R = P.1.1.1.1.1.1 in let e = I.0.size in
-    let l = in-run P.0.priced P.0.words R.0 I.0 I.1.1.1.1.1 R.1.1.1.0 (omega (arith, c8.if1.true)) in
+    let l = in_run P.0.priced P.0.words R.0 I.0 I.1.1.1.1.1 R.1.1.1.0 (omega (arith, c8.if1.true)) in
     let w = I.0.goes.main.each c10.loop.g l in (
       rw (← e) at P.0,
       (
@@ -208,7 +208,7 @@ add-at-round c =
     let c17 = c15.before.before in
     let c28 = c17.before.before.before.before.before.before.before.before.before.before.before in
     let P = c28.requires in let I = c17.loop.invariant in let R = P.1.1.1.1.1.1 in
-    let l = room-here P.0.priced P.0.words R.0 I.0 I.1.1.1.1.1 R.1.1.1.0 (omega (arith, c15.if1.true)) in
+    let l = room_here P.0.priced P.0.words R.0 I.0 I.1.1.1.1.1 R.1.1.1.0 (omega (arith, c15.if1.true)) in
     omega (arith, l, c28.well-formed.1.1.1.1.0)
 
 at-round-requires : tie.Need-at-round-requires invariant-loop decreases-loop
@@ -249,16 +249,16 @@ returns c =
     let c29 = c18.before.before.before.before.before.before.before.before.before.before.before in
     let P = c29.requires in let I = c18.loop.invariant in let R = P.1.1.1.1.1.1 in let e = I.0.size in let d = c7.pass.ensures in
     let r = c.at-round.ensures in (
-      rw r.0.1 (along-passes P.0.priced P.0.words R.0 I.0 I.1.1.1.1.1 R.1.1.1.0
+      rw r.0.1 (along_passes P.0.priced P.0.words R.0 I.0 I.1.1.1.1.1 R.1.1.1.0
           (omega (arith, c16.if1.true))
-          (rw e at d.1.0) (length-leaves _ d.0.size) d.1.1.0),
+          (rw e at d.1.0) (length_leaves _ d.0.size) d.1.1.0),
       (
         (r.0.0, r.1),
         (
           d.0,
           (
             d.1.1.1,
-            indexed-more I.1.1.1.1.0 (λ i l y. (d.1.0.kept i (omega (arith, l, P.0.priced.count)) y).0),
+            indexed_more I.1.1.1.1.0 (λ i l y. (d.1.0.kept i (omega (arith, l, P.0.priced.count)) y).0),
           ),
         ),
       ),
@@ -290,7 +290,7 @@ returns-2 : tie.Need-returns-2 invariant-loop decreases-loop
 returns-2 c =
     let c14 = c.before.before.before.before.before.before.before.before.before.before.before.before.before.before in
     let P = c14.requires in let I = c.before.before.before.loop.invariant in let R = P.1.1.1.1.1.1 in let r = c.at-round2.ensures in (
-      rw r.0.1 (along-ends P.0.priced P.0.words R.0 I.0 (λ z. omega (arith, z, c.before.if1.false))),
+      rw r.0.1 (along_ends P.0.priced P.0.words R.0 I.0 (λ z. omega (arith, z, c.before.if1.false))),
       ((r.0.0, r.1), (I.1.1.0, (I.1.0, I.1.1.1.1.0))),
     )
 

@@ -2,9 +2,9 @@
 -- of its tape; as many cells are open for it as its round gains. Assumes nothing.
 use mathlib.Core.Path.{refl, ◌∙◌}
 use native.Mathlib.Omega.{arith}
-use Rattle.multi_keys.specs.TreeLaws.{length-leaves}
-use Rattle.multi_gain.specs.GainLaws.{indexed-more}
-use Rattle.multi_limit.specs.PassLaws.{mark-kept, begin-follows}
+use Rattle.multi_keys.specs.TreeLaws.{length_leaves}
+use Rattle.multi_gain.specs.GainLaws.{indexed_more}
+use Rattle.multi_limit.specs.PassLaws.{mark_kept, begin_follows}
 use borrow.Author.Rules.{rules}
 use Rattle.multi_limit.proofs.begin.Statement.{statement}
 use Rattle.multi_limit.proofs.begin.Tie as tie
@@ -57,7 +57,7 @@ gain-pairs-requires c κs =
       (
         P.1.0,
         (
-          indexed-more P.1.1.0 (λ i l y. mark-kept c5.add.ensures i y),
+          indexed_more P.1.1.0 (λ i l y. mark_kept c5.add.ensures i y),
           ((B.main.each c20.args.h B.here).paired, (Q.0, (Q.1.0, c5.add.auto.0 ∙ Q.1.1.0))),
         ),
       ),
@@ -108,14 +108,14 @@ returns c =
     let c13 = c7.before.before.before.before.before.before in
     let c28 = c13.before.before.before.before.before.before.before.before.before.before.before.before.before.before.before in
     let P = c28.requires in let d = c7.gain-pairs.ensures in let f = c13.add.ensures in (
-      begin-follows P.0.priced P.0.words P.1.1.1.1.1.1 f d.1.0 (length-leaves _ d.0.size) (omega arith),
+      begin_follows P.0.priced P.0.words P.1.1.1.1.1.1 f d.1.0 (length_leaves _ d.0.size) (omega arith),
       (
         (refl, refl),
         (
           d.0,
           (
             d.1.1,
-            indexed-more (indexed-more P.1.1.0 (λ i l y. mark-kept f i y))
+            indexed_more (indexed_more P.1.1.0 (λ i l y. mark_kept f i y))
                 (λ i l y. (d.1.0.kept i (omega (arith, l, P.0.priced.count)) y).0),
           ),
         ),

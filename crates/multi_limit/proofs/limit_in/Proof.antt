@@ -7,23 +7,23 @@ use lib.ListN.{length}
 use Rattle.cells_count.specs.Hops.{Counted}
 use Rattle.multi_keys.specs.Tree.{leaves, Tree}
 use Rattle.multi_market.specs.Market.{has}
-use Rattle.multi_market.specs.Opens.{openOf}
+use Rattle.multi_market.specs.Opens.{open_of}
 use Rattle.multi_index.specs.Index.{Indexed}
-use Rattle.multi_rounds.specs.Trace.{bidOn}
-use Rattle.multi_limit.specs.StepLaws.{Limiting, limit-starts, limit-goes, limit-over, limit-ends}
+use Rattle.multi_rounds.specs.Trace.{bid_on}
+use Rattle.multi_limit.specs.StepLaws.{Limiting, limit_starts, limit_goes, limit_over, limit_ends}
 use Rattle.multi_limit.proofs.limit_in.Statement.{statement}
 use Rattle.multi_limit.proofs.limit_in.Tie as tie
 
 abbrev invariant-loop : tie.invariant-loop
 invariant-loop prices masks hop index run tape h alt₀ counts₀ tree₀ mark₀ walk₀ alt counts tree mark walk =
-    (walk.bid ≡ bidOn run h)
-    × (Limiting (has masks (length alt₀)) prices (bidOn run h) run tape alt₀ alt (leaves tree) mark walk.mine walk.top
+    (walk.bid ≡ bid_on run h)
+    × (Limiting (has masks (length alt₀)) prices (bid_on run h) run tape alt₀ alt (leaves tree) mark walk.mine walk.top
     walk.round
     × (Counted alt counts × (Tree tree × ((length mark ≡ 16) × Indexed (length prices) masks (length alt₀) index mark))))
 
 abbrev decreases-loop : tie.decreases-loop
 decreases-loop prices masks hop index run tape h alt₀ counts₀ tree₀ mark₀ walk₀ alt counts tree mark walk =
-    length run - 3 * walk.round + length (openOf alt)
+    length run - 3 * walk.round + length (open_of alt)
 
 begin-requires : tie.Need-begin-requires invariant-loop decreases-loop
 begin-requires c κs =
@@ -37,7 +37,7 @@ loop-holds c =
     let d = c6.begin.ensures in let w = d.1.1 in (
       d.1.0.0,
       (
-        limit-starts d.0 d.1.0.1,
+        limit_starts d.0 d.1.0.1,
         (w.1.0, (w.0, (c6.begin.auto.1.1.1.1.1.1.1.1.1.1.0 ∙ c21.requires.1.1.1.1.1.0, w.1.1))),
       ),
     )
@@ -103,7 +103,7 @@ returns c =
     let c9 = c.before.before.before.before.before.before.before.before.before in
     let c16 = c9.before.before.before.before.before.before.before in
     let I = c16.loop.invariant in let L = I.1.0 in let d = c9.step.ensures in
-    (limit-over L (rw (L.size, I.0) at d.0) c.if2.true, d.1.1.1.0)
+    (limit_over L (rw (L.size, I.0) at d.0) c.if2.true, d.1.1.1.0)
 
 loop-less : tie.Need-loop-smaller invariant-loop decreases-loop
 loop-less c =
@@ -117,7 +117,7 @@ loop-again c =
     let I = c16.loop.invariant in let L = I.1.0 in let d = c9.step.ensures in (
       d.1.0 ∙ I.0,
       (
-        limit-goes L (rw (L.size, I.0) at d.0) c9.step.auto.1.1.1.1.1.1.1.0 c.if2.false,
+        limit_goes L (rw (L.size, I.0) at d.0) c9.step.auto.1.1.1.1.1.1.1.0 c.if2.false,
         (
           d.1.1.1.0,
           (d.1.1.0, (c9.step.auto.1.1.1.1.1.1.1.1.1.1.0 ∙ I.1.1.1.1.0, rw L.size at d.1.1.1.1)),
@@ -148,7 +148,7 @@ same-length-8 c =
     c.before.before.loop.invariant.1.1.1.1.0 ∙ sym c24.requires.1.1.1.1.1.0
 
 returns-2 : tie.Need-returns-2 invariant-loop decreases-loop
-returns-2 c = let I = c.before.before.loop.invariant in (limit-ends I.1.0 (omega (arith, c.if1.false)), I.1.1.0)
+returns-2 c = let I = c.before.before.loop.invariant in (limit_ends I.1.0 (omega (arith, c.if1.false)), I.1.1.0)
 
 pub limit-in-spec : {M : Type 1} → statement M
 limit-in-spec =

@@ -1,9 +1,9 @@
 -- `multi_limit::pass` meets its contract: the bid is marked, and then those that have an open cell of its tape. Assumes nothing.
 use mathlib.Core.Path.{◌∙◌}
 use native.Mathlib.Omega.{arith}
-use Rattle.multi_rounds.specs.Trace.{bidOn}
-use Rattle.multi_gain.specs.GainLaws.{indexed-more}
-use Rattle.multi_limit.specs.PassLaws.{gained-then}
+use Rattle.multi_rounds.specs.Trace.{bid_on}
+use Rattle.multi_gain.specs.GainLaws.{indexed_more}
+use Rattle.multi_limit.specs.PassLaws.{gained_then}
 use borrow.Author.Rules.{rules}
 use Rattle.multi_limit.proofs.pass.Statement.{statement}
 use Rattle.multi_limit.proofs.pass.Tie as tie
@@ -61,7 +61,7 @@ gain-pairs-requires c κs =
       (
         P.1.0,
         (
-          indexed-more P.1.1.0 (λ i l y. (a.1.0.kept i (omega (arith, l, P.0.priced.count)) y).0),
+          indexed_more P.1.1.0 (λ i l y. (a.1.0.kept i (omega (arith, l, P.0.priced.count)) y).0),
           (Q.1.1.1.1.1, (a.1.1.1, (a.0, c9.admit.auto.1.1.1.1.1.1.0 ∙ Q.1.1.0))),
         ),
       ),
@@ -83,7 +83,7 @@ returns c =
     let c30 = c16.before.before.before.before.before.before.before.before.before.before.before.before.before.before in
     let c33 = c30.before.before.before in
     let A = c33.args in let a = c16.admit.ensures in let d = c6.gain-pairs.ensures in
-    (d.0, (gained-then a.1.0 d.1.0, ((d.1.0.kept (bidOn A.run.now A.g) (omega arith) a.1.1.0).0, d.1.1)))
+    (d.0, (gained_then a.1.0 d.1.0, ((d.1.0.kept (bid_on A.run.now A.g) (omega arith) a.1.1.0).0, d.1.1)))
 
 pub pass_spec : {M : Type 1} → statement M
 pass_spec =

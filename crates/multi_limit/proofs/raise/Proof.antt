@@ -4,7 +4,7 @@ use Prim.Native.Nat.{◌-◌, ◌*◌}
 use mathlib.Core.Path.{refl}
 use native.Mathlib.Nat.{div-le_self}
 use native.Mathlib.Omega.{arith}
-use Rattle.multi_limit.specs.RaiseLaws.{product_small, raise_zero, raise-late, raise-early}
+use Rattle.multi_limit.specs.RaiseLaws.{product_small, raise_zero, raise_late, raise_early}
 use borrow.Author.Rules.{rules}
 use Rattle.multi_limit.proofs.raise.Statement.{statement}
 use Rattle.multi_limit.proofs.raise.Tie as tie
@@ -29,7 +29,7 @@ add-result c = let P = c.before.before.requires in let A = c.before.before.args 
 
 returns-2 : tie.Need-returns-2
 returns-2 c = let P = c.before.before.requires in let A = c.before.before.args in
-    raise-late A.k A.i A.price A.cells A.mine (A.price * A.mine) refl P.1.1.0
+    raise_late A.k A.i A.price A.cells A.mine (A.price * A.mine) refl P.1.1.0
     (product_small A.price A.mine P.0 P.1.1.1) c.before.if1.true c.if2.false
 
 div-result-2 : tie.Need-nonzero-div-result-2
@@ -41,7 +41,7 @@ add-result-2 c = let P = c.before.requires in let A = c.before.args in
 
 returns-3 : tie.Need-returns-3
 returns-3 c = let P = c.before.requires in let A = c.before.args in
-    raise-early A.k A.i A.price A.cells A.mine (A.price * A.mine) refl P.1.1.0
+    raise_early A.k A.i A.price A.cells A.mine (A.price * A.mine) refl P.1.1.0
     (product_small A.price A.mine P.0 P.1.1.1) c.if1.false
 
 pub raise-spec : {M : Type 1} → statement M

@@ -3,8 +3,8 @@
 use mathlib.Core.Path.{refl}
 use native.Mathlib.Omega.{arith}
 use borrow.Author.Rules.{rules}
-use Rattle.multi_limit.specs.FollowLaws.{looked, key-last}
-use Rattle.multi_limit.specs.StepLaws.{step-takes, step-ends, step-goes}
+use Rattle.multi_limit.specs.FollowLaws.{looked, key_last}
+use Rattle.multi_limit.specs.StepLaws.{step_takes, step_ends, step_goes}
 use Rattle.multi_limit.proofs.step.Statement.{statement}
 use Rattle.multi_limit.proofs.step.Tie as tie
 
@@ -21,7 +21,7 @@ front-requires : tie.Need-front-requires
 front-requires c κs =
     let c14 = c.before.before.before.before.before.before.before.before.before.before.before.before.before.before in
     let P = c14.requires in let Q = P.1.1.1 in let F = Q.1.1.1.1 in
-    (P.0, (P.1.0, (Q.0, (Q.1.0, (F.strayed.seats, key-last P.0.priced P.0.words F)))))
+    (P.0, (P.1.0, (Q.0, (Q.1.0, (F.strayed.seats, key_last P.0.priced P.0.words F)))))
 
 after-requires : tie.Need-after-requires
 after-requires c κs =
@@ -55,7 +55,7 @@ returns c =
     let c16 = c11.before.before.before.before.before in
     let c31 = c16.before.before.before.before.before.before.before.before.before.before.before.before.before.before.before in
     let P = c31.requires in let F = P.1.1.1.1.1.1.1 in let f = c16.front.ensures.1.0 in let t = c6.take.ensures.1 in (
-      step-takes P.0.priced P.0.words (looked P.0.priced P.0.words F f) f (omega (arith, c11.if1.true))
+      step_takes P.0.priced P.0.words (looked P.0.priced P.0.words F f) f (omega (arith, c11.if1.true))
           c6.take.auto.1.1.1.1.1.1.0 c6.take.ensures.0 c10.after.ensures t.1.1.1.0 t.1.1.1.1,
       (t.1.1.0, (t.0, (t.1.0, P.1.1.0))),
     )
@@ -74,7 +74,7 @@ returns-2 c =
     let c6 = c.before.before.before.before.before.before in
     let c21 = c6.before.before.before.before.before.before.before.before.before.before.before.before.before.before.before in
     let P = c21.requires in let R = P.1.1.1.1.1.1 in let d = c6.front.ensures in let f = d.1.0 in (
-      step-ends P.0.priced P.0.words (looked P.0.priced P.0.words R.1 f) R.0.1 c.if2.true
+      step_ends P.0.priced P.0.words (looked P.0.priced P.0.words R.1 f) R.0.1 c.if2.true
           (λ i l. omega (arith, l, f.least i l, c.before.if1.false, c.if2.true)),
       (refl, (d.0, (d.1.1, P.1.1.0))),
     )
@@ -90,7 +90,7 @@ along-requires c κs =
     let c11 = c6.before.before.before.before.before in
     let c26 = c11.before.before.before.before.before.before.before.before.before.before.before.before.before.before.before in
     let P = c26.requires in let Q = P.1.1.1 in let R = Q.1.1.1 in let d = c11.front.ensures in let f = d.1.0 in
-    let m = c4.lesser.ensures in let l = key-last P.0.priced P.0.words R.1 in (
+    let m = c4.lesser.ensures in let l = key_last P.0.priced P.0.words R.1 in (
       P.0,
       (
         P.1.0,
@@ -134,7 +134,7 @@ returns-3 c =
     let c22 = c8.before.before.before.before.before.before.before.before.before.before.before.before.before.before in
     let c35 = c22.before.before.before.before.before.before.before.before.before.before.before.before.before in
     let P = c35.requires in let d = c8.along.ensures in let r = d.1.0 in (
-      step-goes d.0 c8.along.auto.1.1.1.1.1.1.1.1.0 P.1.1.1.1.1.1.0.1 r.1.0 r.1.1.0 r.1.1.1,
+      step_goes d.0 c8.along.auto.1.1.1.1.1.1.1.1.0 P.1.1.1.1.1.1.0.1 r.1.0 r.1.1.0 r.1.1.1,
       (r.0, d.1.1),
     )
 

@@ -3,10 +3,10 @@ use mathlib.Core.Path.{sym, ap, ◌∙◌}
 use native.Mathlib.Omega.{arith}
 use Rattle.cells.specs.Cells.{common}
 use lib.ListN.{length}
-use Rattle.multi_market.specs.Market.{wordRow}
-use Rattle.multi_market.specs.WordRowLaws.{part-row, row-length}
-use Rattle.multi_market.specs.OpensLaws.{reach-open}
-use Rattle.multi_market.specs.BeginLaws.{common-few}
+use Rattle.multi_market.specs.Market.{word_row}
+use Rattle.multi_market.specs.WordRowLaws.{part_row, row_length}
+use Rattle.multi_market.specs.OpensLaws.{reach_open}
+use Rattle.multi_market.specs.BeginLaws.{common_few}
 use borrow.Author.Rules.{rules}
 use Rattle.multi_market.proofs.overlap.Statement.{statement}
 use Rattle.multi_market.proofs.overlap.Tie as tie
@@ -45,8 +45,8 @@ reach-requires : tie.Need-reach-requires
 reach-requires c κs =
     let c7 = c.before.before.before.before.before.before.before in
     let P = c7.requires in let A = c7.args in let w = length A.held.now in
-    rw (part-row A.masks.now w A.i, part-row A.hop.now w A.i)
-    ((sym (row-length A.masks.now w A.i P.1.0), (P.0, (P.1.1.1.0, P.1.1.1.1))))
+    rw (part_row A.masks.now w A.i, part_row A.hop.now w A.i)
+    ((sym (row_length A.masks.now w A.i P.1.0), (P.0, (P.1.1.1.0, P.1.1.1.1))))
 
 same_length : tie.Need-same-length
 same_length c = search rules
@@ -55,10 +55,10 @@ returns : tie.Need-returns
 returns c =
     let A = c.before.before.before.before.before.before.before.before.before.before.args in
     let P = c.before.before.before.before.before.before.before.before.before.before.requires in
-    let held = A.held.now in let w = length held in let row = wordRow A.masks.now w A.i in
+    let held = A.held.now in let w = length held in let row = word_row A.masks.now w A.i in
     let r = c.before.before.reach.ensures in
-    let e = r.0 ∙ ap (common held) (part-row A.masks.now w A.i) in (
-      (e ∙ sym (reach-open held A.masks.now w A.i), omega (arith, e, common-few held row P.0)),
+    let e = r.0 ∙ ap (common held) (part_row A.masks.now w A.i) in (
+      (e ∙ sym (reach_open held A.masks.now w A.i), omega (arith, e, common_few held row P.0)),
       r.1,
     )
 

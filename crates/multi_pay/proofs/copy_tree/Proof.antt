@@ -2,7 +2,7 @@
 use Prim.Native.Nat.{◌-◌}
 use native.Mathlib.Omega.{arith}
 use lib.ListN.{length-take, length-drop}
-use Rattle.multi_pay.proofs.Copying.{Copying, copy-starts, copy_goes, copy-ends}
+use Rattle.multi_pay.proofs.Copying.{Copying, copy_starts, copy_goes, copy_ends}
 use Rattle.multi_pay.proofs.copy_tree.Statement.{statement}
 use Rattle.multi_pay.proofs.copy_tree.Tie as tie
 use Rattle.multi_pay.proofs.copy_tree.Reads as reads
@@ -16,7 +16,7 @@ abbrev decreases-loop : tie.decreases-loop
 decreases-loop from to₀ a₀ to a = 2048 - a
 
 loop-holds : tie.Need-loop-init invariant-loop decreases-loop
-loop-holds c = copy-starts c.before.before.args.from.now c.before.before.args.to.now
+loop-holds c = copy_starts c.before.before.args.from.now c.before.before.args.to.now
 
 add-e : tie.Need-overflow-add-e invariant-loop decreases-loop
 add-e c = omega arith
@@ -63,7 +63,7 @@ same_length c = c.before.loop.invariant.same
 returns : tie.Need-returns invariant-loop decreases-loop
 returns c =
     let c4 = c.before.before.before.before in
-    copy-ends c4.requires.0 c4.requires.1 (omega arith) c.before.loop.invariant
+    copy_ends c4.requires.0 c4.requires.1 (omega arith) c.before.loop.invariant
 
 pub copy-tree-spec : {M : Type 1} → statement M
 copy-tree-spec =

@@ -3,7 +3,7 @@
 use mathlib.Core.Path.{refl, ap, ◌∙◌}
 use native.Mathlib.Omega.{arith}
 use lib.ListN.{length, set, length-set}
-use Rattle.multi_pay.specs.AlongLaws.{round-here, round-shuts, listed-on}
+use Rattle.multi_pay.specs.AlongLaws.{round_here, round_shuts, listed_on}
 use Rattle.multi_pay.proofs.pay.Statement.{statement}
 use Rattle.multi_pay.proofs.pay.Tie as tie
 use Rattle.multi_pay.proofs.pay.Reads as reads
@@ -106,12 +106,12 @@ limit-in-requires c κs =
 mul-won : tie.Need-overflow-mul-won
 mul-won c =
     let c48 = c.before.before.before.before.before.before.before.before.before.before.before.before.before.before.before.before.before.before.before.before.before.before.before.before.before.before.before.before.before.before.before.before.before.before.before.before.before.before.before.before.before.before.before.before.before.before.before.before in
-    let P = c48.requires in omega (arith, (round-here P.0.priced P.1.1.1.0).inside, P.0.priced.count)
+    let P = c48.requires in omega (arith, (round_here P.0.priced P.1.1.1.0).inside, P.0.priced.count)
 
 slice-write-won : tie.Need-slice-write-won
 slice-write-won c =
     let c48 = c.before.before.before.before.before.before.before.before.before.before.before.before.before.before.before.before.before.before.before.before.before.before.before.before.before.before.before.before.before.before.before.before.before.before.before.before.before.before.before.before.before.before.before.before.before.before.before.before in
-    let P = c48.requires in omega (arith, (round-here P.0.priced P.1.1.1.0).inside, P.1.1.1.1.1.1.1.1.0)
+    let P = c48.requires in omega (arith, (round_here P.0.priced P.1.1.1.0).inside, P.1.1.1.1.1.1.1.1.0)
 
 less-one-requires : tie.Need-less-one-requires
 less-one-requires c κs = tt
@@ -119,12 +119,12 @@ less-one-requires c κs = tt
 mul-cents : tie.Need-overflow-mul-cents
 mul-cents c =
     let c49 = c.before.before.before.before.before.before.before.before.before.before.before.before.before.before.before.before.before.before.before.before.before.before.before.before.before.before.before.before.before.before.before.before.before.before.before.before.before.before.before.before.before.before.before.before.before.before.before.before.before in
-    let P = c49.requires in omega (arith, (round-here P.0.priced P.1.1.1.0).inside, P.0.priced.count)
+    let P = c49.requires in omega (arith, (round_here P.0.priced P.1.1.1.0).inside, P.0.priced.count)
 
 slice-write-cents : tie.Need-slice-write-cents
 slice-write-cents c =
     let c49 = c.before.before.before.before.before.before.before.before.before.before.before.before.before.before.before.before.before.before.before.before.before.before.before.before.before.before.before.before.before.before.before.before.before.before.before.before.before.before.before.before.before.before.before.before.before.before.before.before.before in
-    let P = c49.requires in omega (arith, (round-here P.0.priced P.1.1.1.0).inside, P.1.1.1.1.1.1.1.1.1)
+    let P = c49.requires in omega (arith, (round_here P.0.priced P.1.1.1.0).inside, P.1.1.1.1.1.1.1.1.1)
 
 count-none-requires : tie.Need-count-none-requires
 count-none-requires c κs =
@@ -137,7 +137,7 @@ close-pairs-requires : tie.Need-close-pairs-requires
 close-pairs-requires c κs =
     let c4 = c.before.before.before.before in
     let c56 = c4.before.before.before.before.before.before.before.before.before.before.before.before.before.before.before.before.before.before.before.before.before.before.before.before.before.before.before.before.before.before.before.before.before.before.before.before.before.before.before.before.before.before.before.before.before.before.before.before.before.before.before.before in
-    let P = c56.requires in ((round-here P.0.priced P.1.1.1.0).paired, (P.0.words, c4.count_none.ensures))
+    let P = c56.requires in ((round_here P.0.priced P.1.1.1.0).paired, (P.0.words, c4.count_none.ensures))
 
 same_length : tie.Need-same-length
 same_length c =
@@ -190,7 +190,7 @@ returns c =
     let c36 = c21.before.before.before.before.before.before.before.before.before.before.before.before.before.before.before in
     let c61 = c36.before.before.before.before.before.before.before.before.before.before.before.before.before.before.before.before.before.before.before.before.before.before.before.before.before in
     let P = c61.requires in let R = P.1.1.1.0 in let u = c36.ready.ensures in let a = u.1.0 in let m = u.1.1.0 in let v = u.1.1.1 in
-    let s = round-shuts P.0.priced R c4.close-pairs.ensures.0 in (
+    let s = round_shuts P.0.priced R c4.close-pairs.ensures.0 in (
       record {
         price = c21.limit-in.result;
         limited = rw a at c21.limit-in.ensures.0;
@@ -198,7 +198,7 @@ returns c =
         sum = ap (set c61.args.cents.now _) c12.less_one.ensures;
         shuts = s;
       },
-      (listed-on P.0.priced (rw (a, m, v.0) at u.0) c4.close-pairs.auto.0 s, (v.1.0, c4.close-pairs.ensures.1)),
+      (listed_on P.0.priced (rw (a, m, v.0) at u.0) c4.close-pairs.auto.0 s, (v.1.0, c4.close-pairs.ensures.1)),
     )
 
 pub pay-spec : {M : Type 1} → statement M

@@ -98,7 +98,7 @@ pay-requires c κs =
                       v.1.1.0 ∙ Q.0.0 ∙ sym (e ∙ u),
                       (v.1.1.1.0 ∙ Q.0.1.0, (Q.0.1.1.0, w.0 ∙ Q.0.1.1.1.0)),
                     ),
-                    (sym w.1.0.as-won, sym w.1.0.as-cents),
+                    (sym w.1.0.as_won, sym w.1.0.as_cents),
                   ),
                 ),
               ),
@@ -176,12 +176,12 @@ same-length-6 c = c.before.loop.invariant.1.1.1.1.0
 same-length-7 : tie.Need-same-length-7 invariant-loop decreases-loop
 same-length-7 c =
     let c34 = c.before.before.before.before.before.before.before.before.before.before.before.before.before.before.before.before.before.before.before.before.before.before.before.before.before.before.before.before.before.before.before.before.before.before in
-    c.before.loop.invariant.1.1.1.1.1.0.as-won ∙ c34.requires.1.1.1.1.1.1.1.1.0
+    c.before.loop.invariant.1.1.1.1.1.0.as_won ∙ c34.requires.1.1.1.1.1.1.1.1.0
 
 same-length-8 : tie.Need-same-length-8 invariant-loop decreases-loop
 same-length-8 c =
     let c34 = c.before.before.before.before.before.before.before.before.before.before.before.before.before.before.before.before.before.before.before.before.before.before.before.before.before.before.before.before.before.before.before.before.before.before in
-    c.before.loop.invariant.1.1.1.1.1.0.as-cents ∙ c34.requires.1.1.1.1.1.1.1.1.1
+    c.before.loop.invariant.1.1.1.1.1.0.as_cents ∙ c34.requires.1.1.1.1.1.1.1.1.1
 
 returns : tie.Need-returns invariant-loop decreases-loop
 returns c =

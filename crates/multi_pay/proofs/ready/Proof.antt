@@ -3,7 +3,7 @@
 use mathlib.Core.Path.{sym, ap, ◌∙◌}
 use native.Mathlib.Omega.{arith}
 use lib.ListN.{length}
-use Rattle.multi_pay.specs.AlongLaws.{next-key, seats-out, begins}
+use Rattle.multi_pay.specs.AlongLaws.{next_key, seats_out, begins}
 use Rattle.multi_pay.proofs.ready.Statement.{statement}
 use Rattle.multi_pay.proofs.ready.Tie as tie
 use Rattle.multi_pay.proofs.ready.Reads as reads
@@ -66,8 +66,8 @@ front-requires c κs =
           (
             u.0,
             (
-              rw u.1 (seats-out P.0.priced P.1.1.0 P.1.1.1.0),
-              next-key P.0.priced P.1.1.0,
+              rw u.1 (seats_out P.0.priced P.1.1.0 P.1.1.1.0),
+              next_key P.0.priced P.1.1.0,
             ),
           ),
         ),

@@ -2,8 +2,8 @@
 use mathlib.Core.Path.{sym}
 use native.Mathlib.Omega.{arith}
 use lib.ListN.{length}
-use Rattle.multi_market.specs.WordRowLaws.{part-row, row-length}
-use Rattle.multi_market.specs.OpensLaws.{reach-open}
+use Rattle.multi_market.specs.WordRowLaws.{part_row, row_length}
+use Rattle.multi_market.specs.OpensLaws.{reach_open}
 use borrow.Author.Rules.{rules}
 use Rattle.multi_rounds.proofs.cut.Statement.{statement}
 use Rattle.multi_rounds.proofs.cut.Tie as tie
@@ -42,8 +42,8 @@ cut-requires : tie.Need-cut-requires
 cut-requires c κs =
     let c7 = c.before.before.before.before.before.before.before in
     let S = c7 in let P = S.requires in let A = S.args in let held = A.held.now in let w = length held in
-    rw (part-row A.masks.now w A.i, part-row A.hop.now w A.i, ← reach-open held A.masks.now w A.i)
-    ((sym (row-length A.masks.now w A.i P.1.0), (P.0, (P.1.1.1.0, (omega (arith, P.1.1.1.1.0), omega (arith, P.1.1.1.1.1))))))
+    rw (part_row A.masks.now w A.i, part_row A.hop.now w A.i, ← reach_open held A.masks.now w A.i)
+    ((sym (row_length A.masks.now w A.i P.1.0), (P.0, (P.1.1.1.0, (omega (arith, P.1.1.1.1.0), omega (arith, P.1.1.1.1.1))))))
 
 same_length : tie.Need-same-length
 same_length c = search rules
@@ -51,7 +51,7 @@ same_length c = search rules
 returns : tie.Need-returns
 returns c =
     let c10 = c.before.before.before.before.before.before.before.before.before.before in
-    let A = c10.args in rw (part-row A.masks.now (length A.held.now) A.i) at c.before.before.cut.ensures
+    let A = c10.args in rw (part_row A.masks.now (length A.held.now) A.i) at c.before.before.cut.ensures
 
 pub cut_spec : {M : Type 1} → statement M
 cut_spec =

@@ -7,7 +7,7 @@ use lib.ListN.{length}
 use Rattle.cells_count.specs.Hops.{Counted}
 use Rattle.multi_market.specs.Market.{has}
 use Rattle.multi_market.specs.WordRowLaws.{row_in}
-use Rattle.multi_rounds.specs.EnterLaws.{Entering, enters_none, enters-bid, enters-out, enters-all}
+use Rattle.multi_rounds.specs.EnterLaws.{Entering, enters_none, enters_bid, enters_out, enters_all}
 use Rattle.multi_rounds.proofs.enter.Statement.{statement}
 use Rattle.multi_rounds.proofs.enter.Tie as tie
 use Rattle.multi_rounds.proofs.enter.Reads as reads
@@ -82,7 +82,7 @@ loop-again c =
     let c7 = c6.before in
     let c8 = c7.before in
     let o = c4.overlap.ensures in
-    (enters-bid c8.loop.invariant.0 (omega (arith, c7.loop-test.true)) c6.if1.true o.0.0 c.key_of.ensures, o.1)
+    (enters_bid c8.loop.invariant.0 (omega (arith, c7.loop-test.true)) c6.if1.true o.0.0 c.key_of.ensures, o.1)
 
 add-tree-2 : tie.Need-overflow-add-tree-2 invariant-loop decreases-loop
 add-tree-2 c = omega arith
@@ -101,7 +101,7 @@ loop-less-2 c = omega (arith, c.before.loop-test.true)
 
 loop-again-2 : tie.Need-loop-preserved-2 invariant-loop decreases-loop
 loop-again-2 c =
-    let v = c.before.before.loop.invariant in (enters-out v.0 (omega (arith, c.before.loop-test.true)) (omega (arith, c.if1.false)), v.1)
+    let v = c.before.before.loop.invariant in (enters_out v.0 (omega (arith, c.before.loop-test.true)) (omega (arith, c.if1.false)), v.1)
 
 play-requires : tie.Need-play-requires invariant-loop decreases-loop
 play-requires c κs = c.before.before.loop.invariant.0.size
@@ -124,7 +124,7 @@ returns c =
     let c12 = c5.before.before.before.before.before.before.before in
     let u = c.before.before.play.ensures in let P = c12.requires in
     let v = c5.loop.invariant in
-    (u.0, (enters-all _ v.0 (omega (arith, c4.loop-test.false)) (omega (arith, P.0.priced.count)) u.1, v.1))
+    (u.0, (enters_all _ v.0 (omega (arith, c4.loop-test.false)) (omega (arith, P.0.priced.count)) u.1, v.1))
 
 pub enter_spec : {M : Type 1} → statement M
 enter_spec =

@@ -9,7 +9,7 @@ use Rattle.multi_keys.specs.Keys.{at, last}
 use Rattle.multi_keys.specs.Tree.{leaves}
 use Rattle.multi_market.specs.Market.{has}
 use Rattle.multi_market.specs.WordRowLaws.{row_in}
-use Rattle.multi_rounds.specs.FrontLaws.{slack, Fronting, begins, first-in, is-above, is-exact, counted, fewer}
+use Rattle.multi_rounds.specs.FrontLaws.{slack, Fronting, begins, first_in, is_above, is_exact, counted, fewer}
 use Rattle.multi_rounds.proofs.front.Statement.{statement}
 use Rattle.multi_rounds.proofs.front.Tie as tie
 use Rattle.multi_rounds.proofs.front.Reads as reads
@@ -46,7 +46,7 @@ same-length-2 c =
 returns : tie.Need-returns invariant-loop decreases-loop
 returns c =
     let c9 = c.before.before.before.before.before.before.before.before.before in
-    let f = c.before.before.loop.invariant in (f.0.grown, (is-above c9.requires.0.priced f.0 (omega (arith, c.if1.true)), f.1))
+    let f = c.before.before.loop.invariant in (f.0.grown, (is_above c9.requires.0.priced f.0 (omega (arith, c.if1.true)), f.1))
 
 overlap-requires : tie.Need-overlap-requires invariant-loop decreases-loop
 overlap-requires c κs =
@@ -54,7 +54,7 @@ overlap-requires c κs =
     let P = c10.requires in let A = c10.args in let f = c.before.before.before.loop.invariant in
     let t = c.before.before.before.loop.tree in let b = at t 1 % 1024 in
     let z : at t 1 ≤ last = omega (arith, P.1.1.1.1.1, c.before.if1.false) in
-    let l = first-in P.0.priced f.0 z in (
+    let l = first_in P.0.priced f.0 z in (
       P.0.words,
       (
         row_in A.prices.now A.masks.now (length A.held.now) b P.0 l,
@@ -69,7 +69,7 @@ mul-key-of c =
     let c13 = c6.before.before.before.before.before.before.before in
     let P = c13.requires in
     let z : at c6.loop.tree 1 ≤ last = omega (arith, P.1.1.1.1.1, c4.if1.false) in
-    omega (arith, first-in P.0.priced c6.loop.invariant.0 z, P.0.priced.count)
+    omega (arith, first_in P.0.priced c6.loop.invariant.0 z, P.0.priced.count)
 
 shared-slice-read-key-of : tie.Need-shared-slice-read-key-of invariant-loop decreases-loop
 shared-slice-read-key-of c =
@@ -78,7 +78,7 @@ shared-slice-read-key-of c =
     let c14 = c7.before.before.before.before.before.before.before in
     let P = c14.requires in
     let z : at c7.loop.tree 1 ≤ last = omega (arith, P.1.1.1.1.1, c5.if1.false) in
-    first-in P.0.priced c7.loop.invariant.0 z
+    first_in P.0.priced c7.loop.invariant.0 z
 
 key-of-requires : tie.Need-key-of-requires invariant-loop decreases-loop
 key-of-requires c κs =
@@ -87,7 +87,7 @@ key-of-requires c κs =
     let c14 = c7.before.before.before.before.before.before.before in
     let P = c14.requires in let b = at c7.loop.tree 1 % 1024 in
     let z : at c7.loop.tree 1 ≤ last = omega (arith, P.1.1.1.1.1, c5.if1.false) in
-    (P.0.priced.most b, omega (arith, first-in P.0.priced c7.loop.invariant.0 z, P.0.priced.count))
+    (P.0.priced.most b, omega (arith, first_in P.0.priced c7.loop.invariant.0 z, P.0.priced.count))
 
 same-length-3 : tie.Need-same-length-3 invariant-loop decreases-loop
 same-length-3 c =
@@ -110,7 +110,7 @@ returns-2 c =
     let P = c16.requires in let f = c9.loop.invariant.0 in let o = c5.overlap.ensures in
     let z : at c9.loop.tree 1 ≤ last = omega (arith, P.1.1.1.1.1, c7.if1.false) in (
       f.grown,
-      (is-exact P.0.priced f z o.0.0 o.0.1 (omega (arith, c.before.key_of.ensures, c.if2.true)), o.1),
+      (is_exact P.0.priced f z o.0.0 o.0.1 (omega (arith, c.before.key_of.ensures, c.if2.true)), o.1),
     )
 
 put-requires : tie.Need-put-requires invariant-loop decreases-loop
@@ -120,7 +120,7 @@ put-requires c κs =
     let c17 = c10.before.before.before.before.before.before.before in
     let P = c17.requires in let f = c10.loop.invariant.0 in
     let z : at c10.loop.tree 1 ≤ last = omega (arith, P.1.1.1.1.1, c8.if1.false) in
-    (f.grown, omega (arith, first-in P.0.priced f z, P.0.priced.count))
+    (f.grown, omega (arith, first_in P.0.priced f z, P.0.priced.count))
 
 loop-less : tie.Need-loop-smaller invariant-loop decreases-loop
 loop-less c =

@@ -1,7 +1,7 @@
 -- `multi_rounds::shut` meets its contract: the bid's words are a part of all the words. Assumes nothing.
 use mathlib.Core.Path.{sym}
 use lib.ListN.{length}
-use Rattle.multi_market.specs.WordRowLaws.{part-row, row-length}
+use Rattle.multi_market.specs.WordRowLaws.{part_row, row_length}
 use Rattle.multi_rounds.specs.ShutLaws.{shut_row}
 use borrow.Author.Rules.{rules}
 use Rattle.multi_rounds.proofs.shut.Statement.{statement}
@@ -41,8 +41,8 @@ close-counted-requires : tie.Need-close-counted-requires
 close-counted-requires c κs =
     let c8 = c.before.before.before.before.before.before.before.before in
     let S = c8 in let P = S.requires in let A = S.args in let w = length A.held.now in
-    rw (part-row A.masks.now w A.i, part-row A.hop.now w A.i)
-    ((sym (row-length A.masks.now w A.i P.1.0), (P.0, (P.1.1.1.0, P.1.1.1.1))))
+    rw (part_row A.masks.now w A.i, part_row A.hop.now w A.i)
+    ((sym (row_length A.masks.now w A.i P.1.0), (P.0, (P.1.1.1.0, P.1.1.1.1))))
 
 same_length : tie.Need-same-length
 same_length c = search rules
@@ -55,7 +55,7 @@ returns c =
     let c4 = c.before.before.before.before in
     let c13 = c4.before.before.before.before.before.before.before.before.before in
     let A = c13.args in let u = c4.close-counted.ensures in let w = length A.held.now in
-    (shut_row A.held.now _ A.masks.now w A.i (rw (part-row A.masks.now w A.i) at u.0), u.1)
+    (shut_row A.held.now _ A.masks.now w A.i (rw (part_row A.masks.now w A.i) at u.0), u.1)
 
 pub shut-spec : {M : Type 1} → statement M
 shut-spec =

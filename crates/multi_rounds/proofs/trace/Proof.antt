@@ -8,14 +8,14 @@ use lib.ListN.{length, length-set}
 use lib.Dec.{eqb}
 use Rattle.cells.specs.Cells.{cell}
 use Rattle.cells_count.specs.Hops.{Counted}
-use Rattle.cells_pairs.specs.Pairs.{inPairs, Cut}
+use Rattle.cells_pairs.specs.Pairs.{in_pairs, Cut}
 use Rattle.multi_keys.specs.Keys.{last}
 use Rattle.multi_keys.specs.Tree.{leaves, Tree}
-use Rattle.multi_market.specs.Market.{wordRow, has}
+use Rattle.multi_market.specs.Market.{word_row, has}
 use Rattle.multi_market.specs.WordRowLaws.{row_in}
-use Rattle.multi_market.specs.Opens.{openOf}
-use Rattle.multi_market.specs.OpensLaws.{reach-open}
-use Rattle.multi_rounds.specs.TracingLaws.{Tracing, trace-starts, inside, gains, fits, room-left, fewer-open, goes, ends}
+use Rattle.multi_market.specs.Opens.{open_of}
+use Rattle.multi_market.specs.OpensLaws.{reach_open}
+use Rattle.multi_rounds.specs.TracingLaws.{Tracing, trace_starts, inside, gains, fits, room_left, fewer_open, goes, ends}
 use Rattle.multi_rounds.proofs.trace.Statement.{statement}
 use Rattle.multi_rounds.proofs.trace.Tie as tie
 use Rattle.multi_rounds.proofs.trace.Reads as reads
@@ -26,9 +26,9 @@ use Rattle.multi_rounds.proofs.cut.Reads as cut-reads
 use Rattle.multi_rounds.proofs.front.Reads as front_reads
 
 -- the cells of the pairs are the bid's among those held
-row_has : (ms : List ℕ) (w b : ℕ) {held old new : List ℕ} {a z : ℕ} → Cut held (wordRow ms w b) old new a z
+row_has : (ms : List ℕ) (w b : ℕ) {held old new : List ℕ} {a z : ℕ} → Cut held (word_row ms w b) old new a z
     → (x : ℕ)
-    → inPairs new a (z - a) x ≡ (eqb (cell held x) 1 && has ms w b x)
+    → in_pairs new a (z - a) x ≡ (eqb (cell held x) 1 && has ms w b x)
 unfolding has
 row_has ms w b u = u.cells
 
@@ -44,7 +44,7 @@ invariant-loop prices masks hop count held₀ counts₀ tree₀ run₀ tape₀ r
     × (Tracing (has masks (length held)) prices (length held) count held (leaves tree) run tape r c × (Tree tree × Counted held counts))))
 
 abbrev decreases-loop : tie.decreases-loop
-decreases-loop prices masks hop count held₀ counts₀ tree₀ run₀ tape₀ r₀ c₀ held counts tree run tape r c = length (openOf held)
+decreases-loop prices masks hop count held₀ counts₀ tree₀ run₀ tape₀ r₀ c₀ held counts tree run tape r c = length (open_of held)
 
 slice-write-run : tie.Need-slice-write-run invariant-loop decreases-loop
 slice-write-run c =
@@ -60,7 +60,7 @@ loop-holds c =
         refl,
         (
           refl,
-          (trace-starts c8.args.run.now P.0.priced Q.1.1.0 Q.1.0 Q.0 Q.1.1.1.0, (P.1.1.1.0, P.1.1.0)),
+          (trace_starts c8.args.run.now P.0.priced Q.1.1.0 Q.1.0 Q.0 Q.1.1.1.0, (P.1.1.1.0, P.1.1.0)),
         ),
       ),
     )
@@ -253,7 +253,7 @@ slice-write-run-5 c =
     let P = c35.requires in let e = c26.loop.invariant.0 in let s = c26.loop.invariant.1.1.1.0 in
     let most : length c26.loop.held ≤ 158 = omega (arith, e, P.0.words) in
     let l : c22.front.result.key ≤ last = omega (arith, c17.if1.false) in
-    simp length-set (omega (arith, room-left P.0.priced most s c22.front.ensures.1.0 l, s.rows))
+    simp length-set (omega (arith, room_left P.0.priced most s c22.front.ensures.1.0 l, s.rows))
 
 add_r : tie.Need-overflow-add-r invariant-loop decreases-loop
 add_r c =
@@ -276,9 +276,9 @@ loop-less c =
     let held = c26.loop.held in let k = c8.close-pairs in
     let most : length held ≤ 158 = omega (arith, e, P.0.words) in let l : key ≤ last = omega (arith, c17.if1.false) in
     let few : c14.cut.result ≤ c26.loop.c + c22.front.result.cells
-    = omega (arith, u.few, gains p most s f l, reach-open held A.masks.now (length held) (key % 1024)) in
+    = omega (arith, u.few, gains p most s f l, reach_open held A.masks.now (length held) (key % 1024)) in
     let on = row_has A.masks.now (length held) (key % 1024) u in
-    fewer-open p most s f l c14.cut.auto.1.1.1.1.0 u.paired few u.kept on k.auto.0 k.ensures.0
+    fewer_open p most s f l c14.cut.auto.1.1.1.1.0 u.paired few u.kept on k.auto.0 k.ensures.0
 
 loop-again : tie.Need-loop-preserved invariant-loop decreases-loop
 loop-again c =
@@ -293,7 +293,7 @@ loop-again c =
     let held = c26.loop.held in let k = c8.close-pairs in
     let most : length held ≤ 158 = omega (arith, e, P.0.words) in let l : key ≤ last = omega (arith, c17.if1.false) in
     let few : c14.cut.result ≤ c26.loop.c + c22.front.result.cells
-    = omega (arith, u.few, gains p most s f l, reach-open held A.masks.now (length held) (key % 1024)) in
+    = omega (arith, u.few, gains p most s f l, reach_open held A.masks.now (length held) (key % 1024)) in
     let on = row_has A.masks.now (length held) (key % 1024) u in
     let g = goes p most s f l c14.cut.auto.1.1.1.1.0 u.paired few u.kept on k.auto.0 k.ensures.0 in (
       k.auto.0 ∙ e,

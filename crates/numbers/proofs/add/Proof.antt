@@ -3,9 +3,9 @@ use Prim.Native.Nat.{◌/◌, ◌%◌, ◌*◌, ◌^◌, ◌<◌}
 use native.Mathlib.Omega.{arith}
 use lib.ListN.{length, get_or}
 use lib.Bits.{bit_or}
-use Rattle.cells.specs.StoreLaws.{one-added}
+use Rattle.cells.specs.StoreLaws.{one_added}
 use Rattle.numbers.specs.Members.{members}
-use Rattle.numbers.specs.MembersLaws.{turned-twice, member-word, members-length, members-set}
+use Rattle.numbers.specs.MembersLaws.{turned_twice, member_word, members_length, members_set}
 use borrow.Author.Rules.{rules}
 use Rattle.numbers.proofs.add.Statement.{statement}
 use Rattle.numbers.proofs.add.Tie as tie
@@ -36,7 +36,7 @@ returns c =
     let set = args.set.now in
     let x = args.x in
     let h : x / 64 < length set = omega (arith, c.before.requires) in
-    rw (members-set, turned-twice, ← (member-word set (x / 64) h)) (one-added (members set) x (rw (members-length set) h))
+    rw (members_set, turned_twice, ← (member_word set (x / 64) h)) (one_added (members set) x (rw (members_length set) h))
 
 pub add_spec : {M : Type 1} → statement M
 add_spec =

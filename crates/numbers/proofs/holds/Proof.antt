@@ -6,7 +6,7 @@ use lib.ListN.{get_or}
 use lib.Dec.{eqb}
 use lib.Bits.{bit_xor, and_mask}
 use Rattle.cells.specs.Cells.{cell}
-use Rattle.numbers.specs.MembersLaws.{member-word}
+use Rattle.numbers.specs.MembersLaws.{member_word}
 use borrow.Author.Rules.{rules}
 use Rattle.numbers.proofs.holds.Statement.{statement}
 use Rattle.numbers.proofs.holds.Tie as tie
@@ -29,7 +29,7 @@ returns c =
     let set = args.set.now in
     let x = args.x in
     ap (λ (v : ℕ). eqb v 1) (and_mask (bit_xor (get_or set (x / 64) 0) 1 / 2 ^ (x % 64)) 1
-    ∙ ap (λ (w : ℕ). w / 2 ^ (x % 64) % 2) (sym (member-word set (x / 64) (omega (arith, c.before.requires)))))
+    ∙ ap (λ (w : ℕ). w / 2 ^ (x % 64) % 2) (sym (member_word set (x / 64) (omega (arith, c.before.requires)))))
 
 pub holds-spec : {M : Type 1} → statement M
 holds-spec = tie.close (tie.spec mul-w shared-slice-read-w shr-result returns)

@@ -4,9 +4,9 @@ use Prim.Native.Nat.{ℕ}
 use mathlib.Core.Path.{◌∙◌}
 use native.Mathlib.Omega.{arith}
 use lib.ListN.{length-replicate}
-use Rattle.tender.specs.Tables.{bidTable, windowTable}
-use Rattle.reader_fill.specs.FillLaws.{filled_is, refused-is, few-rows, few-windows}
-use Rattle.reader.specs.WholeLaws.{answer-refused, text-refused, bids-short, windows-short, answer-accepted}
+use Rattle.tender.specs.Tables.{bid_table, window_table}
+use Rattle.reader_fill.specs.FillLaws.{filled_is, refused_is, few_rows, few_windows}
+use Rattle.reader.specs.WholeLaws.{answer_refused, text_refused, bids_short, windows_short, answer_accepted}
 use borrow.Author.Rules.{rules}
 use Rattle.reader.proofs.read.Statement.{statement}
 use Rattle.reader.proofs.read.Tie as tie
@@ -29,8 +29,8 @@ returns c =
     let c12 = c6.before.before.before.before.before.before in
     let args = c12.args in
     let h = filled_is args.text.now _ _ _ c6.fill.ensures.0 c6.fill.ensures.1 c.before.before.tender.given.1 in
-    let x = answer-refused args.text.now args.bids.now args.windows.now _
-    (bids-short args.text.now args.bids.now args.windows.now _ _ _ _ _ h c.if1.true) in
+    let x = answer_refused args.text.now args.bids.now args.windows.now _
+    (bids_short args.text.now args.bids.now args.windows.now _ _ _ _ _ h c.if1.true) in
     (x.0, (x.1, x.2))
 
 returns-2 : tie.Need-returns-2
@@ -39,8 +39,8 @@ returns-2 c =
     let c13 = c7.before.before.before.before.before.before in
     let args = c13.args in
     let h = filled_is args.text.now _ _ _ c7.fill.ensures.0 c7.fill.ensures.1 c.before.before.before.tender.given.1 in
-    let x = answer-refused args.text.now args.bids.now args.windows.now _
-    (windows-short args.text.now args.bids.now args.windows.now _ _ _ _ _ h c.before.if1.false c.if2.true) in
+    let x = answer_refused args.text.now args.bids.now args.windows.now _
+    (windows_short args.text.now args.bids.now args.windows.now _ _ _ _ _ h c.before.if1.false c.if2.true) in
     (x.0, (x.1, x.2))
 
 slice-aggregate-copy : tie.Need-slice-aggregate-copy
@@ -58,9 +58,9 @@ copy-requires c κs =
     let h = filled_is args.text.now _ _ _ c9.fill.ensures.0 c9.fill.ensures.1 c5.tender.given.1 in (
       omega (
         arith,
-        few-rows h,
+        few_rows h,
         c9.fill.auto.1.0,
-        length-replicate {A = ℕ} bidTable 1,
+        length-replicate {A = ℕ} bid_table 1,
       ),
       omega (arith, c.before.before.before.if1.false),
     )
@@ -75,7 +75,7 @@ mul-copy-2 c =
     let c19 = c13.before.before.before.before.before.before in
     let args = c19.args in
     let h = filled_is args.text.now _ _ _ c13.fill.ensures.0 c13.fill.ensures.1 c9.tender.given.1 in
-    omega (arith, few-windows h)
+    omega (arith, few_windows h)
 
 copy-requires-2 : tie.Need-copy-requires-2
 copy-requires-2 c κs =
@@ -87,9 +87,9 @@ copy-requires-2 c κs =
     let h = filled_is args.text.now _ _ _ c14.fill.ensures.0 c14.fill.ensures.1 c10.tender.given.1 in (
       omega (
         arith,
-        few-windows h,
+        few_windows h,
         c14.fill.auto.1.1.0,
-        length-replicate {A = ℕ} windowTable 1,
+        length-replicate {A = ℕ} window_table 1,
       ),
       omega (arith, c7.if2.false),
     )
@@ -113,7 +113,7 @@ returns-3 c =
     let c23 = c17.before.before.before.before.before.before in
     let args = c23.args in
     let h = filled_is args.text.now _ _ _ c17.fill.ensures.0 c17.fill.ensures.1 c13.tender.given.1 in
-    let y = answer-accepted args.text.now args.bids.now args.windows.now _ _ _ _ _ h c11.if1.false c10.if2.false in
+    let y = answer_accepted args.text.now args.bids.now args.windows.now _ _ _ _ _ h c11.if1.false c10.if2.false in
     (y.0, (c7.copy.ensures ∙ y.1, c.before.before.copy2.ensures ∙ y.2))
 
 returns-4 : tie.Need-returns-4
@@ -121,9 +121,9 @@ returns-4 c =
     let c5 = c.before.before.before.before.before in
     let c11 = c5.before.before.before.before.before.before in
     let args = c11.args in
-    let x = answer-refused args.text.now args.bids.now args.windows.now _
-    (text-refused args.text.now args.bids.now args.windows.now _
-    (refused-is args.text.now _ c5.fill.ensures.0 c.before.r.given.1)) in
+    let x = answer_refused args.text.now args.bids.now args.windows.now _
+    (text_refused args.text.now args.bids.now args.windows.now _
+    (refused_is args.text.now _ c5.fill.ensures.0 c.before.r.given.1)) in
     (x.0, (x.1, x.2))
 
 pub read_spec : {M : Type 1} → statement M

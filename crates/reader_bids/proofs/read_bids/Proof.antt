@@ -6,12 +6,12 @@ use native.Mathlib.Nat.{add-zero}
 use native.Mathlib.Omega.{arith}
 use lib.ListN.{length, drop}
 use Rattle.numbers.specs.Members.{members}
-use Rattle.numbers.specs.MembersLaws.{members-none, members-length, members-same}
+use Rattle.numbers.specs.MembersLaws.{members_none, members_length, members_same}
 use Rattle.reader_parts.specs.Words.{cut}
 use Rattle.reader_forms.specs.Line.{lines_of}
 use Rattle.reader_forms.specs.PiecesLaws.{lines_end}
 use Rattle.reader_bids.specs.FillsLaws.{Walk, walk_begins, walk_ends}
-use Rattle.reader_bids.specs.PlacesLaws.{walk-goes, walk-stops}
+use Rattle.reader_bids.specs.PlacesLaws.{walk_goes, walk_stops}
 use borrow.Author.Rules.{rules}
 use Rattle.reader_bids.proofs.read_bids.Statement.{statement}
 use Rattle.reader_bids.proofs.read_bids.Tie as tie
@@ -29,13 +29,13 @@ loop-holds : tie.Need-loop-init invariant-loop decreases-loop
 loop-holds c =
     let c4 = c.before.before.before.before in
     let pre = c4.requires in
-    let w = walk_begins _ _ _ _ _ _ (ap members pre.3 ∙ members-none 15625) pre.4 pre.5 in
+    let w = walk_begins _ _ _ _ _ _ (ap members pre.3 ∙ members_none 15625) pre.4 pre.5 in
     (rw (add-zero c4.args.from) w, pre.0, refl, refl, refl, omega arith)
 
 add-line : tie.Need-overflow-add-line invariant-loop decreases-loop
 add-line c =
     let c6 = c.before.before.before.before.before.before in
-    omega (arith, c.before.loop.invariant.0.few-bids, c6.requires.1)
+    omega (arith, c.before.loop.invariant.0.few_bids, c6.requires.1)
 
 take-line-requires : tie.Need-take-line-requires invariant-loop decreases-loop
 take-line-requires c κs =
@@ -43,9 +43,9 @@ take-line-requires c κs =
     let c9 = c4.before.before.before.before.before in
     let inv = c4.loop.invariant in
     let w = inv.0 in (
-      w.few-bids,
-      (inv.5, c9.requires.2, w.windows-long),
-      sym (members-length _) ∙ w.used-long,
+      w.few_bids,
+      (inv.5, c9.requires.2, w.windows_long),
+      sym (members_length _) ∙ w.used_long,
       w.rows_long,
       c.before.before.before.loop-test.true,
       c9.requires.6,
@@ -57,7 +57,7 @@ enum-known-count c = search rules
 add-k : tie.Need-overflow-add-k invariant-loop decreases-loop
 add-k c =
     let c14 = c.before.before.before.before.before.before.before.before.before.before.before.before.before.before in
-    omega (arith, c14.loop.invariant.0.few-bids)
+    omega (arith, c14.loop.invariant.0.few_bids)
 
 add-m : tie.Need-overflow-add-m invariant-loop decreases-loop
 add-m c =
@@ -66,9 +66,9 @@ add-m c =
     let c14 = c13.before in
     let c19 = c14.before.before.before.before.before in
     let pre = c19.requires in let inv = c14.loop.invariant in let kept = c9.take-line.auto.1.1.1.1.1.1 in
-    let g = walk-goes _ _ _ c19.args.text.now c14.loop.i _ _ _ _ _ _ _ _ _ pre.6 c13.loop-test.true inv.0 _
-    c9.take-line.ensures pre.2 inv.5 (members-same _ _ kept.0) kept.1.0 kept.1.1.0 _ _ c.before.count.given.1 in
-    omega (arith, g.0.few-windows, g.0.few-bids)
+    let g = walk_goes _ _ _ c19.args.text.now c14.loop.i _ _ _ _ _ _ _ _ _ pre.6 c13.loop-test.true inv.0 _
+    c9.take-line.ensures pre.2 inv.5 (members_same _ _ kept.0) kept.1.0 kept.1.1.0 _ _ c.before.count.given.1 in
+    omega (arith, g.0.few_windows, g.0.few_bids)
 
 loop-less : tie.Need-loop-smaller invariant-loop decreases-loop
 loop-less c =
@@ -77,8 +77,8 @@ loop-less c =
     let c14 = c13.before in
     let c19 = c14.before.before.before.before.before in
     let pre = c19.requires in let inv = c14.loop.invariant in let kept = c9.take-line.auto.1.1.1.1.1.1 in
-    let g = walk-goes _ _ _ c19.args.text.now c14.loop.i _ _ _ _ _ _ _ _ _ pre.6 c13.loop-test.true inv.0 _
-    c9.take-line.ensures pre.2 inv.5 (members-same _ _ kept.0) kept.1.0 kept.1.1.0 _ _ c.before.count.given.1 in
+    let g = walk_goes _ _ _ c19.args.text.now c14.loop.i _ _ _ _ _ _ _ _ _ pre.6 c13.loop-test.true inv.0 _
+    c9.take-line.ensures pre.2 inv.5 (members_same _ _ kept.0) kept.1.0 kept.1.1.0 _ _ c.before.count.given.1 in
     omega (arith, g.1, g.2)
 
 loop-again : tie.Need-loop-preserved invariant-loop decreases-loop
@@ -88,8 +88,8 @@ loop-again c =
     let c14 = c13.before in
     let c19 = c14.before.before.before.before.before in
     let pre = c19.requires in let inv = c14.loop.invariant in let kept = c9.take-line.auto.1.1.1.1.1.1 in
-    let g = walk-goes _ _ _ c19.args.text.now c14.loop.i _ _ _ _ _ _ _ _ _ pre.6 c13.loop-test.true inv.0 _
-    c9.take-line.ensures pre.2 inv.5 (members-same _ _ kept.0) kept.1.0 kept.1.1.0 _ _ c.before.count.given.1 in
+    let g = walk_goes _ _ _ c19.args.text.now c14.loop.i _ _ _ _ _ _ _ _ _ pre.6 c13.loop-test.true inv.0 _
+    c9.take-line.ensures pre.2 inv.5 (members_same _ _ kept.0) kept.1.0 kept.1.1.0 _ _ c.before.count.given.1 in
     let e : c19.args.from + (c14.loop.k + 1) ≡ c19.args.from + c14.loop.k + 1 = omega arith in
     (rw e g.0, g.2, kept.0 ∙ inv.2, kept.1.0 ∙ inv.3, kept.1.1.0 ∙ inv.4, g.3)
 
@@ -111,7 +111,7 @@ returns c =
     let c13 = c9.before.before.before.before in
     let c14 = c13.before in
     let c19 = c14.before.before.before.before.before in
-    walk-stops _ _ _ c19.args.text.now c14.loop.i _ _ _ _ _ _ _ _ _ c19.requires.6 c13.loop-test.true c14.loop.invariant.0 _
+    walk_stops _ _ _ c19.args.text.now c14.loop.i _ _ _ _ _ _ _ _ _ c19.requires.6 c13.loop-test.true c14.loop.invariant.0 _
     c9.take-line.ensures _ c.before.r.given.1
 
 same-length-4 : tie.Need-same-length-4 invariant-loop decreases-loop

@@ -5,9 +5,9 @@ use borrow.Author.Rules.{rules}
 use lib.ListN.{drop}
 use Rattle.reader_parts.specs.Words.{cut}
 use Rattle.reader_forms.specs.Line.{lines_of}
-use Rattle.reader_text.specs.Read.{begun, reserveIn}
-use Rattle.reader_text.specs.HeadLaws.{reserve-absent, reserve-taken, reserve-high}
-use Rattle.reader_fill.specs.NextLaws.{found-reserve, found-other}
+use Rattle.reader_text.specs.Read.{begun, reserve_in}
+use Rattle.reader_text.specs.HeadLaws.{reserve_absent, reserve_taken, reserve_high}
+use Rattle.reader_fill.specs.NextLaws.{found_reserve, found_other}
 use Rattle.reader_fill.proofs.reserve_in.Statement.{statement}
 use Rattle.reader_fill.proofs.reserve_in.Tie as tie
 
@@ -21,9 +21,9 @@ returns : tie.Need-returns
 returns c =
     let c4 = c.before.before.before.before in
     let args = c4.before.before.args in
-    let n = found-reserve args.text.now args.at _ c4.next-reserve.ensures _ _ c.before.before.price.given.1 in
-    ap (reserveIn (record { kind = args.kind; window = args.window }) args.line) n.1
-    ∙ reserve-high _ args.line _ _ c.if1.true
+    let n = found_reserve args.text.now args.at _ c4.next_reserve.ensures _ _ c.before.before.price.given.1 in
+    ap (reserve_in (record { kind = args.kind; window = args.window }) args.line) n.1
+    ∙ reserve_high _ args.line _ _ c.if1.true
 
 tender-with-requires : tie.Need-tender-with-requires
 tender-with-requires c κs = search rules
@@ -42,11 +42,11 @@ returns-2 c =
     let c5 = c.before.before.before.before.before in
     let args = c5.before.before.args in
     let p = c.before.before.before.price.given in
-    let n = found-reserve args.text.now args.at _ c5.next-reserve.ensures _ _ p.1 in
+    let n = found_reserve args.text.now args.at _ c5.next_reserve.ensures _ _ p.1 in
     record {
       inside = n.0;
-      lines = ap (reserveIn (record { kind = args.kind; window = args.window }) args.line) n.1
-          ∙ reserve-taken _ args.line _ _ c.before.if1.false
+      lines = ap (reserve_in (record { kind = args.kind; window = args.window }) args.line) n.1
+          ∙ reserve_taken _ args.line _ _ c.before.if1.false
           ∙ ap (λ t. begun t (args.line + 1) (lines_of (cut 10 (drop p.0.1.0 args.text.now))))
           (sym c.tender-with.ensures);
     }
@@ -58,8 +58,8 @@ returns-3 c =
     let args = c5.args in
     record {
       inside = c5.requires.0;
-      lines = reserve-absent _ args.line _
-          (found-other args.text.now args.at _ c3.next-reserve.ensures c.before.enum_told.given.1)
+      lines = reserve_absent _ args.line _
+          (found_other args.text.now args.at _ c3.next_reserve.ensures c.before.enum_told.given.1)
           ∙ ap (λ t. begun t args.line (lines_of (cut 10 (drop args.at args.text.now)))) (sym c.tender-with2.ensures);
     }
 

@@ -1,7 +1,7 @@
--- `windows::read_span` meets its contract: it follows `spanFront` from place to place. Assumes nothing.
+-- `windows::read_span` meets its contract: it follows `span_front` from place to place. Assumes nothing.
 use native.Mathlib.Omega.{arith}
 use borrow.Author.Rules.{rules}
-use Rattle.reader_parts.specs.PlaceLaws.{not_last, span-first, span-unparted, span_second, span-unclosed, span-whole}
+use Rattle.reader_parts.specs.PlaceLaws.{not_last, span_first, span_unparted, span_second, span_unclosed, span_whole}
 use Rattle.reader_window.proofs.read_span.Statement.{statement}
 use Rattle.reader_window.proofs.read_span.Tie as tie
 
@@ -17,7 +17,7 @@ enum_told c = search rules
 returns : tie.Need-returns
 returns c =
     let c4 = c.before.before.before.before in
-    span-first c4.args.s.now c4.args.at (rw c.enum_told.given.1 at c.before.before.read_number.ensures)
+    span_first c4.args.s.now c4.args.at (rw c.enum_told.given.1 at c.before.before.read_number.ensures)
 
 shared-slice-read-if1 : tie.Need-shared-slice-read-if1
 shared-slice-read-if1 c =
@@ -32,7 +32,7 @@ returns-2 c =
     let at = start.args.at in
     let p = c.before.before.before.a.given.0.1.0 in
     let x = rw c.before.before.before.a.given.1 at c5.read_number.ensures in
-    span-unparted s at _ p x c.if1.true
+    span_unparted s at _ p x c.if1.true
 
 add-read-number : tie.Need-overflow-add-read-number
 add-read-number c =
@@ -87,7 +87,7 @@ returns-4 c =
     let x = rw c9.a.given.1 at c11.read_number.ensures in
     let q = c.before.before.before.z.given.0.1.0 in
     let y = rw c.before.before.before.z.given.1 at c5.read-number2.ensures in
-    span-unclosed s at _ p x c6.if1.false _ q y c.if2.true
+    span_unclosed s at _ p x c6.if1.false _ q y c.if2.true
 
 add-t12 : tie.Need-overflow-add-t12
 add-t12 c =
@@ -108,7 +108,7 @@ returns-5 c =
     let x = rw c9.a.given.1 at c11.read_number.ensures in
     let q = c.before.before.before.z.given.0.1.0 in
     let y = rw c.before.before.before.z.given.1 at c5.read-number2.ensures in
-    span-whole s at _ p x c6.if1.false _ q y start.requires.1 c.if2.false
+    span_whole s at _ p x c6.if1.false _ q y start.requires.1 c.if2.false
 
 pub read-span-spec : {M : Type 1} → statement M
 read-span-spec =

@@ -2,7 +2,7 @@
 use Prim.Native.Nat.{◌+◌}
 use native.Mathlib.Omega.{arith}
 use borrow.Author.Rules.{rules}
-use Rattle.reader_parts.specs.PlaceLaws.{not_last, window-unparted, window-unopened, window-span}
+use Rattle.reader_parts.specs.PlaceLaws.{not_last, window_unparted, window_unopened, window_span}
 use Rattle.reader_window.proofs.read_window.Statement.{statement}
 use Rattle.reader_window.proofs.read_window.Tie as tie
 
@@ -12,7 +12,7 @@ shared-slice-read-if1 c = search rules
 returns : tie.Need-returns
 returns c =
     let start = c.before.before.before in
-    window-unparted start.args.s.now start.args.at start.requires.0 c.if1.true
+    window_unparted start.args.s.now start.args.at start.requires.0 c.if1.true
 
 add-if2 : tie.Need-overflow-add-if2
 add-if2 c = search rules
@@ -33,7 +33,7 @@ returns-2 c =
     let at = start.args.at in
     let b = c.before.before.if1.false in
     let k = not_last s at start.requires.1 start.requires.0 (λ e. omega (arith, e, b)) in
-    window-unopened s at start.requires.0 b k c.if2.true
+    window_unopened s at start.requires.0 b k c.if2.true
 
 add-read-span : tie.Need-overflow-add-read-span
 add-read-span c =
@@ -61,7 +61,7 @@ returns-3 c =
     let at = start.args.at in
     let b = c.before.before.before.if1.false in
     let k = not_last s at start.requires.1 start.requires.0 (λ e. omega (arith, e, b)) in
-    window-span s at start.requires.0 b k c.before.if2.false c.read-span.result c.read-span.ensures
+    window_span s at start.requires.0 b k c.before.if2.false c.read-span.result c.read-span.ensures
 
 pub read-window-spec : {M : Type 1} → statement M
 read-window-spec =

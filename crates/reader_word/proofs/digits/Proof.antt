@@ -4,13 +4,13 @@ use mathlib.Core.Path.{◌≡◌, refl, sym, ◌∙◌}
 use native.Mathlib.Omega.{arith}
 use borrow.Author.Rules.{rules}
 use lib.ListN.{length, drop}
-use Rattle.reader_parts.specs.Front.{digitsFront}
-use Rattle.reader_parts.specs.PlaceLaws.{not_last, digits_more, digits-below, digits_above, digits-full}
+use Rattle.reader_parts.specs.Front.{digits_front}
+use Rattle.reader_parts.specs.PlaceLaws.{not_last, digits_more, digits_below, digits_above, digits_full}
 use Rattle.reader_word.proofs.digits.Statement.{statement}
 use Rattle.reader_word.proofs.digits.Tie as tie
 
 abbrev invariant-loop : tie.invariant-loop
-invariant-loop s at first v₀ i₀ v i = (digitsFront v (drop i s) ≡ digitsFront first (drop at s)) × (at ≤ i) × (i < length s)
+invariant-loop s at first v₀ i₀ v i = (digits_front v (drop i s) ≡ digits_front first (drop at s)) × (at ≤ i) × (i < length s)
 
 abbrev decreases-loop : tie.decreases-loop
 decreases-loop s at first v₀ i₀ v i = length s - i
@@ -53,7 +53,7 @@ returns : tie.Need-returns invariant-loop decreases-loop
 returns c =
     let l = c.before.before.before.loop in
     record {
-      is = sym l.invariant.0 ∙ digits-below _ l.v l.i l.invariant.2 c.before.before.loop-test.true c.if1.true;
+      is = sym l.invariant.0 ∙ digits_below _ l.v l.i l.invariant.2 c.before.before.loop-test.true c.if1.true;
       after = l.invariant.1;
       inside = l.invariant.2;
     }
@@ -72,7 +72,7 @@ returns-3 : tie.Need-returns-3 invariant-loop decreases-loop
 returns-3 c =
     let l = c.before.loop in
     record {
-      is = sym l.invariant.0 ∙ digits-full _ l.v l.i l.invariant.2 c.loop-test.false;
+      is = sym l.invariant.0 ∙ digits_full _ l.v l.i l.invariant.2 c.loop-test.false;
       after = l.invariant.1;
       inside = l.invariant.2;
     }

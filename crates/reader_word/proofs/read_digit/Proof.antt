@@ -1,6 +1,6 @@
--- `words::read_digit` meets its contract: it goes by the byte, as `digitFront` does. Assumes nothing.
+-- `words::read_digit` meets its contract: it goes by the byte, as `digit_front` does. Assumes nothing.
 use borrow.Author.Rules.{rules}
-use Rattle.reader_parts.specs.PricePlaceLaws.{digit_at, digit-below, digit-above}
+use Rattle.reader_parts.specs.PricePlaceLaws.{digit_at, digit_below, digit_above}
 use Rattle.reader_word.proofs.read_digit.Statement.{statement}
 use Rattle.reader_word.proofs.read_digit.Tie as tie
 
@@ -28,12 +28,12 @@ returns c =
 returns-2 : tie.Need-returns-2
 returns-2 c =
     let start = c.before.before.before in
-    digit-below _ start.args.v start.args.at start.requires.0 c.if1.true
+    digit_below _ start.args.v start.args.at start.requires.0 c.if1.true
 
 returns-3 : tie.Need-returns-3
 returns-3 c =
     let start = c.before.before.before.before in
-    digit-above _ start.args.v start.args.at start.requires.0 c.if2.false
+    digit_above _ start.args.v start.args.at start.requires.0 c.if2.false
 
 pub read-digit-spec : {M : Type 1} → statement M
 read-digit-spec =

@@ -1,7 +1,7 @@
--- `words::read_number` meets its contract: it goes by the first byte, as `numberFront` does. Assumes nothing.
+-- `words::read_number` meets its contract: it goes by the first byte, as `number_front` does. Assumes nothing.
 use native.Mathlib.Omega.{arith}
 use borrow.Author.Rules.{rules}
-use Rattle.reader_parts.specs.PlaceLaws.{not_last, number-zero, number-below, number-above, number-later}
+use Rattle.reader_parts.specs.PlaceLaws.{not_last, number_zero, number_below, number_above, number_later}
 use Rattle.reader_word.proofs.read_number.Statement.{statement}
 use Rattle.reader_word.proofs.read_number.Tie as tie
 
@@ -31,7 +31,7 @@ returns c =
     let at = start.args.at in
     let b = c.match.keys1 in
     record {
-      is = number-zero s at start.requires.0 b;
+      is = number_zero s at start.requires.0 b;
       after = omega arith;
       inside = not_last s at start.requires.1 start.requires.0 (λ e. omega (arith, e, b));
     }
@@ -42,18 +42,18 @@ returns-2 c =
     let c7 = c4.before.before.before in
     let s = c7.args.s.now in
     let at = c7.args.at in
-    number-later s at c7.requires.0 (omega (arith, c.before.before.before.if1.false, c4.match.rest.1))
+    number_later s at c7.requires.0 (omega (arith, c.before.before.before.if1.false, c4.match.rest.1))
     c.before.before.if2.true c.digits.result (rw c.before.wide.ensures at c.digits.ensures)
 
 returns-3 : tie.Need-returns-3
 returns-3 c =
     let c4 = c.before.before.before.before in
-    number-below _ c4.args.at c4.requires.0 c.if1.true
+    number_below _ c4.args.at c4.requires.0 c.if1.true
 
 returns-4 : tie.Need-returns-4
 returns-4 c =
     let c5 = c.before.before.before.before.before in
-    number-above _ c5.args.at c5.requires.0 c.if2.false
+    number_above _ c5.args.at c5.requires.0 c.if2.false
 
 pub read-number-spec : {M : Type 1} → statement M
 read-number-spec =

@@ -1,6 +1,6 @@
--- `words::read_price` meets its contract: a number and, where a point follows, its cents, as `priceFront` has it. Assumes nothing.
+-- `words::read_price` meets its contract: a number and, where a point follows, its cents, as `price_front` has it. Assumes nothing.
 use borrow.Author.Rules.{rules}
-use Rattle.reader_parts.specs.PricePlaceLaws.{price-first, price-whole, price-cents}
+use Rattle.reader_parts.specs.PricePlaceLaws.{price_first, price_whole, price_cents}
 use Rattle.reader_word.proofs.read_price.Statement.{statement}
 use Rattle.reader_word.proofs.read_price.Tie as tie
 
@@ -16,7 +16,7 @@ enum_told c = search rules
 returns : tie.Need-returns
 returns c =
     let start = c.before.before.before.before in
-    price-first start.args.s.now start.args.at (rw c.enum_told.given.1 at c.before.before.read_number.ensures)
+    price_first start.args.s.now start.args.at (rw c.enum_told.given.1 at c.before.before.read_number.ensures)
 
 shared-slice-read-if1 : tie.Need-shared-slice-read-if1
 shared-slice-read-if1 c = (rw c.before.before.x.given.1 at c.before.before.before.before.read_number.ensures).inside
@@ -32,14 +32,14 @@ returns-2 c =
     let c6 = c.before.before.before.before.before.before in
     let start = c6.before.before in
     let x = rw c.before.before.before.before.x.given.1 at c6.read_number.ensures in
-    price-cents start.args.s.now start.args.at _ _ x c.before.if1.true c.read-cents.result c.read-cents.ensures
+    price_cents start.args.s.now start.args.at _ _ x c.before.if1.true c.read-cents.result c.read-cents.ensures
 
 returns-3 : tie.Need-returns-3
 returns-3 c =
     let whole = c.before.before.before.before.before in
     let start = whole.before.before in
     let x = rw c.before.before.before.x.given.1 at whole.read_number.ensures in
-    price-whole start.args.s.now start.args.at _ _ x c.if1.false
+    price_whole start.args.s.now start.args.at _ _ x c.if1.false
 
 pub read-price-spec : {M : Type 1} → statement M
 read-price-spec =

@@ -9,7 +9,7 @@ use borrow.Author.Tests.{eqb-true}
 use lib.ListN.{length, drop, get_or}
 use Rattle.reader_parts.specs.Scan.{starts_with}
 use Rattle.reader_parts.specs.PlaceLaws.{not_last}
-use Rattle.reader_parts.specs.StartsLaws.{letter-same, letter-other, space-next, letters}
+use Rattle.reader_parts.specs.StartsLaws.{letter_same, letter_other, space_next, letters}
 use Rattle.reader_word.proofs.stands.Statement.{statement}
 use Rattle.reader_word.proofs.stands.Tie as tie
 
@@ -40,7 +40,7 @@ returns c =
     let c7 = c6.before in
     let l = c6.loop in
     let j = c7.args.at + l.i in (
-      (sym (letter-other _ _ l.i j l.invariant.1 c5.loop-test.true c.if3.true) ∙ l.invariant.0),
+      (sym (letter_other _ _ l.i j l.invariant.1 c5.loop-test.true c.if3.true) ∙ l.invariant.0),
       λ e. absurd (true≢false (sym e)),
     )
 
@@ -60,7 +60,7 @@ loop-again c =
     let j = c7.args.at + l.i in
     let d = c.before.before.before.if1.false in
     let e : j + 1 ≡ c7.args.at + (l.i + 1) = omega arith in (
-      rw (← e) (sym (letter-same _ s l.i j l.invariant.1 c5.loop-test.true c.if3.false) ∙ l.invariant.0),
+      rw (← e) (sym (letter_same _ s l.i j l.invariant.1 c5.loop-test.true c.if3.false) ∙ l.invariant.0),
       rw (← e) (not_last s j c7.requires.1 l.invariant.1 (λ x. omega (arith, x, d))),
       omega arith,
     )
@@ -71,7 +71,7 @@ returns-2 c =
     let l = c.before.before.before.loop in
     let j = c4.args.at + l.i in
     let k = letters _ l.i c4.requires.2 c.before.before.loop-test.true in (
-      (sym (letter-other _ _ l.i j l.invariant.1 c.before.before.loop-test.true
+      (sym (letter_other _ _ l.i j l.invariant.1 c.before.before.loop-test.true
           (λ x. omega (arith, x, c.if1.true, k.0))) ∙ l.invariant.0),
       λ e. absurd (true≢false (sym e)),
     )
@@ -83,7 +83,7 @@ returns-3 c =
     let l = c4.loop in
     let j = c5.args.at + l.i in
     let k = letters _ l.i c5.requires.2 c.before.before.before.loop-test.true in (
-      (sym (letter-other _ _ l.i j l.invariant.1 c.before.before.before.loop-test.true
+      (sym (letter_other _ _ l.i j l.invariant.1 c.before.before.before.loop-test.true
           (λ x. omega (arith, x, c.if2.false, k.1))) ∙ l.invariant.0),
       λ e. absurd (true≢false (sym e)),
     )
@@ -99,7 +99,7 @@ returns-4 c =
     let l = c.before.before.loop in
     let s = c.before.before.before.args.s.now in
     let j = c.before.before.before.args.at + l.i in (
-      (sym (space-next _ s l.i j l.invariant.1 c.before.loop-test.false) ∙ l.invariant.0),
+      (sym (space_next _ s l.i j l.invariant.1 c.before.loop-test.false) ∙ l.invariant.0),
       λ e. omega (
         arith,
         not_last s j c.before.before.before.requires.1 l.invariant.1

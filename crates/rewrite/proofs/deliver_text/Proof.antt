@@ -1,5 +1,5 @@
 -- The length that was written, or 0. Assumes nothing.
-use Rattle.rewrite.specs.DeliverLaws.{delivers-text, delivers-none}
+use Rattle.rewrite.specs.DeliverLaws.{delivers_text, delivers_none}
 use borrow.Author.Rules.{rules}
 use Rattle.rewrite.proofs.deliver_text.Statement.{statement}
 use Rattle.rewrite.proofs.deliver_text.Tie as tie
@@ -25,7 +25,7 @@ same_length c = search rules
 
 -- src/lib.rt:25:1
 returns : tie.Need-returns
-returns c = delivers-text c.before.n.given.0.0 c.before.n.given.1 c.before.before.before.before.before.write.ensures
+returns c = delivers_text c.before.n.given.0.0 c.before.n.given.1 c.before.before.before.before.before.write.ensures
 
 -- src/lib.rt:25:1
 same-length-2 : tie.Need-same-length-2
@@ -33,7 +33,7 @@ same-length-2 c = search rules
 
 -- src/lib.rt:25:1
 returns-2 : tie.Need-returns-2
-returns-2 c = delivers-none c.enum_told.given.0.0 c.enum_told.given.1 c.before.before.before.before.write.ensures
+returns-2 c = delivers_none c.enum_told.given.0.0 c.enum_told.given.1 c.before.before.before.before.write.ensures
 
 pub deliver-text-spec : {M : Type 1} → statement M
 deliver-text-spec =

@@ -1,7 +1,7 @@
 -- What was read is written; a refusal's line stands for a text that cannot be read. Assumes nothing.
-use Rattle.reader_fill.specs.FillLaws.{refused-is}
-use Rattle.reader_fill.specs.ReadInLaws.{filled-read}
-use Rattle.rewrite.specs.DeliverLaws.{rewritten-text, rewritten-refusal}
+use Rattle.reader_fill.specs.FillLaws.{refused_is}
+use Rattle.reader_fill.specs.ReadInLaws.{filled_read}
+use Rattle.rewrite.specs.DeliverLaws.{rewritten_text, rewritten_refusal}
 use borrow.Author.Rules.{rules}
 use Rattle.rewrite.proofs.tender_rewrite.Statement.{statement}
 use Rattle.rewrite.proofs.tender_rewrite.Tie as tie
@@ -48,7 +48,7 @@ returns c =
     let c16 = c11.before.before.before.before.before in
     let g = c7.tender.given in
     let s = c11.fill.ensures in
-    rewritten-text (filled-read c16.args.text.now g.0.0 g.0.1.0 g.0.1.1.0 s.0 s.1 g.1)
+    rewritten_text (filled_read c16.args.text.now g.0.0 g.0.1.0 g.0.1.1.0 s.0 s.1 g.1)
     c.before.before.deliver-text.ensures
 
 same-length-2 : tie.Need-same-length-2
@@ -60,7 +60,7 @@ returns-2 c =
     let c9 = c5.before.before.before.before in
     let c14 = c9.before.before.before.before.before in
     let g = c5.r.given in
-    rewritten-refusal g.0.0 (refused-is c14.args.text.now g.0.0 c9.fill.ensures.0 g.1)
+    rewritten_refusal g.0.0 (refused_is c14.args.text.now g.0.0 c9.fill.ensures.0 g.1)
     c.before.before.deliver-refusal.ensures
 
 pub tender-rewrite-spec : {M : Type 1} → statement M

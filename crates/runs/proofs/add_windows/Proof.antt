@@ -2,7 +2,7 @@
 use Prim.Native.Nat.{◌-◌}
 use mathlib.Core.Path.{refl, sym, ◌∙◌}
 use native.Mathlib.Omega.{arith}
-use Rattle.runs.specs.MinuteRowLaws.{Adding, adding-begins, adding-order, adding-week, adding-goes, adding-ends}
+use Rattle.runs.specs.MinuteRowLaws.{Adding, adding_begins, adding_order, adding_week, adding_goes, adding_ends}
 use Rattle.runs.proofs.add_windows.Statement.{statement}
 use Rattle.runs.proofs.add_windows.Tie as tie
 use Rattle.runs.proofs.add_windows.Reads as reads
@@ -19,7 +19,7 @@ loop-holds : tie.Need-loop-init invariant-loop decreases-loop
 loop-holds c =
     let start = c.before.before.before in
     let args = start.args in
-    adding-begins args.windows.now args.first args.count args.row.now start.requires.0.1.0 start.requires.0.1.1
+    adding_begins args.windows.now args.first args.count args.row.now start.requires.0.1.0 start.requires.0.1.1
 
 add_at : tie.Need-overflow-add-at invariant-loop decreases-loop
 add_at c = omega arith
@@ -48,8 +48,8 @@ add-range-by-requires c κs =
     let c4 = c3.before in
     let start = c4.before.before.before.before in
     let args = start.args in
-    let order = adding-order args.windows.now args.first args.count c4.loop.j c4.loop.row c4.loop.invariant c3.loop-test.true in
-    let week = adding-week args.windows.now args.first args.count c4.loop.j c4.loop.row c4.loop.invariant c3.loop-test.true in
+    let order = adding_order args.windows.now args.first args.count c4.loop.j c4.loop.row c4.loop.invariant c3.loop-test.true in
+    let week = adding_week args.windows.now args.first args.count c4.loop.j c4.loop.row c4.loop.invariant c3.loop-test.true in
     (start.requires.1, (omega arith, (omega (arith, c4.loop.invariant.wide), omega (arith, c4.loop.invariant.wide))))
 
 add-j : tie.Need-overflow-add-j invariant-loop decreases-loop
@@ -64,7 +64,7 @@ loop-again c =
     let c6 = c2.before.before.before.before in
     let c7 = c6.before in
     let args = c7.before.before.before.before.args in
-    adding-goes args.windows.now args.first args.count c7.loop.j c7.loop.row c7.loop.invariant c2.add-range-by.new.1.0
+    adding_goes args.windows.now args.first args.count c7.loop.j c7.loop.row c7.loop.invariant c2.add-range-by.new.1.0
     c6.loop-test.true c2.add-range-by.auto.1.0 c2.add-range-by.ensures refl refl
 
 same_length : tie.Need-same-length invariant-loop decreases-loop
@@ -73,7 +73,7 @@ same_length c = c.before.loop.invariant.wide ∙ sym c.before.before.before.befo
 returns : tie.Need-returns invariant-loop decreases-loop
 returns c =
     let args = c.before.before.before.before.before.args in
-    adding-ends args.windows.now args.first args.count c.before.loop.j c.before.loop.row c.before.loop.invariant
+    adding_ends args.windows.now args.first args.count c.before.loop.j c.before.loop.row c.before.loop.invariant
     c.loop-test.false
 
 pub add-windows-spec : {M : Type 1} → statement M

@@ -2,7 +2,7 @@
 use mathlib.Core.Path.{refl, ◌∙◌}
 use borrow.Author.Rules.{rules}
 use Rattle.cells.specs.Masks.{masks}
-use Rattle.runs.specs.MinuteRowLaws.{cleared-empty}
+use Rattle.runs.specs.MinuteRowLaws.{cleared_empty}
 use Rattle.runs.proofs.minutes.Statement.{statement}
 use Rattle.runs.proofs.minutes.Tie as tie
 use Rattle.runs.proofs.minutes.Reads as reads
@@ -21,7 +21,7 @@ unfolding masks
 add-windows-requires c κs =
     let d = c.before.before.before.before in
     let s = d.before.before.before.before in
-    ((s.requires.0, (s.requires.1.0, cleared-empty _ (d.clear.auto.0 ∙ s.requires.1.1) d.clear.ensures)), refl)
+    ((s.requires.0, (s.requires.1.0, cleared_empty _ (d.clear.auto.0 ∙ s.requires.1.1) d.clear.ensures)), refl)
 
 same_length : tie.Need-same-length
 same_length c = search rules

@@ -1,5 +1,5 @@
 -- `runs::next` meets its contract: the first cell, then the first that is not. Assumes nothing.
-use Rattle.runs.specs.MinuteRowLaws.{run-found}
+use Rattle.runs.specs.MinuteRowLaws.{run_found}
 use borrow.Author.Rules.{rules}
 use Rattle.runs.proofs.next.Statement.{statement}
 use Rattle.runs.proofs.next.Tie as tie
@@ -16,7 +16,7 @@ next-requires-2 c κs = search rules
 returns : tie.Need-returns
 returns c =
     let pre = c.before.before.before.before.before.requires in
-    run-found pre.0 pre.1.1.0 pre.1.1.1 c.before.next.ensures c.next2.ensures
+    run_found pre.0 pre.1.1.0 pre.1.1.1 c.before.next.ensures c.next2.ensures
 
 pub next-spec : {M : Type 1} → statement M
 next-spec = tie.close (tie.spec next-requires next-requires-2 returns)

@@ -1,5 +1,5 @@
 -- `single::award` meets its contract: the selection gives the winners, the payments the rest. Assumes nothing.
-use Rattle.single.specs.PayLaws.{selected-flags, selected-all, award-settled}
+use Rattle.single.specs.PayLaws.{selected_flags, selected_all, award_settled}
 use native.Mathlib.Omega.{arith}
 use borrow.Author.Rules.{rules}
 use Rattle.single.proofs.award.Statement.{statement}
@@ -46,9 +46,9 @@ payments-requires c κs =
             omega (arith, pre.1.0, c6.winners.auto),
             omega (arith, pre.1.0),
             omega (arith, pre.1.1.1.0),
-            selected-all _ _ _ _ _ _ _ _ c6.winners.ensures,
+            selected_all _ _ _ _ _ _ _ _ c6.winners.ensures,
           ),
-          (selected-flags _ _ _ _ _ _ _ _ c6.winners.ensures, (pre.1.1.0, c6.winners.ensures.costs-are)),
+          (selected_flags _ _ _ _ _ _ _ _ c6.winners.ensures, (pre.1.1.0, c6.winners.ensures.costs_are)),
         ),
       ),
     )
@@ -63,7 +63,7 @@ returns : tie.Need-returns
 returns c =
     let c9 = c.before.before.before.before.before.before.before.before.before in
     let c18 = c9.before.before.before.before.before.before.before.before.before in
-    award-settled _ _ _ _ _ _ _ _ _ _ c18.requires.1.1.1.0 c9.winners.ensures c.before.before.payments.ensures
+    award_settled _ _ _ _ _ _ _ _ _ _ c18.requires.1.1.1.0 c9.winners.ensures c.before.before.payments.ensures
 
 pub award-spec : {M : Type 1} → statement M
 award-spec =

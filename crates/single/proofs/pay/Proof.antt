@@ -1,7 +1,7 @@
 -- `single::pay` meets its contract: a loser is paid nothing, a winner by the least cost without it. Assumes nothing.
 use lib.ListN.{get_or}
-use Rattle.single_costs.specs.AcrossLaws.{winner-ends}
-use Rattle.single.specs.PayLaws.{pays-none, wins-bit, pays-some}
+use Rattle.single_costs.specs.AcrossLaws.{winner_ends}
+use Rattle.single.specs.PayLaws.{pays_none, wins_bit, pays_some}
 use native.Mathlib.Omega.{arith}
 use borrow.Author.Rules.{rules}
 use Rattle.single.proofs.pay.Statement.{statement}
@@ -11,7 +11,7 @@ returns : tie.Need-returns
 returns c =
     let c10 = c.before.before.before.before.before.before.before.before.before.before in
     let pre = c10.requires in
-    (pays-none _ _ _ _ _ _ pre.1.1.1.0.0 c.if1.true, pre.1.1.1.1.1.1)
+    (pays_none _ _ _ _ _ _ pre.1.1.1.0.0 c.if1.true, pre.1.1.1.1.1.1)
 
 mul-i : tie.Need-overflow-mul-i
 mul-i c = search rules
@@ -33,8 +33,8 @@ without-requires c κs =
           (
             pre.1.1.0.0,
             pre.1.1.0.1,
-            winner-ends args.starts.now args.ends.now args.prices.now args.cells (get_or args.order.now args.q 0) l
-                (wins-bit args.starts.now args.ends.now args.prices.now args.cells (get_or args.order.now args.q 0) _
+            winner_ends args.starts.now args.ends.now args.prices.now args.cells (get_or args.order.now args.q 0) l
+                (wins_bit args.starts.now args.ends.now args.prices.now args.cells (get_or args.order.now args.q 0) _
                 pre.1.1.1.0.0 c4.if1.false),
           ),
           (pre.1.1.1.1.0, (pre.1.1.1.1.1.0, pre.1.1.1.1.1.1)),
@@ -76,7 +76,7 @@ returns-2 c =
     let c24 = c14.before.before.before.before.before.before.before.before.before.before in
     let pre = c24.requires in (
       rw (c.less2.ensures, c.before.less.ensures)
-          (pays-some _ _ _ _ _ _ _ _ pre.1.1.1.0.0 c14.if1.false c9.without.ensures.0 pre.1.1.1.0.1),
+          (pays_some _ _ _ _ _ _ _ _ pre.1.1.1.0.0 c14.if1.false c9.without.ensures.0 pre.1.1.1.0.1),
       c9.without.ensures.1,
     )
 

@@ -4,9 +4,9 @@ use Prim.Native.Nat.{◌≤◌, ◌-◌}
 use lib.ListN.{length, length-set}
 use native.Mathlib.Nat.{le_antisymm}
 use Rattle.single_costs.specs.Across.{Waiting}
-use Rattle.single_costs.specs.AcrossLaws.{waiting_none, waiting-more}
-use Rattle.single.specs.Pay.{vcgPaidOf}
-use Rattle.single.specs.PayLaws.{PaidTo, paid-none, paid-more, paid-all}
+use Rattle.single_costs.specs.AcrossLaws.{waiting_none, waiting_more}
+use Rattle.single.specs.Pay.{vcg_paid_of}
+use Rattle.single.specs.PayLaws.{PaidTo, paid_none, paid_more, paid_all}
 use native.Mathlib.Omega.{arith}
 use borrow.Author.Rules.{rules}
 use Rattle.single.proofs.pay_each.Statement.{statement}
@@ -15,13 +15,13 @@ use Rattle.single.proofs.pay_each.Tie as tie
 abbrev invariant-loop : tie.invariant-loop
 invariant-loop starts ends prices order before after live₀ xs₀ costs₀ won cents₀ cells all n m₀ q₀ live xs costs cents m q = (q ≤ length prices)
     × (length live ≡ length live₀) × (length xs ≡ length xs₀) × (length costs ≡ length costs₀) × (length cents ≡ length cents₀)
-    × Waiting starts ends prices order live q m × PaidTo (vcgPaidOf starts ends prices cells) order cents₀ cents (length prices) q
+    × Waiting starts ends prices order live q m × PaidTo (vcg_paid_of starts ends prices cells) order cents₀ cents (length prices) q
 
 abbrev decreases-loop : tie.decreases-loop
 decreases-loop starts ends prices order before after live₀ xs₀ costs₀ won cents₀ cells all n m₀ q₀ live xs costs cents m q = length prices - q
 
 loop-holds : tie.Need-loop-init invariant-loop decreases-loop
-loop-holds c = (omega arith, refl, refl, refl, refl, waiting_none _ _ _ _ _, paid-none _ _ _ _)
+loop-holds c = (omega arith, refl, refl, refl, refl, waiting_none _ _ _ _ _, paid_none _ _ _ _)
 
 mul-i : tie.Need-overflow-mul-i invariant-loop decreases-loop
 mul-i c = search rules
@@ -134,7 +134,7 @@ loop-again c =
       omega (arith, c13.loop.invariant.2, c6.pay.auto),
       omega (arith, c13.loop.invariant.3, c6.pay.auto),
       simp length-set (omega (arith, c13.loop.invariant.4)),
-      waiting-more _ _ _ _ _ _ _ (omega (
+      waiting_more _ _ _ _ _ _ _ (omega (
         arith,
         c6.pay.ensures.1.reach.few,
         c12.loop-test.true,
@@ -142,7 +142,7 @@ loop-again c =
         c6.pay.auto,
         pre.1.0,
       )) c6.pay.ensures.1,
-      paid-more _ _ _ _ _ _ _ (pre.0.sorted.bids c13.loop.q c12.loop-test.true)
+      paid_more _ _ _ _ _ _ _ (pre.0.sorted.bids c13.loop.q c12.loop-test.true)
           (omega (arith, c13.loop.invariant.4, pre.1.1.0)) c6.pay.ensures.0 c13.loop.invariant.6,
     )
 
@@ -161,7 +161,7 @@ same-length-4 c = search rules
 returns : tie.Need-returns invariant-loop decreases-loop
 returns c =
     let c13 = c.before.before.before.before.before.before.before.before.before.before.before.before.before in
-    paid-all _ _ _ _ _ _ _ c13.requires.0 c.before.loop.invariant.4 _ (le_antisymm c.before.loop.invariant.0 c.loop-test.false)
+    paid_all _ _ _ _ _ _ _ c13.requires.0 c.before.loop.invariant.4 _ (le_antisymm c.before.loop.invariant.0 c.loop-test.false)
     c.before.loop.invariant.6
 
 pub pay-each-spec : {M : Type 1} → statement M

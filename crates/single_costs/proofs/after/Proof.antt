@@ -1,7 +1,7 @@
 -- `single_costs::after` meets its contract: the run over the mirrored bids gives the costs from each end on. Assumes nothing.
 use lib.ListN.{length, length-set}
 use lib.Seq.{get_or-set_same}
-use Rattle.single_costs.specs.AcrossLaws.{run-all, ran-after}
+use Rattle.single_costs.specs.AcrossLaws.{run_all, ran_after}
 use native.Mathlib.Omega.{arith}
 use borrow.Author.Rules.{rules}
 use Rattle.single_costs.proofs.after.Statement.{statement}
@@ -73,7 +73,7 @@ run-requires c κs =
         ),
         (
           (omega arith, omega (arith, pre.1.0)),
-          run-all _ _ _ _ _ _ _ (get_or-set_same args.costs.now (length args.prices.now) 18446744073709551615 0
+          run_all _ _ _ _ _ _ _ (get_or-set_same args.costs.now (length args.prices.now) 18446744073709551615 0
               (omega (arith, pre.0))),
         ),
       ),
@@ -91,7 +91,7 @@ returns c =
     let c15 = c10.before.before.before.before.before in
     let c22 = c15.before.before.before.before.before.before.before in
     let pre = c22.requires in
-    ran-after _ _ _ _ _ _ (record {
+    ran_after _ _ _ _ _ _ (record {
       starts = omega (arith, pre.0, c15.mirror.auto);
       ends = omega (arith, pre.0, c15.mirror.auto);
       sorted = c10.by-start.ensures;

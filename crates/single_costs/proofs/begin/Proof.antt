@@ -4,7 +4,7 @@ use Prim.Native.Nat.{◌≤◌, ◌-◌}
 use lib.ListN.{length, length-set}
 use native.Mathlib.Nat.{le_antisymm}
 use Rattle.single_costs.specs.Across.{BegunAt}
-use Rattle.single_costs.specs.AcrossLaws.{begun-none, begun_more}
+use Rattle.single_costs.specs.AcrossLaws.{begun_none, begun_more}
 use native.Mathlib.Omega.{arith}
 use borrow.Author.Rules.{rules}
 use Rattle.single_costs.proofs.begin.Statement.{statement}
@@ -18,7 +18,7 @@ abbrev decreases-loop : tie.decreases-loop
 decreases-loop ends live₀ before xs₀ costs₀ m t x₀ j₀ live xs costs x j = m - j
 
 loop-holds : tie.Need-loop-init invariant-loop decreases-loop
-loop-holds c = (omega arith, omega arith, omega arith, omega arith, begun-none _ _ _ _ _ _)
+loop-holds c = (omega arith, omega arith, omega arith, omega arith, begun_none _ _ _ _ _ _)
 
 mul-i : tie.Need-overflow-mul-i invariant-loop decreases-loop
 mul-i c = search rules

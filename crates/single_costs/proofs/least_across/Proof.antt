@@ -4,9 +4,9 @@ use Prim.Native.Nat.{◌≤◌, ◌-◌}
 use lib.ListN.{get_or}
 use native.Mathlib.Nat.{le_antisymm}
 use native.Mathlib.Numerals.{add-one}
-use Rattle.single_lead.specs.Costs.{costIn}
-use Rattle.single_costs.specs.Across.{leastAcross}
-use Rattle.single_costs.specs.AcrossLaws.{across-none, across-more}
+use Rattle.single_lead.specs.Costs.{cost_in}
+use Rattle.single_costs.specs.Across.{least_across}
+use Rattle.single_costs.specs.AcrossLaws.{across_none, across_more}
 use native.Mathlib.Omega.{arith}
 use borrow.Author.Rules.{rules}
 use Rattle.single_costs.proofs.least_across.Statement.{statement}
@@ -14,13 +14,13 @@ use Rattle.single_costs.proofs.least_across.Tie as tie
 
 abbrev invariant-loop : tie.invariant-loop
 invariant-loop starts ends prices live costs after m t r₀ j₀ r j = (j ≤ m) × (r ≤ 18446744073709551615)
-    × (costIn r ≡ leastAcross starts ends prices live costs after t j)
+    × (cost_in r ≡ least_across starts ends prices live costs after t j)
 
 abbrev decreases-loop : tie.decreases-loop
 decreases-loop starts ends prices live costs after m t r₀ j₀ r j = m - j
 
 loop-holds : tie.Need-loop-init invariant-loop decreases-loop
-loop-holds c = (omega arith, omega arith, across-none _ _ _ _ _ _ _)
+loop-holds c = (omega arith, omega arith, across_none _ _ _ _ _ _ _)
 
 mul-i : tie.Need-overflow-mul-i invariant-loop decreases-loop
 mul-i c = search rules
@@ -127,7 +127,7 @@ loop-again c =
       omega arith,
       omega arith,
       rw (c.lower.ensures, add-one)
-          (across-more args.starts.now args.ends.now args.prices.now args.live.now args.costs.now args.after.now
+          (across_more args.starts.now args.ends.now args.prices.now args.live.now args.costs.now args.after.now
           args.t c9.loop.j c9.loop.r c.before.before.before.join.result c.before.before.before.join.ensures
           (omega (arith, c.before.before.before.join.type-inv)) c9.loop.invariant.1 c9.loop.invariant.2),
     )

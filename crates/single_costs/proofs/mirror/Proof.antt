@@ -3,7 +3,7 @@ use mathlib.Core.Path.{◌≡◌}
 use Prim.Native.Nat.{◌≤◌, ◌-◌}
 use lib.ListN.{length, length-set}
 use native.Mathlib.Nat.{le_antisymm}
-use Rattle.cover.specs.Intervals.MirrorLaws.{Mirrored, mirrored-none, mirrored-more}
+use Rattle.cover.specs.Intervals.MirrorLaws.{Mirrored, mirrored_none, mirrored_more}
 use native.Mathlib.Omega.{arith}
 use borrow.Author.Rules.{rules}
 use Rattle.single_costs.proofs.mirror.Statement.{statement}
@@ -16,7 +16,7 @@ abbrev decreases-loop : tie.decreases-loop
 decreases-loop starts ends n cells x₀ y₀ i₀ x y i = n - i
 
 loop-holds : tie.Need-loop-init invariant-loop decreases-loop
-loop-holds c = (omega arith, omega arith, omega arith, mirrored-none _ _ _ _ _)
+loop-holds c = (omega arith, omega arith, omega arith, mirrored_none _ _ _ _ _)
 
 mul-x : tie.Need-overflow-mul-x invariant-loop decreases-loop
 mul-x c = search rules
@@ -61,7 +61,7 @@ loop-again c = (
   omega arith,
   simp length-set (omega arith),
   simp length-set (omega arith),
-  mirrored-more _ _ _ _ _ _ (omega arith) (omega arith) c.before.before.before.loop.invariant.3,
+  mirrored_more _ _ _ _ _ _ (omega arith) (omega arith) c.before.before.before.loop.invariant.3,
 )
 
 same_length : tie.Need-same-length invariant-loop decreases-loop

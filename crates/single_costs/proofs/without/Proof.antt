@@ -2,7 +2,7 @@
 use mathlib.Core.Path.{ap, ◌∙◌}
 use lib.ListN.{length, get_or, set, length-set}
 use Rattle.cover.specs.Sets.{value_of}
-use Rattle.single_costs.specs.AcrossLaws.{run-start, ran-cost, waiting-on, waiting-below, ran-below, ran-small, after-bounds}
+use Rattle.single_costs.specs.AcrossLaws.{run_start, ran_cost, waiting_on, waiting_below, ran_below, ran_small, after_bounds}
 use native.Mathlib.Omega.{arith}
 use borrow.Author.Rules.{rules}
 use Rattle.single_costs.proofs.without.Statement.{statement}
@@ -31,7 +31,7 @@ begin-requires c κs =
     let c14 = c.before.before.before.before.before.before.before.before.before.before.before.before.before.before in
     let pre = c14.requires in
     let w = pre.1.1.1.1.1 in
-    let f = waiting-below _ _ _ _ pre.0 _ _ _ (omega (arith, pre.1.1.0)) w in (
+    let f = waiting_below _ _ _ _ pre.0 _ _ _ (omega (arith, pre.1.1.0)) w in (
       (
         omega (arith, w.reach.few, pre.1.0, pre.1.1.0),
         omega (arith, w.reach.few, pre.1.0, pre.1.1.0),
@@ -103,7 +103,7 @@ run-requires c κs =
         ),
         (
           (omega (arith, pre.1.1.0), omega (arith, pre.1.1.0)),
-          run-start _ _ _ _ pre.0 _ _ _ _ _ _ _ _ pre.1.1.0.0 (omega (arith, c9.begin.auto, pre.1.0))
+          run_start _ _ _ _ pre.0 _ _ _ _ _ _ _ _ pre.1.1.0.0 (omega (arith, c9.begin.auto, pre.1.0))
               (omega (arith, c9.begin.auto, c9.begin.ensures.thinned.short, w.reach.few, pre.1.0, pre.1.1.0))
               (pre.1.1.1.0 _ (pre.0.sorted.bids c24.args.q pre.1.1.0.0)).0 pre.1.1.1.1.0.0 w c9.begin.ensures,
         ),
@@ -142,10 +142,10 @@ least-across-requires c κs =
         omega (arith, pre.1.0),
       ),
       (
-        ran-below _ _ _ _ _ pre.0 _ _ _ _ _ g,
+        ran_below _ _ _ _ _ pre.0 _ _ _ _ _ g,
         (
-          ran-small _ _ _ _ _ pre.0 _ _ _ _ _ pre.1.1.0.1 g,
-          after-bounds _ _ _ args.after.now _ pre.1.1.0.1 pre.1.1.1.1.0.1,
+          ran_small _ _ _ _ _ pre.0 _ _ _ _ _ pre.1.1.0.1 g,
+          after_bounds _ _ _ args.after.now _ pre.1.1.0.1 pre.1.1.1.1.0.1,
         ),
       ),
     )
@@ -193,9 +193,9 @@ returns c =
     let c33 = c18.before.before.before.before.before.before.before.before.before.before.before.before.before.before.before in
     let pre = c33.requires in
     let k = pre.0.sorted.bids c33.args.q pre.1.1.0.0 in (
-      c.whole.ensures ∙ ap value_of (ran-cost _ _ _ _ _ pre.0 _ _ _ _ _ _ _ k pre.1.1.0.2 (pre.1.1.1.0 _ k).1
+      c.whole.ensures ∙ ap value_of (ran_cost _ _ _ _ _ pre.0 _ _ _ _ _ _ _ k pre.1.1.0.2 (pre.1.1.1.0 _ k).1
           pre.1.1.0.1 pre.1.1.1.1.0.1 c8.run.ensures c.before.least-across.ensures),
-      waiting-on _ _ _ _ pre.0 _ _ _ _ _ _ _ _ pre.1.1.0.0 pre.1.1.1.1.1 c18.begin.ensures,
+      waiting_on _ _ _ _ pre.0 _ _ _ _ _ _ _ _ pre.1.1.0.0 pre.1.1.1.1.1 c18.begin.ensures,
     )
 
 pub without-spec : {M : Type 1} → statement M

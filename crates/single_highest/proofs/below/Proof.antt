@@ -2,7 +2,7 @@
 -- where the second run says so. Assumes nothing.
 use native.Mathlib.Omega.{arith}
 use borrow.Author.Rules.{rules}
-use Rattle.single_highest.specs.BelowLaws.{runnable-at, runnable-less, below_none, sum-at, below-paid, below-most}
+use Rattle.single_highest.specs.BelowLaws.{runnable_at, runnable_less, below_none, sum_at, below_paid, below_most}
 use Rattle.single_highest.proofs.below.Statement.{statement}
 use Rattle.single_highest.proofs.below.Tie as tie
 
@@ -16,7 +16,7 @@ fares-requires : tie.Need-fares-requires
 fares-requires c κs =
     let c5 = c.before.before.before.before.before in
     let pre = c5.requires in
-    runnable-less _ _ c5.args.prices.now _ _ _ _ pre.0 pre.1.0 pre.1.1.0 pre.1.1.1.0 (omega arith)
+    runnable_less _ _ c5.args.prices.now _ _ _ _ pre.0 pre.1.0 pre.1.1.0 pre.1.1.1.0 (omega arith)
 
 same_length : tie.Need-same-length
 same_length c = search rules
@@ -41,9 +41,9 @@ wins-requires c κs =
     let free = c.before.before.before.fares.ensures in
     let c9 = c.before.before.before.before.before.before.before.before.before in
     let pre = c9.requires in
-    runnable-at _ _ _ _ _ _ _
-    (runnable-less _ _ c9.args.prices.now _ _ _ _ pre.0 pre.1.0 pre.1.1.0 pre.1.1.1.0 (omega arith))
-    (sum-at _ _ c9.args.prices.now _ _ pre.1.1.0.1 pre.1.1.1.1 _ _ free.0 c.before.if1.false free.1
+    runnable_at _ _ _ _ _ _ _
+    (runnable_less _ _ c9.args.prices.now _ _ _ _ pre.0 pre.1.0 pre.1.1.0 pre.1.1.1.0 (omega arith))
+    (sum_at _ _ c9.args.prices.now _ _ pre.1.1.0.1 pre.1.1.1.1 _ _ free.0 c.before.if1.false free.1
     pre.1.1.0.0 _ (omega arith))
 
 same-length-2 : tie.Need-same-length-2
@@ -56,11 +56,11 @@ returns-2 c =
     let c11 = c5.before.before.before.before.before.before in
     let pre = c11.requires in
     let free = c5.fares.ensures in (
-      below-paid _ _ c11.args.prices.now _ _ pre.1.1.0.1 pre.1.1.1.1 _ _ free.0 c3.if1.false free.1 _
+      below_paid _ _ c11.args.prices.now _ _ pre.1.1.0.1 pre.1.1.1.1 _ _ free.0 c3.if1.false free.1 _
           c.before.wins.ensures,
       omega (
         arith,
-        below-most _ _ c11.args.prices.now _ _ pre.1.1.0.1 pre.1.1.1.1 _ _ free.0 c3.if1.false free.1
+        below_most _ _ c11.args.prices.now _ _ pre.1.1.0.1 pre.1.1.1.1 _ _ free.0 c3.if1.false free.1
             pre.1.1.0.0 _ c.before.wins.ensures,
       ),
     )

@@ -1,7 +1,7 @@
 -- `single_highest::fares` meets its contract: the award's flag and cents of the bid. Assumes nothing.
 use native.Mathlib.Omega.{arith}
 use borrow.Author.Rules.{rules}
-use Rattle.single_highest.specs.BelowLaws.{settled-flag}
+use Rattle.single_highest.specs.BelowLaws.{settled_flag}
 use Rattle.single_highest.proofs.fares.Statement.{statement}
 use Rattle.single_highest.proofs.fares.Tie as tie
 
@@ -34,7 +34,7 @@ returns : tie.Need-returns
 returns c =
     let s = c.before.before.award.ensures in
     let c9 = c.before.before.before.before.before.before.before.before.before in
-    (settled-flag _ _ _ _ _ _ _ _ s c9.args.i c9.requires.inside, s.payments c9.args.i c9.requires.inside tt)
+    (settled_flag _ _ _ _ _ _ _ _ s c9.args.i c9.requires.inside, s.payments c9.args.i c9.requires.inside tt)
 
 pub fares-spec : {M : Type 1} → statement M
 fares-spec =

@@ -1,7 +1,7 @@
 -- `single_highest::wins` meets its contract: the selection's flag of the bid. Assumes nothing.
 use native.Mathlib.Omega.{arith}
 use borrow.Author.Rules.{rules}
-use Rattle.single_highest.specs.BelowLaws.{selected-flag}
+use Rattle.single_highest.specs.BelowLaws.{selected_flag}
 use Rattle.single_highest.proofs.wins.Statement.{statement}
 use Rattle.single_highest.proofs.wins.Tie as tie
 
@@ -30,7 +30,7 @@ array-read-result c = search rules
 returns : tie.Need-returns
 returns c =
     let c9 = c.before.before.before.before.before.before.before.before.before in
-    selected-flag _ _ _ _ _ _ _ _ c.before.before.winners.ensures c9.args.i c9.requires.inside
+    selected_flag _ _ _ _ _ _ _ _ c.before.before.winners.ensures c9.args.i c9.requires.inside
 
 pub wins-spec : {M : Type 1} → statement M
 wins-spec =

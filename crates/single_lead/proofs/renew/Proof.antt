@@ -4,7 +4,7 @@ use Prim.Native.Nat.{◌≤◌, ◌-◌}
 use lib.ListN.{length, length-set}
 use native.Mathlib.Nat.{le_antisymm}
 use Rattle.single_lead.specs.Live.{Thinned}
-use Rattle.single_lead.specs.LiveLaws.{thinned-none, thinned-more}
+use Rattle.single_lead.specs.LiveLaws.{thinned_none, thinned_more}
 use Rattle.single_lead.specs.RowsLaws.{row_room}
 use Rattle.single_lead.specs.Lead.{Seen}
 use Rattle.single_lead.specs.LeadLaws.{seen_none, seen_more}
@@ -23,7 +23,7 @@ decreases-loop starts ends live₀ costs sets w n m t x₀ r₀ j₀ live x r j 
 loop-holds : tie.Need-loop-init invariant-loop decreases-loop
 loop-holds c =
     let c5 = c.before.before.before.before.before in
-    (omega arith, omega arith, thinned-none _ _ _, seen_none _ _ _ _ _ _ _ _ c5.requires.1.1.0)
+    (omega arith, omega arith, thinned_none _ _ _, seen_none _ _ _ _ _ _ _ _ c5.requires.1.1.0)
 
 mul-i : tie.Need-overflow-mul-i invariant-loop decreases-loop
 mul-i c = search rules
@@ -104,7 +104,7 @@ loop-again c =
       omega arith,
       simp length-set (omega arith),
       rw c.before.before.count.ensures
-          (thinned-more _ _ _ _ _ _ (omega arith) c6.loop.invariant.2),
+          (thinned_more _ _ _ _ _ _ (omega arith) c6.loop.invariant.2),
       rw (c.consider.ensures, c6.loop.invariant.2.rest c6.loop.j (omega arith))
           (seen_more _ _ _ _ _ _ _ _ _ _ (λ q. omega (arith, c8.shared-slice-known3.given q)) pre.1.1.1
           (pre.1.0 c6.loop.j c5.loop-test.true) c6.loop.invariant.3),
@@ -127,7 +127,7 @@ returns c = let e = le_antisymm c.before.before.before.loop.invariant.0 c.before
     record {
       thinned = rw e at c.before.before.before.loop.invariant.2;
       seen = rw e at c.before.before.before.loop.invariant.3;
-      cost-is = refl;
+      cost_is = refl;
       end_is = c.before.end_of_lem.ensures;
     }
 

@@ -1,23 +1,23 @@
 -- `single_lead::stands` meets its contract: the words above j are the same in both rows. Assumes nothing.
 use mathlib.Core.Path.{◌≡◌, sym}
-use Rattle.single_lead.specs.Rows.{setIn, topWords}
+use Rattle.single_lead.specs.Rows.{set_in, top_words}
 use Prim.Native.Nat.{◌≤◌, ◌-◌, ◌+◌}
 use native.Mathlib.Nat.{le_antisymm}
 use borrow.Author.Tests.{lt-ltb, le-ltb}
-use Rattle.single_lead.specs.RowsLaws.{top-none, word-less, word_same, all_same}
+use Rattle.single_lead.specs.RowsLaws.{top_none, word_less, word_same, all_same}
 use native.Mathlib.Omega.{arith}
 use borrow.Author.Rules.{rules}
 use Rattle.single_lead.proofs.stands.Statement.{statement}
 use Rattle.single_lead.proofs.stands.Tie as tie
 
 abbrev invariant-loop : tie.invariant-loop
-invariant-loop sets w q r j₀ j = (j ≤ w) × (topWords w sets q j ≡ topWords w sets r j)
+invariant-loop sets w q r j₀ j = (j ≤ w) × (top_words w sets q j ≡ top_words w sets r j)
 
 abbrev decreases-loop : tie.decreases-loop
 decreases-loop sets w q r j₀ j = j
 
 loop-holds : tie.Need-loop-init invariant-loop decreases-loop
-loop-holds c = (omega arith, top-none _ _ _ _)
+loop-holds c = (omega arith, top_none _ _ _ _)
 
 sub-j : tie.Need-overflow-sub-j invariant-loop decreases-loop
 sub-j c = search rules
@@ -52,7 +52,7 @@ returns c =
     let c5 = c4.before in
     let args = c5.args in
     let e : c4.loop.j ≡ c4.loop.j - 1 + 1 = omega arith in
-    sym (lt-ltb _ _ (word-less args.w args.sets.now (λ j. omega (arith, c.before.before.shared-slice-known.given j)) args.q
+    sym (lt-ltb _ _ (word_less args.w args.sets.now (λ j. omega (arith, c.before.before.shared-slice-known.given j)) args.q
     args.r (c4.loop.j - 1) (omega arith) (rw e at c4.loop.invariant.1) c.if1.true))
 
 returns-2 : tie.Need-returns-2 invariant-loop decreases-loop
@@ -61,10 +61,10 @@ returns-2 c =
     let c6 = c5.before in
     let args = c6.args in
     let e : c5.loop.j ≡ c5.loop.j - 1 + 1 = omega arith in
-    sym (le-ltb (setIn args.w args.sets.now args.q) (setIn args.w args.sets.now args.r)
+    sym (le-ltb (set_in args.w args.sets.now args.q) (set_in args.w args.sets.now args.r)
     (omega (
       arith,
-      word-less args.w args.sets.now (λ j. omega (arith, c.before.before.before.shared-slice-known.given j)) args.r
+      word_less args.w args.sets.now (λ j. omega (arith, c.before.before.before.shared-slice-known.given j)) args.r
           args.q (c5.loop.j - 1) (omega arith) (rw e at (sym c5.loop.invariant.1)) c.if2.true,
     )))
 
@@ -85,7 +85,7 @@ loop-again c =
 returns-3 : tie.Need-returns-3 invariant-loop decreases-loop
 returns-3 c =
     let args = c.before.before.args in
-    sym (le-ltb (setIn args.w args.sets.now args.q) (setIn args.w args.sets.now args.r)
+    sym (le-ltb (set_in args.w args.sets.now args.q) (set_in args.w args.sets.now args.r)
     (omega (arith, all_same args.w args.sets.now args.q args.r c.before.loop.j (omega arith) c.before.loop.invariant.1)))
 
 pub stands-spec : {M : Type 1} → statement M

@@ -4,7 +4,7 @@ use Prim.Native.Nat.{◌≤◌, ◌-◌}
 use lib.ListN.{length}
 use native.Mathlib.Nat.{le_antisymm}
 use Rattle.single_run.specs.Run.{Running}
-use Rattle.single_run.specs.RunLaws.{ran-stop, ran-end}
+use Rattle.single_run.specs.RunLaws.{ran_stop, ran_end}
 use native.Mathlib.Omega.{arith}
 use borrow.Author.Rules.{rules}
 use Rattle.single_run.proofs.run.Statement.{statement}
@@ -52,7 +52,7 @@ returns : tie.Need-returns invariant-loop decreases-loop
 returns c =
     let c4 = c.before.before.before.before in
     let c11 = c4.before.before.before.before.before.before.before in
-    ran-stop _ _ _ _ _ _ _ c11.requires.0 _ _ _ _ _ _ _ c4.loop.invariant.3 c.before.before.before.loop-test.true c.if1.true
+    ran_stop _ _ _ _ _ _ _ c11.requires.0 _ _ _ _ _ _ _ c4.loop.invariant.3 c.before.before.before.loop-test.true c.if1.true
 
 step-requires : tie.Need-step-requires invariant-loop decreases-loop
 step-requires c κs =
@@ -101,7 +101,7 @@ same-length-4 c = search rules
 returns-2 : tie.Need-returns-2 invariant-loop decreases-loop
 returns-2 c =
     let c8 = c.before.before.before.before.before.before.before.before in
-    ran-end _ _ _ _ _ _ _ c8.requires.0 _ _ _ _ _ _ _ c.before.loop.invariant.3 (le_antisymm c.before.loop.invariant.0 c.loop-test.false)
+    ran_end _ _ _ _ _ _ _ c8.requires.0 _ _ _ _ _ _ _ c.before.loop.invariant.3 (le_antisymm c.before.loop.invariant.0 c.loop-test.false)
 
 pub run_spec : {M : Type 1} → statement M
 run_spec =

@@ -1,7 +1,7 @@
 -- `single_run::step` meets its contract: the least cost with the bid's price is the bid's cost. Assumes nothing.
 use Rattle.single_lead.specs.RowsLaws.{no_words}
 use Rattle.single_lead.specs.LiveLaws.{live_below}
-use Rattle.single_run.specs.RunLaws.{next-cost, cost-fits, running_more}
+use Rattle.single_run.specs.RunLaws.{next_cost, cost_fits, running_more}
 use native.Mathlib.Omega.{arith}
 use borrow.Author.Rules.{rules}
 use Rattle.single_run.proofs.step.Statement.{statement}
@@ -60,9 +60,9 @@ entry-requires : tie.Need-entry-requires
 entry-requires c κs =
     let c15 = c.before.before.before.before.before.before.before.before.before.before.before.before.before.before.before in
     let pre = c15.requires in
-    let y = next-cost _ _ _ _ _ _ _ pre.0 _ _ _ _ _ _ _ pre.1.1.0.0 pre.1.1.1 _ _ _ _ _ _ _
+    let y = next_cost _ _ _ _ _ _ _ pre.0 _ _ _ _ _ _ _ pre.1.1.0.0 pre.1.1.1 _ _ _ _ _ _ _
     c.before.before.before.lead-at.ensures in
-    cost-fits _ _ _ _ _ _ _ pre.0 _ _ _ _ _ pre.1.1.0.0 pre.1.1.0.1 y
+    cost_fits _ _ _ _ _ _ _ pre.0 _ _ _ _ _ pre.1.1.0.0 pre.1.1.0.1 y
 
 mul-costs : tie.Need-overflow-mul-costs
 mul-costs c =
@@ -81,7 +81,7 @@ mul-live c =
     let c4 = c.before.before.before.before in
     let c16 = c4.before.before.before.before.before.before.before.before.before.before.before.before in
     let pre = c16.requires in
-    let y = next-cost _ _ _ _ _ _ _ pre.0 _ _ _ _ _ _ _ pre.1.1.0.0 pre.1.1.1 _ _ _ _ _ _ _ c4.lead-at.ensures in
+    let y = next_cost _ _ _ _ _ _ _ pre.0 _ _ _ _ _ _ _ pre.1.1.0.0 pre.1.1.1 _ _ _ _ _ _ _ c4.lead-at.ensures in
     omega (arith, y.least.lead.reach.few, pre.1.0, pre.1.1.0, c4.lead-at.auto)
 
 slice-write-live : tie.Need-slice-write-live
@@ -89,7 +89,7 @@ slice-write-live c =
     let c4 = c.before.before.before.before in
     let c16 = c4.before.before.before.before.before.before.before.before.before.before.before.before in
     let pre = c16.requires in
-    let y = next-cost _ _ _ _ _ _ _ pre.0 _ _ _ _ _ _ _ pre.1.1.0.0 pre.1.1.1 _ _ _ _ _ _ _ c4.lead-at.ensures in
+    let y = next_cost _ _ _ _ _ _ _ pre.0 _ _ _ _ _ _ _ pre.1.1.0.0 pre.1.1.1 _ _ _ _ _ _ _ c4.lead-at.ensures in
     omega (arith, y.least.lead.reach.few, pre.1.0, pre.1.1.0, c4.lead-at.auto)
 
 add-t17 : tie.Need-overflow-add-t17
@@ -97,7 +97,7 @@ add-t17 c =
     let c4 = c.before.before.before.before in
     let c16 = c4.before.before.before.before.before.before.before.before.before.before.before.before in
     let pre = c16.requires in
-    let y = next-cost _ _ _ _ _ _ _ pre.0 _ _ _ _ _ _ _ pre.1.1.0.0 pre.1.1.1 _ _ _ _ _ _ _ c4.lead-at.ensures in
+    let y = next_cost _ _ _ _ _ _ _ pre.0 _ _ _ _ _ _ _ pre.1.1.0.0 pre.1.1.1 _ _ _ _ _ _ _ c4.lead-at.ensures in
     omega (arith, y.least.lead.reach.few, pre.1.0, pre.1.1.0, c4.lead-at.auto)
 
 same_length : tie.Need-same-length
@@ -111,7 +111,7 @@ returns c =
     let c4 = c.before.before.before.before in
     let c16 = c4.before.before.before.before.before.before.before.before.before.before.before.before in
     let pre = c16.requires in
-    let y = next-cost _ _ _ _ _ _ _ pre.0 _ _ _ _ _ _ _ pre.1.1.0.0 pre.1.1.1 _ _ _ _ _ _ _ c4.lead-at.ensures in
+    let y = next_cost _ _ _ _ _ _ _ pre.0 _ _ _ _ _ _ _ pre.1.1.0.0 pre.1.1.1 _ _ _ _ _ _ _ c4.lead-at.ensures in
     let g = pre.1.1.1 in
     rw c.entry.ensures (running_more _ _ _ _ _ _ _ pre.0 _ _ _ _ _ pre.1.1.0.0 pre.1.1.0.1 y _ _
     (omega (arith, pre.1.0)) (omega (arith, y.least.lead.reach.few, pre.1.0, pre.1.1.0, c4.lead-at.auto))

@@ -1,7 +1,7 @@
 -- `single_select::step` meets its contract: the leading set with the bid is the bid's weight. Assumes nothing.
 use mathlib.Core.Path.{refl}
 use Rattle.single_lead.specs.LiveLaws.{live_below}
-use Rattle.single_select.specs.WeighingLaws.{weighing-more, next_row, lead-lacks, lead-fits, lead-other}
+use Rattle.single_select.specs.WeighingLaws.{weighing_more, next_row, lead_lacks, lead_fits, lead_other}
 use native.Mathlib.Omega.{arith}
 use borrow.Author.Rules.{rules}
 use Rattle.single_select.proofs.step.Statement.{statement}
@@ -54,10 +54,10 @@ extend-requires c κs =
       (
         omega (arith, y.least.lead.within, pre.1.0),
         omega (arith, l, pre.1.0),
-        lead-other _ _ _ _ _ _ _ _ _ _ _ _ e y _ l refl,
+        lead_other _ _ _ _ _ _ _ _ _ _ _ _ e y _ l refl,
         omega (arith, l, pre.1.0),
       ),
-      lead-lacks _ _ _ _ _ _ _ _ _ _ _ _ e y _ l refl,
+      lead_lacks _ _ _ _ _ _ _ _ _ _ _ _ e y _ l refl,
     )
 
 mul-add-price : tie.Need-overflow-mul-add-price
@@ -78,7 +78,7 @@ add-price-requires c κs =
     let c20 = c7.before.before.before.before.before.before.before.before.before.before.before.before.before in
     let pre = c20.requires in
     let y = next_row _ _ _ _ _ _ pre.0 _ _ _ _ _ _ _ _ _ _ _ pre.1.1.0.0 pre.1.1.1 c7.lead-at.ensures in
-    lead-fits _ _ _ _ _ _ _ _ _ _ _ _ pre.1.1.1.empty y _ (pre.0.sorted.bids c20.args.k pre.1.1.0.0) refl
+    lead_fits _ _ _ _ _ _ _ _ _ _ _ _ pre.1.1.1.empty y _ (pre.0.sorted.bids c20.args.k pre.1.1.0.0) refl
     pre.1.1.0.1
 
 mul-costs : tie.Need-overflow-mul-costs
@@ -134,7 +134,7 @@ returns c =
     let pre = c21.requires in
     let y = next_row _ _ _ _ _ _ pre.0 _ _ _ _ _ _ _ _ _ _ _ pre.1.1.0.0 pre.1.1.1 c8.lead-at.ensures in
     let g = pre.1.1.1 in
-    rw c.add-price.ensures (weighing-more _ _ _ _ _ _ _ _ pre.0 _ _ _ _ _ pre.1.1.0.0 pre.1.1.0.1
+    rw c.add-price.ensures (weighing_more _ _ _ _ _ _ _ _ pre.0 _ _ _ _ _ pre.1.1.0.0 pre.1.1.0.1
     (omega (arith, pre.1.0)) (omega (arith, y.least.lead.reach.few, pre.1.0, pre.1.1.0, c8.lead-at.auto)) g.guard
     g.empty g.done y c4.extend.ensures)
 

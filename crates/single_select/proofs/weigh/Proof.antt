@@ -6,7 +6,7 @@ use lib.Seq.{get_or-set_same}
 use native.Mathlib.Nat.{le_antisymm}
 use Rattle.single_lead.specs.LiveLaws.{live_below}
 use Rattle.single_select.specs.Weighing.{Weighing}
-use Rattle.single_select.specs.WeighingLaws.{weighing-none, weighed}
+use Rattle.single_select.specs.WeighingLaws.{weighing_none, weighed}
 use native.Mathlib.Omega.{arith}
 use borrow.Author.Rules.{rules}
 use Rattle.single_select.proofs.weigh.Statement.{statement}
@@ -35,7 +35,7 @@ loop-holds c =
       refl,
       simp length-set refl,
       refl,
-      weighing-none _ _ _ _ _ _ _ (get_or-set_same args.costs.now (length args.prices.now) 18446744073709551615 0
+      weighing_none _ _ _ _ _ _ _ (get_or-set_same args.costs.now (length args.prices.now) 18446744073709551615 0
           (omega (arith, pre.1.0))) pre.1.1.0.1,
     )
 

@@ -68,8 +68,8 @@ returns c =
     record {
       flags = listed_of _ _ _ _ (omega (arith, c23.requires.1.0))
           (rw c10.weigh.ensures.wins at c.before.before.before.mark.ensures);
-      costs-are = c10.weigh.ensures.costs-are;
-      all-is = c.whole.ensures ∙ c10.weigh.ensures.all;
+      costs_are = c10.weigh.ensures.costs_are;
+      all_is = c.whole.ensures ∙ c10.weigh.ensures.all;
     }
 
 pub winners-spec : {M : Type 1} → statement M

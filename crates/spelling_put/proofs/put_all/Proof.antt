@@ -2,7 +2,7 @@
 use Prim.Native.Nat.{◌-◌}
 use native.Mathlib.Omega.{arith}
 use lib.ListN.{length}
-use Rattle.spelling.specs.WritingLaws.{Copying, copy-begins, copy_goes, copy-size, copy-ends}
+use Rattle.spelling.specs.WritingLaws.{Copying, copy_begins, copy_goes, copy_size, copy_ends}
 use Rattle.spelling_put.proofs.put_all.Statement.{statement}
 use Rattle.spelling_put.proofs.put_all.Tie as tie
 use Rattle.spelling_put.proofs.put_all.Reads as reads
@@ -17,7 +17,7 @@ decreases-loop buf₀ at s i₀ buf i = length s - i
 loop-holds : tie.Need-loop-init invariant-loop decreases-loop
 loop-holds c =
     let args = c.args in
-    copy-begins args.buf.now args.at args.s.now c.requires
+    copy_begins args.buf.now args.at args.s.now c.requires
 
 shared-slice-read-buf : tie.Need-shared-slice-read-buf invariant-loop decreases-loop
 shared-slice-read-buf c = omega arith
@@ -30,7 +30,7 @@ slice-write-buf c =
     let args = c.before.before.before.args in
     omega (
       arith,
-      copy-size args.buf.now args.at args.s.now c.before.before.loop.buf c.before.before.loop.i
+      copy_size args.buf.now args.at args.s.now c.before.before.loop.buf c.before.before.loop.i
           c.before.before.loop.invariant,
       c.before.before.loop.invariant.fits,
     )
@@ -53,12 +53,12 @@ add-result c = omega arith
 same_length : tie.Need-same-length invariant-loop decreases-loop
 same_length c =
     let args = c.before.before.args in
-    copy-size args.buf.now args.at args.s.now c.before.loop.buf c.before.loop.i c.before.loop.invariant
+    copy_size args.buf.now args.at args.s.now c.before.loop.buf c.before.loop.i c.before.loop.invariant
 
 returns : tie.Need-returns invariant-loop decreases-loop
 returns c =
     let args = c.before.before.args in
-    copy-ends args.buf.now args.at args.s.now c.before.loop.buf c.before.loop.i (omega arith) c.before.loop.invariant
+    copy_ends args.buf.now args.at args.s.now c.before.loop.buf c.before.loop.i (omega arith) c.before.loop.invariant
 
 pub put-all-spec : {M : Type 1} → statement M
 put-all-spec =

@@ -1,5 +1,5 @@
 -- The digits that were spelt. Assumes nothing.
-use Rattle.spelling.specs.SpellingLaws.{decimal-written}
+use Rattle.spelling.specs.SpellingLaws.{decimal_written}
 use borrow.Author.Rules.{rules}
 use Rattle.spelling_put.proofs.put_decimal.Statement.{statement}
 use Rattle.spelling_put.proofs.put_decimal.Tie as tie
@@ -26,7 +26,7 @@ same_length c = search rules
 returns : tie.Need-returns
 returns c =
     let c6 = c.before.before.before.before.before.before in
-    decimal-written c6.before.before.before.args.n c.before.before.put_rest.ensures c6.spell.ensures.0
+    decimal_written c6.before.before.before.args.n c.before.before.put_rest.ensures c6.spell.ensures.0
 
 pub put-decimal-spec : {M : Type 1} → statement M
 put-decimal-spec =

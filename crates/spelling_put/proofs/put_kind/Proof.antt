@@ -1,8 +1,8 @@
 -- Each kind's keyword. Assumes nothing.
 use Rattle.tender.specs.declared.Kind.TheVariants.{Single, Multi}
-use Rattle.tender.specs.Keywords.{bytes, singleWord, multiWord}
-use Rattle.spelling.specs.Lines.{kindWord}
-use Rattle.spelling.specs.SpellingLaws.{kind-written}
+use Rattle.tender.specs.Keywords.{bytes, single_word, multi_word}
+use Rattle.spelling.specs.Lines.{kind_word}
+use Rattle.spelling.specs.SpellingLaws.{kind_written}
 use borrow.Author.Rules.{rules}
 use Rattle.spelling_put.proofs.put_kind.Statement.{statement}
 use Rattle.spelling_put.proofs.put_kind.Tie as tie
@@ -32,21 +32,21 @@ same_length : tie.Need-same-length
 same_length c = search rules
 
 returns : tie.Need-returns
-unfolding kindWord singleWord multiWord bytes
+unfolding kind_word single_word multi_word bytes
 returns c =
     let c5 = c.before.before.before.before.before in
     let c8 = c5.before.before.before in
-    kind-written c8.args.kind Single c5.enum_told.given.1 c.before.before.put_all_lem.ensures
+    kind_written c8.args.kind Single c5.enum_told.given.1 c.before.before.put_all_lem.ensures
 
 same-length-2 : tie.Need-same-length-2
 same-length-2 c = search rules
 
 returns-2 : tie.Need-returns-2
-unfolding kindWord singleWord multiWord bytes
+unfolding kind_word single_word multi_word bytes
 returns-2 c =
     let c5 = c.before.before.before.before.before in
     let c8 = c5.before.before.before in
-    kind-written c8.args.kind Multi c5.enum-told2.given.1 c.before.before.put-all2.ensures
+    kind_written c8.args.kind Multi c5.enum-told2.given.1 c.before.before.put-all2.ensures
 
 pub put-kind-spec : {M : Type 1} → statement M
 put-kind-spec =

@@ -1,7 +1,7 @@
 -- Two numbers and the bytes that end a line. Assumes nothing.
 use native.Mathlib.Omega.{arith}
-use Rattle.spelling.specs.LineLaws.{decimal-short}
-use Rattle.spelling.specs.SpellingLaws.{numbers-written}
+use Rattle.spelling.specs.LineLaws.{decimal_short}
+use Rattle.spelling.specs.SpellingLaws.{numbers_written}
 use borrow.Author.Rules.{rules}
 use Rattle.spelling_put.proofs.put_numbers.Statement.{statement}
 use Rattle.spelling_put.proofs.put_numbers.Tie as tie
@@ -16,7 +16,7 @@ put-number-requires c κs = search rules
 put-number-requires-2 : tie.Need-put-number-requires-2
 put-number-requires-2 c κs =
     let c6 = c.before.before.before.before.before.before in
-    omega (arith, decimal-short c6.args.a)
+    omega (arith, decimal_short c6.args.a)
 
 slice-aggregate-put-all : tie.Need-slice-aggregate-put-all
 slice-aggregate-put-all c = search rules
@@ -29,8 +29,8 @@ put-all-requires c κs =
     let args = c11.args in
     omega (
       arith,
-      decimal-short args.a,
-      decimal-short args.b,
+      decimal_short args.a,
+      decimal_short args.b,
       c11.requires,
       c8.put-number.ensures.next,
       c8.put-number.ensures.size,
@@ -47,7 +47,7 @@ returns c =
     let c11 = c7.before.before.before.before in
     let c14 = c11.before.before.before in
     let args = c14.args in
-    numbers-written args.a args.b c11.put-number.ensures c7.put-number2.ensures c.before.before.put_all_lem.ensures
+    numbers_written args.a args.b c11.put-number.ensures c7.put-number2.ensures c.before.before.put_all_lem.ensures
 
 pub put-numbers-spec : {M : Type 1} → statement M
 put-numbers-spec =

@@ -1,6 +1,6 @@
 -- An opening bracket, the word, the number, and the bytes that end a line. Assumes nothing.
 use native.Mathlib.Omega.{arith}
-use Rattle.spelling.specs.LineLaws.{decimal-short}
+use Rattle.spelling.specs.LineLaws.{decimal_short}
 use Rattle.spelling.specs.SpellingLaws.{one_written}
 use borrow.Author.Rules.{rules}
 use Rattle.spelling_put.proofs.put_one.Statement.{statement}
@@ -31,7 +31,7 @@ put-all-requires-2 c κs =
     let c16 = c12.before.before.before.before in
     omega (
       arith,
-      decimal-short c16.args.a,
+      decimal_short c16.args.a,
       c16.requires,
       c12.put.ensures.next,
       c12.put.ensures.size,

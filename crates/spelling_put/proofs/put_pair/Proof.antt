@@ -1,5 +1,5 @@
 -- An opening bracket, the word, and the two numbers. Assumes nothing.
-use Rattle.spelling.specs.SpellingLaws.{pair-written}
+use Rattle.spelling.specs.SpellingLaws.{pair_written}
 use borrow.Author.Rules.{rules}
 use Rattle.spelling_put.proofs.put_pair.Statement.{statement}
 use Rattle.spelling_put.proofs.put_pair.Tie as tie
@@ -27,7 +27,7 @@ returns c =
     let c10 = c6.before.before.before.before in
     let c14 = c10.before.before.before.before in
     let args = c14.args in
-    pair-written args.a args.b c10.put.ensures c6.put_all_lem.ensures c.before.before.put-numbers.ensures
+    pair_written args.a args.b c10.put.ensures c6.put_all_lem.ensures c.before.before.put-numbers.ensures
 
 pub put-pair-spec : {M : Type 1} → statement M
 put-pair-spec =

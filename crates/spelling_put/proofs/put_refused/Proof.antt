@@ -1,6 +1,6 @@
 -- The refusal's number and place. Assumes nothing.
 use Rattle.tender.specs.Keywords.{bytes}
-use Rattle.spelling.specs.SpellingLaws.{refusal-written}
+use Rattle.spelling.specs.SpellingLaws.{refusal_written}
 use borrow.Author.Rules.{rules}
 use Rattle.spelling_put.proofs.put_refused.Statement.{statement}
 use Rattle.spelling_put.proofs.put_refused.Tie as tie
@@ -31,7 +31,7 @@ returns c =
     let c5 = c.before.before.before.before.before in
     let c6 = c5.before in
     let c8 = c6.before.before in
-    refusal-written c8.args.refusal c6.number.ensures c5.place.ensures c.before.before.put-pair.ensures
+    refusal_written c8.args.refusal c6.number.ensures c5.place.ensures c.before.before.put-pair.ensures
 
 pub put-refused-spec : {M : Type 1} → statement M
 put-refused-spec =

@@ -3,7 +3,7 @@ use native.Mathlib.Omega.{arith}
 use mathlib.Core.Path.{sym, ◌∙◌}
 use Prim.Native.Nat.{◌+◌, ◌-◌, ◌%◌}
 use lib.ListN.{length-set}
-use Rattle.spelling.specs.SpellingLaws.{Spelling, spell-begins, spell-goes, spell-ends}
+use Rattle.spelling.specs.SpellingLaws.{Spelling, spell_begins, spell_goes, spell_ends}
 use Rattle.spelling_put.proofs.spell.Statement.{statement}
 use Rattle.spelling_put.proofs.spell.Tie as tie
 use Rattle.spelling_put.proofs.spell.Reads as reads
@@ -16,7 +16,7 @@ abbrev decreases-loop : tie.decreases-loop
 decreases-loop n digits₀ v₀ i₀ digits v i = v
 
 loop-holds : tie.Need-loop-init invariant-loop decreases-loop
-loop-holds c = spell-begins c.args.n c.args.digits.now (omega arith) c.requires
+loop-holds c = spell_begins c.args.n c.args.digits.now (omega arith) c.requires
 
 sub-i : tie.Need-overflow-sub-i invariant-loop decreases-loop
 sub-i c = omega arith
@@ -34,7 +34,7 @@ loop-less : tie.Need-loop-smaller invariant-loop decreases-loop
 loop-less c = omega arith
 
 loop-again : tie.Need-loop-preserved invariant-loop decreases-loop
-loop-again c = spell-goes c.before.before.args.n c.before.loop.digits c.before.loop.v c.before.loop.i (omega arith)
+loop-again c = spell_goes c.before.before.args.n c.before.loop.digits c.before.loop.v c.before.loop.i (omega arith)
     c.before.loop.invariant
 
 sub-i-2 : tie.Need-overflow-sub-i-2 invariant-loop decreases-loop
@@ -55,7 +55,7 @@ same_length c = length-set c.before.loop.digits (c.before.loop.i - 1) (48 + c.be
 
 returns : tie.Need-returns invariant-loop decreases-loop
 returns c = (
-  spell-ends c.before.before.args.n c.before.loop.digits c.before.loop.v c.before.loop.i (omega arith)
+  spell_ends c.before.before.args.n c.before.loop.digits c.before.loop.v c.before.loop.i (omega arith)
       c.before.loop.invariant,
   omega arith,
 )

@@ -1,7 +1,7 @@
 -- Tables with a fault are refused as an award refuses them, and the others written. Assumes nothing.
 use mathlib.Core.Path.{◌∙◌, sym, ap}
-use Rattle.award_fault.specs.Checks.{checkedFault}
-use Rattle.writer.specs.WritesLaws.{writes-nine}
+use Rattle.award_fault.specs.Checks.{checked_fault}
+use Rattle.writer.specs.WritesLaws.{writes_nine}
 use borrow.Author.Rules.{rules}
 use Rattle.writer.proofs.write.Statement.{statement}
 use Rattle.writer.proofs.write.Tie as tie
@@ -17,7 +17,7 @@ enum_told : tie.Need-enum-told
 enum_told c = search rules
 
 write-sound-requires : tie.Need-write-sound-requires
-write-sound-requires c κs = sym c.before.before.before.fault.ensures ∙ ap checkedFault c.before.enum_told.given.1
+write-sound-requires c κs = sym c.before.before.before.fault.ensures ∙ ap checked_fault c.before.enum_told.given.1
 
 enum-known-row : tie.Need-enum-known-row
 enum-known-row c = search rules
@@ -32,8 +32,8 @@ returns-2 : tie.Need-returns-2
 returns-2 c =
     let c7 = c.before.before.before.before.before.before.before in
     let args = c7.args in
-    writes-nine args.tender args.count args.bids.now args.windows.now args.text.now _
-    (sym c.before.before.before.fault.ensures ∙ ap checkedFault c.before.row.given.1)
+    writes_nine args.tender args.count args.bids.now args.windows.now args.text.now _
+    (sym c.before.before.before.fault.ensures ∙ ap checked_fault c.before.row.given.1)
 
 pub write_spec : {M : Type 1} → statement M
 write_spec =

@@ -2,8 +2,8 @@
 use mathlib.Core.Path.{sym}
 use mathlib.Core.Logic.{inl, inr}
 use native.Mathlib.Omega.{arith}
-use Rattle.writer_text.specs.FillingLaws.{some-length}
-use Rattle.writer.specs.WritesLaws.{writes-fourteen, writes-text}
+use Rattle.writer_text.specs.FillingLaws.{some_length}
+use Rattle.writer.specs.WritesLaws.{writes_fourteen, writes_text}
 use borrow.Author.Rules.{rules}
 use Rattle.writer.proofs.write_sound.Statement.{statement}
 use Rattle.writer.proofs.write_sound.Tie as tie
@@ -22,14 +22,14 @@ returns : tie.Need-returns
 returns c =
     let c7 = c.before.before.before.before.before.before.before in
     let args = c7.args in
-    writes-fourteen args.tender args.count args.bids.now args.windows.now c7.requires c.before.before.put-text.ensures
+    writes_fourteen args.tender args.count args.bids.now args.windows.now c7.requires c.before.before.put-text.ensures
     args.text.now (inl (omega arith))
 
 returns-2 : tie.Need-returns-2
 returns-2 c =
     let c8 = c.before.before.before.before.before.before.before.before in
     let args = c8.args in
-    writes-fourteen args.tender args.count args.bids.now args.windows.now c8.requires
+    writes_fourteen args.tender args.count args.bids.now args.windows.now c8.requires
     c.before.before.before.put-text.ensures args.text.now (inr (omega arith))
 
 array-share-prefix-made : tie.Need-array-share-prefix-made
@@ -38,12 +38,12 @@ array-share-prefix-made c = search rules
 slice-aggregate-put-all : tie.Need-slice-aggregate-put-all
 slice-aggregate-put-all c =
     let c5 = c.before.before.before.before.before in
-    sym (some-length c5.put-text.ensures)
+    sym (some_length c5.put-text.ensures)
 
 put-all-requires : tie.Need-put-all-requires
 put-all-requires c κs =
     let c5 = c.before.before.before.before.before in
-    omega (arith, some-length c5.put-text.ensures)
+    omega (arith, some_length c5.put-text.ensures)
 
 same_length : tie.Need-same-length
 same_length c = search rules
@@ -53,7 +53,7 @@ returns-3 c =
     let c8 = c.before.before.before.before.before.before.before.before in
     let c13 = c8.before.before.before.before.before in
     let args = c13.args in
-    writes-text args.tender args.count args.bids.now args.windows.now c13.requires c8.put-text.ensures args.text.now
+    writes_text args.tender args.count args.bids.now args.windows.now c13.requires c8.put-text.ensures args.text.now
     (omega arith) (omega arith) c.before.before.put_all_lem.ensures
 
 pub write-sound-spec : {M : Type 1} → statement M

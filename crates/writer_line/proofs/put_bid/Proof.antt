@@ -3,10 +3,10 @@ use Prim.Native.Nat.{◌*◌}
 use native.Mathlib.Omega.{arith}
 use lib.ListN.{drop}
 use Rattle.tender.specs.Keywords.{bytes}
-use Rattle.tender.specs.Tables.{windowsOf, windowWidth}
-use Rattle.spelling.specs.LineLaws.{decimal-short}
-use Rattle.writer_line.specs.LengthLaws.{joined-text-few}
-use Rattle.writer_line.specs.PutLaws.{bid-written}
+use Rattle.tender.specs.Tables.{windows_of, window_width}
+use Rattle.spelling.specs.LineLaws.{decimal_short}
+use Rattle.writer_line.specs.LengthLaws.{joined_text_few}
+use Rattle.writer_line.specs.PutLaws.{bid_written}
 use borrow.Author.Rules.{rules}
 use Rattle.writer_line.proofs.put_bid.Statement.{statement}
 use Rattle.writer_line.proofs.put_bid.Tie as tie
@@ -32,7 +32,7 @@ put-number-requires c κs =
     let c15 = c7.before.before.before.before.before.before.before.before in
     omega (
       arith,
-      decimal-short c15.args.bidder,
+      decimal_short c15.args.bidder,
       c15.requires.1.1.1.0,
       c7.put_all_lem.ensures.next,
       c7.put_all_lem.ensures.size,
@@ -48,7 +48,7 @@ put-windows-requires c κs =
     let c20 = c12.before.before.before.before.before.before.before.before in
     let args = c20.args in
     let pre = c20.requires in
-    let few = joined-text-few args.count (drop (windowWidth * args.first) args.windows.now) pre.1.1.0 pre.1.0 in (
+    let few = joined_text_few args.count (drop (window_width * args.first) args.windows.now) pre.1.1.0 pre.1.0 in (
       pre.0,
       (
         pre.1.0,
@@ -56,8 +56,8 @@ put-windows-requires c κs =
           omega (
             arith,
             few,
-            decimal-short args.bidder,
-            decimal-short args.price,
+            decimal_short args.bidder,
+            decimal_short args.price,
             pre.1.1.1.0,
             c12.put_all_lem.ensures.next,
             c12.put_all_lem.ensures.size,
@@ -83,12 +83,12 @@ put-all-requires-2 c κs =
     let c27 = c19.before.before.before.before.before.before.before.before in
     let args = c27.args in
     let pre = c27.requires in
-    let few = joined-text-few args.count (drop (windowWidth * args.first) args.windows.now) pre.1.1.0 pre.1.0 in
+    let few = joined_text_few args.count (drop (window_width * args.first) args.windows.now) pre.1.1.0 pre.1.0 in
     omega (
       arith,
       few,
-      decimal-short args.bidder,
-      decimal-short args.price,
+      decimal_short args.bidder,
+      decimal_short args.price,
       pre.1.1.1.0,
       c19.put_all_lem.ensures.next,
       c19.put_all_lem.ensures.size,
@@ -114,8 +114,8 @@ returns c =
     let c18 = c14.before.before.before.before in
     let c22 = c18.before.before.before.before in
     let args = c22.before.before.before.before.before.before.before.before.args in
-    let own = windowsOf args.count (drop (windowWidth * args.first) args.windows.now) in (
-      bid-written (record { bidder = args.bidder; price = args.price; windows = own }) c22.put_all_lem.ensures
+    let own = windows_of args.count (drop (window_width * args.first) args.windows.now) in (
+      bid_written (record { bidder = args.bidder; price = args.price; windows = own }) c22.put_all_lem.ensures
           c18.put-decimal.ensures c14.put-number.ensures c9.put-windows.ensures.0 c.before.before.put-all2.ensures,
       c9.put-windows.ensures.1,
     )

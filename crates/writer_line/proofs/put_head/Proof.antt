@@ -1,7 +1,7 @@
 -- The tender's line, and its reserve's after it. Assumes nothing.
 use native.Mathlib.Omega.{arith}
-use Rattle.writer_line.specs.LengthLaws.{tender-short}
-use Rattle.writer_line.specs.PutLaws.{head-written}
+use Rattle.writer_line.specs.LengthLaws.{tender_short}
+use Rattle.writer_line.specs.PutLaws.{head_written}
 use borrow.Author.Rules.{rules}
 use Rattle.writer_line.proofs.put_head.Statement.{statement}
 use Rattle.writer_line.proofs.put_head.Tie as tie
@@ -17,7 +17,7 @@ put-reserve-requires : tie.Need-put-reserve-requires
 put-reserve-requires c κs =
     let c6 = c.before.before.before.before.before.before in
     let w = c.before.before.before.put-tender.ensures in
-    omega (arith, tender-short c6.args.tender, w.next, w.size)
+    omega (arith, tender_short c6.args.tender, w.next, w.size)
 
 same_length : tie.Need-same-length
 same_length c = search rules
@@ -26,7 +26,7 @@ returns : tie.Need-returns
 returns c =
     let c6 = c.before.before.before.before.before.before in
     let c9 = c6.before.before.before in
-    head-written c9.args.tender c6.put-tender.ensures c.before.before.put-reserve.ensures
+    head_written c9.args.tender c6.put-tender.ensures c.before.before.put-reserve.ensures
 
 pub put-head-spec : {M : Type 1} → statement M
 put-head-spec = tie.close (tie.spec put-tender-requires put-reserve-requires same_length returns)

@@ -1,6 +1,6 @@
 -- No line, or the line of the price. Assumes nothing.
-use Rattle.tender.specs.Keywords.{bytes, reserveWord}
-use Rattle.writer_line.specs.PutLaws.{no-reserve, reserve-written}
+use Rattle.tender.specs.Keywords.{bytes, reserve_word}
+use Rattle.writer_line.specs.PutLaws.{no_reserve, reserve_written}
 use borrow.Author.Rules.{rules}
 use Rattle.writer_line.proofs.put_reserve.Statement.{statement}
 use Rattle.writer_line.proofs.put_reserve.Tie as tie
@@ -23,17 +23,17 @@ put-one-requires c κs = search rules
 returns : tie.Need-returns
 returns c =
     let args = c.before.before.before.args in
-    no-reserve args.buf.now args.at args.reserve c.enum_told.given.1
+    no_reserve args.buf.now args.at args.reserve c.enum_told.given.1
 
 same_length : tie.Need-same-length
 same_length c = search rules
 
 returns-2 : tie.Need-returns-2
-unfolding reserveWord bytes
+unfolding reserve_word bytes
 returns-2 c =
     let c6 = c.before.before.before.before.before.before in
     let c9 = c6.before.before.before in
-    reserve-written c9.args.reserve c6.reserve.given.0.0 c6.reserve.given.1 c.before.before.put_one.ensures
+    reserve_written c9.args.reserve c6.reserve.given.0.0 c6.reserve.given.1 c.before.before.put_one.ensures
 
 pub put-reserve-spec : {M : Type 1} → statement M
 put-reserve-spec =

@@ -1,8 +1,8 @@
 -- A space and a bracket, two numbers, and a bracket. Assumes nothing.
 use native.Mathlib.Omega.{arith}
 use Rattle.tender.specs.Keywords.{bytes}
-use Rattle.spelling.specs.LineLaws.{decimal-short}
-use Rattle.writer_line.specs.PutLaws.{window-written}
+use Rattle.spelling.specs.LineLaws.{decimal_short}
+use Rattle.writer_line.specs.PutLaws.{window_written}
 use borrow.Author.Rules.{rules}
 use Rattle.writer_line.proofs.put_window.Statement.{statement}
 use Rattle.writer_line.proofs.put_window.Tie as tie
@@ -28,7 +28,7 @@ put-number-requires c κs =
     let c11 = c7.before.before.before.before in
     omega (
       arith,
-      decimal-short c11.args.start,
+      decimal_short c11.args.start,
       c11.requires,
       c7.put_all_lem.ensures.next,
       c7.put_all_lem.ensures.size,
@@ -43,8 +43,8 @@ put-requires c κs =
     let c15 = c11.before.before.before.before in
     omega (
       arith,
-      decimal-short c15.args.start,
-      decimal-short c15.args.end,
+      decimal_short c15.args.start,
+      decimal_short c15.args.end,
       c15.requires,
       c11.put_all_lem.ensures.next,
       c11.put_all_lem.ensures.size,
@@ -64,7 +64,7 @@ returns c =
     let c10 = c6.before.before.before.before in
     let c14 = c10.before.before.before.before in
     let c18 = c14.before.before.before.before in
-    window-written c18.args.start c18.args.end c14.put_all_lem.ensures c10.put-decimal.ensures c6.put-number.ensures
+    window_written c18.args.start c18.args.end c14.put_all_lem.ensures c10.put-decimal.ensures c6.put-number.ensures
     c.before.before.put.ensures
 
 pub put-window-spec : {M : Type 1} → statement M

@@ -3,8 +3,8 @@ use Prim.Native.Nat.{◌-◌, ◌*◌}
 use mathlib.Core.Path.{sym, ◌∙◌}
 use native.Mathlib.Omega.{arith}
 use lib.ListN.{drop}
-use Rattle.tender.specs.Tables.{windowsOf, windowWidth}
-use Rattle.writer_line.specs.PutLaws.{Putting, putting-begins, putting-room, putting-size, putting-late, putting-goes, putting-ends}
+use Rattle.tender.specs.Tables.{windows_of, window_width}
+use Rattle.writer_line.specs.PutLaws.{Putting, putting_begins, putting_room, putting_size, putting_late, putting_goes, putting_ends}
 use Rattle.writer_line.proofs.put_windows.Statement.{statement}
 use Rattle.writer_line.proofs.put_windows.Tie as tie
 use Rattle.writer_line.proofs.put_windows.Reads as reads
@@ -15,7 +15,7 @@ use Rattle.writer_line.proofs.put_window.Reads as put-window-reads
 
 abbrev invariant-loop : tie.invariant-loop
 invariant-loop buf₀ at windows first count row blank full end₀ from₀ buf end from =
-    Putting (windowsOf count (drop (windowWidth * first) windows)) buf₀ at buf end from
+    Putting (windows_of count (drop (window_width * first) windows)) buf₀ at buf end from
 
 abbrev decreases-loop : tie.decreases-loop
 decreases-loop buf₀ at windows first count row blank full end₀ from₀ buf end from = 10080 - from
@@ -28,7 +28,7 @@ minutes-requires c κs =
 loop-holds : tie.Need-loop-init invariant-loop decreases-loop
 loop-holds c =
     let args = c.before.before.before.before.before.before.before.before.before.args in
-    putting-begins (windowsOf args.count (drop (windowWidth * args.first) args.windows.now)) args.buf.now args.at
+    putting_begins (windows_of args.count (drop (window_width * args.first) args.windows.now)) args.buf.now args.at
 
 next-requires : tie.Need-next-requires invariant-loop decreases-loop
 next-requires c κs =
@@ -37,7 +37,7 @@ next-requires c κs =
     (c5.minutes.ensures.wide, (omega (arith, c.before.before.loop.invariant.within), c12.requires.1.1.1.1))
 
 same_length : tie.Need-same-length invariant-loop decreases-loop
-same_length c = putting-size c.before.before.before.before.before.loop.invariant
+same_length c = putting_size c.before.before.before.before.before.loop.invariant
 
 same-length-2 : tie.Need-same-length-2 invariant-loop decreases-loop
 same-length-2 c =
@@ -49,13 +49,13 @@ returns : tie.Need-returns invariant-loop decreases-loop
 returns c =
     let c5 = c.before.before.before.before.before in
     let c8 = c5.before.before.before in
-    (putting-late c5.loop.invariant c8.minutes.ensures c.before.before.next.ensures c.if1.true, c8.minutes.ensures.wide)
+    (putting_late c5.loop.invariant c8.minutes.ensures c.before.before.next.ensures c.if1.true, c8.minutes.ensures.wide)
 
 put-window-requires : tie.Need-put-window-requires invariant-loop decreases-loop
 put-window-requires c κs =
     let c6 = c.before.before.before.before.before.before in
     let c16 = c6.before.before.before.before.before.before.before.before.before.before in
-    omega (arith, putting-room c6.loop.invariant, putting-size c6.loop.invariant, c16.requires.1.1.0)
+    omega (arith, putting_room c6.loop.invariant, putting_size c6.loop.invariant, c16.requires.1.1.0)
 
 loop-less : tie.Need-loop-smaller invariant-loop decreases-loop
 loop-less c =
@@ -71,11 +71,11 @@ loop-again c =
     let c9 = c6.before.before.before in
     let c12 = c9.before.before.before in
     let c19 = c12.before.before.before.before.before.before.before in
-    putting-goes c9.loop.invariant c12.minutes.ensures c6.next.ensures c19.requires.1.0 (omega (arith, c4.if1.false))
+    putting_goes c9.loop.invariant c12.minutes.ensures c6.next.ensures c19.requires.1.0 (omega (arith, c4.if1.false))
     c.before.before.put-window.ensures
 
 same-length-3 : tie.Need-same-length-3 invariant-loop decreases-loop
-same-length-3 c = putting-size c.before.loop.invariant
+same-length-3 c = putting_size c.before.loop.invariant
 
 same-length-4 : tie.Need-same-length-4 invariant-loop decreases-loop
 same-length-4 c =
@@ -85,7 +85,7 @@ same-length-4 c =
 
 returns-2 : tie.Need-returns-2 invariant-loop decreases-loop
 returns-2 c =
-    (putting-ends c.before.loop.invariant c.loop-test.false, c.before.before.before.before.minutes.ensures.wide)
+    (putting_ends c.before.loop.invariant c.loop-test.false, c.before.before.before.before.minutes.ensures.wide)
 
 pub put-windows-spec : {M : Type 1} → statement M
 put-windows-spec =

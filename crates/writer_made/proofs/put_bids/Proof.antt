@@ -3,10 +3,10 @@ use mathlib.Core.Path.{◌≡◌, ◌∙◌, sym}
 use Prim.Native.Nat.{◌-◌, ◌/◌, ◌≤◌}
 use native.Mathlib.Omega.{arith}
 use lib.ListN.{length}
-use Rattle.tender.specs.Tables.{rows_of, bidWidth}
-use Rattle.runs.specs.MinuteRows.{rowWords}
-use Rattle.writer_text.specs.TableLaws.{row_plain, rows-lent}
-use Rattle.writer_text.specs.FillingLaws.{BidsPut, bids-begin, bids-go, bids-end, bids-long}
+use Rattle.tender.specs.Tables.{rows_of, bid_width}
+use Rattle.runs.specs.MinuteRows.{row_words}
+use Rattle.writer_text.specs.TableLaws.{row_plain, rows_lent}
+use Rattle.writer_text.specs.FillingLaws.{BidsPut, bids_begin, bids_go, bids_end, bids_long}
 use Rattle.writer_made.proofs.put_bids.Statement.{statement}
 use Rattle.writer_made.proofs.put_bids.Tie as tie
 use Rattle.writer_made.proofs.put_bids.Reads as reads
@@ -15,7 +15,7 @@ use Rattle.writer_line.proofs.put_bid.Reads as put-bid-reads
 
 abbrev invariant-loop : tie.invariant-loop
 invariant-loop buf₀ at count bids windows row₀ blank full end₀ j₀ buf row end j =
-    BidsPut windows (rows_of count bids) buf₀ at count j buf end × ((length row ≡ rowWords) × (count ≤ length bids / bidWidth))
+    BidsPut windows (rows_of count bids) buf₀ at count j buf end × ((length row ≡ row_words) × (count ≤ length bids / bid_width))
 
 abbrev decreases-loop : tie.decreases-loop
 decreases-loop buf₀ at count bids windows row₀ blank full end₀ j₀ buf row end j = count - j
@@ -24,8 +24,8 @@ loop-holds : tie.Need-loop-init invariant-loop decreases-loop
 loop-holds c =
     let c6 = c.before.before.before.before.before.before in
     let args = c6.args in (
-      bids-begin args.windows.now (rows_of args.count args.bids.now) args.buf.now args.at args.count,
-      (c6.requires.1.1.0, rows-lent args.tender args.count args.bids.now args.windows.now c6.requires.0),
+      bids_begin args.windows.now (rows_of args.count args.bids.now) args.buf.now args.at args.count,
+      (c6.requires.1.1.0, rows_lent args.tender args.count args.bids.now args.windows.now c6.requires.0),
     )
 
 same_length : tie.Need-same-length invariant-loop decreases-loop
@@ -37,7 +37,7 @@ same-length-2 c =
     c.before.before.loop.invariant.1.0 ∙ sym c9.requires.1.1.0
 
 returns : tie.Need-returns invariant-loop decreases-loop
-returns c = bids-long c.before.before.loop.invariant.0 (omega arith)
+returns c = bids_long c.before.before.loop.invariant.0 (omega arith)
 
 mul-put-bid : tie.Need-overflow-mul-put-bid invariant-loop decreases-loop
 mul-put-bid c = omega arith
@@ -93,9 +93,9 @@ put-bid-requires c κs =
     let p = row_plain args.tender args.count args.bids.now args.windows.now pre.0 c8.loop.j (omega arith) in (
       p.room,
       (
-        p.all-lawful,
+        p.all_lawful,
         (
-          p.few-windows,
+          p.few_windows,
           (omega (arith, c8.loop.invariant.0.written.size, pre.1.0), (c8.loop.invariant.1.0, pre.1.1.1)),
         ),
       ),
@@ -114,7 +114,7 @@ loop-again c =
     let c13 = c12.before in
     let c20 = c13.before.before.before.before.before.before.before in
     let args = c20.args in (
-      bids-go args.count args.bids.now args.windows.now args.buf.now args.at c13.loop.invariant.0
+      bids_go args.count args.bids.now args.windows.now args.buf.now args.at c13.loop.invariant.0
           (omega (arith, c12.loop-test.true))
           c4.put-bid.ensures.0,
       (c4.put-bid.ensures.1, c13.loop.invariant.1.1),
@@ -129,7 +129,7 @@ same-length-4 c =
     c.before.loop.invariant.1.0 ∙ sym c8.requires.1.1.0
 
 returns-2 : tie.Need-returns-2 invariant-loop decreases-loop
-returns-2 c = bids-end c.before.loop.invariant.0 (omega arith)
+returns-2 c = bids_end c.before.loop.invariant.0 (omega arith)
 
 pub put-bids-spec : {M : Type 1} → statement M
 put-bids-spec =

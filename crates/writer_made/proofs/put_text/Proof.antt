@@ -1,8 +1,8 @@
 -- The lines before the bids, and the lines of the bids after them. Assumes nothing.
 use mathlib.Core.Path.{refl}
 use native.Mathlib.Omega.{arith}
-use Rattle.runs.specs.MinuteRowLaws.{empty-row, full-row}
-use Rattle.writer_text.specs.FillingLaws.{some-text}
+use Rattle.runs.specs.MinuteRowLaws.{empty_row, full_row}
+use Rattle.writer_text.specs.FillingLaws.{some_text}
 use borrow.Author.Rules.{rules}
 use Rattle.writer_made.proofs.put_text.Statement.{statement}
 use Rattle.writer_made.proofs.put_text.Tie as tie
@@ -27,7 +27,7 @@ put-bids-requires : tie.Need-put-bids-requires
 put-bids-requires c κs =
     let c6 = c.before.before.before.before.before.before in
     let c11 = c6.before.before.before.before.before in
-    (c11.requires.0, (omega (arith, c11.requires.1, c6.put-head.ensures.size), (refl, (empty-row _ refl, full-row _ refl))))
+    (c11.requires.0, (omega (arith, c11.requires.1, c6.put-head.ensures.size), (refl, (empty_row _ refl, full_row _ refl))))
 
 same_length : tie.Need-same-length
 same_length c = search rules
@@ -35,7 +35,7 @@ same_length c = search rules
 returns : tie.Need-returns
 returns c =
     let c10 = c.before.before.before.before.before.before.before.before.before.before in
-    some-text c10.put-head.ensures c.before.before.before.put-bids.ensures
+    some_text c10.put-head.ensures c.before.before.before.put-bids.ensures
 
 pub put-text-spec : {M : Type 1} → statement M
 put-text-spec =

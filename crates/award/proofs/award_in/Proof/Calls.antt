@@ -39,9 +39,9 @@ use Rattle.tender.proofs.Kind.TheLaws as Kin'
 use Rattle.tender.specs.contracts.Tender as Ten
 use Rattle.tender.proofs.Tender.TheLaws as Ten'
 use Rattle.tender.specs.contracts.AwardRow as Row
-use Rattle.award_outcome.specs.Promise.{rowsFilled}
+use Rattle.award_outcome.specs.Promise.{rows_filled}
 use Rattle.award_outcome.specs.RowsPromiseLaws.{rows_fit}
-use Rattle.award_rule.specs.Plain.{rowsIn, PlainPromise}
+use Rattle.award_rule.specs.Plain.{rows_in, PlainPromise}
 use Rattle.award_rows.proofs.WalkSteps.{past, last_of, called}
 use Rattle.award_rows.specs.contracts.fill as fill
 use Rattle.award_rows.proofs.fill.Symbol.{name as #award-rows·fill}
@@ -64,11 +64,11 @@ module _ (a : Arg) where
   abbrev pub Told : List ℕ → List ℕ → List ℕ → List ℕ → Settled → Type 0
   Told won cents won' cents' s =
       PlainPromise (kind a) (tender a) (count a) (bids a).now (windows a).now (lent a) won cents won' cents' s.answer
-      × (s.rows ≡ rowsFilled s.answer (count a))
+      × (s.rows ≡ rows_filled s.answer (count a))
 
-  pub fits-fill : (s : Settled) {won cents won' cents' : List ℕ} → Told won cents won' cents' s → length won' ≡ 1000 → length cents' ≡ 1000
+  pub fits_fill : (s : Settled) {won cents won' cents' : List ℕ} → Told won cents won' cents' s → length won' ≡ 1000 → length cents' ≡ 1000
       → (s.rows ≤ lent a) × ((s.rows ≤ length won') × (s.rows ≤ length cents'))
-  fits-fill s {won} {cents} {won'} {cents'} told e7 e8 =
+  fits_fill s {won} {cents} {won'} {cents'} told e7 e8 =
       let h = rows_fit (kind a) (tender a) (count a) (bids a).now (windows a).now (lent a) won cents won' cents' s.answer told.0 in
       let most : s.rows ≤ 1000 = omega (arith, told.1, h.1) in
       (omega (arith, told.1, h.0), (omega arith, omega arith))
@@ -88,8 +88,8 @@ module _ {M : Type 1} {𝓤 : Ura M} (𝓛 : Logic 𝓤) (at_mem : Memory → SP
   abbrev SettleLives : Item 𝓤
   SettleLives = BidsLive κs qs ⊛ (WindowsLive κs qs ⊛ (WonLive ⊛ (CentsLive ⊛ ‵ ftrue)))
 
-  abbrev pub to-settle : (Settle 𝓛 at_mem run).Ghost
-  to-settle = (
+  abbrev pub to_settle : (Settle 𝓛 at_mem run).Ghost
+  to_settle = (
     (
       (κs.0, (κs.1.0, (ν ∷ [], (μ ∷ [], tt)))),
       (qs.0, (qs.1.0, (full_share, (full_share, tt)))),
@@ -115,9 +115,9 @@ module _ {M : Type 1} {𝓤 : Ura M} (𝓛 : Logic 𝓤) (at_mem : Memory → SP
       ∷ ‵ ((MutSlice (named 2) (ν ∷ []) u64).own_val won (shr_slice_vals won))
       ∷ ‵ ((MutSlice (named 3) (μ ∷ []) u64).own_val cents (shr_slice_vals cents)) ∷ Γ
 
-  goes-settle : Known a κs → length won.now ≡ 1000 → length cents.now ≡ 1000
-      → ent 𝓤 (⋆ 𝓛 (SettleLives ∷ SettleOwns [])) ((Settle 𝓛 at_mem run).pre to-settle)
-  goes-settle known e7 e8 =
+  goes_settle : Known a κs → length won.now ≡ 1000 → length cents.now ≡ 1000
+      → ent 𝓤 (⋆ 𝓛 (SettleLives ∷ SettleOwns [])) ((Settle 𝓛 at_mem run).pre to_settle)
+  goes_settle known e7 e8 =
       qed 𝓛 (SettleLives ∷ SettleOwns []) ∵ says ! (omega arith, omega arith) $ frame ! $
       nothing ! $ move ! (4 ∷ 0 ∷ []) $ fjoin ! $ move ! (3 ∷ 0 ∷ []) $ fjoin ! $
       owned ! usize (Is usize) (uint_Makes 𝓛 w64) (lent a) _ (refl, lent_fits a κs known) $ fjoin ! $
@@ -147,9 +147,9 @@ module _ {M : Type 1} {𝓤 : Ura M} (𝓛 : Logic 𝓤) (at_mem : Memory → SP
       ∷ ‵ ((ShrSlice (named 1) (ν ∷ []) u64).own_val won (shr_slice_vals won))
       ∷ ‵ ((ShrSlice (named 2) (μ ∷ []) u64).own_val cents (shr_slice_vals cents)) ∷ Γ
 
-  goes-fill : (m : ℕ) → m < 2 ^ 64 → (m ≤ lent a) × ((m ≤ length won.now) × (m ≤ length cents.now))
+  goes_fill : (m : ℕ) → m < 2 ^ 64 → (m ≤ lent a) × ((m ≤ length won.now) × (m ≤ length cents.now))
       → ent 𝓤 (⋆ 𝓛 (FillLives ∷ FillOwns [])) ((Fill 𝓛 at_mem run).pre (to_fill m))
-  goes-fill m fits inside =
+  goes_fill m fits inside =
       qed 𝓛 (FillLives ∷ FillOwns []) ∵ says ! inside $ frame ! $
       nothing ! $ owned ! usize (Is usize) (uint_Makes 𝓛 w64) m _ (refl, fits) $ fjoin ! $
       move ! (3 ∷ 0 ∷ []) $ fjoin ! $ move ! (2 ∷ 0 ∷ []) $ fjoin ! $ move ! (1 ∷ 0 ∷ []) $ fjoin ! $ done !
@@ -160,7 +160,7 @@ module _ {M : Type 1} {𝓤 : Ura M} (𝓛 : Logic 𝓤) (at_mem : Memory → SP
     -- s is settled, whose machine value is v, and won' and cents' are the last values of the arrays
     pub settles : K → FmC 𝓤 H 𝓛.laws C → Triple 𝓤 (C #award·settle-rows) (Settle 𝓛 at_mem run) → Known a κs
         → length won.now ≡ 1000 → length cents.now ≡ 1000
-        → Opds K 𝓛 (raw ((Settle 𝓛 at_mem run).pre to-settle) ∷ Γ) E xs ((Settle 𝓛 at_mem run).args to-settle)
+        → Opds K 𝓛 (raw ((Settle 𝓛 at_mem run).pre to_settle) ∷ Γ) E xs ((Settle 𝓛 at_mem run).args to_settle)
         → ((v : Val) (s : Settled) (won' cents' : List ℕ) → Told a won.now cents.now won' cents' s → Is Set.the_row s (v ∷ [])
         → length won' ≡ length won.now → length cents' ≡ length cents.now
         → Seq K 𝓛 (CentsLive ∷ WonLive ∷ WindowsLive κs qs ∷ BidsLive κs qs ∷ ‵ (finally u64 cents.name cents')
@@ -169,7 +169,7 @@ module _ {M : Type 1} {𝓤 : Ura M} (𝓛 : Logic 𝓤) (at_mem : Memory → SP
         (runs C Λ E (seq (call #award·settle-rows xs d) rest) q)
     settles t fm known-settle known e7 e8 passed k =
         nothing t $ move t (1 ∷ 2 ∷ 3 ∷ 4 ∷ 0 ∷ []) $ group t 5 $ group t 5 $
-        called 𝓛 t fm settle.ended (settle.clauses 𝓛 at_mem run) known-settle to-settle (goes-settle known e7 e8) SettleLives
+        called 𝓛 t fm settle.ended (settle.clauses 𝓛 at_mem run) known-settle to_settle (goes_settle known e7 e8) SettleLives
         (id⊢ 𝓤 _) (λ s last. Told a won.now cents.now last.1.1.1.1.1.1.0 last.1.1.1.1.1.1.1.0 s)
         (λ s last. id⊢ 𝓤 _) passed (λ v s last told is.
         past t $ past t $ past t $ past t $ past t $ past t $ last_of t (λ k7. last_of t (λ k8.
@@ -180,14 +180,14 @@ module _ {M : Type 1} {𝓤 : Ura M} (𝓛 : Logic 𝓤) (at_mem : Memory → SP
     pub fills : K → FmC 𝓤 H 𝓛.laws C → Triple 𝓤 (C #award-rows·fill) (Fill 𝓛 at_mem run) → (m : ℕ) → m < 2 ^ 64
         → (m ≤ lent a) × ((m ≤ length won.now) × (m ≤ length cents.now))
         → Opds K 𝓛 (raw ((Fill 𝓛 at_mem run).pre (to_fill m)) ∷ Γ) E xs ((Fill 𝓛 at_mem run).args (to_fill m))
-        → ((v : Val) (last : List AwardRow) → last ≡ rowsIn m won.now cents.now ++ dropped m (rows a).now
+        → ((v : Val) (last : List AwardRow) → last ≡ rows_in m won.now cents.now ++ dropped m (rows a).now
         → Holds (has_ty ty_unit v) × WT v → length last ≡ lent a
         → Seq K 𝓛 (CentsLive ∷ WonLive ∷ RowsLive κs qs ∷ RowsLast a last ∷ Γ) (lands C Λ E d v rest q))
         → Seq K 𝓛 (RowsLive κs qs ∷ WonLive ∷ CentsLive ∷ FillOwns Γ) (runs C Λ E (seq (call #award-rows·fill xs d) rest) q)
     fills t fm known-fill m fits inside passed k =
         nothing t $ move t (1 ∷ 2 ∷ 3 ∷ 0 ∷ []) $ group t 4 $ group t 4 $
-        called 𝓛 t fm fill.ended (fill.clauses 𝓛 at_mem run) known-fill (to_fill m) (goes-fill m fits inside) FillLives (id⊢ 𝓤 _)
-        (λ u last. last.0 ≡ rowsIn m won.now cents.now ++ dropped m (rows a).now) (λ u last. id⊢ 𝓤 _) passed
+        called 𝓛 t fm fill.ended (fill.clauses 𝓛 at_mem run) known-fill (to_fill m) (goes_fill m fits inside) FillLives (id⊢ 𝓤 _)
+        (λ u last. last.0 ≡ rows_in m won.now cents.now ++ dropped m (rows a).now) (λ u last. id⊢ 𝓤 _) passed
         (λ v u last filled is. last_of t (λ same.
         drop t $ move t (1 ∷ []) $ split t $ move t (1 ∷ []) $ split t $ move t (1 ∷ []) $ split t $ move t (1 ∷ []) $ drop t $
         k v _ filled ((Nothing-Lawful 𝓛).typed u _ is).0 same))

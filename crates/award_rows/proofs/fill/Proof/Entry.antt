@@ -29,8 +29,8 @@ use denote.Steps.{nothing, owned}
 use denote.Triple.Spec.{triple_of}
 use denote.Triple.Statement.{Contract}
 use denote.Triple.Walked.{says, Stays, stay_slice, stay_dropped, walk_of, ends_at}
-use Rattle.award_rows.specs.Rows.{awardRowAt, rowsWritten}
-use Rattle.award_rows.specs.RowsLaws.{filled-rows, length-filled}
+use Rattle.award_rows.specs.Rows.{award_row_at, rows_written}
+use Rattle.award_rows.specs.RowsLaws.{filled_rows, length_filled}
 use Rattle.tender.specs.declared.AwardRow.{AwardRow}
 use Rattle.tender.specs.contracts.AwardRow as T
 use Rattle.award_rows.specs.contracts.row_of as one
@@ -78,13 +78,13 @@ module _ (a : Arg) where
 
   -- row i as it is written, and the rows once i of them are
   abbrev pub written : ℕ → AwardRow
-  written i = awardRowAt won.now cents.now i
+  written i = award_row_at won.now cents.now i
 
   abbrev pub filled : ℕ → List AwardRow
-  filled i = rowsWritten i won.now cents.now rows.now
+  filled i = rows_written i won.now cents.now rows.now
 
-  pub filled-length : (i : ℕ) → length (filled i) ≡ length rows.now
-  filled-length i = length-filled i won.now cents.now rows.now
+  pub filled_length : (i : ℕ) → length (filled i) ≡ length rows.now
+  filled_length i = length_filled i won.now cents.now rows.now
 
 module _ {M : Type 1} {𝓤 : Ura M} (𝓛 : Logic 𝓤) (at_mem : Memory → SProp 𝓤) (run : Routine → Fun 𝓤) (a : Arg) where
   -- what is to be had where it returns
@@ -109,9 +109,9 @@ module _ {M : Type 1} {𝓤 : Ura M} (𝓛 : Logic 𝓤) (at_mem : Memory → SP
   )
 
   module _ where
-    pub goes-row : (i : ℕ) → Is u64 (number (won a) i) (uint_vals w64 (number (won a) i))
+    pub goes_row : (i : ℕ) → Is u64 (number (won a) i) (uint_vals w64 (number (won a) i))
         → Is u64 (number (cents a) i) (uint_vals w64 (number (cents a) i)) → ent 𝓤 (emp 𝓤) ((RowOf 𝓛 at_mem run).pre (to_row i))
-    goes-row i is1 is2 =
+    goes_row i is1 is2 =
         qed 𝓛 (‵ ftrue ∷ []) ∵ nothing ! $ owned ! u64 (Is u64) (uint_Makes 𝓛 w64) (number (cents a) i) _ is2 $ fjoin ! $
         owned ! u64 (Is u64) (uint_Makes 𝓛 w64) (number (won a) i) _ is1 $ fjoin ! $ nothing ! $ join ! $ frame ! $ done !
 
@@ -125,14 +125,14 @@ module _ {M : Type 1} {𝓤 : Ura M} (𝓛 : Logic 𝓤) (at_mem : Memory → SP
       exits known fits i e =
           qed 𝓛 (Had i) ∵
           suffices ! _ (ends_at 𝓛 f.ended stayed (f.clauses 𝓛 at_mem run) (y κs qs) vunit tt
-          (filled a i, (tt, (tt, (tt, tt)))) (filled-length a i, (tt, (tt, (tt, tt))))) $
-          says ! (ap (filled a) e ∙ filled-rows (n a) (won a).now (cents a).now (rows a).now fits.0) $
+          (filled a i, (tt, (tt, (tt, tt)))) (filled_length a i, (tt, (tt, (tt, tt))))) $
+          says ! (ap (filled a) e ∙ filled_rows (n a) (won a).now (cents a).now (rows a).now fits.0) $
           nothing ! $ move ! (3 ∷ 4 ∷ 5 ∷ 0 ∷ []) $ group ! 4 $ frame ! $
           nothing ! $ nothing ! $ fjoin ! $ nothing ! $ fjoin ! $ nothing ! $ fjoin ! $
           move ! (1 ∷ 2 ∷ []) $ fjoin ! $
           pure_i ! (mut_slice_at T.the_row (record { ref_ptr = (rows a).ptr; ghost_name = (rows a).name; now = filled a i }) (mut_slice_vals (rows a)))
           (tt, (tt, tt)) (
-            ap (λ (m : ℕ). slice_val (rows a).ptr m ∷ []) (sym (filled-length a i)),
-            subst (Room T.the_row) (sym (filled-length a i)) known.0.0.1,
+            ap (λ (m : ℕ). slice_val (rows a).ptr m ∷ []) (sym (filled_length a i)),
+            subst (Room T.the_row) (sym (filled_length a i)) known.0.0.1,
           ) $
           fjoin ! $ fjoin ! $ frame ! $ feq_i ! (List Val) (vunit ∷ []) (vunit ∷ []) refl $ done !

@@ -42,7 +42,7 @@ use denote.Ref.{MutBor}
 use denote.Struct.Laws as LL
 use denote.Steps.{nothing, owned}
 use denote.Triple.Statement.{Triple}
-use Rattle.cells.specs.StoreLaws.{lt-or-le}
+use Rattle.cells.specs.StoreLaws.{lt_or_le}
 use Rattle.tender.specs.declared.AwardRow.{AwardRow}
 use Rattle.tender.specs.contracts.AwardRow as T
 use Rattle.tender.proofs.AwardRow.TheLaws as T'
@@ -51,19 +51,19 @@ use Rattle.award_rows.specs.contracts.row_of as one
 use Rattle.award_rows.proofs.row_of.Symbol.{name as #award-rows·row-of}
 use Rattle.award_rows.proofs.fill.Code.Mir as pieces
 use Rattle.award_rows.proofs.fill.Proof.Entry.{RowOf, number, Arg, rows, won, cents, n, Known, Fits, written, filled}
-use Rattle.award_rows.proofs.fill.Proof.Entry.{filled-length, Ends, to_row, goes-row, exits}
+use Rattle.award_rows.proofs.fill.Proof.Entry.{filled_length, Ends, to_row, goes_row, exits}
 
 abbrev word : Ty
 word = ty_int w64
 
-abbrev rowsTy : Ty
-rowsTy = slice_ty (ty_ref (named 0) mut (pointee (T.the_row).written))
+abbrev rows_ty : Ty
+rows_ty = slice_ty (ty_ref (named 0) mut (pointee (T.the_row).written))
 
-abbrev wonTy : Ty
-wonTy = slice_ty (ty_ref (named 1) imm word)
+abbrev won_ty : Ty
+won_ty = slice_ty (ty_ref (named 1) imm word)
 
-abbrev centsTy : Ty
-centsTy = slice_ty (ty_ref (named 2) imm word)
+abbrev cents_ty : Ty
+cents_ty = slice_ty (ty_ref (named 2) imm word)
 
 -- the turns, of which fewer and fewer are left
 module _ (a : Arg) where
@@ -73,8 +73,8 @@ module _ (a : Arg) where
   abbrev Nearer : Upto → Upto → Type 0
   Nearer j i = n a - j.0 < n a - i.0
 
-  Nearer-wf : WellFounded Nearer
-  Nearer-wf = InvImage.wf (λ (i : Upto). n a - i.0) lt-wf_rel.wf
+  Nearer_wf : WellFounded Nearer
+  Nearer_wf = InvImage.wf (λ (i : Upto). n a - i.0) lt-wf_rel.wf
 
 -- a share of all of a slice, and number i of it taken out, before what else is had
 abbrev part : MutBor (List ℕ) → Share → Fml
@@ -87,11 +87,11 @@ taken x i s Γ = ‵ (cell_at s u64.mir (uint_vals w64 (number x i)) x.ptr.0 (pl
 
 -- number i of a shared slice is taken out, and put back
 module _ {M : Type 1} {𝓤 : Ura M} {𝓛 : Logic 𝓤} {K : Type 0} {Γ : List (Item 𝓤)} {G : Goal 𝓤 𝓛.H} where
-  looks-at : K → Soaks G → {κ : Lft} {q : Share} (x : MutBor (List ℕ)) (i : ℕ) → i < length x.now
+  looks_at : K → Soaks G → {κ : Lft} {q : Share} (x : MutBor (List ℕ)) (i : ℕ) → i < length x.now
       → ((s : Share) → Is u64 (number x i) (uint_vals w64 (number x i))
       → Seq K 𝓛 (taken x i s (‵ (fobor κ q (part x s)) ∷ ‵ (fshr_bor κ (part x)) ∷ Γ)) G)
       → Seq K 𝓛 (‵ (fshr_bor κ (part x)) ∷ ‵ (flft κ q) ∷ Γ) G
-  looks-at t z x i inside k =
+  looks_at t z x i inside k =
       looks_slice t z u64 (Is u64) (shows 𝓛 u64) (uint_vals w64) (uint_Tells w64) (uint_copy 𝓛 w64) x.now x.ref_ptr.0
       x.ref_ptr.1 (λ s. elem_out t u64 (Is u64) (shows 𝓛 u64) (uint_vals w64) (uint_Tells w64) s x.now i 0 x.ref_ptr.0 x.ref_ptr.1
       inside (k s))
@@ -116,7 +116,7 @@ module _ {M : Type 1} {𝓤 : Ura M} (𝓛 : Logic 𝓤) (at_mem : Memory → SP
 
   -- the locals
   abbrev En : Env 𝓤 H
-  En = (ty_unit, l0) ∷ (rowsTy, l1) ∷ (wonTy, l2) ∷ (centsTy, l3) ∷ (word, l4) ∷ (word, l5) ∷ (ty_bool, l6) ∷ (T'.mir, l7) ∷ (word, l8)
+  En = (ty_unit, l0) ∷ (rows_ty, l1) ∷ (won_ty, l2) ∷ (cents_ty, l3) ∷ (word, l4) ∷ (word, l5) ∷ (ty_bool, l6) ∷ (T'.mir, l7) ∷ (word, l8)
       ∷ (ty_ptr, l9) ∷ (word, l10) ∷ (word, l11) ∷ (ty_ptr, l12) ∷ (word, l13) ∷ (word, l14) ∷ (ty_ptr, l15) ∷ []
 
   abbrev Post : Val → SProp 𝓤
@@ -130,9 +130,9 @@ module _ {M : Type 1} {𝓤 : Ura M} (𝓛 : Logic 𝓤) (at_mem : Memory → SP
       ∷ rooms ((ty_ptr, l15) ∷ (word, l14) ∷ (word, l13) ∷ (ty_ptr, l12) ∷ (word, l11) ∷ (word, l10) ∷ (ty_ptr, l9) ∷ (word, l8)
       ∷ (T'.mir, l7) ∷ (ty_bool, l6) ∷ []) (
       ‵ (fat full_share word l5 0 (vint w64 i.0)) ∷ ‵ (fdies word l5) ∷ ‵ (fat full_share word l4 0 (vint w64 (n a))) ∷ ‵ (fdies word l4)
-      ∷ ‵ (fat full_share centsTy l3 0 (slice_val (cents a).ref_ptr (length (cents a).now))) ∷ ‵ (fdies centsTy l3)
-      ∷ ‵ (fat full_share wonTy l2 0 (slice_val (won a).ref_ptr (length (won a).now))) ∷ ‵ (fdies wonTy l2)
-      ∷ ‵ (fat full_share rowsTy l1 0 (slice_val (rows a).ref_ptr (length (rows a).now))) ∷ ‵ (fdies rowsTy l1)
+      ∷ ‵ (fat full_share cents_ty l3 0 (slice_val (cents a).ref_ptr (length (cents a).now))) ∷ ‵ (fdies cents_ty l3)
+      ∷ ‵ (fat full_share won_ty l2 0 (slice_val (won a).ref_ptr (length (won a).now))) ∷ ‵ (fdies won_ty l2)
+      ∷ ‵ (fat full_share rows_ty l1 0 (slice_val (rows a).ref_ptr (length (rows a).now))) ∷ ‵ (fdies rows_ty l1)
       ∷ ‵ (froom ty_unit l0 0) ∷ ‵ (fdies ty_unit l0)
       ∷ ‵ (fobor κs.0 qs.0 (Held T.the_row (length (rows a).now) (rows a).ref_ptr.0 (rows a).ref_ptr.1 (rows a).ghost_name))
       ∷ ‵ (fobs (rows a).ghost_name ((coded_holeys T.the_row).code (heres T.the_row (rows a).now)))
@@ -155,7 +155,7 @@ module _ {M : Type 1} {𝓤 : Ura M} (𝓛 : Logic 𝓤) (at_mem : Memory → SP
       sets ! (bin ! (held ! 25 refl) (lit ! tt) (record { fits = far8 })) 19 refl (tt, record { fits = far8 }) $
       sets ! (bin ! (held_in ! 31 0 refl refl refl) (held ! 19 refl) tt) 17 refl (tt, tt) $
       rewrite ! 17 (λ (p : ℕ). ‵ (fat full_share ty_ptr l9 0 (vptr (won a).ptr.0 p))) (sym (place_is 8 (won a).ptr.1 i.0)) refl $
-      move ! (4 ∷ 3 ∷ []) $ looks-at ! tt (won a) i.0 in1 (λ q1 is1.
+      move ! (4 ∷ 3 ∷ []) $ looks_at ! tt (won a) i.0 in1 (λ q1 is1.
       sets ! (of_opd ! (load ! (from ! (hop ! (look ! 20 refl) (stop !))) (look ! 0 refl))) 18 refl (tt, record { fits = is1.1 }) $
       looked ! tt (won a) i.0 in1 q1 $
       -- cents[i]
@@ -163,13 +163,13 @@ module _ {M : Type 1} {𝓤 : Ura M} (𝓛 : Logic 𝓤) (at_mem : Memory → SP
       sets ! (bin ! (held_in ! 29 0 refl refl refl) (held ! 13 refl) tt) 11 refl (tt, tt) $
       rewrite ! 11 (λ (p : ℕ). ‵ (fat full_share ty_ptr l12 0 (vptr (cents a).ptr.0 p))) (sym (place_is 8 (cents a).ptr.1 i.0))
       refl $
-      move ! (4 ∷ 3 ∷ []) $ looks-at ! tt (cents a) i.0 in2 (λ q2 is2.
+      move ! (4 ∷ 3 ∷ []) $ looks_at ! tt (cents a) i.0 in2 (λ q2 is2.
       sets ! (of_opd ! (load ! (from ! (hop ! (look ! 14 refl) (stop !))) (look ! 0 refl))) 12 refl (tt, record { fits = is2.1 }) $
       looked ! tt (cents a) i.0 in2 q2 $
       -- the row, in a local, and its place
       nothing ! $
       called 𝓛 ! fm one.ended (one.clauses 𝓛 at_mem run) known-row (to_row 𝓛 at_mem run a i.0)
-      (goes-row 𝓛 at_mem run a i.0 is1 is2) (‵ ftrue) (id⊢ 𝓤 _) (λ r us. r ≡ written a i.0) (λ r us. id⊢ 𝓤 _)
+      (goes_row 𝓛 at_mem run a i.0 is1 is2) (‵ ftrue) (id⊢ 𝓤 _) (λ r us. r ≡ written a i.0) (λ r us. id⊢ 𝓤 _)
       (and_then ! (held ! 16 refl) (and_then ! (held ! 10 refl) (no_more !))) (λ v r us er isr.
       drop ! $ drop ! $
       land ! (from ! (stop !)) (init ! 21 refl ((LL.lawful T.the_type T'.the_laws 𝓛).typed r _ isr).0) $
@@ -192,7 +192,7 @@ module _ {M : Type 1} {𝓤 : Ura M} (𝓛 : Logic 𝓤) (at_mem : Memory → SP
       again ! (Nearer a) At i (suc i.0, less) (omega arith)))))
     where
       in0 : i.0 < length (filled a i.0)
-      in0 = subst (λ (m : ℕ). i.0 < m) (sym (filled-length a i.0)) (omega arith)
+      in0 = subst (λ (m : ℕ). i.0 < m) (sym (filled_length a i.0)) (omega arith)
 
       in1 : i.0 < length (won a).now
       in1 = omega arith
@@ -217,7 +217,7 @@ module _ {M : Type 1} {𝓤 : Ura M} (𝓛 : Logic 𝓤) (at_mem : Memory → SP
       rewrite ! 23 (λ (t : Bool). ‵ (fat full_share ty_bool l6 0 (vbool t))) (le-ltb i.0 (n a) over) refl $
       leaves_loop ! (held ! 23 refl) $ exec ! C Λ En pieces.t-3 (at_ret En Post) $ sets ! (of_opd ! (unit_lit !)) 35 refl (tt, tt) $
       move ! (0 ∷ 37 ∷ 38 ∷ 39 ∷ []) $
-      closes_slice ! tt T.the_row (rows a).now (filled a i.0) (filled-length a i.0) (rows a).ref_ptr.0 (rows a).ref_ptr.1 $
+      closes_slice ! tt T.the_row (rows a).now (filled a i.0) (filled_length a i.0) (rows a).ref_ptr.0 (rows a).ref_ptr.1 $
       returns ! (look ! 37 refl) $ spent ! 37 refl refl $ spent ! 35 refl refl $ spent ! 33 refl refl $ spent ! 31 refl refl $
       spent ! 29 refl refl $ spent ! 27 refl refl $ spent ! 25 refl refl $ move ! (23 ∷ 24 ∷ []) $ free1 ! $ move ! (21 ∷ 22 ∷ []) $
       free1 ! $ move ! (19 ∷ 20 ∷ []) $ free1 ! $ move ! (17 ∷ 18 ∷ []) $ free1 ! $ move ! (15 ∷ 16 ∷ []) $ free1 ! $
@@ -226,7 +226,7 @@ module _ {M : Type 1} {𝓤 : Ura M} (𝓛 : Logic 𝓤) (at_mem : Memory → SP
       by ! (exits 𝓛 at_mem run a κs qs known fits i.0 (le_antisymm i.1 over))
 
   turns : (i : Upto a) → Sq 𝓛 (At i) (runs C Λ En pieces.turn-1 (any_q (Turned i)))
-  turns i = choose (lt-or-le i.0 (n a))
+  turns i = choose (lt_or_le i.0 (n a))
     where
       choose : (i.0 < n a) ⊎ (n a ≤ i.0) → Sq 𝓛 (At i) (runs C Λ En pieces.turn-1 (any_q (Turned i)))
       choose (inl l) = more i l
@@ -234,4 +234,4 @@ module _ {M : Type 1} {𝓤 : Ura M} (𝓛 : Logic 𝓤) (at_mem : Memory → SP
 
   -- the loop, and what comes after it
   pub looped : Sq 𝓛 (At (0, zero-le)) (runs C Λ En (loop pieces.turn-1) (any_q Ended))
-  looped = loops ! 𝓣 (Nearer a) (Nearer-wf a) At turns (0, zero-le)
+  looped = loops ! 𝓣 (Nearer a) (Nearer_wf a) At turns (0, zero-le)

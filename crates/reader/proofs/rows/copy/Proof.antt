@@ -4,7 +4,7 @@ use mathlib.Core.Path.{◌≡◌, refl, ap, ◌∙◌}
 use mathlib.Core.List.{◌++◌}
 use native.Mathlib.Omega.{arith}
 use lib.ListN.{length, take, drop, set, get_or}
-use Rattle.reader.specs.TableLaws.{copied-place, copied-length}
+use Rattle.reader.specs.TableLaws.{copied_place, copied_length}
 use borrow.Author.Rules.{rules}
 use Rattle.reader.proofs.rows.copy.Statement.{statement}
 use Rattle.reader.proofs.rows.copy.Tie as tie
@@ -32,7 +32,7 @@ slice-write-to c =
     let args = c.before.before.before.args in
     rw c.before.before.loop.invariant.0 (omega (
       arith,
-      copied-length args.from.now args.to.now c.before.before.loop.i (omega arith) (omega arith),
+      copied_length args.from.now args.to.now c.before.before.loop.i (omega arith) (omega arith),
     ))
 
 add-i : tie.Need-overflow-add-i invariant-loop decreases-loop
@@ -45,7 +45,7 @@ loop-again : tie.Need-loop-preserved invariant-loop decreases-loop
 loop-again c =
     let args = c.before.before.before.args in (
       ap (λ l. set l c.before.before.loop.i (get_or args.from.now c.before.before.loop.i 0)) c.before.before.loop.invariant.0
-          ∙ copied-place args.from.now args.to.now c.before.before.loop.i (omega arith) (omega arith),
+          ∙ copied_place args.from.now args.to.now c.before.before.loop.i (omega arith) (omega arith),
       omega arith,
       c.before.before.loop.invariant.2,
       c.before.before.loop.invariant.3,
@@ -54,7 +54,7 @@ loop-again c =
 same_length : tie.Need-same-length invariant-loop decreases-loop
 same_length c =
     let args = c.before.before.args in
-    rw c.before.loop.invariant.0 (copied-length args.from.now args.to.now c.before.loop.i (omega arith) (omega arith))
+    rw c.before.loop.invariant.0 (copied_length args.from.now args.to.now c.before.loop.i (omega arith) (omega arith))
 
 returns : tie.Need-returns invariant-loop decreases-loop
 returns c = let e : c.before.loop.i ≡ c.before.before.args.n = omega arith in c.before.loop.invariant.0 ∙ rw e

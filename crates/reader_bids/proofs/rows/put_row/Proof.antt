@@ -2,7 +2,7 @@
 use Prim.Native.Nat.{◌*◌}
 use native.Mathlib.Omega.{arith}
 use lib.ListN.{length-set}
-use Rattle.tender.specs.Tables.{bidWidth}
+use Rattle.tender.specs.Tables.{bid_width}
 use Rattle.reader_bids.specs.StoreLaws.{stored}
 use borrow.Author.Rules.{rules}
 use Rattle.reader_bids.proofs.rows.put_row.Statement.{statement}
@@ -48,7 +48,7 @@ same_length : tie.Need-same-length
 same_length c = search rules
 
 returns : tie.Need-returns
-returns c = stored c.args.out.now (bidWidth * c.args.k) _ _ _ _ c.requires
+returns c = stored c.args.out.now (bid_width * c.args.k) _ _ _ _ c.requires
 
 pub put-row-spec : {M : Type 1} → statement M
 put-row-spec =

@@ -1,6 +1,6 @@
 -- `line::put_window` meets its contract: the table has the row. Assumes nothing.
 use mathlib.Core.Path.{refl}
-use Rattle.reader_forms.specs.Tally.{putWindow}
+use Rattle.reader_forms.specs.Tally.{put_window}
 use borrow.Author.Rules.{rules}
 use Rattle.reader_line.proofs.line.put_window.Statement.{statement}
 use Rattle.reader_line.proofs.line.put_window.Tie as tie
@@ -27,7 +27,7 @@ same_length : tie.Need-same-length
 same_length c = search rules
 
 returns : tie.Need-returns
-unfolding putWindow
+unfolding put_window
 returns c = refl
 
 pub put-window-spec : {M : Type 1} → statement M

@@ -1,13 +1,13 @@
--- `line::read_bid` meets its contract: it follows `bidFront` from place to place. Assumes nothing.
+-- `line::read_bid` meets its contract: it follows `bid_front` from place to place. Assumes nothing.
 use mathlib.Core.Path.{refl, sym, ap, ◌∙◌}
 use native.Mathlib.Omega.{arith}
 use borrow.Author.Rules.{rules}
 use lib.ListN.{drop}
 use Rattle.reader_parts.specs.PlaceLaws.{not_last}
-use Rattle.reader_forms.specs.LineFront.{windowsFront}
-use Rattle.reader_line.specs.Answer.{notedFront}
-use Rattle.reader_line.specs.LinePlaceLaws.{bid-unnumbered, bid-unparted, bid-unpriced, bid-priced}
-use Rattle.reader_line.specs.AnswerLaws.{noted-wrong, bid-broken, bid-told}
+use Rattle.reader_forms.specs.LineFront.{windows_front}
+use Rattle.reader_line.specs.Answer.{noted_front}
+use Rattle.reader_line.specs.LinePlaceLaws.{bid_unnumbered, bid_unparted, bid_unpriced, bid_priced}
+use Rattle.reader_line.specs.AnswerLaws.{noted_wrong, bid_broken, bid_told}
 use Rattle.reader_line.proofs.line.read_bid.Statement.{statement}
 use Rattle.reader_line.proofs.line.read_bid.Tie as tie
 
@@ -26,7 +26,7 @@ returns c =
     let s = start.args.s.now in
     let at = start.args.at in
     let e = rw c.enum_told.given.1 at c.before.before.read_number.ensures in
-    (noted-wrong s _ (bid-unnumbered s at e) _ _, (omega arith, refl))
+    (noted_wrong s _ (bid_unnumbered s at e) _ _, (omega arith, refl))
 
 shared-slice-read-if1 : tie.Need-shared-slice-read-if1
 shared-slice-read-if1 c =
@@ -41,7 +41,7 @@ returns-2 c =
     let at = start.args.at in
     let p = c.before.before.before.bidder.given.0.1.0 in
     let x = rw c.before.before.before.bidder.given.1 at c5.read_number.ensures in
-    (noted-wrong s _ (bid-unparted s at _ p x c.if1.true) _ _, (omega arith, refl))
+    (noted_wrong s _ (bid_unparted s at _ p x c.if1.true) _ _, (omega arith, refl))
 
 add-read-price : tie.Need-overflow-add-read-price
 add-read-price c =
@@ -76,7 +76,7 @@ returns-3 c =
     let p = c6.bidder.given.0.1.0 in
     let x = rw c6.bidder.given.1 at c8.read_number.ensures in
     let e = rw c.enum-told2.given.1 at c.before.before.read-price.ensures in
-    (noted-wrong s _ (bid-unpriced s at _ p x c.before.before.before.if1.false e) _ _, (omega arith, refl))
+    (noted_wrong s _ (bid_unpriced s at _ p x c.before.before.before.if1.false e) _ _, (omega arith, refl))
 
 read-windows-requires : tie.Need-read-windows-requires
 read-windows-requires c κs =
@@ -118,8 +118,8 @@ returns-4 c =
     let table = start.args.windows.now in
     let w = c5.read-windows in
     let t = rw c.before.count.given.1 at w.ensures.0 in (
-      bid-told s m table w.new.1.1.0 y v _ _ c.before.count.given.0.1.1.0 (windowsFront (drop q s)) t
-          ∙ ap (notedFront m table) (sym (bid-priced s at y p x c11.if1.false v q z)),
+      bid_told s m table w.new.1.1.0 y v _ _ c.before.count.given.0.1.1.0 (windows_front (drop q s)) t
+          ∙ ap (noted_front m table) (sym (bid_priced s at y p x c11.if1.false v q z)),
       (rw c.before.count.given.1 at w.ensures.1.0, w.ensures.1.1),
     )
 
@@ -147,8 +147,8 @@ returns-5 c =
     let table = start.args.windows.now in
     let w = c4.read-windows in
     let t = rw c.enum-told3.given.1 at w.ensures.0 in (
-      bid-broken s m table w.new.1.1.0 y v (windowsFront (drop q s)) t
-          ∙ ap (notedFront m table) (sym (bid-priced s at y p x c10.if1.false v q z)),
+      bid_broken s m table w.new.1.1.0 y v (windows_front (drop q s)) t
+          ∙ ap (noted_front m table) (sym (bid_priced s at y p x c10.if1.false v q z)),
       (omega arith, w.ensures.1.1),
     )
 

@@ -3,13 +3,13 @@ use mathlib.Core.Path.{refl, sym, ◌∙◌}
 use native.Mathlib.Omega.{arith}
 use borrow.Author.Rules.{rules}
 use Rattle.tender.specs.Limits.{within}
-use Rattle.tender.specs.Keywords.{bytes, tenderWord, reserveWord}
+use Rattle.tender.specs.Keywords.{bytes, tender_word, reserve_word}
 use Rattle.reader_parts.specs.Scan.{lettered}
 use Rattle.reader_parts.specs.Front.{wrong}
 use Rattle.reader_parts.specs.PlaceLaws.{not_last}
 use Rattle.reader_line.specs.declared.line.Line.TheVariants.{Broken}
-use Rattle.reader_line.specs.AnswerLaws.{noted-wrong}
-use Rattle.reader_line.specs.HeadLineLaws.{head-unopened, head-tender, head-reserve, head-neither, head-told, head-after}
+use Rattle.reader_line.specs.AnswerLaws.{noted_wrong}
+use Rattle.reader_line.specs.HeadLineLaws.{head_unopened, head_tender, head_reserve, head_neither, head_told, head_after}
 use Rattle.reader_line.proofs.line.read_head_line.Statement.{statement}
 use Rattle.reader_line.proofs.line.read_head_line.Tie as tie
 
@@ -23,9 +23,9 @@ returns c =
     let at = start.args.at in
     let h = start.requires.0 in
     let ended = start.requires.1 in
-    let e = head-unopened s at h c.if1.true in
-    let q = noted-wrong s wrong refl in
-    (head-told s at h ended _ e Broken q, head-after s at h ended _ e Broken q (omega arith))
+    let e = head_unopened s at h c.if1.true in
+    let q = noted_wrong s wrong refl in
+    (head_told s at h ended _ e Broken q, head_after s at h ended _ e Broken q (omega arith))
 
 add-stands : tie.Need-overflow-add-stands
 add-stands c = search rules
@@ -51,7 +51,7 @@ read-tender-requires c κs =
     (omega (arith, c.before.stands.ensures.1 c.if2.true), start.requires.1)
 
 returns-2 : tie.Need-returns-2
-unfolding tenderWord bytes
+unfolding tender_word bytes
 returns-2 c =
     let c4 = c.before.before.before.before in
     let start = c4.before.before.before in
@@ -60,9 +60,9 @@ returns-2 c =
     let h = start.requires.0 in
     let ended = start.requires.1 in
     let r = c.read-tender in
-    let e = head-tender s at h c4.if1.false (sym c.before.before.stands.ensures.0 ∙ c.before.if2.true) in
+    let e = head_tender s at h c4.if1.false (sym c.before.before.stands.ensures.0 ∙ c.before.if2.true) in
     let q = r.ensures.0 in
-    (head-told s at h ended _ e r.result q, head-after s at h ended _ e r.result q r.ensures.1)
+    (head_told s at h ended _ e r.result q, head_after s at h ended _ e r.result q r.ensures.1)
 
 add-stands-2 : tie.Need-overflow-add-stands-2
 add-stands-2 c = search rules
@@ -88,7 +88,7 @@ read-reserve-requires c κs =
     (omega (arith, c.before.stands2.ensures.1 c.if3.true), start.requires.1)
 
 returns-3 : tie.Need-returns-3
-unfolding tenderWord reserveWord bytes
+unfolding tender_word reserve_word bytes
 returns-3 c =
     let c4 = c.before.before.before.before in
     let c7 = c4.before.before.before in
@@ -98,13 +98,13 @@ returns-3 c =
     let h = start.requires.0 in
     let ended = start.requires.1 in
     let r = c.read-reserve in
-    let e = head-reserve s at h c7.if1.false (sym c4.before.stands.ensures.0 ∙ c4.if2.false)
+    let e = head_reserve s at h c7.if1.false (sym c4.before.stands.ensures.0 ∙ c4.if2.false)
     (sym c.before.before.stands2.ensures.0 ∙ c.before.if3.true) in
     let q = r.ensures.0 in
-    (head-told s at h ended _ e r.result q, head-after s at h ended _ e r.result q r.ensures.1)
+    (head_told s at h ended _ e r.result q, head_after s at h ended _ e r.result q r.ensures.1)
 
 returns-4 : tie.Need-returns-4
-unfolding tenderWord reserveWord bytes
+unfolding tender_word reserve_word bytes
 returns-4 c =
     let c3 = c.before.before.before in
     let c6 = c3.before.before.before in
@@ -113,10 +113,10 @@ returns-4 c =
     let at = start.args.at in
     let h = start.requires.0 in
     let ended = start.requires.1 in
-    let e = head-neither s at h c6.if1.false (sym c3.before.stands.ensures.0 ∙ c3.if2.false)
+    let e = head_neither s at h c6.if1.false (sym c3.before.stands.ensures.0 ∙ c3.if2.false)
     (sym c.before.stands2.ensures.0 ∙ c.if3.false) in
-    let q = noted-wrong s wrong refl in
-    (head-told s at h ended _ e Broken q, head-after s at h ended _ e Broken q (omega arith))
+    let q = noted_wrong s wrong refl in
+    (head_told s at h ended _ e Broken q, head_after s at h ended _ e Broken q (omega arith))
 
 pub read-head-line-spec : {M : Type 1} → statement M
 read-head-line-spec =

@@ -1,9 +1,9 @@
--- `line::read_kind` meets its contract: it follows `kindFront` from place to place. Assumes nothing.
+-- `line::read_kind` meets its contract: it follows `kind_front` from place to place. Assumes nothing.
 use Prim.Native.Nat.{◌+◌}
 use native.Mathlib.Omega.{arith}
 use borrow.Author.Rules.{rules}
-use Rattle.reader_line.specs.LinePlaceLaws.{kind-unspanned, kind-unended, kind-whole}
-use Rattle.reader_line.specs.AnswerLaws.{noted-wrong, noted-tender}
+use Rattle.reader_line.specs.LinePlaceLaws.{kind_unspanned, kind_unended, kind_whole}
+use Rattle.reader_line.specs.AnswerLaws.{noted_wrong, noted_tender}
 use Rattle.reader_line.proofs.line.read_kind.Statement.{statement}
 use Rattle.reader_line.proofs.line.read_kind.Tie as tie
 
@@ -22,7 +22,7 @@ returns c =
     let s = start.args.s.now in
     let at = start.args.at in
     let e = rw c.enum_told.given.1 at c.before.before.read-span.ensures in
-    (noted-wrong s _ (kind-unspanned start.args.kind s at e), omega arith)
+    (noted_wrong s _ (kind_unspanned start.args.kind s at e), omega arith)
 
 shared-slice-read-if1 : tie.Need-shared-slice-read-if1
 shared-slice-read-if1 c =
@@ -37,7 +37,7 @@ returns-2 c =
     let at = start.args.at in
     let p = c.before.before.before.start.given.0.1.1.0 in
     let x = rw c.before.before.before.start.given.1 at c5.read-span.ensures in
-    (noted-wrong s _ (kind-unended start.args.kind s at _ p x c.if1.true), omega arith)
+    (noted_wrong s _ (kind_unended start.args.kind s at _ p x c.if1.true), omega arith)
 
 add-t12 : tie.Need-overflow-add-t12
 add-t12 c =
@@ -53,7 +53,7 @@ returns-3 c =
     let at = start.args.at in
     let p = c.before.before.before.start.given.0.1.1.0 in
     let x = rw c.before.before.before.start.given.1 at c5.read-span.ensures in
-    (noted-tender s start.args.kind _ _ (p + 1) (kind-whole start.args.kind s at _ p x c.if1.false), omega (arith, x.inside))
+    (noted_tender s start.args.kind _ _ (p + 1) (kind_whole start.args.kind s at _ p x c.if1.false), omega (arith, x.inside))
 
 pub read-kind-spec : {M : Type 1} → statement M
 read-kind-spec =

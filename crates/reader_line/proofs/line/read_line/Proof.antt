@@ -3,15 +3,15 @@ use mathlib.Core.Path.{refl, sym, ap, ◌∙◌}
 use native.Mathlib.Omega.{arith}
 use borrow.Author.Rules.{rules}
 use Rattle.tender.specs.Limits.{within}
-use Rattle.tender.specs.Keywords.{bytes, bidWord}
+use Rattle.tender.specs.Keywords.{bytes, bid_word}
 use Rattle.reader_parts.specs.Scan.{lettered}
 use Rattle.reader_parts.specs.PlaceLaws.{not_last}
 use Rattle.reader_line.specs.declared.line.Line.TheVariants.{Broken}
 use Rattle.reader_forms.specs.Tally.{noted}
-use Rattle.reader_line.specs.Answer.{notedFront}
-use Rattle.reader_line.specs.LinePlaceLaws.{line-unopened, line-bid}
-use Rattle.reader_line.specs.AnswerLaws.{noted-wrong, line-told, line_after}
-use Rattle.reader_line.specs.HeadLineLaws.{line-unbid}
+use Rattle.reader_line.specs.Answer.{noted_front}
+use Rattle.reader_line.specs.LinePlaceLaws.{line_unopened, line_bid}
+use Rattle.reader_line.specs.AnswerLaws.{noted_wrong, line_told, line_after}
+use Rattle.reader_line.specs.HeadLineLaws.{line_unbid}
 use Rattle.reader_line.proofs.line.read_line.Statement.{statement}
 use Rattle.reader_line.proofs.line.read_line.Tie as tie
 
@@ -27,8 +27,8 @@ returns c =
     let ended = start.requires.1.1 in
     let m = start.args.m in
     let table = start.args.windows.now in
-    let q = noted-wrong s _ (line-unopened s at h c.if1.true) m table in
-    (line-told s at h ended m table table Broken q, (line_after s at h ended m table table Broken q (omega arith), refl))
+    let q = noted_wrong s _ (line_unopened s at h c.if1.true) m table in
+    (line_told s at h ended m table table Broken q, (line_after s at h ended m table table Broken q (omega arith), refl))
 
 add-stands : tie.Need-overflow-add-stands
 add-stands c = search rules
@@ -62,7 +62,7 @@ same_length : tie.Need-same-length
 same_length c = search rules
 
 returns-2 : tie.Need-returns-2
-unfolding bidWord bytes
+unfolding bid_word bytes
 returns-2 c =
     let c4 = c.before.before.before.before in
     let c5 = c4.before in
@@ -76,17 +76,17 @@ returns-2 c =
     let table = start.args.windows.now in
     let b = c7.if1.false in
     let r = c.before.before.read-bid in
-    let e = line-bid s at h b (sym c5.stands.ensures.0 ∙ c4.if2.true) in
-    let q = r.ensures.0 ∙ ap (notedFront m table) (sym e) in
+    let e = line_bid s at h b (sym c5.stands.ensures.0 ∙ c4.if2.true) in
+    let q = r.ensures.0 ∙ ap (noted_front m table) (sym e) in
     let later = r.new.1.1.0 in
     let place = line_after s at h ended m table later r.result q r.ensures.1.0 in
-    (line-told s at h ended m table later r.result q, (place, r.ensures.1.1))
+    (line_told s at h ended m table later r.result q, (place, r.ensures.1.1))
 
 read-head-line-requires : tie.Need-read-head-line-requires
 read-head-line-requires c κs = search rules
 
 returns-3 : tie.Need-returns-3
-unfolding bidWord bytes
+unfolding bid_word bytes
 returns-3 c =
     let c4 = c.before.before.before.before in
     let start = c4.before.before.before.before in
@@ -94,7 +94,7 @@ returns-3 c =
     let m = start.args.m in
     let table = start.args.windows.now in
     let r = c.read-head-line in
-    let e = line-unbid s start.args.at start.requires.1.0 start.requires.1.1 c4.if1.false
+    let e = line_unbid s start.args.at start.requires.1.0 start.requires.1.1 c4.if1.false
     (sym c.before.before.stands.ensures.0 ∙ c.before.if2.false) in
     (r.ensures.0 m table ∙ ap (noted m table) e, (r.ensures.1, refl))
 

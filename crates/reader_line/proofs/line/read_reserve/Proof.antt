@@ -1,10 +1,10 @@
--- `line::read_reserve` meets its contract: it follows `reserveFront` from place to place. Assumes nothing.
+-- `line::read_reserve` meets its contract: it follows `reserve_front` from place to place. Assumes nothing.
 use Prim.Native.Nat.{◌+◌}
 use native.Mathlib.Omega.{arith}
 use borrow.Author.Rules.{rules}
 use Rattle.reader_parts.specs.PlaceLaws.{not_last}
-use Rattle.reader_line.specs.LinePlaceLaws.{reserve-unpriced, reserve-unclosed, reserve-unended, reserve-whole}
-use Rattle.reader_line.specs.AnswerLaws.{noted-wrong, noted-reserve}
+use Rattle.reader_line.specs.LinePlaceLaws.{reserve_unpriced, reserve_unclosed, reserve_unended, reserve_whole}
+use Rattle.reader_line.specs.AnswerLaws.{noted_wrong, noted_reserve}
 use Rattle.reader_line.proofs.line.read_reserve.Statement.{statement}
 use Rattle.reader_line.proofs.line.read_reserve.Tie as tie
 
@@ -22,7 +22,7 @@ returns c =
     let start = c.before.before.before.before in
     let s = start.args.s.now in
     let at = start.args.at in
-    (noted-wrong s _ (reserve-unpriced s at (rw c.enum_told.given.1 at c.before.before.read-price.ensures)), omega arith)
+    (noted_wrong s _ (reserve_unpriced s at (rw c.enum_told.given.1 at c.before.before.read-price.ensures)), omega arith)
 
 shared-slice-read-if1 : tie.Need-shared-slice-read-if1
 shared-slice-read-if1 c =
@@ -37,7 +37,7 @@ returns-2 c =
     let at = start.args.at in
     let p = c.before.before.before.price.given.0.1.0 in
     let x = rw c.before.before.before.price.given.1 at c5.read-price.ensures in
-    (noted-wrong s _ (reserve-unclosed s at _ p x c.if1.true), omega arith)
+    (noted_wrong s _ (reserve_unclosed s at _ p x c.if1.true), omega arith)
 
 add-if2 : tie.Need-overflow-add-if2
 add-if2 c =
@@ -69,7 +69,7 @@ returns-3 c =
     let x = rw c5.price.given.1 at c7.read-price.ensures in
     let d = c.before.before.if1.false in
     let k = not_last s p start.requires.1 x.inside (λ e. omega (arith, e, d)) in
-    (noted-wrong s _ (reserve-unended s at _ p x d k c.if2.true), omega arith)
+    (noted_wrong s _ (reserve_unended s at _ p x d k c.if2.true), omega arith)
 
 add-t9 : tie.Need-overflow-add-t9
 add-t9 c =
@@ -95,7 +95,7 @@ returns-4 c =
     let x = rw c5.price.given.1 at c7.read-price.ensures in
     let d = c.before.before.if1.false in
     let k = not_last s p start.requires.1 x.inside (λ e. omega (arith, e, d)) in
-    (noted-reserve s _ _ (p + 2) (reserve-whole s at _ p x d k c.if2.false), omega (arith, k))
+    (noted_reserve s _ _ (p + 2) (reserve_whole s at _ p x d k c.if2.false), omega (arith, k))
 
 pub read-reserve-spec : {M : Type 1} → statement M
 read-reserve-spec =

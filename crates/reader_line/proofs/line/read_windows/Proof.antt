@@ -4,19 +4,19 @@ use mathlib.Core.Path.{◌≡◌, refl, sym, ap, ◌∙◌}
 use native.Mathlib.Omega.{arith}
 use borrow.Author.Rules.{rules}
 use lib.ListN.{length, take, drop}
-use Rattle.tender.specs.Tables.{windowWidth}
-use Rattle.reader_parts.specs.PlaceLaws.{not_last, window-further}
+use Rattle.tender.specs.Tables.{window_width}
+use Rattle.reader_parts.specs.PlaceLaws.{not_last, window_further}
 use Rattle.reader_parts.specs.declared.Flaw.TheVariants.{Sound}
-use Rattle.reader_forms.specs.LineFront.{windowsFront}
-use Rattle.reader_line.specs.Answer.{talliedFront}
-use Rattle.reader_line.specs.TallyLaws.{rows_before, tally-wrong, tally-more, tally-last, tally-unended}
+use Rattle.reader_forms.specs.LineFront.{windows_front}
+use Rattle.reader_line.specs.Answer.{tallied_front}
+use Rattle.reader_line.specs.TallyLaws.{rows_before, tally_wrong, tally_more, tally_last, tally_unended}
 use Rattle.reader_line.proofs.line.read_windows.Statement.{statement}
 use Rattle.reader_line.proofs.line.read_windows.Tie as tie
 
 abbrev invariant-loop : tie.invariant-loop
 invariant-loop s at windows₀ m n₀ flaw₀ p₀ windows n flaw p =
-    (talliedFront m n flaw windows (windowsFront (drop p s)) ≡ talliedFront m 0 Sound windows₀ (windowsFront (drop at s))) × (6 * (m + n) ≤ p)
-    × (p < length s) × (length windows ≡ length windows₀) × (take (windowWidth * m) windows ≡ take (windowWidth * m) windows₀)
+    (tallied_front m n flaw windows (windows_front (drop p s)) ≡ tallied_front m 0 Sound windows₀ (windows_front (drop at s))) × (6 * (m + n) ≤ p)
+    × (p < length s) × (length windows ≡ length windows₀) × (take (window_width * m) windows ≡ take (window_width * m) windows₀)
 
 abbrev decreases-loop : tie.decreases-loop
 decreases-loop s at windows₀ m n₀ flaw₀ p₀ windows n flaw p = length s - p
@@ -100,10 +100,10 @@ returns c =
     let d = c.before.before.if1.true in
     let k = not_last s q start.requires.1.1 x.inside (λ e. omega (arith, e, d)) in (
       rw (c4.worse.ensures, c7.put-window.ensures)
-          (sym (tally-last s start.args.m l.n l.flaw l.windows l.p _ q x d k c.if2.true) ∙ l.invariant.0),
+          (sym (tally_last s start.args.m l.n l.flaw l.windows l.p _ q x d k c.if2.true) ∙ l.invariant.0),
       (
         omega (arith, k),
-        ap (take (windowWidth * start.args.m)) c7.put-window.ensures
+        ap (take (window_width * start.args.m)) c7.put-window.ensures
             ∙ rows_before l.windows start.args.m (start.args.m + l.n) _ (omega arith) ∙ l.invariant.4,
       ),
     )
@@ -127,10 +127,10 @@ returns-2 c =
     let x = rw c10.a.given.1 at c12.read-window.ensures in
     let d = c.before.before.if1.true in
     let k = not_last s q start.requires.1.1 x.inside (λ e. omega (arith, e, d)) in (
-      sym (tally-unended s start.args.m l.n l.flaw l.windows l.p _ q x d k c.if2.false) ∙ l.invariant.0,
+      sym (tally_unended s start.args.m l.n l.flaw l.windows l.p _ q x d k c.if2.false) ∙ l.invariant.0,
       (
         omega arith,
-        ap (take (windowWidth * start.args.m)) c7.put-window.ensures
+        ap (take (window_width * start.args.m)) c7.put-window.ensures
             ∙ rows_before l.windows start.args.m (start.args.m + l.n) _ (omega arith) ∙ l.invariant.4,
       ),
     )
@@ -154,11 +154,11 @@ loop-again c =
     let q = c8.a.given.0.1.1.0 in
     let x = rw c8.a.given.1 at c10.read-window.ensures in (
       rw (c.before.before.worse.ensures, c5.put-window.ensures)
-          (sym (tally-more s start.args.m l.n l.flaw l.windows l.p _ q x c.if1.false) ∙ l.invariant.0),
-      omega (arith, window-further s l.p (l.p + 2) _ q x, l.invariant.1),
+          (sym (tally_more s start.args.m l.n l.flaw l.windows l.p _ q x c.if1.false) ∙ l.invariant.0),
+      omega (arith, window_further s l.p (l.p + 2) _ q x, l.invariant.1),
       x.inside,
       c5.put-window.auto.0 ∙ l.invariant.3,
-      ap (take (windowWidth * start.args.m)) c5.put-window.ensures
+      ap (take (window_width * start.args.m)) c5.put-window.ensures
           ∙ rows_before l.windows start.args.m (start.args.m + l.n) _ (omega arith) ∙ l.invariant.4,
     )
 
@@ -173,7 +173,7 @@ returns-3 c =
     let start = c.before.before.before.before.before.before in
     let s = start.args.s.now in
     let l = c.before.before.before.loop in (
-      sym (tally-wrong s start.args.m l.n l.flaw l.windows l.p
+      sym (tally_wrong s start.args.m l.n l.flaw l.windows l.p
           (rw c.enum_told.given.1 at c.before.before.read-window.ensures))
           ∙ l.invariant.0,
       (omega arith, l.invariant.4),

@@ -2,7 +2,7 @@
 use mathlib.Core.Path.{◌≡◌}
 use Prim.Native.Nat.{ℕ, ◌≤◌, ◌<◌, ◌-◌, ◌+◌, ◌*◌}
 use lib.ListN.{length, length-set, get_or}
-use Rattle.single_lead.specs.RowsLaws.{row-none}
+use Rattle.single_lead.specs.RowsLaws.{row_none}
 use Rattle.single_select.specs.ExtendLaws.{cleared_more}
 use native.Mathlib.Omega.{arith}
 use borrow.Author.Rules.{rules}
@@ -47,7 +47,7 @@ same_length : tie.Need-same-length invariant-loop decreases-loop
 same_length c = search rules
 
 returns : tie.Need-returns invariant-loop decreases-loop
-returns c = row-none 16 c.before.loop.sets c.before.before.args.r (λ i l. c.before.loop.invariant.2 i (omega arith))
+returns c = row_none 16 c.before.loop.sets c.before.before.args.r (λ i l. c.before.loop.invariant.2 i (omega arith))
 
 pub clear_spec : {M : Type 1} → statement M
 clear_spec =

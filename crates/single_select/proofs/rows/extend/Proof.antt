@@ -1,5 +1,5 @@
 -- `single_select::rows::extend` meets its contract: the copied row has no bit of the bid, so its word has room. Assumes nothing.
-use Rattle.single_select.specs.ExtendLaws.{word_room, row-extended}
+use Rattle.single_select.specs.ExtendLaws.{word_room, row_extended}
 use Prim.Native.Nat.{◌/◌}
 use native.Mathlib.Omega.{arith}
 use borrow.Author.Rules.{rules}
@@ -49,7 +49,7 @@ same_length c = search rules
 returns : tie.Need-returns
 returns c =
     let c4 = c.before.before.before.before in
-    rw c.mask.ensures (row-extended _ _ _ _ (omega arith) (omega arith) c4.copy-row.ensures)
+    rw c.mask.ensures (row_extended _ _ _ _ (omega arith) (omega arith) c4.copy-row.ensures)
 
 pub extend-spec : {M : Type 1} → statement M
 extend-spec =

@@ -4,16 +4,16 @@ use Prim.Native.Nat.{◌≤◌, ◌-◌}
 use lib.ListN.{length, length-set}
 use native.Mathlib.Nat.{le_antisymm}
 use Rattle.cover.specs.Sets.{bit, when}
-use Rattle.cover.specs.SettledLaws.{FilledTo, written_none, written-more}
-use Rattle.single_lead.specs.Rows.{setIn}
-use Rattle.single_select.specs.ExtendLaws.{bit-row}
+use Rattle.cover.specs.SettledLaws.{FilledTo, written_none, written_more}
+use Rattle.single_lead.specs.Rows.{set_in}
+use Rattle.single_select.specs.ExtendLaws.{bit_row}
 use native.Mathlib.Omega.{arith}
 use borrow.Author.Rules.{rules}
 use Rattle.single_select.proofs.rows.mark.Statement.{statement}
 use Rattle.single_select.proofs.rows.mark.Tie as tie
 
 abbrev invariant-loop : tie.invariant-loop
-invariant-loop sets r n won₀ i₀ won i = (i ≤ n) × (length won ≡ length won₀) × FilledTo (λ i. when (bit (setIn 16 sets r) i) 1) won₀ won i
+invariant-loop sets r n won₀ i₀ won i = (i ≤ n) × (length won ≡ length won₀) × FilledTo (λ i. when (bit (set_in 16 sets r) i) 1) won₀ won i
 
 abbrev decreases-loop : tie.decreases-loop
 decreases-loop sets r n won₀ i₀ won i = n - i
@@ -52,7 +52,7 @@ loop-again : tie.Need-loop-preserved invariant-loop decreases-loop
 loop-again c = (
   omega arith,
   simp length-set (omega arith),
-  written-more _ _ _ _ _ (omega arith) (bit-row _ _ _ (λ j. omega (arith, c.shared-slice-known.given j)) (omega arith))
+  written_more _ _ _ _ _ (omega arith) (bit_row _ _ _ (λ j. omega (arith, c.shared-slice-known.given j)) (omega arith))
       c.before.before.loop.invariant.2,
 )
 
