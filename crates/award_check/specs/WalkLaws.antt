@@ -72,14 +72,14 @@ pub passed_none : (used : List ℕ) → used ≡ replicate {A = ℕ} 15625 0 →
 unfolding cell among
 passed_none used e = rw e (record {
   size = length-replicate {A = ℕ} 15625 0;
-  tied = λ x. ap (λ (v : ℕ). eqb (v / 2 ^ (x % 64) % 2) 1) (get_d_zeros 15625 (x / 64))
+  tied = λ x. ap (λ (v : ℕ). eqb (v / 2 ^ (x % 64) % 2) 1) (get_or_zeros 15625 (x / 64))
       ∙ ne_eqb (0 / 2 ^ (x % 64) % 2) 1 (λ f. omega (arith, zero-div (2 ^ (x % 64))));
 })
   where
-    get_d_zeros : (n i : ℕ) → get_or (replicate {A = ℕ} n 0) i 0 ≡ 0
-    get_d_zeros zero i = refl
-    get_d_zeros (suc n) zero = refl
-    get_d_zeros (suc n) (suc i) = get_d_zeros n i
+    get_or_zeros : (n i : ℕ) → get_or (replicate {A = ℕ} n 0) i 0 ≡ 0
+    get_or_zeros zero i = refl
+    get_or_zeros (suc n) zero = refl
+    get_or_zeros (suc n) (suc i) = get_or_zeros n i
 
 pub among_last : (x b : ℕ) (list : List ℕ) → among x (list ++ b ∷ []) ≡ (among x list || eqb b x)
 unfolding among

@@ -17,7 +17,7 @@ use Rattle.cover.specs.VcgLaws as vcg
 use Rattle.cover.specs.CriticalLaws as critical
 use Rattle.cover.specs.SpareLaws.{Spare, others, others_below, spare_set, spare_bids, least_covers, greedy_covers}
 use Rattle.cover.specs.FewerLaws.{covers_fewer, without_same, none_thin}
-use Rattle.cover.specs.SettledLaws.{get_d_listed, cost_sum}
+use Rattle.cover.specs.SettledLaws.{get_or_listed, cost_sum}
 use Rattle.award_check.specs.Auction.{Auction, at_price, reserved, thin_cell}
 use Rattle.award_check.specs.AuctionLaws.{at_own_price, offering}
 use Rattle.award_rule.specs.Award.{Rule, least_cost, greedy, covers_in, won, cents, awarded, award_rows, totals_of, thinned, settled}
@@ -135,7 +135,7 @@ row_in r A i = record { won = won r A i; cents = cents r A i }
 pub row_filled : (r : Rule) (A : Auction) (i : ℕ) (totals : Totals) → i < A.owners
     → row_for (awarded (award_rows r A) totals) i ≡ row_in r A i
 unfolding row_for award_rows
-row_filled r A i totals l = get_d_listed A.owners (λ i. row_in r A i) i lost l
+row_filled r A i totals l = get_or_listed A.owners (λ i. row_in r A i) i lost l
 
 -- Bid i, whose true cost is its price in A, names q and offers fewer cells: it gains no more. With all its cells it gains 0 at least, so
 -- that a second award that is refused for cover, or in which it loses, leaves it no more; where the second is made the first is too.

@@ -5,7 +5,7 @@ use Rattle.std.proofs.Math.ListN.{get_or-append}
 use Rattle.tender.specs.declared.AwardRow.{AwardRow}
 use Rattle.award_outcome.specs.Gain.{lost}
 use Rattle.award_rule.specs.Plain.{rows_in}
-use Rattle.cover.specs.SettledLaws.{length_listed, get_d_listed}
+use Rattle.cover.specs.SettledLaws.{length_listed, get_or_listed}
 use Rattle.award_rows.specs.Rows.{award_row_at, rows_written}
 
 pub length_filled : (n : ℕ) (won cents : List ℕ) (rows : List AwardRow) → length (rows_written n won cents rows) ≡ length rows
@@ -51,7 +51,7 @@ filled_rows n won cents rows h = ext_get_or lost (rows_written n won cents rows)
     go i true t =
         written n won cents rows i h (ltb-true i n t)
         ∙ sym (get_or-append (rows_in n won cents) (drop n rows) lost i (omega (arith, size, ltb-true i n t))
-        ∙ get_d_listed n (award_row_at won cents) i lost (ltb-true i n t))
+        ∙ get_or_listed n (award_row_at won cents) i lost (ltb-true i n t))
     go i false t =
         let d : n + (i - n) ≡ i = omega (arith, ltb-false i n t) in
         let e : length (rows_in n won cents) + (i - n) ≡ i = omega (arith, size, ltb-false i n t) in

@@ -20,7 +20,7 @@ use Rattle.cover.specs.CriticalLaws.{paid_by_rounds}
 use Rattle.cover.specs.SpareLaws.{Spare, spare_bids}
 use Rattle.cover.specs.Settled.{listed}
 use Rattle.cover.specs.Settled as core
-use Rattle.cover.specs.SettledLaws.{length_listed, get_d_listed, listed_same}
+use Rattle.cover.specs.SettledLaws.{length_listed, get_or_listed, listed_same}
 use Rattle.award_check.specs.Faults.{fault_of}
 use Rattle.award_check.specs.Cells.{minute_of}
 use Rattle.award_check.specs.Auction.{Auction, auction_of, thin_cell}
@@ -86,7 +86,7 @@ module _ (k : Kind) (t : Tender) (n : ℕ) (bids windows : List ℕ) where
           ap (λ (v : ℕ). eqb v 1) (ap (λ (zs : List ℕ). get_or zs i 0) s.flags
           ∙ get_or-append (listed (length ps) (λ i. when (w i) 1)) (drop (length ps) ow) 0 i
           (omega (arith, length_listed (length ps) (λ i. when (w i) 1)))
-          ∙ get_d_listed (length ps) (λ i. when (w i) 1) i 0 l)
+          ∙ get_or_listed (length ps) (λ i. when (w i) 1) i 0 l)
           ∙ when_is (w i) ∙ w-is i
 
       pay_at : (i : ℕ) → i < n → get_or nc i 0 ≡ cents (rule k) A i

@@ -13,7 +13,7 @@ use Rattle.tender.specs.declared.Answer.TheVariants.{Awarded, Refused}
 use Rattle.cover.specs.Sets.{when}
 use Rattle.cover.specs.SetLaws.{when_is}
 use Rattle.cover.specs.Settled.{listed}
-use Rattle.cover.specs.SettledLaws.{FilledTo, length_listed, get_d_listed, listed_same, map_listed, listed_of}
+use Rattle.cover.specs.SettledLaws.{FilledTo, length_listed, get_or_listed, listed_same, map_listed, listed_of}
 use Rattle.award_rule.specs.Award.{awarded, award_of}
 use Rattle.award_rule.specs.Plain.{row_of, rows_in, told_in, won_after, cents_after, PlainPromise}
 
@@ -56,14 +56,14 @@ told_again n flags pays won cents won' cents' (Awarded totals) u v =
         (map_listed n row (λ r. when r.won 1)))
         ∙ get_or-append (listed n (λ i. when (eqb (get_or flags i 0) 1) 1)) _ 0 i
         (omega (arith, length_listed n (λ i. when (eqb (get_or flags i 0) 1) 1)))
-        ∙ get_d_listed n (λ i. when (eqb (get_or flags i 0) 1) 1) i 0 l)
+        ∙ get_or_listed n (λ i. when (eqb (get_or flags i 0) 1) 1) i 0 l)
         ∙ when_is (eqb (get_or flags i 0) 1)
 
     pay_at : (i : ℕ) → i < n → get_or cents' i 0 ≡ get_or pays i 0
     pay_at i l = ap (λ (xs : List ℕ). get_or xs i 0) (v ∙ ap (λ (xs : List ℕ). xs ++ drop (length (listed n row)) cents)
         (map_listed n row (λ r. r.cents)))
         ∙ get_or-append (listed n (λ i. get_or pays i 0)) _ 0 i (omega (arith, length_listed n (λ i. get_or pays i 0)))
-        ∙ get_d_listed n (λ i. get_or pays i 0) i 0 l
+        ∙ get_or_listed n (λ i. get_or pays i 0) i 0 l
 
 pub reported : (k : Kind) (t : Tender) (n : ℕ) (bids windows flags pays won cents won' cents' : List ℕ) (a : Answer)
     → told_in n flags pays a ≡ award_of k t n bids windows n → won' ≡ won_after won (told_in n flags pays a)

@@ -12,11 +12,11 @@ unfolding listed
 length_listed zero f = refl
 length_listed (suc n) f = ap suc (length_listed n (λ i. f (suc i)))
 
-pub get_d_listed : {A : Type 0} (n : ℕ) (f : ℕ → A) (i : ℕ) (d : A) → i < n → get_or (listed n f) i d ≡ f i
+pub get_or_listed : {A : Type 0} (n : ℕ) (f : ℕ → A) (i : ℕ) (d : A) → i < n → get_or (listed n f) i d ≡ f i
 unfolding listed
-get_d_listed zero f i d l = absurd (omega arith)
-get_d_listed (suc n) f zero d l = refl
-get_d_listed (suc n) f (suc i) d l = get_d_listed n (λ j. f (suc j)) i d (omega arith)
+get_or_listed zero f i d l = absurd (omega arith)
+get_or_listed (suc n) f zero d l = refl
+get_or_listed (suc n) f (suc i) d l = get_or_listed n (λ j. f (suc j)) i d (omega arith)
 
 pub listed_same : {A : Type 0} (n : ℕ) (f g : ℕ → A) → ((i : ℕ) → i < n → f i ≡ g i) → listed n f ≡ listed n g
 unfolding listed
@@ -75,7 +75,7 @@ listed_at (suc n) f xs (suc i) l = listed_at n (λ i. f (suc i)) xs i (omega ari
 pub as_listed : (xs : List ℕ) (n : ℕ) (f : ℕ → ℕ) → length xs ≡ n → ((i : ℕ) → i < n → get_or xs i 0 ≡ f i)
     → xs ≡ listed n f
 as_listed xs n f e h = ext_get_or 0 xs (listed n f) (e ∙ sym (length_listed n f))
-    (λ i l. h i (omega arith) ∙ sym (get_d_listed n f i 0 (omega arith)))
+    (λ i l. h i (omega arith) ∙ sym (get_or_listed n f i 0 (omega arith)))
 
 -- a new list is all zeros
 pub zeros : (n s : ℕ) → ◌≡◌ {A = ℕ} (get_or (replicate {A = ℕ} n 0) s 0) 0

@@ -9,7 +9,7 @@ use Rattle.tender.specs.declared.Refusal.TheVariants.{MinuteUncovered, OneBidder
 use Rattle.tender.specs.Refusals.{number_of}
 use Rattle.tender.specs.Tables.{Row, flat_rows, flat_windows, bid_width}
 use Rattle.cover.specs.Sets.{Found, nothing, found}
-use Rattle.cover.specs.SettledLaws.{get_d_listed}
+use Rattle.cover.specs.SettledLaws.{get_or_listed}
 use Rattle.reader_text.specs.Read.{accepted, read_text}
 use Rattle.reader_text.specs.Read as reading
 use Rattle.reader_text.specs.Rules.{Rules}
@@ -37,7 +37,7 @@ use Rattle.listing_text.specs.LineLaws.{lines_short, lines_some}
 row_cells_lem : (n : ℕ) (won cents : List ℕ) (i : ℕ) → i < n
     → get_or (rows_in n won cents) i lost ≡ record { won = eqb (get_or won i 0) 1; cents = get_or cents i 0 }
 unfolding rows_in
-row_cells_lem n won cents i l = get_d_listed n (λ i. record { won = eqb (get_or won i 0) 1; cents = get_or cents i 0 }) i lost l
+row_cells_lem n won cents i l = get_or_listed n (λ i. record { won = eqb (get_or won i 0) 1; cents = get_or cents i 0 }) i lost l
 
 win_lines_lem : (R : List Row) (v won cents : List ℕ) (n m : ℕ) → m ≤ n → n ≤ length R
     → win_lines (flat_rows R ++ v) won cents m ≡ win_list R (rows_in n won cents) m
