@@ -1,0 +1,12 @@
+-- `cells::add_bits` meets its contract: one word gets the bits of a span. Assumes nothing.
+use native.Mathlib.Omega.{arith}
+use Rattle.cells.specs.StoreLaws.{bits_added}
+use borrow.Author.Rules.{rules}
+use Rattle.cells.proofs.span.Reads as span-reads
+use Rattle.cells.proofs.add_bits.Goals as goal
+
+pub returns : goal.returns
+returns c =
+    let args = c.args in
+    bits_added args.words.now args.w (omega arith) args.lo args.hi c.span-m.result (omega arith) (omega arith)
+    c.span-m.ensures
