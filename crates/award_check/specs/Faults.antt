@@ -20,6 +20,15 @@ keeps t windows at r =
     && (leb (at + r.count) (length windows / window_width)
     && every lawful (own windows r)))))
 
+-- what the row rules say
+pub record Kept (t : Tender) (windows : List ℕ) (at : ℕ) (r : Row) : Type 0 where
+  pub bidder : within 1 max_bidder r.bidder ≡ true
+  pub price : leb r.price max_price ≡ true
+  pub count : within 1 (most_windows t.kind) r.count ≡ true
+  pub first : r.first ≡ at
+  pub room : leb (at + r.count) (length windows / window_width) ≡ true
+  pub windows_too : every lawful (own windows r) ≡ true
+
 -- besides, at most 1,000 bids, and a bidder number that is new: the row stands at `place`, after rows with the bidder numbers `used`
 unfoldable pub sound : Tender → List ℕ → ℕ → List ℕ → ℕ → Row → Bool
 unfolding among keeps

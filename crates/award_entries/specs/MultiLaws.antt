@@ -7,7 +7,7 @@ use Rattle.tender.specs.declared.Tender.{Tender}
 use Rattle.tender.specs.declared.Totals.{Totals}
 use Rattle.tender.specs.declared.Answer.TheVariants.{Awarded}
 use Rattle.cover.specs.Sets.{cells}
-use Rattle.cover.specs.SpareLaws.{Spare}
+use Rattle.cover.specs.Spare.{Spare}
 use Rattle.cover.specs.Greedy.{wins}
 use Rattle.cover.specs.CriticalPrice.{rounds_paid}
 use Rattle.cover.specs.Settled.{Settled}
@@ -17,13 +17,13 @@ use Rattle.award_thin.specs.declared.Thin.TheVariants.{Enough}
 use Rattle.award_check.specs.Faults.{fault_of}
 use Rattle.award_check.specs.Cells.{cells_of}
 use Rattle.award_check.specs.Auction.{Auction, auction_of}
-use Rattle.award_check.specs.AuctionLaws.{entries, cells_are, owner_spared}
+use Rattle.award_check.proofs.AuctionLaws.{entries, cells_are, owner_spared}
 use Rattle.award_laid.specs.Lay.{LaidMasks}
 use Rattle.award_laid.specs.TellsLaws.{enough}
 use Rattle.award_rule.specs.Award.{award_of}
 use Rattle.award_rule.specs.Sums.{totals_in}
 use Rattle.award_rule.specs.Plain.{told_in}
-use Rattle.award_rule.specs.PlainLaws.{awards, multi_won, multi_cents}
+use Rattle.award_rule.proofs.PlainLaws.{awards, multi_won, multi_cents}
 
 module _ (t : Tender) (n w : ℕ) (bids windows ps ms : List ℕ) (thin : Thin) (f : fault_of Multi t n bids windows ≡ none)
     (l : LaidMasks t n w bids windows ps ms thin) where

@@ -10,21 +10,21 @@ use Rattle.cover.specs.Sets.{bit, covers}
 use Rattle.cover.specs.LeastCover.{winners, vcg_paid}
 use Rattle.cover.specs.CriticalPrice.{sum}
 use Rattle.cover.specs.Settled.{spans, Settled}
-use Rattle.cover.specs.Intervals.BidsLaws.{sum_most}
+use Rattle.cover.proofs.Intervals.BidsLaws.{sum_most}
 use Rattle.single_costs.specs.Across.{most_sum}
 use Rattle.award_thin.specs.declared.Thin.{Thin}
 use Rattle.award_thin.specs.declared.Thin.TheVariants.{Enough}
 use Rattle.award_check.specs.Faults.{fault_of}
 use Rattle.award_check.specs.Cells.{cells_of}
 use Rattle.award_check.specs.Auction.{Auction, auction_of}
-use Rattle.award_check.specs.AuctionLaws.{cells_are}
+use Rattle.award_check.proofs.AuctionLaws.{cells_are}
 use Rattle.award_laid.specs.Lay.{LaidSpans}
 use Rattle.award_laid.specs.TellsLaws.{enough}
 use Rattle.award_laid.specs.EntryLaws.{laid_prices}
 use Rattle.award_rule.specs.Award.{covers_in, award_of}
 use Rattle.award_rule.specs.Sums.{totals_in}
 use Rattle.award_rule.specs.Plain.{told_in}
-use Rattle.award_rule.specs.PlainLaws.{awards, single_won, single_cents}
+use Rattle.award_rule.proofs.PlainLaws.{awards, single_won, single_cents}
 
 module _ (t : Tender) (n : ℕ) (bids windows ps starts ends order : List ℕ) (thin : Thin) (f : fault_of Single t n bids windows ≡ none)
     (l : LaidSpans t n bids windows ps starts ends order thin) where

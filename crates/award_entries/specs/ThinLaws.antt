@@ -14,7 +14,7 @@ use Rattle.award_laid.specs.Lay.{Tells}
 use Rattle.award_laid.specs.TellsLaws.{at_bare, at_lone}
 use Rattle.award_rule.specs.Award.{award_of}
 use Rattle.award_rule.specs.Plain.{told_in}
-use Rattle.award_rule.specs.PlainLaws.{eleven, twelve}
+use Rattle.award_rule.proofs.PlainLaws.{eleven, twelve}
 
 module _ (t : Tender) (n : ℕ) (bids windows : List ℕ) (thin : Thin) (s : Tells (auction_of t n bids windows) thin) (k : Kind)
     (f : fault_of k t n bids windows ≡ none) (nw nc : List ℕ) where

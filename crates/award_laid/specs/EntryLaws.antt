@@ -18,8 +18,8 @@ use Rattle.award_thin.specs.declared.Thin.{Thin}
 use Rattle.award_check.specs.Faults.{fault_of}
 use Rattle.award_check.specs.Cells.{cells_of}
 use Rattle.award_check.specs.Auction.{houses, auction_of}
-use Rattle.award_check.specs.AuctionLaws.{entries, price_named, house_price}
-use Rattle.award_check.specs.AuctionLaws.{EntryAt, owner, house, past, entry_at}
+use Rattle.award_check.proofs.AuctionLaws.{entries, price_named, house_price}
+use Rattle.award_check.proofs.AuctionLaws.{EntryAt, owner, house, past, entry_at}
 use Rattle.award_layout.specs.LayoutLaws.{orderly, reserve_within}
 use Rattle.award_laid.specs.Lay.{LaidSpans, LaidMasks}
 use Rattle.award_laid.specs.LayLaws.{Words, words_of}

@@ -15,15 +15,15 @@ use Rattle.cells.specs.Cells.{cell}
 use Rattle.cover.specs.Settled.{spans}
 use Rattle.cover.specs.Intervals.{Order}
 use Rattle.multi_market.specs.Market.{word_row, has, First}
-use Rattle.multi_market.specs.WordRowLaws.{row_within}
+use Rattle.multi_market.proofs.WordRowLaws.{row_within}
 use Rattle.award_thin.specs.declared.Thin.{Thin}
 use Rattle.award_thin.specs.declared.Thin.TheVariants.{Nobody, Alone, Enough}
 use Rattle.award_thin.specs.Thin.{Says, Spans}
 use Rattle.award_check.specs.Faults.{fault_of}
 use Rattle.award_check.specs.Cells.{cells_of, bid_row_at}
 use Rattle.award_check.specs.Auction.{houses, auction_of}
-use Rattle.award_check.specs.AuctionLaws.{thin_told, none_thin}
-use Rattle.award_check.specs.AlikeLaws.{own_kind}
+use Rattle.award_check.proofs.AuctionLaws.{thin_told, none_thin}
+use Rattle.award_check.proofs.AlikeLaws.{own_kind}
 use Rattle.award_layout.specs.Orderly.{Orderly, PricesLaid, SpansLaid, AllMasked}
 use Rattle.award_layout.specs.LayoutLaws.{orderly, cells_within, prices_laid, spans_have, spans_ordered, spans_inside, masks_have}
 use Rattle.award_laid.specs.Lay.{Tells, LaidSpans, LaidMasks}

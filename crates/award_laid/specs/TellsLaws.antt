@@ -5,12 +5,12 @@ use Rattle.tender.specs.declared.Reserve.{Reserve}
 use Rattle.tender.specs.declared.Reserve.TheVariants.{Absent, Price}
 use Rattle.tender.specs.declared.Tender.{Tender}
 use Rattle.cover.specs.Sets.{nothing, found}
-use Rattle.cover.specs.EarliestLaws.{cell_found}
+use Rattle.cover.proofs.EarliestLaws.{cell_found}
 use Rattle.award_thin.specs.declared.Thin.{Thin}
 use Rattle.award_thin.specs.declared.Thin.TheVariants.{Nobody, Alone, Enough}
 use Rattle.award_check.specs.Cells.{cells_of}
 use Rattle.award_check.specs.Auction.{Auction, auction_of, thin_cell}
-use Rattle.award_check.specs.AuctionLaws.{thin_told, none_thin}
+use Rattle.award_check.proofs.AuctionLaws.{thin_told, none_thin}
 use Rattle.award_laid.specs.Lay.{Tells}
 
 module _ (t : Tender) (n : ℕ) (bids windows : List ℕ) where

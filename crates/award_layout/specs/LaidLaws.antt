@@ -4,14 +4,14 @@ use Rattle.std.proofs.Common.{sym, ap, ◌∙◌, arith, get_or-set_same, get_or
 use borrow.Author.Tests.{ltb-true, ltb-false, leb-true}
 use Rattle.tender.specs.declared.Tender.{Tender}
 use Rattle.tender.specs.Limits.{within, most_windows}
-use Rattle.cover.specs.SetLaws.{and_split}
+use Rattle.cover.proofs.SetLaws.{and_split}
 use Rattle.tender.specs.Tables.{windows_of, window_width, window_at}
 use Rattle.cells.specs.Cells.{cell, RangeAdded}
-use Rattle.cells.specs.BitLaws.{zero_bit}
-use Rattle.cells.specs.StoreLaws.{added}
+use Rattle.cells.proofs.BitLaws.{zero_bit}
+use Rattle.cells.proofs.StoreLaws.{added}
 use Rattle.award_check.specs.Cells.{holds, cells_of, minute_of, bid_row_at}
-use Rattle.award_check.specs.AlikeLaws.{windows_step}
-use Rattle.award_check.specs.WalkLaws.{rows_ahead, ahead_more}
+use Rattle.award_check.proofs.AlikeLaws.{windows_step}
+use Rattle.award_check.proofs.WalkLaws.{rows_ahead, ahead_more}
 use Rattle.award_layout.specs.LayoutLaws.{in_cell}
 use Rattle.award_layout.specs.Orderly.{Orderly, clipped, Masked}
 

@@ -18,16 +18,16 @@ use Rattle.tender.specs.declared.Tender.{Tender}
 use Rattle.tender.specs.Limits.{within, most_windows, lawful, sound_tender, every}
 use Rattle.tender.specs.RulesLaws.{sound_rules}
 use Rattle.tender.specs.Tables.{Row, rows_of, windows_of, own, bid_width, window_width, window_at}
-use Rattle.cover.specs.SetLaws.{and_split}
+use Rattle.cover.proofs.SetLaws.{and_split}
 use Rattle.cover.specs.Settled.{spans}
 use Rattle.cells.specs.Cells.{cell}
 use Rattle.multi_market.specs.Market.{word_row, has}
-use Rattle.award_check.specs.Faults.{sound, row_fault, is_same_kind, fault_of}
+use Rattle.award_check.specs.Faults.{sound, row_fault, is_same_kind, fault_of, Kept}
 use Rattle.award_check.specs.Cells.{holds, cells_of, minute_of, no_row, bid_row_at}
 use Rattle.award_check.specs.Auction.{houses, auction_of}
-use Rattle.award_check.specs.AuctionLaws.{entries, price_named, house_price, has_cell, house_has, no_cells}
-use Rattle.award_check.specs.AuctionLaws.{EntryAt, owner, house, past, entry_at}
-use Rattle.award_check.specs.AlikeLaws.{Kept, keeps_kept, sound_keeps, sound_first, faultless, rows_length, row_named, windows_step}
+use Rattle.award_check.proofs.AuctionLaws.{entries, price_named, house_price, has_cell, house_has, no_cells}
+use Rattle.award_check.proofs.AuctionLaws.{EntryAt, owner, house, past, entry_at}
+use Rattle.award_check.proofs.AlikeLaws.{keeps_kept, sound_keeps, sound_first, faultless, rows_length, row_named, windows_step}
 use Rattle.award_layout.specs.Orderly.{Orderly, clipped, SpansLaid, AllMasked}
 
 -- each row of faultless rows keeps the rules, and they are few

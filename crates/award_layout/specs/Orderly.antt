@@ -6,7 +6,7 @@ use Rattle.tender.specs.Tables.{own, window_at, bid_width}
 use Rattle.cells.specs.Cells.{cell}
 use Rattle.multi_market.specs.Market.{word_row}
 use Rattle.award_check.specs.Cells.{holds, cells_of, minute_of, bid_row_at}
-use Rattle.award_check.specs.AlikeLaws.{Kept}
+use Rattle.award_check.specs.Faults.{Kept}
 
 -- n rows that keep the row rules
 pub record Orderly (t : Tender) (n : ℕ) (bids windows : List ℕ) : Type 0 where

@@ -8,7 +8,7 @@ use borrow.Rule.Slice.PartMut.{mid_of, put_mid, same_len_mid}
 use Rattle.tender.specs.declared.Tender.{Tender}
 use Rattle.tender.specs.Tables.{own}
 use Rattle.multi_market.specs.Market.{word_row}
-use Rattle.multi_market.specs.WordRowLaws.{part_row, row_within, row_length}
+use Rattle.multi_market.proofs.WordRowLaws.{part_row, row_within, row_length}
 use Rattle.award_check.specs.Cells.{bid_row_at}
 use Rattle.award_layout.specs.Orderly.{Masked, AllMasked}
 

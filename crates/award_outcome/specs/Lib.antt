@@ -1,10 +1,3 @@
 pub mod Promise
 pub mod Gain
 pub mod Right
-pub mod GainLaws
-pub mod SettleLaws
-pub mod TableLaws
-pub mod OutcomeLaws
-pub mod OneAnswerLaws
-pub mod TextOutcomeLaws
-pub mod RowsPromiseLaws

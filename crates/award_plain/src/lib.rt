@@ -5,8 +5,7 @@
 ghost use Rattle.std.specs.Prelude.{◌≡◌, ℕ, ◌≤◌, ◌<◌, length, get_or, eqb};
 ghost use Rattle.tender.specs.Limits.{max_entries};
 ghost use Rattle.cover.specs.Sets.{when};
-ghost use Rattle.cover.specs.Settled.{most_cents};
-ghost use Rattle.cover.specs.SettledLaws.{FilledTo};
+ghost use Rattle.cover.specs.Settled.{most_cents, FilledTo};
 ghost use Rattle.award_rule.specs.Sums.{cost_in, paid_in, house_in, totals_in};
 ghost use Rattle.award_rule.specs.Plain.{told_in, won_after, cents_after};
 

@@ -5,7 +5,7 @@ use Rattle.std.proofs.Math.ListN.{get_or-append}
 use Rattle.tender.specs.declared.AwardRow.{AwardRow}
 use Rattle.award_outcome.specs.Gain.{lost}
 use Rattle.award_rule.specs.Plain.{rows_in}
-use Rattle.cover.specs.SettledLaws.{length_listed, get_or_listed}
+use Rattle.cover.proofs.SettledLaws.{length_listed, get_or_listed}
 use Rattle.award_rows.specs.Rows.{award_row_at, rows_written}
 
 pub length_filled : (n : ℕ) (won cents : List ℕ) (rows : List AwardRow) → length (rows_written n won cents rows) ≡ length rows

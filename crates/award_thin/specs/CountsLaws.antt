@@ -7,8 +7,8 @@ use native.Mathlib.Omega.{arith}
 use Rattle.std.proofs.Math.Dec.{ltb, eqb}
 use borrow.Author.Tests.{ltb-true, ltb-false, lt-ltb, le-ltb, eqb-true, eqb-false, eq-eqb}
 use Rattle.cover.specs.Sets.{when, bidders}
-use Rattle.cover.specs.SetLaws.{when_one}
-use Rattle.cover.specs.SpareLaws.{another}
+use Rattle.cover.proofs.SetLaws.{when_one}
+use Rattle.cover.proofs.SpareLaws.{another}
 use Rattle.cover.specs.Intervals.{Order}
 
 bidders_fit : (has : ℕ → ℕ → Bool) (n x : ℕ) → bidders has n x ≤ n

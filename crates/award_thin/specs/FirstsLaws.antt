@@ -4,7 +4,7 @@ use Rattle.std.proofs.Common.{ap, ◌∙◌, arith}
 use borrow.Author.Tests.{ltb-true, ltb-false}
 use Rattle.cover.specs.Sets.{nothing, found, bidders}
 use Rattle.cover.specs.Earliest.{cell_with}
-use Rattle.cover.specs.EarliestLaws.{cell_is, cell_none}
+use Rattle.cover.proofs.EarliestLaws.{cell_is, cell_none}
 use Rattle.award_thin.specs.Thin.{fewer, FirstOf}
 
 pub one_more_before : (P : ℕ → Bool) (r : ℕ) → ((x : ℕ) → x < r → P x ≡ false) → P r ≡ false → (x : ℕ)

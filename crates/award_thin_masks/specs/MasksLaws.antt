@@ -8,8 +8,8 @@ use Rattle.std.proofs.Math.Seq.{get_or-take, get_or-drop}
 use Rattle.std.specs.Int.Bits.{bit_and, bit_or}
 use borrow.Author.Tests.{leb-true, leb-false, le-leb, lt-ltb, le-ltb, ltb-true, ltb-false, eqb-true, eqb-false}
 use Rattle.cells.specs.Cells.{bit_of, cell, Next}
-use Rattle.cells.specs.BitLaws.{bit_lt, zero_bit, and_bit, or_bit}
-use Rattle.cells.specs.StoreLaws.{lt_or_le, cell_lt, set_same, set_other}
+use Rattle.cells.proofs.BitLaws.{bit_lt, zero_bit, and_bit, or_bit}
+use Rattle.cells.proofs.StoreLaws.{lt_or_le, cell_lt, set_same, set_other}
 use Rattle.cover.specs.Sets.{when, bidders}
 use Rattle.multi_market.specs.Market.{word_row, has, First}
 use Rattle.award_thin.specs.Thin.{fewer, Reached, Gathered, FirstOf}

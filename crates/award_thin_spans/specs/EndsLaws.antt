@@ -6,7 +6,7 @@ use Rattle.std.proofs.Common.{sym, ap, ◌∙◌, ⊎_elim, add-one}
 use native.Mathlib.Omega.{arith}
 use Rattle.std.proofs.Math.ListN.{get_or}
 use borrow.Author.Tests.{lt-ltb, le-ltb, le-leb, lt-leb}
-use Rattle.cells.specs.StoreLaws.{lt_or_le}
+use Rattle.cells.proofs.StoreLaws.{lt_or_le}
 use Rattle.cover.specs.Sets.{when, bidders}
 use Rattle.cover.specs.Settled.{spans}
 use Rattle.cover.specs.Intervals.{Order}

@@ -6,7 +6,7 @@ use Rattle.std.proofs.lemmas.Nat.{ones-le}
 use Rattle.cells.specs.Cells.{total}
 use Rattle.cells_count.specs.Hops.{cells_to, counted_to, Counted}
 use Rattle.cells_count.specs.SumLaws.{total_ext}
-use Rattle.cells.specs.StoreLaws.{ne_or_eq}
+use Rattle.cells.proofs.StoreLaws.{ne_or_eq}
 
 abbrev at : List ℕ → ℕ → ℕ
 at xs q = get_or xs q 0

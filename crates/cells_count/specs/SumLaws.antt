@@ -6,7 +6,7 @@ use Rattle.std.specs.Int.Bits.{bit_and}
 use Rattle.std.proofs.lemmas.Nat.{and_le_l}
 use Rattle.std.specs.Int.Count.{ones, ones_step}
 use Rattle.cells.specs.Cells.{bit_of, cell, total, both}
-use Rattle.cells.specs.BitLaws.{bit_suc, and_bit}
+use Rattle.cells.proofs.BitLaws.{bit_suc, and_bit}
 
 pub total_ext : (f g : ℕ → ℕ) (n : ℕ) → ((i : ℕ) → i < n → f i ≡ g i) → total f n ≡ total g n
 unfolding total

@@ -6,10 +6,10 @@ use Rattle.std.proofs.lemmas.Nat.{and_mask}
 use Rattle.std.specs.Int.Count.{ones}
 use Rattle.cells.specs.Cells.{cell, total, both, whole}
 use Rattle.cells_count.specs.Hops.{Hops, cells_to, counted_to, Counted, Onward}
-use Rattle.cells.specs.BitLaws.{zero_bit}
+use Rattle.cells.proofs.BitLaws.{zero_bit}
 use Rattle.cells_count.specs.SumLaws.{word_more}
 use Rattle.cells_count.specs.CountsLaws.{cells_next, cells_grow}
-use Rattle.cells.specs.StoreLaws.{lt_or_le, Swept}
+use Rattle.cells.proofs.StoreLaws.{lt_or_le, Swept}
 
 abbrev at : List ℕ → ℕ → ℕ
 at xs q = get_or xs q 0

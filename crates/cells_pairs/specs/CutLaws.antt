@@ -10,9 +10,9 @@ use Rattle.std.specs.Int.Bits.{bit_and}
 use Rattle.std.proofs.lemmas.Nat.{and_le_l}
 use Rattle.std.specs.Int.Count.{ones, ones_step}
 use Rattle.cells.specs.Cells.{bit_of, cell, total, both, common}
-use Rattle.cells.specs.BitLaws.{and_bit, zero_bit}
-use Rattle.cells.specs.LowestLaws.{two}
-use Rattle.cells.specs.StoreLaws.{lt_or_le, cell_past}
+use Rattle.cells.proofs.BitLaws.{and_bit, zero_bit}
+use Rattle.cells.proofs.LowestLaws.{two}
+use Rattle.cells.proofs.StoreLaws.{lt_or_le, cell_past}
 use Rattle.cells_count.specs.Hops.{Onward}
 use Rattle.cells_count.specs.SumLaws.{total_add, word_more}
 use Rattle.cells_count.specs.WalkLaws.{bare_cells}

@@ -10,9 +10,9 @@ use Rattle.std.specs.Int.Count.{count_trailing_zeros}
 use borrow.Author.Tests.{eqb-true, eq-eqb, ne_eqb}
 use Rattle.cover.specs.Sets.{when}
 use Rattle.cells.specs.Cells.{bit_of, cell, whole}
-use Rattle.cells.specs.BitLaws.{bit_lt, clear_bit, zero_bit}
-use Rattle.cells.specs.LowestLaws.{two, lowest_set, past_bits}
-use Rattle.cells.specs.StoreLaws.{lt_or_le, ne_or_eq, cell_lt, set_same, set_other}
+use Rattle.cells.proofs.BitLaws.{bit_lt, clear_bit, zero_bit}
+use Rattle.cells.proofs.LowestLaws.{two, lowest_set, past_bits}
+use Rattle.cells.proofs.StoreLaws.{lt_or_le, ne_or_eq, cell_lt, set_same, set_other}
 use Rattle.cells_count.specs.Hops.{Counted}
 use Rattle.cells_count.specs.CountsLaws.{counting_from, counting_done}
 use Rattle.cells_pairs.specs.Pairs.{in_pair, in_pairs, Paired, Covering, Shut}

@@ -24,3 +24,9 @@ pub record Settled (due : ℕ → Type 0) (won : ℕ → Bool) (cents : ℕ → 
   pub small : (i : ℕ) → i < length ps → get_or new-cents i 0 ≤ most_cents
   pub sized : length new-cents ≡ length old_cents
   pub kept : (i : ℕ) → length ps ≤ i → get_or new-cents i 0 ≡ get_or old_cents i 0
+
+-- the cells below j have their values, and the others are as they were
+pub record FilledTo (f : ℕ → ℕ) (old new : List ℕ) (j : ℕ) : Type 0 where
+  pub sized : length new ≡ length old
+  pub values : (i : ℕ) → i < j → get_or new i 0 ≡ f i
+  pub kept : (i : ℕ) → j ≤ i → get_or new i 0 ≡ get_or old i 0

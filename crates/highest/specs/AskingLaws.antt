@@ -18,26 +18,26 @@ use Rattle.cover.specs.LeastCover.{winners}
 use Rattle.tender.specs.Tables.{bid_width}
 use Rattle.cover.specs.CriticalPrice.{largest, sum, limit}
 use Rattle.cover.specs.Settled.{spans}
-use Rattle.cover.specs.SpareLaws.{Spare}
+use Rattle.cover.specs.Spare.{Spare}
 use Rattle.cover.specs.Winning.{Below, one_less}
-use Rattle.cover.specs.Intervals.BidsLaws.{sum_most}
+use Rattle.cover.proofs.Intervals.BidsLaws.{sum_most}
 use Rattle.multi_market.specs.Market.{place_or, has}
 use Rattle.award_thin.specs.declared.Thin.{Thin}
 use Rattle.award_thin.specs.declared.Thin.TheVariants.{Nobody, Alone, Enough}
 use Rattle.award_check.specs.Faults.{fault_of}
 use Rattle.award_check.specs.Cells.{cells_of, minute_of}
 use Rattle.award_check.specs.Auction.{Auction, auction_of, at_price}
-use Rattle.award_check.specs.AuctionLaws.{cells_are, owner_spared}
-use Rattle.award_check.specs.AlikeLaws.{own_kind}
+use Rattle.award_check.proofs.AuctionLaws.{cells_are, owner_spared}
+use Rattle.award_check.proofs.AlikeLaws.{own_kind}
 use Rattle.award_laid.specs.Lay.{Tells}
 use Rattle.award_laid.specs.TellsLaws.{at_bare, at_lone}
 use Rattle.award_laid.specs.EntryLaws.{laid_prices}
 use Rattle.award_rule.specs.Award.{least_cost, greedy, rule, won}
-use Rattle.award_rule.specs.AwardLaws.{won_least}
+use Rattle.award_rule.proofs.AwardLaws.{won_least}
 use Rattle.highest_rule.specs.Highest.{row_with, price_for, highest_of}
-use Rattle.highest_rule.specs.HighestLaws.{wins_below}
-use Rattle.highest_rule.specs.RowLaws.{row_inside}
-use Rattle.highest_rule.specs.AnswerLaws.{eleven, twelve, seventeen, price, row_spared, row_entry, some_cell}
+use Rattle.highest_rule.proofs.HighestLaws.{wins_below}
+use Rattle.highest_rule.proofs.RowLaws.{row_inside}
+use Rattle.highest_rule.proofs.AnswerLaws.{eleven, twelve, seventeen, price, row_spared, row_entry, some_cell}
 use Rattle.highest.specs.Asking.{SpansAsked, MasksAsked}
 
 -- the row is looked for from the last on: the largest of all the rows with the number is the largest of those before i

@@ -1,4 +1,1 @@
 pub mod Highest
-pub mod HighestLaws
-pub mod RowLaws
-pub mod AnswerLaws

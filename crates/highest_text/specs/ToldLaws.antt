@@ -10,18 +10,18 @@ use Rattle.tender.specs.declared.Refusal.{Refusal}
 use Rattle.tender.specs.Keywords.{bytes}
 use Rattle.tender.specs.Tables.{flat_rows, flat_windows}
 use Rattle.reader_text.specs.Read.{ReadOutcome, accepted, refused, read_text}
-use Rattle.reader_text.specs.RulesLaws.{rules_law}
-use Rattle.reader_fill.specs.ReadInLaws.{ReadIn}
+use Rattle.reader_text.proofs.RulesLaws.{rules_law}
+use Rattle.reader_fill.proofs.ReadInLaws.{ReadIn}
 use Rattle.spelling.specs.Decimal.{decimal}
 use Rattle.spelling.specs.Lines.{pair_line, refused_line}
 use Rattle.spelling.specs.Written.{Written}
-use Rattle.spelling.specs.WritingLaws.{then}
-use Rattle.spelling.specs.LineLaws.{decimal_short, pair_short, pair_some, refused_short, refused_some}
+use Rattle.spelling.proofs.WritingLaws.{then}
+use Rattle.spelling.proofs.LineLaws.{decimal_short, pair_short, pair_some, refused_short, refused_some}
 use Rattle.spelling.specs.Delivered.{Delivered}
 use Rattle.award_check.specs.Faults.{fault_of}
-use Rattle.award_check.specs.TextLaws.{never_nine}
+use Rattle.award_check.proofs.TextLaws.{never_nine}
 use Rattle.highest_rule.specs.Highest.{highest_of}
-use Rattle.highest_rule.specs.AnswerLaws.{highest_read}
+use Rattle.highest_rule.proofs.AnswerLaws.{highest_read}
 use Rattle.highest_text.specs.Told.{highest_word, none_line, highest_line, highest_in, HighestTold}
 
 -- what was read

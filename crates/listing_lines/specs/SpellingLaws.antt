@@ -8,7 +8,7 @@ use Rattle.tender.specs.declared.Totals.{Totals}
 use Rattle.tender.specs.Keywords.{bytes}
 use Rattle.spelling.specs.Lines.{numbers, pair_line, one_line, kind_word}
 use Rattle.spelling.specs.Written.{Written}
-use Rattle.spelling.specs.WritingLaws.{then}
+use Rattle.spelling.proofs.WritingLaws.{then}
 use Rattle.listing_text.specs.Lines.{award_word, award_line, win_word, win_line, house_word, house_line, total_word, last_lines}
 
 pub award_written : {old m1 m2 new : List ℕ} {at e1 e2 f : ℕ} (t : Tender) → Written old at (bytes "(award ") m1 e1

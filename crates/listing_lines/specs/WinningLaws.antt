@@ -5,9 +5,9 @@ use native.Mathlib.Omega.{arith}
 use Rattle.tender.specs.Tables.{bid_width}
 use Rattle.listing_text.specs.Lines.{win_line, win_lines}
 use Rattle.spelling.specs.Written.{Written}
-use Rattle.spelling.specs.WritingLaws.{then}
-use Rattle.spelling.specs.SpellingLaws.{nothing_written}
-use Rattle.listing_text.specs.LineLaws.{win_short}
+use Rattle.spelling.proofs.WritingLaws.{then}
+use Rattle.spelling.proofs.SpellingLaws.{nothing_written}
+use Rattle.listing_text.proofs.LineLaws.{win_short}
 
 -- the lines of the first i bids are written
 pub record Winning (old : List ℕ) (at : ℕ) (bids won cents new : List ℕ) (end i : ℕ) : Type 0 where

@@ -1,6 +1,4 @@
 pub mod Lines
 pub mod List
-pub mod LineLaws
 pub mod Made
-pub mod ListLaws
 pub mod Cases

@@ -8,7 +8,7 @@ use Rattle.cover.specs.Sets.{cells}
 use Rattle.cover.specs.Greedy.{wins}
 use Rattle.cover.specs.CriticalPrice.{rounds_paid}
 use Rattle.cover.specs.Settled.{Settled}
-use Rattle.cover.specs.SpareLaws.{Spare}
+use Rattle.cover.specs.Spare.{Spare}
 use Rattle.multi_market.specs.Market.{Market}
 use Rattle.multi_pay.specs.Paying.{Paid}
 

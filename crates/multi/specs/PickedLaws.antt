@@ -7,13 +7,13 @@ use Rattle.cover.specs.Sets.{cells}
 use Rattle.cover.specs.Greedy.{bids}
 use Rattle.multi_keys.specs.Keys.{at, out}
 use Rattle.multi_keys.specs.Tree.{leaves}
-use Rattle.multi_keys.specs.TreeLaws.{leaf_at, leaves_set, length_leaves}
+use Rattle.multi_keys.proofs.TreeLaws.{leaf_at, leaves_set, length_leaves}
 use Rattle.multi_market.specs.Market.{Priced, First}
 use Rattle.multi_market.specs.Opens.{open_of}
-use Rattle.multi_market.specs.OpensLaws.{two_way}
-use Rattle.multi_market.specs.BeginLaws.{open_first}
+use Rattle.multi_market.proofs.OpensLaws.{two_way}
+use Rattle.multi_market.proofs.BeginLaws.{open_first}
 use Rattle.multi_market.specs.Seats.{key_in, key_at, Seat, Seats, Entered}
-use Rattle.multi_market.specs.KeyedLaws.{zero_or}
+use Rattle.multi_market.proofs.KeyedLaws.{zero_or}
 use Rattle.multi_rounds.specs.TracingLaws.{seats_of}
 use Rattle.multi_pay.specs.Paying.{Listed}
 use Rattle.multi.specs.Picked.{Picked}

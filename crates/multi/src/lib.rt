@@ -7,7 +7,7 @@ ghost use Rattle.cover.specs.Sets.{cells};
 ghost use Rattle.cover.specs.Greedy.{wins};
 ghost use Rattle.cover.specs.CriticalPrice.{rounds_paid};
 ghost use Rattle.cover.specs.Settled.{Settled};
-ghost use Rattle.cover.specs.SpareLaws.{Spare};
+ghost use Rattle.cover.specs.Spare.{Spare};
 ghost use Rattle.multi_keys.specs.Tree.{leaves, Tree};
 ghost use Rattle.multi_market.specs.Market.{has, Market, Hopping, First};
 ghost use Rattle.multi_rounds.specs.Trace.{Trace};

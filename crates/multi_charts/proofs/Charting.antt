@@ -12,10 +12,10 @@ use lib.Dec.{eqb}
 use borrow.Author.Tests.{eqb-true, eqb-false}
 use Rattle.cells.specs.Cells.{whole}
 use Rattle.cells_count.specs.Hops.{Hops}
-use Rattle.cells.specs.StoreLaws.{lt_or_le}
+use Rattle.cells.proofs.StoreLaws.{lt_or_le}
 use Rattle.multi_keys.specs.Keys.{at}
 use Rattle.multi_market.specs.Market.{word_row, Market, Hopping}
-use Rattle.multi_market.specs.WordRowLaws.{row_length, row_in, row_at}
+use Rattle.multi_market.proofs.WordRowLaws.{row_length, row_in, row_at}
 use Rattle.multi_charts.specs.Charts.{Backed, Charted}
 
 -- the words of bid i from q on have their hops; up to `gap` they have no cell

@@ -6,15 +6,15 @@ use Rattle.std.proofs.Math.Nat.{zero-div}
 use Rattle.std.specs.Int.Bits.{bit_and, and_zero_l, and_zero_r}
 use Rattle.cover.specs.Greedy.{reach}
 use Rattle.cells.specs.Cells.{cell, bit_of, RangeAdded}
-use Rattle.cells.specs.BitLaws.{and_bit}
-use Rattle.cells.specs.StoreLaws.{lt_or_le}
+use Rattle.cells.proofs.BitLaws.{and_bit}
+use Rattle.cells.proofs.StoreLaws.{lt_or_le}
 use Rattle.cells_pairs.specs.Pairs.{in_pair, in_pairs}
 use Rattle.cells_pairs.specs.PairLaws.{pair_word, pair_bit, pairs_none, pairs_more}
 use Rattle.multi_keys.specs.Keys.{at, key_of}
 use Rattle.multi_market.specs.Market.{word_row, has}
 use Rattle.multi_market.specs.Seats.{key_at}
 use Rattle.multi_market.specs.Opens.{open_of}
-use Rattle.multi_market.specs.KeyedLaws.{zero_or, key_at_lem}
+use Rattle.multi_market.proofs.KeyedLaws.{zero_or, key_at_lem}
 use Rattle.multi_index.specs.Index.{bid_at, next_at, mask_at, Lists, Chained, Indexed}
 use Rattle.multi_index.specs.IndexLaws.{chain_step, chain_end}
 use Rattle.multi_gain.specs.Gain.{Spread, Gained}

@@ -8,18 +8,18 @@ use Rattle.std.proofs.lemmas.List.{length-replicate}
 use Rattle.tender.specs.Limits.{max_entries}
 use Rattle.cover.specs.Sets.{cells, Found, nothing, found}
 use Rattle.cover.specs.Greedy.{Entry, reach, close, Rounds, best, bids}
-use Rattle.cover.specs.GreedyLaws.{rounds, Rightly, best_right, withdrawn_other, withdrawn_reach, close_own, close_other, shrink}
+use Rattle.cover.proofs.GreedyLaws.{rounds, Rightly, best_right, withdrawn_other, withdrawn_reach, close_own, close_other, shrink}
 use Rattle.cover.specs.CriticalPrice.{mute, withdrawn, share, bar, limit}
 use Rattle.cells_pairs.specs.Pairs.{Shut}
 use Rattle.multi_keys.specs.Keys.{at, out, last}
-use Rattle.multi_keys.specs.KeyLaws.{key_none}
-use Rattle.multi_keys.specs.TreeLaws.{set_at}
+use Rattle.multi_keys.proofs.KeyLaws.{key_none}
+use Rattle.multi_keys.proofs.TreeLaws.{set_at}
 use Rattle.multi_market.specs.Market.{Priced, Market, First}
 use Rattle.multi_market.specs.Opens.{open_of}
 use Rattle.multi_market.specs.Seats.{key_in, key_at, Seat, Leader, Fronted, Entered}
-use Rattle.multi_market.specs.BeginLaws.{open_first}
-use Rattle.multi_market.specs.KeyedLaws.{key_at_lem, least_taken, none_reached}
-use Rattle.multi_market.specs.RunLaws.{rounds_of, rounds_stop, rounds_more}
+use Rattle.multi_market.proofs.BeginLaws.{open_first}
+use Rattle.multi_market.proofs.KeyedLaws.{key_at_lem, least_taken, none_reached}
+use Rattle.multi_market.proofs.RunLaws.{rounds_of, rounds_stop, rounds_more}
 use Rattle.multi_rounds.specs.ShutLaws.{shut_open}
 use Rattle.multi_rounds.specs.TracingLaws.{seats_of}
 use Rattle.multi_limit.specs.Follow.{raised_to, bar_from, Took}

@@ -9,11 +9,11 @@ use native.Mathlib.Omega.{arith}
 use lib.ListN.{length, set, length-set}
 use lib.Seq.{get_or-set_same, get_or-set_other}
 use Rattle.cells.specs.Cells.{cell, RangeAdded, whole}
-use Rattle.cells.specs.StoreLaws.{lt_or_le, ne_or_eq}
+use Rattle.cells.proofs.StoreLaws.{lt_or_le, ne_or_eq}
 use Rattle.cells_count.specs.Hops.{Hops, Onward}
 use Rattle.multi_keys.specs.Keys.{at}
 use Rattle.multi_market.specs.Market.{word_row}
-use Rattle.multi_market.specs.WordRowLaws.{row_length, row_at}
+use Rattle.multi_market.proofs.WordRowLaws.{row_length, row_at}
 use Rattle.multi_index.specs.Index.{next_at, Lists, Chained, Indexed}
 use Rattle.multi_index.specs.Enlisted.{Pushed, Kept, Enlisted, Wide, SaysWide}
 use Rattle.multi_index.specs.Enlisted.Wide.{here, later}

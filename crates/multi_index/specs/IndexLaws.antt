@@ -1,7 +1,7 @@
 -- Chains of nodes: how they are walked, and what a node put in front of one does to all of them. Assumes nothing.
 use Rattle.std.specs.Prelude.{◌≡◌, refl, ◌⊎◌, List, ℕ, zero, suc, ◌+◌, ◌*◌, ◌/◌, ◌%◌, ◌≤◌, ◌<◌, length, set}
 use Rattle.std.proofs.Common.{ap, ◌∙◌, inl, inr, ⊎_elim, arith, length-set, get_or-set_same, get_or-set_other}
-use Rattle.cells.specs.StoreLaws.{lt_or_le, ne_or_eq}
+use Rattle.cells.proofs.StoreLaws.{lt_or_le, ne_or_eq}
 use Rattle.multi_keys.specs.Keys.{at}
 use Rattle.multi_index.specs.Index.{bid_at, next_at, mask_at, Lists, Chained}
 use Rattle.multi_index.specs.Enlisted.{Pushed, Kept}

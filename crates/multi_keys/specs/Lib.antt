@@ -1,4 +1,2 @@
 pub mod Keys
 pub mod Tree
-pub mod KeyLaws
-pub mod TreeLaws

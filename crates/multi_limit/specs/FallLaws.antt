@@ -4,14 +4,14 @@ use Rattle.std.specs.Prelude.{◌≡◌, refl, Bool, true, false, ◌&&◌, List
 use Rattle.std.proofs.Common.{sym, ap, ap₂, ◌∙◌, mul-le-mul_left, arith, ltb-true, ltb-false, lt-ltb, le-leb, leb-true, eqb-true}
 use Rattle.std.proofs.lemmas.Bool.{eqb-false}
 use Rattle.cover.specs.Sets.{when, found}
-use Rattle.cover.specs.SetLaws.{and_split}
+use Rattle.cover.proofs.SetLaws.{and_split}
 use Rattle.cover.specs.Greedy.{Entry, reach, keep, close, Rounds, best}
-use Rattle.cover.specs.GreedyLaws.{best_right, close_other}
+use Rattle.cover.proofs.GreedyLaws.{best_right, close_other}
 use Rattle.cover.specs.CriticalPrice.{late, share, bar}
-use Rattle.cover.specs.BarLaws.{share_right}
-use Rattle.cover.specs.PickLaws.{Best, late_no, late_yes, late_most, chain, chain_lt}
+use Rattle.cover.proofs.BarLaws.{share_right}
+use Rattle.cover.proofs.PickLaws.{Best, late_no, late_yes, late_most, chain, chain_lt}
 use Rattle.multi_market.specs.Opens.{opens}
-use Rattle.multi_market.specs.RunLaws.{rounds_of, rounds_more}
+use Rattle.multi_market.proofs.RunLaws.{rounds_of, rounds_more}
 
 -- a/b ≤ c/d < e/f
 chain_le_lt : (a b c d e f : ℕ) → 0 < b → a * d ≤ c * b → c * f < e * d → a * f < e * b

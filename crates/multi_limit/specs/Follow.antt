@@ -3,7 +3,7 @@ use Rattle.std.specs.Prelude.{◌≡◌, Bool, true, false, ◌&&◌, ◌⊎◌,
 use Rattle.cover.specs.Sets.{when}
 use Rattle.cover.specs.Greedy.{run, reach, bids}
 use Rattle.cover.specs.CriticalPrice.{late, withdrawn, bar}
-use Rattle.cover.specs.SpareLaws.{Another}
+use Rattle.cover.specs.Spare.{Another}
 use Rattle.cells.specs.Cells.{cell}
 use Rattle.cells_pairs.specs.Pairs.{in_pairs, Unheld, Shut}
 use Rattle.multi_keys.specs.Keys.{at, out}

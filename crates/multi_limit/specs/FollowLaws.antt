@@ -8,21 +8,21 @@ use Prim.Native.Nat.{ℕ, zero, suc, ◌+◌, ◌-◌, ◌*◌, ◌%◌, ◌≤�
 use Rattle.std.proofs.Math.ListN.{length}
 use Rattle.std.proofs.lemmas.Bool.{eqb-false}
 use Rattle.cover.specs.Sets.{when, Found, nothing, found}
-use Rattle.cover.specs.SetLaws.{and_split}
+use Rattle.cover.proofs.SetLaws.{and_split}
 use Rattle.cover.specs.Greedy.{Entry, reach, close, Rounds, best, bids}
-use Rattle.cover.specs.GreedyLaws.{Rightly, best_right, withdrawn_other, withdrawn_reach, close_own, shrink}
+use Rattle.cover.proofs.GreedyLaws.{Rightly, best_right, withdrawn_other, withdrawn_reach, close_own, shrink}
 use Rattle.cover.specs.CriticalPrice.{withdrawn, share, bar}
-use Rattle.cover.specs.SpareLaws.{Another}
+use Rattle.cover.specs.Spare.{Another}
 use Rattle.cells.specs.Cells.{cell}
 use Rattle.cells_pairs.specs.Pairs.{in_pairs, Paired, Shut}
 use Rattle.multi_keys.specs.Keys.{at, out, last}
-use Rattle.multi_keys.specs.KeyLaws.{key_low}
+use Rattle.multi_keys.proofs.KeyLaws.{key_low}
 use Rattle.multi_market.specs.Market.{Priced}
 use Rattle.multi_market.specs.Opens.{opens, open_of}
-use Rattle.multi_market.specs.OpensLaws.{two_way, reach_alike, reach_less}
+use Rattle.multi_market.proofs.OpensLaws.{two_way, reach_alike, reach_less}
 use Rattle.multi_market.specs.Seats.{key_in, key_at, Leader, Fronted}
-use Rattle.multi_market.specs.KeyedLaws.{zero_or, key_at_lem, opens_most, none_reached}
-use Rattle.multi_market.specs.RunLaws.{rounds_of, rounds_stop, rounds_more}
+use Rattle.multi_market.proofs.KeyedLaws.{zero_or, key_at_lem, opens_most, none_reached}
+use Rattle.multi_market.proofs.RunLaws.{rounds_of, rounds_stop, rounds_more}
 use Rattle.multi_rounds.specs.Trace.{key_on, bid_on, gain_on, tape_on, before, open_on, Round, Trace}
 use Rattle.multi_rounds.specs.ShutLaws.{shut_open}
 use Rattle.multi_rounds.specs.TracingLaws.{round_best, round_least}

@@ -6,14 +6,14 @@ use Rattle.std.proofs.lemmas.Bool.{false≢true, eqb-false}
 use Rattle.std.proofs.Math.ListN.{length}
 use Rattle.cover.specs.Greedy.{reach}
 use Rattle.cells.specs.Cells.{cell, RangeAdded}
-use Rattle.cells.specs.StoreLaws.{lt_or_le}
+use Rattle.cells.proofs.StoreLaws.{lt_or_le}
 use Rattle.cells_pairs.specs.Pairs.{in_pairs}
 use Rattle.multi_keys.specs.Keys.{at}
 use Rattle.multi_market.specs.Market.{Priced}
 use Rattle.multi_market.specs.Opens.{open_of}
-use Rattle.multi_market.specs.OpensLaws.{opens_same}
+use Rattle.multi_market.proofs.OpensLaws.{opens_same}
 use Rattle.multi_market.specs.Seats.{key_at}
-use Rattle.multi_market.specs.KeyedLaws.{zero_or}
+use Rattle.multi_market.proofs.KeyedLaws.{zero_or}
 use Rattle.multi_rounds.specs.Trace.{bid_on, gain_on, tape_on, before, Round}
 use Rattle.multi_gain.specs.Gain.{Gained}
 use Rattle.multi_limit.specs.Follow.{Strayed, Following, Beginning}

@@ -5,7 +5,7 @@ use Rattle.std.proofs.Math.Nat.{div-le_self}
 use Rattle.std.proofs.Common.{mul-le-mul}
 use native.Mathlib.Omega.{arith}
 use borrow.Author.Tests.{lt-ltb, le-leb}
-use Rattle.cover.specs.PickLaws.{late_no, late_yes}
+use Rattle.cover.proofs.PickLaws.{late_no, late_yes}
 use Rattle.multi_limit.specs.Follow.{raised_to, Raised}
 
 -- a price for each of at most 10,112 cells

@@ -3,14 +3,14 @@ use Rattle.std.specs.Prelude.{◌≡◌, refl, ◌⊎◌, Bool, true, false, Lis
 use Rattle.std.proofs.Common.{sym, ◌∙◌, inl, inr, ⊎_elim, arith}
 use Rattle.std.proofs.lemmas.Bool.{false≢true}
 use Rattle.cover.specs.Greedy.{Entry, reach}
-use Rattle.cover.specs.GreedyLaws.{rounds, close_other}
+use Rattle.cover.proofs.GreedyLaws.{rounds, close_other}
 use Rattle.cover.specs.CriticalPrice.{share, bar}
 use Rattle.cells.specs.Cells.{cell}
 use Rattle.multi_keys.specs.Keys.{at, last}
 use Rattle.multi_market.specs.Market.{Priced}
 use Rattle.multi_market.specs.Opens.{open_of}
 use Rattle.multi_market.specs.Seats.{Fronted}
-use Rattle.multi_market.specs.RunLaws.{rounds_of}
+use Rattle.multi_market.proofs.RunLaws.{rounds_of}
 use Rattle.multi_rounds.specs.Trace.{key_on}
 use Rattle.multi_limit.specs.Follow.{bar_from, Following, SameBar, Gone, Took, Stepped, Limited}
 use Rattle.multi_limit.specs.StrayLaws.{others}

@@ -8,7 +8,7 @@ use Rattle.cells_pairs.specs.Pairs.{in_pairs, Shut}
 use Rattle.multi_keys.specs.Keys.{at, last}
 use Rattle.multi_market.specs.Market.{Priced}
 use Rattle.multi_market.specs.Opens.{opens, open_of}
-use Rattle.multi_market.specs.OpensLaws.{two_way}
+use Rattle.multi_market.proofs.OpensLaws.{two_way}
 use Rattle.multi_rounds.specs.Trace.{key_on, bid_on, tape_on, Round}
 use Rattle.multi_gain.specs.Gain.{Gained}
 use Rattle.multi_limit.specs.Follow.{Following, SameBar, Gone}

@@ -1,1 +1,4 @@
 pub mod Copying
+pub mod PrefixLaws
+pub mod WinnersLaws
+pub mod AlongLaws

@@ -1,4 +1,1 @@
 pub mod Paying
-pub mod PrefixLaws
-pub mod WinnersLaws
-pub mod AlongLaws

@@ -4,7 +4,7 @@ use Rattle.cover.specs.Sets.{when, cells}
 use Rattle.cover.specs.Greedy.{wins}
 use Rattle.cover.specs.CriticalPrice.{limit, rounds_paid}
 use Rattle.cover.specs.Settled.{listed, most_cents}
-use Rattle.cover.specs.SpareLaws.{Spare}
+use Rattle.cover.specs.Spare.{Spare}
 use Rattle.cells.specs.Cells.{cell}
 use Rattle.cells_pairs.specs.Pairs.{Shut}
 use Rattle.multi_keys.specs.Keys.{at, out}

@@ -5,10 +5,10 @@ use Rattle.std.proofs.lemmas.Bool.{eqb-false}
 use Rattle.cover.specs.Greedy.{reach}
 use Rattle.multi_keys.specs.Keys.{at, out, key_of}
 use Rattle.multi_keys.specs.Tree.{leaves}
-use Rattle.multi_keys.specs.TreeLaws.{length_leaves, leaves_set}
+use Rattle.multi_keys.proofs.TreeLaws.{length_leaves, leaves_set}
 use Rattle.multi_market.specs.Opens.{open_of}
 use Rattle.multi_market.specs.Seats.{key_at, Entered}
-use Rattle.multi_market.specs.KeyedLaws.{key_at_lem}
+use Rattle.multi_market.proofs.KeyedLaws.{key_at_lem}
 
 -- what stands at leaf j: the key of bid j, and past the last bid out
 pub record Leaf (has : ℕ → ℕ → Bool) (ps held : List ℕ) (j y : ℕ) : Type 0 where

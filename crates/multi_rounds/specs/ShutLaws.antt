@@ -7,7 +7,7 @@ use Rattle.cells.specs.Cells.{cell, Closed}
 use Rattle.cells_pairs.specs.Pairs.{Shut}
 use Rattle.multi_market.specs.Market.{word_row, has}
 use Rattle.multi_market.specs.Opens.{opens, open_of}
-use Rattle.multi_market.specs.OpensLaws.{two_way, close_step}
+use Rattle.multi_market.proofs.OpensLaws.{two_way, close_step}
 
 pub one_when : (t : Bool) → eqb (when t 1) 1 ≡ t
 one_when true = refl

@@ -9,20 +9,20 @@ use Rattle.cells.specs.Cells.{cell}
 use Rattle.cells_pairs.specs.Pairs.{in_pairs, Paired, Cut, Shut}
 use Rattle.cells_pairs.specs.PairLaws.{pairs_same, paired_same}
 use Rattle.cover.specs.Greedy.{Entry, reach, close, best, bids}
-use Rattle.cover.specs.GreedyLaws.{best_right, shrink, close_own, close_other}
-use Rattle.cover.specs.PickLaws.{Best}
+use Rattle.cover.proofs.GreedyLaws.{best_right, shrink, close_own, close_other}
+use Rattle.cover.proofs.PickLaws.{Best}
 use Rattle.cover.specs.Sets.{when, found}
 use Rattle.multi_keys.specs.Keys.{at, out, last, key_of}
-use Rattle.multi_keys.specs.KeyLaws.{key_none, key_bid, key_rises}
-use Rattle.multi_keys.specs.TreeLaws.{set_at}
+use Rattle.multi_keys.proofs.KeyLaws.{key_none, key_bid, key_rises}
+use Rattle.multi_keys.proofs.TreeLaws.{set_at}
 use Rattle.multi_market.specs.Market.{word_row, has, Market, Priced, First}
 use Rattle.multi_market.specs.Opens.{opens, open_of}
-use Rattle.multi_market.specs.OpensLaws.{length_cells, opens_same}
-use Rattle.multi_market.specs.BeginLaws.{open_first}
+use Rattle.multi_market.proofs.OpensLaws.{length_cells, opens_same}
+use Rattle.multi_market.proofs.BeginLaws.{open_first}
 use Rattle.multi_market.specs.Seats.{key_in, key_at, Seat, Seats, Leader, Fronted, Entered}
 use Rattle.multi_rounds.specs.Trace.{key_on, bid_on, gain_on, tape_on, before, open_on, Round, Trace}
 use Rattle.multi_rounds.specs.ShutLaws.{shut_open, shut_set}
-use Rattle.multi_market.specs.KeyedLaws.{zero_or, key_at_lem, opens_most, least_taken, taken_least, none_reached}
+use Rattle.multi_market.proofs.KeyedLaws.{zero_or, key_at_lem, opens_most, least_taken, taken_least, none_reached}
 
 -- what stands before round r turns on the keys before it
 pub before_same : (has : ℕ → ℕ → Bool) (n : ℕ) (run new : List ℕ) (g : ℕ)

@@ -16,7 +16,7 @@ use Rattle.cells.specs.Cells.{cell, RangeAdded}
 use Rattle.reader_parts.specs.Words.{among}
 use Rattle.reader_forms.specs.Line.{BidLine, Line, tender, bid, reserve}
 use Rattle.reader_text.specs.Read.{ReadOutcome, refused, rows_from, all_windows, bids_of, bid_fault_after, bid_fault, judged_by, checked}
-use Rattle.reader_text.specs.RulesLaws.{faultless_after}
+use Rattle.reader_text.proofs.RulesLaws.{faultless_after}
 use Rattle.reader_bids.specs.Steps.{BidTaken, Judged, Taken, TablesHold}
 use Rattle.reader_bids.specs.declared.Step.{Step}
 use Rattle.reader_bids.specs.declared.Step.TheVariants as step

@@ -6,7 +6,7 @@ use Rattle.tender.specs.declared.Tender.{Tender}
 use Rattle.tender.specs.declared.Refusal.TheVariants.{OutsideLimits, TooMany, EmptyWindow, BidderRepeated, SeveralWindows}
 use Rattle.tender.specs.declared.Refusal.TheVariants.{LateWindow}
 use Rattle.tender.specs.Limits.{within, is_single}
-use Rattle.reader_parts.specs.CutLaws.{neither}
+use Rattle.reader_parts.proofs.CutLaws.{neither}
 use Rattle.reader_text.specs.Read.{line_fault, bid_fault_in}
 
 module _ (t : Tender) (bids bidder price count : ℕ) (empty late used : Bool) where

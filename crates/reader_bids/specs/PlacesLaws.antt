@@ -8,8 +8,8 @@ use Rattle.reader_parts.specs.Words.{cut}
 use Rattle.reader_parts.specs.Scan.{to_next, Ended}
 use Rattle.reader_forms.specs.Line.{BidLine, Line, bid, line_of, lines_of}
 use Rattle.reader_forms.specs.LineFront.{first_line}
-use Rattle.reader_forms.specs.SizeLaws.{line_long}
-use Rattle.reader_forms.specs.EndedLaws.{ended_in, lines_on}
+use Rattle.reader_forms.proofs.SizeLaws.{line_long}
+use Rattle.reader_forms.proofs.EndedLaws.{ended_in, lines_on}
 use Rattle.reader_text.specs.Read.{ReadOutcome, refused, checked}
 use Rattle.reader_bids.specs.Steps.{Taken}
 use Rattle.reader_bids.specs.FillsLaws.{Walk, taken_bid, goes, stops}

@@ -14,7 +14,7 @@ use Rattle.tender.specs.declared.Refusal.{Refusal}
 use Rattle.tender.specs.declared.Refusal.TheVariants.{BadForm, ReserveMisplaced}
 use Rattle.tender.specs.Tables.{bid_width}
 use Rattle.reader_text.specs.Read.{bid_fault_in, bid_fault_after}
-use Rattle.reader_text.specs.FaultLaws.{flaw_told}
+use Rattle.reader_text.proofs.FaultLaws.{flaw_told}
 use Rattle.reader_bids.specs.Steps.{row_numbers, fault_at, Judged, Taken}
 use Rattle.reader_bids.specs.declared.Step.{Step}
 use Rattle.reader_bids.specs.declared.Step.TheVariants as step

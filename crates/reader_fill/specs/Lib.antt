@@ -1,9 +1,3 @@
 pub mod Answer
 pub mod Opened
 pub mod Rest
-pub mod RestLaws
-pub mod NextLaws
-pub mod FirstLaws
-pub mod LinesReadLaws
-pub mod FillLaws
-pub mod ReadInLaws

@@ -2,12 +2,3 @@ pub mod Line
 pub mod LinePlain
 pub mod Tally
 pub mod LineFront
-pub mod PiecesLaws
-pub mod EndedLaws
-pub mod LinePlainLaws
-pub mod SizeLaws
-pub mod WithoutLaws
-pub mod WindowsFrontLaws
-pub mod HeadFrontLaws
-pub mod LineFrontLaws
-pub mod EndingLaws

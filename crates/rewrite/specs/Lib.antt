@@ -1,2 +1,1 @@
 pub mod Rewritten
-pub mod DeliverLaws

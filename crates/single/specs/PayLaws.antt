@@ -5,10 +5,10 @@ use Rattle.std.proofs.lemmas.Bool.{eqb-false}
 use Rattle.cover.specs.Sets.{when, value_of, bit, cost, covers}
 use Rattle.cover.specs.LeastCover.{winners, payment, vcg_paid}
 use Rattle.cover.specs.CriticalPrice.{sum}
-use Rattle.cover.specs.Settled.{spans, Settled}
-use Rattle.cover.specs.SettledLaws.{FilledTo, listed_at}
+use Rattle.cover.specs.Settled.{spans, Settled, FilledTo}
+use Rattle.cover.proofs.SettledLaws.{listed_at}
 use Rattle.cover.specs.Intervals.Bids.{Bids, cost_without}
-use Rattle.cover.specs.Intervals.BidsLaws.{paid_of, without_most}
+use Rattle.cover.proofs.Intervals.BidsLaws.{paid_of, without_most}
 use Rattle.single_select.specs.Weighing.{Selected}
 use Rattle.single_costs.specs.Across.{most_sum}
 use Rattle.single.specs.Pay.{winners_of, vcg_paid_of}

@@ -4,16 +4,16 @@ use Rattle.std.proofs.Common.{sym, ap, ◌∙◌, true≢false, arith, length-se
 use borrow.Author.Tests.{lt-ltb, le-ltb, le-leb, lt-leb, eqb-true, eqb-false, eq-eqb, ne_eqb}
 use Rattle.cover.specs.Sets.{Found, nothing, found, value_of, bit, cost, covers}
 use Rattle.cover.specs.LeastCover.{winners}
-use Rattle.cover.specs.LeastCoverLaws.{IsFirst}
+use Rattle.cover.proofs.LeastCoverLaws.{IsFirst}
 use Rattle.cover.specs.CriticalPrice.{sum}
 use Rattle.cover.specs.Settled.{spans}
 use Rattle.cover.specs.Intervals.{scan_cost, lesser_cost, reaches, raise, across, found_cost, least_set, At, covers_from}
-use Rattle.cover.specs.Intervals.ScanLaws.{none_found, found_one}
-use Rattle.cover.specs.Intervals.PrefixLaws.{lacks, least_set_right}
-use Rattle.cover.specs.Intervals.CoverLaws.{priced, bit_none}
-use Rattle.cover.specs.Intervals.Bids.{any_bid, Bids, covers_below, least_below, cost_without, end_cost, cost_after}
-use Rattle.cover.specs.Intervals.BidsLaws.{prefixes, winners_of_lem, cost_most, without_past, without_none, fits_without, scan_across, near}
-use Rattle.cover.specs.Intervals.MirrorLaws.{Mirrored, mirrored_cost}
+use Rattle.cover.proofs.Intervals.ScanLaws.{none_found, found_one}
+use Rattle.cover.proofs.Intervals.PrefixLaws.{lacks, least_set_right}
+use Rattle.cover.proofs.Intervals.CoverLaws.{priced, bit_none}
+use Rattle.cover.specs.Intervals.Bids.{any_bid, Bids, covers_below, least_below, cost_without, end_cost, cost_after, Mirrored}
+use Rattle.cover.proofs.Intervals.BidsLaws.{prefixes, winners_of_lem, cost_most, without_past, without_none, fits_without, scan_across, near}
+use Rattle.cover.proofs.Intervals.MirrorLaws.{mirrored_cost}
 use Rattle.single_lead.specs.Costs.{no_cost, cost_in}
 use Rattle.single_lead.specs.CostsLaws.{cost_found, cost_least}
 use Rattle.single_lead.specs.Live.{On, counted, Live}

@@ -8,8 +8,7 @@ ghost use Rattle.std.specs.Prelude.{◌≡◌, ℕ, ◌+◌, ◌-◌, ◌<◌, �
 ghost use Rattle.tender.specs.Limits.{max_entries};
 ghost use Rattle.cover.specs.Sets.{value_of};
 ghost use Rattle.cover.specs.CriticalPrice.{sum};
-ghost use Rattle.cover.specs.Intervals.Bids.{Bids, cost_without};
-ghost use Rattle.cover.specs.Intervals.MirrorLaws.{Mirrored};
+ghost use Rattle.cover.specs.Intervals.Bids.{Bids, cost_without, Mirrored};
 ghost use Rattle.single_lead.specs.Costs.{cost_in};
 ghost use Rattle.single_costs.specs.Across.{most_sum, joined_cost, less_of, least_across, Before, After, Waiting, BegunAt};
 

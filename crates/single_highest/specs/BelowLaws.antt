@@ -1,5 +1,6 @@
 -- The price below which a bid would win, from how it fares at the price 0 and at what it is then paid: at the price 0 it loses, and
 -- no price wins; or it is paid its threshold c, and the prices below c win, and c where the selection at c has it. Assumes nothing.
+use Rattle.cover.specs.Spare.{Spare}
 use Rattle.std.specs.Prelude.{◌≡◌, refl, Bool, true, false, List, [], ◌∷◌, ◌++◌, ℕ, zero, suc, ◌+◌, ◌≤◌, ◌<◌, length, get_or, set, drop}
 use Rattle.std.proofs.Common.{sym, ap, ◌∙◌, arith, length-set, set-set}
 use Rattle.tender.specs.Limits.{max_entries}
@@ -7,10 +8,10 @@ use Rattle.cover.specs.Sets.{when, bit, covers}
 use Rattle.cover.specs.LeastCover.{winners, vcg_paid}
 use Rattle.cover.specs.CriticalPrice.{sum}
 use Rattle.cover.specs.Settled.{spans, listed, Settled}
-use Rattle.cover.specs.SettledLaws.{listed_at}
-use Rattle.cover.specs.SpareLaws.{Spare, others, others_below, spare_set}
+use Rattle.cover.proofs.SettledLaws.{listed_at}
+use Rattle.cover.proofs.SpareLaws.{others, others_below, spare_set}
 use Rattle.cover.specs.Winning.{Below}
-use Rattle.cover.specs.WinningLaws.{never_wins, wins_up_to, free_pays, threshold_most}
+use Rattle.cover.proofs.WinningLaws.{never_wins, wins_up_to, free_pays, threshold_most}
 use Rattle.cover.specs.Intervals.{Order}
 use Rattle.single_select.specs.Weighing.{Selected}
 use Rattle.single_costs.specs.Across.{most_sum}

@@ -9,7 +9,7 @@ ghost use Rattle.cover.specs.Sets.{when, bit, covers};
 ghost use Rattle.cover.specs.LeastCover.{winners, vcg_paid};
 ghost use Rattle.cover.specs.CriticalPrice.{sum};
 ghost use Rattle.cover.specs.Settled.{spans, most_cents};
-ghost use Rattle.cover.specs.SpareLaws.{Spare};
+ghost use Rattle.cover.specs.Spare.{Spare};
 ghost use Rattle.cover.specs.Winning.{Below};
 ghost use Rattle.cover.specs.Intervals.{Order};
 ghost use Rattle.single_highest.specs.Runnable.{Runnable};

@@ -9,7 +9,7 @@ use native.Mathlib.Omega.{arith}
 use Rattle.std.proofs.Math.Dec.{ltb}
 use borrow.Author.Tests.{ltb-true, leb-true, eqb-true, eqb-false, eq-eqb, ne_eqb}
 use Rattle.cover.specs.Sets.{Found}
-use Rattle.cover.specs.SetLaws.{and_split}
+use Rattle.cover.proofs.SetLaws.{and_split}
 use Rattle.cover.specs.Intervals.{scan, scan_cost, reaches, found_cost, lesser, lesser_cost}
 use Rattle.single_lead.specs.Costs.{no_cost, cost_in}
 use Rattle.single_lead.specs.Rows.{set_in, weigh, weight, Honest, is_before, prefer, reached}

@@ -6,7 +6,7 @@ use Rattle.std.proofs.Math.Bool.{true, false, cond}
 use borrow.Author.Tests.{eqb-true, eqb-false, lt-ltb, le-ltb, le-leb, lt-leb, eq-eqb, ne_eqb}
 use Rattle.cover.specs.Sets.{Found, nothing, found}
 use Rattle.cover.specs.Intervals.{found_cost, lesser, lesser_cost, earlier}
-use Rattle.cover.specs.Intervals.ScanLaws.{found_one}
+use Rattle.cover.proofs.Intervals.ScanLaws.{found_one}
 use Rattle.single_lead.specs.Costs.{no_cost, cost_in}
 use Rattle.single_lead.specs.CostsLaws.{cost_least}
 use Rattle.single_lead.specs.Rows.{of_words, set_in, top_words, weigh, weight, Honest, is_before, prefer, reached}

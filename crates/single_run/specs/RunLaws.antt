@@ -7,12 +7,12 @@ use Rattle.std.proofs.lemmas.Bool.{eqb-false}
 use Rattle.cover.specs.Sets.{nothing, found, cost}
 use Rattle.cover.specs.CriticalPrice.{sum}
 use Rattle.cover.specs.Intervals.{raise, may_but}
-use Rattle.cover.specs.Intervals.ScanLaws.{none_found}
-use Rattle.cover.specs.Intervals.PrefixLaws.{ready}
-use Rattle.cover.specs.Intervals.CoverLaws.{priced}
-use Rattle.cover.specs.Intervals.StaysLaws.{stays_cost}
+use Rattle.cover.proofs.Intervals.ScanLaws.{none_found}
+use Rattle.cover.proofs.Intervals.PrefixLaws.{ready}
+use Rattle.cover.proofs.Intervals.CoverLaws.{priced}
+use Rattle.cover.proofs.Intervals.StaysLaws.{stays_cost}
 use Rattle.cover.specs.Intervals.Bids.{any_bid, Bids, others_below, cost_without, end_cost}
-use Rattle.cover.specs.Intervals.BidsLaws.{prefixes_without, fits_without, scan_without}
+use Rattle.cover.proofs.Intervals.BidsLaws.{prefixes_without, fits_without, scan_without}
 use Rattle.single_lead.specs.Costs.{no_cost, cost_in, plus_price}
 use Rattle.single_lead.specs.CostsLaws.{cost_found, cost_more}
 use Rattle.single_lead.specs.Live.{On}

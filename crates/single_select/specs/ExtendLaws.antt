@@ -4,7 +4,7 @@ use Rattle.std.proofs.Common.{sym, ap, ◌∙◌, mul_assoc, pow-suc, arith, len
 use Rattle.std.proofs.Math.Nat.{pow-le-pow_right, div-div-eq-div-mul, pow-succ'}
 use Rattle.std.proofs.lemmas.Bool.{eqb-false}
 use Rattle.cover.specs.Sets.{bit, when}
-use Rattle.cover.specs.SetMemberLaws.{add_below}
+use Rattle.cover.proofs.SetMemberLaws.{add_below}
 use Rattle.single_lead.specs.Rows.{of_words, set_in}
 use Rattle.single_lead.specs.RowsLaws.{words_same}
 use Rattle.single_select.specs.Extend.{Off, Copied, Extended}

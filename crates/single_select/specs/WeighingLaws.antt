@@ -12,12 +12,12 @@ use Rattle.cover.specs.LeastCover.{winners}
 use Rattle.cover.specs.CriticalPrice.{sum}
 use Rattle.cover.specs.Settled.{spans}
 use Rattle.cover.specs.Intervals.{plus, found_cost, raise}
-use Rattle.cover.specs.Intervals.PrefixLaws.{scan_least_set, least_set_right, lacks, cost_plus, ready}
-use Rattle.cover.specs.Intervals.CoverLaws.{priced, bit_none}
-use Rattle.cover.specs.Intervals.StaysLaws.{stays}
+use Rattle.cover.proofs.Intervals.PrefixLaws.{scan_least_set, least_set_right, lacks, cost_plus, ready}
+use Rattle.cover.proofs.Intervals.CoverLaws.{priced, bit_none}
+use Rattle.cover.proofs.Intervals.StaysLaws.{stays}
 use Rattle.cover.specs.Intervals.Bids.{any_bid, Bids, covers_below, least_below, cost_below}
-use Rattle.cover.specs.Intervals.BidsLaws.{prefixes, least_none, fits, winners_of_lem}
-use Rattle.cover.specs.Intervals.AwardLaws.{cost_value}
+use Rattle.cover.proofs.Intervals.BidsLaws.{prefixes, least_none, fits, winners_of_lem}
+use Rattle.cover.proofs.Intervals.AwardLaws.{cost_value}
 use Rattle.single_lead.specs.Costs.{no_cost, cost_in, plus_price}
 use Rattle.single_lead.specs.CostsLaws.{cost_found, cost_more}
 use Rattle.single_lead.specs.Rows.{set_in, weigh, weight}

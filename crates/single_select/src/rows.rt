@@ -1,7 +1,7 @@
 // Sets of bids in rows of sixteen 64-bit words: a row with one bid more, a row's bids as flags.
 ghost use Rattle.std.specs.Prelude.{◌≡◌, false, ◌+◌, ◌*◌, ◌-◌, ◌/◌, ◌%◌, ◌^◌, ◌<◌, ◌≤◌, length};
 ghost use Rattle.cover.specs.Sets.{bit, when};
-ghost use Rattle.cover.specs.SettledLaws.{FilledTo};
+ghost use Rattle.cover.specs.Settled.{FilledTo};
 ghost use Rattle.single_lead.specs.Rows.{set_in};
 ghost use Rattle.single_select.specs.Extend.{Copied, Extended};
 

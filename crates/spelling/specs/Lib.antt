@@ -4,12 +4,3 @@ pub mod Text
 pub mod Spelt
 pub mod Written
 pub mod Delivered
-pub mod LineLaws
-pub mod WritingLaws
-pub mod SpellingLaws
-pub mod DecimalLaws
-pub mod PriceLaws
-pub mod SpeltShortLaws
-pub mod WordLaws
-pub mod BackLaws
-pub mod DeliveredLaws

@@ -17,25 +17,25 @@ use Rattle.tender.specs.declared.Refusal.TheVariants.{NoSuchBidder}
 use Rattle.tender.specs.Tables.{own, bid_width}
 use Rattle.cover.specs.Sets.{when, Found, nothing, found, value_of}
 use Rattle.cover.specs.Earliest.{cell_with}
-use Rattle.cover.specs.SpareLaws.{Spare}
+use Rattle.cover.specs.Spare.{Spare}
 use Rattle.reader_text.specs.Read.{read_text}
-use Rattle.spelling.specs.DeliveredLaws.{delivered_is}
+use Rattle.spelling.proofs.DeliveredLaws.{delivered_is}
 use Rattle.award_check.specs.Faults.{fault_of}
 use Rattle.award_check.specs.Cells.{cells_of, minute_of, holds}
 use Rattle.award_check.specs.Auction.{Auction, auction_of, at_price, reserved, thin_cell}
-use Rattle.award_check.specs.AuctionLaws.{entries, owners_are, cells_are, price_named, has_cell, offering, auction_withheld, has_others}
+use Rattle.award_check.proofs.AuctionLaws.{entries, owners_are, cells_are, price_named, has_cell, offering, auction_withheld, has_others}
 use Rattle.award_check.specs.Alike.{Alike, Withheld}
-use Rattle.award_check.specs.AlikeLaws.{row_named, faultless, own_row, alike_withheld}
+use Rattle.award_check.proofs.AlikeLaws.{row_named, faultless, own_row, alike_withheld}
 use Rattle.award_layout.specs.LayoutLaws.{cells_within}
 use Rattle.award_rule.specs.Award.{least_cost, greedy, rule, won, cents, awarded, totals_of, thinned, award_of}
-use Rattle.award_rule.specs.AwardLaws.{AwardOn, award_awarded, award_settles, no_fault, spared}
+use Rattle.award_rule.proofs.AwardLaws.{AwardOn, award_awarded, award_settles, no_fault, spared}
 use Rattle.award_outcome.specs.Gain.{row_for}
-use Rattle.award_outcome.specs.SettleLaws.{row_in, row_filled}
-use Rattle.award_outcome.specs.TableLaws.{row_is}
+use Rattle.award_outcome.proofs.SettleLaws.{row_in, row_filled}
+use Rattle.award_outcome.proofs.TableLaws.{row_is}
 use Rattle.highest_rule.specs.Highest.{highest, price_for, highest_of}
-use Rattle.highest_rule.specs.HighestLaws.{wins_up_to, wins_never, winner_found, greedy_winner, least_winner, loser_below}
-use Rattle.highest_rule.specs.RowLaws.{row_inside, row_none, row_found}
-use Rattle.highest_rule.specs.AnswerLaws.{Answered, declined, unknown, priced, answered, row_asked, price_found, price_none}
+use Rattle.highest_rule.proofs.HighestLaws.{wins_up_to, wins_never, winner_found, greedy_winner, least_winner, loser_below}
+use Rattle.highest_rule.proofs.RowLaws.{row_inside, row_none, row_found}
+use Rattle.highest_rule.proofs.AnswerLaws.{Answered, declined, unknown, priced, answered, row_asked, price_found, price_none}
 use Rattle.highest_text.specs.Told.{highest_in}
 use Rattle.highest_text.specs.ToldLaws.{told_short}
 use Rattle.theorems_calls.specs.Calls.{AwardCall, told_by, HighestCall, HighestLineCall, shown}

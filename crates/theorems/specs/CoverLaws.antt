@@ -4,11 +4,11 @@ use Rattle.std.proofs.Math.Path.{◌≡◌}
 use Rattle.std.proofs.Common.{ap, inl, inr, arith}
 use Rattle.std.specs.Prelude.{◌⊎◌, ℕ, ◌-◌, ◌<◌}
 use Rattle.tender.specs.declared.Reserve.TheVariants.{Absent}
-use Rattle.award_check.specs.AuctionLaws.{minutes}
+use Rattle.award_check.proofs.AuctionLaws.{minutes}
 use Rattle.award_rule.specs.Award.{outcome_number}
 use Rattle.award_outcome.specs.Right.{Bidders, EarliestIn, OneAnswer, tables_break_a_rule, rows_too_few, minute_uncovered}
 use Rattle.award_outcome.specs.Right.{one_bidder, award}
-use Rattle.award_outcome.specs.OneAnswerLaws.{one_answer}
+use Rattle.award_outcome.proofs.OneAnswerLaws.{one_answer}
 use Rattle.theorems_calls.specs.Calls.{AwardCall, auction_by, told_by}
 use Rattle.theorems.specs.Between.{CallableWith, FewerThan}
 

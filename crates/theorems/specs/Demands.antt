@@ -20,11 +20,11 @@ use Rattle.reader_forms.specs.Line.{TenderLine, BidLine, Line, tender, head_line
 use Rattle.reader_forms.specs.LinePlain.{all_plain}
 use Rattle.reader_text.specs.Read.{accepted, refused, read_text, read_into}
 use Rattle.reader_text.specs.Read.{judged_by, begun, halted, tender_fault, tender_with, Unreserved, head_of}
-use Rattle.reader_text.specs.HeadLaws.{unreserved_head}
+use Rattle.reader_text.proofs.HeadLaws.{unreserved_head}
 use Rattle.reader_text.specs.Rules.{bytes_like}
-use Rattle.reader_text.specs.RulesLaws.{rules_law}
-use Rattle.reader_text.specs.CountLaws.{lines_law, room_law}
-use Rattle.reader_text.specs.PlainLaws.{plain_law}
+use Rattle.reader_text.proofs.RulesLaws.{rules_law}
+use Rattle.reader_text.proofs.CountLaws.{lines_law, room_law}
+use Rattle.reader_text.proofs.PlainLaws.{plain_law}
 use Rattle.reader.specs.declared.Reading.TheVariants as answer
 use Rattle.reader_text.specs.Differ.{Word, DifferInPrice, DifferInBid, windows_by}
 use Rattle.reader_text.specs.DifferInSpelling.{DifferInSpelling}
@@ -34,22 +34,22 @@ use Rattle.award_check.specs.Alike.{named, Alike, PartOf, Withheld}
 use Rattle.award_rule.specs.Award.{least_cost, greedy, rule, won, awarded, award_of, outcome_number}
 use Rattle.award_rule.specs.Award.{refused as refusal}
 use Rattle.award_rule.specs.Plain.{told_in, PlainPromise}
-use Rattle.award_rule.specs.AwardLaws.{award_lent}
-use Rattle.award_rule.specs.ReadLaws.{award_number}
+use Rattle.award_rule.proofs.AwardLaws.{award_lent}
+use Rattle.award_rule.proofs.ReadLaws.{award_number}
 use Rattle.award_outcome.specs.Gain.{row_for}
 use Rattle.award_outcome.specs.Promise.{lent_after, Promise}
-use Rattle.award_outcome.specs.RowsPromiseLaws.{rows_promise}
+use Rattle.award_outcome.proofs.RowsPromiseLaws.{rows_promise}
 use Rattle.award_outcome.specs.Right.{Bidders, IsAward, OneAnswer, LeastCover, WinnerAt, PaidByEight}
-use Rattle.award_outcome.specs.OneAnswerLaws as one
-use Rattle.award_outcome.specs.OutcomeLaws as outcome
+use Rattle.award_outcome.proofs.OneAnswerLaws as one
+use Rattle.award_outcome.proofs.OutcomeLaws as outcome
 use Rattle.spelling.specs.Decimal.{decimal, with_point}
 use Rattle.spelling.specs.Text.{tender_text, bids_text, text_of, bid_in}
 use Rattle.spelling.specs.Spelt.{Spelt}
-use Rattle.spelling.specs.DeliveredLaws.{same_shown}
+use Rattle.spelling.proofs.DeliveredLaws.{same_shown}
 use Rattle.spelling.specs.Lines.{pair_line, refused_word}
 use Rattle.listing_text.specs.Lines.{total_word, award_line}
 use Rattle.listing_text.specs.List.{win_list, list_lines}
-use Rattle.listing_text.specs.ListLaws as list
+use Rattle.listing_text.proofs.ListLaws as list
 use Rattle.writer.specs.declared.Writing.TheVariants.{Written, Refused}
 use Rattle.highest_text.specs.Told.{highest_in}
 use Rattle.writer_back.specs.Same.{Same, ReadBack}
@@ -62,8 +62,8 @@ use Rattle.theorems.specs.Between.{Variant, BidVariant, SameReading, Follows, Sa
 use Rattle.theorems.specs.Between.{NoGainAt, NoGainBetween, OneList}
 use Rattle.theorems.specs.Between.{ListGiven, NoGainShown, Showable}
 use Rattle.theorems_calls.specs.ReadingLaws as reading
-use Rattle.spelling.specs.DecimalLaws.{decimal_back}
-use Rattle.spelling.specs.PriceLaws.{price_written, written_price}
+use Rattle.spelling.proofs.DecimalLaws.{decimal_back}
+use Rattle.spelling.proofs.PriceLaws.{price_written, written_price}
 use Rattle.writer_back.specs.SpeltLaws.{spelt_again}
 use Rattle.theorems.specs.ReadAgainLaws.{read_again}
 use Rattle.theorems.specs.VariedLaws.{varied}

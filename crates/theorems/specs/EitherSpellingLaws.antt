@@ -4,9 +4,9 @@ use Rattle.std.proofs.Common.{sym, ap, ◌∙◌}
 use Rattle.tender.specs.Tables.{bid_width, window_width}
 use Rattle.reader_text.specs.Read.{fitted, read_into}
 use Rattle.reader_text.specs.DifferInSpelling.{DifferInSpelling}
-use Rattle.reader_text.specs.SpellingLaws.{spelling_law}
+use Rattle.reader_text.proofs.SpellingLaws.{spelling_law}
 use Rattle.reader.specs.Answer.{read_answer, bids_after, windows_after}
-use Rattle.spelling.specs.DeliveredLaws.{same_shown}
+use Rattle.spelling.proofs.DeliveredLaws.{same_shown}
 use Rattle.theorems_calls.specs.Calls.{ReadCall, ListCall, RewriteCall, shown}
 use Rattle.theorems.specs.Between.{SameReading}
 

@@ -11,22 +11,22 @@ use Rattle.tender.specs.Tables.{Row, flat_rows, flat_windows}
 use Rattle.reader_text.specs.Read.{accepted, read_text}
 use Rattle.reader_text.specs.Read as reading
 use Rattle.reader_text.specs.Rules.{Rules}
-use Rattle.reader_text.specs.RulesLaws.{rules_law}
+use Rattle.reader_text.proofs.RulesLaws.{rules_law}
 use Rattle.reader_text.specs.Differ.{DifferInPrice, DifferInBid, windows_by}
-use Rattle.reader_text.specs.BidLaws.{bid_law, price_as_bid}
+use Rattle.reader_text.proofs.BidLaws.{bid_law, price_as_bid}
 use Rattle.award_check.specs.Cells.{no_row}
 use Rattle.award_check.specs.Auction.{Auction, auction_of}
 use Rattle.award_check.specs.Alike.{named, PartOf}
 use Rattle.award_rule.specs.Award.{rule, Outcome, awarded, refused, award_of}
-use Rattle.award_rule.specs.AwardLaws.{award_awarded}
+use Rattle.award_rule.proofs.AwardLaws.{award_awarded}
 use Rattle.award_outcome.specs.Gain.{lost, row_for}
-use Rattle.award_outcome.specs.SettleLaws.{lost_nothing, row_in}
-use Rattle.award_outcome.specs.TableLaws.{row_is}
+use Rattle.award_outcome.proofs.SettleLaws.{lost_nothing, row_in}
+use Rattle.award_outcome.proofs.TableLaws.{row_is}
 use Rattle.award_outcome.specs.Right as right
-use Rattle.award_outcome.specs.TextOutcomeLaws.{withheld_texts}
-use Rattle.spelling.specs.LineLaws.{refused_line_lem}
+use Rattle.award_outcome.proofs.TextOutcomeLaws.{withheld_texts}
+use Rattle.spelling.proofs.LineLaws.{refused_line_lem}
 use Rattle.listing_text.specs.List.{list_lines, list_of}
-use Rattle.listing_text.specs.ListLaws.{listed_is}
+use Rattle.listing_text.proofs.ListLaws.{listed_is}
 use Rattle.theorems_calls.specs.Calls.{ListCall, shown}
 use Rattle.theorems.specs.Between.{ListGiven, NoGainShown}
 use Rattle.theorems_calls.specs.ReadingLaws.{refusal_number}

@@ -15,17 +15,17 @@ use Rattle.reader_parts.specs.Words.{among}
 use Rattle.reader_text.specs.Read.{read_text}
 use Rattle.reader_text.specs.Read as reading
 use Rattle.reader_text.specs.Rules.{Rules}
-use Rattle.reader_text.specs.RulesLaws.{rules_law}
+use Rattle.reader_text.proofs.RulesLaws.{rules_law}
 use Rattle.award_check.specs.Auction.{Auction, auction_of, thin_cell}
 use Rattle.award_check.specs.Faults.{fault_of}
-use Rattle.award_check.specs.TextLaws.{never_nine}
+use Rattle.award_check.proofs.TextLaws.{never_nine}
 use Rattle.award_rule.specs.Award.{rule, Outcome, awarded, refused, award_rows, totals_of, uncovered, lone, thinned, award_of}
-use Rattle.award_rule.specs.AwardLaws.{award_settles}
+use Rattle.award_rule.proofs.AwardLaws.{award_settles}
 use Rattle.spelling.specs.Lines.{pair_line, refused_word}
-use Rattle.spelling.specs.LineLaws.{refused_line_lem}
+use Rattle.spelling.proofs.LineLaws.{refused_line_lem}
 use Rattle.listing_text.specs.Lines.{award_word, award_line}
 use Rattle.listing_text.specs.List.{list_lines, list_of}
-use Rattle.listing_text.specs.ListLaws.{listed_is}
+use Rattle.listing_text.proofs.ListLaws.{listed_is}
 use Rattle.theorems_calls.specs.OneReading.{OfText}
 use Rattle.theorems_calls.specs.ReadingLaws.{refusal_number}
 use Rattle.theorems_shown.specs.ShownLaws.{first_number}

@@ -11,12 +11,12 @@ use Rattle.cover.specs.Sets.{when, found, value_of, bit, cells, cost}
 use Rattle.cover.specs.LeastCover.{winners, without, payment, vcg_paid}
 use Rattle.cover.specs.Greedy.{wins}
 use Rattle.cover.specs.CriticalPrice.{largest, sum, ceiling, wins_at, critical, critical_paid}
-use Rattle.cover.specs.Intervals.BidsLaws.{cost_most, sum_most}
+use Rattle.cover.proofs.Intervals.BidsLaws.{cost_most, sum_most}
 use Rattle.reader_parts.specs.Words.{among}
 use Rattle.reader_text.specs.Rules.{RowsRules, Rules}
 use Rattle.award_check.specs.Cells.{no_row}
 use Rattle.award_check.specs.Auction.{houses, Auction, auction_of}
-use Rattle.award_check.specs.AuctionLaws.{minutes, entries, price_named, house_price, EntryAt, owner, house, past, entry_at}
+use Rattle.award_check.proofs.AuctionLaws.{minutes, entries, price_named, house_price, EntryAt, owner, house, past, entry_at}
 use Rattle.award_rule.specs.Award.{Rule, least_cost, greedy, covers_in, cents}
 
 -- payments

@@ -11,19 +11,19 @@ use Rattle.tender.specs.declared.Refusal.TheVariants.{BadTables, NoRoom}
 use Rattle.tender.specs.Tables.{Row, rows_of, flat_rows, flat_windows, bid_width, window_width}
 use Rattle.reader_text.specs.Read.{ReadOutcome, accepted, refused, read_text, read_into}
 use Rattle.reader.specs.Answer.{read_answer, bids_after, windows_after}
-use Rattle.reader_text.specs.CountLaws.{room_law}
-use Rattle.reader_text.specs.SizeLaws.{short_text}
+use Rattle.reader_text.proofs.CountLaws.{room_law}
+use Rattle.reader_text.proofs.SizeLaws.{short_text}
 use Rattle.reader.specs.declared.Reading.TheVariants as reading
 use Rattle.spelling.specs.Lines.{refused_line}
-use Rattle.spelling.specs.LineLaws.{refused_short, refused_some}
-use Rattle.spelling.specs.DeliveredLaws.{delivered_is}
+use Rattle.spelling.proofs.LineLaws.{refused_short, refused_some}
+use Rattle.spelling.proofs.DeliveredLaws.{delivered_is}
 use Rattle.award_check.specs.Faults.{fault_of}
-use Rattle.award_check.specs.TextLaws.{rows_flat}
-use Rattle.award_check.specs.AlikeLaws.{rows_length}
+use Rattle.award_check.proofs.TextLaws.{rows_flat}
+use Rattle.award_check.proofs.AlikeLaws.{rows_length}
 use Rattle.award_rule.specs.Award as outcome
-use Rattle.award_rule.specs.AwardLaws.{award_nine}
+use Rattle.award_rule.proofs.AwardLaws.{award_nine}
 use Rattle.award_outcome.specs.Right.{OneAnswer, tables_break_a_rule, rows_too_few, minute_uncovered, one_bidder, award}
-use Rattle.award_outcome.specs.OneAnswerLaws.{one_answer}
+use Rattle.award_outcome.proofs.OneAnswerLaws.{one_answer}
 use Rattle.writer.specs.declared.Writing.{Writing}
 use Rattle.writer.specs.declared.Writing.TheVariants as writing
 use Rattle.writer_text.specs.Canonical.{canonical, spelt, unspelt, unless_fault, write_into, buffer_after}

@@ -17,13 +17,13 @@ use Rattle.reader_text.specs.Read as reading
 use Rattle.reader.specs.Answer.{read_answer, bids_after, windows_after}
 use Rattle.reader.specs.declared.Reading.TheVariants as answer
 use Rattle.reader_text.specs.Differ.{DifferInPrice, DifferInBid, windows_by}
-use Rattle.reader_text.specs.BidLaws.{price_as_bid}
+use Rattle.reader_text.proofs.BidLaws.{price_as_bid}
 use Rattle.award_check.specs.Cells.{no_row}
 use Rattle.award_check.specs.Alike.{named, PartOf}
-use Rattle.award_check.specs.TextLaws.{bidder_read}
+use Rattle.award_check.proofs.TextLaws.{bidder_read}
 use Rattle.award_outcome.specs.Promise.{told_award, Promise}
 use Rattle.award_outcome.specs.Right as right
-use Rattle.award_outcome.specs.TextOutcomeLaws.{withheld_texts}
+use Rattle.award_outcome.proofs.TextOutcomeLaws.{withheld_texts}
 use Rattle.theorems_calls.specs.Calls.{ReadCall, AwardCall}
 use Rattle.theorems.specs.Between.{Follows, SameAward, NoGainBetween}
 

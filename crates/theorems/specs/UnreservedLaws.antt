@@ -8,7 +8,7 @@ use Rattle.tender.specs.declared.Totals.{Totals}
 use Rattle.tender.specs.Tables.{Row, rows_of}
 use Rattle.reader_forms.specs.Line.{BidLine}
 use Rattle.award_check.specs.Auction.{offered, house_of, offers_of}
-use Rattle.award_check.specs.AuctionLaws.{without_reserve, thin_told, owners_are, cells_are}
+use Rattle.award_check.proofs.AuctionLaws.{without_reserve, thin_told, owners_are, cells_are}
 use Rattle.award_rule.specs.Award.{won, awarded, totals_of}
 use Rattle.spelling.specs.Lines.{pair_line}
 use Rattle.spelling.specs.Text.{tender_text, reserve_text, head_text, bids_text, text_of}

@@ -8,14 +8,14 @@ use Rattle.tender.specs.declared.Tender.{Tender}
 use Rattle.tender.specs.Tables.{Row, own, flat_windows}
 use Rattle.reader_parts.specs.Words.{among}
 use Rattle.reader_text.specs.Read.{accepted, read_text}
-use Rattle.reader_text.specs.RulesLaws.{rules_law}
+use Rattle.reader_text.proofs.RulesLaws.{rules_law}
 use Rattle.reader_text.specs.Differ.{bid_line, Word, DifferInBid, windows_by}
-use Rattle.reader_text.specs.BidLaws.{bid_law, price_as_bid}
-use Rattle.reader_text.specs.BidChangeLaws.{bid_change}
+use Rattle.reader_text.proofs.BidLaws.{bid_law, price_as_bid}
+use Rattle.reader_text.proofs.BidChangeLaws.{bid_change}
 use Rattle.award_check.specs.Cells.{no_row}
-use Rattle.award_check.specs.WithheldLaws.{RowWritten, row_written}
+use Rattle.award_check.proofs.WithheldLaws.{RowWritten, row_written}
 use Rattle.spelling.specs.Decimal.{decimal}
-use Rattle.spelling.specs.DecimalLaws.{numeral_decimal}
+use Rattle.spelling.proofs.DecimalLaws.{numeral_decimal}
 use Rattle.theorems.specs.Between.{BidVariant}
 use Rattle.theorems.specs.PaidLaws.{bidder_once, bidder_low}
 use Rattle.theorems.specs.VariedLaws.{varied}

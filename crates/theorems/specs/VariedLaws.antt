@@ -10,21 +10,21 @@ use Rattle.tender.specs.declared.Tender.{Tender}
 use Rattle.tender.specs.Keywords.{bytes, bid_word, reserve_word}
 use Rattle.tender.specs.Tables.{Row, flat_windows}
 use Rattle.reader_parts.specs.Words.{price_of}
-use Rattle.reader_parts.specs.PriceFrontLaws.{price_without}
+use Rattle.reader_parts.proofs.PriceFrontLaws.{price_without}
 use Rattle.reader_forms.specs.Line.{BidLine}
 use Rattle.reader_text.specs.Read.{accepted, read_text}
 use Rattle.reader_text.specs.Rules.{RowsRules}
-use Rattle.reader_text.specs.RulesLaws.{rules_law}
-use Rattle.reader_text.specs.BidChangeLaws.{price_change}
+use Rattle.reader_text.proofs.RulesLaws.{rules_law}
+use Rattle.reader_text.proofs.BidChangeLaws.{price_change}
 use Rattle.reader_text.specs.Differ.{bid_line, Word, DifferInPrice}
 use Rattle.award_check.specs.Cells.{no_row}
 use Rattle.spelling.specs.Decimal.{decimal}
-use Rattle.spelling.specs.DecimalLaws.{decimal_plain}
+use Rattle.spelling.proofs.DecimalLaws.{decimal_plain}
 use Rattle.spelling.specs.Lines.{closing}
 use Rattle.spelling.specs.Text.{window_text, windows_text, bid_text_as, tender_text, bid_in}
 use Rattle.spelling.specs.Spelt.{SpeltBids, SpeltReserve}
-use Rattle.spelling.specs.WordLaws.{spaced, tender_words, one_words, tender_line_lem, one_line_lem}
-use Rattle.writer_text.specs.RowLaws.{own_length}
+use Rattle.spelling.proofs.WordLaws.{spaced, tender_words, one_words, tender_line_lem, one_line_lem}
+use Rattle.writer_text.proofs.RowLaws.{own_length}
 use Rattle.writer_back.specs.SpeltLaws.{spelt_again}
 use Rattle.theorems.specs.Between.{Variant}
 

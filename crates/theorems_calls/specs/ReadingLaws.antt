@@ -26,9 +26,9 @@ use Rattle.reader_forms.specs.Line.{TenderLine, BidLine, Line, tender, bid, rese
 use Rattle.reader_text.specs.Read.{ReadOutcome, accepted, refused, rows_from, all_windows, bids_of, line_fault, tender_fault}
 use Rattle.reader_text.specs.Read.{bid_fault_in, bid_fault_after, bid_fault, judged_by, checked, tables, tender_with, reserve_in}
 use Rattle.reader_text.specs.Read.{Unreserved, after_head, read_lines, read_text, fitted, read_into}
-use Rattle.reader_text.specs.FaultLaws.{faultless_sound}
-use Rattle.reader_text.specs.HeadLaws.{lines_halted, lines_begun, no_line, broken_first, bid_first, reserve_first, tender_read}
-use Rattle.reader_text.specs.HeadLaws.{bids_unreserved, tender_faultless, reserve_absent, reserve_taken, reserve_high, head_of_lem}
+use Rattle.reader_text.proofs.FaultLaws.{faultless_sound}
+use Rattle.reader_text.proofs.HeadLaws.{lines_halted, lines_begun, no_line, broken_first, bid_first, reserve_first, tender_read}
+use Rattle.reader_text.proofs.HeadLaws.{bids_unreserved, tender_faultless, reserve_absent, reserve_taken, reserve_high, head_of_lem}
 use Rattle.reader.specs.declared.Reading.{Reading}
 use Rattle.reader.specs.Answer.{read_answer, bids_after, windows_after}
 use Rattle.theorems_calls.specs.Calls.{ReadRun, ReadKept}

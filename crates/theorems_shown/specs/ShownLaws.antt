@@ -19,17 +19,17 @@ use Rattle.tender.specs.Refusals.{number_of, place_of}
 use Rattle.tender.specs.Keywords.{bytes, single_word, multi_word}
 use Rattle.tender.specs.Tables.{Row}
 use Rattle.reader_parts.specs.Words.{and_then, grow_first, cut, among, equal_bytes, closed, digits}
-use Rattle.reader_parts.specs.CutLaws.{cut_end}
+use Rattle.reader_parts.proofs.CutLaws.{cut_end}
 use Rattle.award_check.specs.Cells.{no_row}
 use Rattle.award_rule.specs.Award.{awarded}
 use Rattle.award_outcome.specs.Gain.{lost}
 use Rattle.spelling.specs.Decimal.{decimal}
 use Rattle.spelling.specs.Lines.{closing, numbers, pair_line, one_line, kind_word, refused_word, refused_line}
-use Rattle.spelling.specs.LineLaws.{refused_line_lem}
+use Rattle.spelling.proofs.LineLaws.{refused_line_lem}
 use Rattle.listing_text.specs.Lines.{award_word, win_word, house_word, total_word, award_line, house_line, last_lines}
 use Rattle.listing_text.specs.List.{win_list, list_lines}
-use Rattle.spelling.specs.DecimalLaws.{decimal_back, decimal_plain}
-use Rattle.reader_parts.specs.GivenLaws.{same_is}
+use Rattle.spelling.proofs.DecimalLaws.{decimal_back, decimal_plain}
+use Rattle.reader_parts.proofs.GivenLaws.{same_is}
 use Rattle.theorems_shown.specs.ListRead.{last_number, win_on, row_or, row_among, row_shown}
 
 -- a line without its byte 10

@@ -3,14 +3,14 @@ use Rattle.std.specs.Prelude.{◌≡◌, refl, Bool, true, false, ◌&&◌, List
 use Rattle.tender.specs.Tables.{flat_rows, flat_windows}
 use Rattle.cover.specs.Sets.{covers, cells}
 use Rattle.cover.specs.Sets as sets
-use Rattle.cover.specs.SetLaws.{and_split}
+use Rattle.cover.proofs.SetLaws.{and_split}
 use Rattle.cover.specs.Greedy.{Rounds, stop, round, run, bids}
 use Rattle.reader_parts.specs.Words.{equal_bytes}
 use Rattle.reader_text.specs.Read.{ReadOutcome, accepted, refused, read_text}
 use Rattle.award_check.specs.Cells.{no_row}
 use Rattle.award_check.specs.Auction.{auction_of}
 use Rattle.listing_text.specs.List.{list_of}
-use Rattle.reader_parts.specs.GivenLaws.{same_is}
+use Rattle.reader_parts.proofs.GivenLaws.{same_is}
 use Rattle.theorems_worked.specs.WorkedCases.{Case, third, cases}
 
 -- the list is the one defined

@@ -12,12 +12,12 @@ use Rattle.tender.specs.declared.Tender.{Tender}
 use Rattle.tender.specs.declared.Refusal.TheVariants.{BadTables, NoRoom}
 use Rattle.tender.specs.Tables.{rows_of}
 use Rattle.spelling.specs.Written.{Written}
-use Rattle.spelling.specs.WritingLaws.{from_start}
+use Rattle.spelling.proofs.WritingLaws.{from_start}
 use Rattle.award_check.specs.Faults.{fault_of}
-use Rattle.award_check.specs.AlikeLaws.{rows_length}
+use Rattle.award_check.proofs.AlikeLaws.{rows_length}
 use Rattle.writer_text.specs.Canonical.{canonical, WriteOutcome, spelt, unspelt, unless_fault, write_into, buffer_after}
 use Rattle.writer_text.specs.Filling.{SomeText}
-use Rattle.writer_text.specs.FillingLaws.{text_part, some_length}
+use Rattle.writer_text.proofs.FillingLaws.{text_part, some_length}
 use Rattle.writer.specs.declared.Writing.{Writing}
 use Rattle.writer.specs.declared.Writing.TheVariants as answer
 use Rattle.writer.specs.Writes.{write_answer, Writes}

@@ -11,17 +11,17 @@ use Rattle.tender.specs.RulesLaws.{every_split}
 use Rattle.tender.specs.Tables.{Row, own}
 use Rattle.reader_parts.specs.Words.{among}
 use Rattle.spelling.specs.Text.{bid_in}
-use Rattle.spelling.specs.WordLaws.{Named, AllNamed}
-use Rattle.spelling.specs.BackLaws.{NamedReserve, Nameable, AllNameable, as_lines}
+use Rattle.spelling.proofs.WordLaws.{Named, AllNamed}
+use Rattle.spelling.proofs.BackLaws.{NamedReserve, Nameable, AllNameable, as_lines}
 use Rattle.reader_text.specs.Read.{ReadOutcome, refused, bid_fault_after, bid_fault, checked, judged_by}
-use Rattle.reader_text.specs.FaultLaws.{lawful_every, no_fault}
-use Rattle.cover.specs.SetLaws.{and_split}
+use Rattle.reader_text.proofs.FaultLaws.{lawful_every, no_fault}
+use Rattle.cover.proofs.SetLaws.{and_split}
 use Rattle.award_check.specs.Faults.{row_fault}
 use Rattle.runs.specs.Runs.{joined}
-use Rattle.runs.specs.JoinedLaws.{joined_lawful, joined_some}
+use Rattle.runs.proofs.JoinedLaws.{joined_lawful, joined_some}
 use Rattle.writer_line.specs.Respelt.{respelt}
 use Rattle.writer_text.specs.Canonical.{respelt_in}
-use Rattle.writer_text.specs.RowLaws.{RowSays, own_length, joined_count, split_fault}
+use Rattle.writer_text.proofs.RowLaws.{RowSays, own_length, joined_count, split_fault}
 
 -- a text may name the numbers of lawful windows and of a lawful reserve
 

@@ -13,11 +13,11 @@ use Rattle.tender.specs.declared.Refusal.TheVariants.{NoRoom}
 use Rattle.tender.specs.Limits.{max_text}
 use Rattle.tender.specs.Tables.{Row, rows_of, flat_rows, flat_windows}
 use Rattle.reader_text.specs.Read.{accepted, read_text}
-use Rattle.reader_text.specs.RulesLaws.{rules_law}
+use Rattle.reader_text.proofs.RulesLaws.{rules_law}
 use Rattle.spelling.specs.Text.{bid_in, text_of}
-use Rattle.spelling.specs.SpeltShortLaws.{spelt_short}
+use Rattle.spelling.proofs.SpeltShortLaws.{spelt_short}
 use Rattle.award_check.specs.Faults.{fault_of}
-use Rattle.award_check.specs.TextLaws.{rows_flat, never_nine}
+use Rattle.award_check.proofs.TextLaws.{rows_flat, never_nine}
 use Rattle.writer_line.specs.Respelt.{respelt}
 use Rattle.writer_text.specs.Canonical.{respelt_in, canonical, WriteOutcome, spelt, unspelt, unless_fault, write_into}
 use Rattle.writer_back.specs.BidLaws.{AllLawful, row_lawful}

@@ -8,20 +8,20 @@ use Rattle.tender.specs.declared.Tender.{Tender}
 use Rattle.tender.specs.Limits.{as_window, sound_tender}
 use Rattle.tender.specs.RulesLaws.{rules_lawful, sound_rules}
 use Rattle.tender.specs.Tables.{Row, rows_of, own, flat_rows, flat_windows, bid_width}
-use Rattle.cover.specs.SetLaws.{and_split}
+use Rattle.cover.proofs.SetLaws.{and_split}
 use Rattle.reader_parts.specs.Words.{cut}
 use Rattle.reader_forms.specs.Line.{BidLine, head_lines, lines_of}
 use Rattle.reader_text.specs.Read.{accepted, rows_from, all_windows, bids_of, tables, begun, Unreserved, head_of, read_lines, read_text}
-use Rattle.reader_text.specs.HeadLaws.{lines_begun, head_of_lem}
-use Rattle.reader_text.specs.RulesLaws.{rules_law, rows_from_length}
+use Rattle.reader_text.proofs.HeadLaws.{lines_begun, head_of_lem}
+use Rattle.reader_text.proofs.RulesLaws.{rules_law, rows_from_length}
 use Rattle.spelling.specs.Text.{bid_in, text_of}
-use Rattle.spelling.specs.BackLaws.{as_lines, text_back}
+use Rattle.spelling.proofs.BackLaws.{as_lines, text_back}
 use Rattle.award_check.specs.Cells.{holds, no_row}
 use Rattle.award_check.specs.Faults.{row_fault, is_same_kind, fault_of}
-use Rattle.award_check.specs.AlikeLaws.{faultless}
-use Rattle.award_check.specs.TextLaws.{rows_flat, never_nine}
+use Rattle.award_check.proofs.AlikeLaws.{faultless}
+use Rattle.award_check.proofs.TextLaws.{rows_flat, never_nine}
 use Rattle.runs.specs.Runs.{joined}
-use Rattle.runs.specs.JoinedLaws.{joined_holds, joined_same}
+use Rattle.runs.proofs.JoinedLaws.{joined_holds, joined_same}
 use Rattle.writer_line.specs.Respelt.{respelt}
 use Rattle.writer_text.specs.Canonical.{respelt_in, canonical}
 use Rattle.writer_back.specs.Same.{Same, ReadBack}

@@ -8,9 +8,9 @@ use Rattle.tender.specs.Limits.{lawful, every}
 use Rattle.tender.specs.Tables.{Row, own}
 use Rattle.spelling.specs.Decimal.{decimal}
 use Rattle.spelling.specs.Text.{window_text, windows_text, bid_text, bids_text, tender_text, reserve_text, head_text, text_of, bid_in}
-use Rattle.spelling.specs.SpeltShortLaws.{bid_bytes}
+use Rattle.spelling.proofs.SpeltShortLaws.{bid_bytes}
 use Rattle.runs.specs.Runs.{joined}
-use Rattle.runs.specs.RunsFewLaws.{starts_sum, ends_sum, joined_starts, joined_ends}
+use Rattle.runs.proofs.RunsFewLaws.{starts_sum, ends_sum, joined_starts, joined_ends}
 use Rattle.writer_line.specs.Respelt.{respelt}
 use Rattle.writer_text.specs.Canonical.{respelt_in, canonical}
 use Rattle.writer_back.specs.BidLaws.{AllLawful}

@@ -11,17 +11,17 @@ use Rattle.tender.specs.Keywords.{reserve_word}
 use Rattle.tender.specs.Tables.{Row, flat_windows}
 use Rattle.reader_parts.specs.Words.{cut}
 use Rattle.reader_forms.specs.Line.{BidLine, Line, bid, reserve_lines, head_lines, line_of_words, line_of, lines_of}
-use Rattle.reader_parts.specs.CutLaws.{cut_some}
-use Rattle.reader_parts.specs.RejoinedLaws.{rejoined, rejoined_cut}
+use Rattle.reader_parts.proofs.CutLaws.{cut_some}
+use Rattle.reader_parts.proofs.RejoinedLaws.{rejoined, rejoined_cut}
 use Rattle.reader_text.specs.Read.{accepted, rows_from, all_windows, bids_of, read_text}
 use Rattle.reader_text.specs.Rules.{RowsRules}
-use Rattle.reader_text.specs.RulesLaws.{rules_law}
-use Rattle.reader_text.specs.ReadLaws.{read_lines_lem}
-use Rattle.reader_text.specs.HeadLaws.{head_is, accepted_head}
+use Rattle.reader_text.proofs.RulesLaws.{rules_law}
+use Rattle.reader_text.proofs.ReadLaws.{read_lines_lem}
+use Rattle.reader_text.proofs.HeadLaws.{head_is, accepted_head}
 use Rattle.spelling.specs.Lines.{one_line_as}
 use Rattle.spelling.specs.Text.{bid_text_as, tender_text, bid_in}
 use Rattle.spelling.specs.Spelt.{SpeltBids, SpeltReserve, Spelt}
-use Rattle.spelling.specs.WordLaws.{spaced, tender_words, one_words, bid_words, bid_line_lem, tender_line_lem, one_line_lem}
+use Rattle.spelling.proofs.WordLaws.{spaced, tender_words, one_words, bid_words, bid_line_lem, tender_line_lem, one_line_lem}
 use Rattle.writer_back.specs.OwnLaws.{bids_filled}
 use Rattle.writer_back.specs.SpeltWordLaws.{words_as, Priced, words_are}
 

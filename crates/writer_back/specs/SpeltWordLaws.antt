@@ -12,12 +12,12 @@ use Rattle.tender.specs.Keywords.{tender_word, reserve_word, bid_word, single_wo
 use Rattle.reader_parts.specs.Words.{and_then, equal_bytes, opened, closed, numeral_of, price_of}
 use Rattle.reader_forms.specs.Line.{Line, tender, bid, reserve, kind_of, windows_in, tender_of, bid_of, reserve_of, line_of_words}
 use Rattle.reader_parts.specs.Windows.{span_of, window_of}
-use Rattle.reader_parts.specs.GivenLaws.{same_is, opened_some, closed_some}
+use Rattle.reader_parts.proofs.GivenLaws.{same_is, opened_some, closed_some}
 use Rattle.reader_text.specs.Read.{tender_with}
 use Rattle.spelling.specs.Decimal.{decimal}
 use Rattle.spelling.specs.Lines.{kind_word}
-use Rattle.spelling.specs.DecimalLaws.{numeral_spelling}
-use Rattle.spelling.specs.WordLaws.{tender_words, one_words, window_words, bid_words}
+use Rattle.spelling.proofs.DecimalLaws.{numeral_spelling}
+use Rattle.spelling.proofs.WordLaws.{tender_words, one_words, window_words, bid_words}
 
 -- words
 

@@ -1,3 +1,1 @@
 pub mod Respelt
-pub mod LengthLaws
-pub mod PutLaws

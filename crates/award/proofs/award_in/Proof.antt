@@ -47,7 +47,7 @@ use Rattle.tender.proofs.Tender.TheLaws as Ten'
 use Rattle.tender.specs.contracts.Answer as Ans
 use Rattle.tender.proofs.Answer.TheLaws as Ans'
 use Rattle.tender.specs.contracts.AwardRow as Row
-use Rattle.award_outcome.specs.RowsPromiseLaws.{filled_promise}
+use Rattle.award_outcome.proofs.RowsPromiseLaws.{filled_promise}
 use Rattle.award_rows.proofs.WalkSteps.{held, held_in, sets, spent, past}
 use Rattle.award_rows.proofs.fill.Symbol as fill-def
 use Rattle.award_rows.proofs.fill.Symbol.{name as #award-rows·fill}

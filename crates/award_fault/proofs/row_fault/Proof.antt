@@ -6,7 +6,7 @@ use native.Mathlib.Omega.{arith}
 use borrow.Author.Tests.{not-true, not-false}
 use Rattle.numbers.specs.Members.{members}
 use Rattle.numbers.specs.MembersLaws.{members_length, members_same, members_none}
-use Rattle.award_check.specs.WalkLaws.{Going, going_starts, going_ends, too_many, breaks, repeated, going_on, bidder_cell, room_here}
+use Rattle.award_check.proofs.WalkLaws.{Going, going_starts, going_ends, too_many, breaks, repeated, going_on, bidder_cell, room_here}
 use Rattle.award_fault.proofs.row_fault.Statement.{statement}
 use Rattle.award_fault.proofs.row_fault.Tie as tie
 

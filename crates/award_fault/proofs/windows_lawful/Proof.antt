@@ -5,7 +5,7 @@ use native.Mathlib.Omega.{arith}
 use lib.ListN.{drop}
 use Rattle.tender.specs.Limits.{lawful, every}
 use Rattle.tender.specs.Tables.{windows_of, window_width}
-use Rattle.award_check.specs.WalkLaws.{rows_ahead, ahead_start, ahead_goes, ahead_fails, ahead_all}
+use Rattle.award_check.proofs.WalkLaws.{rows_ahead, ahead_start, ahead_goes, ahead_fails, ahead_all}
 use Rattle.award_fault.proofs.windows_lawful.Statement.{statement}
 use Rattle.award_fault.proofs.windows_lawful.Tie as tie
 use Rattle.award_fault.proofs.windows_lawful.Reads as reads

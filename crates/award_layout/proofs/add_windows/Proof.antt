@@ -5,7 +5,7 @@ use Prim.Native.Nat.{◌+◌, ◌*◌, ◌-◌}
 use native.Mathlib.Omega.{arith}
 use lib.ListN.{length, get_or}
 use Rattle.tender.specs.Tables.{window_at}
-use Rattle.award_check.specs.WalkLaws.{rows_ahead, ahead_start}
+use Rattle.award_check.proofs.WalkLaws.{rows_ahead, ahead_start}
 use Rattle.award_layout.specs.LaidLaws.{Masking, masking_starts, masking_more, masking_ends, here_lawful}
 use Rattle.award_layout.specs.LayoutLaws.{clip_order, clip_inside}
 use Rattle.award_layout.proofs.add_windows.Statement.{statement}

@@ -4,7 +4,7 @@ use Prim.Native.Nat.{◌-◌, ◌≤◌}
 use native.Mathlib.Omega.{arith}
 use Rattle.tender.specs.declared.Kind.TheVariants.{Multi}
 use Rattle.tender.specs.Tables.{own}
-use Rattle.multi_market.specs.WordRowLaws.{part_row, row_within}
+use Rattle.multi_market.proofs.WordRowLaws.{part_row, row_within}
 use Rattle.award_layout.specs.LaidLaws.{row_room}
 use Rattle.award_layout.specs.WordRowLaws.{Writing, writing_starts, writing_more, writing_ends, row_size}
 use Rattle.award_layout.proofs.masks_by.Statement.{statement}

@@ -3,7 +3,7 @@ use Prim.Native.Nat.{◌-◌}
 use native.Mathlib.Omega.{arith}
 use lib.ListN.{length}
 use Rattle.award_rule.specs.Sums.{asked}
-use Rattle.award_rule.specs.SumsLaws.{Added, added_none, added_more, cost_all}
+use Rattle.award_rule.proofs.SumsLaws.{Added, added_none, added_more, cost_all}
 use Rattle.award_plain.proofs.cost.Statement.{statement}
 use Rattle.award_plain.proofs.cost.Tie as tie
 use Rattle.award_plain.proofs.cost.Reads as reads

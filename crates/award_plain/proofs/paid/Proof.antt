@@ -2,7 +2,7 @@
 use Prim.Native.Nat.{◌-◌}
 use native.Mathlib.Omega.{arith}
 use lib.ListN.{get_or}
-use Rattle.award_rule.specs.SumsLaws.{Added, added_none, added_more, paid_all}
+use Rattle.award_rule.proofs.SumsLaws.{Added, added_none, added_more, paid_all}
 use mathlib.Core.Path.{refl}
 use Rattle.award_plain.proofs.paid.Statement.{statement}
 use Rattle.award_plain.proofs.paid.Tie as tie

@@ -5,8 +5,9 @@ use native.Mathlib.Nat.{le_antisymm}
 use native.Mathlib.Omega.{arith}
 use lib.ListN.{length, get_or}
 use lib.Dec.{eqb}
+use Rattle.cover.specs.Settled.{FilledTo}
 use Rattle.cover.specs.Sets.{when}
-use Rattle.cover.specs.SettledLaws.{FilledTo, written_none, written_more}
+use Rattle.cover.proofs.SettledLaws.{written_none, written_more}
 use borrow.Author.Rules.{rules}
 use Rattle.award_plain.proofs.put_owners.Statement.{statement}
 use Rattle.award_plain.proofs.put_owners.Tie as tie

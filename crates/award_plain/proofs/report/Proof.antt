@@ -2,7 +2,7 @@
 use mathlib.Core.Path.{refl}
 use native.Mathlib.Omega.{arith}
 use Rattle.award_rule.specs.Plain.{told_in, won_after, cents_after}
-use Rattle.award_rule.specs.ReportLaws.{flags_written, cents_written}
+use Rattle.award_rule.proofs.ReportLaws.{flags_written, cents_written}
 use borrow.Author.Rules.{rules}
 use Rattle.award_plain.proofs.report.Statement.{statement}
 use Rattle.award_plain.proofs.report.Tie as tie

@@ -1,5 +1,5 @@
 -- `award_plain::totals` meets its contract: it makes the two sums and asks for the house. Assumes nothing.
-use Rattle.award_rule.specs.SumsLaws.{totals_in_lem}
+use Rattle.award_rule.proofs.SumsLaws.{totals_in_lem}
 use native.Mathlib.Omega.{arith}
 use Rattle.award_plain.proofs.totals.Statement.{statement}
 use Rattle.award_plain.proofs.totals.Tie as tie

@@ -3,7 +3,7 @@ use mathlib.Core.Path.{sym, ap, ◌∙◌}
 use native.Mathlib.Omega.{arith}
 use Rattle.award_fault.specs.Checks.{checked_fault}
 use Rattle.award_layout.specs.LayoutLaws.{orderly}
-use Rattle.award_rule.specs.PlainLaws.{nine, ten, lent_more}
+use Rattle.award_rule.proofs.PlainLaws.{nine, ten, lent_more}
 use borrow.Author.Rules.{rules}
 use Rattle.award_settle.proofs.settle_in.Statement.{statement}
 use Rattle.award_settle.proofs.settle_in.Tie as tie

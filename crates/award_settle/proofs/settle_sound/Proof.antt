@@ -4,7 +4,7 @@ use native.Mathlib.Omega.{arith}
 use lib.ListN.{length-replicate}
 use Rattle.tender.specs.Limits.{max_entries}
 use Rattle.award_layout.specs.LayoutLaws.{orderly}
-use Rattle.award_rule.specs.ReportLaws.{reported}
+use Rattle.award_rule.proofs.ReportLaws.{reported}
 use borrow.Author.Rules.{rules}
 use Rattle.award_settle.proofs.settle_sound.Statement.{statement}
 use Rattle.award_settle.proofs.settle_sound.Tie as tie

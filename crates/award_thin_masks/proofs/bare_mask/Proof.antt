@@ -1,7 +1,7 @@
 -- `award_thin_masks::bare_mask` meets its contract: each cell passed has a bidder, and none of the bids asked has the cell. Assumes nothing.
 use Prim.Native.Nat.{◌-◌}
 use native.Mathlib.Omega.{arith}
-use Rattle.multi_market.specs.WordRowLaws.{row_within}
+use Rattle.multi_market.proofs.WordRowLaws.{row_within}
 use mathlib.Core.Path.{◌≡◌, refl, sym, ◌∙◌}
 use Rattle.multi_market.specs.Market.{has}
 use Rattle.award_thin.specs.BareLaws.{Looking, Asking, looks_none, asks_none, looks_on, asks_on, bare_found, bare_none}

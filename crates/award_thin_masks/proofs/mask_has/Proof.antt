@@ -3,7 +3,7 @@ use mathlib.Core.Path.{ap, ◌∙◌}
 use lib.Dec.{eqb}
 use Rattle.cells.specs.Cells.{cell}
 use Rattle.multi_market.specs.Market.{has}
-use Rattle.multi_market.specs.WordRowLaws.{part_row}
+use Rattle.multi_market.proofs.WordRowLaws.{part_row}
 use borrow.Author.Rules.{rules}
 use Rattle.award_thin_masks.proofs.mask_has.Statement.{statement}
 use Rattle.award_thin_masks.proofs.mask_has.Tie as tie

@@ -4,7 +4,7 @@ use Prim.Native.Nat.{◌+◌, ◌*◌, ◌-◌, ◌≤◌}
 use native.Mathlib.Omega.{arith}
 use lib.ListN.{get_or}
 use lib.Bits.{bit_and, bit_or}
-use Rattle.multi_market.specs.WordRowLaws.{row_within}
+use Rattle.multi_market.proofs.WordRowLaws.{row_within}
 use Rattle.award_thin_masks.specs.MasksLaws.{Seeing, seeing_none, seeing_more, reached_soon, reached_all}
 use Rattle.award_thin_masks.proofs.seen.Statement.{statement}
 use Rattle.award_thin_masks.proofs.seen.Tie as tie

@@ -2,7 +2,7 @@
 -- Assumes nothing.
 use native.Mathlib.Omega.{arith}
 use Prim.Native.Nat.{◌/◌}
-use Rattle.cells.specs.StoreLaws.{filled_join, filled_at, filled_words}
+use Rattle.cells.proofs.StoreLaws.{filled_join, filled_at, filled_words}
 use borrow.Author.Rules.{rules}
 use Rattle.cells.proofs.add_bits.Reads as add-bits-reads
 use Rattle.cells.proofs.add_words.Reads as add-words-reads

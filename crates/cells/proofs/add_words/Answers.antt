@@ -4,7 +4,7 @@ use Prim.Native.Nat.{◌-◌, ◌*◌, ◌≤◌}
 use mathlib.Core.Path.{◌≡◌, refl}
 use lib.ListN.{length, length-set}
 use Rattle.cells.specs.Cells.{RangeAdded}
-use Rattle.cells.specs.StoreLaws.{filled_none, filled_join, whole_added}
+use Rattle.cells.proofs.StoreLaws.{filled_none, filled_join, whole_added}
 use borrow.Author.Rules.{rules}
 use Rattle.cells.proofs.add_words.Goals as goal
 

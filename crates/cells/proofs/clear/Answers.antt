@@ -3,7 +3,7 @@ use Prim.Native.Nat.{◌-◌}
 use mathlib.Core.Path.{refl}
 use native.Mathlib.Omega.{arith}
 use lib.ListN.{length}
-use Rattle.cells.specs.FillingLaws.{Filling, none, more, cleared}
+use Rattle.cells.proofs.FillingLaws.{Filling, none, more, cleared}
 use Rattle.cells.proofs.clear.Goals as goal
 
 pub loop-i-init : goal.loop-i-init

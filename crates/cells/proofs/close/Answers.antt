@@ -1,5 +1,5 @@
 -- `cells::close` meets its contract: before word w the cells below 64 w are cleared of the mask, and the others stand. Assumes nothing.
-use Rattle.cells.specs.StoreLaws.{Swept, swept_none, swept_more, swept_all}
+use Rattle.cells.proofs.StoreLaws.{Swept, swept_none, swept_more, swept_all}
 use mathlib.Core.Path.{◌≡◌, refl}
 use Prim.Native.Nat.{◌-◌, ◌≤◌}
 use native.Mathlib.Omega.{arith}

@@ -4,7 +4,7 @@ use native.Mathlib.Omega.{arith}
 use lib.ListN.{length}
 use borrow.Author.Rules.{rules}
 use Rattle.cells.specs.Masks.{masks}
-use Rattle.cells.specs.MasksLaws.{masks_length, mask_rule}
+use Rattle.cells.proofs.MasksLaws.{masks_length, mask_rule}
 use Rattle.cells.proofs.first_bits.Goals as goal
 
 pub bounds-table-k : goal.bounds-table-k

@@ -6,7 +6,7 @@ use lib.ListN.{length, get_or}
 use lib.Count.{trailing_le}
 use lib.Bits.{bit_and}
 use Rattle.cells.specs.Cells.{cell, whole}
-use Rattle.cells.specs.LowestLaws.{first_in_word, none_in_word, search_on, search_over}
+use Rattle.cells.proofs.LowestLaws.{first_in_word, none_in_word, search_on, search_over}
 use Rattle.cells.proofs.next_from.Goals as goal
 
 pub loop-q-init : goal.loop-q-init

@@ -1,5 +1,5 @@
 -- `cells::span` meets its contract: the first hi bits without the first lo. Assumes nothing.
-use Rattle.cells.specs.StoreLaws.{span_of}
+use Rattle.cells.proofs.StoreLaws.{span_of}
 use mathlib.Core.Path.{◌≡◌}
 use Prim.Native.Nat.{◌-◌, ◌^◌}
 use native.Mathlib.Omega.{arith}

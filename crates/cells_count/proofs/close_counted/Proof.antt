@@ -5,7 +5,7 @@ use mathlib.Core.Path.{◌≡◌, refl}
 use native.Mathlib.Omega.{arith}
 use lib.ListN.{length, length-set}
 use Rattle.cells_count.specs.Hops.{Counted, counted_to}
-use Rattle.cells.specs.StoreLaws.{Swept, swept_more, swept_all}
+use Rattle.cells.proofs.StoreLaws.{Swept, swept_more, swept_all}
 use Rattle.cells_count.specs.WalkLaws.{swept_first, swept_on}
 use Rattle.cells_count.specs.CountsLaws.{counted_set}
 use Rattle.cells_count.proofs.close_counted.Statement.{statement}

@@ -1,6 +1,6 @@
 -- Bids with one run of cells each, as lists of starts, ends and prices: the least sets and costs that the code of the single
 -- award computes.
-use Rattle.std.specs.Prelude.{Bool, true, cond, List, ℕ, ◌≤◌, length, get_or, eqb}
+use Rattle.std.specs.Prelude.{◌≡◌, Bool, true, cond, List, ℕ, ◌-◌, ◌≤◌, ◌<◌, length, get_or, eqb}
 use Rattle.cover.specs.Sets.{Found, nothing, cost}
 use Rattle.cover.specs.LeastCover.{without}
 use Rattle.cover.specs.Settled.{spans}
@@ -47,3 +47,8 @@ end_cost k a b ps i = cond (eqb i k) nothing (raise (get_or ps i 0) (cost_withou
 unfoldable pub cost_after : List ℕ → List ℕ → List ℕ → ℕ → ℕ → Found
 unfolding found_cost least_set covers_from spans
 cost_after a b ps L i = found_cost (cost ps) (least_set (covers_from (λ x. x) (get_or b i 0) (spans a b) (length ps)) (cost ps) (length ps) L)
+
+-- x and y are the starts and ends of the bids below n, counted from the end L
+pub record Mirrored (a b x y : List ℕ) (L n : ℕ) : Type 0 where
+  pub starts : (i : ℕ) → i < n → get_or x i 0 ≡ L - get_or b i 0
+  pub ends : (i : ℕ) → i < n → get_or y i 0 ≡ L - get_or a i 0

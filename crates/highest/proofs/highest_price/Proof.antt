@@ -2,7 +2,7 @@
 -- Assumes nothing.
 use mathlib.Core.Path.{sym, ap, ◌∙◌}
 use Rattle.award_fault.specs.Checks.{checked_fault}
-use Rattle.highest_rule.specs.AnswerLaws.{nine}
+use Rattle.highest_rule.proofs.AnswerLaws.{nine}
 use borrow.Author.Rules.{rules}
 use Rattle.highest.proofs.highest_price.Statement.{statement}
 use Rattle.highest.proofs.highest_price.Tie as tie

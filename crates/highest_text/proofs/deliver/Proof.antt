@@ -1,7 +1,7 @@
 -- The line is made in a buffer of its own, measured, and copied where there is room. Assumes nothing.
 use mathlib.Core.Path.{sym}
 use native.Mathlib.Omega.{arith}
-use Rattle.spelling.specs.DeliveredLaws.{line_size, line_none, line_all}
+use Rattle.spelling.proofs.DeliveredLaws.{line_size, line_none, line_all}
 use Rattle.highest_text.specs.ToldLaws.{line_short}
 use borrow.Author.Rules.{rules}
 use Rattle.highest_text.proofs.deliver.Statement.{statement}

@@ -1,6 +1,6 @@
 -- The bracket and the word, the number, and the word that ends the line. Assumes nothing.
 use native.Mathlib.Omega.{arith}
-use Rattle.spelling.specs.LineLaws.{decimal_short}
+use Rattle.spelling.proofs.LineLaws.{decimal_short}
 use Rattle.highest_text.specs.ToldLaws.{none_written}
 use borrow.Author.Rules.{rules}
 use Rattle.highest_text.proofs.put_none.Statement.{statement}

@@ -1,6 +1,6 @@
 -- What was read is asked; a refusal's line stands for a text that cannot be read. Assumes nothing.
-use Rattle.reader_fill.specs.FillLaws.{refused_is}
-use Rattle.reader_fill.specs.ReadInLaws.{filled_read}
+use Rattle.reader_fill.proofs.FillLaws.{refused_is}
+use Rattle.reader_fill.proofs.ReadInLaws.{filled_read}
 use Rattle.highest_text.specs.ToldLaws.{read_sound, told_read, told_refused}
 use borrow.Author.Rules.{rules}
 use Rattle.highest_text.proofs.tender_highest.Statement.{statement}

@@ -2,7 +2,7 @@
 use mathlib.Core.Path.{sym}
 use borrow.Author.Tests.{lt-ltb}
 use Rattle.list.specs.InputLaws.{text_within}
-use Rattle.listing_made.specs.MakingLaws.{made_some, made_size, made_inside}
+use Rattle.listing_made.proofs.MakingLaws.{made_some, made_size, made_inside}
 use borrow.Author.Rules.{rules}
 use Rattle.list.proofs.list_long.Statement.{statement}
 use Rattle.list.proofs.list_long.Tie as tie

@@ -4,7 +4,7 @@ use native.Mathlib.Omega.{arith}
 use lib.Seq.{length-take-le}
 use borrow.Author.Tests.{lt-ltb}
 use Rattle.list.specs.InputLaws.{text_within}
-use Rattle.listing_made.specs.MakingLaws.{made_some, made_size, made_inside}
+use Rattle.listing_made.proofs.MakingLaws.{made_some, made_size, made_inside}
 use borrow.Author.Rules.{rules}
 use Rattle.list.proofs.main.Statement.{statement}
 use Rattle.list.proofs.main.Tie as tie

@@ -1,7 +1,7 @@
 -- The list is made in a buffer of its own, measured, and copied where there is room. Assumes nothing.
 use mathlib.Core.Path.{sym}
 use native.Mathlib.Omega.{arith}
-use Rattle.listing_made.specs.MakingLaws.{made_few, made_size, listed_none, listed_all}
+use Rattle.listing_made.proofs.MakingLaws.{made_few, made_size, listed_none, listed_all}
 use borrow.Author.Rules.{rules}
 use Rattle.listing.proofs.make_apart.Statement.{statement}
 use Rattle.listing.proofs.make_apart.Tie as tie

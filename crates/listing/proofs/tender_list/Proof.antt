@@ -1,6 +1,6 @@
 -- A buffer that has room for any list gets it at once; for a shorter one it is made apart and measured. Assumes nothing.
 use native.Mathlib.Omega.{arith}
-use Rattle.listing_made.specs.MakingLaws.{listed_here}
+use Rattle.listing_made.proofs.MakingLaws.{listed_here}
 use borrow.Author.Rules.{rules}
 use Rattle.listing.proofs.tender_list.Statement.{statement}
 use Rattle.listing.proofs.tender_list.Tie as tie

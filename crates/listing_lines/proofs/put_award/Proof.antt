@@ -1,7 +1,7 @@
 -- The opening, the kind's keyword, and the tender's window. Assumes nothing.
 use native.Mathlib.Omega.{arith}
 use Rattle.tender.specs.Keywords.{bytes}
-use Rattle.spelling.specs.LineLaws.{kind_short}
+use Rattle.spelling.proofs.LineLaws.{kind_short}
 use Rattle.listing_lines.specs.SpellingLaws.{award_written}
 use borrow.Author.Rules.{rules}
 use Rattle.listing_lines.proofs.put_award.Statement.{statement}

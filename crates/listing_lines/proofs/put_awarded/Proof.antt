@@ -1,7 +1,7 @@
 -- The award line, the winners' lines and the last lines follow each other. Assumes nothing.
 use native.Mathlib.Omega.{arith}
-use Rattle.listing_text.specs.LineLaws.{award_short, win_lines_short}
-use Rattle.spelling.specs.WritingLaws.{then}
+use Rattle.listing_text.proofs.LineLaws.{award_short, win_lines_short}
+use Rattle.spelling.proofs.WritingLaws.{then}
 use borrow.Author.Rules.{rules}
 use Rattle.listing_lines.proofs.put_awarded.Statement.{statement}
 use Rattle.listing_lines.proofs.put_awarded.Tie as tie

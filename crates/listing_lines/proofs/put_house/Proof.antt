@@ -1,7 +1,7 @@
 -- No line where the house lost or there is none, else the line of its price. Assumes nothing.
 use borrow.Author.Tests.{not-true, not-false}
 use Rattle.tender.specs.Keywords.{bytes}
-use Rattle.spelling.specs.SpellingLaws.{nothing_written}
+use Rattle.spelling.proofs.SpellingLaws.{nothing_written}
 use Rattle.listing_lines.specs.SpellingLaws.{house_written, house_lost, no_house}
 use borrow.Author.Rules.{rules}
 use Rattle.listing_lines.proofs.put_house.Statement.{statement}

@@ -1,7 +1,7 @@
 -- The house's line, and the totals after it. Assumes nothing.
 use native.Mathlib.Omega.{arith}
 use Rattle.tender.specs.Keywords.{bytes}
-use Rattle.listing_text.specs.LineLaws.{house_short}
+use Rattle.listing_text.proofs.LineLaws.{house_short}
 use Rattle.listing_lines.specs.SpellingLaws.{last_written}
 use borrow.Author.Rules.{rules}
 use Rattle.listing_lines.proofs.put_last.Statement.{statement}

@@ -1,6 +1,6 @@
 -- A line for a winner, nothing for another bid. Assumes nothing.
 use Rattle.tender.specs.Keywords.{bytes}
-use Rattle.spelling.specs.SpellingLaws.{nothing_written}
+use Rattle.spelling.proofs.SpellingLaws.{nothing_written}
 use Rattle.listing_lines.specs.SpellingLaws.{win_written, no_win}
 use borrow.Author.Rules.{rules}
 use Rattle.listing_lines.proofs.put_win.Statement.{statement}

@@ -1,9 +1,9 @@
 -- The tables suffice, so the text is read or refused as its definition says; then its award or its refusal is written. The bids are so
 -- few that the list has room. Assumes nothing.
 use native.Mathlib.Omega.{arith}
-use Rattle.reader_fill.specs.FillLaws.{refused_is}
-use Rattle.reader_fill.specs.ReadInLaws.{filled_read, few_read}
-use Rattle.listing_made.specs.MakingLaws.{read_sound, read_room, made_award, made_refusal}
+use Rattle.reader_fill.proofs.FillLaws.{refused_is}
+use Rattle.reader_fill.proofs.ReadInLaws.{filled_read, few_read}
+use Rattle.listing_made.proofs.MakingLaws.{read_sound, read_room, made_award, made_refusal}
 use borrow.Author.Rules.{rules}
 use Rattle.listing_made.proofs.make.Statement.{statement}
 use Rattle.listing_made.proofs.make.Tie as tie

@@ -4,9 +4,9 @@ use mathlib.Core.Path.{sym}
 use native.Mathlib.Omega.{arith}
 use lib.ListN.{take}
 use lib.Seq.{length-take-le}
-use Rattle.reader_fill.specs.FillLaws.{refused_is}
-use Rattle.reader_fill.specs.ReadInLaws.{filled_read, few_read}
-use Rattle.listing_made.specs.MakingLaws.{read_sound, read_room, made_award, made_refusal}
+use Rattle.reader_fill.proofs.FillLaws.{refused_is}
+use Rattle.reader_fill.proofs.ReadInLaws.{filled_read, few_read}
+use Rattle.listing_made.proofs.MakingLaws.{read_sound, read_room, made_award, made_refusal}
 use borrow.Author.Rules.{rules}
 use Rattle.listing_made.proofs.make_in.Statement.{statement}
 use Rattle.listing_made.proofs.make_in.Tie as tie

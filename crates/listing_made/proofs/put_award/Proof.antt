@@ -1,5 +1,5 @@
 -- The award's answer, as its list. Assumes nothing.
-use Rattle.listing_made.specs.MakingLaws.{award_written, declined_written}
+use Rattle.listing_made.proofs.MakingLaws.{award_written, declined_written}
 use borrow.Author.Rules.{rules}
 use Rattle.listing_made.proofs.put_award.Statement.{statement}
 use Rattle.listing_made.proofs.put_award.Tie as tie

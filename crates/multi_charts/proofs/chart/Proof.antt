@@ -3,7 +3,7 @@ use Prim.Native.Nat.{◌-◌}
 use mathlib.Core.Path.{sym, ◌∙◌}
 use native.Mathlib.Omega.{arith}
 use lib.ListN.{length}
-use Rattle.multi_market.specs.WordRowLaws.{row_in}
+use Rattle.multi_market.proofs.WordRowLaws.{row_in}
 use Rattle.multi_charts.proofs.Charting.{Charts, charts_on, charts_end}
 use Rattle.multi_charts.proofs.chart.Statement.{statement}
 use Rattle.multi_charts.proofs.chart.Tie as tie

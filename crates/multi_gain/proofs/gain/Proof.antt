@@ -6,10 +6,10 @@ use native.Mathlib.Omega.{arith}
 use lib.ListN.{length}
 use borrow.Author.Tests.{eqb-true, eqb-false}
 use Rattle.cells.specs.Cells.{cell}
-use Rattle.cells.specs.StoreLaws.{cell_lt}
+use Rattle.cells.proofs.StoreLaws.{cell_lt}
 use Rattle.cells_count.specs.Hops.{Counted}
 use Rattle.multi_keys.specs.Tree.{leaves, Tree}
-use Rattle.multi_keys.specs.TreeLaws.{length_leaves}
+use Rattle.multi_keys.proofs.TreeLaws.{length_leaves}
 use Rattle.multi_index.specs.Index.{bid_at}
 use Rattle.multi_gain.specs.GainLaws.{Gaining, starts, node_in, bid_in_lem, next_below, passes, adds, ends}
 use Rattle.multi_gain.proofs.gain.Statement.{statement}

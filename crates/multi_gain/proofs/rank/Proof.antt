@@ -4,7 +4,7 @@ use mathlib.Core.Path.{ap, ◌∙◌}
 use native.Mathlib.Omega.{arith}
 use lib.ListN.{length, set}
 use Rattle.multi_keys.specs.Tree.{leaves}
-use Rattle.multi_market.specs.WordRowLaws.{row_in}
+use Rattle.multi_market.proofs.WordRowLaws.{row_in}
 use Rattle.multi_gain.specs.GainLaws.{key_counted}
 use borrow.Author.Rules.{rules}
 use Rattle.multi_gain.proofs.rank.Statement.{statement}

@@ -4,7 +4,7 @@ use mathlib.Core.Path.{refl}
 use Prim.Native.Nat.{ℕ, ◌<◌}
 use native.Mathlib.Omega.{arith}
 use lib.ListN.{length}
-use Rattle.multi_market.specs.WordRowLaws.{row_in}
+use Rattle.multi_market.proofs.WordRowLaws.{row_in}
 use Rattle.multi_highest.specs.RoundLaws.{starts}
 use borrow.Author.Rules.{rules}
 use Rattle.multi_highest.proofs.begin.Statement.{statement}

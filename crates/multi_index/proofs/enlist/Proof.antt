@@ -3,7 +3,7 @@ use Prim.Native.Nat.{◌-◌, ◌≤◌}
 use mathlib.Core.Path.{◌∙◌, sym}
 use native.Mathlib.Omega.{arith}
 use lib.ListN.{length}
-use Rattle.multi_market.specs.WordRowLaws.{row_in}
+use Rattle.multi_market.proofs.WordRowLaws.{row_in}
 use Rattle.multi_index.proofs.Enlisting.{Indexing, indexes_none, indexes_ever, indexes_row, indexes_all}
 use Rattle.multi_index.proofs.enlist.Statement.{statement}
 use Rattle.multi_index.proofs.enlist.Tie as tie

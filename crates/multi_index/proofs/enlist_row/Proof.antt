@@ -2,7 +2,7 @@
 use Prim.Native.Nat.{◌-◌}
 use mathlib.Core.Path.{◌∙◌}
 use native.Mathlib.Omega.{arith}
-use Rattle.multi_market.specs.WordRowLaws.{part_row, row_length, row_at}
+use Rattle.multi_market.proofs.WordRowLaws.{part_row, row_length, row_at}
 use Rattle.multi_index.proofs.Enlisting.{Enlisting, enlists_none, enlists_some, enlists_past, enlists_all, row_small}
 use Rattle.multi_index.proofs.enlist_row.Statement.{statement}
 use Rattle.multi_index.proofs.enlist_row.Tie as tie

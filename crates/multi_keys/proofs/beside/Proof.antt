@@ -1,5 +1,5 @@
 -- `multi_keys::beside` meets its contract: with its lowest bit turned a node is the other below the same one. Assumes nothing.
-use Rattle.multi_keys.specs.TreeLaws.{beside_is}
+use Rattle.multi_keys.proofs.TreeLaws.{beside_is}
 use Rattle.multi_keys.proofs.beside.Statement.{statement}
 use Rattle.multi_keys.proofs.beside.Tie as tie
 

@@ -3,7 +3,7 @@ use Prim.Native.Nat.{◌*◌}
 use mathlib.Core.Path.{◌≡◌}
 use native.Mathlib.Nat.{div-le_self}
 use native.Mathlib.Omega.{arith}
-use Rattle.multi_keys.specs.KeyLaws.{key_none, key_some}
+use Rattle.multi_keys.proofs.KeyLaws.{key_none, key_some}
 use borrow.Author.Rules.{rules}
 use Rattle.multi_keys.proofs.key_of.Statement.{statement}
 use Rattle.multi_keys.proofs.key_of.Tie as tie

@@ -3,7 +3,7 @@ use Prim.Native.Nat.{◌≤◌}
 use mathlib.Core.Path.{◌≡◌, refl, sym, ◌∙◌}
 use native.Mathlib.Omega.{arith}
 use Rattle.multi_keys.specs.Tree.{leaves}
-use Rattle.multi_keys.specs.TreeLaws.{From, play_starts, play_goes, play_ends, leaves_keep}
+use Rattle.multi_keys.proofs.TreeLaws.{From, play_starts, play_goes, play_ends, leaves_keep}
 use Rattle.multi_keys.proofs.play.Statement.{statement}
 use Rattle.multi_keys.proofs.play.Tie as tie
 

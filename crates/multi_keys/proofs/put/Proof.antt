@@ -4,7 +4,7 @@ use Prim.Native.Nat.{◌-◌}
 use mathlib.Core.Path.{◌≡◌, refl, sym, ◌∙◌}
 use native.Mathlib.Omega.{arith}
 use Rattle.multi_keys.specs.Tree.{leaves}
-use Rattle.multi_keys.specs.TreeLaws.{Putting, put_starts, put_goes, put_ends, leaves_set, leaves_keep}
+use Rattle.multi_keys.proofs.TreeLaws.{Putting, put_starts, put_goes, put_ends, leaves_set, leaves_keep}
 use Rattle.multi_keys.proofs.put.Statement.{statement}
 use Rattle.multi_keys.proofs.put.Tie as tie
 

@@ -4,9 +4,9 @@ use native.Mathlib.Omega.{arith}
 use lib.ListN.{length}
 use borrow.Author.Tests.{eqb-true, eqb-false}
 use Rattle.cells.specs.Cells.{cell}
-use Rattle.cells.specs.StoreLaws.{cell_lt}
+use Rattle.cells.proofs.StoreLaws.{cell_lt}
 use Rattle.multi_keys.specs.Tree.{leaves}
-use Rattle.multi_keys.specs.TreeLaws.{length_leaves}
+use Rattle.multi_keys.proofs.TreeLaws.{length_leaves}
 use Rattle.multi_market.specs.Market.{has}
 use Rattle.multi_limit.specs.PassLaws.{mark_own, gained_nothing, gained_one}
 use borrow.Author.Rules.{rules}

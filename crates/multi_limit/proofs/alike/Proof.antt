@@ -5,7 +5,7 @@ use mathlib.Core.Bool.{false≢true}
 use native.Mathlib.Omega.{arith}
 use borrow.Author.Tests.{eqb-true, eqb-false}
 use Rattle.cells.specs.Cells.{cell}
-use Rattle.cells.specs.StoreLaws.{cell_lt}
+use Rattle.cells.proofs.StoreLaws.{cell_lt}
 use Rattle.multi_rounds.specs.Trace.{bid_on}
 use borrow.Author.Rules.{rules}
 use Rattle.multi_limit.proofs.alike.Statement.{statement}

@@ -8,7 +8,7 @@ use borrow.Author.Rules.{rules}
 use Rattle.cells_count.specs.Hops.{Counted}
 use Rattle.multi_keys.specs.Keys.{at}
 use Rattle.multi_keys.specs.Tree.{leaves, Tree}
-use Rattle.multi_keys.specs.TreeLaws.{length_leaves}
+use Rattle.multi_keys.proofs.TreeLaws.{length_leaves}
 use Rattle.multi_market.specs.Market.{has}
 use Rattle.multi_index.specs.Index.{Indexed}
 use Rattle.multi_gain.specs.GainLaws.{indexed_more}

@@ -2,7 +2,7 @@
 -- of its tape; as many cells are open for it as its round gains. Assumes nothing.
 use mathlib.Core.Path.{refl, ◌∙◌}
 use native.Mathlib.Omega.{arith}
-use Rattle.multi_keys.specs.TreeLaws.{length_leaves}
+use Rattle.multi_keys.proofs.TreeLaws.{length_leaves}
 use Rattle.multi_gain.specs.GainLaws.{indexed_more}
 use Rattle.multi_limit.specs.PassLaws.{mark_kept, begin_follows}
 use borrow.Author.Rules.{rules}

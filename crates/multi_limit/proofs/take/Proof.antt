@@ -4,7 +4,7 @@ use mathlib.Core.Path.{refl, ap, ◌∙◌}
 use Prim.Native.Nat.{◌%◌, max}
 use native.Mathlib.Omega.{arith}
 use lib.ListN.{length}
-use Rattle.multi_market.specs.WordRowLaws.{row_in}
+use Rattle.multi_market.proofs.WordRowLaws.{row_in}
 use borrow.Author.Rules.{rules}
 use Rattle.multi_limit.proofs.take.Statement.{statement}
 use Rattle.multi_limit.proofs.take.Tie as tie

@@ -2,7 +2,7 @@ use Prim.Native.Nat.{◌-◌}
 use mathlib.Core.Path.{refl}
 use native.Mathlib.Omega.{arith}
 use lib.ListN.{length}
-use Rattle.cells.specs.FillingLaws.{Filling, none, more, copied}
+use Rattle.cells.proofs.FillingLaws.{Filling, none, more, copied}
 use Rattle.multi_keys.specs.Keys.{at}
 use Rattle.multi_market.proofs.copy.Statement.{statement}
 use Rattle.multi_market.proofs.copy.Tie as tie

@@ -4,9 +4,9 @@ use native.Mathlib.Omega.{arith}
 use Rattle.cells.specs.Cells.{common}
 use lib.ListN.{length}
 use Rattle.multi_market.specs.Market.{word_row}
-use Rattle.multi_market.specs.WordRowLaws.{part_row, row_length}
-use Rattle.multi_market.specs.OpensLaws.{reach_open}
-use Rattle.multi_market.specs.BeginLaws.{common_few}
+use Rattle.multi_market.proofs.WordRowLaws.{part_row, row_length}
+use Rattle.multi_market.proofs.OpensLaws.{reach_open}
+use Rattle.multi_market.proofs.BeginLaws.{common_few}
 use borrow.Author.Rules.{rules}
 use Rattle.multi_market.proofs.overlap.Statement.{statement}
 use Rattle.multi_market.proofs.overlap.Tie as tie

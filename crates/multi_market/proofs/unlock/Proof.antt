@@ -1,4 +1,4 @@
-use Rattle.multi_market.specs.BeginLaws.{first_of}
+use Rattle.multi_market.proofs.BeginLaws.{first_of}
 use borrow.Author.Rules.{rules}
 use Rattle.multi_market.proofs.unlock.Statement.{statement}
 use Rattle.multi_market.proofs.unlock.Tie as tie

@@ -3,7 +3,7 @@
 use mathlib.Core.Path.{refl, ap, ◌∙◌}
 use native.Mathlib.Omega.{arith}
 use lib.ListN.{length, set, length-set}
-use Rattle.multi_pay.specs.AlongLaws.{round_here, round_shuts, listed_on}
+use Rattle.multi_pay.proofs.AlongLaws.{round_here, round_shuts, listed_on}
 use Rattle.multi_pay.proofs.pay.Statement.{statement}
 use Rattle.multi_pay.proofs.pay.Tie as tie
 use Rattle.multi_pay.proofs.pay.Reads as reads

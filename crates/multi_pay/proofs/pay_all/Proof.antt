@@ -8,7 +8,7 @@ use Rattle.cells_count.specs.Hops.{Counted}
 use Rattle.multi_keys.specs.Tree.{leaves, Tree}
 use Rattle.multi_market.specs.Market.{has}
 use Rattle.multi_pay.specs.Paying.{Listed, Paying}
-use Rattle.multi_pay.specs.AlongLaws.{starts, ready_of, goes, ends}
+use Rattle.multi_pay.proofs.AlongLaws.{starts, ready_of, goes, ends}
 use Rattle.multi_pay.proofs.pay_all.Statement.{statement}
 use Rattle.multi_pay.proofs.pay_all.Tie as tie
 use Rattle.multi_pay.proofs.pay_all.Reads as reads

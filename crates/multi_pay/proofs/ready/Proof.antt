@@ -3,7 +3,7 @@
 use mathlib.Core.Path.{sym, ap, ◌∙◌}
 use native.Mathlib.Omega.{arith}
 use lib.ListN.{length}
-use Rattle.multi_pay.specs.AlongLaws.{next_key, seats_out, begins}
+use Rattle.multi_pay.proofs.AlongLaws.{next_key, seats_out, begins}
 use Rattle.multi_pay.proofs.ready.Statement.{statement}
 use Rattle.multi_pay.proofs.ready.Tie as tie
 use Rattle.multi_pay.proofs.ready.Reads as reads

@@ -2,8 +2,8 @@
 use mathlib.Core.Path.{sym}
 use native.Mathlib.Omega.{arith}
 use lib.ListN.{length}
-use Rattle.multi_market.specs.WordRowLaws.{part_row, row_length}
-use Rattle.multi_market.specs.OpensLaws.{reach_open}
+use Rattle.multi_market.proofs.WordRowLaws.{part_row, row_length}
+use Rattle.multi_market.proofs.OpensLaws.{reach_open}
 use borrow.Author.Rules.{rules}
 use Rattle.multi_rounds.proofs.cut.Statement.{statement}
 use Rattle.multi_rounds.proofs.cut.Tie as tie

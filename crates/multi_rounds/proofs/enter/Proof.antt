@@ -6,7 +6,7 @@ use native.Mathlib.Omega.{arith}
 use lib.ListN.{length}
 use Rattle.cells_count.specs.Hops.{Counted}
 use Rattle.multi_market.specs.Market.{has}
-use Rattle.multi_market.specs.WordRowLaws.{row_in}
+use Rattle.multi_market.proofs.WordRowLaws.{row_in}
 use Rattle.multi_rounds.specs.EnterLaws.{Entering, enters_none, enters_bid, enters_out, enters_all}
 use Rattle.multi_rounds.proofs.enter.Statement.{statement}
 use Rattle.multi_rounds.proofs.enter.Tie as tie

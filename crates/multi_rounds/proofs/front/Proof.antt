@@ -8,7 +8,7 @@ use Rattle.cells_count.specs.Hops.{Counted}
 use Rattle.multi_keys.specs.Keys.{at, last}
 use Rattle.multi_keys.specs.Tree.{leaves}
 use Rattle.multi_market.specs.Market.{has}
-use Rattle.multi_market.specs.WordRowLaws.{row_in}
+use Rattle.multi_market.proofs.WordRowLaws.{row_in}
 use Rattle.multi_rounds.specs.FrontLaws.{slack, Fronting, begins, first_in, is_above, is_exact, counted, fewer}
 use Rattle.multi_rounds.proofs.front.Statement.{statement}
 use Rattle.multi_rounds.proofs.front.Tie as tie

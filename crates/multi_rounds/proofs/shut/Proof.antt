@@ -1,7 +1,7 @@
 -- `multi_rounds::shut` meets its contract: the bid's words are a part of all the words. Assumes nothing.
 use mathlib.Core.Path.{sym}
 use lib.ListN.{length}
-use Rattle.multi_market.specs.WordRowLaws.{part_row, row_length}
+use Rattle.multi_market.proofs.WordRowLaws.{part_row, row_length}
 use Rattle.multi_rounds.specs.ShutLaws.{shut_row}
 use borrow.Author.Rules.{rules}
 use Rattle.multi_rounds.proofs.shut.Statement.{statement}

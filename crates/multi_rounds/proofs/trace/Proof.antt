@@ -12,9 +12,9 @@ use Rattle.cells_pairs.specs.Pairs.{in_pairs, Cut}
 use Rattle.multi_keys.specs.Keys.{last}
 use Rattle.multi_keys.specs.Tree.{leaves, Tree}
 use Rattle.multi_market.specs.Market.{word_row, has}
-use Rattle.multi_market.specs.WordRowLaws.{row_in}
+use Rattle.multi_market.proofs.WordRowLaws.{row_in}
 use Rattle.multi_market.specs.Opens.{open_of}
-use Rattle.multi_market.specs.OpensLaws.{reach_open}
+use Rattle.multi_market.proofs.OpensLaws.{reach_open}
 use Rattle.multi_rounds.specs.TracingLaws.{Tracing, trace_starts, inside, gains, fits, room_left, fewer_open, goes, ends}
 use Rattle.multi_rounds.proofs.trace.Statement.{statement}
 use Rattle.multi_rounds.proofs.trace.Tie as tie

@@ -3,7 +3,7 @@ use Prim.Native.Nat.{◌/◌, ◌%◌, ◌*◌, ◌^◌, ◌<◌}
 use native.Mathlib.Omega.{arith}
 use lib.ListN.{length, get_or}
 use lib.Bits.{bit_or}
-use Rattle.cells.specs.StoreLaws.{one_added}
+use Rattle.cells.proofs.StoreLaws.{one_added}
 use Rattle.numbers.specs.Members.{members}
 use Rattle.numbers.specs.MembersLaws.{turned_twice, member_word, members_length, members_set}
 use borrow.Author.Rules.{rules}

@@ -5,8 +5,8 @@ use mathlib.Core.Path.{◌∙◌}
 use native.Mathlib.Omega.{arith}
 use lib.ListN.{length-replicate}
 use Rattle.tender.specs.Tables.{bid_table, window_table}
-use Rattle.reader_fill.specs.FillLaws.{filled_is, refused_is, few_rows, few_windows}
-use Rattle.reader.specs.WholeLaws.{answer_refused, text_refused, bids_short, windows_short, answer_accepted}
+use Rattle.reader_fill.proofs.FillLaws.{filled_is, refused_is, few_rows, few_windows}
+use Rattle.reader.proofs.WholeLaws.{answer_refused, text_refused, bids_short, windows_short, answer_accepted}
 use borrow.Author.Rules.{rules}
 use Rattle.reader.proofs.read.Statement.{statement}
 use Rattle.reader.proofs.read.Tie as tie

@@ -9,7 +9,7 @@ use Rattle.numbers.specs.Members.{members}
 use Rattle.numbers.specs.MembersLaws.{members_none, members_length, members_same}
 use Rattle.reader_parts.specs.Words.{cut}
 use Rattle.reader_forms.specs.Line.{lines_of}
-use Rattle.reader_forms.specs.PiecesLaws.{lines_end}
+use Rattle.reader_forms.proofs.PiecesLaws.{lines_end}
 use Rattle.reader_bids.specs.FillsLaws.{Walk, walk_begins, walk_ends}
 use Rattle.reader_bids.specs.PlacesLaws.{walk_goes, walk_stops}
 use borrow.Author.Rules.{rules}

@@ -2,7 +2,7 @@
 use mathlib.Core.Path.{◌≡◌, refl, sym, subst, ap, ◌∙◌}
 use native.Mathlib.Omega.{arith}
 use Rattle.reader_line.specs.Answer.{told_line, EndsAfter}
-use Rattle.reader_text.specs.RulesLaws.{passed}
+use Rattle.reader_text.proofs.RulesLaws.{passed}
 use Rattle.reader_bids.specs.Steps.{verdict_of}
 use Rattle.reader_bids.specs.TakesLaws.{is_sound, taken_broken, taken_tender, taken_reserve, taken_fault}
 use Rattle.reader_bids.specs.TakesLaws.{taken_sound}

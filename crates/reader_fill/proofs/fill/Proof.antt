@@ -3,9 +3,9 @@ use mathlib.Core.Path.{sym, subst, ap, ◌∙◌}
 use native.Mathlib.Omega.{arith}
 use lib.Seq.{length-take-le}
 use Rattle.reader_fill.specs.Answer.{fill_answer, Holds}
-use Rattle.reader_fill.specs.RestLaws.{front_ended, front_length}
-use Rattle.reader_fill.specs.LinesReadLaws.{told_refused}
-use Rattle.reader_fill.specs.FillLaws.{too_long, no_lines, by_lines}
+use Rattle.reader_fill.proofs.RestLaws.{front_ended, front_length}
+use Rattle.reader_fill.proofs.LinesReadLaws.{told_refused}
+use Rattle.reader_fill.proofs.FillLaws.{too_long, no_lines, by_lines}
 use borrow.Author.Rules.{rules}
 use Rattle.reader_fill.proofs.fill.Statement.{statement}
 use Rattle.reader_fill.proofs.fill.Tie as tie

@@ -5,7 +5,7 @@ use mathlib.Core.Bool.{false}
 use native.Mathlib.Omega.{arith}
 use lib.ListN.{length, drop}
 use Rattle.reader_parts.specs.Words.{among}
-use Rattle.reader_fill.specs.RestLaws.{none_yet, none_here}
+use Rattle.reader_fill.proofs.RestLaws.{none_yet, none_here}
 use borrow.Author.Rules.{rules}
 use Rattle.reader_fill.proofs.last_line.Statement.{statement}
 use Rattle.reader_fill.proofs.last_line.Tie as tie

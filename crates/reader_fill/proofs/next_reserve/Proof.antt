@@ -1,9 +1,9 @@
 -- `next_reserve` meets its contract: the line at `at` is read as the definition does. Assumes nothing.
 use mathlib.Core.Path.{sym, subst, ap, ◌∙◌}
 use mathlib.Core.List.{[]}
-use Rattle.reader_forms.specs.EndedLaws.{lines_on, lines_next}
+use Rattle.reader_forms.proofs.EndedLaws.{lines_on, lines_next}
 use Rattle.reader_line.specs.Answer.{told_line, EndsAfter}
-use Rattle.reader_fill.specs.NextLaws.{next_none, next_other, next_reserve}
+use Rattle.reader_fill.proofs.NextLaws.{next_none, next_other, next_reserve}
 use borrow.Author.Rules.{rules}
 use Rattle.reader_fill.proofs.next_reserve.Statement.{statement}
 use Rattle.reader_fill.proofs.next_reserve.Tie as tie

@@ -2,10 +2,10 @@
 use mathlib.Core.Path.{sym, subst, ap, ◌∙◌}
 use mathlib.Core.List.{[]}
 use native.Mathlib.Omega.{arith}
-use Rattle.reader_forms.specs.EndedLaws.{lines_on, lines_next}
+use Rattle.reader_forms.proofs.EndedLaws.{lines_on, lines_next}
 use Rattle.reader_line.specs.Answer.{told_line, EndsAfter}
-use Rattle.reader_text.specs.FaultLaws.{flaw_fault, tender_told}
-use Rattle.reader_fill.specs.FirstLaws.{is_tender, first_other, first_faulty, first_sound, opened_same}
+use Rattle.reader_text.proofs.FaultLaws.{flaw_fault, tender_told}
+use Rattle.reader_fill.proofs.FirstLaws.{is_tender, first_other, first_faulty, first_sound, opened_same}
 use borrow.Author.Rules.{rules}
 use Rattle.reader_fill.proofs.read_head.Statement.{statement}
 use Rattle.reader_fill.proofs.read_head.Tie as tie

@@ -1,9 +1,9 @@
 -- `read_lines` meets its contract: the head, the bids and the rest settle the answer. Assumes nothing.
 use mathlib.Core.Path.{refl}
 use native.Mathlib.Omega.{arith}
-use Rattle.reader_text.specs.HeadLaws.{head_short}
-use Rattle.reader_fill.specs.LinesReadLaws.{opened_tender, opened_refused, filled_held, filled_refused, told_refused, told_accepted}
-use Rattle.reader_fill.specs.LinesReadLaws.{head_refused, bids_refused, rest_refused}
+use Rattle.reader_text.proofs.HeadLaws.{head_short}
+use Rattle.reader_fill.proofs.LinesReadLaws.{opened_tender, opened_refused, filled_held, filled_refused, told_refused, told_accepted}
+use Rattle.reader_fill.proofs.LinesReadLaws.{head_refused, bids_refused, rest_refused}
 use borrow.Author.Rules.{rules}
 use Rattle.reader_fill.proofs.read_lines.Statement.{statement}
 use Rattle.reader_fill.proofs.read_lines.Tie as tie

@@ -6,8 +6,8 @@ use lib.ListN.{drop}
 use Rattle.reader_parts.specs.Words.{cut}
 use Rattle.reader_forms.specs.Line.{lines_of}
 use Rattle.reader_text.specs.Read.{begun, reserve_in}
-use Rattle.reader_text.specs.HeadLaws.{reserve_absent, reserve_taken, reserve_high}
-use Rattle.reader_fill.specs.NextLaws.{found_reserve, found_other}
+use Rattle.reader_text.proofs.HeadLaws.{reserve_absent, reserve_taken, reserve_high}
+use Rattle.reader_fill.proofs.NextLaws.{found_reserve, found_other}
 use Rattle.reader_fill.proofs.reserve_in.Statement.{statement}
 use Rattle.reader_fill.proofs.reserve_in.Tie as tie
 

@@ -1,7 +1,7 @@
 -- `windows::read_span` meets its contract: it follows `span_front` from place to place. Assumes nothing.
 use native.Mathlib.Omega.{arith}
 use borrow.Author.Rules.{rules}
-use Rattle.reader_parts.specs.PlaceLaws.{not_last, span_first, span_unparted, span_second, span_unclosed, span_whole}
+use Rattle.reader_parts.proofs.PlaceLaws.{not_last, span_first, span_unparted, span_second, span_unclosed, span_whole}
 use Rattle.reader_window.proofs.read_span.Statement.{statement}
 use Rattle.reader_window.proofs.read_span.Tie as tie
 

@@ -2,7 +2,7 @@
 use Prim.Native.Nat.{◌+◌}
 use native.Mathlib.Omega.{arith}
 use borrow.Author.Rules.{rules}
-use Rattle.reader_parts.specs.PlaceLaws.{not_last, window_unparted, window_unopened, window_span}
+use Rattle.reader_parts.proofs.PlaceLaws.{not_last, window_unparted, window_unopened, window_span}
 use Rattle.reader_window.proofs.read_window.Statement.{statement}
 use Rattle.reader_window.proofs.read_window.Tie as tie
 

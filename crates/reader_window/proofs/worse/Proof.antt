@@ -2,7 +2,7 @@
 use mathlib.Core.Path.{sym}
 use borrow.Author.Rules.{rules}
 use Rattle.reader_parts.specs.Flaws.{worst}
-use Rattle.reader_parts.specs.FlawLaws.{worst_empty, worst_sound, flaw_empty, flaw_sound, flaw_late}
+use Rattle.reader_parts.proofs.FlawLaws.{worst_empty, worst_sound, flaw_empty, flaw_sound, flaw_late}
 use Rattle.reader_window.proofs.worse.Statement.{statement}
 use Rattle.reader_window.proofs.worse.Tie as tie
 

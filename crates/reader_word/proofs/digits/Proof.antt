@@ -5,7 +5,7 @@ use native.Mathlib.Omega.{arith}
 use borrow.Author.Rules.{rules}
 use lib.ListN.{length, drop}
 use Rattle.reader_parts.specs.Front.{digits_front}
-use Rattle.reader_parts.specs.PlaceLaws.{not_last, digits_more, digits_below, digits_above, digits_full}
+use Rattle.reader_parts.proofs.PlaceLaws.{not_last, digits_more, digits_below, digits_above, digits_full}
 use Rattle.reader_word.proofs.digits.Statement.{statement}
 use Rattle.reader_word.proofs.digits.Tie as tie
 

@@ -1,8 +1,8 @@
 -- `words::read_cents` meets its contract: it follows `cents_front` from the point to the second digit. Assumes nothing.
 use native.Mathlib.Omega.{arith}
 use borrow.Author.Rules.{rules}
-use Rattle.reader_parts.specs.PlaceLaws.{not_last}
-use Rattle.reader_parts.specs.PricePlaceLaws.{cents_above, cents_first, first_small, cents_second}
+use Rattle.reader_parts.proofs.PlaceLaws.{not_last}
+use Rattle.reader_parts.proofs.PricePlaceLaws.{cents_above, cents_first, first_small, cents_second}
 use Rattle.reader_word.proofs.read_cents.Statement.{statement}
 use Rattle.reader_word.proofs.read_cents.Tie as tie
 

@@ -1,6 +1,6 @@
 -- `words::read_digit` meets its contract: it goes by the byte, as `digit_front` does. Assumes nothing.
 use borrow.Author.Rules.{rules}
-use Rattle.reader_parts.specs.PricePlaceLaws.{digit_at, digit_below, digit_above}
+use Rattle.reader_parts.proofs.PricePlaceLaws.{digit_at, digit_below, digit_above}
 use Rattle.reader_word.proofs.read_digit.Statement.{statement}
 use Rattle.reader_word.proofs.read_digit.Tie as tie
 

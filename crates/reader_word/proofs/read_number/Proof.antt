@@ -1,7 +1,7 @@
 -- `words::read_number` meets its contract: it goes by the first byte, as `number_front` does. Assumes nothing.
 use native.Mathlib.Omega.{arith}
 use borrow.Author.Rules.{rules}
-use Rattle.reader_parts.specs.PlaceLaws.{not_last, number_zero, number_below, number_above, number_later}
+use Rattle.reader_parts.proofs.PlaceLaws.{not_last, number_zero, number_below, number_above, number_later}
 use Rattle.reader_word.proofs.read_number.Statement.{statement}
 use Rattle.reader_word.proofs.read_number.Tie as tie
 

@@ -1,6 +1,6 @@
 -- `words::read_price` meets its contract: a number and, where a point follows, its cents, as `price_front` has it. Assumes nothing.
 use borrow.Author.Rules.{rules}
-use Rattle.reader_parts.specs.PricePlaceLaws.{price_first, price_whole, price_cents}
+use Rattle.reader_parts.proofs.PricePlaceLaws.{price_first, price_whole, price_cents}
 use Rattle.reader_word.proofs.read_price.Statement.{statement}
 use Rattle.reader_word.proofs.read_price.Tie as tie
 

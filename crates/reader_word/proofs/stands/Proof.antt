@@ -8,8 +8,8 @@ use borrow.Author.Rules.{rules}
 use borrow.Author.Tests.{eqb-true}
 use lib.ListN.{length, drop, get_or}
 use Rattle.reader_parts.specs.Scan.{starts_with}
-use Rattle.reader_parts.specs.PlaceLaws.{not_last}
-use Rattle.reader_parts.specs.StartsLaws.{letter_same, letter_other, space_next, letters}
+use Rattle.reader_parts.proofs.PlaceLaws.{not_last}
+use Rattle.reader_parts.proofs.StartsLaws.{letter_same, letter_other, space_next, letters}
 use Rattle.reader_word.proofs.stands.Statement.{statement}
 use Rattle.reader_word.proofs.stands.Tie as tie
 

@@ -1,8 +1,8 @@
 -- The line is made in a buffer of its own, measured, and copied where there is room. Assumes nothing.
 use mathlib.Core.Path.{sym}
 use native.Mathlib.Omega.{arith}
-use Rattle.spelling.specs.LineLaws.{refused_short}
-use Rattle.spelling.specs.DeliveredLaws.{line_size, line_none, line_all}
+use Rattle.spelling.proofs.LineLaws.{refused_short}
+use Rattle.spelling.proofs.DeliveredLaws.{line_size, line_none, line_all}
 use borrow.Author.Rules.{rules}
 use Rattle.rewrite.proofs.deliver_refusal.Statement.{statement}
 use Rattle.rewrite.proofs.deliver_refusal.Tie as tie

@@ -1,5 +1,5 @@
 -- The length that was written, or 0. Assumes nothing.
-use Rattle.rewrite.specs.DeliverLaws.{delivers_text, delivers_none}
+use Rattle.rewrite.proofs.DeliverLaws.{delivers_text, delivers_none}
 use borrow.Author.Rules.{rules}
 use Rattle.rewrite.proofs.deliver_text.Statement.{statement}
 use Rattle.rewrite.proofs.deliver_text.Tie as tie

@@ -1,7 +1,7 @@
 -- What was read is written; a refusal's line stands for a text that cannot be read. Assumes nothing.
-use Rattle.reader_fill.specs.FillLaws.{refused_is}
-use Rattle.reader_fill.specs.ReadInLaws.{filled_read}
-use Rattle.rewrite.specs.DeliverLaws.{rewritten_text, rewritten_refusal}
+use Rattle.reader_fill.proofs.FillLaws.{refused_is}
+use Rattle.reader_fill.proofs.ReadInLaws.{filled_read}
+use Rattle.rewrite.proofs.DeliverLaws.{rewritten_text, rewritten_refusal}
 use borrow.Author.Rules.{rules}
 use Rattle.rewrite.proofs.tender_rewrite.Statement.{statement}
 use Rattle.rewrite.proofs.tender_rewrite.Tie as tie

@@ -2,7 +2,7 @@
 use Prim.Native.Nat.{◌-◌}
 use mathlib.Core.Path.{refl, sym, ◌∙◌}
 use native.Mathlib.Omega.{arith}
-use Rattle.runs.specs.MinuteRowLaws.{Adding, adding_begins, adding_order, adding_week, adding_goes, adding_ends}
+use Rattle.runs.proofs.MinuteRowLaws.{Adding, adding_begins, adding_order, adding_week, adding_goes, adding_ends}
 use Rattle.runs.proofs.add_windows.Statement.{statement}
 use Rattle.runs.proofs.add_windows.Tie as tie
 use Rattle.runs.proofs.add_windows.Reads as reads

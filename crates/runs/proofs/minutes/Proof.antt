@@ -2,7 +2,7 @@
 use mathlib.Core.Path.{refl, ◌∙◌}
 use borrow.Author.Rules.{rules}
 use Rattle.cells.specs.Masks.{masks}
-use Rattle.runs.specs.MinuteRowLaws.{cleared_empty}
+use Rattle.runs.proofs.MinuteRowLaws.{cleared_empty}
 use Rattle.runs.proofs.minutes.Statement.{statement}
 use Rattle.runs.proofs.minutes.Tie as tie
 use Rattle.runs.proofs.minutes.Reads as reads

@@ -1,5 +1,5 @@
 -- `runs::next` meets its contract: the first cell, then the first that is not. Assumes nothing.
-use Rattle.runs.specs.MinuteRowLaws.{run_found}
+use Rattle.runs.proofs.MinuteRowLaws.{run_found}
 use borrow.Author.Rules.{rules}
 use Rattle.runs.proofs.next.Statement.{statement}
 use Rattle.runs.proofs.next.Tie as tie

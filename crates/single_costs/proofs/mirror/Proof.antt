@@ -3,7 +3,8 @@ use mathlib.Core.Path.{◌≡◌}
 use Prim.Native.Nat.{◌≤◌, ◌-◌}
 use lib.ListN.{length, length-set}
 use native.Mathlib.Nat.{le_antisymm}
-use Rattle.cover.specs.Intervals.MirrorLaws.{Mirrored, mirrored_none, mirrored_more}
+use Rattle.cover.specs.Intervals.Bids.{Mirrored}
+use Rattle.cover.proofs.Intervals.MirrorLaws.{mirrored_none, mirrored_more}
 use native.Mathlib.Omega.{arith}
 use borrow.Author.Rules.{rules}
 use Rattle.single_costs.proofs.mirror.Statement.{statement}

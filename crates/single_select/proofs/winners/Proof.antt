@@ -1,6 +1,6 @@
 -- `single_select::winners` meets its contract: the leading row is the winners. Assumes nothing.
 use mathlib.Core.Path.{◌∙◌}
-use Rattle.cover.specs.SettledLaws.{listed_of}
+use Rattle.cover.proofs.SettledLaws.{listed_of}
 use native.Mathlib.Omega.{arith}
 use borrow.Author.Rules.{rules}
 use Rattle.single_select.proofs.winners.Statement.{statement}

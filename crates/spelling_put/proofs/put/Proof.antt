@@ -1,5 +1,5 @@
 -- The store puts one byte. Assumes nothing.
-use Rattle.spelling.specs.WritingLaws.{one_byte}
+use Rattle.spelling.proofs.WritingLaws.{one_byte}
 use borrow.Author.Rules.{rules}
 use Rattle.spelling_put.proofs.put.Statement.{statement}
 use Rattle.spelling_put.proofs.put.Tie as tie

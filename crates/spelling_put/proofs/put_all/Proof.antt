@@ -2,7 +2,7 @@
 use Prim.Native.Nat.{◌-◌}
 use native.Mathlib.Omega.{arith}
 use lib.ListN.{length}
-use Rattle.spelling.specs.WritingLaws.{Copying, copy_begins, copy_goes, copy_size, copy_ends}
+use Rattle.spelling.proofs.WritingLaws.{Copying, copy_begins, copy_goes, copy_size, copy_ends}
 use Rattle.spelling_put.proofs.put_all.Statement.{statement}
 use Rattle.spelling_put.proofs.put_all.Tie as tie
 use Rattle.spelling_put.proofs.put_all.Reads as reads

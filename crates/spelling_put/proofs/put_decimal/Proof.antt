@@ -1,5 +1,5 @@
 -- The digits that were spelt. Assumes nothing.
-use Rattle.spelling.specs.SpellingLaws.{decimal_written}
+use Rattle.spelling.proofs.SpellingLaws.{decimal_written}
 use borrow.Author.Rules.{rules}
 use Rattle.spelling_put.proofs.put_decimal.Statement.{statement}
 use Rattle.spelling_put.proofs.put_decimal.Tie as tie

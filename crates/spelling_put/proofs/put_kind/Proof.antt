@@ -2,7 +2,7 @@
 use Rattle.tender.specs.declared.Kind.TheVariants.{Single, Multi}
 use Rattle.tender.specs.Keywords.{bytes, single_word, multi_word}
 use Rattle.spelling.specs.Lines.{kind_word}
-use Rattle.spelling.specs.SpellingLaws.{kind_written}
+use Rattle.spelling.proofs.SpellingLaws.{kind_written}
 use borrow.Author.Rules.{rules}
 use Rattle.spelling_put.proofs.put_kind.Statement.{statement}
 use Rattle.spelling_put.proofs.put_kind.Tie as tie

@@ -1,5 +1,5 @@
 -- A space, and the number. Assumes nothing.
-use Rattle.spelling.specs.WritingLaws.{then}
+use Rattle.spelling.proofs.WritingLaws.{then}
 use borrow.Author.Rules.{rules}
 use Rattle.spelling_put.proofs.put_number.Statement.{statement}
 use Rattle.spelling_put.proofs.put_number.Tie as tie

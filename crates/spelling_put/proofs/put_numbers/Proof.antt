@@ -1,7 +1,7 @@
 -- Two numbers and the bytes that end a line. Assumes nothing.
 use native.Mathlib.Omega.{arith}
-use Rattle.spelling.specs.LineLaws.{decimal_short}
-use Rattle.spelling.specs.SpellingLaws.{numbers_written}
+use Rattle.spelling.proofs.LineLaws.{decimal_short}
+use Rattle.spelling.proofs.SpellingLaws.{numbers_written}
 use borrow.Author.Rules.{rules}
 use Rattle.spelling_put.proofs.put_numbers.Statement.{statement}
 use Rattle.spelling_put.proofs.put_numbers.Tie as tie

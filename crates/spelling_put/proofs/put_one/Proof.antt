@@ -1,7 +1,7 @@
 -- An opening bracket, the word, the number, and the bytes that end a line. Assumes nothing.
 use native.Mathlib.Omega.{arith}
-use Rattle.spelling.specs.LineLaws.{decimal_short}
-use Rattle.spelling.specs.SpellingLaws.{one_written}
+use Rattle.spelling.proofs.LineLaws.{decimal_short}
+use Rattle.spelling.proofs.SpellingLaws.{one_written}
 use borrow.Author.Rules.{rules}
 use Rattle.spelling_put.proofs.put_one.Statement.{statement}
 use Rattle.spelling_put.proofs.put_one.Tie as tie

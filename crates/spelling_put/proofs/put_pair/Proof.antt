@@ -1,5 +1,5 @@
 -- An opening bracket, the word, and the two numbers. Assumes nothing.
-use Rattle.spelling.specs.SpellingLaws.{pair_written}
+use Rattle.spelling.proofs.SpellingLaws.{pair_written}
 use borrow.Author.Rules.{rules}
 use Rattle.spelling_put.proofs.put_pair.Statement.{statement}
 use Rattle.spelling_put.proofs.put_pair.Tie as tie

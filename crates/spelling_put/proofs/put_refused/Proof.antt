@@ -1,6 +1,6 @@
 -- The refusal's number and place. Assumes nothing.
 use Rattle.tender.specs.Keywords.{bytes}
-use Rattle.spelling.specs.SpellingLaws.{refusal_written}
+use Rattle.spelling.proofs.SpellingLaws.{refusal_written}
 use borrow.Author.Rules.{rules}
 use Rattle.spelling_put.proofs.put_refused.Statement.{statement}
 use Rattle.spelling_put.proofs.put_refused.Tie as tie

@@ -3,7 +3,7 @@ use native.Mathlib.Omega.{arith}
 use mathlib.Core.Path.{sym, ◌∙◌}
 use Prim.Native.Nat.{◌+◌, ◌-◌, ◌%◌}
 use lib.ListN.{length-set}
-use Rattle.spelling.specs.SpellingLaws.{Spelling, spell_begins, spell_goes, spell_ends}
+use Rattle.spelling.proofs.SpellingLaws.{Spelling, spell_begins, spell_goes, spell_ends}
 use Rattle.spelling_put.proofs.spell.Statement.{statement}
 use Rattle.spelling_put.proofs.spell.Tie as tie
 use Rattle.spelling_put.proofs.spell.Reads as reads

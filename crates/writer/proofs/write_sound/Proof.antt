@@ -2,7 +2,7 @@
 use mathlib.Core.Path.{sym}
 use mathlib.Core.Logic.{inl, inr}
 use native.Mathlib.Omega.{arith}
-use Rattle.writer_text.specs.FillingLaws.{some_length}
+use Rattle.writer_text.proofs.FillingLaws.{some_length}
 use Rattle.writer.specs.WritesLaws.{writes_fourteen, writes_text}
 use borrow.Author.Rules.{rules}
 use Rattle.writer.proofs.write_sound.Statement.{statement}

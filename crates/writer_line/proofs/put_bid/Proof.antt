@@ -4,9 +4,9 @@ use native.Mathlib.Omega.{arith}
 use lib.ListN.{drop}
 use Rattle.tender.specs.Keywords.{bytes}
 use Rattle.tender.specs.Tables.{windows_of, window_width}
-use Rattle.spelling.specs.LineLaws.{decimal_short}
-use Rattle.writer_line.specs.LengthLaws.{joined_text_few}
-use Rattle.writer_line.specs.PutLaws.{bid_written}
+use Rattle.spelling.proofs.LineLaws.{decimal_short}
+use Rattle.writer_line.proofs.LengthLaws.{joined_text_few}
+use Rattle.writer_line.proofs.PutLaws.{bid_written}
 use borrow.Author.Rules.{rules}
 use Rattle.writer_line.proofs.put_bid.Statement.{statement}
 use Rattle.writer_line.proofs.put_bid.Tie as tie

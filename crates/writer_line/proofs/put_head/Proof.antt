@@ -1,7 +1,7 @@
 -- The tender's line, and its reserve's after it. Assumes nothing.
 use native.Mathlib.Omega.{arith}
-use Rattle.writer_line.specs.LengthLaws.{tender_short}
-use Rattle.writer_line.specs.PutLaws.{head_written}
+use Rattle.writer_line.proofs.LengthLaws.{tender_short}
+use Rattle.writer_line.proofs.PutLaws.{head_written}
 use borrow.Author.Rules.{rules}
 use Rattle.writer_line.proofs.put_head.Statement.{statement}
 use Rattle.writer_line.proofs.put_head.Tie as tie

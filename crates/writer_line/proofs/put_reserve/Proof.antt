@@ -1,6 +1,6 @@
 -- No line, or the line of the price. Assumes nothing.
 use Rattle.tender.specs.Keywords.{bytes, reserve_word}
-use Rattle.writer_line.specs.PutLaws.{no_reserve, reserve_written}
+use Rattle.writer_line.proofs.PutLaws.{no_reserve, reserve_written}
 use borrow.Author.Rules.{rules}
 use Rattle.writer_line.proofs.put_reserve.Statement.{statement}
 use Rattle.writer_line.proofs.put_reserve.Tie as tie

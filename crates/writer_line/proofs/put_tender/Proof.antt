@@ -1,8 +1,8 @@
 -- The opening, the kind's keyword, and the tender's window. Assumes nothing.
 use native.Mathlib.Omega.{arith}
 use Rattle.tender.specs.Keywords.{bytes}
-use Rattle.spelling.specs.LineLaws.{kind_short}
-use Rattle.writer_line.specs.PutLaws.{tender_written}
+use Rattle.spelling.proofs.LineLaws.{kind_short}
+use Rattle.writer_line.proofs.PutLaws.{tender_written}
 use borrow.Author.Rules.{rules}
 use Rattle.writer_line.proofs.put_tender.Statement.{statement}
 use Rattle.writer_line.proofs.put_tender.Tie as tie

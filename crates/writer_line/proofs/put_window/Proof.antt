@@ -1,8 +1,8 @@
 -- A space and a bracket, two numbers, and a bracket. Assumes nothing.
 use native.Mathlib.Omega.{arith}
 use Rattle.tender.specs.Keywords.{bytes}
-use Rattle.spelling.specs.LineLaws.{decimal_short}
-use Rattle.writer_line.specs.PutLaws.{window_written}
+use Rattle.spelling.proofs.LineLaws.{decimal_short}
+use Rattle.writer_line.proofs.PutLaws.{window_written}
 use borrow.Author.Rules.{rules}
 use Rattle.writer_line.proofs.put_window.Statement.{statement}
 use Rattle.writer_line.proofs.put_window.Tie as tie

@@ -4,7 +4,7 @@ use mathlib.Core.Path.{sym, ◌∙◌}
 use native.Mathlib.Omega.{arith}
 use lib.ListN.{drop}
 use Rattle.tender.specs.Tables.{windows_of, window_width}
-use Rattle.writer_line.specs.PutLaws.{Putting, putting_begins, putting_room, putting_size, putting_late, putting_goes, putting_ends}
+use Rattle.writer_line.proofs.PutLaws.{Putting, putting_begins, putting_room, putting_size, putting_late, putting_goes, putting_ends}
 use Rattle.writer_line.proofs.put_windows.Statement.{statement}
 use Rattle.writer_line.proofs.put_windows.Tie as tie
 use Rattle.writer_line.proofs.put_windows.Reads as reads

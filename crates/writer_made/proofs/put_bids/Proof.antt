@@ -5,8 +5,8 @@ use native.Mathlib.Omega.{arith}
 use lib.ListN.{length}
 use Rattle.tender.specs.Tables.{rows_of, bid_width}
 use Rattle.runs.specs.MinuteRows.{row_words}
-use Rattle.writer_text.specs.TableLaws.{row_plain, rows_lent}
-use Rattle.writer_text.specs.FillingLaws.{BidsPut, bids_begin, bids_go, bids_end, bids_long}
+use Rattle.writer_text.proofs.TableLaws.{row_plain, rows_lent}
+use Rattle.writer_text.proofs.FillingLaws.{BidsPut, bids_begin, bids_go, bids_end, bids_long}
 use Rattle.writer_made.proofs.put_bids.Statement.{statement}
 use Rattle.writer_made.proofs.put_bids.Tie as tie
 use Rattle.writer_made.proofs.put_bids.Reads as reads

@@ -1,8 +1,8 @@
 -- The lines before the bids, and the lines of the bids after them. Assumes nothing.
 use mathlib.Core.Path.{refl}
 use native.Mathlib.Omega.{arith}
-use Rattle.runs.specs.MinuteRowLaws.{empty_row, full_row}
-use Rattle.writer_text.specs.FillingLaws.{some_text}
+use Rattle.runs.proofs.MinuteRowLaws.{empty_row, full_row}
+use Rattle.writer_text.proofs.FillingLaws.{some_text}
 use borrow.Author.Rules.{rules}
 use Rattle.writer_made.proofs.put_text.Statement.{statement}
 use Rattle.writer_made.proofs.put_text.Tie as tie

@@ -40,7 +40,7 @@ use Rattle.tender.specs.contracts.Tender as Ten
 use Rattle.tender.proofs.Tender.TheLaws as Ten'
 use Rattle.tender.specs.contracts.AwardRow as Row
 use Rattle.award_outcome.specs.Promise.{rows_filled}
-use Rattle.award_outcome.specs.RowsPromiseLaws.{rows_fit}
+use Rattle.award_outcome.proofs.RowsPromiseLaws.{rows_fit}
 use Rattle.award_rule.specs.Plain.{rows_in, PlainPromise}
 use Rattle.award_rows.proofs.WalkSteps.{past, last_of, called}
 use Rattle.award_rows.specs.contracts.fill as fill

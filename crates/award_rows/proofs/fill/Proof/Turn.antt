@@ -42,7 +42,7 @@ use denote.Ref.{MutBor}
 use denote.Struct.Laws as LL
 use denote.Steps.{nothing, owned}
 use denote.Triple.Statement.{Triple}
-use Rattle.cells.specs.StoreLaws.{lt_or_le}
+use Rattle.cells.proofs.StoreLaws.{lt_or_le}
 use Rattle.tender.specs.declared.AwardRow.{AwardRow}
 use Rattle.tender.specs.contracts.AwardRow as T
 use Rattle.tender.proofs.AwardRow.TheLaws as T'

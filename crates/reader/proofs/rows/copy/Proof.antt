@@ -4,7 +4,7 @@ use mathlib.Core.Path.{◌≡◌, refl, ap, ◌∙◌}
 use mathlib.Core.List.{◌++◌}
 use native.Mathlib.Omega.{arith}
 use lib.ListN.{length, take, drop, set, get_or}
-use Rattle.reader.specs.TableLaws.{copied_place, copied_length}
+use Rattle.reader.proofs.TableLaws.{copied_place, copied_length}
 use borrow.Author.Rules.{rules}
 use Rattle.reader.proofs.rows.copy.Statement.{statement}
 use Rattle.reader.proofs.rows.copy.Tie as tie

@@ -3,11 +3,11 @@ use mathlib.Core.Path.{refl, sym, ap, ◌∙◌}
 use native.Mathlib.Omega.{arith}
 use borrow.Author.Rules.{rules}
 use lib.ListN.{drop}
-use Rattle.reader_parts.specs.PlaceLaws.{not_last}
+use Rattle.reader_parts.proofs.PlaceLaws.{not_last}
 use Rattle.reader_forms.specs.LineFront.{windows_front}
 use Rattle.reader_line.specs.Answer.{noted_front}
-use Rattle.reader_line.specs.LinePlaceLaws.{bid_unnumbered, bid_unparted, bid_unpriced, bid_priced}
-use Rattle.reader_line.specs.AnswerLaws.{noted_wrong, bid_broken, bid_told}
+use Rattle.reader_line.proofs.LinePlaceLaws.{bid_unnumbered, bid_unparted, bid_unpriced, bid_priced}
+use Rattle.reader_line.proofs.AnswerLaws.{noted_wrong, bid_broken, bid_told}
 use Rattle.reader_line.proofs.line.read_bid.Statement.{statement}
 use Rattle.reader_line.proofs.line.read_bid.Tie as tie
 

@@ -6,10 +6,10 @@ use Rattle.tender.specs.Limits.{within}
 use Rattle.tender.specs.Keywords.{bytes, tender_word, reserve_word}
 use Rattle.reader_parts.specs.Scan.{lettered}
 use Rattle.reader_parts.specs.Front.{wrong}
-use Rattle.reader_parts.specs.PlaceLaws.{not_last}
+use Rattle.reader_parts.proofs.PlaceLaws.{not_last}
 use Rattle.reader_line.specs.declared.line.Line.TheVariants.{Broken}
-use Rattle.reader_line.specs.AnswerLaws.{noted_wrong}
-use Rattle.reader_line.specs.HeadLineLaws.{head_unopened, head_tender, head_reserve, head_neither, head_told, head_after}
+use Rattle.reader_line.proofs.AnswerLaws.{noted_wrong}
+use Rattle.reader_line.proofs.HeadLineLaws.{head_unopened, head_tender, head_reserve, head_neither, head_told, head_after}
 use Rattle.reader_line.proofs.line.read_head_line.Statement.{statement}
 use Rattle.reader_line.proofs.line.read_head_line.Tie as tie
 

@@ -2,8 +2,8 @@
 use Prim.Native.Nat.{◌+◌}
 use native.Mathlib.Omega.{arith}
 use borrow.Author.Rules.{rules}
-use Rattle.reader_line.specs.LinePlaceLaws.{kind_unspanned, kind_unended, kind_whole}
-use Rattle.reader_line.specs.AnswerLaws.{noted_wrong, noted_tender}
+use Rattle.reader_line.proofs.LinePlaceLaws.{kind_unspanned, kind_unended, kind_whole}
+use Rattle.reader_line.proofs.AnswerLaws.{noted_wrong, noted_tender}
 use Rattle.reader_line.proofs.line.read_kind.Statement.{statement}
 use Rattle.reader_line.proofs.line.read_kind.Tie as tie
 

@@ -5,13 +5,13 @@ use borrow.Author.Rules.{rules}
 use Rattle.tender.specs.Limits.{within}
 use Rattle.tender.specs.Keywords.{bytes, bid_word}
 use Rattle.reader_parts.specs.Scan.{lettered}
-use Rattle.reader_parts.specs.PlaceLaws.{not_last}
+use Rattle.reader_parts.proofs.PlaceLaws.{not_last}
 use Rattle.reader_line.specs.declared.line.Line.TheVariants.{Broken}
 use Rattle.reader_forms.specs.Tally.{noted}
 use Rattle.reader_line.specs.Answer.{noted_front}
-use Rattle.reader_line.specs.LinePlaceLaws.{line_unopened, line_bid}
-use Rattle.reader_line.specs.AnswerLaws.{noted_wrong, line_told, line_after}
-use Rattle.reader_line.specs.HeadLineLaws.{line_unbid}
+use Rattle.reader_line.proofs.LinePlaceLaws.{line_unopened, line_bid}
+use Rattle.reader_line.proofs.AnswerLaws.{noted_wrong, line_told, line_after}
+use Rattle.reader_line.proofs.HeadLineLaws.{line_unbid}
 use Rattle.reader_line.proofs.line.read_line.Statement.{statement}
 use Rattle.reader_line.proofs.line.read_line.Tie as tie
 

@@ -2,9 +2,9 @@
 use Prim.Native.Nat.{◌+◌}
 use native.Mathlib.Omega.{arith}
 use borrow.Author.Rules.{rules}
-use Rattle.reader_parts.specs.PlaceLaws.{not_last}
-use Rattle.reader_line.specs.LinePlaceLaws.{reserve_unpriced, reserve_unclosed, reserve_unended, reserve_whole}
-use Rattle.reader_line.specs.AnswerLaws.{noted_wrong, noted_reserve}
+use Rattle.reader_parts.proofs.PlaceLaws.{not_last}
+use Rattle.reader_line.proofs.LinePlaceLaws.{reserve_unpriced, reserve_unclosed, reserve_unended, reserve_whole}
+use Rattle.reader_line.proofs.AnswerLaws.{noted_wrong, noted_reserve}
 use Rattle.reader_line.proofs.line.read_reserve.Statement.{statement}
 use Rattle.reader_line.proofs.line.read_reserve.Tie as tie
 

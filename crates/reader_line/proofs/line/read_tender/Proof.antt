@@ -6,8 +6,8 @@ use Rattle.tender.specs.Limits.{within}
 use Rattle.tender.specs.Keywords.{bytes, single_word, multi_word}
 use Rattle.reader_parts.specs.Scan.{lettered}
 use Rattle.reader_line.specs.Answer.{noted_front}
-use Rattle.reader_line.specs.LinePlaceLaws.{tender_single, tender_multi, tender_neither}
-use Rattle.reader_line.specs.AnswerLaws.{noted_wrong}
+use Rattle.reader_line.proofs.LinePlaceLaws.{tender_single, tender_multi, tender_neither}
+use Rattle.reader_line.proofs.AnswerLaws.{noted_wrong}
 use Rattle.reader_line.proofs.line.read_tender.Statement.{statement}
 use Rattle.reader_line.proofs.line.read_tender.Tie as tie
 

@@ -5,11 +5,11 @@ use native.Mathlib.Omega.{arith}
 use borrow.Author.Rules.{rules}
 use lib.ListN.{length, take, drop}
 use Rattle.tender.specs.Tables.{window_width}
-use Rattle.reader_parts.specs.PlaceLaws.{not_last, window_further}
+use Rattle.reader_parts.proofs.PlaceLaws.{not_last, window_further}
 use Rattle.reader_parts.specs.declared.Flaw.TheVariants.{Sound}
 use Rattle.reader_forms.specs.LineFront.{windows_front}
 use Rattle.reader_line.specs.Answer.{tallied_front}
-use Rattle.reader_line.specs.TallyLaws.{rows_before, tally_wrong, tally_more, tally_last, tally_unended}
+use Rattle.reader_line.proofs.TallyLaws.{rows_before, tally_wrong, tally_more, tally_last, tally_unended}
 use Rattle.reader_line.proofs.line.read_windows.Statement.{statement}
 use Rattle.reader_line.proofs.line.read_windows.Tie as tie
 

@@ -3,8 +3,9 @@ use mathlib.Core.Path.{◌≡◌}
 use Prim.Native.Nat.{◌≤◌, ◌-◌}
 use lib.ListN.{length, length-set}
 use native.Mathlib.Nat.{le_antisymm}
+use Rattle.cover.specs.Settled.{FilledTo}
 use Rattle.cover.specs.Sets.{bit, when}
-use Rattle.cover.specs.SettledLaws.{FilledTo, written_none, written_more}
+use Rattle.cover.proofs.SettledLaws.{written_none, written_more}
 use Rattle.single_lead.specs.Rows.{set_in}
 use Rattle.single_select.specs.ExtendLaws.{bit_row}
 use native.Mathlib.Omega.{arith}

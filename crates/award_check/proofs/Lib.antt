@@ -1,0 +1,5 @@
+pub mod AlikeLaws
+pub mod TextLaws
+pub mod AuctionLaws
+pub mod WithheldLaws
+pub mod WalkLaws

@@ -1,0 +1,5 @@
+pub mod AwardLaws
+pub mod SumsLaws
+pub mod PlainLaws
+pub mod ReportLaws
+pub mod ReadLaws

@@ -1,0 +1,5 @@
+pub mod BitLaws
+pub mod FillingLaws
+pub mod LowestLaws
+pub mod MasksLaws
+pub mod StoreLaws

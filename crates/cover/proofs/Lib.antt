@@ -1,0 +1,16 @@
+pub mod SetLaws
+pub mod LeastCoverLaws
+pub mod EarliestLaws
+pub mod VcgLaws
+pub mod PickLaws
+pub mod GreedyLaws
+pub mod ChanceLaws
+pub mod GreedyCoverLaws
+pub mod BarLaws
+pub mod WinningLaws
+pub mod CriticalLaws
+pub mod SpareLaws
+pub mod FewerLaws
+pub mod SetMemberLaws
+pub mod SettledLaws
+pub mod Intervals

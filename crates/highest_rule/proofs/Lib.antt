@@ -1,0 +1,3 @@
+pub mod HighestLaws
+pub mod RowLaws
+pub mod AnswerLaws

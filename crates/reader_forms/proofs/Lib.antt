@@ -1,0 +1,9 @@
+pub mod PiecesLaws
+pub mod EndedLaws
+pub mod LinePlainLaws
+pub mod SizeLaws
+pub mod WithoutLaws
+pub mod WindowsFrontLaws
+pub mod HeadFrontLaws
+pub mod LineFrontLaws
+pub mod EndingLaws

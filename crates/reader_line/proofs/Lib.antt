@@ -1,0 +1,4 @@
+pub mod TallyLaws
+pub mod LinePlaceLaws
+pub mod AnswerLaws
+pub mod HeadLineLaws

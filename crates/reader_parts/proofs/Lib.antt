@@ -1,0 +1,15 @@
+pub mod GivenLaws
+pub mod CutLaws
+pub mod RejoinedLaws
+pub mod ScanLaws
+pub mod DigitsLaws
+pub mod FlawLaws
+pub mod FrontLaws
+pub mod NumberFrontLaws
+pub mod NumberSizeLaws
+pub mod PriceFormLaws
+pub mod PriceFrontLaws
+pub mod WindowFrontLaws
+pub mod StartsLaws
+pub mod PlaceLaws
+pub mod PricePlaceLaws

@@ -1,0 +1,11 @@
+pub mod FaultLaws
+pub mod ReadLaws
+pub mod HeadLaws
+pub mod RestLaws
+pub mod BidLaws
+pub mod BidChangeLaws
+pub mod SpellingLaws
+pub mod RulesLaws
+pub mod CountLaws
+pub mod PlainLaws
+pub mod SizeLaws

@@ -1,0 +1,5 @@
+pub mod RunsLaws
+pub mod RunsFewLaws
+pub mod NextLaws
+pub mod JoinedLaws
+pub mod MinuteRowLaws

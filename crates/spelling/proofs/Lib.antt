@@ -1,0 +1,9 @@
+pub mod LineLaws
+pub mod WritingLaws
+pub mod SpellingLaws
+pub mod DecimalLaws
+pub mod PriceLaws
+pub mod SpeltShortLaws
+pub mod WordLaws
+pub mod BackLaws
+pub mod DeliveredLaws
