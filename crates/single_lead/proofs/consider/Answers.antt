@@ -1,7 +1,6 @@
 -- `single_lead::consider` meets its contract: by the ways through it. Assumes nothing.
 use Rattle.single_lead.specs.RowsLaws.{reached_yes, reached_not, reached_far}
 use mathlib.Core.Path.{◌∙◌}
-use borrow.Author.Rules.{rules}
 use Rattle.single_lead.proofs.consider.Goals as goal
 
 pub returns-then-t-end : goal.returns-then-t-end

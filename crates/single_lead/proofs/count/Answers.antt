@@ -1,6 +1,5 @@
 -- `single_lead::count` meets its contract: by the two ways through it. Assumes nothing.
 use Rattle.single_lead.specs.LiveLaws.{counted_yes, counted_no}
-use borrow.Author.Rules.{rules}
 use Rattle.single_lead.proofs.count.Goals as goal
 
 pub returns-then-t-end : goal.returns-then-t-end

@@ -1,7 +1,6 @@
 -- `single_lead::end_of` meets its contract: by the two ways through it. Assumes nothing.
 use mathlib.Core.Path.{sym}
 use Rattle.single_lead.specs.LeadLaws.{end_none, end_some}
-use borrow.Author.Rules.{rules}
 use Rattle.single_lead.proofs.end_of.Goals as goal
 
 pub returns-then-r-n : goal.returns-then-r-n

@@ -1,7 +1,6 @@
 -- `single_lead::lighter` meets its contract: by the ways through it. Assumes nothing.
 use mathlib.Core.Path.{sym, ◌∙◌}
 use Rattle.single_lead.specs.RowsLaws.{prefer_less, prefer_more, prefer_first, prefer_last}
-use borrow.Author.Rules.{rules}
 use Rattle.single_lead.proofs.lighter.Goals as goal
 
 pub returns-then-x-y : goal.returns-then-x-y

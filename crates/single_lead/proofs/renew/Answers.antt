@@ -1,15 +1,11 @@
 -- `single_lead::renew` meets its contract: the scan goes through the list while it is thinned out. Assumes nothing.
-use mathlib.Core.Path.{◌≡◌, refl}
-use Prim.Native.Nat.{◌≤◌, ◌-◌}
-use lib.ListN.{length, length-set}
+use mathlib.Core.Path.{refl}
+use lib.ListN.{length-set}
 use native.Mathlib.Nat.{le_antisymm}
-use Rattle.single_lead.specs.Live.{Thinned}
 use Rattle.single_lead.specs.LiveLaws.{thinned_none, thinned_more}
 use Rattle.single_lead.specs.RowsLaws.{row_room}
-use Rattle.single_lead.specs.Lead.{Seen}
 use Rattle.single_lead.specs.LeadLaws.{seen_none, seen_more}
 use native.Mathlib.Omega.{arith}
-use borrow.Author.Rules.{rules}
 use Rattle.single_lead.proofs.renew.Goals as goal
 
 pub loop-j-init : goal.loop-j-init
@@ -54,26 +50,24 @@ bounds-starts-i c =
     omega (arith, c.requires.by_index c.loop-j.j c.loop-j-test.true, c.loop-j.invariant.2.rest c.loop-j.j (omega arith))
 
 pub consider-r-requires : goal.consider-r-requires
-consider-r-requires c =
-    (
-      omega (arith, c.requires.by_index c.loop-j.j c.loop-j-test.true, c.loop-j.invariant.2.rest c.loop-j.j (omega arith)),
-      omega (arith, c.loop-j.invariant.3.within),
-      row_room _ _ _ _ (omega (arith, c.requires.by_index c.loop-j.j c.loop-j-test.true, c.loop-j.invariant.2.rest c.loop-j.j (omega arith)))
-          c.requires.m_in_bounds.5,
-      row_room _ _ _ _ (omega (arith, c.loop-j.invariant.3.within)) c.requires.m_in_bounds.5,
-    )
+consider-r-requires c = (
+  omega (arith, c.requires.by_index c.loop-j.j c.loop-j-test.true, c.loop-j.invariant.2.rest c.loop-j.j (omega arith)),
+  omega (arith, c.loop-j.invariant.3.within),
+  row_room _ _ _ _ (omega (arith, c.requires.by_index c.loop-j.j c.loop-j-test.true, c.loop-j.invariant.2.rest c.loop-j.j (omega arith)))
+      c.requires.m_in_bounds.5,
+  row_room _ _ _ _ (omega (arith, c.loop-j.invariant.3.within)) c.requires.m_in_bounds.5,
+)
 
 pub loop-j-preserved : goal.loop-j-preserved
-loop-j-preserved c =
-    (
-      omega arith,
-      simp length-set (omega arith),
-      rw c.count-x.ensures
-          (thinned_more _ _ _ _ _ _ (omega arith) c.loop-j.invariant.2),
-      rw (c.consider-r.ensures, c.loop-j.invariant.2.rest c.loop-j.j (omega arith))
-          (seen_more _ _ _ _ _ _ _ _ _ _ (λ q. omega (arith, c.type_inv.costs q)) c.requires.n_value.1
-          (c.requires.by_index c.loop-j.j c.loop-j-test.true) c.loop-j.invariant.3),
-    )
+loop-j-preserved c = (
+  omega arith,
+  simp length-set (omega arith),
+  rw c.count-x.ensures
+      (thinned_more _ _ _ _ _ _ (omega arith) c.loop-j.invariant.2),
+  rw (c.consider-r.ensures, c.loop-j.invariant.2.rest c.loop-j.j (omega arith))
+      (seen_more _ _ _ _ _ _ _ _ _ _ (λ q. omega (arith, c.type_inv.costs q)) c.requires.n_value.1
+      (c.requires.by_index c.loop-j.j c.loop-j-test.true) c.loop-j.invariant.3),
+)
 
 pub end_of-end-requires : goal.end_of-end-requires
 end_of-end-requires c = (c.loop-j.invariant.3.within, omega arith)
@@ -84,5 +78,5 @@ returns c = let e = le_antisymm c.loop-j.invariant.0 c.loop-j-test.false in
       thinned = rw e at c.loop-j.invariant.2;
       seen = rw e at c.loop-j.invariant.3;
       cost_is = refl;
-      end_is = c.end_of_lem.ensures;
+      end_is = c.end_of-end.ensures;
     }

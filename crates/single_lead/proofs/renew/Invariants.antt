@@ -1,15 +1,9 @@
 -- `single_lead::renew` meets its contract: the scan goes through the list while it is thinned out. Assumes nothing.
-use mathlib.Core.Path.{◌≡◌, refl}
+use mathlib.Core.Path.{◌≡◌}
 use Prim.Native.Nat.{◌≤◌, ◌-◌}
-use lib.ListN.{length, length-set}
-use native.Mathlib.Nat.{le_antisymm}
+use lib.ListN.{length}
 use Rattle.single_lead.specs.Live.{Thinned}
-use Rattle.single_lead.specs.LiveLaws.{thinned_none, thinned_more}
-use Rattle.single_lead.specs.RowsLaws.{row_room}
 use Rattle.single_lead.specs.Lead.{Seen}
-use Rattle.single_lead.specs.LeadLaws.{seen_none, seen_more}
-use native.Mathlib.Omega.{arith}
-use borrow.Author.Rules.{rules}
 use Rattle.single_lead.proofs.renew.Given as goal
 
 abbrev pub invariant-loop-j : goal.invariant-loop-j
