@@ -8,35 +8,35 @@ ghost use Rattle.tender.specs.Plain.{plain_tender};
 ghost use Rattle.tender.specs.Refusals.{number_of, place_of};
 
 // A single tender takes bids of one window each, a multi tender bids of several.
-#[derive(Drop)]
+#[derive(Clone, Copy)]
 pub enum Kind {
     Single,
     Multi,
 }
 
 // What a tender spans: the minutes from `start` to `end` - 1.
-#[derive(Drop)]
+#[derive(Clone, Copy)]
 pub struct Span {
     pub start: u64,
     pub end: u64,
 }
 
 // A window of a bid: the minutes from `start` to `end` - 1.
-#[derive(Drop)]
+#[derive(Clone, Copy)]
 pub struct Window {
     pub start: u64,
     pub end: u64,
 }
 
 // What the house asks for covering the whole tender itself, where it offers to.
-#[derive(Drop)]
+#[derive(Clone, Copy)]
 pub enum Reserve {
     Absent,
     Price(u64),
 }
 
 // What is bought: every minute of the tender's own window.
-#[derive(Drop)]
+#[derive(Clone, Copy)]
 pub struct Tender {
     pub kind: Kind,
     pub window: Span,
@@ -44,14 +44,14 @@ pub struct Tender {
 }
 
 // The row that an award fills for a bid: won or lost, and the cents paid.
-#[derive(Drop)]
+#[derive(Clone, Copy)]
 pub struct AwardRow {
     pub won: bool,
     pub cents: u64,
 }
 
 // The winners' cost and the sum paid to owners, in cents, and whether the house is among the winners.
-#[derive(Drop)]
+#[derive(Clone, Copy)]
 pub struct Totals {
     pub cost: u64,
     pub paid: u64,
@@ -60,7 +60,7 @@ pub struct Totals {
 
 // Why a call declines. `line` counts the text's lines from 1; `row` counts the rows of the bid table from 1 and
 // is 0 for the tender; `minute` is a minute of the tender.
-#[derive(Drop)]
+#[derive(Clone, Copy)]
 pub enum Refusal {
     TextTooLong,
     BadForm { line: u64 },
@@ -81,7 +81,7 @@ pub enum Refusal {
 }
 
 // What an award answers: the totals, or why it declines.
-#[derive(Drop)]
+#[derive(Clone, Copy)]
 pub enum Answer {
     Awarded(Totals),
     Refused(Refusal),
@@ -89,7 +89,7 @@ pub enum Answer {
 
 // What is answered to who asks with which price a bid would win: the largest such price, that no price would, not even 0, or why the
 // question is declined.
-#[derive(Drop)]
+#[derive(Clone, Copy)]
 pub enum Highest {
     Price(u64),
     NoPrice,
