@@ -36,7 +36,7 @@ pub fn settle(
 }
 
 // What an award settles: its answer, and how many award rows it fills.
-#[derive(Drop)]
+#[derive(Clone, Copy)]
 struct Settled {
     answer: Answer,
     rows: usize,

@@ -10,7 +10,7 @@ ghost use Rattle.award_fault.specs.Checks.{checked_fault};
 use tender::{Kind, Reserve, Tender};
 
 // What checking the tables answers.
-#[derive(Drop)]
+#[derive(Clone, Copy)]
 pub enum Check {
     Sound,
     // The first faulty row, counted from 1; 0 for the tender, the kind or the stated count.

@@ -2,7 +2,7 @@
 // fewer than two is looked for first: mostly there is none.
 #![tactic(auto)]
 
-#[derive(Drop)]
+#[derive(Clone, Copy)]
 pub enum Thin {
     Nobody { cell: u64 },
     Alone { cell: u64 },

@@ -1,5 +1,5 @@
-// With which price a bid of a text would win: reads it and asks what was read. `tender_highest` is the entry point for a host program in
-// C (include/tender.h). `specs/Told.antt` says which line it writes.
+// With which price a bid of a text would win: reads it and asks what was read. `highest_text_c` exports `tender_highest` to a host
+// program in C (include/tender.h). `specs/Told.antt` says which line it writes.
 #![tactic(auto)]
 
 ghost use Rattle.std.specs.Prelude.{◌≡◌, ◌≤◌, length};
@@ -47,8 +47,7 @@ fn deliver(bidder: u64, answer: Highest, out: &mut [u8]) -> usize
 // The largest whole price with which the bid of this number would win if all else stood, as a line: its length, with the line at the
 // start of `out` and the bytes past it staying; 0 where it is longer than `out`, which then stays as it was. The tables have room for
 // any readable text.
-#[unsafe(no_mangle)]
-pub extern "C" fn tender_highest(text: &[u8], bidder: u64, out: &mut [u8]) -> usize
+pub fn tender_highest(text: &[u8], bidder: u64, out: &mut [u8]) -> usize
     ensures { HighestTold text.now bidder out.old out.new result }
 {
     let mut bids = [1u64; tender::BID_TABLE];

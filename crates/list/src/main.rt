@@ -6,31 +6,32 @@
 ghost use Rattle.std.specs.Prelude.{◌≤◌, length};
 ghost use Rattle.list.specs.Input.{Within};
 
-use libc::{STDERR_FILENO, STDIN_FILENO, STDOUT_FILENO};
+use std::io::Read;
+
+// Standard output and standard error.
+const STDOUT_FILENO: i32 = 1;
+
+const STDERR_FILENO: i32 = 2;
 
 // What was read: so many bytes stand in the buffer, or a read failed.
-#[derive(Drop)]
+#[derive(Clone, Copy)]
 pub(crate) enum Input {
     Text(usize),
     Failed,
 }
 
 // Reads from the place `from` on until the input ends or the buffer is full.
-fn read_on(fd: i32, buf: &mut [u8], from: usize) -> Input
+fn read_on<R: Read>(input: &mut R, buf: &mut [u8], from: usize) -> Input
     requires { from ≤ length buf.old }
     ensures { Within (length buf.new) result }
 {
     let mut n = from;
     while n < buf.len() {
-        let got = libc::read(fd, &mut buf[n..]);
-        if got < 0 {
-            return Input::Failed;
+        match input.read(&mut buf[n..]) {
+            Ok(0) => return Input::Text(n),
+            Ok(more) => n += more,
+            Err(_) => return Input::Failed,
         }
-        let more = io::count(got, &buf[n..]);
-        if more == 0 {
-            return Input::Text(n);
-        }
-        n += more;
     }
     Input::Text(n)
 }
@@ -47,12 +48,12 @@ fn write_list(list: &[u8]) {
 
 // Lists a text that begins so and of which more is to be read. The buffer holds one byte more than a readable text may
 // have, so that a longer one is seen to be too long; the list is made in the text's place.
-fn list_long(first: &[u8])
+fn list_long<R: Read>(input: &mut R, first: &[u8])
     requires { length first.now ≤ 65537 }
 {
     let mut buf = [0u8; 65537];
     let begun = spelling_put::put_all(&mut buf, 0, first);
-    match read_on(STDIN_FILENO, &mut buf, begun) {
+    match read_on(input, &mut buf, begun) {
         Input::Text(n) => {
             let k = listing_made::make_in(&mut buf, n);
             // The buffer always suffices: refusal 13 is ruled out here.
@@ -64,9 +65,10 @@ fn list_long(first: &[u8])
 }
 
 // A text that ends within the first buffer has so few bids that their list fits the second: refusal 13 is ruled out.
-fn main() {
+fn main(rt: HostRuntime) {
+    let mut input = rt.stdin();
     let mut text = [0u8; 6656];
-    match read_on(STDIN_FILENO, &mut text, 0) {
+    match read_on(&mut input, &mut text, 0) {
         Input::Text(n) => {
             if n < text.len() {
                 let mut list = [0u8; 20480];
@@ -74,7 +76,7 @@ fn main() {
                 check::expect(0 < k);
                 write_list(&list[..k]);
             } else {
-                list_long(&text);
+                list_long(&mut input, &text);
             }
         }
         Input::Failed => tell_unread(),

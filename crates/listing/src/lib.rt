@@ -1,4 +1,4 @@
-// The list of a bid text: reads it, makes the award and writes its list. `tender_list` is the entry point for a host
+// The list of a bid text: reads it, makes the award and writes its list. `listing_c` exports `tender_list` to a host
 // program in C (include/tender.h). `listing_text` List says what the list of a text is.
 #![tactic(auto)]
 
@@ -18,8 +18,7 @@ fn make_apart(text: &[u8], list: &mut [u8]) -> usize
 
 // The list of a text: its length, with the list at the start of `list` and the bytes past it staying; 0 where the list
 // is longer than `list`, which then stays as it was.
-#[unsafe(no_mangle)]
-pub extern "C" fn tender_list(text: &[u8], list: &mut [u8]) -> usize
+pub fn tender_list(text: &[u8], list: &mut [u8]) -> usize
     ensures { Listed text.now list.old list.new result }
 {
     if list.len() < 51200 {

@@ -45,7 +45,7 @@ fn raise(k: usize, i: usize, price: u64, cells: u64, mine: u64) -> u64
 
 // How far the run without a bid has come: the main run's next round, the open cells of the bid, the highest price so far, with one
 // more, at which it would be taken, and whether the run is over.
-#[derive(Drop)]
+#[derive(Clone, Copy)]
 pub struct Walk {
     pub bid: usize,
     pub round: usize,

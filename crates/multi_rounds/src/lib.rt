@@ -44,7 +44,7 @@ pub fn cut(held: &[u64], masks: &[u64], hop: &[u8], i: usize, tape: &mut [u64], 
 }
 
 // A key, and the cells that its bid reaches.
-#[derive(Drop)]
+#[derive(Clone, Copy)]
 pub struct Lead {
     pub key: u64,
     pub cells: u64,

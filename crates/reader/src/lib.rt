@@ -13,7 +13,7 @@ use reader_fill::{Filling, fill};
 use rows::copy;
 use tender::{Refusal, Tender};
 
-#[derive(Drop)]
+#[derive(Clone, Copy)]
 pub enum Reading {
     Accepted {
         tender: Tender,

@@ -65,7 +65,7 @@ fn several(tender: Tender, windows: usize) -> bool
     most(tender) < windows
 }
 
-#[derive(Drop)]
+#[derive(Clone, Copy)]
 pub(crate) enum Verdict {
     Sound,
     Faulty(Refusal),
@@ -110,7 +110,7 @@ fn judge(
     Verdict::Sound
 }
 
-#[derive(Drop)]
+#[derive(Clone, Copy)]
 pub(crate) enum Step {
     Bid(usize, usize),
     Refused(Refusal),
@@ -153,7 +153,7 @@ fn take_line(
     }
 }
 
-#[derive(Drop)]
+#[derive(Clone, Copy)]
 pub enum Bids {
     Filled(usize, usize),
     Refused(Refusal),

@@ -18,7 +18,7 @@ use reader_parts::Flaw;
 use reader_window::flaw_in;
 use tender::{Kind, Refusal, Reserve, Span, Tender};
 
-#[derive(Drop)]
+#[derive(Clone, Copy)]
 pub(crate) enum Head {
     Tender(Tender, usize, u64),
     Refused(Refusal),
@@ -35,7 +35,7 @@ fn tender_with(kind: Kind, window: Span, reserve: Reserve) -> Tender
     }
 }
 
-#[derive(Drop)]
+#[derive(Clone, Copy)]
 pub(crate) enum Next {
     Reserve(u64, usize),
     Other,
@@ -111,7 +111,7 @@ fn last_line(text: &[u8]) -> usize
 }
 
 // The tender and how many rows of each table were filled, or why the text is refused.
-#[derive(Drop)]
+#[derive(Clone, Copy)]
 pub enum Filling {
     Rows {
         tender: Tender,

@@ -25,7 +25,7 @@ fn put_window(windows: &mut [u64], m: usize, a: u64, z: u64)
 }
 
 // How many windows, what is wrong with them, and the place past their line.
-#[derive(Drop)]
+#[derive(Clone, Copy)]
 pub(crate) enum Tally {
     Windows(usize, Flaw, usize),
     Broken,
@@ -65,7 +65,7 @@ fn read_windows(s: &[u8], at: usize, windows: &mut [u64], m: usize) -> Tally
 
 // A line as it stands, with what is judged of a bid (bidder, price, how many windows, what is wrong with them) and the place past its
 // byte 10.
-#[derive(Drop)]
+#[derive(Clone, Copy)]
 pub enum Line {
     Tender(Kind, Span, usize),
     Bid(u64, u64, usize, Flaw, usize),

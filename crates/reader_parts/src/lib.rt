@@ -3,21 +3,21 @@
 #![tactic(auto)]
 
 // A number and the place past it.
-#[derive(Drop)]
+#[derive(Clone, Copy)]
 pub enum Number {
     Of(u64, usize),
     Bad,
 }
 
 // Two numbers and the place past them and their bracket.
-#[derive(Drop)]
+#[derive(Clone, Copy)]
 pub enum Ends {
     Of(u64, u64, usize),
     Wrong,
 }
 
 // What is wrong with windows: some start is not below its end; or else some end is past the week; or nothing.
-#[derive(Drop)]
+#[derive(Clone, Copy)]
 pub enum Flaw {
     Empty,
     Late,

@@ -1,5 +1,5 @@
-// A bid text rewritten in one spelling: reads it and writes what was read. `tender_rewrite` is the entry point for a host program in
-// C (include/tender.h). `specs/Rewritten.antt` says what a text is rewritten to.
+// A bid text rewritten in one spelling: reads it and writes what was read. `rewrite_c` exports `tender_rewrite` to a host program in C
+// (include/tender.h). `specs/Rewritten.antt` says what a text is rewritten to.
 #![tactic(auto)]
 
 ghost use Rattle.spelling.specs.Lines.{refused_line};
@@ -40,8 +40,7 @@ fn deliver_text(
 
 // A text in one spelling: its length, with the text at the start of `out` and the bytes past it staying; of a text that cannot be read,
 // the line of the refusal. 0 where that is longer than `out`, which then stays as it was. The tables have room for any readable text.
-#[unsafe(no_mangle)]
-pub extern "C" fn tender_rewrite(text: &[u8], out: &mut [u8]) -> usize
+pub fn tender_rewrite(text: &[u8], out: &mut [u8]) -> usize
     ensures { Rewritten text.now out.old out.new result }
 {
     let mut bids = [1u64; tender::BID_TABLE];

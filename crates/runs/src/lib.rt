@@ -37,7 +37,7 @@ pub fn minutes(windows: &[u64], first: usize, count: usize, row: &mut [u64])
 }
 
 // The minutes from `start` to `end` - 1; none where the two are equal.
-#[derive(Drop)]
+#[derive(Clone, Copy)]
 pub struct Run {
     pub start: usize,
     pub end: usize,

@@ -25,7 +25,7 @@ fn less(x: u64, y: u64) -> u64
 }
 
 // What a bid is paid, and how many bids still reach.
-#[derive(Drop)]
+#[derive(Clone, Copy)]
 pub struct Paid {
     pub cents: u64,
     pub live: usize,

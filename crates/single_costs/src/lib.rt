@@ -105,7 +105,7 @@ fn begin(
 }
 
 // The least cost without a bid, and how many bids reach its start.
-#[derive(Drop)]
+#[derive(Clone, Copy)]
 pub struct Rest {
     pub cost: u64,
     pub live: usize,

@@ -15,7 +15,7 @@ ghost use Rattle.cover.specs.Intervals.{Order};
 ghost use Rattle.single_highest.specs.Runnable.{Runnable};
 
 // How a bid fares: 1 where it wins, and the cents that it is paid.
-#[derive(Drop)]
+#[derive(Clone, Copy)]
 struct Fate {
     won: u64,
     cents: u64,

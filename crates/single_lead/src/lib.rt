@@ -120,7 +120,7 @@ fn consider(
 }
 
 // The bid that leads and its row, its cost, the last cell up to which it leads, and how many bids still reach.
-#[derive(Drop)]
+#[derive(Clone, Copy)]
 pub struct Lead {
     pub row: usize,
     pub cost: u64,

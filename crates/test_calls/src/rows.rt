@@ -5,7 +5,7 @@ ghost use Rattle.award_outcome.specs.Promise.{Promise};
 use tender::{Answer, AwardRow, Tender};
 
 // What a call answers, and the rows as it leaves them.
-#[derive(Drop)]
+#[derive(Clone, Copy)]
 pub struct Called {
     pub answer: Answer,
     pub rows: [AwardRow; 5],

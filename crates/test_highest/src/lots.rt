@@ -3,7 +3,7 @@ use reader::Reading;
 use tender::{Highest, Kind, Reserve, Span, Tender};
 
 // A tender, and tables of six bids and twelve windows, of which the first `count` bids are put.
-#[derive(Drop)]
+#[derive(Clone, Copy)]
 pub(crate) struct Lot {
     pub(crate) tender: Tender,
     pub(crate) count: usize,

@@ -4,7 +4,7 @@ use crate::lots::Lot;
 use tender::{Answer, Highest};
 
 // How many tenders of each sort were awarded, and how many refused; what was asked for and tried; and how many answers disagree.
-#[derive(Drop)]
+#[derive(Clone, Copy)]
 pub(crate) struct Tried {
     pub(crate) awarded: [u64; 4],
     pub(crate) refused: u64,
@@ -23,7 +23,7 @@ fn plus(n: u64, so: bool) -> u64 {
 }
 
 // The award's row for a bid, and the number and place of its refusal; 17 and 0 where it refuses nothing.
-#[derive(Drop)]
+#[derive(Clone, Copy)]
 struct Fate {
     won: bool,
     cents: u64,

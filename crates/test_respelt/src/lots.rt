@@ -4,7 +4,7 @@ use tender::{Kind, Reserve, Tender};
 use writer::Writing;
 
 // A tender, and up to 12 bids and 96 windows.
-#[derive(Drop)]
+#[derive(Clone, Copy)]
 pub(crate) struct Lot {
     pub(crate) tender: Tender,
     pub(crate) count: usize,

@@ -4,7 +4,7 @@ ghost use Rattle.std.specs.Prelude.{◌≤◌};
 // What a table has. Long bids: so many, with 32 windows each, the last with this price and so many windows. Far windows: the minutes 10000,
 // 10002 and so on, 32 of them for each bid, whose line then has 471 bytes. Some bids: random, with one window each, doubled so often. Some
 // windows: random.
-#[derive(Drop)]
+#[derive(Clone, Copy)]
 pub(crate) enum Table {
     LongBids {
         count: usize,

@@ -11,7 +11,7 @@ fn plus(a: u64, b: u64) -> u64 {
 }
 
 // Two numbers that stand side by side.
-#[derive(Drop)]
+#[derive(Clone, Copy)]
 struct Two {
     first: u64,
     second: u64,
@@ -56,7 +56,7 @@ fn same_bidder(bids: &[u64], others: &[u64], j: u64) -> bool {
 
 // Two tables compared: how many minutes in all; how many of them, and of the bidders with their prices, differ; how many runs of minutes
 // the first has.
-#[derive(Drop)]
+#[derive(Clone, Copy)]
 struct Comparison {
     minutes: u64,
     apart: u64,
@@ -206,7 +206,7 @@ fn other_reserve(lot: Lot, seed: u64) -> Lot {
 }
 
 // What was tried, and how many answers disagree.
-#[derive(Drop)]
+#[derive(Clone, Copy)]
 struct Tried {
     reserves: u64,
     minutes: u64,
@@ -243,7 +243,7 @@ fn reads_back(t: Tried, lot: Lot, text: &[u8]) -> Tried {
 }
 
 // Tables written beside a text: refused, or with the same bytes, or with others.
-#[derive(Drop)]
+#[derive(Clone, Copy)]
 enum Beside {
     Refused,
     Same,

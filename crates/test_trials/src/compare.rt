@@ -5,7 +5,7 @@ use tender::{Answer, Kind, Refusal, Reserve, Span, Tender, Totals};
 
 // What was tried by kind; how many tenders had a reserve, in how many awards the house is booked, and owners are paid beside it; how
 // many false prices were named; and how many answers disagree.
-#[derive(Drop)]
+#[derive(Clone, Copy)]
 pub(crate) struct Tried {
     pub(crate) single_awarded: u64,
     pub(crate) single_declined: u64,
@@ -18,7 +18,7 @@ pub(crate) struct Tried {
     pub(crate) wrong: u64,
 }
 
-#[derive(Drop)]
+#[derive(Clone, Copy)]
 pub(crate) struct Checked {
     pub(crate) sound: u64,
     pub(crate) faulty: u64,
@@ -34,7 +34,7 @@ pub(crate) fn plus_one(n: u64) -> u64 {
 const OLD: u64 = 77;
 
 // The other implementation's answer: the set of winners, with the house among the entries, and what each bid is paid.
-#[derive(Drop)]
+#[derive(Clone, Copy)]
 struct Right {
     winners: u64,
     paid: [u64; 7],
@@ -214,7 +214,7 @@ fn refusal_right(lot: Lot, refusal: Refusal, won: [u64; 9], cents: [u64; 9]) -> 
 }
 
 // One tender, tried: how it ended, with the house booked or not and owners paid beside it or not, and whether rightly.
-#[derive(Drop)]
+#[derive(Clone, Copy)]
 struct Trial {
     awarded: bool,
     booked: bool,

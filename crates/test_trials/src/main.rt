@@ -12,7 +12,8 @@ mod random;
 mod rules;
 mod withhold;
 
-use libc::STDOUT_FILENO;
+// Standard output.
+const STDOUT_FILENO: i32 = 1;
 
 fn say(word: &[u8], n: u64) {
     io::write_all(STDOUT_FILENO, word);

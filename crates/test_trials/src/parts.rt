@@ -88,7 +88,7 @@ pub(crate) fn parts_of(several: bool) -> u64 {
 }
 
 // The two tables, as far as they are written anew: with the bidders and prices of the lot, and other windows.
-#[derive(Drop)]
+#[derive(Clone, Copy)]
 pub(crate) struct Tables {
     pub(crate) bids: [u64; 28],
     pub(crate) windows: [u64; 80],

@@ -23,7 +23,7 @@ pub(crate) fn below(state: u64, n: u64) -> u64
 // A tender of up to seven entries, its bids and the house, over up to 11 cells of `width` minutes each: in the two tables and the
 // reserve, and with the price of each entry and its cells as bits. The answer is that of cells of a minute: every reach is
 // multiplied by the width.
-#[derive(Drop)]
+#[derive(Clone, Copy)]
 pub(crate) struct Lot {
     pub(crate) state: u64,
     pub(crate) width: u64,

@@ -7,7 +7,7 @@ use tender::Answer;
 
 // How many parts were offered, and how many of them leave the tender thin, so that it is refused; how many prices were named with them,
 // how many of these win, and how many gain more than the truth; and how many answers are awards or refusals and should not be.
-#[derive(Drop)]
+#[derive(Clone, Copy)]
 pub(crate) struct Withheld {
     pub(crate) parts: u64,
     pub(crate) thin: u64,
@@ -29,7 +29,7 @@ fn thin_with(lot: Lot, i: usize, part: u64) -> bool {
 
 // Whose offer is tried: that of bid i in a tender of this kind, with this true cost, whose owner the truth leaves with `honest`; and
 // whether with every price.
-#[derive(Drop)]
+#[derive(Clone, Copy)]
 struct Owner {
     several: bool,
     i: usize,
@@ -39,7 +39,7 @@ struct Owner {
 }
 
 // What an offer comes to: whether it wins, what it leaves its owner with, and whether the tender is rightly awarded or refused.
-#[derive(Drop)]
+#[derive(Clone, Copy)]
 struct Outcome {
     wins: bool,
     left: u64,

@@ -11,7 +11,7 @@ use award_fault::Check;
 use tender::{Refusal, Tender};
 
 // What writing answers: how many bytes, or why it declines.
-#[derive(Drop)]
+#[derive(Clone, Copy)]
 pub enum Writing {
     Written(usize),
     Refused(Refusal),
