@@ -7,7 +7,7 @@
 # make fuzz [TIME=..]  fuzzes the calls for C against the second implementation for so many seconds (needs clang; not in the gate)
 # make rules           writes docs/RULES.md, what has to be believed, from the sources
 # make times           writes docs/GATE.md, the gate's time, from the last run of the gate
-# make clean           removes target/, so that the next build proves everything anew
+# make clean           removes target/ and crates/*/out/, so that the next build proves everything anew
 VERSION = 0.8.0
 TEXT ?= examples/market-day.txt
 PREFIX ?= /usr/local
@@ -16,7 +16,7 @@ CC = gcc
 CFLAGS = -O2
 
 # The crates that export calls. The archive has the calls of each of them; include/tender.h declares them.
-CALLS = listing rewrite highest_text
+CALLS = listing_c rewrite_c highest_text_c
 
 SHELL = bash
 .SHELLFLAGS = -e -o pipefail -c
@@ -29,13 +29,21 @@ all: target/tender
 run: all
 	@target/tender list -- "$(TEXT)"
 
-# rt proves again only what has changed. A line on each crate that it proves is shown, and all that it says where it fails.
-target/lib/libtender.a: $(shell find -L crates crates.txt -type f ! -path '*/must-fail/*')
+SOURCES = $(shell find crates crates.txt -type f ! -path '*/must-fail/*' ! -path '*/out/*')
+
+# rt proves again only what has changed. What it says is shown where it fails.
+target/lib/libtender.a: $(SOURCES)
 	@mkdir -p target/lib
 	@for crate in $(CALLS); do \
-	  rt staticlib $$crate 2>&1 | tee target/lib/log | sed -un '/unchanged/d; /^rt: /p' >&2 || { cat target/lib/log >&2; exit 1; }; \
+	  (cd crates/$$crate && rt lib) > target/lib/log 2>&1 || { cat target/lib/log >&2; exit 1; }; \
 	done
-	@{ echo create $@; printf 'addlib target/staticlib/lib%s.a\n' $(CALLS); echo save; echo end; } | ar -M
+	@{ echo create $@; for crate in $(CALLS); do echo addlib crates/$$crate/out/lib$$crate.a; done; echo save; echo end; } | ar -M
+
+# The list program, which reads nothing here.
+target/bin/list: $(SOURCES)
+	@mkdir -p target/bin
+	@(cd crates/list && rt run < /dev/null) > target/bin/log 2>&1 || { cat target/bin/log >&2; exit 1; }
+	@cp crates/list/out/list $@
 
 target/tender: cli/tender.c include/tender.h target/lib/libtender.a Makefile
 	@kit=$$(rt version); \
@@ -76,4 +84,4 @@ times:
 	@tools/times
 
 clean:
-	@rm -rf target
+	@rm -rf target crates/*/out

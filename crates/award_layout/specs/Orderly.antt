@@ -1,5 +1,5 @@
 -- What faultless tables say of each row, and what laying them out as bids over cells leaves.
-use Rattle.std.specs.Prelude.{◌≡◌, List, ◌&&◌, ℕ, ◌+◌, ◌-◌, ◌/◌, ◌≤◌, ◌<◌, min, length, get_or, ltb, eqb}
+use Rattle.std.specs.Prelude.{◌≡◌, List, ◌&&◌, ℕ, ◌-◌, ◌/◌, ◌≤◌, ◌<◌, min, length, get_or, ltb, eqb}
 use Rattle.tender.specs.declared.Window.{Window}
 use Rattle.tender.specs.declared.Tender.{Tender}
 use Rattle.tender.specs.Tables.{own, window_at, bid_width}

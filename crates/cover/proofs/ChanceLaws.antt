@@ -1,6 +1,6 @@
 -- Bid k wins just where the run without it leaves it a chance, in words. Assumes nothing.
-use Rattle.std.specs.Prelude.{◌≡◌, refl, ◌↔◌, ◌⊎◌, Bool, true, false, ℕ, ◌+◌, ◌*◌, ◌≤◌, ◌<◌, ltb}
-use Rattle.std.proofs.Common.{◌∙◌, inl, inr, eq-or-lt_of_le, arith, ltb-true, ltb-false, lt-ltb, le-leb, leb-true}
+use Rattle.std.specs.Prelude.{◌≡◌, refl, ◌⊎◌, Bool, true, false, ℕ, ◌+◌, ◌*◌, ◌≤◌, ◌<◌, ltb}
+use Rattle.std.proofs.Common.{inl, inr, eq-or-lt_of_le, arith, ltb-true, ltb-false, lt-ltb, le-leb, leb-true}
 use Rattle.std.proofs.Math.Bool.{or-true}
 use Rattle.cover.specs.Greedy.{reach, Rounds, stop, round, left}
 use Rattle.cover.specs.CriticalPrice.{late}

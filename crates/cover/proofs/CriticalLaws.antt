@@ -1,11 +1,11 @@
 -- The critical price, the largest whole price that wins, is what the rounds of the run without the bid give; with it the greedy
 -- cover is a threshold mechanism. Assumes nothing.
-use Rattle.std.specs.Prelude.{◌≡◌, refl, Bool, true, false, cond, ◌&&◌, List, [], ◌∷◌, ℕ, zero, suc, ◌+◌, ◌-◌, ◌*◌, ◌/◌, ◌≤◌, ◌<◌, length, get_or, set, ltb, leb, eqb}
+use Rattle.std.specs.Prelude.{◌≡◌, refl, Bool, true, false, ◌&&◌, List, [], ◌∷◌, ℕ, zero, suc, ◌+◌, ◌-◌, ◌*◌, ◌/◌, ◌≤◌, ◌<◌, length, get_or, set, ltb, leb, eqb}
 use Rattle.std.proofs.Common.{sym, ◌∙◌, mul-le-mul, div-le_self, arith, get_or-set_same, get_or-set_other, set-set, ltb-true, ltb-false, le-leb}
 use Rattle.std.proofs.Math.Path.{ap, fun_ext}
 use Rattle.std.proofs.Math.ListN.{length-set}
 use Rattle.std.proofs.lemmas.Bool.{lt-leb, eqb-false}
-use Rattle.cover.specs.Sets.{when, found, value_of}
+use Rattle.cover.specs.Sets.{when, value_of}
 use Rattle.cover.specs.Greedy.{Entry, reach, run, bids, wins}
 use Rattle.cover.specs.CriticalPrice.{largest, sum, ceiling, wins_at, critical, critical_paid, late, mute, withdrawn, share, bar}
 use Rattle.cover.specs.CriticalPrice.{limit, rounds_paid}

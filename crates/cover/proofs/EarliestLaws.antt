@@ -7,6 +7,7 @@ use Rattle.cover.proofs.SetLaws.{all_of}
 use Rattle.cover.specs.LeastCover.{first, Wins}
 use Rattle.cover.proofs.LeastCoverLaws.{IsFirst, first_right, wins_one}
 use Rattle.cover.specs.Earliest.{cell_with}
+use Rattle.cover.proofs.EarliestCost.{cell_cost}
 
 -- the cell x has exactly m bidders, and no earlier one has
 pub record FirstWith (has : ℕ → ℕ → Bool) (n L m x : ℕ) : Type 0 where
@@ -19,7 +20,7 @@ module _ (has : ℕ → ℕ → Bool) (n L m : ℕ) where
   ok x = eqb (bidders has n x) m
 
   abbrev free : ℕ → ℕ
-  free x = 0
+  free x = cell_cost L x
 
   wins : (x : ℕ) → FirstWith has n L m x → Wins ok free L x
   wins x f = record {

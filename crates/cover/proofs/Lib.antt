@@ -1,5 +1,6 @@
 pub mod SetLaws
 pub mod LeastCoverLaws
+pub mod EarliestCost
 pub mod EarliestLaws
 pub mod VcgLaws
 pub mod PickLaws
@@ -7,6 +8,7 @@ pub mod GreedyLaws
 pub mod ChanceLaws
 pub mod GreedyCoverLaws
 pub mod BarLaws
+pub mod ThresholdLaws
 pub mod WinningLaws
 pub mod CriticalLaws
 pub mod SpareLaws

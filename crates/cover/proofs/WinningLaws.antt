@@ -2,19 +2,18 @@
 -- threshold itself where the tie falls so; by the greedy cover those up to its critical price (`CriticalLaws`). The threshold is what
 -- the bid is paid at the price 0. Assumes nothing.
 use Rattle.std.proofs.Math.Path.{◌≡◌, refl, sym, ap}
-use Rattle.std.proofs.Common.{◌∙◌, true≢false}
+use Rattle.std.proofs.Common.{◌∙◌}
 use Rattle.std.specs.Prelude.{Bool, List, set}
 use Rattle.std.proofs.Math.Bool.{true, false, cond}
-use Rattle.std.proofs.lemmas.Bool.{false≢true}
 use Prim.Native.Nat.{ℕ, zero, suc, ◌+◌, ◌-◌, ◌^◌, ◌≤◌, ◌<◌}
 use native.Mathlib.Omega.{arith}
 use Rattle.std.proofs.Math.ListN.{length}
 use Rattle.std.proofs.Math.Dec.{ltb, leb}
-use borrow.Author.Tests.{lt-ltb, le-ltb, ltb-true, ltb-false, le-leb, lt-leb}
+use borrow.Author.Tests.{le-ltb, ltb-true, ltb-false, le-leb, lt-leb}
+use Rattle.cover.proofs.ThresholdLaws.{prices_that_win}
 use Rattle.cover.specs.Sets.{when, Found, nothing, found, value_of, bit, cost}
 use Rattle.cover.specs.LeastCover.{first, winners, without, vcg_paid, margin, vcg_threshold}
 use Rattle.cover.specs.CriticalPrice.{largest, sum}
-use Rattle.cover.specs.Threshold.{Threshold}
 use Rattle.cover.specs.Winning.{Below, one_less}
 use Rattle.cover.proofs.VcgLaws.{threshold, pays}
 use Rattle.cover.proofs.Intervals.BidsLaws.{cost_most}
@@ -68,27 +67,6 @@ module _ (ok : ℕ → Bool) (m : ℕ) (b : Below ok m) where
       go : (m : ℕ) → Below ok m → one_less m ≡ nothing → ok q ≡ false
       go zero b e = b q ∙ le-ltb q 0 (omega arith)
       go (suc x) b e = let z : ◌≡◌ {A = ℕ} 0 1 = cc in absurd (omega arith)
-
--- the prices that win in a mechanism with a threshold
-pub prices_that_win : (won : ℕ → Bool) (θ : ℕ) → Threshold won θ → Below won (θ + when (won θ) 1)
-prices_that_win won θ t q = go (won q) (won θ) refl refl
-  where
-    at : (a : Bool) → won q ≡ a → q ≡ θ → won θ ≡ a
-    at a e f = ap won (sym f) ∙ e
-
-    go : (a b : Bool) → won q ≡ a → won θ ≡ b → a ≡ ltb q (θ + when b 1)
-    go true true e f = sym (lt-ltb q (θ + 1) (omega (arith, t.below q e)))
-    go true false e f = side (ltb q (θ + 0)) refl
-      where
-        side : (c : Bool) → ltb q (θ + 0) ≡ c → true ≡ ltb q (θ + 0)
-        side true d = sym d
-        side false d = absurd (true≢false (sym (at true e (omega (arith, t.below q e, ltb-false q (θ + 0) d))) ∙ f))
-    go false true e f = side (ltb q (θ + 1)) refl
-      where
-        side : (c : Bool) → ltb q (θ + 1) ≡ c → false ≡ ltb q (θ + 1)
-        side false d = sym d
-        side true d = absurd (false≢true (sym (at false e (omega (arith, t.above q e, ltb-true q (θ + 1) d))) ∙ f))
-    go false false e f = sym (le-ltb q (θ + 0) (omega (arith, t.above q e)))
 
 -- the least cover, where some set of the family is without bid i
 module _ (ok : ℕ → Bool) (ps : List ℕ) (i : ℕ) (inside : i < length ps) (s : ℕ) (below : s < 2 ^ length ps)

@@ -15,7 +15,8 @@ use Rattle.cover.specs.Sets.{when, Found, nothing, found, value_of, bit, covers,
 use Rattle.cover.specs.LeastCover.{winners, without, vcg_paid, vcg_threshold}
 use Rattle.cover.specs.CriticalPrice.{largest, sum, ceiling, wins_at, critical, critical_paid, limit}
 use Rattle.cover.specs.Winning.{Below, one_less}
-use Rattle.cover.proofs.WinningLaws.{largest_below, below_most, up_to, none_at_all, prices_that_win, threshold_most}
+use Rattle.cover.proofs.ThresholdLaws.{prices_that_win}
+use Rattle.cover.proofs.WinningLaws.{largest_below, below_most, up_to, none_at_all, threshold_most}
 use Rattle.cover.proofs.VcgLaws as vcg
 use Rattle.cover.proofs.CriticalLaws as critical-laws
 use Rattle.cover.proofs.SpareLaws.{others, others_below, spare_set, spare_bids}

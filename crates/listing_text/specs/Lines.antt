@@ -38,7 +38,8 @@ win_line bidder flag cents = cond (eqb flag 1) (pair_line win_word bidder cents)
 unfoldable pub win_lines : List ℕ → List ℕ → List ℕ → ℕ → List ℕ
 unfolding win_line
 win_lines bids won cents zero = []
-win_lines bids won cents (suc n) = win_lines bids won cents n ++ win_line (get_or bids (bid_width * n) 0) (get_or won n 0) (get_or cents n 0)
+win_lines bids won cents (suc n) = win_lines bids won cents n
+    ++ win_line (get_or bids (bid_width * n) 0) (get_or won n 0) (get_or cents n 0)
 
 -- (house price), where the house won
 unfoldable pub house_line : Reserve → Bool → List ℕ

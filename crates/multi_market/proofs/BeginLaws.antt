@@ -1,7 +1,6 @@
 -- How the rounds begin: the first cells open. Assumes nothing.
-use Rattle.std.specs.Prelude.{◌≡◌, refl, Bool, true, false, List, ℕ, ◌+◌, ◌*◌, ◌≤◌, ◌<◌, length, set, eqb}
-use Rattle.std.proofs.Common.{◌∙◌, arith, get_or-set_same, get_or-set_other, eqb-true}
-use Rattle.std.proofs.lemmas.Bool.{eqb-false}
+use Rattle.std.specs.Prelude.{◌≡◌, List, ℕ, ◌*◌, ◌≤◌, length}
+use Rattle.std.proofs.Common.{◌∙◌, arith}
 use Rattle.cells.specs.Cells.{cell, common, Cleared, RangeAdded}
 use Rattle.cells.proofs.FillingLaws.{no_cell}
 use Rattle.cover.specs.Sets.{cells}

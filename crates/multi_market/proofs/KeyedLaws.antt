@@ -1,18 +1,17 @@
 -- The bid with the least key is the one that a round takes, and keys rise as cells close. Assumes nothing.
-use Rattle.std.specs.Prelude.{◌≡◌, ◌⊎◌, Bool, true, false, List, [], ℕ, zero, suc, ◌*◌, ◌%◌, ◌≤◌, ◌<◌, length, eqb}
+use Rattle.std.specs.Prelude.{◌≡◌, ◌⊎◌, Bool, true, false, List, ℕ, zero, suc, ◌≤◌, ◌<◌, length, eqb}
 use Rattle.std.proofs.Math.Path.{refl, ap}
-use Rattle.std.proofs.Common.{sym, ◌∙◌, inl, inr}
+use Rattle.std.proofs.Common.{◌∙◌, inl, inr}
 use Rattle.std.proofs.Math.Logic.{⊎_elim}
 use native.Mathlib.Omega.{arith}
-use Rattle.cover.specs.Sets.{found, nothing}
+use Rattle.cover.specs.Sets.{found}
 use Rattle.cover.specs.Greedy.{Entry, reach, keep, best, bids}
 use Rattle.cover.proofs.GreedyLaws.{best_right, shrink}
 use Rattle.cover.proofs.PickLaws.{Best}
-use Rattle.multi_keys.specs.Keys.{at, out, last, key_of}
-use Rattle.multi_keys.proofs.KeyLaws.{key_none, key_low, key_most, key_before, before_key, key_rises}
-use Rattle.multi_market.specs.Market.{Priced}
-use Rattle.multi_market.specs.Opens.{opens, open_of}
-use Rattle.multi_market.specs.Seats.{key_in, key_at}
+use Rattle.multi_keys.specs.Keys.{at, last, key_of}
+use Rattle.multi_keys.proofs.KeyLaws.{key_none, key_low, key_most, key_before, before_key}
+use Rattle.multi_market.specs.Opens.{opens}
+use Rattle.multi_market.specs.Seats.{key_in}
 use Rattle.multi_market.proofs.RunLaws.{right_one}
 
 pub zero_or : (x : ℕ) → (x ≡ 0) ⊎ (0 < x)

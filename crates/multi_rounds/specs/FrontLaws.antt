@@ -1,14 +1,14 @@
 -- The least key of the bids in a tree, while bids are counted anew. Assumes nothing.
 use Rattle.std.specs.Prelude.{◌≡◌, refl, ◌⊎◌, Bool, List, [], ◌∷◌, ℕ, zero, suc, ◌+◌, ◌-◌, ◌%◌, ◌≤◌, ◌<◌, length, set}
-use Rattle.std.proofs.Common.{sym, ap, ◌∙◌, inl, inr, ⊎_elim, arith, length-set}
-use Rattle.cover.specs.Greedy.{reach, bids}
+use Rattle.std.proofs.Common.{sym, ap, ◌∙◌, inl, inr, ⊎_elim, arith}
+use Rattle.cover.specs.Greedy.{reach}
 use Rattle.multi_keys.specs.Keys.{at, out, last, key_of}
 use Rattle.multi_keys.proofs.KeyLaws.{key_none, key_most, key_bid}
 use Rattle.multi_keys.specs.Tree.{leaves, Tree}
 use Rattle.multi_keys.proofs.TreeLaws.{length_leaves, first_least, FirstLeaf, first_leaf, set_at}
 use Rattle.multi_market.specs.Market.{Priced}
 use Rattle.multi_market.specs.Opens.{open_of}
-use Rattle.multi_market.specs.Seats.{key_in, key_at, Seat, Seats, Leader, Fronted}
+use Rattle.multi_market.specs.Seats.{key_at, Seat, Seats, Fronted}
 use Rattle.multi_market.proofs.KeyedLaws.{zero_or, key_at_lem}
 
 -- how far the keys may still rise

@@ -1,6 +1,6 @@
 -- Cells cleared, and the open cells that are left. Assumes nothing.
 use Rattle.std.specs.Prelude.{◌≡◌, refl, ◌⊎◌, Bool, true, false, ◌&&◌, List, ℕ, zero, suc, ◌-◌, ◌*◌, length, eqb}
-use Rattle.std.proofs.Common.{sym, ap, ◌∙◌, inl, inr, arith}
+use Rattle.std.proofs.Common.{sym, ◌∙◌, inl, inr, arith}
 use Rattle.cover.specs.Sets.{when}
 use Rattle.cover.specs.Greedy.{close}
 use Rattle.cells.specs.Cells.{cell, Closed}

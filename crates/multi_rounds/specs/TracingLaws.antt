@@ -6,17 +6,17 @@ use Rattle.std.proofs.Math.ListN.{length, length-set}
 use Rattle.std.proofs.Math.Seq.{get_or-set_same, get_or-set_other}
 use Rattle.std.proofs.lemmas.Bool.{eqb-false}
 use Rattle.cells.specs.Cells.{cell}
-use Rattle.cells_pairs.specs.Pairs.{in_pairs, Paired, Cut, Shut}
+use Rattle.cells_pairs.specs.Pairs.{in_pairs, Paired, Shut}
 use Rattle.cells_pairs.specs.PairLaws.{pairs_same, paired_same}
-use Rattle.cover.specs.Greedy.{Entry, reach, close, best, bids}
+use Rattle.cover.specs.Greedy.{reach, close, best, bids}
 use Rattle.cover.proofs.GreedyLaws.{best_right, shrink, close_own, close_other}
 use Rattle.cover.proofs.PickLaws.{Best}
 use Rattle.cover.specs.Sets.{when, found}
-use Rattle.multi_keys.specs.Keys.{at, out, last, key_of}
+use Rattle.multi_keys.specs.Keys.{at, out, last}
 use Rattle.multi_keys.proofs.KeyLaws.{key_none, key_bid, key_rises}
 use Rattle.multi_keys.proofs.TreeLaws.{set_at}
-use Rattle.multi_market.specs.Market.{word_row, has, Market, Priced, First}
-use Rattle.multi_market.specs.Opens.{opens, open_of}
+use Rattle.multi_market.specs.Market.{has, Priced, First}
+use Rattle.multi_market.specs.Opens.{open_of}
 use Rattle.multi_market.proofs.OpensLaws.{length_cells, opens_same}
 use Rattle.multi_market.proofs.BeginLaws.{open_first}
 use Rattle.multi_market.specs.Seats.{key_in, key_at, Seat, Seats, Leader, Fronted, Entered}

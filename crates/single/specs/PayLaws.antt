@@ -83,7 +83,8 @@ pub pays_most : (a b ps : List ℕ) (L i : ℕ) → vcg_paid_of a b ps L i ≤ s
 unfolding vcg_paid_of payment
 pays_most a b ps L i = rw (paid_of i a b ps L) (go (bit (winners (covers (spans a b) (length ps) L) ps) i))
   where
-    go : (t : Bool) → payment t (value_of (cost_without i a b ps L)) (cost ps (winners (covers (spans a b) (length ps) L) ps)) (get_or ps i 0)
+    go : (t : Bool) → payment t (value_of (cost_without i a b ps L)) (cost ps (winners (covers (spans a b) (length ps) L) ps))
+        (get_or ps i 0)
         ≤ sum ps
     go true = omega (arith, without_most i a b ps L)
     go false = omega arith

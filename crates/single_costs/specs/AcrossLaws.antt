@@ -75,7 +75,8 @@ pub run_start : (a b ps order : List ℕ) (h : Bids a b ps order) (old live befo
     → length ps < length costs → len < length xs
     → get_or a (get_or order q 0) 0 ≤ get_or b (get_or order q 0) 0 → Before a b ps before → Waiting a b ps order old q m
     → BegunAt b old live before xs costs (get_or a (get_or order q 0) 0) m len
-    → Running (get_or order q 0) a b ps order (set (set costs (get_or order q 0) no_cost) (length ps) no_cost) (set xs len (get_or order q 0))
+    → Running (get_or order q 0) a b ps order (set (set costs (get_or order q 0) no_cost) (length ps) no_cost)
+    (set xs len (get_or order q 0))
     (q + 1) (q + 1) (len + 1) (length ps) 0 0 (get_or b (get_or order q 0) 0)
 unfolding cost_in end_cost
 run_start a b ps order h old live before xs costs q m len l fit room d f w g = record {
@@ -111,7 +112,8 @@ run_start a b ps order h old live before xs costs q m len l fit room d f w g = r
     }
 
     stored : (i : ℕ) → i < length ps → (i ≡ k → ⊥) → get_or (set (set costs k no_cost) (length ps) no_cost) i 0 ≡ get_or costs i 0
-    stored i x n = get_or-set_other (set costs k no_cost) (length ps) i no_cost 0 (λ e. omega arith) ∙ get_or-set_other costs k i no_cost 0 n
+    stored i x n = get_or-set_other (set costs k no_cost) (length ps) i no_cost 0 (λ e. omega arith)
+        ∙ get_or-set_other costs k i no_cost 0 n
 
     value : (i : ℕ) → On (set xs len k) (len + 1) i → (s : Bool) → eqb i k ≡ s
         → cost_in (get_or (set (set costs k no_cost) (length ps) no_cost) i 0)

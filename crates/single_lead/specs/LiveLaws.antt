@@ -125,7 +125,8 @@ live_more order b act k m at l h = record {
       inside = omega arith;
       is = sym (ap (λ z. get_or (set act m (get_or order k 0)) z 0) (eqb-true j m e) ∙ get_or-set_same act m (get_or order k 0) 0 l);
     }
-    one j d false e = rw (get_or-set_other act m j (get_or order k 0) 0 (eqb-false j m e)) (up (h.inside j (omega (arith, eqb-false j m e))))
+    one j d false e = rw (get_or-set_other act m j (get_or order k 0) 0 (eqb-false j m e))
+        (up (h.inside j (omega (arith, eqb-false j m e))))
       where
         up : {i : ℕ} → On order k i → On order (k + 1) i
         up y = record { place = y.place; inside = omega (arith, y.inside); is = y.is }

@@ -42,7 +42,8 @@ weigh_none c s e = rw (eq-eqb c no_cost e)
 plus_costs : (a b ps : List ℕ) (i : ℕ) → i < length ps → found_cost (cost ps) (plus i (least_below a b ps (get_or a i 0)))
     ≡ raise (get_or ps i 0) (found_cost (cost ps) (least_below a b ps (get_or a i 0)))
 unfolding least_below
-plus_costs a b ps i l = cost_plus (length ps) 0 (get_or a i 0) (λ i. get_or a i 0) (λ i. get_or b i 0) (λ i. get_or ps i 0) (cost ps) any_bid
+plus_costs a b ps i l = cost_plus (length ps) 0 (get_or a i 0) (λ i. get_or a i 0) (λ i. get_or b i 0) (λ i. get_or ps i 0)
+    (cost ps) any_bid
     (covers_below a b (length ps)) (prefixes a b ps (get_or a i 0)) (priced ps) i l (omega arith)
 
 -- the beginning
@@ -91,7 +92,8 @@ module _ (a b ps order costs sets : List ℕ) (h : Bids a b ps order) (old live 
   unfolding least_below
   least_stays r u n s x y q =
       let p = s.found_at n in
-      q ∙ stays (length ps) 0 u (λ i. get_or a i 0) (λ i. get_or b i 0) (λ i. get_or ps i 0) (cost ps) any_bid (covers_below a b (length ps))
+      q ∙ stays (length ps) 0 u (λ i. get_or a i 0) (λ i. get_or b i 0) (λ i. get_or ps i 0) (cost ps) any_bid
+      (covers_below a b (length ps))
       (prefixes a b ps u) (priced ps) r t u (rw p.at.is at (old_below p.at.place p.at.inside)) refl p.begins x y
       (omega arith) (sym q ∙ (rw p.at.is at (done_at p.at.place p.at.inside)).is)
 
@@ -202,7 +204,8 @@ pub weighing_more : (a b ps order costs sets live new : List ℕ) (h : Bids a b 
     → ((q : ℕ) → q < k → Done a b ps costs sets (get_or order q 0))
     → ReadyRow a b ps order sets live k (get_or a (get_or order k 0) 0) m r c end
     → Extended sets new r (get_or order k 0) (2 ^ get_or order k 0)
-    → Weighing a b ps order (set costs (get_or order k 0) (plus_price c (get_or ps (get_or order k 0) 0))) new (set live m (get_or order k 0))
+    → Weighing a b ps order (set costs (get_or order k 0) (plus_price c (get_or ps (get_or order k 0) 0)))
+    new (set live m (get_or order k 0))
     (k + 1) (m + 1) r c end
 weighing_more a b ps order costs sets live new h k m r c end l rich fit u guard empty done g x = record {
   at = g.least.at;

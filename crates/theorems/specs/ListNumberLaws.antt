@@ -103,7 +103,8 @@ shows_no_other l n at small a e = go (read_text l.text) refl (sym (listed_is l.p
     of T R W rules (awarded rows totals) f x =
         let z = sym (award_begins T R rows totals) ∙ ap (λ s. get_or s 1 0) x ∙ refusal_begins n at in
         absurd (omega (arith, z))
-    of T R W rules (refused r) f x = inr (found_as (number_of r) (place_of r) (sym (refused_line_lem r) ∙ x) (read_declined T R W rules r f))
+    of T R W rules (refused r) f x = inr (found_as (number_of r) (place_of r) (sym (refused_line_lem r) ∙ x)
+        (read_declined T R W rules r f))
 
     go : (o : reading.ReadOutcome) → read_text l.text ≡ o → list_of (read_text l.text) ≡ pair_line refused_word n at → Showable n
     go (reading.refused r) f x =

@@ -180,7 +180,8 @@ module _ (n : ℕ) (small : n < 10 ^ 20) where
       row_shown n (pair_line win_word a b ++ rest) ≡ cond (eqb a n) (record { won = true; cents = b }) (row_shown n rest)
   unfolding row_or win_word bytes among
   win_row a b rest l m = line_row win_word a b rest refl
-      ∙ ap (λ o. row_or o (row_shown n rest)) (win_on_lem a b (cut 32 (bare win_word a b)) (bare_words win_word a b refl) l m) ∙ out (eqb a n)
+      ∙ ap (λ o. row_or o (row_shown n rest)) (win_on_lem a b (cut 32 (bare win_word a b)) (bare_words win_word a b refl) l m)
+      ∙ out (eqb a n)
     where
       out : (t : Bool) → row_or (cond t (some b) none) (row_shown n rest) ≡ cond t (record { won = true; cents = b }) (row_shown n rest)
       out true = refl

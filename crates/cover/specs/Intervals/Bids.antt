@@ -46,7 +46,8 @@ end_cost k a b ps i = cond (eqb i k) nothing (raise (get_or ps i 0) (cost_withou
 -- the least cost of the cells from the end of bid i up to L
 unfoldable pub cost_after : List ℕ → List ℕ → List ℕ → ℕ → ℕ → Found
 unfolding found_cost least_set covers_from spans
-cost_after a b ps L i = found_cost (cost ps) (least_set (covers_from (λ x. x) (get_or b i 0) (spans a b) (length ps)) (cost ps) (length ps) L)
+cost_after a b ps L i = found_cost (cost ps)
+    (least_set (covers_from (λ x. x) (get_or b i 0) (spans a b) (length ps)) (cost ps) (length ps) L)
 
 -- x and y are the starts and ends of the bids below n, counted from the end L
 pub record Mirrored (a b x y : List ℕ) (L n : ℕ) : Type 0 where
