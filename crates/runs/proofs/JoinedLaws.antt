@@ -9,7 +9,8 @@ use Rattle.tender.specs.RulesLaws.{every_split}
 use Rattle.cover.proofs.SetLaws.{and_split}
 use Rattle.award_check.specs.Cells.{holds}
 use Rattle.runs.specs.Runs.{runs, joined}
-use Rattle.runs.proofs.RunsLaws.{Between, runs_between, runs_hold}
+use Rattle.runs.proofs.RunsLaws.{Between, runs_between}
+use Rattle.runs.proofs.RunsHoldLaws.{runs_hold}
 
 -- lawful windows hold no minute past the week
 pub holds_early : (ws : List Window) (m : ℕ) → every lawful ws ≡ true → holds ws m ≡ true → m < 10080

@@ -1,4 +1,5 @@
 pub mod RunsLaws
+pub mod RunsHoldLaws
 pub mod RunsFewLaws
 pub mod NextLaws
 pub mod JoinedLaws

@@ -1,7 +1,7 @@
--- Runs of minutes hold the minutes that pass and no other, and each has a minute. Assumes nothing.
+-- Runs of minutes lie among the minutes looked at, each has a minute, and one minute more is held by one more run or a longer one. Assumes nothing.
 use Rattle.std.specs.Prelude.{◌≡◌, refl, Bool, true, false, cond, ◌&&◌, ◌||◌, List, [], ◌∷◌, ℕ, zero, suc, ◌+◌, ◌≤◌, ◌<◌, leb, ltb, eqb}
-use Rattle.std.proofs.Common.{sym, ap, ◌∙◌, arith, leb-true, leb-false, lt-ltb, le-ltb, le-leb, eqb-true}
-use Rattle.std.proofs.Math.Bool.{and-true, and-false, or_assoc, and-or_distrib_right}
+use Rattle.std.proofs.Common.{ap, ◌∙◌, arith, leb-true, leb-false, lt-ltb, le-ltb, le-leb, eqb-true}
+use Rattle.std.proofs.Math.Bool.{or_assoc}
 use Rattle.std.proofs.lemmas.Bool.{lt-leb, eqb-false}
 use Rattle.tender.specs.declared.Window.{Window}
 use Rattle.award_check.specs.Cells.{holds}
@@ -52,7 +52,7 @@ one at m = go (eqb m at) refl
         side true f = le-ltb m (at + 1) (omega (arith, leb-true at m f, eqb-false m at e))
         side false f = refl
 
-first_longer : (at m e : ℕ) → at < e → (leb at m && ltb m e) ≡ (eqb m at || (leb (at + 1) m && ltb m e))
+pub first_longer : (at m e : ℕ) → at < e → (leb at m && ltb m e) ≡ (eqb m at || (leb (at + 1) m && ltb m e))
 first_longer at m e l = go (eqb m at) refl
   where
     go : (b : Bool) → eqb m at ≡ b → (leb at m && ltb m e) ≡ (b || (leb (at + 1) m && ltb m e))
@@ -63,7 +63,7 @@ first_longer at m e l = go (eqb m at) refl
         side true g = le-leb at m (omega (arith, leb-true (at + 1) m g))
         side false g = lt-leb at m (omega (arith, leb-false (at + 1) m g, eqb-false m at f))
 
-extended_holds : (at z m : ℕ) (ws : List Window) → Between (at + 1) z ws → holds (extended at ws) m ≡ (eqb m at || holds ws m)
+pub extended_holds : (at z m : ℕ) (ws : List Window) → Between (at + 1) z ws → holds (extended at ws) m ≡ (eqb m at || holds ws m)
 unfolding extended holds
 extended_holds at z m [] h = ap (λ b. b || false) (one at m)
 extended_holds at z m (w ∷ ws) h = go (eqb w.start (at + 1)) refl
@@ -75,33 +75,3 @@ extended_holds at z m (w ∷ ws) h = go (eqb w.start (at + 1)) refl
         (ap (λ b. b || holds ws m) (first_longer at m w.end (omega (arith, h.0.0, h.0.1.0)))
         ∙ or_assoc (eqb m at) (leb (at + 1) m && ltb m w.end) (holds ws m))
     go false e = ap (λ b. b || ((leb w.start m && ltb m w.end) || holds ws m)) (one at m)
-
-pub runs_hold : (P : ℕ → Bool) (at n m : ℕ) → holds (runs P at n) m ≡ ((leb at m && ltb m (at + n)) && P m)
-unfolding runs holds
-runs_hold P at zero m = sym (none (leb at m) refl)
-  where
-    none : (b : Bool) → leb at m ≡ b → ((b && ltb m (at + 0)) && P m) ≡ false
-    none true e = rw (le-ltb m (at + 0) (omega (arith, leb-true at m e)))
-    none false e = refl
-runs_hold P at (suc n) m = go (P at) refl (runs_hold P (at + 1) n m)
-  where
-    later : (leb (at + 1) m && ltb m (at + 1 + n)) ≡ (leb (at + 1) m && ltb m (at + suc n))
-    later = let e : at + 1 + n ≡ at + suc n = omega arith in ap (λ (z : ℕ). leb (at + 1) m && ltb m z) e
-
-    here : (b : Bool) → P at ≡ b → (c : Bool) → eqb m at ≡ c → (c && P m) ≡ (c && b)
-    here b e true f = ap P (eqb-true m at f) ∙ e
-    here b e false f = refl
-
-    whole : (b : Bool) → P at ≡ b → ((leb at m && ltb m (at + suc n)) && P m)
-        ≡ ((eqb m at && b) || ((leb (at + 1) m && ltb m (at + 1 + n)) && P m))
-    whole b e = ap (λ c. c && P m) (first_longer at m (at + suc n) (omega arith))
-        ∙ and-or_distrib_right (eqb m at) (leb (at + 1) m && ltb m (at + suc n)) (P m)
-        ∙ ap (λ c. c || ((leb (at + 1) m && ltb m (at + suc n)) && P m)) (here b e (eqb m at) refl)
-        ∙ ap (λ c. (eqb m at && b) || (c && P m)) (sym later)
-
-    go : (b : Bool) → P at ≡ b → holds (runs P (at + 1) n) m ≡ ((leb (at + 1) m && ltb m (at + 1 + n)) && P m) →
-        holds (cond b (extended at (runs P (at + 1) n)) (runs P (at + 1) n)) m ≡ ((leb at m && ltb m (at + suc n)) && P m)
-    go true e ih = extended_holds at (at + 1 + n) m (runs P (at + 1) n) (runs_between P (at + 1) n) ∙ ap (λ c. eqb m at || c) ih
-        ∙ ap (λ c. c || ((leb (at + 1) m && ltb m (at + 1 + n)) && P m)) (sym (and-true (eqb m at))) ∙ sym (whole true e)
-    go false e ih = ih ∙ ap (λ c. c || ((leb (at + 1) m && ltb m (at + 1 + n)) && P m)) (sym (and-false (eqb m at)))
-        ∙ sym (whole false e)
