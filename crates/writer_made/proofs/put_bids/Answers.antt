@@ -1,12 +1,9 @@
 -- Each turn writes the line of one bid, unless the text is too long already. Assumes nothing.
-use mathlib.Core.Path.{◌≡◌, ◌∙◌, sym}
-use Prim.Native.Nat.{◌-◌, ◌/◌, ◌≤◌}
+use mathlib.Core.Path.{◌∙◌, sym}
 use native.Mathlib.Omega.{arith}
-use lib.ListN.{length}
-use Rattle.tender.specs.Tables.{rows_of, bid_width}
-use Rattle.runs.specs.MinuteRows.{row_words}
+use Rattle.tender.specs.Tables.{rows_of}
 use Rattle.writer_text.proofs.TableLaws.{row_plain, rows_lent}
-use Rattle.writer_text.proofs.FillingLaws.{BidsPut, bids_begin, bids_go, bids_end, bids_long}
+use Rattle.writer_text.proofs.FillingLaws.{bids_begin, bids_go, bids_end, bids_long}
 use Rattle.writer_made.proofs.put_bids.Goals as goal
 
 pub loop-j-init : goal.loop-j-init

@@ -1,12 +1,10 @@
 -- Each turn writes the line of one bid, unless the text is too long already. Assumes nothing.
-use mathlib.Core.Path.{◌≡◌, ◌∙◌, sym}
+use mathlib.Core.Path.{◌≡◌}
 use Prim.Native.Nat.{◌-◌, ◌/◌, ◌≤◌}
-use native.Mathlib.Omega.{arith}
 use lib.ListN.{length}
 use Rattle.tender.specs.Tables.{rows_of, bid_width}
 use Rattle.runs.specs.MinuteRows.{row_words}
-use Rattle.writer_text.proofs.TableLaws.{row_plain, rows_lent}
-use Rattle.writer_text.proofs.FillingLaws.{BidsPut, bids_begin, bids_go, bids_end, bids_long}
+use Rattle.writer_text.proofs.FillingLaws.{BidsPut}
 use Rattle.writer_made.proofs.put_bids.Given as goal
 
 abbrev pub invariant-loop-j : goal.invariant-loop-j

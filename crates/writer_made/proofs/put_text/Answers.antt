@@ -3,7 +3,6 @@ use mathlib.Core.Path.{refl}
 use native.Mathlib.Omega.{arith}
 use Rattle.runs.proofs.MinuteRowLaws.{empty_row, full_row}
 use Rattle.writer_text.proofs.FillingLaws.{some_text}
-use borrow.Author.Rules.{rules}
 use Rattle.writer_made.proofs.put_text.Goals as goal
 
 pub put_bids-requires : goal.put_bids-requires
