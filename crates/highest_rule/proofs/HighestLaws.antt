@@ -25,6 +25,7 @@ use Rattle.award_check.proofs.AuctionLaws.{at_own_price}
 use Rattle.award_rule.specs.Award.{Rule, least_cost, greedy, covers_in, won, cents}
 use Rattle.award_rule.proofs.AwardLaws.{won_least, cents_least, won_greedy, cents_greedy}
 use Rattle.highest_rule.specs.Highest.{highest}
+use Rattle.highest_rule.proofs.Searched.{searched}
 
 some_length : (L : ℕ) → 0 < L → 1 ≤ length (cells L)
 unfolding cells
@@ -95,7 +96,7 @@ module _ (A : Auction) (i : ℕ) (inside : i < length A.prices) (y : Spare A.has
   -- the highest is the largest of the prices below m, where these win and no other
   pub highest_below : (r : Rule) (m : ℕ) → Below (won_at r) m → highest r A i ≡ one_less m
   unfolding highest ceiling
-  highest_below r m b = largest_below (won_at r) m b (ceiling (set ps i 0) (cells A.cells))
+  highest_below r m b = largest_below (won_at r) m b (searched A i)
       (below_most (won_at r) m b (sum (set ps i 0) * length (cells A.cells)) (λ q e. omega (arith, within_ceiling r q e)))
 
   highest_bound : (r : Rule) → highest r A i ≡ one_less (bound r)

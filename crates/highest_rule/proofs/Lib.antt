@@ -1,3 +1,4 @@
+pub mod Searched
 pub mod HighestLaws
 pub mod RowLaws
 pub mod AnswerLaws

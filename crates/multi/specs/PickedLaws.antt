@@ -1,10 +1,8 @@
 -- How the list of the bids that take part in every payment is picked. Assumes nothing.
 use Rattle.std.specs.Prelude.{◌≡◌, refl, ◌⊎◌, Bool, true, false, List, ℕ, ◌+◌, ◌*◌, ◌≤◌, ◌<◌, length, set, eqb}
-use Rattle.std.proofs.Common.{sym, ap, ◌∙◌, inl, inr, ⊎_elim, arith, length-set, get_or-set_same, get_or-set_other, eqb-true}
+use Rattle.std.proofs.Common.{sym, ◌∙◌, inl, inr, ⊎_elim, arith, length-set, get_or-set_same, get_or-set_other, eqb-true}
 use Rattle.std.proofs.lemmas.Bool.{eqb-false}
 use Rattle.cells.specs.Cells.{cell}
-use Rattle.cover.specs.Sets.{cells}
-use Rattle.cover.specs.Greedy.{bids}
 use Rattle.multi_keys.specs.Keys.{at, out}
 use Rattle.multi_keys.specs.Tree.{leaves}
 use Rattle.multi_keys.proofs.TreeLaws.{leaf_at, leaves_set, length_leaves}
@@ -12,7 +10,7 @@ use Rattle.multi_market.specs.Market.{Priced, First}
 use Rattle.multi_market.specs.Opens.{open_of}
 use Rattle.multi_market.proofs.OpensLaws.{two_way}
 use Rattle.multi_market.proofs.BeginLaws.{open_first}
-use Rattle.multi_market.specs.Seats.{key_in, key_at, Seat, Seats, Entered}
+use Rattle.multi_market.specs.Seats.{Seat, Entered}
 use Rattle.multi_market.proofs.KeyedLaws.{zero_or}
 use Rattle.multi_rounds.specs.TracingLaws.{seats_of}
 use Rattle.multi_pay.specs.Paying.{Listed}

@@ -1,6 +1,6 @@
 -- The bids that gain where a cell is open that the main run has closed: marked, each with its key. Bid i's mark is cell i of a row of
 -- 16 words.
-use Rattle.std.specs.Prelude.{◌≡◌, Bool, true, List, ℕ, ◌+◌, ◌≤◌, ◌<◌, length}
+use Rattle.std.specs.Prelude.{◌≡◌, Bool, true, List, ℕ, ◌<◌, length}
 use Rattle.std.specs.Int.Bits.{bit_and}
 use Rattle.cells.specs.Cells.{cell}
 use Rattle.multi_keys.specs.Keys.{at}

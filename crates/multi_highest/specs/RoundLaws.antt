@@ -7,8 +7,8 @@ use Prim.Native.Nat.{ℕ, ◌*◌, ◌%◌, ◌≤◌, ◌<◌, max}
 use Rattle.std.proofs.lemmas.List.{length-replicate}
 use Rattle.tender.specs.Limits.{max_entries}
 use Rattle.cover.specs.Sets.{cells, Found, nothing, found}
-use Rattle.cover.specs.Greedy.{Entry, reach, close, Rounds, best, bids}
-use Rattle.cover.proofs.GreedyLaws.{rounds, Rightly, best_right, withdrawn_other, withdrawn_reach, close_own, close_other, shrink}
+use Rattle.cover.specs.Greedy.{reach, close, Rounds, best, bids}
+use Rattle.cover.proofs.GreedyLaws.{Rightly, best_right, withdrawn_other, withdrawn_reach, close_own, shrink}
 use Rattle.cover.specs.CriticalPrice.{mute, withdrawn, share, bar, limit}
 use Rattle.cells_pairs.specs.Pairs.{Shut}
 use Rattle.multi_keys.specs.Keys.{at, out, last}

@@ -1,11 +1,11 @@
 -- A round that closes none of bid k's cells does not raise the bar: the bids that are taken later ask no less for each cell. Assumes
 -- nothing.
-use Rattle.std.specs.Prelude.{◌≡◌, refl, Bool, true, false, ◌&&◌, List, [], ℕ, zero, suc, ◌+◌, ◌-◌, ◌*◌, ◌/◌, ◌≤◌, ◌<◌, max, length, leb, ltb, eqb}
-use Rattle.std.proofs.Common.{sym, ap, ap₂, ◌∙◌, mul-le-mul_left, arith, ltb-true, ltb-false, lt-ltb, le-leb, leb-true, eqb-true}
+use Rattle.std.specs.Prelude.{◌≡◌, refl, Bool, true, false, ◌&&◌, List, ℕ, zero, suc, ◌+◌, ◌-◌, ◌*◌, ◌/◌, ◌≤◌, ◌<◌, max, leb, ltb, eqb}
+use Rattle.std.proofs.Common.{sym, ap, ap₂, ◌∙◌, mul-le-mul_left, arith, ltb-true, ltb-false, le-leb, leb-true, eqb-true}
 use Rattle.std.proofs.lemmas.Bool.{eqb-false}
 use Rattle.cover.specs.Sets.{when, found}
 use Rattle.cover.proofs.SetLaws.{and_split}
-use Rattle.cover.specs.Greedy.{Entry, reach, keep, close, Rounds, best}
+use Rattle.cover.specs.Greedy.{Entry, reach, keep, close, best}
 use Rattle.cover.proofs.GreedyLaws.{best_right, close_other}
 use Rattle.cover.specs.CriticalPrice.{late, share, bar}
 use Rattle.cover.proofs.BarLaws.{share_right}

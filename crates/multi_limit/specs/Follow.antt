@@ -1,5 +1,5 @@
 -- How a payment is found: the run without bid k follows the main run as written down, but for the bids that are marked.
-use Rattle.std.specs.Prelude.{◌≡◌, Bool, true, false, ◌&&◌, ◌⊎◌, List, ℕ, suc, ◌+◌, ◌-◌, ◌*◌, ◌/◌, ◌%◌, ◌≤◌, ◌<◌, max, length, set, ltb, leb}
+use Rattle.std.specs.Prelude.{◌≡◌, Bool, true, false, ◌&&◌, ◌⊎◌, List, ℕ, suc, ◌+◌, ◌-◌, ◌*◌, ◌/◌, ◌≤◌, ◌<◌, max, length, set, ltb, leb}
 use Rattle.cover.specs.Sets.{when}
 use Rattle.cover.specs.Greedy.{run, reach, bids}
 use Rattle.cover.specs.CriticalPrice.{late, withdrawn, bar}

@@ -1,33 +1,31 @@
 -- The run without bid k as it follows the main run, step by step. Assumes nothing.
-use Rattle.std.specs.Prelude.{◌≡◌, ◌⊎◌, Bool, true, false, ◌&&◌, set, eqb, ltb}
+use Rattle.std.specs.Prelude.{◌≡◌, ◌⊎◌, Bool, true, false, ◌&&◌, eqb, ltb}
 use Rattle.std.proofs.Math.Path.{refl, ap}
-use Rattle.std.proofs.Common.{sym, ◌∙◌, inl, inr, add-one, arith, eqb-true, eq-eqb}
+use Rattle.std.proofs.Common.{sym, ◌∙◌, inl, inr, add-one, arith, eqb-true}
 use Rattle.std.proofs.Math.Logic.{⊎_elim}
 use mathlib.Core.List.{List}
 use Prim.Native.Nat.{ℕ, zero, suc, ◌+◌, ◌-◌, ◌*◌, ◌%◌, ◌≤◌, ◌<◌, max}
 use Rattle.std.proofs.Math.ListN.{length}
 use Rattle.std.proofs.lemmas.Bool.{eqb-false}
 use Rattle.cover.specs.Sets.{when, Found, nothing, found}
-use Rattle.cover.proofs.SetLaws.{and_split}
-use Rattle.cover.specs.Greedy.{Entry, reach, close, Rounds, best, bids}
+use Rattle.cover.specs.Greedy.{reach, close, Rounds, best, bids}
 use Rattle.cover.proofs.GreedyLaws.{Rightly, best_right, withdrawn_other, withdrawn_reach, close_own, shrink}
-use Rattle.cover.specs.CriticalPrice.{withdrawn, share, bar}
-use Rattle.cover.specs.Spare.{Another}
+use Rattle.cover.specs.CriticalPrice.{share, bar}
 use Rattle.cells.specs.Cells.{cell}
-use Rattle.cells_pairs.specs.Pairs.{in_pairs, Paired, Shut}
-use Rattle.multi_keys.specs.Keys.{at, out, last}
+use Rattle.cells_pairs.specs.Pairs.{in_pairs, Shut}
+use Rattle.multi_keys.specs.Keys.{at, last}
 use Rattle.multi_keys.proofs.KeyLaws.{key_low}
 use Rattle.multi_market.specs.Market.{Priced}
 use Rattle.multi_market.specs.Opens.{opens, open_of}
 use Rattle.multi_market.proofs.OpensLaws.{two_way, reach_alike, reach_less}
-use Rattle.multi_market.specs.Seats.{key_in, key_at, Leader, Fronted}
+use Rattle.multi_market.specs.Seats.{key_at, Leader, Fronted}
 use Rattle.multi_market.proofs.KeyedLaws.{zero_or, key_at_lem, opens_most, none_reached}
 use Rattle.multi_market.proofs.RunLaws.{rounds_of, rounds_stop, rounds_more}
-use Rattle.multi_rounds.specs.Trace.{key_on, bid_on, gain_on, tape_on, before, open_on, Round, Trace}
+use Rattle.multi_rounds.specs.Trace.{key_on, bid_on, tape_on, before, open_on, Round}
 use Rattle.multi_rounds.specs.ShutLaws.{shut_open}
 use Rattle.multi_rounds.specs.TracingLaws.{round_best, round_least}
 use Rattle.multi_gain.specs.Gain.{Gained}
-use Rattle.multi_limit.specs.Follow.{raised_to, bar_from, Spared, Strayed, Following, SameBar, Gone, Took, Stepped}
+use Rattle.multi_limit.specs.Follow.{raised_to, bar_from, Spared, Strayed, Following, SameBar, Took}
 use Rattle.multi_limit.specs.FallLaws.{bar_falls, Cell, some_cell, reached_cell}
 use Rattle.multi_limit.specs.StrayLaws.{others, taken, no_lower, scanned, closes, goes_out, passes}
 

@@ -1,24 +1,21 @@
 -- The run without bid k beside the main run: which bid it takes next, and what stays true where either closes a bid's cells. Assumes
 -- nothing.
-use Rattle.std.specs.Prelude.{◌≡◌, refl, ◌⊎◌, Bool, true, false, List, ℕ, ◌+◌, ◌-◌, ◌*◌, ◌%◌, ◌≤◌, ◌<◌, set, eqb}
-use Rattle.std.proofs.Common.{sym, ap, ◌∙◌, inl, inr, ⊎_elim, arith, length-set, eqb-true}
+use Rattle.std.specs.Prelude.{◌≡◌, refl, ◌⊎◌, Bool, true, false, List, ℕ, ◌-◌, ◌*◌, ◌%◌, ◌≤◌, ◌<◌, set, eqb}
+use Rattle.std.proofs.Common.{ap, ◌∙◌, inl, inr, ⊎_elim, arith, length-set}
 use Rattle.std.proofs.Math.ListN.{length}
-use Rattle.std.proofs.lemmas.Bool.{eqb-false}
 use Rattle.cover.specs.Sets.{when, found}
-use Rattle.cover.specs.Greedy.{Entry, reach, close, best, bids}
-use Rattle.cover.proofs.GreedyLaws.{withdrawn_other, withdrawn_reach, close_own}
+use Rattle.cover.specs.Greedy.{Entry, reach, best, bids}
+use Rattle.cover.proofs.GreedyLaws.{withdrawn_other, withdrawn_reach}
 use Rattle.cover.specs.CriticalPrice.{mute, withdrawn}
 use Rattle.cells.specs.Cells.{cell}
-use Rattle.cells_pairs.specs.Pairs.{Shut}
-use Rattle.multi_keys.specs.Keys.{at, out, last, key_of}
+use Rattle.multi_keys.specs.Keys.{at, out, key_of}
 use Rattle.multi_keys.proofs.KeyLaws.{key_none, key_bid, key_rises}
 use Rattle.multi_keys.proofs.TreeLaws.{set_at}
 use Rattle.multi_market.specs.Market.{Priced}
 use Rattle.multi_market.specs.Opens.{opens, open_of}
 use Rattle.multi_market.proofs.OpensLaws.{reach_less}
-use Rattle.multi_market.specs.Seats.{key_in, key_at, Seat, Seats, Leader, Fronted}
+use Rattle.multi_market.specs.Seats.{key_in, key_at, Seat, Fronted}
 use Rattle.multi_market.proofs.KeyedLaws.{zero_or, key_at_lem, opens_most, least_taken}
-use Rattle.multi_rounds.specs.ShutLaws.{shut_open}
 use Rattle.multi_gain.specs.Gain.{Gained}
 use Rattle.multi_limit.specs.Follow.{Strayed}
 

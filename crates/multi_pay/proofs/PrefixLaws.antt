@@ -9,7 +9,7 @@ use native.Mathlib.Omega.{arith}
 use Rattle.std.proofs.Math.Dec.{eqb}
 use borrow.Author.Tests.{eqb-true, eqb-false, eq-eqb, ltb-true, ltb-false, leb-true, le-ltb, lt-ltb}
 use Rattle.cover.specs.Sets.{when, found, cells}
-use Rattle.cover.specs.Greedy.{reach, keep, close, best, taken, bids}
+use Rattle.cover.specs.Greedy.{Entry, reach, keep, close, best, taken, bids}
 use Rattle.cover.proofs.GreedyLaws.{best_right, withdrawn_other, withdrawn_reach}
 use Rattle.cover.proofs.GreedyCoverLaws.{Each, Covered}
 use Rattle.cover.specs.CriticalPrice.{late, share, bar, limit}
@@ -119,7 +119,10 @@ module _ {has : ℕ → ℕ → Bool} {ps : List ℕ} {w n : ℕ} {run tape : Li
         (bar_from has ps k (og (suc g)))
     unfolding bar_from rounds_of bar bids
     bar_step g l ne = ap (bar k (has k)) (rounds_more (others has ps k) (length ps) (og g) (bid_on run g) (without_best g l ne))
-        ∙ rw (plain (bid_on run g) ne, closes has w n run g)
+        ∙ ap (λ (y : Entry). max (share k (has k) (bid_on run g) y (og g))
+        (bar k (has k) (rounds_of (others has ps k) (length ps) (close y.has (og g))))) (plain (bid_on run g) ne)
+        ∙ ap (λ (O : List ℕ). max (share k (has k) (bid_on run g) (bids has ps (bid_on run g)) (og g))
+        (bar k (has k) (rounds_of (others has ps k) (length ps) O))) (closes has w n run g)
 
     record Split (g : ℕ) : Type 0 where
       low : ℕ

@@ -1,5 +1,5 @@
 -- What comes of lines that all end with byte 10, and of a rest after them. Assumes nothing.
-use Rattle.std.specs.Prelude.{ℕ, ◌+◌, ◌*◌, ◌≡◌, refl, List, [], ◌++◌, Bool, length, take}
+use Rattle.std.specs.Prelude.{ℕ, ◌+◌, ◌≡◌, refl, List, [], ◌++◌, Bool, length}
 use Rattle.std.proofs.Common.{subst, ◌∙◌, append-nil, arith}
 use Rattle.std.proofs.Math.Path.{ap}
 use Rattle.std.proofs.Math.Bool.{true, false}
@@ -7,7 +7,6 @@ use Rattle.std.proofs.Math.Option.{Option}
 use Rattle.tender.specs.declared.Tender.{Tender}
 use Rattle.tender.specs.declared.Refusal.{Refusal}
 use Rattle.tender.specs.declared.Refusal.TheVariants.{BadForm}
-use Rattle.tender.specs.Tables.{flat_rows, flat_windows, bid_width, window_width}
 use Rattle.reader_forms.specs.Line.{Line}
 use Rattle.reader_text.specs.Read.{ReadOutcome, accepted, refused, rows_from, all_windows, bids_of, checked, tables, begun, halted}
 use Rattle.reader_text.specs.Read.{head_of, read_lines}

@@ -1,11 +1,10 @@
 -- The lines of a text are those up to its last byte 10, and the rest. Assumes nothing.
-use Rattle.std.specs.Prelude.{◌≡◌, refl, List, [], ◌∷◌, ◌++◌, Bool, true, false, ◌||◌, ℕ, zero, suc, ◌-◌, ◌≤◌, ◌<◌, length, get_or, take, drop, ltb}
+use Rattle.std.specs.Prelude.{◌≡◌, refl, List, [], ◌∷◌, ◌++◌, false, ℕ, zero, suc, ◌-◌, ◌≤◌, ◌<◌, length, get_or, take, drop, ltb}
 use Rattle.std.proofs.Common.{sym, ap, ◌∙◌, arith, take-append-drop, length-drop, take-suc, drop-cons, get_or-take, length-take-le, lt-ltb, le-ltb, ne_eqb}
-use Rattle.std.proofs.Math.Option.{Option}
 use Rattle.std.proofs.Math.Seq.{append_snoc}
 use Rattle.reader_parts.specs.Words.{cut, among}
 use Rattle.reader_parts.specs.Scan.{Ended}
-use Rattle.reader_forms.specs.Line.{Line, lines_of}
+use Rattle.reader_forms.specs.Line.{lines_of}
 use Rattle.reader_forms.proofs.EndedLaws.{lines_rest, lines_none}
 use Rattle.reader_text.specs.Read.{refused, halted, head_of, read_lines}
 use Rattle.reader_text.proofs.HeadLaws.{no_line, broken_first, lines_halted}
