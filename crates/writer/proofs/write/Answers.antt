@@ -2,7 +2,6 @@
 use mathlib.Core.Path.{◌∙◌, sym, ap}
 use Rattle.award_fault.specs.Checks.{checked_fault}
 use Rattle.writer.specs.WritesLaws.{writes_nine}
-use borrow.Author.Rules.{rules}
 use Rattle.writer.proofs.write.Goals as goal
 
 pub write_sound-requires : goal.write_sound-requires
@@ -12,4 +11,4 @@ pub returns-in-Faulty : goal.returns-in-Faulty
 returns-in-Faulty c =
     let args = c.args in
     writes_nine args.tender args.count args.bids.now args.windows.now args.text.now _
-    (sym c.fault.ensures ∙ ap checked_fault c.row-1.given.1)
+    (sym c.fault.ensures ∙ ap checked_fault c.in-Faulty.is)

@@ -4,7 +4,6 @@ use mathlib.Core.Logic.{inl, inr}
 use native.Mathlib.Omega.{arith}
 use Rattle.writer_text.proofs.FillingLaws.{some_length}
 use Rattle.writer.specs.WritesLaws.{writes_fourteen, writes_text}
-use borrow.Author.Rules.{rules}
 use Rattle.writer.proofs.write_sound.Goals as goal
 
 pub returns-then-n-gt65536 : goal.returns-then-n-gt65536
