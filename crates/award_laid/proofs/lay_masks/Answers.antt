@@ -1,0 +1,89 @@
+-- `award_laid::lay_masks` meets its contract: prices and words of the bids are laid out, then the cells are asked or the house is put
+-- after them. Assumes nothing.
+use mathlib.Core.Path.{sym, ap, ◌∙◌}
+use native.Mathlib.Omega.{arith}
+use Rattle.tender.specs.declared.Kind.TheVariants.{Multi}
+use Rattle.award_check.specs.Auction.{houses}
+use Rattle.award_layout.specs.LayoutLaws.{orderly, cells_within}
+use Rattle.award_laid.specs.LayLaws.{words_of, front_count, word_front, rows_only, masks_ready, masks_owners, masks_house, house_words}
+use Rattle.award_laid.proofs.lay_masks.Goals as goal
+
+pub cells-cells-requires : goal.cells-cells-requires
+cells-cells-requires c =
+    let A = c.args in (cells_within Multi A.tender A.count A.bids.now A.windows.now c.requires.0).0
+
+pub slice_bounds-prices-end-2 : goal.slice_bounds-prices-end-2
+slice_bounds-prices-end-2 c =
+    sym (front_count _ _ c.args.prices.now c.requires.1.1.0)
+
+pub prices-requires : goal.prices-requires
+prices-requires c =
+    let A = c.args in let P = c.requires in
+    rw (front_count _ _ A.prices.now P.1.1.0) (orderly Multi A.tender A.count A.bids.now A.windows.now P.0).lent
+
+pub slice_bounds-masks-end-2 : goal.slice_bounds-masks-end-2
+slice_bounds-masks-end-2 c =
+    sym (word_front _ _ _ c.args.masks.now c.requires.1.1.1)
+
+pub masks-requires : goal.masks-requires
+masks-requires c =
+    let A = c.args in let P = c.requires in
+    let d = words_of Multi A.tender A.count A.w A.bids.now A.windows.now P.0 P.1.0 in (
+      orderly Multi A.tender A.count A.bids.now A.windows.now P.0,
+      (
+        word_front _ _ _ A.masks.now P.1.1.1,
+        (((cells_within Multi A.tender A.count A.bids.now A.windows.now P.0).0, d.fits), d.words),
+      ),
+    )
+
+pub thin_masks-requires : goal.thin_masks-requires
+thin_masks-requires c =
+    let A = c.args in let P = c.requires in
+    let d = words_of Multi A.tender A.count A.w A.bids.now A.windows.now P.0 P.1.0 in
+    let R = masks_ready A.tender A.count A.w A.bids.now A.windows.now A.prices.now A.masks.now
+    c.prices.new.out c.masks.new.out P.1.1.0 P.1.1.1
+    (c.masks.auto.out ∙ word_front _ _ _ A.masks.now P.1.1.1)
+    (rw (front_count _ _ A.prices.now P.1.1.0) at c.prices.ensures) c.masks.ensures in (
+      R.word_count ∙ rows_only A.w A.count _ (ap houses c.in-Absent.is),
+      (d.words, omega (arith, c.cells-cells.ensures, d.fits)),
+    )
+
+pub bounds-prices-count : goal.bounds-prices-count
+bounds-prices-count c =
+    let A = c.args in let P = c.requires in
+    let R = masks_ready A.tender A.count A.w A.bids.now A.windows.now A.prices.now A.masks.now
+    c.prices.new.out c.masks.new.out P.1.1.0 P.1.1.1
+    (c.masks.auto.out ∙ word_front _ _ _ A.masks.now P.1.1.1)
+    (rw (front_count _ _ A.prices.now P.1.1.0) at c.prices.ensures) c.masks.ensures in
+    omega (arith, ap houses c.in-Price.is, R.price_count)
+
+pub unlock-requires : goal.unlock-requires
+unlock-requires c =
+    let A = c.args in let P = c.requires in
+    let d = words_of Multi A.tender A.count A.w A.bids.now A.windows.now P.0 P.1.0 in
+    let R = masks_ready A.tender A.count A.w A.bids.now A.windows.now A.prices.now A.masks.now
+    c.prices.new.out c.masks.new.out P.1.1.0 P.1.1.1
+    (c.masks.auto.out ∙ word_front _ _ _ A.masks.now P.1.1.1)
+    (rw (front_count _ _ A.prices.now P.1.1.0) at c.prices.ensures) c.masks.ensures in
+    let e = house_words _ _ _ _ _ _ _ R _ c.in-Price.is in
+    (omega (arith, c.cells-cells.ensures, d.fits, e), omega (arith, d.words, e))
+
+pub returns-in-Absent : goal.returns-in-Absent
+returns-in-Absent c =
+    let A = c.args in let P = c.requires in
+    let R = masks_ready A.tender A.count A.w A.bids.now A.windows.now A.prices.now A.masks.now
+    c.prices.new.out c.masks.new.out P.1.1.0 P.1.1.1
+    (c.masks.auto.out ∙ word_front _ _ _ A.masks.now P.1.1.1)
+    (rw (front_count _ _ A.prices.now P.1.1.0) at c.prices.ensures) c.masks.ensures in
+    masks_owners _ _ _ _ _ _ _ R c.in-Absent.is c.thin_masks.result (rw c.cells-cells.ensures at c.thin_masks.ensures)
+
+pub returns-in-Price : goal.returns-in-Price
+returns-in-Price c =
+    let A = c.args in let P = c.requires in
+    let R = masks_ready A.tender A.count A.w A.bids.now A.windows.now A.prices.now A.masks.now
+    c.prices.new.out c.masks.new.out P.1.1.0 P.1.1.1
+    (c.masks.auto.out ∙ word_front _ _ _ A.masks.now P.1.1.1)
+    (rw (front_count _ _ A.prices.now P.1.1.0) at c.prices.ensures) c.masks.ensures in
+    masks_house _ _ _ _ _ _ _ R _ c.in-Price.is c.unlock.new.held
+    (c.unlock.auto.held ∙ house_words _ _ _ _ _ _ _ R _ c.in-Price.is)
+    (rw c.cells-cells.ensures at c.unlock.ensures)
