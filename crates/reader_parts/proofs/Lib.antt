@@ -5,6 +5,7 @@ pub mod ScanLaws
 pub mod DigitsLaws
 pub mod FlawLaws
 pub mod FrontLaws
+pub mod NumberFirstLaws
 pub mod NumberFrontLaws
 pub mod NumberSizeLaws
 pub mod PriceFormLaws

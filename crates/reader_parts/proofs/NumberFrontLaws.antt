@@ -1,7 +1,7 @@
 -- A number read from the front of bytes is that of the word there: what a word gives is read where no digit follows (`..-read`), and
 -- what is read comes from a word that gives it (`..-from`). Assumes nothing.
 use Rattle.std.specs.Prelude.{ℕ, suc, ◌+◌, ◌-◌, ◌*◌, ◌^◌, ◌≤◌, ◌<◌, ◌≡◌, refl, List, [], ◌∷◌, ◌++◌, Bool, true, false, cond, not, ◌&&◌, length, eqb, leb, ltb}
-use Rattle.std.proofs.Common.{sym, ap, ◌∙◌, arith, pow-suc, lit<, ltb-true, leb-true, leb-false, eqb-true, lt-ltb, le-leb, ne_eqb}
+use Rattle.std.proofs.Common.{sym, ap, ◌∙◌, arith, pow-suc, lit<, ltb-true, leb-true, leb-false, eqb-true, lt-ltb, ne_eqb}
 use Rattle.std.proofs.Math.Bool.{and-false}
 use Rattle.std.proofs.Math.Option.{Option, some}
 use Rattle.std.proofs.Math.Nat.{pow-le-pow_right}
@@ -10,6 +10,7 @@ use Rattle.tender.specs.Limits.{within}
 use Rattle.reader_parts.specs.Words.{among, digits, leading_zero, numeral_of}
 use Rattle.reader_parts.specs.Front.{got, wrong, digits_front, number_front}
 use Rattle.reader_parts.proofs.GivenLaws.{both_true, cond_some}
+use Rattle.reader_parts.proofs.NumberFirstLaws.{number_first, number_zero_first}
 use Rattle.reader_parts.proofs.DigitsLaws.{inside, digits_below, ten_more, ten_below, leading_other, number_digits}
 
 -- the bytes s begin with a word that gives a, and r stands after it
@@ -91,14 +92,6 @@ digits_from v k (b ∷ s) u r h l e =
     go false q x ih = record { word = []; are = cc; is = cc; few = omega arith }
 
 -- a number
-
-number_first : (b : ℕ) (s : List ℕ) → 49 ≤ b → b ≤ 57 → number_front (b ∷ s) ≡ digits_front (b - 48) s
-unfolding number_front within
-number_first b s h k = rw (le-leb 49 b h, le-leb b 57 k)
-
-number_zero_first : (b : ℕ) (s : List ℕ) → b ≡ 48 → number_front (b ∷ s) ≡ got 0 s
-unfolding number_front within
-number_zero_first b s p = rw p
 
 pub number_read : (w : List ℕ) (v d : ℕ) (r : List ℕ) → d < 48 → numeral_of w ≡ some v
     → number_front (w ++ d ∷ r) ≡ got v (d ∷ r)

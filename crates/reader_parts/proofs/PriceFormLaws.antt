@@ -1,10 +1,10 @@
 -- A price is a number of cents, or a number of at most seven digits, a point and two digits; what each form gives. Callers go by the
 -- two forms and not by the pieces that the definition cuts. Assumes nothing.
-use Rattle.std.specs.Prelude.{ℕ, ◌+◌, ◌-◌, ◌*◌, ◌≤◌, ◌≡◌, refl, List, [], ◌∷◌, ◌++◌, true, false, cond, ◌&&◌, length, eqb, leb}
+use Rattle.std.specs.Prelude.{ℕ, ◌+◌, ◌-◌, ◌*◌, ◌≤◌, ◌≡◌, refl, List, [], ◌∷◌, ◌++◌, true, ◌&&◌, length, eqb, leb}
 use Rattle.std.proofs.Common.{sym, ap, ◌∙◌, arith, leb-true, eqb-true, le-leb, eq-eqb}
-use Rattle.std.proofs.Math.Option.{Option, none, some}
+use Rattle.std.proofs.Math.Option.{some}
 use Rattle.tender.specs.Limits.{within}
-use Rattle.reader_parts.specs.Words.{and_then, among, cut, digits, numeral_of, price_in, price_of}
+use Rattle.reader_parts.specs.Words.{and_then, cut, digits, numeral_of, price_in, price_of}
 use Rattle.reader_parts.proofs.GivenLaws.{both_true, then_some, cond_some}
 use Rattle.reader_parts.proofs.RejoinedLaws.{rejoined, rejoined_cut, cut_rejoined}
 use Rattle.reader_parts.proofs.NumberFrontLaws.{digits_without, number_without}

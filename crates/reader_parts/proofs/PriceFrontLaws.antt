@@ -10,8 +10,8 @@ use Rattle.reader_parts.proofs.RejoinedLaws.{among_append}
 use Rattle.reader_parts.proofs.FrontLaws.{onward_got, past_got}
 use Rattle.reader_parts.proofs.NumberFrontLaws.{Led, within_both, digits_without, number_without, number_read, number_from}
 use Rattle.reader_parts.proofs.NumberSizeLaws.{number_small, number_few}
-use Rattle.reader_parts.proofs.PriceFormLaws.{Pointed, PriceForm, plainly, pointed, price_form, price_plainly, price_pointed}
-use Rattle.reader_parts.proofs.PriceFormLaws.{Cents, two_cents, cents_two}
+use Rattle.reader_parts.proofs.PriceFormLaws.{PriceForm, plainly, pointed, price_form, price_plainly, price_pointed}
+use Rattle.reader_parts.proofs.PriceFormLaws.{two_cents, cents_two}
 
 -- the bytes of a price
 

@@ -8,7 +8,7 @@ use Rattle.reader_parts.proofs.ScanLaws.{drop_next}
 use Rattle.reader_parts.specs.declared.Number.{Number}
 use Rattle.reader_parts.specs.declared.Number.TheVariants as number
 use Rattle.reader_parts.specs.Answer.{ReadAt, NumberIs}
-use Rattle.reader_parts.specs.Front.{Front, got, wrong, onward, digit_front, cents_front, number_front, price_front}
+use Rattle.reader_parts.specs.Front.{Front, wrong, onward, digit_front, cents_front, number_front, price_front}
 use Rattle.reader_parts.proofs.NumberFrontLaws.{within_both}
 use Rattle.reader_parts.proofs.PriceFrontLaws.{digit_from}
 use Rattle.reader_parts.proofs.PlaceLaws.{not_last, past_at, fork_here, fork_other}
