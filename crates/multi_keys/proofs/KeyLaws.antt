@@ -1,17 +1,15 @@
--- Laws of keys: they compare as the bids do, by price for each cell and then by entry. Assumes nothing.
-use Rattle.std.specs.Prelude.{◌≡◌, refl, Bool, true, false, ℕ, zero, suc, ◌+◌, ◌*◌, ◌/◌, ◌%◌, ◌≤◌, ◌<◌, ltb}
-use Rattle.std.proofs.Common.{add-mul, div-le_self, div-mul-le_self, le-div_iff_mul-le, le_of_mul-le-mul_right, mul-le-mul, mul-le-mul_left, mul-le-mul_right, mul_right_comm, arith, ltb-true, ltb-false}
+-- Laws of keys: how large they are, whose they are, and that more parts of a price are a higher price for each cell. Assumes nothing.
+use Rattle.std.specs.Prelude.{◌≡◌, refl, ℕ, zero, suc, ◌+◌, ◌*◌, ◌/◌, ◌%◌, ◌≤◌, ◌<◌}
+use Rattle.std.proofs.Common.{add-mul, div-le_self, div-mul-le_self, le-div_iff_mul-le, le_of_mul-le-mul_right, mul-le-mul, mul-le-mul_left, mul-le-mul_right, mul_right_comm, arith}
 use Rattle.std.proofs.Math.Dec.{eqb-suc-zero}
-use Rattle.cover.specs.CriticalPrice.{late}
-use Rattle.cover.proofs.PickLaws.{late_no, late_yes, late_most}
 use Rattle.multi_keys.specs.Keys.{out, last, key_of}
 
 -- 2²⁷, which is more than the product of any two numbers of cells
-abbrev scale : ℕ
+abbrev pub scale : ℕ
 scale = 134217728
 
 -- the price for each cell in parts
-abbrev parts : ℕ → ℕ → ℕ
+abbrev pub parts : ℕ → ℕ → ℕ
 parts p r = p * scale / r
 
 pub key_none : (p i : ℕ) → key_of p 0 i ≡ out
@@ -34,7 +32,7 @@ pub key_bid : (p r i : ℕ) → 0 < r → i < 1024 → key_of p r i % 1024 ≡ i
 key_bid p r i l m = rw (key_some p r i l) (omega arith)
 
 -- a fraction that is not above another has not more parts
-parts_le : (p r q s : ℕ) → 0 < r → 0 < s → p * s ≤ q * r → parts p r ≤ parts q s
+pub parts_le : (p r q s : ℕ) → 0 < r → 0 < s → p * s ≤ q * r → parts p r ≤ parts q s
 parts_le p r q s l m h = (le-div_iff_mul-le m).1 (le_of_mul-le-mul_right (omega (
   arith,
   mul-le-mul_right s (div-mul-le_self (p * scale) r),
@@ -44,7 +42,7 @@ parts_le p r q s l m h = (le-div_iff_mul-le m).1 (le_of_mul-le-mul_right (omega 
 )) l)
 
 -- one that is below another has fewer: over 10,112 cells at most they differ by more than one part
-parts_lt : (p r q s : ℕ) → 0 < r → 0 < s → r ≤ 10112 → s ≤ 10112 → p * s < q * r → parts p r < parts q s
+pub parts_lt : (p r q s : ℕ) → 0 < r → 0 < s → r ≤ 10112 → s ≤ 10112 → p * s < q * r → parts p r < parts q s
 parts_lt p r q s l m k n h =
     let e : (parts p r + 1) * s ≤ q * scale = le_of_mul-le-mul_right (omega (
       arith,
@@ -57,29 +55,6 @@ parts_lt p r q s l m k n h =
       add-mul (parts p r * s) s r,
     )) l in
     omega (arith, (le-div_iff_mul-le m).1 e)
-
-module _ (p r i q s j : ℕ) (h : i < 1024) (k : j < 1024) (l : 0 < r) (m : 0 < s) (u : r ≤ 10112) (w : s ≤ 10112) where
-  pub key_before : key_of p r i ≤ key_of q s j → p * s + late i j ≤ q * r
-  key_before f = go (ltb (p * s) (q * r)) refl (ltb (q * r) (p * s)) refl
-    where
-      g : parts p r * 1024 + i ≤ parts q s * 1024 + j
-      g = rw (key_some p r i l, key_some q s j m) at f
-
-      go : (t : Bool) → ltb (p * s) (q * r) ≡ t → (b : Bool) → ltb (q * r) (p * s) ≡ b → p * s + late i j ≤ q * r
-      go true e b d = omega (arith, ltb-true (p * s) (q * r) e, late_most i j)
-      go false e true d = absurd (omega (arith, g, parts_lt q s p r m l w u (ltb-true (q * r) (p * s) d)))
-      go false e false d =
-          let a : p * s ≤ q * r = ltb-false (q * r) (p * s) d in
-          let b : q * r ≤ p * s = ltb-false (p * s) (q * r) e in
-          omega (arith, late_no i j (omega (arith, g, parts_le q s p r m l b)))
-
-  pub before_key : p * s + late i j ≤ q * r → key_of p r i ≤ key_of q s j
-  before_key f = rw (key_some p r i l, key_some q s j m) (go (ltb j i) refl)
-    where
-      go : (t : Bool) → ltb j i ≡ t → parts p r * 1024 + i ≤ parts q s * 1024 + j
-      go true e = let y = ltb-true j i e in
-          omega (arith, parts_lt p r q s l m u w (omega (arith, late_yes i j y)))
-      go false e = omega (arith, ltb-false j i e, parts_le p r q s l m (omega arith))
 
 pub key_rises : (p r s i : ℕ) → p ≤ 100000000 → i < 1024 → s ≤ r → key_of p r i ≤ key_of p s i
 key_rises p r zero i h m l = rw (key_none p i) (key_most p r i h m)

@@ -1,2 +1,3 @@
 pub mod KeyLaws
+pub mod KeyOrder
 pub mod TreeLaws

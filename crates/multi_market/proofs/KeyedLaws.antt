@@ -9,7 +9,8 @@ use Rattle.cover.specs.Greedy.{Entry, reach, keep, best, bids}
 use Rattle.cover.proofs.GreedyLaws.{best_right, shrink}
 use Rattle.cover.proofs.PickLaws.{Best}
 use Rattle.multi_keys.specs.Keys.{at, last, key_of}
-use Rattle.multi_keys.proofs.KeyLaws.{key_none, key_low, key_most, key_before, before_key}
+use Rattle.multi_keys.proofs.KeyLaws.{key_none, key_low, key_most}
+use Rattle.multi_keys.proofs.KeyOrder.{key_before, before_key}
 use Rattle.multi_market.specs.Opens.{opens}
 use Rattle.multi_market.specs.Seats.{key_in}
 use Rattle.multi_market.proofs.RunLaws.{right_one}
