@@ -7,8 +7,7 @@ use Rattle.listing_lines.proofs.put_last.Goals as goal
 
 pub put_pair-requires : goal.put_pair-requires
 put_pair-requires c =
-    let w = c.put_house-said.ensures in
-    omega (arith, house_short c.args.tender.reserve c.args.totals.house, c.requires, w.next, w.size)
+    omega (arith, house_short)
 
 pub returns : goal.returns
 unfolding bytes
