@@ -5,14 +5,6 @@ use Rattle.single_select.specs.WeighingLaws.{weighing_more, next_row, lead_lacks
 use native.Mathlib.Omega.{arith}
 use Rattle.single_select.proofs.step.Goals as goal
 
-pub offset_bounds-starts-i : goal.offset_bounds-starts-i
-offset_bounds-starts-i c =
-    omega (arith, c.requires.bids.starts, c.requires.bids.sorted.bids c.args.k c.requires.k_in_bounds.0)
-
-pub bounds-starts-i : goal.bounds-starts-i
-bounds-starts-i c =
-    omega (arith, c.requires.bids.starts, c.requires.bids.sorted.bids c.args.k c.requires.k_in_bounds.0)
-
 pub lead_at-z-requires : goal.lead_at-z-requires
 lead_at-z-requires c =
     record {
@@ -43,42 +35,11 @@ extend-requires c =
       i_value = lead_lacks _ _ _ _ _ _ _ _ _ _ _ _ e y _ l refl;
     }
 
-pub offset_bounds-prices-i : goal.offset_bounds-prices-i
-offset_bounds-prices-i c =
-    omega (arith, c.requires.bids.sorted.bids c.args.k c.requires.k_in_bounds.0)
-
-pub bounds-prices-i : goal.bounds-prices-i
-bounds-prices-i c =
-    omega (arith, c.requires.bids.sorted.bids c.args.k c.requires.k_in_bounds.0)
-
 pub add_price-requires : goal.add_price-requires
 add_price-requires c =
     let y = next_row _ _ _ _ _ _ c.requires.bids _ _ _ _ _ _ _ _ _ _ _ c.requires.k_in_bounds.0 c.requires.weighing c.lead_at-z.ensures in
     lead_fits _ _ _ _ _ _ _ _ _ _ _ _ c.requires.weighing.empty y _ (c.requires.bids.sorted.bids c.args.k c.requires.k_in_bounds.0) refl
     c.requires.k_in_bounds.1
-
-pub offset_bounds-costs-i : goal.offset_bounds-costs-i
-offset_bounds-costs-i c =
-    omega (arith, c.requires.prices_len_bound, c.requires.bids.sorted.bids c.args.k c.requires.k_in_bounds.0)
-
-pub bounds-costs-i : goal.bounds-costs-i
-bounds-costs-i c =
-    omega (arith, c.requires.prices_len_bound, c.requires.bids.sorted.bids c.args.k c.requires.k_in_bounds.0)
-
-pub offset_bounds-live-m : goal.offset_bounds-live-m
-offset_bounds-live-m c =
-    let y = next_row _ _ _ _ _ _ c.requires.bids _ _ _ _ _ _ _ _ _ _ _ c.requires.k_in_bounds.0 c.requires.weighing c.lead_at-z.ensures in
-    omega (arith, y.least.lead.reach.few, c.requires.prices_len_bound, c.requires.k_in_bounds, c.lead_at-z.auto)
-
-pub bounds-live-m : goal.bounds-live-m
-bounds-live-m c =
-    let y = next_row _ _ _ _ _ _ c.requires.bids _ _ _ _ _ _ _ _ _ _ _ c.requires.k_in_bounds.0 c.requires.weighing c.lead_at-z.ensures in
-    omega (arith, y.least.lead.reach.few, c.requires.prices_len_bound, c.requires.k_in_bounds, c.lead_at-z.auto)
-
-pub overflow_add-result : goal.overflow_add-result
-overflow_add-result c =
-    let y = next_row _ _ _ _ _ _ c.requires.bids _ _ _ _ _ _ _ _ _ _ _ c.requires.k_in_bounds.0 c.requires.weighing c.lead_at-z.ensures in
-    omega (arith, y.least.lead.reach.few, c.requires.prices_len_bound, c.requires.k_in_bounds, c.lead_at-z.auto)
 
 pub returns : goal.returns
 returns c =
