@@ -15,9 +15,7 @@ slice_bounds-put_all-end c =
     sym (made_size c.make-n.ensures)
 
 pub put_all-requires : goal.put_all-requires
-put_all-requires c =
-    omega (arith, made_size c.make-n.ensures)
+put_all-requires c = let m = c.make-n.ensures in omega (arith, made_few m, made_size m)
 
 pub returns : goal.returns
-returns c =
-    listed_all c.make-n.ensures (omega arith) c.put_all.ensures
+returns c = let m = c.make-n.ensures in listed_all m (omega (arith, made_few m)) c.put_all.ensures
