@@ -15,7 +15,9 @@ pub slice_bounds-put_all-end : goal.slice_bounds-put_all-end
 slice_bounds-put_all-end c = sym (line_size c.put_refused-n.ensures)
 
 pub put_all-requires : goal.put_all-requires
-put_all-requires c = omega (arith, line_size c.put_refused-n.ensures)
+put_all-requires c =
+    let w = c.put_refused-n.ensures in omega (arith, line_size w, w.next, refused_short c.args.refusal)
 
 pub returns : goal.returns
-returns c = line_all c.put_refused-n.ensures (omega arith) c.put_all.ensures
+returns c =
+    let w = c.put_refused-n.ensures in line_all w (omega (arith, w.next, refused_short c.args.refusal)) c.put_all.ensures
