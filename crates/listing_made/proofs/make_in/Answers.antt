@@ -1,0 +1,31 @@
+-- The text is read or refused as its definition says; then its award or its refusal is written in its place. The bids are so few that the
+-- list has room. Assumes nothing.
+use mathlib.Core.Path.{sym}
+use native.Mathlib.Omega.{arith}
+use lib.ListN.{take}
+use lib.Seq.{length-take-le}
+use Rattle.reader_fill.proofs.FillLaws.{refused_is}
+use Rattle.reader_fill.proofs.ReadInLaws.{filled_read, few_read}
+use Rattle.listing_made.proofs.MakingLaws.{read_sound, read_room, made_award, made_refusal}
+use Rattle.listing_made.proofs.make_in.Goals as goal
+
+pub slice_bounds-fill-end-2 : goal.slice_bounds-fill-end-2
+slice_bounds-fill-end-2 c = sym (length-take-le c.args.n c.args.buf.now c.requires.0)
+
+pub put_award-requires : goal.put_award-requires
+put_award-requires c =
+    let h = filled_read (take c.args.n c.args.buf.now) c.in-Rows.tender c.in-Rows.k
+    c.in-Rows.windows c.fill.ensures.answer c.fill.ensures.tables c.in-Rows.is in
+    let l = length-take-le c.args.n c.args.buf.now c.requires.0 in
+    let f = few_read h in (read_sound h, (f, (omega arith, read_room h (omega (arith, c.requires.1, l)))))
+
+pub returns-in-Rows : goal.returns-in-Rows
+returns-in-Rows c =
+    made_award (filled_read (take c.args.n c.args.buf.now) c.in-Rows.tender c.in-Rows.k
+    c.in-Rows.windows c.fill.ensures.answer c.fill.ensures.tables c.in-Rows.is)
+    c.put_award.ensures
+
+pub returns-in-Refused : goal.returns-in-Refused
+returns-in-Refused c =
+    made_refusal c.in-Refused.r (refused_is (take c.args.n c.args.buf.now) c.in-Refused.r c.fill.ensures.answer
+    c.in-Refused.is) c.put_refused.ensures
