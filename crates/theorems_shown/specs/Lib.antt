@@ -1,2 +1,1 @@
 pub mod ListRead
-pub mod ShownLaws

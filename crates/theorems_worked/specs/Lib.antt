@@ -1,2 +1,1 @@
 pub mod WorkedCases
-pub mod WorkedLaws

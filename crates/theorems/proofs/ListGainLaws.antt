@@ -29,10 +29,10 @@ use Rattle.listing_text.specs.List.{list_lines, list_of}
 use Rattle.listing_text.proofs.ListLaws.{listed_is}
 use Rattle.theorems_calls.specs.Calls.{ListCall, shown}
 use Rattle.theorems.specs.Between.{ListGiven, NoGainShown}
-use Rattle.theorems_calls.specs.ReadingLaws.{refusal_number}
+use Rattle.theorems_calls.proofs.ReadingLaws.{refusal_number}
 use Rattle.theorems_shown.specs.ListRead.{row_shown}
-use Rattle.theorems_shown.specs.ShownLaws.{refused_row, row_shown_lem}
-use Rattle.theorems.specs.PaidLaws.{cents_small, bidder_once, bidder_small, prices_sum, minutes_few}
+use Rattle.theorems_shown.proofs.ShownLaws.{refused_row, row_shown_lem}
+use Rattle.theorems.proofs.PaidLaws.{cents_small, bidder_once, bidder_small, prices_sum, minutes_few}
 
 -- of each bid of an accepted text the list shows the row that the award gave it
 module _ (T : Tender) (R : List Row) (W : List Window) (rules : Rules T R W) where

@@ -11,7 +11,7 @@ use Rattle.theorems_calls.specs.Calls.{ReadCall}
 use Rattle.theorems_calls.specs.OneReading.{Readable, Declines, Fills, OneReading, text_too_long, bad_form, too_many}
 use Rattle.theorems_calls.specs.OneReading.{reserve_misplaced, outside_limits, several_windows, empty_window, late_window}
 use Rattle.theorems_calls.specs.OneReading.{bidder_repeated, table_too_short, tables_filled}
-use Rattle.theorems_calls.specs.ReadingLaws.{one_reading, text_accepted}
+use Rattle.theorems_calls.proofs.ReadingLaws.{one_reading, text_accepted}
 use Rattle.writer_back.specs.SpeltLaws.{spelt_again}
 use Rattle.theorems.specs.Between.{WasRead}
 

@@ -61,25 +61,25 @@ use Rattle.theorems.specs.Between.{BidsAlone, Exactly, CallableWith, SameTables,
 use Rattle.theorems.specs.Between.{Variant, BidVariant, SameReading, Follows, SameAward}
 use Rattle.theorems.specs.Between.{NoGainAt, NoGainBetween, OneList}
 use Rattle.theorems.specs.Between.{ListGiven, NoGainShown, Showable}
-use Rattle.theorems_calls.specs.ReadingLaws as reading
+use Rattle.theorems_calls.proofs.ReadingLaws as reading
 use Rattle.spelling.proofs.DecimalLaws.{decimal_back}
 use Rattle.spelling.proofs.PriceLaws.{price_written, written_price}
 use Rattle.writer_back.specs.SpeltLaws.{spelt_again}
-use Rattle.theorems.specs.ReadAgainLaws.{read_again}
-use Rattle.theorems.specs.VariedLaws.{varied}
-use Rattle.theorems.specs.VariedBidLaws.{varied_bid}
-use Rattle.theorems.specs.TextGainLaws.{withheld_read, no_gain_read}
-use Rattle.theorems.specs.CoverLaws as cover
-use Rattle.theorems.specs.UnreservedLaws.{bids_alone, no_house_line, no_reserve_line}
-use Rattle.theorems.specs.ListNumberLaws.{one_list, shows_no_other}
-use Rattle.theorems.specs.ListGainLaws.{list_shows, withheld_shown, no_gain_shown}
+use Rattle.theorems.proofs.ReadAgainLaws.{read_again}
+use Rattle.theorems.proofs.VariedLaws.{varied}
+use Rattle.theorems.proofs.VariedBidLaws.{varied_bid}
+use Rattle.theorems.proofs.TextGainLaws.{withheld_read, no_gain_read}
+use Rattle.theorems.proofs.CoverLaws as cover
+use Rattle.theorems.proofs.UnreservedLaws.{bids_alone, no_house_line, no_reserve_line}
+use Rattle.theorems.proofs.ListNumberLaws.{one_list, shows_no_other}
+use Rattle.theorems.proofs.ListGainLaws.{list_shows, withheld_shown, no_gain_shown}
 use Rattle.theorems.specs.Rewriting.{OneWriting, ReadAsWritten}
-use Rattle.theorems.specs.RewritingLaws.{one_writing, nine_as_award, read_as_written, equal_written, equal_rewritten}
-use Rattle.theorems.specs.RewritingLaws.{always_fits, read_rewritten, rewritten_again, rewritten_fits}
-use Rattle.theorems.specs.EitherSpellingLaws.{reading_same, list_same, rewriting_same}
+use Rattle.theorems.proofs.RewritingLaws.{one_writing, nine_as_award, read_as_written, equal_written, equal_rewritten}
+use Rattle.theorems.proofs.RewritingLaws.{always_fits, read_rewritten, rewritten_again, rewritten_fits}
+use Rattle.theorems.proofs.EitherSpellingLaws.{reading_same, list_same, rewriting_same}
 use Rattle.theorems.specs.Asking.{OneHighest, RowAsked, Renamed, Beside, PaidOrLess, BelowNamed}
-use Rattle.theorems.specs.AskingLaws.{one_highest, renamed_wins, renamed_loses, greedy_payment, least_payment, loser_price}
-use Rattle.theorems.specs.AskingLaws.{line_shown, line_fits}
+use Rattle.theorems.proofs.AskingLaws.{one_highest, renamed_wins, renamed_loses, greedy_payment, least_payment, loser_price}
+use Rattle.theorems.proofs.AskingLaws.{line_shown, line_fits}
 
 -- Demand 1. Every text and every table gets one complete award or one refusal, by number and place. No bid is dropped or shortened,
 -- and a refusal changes nothing that was lent.

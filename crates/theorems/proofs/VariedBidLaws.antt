@@ -17,8 +17,8 @@ use Rattle.award_check.proofs.WithheldLaws.{RowWritten, row_written}
 use Rattle.spelling.specs.Decimal.{decimal}
 use Rattle.spelling.proofs.DecimalLaws.{numeral_decimal}
 use Rattle.theorems.specs.Between.{BidVariant}
-use Rattle.theorems.specs.PaidLaws.{bidder_once, bidder_low}
-use Rattle.theorems.specs.VariedLaws.{varied}
+use Rattle.theorems.proofs.PaidLaws.{bidder_once, bidder_low}
+use Rattle.theorems.proofs.VariedLaws.{varied}
 
 module _ (text : List ℕ) (T : Tender) (R : List Row) (W : List Window) (h : read_text text ≡ accepted T R W) (i : ℕ)
     (l : i < length R) where

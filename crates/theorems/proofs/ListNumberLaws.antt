@@ -27,8 +27,8 @@ use Rattle.listing_text.specs.Lines.{award_word, award_line}
 use Rattle.listing_text.specs.List.{list_lines, list_of}
 use Rattle.listing_text.proofs.ListLaws.{listed_is}
 use Rattle.theorems_calls.specs.OneReading.{OfText}
-use Rattle.theorems_calls.specs.ReadingLaws.{refusal_number}
-use Rattle.theorems_shown.specs.ShownLaws.{first_number}
+use Rattle.theorems_calls.proofs.ReadingLaws.{refusal_number}
+use Rattle.theorems_shown.proofs.ShownLaws.{first_number}
 use Rattle.theorems_calls.specs.Calls.{ListCall, shown}
 use Rattle.theorems.specs.Between.{Showable, OneList, list_written, list_too_long}
 
