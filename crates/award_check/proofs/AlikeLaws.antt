@@ -10,7 +10,7 @@ use Rattle.std.proofs.Math.Seq.{get_or-drop}
 use Rattle.tender.specs.declared.Kind.{Kind}
 use Rattle.tender.specs.declared.Kind.TheVariants.{Single, Multi}
 use Rattle.tender.specs.declared.Tender.{Tender}
-use Rattle.tender.specs.Limits.{within, max_price, max_bidder, max_bids, most_windows, sound_tender, lawful, every}
+use Rattle.tender.specs.Limits.{within, max_price, max_bidder, max_bids, most_windows, sound_tender}
 use Rattle.tender.specs.Tables.{Row, rows_of, windows_of, own, bid_width, window_width, window_at}
 use Rattle.reader_text.specs.Words.{among}
 use Rattle.cover.proofs.SetLaws.{and_split}

@@ -1,6 +1,6 @@
 -- A multi tender laid out as words: what the core leaves is what the award answers. Assumes nothing.
-use Rattle.std.specs.Prelude.{◌≡◌, List, ℕ, ◌<◌, length}
-use Rattle.std.proofs.Common.{sym, ◌∙◌, arith}
+use Rattle.std.specs.Prelude.{◌≡◌, List, ℕ, length}
+use Rattle.std.proofs.Common.{arith}
 use Rattle.std.proofs.Math.Option.{none}
 use Rattle.tender.specs.declared.Kind.TheVariants.{Multi}
 use Rattle.tender.specs.declared.Tender.{Tender}

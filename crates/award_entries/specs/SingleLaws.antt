@@ -1,6 +1,6 @@
 -- A single tender laid out as starts and ends: what the core leaves is what the award answers. Assumes nothing.
-use Rattle.std.specs.Prelude.{◌≡◌, List, ℕ, ◌≤◌, ◌<◌, length, get_or}
-use Rattle.std.proofs.Common.{sym, ◌∙◌, arith}
+use Rattle.std.specs.Prelude.{◌≡◌, List, ℕ, ◌≤◌, length}
+use Rattle.std.proofs.Common.{arith}
 use Rattle.std.proofs.Math.Option.{none}
 use Rattle.tender.specs.declared.Kind.TheVariants.{Single}
 use Rattle.tender.specs.declared.Tender.{Tender}

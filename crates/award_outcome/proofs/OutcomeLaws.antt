@@ -1,10 +1,9 @@
 -- What a right outcome says of gains, winners and payments. Assumes nothing.
-use Rattle.std.specs.Prelude.{◌≡◌, refl, List, [], ◌∷◌, true, ℕ, zero, suc, ◌≤◌, ◌<◌, length, get_or, set, ltb, leb}
+use Rattle.std.specs.Prelude.{◌≡◌, refl, List, [], ◌∷◌, true, ℕ, zero, suc, ◌≤◌, ◌<◌, length, get_or, ltb, leb}
 use Rattle.std.proofs.Common.{sym, ap, ◌∙◌, arith}
 use Rattle.tender.specs.declared.Kind.{Kind}
 use Rattle.tender.specs.declared.Tender.{Tender}
 use Rattle.tender.specs.declared.Totals.{Totals}
-use Rattle.cover.specs.Sets as sets
 use Rattle.cover.specs.LeastCover.{winners, without}
 use Rattle.cover.proofs.LeastCoverLaws.{tie}
 use Rattle.cover.proofs.SpareLaws.{least_wins}

@@ -1,5 +1,5 @@
 -- Laws of one bit of a number. Assumes nothing.
-use Rattle.std.specs.Prelude.{◌≡◌, refl, ℕ, zero, suc, ◌+◌, ◌-◌, ◌/◌, ◌%◌, ◌^◌, ◌≤◌, ◌<◌, min, max}
+use Rattle.std.specs.Prelude.{◌≡◌, refl, ℕ, zero, suc, ◌-◌, ◌/◌, ◌%◌, ◌^◌, ◌≤◌, ◌<◌, min, max}
 use Rattle.std.proofs.Common.{sym, ap, ◌∙◌, add_comm, pow-suc, not-suc-le-zero, le_of_suc-le-suc, add-one, arith, pow_pos, shr-shr}
 use Rattle.std.proofs.Math.Nat.{zero-div}
 use Rattle.std.specs.Int.Bits.{bit_and, bit_or, and_step, or_step}

@@ -3,7 +3,7 @@
 use Rattle.std.specs.Prelude.{◌≡◌, List, length, set}
 use Rattle.std.proofs.Math.Path.{refl, ap}
 use Rattle.std.proofs.Common.{sym, subst, ◌∙◌, length-set}
-use Rattle.std.proofs.Math.Option.{none, some}
+use Rattle.std.proofs.Math.Option.{none}
 use Prim.Native.Nat.{ℕ, zero, suc, ◌-◌, ◌*◌, ◌≤◌, ◌<◌}
 use native.Mathlib.Omega.{arith}
 use Rattle.std.proofs.Math.ListN.{get_or}
@@ -32,7 +32,7 @@ use Rattle.award_check.proofs.AlikeLaws.{own_kind}
 use Rattle.award_laid.specs.Lay.{Tells}
 use Rattle.award_laid.specs.TellsLaws.{at_bare, at_lone}
 use Rattle.award_laid.specs.EntryLaws.{laid_prices}
-use Rattle.award_rule.specs.Award.{least_cost, greedy, rule, won}
+use Rattle.award_rule.specs.Award.{greedy, rule, won}
 use Rattle.award_rule.proofs.AwardLaws.{won_least}
 use Rattle.highest_rule.specs.Highest.{row_with, price_for, highest_of}
 use Rattle.highest_rule.proofs.HighestLaws.{wins_below}

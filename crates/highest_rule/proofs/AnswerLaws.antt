@@ -1,6 +1,6 @@
 -- How the answer to who asks for the highest price comes about: from a fault, a cell in no bid or in one, a number that no bid has, or the
 -- price below which the bid would win. Assumes nothing.
-use Rattle.std.specs.Prelude.{◌≡◌, refl, List, ◌++◌, Bool, ℕ, ◌<◌, length}
+use Rattle.std.specs.Prelude.{◌≡◌, refl, List, ◌++◌, ℕ, ◌<◌, length}
 use Rattle.std.proofs.Math.Path.{sym, ap}
 use Rattle.std.proofs.Common.{◌∙◌, arith, le-ltb}
 use Rattle.std.proofs.Math.Option.{none, some}

@@ -4,16 +4,15 @@
 use Rattle.cover.specs.Spare.{Spare}
 use Rattle.std.specs.Prelude.{◌≡◌, ◌⊎◌, Bool, true, false, List, get_or, set, ltb, leb}
 use Rattle.std.proofs.Math.Path.{refl, ap}
-use Rattle.std.proofs.Common.{sym, subst, ◌∙◌, inl, inr, true≢false, length-set}
-use Rattle.std.proofs.lemmas.Bool.{false≢true}
-use Prim.Native.Nat.{ℕ, zero, suc, ◌+◌, ◌*◌, ◌^◌, ◌≤◌, ◌<◌}
+use Rattle.std.proofs.Common.{sym, ◌∙◌, inl, inr, true≢false, length-set}
+use Prim.Native.Nat.{ℕ, zero, suc, ◌+◌, ◌*◌, ◌≤◌, ◌<◌}
 use Rattle.std.proofs.Math.Nat.{mul-le-mul_left}
 use native.Mathlib.Omega.{arith}
 use Rattle.std.proofs.Math.ListN.{length}
-use borrow.Author.Tests.{ltb-true, leb-true, leb-false}
-use Rattle.cover.specs.Sets.{when, Found, nothing, found, value_of, bit, covers, cost, cells}
+use borrow.Author.Tests.{ltb-true, leb-false}
+use Rattle.cover.specs.Sets.{when, Found, nothing, found, value_of, bit, cells}
 use Rattle.cover.specs.LeastCover.{winners, without, vcg_paid, vcg_threshold}
-use Rattle.cover.specs.CriticalPrice.{largest, sum, ceiling, wins_at, critical, critical_paid, limit}
+use Rattle.cover.specs.CriticalPrice.{sum, ceiling, wins_at, critical, critical_paid, limit}
 use Rattle.cover.specs.Winning.{Below, one_less}
 use Rattle.cover.proofs.ThresholdLaws.{prices_that_win}
 use Rattle.cover.proofs.WinningLaws.{largest_below, below_most, up_to, none_at_all, threshold_most}
@@ -23,7 +22,7 @@ use Rattle.cover.proofs.SpareLaws.{others, others_below, spare_set, spare_bids}
 use Rattle.award_check.specs.Auction.{Auction, at_price}
 use Rattle.award_check.proofs.AuctionLaws.{at_own_price}
 use Rattle.award_rule.specs.Award.{Rule, least_cost, greedy, covers_in, won, cents}
-use Rattle.award_rule.proofs.AwardLaws.{won_least, cents_least, won_greedy, cents_greedy}
+use Rattle.award_rule.proofs.AwardLaws.{won_least, cents_least, won_greedy}
 use Rattle.highest_rule.specs.Highest.{highest}
 use Rattle.highest_rule.proofs.Searched.{searched}
 

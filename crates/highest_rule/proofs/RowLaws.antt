@@ -1,5 +1,5 @@
 -- The row with a bidder number: it is one of the rows, and in tables without a fault it is the only one. Assumes nothing.
-use Rattle.std.specs.Prelude.{◌≡◌, refl, ◌⊎◌, Bool, true, false, cond, not, ◌&&◌, ◌||◌, List, [], ◌∷◌, ◌++◌, ℕ, zero, suc, ◌+◌, ◌*◌, ◌≤◌, ◌<◌, length, get_or, leb, ltb}
+use Rattle.std.specs.Prelude.{◌≡◌, refl, ◌⊎◌, Bool, true, false, cond, not, ◌&&◌, ◌||◌, List, [], ◌∷◌, ◌++◌, ℕ, zero, suc, ◌+◌, ◌*◌, ◌<◌, length, get_or, leb, ltb}
 use Rattle.std.proofs.Common.{sym, ap, ◌∙◌, inl, inr, append-nil, eq-or-lt_of_le, le_of_suc-le-suc, arith}
 use Rattle.std.proofs.Math.Bool.{true≢false, or-true}
 use Rattle.std.proofs.lemmas.Bool.{false≢true}
@@ -7,7 +7,6 @@ use Rattle.std.proofs.Math.Option.{none, some}
 use Rattle.std.proofs.Math.Dec.{eqb}
 use borrow.Author.Tests.{eqb-true, eq-eqb, ltb-true, ltb-false}
 use Rattle.tender.specs.declared.Kind.{Kind}
-use Rattle.tender.specs.declared.Window.{Window}
 use Rattle.tender.specs.declared.Tender.{Tender}
 use Rattle.tender.specs.Limits.{max_bids}
 use Rattle.tender.specs.Tables.{Row, rows_of, flat_rows, bid_width}
@@ -15,7 +14,7 @@ use Rattle.cover.specs.Sets.{Found, nothing, found}
 use Rattle.cover.proofs.SetLaws.{and_split}
 use Rattle.cover.specs.CriticalPrice.{largest}
 use Rattle.reader_text.specs.Words.{among}
-use Rattle.award_check.specs.Cells.{no_row, bid_row_at}
+use Rattle.award_check.specs.Cells.{no_row}
 use Rattle.award_check.specs.Faults.{keeps, sound, row_fault, fault_of}
 use Rattle.award_check.proofs.AlikeLaws.{rows_length, row_named, faultless}
 use Rattle.award_check.proofs.WalkLaws.{among_last}

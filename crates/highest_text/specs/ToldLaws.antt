@@ -1,5 +1,5 @@
 -- The line of what was read is the line of the text; no line is empty and none is longer than 52 bytes. Assumes nothing.
-use Rattle.std.specs.Prelude.{◌≡◌, refl, true, List, [], ◌∷◌, ◌++◌, ℕ, ◌≤◌, ◌<◌, length}
+use Rattle.std.specs.Prelude.{◌≡◌, List, [], ◌∷◌, ◌++◌, ℕ, ◌≤◌, ◌<◌, length}
 use Rattle.std.proofs.Math.Path.{sym, subst}
 use Rattle.std.proofs.Common.{ap, ◌∙◌, arith, length-append}
 use Rattle.std.proofs.Math.Option.{none}
@@ -31,17 +31,19 @@ module _ {text bids windows : List ℕ} {t : Tender} {n : ℕ} (h : ReadIn text 
   read_sound = rw (h.bids_are, h.windows_are, ← h.count)
       (never_nine t h.rows h.spans h.past_rows h.past_spans (rules_law t h.rows h.spans text h.is))
 
+  -- what is answered of the tables is answered of the rows
+  asked_read : (bidder : ℕ)
+      → highest_of t n bids windows bidder ≡ highest_of t (length h.rows) (flat_rows h.rows) (flat_windows h.spans) bidder
+  asked_read bidder = rw (h.bids_are, h.windows_are, ← h.count)
+      (highest_read t h.rows h.spans (rules_law t h.rows h.spans text h.is) h.past_rows h.past_spans bidder)
+
   pub told_read : {old new : List ℕ} {r bidder : ℕ} → (a : Highest) → a ≡ highest_of t n bids windows bidder
       → Delivered (highest_line bidder a) old new r → HighestTold text bidder old new r
   unfolding highest_in
   told_read {old} {new} {r} {bidder} a e d = record {
-    delivers = subst (λ line. Delivered line old new r) (ap (highest_line bidder) (e ∙ is)
+    delivers = subst (λ line. Delivered line old new r) (ap (highest_line bidder) (e ∙ asked_read bidder)
         ∙ sym (ap (λ o. highest_in o bidder) h.is)) d;
   }
-    where
-      is : highest_of t n bids windows bidder ≡ highest_of t (length h.rows) (flat_rows h.rows) (flat_windows h.spans) bidder
-      is = rw (h.bids_are, h.windows_are, ← h.count)
-          (highest_read t h.rows h.spans (rules_law t h.rows h.spans text h.is) h.past_rows h.past_spans bidder)
 
 -- a text that cannot be read
 pub told_refused : {text old new : List ℕ} {r bidder : ℕ} (q : Refusal) → read_text text ≡ refused q

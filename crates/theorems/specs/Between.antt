@@ -94,15 +94,15 @@ pub record BidVariant (text : List ℕ) (t : Tender) (R : List Row) (W : List Wi
 -- two calls of `read` gave the same answer and left the same in the tables
 pub record SameReading (r r' : ReadCall) : Type 0 where
   pub answers : r.run.answer ≡ r'.run.answer
-  pub bids : r.run.bids_after_lem ≡ r'.run.bids_after_lem
-  pub windows : r.run.windows_after_lem ≡ r'.run.windows_after_lem
+  pub bids : r.run.after_bids ≡ r'.run.after_bids
+  pub windows : r.run.after_windows ≡ r'.run.after_windows
 
 -- the award is called on what the accepted text left
 pub record Follows (r : ReadCall) (c : AwardCall) : Type 0 where
   pub window_rows : ℕ
   pub accepts : r.run.answer ≡ answer.Accepted c.tender c.count window_rows
-  pub bids_are : c.bids ≡ r.run.bids_after_lem
-  pub windows_are : c.windows ≡ r.run.windows_after_lem
+  pub bids_are : c.bids ≡ r.run.after_bids
+  pub windows_are : c.windows ≡ r.run.after_windows
 
 -- the same award, each time with an award row for every bid or each time with fewer
 pub record SameAward (c c' : AwardCall) : Type 0 where
@@ -132,8 +132,8 @@ list_by l = list_of (read_text l.text)
 -- one list: at the start of the buffer, with the bytes past it as they were; or 13, told by 0, where it is longer than the buffer
 pub data OneList (l : ListCall) : Type 0 where
   list_written : length (list_by l) ≤ length l.buffer → l.answer ≡ length (list_by l)
-      → l.buffer_after_lem ≡ list_by l ++ drop (length (list_by l)) l.buffer → OneList l
-  list_too_long : length l.buffer < length (list_by l) → l.answer ≡ 0 → l.buffer_after_lem ≡ l.buffer → OneList l
+      → l.after_buffer ≡ list_by l ++ drop (length (list_by l)) l.buffer → OneList l
+  list_too_long : length l.buffer < length (list_by l) → l.answer ≡ 0 → l.after_buffer ≡ l.buffer → OneList l
 
 -- the list was written, and it shows no refusal of reading: the text is a readable list
 pub record ListGiven (l : ListCall) : Type 0 where

@@ -199,8 +199,8 @@ module _ (c : AwardCall) (rows : List AwardRow) (totals : Totals) (told : told_b
       (rw told at c.promise.answers)
 
   -- In a tender by least cost, as a single tender is, no covering set costs less, and ties fall as paper 01 says.
-  pub least_cost_lem : rule c.kind ≡ least_cost → LeastCover (auction_by c) rows totals
-  least_cost_lem k = outcome.least_cover c.kind c.tender c.count c.bids c.windows (length c.rows_before) rows totals k
+  pub by_least_cost : rule c.kind ≡ least_cost → LeastCover (auction_by c) rows totals
+  by_least_cost k = outcome.least_cover c.kind c.tender c.count c.bids c.windows (length c.rows_before) rows totals k
       (rw told at c.promise.answers)
 
   -- A winner of such a tender is paid by document 000's formula 8.
@@ -321,13 +321,13 @@ nine_as_the_award = nine_as_award
 
 -- What is written reads back, by `read` into tables of 1,000 and 32,000 rows: as the same tender and, in the same entry order, the same
 -- bidders, prices and minutes.
-pub written_reads_back : (w : WriteCall) (r : ReadCall) (n : ℕ) → w.answer ≡ Written n → r.run.text ≡ take n w.buffer_after_lem
+pub written_reads_back : (w : WriteCall) (r : ReadCall) (n : ℕ) → w.answer ≡ Written n → r.run.text ≡ take n w.after_buffer
     → 1000 ≤ length r.run.bids / bid_width → 32000 ≤ length r.run.windows / window_width → ReadAsWritten w r
 written_reads_back = read_as_written
 
 -- Equal bytes are written exactly where tender, bidders, prices, entry order and each bid's minutes agree: of tables,
 pub equal_bytes_of_tables : (w w' : WriteCall) (n n' : ℕ) → w.answer ≡ Written n → w'.answer ≡ Written n'
-    → Exactly (take n w.buffer_after_lem ≡ take n' w'.buffer_after_lem) (Same w.tender (rows_of w.count w.bids) w.windows
+    → Exactly (take n w.after_buffer ≡ take n' w'.after_buffer) (Same w.tender (rows_of w.count w.bids) w.windows
     w'.tender (rows_of w'.count w'.bids) w'.windows)
 equal_bytes_of_tables = equal_written
 

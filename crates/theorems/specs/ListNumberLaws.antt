@@ -39,7 +39,7 @@ one_list l = go (leb (length list) (length l.buffer)) refl l.promise.delivers.an
     list = list_of (read_text l.text)
 
     go : (t : Bool) → leb (length list) (length l.buffer) ≡ t → l.answer ≡ cond t (length list) 0
-        → l.buffer_after_lem ≡ cond t (list ++ drop (length list) l.buffer) l.buffer → OneList l
+        → l.after_buffer ≡ cond t (list ++ drop (length list) l.buffer) l.buffer → OneList l
     go true e a b = list_written (leb-true (length list) (length l.buffer) e) a b
     go false e a b = list_too_long (leb-false (length list) (length l.buffer) e) a b
 

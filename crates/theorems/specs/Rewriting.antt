@@ -18,17 +18,17 @@ text_by w = canonical w.tender (rows_of w.count w.bids) w.windows
 -- one answer: 9 where the award of the tender's kind would give it, 14 where the text is too long or the buffer too short, else the text
 pub data OneWriting (w : WriteCall) : Type 0 where
   tables_faulty : (row : ℕ) → fault_of w.tender.kind w.tender w.count w.bids w.windows ≡ some row
-      → w.answer ≡ Refused (BadTables row) → w.buffer_after_lem ≡ w.buffer → OneWriting w
+      → w.answer ≡ Refused (BadTables row) → w.after_buffer ≡ w.buffer → OneWriting w
   no_room : fault_of w.tender.kind w.tender w.count w.bids w.windows ≡ none
-      → min max_text (length w.buffer) < length (text_by w) → w.answer ≡ Refused NoRoom → w.buffer_after_lem ≡ w.buffer
+      → min max_text (length w.buffer) < length (text_by w) → w.answer ≡ Refused NoRoom → w.after_buffer ≡ w.buffer
       → OneWriting w
   text_written : fault_of w.tender.kind w.tender w.count w.bids w.windows ≡ none
       → length (text_by w) ≤ min max_text (length w.buffer) → w.answer ≡ Written (length (text_by w))
-      → w.buffer_after_lem ≡ text_by w ++ drop (length (text_by w)) w.buffer → OneWriting w
+      → w.after_buffer ≡ text_by w ++ drop (length (text_by w)) w.buffer → OneWriting w
 
 -- `read` accepts, and its tables hold the same tender and, in the same entry order, the same bidders, prices and minutes
 pub record ReadAsWritten (w : WriteCall) (r : ReadCall) : Type 0 where
   pub window_rows : ℕ
   pub accepts : r.run.answer ≡ answer.Accepted w.tender w.count window_rows
   pub same : Same w.tender (rows_of w.count w.bids) w.windows
-      w.tender (rows_of w.count r.run.bids_after_lem) r.run.windows_after_lem
+      w.tender (rows_of w.count r.run.after_bids) r.run.after_windows

@@ -48,13 +48,13 @@ one_writing w = go (fault_of w.tender.kind w.tender w.count w.bids w.windows) re
 
     sound : fault_of w.tender.kind w.tender w.count w.bids w.windows ≡ none → (b : Bool)
         → leb (length (text_by w)) (min 65536 room) ≡ b → w.answer ≡ write_answer (cond b (spelt (text_by w)) (unspelt NoRoom))
-        → w.buffer_after_lem ≡ buffer_after w.buffer (cond b (spelt (text_by w)) (unspelt NoRoom)) → OneWriting w
+        → w.after_buffer ≡ buffer_after w.buffer (cond b (spelt (text_by w)) (unspelt NoRoom)) → OneWriting w
     sound f true e a b = text_written f (leb-true (length (text_by w)) (min 65536 room) e) a b
     sound f false e a b = no_room f (leb-false (length (text_by w)) (min 65536 room) e) a b
 
     go : (o : Option ℕ) → fault_of w.tender.kind w.tender w.count w.bids w.windows ≡ o
         → w.answer ≡ write_answer (unless_fault o (cond (leb (length (text_by w)) (min 65536 room)) (spelt (text_by w)) (unspelt NoRoom)))
-        → w.buffer_after_lem
+        → w.after_buffer
         ≡ buffer_after w.buffer (unless_fault o (cond (leb (length (text_by w)) (min 65536 room)) (spelt (text_by w)) (unspelt NoRoom)))
         → OneWriting w
     go (some row) f a b = tables_faulty row f a b
@@ -65,7 +65,7 @@ one_writing w = go (fault_of w.tender.kind w.tender w.count w.bids w.windows) re
 record WroteText (w : WriteCall) (n : ℕ) : Type 0 where
   faultless : fault_of w.tender.kind w.tender w.count w.bids w.windows ≡ none
   short : length (text_by w) ≤ 65536
-  bytes : take n w.buffer_after_lem ≡ text_by w
+  bytes : take n w.after_buffer ≡ text_by w
 
 wrote_text : (w : WriteCall) (n : ℕ) → w.answer ≡ writing.Written n → WroteText w n
 wrote_text w n e = go (one_writing w)
@@ -84,13 +84,13 @@ wrote_text w n e = go (one_writing w)
         }
 
 read_back : (w : WriteCall) (n : ℕ) → w.answer ≡ writing.Written n
-    → ReadBack (take n w.buffer_after_lem) w.tender (rows_of w.count w.bids) w.windows
+    → ReadBack (take n w.after_buffer) w.tender (rows_of w.count w.bids) w.windows
 read_back w n e =
     let t = wrote_text w n e in
     rw t.bytes (reads_back w.tender w.count w.bids w.windows t.faultless t.short)
 
 pub read_as_written : (w : WriteCall) (r : ReadCall) (n : ℕ) → w.answer ≡ writing.Written n
-    → r.run.text ≡ take n w.buffer_after_lem
+    → r.run.text ≡ take n w.after_buffer
     → 1000 ≤ length r.run.bids / bid_width → 32000 ≤ length r.run.windows / window_width → ReadAsWritten w r
 unfolding bids_after windows_after
 read_as_written w r n e x lb lw =
@@ -103,11 +103,11 @@ read_as_written w r n e x lb lw =
     ∙ ap read_text x ∙ b.reads in
     let s = b.same (drop (window_width * length W) r.run.windows) in
     let c : length R ≡ w.count = sym s.count ∙ rows_length w.count w.bids in
-    let p : rows_of w.count r.run.bids_after_lem ≡ R =
+    let p : rows_of w.count r.run.after_bids ≡ R =
     ap (rows_of w.count) (r.kept.rows ∙ ap (bids_after r.run.bids) o)
     ∙ ap (λ (m : ℕ). rows_of m (flat_rows R ++ drop (bid_width * length R) r.run.bids)) (sym c)
     ∙ rows_flat R (drop (bid_width * length R) r.run.bids) in
-    let q : r.run.windows_after_lem ≡ flat_windows W ++ drop (window_width * length W) r.run.windows =
+    let q : r.run.after_windows ≡ flat_windows W ++ drop (window_width * length W) r.run.windows =
     r.kept.own ∙ ap (windows_after r.run.windows) o in
     record {
       window_rows = length W;
@@ -201,7 +201,7 @@ equal_rewritten l l' T T' R R' W W' e e' a a' =
 -- tables written
 
 pub equal_written : (w w' : WriteCall) (n n' : ℕ) → w.answer ≡ writing.Written n → w'.answer ≡ writing.Written n'
-    → Exactly (take n w.buffer_after_lem ≡ take n' w'.buffer_after_lem) (Same w.tender (rows_of w.count w.bids) w.windows
+    → Exactly (take n w.after_buffer ≡ take n' w'.after_buffer) (Same w.tender (rows_of w.count w.bids) w.windows
     w'.tender (rows_of w'.count w'.bids) w'.windows)
 equal_written w w' n n' e e' =
     let t = wrote_text w n e in

@@ -39,16 +39,16 @@ record ReadLeft (text bids windows : List ℕ) (t : Tender) (n : ℕ) : Type 0 w
   windows_are : windows ≡ flat_windows spans ++ past_spans
 
 accepted_read : (r : ReadCall) (t : Tender) (n m : ℕ) → r.run.answer ≡ answer.Accepted t n m
-    → ReadLeft r.run.text r.run.bids_after_lem r.run.windows_after_lem t n
+    → ReadLeft r.run.text r.run.after_bids r.run.after_windows t n
 unfolding read_into fitted bids_after windows_after
 accepted_read r t n m e = go (read_text r.run.text) refl (sym e ∙ r.kept.answers) r.kept.rows
     r.kept.own
   where
     room : (T : Tender) (R : List Row) (W : List Window) (b : Bool) → read_text r.run.text ≡ accepted T R W
         → answer.Accepted t n m ≡ read_answer (cond b (accepted T R W) (reading.refused TableTooShort)) →
-        r.run.bids_after_lem ≡ bids_after r.run.bids (cond b (accepted T R W) (reading.refused TableTooShort))
-        → r.run.windows_after_lem ≡ windows_after r.run.windows (cond b (accepted T R W) (reading.refused TableTooShort)) →
-        ReadLeft r.run.text r.run.bids_after_lem r.run.windows_after_lem t n
+        r.run.after_bids ≡ bids_after r.run.bids (cond b (accepted T R W) (reading.refused TableTooShort))
+        → r.run.after_windows ≡ windows_after r.run.windows (cond b (accepted T R W) (reading.refused TableTooShort)) →
+        ReadLeft r.run.text r.run.after_bids r.run.after_windows t n
     room T R W false h x y z = let f : ◌≡◌ {A = ℕ} 0 1 = cc in absurd (omega arith)
     room T R W true h x y z =
         record {
@@ -64,11 +64,11 @@ accepted_read r t n m e = go (read_text r.run.text) refl (sym e ∙ r.kept.answe
 
     go : (o : reading.ReadOutcome) → read_text r.run.text ≡ o
         → answer.Accepted t n m ≡ read_answer (fitted (length r.run.bids / bid_width) (length r.run.windows / window_width) o) →
-        r.run.bids_after_lem ≡ bids_after r.run.bids
+        r.run.after_bids ≡ bids_after r.run.bids
         (fitted (length r.run.bids / bid_width) (length r.run.windows / window_width) o)
-        → r.run.windows_after_lem ≡ windows_after r.run.windows
+        → r.run.after_windows ≡ windows_after r.run.windows
         (fitted (length r.run.bids / bid_width) (length r.run.windows / window_width) o)
-        → ReadLeft r.run.text r.run.bids_after_lem r.run.windows_after_lem t n
+        → ReadLeft r.run.text r.run.after_bids r.run.after_windows t n
     go (reading.refused k) h x y z = let f : ◌≡◌ {A = ℕ} 0 1 = cc in absurd (omega arith)
     go (accepted T R W) h x y z =
         room T R W (leb (length R) (length r.run.bids / bid_width) && leb (length W) (length r.run.windows / window_width))
@@ -133,10 +133,10 @@ module _ (bidder p q : List ℕ) (k k' : Kind) (T T' : Tender) (n n' : ℕ) (bid
 -- Two calls of `read`, two of the same award on what they left.
 module _ (r r' : ReadCall) (c c' : AwardCall) (bidder p q : List ℕ) (f : Follows r c) (f' : Follows r' c')
     (s : SameAward c c') where
-  first : ReadLeft r.run.text r.run.bids_after_lem r.run.windows_after_lem c.tender c.count
+  first : ReadLeft r.run.text r.run.after_bids r.run.after_windows c.tender c.count
   first = accepted_read r c.tender c.count f.window_rows f.accepts
 
-  second : ReadLeft r'.run.text r'.run.bids_after_lem r'.run.windows_after_lem c'.tender c'.count
+  second : ReadLeft r'.run.text r'.run.after_bids r'.run.after_windows c'.tender c'.count
   second = accepted_read r' c'.tender c'.count f'.window_rows f'.accepts
 
   pub withheld_read : (ws vs : List ℕ) → DifferInBid r.run.text r'.run.text bidder p q ws vs

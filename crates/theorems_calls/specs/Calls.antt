@@ -25,15 +25,15 @@ pub record ReadRun : Type 0 where
   pub text : List ℕ
   pub bids : List ℕ
   pub windows : List ℕ
-  pub bids_after_lem : List ℕ
-  pub windows_after_lem : List ℕ
+  pub after_bids : List ℕ
+  pub after_windows : List ℕ
   pub answer : Reading
 
 -- the contract of `read`, its three clauses
 pub record ReadKept (r : ReadRun) : Type 0 where
   pub answers : r.answer ≡ read_answer (read_into r.text (length r.bids / bid_width) (length r.windows / window_width))
-  pub rows : r.bids_after_lem ≡ bids_after r.bids (read_into r.text (length r.bids / bid_width) (length r.windows / window_width))
-  pub own : r.windows_after_lem ≡ windows_after r.windows
+  pub rows : r.after_bids ≡ bids_after r.bids (read_into r.text (length r.bids / bid_width) (length r.windows / window_width))
+  pub own : r.after_windows ≡ windows_after r.windows
       (read_into r.text (length r.bids / bid_width) (length r.windows / window_width))
 
 -- `read`
@@ -65,13 +65,13 @@ told_by c = told_award c.count c.rows_after c.answer
 pub record BytesCall (P : List ℕ → List ℕ → List ℕ → ℕ → Type 0) : Type 0 where
   pub text : List ℕ
   pub buffer : List ℕ
-  pub buffer_after_lem : List ℕ
+  pub after_buffer : List ℕ
   pub answer : ℕ
-  pub promise : P text buffer buffer_after_lem answer
+  pub promise : P text buffer after_buffer answer
 
 -- the bytes that it wrote
 abbrev pub shown : {P : List ℕ → List ℕ → List ℕ → ℕ → Type 0} → BytesCall P → List ℕ
-shown l = take l.answer l.buffer_after_lem
+shown l = take l.answer l.after_buffer
 
 -- `tender_list`, from C too
 abbrev pub ListCall : Type 0
@@ -84,9 +84,9 @@ pub record WriteCall : Type 0 where
   pub bids : List ℕ
   pub windows : List ℕ
   pub buffer : List ℕ
-  pub buffer_after_lem : List ℕ
+  pub after_buffer : List ℕ
   pub answer : Writing
-  pub promise : Writes tender count bids windows buffer buffer_after_lem answer
+  pub promise : Writes tender count bids windows buffer after_buffer answer
 
 -- `tender_rewrite`, from C too
 abbrev pub RewriteCall : Type 0

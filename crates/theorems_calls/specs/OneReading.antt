@@ -43,14 +43,14 @@ pub data LineFault : Type 0 where
   of_place : LineFault
   of_count : LineFault
   of_limits : LineFault
-  of_kind_lem : LineFault
+  of_the_kind : LineFault
   of_minutes : LineFault
   of_week : LineFault
   of_bidder : LineFault
 
 -- the order in which they are looked for
 abbrev pub page_order : List LineFault
-page_order = of_form ∷ of_place ∷ of_count ∷ of_limits ∷ of_kind_lem ∷ of_minutes ∷ of_week ∷ of_bidder ∷ []
+page_order = of_form ∷ of_place ∷ of_count ∷ of_limits ∷ of_the_kind ∷ of_minutes ∷ of_week ∷ of_bidder ∷ []
 
 -- one of the list is so
 abbrev pub SomeOf : {A : Type 0} → (A → Type 0) → List A → Type 0
@@ -63,7 +63,7 @@ stands_by form place count limits kind minutes week bidder of_form = form
 stands_by form place count limits kind minutes week bidder of_place = place
 stands_by form place count limits kind minutes week bidder of_count = count
 stands_by form place count limits kind minutes week bidder of_limits = limits
-stands_by form place count limits kind minutes week bidder of_kind_lem = kind
+stands_by form place count limits kind minutes week bidder of_the_kind = kind
 stands_by form place count limits kind minutes week bidder of_minutes = minutes
 stands_by form place count limits kind minutes week bidder of_week = week
 stands_by form place count limits kind minutes week bidder of_bidder = bidder
@@ -148,14 +148,14 @@ pub record Readable (text : List ℕ) (t : Tender) (R : List Row) (W : List Wind
 -- a refusal leaves both tables as they were
 pub record Declines (x : Refusal) (r : ReadRun) : Type 0 where
   pub answer : r.answer ≡ Refused x
-  pub bids_stay : r.bids_after_lem ≡ r.bids
-  pub windows_stay : r.windows_after_lem ≡ r.windows
+  pub bids_stay : r.after_bids ≡ r.bids
+  pub windows_stay : r.after_windows ≡ r.windows
 
 -- an accepted text fills the first rows, and the places past them stay
 pub record Fills (t : Tender) (R : List Row) (W : List Window) (r : ReadRun) : Type 0 where
   pub answer : r.answer ≡ Accepted t (length R) (length W)
-  pub bids_are : r.bids_after_lem ≡ flat_rows R ++ drop (bid_width * length R) r.bids
-  pub windows_are : r.windows_after_lem ≡ flat_windows W ++ drop (window_width * length W) r.windows
+  pub bids_are : r.after_bids ≡ flat_rows R ++ drop (bid_width * length R) r.bids
+  pub windows_are : r.after_windows ≡ flat_windows W ++ drop (window_width * length W) r.windows
 
 -- one reading: 1; of the first line with a fault its first fault in the page's order; 8; or the tables
 pub data OneReading (r : ReadRun) : Type 0 where
@@ -164,7 +164,7 @@ pub data OneReading (r : ReadRun) : Type 0 where
   reserve_misplaced : (l : LineOf r.text) → FirstOn of_place l → Declines (ReserveMisplaced (place_in l)) r → OneReading r
   too_many : (l : LineOf r.text) → FirstOn of_count l → Declines (TooMany (place_in l)) r → OneReading r
   outside_limits : (l : LineOf r.text) → FirstOn of_limits l → Declines (OutsideLimits (place_in l)) r → OneReading r
-  several_windows : (l : LineOf r.text) → FirstOn of_kind_lem l → Declines (SeveralWindows (place_in l)) r → OneReading r
+  several_windows : (l : LineOf r.text) → FirstOn of_the_kind l → Declines (SeveralWindows (place_in l)) r → OneReading r
   empty_window : (l : LineOf r.text) → FirstOn of_minutes l → Declines (EmptyWindow (place_in l)) r → OneReading r
   late_window : (l : LineOf r.text) → FirstOn of_week l → Declines (LateWindow (place_in l)) r → OneReading r
   bidder_repeated : (l : LineOf r.text) → FirstOn of_bidder l → Declines (BidderRepeated (place_in l)) r → OneReading r

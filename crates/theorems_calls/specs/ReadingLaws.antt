@@ -33,7 +33,7 @@ use Rattle.reader.specs.declared.Reading.{Reading}
 use Rattle.reader.specs.Answer.{read_answer, bids_after, windows_after}
 use Rattle.theorems_calls.specs.Calls.{ReadRun, ReadKept}
 use Rattle.theorems_calls.specs.OneReading.{or_broken, lines_in, Above, at_start, after, lines_above, LineFault, of_form, of_place}
-use Rattle.theorems_calls.specs.OneReading.{of_count, of_limits, of_kind_lem, of_minutes, of_week, of_bidder, page_order}
+use Rattle.theorems_calls.specs.OneReading.{of_count, of_limits, of_the_kind, of_minutes, of_week, of_bidder, page_order}
 use Rattle.theorems_calls.specs.OneReading.{SomeOf, OnReserve, OnLine, OfText}
 use Rattle.theorems_calls.specs.OneReading.{FirstAmong, NoFault, SoundBids, SoundReserve, SoundLines, LineOf, place_in}
 use Rattle.theorems_calls.specs.OneReading.{FirstOn, Readable, Declines, Fills, OneReading, text_too_long, bad_form}
@@ -139,7 +139,7 @@ refusal_of of_form = BadForm
 refusal_of of_place = ReserveMisplaced
 refusal_of of_count = TooMany
 refusal_of of_limits = OutsideLimits
-refusal_of of_kind_lem = SeveralWindows
+refusal_of of_the_kind = SeveralWindows
 refusal_of of_minutes = EmptyWindow
 refusal_of of_week = LateWindow
 refusal_of of_bidder = BidderRepeated
@@ -165,7 +165,7 @@ data Verdict (d : Above) (x : Option Line) (o : Option (ℕ → Refusal)) : Type
   stopped_by : (f : LineFault) → FirstAmong page_order f d x → o ≡ some (refusal_of f) → Verdict d x o
 
 verdict : (d : Above) (x : Option Line) (c4 c3 c7 c5 c15 c6 : Bool) → (OnLine of_form d x → ⊥) → (OnLine of_place d x → ⊥)
-    → Decides c4 (OnLine of_count d x) → Decides c3 (OnLine of_limits d x) → Decides c7 (OnLine of_kind_lem d x)
+    → Decides c4 (OnLine of_count d x) → Decides c3 (OnLine of_limits d x) → Decides c7 (OnLine of_the_kind d x)
     → Decides c5 (OnLine of_minutes d x) → Decides c15 (OnLine of_week d x) → Decides c6 (OnLine of_bidder d x)
     → Verdict d x (line_fault c4 c3 c7 c5 c15 c6)
 unfolding line_fault
@@ -173,7 +173,7 @@ verdict d x true c3 c7 c5 c15 c6 s2 s16 s4 s3 s7 s5 s15 s6 = stopped_by of_count
 verdict d x false true c7 c5 c15 c6 s2 s16 s4 s3 s7 s5 s15 s6 =
     stopped_by of_limits (inr (s2, inr (s16, inr (s4, inl (refl, s3))))) refl
 verdict d x false false true c5 c15 c6 s2 s16 s4 s3 s7 s5 s15 s6 =
-    stopped_by of_kind_lem (inr (s2, inr (s16, inr (s4, inr (s3, inl (refl, s7)))))) refl
+    stopped_by of_the_kind (inr (s2, inr (s16, inr (s4, inr (s3, inl (refl, s7)))))) refl
 verdict d x false false false true c15 c6 s2 s16 s4 s3 s7 s5 s15 s6 =
     stopped_by of_minutes (inr (s2, inr (s16, inr (s4, inr (s3, inr (s7, inl (refl, s5))))))) refl
 verdict d x false false false false true c6 s2 s16 s4 s3 s7 s5 s15 s6 =
@@ -187,7 +187,7 @@ verdict d x false false false false false false s2 s16 s4 s3 s7 s5 s15 s6 = clea
     none_stands of_place = s16
     none_stands of_count = s4
     none_stands of_limits = s3
-    none_stands of_kind_lem = s7
+    none_stands of_the_kind = s7
     none_stands of_minutes = s5
     none_stands of_week = s15
     none_stands of_bidder = s6
@@ -311,7 +311,7 @@ only_limits t p of_place (inl n) = absurd (n refl)
 only_limits t p of_place (inr l) = absurd (omega arith)
 only_limits t p of_count h = absurd h
 only_limits t p of_limits h = (refl, h)
-only_limits t p of_kind_lem h = absurd h
+only_limits t p of_the_kind h = absurd h
 only_limits t p of_minutes h = absurd h
 only_limits t p of_week h = absurd h
 only_limits t p of_bidder h = absurd h
@@ -450,7 +450,7 @@ refusal_number text r e = go (text_read text)
     number of_place k = inr (omega arith, omega arith)
     number of_count k = inl (omega arith, omega arith)
     number of_limits k = inl (omega arith, omega arith)
-    number of_kind_lem k = inl (omega arith, omega arith)
+    number of_the_kind k = inl (omega arith, omega arith)
     number of_minutes k = inl (omega arith, omega arith)
     number of_week k = inr (omega arith, omega arith)
     number of_bidder k = inl (omega arith, omega arith)
@@ -463,8 +463,8 @@ refusal_number text r e = go (text_read text)
 -- what comes of the tables
 module _ (r : ReadRun) where
   abbrev Leaves : ReadOutcome → Type 0
-  Leaves o = (r.answer ≡ read_answer o) × ((r.bids_after_lem ≡ bids_after r.bids o)
-      × (r.windows_after_lem ≡ windows_after r.windows o))
+  Leaves o = (r.answer ≡ read_answer o) × ((r.after_bids ≡ bids_after r.bids o)
+      × (r.after_windows ≡ windows_after r.windows o))
 
   refuses : (x : Refusal) (o : ReadOutcome) → o ≡ refused x → Leaves o → Declines x r
   unfolding bids_after windows_after
@@ -487,7 +487,7 @@ module _ (r : ReadRun) where
   by_fault l of_place h x = reserve_misplaced l h x
   by_fault l of_count h x = too_many l h x
   by_fault l of_limits h x = outside_limits l h x
-  by_fault l of_kind_lem h x = several_windows l h x
+  by_fault l of_the_kind h x = several_windows l h x
   by_fault l of_minutes h x = empty_window l h x
   by_fault l of_week h x = late_window l h x
   by_fault l of_bidder h x = bidder_repeated l h x
@@ -741,7 +741,7 @@ module _ (r : ReadRun) where
   reading_kept (reserve_misplaced l h x) = refused_kept (ReserveMisplaced (place_in l)) (line_refused r.text l of_place h) x
   reading_kept (too_many l h x) = refused_kept (TooMany (place_in l)) (line_refused r.text l of_count h) x
   reading_kept (outside_limits l h x) = refused_kept (OutsideLimits (place_in l)) (line_refused r.text l of_limits h) x
-  reading_kept (several_windows l h x) = refused_kept (SeveralWindows (place_in l)) (line_refused r.text l of_kind_lem h) x
+  reading_kept (several_windows l h x) = refused_kept (SeveralWindows (place_in l)) (line_refused r.text l of_the_kind h) x
   reading_kept (empty_window l h x) = refused_kept (EmptyWindow (place_in l)) (line_refused r.text l of_minutes h) x
   reading_kept (late_window l h x) = refused_kept (LateWindow (place_in l)) (line_refused r.text l of_week h) x
   reading_kept (bidder_repeated l h x) = refused_kept (BidderRepeated (place_in l)) (line_refused r.text l of_bidder h) x
@@ -751,12 +751,12 @@ module _ (r : ReadRun) where
 -- the contract leaves no choice
 
 run : List ℕ → List ℕ → List ℕ → List ℕ → List ℕ → Reading → ReadRun
-run t b w b' w' a = record { text = t; bids = b; windows = w; bids_after_lem = b'; windows_after_lem = w'; answer = a }
+run t b w b' w' a = record { text = t; bids = b; windows = w; after_bids = b'; after_windows = w'; answer = a }
 
-by_parts : (x y : ReadRun) → x.text ≡ y.text → x.bids ≡ y.bids → x.windows ≡ y.windows → x.bids_after_lem ≡ y.bids_after_lem
-    → x.windows_after_lem ≡ y.windows_after_lem → x.answer ≡ y.answer
-    → run x.text x.bids x.windows x.bids_after_lem x.windows_after_lem x.answer
-    ≡ run y.text y.bids y.windows y.bids_after_lem y.windows_after_lem y.answer
+by_parts : (x y : ReadRun) → x.text ≡ y.text → x.bids ≡ y.bids → x.windows ≡ y.windows → x.after_bids ≡ y.after_bids
+    → x.after_windows ≡ y.after_windows → x.answer ≡ y.answer
+    → run x.text x.bids x.windows x.after_bids x.after_windows x.answer
+    ≡ run y.text y.bids y.windows y.after_bids y.after_windows y.answer
 by_parts x y e f g b w a = cc
 
 pub one_case : (x y : ReadRun) → ReadKept x → ReadKept y → x.text ≡ y.text → x.bids ≡ y.bids → x.windows ≡ y.windows

@@ -1,5 +1,5 @@
 -- `award_entries::multi_in` meets its contract: the tender is laid out as words, and each way out is one of the laws. Assumes nothing.
-use mathlib.Core.Path.{sym, ◌∙◌}
+use mathlib.Core.Path.{◌∙◌}
 use native.Mathlib.Omega.{arith}
 use Rattle.tender.specs.declared.Kind.TheVariants.{Multi}
 use Rattle.award_layout.specs.LayoutLaws.{cells_within}
@@ -8,12 +8,6 @@ use Rattle.award_laid.specs.TellsLaws.{bare_inside, lone_inside}
 use Rattle.award_laid.specs.EntryLaws.{market}
 use Rattle.award_entries.specs.ThinLaws.{tells_eleven, tells_twelve}
 use Rattle.award_entries.specs.MultiLaws.{settled}
-use borrow.Author.Rules.{rules}
-use Rattle.award_laid.proofs.lay_masks.Reads as lay-masks-reads
-use Rattle.award_layout.proofs.cells.Reads as cells-reads
-use Rattle.award_layout.proofs.minute.Reads as minute-reads
-use Rattle.award_plain.proofs.totals.Reads as totals-reads
-use Rattle.multi.proofs.award.Reads as award-reads
 use Rattle.award_entries.proofs.multi_in.Goals as goal
 
 pub lay_masks-thin-requires : goal.lay_masks-thin-requires
@@ -56,7 +50,7 @@ totals-requires c =
     let d = words_of Multi A.tender A.count A.w A.bids.now A.windows.now P.0 P.1.0 in
     let m = market A.tender A.count A.w A.bids.now A.windows.now _ _ _ P.0 L.ensures d
     (L.auto.masks ∙ P.1.1.1.0) in record {
-    prices_len_bound = (
+      prices_len_bound = (
         m.priced.count,
         (
           omega (arith, L.auto.prices, c.award.auto.won, P.1.1.1.1),
@@ -66,8 +60,8 @@ totals-requires c =
           ),
         ),
       );
-    by_index = λ i l. (omega (arith, m.priced.most i), c.award.ensures.small i l);
-  }
+      by_index = λ i l. (omega (arith, m.priced.most i), c.award.ensures.small i l);
+    }
 
 pub returns-in-Nobody : goal.returns-in-Nobody
 returns-in-Nobody c =

@@ -1,15 +1,11 @@
 -- `award_entries::settle_multi` meets its contract: the places lent are as many as the entries and their words need. Assumes nothing.
-use mathlib.Core.Path.{sym, ap, ◌∙◌}
+use mathlib.Core.Path.{sym, ap}
 use Prim.Native.Nat.{ℕ, ◌+◌, ◌*◌, ◌/◌}
 use native.Mathlib.Omega.{arith}
 use Rattle.tender.specs.declared.Kind.TheVariants.{Multi}
 use Rattle.tender.specs.Limits.{max_entries}
 use Rattle.award_layout.specs.LayoutLaws.{orderly, cells_within}
 use Rattle.award_laid.specs.EntryLaws.{entries_few, words_room, prefix_length}
-use borrow.Author.Rules.{rules}
-use Rattle.award_layout.proofs.cells.Reads as cells-reads
-use Rattle.award_layout.proofs.entries.Reads as entries-reads
-use Rattle.award_entries.proofs.multi_in.Reads as multi-in-reads
 use Rattle.award_entries.proofs.settle_multi.Goals as goal
 
 pub cells-requires : goal.cells-requires

@@ -5,7 +5,6 @@ use Rattle.tender.specs.declared.Kind.TheVariants.{Single}
 use Rattle.tender.specs.Limits.{max_entries}
 use Rattle.award_layout.specs.LayoutLaws.{orderly}
 use Rattle.award_laid.specs.EntryLaws.{entries_few, prefix_length}
-use borrow.Author.Rules.{rules}
 use Rattle.award_entries.proofs.settle_single.Goals as goal
 
 pub entries-entries-requires : goal.entries-entries-requires

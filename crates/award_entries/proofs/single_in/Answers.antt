@@ -8,7 +8,6 @@ use Rattle.award_laid.specs.TellsLaws.{bare_inside, lone_inside}
 use Rattle.award_laid.specs.EntryLaws.{laid_prices}
 use Rattle.award_entries.specs.ThinLaws.{tells_eleven, tells_twelve}
 use Rattle.award_entries.specs.SingleLaws.{prices_sum, settled}
-use borrow.Author.Rules.{rules}
 use Rattle.award_entries.proofs.single_in.Goals as goal
 
 pub lay_spans-thin-requires : goal.lay_spans-thin-requires
@@ -34,24 +33,24 @@ pub award-requires : goal.award-requires
 award-requires c =
     let A = c.args in let P = c.requires in let L = c.lay_spans-thin in
     let w = cells_within Single A.tender A.count A.bids.now A.windows.now P.0 in record {
-    prices_len_bound = (
+      prices_len_bound = (
         (laid_prices A.tender A.count A.bids.now A.windows.now _ _ _ _ _ P.0 L.ensures).count,
         L.auto.starts ∙ P.1.1.0 ∙ sym P.1.0 ∙ sym L.auto.prices,
         L.auto.ends ∙ P.1.1.1.0 ∙ sym P.1.0 ∙ sym L.auto.prices,
         omega (arith, w, c.cells-cells.ensures),
         omega (arith, w, c.cells-cells.ensures),
       );
-    prices_in_bounds = (omega (arith, L.auto.prices, P.1.1.1.1.1), omega (arith, L.auto.prices, P.1.1.1.1.1));
-    by_index = (λ i m. rw c.cells-cells.ensures (L.ensures.ordered i, L.ensures.inside i));
-    prices_bound = prices_sum A.tender A.count A.bids.now A.windows.now _ _ _ _ _ P.0 L.ensures;
-    prices_in_bounds_2 = (omega (arith, L.auto.prices, L.auto.order, P.1.1.1.1.0), L.ensures.in_order);
-  }
+      prices_in_bounds = (omega (arith, L.auto.prices, P.1.1.1.1.1), omega (arith, L.auto.prices, P.1.1.1.1.1));
+      by_index = (λ i m. rw c.cells-cells.ensures (L.ensures.ordered i, L.ensures.inside i));
+      prices_bound = prices_sum A.tender A.count A.bids.now A.windows.now _ _ _ _ _ P.0 L.ensures;
+      prices_in_bounds_2 = (omega (arith, L.auto.prices, L.auto.order, P.1.1.1.1.0), L.ensures.in_order);
+    }
 
 pub totals-requires : goal.totals-requires
 totals-requires c =
     let A = c.args in let P = c.requires in let L = c.lay_spans-thin in
     let p = laid_prices A.tender A.count A.bids.now A.windows.now _ _ _ _ _ P.0 L.ensures in record {
-    prices_len_bound = (
+      prices_len_bound = (
         p.count,
         (
           omega (arith, L.auto.prices, c.award.auto.won, P.1.1.1.1.1),
@@ -61,8 +60,8 @@ totals-requires c =
           ),
         ),
       );
-    by_index = λ i l. (omega (arith, p.most i), c.award.ensures.small i l);
-  }
+      by_index = λ i l. (omega (arith, p.most i), c.award.ensures.small i l);
+    }
 
 pub returns-in-Nobody : goal.returns-in-Nobody
 returns-in-Nobody c =

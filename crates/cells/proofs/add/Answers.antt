@@ -1,7 +1,6 @@
 -- `cells::add` meets its contract: the word that holds cell x gets one bit more. Assumes nothing.
 use native.Mathlib.Omega.{arith}
 use Rattle.cells.proofs.StoreLaws.{one_added}
-use borrow.Author.Rules.{rules}
 use Rattle.cells.proofs.add.Goals as goal
 
 pub returns : goal.returns

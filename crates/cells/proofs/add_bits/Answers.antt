@@ -1,8 +1,6 @@
 -- `cells::add_bits` meets its contract: one word gets the bits of a span. Assumes nothing.
 use native.Mathlib.Omega.{arith}
 use Rattle.cells.proofs.StoreLaws.{bits_added}
-use borrow.Author.Rules.{rules}
-use Rattle.cells.proofs.span.Reads as span-reads
 use Rattle.cells.proofs.add_bits.Goals as goal
 
 pub returns : goal.returns

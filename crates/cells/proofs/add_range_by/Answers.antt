@@ -3,9 +3,6 @@
 use native.Mathlib.Omega.{arith}
 use Prim.Native.Nat.{◌/◌}
 use Rattle.cells.proofs.StoreLaws.{filled_join, filled_at, filled_words}
-use borrow.Author.Rules.{rules}
-use Rattle.cells.proofs.add_bits.Reads as add-bits-reads
-use Rattle.cells.proofs.add_words.Reads as add-words-reads
 use Rattle.cells.proofs.add_range_by.Goals as goal
 
 pub returns-then-a-b : goal.returns-then-a-b

@@ -1,11 +1,9 @@
 -- `cells::add_words` meets its contract: the words from a up to w have all their cells. Assumes nothing.
 use native.Mathlib.Omega.{arith}
-use Prim.Native.Nat.{◌-◌, ◌*◌, ◌≤◌}
+use Prim.Native.Nat.{◌*◌}
 use mathlib.Core.Path.{◌≡◌, refl}
-use lib.ListN.{length, length-set}
-use Rattle.cells.specs.Cells.{RangeAdded}
+use lib.ListN.{length-set}
 use Rattle.cells.proofs.StoreLaws.{filled_none, filled_join, whole_added}
-use borrow.Author.Rules.{rules}
 use Rattle.cells.proofs.add_words.Goals as goal
 
 pub loop-w-init : goal.loop-w-init

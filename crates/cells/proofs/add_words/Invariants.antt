@@ -1,11 +1,8 @@
 -- `cells::add_words` meets its contract: the words from a up to w have all their cells. Assumes nothing.
-use native.Mathlib.Omega.{arith}
 use Prim.Native.Nat.{◌-◌, ◌*◌, ◌≤◌}
-use mathlib.Core.Path.{◌≡◌, refl}
-use lib.ListN.{length, length-set}
+use mathlib.Core.Path.{◌≡◌}
+use lib.ListN.{length}
 use Rattle.cells.specs.Cells.{RangeAdded}
-use Rattle.cells.proofs.StoreLaws.{filled_none, filled_join, whole_added}
-use borrow.Author.Rules.{rules}
 use Rattle.cells.proofs.add_words.Given as goal
 
 abbrev pub invariant-loop-w : goal.invariant-loop-w

@@ -1,9 +1,7 @@
 -- `cells::clear` meets its contract: the words passed have no cell. Assumes nothing.
 use Prim.Native.Nat.{◌-◌}
-use mathlib.Core.Path.{refl}
-use native.Mathlib.Omega.{arith}
 use lib.ListN.{length}
-use Rattle.cells.proofs.FillingLaws.{Filling, none, more, cleared}
+use Rattle.cells.proofs.FillingLaws.{Filling}
 use Rattle.cells.proofs.clear.Given as goal
 
 abbrev pub invariant-loop-i : goal.invariant-loop-i

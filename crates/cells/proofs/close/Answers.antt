@@ -1,9 +1,8 @@
 -- `cells::close` meets its contract: before word w the cells below 64 w are cleared of the mask, and the others stand. Assumes nothing.
-use Rattle.cells.proofs.StoreLaws.{Swept, swept_none, swept_more, swept_all}
-use mathlib.Core.Path.{◌≡◌, refl}
-use Prim.Native.Nat.{◌-◌, ◌≤◌}
+use Rattle.cells.proofs.StoreLaws.{swept_none, swept_more, swept_all}
+use mathlib.Core.Path.{refl}
 use native.Mathlib.Omega.{arith}
-use lib.ListN.{length, length-set}
+use lib.ListN.{length-set}
 use Rattle.cells.proofs.close.Goals as goal
 
 pub loop-w-init : goal.loop-w-init

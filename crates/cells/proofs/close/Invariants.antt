@@ -1,9 +1,8 @@
 -- `cells::close` meets its contract: before word w the cells below 64 w are cleared of the mask, and the others stand. Assumes nothing.
-use Rattle.cells.proofs.StoreLaws.{Swept, swept_none, swept_more, swept_all}
-use mathlib.Core.Path.{◌≡◌, refl}
+use Rattle.cells.proofs.StoreLaws.{Swept}
+use mathlib.Core.Path.{◌≡◌}
 use Prim.Native.Nat.{◌-◌, ◌≤◌}
-use native.Mathlib.Omega.{arith}
-use lib.ListN.{length, length-set}
+use lib.ListN.{length}
 use Rattle.cells.proofs.close.Given as goal
 
 abbrev pub invariant-loop-w : goal.invariant-loop-w

@@ -2,8 +2,6 @@
 use mathlib.Core.Path.{◌≡◌, ap, ◌∙◌}
 use native.Mathlib.Omega.{arith}
 use lib.ListN.{length}
-use borrow.Author.Rules.{rules}
-use Rattle.cells.specs.Masks.{masks}
 use Rattle.cells.proofs.MasksLaws.{masks_length, mask_rule}
 use Rattle.cells.proofs.first_bits.Goals as goal
 

@@ -5,7 +5,6 @@ use lib.ListN.{get_or}
 use lib.Dec.{eqb}
 use lib.Bits.{and_mask}
 use Rattle.cells.specs.Cells.{cell}
-use borrow.Author.Rules.{rules}
 use Rattle.cells.proofs.holds.Goals as goal
 
 pub returns : goal.returns

@@ -8,8 +8,6 @@ use lib.Count.{trailing_le}
 use lib.Bits.{bit_and}
 use Rattle.cells.specs.Cells.{whole}
 use Rattle.cells.proofs.LowestLaws.{first_at, none_at, search_on, search_over}
-use borrow.Author.Rules.{rules}
-use Rattle.cells.proofs.next_from.Reads as next-from-reads
 use Rattle.cells.proofs.next.Goals as goal
 
 abbrev rest : List ℕ → List ℕ → ℕ → ℕ

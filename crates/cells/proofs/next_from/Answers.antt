@@ -1,11 +1,11 @@
 -- `cells::next_from` meets its contract: before word q no cell of a from the first word on is outside b. Assumes nothing.
-use Prim.Native.Nat.{ℕ, ◌-◌, ◌*◌, ◌≤◌, ◌<◌}
+use Prim.Native.Nat.{◌-◌}
 use mathlib.Core.Path.{◌≡◌}
 use native.Mathlib.Omega.{arith}
 use lib.ListN.{length, get_or}
 use lib.Count.{trailing_le}
 use lib.Bits.{bit_and}
-use Rattle.cells.specs.Cells.{cell, whole}
+use Rattle.cells.specs.Cells.{whole}
 use Rattle.cells.proofs.LowestLaws.{first_in_word, none_in_word, search_on, search_over}
 use Rattle.cells.proofs.next_from.Goals as goal
 

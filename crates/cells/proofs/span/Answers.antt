@@ -3,8 +3,6 @@ use Rattle.cells.proofs.StoreLaws.{span_of}
 use mathlib.Core.Path.{◌≡◌}
 use Prim.Native.Nat.{◌-◌, ◌^◌}
 use native.Mathlib.Omega.{arith}
-use borrow.Author.Rules.{rules}
-use Rattle.cells.proofs.first_bits.Reads as first-bits-reads
 use Rattle.cells.proofs.span.Goals as goal
 
 pub returns : goal.returns

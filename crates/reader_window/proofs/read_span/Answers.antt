@@ -28,7 +28,6 @@ overflow_add-p c =
 pub read_number-requires-2 : goal.read_number-requires-2
 read_number-requires-2 c =
     let s = c.args.s.now in
-    let at = c.args.at in
     let p = c.in-Of.p in
     let x = c.in-Of.ensures in
     let b = c.if-s-p-ne32.false in

@@ -48,7 +48,6 @@ overflow_add-p c =
 pub read_price-requires : goal.read_price-requires
 read_price-requires c =
     let s = c.args.s.now in
-    let at = c.args.at in
     let p = c.in-Of.p in
     let x = c.in-Of.ensures in
     let b = c.if-s-p-ne32.false in

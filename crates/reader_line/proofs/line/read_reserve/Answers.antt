@@ -39,7 +39,6 @@ overflow_add-p c =
 pub bounds-s-p-2 : goal.bounds-s-p-2
 bounds-s-p-2 c =
     let s = c.args.s.now in
-    let at = c.args.at in
     let p = c.in-Of.p in
     let x = c.in-Of.ensures in
     let d = c.if-s-p-ne41.false in
@@ -62,7 +61,6 @@ returns-then-s-p-ne10 c =
 pub overflow_add-result : goal.overflow_add-result
 overflow_add-result c =
     let s = c.args.s.now in
-    let at = c.args.at in
     let p = c.in-Of.p in
     let x = c.in-Of.ensures in
     let d = c.if-s-p-ne41.false in

@@ -1,0 +1,17 @@
+-- `highest::highest_price` meets its contract: tables with a fault are refused as an award refuses them, the others asked.
+-- Assumes nothing.
+use mathlib.Core.Path.{sym, ap, ◌∙◌}
+use Rattle.award_fault.specs.Checks.{checked_fault}
+use Rattle.highest_rule.proofs.AnswerLaws.{nine}
+use Rattle.highest.proofs.highest_price.Goals as goal
+
+pub highest_sound-requires : goal.highest_sound-requires
+highest_sound-requires c = sym c.fault.ensures ∙ ap checked_fault c.in-Sound.is
+
+pub returns-in-Sound : goal.returns-in-Sound
+returns-in-Sound c = c.highest_sound.ensures
+
+pub returns-in-Faulty : goal.returns-in-Faulty
+returns-in-Faulty c =
+    let A = c.args in nine A.tender A.count A.bids.now A.windows.now A.bidder _
+    (sym c.fault.ensures ∙ ap checked_fault c.in-Faulty.is)

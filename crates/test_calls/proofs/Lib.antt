@@ -1,2 +1,0 @@
-pub mod AwardCall
-pub mod LendsRows
