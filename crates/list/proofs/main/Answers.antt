@@ -14,7 +14,7 @@ slice_bounds-make-end c =
 pub make-k-requires : goal.make-k-requires
 make-k-requires c =
     let inside = text_within _ _ _ c.read_on.ensures c.in-Text.is in
-    omega (arith, length-take-le c.in-Text.n c.read_on.new.buf inside, c.if-n-lt6656.true)
+    omega (arith, length-take-le c.in-Text.n c.read_on.new.buf inside)
 
 pub expect-requires : goal.expect-requires
 expect-requires c = lt-ltb 0 c.make-k.result (made_some c.make-k.ensures)
