@@ -1,6 +1,6 @@
 -- Who asks for the highest price gets one answer; beside the award it is a winner's payment, or one cent less, and below a loser's price.
 -- Assumes nothing.
-use Rattle.std.specs.Prelude.{◌≡◌, refl, ◌⊎◌, Bool, true, false, ◌&&◌, List, ℕ, ◌+◌, ◌*◌, ◌≤◌, ◌<◌, length, get_or, leb, ltb, eqb}
+use Rattle.std.specs.Prelude.{◌≡◌, refl, Bool, true, false, ◌&&◌, List, ℕ, ◌+◌, ◌*◌, ◌≤◌, ◌<◌, length, get_or, leb, ltb, eqb}
 use Rattle.std.proofs.Common.{sym, ◌∙◌, inl, inr, arith, length-set, le-leb, le-ltb, eqb-true}
 use Rattle.std.proofs.Math.Path.{ap, fun_ext}
 use Rattle.std.proofs.Math.Bool.{cond}
@@ -8,14 +8,11 @@ use Rattle.std.proofs.Math.Option.{none}
 use Rattle.std.proofs.lemmas.Bool.{eqb-false}
 use Rattle.tender.specs.declared.Kind.{Kind}
 use Rattle.tender.specs.declared.Tender.{Tender}
-use Rattle.tender.specs.declared.Highest.{Highest}
-use Rattle.tender.specs.declared.Highest.TheVariants.{Price, NoPrice, Refused}
+use Rattle.tender.specs.declared.Highest.TheVariants.{Price, NoPrice}
 use Rattle.tender.specs.declared.AwardRow.{AwardRow}
 use Rattle.tender.specs.declared.Totals.{Totals}
-use Rattle.tender.specs.declared.Refusal.{Refusal}
-use Rattle.tender.specs.declared.Refusal.TheVariants.{NoSuchBidder}
 use Rattle.tender.specs.Tables.{own, bid_width}
-use Rattle.cover.specs.Sets.{when, Found, nothing, found, value_of}
+use Rattle.cover.specs.Sets.{Found, nothing, found, value_of}
 use Rattle.cover.specs.Earliest.{cell_with}
 use Rattle.cover.specs.Spare.{Spare}
 use Rattle.reader_text.specs.Read.{read_text}
@@ -39,7 +36,7 @@ use Rattle.highest_rule.proofs.AnswerLaws.{Answered, declined, unknown, priced, 
 use Rattle.highest_text.specs.Told.{highest_in}
 use Rattle.highest_text.specs.ToldLaws.{told_short}
 use Rattle.theorems_calls.specs.Calls.{AwardCall, told_by, HighestCall, HighestLineCall, shown}
-use Rattle.theorems.specs.Between.{SameTables, price_at}
+use Rattle.theorems.specs.Between.{price_at}
 use Rattle.theorems.specs.Asking.{auction_asked, award_asked, IsAwarded, RowAsked, wins_naming, Beside, PaidOrLess, BelowNamed}
 use Rattle.theorems.specs.Asking.{Renamed}
 use Rattle.theorems.specs.Asking.{OneHighest, as_the_award, no_such_bidder, up_to_price, with_no_price}

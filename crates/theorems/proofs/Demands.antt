@@ -75,7 +75,8 @@ use Rattle.theorems.proofs.ListNumberLaws.{one_list, shows_no_other}
 use Rattle.theorems.proofs.ListGainLaws.{list_shows, withheld_shown, no_gain_shown}
 use Rattle.theorems.specs.Rewriting.{OneWriting, ReadAsWritten}
 use Rattle.theorems.proofs.RewritingLaws.{one_writing, nine_as_award, read_as_written, equal_written, equal_rewritten}
-use Rattle.theorems.proofs.RewritingLaws.{always_fits, read_rewritten, rewritten_again, rewritten_fits}
+use Rattle.theorems.proofs.RewritingLaws.{read_rewritten, rewritten_again, rewritten_fits}
+use Rattle.theorems.proofs.FittingLaws.{always_fits}
 use Rattle.theorems.proofs.EitherSpellingLaws.{reading_same, list_same, rewriting_same}
 use Rattle.theorems.specs.Asking.{OneHighest, RowAsked, Renamed, Beside, PaidOrLess, BelowNamed}
 use Rattle.theorems.proofs.AskingLaws.{one_highest, renamed_wins, renamed_loses, greedy_payment, least_payment, loser_price}

@@ -8,6 +8,7 @@ pub mod ListNumberLaws
 pub mod ListGainLaws
 pub mod UnreservedLaws
 pub mod RewritingLaws
+pub mod FittingLaws
 pub mod EitherSpellingLaws
 pub mod AskingLaws
 pub mod Demands

@@ -9,13 +9,11 @@ use Rattle.tender.specs.declared.Window.{Window}
 use Rattle.tender.specs.declared.Tender.{Tender}
 use Rattle.tender.specs.declared.Refusal.TheVariants.{BadTables, NoRoom}
 use Rattle.tender.specs.Tables.{Row, rows_of, flat_rows, flat_windows, bid_width, window_width}
-use Rattle.reader_text.specs.Read.{ReadOutcome, accepted, refused, read_text, read_into}
+use Rattle.reader_text.specs.Read.{accepted, read_text, read_into}
 use Rattle.reader.specs.Answer.{read_answer, bids_after, windows_after}
 use Rattle.reader_text.proofs.CountLaws.{room_law}
 use Rattle.reader_text.proofs.SizeLaws.{short_text}
 use Rattle.reader.specs.declared.Reading.TheVariants as reading
-use Rattle.spelling.specs.Lines.{refused_line}
-use Rattle.spelling.proofs.LineLaws.{refused_short, refused_some}
 use Rattle.spelling.proofs.DeliveredLaws.{delivered_is}
 use Rattle.award_check.specs.Faults.{fault_of}
 use Rattle.award_check.proofs.TextLaws.{rows_flat}
@@ -24,7 +22,6 @@ use Rattle.award_rule.specs.Award as outcome
 use Rattle.award_rule.proofs.AwardLaws.{award_nine}
 use Rattle.award_outcome.specs.Right.{OneAnswer, tables_break_a_rule, rows_too_few, minute_uncovered, one_bidder, award}
 use Rattle.award_outcome.proofs.OneAnswerLaws.{one_answer}
-use Rattle.writer.specs.declared.Writing.{Writing}
 use Rattle.writer.specs.declared.Writing.TheVariants as writing
 use Rattle.writer_text.specs.Canonical.{canonical, spelt, unspelt, unless_fault, write_into, buffer_after}
 use Rattle.writer.specs.Writes.{write_answer}
@@ -165,21 +162,6 @@ module _ (l : RewriteCall) (T : Tender) (R : List Row) (W : List Window) (read :
 
   pub read_rewritten : 0 < l.answer → ReadBack (shown l) T R (flat_windows W)
   read_rewritten = back
-
--- a buffer as long as the text, and as the longest line of a refusal, suffices
-pub always_fits : (l : RewriteCall) → length l.text ≤ length l.buffer → 52 ≤ length l.buffer → 0 < l.answer
-unfolding rewrite_of
-always_fits l a b = go (read_text l.text) refl
-  where
-    go : (o : ReadOutcome) → read_text l.text ≡ o → 0 < l.answer
-    go (accepted T R W) e = (rewritten_fits l T R W e a).0
-    go (refused q) e =
-        let c = refused_line q in
-        let m : leb (length c) (length l.buffer) ≡ true = le-leb (length c) (length l.buffer) (omega (arith, refused_short q)) in
-        let r : l.answer ≡ length c = l.promise.delivers.answer
-        ∙ ap (λ out. cond (leb (length out) (length l.buffer)) (length out) 0) (ap rewrite_of e)
-        ∙ ap (λ b. cond b (length c) 0) m in
-        omega (arith, r, refused_some q)
 
 pub equal_rewritten : (l l' : RewriteCall) (T T' : Tender) (R R' : List Row) (W W' : List Window)
     → read_text l.text ≡ accepted T R W → read_text l'.text ≡ accepted T' R' W' → 0 < l.answer → 0 < l'.answer

@@ -1,6 +1,6 @@
 -- Two texts that differ in one bid, each read by a call of `read` into tables of any size, and an award called on what each left: a false
 -- price and minutes held back gain nothing. Assumes nothing.
-use Rattle.std.specs.Prelude.{◌≡◌, refl, Bool, true, false, cond, ◌&&◌, List, [], ◌∷◌, ◌++◌, ℕ, zero, suc, ◌+◌, ◌*◌, ◌/◌, ◌<◌, length, drop, leb, ltb}
+use Rattle.std.specs.Prelude.{◌≡◌, refl, Bool, true, false, cond, ◌&&◌, List, ◌++◌, ℕ, ◌+◌, ◌*◌, ◌/◌, length, drop, leb, ltb}
 use Rattle.std.proofs.Common.{sym, ◌∙◌, arith}
 use Rattle.std.proofs.Math.Path.{ap}
 use Rattle.std.proofs.Math.Option.{some}
@@ -18,7 +18,6 @@ use Rattle.reader.specs.Answer.{read_answer, bids_after, windows_after}
 use Rattle.reader.specs.declared.Reading.TheVariants as answer
 use Rattle.reader_text.specs.Differ.{DifferInPrice, DifferInBid, windows_by}
 use Rattle.reader_text.proofs.BidLaws.{price_as_bid}
-use Rattle.award_check.specs.Cells.{no_row}
 use Rattle.award_check.specs.Alike.{named, PartOf}
 use Rattle.award_check.proofs.TextLaws.{bidder_read}
 use Rattle.award_outcome.specs.Promise.{told_award, Promise}

@@ -1,5 +1,5 @@
 -- Without a reserve nothing is added: awards weigh the bids alone, and lists and texts have no line more. Assumes nothing.
-use Rattle.std.specs.Prelude.{◌≡◌, refl, ◌&&◌, List, ◌++◌, map, ℕ, length}
+use Rattle.std.specs.Prelude.{◌≡◌, refl, ◌&&◌, List, ◌++◌, map, length}
 use Rattle.std.proofs.Common.{ap, ◌∙◌, append-nil}
 use Rattle.tender.specs.declared.Reserve.TheVariants.{Absent}
 use Rattle.tender.specs.declared.Tender.{Tender}

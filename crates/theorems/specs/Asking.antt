@@ -1,5 +1,5 @@
 -- What is said of who asks with which price a bid would win (paper 02, request 8).
-use Rattle.std.specs.Prelude.{◌≡◌, ◌⊎◌, Bool, true, false, List, ℕ, ◌+◌, ◌*◌, ◌≤◌, ◌<◌, length, get_or, leb}
+use Rattle.std.specs.Prelude.{◌≡◌, ◌⊎◌, Bool, false, List, ℕ, ◌+◌, ◌*◌, ◌≤◌, ◌<◌, length, get_or, leb}
 use Rattle.tender.specs.declared.Highest.TheVariants.{Price, NoPrice, Refused}
 use Rattle.tender.specs.declared.AwardRow.{AwardRow}
 use Rattle.tender.specs.declared.Totals.{Totals}
@@ -10,8 +10,7 @@ use Rattle.cover.specs.Sets.{when}
 use Rattle.award_check.specs.Auction.{Auction, auction_of, at_price}
 use Rattle.award_check.specs.Alike.{Alike}
 use Rattle.award_rule.specs.Award.{rule, won, Outcome, awarded, refused, award_of, outcome_number}
-use Rattle.award_outcome.specs.Gain.{row_for}
-use Rattle.theorems_calls.specs.Calls.{AwardCall, auction_by, told_by, HighestCall}
+use Rattle.theorems_calls.specs.Calls.{AwardCall, told_by, HighestCall}
 use Rattle.theorems.specs.Between.{SameTables, price_at}
 
 -- the auction that its tables say

@@ -1,1 +1,5 @@
+pub mod VerdictLaws
+pub mod MisplacedLaws
+pub mod SoundLaws
+pub mod ReserveLaws
 pub mod ReadingLaws

@@ -1,16 +1,15 @@
 -- Every call of `read` that keeps its contract answers one reading, and what that says leaves nothing open: it gives the contract
 -- back. Assumes nothing.
 use Rattle.std.proofs.Math.Path.{◌≡◌, refl, ap}
-use Rattle.std.proofs.Common.{sym, subst, ◌∙◌, inl, inr, arith, length-append}
-use Rattle.std.specs.Prelude.{◌⊎◌, Bool, true, false, cond, not, ◌&&◌, ◌||◌, leb, ltb, eqb}
+use Rattle.std.proofs.Common.{sym, ◌∙◌, inl, inr, arith, length-append}
+use Rattle.std.specs.Prelude.{◌⊎◌, Bool, true, false, cond, not, ◌&&◌, ◌||◌, leb, ltb}
 use mathlib.Core.List.{List, [], ◌∷◌, ◌++◌, map, append-nil, append_assoc}
 use Rattle.std.proofs.Math.Option.{Option, none, some}
 use Prim.Native.Nat.{ℕ, ◌+◌, ◌/◌, ◌≤◌, ◌<◌}
 use Rattle.std.proofs.Math.ListN.{length}
 use Rattle.std.proofs.lemmas.List.{length-map}
-use borrow.Author.Tests.{ltb-true, ltb-false, leb-true, leb-false, eqb-true, eqb-false, le-leb, lt-leb, lt-ltb, le-ltb}
-use Rattle.tender.specs.declared.Kind.{Kind}
-use Rattle.tender.specs.declared.Kind.TheVariants.{Single, Multi}
+use borrow.Author.Tests.{ltb-true, ltb-false, leb-true, leb-false, le-leb, lt-leb, lt-ltb, le-ltb}
+use Rattle.tender.specs.declared.Kind.TheVariants.{Single}
 use Rattle.tender.specs.declared.Window.{Window}
 use Rattle.tender.specs.declared.Reserve.{Reserve}
 use Rattle.tender.specs.declared.Reserve.TheVariants.{Absent, Price}
@@ -23,7 +22,7 @@ use Rattle.tender.specs.Refusals.{number_of}
 use Rattle.tender.specs.Tables.{Row, bid_width, window_width}
 use Rattle.reader_parts.specs.Words.{cut, among}
 use Rattle.reader_forms.specs.Line.{TenderLine, BidLine, Line, tender, bid, reserve, tender_line, reserve_lines, head_lines, lines_of}
-use Rattle.reader_text.specs.Read.{ReadOutcome, accepted, refused, rows_from, all_windows, bids_of, line_fault, tender_fault}
+use Rattle.reader_text.specs.Read.{ReadOutcome, accepted, refused, rows_from, all_windows, bids_of, tender_fault}
 use Rattle.reader_text.specs.Read.{bid_fault_in, bid_fault_after, bid_fault, judged_by, checked, tables, tender_with, reserve_in}
 use Rattle.reader_text.specs.Read.{Unreserved, after_head, read_lines, read_text, fitted, read_into}
 use Rattle.reader_text.proofs.FaultLaws.{faultless_sound}
@@ -31,166 +30,19 @@ use Rattle.reader_text.proofs.HeadLaws.{lines_halted, lines_begun, no_line, brok
 use Rattle.reader_text.proofs.HeadLaws.{bids_unreserved, tender_faultless, reserve_absent, reserve_taken, reserve_high, head_of_lem}
 use Rattle.reader.specs.declared.Reading.{Reading}
 use Rattle.reader.specs.Answer.{read_answer, bids_after, windows_after}
+use Rattle.theorems_calls.proofs.VerdictLaws.{refusal_of, says_or, says_and, says_ltb, says_leb, outside, no_minute, past_week, some_window, single, used, first_stands, one_first, Verdict, verdict, clean, stopped_by}
+use Rattle.theorems_calls.proofs.MisplacedLaws.{misplaced}
+use Rattle.theorems_calls.proofs.SoundLaws.{sound_lines}
+use Rattle.theorems_calls.proofs.ReserveLaws.{only_limits, sound_reserve, high_reserve}
 use Rattle.theorems_calls.specs.Calls.{ReadRun, ReadKept}
 use Rattle.theorems_calls.specs.OneReading.{or_broken, lines_in, Above, at_start, after, lines_above, LineFault, of_form, of_place}
 use Rattle.theorems_calls.specs.OneReading.{of_count, of_limits, of_the_kind, of_minutes, of_week, of_bidder, page_order}
-use Rattle.theorems_calls.specs.OneReading.{SomeOf, OnReserve, OnLine, OfText}
+use Rattle.theorems_calls.specs.OneReading.{OnLine, OfText}
 use Rattle.theorems_calls.specs.OneReading.{FirstAmong, NoFault, SoundBids, SoundReserve, SoundLines, LineOf, place_in}
 use Rattle.theorems_calls.specs.OneReading.{FirstOn, Readable, Declines, Fills, OneReading, text_too_long, bad_form}
 use Rattle.theorems_calls.specs.OneReading.{reserve_misplaced, too_many}
 use Rattle.theorems_calls.specs.OneReading.{outside_limits, several_windows, empty_window, late_window, bidder_repeated}
 use Rattle.theorems_calls.specs.OneReading.{table_too_short, tables_filled}
-
--- a test says whether a fact holds
-
-abbrev Decides : Bool → Type 0 → Type 0
-Decides true P = P
-Decides false P = P → ⊥
-
-says_or : (P Q : Type 0) (a b : Bool) → Decides a P → Decides b Q → Decides (a || b) (P ⊎ Q)
-says_or P Q true b s u = inl s
-says_or P Q false true s u = inr u
-says_or P Q false false s u = go
-  where
-    go : P ⊎ Q → ⊥
-    go (inl p) = s p
-    go (inr q) = u q
-
-says_and : (P Q : Type 0) (a b : Bool) → Decides a P → Decides b Q → Decides (a && b) (P × Q)
-says_and P Q true true s u = (s, u)
-says_and P Q true false s u = λ h. u h.1
-says_and P Q false b s u = λ h. s h.0
-
-says_ltb : (a b : ℕ) → Decides (ltb a b) (a < b)
-says_ltb a b = go (ltb a b) refl
-  where
-    go : (t : Bool) → ltb a b ≡ t → Decides t (a < b)
-    go true e = ltb-true a b e
-    go false e = λ h. omega (arith, ltb-false a b e)
-
-says_leb : (a b : ℕ) → Decides (leb a b) (a ≤ b)
-says_leb a b = go (leb a b) refl
-  where
-    go : (t : Bool) → leb a b ≡ t → Decides t (a ≤ b)
-    go true e = leb-true a b e
-    go false e = λ h. omega (arith, leb-false a b e)
-
-says_eqb : (a b : ℕ) → Decides (eqb a b) (a ≡ b)
-says_eqb a b = go (eqb a b) refl
-  where
-    go : (t : Bool) → eqb a b ≡ t → Decides t (a ≡ b)
-    go true e = eqb-true a b e
-    go false e = eqb-false a b e
-
--- each test of a bid says whether its fault stands
-
-outside : (a z n : ℕ) → Decides (not (within a z n)) ((n < a) ⊎ (z < n))
-unfolding within
-outside a z n = go (leb a n) (leb n z) refl refl
-  where
-    neither : a ≤ n → n ≤ z → (n < a) ⊎ (z < n) → ⊥
-    neither s u (inl l) = omega arith
-    neither s u (inr l) = omega arith
-
-    go : (s t : Bool) → leb a n ≡ s → leb n z ≡ t → Decides (not (s && t)) ((n < a) ⊎ (z < n))
-    go false t s u = inl (leb-false a n s)
-    go true false s u = inr (leb-false n z u)
-    go true true s u = neither (leb-true a n s) (leb-true n z u)
-
-no_minute : (w : Window) → Decides (not (ordered w)) (w.end ≤ w.start)
-no_minute w = go (ordered w) refl
-  where
-    go : (t : Bool) → ordered w ≡ t → Decides (not t) (w.end ≤ w.start)
-    go true e = λ h. omega (arith, ltb-true w.start w.end e)
-    go false e = ltb-false w.start w.end e
-
-past_week : (w : Window) → Decides (not (early w)) (week < w.end)
-past_week w = go (early w) refl
-  where
-    go : (t : Bool) → early w ≡ t → Decides (not t) (week < w.end)
-    go true e = λ h. omega (arith, leb-true w.end 10080 e)
-    go false e = leb-false w.end 10080 e
-
-some_window : (test : Window → Bool) (P : Window → Type 0) → ((w : Window) → Decides (not (test w)) (P w)) → (ws : List Window)
-    → Decides (not (every test ws)) (SomeOf P ws)
-unfolding every
-some_window test P says [] = λ h. h
-some_window test P says (w ∷ ws) = go (test w) (every test ws) (says w) (some_window test P says ws)
-  where
-    go : (a b : Bool) → Decides (not a) (P w) → Decides (not b) (SomeOf P ws) → Decides (not (a && b)) (P w ⊎ SomeOf P ws)
-    go false b s u = inl s
-    go true false s u = inr u
-    go true true s u = says_or (P w) (SomeOf P ws) false false s u
-
-single : (k : Kind) → Decides (is_single k) (k ≡ Single)
-unfolding is_single
-single Single = refl
-single Multi = λ e. let z : ◌≡◌ {A = ℕ} 0 1 = cc in absurd (omega arith)
-
-used : (n : ℕ) (bs : List BidLine) → Decides (among n (map (λ b. b.bidder) bs)) (SomeOf (λ (b : BidLine). b.bidder ≡ n) bs)
-unfolding among
-used n [] = λ h. h
-used n (b ∷ bs) = says_or (b.bidder ≡ n) (SomeOf (λ (b : BidLine). b.bidder ≡ n) bs) (eqb b.bidder n)
-    (among n (map (λ b. b.bidder) bs)) (says_eqb b.bidder n) (used n bs)
-
--- the refusal that a fault brings, on its line
-abbrev pub refusal_of : LineFault → ℕ → Refusal
-refusal_of of_form = BadForm
-refusal_of of_place = ReserveMisplaced
-refusal_of of_count = TooMany
-refusal_of of_limits = OutsideLimits
-refusal_of of_the_kind = SeveralWindows
-refusal_of of_minutes = EmptyWindow
-refusal_of of_week = LateWindow
-refusal_of of_bidder = BidderRepeated
-
--- the first fault stands, and there is one first
-
-first_stands : (gs : List LineFault) (f : LineFault) (d : Above) (x : Option Line) → FirstAmong gs f d x → OnLine f d x
-first_stands [] f d x h = absurd h
-first_stands (g ∷ gs) f d x (inl (e, s)) = subst (λ h. OnLine h d x) (sym e) s
-first_stands (g ∷ gs) f d x (inr (n, r)) = first_stands gs f d x r
-
-one_first : (gs : List LineFault) (f g : LineFault) (d : Above) (x : Option Line) → FirstAmong gs f d x → FirstAmong gs g d x
-    → f ≡ g
-one_first [] f g d x h k = absurd h
-one_first (y ∷ gs) f g d x (inl (e, s)) (inl (u, v)) = e ∙ sym u
-one_first (y ∷ gs) f g d x (inl (e, s)) (inr (n, r)) = absurd (n s)
-one_first (y ∷ gs) f g d x (inr (n, r)) (inl (u, v)) = absurd (n v)
-one_first (y ∷ gs) f g d x (inr (n, r)) (inr (m, q)) = one_first gs f g d x r q
-
--- what the tests of a line say
-data Verdict (d : Above) (x : Option Line) (o : Option (ℕ → Refusal)) : Type 0 where
-  clean : NoFault d x → o ≡ none → Verdict d x o
-  stopped_by : (f : LineFault) → FirstAmong page_order f d x → o ≡ some (refusal_of f) → Verdict d x o
-
-verdict : (d : Above) (x : Option Line) (c4 c3 c7 c5 c15 c6 : Bool) → (OnLine of_form d x → ⊥) → (OnLine of_place d x → ⊥)
-    → Decides c4 (OnLine of_count d x) → Decides c3 (OnLine of_limits d x) → Decides c7 (OnLine of_the_kind d x)
-    → Decides c5 (OnLine of_minutes d x) → Decides c15 (OnLine of_week d x) → Decides c6 (OnLine of_bidder d x)
-    → Verdict d x (line_fault c4 c3 c7 c5 c15 c6)
-unfolding line_fault
-verdict d x true c3 c7 c5 c15 c6 s2 s16 s4 s3 s7 s5 s15 s6 = stopped_by of_count (inr (s2, inr (s16, inl (refl, s4)))) refl
-verdict d x false true c7 c5 c15 c6 s2 s16 s4 s3 s7 s5 s15 s6 =
-    stopped_by of_limits (inr (s2, inr (s16, inr (s4, inl (refl, s3))))) refl
-verdict d x false false true c5 c15 c6 s2 s16 s4 s3 s7 s5 s15 s6 =
-    stopped_by of_the_kind (inr (s2, inr (s16, inr (s4, inr (s3, inl (refl, s7)))))) refl
-verdict d x false false false true c15 c6 s2 s16 s4 s3 s7 s5 s15 s6 =
-    stopped_by of_minutes (inr (s2, inr (s16, inr (s4, inr (s3, inr (s7, inl (refl, s5))))))) refl
-verdict d x false false false false true c6 s2 s16 s4 s3 s7 s5 s15 s6 =
-    stopped_by of_week (inr (s2, inr (s16, inr (s4, inr (s3, inr (s7, inr (s5, inl (refl, s15)))))))) refl
-verdict d x false false false false false true s2 s16 s4 s3 s7 s5 s15 s6 =
-    stopped_by of_bidder (inr (s2, inr (s16, inr (s4, inr (s3, inr (s7, inr (s5, inr (s15, inl (refl, s6))))))))) refl
-verdict d x false false false false false false s2 s16 s4 s3 s7 s5 s15 s6 = clean none_stands refl
-  where
-    none_stands : (f : LineFault) → OnLine f d x → ⊥
-    none_stands of_form = s2
-    none_stands of_place = s16
-    none_stands of_count = s4
-    none_stands of_limits = s3
-    none_stands of_the_kind = s7
-    none_stands of_minutes = s5
-    none_stands of_week = s15
-    none_stands of_bidder = s6
 
 tender_verdict : (t : TenderLine) → Verdict at_start (some (tender t)) (tender_fault t)
 unfolding tender_fault
@@ -242,12 +94,6 @@ bidders_after : (done : List BidLine) (b : BidLine) → map (λ b. b.bidder) (do
 bidders_after [] b = refl
 bidders_after (c ∷ done) b = ap (λ l. c.bidder ∷ l) (bidders_after done b)
 
--- a reserve's line is misplaced where the tender has a reserve, or a bid stands before
-misplaced : (r : Reserve) (done : List BidLine) → (r ≡ Absent → done ≡ [] → ⊥) → (r ≡ Absent → ⊥) ⊎ (0 < length done)
-misplaced (Price p) done h = inl (λ e. let z : ◌≡◌ {A = ℕ} 0 1 = cc in omega arith)
-misplaced Absent [] h = absurd (h refl refl)
-misplaced Absent (b ∷ done) h = inr (omega arith)
-
 first_misplaced : (t : Tender) (done : List BidLine) (p : ℕ) → (t.reserve ≡ Absent → done ≡ [] → ⊥)
     → FirstAmong page_order of_place (after t done) (some (reserve p))
 first_misplaced t done p h = inr ((λ x. x), inl (refl, misplaced t.reserve done h))
@@ -298,34 +144,6 @@ bids_of_lem : (bs : List BidLine) → bids_of (map (λ b. some (bid b)) bs) ≡ 
 unfolding bids_of
 bids_of_lem [] = refl
 bids_of_lem (b ∷ bs) = ap {B = List BidLine} (λ l. b ∷ l) (bids_of_lem bs)
-
-sound_lines : (t : Tender) (bs : List BidLine) → NoFault at_start (some (tender (tender_line t)))
-    → SoundReserve (tender_line t) t.reserve → SoundBids t [] bs → SoundLines (after t bs)
-sound_lines t bs u v s = (u, (v, s))
-
--- the reserve's line after the tender's: within the limits, or not
-
-only_limits : (t : TenderLine) (p : ℕ) (f : LineFault) → OnReserve f (tender_with t Absent) [] p → (f ≡ of_limits) × (100000000 < p)
-only_limits t p of_form h = absurd h
-only_limits t p of_place (inl n) = absurd (n refl)
-only_limits t p of_place (inr l) = absurd (omega arith)
-only_limits t p of_count h = absurd h
-only_limits t p of_limits h = (refl, h)
-only_limits t p of_the_kind h = absurd h
-only_limits t p of_minutes h = absurd h
-only_limits t p of_week h = absurd h
-only_limits t p of_bidder h = absurd h
-
-sound_reserve : (t : TenderLine) (p : ℕ) → p ≤ 100000000 → SoundReserve t (Price p)
-sound_reserve t p l f h = omega (arith, (only_limits t p f h).1)
-
-high_reserve : (t : TenderLine) (p : ℕ) → 100000000 < p
-    → FirstAmong page_order of_limits (after (tender_with t Absent) []) (some (reserve p))
-high_reserve t p l = inr ((λ h. h), inr (placed, inr ((λ h. h), inl (refl, l))))
-  where
-    placed : OnReserve of_place (tender_with t Absent) [] p → ⊥
-    placed (inl n) = n refl
-    placed (inr m) = omega arith
 
 module _ (text : List ℕ) (short : length text ≤ 65536) where
   first_line_lem : (x : Option Line) (ls : List (Option Line)) → lines_in text ≡ x ∷ ls → OnLine of_form at_start x

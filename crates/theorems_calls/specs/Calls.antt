@@ -1,5 +1,5 @@
 -- The public calls, each as one record: what it was lent, what it left, what it answered, and that it kept its contract.
-use Rattle.std.specs.Prelude.{◌≡◌, List, ℕ, ◌/◌, min, length, take}
+use Rattle.std.specs.Prelude.{◌≡◌, List, ℕ, ◌/◌, length, take}
 use Rattle.tender.specs.declared.Kind.{Kind}
 use Rattle.tender.specs.declared.Tender.{Tender}
 use Rattle.tender.specs.declared.AwardRow.{AwardRow}
@@ -11,7 +11,6 @@ use Rattle.reader.specs.Answer.{read_answer, bids_after, windows_after}
 use Rattle.reader.specs.declared.Reading.{Reading}
 use Rattle.award_check.specs.Auction.{Auction, auction_of}
 use Rattle.award_rule.specs.Award.{Outcome}
-use Rattle.award_rule.specs.Plain.{told_in, PlainPromise}
 use Rattle.award_outcome.specs.Promise.{told_award, Promise}
 use Rattle.listing_text.specs.List.{Listed}
 use Rattle.writer.specs.declared.Writing.{Writing}
