@@ -70,12 +70,13 @@ use Rattle.theorems.proofs.VariedLaws.{varied}
 use Rattle.theorems.proofs.VariedBidLaws.{varied_bid}
 use Rattle.theorems.proofs.TextGainLaws.{withheld_read, no_gain_read}
 use Rattle.theorems.proofs.CoverLaws as cover
+use Rattle.theorems.proofs.RewritingLaws as rewriting
 use Rattle.theorems.proofs.UnreservedLaws.{bids_alone, no_house_line, no_reserve_line}
 use Rattle.theorems.proofs.ListNumberLaws.{one_list, shows_no_other}
 use Rattle.theorems.proofs.ListGainLaws.{list_shows, withheld_shown, no_gain_shown}
 use Rattle.theorems.specs.Rewriting.{OneWriting, ReadAsWritten}
-use Rattle.theorems.proofs.RewritingLaws.{one_writing, nine_as_award, read_as_written, equal_written, equal_rewritten}
-use Rattle.theorems.proofs.RewritingLaws.{read_rewritten, rewritten_again, rewritten_fits}
+use Rattle.theorems.proofs.RewritingLaws.{one_writing, read_as_written, equal_written, equal_rewritten}
+use Rattle.theorems.proofs.RewritingLaws.{read_rewritten, rewritten_again}
 use Rattle.theorems.proofs.FittingLaws.{always_fits}
 use Rattle.theorems.proofs.EitherSpellingLaws.{reading_same, list_same, rewriting_same}
 use Rattle.theorems.specs.Asking.{OneHighest, RowAsked, Renamed, Beside, PaidOrLess, BelowNamed}
@@ -318,7 +319,7 @@ one_answer_of_the_writer = one_writing
 pub nine_as_the_award : (w : WriteCall) (c : AwardCall) → SameTables w.tender w.count w.bids w.windows c
     → (row : ℕ)
     → Exactly (w.answer ≡ Refused (BadTables row)) (told_by c ≡ refusal (BadTables row))
-nine_as_the_award = nine_as_award
+nine_as_the_award w c s row = (rewriting.told_nine w c s row, rewriting.write_nine w c s row)
 
 -- What is written reads back, by `read` into tables of 1,000 and 32,000 rows: as the same tender and, in the same entry order, the same
 -- bidders, prices and minutes.
@@ -355,7 +356,7 @@ module _ (l : RewriteCall) (T : Tender) (R : List Row) (W : List Window) (read :
 
   -- and is no longer than it was: 14 is for a buffer that is shorter than the text.
   pub rewritten_no_longer : length l.text ≤ length l.buffer → (0 < l.answer) × (l.answer ≤ length l.text)
-  rewritten_no_longer = rewritten_fits l T R W read
+  rewritten_no_longer a = (rewriting.rewritten_some l T R W read a, rewriting.rewritten_short l T R W read a)
 
 -- Paper 6 of 02. Prices with a point.
 

@@ -7,7 +7,7 @@ use Rattle.spelling.specs.Lines.{refused_line}
 use Rattle.spelling.proofs.LineLaws.{refused_short, refused_some}
 use Rattle.rewrite.specs.Rewritten.{rewrite_of}
 use Rattle.theorems_calls.specs.Calls.{RewriteCall}
-use Rattle.theorems.proofs.RewritingLaws.{rewritten_fits}
+use Rattle.theorems.proofs.RewritingLaws.{rewritten_some}
 
 -- a buffer as long as the text, and as the longest line of a refusal, suffices
 pub always_fits : (l : RewriteCall) → length l.text ≤ length l.buffer → 52 ≤ length l.buffer → 0 < l.answer
@@ -15,7 +15,7 @@ unfolding rewrite_of
 always_fits l a b = go (read_text l.text) refl
   where
     go : (o : ReadOutcome) → read_text l.text ≡ o → 0 < l.answer
-    go (accepted T R W) e = (rewritten_fits l T R W e a).0
+    go (accepted T R W) e = rewritten_some l T R W e a
     go (refused q) e =
         let c = refused_line q in
         let m : leb (length c) (length l.buffer) ≡ true = le-leb (length c) (length l.buffer) (omega (arith, refused_short q)) in

@@ -122,14 +122,21 @@ module _ (l : RewriteCall) (T : Tender) (R : List Row) (W : List Window) (read :
   rewritten_is : 0 < l.answer → shown l ≡ canonical T R (flat_windows W)
   rewritten_is a = delivered_is l.promise.delivers a ∙ rewrite_is
 
-  pub rewritten_fits : length l.text ≤ length l.buffer → (0 < l.answer) × (l.answer ≤ length l.text)
-  rewritten_fits a =
+  fitted_length : length l.text ≤ length l.buffer → l.answer ≡ length (canonical T R (flat_windows W))
+  fitted_length a =
       let c = canonical T R (flat_windows W) in
-      let n = no_longer l.text T R W read in
-      let e : leb (length c) (length l.buffer) ≡ true = le-leb (length c) (length l.buffer) (omega (arith, n)) in
-      let r : l.answer ≡ length c = l.promise.delivers.answer
-      ∙ ap (λ out. cond (leb (length out) (length l.buffer)) (length out) 0) rewrite_is ∙ ap (λ b. cond b (length c) 0) e in
-      (omega (arith, r, canonical_some T R (flat_windows W)), omega (arith, r, n))
+      let e : leb (length c) (length l.buffer) ≡ true = le-leb (length c) (length l.buffer) (omega (arith, no_longer l.text T R W read)) in
+      l.promise.delivers.answer
+      ∙ ap (λ out. cond (leb (length out) (length l.buffer)) (length out) 0) rewrite_is ∙ ap (λ b. cond b (length c) 0) e
+
+  pub rewritten_some : length l.text ≤ length l.buffer → 0 < l.answer
+  rewritten_some a = omega (arith, fitted_length a, canonical_some T R (flat_windows W))
+
+  pub rewritten_short : length l.text ≤ length l.buffer → l.answer ≤ length l.text
+  rewritten_short a = omega (arith, fitted_length a, no_longer l.text T R W read)
+
+  pub rewritten_fits : length l.text ≤ length l.buffer → (0 < l.answer) × (l.answer ≤ length l.text)
+  rewritten_fits a = (rewritten_some a, rewritten_short a)
 
   -- what was rewritten reads as the same bids, and is rewritten to itself
   back : 0 < l.answer → ReadBack (shown l) T R (flat_windows W)
@@ -205,7 +212,7 @@ module _ (w : WriteCall) (c : AwardCall) (s : SameTables w.tender w.count w.bids
       ≡ fault_of w.tender.kind w.tender w.count w.bids w.windows
   same_fault = rw (s.kinds, s.tenders, s.counts, s.bids_too, s.windows_too)
 
-  told_nine : w.answer ≡ writing.Refused (BadTables row) → told_by c ≡ outcome.refused (BadTables row)
+  pub told_nine : w.answer ≡ writing.Refused (BadTables row) → told_by c ≡ outcome.refused (BadTables row)
   told_nine e = go (one_writing w)
     where
       go : OneWriting w → told_by c ≡ outcome.refused (BadTables row)
@@ -227,7 +234,7 @@ module _ (w : WriteCall) (c : AwardCall) (s : SameTables w.tender w.count w.bids
       go (no_room f l a b) = let h = sym f ∙ e in let z : ◌≡◌ {A = ℕ} 0 1 = cc in absurd (omega arith)
       go (text_written f l a b) = let h = sym f ∙ e in let z : ◌≡◌ {A = ℕ} 0 1 = cc in absurd (omega arith)
 
-  write_nine : told_by c ≡ outcome.refused (BadTables row) → w.answer ≡ writing.Refused (BadTables row)
+  pub write_nine : told_by c ≡ outcome.refused (BadTables row) → w.answer ≡ writing.Refused (BadTables row)
   write_nine e = go (one_answer c.kind c.tender c.count c.bids c.windows c.rows_before c.rows_after c.answer
       c.promise)
     where
