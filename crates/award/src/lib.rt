@@ -5,19 +5,14 @@
 
 ghost use Rattle.std.specs.Prelude.{◌≡◌, ℕ, ◌≤◌, min, length};
 ghost use Rattle.tender.specs.declared.Kind.TheVariants.{Single, Multi};
-ghost use Rattle.award_outcome.specs.Promise.{Promise, rows_filled};
+ghost use Rattle.award_outcome.specs.Promise.{Promise};
 ghost use Rattle.award_rule.specs.Plain.{PlainPromise};
 
-use tender::{Answer, AwardRow, Kind, Tender};
-
-fn lesser(a: usize, b: usize) -> usize
-    ensures { result ≡ min a b }
-{
-    if a < b { a } else { b }
-}
+use tender::{AwardRow, Kind, Refusal, Tender, Totals};
 
 // The award of this kind over plain lists: for each bid a flag, 1 for a winner, and the cents paid. There are as many
 // award rows as both lists have places.
+// Lists of numbers, since the public call may not change.
 pub fn settle(
     kind: Kind,
     tender: Tender,
@@ -26,43 +21,13 @@ pub fn settle(
     windows: &[u64],
     won: &mut [u64],
     cents: &mut [u64],
-) -> Answer
+) -> Result<Totals, Refusal>
     ensures { PlainPromise kind tender count bids.now windows.now
         (min (length won.old) (length cents.old))
         won.old cents.old won.new cents.new result }
 {
-    let lent = lesser(won.len(), cents.len());
+    let lent = won.len().min(cents.len());
     award_settle::settle_in(kind, tender, count, bids, windows, lent, won, cents)
-}
-
-// What an award settles: its answer, and how many award rows it fills.
-#[derive(Clone, Copy)]
-struct Settled {
-    answer: Answer,
-    rows: usize,
-}
-
-// The award of this kind over plain lists, where `lent` award rows are lent, and how many of them it fills.
-fn settle_rows(
-    kind: Kind,
-    tender: Tender,
-    count: usize,
-    bids: &[u64],
-    windows: &[u64],
-    lent: usize,
-    won: &mut [u64],
-    cents: &mut [u64],
-) -> Settled
-    requires { (min lent 1000 ≤ length won.old) × (min lent 1000 ≤ length cents.old) }
-    ensures { PlainPromise kind tender count bids.now windows.now lent won.old
-        cents.old won.new cents.new result.answer
-        × (result.rows ≡ rows_filled result.answer count) }
-{
-    let answer = award_settle::settle_in(kind, tender, count, bids, windows, lent, won, cents);
-    Settled {
-        answer: answer,
-        rows: award_rows::rows_filled(answer, count),
-    }
 }
 
 // The award of this kind over a lent slice of award rows: settled over lists of its own, and then filled in.
@@ -73,17 +38,18 @@ fn award_in(
     bids: &[u64],
     windows: &[u64],
     rows: &mut [AwardRow],
-) -> Answer
+) -> Result<Totals, Refusal>
     ensures { Promise kind tender count bids.now windows.now rows.old rows.new result }
 {
     let mut won = [1u64; 1000];
     let mut cents = [1u64; 1000];
     let lent = rows.len();
-    let settled = settle_rows(
+    let answer = award_settle::settle_in(
         kind, tender, count, bids, windows, lent, &mut won, &mut cents,
     );
-    award_rows::fill(rows, &won, &cents, settled.rows);
-    settled.answer
+    let filled = award_rows::rows_filled(answer, count);
+    award_rows::fill(rows, &won, &cents, filled);
+    answer
 }
 
 // The award of a single tender: one award row filled for each bid, or a refusal, which leaves every row as it was.
@@ -93,7 +59,7 @@ pub fn award_single(
     bids: &[u64],
     windows: &[u64],
     rows: &mut [AwardRow],
-) -> Answer
+) -> Result<Totals, Refusal>
     ensures { Promise Single tender count bids.now windows.now rows.old rows.new result }
 {
     award_in(Kind::Single, tender, count, bids, windows, rows)
@@ -106,7 +72,7 @@ pub fn award_multi(
     bids: &[u64],
     windows: &[u64],
     rows: &mut [AwardRow],
-) -> Answer
+) -> Result<Totals, Refusal>
     ensures { Promise Multi tender count bids.now windows.now rows.old rows.new result }
 {
     award_in(Kind::Multi, tender, count, bids, windows, rows)

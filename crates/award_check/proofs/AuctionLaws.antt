@@ -2,6 +2,7 @@
 -- price and minutes, or in what was read. Assumes nothing.
 use Rattle.cover.specs.Spare.{Spare}
 use Rattle.std.specs.Prelude.{◌≡◌, Bool, ◌&&◌, ℕ, zero, suc, ◌+◌, ◌-◌, ◌*◌, ◌≤◌, ◌<◌, set, drop}
+use Rattle.std.specs.Prelude.{Some, None}
 use Rattle.std.proofs.Math.Path.{refl, sym, ap, fun_ext}
 use Rattle.std.proofs.Common.{◌∙◌, length-set, get_or-set_same, get_or-set_other, ext_get_or}
 use mathlib.Core.List.{List, [], ◌∷◌, ◌++◌, map, append-nil}
@@ -13,8 +14,7 @@ use Rattle.std.proofs.lemmas.List.{set-get_or, set-append_left}
 use Rattle.std.proofs.Math.Dec.{ltb, eqb}
 use borrow.Author.Tests.{ltb-true, ltb-false, lt-ltb, le-ltb, le-leb, eqb-true, eqb-false}
 use Rattle.tender.specs.declared.Window.{Window}
-use Rattle.tender.specs.declared.Reserve.{Reserve}
-use Rattle.tender.specs.declared.Reserve.TheVariants.{Absent, Price}
+use Rattle.tender.specs.Types.{Reserve}
 use Rattle.tender.specs.declared.Tender.{Tender}
 use Rattle.tender.specs.Limits.{as_window}
 use Rattle.tender.specs.Tables.{Row, rows_of, windows_of, own, flat_rows, flat_windows, bid_width, window_width}
@@ -62,11 +62,13 @@ unfolding offered
 offer_prices windows [] = refl
 offer_prices windows (r ∷ rs) = ap (λ ps. r.price ∷ ps) (offer_prices windows rs)
 
-price_at_lem : (n i : ℕ) (bids : List ℕ) → i < n → get_or (map (λ r. r.price) (rows_of n bids)) i 0 ≡ get_or bids (bid_width * i + 1) 0
+price_at_lem : (n i : ℕ) (bids : List ℕ) → i < n
+    → get_or (map (λ r. r.price) (rows_of n bids)) i 0 ≡ get_or bids (bid_width * i + 1) 0
 unfolding rows_of
 price_at_lem zero i bids l = absurd (omega arith)
 price_at_lem (suc n) zero bids l = refl
-price_at_lem (suc n) (suc i) bids l = price_at_lem n i (drop bid_width bids) (omega arith) ∙ get_or-drop bid_width bids (bid_width * i + 1) 0
+price_at_lem (suc n) (suc i) bids l = price_at_lem n i (drop bid_width bids) (omega arith)
+    ∙ get_or-drop bid_width bids (bid_width * i + 1) 0
     ∙ ap (λ (j : ℕ). get_or bids j 0) (index i)
   where
     index : (i : ℕ) → bid_width + (bid_width * i + 1) ≡ bid_width * suc i + 1
@@ -74,8 +76,8 @@ price_at_lem (suc n) (suc i) bids l = price_at_lem n i (drop bid_width bids) (om
 
 house_count : (t : Tender) (r : Reserve) → length (house_of t r) ≡ houses r
 unfolding house_of
-house_count t Absent = refl
-house_count t (Price p) = refl
+house_count t None = refl
+house_count t (Some p) = refl
 
 -- the windows of the house
 abbrev house_windows : Tender → List (List Window)
@@ -120,7 +122,7 @@ module _ (t : Tender) (n : ℕ) (bids windows : List ℕ) where
       ∙ price_at_lem n i bids l
 
   -- the house's price is the reserve
-  pub house_price : (p : ℕ) → t.reserve ≡ Price p → get_or (auction_of t n bids windows).prices n 0 ≡ p
+  pub house_price : (p : ℕ) → t.reserve ≡ Some p → get_or (auction_of t n bids windows).prices n 0 ≡ p
   unfolding house_of
   house_price p e = ap (λ ps. get_or ps n 0) (prices_by
       ∙ ap (λ r. map (λ r. r.price) (rows_of n bids) ++ map (λ o. o.price) (house_of t r)) e)
@@ -147,7 +149,7 @@ module _ (t : Tender) (n : ℕ) (bids windows : List ℕ) where
   has_row i x l = has_cell i x l ∙ ap (λ r. ltb x (cells_of t) && holds (own windows r) (minute_of t x)) (row_named n i bids l)
 
   -- the house has every cell
-  pub house_has : (p x : ℕ) → t.reserve ≡ Price p → (auction_of t n bids windows).has n x ≡ ltb x (cells_of t)
+  pub house_has : (p x : ℕ) → t.reserve ≡ Some p → (auction_of t n bids windows).has n x ≡ ltb x (cells_of t)
   unfolding house_of cells_of minute_of holds
   house_has p x e = has_by n x
       ∙ ap (λ ws. ltb x (cells_of t) && holds ws (minute_of t x))
@@ -178,29 +180,29 @@ module _ (t : Tender) (n : ℕ) (bids windows : List ℕ) where
       ∙ and-false (ltb x (cells_of t))
 
   -- without a reserve the entries are the bids, and each thin cell is told
-  pub without_reserve : t.reserve ≡ Absent → reserved (auction_of t n bids windows) ≡ false
+  pub without_reserve : t.reserve ≡ None → reserved (auction_of t n bids windows) ≡ false
   unfolding reserved
   without_reserve e = le-ltb (auction_of t n bids windows).owners (length (auction_of t n bids windows).prices)
       (omega (arith, entries, owners_are, ap houses e))
 
-  pub with_reserve : (p : ℕ) → t.reserve ≡ Price p → reserved (auction_of t n bids windows) ≡ true
+  pub with_reserve : (p : ℕ) → t.reserve ≡ Some p → reserved (auction_of t n bids windows) ≡ true
   unfolding reserved
   with_reserve p e = lt-ltb (auction_of t n bids windows).owners (length (auction_of t n bids windows).prices)
       (omega (arith, entries, owners_are, ap houses e))
 
-  pub thin_told : t.reserve ≡ Absent → (m : ℕ) → thin_cell (auction_of t n bids windows) m
+  pub thin_told : t.reserve ≡ None → (m : ℕ) → thin_cell (auction_of t n bids windows) m
       ≡ cell_with (auction_of t n bids windows).has n (cells_of t) m
   unfolding thin_cell
   thin_told e m = ap (λ b. cond b nothing (cell_with (auction_of t n bids windows).has (auction_of t n bids windows).owners
       (auction_of t n bids windows).cells m)) (without_reserve e) ∙ rw (owners_are, cells_are) refl
 
-  pub none_thin : (p : ℕ) → t.reserve ≡ Price p → (m : ℕ) → thin_cell (auction_of t n bids windows) m ≡ nothing
+  pub none_thin : (p : ℕ) → t.reserve ≡ Some p → (m : ℕ) → thin_cell (auction_of t n bids windows) m ≡ nothing
   unfolding thin_cell
   none_thin p e m = ap (λ b. cond b nothing (cell_with (auction_of t n bids windows).has (auction_of t n bids windows).owners
       (auction_of t n bids windows).cells m)) (with_reserve p e)
 
   -- the house has every cell
-  house_whole : (p : ℕ) → t.reserve ≡ Price p → (x : ℕ) → x < (auction_of t n bids windows).cells
+  house_whole : (p : ℕ) → t.reserve ≡ Some p → (x : ℕ) → x < (auction_of t n bids windows).cells
       → (auction_of t n bids windows).has n x ≡ true
   house_whole p e x l = house_has p x e ∙ lt-ltb x (cells_of t) (omega (arith, cells_are))
 
@@ -209,11 +211,11 @@ module _ (t : Tender) (n : ℕ) (bids windows : List ℕ) where
     abbrev A : Auction
     A = auction_of t n bids windows
 
-    spare_but : (r : Reserve) → t.reserve ≡ r → (i : ℕ) → (i ≡ n → t.reserve ≡ Absent)
+    spare_but : (r : Reserve) → t.reserve ≡ r → (i : ℕ) → (i ≡ n → t.reserve ≡ None)
         → Spare A.has (length A.prices) A.cells i
-    spare_but Absent u i z = let c : length A.prices ≡ n = omega (arith, entries, ap houses u) in rw c
+    spare_but None u i z = let c : length A.prices ≡ n = omega (arith, entries, ap houses u) in rw c
         (enough_spare A.has n A.cells (rw cells_are (sym (thin_told u 0) ∙ d)) (rw cells_are (sym (thin_told u 1) ∙ e)) i)
-    spare_but (Price p) u i z = whole_spare A.has (length A.prices) A.cells n (omega (arith, entries, ap houses u))
+    spare_but (Some p) u i z = whole_spare A.has (length A.prices) A.cells n (omega (arith, entries, ap houses u))
         (house_whole p u) i (λ q. let y : ◌≡◌ {A = ℕ} 0 1 = ap houses (sym (z (sym q)) ∙ u) in omega arith)
 
     pub owner_spared : (i : ℕ) → i < n → Spare A.has (length A.prices) A.cells i
@@ -222,14 +224,14 @@ module _ (t : Tender) (n : ℕ) (bids windows : List ℕ) where
     pub all_have : Spare A.has (length A.prices) A.cells (length A.prices)
     all_have = spare_but t.reserve refl (length A.prices) (λ z. absent t.reserve (omega (arith, entries)))
       where
-        absent : (r : Reserve) → houses r ≡ 0 → r ≡ Absent
-        absent Absent q = refl
-        absent (Price p) q = absurd (omega arith)
+        absent : (r : Reserve) → houses r ≡ 0 → r ≡ None
+        absent None q = refl
+        absent (Some p) q = absurd (omega arith)
 
 -- what stands at place i of the entries
 pub data EntryAt (t : Tender) (n i : ℕ) : Type 0 where
   owner : i < n → EntryAt t n i
-  house : (p : ℕ) → t.reserve ≡ Price p → i ≡ n → EntryAt t n i
+  house : (p : ℕ) → t.reserve ≡ Some p → i ≡ n → EntryAt t n i
   past : n + houses t.reserve ≤ i → EntryAt t n i
 
 pub entry_at : (t : Tender) (n i : ℕ) → EntryAt t n i
@@ -237,9 +239,9 @@ entry_at t n i = go (ltb i n) refl t.reserve refl (eqb i n) refl
   where
     go : (b : Bool) → ltb i n ≡ b → (r : Reserve) → t.reserve ≡ r → (c : Bool) → eqb i n ≡ c → EntryAt t n i
     go true u r q c v = owner (ltb-true i n u)
-    go false u Absent q c v = past (omega (arith, ltb-false i n u, ap houses q))
-    go false u (Price p) q true v = house p q (eqb-true i n v)
-    go false u (Price p) q false v = past (omega (arith, ltb-false i n u, eqb-false i n v, ap houses q))
+    go false u None q c v = past (omega (arith, ltb-false i n u, ap houses q))
+    go false u (Some p) q true v = house p q (eqb-true i n v)
+    go false u (Some p) q false v = past (omega (arith, ltb-false i n u, eqb-false i n v, ap houses q))
 
 -- an entry's own price changes nothing
 pub at_own_price : (i : ℕ) (A : Auction) → at_price i (get_or A.prices i 0) A ≡ A
@@ -262,7 +264,8 @@ module _ (t : Tender) (n i : ℕ) (bids windows bids' windows' : List ℕ) (l : 
   unfolding offered
   prices_at j m = price_at_lem n j bids' m ∙ go (eqb j i) refl
     where
-      go : (b : Bool) → eqb j i ≡ b → get_or bids' (bid_width * j + 1) 0 ≡ get_or (set (map (λ r. r.price) (rows_of n bids)) i q) j 0
+      go : (b : Bool) → eqb j i ≡ b
+          → get_or bids' (bid_width * j + 1) 0 ≡ get_or (set (map (λ r. r.price) (rows_of n bids)) i q) j 0
       go true e = rw (eqb-true j i e)
           (sym (get_or-set_same (map (λ r. r.price) (rows_of n bids)) i q 0 (omega (arith, price_count t n bids windows))))
       go false e = ap (λ (o : Offer). o.price) (w.others j m (eqb-false j i e)) ∙ sym (price_at_lem n j bids m)

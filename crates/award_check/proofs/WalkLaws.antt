@@ -1,5 +1,6 @@
 -- Laws of the loops over the rows of the two tables. Assumes nothing.
-use Rattle.std.specs.Prelude.{◌≡◌, refl, List, [], ◌∷◌, ◌++◌, Bool, true, false, cond, not, ◌&&◌, ◌||◌, length, get_or, drop, replicate, leb, ltb, eqb}
+use Rattle.std.specs.Prelude.{◌≡◌, refl, List, [], ◌∷◌, ◌++◌, Bool, true, false, cond, not, ◌&&◌, ◌||◌, length}
+use Rattle.std.specs.Prelude.{get_or, drop, replicate, leb, ltb, eqb}
 use Rattle.std.proofs.Math.Path.{sym, ap}
 use Rattle.std.proofs.Common.{◌∙◌}
 use Rattle.std.proofs.Math.Bool.{and-false, or-true, or-false, or_assoc}
@@ -53,7 +54,8 @@ ahead_start windows first count =
 module _ (windows : List ℕ) (first count j : ℕ) (r : Bool) (l : j < count)
     (is : r ≡ (ltb (window_at windows (first + j)).start (window_at windows (first + j)).end
     && leb (window_at windows (first + j)).end 10080)) where
-  pub ahead_goes : (X : Bool) → not r ≡ false → rows_ahead windows first count j ≡ X → rows_ahead windows first count (j + 1) ≡ X
+  pub ahead_goes : (X : Bool) → not r ≡ false → rows_ahead windows first count j ≡ X
+      → rows_ahead windows first count (j + 1) ≡ X
   ahead_goes X t e = sym (ahead_more windows first count j l
       ∙ ap (λ b. b && rows_ahead windows first count (j + 1)) (sym is ∙ not-false r t))
       ∙ e

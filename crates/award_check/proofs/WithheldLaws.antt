@@ -1,6 +1,7 @@
 -- The tables of two accepted texts that differ in one bid's price and windows: where the second windows hold part of the minutes, that
 -- bid alone offers another price and part of its minutes, wherever its windows stand. Assumes nothing.
-use Rattle.std.specs.Prelude.{◌≡◌, refl, List, [], ◌∷◌, ◌++◌, map, ℕ, zero, suc, ◌+◌, ◌*◌, ◌<◌, length, get_or, drop}
+use Rattle.std.specs.Prelude.{◌≡◌, refl, List, [], ◌∷◌, ◌++◌, map, ℕ, zero, suc, ◌+◌, ◌*◌, ◌<◌, length}
+use Rattle.std.specs.Prelude.{get_or, drop}
 use Rattle.std.proofs.Math.Path.{sym, ap}
 use Rattle.std.proofs.Common.{◌∙◌, append_assoc, append-nil, arith, length-append}
 use Rattle.std.proofs.Math.Option.{some}
@@ -109,7 +110,8 @@ on_line R W v w xs b ys rows windows = record {
   count = count;
   bidder = row.bidder;
   price = ap (λ (r : Row). r.price) (row_flat R v (length xs) (omega (arith, count))) ∙ row.price;
-  offers = λ j l. offer_flat R v (flat_windows W ++ w) j l ∙ ap (λ os. get_or os j no_offer) (all ∙ map_append offer_of xs (b ∷ ys));
+  offers = λ j l. offer_flat R v (flat_windows W ++ w) j l
+      ∙ ap (λ os. get_or os j no_offer) (all ∙ map_append offer_of xs (b ∷ ys));
 }
   where
     all : map (offered (flat_windows W ++ w)) R ≡ map offer_of (xs ++ b ∷ ys)

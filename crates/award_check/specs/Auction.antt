@@ -1,9 +1,8 @@
 -- The auction of a tender: its cells, and what each entry offers, in entry order (paper 01, "Time, price and place"), the house after
 -- all others (paper 02, request 5).
-use Rattle.std.specs.Prelude.{List, [], ◌∷◌, ◌++◌, map, Bool, cond, ◌&&◌, ℕ, length, get_or, set, ltb}
+use Rattle.std.specs.Prelude.{List, [], ◌∷◌, ◌++◌, map, Bool, cond, ◌&&◌, ℕ, length, get_or, set, ltb, Some, None}
 use Rattle.tender.specs.declared.Window.{Window}
-use Rattle.tender.specs.declared.Reserve.{Reserve}
-use Rattle.tender.specs.declared.Reserve.TheVariants.{Absent, Price}
+use Rattle.tender.specs.Types.{Reserve}
 use Rattle.tender.specs.declared.Tender.{Tender}
 use Rattle.tender.specs.Limits.{as_window}
 use Rattle.tender.specs.Tables.{Row, rows_of, own}
@@ -26,13 +25,13 @@ offered windows r = record { price = r.price; windows = own windows r }
 
 -- how many entries a reserve adds
 abbrev pub houses : Reserve → ℕ
-houses Absent = 0
-houses (Price p) = 1
+houses None = 0
+houses (Some p) = 1
 
 -- the house covers the whole tender for its price
 unfoldable pub house_of : Tender → Reserve → List Offer
-house_of t Absent = []
-house_of t (Price p) = record { price = p; windows = as_window t.window ∷ [] } ∷ []
+house_of t None = []
+house_of t (Some p) = record { price = p; windows = as_window t.window ∷ [] } ∷ []
 
 -- the n bids of the tables, in entry order, and after all others the house
 unfoldable pub offers_of : Tender → ℕ → List ℕ → List ℕ → List Offer

@@ -1,5 +1,6 @@
 -- The faults of the tables lent to an award (paper 01, refusal 9).
-use Rattle.std.specs.Prelude.{◌≡◌, List, [], ◌∷◌, ◌++◌, Bool, true, cond, not, ◌&&◌, ℕ, ◌+◌, ◌/◌, length, leb, eqb}
+use Rattle.std.specs.Prelude.{◌≡◌, List, [], ◌∷◌, ◌++◌, Bool, true, cond, not, ◌&&◌, ℕ, ◌+◌, ◌/◌, length, leb}
+use Rattle.std.specs.Prelude.{eqb}
 use Rattle.std.proofs.Math.Option.{Option, none, some}
 use Rattle.tender.specs.declared.Kind.{Kind}
 use Rattle.tender.specs.declared.Kind.TheVariants.{Single, Multi}

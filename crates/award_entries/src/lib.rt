@@ -1,4 +1,5 @@
 // A faultless tender of either kind, awarded over lists of its own: 11, 12, or a flag and the cents paid for each entry, and the totals.
+// The kinds differ in the lists that are lent and in the core that is called, so that one function for both would be no plainer.
 #![tactic(auto)]
 
 ghost use Rattle.std.specs.Prelude.{◌≡◌, ◌+◌, ◌*◌, ◌/◌, ◌≤◌, length};
@@ -11,8 +12,7 @@ ghost use Rattle.award_check.specs.Auction.{houses};
 ghost use Rattle.award_rule.specs.Award.{award_of};
 ghost use Rattle.award_rule.specs.Plain.{told_in};
 
-use award_thin::Thin;
-use tender::{Answer, Refusal, Tender};
+use tender::{Refusal, Tender, Totals};
 
 // A faultless multi tender: flags and cents of all entries. Room for prices and words of as many entries is lent.
 fn multi_in(
@@ -25,7 +25,7 @@ fn multi_in(
     masks: &mut [u64],
     flags: &mut [u64],
     pays: &mut [u64],
-) -> Answer
+) -> Result<Totals, Refusal>
     requires { (fault_of Multi tender count bids.now windows.now ≡ none)
         × ((w ≡ (cells_of tender + 63) / 64) × ((length prices.old ≡ count + houses tender.reserve)
         × ((length masks.old ≡ w * (count + houses tender.reserve))
@@ -33,22 +33,12 @@ fn multi_in(
     ensures { told_in count flags.new pays.new result
         ≡ award_of Multi tender count bids.now windows.now count }
 {
-    let thin = award_laid::lay_masks(tender, w, count, bids, windows, prices, masks);
-    match thin {
-        // 11: a minute in no bid.
-        Thin::Nobody { cell } => Answer::Refused(Refusal::MinuteUncovered {
-            minute: award_layout::minute(tender, cell),
-        }),
-        // 12: a minute in one bid.
-        Thin::Alone { cell } => Answer::Refused(Refusal::OneBidder {
-            minute: award_layout::minute(tender, cell),
-        }),
-        Thin::Enough => {
-            let cells = award_layout::cells(tender);
-            multi::award(prices, masks, w, cells as usize, flags, pays);
-            Answer::Awarded(award_plain::totals(prices, flags, pays, count))
-        }
+    if let Err(thin) = award_laid::lay_masks(tender, w, count, bids, windows, prices, masks) {
+        return Err(award_laid::refusal(tender, thin));
     }
+    let cells = award_layout::cells(tender);
+    multi::award(prices, masks, w, cells as usize, flags, pays);
+    Ok(award_plain::totals(prices, flags, pays, count))
 }
 
 // A faultless multi tender.
@@ -59,7 +49,7 @@ pub fn settle_multi(
     windows: &[u64],
     flags: &mut [u64],
     pays: &mut [u64],
-) -> Answer
+) -> Result<Totals, Refusal>
     requires { (fault_of Multi tender count bids.now windows.now ≡ none)
         × ((length flags.old ≡ max_entries) × (length pays.old ≡ max_entries)) }
     ensures { told_in count flags.new pays.new result
@@ -96,7 +86,7 @@ fn single_in(
     order: &mut [usize],
     flags: &mut [u64],
     pays: &mut [u64],
-) -> Answer
+) -> Result<Totals, Refusal>
     requires { (fault_of Single tender count bids.now windows.now ≡ none)
         × ((length prices.old ≡ count + houses tender.reserve) × ((length starts.old ≡ count + houses tender.reserve)
         × ((length ends.old ≡ count + houses tender.reserve) × ((length prices.old ≤ length order.old)
@@ -104,22 +94,14 @@ fn single_in(
     ensures { told_in count flags.new pays.new result
         ≡ award_of Single tender count bids.now windows.now count }
 {
-    let thin = award_laid::lay_spans(tender, count, bids, windows, prices, starts, ends, order);
-    match thin {
-        // 11: a minute in no bid.
-        Thin::Nobody { cell } => Answer::Refused(Refusal::MinuteUncovered {
-            minute: award_layout::minute(tender, cell),
-        }),
-        // 12: a minute in one bid.
-        Thin::Alone { cell } => Answer::Refused(Refusal::OneBidder {
-            minute: award_layout::minute(tender, cell),
-        }),
-        Thin::Enough => {
-            let cells = award_layout::cells(tender);
-            single::award(starts, ends, prices, order, cells, flags, pays);
-            Answer::Awarded(award_plain::totals(prices, flags, pays, count))
-        }
+    if let Err(thin) = award_laid::lay_spans(
+        tender, count, bids, windows, prices, starts, ends, order,
+    ) {
+        return Err(award_laid::refusal(tender, thin));
     }
+    let cells = award_layout::cells(tender);
+    single::award(starts, ends, prices, order, cells, flags, pays);
+    Ok(award_plain::totals(prices, flags, pays, count))
 }
 
 // A faultless single tender.
@@ -130,7 +112,7 @@ pub fn settle_single(
     windows: &[u64],
     flags: &mut [u64],
     pays: &mut [u64],
-) -> Answer
+) -> Result<Totals, Refusal>
     requires { (fault_of Single tender count bids.now windows.now ≡ none)
         × ((length flags.old ≡ max_entries) × (length pays.old ≡ max_entries)) }
     ensures { told_in count flags.new pays.new result

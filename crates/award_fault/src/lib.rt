@@ -1,42 +1,31 @@
-// The tables lent to an award, checked: `fault` finds the place of refusal 9. `award_check` Faults has the rules.
+// The tables lent to an award, checked: `fault` finds the place of refusal 9, and `Faultless` has tables that it found none in.
+// `award_check` Faults has the rules.
 #![tactic(auto)]
 
 ghost use Rattle.std.specs.Prelude.{◌≡◌, ◌&&◌, [], ◌+◌, ◌*◌, ◌/◌, ◌≤◌, length, drop, leb, ltb, eqb};
+ghost use Rattle.std.proofs.Math.Option.{none};
 ghost use Rattle.tender.specs.Limits.{most_windows, within, lawful_reserve, sound_tender, lawful, every};
 ghost use Rattle.tender.specs.Tables.{rows_of, windows_of, bid_width, window_width};
-ghost use Rattle.award_check.specs.Faults.{keeps, row_fault, fault_of, kind_number, is_same_kind};
+ghost use Rattle.award_check.specs.Faults.{keeps, row_fault, fault_of};
 ghost use Rattle.award_fault.specs.Checks.{checked_fault};
 
-use tender::{Kind, Reserve, Tender};
+use tender::{Kind, Tender};
 
-// What checking the tables answers.
+// A tender and its tables, which break no rule.
 #[derive(Clone, Copy)]
-pub enum Check {
-    Sound,
-    // The first faulty row, counted from 1; 0 for the tender, the kind or the stated count.
-    Faulty { row: u64 },
+pub struct Faultless<'a> {
+    pub tender: Tender,
+    pub count: usize,
+    pub bids: &'a [u64],
+    pub windows: &'a [u64],
+    ghost faultless: { fault_of tender.kind tender count bids.now windows.now ≡ none },
 }
 
-fn kind_number(kind: Kind) -> u64
-    ensures { result ≡ kind_number kind }
-{
-    match kind {
-        Kind::Single => 0,
-        Kind::Multi => 1,
-    }
-}
-
-fn same_kind(a: Kind, b: Kind) -> bool
-    ensures { result ≡ is_same_kind a b }
-{
-    kind_number(a) == kind_number(b)
-}
-
+#[tactic(auto, unfolding(tender::specs::Limits::most_windows))]
 fn most_windows(tender: Tender) -> u64
     ensures { result ≡ most_windows tender.kind }
 {
-    let kind = tender.kind;
-    match kind {
+    match tender.kind {
         Kind::Single => 1,
         Kind::Multi => 32,
     }
@@ -53,18 +42,17 @@ fn windows_lawful(windows: &[u64], first: usize, count: usize) -> bool
     requires { first + count ≤ length windows.now / window_width }
     ensures { result ≡ every lawful (windows_of count (drop (window_width * first) windows.now)) }
 {
-    let mut j = 0;
-    while j < count {
+    for j in 0..count {
         let s = windows[tender::WINDOW_WIDTH * (first + j)];
         let e = windows[tender::WINDOW_WIDTH * (first + j) + 1];
         if !window_lawful(s, e) {
             return false;
         }
-        j += 1;
     }
     true
 }
 
+#[tactic(auto, unfolding(tender::specs::Limits::within))]
 fn between(a: u64, z: u64, n: u64) -> bool
     ensures { result ≡ within a z n }
 {
@@ -103,19 +91,18 @@ fn row_keeps(
     windows_lawful(windows, at, count as usize)
 }
 
-// The place of the first row that breaks a rule.
-fn row_fault(tender: Tender, count: usize, bids: &[u64], windows: &[u64]) -> Check
+// The place of the first row that breaks a rule, counted from 1, where there is one.
+fn row_fault(tender: Tender, count: usize, bids: &[u64], windows: &[u64]) -> Option<u64>
     requires { count ≤ length bids.now / bid_width }
     ensures { checked_fault result ≡ row_fault tender windows.now 1 [] 0 (rows_of count bids.now) }
 {
     // The bidder numbers of the rows passed.
     let mut used = [1u64; numbers::WORDS];
     let mut at = 0;
-    let mut j = 0;
-    while j < count {
+    for j in 0..count {
         let place = j as u64 + 1;
         if 1000 <= j {
-            return Check::Faulty { row: place };
+            return Some(place);
         }
         let bidder = bids[tender::BID_WIDTH * j];
         let windows_here = bids[tender::BID_WIDTH * j + 3];
@@ -128,49 +115,48 @@ fn row_fault(tender: Tender, count: usize, bids: &[u64], windows: &[u64]) -> Che
             bids[tender::BID_WIDTH * j + 2],
             windows_here,
         ) {
-            return Check::Faulty { row: place };
+            return Some(place);
         }
         if numbers::holds(&used, bidder as usize) {
-            return Check::Faulty { row: place };
+            return Some(place);
         }
         numbers::add(&mut used, bidder as usize);
         at += windows_here as usize;
-        j += 1;
     }
-    Check::Sound
+    None
 }
 
-fn reserve_lawful(reserve: Reserve) -> bool
+#[tactic(auto, unfolding(tender::specs::Limits::lawful_reserve))]
+fn reserve_lawful(reserve: Option<u64>) -> bool
     ensures { result ≡ lawful_reserve reserve }
 {
     match reserve {
-        Reserve::Absent => true,
-        Reserve::Price(p) => p <= tender::MAX_PRICE,
+        None => true,
+        Some(p) => p <= tender::MAX_PRICE,
     }
 }
 
 // Whether the tender's own window and its reserve are lawful.
+#[tactic(auto, unfolding(tender::specs::Limits::sound_tender, tender::specs::Limits::lawful))]
 fn tender_sound(tender: Tender) -> bool
     ensures { result ≡ sound_tender tender }
 {
-    let window = tender.window;
-    let reserve = tender.reserve;
-    window_lawful(window.start, window.end) && reserve_lawful(reserve)
+    window_lawful(tender.window.start, tender.window.end) && reserve_lawful(tender.reserve)
 }
 
-// The place of refusal 9 by the award of this kind, where `count` bids are stated.
-pub fn fault(kind: Kind, tender: Tender, count: usize, bids: &[u64], windows: &[u64]) -> Check
+// The place of refusal 9 by the award of this kind, where `count` bids are stated: the first faulty row, counted from 1; 0 for the tender,
+// the kind or the stated count.
+pub fn fault(kind: Kind, tender: Tender, count: usize, bids: &[u64], windows: &[u64]) -> Option<u64>
     ensures { checked_fault result ≡ fault_of kind tender count bids.now windows.now }
 {
-    let own_kind = tender.kind;
-    if !same_kind(kind, own_kind) {
-        return Check::Faulty { row: 0 };
+    if kind != tender.kind {
+        return Some(0);
     }
     if !tender_sound(tender) {
-        return Check::Faulty { row: 0 };
+        return Some(0);
     }
     if bids.len() / tender::BID_WIDTH < count {
-        return Check::Faulty { row: 0 };
+        return Some(0);
     }
     row_fault(tender, count, bids, windows)
 }

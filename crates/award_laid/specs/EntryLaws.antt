@@ -1,20 +1,19 @@
 -- The entries of a faultless tender: no more than an award can weigh, their prices within the limit, their words with room; laid out, they
 -- are a market. Assumes nothing.
-use Rattle.std.specs.Prelude.{◌≡◌, List, ℕ, ◌+◌, ◌*◌, ◌/◌, ◌≤◌, length, get_or, take, replicate}
+use Rattle.std.specs.Prelude.{◌≡◌, List, ℕ, ◌+◌, ◌*◌, ◌/◌, ◌≤◌, length, get_or, take, replicate, Some, None}
 use Rattle.std.proofs.Common.{sym, ap, ◌∙◌, arith, length-take-le, leb-true, mul-le-mul}
 use Rattle.std.proofs.Math.Option.{none}
 use Rattle.std.proofs.lemmas.List.{length-replicate}
 use Rattle.std.proofs.Math.ListN.{get_or-eq_default}
 use Rattle.tender.specs.declared.Kind.{Kind}
 use Rattle.tender.specs.declared.Kind.TheVariants.{Single, Multi}
-use Rattle.tender.specs.declared.Reserve.{Reserve}
-use Rattle.tender.specs.declared.Reserve.TheVariants.{Absent, Price}
+use Rattle.tender.specs.Types.{Reserve}
 use Rattle.tender.specs.declared.Tender.{Tender}
 use Rattle.tender.specs.Limits.{max_entries}
 use Rattle.tender.specs.Tables.{bid_width}
 use Rattle.multi_market.specs.Market.{Priced}
 use Rattle.multi_market.specs.Market.{Market}
-use Rattle.award_thin.specs.declared.Thin.{Thin}
+use Rattle.award_thin.specs.Thin.{Asked}
 use Rattle.award_check.specs.Faults.{fault_of}
 use Rattle.award_check.specs.Cells.{cells_of}
 use Rattle.award_check.specs.Auction.{houses, auction_of}
@@ -25,8 +24,8 @@ use Rattle.award_laid.specs.Lay.{LaidSpans, LaidMasks}
 use Rattle.award_laid.specs.LayLaws.{Words, words_of}
 
 one_house : (r : Reserve) → houses r ≤ 1
-one_house Absent = omega arith
-one_house (Price p) = omega arith
+one_house None = omega arith
+one_house (Some p) = omega arith
 
 -- a faultless tender has no more entries than an award can weigh
 pub entries_few : (k : Kind) (t : Tender) (n : ℕ) (bids windows : List ℕ) → fault_of k t n bids windows ≡ none
@@ -63,13 +62,13 @@ prices_lawful k t n bids windows f =
     )
 
 -- of a single tender laid out
-pub laid_prices : (t : Tender) (n : ℕ) (bids windows ps starts ends order : List ℕ) (thin : Thin)
+pub laid_prices : (t : Tender) (n : ℕ) (bids windows ps starts ends order : List ℕ) (thin : Asked)
     → fault_of Single t n bids windows ≡ none
     → LaidSpans t n bids windows ps starts ends order thin → Priced ps
 laid_prices t n bids windows ps starts ends order thin f l = rw l.prices_are (prices_lawful Single t n bids windows f)
 
 -- of a multi tender laid out
-pub market : (t : Tender) (n w : ℕ) (bids windows ps ms : List ℕ) (thin : Thin) → fault_of Multi t n bids windows ≡ none
+pub market : (t : Tender) (n w : ℕ) (bids windows ps ms : List ℕ) (thin : Asked) → fault_of Multi t n bids windows ≡ none
     → LaidMasks t n w bids windows ps ms thin → Words t w → length ms ≡ w * (n + houses t.reserve) → Market ps ms w
 market t n w bids windows ps ms thin f l d size = record {
   priced = rw l.prices_are (prices_lawful Multi t n bids windows f);

@@ -1,13 +1,16 @@
 -- Prices, starts and ends, or words laid out of faultless tables are those of the auction. Assumes nothing.
-use Rattle.std.specs.Prelude.{◌≡◌, refl, List, ◌++◌, Bool, true, false, ℕ, ◌+◌, ◌-◌, ◌*◌, ◌/◌, ◌≤◌, ◌<◌, length, get_or, set, take, drop, ltb, eqb}
-use Rattle.std.proofs.Common.{sym, ap, ◌∙◌, append-nil, mul-le-mul_left, mul-add, mul-one, arith, take-append-drop, drop_of_length-le, length-append, length-drop, length-set, get_or-set_same, get_or-set_other, length-take-le, take_all, drop_at, ltb-true, ltb-false}
+use Rattle.std.specs.Prelude.{◌≡◌, refl, List, ◌++◌, Bool, true, false, ℕ, ◌+◌, ◌-◌, ◌*◌, ◌/◌, ◌≤◌}
+use Rattle.std.specs.Prelude.{◌<◌, length, get_or, set, take, drop, ltb, eqb}
+use Rattle.std.specs.Prelude.{Some, None, Ok, Err}
+use Rattle.std.proofs.Common.{sym, ap, ◌∙◌, append-nil, mul-le-mul_left, mul-add, mul-one, arith, take-append-drop, drop_of_length-le}
+use Rattle.std.proofs.Common.{length-append, length-drop, length-set, get_or-set_same, get_or-set_other, length-take-le, take_all, drop_at}
+use Rattle.std.proofs.Common.{ltb-true, ltb-false}
 use Rattle.std.proofs.Math.Option.{none}
 use Rattle.std.proofs.Math.ListN.{get_or-append}
 use Rattle.std.proofs.lemmas.List.{take-append-le, drop-append-le}
 use borrow.Rule.Slice.PartMut.{mid_of, put_mid}
 use Rattle.tender.specs.declared.Kind.{Kind}
 use Rattle.tender.specs.declared.Kind.TheVariants.{Single}
-use Rattle.tender.specs.declared.Reserve.TheVariants.{Absent, Price}
 use Rattle.tender.specs.declared.Tender.{Tender}
 use Rattle.tender.specs.Limits.{max_entries}
 use Rattle.cells.specs.Cells.{cell}
@@ -15,9 +18,8 @@ use Rattle.cover.specs.Settled.{spans}
 use Rattle.cover.specs.Intervals.{Order}
 use Rattle.multi_market.specs.Market.{word_row, has, First}
 use Rattle.multi_market.proofs.WordRowLaws.{row_within}
-use Rattle.award_thin.specs.declared.Thin.{Thin}
-use Rattle.award_thin.specs.declared.Thin.TheVariants.{Nobody, Alone, Enough}
-use Rattle.award_thin.specs.Thin.{Says, Spans}
+use Rattle.award_thin.specs.declared.Thin.TheVariants.{Nobody, Alone}
+use Rattle.award_thin.specs.Thin.{Asked, Says, Spans}
 use Rattle.award_check.specs.Faults.{fault_of}
 use Rattle.award_check.specs.Cells.{cells_of, bid_row_at}
 use Rattle.award_check.specs.Auction.{houses, auction_of}
@@ -42,13 +44,13 @@ words_of k t n w bids windows f e = record {
 
 -- without a reserve what is found of the bids' cells is told, with one nothing is
 module _ (t : Tender) (n : ℕ) (bids windows : List ℕ) where
-  tells : t.reserve ≡ Absent → (thin : Thin) → Says (auction_of t n bids windows).has n (cells_of t) thin
+  tells : t.reserve ≡ None → (thin : Asked) → Says (auction_of t n bids windows).has n (cells_of t) thin
       → Tells (auction_of t n bids windows) thin
-  tells e (Nobody x) s = thin_told t n bids windows e 0 ∙ s
-  tells e (Alone x) s = (thin_told t n bids windows e 0 ∙ s.0, thin_told t n bids windows e 1 ∙ s.1)
-  tells e Enough s = (thin_told t n bids windows e 0 ∙ s.0, thin_told t n bids windows e 1 ∙ s.1)
+  tells e (Err (Nobody x)) s = thin_told t n bids windows e 0 ∙ s
+  tells e (Err (Alone x)) s = (thin_told t n bids windows e 0 ∙ s.0, thin_told t n bids windows e 1 ∙ s.1)
+  tells e (Ok u) s = (thin_told t n bids windows e 0 ∙ s.0, thin_told t n bids windows e 1 ∙ s.1)
 
-  tells_none : (p : ℕ) → t.reserve ≡ Price p → Tells (auction_of t n bids windows) Enough
+  tells_none : (p : ℕ) → t.reserve ≡ Some p → Tells (auction_of t n bids windows) (Ok tt)
   tells_none p e = (none_thin t n bids windows p e 0, none_thin t n bids windows p e 1)
 
 -- a price put past the first n
@@ -57,15 +59,15 @@ after n v xs i l = get_or-set_other xs n i v 0 (λ z. omega arith)
 
 module _ (t : Tender) (n : ℕ) (bids windows ps : List ℕ) (a : length ps ≡ n + houses t.reserve)
     (p : (i : ℕ) → i < n → get_or ps i 0 ≡ (bid_row_at bids i).price) where
-  prices_owners : t.reserve ≡ Absent → ps ≡ (auction_of t n bids windows).prices
+  prices_owners : t.reserve ≡ None → ps ≡ (auction_of t n bids windows).prices
   prices_owners e = prices_laid t n bids windows ps a p
       (λ q f. let z : ◌≡◌ {A = ℕ} 0 1 = ap houses (sym e ∙ f) in absurd (omega arith))
 
-  prices_house : (q : ℕ) → t.reserve ≡ Price q → set ps n q ≡ (auction_of t n bids windows).prices
+  prices_house : (q : ℕ) → t.reserve ≡ Some q → set ps n q ≡ (auction_of t n bids windows).prices
   prices_house q e = prices_laid t n bids windows (set ps n q) (length-set ps n q ∙ a) (λ i l. after n q ps i l ∙ p i l)
       (λ r f. get_or-set_same ps n q 0 (omega (arith, a, ap houses e)) ∙ price (sym e ∙ f))
     where
-      price : {q r : ℕ} → Price q ≡ Price r → q ≡ r
+      price : {q r : ℕ} → Some q ≡ Some r → q ≡ r
       price e = cc
 
 -- lists whose first n places are written
@@ -111,8 +113,8 @@ module _ (t : Tender) (n : ℕ) (bids windows ps starts ends : List ℕ) (r : Sp
   kind_is : t.kind ≡ Single
   kind_is = own_kind Single t n bids windows r.sound
 
-  module _ (e : t.reserve ≡ Absent) where
-    no_house : (q : ℕ) → t.reserve ≡ Price q → (get_or starts n 0 ≡ 0) × (get_or ends n 0 ≡ cells_of t)
+  module _ (e : t.reserve ≡ None) where
+    no_house : (q : ℕ) → t.reserve ≡ Some q → (get_or starts n 0 ≡ 0) × (get_or ends n 0 ≡ cells_of t)
     no_house q g = let z : ◌≡◌ {A = ℕ} 0 1 = ap houses (sym e ∙ g) in absurd (omega arith)
 
     pub spans_owners : Spans starts ends (cells_of t)
@@ -123,7 +125,7 @@ module _ (t : Tender) (n : ℕ) (bids windows ps starts ends : List ℕ) (r : Sp
       inside = spans_inside t n bids windows starts ends o kind_is r.start_count r.end_count r.laid no_house;
     }
 
-    pub lays_owners : (order : List ℕ) (thin : Thin) → Says (spans starts ends) (length starts) (cells_of t) thin
+    pub lays_owners : (order : List ℕ) (thin : Asked) → Says (spans starts ends) (length starts) (cells_of t) thin
         → Order (length starts) (λ i. get_or starts i 0) (λ q. get_or order q 0)
         → LaidSpans t n bids windows ps starts ends order thin
     lays_owners order thin s sorted =
@@ -139,7 +141,7 @@ module _ (t : Tender) (n : ℕ) (bids windows ps starts ends : List ℕ) (r : Sp
         }
 
   -- the house after the bids
-  module _ (q : ℕ) (e : t.reserve ≡ Price q) where
+  module _ (q : ℕ) (e : t.reserve ≡ Some q) where
     pub house_count : length (set starts n 0) ≡ n + houses t.reserve
     house_count = length-set starts n 0 ∙ r.start_count
 
@@ -152,7 +154,7 @@ module _ (t : Tender) (n : ℕ) (bids windows ps starts ends : List ℕ) (r : Sp
       ends_are = λ i m. after n (cells_of t) ends i m ∙ r.laid.ends_are i m;
     }
 
-    house_has : (p : ℕ) → t.reserve ≡ Price p → (get_or (set starts n 0) n 0 ≡ 0)
+    house_has : (p : ℕ) → t.reserve ≡ Some p → (get_or (set starts n 0) n 0 ≡ 0)
         × (get_or (set ends n (cells_of t)) n 0 ≡ cells_of t)
     house_has p g = (
       get_or-set_same starts n 0 0 (omega (arith, r.start_count, ap houses e)),
@@ -174,7 +176,7 @@ module _ (t : Tender) (n : ℕ) (bids windows ps starts ends : List ℕ) (r : Sp
     house_few = omega (arith, house_count, o.few, ap houses e)
 
     pub lays_house : (order : List ℕ) → Order (length (set starts n 0)) (λ i. get_or (set starts n 0) i 0) (λ q. get_or order q 0)
-        → LaidSpans t n bids windows (set ps n q) (set starts n 0) (set ends n (cells_of t)) order Enough
+        → LaidSpans t n bids windows (set ps n q) (set starts n 0) (set ends n (cells_of t)) order (Ok tt)
     lays_house order sorted = record {
       prices_are = prices_house t n bids windows ps r.price_count r.priced q e;
       has_is = spans_have t n bids windows (set starts n 0) (set ends n (cells_of t)) o kind_is house_count house_ends house_laid house_has;
@@ -231,7 +233,7 @@ masks_ready t n w bids windows ps ms qs xs a b c p m = record {
 }
 
 module _ (t : Tender) (n w : ℕ) (bids windows ps ms : List ℕ) (r : MasksReady t n w bids windows ps ms) where
-  pub masks_owners : t.reserve ≡ Absent → (thin : Thin) → Says (has ms w) n (cells_of t) thin
+  pub masks_owners : t.reserve ≡ None → (thin : Asked) → Says (has ms w) n (cells_of t) thin
       → LaidMasks t n w bids windows ps ms thin
   masks_owners e thin s =
       let h = masks_have t n w bids windows ms r.word_count r.masked
@@ -243,7 +245,7 @@ module _ (t : Tender) (n w : ℕ) (bids windows ps ms : List ℕ) (r : MasksRead
       }
 
   -- what stands after the bids' words is a row
-  pub house_words : (q : ℕ) → t.reserve ≡ Price q → length (mid_of (w * n) (length ms - w * n) ms) ≡ w
+  pub house_words : (q : ℕ) → t.reserve ≡ Some q → length (mid_of (w * n) (length ms - w * n) ms) ≡ w
   house_words q e = length-take-le (length ms - w * n) (drop (w * n) ms) (omega (arith, length-drop (w * n) ms))
       ∙ omega (arith, r.word_count, row_more w n (houses t.reserve) (ap houses e))
 
@@ -267,8 +269,8 @@ module _ (t : Tender) (n w : ℕ) (bids windows ps ms : List ℕ) (r : MasksRead
     };
   }
 
-  pub masks_house : (q : ℕ) → t.reserve ≡ Price q → (row : List ℕ) → length row ≡ w → First (cells_of t) row
-      → LaidMasks t n w bids windows (set ps n q) (put_mid (w * n) (length ms - w * n) ms row) Enough
+  pub masks_house : (q : ℕ) → t.reserve ≡ Some q → (row : List ℕ) → length row ≡ w → First (cells_of t) row
+      → LaidMasks t n w bids windows (set ps n q) (put_mid (w * n) (length ms - w * n) ms row) (Ok tt)
   masks_house q e row d f = record {
     prices_are = prices_house t n bids windows ps r.price_count r.priced q e;
     has_is = ap (λ xs. has xs w) whole ∙ masks_have t n w bids windows (take (w * n) ms ++ row) count

@@ -13,10 +13,10 @@ ghost use Rattle.award_thin.specs.Thin.{Says, Spans};
 ghost use Rattle.award_check.specs.Faults.{fault_of};
 ghost use Rattle.award_check.specs.Cells.{cells_of};
 ghost use Rattle.award_check.specs.Auction.{houses};
-ghost use Rattle.award_laid.specs.Lay.{LaidSpans, LaidMasks};
+ghost use Rattle.award_laid.specs.Lay.{LaidSpans, LaidMasks, named, thin_refusal};
 
 use award_thin::Thin;
-use tender::{Reserve, Tender};
+use tender::{Refusal, Tender};
 
 // The house at this place, with every cell from the first to the last.
 fn put_house(
@@ -38,7 +38,7 @@ fn put_house(
 }
 
 // The bids put in order of start, and whether a cell is thin.
-fn ask(starts: &[u64], ends: &[u64], cells: u64, order: &mut [usize]) -> Thin
+fn ask(starts: &[u64], ends: &[u64], cells: u64, order: &mut [usize]) -> Result<(), Thin>
     requires { Spans starts.now ends.now cells × ((cells ≤ 10080) × (length starts.now ≤ length order.old)) }
     ensures { Says (spans starts.now ends.now) (length starts.now) cells result
         × Order (length starts.now) (λ i. get_or starts.now i 0) (λ q. get_or order.new q 0) }
@@ -58,7 +58,7 @@ pub fn lay_spans(
     starts: &mut [u64],
     ends: &mut [u64],
     order: &mut [usize],
-) -> Thin
+) -> Result<(), Thin>
     requires { (fault_of Single tender count bids.now windows.now ≡ none)
         × ((length prices.old ≡ count + houses tender.reserve) × ((length starts.old ≡ count + houses tender.reserve)
         × ((length ends.old ≡ count + houses tender.reserve) × (count + houses tender.reserve ≤ length order.old)))) }
@@ -66,7 +66,6 @@ pub fn lay_spans(
         starts.new ends.new order.new result }
 {
     let cells = award_layout::cells(tender);
-    let reserve = tender.reserve;
     award_layout::prices(bids, &mut prices[..count]);
     award_layout::spans(
         tender,
@@ -75,12 +74,12 @@ pub fn lay_spans(
         &mut starts[..count],
         &mut ends[..count],
     );
-    match reserve {
-        Reserve::Absent => ask(starts, ends, cells, order),
-        Reserve::Price(price) => {
+    match tender.reserve {
+        None => ask(starts, ends, cells, order),
+        Some(price) => {
             put_house(count, price, cells, prices, starts, ends);
             single_order::by_start(starts, starts.len(), cells, order);
-            Thin::Enough
+            Ok(())
         }
     }
 }
@@ -94,7 +93,7 @@ pub fn lay_masks(
     windows: &[u64],
     prices: &mut [u64],
     masks: &mut [u64],
-) -> Thin
+) -> Result<(), Thin>
     requires { (fault_of Multi tender count bids.now windows.now ≡ none)
         × ((w ≡ (cells_of tender + 63) / 64) × ((length prices.old ≡ count + houses tender.reserve)
         × (length masks.old ≡ w * (count + houses tender.reserve)))) }
@@ -102,16 +101,30 @@ pub fn lay_masks(
         masks.new result }
 {
     let cells = award_layout::cells(tender);
-    let reserve = tender.reserve;
     let own = w * count;
     award_layout::prices(bids, &mut prices[..count]);
     award_layout::masks(tender, w, count, bids, windows, &mut masks[..own]);
-    match reserve {
-        Reserve::Absent => award_thin_masks::thin_masks(masks, w, count, cells as usize),
-        Reserve::Price(price) => {
+    match tender.reserve {
+        None => award_thin_masks::thin_masks(masks, w, count, cells as usize),
+        Some(price) => {
             prices[count] = price;
             multi_market::unlock(&mut masks[own..], cells as usize);
-            Thin::Enough
+            Ok(())
         }
+    }
+}
+
+// Why a tender with a thin cell is refused: 11 for a minute in no bid, 12 for a minute in one bid.
+pub fn refusal(tender: Tender, thin: Thin) -> Refusal
+    requires { named thin < cells_of tender }
+    ensures { result ≡ thin_refusal tender thin }
+{
+    match thin {
+        Thin::Nobody { cell } => Refusal::MinuteUncovered {
+            minute: award_layout::minute(tender, cell),
+        },
+        Thin::Alone { cell } => Refusal::OneBidder {
+            minute: award_layout::minute(tender, cell),
+        },
     }
 }

@@ -2,7 +2,7 @@
 use Rattle.std.proofs.Math.Path.{◌≡◌, refl, sym, ap, subst, fun_ext}
 use Rattle.std.proofs.Common.{◌∙◌, mul-le-mul_left, length-take, length-drop, ext_get_or}
 use mathlib.Core.List.{List, [], ◌∷◌, ◌++◌}
-use Rattle.std.specs.Prelude.{Bool, ◌&&◌, take, drop, eqb}
+use Rattle.std.specs.Prelude.{Bool, ◌&&◌, take, drop, eqb, Some}
 use Rattle.std.proofs.Math.Bool.{true, false, cond, and-false, or-false}
 use Rattle.std.proofs.Math.Option.{none, some}
 use Prim.Native.Nat.{ℕ, zero, suc, ◌+◌, ◌-◌, ◌*◌, ◌/◌, ◌%◌, ◌^◌, ◌≤◌, ◌<◌, min}
@@ -13,7 +13,6 @@ use Rattle.std.proofs.Math.Dec.{leb, ltb}
 use borrow.Author.Tests.{ltb-true, ltb-false, leb-true, leb-false, lt-ltb, le-ltb, le-leb, lt-leb}
 use Rattle.tender.specs.declared.Kind.{Kind}
 use Rattle.tender.specs.declared.Kind.TheVariants.{Single}
-use Rattle.tender.specs.declared.Reserve.TheVariants.{Price}
 use Rattle.tender.specs.declared.Tender.{Tender}
 use Rattle.tender.specs.Limits.{within, most_windows, lawful, sound_tender, every}
 use Rattle.tender.specs.RulesLaws.{sound_rules}
@@ -93,7 +92,7 @@ cells_within k t n bids windows e =
 
 -- and its reserve is within the limit
 pub reserve_within : (k : Kind) (t : Tender) (n : ℕ) (bids windows : List ℕ) → fault_of k t n bids windows ≡ none
-    → (p : ℕ) → t.reserve ≡ Price p → p ≤ 100000000
+    → (p : ℕ) → t.reserve ≡ Some p → p ≤ 100000000
 reserve_within k t n bids windows e =
     let f = faultless k t n bids windows e in
     let a = and_split (is_same_kind k t.kind && sound_tender t) (leb n (length bids / bid_width)) f.tender in
@@ -107,7 +106,8 @@ row_cell t n bids windows i x l = has_cell t n bids windows i x l
 
 -- prices of the bids, and after them the reserve, are those of the auction
 pub prices_laid : (t : Tender) (n : ℕ) (bids windows ps : List ℕ) → length ps ≡ n + houses t.reserve
-    → ((i : ℕ) → i < n → get_or ps i 0 ≡ (bid_row_at bids i).price) → ((p : ℕ) → t.reserve ≡ Price p → get_or ps n 0 ≡ p)
+    → ((i : ℕ) → i < n → get_or ps i 0 ≡ (bid_row_at bids i).price)
+    → ((p : ℕ) → t.reserve ≡ Some p → get_or ps n 0 ≡ p)
     → ps ≡ (auction_of t n bids windows).prices
 prices_laid t n bids windows ps a b h =
     ext_get_or 0 ps (auction_of t n bids windows).prices (a ∙ sym (entries t n bids windows)) (λ i l. go i l (entry_at t n i))
@@ -128,7 +128,7 @@ empty_row ms w n i x e l =
 
 pub masks_have : (t : Tender) (n w : ℕ) (bids windows ms : List ℕ) → length ms ≡ w * (n + houses t.reserve)
     → AllMasked n t w bids windows ms
-    → ((p : ℕ) → t.reserve ≡ Price p → (x : ℕ) → eqb (cell (word_row ms w n) x) 1 ≡ ltb x (cells_of t))
+    → ((p : ℕ) → t.reserve ≡ Some p → (x : ℕ) → eqb (cell (word_row ms w n) x) 1 ≡ ltb x (cells_of t))
     → has ms w ≡ (auction_of t n bids windows).has
 unfolding has
 masks_have t n w bids windows ms e m h = fun_ext (λ i. fun_ext (λ x. go i x (entry_at t n i)))
@@ -182,7 +182,7 @@ clip_inside t s = omega arith
 module _ (t : Tender) (n : ℕ) (bids windows starts ends : List ℕ) (o : Orderly t n bids windows) (s : t.kind ≡ Single)
     (a : length starts ≡ n + houses t.reserve) (b : length ends ≡ n + houses t.reserve)
     (p : SpansLaid n t bids windows starts ends)
-    (h : (q : ℕ) → t.reserve ≡ Price q → (get_or starts n 0 ≡ 0) × (get_or ends n 0 ≡ cells_of t)) where
+    (h : (q : ℕ) → t.reserve ≡ Some q → (get_or starts n 0 ≡ 0) × (get_or ends n 0 ≡ cells_of t)) where
   one_count : (i : ℕ) → i < n → (bid_row_at bids i).count ≡ 1
   unfolding within most_windows
   one_count i l =

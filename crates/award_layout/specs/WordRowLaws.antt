@@ -1,6 +1,8 @@
 -- Rows of words written one after the other into one list. Assumes nothing.
-use Rattle.std.specs.Prelude.{◌≡◌, refl, Bool, true, false, List, ℕ, ◌+◌, ◌-◌, ◌*◌, ◌≤◌, ◌<◌, min, length, get_or, take, drop, ltb}
-use Rattle.std.proofs.Common.{sym, ◌∙◌, arith, length-take, length-drop, ext_get_or, get_or-take, get_or-drop, drop_at, length-take-le, ltb-true, ltb-false}
+use Rattle.std.specs.Prelude.{◌≡◌, refl, Bool, true, false, List, ℕ, ◌+◌, ◌-◌, ◌*◌, ◌≤◌, ◌<◌, min, length}
+use Rattle.std.specs.Prelude.{get_or, take, drop, ltb}
+use Rattle.std.proofs.Common.{sym, ◌∙◌, arith, length-take, length-drop, ext_get_or, get_or-take, get_or-drop, drop_at}
+use Rattle.std.proofs.Common.{length-take-le, ltb-true, ltb-false}
 use Rattle.std.proofs.Math.Path.{ap}
 use Rattle.std.proofs.Math.ListN.{get_or-append}
 use Rattle.std.proofs.Math.Seq.{take_at}
@@ -23,7 +25,8 @@ unfolding word_row
 word_row_same ms ms' w j e h = ext_get_or 0 (take w (drop (w * j) ms)) (take w (drop (w * j) ms'))
     (simp (length-take, length-drop) (ap (λ (m : ℕ). min w (m - w * j)) e))
     (λ q l. let b : q < w = omega (arith, length-take w (drop (w * j) ms)) in
-    get_or-take w (drop (w * j) ms) q 0 b ∙ get_or-drop (w * j) ms q 0 ∙ h (w * j + q) (omega arith) ∙ sym (get_or-drop (w * j) ms' q 0)
+    get_or-take w (drop (w * j) ms) q 0 b ∙ get_or-drop (w * j) ms q 0 ∙ h (w * j + q) (omega arith)
+    ∙ sym (get_or-drop (w * j) ms' q 0)
     ∙ sym (get_or-take w (drop (w * j) ms') q 0 b))
 
 -- rows before i are written

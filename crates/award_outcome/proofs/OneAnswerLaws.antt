@@ -1,13 +1,12 @@
 -- A right outcome is one award or one refusal, in the order of paper 01. Assumes nothing.
 use Rattle.std.proofs.Math.Path.{◌≡◌, refl, ap}
 use Rattle.std.proofs.Common.{sym, ◌∙◌, ltb-true, ltb-false}
-use Rattle.std.specs.Prelude.{List, ◌++◌, Bool, true, false, cond, ℕ, ◌+◌, ◌-◌, ◌≤◌, length, ltb}
+use Rattle.std.specs.Prelude.{List, ◌++◌, Bool, true, false, cond, ℕ, ◌+◌, ◌-◌, ◌≤◌, length, ltb, Some, None}
 use Rattle.std.proofs.Math.Option.{Option, none, some}
 use native.Mathlib.Omega.{arith}
 use Rattle.std.proofs.Math.ListN.{drop}
 use Rattle.tender.specs.declared.Kind.{Kind}
-use Rattle.tender.specs.declared.Reserve.{Reserve}
-use Rattle.tender.specs.declared.Reserve.TheVariants.{Absent, Price}
+use Rattle.tender.specs.Types.{Reserve}
 use Rattle.tender.specs.declared.Tender.{Tender}
 use Rattle.tender.specs.declared.Refusal.{Refusal}
 use Rattle.tender.specs.declared.Refusal.TheVariants.{BadTables, RowsTooFew}
@@ -20,8 +19,9 @@ use Rattle.award_check.specs.Cells.{minute_of}
 use Rattle.award_check.specs.Auction.{houses, Auction, auction_of, thin_cell}
 use Rattle.award_check.proofs.AuctionLaws.{minutes, cells_are, owners_are, thin_told, none_thin}
 use Rattle.tender.specs.declared.AwardRow.{AwardRow}
-use Rattle.tender.specs.declared.Answer.{Answer}
-use Rattle.award_rule.specs.Award.{rule, Outcome, awarded, refused, award_rows, totals_of, uncovered, lone, thinned, settled, outcome_number}
+use Rattle.tender.specs.Types.{Answer}
+use Rattle.award_rule.specs.Award.{rule, Outcome, awarded, refused, award_rows, totals_of, uncovered, lone, thinned, settled}
+use Rattle.award_rule.specs.Award.{outcome_number}
 use Rattle.award_outcome.specs.Promise.{lent_after, told_award, Promise}
 use Rattle.award_outcome.specs.Right.{Callable, Bidders, EarliestIn, IsAward, IsRefusal, OneAnswer, tables_break_a_rule}
 use Rattle.award_outcome.specs.Right.{rows_too_few}
@@ -66,12 +66,12 @@ module _ (k : Kind) (t : Tender) (n : ℕ) (bids windows : List ℕ) (old new : 
     settles x y d e = p.answers ∙ award_settles k t n bids windows (length old) s.sound g x y d e
 
     -- with a reserve no cell is thin
-    reserved_award : (q : ℕ) → t.reserve ≡ Price q → OneAnswer k t n bids windows old new o
+    reserved_award : (q : ℕ) → t.reserve ≡ Some q → OneAnswer k t n bids windows old new o
     unfolding thinned
     reserved_award q u = award s (λ v. let z : ◌≡◌ {A = ℕ} 0 1 = ap houses (sym v ∙ u) in absurd (omega arith))
         (is_award (settles nothing nothing (none_thin t n bids windows q u 0) (none_thin t n bids windows q u 1)))
 
-    owners_award : t.reserve ≡ Absent → OneAnswer k t n bids windows old new o
+    owners_award : t.reserve ≡ None → OneAnswer k t n bids windows old new o
     unfolding thinned uncovered lone minute_of
     owners_award u = go (cell_with A.has n A.cells 0) (cell_with A.has n A.cells 1) refl refl
       where
@@ -89,8 +89,8 @@ module _ (k : Kind) (t : Tender) (n : ℕ) (bids windows : List ℕ) (old new : 
             (is_award (settles nothing nothing (told 0 nothing d) (told 1 nothing e)))
 
     cover : (r : Reserve) → t.reserve ≡ r → OneAnswer k t n bids windows old new o
-    cover Absent u = owners_award u
-    cover (Price q) u = reserved_award q u
+    cover None u = owners_award u
+    cover (Some q) u = reserved_award q u
 
   pub one_answer : OneAnswer k t n bids windows old new o
   one_answer = fault (fault_of k t n bids windows) refl
@@ -113,7 +113,7 @@ module _ (k : Kind) (t : Tender) (n : ℕ) (bids windows : List ℕ) (old new : 
   )
 
   -- nothing else is declined: where no rule is broken, each bid has a row and, without a reserve, each minute two bidders, it awards
-  pub awards : Callable k t n bids windows (length old) → (t.reserve ≡ Absent → Bidders A 2) → IsAward (rule k) A old new o
+  pub awards : Callable k t n bids windows (length old) → (t.reserve ≡ None → Bidders A 2) → IsAward (rule k) A old new o
   awards s two = go one_answer
     where
       go : OneAnswer k t n bids windows old new o → IsAward (rule k) A old new o
@@ -124,11 +124,11 @@ module _ (k : Kind) (t : Tender) (n : ℕ) (bids windows : List ℕ) (old new : 
       go (award c b w) = w
 
   -- with a reserve neither 11 nor 12 is told
-  pub reserve_serves : (q : ℕ) → t.reserve ≡ Price q → (outcome_number o ≡ 11 → ⊥) × (outcome_number o ≡ 12 → ⊥)
+  pub reserve_serves : (q : ℕ) → t.reserve ≡ Some q → (outcome_number o ≡ 11 → ⊥) × (outcome_number o ≡ 12 → ⊥)
   unfolding outcome_number
   reserve_serves q u = go one_answer
     where
-      absent : t.reserve ≡ Absent → ⊥
+      absent : t.reserve ≡ None → ⊥
       absent v = let z : ◌≡◌ {A = ℕ} 0 1 = ap houses (sym v ∙ u) in omega arith
 
       go : OneAnswer k t n bids windows old new o → (outcome_number o ≡ 11 → ⊥) × (outcome_number o ≡ 12 → ⊥)

@@ -1,8 +1,9 @@
 -- What the demands say of an outcome: one answer, least cover, formula 8, no gain by a false price or by minutes held back.
-use Rattle.std.specs.Prelude.{◌≡◌, List, ◌++◌, true, ◌&&◌, ℕ, ◌+◌, ◌-◌, ◌^◌, ◌≤◌, ◌<◌, length, get_or, drop}
+use Rattle.std.specs.Prelude.{◌≡◌, List, ◌++◌, true, ◌&&◌, ℕ, ◌+◌, ◌-◌, ◌^◌, ◌≤◌, ◌<◌, length, get_or}
+use Rattle.std.specs.Prelude.{drop}
+use Rattle.std.specs.Prelude.{None}
 use Rattle.std.proofs.Math.Option.{none, some}
 use Rattle.tender.specs.declared.Kind.{Kind}
-use Rattle.tender.specs.declared.Reserve.TheVariants.{Absent}
 use Rattle.tender.specs.declared.Tender.{Tender}
 use Rattle.tender.specs.declared.Totals.{Totals}
 use Rattle.tender.specs.declared.Refusal.{Refusal}
@@ -52,12 +53,12 @@ pub data OneAnswer (k : Kind) (t : Tender) (n : ℕ) (bids windows : List ℕ) (
       → OneAnswer k t n bids windows old new o
   rows_too_few : fault_of k t n bids windows ≡ none → length old < n → IsRefusal RowsTooFew old new o
       → OneAnswer k t n bids windows old new o
-  minute_uncovered : (m : ℕ) → Callable k t n bids windows (length old) → t.reserve ≡ Absent
+  minute_uncovered : (m : ℕ) → Callable k t n bids windows (length old) → t.reserve ≡ None
       → EarliestIn t (auction_of t n bids windows) m 0
       → IsRefusal (MinuteUncovered m) old new o → OneAnswer k t n bids windows old new o
-  one_bidder : (m : ℕ) → Callable k t n bids windows (length old) → t.reserve ≡ Absent → Bidders (auction_of t n bids windows) 1
+  one_bidder : (m : ℕ) → Callable k t n bids windows (length old) → t.reserve ≡ None → Bidders (auction_of t n bids windows) 1
       → EarliestIn t (auction_of t n bids windows) m 1 → IsRefusal (OneBidder m) old new o → OneAnswer k t n bids windows old new o
-  award : Callable k t n bids windows (length old) → (t.reserve ≡ Absent → Bidders (auction_of t n bids windows) 2)
+  award : Callable k t n bids windows (length old) → (t.reserve ≡ None → Bidders (auction_of t n bids windows) 2)
       → IsAward (rule k) (auction_of t n bids windows) old new o → OneAnswer k t n bids windows old new o
 
 -- the winners by least cost: bid i is bit i of the set, and the house the bit after the bids'

@@ -2,6 +2,8 @@
 // has what an award answers (`Award`) and what is promised of plain lists (`Plain`).
 #![tactic(auto)]
 
+// A flag for each entry, 1 where it won and 0 where it lost: `award::settle` fills lists of them, and may not change what it fills.
+
 ghost use Rattle.std.specs.Prelude.{◌≡◌, ℕ, ◌≤◌, ◌<◌, length, get_or, eqb};
 ghost use Rattle.tender.specs.Limits.{max_entries};
 ghost use Rattle.cover.specs.Sets.{when};
@@ -9,7 +11,7 @@ ghost use Rattle.cover.specs.Settled.{most_cents, FilledTo};
 ghost use Rattle.award_rule.specs.Sums.{cost_in, paid_in, house_in, totals_in};
 ghost use Rattle.award_rule.specs.Plain.{told_in, won_after, cents_after};
 
-use tender::{Answer, Totals};
+use tender::{Refusal, Totals};
 
 // The price where the flag is 1.
 fn only(flag: u64, price: u64) -> u64
@@ -25,10 +27,8 @@ fn cost(prices: &[u64], won: &[u64]) -> u64
     ensures { result ≡ cost_in prices.now won.now }
 {
     let mut s: u64 = 0;
-    let mut i: usize = 0;
-    while i < prices.len() {
+    for i in 0..prices.len() {
         s += only(won[i], prices[i]);
-        i += 1;
     }
     s
 }
@@ -40,15 +40,14 @@ fn paid(cents: &[u64], owners: usize) -> u64
     ensures { result ≡ paid_in cents.now owners }
 {
     let mut s: u64 = 0;
-    let mut i: usize = 0;
-    while i < owners {
+    for i in 0..owners {
         s += cents[i];
-        i += 1;
     }
     s
 }
 
 // Whether an entry stands after the owners' and won: the house.
+#[tactic(auto, unfolding(award_rule::specs::Sums::house_in))]
 fn house(prices: &[u64], won: &[u64], owners: usize) -> bool
     requires { length prices.now ≤ length won.now }
     ensures { result ≡ house_in prices.now won.now owners }
@@ -67,11 +66,7 @@ pub fn totals(prices: &[u64], won: &[u64], cents: &[u64], owners: usize) -> Tota
     let cost = cost(prices, won);
     let paid = paid(cents, owners);
     let house = house(prices, won, owners);
-    Totals {
-        cost: cost,
-        paid: paid,
-        house: house,
-    }
+    Totals { cost, paid, house }
 }
 
 // The flags and cents of the first n entries, in the first places of the two lent lists.
@@ -81,17 +76,15 @@ fn put_owners(n: usize, flags: &[u64], pays: &[u64], won: &mut [u64], cents: &mu
     ensures { FilledTo (λ i. when (eqb (get_or flags.now i 0) 1) 1) won.old won.new n
         × FilledTo (λ i. get_or pays.now i 0) cents.old cents.new n }
 {
-    let mut i: usize = 0;
-    while i < n {
-        won[i] = only(flags[i], 1);
-        cents[i] = pays[i];
-        i += 1;
+    for i in 0..n {
+        won[i] = u64::from(flags[i] == 1);
     }
+    cents[..n].copy_from_slice(&pays[..n]);
 }
 
 // What the answer tells of the first n entries, in the two lent lists; they stay where it declines.
 pub fn report(
-    answer: Answer,
+    answer: Result<Totals, Refusal>,
     n: usize,
     flags: &[u64],
     pays: &[u64],
@@ -103,8 +96,7 @@ pub fn report(
     ensures { (won.new ≡ won_after won.old (told_in n flags.now pays.now answer))
         × (cents.new ≡ cents_after cents.old (told_in n flags.now pays.now answer)) }
 {
-    match answer {
-        Answer::Awarded(_) => put_owners(n, flags, pays, won, cents),
-        Answer::Refused(_) => {}
+    if let Ok(_) = answer {
+        put_owners(n, flags, pays, won, cents);
     }
 }

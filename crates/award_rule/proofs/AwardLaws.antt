@@ -63,7 +63,8 @@ settled_awarded r A bare alone rows totals h = go (thin_cell A 0) (thin_cell A 1
     go : (x y : Found) → thin_cell A 0 ≡ x → thin_cell A 1 ≡ y → AwardOver r A rows totals
     go (found x) y e f = let z = sym (settled_is r A bare alone (found x) y e f) ∙ h in let z : ◌≡◌ {A = ℕ} 0 1 = cc in
         absurd (omega arith)
-    go nothing (found x) e f = let z = sym (settled_is r A bare alone nothing (found x) e f) ∙ h in let z : ◌≡◌ {A = ℕ} 0 1 = cc in
+    go nothing (found x) e f = let z = sym (settled_is r A bare alone nothing (found x) e f)
+        ∙ h in let z : ◌≡◌ {A = ℕ} 0 1 = cc in
         absurd (omega arith)
     go nothing nothing e f = let z = sym (settled_is r A bare alone nothing nothing e f) ∙ h in
         record { none_bare = e; none_lone = f; rows_are = cc; totals_are = cc }

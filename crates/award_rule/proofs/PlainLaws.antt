@@ -1,7 +1,7 @@
 -- How the answer over plain lists comes about: from a fault, too few rows, a cell in no bid or in one, or what a core settles.
 -- Assumes nothing.
 use Rattle.cover.specs.Spare.{Spare}
-use Rattle.std.specs.Prelude.{◌≡◌, List, Bool, cond, ℕ, ◌≤◌, ◌<◌, length, drop}
+use Rattle.std.specs.Prelude.{◌≡◌, List, Bool, cond, ℕ, ◌≤◌, ◌<◌, length, drop, Ok, Err}
 use Rattle.std.proofs.Math.Path.{refl, sym, ap}
 use Rattle.std.proofs.Common.{◌∙◌, arith, lt-ltb, le-ltb}
 use Rattle.std.proofs.Math.Option.{none, some}
@@ -26,8 +26,7 @@ use Rattle.award_check.specs.Faults.{fault_of}
 use Rattle.award_check.specs.Cells.{minute_of}
 use Rattle.award_check.specs.Auction.{Auction, auction_of, thin_cell}
 use Rattle.award_check.proofs.AuctionLaws.{owners_are, entries}
-use Rattle.tender.specs.declared.Answer.{Answer}
-use Rattle.tender.specs.declared.Answer.TheVariants.{Awarded, Refused}
+use Rattle.tender.specs.Types.{Answer}
 use Rattle.award_rule.specs.Award.{covers_in, won, cents, awarded, refused, award_rows, totals_of, thinned, settled, award_of}
 use Rattle.award_rule.specs.Award.{least_cost, greedy, rule, uncovered, lone}
 use Rattle.award_rule.specs.Sums.{totals_in}
@@ -46,15 +45,15 @@ module _ (k : Kind) (t : Tender) (n : ℕ) (bids windows : List ℕ) where
   module _ (lent : ℕ) (ow oc : List ℕ) where
     -- a refusal leaves the lists
     refuses : (r : Refusal) → award_of k t n bids windows lent ≡ refused r
-        → PlainPromise k t n bids windows lent ow oc ow oc (Refused r)
+        → PlainPromise k t n bids windows lent ow oc ow oc (Err r)
     unfolding told_in won_after cents_after
     refuses r e = record { answers = sym e; won_are = refl; cents_are = refl }
 
     pub nine : (p : ℕ) → fault_of k t n bids windows ≡ some p
-        → PlainPromise k t n bids windows lent ow oc ow oc (Refused (BadTables p))
+        → PlainPromise k t n bids windows lent ow oc ow oc (Err (BadTables p))
     nine p e = refuses (BadTables p) (award_nine k t n bids windows lent p e)
 
-    pub ten : fault_of k t n bids windows ≡ none → lent < n → PlainPromise k t n bids windows lent ow oc ow oc (Refused RowsTooFew)
+    pub ten : fault_of k t n bids windows ≡ none → lent < n → PlainPromise k t n bids windows lent ow oc ow oc (Err RowsTooFew)
     ten f l = refuses RowsTooFew (award_none k t n bids windows lent f
         ∙ ap (λ b. cond b (refused RowsTooFew) (settled (rule k) A (uncovered t) (lone t))) (lt-ltb lent n l))
 
@@ -65,19 +64,19 @@ module _ (k : Kind) (t : Tender) (n : ℕ) (bids windows : List ℕ) where
     settles = award_settles k t n bids windows n f (le-ltb n n (omega arith))
 
     pub eleven : (x : ℕ) → thin_cell A 0 ≡ found x
-        → told_in n nw nc (Refused (MinuteUncovered (minute_of t x))) ≡ award_of k t n bids windows n
+        → told_in n nw nc (Err (MinuteUncovered (minute_of t x))) ≡ award_of k t n bids windows n
     unfolding thinned uncovered told_in
     eleven x e = sym (settles (found x) (thin_cell A 1) e refl)
 
     pub twelve : (x : ℕ) → thin_cell A 0 ≡ nothing → thin_cell A 1 ≡ found x
-        → told_in n nw nc (Refused (OneBidder (minute_of t x))) ≡ award_of k t n bids windows n
+        → told_in n nw nc (Err (OneBidder (minute_of t x))) ≡ award_of k t n bids windows n
     unfolding thinned lone told_in
     twelve x d e = sym (settles nothing (found x) d e)
 
     -- a core settles by the flags w and the payments c, which are those of the definitions and are due to each owner
     module _ (covered : thin_cell A 0 ≡ nothing) (doubled : thin_cell A 1 ≡ nothing)
         (ow oc : List ℕ) (due : ℕ → Type 0) (w : ℕ → Bool) (c : ℕ → ℕ) (dues : (i : ℕ) → i < n → due i)
-        (w-is : (i : ℕ) → w i ≡ won (rule k) A i) (c-is : (i : ℕ) → i < n → c i ≡ cents (rule k) A i)
+        (w_is : (i : ℕ) → w i ≡ won (rule k) A i) (c_is : (i : ℕ) → i < n → c i ≡ cents (rule k) A i)
         (totals : Totals) (s : core.Settled due w c ps ow oc nw nc) (summed : totals ≡ totals_in ps nw nc n) where
       owners_inside : n ≤ length ps
       owners_inside = omega (arith, entries t n bids windows)
@@ -88,10 +87,10 @@ module _ (k : Kind) (t : Tender) (n : ℕ) (bids windows : List ℕ) where
           ∙ get_or-append (listed (length ps) (λ i. when (w i) 1)) (drop (length ps) ow) 0 i
           (omega (arith, length_listed (length ps) (λ i. when (w i) 1)))
           ∙ get_or_listed (length ps) (λ i. when (w i) 1) i 0 l)
-          ∙ when_is (w i) ∙ w-is i
+          ∙ when_is (w i) ∙ w_is i
 
       pay_at : (i : ℕ) → i < n → get_or nc i 0 ≡ cents (rule k) A i
-      pay_at i l = s.payments i (omega (arith, owners_inside)) (dues i l) ∙ c-is i l
+      pay_at i l = s.payments i (omega (arith, owners_inside)) (dues i l) ∙ c_is i l
 
       rows_are : rows_in n nw nc ≡ award_rows (rule k) A
       unfolding rows_in award_rows
@@ -106,7 +105,7 @@ module _ (k : Kind) (t : Tender) (n : ℕ) (bids windows : List ℕ) where
       totals_is = summed ∙ ap (totals_in ps nw nc) (sym (owners_are t n bids windows))
           ∙ totals_are (rule k) A nw nc flag_at (λ i l. pay_at i (omega (arith, owners_are t n bids windows)))
 
-      pub awards : told_in n nw nc (Awarded totals) ≡ award_of k t n bids windows n
+      pub awards : told_in n nw nc (Ok totals) ≡ award_of k t n bids windows n
       unfolding told_in thinned
       awards = ap (λ rows. awarded rows totals) rows_are ∙ ap (awarded (award_rows (rule k) A)) totals_is
           ∙ sym (settles nothing nothing covered doubled)

@@ -1,5 +1,5 @@
 -- Flags and cents of all entries reported to two lent lists: the first ones are those of the owners. Assumes nothing.
-use Rattle.std.specs.Prelude.{◌≡◌, refl, ℕ, ◌≤◌, ◌<◌, length, eqb}
+use Rattle.std.specs.Prelude.{◌≡◌, refl, ℕ, ◌≤◌, ◌<◌, length, eqb, Ok, Err}
 use Rattle.std.proofs.Math.Path.{sym, ap}
 use Rattle.std.proofs.Common.{◌∙◌, arith}
 use mathlib.Core.List.{List, ◌++◌}
@@ -8,8 +8,7 @@ use Rattle.tender.specs.declared.Kind.{Kind}
 use Rattle.tender.specs.declared.Tender.{Tender}
 use Rattle.tender.specs.declared.Totals.{Totals}
 use Rattle.tender.specs.declared.AwardRow.{AwardRow}
-use Rattle.tender.specs.declared.Answer.{Answer}
-use Rattle.tender.specs.declared.Answer.TheVariants.{Awarded, Refused}
+use Rattle.tender.specs.Types.{Answer}
 use Rattle.cover.specs.Sets.{when}
 use Rattle.cover.proofs.SetLaws.{when_is}
 use Rattle.cover.specs.Settled.{listed, FilledTo}
@@ -24,14 +23,14 @@ module _ (n : ℕ) (flags pays old new : List ℕ) (totals : Totals) (room : n �
   rows_count = length_listed n (λ i. row_of (get_or flags i 0) (get_or pays i 0))
 
   pub flags_written : FilledTo (λ i. when (eqb (get_or flags i 0) 1) 1) old new n
-      → new ≡ won_after old (told_in n flags pays (Awarded totals))
+      → new ≡ won_after old (told_in n flags pays (Ok totals))
   unfolding won_after told_in rows_in
   flags_written h = listed_of n (λ i. when (eqb (get_or flags i 0) 1) 1) old new room h
       ∙ sym (ap (λ (xs : List ℕ). xs ++ drop (length (rows_in n flags pays)) old)
       (map_listed n (λ i. row_of (get_or flags i 0) (get_or pays i 0)) (λ r. when r.won 1))
       ∙ ap (λ (m : ℕ). listed n (λ i. when (eqb (get_or flags i 0) 1) 1) ++ drop m old) rows_count)
 
-  pub cents_written : FilledTo (λ i. get_or pays i 0) old new n → new ≡ cents_after old (told_in n flags pays (Awarded totals))
+  pub cents_written : FilledTo (λ i. get_or pays i 0) old new n → new ≡ cents_after old (told_in n flags pays (Ok totals))
   unfolding cents_after told_in rows_in
   cents_written h = listed_of n (λ i. get_or pays i 0) old new room h
       ∙ sym (ap (λ (xs : List ℕ). xs ++ drop (length (rows_in n flags pays)) old)
@@ -42,8 +41,8 @@ module _ (n : ℕ) (flags pays old new : List ℕ) (totals : Totals) (room : n �
 told_again : (n : ℕ) (flags pays won cents won' cents' : List ℕ) (a : Answer) → won' ≡ won_after won (told_in n flags pays a)
     → cents' ≡ cents_after cents (told_in n flags pays a) → told_in n won' cents' a ≡ told_in n flags pays a
 unfolding told_in won_after cents_after rows_in
-told_again n flags pays won cents won' cents' (Refused r) u v = refl
-told_again n flags pays won cents won' cents' (Awarded totals) u v =
+told_again n flags pays won cents won' cents' (Err r) u v = refl
+told_again n flags pays won cents won' cents' (Ok totals) u v =
     ap (λ rows. awarded rows totals) (listed_same n (λ i. row_of (get_or won' i 0) (get_or cents' i 0))
     (λ i. row_of (get_or flags i 0) (get_or pays i 0)) (λ i l. rw (flag_at i l, pay_at i l)))
   where

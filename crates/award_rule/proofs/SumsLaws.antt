@@ -1,5 +1,6 @@
 -- Sums made one entry after the other, and the totals of a settled award. Assumes nothing.
-use Rattle.std.specs.Prelude.{◌≡◌, refl, Bool, true, false, ◌&&◌, List, ℕ, ◌+◌, ◌*◌, ◌≤◌, ◌<◌, length, get_or, ltb, eqb}
+use Rattle.std.specs.Prelude.{◌≡◌, refl, Bool, true, false, ◌&&◌, List, ℕ, ◌+◌, ◌*◌, ◌≤◌, ◌<◌, length, get_or}
+use Rattle.std.specs.Prelude.{ltb, eqb}
 use Rattle.std.proofs.Common.{ap, ◌∙◌, le_antisymm, arith, ltb-true}
 use Rattle.tender.specs.declared.Totals.{Totals}
 use Rattle.cover.specs.Sets.{when}

@@ -1,12 +1,11 @@
 -- The award over two lists: for each bid a flag, 1 for a winner and 0 for a loser, and the cents paid, in two lent lists.
-use Rattle.std.specs.Prelude.{◌≡◌, List, ◌++◌, map, ℕ, length, get_or, drop, eqb}
+use Rattle.std.specs.Prelude.{◌≡◌, List, ◌++◌, map, ℕ, length, get_or, drop, eqb, Ok, Err}
 use Rattle.tender.specs.declared.Kind.{Kind}
 use Rattle.tender.specs.declared.Tender.{Tender}
 use Rattle.cover.specs.Sets.{when}
 use Rattle.cover.specs.Settled.{listed}
 use Rattle.tender.specs.declared.AwardRow.{AwardRow}
-use Rattle.tender.specs.declared.Answer.{Answer}
-use Rattle.tender.specs.declared.Answer.TheVariants.{Awarded, Refused}
+use Rattle.tender.specs.Types.{Answer}
 use Rattle.award_rule.specs.Award.{Outcome, awarded, refused, award_of}
 
 -- the award row that a bid's flag and cents say
@@ -21,8 +20,8 @@ rows_in n won cents = listed n (λ i. row_of (get_or won i 0) (get_or cents i 0)
 -- what a call on n bids told: its answer, and the flags and cents of the n bids where it awards
 unfoldable pub told_in : ℕ → List ℕ → List ℕ → Answer → Outcome
 unfolding rows_in
-told_in n won cents (Awarded totals) = awarded (rows_in n won cents) totals
-told_in n won cents (Refused r) = refused r
+told_in n won cents (Ok totals) = awarded (rows_in n won cents) totals
+told_in n won cents (Err r) = refused r
 
 -- the lent lists after the call: places past the last bid stay, and all of them where the award declines
 unfoldable pub won_after : List ℕ → Outcome → List ℕ

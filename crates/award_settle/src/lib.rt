@@ -1,5 +1,5 @@
 // The award of a tender of either kind over plain lists: a refusal, 9 to 12, or a flag and the cents paid for each bid, and the totals.
-// What it answers is in `award_plain` Award, what is promised of plain lists in `award_plain` Plain.
+// What it answers is in `award_rule` Award, what is promised of plain lists in `award_rule` Plain.
 #![tactic(auto)]
 
 ghost use Rattle.std.specs.Prelude.{◌≡◌, ◌≤◌, min, length};
@@ -9,8 +9,7 @@ ghost use Rattle.award_check.specs.Faults.{fault_of};
 ghost use Rattle.award_rule.specs.Award.{award_of};
 ghost use Rattle.award_rule.specs.Plain.{told_in, PlainPromise};
 
-use award_fault::Check;
-use tender::{Answer, Kind, Refusal, Tender};
+use tender::{Kind, Refusal, Tender, Totals};
 
 // A faultless tender of this kind: flags and cents of all entries.
 fn settle_entries(
@@ -21,7 +20,7 @@ fn settle_entries(
     windows: &[u64],
     flags: &mut [u64],
     pays: &mut [u64],
-) -> Answer
+) -> Result<Totals, Refusal>
     requires { (fault_of kind tender count bids.now windows.now ≡ none)
         × ((length flags.old ≡ max_entries) × (length pays.old ≡ max_entries)) }
     ensures { told_in count flags.new pays.new result
@@ -42,7 +41,7 @@ pub fn settle_sound(
     windows: &[u64],
     won: &mut [u64],
     cents: &mut [u64],
-) -> Answer
+) -> Result<Totals, Refusal>
     requires { (fault_of kind tender count bids.now windows.now ≡ none)
         × ((count ≤ length won.old) × (count ≤ length cents.old)) }
     ensures { PlainPromise kind tender count bids.now windows.now count won.old
@@ -65,19 +64,18 @@ pub fn settle_in(
     lent: usize,
     won: &mut [u64],
     cents: &mut [u64],
-) -> Answer
+) -> Result<Totals, Refusal>
     requires { (min lent 1000 ≤ length won.old) × (min lent 1000 ≤ length cents.old) }
     ensures { PlainPromise kind tender count bids.now windows.now lent won.old
         cents.old won.new cents.new result }
 {
-    let check = award_fault::fault(kind, tender, count, bids, windows);
-    if let Check::Faulty { row } = check {
+    if let Some(row) = award_fault::fault(kind, tender, count, bids, windows) {
         // 9: the tables break a rule.
-        return Answer::Refused(Refusal::BadTables { row });
+        return Err(Refusal::BadTables { row });
     }
     if lent < count {
         // 10: fewer award rows than bids.
-        return Answer::Refused(Refusal::RowsTooFew);
+        return Err(Refusal::RowsTooFew);
     }
     settle_sound(kind, tender, count, bids, windows, won, cents)
 }

@@ -1,16 +1,21 @@
 -- Whether each cell has two bidders: the earliest cell in no bid, else the earliest in one bid alone, else neither.
 use Rattle.std.specs.Prelude.{◌≡◌, Bool, true, false, List, ℕ, ◌+◌, ◌*◌, ◌≤◌, ◌<◌, length, get_or, leb, ltb}
+use Rattle.std.specs.Prelude.{Option, Some, None, Result, Ok, Err}
 use Rattle.cells.specs.Cells.{bit_of, cell}
 use Rattle.cover.specs.Sets.{when, nothing, found, bidders}
 use Rattle.cover.specs.Earliest.{cell_with}
 use Rattle.multi_market.specs.Market.{has}
 use Rattle.award_thin.specs.declared.Thin.{Thin}
-use Rattle.award_thin.specs.declared.Thin.TheVariants.{Nobody, Alone, Enough}
+use Rattle.award_thin.specs.declared.Thin.TheVariants.{Nobody, Alone}
 
-abbrev pub Says : (ℕ → ℕ → Bool) → ℕ → ℕ → Thin → Type 0
-Says has n L (Nobody x) = cell_with has n L 0 ≡ found x
-Says has n L (Alone x) = (cell_with has n L 0 ≡ nothing) × (cell_with has n L 1 ≡ found x)
-Says has n L Enough = (cell_with has n L 0 ≡ nothing) × (cell_with has n L 1 ≡ nothing)
+-- what asking the cells answers
+abbrev pub Asked : Type 0
+Asked = Result Unit Thin
+
+abbrev pub Says : (ℕ → ℕ → Bool) → ℕ → ℕ → Asked → Type 0
+Says has n L (Err (Nobody x)) = cell_with has n L 0 ≡ found x
+Says has n L (Err (Alone x)) = (cell_with has n L 0 ≡ nothing) × (cell_with has n L 1 ≡ found x)
+Says has n L (Ok u) = (cell_with has n L 0 ≡ nothing) × (cell_with has n L 1 ≡ nothing)
 
 -- n windows, each from a start to an end that is no earlier and within L cells
 pub record Spans (starts ends : List ℕ) (L : ℕ) : Type 0 where
@@ -37,3 +42,8 @@ pub record FirstOf (P : ℕ → Bool) (L r : ℕ) : Type 0 where
   pub inside : r ≤ L
   pub here : r < L → P r ≡ true
   pub before : (x : ℕ) → x < r → P x ≡ false
+
+-- the first number below L that passes, where there is one
+abbrev pub FirstIn : (ℕ → Bool) → ℕ → Option ℕ → Type 0
+FirstIn P L (Some r) = (r < L) × FirstOf P L r
+FirstIn P L None = FirstOf P L L

@@ -1,5 +1,6 @@
 -- Laws of the cells in one bid and in two, seen word by word in the bids' masks. Assumes nothing.
-use Rattle.std.specs.Prelude.{◌≡◌, refl, List, Bool, true, false, ℕ, zero, suc, ◌+◌, ◌-◌, ◌*◌, ◌/◌, ◌%◌, ◌≤◌, ◌<◌, min, max, length, get_or, set, take, drop, replicate, leb, ltb, eqb}
+use Rattle.std.specs.Prelude.{◌≡◌, refl, List, Bool, true, false, ℕ, zero, suc, ◌+◌, ◌-◌, ◌*◌, ◌/◌, ◌%◌}
+use Rattle.std.specs.Prelude.{◌≤◌, ◌<◌, min, max, length, get_or, set, take, drop, replicate, leb, ltb, eqb}
 use Rattle.std.proofs.Common.{sym, ◌∙◌, ⊎_elim, add-one, length-take-le}
 use Rattle.std.proofs.Math.Path.{ap}
 use native.Mathlib.Omega.{arith}
@@ -110,8 +111,9 @@ module _ (ms : List ℕ) (w q i one two : ℕ) (s : Seeing ms w q i one two) (wa
   pub reached_soon : (n : ℕ) → i ≤ n → bit_and two wanted ≡ wanted → Reached ms w n q wanted wanted
   reached_soon n l e = record {
     each = λ k lk on.
-        let both : bit_of wanted k ≡ min (bit_of two k) (bit_of wanted k) = ap (λ (v : ℕ). bit_of v k) (sym e) ∙ and_bit two wanted k in
-        let two-on : bit_of two k ≡ 1 = omega arith in
+        let both : bit_of wanted k ≡ min (bit_of two k) (bit_of wanted k) = ap (λ (v : ℕ). bit_of v k) (sym e)
+        ∙ and_bit two wanted k in
+        let two_on : bit_of two k ≡ 1 = omega arith in
         on ∙ ap (λ b. when b 1) (sym (le-leb 2 (bidders (has ms w) n (64 * q + k))
         (omega (arith, s.twice k lk, bidders_grow (has ms w) i n (64 * q + k) l))));
   }
@@ -153,14 +155,15 @@ module _ (ms : List ℕ) (w n L : ℕ) (wanted enough : List ℕ) (x : ℕ) (f :
         count_bit (bidders (has ms w) n y),
       ))
 
-  pub first_found : x < L → FirstOf (fewer (has ms w) n 2) L x
+  pub first_is : FirstOf (fewer (has ms w) n 2) L (min x L)
   unfolding fewer
-  first_found l = record {
-    inside = omega arith;
-    here = λ h. lt-ltb (bidders (has ms w) n x) 2 (omega
-        (arith, t.outside (omega arith), g.each x (omega arith) (f.inside x l), count_bit (bidders (has ms w) n x)));
-    before = λ y h. passed y h (omega arith);
-  }
-
-  pub first_none : L ≤ x → FirstOf (fewer (has ms w) n 2) L L
-  first_none l = record { inside = omega arith; here = λ h. absurd (omega arith); before = λ y h. passed y (omega arith) h }
+  first_is = ⊎_elim
+      (λ (l : x < L). let e : min x L ≡ x = omega arith in rw e (record {
+        inside = omega arith;
+        here = λ h. lt-ltb (bidders (has ms w) n x) 2 (omega
+            (arith, t.outside (omega arith), g.each x (omega arith) (f.inside x l), count_bit (bidders (has ms w) n x)));
+        before = λ y h. passed y h (omega arith);
+      }))
+      (λ (l : L ≤ x). let e : min x L ≡ L = omega arith in
+      rw e (record { inside = omega arith; here = λ h. absurd (omega arith); before = λ y h. passed y (omega arith) h }))
+      (lt_or_le x L)

@@ -3,7 +3,7 @@
 
 ghost use Rattle.std.specs.Prelude.{◌≡◌, ◌+◌, ◌*◌, ◌≤◌, ◌<◌, length};
 ghost use Rattle.multi_market.specs.Market.{has};
-ghost use Rattle.award_thin.specs.Thin.{Says, fewer, Reached, Gathered, FirstOf};
+ghost use Rattle.award_thin.specs.Thin.{Says, fewer, Reached, Gathered, FirstOf, FirstIn};
 
 use award_thin::Thin;
 
@@ -14,15 +14,13 @@ fn seen(masks: &[u64], w: usize, n: usize, q: usize, wanted: u64) -> u64
 {
     let mut one: u64 = 0;
     let mut two: u64 = 0;
-    let mut i = 0;
-    while i < n {
+    for i in 0..n {
         let x = masks[w * i + q];
-        two = two | (one & x);
-        one = one | x;
+        two |= one & x;
+        one |= x;
         if two & wanted == wanted {
             return wanted;
         }
-        i += 1;
     }
     two
 }
@@ -32,14 +30,13 @@ fn gather(masks: &[u64], w: usize, n: usize, wanted: &[u64], enough: &mut [u64])
     requires { (length masks.now ≡ w * n) × ((length wanted.now ≡ w) × (length enough.old ≡ w)) }
     ensures { Gathered masks.now w n wanted.now enough.new w }
 {
-    let mut q = 0;
-    while q < w {
+    for q in 0..w {
         enough[q] = seen(masks, w, n, q, wanted[q]);
-        q += 1;
     }
 }
 
-// The first cell with fewer than two bidders, or `cells` where there is none; `wanted` and `enough` are lent for the work.
+// The first cell with fewer than two bidders, or `cells` where there is none, as `cells::next` answers it; `wanted` and `enough` are lent
+// for the work.
 fn first_below(
     masks: &[u64],
     w: usize,
@@ -54,11 +51,7 @@ fn first_below(
 {
     multi_market::unlock(wanted, cells);
     gather(masks, w, n, wanted, enough);
-    let x = cells::next(wanted, enough, 0);
-    if x < cells {
-        return x;
-    }
-    cells
+    cells::next(wanted, enough, 0).min(cells)
 }
 
 // The first cell with fewer than two bidders, or `cells` where there is none.
@@ -81,40 +74,35 @@ fn mask_has(masks: &[u64], w: usize, i: usize, x: usize) -> bool
     cells::holds(&masks[a..e], x)
 }
 
-// The earliest cell that no bid has, or `cells` where there is none.
-fn bare_mask(masks: &[u64], w: usize, n: usize, cells: usize) -> usize
+// The earliest cell that no bid has, where there is one.
+fn bare_mask(masks: &[u64], w: usize, n: usize, cells: usize) -> Option<usize>
     requires { (length masks.now ≡ w * n) × (cells ≤ 64 * w) }
-    ensures { FirstOf (fewer (has masks.now w) n 1) cells result }
+    ensures { FirstIn (fewer (has masks.now w) n 1) cells result }
 {
-    let mut x = 0;
-    'cells: while x < cells {
-        let mut i = 0;
-        while i < n {
+    'cells: for x in 0..cells {
+        for i in 0..n {
             if mask_has(masks, w, i, x) {
-                x += 1;
                 continue 'cells;
             }
-            i += 1;
         }
-        return x;
+        return Some(x);
     }
-    x
+    None
 }
 
-// Bids as rows of w words.
-pub fn thin_masks(masks: &[u64], w: usize, n: usize, cells: usize) -> Thin
+// Whether each cell is in two bids, as rows of w words.
+pub fn thin_masks(masks: &[u64], w: usize, n: usize, cells: usize) -> Result<(), Thin>
     requires { (length masks.now ≡ w * n) × ((w ≤ 158) × (cells ≤ 64 * w)) }
     ensures { Says (has masks.now w) n cells result }
 {
     let lone = masks_below(masks, w, n, cells);
     if lone == cells {
-        return Thin::Enough;
+        return Ok(());
     }
-    let missing = bare_mask(masks, w, n, cells);
-    if missing < cells {
-        return Thin::Nobody {
+    match bare_mask(masks, w, n, cells) {
+        Some(missing) => Err(Thin::Nobody {
             cell: missing as u64,
-        };
+        }),
+        None => Err(Thin::Alone { cell: lone as u64 }),
     }
-    Thin::Alone { cell: lone as u64 }
 }

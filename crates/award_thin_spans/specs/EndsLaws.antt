@@ -1,6 +1,7 @@
 -- The sweep over bids of one window each in order of start: each cell before the second greatest end so far is in two of the bids
 -- so far, and a cell from there on in one where it is before the greatest, else in none. Assumes nothing.
-use Rattle.std.specs.Prelude.{◌≡◌, List, Bool, true, false, ℕ, zero, suc, ◌+◌, ◌-◌, ◌≤◌, ◌<◌, min, max, length, ltb}
+use Rattle.std.specs.Prelude.{◌≡◌, List, Bool, true, false, ℕ, zero, suc, ◌+◌, ◌-◌, ◌≤◌, ◌<◌, min, max, length}
+use Rattle.std.specs.Prelude.{ltb}
 use Rattle.std.proofs.Math.Path.{refl}
 use Rattle.std.proofs.Common.{sym, ap, ◌∙◌, ⊎_elim, add-one}
 use native.Mathlib.Omega.{arith}

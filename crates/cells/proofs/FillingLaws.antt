@@ -1,8 +1,8 @@
 -- A list filled from the front by the values of a function. Assumes nothing.
-use Rattle.std.specs.Prelude.{◌≡◌, refl, Bool, true, false, List, ℕ, ◌+◌, ◌/◌, ◌%◌, ◌^◌, ◌≤◌, ◌<◌, length, get_or, set, eqb, ltb}
-use Rattle.std.proofs.Common.{sym, ◌∙◌, arith, length-set, get_or-set_same, get_or-set_other, ext_get_or, eqb-true, ltb-true, ltb-false}
+use Rattle.std.specs.Prelude.{◌≡◌, refl, Bool, true, false, List, ℕ, ◌+◌, ◌/◌, ◌%◌, ◌^◌, ◌≤◌, ◌<◌, length}
+use Rattle.std.specs.Prelude.{get_or, set, eqb}
+use Rattle.std.proofs.Common.{sym, ◌∙◌, arith, length-set, get_or-set_same, get_or-set_other, ext_get_or, eqb-true}
 use Rattle.std.proofs.Math.Nat.{zero-div}
-use Rattle.std.proofs.Math.ListN.{get_or-eq_default}
 use Rattle.std.proofs.lemmas.Bool.{eqb-false}
 use Rattle.cells.specs.Cells.{cell, Cleared}
 
@@ -23,16 +23,6 @@ module _ {f : ℕ → ℕ} where
       go : (j : ℕ) → j < i + 1 → (t : Bool) → eqb j i ≡ t → get_or (set new i v) j 0 ≡ f j
       go j q true d = rw (eqb-true j i d, get_or-set_same new i v 0 (omega (arith, h.same))) e
       go j q false d = rw (get_or-set_other new i j v 0 (eqb-false j i d)) (h.done j (omega (arith, eqb-false j i d)))
-
-pub past : (xs : List ℕ) (j : ℕ) → length xs ≤ j → get_or xs j 0 ≡ 0
-past xs j l = get_or-eq_default xs 0 {n = j} l
-
-pub cleared : {old new : List ℕ} {i : ℕ} → length new ≤ i → Filling (λ j. 0) old new i → Cleared new
-cleared {old} {new} {i} l h = record { none = λ j. go j (ltb j i) refl }
-  where
-    go : (j : ℕ) (t : Bool) → ltb j i ≡ t → get_or new j 0 ≡ 0
-    go j true e = h.done j (ltb-true j i e)
-    go j false e = past new j (omega (arith, ltb-false j i e))
 
 pub copied : {old new : List ℕ} (xs : List ℕ) {i : ℕ} → length new ≤ i → length xs ≡ length old
     → Filling (λ j. get_or xs j 0) old new i → new ≡ xs

@@ -1,5 +1,6 @@
 -- The lowest bit of a word, and the next cell of one row that is not in another. Assumes nothing.
-use Rattle.std.specs.Prelude.{◌≡◌, refl, ◌⊎◌, List, ℕ, zero, suc, ◌+◌, ◌-◌, ◌*◌, ◌/◌, ◌%◌, ◌^◌, ◌≤◌, ◌<◌, length, get_or}
+use Rattle.std.specs.Prelude.{◌≡◌, refl, ◌⊎◌, List, ℕ, zero, suc, ◌+◌, ◌-◌, ◌*◌, ◌/◌, ◌%◌, ◌^◌}
+use Rattle.std.specs.Prelude.{◌≤◌, ◌<◌, length, get_or}
 use Rattle.std.proofs.Common.{sym, ap, ◌∙◌, inl, inr, ⊎_elim, pow-suc, not-suc-le-zero, arith, shr-shr, pow_mono}
 use Rattle.std.proofs.Math.Nat.{div-eq_of_lt}
 use Rattle.std.proofs.lemmas.Nat.{shr_le, and_le_l}
@@ -72,7 +73,8 @@ module _ (a b : List ℕ) (q : ℕ) (fa : at a q < 2 ^ 64) (fb : at b q < 2 ^ 64
         ∙ rw z (zero_bit (x % 64 - s)))
 
     -- or the first such cell
-    pub first_here : (free / 2 ^ s ≡ 0 → ⊥) → q < length a → Next a b (64 * q + s) (64 * q + s + count_trailing_zeros 64 (free / 2 ^ s))
+    pub first_here : (free / 2 ^ s ≡ 0 → ⊥) → q < length a
+        → Next a b (64 * q + s) (64 * q + s + count_trailing_zeros 64 (free / 2 ^ s))
     first_here n l = record {
       on = omega arith;
       within = omega (arith, inside);

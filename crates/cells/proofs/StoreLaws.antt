@@ -1,6 +1,7 @@
 -- Laws of a store to one word, cell by cell, and the steps of the two loops that store. Assumes nothing.
 use Rattle.std.specs.Prelude.{◌≡◌, refl, ◌⊎◌, Bool, true, false, ◌&&◌, ◌||◌, List, length, set, leb, ltb, eqb}
-use Rattle.std.proofs.Common.{sym, ap₂, ◌∙◌, inl, inr, ⊎_elim, arith, get_or-set_same, get_or-set_other, leb-true, leb-false, ltb-true, ltb-false, eq-eqb, pow_mono, shl_exact}
+use Rattle.std.proofs.Common.{sym, ap₂, ◌∙◌, inl, inr, ⊎_elim, arith, get_or-set_same, get_or-set_other, leb-true, leb-false}
+use Rattle.std.proofs.Common.{ltb-true, ltb-false, eq-eqb, pow_mono, shl_exact}
 use Rattle.std.proofs.Math.Path.{ap}
 use Rattle.std.proofs.Math.Bool.{or-true, or-false}
 use Prim.Native.Nat.{ℕ, zero, suc, ◌+◌, ◌-◌, ◌*◌, ◌/◌, ◌%◌, ◌^◌, ◌≤◌, ◌<◌, zero-le, suc-le-suc, max}
@@ -85,9 +86,6 @@ swept_all w old mask new s e el =
     }
 
 -- ---- add_range: some bits of a word, whole words, and one range after another
-pub filled_none : (s : ℕ) (ws : List ℕ) → RangeAdded s s ws ws
-filled_none s ws = record { inside = λ x a b. absurd (omega arith); below = λ x h. refl; above = λ x h. refl }
-
 pub filled_join : {s m e : ℕ} {old mid new : List ℕ} → s ≤ m → m ≤ e → RangeAdded s m old mid → RangeAdded m e mid new
     → RangeAdded s e old new
 filled_join {s} {m} {e} lo hi f g = record {
@@ -119,12 +117,17 @@ module _ (ws : List ℕ) (w : ℕ) (h : w < length ws) where
       same x z = ⊎_elim (λ n. set_other ws w h x (bit_or (get_or ws w 0) m) n)
           (λ q. or_same ws w h x m q ∙ ap (max (cell ws x)) (z q) ∙ omega arith) (ne_or_eq (x / 64) w)
 
-  pub whole_added : (m : ℕ) → Span 0 64 m → RangeAdded (64 * w) (64 * (w + 1)) ws (set ws w m)
-  whole_added m full = record {
-    inside = λ x a b. set_same ws w h x m (omega arith) ∙ full.inside (x % 64) (omega arith) (omega arith);
-    below = λ x a. set_other ws w h x m (λ e. omega arith);
-    above = λ x a. set_other ws w h x m (λ e. omega arith);
-  }
+-- the words a up to b are all m, the others are as they were
+pub words_added : (ws new : List ℕ) (a b m : ℕ) → Span 0 64 m → ((q : ℕ) → a ≤ q → q < b → get_or new q 0 ≡ m)
+    → ((q : ℕ) → q < a → get_or new q 0 ≡ get_or ws q 0) → ((q : ℕ) → b ≤ q → get_or new q 0 ≡ get_or ws q 0)
+    → RangeAdded (64 * a) (64 * b) ws new
+unfolding cell
+words_added ws new a b m full done low high = record {
+  inside = λ x l h. ap (λ (v : ℕ). bit_of v (x % 64)) (done (x / 64) (omega arith) (omega arith))
+      ∙ full.inside (x % 64) (omega arith) (omega arith);
+  below = λ x h. ap (λ (v : ℕ). bit_of v (x % 64)) (low (x / 64) (omega arith));
+  above = λ x h. ap (λ (v : ℕ). bit_of v (x % 64)) (high (x / 64) (omega arith));
+}
 
 -- ---- the bits lo up to hi, of two masks
 module _ (lo hi : ℕ) (hl : lo ≤ 64) (hh : hi ≤ 64) where

@@ -1,5 +1,6 @@
 -- A list of 64-bit words read as a row of cells: cell x is bit x % 64 of word x / 64.
-use Rattle.std.specs.Prelude.{ℕ, zero, suc, ◌+◌, ◌-◌, ◌*◌, ◌/◌, ◌%◌, ◌^◌, ◌≤◌, ◌<◌, min, ◌≡◌, List, length, get_or}
+use Rattle.std.specs.Prelude.{ℕ, zero, suc, ◌+◌, ◌-◌, ◌*◌, ◌/◌, ◌%◌, ◌^◌, ◌≤◌, ◌<◌, min, ◌≡◌}
+use Rattle.std.specs.Prelude.{List, length, get_or}
 
 -- bit k of the number w, 0 or 1
 abbrev pub bit_of : ℕ → ℕ → ℕ

@@ -12,10 +12,8 @@ pub fn close(held: &mut [u64], mask: &[u64])
     requires { length held.old ≡ length mask.now }
     ensures { Closed held.old mask.now held.new }
 {
-    let mut w = 0;
-    while w < held.len() {
-        held[w] = held[w] & !mask[w];
-        w += 1;
+    for w in 0..held.len() {
+        held[w] &= !mask[w];
     }
 }
 
@@ -23,15 +21,11 @@ pub fn close(held: &mut [u64], mask: &[u64])
 pub fn clear(xs: &mut [u64])
     ensures { Cleared xs.new }
 {
-    let mut i = 0;
-    while i < xs.len() {
-        xs[i] = 0;
-        i += 1;
-    }
+    xs.fill(0);
 }
 
 // The masks of a word's first k cells, k from 0 to 64. The one place where such a mask is made. A function that names it lays it out
-// on its stack; whoever sets many ranges does so once and lends it.
+// on its stack; whoever sets many ranges does so once, as a `MaskTable`, and lends that.
 pub const MASKS: [u64; 65] = [
     0x0,
     0x1,
@@ -100,48 +94,57 @@ pub const MASKS: [u64; 65] = [
     0xffffffffffffffff,
 ];
 
+// The table of masks.
+#[derive(Clone, Copy)]
+pub struct MaskTable {
+    pub bits: [u64; 65],
+    ghost table: { bits ≡ masks },
+}
+
+impl MaskTable {
+    pub fn new() -> MaskTable
+        ensures { result.bits ≡ masks }
+    {
+        MaskTable { bits: MASKS }
+    }
+}
+
 // The mask of a word's first k cells.
-fn first_bits(table: &[u64], k: usize) -> u64
-    requires { (table.now ≡ masks) × (k ≤ 64) }
+fn first_bits(table: &MaskTable, k: usize) -> u64
+    requires { k ≤ 64 }
     ensures value { result ≡ 2 ^ k - 1 }
     ensures span { Span 0 k result }
 {
-    table[k]
+    table.bits[k]
 }
 
 // The bits lo up to hi.
-fn span(table: &[u64], lo: usize, hi: usize) -> u64
-    requires { (table.now ≡ masks) × ((lo ≤ 64) × (hi ≤ 64)) }
+fn span(table: &MaskTable, lo: usize, hi: usize) -> u64
+    requires { (lo ≤ 64) × (hi ≤ 64) }
     ensures { Span lo hi result }
 {
     first_bits(table, hi) & !first_bits(table, lo)
 }
 
 // Sets the bits lo up to hi of word w.
-fn add_bits(table: &[u64], words: &mut [u64], w: usize, lo: usize, hi: usize)
-    requires { (table.now ≡ masks) × ((w < length words.old) × ((lo < 64) × (hi ≤ 64))) }
+fn add_bits(table: &MaskTable, words: &mut [u64], w: usize, lo: usize, hi: usize)
+    requires { (w < length words.old) × ((lo < 64) × (hi ≤ 64)) }
     ensures { RangeAdded (64 * w + lo) (64 * w + hi) words.old words.new }
 {
-    let m = span(table, lo, hi);
-    words[w] = words[w] | m;
+    words[w] |= span(table, lo, hi);
 }
 
 // Sets all cells of the words a up to b.
-fn add_words(table: &[u64], words: &mut [u64], a: usize, b: usize)
-    requires { (table.now ≡ masks) × ((a ≤ b) × (b ≤ length words.old)) }
+fn add_words(table: &MaskTable, words: &mut [u64], a: usize, b: usize)
+    requires { (a ≤ b) × (b ≤ length words.old) }
     ensures { RangeAdded (64 * a) (64 * b) words.old words.new }
 {
-    let full = first_bits(table, 64);
-    let mut w = a;
-    while w < b {
-        words[w] = full;
-        w += 1;
-    }
+    words[a..b].fill(first_bits(table, 64));
 }
 
 // Sets the cells s up to e, by the table of masks that is lent.
-pub fn add_range_by(table: &[u64], words: &mut [u64], s: usize, e: usize)
-    requires { (table.now ≡ masks) × ((s ≤ e) × ((e ≤ 64 * length words.old) × (length words.old ≤ 65536))) }
+pub fn add_range_by(table: &MaskTable, words: &mut [u64], s: usize, e: usize)
+    requires { (s ≤ e) × ((e ≤ 64 * length words.old) × (length words.old ≤ 65536)) }
     ensures { RangeAdded s e words.old words.new }
 {
     if e <= s {
@@ -165,8 +168,7 @@ pub fn add_range(words: &mut [u64], s: usize, e: usize)
     requires { (s ≤ e) × ((e ≤ 64 * length words.old) × (length words.old ≤ 65536)) }
     ensures { RangeAdded s e words.old words.new }
 {
-    let table = MASKS;
-    add_range_by(&table, words, s, e);
+    add_range_by(&MaskTable::new(), words, s, e);
 }
 
 // Whether cell x is set.
@@ -184,7 +186,7 @@ pub fn add(words: &mut [u64], x: usize)
     ensures { RangeAdded x (x + 1) words.old words.new }
 {
     let q = x / 64;
-    words[q] = words[q] | 1 << (x % 64);
+    words[q] |= 1 << (x % 64);
 }
 
 // The first cell from word `first` on that is in a and not in b; past the last cell where there is none.
@@ -192,13 +194,11 @@ fn next_from(a: &[u64], b: &[u64], first: usize) -> usize
     requires { (length a.now ≤ length b.now) × ((length a.now ≤ 65536) × (first ≤ length a.now)) }
     ensures { Next a.now b.now (64 * first) result }
 {
-    let mut q = first;
-    while q < a.len() {
+    for q in first..a.len() {
         let m = a[q] & !b[q];
         if m != 0 {
-            return 64 * q + u64::trailing_zeros(m) as usize;
+            return 64 * q + m.trailing_zeros() as usize;
         }
-        q += 1;
     }
     64 * a.len()
 }
@@ -212,7 +212,7 @@ pub fn next(a: &[u64], b: &[u64], from: usize) -> usize
     if q < a.len() {
         let m = (a[q] & !b[q]) >> (from % 64);
         if m != 0 {
-            return from + u64::trailing_zeros(m) as usize;
+            return from + m.trailing_zeros() as usize;
         }
         return next_from(a, b, q + 1);
     }

@@ -1,5 +1,6 @@
 -- Laws of sums of cells. Assumes nothing.
-use Rattle.std.specs.Prelude.{◌≡◌, refl, List, ℕ, zero, suc, ◌+◌, ◌*◌, ◌/◌, ◌%◌, ◌^◌, ◌≤◌, ◌<◌, min, get_or}
+use Rattle.std.specs.Prelude.{◌≡◌, refl, List, ℕ, zero, suc, ◌+◌, ◌*◌, ◌/◌, ◌%◌, ◌^◌, ◌≤◌, ◌<◌, min}
+use Rattle.std.specs.Prelude.{get_or}
 use Rattle.std.proofs.Common.{sym, ap, ap₂, ◌∙◌, add-zero, add-suc, pow-suc, lt_of_le_of_lt, arith}
 use Rattle.std.proofs.Math.Arith.{lt-one}
 use Rattle.std.specs.Int.Bits.{bit_and}
@@ -35,7 +36,8 @@ ones_total zero w h = ap ones (lt-one h)
 ones_total (suc n) w h =
     ones_step w
     ∙ ap₂ (λ (x y : ℕ). x + y) (ap (λ (x : ℕ). x % 2) (omega arith))
-    (ones_total n (w / 2) (omega (arith, pow-suc 2 n)) ∙ total_ext (bit_of (w / 2)) (λ i. bit_of w (suc i)) n (λ i hi. sym (bit_suc w i)))
+    (ones_total n (w / 2) (omega (arith, pow-suc 2 n))
+    ∙ total_ext (bit_of (w / 2)) (λ i. bit_of w (suc i)) n (λ i hi. sym (bit_suc w i)))
     ∙ sym (total_shift (bit_of w) n)
 
 -- cell 64 q + k is bit k of word q

@@ -1,18 +1,13 @@
 // Cells counted and cleared along a mask. `reach` counts the cells of two rows in common, `close_counted` clears the cells of a mask.
 // Both walk the mask by its hops, over the words that have a cell alone. `reach` counts a run of whole words by sums of the cells before
-// each word, which it counts on as far as it needs them and `close_counted` forgets from the first word that it clears.
+// each word, which it counts on as far as it needs them and `close_counted` forgets from the first word that it clears. How far the
+// sums are known stands in their last entry, a number of the caller's buffer, since the definition `counted_to` reads it there.
 #![tactic(auto)]
 
 ghost use Rattle.std.specs.Prelude.{◌≡◌, ℕ, ◌+◌, ◌<◌, ◌≤◌, length, get_or};
 ghost use Rattle.std.specs.Int.Count.{ones};
 ghost use Rattle.cells.specs.Cells.{common, Closed};
 ghost use Rattle.cells_count.specs.Hops.{Hops, counted_to, Counted, Onward};
-
-fn wide(x: u8) -> usize
-    ensures { result ≡ x }
-{
-    x as usize
-}
 
 // Begins the sums of the words: none is counted yet.
 pub fn count_none(words: &[u64], counts: &mut [u64])
@@ -30,15 +25,14 @@ fn count_to(words: &[u64], counts: &mut [u64], e: usize)
         × (e ≤ counted_to words.now counts.new) }
 {
     let last = words.len() + 1;
-    let mut q = counts[last] as usize;
-    if e <= q {
+    let known = counts[last] as usize;
+    if e <= known {
         return;
     }
-    let mut sum = counts[q];
-    while q < e {
-        sum += u64::count_ones(words[q]) as u64;
-        q += 1;
-        counts[q] = sum;
+    let mut sum = counts[known];
+    for q in known..e {
+        sum += ones_of(words[q]);
+        counts[q + 1] = sum;
     }
     counts[last] = e as u64;
 }
@@ -59,7 +53,7 @@ fn count_back(words: &[u64], counts: &mut [u64], q: usize)
 fn ones_of(x: u64) -> u64
     ensures { (result ≡ ones x) × (result ≤ 64) }
 {
-    u64::count_ones(x) as u64
+    u64::from(x.count_ones())
 }
 
 // How many cells are set in both.
@@ -70,22 +64,20 @@ pub fn reach(held: &[u64], counts: &mut [u64], mask: &[u64], hop: &[u8]) -> u64
 {
     let mut sum: u64 = 0;
     let mut q = 0;
+    // a while: the place goes on by hops, not by one
     while q < held.len() {
-        let e = wide(hop[q]);
+        let e = usize::from(hop[q]);
         let m = mask[q];
         if m == !0 {
             count_to(held, counts, e);
             sum += counts[e] - counts[q];
-            q = e;
         } else {
             let x = held[q] & m;
-            if x == 0 {
-                q = e;
-            } else {
+            if x != 0 {
                 sum += ones_of(x);
-                q = e;
             }
         }
+        q = e;
     }
     sum
 }
@@ -98,7 +90,7 @@ pub fn onward(mask: &[u64], hop: &[u8], q: usize) -> usize
     if mask[q] == !0 {
         return q + 1;
     }
-    wide(hop[q])
+    usize::from(hop[q])
 }
 
 // The first word of the mask that may have a cell.
@@ -106,11 +98,8 @@ fn first_word(mask: &[u64], hop: &[u8]) -> usize
     requires { Hops mask.now hop.now × (length mask.now ≤ 158) }
     ensures { (result ≤ length mask.now) × ((p : ℕ) → p < result → get_or mask.now p 0 ≡ 0) }
 {
-    if mask.len() == 0 {
-        return 0;
-    }
-    if mask[0] == 0 {
-        return wide(hop[0]);
+    if !mask.is_empty() && mask[0] == 0 {
+        return usize::from(hop[0]);
     }
     0
 }
@@ -125,8 +114,9 @@ pub fn close_counted(held: &mut [u64], counts: &mut [u64], mask: &[u64], hop: &[
     let n = held.len();
     let mut q = first_word(mask, hop);
     count_back(held, counts, q);
+    // a while: the place goes on by hops, not by one
     while q < n {
-        held[q] = held[q] & !mask[q];
+        held[q] &= !mask[q];
         q = onward(mask, hop, q);
     }
 }

@@ -1,5 +1,6 @@
 -- Laws of cells as pairs: what a pair more or another list changes, and the steps of the loops that read pairs. Assumes nothing.
-use Rattle.std.specs.Prelude.{◌≡◌, refl, ◌⊎◌, Bool, true, false, ◌&&◌, ◌||◌, List, ℕ, zero, suc, ◌+◌, ◌-◌, ◌*◌, ◌/◌, ◌%◌, ◌^◌, ◌≤◌, ◌<◌, length, get_or, set, eqb}
+use Rattle.std.specs.Prelude.{◌≡◌, refl, ◌⊎◌, Bool, true, false, ◌&&◌, ◌||◌, List, ℕ, zero, suc, ◌+◌, ◌-◌}
+use Rattle.std.specs.Prelude.{◌*◌, ◌/◌, ◌%◌, ◌^◌, ◌≤◌, ◌<◌, length, get_or, set, eqb}
 use Rattle.std.proofs.Common.{sym, ap₂, ◌∙◌, inl, inr, ⊎_elim}
 use Rattle.std.proofs.Math.Path.{ap}
 use Rattle.std.proofs.Math.Bool.{or-true}
@@ -121,7 +122,7 @@ pub held_all : (held pairs : List ℕ) (a z : ℕ) → HeldTo held pairs a z →
 held_all held pairs a z s = record { yes = λ e. s.held_there; no = λ e. absurd (false≢true (sym e)) }
 
 module _ (held pairs : List ℕ) (a p : ℕ) (l : a ≤ p)
-    (fits_word : at held (at pairs (2 * p)) < 2 ^ 64) (Fits-mask : at pairs (2 * p + 1) < 2 ^ 64) where
+    (fits_word : at held (at pairs (2 * p)) < 2 ^ 64) (fits_mask : at pairs (2 * p + 1) < 2 ^ 64) where
   -- the cells of pair p that are not held
   abbrev missing : ℕ
   missing = bit_and (at pairs (2 * p + 1)) (whole - at held (at pairs (2 * p)))
@@ -198,7 +199,7 @@ clear_both u l true true = omega arith
 clear_both u l true false = omega arith
 clear_both u l false c = omega arith
 
-module _ (pairs new : List ℕ) (p : ℕ) (h : at pairs (2 * p) < length new) (Fits-mask : at pairs (2 * p + 1) < 2 ^ 64) where
+module _ (pairs new : List ℕ) (p : ℕ) (h : at pairs (2 * p) < length new) (fits_mask : at pairs (2 * p + 1) < 2 ^ 64) where
   abbrev left : ℕ
   left = bit_and (at new (at pairs (2 * p))) (whole - at pairs (2 * p + 1))
 
@@ -211,7 +212,7 @@ module _ (pairs new : List ℕ) (p : ℕ) (h : at pairs (2 * p) < length new) (F
       (λ n. set_other new (at pairs (2 * p)) h x left n
       ∙ rw (pair_elsewhere pairs p x (λ e. n (sym e))) (omega arith))
       (λ e. set_same new (at pairs (2 * p)) h x left e
-      ∙ clear_bit (at new (at pairs (2 * p))) (at pairs (2 * p + 1)) (x % 64) Fits-mask (omega arith)
+      ∙ clear_bit (at new (at pairs (2 * p))) (at pairs (2 * p + 1)) (x % 64) fits_mask (omega arith)
       ∙ ap₂ (λ (v w : ℕ). v - w) (word_cell x e) (as_when (bit_of (at pairs (2 * p + 1)) (x % 64)) (omega arith)
       ∙ ap (λ (b : Bool). when b 1) (sym (pair_here pairs p x (sym e)))))
       (ne_or_eq (x / 64) (at pairs (2 * p)))

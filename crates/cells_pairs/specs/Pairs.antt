@@ -1,6 +1,7 @@
 -- Cells as pairs of a word and a mask, one pair after the other in a list: pair p is the number of a word at place 2 p, and some of that
 -- word's cells after it.
-use Rattle.std.specs.Prelude.{◌≡◌, Bool, true, false, ◌&&◌, ◌||◌, List, ℕ, zero, suc, ◌+◌, ◌-◌, ◌*◌, ◌/◌, ◌%◌, ◌≤◌, ◌<◌, length, get_or, eqb}
+use Rattle.std.specs.Prelude.{◌≡◌, Bool, true, false, ◌&&◌, ◌||◌, List, ℕ, zero, suc, ◌+◌, ◌-◌, ◌*◌, ◌/◌}
+use Rattle.std.specs.Prelude.{◌%◌, ◌≤◌, ◌<◌, length, get_or, eqb}
 use Rattle.cover.specs.Sets.{when}
 use Rattle.cells.specs.Cells.{bit_of, cell, common}
 

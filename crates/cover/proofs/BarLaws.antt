@@ -1,6 +1,8 @@
 -- The prices at which bid k is taken are those below a bar, which the run without k fixes. Assumes nothing.
-use Rattle.std.specs.Prelude.{◌≡◌, refl, Bool, true, false, ◌&&◌, ◌||◌, List, [], ◌∷◌, ℕ, zero, suc, ◌+◌, ◌-◌, ◌*◌, ◌/◌, max, ◌≤◌, ◌<◌, length, leb, ltb}
-use Rattle.std.proofs.Common.{sym, ap, ◌∙◌, le-div_iff_mul-le, mul-le-mul_left, div-mul-le_self, arith, ltb-true, ltb-false, lt-ltb, le-ltb, le-leb, leb-true, leb-false}
+use Rattle.std.specs.Prelude.{◌≡◌, refl, Bool, true, false, ◌&&◌, ◌||◌, List, [], ◌∷◌, ℕ, zero, suc, ◌+◌, ◌-◌}
+use Rattle.std.specs.Prelude.{◌*◌, ◌/◌, max, ◌≤◌, ◌<◌, length, leb, ltb}
+use Rattle.std.proofs.Common.{sym, ap, ◌∙◌, le-div_iff_mul-le, mul-le-mul_left, div-mul-le_self, arith, ltb-true, ltb-false, lt-ltb}
+use Rattle.std.proofs.Common.{le-ltb, le-leb, leb-true, leb-false}
 use Rattle.std.proofs.lemmas.Bool.{false≢true, lt-leb}
 use Rattle.std.proofs.Math.Nat.{div-zero}
 use Rattle.cover.specs.Sets.{when}

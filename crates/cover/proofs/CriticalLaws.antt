@@ -1,7 +1,9 @@
 -- The critical price, the largest whole price that wins, is what the rounds of the run without the bid give; with it the greedy
 -- cover is a threshold mechanism. Assumes nothing.
-use Rattle.std.specs.Prelude.{◌≡◌, refl, Bool, true, false, ◌&&◌, List, [], ◌∷◌, ℕ, zero, suc, ◌+◌, ◌-◌, ◌*◌, ◌/◌, ◌≤◌, ◌<◌, length, get_or, set, ltb, leb, eqb}
-use Rattle.std.proofs.Common.{sym, ◌∙◌, mul-le-mul, div-le_self, arith, get_or-set_same, get_or-set_other, set-set, ltb-true, ltb-false, le-leb}
+use Rattle.std.specs.Prelude.{◌≡◌, refl, Bool, true, false, ◌&&◌, List, [], ◌∷◌, ℕ, zero, suc, ◌+◌, ◌-◌, ◌*◌}
+use Rattle.std.specs.Prelude.{◌/◌, ◌≤◌, ◌<◌, length, get_or, set, ltb, leb, eqb}
+use Rattle.std.proofs.Common.{sym, ◌∙◌, mul-le-mul, div-le_self, arith, get_or-set_same, get_or-set_other, set-set, ltb-true}
+use Rattle.std.proofs.Common.{ltb-false, le-leb}
 use Rattle.std.proofs.Math.Path.{ap, fun_ext}
 use Rattle.std.proofs.Math.ListN.{length-set}
 use Rattle.std.proofs.lemmas.Bool.{lt-leb, eqb-false}
@@ -93,7 +95,10 @@ module _ (has : ℕ → ℕ → Bool) (ps cells : List ℕ) (k : ℕ) where
     pub wins_under : (p : ℕ) → wins_at has ps cells k p ≡ ltb p (limit has ps cells k)
     unfolding wins_at
     wins_under p = rw (get_or-set_same ps k p 0 inside, limit_same p)
-        at (wins_at_lem has (set ps k p) cells k (rw (length-set ps k p) inside) (rw (theirs has (λ i d. refl) p, length-set ps k p) spare))
+        at (wins_at_lem has (set ps k p) cells k (rw (length-set ps k p) inside) (rw (
+          theirs has (λ i d. refl) p,
+          length-set ps k p,
+        ) spare))
 
     -- the critical price is the maximum over the rounds
     pub critical_is : critical has ps cells k ≡ limit has ps cells k - 1

@@ -133,7 +133,7 @@ module _ (n k : ℕ) (inside : k < n) (B : ℕ → Entry) where
       a_first = x.least b y.inside (rw same_b at y.good)
 
       equal : withdrawn k B a ≡ B a → a ≡ b
-      equal same-a = before_one p (r O) a b a_first (rw (same-a, same_b) at (y.least a x.inside (rw same-a x.good)))
+      equal same_a = before_one p (r O) a b a_first (rw (same_a, same_b) at (y.least a x.inside (rw same_a x.good)))
 
       beaten : (a ≡ k → ⊥) → (c d : Bool) → ltb 0 (r O k) ≡ c → leb (p k * r O a + late k a) (p a * r O k) ≡ d → c
           && d ≡ false

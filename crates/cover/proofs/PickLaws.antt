@@ -1,7 +1,8 @@
 -- The pick of a round: of two bids one comes before the other, and the pick comes before all that reach a cell. Assumes nothing.
 use Rattle.std.specs.Prelude.{◌≡◌, ◌⊎◌, Bool, ltb}
 use Rattle.std.proofs.Math.Path.{refl}
-use Rattle.std.proofs.Common.{inl, inr, true≢false, le_antisymm, eq-or-lt_of_le, le_of_suc-le-suc, mul-le-mul_right, le_of_mul-le-mul_right, mul_right_comm}
+use Rattle.std.proofs.Common.{inl, inr, true≢false, le_antisymm, eq-or-lt_of_le, le_of_suc-le-suc, mul-le-mul_right}
+use Rattle.std.proofs.Common.{le_of_mul-le-mul_right, mul_right_comm}
 use Rattle.std.proofs.Math.Bool.{true, false}
 use Prim.Native.Nat.{ℕ, zero, suc, ◌+◌, ◌*◌, ◌≤◌, ◌<◌}
 use native.Mathlib.Omega.{arith}

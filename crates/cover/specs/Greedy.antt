@@ -68,4 +68,4 @@ bids has ps i = record { price = get_or ps i 0; has = has i }
 -- bid k wins where the run over the open cells takes it: each round closes a cell, so as many rounds as cells are enough
 unfoldable pub wins : (ℕ → ℕ → Bool) → List ℕ → List ℕ → ℕ → Bool
 unfolding run taken bids
-wins has ps open-cells k = taken k (run (bids has ps) (length ps) (length open-cells) open-cells)
+wins has ps open_cells k = taken k (run (bids has ps) (length ps) (length open_cells) open_cells)

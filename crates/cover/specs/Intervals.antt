@@ -1,5 +1,6 @@
 -- Bids that have one run of cells each: the least sets and costs by scans over the bids in order of start.
-use Rattle.std.specs.Prelude.{◌≡◌, Bool, cond, not, ◌&&◌, ◌||◌, ℕ, zero, suc, ◌+◌, ◌^◌, ◌≤◌, ◌<◌, ltb, leb, eqb}
+use Rattle.std.specs.Prelude.{◌≡◌, Bool, cond, not, ◌&&◌, ◌||◌, ℕ, zero, suc, ◌+◌, ◌^◌, ◌≤◌, ◌<◌, ltb}
+use Rattle.std.specs.Prelude.{leb, eqb}
 use Rattle.cover.specs.Sets.{Found, all, found, hit, nothing}
 use Rattle.cover.specs.LeastCover.{first}
 pub mod Bids

@@ -1,7 +1,8 @@
 -- The least cover and its VCG payments (paper 01, "Single"): the winners are the covering set of least cost; of two such sets, the one
 -- without the latest-entered bid that tells them apart. As numbers that is the least number among the sets of least cost.
 -- Nothing here asks what the family `ok` of sets is: in an award it is the sets that cover.
-use Rattle.std.specs.Prelude.{◌≡◌, Bool, true, false, not, ◌&&◌, List, ℕ, zero, suc, ◌-◌, ◌^◌, ◌≤◌, ◌<◌, length, get_or, set, ltb}
+use Rattle.std.specs.Prelude.{◌≡◌, Bool, true, false, not, ◌&&◌, List, ℕ, zero, suc, ◌-◌, ◌^◌, ◌≤◌, ◌<◌}
+use Rattle.std.specs.Prelude.{length, get_or, set, ltb}
 use Rattle.cover.specs.Sets.{Found, nothing, found, value_of, bit, cost}
 
 -- n where it passes and is better than what was found before

@@ -1,7 +1,8 @@
 -- Sets of bids over cells: which cells a set covers and what it costs (paper 01, "Who wins and what is paid").
 -- There are L cells, numbered from 0, and bids in entry order: `has i x` says that bid i has the cell x, and `ps` are the prices.
 -- A set of n bids is a number below 2 ^ n, bid i its bit i.
-use Rattle.std.specs.Prelude.{Bool, true, false, ◌&&◌, ◌||◌, List, [], ◌∷◌, ℕ, zero, suc, ◌+◌, ◌/◌, ◌%◌, eqb, leb}
+use Rattle.std.specs.Prelude.{Bool, true, false, ◌&&◌, ◌||◌, List, [], ◌∷◌, ℕ, zero, suc, ◌+◌, ◌/◌, ◌%◌, eqb}
+use Rattle.std.specs.Prelude.{leb}
 
 -- p where the condition holds, and 0 elsewhere
 abbrev pub when : Bool → ℕ → ℕ

@@ -1,5 +1,6 @@
 // With which price a bid of a tender of either kind would win if all else stood: `highest_price` answers the largest such price, that not
 // even 0 would, or a refusal. `highest_rule` Highest says what is answered.
+// The kinds differ in the lists that are lent and in the core that is called, so that one function for both would be no plainer.
 #![tactic(auto)]
 
 ghost use Rattle.std.specs.Prelude.{◌≡◌, ℕ, ◌+◌, ◌*◌, ◌/◌, ◌≤◌, ◌<◌, length, get_or};
@@ -9,40 +10,32 @@ ghost use Rattle.tender.specs.Limits.{max_entries};
 ghost use Rattle.tender.specs.Tables.{bid_width};
 ghost use Rattle.cover.specs.Winning.{one_less};
 ghost use Rattle.cover.specs.Settled.{most_cents};
-ghost use Rattle.multi_market.specs.Market.{place_or};
 ghost use Rattle.award_check.specs.Faults.{fault_of};
 ghost use Rattle.award_check.specs.Cells.{cells_of};
 ghost use Rattle.award_check.specs.Auction.{houses};
 ghost use Rattle.highest_rule.specs.Highest.{row_with, price_for, highest_of};
-ghost use Rattle.highest.specs.Asking.{SpansAsked, MasksAsked};
+ghost use Rattle.highest.specs.Asking.{found_row, SpansAsked, MasksAsked};
 
-use award_fault::Check;
-use award_thin::Thin;
-use tender::{Highest, Kind, Refusal, Tender};
+use tender::{Kind, Refusal, Tender};
 
-// The row with this bidder number; `count` where no row has it.
-fn row_with(bids: &[u64], count: usize, bidder: u64) -> usize
+// The row with this bidder number, where there is one.
+fn row_with(bids: &[u64], count: usize, bidder: u64) -> Option<usize>
     requires { count ≤ length bids.now / bid_width }
-    ensures { result ≡ place_or count (row_with bids.now count bidder) }
+    ensures { found_row result ≡ row_with bids.now count bidder }
 {
-    let mut i = count;
-    while 0 < i {
-        i -= 1;
+    for i in (0..count).rev() {
         if bids[tender::BID_WIDTH * i] == bidder {
-            return i;
+            return Some(i);
         }
     }
-    count
+    None
 }
 
 // The answer where a bid would win at the prices below this one: the largest of them.
-fn told(below: u64) -> Highest
+fn told(below: u64) -> Result<Option<u64>, Refusal>
     ensures { result ≡ price_for (one_less below) }
 {
-    if below == 0 {
-        return Highest::NoPrice;
-    }
-    Highest::Price(below - 1)
+    Ok(below.checked_sub(1))
 }
 
 // The answer for the bid with this number in a single tender that is laid out and of which no cell is thin.
@@ -56,17 +49,16 @@ fn ask_spans(
     starts: &[u64],
     ends: &[u64],
     order: &[usize],
-) -> Highest
+) -> Result<Option<u64>, Refusal>
     requires { SpansAsked tender count bids.now windows.now prices.old starts.now ends.now order.now }
     ensures { result ≡ highest_of tender count bids.now windows.now bidder }
 {
-    let i = row_with(bids, count, bidder);
-    if i < count {
-        let cells = award_layout::cells(tender);
-        return told(single_highest::below(starts, ends, prices, order, cells, i));
-    }
-    // 17: no bid has that number.
-    Highest::Refused(Refusal::NoSuchBidder)
+    let Some(i) = row_with(bids, count, bidder) else {
+        // 17: no bid has that number.
+        return Err(Refusal::NoSuchBidder);
+    };
+    let cells = award_layout::cells(tender);
+    told(single_highest::below(starts, ends, prices, order, cells, i))
 }
 
 // The same in a multi tender, w words an entry.
@@ -79,17 +71,16 @@ fn ask_masks(
     bidder: u64,
     prices: &[u64],
     masks: &[u64],
-) -> Highest
+) -> Result<Option<u64>, Refusal>
     requires { MasksAsked tender w count bids.now windows.now prices.now masks.now }
     ensures { result ≡ highest_of tender count bids.now windows.now bidder }
 {
-    let i = row_with(bids, count, bidder);
-    if i < count {
-        let cells = award_layout::cells(tender);
-        return told(multi_highest::below(prices, masks, w, cells as usize, i));
-    }
-    // 17: no bid has that number.
-    Highest::Refused(Refusal::NoSuchBidder)
+    let Some(i) = row_with(bids, count, bidder) else {
+        // 17: no bid has that number.
+        return Err(Refusal::NoSuchBidder);
+    };
+    let cells = award_layout::cells(tender);
+    told(multi_highest::below(prices, masks, w, cells as usize, i))
 }
 
 // A faultless single tender. Room for prices, starts and ends of as many entries, and for their order, is lent.
@@ -103,26 +94,20 @@ fn single_in(
     starts: &mut [u64],
     ends: &mut [u64],
     order: &mut [usize],
-) -> Highest
+) -> Result<Option<u64>, Refusal>
     requires { (fault_of Single tender count bids.now windows.now ≡ none)
         × ((length prices.old ≡ count + houses tender.reserve) × ((length starts.old ≡ count + houses tender.reserve)
         × ((length ends.old ≡ count + houses tender.reserve) × (length prices.old ≤ length order.old)))) }
     ensures { result ≡ highest_of tender count bids.now windows.now bidder }
 {
-    let thin = award_laid::lay_spans(tender, count, bids, windows, prices, starts, ends, order);
-    match thin {
-        // 11: a minute in no bid.
-        Thin::Nobody { cell } => Highest::Refused(Refusal::MinuteUncovered {
-            minute: award_layout::minute(tender, cell),
-        }),
-        // 12: a minute in one bid.
-        Thin::Alone { cell } => Highest::Refused(Refusal::OneBidder {
-            minute: award_layout::minute(tender, cell),
-        }),
-        Thin::Enough => ask_spans(
-            tender, count, bids, windows, bidder, prices, starts, ends, order,
-        ),
+    if let Err(thin) = award_laid::lay_spans(
+        tender, count, bids, windows, prices, starts, ends, order,
+    ) {
+        return Err(award_laid::refusal(tender, thin));
     }
+    ask_spans(
+        tender, count, bids, windows, bidder, prices, starts, ends, order,
+    )
 }
 
 // A faultless single tender.
@@ -132,7 +117,7 @@ fn highest_single(
     bids: &[u64],
     windows: &[u64],
     bidder: u64,
-) -> Highest
+) -> Result<Option<u64>, Refusal>
     requires { fault_of Single tender count bids.now windows.now ≡ none }
     ensures { result ≡ highest_of tender count bids.now windows.now bidder }
 {
@@ -164,24 +149,16 @@ fn multi_in(
     bidder: u64,
     prices: &mut [u64],
     masks: &mut [u64],
-) -> Highest
+) -> Result<Option<u64>, Refusal>
     requires { (fault_of Multi tender count bids.now windows.now ≡ none)
         × ((w ≡ (cells_of tender + 63) / 64) × ((length prices.old ≡ count + houses tender.reserve)
         × (length masks.old ≡ w * (count + houses tender.reserve)))) }
     ensures { result ≡ highest_of tender count bids.now windows.now bidder }
 {
-    let thin = award_laid::lay_masks(tender, w, count, bids, windows, prices, masks);
-    match thin {
-        // 11: a minute in no bid.
-        Thin::Nobody { cell } => Highest::Refused(Refusal::MinuteUncovered {
-            minute: award_layout::minute(tender, cell),
-        }),
-        // 12: a minute in one bid.
-        Thin::Alone { cell } => Highest::Refused(Refusal::OneBidder {
-            minute: award_layout::minute(tender, cell),
-        }),
-        Thin::Enough => ask_masks(tender, w, count, bids, windows, bidder, prices, masks),
+    if let Err(thin) = award_laid::lay_masks(tender, w, count, bids, windows, prices, masks) {
+        return Err(award_laid::refusal(tender, thin));
     }
+    ask_masks(tender, w, count, bids, windows, bidder, prices, masks)
 }
 
 // A faultless multi tender.
@@ -191,7 +168,7 @@ fn highest_multi(
     bids: &[u64],
     windows: &[u64],
     bidder: u64,
-) -> Highest
+) -> Result<Option<u64>, Refusal>
     requires { fault_of Multi tender count bids.now windows.now ≡ none }
     ensures { result ≡ highest_of tender count bids.now windows.now bidder }
 {
@@ -219,12 +196,11 @@ pub fn highest_sound(
     bids: &[u64],
     windows: &[u64],
     bidder: u64,
-) -> Highest
+) -> Result<Option<u64>, Refusal>
     requires { fault_of tender.kind tender count bids.now windows.now ≡ none }
     ensures { result ≡ highest_of tender count bids.now windows.now bidder }
 {
-    let kind = tender.kind;
-    match kind {
+    match tender.kind {
         Kind::Single => highest_single(tender, count, bids, windows, bidder),
         Kind::Multi => highest_multi(tender, count, bids, windows, bidder),
     }
@@ -238,13 +214,12 @@ pub fn highest_price(
     bids: &[u64],
     windows: &[u64],
     bidder: u64,
-) -> Highest
+) -> Result<Option<u64>, Refusal>
     ensures { result ≡ highest_of tender count bids.now windows.now bidder }
 {
-    let kind = tender.kind;
-    match award_fault::fault(kind, tender, count, bids, windows) {
-        Check::Sound => highest_sound(tender, count, bids, windows, bidder),
+    if let Some(row) = award_fault::fault(tender.kind, tender, count, bids, windows) {
         // 9: the tables break a rule.
-        Check::Faulty { row } => Highest::Refused(Refusal::BadTables { row: row }),
+        return Err(Refusal::BadTables { row });
     }
+    highest_sound(tender, count, bids, windows, bidder)
 }

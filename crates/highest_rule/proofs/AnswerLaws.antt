@@ -1,13 +1,12 @@
 -- How the answer to who asks for the highest price comes about: from a fault, a cell in no bid or in one, a number that no bid has, or the
 -- price below which the bid would win. Assumes nothing.
-use Rattle.std.specs.Prelude.{◌≡◌, refl, List, ◌++◌, ℕ, ◌<◌, length}
+use Rattle.std.specs.Prelude.{◌≡◌, refl, List, ◌++◌, ℕ, ◌<◌, length, Some, None, Ok, Err}
 use Rattle.std.proofs.Math.Path.{sym, ap}
 use Rattle.std.proofs.Common.{◌∙◌, arith, le-ltb}
 use Rattle.std.proofs.Math.Option.{none, some}
 use Rattle.tender.specs.declared.Window.{Window}
 use Rattle.tender.specs.declared.Tender.{Tender}
-use Rattle.tender.specs.declared.Highest.{Highest}
-use Rattle.tender.specs.declared.Highest.TheVariants.{Price, NoPrice, Refused}
+use Rattle.tender.specs.Types.{Highest}
 use Rattle.tender.specs.declared.AwardRow.{AwardRow}
 use Rattle.tender.specs.declared.Totals.{Totals}
 use Rattle.tender.specs.declared.Refusal.{Refusal}
@@ -30,11 +29,11 @@ use Rattle.highest_rule.proofs.HighestLaws.{highest_below}
 use Rattle.highest_rule.proofs.RowLaws.{row_inside, row_read}
 
 -- a price as it is answered
-pub price_found : (f : Found) (p : ℕ) → f ≡ found p → price_for f ≡ Price p
+pub price_found : (f : Found) (p : ℕ) → f ≡ found p → price_for f ≡ Ok (Some p)
 unfolding price_for
 price_found f p e = rw e
 
-pub price_none : (f : Found) → f ≡ nothing → price_for f ≡ NoPrice
+pub price_none : (f : Found) → f ≡ nothing → price_for f ≡ Ok None
 unfolding price_for
 price_none f e = rw e
 
@@ -46,7 +45,7 @@ module _ (t : Tender) (n : ℕ) (bids windows : List ℕ) (bidder : ℕ) where
   answer = highest_of t n bids windows bidder
 
   -- 9
-  pub nine : (p : ℕ) → fault_of t.kind t n bids windows ≡ some p → Refused (BadTables p) ≡ answer
+  pub nine : (p : ℕ) → fault_of t.kind t n bids windows ≡ some p → Err (BadTables p) ≡ answer
   unfolding highest_of unless_refused
   nine p e = rw (award_nine t.kind t n bids windows n p e)
 
@@ -56,25 +55,25 @@ module _ (t : Tender) (n : ℕ) (bids windows : List ℕ) (bidder : ℕ) where
     settles = award_settles t.kind t n bids windows n f (le-ltb n n (omega arith))
 
     -- 11
-    pub eleven : (x : ℕ) → thin_cell A 0 ≡ found x → Refused (MinuteUncovered (minute_of t x)) ≡ answer
+    pub eleven : (x : ℕ) → thin_cell A 0 ≡ found x → Err (MinuteUncovered (minute_of t x)) ≡ answer
     unfolding highest_of unless_refused thinned uncovered
     eleven x e = rw (settles (found x) (thin_cell A 1) e refl)
 
     -- 12
-    pub twelve : (x : ℕ) → thin_cell A 0 ≡ nothing → thin_cell A 1 ≡ found x → Refused (OneBidder (minute_of t x)) ≡ answer
+    pub twelve : (x : ℕ) → thin_cell A 0 ≡ nothing → thin_cell A 1 ≡ found x → Err (OneBidder (minute_of t x)) ≡ answer
     unfolding highest_of unless_refused thinned lone
     twelve x d e = rw (settles nothing (found x) d e)
 
     -- the tender is awarded
     module _ (covered : thin_cell A 0 ≡ nothing) (doubled : thin_cell A 1 ≡ nothing) where
-      pub asked : answer ≡ on_row (row_with bids n bidder) (Refused NoSuchBidder) (λ i. price_for (highest (rule t.kind) A i))
+      pub asked : answer ≡ on_row (row_with bids n bidder) (Err NoSuchBidder) (λ i. price_for (highest (rule t.kind) A i))
       unfolding highest_of unless_refused thinned
       asked = rw (settles nothing nothing covered doubled)
 
       -- 17
-      pub seventeen : row_with bids n bidder ≡ nothing → Refused NoSuchBidder ≡ answer
+      pub seventeen : row_with bids n bidder ≡ nothing → Err NoSuchBidder ≡ answer
       unfolding on_row
-      seventeen e = sym (asked ∙ ap (λ f. on_row f (Refused NoSuchBidder) (λ i. price_for (highest (rule t.kind) A i))) e)
+      seventeen e = sym (asked ∙ ap (λ f. on_row f (Err NoSuchBidder) (λ i. price_for (highest (rule t.kind) A i))) e)
 
       -- the other entries have every cell, of which there is one
       pub row_spared : (i : ℕ) → row_with bids n bidder ≡ found i → Spare A.has (length A.prices) A.cells i
@@ -88,7 +87,7 @@ module _ (t : Tender) (n : ℕ) (bids windows : List ℕ) (bidder : ℕ) where
 
       pub row_asked : (i : ℕ) → row_with bids n bidder ≡ found i → answer ≡ price_for (highest (rule t.kind) A i)
       unfolding on_row
-      row_asked i e = asked ∙ ap (λ f. on_row f (Refused NoSuchBidder) (λ i. price_for (highest (rule t.kind) A i))) e
+      row_asked i e = asked ∙ ap (λ f. on_row f (Err NoSuchBidder) (λ i. price_for (highest (rule t.kind) A i))) e
 
       -- the price
       pub price : (i m : ℕ) → row_with bids n bidder ≡ found i → Below (λ q. won (rule t.kind) (at_price i q A) i) m
@@ -98,10 +97,10 @@ module _ (t : Tender) (n : ℕ) (bids windows : List ℕ) (bidder : ℕ) where
 
 -- what an answer says: the award's refusal, a number that no row has, or the price for the row's bid
 pub data Answered (t : Tender) (n : ℕ) (bids windows : List ℕ) (bidder : ℕ) (a : Highest) : Type 0 where
-  declined : (r : Refusal) → award_of t.kind t n bids windows n ≡ refused r → a ≡ Refused r → Answered t n bids windows bidder a
+  declined : (r : Refusal) → award_of t.kind t n bids windows n ≡ refused r → a ≡ Err r → Answered t n bids windows bidder a
   unknown : (rows : List AwardRow) (totals : Totals) → AwardOn t.kind t n bids windows n rows totals
       → award_of t.kind t n bids windows n ≡ awarded rows totals → row_with bids n bidder ≡ nothing
-      → a ≡ Refused NoSuchBidder → Answered t n bids windows bidder a
+      → a ≡ Err NoSuchBidder → Answered t n bids windows bidder a
   priced : (rows : List AwardRow) (totals : Totals) → AwardOn t.kind t n bids windows n rows totals
       → award_of t.kind t n bids windows n ≡ awarded rows totals → (i : ℕ) → row_with bids n bidder ≡ found i
       → a ≡ price_for (highest (rule t.kind) (auction_of t n bids windows) i)
@@ -117,13 +116,13 @@ answered t n bids windows bidder a e = go (award_of t.kind t n bids windows n) r
 
     row : (rows : List AwardRow) (totals : Totals) → AwardOn t.kind t n bids windows n rows totals
         → award_of t.kind t n bids windows n ≡ awarded rows totals → (f : Found)
-        → row_with bids n bidder ≡ f → a ≡ on_row f (Refused NoSuchBidder) (price (rule t.kind))
+        → row_with bids n bidder ≡ f → a ≡ on_row f (Err NoSuchBidder) (price (rule t.kind))
         → Answered t n bids windows bidder a
     row rows totals w m nothing d h = unknown rows totals w m d h
     row rows totals w m (found i) d h = priced rows totals w m i d h
 
     go : (o : Outcome) → award_of t.kind t n bids windows n ≡ o
-        → a ≡ unless_refused o (on_row (row_with bids n bidder) (Refused NoSuchBidder) (price (rule t.kind)))
+        → a ≡ unless_refused o (on_row (row_with bids n bidder) (Err NoSuchBidder) (price (rule t.kind)))
         → Answered t n bids windows bidder a
     go (refused r) d h = declined r d h
     go (awarded rows totals) d h = row rows totals (award_awarded t.kind t n bids windows n rows totals (sym d)) d
@@ -135,11 +134,11 @@ pub highest_read : (T : Tender) (R : List Row) (W : List Window) → Rules T R W
     ≡ highest_of T (length R) (flat_rows R) (flat_windows W) bidder
 unfolding highest_of
 highest_read T R W rules v w bidder =
-    ap (λ o. unless_refused o (on_row (row_with (flat_rows R ++ v) (length R) bidder) (Refused NoSuchBidder)
+    ap (λ o. unless_refused o (on_row (row_with (flat_rows R ++ v) (length R) bidder) (Err NoSuchBidder)
     (price (auction_of T (length R) (flat_rows R ++ v) (flat_windows W ++ w))))) (award_read T R W rules v w (length R) (omega arith))
-    ∙ ap (λ B. unless_refused alone (on_row (row_with (flat_rows R ++ v) (length R) bidder) (Refused NoSuchBidder) (price B)))
+    ∙ ap (λ B. unless_refused alone (on_row (row_with (flat_rows R ++ v) (length R) bidder) (Err NoSuchBidder) (price B)))
     (auction_read T R W rules v w)
-    ∙ ap (λ f. unless_refused alone (on_row f (Refused NoSuchBidder) (price (auction_of T (length R) (flat_rows R) (flat_windows W)))))
+    ∙ ap (λ f. unless_refused alone (on_row f (Err NoSuchBidder) (price (auction_of T (length R) (flat_rows R) (flat_windows W)))))
     (row_read R v bidder)
   where
     price : Auction → ℕ → Highest

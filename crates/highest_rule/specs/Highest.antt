@@ -1,8 +1,7 @@
 -- With which price a bid would win, and what is answered to who asks (paper 02, request 8).
-use Rattle.std.specs.Prelude.{List, ℕ, ◌*◌, get_or, set, eqb}
+use Rattle.std.specs.Prelude.{List, ℕ, ◌*◌, get_or, set, eqb, Some, None, Ok, Err}
 use Rattle.tender.specs.declared.Tender.{Tender}
-use Rattle.tender.specs.declared.Highest.{Highest}
-use Rattle.tender.specs.declared.Highest.TheVariants.{Price, NoPrice, Refused}
+use Rattle.tender.specs.Types.{Highest}
 use Rattle.tender.specs.declared.Refusal.TheVariants.{NoSuchBidder}
 use Rattle.tender.specs.Tables.{bid_width}
 use Rattle.cover.specs.Sets.{Found, nothing, found, cells}
@@ -23,8 +22,8 @@ row_with bids n bidder = largest (λ i. eqb (get_or bids (bid_width * i) 0) bidd
 
 -- the price found, as it is answered
 unfoldable pub price_for : Found → Highest
-price_for nothing = NoPrice
-price_for (found p) = Price p
+price_for nothing = Ok None
+price_for (found p) = Ok (Some p)
 
 -- what is answered where a row is found, and where none is
 unfoldable pub on_row : Found → Highest → (ℕ → Highest) → Highest
@@ -34,12 +33,12 @@ on_row (found i) a f = f i
 -- what the award declines is declined
 unfoldable pub unless_refused : Outcome → Highest → Highest
 unless_refused (awarded rows totals) h = h
-unless_refused (refused r) h = Refused r
+unless_refused (refused r) h = Err r
 
 -- refused as by the award of the tender's own kind with an award row for every bid, so never with 10; then with 17 where no row has the
 -- number; else the price for the row's bid
 unfoldable pub highest_of : Tender → ℕ → List ℕ → List ℕ → ℕ → Highest
 unfolding unless_refused award_of on_row row_with price_for highest auction_of
 highest_of t n bids windows bidder =
-    unless_refused (award_of t.kind t n bids windows n) (on_row (row_with bids n bidder) (Refused NoSuchBidder)
+    unless_refused (award_of t.kind t n bids windows n) (on_row (row_with bids n bidder) (Err NoSuchBidder)
     (λ i. price_for (highest (rule t.kind) (auction_of t n bids windows) i)))

@@ -1,7 +1,6 @@
 -- What is written to who asks with which price a bid of a text would win (paper 02, request 8), and the promise of the call for C.
-use Rattle.std.specs.Prelude.{List, ◌∷◌, ◌++◌, ℕ, length}
-use Rattle.tender.specs.declared.Highest.{Highest}
-use Rattle.tender.specs.declared.Highest.TheVariants.{Price, NoPrice, Refused}
+use Rattle.std.specs.Prelude.{List, ◌∷◌, ◌++◌, ℕ, length, Some, None, Ok, Err}
+use Rattle.tender.specs.Types.{Highest}
 use Rattle.tender.specs.Keywords.{bytes}
 use Rattle.tender.specs.Tables.{flat_rows, flat_windows}
 use Rattle.reader_text.specs.Read.{ReadOutcome, accepted, refused, read_text}
@@ -22,9 +21,9 @@ none_line bidder = bytes "(highest" ++ (32 ∷ decimal bidder) ++ bytes " none)\
 -- (highest bidder price), that no price wins, or the line of the refusal
 unfoldable pub highest_line : ℕ → Highest → List ℕ
 unfolding pair_line highest_word none_line refused_line
-highest_line bidder (Price p) = pair_line highest_word bidder p
-highest_line bidder NoPrice = none_line bidder
-highest_line bidder (Refused r) = refused_line r
+highest_line bidder (Ok (Some p)) = pair_line highest_word bidder p
+highest_line bidder (Ok None) = none_line bidder
+highest_line bidder (Err r) = refused_line r
 
 -- by what reading the text answers: of what was read
 unfoldable pub highest_in : ReadOutcome → ℕ → List ℕ

@@ -1,11 +1,10 @@
 -- The line of what was read is the line of the text; no line is empty and none is longer than 52 bytes. Assumes nothing.
-use Rattle.std.specs.Prelude.{◌≡◌, List, [], ◌∷◌, ◌++◌, ℕ, ◌≤◌, ◌<◌, length}
+use Rattle.std.specs.Prelude.{◌≡◌, List, [], ◌∷◌, ◌++◌, ℕ, ◌≤◌, ◌<◌, length, Some, None, Ok, Err}
 use Rattle.std.proofs.Math.Path.{sym, subst}
 use Rattle.std.proofs.Common.{ap, ◌∙◌, arith, length-append}
 use Rattle.std.proofs.Math.Option.{none}
 use Rattle.tender.specs.declared.Tender.{Tender}
-use Rattle.tender.specs.declared.Highest.{Highest}
-use Rattle.tender.specs.declared.Highest.TheVariants.{Price, NoPrice, Refused}
+use Rattle.tender.specs.Types.{Highest}
 use Rattle.tender.specs.declared.Refusal.{Refusal}
 use Rattle.tender.specs.Keywords.{bytes}
 use Rattle.tender.specs.Tables.{flat_rows, flat_windows}
@@ -47,7 +46,7 @@ module _ {text bids windows : List ℕ} {t : Tender} {n : ℕ} (h : ReadIn text 
 
 -- a text that cannot be read
 pub told_refused : {text old new : List ℕ} {r bidder : ℕ} (q : Refusal) → read_text text ≡ refused q
-    → Delivered (highest_line bidder (Refused q)) old new r → HighestTold text bidder old new r
+    → Delivered (highest_line bidder (Err q)) old new r → HighestTold text bidder old new r
 unfolding highest_in highest_line
 told_refused {text} {old} {new} {r} {bidder} q e d =
     record { delivers = subst (λ line. Delivered line old new r) (sym (ap (λ o. highest_in o bidder) e)) d }
@@ -62,17 +61,16 @@ none_written bidder u v w = then (then u v) w
 
 -- the line of an answer, by its case
 module _ {old new : List ℕ} {r : ℕ} (bidder : ℕ) {a : Highest} where
-  pub line_price : (p : ℕ) → a ≡ Price p
-      → Written old 0 (pair_line (104 ∷ 105 ∷ 103 ∷ 104 ∷ 101 ∷ 115 ∷ 116 ∷ []) bidder p) new r
+  pub line_price : (p : ℕ) → a ≡ Ok (Some p) → Written old 0 (pair_line highest_word bidder p) new r
       → Written old 0 (highest_line bidder a) new r
-  unfolding highest_line highest_word bytes
+  unfolding highest_line
   line_price p e w = rw e w
 
-  pub line_none : a ≡ NoPrice → Written old 0 (none_line bidder) new r → Written old 0 (highest_line bidder a) new r
+  pub line_none : a ≡ Ok None → Written old 0 (none_line bidder) new r → Written old 0 (highest_line bidder a) new r
   unfolding highest_line
   line_none e w = rw e w
 
-  pub line_refused : (q : Refusal) → a ≡ Refused q → Written old 0 (refused_line q) new r
+  pub line_refused : (q : Refusal) → a ≡ Err q → Written old 0 (refused_line q) new r
       → Written old 0 (highest_line bidder a) new r
   unfolding highest_line
   line_refused q e w = rw e w
@@ -94,9 +92,9 @@ none_some bidder = omega (arith, length-append (bytes "(highest" ++ (32 ∷ deci
 
 pub line_short : (bidder : ℕ) (a : Highest) → (length (highest_line bidder a) ≤ 52) × (0 < length (highest_line bidder a))
 unfolding highest_line highest_word bytes
-line_short bidder (Price p) = (omega (arith, pair_short highest_word bidder p), pair_some highest_word bidder p)
-line_short bidder NoPrice = (none_short bidder, none_some bidder)
-line_short bidder (Refused r) = (refused_short r, refused_some r)
+line_short bidder (Ok (Some p)) = (omega (arith, pair_short highest_word bidder p), pair_some highest_word bidder p)
+line_short bidder (Ok None) = (none_short bidder, none_some bidder)
+line_short bidder (Err r) = (refused_short r, refused_some r)
 
 pub told_short : (text : List ℕ) (bidder : ℕ)
     → (length (highest_in (read_text text) bidder) ≤ 52) × (0 < length (highest_in (read_text text) bidder))

@@ -2,46 +2,59 @@
 // program in C (include/tender.h). `specs/Told.antt` says which line it writes.
 #![tactic(auto)]
 
-ghost use Rattle.std.specs.Prelude.{◌≡◌, ◌≤◌, length};
+ghost use Rattle.std.specs.Prelude.{◌≡◌, ◌≤◌, Ok, length};
 ghost use Rattle.spelling.specs.Written.{Written};
 ghost use Rattle.spelling.specs.Delivered.{Delivered};
 ghost use Rattle.highest_text.specs.Told.{none_line, highest_line, HighestTold};
 
-use reader_fill::Filling;
-use tender::Highest;
+use spelling_put::Page;
+use tender::Refusal;
 
 // The line of a bid that would win with no price.
 fn put_none(buf: &mut [u8], bidder: u64) -> usize
     requires { 52 ≤ length buf.old }
     ensures { Written buf.old 0 (none_line bidder) buf.new result }
 {
-    let begun = spelling_put::put_all(buf, 0, b"(highest");
-    let named = spelling_put::put_number(buf, begun, bidder);
-    spelling_put::put_all(buf, named, b" none)\n")
+    let mut page = Page::new(buf);
+    page.put_all(b"(highest");
+    page.put_number(bidder);
+    page.put_all(b" none)\n");
+    page.at
+}
+
+// The line of a bid and the largest price with which it would win, where one would.
+fn put_price(buf: &mut [u8], bidder: u64, price: Option<u64>) -> usize
+    requires { 52 ≤ length buf.old }
+    ensures { Written buf.old 0 (highest_line bidder (Ok price)) buf.new result }
+{
+    match price {
+        Some(price) => {
+            let mut page = Page::new(buf);
+            page.put_pair(b"highest", bidder, price);
+            page.at
+        }
+        None => put_none(buf, bidder),
+    }
 }
 
 // The line of an answer.
-fn put_line(buf: &mut [u8], bidder: u64, answer: Highest) -> usize
+fn put_line(buf: &mut [u8], bidder: u64, answer: Result<Option<u64>, Refusal>) -> usize
     requires { 52 ≤ length buf.old }
     ensures { Written buf.old 0 (highest_line bidder answer) buf.new result }
 {
     match answer {
-        Highest::Price(price) => spelling_put::put_pair(buf, 0, b"highest", bidder, price),
-        Highest::NoPrice => put_none(buf, bidder),
-        Highest::Refused(refusal) => spelling_put::put_refused(buf, refusal),
+        Ok(price) => put_price(buf, bidder, price),
+        Err(refusal) => spelling_put::put_refused(buf, refusal),
     }
 }
 
 // The line of an answer, where there is room.
-fn deliver(bidder: u64, answer: Highest, out: &mut [u8]) -> usize
+fn deliver(bidder: u64, answer: Result<Option<u64>, Refusal>, out: &mut [u8]) -> usize
     ensures { Delivered (highest_line bidder answer) out.old out.new result }
 {
     let mut line = [1u8; 52];
     let n = put_line(&mut line, bidder, answer);
-    if out.len() < n {
-        return 0;
-    }
-    spelling_put::put_all(out, 0, &line[..n])
+    spelling_put::deliver(&line[..n], out)
 }
 
 // The largest whole price with which the bid of this number would win if all else stood, as a line: its length, with the line at the
@@ -53,14 +66,16 @@ pub fn tender_highest(text: &[u8], bidder: u64, out: &mut [u8]) -> usize
     let mut bids = [1u64; tender::BID_TABLE];
     let mut windows = [1u64; tender::WINDOW_TABLE];
     match reader_fill::fill(text, &mut bids, &mut windows) {
-        Filling::Rows {
-            tender,
-            bids: n,
-            windows: _,
-        } => {
-            let answer = highest::highest_sound(tender, n, &bids, &windows, bidder);
+        Ok(filled) => {
+            let answer = highest::highest_sound(
+                filled.tender,
+                filled.bids,
+                &bids,
+                &windows,
+                bidder,
+            );
             deliver(bidder, answer, out)
         }
-        Filling::Refused(r) => deliver(bidder, Highest::Refused(r), out),
+        Err(refusal) => deliver(bidder, Err(refusal), out),
     }
 }

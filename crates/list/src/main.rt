@@ -3,8 +3,7 @@
 // than to list a short one, so a short text has smaller ones.
 #![tactic(auto)]
 
-ghost use Rattle.std.specs.Prelude.{◌≤◌, length};
-ghost use Rattle.list.specs.Input.{Within};
+ghost use Rattle.std.specs.Prelude.{◌≤◌, length, IfOk};
 
 use std::io::Read;
 
@@ -13,27 +12,21 @@ const STDOUT_FILENO: i32 = 1;
 
 const STDERR_FILENO: i32 = 2;
 
-// What was read: so many bytes stand in the buffer, or a read failed.
-#[derive(Clone, Copy)]
-pub(crate) enum Input {
-    Text(usize),
-    Failed,
-}
-
-// Reads from the place `from` on until the input ends or the buffer is full.
-fn read_on<R: Read>(input: &mut R, buf: &mut [u8], from: usize) -> Input
+// Reads from the place `from` on until the input ends or the buffer is full. Answers how many bytes stand in the buffer.
+fn read_on<R: Read>(input: &mut R, buf: &mut [u8], from: usize) -> std::io::Result<usize>
     requires { from ≤ length buf.old }
-    ensures { Within (length buf.new) result }
+    ensures { IfOk result (λ n. n ≤ length buf.new) }
 {
     let mut n = from;
+    // A while: how far a read goes on is the input's to say.
     while n < buf.len() {
-        match input.read(&mut buf[n..]) {
-            Ok(0) => return Input::Text(n),
-            Ok(more) => n += more,
-            Err(_) => return Input::Failed,
+        let more = input.read(&mut buf[n..])?;
+        if more == 0 {
+            return Ok(n);
         }
+        n += more;
     }
-    Input::Text(n)
+    Ok(n)
 }
 
 fn tell_unread() {
@@ -52,15 +45,16 @@ fn list_long<R: Read>(input: &mut R, first: &[u8])
     requires { length first.now ≤ 65537 }
 {
     let mut buf = [0u8; 65537];
-    let begun = spelling_put::put_all(&mut buf, 0, first);
+    let begun = first.len();
+    buf[..begun].copy_from_slice(first);
     match read_on(input, &mut buf, begun) {
-        Input::Text(n) => {
+        Ok(n) => {
             let k = listing_made::make_in(&mut buf, n);
             // The buffer always suffices: refusal 13 is ruled out here.
             check::expect(0 < k);
             write_list(&buf[..k]);
         }
-        Input::Failed => tell_unread(),
+        Err(_) => tell_unread(),
     }
 }
 
@@ -69,7 +63,7 @@ fn main(rt: HostRuntime) {
     let mut input = rt.stdin();
     let mut text = [0u8; 6656];
     match read_on(&mut input, &mut text, 0) {
-        Input::Text(n) => {
+        Ok(n) => {
             if n < text.len() {
                 let mut list = [0u8; 20480];
                 let k = listing_made::make(&text[..n], &mut list);
@@ -79,6 +73,6 @@ fn main(rt: HostRuntime) {
                 list_long(&mut input, &text);
             }
         }
-        Input::Failed => tell_unread(),
+        Err(_) => tell_unread(),
     }
 }

@@ -10,10 +10,7 @@ fn make_apart(text: &[u8], list: &mut [u8]) -> usize
 {
     let mut made = [1u8; 51200];
     let n = listing_made::make(text, &mut made);
-    if list.len() < n {
-        return 0;
-    }
-    spelling_put::put_all(list, 0, &made[..n])
+    spelling_put::deliver(&made[..n], list)
 }
 
 // The list of a text: its length, with the list at the start of `list` and the bytes past it staying; 0 where the list

@@ -1,8 +1,7 @@
 -- The lines of a list put together from their parts. Assumes nothing.
-use Rattle.std.specs.Prelude.{◌≡◌, refl, Bool, true, false, List, [], ℕ}
+use Rattle.std.specs.Prelude.{◌≡◌, refl, Bool, true, false, List, [], ℕ, Some, None}
 use Rattle.std.proofs.Common.{eq-eqb, ne_eqb}
-use Rattle.tender.specs.declared.Reserve.{Reserve}
-use Rattle.tender.specs.declared.Reserve.TheVariants.{Absent, Price}
+use Rattle.tender.specs.Types.{Reserve}
 use Rattle.tender.specs.declared.Tender.{Tender}
 use Rattle.tender.specs.declared.Totals.{Totals}
 use Rattle.tender.specs.Keywords.{bytes}
@@ -26,17 +25,17 @@ pub no_win : (bidder flag cents : ℕ) → (flag ≡ 1 → ⊥) → win_line bid
 unfolding win_line
 no_win bidder flag cents d = rw (ne_eqb flag 1 d)
 
-pub house_written : {old new : List ℕ} {at f : ℕ} (r : Reserve) (won : Bool) (p : ℕ) → r ≡ Price p → won ≡ true
+pub house_written : {old new : List ℕ} {at f : ℕ} (r : Reserve) (won : Bool) (p : ℕ) → r ≡ Some p → won ≡ true
     → Written old at (one_line (bytes "house") p) new f → Written old at (house_line r won) new f
 unfolding house_line house_word bytes
 house_written {old} {new} {at} {f} r won p e w x = rw (e, w) x
 
 pub house_lost : (r : Reserve) (won : Bool) → won ≡ false → house_line r won ≡ []
 unfolding house_line
-house_lost Absent won e = refl
-house_lost (Price p) won e = rw e
+house_lost None won e = refl
+house_lost (Some p) won e = rw e
 
-pub no_house : (r : Reserve) (won : Bool) → r ≡ Absent → house_line r won ≡ []
+pub no_house : (r : Reserve) (won : Bool) → r ≡ None → house_line r won ≡ []
 unfolding house_line
 no_house r won e = rw e
 

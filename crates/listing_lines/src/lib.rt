@@ -1,75 +1,67 @@
-// The lines of a list as bytes in a lent buffer: each function puts bytes from `at` on and answers the place past them; `put_awarded` puts
-// all of an award that is made, from the buffer's start on.
+// The lines of a list put onto a page; `put_awarded` puts all of an award that is made into a lent buffer, from its start on.
 #![tactic(auto)]
 
 ghost use Rattle.std.specs.Prelude.{◌++◌, ◌+◌, ◌*◌, ◌≤◌, ◌<◌, length};
 ghost use Rattle.tender.specs.Tables.{bid_width};
 ghost use Rattle.spelling.specs.Written.{Written};
+ghost use Rattle.spelling_put.specs.Puts.{Puts};
 ghost use Rattle.listing_text.specs.Lines.{award_line, win_line, win_lines, house_line, last_lines};
 
-use tender::{Reserve, Tender, Totals};
+use spelling_put::Page;
+use tender::{Tender, Totals};
 
 // The line (award single 0 100).
-fn put_award(buf: &mut [u8], at: usize, tender: Tender) -> usize
-    requires { at + 57 ≤ length buf.old }
-    ensures { Written buf.old at (award_line tender) buf.new result }
+fn put_award(page: &mut Page<'_>, tender: Tender)
+    requires { page.old.at + 57 ≤ length page.old.buf.now }
+    ensures { Puts page.old (award_line tender) page.new }
 {
-    let kind = tender.kind;
-    let begun = spelling_put::put_all(buf, at, b"(award ");
-    let said = spelling_put::put_kind(buf, begun, kind);
-    spelling_put::put_numbers(buf, said, tender.window.start, tender.window.end)
+    page.put_all(b"(award ");
+    page.put_kind(tender.kind);
+    page.put_numbers(tender.window.start, tender.window.end);
 }
 
-// The line (win bidder cents), where the bid won.
-fn put_win(buf: &mut [u8], at: usize, bidder: u64, flag: u64, cents: u64) -> usize
-    requires { at + 48 ≤ length buf.old }
-    ensures { Written buf.old at (win_line bidder flag cents) buf.new result }
+// The line (win bidder cents), where the bid won. The flag is the number that the award's plain list has, as `win_line` says it.
+fn put_win(page: &mut Page<'_>, bidder: u64, flag: u64, cents: u64)
+    requires { page.old.at + 48 ≤ length page.old.buf.now }
+    ensures { Puts page.old (win_line bidder flag cents) page.new }
 {
     if flag == 1 {
-        spelling_put::put_pair(buf, at, b"win", bidder, cents)
-    } else {
-        at
+        page.put_pair(b"win", bidder, cents);
     }
 }
 
 // The lines of the first n bids that won, in entry order.
-fn put_wins(buf: &mut [u8], at: usize, bids: &[u64], won: &[u64], cents: &[u64], n: usize) -> usize
+fn put_wins(page: &mut Page<'_>, bids: &[u64], won: &[u64], cents: &[u64], n: usize)
     requires { (bid_width * n ≤ length bids.now) × ((n ≤ length won.now)
-        × ((n ≤ length cents.now) × (at + 48 * n ≤ length buf.old))) }
-    ensures { Written buf.old at (win_lines bids.now won.now cents.now n)
-        buf.new result }
+        × ((n ≤ length cents.now) × (page.old.at + 48 * n ≤ length page.old.buf.now))) }
+    ensures { Puts page.old (win_lines bids.now won.now cents.now n) page.new }
 {
-    let mut end = at;
-    let mut i: usize = 0;
-    while i < n {
-        end = put_win(buf, end, bids[tender::BID_WIDTH * i], won[i], cents[i]);
-        i += 1;
+    for i in 0..n {
+        put_win(page, bids[tender::BID_WIDTH * i], won[i], cents[i]);
     }
-    end
 }
 
 // The line (house price), where the house won.
-fn put_house(buf: &mut [u8], at: usize, reserve: Reserve, won: bool) -> usize
-    requires { at + 29 ≤ length buf.old }
-    ensures { Written buf.old at (house_line reserve won) buf.new result }
+fn put_house(page: &mut Page<'_>, reserve: Option<u64>, won: bool)
+    requires { page.old.at + 29 ≤ length page.old.buf.now }
+    ensures { Puts page.old (house_line reserve won) page.new }
 {
     if !won {
-        return at;
+        return;
     }
     match reserve {
-        Reserve::Absent => at,
-        Reserve::Price(price) => spelling_put::put_one(buf, at, b"house", price),
+        None => {}
+        Some(price) => page.put_one(b"house", price),
     }
 }
 
 // The lines after the winners': the house's, and (total cost paid).
-fn put_last(buf: &mut [u8], at: usize, tender: Tender, totals: Totals) -> usize
-    requires { at + 79 ≤ length buf.old }
-    ensures { Written buf.old at (last_lines tender.reserve totals) buf.new result }
+fn put_last(page: &mut Page<'_>, tender: Tender, totals: Totals)
+    requires { page.old.at + 79 ≤ length page.old.buf.now }
+    ensures { Puts page.old (last_lines tender.reserve totals) page.new }
 {
-    let reserve = tender.reserve;
-    let said = put_house(buf, at, reserve, totals.house);
-    spelling_put::put_pair(buf, said, b"total", totals.cost, totals.paid)
+    put_house(page, tender.reserve, totals.house);
+    page.put_pair(b"total", totals.cost, totals.paid);
 }
 
 // The list of an award that is made.
@@ -88,7 +80,9 @@ pub fn put_awarded(
         ++ win_lines bids.now won.now cents.now n ++ last_lines tender.reserve totals)
         list.new result }
 {
-    let begun = put_award(list, 0, tender);
-    let named = put_wins(list, begun, bids, won, cents, n);
-    put_last(list, named, tender, totals)
+    let mut page = Page::new(list);
+    put_award(&mut page, tender);
+    put_wins(&mut page, bids, won, cents, n);
+    put_last(&mut page, tender, totals);
+    page.at
 }

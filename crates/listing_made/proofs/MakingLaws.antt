@@ -1,6 +1,6 @@
 -- The list of the award to the tables that were read is the list of the text, and a buffer with room for it gets it at once. Assumes
 -- nothing.
-use Rattle.std.specs.Prelude.{◌≡◌, List, ◌++◌, ℕ, ◌+◌, ◌*◌, ◌≤◌, ◌<◌, length, take, drop}
+use Rattle.std.specs.Prelude.{◌≡◌, List, ◌++◌, ℕ, ◌+◌, ◌*◌, ◌≤◌, ◌<◌, length, take, drop, Ok, Err}
 use Rattle.std.proofs.Common.{ap, arith, length-append, take-append-drop}
 use Rattle.std.proofs.Math.Option.{none}
 use Rattle.tender.specs.declared.Tender.{Tender}
@@ -11,14 +11,14 @@ use Rattle.reader_text.specs.Read as reading
 use Rattle.reader_text.proofs.RulesLaws.{rules_law}
 use Rattle.reader_text.proofs.SizeLaws.{bids_few}
 use Rattle.reader_fill.proofs.ReadInLaws.{ReadIn, few_read}
-use Rattle.tender.specs.declared.Answer.{Answer}
-use Rattle.tender.specs.declared.Answer.TheVariants.{Awarded, Refused}
+use Rattle.tender.specs.Types.{Answer}
 use Rattle.award_check.specs.Faults.{fault_of}
 use Rattle.award_check.proofs.TextLaws.{never_nine}
 use Rattle.award_rule.specs.Plain.{PlainPromise}
 use Rattle.spelling.specs.Lines.{refused_line}
 use Rattle.spelling.specs.Written.{Written}
-use Rattle.spelling.proofs.DeliveredLaws.{delivered_none, delivered_all}
+use Rattle.spelling.specs.Delivered.{Delivered}
+use Rattle.spelling.proofs.DeliveredLaws.{delivered_all}
 use Rattle.listing_text.specs.Lines.{award_line, win_lines, last_lines}
 use Rattle.listing_text.specs.List.{list_of, Listed}
 use Rattle.listing_text.proofs.ListLaws.{award_list, list_short}
@@ -26,7 +26,7 @@ use Rattle.listing_text.specs.Made.{answer_lines, AwardedWritten, Made}
 use Rattle.listing_made.specs.Room.{room_for}
 
 module _ {t : Tender} {n lent : ℕ} {bids windows ow oc won cents old new : List ℕ} {a : Answer} {f : ℕ} where
-  pub award_written : (totals : Totals) → a ≡ Awarded totals → n ≤ lent
+  pub award_written : (totals : Totals) → a ≡ Ok totals → n ≤ lent
       → PlainPromise t.kind t n bids windows lent ow oc won cents a →
       Written old 0 (award_line t ++ win_lines bids won cents n ++ last_lines t.reserve totals) new f
       → AwardedWritten t n bids windows old new f
@@ -43,7 +43,7 @@ module _ {t : Tender} {n lent : ℕ} {bids windows ow oc won cents old new : Lis
     written = rw e w;
   }
 
-  pub declined_written : (r : Refusal) → a ≡ Refused r → n ≤ lent
+  pub declined_written : (r : Refusal) → a ≡ Err r → n ≤ lent
       → PlainPromise t.kind t n bids windows lent ow oc won cents a →
       Written old 0 (refused_line r) new f → AwardedWritten t n bids windows old new f
   unfolding answer_lines
@@ -106,9 +106,5 @@ module _ {text old new : List ℕ} {n : ℕ} (m : Made text old new n) where
   listed_here l = record { delivers = delivered_all (omega (arith, (list_short text).0)) m.written }
 
   -- a shorter one gets a copy where it has room, and else nothing
-  pub listed_none : {short : List ℕ} → length short < n → Listed text short short 0
-  listed_none {short} l = record { delivers = delivered_none (list_of (read_text text)) short (omega (arith, m.written.next)) }
-
-  pub listed_all : {short copied : List ℕ} {r : ℕ} → n ≤ length short → Written short 0 (take n new) copied r
-      → Listed text short copied r
-  listed_all l w = record { delivers = delivered_all (omega (arith, m.written.next)) (rw m.written.text at w) }
+  pub listed_apart : {short copied : List ℕ} {r : ℕ} → Delivered (take n new) short copied r → Listed text short copied r
+  listed_apart d = record { delivers = rw m.written.text at d }

@@ -8,8 +8,7 @@ ghost use Rattle.award_check.specs.Faults.{fault_of};
 ghost use Rattle.listing_text.specs.Made.{AwardedWritten, Made};
 ghost use Rattle.listing_made.specs.Room.{room_for};
 
-use reader_fill::Filling;
-use tender::{Answer, Tender};
+use tender::Tender;
 
 // The list of the award to these tables, which break no rule.
 fn put_award(list: &mut [u8], tender: Tender, n: usize, bids: &[u64], windows: &[u64]) -> usize
@@ -19,12 +18,9 @@ fn put_award(list: &mut [u8], tender: Tender, n: usize, bids: &[u64], windows: &
 {
     let mut won = [1u64; 1000];
     let mut cents = [1u64; 1000];
-    let kind = tender.kind;
-    match award_settle::settle_sound(kind, tender, n, bids, windows, &mut won, &mut cents) {
-        Answer::Awarded(totals) => listing_lines::put_awarded(
-            list, tender, n, bids, &won, &cents, totals,
-        ),
-        Answer::Refused(r) => spelling_put::put_refused(list, r),
+    match award_settle::settle_sound(tender.kind, tender, n, bids, windows, &mut won, &mut cents) {
+        Ok(totals) => listing_lines::put_awarded(list, tender, n, bids, &won, &cents, totals),
+        Err(refusal) => spelling_put::put_refused(list, refusal),
     }
 }
 
@@ -36,12 +32,8 @@ pub fn make(text: &[u8], list: &mut [u8]) -> usize
     let mut bids = [1u64; tender::BID_TABLE];
     let mut windows = [1u64; tender::WINDOW_TABLE];
     match reader_fill::fill(text, &mut bids, &mut windows) {
-        Filling::Rows {
-            tender,
-            bids: n,
-            windows: _,
-        } => put_award(list, tender, n, &bids, &windows),
-        Filling::Refused(r) => spelling_put::put_refused(list, r),
+        Ok(filled) => put_award(list, filled.tender, filled.bids, &bids, &windows),
+        Err(refusal) => spelling_put::put_refused(list, refusal),
     }
 }
 
@@ -53,11 +45,7 @@ pub fn make_in(buf: &mut [u8], n: usize) -> usize
     let mut bids = [1u64; tender::BID_TABLE];
     let mut windows = [1u64; tender::WINDOW_TABLE];
     match reader_fill::fill(&buf[..n], &mut bids, &mut windows) {
-        Filling::Rows {
-            tender,
-            bids: k,
-            windows: _,
-        } => put_award(buf, tender, k, &bids, &windows),
-        Filling::Refused(r) => spelling_put::put_refused(buf, r),
+        Ok(filled) => put_award(buf, filled.tender, filled.bids, &bids, &windows),
+        Err(refusal) => spelling_put::put_refused(buf, refusal),
     }
 }

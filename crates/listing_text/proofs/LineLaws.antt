@@ -1,8 +1,9 @@
 -- How long the lines of a list are. Assumes nothing.
-use Rattle.std.specs.Prelude.{◌≡◌, Bool, true, false, cond, List, [], ◌∷◌, ◌++◌, ℕ, zero, suc, ◌+◌, ◌*◌, ◌≤◌, ◌<◌, length, get_or, eqb}
+use Rattle.std.specs.Prelude.{◌≡◌, Bool, true, false, cond, List, [], ◌∷◌, ◌++◌, ℕ, zero, suc, ◌+◌, ◌*◌}
+use Rattle.std.specs.Prelude.{◌≤◌, ◌<◌, length, get_or, eqb}
+use Rattle.std.specs.Prelude.{Some, None}
 use Rattle.std.proofs.Common.{arith, length-append}
-use Rattle.tender.specs.declared.Reserve.{Reserve}
-use Rattle.tender.specs.declared.Reserve.TheVariants.{Absent, Price}
+use Rattle.tender.specs.Types.{Reserve}
 use Rattle.tender.specs.declared.Tender.{Tender}
 use Rattle.tender.specs.declared.Totals.{Totals}
 use Rattle.tender.specs.Keywords.{bytes}
@@ -51,9 +52,9 @@ wins_short R rows (suc n) = go (get_or rows n lost).won (wins_short R rows n)
 
 pub house_short : (r : Reserve) (won : Bool) → length (house_line r won) ≤ 29
 unfolding house_line house_word bytes
-house_short Absent won = omega arith
-house_short (Price p) false = omega arith
-house_short (Price p) true = omega (arith, one_short (104 ∷ 111 ∷ 117 ∷ 115 ∷ 101 ∷ []) p)
+house_short None won = omega arith
+house_short (Some p) false = omega arith
+house_short (Some p) true = omega (arith, one_short (104 ∷ 111 ∷ 117 ∷ 115 ∷ 101 ∷ []) p)
 
 last_short : (r : Reserve) (totals : Totals) → length (last_lines r totals) ≤ 79
 unfolding last_lines total_word bytes

@@ -1,6 +1,8 @@
 -- The award on what was read gives the list of the text; no list is empty and none is longer than 51,200 bytes; neither 8 nor 10 is
 -- ever shown. Assumes nothing.
-use Rattle.std.specs.Prelude.{◌≡◌, refl, ◌⊎◌, true, List, [], ◌∷◌, ◌++◌, ℕ, zero, suc, ◌+◌, ◌*◌, ◌≤◌, ◌<◌, length, get_or, take, drop, leb, eqb}
+use Rattle.std.specs.Prelude.{◌≡◌, refl, ◌⊎◌, true, List, [], ◌∷◌, ◌++◌, ℕ, zero, suc, ◌+◌, ◌*◌, ◌≤◌}
+use Rattle.std.specs.Prelude.{◌<◌, length, get_or, take, drop, leb, eqb}
+use Rattle.std.specs.Prelude.{Ok, Err}
 use Rattle.std.proofs.Common.{sym, ap, ◌∙◌, inl, inr, append-nil, arith, length-append, le-ltb, le-leb}
 use Rattle.std.proofs.Math.Option.{none}
 use Rattle.tender.specs.declared.Window.{Window}
@@ -22,8 +24,7 @@ use Rattle.award_check.proofs.TextLaws.{bidder_read}
 use Rattle.award_rule.specs.Award.{rule, Outcome, uncovered, lone, thinned, settled, award_of, outcome_number, outcome_place}
 use Rattle.award_outcome.specs.Gain.{lost}
 use Rattle.award_rule.proofs.ReadLaws.{award_read, award_number}
-use Rattle.tender.specs.declared.Answer.{Answer}
-use Rattle.tender.specs.declared.Answer.TheVariants.{Awarded, Refused}
+use Rattle.tender.specs.Types.{Answer}
 use Rattle.award_rule.specs.Plain.{rows_in, told_in, PlainPromise}
 use Rattle.spelling.proofs.LineLaws.{refused_short, refused_some}
 use Rattle.spelling.proofs.DeliveredLaws.{delivered_is}
@@ -53,8 +54,8 @@ win_lines_lem R v won cents n (suc m) l h = rw (
 pub answer_lines_lem : (T : Tender) (R : List Row) (v won cents : List ℕ) (a : Answer)
     → answer_lines T (flat_rows R ++ v) won cents (length R) a ≡ list_lines T R (told_in (length R) won cents a)
 unfolding answer_lines list_lines told_in
-answer_lines_lem T R v won cents (Awarded totals) = rw (win_lines_lem R v won cents (length R) (length R) (omega arith) (omega arith))
-answer_lines_lem T R v won cents (Refused r) = refl
+answer_lines_lem T R v won cents (Ok totals) = rw (win_lines_lem R v won cents (length R) (length R) (omega arith) (omega arith))
+answer_lines_lem T R v won cents (Err r) = refl
 
 -- the award on what was read gives the list of the text
 pub award_list : (T : Tender) (R : List Row) (W : List Window) (v w : List ℕ) (lent : ℕ) (won cents won' cents' : List ℕ)

@@ -1,7 +1,6 @@
 -- The lists of three awards to one bid beside a reserve, by the definition: both win, the house alone, the bid alone. Assumes nothing.
-use Rattle.std.specs.Prelude.{◌≡◌, refl, Bool, true, false, List, [], ◌∷◌, ℕ}
+use Rattle.std.specs.Prelude.{◌≡◌, refl, Bool, true, false, List, [], ◌∷◌, ℕ, Some}
 use Rattle.tender.specs.declared.Kind.TheVariants.{Multi}
-use Rattle.tender.specs.declared.Reserve.TheVariants.{Price}
 use Rattle.tender.specs.declared.Tender.{Tender}
 use Rattle.tender.specs.Keywords.{bytes}
 use Rattle.tender.specs.Tables.{Row}
@@ -9,7 +8,7 @@ use Rattle.award_rule.specs.Award.{awarded}
 use Rattle.listing_text.specs.List.{list_lines}
 
 multi : Tender
-multi = record { kind = Multi; window = record { start = 0; end = 10 }; reserve = Price 100 }
+multi = record { kind = Multi; window = record { start = 0; end = 10 }; reserve = Some 100 }
 
 -- the list where the bid's flag is so, it is paid so many cents, and the totals are these
 shown : Bool → ℕ → ℕ → Bool → List ℕ

@@ -1,7 +1,6 @@
 -- The lines of a list as bytes (paper 01, "One list in full").
-use Rattle.std.specs.Prelude.{Bool, cond, List, [], ◌∷◌, ◌++◌, ℕ, zero, suc, ◌*◌, get_or, eqb}
-use Rattle.tender.specs.declared.Reserve.{Reserve}
-use Rattle.tender.specs.declared.Reserve.TheVariants.{Absent, Price}
+use Rattle.std.specs.Prelude.{Bool, cond, List, [], ◌∷◌, ◌++◌, ℕ, zero, suc, ◌*◌, get_or, eqb, Some, None}
+use Rattle.tender.specs.Types.{Reserve}
 use Rattle.tender.specs.declared.Tender.{Tender}
 use Rattle.tender.specs.declared.Totals.{Totals}
 use Rattle.tender.specs.Keywords.{bytes}
@@ -44,8 +43,8 @@ win_lines bids won cents (suc n) = win_lines bids won cents n
 -- (house price), where the house won
 unfoldable pub house_line : Reserve → Bool → List ℕ
 unfolding house_word one_line
-house_line Absent won = []
-house_line (Price p) won = cond won (one_line house_word p) []
+house_line None won = []
+house_line (Some p) won = cond won (one_line house_word p) []
 
 -- the lines after the winners': the house's, and (total cost paid)
 unfoldable pub last_lines : Reserve → Totals → List ℕ

@@ -1,9 +1,8 @@
 -- What the inner functions of the listing leave in the buffer in which the list is made.
-use Rattle.std.specs.Prelude.{List, ◌++◌, ℕ, ◌≤◌}
+use Rattle.std.specs.Prelude.{List, ◌++◌, ℕ, ◌≤◌, Ok, Err}
 use Rattle.tender.specs.declared.Tender.{Tender}
 use Rattle.reader_text.specs.Read.{read_text}
-use Rattle.tender.specs.declared.Answer.{Answer}
-use Rattle.tender.specs.declared.Answer.TheVariants.{Awarded, Refused}
+use Rattle.tender.specs.Types.{Answer}
 use Rattle.award_rule.specs.Plain.{PlainPromise}
 use Rattle.spelling.specs.Lines.{refused_line}
 use Rattle.spelling.specs.Written.{Written}
@@ -13,8 +12,8 @@ use Rattle.listing_text.specs.List.{list_of}
 -- the list of an award's answer, from the numbers of the table of bids and the flags and cents
 unfoldable pub answer_lines : Tender → List ℕ → List ℕ → List ℕ → ℕ → Answer → List ℕ
 unfolding award_line win_lines last_lines refused_line
-answer_lines t bids won cents n (Awarded totals) = award_line t ++ win_lines bids won cents n ++ last_lines t.reserve totals
-answer_lines t bids won cents n (Refused r) = refused_line r
+answer_lines t bids won cents n (Ok totals) = award_line t ++ win_lines bids won cents n ++ last_lines t.reserve totals
+answer_lines t bids won cents n (Err r) = refused_line r
 
 -- the list of the award to these tables is written: the award left the lists `won` and `cents` and answered a
 pub record AwardedWritten (t : Tender) (n : ℕ) (bids windows old new : List ℕ) (end : ℕ) : Type 0 where

@@ -1,6 +1,8 @@
 -- The award into lists with a place for each bid, as the first part of longer lists, with room in parts of local arrays. Assumes nothing.
-use Rattle.std.specs.Prelude.{◌≡◌, Bool, List, ◌++◌, ℕ, ◌+◌, ◌-◌, ◌*◌, ◌≤◌, ◌<◌, length, get_or, take, drop, replicate}
-use Rattle.std.proofs.Common.{sym, ap, ◌∙◌, mul-le-mul, arith, get_or-append-add, get_or-drop, length-take-le, length-append, length-drop}
+use Rattle.std.specs.Prelude.{◌≡◌, Bool, List, ◌++◌, ℕ, ◌+◌, ◌-◌, ◌*◌, ◌≤◌, ◌<◌, length, get_or, take}
+use Rattle.std.specs.Prelude.{drop, replicate}
+use Rattle.std.proofs.Common.{sym, ap, ◌∙◌, mul-le-mul, arith, get_or-append-add, get_or-drop, length-take-le, length-append}
+use Rattle.std.proofs.Common.{length-drop}
 use Rattle.std.proofs.lemmas.List.{length-replicate}
 use Rattle.std.proofs.Math.ListN.{get_or-append}
 use Rattle.tender.specs.Limits.{max_entries}

@@ -1,4 +1,4 @@
-// The greedy award over plain numbers (paper 01, "Multi"): a flag and the cents paid for each bid.
+// The greedy award over plain numbers: a flag and the cents paid for each bid.
 // `award` takes a price and w words of cells a bid; what a bid is paid is said where the others have each of the `count` cells.
 #![tactic(auto)]
 
@@ -14,29 +14,26 @@ ghost use Rattle.multi_rounds.specs.Trace.{Trace};
 ghost use Rattle.multi_pay.specs.Paying.{Listed, Paid};
 ghost use Rattle.multi.specs.Picked.{Picked};
 
+use multi_market::Bids;
+
 // The keys of the bids in `ever`; the others are out.
 fn pick(tree: &[u64], ever: &[u64], list: &mut [u64])
     requires { (length tree.now ≡ 2048) × ((length ever.now ≡ 16) × (length list.old ≡ 2048)) }
     ensures { Tree list.new × Picked ever.now (leaves tree.now) (leaves list.new) }
 {
-    let mut i = 0;
-    while i < 1024 {
-        if cells::holds(ever, i) {
-            list[1024 + i] = tree[1024 + i];
-            i += 1;
+    for i in 0..1024 {
+        list[1024 + i] = if cells::holds(ever, i) {
+            tree[1024 + i]
         } else {
-            list[1024 + i] = multi_keys::OUT;
-            i += 1;
-        }
+            multi_keys::OUT
+        };
     }
     multi_keys::play(list);
 }
 
 // The run from all cells open, written down, and the list of the bids in `ever` before its first round. Answers the number of rounds.
 fn write(
-    prices: &[u64],
-    masks: &[u64],
-    hop: &[u8],
+    bids: Bids,
     ever: &[u64],
     count: usize,
     held: &mut [u64],
@@ -46,22 +43,22 @@ fn write(
     run: &mut [u64],
     tape: &mut [u64],
 ) -> usize
-    requires { Market prices.now masks.now (length held.old) × (Hopping prices.now masks.now hop.now (length held.old)
-        × ((count ≤ 64 * length held.old) × (((3 * count + 3 ≤ length run.old) × (2 * count ≤ length tape.old))
+    requires { (length held.old ≡ bids.w) × ((count ≤ 64 * length held.old) × (((3 * count + 3 ≤ length run.old)
+        × (2 * count ≤ length tape.old))
         × ((length counts.old ≡ length held.old + 2) × ((length ever.now ≡ 16) × ((length tree.old ≡ 2048)
-        × (length list.old ≡ 2048))))))) }
-    ensures { Trace (has masks.now (length held.old)) prices.now (length held.old)
+        × (length list.old ≡ 2048)))))) }
+    ensures { Trace (has bids.entry.masks.now (length held.old)) bids.entry.prices.now (length held.old)
         count run.new tape.new result
         × (((h : List ℕ) → First count h → length h ≡ length held.old
-        → Listed (has masks.now (length held.old)) prices.now h ever.now
+        → Listed (has bids.entry.masks.now (length held.old)) bids.entry.prices.now h ever.now
         (leaves list.new))
         × Tree list.new) }
 {
     multi_market::unlock(held, count);
     cells_count::count_none(held, counts);
-    multi_rounds::enter(prices, masks, hop, held, counts, tree);
+    multi_rounds::enter(bids, held, counts, tree);
     pick(tree, ever, list);
-    multi_rounds::trace(prices, masks, hop, count, held, counts, tree, run, tape)
+    multi_rounds::trace(bids, count, held, counts, tree, run, tape)
 }
 
 // The award into lists with a place for each bid and no more, with room to work lent.
@@ -93,13 +90,17 @@ fn settle(
         cents.new }
 {
     multi_charts::chart(prices, masks, held.len(), hop);
-    multi_index::enlist(prices, masks, hop, held.len(), index, ever);
-    let rounds = write(
-        prices, masks, hop, ever, count, held, counts, tree, list, run, tape,
-    );
+    let bids = Bids {
+        prices,
+        masks,
+        hop,
+        w: held.len(),
+    };
+    multi_index::enlist(bids, index, ever);
+    let rounds = write(bids, ever, count, held, counts, tree, list, run, tape);
     multi_pay::pay_all(
-        prices, masks, hop, index, ever, run, tape, count, rounds, held, alt, counts, list, tree,
-        mark, won, cents,
+        bids, index, ever, run, tape, count, rounds, held, alt, counts, list, tree, mark, won,
+        cents,
     );
 }
 

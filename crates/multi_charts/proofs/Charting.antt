@@ -14,7 +14,7 @@ use Rattle.cells.specs.Cells.{whole}
 use Rattle.cells_count.specs.Hops.{Hops}
 use Rattle.cells.proofs.StoreLaws.{lt_or_le}
 use Rattle.multi_keys.specs.Keys.{at}
-use Rattle.multi_market.specs.Market.{word_row, Market, Hopping}
+use Rattle.multi_market.specs.Market.{word_row, Market}
 use Rattle.multi_market.proofs.WordRowLaws.{row_length, row_in, row_at}
 use Rattle.multi_charts.specs.Charts.{Backed, Charted}
 
@@ -28,22 +28,10 @@ pub record Charting (ms : List ℕ) (w i : ℕ) (old new : List ℕ) (q gap : �
   pub within : (p : ℕ) → q ≤ p → p < w → at new (w * i + p) ≤ w
   pub runs : (p : ℕ) → q ≤ p → p < w → at (word_row ms w i) p ≡ whole → (x : ℕ) → p ≤ x → x < at new (w * i + p)
       → at (word_row ms w i) x ≡ whole
-  pub gaps : (p : ℕ) → q ≤ p → p < w → (at (word_row ms w i) p ≡ whole → ⊥) → (x : ℕ) → p < x → x < at new (w * i + p)
+  pub gaps : (p : ℕ) → q ≤ p → p < w → (at (word_row ms w i) p ≡ whole → ⊥) → (x : ℕ) → p < x
+      → x < at new (w * i + p)
       → at (word_row ms w i) x ≡ 0
   pub others : (p : ℕ) → (p < w * i) ⊎ (w * i + w ≤ p) → at new p ≡ at old p
-
-pub charts_none : (ms : List ℕ) (w i : ℕ) (old : List ℕ) → Charting ms w i old old w w
-charts_none ms w i old = record {
-  same = refl;
-  gap_low = omega arith;
-  gap_high = omega arith;
-  zeros = λ p a b. absurd (omega arith);
-  on = λ p a b. absurd (omega arith);
-  within = λ p a b. absurd (omega arith);
-  runs = λ p a b. absurd (omega arith);
-  gaps = λ p a b. absurd (omega arith);
-  others = λ p o. refl;
-}
 
 -- the hops r up to q are v
 record Set (w i : ℕ) (new new' : List ℕ) (r q v : ℕ) : Type 0 where
@@ -57,7 +45,8 @@ module _ {ms : List ℕ} {w i : ℕ} {old new : List ℕ} {q gap : ℕ} (s : Cha
 
   more : {new' : List ℕ} {r v gap' : ℕ} → Set w i new new' r q v → r ≤ q → q ≤ v → v ≤ w
       → ((p : ℕ) → r ≤ p → p < q → M p ≡ whole → (x : ℕ) → p ≤ x → x < v → M x ≡ whole)
-      → ((p : ℕ) → r ≤ p → p < q → (M p ≡ whole → ⊥) → (x : ℕ) → p < x → x < v → M x ≡ 0) → r ≤ gap' → gap' ≤ w
+      → ((p : ℕ) → r ≤ p → p < q → (M p ≡ whole → ⊥) → (x : ℕ) → p < x → x < v → M x ≡ 0) → r ≤ gap'
+      → gap' ≤ w
       → ((p : ℕ) → r ≤ p → p < gap' → M p ≡ 0) → Charting ms w i old new' r gap'
   more {new'} {r} {v} {gap'} t low a b rs gs g1 g2 g3 = record {
     same = t.size ∙ s.same;
@@ -66,12 +55,15 @@ module _ {ms : List ℕ} {w i : ℕ} {old new : List ℕ} {q gap : ℕ} (s : Cha
     zeros = g3;
     on = λ p x y. go (λ p v. p < v) p x (λ z. omega arith) (λ z. s.on p z y);
     within = λ p x y. go (λ p v. v ≤ w) p x (λ z. b) (λ z. s.within p z y);
-    runs = λ p x y. go (λ p v. M p ≡ whole → (x : ℕ) → p ≤ x → x < v → M x ≡ whole) p x (λ z. rs p x z) (λ z. s.runs p z y);
-    gaps = λ p x y. go (λ p v. (M p ≡ whole → ⊥) → (x : ℕ) → p < x → x < v → M x ≡ 0) p x (λ z. gs p x z) (λ z. s.gaps p z y);
+    runs = λ p x y. go (λ p v. M p ≡ whole → (x : ℕ) → p ≤ x → x < v
+        → M x ≡ whole) p x (λ z. rs p x z) (λ z. s.runs p z y);
+    gaps = λ p x y. go (λ p v. (M p ≡ whole → ⊥) → (x : ℕ) → p < x → x < v
+        → M x ≡ 0) p x (λ z. gs p x z) (λ z. s.gaps p z y);
     others = λ p o. t.there p (⊎_elim (λ z. inl (omega arith)) (λ z. inr (omega arith)) o) ∙ s.others p o;
   }
     where
-      go : (P : ℕ → ℕ → Type 0) (p : ℕ) → r ≤ p → (p < q → P p v) → (q ≤ p → P p (at new (w * i + p))) → P p (at new' (w * i + p))
+      go : (P : ℕ → ℕ → Type 0) (p : ℕ) → r ≤ p → (p < q → P p v) → (q ≤ p → P p (at new (w * i + p)))
+          → P p (at new' (w * i + p))
       go P p x h k = ⊎_elim (λ z. rw (t.here p x z) (h z)) (λ z. rw (t.there (w * i + p) (inr (omega arith))) (k z)) (lt_or_le p q)
 
   -- a gap, and then a run, gone back over
@@ -107,31 +99,6 @@ pub record Backing (ms : List ℕ) (a q m v : ℕ) (old new : List ℕ) (r : ℕ
   pub hops : (p : ℕ) → r ≤ p → p < q → at new (a + p) ≡ v
   pub others : (p : ℕ) → (p < a + r) ⊎ (a + q ≤ p) → at new p ≡ at old p
 
-pub backs_none : (ms : List ℕ) (a q m v : ℕ) (old : List ℕ) → Backing ms a q m v old old q
-backs_none ms a q m v old = record {
-  same = refl;
-  low = omega arith;
-  words = λ p x y. absurd (omega arith);
-  hops = λ p x y. absurd (omega arith);
-  others = λ p o. refl;
-}
-
-module _ {ms : List ℕ} {a q m v : ℕ} {old new : List ℕ} {r : ℕ} (s : Backing ms a q m v old new r) where
-  pub backs_more : 0 < r → a + q ≤ length old → at ms (a + r - 1) ≡ m → Backing ms a q m v old (set new (a + (r - 1)) v) (r - 1)
-  backs_more l f e = record {
-    same = simp length-set s.same;
-    low = omega (arith, s.low);
-    words = λ p x y. ⊎_elim (λ z. let d : a + p ≡ a + r - 1 = omega arith in rw d e) (λ z. s.words p z y) (lt_or_le p r);
-    hops = λ p x y. ⊎_elim (λ z. let d : p ≡ r - 1 = omega arith in
-        rw d (get_or-set_same new (a + (r - 1)) v 0 (omega (arith, s.same, s.low))))
-        (λ z. get_or-set_other new (a + (r - 1)) (a + p) v 0 (λ d. omega arith) ∙ s.hops p z y) (lt_or_le p r);
-    others = λ p o. get_or-set_other new (a + (r - 1)) p v 0 (λ d. ⊎_elim (λ z. omega arith) (λ z. omega (arith, s.low)) o)
-        ∙ s.others p (⊎_elim (λ z. inl (omega arith)) (λ z. inr z) o);
-  }
-
-  pub backs_all : (0 < r → at ms (a + (r - 1)) ≡ m → ⊥) → Backed ms a q m v old new r
-  backs_all n = record { low = s.low; words = s.words; hops = s.hops; others = s.others; stop = n }
-
 -- a word with some cells
 pub charts_some : {ms : List ℕ} {w i : ℕ} {old new : List ℕ} {q gap : ℕ} → Charting ms w i old new q gap → q ≤ w → 0 < q
     → w * i + w ≤ length old → (at ms (w * i + (q - 1)) ≡ whole → ⊥)
@@ -150,7 +117,8 @@ charts_some {ms} {w} {i} {old} {new} {q} {gap} s m l f n =
     one : (p : ℕ) → q - 1 ≤ p → p < q → at (word_row ms w i) p ≡ whole → at ms (w * i + (q - 1)) ≡ whole
     one p x y h = let e : p ≡ q - 1 = omega arith in rw (← e) (sym (row_at ms w i p (omega arith)) ∙ h)
 
-pub charts_all : {ms : List ℕ} {w i : ℕ} {old new : List ℕ} {q gap : ℕ} → Charting ms w i old new q gap → q ≡ 0 → w * i + w ≤ length ms
+pub charts_all : {ms : List ℕ} {w i : ℕ} {old new : List ℕ} {q gap : ℕ} → Charting ms w i old new q gap → q ≡ 0
+    → w * i + w ≤ length ms
     → length old ≡ length ms → Charted ms w i old new
 charts_all {ms} {w} {i} {old} {new} s e f g = record {
   own = record {
@@ -171,7 +139,8 @@ pub record Charts (ps ms : List ℕ) (w : ℕ) (hop : List ℕ) (i : ℕ) : Type
   pub size : length hop ≡ length ms
   pub done : (j : ℕ) → j < i → Hops (word_row ms w j) (word_row hop w j)
 
-same_row : (w j : ℕ) (a b : List ℕ) → length a ≡ length b → ((q : ℕ) → q < w → at a (w * j + q) ≡ at b (w * j + q)) → w * j + w ≤ length b
+same_row : (w j : ℕ) (a b : List ℕ) → length a ≡ length b → ((q : ℕ) → q < w → at a (w * j + q) ≡ at b (w * j + q))
+    → w * j + w ≤ length b
     → word_row a w j ≡ word_row b w j
 same_row w j a b e h l = ext_get_or 0 (word_row a w j) (word_row b w j) (row_length a w j (omega arith) ∙ sym (row_length b w j l))
     (λ q m. let z : q < w = omega (arith, row_length a w j (omega arith)) in row_at a w j q z ∙ h q z ∙ sym (row_at b w j q z))
@@ -185,6 +154,3 @@ charts_on {ps} {ms} {w} {hop} {new} {i} m s l e c = record { size = e ∙ s.size
     go j z false d = let y : j < i = omega (arith, eqb-false j i d) in
         rw (same_row w j new hop e (λ q v. c.others (w * j + q) (inl (omega (arith, mul-le-mul_left w y, mul-suc w j))))
         (omega (arith, row_in ps ms w j m (omega arith), s.size))) (s.done j y)
-
-pub charts_end : {ps ms : List ℕ} {w : ℕ} {hop : List ℕ} {i : ℕ} → Charts ps ms w hop i → length ps ≤ i → Hopping ps ms hop w
-charts_end s l = record { size = s.size; each = λ j z. s.done j (omega arith) }

@@ -6,27 +6,18 @@ ghost use Rattle.std.specs.Prelude.{◌≡◌, ◌+◌, ◌*◌, ◌<◌, ◌≤
 ghost use Rattle.multi_market.specs.Market.{Market, Hopping};
 ghost use Rattle.multi_charts.specs.Charts.{Backed, Charted};
 
-fn byte(x: usize) -> u8
-    requires { x < 256 }
-    ensures { result ≡ x }
-{
-    x as u8
-}
-
 // Goes back from word q over words that are m, and sets their hops to `to`. Answers the first of them.
 fn back(masks: &[u64], a: usize, q: usize, m: u64, to: u8, hop: &mut [u8]) -> usize
     requires { (a + q ≤ length masks.now) × (length hop.old ≡ length masks.now) }
     ensures { Backed masks.now a q m to hop.old hop.new result }
 {
-    let mut r = q;
-    while 0 < r {
-        if masks[a + r - 1] != m {
-            return r;
+    for r in (0..q).rev() {
+        if masks[a + r] != m {
+            return r + 1;
         }
-        r -= 1;
         hop[a + r] = to;
     }
-    r
+    0
 }
 
 // The hops of bid i's words, from the last word back: a gap, then a run, else a word with some cells.
@@ -37,15 +28,16 @@ fn chart_row(masks: &[u64], w: usize, i: usize, hop: &mut [u8])
     let a = w * i;
     let mut q = w;
     let mut gap = w;
+    // a while: q goes back over a gap and a run at a time, not by one
     while 0 < q {
-        let z = back(masks, a, q, 0, byte(gap), hop);
-        let r = back(masks, a, z, !0, byte(z), hop);
+        let z = back(masks, a, q, 0, gap as u8, hop);
+        let r = back(masks, a, z, !0, z as u8, hop);
         if r < z {
             q = r;
             gap = r;
         } else if 0 < z {
             q = z - 1;
-            hop[a + q] = byte(gap);
+            hop[a + q] = gap as u8;
             gap = q;
         } else {
             q = 0;
@@ -58,9 +50,7 @@ pub fn chart(prices: &[u64], masks: &[u64], w: usize, hop: &mut [u8])
     requires { Market prices.now masks.now w × (length hop.old ≡ length masks.now) }
     ensures { Hopping prices.now masks.now hop.new w }
 {
-    let mut i = 0;
-    while i < prices.len() {
+    for i in 0..prices.len() {
         chart_row(masks, w, i, hop);
-        i += 1;
     }
 }

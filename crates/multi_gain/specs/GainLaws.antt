@@ -1,5 +1,6 @@
 -- Laws of the bids that gain: the walk along a word's chain, and the pairs one after the other. Assumes nothing.
-use Rattle.std.specs.Prelude.{◌≡◌, refl, ◌⊎◌, Bool, true, false, ◌||◌, List, ℕ, ◌+◌, ◌-◌, ◌*◌, ◌/◌, ◌%◌, ◌^◌, ◌≤◌, ◌<◌, length, set, eqb}
+use Rattle.std.specs.Prelude.{◌≡◌, refl, ◌⊎◌, Bool, true, false, ◌||◌, List, ℕ, ◌+◌, ◌-◌, ◌*◌, ◌/◌}
+use Rattle.std.specs.Prelude.{◌%◌, ◌^◌, ◌≤◌, ◌<◌, length, set, eqb}
 use Rattle.std.proofs.Common.{sym, ap, ◌∙◌, inl, inr, ⊎_elim, arith, get_or-set_same, get_or-set_other, eqb-true}
 use Rattle.std.proofs.lemmas.Bool.{false≢true, eqb-false}
 use Rattle.std.proofs.Math.Nat.{zero-div}
@@ -64,14 +65,8 @@ module _ {ps ms alt index : List ℕ} {q m : ℕ} {keys mark keys' mark' : List 
   pub node : 0 < t → (158 ≤ t) × (t < s.top)
   node l = ⊎_elim (λ e. absurd (omega arith)) (λ h. h) s.here
 
-  pub node_in : 0 < t → 2 * t + 1 < length index
-  node_in l = omega (arith, (node l).1, s.chained.room)
-
   pub bid_in_lem : 0 < t → bid_at index t < length ps
   bid_in_lem l = s.chained.bids t (node l).0 (node l).1
-
-  pub next_below : 0 < t → next_at index t < t
-  next_below l = s.chained.earlier t (node l).0 (node l).1
 
   -- the node's bid has no cell of m, or a mark
   pub passes : 0 < t → (bit_and (mask_at index t) m ≡ 0) ⊎ (0 < cell mark' (bid_at index t))

@@ -12,34 +12,32 @@ ghost use Rattle.multi_index.specs.Index.{Indexed};
 ghost use Rattle.multi_market.specs.Seats.{key_at};
 ghost use Rattle.multi_gain.specs.Gain.{Spread, Gained};
 
+use multi_market::Bids;
+
 // Marks bid b, and enters it with its key.
 pub fn rank(
-    prices: &[u64],
-    masks: &[u64],
-    hop: &[u8],
+    bids: Bids,
     alt: &[u64],
     counts: &mut [u64],
     tree: &mut [u64],
     mark: &mut [u64],
     b: usize,
 )
-    requires { Market prices.now masks.now (length alt.now) × (Hopping prices.now masks.now hop.now (length alt.now)
-        × (Counted alt.now counts.old × (Tree tree.old × ((length mark.old ≡ 16) × (b < length prices.now))))) }
+    requires { (length alt.now ≡ bids.w) × (Counted alt.now counts.old × (Tree tree.old × ((length mark.old ≡ 16)
+        × (b < length bids.prices.now)))) }
     ensures { Tree tree.new × ((leaves tree.new
-        ≡ set (leaves tree.old) b (key_at (has masks.now (length alt.now)) prices.now
+        ≡ set (leaves tree.old) b (key_at (has bids.entry.masks.now (length alt.now)) bids.entry.prices.now
         alt.now b))
         × (RangeAdded b (b + 1) mark.old mark.new × Counted alt.now counts.new)) }
 {
-    let r = multi_market::overlap(alt, counts, masks, hop, b);
-    multi_keys::put(tree, b, multi_keys::key_of(prices[b], r, b));
+    let r = multi_market::overlap(alt, counts, bids.masks, bids.hop, b);
+    multi_keys::put(tree, b, multi_keys::key_of(bids.prices[b], r, b));
     cells::add(mark, b);
 }
 
 // Marks the bids that have a cell of m in word q.
 fn gain(
-    prices: &[u64],
-    masks: &[u64],
-    hop: &[u8],
+    bids: Bids,
     index: &[u64],
     alt: &[u64],
     counts: &mut [u64],
@@ -48,35 +46,28 @@ fn gain(
     q: usize,
     m: u64,
 )
-    requires { Market prices.now masks.now (length alt.now) × (Hopping prices.now masks.now hop.now (length alt.now)
-        × (Indexed (length prices.now) masks.now (length alt.now) index.now mark.old × (Counted alt.now counts.old
-        × (Tree tree.old × ((length mark.old ≡ 16) × (q < length alt.now)))))) }
-    ensures { Tree tree.new × (Spread prices.now masks.now alt.now q m
+    requires { (length alt.now ≡ bids.w) × (Indexed (length bids.prices.now) bids.masks.now (length alt.now) index.now mark.old
+        × (Counted alt.now counts.old
+        × (Tree tree.old × ((length mark.old ≡ 16) × (q < length alt.now))))) }
+    ensures { Tree tree.new × (Spread bids.entry.prices.now bids.entry.masks.now alt.now q m
         (leaves tree.old) mark.old (leaves tree.new) mark.new
         × Counted alt.now counts.new) }
 {
     let mut t = (index[2 * q] / 1024) as usize;
+    // a while: t goes on along a chain, not by one
     while 0 < t {
         let x = index[2 * t];
         let b = (x % 1024) as usize;
-        if index[2 * t + 1] & m != 0 {
-            if cells::holds(mark, b) {
-                t = (x / 1024) as usize;
-            } else {
-                rank(prices, masks, hop, alt, counts, tree, mark, b);
-                t = (x / 1024) as usize;
-            }
-        } else {
-            t = (x / 1024) as usize;
+        if index[2 * t + 1] & m != 0 && !cells::holds(mark, b) {
+            rank(bids, alt, counts, tree, mark, b);
         }
+        t = (x / 1024) as usize;
     }
 }
 
 // Marks the bids that have an open cell of the pairs a up to z.
 pub fn gain_pairs(
-    prices: &[u64],
-    masks: &[u64],
-    hop: &[u8],
+    bids: Bids,
     index: &[u64],
     pairs: &[u64],
     a: usize,
@@ -86,24 +77,19 @@ pub fn gain_pairs(
     tree: &mut [u64],
     mark: &mut [u64],
 )
-    requires { Market prices.now masks.now (length alt.now) × (Hopping prices.now masks.now hop.now (length alt.now)
-        × (Indexed (length prices.now) masks.now (length alt.now) index.now mark.old
+    requires { (length alt.now ≡ bids.w) × (Indexed (length bids.prices.now) bids.masks.now (length alt.now) index.now mark.old
         × (Paired pairs.now (length alt.now) a z × (Counted alt.now counts.old
-        × (Tree tree.old × (length mark.old ≡ 16)))))) }
-    ensures { Tree tree.new × (Gained (has masks.now (length alt.now)) prices.now
+        × (Tree tree.old × (length mark.old ≡ 16))))) }
+    ensures { Tree tree.new × (Gained (has bids.entry.masks.now (length alt.now)) bids.entry.prices.now
         alt.now (in_pairs pairs.now a (z - a)) (leaves tree.old) mark.old
         (leaves tree.new) mark.new
         × Counted alt.now counts.new) }
 {
-    let mut p = a;
-    while p < z {
+    for p in a..z {
         let q = pairs[2 * p] as usize;
         let x = alt[q] & pairs[2 * p + 1];
         if x != 0 {
-            gain(prices, masks, hop, index, alt, counts, tree, mark, q, x);
-            p += 1;
-        } else {
-            p += 1;
+            gain(bids, index, alt, counts, tree, mark, q, x);
         }
     }
 }

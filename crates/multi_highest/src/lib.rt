@@ -12,62 +12,59 @@ ghost use Rattle.multi_market.specs.Market.{has, Market, Hopping};
 ghost use Rattle.multi_highest.specs.Rounding.{Rounding, LimitIs};
 
 use multi_limit::Walk;
+use multi_market::Bids;
 
 // The run without bid k before its first round: the first cells open, and each bid but k entered.
 fn begin(
-    prices: &[u64],
-    masks: &[u64],
-    hop: &[u8],
+    bids: Bids,
     count: usize,
     k: usize,
     held: &mut [u64],
     counts: &mut [u64],
     tree: &mut [u64],
 ) -> Walk
-    requires { Market prices.now masks.now (length held.old) × (Hopping prices.now masks.now hop.now (length held.old)
-        × ((count ≤ 64 * length held.old) × ((k < length prices.now) × ((length counts.old ≡ length held.old + 2)
-        × (length tree.old ≡ 2048))))) }
-    ensures { Rounding (has masks.now (length held.old)) prices.now count k held.new
+    requires { (length held.old ≡ bids.w) × ((count ≤ 64 * length held.old) × ((k < length bids.prices.now)
+        × ((length counts.old ≡ length held.old + 2)
+        × (length tree.old ≡ 2048)))) }
+    ensures { Rounding (has bids.entry.masks.now (length held.old)) bids.entry.prices.now count k held.new
         (leaves tree.new) result.mine result.top
         × ((result.bid ≡ k) × (Tree tree.new × Counted held.new counts.new)) }
 {
     multi_market::unlock(held, count);
     cells_count::count_none(held, counts);
-    multi_rounds::enter(prices, masks, hop, held, counts, tree);
-    let mine = multi_market::overlap(held, counts, masks, hop, k);
+    multi_rounds::enter(bids, held, counts, tree);
+    let mine = multi_market::overlap(held, counts, bids.masks, bids.hop, k);
     multi_keys::put(tree, k, multi_keys::OUT);
     Walk {
         bid: k,
         round: 0,
         mine,
         top: 0,
-        over: false,
     }
 }
 
 // The rounds of the run without bid k, as long as k has an open cell. Answers the maximum over them.
 fn rounds(
-    prices: &[u64],
-    masks: &[u64],
-    hop: &[u8],
+    bids: Bids,
     count: usize,
     k: usize,
     held: &mut [u64],
     counts: &mut [u64],
     tree: &mut [u64],
 ) -> u64
-    requires { Market prices.now masks.now (length held.old) × (Hopping prices.now masks.now hop.now (length held.old)
-        × ((count ≤ 64 * length held.old) × ((k < length prices.now) × ((length counts.old ≡ length held.old + 2)
-        × (length tree.old ≡ 2048))))) }
-    ensures { LimitIs (has masks.now (length held.old)) prices.now count k result }
+    requires { (length held.old ≡ bids.w) × ((count ≤ 64 * length held.old) × ((k < length bids.prices.now)
+        × ((length counts.old ≡ length held.old + 2)
+        × (length tree.old ≡ 2048)))) }
+    ensures { LimitIs (has bids.entry.masks.now (length held.old)) bids.entry.prices.now count k result }
 {
-    let mut walk = begin(prices, masks, hop, count, k, held, counts, tree);
+    let mut walk = begin(bids, count, k, held, counts, tree);
+    // a while: the run goes on as long as k has an open cell, not a number of times
     while 0 < walk.mine {
-        let f = multi_rounds::front(prices, masks, hop, held, counts, tree, multi_keys::LAST);
+        let f = multi_rounds::front(bids, held, counts, tree, multi_keys::LAST);
         if multi_keys::LAST < f.key {
             return walk.top;
         }
-        walk = multi_limit::take(prices, masks, hop, walk, f, 0, held, counts, tree);
+        walk = multi_limit::take(bids, walk, f, 0, held, counts, tree);
     }
     walk.top
 }
@@ -90,7 +87,13 @@ fn below_in(
     ensures { LimitIs (has masks.now w) prices.now count k result }
 {
     multi_charts::chart(prices, masks, w, hop);
-    rounds(prices, masks, hop, count, k, held, counts, tree)
+    let bids = Bids {
+        prices,
+        masks,
+        hop,
+        w,
+    };
+    rounds(bids, count, k, held, counts, tree)
 }
 
 // The price below which bid k would win, all else standing: the run without it, and in each round the prices at which k is taken before

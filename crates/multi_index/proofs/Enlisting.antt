@@ -4,24 +4,18 @@ use mathlib.Core.Logic.{◌⊎◌, inl, inr, ⊎_elim}
 use mathlib.Core.Bool.{true, false}
 use mathlib.Core.List.{List}
 use Prim.Native.Nat.{ℕ, ◌+◌, ◌*◌, ◌≤◌, ◌<◌}
-use native.Mathlib.Nat.{mul-le-mul}
 use native.Mathlib.Omega.{arith}
-use lib.ListN.{length, set, length-set}
-use lib.Seq.{get_or-set_same, get_or-set_other}
-use Rattle.cells.specs.Cells.{cell, RangeAdded, whole}
-use Rattle.cells.proofs.StoreLaws.{lt_or_le, ne_or_eq}
+use lib.ListN.{length}
+use Rattle.cells.specs.Cells.{cell, whole}
+use Rattle.cells.proofs.StoreLaws.{lt_or_le}
 use Rattle.cells_count.specs.Hops.{Hops, Onward}
 use Rattle.multi_keys.specs.Keys.{at}
 use Rattle.multi_market.specs.Market.{word_row}
 use Rattle.multi_market.proofs.WordRowLaws.{row_length, row_at}
-use Rattle.multi_index.specs.Index.{next_at, Lists, Chained, Indexed}
-use Rattle.multi_index.specs.Enlisted.{Pushed, Kept, Enlisted, Wide, SaysWide}
+use Rattle.multi_index.specs.Index.{next_at, Lists, Chained}
+use Rattle.multi_index.specs.Enlisted.{Pushed, Kept, Wide, SaysWide}
 use Rattle.multi_index.specs.Enlisted.Wide.{here, later}
-use Rattle.multi_index.specs.IndexLaws.{chained_more, push_chained, push_own, push_kept}
-
--- where a row begins is a small number
-pub row_small : (w i : ℕ) → w ≤ 158 → i < 1024 → w * i ≤ 158 * 1024
-row_small w i a b = let c : i ≤ 1024 = omega arith in mul-le-mul a c
+use Rattle.multi_index.specs.IndexLaws.{push_chained, push_own, push_kept}
 
 -- ---- clear_heads: the first nodes below q have no chain
 pub record Clearing (old new : List ℕ) (q : ℕ) : Type 0 where
@@ -29,38 +23,11 @@ pub record Clearing (old new : List ℕ) (q : ℕ) : Type 0 where
   pub within : q ≤ 158
   pub none : (p : ℕ) → p < q → at new (2 * p) ≡ 0
 
-pub clears_none : (old : List ℕ) → Clearing old old 0
-clears_none old = record { same = refl; within = omega arith; none = λ p l. absurd (omega arith) }
-
-pub clears_more : {old new : List ℕ} {q : ℕ} → Clearing old new q → q < 158 → 316 ≤ length old
-    → Clearing old (set new (2 * q) 0) (q + 1)
-clears_more {old} {new} {q} s l f = record {
-  same = simp length-set s.same;
-  within = omega arith;
-  none = λ p a. ⊎_elim (λ n. get_or-set_other new (2 * q) (2 * p) 0 0 (λ e. n (omega arith)) ∙ s.none p (less p a n))
-      (λ e. rw e (get_or-set_same new (2 * q) 0 0 (omega (arith, s.same)))) (ne_or_eq p q);
-}
-  where
-    less : (p : ℕ) → p < q + 1 → (p ≡ q → ⊥) → p < q
-    less p a n = ⊎_elim (λ b. b) (λ b. absurd (n (omega arith))) (lt_or_le p q)
-
-pub clears_all : {old new : List ℕ} {q : ℕ} → Clearing old new q → 158 ≤ q → 316 ≤ length old → Chained 0 new 158
-clears_all {old} {new} {q} s l f = record {
-  heads = omega arith;
-  room = omega (arith, s.same);
-  next = λ t a. inl (omega (arith, s.none t (omega arith)));
-  earlier = λ t a b. absurd (omega arith);
-  bids = λ t a b. absurd (omega arith);
-}
-
 -- ---- is_wide: the hops of bid i from word q on come to such a word if those from word 0 on do
 pub record Widening (ms hop : List ℕ) (w i q : ℕ) : Type 0 where
   pub within : q ≤ w
   pub back : Wide (word_row ms w i) (word_row hop w i) q → Wide (word_row ms w i) (word_row hop w i) 0
   pub forth : Wide (word_row ms w i) (word_row hop w i) 0 → Wide (word_row ms w i) (word_row hop w i) q
-
-pub widens_none : (ms hop : List ℕ) (w i : ℕ) → Widening ms hop w i 0
-widens_none ms hop w i = record { within = omega arith; back = λ x. x; forth = λ x. x }
 
 not_here : {mask hop : List ℕ} {q : ℕ} → (at mask q ≡ whole → q + 3 < at hop q → ⊥) → Wide mask hop q
     → Wide mask hop (at hop q)
@@ -113,16 +80,6 @@ pub record Enlisting (ms : List ℕ) (w i : ℕ) (old : List ℕ) (top : ℕ) (n
   pub kept : Kept old top new t
   pub own : (p : ℕ) → p < q → (at (word_row ms w i) p ≡ 0 → ⊥) → Lists new t (next_at new p) i (at (word_row ms w i) p)
 
-pub enlists_none : (ms : List ℕ) (w i : ℕ) {old : List ℕ} {top : ℕ} → Chained i old top → Enlisting ms w i old top old top 0
-enlists_none ms w i c = record {
-  same = refl;
-  within = omega arith;
-  room = omega arith;
-  chained = chained_more (omega arith) c;
-  kept = λ q j m a l. l;
-  own = λ p l. absurd (omega arith);
-}
-
 module _ {ms : List ℕ} {w i : ℕ} {old : List ℕ} {top : ℕ} {new : List ℕ} {t q : ℕ} (s : Enlisting ms w i old top new t q) where
   past_or_same : (p : ℕ) → q ≤ p → (q < p) ⊎ (p ≡ q)
   past_or_same p a = ⊎_elim (λ b. inl b) (λ b. inr (omega arith)) (lt_or_le q p)
@@ -156,9 +113,6 @@ module _ {ms : List ℕ} {w i : ℕ} {old : List ℕ} {top : ℕ} {new : List �
         (past_or_same x a)) (lt_or_le x q);
   }
 
-  pub enlists_all : w ≤ q → Enlisted ms w i old top new t
-  enlists_all l = record { chained = s.chained; kept = s.kept; own = λ p a n. s.own p (omega arith) n }
-
 -- ---- enlist: the bids below i are in the chains of their words, or in `ever`
 pub record Indexing (ms : List ℕ) (w : ℕ) (old index ever : List ℕ) (t i : ℕ) : Type 0 where
   pub same : length index ≡ length old
@@ -175,28 +129,3 @@ indexes_none f e c = record { same = refl; few = f; sixteen = e; chained = c; li
 module _ {ms : List ℕ} {w : ℕ} {old index ever : List ℕ} {t i : ℕ} (s : Indexing ms w old index ever t i) where
   below_or_same : (j : ℕ) → j < i + 1 → (j < i) ⊎ (j ≡ i)
   below_or_same j l = ⊎_elim (λ a. inl a) (λ a. inr (omega arith)) (lt_or_le j i)
-
-  pub indexes_ever : {next : List ℕ} → length next ≡ length ever → RangeAdded i (i + 1) ever next
-      → Indexing ms w old index next t (i + 1)
-  indexes_ever {next} e f = record {
-    same = s.same;
-    few = s.few;
-    sixteen = e ∙ s.sixteen;
-    chained = chained_more (omega arith) s.chained;
-    lists = λ j q l a z n. ⊎_elim (λ b. s.lists j q b a (sym (f.below j b) ∙ z) n)
-        (λ b. absurd (omega (arith, f.inside j (omega arith) (omega arith), z))) (below_or_same j l);
-  }
-
-  pub indexes_row : {next : List ℕ} {r : ℕ} → length next ≡ length index → Enlisted ms w i index t next r → w ≤ 158
-      → Indexing ms w old next ever r (i + 1)
-  indexes_row {next} {r} e c f = record {
-    same = e ∙ s.same;
-    few = omega (arith, s.few);
-    sixteen = s.sixteen;
-    chained = c.chained;
-    lists = λ j q l a z n. ⊎_elim (λ b. c.kept q j (at (word_row ms w j) q) (omega arith) (s.lists j q b a z n))
-        (λ b. rw b (c.own q a (rw b at n))) (below_or_same j l);
-  }
-
-  pub indexes_all : {n : ℕ} → i ≡ n → Indexed n ms w index ever
-  indexes_all e = let done : Indexed i ms w index ever = record { top = t; chained = s.chained; lists = s.lists } in rw e at done

@@ -1,5 +1,6 @@
 // For each word the bids that have a cell there, as chains. A bid with a long run of whole words shares cells with nearly every other:
-// it is entered in no chain, but in the set `ever`; so is one for which there is no room.
+// it is entered in no chain, but in the set `ever`; so is one for which there is no room. The nodes are numbers in one lent slice, as the
+// rule "no heap, fixed memory" asks; Index says how they are packed.
 #![tactic(auto)]
 
 ghost use Rattle.std.specs.Prelude.{◌≡◌, ◌+◌, ◌*◌, ◌<◌, ◌≤◌, length};
@@ -7,6 +8,8 @@ ghost use Rattle.cells_count.specs.Hops.{Hops};
 ghost use Rattle.multi_market.specs.Market.{word_row, Market, Hopping};
 ghost use Rattle.multi_index.specs.Index.{Chained, Indexed};
 ghost use Rattle.multi_index.specs.Enlisted.{Pushed, Enlisted, SaysWide};
+
+use multi_market::Bids;
 
 // Puts node t, of bid i with the cells m, in front of word q's chain.
 fn push(index: &mut [u64], q: usize, t: usize, i: usize, m: u64)
@@ -30,15 +33,14 @@ fn enlist_row(masks: &[u64], hop: &[u8], w: usize, i: usize, index: &mut [u64], 
     let e = a + w;
     let mut q = 0;
     let mut t = at;
+    // a while: q goes on by hops, not by one
     while q < w {
         let m = masks[a + q];
         if m != 0 {
             push(index, q, t, i, m);
             t += 1;
-            q = cells_count::onward(&masks[a..e], &hop[a..e], q);
-        } else {
-            q = cells_count::onward(&masks[a..e], &hop[a..e], q);
         }
+        q = cells_count::onward(&masks[a..e], &hop[a..e], q);
     }
     t
 }
@@ -51,12 +53,11 @@ fn is_wide(masks: &[u64], hop: &[u8], w: usize, i: usize) -> bool
 {
     let a = w * i;
     let mut q = 0;
+    // a while: q goes on by hops, not by one
     while q < w {
-        let e = hop[a + q] as usize;
-        if masks[a + q] == !0 {
-            if q + 3 < e {
-                return true;
-            }
+        let e = usize::from(hop[a + q]);
+        if masks[a + q] == !0 && q + 3 < e {
+            return true;
         }
         q = e;
     }
@@ -68,40 +69,24 @@ fn clear_heads(index: &mut [u64])
     requires { (316 ≤ length index.old) × (length index.old ≤ 200000) }
     ensures { Chained 0 index.new 158 }
 {
-    let mut q = 0;
-    while q < 158 {
+    for q in 0..158 {
         index[2 * q] = 0;
-        q += 1;
     }
 }
 
 // Enters each bid in the chains of its words, or in `ever`.
-pub fn enlist(
-    prices: &[u64],
-    masks: &[u64],
-    hop: &[u8],
-    w: usize,
-    index: &mut [u64],
-    ever: &mut [u64],
-)
-    requires { Market prices.now masks.now w × (Hopping prices.now masks.now hop.now w
-        × ((316 ≤ length index.old) × ((length index.old ≤ 200000) × (length ever.old ≡ 16)))) }
-    ensures { Indexed (length prices.now) masks.now w index.new ever.new }
+pub fn enlist(bids: Bids, index: &mut [u64], ever: &mut [u64])
+    requires { (316 ≤ length index.old) × ((length index.old ≤ 200000) × (length ever.old ≡ 16)) }
+    ensures { Indexed (length bids.entry.prices.now) bids.entry.masks.now bids.entry.w index.new ever.new }
 {
     cells::clear(ever);
     clear_heads(index);
     let mut t = 158;
-    let mut i = 0;
-    while i < prices.len() {
-        if index.len() < 2 * (t + w) {
+    for i in 0..bids.prices.len() {
+        if index.len() < 2 * (t + bids.w) || is_wide(bids.masks, bids.hop, bids.w, i) {
             cells::add(ever, i);
-            i += 1;
-        } else if is_wide(masks, hop, w, i) {
-            cells::add(ever, i);
-            i += 1;
         } else {
-            t = enlist_row(masks, hop, w, i, index, t);
-            i += 1;
+            t = enlist_row(bids.masks, bids.hop, bids.w, i, index, t);
         }
     }
 }

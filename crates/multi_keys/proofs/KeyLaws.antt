@@ -1,6 +1,7 @@
 -- Laws of keys: how large they are, whose they are, and that more parts of a price are a higher price for each cell. Assumes nothing.
 use Rattle.std.specs.Prelude.{◌≡◌, refl, ℕ, zero, suc, ◌+◌, ◌*◌, ◌/◌, ◌%◌, ◌≤◌, ◌<◌}
-use Rattle.std.proofs.Common.{add-mul, div-le_self, div-mul-le_self, le-div_iff_mul-le, le_of_mul-le-mul_right, mul-le-mul, mul-le-mul_left, mul-le-mul_right, mul_right_comm, arith}
+use Rattle.std.proofs.Common.{add-mul, div-le_self, div-mul-le_self, le-div_iff_mul-le, le_of_mul-le-mul_right, mul-le-mul, mul-le-mul_left}
+use Rattle.std.proofs.Common.{mul-le-mul_right, mul_right_comm, arith}
 use Rattle.std.proofs.Math.Dec.{eqb-suc-zero}
 use Rattle.multi_keys.specs.Keys.{out, last, key_of}
 

@@ -6,6 +6,8 @@ ghost use Rattle.std.specs.Prelude.{◌≡◌, ◌+◌, ◌-◌, ◌*◌, ◌/�
 ghost use Rattle.multi_keys.specs.Keys.{key_of};
 ghost use Rattle.multi_keys.specs.Tree.{leaves, Tree};
 
+// OUT and LAST are numbers and no Option: a key is one word, which the tree compares and the theory of the rounds speaks of.
+
 // Above every key: of a bid without an open cell, or out. Its bytes are not all alike, so that a fill with it is stored in place.
 pub const OUT: u64 = 18446744073709551614;
 
@@ -23,12 +25,6 @@ pub fn key_of(price: u64, cells: u64, i: usize) -> u64
     price * 134217728 / cells * 1024 + i as u64
 }
 
-fn lesser(a: u64, b: u64) -> u64
-    ensures { result ≡ min a b }
-{
-    if a < b { a } else { b }
-}
-
 // The other node below the same one: of 2 u and 2 u + 1.
 fn beside(v: usize) -> usize
     requires { v < 2048 }
@@ -44,13 +40,11 @@ pub fn put(tree: &mut [u64], i: usize, key: u64)
 {
     let mut v = 1024 + i;
     let mut x = key;
-    let mut d: usize = 0;
     tree[v] = key;
-    while d < 10 {
-        x = lesser(tree[beside(v)], x);
-        v = v / 2;
+    for _ in 0..10u32 {
+        x = tree[beside(v)].min(x);
+        v /= 2;
         tree[v] = x;
-        d += 1;
     }
 }
 
@@ -59,9 +53,7 @@ pub fn play(tree: &mut [u64])
     requires { length tree.old ≡ 2048 }
     ensures { Tree tree.new × (leaves tree.new ≡ leaves tree.old) }
 {
-    let mut v: usize = 1024;
-    while 1 < v {
-        v -= 1;
-        tree[v] = lesser(tree[2 * v], tree[2 * v + 1]);
+    for v in (1..1024).rev() {
+        tree[v] = tree[2 * v].min(tree[2 * v + 1]);
     }
 }

@@ -1,5 +1,6 @@
 -- How a payment is found: the run without bid k follows the main run as written down, but for the bids that are marked.
-use Rattle.std.specs.Prelude.{◌≡◌, Bool, true, false, ◌&&◌, ◌⊎◌, List, ℕ, suc, ◌+◌, ◌-◌, ◌*◌, ◌/◌, ◌≤◌, ◌<◌, max, length, set, ltb, leb}
+use Rattle.std.specs.Prelude.{◌≡◌, Bool, true, false, ◌&&◌, ◌⊎◌, List, ℕ, suc, ◌+◌, ◌-◌, ◌*◌, ◌/◌}
+use Rattle.std.specs.Prelude.{◌≤◌, ◌<◌, max, length, set, ltb, leb}
 use Rattle.cover.specs.Sets.{when}
 use Rattle.cover.specs.Greedy.{run, reach, bids}
 use Rattle.cover.specs.CriticalPrice.{late, withdrawn, bar}
@@ -55,7 +56,8 @@ pub record Following (has : ℕ → ℕ → Bool) (ps : List ℕ) (k : ℕ) (run
 -- whether the bid of round g has no mark, and all cells of the tape there are open
 pub record Alike (run tape : List ℕ) (g : ℕ) (alt mark : List ℕ) (r : Bool) : Type 0 where
   pub free : r ≡ true → cell mark (bid_on run g) ≡ 0
-  pub held : r ≡ true → (x : ℕ) → in_pairs tape (tape_on run g) (tape_on run (g + 1) - tape_on run g) x ≡ true → cell alt x ≡ 1
+  pub held : r ≡ true → (x : ℕ) → in_pairs tape (tape_on run g) (tape_on run (g + 1) - tape_on run g) x ≡ true
+      → cell alt x ≡ 1
   pub not : r ≡ false → (0 < cell mark (bid_on run g)) ⊎ Unheld alt tape (tape_on run g) (tape_on run (g + 1))
 
 -- what the runs from the two rows of open cells say of bid k, with the maximum so far, is the same; each cell of k is another bid's too
@@ -81,16 +83,14 @@ pub record Took (has : ℕ → ℕ → Bool) (k b q c : ℕ) (alt keys alt' keys
   pub most : top' ≡ max top (raised_to k b q c mine)
   pub small : top' ≤ 1011200000001
 
--- one step: the run goes on, or it is over and no price more is taken
+-- one step with which the run goes on
 pub record Stepped (has : ℕ → ℕ → Bool) (ps : List ℕ) (k : ℕ) (run tape alt alt' keys' mark' : List ℕ)
-    (g top g' mine' top' : ℕ)
-    (over : Bool) : Type 0 where
-  pub goes : over ≡ false → Following has ps k run tape alt' keys' mark' mine' g'
-  pub falls : over ≡ false → length run - 3 * g' + length (open_of alt') < length run - 3 * g + length (open_of alt)
+    (g top g' mine' top' : ℕ) : Type 0 where
+  pub goes : Following has ps k run tape alt' keys' mark' mine' g'
+  pub falls : length run - 3 * g' + length (open_of alt') < length run - 3 * g + length (open_of alt)
   pub fewer : (x : ℕ) → cell alt' x ≤ cell alt x
-  pub bar_is : over ≡ false → SameBar has ps k alt alt' top top'
+  pub bar_is : SameBar has ps k alt alt' top top'
   pub small : top' ≤ 1011200000001
-  pub ends : over ≡ true → (bar_from has ps k (open_of alt) ≡ 0) × (top' ≡ top)
 
 -- the run without the bid of round h begins as the main run stands before it: that bid is out, and so are those without a mark; the key of
 -- another bid is no more than it is

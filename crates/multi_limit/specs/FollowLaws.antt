@@ -196,7 +196,7 @@ module _ {has : ℕ → ℕ → Bool} {ps : List ℕ} {k : ℕ} {run tape alt ke
       }
 
   -- ---- the main run's next bid, below all marked bids
-  module _ (cap : ℕ) (below : (i : ℕ) → i < 1024 → cap ≤ at keys i) (l : key_on run g < cap) (few-cap : cap ≤ last) where
+  module _ (cap : ℕ) (below : (i : ℕ) → i < 1024 → cap ≤ at keys i) (l : key_on run g < cap) (few_cap : cap ≤ last) where
     now_here : g < s.rounds
     now_here = here (omega arith)
 

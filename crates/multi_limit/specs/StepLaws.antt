@@ -1,7 +1,6 @@
 -- The steps of the run without bid k, one after the other, up to where it is over or k has no open cell. Assumes nothing.
-use Rattle.std.specs.Prelude.{◌≡◌, refl, ◌⊎◌, Bool, true, false, List, ℕ, ◌+◌, ◌%◌, ◌≤◌, ◌<◌, length}
+use Rattle.std.specs.Prelude.{◌≡◌, refl, ◌⊎◌, Bool, List, ℕ, ◌+◌, ◌%◌, ◌≤◌, ◌<◌, length}
 use Rattle.std.proofs.Common.{sym, ◌∙◌, inl, inr, ⊎_elim, arith}
-use Rattle.std.proofs.lemmas.Bool.{false≢true}
 use Rattle.cover.specs.Greedy.{Entry, reach}
 use Rattle.cover.proofs.GreedyLaws.{rounds, close_other}
 use Rattle.cover.specs.CriticalPrice.{share, bar}
@@ -14,7 +13,7 @@ use Rattle.multi_market.proofs.RunLaws.{rounds_of}
 use Rattle.multi_rounds.specs.Trace.{key_on}
 use Rattle.multi_limit.specs.Follow.{bar_from, Following, SameBar, Gone, Took, Stepped, Limited}
 use Rattle.multi_limit.specs.StrayLaws.{others}
-use Rattle.multi_limit.specs.FollowLaws.{shut_fewer, here, key_last, take_falls, take_bar, take_on, over_none}
+use Rattle.multi_limit.specs.FollowLaws.{shut_fewer, here, key_last, take_falls, take_bar, take_on}
 use Rattle.multi_limit.specs.WalkLaws.{bar_on, open_less}
 
 -- a bid that reaches no open cell has no share
@@ -32,36 +31,33 @@ bar_from_none has ps k O z = bar_none k (has k) (others has ps k) (length ps) O 
 -- ---- one step
 -- the run goes along the main run
 pub step_goes : {has : ℕ → ℕ → Bool} {ps : List ℕ} {k : ℕ} {run tape alt alt' keys' mark' : List ℕ}
-    {mine top g g' mine' top' : ℕ} {over : Bool}
+    {mine top g g' mine' top' : ℕ}
     → Gone has ps k run tape alt alt' keys' mark' mine top g g' → length alt' ≡ length alt
-    → top ≤ 1011200000001 → mine' ≡ mine → top' ≡ top → over ≡ false
-    → Stepped has ps k run tape alt alt' keys' mark' g top g' mine' top' over
-step_goes {alt = alt} {alt' = alt'} d e l m t o = record {
-  goes = λ z. rw m d.goes;
-  falls = λ z. omega (arith, d.on, d.goes.reached, d.goes.main.room, open_less alt alt' e d.fewer);
+    → top ≤ 1011200000001 → mine' ≡ mine → top' ≡ top
+    → Stepped has ps k run tape alt alt' keys' mark' g top g' mine' top'
+step_goes {alt = alt} {alt' = alt'} d e l m t = record {
+  goes = rw m d.goes;
+  falls = omega (arith, d.on, d.goes.reached, d.goes.main.room, open_less alt alt' e d.fewer);
   fewer = d.fewer;
-  bar_is = λ z. rw t d.bar_is;
+  bar_is = rw t d.bar_is;
   small = omega arith;
-  ends = λ z. absurd (false≢true (sym o ∙ z));
 }
 
 module _ {has : ℕ → ℕ → Bool} {ps : List ℕ} {k : ℕ} {run tape alt keys mark : List ℕ} {mine g : ℕ} (p : Priced ps)
     (most : length alt ≤ 158)
     (s : Following has ps k run tape alt keys mark mine g) where
   -- the marked bid with the least key is taken
-  pub step_takes : {key c : ℕ} {old alt' keys' : List ℕ} {next g' mine' top top' : ℕ} {over : Bool}
+  pub step_takes : {key c : ℕ} {old alt' keys' : List ℕ} {next g' mine' top top' : ℕ}
       → Fronted has ps alt old keys (key_on run g) key c → key ≤ key_on run g → length alt' ≡ length alt
       → Took has k (key % 1024) (at ps (key % 1024)) c alt keys alt' keys' mine top mine' top'
       → (next ≡ g) ⊎ ((next ≡ g + 1) × ((key_on run g % 1024 ≡ key % 1024) × (key_on run g ≡ last → ⊥))) → g' ≡ next
-      → over ≡ false
-      → Stepped has ps k run tape alt alt' keys' mark g top g' mine' top' over
-  step_takes {key = key} {next = next} f l e t n q o = record {
-    goes = λ z. rw q (take_on p most s f l refl e t came);
-    falls = λ z. omega (arith, q, stays, take_falls p most s f l refl e t);
+      → Stepped has ps k run tape alt alt' keys' mark g top g' mine' top'
+  step_takes {key = key} {next = next} f l e t n q = record {
+    goes = rw q (take_on p most s f l refl e t came);
+    falls = omega (arith, q, stays, take_falls p most s f l refl e t);
     fewer = shut_fewer t.shuts;
-    bar_is = λ z. take_bar p most s f l refl e t;
+    bar_is = take_bar p most s f l refl e t;
     small = t.small;
-    ends = λ z. absurd (false≢true (sym o ∙ z));
   }
     where
       came : (next ≡ g) ⊎ ((next ≡ g + 1) × ((key_on run g % 1024 ≡ key % 1024) × (g < s.rounds)))
@@ -69,18 +65,6 @@ module _ {has : ℕ → ℕ → Bool} {ps : List ℕ} {k : ℕ} {run tape alt ke
 
       stays : g ≤ next
       stays = ⊎_elim (λ u. omega arith) (λ u. omega (arith, u.0)) n
-
-  -- no bid is left
-  pub step_ends : {top : ℕ} → top ≤ 1011200000001 → key_on run g ≡ last → ((i : ℕ) → i < 1024 → last < at keys i)
-      → Stepped has ps k run tape alt alt keys mark g top g mine top true
-  step_ends l e h = record {
-    goes = λ z. absurd (false≢true (sym z));
-    falls = λ z. absurd (false≢true (sym z));
-    fewer = λ x. omega arith;
-    bar_is = λ z. absurd (false≢true (sym z));
-    small = l;
-    ends = λ z. (over_none p most s e h, refl);
-  }
 
 -- ---- the steps
 -- the run has come to round g from the cells of `old`, and `top` is one more than the highest price so far
@@ -92,26 +76,18 @@ pub record Limiting (has : ℕ → ℕ → Bool) (ps : List ℕ) (k : ℕ) (run 
   pub bar_is : SameBar has ps k old alt 0 top
   pub small : top ≤ 1011200000001
 
-pub limit_starts : {has : ℕ → ℕ → Bool} {ps : List ℕ} {k : ℕ} {run tape alt keys mark : List ℕ} {mine top g : ℕ}
-    → Following has ps k run tape alt keys mark mine g → top ≡ 0 → Limiting has ps k run tape alt alt keys mark mine top g
-limit_starts f e = record { size = refl; goes = f; fewer = λ x. omega arith; bar_is = λ s. rw e; small = omega arith }
-
 module _ {has : ℕ → ℕ → Bool} {ps : List ℕ} {k : ℕ} {run tape old alt keys mark : List ℕ} {mine top g : ℕ}
     (a : Limiting has ps k run tape old alt keys mark mine top g) where
-  module _ {alt' keys' mark' : List ℕ} {g' mine' top' : ℕ} {over : Bool}
-      (t : Stepped has ps k run tape alt alt' keys' mark' g top g' mine' top' over) where
-    pub limit_goes : length alt' ≡ length alt → over ≡ false
-        → Limiting has ps k run tape old alt' keys' mark' mine' top' g'
-    limit_goes e o = record {
+  module _ {alt' keys' mark' : List ℕ} {g' mine' top' : ℕ}
+      (t : Stepped has ps k run tape alt alt' keys' mark' g top g' mine' top') where
+    pub limit_goes : length alt' ≡ length alt → Limiting has ps k run tape old alt' keys' mark' mine' top' g'
+    limit_goes e = record {
       size = e ∙ a.size;
-      goes = t.goes o;
+      goes = t.goes;
       fewer = λ x. omega (arith, a.fewer x, t.fewer x);
-      bar_is = bar_on has ps k old alt alt' 0 top top' a.fewer a.bar_is (t.bar_is o);
+      bar_is = bar_on has ps k old alt alt' 0 top top' a.fewer a.bar_is t.bar_is;
       small = t.small;
     }
-
-    pub limit_over : over ≡ true → Limited has ps k old top'
-    limit_over o = record { is = λ s. omega (arith, a.bar_is s, (t.ends o).0, (t.ends o).1); small = t.small }
 
   -- the bid has no open cell
   pub limit_ends : mine ≡ 0 → Limited has ps k old top

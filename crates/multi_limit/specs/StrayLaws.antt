@@ -1,6 +1,7 @@
 -- The run without bid k beside the main run: which bid it takes next, and what stays true where either closes a bid's cells. Assumes
 -- nothing.
-use Rattle.std.specs.Prelude.{◌≡◌, refl, ◌⊎◌, Bool, true, false, List, ℕ, ◌-◌, ◌*◌, ◌%◌, ◌≤◌, ◌<◌, set, eqb}
+use Rattle.std.specs.Prelude.{◌≡◌, refl, ◌⊎◌, Bool, true, false, List, ℕ, ◌-◌, ◌*◌, ◌%◌, ◌≤◌, ◌<◌, set}
+use Rattle.std.specs.Prelude.{eqb}
 use Rattle.std.proofs.Common.{ap, ◌∙◌, inl, inr, ⊎_elim, arith, length-set}
 use Rattle.std.proofs.Math.ListN.{length}
 use Rattle.cover.specs.Sets.{when, found}
@@ -130,7 +131,12 @@ module _ {has : ℕ → ℕ → Bool} {ps : List ℕ} {k : ℕ} {alt keys mark :
     skip = set_at (λ i y. i ≡ k → y ≡ out) keys b out within_keys (λ m. refl) (λ i m. ap (at keys) m ∙ s.skip) k refl;
     outs = set_at (λ i y. i < length ps → cell mark i ≡ 0 → y ≡ out) keys b out within_keys (λ m y. refl) s.outs;
     bound = set_at (λ i y. i < length ps → 0 < cell mark i → (i ≡ k → ⊥) → y ≤ key_at has ps alt i) keys b out within_keys
-        (λ m y d. omega (arith, key_at_lem has ps (open_of alt) b, ap (λ (r : ℕ). key_of (at ps b) r b) z, key_none (at ps b) b)) s.bound;
+        (λ m y d. omega (
+          arith,
+          key_at_lem has ps (open_of alt) b,
+          ap (λ (r : ℕ). key_of (at ps b) r b) z,
+          key_none (at ps b) b,
+        )) s.bound;
     within = s.within;
   }
     where

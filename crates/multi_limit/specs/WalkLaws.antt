@@ -1,6 +1,7 @@
 -- A stretch of the main run along which the run without bid k takes what the main run takes. Assumes nothing.
-use Rattle.std.specs.Prelude.{◌≡◌, refl, ◌⊎◌, Bool, true, false, List, ℕ, zero, suc, ◌+◌, ◌-◌, ◌*◌, ◌≤◌, ◌<◌, length, eqb}
-use Rattle.std.proofs.Common.{◌∙◌, inl, inr, ⊎_elim, arith, eqb-true}
+use Rattle.std.specs.Prelude.{◌≡◌, refl, ◌⊎◌, Bool, true, false, List, ℕ, zero, suc, ◌+◌, ◌-◌, ◌*◌, ◌≤◌}
+use Rattle.std.specs.Prelude.{◌<◌, length, eqb}
+use Rattle.std.proofs.Common.{◌∙◌, inl, ⊎_elim, arith, eqb-true}
 use Rattle.std.proofs.lemmas.Bool.{eqb-false}
 use Rattle.cover.specs.Greedy.{keep}
 use Rattle.cells.specs.Cells.{cell}
@@ -49,11 +50,6 @@ pub record Along (has : ℕ → ℕ → Bool) (ps : List ℕ) (k mine top cap : 
   pub fewer : (x : ℕ) → cell alt x ≤ cell old x
   pub bar_is : SameBar has ps k old alt top top
 
-pub along_starts : {has : ℕ → ℕ → Bool} {ps : List ℕ} {k mine cap : ℕ} (top : ℕ) {run tape alt keys mark : List ℕ} {g : ℕ}
-    → Following has ps k run tape alt keys mark mine g → key_on run g < cap
-    → Along has ps k mine top cap run tape alt alt keys mark g g
-along_starts top f l = record { size = refl; goes = f; on = omega arith; ahead = inr l; fewer = λ x. omega arith; bar_is = λ s. refl }
-
 module _ {has : ℕ → ℕ → Bool} {ps : List ℕ} {k mine top cap : ℕ} {run tape old alt keys mark : List ℕ} {from g : ℕ}
     (p : Priced ps)
     (most : length old ≤ 158) (some : 0 < mine) (a : Along has ps k mine top cap run tape old alt keys mark from g) where
@@ -97,7 +93,3 @@ module _ {has : ℕ → ℕ → Bool} {ps : List ℕ} {k mine top cap : ℕ} {ru
       fewer = a.fewer;
       bar_is = a.bar_is;
     }
-
-  -- the next has a key that is not below the cap
-  pub along_ends : (key_on run g < cap → ⊥) → Gone has ps k run tape old alt keys mark mine top from g
-  along_ends n = record { goes = a.goes; on = ⊎_elim (λ z. z) (λ z. absurd (n z)) a.ahead; fewer = a.fewer; bar_is = a.bar_is }

@@ -2,7 +2,7 @@
 use Rattle.std.specs.Prelude.{◌≡◌, List, ℕ, ◌+◌, ◌-◌, ◌*◌, ◌≤◌, ◌<◌, length, take, drop}
 use Rattle.std.proofs.Common.{mul-le-mul_left, mul-suc, arith, length-drop, length-take-le, get_or-take, get_or-drop}
 use Rattle.multi_keys.specs.Keys.{at}
-use Rattle.multi_market.specs.Market.{word_row, Market}
+use Rattle.multi_market.specs.Market.{word_row, Market, Hopping}
 
 pub part_row : (ms : List ℕ) (w i : ℕ) → take (w * i + w - w * i) (drop (w * i) ms) ≡ word_row ms w i
 unfolding word_row
@@ -21,3 +21,8 @@ row_length ms w i l = length-take-le w (drop (w * i) ms) (simp length-drop (omeg
 pub row_at : (ms : List ℕ) (w i q : ℕ) → q < w → at (word_row ms w i) q ≡ at ms (w * i + q)
 unfolding word_row
 row_at ms w i q l = rw (get_or-take, get_or-drop)
+
+-- what is known of a market's bids, of as many words as a row has
+pub known : {ps ms hop : List ℕ} {w n : ℕ} {R : Type 0} → Market ps ms w → Hopping ps ms hop w → (n ≡ w) × R
+    → Market ps ms n × (Hopping ps ms hop n × R)
+known m h r = (rw r.0 m, (rw r.0 h, r.1))

@@ -1,12 +1,22 @@
-// A market of bids over words of cells, in plain numbers: `overlap` counts the cells held that a bid has. `unlock` sets the first cells,
-// `copy` copies a row.
+// A market of bids over words of cells, in plain numbers: `overlap` counts the cells held that a bid has, `unlock` sets the first cells.
 #![tactic(auto)]
 
 ghost use Rattle.std.specs.Prelude.{◌≡◌, ◌+◌, ◌*◌, ◌≤◌, length};
 ghost use Rattle.cover.specs.Greedy.{reach};
 ghost use Rattle.cells_count.specs.Hops.{Hops, Counted};
 ghost use Rattle.multi_market.specs.Opens.{open_of};
-ghost use Rattle.multi_market.specs.Market.{word_row, has, First};
+ghost use Rattle.multi_market.specs.Market.{word_row, has, First, Market, Hopping};
+
+// A market's bids in plain numbers: a price a bid, and w words of cells and of hops.
+#[derive(Clone, Copy)]
+pub struct Bids<'a> {
+    pub prices: &'a [u64],
+    pub masks: &'a [u64],
+    pub hop: &'a [u8],
+    pub w: usize,
+    pub ghost market: { Market prices.now masks.now w },
+    pub ghost hopping: { Hopping prices.now masks.now hop.now w },
+}
 
 // How many of the cells held bid i has.
 pub fn overlap(held: &[u64], counts: &mut [u64], masks: &[u64], hop: &[u8], i: usize) -> u64
@@ -21,17 +31,6 @@ pub fn overlap(held: &[u64], counts: &mut [u64], masks: &[u64], hop: &[u8], i: u
     let a = w * i;
     let e = a + w;
     cells_count::reach(held, counts, &masks[a..e], &hop[a..e])
-}
-
-pub fn copy(from: &[u64], to: &mut [u64])
-    requires { length from.now ≡ length to.old }
-    ensures { to.new ≡ from.now }
-{
-    let mut i = 0;
-    while i < to.len() {
-        to[i] = from[i];
-        i += 1;
-    }
 }
 
 // Sets the first cells and no other.

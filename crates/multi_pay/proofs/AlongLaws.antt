@@ -1,7 +1,8 @@
 -- The award along the written run: how it starts, one round more, and what it ends with; and the list of keys that a payment begins
 -- with. Assumes nothing.
 use Rattle.cover.specs.Spare.{Spare}
-use Rattle.std.specs.Prelude.{◌≡◌, refl, ◌⊎◌, Bool, ◌&&◌, ◌||◌, List, ℕ, ◌+◌, ◌-◌, ◌*◌, ◌≤◌, ◌<◌, length, set, ltb}
+use Rattle.std.specs.Prelude.{◌≡◌, refl, ◌⊎◌, Bool, ◌&&◌, ◌||◌, List, ℕ, ◌+◌, ◌-◌, ◌*◌, ◌≤◌}
+use Rattle.std.specs.Prelude.{◌<◌, length, set, ltb}
 use Rattle.std.proofs.Common.{sym, ap, ◌∙◌, inl, inr, ⊎_elim, arith, length-set, get_or-set_other}
 use Rattle.std.proofs.Math.Bool.{true, false, or-false, or-true}
 use Rattle.std.proofs.Math.Numerals.{add-one}

@@ -17,7 +17,8 @@ pub record Copying (from old to : List ℕ) (a : ℕ) : Type 0 where
 pub copy_starts : (from to : List ℕ) → Copying from to to 0
 copy_starts from to = record { same = refl; inside = omega arith; whole = refl; first = refl }
 
-pub copy_goes : {from old to new : List ℕ} {a : ℕ} → length from ≡ 2048 → length old ≡ 2048 → a < 2048 → Copying from old to a
+pub copy_goes : {from old to new : List ℕ} {a : ℕ} → length from ≡ 2048 → length old ≡ 2048 → a < 2048
+    → Copying from old to a
     → new ≡ take (a + 512 - a) (drop a from) → Copying from old (put_mid a (a + 512 - a) to new) (a + 512)
 copy_goes {from} {old} {to} {new} {a} f o l s e = record {
   same = same_len_mid a (a + 512 - a) to new (new_size ∙ sym old_size) ∙ s.same;
@@ -39,6 +40,7 @@ copy_goes {from} {old} {to} {new} {a} f o l s e = record {
     both_size : length (take a to ++ new) ≡ a + 512
     both_size = simp (length-append, length-take) (omega (arith, new_size, s.same))
 
-pub copy_ends : {from old to : List ℕ} {a : ℕ} → length from ≡ 2048 → length old ≡ 2048 → 2048 ≤ a → Copying from old to a → to ≡ from
+pub copy_ends : {from old to : List ℕ} {a : ℕ} → length from ≡ 2048 → length old ≡ 2048 → 2048 ≤ a
+    → Copying from old to a → to ≡ from
 copy_ends {from} {old} {to} {a} f o l s =
     sym (take_all a to (omega (arith, s.same))) ∙ s.first ∙ take_all a from (omega arith)

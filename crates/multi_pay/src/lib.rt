@@ -11,31 +11,24 @@ ghost use Rattle.multi_rounds.specs.Trace.{bid_on, Trace};
 ghost use Rattle.multi_limit.specs.Follow.{Beginning};
 ghost use Rattle.multi_pay.specs.Paying.{Listed, Ready, Payment, Paid};
 
-fn less_one(a: u64) -> u64
-    ensures { result ≡ a - 1 }
-{
-    if 0 < a { a - 1 } else { 0 }
-}
+use multi_market::Bids;
 
 // Copies a tree in four parts: a longer copy is counted byte by byte.
 fn copy_tree(from: &[u64], to: &mut [u64])
     requires { (length from.now ≡ 2048) × (length to.old ≡ 2048) }
     ensures { to.new ≡ from.now }
 {
-    let mut a: usize = 0;
-    while a < 2048 {
+    for p in 0..4 {
+        let a = 512 * p;
         let e = a + 512;
-        multi_market::copy(&from[a..e], &mut to[a..e]);
-        a = e;
+        to[a..e].copy_from_slice(&from[a..e]);
     }
 }
 
 // Has the bid of round h out of the list, brings the list up to date as far as the next round's key, and begins the run without the bid
 // with copies.
 fn ready(
-    prices: &[u64],
-    masks: &[u64],
-    hop: &[u8],
+    bids: Bids,
     ever: &[u64],
     run: &[u64],
     tape: &[u64],
@@ -47,29 +40,26 @@ fn ready(
     tree: &mut [u64],
     mark: &mut [u64],
 )
-    requires { Market prices.now masks.now (length held.now) × (Hopping prices.now masks.now hop.now (length held.now)
-        × (Ready (has masks.now (length held.now)) prices.now run.now tape.now h held.now
-        × (Listed (has masks.now (length held.now)) prices.now held.now ever.now (leaves list.old) × (Tree list.old
+    requires { (length held.now ≡ bids.w) × (Ready (has bids.masks.now (length held.now)) bids.prices.now run.now tape.now h held.now
+        × (Listed (has bids.masks.now (length held.now)) bids.prices.now held.now ever.now (leaves list.old) × (Tree list.old
         × (Counted held.now counts.old × ((length alt.old ≡ length held.now) × ((length tree.old ≡ 2048)
-        × ((length ever.now ≡ 16) × (length mark.old ≡ 16))))))))) }
-    ensures { Beginning (has masks.now (length held.now)) prices.now run.now
+        × ((length ever.now ≡ 16) × (length mark.old ≡ 16)))))))) }
+    ensures { Beginning (has bids.entry.masks.now (length held.now)) bids.entry.prices.now run.now
         tape.now h alt.new (leaves tree.new) mark.new
         × ((alt.new ≡ held.now) × ((mark.new ≡ ever.now) × ((tree.new ≡ list.new)
         × (Tree list.new × Counted held.now counts.new)))) }
 {
     let k = (run[3 * h] % 1024) as usize;
     multi_keys::put(list, k, multi_keys::OUT);
-    multi_rounds::front(prices, masks, hop, held, counts, list, run[3 * (h + 1)]);
+    multi_rounds::front(bids, held, counts, list, run[3 * (h + 1)]);
     copy_tree(list, tree);
-    multi_market::copy(held, alt);
-    multi_market::copy(ever, mark);
+    alt.copy_from_slice(held);
+    mark.copy_from_slice(ever);
 }
 
 // Marks and pays the bid of round h, and closes its cells.
 fn pay(
-    prices: &[u64],
-    masks: &[u64],
-    hop: &[u8],
+    bids: Bids,
     index: &[u64],
     ever: &[u64],
     run: &[u64],
@@ -84,16 +74,15 @@ fn pay(
     won: &mut [u64],
     cents: &mut [u64],
 )
-    requires { Market prices.now masks.now (length held.old) × (Hopping prices.now masks.now hop.now (length held.old)
-        × (Indexed (length prices.now) masks.now (length held.old) index.now ever.now
-        × (Ready (has masks.now (length held.old)) prices.now run.now tape.now h held.old
-        × (Listed (has masks.now (length held.old)) prices.now held.old ever.now (leaves list.old) × (Tree list.old
+    requires { (length held.old ≡ bids.w) × (Indexed (length bids.prices.now) bids.masks.now (length held.old) index.now ever.now
+        × (Ready (has bids.masks.now (length held.old)) bids.prices.now run.now tape.now h held.old
+        × (Listed (has bids.masks.now (length held.old)) bids.prices.now held.old ever.now (leaves list.old) × (Tree list.old
         × (Counted held.old counts.old × (((length alt.old ≡ length held.old) × ((length tree.old ≡ 2048)
-        × ((length ever.now ≡ 16) × (length mark.old ≡ 16)))) × ((length prices.now ≡ length won.old)
-        × (length prices.now ≡ length cents.old))))))))) }
-    ensures { Payment (has masks.now (length held.old)) prices.now (bid_on run.now h)
+        × ((length ever.now ≡ 16) × (length mark.old ≡ 16)))) × ((length bids.prices.now ≡ length won.old)
+        × (length bids.prices.now ≡ length cents.old)))))))) }
+    ensures { Payment (has bids.entry.masks.now (length held.old)) bids.entry.prices.now (bid_on run.now h)
         held.old won.old cents.old held.new won.new cents.new
-        × (Listed (has masks.now (length held.old)) prices.now held.new ever.now
+        × (Listed (has bids.entry.masks.now (length held.old)) bids.entry.prices.now held.new ever.now
         (leaves list.new)
         × (Tree list.new × Counted held.new counts.new)) }
 {
@@ -101,22 +90,18 @@ fn pay(
     let a = run[3 * h + 2] as usize;
     let z = run[3 * (h + 1) + 2] as usize;
     ready(
-        prices, masks, hop, ever, run, tape, h, held, counts, list, alt, tree, mark,
+        bids, ever, run, tape, h, held, counts, list, alt, tree, mark,
     );
-    let t = multi_limit::limit_in(
-        prices, masks, hop, index, run, tape, h, alt, counts, tree, mark,
-    );
+    let t = multi_limit::limit_in(bids, index, run, tape, h, alt, counts, tree, mark);
     won[k] = 1;
-    cents[k] = less_one(t);
+    cents[k] = t.saturating_sub(1);
     cells_count::count_none(held, counts);
     cells_pairs::close_pairs(held, counts, tape, a, z);
 }
 
-// Marks and pays the bid of each round, from all cells open.
+// Marks and pays the bid of each round, from all cells open. `won` and `cents` are the plain lists that the public settlement fills.
 pub fn pay_all(
-    prices: &[u64],
-    masks: &[u64],
-    hop: &[u8],
+    bids: Bids,
     index: &[u64],
     ever: &[u64],
     run: &[u64],
@@ -132,27 +117,23 @@ pub fn pay_all(
     won: &mut [u64],
     cents: &mut [u64],
 )
-    requires { Market prices.now masks.now (length held.old) × (Hopping prices.now masks.now hop.now (length held.old)
-        × (Indexed (length prices.now) masks.now (length held.old) index.now ever.now
-        × (Trace (has masks.now (length held.old)) prices.now (length held.old) count run.now tape.now rounds
+    requires { (length held.old ≡ bids.w) × (Indexed (length bids.prices.now) bids.masks.now (length held.old) index.now ever.now
+        × (Trace (has bids.masks.now (length held.old)) bids.prices.now (length held.old) count run.now tape.now rounds
         × (((h : List ℕ) → First count h → length h ≡ length held.old
-        → Listed (has masks.now (length held.old)) prices.now h ever.now (leaves list.old)) × (Tree list.old
+        → Listed (has bids.masks.now (length held.old)) bids.prices.now h ever.now (leaves list.old)) × (Tree list.old
         × ((count ≤ 64 * length held.old) × (((length alt.old ≡ length held.old) × ((length tree.old ≡ 2048)
         × ((length ever.now ≡ 16) × ((length mark.old ≡ 16) × (length counts.old ≡ length held.old + 2)))))
-        × ((length prices.now ≡ length won.old) × (length prices.now ≡ length cents.old))))))))) }
-    ensures { Paid (has masks.now (length held.old)) prices.now count won.new
+        × ((length bids.prices.now ≡ length won.old) × (length bids.prices.now ≡ length cents.old)))))))) }
+    ensures { Paid (has bids.entry.masks.now (length held.old)) bids.entry.prices.now count won.new
         cents.new }
 {
     multi_market::unlock(held, count);
     cells_count::count_none(held, counts);
     cells::clear(won);
     cells::clear(cents);
-    let mut h = 0;
-    while h < rounds {
+    for h in 0..rounds {
         pay(
-            prices, masks, hop, index, ever, run, tape, h, held, alt, counts, list, tree, mark,
-            won, cents,
+            bids, index, ever, run, tape, h, held, alt, counts, list, tree, mark, won, cents,
         );
-        h += 1;
     }
 }

@@ -19,9 +19,6 @@ pub record Entering (has : ℕ → ℕ → Bool) (ps held tree : List ℕ) (i : 
   pub size : length tree ≡ 2048
   pub each : (j : ℕ) → j < i → Leaf has ps held j (at (leaves tree) j)
 
-pub enters_none : {has : ℕ → ℕ → Bool} {ps held tree : List ℕ} → length tree ≡ 2048 → Entering has ps held tree 0
-enters_none e = record { size = e; each = λ j l. absurd (omega arith) }
-
 module _ {has : ℕ → ℕ → Bool} {ps held tree : List ℕ} {i : ℕ} (s : Entering has ps held tree i) (l : i < 1024) where
   enters : (x : ℕ) → Leaf has ps held i x → Entering has ps held (set tree (1024 + i) x) (i + 1)
   enters x h = record { size = simp length-set s.size; each = rw (leaves_set tree i x) (λ j m. go j m (eqb j i) refl) }

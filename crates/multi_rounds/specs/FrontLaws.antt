@@ -1,5 +1,6 @@
 -- The least key of the bids in a tree, while bids are counted anew. Assumes nothing.
-use Rattle.std.specs.Prelude.{◌≡◌, refl, ◌⊎◌, Bool, List, [], ◌∷◌, ℕ, zero, suc, ◌+◌, ◌-◌, ◌%◌, ◌≤◌, ◌<◌, length, set}
+use Rattle.std.specs.Prelude.{◌≡◌, refl, ◌⊎◌, Bool, List, [], ◌∷◌, ℕ, zero, suc, ◌+◌, ◌-◌, ◌%◌, ◌≤◌}
+use Rattle.std.specs.Prelude.{◌<◌, length, set}
 use Rattle.std.proofs.Common.{sym, ap, ◌∙◌, inl, inr, ⊎_elim, arith}
 use Rattle.cover.specs.Greedy.{reach}
 use Rattle.multi_keys.specs.Keys.{at, out, last, key_of}

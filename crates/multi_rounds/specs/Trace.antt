@@ -1,6 +1,7 @@
 -- The greedy run written down, three numbers a round: the key of the bid taken, the cells that it gains, and where on the tape these
 -- begin. The tape has them as pairs, round after round. After the last round the key is `last`.
-use Rattle.std.specs.Prelude.{◌≡◌, Bool, ◌&&◌, List, ℕ, zero, suc, ◌+◌, ◌-◌, ◌*◌, ◌%◌, ◌≤◌, ◌<◌, length, eqb, ltb}
+use Rattle.std.specs.Prelude.{◌≡◌, Bool, ◌&&◌, List, ℕ, zero, suc, ◌+◌, ◌-◌, ◌*◌, ◌%◌, ◌≤◌, ◌<◌}
+use Rattle.std.specs.Prelude.{length, eqb, ltb}
 use Rattle.cover.specs.Sets.{when, found}
 use Rattle.cover.specs.Greedy.{reach, best, bids}
 use Rattle.cells_pairs.specs.Pairs.{in_pairs, Paired}

@@ -1,5 +1,6 @@
 -- The main run, written down round by round. Assumes nothing.
-use Rattle.std.specs.Prelude.{◌≡◌, ◌⊎◌, Bool, true, false, ◌&&◌, List, ℕ, zero, suc, ◌+◌, ◌-◌, ◌*◌, ◌%◌, ◌≤◌, ◌<◌, set, eqb, ltb}
+use Rattle.std.specs.Prelude.{◌≡◌, ◌⊎◌, Bool, true, false, ◌&&◌, List, ℕ, zero, suc, ◌+◌, ◌-◌, ◌*◌, ◌%◌}
+use Rattle.std.specs.Prelude.{◌≤◌, ◌<◌, set, eqb, ltb}
 use Rattle.std.proofs.Math.Path.{refl, sym, ap, ap₂}
 use Rattle.std.proofs.Common.{◌∙◌, inl, inr, ⊎_elim, add-one, arith, eqb-true, ltb-true, ltb-false}
 use Rattle.std.proofs.Math.ListN.{length, length-set}
@@ -286,7 +287,8 @@ module _ {has : ℕ → ℕ → Bool} {ps : List ℕ} {w n : ℕ} {run tape : Li
   unfolding bids
   round_best = rw a.takes at (best_right (bids has ps) (length ps) (open_on has w n run g))
 
-  pub round_least : Priced ps → w ≤ 158 → (i : ℕ) → i < length ps → key_on run g ≤ key_in (bids has ps) (open_on has w n run g) i
+  pub round_least : Priced ps → w ≤ 158 → (i : ℕ) → i < length ps
+      → key_on run g ≤ key_in (bids has ps) (open_on has w n run g) i
   unfolding bids
   round_least p most i l = rw a.key (taken_least (bids has ps) (length ps) (open_on has w n run g) (omega (arith, p.count))
       (λ j m. p.most j) (omega (arith, opens_most (before has n run g) (64 * w))) (bid_on run g) a.takes i l)

@@ -14,6 +14,8 @@ ghost use Rattle.multi_market.specs.Market.{word_row, has, Market, Hopping, Firs
 ghost use Rattle.multi_market.specs.Seats.{Seats, Fronted, Entered};
 ghost use Rattle.multi_rounds.specs.Trace.{Trace};
 
+use multi_market::Bids;
+
 // Closes the cells of bid i.
 pub fn shut(held: &mut [u64], counts: &mut [u64], masks: &[u64], hop: &[u8], i: usize)
     requires { (length held.old ≤ 158) × ((length held.old * i + length held.old ≤ length masks.now)
@@ -43,7 +45,7 @@ pub fn cut(held: &[u64], masks: &[u64], hop: &[u8], i: usize, tape: &mut [u64], 
     cells_pairs::cut(held, &masks[a..e], &hop[a..e], tape, at)
 }
 
-// A key, and the cells that its bid reaches.
+// A key, and the cells that its bid reaches. No Option: the key is used also where it is above the cap, and the cells are 0 there.
 #[derive(Clone, Copy)]
 pub struct Lead {
     pub key: u64,
@@ -51,31 +53,23 @@ pub struct Lead {
 }
 
 // The least key. Bids are counted anew until it is above the cap, or its bid's own.
-pub fn front(
-    prices: &[u64],
-    masks: &[u64],
-    hop: &[u8],
-    held: &[u64],
-    counts: &mut [u64],
-    tree: &mut [u64],
-    cap: u64,
-) -> Lead
-    requires { Market prices.now masks.now (length held.now) × (Hopping prices.now masks.now hop.now (length held.now)
-        × (Counted held.now counts.old × (Tree tree.old
-        × (Seats (has masks.now (length held.now)) prices.now held.now (leaves tree.old) × (cap ≤ last))))) }
+pub fn front(bids: Bids, held: &[u64], counts: &mut [u64], tree: &mut [u64], cap: u64) -> Lead
+    requires { (length held.now ≡ bids.w) × (Counted held.now counts.old × (Tree tree.old
+        × (Seats (has bids.masks.now (length held.now)) bids.prices.now held.now (leaves tree.old) × (cap ≤ last)))) }
     ensures { Tree tree.new
-        × (Fronted (has masks.now (length held.now)) prices.now held.now
+        × (Fronted (has bids.entry.masks.now (length held.now)) bids.entry.prices.now held.now
         (leaves tree.old) (leaves tree.new) cap result.key result.cells
         × Counted held.now counts.new) }
 {
+    // a loop: it goes on as long as the least key is stale, not a number of times
     loop {
         let c = tree[1];
         if cap < c {
             return Lead { key: c, cells: 0 };
         }
         let b = (c % 1024) as usize;
-        let r = multi_market::overlap(held, counts, masks, hop, b);
-        let now = multi_keys::key_of(prices[b], r, b);
+        let r = multi_market::overlap(held, counts, bids.masks, bids.hop, b);
+        let now = multi_keys::key_of(bids.prices[b], r, b);
         if now == c {
             return Lead { key: c, cells: r };
         }
@@ -84,40 +78,27 @@ pub fn front(
 }
 
 // Enters each bid with its key.
-pub fn enter(
-    prices: &[u64],
-    masks: &[u64],
-    hop: &[u8],
-    held: &[u64],
-    counts: &mut [u64],
-    tree: &mut [u64],
-)
-    requires { Market prices.now masks.now (length held.now) × (Hopping prices.now masks.now hop.now (length held.now)
-        × (Counted held.now counts.old × (length tree.old ≡ 2048))) }
+pub fn enter(bids: Bids, held: &[u64], counts: &mut [u64], tree: &mut [u64])
+    requires { (length held.now ≡ bids.w) × (Counted held.now counts.old × (length tree.old ≡ 2048)) }
     ensures { Tree tree.new
-        × (Entered (has masks.now (length held.now)) prices.now held.now
+        × (Entered (has bids.entry.masks.now (length held.now)) bids.entry.prices.now held.now
         (leaves tree.new)
         × Counted held.now counts.new) }
 {
-    let mut i = 0;
-    while i < 1024 {
-        if i < prices.len() {
-            let r = multi_market::overlap(held, counts, masks, hop, i);
-            tree[1024 + i] = multi_keys::key_of(prices[i], r, i);
-            i += 1;
+    for i in 0..1024 {
+        tree[1024 + i] = if i < bids.prices.len() {
+            let r = multi_market::overlap(held, counts, bids.masks, bids.hop, i);
+            multi_keys::key_of(bids.prices[i], r, i)
         } else {
-            tree[1024 + i] = multi_keys::OUT;
-            i += 1;
-        }
+            multi_keys::OUT
+        };
     }
     multi_keys::play(tree);
 }
 
 // The run: each round's key, the cells that it gains and where they begin on the tape. Answers the number of rounds.
 pub fn trace(
-    prices: &[u64],
-    masks: &[u64],
-    hop: &[u8],
+    bids: Bids,
     count: usize,
     held: &mut [u64],
     counts: &mut [u64],
@@ -125,27 +106,27 @@ pub fn trace(
     run: &mut [u64],
     tape: &mut [u64],
 ) -> usize
-    requires { Market prices.now masks.now (length held.old) × (Hopping prices.now masks.now hop.now (length held.old)
-        × (Counted held.old counts.old × (Tree tree.old
-        × (Entered (has masks.now (length held.old)) prices.now held.old (leaves tree.old)
+    requires { (length held.old ≡ bids.w) × (Counted held.old counts.old × (Tree tree.old
+        × (Entered (has bids.masks.now (length held.old)) bids.prices.now held.old (leaves tree.old)
         × (First count held.old × ((count ≤ 64 * length held.old) × ((3 * count + 3 ≤ length run.old)
-        × (2 * count ≤ length tape.old)))))))) }
-    ensures { Trace (has masks.now (length held.old)) prices.now (length held.old)
+        × (2 * count ≤ length tape.old))))))) }
+    ensures { Trace (has bids.entry.masks.now (length held.old)) bids.entry.prices.now (length held.old)
         count run.new tape.new result
         × (Counted held.new counts.new × (length tree.new ≡ 2048)) }
 {
     let mut r = 0;
     let mut c = 0;
     run[2] = 0;
+    // a loop: it goes on as long as a bid has an open cell, not a number of times
     loop {
-        let f = front(prices, masks, hop, held, counts, tree, multi_keys::LAST);
+        let f = front(bids, held, counts, tree, multi_keys::LAST);
         let key = f.key;
         if multi_keys::LAST < key {
             run[3 * r] = multi_keys::LAST;
             return r;
         }
         let b = (key % 1024) as usize;
-        let z = cut(held, masks, hop, b, tape, c);
+        let z = cut(held, bids.masks, bids.hop, b, tape, c);
         cells_pairs::close_pairs(held, counts, tape, c, z);
         multi_keys::put(tree, b, multi_keys::OUT);
         run[3 * r] = key;

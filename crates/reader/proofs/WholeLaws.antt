@@ -1,5 +1,5 @@
 -- What reading answers and leaves in lent tables, from what was filled and from their lengths. Assumes nothing.
-use Rattle.std.specs.Prelude.{ℕ, ◌*◌, ◌/◌, ◌≤◌, ◌<◌, ◌≡◌, List, ◌++◌, length, take, drop}
+use Rattle.std.specs.Prelude.{ℕ, ◌*◌, ◌/◌, ◌≤◌, ◌<◌, ◌≡◌, List, ◌++◌, length, take, drop, Ok, Err}
 use Rattle.std.proofs.Math.Path.{refl}
 use borrow.Author.Tests.{le-leb, lt-leb}
 use Rattle.tender.specs.declared.Tender.{Tender}
@@ -9,14 +9,13 @@ use Rattle.tender.specs.Tables.{bid_width, window_width}
 use Rattle.reader_text.specs.Read.{accepted, refused, read_text, fitted, read_into}
 use Rattle.reader_fill.proofs.FillLaws.{Filled}
 use Rattle.reader.specs.Answer.{read_answer, bids_after, windows_after}
-use Rattle.reader.specs.declared.Reading.TheVariants as answer
 
 module _ (text bids windows : List ℕ) where
   pub Refuses : Refusal → Type 0
   Refuses r = read_into text (length bids / bid_width) (length windows / window_width) ≡ refused r
 
   pub answer_refused : (r : Refusal) → Refuses r →
-      (answer.Refused r ≡ read_answer (read_into text (length bids / bid_width) (length windows / window_width)))
+      (Err r ≡ read_answer (read_into text (length bids / bid_width) (length windows / window_width)))
       × (bids ≡ bids_after bids (read_into text (length bids / bid_width) (length windows / window_width)))
       × (windows ≡ windows_after windows (read_into text (length bids / bid_width) (length windows / window_width)))
   unfolding Refuses bids_after windows_after
@@ -43,7 +42,8 @@ module _ (text bids windows : List ℕ) where
         rw (h.is, h.rows_count, h.windows_count, le-leb k (length bids / bid_width) i, le-leb m (length windows / window_width) j)
 
     pub answer_accepted : k ≤ length bids / bid_width → m ≤ length windows / window_width →
-        (answer.Accepted t k m ≡ read_answer (read_into text (length bids / bid_width) (length windows / window_width)))
+        (Ok (record { tender = t; bids = k; windows = m })
+        ≡ read_answer (read_into text (length bids / bid_width) (length windows / window_width)))
         × (take (bid_width * k) rows ++ drop (bid_width * k) bids
         ≡ bids_after bids (read_into text (length bids / bid_width) (length windows / window_width)))
         × (take (window_width * m) spans ++ drop (window_width * m) windows

@@ -1,14 +1,14 @@
 -- What `read` answers and leaves in the tables.
-use Rattle.std.specs.Prelude.{List, ◌++◌, ℕ, ◌*◌, length, drop}
+use Rattle.std.specs.Prelude.{List, ◌++◌, ℕ, ◌*◌, length, drop, Result}
 use Rattle.tender.specs.Tables.{flat_rows, flat_windows, bid_width, window_width}
 use Rattle.reader_text.specs.Read.{ReadOutcome, accepted, refused}
-use Rattle.reader.specs.declared.Reading.{Reading}
-use Rattle.reader.specs.declared.Reading.TheVariants as answer
+use Rattle.tender.specs.declared.Refusal.{Refusal}
+use Rattle.reader_fill.specs.declared.Filled.{Filled}
+use Rattle.reader_fill.specs.Answer.{fill_answer}
 
 -- the tender and how many rows of each table were filled, or the refusal
-abbrev pub read_answer : ReadOutcome → Reading
-read_answer (accepted t rows windows) = answer.Accepted t (length rows) (length windows)
-read_answer (refused r) = answer.Refused r
+abbrev pub read_answer : ReadOutcome → Result Filled Refusal
+read_answer = fill_answer
 
 -- a table after reading: its rows and the old places past them, or as it was
 unfoldable pub bids_after : List ℕ → ReadOutcome → List ℕ

@@ -7,24 +7,12 @@ ghost use Rattle.tender.specs.Tables.{bid_width, window_width};
 ghost use Rattle.reader_text.specs.Read.{read_into};
 ghost use Rattle.reader.specs.Answer.{read_answer, bids_after, windows_after};
 
-mod rows;
-
-use reader_fill::{Filling, fill};
-use rows::copy;
-use tender::{Refusal, Tender};
-
-#[derive(Clone, Copy)]
-pub enum Reading {
-    Accepted {
-        tender: Tender,
-        bids: usize,
-        windows: usize,
-    },
-    Refused(Refusal),
-}
+pub use reader_fill::Filled;
+use reader_fill::fill;
+use tender::Refusal;
 
 // Reads the text into the first rows of the two tables; places past them stay.
-pub fn read(text: &[u8], bids: &mut [u64], windows: &mut [u64]) -> Reading
+pub fn read(text: &[u8], bids: &mut [u64], windows: &mut [u64]) -> Result<Filled, Refusal>
     ensures answer { result ≡ read_answer (read_into text.now (length bids.old / bid_width)
         (length windows.old / window_width)) }
     ensures rows { bids.new ≡ bids_after bids.old
@@ -34,26 +22,16 @@ pub fn read(text: &[u8], bids: &mut [u64], windows: &mut [u64]) -> Reading
 {
     let mut rows = [1u64; tender::BID_TABLE];
     let mut spans = [1u64; tender::WINDOW_TABLE];
-    match fill(text, &mut rows, &mut spans) {
-        Filling::Rows {
-            tender,
-            bids: k,
-            windows: m,
-        } => {
-            if bids.len() / tender::BID_WIDTH < k {
-                return Reading::Refused(Refusal::TableTooShort);
-            }
-            if windows.len() / tender::WINDOW_WIDTH < m {
-                return Reading::Refused(Refusal::TableTooShort);
-            }
-            copy(&rows, tender::BID_WIDTH * k, bids);
-            copy(&spans, tender::WINDOW_WIDTH * m, windows);
-            Reading::Accepted {
-                tender,
-                bids: k,
-                windows: m,
-            }
-        }
-        Filling::Refused(r) => Reading::Refused(r),
+    let filled = fill(text, &mut rows, &mut spans)?;
+    if bids.len() / tender::BID_WIDTH < filled.bids {
+        return Err(Refusal::TableTooShort);
     }
+    if windows.len() / tender::WINDOW_WIDTH < filled.windows {
+        return Err(Refusal::TableTooShort);
+    }
+    let k = tender::BID_WIDTH * filled.bids;
+    bids[..k].copy_from_slice(&rows[..k]);
+    let m = tender::WINDOW_WIDTH * filled.windows;
+    windows[..m].copy_from_slice(&spans[..m]);
+    Ok(filled)
 }

@@ -1,5 +1,6 @@
 -- The walk over a text's bids: what the tables hold on the way. Assumes nothing.
-use Rattle.std.specs.Prelude.{ℕ, suc, ◌+◌, ◌*◌, ◌/◌, ◌≤◌, ◌<◌, ◌≡◌, List, [], ◌∷◌, ◌++◌, Bool, true, false, ◌||◌, take, get_or, replicate, eqb, ltb}
+use Rattle.std.specs.Prelude.{ℕ, suc, ◌+◌, ◌*◌, ◌/◌, ◌≤◌, ◌<◌, ◌≡◌, List, [], ◌∷◌, ◌++◌, Bool, true}
+use Rattle.std.specs.Prelude.{false, ◌||◌, take, get_or, replicate, eqb, ltb, Ok, Err}
 use Rattle.std.proofs.Math.Path.{refl, sym, ap}
 use Rattle.std.proofs.Common.{◌∙◌, append_assoc, append-nil, arith, zero-add, eqb-true, ltb-true, ltb-false}
 use Rattle.std.proofs.Math.Bool.{or-false, or-true}
@@ -17,9 +18,7 @@ use Rattle.reader_parts.specs.Words.{among}
 use Rattle.reader_forms.specs.Line.{BidLine, Line, tender, bid, reserve}
 use Rattle.reader_text.specs.Read.{ReadOutcome, refused, rows_from, all_windows, bids_of, bid_fault_after, bid_fault, judged_by, checked}
 use Rattle.reader_text.proofs.RulesLaws.{faultless_after}
-use Rattle.reader_bids.specs.Steps.{BidTaken, Judged, Taken, TablesHold}
-use Rattle.reader_bids.specs.declared.Step.{Step}
-use Rattle.reader_bids.specs.declared.Step.TheVariants as step
+use Rattle.reader_bids.specs.Steps.{Step, took, BidTaken, Judged, Taken, TablesHold}
 use Rattle.reader_bids.specs.StoreLaws.{front, windows_put, windows_more, flat_more, rows_more}
 
 pub bidder_numbers : List BidLine → List ℕ
@@ -113,13 +112,31 @@ marked_more b us used used' h f x = go (eqb b x) refl (ltb x b) refl ∙ sym (am
         let l : b + 1 ≤ x = omega (arith, ltb-false x b g) in
         rw (f.above x l, or-false (among x us)) (h x)
 
-bid_not_refused : {A : Type 0} {r : Step} {c n : ℕ} {x : Refusal} → r ≡ step.Bid c n → r ≡ step.Refused x → A
+bid_not_refused : {A : Type 0} {r : Step} {c n : ℕ} {x : Refusal} → r ≡ took c n → r ≡ Err x → A
 bid_not_refused {A} {r} {c} {n} {x} e h =
-    let q : step.Bid c n ≡ step.Refused x = sym e ∙ h in let z : ◌≡◌ {A = ℕ} 0 1 = cc in absurd (omega arith)
+    let q : took c n ≡ Err x = sym e ∙ h in let z : ◌≡◌ {A = ℕ} 0 1 = cc in absurd (omega arith)
+
+-- what is answered of a bid, part by part
+
+count_of : Step → ℕ
+count_of (Ok r) = r.value
+count_of (Err x) = 0
+
+next_of : Step → ℕ
+next_of (Ok r) = r.next
+next_of (Err x) = 0
+
+same_count : {r : Step} {c e d f : ℕ} → r ≡ took c e → r ≡ took d f → c ≡ d
+unfolding count_of
+same_count p q = ap count_of (sym p ∙ q)
+
+same_next : {r : Step} {c e d f : ℕ} → r ≡ took c e → r ≡ took d f → e ≡ f
+unfolding next_of
+same_next p q = ap next_of (sym p ∙ q)
 
 -- a line that was taken is a bid: what holds of every bid that the line may be holds of the answer
 module _ (P : ℕ → ℕ → Type 0) (T : Tender) (next line k m : ℕ) (used rows windows used' rows' windows' : List ℕ)
-    (r : Step) (c e : ℕ) (q : r ≡ step.Bid c e) where
+    (r : Step) (c e : ℕ) (q : r ≡ took c e) where
   pub taken_bid : (o : Option Line) → Taken o next T line k m used rows windows r used' rows' windows'
       → ((b : BidLine) → o ≡ some (bid b) → P (length b.windows) next) → P c e
   taken_bid none t h = bid_not_refused q t
@@ -128,7 +145,7 @@ module _ (P : ℕ → ℕ → Type 0) (T : Tender) (next line k m : ℕ) (used r
   taken_bid (some (bid b)) t h = go (bid_fault_after T k b (eqb (cell used b.bidder) 1)) t
     where
       go : (f : Option (ℕ → Refusal)) → Judged f b next line k m used rows windows r used' rows' windows' → P c e
-      go none j = let x : c ≡ length b.windows = cc (q, j.answer) in let y : e ≡ next = cc (q, j.answer) in rw (x, y) (h b refl)
+      go none j = rw (same_count q j.answer, same_next q j.answer) (h b refl)
       go (some f) j = bid_not_refused q j
 
 module _ (T : Tender) (from : ℕ) (whole rest : List (Option Line)) (next line k m : ℕ)
@@ -176,7 +193,7 @@ module _ (T : Tender) (from : ℕ) (whole rest : List (Option Line)) (next line 
   pub goes : (o : Option Line) → Walk T from whole (o ∷ rest) line k m used rows windows → (r : Step)
       → Taken o next T line k m used rows windows r used' rows' windows' →
       length used' ≡ length used → length rows' ≡ length rows → length windows' ≡ length windows → (c e : ℕ)
-      → r ≡ step.Bid c e
+      → r ≡ took c e
       → ((b : BidLine) → o ≡ some (bid b) → m + length b.windows ≤ 11000) →
       Walk T from whole rest (line + 1) (k + 1) (m + c) used' rows' windows'
   goes none w r t lu lr lw c e q room = bid_not_refused q t
@@ -188,15 +205,15 @@ module _ (T : Tender) (from : ℕ) (whole rest : List (Option Line)) (next line 
       go : (f : Option (ℕ → Refusal)) → bid_fault_after T k b (eqb (cell used b.bidder) 1) ≡ f →
           Judged f b next line k m used rows windows r used' rows' windows'
           → Walk T from whole rest (line + 1) (k + 1) (m + c) used' rows' windows'
-      go none g j = let x : c ≡ length b.windows = cc (q, j.answer) in rw x (more b w r (room b refl) g j lu lr lw)
+      go none g j = rw (same_count q j.answer) (more b w r (room b refl) g j lu lr lw)
       go (some f) g j = bid_not_refused q j
 
-  refusal_is : (r : Step) (x y : Refusal) → r ≡ step.Refused x → r ≡ step.Refused y → refused y ≡ refused x
-  refusal_is r x y e h = let q : step.Refused y ≡ step.Refused x = sym h ∙ e in ap refused (cc)
+  refusal_is : (r : Step) (x y : Refusal) → r ≡ Err x → r ≡ Err y → refused y ≡ refused x
+  refusal_is r x y e h = let q : Err y ≡ Err x = sym h ∙ e in ap refused (cc)
 
   -- the next line is faulty
   pub stops : (o : Option Line) → Walk T from whole (o ∷ rest) line k m used rows windows → (r : Step)
-      → Taken o next T line k m used rows windows r used' rows' windows' → (x : Refusal) → r ≡ step.Refused x →
+      → Taken o next T line k m used rows windows r used' rows' windows' → (x : Refusal) → r ≡ Err x →
       (out : ReadOutcome) → checked T from [] whole out ≡ refused x
   unfolding checked judged_by
   stops none w r t x e out = w.checks out ∙ refusal_is r x (BadForm line) e t

@@ -1,12 +1,11 @@
 -- The first fault of a bid, test by test. Assumes nothing.
-use Rattle.std.specs.Prelude.{ℕ, ◌≤◌, ◌≡◌, refl, Bool, true, false, cond, not, ◌&&◌, ◌||◌, leb, ltb}
-use Rattle.std.proofs.Common.{true≢false, leb-true, ltb-false, le-ltb}
+use Rattle.std.specs.Prelude.{ℕ, ◌≤◌, ◌≡◌, refl, Bool, true, false, not, ◌&&◌, ◌||◌, leb, ltb}
+use Rattle.std.proofs.Common.{true≢false, leb-true}
 use Rattle.std.proofs.Math.Option.{none, some}
 use Rattle.tender.specs.declared.Tender.{Tender}
 use Rattle.tender.specs.declared.Refusal.TheVariants.{OutsideLimits, TooMany, EmptyWindow, BidderRepeated, SeveralWindows}
 use Rattle.tender.specs.declared.Refusal.TheVariants.{LateWindow}
 use Rattle.tender.specs.Limits.{within, is_single}
-use Rattle.reader_parts.proofs.CutLaws.{neither}
 use Rattle.reader_text.specs.Read.{line_fault, bid_fault_in}
 
 module _ (t : Tender) (bids bidder price count : ℕ) (empty late used : Bool) where
@@ -44,15 +43,6 @@ module _ (t : Tender) (bids bidder price count : ℕ) (empty late used : Bool) w
             pub sound : used ≡ false → bid_fault_in t bids bidder price count empty late used ≡ none
             unfolding bid_fault_in line_fault
             sound h = rw (a, b, c, d, e, h)
-
--- a bid that is not one of too many windows
-pub few_windows : (bids count : ℕ) → leb 1000 bids || ltb 32 count ≡ false → count ≤ 32
-few_windows bids count h = ltb-false 32 count (neither (leb 1000 bids) (ltb 32 count) h).1
-
--- then more than one in a single tender are more than the tender takes
-pub more_than_taken : (single : Bool) (count : ℕ) → count ≤ 32 → ltb (cond single 1 32) count ≡ (single && ltb 1 count)
-more_than_taken true count h = refl
-more_than_taken false count h = le-ltb 32 count h
 
 -- a bidder within its limits is one of a million
 pub bidder_in : (bidder price : ℕ) → not (within 1 999999 bidder) || ltb 100000000 price ≡ false → bidder ≤ 999999

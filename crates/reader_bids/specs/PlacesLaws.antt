@@ -1,5 +1,5 @@
 -- The walk over a text's bids by the places where its lines begin. Assumes nothing.
-use Rattle.std.specs.Prelude.{ℕ, ◌+◌, ◌*◌, ◌≤◌, ◌<◌, ◌≡◌, refl, List, [], ◌∷◌, length, drop}
+use Rattle.std.specs.Prelude.{ℕ, ◌+◌, ◌*◌, ◌≤◌, ◌<◌, ◌≡◌, refl, List, [], ◌∷◌, length, drop, Err}
 use Rattle.std.proofs.Math.Option.{Option, some}
 use Rattle.std.proofs.Common.{arith, length-drop, length-take-le}
 use Rattle.tender.specs.declared.Tender.{Tender}
@@ -11,10 +11,8 @@ use Rattle.reader_forms.specs.LineFront.{first_line}
 use Rattle.reader_forms.proofs.SizeLaws.{line_long}
 use Rattle.reader_forms.proofs.EndedLaws.{ended_in, lines_on}
 use Rattle.reader_text.specs.Read.{ReadOutcome, refused, checked}
-use Rattle.reader_bids.specs.Steps.{Taken}
+use Rattle.reader_bids.specs.Steps.{Step, took, Taken}
 use Rattle.reader_bids.specs.FillsLaws.{Walk, taken_bid, goes, stops}
-use Rattle.reader_bids.specs.declared.Step.{Step}
-use Rattle.reader_bids.specs.declared.Step.TheVariants as step
 
 -- the windows of the text up to the end of the next line
 room_for : (text : List ℕ) (i m : ℕ) → Ended text → i < length text → 6 * m ≤ i → (b : BidLine)
@@ -36,14 +34,14 @@ module _ (T : Tender) (from : ℕ) (whole : List (Option Line)) (text : List ℕ
     here = rw (lines_on text i x h) at w
 
     -- it is faulty
-    pub walk_stops : (y : Refusal) → r ≡ step.Refused y → (out : ReadOutcome) → checked T from [] whole out ≡ refused y
+    pub walk_stops : (y : Refusal) → r ≡ Err y → (out : ReadOutcome) → checked T from [] whole out ≡ refused y
     walk_stops y q out = stops T from whole (lines_of (cut 10 (drop (i + to_next 10 (drop i text) + 1) text)))
         (i + to_next 10 (drop i text) + 1) line k m used rows windows used' rows' windows' (line_of (first_line (drop i text))) here r t
         y q out
 
     -- it is a bid, and the walk goes on at e
     pub walk_goes : length text ≤ 65536 → 6 * m ≤ i → length used' ≡ length used → length rows' ≡ length rows
-        → length windows' ≡ length windows → (c e : ℕ) → r ≡ step.Bid c e
+        → length windows' ≡ length windows → (c e : ℕ) → r ≡ took c e
         → Walk T from whole (lines_of (cut 10 (drop e text))) (line + 1) (k + 1) (m + c) used' rows' windows'
         × (i < e)
         × (e ≤ length text)

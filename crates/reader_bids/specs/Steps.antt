@@ -1,5 +1,6 @@
 -- What this crate's functions answer, as the definitions' values.
 use Rattle.std.specs.Prelude.{◌≡◌, List, [], ◌∷◌, ◌++◌, ℕ, ◌+◌, ◌*◌, ◌≤◌, ◌<◌, length, take, drop, eqb}
+use Rattle.std.specs.Prelude.{Result, Ok, Err}
 use Rattle.std.proofs.Math.Option.{Option, none, some}
 use Rattle.tender.specs.declared.Tender.{Tender}
 use Rattle.tender.specs.declared.Refusal.{Refusal}
@@ -9,30 +10,29 @@ use Rattle.cells.specs.Cells as cells
 use Rattle.reader_forms.specs.Line.{BidLine, Line, tender, bid, reserve}
 use Rattle.reader_forms.specs.Tally.{put_windows}
 use Rattle.reader_text.specs.Read.{ReadOutcome, refused, rows_from, all_windows, bids_of, bid_fault_after, checked}
-use Rattle.reader_bids.specs.declared.Verdict.{Verdict}
-use Rattle.reader_bids.specs.declared.Verdict.TheVariants.{Sound, Faulty}
-use Rattle.reader_bids.specs.declared.Step.{Step}
-use Rattle.reader_bids.specs.declared.Step.TheVariants as step
-use Rattle.reader_bids.specs.declared.Bids.{Bids}
-use Rattle.reader_bids.specs.declared.Bids.TheVariants as bids
+use Rattle.reader_parts.specs.declared.Read.{Read}
+use Rattle.reader_bids.specs.declared.Counts.{Counts}
 
 abbrev pub row_numbers : Row → List ℕ
 row_numbers r = r.bidder ∷ r.price ∷ r.first ∷ r.count ∷ []
 
--- a fault of the line of this number
-abbrev pub fault_at : ℕ → Option (ℕ → Refusal) → Option Refusal
-fault_at line none = none
-fault_at line (some r) = some (r line)
+-- what judging the line of this number answers
+abbrev pub verdict : ℕ → Option (ℕ → Refusal) → Result (Unit {0}) Refusal
+verdict line none = Ok tt
+verdict line (some r) = Err (r line)
 
-abbrev pub verdict_of : Verdict → Option Refusal
-verdict_of Sound = none
-verdict_of (Faulty r) = some r
+-- what taking a line answers: how many windows its bid has and where the next line begins, or the line's fault
+abbrev pub Step : Type 0
+Step = Result (Read ℕ) Refusal
+
+abbrev pub took : ℕ → ℕ → Step
+took count next = Ok (record { value = count; next = next })
 
 -- a bid goes into the tables after k bids with m windows, and the next line begins at `next`
 pub record BidTaken (b : BidLine) (next k m : ℕ) (used rows windows : List ℕ) (r : Step)
     (used' rows' windows' : List ℕ) : Type 0
   where
-    pub answer : r ≡ step.Bid (length b.windows) next
+    pub answer : r ≡ took (length b.windows) next
     pub row : rows' ≡ take (bid_width * k) rows ++ row_numbers
         (record { bidder = b.bidder; price = b.price; first = m; count = length b.windows })
         ++ drop (bid_width * k + bid_width) rows
@@ -43,14 +43,14 @@ abbrev pub Judged : Option (ℕ → Refusal) → BidLine → (next line k m : �
     → (used' rows' windows' : List ℕ) → Type 0
 Judged none b next line k m used rows windows r used' rows' windows' =
     BidTaken b next k m used rows windows r used' rows' windows'
-Judged (some f) b next line k m used rows windows r used' rows' windows' = r ≡ step.Refused (f line)
+Judged (some f) b next line k m used rows windows r used' rows' windows' = r ≡ Err (f line)
 
 -- what comes of a line, which has the number `line` in its text and goes on to place `next`
 abbrev pub Taken : Option Line → ℕ → Tender → (line k m : ℕ) → (used rows windows : List ℕ) → Step
     → (used' rows' windows' : List ℕ) → Type 0
-Taken none next t line k m used rows windows r used' rows' windows' = r ≡ step.Refused (BadForm line)
-Taken (some (tender u)) next t line k m used rows windows r used' rows' windows' = r ≡ step.Refused (BadForm line)
-Taken (some (reserve p)) next t line k m used rows windows r used' rows' windows' = r ≡ step.Refused (ReserveMisplaced line)
+Taken none next t line k m used rows windows r used' rows' windows' = r ≡ Err (BadForm line)
+Taken (some (tender u)) next t line k m used rows windows r used' rows' windows' = r ≡ Err (BadForm line)
+Taken (some (reserve p)) next t line k m used rows windows r used' rows' windows' = r ≡ Err (ReserveMisplaced line)
 Taken (some (bid b)) next t line k m used rows windows r used' rows' windows' =
     Judged (bid_fault_after t k b (eqb (cells.cell used b.bidder) 1)) b next line k m used rows windows r used' rows' windows'
 
@@ -65,7 +65,7 @@ pub record TablesHold (t : Tender) (from : ℕ) (ls : List (Option Line)) (k m :
   pub windows_are : take (window_width * m) windows ≡ flat_windows (all_windows (bids_of ls))
 
 -- what comes of the lines after the head, from line `from` on
-abbrev pub LinesFilled : Tender → ℕ → List (Option Line) → Bids → (rows windows : List ℕ) → Type 0
-LinesFilled t from ls (bids.Filled k m) rows windows = TablesHold t from ls k m rows windows
-LinesFilled t from ls (bids.Refused r) rows windows =
+abbrev pub LinesFilled : Tender → ℕ → List (Option Line) → Result Counts Refusal → (rows windows : List ℕ) → Type 0
+LinesFilled t from ls (Ok n) rows windows = TablesHold t from ls n.bids n.windows rows windows
+LinesFilled t from ls (Err r) rows windows =
     (out : ReadOutcome) → checked t from [] ls out ≡ refused r

@@ -1,6 +1,7 @@
 -- Rows and windows put into tables: what the first places then are. Assumes nothing.
-use Rattle.std.specs.Prelude.{ℕ, suc, ◌+◌, ◌*◌, ◌≤◌, ◌≡◌, refl, List, [], ◌∷◌, ◌++◌, length, take, drop, set}
-use Rattle.std.proofs.Common.{sym, ap, ◌∙◌, append_assoc, append-nil, arith, add-zero, length-append, length-set, length-take-le, take_at}
+use Rattle.std.specs.Prelude.{ℕ, suc, ◌+◌, ◌*◌, ◌≤◌, ◌≡◌, refl, List, [], ◌∷◌, ◌++◌, length, take, drop}
+use Rattle.std.proofs.Common.{sym, ap, ◌∙◌, append_assoc, append-nil, arith, add-zero, length-append, length-set, length-take-le}
+use Rattle.std.proofs.Common.{take_at}
 use Rattle.std.proofs.lemmas.List.Edits.{sets-eq}
 use Rattle.tender.specs.declared.Window.{Window}
 use Rattle.tender.specs.Tables.{flat_rows, flat_windows, window_width}
@@ -8,16 +9,6 @@ use Rattle.reader_forms.specs.Line.{BidLine}
 use Rattle.reader_forms.specs.Tally.{put_window, put_windows}
 use Rattle.reader_text.specs.Read.{rows_from, all_windows}
 use Rattle.reader_bids.specs.Steps.{row_numbers}
-
--- four places in a row
-pub stored : (l : List ℕ) (i a b c d : ℕ) → i + 4 ≤ length l → set (set (set (set l i a) (i + 1) b) (i + 2) c) (i + 3) d
-    ≡ take i l
-    ++ (a ∷ b ∷ c ∷ d ∷ []) ++ drop (i + 4) l
-stored l i a b c d h =
-    let e1 : i + 1 ≡ suc i = omega arith in
-    let e2 : i + 2 ≡ suc (suc i) = omega arith in
-    let e3 : i + 3 ≡ suc (suc (suc i)) = omega arith in
-    rw (e1, e2, e3) (sets-eq (a ∷ b ∷ c ∷ d ∷ []) l i h)
 
 -- the first places, where some follow the first n
 pub front : (l vs rest : List ℕ) (n t : ℕ) → n ≤ length l → n + length vs ≡ t → take t (take n l ++ vs ++ rest) ≡ take n l

@@ -1,7 +1,8 @@
-// The bids of a text: each line judged in the paper's order, and put into tables.
+// The bids of a text: each line judged test by test, and put into tables.
 #![tactic(auto)]
 
-ghost use Rattle.std.specs.Prelude.{◌≡◌, cond, not, ◌&&◌, ◌||◌, ◌+◌, ◌≤◌, ◌<◌, length, drop, replicate, leb, ltb, eqb};
+ghost use Rattle.std.specs.Prelude.{◌≡◌, cond, not, ◌&&◌, ◌||◌, ◌+◌, ◌≤◌, ◌<◌, length, drop, replicate, leb};
+ghost use Rattle.std.specs.Prelude.{ltb, eqb};
 ghost use Rattle.tender.specs.Limits.{within, max_price, max_bidder, max_bids, max_windows, is_single};
 ghost use Rattle.tender.specs.Tables.{bid_table, window_table};
 ghost use Rattle.cells.specs.Cells.{cell};
@@ -13,12 +14,12 @@ ghost use Rattle.reader_forms.specs.LineFront.{first_line};
 ghost use Rattle.reader_line.specs.Answer.{Room};
 ghost use Rattle.reader_parts.specs.Flaws.{is_empty, is_late};
 ghost use Rattle.reader_text.specs.Read.{bid_fault_in};
-ghost use Rattle.reader_bids.specs.Steps.{fault_at, verdict_of, Taken, LinesFilled};
+ghost use Rattle.reader_bids.specs.Steps.{verdict, Taken, LinesFilled};
 
 mod rows;
 
 use reader_line::line::{Line, read_line};
-use reader_parts::Flaw;
+use reader_parts::{Flaw, Read};
 use rows::put_row;
 use tender::{Kind, Refusal, Tender};
 
@@ -26,52 +27,26 @@ use tender::{Kind, Refusal, Tender};
 fn too_many(bids: usize, windows: usize) -> bool
     ensures { result ≡ (leb max_bids bids || ltb max_windows windows) }
 {
-    if tender::MAX_BIDS <= bids {
-        true
-    } else {
-        tender::MAX_WINDOWS < windows
-    }
+    tender::MAX_BIDS <= bids || tender::MAX_WINDOWS < windows
 }
 
 // Whether the bidder or the price is outside its limits.
+#[tactic(auto, unfolding(tender::specs::Limits::within))]
 fn outside(bidder: u64, price: u64) -> bool
     ensures { result ≡ (not (within 1 max_bidder bidder) || ltb max_price price) }
 {
-    if bidder < 1 {
-        true
-    } else if tender::MAX_BIDDER < bidder {
-        true
-    } else {
-        tender::MAX_PRICE < price
-    }
+    bidder < 1 || tender::MAX_BIDDER < bidder || tender::MAX_PRICE < price
 }
 
-// How many windows the tender takes a bid.
-fn most(tender: Tender) -> usize
-    ensures { result ≡ cond (is_single tender.kind) 1 max_windows }
-{
-    let kind = tender.kind;
-    match kind {
-        Kind::Single => 1,
-        Kind::Multi => tender::MAX_WINDOWS,
-    }
-}
-
-// Whether the tender takes one window a bid and there are more. By the number, which is the same for all bids, it takes one test.
+// Whether the tender takes one window a bid and there are more.
 fn several(tender: Tender, windows: usize) -> bool
-    requires { windows ≤ max_windows }
     ensures { result ≡ (is_single tender.kind && ltb 1 windows) }
 {
-    most(tender) < windows
+    tender.kind == Kind::Single && 1 < windows
 }
 
-#[derive(Clone, Copy)]
-pub(crate) enum Verdict {
-    Sound,
-    Faulty(Refusal),
-}
-
-// The first fault of the bid on this line, after so many bids: 4, 3, 7, 5, 15, 6. `used` is the set of used bidder numbers.
+// The first fault of the bid on this line, after so many bids: too many, outside the limits, several windows, an empty or a late window,
+// a bidder that is used. `used` is the set of used bidder numbers.
 fn judge(
     tender: Tender,
     line: u64,
@@ -80,40 +55,31 @@ fn judge(
     bidder: u64,
     price: u64,
     windows: usize,
-    flaw: Flaw,
-) -> Verdict
+    flaw: Option<Flaw>,
+) -> Result<(), Refusal>
     requires { length used.now ≡ 15625 }
-    ensures { verdict_of result ≡ fault_at line (bid_fault_in tender bids bidder price windows (is_empty flaw) (is_late flaw)
+    ensures { result ≡ verdict line (bid_fault_in tender bids bidder price windows (is_empty flaw) (is_late flaw)
         (eqb (cell (members used.now) bidder) 1)) }
 {
     if too_many(bids, windows) {
-        return Verdict::Faulty(Refusal::TooMany { line });
+        return Err(Refusal::TooMany { line });
     }
     if outside(bidder, price) {
-        return Verdict::Faulty(Refusal::OutsideLimits { line });
+        return Err(Refusal::OutsideLimits { line });
     }
     if several(tender, windows) {
-        return Verdict::Faulty(Refusal::SeveralWindows { line });
+        return Err(Refusal::SeveralWindows { line });
     }
-    match flaw {
-        Flaw::Empty => {
-            return Verdict::Faulty(Refusal::EmptyWindow { line });
-        }
-        Flaw::Late => {
-            return Verdict::Faulty(Refusal::LateWindow { line });
-        }
-        Flaw::Sound => {}
+    if let Some(flaw) = flaw {
+        return match flaw {
+            Flaw::Empty => Err(Refusal::EmptyWindow { line }),
+            Flaw::Late => Err(Refusal::LateWindow { line }),
+        };
     }
     if numbers::holds(used, bidder as usize) {
-        return Verdict::Faulty(Refusal::BidderRepeated { line });
+        return Err(Refusal::BidderRepeated { line });
     }
-    Verdict::Sound
-}
-
-#[derive(Clone, Copy)]
-pub(crate) enum Step {
-    Bid(usize, usize),
-    Refused(Refusal),
+    Ok(())
 }
 
 // The line of this number, which begins at `at`, after k bids with m windows: a bid, which goes into the tables and whose bidder is used
@@ -128,7 +94,7 @@ fn take_line(
     used: &mut [u64],
     rows: &mut [u64],
     windows: &mut [u64],
-) -> Step
+) -> Result<Read<usize>, Refusal>
     requires { (k ≤ 1000) × Room text.now at m windows.old × (length used.old ≡ 15625) × (length rows.old ≡ bid_table)
         × (at < length text.now)
         × Ended text.now }
@@ -136,27 +102,34 @@ fn take_line(
         line k m (members used.old) rows.old windows.old result (members used.new)
         rows.new windows.new }
 {
-    match read_line(text, at, windows, m) {
-        Line::Bid(bidder, price, count, flaw, next) => match judge(
-            tender, line, k, used, bidder, price, count, flaw,
-        ) {
-            Verdict::Sound => {
-                put_row(rows, k, bidder, price, m as u64, count as u64);
-                numbers::add(used, bidder as usize);
-                Step::Bid(count, next)
-            }
-            Verdict::Faulty(r) => Step::Refused(r),
-        },
-        Line::Tender(_, _, _) => Step::Refused(Refusal::BadForm { line }),
-        Line::Reserve(_, _) => Step::Refused(Refusal::ReserveMisplaced { line }),
-        Line::Broken => Step::Refused(Refusal::BadForm { line }),
+    let Some(read) = read_line(text, at, windows, m) else {
+        return Err(Refusal::BadForm { line });
+    };
+    match read.value {
+        Line::Bid {
+            bidder,
+            price,
+            count,
+            flaw,
+        } => {
+            judge(tender, line, k, used, bidder, price, count, flaw)?;
+            put_row(rows, k, bidder, price, m as u64, count as u64);
+            numbers::add(used, bidder as usize);
+            Ok(Read {
+                value: count,
+                next: read.next,
+            })
+        }
+        Line::Tender(_, _) => Err(Refusal::BadForm { line }),
+        Line::Reserve(_) => Err(Refusal::ReserveMisplaced { line }),
     }
 }
 
+// How many rows of each table were filled.
 #[derive(Clone, Copy)]
-pub enum Bids {
-    Filled(usize, usize),
-    Refused(Refusal),
+pub struct Counts {
+    pub bids: usize,
+    pub windows: usize,
 }
 
 // The bids of lines that all end with byte 10, from `at` on, where line `from` begins, in the first rows of the two tables: how many bids
@@ -169,7 +142,7 @@ pub fn read_bids(
     used: &mut [u64],
     rows: &mut [u64],
     windows: &mut [u64],
-) -> Bids
+) -> Result<Counts, Refusal>
     requires { (at ≤ length text.now) × (from ≤ 65536) × (length text.now ≤ 65536) × (used.old ≡ replicate 15625 1)
         × (length rows.old ≡ bid_table)
         × (length windows.old ≡ window_table)
@@ -180,18 +153,16 @@ pub fn read_bids(
     let mut k: usize = 0;
     let mut m: usize = 0;
     let mut i = at;
+    // a while: the place goes on by lines, not by one
     while i < text.len() {
         let line = from + k as u64;
-        match take_line(text, i, line, tender, k, m, used, rows, windows) {
-            Step::Bid(count, next) => {
-                k += 1;
-                m += count;
-                i = next;
-            }
-            Step::Refused(r) => {
-                return Bids::Refused(r);
-            }
-        }
+        let taken = take_line(text, i, line, tender, k, m, used, rows, windows)?;
+        k += 1;
+        m += taken.value;
+        i = taken.next;
     }
-    Bids::Filled(k, m)
+    Ok(Counts {
+        bids: k,
+        windows: m,
+    })
 }

@@ -11,8 +11,5 @@ pub(crate) fn put_row(out: &mut [u64], k: usize, bidder: u64, price: u64, first:
         ++ drop (bid_width * k + bid_width) out.old }
 {
     let at = tender::BID_WIDTH * k;
-    out[at] = bidder;
-    out[at + 1] = price;
-    out[at + 2] = first;
-    out[at + 3] = count;
+    out[at..at + tender::BID_WIDTH].copy_from_slice(&[bidder, price, first, count]);
 }

@@ -1,5 +1,5 @@
 -- What filling tables answers, from the lines, and what it leaves in them. Assumes nothing.
-use Rattle.std.specs.Prelude.{ℕ, ◌*◌, ◌≤◌, ◌<◌, ◌≡◌, refl, List, ◌++◌, length, take, ltb}
+use Rattle.std.specs.Prelude.{ℕ, ◌*◌, ◌≤◌, ◌<◌, ◌≡◌, refl, List, ◌++◌, length, take, ltb, Result, Ok, Err}
 use Rattle.std.proofs.Common.{sym, ap, ◌∙◌, arith, lt-ltb, le-ltb}
 use Rattle.tender.specs.declared.Window.{Window}
 use Rattle.tender.specs.declared.Tender.{Tender}
@@ -14,8 +14,7 @@ use Rattle.reader_text.proofs.SizeLaws.{size_law}
 use Rattle.reader_fill.specs.Answer.{fill_answer, Holds}
 use Rattle.reader_fill.specs.Rest.{LinesEnd, rest_line}
 use Rattle.reader_fill.proofs.RestLaws.{lines_parted, lines_unended}
-use Rattle.reader_fill.specs.declared.Filling.{Filling}
-use Rattle.reader_fill.specs.declared.Filling.TheVariants as answer
+use Rattle.reader_fill.specs.declared.Filled as code
 
 -- a text by its lines
 
@@ -45,32 +44,48 @@ pub record Filled (text : List ℕ) (t : Tender) (k m : ℕ) (rows spans : List 
   pub rows_are : take (bid_width * k) rows ≡ flat_rows R
   pub windows_are : take (window_width * m) spans ≡ flat_windows W
 
+-- what is answered of an accepted text, part by part
+
+tender_in : Tender → Result code.Filled Refusal → Tender
+tender_in t (Ok f) = f.tender
+tender_in t (Err r) = t
+
+bids_in : Result code.Filled Refusal → ℕ
+bids_in (Ok f) = f.bids
+bids_in (Err r) = 0
+
+windows_in : Result code.Filled Refusal → ℕ
+windows_in (Ok f) = f.windows
+windows_in (Err r) = 0
+
 module _ (text : List ℕ) where
-  pub filled_is : {rows spans : List ℕ} {r : Filling} (t : Tender) (k m : ℕ) → r ≡ fill_answer (read_text text)
-      → Holds (read_text text) rows spans → r ≡ answer.Rows t k m → Filled text t k m rows spans
+  pub filled_is : {rows spans : List ℕ} {r : Result code.Filled Refusal} (t : Tender) (k m : ℕ) → r ≡ fill_answer (read_text text)
+      → Holds (read_text text) rows spans → r ≡ Ok (record { tender = t; bids = k; windows = m }) → Filled text t k m rows spans
+  unfolding tender_in bids_in windows_in
   filled_is {rows} {spans} {r} t k m a h e = go (read_text text) refl (sym e ∙ a) h
     where
-      go : (o : ReadOutcome) → read_text text ≡ o → answer.Rows t k m ≡ fill_answer o → Holds o rows spans
+      go : (o : ReadOutcome) → read_text text ≡ o → Ok (record { tender = t; bids = k; windows = m }) ≡ fill_answer o
+          → Holds o rows spans
           → Filled text t k m rows spans
       go (refused q) i x y = let f : ◌≡◌ {A = ℕ} 0 1 = cc in absurd (omega arith)
       go (accepted u R W) i x y =
-          let n : length R ≡ k = cc in
-          let p : length W ≡ m = cc in
+          let n : length R ≡ k = sym (ap bids_in x) in
+          let p : length W ≡ m = sym (ap windows_in x) in
           record {
             R = R;
             W = W;
-            is = i ∙ ap (λ v. accepted v R W) (cc);
+            is = i ∙ ap (λ v. accepted v R W) (sym (ap (tender_in u) x));
             rows_count = n;
             windows_count = p;
             rows_are = rw n at y.0;
             windows_are = rw p at y.1;
           }
 
-  pub refused_is : {r : Filling} (q : Refusal) → r ≡ fill_answer (read_text text) → r ≡ answer.Refused q
+  pub refused_is : {r : Result code.Filled Refusal} (q : Refusal) → r ≡ fill_answer (read_text text) → r ≡ Err q
       → read_text text ≡ refused q
   refused_is {r} q a e = go (read_text text) (sym e ∙ a)
     where
-      go : (o : ReadOutcome) → answer.Refused q ≡ fill_answer o → o ≡ refused q
+      go : (o : ReadOutcome) → Err q ≡ fill_answer o → o ≡ refused q
       go (refused k) x = cc
       go (accepted u R W) x = let f : ◌≡◌ {A = ℕ} 0 1 = cc in absurd (omega arith)
 

@@ -1,5 +1,5 @@
 -- What comes of a text's head, from what is noted of its first line. Assumes nothing.
-use Rattle.std.specs.Prelude.{ℕ, ◌≡◌, List, ◌∷◌}
+use Rattle.std.specs.Prelude.{ℕ, ◌≡◌, List, ◌∷◌, Result}
 use Rattle.std.proofs.Common.{sym, subst, arith}
 use Rattle.std.proofs.Math.Option.{Option, none, some}
 use Rattle.tender.specs.declared.Refusal.{Refusal}
@@ -47,5 +47,5 @@ module _ (ls rest : List (Option Line)) (o : Option Line) (q : ls ≡ o ∷ rest
   pub first_sound : (t : TenderLine) → o ≡ some (tender t) → tender_fault t ≡ none → head_of ls ≡ reserve_in t 2 rest
   first_sound t e l = rw (q, e) (tender_faultless t rest l)
 
-pub opened_same : (text : List ℕ) (g h : reading.Head) (r : Head) → g ≡ h → Opened text h r → Opened text g r
+pub opened_same : (text : List ℕ) (g h : reading.Head) (r : Result Head Refusal) → g ≡ h → Opened text h r → Opened text g r
 opened_same text g h r e o = subst (λ x. Opened text x r) (sym e) o

@@ -1,6 +1,6 @@
 -- What comes of lines that all end with byte 10, and of a rest after them. Assumes nothing.
-use Rattle.std.specs.Prelude.{ℕ, ◌+◌, ◌≡◌, refl, List, [], ◌++◌, Bool, length}
-use Rattle.std.proofs.Common.{subst, ◌∙◌, append-nil, arith}
+use Rattle.std.specs.Prelude.{ℕ, ◌+◌, ◌≡◌, refl, List, [], ◌++◌, Bool, length, Ok, Err}
+use Rattle.std.proofs.Common.{◌∙◌, append-nil}
 use Rattle.std.proofs.Math.Path.{ap}
 use Rattle.std.proofs.Math.Bool.{true, false}
 use Rattle.std.proofs.Math.Option.{Option}
@@ -10,44 +10,16 @@ use Rattle.tender.specs.declared.Refusal.TheVariants.{BadForm}
 use Rattle.reader_forms.specs.Line.{Line}
 use Rattle.reader_text.specs.Read.{ReadOutcome, accepted, refused, rows_from, all_windows, bids_of, checked, tables, begun, halted}
 use Rattle.reader_text.specs.Read.{head_of, read_lines}
-use Rattle.reader_text.specs.Read as reading
 use Rattle.reader_text.proofs.HeadLaws.{lines_halted, lines_begun}
 use Rattle.reader_text.proofs.RestLaws.{halted_rest, faulty_rest, faultless_rest}
 use Rattle.reader_text.proofs.RulesLaws.{rows_from_length}
-use Rattle.reader_bids.specs.Steps.{TablesHold, LinesFilled}
-use Rattle.reader_bids.specs.declared.Bids.{Bids}
-use Rattle.reader_bids.specs.declared.Bids.TheVariants as bids
+use Rattle.reader_bids.specs.Steps.{TablesHold}
 use Rattle.reader_fill.specs.Answer.{fill_answer, Holds}
-use Rattle.reader_fill.specs.Opened.{Begins, Opened}
 use Rattle.reader_fill.specs.Rest.{rest_line}
-use Rattle.reader_fill.specs.declared.Head.{Head}
-use Rattle.reader_fill.specs.declared.Head.TheVariants as head
-use Rattle.reader_fill.specs.declared.Filling.TheVariants as answer
-
--- by the case of an answer
-
-pub opened_tender : (text : List ℕ) (h : reading.Head) (r : Head) → Opened text h r → (t : Tender) (at from : ℕ)
-    → r ≡ head.Tender t at from → Begins text h t at from
-opened_tender text h r o t at from e = subst (Opened text h) e o
-
-pub opened_refused : (text : List ℕ) (h : reading.Head) (r : Head) → Opened text h r → (x : Refusal) → r ≡ head.Refused x
-    → h ≡ halted x
-opened_refused text h r o x e = subst (Opened text h) e o
-
-module _ (t : Tender) (from : ℕ) (ls : List (Option Line)) (rows spans : List ℕ) where
-  pub filled_held : (r : Bids) → LinesFilled t from ls r rows spans → (k m : ℕ) → r ≡ bids.Filled k m
-      → TablesHold t from ls k m rows spans
-  filled_held (bids.Filled j n) h k m e = let x : j ≡ k = cc in let y : n ≡ m = cc in rw (← x, ← y) h
-  filled_held (bids.Refused r) h k m e = let z : ◌≡◌ {A = ℕ} 0 1 = cc in absurd (omega arith)
-
-  pub filled_refused : (r : Bids) → LinesFilled t from ls r rows spans → (x : Refusal) → r ≡ bids.Refused x
-      → (out : ReadOutcome) → checked t from [] ls out ≡ refused x
-  filled_refused (bids.Filled j n) h x e out = let z : ◌≡◌ {A = ℕ} 0 1 = cc in absurd (omega arith)
-  filled_refused (bids.Refused r) h x e out = let y : r ≡ x = cc in rw (← y) (h out)
 
 -- a refusal is answered
 pub told_refused : (o : ReadOutcome) (r : Refusal) (rows spans : List ℕ) → o ≡ refused r
-    → (answer.Refused r ≡ fill_answer o) × Holds o rows spans
+    → (Err r ≡ fill_answer o) × Holds o rows spans
 told_refused o r rows spans e = rw e (refl, tt)
 
 module _ (ls : List (Option Line)) where
@@ -72,7 +44,8 @@ module _ (ls : List (Option Line)) where
       unfolding rest_line tables
       lines_accepted = ap read_lines (append-nil ls) ∙ lines_begun ls t from more g ∙ h.faultless (tables t (bids_of more))
 
-      pub told_accepted : (rest : Bool) → rest ≡ false → (answer.Rows t k m ≡ fill_answer (read_lines (ls ++ rest_line rest)))
+      pub told_accepted : (rest : Bool) → rest ≡ false
+          → (Ok (record { tender = t; bids = k; windows = m }) ≡ fill_answer (read_lines (ls ++ rest_line rest)))
           × Holds (read_lines (ls ++ rest_line rest)) rows spans
       told_accepted rest q =
           let a : length (rows_from 0 (bids_of more)) ≡ k = rows_from_length 0 (bids_of more) ∙ h.bids in

@@ -8,9 +8,6 @@ use Rattle.reader_forms.specs.Line.{Line, tender, bid, reserve, lines_of}
 use Rattle.reader_forms.specs.Tally.{Note, tender_note, bid_note, reserve_note, noted}
 use Rattle.reader_line.specs.Answer.{head_line}
 use Rattle.reader_text.specs.Read.{Unreserved}
-use Rattle.reader_fill.specs.Opened.{NextIs}
-use Rattle.reader_fill.specs.declared.Next.{Next}
-use Rattle.reader_fill.specs.declared.Next.TheVariants as next
 
 pub next_none : (text : List ℕ) (at : ℕ) → length text ≤ at → Unreserved (lines_of (cut 10 (drop at text)))
 unfolding lines_of cut
@@ -45,13 +42,3 @@ module _ (m : ℕ) (table : List ℕ) where
       go (some (tender t)) h = let z : ◌≡◌ {A = ℕ} 0 1 = cc in absurd (omega arith)
       go (some (bid b)) h = let z : ◌≡◌ {A = ℕ} 0 1 = cc in absurd (omega arith)
       go (some (reserve v)) h = cc
-
--- by the case of an answer
-
-module _ (text : List ℕ) (at : ℕ) where
-  pub found_reserve : (r : Next) → NextIs text at r → (p after : ℕ) → r ≡ next.Reserve p after
-      → NextIs text at (next.Reserve p after)
-  found_reserve r h p after e = subst (NextIs text at) e h
-
-  pub found_other : (r : Next) → NextIs text at r → r ≡ next.Other → NextIs text at next.Other
-  found_other r h e = subst (NextIs text at) e h

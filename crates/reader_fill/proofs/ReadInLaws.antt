@@ -1,11 +1,11 @@
 -- What a reading leaves in tables of 1,000 and 11,000 rows, which have room for any text. Assumes nothing.
-use Rattle.std.specs.Prelude.{◌≡◌, List, ◌++◌, ℕ, ◌*◌, ◌≤◌, length, drop}
+use Rattle.std.specs.Prelude.{◌≡◌, List, ◌++◌, ℕ, ◌*◌, ◌≤◌, length, drop, Result, Ok}
 use Rattle.std.proofs.Common.{sym, ap, ◌∙◌, arith, take-append-drop}
 use Rattle.tender.specs.declared.Tender.{Tender}
 use Rattle.tender.specs.declared.Window.{Window}
 use Rattle.tender.specs.Tables.{Row, flat_rows, flat_windows, bid_width, window_width}
-use Rattle.reader_fill.specs.declared.Filling.{Filling}
-use Rattle.reader_fill.specs.declared.Filling.TheVariants as answer
+use Rattle.tender.specs.declared.Refusal.{Refusal}
+use Rattle.reader_fill.specs.declared.Filled.{Filled}
 use Rattle.reader_text.specs.Read.{accepted, read_text}
 use Rattle.reader_fill.specs.Answer.{fill_answer, Holds}
 use Rattle.reader_fill.proofs.FillLaws.{filled_is}
@@ -23,8 +23,9 @@ pub record ReadIn (text bids windows : List ℕ) (t : Tender) (n : ℕ) : Type 0
   pub windows_are : windows ≡ flat_windows spans ++ past_spans
 
 -- a reading by `fill`
-pub filled_read : (text : List ℕ) {nb nw : List ℕ} {r : Filling} (t : Tender) (n m : ℕ) → r ≡ fill_answer (read_text text)
-    → Holds (read_text text) nb nw → r ≡ answer.Rows t n m → ReadIn text nb nw t n
+pub filled_read : (text : List ℕ) {nb nw : List ℕ} {r : Result Filled Refusal} (t : Tender) (n m : ℕ)
+    → r ≡ fill_answer (read_text text)
+    → Holds (read_text text) nb nw → r ≡ Ok (record { tender = t; bids = n; windows = m }) → ReadIn text nb nw t n
 filled_read text {nb} {nw} {r} t n m a h e =
     let f = filled_is text t n m a h e in
     record {

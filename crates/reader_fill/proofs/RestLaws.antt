@@ -1,6 +1,8 @@
 -- The lines of a text are those up to its last byte 10, and the rest. Assumes nothing.
-use Rattle.std.specs.Prelude.{◌≡◌, refl, List, [], ◌∷◌, ◌++◌, false, ℕ, zero, suc, ◌-◌, ◌≤◌, ◌<◌, length, get_or, take, drop, ltb}
-use Rattle.std.proofs.Common.{sym, ap, ◌∙◌, arith, take-append-drop, length-drop, take-suc, drop-cons, get_or-take, length-take-le, lt-ltb, le-ltb, ne_eqb}
+use Rattle.std.specs.Prelude.{◌≡◌, ◌≢◌, refl, List, [], ◌∷◌, ◌++◌, false, ℕ, suc, ◌+◌, ◌-◌, ◌≤◌}
+use Rattle.std.specs.Prelude.{◌<◌, length, get_or, take, drop, ltb}
+use Rattle.std.proofs.Common.{sym, ap, ◌∙◌, arith, take-append-drop, length-drop, take-suc, get_or-take, get_or-drop, length-take-le}
+use Rattle.std.proofs.Common.{lt-ltb, le-ltb, ne_eqb}
 use Rattle.std.proofs.Math.Seq.{append_snoc}
 use Rattle.reader_parts.specs.Words.{cut, among}
 use Rattle.reader_parts.specs.Scan.{Ended}
@@ -13,19 +15,25 @@ use Rattle.reader_fill.specs.Rest.{LinesEnd, rest_line}
 
 -- the search from the end
 
-pub none_yet : (text : List ℕ) → among 10 (drop (length text) text) ≡ false
+none_among : (s : List ℕ) → ((k : ℕ) → k < length s → get_or s k 0 ≢ 10) → among 10 s ≡ false
 unfolding among
-none_yet [] = refl
-none_yet (b ∷ text) = none_yet text
+none_among [] n = refl
+none_among (b ∷ s) n = rw (ne_eqb b 10 (n 0 (omega arith))) (none_among s (λ k h. n (suc k) (omega arith)))
 
-pub none_here : (text : List ℕ) (e : ℕ) → 0 < e → e ≤ length text → (get_or text (e - 1) 0 ≡ 10 → ⊥)
-    → among 10 (drop e text) ≡ false → among 10 (drop (e - 1) text) ≡ false
-unfolding among
-none_here text zero h l n a = absurd (omega arith)
-none_here text (suc i) h l n a =
-    let q : suc i - 1 ≡ i = omega arith in
-    let m : get_or text i 0 ≡ 10 → ⊥ = rw q at n in
-    rw (q, drop-cons text i 0 (omega arith)) (rw (ne_eqb (get_or text i 0) 10 m) a)
+none_from : (text : List ℕ) (i : ℕ) → ((k : ℕ) → i ≤ k → k < length text → get_or text k 0 ≢ 10)
+    → among 10 (drop i text) ≡ false
+none_from text i n =
+    none_among (drop i text) (λ k h. rw get_or-drop (n (i + k) (omega arith) (omega (arith, length-drop i text))))
+
+pub last_found : (text : List ℕ) (i : ℕ) → i < length text → get_or text i 0 ≡ 10
+    → ((k : ℕ) → i + 1 ≤ k → k < length text → get_or text k 0 ≢ 10) → LinesEnd text (i + 1)
+last_found text i h e n =
+    let q : i + 1 - 1 ≡ i = omega arith in
+    record { inside = omega arith; last = λ z. rw q e; none_after = none_from text (i + 1) n }
+
+pub none_found : (text : List ℕ) → ((k : ℕ) → k < length text → get_or text k 0 ≢ 10) → LinesEnd text 0
+none_found text n =
+    record { inside = omega arith; last = λ z. absurd (omega arith); none_after = none_from text 0 (λ k l h. n k h) }
 
 -- the rest
 

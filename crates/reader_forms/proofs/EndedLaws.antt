@@ -1,5 +1,6 @@
 -- The lines of bytes that end with a byte 10. Assumes nothing.
-use Rattle.std.specs.Prelude.{ℕ, ◌+◌, ◌-◌, ◌<◌, ◌≡◌, refl, List, [], ◌∷◌, ◌++◌, map, false, length, take, drop, get_or}
+use Rattle.std.specs.Prelude.{ℕ, ◌+◌, ◌-◌, ◌<◌, ◌≡◌, refl, List, [], ◌∷◌, ◌++◌, map, false, length, take}
+use Rattle.std.specs.Prelude.{drop, get_or}
 use Rattle.std.proofs.Common.{ap, ◌∙◌, append-nil, arith, length-drop, get_or-drop}
 use Rattle.reader_parts.specs.Words.{cut, among}
 use Rattle.reader_parts.proofs.CutLaws.{cut_word, cut_append}
@@ -15,7 +16,8 @@ module _ (s : List ℕ) (at : ℕ) (x : Ended s) (h : at < length s) where
   ended_in =
       let k : at + (length s - 1 - at) ≡ length s - 1 = omega arith in
       let l : length s - 1 - at < length (drop at s) = rw length-drop (omega arith) in
-      let e : get_or (drop at s) (length s - 1 - at) 0 ≡ 10 = get_or-drop at s (length s - 1 - at) 0 ∙ ap (λ i. get_or s i 0) k ∙ x.1 in
+      let e : get_or (drop at s) (length s - 1 - at) 0 ≡ 10 = get_or-drop at s (length s - 1 - at) 0 ∙ ap (λ i. get_or s i 0) k
+      ∙ x.1 in
       omega (arith, next_upto 10 (drop at s) (length s - 1 - at) l e)
 
   -- the next line, and those after its byte 10

@@ -1,5 +1,6 @@
 -- The pieces between bytes 10 as lines: behind others, and from a place on. Assumes nothing.
-use Rattle.std.specs.Prelude.{◌≡◌, refl, List, [], ◌∷◌, ◌++◌, map, ℕ, ◌+◌, ◌-◌, ◌≤◌, ◌<◌, length, take, drop}
+use Rattle.std.specs.Prelude.{◌≡◌, refl, List, [], ◌∷◌, ◌++◌, map, ℕ, ◌+◌, ◌-◌, ◌≤◌, ◌<◌, length, take}
+use Rattle.std.specs.Prelude.{drop}
 use Rattle.std.proofs.Common.{ap, arith, drop_of_length-le}
 use Rattle.std.proofs.Math.Option.{Option}
 use Rattle.reader_parts.specs.Words.{cut}

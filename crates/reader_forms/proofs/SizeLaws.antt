@@ -1,6 +1,7 @@
 -- A bid's line has six bytes for each of its windows and nine beside them, so that a text's length bounds how many bids and windows it
 -- has. Assumes nothing.
-use Rattle.std.specs.Prelude.{◌≡◌, refl, List, [], ◌∷◌, Bool, true, false, cond, not, ◌&&◌, ℕ, ◌+◌, ◌*◌, ◌≤◌, length, eqb}
+use Rattle.std.specs.Prelude.{◌≡◌, refl, List, [], ◌∷◌, Bool, true, false, cond, not, ◌&&◌, ℕ, ◌+◌, ◌*◌}
+use Rattle.std.specs.Prelude.{◌≤◌, length, eqb}
 use Rattle.std.proofs.Common.{ap, ◌∙◌, arith, length-append, leb-true}
 use Rattle.std.proofs.Math.Option.{none, some}
 use Rattle.tender.specs.declared.Window.{Window}

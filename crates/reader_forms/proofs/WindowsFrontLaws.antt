@@ -1,5 +1,6 @@
 -- Windows read from the front of bytes, one by one, are those of the words there, up to the end of the line. Assumes nothing.
-use Rattle.std.specs.Prelude.{ℕ, zero, suc, ◌≤◌, ◌<◌, ◌≡◌, refl, List, [], ◌∷◌, ◌++◌, Bool, true, false, cond, ◌⊎◌, length, eqb}
+use Rattle.std.specs.Prelude.{ℕ, zero, suc, ◌≤◌, ◌<◌, ◌≡◌, refl, List, [], ◌∷◌, ◌++◌, Bool, true, false, cond}
+use Rattle.std.specs.Prelude.{◌⊎◌, length, eqb}
 use Rattle.std.proofs.Common.{sym, ap, ◌∙◌, append_assoc, inl, inr, arith}
 use Rattle.std.proofs.Math.Option.{Option, some}
 use Rattle.tender.specs.declared.Window.{Window}
@@ -44,7 +45,8 @@ windows_step s =
     ∙ then_same (windows_within (length s)) (λ r. windows_within (length r) r) (length s) (window_front s) (window_shorter s)
     (λ r l. within_enough (length s) (length r) r (omega arith) (omega arith))
 
-windows_first : (s : List ℕ) (w : Window) (r : List ℕ) → window_front s ≡ got w r → windows_front s ≡ window_then windows_front w r
+windows_first : (s : List ℕ) (w : Window) (r : List ℕ) → window_front s ≡ got w r
+    → windows_front s ≡ window_then windows_front w r
 unfolding onward
 windows_first s w r e = windows_step s ∙ rw e
 

@@ -1,12 +1,11 @@
 -- One line of a bid text, read by itself: the tender's line, the reserve's, a bid's, or no line of the form.
-use Rattle.std.specs.Prelude.{ℕ, List, [], ◌∷◌, cond}
+use Rattle.std.specs.Prelude.{ℕ, List, [], ◌∷◌, cond, Some, None}
 use Rattle.std.proofs.Math.Option.{Option, none, some}
 use Rattle.tender.specs.declared.Kind.{Kind}
 use Rattle.tender.specs.declared.Kind.TheVariants.{Single, Multi}
 use Rattle.tender.specs.declared.Span.{Span}
 use Rattle.tender.specs.declared.Window.{Window}
-use Rattle.tender.specs.declared.Reserve.{Reserve}
-use Rattle.tender.specs.declared.Reserve.TheVariants.{Absent, Price}
+use Rattle.tender.specs.Types.{Reserve}
 use Rattle.tender.specs.declared.Tender.{Tender}
 use Rattle.tender.specs.Keywords.{bid_word, multi_word, reserve_word, single_word, tender_word}
 use Rattle.reader_parts.specs.Words.{and_then, cut, equal_bytes, closed, numeral_of, price_of}
@@ -31,8 +30,8 @@ abbrev pub tender_line : Tender → TenderLine
 tender_line t = record { kind = t.kind; window = t.window }
 
 unfoldable pub reserve_lines : Reserve → List Line
-reserve_lines Absent = []
-reserve_lines (Price p) = reserve p ∷ []
+reserve_lines None = []
+reserve_lines (Some p) = reserve p ∷ []
 
 -- the lines before the bids, as the tender says them: its own, and the reserve's where it has one
 unfoldable pub head_lines : Tender → List Line

@@ -14,8 +14,9 @@ use Rattle.reader_forms.specs.Line.{Line, line_of}
 use Rattle.reader_forms.specs.LineFront.{first_line, next_lines, fronted, ending, windows_front, bid_front, reserve_front, after_word}
 use Rattle.reader_forms.specs.LineFront.{kind_front, tender_front, line_front}
 use Rattle.reader_line.proofs.LinePlaceLaws.{line_unopened, line_bid, line_tender, line_reserve, line_other}
+use Rattle.reader_parts.specs.Answer.{Reading, read_place}
 use Rattle.reader_forms.specs.Tally.{noted}
-use Rattle.reader_line.specs.Answer.{noted_front, told_front, told_line, line_place, EndsAfter, head_line}
+use Rattle.reader_line.specs.Answer.{noted_front, told_front, told_line, EndsAfter, head_line}
 use Rattle.reader_line.proofs.AnswerLaws.{fronted_value, line_is, told_as, told_after}
 use Rattle.reader_line.specs.declared.line.Line as line
 
@@ -133,7 +134,7 @@ module _ (s : List ℕ) (i : ℕ) (h : i < length s) where
     head_is : head_front (line_front (drop i s)) ≡ fronted (head_line (line_of (first_line (drop i s)))) (next_lines (drop i s))
     head_is = ap head_front (line_is s i h ended) ∙ head_fronted (line_of (first_line (drop i s))) (next_lines (drop i s))
 
-    module _ (x : Front Line) (e : head_front (line_front (drop i s)) ≡ x) (r : line.Line)
+    module _ (x : Front Line) (e : head_front (line_front (drop i s)) ≡ x) (r : Reading line.Line)
         (q : (m : ℕ) (table : List ℕ) → told_front s r table ≡ noted_front m table x)
       where
         fronts : (m : ℕ) (table : List ℕ)
@@ -143,7 +144,7 @@ module _ (s : List ℕ) (i : ℕ) (h : i < length s) where
         pub head_told : (m : ℕ) (table : List ℕ) → told_line r table ≡ noted m table (head_line (line_of (first_line (drop i s))))
         head_told m table = told_as s i h ended m table table _ r (fronts m table)
 
-        pub head_after : line_place r ≤ length s → EndsAfter s i r
+        pub head_after : read_place r ≤ length s → EndsAfter s i r
         head_after = told_after s i h ended 0 [] [] _ r (fronts 0 [])
 
     pub line_unbid : get_or s i 0 ≡ 40 → starts_with (bid_word ++ 32 ∷ []) (drop (i + 1) s) ≡ false

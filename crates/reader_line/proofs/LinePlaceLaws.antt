@@ -1,5 +1,6 @@
 -- A line read from a place of bytes on, step by step: the bid's, the reserve's, the tender's. Assumes nothing.
-use Rattle.std.specs.Prelude.{ℕ, ◌+◌, ◌<◌, ◌≡◌, refl, List, [], ◌∷◌, ◌++◌, Bool, true, false, cond, ◌&&◌, length, drop, get_or, eqb}
+use Rattle.std.specs.Prelude.{ℕ, ◌+◌, ◌<◌, ◌≡◌, refl, List, [], ◌∷◌, ◌++◌, Bool, true, false, cond, ◌&&◌}
+use Rattle.std.specs.Prelude.{length, drop, get_or, eqb}
 use Rattle.std.proofs.Common.{◌∙◌, arith, eq-eqb, ne_eqb}
 use Rattle.std.proofs.Math.Seq.{drop-drop}
 use Rattle.tender.specs.declared.Kind.{Kind}
@@ -72,7 +73,8 @@ module _ (kind : Kind) (s : List ℕ) (i : ℕ) where
     unfolding kind_front onward
     kind_unended n = rw x.is (past_not 10 s p _ x.inside n)
 
-    pub kind_whole : get_or s p 0 ≡ 10 → kind_front kind (drop i s) ≡ got (tender (record { kind = kind; window = w })) (drop (p + 1) s)
+    pub kind_whole : get_or s p 0 ≡ 10
+        → kind_front kind (drop i s) ≡ got (tender (record { kind = kind; window = w })) (drop (p + 1) s)
     unfolding kind_front onward
     kind_whole e = rw x.is (past_at 10 s p _ x.inside e)
 

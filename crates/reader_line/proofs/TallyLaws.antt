@@ -7,9 +7,8 @@ use Rattle.std.proofs.Math.ListN.{length}
 use Rattle.std.proofs.lemmas.List.{take-set-le}
 use Rattle.tender.specs.declared.Window.{Window}
 use Rattle.tender.specs.Tables.{window_width}
-use Rattle.reader_parts.specs.Flaws.{flaw_in, worst}
+use Rattle.reader_parts.specs.Flaws.{Flaws, flaw_in, worst}
 use Rattle.reader_parts.proofs.FlawLaws.{worst_more, worst_last}
-use Rattle.reader_parts.specs.declared.Flaw.{Flaw}
 use Rattle.reader_parts.specs.Front.{Front, got, wrong, onward, fork, window_front}
 use Rattle.reader_parts.specs.Answer.{ReadAt}
 use Rattle.reader_parts.proofs.PlaceLaws.{fork_here, fork_other}
@@ -27,7 +26,7 @@ rows_before table m k w l =
     take-set-le (window_width * m) (set table (window_width * k) w.start) (window_width * k + 1) w.end (omega arith)
     ∙ take-set-le (window_width * m) table (window_width * k) w.start (omega arith)
 
-module _ (m n : ℕ) (flaw : Flaw) (table : List ℕ) (w : Window) where
+module _ (m n : ℕ) (flaw : Flaws) (table : List ℕ) (w : Window) where
   -- one window and more
   step : (x : Front (List Window)) → tallied_front m n flaw table (onward x (λ ws t. got (w ∷ ws) t))
       ≡ tallied_front m (n + 1) (worst flaw (flaw_in w)) (put_window table (m + n) w) x
@@ -43,7 +42,7 @@ module _ (m n : ℕ) (flaw : Flaw) (table : List ℕ) (w : Window) where
   unfolding tally
   last = rw (worst_last flaw w)
 
-module _ (s : List ℕ) (m n : ℕ) (flaw : Flaw) (table : List ℕ) (i : ℕ) where
+module _ (s : List ℕ) (m n : ℕ) (flaw : Flaws) (table : List ℕ) (i : ℕ) where
   pub tally_wrong : window_front (drop i s) ≡ wrong → tallied_front m n flaw table (windows_front (drop i s)) ≡ wrong
   unfolding tallied_front onward
   tally_wrong e = rw (windows_step (drop i s)) (rw e)

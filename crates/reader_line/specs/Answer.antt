@@ -1,18 +1,18 @@
 -- The answers of this crate's functions, as what is read from the front of bytes.
-use Rattle.std.specs.Prelude.{◌≡◌, List, ℕ, ◌+◌, ◌*◌, ◌≤◌, length, drop}
+use Rattle.std.specs.Prelude.{◌≡◌, List, ℕ, ◌+◌, ◌*◌, ◌≤◌, length, drop, Some, None}
 use Rattle.std.proofs.Math.Option.{Option, none, some}
 use Rattle.tender.specs.declared.Window.{Window}
 use Rattle.tender.specs.Limits.{max_text}
 use Rattle.tender.specs.Tables.{window_table}
 use Rattle.reader_parts.specs.Scan.{to_next}
 use Rattle.reader_parts.specs.Front.{Front, got, wrong, onward}
-use Rattle.reader_parts.specs.declared.Flaw.{Flaw}
+use Rattle.reader_parts.specs.Flaws.{Flaws}
+use Rattle.reader_parts.specs.Answer.{Reading, read_place}
 use Rattle.reader_forms.specs.Line as said
 use Rattle.reader_forms.specs.LineFront.{fronted}
 use Rattle.reader_forms.specs.Tally.{Note, tender_note, bid_note, reserve_note, noted}
 use Rattle.reader_forms.specs.Tally as held
 use Rattle.reader_line.specs.declared.line.Tally.{Tally}
-use Rattle.reader_line.specs.declared.line.Tally.TheVariants as tally
 use Rattle.reader_line.specs.declared.line.Line as line
 use Rattle.reader_line.specs.declared.line.Line.TheVariants as lineIs
 
@@ -22,7 +22,7 @@ with_windows y v x = onward x (λ ws r. got (said.bid (record { bidder = y; pric
 
 -- what a reader holds of the windows and of the line that it reads, with the bytes after them
 
-unfoldable pub tallied_front : ℕ → ℕ → Flaw → List ℕ → Front (List Window) → Front held.Tally
+unfoldable pub tallied_front : ℕ → ℕ → Flaws → List ℕ → Front (List Window) → Front held.Tally
 unfolding onward held.tally
 tallied_front m n flaw table x = onward x (λ ws r. got (held.tally m n flaw table ws) r)
 
@@ -32,28 +32,21 @@ noted_front m table x = onward x (λ l r. fronted (noted m table (some l)) r)
 
 -- an answer with the table as it then is, and the bytes from its place on
 
-abbrev pub told_tally : List ℕ → Tally → List ℕ → Front held.Tally
-told_tally s tally.Broken table = wrong
-told_tally s (tally.Windows n flaw e) table = got (record { count = n; flaw = flaw; table = table }) (drop e s)
+abbrev pub told_tally : List ℕ → Reading Tally → List ℕ → Front held.Tally
+told_tally s None table = wrong
+told_tally s (Some r) table = got (record { count = r.value.count; flaw = r.value.flaw; table = table }) (drop r.next s)
 
-abbrev pub tally_place : Tally → ℕ
-tally_place tally.Broken = 0
-tally_place (tally.Windows n flaw e) = e
+abbrev pub note_of : line.Line → List ℕ → Note
+note_of (lineIs.Tender k w) table = tender_note (record { kind = k; window = w })
+note_of (lineIs.Bid n p c flaw) table = bid_note n p (record { count = c; flaw = flaw; table = table })
+note_of (lineIs.Reserve p) table = reserve_note p
 
-abbrev pub told_line : line.Line → List ℕ → Option Note
-told_line lineIs.Broken table = none
-told_line (lineIs.Tender k w e) table = some (tender_note (record { kind = k; window = w }))
-told_line (lineIs.Bid n p c flaw e) table = some (bid_note n p (record { count = c; flaw = flaw; table = table }))
-told_line (lineIs.Reserve p e) table = some (reserve_note p)
+abbrev pub told_line : Reading line.Line → List ℕ → Option Note
+told_line None table = none
+told_line (Some r) table = some (note_of r.value table)
 
-abbrev pub line_place : line.Line → ℕ
-line_place lineIs.Broken = 0
-line_place (lineIs.Tender k w e) = e
-line_place (lineIs.Bid n p c flaw e) = e
-line_place (lineIs.Reserve p e) = e
-
-abbrev pub told_front : List ℕ → line.Line → List ℕ → Front Note
-told_front s r table = fronted (told_line r table) (drop (line_place r) s)
+abbrev pub told_front : List ℕ → Reading line.Line → List ℕ → Front Note
+told_front s r table = fronted (told_line r table) (drop (read_place r) s)
 
 -- a line, where it is one of a head: the tender's or the reserve's
 unfoldable pub head_line : Option said.Line → Option said.Line
@@ -63,11 +56,9 @@ head_line (some (said.bid b)) = none
 head_line (some (said.reserve p)) = some (said.reserve p)
 
 -- where the line from `at` on goes on: past its byte 10
-abbrev pub EndsAfter : List ℕ → ℕ → line.Line → Type 0
-EndsAfter s at lineIs.Broken = Unit {0}
-EndsAfter s at (lineIs.Tender k w e) = (at + to_next 10 (drop at s) + 1 ≡ e) × (e ≤ length s)
-EndsAfter s at (lineIs.Bid n p c flaw e) = (at + to_next 10 (drop at s) + 1 ≡ e) × (e ≤ length s)
-EndsAfter s at (lineIs.Reserve p e) = (at + to_next 10 (drop at s) + 1 ≡ e) × (e ≤ length s)
+abbrev pub EndsAfter : List ℕ → ℕ → Reading line.Line → Type 0
+EndsAfter s at None = Unit {0}
+EndsAfter s at (Some r) = (at + to_next 10 (drop at s) + 1 ≡ r.next) × (r.next ≤ length s)
 
 -- the table has room for all windows of a text whose bytes before `at` hold m: each takes six bytes at least, as " (0 1)"
 abbrev pub Room : List ℕ → (at m : ℕ) → List ℕ → Type 0

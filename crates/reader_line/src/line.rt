@@ -1,142 +1,147 @@
 // One line of a bid text, read from a place on into a value before it is judged. The text's last byte is 10.
-ghost use Rattle.std.specs.Prelude.{◌≡◌, List, ℕ, ◌+◌, ◌*◌, ◌<◌, ◌≤◌, take, drop, length};
+ghost use Rattle.std.specs.Prelude.{◌≡◌, List, ℕ, ◌+◌, ◌*◌, ◌<◌, ◌≤◌, take, drop, length, None};
 ghost use Rattle.tender.specs.Tables.{window_width};
 ghost use Rattle.reader_parts.specs.Scan.{Ended};
 ghost use Rattle.reader_forms.specs.Line.{line_of};
 ghost use Rattle.reader_forms.specs.LineFront.{first_line, windows_front, bid_front, reserve_front, kind_front, tender_front};
 ghost use Rattle.reader_forms.specs.Tally.{put_window, noted};
-ghost use Rattle.reader_parts.specs.declared.Flaw.TheVariants.{Sound};
-ghost use Rattle.reader_line.specs.Answer.{tallied_front, told_tally, tally_place, noted_front, told_front, line_place, told_line};
+ghost use Rattle.reader_parts.specs.Answer.{read_place};
+ghost use Rattle.reader_line.specs.Answer.{tallied_front, told_tally, noted_front, told_front, told_line};
 ghost use Rattle.reader_line.specs.Answer.{EndsAfter, head_line, Room};
 
-use reader_parts::{Ends, Flaw, Number};
+use reader_parts::{Flaw, Read};
 use reader_window::{read_span, read_window, worse};
 use reader_word::{read_number, read_price, stands};
-use tender::{Kind, Span};
+use tender::{Kind, Span, Window};
 
 // The window in row m, which the table has.
-fn put_window(windows: &mut [u64], m: usize, a: u64, z: u64)
+fn put_window(windows: &mut [u64], m: usize, w: Window)
     requires { window_width * m + 1 < length windows.old }
-    ensures { windows.new ≡ put_window windows.old m (record { start = a; end = z }) }
+    ensures { windows.new ≡ put_window windows.old m w }
 {
     let at = tender::WINDOW_WIDTH * m;
-    windows[at] = a;
-    windows[at + 1] = z;
+    windows[at] = w.start;
+    windows[at + 1] = w.end;
 }
 
-// How many windows, what is wrong with them, and the place past their line.
+// How many windows, and what is wrong with them.
 #[derive(Clone, Copy)]
-pub(crate) enum Tally {
-    Windows(usize, Flaw, usize),
-    Broken,
+pub(crate) struct Tally {
+    count: usize,
+    flaw: Option<Flaw>,
 }
 
 // The windows from `at` on, up to the line's end. They are put into the rows from m on; the rows before m stay, whatever the line is.
-fn read_windows(s: &[u8], at: usize, windows: &mut [u64], m: usize) -> Tally
+fn read_windows(s: &[u8], at: usize, windows: &mut [u64], m: usize) -> Option<Read<Tally>>
     requires { Room s.now at m windows.old × ((at < length s.now) × Ended s.now) }
     ensures answer { told_tally s.now result windows.new
-        ≡ tallied_front m 0 Sound windows.old (windows_front (drop at s.now)) }
-    ensures place { tally_place result ≤ length s.now }
+        ≡ tallied_front m 0 None windows.old (windows_front (drop at s.now)) }
+    ensures place { read_place result ≤ length s.now }
     ensures rows { take (window_width * m) windows.new ≡ take (window_width * m) windows.old }
 {
-    let mut n: usize = 0;
-    let mut flaw = Flaw::Sound;
+    let mut count: usize = 0;
+    let mut flaw = None;
     let mut p = at;
+    // a loop: the place goes on by a window, not by one
     loop {
-        match read_window(s, p) {
-            Ends::Of(a, z, q) => {
-                put_window(windows, m + n, a, z);
-                flaw = worse(flaw, a, z);
-                n += 1;
-                if s[q] == b')' {
-                    if s[q + 1] == b'\n' {
-                        return Tally::Windows(n, flaw, q + 2);
-                    }
-                    return Tally::Broken;
-                }
-                p = q;
+        let w = read_window(s, p)?;
+        put_window(windows, m + count, w.value);
+        flaw = worse(flaw, w.value);
+        count += 1;
+        p = w.next;
+        if s[p] == b')' {
+            if s[p + 1] != b'\n' {
+                return None;
             }
-            Ends::Wrong => {
-                return Tally::Broken;
-            }
+            return Some(Read {
+                value: Tally { count, flaw },
+                next: p + 2,
+            });
         }
     }
 }
 
-// A line as it stands, with what is judged of a bid (bidder, price, how many windows, what is wrong with them) and the place past its
-// byte 10.
+// A line as it stands, with what is judged of a bid.
 #[derive(Clone, Copy)]
 pub enum Line {
-    Tender(Kind, Span, usize),
-    Bid(u64, u64, usize, Flaw, usize),
-    Reserve(u64, usize),
-    Broken,
+    Tender(Kind, Span),
+    Bid {
+        bidder: u64,
+        price: u64,
+        count: usize,
+        flaw: Option<Flaw>,
+    },
+    Reserve(u64),
 }
 
 // A bid's line from the bidder on: bidder, price and the windows, which are put into the rows from m on.
-fn read_bid(s: &[u8], at: usize, windows: &mut [u64], m: usize) -> Line
+fn read_bid(s: &[u8], at: usize, windows: &mut [u64], m: usize) -> Option<Read<Line>>
     requires { Room s.now at m windows.old × ((at < length s.now) × Ended s.now) }
     ensures answer { told_front s.now result windows.new
         ≡ noted_front m windows.old (bid_front (drop at s.now)) }
-    ensures place { line_place result ≤ length s.now }
+    ensures place { read_place result ≤ length s.now }
     ensures rows { take (window_width * m) windows.new ≡ take (window_width * m) windows.old }
 {
-    let Number::Of(bidder, p) = read_number(s, at) else {
-        return Line::Broken;
-    };
-    if s[p] != b' ' {
-        return Line::Broken;
+    let bidder = read_number(s, at)?;
+    if s[bidder.next] != b' ' {
+        return None;
     }
-    let Number::Of(price, q) = read_price(s, p + 1) else {
-        return Line::Broken;
-    };
-    match read_windows(s, q, windows, m) {
-        Tally::Windows(count, flaw, next) => Line::Bid(bidder, price, count, flaw, next),
-        Tally::Broken => Line::Broken,
-    }
+    let price = read_price(s, bidder.next + 1)?;
+    let tally = read_windows(s, price.next, windows, m)?;
+    Some(Read {
+        value: Line::Bid {
+            bidder: bidder.value,
+            price: price.value,
+            count: tally.value.count,
+            flaw: tally.value.flaw,
+        },
+        next: tally.next,
+    })
 }
 
 // The reserve's line from the price on: a price, a closing bracket and the line's end.
-fn read_reserve(s: &[u8], at: usize) -> Line
+fn read_reserve(s: &[u8], at: usize) -> Option<Read<Line>>
     requires { (at < length s.now) × Ended s.now }
     ensures answer { (m : ℕ) (table : List ℕ) → told_front s.now result table
         ≡ noted_front m table (reserve_front (drop at s.now)) }
-    ensures place { line_place result ≤ length s.now }
+    ensures place { read_place result ≤ length s.now }
 {
-    let Number::Of(price, p) = read_price(s, at) else {
-        return Line::Broken;
-    };
-    if s[p] != b')' {
-        return Line::Broken;
+    let price = read_price(s, at)?;
+    if s[price.next] != b')' {
+        return None;
     }
-    if s[p + 1] != b'\n' {
-        return Line::Broken;
+    if s[price.next + 1] != b'\n' {
+        return None;
     }
-    Line::Reserve(price, p + 2)
+    Some(Read {
+        value: Line::Reserve(price.value),
+        next: price.next + 2,
+    })
 }
 
 // The tender's line from the start on: start, end and the line's end.
-fn read_kind(s: &[u8], at: usize, kind: Kind) -> Line
+fn read_kind(s: &[u8], at: usize, kind: Kind) -> Option<Read<Line>>
     requires { (at < length s.now) × Ended s.now }
     ensures answer { (m : ℕ) (table : List ℕ) → told_front s.now result table
         ≡ noted_front m table (kind_front kind (drop at s.now)) }
-    ensures place { line_place result ≤ length s.now }
+    ensures place { read_place result ≤ length s.now }
 {
-    let Ends::Of(start, end, p) = read_span(s, at) else {
-        return Line::Broken;
-    };
-    if s[p] != b'\n' {
-        return Line::Broken;
+    let span = read_span(s, at)?;
+    if s[span.next] != b'\n' {
+        return None;
     }
-    Line::Tender(kind, Span { start, end }, p + 1)
+    Some(Read {
+        value: Line::Tender(kind, span.value),
+        next: span.next + 1,
+    })
 }
 
 // The tender's line from the kind on. "single " has 7 bytes, "multi " 6.
-fn read_tender(s: &[u8], at: usize) -> Line
+fn read_tender(s: &[u8], at: usize) -> Option<Read<Line>>
     requires { (at < length s.now) × Ended s.now }
     ensures answer { (m : ℕ) (table : List ℕ) → told_front s.now result table
         ≡ noted_front m table (tender_front (drop at s.now)) }
-    ensures place { line_place result ≤ length s.now }
+    ensures place { read_place result ≤ length s.now }
 {
     if stands(s, at, &tender::SINGLE) {
         return read_kind(s, at + 7, Kind::Single);
@@ -144,19 +149,19 @@ fn read_tender(s: &[u8], at: usize) -> Line
     if stands(s, at, &tender::MULTI) {
         return read_kind(s, at + 6, Kind::Multi);
     }
-    Line::Broken
+    None
 }
 
 // The line from `at` on, where it is one of a head: the tender's, after "(tender ", or the reserve's, after "(reserve ". Any other is
-// `Broken`.
-pub fn read_head_line(s: &[u8], at: usize) -> Line
+// none.
+pub fn read_head_line(s: &[u8], at: usize) -> Option<Read<Line>>
     requires { (at < length s.now) × Ended s.now }
     ensures answer { (m : ℕ) (table : List ℕ) → told_line result table
         ≡ noted m table (head_line (line_of (first_line (drop at s.now)))) }
     ensures place { EndsAfter s.now at result }
 {
     if s[at] != b'(' {
-        return Line::Broken;
+        return None;
     }
     if stands(s, at + 1, &tender::TENDER) {
         return read_tender(s, at + 8);
@@ -164,11 +169,11 @@ pub fn read_head_line(s: &[u8], at: usize) -> Line
     if stands(s, at + 1, &tender::RESERVE) {
         return read_reserve(s, at + 9);
     }
-    Line::Broken
+    None
 }
 
 // The line from `at` on. A bid's windows, after "(bid ", are put into the rows from m on; the rows before m stay, whatever the line is.
-pub fn read_line(s: &[u8], at: usize, windows: &mut [u64], m: usize) -> Line
+pub fn read_line(s: &[u8], at: usize, windows: &mut [u64], m: usize) -> Option<Read<Line>>
     requires { Room s.now at m windows.old × ((at < length s.now) × Ended s.now) }
     ensures answer { told_line result windows.new
         ≡ noted m windows.old (line_of (first_line (drop at s.now))) }
@@ -176,7 +181,7 @@ pub fn read_line(s: &[u8], at: usize, windows: &mut [u64], m: usize) -> Line
     ensures rows { take (window_width * m) windows.new ≡ take (window_width * m) windows.old }
 {
     if s[at] != b'(' {
-        return Line::Broken;
+        return None;
     }
     if stands(s, at + 1, &tender::BID) {
         return read_bid(s, at + 5, windows, m);

@@ -1,5 +1,6 @@
 -- What is read from the front of bytes: step by step, and that it leaves fewer of them. Assumes nothing.
-use Rattle.std.specs.Prelude.{ℕ, suc, ◌+◌, ◌-◌, ◌*◌, ◌≤◌, ◌<◌, ◌≡◌, refl, List, [], ◌∷◌, Bool, true, false, cond, ◌&&◌, length, eqb, ltb}
+use Rattle.std.specs.Prelude.{ℕ, suc, ◌+◌, ◌-◌, ◌*◌, ◌≤◌, ◌<◌, ◌≡◌, refl, List, [], ◌∷◌, Bool, true}
+use Rattle.std.specs.Prelude.{false, cond, ◌&&◌, length, eqb, ltb}
 use Rattle.std.proofs.Common.{ap, arith, eqb-true}
 use Rattle.tender.specs.declared.Span.{Span}
 use Rattle.tender.specs.declared.Window.{Window}

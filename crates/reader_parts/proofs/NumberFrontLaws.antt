@@ -1,6 +1,7 @@
 -- A number read from the front of bytes is that of the word there: what a word gives is read where no digit follows (`..-read`), and
 -- what is read comes from a word that gives it (`..-from`). Assumes nothing.
-use Rattle.std.specs.Prelude.{ℕ, suc, ◌+◌, ◌-◌, ◌*◌, ◌^◌, ◌≤◌, ◌<◌, ◌≡◌, refl, List, [], ◌∷◌, ◌++◌, Bool, true, false, cond, not, ◌&&◌, length, eqb, leb, ltb}
+use Rattle.std.specs.Prelude.{ℕ, suc, ◌+◌, ◌-◌, ◌*◌, ◌^◌, ◌≤◌, ◌<◌, ◌≡◌, refl, List, [], ◌∷◌}
+use Rattle.std.specs.Prelude.{◌++◌, Bool, true, false, cond, not, ◌&&◌, length, eqb, leb, ltb}
 use Rattle.std.proofs.Common.{sym, ap, ◌∙◌, arith, pow-suc, lit<, ltb-true, leb-true, leb-false, eqb-true, lt-ltb, ne_eqb}
 use Rattle.std.proofs.Math.Bool.{and-false}
 use Rattle.std.proofs.Math.Option.{Option, some}
@@ -106,7 +107,8 @@ number_read (b ∷ w) v d r l e =
     let o : 0 * 10 + (b - 48) ≡ b - 48 = omega arith in
     go w (eqb b 48) refl (not-true (leading_zero (b ∷ w)) t.1) i.1 k.0 k.1 (ap (λ n. digits n w) (sym o) ∙ f.1)
   where
-    go : (x : List ℕ) (t : Bool) → eqb b 48 ≡ t → leading_zero (b ∷ x) ≡ false → suc (length x) ≤ 9 → 48 ≤ b → b ≤ 57
+    go : (x : List ℕ) (t : Bool) → eqb b 48 ≡ t → leading_zero (b ∷ x) ≡ false → suc (length x) ≤ 9 → 48 ≤ b
+        → b ≤ 57
         → digits (b - 48) x ≡ some v → number_front (b ∷ (x ++ d ∷ r)) ≡ got v (d ∷ r)
     go x false q z n h k e = number_first b (x ++ d ∷ r) (omega (arith, eqb-false b 48 q)) k
         ∙ digits_read (b - 48) 1 x v d r (omega arith) (omega arith) l e

@@ -1,5 +1,6 @@
 -- How many digits a number has, by its value. Assumes nothing.
-use Rattle.std.specs.Prelude.{ℕ, suc, ◌+◌, ◌-◌, ◌*◌, ◌^◌, ◌≤◌, ◌<◌, ◌≡◌, refl, List, [], ◌∷◌, Bool, true, false, not, ◌&&◌, length, eqb, leb}
+use Rattle.std.specs.Prelude.{ℕ, suc, ◌+◌, ◌-◌, ◌*◌, ◌^◌, ◌≤◌, ◌<◌, ◌≡◌, refl, List, [], ◌∷◌, Bool}
+use Rattle.std.specs.Prelude.{true, false, not, ◌&&◌, length, eqb, leb}
 use Rattle.std.proofs.Math.Option.{some}
 use Rattle.std.proofs.Common.{arith, pow-suc, lit<, leb-true, leb-false}
 use Rattle.std.proofs.Math.Nat.{pow-le-pow_right}

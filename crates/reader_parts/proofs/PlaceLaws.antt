@@ -1,5 +1,6 @@
 -- What is read from a place of bytes on, step by step: one byte, digits, numbers, spans and windows. Assumes nothing.
-use Rattle.std.specs.Prelude.{ℕ, ◌+◌, ◌-◌, ◌*◌, ◌≤◌, ◌<◌, ◌≡◌, refl, List, Bool, true, false, length, drop, get_or, ltb}
+use Rattle.std.specs.Prelude.{ℕ, ◌+◌, ◌-◌, ◌*◌, ◌≤◌, ◌<◌, ◌≡◌, refl, List, Bool, true, false, length, drop}
+use Rattle.std.specs.Prelude.{get_or, ltb, Some, None}
 use Rattle.std.proofs.Common.{◌∙◌, length-drop}
 use native.Mathlib.Omega.{arith}
 use borrow.Author.Tests.{le-leb, lt-leb, eq-eqb, ne_eqb, lt-ltb, le-ltb, ltb-true, ltb-false}
@@ -8,11 +9,7 @@ use Rattle.tender.specs.declared.Window.{Window}
 use Rattle.tender.specs.Limits.{within, as_window}
 use Rattle.reader_parts.specs.Scan.{Ended}
 use Rattle.reader_parts.proofs.ScanLaws.{drop_next}
-use Rattle.reader_parts.specs.declared.Number.{Number}
-use Rattle.reader_parts.specs.declared.Number.TheVariants as number
-use Rattle.reader_parts.specs.declared.Ends.{Ends}
-use Rattle.reader_parts.specs.declared.Ends.TheVariants.{Of, Wrong}
-use Rattle.reader_parts.specs.Answer.{ReadAt, NumberIs, SpanIs, WindowIs}
+use Rattle.reader_parts.specs.Answer.{ReadAt, Reading, ReadIs}
 use Rattle.reader_parts.specs.Front.{Front, got, wrong, onward, past, fork, digits_front, number_front, span_front, window_front}
 use Rattle.reader_parts.proofs.FrontLaws.{window_took}
 
@@ -83,14 +80,18 @@ module _ (s : List ℕ) (i : ℕ) (h : i < length s) where
   pub number_above : 58 ≤ get_or s i 0 → number_front (drop i s) ≡ wrong
   unfolding number_front within
   number_above k = rw (drop_next s i h)
-      (simp (le-leb 49 (get_or s i 0) (omega arith), lt-leb (get_or s i 0) 57 (omega arith), ne_eqb (get_or s i 0) 48 (λ e. omega (arith, e))))
+      (simp (
+        le-leb 49 (get_or s i 0) (omega arith),
+        lt-leb (get_or s i 0) 57 (omega arith),
+        ne_eqb (get_or s i 0) 48 (λ e. omega (arith, e)),
+      ))
 
-  pub number_later : 49 ≤ get_or s i 0 → get_or s i 0 < 58 → (r : Number)
-      → NumberIs (digits_front (get_or s i 0 - 48) (drop (i + 1) s)) s (i + 1) r
-      → NumberIs (number_front (drop i s)) s i r
-  number_later a z (number.Of v p) x =
+  pub number_later : 49 ≤ get_or s i 0 → get_or s i 0 < 58 → (r : Reading ℕ)
+      → ReadIs (digits_front (get_or s i 0 - 48) (drop (i + 1) s)) s (i + 1) r
+      → ReadIs (number_front (drop i s)) s i r
+  number_later a z (Some r) x =
       record { is = number_more a z ∙ x.is; after = omega (arith, x.after); inside = x.inside }
-  number_later a z number.Bad x = number_more a z ∙ x
+  number_later a z None x = number_more a z ∙ x
 
 -- "S E)"
 
@@ -124,12 +125,6 @@ module _ (s : List ℕ) (i : ℕ) where
 
 -- " (S E)"
 
-onward_is : (x : Front Span) (s : List ℕ) (i : ℕ) (r : Ends) → SpanIs x s (i + 2) r
-    → WindowIs (onward x (λ w u. got (as_window w) u)) s i r
-unfolding onward
-onward_is x s i (Of a z p) h = record { is = rw h.is; after = h.after; inside = h.inside }
-onward_is x s i Wrong h = rw h
-
 module _ (s : List ℕ) (i : ℕ) (h : i < length s) where
   pub window_unparted : (get_or s i 0 ≡ 32 → ⊥) → window_front (drop i s) ≡ wrong
   unfolding window_front
@@ -140,14 +135,21 @@ module _ (s : List ℕ) (i : ℕ) (h : i < length s) where
     unfolding window_front
     window_unopened n = past_at 32 s i _ h b ∙ past_not 40 s (i + 1) _ k n
 
-    pub window_span : get_or s (i + 1) 0 ≡ 40 → (r : Ends) → SpanIs (span_front (drop (i + 2) s)) s (i + 2) r
-        → WindowIs (window_front (drop i s)) s i r
-    unfolding window_front
-    window_span d r x =
-        let e : i + 1 + 1 ≡ i + 2 = omega arith in
-        let f : window_front (drop i s) ≡ onward (span_front (drop (i + 2) s)) (λ w u. got (as_window w) u) =
-        past_at 32 s i _ h b ∙ past_at 40 s (i + 1) _ k d ∙ rw e in
-        rw f (onward_is (span_front (drop (i + 2) s)) s i r x)
+    module _ (d : get_or s (i + 1) 0 ≡ 40) where
+      opened : window_front (drop i s) ≡ onward (span_front (drop (i + 2) s)) (λ w u. got (as_window w) u)
+      unfolding window_front
+      opened =
+          let e : i + 1 + 1 ≡ i + 2 = omega arith in
+          past_at 32 s i _ h b ∙ past_at 40 s (i + 1) _ k d ∙ rw e
+
+      pub window_unspanned : span_front (drop (i + 2) s) ≡ wrong → window_front (drop i s) ≡ wrong
+      unfolding onward
+      window_unspanned e = opened ∙ rw e
+
+      pub window_span : (w : Span) (p : ℕ) → ReadAt (span_front (drop (i + 2) s)) s (i + 2) w p
+          → ReadAt (window_front (drop i s)) s (i + 2) (as_window w) p
+      unfolding onward
+      window_span w p x = record { is = opened ∙ rw x.is; after = x.after; inside = x.inside }
 
 -- the place past a window is six further at least
 pub window_further : (s : List ℕ) (i j : ℕ) (w : Window) (q : ℕ) → ReadAt (window_front (drop i s)) s j w q → i + 6 ≤ q

@@ -1,6 +1,7 @@
 -- A price is a number of cents, or a number of at most seven digits, a point and two digits; what each form gives. Callers go by the
 -- two forms and not by the pieces that the definition cuts. Assumes nothing.
-use Rattle.std.specs.Prelude.{ℕ, ◌+◌, ◌-◌, ◌*◌, ◌≤◌, ◌≡◌, refl, List, [], ◌∷◌, ◌++◌, true, ◌&&◌, length, eqb, leb}
+use Rattle.std.specs.Prelude.{ℕ, ◌+◌, ◌-◌, ◌*◌, ◌≤◌, ◌≡◌, refl, List, [], ◌∷◌, ◌++◌, true, ◌&&◌}
+use Rattle.std.specs.Prelude.{length, eqb, leb}
 use Rattle.std.proofs.Common.{sym, ap, ◌∙◌, arith, leb-true, eqb-true, le-leb, eq-eqb}
 use Rattle.std.proofs.Math.Option.{some}
 use Rattle.tender.specs.Limits.{within}

@@ -1,6 +1,7 @@
 -- A price read from the front of bytes is that of the word there, in either form: what a word gives is read where no digit and no point
 -- follows, and what is read comes from a word that gives it. Assumes nothing.
-use Rattle.std.specs.Prelude.{ℕ, ◌+◌, ◌-◌, ◌*◌, ◌≤◌, ◌<◌, ◌≡◌, refl, List, [], ◌∷◌, ◌++◌, Bool, true, false, cond, length, eqb, ltb}
+use Rattle.std.specs.Prelude.{ℕ, ◌+◌, ◌-◌, ◌*◌, ◌≤◌, ◌<◌, ◌≡◌, refl, List, [], ◌∷◌, ◌++◌, Bool}
+use Rattle.std.specs.Prelude.{true, false, cond, length, eqb, ltb}
 use Rattle.std.proofs.Common.{sym, ap, ◌∙◌, append_assoc, arith, ltb-true, lt-ltb, ne_eqb}
 use Rattle.std.proofs.Math.Option.{some}
 use Rattle.tender.specs.Limits.{within}

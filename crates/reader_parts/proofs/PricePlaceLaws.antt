@@ -1,22 +1,20 @@
 -- A price read from a place of bytes on, step by step: its number, the point, two digits. Assumes nothing.
-use Rattle.std.specs.Prelude.{ℕ, ◌+◌, ◌-◌, ◌*◌, ◌≤◌, ◌<◌, ◌≡◌, List, length, drop, get_or}
+use Rattle.std.specs.Prelude.{ℕ, ◌+◌, ◌-◌, ◌*◌, ◌≤◌, ◌<◌, ◌≡◌, List, length, drop, get_or, Some, None}
 use Rattle.std.proofs.Common.{◌∙◌, arith}
 use borrow.Author.Tests.{le-leb, lt-leb, lt-ltb, le-ltb}
 use Rattle.tender.specs.Limits.{within}
 use Rattle.reader_parts.specs.Scan.{Ended}
 use Rattle.reader_parts.proofs.ScanLaws.{drop_next}
-use Rattle.reader_parts.specs.declared.Number.{Number}
-use Rattle.reader_parts.specs.declared.Number.TheVariants as number
-use Rattle.reader_parts.specs.Answer.{ReadAt, NumberIs}
+use Rattle.reader_parts.specs.Answer.{ReadAt, Reading, ReadIs}
 use Rattle.reader_parts.specs.Front.{Front, wrong, onward, digit_front, cents_front, number_front, price_front}
 use Rattle.reader_parts.proofs.NumberFrontLaws.{within_both}
 use Rattle.reader_parts.proofs.PriceFrontLaws.{digit_from}
 use Rattle.reader_parts.proofs.PlaceLaws.{not_last, past_at, fork_here, fork_other}
 
 -- what is read from a later place on is read from an earlier one, where both give the same
-later : {x y : Front ℕ} (s : List ℕ) (i j : ℕ) → y ≡ x → i ≤ j → (r : Number) → NumberIs x s j r → NumberIs y s i r
-later s i j e l (number.Of v p) h = record { is = e ∙ h.is; after = omega (arith, h.after); inside = h.inside }
-later s i j e l number.Bad h = e ∙ h
+later : {x y : Front ℕ} (s : List ℕ) (i j : ℕ) → y ≡ x → i ≤ j → (r : Reading ℕ) → ReadIs x s j r → ReadIs y s i r
+later s i j e l (Some r) h = record { is = e ∙ h.is; after = omega (arith, h.after); inside = h.inside }
+later s i j e l None h = e ∙ h
 
 -- one digit after a number of value v
 
@@ -55,7 +53,7 @@ module _ (s : List ℕ) (x i : ℕ) (h : i < length s) (l : x < 10000000) (b : g
         let d = digit_from x (drop (i + 1) s) v (drop p s) y.is in
         omega (arith, d.value, (within_both 48 57 d.byte d.is).1)
 
-    pub cents_second : (r : Number) → NumberIs (digit_front v (drop p s)) s p r → NumberIs (cents_front x (drop i s)) s i r
+    pub cents_second : (r : Reading ℕ) → ReadIs (digit_front v (drop p s)) s p r → ReadIs (cents_front x (drop i s)) s i r
     unfolding cents_front onward
     cents_second =
         later s i p (rw (lt-ltb x 10000000 l) (past_at 46 s i _ h b ∙ rw y.is)) (omega (arith, y.after))
@@ -76,7 +74,7 @@ module _ (s : List ℕ) (i : ℕ) where
       inside = y.inside;
     }
 
-    pub price_cents : get_or s p 0 ≡ 46 → (r : Number) → NumberIs (cents_front x (drop p s)) s p r
-        → NumberIs (price_front (drop i s)) s i r
+    pub price_cents : get_or s p 0 ≡ 46 → (r : Reading ℕ) → ReadIs (cents_front x (drop p s)) s p r
+        → ReadIs (price_front (drop i s)) s i r
     unfolding price_front onward
     price_cents b = later s i p (rw y.is (fork_here s p y.inside 46 _ _ b)) y.after

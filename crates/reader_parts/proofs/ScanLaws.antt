@@ -1,5 +1,6 @@
 -- For a reader that walks the bytes: the next byte d after a place, the piece up to it, and what is left. Assumes nothing.
-use Rattle.std.specs.Prelude.{◌≡◌, refl, List, [], ◌∷◌, ◌++◌, Bool, true, false, cond, ℕ, zero, suc, ◌+◌, ◌-◌, ◌≤◌, ◌<◌, length, take, drop, get_or, eqb}
+use Rattle.std.specs.Prelude.{◌≡◌, refl, List, [], ◌∷◌, ◌++◌, Bool, true, false, cond, ℕ, zero, suc, ◌+◌, ◌-◌}
+use Rattle.std.specs.Prelude.{◌≤◌, ◌<◌, length, take, drop, get_or, eqb}
 use Rattle.std.proofs.Common.{ap, ◌∙◌, arith, add-one, length-drop, drop-cons, drop-drop, eqb-true, eq-eqb}
 use Rattle.reader_parts.specs.Words.{among, grow_first, cut}
 use Rattle.reader_parts.proofs.CutLaws.{neither}
@@ -35,7 +36,8 @@ next_after d [] s h = rw (eq-eqb d d refl)
 next_after d (b ∷ w) s h = let n = neither (eqb b d) (among d w) h in rw (n.0, next_after d w s n.1)
 
 -- the first piece, where a byte d ends it
-pub cut_next : (d : ℕ) (s : List ℕ) → to_next d s < length s → cut d s ≡ take (to_next d s) s ∷ cut d (drop (suc (to_next d s)) s)
+pub cut_next : (d : ℕ) (s : List ℕ) → to_next d s < length s
+    → cut d s ≡ take (to_next d s) s ∷ cut d (drop (suc (to_next d s)) s)
 unfolding to_next cut
 cut_next d [] h = absurd (omega arith)
 cut_next d (b ∷ s) h = go (eqb b d) h (cut_next d s)

@@ -28,7 +28,8 @@ span_without d s e w l h =
     let z = then_some (numeral_of e) _ w a.2 in
     (number_without d s a.0 (omega arith) a.1, number_without d e z.0 (omega arith) z.1)
 
-pub span_read : (s e : List ℕ) (w : Span) (r : List ℕ) → span_of s e ≡ some w → span_front (s ++ 32 ∷ (e ++ 41 ∷ r)) ≡ got w r
+pub span_read : (s e : List ℕ) (w : Span) (r : List ℕ) → span_of s e ≡ some w
+    → span_front (s ++ 32 ∷ (e ++ 41 ∷ r)) ≡ got w r
 unfolding span_of span_front onward past
 span_read s e w r h =
     let a = then_some (numeral_of s) _ w h in

@@ -1,5 +1,6 @@
 -- What a reader that walks bytes holds: places, and whether bytes begin with others.
-use Rattle.std.specs.Prelude.{ℕ, suc, ◌-◌, ◌<◌, ◌≡◌, List, [], ◌∷◌, Bool, true, false, cond, ◌&&◌, length, get_or, eqb}
+use Rattle.std.specs.Prelude.{ℕ, suc, ◌-◌, ◌<◌, ◌≡◌, List, [], ◌∷◌, Bool, true, false, cond, ◌&&◌, length, get_or}
+use Rattle.std.specs.Prelude.{eqb}
 use Rattle.tender.specs.Limits.{within}
 
 -- how many bytes stand before the first d

@@ -1,4 +1,4 @@
--- A window of a bid text, as its words spell it (paper 01, "The bid text").
+-- A window of a bid text, as its words spell it.
 use Rattle.std.specs.Prelude.{ℕ, List}
 use Rattle.std.proofs.Math.Option.{Option, some}
 use Rattle.tender.specs.declared.Span.{Span}

@@ -1,5 +1,6 @@
--- The parts of a bid text: pieces between two bytes, words, numbers (paper 01, "The bid text").
-use Rattle.std.specs.Prelude.{ℕ, ◌+◌, ◌-◌, ◌*◌, List, [], ◌∷◌, Bool, true, false, cond, not, ◌&&◌, ◌||◌, length, eqb, leb}
+-- The parts of a bid text: pieces between two bytes, words, numbers.
+use Rattle.std.specs.Prelude.{ℕ, ◌+◌, ◌-◌, ◌*◌, List, [], ◌∷◌, Bool, true, false, cond, not, ◌&&◌, ◌||◌, length}
+use Rattle.std.specs.Prelude.{eqb, leb}
 use Rattle.std.proofs.Math.Option.{Option, none, some}
 use Rattle.tender.specs.Limits.{within}
 

@@ -2,24 +2,16 @@
 // of bytes (`Front`).
 #![tactic(auto)]
 
-// A number and the place past it.
+// A value that was read, and the place past what spells it.
 #[derive(Clone, Copy)]
-pub enum Number {
-    Of(u64, usize),
-    Bad,
+pub struct Read<T> {
+    pub value: T,
+    pub next: usize,
 }
 
-// Two numbers and the place past them and their bracket.
-#[derive(Clone, Copy)]
-pub enum Ends {
-    Of(u64, u64, usize),
-    Wrong,
-}
-
-// What is wrong with windows: some start is not below its end; or else some end is past the week; or nothing.
+// What is wrong with windows: some start is not below its end; or else some end is past the week.
 #[derive(Clone, Copy)]
 pub enum Flaw {
     Empty,
     Late,
-    Sound,
 }

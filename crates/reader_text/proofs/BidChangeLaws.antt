@@ -129,7 +129,7 @@ written vs l = go (windows_in (cut 32 vs)) l
 -- the second bid's windows
 module _ (t u n p q ws vs : List ℕ) (v : ℕ) (T : Tender) (R : List Row) (W : List Window) (d : DifferInBid t u n p q ws vs)
     (h : read_text t ≡ accepted T R W) (hv : price_of q ≡ some v) (lv : v ≤ 100000000) (some_window : 1 ≤ length (windows_by vs))
-    (few : length (windows_by vs) ≤ most_windows T.kind) (lawful-too : every lawful (windows_by vs) ≡ true) where
+    (few : length (windows_by vs) ≤ most_windows T.kind) (lawful_too : every lawful (windows_by vs) ≡ true) where
   first : BidFound d.before n p ws (cut 10 d.after) T R W
   first = found d.before n p (ws ++ 10 ∷ d.after) ws (cut 10 d.after) d.bidder_word d.p_word
       (cut_end 10 ws d.after d.ws_line) T R W (rw d.left at h)
@@ -141,7 +141,7 @@ module _ (t u n p q ws vs : List ℕ) (v : ℕ) (T : Tender) (R : List Row) (W :
   unfolding bid_fault bid_fault_after
   faultless_too used e =
       let f = faultless_bid T used first.b e in
-      let l = lawful_every (windows_by vs) lawful-too in
+      let l = lawful_every (windows_by vs) lawful_too in
       no_fault T (length used) first.b.bidder v (length (windows_by vs)) (not (every ordered (windows_by vs)))
       (not (every early (windows_by vs))) (among first.b.bidder used) f.few_bids few f.bidder_low f.bidder_high lv
       (ap not l.0) (ap not l.1) f.bidder_new

@@ -88,7 +88,12 @@ is_bid n p ws l e = go (numeral_of n) (price_of p) (windows_in ws) e
   where
     go : (x y : Option ℕ) (z : Option (List Window)) →
         and_then x (λ i. and_then y (λ v. and_then z (λ l. some (bid (record { bidder = i; price = v; windows = l }))))) ≡ some l →
-        (b : BidLine) × (and_then x (λ i. and_then y (λ v. and_then z (λ l. some (bid (record { bidder = i; price = v; windows = l })))))
+        (b : BidLine) × (and_then x (λ i. and_then y (λ v. and_then z (λ l. some (bid (record {
+          bidder = i;
+          price = v;
+          windows =
+              l;
+        })))))
         ≡ some (bid b))
     go none y z h = let c : ◌≡◌ {A = ℕ} 0 1 = cc in absurd (omega arith)
     go (some i) none z h = let c : ◌≡◌ {A = ℕ} 0 1 = cc in absurd (omega arith)
@@ -152,7 +157,8 @@ module _ (before n p after f : List ℕ) (ps : List (List ℕ)) (wn : Word n) (w
         ended = c;
       }
 
-      go : (qs : List (List ℕ)) → read_lines (xs ++ lines_of (bid_line n p f ∷ qs)) ≡ accepted T R W → BidFound before n p f qs T R W
+      go : (qs : List (List ℕ)) → read_lines (xs ++ lines_of (bid_line n p f ∷ qs)) ≡ accepted T R W
+          → BidFound before n p f qs T R W
       go [] x =
           let g = accepted_head T R W (xs ++ none ∷ []) x in
           let l = read_at xs none [] (accepted_read T R W (xs ++ none ∷ []) g) in

@@ -1,5 +1,6 @@
 -- How much an accepted text fills: a row for each line after the head, at most 1,000 rows and 32,000 windows. Assumes nothing.
-use Rattle.std.specs.Prelude.{◌≡◌, refl, List, [], ◌∷◌, ◌++◌, map, Bool, true, false, cond, ℕ, ◌+◌, ◌*◌, ◌≤◌, length, eqb}
+use Rattle.std.specs.Prelude.{◌≡◌, refl, List, [], ◌∷◌, ◌++◌, map, Bool, true, false, cond, ℕ, ◌+◌, ◌*◌}
+use Rattle.std.specs.Prelude.{◌≤◌, length, eqb}
 use Rattle.std.proofs.Common.{ap, ◌∙◌, arith, length-append, le-leb}
 use Rattle.std.proofs.Math.Option.{Option, none, some}
 use Rattle.std.proofs.lemmas.List.{length-map}
@@ -90,8 +91,8 @@ counts_law T R W text e =
     (a, omega (arith, a, b))
 
 -- tables of that size never answer 8
-pub room_law : (text : List ℕ) (bidRows windowRows : ℕ) → 1000 ≤ bidRows → 32000 ≤ windowRows
-    → read_into text bidRows windowRows ≡ read_text text
+pub room_law : (text : List ℕ) (bid_rows window_rows : ℕ) → 1000 ≤ bid_rows → 32000 ≤ window_rows
+    → read_into text bid_rows window_rows ≡ read_text text
 unfolding read_into fitted
 room_law text b w hb hw = go (read_text text) refl
   where

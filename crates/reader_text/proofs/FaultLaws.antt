@@ -1,5 +1,5 @@
 -- What the tests of a line say: of the tender's window, of a bid's windows, and of a bid within all limits. Assumes nothing.
-use Rattle.std.specs.Prelude.{ℕ, ◌≤◌, ◌<◌, List, [], ◌∷◌, Bool, not, ◌&&◌, ltb}
+use Rattle.std.specs.Prelude.{ℕ, ◌≤◌, ◌<◌, List, [], ◌∷◌, Bool, not, ◌&&◌, ltb, Some, None}
 use Rattle.std.proofs.Math.Path.{◌≡◌, refl}
 use Rattle.std.proofs.Math.Bool.{true, false}
 use Rattle.std.proofs.Math.Option.{Option, none, some}
@@ -9,15 +9,14 @@ use Rattle.tender.specs.declared.Kind.{Kind}
 use Rattle.tender.specs.declared.Kind.TheVariants.{Single, Multi}
 use Rattle.tender.specs.declared.Tender.{Tender}
 use Rattle.tender.specs.declared.Window.{Window}
-use Rattle.tender.specs.declared.Reserve.{Reserve}
+use Rattle.tender.specs.Types.{Reserve}
 use Rattle.reader_forms.specs.Line.{TenderLine}
 use Rattle.tender.specs.declared.Refusal.{Refusal}
 use Rattle.tender.specs.declared.Refusal.TheVariants.{EmptyWindow, LateWindow}
 use Rattle.tender.specs.Limits.{as_window, within, most_windows, is_single, ordered, early, lawful, lawful_reserve, sound_tender, every}
 use Rattle.reader_parts.proofs.GivenLaws.{both_true as and_split}
-use Rattle.reader_parts.specs.declared.Flaw.{Flaw}
-use Rattle.reader_parts.specs.declared.Flaw.TheVariants.{Empty, Late, Sound}
-use Rattle.reader_parts.specs.Flaws.{flaw_by, flaw_in, flaw_of, is_empty, is_late}
+use Rattle.reader_parts.specs.declared.Flaw.TheVariants.{Empty, Late}
+use Rattle.reader_parts.specs.Flaws.{Flaws, flaw_by, flaw_in, flaw_of, is_empty, is_late}
 use Rattle.reader_text.specs.Read.{line_fault, tender_fault, bid_fault_in, tender_with}
 
 -- windows are lawful where none is empty and none is late
@@ -58,10 +57,10 @@ module _ (t : TenderLine) (r : Reserve) where
       go false b x = let z : ◌≡◌ {A = ℕ} 0 1 = cc in absurd (omega arith)
 
 -- by what is wrong with it
-abbrev pub flaw_fault : Flaw → Option (ℕ → Refusal)
-flaw_fault Empty = some EmptyWindow
-flaw_fault Late = some LateWindow
-flaw_fault Sound = none
+abbrev pub flaw_fault : Flaws → Option (ℕ → Refusal)
+flaw_fault (Some Empty) = some EmptyWindow
+flaw_fault (Some Late) = some LateWindow
+flaw_fault None = none
 
 pub tender_told : (t : TenderLine) → tender_fault t ≡ flaw_fault (flaw_in (as_window t.window))
 unfolding flaw_in tender_fault line_fault

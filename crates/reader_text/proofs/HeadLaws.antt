@@ -2,14 +2,13 @@
 use Rattle.std.proofs.Math.Path.{◌≡◌, refl, ap}
 use Rattle.std.proofs.Common.{sym, ◌∙◌, arith, le-leb, leb-true}
 use mathlib.Core.List.{List, [], ◌∷◌, ◌++◌, map}
-use Rattle.std.specs.Prelude.{Bool, ℕ, suc, ◌+◌, ◌≤◌, ◌<◌, length}
+use Rattle.std.specs.Prelude.{Bool, ℕ, suc, ◌+◌, ◌≤◌, ◌<◌, length, Some, None}
 use Rattle.std.proofs.Math.Bool.{true, false, cond}
 use Rattle.std.proofs.Math.Option.{Option, none, some}
 use Rattle.std.proofs.Math.Dec.{leb}
 use Rattle.std.proofs.lemmas.Bool.{lt-leb}
 use Rattle.tender.specs.declared.Window.{Window}
-use Rattle.tender.specs.declared.Reserve.{Reserve}
-use Rattle.tender.specs.declared.Reserve.TheVariants.{Absent, Price}
+use Rattle.tender.specs.Types.{Reserve}
 use Rattle.tender.specs.declared.Tender.{Tender}
 use Rattle.tender.specs.declared.Refusal.{Refusal}
 use Rattle.tender.specs.declared.Refusal.TheVariants.{BadForm, OutsideLimits}
@@ -82,7 +81,7 @@ bids_unreserved [] = tt
 bids_unreserved (b ∷ bs) = tt
 
 module _ (t : TenderLine) (at : ℕ) where
-  pub reserve_absent : (ls : List (Option Line)) → Unreserved ls → reserve_in t at ls ≡ begun (tender_with t Absent) at ls
+  pub reserve_absent : (ls : List (Option Line)) → Unreserved ls → reserve_in t at ls ≡ begun (tender_with t None) at ls
   unfolding reserve_in
   reserve_absent [] u = refl
   reserve_absent (none ∷ ls) u = refl
@@ -91,7 +90,7 @@ module _ (t : TenderLine) (at : ℕ) where
   reserve_absent (some (reserve p) ∷ ls) u = absurd u
 
   pub reserve_taken : (p : ℕ) (ls : List (Option Line)) → p ≤ 100000000
-      → reserve_in t at (some (reserve p) ∷ ls) ≡ begun (tender_with t (Price p)) (at + 1) ls
+      → reserve_in t at (some (reserve p) ∷ ls) ≡ begun (tender_with t (Some p)) (at + 1) ls
   unfolding reserve_in
   reserve_taken p ls l = rw (le-leb p 100000000 l)
 
@@ -102,7 +101,7 @@ module _ (t : TenderLine) (at : ℕ) where
 
 -- lines without a reserve's line have the head that the tender's line alone gives
 pub unreserved_head : (t : TenderLine) (ls : List (Option Line)) → Unreserved ls
-    → head_of (some (tender t) ∷ ls) ≡ judged_by halted (tender_fault t) 1 (begun (tender_with t Absent) 2 ls)
+    → head_of (some (tender t) ∷ ls) ≡ judged_by halted (tender_fault t) 1 (begun (tender_with t None) 2 ls)
 unreserved_head t ls u = tender_first t ls ∙ ap (judged_by halted (tender_fault t) 1) (reserve_absent t 2 ls u)
 
 -- the lines of a head
@@ -112,30 +111,30 @@ unfolding head_lines reserve_lines
 head_few T = go T.reserve
   where
     go : (r : Reserve) → suc (length (reserve_lines r)) ≤ 2
-    go Absent = omega arith
-    go (Price p) = omega arith
+    go None = omega arith
+    go (Some p) = omega arith
 
 pub head_bids : (T : Tender) (ls : List (Option Line)) → bids_of (map (λ l. some l) (head_lines T) ++ ls) ≡ bids_of ls
 unfolding head_lines reserve_lines bids_of
 head_bids T ls = go T.reserve
   where
     go : (r : Reserve) → bids_of (map (λ l. some l) (reserve_lines r) ++ ls) ≡ bids_of ls
-    go Absent = refl
-    go (Price p) = refl
+    go None = refl
+    go (Some p) = refl
 
 -- the lines of a sound tender are a head, where no reserve's line stands after a tender without one
-pub head_of_lem : (T : Tender) (rest : List (Option Line)) → sound_tender T ≡ true → (T.reserve ≡ Absent → Unreserved rest)
+pub head_of_lem : (T : Tender) (rest : List (Option Line)) → sound_tender T ≡ true → (T.reserve ≡ None → Unreserved rest)
     → head_of (map (λ l. some l) (head_lines T) ++ rest) ≡ begun T (length (head_lines T) + 1) rest
 unfolding head_lines reserve_lines lawful_reserve
 head_of_lem T rest e u =
     let s = sound_faultless (tender_line T) T.reserve e in
     tender_faultless (tender_line T) (map (λ l. some l) (reserve_lines T.reserve) ++ rest) s.0 ∙ go T.reserve s.1 u
   where
-    go : (r : Reserve) → lawful_reserve r ≡ true → (r ≡ Absent → Unreserved rest) →
+    go : (r : Reserve) → lawful_reserve r ≡ true → (r ≡ None → Unreserved rest) →
         reserve_in (tender_line T) 2 (map (λ l. some l) (reserve_lines r) ++ rest)
         ≡ begun (tender_with (tender_line T) r) (suc (length (reserve_lines r)) + 1) rest
-    go Absent l v = reserve_absent (tender_line T) 2 rest (v refl)
-    go (Price p) l v = reserve_taken (tender_line T) 2 p rest (leb-true p 100000000 l)
+    go None l v = reserve_absent (tender_line T) 2 rest (v refl)
+    go (Some p) l v = reserve_taken (tender_line T) 2 p rest (leb-true p 100000000 l)
 
 pub record HeadIs (ls : List (Option Line)) (T : Tender) (from : ℕ) (rest : List (Option Line)) : Type 0 where
   pub lines : ls ≡ map (λ l. some l) (head_lines T) ++ rest
@@ -161,16 +160,16 @@ ended t r n ls T from rest q l m h =
 reserve_is : (t : TenderLine) (ls : List (Option Line)) (T : Tender) (from : ℕ) (rest : List (Option Line)) → tender_fault t ≡ none
     → reserve_in t 2 ls ≡ begun T from rest → HeadIs (some (tender t) ∷ ls) T from rest
 unfolding reserve_in head_lines reserve_lines lawful_reserve
-reserve_is t [] T from rest q h = ended t Absent 2 [] T from rest q refl refl h
-reserve_is t (none ∷ ls) T from rest q h = ended t Absent 2 (none ∷ ls) T from rest q refl refl h
-reserve_is t (some (tender s) ∷ ls) T from rest q h = ended t Absent 2 (some (tender s) ∷ ls) T from rest q refl refl h
-reserve_is t (some (bid b) ∷ ls) T from rest q h = ended t Absent 2 (some (bid b) ∷ ls) T from rest q refl refl h
+reserve_is t [] T from rest q h = ended t None 2 [] T from rest q refl refl h
+reserve_is t (none ∷ ls) T from rest q h = ended t None 2 (none ∷ ls) T from rest q refl refl h
+reserve_is t (some (tender s) ∷ ls) T from rest q h = ended t None 2 (some (tender s) ∷ ls) T from rest q refl refl h
+reserve_is t (some (bid b) ∷ ls) T from rest q h = ended t None 2 (some (bid b) ∷ ls) T from rest q refl refl h
 reserve_is t (some (reserve p) ∷ ls) T from rest q h = go (leb p 100000000) refl h
   where
     go : (b : Bool) → leb p 100000000 ≡ b
-        → cond b (begun (tender_with t (Price p)) 3 ls) (halted (OutsideLimits 2)) ≡ begun T from rest
+        → cond b (begun (tender_with t (Some p)) 3 ls) (halted (OutsideLimits 2)) ≡ begun T from rest
         → HeadIs (some (tender t) ∷ some (reserve p) ∷ ls) T from rest
-    go true l x = ended t (Price p) 3 ls T from rest q l refl x
+    go true l x = ended t (Some p) 3 ls T from rest q l refl x
     go false l x = let z : ◌≡◌ {A = ℕ} 0 1 = cc in absurd (omega arith)
 
 pub head_is : (ls : List (Option Line)) (T : Tender) (from : ℕ) (rest : List (Option Line)) → head_of ls ≡ begun T from rest
@@ -219,22 +218,22 @@ module _ (t : TenderLine) (at : ℕ) where
       → reserve_in t at (xs ++ some (bid b) ∷ ys) ≡ begun T from rest → BidAfter (reserve_in t at) xs ys T from rest b
   unfolding reserve_in
   reserve_before [] ys T from rest b e =
-      ends_before (reserve_in t at) [] [] ys (tender_with t Absent) T at from rest b (λ c. refl) e
+      ends_before (reserve_in t at) [] [] ys (tender_with t None) T at from rest b (λ c. refl) e
   reserve_before (none ∷ xs) ys T from rest b e =
-      ends_before (reserve_in t at) (none ∷ xs) (none ∷ xs) ys (tender_with t Absent) T at from rest b (λ c. refl) e
+      ends_before (reserve_in t at) (none ∷ xs) (none ∷ xs) ys (tender_with t None) T at from rest b (λ c. refl) e
   reserve_before (some (tender s) ∷ xs) ys T from rest b e =
       let zs = some (tender s) ∷ xs in
-      ends_before (reserve_in t at) zs zs ys (tender_with t Absent) T at from rest b (λ c. refl) e
+      ends_before (reserve_in t at) zs zs ys (tender_with t None) T at from rest b (λ c. refl) e
   reserve_before (some (bid d) ∷ xs) ys T from rest b e =
       let zs = some (bid d) ∷ xs in
-      ends_before (reserve_in t at) zs zs ys (tender_with t Absent) T at from rest b (λ c. refl) e
+      ends_before (reserve_in t at) zs zs ys (tender_with t None) T at from rest b (λ c. refl) e
   reserve_before (some (reserve p) ∷ xs) ys T from rest b e = go (leb p 100000000) refl e
     where
       go : (s : Bool) → leb p 100000000 ≡ s
-          → cond s (begun (tender_with t (Price p)) (at + 1) (xs ++ some (bid b) ∷ ys)) (halted (OutsideLimits at))
+          → cond s (begun (tender_with t (Some p)) (at + 1) (xs ++ some (bid b) ∷ ys)) (halted (OutsideLimits at))
           ≡ begun T from rest
           → BidAfter (reserve_in t at) (some (reserve p) ∷ xs) ys T from rest b
-      go true l x = ends_before (reserve_in t at) (some (reserve p) ∷ xs) xs ys (tender_with t (Price p)) T (at + 1) from rest b
+      go true l x = ends_before (reserve_in t at) (some (reserve p) ∷ xs) xs ys (tender_with t (Some p)) T (at + 1) from rest b
           (λ c. reserve_taken t at p (xs ++ some (bid c) ∷ ys) (leb-true p 100000000 l)) x
       go false l x = let z : ◌≡◌ {A = ℕ} 0 1 = cc in absurd (omega arith)
 

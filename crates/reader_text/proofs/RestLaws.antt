@@ -1,11 +1,10 @@
 -- A line of no form after all the others is told where they are faultless. Assumes nothing.
-use Rattle.std.specs.Prelude.{◌≡◌, refl, Bool, true, false, cond, ℕ, suc, ◌+◌, length, leb}
+use Rattle.std.specs.Prelude.{◌≡◌, refl, Bool, true, false, cond, ℕ, suc, ◌+◌, length, leb, Some}
 use Rattle.std.proofs.Math.Path.{ap}
 use Rattle.std.proofs.Common.{◌∙◌, arith}
 use mathlib.Core.List.{List, [], ◌∷◌, ◌++◌}
 use Rattle.std.proofs.Math.Option.{Option, none, some}
 use Rattle.std.proofs.lemmas.List.{length-map}
-use Rattle.tender.specs.declared.Reserve.TheVariants.{Price}
 use Rattle.tender.specs.declared.Tender.{Tender}
 use Rattle.tender.specs.declared.Refusal.{Refusal}
 use Rattle.tender.specs.declared.Refusal.TheVariants.{BadForm, OutsideLimits}
@@ -21,7 +20,8 @@ with_rest : Head → Head
 with_rest (begun t from ls) = begun t from (ls ++ none ∷ [])
 with_rest (halted r) = halted r
 
-reserve_rest : (t : TenderLine) (at : ℕ) (ls : List (Option Line)) → reserve_in t at (ls ++ none ∷ []) ≡ with_rest (reserve_in t at ls)
+reserve_rest : (t : TenderLine) (at : ℕ) (ls : List (Option Line))
+    → reserve_in t at (ls ++ none ∷ []) ≡ with_rest (reserve_in t at ls)
 unfolding reserve_in with_rest
 reserve_rest t at [] = refl
 reserve_rest t at (none ∷ ls) = refl
@@ -29,8 +29,8 @@ reserve_rest t at (some (tender u) ∷ ls) = refl
 reserve_rest t at (some (bid b) ∷ ls) = refl
 reserve_rest t at (some (reserve p) ∷ ls) = go (leb p max_price)
   where
-    go : (q : Bool) → cond q (begun (tender_with t (Price p)) (at + 1) (ls ++ none ∷ [])) (halted (OutsideLimits at))
-        ≡ with_rest (cond q (begun (tender_with t (Price p)) (at + 1) ls) (halted (OutsideLimits at)))
+    go : (q : Bool) → cond q (begun (tender_with t (Some p)) (at + 1) (ls ++ none ∷ [])) (halted (OutsideLimits at))
+        ≡ with_rest (cond q (begun (tender_with t (Some p)) (at + 1) ls) (halted (OutsideLimits at)))
     go true = refl
     go false = refl
 

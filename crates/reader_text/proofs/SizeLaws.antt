@@ -1,6 +1,7 @@
 -- A window takes six bytes of its line, so an accepted text has at most 10,922 windows; a bid takes 16 with the byte 10 of its line.
 -- Assumes nothing.
-use Rattle.std.specs.Prelude.{◌≡◌, refl, List, [], ◌∷◌, Bool, true, false, cond, ℕ, suc, ◌+◌, ◌*◌, ◌≤◌, length, eqb, ltb}
+use Rattle.std.specs.Prelude.{◌≡◌, refl, List, [], ◌∷◌, Bool, true, false, cond, ℕ, suc, ◌+◌, ◌*◌, ◌≤◌, length}
+use Rattle.std.specs.Prelude.{eqb, ltb}
 use Rattle.std.proofs.Common.{ap, ◌∙◌, arith, length-append, ltb-false}
 use Rattle.std.proofs.Math.Option.{Option, none, some}
 use Rattle.tender.specs.declared.Window.{Window}

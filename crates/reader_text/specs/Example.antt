@@ -1,9 +1,8 @@
 -- Texts read by the definition. Assumes nothing.
-use Rattle.std.specs.Prelude.{◌≡◌, refl, ℕ, zero, suc, List, [], ◌∷◌, ◌++◌, replicate}
+use Rattle.std.specs.Prelude.{◌≡◌, refl, ℕ, zero, suc, List, [], ◌∷◌, ◌++◌, replicate, Some}
 use Prim.Native.String.{String}
 use Rattle.tender.specs.declared.Kind.TheVariants.{Single, Multi}
 use Rattle.tender.specs.declared.Window.{Window}
-use Rattle.tender.specs.declared.Reserve.TheVariants.{Price}
 use Rattle.tender.specs.declared.Tender.{Tender}
 use Rattle.tender.specs.declared.Refusal.TheVariants.{TextTooLong, BadForm, OutsideLimits, TooMany, EmptyWindow, BidderRepeated}
 use Rattle.tender.specs.declared.Refusal.TheVariants.{SeveralWindows, LateWindow, ReserveMisplaced}
@@ -22,7 +21,7 @@ row n p f c = record { bidder = n; price = p; first = f; count = c }
 
 -- a single tender from 0 to 100 with a reserve
 reserved : ℕ → Tender
-reserved p = record { kind = Single; window = record { start = 0; end = 100 }; reserve = Price p }
+reserved p = record { kind = Single; window = record { start = 0; end = 100 }; reserve = Some p }
 
 -- so many windows of one minute
 minutes : ℕ → List ℕ

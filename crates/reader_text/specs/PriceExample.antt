@@ -1,8 +1,7 @@
 -- Texts read by the definition: prices with a point, and near misses. Assumes nothing.
-use Rattle.std.specs.Prelude.{◌≡◌, refl, ℕ, [], ◌∷◌, ◌++◌}
+use Rattle.std.specs.Prelude.{◌≡◌, refl, ℕ, [], ◌∷◌, ◌++◌, Some}
 use Prim.Native.String.{String}
 use Rattle.tender.specs.declared.Kind.TheVariants.{Single}
-use Rattle.tender.specs.declared.Reserve.TheVariants.{Price}
 use Rattle.tender.specs.declared.Refusal.TheVariants.{BadForm, OutsideLimits, ReserveMisplaced}
 use Rattle.tender.specs.Keywords.{bytes}
 use Rattle.tender.specs.Plain.{plain_tender}
@@ -25,7 +24,7 @@ cents : ℕ → ReadOutcome × ReadOutcome
 cents p = (
   accepted (plain_tender Single 0 100) (record { bidder = 11; price = p; first = 0; count = 1 } ∷ [])
       (record { start = 0; end = 50 } ∷ []),
-  accepted (record { kind = Single; window = record { start = 0; end = 100 }; reserve = Price p }) [] [],
+  accepted (record { kind = Single; window = record { start = 0; end = 100 }; reserve = Some p }) [] [],
 )
 
 -- either is above the limit

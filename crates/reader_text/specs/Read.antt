@@ -1,9 +1,9 @@
 -- What reading a bid text answers (paper 01, "The bid text" and "What each operation declines").
 use Rattle.std.specs.Prelude.{ℕ, ◌+◌, List, [], ◌∷◌, ◌++◌, Bool, false, cond, not, ◌&&◌, ◌||◌, length, leb, ltb}
+use Rattle.std.specs.Prelude.{Some, None}
 use Rattle.std.proofs.Math.Option.{Option, none, some}
 use Rattle.tender.specs.declared.Window.{Window}
-use Rattle.tender.specs.declared.Reserve.{Reserve}
-use Rattle.tender.specs.declared.Reserve.TheVariants.{Absent, Price}
+use Rattle.tender.specs.Types.{Reserve}
 use Rattle.tender.specs.declared.Tender.{Tender}
 use Rattle.tender.specs.declared.Refusal.{Refusal}
 use Rattle.tender.specs.declared.Refusal.TheVariants.{TextTooLong, BadForm, OutsideLimits, TooMany, EmptyWindow, BidderRepeated}
@@ -98,11 +98,11 @@ tender_with t r = record { kind = t.kind; window = t.window; reserve = r }
 -- the reserve's line may stand next, which is line `at`
 unfoldable pub reserve_in : TenderLine → ℕ → List (Option Line) → Head
 reserve_in t at (some (reserve p) ∷ ls) =
-    cond (leb p max_price) (begun (tender_with t (Price p)) (at + 1) ls) (halted (OutsideLimits at))
-reserve_in t at [] = begun (tender_with t Absent) at []
-reserve_in t at (none ∷ ls) = begun (tender_with t Absent) at (none ∷ ls)
-reserve_in t at (some (tender u) ∷ ls) = begun (tender_with t Absent) at (some (tender u) ∷ ls)
-reserve_in t at (some (bid b) ∷ ls) = begun (tender_with t Absent) at (some (bid b) ∷ ls)
+    cond (leb p max_price) (begun (tender_with t (Some p)) (at + 1) ls) (halted (OutsideLimits at))
+reserve_in t at [] = begun (tender_with t None) at []
+reserve_in t at (none ∷ ls) = begun (tender_with t None) at (none ∷ ls)
+reserve_in t at (some (tender u) ∷ ls) = begun (tender_with t None) at (some (tender u) ∷ ls)
+reserve_in t at (some (bid b) ∷ ls) = begun (tender_with t None) at (some (bid b) ∷ ls)
 
 -- the next line is not the reserve's
 abbrev pub Unreserved : List (Option Line) → Type 0
@@ -137,11 +137,11 @@ read_text text = cond (ltb max_text (length text)) (refused TextTooLong) (read_l
 
 -- a lent table with fewer rows than the text needs is told last
 unfoldable pub fitted : ℕ → ℕ → ReadOutcome → ReadOutcome
-fitted bidRows windowRows (refused r) = refused r
-fitted bidRows windowRows (accepted t rows windows) =
-    cond (leb (length rows) bidRows && leb (length windows) windowRows) (accepted t rows windows) (refused TableTooShort)
+fitted bid_rows window_rows (refused r) = refused r
+fitted bid_rows window_rows (accepted t rows windows) =
+    cond (leb (length rows) bid_rows && leb (length windows) window_rows) (accepted t rows windows) (refused TableTooShort)
 
 -- what reading answers, with lent tables of so many rows
 unfoldable pub read_into : List ℕ → ℕ → ℕ → ReadOutcome
 unfolding fitted read_text
-read_into text bidRows windowRows = fitted bidRows windowRows (read_text text)
+read_into text bid_rows window_rows = fitted bid_rows window_rows (read_text text)

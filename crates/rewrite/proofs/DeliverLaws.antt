@@ -1,5 +1,5 @@
 -- What is written of the tables that were read is what the text is rewritten to. Assumes nothing.
-use Rattle.std.specs.Prelude.{◌≡◌, refl, Bool, true, false, cond, List, ◌++◌, ℕ, min, ◌≤◌, length, leb}
+use Rattle.std.specs.Prelude.{◌≡◌, refl, Bool, true, false, cond, List, ◌++◌, Result, Ok, Err, ℕ, min, ◌≤◌, length, leb}
 use Rattle.std.proofs.Common.{sym, ap, subst, ◌∙◌, arith, le-leb, leb-true, leb-false}
 use Rattle.std.proofs.lemmas.Bool.{lt-leb}
 use Rattle.tender.specs.declared.Window.{Window}
@@ -12,8 +12,6 @@ use Rattle.spelling.specs.Delivered.{Delivered}
 use Rattle.reader_text.specs.Read.{accepted, refused, read_text}
 use Rattle.reader_text.proofs.SizeLaws.{short_text}
 use Rattle.reader_fill.proofs.ReadInLaws.{ReadIn}
-use Rattle.writer.specs.declared.Writing.{Writing}
-use Rattle.writer.specs.declared.Writing.TheVariants as writing
 use Rattle.writer_text.specs.Canonical.{canonical, WriteOutcome, spelt, unspelt, write_into, buffer_after}
 use Rattle.writer.specs.Writes.{write_answer, Writes}
 use Rattle.writer_back.specs.FilledLaws.{write_read, no_longer}
@@ -21,25 +19,25 @@ use Rattle.rewrite.specs.Rewritten.{rewrite_of, Rewritten, length_written, Deliv
 
 -- the writer's answer as a length
 
-length_told : (o : WriteOutcome) (n : ℕ) → writing.Written n ≡ write_answer o → n ≡ length_written o
+length_told : (o : WriteOutcome) (n : ℕ) → Ok n ≡ write_answer o → n ≡ length_written o
 unfolding write_answer length_written
 length_told (spelt text) n e = cc
 length_told (unspelt q) n e = let z : ◌≡◌ {A = ℕ} 0 1 = cc in absurd (omega arith)
 
-none_told : (o : WriteOutcome) (q : Refusal) → writing.Refused q ≡ write_answer o → 0 ≡ length_written o
+none_told : (o : WriteOutcome) (q : Refusal) → Err q ≡ write_answer o → 0 ≡ length_written o
 unfolding write_answer length_written
 none_told (spelt text) q e = let z : ◌≡◌ {A = ℕ} 0 1 = cc in absurd (omega arith)
 none_told (unspelt p) q e = refl
 
-module _ {t : Tender} {count : ℕ} {bids windows old new : List ℕ} {a : Writing} where
-  pub delivers_text : (n : ℕ) → a ≡ writing.Written n → Writes t count bids windows old new a
+module _ {t : Tender} {count : ℕ} {bids windows old new : List ℕ} {a : Result ℕ Refusal} where
+  pub delivers_text : (n : ℕ) → a ≡ Ok n → Writes t count bids windows old new a
       → Delivers t count bids windows old new n
   delivers_text n e w = record {
     answer = length_told (write_into t count bids windows (length old)) n (sym e ∙ w.answer);
     bytes = w.bytes;
   }
 
-  pub delivers_none : (q : Refusal) → a ≡ writing.Refused q → Writes t count bids windows old new a
+  pub delivers_none : (q : Refusal) → a ≡ Err q → Writes t count bids windows old new a
       → Delivers t count bids windows old new 0
   delivers_none q e w = record {
     answer = none_told (write_into t count bids windows (length old)) q (sym e ∙ w.answer);

@@ -6,9 +6,7 @@ ghost use Rattle.spelling.specs.Lines.{refused_line};
 ghost use Rattle.spelling.specs.Delivered.{Delivered};
 ghost use Rattle.rewrite.specs.Rewritten.{Delivers, Rewritten};
 
-use reader_fill::Filling;
 use tender::{Refusal, Tender};
-use writer::Writing;
 
 // The line of a refusal, where there is room.
 fn deliver_refusal(refusal: Refusal, out: &mut [u8]) -> usize
@@ -16,10 +14,7 @@ fn deliver_refusal(refusal: Refusal, out: &mut [u8]) -> usize
 {
     let mut line = [1u8; 52];
     let n = spelling_put::put_refused(&mut line, refusal);
-    if out.len() < n {
-        return 0;
-    }
-    spelling_put::put_all(out, 0, &line[..n])
+    spelling_put::deliver(&line[..n], out)
 }
 
 // The text of tables, where it is written: 0 stands for any refusal.
@@ -33,8 +28,8 @@ fn deliver_text(
     ensures { Delivers tender count bids.now windows.now out.old out.new result }
 {
     match writer::write(tender, count, bids, windows, out) {
-        Writing::Written(n) => n,
-        Writing::Refused(_) => 0,
+        Ok(n) => n,
+        Err(_) => 0,
     }
 }
 
@@ -46,11 +41,7 @@ pub fn tender_rewrite(text: &[u8], out: &mut [u8]) -> usize
     let mut bids = [1u64; tender::BID_TABLE];
     let mut windows = [1u64; tender::WINDOW_TABLE];
     match reader_fill::fill(text, &mut bids, &mut windows) {
-        Filling::Rows {
-            tender,
-            bids: n,
-            windows: _,
-        } => deliver_text(tender, n, &bids, &windows, out),
-        Filling::Refused(r) => deliver_refusal(r, out),
+        Ok(filled) => deliver_text(filled.tender, filled.bids, &bids, &windows, out),
+        Err(refusal) => deliver_refusal(refusal, out),
     }
 }

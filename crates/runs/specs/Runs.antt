@@ -1,4 +1,4 @@
--- The minutes of a bid as runs in rising order, joined where windows overlap or touch (paper 02, request 2).
+-- The minutes of a bid as runs in rising order, joined where windows overlap or touch.
 use Rattle.std.specs.Prelude.{Bool, cond, List, [], ◌∷◌, ℕ, zero, suc, ◌+◌, eqb}
 use Rattle.tender.specs.declared.Window.{Window}
 use Rattle.tender.specs.Limits.{week}

@@ -5,23 +5,21 @@
 ghost use Rattle.std.specs.Prelude.{◌≡◌, true, ◌+◌, ◌*◌, ◌/◌, ◌≤◌, length, drop};
 ghost use Rattle.tender.specs.Limits.{lawful, every};
 ghost use Rattle.tender.specs.Tables.{windows_of, window_width};
-ghost use Rattle.cells.specs.Masks.{masks};
 ghost use Rattle.runs.specs.MinuteRows.{row_words, row_cells, Empty, Full, Minutes, NextRun};
 
+use cells::MaskTable;
+
 // Sets the minutes of the windows from `first` on, `count` of them, in a row that has none, by the table of masks.
-fn add_windows(table: &[u64], windows: &[u64], first: usize, count: usize, row: &mut [u64])
-    requires count_in_bounds { (first + count ≤ length windows.now / window_width)
+fn add_windows(table: &MaskTable, windows: &[u64], first: usize, count: usize, row: &mut [u64])
+    requires { (first + count ≤ length windows.now / window_width)
         × ((every lawful (windows_of count (drop (window_width * first) windows.now)) ≡ true) × Empty row.old) }
-    requires table_value { table.now ≡ masks }
     ensures { Minutes (windows_of count (drop (window_width * first) windows.now)) row.new }
 {
-    let mut j = 0;
-    while j < count {
+    for j in 0..count {
         let at = tender::WINDOW_WIDTH * (first + j);
         let start = windows[at] as usize;
         let end = windows[at + 1] as usize;
         cells::add_range_by(table, row, start, end);
-        j += 1;
     }
 }
 
@@ -31,9 +29,8 @@ pub fn minutes(windows: &[u64], first: usize, count: usize, row: &mut [u64])
         × ((every lawful (windows_of count (drop (window_width * first) windows.now)) ≡ true) × (length row.old ≡ row_words)) }
     ensures { Minutes (windows_of count (drop (window_width * first) windows.now)) row.new }
 {
-    let table = cells::MASKS;
     cells::clear(row);
-    add_windows(&table, windows, first, count, row);
+    add_windows(&MaskTable::new(), windows, first, count, row);
 }
 
 // The minutes from `start` to `end` - 1; none where the two are equal.
@@ -50,8 +47,5 @@ pub fn next(row: &[u64], none: &[u64], all: &[u64], from: usize) -> Run
 {
     let start = cells::next(row, none, from);
     let end = cells::next(all, row, start);
-    Run {
-        start: start,
-        end: end,
-    }
+    Run { start, end }
 }

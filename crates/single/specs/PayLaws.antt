@@ -1,5 +1,6 @@
 -- The payments of the bids with one window each, made one after the other. Assumes nothing.
-use Rattle.std.specs.Prelude.{◌≡◌, refl, Bool, true, false, List, ℕ, ◌+◌, ◌-◌, ◌≤◌, ◌<◌, eqb, length, get_or, set, drop}
+use Rattle.std.specs.Prelude.{◌≡◌, refl, Bool, true, false, List, ℕ, ◌+◌, ◌-◌, ◌≤◌, ◌<◌, eqb, length, get_or, set}
+use Rattle.std.specs.Prelude.{drop}
 use Rattle.std.proofs.Common.{sym, ap, ◌∙◌, arith, get_or-set_same, get_or-set_other, eqb-true}
 use Rattle.std.proofs.lemmas.Bool.{eqb-false}
 use Rattle.cover.specs.Sets.{when, value_of, bit, cost, covers}
@@ -50,30 +51,25 @@ paid_all f a b ps order old new h e q z g = record {
 }
 
 -- a loser is paid nothing
-pub pays_none : (a b ps : List ℕ) (L i on : ℕ) → on ≡ when (bit (winners_of a b ps L) i) 1 → on ≡ 0
+pub pays_none : (a b ps : List ℕ) (L i : ℕ) (on : Bool) → on ≡ bit (winners_of a b ps L) i → on ≡ false
     → 0 ≡ vcg_paid_of a b ps L i
 unfolding vcg_paid_of winners_of payment
-pays_none a b ps L i on e z = go (bit (winners (covers (spans a b) (length ps) L) ps) i) refl ∙ sym (paid_of i a b ps L)
-  where
-    go : (t : Bool) → bit (winners (covers (spans a b) (length ps) L) ps) i ≡ t
-        → 0 ≡ payment (bit (winners (covers (spans a b) (length ps) L) ps) i) (value_of (cost_without i a b ps L))
-        (cost ps (winners (covers (spans a b) (length ps) L) ps)) (get_or ps i 0)
-    go true d = absurd (omega (arith, ap (λ s. when s 1) d))
-    go false d = rw d
+pays_none a b ps L i on e z =
+    let d : bit (winners (covers (spans a b) (length ps) L) ps) i ≡ false = sym e ∙ z in
+    sym (paid_of i a b ps L ∙ rw d)
 
-pub wins_bit : (a b ps : List ℕ) (L i on : ℕ) → on ≡ when (bit (winners_of a b ps L) i) 1 → (on ≡ 0 → ⊥)
+pub wins_bit : (a b ps : List ℕ) (L i : ℕ) (on : Bool) → on ≡ bit (winners_of a b ps L) i → on ≡ true
     → bit (winners (covers (spans a b) (length ps) L) ps) i ≡ true
 unfolding winners_of
-wins_bit a b ps L i on e z = go (bit (winners (covers (spans a b) (length ps) L) ps) i) refl
-  where
-    go : (t : Bool) → bit (winners (covers (spans a b) (length ps) L) ps) i ≡ t
-        → bit (winners (covers (spans a b) (length ps) L) ps) i
-        ≡ true
-    go true d = d
-    go false d = absurd (z (e ∙ ap (λ s. when s 1) d))
+wins_bit a b ps L i on e z = sym e ∙ z
+
+-- a flag of the list as a truth value
+pub flag_is : (v : ℕ) (t : Bool) → v ≡ when t 1 → eqb v 1 ≡ t
+flag_is v true e = rw e
+flag_is v false e = rw e
 
 -- a winner is paid the least cost without it, less what the others cost
-pub pays_some : (a b ps : List ℕ) (L i on rest all : ℕ) → on ≡ when (bit (winners_of a b ps L) i) 1 → (on ≡ 0 → ⊥)
+pub pays_some : (a b ps : List ℕ) (L i : ℕ) (on : Bool) (rest all : ℕ) → on ≡ bit (winners_of a b ps L) i → on ≡ true
     → rest ≡ value_of (cost_without i a b ps L) → all ≡ cost ps (winners_of a b ps L)
     → rest - (all - get_or ps i 0) ≡ vcg_paid_of a b ps L i
 unfolding vcg_paid_of winners_of payment
@@ -90,25 +86,25 @@ pays_most a b ps L i = rw (paid_of i a b ps L) (go (bit (winners (covers (spans 
     go false = omega arith
 
 -- what the selection says of the flags and of the winners' cost
-pub selected_flags : (a b ps costs old_won new-won : List ℕ) (L all : ℕ) → Selected a b ps costs old_won new-won L all → (i : ℕ)
-    → i < length ps → get_or new-won i 0 ≡ when (bit (winners_of a b ps L) i) 1
+pub selected_flags : (a b ps costs old_won new_won : List ℕ) (L all : ℕ) → Selected a b ps costs old_won new_won L all → (i : ℕ)
+    → i < length ps → get_or new_won i 0 ≡ when (bit (winners_of a b ps L) i) 1
 unfolding winners_of
-selected_flags a b ps costs old_won new-won L all s i l =
+selected_flags a b ps costs old_won new_won L all s i l =
     ap (λ xs. get_or xs i 0) s.flags ∙ listed_at (length ps) (λ i. when (bit (winners (covers (spans a b) (length ps) L) ps) i) 1)
     (drop (length ps) old_won) i l
 
-pub selected_all : (a b ps costs old_won new-won : List ℕ) (L all : ℕ) → Selected a b ps costs old_won new-won L all
+pub selected_all : (a b ps costs old_won new_won : List ℕ) (L all : ℕ) → Selected a b ps costs old_won new_won L all
     → all ≡ cost ps (winners_of a b ps L)
 unfolding winners_of
-selected_all a b ps costs old_won new-won L all s = s.all_is
+selected_all a b ps costs old_won new_won L all s = s.all_is
 
 -- THE AWARD
-pub award_settled : (a b ps old_won new-won costs old_cents new-cents : List ℕ) (L all : ℕ) → sum ps ≤ most_sum
-    → Selected a b ps costs old_won new-won L all → FilledTo (vcg_paid_of a b ps L) old_cents new-cents (length ps)
+pub award_settled : (a b ps old_won new_won costs old_cents new_cents : List ℕ) (L all : ℕ) → sum ps ≤ most_sum
+    → Selected a b ps costs old_won new_won L all → FilledTo (vcg_paid_of a b ps L) old_cents new_cents (length ps)
     → Settled (λ _. Unit {0}) (λ i. bit (winners (covers (spans a b) (length ps) L) ps) i)
-    (vcg_paid (covers (spans a b) (length ps) L) ps) ps old_won old_cents new-won new-cents
+    (vcg_paid (covers (spans a b) (length ps) L) ps) ps old_won old_cents new_won new_cents
 unfolding vcg_paid_of
-award_settled a b ps old_won new-won costs old_cents new-cents L all l s w = record {
+award_settled a b ps old_won new_won costs old_cents new_cents L all l s w = record {
   flags = s.flags;
   payments = λ i d u. w.values i d;
   small = λ i d. omega (arith, w.values i d, pays_most a b ps L i);

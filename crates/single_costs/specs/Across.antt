@@ -30,7 +30,8 @@ least_across a b ps xs costs after t j = scan_cost (reaches (λ i. get_or a i 0)
 
 -- each bid's cost with what comes before it, and with what comes after it
 abbrev pub Before : List ℕ → List ℕ → List ℕ → List ℕ → Type 0
-Before a b ps before = (i : ℕ) → i < length ps → cost_in (get_or before i 0) ≡ raise (get_or ps i 0) (cost_below a b ps (get_or a i 0))
+Before a b ps before = (i : ℕ) → i < length ps
+    → cost_in (get_or before i 0) ≡ raise (get_or ps i 0) (cost_below a b ps (get_or a i 0))
 
 abbrev pub After : List ℕ → List ℕ → List ℕ → ℕ → List ℕ → Type 0
 After a b ps L after = (i : ℕ) → i < length ps → cost_in (get_or after i 0) ≡ raise (get_or ps i 0) (cost_after a b ps L i)

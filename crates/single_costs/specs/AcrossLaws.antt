@@ -1,5 +1,6 @@
 -- The run without bid k begins with the bids that reach its start, and the scan across its end gives the least cost. Assumes nothing.
-use Rattle.std.specs.Prelude.{◌≡◌, refl, Bool, true, false, cond, ◌&&◌, List, ℕ, suc, ◌+◌, ◌-◌, ◌^◌, ◌≤◌, ◌<◌, ltb, leb, eqb, length, get_or, set}
+use Rattle.std.specs.Prelude.{◌≡◌, refl, Bool, true, false, cond, ◌&&◌, List, ℕ, suc, ◌+◌, ◌-◌, ◌^◌, ◌≤◌}
+use Rattle.std.specs.Prelude.{◌<◌, ltb, leb, eqb, length, get_or, set}
 use Rattle.std.proofs.Common.{sym, ap, ◌∙◌, true≢false, arith, length-set, get_or-set_same, get_or-set_other}
 use borrow.Author.Tests.{lt-ltb, le-ltb, le-leb, lt-leb, eqb-true, eqb-false, eq-eqb, ne_eqb}
 use Rattle.cover.specs.Sets.{Found, nothing, found, value_of, bit, cost, covers}
@@ -12,7 +13,8 @@ use Rattle.cover.proofs.Intervals.ScanLaws.{none_found, found_one}
 use Rattle.cover.proofs.Intervals.PrefixLaws.{lacks, least_set_right}
 use Rattle.cover.proofs.Intervals.CoverLaws.{priced, bit_none}
 use Rattle.cover.specs.Intervals.Bids.{any_bid, Bids, covers_below, least_below, cost_without, end_cost, cost_after, Mirrored}
-use Rattle.cover.proofs.Intervals.BidsLaws.{prefixes, winners_of_lem, cost_most, without_past, without_none, fits_without, scan_across, near}
+use Rattle.cover.proofs.Intervals.BidsLaws.{prefixes, winners_of_lem, cost_most, without_past, without_none, fits_without, scan_across}
+use Rattle.cover.proofs.Intervals.BidsLaws.{near}
 use Rattle.cover.proofs.Intervals.MirrorLaws.{mirrored_cost}
 use Rattle.single_lead.specs.Costs.{no_cost, cost_in}
 use Rattle.single_lead.specs.CostsLaws.{cost_found, cost_least}
@@ -111,7 +113,8 @@ run_start a b ps order h old live before xs costs q m len l fit room d f w g = r
       };
     }
 
-    stored : (i : ℕ) → i < length ps → (i ≡ k → ⊥) → get_or (set (set costs k no_cost) (length ps) no_cost) i 0 ≡ get_or costs i 0
+    stored : (i : ℕ) → i < length ps → (i ≡ k → ⊥)
+        → get_or (set (set costs k no_cost) (length ps) no_cost) i 0 ≡ get_or costs i 0
     stored i x n = get_or-set_other (set costs k no_cost) (length ps) i no_cost 0 (λ e. omega arith)
         ∙ get_or-set_other costs k i no_cost 0 n
 
@@ -203,7 +206,8 @@ pub across_none : (a b ps xs costs after : List ℕ) (t : ℕ) → cost_in no_co
 unfolding least_across cost_in scan_cost
 across_none a b ps xs costs after t = refl
 
-pub across_more : (a b ps xs costs after : List ℕ) (t j r x : ℕ) → x ≡ join_at ps xs costs after j → x ≤ no_cost → r ≤ no_cost
+pub across_more : (a b ps xs costs after : List ℕ) (t j r x : ℕ) → x ≡ join_at ps xs costs after j → x ≤ no_cost
+    → r ≤ no_cost
     → cost_in r ≡ least_across a b ps xs costs after t j
     → cost_in (less_of (get_or a (get_or xs j 0) 0) (get_or b (get_or xs j 0) 0) t x r) ≡ least_across a b ps xs costs after t (suc j)
 unfolding least_across less_of scan_cost reaches
@@ -229,13 +233,15 @@ before_small k a b ps v i l e n = go (eqb i k) (cost_without k a b ps (get_or a 
     go false nothing q d = absurd (none_found (sym (ap (raise (get_or ps i 0)) q) ∙ d))
     go false (found z) q d = omega (arith, fits_without k a b ps i z l q, found_one (sym (ap (raise (get_or ps i 0)) q) ∙ d))
 
-pub after_small : (a b ps : List ℕ) (L v i : ℕ) → cost_in v ≡ raise (get_or ps i 0) (cost_after a b ps L i) → (v ≡ no_cost → ⊥)
+pub after_small : (a b ps : List ℕ) (L v i : ℕ) → cost_in v ≡ raise (get_or ps i 0) (cost_after a b ps L i)
+    → (v ≡ no_cost → ⊥)
     → (get_or ps i 0 ≤ v) × (v ≤ sum ps + get_or ps i 0)
 unfolding cost_after raise found_cost
 after_small a b ps L v i e n = go (least_set (covers_from (λ x. x) (get_or b i 0) (spans a b) (length ps)) (cost ps) (length ps) L)
     (sym e ∙ cost_found v n)
   where
-    go : (r : Found) → raise (get_or ps i 0) (found_cost (cost ps) r) ≡ found v → (get_or ps i 0 ≤ v) × (v ≤ sum ps + get_or ps i 0)
+    go : (r : Found) → raise (get_or ps i 0) (found_cost (cost ps) r) ≡ found v
+        → (get_or ps i 0 ≤ v) × (v ≤ sum ps + get_or ps i 0)
     go nothing d = absurd (none_found d)
     go (found s) d = (omega (arith, found_one d), omega (arith, found_one d, cost_most ps s))
 

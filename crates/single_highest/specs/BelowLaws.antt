@@ -1,7 +1,8 @@
 -- The price below which a bid would win, from how it fares at the price 0 and at what it is then paid: at the price 0 it loses, and
 -- no price wins; or it is paid its threshold c, and the prices below c win, and c where the selection at c has it. Assumes nothing.
 use Rattle.cover.specs.Spare.{Spare}
-use Rattle.std.specs.Prelude.{◌≡◌, refl, Bool, true, false, List, [], ◌∷◌, ◌++◌, ℕ, zero, suc, ◌+◌, ◌≤◌, ◌<◌, length, get_or, set, drop}
+use Rattle.std.specs.Prelude.{◌≡◌, Bool, true, false, List, [], ◌∷◌, ◌++◌, ℕ, zero, suc, ◌+◌, ◌≤◌, ◌<◌}
+use Rattle.std.specs.Prelude.{length, get_or, set, drop}
 use Rattle.std.proofs.Common.{sym, ap, ◌∙◌, arith, length-set, set-set}
 use Rattle.tender.specs.Limits.{max_entries}
 use Rattle.cover.specs.Sets.{when, bit, covers}
@@ -81,24 +82,16 @@ pub selected_flag : (a b ps costs old new : List ℕ) (L all : ℕ) → Selected
 selected_flag a b ps costs old new L all s =
     flag_at (bit (winners (covers (spans a b) (length ps) L) ps)) (length ps) old new s.flags
 
-pub settled_flag : (a b ps old_won old_cents new-won new-cents : List ℕ) (L : ℕ)
+pub settled_flag : (a b ps old_won old_cents new_won new_cents : List ℕ) (L : ℕ)
     → Settled (λ _. Unit {0}) (λ j. bit (winners (covers (spans a b) (length ps) L) ps) j)
-    (vcg_paid (covers (spans a b) (length ps) L) ps) ps old_won old_cents new-won new-cents
-    → (i : ℕ) → i < length ps → get_or new-won i 0 ≡ when (bit (winners (covers (spans a b) (length ps) L) ps) i) 1
-settled_flag a b ps old_won old_cents new-won new-cents L s =
-    flag_at (bit (winners (covers (spans a b) (length ps) L) ps)) (length ps) old_won new-won s.flags
+    (vcg_paid (covers (spans a b) (length ps) L) ps) ps old_won old_cents new_won new_cents
+    → (i : ℕ) → i < length ps → get_or new_won i 0 ≡ when (bit (winners (covers (spans a b) (length ps) L) ps) i) 1
+settled_flag a b ps old_won old_cents new_won new_cents L s =
+    flag_at (bit (winners (covers (spans a b) (length ps) L) ps)) (length ps) old_won new_won s.flags
 
 flag_most : (t : Bool) (w : ℕ) → w ≡ when t 1 → w ≤ 1
 flag_most true w e = omega arith
 flag_most false w e = omega arith
-
-flag_out : (t : Bool) (w : ℕ) → w ≡ when t 1 → w ≡ 0 → t ≡ false
-flag_out true w e z = absurd (omega arith)
-flag_out false w e z = refl
-
-flag_in : (t : Bool) (w : ℕ) → w ≡ when t 1 → (w ≡ 0 → ⊥) → t ≡ true
-flag_in true w e z = refl
-flag_in false w e z = absurd (z e)
 
 -- bids over L cells, of which those but i have every cell
 module _ (a b ps : List ℕ) (L i : ℕ) (inside : i < length ps) (spare : Spare (spans a b) (length ps) L i) where
@@ -109,18 +102,18 @@ module _ (a b ps : List ℕ) (L i : ℕ) (inside : i < length ps) (spare : Spare
   abbrev won_at : ℕ → Bool
   won_at q = bit (winners (ok_at ps) (set ps i q)) i
 
-  free_won : (w : ℕ) → w ≡ when (bit (winners (ok_at (set ps i 0)) (set ps i 0)) i) 1 → w ≡ when (won_at 0) 1
+  free_won : (w : Bool) → w ≡ bit (winners (ok_at (set ps i 0)) (set ps i 0)) i → w ≡ won_at 0
   free_won w e = rw (length-set ps i 0) at e
 
   free_paid : (c : ℕ) → c ≡ vcg_paid (ok_at (set ps i 0)) (set ps i 0) i → c ≡ vcg_paid (ok_at ps) (set ps i 0) i
   free_paid c e = rw (length-set ps i 0) at e
 
   -- it loses at the price 0
-  pub below_none : (w : ℕ) → w ≡ when (bit (winners (ok_at (set ps i 0)) (set ps i 0)) i) 1 → w ≡ 0 → Below won_at 0
+  pub below_none : (w : Bool) → w ≡ bit (winners (ok_at (set ps i 0)) (set ps i 0)) i → w ≡ false → Below won_at 0
   below_none w e z = never_wins (ok_at ps) ps i inside (others (length ps) i) (others_below (length ps) i)
-      (spare_set (spans a b) (length ps) L i spare inside) (flag_out (won_at 0) w (free_won w e) z)
+      (spare_set (spans a b) (length ps) L i spare inside) (sym (free_won w e) ∙ z)
 
-  module _ (w c : ℕ) (e : w ≡ when (bit (winners (ok_at (set ps i 0)) (set ps i 0)) i) 1) (n : w ≡ 0 → ⊥)
+  module _ (w : Bool) (c : ℕ) (e : w ≡ bit (winners (ok_at (set ps i 0)) (set ps i 0)) i) (n : w ≡ true)
       (p : c ≡ vcg_paid (ok_at (set ps i 0)) (set ps i 0) i) where
     -- it wins at the price 0: no more is paid than the others ask in all
     paid_most : c ≤ sum (set ps i 0)
@@ -128,7 +121,7 @@ module _ (a b ps : List ℕ) (L i : ℕ) (inside : i < length ps) (spare : Spare
       arith,
       free_paid c p,
       free_pays (ok_at ps) ps i inside (others (length ps) i) (others_below (length ps) i)
-          (spare_set (spans a b) (length ps) L i spare inside) (flag_in (won_at 0) w (free_won w e) n),
+          (spare_set (spans a b) (length ps) L i spare inside) (sym (free_won w e) ∙ n),
       threshold_most (ok_at ps) ps i inside (others (length ps) i) (others_below (length ps) i)
           (spare_set (spans a b) (length ps) L i spare inside),
     )
@@ -141,7 +134,7 @@ module _ (a b ps : List ℕ) (L i : ℕ) (inside : i < length ps) (spare : Spare
     pub below_paid : (v : ℕ) → v ≡ when (bit (winners (ok_at (set (set ps i 0) i c)) (set (set ps i 0) i c)) i) 1
         → Below won_at (c + v)
     below_paid v f = rw f' (wins_up_to (ok_at ps) ps i inside (others (length ps) i) (others_below (length ps) i)
-        (spare_set (spans a b) (length ps) L i spare inside) (flag_in (won_at 0) w (free_won w e) n) c (free_paid c p))
+        (spare_set (spans a b) (length ps) L i spare inside) (sym (free_won w e) ∙ n) c (free_paid c p))
       where
         f' : v ≡ when (won_at c) 1
         f' = rw (set-set ps i 0 c, length-set ps i c) at f

@@ -5,7 +5,7 @@
 
 ghost use Rattle.std.specs.Prelude.{◌≡◌, ℕ, ◌+◌, ◌<◌, ◌≤◌, get_or, set, length};
 ghost use Rattle.tender.specs.Limits.{max_entries};
-ghost use Rattle.cover.specs.Sets.{when, bit, covers};
+ghost use Rattle.cover.specs.Sets.{bit, covers};
 ghost use Rattle.cover.specs.LeastCover.{winners, vcg_paid};
 ghost use Rattle.cover.specs.CriticalPrice.{sum};
 ghost use Rattle.cover.specs.Settled.{spans, most_cents};
@@ -14,10 +14,12 @@ ghost use Rattle.cover.specs.Winning.{Below};
 ghost use Rattle.cover.specs.Intervals.{Order};
 ghost use Rattle.single_highest.specs.Runnable.{Runnable};
 
-// How a bid fares: 1 where it wins, and the cents that it is paid.
+use single_lead::Bids;
+
+// How a bid fares: whether it wins, and the cents that it is paid.
 #[derive(Clone, Copy)]
 struct Fate {
-    won: u64,
+    won: bool,
     cents: u64,
 }
 
@@ -31,8 +33,8 @@ fn fares(
     i: usize,
 ) -> Fate
     requires { Runnable starts.now ends.now prices.now order.now cells i }
-    ensures { (result.won ≡ when (bit (winners (covers (spans starts.now ends.now)
-        (length prices.now) cells) prices.now) i) 1)
+    ensures { (result.won ≡ bit (winners (covers (spans starts.now ends.now)
+        (length prices.now) cells) prices.now) i)
         × (result.cents ≡ vcg_paid (covers (spans starts.now ends.now) (length prices.now) cells)
         prices.now i) }
 {
@@ -41,22 +43,28 @@ fn fares(
     let mut cents = [1u64; tender::MAX_ENTRIES];
     single::award(starts, ends, prices, order, cells, &mut won, &mut cents);
     Fate {
-        won: won[i],
+        won: won[i] == 1,
         cents: cents[i],
     }
 }
 
-// Whether bid `i` wins at these prices: 1 or 0. A selection alone, without payments.
-fn wins(starts: &[u64], ends: &[u64], prices: &[u64], order: &[usize], cells: u64, i: usize) -> u64
+// Whether bid `i` wins at these prices. A selection alone, without payments.
+fn wins(starts: &[u64], ends: &[u64], prices: &[u64], order: &[usize], cells: u64, i: usize) -> bool
     requires { Runnable starts.now ends.now prices.now order.now cells i }
-    ensures { result ≡ when (bit (winners (covers (spans starts.now ends.now)
-        (length prices.now) cells) prices.now) i) 1 }
+    ensures { result ≡ bit (winners (covers (spans starts.now ends.now)
+        (length prices.now) cells) prices.now) i }
 {
     // ones, not zeros: the compiler writes these in wide stores
     let mut early = [1u64; tender::MAX_ENTRIES + 1];
     let mut won = [1u64; tender::MAX_ENTRIES];
-    single_select::winners(starts, ends, prices, order, cells, &mut early, &mut won);
-    won[i]
+    let bids = Bids {
+        starts,
+        ends,
+        prices,
+        order,
+    };
+    single_select::winners(bids, cells, &mut early, &mut won);
+    won[i] == 1
 }
 
 // The price below which bid `i` would win, all else standing; 0 where no price wins. The bids but `i` have every cell, and the prices sum
@@ -84,10 +92,10 @@ pub fn below(
 {
     prices[i] = 0;
     let free = fares(starts, ends, prices, order, cells, i);
-    if free.won == 0 {
+    if !free.won {
         return 0;
     }
     prices[i] = free.cents;
     let tie = wins(starts, ends, prices, order, cells, i);
-    free.cents + tie
+    free.cents + u64::from(tie)
 }

@@ -95,7 +95,8 @@ module _ (w : ℕ) (a b xs costs sets : List ℕ) (n t j r : ℕ) (f : (q : ℕ)
   next_cheapest false e = rw e h.cheapest
 
   next_lightest : (cost : ℕ → ℕ) → Honest cost w costs sets q
-      → Honest cost w costs sets r × (weight w costs sets r ≡ least_weight cost w a b xs costs sets t j) → (c : Bool) → is_reach ≡ c
+      → Honest cost w costs sets r × (weight w costs sets r ≡ least_weight cost w a b xs costs sets t j) → (c : Bool)
+      → is_reach ≡ c
       → Honest cost w costs sets (cond c (prefer w costs sets q r) r)
       × (weight w costs sets (cond c (prefer w costs sets q r) r) ≡ least_weight cost w a b xs costs sets t (suc j))
   unfolding least_weight scan reaches
@@ -165,8 +166,9 @@ led_keeps P w a b costs sets old live n t m r c end r' c' end' m' p f (anew d v)
 -- while it reaches
 module _ (best : ℕ → Found) (value : ℕ → ℕ → Found) (w : ℕ) (a b ps order costs sets old : List ℕ) (k t m : ℕ)
     (later : (q : ℕ) → k ≤ q → q < length ps → t ≤ get_or a (get_or order q 0) 0)
-    (best-found : (r : ℕ) → 0 < t → Seen w a b old costs sets (length ps) t m r → value (get_or costs r 0) r ≡ best t)
-    (best-stays : (r u : ℕ) → (r ≡ length ps → ⊥) → Seen w a b old costs sets (length ps) t m r → t ≤ u → u ≤ get_or b r 0
+    (best_found : (r : ℕ) → 0 < t → Seen w a b old costs sets (length ps) t m r → value (get_or costs r 0) r ≡ best t)
+    (best_stays : (r u : ℕ) → (r ≡ length ps → ⊥) → Seen w a b old costs sets (length ps) t m r → t ≤ u
+    → u ≤ get_or b r 0
     → value (get_or costs r 0) r ≡ best t → value (get_or costs r 0) r ≡ best u) where
   pub led_ready : (live : List ℕ) (at r c end r' c' end' m' : ℕ) → at ≤ t
       → Leading best (value c r) a b ps order old at k m r c end
@@ -189,10 +191,10 @@ module _ (best : ℕ → Found) (value : ℕ → ℕ → Found) (w : ℕ) (a b p
   }
     where
       found : value (get_or costs r' 0) r' ≡ best t
-      found = best-found r' (omega arith) v.seen
+      found = best_found r' (omega arith) v.seen
 
       stays : (s : Bool) → eqb r' (length ps) ≡ s → (u : ℕ) → t ≤ u → u ≤ end'
           → value (get_or costs r' 0) r' ≡ best u
       stays true e u x y = absurd (omega (arith, v.end_is, end_none b (length ps) r' (eqb-true r' (length ps) e)))
       stays false e u x y = let n = eqb-false r' (length ps) e in
-          best-stays r' u n v.seen x (omega (arith, v.end_is, end_some b (length ps) r' n)) found
+          best_stays r' u n v.seen x (omega (arith, v.end_is, end_some b (length ps) r' n)) found

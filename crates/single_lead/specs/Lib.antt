@@ -6,3 +6,5 @@ pub mod Live
 pub mod LiveLaws
 pub mod Lead
 pub mod LeadLaws
+pub mod Listed
+pub mod ListedLaws

@@ -72,7 +72,8 @@ module _ (b old act : List ℕ) (t j x : ℕ) (l : j < length old) (h : Thinned 
       }
       one i d false g = rw (other i (eqb-false i x g)) (up (get_or act i 0) (h.from i (omega (arith, eqb-false i x g))))
 
-      two : (i : ℕ) → i < j + 1 → t ≤ get_or b (get_or old i 0) 0 → (s : Bool) → eqb i j ≡ s → On now (x + 1) (get_or old i 0)
+      two : (i : ℕ) → i < j + 1 → t ≤ get_or b (get_or old i 0) 0 → (s : Bool) → eqb i j ≡ s
+          → On now (x + 1) (get_or old i 0)
       two i d g true q = record { place = x; inside = omega arith; is = here ∙ was ∙ ap (λ z. get_or old z 0) (sym (eqb-true i j q)) }
       two i d g false q = stay (get_or old i 0) (h.kept i (omega (arith, eqb-false i j q)) g) (x + 1) (omega arith)
   thin false e = record {

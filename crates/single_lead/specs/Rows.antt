@@ -1,6 +1,7 @@
 -- Sets of bids in rows of w words of 64 bits, the lowest first; a bid's weight, its cost and its set; and the lighter of two
 -- bids. Where w is 0 every set is 0, and the costs alone decide.
-use Rattle.std.specs.Prelude.{◌≡◌, Bool, cond, ◌&&◌, ◌||◌, List, ℕ, zero, suc, ◌+◌, ◌*◌, ◌-◌, ltb, leb, eqb, get_or}
+use Rattle.std.specs.Prelude.{◌≡◌, Bool, cond, ◌&&◌, ◌||◌, List, ℕ, zero, suc, ◌+◌, ◌*◌, ◌-◌, ltb, leb, eqb}
+use Rattle.std.specs.Prelude.{get_or}
 use Rattle.cover.specs.Sets.{Found, nothing, found}
 use Rattle.cover.specs.Intervals.{found_cost}
 use Rattle.single_lead.specs.Costs.{no_cost, cost_in}

@@ -1,5 +1,6 @@
 -- Laws of sets in rows of words: their order, and the lighter of two bids. Assumes nothing.
-use Rattle.std.specs.Prelude.{◌≡◌, Bool, ◌&&◌, ◌||◌, List, ℕ, zero, suc, ◌+◌, ◌*◌, ◌-◌, ◌≤◌, ◌<◌, ltb, eqb, get_or}
+use Rattle.std.specs.Prelude.{◌≡◌, Bool, ◌&&◌, ◌||◌, List, ℕ, zero, suc, ◌+◌, ◌*◌, ◌-◌, ◌≤◌, ◌<◌, ltb}
+use Rattle.std.specs.Prelude.{eqb, get_or}
 use Rattle.std.proofs.Math.Path.{refl, sym}
 use Rattle.std.proofs.Common.{ap, ◌∙◌, mul-le-mul_right, arith}
 use Rattle.std.proofs.Math.Bool.{true, false, cond}
@@ -173,15 +174,18 @@ module _ (w : ℕ) (costs sets : List ℕ) (q r : ℕ) where
   unfolding prefer is_before
   prefer_less l = rw (lt-ltb (get_or costs q 0) (get_or costs r 0) l)
 
-  pub prefer_more : get_or costs r 0 ≤ get_or costs q 0 → (get_or costs q 0 ≡ get_or costs r 0 → ⊥) → r ≡ prefer w costs sets q r
+  pub prefer_more : get_or costs r 0 ≤ get_or costs q 0 → (get_or costs q 0 ≡ get_or costs r 0 → ⊥)
+      → r ≡ prefer w costs sets q r
   unfolding prefer is_before
   prefer_more l d = rw (le-ltb (get_or costs q 0) (get_or costs r 0) l, ne_eqb (get_or costs q 0) (get_or costs r 0) d)
 
-  pub prefer_first : get_or costs q 0 ≡ get_or costs r 0 → ltb (set_in w sets q) (set_in w sets r) ≡ true → q ≡ prefer w costs sets q r
+  pub prefer_first : get_or costs q 0 ≡ get_or costs r 0 → ltb (set_in w sets q) (set_in w sets r) ≡ true
+      → q ≡ prefer w costs sets q r
   unfolding prefer is_before
   prefer_first d e = rw (le-ltb (get_or costs q 0) (get_or costs r 0) (omega arith), eq-eqb (get_or costs q 0) (get_or costs r 0) d, e)
 
-  pub prefer_last : get_or costs q 0 ≡ get_or costs r 0 → ltb (set_in w sets q) (set_in w sets r) ≡ false → r ≡ prefer w costs sets q r
+  pub prefer_last : get_or costs q 0 ≡ get_or costs r 0 → ltb (set_in w sets q) (set_in w sets r) ≡ false
+      → r ≡ prefer w costs sets q r
   unfolding prefer is_before
   prefer_last d e = rw (le-ltb (get_or costs q 0) (get_or costs r 0) (omega arith), eq-eqb (get_or costs q 0) (get_or costs r 0) d, e)
 

@@ -11,7 +11,12 @@ ghost use Rattle.single_lead.specs.Rows.{set_in, prefer, reached};
 ghost use Rattle.single_lead.specs.Live.{counted};
 ghost use Rattle.single_lead.specs.Lead.{end_of, Renewed, Led};
 
-// No cost: nothing covers.
+mod listed;
+
+pub use listed::Bids;
+
+// No cost: nothing covers. The largest word and no `Option`: lists of costs have it for each cell and bid, where it would take twice the
+// memory, and the definitions `cost_in` and `plus_price` speak of such words.
 pub const NONE: u64 = 18446744073709551615;
 
 // A cost with one price more.
@@ -62,9 +67,7 @@ fn stands(sets: &[u64], w: usize, q: usize, r: usize) -> bool
     requires { (q * w + w ≤ length sets.now) × (r * w + w ≤ length sets.now) }
     ensures { result ≡ ltb (set_in w sets.now q) (set_in w sets.now r) }
 {
-    let mut j: usize = w;
-    while j > 0 {
-        j -= 1;
+    for j in (0..w).rev() {
         let x = sets[q * w + j];
         let y = sets[r * w + j];
         if x < y {
@@ -88,10 +91,8 @@ fn lighter(costs: &[u64], sets: &[u64], w: usize, q: usize, r: usize) -> usize
     if x < y {
         return q;
     }
-    if x == y {
-        if stands(sets, w, q, r) {
-            return q;
-        }
+    if x == y && stands(sets, w, q, r) {
+        return q;
     }
     r
 }
@@ -111,15 +112,14 @@ fn consider(
         × (r * w + w ≤ length sets.now) }
     ensures { result ≡ reached start end t (prefer w costs.now sets.now q r) r }
 {
-    if start < t {
-        if t <= end {
-            return lighter(costs, sets, w, q, r);
-        }
+    if start < t && t <= end {
+        return lighter(costs, sets, w, q, r);
     }
     r
 }
 
-// The bid that leads and its row, its cost, the last cell up to which it leads, and how many bids still reach.
+// The bid that leads, as its row, its cost, the last cell up to which it leads, and how many bids still reach. The row is `n` for none
+// and no `Option`: the lists have a row `n`, with no cost and no set, which is compared and read as any other.
 #[derive(Clone, Copy)]
 pub struct Lead {
     pub row: usize,
@@ -149,21 +149,17 @@ fn renew(
 {
     let mut x: usize = 0;
     let mut r = n;
-    let mut j: usize = 0;
-    while j < m {
+    for j in 0..m {
         let i = live[j];
         live[x] = i;
         let e = ends[i];
         x = count(e, t, x);
         r = consider(starts[i], e, t, costs, sets, w, i, r);
-        j += 1;
     }
-    let end = end_of(ends, n, r);
-    let cost = costs[r];
     Lead {
         row: r,
-        cost: cost,
-        end: end,
+        cost: costs[r],
+        end: end_of(ends, n, r),
         live: x,
     }
 }
@@ -180,7 +176,8 @@ pub fn lead_at(
     lead: Lead,
     t: u64,
 ) -> Lead
-    requires live_in_bounds { (lead.live ≤ length live.old) × (lead.live < 1000000) × (n < length costs.now) × (n ≤ length starts.now)
+    requires live_in_bounds { (lead.live ≤ length live.old) × (lead.live < 1000000) × (n < length costs.now)
+        × (n ≤ length starts.now)
         × (n ≤ length ends.now) × (n * w + w ≤ length sets.now) }
     requires by_index { (j : ℕ) → j < lead.live → get_or live.old j 0 < n }
     requires n_value { (get_or costs.now n 0 ≡ 18446744073709551615) × (set_in w sets.now n ≡ 0) }

@@ -106,7 +106,8 @@ cost_entry k a b ps i c f e = go (eqb i k)
 
 -- a value for bid i as well
 value_more : (k : ℕ) (a b ps costs : List ℕ) (i v : ℕ) → i < length costs → cost_in v ≡ end_cost k a b ps i → (z : ℕ)
-    → ((z ≡ i → ⊥) → cost_in (get_or costs z 0) ≡ end_cost k a b ps z) → cost_in (get_or (set costs i v) z 0) ≡ end_cost k a b ps z
+    → ((z ≡ i → ⊥) → cost_in (get_or costs z 0) ≡ end_cost k a b ps z)
+    → cost_in (get_or (set costs i v) z 0) ≡ end_cost k a b ps z
 value_more k a b ps costs i v l e z f = go (eqb z i) refl
   where
     go : (s : Bool) → eqb z i ≡ s → cost_in (get_or (set costs i v) z 0) ≡ end_cost k a b ps z
@@ -134,7 +135,10 @@ module _ (k : ℕ) (a b ps order costs live : List ℕ) (h : Bids a b ps order) 
     low = omega (arith, g.least.low);
     lead = leading_more (cost_without k a b ps) (cost_in c) a b ps order live g.least.at q m r c end u g.least.lead;
     values = λ z y. value_more k a b ps costs i v (omega (arith, mine)) value z (λ n. g.values z (on_more live m i z u y n));
-    done = λ j d e. value_more k a b ps costs i v (omega (arith, mine)) value (get_or order j 0) (λ n. done j d (by j e n (eqb j q) refl));
+    done = λ j d e. value_more k a b ps costs i v (omega (
+      arith,
+      mine,
+    )) value (get_or order j 0) (λ n. done j d (by j e n (eqb j q) refl));
     guard = get_or-set_other costs i (length ps) v 0 (λ e. omega (arith, mine)) ∙ guard;
   }
     where

@@ -2,12 +2,9 @@
 #![tactic(auto)]
 
 ghost use Rattle.std.specs.Prelude.{◌≡◌, ◌+◌, ◌-◌, ◌<◌, ◌≤◌, get_or, length};
-ghost use Rattle.tender.specs.Limits.{max_entries};
-ghost use Rattle.cover.specs.CriticalPrice.{sum};
-ghost use Rattle.cover.specs.Intervals.Bids.{Bids};
 ghost use Rattle.single_run.specs.Run.{entry, Running, Ran};
 
-use single_lead::{Lead, NONE, add_price, lead_at};
+use single_lead::{Bids, Lead, NONE, add_price, lead_at};
 
 // No sets: costs alone count.
 const NO_SETS: [u64; 0] = [];
@@ -25,10 +22,7 @@ fn entry(i: usize, skip: usize, cost: u64, price: u64) -> u64
 
 // The bid at position `q` gets its cost from the lead.
 fn step(
-    starts: &[u64],
-    ends: &[u64],
-    prices: &[u64],
-    order: &[usize],
+    bids: Bids,
     live: &mut [usize],
     costs: &mut [u64],
     skip: usize,
@@ -37,38 +31,37 @@ fn step(
     stop: u64,
     lead: Lead,
 ) -> Lead
-    requires bids { Bids starts.now ends.now prices.now order.now }
-    requires prices_len_bound { (length prices.now ≤ max_entries) × (length prices.now ≤ length order.now)
-        × (length prices.now ≤ length live.old)
-        × (length prices.now < length costs.old) }
-    requires q_in_bounds { (q < length prices.now) × (sum prices.now < 18446744073709551615)
-        × (get_or starts.now (get_or order.now q 0) 0 < stop) }
-    requires running { Running skip starts.now ends.now prices.now order.now costs.old live.old from q lead.live lead.row
-        lead.cost lead.end stop }
-    ensures { Running skip starts.now ends.now prices.now order.now
-        costs.new
-        live.new from (q + 1) result.live result.row result.cost result.end stop }
+    requires room { (length bids.prices.now ≤ length live.old) × (length bids.prices.now < length costs.old) }
+    requires q_in_bounds { (q < length bids.prices.now) × (get_or bids.starts.now (get_or bids.order.now q 0) 0 < stop) }
+    requires running { Running skip bids.starts.now bids.ends.now bids.prices.now bids.order.now costs.old live.old from q
+        lead.live lead.row lead.cost lead.end stop }
+    ensures { Running skip bids.entry.starts.now bids.entry.ends.now bids.entry.prices.now bids.entry.order.now costs.new live.new
+        from (q + 1) result.live result.row result.cost result.end stop }
 {
-    let n = prices.len();
-    let i = order[q];
-    let z = lead_at(starts, ends, live, costs, &NO_SETS, 0, n, lead, starts[i]);
-    let m = z.live;
-    costs[i] = entry(i, skip, z.cost, prices[i]);
-    live[m] = i;
+    let n = bids.prices.len();
+    let i = bids.order[q];
+    let z = lead_at(
+        bids.starts,
+        bids.ends,
+        live,
+        costs,
+        &NO_SETS,
+        0,
+        n,
+        lead,
+        bids.starts[i],
+    );
+    costs[i] = entry(i, skip, z.cost, bids.prices[i]);
+    live[z.live] = i;
     Lead {
-        row: z.row,
-        cost: z.cost,
-        end: z.end,
-        live: m + 1,
+        live: z.live + 1,
+        ..z
     }
 }
 
 // The costs without bid `skip` of the bids from position `from` on that begin before `stop`: how many bids of `live` reach then.
 pub fn run(
-    starts: &[u64],
-    ends: &[u64],
-    prices: &[u64],
-    order: &[usize],
+    bids: Bids,
     live: &mut [usize],
     costs: &mut [u64],
     skip: usize,
@@ -76,33 +69,26 @@ pub fn run(
     len: usize,
     stop: u64,
 ) -> usize
-    requires bids { Bids starts.now ends.now prices.now order.now }
-    requires prices_len_bound { (length prices.now ≤ max_entries) × (length prices.now ≤ length order.now)
-        × (length prices.now ≤ length live.old)
-        × (length prices.now < length costs.old) }
-    requires from_in_bounds { (from ≤ length prices.now) × (sum prices.now < 18446744073709551615) }
-    requires running { Running skip starts.now ends.now prices.now order.now costs.old live.old from from len
-        (length prices.now) 0 0 stop }
-    ensures { Ran skip starts.now ends.now prices.now order.now costs.new
+    requires room { (length bids.prices.now ≤ length live.old) × (length bids.prices.now < length costs.old) }
+    requires from_in_bounds { from ≤ length bids.prices.now }
+    requires running { Running skip bids.starts.now bids.ends.now bids.prices.now bids.order.now costs.old live.old from from len
+        (length bids.prices.now) 0 0 stop }
+    ensures { Ran skip bids.entry.starts.now bids.entry.ends.now bids.entry.prices.now bids.entry.order.now costs.new
         live.new from stop result }
 {
-    let n = prices.len();
+    let n = bids.prices.len();
     let mut lead = Lead {
         row: n,
         cost: 0,
         end: 0,
         live: len,
     };
-    let mut q = from;
-    while q < n {
-        let i = order[q];
-        if stop <= starts[i] {
+    for q in from..n {
+        let i = bids.order[q];
+        if stop <= bids.starts[i] {
             return lead.live;
         }
-        lead = step(
-            starts, ends, prices, order, live, costs, skip, from, q, stop, lead,
-        );
-        q += 1;
+        lead = step(bids, live, costs, skip, from, q, stop, lead);
     }
     lead.live
 }

@@ -6,7 +6,7 @@ use Rattle.single_lead.specs.Rows.{set_in}
 abbrev pub Off : ℕ → ℕ → Type 0
 Off q x = q * 16 ≤ x → x < q * 16 + 16 → ⊥
 
--- the words below j of setIn 16 q are those of setIn `from`
+-- the words below j of row q are those of row `from`
 pub record Copied (old new : List ℕ) (from q j : ℕ) : Type 0 where
   pub sized : length new ≡ length old
   pub kept : (x : ℕ) → Off q x → get_or new x 0 ≡ get_or old x 0

@@ -1,7 +1,8 @@
 -- Laws of rows of words that are written: bits, a row copied, a bid added. Assumes nothing.
-use Rattle.std.specs.Prelude.{◌≡◌, refl, Bool, true, false, List, ℕ, zero, suc, ◌+◌, ◌*◌, ◌/◌, ◌%◌, ◌^◌, ◌≤◌, ◌<◌, eqb, length, get_or, set}
+use Rattle.std.specs.Prelude.{◌≡◌, refl, Bool, true, false, List, ℕ, zero, suc, ◌+◌, ◌*◌, ◌/◌, ◌%◌, ◌^◌}
+use Rattle.std.specs.Prelude.{◌≤◌, ◌<◌, eqb, length, get_or, set}
 use Rattle.std.proofs.Common.{sym, ap, ◌∙◌, mul_assoc, pow-suc, arith, length-set, get_or-set_same, get_or-set_other, eqb-true}
-use Rattle.std.proofs.Math.Nat.{pow-le-pow_right, div-div-eq-div-mul, pow-succ'}
+use Rattle.std.proofs.Math.Nat.{div-div-eq-div-mul, pow-succ'}
 use Rattle.std.proofs.lemmas.Bool.{eqb-false}
 use Rattle.cover.specs.Sets.{bit, when}
 use Rattle.cover.proofs.SetMemberLaws.{add_below}
@@ -54,9 +55,6 @@ bit_shift zero s = go (eqb (s % 2) 1) refl
     go false e = omega (arith, eqb-false (s % 2) 1 e)
 bit_shift (suc i) s = ap (λ x. x % 2) (ap (λ x. s / x) (pow-succ' 2 i) ∙ sym (div-div-eq-div-mul s 2 (2 ^ i))) ∙ bit_shift i (s / 2)
 
-pub one_shifted : (r : ℕ) → r < 64 → 1 * 2 ^ r % 18446744073709551616 ≡ 2 ^ r
-one_shifted r l = omega (arith, pow-le-pow_right {n = 2} (omega arith) {i = r} {j = 63} (omega arith))
-
 -- words
 
 bit_words : (m : ℕ) (f : ℕ → ℕ) → ((j : ℕ) → j < m → f j < 18446744073709551616) → (j r : ℕ) → j < m → r < 64
@@ -97,17 +95,7 @@ row_same : (xs ys : List ℕ) (p q : ℕ) → ((j : ℕ) → j < 16 → get_or x
 unfolding set_in
 row_same xs ys p q h = words_same 16 (λ j. get_or xs (p * 16 + j) 0) (λ j. get_or ys (q * 16 + j) 0) h
 
-pub cleared_more : (xs : List ℕ) (q j : ℕ) → q * 16 + j < length xs → ((i : ℕ) → i < j → get_or xs (q * 16 + i) 0 ≡ 0)
-    → (i : ℕ) → i < j + 1
-    → get_or (set xs (q * 16 + j) 0) (q * 16 + i) 0 ≡ 0
-cleared_more xs q j l h i d = go (eqb i j) refl
-  where
-    go : (t : Bool) → eqb i j ≡ t → get_or (set xs (q * 16 + j) 0) (q * 16 + i) 0 ≡ 0
-    go true e = rw (eqb-true i j e) (get_or-set_same xs (q * 16 + j) 0 0 l)
-    go false e = get_or-set_other xs (q * 16 + j) (q * 16 + i) 0 0 (λ z. eqb-false i j e (omega arith))
-        ∙ h i (omega (arith, eqb-false i j e))
-
--- a setIn 16 of which no place was written
+-- a row of which no place was written
 pub row_kept : (old new : List ℕ) (i q : ℕ) → (q ≡ i → ⊥) → ((x : ℕ) → Off i x → get_or new x 0 ≡ get_or old x 0)
     → set_in 16 new q ≡ set_in 16 old q
 row_kept old new i q d h = row_same new old q q (λ j l. h (q * 16 + j) (λ u v. d (omega arith)))
@@ -132,31 +120,7 @@ word_room sets q i f l e =
     (sym (bit_words 16 (λ j. get_or sets (q * 16 + j) 0) (λ j d. f (q * 16 + j)) (i / 64) (i % 64) (omega arith) (omega arith))
     ∙ ap (bit (set_in 16 sets q)) z ∙ e) (f (q * 16 + i / 64))
 
--- a row copied
-
-pub copied_none : (old : List ℕ) (from q : ℕ) → Copied old old from q 0
-copied_none old from q = record { sized = refl; kept = λ x l. refl; written = λ i l. absurd (omega arith) }
-
-pub copied_more : (old new : List ℕ) (from q j : ℕ) → (from ≡ q → ⊥) → j < 16 → q * 16 + 16 ≤ length old
-    → Copied old new from q j
-    → Copied old (set new (q * 16 + j) (get_or new (from * 16 + j) 0)) from q (j + 1)
-copied_more old new from q j n u l h = record {
-  sized = length-set new (q * 16 + j) (get_or new (from * 16 + j) 0) ∙ h.sized;
-  kept = λ x d. get_or-set_other new (q * 16 + j) x (get_or new (from * 16 + j) 0) 0 (λ e. d (omega arith) (omega arith)) ∙ h.kept x d;
-  written = λ i d. go i d (eqb i j) refl;
-}
-  where
-    word : get_or new (from * 16 + j) 0 ≡ get_or old (from * 16 + j) 0
-    word = h.kept (from * 16 + j) (λ d e. n (omega arith))
-
-    go : (i : ℕ) → i < j + 1 → (t : Bool) → eqb i j ≡ t
-        → get_or (set new (q * 16 + j) (get_or new (from * 16 + j) 0)) (q * 16 + i) 0
-        ≡ get_or old (from * 16 + i) 0
-    go i d true e = rw (eqb-true i j e) (get_or-set_same new (q * 16 + j) (get_or new (from * 16 + j) 0) 0 (omega (arith, h.sized)) ∙ word)
-    go i d false e = get_or-set_other new (q * 16 + j) (q * 16 + i) (get_or new (from * 16 + j) 0) 0 (λ z. eqb-false i j e (omega arith))
-        ∙ h.written i (omega (arith, eqb-false i j e))
-
--- and with bid i put into its word
+-- a row copied, and bid i put into its word
 pub row_extended : (old new : List ℕ) (from i : ℕ) → i < 1024 → i * 16 + 16 ≤ length old → Copied old new from i 16
     → Extended old (set new (i * 16 + i / 64) (get_or new (i * 16 + i / 64) 0 + 2 ^ (i % 64))) from i (2 ^ i)
 unfolding set_in

@@ -37,8 +37,8 @@ pub record Weighed (a b ps costs sets : List ℕ) (L r c : ℕ) : Type 0 where
   pub costs_are : (i : ℕ) → i < length ps → cost_in (get_or costs i 0) ≡ raise (get_or ps i 0) (cost_below a b ps (get_or a i 0))
 
 -- what the selection leaves: a flag for each bid, the cost of each bid with what comes before it, and the winners' cost
-pub record Selected (a b ps costs old_won new-won : List ℕ) (L all : ℕ) : Type 0 where
-  pub flags : new-won ≡ listed (length ps) (λ i. when (bit (winners (covers (spans a b) (length ps) L) ps) i) 1)
+pub record Selected (a b ps costs old_won new_won : List ℕ) (L all : ℕ) : Type 0 where
+  pub flags : new_won ≡ listed (length ps) (λ i. when (bit (winners (covers (spans a b) (length ps) L) ps) i) 1)
       ++ drop (length ps) old_won
   pub costs_are : (i : ℕ) → i < length ps → cost_in (get_or costs i 0) ≡ raise (get_or ps i 0) (cost_below a b ps (get_or a i 0))
   pub all_is : all ≡ cost ps (winners (covers (spans a b) (length ps) L) ps)

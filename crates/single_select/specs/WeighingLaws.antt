@@ -48,7 +48,8 @@ plus_costs a b ps i l = cost_plus (length ps) 0 (get_or a i 0) (λ i. get_or a i
 
 -- the beginning
 
-pub weighing_none : (a b ps order costs sets live : List ℕ) → get_or costs (length ps) 0 ≡ no_cost → set_in 16 sets (length ps) ≡ 0
+pub weighing_none : (a b ps order costs sets live : List ℕ) → get_or costs (length ps) 0 ≡ no_cost
+    → set_in 16 sets (length ps) ≡ 0
     → Weighing a b ps order costs sets live 0 0 (length ps) 0 0
 unfolding weigh cost_in found_cost
 weighing_none a b ps order costs sets live e z = record {
@@ -87,7 +88,8 @@ module _ (a b ps order costs sets : List ℕ) (h : Bids a b ps order) (old live 
       (λ i d u e. let y = all i d u in rw y.is at (g.lead.reach.every y.place y.inside (rw y.is (omega arith))))
       (λ j d u. (done_at j d).is)
 
-  least_stays : (r u : ℕ) → (r ≡ length ps → ⊥) → Seen 16 a b old costs sets (length ps) t m r → t ≤ u → u ≤ get_or b r 0
+  least_stays : (r u : ℕ) → (r ≡ length ps → ⊥) → Seen 16 a b old costs sets (length ps) t m r → t ≤ u
+      → u ≤ get_or b r 0
       → weight 16 costs sets r ≡ least_below a b ps t → weight 16 costs sets r ≡ least_below a b ps u
   unfolding least_below
   least_stays r u n s x y q =
@@ -102,7 +104,8 @@ module _ (a b ps order costs sets : List ℕ) (h : Bids a b ps order) (old live 
   led_row = record {
     least = led_ready (least_below a b ps) (λ c r. weigh c (set_in 16 sets r)) 16 a b ps order costs sets old k t m later least_found
         least_stays live g.at r c end r' c' end' m' l g.lead v;
-    honest = led_keeps (λ c r. cost_in c ≡ found_cost (cost ps) (weigh c (set_in 16 sets r))) 16 a b costs sets old live (length ps) t m r c
+    honest = led_keeps (λ c r. cost_in c
+        ≡ found_cost (cost ps) (weigh c (set_in 16 sets r))) 16 a b costs sets old live (length ps) t m r c
         end r' c' end' m' g.honest (λ r s. (s.lightest (cost ps) (λ j d. (done_at j d).honest)).0) v;
   }
 

@@ -1,12 +1,11 @@
 -- The lines of a text as it is spelt read back. Assumes nothing.
-use Rattle.std.specs.Prelude.{◌≡◌, refl, false, List, [], ◌∷◌, ◌++◌, map, ℕ, ◌<◌}
+use Rattle.std.specs.Prelude.{◌≡◌, refl, false, List, [], ◌∷◌, ◌++◌, map, ℕ, ◌<◌, Some, None}
 use Rattle.std.proofs.Common.{ap, ◌∙◌, append_assoc, arith}
 use Rattle.std.proofs.Math.Option.{Option, some}
 use Rattle.tender.specs.declared.Kind.{Kind}
 use Rattle.tender.specs.declared.Kind.TheVariants.{Single, Multi}
 use Rattle.tender.specs.declared.Window.{Window}
-use Rattle.tender.specs.declared.Reserve.{Reserve}
-use Rattle.tender.specs.declared.Reserve.TheVariants.{Absent, Price}
+use Rattle.tender.specs.Types.{Reserve}
 use Rattle.tender.specs.declared.Tender.{Tender}
 use Rattle.tender.specs.Limits.{as_window}
 use Rattle.tender.specs.Keywords.{bytes, tender_word, reserve_word, bid_word, single_word, multi_word}
@@ -141,7 +140,7 @@ reserve_words_back : (p : ℕ) → p < 1000000000 → line_of (spaced (one_words
 unfolding line_of line_of_words equal_bytes tender_word bid_word reserve_word bytes one_words reserve_of and_then among
 reserve_words_back p l = rw (one_words_lem reserve_word p refl) (rw (closed_back (decimal p), price_decimal p l))
 
-reserve_back : (p : ℕ) → p < 1000000000 → Read (reserve_text (Price p)) (reserve p)
+reserve_back : (p : ℕ) → p < 1000000000 → Read (reserve_text (Some p)) (reserve p)
 unfolding reserve_text reserve_word bytes among
 reserve_back p l = record {
   words = spaced (one_words reserve_word (decimal p));
@@ -150,7 +149,8 @@ reserve_back p l = record {
 }
 
 -- a line that reads back, before pieces of which there is a first
-first_line_lem : (line rest : List ℕ) (x : Line) → Read line x → lines_of (cut 10 (line ++ rest)) ≡ some x ∷ lines_of (cut 10 rest)
+first_line_lem : (line rest : List ℕ) (x : Line) → Read line x
+    → lines_of (cut 10 (line ++ rest)) ≡ some x ∷ lines_of (cut 10 rest)
 unfolding lines_of
 first_line_lem line rest x r = rw (r.cuts rest, (cut_some 10 rest).are, r.is)
 
@@ -168,14 +168,14 @@ bids_back (b ∷ bs) h =
 
 -- a reserve that a text may name
 abbrev pub NamedReserve : Reserve → Type 0
-NamedReserve Absent = Unit {0}
-NamedReserve (Price p) = p < 1000000000
+NamedReserve None = Unit {0}
+NamedReserve (Some p) = p < 1000000000
 
 reserve_first : (r : Reserve) (rest : List ℕ) → NamedReserve r
     → lines_of (cut 10 (reserve_text r ++ rest)) ≡ map (λ x. some x) (reserve_lines r) ++ lines_of (cut 10 rest)
 unfolding reserve_text reserve_lines
-reserve_first Absent rest h = refl
-reserve_first (Price p) rest h = first_line_lem (reserve_text (Price p)) rest (reserve p) (reserve_back p h)
+reserve_first None rest h = refl
+reserve_first (Some p) rest h = first_line_lem (reserve_text (Some p)) rest (reserve p) (reserve_back p h)
 
 -- the whole text's lines, whatever its length
 pub text_back : (t : Tender) (bs : List BidLine) → Named (as_window t.window) → NamedReserve t.reserve → AllNameable bs

@@ -1,5 +1,6 @@
 -- Numbers in base ten: they read back, how many digits they have, and that a number has one spelling. Assumes nothing.
-use Rattle.std.specs.Prelude.{◌≡◌, refl, Bool, true, false, cond, not, ◌&&◌, List, [], ◌∷◌, ◌++◌, ℕ, zero, suc, ◌+◌, ◌-◌, ◌*◌, ◌/◌, ◌%◌, ◌^◌, ◌≤◌, ◌<◌, length, leb, ltb}
+use Rattle.std.specs.Prelude.{◌≡◌, refl, Bool, true, false, cond, not, ◌&&◌, List, [], ◌∷◌, ◌++◌, ℕ, zero, suc}
+use Rattle.std.specs.Prelude.{◌+◌, ◌-◌, ◌*◌, ◌/◌, ◌%◌, ◌^◌, ◌≤◌, ◌<◌, length, leb, ltb}
 use Rattle.std.proofs.Common.{sym, ap, ◌∙◌, append-nil, pow-suc, arith, ltb-true, ltb-false, le-leb, lt-ltb, le-ltb, leb-true, ne_eqb}
 use Rattle.std.proofs.Math.Option.{none, some}
 use Rattle.std.proofs.lemmas.Bool.{eqb-false, not-true}
@@ -86,7 +87,8 @@ unfolding digits_before
 digits_lead zero n done l p = absurd (omega arith)
 digits_lead (suc f) n done l p = go (ltb n 10) refl (digits_lead f (n / 10) ((48 + n % 10) ∷ done))
   where
-    go : (b : Bool) → ltb n 10 ≡ b → (n / 10 < 10 ^ f → 0 < n / 10 → Leads (digits_before f (n / 10) ((48 + n % 10) ∷ done))) →
+    go : (b : Bool) → ltb n 10 ≡ b
+        → (n / 10 < 10 ^ f → 0 < n / 10 → Leads (digits_before f (n / 10) ((48 + n % 10) ∷ done))) →
         Leads (cond b ((48 + n % 10) ∷ done) (digits_before f (n / 10) ((48 + n % 10) ∷ done)))
     go true e ih = omega (arith, ltb-true n 10 e)
     go false e ih = ih (omega (arith, pow-suc 10 f)) (omega (arith, ltb-false n 10 e))

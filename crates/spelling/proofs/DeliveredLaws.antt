@@ -1,6 +1,6 @@
 -- Bytes made in a buffer of their own are copied into the lent one where there is room, and else nothing is. Assumes nothing.
 use Rattle.std.specs.Prelude.{◌≡◌, Bool, true, false, cond, List, ◌++◌, ℕ, ◌≤◌, ◌<◌, length, take, drop, leb}
-use Rattle.std.proofs.Common.{sym, ap, ◌∙◌, arith, le-leb}
+use Rattle.std.proofs.Common.{ap, sym, ◌∙◌, arith, le-leb}
 use Rattle.std.proofs.Math.Seq.{take-append_seam}
 use Rattle.std.proofs.lemmas.Bool.{lt-leb}
 use Rattle.spelling.specs.Written.{Written}
@@ -41,8 +41,5 @@ module _ {made mid line : List ℕ} {n : ℕ} (w : Written made 0 line mid n) wh
   pub line_size : length (take n mid) ≡ n
   line_size = omega (arith, ap length line_is, w.next)
 
-  pub line_none : {old : List ℕ} → length old < n → Delivered line old old 0
-  line_none {old} l = delivered_none line old (omega (arith, w.next))
-
-  pub line_all : {old new : List ℕ} {r : ℕ} → n ≤ length old → Written old 0 (take n mid) new r → Delivered line old new r
-  line_all l v = delivered_all (omega (arith, w.next)) (rw line_is at v)
+  pub line_delivered : {old new : List ℕ} {r : ℕ} → Delivered (take n mid) old new r → Delivered line old new r
+  line_delivered d = rw line_is at d

@@ -1,8 +1,9 @@
 -- How a price may be written: in whole cents, or with a point; and that whole cents are no longer. Assumes nothing.
-use Rattle.std.specs.Prelude.{◌≡◌, refl, ◌⊎◌, List, [], ◌∷◌, ◌++◌, ℕ, suc, ◌+◌, ◌-◌, ◌*◌, ◌/◌, ◌%◌, ◌^◌, ◌≤◌, ◌<◌, length}
-use Rattle.std.proofs.Common.{sym, ap, ◌∙◌, inl, inr, pow-suc, arith, length-append}
+use Rattle.std.specs.Prelude.{◌≡◌, refl, ◌⊎◌, List, [], ◌∷◌, ◌++◌, ℕ, suc, ◌+◌, ◌-◌, ◌*◌, ◌/◌}
+use Rattle.std.specs.Prelude.{◌%◌, ◌^◌, ◌≤◌, ◌<◌, length}
+use Rattle.std.proofs.Common.{ap, ◌∙◌, inl, inr, pow-suc, arith, length-append}
 use Rattle.std.proofs.Math.Option.{some}
-use Rattle.reader_parts.specs.Words.{digits, price_of}
+use Rattle.reader_parts.specs.Words.{price_of}
 use Rattle.reader_parts.proofs.DigitsLaws.{inside}
 use Rattle.reader_parts.proofs.NumberFrontLaws.{within_both}
 use Rattle.reader_parts.proofs.NumberSizeLaws.{number_below, number_most, number_small}

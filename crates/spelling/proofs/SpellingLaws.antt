@@ -1,5 +1,6 @@
 -- A number spelt from its last digit to its first, and the parts of a line one after the other. Assumes nothing.
-use Rattle.std.specs.Prelude.{◌≡◌, refl, cond, List, [], ◌∷◌, ℕ, zero, suc, ◌+◌, ◌-◌, ◌/◌, ◌%◌, ◌^◌, ◌≤◌, ◌<◌, length, take, drop, set}
+use Rattle.std.specs.Prelude.{◌≡◌, refl, cond, List, [], ◌∷◌, ℕ, zero, suc, ◌+◌, ◌-◌, ◌/◌, ◌%◌, ◌^◌}
+use Rattle.std.specs.Prelude.{◌≤◌, ◌<◌, length, take, drop, set}
 use Rattle.std.proofs.Common.{sym, ap, subst, ◌∙◌, append-nil, pow-suc, arith, length-set, lt-ltb, le-ltb}
 use Rattle.std.proofs.Math.Seq.{drop-length}
 use Rattle.tender.specs.declared.Kind.{Kind}

@@ -1,8 +1,7 @@
 -- With its prices in cents a text is no longer than in any other spelling of them. Assumes nothing.
-use Rattle.std.specs.Prelude.{◌≡◌, List, [], ◌∷◌, ◌++◌, ℕ, ◌+◌, ◌≤◌, length}
+use Rattle.std.specs.Prelude.{◌≡◌, List, [], ◌∷◌, ◌++◌, ℕ, ◌+◌, ◌≤◌, length, Some, None}
 use Rattle.std.proofs.Common.{ap, arith, length-append}
-use Rattle.tender.specs.declared.Reserve.{Reserve}
-use Rattle.tender.specs.declared.Reserve.TheVariants.{Absent, Price}
+use Rattle.tender.specs.Types.{Reserve}
 use Rattle.tender.specs.declared.Tender.{Tender}
 use Rattle.tender.specs.Keywords.{bytes, reserve_word}
 use Rattle.reader_forms.specs.Line.{BidLine}
@@ -48,8 +47,8 @@ one_bytes word p = omega (
 
 reserve_short : (s : List ℕ) (r : Reserve) → SpeltReserve s r → length (reserve_text r) ≤ length s
 unfolding reserve_text one_line
-reserve_short s Absent e = omega (arith, ap length e)
-reserve_short s (Price v) (p, h, e) =
+reserve_short s None e = omega (arith, ap length e)
+reserve_short s (Some v) (p, h, e) =
     omega (arith, ap length e, one_bytes reserve_word p, one_bytes reserve_word (decimal v), price_short p v h)
 
 pub spelt_short : (text : List ℕ) (t : Tender) (bs : List BidLine) → Spelt text t bs → length (text_of t bs) ≤ length text

@@ -1,8 +1,7 @@
 -- A bid text up to the spelling of its prices: each price is written by some word that is read as it, all else is spelt in one way.
-use Rattle.std.specs.Prelude.{◌≡◌, List, [], ◌∷◌, ◌++◌, ℕ}
+use Rattle.std.specs.Prelude.{◌≡◌, List, [], ◌∷◌, ◌++◌, ℕ, Some, None}
 use Rattle.std.proofs.Math.Option.{some}
-use Rattle.tender.specs.declared.Reserve.{Reserve}
-use Rattle.tender.specs.declared.Reserve.TheVariants.{Absent, Price}
+use Rattle.tender.specs.Types.{Reserve}
 use Rattle.tender.specs.declared.Tender.{Tender}
 use Rattle.tender.specs.Keywords.{reserve_word}
 use Rattle.reader_parts.specs.Words.{price_of}
@@ -18,8 +17,8 @@ SpeltBids s (b ∷ bs) =
 
 -- the reserve's line, where there is one, its price written so too
 abbrev pub SpeltReserve : List ℕ → Reserve → Type 0
-SpeltReserve s Absent = s ≡ []
-SpeltReserve s (Price v) = (p : List ℕ) × (price_of p ≡ some v) × (s ≡ one_line_as reserve_word p)
+SpeltReserve s None = s ≡ []
+SpeltReserve s (Some v) = (p : List ℕ) × (price_of p ≡ some v) × (s ≡ one_line_as reserve_word p)
 
 -- the text of a tender and its bids, up to the spelling of prices
 pub record Spelt (text : List ℕ) (t : Tender) (bs : List BidLine) : Type 0 where

@@ -1,8 +1,7 @@
 -- The bid text of a tender and its bids, as bytes (paper 01, "The bid text").
-use Rattle.std.specs.Prelude.{List, [], ◌∷◌, ◌++◌, ℕ}
+use Rattle.std.specs.Prelude.{List, [], ◌∷◌, ◌++◌, ℕ, Some, None}
 use Rattle.tender.specs.declared.Window.{Window}
-use Rattle.tender.specs.declared.Reserve.{Reserve}
-use Rattle.tender.specs.declared.Reserve.TheVariants.{Absent, Price}
+use Rattle.tender.specs.Types.{Reserve}
 use Rattle.tender.specs.declared.Tender.{Tender}
 use Rattle.tender.specs.Keywords.{bytes, reserve_word}
 use Rattle.tender.specs.Tables.{Row, own}
@@ -45,8 +44,8 @@ tender_text t = bytes "(tender " ++ (kind_word t.kind ++ numbers t.window.start 
 -- "(reserve PRICE)" and byte 10, where there is a reserve
 unfoldable pub reserve_text : Reserve → List ℕ
 unfolding one_line reserve_word
-reserve_text Absent = []
-reserve_text (Price p) = one_line reserve_word p
+reserve_text None = []
+reserve_text (Some p) = one_line reserve_word p
 
 -- the lines before the bids: the tender's, and its reserve's
 unfoldable pub head_text : Tender → List ℕ

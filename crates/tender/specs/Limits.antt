@@ -1,11 +1,10 @@
 -- The limits of paper 01, "Time, price and place", and the rules of a window and of a tender.
-use Rattle.std.specs.Prelude.{ℕ, Bool, true, false, ◌&&◌, List, [], ◌∷◌, leb, ltb}
+use Rattle.std.specs.Prelude.{ℕ, Bool, true, false, ◌&&◌, List, [], ◌∷◌, leb, ltb, Some, None}
 use Rattle.tender.specs.declared.Kind.{Kind}
 use Rattle.tender.specs.declared.Kind.TheVariants.{Single, Multi}
 use Rattle.tender.specs.declared.Span.{Span}
 use Rattle.tender.specs.declared.Window.{Window}
-use Rattle.tender.specs.declared.Reserve.{Reserve}
-use Rattle.tender.specs.declared.Reserve.TheVariants.{Absent, Price}
+use Rattle.tender.specs.Types.{Reserve}
 use Rattle.tender.specs.declared.Tender.{Tender}
 
 -- a ≤ n ≤ z
@@ -63,8 +62,8 @@ lawful w = ordered w && early w
 
 -- a reserve is a price within its limits
 unfoldable pub lawful_reserve : Reserve → Bool
-lawful_reserve Absent = true
-lawful_reserve (Price p) = leb p max_price
+lawful_reserve None = true
+lawful_reserve (Some p) = leb p max_price
 
 -- the rules of a tender: its own window and its reserve are lawful
 unfoldable pub sound_tender : Tender → Bool

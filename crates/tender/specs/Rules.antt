@@ -1,7 +1,6 @@
 -- The rules of a window and of a tender, said one by one (paper 01, "Time, price and place").
-use Rattle.std.specs.Prelude.{◌≡◌, ℕ, ◌≤◌, ◌<◌}
+use Rattle.std.specs.Prelude.{◌≡◌, ℕ, ◌≤◌, ◌<◌, Some}
 use Rattle.tender.specs.declared.Window.{Window}
-use Rattle.tender.specs.declared.Reserve.TheVariants.{Price}
 use Rattle.tender.specs.declared.Tender.{Tender}
 use Rattle.tender.specs.Limits.{as_window}
 
@@ -11,4 +10,4 @@ pub record WindowRules (w : Window) : Type 0 where
 
 pub record TenderRules (t : Tender) : Type 0 where
   pub window : WindowRules (as_window t.window)
-  pub reserve : (p : ℕ) → t.reserve ≡ Price p → p ≤ 100000000
+  pub reserve : (p : ℕ) → t.reserve ≡ Some p → p ≤ 100000000

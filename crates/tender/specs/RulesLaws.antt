@@ -1,10 +1,9 @@
 -- A window is lawful, and a tender sound, just where each rule is kept. Assumes nothing.
-use Rattle.std.specs.Prelude.{◌≡◌, refl, ℕ, ◌≤◌, Bool, true, false, ◌&&◌, List, ◌∷◌, leb, ltb}
+use Rattle.std.specs.Prelude.{◌≡◌, refl, ℕ, ◌≤◌, Bool, true, false, ◌&&◌, List, ◌∷◌, leb, ltb, Some, None}
 use Rattle.std.proofs.Common.{sym, ap, ◌∙◌, ltb-true, leb-true, lt-ltb, le-leb}
 use Rattle.std.proofs.lemmas.Bool.{false≢true}
 use Rattle.tender.specs.declared.Window.{Window}
-use Rattle.tender.specs.declared.Reserve.{Reserve}
-use Rattle.tender.specs.declared.Reserve.TheVariants.{Absent, Price}
+use Rattle.tender.specs.Types.{Reserve}
 use Rattle.tender.specs.declared.Tender.{Tender}
 use Rattle.tender.specs.Limits.{as_window, lawful, every, lawful_reserve, sound_tender}
 use Rattle.tender.specs.Rules.{WindowRules, TenderRules}
@@ -29,14 +28,14 @@ pub every_split : (test : Window → Bool) (w : Window) (ws : List Window) → e
 unfolding every
 every_split test w ws e = both_true (test w) (every test ws) e
 
-reserve_within : (r : Reserve) → lawful_reserve r ≡ true → (p : ℕ) → r ≡ Price p → p ≤ 100000000
+reserve_within : (r : Reserve) → lawful_reserve r ≡ true → (p : ℕ) → r ≡ Some p → p ≤ 100000000
 unfolding lawful_reserve
 reserve_within r e p q = leb-true p 100000000 (sym (ap lawful_reserve q) ∙ e)
 
-within_reserve : (r : Reserve) → ((p : ℕ) → r ≡ Price p → p ≤ 100000000) → lawful_reserve r ≡ true
+within_reserve : (r : Reserve) → ((p : ℕ) → r ≡ Some p → p ≤ 100000000) → lawful_reserve r ≡ true
 unfolding lawful_reserve
-within_reserve Absent h = refl
-within_reserve (Price p) h = le-leb p 100000000 (h p refl)
+within_reserve None h = refl
+within_reserve (Some p) h = le-leb p 100000000 (h p refl)
 
 pub sound_rules : (t : Tender) → sound_tender t ≡ true → TenderRules t
 unfolding sound_tender

@@ -1,4 +1,4 @@
-// The data that every crate here speaks of: kinds, spans, windows, reserves, tenders, limits, keywords, award rows, answers and refusals.
+// The data that every crate here speaks of: kinds, spans, windows, tenders, limits, keywords, award rows, totals and refusals.
 // No algorithm stands here. `specs/` has what the crates above cite of it: the limits and the rule of a
 // window, the layout of the two tables, the keywords, and each refusal's number and place.
 #![tactic(auto)]
@@ -8,50 +8,44 @@ ghost use Rattle.tender.specs.Plain.{plain_tender};
 ghost use Rattle.tender.specs.Refusals.{number_of, place_of};
 
 // A single tender takes bids of one window each, a multi tender bids of several.
-#[derive(Clone, Copy)]
+#[derive(Clone, Copy, Debug, PartialEq, Eq)]
 pub enum Kind {
     Single,
     Multi,
 }
 
 // What a tender spans: the minutes from `start` to `end` - 1.
-#[derive(Clone, Copy)]
+#[derive(Clone, Copy, Debug, PartialEq, Eq)]
 pub struct Span {
     pub start: u64,
     pub end: u64,
 }
 
 // A window of a bid: the minutes from `start` to `end` - 1.
-#[derive(Clone, Copy)]
+#[derive(Clone, Copy, Debug, PartialEq, Eq)]
 pub struct Window {
     pub start: u64,
     pub end: u64,
 }
 
-// What the house asks for covering the whole tender itself, where it offers to.
-#[derive(Clone, Copy)]
-pub enum Reserve {
-    Absent,
-    Price(u64),
-}
-
-// What is bought: every minute of the tender's own window.
-#[derive(Clone, Copy)]
+// What is bought: every minute of the tender's own window. The reserve is what the house asks for covering the whole tender itself, where
+// it offers to.
+#[derive(Clone, Copy, Debug, PartialEq, Eq)]
 pub struct Tender {
     pub kind: Kind,
     pub window: Span,
-    pub reserve: Reserve,
+    pub reserve: Option<u64>,
 }
 
 // The row that an award fills for a bid: won or lost, and the cents paid.
-#[derive(Clone, Copy)]
+#[derive(Clone, Copy, Debug, PartialEq, Eq)]
 pub struct AwardRow {
     pub won: bool,
     pub cents: u64,
 }
 
 // The winners' cost and the sum paid to owners, in cents, and whether the house is among the winners.
-#[derive(Clone, Copy)]
+#[derive(Clone, Copy, Debug, PartialEq, Eq)]
 pub struct Totals {
     pub cost: u64,
     pub paid: u64,
@@ -60,7 +54,7 @@ pub struct Totals {
 
 // Why a call declines. `line` counts the text's lines from 1; `row` counts the rows of the bid table from 1 and
 // is 0 for the tender; `minute` is a minute of the tender.
-#[derive(Clone, Copy)]
+#[derive(Clone, Copy, Debug, PartialEq, Eq)]
 pub enum Refusal {
     TextTooLong,
     BadForm { line: u64 },
@@ -78,22 +72,6 @@ pub enum Refusal {
     LateWindow { line: u64 },
     ReserveMisplaced { line: u64 },
     NoSuchBidder,
-}
-
-// What an award answers: the totals, or why it declines.
-#[derive(Clone, Copy)]
-pub enum Answer {
-    Awarded(Totals),
-    Refused(Refusal),
-}
-
-// What is answered to who asks with which price a bid would win: the largest such price, that no price would, not even 0, or why the
-// question is declined.
-#[derive(Clone, Copy)]
-pub enum Highest {
-    Price(u64),
-    NoPrice,
-    Refused(Refusal),
 }
 
 // The last end of a window: a week of minutes.
@@ -136,16 +114,14 @@ pub const MULTI: [u8; 5] = *b"multi";
 pub fn plain(kind: Kind, start: u64, end: u64) -> Tender
     ensures { result ≡ plain_tender kind start end }
 {
-    let window = Span { start, end };
-    let reserve = Reserve::Absent;
     Tender {
         kind,
-        window,
-        reserve,
+        window: Span { start, end },
+        reserve: None,
     }
 }
 
-// The refusal's number.
+// The refusal's number. It and the place are two calls that pages name, and no `From`, which would not say which of the two it gives.
 pub fn number(r: Refusal) -> u64
     ensures { result ≡ number_of r }
 {

@@ -1,9 +1,8 @@
 -- Tenders with a reserve and the near misses of paper 02's request 5, by computation. Assumes nothing.
-use Rattle.std.specs.Prelude.{◌≡◌, refl, List, [], ◌∷◌, ◌++◌, Bool, true, false, ℕ}
+use Rattle.std.specs.Prelude.{◌≡◌, refl, List, [], ◌∷◌, ◌++◌, true, false, ℕ, Some}
 use Rattle.std.proofs.Math.Option.{some, none}
 use Rattle.tender.specs.declared.Kind.{Kind}
 use Rattle.tender.specs.declared.Kind.TheVariants.{Single, Multi}
-use Rattle.tender.specs.declared.Reserve.TheVariants.{Price}
 use Rattle.tender.specs.declared.Tender.{Tender}
 use Rattle.tender.specs.declared.AwardRow.{AwardRow}
 use Rattle.award_check.specs.Faults.{fault_of}
@@ -12,7 +11,7 @@ use Rattle.test_cases.specs.FaultCases.{refuses, try, bid_row, all_true}
 
 -- a tender of the kind k from s to e with the reserve p
 abbrev pub reserved_tender : Kind → ℕ → ℕ → ℕ → Tender
-reserved_tender k s e p = record { kind = k; window = record { start = s; end = e }; reserve = Price p }
+reserved_tender k s e p = record { kind = k; window = record { start = s; end = e }; reserve = Some p }
 
 -- its award, n bids stated and n award rows lent
 unfoldable pub try_reserve : Kind → ℕ → ℕ → ℕ → ℕ → List ℕ → List ℕ → Outcome
@@ -110,7 +109,8 @@ pub lone_refused : refuses 12 480 (try Single Single 480 600 3 lone_bids lone_wi
 unfolding refuses try lone_bids lone_windows
 lone_refused = refl
 
-pub lone_awarded : try_reserve Single 480 600 5000 3 lone_bids lone_windows ≡ without_house (win 4100 ∷ win 1500 ∷ lose ∷ []) 2100 5600
+pub lone_awarded : try_reserve Single 480 600 5000 3 lone_bids lone_windows
+    ≡ without_house (win 4100 ∷ win 1500 ∷ lose ∷ []) 2100 5600
 unfolding try_reserve lone_bids lone_windows
 lone_awarded = refl
 

@@ -7,25 +7,20 @@ mod lots;
 mod misses;
 mod trials;
 
-fn say(word: &[u8], n: u64) {
-    io::write_all(1, word);
-    io::print_decimal(1, n);
-    io::write_all(1, b"\n");
-}
+use std::io;
 
-fn main() {
-    misses::cases();
+fn main(rt: HostRuntime) -> io::Result<()> {
+    misses::cases(&rt)?;
     let t = trials::all(1500);
-    let awarded = t.awarded;
-    say(b"single awarded ", awarded[0]);
-    say(b"multi awarded ", awarded[1]);
-    say(b"single awarded with a reserve ", awarded[2]);
-    say(b"multi awarded with a reserve ", awarded[3]);
-    say(b"refused ", t.refused);
-    say(b"bids asked for ", t.asked);
-    say(b"winners ", t.winners);
-    say(b"winners up to a cent below the payment ", t.below);
-    say(b"bids that no price lets win ", t.none);
-    say(b"prices tried ", t.prices);
-    say(b"disagreements ", t.wrong);
+    println!(rt; "single awarded {}", t.single.plain)?;
+    println!(rt; "multi awarded {}", t.multi.plain)?;
+    println!(rt; "single awarded with a reserve {}", t.single.reserved)?;
+    println!(rt; "multi awarded with a reserve {}", t.multi.reserved)?;
+    println!(rt; "refused {}", t.refused)?;
+    println!(rt; "bids asked for {}", t.asked)?;
+    println!(rt; "winners {}", t.winners)?;
+    println!(rt; "winners up to a cent below the payment {}", t.below)?;
+    println!(rt; "bids that no price lets win {}", t.none)?;
+    println!(rt; "prices tried {}", t.prices)?;
+    println!(rt; "disagreements {}", t.wrong)
 }

@@ -1,12 +1,21 @@
 // Random tenders, each bid asked for: every answer is held against what the award gives where the bid names each price from 0 to past it.
 use crate::lots;
 use crate::lots::Lot;
-use tender::{Answer, Highest};
+use tender::{Kind, Refusal};
+use test_tools::count;
 
-// How many tenders of each sort were awarded, and how many refused; what was asked for and tried; and how many answers disagree.
-#[derive(Clone, Copy)]
+// How many tenders of a kind were awarded, without a reserve and with one.
+#[derive(Clone, Copy, Default)]
+pub(crate) struct Awarded {
+    pub(crate) plain: u64,
+    pub(crate) reserved: u64,
+}
+
+// How many tenders of each kind were awarded, and how many refused; what was asked for and tried; and how many answers disagree.
+#[derive(Clone, Copy, Default)]
 pub(crate) struct Tried {
-    pub(crate) awarded: [u64; 4],
+    pub(crate) single: Awarded,
+    pub(crate) multi: Awarded,
     pub(crate) refused: u64,
     pub(crate) asked: u64,
     pub(crate) winners: u64,
@@ -16,158 +25,127 @@ pub(crate) struct Tried {
     pub(crate) wrong: u64,
 }
 
-// One more where that is so.
-fn plus(n: u64, so: bool) -> u64 {
-    let more: u64 = if so { 1 } else { 0 };
-    std::num::wrapping_add_u64(n, more)
-}
-
-// The award's row for a bid, and the number and place of its refusal; 17 and 0 where it refuses nothing.
+// The award's row for a bid, and why it declines, where it does.
 #[derive(Clone, Copy)]
 struct Fate {
     won: bool,
     cents: u64,
-    number: u64,
-    place: u64,
+    refusal: Option<Refusal>,
 }
 
 // How the bid in row i fares at the price in its row.
-fn fares(lot: Lot, i: usize) -> Fate {
-    let k = i % 6;
-    let n = lot.count;
-    let tender = lot.tender;
-    let kind = tender.kind;
-    let bids = lot.bids;
-    let windows = lot.windows;
+fn fares(lot: &Lot, i: usize) -> Fate {
+    let row = i % 6;
     let mut won = [0u64; 6];
     let mut cents = [0u64; 6];
-    let answer = award::settle(kind, tender, n, &bids, &windows, &mut won, &mut cents);
-    let mut fate = Fate {
-        won: won[k] == 1,
-        cents: cents[k],
-        number: 17,
-        place: 0,
-    };
-    if let Answer::Refused(r) = answer {
-        fate.number = tender::number(r);
-        fate.place = tender::place(r);
+    let answer = award::settle(
+        lot.tender.kind,
+        lot.tender,
+        lot.count,
+        &lot.bids,
+        &lot.windows,
+        &mut won,
+        &mut cents,
+    );
+    Fate {
+        won: won[row] == 1,
+        cents: cents[row],
+        refusal: answer.err(),
     }
-    fate
 }
 
 // Whether it wins at this price.
-fn wins(lot: Lot, i: usize, price: u64) -> bool {
-    let at = 4 * (i % 6) + 1;
-    let fate = fares(lots::changed(lot, lot.count, at, price), i);
-    fate.won
+fn wins(lot: &Lot, i: usize, price: u64) -> bool {
+    fares(&lot.changed(lot.count, 4 * (i % 6) + 1, price), i).won
 }
 
+// The largest price that the answer lets win, where it names one.
+type Asked = Result<Option<u64>, Refusal>;
+
 // Whether the answer lets this price win.
-fn lets_win(answer: Highest, price: u64) -> bool {
-    match answer {
-        Highest::Price(p) => price <= p,
-        _ => false,
-    }
+fn lets_win(answer: Asked, price: u64) -> bool {
+    answer.is_ok_and(|most| most.is_some_and(|p| price <= p))
 }
 
 // How many prices to try, from 0 on: to two past the answer, which is at most 64, eight cells at 8 each; or, where none wins, past what the
 // others ask in all, at most 68.
-fn prices_for(answer: Highest) -> u64 {
+fn prices_for(answer: Asked) -> u64 {
     match answer {
-        Highest::Price(p) => if p < 118 { p + 3 } else { 120 },
+        Ok(Some(p)) => p.min(117) + 3,
         _ => 70,
     }
 }
 
 // Whether the answer fits how bid i fares as it is: a multi winner is paid the answer, a single winner too, or one cent more where it loses
 // at its payment; a loser asks for more than the answer, or there is none.
-fn fits(lot: Lot, i: usize, several: bool, own: Fate, answer: Highest) -> bool {
-    let bids = lot.bids;
-    match answer {
-        Highest::Price(p) => {
-            if !own.won {
-                return p < bids[4 * (i % 6) + 1];
-            }
-            if several {
-                return p == own.cents;
-            }
-            own.cents == plus(p, !wins(lot, i, own.cents))
+fn fits(lot: &Lot, i: usize, own: Fate, answer: Asked) -> bool {
+    match (answer, lot.tender.kind) {
+        (Err(_), _) => false,
+        (Ok(None), _) => !own.won,
+        (Ok(Some(p)), _) if !own.won => p < lot.bids[4 * (i % 6) + 1],
+        (Ok(Some(p)), Kind::Multi) => p == own.cents,
+        (Ok(Some(p)), Kind::Single) => {
+            let mut most = p;
+            count(&mut most, !wins(lot, i, own.cents));
+            own.cents == most
         }
-        Highest::NoPrice => !own.won,
-        Highest::Refused(_) => false,
     }
 }
 
-// Bid i of a tender that is awarded, asked for and tried with each price.
-fn try_bid(t: Tried, lot: Lot, i: usize, several: bool) -> Tried {
-    let answer = lots::asked(lot, lots::bidder(lot, i));
-    let own = fares(lot, i);
-    let most = prices_for(answer);
-    let mut n = t;
-    n.asked = plus(n.asked, true);
-    n.winners = plus(n.winners, own.won);
-    n.below = plus(n.below, own.won && !lets_win(answer, own.cents));
-    n.none = plus(n.none, !lets_win(answer, 0));
-    n.wrong = plus(n.wrong, !fits(lot, i, several, own, answer));
-    n.prices = std::num::wrapping_add_u64(n.prices, most);
-    let mut price: u64 = 0;
-    while price < most {
-        n.wrong = plus(n.wrong, wins(lot, i, price) != lets_win(answer, price));
-        price += 1;
-    }
-    n
-}
-
-// Whether the bidder number in row i is refused so.
-fn refused(lot: Lot, i: usize, fate: Fate) -> bool {
-    let answer = lots::asked(lot, lots::bidder(lot, i));
-    match answer {
-        Highest::Refused(r) => tender::number(r) == fate.number && tender::place(r) == fate.place,
-        _ => false,
-    }
-}
-
-// A random tender of sort k: single, multi, and each with a reserve. Where the award refuses it so is every bidder number; else each bid is
-// tried, and the numbers in the rows past the last bid, and one that no row has, are refused with 17.
-fn try_tender(t: Tried, seed: u64, k: usize) -> Tried {
-    let sort = k % 4;
-    let several = sort % 2 == 1;
-    let lot = lots::draw(seed, several, 1 < sort);
-    let fate = fares(lot, 0);
-    let awarded = fate.number == 17;
-    let mut n = t;
-    n.awarded[sort] = plus(n.awarded[sort], awarded);
-    n.refused = plus(n.refused, !awarded);
-    let mut i: usize = 0;
-    while i < 7 {
-        if awarded && i < lot.count {
-            n = try_bid(n, lot, i, several);
-        } else {
-            n.wrong = plus(n.wrong, !refused(lot, i, fate));
+impl Tried {
+    // Bid i of a tender that is awarded, asked for and tried with each price.
+    fn try_bid(&mut self, lot: &Lot, i: usize) {
+        let answer = lot.asked(lot.bidder(i));
+        let own = fares(lot, i);
+        count(&mut self.asked, true);
+        count(&mut self.winners, own.won);
+        count(&mut self.below, own.won && !lets_win(answer, own.cents));
+        count(&mut self.none, !lets_win(answer, 0));
+        count(&mut self.wrong, !fits(lot, i, own, answer));
+        for price in 0..prices_for(answer) {
+            count(&mut self.prices, true);
+            count(
+                &mut self.wrong,
+                wins(lot, i, price) != lets_win(answer, price),
+            );
         }
-        i += 1;
     }
-    n
+
+    // A random tender. Where the award refuses it so is every bidder number; else each bid is tried, and the numbers in the rows past
+    // the last bid, and one that no row has, are refused as no bidder's.
+    fn try_tender(&mut self, seed: u64, kind: Kind, reserved: bool) {
+        let lot = lots::draw(seed, kind, reserved);
+        let refusal = fares(&lot, 0).refusal;
+        let tried = if refusal.is_none() { lot.count } else { 0 };
+        let awarded = match kind {
+            Kind::Single => &mut self.single,
+            Kind::Multi => &mut self.multi,
+        };
+        count(&mut awarded.plain, refusal.is_none() && !reserved);
+        count(&mut awarded.reserved, refusal.is_none() && reserved);
+        count(&mut self.refused, refusal.is_some());
+        for i in 0..tried.min(7) {
+            self.try_bid(&lot, i);
+        }
+        for i in tried..7 {
+            let right = Err(refusal.unwrap_or(Refusal::NoSuchBidder));
+            count(&mut self.wrong, lot.asked(lot.bidder(i)) != right);
+        }
+    }
 }
 
-// So many random tenders.
+// So many random tenders: single, multi, and each with a reserve.
 pub(crate) fn all(tenders: usize) -> Tried {
-    let mut t = Tried {
-        awarded: [0; 4],
-        refused: 0,
-        asked: 0,
-        winners: 0,
-        below: 0,
-        none: 0,
-        prices: 0,
-        wrong: 0,
-    };
+    let mut t = Tried::default();
     let mut seed: u64 = 20261115;
-    let mut i: usize = 0;
-    while i < tenders {
-        seed = std::num::wrapping_add_u64(seed, 11400714819323198485);
-        t = try_tender(t, seed, i);
-        i += 1;
+    for i in 0..tenders {
+        let kind = if i % 2 == 0 {
+            Kind::Single
+        } else {
+            Kind::Multi
+        };
+        seed = seed.wrapping_add(11400714819323198485);
+        t.try_tender(seed, kind, 1 < i % 4);
     }
     t
 }

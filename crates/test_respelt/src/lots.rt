@@ -1,7 +1,5 @@
 // Tables as one value: written, and read from a text.
-use reader::Reading;
-use tender::{Kind, Reserve, Tender};
-use writer::Writing;
+use tender::{Kind, Refusal, Span, Tender};
 
 // A tender, and up to 12 bids and 96 windows.
 #[derive(Clone, Copy)]
@@ -13,20 +11,11 @@ pub(crate) struct Lot {
     pub(crate) windows: [u64; 192],
 }
 
-pub(crate) fn tender_of(several: bool, start: u64, end: u64) -> Tender {
-    if several {
-        return tender::plain(Kind::Multi, start, end);
-    }
-    tender::plain(Kind::Single, start, end)
-}
-
-// The tender with this reserve in place of its own.
-pub(crate) fn with_reserve(tender: Tender, reserve: Reserve) -> Tender {
-    let kind = tender.kind;
-    let window = tender.window;
+// A tender of this kind, window and reserve.
+pub(crate) fn tender_of(kind: Kind, start: u64, end: u64, reserve: Option<u64>) -> Tender {
     Tender {
         kind,
-        window,
+        window: Span { start, end },
         reserve,
     }
 }
@@ -35,32 +24,60 @@ pub(crate) fn with_reserve(tender: Tender, reserve: Reserve) -> Tender {
 pub(crate) fn read(text: &[u8]) -> Lot {
     let mut bids = [0u64; 48];
     let mut windows = [0u64; 192];
-    match reader::read(text, &mut bids, &mut windows) {
-        Reading::Accepted {
-            tender,
-            bids: count,
-            windows: rows,
-        } => Lot {
-            tender,
-            count,
-            rows: rows as u64,
-            bids,
-            windows,
-        },
-        Reading::Refused(_) => Lot {
-            tender: tender_of(true, 0, 0),
-            count: 0,
-            rows: 0,
-            bids,
-            windows,
-        },
+    let (tender, count, rows) = match reader::read(text, &mut bids, &mut windows) {
+        Ok(filled) => (filled.tender, filled.bids, filled.windows as u64),
+        Err(_) => (tender::plain(Kind::Multi, 0, 0), 0, 0),
+    };
+    Lot {
+        tender,
+        count,
+        rows,
+        bids,
+        windows,
     }
 }
 
-// The tables put into the buffer in one spelling.
-pub(crate) fn written(lot: Lot, text: &mut [u8]) -> Writing {
-    let tender = lot.tender;
-    let bids = lot.bids;
-    let windows = lot.windows;
-    writer::write(tender, lot.count, &bids, &windows, text)
+// A bid of a table: its bidder and price, and its first window and the number of them.
+#[derive(Clone, Copy)]
+struct Bid {
+    bidder: u64,
+    price: u64,
+    first: u64,
+    windows: u64,
+}
+
+impl Lot {
+    // The tables put into the buffer in one spelling.
+    pub(crate) fn written(&self, text: &mut [u8]) -> Result<usize, Refusal> {
+        writer::write(self.tender, self.count, &self.bids, &self.windows, text)
+    }
+
+    fn bid(&self, j: usize) -> Bid {
+        let at = 4 * (j % 12);
+        Bid {
+            bidder: self.bids[at],
+            price: self.bids[at + 1],
+            first: self.bids[at + 2],
+            windows: self.bids[at + 3],
+        }
+    }
+
+    // Whether bid j has the same bidder and price in both tables.
+    pub(crate) fn has_bidder_of(&self, other: &Lot, j: usize) -> bool {
+        let a = self.bid(j);
+        let b = other.bid(j);
+        a.bidder == b.bidder && a.price == b.price
+    }
+
+    // Whether window k holds the minute.
+    fn window_holds(&self, k: u64, minute: u64) -> bool {
+        let at = 2 * (k % 96) as usize;
+        (self.windows[at]..self.windows[at + 1]).contains(&minute)
+    }
+
+    // Whether a window of bid j holds the minute.
+    pub(crate) fn holds(&self, j: usize, minute: u64) -> bool {
+        let bid = self.bid(j);
+        (0..bid.windows).any(|k| self.window_holds(bid.first.wrapping_add(k), minute))
+    }
 }

@@ -1,127 +1,95 @@
 // Bid texts and tables written in one spelling, and what is told of it.
-use crate::tables::Table;
+use crate::tables::LongBids;
 use crate::{lots, tables};
-use tender::{Reserve, Tender};
-use writer::Writing;
+use std::io::Write;
+use std::{fmt, io};
+use tender::{Kind, Refusal, Tender};
 
-// The first n bytes.
-pub(crate) fn head(bytes: &[u8], n: usize) -> &[u8] {
-    if n <= bytes.len() {
-        return &bytes[..n];
-    }
-    bytes
+// The bytes of the buffer that were written; none where the writing was refused.
+pub(crate) fn written(answer: Result<usize, Refusal>, buf: &[u8]) -> &[u8] {
+    &buf[..answer.unwrap_or(0).min(buf.len())]
 }
 
-// Whether every byte from `at` on is 7.
-fn sevens(bytes: &[u8], at: usize) -> bool {
-    let mut i = at;
-    while i < bytes.len() {
-        if bytes[i] != 7 {
-            return false;
-        }
-        i += 1;
-    }
-    true
-}
+// An answer as it is told: written with the length, or refused with number and place.
+#[derive(Clone, Copy)]
+struct Told(Result<usize, Refusal>);
 
-// How many bytes were written; 0 where the writing was refused.
-pub(crate) fn length_of(answer: Writing) -> usize {
-    match answer {
-        Writing::Written(n) => n,
-        Writing::Refused(_) => 0,
-    }
-}
-
-// Writes the answer: written with the length, or refused with number and place.
-fn tell(answer: Writing) {
-    match answer {
-        Writing::Written(n) => {
-            io::write_all(1, b"written ");
-            io::print_decimal(1, n as u64);
-        }
-        Writing::Refused(r) => {
-            io::write_all(1, b"refused ");
-            io::print_decimal(1, tender::number(r));
-            io::write_all(1, b" ");
-            io::print_decimal(1, tender::place(r));
+impl fmt::Display for Told {
+    fn fmt<W: fmt::Write>(&self, f: &mut fmt::Formatter<W>) -> fmt::Result {
+        match self.0 {
+            Ok(n) => write!(f, "written {n}"),
+            Err(r) => write!(f, "refused {} {}", tender::number(r), tender::place(r)),
         }
     }
 }
 
 // Writes the text as it is given and in one spelling, and answers the buffer, with zeros past the text.
-pub(crate) fn text(given: &[u8]) -> [u8; 400] {
+pub(crate) fn text(rt: &impl Print, given: &str) -> io::Result<[u8; 400]> {
     let mut buf = [0u8; 400];
-    let answer = lots::written(lots::read(given), &mut buf);
-    io::write_all(1, b"given\n");
-    io::write_all(1, given);
-    tell(answer);
-    io::write_all(1, b"\n");
-    io::write_all(1, head(&buf, length_of(answer)));
-    buf
+    let answer = lots::read(given.as_bytes()).written(&mut buf);
+    println!(rt; "given\n{given}{}", Told(answer))?;
+    io::writer(rt).write_all(written(answer, &buf))?;
+    Ok(buf)
 }
 
 // Writes two texts so, and whether they have the same bytes in one spelling.
-pub(crate) fn pair(a: &[u8], b: &[u8]) {
-    let one = text(a);
-    let two = text(b);
-    if check::same(&one, &two) {
-        io::write_all(1, b"the same bytes\n");
-    } else {
-        io::write_all(1, b"not the same bytes\n");
-    }
+pub(crate) fn pair(rt: &impl Print, a: &str, b: &str) -> io::Result<()> {
+    let one = text(rt, a)?;
+    let two = text(rt, b)?;
+    let word = if one == two { "the" } else { "not the" };
+    println!(rt; "{word} same bytes")
 }
 
 // Writes the label, the answer, and whether the bytes past those that were written are 7, as all bytes of the buffer were before.
-fn tell_bytes(label: &[u8], answer: Writing, buf: &[u8]) {
-    io::write_all(1, label);
-    io::write_all(1, b": ");
-    tell(answer);
-    if sevens(buf, length_of(answer)) {
-        io::write_all(1, b", the other bytes stand\n");
+fn tell_bytes(
+    rt: &impl Print,
+    label: &str,
+    answer: Result<usize, Refusal>,
+    buf: &[u8],
+) -> io::Result<()> {
+    let length = written(answer, buf).len();
+    let word = if buf.iter().skip(length).all(|b| *b == 7) {
+        "the other bytes stand"
     } else {
-        io::write_all(1, b", other bytes changed\n");
-    }
+        "other bytes changed"
+    };
+    println!(rt; "{label}: {}, {word}", Told(answer))
 }
 
 // Writes the text in one spelling into this buffer, whose bytes are all 7, and tells it.
-pub(crate) fn lend(label: &[u8], given: &[u8], buf: &mut [u8]) {
-    let answer = lots::written(lots::read(given), buf);
-    tell_bytes(label, answer, buf);
+pub(crate) fn lend(rt: &impl Print, label: &str, given: &str, buf: &mut [u8]) -> io::Result<()> {
+    let answer = lots::read(given.as_bytes()).written(buf);
+    tell_bytes(rt, label, answer, buf)
 }
 
-// Writes a tender of 20 bytes with this reserve and so many bids of 471 bytes each, but the last with this price and so many
+// Writes a tender of 20 bytes with this reserve and so many bids of 471 bytes each, but the last with its price and so many
 // windows, into a buffer whose bytes are 7.
 pub(crate) fn long(
-    label: &[u8],
-    reserve: Reserve,
-    count: usize,
-    price: u64,
-    windows: u64,
+    rt: &impl Print,
+    label: &str,
+    reserve: Option<u64>,
+    long: LongBids,
     buf: &mut [u8],
-) {
-    let tender = lots::with_reserve(lots::tender_of(true, 0, 10), reserve);
+) -> io::Result<()> {
+    let tender = lots::tender_of(Kind::Multi, 0, 10, reserve);
     let mut bids = [0u64; tender::BID_TABLE];
-    let mut rows = [0u64; 64000];
-    tables::fill(
-        &mut bids,
-        Table::LongBids {
-            count,
-            price,
-            windows,
-        },
-        0,
-    );
-    tables::fill(&mut rows, Table::FarWindows, 0);
-    let answer = writer::write(tender, count, &bids, &rows, buf);
-    tell_bytes(label, answer, buf);
+    let mut windows = [0u64; 64000];
+    tables::fill_long_bids(&mut bids, long);
+    tables::fill_far_windows(&mut windows);
+    let answer = writer::write(tender, long.count, &bids, &windows, buf);
+    tell_bytes(rt, label, answer, buf)
 }
 
 // Writes two bids, the second with this bidder and two windows, into a buffer of no byte, stating so many.
-pub(crate) fn nowhere(label: &[u8], tender: Tender, count: usize, bidder: u64) {
+pub(crate) fn nowhere(
+    rt: &impl Print,
+    label: &str,
+    tender: Tender,
+    count: usize,
+    bidder: u64,
+) -> io::Result<()> {
     let bids = [3, 30, 0, 1, bidder, 7, 1, 2];
     let windows = [0, 5, 5, 9, 0, 5];
-    io::write_all(1, label);
-    io::write_all(1, b": ");
-    tell(writer::write(tender, count, &bids, &windows, &mut [7u8; 0]));
-    io::write_all(1, b"\n");
+    let answer = writer::write(tender, count, &bids, &windows, &mut [7u8; 0]);
+    println!(rt; "{label}: {}", Told(answer))
 }

@@ -1,188 +1,140 @@
 // Another implementation of both awards, for up to seven entries: every set of them, every price. The house is the entry after the
-// bids, and has every cell. Sums wrap; they are small.
+// bids, and has every cell. Sums and products wrap; they are small.
 
-// The bits of the cells from 0 up to length.
-pub(crate) fn all_cells(length: u64) -> u64 {
-    let mut m: u64 = 0;
-    let mut x: u64 = 0;
-    while x < 16 {
-        if x < length {
-            m = m | (1 << x);
-        }
-        x += 1;
-    }
-    m
+// What is weighed: the price of each entry, its cells as bits, and how many cells the tender has.
+#[derive(Clone, Copy)]
+pub(crate) struct Entries {
+    pub(crate) prices: [u64; 7],
+    pub(crate) masks: [u64; 7],
+    pub(crate) length: u64,
 }
 
-// The first cell of the tender with this many bidders; 16 where there is none.
-pub(crate) fn cell_with(masks: [u64; 7], length: u64, bidders: u64) -> u64 {
-    let mut x: u64 = 0;
-    while x < 16 {
-        if x < length && bidders_of(masks, x) == bidders {
-            return x;
-        }
-        x += 1;
-    }
-    16
+// An entry that a round may take: the bit of its place, its cells as bits, its price, and how many open cells it reaches.
+#[derive(Clone, Copy)]
+struct Offer {
+    place: u64,
+    mask: u64,
+    price: u64,
+    reach: u64,
 }
 
-// Whether bid i has the cell x.
-fn has(masks: [u64; 7], i: usize, x: u64) -> bool {
-    if 6 < i {
-        return false;
-    }
-    if 15 < x {
-        return false;
-    }
-    (masks[i] >> x) % 2 == 1
-}
-
-// The bits of the cells that bid i has.
-fn cells_in(masks: [u64; 7], i: usize) -> u64 {
-    let mut m: u64 = 0;
-    let mut x: u64 = 0;
-    while x < 16 {
-        if has(masks, i, x) {
-            m = m | (1 << x);
-        }
-        x += 1;
-    }
-    m
-}
-
-// How many of the bids have the cell.
-fn bidders_of(masks: [u64; 7], x: u64) -> u64 {
-    let mut n: u64 = 0;
-    let mut i: usize = 0;
-    while i < 7 {
-        if has(masks, i, x) {
-            n = std::num::wrapping_add_u64(n, 1);
-        }
-        i += 1;
-    }
-    n
-}
-
-// Whether bid i is in the set.
-pub(crate) fn within(set: u64, i: usize) -> bool {
-    if i < 64 { (set >> i) % 2 == 1 } else { false }
-}
-
-pub(crate) fn cost_of(prices: [u64; 7], set: u64) -> u64 {
-    let mut sum: u64 = 0;
-    let mut i: usize = 0;
-    while i < 7 {
-        if within(set, i) {
-            sum = std::num::wrapping_add_u64(sum, prices[i]);
-        }
-        i += 1;
-    }
-    sum
-}
-
-fn cells_of(masks: [u64; 7], set: u64) -> u64 {
-    let mut m: u64 = 0;
-    let mut i: usize = 0;
-    while i < 7 {
-        if within(set, i) {
-            m = m | cells_in(masks, i);
-        }
-        i += 1;
-    }
-    m
-}
-
-// The least-cost covering set without bid `skip`, the least number of those; 128 where no set covers.
-pub(crate) fn least_cover(masks: [u64; 7], prices: [u64; 7], cells: u64, skip: usize) -> u64 {
-    let mut best: u64 = 128;
-    let mut least: u64 = 0;
+// Those numbers below n, at most 64 of them, that are picked, as bits.
+pub(crate) fn bits<F: Fn(u64) -> bool>(n: u64, picked: F) -> u64
+    requires { F.IsAlwaysCallable picked }
+{
     let mut set: u64 = 0;
-    while set < 128 {
-        if cells_of(masks, set) == cells && !within(set, skip) {
-            let cost = cost_of(prices, set);
-            if best == 128 || cost < least {
-                best = set;
-                least = cost;
+    for x in 0..n.min(64) {
+        if picked(x) {
+            set |= 1 << x;
+        }
+    }
+    set
+}
+
+// Whether the set has the number.
+pub(crate) fn within(set: u64, x: usize) -> bool {
+    x < 64 && (set >> x) % 2 == 1
+}
+
+impl Offer {
+    // Whether it asks less for a cell than the other.
+    fn beats(&self, other: &Offer) -> bool {
+        self.price.wrapping_mul(other.reach) < other.price.wrapping_mul(self.reach)
+    }
+}
+
+impl Entries {
+    // The bits of the tender's cells.
+    pub(crate) fn cells(&self) -> u64 {
+        bits(self.length, |_| true)
+    }
+
+    // How many of the entries have the cell.
+    fn bidders_of(&self, x: u64) -> usize {
+        self.masks
+            .iter()
+            .filter(|mask| within(**mask, x as usize))
+            .count()
+    }
+
+    // The first cell of the tender with this many bidders.
+    pub(crate) fn cell_with(&self, bidders: usize) -> Option<u64> {
+        (0..self.length).find(|x| self.bidders_of(*x) == bidders)
+    }
+
+    // What the entries of the set ask in all.
+    pub(crate) fn cost_of(&self, set: u64) -> u64 {
+        let mut cost: u64 = 0;
+        for (i, price) in self.prices.iter().enumerate() {
+            if within(set, i) {
+                cost = cost.wrapping_add(*price);
             }
         }
-        set += 1;
+        cost
     }
-    best
-}
 
-// How many cells both have.
-fn reach_of(held: u64, mask: u64) -> u64 {
-    let both = held & mask;
-    let mut n: u64 = 0;
-    let mut x: u64 = 0;
-    while x < 16 {
-        n = std::num::wrapping_add_u64(n, (both >> x) % 2);
-        x += 1;
-    }
-    n
-}
-
-// The product of two small numbers.
-pub(crate) fn times(a: u64, b: u64) -> u64 {
-    (a % 65536) * (b % 128)
-}
-
-// The bid that a round takes of those not in `taken`, at these prices; 7 where none reaches an open cell.
-fn pick(masks: [u64; 7], prices: [u64; 7], held: u64, taken: u64) -> usize {
-    let mut best: usize = 7;
-    let mut top: u64 = 0;
-    let mut reach: u64 = 0;
-    let mut i: usize = 0;
-    while i < 7 {
-        let r = reach_of(held, cells_in(masks, i));
-        let p = prices[i];
-        if 0 < r && !within(taken, i) {
-            if best == 7 || times(p, reach) < times(top, r) {
-                best = i;
-                top = p;
-                reach = r;
+    // The cells that the entries of the set have.
+    fn cells_of(&self, set: u64) -> u64 {
+        let mut cells: u64 = 0;
+        for (i, mask) in self.masks.iter().enumerate() {
+            if within(set, i) {
+                cells |= *mask;
             }
         }
-        i += 1;
+        cells
     }
-    best
-}
 
-// The winners of the greedy run.
-pub(crate) fn greedy(masks: [u64; 7], prices: [u64; 7], cells: u64) -> u64 {
-    let mut held = cells;
-    let mut taken: u64 = 0;
-    let mut round: u64 = 0;
-    while round < 7 {
-        let i = pick(masks, prices, held, taken);
-        if i < 7 {
-            held = held & !cells_in(masks, i);
-            taken = taken | (1 << i);
-        }
-        round += 1;
+    // The least-cost covering set, without entry `skip` where one is named; the least number of those.
+    pub(crate) fn least_cover(&self, skip: Option<usize>) -> Option<u64> {
+        let cells = self.cells();
+        (0..128)
+            .filter(|set| self.cells_of(*set) == cells && !skip.is_some_and(|i| within(*set, i)))
+            .min_by_key(|set| self.cost_of(*set))
     }
-    taken
-}
 
-// The largest price below `limit` with which bid k is taken, all else standing, trying each; `limit` where none is.
-pub(crate) fn largest_price(
-    masks: [u64; 7],
-    prices: [u64; 7],
-    cells: u64,
-    k: usize,
-    limit: u64,
-) -> u64 {
-    let mut best = limit;
-    let mut p: u64 = 0;
-    while p < limit {
-        let mut asked = prices;
-        if k < 7 {
-            asked[k] = p;
+    // The entry that a round takes of those not in `taken`, where one reaches an open cell.
+    fn pick(&self, held: u64, taken: u64) -> Option<Offer> {
+        let mut best: Option<Offer> = None;
+        for i in 0..7 {
+            let mask = self.masks[i];
+            let offer = Offer {
+                place: 1 << i,
+                mask,
+                price: self.prices[i],
+                reach: u64::from((held & mask).count_ones()),
+            };
+            let open = 0 < offer.reach && taken & offer.place == 0;
+            if open && best.is_none_or(|b| offer.beats(&b)) {
+                best = Some(offer);
+            }
         }
-        if within(greedy(masks, asked, cells), k) {
-            best = p;
-        }
-        p += 1;
+        best
     }
-    best
+
+    // The winners of the greedy run.
+    pub(crate) fn greedy(&self) -> u64 {
+        let mut held = self.cells();
+        let mut taken: u64 = 0;
+        for _ in 0..7 {
+            if let Some(offer) = self.pick(held, taken) {
+                held &= !offer.mask;
+                taken |= offer.place;
+            }
+        }
+        taken
+    }
+
+    // Whether entry k is taken at this price, all else standing.
+    fn taken_at(&self, k: usize, price: u64) -> bool {
+        let mut asked = *self;
+        if let Some(own) = asked.prices.get_mut(k) {
+            *own = price;
+        }
+        within(asked.greedy(), k)
+    }
+
+    // The largest price below `limit` with which entry k is taken, trying each from there down.
+    pub(crate) fn largest_price(&self, k: usize, limit: u64) -> Option<u64> {
+        (0..limit).rev().find(|price| self.taken_at(k, *price))
+    }
 }

@@ -12,38 +12,31 @@ mod random;
 mod rules;
 mod withhold;
 
-// Standard output.
-const STDOUT_FILENO: i32 = 1;
+use std::io;
 
-fn say(word: &[u8], n: u64) {
-    io::write_all(STDOUT_FILENO, word);
-    io::print_decimal(STDOUT_FILENO, n);
-    io::write_all(STDOUT_FILENO, b"\n");
-}
-
-fn main() {
+fn main(rt: HostRuntime) -> io::Result<()> {
     let t = compare::awards(3000);
-    say(b"single awarded ", t.single_awarded);
-    say(b"single declined ", t.single_declined);
-    say(b"multi awarded ", t.multi_awarded);
-    say(b"multi declined ", t.multi_declined);
-    say(b"with a reserve ", t.reserved);
-    say(b"house booked ", t.booked);
-    say(b"house booked beside paid owners ", t.beside);
-    say(b"false prices ", t.prices);
+    println!(rt; "single awarded {}", t.single.awarded)?;
+    println!(rt; "single declined {}", t.single.declined)?;
+    println!(rt; "multi awarded {}", t.multi.awarded)?;
+    println!(rt; "multi declined {}", t.multi.declined)?;
+    println!(rt; "with a reserve {}", t.reserved)?;
+    println!(rt; "house booked {}", t.booked)?;
+    println!(rt; "house booked beside paid owners {}", t.beside)?;
+    println!(rt; "false prices {}", t.prices)?;
     let w = withhold::offers(52);
-    say(b"parts of the minutes offered ", w.parts);
-    say(b"parts refused ", w.thin);
-    say(b"prices named with parts ", w.prices);
-    say(b"prices that win with parts ", w.winning);
-    say(b"gains with parts ", w.gains);
+    println!(rt; "parts of the minutes offered {}", w.parts)?;
+    println!(rt; "parts refused {}", w.thin)?;
+    println!(rt; "prices named with parts {}", w.prices)?;
+    println!(rt; "prices that win with parts {}", w.winning)?;
+    println!(rt; "gains with parts {}", w.gains)?;
     let f = compare::faults(6000);
-    say(b"tables sound ", f.sound);
-    say(b"tables faulty ", f.faulty);
-    say(b"rows too few ", f.short);
-    let wrong = std::num::wrapping_add_u64(w.gains, w.wrong);
-    say(
-        b"disagreements ",
-        std::num::wrapping_add_u64(wrong, std::num::wrapping_add_u64(t.wrong, f.wrong)),
-    );
+    println!(rt; "tables sound {}", f.sound)?;
+    println!(rt; "tables faulty {}", f.faulty)?;
+    println!(rt; "rows too few {}", f.short)?;
+    let wrong = t.wrong.wrapping_add(f.wrong);
+    println!(rt;
+        "disagreements {}",
+        wrong.wrapping_add(w.gains).wrapping_add(w.wrong)
+    )
 }

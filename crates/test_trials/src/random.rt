@@ -1,22 +1,16 @@
-// Random numbers and random tenders.
-ghost use Rattle.std.specs.Prelude.{◌+◌, ◌≤◌};
+// Random tenders.
+ghost use Rattle.std.specs.Prelude.{◌<◌};
 
 use crate::brute;
+use crate::brute::Entries;
+use tender::Kind;
+use test_tools::next;
 
-// The next state of a generator (xorshift).
-pub(crate) fn next(state: u64) -> u64 {
-    let a = state ^ (state << 13);
-    let b = a ^ (a >> 7);
-    b ^ (b << 17)
-}
-
-// A number below n, which the state gives; 0 where n is 0.
+// A number below n, which the state gives.
 pub(crate) fn below(state: u64, n: u64) -> u64
-    ensures { result ≤ n }
+    requires { 0 < n }
+    ensures { result < n }
 {
-    if n == 0 {
-        return 0;
-    }
     (state >> 11) % n
 }
 
@@ -28,21 +22,17 @@ pub(crate) struct Lot {
     pub(crate) state: u64,
     pub(crate) width: u64,
     pub(crate) start: u64,
-    pub(crate) length: u64,
-    pub(crate) reserved: bool,
-    pub(crate) reserve: u64,
+    pub(crate) reserve: Option<u64>,
     pub(crate) count: usize,
     pub(crate) rows: usize,
     pub(crate) bids: [u64; 28],
     pub(crate) windows: [u64; 42],
-    pub(crate) prices: [u64; 7],
-    pub(crate) masks: [u64; 7],
+    pub(crate) entries: Entries,
 }
 
 // The first minute of a cell; the end of the week from there on.
 pub(crate) fn minute(cell: u64, width: u64) -> u64 {
-    let m = brute::times(width, cell);
-    if m < 10080 { m } else { 10080 }
+    width.wrapping_mul(cell).min(tender::WEEK)
 }
 
 // The widths of cells with which 15 cells, and ten, are a week.
@@ -72,20 +62,6 @@ fn length_of(width: u64, state: u64) -> u64 {
     }
 }
 
-// The cells from s up to e as bits, where the tender has the bits from 0 up to length.
-fn bits(s: u64, e: u64, start: u64, length: u64) -> u64 {
-    let mut m: u64 = 0;
-    let mut x: u64 = 0;
-    while x < 16 {
-        let cell = std::num::wrapping_add_u64(start, x);
-        if x < length && s <= cell && cell < e {
-            m = m | (1 << x);
-        }
-        x += 1;
-    }
-    m
-}
-
 fn price_of(state: u64) -> u64 {
     if state % 3 == 0 {
         below(state, 4)
@@ -94,59 +70,12 @@ fn price_of(state: u64) -> u64 {
     }
 }
 
-fn windows_of(state: u64, several: bool) -> u64 {
-    if several { 1 + state % 3 } else { 1 }
-}
-
-// One more window for bid i, where the table has room.
-fn with_window(lot: Lot, i: usize) -> Lot {
-    let row = lot.rows;
-    if 6 < i {
-        return lot;
+// One window, or up to three.
+fn windows_of(kind: Kind, state: u64) -> u64 {
+    match kind {
+        Kind::Single => 1,
+        Kind::Multi => 1 + state % 3,
     }
-    if 20 < row {
-        return lot;
-    }
-    let mut l = lot;
-    let s1 = next(l.state);
-    let s2 = next(s1);
-    let s = below(s1, 8);
-    let e = s + 1 + below(s2, 16);
-    let m = l.masks[i];
-    l.windows[2 * row] = minute(s, l.width);
-    l.windows[2 * row + 1] = minute(e, l.width);
-    l.masks[i] = m | bits(s, e, l.start, l.length);
-    l.rows = row + 1;
-    l.state = s2;
-    l
-}
-
-// Bid i, with one window or with up to three.
-fn with_bid(lot: Lot, i: usize, several: bool) -> Lot {
-    if 6 < i {
-        return lot;
-    }
-    let mut l = lot;
-    let s1 = next(l.state);
-    let s2 = next(s1);
-    let n = windows_of(s2, several);
-    let price = price_of(s1);
-    let row = l.rows;
-    l.state = s2;
-    l.bids[4 * i] = 10 + 3 * (i as u64) + s2 % 3;
-    l.bids[4 * i + 1] = price;
-    l.bids[4 * i + 2] = row as u64;
-    l.bids[4 * i + 3] = n;
-    l.prices[i] = price;
-    let one = with_window(l, i);
-    if n == 1 {
-        return one;
-    }
-    let two = with_window(one, i);
-    if n == 2 {
-        return two;
-    }
-    with_window(two, i)
 }
 
 // What the house asks: little, as much as a bid may, or as several bids may together.
@@ -167,20 +96,62 @@ fn count_of(reserved: bool, state: u64) -> usize {
     }
 }
 
-// The house, where there is a reserve: one entry more, after the bids, that has every cell.
-fn with_house(lot: Lot) -> Lot {
-    let n = lot.count;
-    if !lot.reserved || 6 < n {
-        return lot;
+impl Lot {
+    // One more window for bid i, where the table has room.
+    fn add_window(&mut self, i: usize) {
+        let row = self.rows;
+        if 6 < i || 20 < row {
+            return;
+        }
+        let s1 = next(self.state);
+        let s2 = next(s1);
+        let s = below(s1, 8);
+        let e = s + 1 + below(s2, 16);
+        let start = self.start;
+        let held = brute::bits(self.entries.length, |x| {
+            (s..e).contains(&start.wrapping_add(x))
+        });
+        self.windows[2 * row] = minute(s, self.width);
+        self.windows[2 * row + 1] = minute(e, self.width);
+        self.entries.masks[i] |= held;
+        self.rows = row + 1;
+        self.state = s2;
     }
-    let mut l = lot;
-    l.prices[n] = l.reserve;
-    l.masks[n] = brute::all_cells(l.length);
-    l
+
+    // Bid i.
+    fn add_bid(&mut self, i: usize, kind: Kind) {
+        if 6 < i {
+            return;
+        }
+        let s1 = next(self.state);
+        let s2 = next(s1);
+        let n = windows_of(kind, s2);
+        let price = price_of(s1);
+        self.state = s2;
+        self.bids[4 * i] = 10 + 3 * (i as u64) + s2 % 3;
+        self.bids[4 * i + 1] = price;
+        self.bids[4 * i + 2] = self.rows as u64;
+        self.bids[4 * i + 3] = n;
+        self.entries.prices[i] = price;
+        for _ in 0..n {
+            self.add_window(i);
+        }
+    }
+
+    // The house, where there is a reserve: one entry more, after the bids, that has every cell.
+    fn add_house(&mut self) {
+        let n = self.count;
+        if let Some(price) = self.reserve {
+            if n < 7 {
+                self.entries.prices[n] = price;
+                self.entries.masks[n] = self.entries.cells();
+            }
+        }
+    }
 }
 
 // Tender i of a series; tender 0 has cells of a minute. Half of the tenders have a reserve.
-pub(crate) fn draw(seed: u64, several: bool, i: u64) -> Lot {
+pub(crate) fn draw(seed: u64, kind: Kind, i: u64) -> Lot {
     let s1 = next(seed);
     let s2 = next(s1);
     let s3 = next(s2);
@@ -192,22 +163,34 @@ pub(crate) fn draw(seed: u64, several: bool, i: u64) -> Lot {
         state: s4,
         width,
         start: start_of(width, s1),
-        length: length_of(width, s2),
-        reserved,
-        reserve: reserve_of(s4),
+        reserve: reserved.then(|| reserve_of(s4)),
         count,
         rows: 0,
         bids: [0; 28],
         windows: [0; 42],
-        prices: [0; 7],
-        masks: [0; 7],
+        entries: Entries {
+            prices: [0; 7],
+            masks: [0; 7],
+            length: length_of(width, s2),
+        },
     };
-    let mut j: usize = 0;
-    while j < 7 {
-        if j < count {
-            lot = with_bid(lot, j, several);
-        }
-        j += 1;
+    for j in 0..count {
+        lot.add_bid(j, kind);
     }
-    with_house(lot)
+    lot.add_house();
+    lot
+}
+
+// So many tenders of each kind by turns, each tried as it is drawn.
+pub(crate) fn series<F: FnMut(&Lot, Kind, u64)>(seed: u64, n: u64, mut tried: F)
+    requires { F.IsAlwaysCallable tried }
+{
+    let mut state = seed;
+    for i in 0..n {
+        let single = draw(state, Kind::Single, i);
+        tried(&single, Kind::Single, i);
+        let multi = draw(single.state, Kind::Multi, i);
+        tried(&multi, Kind::Multi, i);
+        state = multi.state;
+    }
 }

@@ -1,57 +1,50 @@
 // What reading a text answers, written with a label.
-use reader::Reading;
-use tender::Reserve;
+use reader::Filled;
+use std::{fmt, io};
+use tender::Refusal;
 
-// Writes the reserve, where there is one.
-fn tell_reserve(reserve: Reserve) {
-    match reserve {
-        Reserve::Absent => {}
-        Reserve::Price(cents) => {
-            io::write_all(1, b", reserve ");
-            io::print_decimal(1, cents);
+// An answer as numbers: accepted with the rows of each table, and the reserve, where there is one; or refused with number and place.
+#[derive(Clone, Copy)]
+pub(crate) struct Told(pub(crate) Result<Filled, Refusal>);
+
+impl fmt::Display for Told {
+    fn fmt<W: fmt::Write>(&self, f: &mut fmt::Formatter<W>) -> fmt::Result {
+        match self.0 {
+            Ok(filled) => {
+                write!(f, "accepted {} {}", filled.bids, filled.windows)?;
+                match filled.tender.reserve {
+                    None => Ok(()),
+                    Some(price) => write!(f, ", reserve {price}"),
+                }
+            }
+            Err(r) => write!(f, "refused {} {}", tender::number(r), tender::place(r)),
         }
     }
 }
 
-// Writes the label, and the answer as numbers: accepted with the rows of each table, or refused with number and place.
-pub(crate) fn tell(label: &[u8], answer: Reading) {
-    io::write_all(1, label);
-    match answer {
-        Reading::Accepted {
-            tender: t,
-            bids,
-            windows,
-        } => {
-            io::write_all(1, b": accepted ");
-            io::print_decimal(1, bids as u64);
-            io::write_all(1, b" ");
-            io::print_decimal(1, windows as u64);
-            let reserve = t.reserve;
-            tell_reserve(reserve);
-        }
-        Reading::Refused(r) => {
-            io::write_all(1, b": refused ");
-            io::print_decimal(1, tender::number(r));
-            io::write_all(1, b" ");
-            io::print_decimal(1, tender::place(r));
-        }
+// Reads the text into tables that are long enough, writes what that answers, and gives the price that the first row of the bid table
+// has.
+pub(crate) fn show(rt: &impl Print, label: &str, text: &[u8]) -> io::Result<u64> {
+    let mut bids = [0u64; tender::BID_TABLE];
+    let mut windows = [0u64; tender::WINDOW_TABLE];
+    let answer = reader::read(text, &mut bids, &mut windows);
+    println!(rt; "{label}: {}", Told(answer))?;
+    Ok(bids[1])
+}
+
+// So of each of these texts, with a label each.
+pub(crate) fn show_all(rt: &impl Print, cases: &[(&str, &str)]) -> io::Result<()> {
+    for (label, text) in cases {
+        show(rt, label, text.as_bytes())?;
     }
-    io::write_all(1, b"\n");
+    Ok(())
 }
 
-// Reads the text into tables that are long enough.
-pub(crate) fn show(label: &[u8], text: &[u8]) {
-    let mut bids = [0u64; tender::BID_TABLE];
-    let mut windows = [0u64; tender::WINDOW_TABLE];
-    tell(label, reader::read(text, &mut bids, &mut windows));
-}
-
-// The same of a text with a bid, and writes the price that the first row of its table has.
-pub(crate) fn show_price(label: &[u8], text: &[u8]) {
-    let mut bids = [0u64; tender::BID_TABLE];
-    let mut windows = [0u64; tender::WINDOW_TABLE];
-    tell(label, reader::read(text, &mut bids, &mut windows));
-    io::write_all(1, b"  its price is ");
-    io::print_decimal(1, bids[1]);
-    io::write_all(1, b"\n");
+// The same of texts with a bid, with its price.
+pub(crate) fn show_prices(rt: &impl Print, cases: &[(&str, &str)]) -> io::Result<()> {
+    for (label, text) in cases {
+        let price = show(rt, label, text.as_bytes())?;
+        println!(rt; "  its price is {price}")?;
+    }
+    Ok(())
 }

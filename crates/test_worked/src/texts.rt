@@ -1,117 +1,105 @@
-// Long bid texts, put into a buffer.
-ghost use Rattle.std.specs.Prelude.{◌≤◌, length};
+// Long bid texts, put together in fixed memory.
+use std::fmt;
+use std::fmt::Write;
+use std::ops::Range;
 
-// The bytes at `at`, as far as the buffer has room, and the place after them.
-fn put(buf: &mut [u8], at: usize, bytes: &[u8]) -> usize
-    requires { at ≤ length buf.old }
-    ensures { result ≤ length buf.new }
-{
-    let mut i = 0;
-    let mut j = at;
-    while i < bytes.len() {
-        if j < buf.len() {
-            buf[j] = bytes[i];
-            j += 1;
-            i += 1;
-        } else {
-            i += 1;
+const ROOM: usize = 65537;
+
+// A text, as far as there is room.
+#[derive(Clone, Copy)]
+pub(crate) struct Text {
+    buf: [u8; ROOM],
+    length: usize,
+}
+
+impl fmt::Write for Text {
+    fn write_str(&mut self, s: &str) -> fmt::Result {
+        self.put(s);
+        Ok(())
+    }
+}
+
+impl Text {
+    // A text that begins so.
+    fn new(start: &str) -> Text {
+        let mut text = Text {
+            buf: [0; ROOM],
+            length: 0,
+        };
+        text.put(start);
+        text
+    }
+
+    pub(crate) fn bytes(&self) -> &[u8] {
+        &self.buf[..self.length.min(ROOM)]
+    }
+
+    // What is written goes on, as far as there is room.
+    fn put(&mut self, part: &str) {
+        let at = self.length.min(ROOM);
+        let room = &mut self.buf[at..];
+        let n = part.len().min(room.len());
+        room[..n].copy_from_slice(&part.as_bytes()[..n]);
+        self.length = at + n;
+    }
+
+    // A bid's line with so many windows (0 1).
+    fn put_bid(&mut self, bidder: u64, price: &str, windows: usize) {
+        // `write_str` answers no error.
+        let _ = write!(self, "(bid {bidder} {price}");
+        for _ in 0..windows {
+            self.put(" (0 1)");
+        }
+        self.put(")\n");
+    }
+
+    // The bids of this range, at 5 cents each.
+    fn put_bids(&mut self, bidders: Range<u64>, windows: usize) {
+        for bidder in bidders {
+            self.put_bid(bidder, "5", windows);
         }
     }
-    j
-}
-
-// The number's digits at `at`.
-fn put_number(buf: &mut [u8], at: usize, v: u64) -> usize
-    requires { at ≤ length buf.old }
-    ensures { result ≤ length buf.new }
-{
-    let mut digits = [0u8; 20];
-    let n = io::decimal(v, &mut digits);
-    put(buf, at, &digits[..n])
-}
-
-// A bid's line with so many windows (0 1).
-fn put_bid(buf: &mut [u8], at: usize, bidder: u64, price: &[u8], windows: usize) -> usize
-    requires { at ≤ length buf.old }
-    ensures { result ≤ length buf.new }
-{
-    let a = put(buf, at, b"(bid ");
-    let b = put_number(buf, a, bidder);
-    let c = put(buf, b, b" ");
-    let mut j = put(buf, c, price);
-    let mut i = 0;
-    while i < windows {
-        j = put(buf, j, b" (0 1)");
-        i += 1;
-    }
-    put(buf, j, b")\n")
 }
 
 // One bid with so many windows.
-pub(crate) fn windows_of(buf: &mut [u8], windows: usize) -> usize
-    ensures { result ≤ length buf.new }
-{
-    let at = put(buf, 0, b"(tender multi 0 10)\n");
-    put_bid(buf, at, 11, b"30", windows)
+pub(crate) fn windows_of(windows: usize) -> Text {
+    let mut text = Text::new("(tender multi 0 10)\n");
+    text.put_bid(11, "30", windows);
+    text
 }
 
-// The bids 1 up to n after what stands before `at`.
-fn put_bids(buf: &mut [u8], at: usize, from: u64, n: usize, windows: usize) -> usize
-    requires { (at ≤ length buf.old) × (from ≤ 1000000) }
-    ensures { result ≤ length buf.new }
-{
-    let mut j = at;
-    let mut bidder = from;
-    let mut i = 0;
-    while i < n {
-        j = put_bid(buf, j, bidder, b"5", windows);
-        if bidder < 1000000 {
-            bidder += 1;
-            i += 1;
-        } else {
-            i += 1;
-        }
-    }
-    j
-}
-
-// A single tender with n bids.
-pub(crate) fn many_bids(buf: &mut [u8], n: usize) -> usize
-    ensures { result ≤ length buf.new }
-{
-    let at = put(buf, 0, b"(tender single 0 10)\n");
-    put_bids(buf, at, 1, n, 1)
+// A single tender with the bids of 1 up to n, without n.
+pub(crate) fn bids_below(n: u64) -> Text {
+    let mut text = Text::new("(tender single 0 10)\n");
+    text.put_bids(1..n, 1);
+    text
 }
 
 // The same, with the first bidder once more at the end.
-pub(crate) fn repeated(buf: &mut [u8], n: usize) -> usize
-    ensures { result ≤ length buf.new }
-{
-    let at = many_bids(buf, n);
-    put_bid(buf, at, 1, b"5", 1)
+pub(crate) fn repeated(n: u64) -> Text {
+    let mut text = bids_below(n);
+    text.put_bid(1, "5", 1);
+    text
 }
 
-// The same n bids after a reserve line.
-pub(crate) fn reserved(buf: &mut [u8], n: usize) -> usize
-    ensures { result ≤ length buf.new }
-{
-    let at = put(buf, 0, b"(tender single 0 10)\n(reserve 5000)\n");
-    put_bids(buf, at, 1, n, 1)
+// The same bids after a reserve line.
+pub(crate) fn reserved(n: u64) -> Text {
+    let mut text = Text::new("(tender single 0 10)\n(reserve 5000)\n");
+    text.put_bids(1..n, 1);
+    text
 }
 
-// The same n bids before a reserve line.
-pub(crate) fn reserve_last(buf: &mut [u8], n: usize) -> usize
-    ensures { result ≤ length buf.new }
-{
-    let at = many_bids(buf, n);
-    put(buf, at, b"(reserve 5000)\n")
+// The same bids before a reserve line.
+pub(crate) fn reserve_last(n: u64) -> Text {
+    let mut text = bids_below(n);
+    text.put("(reserve 5000)\n");
+    text
 }
 
 // 316 bids of 207 bytes between a line of 20 bytes and one of 98 bytes and the price.
-pub(crate) fn long_text(buf: &mut [u8], price: &[u8]) -> usize
-    ensures { result ≤ length buf.new }
-{
-    let a = put(buf, 0, b"(tender multi 0 10)\n");
-    let b = put_bids(buf, a, 100001, 316, 32);
-    put_bid(buf, b, 100317, price, 14)
+pub(crate) fn long_text(price: &str) -> Text {
+    let mut text = Text::new("(tender multi 0 10)\n");
+    text.put_bids(100001..100317, 32);
+    text.put_bid(100317, price, 14);
+    text
 }

@@ -1,6 +1,8 @@
 -- Who asks for the highest price gets one answer; beside the award it is a winner's payment, or one cent less, and below a loser's price.
 -- Assumes nothing.
-use Rattle.std.specs.Prelude.{◌≡◌, refl, Bool, true, false, ◌&&◌, List, ℕ, ◌+◌, ◌*◌, ◌≤◌, ◌<◌, length, get_or, leb, ltb, eqb}
+use Rattle.std.specs.Prelude.{◌≡◌, refl, Bool, true, false, ◌&&◌, List, ℕ, ◌+◌, ◌*◌, ◌≤◌, ◌<◌, length, get_or}
+use Rattle.std.specs.Prelude.{leb, ltb, eqb}
+use Rattle.std.specs.Prelude.{Some, None, Ok}
 use Rattle.std.proofs.Common.{sym, ◌∙◌, inl, inr, arith, length-set, le-leb, le-ltb, eqb-true}
 use Rattle.std.proofs.Math.Path.{ap, fun_ext}
 use Rattle.std.proofs.Math.Bool.{cond}
@@ -8,7 +10,6 @@ use Rattle.std.proofs.Math.Option.{none}
 use Rattle.std.proofs.lemmas.Bool.{eqb-false}
 use Rattle.tender.specs.declared.Kind.{Kind}
 use Rattle.tender.specs.declared.Tender.{Tender}
-use Rattle.tender.specs.declared.Highest.TheVariants.{Price, NoPrice}
 use Rattle.tender.specs.declared.AwardRow.{AwardRow}
 use Rattle.tender.specs.declared.Totals.{Totals}
 use Rattle.tender.specs.Tables.{own, bid_width}
@@ -141,12 +142,12 @@ module _ (h : HighestCall) (c : AwardCall) (i : ℕ) (rows : List AwardRow) (tot
 
   -- by the greedy rule a winner's is its payment
   pub greedy_payment : rule t.kind ≡ greedy → (row_for (awarded rows totals) i).won ≡ true
-      → h.answer ≡ Price (row_for (awarded rows totals) i).cents
+      → h.answer ≡ Ok (Some (row_for (awarded rows totals) i).cents)
   greedy_payment e f = answered_price ∙ ap (λ r. price_for (highest r (auction_asked h) i)) e
       ∙ price_found (highest greedy (auction_asked h) i) (cents greedy (auction_asked h) i)
       (greedy_winner (auction_asked h) i inside spare_here cell_here
       (sym (ap (λ r. won r (auction_asked h) i) e) ∙ sym (ap (λ x. x.won) row) ∙ f))
-      ∙ ap Price (sym (ap (λ x. x.cents) row ∙ ap (λ r. cents r (auction_asked h) i) e))
+      ∙ ap (λ (n : ℕ). Ok (Some n)) (sym (ap (λ x. x.cents) row ∙ ap (λ r. cents r (auction_asked h) i) e))
 
   -- by least cost its payment, or one cent less
   pub least_payment : rule t.kind ≡ least_cost → (row_for (awarded rows totals) i).won ≡ true
@@ -261,7 +262,7 @@ module _ (h : HighestCall) (c : AwardCall) (i : ℕ) (r : RowAsked h i) (d : Ren
       found_same : {a b : ℕ} → found a ≡ found b → a ≡ b
       found_same e = cc
 
-  pub renamed_wins : (p : ℕ) → h.answer ≡ Price p → (row_for (told_by c) i).won ≡ leb (price_at c i) p
+  pub renamed_wins : (p : ℕ) → h.answer ≡ Ok (Some p) → (row_for (told_by c) i).won ≡ leb (price_at c i) p
   renamed_wins p e = go (one_highest h)
     where
       go : OneHighest h → (row_for (told_by c) i).won ≡ leb (price_at c i) p
@@ -272,7 +273,7 @@ module _ (h : HighestCall) (c : AwardCall) (i : ℕ) (r : RowAsked h i) (d : Ren
           ∙ ap (leb (price_at c i)) z
       go (with_no_price m j s x y) = let u = sym y ∙ e in let z : ◌≡◌ {A = ℕ} 0 1 = cc in absurd (omega arith)
 
-  pub renamed_loses : h.answer ≡ NoPrice → (row_for (told_by c) i).won ≡ false
+  pub renamed_loses : h.answer ≡ Ok None → (row_for (told_by c) i).won ≡ false
   renamed_loses e = go (one_highest h)
     where
       go : OneHighest h → (row_for (told_by c) i).won ≡ false

@@ -2,8 +2,7 @@
 -- than two bidders. Assumes nothing.
 use Rattle.std.proofs.Math.Path.{◌≡◌}
 use Rattle.std.proofs.Common.{ap, inl, inr, arith}
-use Rattle.std.specs.Prelude.{◌⊎◌, ℕ, ◌-◌, ◌<◌}
-use Rattle.tender.specs.declared.Reserve.TheVariants.{Absent}
+use Rattle.std.specs.Prelude.{◌⊎◌, ℕ, ◌-◌, ◌<◌, None}
 use Rattle.award_check.proofs.AuctionLaws.{minutes}
 use Rattle.award_rule.specs.Award.{outcome_number}
 use Rattle.award_outcome.specs.Right.{Bidders, EarliestIn, OneAnswer, tables_break_a_rule, rows_too_few, minute_uncovered}
@@ -24,7 +23,7 @@ at_minute d m b i l = record { minute = m; from = i.from; to = i.to; few = omega
 one_is_two : {c : AwardCall} → FewerThan 1 c → FewerThan 2 c
 one_is_two f = record { minute = f.minute; from = f.from; to = f.to; few = omega (arith, f.few) }
 
-module _ (c : AwardCall) (callable : CallableWith c) (bare : c.tender.reserve ≡ Absent) where
+module _ (c : AwardCall) (callable : CallableWith c) (bare : c.tender.reserve ≡ None) where
   enough : (d : ℕ) → Bidders (auction_by c) d → FewerThan d c → ⊥
   enough d h f =
       let t = c.tender.window in

@@ -1,16 +1,16 @@
 -- The demands in one place, in their order and words: each is of a public call as one record (`Calls`) and is proved by citing.
 -- `docs/RULES.md` prints the definitions that they rest on; `Worked` has the starred tenders of paper 01. Assumes nothing.
-use Rattle.std.specs.Prelude.{◌≡◌, ◌⊎◌, true, false, List, ◌∷◌, ◌++◌, map, ℕ, ◌+◌, ◌/◌, ◌^◌, ◌≤◌, ◌<◌, min, length, get_or, take, leb}
+use Rattle.std.specs.Prelude.{◌≡◌, ◌⊎◌, true, false, List, ◌∷◌, ◌++◌, map, ℕ, ◌+◌, ◌/◌, ◌^◌, ◌≤◌}
+use Rattle.std.specs.Prelude.{◌<◌, min, length, get_or, take, leb}
+use Rattle.std.specs.Prelude.{Some, None, Ok, Err}
 use Rattle.std.proofs.Common.{sym, ◌∙◌, inl, inr}
 use Rattle.std.proofs.Math.Option.{Option, some}
 use Rattle.tender.specs.declared.Kind.{Kind}
 use Rattle.tender.specs.declared.Window.{Window}
-use Rattle.tender.specs.declared.Reserve.TheVariants.{Absent, Price}
 use Rattle.tender.specs.declared.Tender.{Tender}
 use Rattle.tender.specs.declared.AwardRow.{AwardRow}
-use Rattle.tender.specs.declared.Answer.{Answer}
+use Rattle.tender.specs.Types.{Answer}
 use Rattle.tender.specs.declared.Totals.{Totals}
-use Rattle.tender.specs.declared.Highest.TheVariants as highest
 use Rattle.tender.specs.declared.Refusal.{Refusal}
 use Rattle.tender.specs.declared.Refusal.TheVariants.{BadTables}
 use Rattle.tender.specs.Refusals.{number_of}
@@ -25,7 +25,7 @@ use Rattle.reader_text.specs.Rules.{bytes_like}
 use Rattle.reader_text.proofs.RulesLaws.{rules_law}
 use Rattle.reader_text.proofs.CountLaws.{lines_law, room_law}
 use Rattle.reader_text.proofs.PlainLaws.{plain_law}
-use Rattle.reader.specs.declared.Reading.TheVariants as answer
+use Rattle.reader_fill.specs.Answer.{filled}
 use Rattle.reader_text.specs.Differ.{Word, DifferInPrice, DifferInBid, windows_by}
 use Rattle.reader_text.specs.DifferInSpelling.{DifferInSpelling}
 use Rattle.award_check.specs.Cells.{no_row}
@@ -50,7 +50,6 @@ use Rattle.spelling.specs.Lines.{pair_line, refused_word}
 use Rattle.listing_text.specs.Lines.{total_word, award_line}
 use Rattle.listing_text.specs.List.{win_list, list_lines}
 use Rattle.listing_text.proofs.ListLaws as list
-use Rattle.writer.specs.declared.Writing.TheVariants.{Written, Refused}
 use Rattle.highest_text.specs.Told.{highest_in}
 use Rattle.writer_back.specs.Same.{Same, ReadBack}
 use Rattle.theorems_calls.specs.Calls.{ReadRun, ReadCall, AwardCall, auction_by, told_by, ListCall, shown}
@@ -131,7 +130,7 @@ list_fits l h = (list.suffices l.promise h).0
 
 -- No bid is dropped or shortened: an accepted text is spelt again from what was read and a word for each price, and the tables hold
 -- just that.
-pub nothing_dropped : (r : ReadCall) (t : Tender) (n m : ℕ) → r.run.answer ≡ answer.Accepted t n m → WasRead r.run t
+pub nothing_dropped : (r : ReadCall) (t : Tender) (n m : ℕ) → r.run.answer ≡ Ok (filled t n m) → WasRead r.run t
 nothing_dropped = read_again
 
 -- an accepted text
@@ -156,8 +155,8 @@ module _ (text : List ℕ) (T : Tender) (R : List Row) (W : List Window) (read :
 pub never_eight : (text : List ℕ) (r : Refusal) → read_text text ≡ refused r → OfText (number_of r)
 never_eight = reading.refusal_number
 
-pub long_tables : (text : List ℕ) (bidRows windowRows : ℕ) → 1000 ≤ bidRows → 32000 ≤ windowRows
-    → read_into text bidRows windowRows ≡ read_text text
+pub long_tables : (text : List ℕ) (bid_rows window_rows : ℕ) → 1000 ≤ bid_rows → 32000 ≤ window_rows
+    → read_into text bid_rows window_rows ≡ read_text text
 long_tables = room_law
 
 -- A list shows no refusal but 1 to 7, 11, 12, 15 and 16.
@@ -170,20 +169,20 @@ a_list_shows = shows_no_other
 module _ (c : AwardCall) where
   -- Where no rule is broken, each bid has an award row and, without a reserve, each minute two bidders, the tender is awarded as
   -- defined.
-  pub awarded_as_defined : CallableWith c → (c.tender.reserve ≡ Absent → Bidders (auction_by c) 2)
+  pub awarded_as_defined : CallableWith c → (c.tender.reserve ≡ None → Bidders (auction_by c) 2)
       → IsAward (rule c.kind) (auction_by c) c.rows_before c.rows_after (told_by c)
   awarded_as_defined =
       one.awards c.kind c.tender c.count c.bids c.windows c.rows_before c.rows_after c.answer c.promise
 
   -- Else it is refused for cover: with 11 or 12 exactly where some minute has fewer than two bidders, with 11 where some has none.
-  pub refused_for_cover : CallableWith c → c.tender.reserve ≡ Absent → Exactly (ForCover c) (FewerThan 2 c)
+  pub refused_for_cover : CallableWith c → c.tender.reserve ≡ None → Exactly (ForCover c) (FewerThan 2 c)
   refused_for_cover h e = (cover.thin_if_refused c h e, cover.refused_if_thin c h e)
 
-  pub refused_with_eleven : CallableWith c → c.tender.reserve ≡ Absent → Exactly (outcome_number (told_by c) ≡ 11) (FewerThan 1 c)
+  pub refused_with_eleven : CallableWith c → c.tender.reserve ≡ None → Exactly (outcome_number (told_by c) ≡ 11) (FewerThan 1 c)
   refused_with_eleven h e = (cover.bare_if_eleven c h e, cover.eleven_if_bare c h e)
 
   -- With a reserve it never is.
-  pub reserve_serves : (p : ℕ) → c.tender.reserve ≡ Price p → ForCover c → ⊥
+  pub reserve_serves : (p : ℕ) → c.tender.reserve ≡ Some p → ForCover c → ⊥
   reserve_serves p e f = go f
     where
       served : (outcome_number (told_by c) ≡ 11 → ⊥) × (outcome_number (told_by c) ≡ 12 → ⊥)
@@ -295,18 +294,18 @@ can_be_offered_less = varied_bid
 -- Paper 5 of 02. Tenders without a reserve keep their answers. A text whose second line is not the reserve's is read as a tender
 -- without one, its bids from line 2 on; the bids alone are weighed, and lists and texts have no line more.
 pub read_without_a_reserve : (t : TenderLine) (ls : List (Option Line)) → Unreserved ls
-    → head_of (some (tender t) ∷ ls) ≡ judged_by halted (tender_fault t) 1 (begun (tender_with t Absent) 2 ls)
+    → head_of (some (tender t) ∷ ls) ≡ judged_by halted (tender_fault t) 1 (begun (tender_with t None) 2 ls)
 read_without_a_reserve = unreserved_head
 
-pub award_without_a_reserve : (c : AwardCall) → c.tender.reserve ≡ Absent → BidsAlone c
+pub award_without_a_reserve : (c : AwardCall) → c.tender.reserve ≡ None → BidsAlone c
 award_without_a_reserve = bids_alone
 
-pub list_without_a_reserve : (t : Tender) (R : List Row) (rows : List AwardRow) (totals : Totals) → t.reserve ≡ Absent
+pub list_without_a_reserve : (t : Tender) (R : List Row) (rows : List AwardRow) (totals : Totals) → t.reserve ≡ None
     → list_lines t R (awarded rows totals)
     ≡ award_line t ++ win_list R rows (length R) ++ pair_line total_word totals.cost totals.paid
 list_without_a_reserve = no_house_line
 
-pub text_without_a_reserve : (t : Tender) (bs : List BidLine) → t.reserve ≡ Absent → text_of t bs ≡ tender_text t ++ bids_text bs
+pub text_without_a_reserve : (t : Tender) (bs : List BidLine) → t.reserve ≡ None → text_of t bs ≡ tender_text t ++ bids_text bs
 text_without_a_reserve = no_reserve_line
 
 -- Paper 2 of 02. Bid lists in one spelling: each bid's windows joined where they overlap or touch, in rising order.
@@ -318,17 +317,17 @@ one_answer_of_the_writer = one_writing
 -- 9 as the award of the tender's own kind gives it on these tables, at the same place.
 pub nine_as_the_award : (w : WriteCall) (c : AwardCall) → SameTables w.tender w.count w.bids w.windows c
     → (row : ℕ)
-    → Exactly (w.answer ≡ Refused (BadTables row)) (told_by c ≡ refusal (BadTables row))
+    → Exactly (w.answer ≡ Err (BadTables row)) (told_by c ≡ refusal (BadTables row))
 nine_as_the_award w c s row = (rewriting.told_nine w c s row, rewriting.write_nine w c s row)
 
 -- What is written reads back, by `read` into tables of 1,000 and 32,000 rows: as the same tender and, in the same entry order, the same
 -- bidders, prices and minutes.
-pub written_reads_back : (w : WriteCall) (r : ReadCall) (n : ℕ) → w.answer ≡ Written n → r.run.text ≡ take n w.after_buffer
+pub written_reads_back : (w : WriteCall) (r : ReadCall) (n : ℕ) → w.answer ≡ Ok n → r.run.text ≡ take n w.after_buffer
     → 1000 ≤ length r.run.bids / bid_width → 32000 ≤ length r.run.windows / window_width → ReadAsWritten w r
 written_reads_back = read_as_written
 
 -- Equal bytes are written exactly where tender, bidders, prices, entry order and each bid's minutes agree: of tables,
-pub equal_bytes_of_tables : (w w' : WriteCall) (n n' : ℕ) → w.answer ≡ Written n → w'.answer ≡ Written n'
+pub equal_bytes_of_tables : (w w' : WriteCall) (n n' : ℕ) → w.answer ≡ Ok n → w'.answer ≡ Ok n'
     → Exactly (take n w.after_buffer ≡ take n' w'.after_buffer) (Same w.tender (rows_of w.count w.bids) w.windows
     w'.tender (rows_of w'.count w'.bids) w'.windows)
 equal_bytes_of_tables = equal_written
@@ -391,17 +390,17 @@ one_answer_to_who_asks = one_highest
 -- It is what the award says where the bid names another price in the same tables, within the limits: it wins with the price answered and
 -- below, and with none where none is answered.
 module _ (h : HighestCall) (c : AwardCall) (i : ℕ) (r : RowAsked h i) (d : Renamed h c i) where
-  pub wins_up_to_the_answer : (p : ℕ) → h.answer ≡ highest.Price p → (row_for (told_by c) i).won ≡ leb (price_at c i) p
+  pub wins_up_to_the_answer : (p : ℕ) → h.answer ≡ Ok (Some p) → (row_for (told_by c) i).won ≡ leb (price_at c i) p
   wins_up_to_the_answer = renamed_wins h c i r d
 
-  pub wins_with_none : h.answer ≡ highest.NoPrice → (row_for (told_by c) i).won ≡ false
+  pub wins_with_none : h.answer ≡ Ok None → (row_for (told_by c) i).won ≡ false
   wins_with_none = renamed_loses h c i r d
 
 -- beside an award on the same tables
 module _ (h : HighestCall) (c : AwardCall) (i : ℕ) (rows : List AwardRow) (totals : Totals) (b : Beside h c i rows totals) where
   -- A winner by the greedy rule, as of a multi tender, is answered its payment,
   pub multi_winner_s_payment : rule h.tender.kind ≡ greedy → (row_for (awarded rows totals) i).won ≡ true
-      → h.answer ≡ highest.Price (row_for (awarded rows totals) i).cents
+      → h.answer ≡ Ok (Some (row_for (awarded rows totals) i).cents)
   multi_winner_s_payment = greedy_payment h c i rows totals b
 
   -- one by least cost, as of a single tender, its payment where it would win by naming just that, and else one cent less,

@@ -1,3 +1,4 @@
+mod FilledLaws
 pub mod ReadAgainLaws
 pub mod VariedLaws
 pub mod TextGainLaws

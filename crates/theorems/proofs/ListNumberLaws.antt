@@ -1,5 +1,6 @@
 -- A text gives one list or 13, and the refusals that a list shows have the numbers 1 to 7, 11, 12 and 15 alone. Assumes nothing.
-use Rattle.std.specs.Prelude.{◌≡◌, refl, ◌⊎◌, Bool, true, false, cond, List, [], ◌++◌, ℕ, ◌^◌, ◌<◌, length, get_or, drop, leb}
+use Rattle.std.specs.Prelude.{◌≡◌, refl, ◌⊎◌, Bool, true, false, cond, List, [], ◌++◌, ℕ, ◌^◌, ◌<◌, length}
+use Rattle.std.specs.Prelude.{get_or, drop, leb}
 use Rattle.std.proofs.Common.{sym, ap, ◌∙◌, inl, inr, append-nil, arith, leb-true, leb-false, le-ltb}
 use Rattle.std.proofs.Math.Option.{none}
 use Rattle.tender.specs.declared.Window.{Window}
@@ -98,7 +99,8 @@ shows_no_other l n at small a e = go (read_text l.text) refl (sym (listed_is l.p
     text_small m (inr r) = omega (arith, r.1)
 
     of : (T : Tender) (R : List Row) (W : List Window) → Rules T R W → (o : Outcome)
-        → award_of T.kind T (length R) (flat_rows R) (flat_windows W) (length R) ≡ o → list_lines T R o ≡ pair_line refused_word n at
+        → award_of T.kind T (length R) (flat_rows R) (flat_windows W) (length R) ≡ o
+        → list_lines T R o ≡ pair_line refused_word n at
         → Showable n
     of T R W rules (awarded rows totals) f x =
         let z = sym (award_begins T R rows totals) ∙ ap (λ s. get_or s 1 0) x ∙ refusal_begins n at in

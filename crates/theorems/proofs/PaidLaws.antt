@@ -1,10 +1,11 @@
 -- An award on what was read pays less than 10 ^ 20 cents a bid, and a loser nothing; each bidder has one row. Assumes nothing.
-use Rattle.std.specs.Prelude.{◌≡◌, refl, Bool, true, false, cond, ◌||◌, List, [], ◌∷◌, ◌++◌, ℕ, zero, suc, ◌+◌, ◌*◌, ◌^◌, ◌≤◌, ◌<◌, length, get_or, set, eqb}
+use Rattle.std.specs.Prelude.{◌≡◌, refl, Bool, true, false, cond, ◌||◌, List, [], ◌∷◌, ◌++◌, ℕ, zero, suc, ◌+◌}
+use Rattle.std.specs.Prelude.{◌*◌, ◌^◌, ◌≤◌, ◌<◌, length, get_or, set, eqb}
+use Rattle.std.specs.Prelude.{Some, None}
 use Rattle.std.proofs.Common.{sym, ap, ◌∙◌, mul-le-mul, arith, eq-eqb}
 use Rattle.tender.specs.declared.Kind.{Kind}
 use Rattle.tender.specs.declared.Window.{Window}
-use Rattle.tender.specs.declared.Reserve.{Reserve}
-use Rattle.tender.specs.declared.Reserve.TheVariants.{Absent, Price}
+use Rattle.tender.specs.Types.{Reserve}
 use Rattle.tender.specs.declared.Tender.{Tender}
 use Rattle.tender.specs.Tables.{Row, flat_rows, flat_windows, bid_width}
 use Rattle.cover.specs.Sets.{when, found, value_of, bit, cells, cost}
@@ -173,8 +174,8 @@ module _ (T : Tender) (R : List Row) (W : List Window) (rules : Rules T R W) whe
       go (past m) = absurd (omega (arith, entries T (length R) (flat_rows R) (flat_windows W)))
 
   one_house : (r : Reserve) → houses r ≤ 1
-  one_house Absent = omega arith
-  one_house (Price p) = omega arith
+  one_house None = omega arith
+  one_house (Some p) = omega arith
 
   pub prices_sum : sum (auction_of T (length R) (flat_rows R) (flat_windows W)).prices ≤ 100100000000
   prices_sum =

@@ -1,5 +1,7 @@
 -- The writer's one answer; what it writes reads back; equal bytes are the same bids. Assumes nothing.
-use Rattle.std.specs.Prelude.{◌≡◌, refl, Bool, true, false, cond, ℕ, min, ◌*◌, ◌/◌, ◌≤◌, ◌<◌, length, take, drop, leb}
+use Rattle.std.specs.Prelude.{◌≡◌, refl, Bool, true, false, cond, ℕ, min, ◌*◌, ◌/◌, ◌≤◌, ◌<◌, length, take, drop}
+use Rattle.std.specs.Prelude.{leb}
+use Rattle.std.specs.Prelude.{Ok, Err}
 use Rattle.std.proofs.Math.Path.{sym, ap}
 use Rattle.std.proofs.Common.{◌∙◌, arith, le-leb, leb-true, leb-false}
 use mathlib.Core.List.{List, [], ◌++◌, append-nil}
@@ -13,7 +15,7 @@ use Rattle.reader_text.specs.Read.{accepted, read_text, read_into}
 use Rattle.reader.specs.Answer.{read_answer, bids_after, windows_after}
 use Rattle.reader_text.proofs.CountLaws.{room_law}
 use Rattle.reader_text.proofs.SizeLaws.{short_text}
-use Rattle.reader.specs.declared.Reading.TheVariants as reading
+use Rattle.reader_fill.specs.Answer.{filled}
 use Rattle.spelling.proofs.DeliveredLaws.{delivered_is}
 use Rattle.award_check.specs.Faults.{fault_of}
 use Rattle.award_check.proofs.TextLaws.{rows_flat}
@@ -22,7 +24,6 @@ use Rattle.award_rule.specs.Award as outcome
 use Rattle.award_rule.proofs.AwardLaws.{award_nine}
 use Rattle.award_outcome.specs.Right.{OneAnswer, tables_break_a_rule, rows_too_few, minute_uncovered, one_bidder, award}
 use Rattle.award_outcome.proofs.OneAnswerLaws.{one_answer}
-use Rattle.writer.specs.declared.Writing.TheVariants as writing
 use Rattle.writer_text.specs.Canonical.{canonical, spelt, unspelt, unless_fault, write_into, buffer_after}
 use Rattle.writer.specs.Writes.{write_answer}
 use Rattle.writer_back.specs.Same.{Same, ReadBack}
@@ -64,7 +65,7 @@ record WroteText (w : WriteCall) (n : ℕ) : Type 0 where
   short : length (text_by w) ≤ 65536
   bytes : take n w.after_buffer ≡ text_by w
 
-wrote_text : (w : WriteCall) (n : ℕ) → w.answer ≡ writing.Written n → WroteText w n
+wrote_text : (w : WriteCall) (n : ℕ) → w.answer ≡ Ok n → WroteText w n
 wrote_text w n e = go (one_writing w)
   where
     go : OneWriting w → WroteText w n
@@ -80,13 +81,13 @@ wrote_text w n e = go (one_writing w)
               rw (b, ← k) (take-append_seam (text_by w) (drop (length (text_by w)) w.buffer));
         }
 
-read_back : (w : WriteCall) (n : ℕ) → w.answer ≡ writing.Written n
+read_back : (w : WriteCall) (n : ℕ) → w.answer ≡ Ok n
     → ReadBack (take n w.after_buffer) w.tender (rows_of w.count w.bids) w.windows
 read_back w n e =
     let t = wrote_text w n e in
     rw t.bytes (reads_back w.tender w.count w.bids w.windows t.faultless t.short)
 
-pub read_as_written : (w : WriteCall) (r : ReadCall) (n : ℕ) → w.answer ≡ writing.Written n
+pub read_as_written : (w : WriteCall) (r : ReadCall) (n : ℕ) → w.answer ≡ Ok n
     → r.run.text ≡ take n w.after_buffer
     → 1000 ≤ length r.run.bids / bid_width → 32000 ≤ length r.run.windows / window_width → ReadAsWritten w r
 unfolding bids_after windows_after
@@ -108,7 +109,7 @@ read_as_written w r n e x lb lw =
     r.kept.own ∙ ap (windows_after r.run.windows) o in
     record {
       window_rows = length W;
-      accepts = r.kept.answers ∙ ap read_answer o ∙ ap (λ (m : ℕ). reading.Accepted w.tender m (length W)) c;
+      accepts = r.kept.answers ∙ ap read_answer o ∙ ap (λ (m : ℕ). Ok (filled w.tender m (length W))) c;
       same = rw (p, q) s;
     }
 
@@ -125,7 +126,8 @@ module _ (l : RewriteCall) (T : Tender) (R : List Row) (W : List Window) (read :
   fitted_length : length l.text ≤ length l.buffer → l.answer ≡ length (canonical T R (flat_windows W))
   fitted_length a =
       let c = canonical T R (flat_windows W) in
-      let e : leb (length c) (length l.buffer) ≡ true = le-leb (length c) (length l.buffer) (omega (arith, no_longer l.text T R W read)) in
+      let e : leb (length c) (length l.buffer)
+      ≡ true = le-leb (length c) (length l.buffer) (omega (arith, no_longer l.text T R W read)) in
       l.promise.delivers.answer
       ∙ ap (λ out. cond (leb (length out) (length l.buffer)) (length out) 0) rewrite_is ∙ ap (λ b. cond b (length c) 0) e
 
@@ -189,7 +191,7 @@ equal_rewritten l l' T T' R R' W W' e e' a a' =
 
 -- tables written
 
-pub equal_written : (w w' : WriteCall) (n n' : ℕ) → w.answer ≡ writing.Written n → w'.answer ≡ writing.Written n'
+pub equal_written : (w w' : WriteCall) (n n' : ℕ) → w.answer ≡ Ok n → w'.answer ≡ Ok n'
     → Exactly (take n w.after_buffer ≡ take n' w'.after_buffer) (Same w.tender (rows_of w.count w.bids) w.windows
     w'.tender (rows_of w'.count w'.bids) w'.windows)
 equal_written w w' n n' e e' =
@@ -212,7 +214,7 @@ module _ (w : WriteCall) (c : AwardCall) (s : SameTables w.tender w.count w.bids
       ≡ fault_of w.tender.kind w.tender w.count w.bids w.windows
   same_fault = rw (s.kinds, s.tenders, s.counts, s.bids_too, s.windows_too)
 
-  pub told_nine : w.answer ≡ writing.Refused (BadTables row) → told_by c ≡ outcome.refused (BadTables row)
+  pub told_nine : w.answer ≡ Err (BadTables row) → told_by c ≡ outcome.refused (BadTables row)
   told_nine e = go (one_writing w)
     where
       go : OneWriting w → told_by c ≡ outcome.refused (BadTables row)
@@ -226,20 +228,20 @@ module _ (w : WriteCall) (c : AwardCall) (s : SameTables w.tender w.count w.bids
       go (text_written f l a b) = let h = sym a ∙ e in let z : ◌≡◌ {A = ℕ} 0 1 = cc in absurd (omega arith)
 
   faulty : fault_of w.tender.kind w.tender w.count w.bids w.windows ≡ some row
-      → w.answer ≡ writing.Refused (BadTables row)
+      → w.answer ≡ Err (BadTables row)
   faulty e = go (one_writing w)
     where
-      go : OneWriting w → w.answer ≡ writing.Refused (BadTables row)
-      go (tables_faulty p f a b) = let h = sym f ∙ e in let q : p ≡ row = cc in a ∙ ap (λ (m : ℕ). writing.Refused (BadTables m)) q
+      go : OneWriting w → w.answer ≡ Err (BadTables row)
+      go (tables_faulty p f a b) = let h = sym f ∙ e in let q : p ≡ row = cc in a ∙ ap (λ (m : ℕ). Err (BadTables m)) q
       go (no_room f l a b) = let h = sym f ∙ e in let z : ◌≡◌ {A = ℕ} 0 1 = cc in absurd (omega arith)
       go (text_written f l a b) = let h = sym f ∙ e in let z : ◌≡◌ {A = ℕ} 0 1 = cc in absurd (omega arith)
 
-  pub write_nine : told_by c ≡ outcome.refused (BadTables row) → w.answer ≡ writing.Refused (BadTables row)
+  pub write_nine : told_by c ≡ outcome.refused (BadTables row) → w.answer ≡ Err (BadTables row)
   write_nine e = go (one_answer c.kind c.tender c.count c.bids c.windows c.rows_before c.rows_after c.answer
       c.promise)
     where
       go : OneAnswer c.kind c.tender c.count c.bids c.windows c.rows_before c.rows_after (told_by c)
-          → w.answer ≡ writing.Refused (BadTables row)
+          → w.answer ≡ Err (BadTables row)
       go (tables_break_a_rule p f r) =
           let h = sym r.outcome ∙ e in
           let q : p ≡ row = cc in
@@ -249,5 +251,5 @@ module _ (w : WriteCall) (c : AwardCall) (s : SameTables w.tender w.count w.bids
       go (one_bidder m f u b l r) = let h = sym r.outcome ∙ e in let z : ◌≡◌ {A = ℕ} 0 1 = cc in absurd (omega arith)
       go (award f b r) = let h = sym r.outcome ∙ e in let z : ◌≡◌ {A = ℕ} 0 1 = cc in absurd (omega arith)
 
-  pub nine_as_award : Exactly (w.answer ≡ writing.Refused (BadTables row)) (told_by c ≡ outcome.refused (BadTables row))
+  pub nine_as_award : Exactly (w.answer ≡ Err (BadTables row)) (told_by c ≡ outcome.refused (BadTables row))
   nine_as_award = (told_nine, write_nine)

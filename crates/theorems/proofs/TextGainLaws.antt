@@ -1,6 +1,8 @@
 -- Two texts that differ in one bid, each read by a call of `read` into tables of any size, and an award called on what each left: a false
 -- price and minutes held back gain nothing. Assumes nothing.
-use Rattle.std.specs.Prelude.{◌≡◌, refl, Bool, true, false, cond, ◌&&◌, List, ◌++◌, ℕ, ◌+◌, ◌*◌, ◌/◌, length, drop, leb, ltb}
+use Rattle.std.specs.Prelude.{◌≡◌, refl, Bool, true, false, cond, ◌&&◌, List, ◌++◌, ℕ, ◌+◌, ◌*◌, ◌/◌, length}
+use Rattle.std.specs.Prelude.{drop, leb, ltb}
+use Rattle.std.specs.Prelude.{Ok}
 use Rattle.std.proofs.Common.{sym, ◌∙◌, arith}
 use Rattle.std.proofs.Math.Path.{ap}
 use Rattle.std.proofs.Math.Option.{some}
@@ -9,13 +11,13 @@ use Rattle.tender.specs.declared.Kind.{Kind}
 use Rattle.tender.specs.declared.Window.{Window}
 use Rattle.tender.specs.declared.Tender.{Tender}
 use Rattle.tender.specs.declared.AwardRow.{AwardRow}
-use Rattle.tender.specs.declared.Answer.{Answer}
+use Rattle.tender.specs.Types.{Answer}
 use Rattle.tender.specs.Tables.{Row, flat_rows, flat_windows, bid_width, window_width}
 use Rattle.tender.specs.declared.Refusal.TheVariants.{TableTooShort}
 use Rattle.reader_text.specs.Read.{accepted, read_text, fitted, read_into}
 use Rattle.reader_text.specs.Read as reading
 use Rattle.reader.specs.Answer.{read_answer, bids_after, windows_after}
-use Rattle.reader.specs.declared.Reading.TheVariants as answer
+use Rattle.reader_fill.specs.Answer.{filled}
 use Rattle.reader_text.specs.Differ.{DifferInPrice, DifferInBid, windows_by}
 use Rattle.reader_text.proofs.BidLaws.{price_as_bid}
 use Rattle.award_check.specs.Alike.{named, PartOf}
@@ -25,6 +27,7 @@ use Rattle.award_outcome.specs.Right as right
 use Rattle.award_outcome.proofs.TextOutcomeLaws.{withheld_texts}
 use Rattle.theorems_calls.specs.Calls.{ReadCall, AwardCall}
 use Rattle.theorems.specs.Between.{Follows, SameAward, NoGainBetween}
+use Rattle.theorems.proofs.FilledLaws.{same_tender, same_bids}
 
 -- what an accepted text left in the tables
 record ReadLeft (text bids windows : List ℕ) (t : Tender) (n : ℕ) : Type 0 where
@@ -37,14 +40,14 @@ record ReadLeft (text bids windows : List ℕ) (t : Tender) (n : ℕ) : Type 0 w
   bids_are : bids ≡ flat_rows rows ++ past_rows
   windows_are : windows ≡ flat_windows spans ++ past_spans
 
-accepted_read : (r : ReadCall) (t : Tender) (n m : ℕ) → r.run.answer ≡ answer.Accepted t n m
+accepted_read : (r : ReadCall) (t : Tender) (n m : ℕ) → r.run.answer ≡ Ok (filled t n m)
     → ReadLeft r.run.text r.run.after_bids r.run.after_windows t n
 unfolding read_into fitted bids_after windows_after
 accepted_read r t n m e = go (read_text r.run.text) refl (sym e ∙ r.kept.answers) r.kept.rows
     r.kept.own
   where
     room : (T : Tender) (R : List Row) (W : List Window) (b : Bool) → read_text r.run.text ≡ accepted T R W
-        → answer.Accepted t n m ≡ read_answer (cond b (accepted T R W) (reading.refused TableTooShort)) →
+        → Ok (filled t n m) ≡ read_answer (cond b (accepted T R W) (reading.refused TableTooShort)) →
         r.run.after_bids ≡ bids_after r.run.bids (cond b (accepted T R W) (reading.refused TableTooShort))
         → r.run.after_windows ≡ windows_after r.run.windows (cond b (accepted T R W) (reading.refused TableTooShort)) →
         ReadLeft r.run.text r.run.after_bids r.run.after_windows t n
@@ -55,14 +58,14 @@ accepted_read r t n m e = go (read_text r.run.text) refl (sym e ∙ r.kept.answe
           spans = W;
           past_rows = drop (bid_width * length R) r.run.bids;
           past_spans = drop (window_width * length W) r.run.windows;
-          is = h ∙ ap (λ v. accepted v R W) (cc);
-          count = cc;
+          is = h ∙ ap (λ v. accepted v R W) (sym (same_tender refl x));
+          count = sym (same_bids refl x);
           bids_are = y;
           windows_are = z;
         }
 
     go : (o : reading.ReadOutcome) → read_text r.run.text ≡ o
-        → answer.Accepted t n m ≡ read_answer (fitted (length r.run.bids / bid_width) (length r.run.windows / window_width) o) →
+        → Ok (filled t n m) ≡ read_answer (fitted (length r.run.bids / bid_width) (length r.run.windows / window_width) o) →
         r.run.after_bids ≡ bids_after r.run.bids
         (fitted (length r.run.bids / bid_width) (length r.run.windows / window_width) o)
         → r.run.after_windows ≡ windows_after r.run.windows

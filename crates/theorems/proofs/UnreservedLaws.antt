@@ -1,7 +1,6 @@
 -- Without a reserve nothing is added: awards weigh the bids alone, and lists and texts have no line more. Assumes nothing.
-use Rattle.std.specs.Prelude.{◌≡◌, refl, ◌&&◌, List, ◌++◌, map, length}
+use Rattle.std.specs.Prelude.{◌≡◌, refl, ◌&&◌, List, ◌++◌, map, length, None}
 use Rattle.std.proofs.Common.{ap, ◌∙◌, append-nil}
-use Rattle.tender.specs.declared.Reserve.TheVariants.{Absent}
 use Rattle.tender.specs.declared.Tender.{Tender}
 use Rattle.tender.specs.declared.AwardRow.{AwardRow}
 use Rattle.tender.specs.declared.Totals.{Totals}
@@ -17,7 +16,7 @@ use Rattle.listing_text.specs.List.{win_list, list_lines}
 use Rattle.theorems_calls.specs.Calls.{AwardCall, auction_by}
 use Rattle.theorems.specs.Between.{BidsAlone}
 
-pub bids_alone : (c : AwardCall) → c.tender.reserve ≡ Absent → BidsAlone c
+pub bids_alone : (c : AwardCall) → c.tender.reserve ≡ None → BidsAlone c
 unfolding offers_of house_of totals_of
 bids_alone c e = record {
   offers = ap (λ r. map (offered c.windows) (rows_of c.count c.bids) ++ house_of c.tender r) e
@@ -28,14 +27,14 @@ bids_alone c e = record {
       (without_reserve c.tender c.count c.bids c.windows e);
 }
 
-pub no_house_line : (t : Tender) (R : List Row) (rows : List AwardRow) (totals : Totals) → t.reserve ≡ Absent
+pub no_house_line : (t : Tender) (R : List Row) (rows : List AwardRow) (totals : Totals) → t.reserve ≡ None
     → list_lines t R (awarded rows totals)
     ≡ award_line t ++ win_list R rows (length R) ++ pair_line total_word totals.cost totals.paid
 unfolding list_lines last_lines house_line
 no_house_line t R rows totals e = ap (λ r. award_line t ++ win_list R rows (length R)
     ++ (house_line r totals.house ++ pair_line total_word totals.cost totals.paid)) e
 
-pub no_reserve_line : (t : Tender) (bs : List BidLine) → t.reserve ≡ Absent → text_of t bs ≡ tender_text t ++ bids_text bs
+pub no_reserve_line : (t : Tender) (bs : List BidLine) → t.reserve ≡ None → text_of t bs ≡ tender_text t ++ bids_text bs
 unfolding text_of head_text reserve_text
 no_reserve_line t bs e = ap (λ r. (tender_text t ++ reserve_text r) ++ bids_text bs) e
     ∙ ap (λ s. s ++ bids_text bs) (append-nil (tender_text t))

@@ -1,11 +1,12 @@
 -- Each bid of an accepted text can be given another price as demand 3 says: a text that differs in that price alone. Assumes nothing.
-use Rattle.std.specs.Prelude.{◌≡◌, refl, List, [], ◌∷◌, ◌++◌, map, ℕ, zero, suc, ◌+◌, ◌≤◌, ◌<◌, length, get_or}
+use Rattle.std.specs.Prelude.{◌≡◌, refl, List, [], ◌∷◌, ◌++◌, map, ℕ, zero, suc, ◌+◌, ◌≤◌, ◌<◌, length}
+use Rattle.std.specs.Prelude.{get_or}
+use Rattle.std.specs.Prelude.{Some, None}
 use Rattle.std.proofs.Common.{sym, ap, subst, ◌∙◌, append_assoc, append-nil, arith}
 use Rattle.std.proofs.Math.Option.{some}
 use Rattle.tender.specs.declared.Kind.{Kind}
 use Rattle.tender.specs.declared.Window.{Window}
-use Rattle.tender.specs.declared.Reserve.{Reserve}
-use Rattle.tender.specs.declared.Reserve.TheVariants.{Absent, Price}
+use Rattle.tender.specs.Types.{Reserve}
 use Rattle.tender.specs.declared.Tender.{Tender}
 use Rattle.tender.specs.Keywords.{bytes, bid_word, reserve_word}
 use Rattle.tender.specs.Tables.{Row, flat_windows}
@@ -55,9 +56,9 @@ bid_ends p b = record {
 }
 
 head_ends : (t : Tender) (r : Reserve) (s : List ℕ) → SpeltReserve s r → Ends (tender_text t ++ s)
-head_ends t Absent s e =
+head_ends t None s e =
     rw (e, append-nil (tender_text t)) (record { but_last = spaced (tender_words t); are = tender_line_lem t })
-head_ends t (Price v) s (p, h, e) = ends_after (tender_text t) s
+head_ends t (Some v) s (p, h, e) = ends_after (tender_text t) s
     (record { but_last = spaced (one_words reserve_word p); are = e ∙ one_line_lem reserve_word p })
 
 -- the text up to a row's line, and from its price on

@@ -1,6 +1,6 @@
 -- What is said of who asks with which price a bid would win (paper 02, request 8).
 use Rattle.std.specs.Prelude.{◌≡◌, ◌⊎◌, Bool, false, List, ℕ, ◌+◌, ◌*◌, ◌≤◌, ◌<◌, length, get_or, leb}
-use Rattle.tender.specs.declared.Highest.TheVariants.{Price, NoPrice, Refused}
+use Rattle.std.specs.Prelude.{Some, None, Ok, Err}
 use Rattle.tender.specs.declared.AwardRow.{AwardRow}
 use Rattle.tender.specs.declared.Totals.{Totals}
 use Rattle.tender.specs.declared.Refusal.{Refusal}
@@ -39,11 +39,11 @@ wins_naming h i q = won (rule h.tender.kind) (at_price i q (auction_asked h)) i
 -- one answer: the award's refusal; 17 where no row has the number; the price up to which, of all whole prices, the row's bid wins; or that
 -- it wins with none
 pub data OneHighest (h : HighestCall) : Type 0 where
-  as_the_award : (r : Refusal) → award_asked h ≡ refused r → h.answer ≡ Refused r → OneHighest h
-  no_such_bidder : IsAwarded h → ((i : ℕ) → RowAsked h i → ⊥) → h.answer ≡ Refused NoSuchBidder → OneHighest h
-  up_to_price : IsAwarded h → (i p : ℕ) → RowAsked h i → ((q : ℕ) → wins_naming h i q ≡ leb q p) → h.answer ≡ Price p
+  as_the_award : (r : Refusal) → award_asked h ≡ refused r → h.answer ≡ Err r → OneHighest h
+  no_such_bidder : IsAwarded h → ((i : ℕ) → RowAsked h i → ⊥) → h.answer ≡ Err NoSuchBidder → OneHighest h
+  up_to_price : IsAwarded h → (i p : ℕ) → RowAsked h i → ((q : ℕ) → wins_naming h i q ≡ leb q p) → h.answer ≡ Ok (Some p)
       → OneHighest h
-  with_no_price : IsAwarded h → (i : ℕ) → RowAsked h i → ((q : ℕ) → wins_naming h i q ≡ false) → h.answer ≡ NoPrice
+  with_no_price : IsAwarded h → (i : ℕ) → RowAsked h i → ((q : ℕ) → wins_naming h i q ≡ false) → h.answer ≡ Ok None
       → OneHighest h
 
 -- an award on the same tables, made: its row i is that of the bid asked for
@@ -55,12 +55,12 @@ pub record Beside (h : HighestCall) (c : AwardCall) (i : ℕ) (rows : List Award
 -- a winner's price by least cost: its payment where it would win by naming just that, and else one cent less
 pub record PaidOrLess (h : HighestCall) (i cents : ℕ) : Type 0 where
   pub price : ℕ
-  pub is : h.answer ≡ Price price
+  pub is : h.answer ≡ Ok (Some price)
   pub tied : price + 1 ≡ cents + when (wins_naming h i cents) 1
 
 -- a loser's: none, or a price below the one that it named
 abbrev pub BelowNamed : HighestCall → AwardCall → ℕ → Type 0
-BelowNamed h c i = (h.answer ≡ NoPrice) ⊎ ((p : ℕ) × ((h.answer ≡ Price p) × (p < price_at c i)))
+BelowNamed h c i = (h.answer ≡ Ok None) ⊎ ((p : ℕ) × ((h.answer ≡ Ok (Some p)) × (p < price_at c i)))
 
 -- the award of the same kind on tables alike in all but the price of row i, with an award row for every bid and not refused with 9
 pub record Renamed (h : HighestCall) (c : AwardCall) (i : ℕ) : Type 0 where

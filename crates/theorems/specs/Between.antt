@@ -1,5 +1,7 @@
 -- What the demands say of a call, of two calls one after the other, and of two calls compared (paper 01, "Time, price and place").
-use Rattle.std.specs.Prelude.{◌≡◌, ◌⊎◌, true, false, List, ◌++◌, map, ℕ, ◌+◌, ◌-◌, ◌*◌, ◌≤◌, ◌<◌, length, get_or, drop, ltb}
+use Rattle.std.specs.Prelude.{◌≡◌, ◌⊎◌, true, false, List, ◌++◌, map, ℕ, ◌+◌, ◌-◌, ◌*◌, ◌≤◌, ◌<◌}
+use Rattle.std.specs.Prelude.{length, get_or, drop, ltb}
+use Rattle.std.specs.Prelude.{Ok}
 use Rattle.std.proofs.Math.Option.{some}
 use Rattle.tender.specs.declared.Window.{Window}
 use Rattle.tender.specs.declared.Tender.{Tender}
@@ -9,7 +11,7 @@ use Rattle.cover.specs.Sets.{bidders}
 use Rattle.cover.specs.Earliest.{cell_with}
 use Rattle.reader_text.specs.Words.{numeral_of, price_of}
 use Rattle.reader_text.specs.Read.{accepted, read_text}
-use Rattle.reader.specs.declared.Reading.TheVariants as answer
+use Rattle.reader_fill.specs.Answer.{filled}
 use Rattle.reader_text.specs.Differ.{DifferInPrice, DifferInBid, windows_by}
 use Rattle.award_check.specs.Cells.{no_row}
 use Rattle.award_check.specs.Auction.{offered, offers_of, thin_cell}
@@ -100,7 +102,7 @@ pub record SameReading (r r' : ReadCall) : Type 0 where
 -- the award is called on what the accepted text left
 pub record Follows (r : ReadCall) (c : AwardCall) : Type 0 where
   pub window_rows : ℕ
-  pub accepts : r.run.answer ≡ answer.Accepted c.tender c.count window_rows
+  pub accepts : r.run.answer ≡ Ok (filled c.tender c.count window_rows)
   pub bids_are : c.bids ≡ r.run.after_bids
   pub windows_are : c.windows ≡ r.run.after_windows
 

@@ -2,7 +2,7 @@
 -- back. Assumes nothing.
 use Rattle.std.proofs.Math.Path.{◌≡◌, refl, ap}
 use Rattle.std.proofs.Common.{sym, ◌∙◌, inl, inr, arith, length-append}
-use Rattle.std.specs.Prelude.{◌⊎◌, Bool, true, false, cond, not, ◌&&◌, ◌||◌, leb, ltb}
+use Rattle.std.specs.Prelude.{◌⊎◌, Bool, true, false, cond, not, ◌&&◌, ◌||◌, leb, ltb, Some, None, Result}
 use mathlib.Core.List.{List, [], ◌∷◌, ◌++◌, map, append-nil, append_assoc}
 use Rattle.std.proofs.Math.Option.{Option, none, some}
 use Prim.Native.Nat.{ℕ, ◌+◌, ◌/◌, ◌≤◌, ◌<◌}
@@ -11,8 +11,7 @@ use Rattle.std.proofs.lemmas.List.{length-map}
 use borrow.Author.Tests.{ltb-true, ltb-false, leb-true, leb-false, le-leb, lt-leb, lt-ltb, le-ltb}
 use Rattle.tender.specs.declared.Kind.TheVariants.{Single}
 use Rattle.tender.specs.declared.Window.{Window}
-use Rattle.tender.specs.declared.Reserve.{Reserve}
-use Rattle.tender.specs.declared.Reserve.TheVariants.{Absent, Price}
+use Rattle.tender.specs.Types.{Reserve}
 use Rattle.tender.specs.declared.Tender.{Tender}
 use Rattle.tender.specs.declared.Refusal.{Refusal}
 use Rattle.tender.specs.declared.Refusal.TheVariants.{TextTooLong, BadForm, OutsideLimits, TooMany, EmptyWindow, BidderRepeated}
@@ -28,9 +27,10 @@ use Rattle.reader_text.specs.Read.{Unreserved, after_head, read_lines, read_text
 use Rattle.reader_text.proofs.FaultLaws.{faultless_sound}
 use Rattle.reader_text.proofs.HeadLaws.{lines_halted, lines_begun, no_line, broken_first, bid_first, reserve_first, tender_read}
 use Rattle.reader_text.proofs.HeadLaws.{bids_unreserved, tender_faultless, reserve_absent, reserve_taken, reserve_high, head_of_lem}
-use Rattle.reader.specs.declared.Reading.{Reading}
+use Rattle.reader_fill.specs.declared.Filled.{Filled}
 use Rattle.reader.specs.Answer.{read_answer, bids_after, windows_after}
-use Rattle.theorems_calls.proofs.VerdictLaws.{refusal_of, says_or, says_and, says_ltb, says_leb, outside, no_minute, past_week, some_window, single, used, first_stands, one_first, Verdict, verdict, clean, stopped_by}
+use Rattle.theorems_calls.proofs.VerdictLaws.{refusal_of, says_or, says_and, says_ltb, says_leb, outside, no_minute, past_week, some_window}
+use Rattle.theorems_calls.proofs.VerdictLaws.{single, used, first_stands, one_first, Verdict, verdict, clean, stopped_by}
 use Rattle.theorems_calls.proofs.MisplacedLaws.{misplaced}
 use Rattle.theorems_calls.proofs.SoundLaws.{sound_lines}
 use Rattle.theorems_calls.proofs.ReserveLaws.{only_limits, sound_reserve, high_reserve}
@@ -94,7 +94,7 @@ bidders_after : (done : List BidLine) (b : BidLine) → map (λ b. b.bidder) (do
 bidders_after [] b = refl
 bidders_after (c ∷ done) b = ap (λ l. c.bidder ∷ l) (bidders_after done b)
 
-first_misplaced : (t : Tender) (done : List BidLine) (p : ℕ) → (t.reserve ≡ Absent → done ≡ [] → ⊥)
+first_misplaced : (t : Tender) (done : List BidLine) (p : ℕ) → (t.reserve ≡ None → done ≡ [] → ⊥)
     → FirstAmong page_order of_place (after t done) (some (reserve p))
 first_misplaced t done p h = inr ((λ x. x), inl (refl, misplaced t.reserve done h))
 
@@ -102,7 +102,7 @@ not_empty : {A : Type 0} (done : List BidLine) (b : BidLine) → done ++ b ∷ [
 not_empty done b e = absurd (omega (arith, ap length e, length-append done (b ∷ [])))
 
 walked : (t : Tender) (from : ℕ) (done : List BidLine) (ls : List (Option Line)) (out : ReadOutcome) (at : ℕ)
-    → at ≡ from + length done → (t.reserve ≡ Absent → done ≡ [] → Unreserved ls)
+    → at ≡ from + length done → (t.reserve ≡ None → done ≡ [] → Unreserved ls)
     → Walked t from done ls out (checked t at (map (λ b. b.bidder) done) ls out)
 unfolding checked judged_by
 walked t from done [] out at e u = all_sound [] refl tt refl
@@ -154,7 +154,7 @@ module _ (text : List ℕ) (short : length text ≤ 65536) where
   -- the lines after a faultless head
   after_head_lem : (T : Tender) (ls : List (Option Line)) → lines_in text ≡ map (λ l. some l) (head_lines T) ++ ls
       → NoFault at_start (some (tender (tender_line T))) → SoundReserve (tender_line T) T.reserve
-      → (T.reserve ≡ Absent → Unreserved ls) → (from : ℕ) → from ≡ length (head_lines T) + 1
+      → (T.reserve ≡ None → Unreserved ls) → (from : ℕ) → from ≡ length (head_lines T) + 1
       → TextRead text (checked T from [] ls (tables T (bids_of ls)))
   unfolding tables
   after_head_lem T ls e u v w from n =
@@ -198,35 +198,35 @@ module _ (text : List ℕ) (short : length text ≤ 65536) where
   after_tender : (t : TenderLine) (ls : List (Option Line)) → lines_in text ≡ some (tender t) ∷ ls
       → NoFault at_start (some (tender t)) → TextRead text (after_head (reserve_in t 2 ls))
   unfolding after_head head_lines reserve_lines
-  after_tender t [] e u = rw (reserve_absent t 2 [] tt) (after_head_lem (tender_with t Absent) [] e u tt (λ a. tt) 2 refl)
+  after_tender t [] e u = rw (reserve_absent t 2 [] tt) (after_head_lem (tender_with t None) [] e u tt (λ a. tt) 2 refl)
   after_tender t (none ∷ ls) e u =
-      rw (reserve_absent t 2 (none ∷ ls) tt) (after_head_lem (tender_with t Absent) (none ∷ ls) e u tt (λ a. tt) 2 refl)
+      rw (reserve_absent t 2 (none ∷ ls) tt) (after_head_lem (tender_with t None) (none ∷ ls) e u tt (λ a. tt) 2 refl)
   after_tender t (some (tender s) ∷ ls) e u =
       rw (reserve_absent t 2 (some (tender s) ∷ ls) tt)
-      (after_head_lem (tender_with t Absent) (some (tender s) ∷ ls) e u tt (λ a. tt) 2 refl)
+      (after_head_lem (tender_with t None) (some (tender s) ∷ ls) e u tt (λ a. tt) 2 refl)
   after_tender t (some (bid b) ∷ ls) e u =
       rw (reserve_absent t 2 (some (bid b) ∷ ls) tt)
-      (after_head_lem (tender_with t Absent) (some (bid b) ∷ ls) e u tt (λ a. tt) 2 refl)
+      (after_head_lem (tender_with t None) (some (bid b) ∷ ls) e u tt (λ a. tt) 2 refl)
   after_tender t (some (reserve p) ∷ ls) e u = go (leb p 100000000) refl
     where
-      priced : {A : Type 0} → Price p ≡ Absent → A
+      priced : {A : Type 0} → Some p ≡ None → A
       priced q = let z : ◌≡◌ {A = ℕ} 0 1 = cc in absurd (omega arith)
 
       go : (b : Bool) → leb p 100000000 ≡ b → TextRead text (after_head (reserve_in t 2 (some (reserve p) ∷ ls)))
       go true q =
           let l = leb-true p 100000000 q in
           rw (reserve_taken t 2 p ls l)
-          (after_head_lem (tender_with t (Price p)) ls e u (sound_reserve t p l) (λ a. priced a) 3 refl)
+          (after_head_lem (tender_with t (Some p)) ls e u (sound_reserve t p l) (λ a. priced a) 3 refl)
       go false q =
           let l = leb-false p 100000000 q in
           rw (reserve_high t 2 p ls l)
           (faulty (record {
-            above = after (tender_with t Absent) [];
+            above = after (tender_with t None) [];
             line = some (reserve p);
             rest = ls;
             short = short;
             lines = e;
-            sound = sound_lines (tender_with t Absent) [] u tt tt;
+            sound = sound_lines (tender_with t None) [] u tt tt;
           }) of_limits (high_reserve t p l) refl)
 
   tender_judged : (t : TenderLine) (ls : List (Option Line)) → lines_in text ≡ some (tender t) ∷ ls → (o : Option (ℕ → Refusal))
@@ -365,7 +365,7 @@ skips t done (b ∷ bs) ls out at (v, s) =
         ∙ ap (λ ds. checked t (at + length (b ∷ bs)) (map (λ b. b.bidder) ds) ls out) (append_assoc done (b ∷ []) bs)
 
 at_fault : (t : Tender) (done : List BidLine) (x : Option Line) (ls : List (Option Line)) (out : ReadOutcome) (at : ℕ) (f : LineFault)
-    → FirstAmong page_order f (after t done) x → (t.reserve ≡ Absent → done ≡ [] → Unreserved (x ∷ ls))
+    → FirstAmong page_order f (after t done) x → (t.reserve ≡ None → done ≡ [] → Unreserved (x ∷ ls))
     → checked t at (map (λ b. b.bidder) done) (x ∷ ls) out ≡ refused (refusal_of f at)
 unfolding checked judged_by
 at_fault t done none ls out at f h u = let e = first_stands page_order f (after t done) none h in
@@ -396,8 +396,8 @@ faultless t u = go (tender_verdict t)
 
 lawful_reserve_lem : (t : TenderLine) (r : Reserve) → SoundReserve t r → lawful_reserve r ≡ true
 unfolding lawful_reserve
-lawful_reserve_lem t Absent s = refl
-lawful_reserve_lem t (Price p) s = go (leb p 100000000) refl
+lawful_reserve_lem t None s = refl
+lawful_reserve_lem t (Some p) s = go (leb p 100000000) refl
   where
     go : (b : Bool) → leb p 100000000 ≡ b → b ≡ true
     go true e = refl
@@ -405,7 +405,7 @@ lawful_reserve_lem t (Price p) s = go (leb p 100000000) refl
 
 -- a faultless head is followed by the bids
 head_first : (T : Tender) (ls : List (Option Line)) → NoFault at_start (some (tender (tender_line T)))
-    → SoundReserve (tender_line T) T.reserve → (T.reserve ≡ Absent → Unreserved ls)
+    → SoundReserve (tender_line T) T.reserve → (T.reserve ≡ None → Unreserved ls)
     → read_lines (map (λ l. some l) (head_lines T) ++ ls) ≡ checked T (length (head_lines T) + 1) [] ls (tables T (bids_of ls))
 head_first T ls u v w = lines_begun (map (λ l. some l) (head_lines T) ++ ls) T (length (head_lines T) + 1) ls
     (head_of_lem T ls (faultless_sound (tender_line T) T.reserve (faultless (tender_line T) u)
@@ -423,29 +423,29 @@ at_first f (some (tender t)) ls k = tender_read t ls ∙ tells at_start (some (t
 
 -- the reserve's line after the tender's, with a price above the limit
 at_reserve : (t : TenderLine) (p : ℕ) (ls : List (Option Line)) (f : LineFault) → NoFault at_start (some (tender t))
-    → FirstAmong page_order f (after (tender_with t Absent) []) (some (reserve p))
+    → FirstAmong page_order f (after (tender_with t None) []) (some (reserve p))
     → read_lines (some (tender t) ∷ some (reserve p) ∷ ls) ≡ refused (refusal_of f 2)
 at_reserve t p ls f u k =
-    let h = only_limits t p f (first_stands page_order f (after (tender_with t Absent) []) (some (reserve p)) k) in
+    let h = only_limits t p f (first_stands page_order f (after (tender_with t None) []) (some (reserve p)) k) in
     lines_halted (some (tender t) ∷ some (reserve p) ∷ ls) (OutsideLimits 2)
     (tender_faultless t (some (reserve p) ∷ ls) (faultless t u) ∙ reserve_high t 2 p ls h.1)
     ∙ ap (λ g. refused (refusal_of g 2)) (sym h.0)
 
 -- a line after a head: the reserve's next after the tender's, or another
 data Stands (r : Reserve) (bs : List BidLine) (x : Option Line) : Type 0 where
-  second : (p : ℕ) → r ≡ Absent → bs ≡ [] → x ≡ some (reserve p) → Stands r bs x
-  later : ((ls : List (Option Line)) → r ≡ Absent → bs ≡ [] → Unreserved (x ∷ ls)) → Stands r bs x
+  second : (p : ℕ) → r ≡ None → bs ≡ [] → x ≡ some (reserve p) → Stands r bs x
+  later : ((ls : List (Option Line)) → r ≡ None → bs ≡ [] → Unreserved (x ∷ ls)) → Stands r bs x
 
 stands : (r : Reserve) (bs : List BidLine) (x : Option Line) → Stands r bs x
 stands r bs none = later (λ ls e f. tt)
 stands r bs (some (tender t)) = later (λ ls e f. tt)
 stands r bs (some (bid b)) = later (λ ls e f. tt)
-stands Absent [] (some (reserve p)) = second p refl refl refl
-stands Absent (b ∷ bs) (some (reserve p)) = later (λ ls e f. absurd (omega (arith, ap length f)))
-stands (Price q) bs (some (reserve p)) = later (λ ls e f. let z : ◌≡◌ {A = ℕ} 0 1 = cc in absurd (omega arith))
+stands None [] (some (reserve p)) = second p refl refl refl
+stands None (b ∷ bs) (some (reserve p)) = later (λ ls e f. absurd (omega (arith, ap length f)))
+stands (Some q) bs (some (reserve p)) = later (λ ls e f. let z : ◌≡◌ {A = ℕ} 0 1 = cc in absurd (omega arith))
 
 second_refused : (t : TenderLine) (r : Reserve) (bs : List BidLine) (x : Option Line) (ls : List (Option Line)) (f : LineFault)
-    (p : ℕ) → r ≡ Absent → bs ≡ [] → x ≡ some (reserve p) → NoFault at_start (some (tender t))
+    (p : ℕ) → r ≡ None → bs ≡ [] → x ≡ some (reserve p) → NoFault at_start (some (tender t))
     → FirstAmong page_order f (after (tender_with t r) bs) x
     → read_lines (lines_above (after (tender_with t r) bs) ++ x ∷ ls)
     ≡ refused (refusal_of f (length (lines_above (after (tender_with t r) bs)) + 1))
@@ -568,7 +568,7 @@ module _ (r : ReadRun) where
 
 -- the contract leaves no choice
 
-run : List ℕ → List ℕ → List ℕ → List ℕ → List ℕ → Reading → ReadRun
+run : List ℕ → List ℕ → List ℕ → List ℕ → List ℕ → Result Filled Refusal → ReadRun
 run t b w b' w' a = record { text = t; bids = b; windows = w; after_bids = b'; after_windows = w'; answer = a }
 
 by_parts : (x y : ReadRun) → x.text ≡ y.text → x.bids ≡ y.bids → x.windows ≡ y.windows → x.after_bids ≡ y.after_bids

@@ -91,7 +91,8 @@ past_week w = go (early w) refl
     go true e = λ h. omega (arith, leb-true w.end 10080 e)
     go false e = leb-false w.end 10080 e
 
-pub some_window : (test : Window → Bool) (P : Window → Type 0) → ((w : Window) → Decides (not (test w)) (P w)) → (ws : List Window)
+pub some_window : (test : Window → Bool) (P : Window → Type 0) → ((w : Window) → Decides (not (test w)) (P w))
+    → (ws : List Window)
     → Decides (not (every test ws)) (SomeOf P ws)
 unfolding every
 some_window test P says [] = λ h. h

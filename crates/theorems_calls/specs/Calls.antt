@@ -1,19 +1,19 @@
 -- The public calls, each as one record: what it was lent, what it left, what it answered, and that it kept its contract.
-use Rattle.std.specs.Prelude.{◌≡◌, List, ℕ, ◌/◌, length, take}
+use Rattle.std.specs.Prelude.{◌≡◌, List, ℕ, ◌/◌, length, take, Result}
 use Rattle.tender.specs.declared.Kind.{Kind}
 use Rattle.tender.specs.declared.Tender.{Tender}
 use Rattle.tender.specs.declared.AwardRow.{AwardRow}
-use Rattle.tender.specs.declared.Answer.{Answer}
-use Rattle.tender.specs.declared.Highest.{Highest}
+use Rattle.tender.specs.Types.{Answer}
+use Rattle.tender.specs.Types.{Highest}
 use Rattle.tender.specs.Tables.{bid_width, window_width}
 use Rattle.reader_text.specs.Read.{read_into}
 use Rattle.reader.specs.Answer.{read_answer, bids_after, windows_after}
-use Rattle.reader.specs.declared.Reading.{Reading}
+use Rattle.tender.specs.declared.Refusal.{Refusal}
+use Rattle.reader_fill.specs.declared.Filled.{Filled}
 use Rattle.award_check.specs.Auction.{Auction, auction_of}
 use Rattle.award_rule.specs.Award.{Outcome}
 use Rattle.award_outcome.specs.Promise.{told_award, Promise}
 use Rattle.listing_text.specs.List.{Listed}
-use Rattle.writer.specs.declared.Writing.{Writing}
 use Rattle.writer.specs.Writes.{Writes}
 use Rattle.rewrite.specs.Rewritten.{Rewritten}
 use Rattle.highest_rule.specs.Highest.{highest_of}
@@ -26,7 +26,7 @@ pub record ReadRun : Type 0 where
   pub windows : List ℕ
   pub after_bids : List ℕ
   pub after_windows : List ℕ
-  pub answer : Reading
+  pub answer : Result Filled Refusal
 
 -- the contract of `read`, its three clauses
 pub record ReadKept (r : ReadRun) : Type 0 where
@@ -84,7 +84,7 @@ pub record WriteCall : Type 0 where
   pub windows : List ℕ
   pub buffer : List ℕ
   pub after_buffer : List ℕ
-  pub answer : Writing
+  pub answer : Result ℕ Refusal
   pub promise : Writes tender count bids windows buffer after_buffer answer
 
 -- `tender_rewrite`, from C too

@@ -1,11 +1,13 @@
 -- Demand 1 of a text: a call of `read` answers one reading, the tables filled or one refusal, the first that is due in the page's
 -- order (paper 01, "What each operation declines").
-use Rattle.std.specs.Prelude.{◌≡◌, ◌⊎◌, List, [], ◌∷◌, ◌++◌, map, ℕ, ◌+◌, ◌*◌, ◌/◌, ◌≤◌, ◌<◌, length, drop}
+use Rattle.std.specs.Prelude.{◌≡◌, ◌⊎◌, List, [], ◌∷◌, ◌++◌, map, ℕ, ◌+◌, ◌*◌, ◌/◌, ◌≤◌, ◌<◌}
+use Rattle.std.specs.Prelude.{length, drop}
+use Rattle.std.specs.Prelude.{Ok, Err}
+use Rattle.std.specs.Prelude.{Some, None}
 use Rattle.std.proofs.Math.Option.{Option, none, some}
 use Rattle.tender.specs.declared.Kind.TheVariants.{Single}
 use Rattle.tender.specs.declared.Window.{Window}
-use Rattle.tender.specs.declared.Reserve.{Reserve}
-use Rattle.tender.specs.declared.Reserve.TheVariants.{Absent, Price}
+use Rattle.tender.specs.Types.{Reserve}
 use Rattle.tender.specs.declared.Tender.{Tender}
 use Rattle.tender.specs.declared.Refusal.{Refusal}
 use Rattle.tender.specs.declared.Refusal.TheVariants.{TextTooLong, BadForm, OutsideLimits, TooMany, EmptyWindow, BidderRepeated}
@@ -15,7 +17,7 @@ use Rattle.tender.specs.Tables.{Row, flat_rows, flat_windows, bid_width, window_
 use Rattle.reader_parts.specs.Words.{cut}
 use Rattle.reader_forms.specs.Line.{TenderLine, BidLine, Line, tender, bid, reserve, tender_line, head_lines, lines_of}
 use Rattle.reader_text.specs.Read.{rows_from, all_windows, tender_with}
-use Rattle.reader.specs.declared.Reading.TheVariants.{Accepted, Refused}
+use Rattle.reader_fill.specs.Answer.{filled}
 use Rattle.theorems_calls.specs.Calls.{ReadRun}
 
 -- a text without a line has a first line that is not of the form
@@ -81,7 +83,7 @@ OnTender f t = stands_by ⊥ ⊥ ⊥ ⊥ ⊥ (t.window.end ≤ t.window.start) (
 
 -- on the reserve's line: its place is wrong where there is a reserve already, or a bid
 abbrev pub OnReserve : LineFault → Tender → List BidLine → ℕ → Type 0
-OnReserve f t done p = stands_by ⊥ ((t.reserve ≡ Absent → ⊥) ⊎ (0 < length done)) ⊥ (max_price < p) ⊥ ⊥ ⊥ ⊥ f
+OnReserve f t done p = stands_by ⊥ ((t.reserve ≡ None → ⊥) ⊎ (0 < length done)) ⊥ (max_price < p) ⊥ ⊥ ⊥ ⊥ f
 
 -- on any line: the first has to be a tender's, the others a bid's or the reserve's
 abbrev pub OnLine : LineFault → Above → Option Line → Type 0
@@ -110,8 +112,8 @@ SoundBids t done (b ∷ bs) = NoFault (after t done) (some (bid b)) × SoundBids
 
 -- nor on the reserve's line, where there is one, after the tender's
 abbrev pub SoundReserve : TenderLine → Reserve → Type 0
-SoundReserve t Absent = Unit {0}
-SoundReserve t (Price p) = NoFault (after (tender_with t Absent) []) (some (reserve p))
+SoundReserve t None = Unit {0}
+SoundReserve t (Some p) = NoFault (after (tender_with t None) []) (some (reserve p))
 
 -- nor on any of these lines
 abbrev pub SoundLines : Above → Type 0
@@ -147,13 +149,13 @@ pub record Readable (text : List ℕ) (t : Tender) (R : List Row) (W : List Wind
 
 -- a refusal leaves both tables as they were
 pub record Declines (x : Refusal) (r : ReadRun) : Type 0 where
-  pub answer : r.answer ≡ Refused x
+  pub answer : r.answer ≡ Err x
   pub bids_stay : r.after_bids ≡ r.bids
   pub windows_stay : r.after_windows ≡ r.windows
 
 -- an accepted text fills the first rows, and the places past them stay
 pub record Fills (t : Tender) (R : List Row) (W : List Window) (r : ReadRun) : Type 0 where
-  pub answer : r.answer ≡ Accepted t (length R) (length W)
+  pub answer : r.answer ≡ Ok (filled t (length R) (length W))
   pub bids_are : r.after_bids ≡ flat_rows R ++ drop (bid_width * length R) r.bids
   pub windows_are : r.after_windows ≡ flat_windows W ++ drop (window_width * length W) r.windows
 

@@ -1,5 +1,5 @@
 -- What a list shows: each number reads back, and of each bid the row that the award gave it. Assumes nothing.
-use Rattle.std.specs.Prelude.{◌≡◌, ◌&&◌, ◌||◌, length, get_or, eqb}
+use Rattle.std.specs.Prelude.{◌≡◌, ◌&&◌, ◌||◌, length, get_or, eqb, Some, None}
 use Rattle.std.proofs.Math.Path.{refl, ap}
 use Rattle.std.proofs.Common.{sym, ◌∙◌, arith, eq-eqb, eqb-true, ne_eqb}
 use Rattle.std.proofs.Math.Bool.{Bool, true, false, cond}
@@ -9,8 +9,7 @@ use Prim.Native.Nat.{ℕ, zero, suc, ◌^◌, ◌≤◌, ◌<◌}
 use Rattle.std.proofs.lemmas.Bool.{eqb-false}
 use Rattle.tender.specs.declared.Kind.{Kind}
 use Rattle.tender.specs.declared.Kind.TheVariants.{Single, Multi}
-use Rattle.tender.specs.declared.Reserve.{Reserve}
-use Rattle.tender.specs.declared.Reserve.TheVariants.{Absent, Price}
+use Rattle.tender.specs.Types.{Reserve}
 use Rattle.tender.specs.declared.Tender.{Tender}
 use Rattle.tender.specs.declared.AwardRow.{AwardRow}
 use Rattle.tender.specs.declared.Totals.{Totals}
@@ -199,9 +198,9 @@ module _ (n : ℕ) (small : n < 10 ^ 20) where
   -- the house's line
   house_row : (r : Reserve) (w : Bool) (rest : List ℕ) → row_shown n (house_line r w ++ rest) ≡ row_shown n rest
   unfolding house_line row_shown row_among row_or one_bare house_word win_word bytes among equal_bytes
-  house_row Absent w rest = refl
-  house_row (Price p) false rest = refl
-  house_row (Price p) true rest = ap (row_among n) (one_cut house_word p rest refl)
+  house_row None w rest = refl
+  house_row (Some p) false rest = refl
+  house_row (Some p) true rest = ap (row_among n) (one_cut house_word p rest refl)
       ∙ ap (λ o. row_or o (row_shown n rest)) (other_word (cut 32 (one_bare house_word p))
       (ap (λ ws. equal_bytes (get_or ws 0 []) (40 ∷ win_word)) (cut_end 32 (40 ∷ house_word) (decimal p ++ 41 ∷ []) refl)))
 
@@ -313,7 +312,8 @@ pub first_number : (word : List ℕ) (a b c d : ℕ) → among 32 word ≡ false
     → pair_line word a b ≡ pair_line word c d → a ≡ c
 unfolding pair_line numbers among
 first_number word a b c d h l m e =
-    let f : some a ≡ some c = sym (decimal_back a l) ∙ sym (second a b) ∙ ap (λ s. digits 0 (get_or (cut 32 s) 1 [])) e ∙ second c d
+    let f : some a ≡ some c = sym (decimal_back a l) ∙ sym (second a b) ∙ ap (λ s. digits 0 (get_or (cut 32 s) 1 [])) e
+    ∙ second c d
     ∙ decimal_back c m in
     cc
   where

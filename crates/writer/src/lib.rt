@@ -3,41 +3,27 @@
 #![tactic(auto)]
 
 ghost use Rattle.std.specs.Prelude.{◌≡◌};
-ghost use Rattle.std.proofs.Math.Option.{none};
-ghost use Rattle.award_check.specs.Faults.{fault_of};
 ghost use Rattle.writer.specs.Writes.{Writes};
 
-use award_fault::Check;
+use award_fault::Faultless;
+use spelling_put::Page;
 use tender::{Refusal, Tender};
 
-// What writing answers: how many bytes, or why it declines.
-#[derive(Clone, Copy)]
-pub enum Writing {
-    Written(usize),
-    Refused(Refusal),
-}
-
 // The text of tables without a fault, where it is short enough and there is room for it.
-fn write_sound(
-    tender: Tender,
-    count: usize,
-    bids: &[u64],
-    windows: &[u64],
-    text: &mut [u8],
-) -> Writing
-    requires { fault_of tender.kind tender count bids.now windows.now ≡ none }
-    ensures { Writes tender count bids.now windows.now text.old text.new result }
+fn write_sound(tables: &Faultless<'_>, text: &mut [u8]) -> Result<usize, Refusal>
+    ensures { Writes tables.now.tender tables.now.count tables.now.bids.now tables.now.windows.now text.old text.new result }
 {
     let mut made = [1u8; 66112];
-    let n = writer_made::put_text(&mut made, tender, count, bids, windows);
+    let n = writer_made::put_text(&mut made, tables);
     if 65536 < n {
-        return Writing::Refused(Refusal::NoRoom);
+        return Err(Refusal::NoRoom);
     }
     if text.len() < n {
-        return Writing::Refused(Refusal::NoRoom);
+        return Err(Refusal::NoRoom);
     }
-    let end = spelling_put::put_all(text, 0, &made[..n]);
-    Writing::Written(end)
+    let mut page = Page::new(text);
+    page.put_all(&made[..n]);
+    Ok(page.at)
 }
 
 // The text of the tables in one spelling, at the start of `text`: its length, with the bytes past it staying. Refused are, with `text`
@@ -49,12 +35,19 @@ pub fn write(
     bids: &[u64],
     windows: &[u64],
     text: &mut [u8],
-) -> Writing
+) -> Result<usize, Refusal>
     ensures { Writes tender count bids.now windows.now text.old text.new result }
 {
-    let kind = tender.kind;
-    match award_fault::fault(kind, tender, count, bids, windows) {
-        Check::Sound => write_sound(tender, count, bids, windows, text),
-        Check::Faulty { row } => Writing::Refused(Refusal::BadTables { row: row }),
+    match award_fault::fault(tender.kind, tender, count, bids, windows) {
+        None => {
+            let tables = Faultless {
+                tender,
+                count,
+                bids,
+                windows,
+            };
+            write_sound(&tables, text)
+        }
+        Some(row) => Err(Refusal::BadTables { row }),
     }
 }

@@ -1,11 +1,11 @@
 -- Rows without a fault, their windows joined, are bids without a fault whose numbers a text may name. Assumes nothing.
 use Rattle.std.specs.Prelude.{◌≡◌, refl, true, not, List, [], ◌∷◌, ◌++◌, ℕ, ◌+◌, ◌≤◌, length, leb, ltb}
+use Rattle.std.specs.Prelude.{Some, None}
 use Rattle.std.proofs.Common.{sym, ap, ◌∙◌, arith, length-append, leb-true, ltb-true}
 use Rattle.std.proofs.Math.Option.{none}
 use Rattle.tender.specs.declared.Tender.{Tender}
 use Rattle.tender.specs.declared.Window.{Window}
-use Rattle.tender.specs.declared.Reserve.{Reserve}
-use Rattle.tender.specs.declared.Reserve.TheVariants.{Absent, Price}
+use Rattle.tender.specs.Types.{Reserve}
 use Rattle.tender.specs.Limits.{lawful, ordered, early, every}
 use Rattle.tender.specs.RulesLaws.{every_split}
 use Rattle.tender.specs.Tables.{Row, own}
@@ -33,9 +33,9 @@ lawful_named w e =
     let u = leb-true w.end 10080 b.1 in
     (omega arith, omega arith)
 
-pub reserve_named : (r : Reserve) → ((p : ℕ) → r ≡ Price p → p ≤ 100000000) → NamedReserve r
-reserve_named Absent h = tt
-reserve_named (Price p) h = omega (arith, h p refl)
+pub reserve_named : (r : Reserve) → ((p : ℕ) → r ≡ Some p → p ≤ 100000000) → NamedReserve r
+reserve_named None h = tt
+reserve_named (Some p) h = omega (arith, h p refl)
 
 pub all_named : (ws : List Window) → every lawful ws ≡ true → AllNamed ws
 all_named [] e = tt

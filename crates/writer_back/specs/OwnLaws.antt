@@ -1,5 +1,6 @@
 -- The rows that a text fills have the bids of its lines, whatever stands past them. Assumes nothing.
-use Rattle.std.specs.Prelude.{◌≡◌, refl, List, [], ◌∷◌, ◌++◌, map, ℕ, zero, suc, ◌+◌, ◌*◌, ◌<◌, length, get_or, drop}
+use Rattle.std.specs.Prelude.{◌≡◌, refl, List, [], ◌∷◌, ◌++◌, map, ℕ, zero, suc, ◌+◌, ◌*◌, ◌<◌, length}
+use Rattle.std.specs.Prelude.{get_or, drop}
 use Rattle.std.proofs.Common.{sym, ap, ◌∙◌, arith, drop-drop}
 use Rattle.tender.specs.declared.Window.{Window}
 use Rattle.tender.specs.Tables.{Row, windows_of, own, flat_windows, window_width}
@@ -47,7 +48,8 @@ bid_filled at cells v (b ∷ bs) (suc i) e =
     bid_filled (at + length b.windows) cells v bs i (cells_next at cells v b.windows (all_windows bs) e)
 
 -- all of them
-pub bids_filled : (at : ℕ) (cells v : List ℕ) (bs : List BidLine) → drop (window_width * at) cells ≡ flat_windows (all_windows bs) ++ v
+pub bids_filled : (at : ℕ) (cells v : List ℕ) (bs : List BidLine)
+    → drop (window_width * at) cells ≡ flat_windows (all_windows bs) ++ v
     → map (bid_in cells) (rows_from at bs) ≡ bs
 unfolding bid_in own rows_from all_windows
 bids_filled at cells v [] e = refl

@@ -1,6 +1,7 @@
 -- What is written reads back as the same bids, and two accepted texts are written with equal bytes exactly when they have the same
 -- bids (paper 02, request 2). Assumes nothing.
-use Rattle.std.specs.Prelude.{◌≡◌, refl, true, ◌&&◌, List, [], ◌∷◌, ◌++◌, map, ℕ, zero, suc, ◌+◌, ◌/◌, ◌≤◌, ◌<◌, length, get_or, leb}
+use Rattle.std.specs.Prelude.{◌≡◌, refl, true, ◌&&◌, List, [], ◌∷◌, ◌++◌, map, ℕ, zero, suc, ◌+◌, ◌/◌}
+use Rattle.std.specs.Prelude.{◌≤◌, ◌<◌, length, get_or, leb}
 use Rattle.std.proofs.Common.{sym, ap, ◌∙◌, arith, le-ltb}
 use Rattle.std.proofs.Math.Option.{none, some}
 use Rattle.tender.specs.declared.Window.{Window}
@@ -98,7 +99,8 @@ filled_same t rows windows v h = record {
     bs = respelt_in windows rows
 
     at : (i : ℕ) → i < length rows
-        → bid_in (flat_windows (all_windows bs) ++ v) (get_or (rows_from 0 bs) i no_row) ≡ respelt (bid_in windows (get_or rows i no_row))
+        → bid_in (flat_windows (all_windows bs) ++ v) (get_or (rows_from 0 bs) i no_row)
+        ≡ respelt (bid_in windows (get_or rows i no_row))
     at i l = bid_filled 0 (flat_windows (all_windows bs) ++ v) v bs i refl ∙ respelt_at windows rows i l
 
 -- the text of tables without a fault, where it is not above 65,536 bytes, reads back as the same bids

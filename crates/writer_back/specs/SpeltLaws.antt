@@ -1,11 +1,10 @@
 -- An accepted text is the text spelt again from what was read, up to the spelling of prices. Assumes nothing.
-use Rattle.std.specs.Prelude.{◌≡◌, refl, List, [], ◌∷◌, ◌++◌, map, ℕ, ◌+◌, ◌≤◌, length}
+use Rattle.std.specs.Prelude.{◌≡◌, refl, List, [], ◌∷◌, ◌++◌, map, ℕ, ◌+◌, ◌≤◌, length, Some, None}
 use Rattle.std.proofs.Common.{sym, ap, subst, ◌∙◌, append_assoc, append-nil, arith}
 use Rattle.std.proofs.Math.Option.{Option, none, some}
 use Rattle.tender.specs.declared.Kind.{Kind}
 use Rattle.tender.specs.declared.Window.{Window}
-use Rattle.tender.specs.declared.Reserve.{Reserve}
-use Rattle.tender.specs.declared.Reserve.TheVariants.{Absent, Price}
+use Rattle.tender.specs.Types.{Reserve}
 use Rattle.tender.specs.declared.Tender.{Tender}
 use Rattle.tender.specs.Keywords.{reserve_word}
 use Rattle.tender.specs.Tables.{Row, flat_windows}
@@ -60,7 +59,8 @@ pub record BidsRead (text : List ℕ) (T : Tender) (R : List Row) (W : List Wind
   pub windows : W ≡ all_windows bids
   pub lines : LinesSpelt text (head_lines T ++ map (λ b. bid b) bids)
 
-pub bids_read : (text : List ℕ) (T : Tender) (R : List Row) (W : List Window) → read_text text ≡ accepted T R W → BidsRead text T R W
+pub bids_read : (text : List ℕ) (T : Tender) (R : List Row) (W : List Window) → read_text text ≡ accepted T R W
+    → BidsRead text T R W
 bids_read text T R W e =
     let c = cut_some 10 text in
     let ls = lines_of (cut 10 text) in
@@ -118,8 +118,8 @@ record Headed (s : List ℕ) (r : Reserve) (ls : List Line) : Type 0 where
 
 headed : (s : List ℕ) (r : Reserve) (ls : List Line) → LinesSpelt s (reserve_lines r ++ ls) → Headed s r ls
 unfolding reserve_lines
-headed s Absent ls h = record { reserve = []; rest = s; is = refl; reserve_is = refl; lines = h }
-headed s (Price v) ls (p, rest, h, e, more) = record {
+headed s None ls h = record { reserve = []; rest = s; is = refl; reserve_is = refl; lines = h }
+headed s (Some v) ls (p, rest, h, e, more) = record {
   reserve = one_line_as reserve_word p;
   rest = rest;
   is = as_bytes (one_line_as reserve_word p) (spaced (one_words reserve_word p)) s rest (one_line_lem reserve_word p) e;

@@ -1,5 +1,5 @@
 -- The words of a line are those of what was read of it, with some word for its price. Assumes nothing.
-use Rattle.std.specs.Prelude.{◌≡◌, refl, Bool, true, false, cond, List, [], ◌∷◌, ◌++◌, ℕ, length}
+use Rattle.std.specs.Prelude.{◌≡◌, refl, Bool, true, false, cond, List, [], ◌∷◌, ◌++◌, ℕ, length, None}
 use Rattle.std.proofs.Common.{ap, ◌∙◌, arith}
 use Rattle.std.proofs.Math.Option.{Option, none, some}
 use Rattle.tender.specs.declared.Kind.{Kind}
@@ -7,7 +7,6 @@ use Rattle.tender.specs.declared.Kind.TheVariants.{Single, Multi}
 use Rattle.tender.specs.declared.Span.{Span}
 use Rattle.tender.specs.declared.Window.{Window}
 use Rattle.tender.specs.Limits.{as_window}
-use Rattle.tender.specs.declared.Reserve.TheVariants.{Absent}
 use Rattle.tender.specs.Keywords.{tender_word, reserve_word, bid_word, single_word, multi_word}
 use Rattle.reader_parts.specs.Words.{and_then, equal_bytes, opened, closed, numeral_of, price_of}
 use Rattle.reader_forms.specs.Line.{Line, tender, bid, reserve, kind_of, windows_in, tender_of, bid_of, reserve_of, line_of_words}
@@ -116,7 +115,7 @@ kind_is w k h = go (equal_bytes w single_word) (equal_bytes w multi_word) refl r
 
 -- the words of a line that was read, its price written as the word p
 abbrev pub words_as : List ℕ → Line → List (List ℕ)
-words_as p (tender t) = tender_words (tender_with t Absent)
+words_as p (tender t) = tender_words (tender_with t None)
 words_as p (bid b) = bid_words b.bidder p b.windows
 words_as p (reserve v) = one_words reserve_word p
 
@@ -149,7 +148,8 @@ tender_is (k ∷ s ∷ e ∷ []) x h = go (kind_of k) (closed e) refl refl h
         rw (← u) record { p = []; priced = tt; are = rw (f, g, b.start_is, b.end_is) }
 
     go : (o : Option Kind) (p : Option (List ℕ)) → kind_of k ≡ o → closed e ≡ p
-        → and_then o (λ y. and_then p (λ z. and_then (span_of s z) (λ w. some (tender (record { kind = y; window = w }))))) ≡ some x →
+        → and_then o (λ y. and_then p (λ z. and_then (span_of s z) (λ w. some (tender (record { kind = y; window = w })))))
+        ≡ some x →
         WordsSpelt ((40 ∷ tender_word) ∷ k ∷ s ∷ e ∷ []) x
     go none p f g q = let n : ◌≡◌ {A = ℕ} 0 1 = cc in absurd (omega arith)
     go (some y) none f g q = let n : ◌≡◌ {A = ℕ} 0 1 = cc in absurd (omega arith)

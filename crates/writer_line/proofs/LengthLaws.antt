@@ -1,5 +1,6 @@
 -- How long the tender's line and the joined windows of a bid are as bytes. Assumes nothing.
-use Rattle.std.specs.Prelude.{◌≡◌, refl, true, List, [], ◌∷◌, ◌++◌, ℕ, zero, suc, ◌*◌, ◌≤◌, length, drop, leb, ltb}
+use Rattle.std.specs.Prelude.{◌≡◌, refl, true, List, [], ◌∷◌, ◌++◌, ℕ, zero, suc, ◌*◌, ◌≤◌, length, drop, leb}
+use Rattle.std.specs.Prelude.{ltb}
 use Rattle.std.proofs.Common.{ap, arith, length-append, leb-true, ltb-true}
 use Rattle.tender.specs.declared.Window.{Window}
 use Rattle.tender.specs.declared.Tender.{Tender}

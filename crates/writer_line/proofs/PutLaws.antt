@@ -1,11 +1,11 @@
 -- The parts of a line put one after the other, and the joined windows of a bid put one by one. Assumes nothing.
 use Rattle.std.specs.Prelude.{◌≡◌, refl, true, List, [], ◌∷◌, ◌++◌, ℕ, ◌+◌, ◌-◌, ◌≤◌, ◌<◌, length}
+use Rattle.std.specs.Prelude.{Some, None}
 use Rattle.std.proofs.Common.{sym, subst, ◌∙◌, append_assoc, append-nil, length-append}
 use Rattle.std.proofs.Math.Path.{ap}
 use native.Mathlib.Omega.{arith}
 use Rattle.tender.specs.declared.Window.{Window}
-use Rattle.tender.specs.declared.Reserve.{Reserve}
-use Rattle.tender.specs.declared.Reserve.TheVariants.{Absent, Price}
+use Rattle.tender.specs.Types.{Reserve}
 use Rattle.tender.specs.declared.Tender.{Tender}
 use Rattle.tender.specs.Keywords.{bytes, reserve_word}
 use Rattle.tender.specs.Limits.{lawful, every}
@@ -37,11 +37,11 @@ pub tender_written : {old m1 m2 new : List ℕ} {at e1 e2 f : ℕ} (t : Tender) 
 unfolding tender_text
 tender_written {old} {m1} {m2} {new} {at} {e1} {e2} {f} t x y z = then x (then y z)
 
-pub no_reserve : (old : List ℕ) (at : ℕ) (r : Reserve) → r ≡ Absent → Written old at (reserve_text r) old at
+pub no_reserve : (old : List ℕ) (at : ℕ) (r : Reserve) → r ≡ None → Written old at (reserve_text r) old at
 unfolding reserve_text
 no_reserve old at r e = rw e (nothing_written old at)
 
-pub reserve_written : {old new : List ℕ} {at f : ℕ} (r : Reserve) (p : ℕ) → r ≡ Price p
+pub reserve_written : {old new : List ℕ} {at f : ℕ} (r : Reserve) (p : ℕ) → r ≡ Some p
     → Written old at (one_line reserve_word p) new f → Written old at (reserve_text r) new f
 unfolding reserve_text
 reserve_written {old} {new} {at} {f} r p e x = rw e x

@@ -1,5 +1,6 @@
 -- The lines of the bids put one after the other, and what they come to: the text, or too long a one. Assumes nothing.
-use Rattle.std.specs.Prelude.{◌≡◌, List, [], ◌∷◌, ◌++◌, map, ℕ, zero, suc, ◌+◌, ◌*◌, ◌≤◌, ◌<◌, length, get_or, take, drop}
+use Rattle.std.specs.Prelude.{◌≡◌, List, [], ◌∷◌, ◌++◌, map, ℕ, zero, suc, ◌+◌, ◌*◌, ◌≤◌, ◌<◌, length}
+use Rattle.std.specs.Prelude.{get_or, take, drop}
 use Rattle.std.proofs.Common.{sym, ap, subst, ◌∙◌, inl, inr, append_assoc, append-nil, add-one, arith, length-append}
 use Rattle.tender.specs.declared.Tender.{Tender}
 use Rattle.tender.specs.Tables.{Row, rows_of, windows_of, own, bid_width, window_width}
@@ -104,6 +105,11 @@ pub some_text : {t : Tender} {windows : List ℕ} {rows : List Row} {old mid : L
     → Written old 0 (head_text t) mid e → SomeBids windows rows mid e n new end → SomeText t windows rows old n new end
 unfolding canonical text_of
 some_text w b = record { lines = b.lines; few = b.few; written = then w b.written; all = b.all }
+
+-- what the page leaves in its buffer
+pub text_left : {t : Tender} {windows : List ℕ} {rows : List Row} {old : List ℕ} {n : ℕ} {mid new : List ℕ} {end : ℕ}
+    → SomeText t windows rows old n mid end → new ≡ mid → SomeText t windows rows old n new end
+text_left h e = rw e h
 
 -- as many bytes as it answers
 pub some_length : {t : Tender} {windows : List ℕ} {rows : List Row} {old : List ℕ} {n : ℕ} {new : List ℕ} {end : ℕ}

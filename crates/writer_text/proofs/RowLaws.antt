@@ -1,5 +1,6 @@
 -- What holds of a row without a fault. Assumes nothing.
-use Rattle.std.specs.Prelude.{◌≡◌, refl, Bool, true, false, cond, not, List, [], ◌∷◌, ◌++◌, ℕ, ◌+◌, ◌≤◌, length, leb}
+use Rattle.std.specs.Prelude.{◌≡◌, refl, Bool, true, false, cond, not, List, [], ◌∷◌, ◌++◌, ℕ, ◌+◌, ◌≤◌, length}
+use Rattle.std.specs.Prelude.{leb}
 use Rattle.std.proofs.Math.Option.{none, some}
 use Rattle.std.proofs.Common.{arith, leb-true}
 use Rattle.std.proofs.lemmas.Bool.{not-true}
@@ -26,7 +27,7 @@ pub record RowSays (t : Tender) (windows : List ℕ) (place : ℕ) (used : List 
   pub bidder_high : r.bidder ≤ 999999
   pub price_high : r.price ≤ 100000000
   pub some_window : 1 ≤ r.count
-  pub most_windows_lem : r.count ≤ most_windows t.kind
+  pub few_enough : r.count ≤ most_windows t.kind
   pub all_lawful : every lawful (own windows r) ≡ true
 
 pub row_says : (t : Tender) (windows : List ℕ) (place : ℕ) (used : List ℕ) (at : ℕ) (r : Row)
@@ -46,14 +47,14 @@ row_says t windows place used at r e =
       bidder_high = leb-true r.bidder 999999 b.1;
       price_high = leb-true r.price 100000000 s.price;
       some_window = leb-true 1 r.count c.0;
-      most_windows_lem = leb-true r.count (most_windows t.kind) c.1;
+      few_enough = leb-true r.count (most_windows t.kind) c.1;
       all_lawful = s.windows_too;
     }
 
 pub joined_count : (t : Tender) (windows : List ℕ) (place : ℕ) (used : List ℕ) (r : Row) → RowSays t windows place used r
     → length (joined (own windows r)) ≤ most_windows t.kind
 joined_count t windows place used r s =
-    omega (arith, joined_few (own windows r) s.all_lawful, own_length windows r, s.most_windows_lem)
+    omega (arith, joined_few (own windows r) s.all_lawful, own_length windows r, s.few_enough)
 
 -- the first row is sound, and the later ones have no fault
 pub split_fault : (t : Tender) (windows : List ℕ) (place : ℕ) (used : List ℕ) (at : ℕ) (r : Row) (rs : List Row)

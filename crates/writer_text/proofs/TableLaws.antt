@@ -1,5 +1,6 @@
 -- Row j of faultless tables: what the row rules say of it. Assumes nothing.
-use Rattle.std.specs.Prelude.{◌≡◌, refl, Bool, true, false, cond, ◌&&◌, List, [], ◌∷◌, ◌++◌, ℕ, zero, suc, ◌+◌, ◌*◌, ◌/◌, ◌≤◌, ◌<◌, length, get_or, drop, leb}
+use Rattle.std.specs.Prelude.{◌≡◌, refl, Bool, true, false, cond, ◌&&◌, List, [], ◌∷◌, ◌++◌, ℕ, zero, suc, ◌+◌}
+use Rattle.std.specs.Prelude.{◌*◌, ◌/◌, ◌≤◌, ◌<◌, length, get_or, drop, leb}
 use Rattle.std.proofs.Math.Option.{none, some}
 use Rattle.std.proofs.Common.{arith, leb-true}
 use Rattle.tender.specs.declared.Tender.{Tender}
@@ -26,7 +27,7 @@ sound_plain t windows place used at r e =
     let s = row_says t windows place used at r e in
     let h = keeps_kept t windows at r (sound_keeps t windows place used at r e) in
     record {
-      few_windows = omega (arith, s.most_windows_lem, most_few t.kind);
+      few_windows = omega (arith, s.few_enough, most_few t.kind);
       room = omega (arith, h.first, leb-true (at + r.count) (length windows / window_width) h.room);
       all_lawful = s.all_lawful;
     }

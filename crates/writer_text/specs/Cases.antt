@@ -1,8 +1,7 @@
 -- A tender of two bids written by the definition: into room enough, into a byte less, and with a window that ends before it begins;
 -- and a tender with a reserve. Assumes nothing.
-use Rattle.std.specs.Prelude.{◌≡◌, refl, List, [], ◌∷◌, ℕ}
+use Rattle.std.specs.Prelude.{◌≡◌, refl, List, [], ◌∷◌, ℕ, Some}
 use Rattle.tender.specs.declared.Kind.TheVariants.{Multi}
-use Rattle.tender.specs.declared.Reserve.TheVariants.{Price}
 use Rattle.tender.specs.declared.Tender.{Tender}
 use Rattle.tender.specs.declared.Refusal.TheVariants.{BadTables, NoRoom}
 use Rattle.tender.specs.Keywords.{bytes}
@@ -32,7 +31,7 @@ unfolding write_into multi rows
 bad_row = refl
 
 reserved : ℕ → Tender
-reserved p = record { kind = Multi; window = record { start = 0; end = 10 }; reserve = Price p }
+reserved p = record { kind = Multi; window = record { start = 0; end = 10 }; reserve = Some p }
 
 -- the reserve's line stands before the bids
 with_reserve : write_into (reserved 5000) 1 (21 ∷ 12 ∷ 0 ∷ 1 ∷ []) (0 ∷ 4 ∷ []) 53

@@ -9,14 +9,16 @@ use Rattle.award.proofs.award_in.Goals as goal
 pub fill-requires : goal.fill-requires
 fill-requires c =
     let A = c.args in
-    let s = c.settle_rows-settled in
-    let fit = rows_fit A.kind A.tender A.count A.bids.now A.windows.now _ _ _ s.new.won s.new.cents s.result.answer s.ensures.0 in
+    let s = c.settle_in-answer in
+    let n = c.rows_filled-filled in
+    let fit = rows_fit A.kind A.tender A.count A.bids.now A.windows.now _ _ _ s.new.won s.new.cents s.result s.ensures in
     let won = length-replicate {A = ℕ} 1000 1 in
-    (omega (arith, s.ensures.1), (omega (arith, s.ensures.1, s.auto.won, won), omega (arith, s.ensures.1, s.auto.cents, won)))
+    (omega (arith, n.ensures), (omega (arith, n.ensures, s.auto.won, won), omega (arith, n.ensures, s.auto.cents, won)))
 
 pub returns : goal.returns
 returns c =
     let A = c.args in
-    let s = c.settle_rows-settled in
+    let s = c.settle_in-answer in
+    let n = c.rows_filled-filled in
     filled_promise A.kind A.tender A.count A.bids.now A.windows.now A.rows.now c.fill.new.rows _ _ s.new.won s.new.cents
-    s.result.answer s.result.rows s.ensures.0 s.ensures.1 c.fill.ensures
+    s.result n.result s.ensures n.ensures c.fill.ensures

@@ -74,7 +74,3 @@ multi_in-requires c =
         ),
       ),
     )
-
-pub returns : goal.returns
-returns c =
-    c.multi_in.ensures

@@ -47,7 +47,3 @@ single_in-requires c =
     let f = entries_few Single A.tender A.count A.bids.now A.windows.now P.0 in
     rw (prefix_length c.entries-entries.result max_entries (omega (arith, e, f)))
     (P.0, (e, (e, (e, (omega (arith, e, f), (omega (arith, e, f, P.1), omega (arith, e, f, P.1)))))))
-
-pub returns : goal.returns
-returns c =
-    c.single_in.ensures

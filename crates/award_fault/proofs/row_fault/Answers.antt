@@ -43,10 +43,6 @@ returns-then-holds c =
     repeated args.tender args.count args.bids.now args.windows.now (members c.loop-j.used) c.loop-j.at c.loop-j.j
     c.loop-j.invariant c.loop-j-test.true (omega arith) (sym c.holds.ensures ∙ c.if-holds.true)
 
-pub slice_bounds-add-end : goal.slice_bounds-add-end
-slice_bounds-add-end c =
-    omega (arith, members_length c.loop-j.used, c.loop-j.invariant.passed.size)
-
 pub add-requires : goal.add-requires
 add-requires c =
     let args = c.args in

@@ -1,12 +1,8 @@
 -- `award_fault::row_fault` meets its contract: the rows not yet passed have the first fault of all, and the words hold the bidder
 -- numbers of those passed. Assumes nothing.
-use Prim.Native.Nat.{◌-◌}
 use Rattle.numbers.specs.Members.{members}
 use Rattle.award_check.proofs.WalkLaws.{Going}
 use Rattle.award_fault.proofs.row_fault.Given as goal
 
 abbrev pub invariant-loop-j : goal.invariant-loop-j
 invariant-loop-j l = Going l.tender l.count l.bids l.windows (members l.used) l.at l.j
-
-abbrev pub decreases-loop-j : goal.decreases-loop-j
-decreases-loop-j l = l.count - l.j

@@ -1,14 +1,9 @@
 -- `award_fault::windows_lawful` meets its contract: what is left of the windows decides as all of them do. Assumes nothing.
 use mathlib.Core.Path.{sym, ◌∙◌}
 use native.Mathlib.Omega.{arith}
-use Rattle.award_check.proofs.WalkLaws.{ahead_start, ahead_goes, ahead_fails, ahead_all}
+use Rattle.award_check.proofs.WalkLaws.{ahead_goes, ahead_fails, ahead_all}
 use Rattle.std.proofs.lemmas.Bool.{not_from_true, not_from_false}
 use Rattle.award_fault.proofs.windows_lawful.Goals as goal
-
-pub loop-j-init : goal.loop-j-init
-loop-j-init c =
-    let args = c.args in
-    (omega arith, ahead_start args.windows.now args.first args.count)
 
 pub returns-then-not-window_lawful : goal.returns-then-not-window_lawful
 returns-then-not-window_lawful c =

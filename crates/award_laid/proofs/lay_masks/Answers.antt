@@ -1,6 +1,6 @@
 -- `award_laid::lay_masks` meets its contract: prices and words of the bids are laid out, then the cells are asked or the house is put
 -- after them. Assumes nothing.
-use mathlib.Core.Path.{sym, ap, ◌∙◌}
+use mathlib.Core.Path.{ap, ◌∙◌}
 use native.Mathlib.Omega.{arith}
 use Rattle.tender.specs.declared.Kind.TheVariants.{Multi}
 use Rattle.award_check.specs.Auction.{houses}
@@ -12,18 +12,10 @@ pub cells-cells-requires : goal.cells-cells-requires
 cells-cells-requires c =
     let A = c.args in (cells_within Multi A.tender A.count A.bids.now A.windows.now c.requires.0).0
 
-pub slice_bounds-prices-end-2 : goal.slice_bounds-prices-end-2
-slice_bounds-prices-end-2 c =
-    sym (front_count _ _ c.args.prices.now c.requires.1.1.0)
-
 pub prices-requires : goal.prices-requires
 prices-requires c =
     let A = c.args in let P = c.requires in
     rw (front_count _ _ A.prices.now P.1.1.0) (orderly Multi A.tender A.count A.bids.now A.windows.now P.0).lent
-
-pub slice_bounds-masks-end-2 : goal.slice_bounds-masks-end-2
-slice_bounds-masks-end-2 c =
-    sym (word_front _ _ _ c.args.masks.now c.requires.1.1.1)
 
 pub masks-requires : goal.masks-requires
 masks-requires c =
@@ -44,18 +36,9 @@ thin_masks-requires c =
     c.prices.new.out c.masks.new.out P.1.1.0 P.1.1.1
     (c.masks.auto.out ∙ word_front _ _ _ A.masks.now P.1.1.1)
     (rw (front_count _ _ A.prices.now P.1.1.0) at c.prices.ensures) c.masks.ensures in (
-      R.word_count ∙ rows_only A.w A.count _ (ap houses c.in-Absent.is),
+      R.word_count ∙ rows_only A.w A.count _ (ap houses c.in-None.is),
       (d.words, omega (arith, c.cells-cells.ensures, d.fits)),
     )
-
-pub bounds-prices-count : goal.bounds-prices-count
-bounds-prices-count c =
-    let A = c.args in let P = c.requires in
-    let R = masks_ready A.tender A.count A.w A.bids.now A.windows.now A.prices.now A.masks.now
-    c.prices.new.out c.masks.new.out P.1.1.0 P.1.1.1
-    (c.masks.auto.out ∙ word_front _ _ _ A.masks.now P.1.1.1)
-    (rw (front_count _ _ A.prices.now P.1.1.0) at c.prices.ensures) c.masks.ensures in
-    omega (arith, ap houses c.in-Price.is, R.price_count)
 
 pub unlock-requires : goal.unlock-requires
 unlock-requires c =
@@ -65,25 +48,25 @@ unlock-requires c =
     c.prices.new.out c.masks.new.out P.1.1.0 P.1.1.1
     (c.masks.auto.out ∙ word_front _ _ _ A.masks.now P.1.1.1)
     (rw (front_count _ _ A.prices.now P.1.1.0) at c.prices.ensures) c.masks.ensures in
-    let e = house_words _ _ _ _ _ _ _ R _ c.in-Price.is in
+    let e = house_words _ _ _ _ _ _ _ R _ c.in-Some.is in
     (omega (arith, c.cells-cells.ensures, d.fits, e), omega (arith, d.words, e))
 
-pub returns-in-Absent : goal.returns-in-Absent
-returns-in-Absent c =
+pub returns-in-None : goal.returns-in-None
+returns-in-None c =
     let A = c.args in let P = c.requires in
     let R = masks_ready A.tender A.count A.w A.bids.now A.windows.now A.prices.now A.masks.now
     c.prices.new.out c.masks.new.out P.1.1.0 P.1.1.1
     (c.masks.auto.out ∙ word_front _ _ _ A.masks.now P.1.1.1)
     (rw (front_count _ _ A.prices.now P.1.1.0) at c.prices.ensures) c.masks.ensures in
-    masks_owners _ _ _ _ _ _ _ R c.in-Absent.is c.thin_masks.result (rw c.cells-cells.ensures at c.thin_masks.ensures)
+    masks_owners _ _ _ _ _ _ _ R c.in-None.is c.thin_masks.result (rw c.cells-cells.ensures at c.thin_masks.ensures)
 
-pub returns-in-Price : goal.returns-in-Price
-returns-in-Price c =
+pub returns-in-Some : goal.returns-in-Some
+returns-in-Some c =
     let A = c.args in let P = c.requires in
     let R = masks_ready A.tender A.count A.w A.bids.now A.windows.now A.prices.now A.masks.now
     c.prices.new.out c.masks.new.out P.1.1.0 P.1.1.1
     (c.masks.auto.out ∙ word_front _ _ _ A.masks.now P.1.1.1)
     (rw (front_count _ _ A.prices.now P.1.1.0) at c.prices.ensures) c.masks.ensures in
-    masks_house _ _ _ _ _ _ _ R _ c.in-Price.is c.unlock.new.held
-    (c.unlock.auto.held ∙ house_words _ _ _ _ _ _ _ R _ c.in-Price.is)
+    masks_house _ _ _ _ _ _ _ R _ c.in-Some.is c.unlock.new.held
+    (c.unlock.auto.held ∙ house_words _ _ _ _ _ _ _ R _ c.in-Some.is)
     (rw c.cells-cells.ensures at c.unlock.ensures)

@@ -48,7 +48,7 @@ ask-requires c =
     (rw (front_count _ _ A.prices.now P.1.0) at c.prices.ensures)
     (rw (front_count _ _ A.starts.now P.1.1.0) at c.spans.ensures) in
     rw c.cells-cells.ensures (
-      spans_owners _ _ _ _ _ _ _ R c.in-Absent.is,
+      spans_owners _ _ _ _ _ _ _ R c.in-None.is,
       (
         (cells_within Single A.tender A.count A.bids.now A.windows.now P.0).1,
         omega (arith, R.start_count, P.1.1.1.1),
@@ -64,7 +64,7 @@ put_house-requires c =
     (c.spans.auto.ends ∙ front_count _ _ A.ends.now P.1.1.1.0)
     (rw (front_count _ _ A.prices.now P.1.0) at c.prices.ensures)
     (rw (front_count _ _ A.starts.now P.1.1.0) at c.spans.ensures) in
-    let h = ap houses c.in-Price.is in
+    let h = ap houses c.in-Some.is in
     (omega (arith, h, R.price_count), (omega (arith, h, R.start_count), omega (arith, h, R.end_count)))
 
 pub by_start-requires : goal.by_start-requires
@@ -76,7 +76,7 @@ by_start-requires c =
     (c.spans.auto.ends ∙ front_count _ _ A.ends.now P.1.1.1.0)
     (rw (front_count _ _ A.prices.now P.1.0) at c.prices.ensures)
     (rw (front_count _ _ A.starts.now P.1.1.0) at c.spans.ensures) in
-    let H = c.put_house in let e = c.in-Price.is in
+    let H = c.put_house in let e = c.in-Some.is in
     rw (H.ensures.1.0, c.cells-cells.ensures) (record {
       n_le_max_entries = (
         omega (arith, house_few _ _ _ _ _ _ _ R _ e),
@@ -87,8 +87,8 @@ by_start-requires c =
       by_index = λ i l. house_starts _ _ _ _ _ _ _ R _ e i;
     })
 
-pub returns-in-Absent : goal.returns-in-Absent
-returns-in-Absent c =
+pub returns-in-None : goal.returns-in-None
+returns-in-None c =
     let A = c.args in let P = c.requires in
     let R = spans_ready A.tender A.count A.bids.now A.windows.now A.prices.now A.starts.now A.ends.now
     c.prices.new.out c.spans.new.starts c.spans.new.ends P.0 P.1.0 P.1.1.0 P.1.1.1.0
@@ -97,10 +97,10 @@ returns-in-Absent c =
     (rw (front_count _ _ A.prices.now P.1.0) at c.prices.ensures)
     (rw (front_count _ _ A.starts.now P.1.1.0) at c.spans.ensures) in
     let ask = c.ask in
-    lays_owners _ _ _ _ _ _ _ R c.in-Absent.is _ ask.result (rw c.cells-cells.ensures at ask.ensures.0) ask.ensures.1
+    lays_owners _ _ _ _ _ _ _ R c.in-None.is _ ask.result (rw c.cells-cells.ensures at ask.ensures.0) ask.ensures.1
 
-pub returns-in-Price : goal.returns-in-Price
-returns-in-Price c =
+pub returns-in-Some : goal.returns-in-Some
+returns-in-Some c =
     let A = c.args in let P = c.requires in
     let R = spans_ready A.tender A.count A.bids.now A.windows.now A.prices.now A.starts.now A.ends.now
     c.prices.new.out c.spans.new.starts c.spans.new.ends P.0 P.1.0 P.1.1.0 P.1.1.1.0
@@ -110,4 +110,4 @@ returns-in-Price c =
     (rw (front_count _ _ A.starts.now P.1.1.0) at c.spans.ensures) in
     let H = c.put_house in
     rw (H.ensures.0, H.ensures.1.0, H.ensures.1.1, c.cells-cells.ensures)
-    (lays_house _ _ _ _ _ _ _ R _ c.in-Price.is _ (rw H.ensures.1.0 at c.by_start.ensures))
+    (lays_house _ _ _ _ _ _ _ R _ c.in-Some.is _ (rw H.ensures.1.0 at c.by_start.ensures))

@@ -11,7 +11,7 @@ use Rattle.award_layout.proofs.add_windows.Goals as goal
 pub loop-j-init : goal.loop-j-init
 loop-j-init c =
     let args = c.args in
-    let pre = c.requires.count_in_bounds in (
+    let pre = c.requires in (
       refl,
       (
         ahead_start args.windows.now args.first args.count ∙ pre.1.0,
@@ -22,27 +22,24 @@ loop-j-init c =
 pub add_range_by-requires : goal.add_range_by-requires
 add_range_by-requires c =
     let args = c.args in
-    let pre = c.requires.count_in_bounds in
+    let pre = c.requires in
     let h = here_lawful args.windows.now args.first args.count c.loop-j.j c.loop-j-test.true c.loop-j.invariant.1.0 in (
-      c.requires.table_value,
+      omega (
+        arith,
+        c.clip-s.ensures,
+        c.clip-e.ensures,
+        clip_order args.tender _ _ h.0,
+      ),
       (
         omega (
           arith,
-          c.clip-s.ensures,
           c.clip-e.ensures,
-          clip_order args.tender _ _ h.0,
+          clip_inside args.tender
+              (window_at args.windows.now (args.first + c.loop-j.j)).end,
+          pre.1.1.0,
+          c.loop-j.invariant.0,
         ),
-        (
-          omega (
-            arith,
-            c.clip-e.ensures,
-            clip_inside args.tender
-                (window_at args.windows.now (args.first + c.loop-j.j)).end,
-            pre.1.1.0,
-            c.loop-j.invariant.0,
-          ),
-          omega (arith, pre.1.1.1.0, c.loop-j.invariant.0),
-        ),
+        omega (arith, pre.1.1.1.0, c.loop-j.invariant.0),
       ),
     )
 
@@ -60,9 +57,6 @@ loop-j-preserved c =
             c.add_range_by.ensures,
       ),
     )
-
-pub shape_of-words : goal.shape_of-words
-shape_of-words c = c.loop-j.invariant.0
 
 pub returns : goal.returns
 returns c =

@@ -12,84 +12,81 @@ loop-i-init c =
     let args = c.args in (
       omega arith,
       writing_starts args.n args.tender args.w args.bids.now args.windows.now args.out.now
-          c.requires.orderly.1.0,
+          c.requires.1.0,
     )
 
 pub overflow_mul-first : goal.overflow_mul-first
 overflow_mul-first c =
-    omega (arith, c.requires.orderly.0.lent)
+    omega (arith, c.requires.0.lent)
 
 pub overflow_add-first : goal.overflow_add-first
 overflow_add-first c =
-    omega (arith, c.requires.orderly.0.lent)
+    omega (arith, c.requires.0.lent)
 
 pub offset_bounds-bids-i : goal.offset_bounds-bids-i
 offset_bounds-bids-i c =
-    omega (arith, c.requires.orderly.0.lent)
+    omega (arith, c.requires.0.lent)
 
 pub bounds-bids-i : goal.bounds-bids-i
 bounds-bids-i c =
-    omega (arith, c.requires.orderly.0.lent)
+    omega (arith, c.requires.0.lent)
 
 pub overflow_mul-count : goal.overflow_mul-count
 overflow_mul-count c =
-    omega (arith, c.requires.orderly.0.lent)
+    omega (arith, c.requires.0.lent)
 
 pub overflow_add-count : goal.overflow_add-count
 overflow_add-count c =
-    omega (arith, c.requires.orderly.0.lent)
+    omega (arith, c.requires.0.lent)
 
 pub offset_bounds-bids-i-in-loop-i : goal.offset_bounds-bids-i-in-loop-i
 offset_bounds-bids-i-in-loop-i c =
-    omega (arith, c.requires.orderly.0.lent)
+    omega (arith, c.requires.0.lent)
 
 pub bounds-bids-i-in-loop-i : goal.bounds-bids-i-in-loop-i
 bounds-bids-i-in-loop-i c =
-    omega (arith, c.requires.orderly.0.lent)
+    omega (arith, c.requires.0.lent)
 
 pub overflow_mul-a : goal.overflow_mul-a
 overflow_mul-a c =
     let args = c.args in
-    omega (arith, c.requires.orderly.1.0, row_within args.w args.n c.loop-i.i c.loop-i-test.true)
+    omega (arith, c.requires.1.0, row_within args.w args.n c.loop-i.i c.loop-i-test.true)
 
 pub overflow_add-e : goal.overflow_add-e
 overflow_add-e c =
     let args = c.args in
-    omega (arith, c.requires.orderly.1.0, row_within args.w args.n c.loop-i.i c.loop-i-test.true)
+    omega (arith, c.requires.1.0, row_within args.w args.n c.loop-i.i c.loop-i-test.true)
 
 pub offset_bounds-out-a : goal.offset_bounds-out-a
 offset_bounds-out-a c =
     let args = c.args in
-    omega (arith, c.requires.orderly.1.0, row_within args.w args.n c.loop-i.i c.loop-i-test.true)
+    omega (arith, c.requires.1.0, row_within args.w args.n c.loop-i.i c.loop-i-test.true)
 
 pub mask_row-requires : goal.mask_row-requires
 unfolding own
 mask_row-requires c =
     let args = c.args in
-    let pre = c.requires.orderly in record {
-      count_in_bounds = (
-        row_room args.tender args.n args.bids.now args.windows.now pre.0 c.loop-i.i
-            c.loop-i-test.true,
-        (
-          (pre.0.kept c.loop-i.i c.loop-i-test.true).windows_too,
-          rw (part_row c.loop-i.out args.w c.loop-i.i) (
-            omega (
-              arith,
-              row_size c.loop-i.out args.w args.n c.loop-i.i c.loop-i.invariant.1.size
-                  c.loop-i-test.true,
-              pre.1.1.0,
-            ),
-            omega (
-              arith,
-              row_size c.loop-i.out args.w args.n c.loop-i.i c.loop-i.invariant.1.size
-                  c.loop-i-test.true,
-              pre.1.1.1,
-            ),
+    let pre = c.requires in (
+      row_room args.tender args.n args.bids.now args.windows.now pre.0 c.loop-i.i
+          c.loop-i-test.true,
+      (
+        (pre.0.kept c.loop-i.i c.loop-i-test.true).windows_too,
+        rw (part_row c.loop-i.out args.w c.loop-i.i) (
+          omega (
+            arith,
+            row_size c.loop-i.out args.w args.n c.loop-i.i c.loop-i.invariant.1.size
+                c.loop-i-test.true,
+            pre.1.1.0,
+          ),
+          omega (
+            arith,
+            row_size c.loop-i.out args.w args.n c.loop-i.i c.loop-i.invariant.1.size
+                c.loop-i-test.true,
+            pre.1.1.1,
           ),
         ),
-      );
-      table_value = c.requires.table_value;
-    }
+      ),
+    )
 
 pub loop-i-preserved : goal.loop-i-preserved
 unfolding own
@@ -103,7 +100,7 @@ loop-i-preserved c =
 
 pub shape_of-out : goal.shape_of-out
 shape_of-out c =
-    c.loop-i.invariant.1.size ∙ sym c.requires.orderly.1.0
+    c.loop-i.invariant.1.size ∙ sym c.requires.1.0
 
 pub returns : goal.returns
 returns c =

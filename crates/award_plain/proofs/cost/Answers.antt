@@ -6,27 +6,6 @@ use Rattle.award_plain.proofs.cost.Goals as goal
 pub loop-i-init : goal.loop-i-init
 loop-i-init c = added_none _ _
 
-pub bounds-won-i : goal.bounds-won-i
-bounds-won-i c =
-    omega (arith, c.loop-i-test.true, c.requires.1.0)
-
-pub overflow_add-s : goal.overflow_add-s
-overflow_add-s c =
-    let pre = c.requires in omega (
-      arith,
-      c.loop-i.invariant.small,
-      c.only-s.ensures.1,
-      pre.0,
-      pre.1.1 c.loop-i.i
-          c.loop-i-test.true,
-    )
-
-pub overflow_add-i : goal.overflow_add-i
-overflow_add-i c = omega (arith, c.loop-i-test.true)
-
-pub loop-i-smaller : goal.loop-i-smaller
-loop-i-smaller c = omega (arith, c.loop-i-test.true)
-
 pub loop-i-preserved : goal.loop-i-preserved
 loop-i-preserved c =
     added_more _ c.loop-i.invariant c.loop-i-test.true c.only-s.ensures.0 (omega

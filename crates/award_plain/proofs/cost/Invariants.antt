@@ -1,5 +1,4 @@
 -- `award_plain::cost` meets its contract: each turn adds what one entry asks. Assumes nothing.
-use Prim.Native.Nat.{◌-◌}
 use lib.ListN.{length}
 use Rattle.award_rule.specs.Sums.{asked}
 use Rattle.award_rule.proofs.SumsLaws.{Added}
@@ -7,6 +6,3 @@ use Rattle.award_plain.proofs.cost.Given as goal
 
 abbrev pub invariant-loop-i : goal.invariant-loop-i
 invariant-loop-i l = Added (asked l.prices l.won) (length l.prices) l.i l.s
-
-abbrev pub decreases-loop-i : goal.decreases-loop-i
-decreases-loop-i l = length l.prices - l.i

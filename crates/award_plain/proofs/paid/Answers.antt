@@ -1,29 +1,10 @@
 -- `award_plain::paid` meets its contract: each turn adds one payment. Assumes nothing.
-use native.Mathlib.Omega.{arith}
 use Rattle.award_rule.proofs.SumsLaws.{added_none, added_more, paid_all}
 use mathlib.Core.Path.{refl}
 use Rattle.award_plain.proofs.paid.Goals as goal
 
 pub loop-i-init : goal.loop-i-init
 loop-i-init c = added_none _ _
-
-pub bounds-cents-i : goal.bounds-cents-i
-bounds-cents-i c = omega (arith, c.loop-i-test.true, c.requires.1.0)
-
-pub overflow_add-s : goal.overflow_add-s
-overflow_add-s c = let pre = c.requires in omega (
-  arith,
-  c.loop-i.invariant.small,
-  pre.0,
-  pre.1.1
-      c.loop-i.i c.loop-i-test.true,
-)
-
-pub overflow_add-i : goal.overflow_add-i
-overflow_add-i c = omega (arith, c.loop-i-test.true, c.requires.0)
-
-pub loop-i-smaller : goal.loop-i-smaller
-loop-i-smaller c = omega (arith, c.loop-i-test.true)
 
 pub loop-i-preserved : goal.loop-i-preserved
 loop-i-preserved c = added_more _ c.loop-i.invariant c.loop-i-test.true refl (c.requires.1.1

@@ -6,5 +6,5 @@ use Rattle.award_rows.proofs.fill.Goals as goal
 
 pub returns : goal.returns
 returns c =
-    let e : c.loop-i.i ≡ c.args.n = omega (arith, c.loop-i.invariant.0) in
-    (rw e at c.loop-i.invariant.1) ∙ filled_rows c.args.n c.args.won.now c.args.cents.now c.args.rows.now c.requires.0
+    let e : c.loop-i.i ≡ c.args.n = omega arith in
+    (rw e at c.loop-i.invariant) ∙ filled_rows c.args.n c.args.won.now c.args.cents.now c.args.rows.now c.requires.0

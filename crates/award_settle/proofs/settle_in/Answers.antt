@@ -6,22 +6,22 @@ use Rattle.award_layout.specs.LayoutLaws.{orderly}
 use Rattle.award_rule.proofs.PlainLaws.{nine, ten, lent_more}
 use Rattle.award_settle.proofs.settle_in.Goals as goal
 
-pub returns-in-Faulty : goal.returns-in-Faulty
-returns-in-Faulty c =
+pub returns-in-Some : goal.returns-in-Some
+returns-in-Some c =
     let A = c.args in
     nine A.kind A.tender A.count A.bids.now A.windows.now A.lent A.won.now A.cents.now
-    _ (sym c.fault-check.ensures ∙ ap checked_fault c.in-Faulty.is)
+    _ (sym c.fault.ensures ∙ ap checked_fault c.in-Some.is)
 
 pub returns-then-lent-count : goal.returns-then-lent-count
 returns-then-lent-count c =
     let A = c.args in
     ten A.kind A.tender A.count A.bids.now A.windows.now A.lent A.won.now A.cents.now
-    (sym c.fault-check.ensures ∙ ap checked_fault c.in_default.is) c.if-lent-count.true
+    (sym c.fault.ensures ∙ ap checked_fault c.in_default.is) c.if-lent-count.true
 
 pub settle_sound-requires : goal.settle_sound-requires
 settle_sound-requires c =
     let A = c.args in let P = c.requires in
-    let f = (sym c.fault-check.ensures ∙ ap checked_fault c.in_default.is) in
+    let f = (sym c.fault.ensures ∙ ap checked_fault c.in_default.is) in
     let o = orderly A.kind A.tender A.count A.bids.now A.windows.now f in
     (f, (omega (arith, o.few, P, c.if-lent-count.false), omega (arith, o.few, P, c.if-lent-count.false)))
 

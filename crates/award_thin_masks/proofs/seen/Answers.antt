@@ -4,38 +4,13 @@ use Prim.Native.Nat.{◌+◌, ◌*◌}
 use native.Mathlib.Omega.{arith}
 use lib.ListN.{get_or}
 use lib.Bits.{bit_and, bit_or}
-use Rattle.multi_market.proofs.WordRowLaws.{row_within}
-use Rattle.award_thin_masks.specs.MasksLaws.{seeing_none, seeing_more, reached_soon, reached_all}
+use Rattle.award_thin_masks.specs.MasksLaws.{seeing_none, seeing_more, reached_soon}
 use Rattle.award_thin_masks.proofs.seen.Goals as goal
 
 pub loop-i-init : goal.loop-i-init
 loop-i-init c =
     let args = c.args in
     (omega arith, seeing_none args.masks.now args.w args.q)
-
-pub overflow_mul-x : goal.overflow_mul-x
-overflow_mul-x c =
-    let args = c.args in
-    omega (arith, row_within args.w args.n c.loop-i.i c.loop-i-test.true, c.requires.0)
-
-pub overflow_add-x : goal.overflow_add-x
-overflow_add-x c =
-    let args = c.args in
-    omega (arith, row_within args.w args.n c.loop-i.i c.loop-i-test.true, c.requires.0)
-
-pub offset_bounds-masks-w : goal.offset_bounds-masks-w
-offset_bounds-masks-w c =
-    let args = c.args in
-    omega (arith, row_within args.w args.n c.loop-i.i c.loop-i-test.true, c.requires.0)
-
-pub bounds-masks-w : goal.bounds-masks-w
-bounds-masks-w c =
-    let args = c.args in
-    omega (
-      arith,
-      row_within args.w args.n c.loop-i.i c.loop-i-test.true,
-      c.requires.0,
-    )
 
 pub returns-then-two-wanted : goal.returns-then-two-wanted
 returns-then-two-wanted c =
@@ -55,9 +30,3 @@ loop-i-preserved c =
       seeing_more args.masks.now args.w args.q c.requires.1 c.loop-i.i
           c.loop-i.one c.loop-i.two c.loop-i.invariant.1,
     )
-
-pub returns : goal.returns
-returns c =
-    let args = c.args in
-    reached_all args.masks.now args.w args.q c.loop-i.i c.loop-i.one c.loop-i.two
-    c.loop-i.invariant.1 args.wanted args.n (omega arith)

@@ -10,20 +10,14 @@ returns-then-lone-cells c =
     enough (has args.masks.now args.w) args.n args.cells c.masks_below-lone.result c.masks_below-lone.ensures
     (omega arith)
 
-pub bare_mask-missing-requires : goal.bare_mask-missing-requires
-bare_mask-missing-requires c =
-    let pre = c.requires in
-    (pre.0, pre.1.1)
-
-pub returns-then-missing-cells : goal.returns-then-missing-cells
-returns-then-missing-cells c =
+pub returns-in-Some : goal.returns-in-Some
+returns-in-Some c =
     let args = c.args in
-    bare (has args.masks.now args.w) args.n args.cells c.bare_mask-missing.result c.bare_mask-missing.ensures
-    c.if-missing-cells.true
+    let found = c.in-Some.ensures in
+    bare (has args.masks.now args.w) args.n args.cells c.in-Some.missing found.1 found.0
 
-pub returns : goal.returns
-returns c =
+pub returns-in-None : goal.returns-in-None
+returns-in-None c =
     let args = c.args in
-    lone (has args.masks.now args.w) args.n args.cells c.masks_below-lone.result
-    c.bare_mask-missing.result c.masks_below-lone.ensures c.if-lone-cells.false
-    c.bare_mask-missing.ensures c.if-missing-cells.false
+    lone (has args.masks.now args.w) args.n args.cells c.masks_below-lone.result args.cells c.masks_below-lone.ensures
+    c.if-lone-cells.false c.in-None.ensures (omega arith)

@@ -14,7 +14,7 @@ returns-then-second-starts c =
 
 pub loop-q-preserved : goal.loop-q-preserved
 loop-q-preserved c =
-    rw (c.greater-first.ensures, c.greater-second.ensures, c.lesser.ensures)
+    rw (c.max-first.ensures, c.max-second.ensures, c.min.ensures)
     (ends_more c.loop-q.invariant c.requires.0 c.loop-q-test.true c.if-second-starts.false)
 
 pub returns : goal.returns

@@ -11,19 +11,14 @@ returns-then-lone-cells c =
     enough (spans args.starts.now args.ends.now) (length args.starts.now) args.cells c.spans_below-lone.result
     c.spans_below-lone.ensures (omega arith)
 
-pub bare_span-bare-requires : goal.bare_span-bare-requires
-bare_span-bare-requires c =
-    c.requires.0.same
-
-pub returns-then-bare-cells : goal.returns-then-bare-cells
-returns-then-bare-cells c =
+pub returns-in-Some : goal.returns-in-Some
+returns-in-Some c =
     let args = c.args in
-    bare (spans args.starts.now args.ends.now) (length args.starts.now) args.cells c.bare_span-bare.result
-    c.bare_span-bare.ensures c.if-bare-cells.true
+    let found = c.in-Some.ensures in
+    bare (spans args.starts.now args.ends.now) (length args.starts.now) args.cells c.in-Some.bare found.1 found.0
 
-pub returns : goal.returns
-returns c =
+pub returns-in-None : goal.returns-in-None
+returns-in-None c =
     let args = c.args in
     lone (spans args.starts.now args.ends.now) (length args.starts.now) args.cells
-    c.spans_below-lone.result c.bare_span-bare.result c.spans_below-lone.ensures
-    c.if-lone-cells.false c.bare_span-bare.ensures c.if-bare-cells.false
+    c.spans_below-lone.result args.cells c.spans_below-lone.ensures c.if-lone-cells.false c.in-None.ensures (omega arith)

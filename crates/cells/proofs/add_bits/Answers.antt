@@ -6,5 +6,5 @@ use Rattle.cells.proofs.add_bits.Goals as goal
 pub returns : goal.returns
 returns c =
     let args = c.args in
-    bits_added args.words.now args.w (omega arith) args.lo args.hi c.span-m.result (omega arith) (omega arith)
-    c.span-m.ensures
+    bits_added args.words.now args.w (omega arith) args.lo args.hi c.span.result (omega arith) (omega arith)
+    c.span.ensures

@@ -1,34 +1,13 @@
--- `cells::add_words` meets its contract: the words from a up to w have all their cells. Assumes nothing.
-use native.Mathlib.Omega.{arith}
-use Prim.Native.Nat.{◌*◌}
-use mathlib.Core.Path.{◌≡◌, refl}
-use lib.ListN.{length-set}
-use Rattle.cells.proofs.StoreLaws.{filled_none, filled_join, whole_added}
+-- `cells::add_words` meets its contract: the words from a up to b have all their cells. Assumes nothing.
+use Rattle.std.proofs.Common.{rules}
+use Rattle.std.proofs.lemmas.List.{places}
+use Rattle.cells.proofs.StoreLaws.{words_added}
 use Rattle.cells.proofs.add_words.Goals as goal
-
-pub loop-w-init : goal.loop-w-init
-loop-w-init c =
-    let args = c.args in
-    (omega arith, (omega arith, (refl, filled_none (64 * args.a) args.words.now)))
-
-pub loop-w-preserved : goal.loop-w-preserved
-loop-w-preserved c =
-    let loop = c.loop-w in
-    let full = c.first_bits-full in (
-      omega arith,
-      (
-        omega arith,
-        (
-          simp length-set loop.invariant.1.1.0,
-          filled_join (omega arith) (omega arith) loop.invariant.1.1.1
-              (whole_added loop.words loop.w (omega arith) full.result full.ensures.span),
-        ),
-      ),
-    )
-
-pub shape_of-words : goal.shape_of-words
-shape_of-words c = c.loop-w.invariant.1.1.0
 
 pub returns : goal.returns
 returns c =
-    let e : c.loop-w.w ≡ c.args.b = omega arith in rw (← e) c.loop-w.invariant.1.1.1
+    let args = c.args in
+    words_added args.words.now _ args.a args.b c.first_bits.result c.first_bits.ensures.span
+    (λ q l u. search (rules, places))
+    (λ q l. search (rules, places))
+    (λ q l. search (rules, places))

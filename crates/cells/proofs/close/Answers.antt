@@ -1,12 +1,8 @@
 -- `cells::close` meets its contract: before word w the cells below 64 w are cleared of the mask, and the others stand. Assumes nothing.
-use Rattle.cells.proofs.StoreLaws.{swept_none, swept_more, swept_all}
-use mathlib.Core.Path.{refl}
+use Rattle.cells.proofs.StoreLaws.{swept_more, swept_all}
 use native.Mathlib.Omega.{arith}
 use lib.ListN.{length-set}
 use Rattle.cells.proofs.close.Goals as goal
-
-pub loop-w-init : goal.loop-w-init
-loop-w-init c = (omega arith, (refl, swept_none c.args.held.now c.args.mask.now))
 
 pub loop-w-preserved : goal.loop-w-preserved
 loop-w-preserved c =
@@ -19,9 +15,6 @@ loop-w-preserved c =
             (c.type_inv.mask c.loop-w.w).fits,
       ),
     )
-
-pub shape_of-held : goal.shape_of-held
-shape_of-held c = c.loop-w.invariant.1.0
 
 pub returns : goal.returns
 returns c =

@@ -8,14 +8,6 @@ use Rattle.cells_count.specs.WalkLaws.{swept_first, swept_on}
 use Rattle.cells_count.specs.CountsLaws.{counted_set}
 use Rattle.cells_count.proofs.close_counted.Goals as goal
 
-pub first_word-q-requires : goal.first_word-q-requires
-first_word-q-requires c =
-    let P = c.requires in (P.1.1.1, omega arith)
-
-pub count_back-requires : goal.count_back-requires
-count_back-requires c =
-    let P = c.requires in (P.1.1.0, (omega (arith, c.first_word-q.ensures.0, P.0), P.1.0))
-
 pub loop-q-init : goal.loop-q-init
 loop-q-init c =
     let args = c.args in
@@ -29,13 +21,6 @@ loop-q-init c =
         ),
       ),
     )
-
-pub onward-q-requires : goal.onward-q-requires
-onward-q-requires c =
-    (c.requires.1.1.1, (omega arith, omega arith))
-
-pub loop-q-smaller : goal.loop-q-smaller
-loop-q-smaller c = omega (arith, c.onward-q.ensures.on)
 
 pub loop-q-preserved : goal.loop-q-preserved
 loop-q-preserved c =
@@ -52,13 +37,6 @@ loop-q-preserved c =
         ),
       ),
     )
-
-pub shape_of-held : goal.shape_of-held
-shape_of-held c = c.loop-q.invariant.1.0
-
-pub shape_of-counts : goal.shape_of-counts
-shape_of-counts c =
-    c.count_back.auto.counts
 
 pub returns : goal.returns
 returns c =

@@ -1,25 +1,14 @@
 -- `cells_pairs::all_held` meets its contract: before pair p all cells of the pairs a up to p are held. Assumes nothing.
 use Prim.Native.Nat.{◌+◌, ◌*◌}
-use mathlib.Core.Path.{◌≡◌}
 use native.Mathlib.Omega.{arith}
 use lib.ListN.{get_or}
-use Rattle.cells_pairs.specs.PairLaws.{held_none, held_more, held_not, held_all}
+use Rattle.cells_pairs.specs.PairLaws.{held_none, held_more, held_not}
 use Rattle.cells_pairs.proofs.all_held.Goals as goal
 
 pub loop-p-init : goal.loop-p-init
 loop-p-init c =
     let args = c.args in
     (omega arith, (omega arith, held_none args.held.now args.pairs.now args.a))
-
-pub offset_bounds-held-q : goal.offset_bounds-held-q
-offset_bounds-held-q c =
-    let loop = c.loop-p in
-    omega (arith, c.requires.words loop.p loop.invariant.0 (omega arith))
-
-pub bounds-held-q : goal.bounds-held-q
-bounds-held-q c =
-    let loop = c.loop-p in
-    c.requires.words loop.p loop.invariant.0 (omega arith)
 
 pub returns-then-pairs-p-ne0 : goal.returns-then-pairs-p-ne0
 returns-then-pairs-p-ne0 c =
@@ -41,10 +30,3 @@ loop-p-preserved c =
             (c.type_inv.pairs (2 * loop.p + 1)).fits c.if-pairs-p-ne0.false loop.invariant.1.1,
       ),
     )
-
-pub returns : goal.returns
-returns c =
-    let args = c.args in
-    let loop = c.loop-p in
-    let e : loop.p ≡ args.z = omega arith in
-    held_all args.held.now args.pairs.now args.a args.z (rw e at loop.invariant.1.1)

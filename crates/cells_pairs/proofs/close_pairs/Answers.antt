@@ -25,26 +25,6 @@ loop-p-init c =
       ),
     )
 
-pub offset_bounds-held-q : goal.offset_bounds-held-q
-offset_bounds-held-q c =
-    let loop = c.loop-p in
-    omega (arith, c.requires.0.words loop.p loop.invariant.0 (omega arith))
-
-pub bounds-held-q : goal.bounds-held-q
-bounds-held-q c =
-    let loop = c.loop-p in
-    omega (arith, c.requires.0.words loop.p loop.invariant.0 (omega arith), loop.invariant.1.1.0)
-
-pub offset_bounds-held-q-in-loop-p : goal.offset_bounds-held-q-in-loop-p
-offset_bounds-held-q-in-loop-p c =
-    let loop = c.loop-p in
-    omega (arith, c.requires.0.words loop.p loop.invariant.0 (omega arith))
-
-pub bounds-held-q-in-loop-p : goal.bounds-held-q-in-loop-p
-bounds-held-q-in-loop-p c =
-    let loop = c.loop-p in
-    omega (arith, c.requires.0.words loop.p loop.invariant.0 (omega arith), loop.invariant.1.1.0)
-
 pub loop-p-preserved : goal.loop-p-preserved
 loop-p-preserved c =
     let args = c.args in
@@ -69,16 +49,3 @@ loop-p-preserved c =
         ),
       ),
     )
-
-pub shape_of-held : goal.shape_of-held
-shape_of-held c = c.loop-p.invariant.1.1.0
-
-pub shape_of-counts : goal.shape_of-counts
-shape_of-counts c = simp length-set
-
-pub returns : goal.returns
-returns c =
-    let args = c.args in
-    let loop = c.loop-p in
-    let s = loop.invariant.1.1 in
-    let e : loop.p ≡ args.z = omega arith in (rw e at s.1.0, s.1.1.0)

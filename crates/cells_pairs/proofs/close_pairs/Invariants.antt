@@ -10,6 +10,3 @@ use Rattle.cells_pairs.proofs.close_pairs.Given as goal
 abbrev pub invariant-loop-p : goal.invariant-loop-p
 invariant-loop-p l = (l.a ≤ l.p) × ((l.p ≤ l.z) × ((length l.held ≡ length l.initial.held)
     × (Shut l.initial.held (in_pairs l.pairs l.a (l.p - l.a)) l.held × (Counted l.held l.counts × (counted_to l.initial.held l.counts ≡ 0)))))
-
-abbrev pub decreases-loop-p : goal.decreases-loop-p
-decreases-loop-p l = l.z - l.p

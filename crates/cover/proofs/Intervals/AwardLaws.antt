@@ -1,5 +1,6 @@
 -- The auction's winners and what each is paid, by the laws of bids with one run of cells each. Assumes nothing.
-use Rattle.std.specs.Prelude.{◌≡◌, refl, Bool, true, ◌&&◌, ◌||◌, List, ℕ, zero, suc, ◌^◌, ◌<◌, ltb, leb, length, get_or}
+use Rattle.std.specs.Prelude.{◌≡◌, refl, Bool, true, ◌&&◌, ◌||◌, List, ℕ, zero, suc, ◌^◌, ◌<◌, ltb, leb, length}
+use Rattle.std.specs.Prelude.{get_or}
 use Rattle.std.proofs.Common.{sym, ap, ◌∙◌, arith, le-ltb}
 use Rattle.std.proofs.Math.Path.{fun_ext}
 use Rattle.cover.specs.Sets.{Found, all, bit, cost, covers, found, hit, nothing, value_of}

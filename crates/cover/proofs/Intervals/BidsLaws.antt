@@ -121,7 +121,8 @@ module _ (k : ℕ) (a b ps : List ℕ) where
   -- what bid k is paid
   pub paid_of : (L : ℕ) →
       let m = winners (covers (spans a b) (length ps) L) ps in
-      vcg_paid (covers (spans a b) (length ps) L) ps k ≡ payment (bit m k) (value_of (cost_without k a b ps L)) (cost ps m) (get_or ps k 0)
+      vcg_paid (covers (spans a b) (length ps) L) ps k
+      ≡ payment (bit m k) (value_of (cost_without k a b ps L)) (cost ps m) (get_or ps k 0)
   unfolding cost_without others_below covers_below
   paid_of L = paid_is L (spans a b) (length ps) ps k
 

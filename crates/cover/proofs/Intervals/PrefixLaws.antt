@@ -175,7 +175,8 @@ module _ (n o L : ℕ) (a b p cost : ℕ → ℕ) (may : ℕ → Bool) (ok : ℕ
           dear = w.least x.rest x.covers.inside x.covers.good
 
   -- THE PREFIX LAW
-  pub prefix : (t : ℕ) (r : Found) → o < t → t ≤ L → IsLeast (Candidate n a b cost may ok t) cost r → r ≡ least_set ok cost n t
+  pub prefix : (t : ℕ) (r : Found) → o < t → t ≤ L → IsLeast (Candidate n a b cost may ok t) cost r
+      → r ≡ least_set ok cost n t
   prefix t r z f g = least_set_is ok cost n t r (least_of (Candidate n a b cost may ok t) (Family (ok t) (2 ^ n)) cost (λ s. cand_in t s f)
       (λ s q. cand_before t s f (last_of t s z f q)) r g)
 

@@ -1,7 +1,8 @@
 -- The least of the candidates at positions below k, by cost and then by number. Assumes nothing.
 use Rattle.std.specs.Prelude.{◌≡◌, ◌⊎◌, Bool, true, false, ◌&&◌, ◌||◌, cond, ltb, eqb}
 use Rattle.std.proofs.Math.Path.{refl}
-use Rattle.std.proofs.Common.{sym, ap, ◌∙◌, inl, inr, true≢false, le_antisymm, eq-or-lt_of_le, le_of_suc-le-suc, ltb-true, ltb-false, eqb-true}
+use Rattle.std.proofs.Common.{sym, ap, ◌∙◌, inl, inr, true≢false, le_antisymm, eq-or-lt_of_le, le_of_suc-le-suc, ltb-true}
+use Rattle.std.proofs.Common.{ltb-false, eqb-true}
 use Rattle.std.proofs.lemmas.Bool.{false≢true, eqb-false}
 use Prim.Native.Nat.{ℕ, zero, suc, ◌≤◌, ◌<◌}
 use native.Mathlib.Omega.{arith}
@@ -187,11 +188,13 @@ module _ (cost : ℕ → ℕ) (test : ℕ → Bool) (v : ℕ → Found) where
   scan_least zero = λ s q. omega arith
   scan_least (suc k) = scan_step k (test k) (scan cost test v k) refl (scan_least k)
 
-cost_cond : (cost : ℕ → ℕ) (t : Bool) (x r : Found) → found_cost cost (cond t x r) ≡ cond t (found_cost cost x) (found_cost cost r)
+cost_cond : (cost : ℕ → ℕ) (t : Bool) (x r : Found)
+    → found_cost cost (cond t x r) ≡ cond t (found_cost cost x) (found_cost cost r)
 cost_cond cost true x r = refl
 cost_cond cost false x r = refl
 
-cost_lesser : (cost : ℕ → ℕ) (x r : Found) → found_cost cost (lesser cost x r) ≡ lesser_cost (found_cost cost x) (found_cost cost r)
+cost_lesser : (cost : ℕ → ℕ) (x r : Found)
+    → found_cost cost (lesser cost x r) ≡ lesser_cost (found_cost cost x) (found_cost cost r)
 unfolding lesser lesser_cost found_cost
 cost_lesser cost nothing r = refl
 cost_lesser cost (found a) nothing = refl

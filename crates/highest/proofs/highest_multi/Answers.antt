@@ -59,6 +59,3 @@ multi_in-requires c =
       prefix_length ((c.cells.result + 63) / 64 * c.entries-entries.result) (158 * max_entries)
           (words_room A.tender A.count c.entries-entries.result c.cells.result A.bids.now A.windows.now P e c.cells.ensures),
     ) (P, (ap (λ (v : ℕ). (v + 63) / 64) c.cells.ensures, (e, ap (λ (m : ℕ). (c.cells.result + 63) / 64 * m) e)))
-
-pub returns : goal.returns
-returns c = c.multi_in.ensures

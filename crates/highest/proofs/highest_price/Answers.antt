@@ -5,13 +5,7 @@ use Rattle.award_fault.specs.Checks.{checked_fault}
 use Rattle.highest_rule.proofs.AnswerLaws.{nine}
 use Rattle.highest.proofs.highest_price.Goals as goal
 
-pub highest_sound-requires : goal.highest_sound-requires
-highest_sound-requires c = sym c.fault.ensures ∙ ap checked_fault c.in-Sound.is
-
-pub returns-in-Sound : goal.returns-in-Sound
-returns-in-Sound c = c.highest_sound.ensures
-
-pub returns-in-Faulty : goal.returns-in-Faulty
-returns-in-Faulty c =
+pub returns-in-Some : goal.returns-in-Some
+returns-in-Some c =
     let A = c.args in nine A.tender A.count A.bids.now A.windows.now A.bidder _
-    (sym c.fault.ensures ∙ ap checked_fault c.in-Faulty.is)
+    (sym c.fault.ensures ∙ ap checked_fault c.in-Some.is)

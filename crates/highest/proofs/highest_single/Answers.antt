@@ -44,7 +44,3 @@ single_in-requires c =
     let A = c.args in let P = c.requires in let e = c.entries-entries.ensures in
     let f = entries_few Single A.tender A.count A.bids.now A.windows.now P in
     rw (prefix_length c.entries-entries.result max_entries (omega (arith, e, f))) (P, (e, (e, (e, omega (arith, e, f)))))
-
-pub returns : goal.returns
-returns c =
-    c.single_in.ensures

@@ -1,27 +1,24 @@
 -- `highest::row_with` meets its contract: the rows from i on have not the number, so the largest of all rows with it is one before i.
 -- Assumes nothing.
-use mathlib.Core.Path.{refl}
+use mathlib.Core.Path.{◌≡◌}
+use Prim.Native.Nat.{suc, ◌-◌}
 use native.Mathlib.Omega.{arith}
 use Rattle.highest.specs.AskingLaws.{row_goes, row_stops, row_ends}
 use Rattle.highest.proofs.row_with.Goals as goal
 
-pub loop-i-init : goal.loop-i-init
-loop-i-init c = (omega arith, refl)
-
-pub overflow_sub-i : goal.overflow_sub-i
-overflow_sub-i c = omega (arith, c.loop-i-test.true)
-
-pub bounds-bids-i : goal.bounds-bids-i
-bounds-bids-i c = omega (arith, c.loop-i.invariant.0, c.loop-i-test.true, c.requires)
-
 pub returns-then-bids-i : goal.returns-then-bids-i
-returns-then-bids-i c = row_stops _ _ _ _ c.loop-i-test.true c.if-bids-i.true c.loop-i.invariant.1
-
-pub loop-i-smaller : goal.loop-i-smaller
-loop-i-smaller c = omega (arith, c.loop-i-test.true)
+returns-then-bids-i c =
+    let A = c.args in
+    let e : suc (c.loop-i.i - 1) ≡ c.loop-i.i = omega arith in
+    row_stops A.bids.now A.count A.bidder (c.loop-i.i - 1) c.if-bids-i.true (rw e c.loop-i.invariant)
 
 pub loop-i-preserved : goal.loop-i-preserved
-loop-i-preserved c = (omega (arith, c.loop-i.invariant.0), row_goes _ _ _ _ c.loop-i-test.true c.if-bids-i.false c.loop-i.invariant.1)
+loop-i-preserved c =
+    let A = c.args in
+    let e : suc (c.loop-i.i - 1) ≡ c.loop-i.i = omega arith in
+    row_goes A.bids.now A.count A.bidder (c.loop-i.i - 1) c.if-bids-i.false (rw e c.loop-i.invariant)
 
 pub returns : goal.returns
-returns c = row_ends _ _ _ _ c.loop-i-test.false c.loop-i.invariant.1
+returns c =
+    let e : c.loop-i.i ≡ 0 = omega arith in
+    row_ends c.args.bids.now c.args.count c.args.bidder (rw e at c.loop-i.invariant)

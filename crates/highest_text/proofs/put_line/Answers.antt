@@ -1,15 +1,10 @@
--- Each case of an answer has its line. Assumes nothing.
-use Rattle.highest_text.specs.ToldLaws.{line_price, line_none, line_refused}
+-- The line of a price or of none, or that of the refusal. Assumes nothing.
+use Rattle.highest_text.specs.ToldLaws.{line_refused}
 use Rattle.highest_text.proofs.put_line.Goals as goal
 
-pub returns-in-Price : goal.returns-in-Price
-returns-in-Price c =
-    line_price c.args.bidder c.in-Price.price c.in-Price.is c.put_pair.ensures
+pub returns-in-Ok : goal.returns-in-Ok
+returns-in-Ok c = rw c.in-Ok.is c.put_price.ensures
 
-pub returns-in-NoPrice : goal.returns-in-NoPrice
-returns-in-NoPrice c =
-    line_none c.args.bidder c.in-NoPrice.is c.put_none.ensures
-
-pub returns-in-Refused : goal.returns-in-Refused
-returns-in-Refused c =
-    line_refused c.args.bidder c.in-Refused.refusal c.in-Refused.is c.put_refused.ensures
+pub returns-in-Err : goal.returns-in-Err
+returns-in-Err c =
+    line_refused c.args.bidder c.in-Err.refusal c.in-Err.is c.put_refused.ensures

@@ -6,16 +6,16 @@ use Rattle.highest_text.proofs.tender_highest.Goals as goal
 
 pub highest_sound-answer-requires : goal.highest_sound-answer-requires
 highest_sound-answer-requires c =
-    let g = c.in-Rows in
-    read_sound (filled_read c.args.text.now g.tender g.n _ c.fill.ensures.answer c.fill.ensures.tables g.is)
+    let f = c.in-Ok.filled in
+    read_sound (filled_read c.args.text.now f.tender f.bids f.windows c.fill.ensures.answer c.fill.ensures.tables c.in-Ok.is)
 
-pub returns-in-Rows : goal.returns-in-Rows
-returns-in-Rows c =
-    let g = c.in-Rows in
-    told_read (filled_read c.args.text.now g.tender g.n _ c.fill.ensures.answer c.fill.ensures.tables g.is) _
+pub returns-in-Ok : goal.returns-in-Ok
+returns-in-Ok c =
+    let f = c.in-Ok.filled in
+    told_read (filled_read c.args.text.now f.tender f.bids f.windows c.fill.ensures.answer c.fill.ensures.tables c.in-Ok.is) _
     c.highest_sound-answer.ensures c.deliver.ensures
 
-pub returns-in-Refused : goal.returns-in-Refused
-returns-in-Refused c =
-    let g = c.in-Refused in
-    told_refused g.r (refused_is c.args.text.now g.r c.fill.ensures.answer g.is) c.deliver-in-Refused.ensures
+pub returns-in-Err : goal.returns-in-Err
+returns-in-Err c =
+    let r = c.in-Err.refusal in
+    told_refused r (refused_is c.args.text.now r c.fill.ensures.answer c.in-Err.is) c.deliver-in-Err.ensures

@@ -3,18 +3,17 @@ use mathlib.Core.Path.{sym}
 use native.Mathlib.Omega.{arith}
 use lib.Seq.{length-take-le}
 use borrow.Author.Tests.{lt-ltb}
-use Rattle.list.specs.InputLaws.{text_within}
 use Rattle.listing_made.proofs.MakingLaws.{made_some, made_size, made_inside}
 use Rattle.list.proofs.main.Goals as goal
 
 pub slice_bounds-make-end : goal.slice_bounds-make-end
 slice_bounds-make-end c =
-    sym (length-take-le c.in-Text.n c.read_on.new.buf (text_within _ _ _ c.read_on.ensures c.in-Text.is))
+    sym (length-take-le c.in-Ok.n c.read_on.new.buf c.in-Ok.ensures)
 
 pub make-k-requires : goal.make-k-requires
 make-k-requires c =
-    let inside = text_within _ _ _ c.read_on.ensures c.in-Text.is in
-    omega (arith, length-take-le c.in-Text.n c.read_on.new.buf inside)
+    let inside = c.in-Ok.ensures in
+    omega (arith, length-take-le c.in-Ok.n c.read_on.new.buf inside)
 
 pub expect-requires : goal.expect-requires
 expect-requires c = lt-ltb 0 c.make-k.result (made_some c.make-k.ensures)

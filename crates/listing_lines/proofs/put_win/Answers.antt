@@ -1,4 +1,5 @@
 -- A line for a winner, nothing for another bid. Assumes nothing.
+use Rattle.std.proofs.Common.{refl}
 use Rattle.tender.specs.Keywords.{bytes}
 use Rattle.spelling.proofs.SpellingLaws.{nothing_written}
 use Rattle.listing_lines.specs.SpellingLaws.{win_written, no_win}
@@ -8,9 +9,11 @@ pub returns-then-flag-eq1 : goal.returns-then-flag-eq1
 unfolding bytes
 returns-then-flag-eq1 c =
     let args = c.args in
-    win_written args.bidder args.flag args.cents c.if-flag-eq1.true c.put_pair.ensures
+    let put = c.put_pair.ensures in
+    (put.0, win_written args.bidder args.flag args.cents c.if-flag-eq1.true put.1)
 
 pub returns-else-flag-eq1 : goal.returns-else-flag-eq1
 returns-else-flag-eq1 c =
     let args = c.args in
-    rw (no_win args.bidder args.flag args.cents c.if-flag-eq1.false) (nothing_written args.buf.now args.at)
+    let page = args.page.now in
+    (refl, rw (no_win args.bidder args.flag args.cents c.if-flag-eq1.false) (nothing_written page.buf.now page.at))

@@ -8,16 +8,17 @@ use Rattle.listing_made.proofs.make.Goals as goal
 
 pub put_award-requires : goal.put_award-requires
 put_award-requires c =
-    let h = filled_read c.args.text.now c.in-Rows.tender c.in-Rows.n c.in-Rows.windows
-    c.fill.ensures.answer c.fill.ensures.tables c.in-Rows.is in
-    let f = few_read h in (read_sound h, (f, (omega arith, read_room h c.requires)))
+    let f = c.in-Ok.filled in
+    let h = filled_read c.args.text.now f.tender f.bids f.windows c.fill.ensures.answer c.fill.ensures.tables c.in-Ok.is in
+    let few = few_read h in (read_sound h, (few, (omega arith, read_room h c.requires)))
 
-pub returns-in-Rows : goal.returns-in-Rows
-returns-in-Rows c =
-    made_award (filled_read c.args.text.now c.in-Rows.tender c.in-Rows.n c.in-Rows.windows
-    c.fill.ensures.answer c.fill.ensures.tables c.in-Rows.is) c.put_award.ensures
+pub returns-in-Ok : goal.returns-in-Ok
+returns-in-Ok c =
+    let f = c.in-Ok.filled in
+    made_award (filled_read c.args.text.now f.tender f.bids f.windows c.fill.ensures.answer c.fill.ensures.tables c.in-Ok.is)
+    c.put_award.ensures
 
-pub returns-in-Refused : goal.returns-in-Refused
-returns-in-Refused c =
-    made_refusal c.in-Refused.r (refused_is c.args.text.now c.in-Refused.r c.fill.ensures.answer
-    c.in-Refused.is) c.put_refused.ensures
+pub returns-in-Err : goal.returns-in-Err
+returns-in-Err c =
+    let r = c.in-Err.refusal in
+    made_refusal r (refused_is c.args.text.now r c.fill.ensures.answer c.in-Err.is) c.put_refused.ensures

@@ -14,18 +14,20 @@ slice_bounds-fill-end-2 c = sym (length-take-le c.args.n c.args.buf.now c.requir
 
 pub put_award-requires : goal.put_award-requires
 put_award-requires c =
-    let h = filled_read (take c.args.n c.args.buf.now) c.in-Rows.tender c.in-Rows.k
-    c.in-Rows.windows c.fill.ensures.answer c.fill.ensures.tables c.in-Rows.is in
+    let f = c.in-Ok.filled in
+    let h = filled_read (take c.args.n c.args.buf.now) f.tender f.bids f.windows
+    c.fill.ensures.answer c.fill.ensures.tables c.in-Ok.is in
     let l = length-take-le c.args.n c.args.buf.now c.requires.0 in
-    let f = few_read h in (read_sound h, (f, (omega arith, read_room h (omega (arith, c.requires.1, l)))))
+    let few = few_read h in (read_sound h, (few, (omega arith, read_room h (omega (arith, c.requires.1, l)))))
 
-pub returns-in-Rows : goal.returns-in-Rows
-returns-in-Rows c =
-    made_award (filled_read (take c.args.n c.args.buf.now) c.in-Rows.tender c.in-Rows.k
-    c.in-Rows.windows c.fill.ensures.answer c.fill.ensures.tables c.in-Rows.is)
+pub returns-in-Ok : goal.returns-in-Ok
+returns-in-Ok c =
+    let f = c.in-Ok.filled in
+    made_award (filled_read (take c.args.n c.args.buf.now) f.tender f.bids f.windows
+    c.fill.ensures.answer c.fill.ensures.tables c.in-Ok.is)
     c.put_award.ensures
 
-pub returns-in-Refused : goal.returns-in-Refused
-returns-in-Refused c =
-    made_refusal c.in-Refused.r (refused_is (take c.args.n c.args.buf.now) c.in-Refused.r c.fill.ensures.answer
-    c.in-Refused.is) c.put_refused.ensures
+pub returns-in-Err : goal.returns-in-Err
+returns-in-Err c =
+    let r = c.in-Err.refusal in
+    made_refusal r (refused_is (take c.args.n c.args.buf.now) r c.fill.ensures.answer c.in-Err.is) c.put_refused.ensures

@@ -9,7 +9,7 @@ use Rattle.multi_gain.proofs.gain.Given as goal
 
 abbrev pub invariant-loop-t : goal.invariant-loop-t
 invariant-loop-t l =
-    Gaining l.prices l.masks l.alt l.index l.q l.m (leaves l.initial.tree) l.initial.mark (leaves l.tree) l.mark l.t
+    Gaining l.bids.prices.now l.bids.masks.now l.alt l.index l.q l.m (leaves l.initial.tree) l.initial.mark (leaves l.tree) l.mark l.t
     × (Tree l.tree × ((length l.mark ≡ 16) × Counted l.alt l.counts))
 
 abbrev pub decreases-loop-t : goal.decreases-loop-t

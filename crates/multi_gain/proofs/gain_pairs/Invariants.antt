@@ -2,7 +2,7 @@
 -- their keys; those that have an open cell of pair p have a cell in common with the pair's mask and the open cells of its word.
 -- Assumes nothing.
 use mathlib.Core.Path.{◌≡◌}
-use Prim.Native.Nat.{◌-◌, ◌≤◌}
+use Prim.Native.Nat.{◌-◌}
 use lib.ListN.{length}
 use Rattle.cells_count.specs.Hops.{Counted}
 use Rattle.cells_pairs.specs.Pairs.{in_pairs}
@@ -14,9 +14,7 @@ use Rattle.multi_gain.proofs.gain_pairs.Given as goal
 
 abbrev pub invariant-loop-p : goal.invariant-loop-p
 invariant-loop-p l =
-    (l.a ≤ l.p) × ((l.p ≤ l.z)
-    × (Gained (has l.masks (length l.alt)) l.prices l.alt (in_pairs l.pairs l.a (l.p - l.a)) (leaves l.initial.tree) l.initial.mark (leaves l.tree) l.mark
-    × (Indexed (length l.prices) l.masks (length l.alt) l.index l.mark × (Tree l.tree × ((length l.mark ≡ 16) × Counted l.alt l.counts)))))
-
-abbrev pub decreases-loop-p : goal.decreases-loop-p
-decreases-loop-p l = l.z - l.p
+    Gained (has l.bids.masks.now (length l.alt)) l.bids.prices.now l.alt
+    (in_pairs l.pairs l.a (l.p - l.a)) (leaves l.initial.tree) l.initial.mark (leaves l.tree) l.mark
+    × (Indexed (length l.bids.prices.now) l.bids.masks.now (length l.alt) l.index l.mark × (Tree l.tree × ((length l.mark ≡ 16)
+    × Counted l.alt l.counts)))

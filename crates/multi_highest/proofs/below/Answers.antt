@@ -8,21 +8,10 @@ use Rattle.tender.specs.Limits.{max_entries}
 use Rattle.multi_highest.specs.RoundLaws.{words_most, prefix_length}
 use Rattle.multi_highest.proofs.below.Goals as goal
 
-pub slice_bounds-hop-end : goal.slice_bounds-hop-end
-slice_bounds-hop-end c = omega (arith, words_most c.requires.0)
-
 pub slice_bounds-below_in-end : goal.slice_bounds-below_in-end
 slice_bounds-below_in-end c =
     let A = c.args in
     sym (prefix_length (length A.masks.now) (158 * max_entries) 0 (words_most c.requires.0))
-
-pub slice_bounds-below_in-end-2 : goal.slice_bounds-below_in-end-2
-slice_bounds-below_in-end-2 c =
-    let A = c.args in sym (prefix_length A.w 158 1 c.requires.0.words)
-
-pub slice_bounds-below_in-end-3 : goal.slice_bounds-below_in-end-3
-slice_bounds-below_in-end-3 c =
-    let A = c.args in sym (prefix_length (A.w + 2) 160 1 (omega (arith, c.requires.0.words)))
 
 pub below_in-requires : goal.below_in-requires
 below_in-requires c =

@@ -12,7 +12,7 @@ use Rattle.multi_highest.proofs.rounds.Given as goal
 abbrev pub invariant-loop-walk : goal.invariant-loop-walk
 invariant-loop-walk l =
     (length l.held ≡ length l.initial.held) × ((l.walk.bid ≡ l.k)
-    × (Rounding (has l.masks (length l.held)) l.prices l.count l.k l.held (leaves l.tree) l.walk.mine l.walk.top
+    × (Rounding (has l.bids.masks.now (length l.held)) l.bids.prices.now l.count l.k l.held (leaves l.tree) l.walk.mine l.walk.top
     × (Tree l.tree × Counted l.held l.counts)))
 
 abbrev pub decreases-loop-walk : goal.decreases-loop-walk

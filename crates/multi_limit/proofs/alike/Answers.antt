@@ -1,19 +1,12 @@
 -- `multi_limit::alike` meets its contract: the mark is read, and then the tape's cells. Assumes nothing.
 use mathlib.Core.Path.{sym, ◌∙◌}
-use mathlib.Core.Logic.{inl, inr}
-use mathlib.Core.Bool.{false≢true}
+use mathlib.Core.Logic.{inr}
 use native.Mathlib.Omega.{arith}
-use borrow.Author.Tests.{eqb-true, eqb-false}
+use borrow.Author.Tests.{eqb-false}
 use Rattle.cells.specs.Cells.{cell}
 use Rattle.cells.proofs.StoreLaws.{cell_lt}
 use Rattle.multi_rounds.specs.Trace.{bid_on}
 use Rattle.multi_limit.proofs.alike.Goals as goal
-
-pub returns-then-holds : goal.returns-then-holds
-returns-then-holds c =
-    let A = c.args in let m = bid_on A.run.now A.g in
-    let e = eqb-true (cell A.mark.now m) 1 (sym c.holds.ensures ∙ c.if-holds.true) in
-    record { free = λ t. absurd (false≢true t); held = λ t. absurd (false≢true t); not = λ t. inl (omega (arith, e)) }
 
 pub returns : goal.returns
 returns c =

@@ -13,8 +13,10 @@ use Rattle.multi_limit.proofs.along.Given as goal
 
 abbrev pub invariant-loop-g : goal.invariant-loop-g
 invariant-loop-g l =
-    Along (has l.masks (length l.initial.alt)) l.prices l.walk.bid l.walk.mine l.walk.top l.cap l.run l.tape l.initial.alt l.alt (leaves l.tree) l.mark l.walk.round l.g
-    × (Counted l.alt l.counts × (Tree l.tree × ((length l.mark ≡ 16) × (Indexed (length l.prices) l.masks (length l.initial.alt) l.index l.mark
+    Along (has l.bids.masks.now (length l.initial.alt)) l.bids.prices.now
+    l.walk.bid l.walk.mine l.walk.top l.cap l.run l.tape l.initial.alt l.alt (leaves l.tree) l.mark l.walk.round l.g
+    × (Counted l.alt l.counts × (Tree l.tree × ((length l.mark ≡ 16)
+    × (Indexed (length l.bids.prices.now) l.bids.masks.now (length l.initial.alt) l.index l.mark
     × ((i : ℕ) → i < 1024 → l.cap ≤ at (leaves l.tree) i)))))
 
 abbrev pub decreases-loop-g : goal.decreases-loop-g

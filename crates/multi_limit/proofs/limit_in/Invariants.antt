@@ -15,9 +15,11 @@ use Rattle.multi_limit.proofs.limit_in.Given as goal
 abbrev pub invariant-loop-walk : goal.invariant-loop-walk
 invariant-loop-walk l =
     (l.walk.bid ≡ bid_on l.run l.h)
-    × (Limiting (has l.masks (length l.initial.alt)) l.prices (bid_on l.run l.h) l.run l.tape l.initial.alt l.alt (leaves l.tree) l.mark l.walk.mine l.walk.top
+    × (Limiting (has l.bids.masks.now (length l.initial.alt)) l.bids.prices.now
+    (bid_on l.run l.h) l.run l.tape l.initial.alt l.alt (leaves l.tree) l.mark l.walk.mine l.walk.top
     l.walk.round
-    × (Counted l.alt l.counts × (Tree l.tree × ((length l.mark ≡ 16) × Indexed (length l.prices) l.masks (length l.initial.alt) l.index l.mark))))
+    × (Counted l.alt l.counts × (Tree l.tree × ((length l.mark ≡ 16)
+    × Indexed (length l.bids.prices.now) l.bids.masks.now (length l.initial.alt) l.index l.mark))))
 
 abbrev pub decreases-loop-walk : goal.decreases-loop-walk
 decreases-loop-walk l =

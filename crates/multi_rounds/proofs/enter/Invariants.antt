@@ -1,6 +1,5 @@
 -- `multi_rounds::enter` meets its contract: before leaf i the leaves below i are entered, and the tree is played from them.
 -- Assumes nothing.
-use Prim.Native.Nat.{◌-◌}
 use lib.ListN.{length}
 use Rattle.cells_count.specs.Hops.{Counted}
 use Rattle.multi_market.specs.Market.{has}
@@ -9,7 +8,4 @@ use Rattle.multi_rounds.proofs.enter.Given as goal
 
 abbrev pub invariant-loop-i : goal.invariant-loop-i
 invariant-loop-i l =
-    Entering (has l.masks (length l.held)) l.prices l.held l.tree l.i × Counted l.held l.counts
-
-abbrev pub decreases-loop-i : goal.decreases-loop-i
-decreases-loop-i l = 1024 - l.i
+    Entering (has l.bids.masks.now (length l.held)) l.bids.prices.now l.held l.tree l.i × Counted l.held l.counts

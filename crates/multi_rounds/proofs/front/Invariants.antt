@@ -9,7 +9,7 @@ use Rattle.multi_rounds.proofs.front.Given as goal
 
 abbrev pub invariant-loop-cap : goal.invariant-loop-cap
 invariant-loop-cap l =
-    Fronting (has l.masks (length l.held)) l.prices l.held (leaves l.initial.tree) l.tree × Counted l.held l.counts
+    Fronting (has l.bids.masks.now (length l.held)) l.bids.prices.now l.held (leaves l.initial.tree) l.tree × Counted l.held l.counts
 
 abbrev pub decreases-loop-cap : goal.decreases-loop-cap
 decreases-loop-cap l = slack (leaves l.tree)

@@ -12,7 +12,8 @@ use Rattle.multi_rounds.proofs.trace.Given as goal
 abbrev pub invariant-loop-f : goal.invariant-loop-f
 invariant-loop-f l =
     (length l.held ≡ length l.initial.held) × ((length l.run ≡ length l.initial.run) × ((length l.tape ≡ length l.initial.tape)
-    × (Tracing (has l.masks (length l.held)) l.prices (length l.held) l.count l.held (leaves l.tree) l.run l.tape l.r l.c × (Tree l.tree × Counted l.held l.counts))))
+    × (Tracing (has l.bids.masks.now (length l.held)) l.bids.prices.now (length l.held) l.count l.held (leaves l.tree) l.run l.tape l.r l.c
+    × (Tree l.tree × Counted l.held l.counts))))
 
 abbrev pub decreases-loop-f : goal.decreases-loop-f
 decreases-loop-f l = length (open_of l.held)

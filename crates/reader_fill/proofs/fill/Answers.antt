@@ -1,7 +1,6 @@
 -- `fill` meets its contract: the lines up to the last byte 10, and whether bytes follow them, settle the answer. Assumes nothing.
-use mathlib.Core.Path.{sym, subst, ap, ◌∙◌}
-use native.Mathlib.Omega.{arith}
-use lib.Seq.{length-take-le}
+use Rattle.std.proofs.Common.{sym, subst, ap, ◌∙◌, arith}
+use Rattle.std.proofs.Common.{length-take-le}
 use Rattle.reader_fill.specs.Answer.{fill_answer, Holds}
 use Rattle.reader_fill.proofs.RestLaws.{front_ended, front_length}
 use Rattle.reader_fill.proofs.LinesReadLaws.{told_refused}

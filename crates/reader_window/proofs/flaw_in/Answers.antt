@@ -1,16 +1,13 @@
--- `windows::flaw_in` meets its contract: its branches are the two tests of a window. Assumes nothing.
-use borrow.Author.Tests.{lt-ltb, le-ltb, le-leb, lt-leb}
-use Rattle.reader_parts.specs.Flaws.{flaw_in}
+-- `flaw_in` meets its contract: its branches are the two tests of a window. Assumes nothing.
+use Rattle.std.proofs.Common.{sym}
+use Rattle.reader_parts.proofs.FlawLaws.{flaw_empty, flaw_sound, flaw_late}
 use Rattle.reader_window.proofs.flaw_in.Goals as goal
 
-pub returns-then-z-le-WEEK : goal.returns-then-z-le-WEEK
-unfolding flaw_in
-returns-then-z-le-WEEK c = simp (lt-ltb _ _ c.if-a-z.true, le-leb _ _ c.if-z-le-WEEK.true)
+pub returns-then-z-a : goal.returns-then-z-a
+returns-then-z-a c = sym (flaw_empty _ _ c.if-z-a.true)
 
-pub returns-else-z-le-WEEK : goal.returns-else-z-le-WEEK
-unfolding flaw_in
-returns-else-z-le-WEEK c = simp (lt-ltb _ _ c.if-a-z.true, lt-leb _ _ c.if-z-le-WEEK.false)
+pub returns-then-z-gt-WEEK : goal.returns-then-z-gt-WEEK
+returns-then-z-gt-WEEK c = sym (flaw_late _ _ c.if-z-a.false c.if-z-gt-WEEK.true)
 
-pub returns-else-a-z : goal.returns-else-a-z
-unfolding flaw_in
-returns-else-a-z c = simp (le-ltb _ _ c.if-a-z.false)
+pub returns-else-z-gt-WEEK : goal.returns-else-z-gt-WEEK
+returns-else-z-gt-WEEK c = sym (flaw_sound _ _ c.if-z-a.false c.if-z-gt-WEEK.false)

@@ -1,12 +1,11 @@
--- `words::digits` meets its contract: what the digits from here on add is what they add from the start. Assumes nothing.
-use Prim.Native.Nat.{◌-◌, ◌≤◌, ◌<◌}
-use mathlib.Core.Path.{◌≡◌}
-use lib.ListN.{length, drop}
+-- `digits` meets its contract: what the digits from here on add is what they add from the start. Assumes nothing.
+use Rattle.std.proofs.Common.{◌≡◌, ◌-◌, ◌≤◌, ◌<◌, drop, length}
 use Rattle.reader_parts.specs.Front.{digits_front}
 use Rattle.reader_word.proofs.digits.Given as goal
 
-abbrev pub invariant-loop-v : goal.invariant-loop-v
-invariant-loop-v l = (digits_front l.v (drop l.i l.s) ≡ digits_front l.first (drop l.at l.s)) × (l.at ≤ l.i) × (l.i < length l.s)
+abbrev pub invariant-loop-value : goal.invariant-loop-value
+invariant-loop-value l =
+    (digits_front l.value (drop l.next l.s) ≡ digits_front l.first (drop l.at l.s)) × (l.at ≤ l.next) × (l.next < length l.s)
 
-abbrev pub decreases-loop-v : goal.decreases-loop-v
-decreases-loop-v l = length l.s - l.i
+abbrev pub decreases-loop-value : goal.decreases-loop-value
+decreases-loop-value l = length l.s - l.next

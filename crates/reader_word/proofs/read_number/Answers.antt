@@ -1,5 +1,5 @@
--- `words::read_number` meets its contract: it goes by the first byte, as `number_front` does. Assumes nothing.
-use native.Mathlib.Omega.{arith}
+-- `read_number` meets its contract: it goes by the first byte, as `number_front` does. Assumes nothing.
+use Rattle.std.proofs.Common.{arith}
 use Rattle.reader_parts.proofs.PlaceLaws.{not_last, number_zero, number_below, number_above, number_later}
 use Rattle.reader_word.proofs.read_number.Goals as goal
 
@@ -23,7 +23,7 @@ pub returns-in-49-to-57 : goal.returns-in-49-to-57
 returns-in-49-to-57 c =
     let s = c.args.s.now in
     let at = c.args.at in
-    number_later s at c.requires.0 (omega arith) (omega arith) c.digits.result (rw c.wide.ensures at c.digits.ensures)
+    number_later s at c.requires.0 (omega arith) (omega arith) c.digits.result (rw c.from.ensures at c.digits.ensures)
 
 pub returns-in_default : goal.returns-in_default
 returns-in_default c =

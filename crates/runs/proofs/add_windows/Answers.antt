@@ -1,29 +1,21 @@
 -- `runs::add_windows` meets its contract: the row has the minutes of the windows passed. Assumes nothing.
-use mathlib.Core.Path.{refl, sym, ◌∙◌}
+use mathlib.Core.Path.{refl}
 use native.Mathlib.Omega.{arith}
-use Rattle.runs.proofs.MinuteRowLaws.{adding_begins, adding_order, adding_week, adding_goes, adding_ends}
+use Rattle.runs.proofs.MinuteRowLaws.{adding_order, adding_week, adding_goes, adding_ends}
 use Rattle.runs.proofs.add_windows.Goals as goal
-
-pub loop-j-init : goal.loop-j-init
-loop-j-init c =
-    let args = c.args in
-    adding_begins args.windows.now args.first args.count args.row.now c.requires.count_in_bounds.1.0 c.requires.count_in_bounds.1.1
 
 pub add_range_by-requires : goal.add_range_by-requires
 add_range_by-requires c =
     let args = c.args in
     let order = adding_order args.windows.now args.first args.count c.loop-j.j c.loop-j.row c.loop-j.invariant c.loop-j-test.true in
     let week = adding_week args.windows.now args.first args.count c.loop-j.j c.loop-j.row c.loop-j.invariant c.loop-j-test.true in
-    (c.requires.table_value, (omega arith, (omega (arith, c.loop-j.invariant.wide), omega (arith, c.loop-j.invariant.wide))))
+    (omega arith, (omega (arith, c.loop-j.invariant.wide), omega (arith, c.loop-j.invariant.wide)))
 
 pub loop-j-preserved : goal.loop-j-preserved
 loop-j-preserved c =
     let args = c.args in
     adding_goes args.windows.now args.first args.count c.loop-j.j c.loop-j.row c.loop-j.invariant c.add_range_by.new.words
     c.loop-j-test.true c.add_range_by.auto.words c.add_range_by.ensures refl refl
-
-pub shape_of-row : goal.shape_of-row
-shape_of-row c = c.loop-j.invariant.wide ∙ sym c.requires.count_in_bounds.1.1.wide
 
 pub returns : goal.returns
 returns c =

@@ -1,10 +1,6 @@
 -- `runs::add_windows` meets its contract: the row has the minutes of the windows passed. Assumes nothing.
-use Prim.Native.Nat.{◌-◌}
 use Rattle.runs.proofs.MinuteRowLaws.{Adding}
 use Rattle.runs.proofs.add_windows.Given as goal
 
 abbrev pub invariant-loop-j : goal.invariant-loop-j
 invariant-loop-j l = Adding l.windows l.first l.count l.j l.row
-
-abbrev pub decreases-loop-j : goal.decreases-loop-j
-decreases-loop-j l = l.count - l.j

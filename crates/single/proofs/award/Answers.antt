@@ -1,32 +1,27 @@
 -- `single::award` meets its contract: the selection gives the winners, the payments the rest. Assumes nothing.
+use Rattle.single_lead.specs.ListedLaws.{every_listed}
 use Rattle.single.specs.PayLaws.{selected_flags, selected_all, award_settled}
 use native.Mathlib.Omega.{arith}
 use Rattle.single.proofs.award.Goals as goal
 
-pub winners-all-requires : goal.winners-all-requires
-winners-all-requires c =
-    record {
-      bids = record { starts = omega (arith, c.requires.prices_len_bound); ends = omega (arith, c.requires.prices_len_bound); sorted = c.requires.prices_in_bounds_2.1 };
-      prices_len_bound = (
-        omega (arith, c.requires.prices_len_bound),
-        omega (arith, c.requires.prices_len_bound, c.requires.prices_in_bounds_2.0),
-        omega (arith, c.requires.prices_len_bound),
-        omega (arith, c.requires.prices_in_bounds),
-        omega (arith, c.requires.prices_bound),
-      );
-      by_index = λ i l. omega (arith, c.requires.by_index i l);
-    }
+pub invariant_of-bids : goal.invariant_of-bids
+invariant_of-bids c = record {
+  few = omega (arith, c.requires.prices_len_bound);
+  small = omega (arith, c.requires.prices_bound);
+  room = (
+    omega (arith, c.requires.prices_len_bound),
+    omega (arith, c.requires.prices_len_bound),
+    c.requires.prices_in_bounds_2.0,
+  );
+  within = c.requires.prices_in_bounds_2.1.bids;
+  every = every_listed _ c.requires.prices_in_bounds_2.1;
+  sorted = c.requires.prices_in_bounds_2.1.sorted;
+}
 
 pub payments-requires : goal.payments-requires
 payments-requires c =
     record {
-      bids = record { starts = omega (arith, c.requires.prices_len_bound); ends = omega (arith, c.requires.prices_len_bound); sorted = c.requires.prices_in_bounds_2.1 };
-      prices_len_bound = (
-        omega (arith, c.requires.prices_len_bound),
-        omega (arith, c.requires.prices_len_bound, c.requires.prices_in_bounds_2.0),
-        omega (arith, c.requires.prices_len_bound, c.winners-all.auto),
-        omega (arith, c.requires.prices_len_bound),
-      );
+      room = (omega (arith, c.requires.prices_len_bound, c.winners-all.auto), omega (arith, c.requires.prices_len_bound));
       prices_in_bounds = (
         omega (arith, c.requires.prices_in_bounds, c.winners-all.auto),
         omega (arith, c.requires.prices_in_bounds),

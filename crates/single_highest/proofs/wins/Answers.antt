@@ -1,16 +1,21 @@
 -- `single_highest::wins` meets its contract: the selection's flag of the bid. Assumes nothing.
 use native.Mathlib.Omega.{arith}
+use Rattle.single_lead.specs.ListedLaws.{every_listed}
+use Rattle.single.specs.PayLaws.{flag_is}
 use Rattle.single_highest.specs.BelowLaws.{selected_flag}
 use Rattle.single_highest.proofs.wins.Goals as goal
 
-pub winners-requires : goal.winners-requires
-winners-requires c =
+pub invariant_of-bids : goal.invariant_of-bids
+invariant_of-bids c =
     let r = c.requires in record {
-      bids = record { starts = omega (arith, r.starts); ends = omega (arith, r.ends); sorted = r.sorted };
-      prices_len_bound = (r.few, r.places, omega (arith, r.few), omega (arith, r.few), omega (arith, r.small));
-      by_index = λ j l. omega (arith, r.windows j l);
+      few = r.few;
+      small = omega (arith, r.small);
+      room = (omega (arith, r.starts), omega (arith, r.ends), r.places);
+      within = r.sorted.bids;
+      every = every_listed _ r.sorted;
+      sorted = r.sorted.sorted;
     }
 
 pub returns : goal.returns
 returns c =
-    selected_flag _ _ _ _ _ _ _ _ c.winners.ensures c.args.i c.requires.inside
+    flag_is _ _ (selected_flag _ _ _ _ _ _ _ _ c.winners.ensures c.args.i c.requires.inside)

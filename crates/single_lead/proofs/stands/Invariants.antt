@@ -6,6 +6,3 @@ use Rattle.single_lead.proofs.stands.Given as goal
 
 abbrev pub invariant-loop-j : goal.invariant-loop-j
 invariant-loop-j l = (l.j ≤ l.w) × (top_words l.w l.sets l.q l.j ≡ top_words l.w l.sets l.r l.j)
-
-abbrev pub decreases-loop-j : goal.decreases-loop-j
-decreases-loop-j l = l.j

@@ -1,8 +1,5 @@
 -- Each turn writes the last digit of what is left. Assumes nothing.
 use native.Mathlib.Omega.{arith}
-use mathlib.Core.Path.{sym, ◌∙◌}
-use Prim.Native.Nat.{◌+◌, ◌-◌, ◌%◌}
-use lib.ListN.{length-set}
 use Rattle.spelling.proofs.SpellingLaws.{spell_begins, spell_goes, spell_ends}
 use Rattle.spelling_put.proofs.spell.Goals as goal
 
@@ -12,10 +9,6 @@ loop-v-init c = spell_begins c.args.n c.args.digits.now (omega arith) c.requires
 pub loop-v-preserved : goal.loop-v-preserved
 loop-v-preserved c = spell_goes c.args.n c.loop-v.digits c.loop-v.v c.loop-v.i (omega arith)
     c.loop-v.invariant
-
-pub shape_of-digits : goal.shape_of-digits
-shape_of-digits c = length-set c.loop-v.digits (c.loop-v.i - 1) (48 + c.loop-v.v % 10) ∙ c.loop-v.invariant.room
-    ∙ sym c.requires
 
 pub returns : goal.returns
 returns c = (

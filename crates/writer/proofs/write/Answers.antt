@@ -4,11 +4,11 @@ use Rattle.award_fault.specs.Checks.{checked_fault}
 use Rattle.writer.specs.WritesLaws.{writes_nine}
 use Rattle.writer.proofs.write.Goals as goal
 
-pub write_sound-requires : goal.write_sound-requires
-write_sound-requires c = sym c.fault.ensures ∙ ap checked_fault c.in-Sound.is
+pub invariant_of-tables : goal.invariant_of-tables
+invariant_of-tables c = record { faultless = sym c.fault.ensures ∙ ap checked_fault c.in-None.is }
 
-pub returns-in-Faulty : goal.returns-in-Faulty
-returns-in-Faulty c =
+pub returns-in-Some : goal.returns-in-Some
+returns-in-Some c =
     let args = c.args in
     writes_nine args.tender args.count args.bids.now args.windows.now args.text.now _
-    (sym c.fault.ensures ∙ ap checked_fault c.in-Faulty.is)
+    (sym c.fault.ensures ∙ ap checked_fault c.in-Some.is)

@@ -1,8 +1,5 @@
 -- The runs found so far are written, and those from `from` on are left. Assumes nothing.
-use Prim.Native.Nat.{◌*◌}
-use mathlib.Core.Path.{sym, ◌∙◌}
-use native.Mathlib.Omega.{arith}
-use lib.ListN.{drop}
+use Rattle.std.proofs.Common.{refl, sym, ◌∙◌, ◌*◌, arith, drop}
 use Rattle.tender.specs.Tables.{windows_of, window_width}
 use Rattle.writer_line.proofs.PutLaws.{putting_begins, putting_room, putting_size, putting_late, putting_goes, putting_ends}
 use Rattle.writer_line.proofs.put_windows.Goals as goal
@@ -15,14 +12,12 @@ minutes-requires c =
 pub loop-from-init : goal.loop-from-init
 loop-from-init c =
     let args = c.args in
-    putting_begins (windows_of args.count (drop (window_width * args.first) args.windows.now)) args.buf.now args.at
+    let page = args.page.now in
+    (refl, putting_begins (windows_of args.count (drop (window_width * args.first) args.windows.now)) page.buf.now page.at)
 
 pub next-run-requires : goal.next-run-requires
 next-run-requires c =
-    (c.minutes.ensures.wide, (omega (arith, c.loop-from.invariant.within), c.requires.1.1.1.1))
-
-pub shape_of-buf-then-run-ge10080 : goal.shape_of-buf-then-run-ge10080
-shape_of-buf-then-run-ge10080 c = putting_size c.loop-from.invariant
+    (c.minutes.ensures.wide, (omega (arith, c.loop-from.invariant.1.within), c.requires.1.1.1.1))
 
 pub shape_of-row-then-run-ge10080 : goal.shape_of-row-then-run-ge10080
 shape_of-row-then-run-ge10080 c =
@@ -30,11 +25,12 @@ shape_of-row-then-run-ge10080 c =
 
 pub returns-then-run-ge10080 : goal.returns-then-run-ge10080
 returns-then-run-ge10080 c =
-    (putting_late c.loop-from.invariant c.minutes.ensures c.next-run.ensures c.if-run-ge10080.true, c.minutes.ensures.wide)
+    let put = c.loop-from.invariant in
+    ((put.0, putting_late put.1 c.minutes.ensures c.next-run.ensures c.if-run-ge10080.true), c.minutes.ensures.wide)
 
-pub put_window-end-requires : goal.put_window-end-requires
-put_window-end-requires c =
-    omega (arith, putting_room c.loop-from.invariant, putting_size c.loop-from.invariant, c.requires.1.1.0)
+pub put_window-requires : goal.put_window-requires
+put_window-requires c =
+    let put = c.loop-from.invariant.1 in omega (arith, putting_room put, putting_size put, c.requires.1.1.0)
 
 pub loop-from-smaller : goal.loop-from-smaller
 loop-from-smaller c =
@@ -43,11 +39,11 @@ loop-from-smaller c =
 
 pub loop-from-preserved : goal.loop-from-preserved
 loop-from-preserved c =
-    putting_goes c.loop-from.invariant c.minutes.ensures c.next-run.ensures c.requires.1.0 (omega (arith, c.if-run-ge10080.false))
-    c.put_window-end.ensures
-
-pub shape_of-buf : goal.shape_of-buf
-shape_of-buf c = putting_size c.loop-from.invariant
+    let put = c.loop-from.invariant in
+    let more = c.put_window.ensures in (
+      more.0 ∙ put.0,
+      putting_goes put.1 c.minutes.ensures c.next-run.ensures c.requires.1.0 (omega (arith, c.if-run-ge10080.false)) more.1,
+    )
 
 pub shape_of-row : goal.shape_of-row
 shape_of-row c =
@@ -55,4 +51,5 @@ shape_of-row c =
 
 pub returns : goal.returns
 returns c =
-    (putting_ends c.loop-from.invariant c.loop-from-test.false, c.minutes.ensures.wide)
+    let put = c.loop-from.invariant in
+    ((put.0, putting_ends put.1 c.loop-from-test.false), c.minutes.ensures.wide)

@@ -1,7 +1,5 @@
 -- Each turn writes the line of one bid, unless the text is too long already. Assumes nothing.
-use mathlib.Core.Path.{◌≡◌}
-use Prim.Native.Nat.{◌-◌, ◌/◌, ◌≤◌}
-use lib.ListN.{length}
+use Rattle.std.proofs.Common.{◌≡◌, ◌/◌, ◌≤◌, length}
 use Rattle.tender.specs.Tables.{rows_of, bid_width}
 use Rattle.runs.specs.MinuteRows.{row_words}
 use Rattle.writer_text.proofs.FillingLaws.{BidsPut}
@@ -9,7 +7,10 @@ use Rattle.writer_made.proofs.put_bids.Given as goal
 
 abbrev pub invariant-loop-j : goal.invariant-loop-j
 invariant-loop-j l =
-    BidsPut l.windows (rows_of l.count l.bids) l.initial.buf l.at l.count l.j l.buf l.end × ((length l.row ≡ row_words) × (l.count ≤ length l.bids / bid_width))
-
-abbrev pub decreases-loop-j : goal.decreases-loop-j
-decreases-loop-j l = l.count - l.j
+    let old = l.initial.page in
+    let tables = l.tables in record {
+      same : l.page.buf.ghost_name ≡ old.buf.ghost_name;
+      put : BidsPut tables.windows.now (rows_of tables.count tables.bids.now) old.buf.now old.at tables.count l.j l.page.buf.now l.page.at;
+      row : length l.row ≡ row_words;
+      lent : tables.count ≤ length tables.bids.now / bid_width;
+    }

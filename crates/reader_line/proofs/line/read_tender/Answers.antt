@@ -1,6 +1,5 @@
--- `line::read_tender` meets its contract: the kind whose word stands next is read on. Assumes nothing.
-use mathlib.Core.Path.{refl, sym, ap, ◌∙◌}
-use native.Mathlib.Omega.{arith}
+-- `read_tender` meets its contract: the kind whose word stands next is read on. Assumes nothing.
+use Rattle.std.proofs.Common.{refl, sym, ap, ◌∙◌}
 use Rattle.tender.specs.Limits.{within}
 use Rattle.tender.specs.Keywords.{bytes, single_word, multi_word}
 use Rattle.reader_parts.specs.Scan.{lettered}
@@ -13,49 +12,26 @@ pub stands-requires : goal.stands-requires
 unfolding lettered within
 stands-requires c = (c.requires.0, c.requires.1, refl)
 
-pub read_kind-requires : goal.read_kind-requires
-read_kind-requires c =
-    (omega (arith, c.stands.ensures.place c.if-stands.true), c.requires.1)
-
-pub returns-then-stands : goal.returns-then-stands
+pub returns-then-stands-clause-answer : goal.returns-then-stands-clause-answer
 unfolding single_word bytes
-returns-then-stands c =
-    let s = c.args.s.now in
-    let at = c.args.at in
-    let e = tender_single s at (sym c.stands.ensures.answer ∙ c.if-stands.true) in
-    record {
-      answer = λ m table. c.read_kind.ensures.answer m table ∙ ap (noted_front m table) (sym e);
-      place = c.read_kind.ensures.place;
-    }
+returns-then-stands-clause-answer c =
+    let e = tender_single c.args.s.now c.args.at (sym c.stands.ensures.answer ∙ c.if-stands.true) in
+    λ m table. c.read_kind.ensures.answer m table ∙ ap (noted_front m table) (sym e)
 
 pub stands-requires-2 : goal.stands-requires-2
 unfolding lettered within
-stands-requires-2 c =
-    (c.requires.0, c.requires.1, refl)
+stands-requires-2 c = (c.requires.0, c.requires.1, refl)
 
-pub read_kind-requires-then-stands-2 : goal.read_kind-requires-then-stands-2
-read_kind-requires-then-stands-2 c =
-    (omega (arith, c.stands-2.ensures.place c.if-stands-2.true), c.requires.1)
-
-pub returns-then-stands-2 : goal.returns-then-stands-2
+pub returns-then-stands-2-clause-answer : goal.returns-then-stands-2-clause-answer
 unfolding single_word multi_word bytes
-returns-then-stands-2 c =
-    let s = c.args.s.now in
-    let at = c.args.at in
+returns-then-stands-2-clause-answer c =
     let n = sym c.stands.ensures.answer ∙ c.if-stands.false in
-    let e = tender_multi s at n (sym c.stands-2.ensures.answer ∙ c.if-stands-2.true) in
-    record {
-      answer = λ m table. c.read_kind-then-stands-2.ensures.answer m table ∙ ap (noted_front m table) (sym e);
-      place = c.read_kind-then-stands-2.ensures.place;
-    }
+    let e = tender_multi c.args.s.now c.args.at n (sym c.stands-2.ensures.answer ∙ c.if-stands-2.true) in
+    λ m table. c.read_kind-then-stands-2.ensures.answer m table ∙ ap (noted_front m table) (sym e)
 
-pub returns : goal.returns
+pub returns-clause-answer : goal.returns-clause-answer
 unfolding single_word multi_word bytes
-returns c =
+returns-clause-answer c =
     let s = c.args.s.now in
-    let at = c.args.at in
     let n = sym c.stands.ensures.answer ∙ c.if-stands.false in
-    record {
-      answer = noted_wrong s _ (tender_neither s at n (sym c.stands-2.ensures.answer ∙ c.if-stands-2.false));
-      place = omega arith;
-    }
+    noted_wrong s _ (tender_neither s c.args.at n (sym c.stands-2.ensures.answer ∙ c.if-stands-2.false))

@@ -1,9 +1,0 @@
--- The loop is bounded, so every place and shift is in range. Assumes nothing.
-use Rattle.std.proofs.Common.{◌-◌, ◌≤◌, rules}
-use Rattle.test_trials.proofs.parts.tables_of.Given as goal
-
-abbrev pub invariant-loop-j : goal.invariant-loop-j
-invariant-loop-j l = (l.j ≤ 7)
-
-abbrev pub decreases-loop-j : goal.decreases-loop-j
-decreases-loop-j l = 7 - l.j

@@ -1,9 +1,0 @@
--- The loop is bounded, so every place and shift is in range. Assumes nothing.
-use Rattle.std.proofs.Common.{◌-◌, ◌≤◌, rules}
-use Rattle.test_trials.proofs.parts.with_part.Given as goal
-
-abbrev pub invariant-loop-x : goal.invariant-loop-x
-invariant-loop-x l = (l.x ≤ 24)
-
-abbrev pub decreases-loop-x : goal.decreases-loop-x
-decreases-loop-x l = 24 - l.x
