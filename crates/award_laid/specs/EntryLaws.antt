@@ -1,7 +1,7 @@
 -- The entries of a faultless tender: no more than an award can weigh, their prices within the limit, their words with room; laid out, they
 -- are a market. Assumes nothing.
 use Rattle.std.specs.Prelude.{◌≡◌, List, ℕ, ◌+◌, ◌*◌, ◌/◌, ◌≤◌, length, get_or, take, replicate, Some, None}
-use Rattle.std.proofs.Common.{sym, ap, ◌∙◌, arith, length-take-le, leb-true, mul-le-mul}
+use Rattle.std.proofs.Common.{subst, sym, ap, ◌∙◌, arith, length-take-le, leb-true, mul-le-mul}
 use Rattle.std.proofs.Math.Option.{none}
 use Rattle.std.proofs.lemmas.List.{length-replicate}
 use Rattle.std.proofs.Math.ListN.{get_or-eq_default}
@@ -15,6 +15,7 @@ use Rattle.multi_market.specs.Market.{Priced}
 use Rattle.multi_market.specs.Market.{Market}
 use Rattle.award_thin.specs.Thin.{Asked}
 use Rattle.award_check.specs.Faults.{fault_of}
+use Rattle.award_fault.specs.declared.Faultless.{Faultless}
 use Rattle.award_check.specs.Cells.{cells_of}
 use Rattle.award_check.specs.Auction.{houses, auction_of}
 use Rattle.award_check.proofs.AuctionLaws.{entries, price_named, house_price}
@@ -79,3 +80,8 @@ market t n w bids windows ps ms thin f l d size = record {
 -- the first places of a local array, which is filled with ones
 pub prefix_length : (k n : ℕ) → k ≤ n → length (take k (replicate {A = ℕ} n 1)) ≡ k
 prefix_length k n l = length-take-le k (replicate n 1) (omega (arith, length-replicate {A = ℕ} n 1))
+
+-- tables without a fault have none by the award of their kind
+pub of_kind : {k : Kind} (f : Faultless) → f.tender.kind ≡ k
+    → fault_of k f.tender f.count f.bids.now f.windows.now ≡ none
+of_kind f e = subst (λ k. fault_of k f.tender f.count f.bids.now f.windows.now ≡ none) e f.faultless

@@ -4,17 +4,16 @@
 #![tactic(auto)]
 
 ghost use Rattle.std.specs.Prelude.{◌≡◌, ◌+◌, ◌*◌, ◌/◌, ◌≤◌, ◌<◌, length, get_or, set};
-ghost use Rattle.std.proofs.Math.Option.{none};
 ghost use Rattle.tender.specs.declared.Kind.TheVariants.{Single, Multi};
 ghost use Rattle.cover.specs.Settled.{spans};
 ghost use Rattle.cover.specs.Intervals.{Order};
 ghost use Rattle.multi_market.specs.Market.{First};
 ghost use Rattle.award_thin.specs.Thin.{Says, Spans};
-ghost use Rattle.award_check.specs.Faults.{fault_of};
 ghost use Rattle.award_check.specs.Cells.{cells_of};
 ghost use Rattle.award_check.specs.Auction.{houses};
 ghost use Rattle.award_laid.specs.Lay.{LaidSpans, LaidMasks, named, thin_refusal};
 
+use award_fault::Faultless;
 use award_thin::Thin;
 use tender::{Refusal, Tender};
 
@@ -50,27 +49,28 @@ fn ask(starts: &[u64], ends: &[u64], cells: u64, order: &mut [usize]) -> Result<
 
 // A single tender as prices, starts and ends, with its entries in order of start.
 pub fn lay_spans(
-    tender: Tender,
-    count: usize,
-    bids: &[u64],
-    windows: &[u64],
+    tables: &Faultless<'_>,
     prices: &mut [u64],
     starts: &mut [u64],
     ends: &mut [u64],
     order: &mut [usize],
 ) -> Result<(), Thin>
-    requires { (fault_of Single tender count bids.now windows.now ≡ none)
-        × ((length prices.old ≡ count + houses tender.reserve) × ((length starts.old ≡ count + houses tender.reserve)
-        × ((length ends.old ≡ count + houses tender.reserve) × (count + houses tender.reserve ≤ length order.old)))) }
-    ensures { LaidSpans tender count bids.now windows.now prices.new
+    requires { (tables.now.tender.kind ≡ Single)
+        × ((length prices.old ≡ tables.now.count + houses tables.now.tender.reserve)
+        × ((length starts.old ≡ tables.now.count + houses tables.now.tender.reserve)
+        × ((length ends.old ≡ tables.now.count + houses tables.now.tender.reserve)
+        × (tables.now.count + houses tables.now.tender.reserve ≤ length order.old)))) }
+    ensures { LaidSpans tables.now.tender tables.now.count tables.now.bids.now tables.now.windows.now prices.new
         starts.new ends.new order.new result }
 {
+    let tender = tables.tender;
+    let count = tables.count;
     let cells = award_layout::cells(tender);
-    award_layout::prices(bids, &mut prices[..count]);
+    award_layout::prices(tables.bids, &mut prices[..count]);
     award_layout::spans(
         tender,
-        bids,
-        windows,
+        tables.bids,
+        tables.windows,
         &mut starts[..count],
         &mut ends[..count],
     );
@@ -86,24 +86,30 @@ pub fn lay_spans(
 
 // A multi tender as prices and words, w words an entry.
 pub fn lay_masks(
-    tender: Tender,
+    tables: &Faultless<'_>,
     w: usize,
-    count: usize,
-    bids: &[u64],
-    windows: &[u64],
     prices: &mut [u64],
     masks: &mut [u64],
 ) -> Result<(), Thin>
-    requires { (fault_of Multi tender count bids.now windows.now ≡ none)
-        × ((w ≡ (cells_of tender + 63) / 64) × ((length prices.old ≡ count + houses tender.reserve)
-        × (length masks.old ≡ w * (count + houses tender.reserve)))) }
-    ensures { LaidMasks tender count w bids.now windows.now prices.new
+    requires { (tables.now.tender.kind ≡ Multi)
+        × ((w ≡ (cells_of tables.now.tender + 63) / 64) × ((length prices.old ≡ tables.now.count + houses tables.now.tender.reserve)
+        × (length masks.old ≡ w * (tables.now.count + houses tables.now.tender.reserve)))) }
+    ensures { LaidMasks tables.now.tender tables.now.count w tables.now.bids.now tables.now.windows.now prices.new
         masks.new result }
 {
+    let tender = tables.tender;
+    let count = tables.count;
     let cells = award_layout::cells(tender);
     let own = w * count;
-    award_layout::prices(bids, &mut prices[..count]);
-    award_layout::masks(tender, w, count, bids, windows, &mut masks[..own]);
+    award_layout::prices(tables.bids, &mut prices[..count]);
+    award_layout::masks(
+        tender,
+        w,
+        count,
+        tables.bids,
+        tables.windows,
+        &mut masks[..own],
+    );
     match tender.reserve {
         None => award_thin_masks::thin_masks(masks, w, count, cells as usize),
         Some(price) => {

@@ -3,54 +3,43 @@
 #![tactic(auto)]
 
 ghost use Rattle.std.specs.Prelude.{◌≡◌, ◌≤◌, min, length};
-ghost use Rattle.std.proofs.Math.Option.{none};
 ghost use Rattle.tender.specs.Limits.{max_entries};
-ghost use Rattle.award_check.specs.Faults.{fault_of};
 ghost use Rattle.award_rule.specs.Award.{award_of};
 ghost use Rattle.award_rule.specs.Plain.{told_in, PlainPromise};
 
+use award_fault::Faultless;
 use tender::{Kind, Refusal, Tender, Totals};
 
-// A faultless tender of this kind: flags and cents of all entries.
+// Tables without a fault: flags and cents of all entries.
 fn settle_entries(
-    kind: Kind,
-    tender: Tender,
-    count: usize,
-    bids: &[u64],
-    windows: &[u64],
+    tables: &Faultless<'_>,
     flags: &mut [u64],
     pays: &mut [u64],
 ) -> Result<Totals, Refusal>
-    requires { (fault_of kind tender count bids.now windows.now ≡ none)
-        × ((length flags.old ≡ max_entries) × (length pays.old ≡ max_entries)) }
-    ensures { told_in count flags.new pays.new result
-        ≡ award_of kind tender count bids.now windows.now count }
+    requires { (length flags.old ≡ max_entries) × (length pays.old ≡ max_entries) }
+    ensures { told_in tables.now.count flags.new pays.new result
+        ≡ award_of tables.now.tender.kind tables.now.tender tables.now.count tables.now.bids.now tables.now.windows.now tables.now.count }
 {
-    match kind {
-        Kind::Single => award_entries::settle_single(tender, count, bids, windows, flags, pays),
-        Kind::Multi => award_entries::settle_multi(tender, count, bids, windows, flags, pays),
+    match tables.tender.kind {
+        Kind::Single => award_entries::settle_single(tables, flags, pays),
+        Kind::Multi => award_entries::settle_multi(tables, flags, pays),
     }
 }
 
-// A faultless tender of this kind: flags and cents of the owners' bids in the two lent lists.
+// Tables without a fault: flags and cents of the owners' bids in the two lent lists.
 pub fn settle_sound(
-    kind: Kind,
-    tender: Tender,
-    count: usize,
-    bids: &[u64],
-    windows: &[u64],
+    tables: &Faultless<'_>,
     won: &mut [u64],
     cents: &mut [u64],
 ) -> Result<Totals, Refusal>
-    requires { (fault_of kind tender count bids.now windows.now ≡ none)
-        × ((count ≤ length won.old) × (count ≤ length cents.old)) }
-    ensures { PlainPromise kind tender count bids.now windows.now count won.old
-        cents.old won.new cents.new result }
+    requires { (tables.now.count ≤ length won.old) × (tables.now.count ≤ length cents.old) }
+    ensures { PlainPromise tables.now.tender.kind tables.now.tender tables.now.count tables.now.bids.now tables.now.windows.now
+        tables.now.count won.old cents.old won.new cents.new result }
 {
     let mut flags = [1u64; tender::MAX_ENTRIES];
     let mut pays = [1u64; tender::MAX_ENTRIES];
-    let answer = settle_entries(kind, tender, count, bids, windows, &mut flags, &mut pays);
-    award_plain::report(answer, count, &flags, &pays, won, cents);
+    let answer = settle_entries(tables, &mut flags, &mut pays);
+    award_plain::report(answer, tables.count, &flags, &pays, won, cents);
     answer
 }
 
@@ -77,5 +66,11 @@ pub fn settle_in(
         // 10: fewer award rows than bids.
         return Err(Refusal::RowsTooFew);
     }
-    settle_sound(kind, tender, count, bids, windows, won, cents)
+    let tables = Faultless {
+        tender,
+        count,
+        bids,
+        windows,
+    };
+    settle_sound(&tables, won, cents)
 }

@@ -4,18 +4,17 @@
 #![tactic(auto)]
 
 ghost use Rattle.std.specs.Prelude.{◌≡◌, ℕ, ◌+◌, ◌*◌, ◌/◌, ◌≤◌, ◌<◌, length, get_or};
-ghost use Rattle.std.proofs.Math.Option.{none};
 ghost use Rattle.tender.specs.declared.Kind.TheVariants.{Single, Multi};
 ghost use Rattle.tender.specs.Limits.{max_entries};
 ghost use Rattle.tender.specs.Tables.{bid_width};
 ghost use Rattle.cover.specs.Winning.{one_less};
 ghost use Rattle.cover.specs.Settled.{most_cents};
-ghost use Rattle.award_check.specs.Faults.{fault_of};
 ghost use Rattle.award_check.specs.Cells.{cells_of};
 ghost use Rattle.award_check.specs.Auction.{houses};
 ghost use Rattle.highest_rule.specs.Highest.{row_with, price_for, highest_of};
 ghost use Rattle.highest.specs.Asking.{found_row, SpansAsked, MasksAsked};
 
+use award_fault::Faultless;
 use tender::{Kind, Refusal, Tender};
 
 // The row with this bidder number, where there is one.
@@ -85,52 +84,47 @@ fn ask_masks(
 
 // A faultless single tender. Room for prices, starts and ends of as many entries, and for their order, is lent.
 fn single_in(
-    tender: Tender,
-    count: usize,
-    bids: &[u64],
-    windows: &[u64],
+    tables: &Faultless<'_>,
     bidder: u64,
     prices: &mut [u64],
     starts: &mut [u64],
     ends: &mut [u64],
     order: &mut [usize],
 ) -> Result<Option<u64>, Refusal>
-    requires { (fault_of Single tender count bids.now windows.now ≡ none)
-        × ((length prices.old ≡ count + houses tender.reserve) × ((length starts.old ≡ count + houses tender.reserve)
-        × ((length ends.old ≡ count + houses tender.reserve) × (length prices.old ≤ length order.old)))) }
-    ensures { result ≡ highest_of tender count bids.now windows.now bidder }
+    requires { (tables.now.tender.kind ≡ Single)
+        × ((length prices.old ≡ tables.now.count + houses tables.now.tender.reserve)
+        × ((length starts.old ≡ tables.now.count + houses tables.now.tender.reserve)
+        × ((length ends.old ≡ tables.now.count + houses tables.now.tender.reserve) × (length prices.old ≤ length order.old)))) }
+    ensures { result ≡ highest_of tables.now.tender tables.now.count tables.now.bids.now tables.now.windows.now bidder }
 {
-    if let Err(thin) = award_laid::lay_spans(
-        tender, count, bids, windows, prices, starts, ends, order,
-    ) {
-        return Err(award_laid::refusal(tender, thin));
+    if let Err(thin) = award_laid::lay_spans(tables, prices, starts, ends, order) {
+        return Err(award_laid::refusal(tables.tender, thin));
     }
     ask_spans(
-        tender, count, bids, windows, bidder, prices, starts, ends, order,
+        tables.tender,
+        tables.count,
+        tables.bids,
+        tables.windows,
+        bidder,
+        prices,
+        starts,
+        ends,
+        order,
     )
 }
 
 // A faultless single tender.
-fn highest_single(
-    tender: Tender,
-    count: usize,
-    bids: &[u64],
-    windows: &[u64],
-    bidder: u64,
-) -> Result<Option<u64>, Refusal>
-    requires { fault_of Single tender count bids.now windows.now ≡ none }
-    ensures { result ≡ highest_of tender count bids.now windows.now bidder }
+fn highest_single(tables: &Faultless<'_>, bidder: u64) -> Result<Option<u64>, Refusal>
+    requires { tables.now.tender.kind ≡ Single }
+    ensures { result ≡ highest_of tables.now.tender tables.now.count tables.now.bids.now tables.now.windows.now bidder }
 {
-    let entries = award_layout::entries(tender, count);
+    let entries = award_layout::entries(tables.tender, tables.count);
     let mut prices = [1u64; tender::MAX_ENTRIES];
     let mut starts = [1u64; tender::MAX_ENTRIES];
     let mut ends = [1u64; tender::MAX_ENTRIES];
     let mut order = [1usize; tender::MAX_ENTRIES];
     single_in(
-        tender,
-        count,
-        bids,
-        windows,
+        tables,
         bidder,
         &mut prices[..entries],
         &mut starts[..entries],
@@ -141,68 +135,52 @@ fn highest_single(
 
 // A faultless multi tender. Room for prices and words of as many entries is lent.
 fn multi_in(
-    tender: Tender,
+    tables: &Faultless<'_>,
     w: usize,
-    count: usize,
-    bids: &[u64],
-    windows: &[u64],
     bidder: u64,
     prices: &mut [u64],
     masks: &mut [u64],
 ) -> Result<Option<u64>, Refusal>
-    requires { (fault_of Multi tender count bids.now windows.now ≡ none)
-        × ((w ≡ (cells_of tender + 63) / 64) × ((length prices.old ≡ count + houses tender.reserve)
-        × (length masks.old ≡ w * (count + houses tender.reserve)))) }
-    ensures { result ≡ highest_of tender count bids.now windows.now bidder }
+    requires { (tables.now.tender.kind ≡ Multi)
+        × ((w ≡ (cells_of tables.now.tender + 63) / 64) × ((length prices.old ≡ tables.now.count + houses tables.now.tender.reserve)
+        × (length masks.old ≡ w * (tables.now.count + houses tables.now.tender.reserve)))) }
+    ensures { result ≡ highest_of tables.now.tender tables.now.count tables.now.bids.now tables.now.windows.now bidder }
 {
-    if let Err(thin) = award_laid::lay_masks(tender, w, count, bids, windows, prices, masks) {
-        return Err(award_laid::refusal(tender, thin));
+    if let Err(thin) = award_laid::lay_masks(tables, w, prices, masks) {
+        return Err(award_laid::refusal(tables.tender, thin));
     }
-    ask_masks(tender, w, count, bids, windows, bidder, prices, masks)
-}
-
-// A faultless multi tender.
-fn highest_multi(
-    tender: Tender,
-    count: usize,
-    bids: &[u64],
-    windows: &[u64],
-    bidder: u64,
-) -> Result<Option<u64>, Refusal>
-    requires { fault_of Multi tender count bids.now windows.now ≡ none }
-    ensures { result ≡ highest_of tender count bids.now windows.now bidder }
-{
-    let w = (award_layout::cells(tender) as usize + 63) / 64;
-    let entries = award_layout::entries(tender, count);
-    let all = w * entries;
-    let mut prices = [1u64; tender::MAX_ENTRIES];
-    let mut masks = [1u64; 158 * tender::MAX_ENTRIES];
-    multi_in(
-        tender,
+    ask_masks(
+        tables.tender,
         w,
-        count,
-        bids,
-        windows,
+        tables.count,
+        tables.bids,
+        tables.windows,
         bidder,
-        &mut prices[..entries],
-        &mut masks[..all],
+        prices,
+        masks,
     )
 }
 
-// The answer for the bid with this number in tables that break no rule.
-pub fn highest_sound(
-    tender: Tender,
-    count: usize,
-    bids: &[u64],
-    windows: &[u64],
-    bidder: u64,
-) -> Result<Option<u64>, Refusal>
-    requires { fault_of tender.kind tender count bids.now windows.now ≡ none }
-    ensures { result ≡ highest_of tender count bids.now windows.now bidder }
+// A faultless multi tender.
+fn highest_multi(tables: &Faultless<'_>, bidder: u64) -> Result<Option<u64>, Refusal>
+    requires { tables.now.tender.kind ≡ Multi }
+    ensures { result ≡ highest_of tables.now.tender tables.now.count tables.now.bids.now tables.now.windows.now bidder }
 {
-    match tender.kind {
-        Kind::Single => highest_single(tender, count, bids, windows, bidder),
-        Kind::Multi => highest_multi(tender, count, bids, windows, bidder),
+    let w = (award_layout::cells(tables.tender) as usize + 63) / 64;
+    let entries = award_layout::entries(tables.tender, tables.count);
+    let all = w * entries;
+    let mut prices = [1u64; tender::MAX_ENTRIES];
+    let mut masks = [1u64; 158 * tender::MAX_ENTRIES];
+    multi_in(tables, w, bidder, &mut prices[..entries], &mut masks[..all])
+}
+
+// The answer for the bid with this number in tables that break no rule.
+pub fn highest_sound(tables: &Faultless<'_>, bidder: u64) -> Result<Option<u64>, Refusal>
+    ensures { result ≡ highest_of tables.now.tender tables.now.count tables.now.bids.now tables.now.windows.now bidder }
+{
+    match tables.tender.kind {
+        Kind::Single => highest_single(tables, bidder),
+        Kind::Multi => highest_multi(tables, bidder),
     }
 }
 
@@ -221,5 +199,11 @@ pub fn highest_price(
         // 9: the tables break a rule.
         return Err(Refusal::BadTables { row });
     }
-    highest_sound(tender, count, bids, windows, bidder)
+    let tables = Faultless {
+        tender,
+        count,
+        bids,
+        windows,
+    };
+    highest_sound(&tables, bidder)
 }

@@ -7,6 +7,7 @@ ghost use Rattle.spelling.specs.Written.{Written};
 ghost use Rattle.spelling.specs.Delivered.{Delivered};
 ghost use Rattle.highest_text.specs.Told.{none_line, highest_line, HighestTold};
 
+use award_fault::Faultless;
 use spelling_put::Page;
 use tender::Refusal;
 
@@ -67,13 +68,13 @@ pub fn tender_highest(text: &[u8], bidder: u64, out: &mut [u8]) -> usize
     let mut windows = [1u64; tender::WINDOW_TABLE];
     match reader_fill::fill(text, &mut bids, &mut windows) {
         Ok(filled) => {
-            let answer = highest::highest_sound(
-                filled.tender,
-                filled.bids,
-                &bids,
-                &windows,
-                bidder,
-            );
+            let tables = Faultless {
+                tender: filled.tender,
+                count: filled.bids,
+                bids: &bids,
+                windows: &windows,
+            };
+            let answer = highest::highest_sound(&tables, bidder);
             deliver(bidder, answer, out)
         }
         Err(refusal) => deliver(bidder, Err(refusal), out),

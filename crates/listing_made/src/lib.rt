@@ -2,24 +2,30 @@
 #![tactic(auto)]
 
 ghost use Rattle.std.specs.Prelude.{◌≡◌, ◌+◌, ◌*◌, ◌≤◌, length, take};
-ghost use Rattle.std.proofs.Math.Option.{none};
 ghost use Rattle.tender.specs.Tables.{bid_width};
-ghost use Rattle.award_check.specs.Faults.{fault_of};
 ghost use Rattle.listing_text.specs.Made.{AwardedWritten, Made};
 ghost use Rattle.listing_made.specs.Room.{room_for};
 
-use tender::Tender;
+use award_fault::Faultless;
 
 // The list of the award to these tables, which break no rule.
-fn put_award(list: &mut [u8], tender: Tender, n: usize, bids: &[u64], windows: &[u64]) -> usize
-    requires { (fault_of tender.kind tender n bids.now windows.now ≡ none)
-        × ((n ≤ 1000) × ((bid_width * n ≤ length bids.now) × (48 * n + 136 ≤ length list.old))) }
-    ensures { AwardedWritten tender n bids.now windows.now list.old list.new result }
+fn put_award(list: &mut [u8], tables: &Faultless<'_>) -> usize
+    requires { (tables.now.count ≤ 1000) × ((bid_width * tables.now.count ≤ length tables.now.bids.now)
+        × (48 * tables.now.count + 136 ≤ length list.old)) }
+    ensures { AwardedWritten tables.now.tender tables.now.count tables.now.bids.now tables.now.windows.now list.old list.new result }
 {
     let mut won = [1u64; 1000];
     let mut cents = [1u64; 1000];
-    match award_settle::settle_sound(tender.kind, tender, n, bids, windows, &mut won, &mut cents) {
-        Ok(totals) => listing_lines::put_awarded(list, tender, n, bids, &won, &cents, totals),
+    match award_settle::settle_sound(tables, &mut won, &mut cents) {
+        Ok(totals) => listing_lines::put_awarded(
+            list,
+            tables.tender,
+            tables.count,
+            tables.bids,
+            &won,
+            &cents,
+            totals,
+        ),
         Err(refusal) => spelling_put::put_refused(list, refusal),
     }
 }
@@ -32,7 +38,15 @@ pub fn make(text: &[u8], list: &mut [u8]) -> usize
     let mut bids = [1u64; tender::BID_TABLE];
     let mut windows = [1u64; tender::WINDOW_TABLE];
     match reader_fill::fill(text, &mut bids, &mut windows) {
-        Ok(filled) => put_award(list, filled.tender, filled.bids, &bids, &windows),
+        Ok(filled) => {
+            let tables = Faultless {
+                tender: filled.tender,
+                count: filled.bids,
+                bids: &bids,
+                windows: &windows,
+            };
+            put_award(list, &tables)
+        }
         Err(refusal) => spelling_put::put_refused(list, refusal),
     }
 }
@@ -45,7 +59,15 @@ pub fn make_in(buf: &mut [u8], n: usize) -> usize
     let mut bids = [1u64; tender::BID_TABLE];
     let mut windows = [1u64; tender::WINDOW_TABLE];
     match reader_fill::fill(&buf[..n], &mut bids, &mut windows) {
-        Ok(filled) => put_award(buf, filled.tender, filled.bids, &bids, &windows),
+        Ok(filled) => {
+            let tables = Faultless {
+                tender: filled.tender,
+                count: filled.bids,
+                bids: &bids,
+                windows: &windows,
+            };
+            put_award(buf, &tables)
+        }
         Err(refusal) => spelling_put::put_refused(buf, refusal),
     }
 }

@@ -11,13 +11,16 @@ fn back(masks: &[u64], a: usize, q: usize, m: u64, to: u8, hop: &mut [u8]) -> us
     requires { (a + q ≤ length masks.now) × (length hop.old ≡ length masks.now) }
     ensures { Backed masks.now a q m to hop.old hop.new result }
 {
-    for r in (0..q).rev() {
-        if masks[a + r] != m {
-            return r + 1;
+    let mut r = q;
+    // a while: by a range each word takes five instructions where four do, which is 2 % of an award of long windows
+    while 0 < r {
+        if masks[a + r - 1] != m {
+            return r;
         }
+        r -= 1;
         hop[a + r] = to;
     }
-    0
+    r
 }
 
 // The hops of bid i's words, from the last word back: a gap, then a run, else a word with some cells.

@@ -6,45 +6,46 @@ use Rattle.tender.specs.declared.Kind.TheVariants.{Multi}
 use Rattle.award_check.specs.Auction.{houses}
 use Rattle.award_layout.specs.LayoutLaws.{orderly, cells_within}
 use Rattle.award_laid.specs.LayLaws.{words_of, front_count, word_front, rows_only, masks_ready, masks_owners, masks_house, house_words}
+use Rattle.award_laid.specs.EntryLaws.{of_kind}
 use Rattle.award_laid.proofs.lay_masks.Goals as goal
 
 pub cells-cells-requires : goal.cells-cells-requires
 cells-cells-requires c =
-    let A = c.args in (cells_within Multi A.tender A.count A.bids.now A.windows.now c.requires.0).0
+    let T = c.args.tables.now in (cells_within Multi T.tender T.count T.bids.now T.windows.now (of_kind T c.requires.0)).0
 
 pub prices-requires : goal.prices-requires
 prices-requires c =
-    let A = c.args in let P = c.requires in
-    rw (front_count _ _ A.prices.now P.1.1.0) (orderly Multi A.tender A.count A.bids.now A.windows.now P.0).lent
+    let A = c.args in let T = A.tables.now in let P = c.requires in let F = of_kind T P.0 in
+    rw (front_count _ _ A.prices.now P.1.1.0) (orderly Multi T.tender T.count T.bids.now T.windows.now F).lent
 
 pub masks-requires : goal.masks-requires
 masks-requires c =
-    let A = c.args in let P = c.requires in
-    let d = words_of Multi A.tender A.count A.w A.bids.now A.windows.now P.0 P.1.0 in (
-      orderly Multi A.tender A.count A.bids.now A.windows.now P.0,
+    let A = c.args in let T = A.tables.now in let P = c.requires in let F = of_kind T P.0 in
+    let d = words_of Multi T.tender T.count A.w T.bids.now T.windows.now F P.1.0 in (
+      orderly Multi T.tender T.count T.bids.now T.windows.now F,
       (
         word_front _ _ _ A.masks.now P.1.1.1,
-        (((cells_within Multi A.tender A.count A.bids.now A.windows.now P.0).0, d.fits), d.words),
+        (((cells_within Multi T.tender T.count T.bids.now T.windows.now F).0, d.fits), d.words),
       ),
     )
 
 pub thin_masks-requires : goal.thin_masks-requires
 thin_masks-requires c =
-    let A = c.args in let P = c.requires in
-    let d = words_of Multi A.tender A.count A.w A.bids.now A.windows.now P.0 P.1.0 in
-    let R = masks_ready A.tender A.count A.w A.bids.now A.windows.now A.prices.now A.masks.now
+    let A = c.args in let T = A.tables.now in let P = c.requires in let F = of_kind T P.0 in
+    let d = words_of Multi T.tender T.count A.w T.bids.now T.windows.now F P.1.0 in
+    let R = masks_ready T.tender T.count A.w T.bids.now T.windows.now A.prices.now A.masks.now
     c.prices.new.out c.masks.new.out P.1.1.0 P.1.1.1
     (c.masks.auto.out ∙ word_front _ _ _ A.masks.now P.1.1.1)
     (rw (front_count _ _ A.prices.now P.1.1.0) at c.prices.ensures) c.masks.ensures in (
-      R.word_count ∙ rows_only A.w A.count _ (ap houses c.in-None.is),
+      R.word_count ∙ rows_only A.w T.count _ (ap houses c.in-None.is),
       (d.words, omega (arith, c.cells-cells.ensures, d.fits)),
     )
 
 pub unlock-requires : goal.unlock-requires
 unlock-requires c =
-    let A = c.args in let P = c.requires in
-    let d = words_of Multi A.tender A.count A.w A.bids.now A.windows.now P.0 P.1.0 in
-    let R = masks_ready A.tender A.count A.w A.bids.now A.windows.now A.prices.now A.masks.now
+    let A = c.args in let T = A.tables.now in let P = c.requires in let F = of_kind T P.0 in
+    let d = words_of Multi T.tender T.count A.w T.bids.now T.windows.now F P.1.0 in
+    let R = masks_ready T.tender T.count A.w T.bids.now T.windows.now A.prices.now A.masks.now
     c.prices.new.out c.masks.new.out P.1.1.0 P.1.1.1
     (c.masks.auto.out ∙ word_front _ _ _ A.masks.now P.1.1.1)
     (rw (front_count _ _ A.prices.now P.1.1.0) at c.prices.ensures) c.masks.ensures in
@@ -53,8 +54,8 @@ unlock-requires c =
 
 pub returns-in-None : goal.returns-in-None
 returns-in-None c =
-    let A = c.args in let P = c.requires in
-    let R = masks_ready A.tender A.count A.w A.bids.now A.windows.now A.prices.now A.masks.now
+    let A = c.args in let T = A.tables.now in let P = c.requires in let F = of_kind T P.0 in
+    let R = masks_ready T.tender T.count A.w T.bids.now T.windows.now A.prices.now A.masks.now
     c.prices.new.out c.masks.new.out P.1.1.0 P.1.1.1
     (c.masks.auto.out ∙ word_front _ _ _ A.masks.now P.1.1.1)
     (rw (front_count _ _ A.prices.now P.1.1.0) at c.prices.ensures) c.masks.ensures in
@@ -62,8 +63,8 @@ returns-in-None c =
 
 pub returns-in-Some : goal.returns-in-Some
 returns-in-Some c =
-    let A = c.args in let P = c.requires in
-    let R = masks_ready A.tender A.count A.w A.bids.now A.windows.now A.prices.now A.masks.now
+    let A = c.args in let T = A.tables.now in let P = c.requires in let F = of_kind T P.0 in
+    let R = masks_ready T.tender T.count A.w T.bids.now T.windows.now A.prices.now A.masks.now
     c.prices.new.out c.masks.new.out P.1.1.0 P.1.1.1
     (c.masks.auto.out ∙ word_front _ _ _ A.masks.now P.1.1.1)
     (rw (front_count _ _ A.prices.now P.1.1.0) at c.prices.ensures) c.masks.ensures in

@@ -9,3 +9,6 @@ pub returns-in-Some : goal.returns-in-Some
 returns-in-Some c =
     let A = c.args in nine A.tender A.count A.bids.now A.windows.now A.bidder _
     (sym c.fault.ensures ∙ ap checked_fault c.in-Some.is)
+
+pub invariant_of-tables : goal.invariant_of-tables
+invariant_of-tables c = record { faultless = sym c.fault.ensures ∙ ap checked_fault c.in_default.is }

@@ -2,13 +2,14 @@
 use Rattle.tender.specs.declared.Kind.TheVariants.{Multi}
 use Rattle.award_laid.specs.TellsLaws.{named_inside}
 use Rattle.highest.specs.AskingLaws.{refuses_thin}
+use Rattle.award_laid.specs.EntryLaws.{of_kind}
 use Rattle.highest.proofs.multi_in.Goals as goal
 
 pub refusal-requires : goal.refusal-requires
 refusal-requires c =
-    let A = c.args in named_inside A.tender A.count A.bids.now A.windows.now c.in-Err.thin c.in-Err.ensures.thin_is
+    let A = c.args in let T = A.tables.now in named_inside T.tender T.count T.bids.now T.windows.now c.in-Err.thin c.in-Err.ensures.thin_is
 
 pub returns-in-Err : goal.returns-in-Err
 returns-in-Err c =
-    let A = c.args in rw c.refusal.ensures (refuses_thin Multi A.tender A.count A.bids.now A.windows.now A.bidder
-    c.requires.0 c.in-Err.thin c.in-Err.ensures.thin_is)
+    let A = c.args in let T = A.tables.now in rw c.refusal.ensures (refuses_thin Multi T.tender T.count T.bids.now T.windows.now A.bidder
+    (of_kind T c.requires.0) c.in-Err.thin c.in-Err.ensures.thin_is)

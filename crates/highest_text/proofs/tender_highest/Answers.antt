@@ -4,10 +4,12 @@ use Rattle.reader_fill.proofs.ReadInLaws.{filled_read}
 use Rattle.highest_text.specs.ToldLaws.{read_sound, told_read, told_refused}
 use Rattle.highest_text.proofs.tender_highest.Goals as goal
 
-pub highest_sound-answer-requires : goal.highest_sound-answer-requires
-highest_sound-answer-requires c =
-    let f = c.in-Ok.filled in
-    read_sound (filled_read c.args.text.now f.tender f.bids f.windows c.fill.ensures.answer c.fill.ensures.tables c.in-Ok.is)
+pub invariant_of-tables : goal.invariant_of-tables
+invariant_of-tables c =
+    let f = c.in-Ok.filled in record {
+      faultless = read_sound (filled_read c.args.text.now f.tender f.bids f.windows
+          c.fill.ensures.answer c.fill.ensures.tables c.in-Ok.is);
+    }
 
 pub returns-in-Ok : goal.returns-in-Ok
 returns-in-Ok c =

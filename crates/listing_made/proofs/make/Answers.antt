@@ -10,7 +10,14 @@ pub put_award-requires : goal.put_award-requires
 put_award-requires c =
     let f = c.in-Ok.filled in
     let h = filled_read c.args.text.now f.tender f.bids f.windows c.fill.ensures.answer c.fill.ensures.tables c.in-Ok.is in
-    let few = few_read h in (read_sound h, (few, (omega arith, read_room h c.requires)))
+    let few = few_read h in (few, (omega arith, read_room h c.requires))
+
+pub invariant_of-tables : goal.invariant_of-tables
+invariant_of-tables c =
+    let f = c.in-Ok.filled in record {
+      faultless = read_sound (filled_read c.args.text.now f.tender f.bids f.windows
+          c.fill.ensures.answer c.fill.ensures.tables c.in-Ok.is);
+    }
 
 pub returns-in-Ok : goal.returns-in-Ok
 returns-in-Ok c =

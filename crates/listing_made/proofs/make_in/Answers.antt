@@ -18,7 +18,14 @@ put_award-requires c =
     let h = filled_read (take c.args.n c.args.buf.now) f.tender f.bids f.windows
     c.fill.ensures.answer c.fill.ensures.tables c.in-Ok.is in
     let l = length-take-le c.args.n c.args.buf.now c.requires.0 in
-    let few = few_read h in (read_sound h, (few, (omega arith, read_room h (omega (arith, c.requires.1, l)))))
+    let few = few_read h in (few, (omega arith, read_room h (omega (arith, c.requires.1, l))))
+
+pub invariant_of-tables : goal.invariant_of-tables
+invariant_of-tables c =
+    let f = c.in-Ok.filled in record {
+      faultless = read_sound (filled_read (take c.args.n c.args.buf.now) f.tender f.bids f.windows
+          c.fill.ensures.answer c.fill.ensures.tables c.in-Ok.is);
+    }
 
 pub returns-in-Ok : goal.returns-in-Ok
 returns-in-Ok c =

@@ -4,3 +4,6 @@ use Rattle.multi_charts.proofs.back.Given as goal
 
 abbrev pub invariant-loop-r : goal.invariant-loop-r
 invariant-loop-r l = Backing l.masks l.a l.q l.m l.to l.initial.hop l.hop l.r
+
+abbrev pub decreases-loop-r : goal.decreases-loop-r
+decreases-loop-r l = l.r
