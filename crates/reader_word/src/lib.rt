@@ -16,7 +16,20 @@ pub fn stands(s: &[u8], at: usize, word: &[u8]) -> bool
     ensures answer { result ≡ starts_with (word.now ++ 32 ∷ []) (drop at s.now) }
     ensures place { result ≡ true → at + length word.now + 1 < length s.now }
 {
-    s[at..].starts_with(word) && s[at + word.len()] == b' '
+    for i in 0..word.len() {
+        let b = s[at + i];
+        match b {
+            b'a'..=b'z' => {
+                if b != word[i] {
+                    return false;
+                }
+            }
+            _ => {
+                return false;
+            }
+        }
+    }
+    s[at + word.len()] == b' '
 }
 
 // The digits from `at` on, after those of value `first`, nine in all: nine without a leading zero make 100,000,000 at least.
