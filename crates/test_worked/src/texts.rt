@@ -1,4 +1,6 @@
 // Long bid texts, put together in fixed memory.
+ghost use Rattle.std.specs.Prelude.{◌≤◌};
+
 use std::fmt;
 use std::fmt::Write;
 use std::ops::Range;
@@ -10,6 +12,7 @@ const ROOM: usize = 65537;
 pub(crate) struct Text {
     buf: [u8; ROOM],
     length: usize,
+    ghost within: { length ≤ 65537 },
 }
 
 impl fmt::Write for Text {
@@ -31,12 +34,12 @@ impl Text {
     }
 
     pub(crate) fn bytes(&self) -> &[u8] {
-        &self.buf[..self.length.min(ROOM)]
+        &self.buf[..self.length]
     }
 
     // What is written goes on, as far as there is room.
     fn put(&mut self, part: &str) {
-        let at = self.length.min(ROOM);
+        let at = self.length;
         let room = &mut self.buf[at..];
         let n = part.len().min(room.len());
         room[..n].copy_from_slice(&part.as_bytes()[..n]);
