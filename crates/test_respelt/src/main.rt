@@ -11,6 +11,7 @@ mod trials;
 use std::io;
 use tables::LongBids;
 use tender::Kind;
+use test_tools::Output;
 
 // Windows that touch, stand a minute apart, overlap, lie inside others, and hold the week.
 const JOINED: [&str; 5] = [
@@ -200,14 +201,19 @@ fn long_texts(rt: &impl Print) -> io::Result<()> {
     Ok(())
 }
 
-fn main(rt: HostRuntime) -> io::Result<()> {
-    texts(&rt, &JOINED)?;
-    texts(&rt, &KEPT)?;
-    pairs(&rt, &PAIRS)?;
-    texts(&rt, &RESERVES)?;
-    pairs(&rt, &RESERVE_PAIRS)?;
-    lent_buffers(&rt)?;
-    faults(&rt)?;
-    long_texts(&rt)?;
-    trials::told(&rt, 400)
+fn tell_all(rt: &impl Print) -> io::Result<()> {
+    texts(rt, &JOINED)?;
+    texts(rt, &KEPT)?;
+    pairs(rt, &PAIRS)?;
+    texts(rt, &RESERVES)?;
+    pairs(rt, &RESERVE_PAIRS)?;
+    lent_buffers(rt)?;
+    faults(rt)?;
+    long_texts(rt)?;
+    trials::told(rt, 400)
+}
+
+// A program of this repository has no exit status, so an output that cannot be written is not told.
+fn main() {
+    let _ = tell_all(&Output);
 }

@@ -1,8 +1,12 @@
-// What the test programs share: random numbers, and counts of what was tried.
+// What the test programs share: standard output, random numbers, and counts of what was tried.
 #![tactic(auto)]
+
+mod output;
 
 ghost use Rattle.std.specs.Prelude.{◌≡◌};
 ghost use Rattle.test_tools.specs.Draws.{next_state, counted};
+
+pub use output::Output;
 
 // The next state of a generator (xorshift).
 pub fn next(state: u64) -> u64
