@@ -1,6 +1,6 @@
 -- Chains of nodes: how they are walked, and what a node put in front of one does to all of them. Assumes nothing.
-use Rattle.std.specs.Prelude.{◌≡◌, refl, ◌⊎◌, List, ℕ, zero, suc, ◌+◌, ◌*◌, ◌%◌, ◌≤◌, ◌<◌, length}
-use Rattle.std.proofs.Common.{ap, ◌∙◌, inl, inr, ⊎_elim, arith}
+use Rattle.std.specs.Prelude.{◌≡◌, refl, ◌⊎◌, List, ℕ, zero, suc, ◌+◌, ◌*◌, ◌/◌, ◌%◌, ◌≤◌, ◌<◌, length, set}
+use Rattle.std.proofs.Common.{ap, ◌∙◌, inl, inr, ⊎_elim, arith, length-set, get_or-set_same, get_or-set_other}
 use Rattle.cells.proofs.StoreLaws.{lt_or_le, ne_or_eq}
 use Rattle.multi_keys.specs.Keys.{at}
 use Rattle.multi_index.specs.Index.{bid_at, next_at, mask_at, Lists, Chained}
@@ -54,6 +54,28 @@ lists_same {old = old} {top} c new e (suc f) s (inr h) i m l = (
     first = e (2 * s) (omega (arith, h)) (omega (arith, h))
 
 -- ---- a node put in front of a chain
+pub push_stores : (old : List ℕ) (q t i m v : ℕ) → q < t → 2 * t + 2 ≤ length old → v % 1024 ≡ i → v / 1024 ≡ next_at old q
+    → Pushed old q t i m (set (set (set old (2 * t) v) (2 * t + 1) m) (2 * q) (1024 * t))
+push_stores old q t i m v l f bid next = record {
+  head = ap (λ (x : ℕ). x / 1024) (get_or-set_same two (2 * q) (1024 * t) 0 (simp length-set (omega arith))) ∙ omega arith;
+  bid = ap (λ (x : ℕ). x % 1024) node ∙ bid;
+  mask = get_or-set_other two (2 * q) (2 * t + 1) (1024 * t) 0 (λ e. omega arith)
+      ∙ get_or-set_same one (2 * t + 1) m 0 (simp length-set (omega arith));
+  next = ap (λ (x : ℕ). x / 1024) node ∙ next;
+  others = λ p a b. get_or-set_other two (2 * q) p (1024 * t) 0 b ∙ get_or-set_other one (2 * t + 1) p m 0 (λ e. omega arith)
+      ∙ get_or-set_other old (2 * t) p v 0 (λ e. omega arith);
+}
+  where
+    one : List ℕ
+    one = set old (2 * t) v
+
+    two : List ℕ
+    two = set one (2 * t + 1) m
+
+    node : at (set two (2 * q) (1024 * t)) (2 * t) ≡ v
+    node = get_or-set_other two (2 * q) (2 * t) (1024 * t) 0 (λ e. omega arith)
+        ∙ get_or-set_other one (2 * t + 1) (2 * t) m 0 (λ e. omega arith) ∙ get_or-set_same old (2 * t) v 0 (omega arith)
+
 module _ {n : ℕ} {old : List ℕ} {t : ℕ} (c : Chained n old t) {q i m : ℕ} {new : List ℕ} (p : Pushed old q t i m new)
     (l : q < 158) where
   -- a node that is there already goes on as before, but for q's first

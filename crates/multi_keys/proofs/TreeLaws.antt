@@ -1,8 +1,9 @@
 -- Laws of the tree: node 1 has the least key of all, one key changed, and all nodes played. Assumes nothing.
-use Rattle.std.specs.Prelude.{◌≡◌, refl, ◌⊎◌, Bool, true, false, List, ℕ, zero, suc, ◌+◌, ◌-◌, ◌*◌, ◌/◌}
+use Rattle.std.specs.Prelude.{◌≡◌, refl, ◌⊎◌, Bool, true, false, List, ℕ, zero, suc, ◌+◌, ◌-◌, ◌*◌, ◌/◌, ◌%◌}
 use Rattle.std.specs.Prelude.{◌^◌, ◌≤◌, ◌<◌, min, length, set, eqb, ltb}
 use Rattle.std.proofs.Common.{sym, ap, ◌∙◌, inl, inr, ⊎_elim, pow-suc, arith, pow_pos, length-set, length-drop, get_or-set_same}
 use Rattle.std.proofs.Common.{get_or-set_other, get_or-drop, drop-set-lt, eqb-true, ltb-true, ltb-false}
+use Rattle.std.specs.Int.Bits.{bit_xor, differ, xor_step, xor_zero_r}
 use Rattle.std.proofs.lemmas.List.{drop-set-add}
 use Rattle.std.proofs.lemmas.Bool.{eqb-false}
 use Rattle.multi_keys.specs.Keys.{at}
@@ -43,6 +44,15 @@ half v = go (ltb (v - 2 * (v / 2)) 1) refl
     go : (t : Bool) → ltb (v - 2 * (v / 2)) 1 ≡ t → (v ≡ 2 * (v / 2)) ⊎ (v ≡ 2 * (v / 2) + 1)
     go true e = inl (omega (arith, ltb-true (v - 2 * (v / 2)) 1 e))
     go false e = inr (omega (arith, ltb-false (v - 2 * (v / 2)) 1 e))
+
+-- the other of the two
+pub beside_is : (v : ℕ) → bit_xor v 1 ≡ 4 * (v / 2) + 1 - v
+beside_is v = xor_step v 1 ∙ ap (λ (x : ℕ). x * 2 + differ (v % 2) 1) (xor_zero_r (v / 2)) ∙ go (v % 2) refl
+  where
+    go : (d : ℕ) → v % 2 ≡ d → v / 2 * 2 + differ (v % 2) 1 ≡ 4 * (v / 2) + 1 - v
+    go zero e = rw e (omega arith)
+    go (suc zero) e = rw e (omega arith)
+    go (suc (suc d)) e = absurd (omega arith)
 
 -- a leaf with the key of node v
 record Leaf (tree : List ℕ) (v : ℕ) : Type 0 where

@@ -12,6 +12,7 @@ use Rattle.multi_keys.specs.Keys.{at}
 use Rattle.multi_market.specs.Market.{Priced}
 use Rattle.multi_market.specs.Opens.{open_of}
 use Rattle.multi_market.proofs.OpensLaws.{opens_same}
+use Rattle.multi_market.proofs.KeyedLaws.{zero_or}
 use Rattle.multi_market.specs.Seats.{key_at}
 use Rattle.multi_rounds.specs.Trace.{bid_on, gain_on, tape_on, before, Round}
 use Rattle.multi_gain.specs.Gain.{Gained}
@@ -39,6 +40,13 @@ module _ {m : ℕ} {old new : List ℕ} (f : RangeAdded m (m + 1) old new) where
       go false e = omega (arith, mark_other i (eqb-false i m e))
 
 -- ---- the bid that the main run takes is marked
+pub gained_nothing : (has : ℕ → ℕ → Bool) (ps alt keys mark : List ℕ) → Gained has ps alt (λ x. false) keys mark keys mark
+gained_nothing has ps alt keys mark = record {
+  kept = λ i l g. (g, refl);
+  still = λ i l z. (refl, λ b x h f. absurd (false≢true f));
+  moved = λ i l z g. absurd (omega arith);
+}
+
 -- it gets its mark and its key
 pub gained_one : {has : ℕ → ℕ → Bool} {ps alt keys mark keys' mark' : List ℕ} (m : ℕ) → m < length ps → m < length keys
     → cell mark m ≡ 0
@@ -57,6 +65,20 @@ gained_one {has} {ps} {alt} {keys} {mark} {keys'} {mark'} m l ls z d f = record 
         × (at keys' i ≡ key_at has ps alt i)
     go i y g true e = rw (eqb-true i m e) (l, ap (λ (xs : List ℕ). at xs m) d ∙ get_or-set_same keys m (key_at has ps alt m) 0 ls)
     go i y g false e = absurd (omega (arith, mark_other f i (eqb-false i m e)))
+
+-- then those that gain are marked
+pub gained_then : {has : ℕ → ℕ → Bool} {ps alt keys mark keys' mark' new next : List ℕ} {f : ℕ → Bool}
+    → Gained has ps alt (λ x. false) keys mark keys' mark' → Gained has ps alt f keys' mark' new next
+    → Gained has ps alt f keys mark new next
+gained_then {mark' = mark'} {next = next} a d = record {
+  kept = λ i k g. let y = a.kept i k g in let z = d.kept i k y.0 in (z.0, z.1 ∙ y.1);
+  still = λ i k z. ((d.still i k z).0 ∙ (a.still i k (was i k z)).0, (d.still i k z).1);
+  moved = λ i k z g. ⊎_elim (λ y. d.moved i k y g) (λ y. let h = a.moved i k z y in (h.0, (d.kept i k y).1 ∙ h.1))
+      (zero_or (cell mark' i));
+}
+  where
+    was : (i : ℕ) → i < 1024 → cell next i ≡ 0 → cell mark' i ≡ 0
+    was i k z = ⊎_elim (λ y. y) (λ y. absurd (omega (arith, (d.kept i k y).0))) (zero_or (cell mark' i))
 
 -- ---- the run without the bid of round h begins: the bid is marked, so are those that share an open cell with it, and the main run alone
 -- takes it

@@ -89,6 +89,10 @@ module _ {has : ℕ → ℕ → Bool} {ps : List ℕ} {k : ℕ} {run tape old al
       small = t.small;
     }
 
+  -- the run is over
+  pub limit_over : bar_from has ps k (open_of alt) ≡ 0 → Limited has ps k old top
+  limit_over o = record { is = λ s. omega (arith, a.bar_is s, o); small = a.small }
+
   -- the bid has no open cell
   pub limit_ends : mine ≡ 0 → Limited has ps k old top
   limit_ends z = record {
