@@ -1,5 +1,6 @@
 -- Chains of nodes: how they are walked, and what a node put in front of one does to all of them. Assumes nothing.
-use Rattle.std.specs.Prelude.{◌≡◌, refl, ◌⊎◌, List, ℕ, zero, suc, ◌+◌, ◌*◌, ◌/◌, ◌%◌, ◌≤◌, ◌<◌, length, set}
+use Rattle.std.specs.Prelude.{◌≡◌, refl, ◌⊎◌, List, ℕ, zero, suc, ◌+◌, ◌*◌, ◌/◌, ◌%◌, ◌≤◌, ◌<◌}
+use Rattle.std.specs.Prelude.{length, set}
 use Rattle.std.proofs.Common.{ap, ◌∙◌, inl, inr, ⊎_elim, arith, length-set, get_or-set_same, get_or-set_other}
 use Rattle.cells.proofs.StoreLaws.{lt_or_le, ne_or_eq}
 use Rattle.multi_keys.specs.Keys.{at}
@@ -54,7 +55,8 @@ lists_same {old = old} {top} c new e (suc f) s (inr h) i m l = (
     first = e (2 * s) (omega (arith, h)) (omega (arith, h))
 
 -- ---- a node put in front of a chain
-pub push_stores : (old : List ℕ) (q t i m v : ℕ) → q < t → 2 * t + 2 ≤ length old → v % 1024 ≡ i → v / 1024 ≡ next_at old q
+pub push_stores : (old : List ℕ) (q t i m v : ℕ) → q < t → 2 * t + 2 ≤ length old
+    → v % 1024 ≡ i → v / 1024 ≡ next_at old q
     → Pushed old q t i m (set (set (set old (2 * t) v) (2 * t + 1) m) (2 * q) (1024 * t))
 push_stores old q t i m v l f bid next = record {
   head = ap (λ (x : ℕ). x / 1024) (get_or-set_same two (2 * q) (1024 * t) 0 (simp length-set (omega arith))) ∙ omega arith;

@@ -1,6 +1,6 @@
 -- Laws of the tree: node 1 has the least key of all, one key changed, and all nodes played. Assumes nothing.
-use Rattle.std.specs.Prelude.{◌≡◌, refl, ◌⊎◌, Bool, true, false, List, ℕ, zero, suc, ◌+◌, ◌-◌, ◌*◌, ◌/◌, ◌%◌}
-use Rattle.std.specs.Prelude.{◌^◌, ◌≤◌, ◌<◌, min, length, set, eqb, ltb}
+use Rattle.std.specs.Prelude.{◌≡◌, refl, ◌⊎◌, Bool, true, false, List, ℕ, zero, suc, ◌+◌, ◌-◌, ◌*◌, ◌/◌}
+use Rattle.std.specs.Prelude.{◌%◌, ◌^◌, ◌≤◌, ◌<◌, min, length, set, eqb, ltb}
 use Rattle.std.proofs.Common.{sym, ap, ◌∙◌, inl, inr, ⊎_elim, pow-suc, arith, pow_pos, length-set, length-drop, get_or-set_same}
 use Rattle.std.proofs.Common.{get_or-set_other, get_or-drop, drop-set-lt, eqb-true, ltb-true, ltb-false}
 use Rattle.std.specs.Int.Bits.{bit_xor, differ, xor_step, xor_zero_r}
