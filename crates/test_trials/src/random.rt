@@ -1,17 +1,17 @@
 // Random tenders.
-ghost use Rattle.std.specs.Prelude.{◌<◌};
+ghost use Rattle.std.specs.Prelude.{◌<◌, ◌≤◌};
 
 use crate::brute;
 use crate::brute::Entries;
 use tender::Kind;
 use test_tools::next;
 
-// A number below n, which the state gives.
+// A number below n, which the state gives; 0 where n is 0.
 pub(crate) fn below(state: u64, n: u64) -> u64
-    requires { 0 < n }
-    ensures { result < n }
+    ensures at_most { result ≤ n }
+    ensures under { 0 < n → result < n }
 {
-    (state >> 11) % n
+    if n == 0 { 0 } else { (state >> 11) % n }
 }
 
 // A tender of up to seven entries, its bids and the house, over up to 11 cells of `width` minutes each: in the two tables and the
